@@ -1,0 +1,82 @@
+-- A file's list on a disk where its blocks are the same.
+use Rattle.std.proofs.Common.{ℕ, zero, suc, ◌≡◌, ◌+◌, ◌*◌, ◌-◌, ◌<◌, ◌^◌, List, [], ◌∷◌, ◌++◌, length, drop, take, refl, sym, ap, ap₂, subst, ◌∙◌, arith, flat_map, length-append}
+use Rattle.std.specs.Prelude.{All, slice_index}
+use Rattle.std.specs.List.{enumerate_from}
+use Rattle.std.proofs.lemmas.List.Elements.{All-from_recursion}
+use Rattle.lfs_model.specs.Blocks.{Blocks, block_in}
+use Rattle.lfs_model.specs.Disk.{Disk, block_at, block_count}
+use Rattle.lfs_model.specs.Slots.{Struct, Inline, Ctz, Branch}
+use Rattle.lfs_model.specs.Lists.{word_at, pointers_of, blocks_for, blocks_back, IsList, data_of, bytes_of}
+use Rattle.lfs_model.specs.View.{contents_in, file_blocks, IsListIfCtz}
+use Rattle.lfs_model.proofs.Counts.{Each, each_left, each_right}
+
+abbrev Same : Blocks → Blocks → List ℕ → Type 0
+Same d e = Each (λ b. block_in e b ≡ block_in d b)
+
+back_same : (d e : Blocks) (n head : ℕ) → Same d e (blocks_back d n head) → blocks_back e n head ≡ blocks_back d n head
+back_same d e zero head h = refl
+back_same d e (suc zero) head h = refl
+back_same d e (suc (suc n)) head h =
+    let same : word_at (block_in e head) 0 ≡ word_at (block_in d head) 0 = ap (λ z. word_at z 0) (each_right (λ b. block_in e b ≡ block_in d b) (blocks_back d (suc n) (word_at (block_in d head) 0)) (head ∷ []) h).0 in
+    ap (λ z. blocks_back e (suc n) z ++ head ∷ []) same
+    ∙ ap (λ z. z ++ head ∷ []) (back_same d e (suc n) (word_at (block_in d head) 0) (each_left (λ b. block_in e b ≡ block_in d b) (blocks_back d (suc n) (word_at (block_in d head) 0)) (head ∷ []) h))
+
+length_back : (d : Blocks) (n head : ℕ) → length (blocks_back d n head) ≡ n
+length_back d zero head = refl
+length_back d (suc zero) head = refl
+length_back d (suc (suc n)) head = length-append (blocks_back d (suc n) (word_at (block_in d head) 0)) (head ∷ []) ∙ ap (λ z. z + 1) (length_back d (suc n) (word_at (block_in d head) 0)) ∙ omega arith
+
+list_same : (d e : Blocks) (block_size head size : ℕ) → length e ≡ length d → Same d e (blocks_back d (blocks_for block_size size) head) →
+    IsList d block_size head size → IsList e block_size head size
+list_same d e block_size head size l h ok = record {
+  size_low = ok.size_low;
+  size_high = ok.size_high;
+  in_range = subst (λ bs. All (λ b. b < length e) bs) (sym back) (subst (λ n. All (λ b. b < n) (blocks_back d (blocks_for block_size size) head)) (sym l) ok.in_range);
+  distinct = rw back ok.distinct;
+  pointers = λ i k m j. ap (λ bs. word_at (block_in e (slice_index bs i)) (4 * k)) back
+      ∙ ap (λ z. word_at z (4 * k)) (All-from_recursion (λ b. block_in e b ≡ block_in d b) (blocks_back d (blocks_for block_size size) head) h i 0 (let n = length_back d (blocks_for block_size size) head in omega arith))
+      ∙ ok.pointers i k m j ∙ ap (λ bs. slice_index bs (i - 2 ^ k)) (sym back);
+}
+  where
+    back : blocks_back e (blocks_for block_size size) head ≡ blocks_back d (blocks_for block_size size) head
+    back = back_same d e (blocks_for block_size size) head h
+
+data_same : (d e : Blocks) (n : ℕ) (bs : List ℕ) → Same d e bs → flat_map (data_of e) (enumerate_from n bs) ≡ flat_map (data_of d) (enumerate_from n bs)
+data_same d e n [] h = refl
+data_same d e n (b ∷ bs) h = ap₂ (λ y z. drop (4 * pointers_of n) y ++ z) h.0 (data_same d e (n + 1) bs h.1)
+
+bytes_same : (d e : Blocks) (block_size head size : ℕ) → Same d e (blocks_back d (blocks_for block_size size) head) →
+    bytes_of e block_size head size ≡ bytes_of d block_size head size
+bytes_same d e block_size head size h =
+    ap (λ bs. take size (flat_map (data_of e) (enumerate_from 0 bs))) (back_same d e (blocks_for block_size size) head h)
+    ∙ ap (take size) (data_same d e 0 (blocks_back d (blocks_for block_size size) head) h)
+
+-- ---- of a disk
+
+-- the blocks of the file that a struct names are the same on both disks
+abbrev pub HasSameFile : Disk → Disk → Struct → Type 0
+HasSameFile disk new s = Each (λ b. block_at new b ≡ block_at disk b) (file_blocks disk s)
+
+-- as many blocks, of the same size
+pub record SameGeometry (disk new : Disk) : Type 0 where
+  pub block_size : new.block_size ≡ disk.block_size
+  pub page : new.page ≡ disk.page
+  pub count : block_count new ≡ block_count disk
+
+pub file_blocks_same : (disk new : Disk) (s : Struct) → SameGeometry disk new → HasSameFile disk new s → file_blocks new s ≡ file_blocks disk s
+file_blocks_same disk new (Inline bytes) g h = refl
+file_blocks_same disk new (Branch to) g h = refl
+file_blocks_same disk new (Ctz head size) g h =
+    ap (λ b. blocks_back new.blocks (blocks_for b size) head) g.block_size ∙ back_same disk.blocks new.blocks (blocks_for disk.block_size size) head h
+
+pub is_list_same : (disk new : Disk) (s : Struct) → SameGeometry disk new → HasSameFile disk new s → IsListIfCtz disk s → IsListIfCtz new s
+is_list_same disk new (Inline bytes) g h ok = tt
+is_list_same disk new (Branch to) g h ok = tt
+is_list_same disk new (Ctz head size) g h ok =
+    subst (λ b. IsList new.blocks b head size) (sym g.block_size) (list_same disk.blocks new.blocks disk.block_size head size g.count h ok)
+
+pub contents_same : (disk new : Disk) (s : Struct) (head size : ℕ) → s ≡ Ctz head size → SameGeometry disk new → HasSameFile disk new s →
+    contents_in new head size ≡ contents_in disk head size
+contents_same disk new s head size e g h =
+    ap (λ b. bytes_of new.blocks b head size) g.block_size
+    ∙ bytes_same disk.blocks new.blocks disk.block_size head size (subst (HasSameFile disk new) e h)

@@ -1,0 +1,34 @@
+-- Blocks of bytes, and what changes them.
+use Rattle.std.specs.Prelude.{◌≡◌, ◌≢◌, ◌<◌, ℕ, zero, suc, ◌+◌, List, [], ◌∷◌, ◌++◌, length, take, drop, slice_index_or, slice_set}
+
+-- each block's bytes
+abbrev pub Blocks : Type 0
+Blocks = List (List ℕ)
+
+-- a block's bytes; none where there is no such block
+abbrev pub block_in : Blocks → ℕ → List ℕ
+block_in blocks b = slice_index_or blocks b []
+
+-- so many blocks of this size
+pub record IsDivided (block_size block_count : ℕ) (blocks : Blocks) : Type 0 where
+  pub count : length blocks ≡ block_count
+  pub sizes : (b : ℕ) → b < block_count → length (block_in blocks b) ≡ block_size
+
+-- bytes with others in their place, from an offset on
+abbrev pub overwritten : List ℕ → ℕ → List ℕ → List ℕ
+overwritten block at bytes = take at block ++ bytes ++ drop (at + length bytes) block
+
+-- the blocks with other bytes in one of them, from an offset on
+abbrev pub programmed : Blocks → ℕ → ℕ → List ℕ → Blocks
+programmed blocks b at bytes = slice_set blocks b (overwritten (block_in blocks b) at bytes)
+
+-- the blocks differ at most in the bytes of this one
+pub record SameBut (b : ℕ) (old new : Blocks) : Type 0 where
+  pub count : length new ≡ length old
+  pub size : length (block_in new b) ≡ length (block_in old b)
+  pub others : (other : ℕ) → other ≢ b → block_in new other ≡ block_in old other
+
+-- bytes cut into so many blocks of a size
+abbrev pub cut : ℕ → ℕ → List ℕ → Blocks
+cut size zero bytes = []
+cut size (suc count) bytes = take size bytes ∷ cut size count (drop size bytes)

@@ -1,0 +1,50 @@
+-- CTZ skip lists: a file's blocks from its last one back.
+use Rattle.std.specs.Prelude.{ℕ, zero, suc, ◌+◌, ◌*◌, ◌-◌, ◌≡◌, ◌<◌, ◌≤◌, ◌^◌, ◌==◌, if◌then◌else◌, List, [], ◌∷◌, ◌++◌, length, take, drop, All, nat_eq, slice_index, slice_range}
+use Rattle.std.specs.List.{flat_map, enumerate_from, IsDistinct}
+use Rattle.lfs_model.specs.Blocks.{Blocks, block_in}
+use Rattle.std.specs.Int.{w32, from_le_bytes, trailing_zeros}
+
+abbrev pub word_at : List ℕ → ℕ → ℕ
+word_at block off = from_le_bytes w32 (slice_range block off (off + 4))
+
+-- how many pointers block i begins with
+abbrev pub pointers_of : ℕ → ℕ
+pointers_of zero = 0
+pointers_of (suc i) = trailing_zeros w32 (suc i) + 1
+
+-- how many of the file's bytes block i holds
+abbrev pub capacity_of : ℕ → ℕ → ℕ
+capacity_of block_size i = block_size - 4 * pointers_of i
+
+-- the least number of blocks that hold size bytes, from block i on; steps bounds it
+abbrev pub blocks_from : ℕ → ℕ → ℕ → ℕ → ℕ
+blocks_from zero block_size i size = 0
+blocks_from (suc steps) block_size i size =
+    if size == 0 then 0 else 1 + blocks_from steps block_size (i + 1) (size - capacity_of block_size i)
+
+abbrev pub blocks_for : ℕ → ℕ → ℕ
+blocks_for block_size size = blocks_from size block_size 0 size
+
+-- count blocks back from the head by pointer 0, the first block of the file first
+abbrev pub blocks_back : Blocks → ℕ → ℕ → List ℕ
+blocks_back disk zero head = []
+blocks_back disk (suc zero) head = head ∷ []
+blocks_back disk (suc (suc n)) head = blocks_back disk (suc n) (word_at (block_in disk head) 0) ++ head ∷ []
+
+pub record IsList (disk : Blocks) (block_size head size : ℕ) : Type 0 where
+  pub size_low : 1 ≤ size
+  pub size_high : size < 2 ^ 31
+  pub in_range : All (λ b. b < length disk) (blocks_back disk (blocks_for block_size size) head)
+  pub distinct : IsDistinct nat_eq (blocks_back disk (blocks_for block_size size) head)
+  -- pointer k of block i names block i - 2^k
+  pub pointers : (i k : ℕ) → i < blocks_for block_size size → k < pointers_of i →
+      word_at (block_in disk (slice_index (blocks_back disk (blocks_for block_size size) head) i)) (4 * k)
+      ≡ slice_index (blocks_back disk (blocks_for block_size size) head) (i - 2 ^ k)
+
+-- the data part of block i
+abbrev pub data_of : Blocks → ℕ × ℕ → List ℕ
+data_of disk (i, b) = drop (4 * pointers_of i) (block_in disk b)
+
+abbrev pub bytes_of : Blocks → ℕ → ℕ → ℕ → List ℕ
+bytes_of disk block_size head size =
+    take size (flat_map (data_of disk) (enumerate_from 0 (blocks_back disk (blocks_for block_size size) head)))

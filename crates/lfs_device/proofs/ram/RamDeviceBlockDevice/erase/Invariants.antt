@@ -1,0 +1,12 @@
+use Rattle.std.proofs.Common.{◌∷◌, false}
+use Rattle.lfs_model.specs.Blocks.{Blocks, cut}
+use Rattle.lfs_device.specs.Erased.{erased_disk}
+use Rattle.lfs_model.specs.History.{event}
+use Rattle.lfs_model.specs.History.Call.{Erase}
+use Rattle.lfs_device.proofs.ram.RamDeviceBlockDevice.erase.Given as goal
+
+abbrev pub ghost-told_by : goal.ghost-told_by
+ghost-told_by a =
+    let d = a._device.now in
+    let disk : Blocks = cut d.geometry.block_size d.geometry.block_count d.bytes.items in
+    event (Erase a._call.now) disk (erased_disk d.erased d.geometry.block_size disk a._call.now) false ∷ d.trace.events

@@ -1,0 +1,13 @@
+use Rattle.std.proofs.Common.{◌+◌, List, ℕ, length, ◌∙◌, ap}
+use Rattle.std.specs.Prelude.{slice_range}
+use Rattle.lfs_device.specs.Cuts.{slice_range-block_in}
+use Rattle.lfs_device.proofs.ram.RamDeviceBlockDevice.read.Goals as goal
+
+pub returns-clause-bytes : goal.returns-clause-bytes
+returns-clause-bytes c =
+    let d = c.args.self.now in
+    let n = length c.args.buf.now in
+    c.copy_from_slice.ensures.after
+    ∙ ap (λ (b : List ℕ). slice_range b c.position-start.result (c.position-start.result + n)) c.deref.ensures.value
+    ∙ ap (λ at. slice_range d.bytes.items at (at + n)) c.position-start.ensures
+    ∙ slice_range-block_in d.geometry.block_size d.geometry.block_count d.bytes.items c.args.block c.args.off n c.requires.in_device c.requires.in_block

@@ -1,0 +1,57 @@
+ghost use Rattle.std.specs.Prelude.{◌≡◌, ◌≤◌, ◌<◌, ℕ, ◌+◌, ◌%◌, List, ◌∷◌, length, slice_range, is_err, IfErr, OnOk, OnErr};
+ghost use Rattle.lfs_model.specs.Blocks.{Blocks, IsDivided, SameBut, block_in, programmed};
+ghost use Rattle.lfs_model.specs.History.{Event, event, AllUnprogrammed};
+ghost use Rattle.lfs_model.specs.History.Call.{Read, Program, Erase};
+ghost use Rattle.lfs_device.specs.declared.geometry.Geometry.{Geometry};
+
+use crate::{Error, Geometry};
+
+/// Flash. A block is erased whole, and then its pages are programmed, each once.
+pub trait BlockDevice {
+    /// How it is divided. It never changes.
+    ghost geometry: { Self → Geometry };
+
+    /// The bytes of each block.
+    ghost blocks: { Self → Blocks };
+
+    /// The calls so far, the newest first.
+    ghost history: { Self → List Event };
+
+    fn geometry(&self) -> Geometry
+        ensures { result ≡ geometry self.now };
+
+    /// Fills the buffer with the bytes from an offset of a block on.
+    fn read(&mut self, block: u32, off: u32, buf: &mut [u8]) -> Result<(), Error>
+        requires in_device { block < (geometry self.old).block_count }
+        requires in_block { off + length buf.old ≤ (geometry self.old).block_size }
+        ensures bytes { OnOk result (buf.new ≡ slice_range (block_in (blocks self.old) block) off (off + length buf.old)) }
+        ensures same { blocks self.new ≡ blocks self.old }
+        ensures geometry { geometry self.new ≡ geometry self.old }
+        ensures history { history self.new ≡ event (Read block off (length buf.old)) (blocks self.old) (blocks self.new) (is_err result) ∷ history self.old }
+        ensures error { IfErr result (λ e. e ≡ Error.Io) };
+
+    /// Programs whole pages.
+    fn prog(&mut self, block: u32, off: u32, bytes: &[u8]) -> Result<(), Error>
+        requires in_device { block < (geometry self.old).block_count }
+        requires in_block { off + length bytes.now ≤ (geometry self.old).block_size }
+        requires begins { off % (geometry self.old).page ≡ 0 }
+        requires ends { (off + length bytes.now) % (geometry self.old).page ≡ 0 }
+        requires unprogrammed { AllUnprogrammed (history self.old) block off (off + length bytes.now) }
+        ensures ok { OnOk result (blocks self.new ≡ programmed (blocks self.old) block off bytes.now) }
+        ensures err { OnErr result ((any : List ℕ) × (length any ≡ length bytes.now) × (blocks self.new ≡ programmed (blocks self.old) block off any)) }
+        ensures others { SameBut block (blocks self.old) (blocks self.new) }
+        ensures geometry { geometry self.new ≡ geometry self.old }
+        ensures history { history self.new ≡ event (Program block off bytes.now) (blocks self.old) (blocks self.new) (is_err result) ∷ history self.old }
+        ensures error { IfErr result (λ e. e ≡ Error.Io) };
+
+    /// Erases a block. What it holds then is not known.
+    fn erase(&mut self, block: u32) -> Result<(), Error>
+        requires { block < (geometry self.old).block_count }
+        ensures others { SameBut block (blocks self.old) (blocks self.new) }
+        ensures geometry { geometry self.new ≡ geometry self.old }
+        ensures history { history self.new ≡ event (Erase block) (blocks self.old) (blocks self.new) (is_err result) ∷ history self.old }
+        ensures error { IfErr result (λ e. e ≡ Error.Io) };
+
+    /// It has as many blocks as its geometry says, of that size.
+    ghost shape: { (d : Self) → IsDivided (geometry d).block_size (geometry d).block_count (blocks d) };
+}

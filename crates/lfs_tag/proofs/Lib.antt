@@ -1,0 +1,5 @@
+pub mod Polynomials
+pub mod Table
+pub mod Logs
+pub mod Runs
+pub mod Local

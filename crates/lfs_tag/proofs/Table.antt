@@ -1,0 +1,62 @@
+-- A table of what eight steps make of each byte.
+use Rattle.std.proofs.Common.{◌≡◌, ℕ, zero, suc, ◌+◌, ◌*◌, ◌/◌, ◌%◌, ◌^◌, ◌<◌, Bool, true, false, ◌&&◌, cond, eqb, List, [], ◌∷◌, length, get_or, refl, sym, ap, ◌∙◌, arith}
+use Rattle.std.specs.Int.Bits.{bit_xor, xor_zero_l, xor_zero_r, xor_shifted, xor_assoc}
+use Rattle.std.proofs.lemmas.Bool.Decides.{nat_tests}
+use Rattle.std.proofs.lemmas.Bool.{eqb-true}
+use Rattle.std.proofs.lemmas.Nat.{xor_comm, xor_shr, xor_mod}
+use Rattle.std.proofs.Math.Nat.{pow-suc}
+use Rattle.lfs_model.specs.Crc.{next_bit, next_bits}
+use Rattle.lfs_tag.specs.declared.crc_table.TheConstants.{AFTER_BYTE}
+
+-- a shift by one bit, whose lowest bit is 0
+next_bit_even : (a : ℕ) → next_bit (a * 2) ≡ a
+next_bit_even a =
+    let even : eqb (a * 2 % 2) 1 ≡ false = grind (arith, nat_tests) in
+    let half : a * 2 / 2 ≡ a = omega arith in
+    rw (even, half) refl
+
+-- the lowest bit alone decides what is mixed in, and the others move down
+next_bit-xor : (x y : ℕ) → y % 2 ≡ 0 → next_bit (bit_xor x y) ≡ bit_xor (next_bit x) (y / 2)
+next_bit-xor x y even =
+    let low : bit_xor x y % 2 ≡ x % 2 = xor_mod x y 1 ∙ rw even (xor_zero_r (x % 2)) in
+    rw (low, xor_shr x y 1) (by_test (eqb (x % 2) 1) (x / 2) (y / 2))
+  where
+    by_test : (c : Bool) (a b : ℕ) → cond c (bit_xor (bit_xor a b) 0xedb88320) (bit_xor a b) ≡ bit_xor (cond c (bit_xor a 0xedb88320) a) b
+    by_test true a b = xor_assoc a b 0xedb88320 ∙ ap (bit_xor a) (xor_comm b 0xedb88320) ∙ sym (xor_assoc a 0xedb88320 b)
+    by_test false a b = refl
+
+next_bits-xor : (n x a : ℕ) → next_bits n (bit_xor x (a * 2 ^ n)) ≡ bit_xor (next_bits n x) a
+unfolding next_bits
+next_bits-xor zero x a = let e : a * 2 ^ 0 ≡ a = omega arith in rw e refl
+next_bits-xor (suc n) x a =
+    let e : a * 2 ^ suc n ≡ a * 2 ^ n * 2 = rw pow-suc (omega arith) in
+    let even : a * 2 ^ suc n % 2 ≡ 0 = omega (arith, e) in
+    let half : a * 2 ^ suc n / 2 ≡ a * 2 ^ n = omega (arith, e) in
+    rw (next_bit-xor x (a * 2 ^ suc n) even, half) (next_bits-xor n (next_bit x) a)
+
+-- eight steps by the lowest byte
+pub by_low_byte : (x : ℕ) → next_bits 8 x ≡ bit_xor (x / 256) (next_bits 8 (x % 256))
+by_low_byte x =
+    let split : bit_xor (x % 256) (x / 256 * 2 ^ 8) ≡ x = xor_comm (x % 256) (x / 256 * 2 ^ 8) ∙ xor_shifted (x / 256) 8 (x % 256) (omega arith) ∙ omega arith in
+    ap (next_bits 8) (sym split) ∙ next_bits-xor 8 (x % 256) (x / 256) ∙ xor_comm (next_bits 8 (x % 256)) (x / 256)
+
+abbrev is_table : ℕ → List ℕ → Bool
+is_table i [] = true
+is_table i (x ∷ xs) = eqb x (next_bits 8 i) && is_table (suc i) xs
+
+the_table : is_table 0 AFTER_BYTE ≡ true
+unfolding next_bits
+the_table = refl
+
+and_true : (a b : Bool) → (a && b) ≡ true → (a ≡ true) × (b ≡ true)
+and_true true true e = (refl, refl)
+and_true true false e = absurd cc
+and_true false b e = absurd cc
+
+table_at : (xs : List ℕ) (i k : ℕ) → is_table i xs ≡ true → k < length xs → get_or xs k 0 ≡ next_bits 8 (i + k)
+table_at [] i k e lt = absurd (omega arith)
+table_at (x ∷ xs) i zero e lt = let f : i + zero ≡ i = omega arith in rw f (eqb-true x (next_bits 8 i) (and_true (eqb x (next_bits 8 i)) (is_table (suc i) xs) e).0)
+table_at (x ∷ xs) i (suc k) e lt = let f : i + suc k ≡ suc i + k = omega arith in rw f (table_at xs (suc i) k (and_true (eqb x (next_bits 8 i)) (is_table (suc i) xs) e).1 (omega arith))
+
+pub in_table : (k : ℕ) → k < 256 → get_or AFTER_BYTE k 0 ≡ next_bits 8 k
+in_table k lt = table_at AFTER_BYTE 0 k the_table lt ∙ ap (next_bits 8) (omega arith)

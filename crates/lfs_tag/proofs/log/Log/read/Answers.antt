@@ -1,0 +1,24 @@
+use Rattle.std.proofs.Common.{rules, ◌≡◌, ◌≤◌, sym, ap, ◌∙◌, refl, arith, Some, None, Option, ℕ, List}
+use Rattle.std.specs.Option.{option_map}
+use Rattle.lfs_model.specs.Log.{chain_at, chain_of, commit_at}
+use Rattle.lfs_tag.proofs.Logs.{stop, chain_stop, chain_follows, chain_stops}
+use Rattle.lfs_tag.proofs.log.Log.read.Goals as goal
+
+pub loop-commit-init : goal.loop-commit-init
+unfolding chain_of
+loop-commit-init c = record { start = search rules; same = rw c.from_bits-last.ensures refl }
+
+pub loop-commit-preserved : goal.loop-commit-preserved
+loop-commit-preserved c = record {
+  start = search rules;
+  same = sym (chain_follows c.args.block.now c.loop-commit.start c.loop-commit.end c.loop-commit.last c.in-Some.commit c.in-Some.ensures.value) ∙ c.loop-commit.invariant.same;
+}
+
+pub invariant_of-result : goal.invariant_of-result
+invariant_of-result c =
+    let same = sym (chain_stops c.args.block.now c.loop-commit.start c.loop-commit.end c.loop-commit.last c.in_default.ensures.value) ∙ c.loop-commit.invariant.same in
+    record {
+      end = ap (λ (s : ℕ × ℕ). s.0) same;
+      last = ap (λ (s : ℕ × ℕ). s.1) same;
+      revision = search rules;
+    }

@@ -1,0 +1,40 @@
+use Rattle.std.proofs.Common.{rules, ◌≡◌, ◌+◌, ◌≤◌, ◌<◌, sym, ap, ◌∙◌, refl, arith, Some, None, Option, ℕ, List, true, false, eq-eqb, eqb}
+use Rattle.std.specs.Option.{option_map}
+use Rattle.std.proofs.lemmas.Bool.Decides.{nat_tests}
+use Rattle.lfs_model.specs.Tag.{carried}
+use Rattle.lfs_model.specs.Log.{entry_at, is_checksum, closes, commit_at, past, LogEntry}
+use Rattle.lfs_tag.specs.Seen.{seen}
+use Rattle.lfs_tag.proofs.Logs.{stop, commit_none, commit_closed, commit_refused, commit_on, stop-with}
+use Rattle.lfs_tag.proofs.log.commit_end.Goals as goal
+
+pub returns-then-closes-clause-value : goal.returns-then-closes-clause-value
+returns-then-closes-clause-value c =
+    let e = seen c.in-Some.entry in
+    let is : entry_at c.args.block.now c.loop-entry.at c.loop-entry.before ≡ Some e = sym c.in-Some.ensures.value in
+    let sum : is_checksum e ≡ true = grind (arith, nat_tests, c.class.ensures) in
+    let right : closes c.args.block.now c.args.start c.loop-entry.at e ≡ true = sym c.closes.ensures ∙ c.if-closes.true in
+    rw c.carried.ensures (sym (ap (option_map stop) (commit_closed c.args.block.now c.args.start c.loop-entry.at c.loop-entry.before e is sum right)) ∙ c.loop-entry.invariant.same)
+
+pub returns-else-closes-clause-value : goal.returns-else-closes-clause-value
+returns-else-closes-clause-value c =
+    let e = seen c.in-Some.entry in
+    let is : entry_at c.args.block.now c.loop-entry.at c.loop-entry.before ≡ Some e = sym c.in-Some.ensures.value in
+    let sum : is_checksum e ≡ true = grind (arith, nat_tests, c.class.ensures) in
+    let wrong : closes c.args.block.now c.args.start c.loop-entry.at e ≡ false = sym c.closes.ensures ∙ c.if-closes.false in
+    sym (ap (option_map stop) (commit_refused c.args.block.now c.args.start c.loop-entry.at c.loop-entry.before e is sum wrong)) ∙ c.loop-entry.invariant.same
+
+pub loop-entry-preserved : goal.loop-entry-preserved
+loop-entry-preserved c =
+    let e = seen c.in-Some.entry in
+    let is : entry_at c.args.block.now c.loop-entry.at c.loop-entry.before ≡ Some e = sym c.in-Some.ensures.value in
+    let other : is_checksum e ≡ false = grind (arith, nat_tests, c.class.ensures) in
+    record {
+      start = search rules;
+      reached = search rules;
+      same = sym (stop-with e (commit_at c.args.block.now c.args.start (past c.loop-entry.at e) e.tag)) ∙ sym (ap (option_map stop) (commit_on c.args.block.now c.args.start c.loop-entry.at c.loop-entry.before e is other)) ∙ c.loop-entry.invariant.same;
+    }
+
+pub returns-clause-value : goal.returns-clause-value
+returns-clause-value c =
+    let is : entry_at c.args.block.now c.loop-entry.at c.loop-entry.before ≡ None = sym c.in_default.ensures.value in
+    sym (ap (option_map stop) (commit_none c.args.block.now c.args.start c.loop-entry.at c.loop-entry.before is)) ∙ c.loop-entry.invariant.same

@@ -1,0 +1,9 @@
+-- What a `Log` keeps is what its block says.
+use Rattle.std.specs.Prelude.{◌≡◌}
+use Rattle.lfs_tag.specs.declared.log.Log.TheInside.{Inside}
+use Rattle.lfs_model.specs.Log.{chain_of, revision_of}
+
+pub record IsRead (l : Inside) : Type 0 where
+  pub end : l.end ≡ (chain_of l.block.now).end
+  pub last : l.last ≡ (chain_of l.block.now).last
+  pub revision : l.revision ≡ revision_of l.block.now

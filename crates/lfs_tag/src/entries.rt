@@ -1,0 +1,104 @@
+// A walk over a log's entries, from both ends.
+
+ghost use Rattle.std.specs.Prelude.{◌≡◌, ◌+◌, ◌%◌, ◌^◌, ◌≤◌, ◌<◌, List, length, drop, slice_range, bit_xor};
+ghost use Rattle.byteorder.specs.Endian.{big_number};
+ghost use Rattle.lfs_model.specs.Tag.{size_of};
+ghost use Rattle.std.specs.Iterator.{YieldsFirstBy, YieldsLastBy, item_count};
+ghost use Rattle.lfs_model.specs.Log.{chain_of, log_entries};
+ghost use Rattle.lfs_tag.specs.Seen.{seen};
+
+use crate::log::{Entry, entry_at};
+use crate::tag::Tag;
+use byteorder::{BigEndian, ByteOrder};
+use std::marker::Model;
+
+/// The entries of a log that are left, from both ends.
+#[derive(Drop)]
+pub struct Entries<'a> {
+    block: &'a [u8],
+    at: usize,
+    before: Tag,
+    end: usize,
+    last: Tag,
+}
+
+impl<'a> Model for Entries<'a> {
+    ghost use Rattle.std.specs.Prelude.{List};
+    ghost use Rattle.lfs_model.specs.Log.{LogEntry};
+
+    ghost Value = { List LogEntry };
+
+    ghost use Rattle.lfs_tag.specs.Walk.{left, IsLeft};
+
+    ghost view = { left };
+
+    ghost invariant = { IsLeft };
+}
+
+impl<'a> Entries<'a> {
+    // The entries of a block's chain, which ends so.
+    pub(crate) fn of_chain(block: &'a [u8], end: usize, last: Tag) -> Entries<'a>
+        requires end { end ≡ (chain_of block.now).end }
+        requires last { last ≡ (chain_of block.now).last }
+        ensures value { result ≡ log_entries block.now }
+        ensures small { length (log_entries block.now) < 2 ^ 62 }
+    {
+        Entries {
+            block,
+            at: 4,
+            before: Tag::from_bits(0xffff_ffff),
+            end,
+            last,
+        }
+    }
+}
+
+impl<'a> Iterator for Entries<'a> {
+    type Item = Entry<'a>;
+
+    ghost next_gives = { YieldsFirstBy seen (λ s. s) };
+
+    ghost remaining = { item_count (λ s. s) };
+
+    fn next(&mut self) -> Option<Entry<'a>> {
+        if self.end <= self.at {
+            return None;
+        }
+        let Some(entry) = entry_at(self.block, self.at, self.before) else {
+            return None;
+        };
+        self.at = self.at + 4 + entry.bytes.len();
+        self.before = entry.tag.carried();
+        Some(entry)
+    }
+}
+
+// The entry that ends at `end` and whose tag carries `last`: where it begins, and what the tag before it carries.
+fn entry_before(block: &[u8], end: usize, last: Tag) -> (usize, Tag, Entry<'_>)
+    requires room { 4 + size_of (last % 2 ^ 31) ≤ end }
+    requires within { end ≤ length block.now }
+    ensures start { result.0 + 4 + size_of (last % 2 ^ 31) ≡ end }
+    ensures before { result.1 ≡ bit_xor (big_number 4 (drop result.0 block.now)) (last % 2 ^ 31) }
+    ensures tag { result.2.tag ≡ last % 2 ^ 31 }
+    ensures bytes { result.2.bytes.now ≡ slice_range block.now (result.0 + 4) end }
+{
+    let tag = last.plain();
+    let start = end - 4 - tag.size();
+    let before = Tag::decode(BigEndian::read_u32(&block[start..]), tag);
+    let bytes = &block[start + 4..end];
+    (start, before, Entry { tag, bytes })
+}
+
+impl<'a> DoubleEndedIterator for Entries<'a> {
+    ghost next_back_gives = { YieldsLastBy seen (λ s. s) };
+
+    fn next_back(&mut self) -> Option<Entry<'a>> {
+        if self.end <= self.at {
+            return None;
+        }
+        let found = entry_before(self.block, self.end, self.last);
+        self.end = found.0;
+        self.last = found.1;
+        Some(found.2)
+    }
+}

@@ -1,0 +1,176 @@
+// The log of a block.
+
+ghost use Rattle.std.specs.Prelude.{◌≡◌, ℕ, ◌+◌, ◌≤◌, ◌<◌, ◌^◌, ◌↔◌, List, length, IsTrue, IfSome};
+ghost use Rattle.std.specs.Option.{option_map};
+ghost use Rattle.lfs_model.specs.Tag.{size_of};
+ghost use Rattle.lfs_model.specs.Log.{entry_at, closes, commit_at, chain_of, revision_of, log_entries, past, IsChainOf, LogEntry};
+ghost use Rattle.lfs_tag.specs.Seen.{seen};
+
+use crate::crc;
+use crate::entries::Entries;
+use crate::tag::Tag;
+use byteorder::{BigEndian, ByteOrder, LittleEndian};
+use std::marker::Model;
+
+/// A tag and its bytes.
+#[derive(Clone, Copy, Drop)]
+pub struct Entry<'a> {
+    pub tag: Tag,
+    pub bytes: &'a [u8],
+}
+
+// The entry at an offset, where the tag before it carries `before`.
+#[tactic(auto, unfolding(lfs_model::specs::Log::entry_at))]
+pub(crate) fn entry_at(block: &[u8], at: usize, before: Tag) -> Option<Entry<'_>>
+    ensures value { option_map seen result ≡ entry_at block.now at before }
+    ensures within { IfSome result (λ e. at + 4 + length e.bytes.now ≤ length block.now) }
+    ensures size { IfSome result (λ e. length e.bytes.now ≡ size_of e.tag) }
+{
+    if block.len() < 4 || block.len() - 4 < at {
+        return None;
+    }
+    let tag = Tag::decode(BigEndian::read_u32(&block[at..]), before);
+    let rest = &block[at + 4..];
+    let size = tag.size();
+    if !tag.is_valid() || rest.len() < size {
+        return None;
+    }
+    Some(Entry {
+        tag,
+        bytes: &rest[..size],
+    })
+}
+
+// Whether the checksum entry at an offset ends the commit that begins at `start`.
+#[tactic(auto, unfolding(lfs_model::specs::Log::closes))]
+fn closes(block: &[u8], start: usize, at: usize, entry: &Entry<'_>) -> bool
+    requires start { start ≤ at }
+    requires within { at + 4 + length entry.now.bytes.now ≤ length block.now }
+    requires size { length entry.now.bytes.now ≡ size_of entry.now.tag }
+    ensures { result ≡ closes block.now start at (seen entry.now) }
+{
+    let kind = entry.tag.kind();
+    let len = entry.tag.len();
+    (kind == 0x500 || kind == 0x501)
+        && (4 <= len
+            && (len <= 1022
+                && LittleEndian::read_u32(entry.bytes) == crc(0xffff_ffff, &block[start..at + 4])))
+}
+
+// Where the commit ends that begins at `start` and whose next entry is at `at`, and what its last tag carries.
+fn commit_end(block: &[u8], start: usize, mut at: usize, mut before: Tag) -> Option<(usize, Tag)>
+    requires { start ≤ at }
+    ensures value { result ≡ option_map (λ c. (c.end, c.last)) (commit_at block.now start at before) }
+    ensures past { IfSome result (λ r. at < r.0) }
+    ensures within { IfSome result (λ r. r.0 ≤ length block.now) }
+{
+    while let Some(entry) = entry_at(block, at, before) {
+        let end = at + 4 + entry.bytes.len();
+        if entry.tag.class() == 5 {
+            return if closes(block, start, at, &entry) {
+                Some((end, entry.tag.carried()))
+            } else {
+                None
+            };
+        }
+        at = end;
+        before = entry.tag;
+    }
+    None
+}
+
+// The revision, or 0 in a block too short for one.
+fn revision(block: &[u8]) -> u32
+    ensures { result ≡ revision_of block.now }
+{
+    if block.len() < 4 {
+        0
+    } else {
+        LittleEndian::read_u32(block)
+    }
+}
+
+/// The valid commits of a block.
+#[derive(Drop)]
+pub struct Log<'a> {
+    block: &'a [u8],
+    end: usize,
+    last: Tag,
+    revision: u32,
+}
+
+impl<'a> Model for Log<'a> {
+    ghost use Rattle.std.specs.Prelude.{ℕ, List};
+
+    ghost Value = { List ℕ };
+
+    ghost use Rattle.lfs_tag.specs.Read.{IsRead};
+
+    ghost view = { λ l. l.block.now };
+
+    ghost invariant = { IsRead };
+}
+
+impl<'a> Log<'a> {
+    /// Reads a block: its longest chain of commits, which may be none.
+    pub fn read(block: &'a [u8]) -> Log<'a>
+        ensures { result ≡ block.now }
+    {
+        let mut start = 0;
+        let mut end = 4;
+        let mut last = Tag::from_bits(0xffff_ffff);
+        while let Some(commit) = commit_end(block, start, end, last) {
+            start = commit.0;
+            end = commit.0;
+            last = commit.1;
+        }
+        Log {
+            block,
+            end,
+            last,
+            revision: revision(block),
+        }
+    }
+
+    /// Whether there is a commit.
+    pub fn has_commit(&self) -> bool
+        ensures { IsTrue result ↔ (4 < (chain_of self.now).end) }
+    {
+        4 < self.end
+    }
+
+    /// Where the last commit ends.
+    pub fn end(&self) -> usize
+        ensures { result ≡ (chain_of self.now).end }
+    {
+        self.end
+    }
+
+    /// The last tag, as the next one is decoded with it.
+    pub fn last(&self) -> Tag
+        ensures { result ≡ (chain_of self.now).last }
+    {
+        self.last
+    }
+
+    /// The block's revision.
+    pub fn revision(&self) -> u32
+        ensures { result ≡ revision_of self.now }
+    {
+        self.revision
+    }
+
+    /// The entries, which can be taken from both ends.
+    pub fn entries(&self) -> Entries<'a>
+        ensures value { result ≡ log_entries self.now }
+        ensures small { length (log_entries self.now) < 2 ^ 62 }
+    {
+        Entries::of_chain(self.block, self.end, self.last)
+    }
+}
+
+/// What a block's log is: the chain that is computed is one, and none is longer.
+pub fn chain_is_longest()
+    ensures chain { (block : List ℕ) → IsChainOf block (chain_of block).commits (chain_of block).end (chain_of block).last }
+    ensures longest { (block : List ℕ) (others : List (List LogEntry)) (end last : ℕ) → IsChainOf block others end last → length others ≤ length (chain_of block).commits }
+{}

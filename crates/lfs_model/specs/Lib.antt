@@ -16,3 +16,4 @@ pub mod Operations
 pub mod Apply
 pub mod Session
 pub mod Steps
+pub mod Listing

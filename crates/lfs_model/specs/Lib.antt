@@ -16,4 +16,6 @@ pub mod Operations
 pub mod Apply
 pub mod Session
 pub mod Steps
+pub mod State
+pub mod Stops
 pub mod Listing

@@ -1,0 +1,45 @@
+-- A session over a disk: what it takes from the disk, and a session that has failed.
+use Rattle.std.specs.Prelude.{◌≡◌, Bool, true, false, if◌then◌else◌, List, [], Option, Some, None}
+use Rattle.lfs_model.specs.Disk.{Disk, block_count}
+use Rattle.lfs_model.specs.Thread.{Pair, gstate_of}
+use Rattle.lfs_model.specs.Tree.{Tree}
+use Rattle.lfs_model.specs.View.{used_blocks, IsWritable}
+use Rattle.lfs_model.specs.Operations as ops
+use Rattle.lfs_model.specs.Operations.{Operation, Reply, Failed}
+use Rattle.lfs_model.specs.Session.{Session, Surroundings}
+use Rattle.lfs_model.specs.Steps.{applied}
+
+-- what an operation takes from an accepted disk with these pairs
+pub record Surrounds (disk : Disk) (ps : List Pair) (around : Surroundings) : Type 0 where
+  pub block_size : around.block_size ≡ disk.block_size
+  pub page : around.page ≡ disk.page
+  pub block_count : around.block_count ≡ block_count disk
+  pub used : around.used ≡ used_blocks disk ps
+  pub gstate : around.gstate ≡ gstate_of ps
+  pub writable : (around.writable ≡ true → IsWritable disk ps) × (IsWritable disk ps → around.writable ≡ true)
+
+-- A session fails where a call meets a device fault or want of memory, or a remount finds no accepted disk.
+pub data State : Type 0 where
+  HasFailed : State
+  Healthy : (session : Session) → State
+
+-- the session that a mount begins
+abbrev pub mounted : Tree → Session
+mounted tree = record { tree = tree; files = [] }
+
+abbrev pub is_remount : Operation → Bool
+is_remount ops.Remount = true
+is_remount _ = false
+
+-- A remount takes the tree of the disk, or none where it isn't accepted. Then it answers an error and gives no reply.
+abbrev pub remounted : Option Tree → Option Reply × State
+remounted None = (None, HasFailed)
+remounted (Some tree) = (Some ops.Done, Healthy (mounted tree))
+
+abbrev pub answered_in : Surroundings → State → Operation → Option Reply × State
+answered_in around HasFailed op = (Some (ops.Refused Failed), HasFailed)
+answered_in around (Healthy s) op = (Some (applied around s op).0, Healthy (applied around s op).1)
+
+-- the reply, where no error is answered in its place, and the state after it
+abbrev pub answered : Surroundings → Option Tree → State → Operation → Option Reply × State
+answered around shown state op = if is_remount op then remounted shown else answered_in around state op

@@ -1,0 +1,13 @@
+// What a disk's thread and its image are.
+
+ghost use Rattle.std.specs.Prelude.{◌≡◌, ℕ, List, Option};
+ghost use Rattle.lfs_model.specs.Disk.{Disk};
+ghost use Rattle.lfs_model.specs.Slots.{Content};
+ghost use Rattle.lfs_model.specs.Thread.{Pair, IsThread};
+ghost use Rattle.lfs_model.specs.View.{IsAccepted};
+
+/// A disk has at most one thread, and so an image is accepted with one list of pairs, and shows one tree.
+pub fn thread_is_unique()
+    ensures thread { (content_of : ℕ × ℕ → Option Content) (block_count : ℕ) (ps qs : List Pair) → IsThread content_of block_count ps → IsThread content_of block_count qs → ps ≡ qs }
+    ensures image { (disk : Disk) (ps qs : List Pair) → IsAccepted disk ps → IsAccepted disk qs → ps ≡ qs }
+{}

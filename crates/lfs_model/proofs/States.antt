@@ -7,7 +7,7 @@ use Rattle.lfs_model.specs.Operations.{Operation, Reply, Failed, NoEnt}
 use Rattle.lfs_model.specs.Session.{Session, Surroundings}
 use Rattle.lfs_model.specs.Steps.{applied}
 use Rattle.lfs_model.specs.State.{HasFailed, Healthy, answered}
-use Rattle.lfs_model.proofs.Fresh.{empty_tree}
+use Rattle.lfs_model.specs.Fresh.{empty_tree}
 
 pub answered_healthy : (surroundings : Surroundings) (s : Session) (op : Operation) →
     answered surroundings (Some s.tree) (Healthy s) op ≡ (Some (applied surroundings s op).0, Healthy (applied surroundings s op).1)

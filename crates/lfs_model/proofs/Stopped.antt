@@ -7,7 +7,7 @@ use Rattle.lfs_model.specs.Crc.{crc_of, next_bits}
 use Rattle.lfs_model.specs.Log.{log_of, chain_of, chain_within, commit_within, entry_at, closes}
 use Rattle.lfs_model.specs.History.{Call, Read, Program, Erase, event}
 use Rattle.lfs_model.specs.Stops.{stops_in, Stops}
-use Rattle.lfs_model.proofs.Example as example
+use Rattle.lfs_model.specs.Examples.{small_commit}
 
 same_but_nothing : (b : ℕ) (blocks : Blocks) → SameBut b blocks blocks
 same_but_nothing b blocks = record { count = refl; size = refl; others = λ other d. refl }
@@ -40,15 +40,21 @@ stops_whole b off bytes before below fits = (
 
 -- ---- a program that was torn: the first 10 bytes of a second commit are there
 
+-- an empty file comes
+abbrev second : List ℕ
+second =
+    0x10 ∷ 0x1f ∷ 0xf8 ∷ 0x50 ∷ 0x40 ∷ 0x0 ∷ 0x0 ∷ 0x1 ∷ 0x62 ∷ 0x20 ∷ 0x0 ∷ 0x0 ∷ 0x1 ∷ 0x70 ∷ 0x1f ∷ 0xf8 ∷ 0x6f
+    ∷ 0x6a ∷ 0xa8 ∷ 0x34 ∷ 0x70 ∷ replicate 107 0xff
+
 abbrev first : List ℕ
-first = take 128 example.block ++ replicate 896 0xff
+first = small_commit ++ replicate 896 0xff
 
 abbrev torn : List ℕ
-torn = take 138 example.block ++ replicate 886 0xff
+torn = small_commit ++ take 10 second ++ replicate 886 0xff
 
 torn_log : log_of torn ≡ log_of first
 unfolding chain_of chain_within commit_within entry_at closes crc_of next_bits
 torn_log = refl
 
-pub torn_left : Stops (event (Program 0 128 (take 128 (drop 128 example.block))) (first ∷ []) (torn ∷ []) true) (torn ∷ [])
+pub torn_left : Stops (event (Program 0 128 second) (first ∷ []) (torn ∷ []) true) (torn ∷ [])
 torn_left = (record { count = refl; size = refl; others = λ other d. get_or-set_other (first ∷ []) 0 other torn [] d }, inl torn_log)

@@ -12,6 +12,8 @@ pub mod Lists
 pub mod Thread
 pub mod Tree
 pub mod View
+pub mod Fresh
+pub mod Examples
 pub mod Operations
 pub mod Apply
 pub mod Session

@@ -28,6 +28,11 @@ pub record SameBut (b : ℕ) (old new : Blocks) : Type 0 where
   pub size : length (block_in new b) ≡ length (block_in old b)
   pub others : (other : ℕ) → other ≢ b → block_in new other ≡ block_in old other
 
+-- bytes that differ at most from an offset up to another
+pub record SameOutside (low high : ℕ) (old new : List ℕ) : Type 0 where
+  pub below : take low new ≡ take low old
+  pub above : drop high new ≡ drop high old
+
 -- bytes cut into so many blocks of a size
 abbrev pub cut : ℕ → ℕ → List ℕ → Blocks
 cut size zero bytes = []

@@ -74,6 +74,16 @@ pub record EachSince (P : Event → Type 0) (old new : List Event) : Type 0 wher
   pub extends : new ≡ events ++ old
   pub each : EachEvent P events
 
+-- a read that finds and leaves these blocks
+pub record IsReadOf (blocks : Blocks) (e : Event) : Type 0 where
+  pub reads : reads_in e.call ≡ 1
+  pub before : e.before ≡ blocks
+  pub after : e.after ≡ blocks
+
+-- no call but reads since the old history, and the blocks are these all along
+abbrev pub OnlyReads : Blocks → List Event → List Event → Type 0
+OnlyReads blocks old new = EachSince (IsReadOf blocks) old new
+
 -- what a stop during a call may leave, at worst: any bytes in the block of a program or an erase
 abbrev pub at_worst : Call → Blocks → Blocks → Type 0
 at_worst (Read block off len) before disk = disk ≡ before

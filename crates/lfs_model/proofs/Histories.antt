@@ -1,0 +1,186 @@
+-- What follows from the history of a device, for those who call it.
+use Rattle.std.proofs.Common.{◌≡◌, ◌≢◌, ◌≤◌, ◌<◌, ℕ, ◌+◌, Bool, true, false, nat_lt, nat_le, ◌==◌, length, arith, List, [], ◌∷◌, ◌++◌, refl, sym, ◌∙◌, ap, subst, append_assoc}
+use Rattle.std.proofs.lemmas.Bool.Decides.{nat_tests}
+use Rattle.lfs_model.specs.Blocks.{Blocks}
+use Rattle.lfs_model.specs.History.{Call, Event, event, Read, Program, Erase, reads_in, at_worst, reads, programs, erases, faults, unprogrammed, unprogrammed_after, AllUnprogrammed, EachEvent, EachSince, IsReadOf, OnlyReads, AtWorst, LeavesOnly}
+
+-- Calls that all have P: none yet, one more, those of another stretch, and what P implies.
+
+pub began : {P : Event → Type 0} {old : List Event} → EachSince P old old
+began = record { events = []; extends = refl; each = tt }
+
+pub goes_on : {P : Event → Type 0} {old mid new : List Event} {e : Event} → EachSince P old mid → new ≡ e ∷ mid → P e → EachSince P old new
+goes_on {e = e} so_far is here = record {
+  events = e ∷ so_far.events;
+  extends = is ∙ ap (λ (l : List Event). e ∷ l) so_far.extends;
+  each = (here, so_far.each);
+}
+
+EachEvent-append : (P : Event → Type 0) (first second : List Event) → EachEvent P first → EachEvent P second → EachEvent P (first ++ second)
+EachEvent-append P [] second a b = b
+EachEvent-append P (e ∷ first) second a b = (a.0, EachEvent-append P first second a.1 b)
+
+pub goes_on_by : {P : Event → Type 0} {old mid new : List Event} → EachSince P old mid → EachSince P mid new → EachSince P old new
+goes_on_by {P} {old} first second = record {
+  events = second.events ++ first.events;
+  extends = second.extends ∙ ap (λ (l : List Event). second.events ++ l) first.extends ∙ sym (append_assoc second.events first.events old);
+  each = EachEvent-append P second.events first.events second.each first.each;
+}
+
+EachEvent-weaker : (P Q : Event → Type 0) (events : List Event) → ((e : Event) → P e → Q e) → EachEvent P events → EachEvent Q events
+EachEvent-weaker P Q [] of all = tt
+EachEvent-weaker P Q (e ∷ events) of all = (of e all.0, EachEvent-weaker P Q events of all.1)
+
+pub EachSince-weaker : {P Q : Event → Type 0} {old new : List Event} → ((e : Event) → P e → Q e) → EachSince P old new → EachSince Q old new
+EachSince-weaker {P} {Q} of since = record { events = since.events; extends = since.extends; each = EachEvent-weaker P Q since.events of since.each }
+
+-- the histories under other names
+pub EachSince-same : {P : Event → Type 0} {old new other later : List Event} → EachSince P old new → other ≡ old → later ≡ new → EachSince P other later
+EachSince-same since start end = record { events = since.events; extends = end ∙ since.extends ∙ ap (λ (l : List Event). since.events ++ l) (sym start); each = since.each }
+
+-- What a stop leaves, over one call more, over another stretch, and what that implies.
+
+pub LeavesOnly-call : {stops : Event → Blocks → Type 0} {P : Blocks → Type 0} {old mid new : List Event} {e : Event}
+    → LeavesOnly stops old mid P → new ≡ e ∷ mid → ((disk : Blocks) → stops e disk → P disk) → LeavesOnly stops old new P
+LeavesOnly-call so_far is here = goes_on so_far is here
+
+pub LeavesOnly-trans : {stops : Event → Blocks → Type 0} {P : Blocks → Type 0} {old mid new : List Event} → LeavesOnly stops old mid P → LeavesOnly stops mid new P → LeavesOnly stops old new P
+LeavesOnly-trans first second = goes_on_by first second
+
+pub LeavesOnly-weaker : {stops : Event → Blocks → Type 0} {P Q : Blocks → Type 0} {old new : List Event}
+    → ((disk : Blocks) → P disk → Q disk) → LeavesOnly stops old new P → LeavesOnly stops old new Q
+LeavesOnly-weaker of leaves = EachSince-weaker (λ e here disk left. of disk (here disk left)) leaves
+
+-- Counts never fall.
+
+reads-append : (events old : List Event) → reads old ≤ reads (events ++ old)
+reads-append [] old = omega arith
+reads-append (e ∷ events) old = let rest = reads-append events old in omega arith
+
+programs-append : (events old : List Event) → programs old ≤ programs (events ++ old)
+programs-append [] old = omega arith
+programs-append (e ∷ events) old = let rest = programs-append events old in omega arith
+
+erases-append : (events old : List Event) → erases old ≤ erases (events ++ old)
+erases-append [] old = omega arith
+erases-append (e ∷ events) old = let rest = erases-append events old in omega arith
+
+faults-append : (events old : List Event) → faults old ≤ faults (events ++ old)
+faults-append [] old = omega arith
+faults-append (e ∷ events) old = let rest = faults-append events old in omega arith
+
+pub reads-since : {P : Event → Type 0} {old new : List Event} → EachSince P old new → reads old ≤ reads new
+reads-since {old = old} since = rw since.extends (reads-append since.events old)
+
+pub programs-since : {P : Event → Type 0} {old new : List Event} → EachSince P old new → programs old ≤ programs new
+programs-since {old = old} since = rw since.extends (programs-append since.events old)
+
+pub erases-since : {P : Event → Type 0} {old new : List Event} → EachSince P old new → erases old ≤ erases new
+erases-since {old = old} since = rw since.extends (erases-append since.events old)
+
+pub faults-since : {P : Event → Type 0} {old new : List Event} → EachSince P old new → faults old ≤ faults new
+faults-since {old = old} since = rw since.extends (faults-append since.events old)
+
+-- Where all calls are reads, nothing is written, and a stop leaves what is there.
+
+pub OnlyReads-read : {blocks : Blocks} {old mid new : List Event} {block off len : ℕ} {before after : Blocks} {failed : Bool}
+    → OnlyReads blocks old mid → new ≡ event (Read block off len) before after failed ∷ mid → before ≡ blocks → after ≡ blocks → OnlyReads blocks old new
+OnlyReads-read so_far is was stays = goes_on so_far is (record { reads = refl; before = was; after = stays })
+
+writes_in_read : (call : Call) → reads_in call ≡ 1 → (programs (event call [] [] false ∷ []) ≡ 0) × (erases (event call [] [] false ∷ []) ≡ 0)
+writes_in_read (Read block off len) is = (refl, refl)
+writes_in_read (Program block off bytes) is = absurd (cc)
+writes_in_read (Erase block) is = absurd (cc)
+
+programs_in_reads : (blocks : Blocks) (events old : List Event) → EachEvent (IsReadOf blocks) events → programs (events ++ old) ≡ programs old
+programs_in_reads blocks [] old each = refl
+programs_in_reads blocks (e ∷ events) old each =
+    let here = (writes_in_read e.call each.0.reads).0 in
+    let rest = programs_in_reads blocks events old each.1 in
+    omega arith
+
+erases_in_reads : (blocks : Blocks) (events old : List Event) → EachEvent (IsReadOf blocks) events → erases (events ++ old) ≡ erases old
+erases_in_reads blocks [] old each = refl
+erases_in_reads blocks (e ∷ events) old each =
+    let here = (writes_in_read e.call each.0.reads).1 in
+    let rest = erases_in_reads blocks events old each.1 in
+    omega arith
+
+unprogrammed_by_read : (call : Call) (failed : Bool) (block k : ℕ) (was : Bool) → reads_in call ≡ 1 → unprogrammed_after call failed block k was ≡ was
+unprogrammed_by_read (Read at off len) failed block k was is = refl
+unprogrammed_by_read (Program at off bytes) failed block k was is = absurd (cc)
+unprogrammed_by_read (Erase at) failed block k was is = absurd (cc)
+
+unprogrammed_in_reads : (blocks : Blocks) (events old : List Event) (block k : ℕ) → EachEvent (IsReadOf blocks) events → unprogrammed (events ++ old) block k ≡ unprogrammed old block k
+unprogrammed_in_reads blocks [] old block k each = refl
+unprogrammed_in_reads blocks (e ∷ events) old block k each = unprogrammed_by_read e.call e.failed block k (unprogrammed (events ++ old) block k) each.0.reads ∙ unprogrammed_in_reads blocks events old block k each.1
+
+pub programs-reads : {blocks : Blocks} {old new : List Event} → OnlyReads blocks old new → programs new ≡ programs old
+programs-reads {blocks} {old} since = ap programs since.extends ∙ programs_in_reads blocks since.events old since.each
+
+pub erases-reads : {blocks : Blocks} {old new : List Event} → OnlyReads blocks old new → erases new ≡ erases old
+erases-reads {blocks} {old} since = ap erases since.extends ∙ erases_in_reads blocks since.events old since.each
+
+pub unprogrammed-reads : {blocks : Blocks} {old new : List Event} (block k : ℕ) → OnlyReads blocks old new → unprogrammed new block k ≡ unprogrammed old block k
+unprogrammed-reads {blocks} {old} block k since = ap (λ (h : List Event). unprogrammed h block k) since.extends ∙ unprogrammed_in_reads blocks since.events old block k since.each
+
+pub AllUnprogrammed-reads : {blocks : Blocks} {old new : List Event} {low high : ℕ} (block : ℕ) → OnlyReads blocks old new → AllUnprogrammed old block low high → AllUnprogrammed new block low high
+AllUnprogrammed-reads block since was k above below = unprogrammed-reads block k since ∙ was k above below
+
+-- under any statement of stops in which a stopped read leaves the disk alone
+pub LeavesOnly-reads : {stops : Event → Blocks → Type 0} {P : Blocks → Type 0} {blocks : Blocks} {old new : List Event}
+    → ((e : Event) (disk : Blocks) → reads_in e.call ≡ 1 → stops e disk → disk ≡ e.before) → OnlyReads blocks old new → P blocks → LeavesOnly stops old new P
+LeavesOnly-reads {P = P} stopped since here = EachSince-weaker (λ e is disk left. subst P (sym (stopped e disk is.reads left ∙ is.before)) here) since
+
+pub AtWorst-read : (e : Event) (disk : Blocks) → reads_in e.call ≡ 1 → AtWorst e disk → disk ≡ e.before
+AtWorst-read e = at_call e.call e.before
+  where
+    at_call : (call : Call) (before disk : Blocks) → reads_in call ≡ 1 → at_worst call before disk → disk ≡ before
+    at_call (Read block off len) before disk is left = left
+    at_call (Program block off bytes) before disk is left = absurd (cc)
+    at_call (Erase block) before disk is left = absurd (cc)
+
+-- Which bytes are unprogrammed after a call.
+
+pub AllUnprogrammed-part : (history : List Event) (block : ℕ) {low high from to : ℕ} → AllUnprogrammed history block low high → low ≤ from → to ≤ high → AllUnprogrammed history block from to
+AllUnprogrammed-part history block was above below k from to = was k (omega arith) (omega arith)
+
+-- after an erase each byte of the block
+pub unprogrammed-erase : {old new : List Event} {block low high : ℕ} {before after : Blocks} → new ≡ event (Erase block) before after false ∷ old → AllUnprogrammed new block low high
+unprogrammed-erase {block = block} is k above below = ap (λ (h : List Event). unprogrammed h block k) is ∙ grind (arith, nat_tests)
+
+-- after an erase of another block, also one that failed
+pub unprogrammed-erase_elsewhere : {old new : List Event} {block erased low high : ℕ} {before after : Blocks} {failed : Bool} → new ≡ event (Erase erased) before after failed ∷ old
+    → block ≢ erased → AllUnprogrammed old block low high → AllUnprogrammed new block low high
+unprogrammed-erase_elsewhere {old} {block = block} {erased = erased} is apart was k above below =
+    let still : unprogrammed old block k ≡ true = was k above below in
+    let other : (block == erased) ≡ false = grind (arith, nat_tests) in
+    ap (λ (h : List Event). unprogrammed h block k) is ∙ grind (arith, nat_tests, still, other)
+
+pub unprogrammed-read : {old new : List Event} {read off len low high : ℕ} {before after : Blocks} {failed : Bool} (block : ℕ) → new ≡ event (Read read off len) before after failed ∷ old
+    → AllUnprogrammed old block low high → AllUnprogrammed new block low high
+unprogrammed-read block is was k above below = ap (λ (h : List Event). unprogrammed h block k) is ∙ was k above below
+
+-- after a program the bytes behind it, also one that failed
+pub unprogrammed-program : {old new : List Event} {block off : ℕ} {bytes : List ℕ} {before after : Blocks} {failed : Bool} {low high later : ℕ} → new ≡ event (Program block off bytes) before after failed ∷ old
+    → AllUnprogrammed old block low high → low ≤ later → off + length bytes ≤ later → AllUnprogrammed new block later high
+unprogrammed-program {old} {block = block} {off = off} {bytes = bytes} is was le behind k above below =
+    let still : unprogrammed old block k ≡ true = was k (omega arith) below in
+    let past : nat_lt k (off + length bytes) ≡ false = grind (arith, nat_tests) in
+    ap (λ (h : List Event). unprogrammed h block k) is ∙ grind (arith, nat_tests, still, past)
+
+-- those before it
+pub unprogrammed-program_above : {old new : List Event} {block off : ℕ} {bytes : List ℕ} {before after : Blocks} {failed : Bool} {low high : ℕ} → new ≡ event (Program block off bytes) before after failed ∷ old
+    → AllUnprogrammed old block low high → high ≤ off → AllUnprogrammed new block low high
+unprogrammed-program_above {old} {block = block} {off = off} is was le k above below =
+    let still : unprogrammed old block k ≡ true = was k above below in
+    let short : nat_le off k ≡ false = grind (arith, nat_tests) in
+    ap (λ (h : List Event). unprogrammed h block k) is ∙ grind (arith, nat_tests, still, short)
+
+-- and those of another block
+pub unprogrammed-program_elsewhere : {old new : List Event} {block programmed off : ℕ} {bytes : List ℕ} {before after : Blocks} {failed : Bool} {low high : ℕ}
+    → new ≡ event (Program programmed off bytes) before after failed ∷ old → block ≢ programmed → AllUnprogrammed old block low high → AllUnprogrammed new block low high
+unprogrammed-program_elsewhere {old} {block = block} {programmed = programmed} is apart was k above below =
+    let still : unprogrammed old block k ≡ true = was k above below in
+    let other : (block == programmed) ≡ false = grind (arith, nat_tests) in
+    ap (λ (h : List Event). unprogrammed h block k) is ∙ grind (arith, nat_tests, still, other)

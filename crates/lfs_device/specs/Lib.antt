@@ -1,4 +1,3 @@
-pub mod Cuts
 pub mod Erased
 pub mod Error
 pub mod Fault

@@ -1,5 +1,5 @@
 ghost use Rattle.std.specs.Prelude.{◌≡◌, ◌≤◌, ◌<◌, ℕ, ◌+◌, ◌%◌, List, ◌∷◌, length, slice_range, is_err, IfErr, OnOk, OnErr};
-ghost use Rattle.lfs_model.specs.Blocks.{Blocks, IsDivided, SameBut, block_in, programmed};
+ghost use Rattle.lfs_model.specs.Blocks.{Blocks, IsDivided, SameBut, SameOutside, block_in, programmed};
 ghost use Rattle.lfs_model.specs.History.{Event, event, AllUnprogrammed};
 ghost use Rattle.lfs_model.specs.History.Call.{Read, Program, Erase};
 ghost use Rattle.lfs_device.specs.declared.geometry.Geometry.{Geometry};
@@ -38,7 +38,7 @@ pub trait BlockDevice {
         requires ends { (off + length bytes.now) % (geometry self.old).page ≡ 0 }
         requires unprogrammed { AllUnprogrammed (history self.old) block off (off + length bytes.now) }
         ensures ok { OnOk result (blocks self.new ≡ programmed (blocks self.old) block off bytes.now) }
-        ensures err { OnErr result ((any : List ℕ) × (length any ≡ length bytes.now) × (blocks self.new ≡ programmed (blocks self.old) block off any)) }
+        ensures err { OnErr result (SameOutside off (off + length bytes.now) (block_in (blocks self.old) block) (block_in (blocks self.new) block)) }
         ensures others { SameBut block (blocks self.old) (blocks self.new) }
         ensures geometry { geometry self.new ≡ geometry self.old }
         ensures history { history self.new ≡ event (Program block off bytes.now) (blocks self.old) (blocks self.new) (is_err result) ∷ history self.old }

@@ -120,7 +120,7 @@ fn erase_at(all: &mut Vec<u8>, at: usize, len: usize, erased: Erased)
 }
 
 impl BlockDevice for RamDevice {
-    ghost use Rattle.lfs_device.specs.Cuts.{IsDivided-cut};
+    ghost use Rattle.lfs_model.proofs.Cuts.{IsDivided-cut};
     ghost use Rattle.lfs_model.specs.Blocks.{cut};
 
     ghost geometry = { λ d. d.geometry };

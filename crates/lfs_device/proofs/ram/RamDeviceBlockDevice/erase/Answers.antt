@@ -1,8 +1,8 @@
 use Rattle.std.proofs.Common.{◌≡◌, ◌∙◌, ap}
 use Rattle.lfs_model.specs.Blocks.{Blocks, cut}
-use Rattle.lfs_device.specs.Cuts.{IsDivided-cut}
+use Rattle.lfs_model.proofs.Cuts.{IsDivided-cut}
 use Rattle.lfs_device.specs.Erased.{erased_bytes, erased_disk}
-use Rattle.lfs_device.proofs.DiskLemmas.{cut-erased, same_but-erased}
+use Rattle.lfs_device.proofs.Erasures.{cut-erased, SameBut-erased}
 use Rattle.lfs_device.proofs.ram.RamDeviceBlockDevice.erase.Goals as goal
 
 -- the blocks after the erase
@@ -17,7 +17,7 @@ pub returns-clause-others : goal.returns-clause-others
 returns-clause-others c =
     let d = c.args.self.now in
     let disk : Blocks = cut d.geometry.block_size d.geometry.block_count d.bytes.items in
-    rw (after c) (same_but-erased d.erased d.geometry.block_size d.geometry.block_count disk c.args.block (IsDivided-cut d.geometry.block_size d.geometry.block_count d.bytes.items d.size) c.requires)
+    rw (after c) (SameBut-erased d.erased d.geometry.block_size d.geometry.block_count disk c.args.block (IsDivided-cut d.geometry.block_size d.geometry.block_count d.bytes.items d.size) c.requires)
 
 pub returns-clause-history : goal.returns-clause-history
 returns-clause-history c = rw (after c) c.told_by-trace.ensures

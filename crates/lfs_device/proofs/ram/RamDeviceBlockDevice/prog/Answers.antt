@@ -1,7 +1,7 @@
 use Rattle.std.proofs.Common.{length, ◌∙◌, ap, arith}
 use Rattle.lfs_model.specs.Blocks.{Blocks, overwritten, cut}
-use Rattle.lfs_device.specs.Cuts.{IsDivided-cut, cut-overwritten, size_fits}
-use Rattle.lfs_device.proofs.DiskLemmas.{length-overwritten, same_but-programmed}
+use Rattle.lfs_model.proofs.Cuts.{IsDivided-cut, cut-overwritten, size_fits}
+use Rattle.lfs_model.proofs.Overwrites.{length-overwritten, SameBut-programmed}
 use Rattle.lfs_device.proofs.ram.RamDeviceBlockDevice.prog.Goals as goal
 
 pub invariant_of-self : goal.invariant_of-self
@@ -21,7 +21,7 @@ returns-clause-others c =
     let d = c.args.self.now in
     let disk : Blocks = cut d.geometry.block_size d.geometry.block_count d.bytes.items in
     let shape = IsDivided-cut d.geometry.block_size d.geometry.block_count d.bytes.items d.size in
-    rw (returns-clause-ok c) (same_but-programmed disk c.args.block c.args.off c.args.bytes.now (omega (arith, shape.count)) (omega (arith, shape.sizes c.args.block c.requires.in_device)))
+    rw (returns-clause-ok c) (SameBut-programmed disk c.args.block c.args.off c.args.bytes.now (omega (arith, shape.count)) (omega (arith, shape.sizes c.args.block c.requires.in_device)))
 
 pub returns-clause-history : goal.returns-clause-history
 returns-clause-history c = rw (returns-clause-ok c) c.told_by-trace.ensures

@@ -1,6 +1,6 @@
 use Rattle.std.proofs.Common.{◌+◌, List, ℕ, length, ◌∙◌, ap}
 use Rattle.std.specs.Prelude.{slice_range}
-use Rattle.lfs_device.specs.Cuts.{slice_range-block_in}
+use Rattle.lfs_model.proofs.Cuts.{slice_range-block_in}
 use Rattle.lfs_device.proofs.ram.RamDeviceBlockDevice.read.Goals as goal
 
 pub returns-clause-bytes : goal.returns-clause-bytes

@@ -1,4 +1,5 @@
 pub mod Blocks
+pub mod BlockSets
 pub mod Geometry
 pub mod History
 pub mod Disk

@@ -9,6 +9,7 @@ pub mod Tag
 pub mod Log
 pub mod Slots
 pub mod Content
+pub mod Compacted
 pub mod Lists
 pub mod Thread
 pub mod Tree

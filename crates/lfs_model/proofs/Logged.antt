@@ -1,0 +1,187 @@
+-- What a log comes to can be written again.
+use Rattle.std.proofs.Common.{ℕ, zero, suc, ◌≡◌, ◌≢◌, ◌+◌, ◌-◌, ◌*◌, ◌/◌, ◌%◌, ◌^◌, ◌<◌, ◌≤◌, ◌==◌, ◌&&◌, Bool, true, false, cond, not, List, [], ◌∷◌, ◌++◌, length, drop, filter, Option, Some, None, refl, sym, ap, ap₂, subst, ◌∙◌, arith, replicate, length-append, eq-eqb, eqb-true, get_or-drop}
+use Rattle.std.specs.Prelude.{slice_set, slice_index_or, slice_index, nat_lt, nat_le, is_some}
+use Rattle.std.specs.List.{insert, remove}
+use Rattle.std.specs.Option.{option_and_then, option_map}
+use Rattle.std.proofs.lemmas.Option.{same_Some}
+use Rattle.std.proofs.lemmas.Bool.{ne_eqb, eqb-false, ltb-false, ltb-true, and_parts}
+use Rattle.byteorder.specs.Endian.{little_number}
+use Rattle.lfs_model.specs.Tag.{tag_with, kind_of, id_of, len_of, class_of, chunk_of, size_of}
+use Rattle.lfs_model.specs.Log.{LogEntry}
+use Rattle.lfs_model.specs.Slots.{Attributes, Tail, Gstate, no_gstate}
+use Rattle.lfs_model.specs.Content.{RawSlot, RawContent, content_after, content_after_all, slots_after, changed, up_to, empty_slot, slot_of_id, is_in_table, has_its_id, put_attribute, without_attribute, with_attribute, removes, no_id, create_type, delete_type, no_content, pair_at, tail_of, gstate_at, hard_tail_type, typed}
+use Rattle.lfs_model.proofs.Compacted.{kind_of-tag_with, len_of-tag_with}
+use Rattle.lfs_model.specs.Compacted.{IsPart, IsPartIfSome, Ascend, HasParts, HaveParts, IsLogged, IsStored, AreStored, IsAddress, IsTailIfSome, IsMoveState, is_null}
+
+-- ---- attributes
+
+ascend_lower : (low high : ℕ) (rest : Attributes) → low ≤ high → Ascend high rest → Ascend low rest
+ascend_lower low high [] l h = tt
+ascend_lower low high (a ∷ rest) l h = (omega arith, h.1, h.2, h.3)
+
+put_ascends : (low type : ℕ) (bytes : List ℕ) (rest : Attributes) → low ≤ type → type < 2 ^ 8 → length bytes < 0x3ff → Ascend low rest → Ascend low (put_attribute type bytes rest)
+put_ascends low type bytes [] l t n h = (l, t, n, tt)
+put_ascends low type bytes (a ∷ rest) l t n h = go (nat_lt type a.0) (type == a.0) refl refl (put_ascends (a.0 + 1) type bytes rest)
+  where
+    go : (less same : Bool) → nat_lt type a.0 ≡ less → (type == a.0) ≡ same → (a.0 + 1 ≤ type → type < 2 ^ 8 → length bytes < 0x3ff → Ascend (a.0 + 1) rest → Ascend (a.0 + 1) (put_attribute type bytes rest))
+        → Ascend low (cond less ((type, bytes) ∷ a ∷ rest) (cond same ((type, bytes) ∷ rest) (a ∷ put_attribute type bytes rest)))
+    go true same e f more = let lt : type < a.0 = ltb-true type a.0 e in (l, t, n, (omega arith, h.1, h.2, h.3))
+    go false true e f more = let is : type ≡ a.0 = eqb-true type a.0 f in (l, t, n, subst (λ k. Ascend (k + 1) rest) (sym is) h.3)
+    go false false e f more =
+        let above : a.0 ≤ type = ltb-false type a.0 e in
+        let apart : type ≢ a.0 = eqb-false type a.0 f in
+        (h.0, h.1, h.2, more (omega arith) t n h.3)
+
+without_ascends : (low type : ℕ) (rest : Attributes) → Ascend low rest → Ascend low (without_attribute type rest)
+without_ascends low type [] h = tt
+without_ascends low type (a ∷ rest) h = go (a.0 == type) (without_ascends (a.0 + 1) type rest h.3)
+  where
+    go : (same : Bool) → Ascend (a.0 + 1) (without_attribute type rest) → Ascend low (cond (not same) (a ∷ without_attribute type rest) (without_attribute type rest))
+    go true more = ascend_lower low (a.0 + 1) (without_attribute type rest) (omega (arith, h.0)) more
+    go false more = (h.0, h.1, h.2, more)
+
+-- ---- slots
+
+set_parts : (slots : List RawSlot) (i : ℕ) (s : RawSlot) → HaveParts slots → HasParts s → HaveParts (slice_set slots i s)
+set_parts [] i s h p = tt
+set_parts (t ∷ slots) zero s h p = (p, h.1)
+set_parts (t ∷ slots) (suc i) s h p = (h.0, set_parts slots i s h.1 p)
+
+parts_of_empty : HasParts empty_slot
+parts_of_empty = record { name = tt; struct = tt; attributes = tt }
+
+parts_at : (slots : List RawSlot) (i : ℕ) → HaveParts slots → HasParts (slot_of_id slots i)
+parts_at [] i h = parts_of_empty
+parts_at (t ∷ slots) zero h = h.0
+parts_at (t ∷ slots) (suc i) h = parts_at slots i h.1
+
+insert_parts : (slots : List RawSlot) (i : ℕ) (s : RawSlot) → HaveParts slots → HasParts s → HaveParts (insert slots i s)
+insert_parts slots zero s h p = (p, h)
+insert_parts [] (suc i) s h p = (p, tt)
+insert_parts (t ∷ slots) (suc i) s h p = (h.0, insert_parts slots i s h.1 p)
+
+remove_parts : (slots : List RawSlot) (i : ℕ) → HaveParts slots → HaveParts (remove slots i)
+remove_parts [] zero h = tt
+remove_parts [] (suc i) h = tt
+remove_parts (t ∷ slots) zero h = h.1
+remove_parts (t ∷ slots) (suc i) h = (h.0, remove_parts slots i h.1)
+
+longer_parts : (slots : List RawSlot) (n : ℕ) → HaveParts slots → HaveParts (slots ++ replicate n empty_slot)
+longer_parts [] zero h = tt
+longer_parts [] (suc n) h = (parts_of_empty, longer_parts [] n tt)
+longer_parts (t ∷ slots) n h = (h.0, longer_parts slots n h.1)
+
+changed_parts : (f : RawSlot → RawSlot) (slots : List RawSlot) (i : ℕ) → HaveParts slots → ((s : RawSlot) → HasParts s → HasParts (f s)) → HaveParts (changed f slots i)
+changed_parts f slots i h g = set_parts slots i (f (slot_of_id slots i)) h (g (slot_of_id slots i) (parts_at slots i h))
+
+-- ---- an entry
+
+-- the bytes of an entry that removes nothing are as many as its length says
+stored_length : (e : LogEntry) → IsStored e → removes e.tag ≡ false → length e.bytes ≡ len_of e.tag
+stored_length e h r = h.size ∙ ap (λ b. cond b 0 (len_of e.tag)) r
+
+stored_short : (e : LogEntry) → IsStored e → length e.bytes < 0x3ff
+stored_short e h = go (removes e.tag) refl
+  where
+    go : (b : Bool) → removes e.tag ≡ b → length e.bytes < 0x3ff
+    go true r = let s : length e.bytes ≡ 0 = h.size ∙ ap (λ b. cond b 0 (len_of e.tag)) r in omega arith
+    go false r =
+        let s : length e.bytes ≡ len_of e.tag = stored_length e h r in
+        let n : len_of e.tag ≢ 0x3ff = eqb-false (len_of e.tag) 0x3ff r in
+        let small : len_of e.tag < 0x400 = omega arith in
+        omega arith
+
+-- a name or a struct is a part
+part_of : (e : LogEntry) (class : ℕ) → IsStored e → class ≢ 3 → class_of e.tag ≡ class → is_in_table e.tag ≡ true → IsPart class (kind_of e.tag, e.bytes)
+part_of e class h n c t = go (removes e.tag) refl
+  where
+    go : (b : Bool) → removes e.tag ≡ b → IsPart class (kind_of e.tag, e.bytes)
+    go true r =
+        let other : class_of e.tag == 3 ≡ false = ne_eqb (class_of e.tag) 3 (λ k. n (sym c ∙ k)) in
+        absurd (let no : is_in_table e.tag ≡ false = rw (r, other) refl in cc)
+    go false r =
+        let same : length e.bytes ≡ len_of e.tag = stored_length e h r in
+        let short : length e.bytes < 0x3ff = stored_short e h in
+        let kind : kind_of (tag_with (kind_of e.tag) 0 (length e.bytes)) ≡ kind_of e.tag = kind_of-tag_with (kind_of e.tag) 0 (length e.bytes) (omega arith) (omega arith) (omega arith) in
+        let len : len_of (tag_with (kind_of e.tag) 0 (length e.bytes)) ≡ len_of e.tag = len_of-tag_with (kind_of e.tag) 0 (length e.bytes) (omega arith) ∙ same in
+        record { of_class = c; short = short; in_table = rw (kind, len) t }
+
+-- one of five lists
+one_of : (names creates deletes low lower unnamed structs : Bool) (a b c d e new : List RawSlot) → (names ≡ true → HaveParts a) → HaveParts b → HaveParts c → (structs ≡ true → HaveParts d) → HaveParts e
+    → cond names (Some a) (cond creates (cond low (Some b) None) (cond deletes (cond lower (Some c) None) (cond unnamed None (cond structs (Some d) (Some e))))) ≡ Some new → HaveParts new
+one_of true creates deletes low lower unnamed structs a b c d e new ha hb hc hd he is = subst HaveParts (same_Some a new is) (ha refl)
+one_of false true deletes true lower unnamed structs a b c d e new ha hb hc hd he is = subst HaveParts (same_Some b new is) hb
+one_of false true deletes false lower unnamed structs a b c d e new ha hb hc hd he is = absurd (cc)
+one_of false false true low true unnamed structs a b c d e new ha hb hc hd he is = subst HaveParts (same_Some c new is) hc
+one_of false false true low false unnamed structs a b c d e new ha hb hc hd he is = absurd (cc)
+one_of false false false low lower true structs a b c d e new ha hb hc hd he is = absurd (cc)
+one_of false false false low lower false true a b c d e new ha hb hc hd he is = subst HaveParts (same_Some d new is) (hd refl)
+one_of false false false low lower false false a b c d e new ha hb hc hd he is = subst HaveParts (same_Some e new is) he
+
+with_attribute_ascends : (e : LogEntry) (attributes : Attributes) → IsStored e → Ascend 0 attributes → Ascend 0 (with_attribute e attributes)
+with_attribute_ascends e attributes h up = go (removes e.tag)
+  where
+    go : (b : Bool) → Ascend 0 (cond b (without_attribute (chunk_of e.tag) attributes) (put_attribute (chunk_of e.tag) e.bytes attributes))
+    go true = without_ascends 0 (chunk_of e.tag) attributes up
+    go false = put_ascends 0 (chunk_of e.tag) e.bytes attributes (omega arith) (omega arith) (stored_short e h) up
+
+-- the slots behind an entry
+slots_parts : (slots : List RawSlot) (e : LogEntry) (new : List RawSlot) → HaveParts slots → IsStored e → is_in_table e.tag ≡ true → slots_after slots e ≡ Some new → HaveParts new
+slots_parts slots e new h stored t is =
+    one_of (class_of e.tag == 0) (kind_of e.tag == create_type) (kind_of e.tag == delete_type) (nat_le (id_of e.tag) (length slots)) (nat_lt (id_of e.tag) (length slots))
+    (not (is_some (slot_of_id slots (id_of e.tag)).name)) (class_of e.tag == 2)
+    _ _ _ _ _ new
+    (λ k. changed_parts (λ s. record s { name = typed e }) (up_to slots (id_of e.tag)) (id_of e.tag) (longer_parts slots (id_of e.tag + 1 - length slots) h)
+    (λ s p. record { name = part_of e 0 stored (λ z. omega arith) (eqb-true (class_of e.tag) 0 k) t; struct = p.struct; attributes = p.attributes }))
+    (insert_parts slots (id_of e.tag) empty_slot h parts_of_empty)
+    (remove_parts slots (id_of e.tag) h)
+    (λ k. changed_parts (λ s. record s { struct = typed e }) slots (id_of e.tag) h
+    (λ s p. record { name = p.name; struct = part_of e 2 stored (λ z. omega arith) (eqb-true (class_of e.tag) 2 k) t; attributes = p.attributes }))
+    (changed_parts (λ s. record s { attributes = with_attribute e s.attributes }) slots (id_of e.tag) h (λ s p. record { name = p.name; struct = p.struct; attributes = with_attribute_ascends e s.attributes stored p.attributes }))
+    is
+
+-- ---- tails and move states
+
+number_small : (bytes : List ℕ) → ((i : ℕ) → slice_index bytes i < 256) → little_number 4 bytes < 2 ^ 32
+number_small bytes h = omega (arith, h 0, h 1, h 2, h 3)
+
+address_small : (bytes : List ℕ) → ((i : ℕ) → slice_index bytes i < 256) → IsAddress (pair_at bytes)
+address_small bytes h = (number_small bytes h, number_small (drop 4 bytes) (λ i. rw (get_or-drop 4 bytes i 0) (h (4 + i))))
+
+tail_parts : (e : LogEntry) → IsStored e → IsTailIfSome (tail_of e)
+tail_parts e h = go (is_null (pair_at e.bytes)) refl
+  where
+    go : (b : Bool) → is_null (pair_at e.bytes) ≡ b → IsTailIfSome (cond b None (Some (record { hard = kind_of e.tag == hard_tail_type; to = pair_at e.bytes })))
+    go true n = tt
+    go false n = (address_small e.bytes h.bytes, n)
+
+move_parts : (bytes : List ℕ) → ((i : ℕ) → slice_index bytes i < 256) → IsMoveState (gstate_at bytes)
+move_parts bytes h = record { kind = omega arith; id = omega arith; pair = address_small (drop 4 bytes) (λ i. rw (get_or-drop 4 bytes i 0) (h (4 + i))) }
+
+-- ---- a log
+
+logged_after : (c : RawContent) (e : LogEntry) (d : RawContent) → IsLogged c → IsStored e → content_after c e ≡ Some d → IsLogged d
+logged_after c e d h stored is = go (class_of e.tag == 5) (is_in_table e.tag) (has_its_id e.tag) (class_of e.tag == 6) (class_of e.tag == 7) (slots_after c.slots e) refl refl is
+  where
+    go : (five t i six seven : Bool) (slots : Option (List RawSlot)) → is_in_table e.tag ≡ t → slots_after c.slots e ≡ slots
+        → cond five (Some c) (cond (not (t && i)) None (cond six (Some (record c { tail = tail_of e })) (cond seven (Some (record c { move = gstate_at e.bytes })) (option_map (λ all. record c { slots = all }) slots)))) ≡ Some d
+        → IsLogged d
+    go true t i six seven slots u s f = subst IsLogged (same_Some c d f) h
+    go false false i six seven slots u s f = absurd (cc)
+    go false true false six seven slots u s f = absurd (cc)
+    go false true true true seven slots u s f = subst IsLogged (same_Some _ d f) (record { slots = h.slots; tail = tail_parts e stored; move = h.move })
+    go false true true false true slots u s f = subst IsLogged (same_Some _ d f) (record { slots = h.slots; tail = h.tail; move = move_parts e.bytes stored.bytes })
+    go false true true false false None u s f = absurd (cc)
+    go false true true false false (Some all) u s f = subst IsLogged (same_Some _ d f) (record { slots = slots_parts c.slots e all h.slots stored u s; tail = h.tail; move = h.move })
+
+pub logged_after_all : (c : RawContent) (es : List LogEntry) (d : RawContent) → IsLogged c → AreStored es → content_after_all c es ≡ Some d → IsLogged d
+logged_after_all c [] d h stored is = subst IsLogged (same_Some c d is) h
+logged_after_all c (e ∷ es) d h stored is = go (content_after c e) refl is (λ b s. logged_after_all b es d s stored.1)
+  where
+    go : (o : Option RawContent) → content_after c e ≡ o → option_and_then (λ b. content_after_all b es) o ≡ Some d
+        → ((b : RawContent) → IsLogged b → content_after_all b es ≡ Some d → IsLogged d) → IsLogged d
+    go None f g more = absurd (cc)
+    go (Some b) f g more = more b (logged_after c e b h stored.0 f) g
+
+pub nothing_logged : IsLogged no_content
+nothing_logged = record { slots = tt; tail = tt; move = record { kind = omega arith; id = omega arith; pair = (omega arith, omega arith) } }

@@ -10,6 +10,8 @@ pub mod Log
 pub mod Slots
 pub mod Content
 pub mod Compacted
+pub mod Written
+pub mod Changes
 pub mod Lists
 pub mod Thread
 pub mod Tree

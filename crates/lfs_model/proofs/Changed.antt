@@ -1,0 +1,52 @@
+-- Changes, carried out on a small pair.
+use Rattle.std.specs.Prelude.{ℕ, ◌≡◌, true, false, List, [], ◌∷◌, ◌++◌, Some, None, map, codes}
+use Rattle.std.proofs.Common.{refl, replicate}
+use Rattle.lfs_model.specs.Slots.{no_gstate}
+use Rattle.lfs_model.specs.Log.{LogEntry}
+use Rattle.lfs_model.specs.Content.{RawSlot, RawContent, no_content, file_name_type, superblock_name_type, inline_struct_type, content_after_all}
+use Rattle.lfs_model.specs.Written.{entries_of}
+use Rattle.lfs_model.specs.Changes.{Change, Create, Delete, PutStruct, PutAttribute, PutTail, PutMove, entries_of_changes, changed_by}
+
+abbrev empty_file : ℕ → List ℕ → List Change
+empty_file id name = Create id file_name_type name ∷ PutStruct id inline_struct_type [] ∷ []
+
+abbrev superblock : RawSlot
+superblock = record { name = Some (superblock_name_type, codes "littlefs"); struct = Some (inline_struct_type, replicate 24 7); attributes = [] }
+
+abbrev file : RawSlot
+file = record { name = Some (file_name_type, codes "b"); struct = Some (inline_struct_type, []); attributes = (0x41, codes "x") ∷ [] }
+
+abbrev holding : List RawSlot → RawContent
+holding slots = record { slots = slots; tail = None; move = no_gstate }
+
+-- file b comes, then a in front of it, which goes again; b gets an attribute
+abbrev changes : List Change
+changes = empty_file 1 (codes "b") ++ (empty_file 1 (codes "a") ++ (Delete 1 ∷ PutAttribute 1 0x41 (codes "x") ∷ []))
+
+pub ids_shift : changed_by (holding (superblock ∷ [])) changes ≡ Some (holding (superblock ∷ file ∷ []))
+ids_shift = refl
+
+pub tags : map (λ (e : LogEntry). e.tag) (entries_of_changes changes)
+    ≡ 0x40100400 ∷ 0x00100401 ∷ 0x20100400 ∷ 0x40100400 ∷ 0x00100401 ∷ 0x20100400 ∷ 0x4ff00400 ∷ 0x34100401 ∷ []
+tags = refl
+
+-- without a change the content stays; a slot that isn't there can't go
+pub stays : changed_by (holding (superblock ∷ [])) [] ≡ Some (holding (superblock ∷ []))
+stays = refl
+
+pub malformed : changed_by (holding (superblock ∷ [])) (Delete 1 ∷ []) ≡ None
+malformed = refl
+
+-- a tail and a move state, and none again
+abbrev going : RawContent
+going = record { slots = superblock ∷ []; tail = Some (record { hard = false; to = (2, 3) }); move = record { sync = true; kind = 0x4ff; id = 2; pair = (2, 3) } }
+
+pub tail_and_move : changed_by (holding (superblock ∷ [])) (PutTail false (Some (2, 3)) ∷ PutMove going.move ∷ []) ≡ Some going
+tail_and_move = refl
+
+pub none_again : changed_by going (PutTail true None ∷ PutMove no_gstate ∷ []) ≡ Some (holding (superblock ∷ []))
+none_again = refl
+
+-- written anew, it reads back
+pub reads_back : content_after_all no_content (entries_of going) ≡ Some going
+reads_back = refl

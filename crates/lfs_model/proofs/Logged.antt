@@ -1,17 +1,19 @@
 -- What a log comes to can be written again.
-use Rattle.std.proofs.Common.{ℕ, zero, suc, ◌≡◌, ◌≢◌, ◌+◌, ◌-◌, ◌*◌, ◌/◌, ◌%◌, ◌^◌, ◌<◌, ◌≤◌, ◌==◌, ◌&&◌, Bool, true, false, cond, not, List, [], ◌∷◌, ◌++◌, length, drop, filter, Option, Some, None, refl, sym, ap, ap₂, subst, ◌∙◌, arith, replicate, length-append, eq-eqb, eqb-true, get_or-drop}
+use Rattle.std.proofs.Common.{ℕ, zero, suc, ◌≡◌, ◌≢◌, ◌+◌, ◌-◌, ◌*◌, ◌/◌, ◌%◌, ◌^◌, ◌<◌, ◌≤◌, ◌==◌, ◌&&◌, Bool, true, false, cond, not, List, [], ◌∷◌, ◌++◌, length, take, drop, filter, flat_map, inl, inr, Option, Some, None, refl, sym, ap, ap₂, subst, ◌∙◌, arith, replicate, length-append, eq-eqb, eqb-true, get_or-drop}
+use Rattle.std.proofs.lemmas.List.{length-take, get_or-take, get_or_past}
 use Rattle.std.specs.Prelude.{slice_set, slice_index_or, slice_index, nat_lt, nat_le, is_some}
 use Rattle.std.specs.List.{insert, remove}
 use Rattle.std.specs.Option.{option_and_then, option_map}
 use Rattle.std.proofs.lemmas.Option.{same_Some}
-use Rattle.std.proofs.lemmas.Bool.{ne_eqb, eqb-false, ltb-false, ltb-true, and_parts}
+use Rattle.std.proofs.lemmas.Bool.{cases_lt, ne_eqb, eqb-false, ltb-false, ltb-true, and_parts}
 use Rattle.byteorder.specs.Endian.{little_number}
 use Rattle.lfs_model.specs.Tag.{tag_with, kind_of, id_of, len_of, class_of, chunk_of, size_of}
-use Rattle.lfs_model.specs.Log.{LogEntry}
+use Rattle.lfs_model.specs.Log.{LogEntry, entry_at, past, IsCommit, IsChain, chain_of, log_entries}
 use Rattle.lfs_model.specs.Slots.{Attributes, Tail, Gstate, no_gstate}
 use Rattle.lfs_model.specs.Content.{RawSlot, RawContent, content_after, content_after_all, slots_after, changed, up_to, empty_slot, slot_of_id, is_in_table, has_its_id, put_attribute, without_attribute, with_attribute, removes, no_id, create_type, delete_type, no_content, pair_at, tail_of, gstate_at, hard_tail_type, typed}
-use Rattle.lfs_model.proofs.Compacted.{kind_of-tag_with, len_of-tag_with}
-use Rattle.lfs_model.specs.Compacted.{IsPart, IsPartIfSome, Ascend, HasParts, HaveParts, IsLogged, IsStored, AreStored, IsAddress, IsTailIfSome, IsMoveState, is_null}
+use Rattle.lfs_model.proofs.Chains.{lies, chain_sound}
+use Rattle.lfs_model.proofs.WrittenAnew.{kind_of-tag_with, len_of-tag_with}
+use Rattle.lfs_model.specs.Logged.{IsPart, IsPartIfSome, Ascend, HasParts, HaveParts, IsLogged, IsStored, AreStored, IsAddress, IsTailIfSome, IsMoveState, is_null}
 
 -- ---- attributes
 
@@ -148,12 +150,12 @@ number_small bytes h = omega (arith, h 0, h 1, h 2, h 3)
 address_small : (bytes : List ℕ) → ((i : ℕ) → slice_index bytes i < 256) → IsAddress (pair_at bytes)
 address_small bytes h = (number_small bytes h, number_small (drop 4 bytes) (λ i. rw (get_or-drop 4 bytes i 0) (h (4 + i))))
 
-tail_parts : (e : LogEntry) → IsStored e → IsTailIfSome (tail_of e)
+tail_parts : (e : LogEntry) → ((i : ℕ) → slice_index e.bytes i < 256) → IsTailIfSome (tail_of e)
 tail_parts e h = go (is_null (pair_at e.bytes)) refl
   where
     go : (b : Bool) → is_null (pair_at e.bytes) ≡ b → IsTailIfSome (cond b None (Some (record { hard = kind_of e.tag == hard_tail_type; to = pair_at e.bytes })))
     go true n = tt
-    go false n = (address_small e.bytes h.bytes, n)
+    go false n = (address_small e.bytes h, n)
 
 move_parts : (bytes : List ℕ) → ((i : ℕ) → slice_index bytes i < 256) → IsMoveState (gstate_at bytes)
 move_parts bytes h = record { kind = omega arith; id = omega arith; pair = address_small (drop 4 bytes) (λ i. rw (get_or-drop 4 bytes i 0) (h (4 + i))) }
@@ -161,18 +163,18 @@ move_parts bytes h = record { kind = omega arith; id = omega arith; pair = addre
 -- ---- a log
 
 logged_after : (c : RawContent) (e : LogEntry) (d : RawContent) → IsLogged c → IsStored e → content_after c e ≡ Some d → IsLogged d
-logged_after c e d h stored is = go (class_of e.tag == 5) (is_in_table e.tag) (has_its_id e.tag) (class_of e.tag == 6) (class_of e.tag == 7) (slots_after c.slots e) refl refl is
+logged_after c e d h stored is = go (class_of e.tag == 5) (is_in_table e.tag) (has_its_id e.tag) (class_of e.tag == 6) (class_of e.tag == 7) (slots_after c.slots e) refl refl refl refl is
   where
-    go : (five t i six seven : Bool) (slots : Option (List RawSlot)) → is_in_table e.tag ≡ t → slots_after c.slots e ≡ slots
+    go : (five t i six seven : Bool) (slots : Option (List RawSlot)) → is_in_table e.tag ≡ t → (class_of e.tag == 6) ≡ six → (class_of e.tag == 7) ≡ seven → slots_after c.slots e ≡ slots
         → cond five (Some c) (cond (not (t && i)) None (cond six (Some (record c { tail = tail_of e })) (cond seven (Some (record c { move = gstate_at e.bytes })) (option_map (λ all. record c { slots = all }) slots)))) ≡ Some d
         → IsLogged d
-    go true t i six seven slots u s f = subst IsLogged (same_Some c d f) h
-    go false false i six seven slots u s f = absurd (cc)
-    go false true false six seven slots u s f = absurd (cc)
-    go false true true true seven slots u s f = subst IsLogged (same_Some _ d f) (record { slots = h.slots; tail = tail_parts e stored; move = h.move })
-    go false true true false true slots u s f = subst IsLogged (same_Some _ d f) (record { slots = h.slots; tail = h.tail; move = move_parts e.bytes stored.bytes })
-    go false true true false false None u s f = absurd (cc)
-    go false true true false false (Some all) u s f = subst IsLogged (same_Some _ d f) (record { slots = slots_parts c.slots e all h.slots stored u s; tail = h.tail; move = h.move })
+    go true t i six seven slots u v w s f = subst IsLogged (same_Some c d f) h
+    go false false i six seven slots u v w s f = absurd (cc)
+    go false true false six seven slots u v w s f = absurd (cc)
+    go false true true true seven slots u v w s f = subst IsLogged (same_Some _ d f) (record { slots = h.slots; tail = tail_parts e (stored.bytes (let six = eqb-true (class_of e.tag) 6 v in omega arith)); move = h.move })
+    go false true true false true slots u v w s f = subst IsLogged (same_Some _ d f) (record { slots = h.slots; tail = h.tail; move = move_parts e.bytes (stored.bytes (let seven = eqb-true (class_of e.tag) 7 w in omega arith)) })
+    go false true true false false None u v w s f = absurd (cc)
+    go false true true false false (Some all) u v w s f = subst IsLogged (same_Some _ d f) (record { slots = slots_parts c.slots e all h.slots stored u s; tail = h.tail; move = h.move })
 
 pub logged_after_all : (c : RawContent) (es : List LogEntry) (d : RawContent) → IsLogged c → AreStored es → content_after_all c es ≡ Some d → IsLogged d
 logged_after_all c [] d h stored is = subst IsLogged (same_Some c d is) h
@@ -185,3 +187,38 @@ logged_after_all c (e ∷ es) d h stored is = go (content_after c e) refl is (λ
 
 pub nothing_logged : IsLogged no_content
 nothing_logged = record { slots = tt; tail = tt; move = record { kind = omega arith; id = omega arith; pair = (omega arith, omega arith) } }
+
+-- ---- entries that are stored
+
+pub stored_append : (xs ys : List LogEntry) → AreStored xs → AreStored ys → AreStored (xs ++ ys)
+stored_append [] ys h k = k
+stored_append (x ∷ xs) ys h k = (h.0, stored_append xs ys h.1 k)
+
+byte_of_part : (block : List ℕ) (n at i : ℕ) → ((j : ℕ) → slice_index block j < 256) → slice_index (take n (drop at block)) i < 256
+byte_of_part block n at i h = elim (cases_lt i n) [
+  | inl lt ↦ rw (get_or-take n (drop at block) i 0 lt, get_or-drop at block i 0) (h (at + i))
+  | inr le ↦ rw (get_or_past (take n (drop at block)) i 0 (omega (arith, length-take n (drop at block)))) (omega arith)
+]
+
+stored_entry : (block : List ℕ) (at before : ℕ) (e : LogEntry) → ((i : ℕ) → slice_index block i < 256) → entry_at block at before ≡ Some e → IsStored e
+stored_entry block at before e h is =
+    let l = lies block at before e is in
+    record { size = l.size; bytes = λ _ i. rw l.bytes (byte_of_part block (size_of e.tag) (at + 4) i h) }
+
+stored_commit : (block : List ℕ) (start at before : ℕ) (es : List LogEntry) (end last : ℕ) → ((i : ℕ) → slice_index block i < 256) → IsCommit block start at before es end last → AreStored es
+stored_commit block start at before [] end last h c = absurd c
+stored_commit block start at before (e ∷ []) end last h c = (stored_entry block at before e h c.0, tt)
+stored_commit block start at before (e ∷ f ∷ es) end last h c = (stored_entry block at before e h c.0, stored_commit block start (past at e) e.tag (f ∷ es) end last h c.2)
+
+stored_chain : (block : List ℕ) (start at before : ℕ) (cs : List (List LogEntry)) (end last : ℕ) → ((i : ℕ) → slice_index block i < 256) → IsChain block start at before cs end last → AreStored (flat_map (λ c. c) cs)
+stored_chain block start at before [] end last h c = tt
+stored_chain block start at before (es ∷ cs) end last h (mid, carry, commit, rest) =
+    stored_append es (flat_map (λ c. c) cs) (stored_commit block start at before es mid carry h commit) (stored_chain block mid mid carry cs end last h rest)
+
+pub stored_log : (block : List ℕ) → ((i : ℕ) → slice_index block i < 256) → AreStored (log_entries block)
+unfolding chain_of
+stored_log block h = stored_chain block 0 4 0xffffffff _ _ _ h (chain_sound (length block - 4) block 0 4 0xffffffff)
+
+-- what a block's log comes to can be written again
+pub logged : (block : List ℕ) (c : RawContent) → ((i : ℕ) → slice_index block i < 256) → content_after_all no_content (log_entries block) ≡ Some c → IsLogged c
+logged block c h is = logged_after_all no_content (log_entries block) c nothing_logged (stored_log block h) is

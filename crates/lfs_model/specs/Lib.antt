@@ -9,8 +9,8 @@ pub mod Tag
 pub mod Log
 pub mod Slots
 pub mod Content
-pub mod Compacted
 pub mod Written
+pub mod Logged
 pub mod Changes
 pub mod Lists
 pub mod Thread

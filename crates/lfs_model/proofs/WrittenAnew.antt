@@ -11,7 +11,8 @@ use Rattle.lfs_model.specs.Tag.{tag_with, kind_of, id_of, len_of, class_of, chun
 use Rattle.lfs_model.specs.Log.{LogEntry}
 use Rattle.lfs_model.specs.Slots.{Attributes, Tail, Gstate, no_gstate}
 use Rattle.lfs_model.specs.Content.{RawSlot, RawContent, content_after, content_after_all, slots_after, changed, up_to, empty_slot, slot_of_id, is_in_table, has_its_id, put_attribute, no_id, create_type, delete_type, removes, pair_at, tail_with, gstate_at, gstate_with, no_content, move_state_type}
-use Rattle.lfs_model.specs.Compacted.{entry_with, part_entries, attribute_entries, slot_entries, slots_entries, IsPart, IsPartIfSome, Ascend, HasParts, HaveParts, HaveNames, IsAddress, IsTailIfSome, pair_bytes, tail_entries, IsMoveState, move_word, move_bytes, move_entries, is_zero, IsSound, compacted}
+use Rattle.lfs_model.specs.Written.{entry_with, part_entries, attribute_entries, entries_of_slot, entries_of_slots, pair_bytes, tail_entries, move_word, move_bytes, move_entries, is_no_gstate, entries_of}
+use Rattle.lfs_model.specs.Logged.{IsPart, IsPartIfSome, Ascend, HasParts, HaveParts, HaveNames, IsAddress, IsTailIfSome, IsMoveState, IsSound}
 
 -- ---- the fields of a tag
 
@@ -179,7 +180,7 @@ struct_part_written c slots s (Some part) none named n h = ap (option_and_then (
 
 -- a slot behind others
 pub slot_written : (c : RawContent) (s : RawSlot) → length c.slots < 0x3ff → is_some s.name ≡ true → HasParts s
-    → content_after_all c (slot_entries (length c.slots) s) ≡ Some (record c { slots = last c.slots s })
+    → content_after_all c (entries_of_slot (length c.slots) s) ≡ Some (record c { slots = last c.slots s })
 slot_written c s n has_name h =
     then c (record c { slots = last c.slots (named s.struct) }) (part_entries (length c.slots) s.name ++ part_entries (length c.slots) s.struct) (attribute_entries (length c.slots) s.attributes) _
     (then c (record c { slots = last c.slots (named None) }) (part_entries (length c.slots) s.name) (part_entries (length c.slots) s.struct) _ front
@@ -198,13 +199,13 @@ slot_written c s n has_name h =
 
 -- slots behind others
 pub slots_written : (c : RawContent) (slots : List RawSlot) → length c.slots + length slots < 0x400 → HaveNames slots → HaveParts slots
-    → content_after_all c (slots_entries (length c.slots) slots) ≡ Some (record c { slots = c.slots ++ slots })
+    → content_after_all c (entries_of_slots (length c.slots) slots) ≡ Some (record c { slots = c.slots ++ slots })
 slots_written c [] n m h = ap (λ z. Some (record c { slots = z })) (sym (append-nil c.slots))
 slots_written c (s ∷ slots) n m h =
     let longer : length (last c.slots s) ≡ length c.slots + 1 = length-append c.slots (s ∷ []) in
-    then c (record c { slots = last c.slots s }) (slot_entries (length c.slots) s) (slots_entries (length c.slots + 1) slots) _
+    then c (record c { slots = last c.slots s }) (entries_of_slot (length c.slots) s) (entries_of_slots (length c.slots + 1) slots) _
     (slot_written c s (omega arith) m.0 h.0)
-    (ap (λ k. content_after_all (record c { slots = last c.slots s }) (slots_entries k slots)) (sym longer)
+    (ap (λ k. content_after_all (record c { slots = last c.slots s }) (entries_of_slots k slots)) (sym longer)
     ∙ slots_written (record c { slots = last c.slots s }) slots (omega arith) m.1 h.1
     ∙ ap (λ z. Some (record c { slots = z })) (append_assoc c.slots (s ∷ []) slots))
 
@@ -251,7 +252,7 @@ gstate_at-move_bytes g h =
     ∙ word_fields g h
 
 -- a zero move state is none
-zero_is_none : (g : Gstate) → is_zero g ≡ true → g ≡ no_gstate
+zero_is_none : (g : Gstate) → is_no_gstate g ≡ true → g ≡ no_gstate
 zero_is_none g z = go g.sync refl
   where
     go : (sync : Bool) → g.sync ≡ sync → g ≡ no_gstate
@@ -268,18 +269,18 @@ zero_is_none g z = go g.sync refl
         ∙ ap₂ (λ i p. record { sync = false; kind = 0; id = i; pair = p }) id pair
 
 move_written : (c : RawContent) (g : Gstate) → c.move ≡ no_gstate → IsMoveState g → content_after_all c (move_entries g) ≡ Some (record c { move = g })
-move_written c g none h = go (is_zero g) refl
+move_written c g none h = go (is_no_gstate g) refl
   where
-    go : (z : Bool) → is_zero g ≡ z → content_after_all c (cond z [] (entry_with move_state_type no_id (move_bytes g) ∷ [])) ≡ Some (record c { move = g })
+    go : (z : Bool) → is_no_gstate g ≡ z → content_after_all c (cond z [] (entry_with move_state_type no_id (move_bytes g) ∷ [])) ≡ Some (record c { move = g })
     go true z = ap (λ m. Some (record c { move = m })) (none ∙ sym (zero_is_none g z))
     go false z = ap (λ m. Some (record c { move = m })) (gstate_at-move_bytes g h)
 
 -- ---- the whole
 
-pub compacted_reads : (c : RawContent) → IsSound c → content_after_all no_content (compacted c) ≡ Some c
-compacted_reads c h =
-    then no_content (record { slots = c.slots; tail = c.tail; move = no_gstate }) (slots_entries 0 c.slots ++ tail_entries c.tail) (move_entries c.move) _
-    (then no_content (record { slots = c.slots; tail = None; move = no_gstate }) (slots_entries 0 c.slots) (tail_entries c.tail) _
+pub entries_of-reads : (c : RawContent) → IsSound c → content_after_all no_content (entries_of c) ≡ Some c
+entries_of-reads c h =
+    then no_content (record { slots = c.slots; tail = c.tail; move = no_gstate }) (entries_of_slots 0 c.slots ++ tail_entries c.tail) (move_entries c.move) _
+    (then no_content (record { slots = c.slots; tail = None; move = no_gstate }) (entries_of_slots 0 c.slots) (tail_entries c.tail) _
     (slots_written no_content c.slots (omega (arith, h.few)) h.names h.logged.slots)
     (tail_written (record { slots = c.slots; tail = None; move = no_gstate }) c.tail refl h.logged.tail))
     (move_written (record { slots = c.slots; tail = c.tail; move = no_gstate }) c.move refl h.logged.move)

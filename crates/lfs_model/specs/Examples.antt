@@ -1,38 +1,39 @@
--- Images in bytes, and what they hold.
-use Rattle.std.specs.Prelude.{ℕ, ◌-◌, List, [], ◌∷◌, ◌++◌, length, replicate, codes}
+-- Images in bytes.
+use Rattle.std.specs.Prelude.{ℕ, ◌-◌, ◌≡◌, List, [], ◌∷◌, ◌++◌, length, find, replicate, codes}
+use Rattle.std.specs.Option.{option_map}
+use Rattle.lfs_model.specs.Blocks.{Blocks}
 use Rattle.lfs_model.specs.Disk.{Disk}
+use Rattle.lfs_model.specs.Slots.{Gstate}
+use Rattle.lfs_model.specs.Log.{LogEntry}
+use Rattle.lfs_model.specs.Thread.{Pair, gstate_of}
+use Rattle.lfs_model.specs.Tree.{Path, Node, Tree}
+use Rattle.lfs_model.specs.Apply.{same_path}
+use Rattle.lfs_model.specs.View.{IsAccepted, IsWritable, tree_in, used_blocks}
+use Rattle.lfs_model.specs.Stored.{unwritten, filled, superblock_entries, checksum_entry, metadata_block}
 
--- storage that nothing was written to
-abbrev pub unwritten : ℕ → List ℕ
-unwritten size = replicate size 0xff
+-- the tree with these nodes and no others
+abbrev pub tree_with : List (Path × Node) → Tree
+tree_with nodes path = option_map (λ n. n.1) (find (λ n. same_path path n.0) nodes)
 
--- these bytes, and unwritten storage to the end of the block
-abbrev pub filled : ℕ → List ℕ → List ℕ
-filled size bytes = bytes ++ unwritten (size - length bytes)
+-- The disk is an accepted image with these nodes, this global state and these blocks in use.
+pub record Shows (disk : Disk) (nodes : List (Path × Node)) (gstate : Gstate) (used : List ℕ) : Type 0 where
+  pub pairs : List Pair
+  pub accepted : IsAccepted disk pairs
+  pub tree : tree_in disk pairs ≡ tree_with nodes
+  pub gstate_is : gstate_of pairs ≡ gstate
+  pub used_is : used_blocks disk pairs ≡ used
 
--- ---- a fresh image of 16 blocks of 4,096 bytes with pages of 256
+-- No pairs make the disk an accepted image.
+abbrev pub IsRefused : Disk → Type 0
+IsRefused disk = (ps : List Pair) → IsAccepted disk ps → ⊥
 
-abbrev pub large_commit : List ℕ
-large_commit =
-    0x01 ∷ 0x00 ∷ 0x00 ∷ 0x00 ∷  -- revision 1
-    0xf0 ∷ 0x0f ∷ 0xff ∷ 0xf7 ∷  -- 0x0ff00008 XOR 0xffffffff: a superblock's name
-    0x6c ∷ 0x69 ∷ 0x74 ∷ 0x74 ∷ 0x6c ∷ 0x65 ∷ 0x66 ∷ 0x73 ∷  -- "littlefs"
-    0x2f ∷ 0xe0 ∷ 0x00 ∷ 0x10 ∷  -- 0x20100018 XOR 0x0ff00008: an inline struct of 24 bytes
-    0x00 ∷ 0x00 ∷ 0x02 ∷ 0x00 ∷  -- version 2.0
-    0x00 ∷ 0x10 ∷ 0x00 ∷ 0x00 ∷  -- block size 4096
-    0x10 ∷ 0x00 ∷ 0x00 ∷ 0x00 ∷  -- block count 16
-    0xff ∷ 0x00 ∷ 0x00 ∷ 0x00 ∷  -- name limit 255
-    0xff ∷ 0xff ∷ 0xff ∷ 0x7f ∷  -- file limit 2147483647
-    0xfe ∷ 0x03 ∷ 0x00 ∷ 0x00 ∷  -- attribute limit 1022
-    0x70 ∷ 0x1f ∷ 0xfc ∷ 0xc8 ∷  -- 0x500ffcd0 XOR 0x20100018: a checksum entry of 208 bytes
-    0x4a ∷ 0x7f ∷ 0x27 ∷ 0xf3 ∷  -- the checksum
-    unwritten 204  -- padding to the page
+-- The disk may not be written, if it is an accepted image.
+abbrev pub IsReadOnly : Disk → Type 0
+IsReadOnly disk = (ps : List Pair) → IsAccepted disk ps → IsWritable disk ps → ⊥
 
-abbrev pub large_image : Disk
-large_image = record { block_size = 4096; page = 256; blocks = filled 4096 large_commit ∷ replicate 15 (unwritten 4096) }
+-- ---- fresh images
 
--- ---- a fresh image of two blocks of 1,024 bytes with pages of 128
-
+-- two blocks of 1,024 bytes with pages of 128
 abbrev pub small_commit : List ℕ
 small_commit =
     0x01 ∷ 0x00 ∷ 0x00 ∷ 0x00 ∷  -- revision 1
@@ -48,5 +49,75 @@ small_commit =
     0x1c ∷ 0x06 ∷ 0xb9 ∷ 0x35 ∷  -- the checksum
     unwritten 76  -- padding to the page
 
+abbrev pub small_disk : List ℕ → Disk
+small_disk block = record { block_size = 1024; page = 128; blocks = block ∷ unwritten 1024 ∷ [] }
+
+abbrev pub small_block : List ℕ
+small_block = filled 1024 small_commit
+
 abbrev pub small_image : Disk
-small_image = record { block_size = 1024; page = 128; blocks = filled 1024 small_commit ∷ unwritten 1024 ∷ [] }
+small_image = small_disk small_block
+
+-- 16 blocks of 4,096 bytes with pages of 256
+abbrev pub large_commit : List ℕ
+large_commit =
+    0x01 ∷ 0x00 ∷ 0x00 ∷ 0x00 ∷  -- revision 1
+    0xf0 ∷ 0x0f ∷ 0xff ∷ 0xf7 ∷ codes "littlefs" ++  -- 0x0ff00008 XOR 0xffffffff: a superblock's name
+    0x2f ∷ 0xe0 ∷ 0x00 ∷ 0x10 ∷  -- 0x20100018 XOR 0x0ff00008: an inline struct of 24 bytes
+    0x00 ∷ 0x00 ∷ 0x02 ∷ 0x00 ∷  -- version 2.0
+    0x00 ∷ 0x10 ∷ 0x00 ∷ 0x00 ∷  -- block size 4096
+    0x10 ∷ 0x00 ∷ 0x00 ∷ 0x00 ∷  -- block count 16
+    0xff ∷ 0x00 ∷ 0x00 ∷ 0x00 ∷  -- name limit 255
+    0xff ∷ 0xff ∷ 0xff ∷ 0x7f ∷  -- file limit 2147483647
+    0xfe ∷ 0x03 ∷ 0x00 ∷ 0x00 ∷  -- attribute limit 1022
+    0x70 ∷ 0x1f ∷ 0xfc ∷ 0xc8 ∷  -- 0x500ffcd0 XOR 0x20100018: a checksum entry of 208 bytes
+    0x4a ∷ 0x7f ∷ 0x27 ∷ 0xf3 ∷  -- the checksum
+    unwritten 204  -- padding to the page
+
+-- a disk of 16 blocks of 4,096 bytes that begins with these blocks
+abbrev pub large_disk : Blocks → Disk
+large_disk blocks = record { block_size = 4096; page = 256; blocks = blocks ++ replicate (16 - length blocks) (unwritten 4096) }
+
+abbrev pub large_image : Disk
+large_image = large_disk (filled 4096 large_commit ∷ [])
+
+-- ---- slots that shift: "b" comes, "a" comes before it and goes again, and "b" gets an attribute
+
+abbrev pub shifting_commits : List ℕ
+shifting_commits =
+    0x10 ∷ 0x1f ∷ 0xf8 ∷ 0xd0 ∷  -- 0x40100400 XOR 0x500ffcd0: create id 1
+    0x40 ∷ 0x00 ∷ 0x00 ∷ 0x01 ∷ codes "b" ++  -- 0x00100401 XOR 0x40100400: a file's name of id 1
+    0x20 ∷ 0x00 ∷ 0x00 ∷ 0x01 ∷  -- 0x20100400 XOR 0x00100401: an inline struct of no bytes
+    0x70 ∷ 0x1f ∷ 0xf8 ∷ 0xef ∷  -- 0x500ffcef XOR 0x20100400: a checksum entry of 239 bytes
+    0xa8 ∷ 0xc4 ∷ 0xff ∷ 0x1e ∷ unwritten 235 ++
+    0x10 ∷ 0x1f ∷ 0xf8 ∷ 0xef ∷  -- 0x40100400 XOR 0x500ffcef: create id 1
+    0x40 ∷ 0x00 ∷ 0x00 ∷ 0x01 ∷ codes "a" ++  -- a file's name of id 1
+    0x20 ∷ 0x00 ∷ 0x00 ∷ 0x01 ∷  -- an inline struct of no bytes
+    0x70 ∷ 0x1f ∷ 0xf8 ∷ 0xef ∷  -- a checksum entry of 239 bytes
+    0x2f ∷ 0x08 ∷ 0x30 ∷ 0xda ∷ unwritten 235 ++
+    0x1f ∷ 0xff ∷ 0xf8 ∷ 0xef ∷  -- 0x4ff00400 XOR 0x500ffcef: delete id 1
+    0x1f ∷ 0xff ∷ 0xf8 ∷ 0xf8 ∷  -- 0x500ffcf8 XOR 0x4ff00400: a checksum entry of 248 bytes
+    0xe4 ∷ 0xe0 ∷ 0xd4 ∷ 0x27 ∷ unwritten 244 ++
+    0x64 ∷ 0x1f ∷ 0xf8 ∷ 0xf9 ∷ codes "x" ++  -- 0x34100401 XOR 0x500ffcf8: attribute 0x41 of id 1
+    0x64 ∷ 0x1f ∷ 0xf8 ∷ 0xf6 ∷  -- 0x500ffcf7 XOR 0x34100401: a checksum entry of 247 bytes
+    0x9a ∷ 0x37 ∷ 0xc9 ∷ 0x3a ∷ unwritten 243
+
+abbrev pub shifting_block : List ℕ
+shifting_block = filled 4096 (large_commit ++ shifting_commits)
+
+abbrev pub shifting_image : Disk
+shifting_image = large_disk (shifting_block ∷ [])
+
+-- ---- other images of 16 blocks, by their entries
+
+-- a block of the root: the superblock, these entries, the checksum and its padding
+abbrev pub root_block : List LogEntry → ℕ → ℕ → List ℕ
+root_block entries number padding = metadata_block 4096 1 (superblock_entries 4096 16 ++ entries ++ checksum_entry number padding ∷ [])
+
+-- a block of another pair
+abbrev pub pair_block : List LogEntry → ℕ → ℕ → List ℕ
+pair_block entries number padding = metadata_block 4096 1 (entries ++ checksum_entry number padding ∷ [])
+
+-- the root in block 0, and these blocks from block 2 on
+abbrev pub image_with : List ℕ → Blocks → Disk
+image_with root blocks = large_disk (root ∷ unwritten 4096 ∷ blocks)

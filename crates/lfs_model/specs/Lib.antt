@@ -17,6 +17,7 @@ pub mod Thread
 pub mod Tree
 pub mod View
 pub mod Fresh
+pub mod Stored
 pub mod Examples
 pub mod Operations
 pub mod Apply

@@ -1,0 +1,267 @@
+-- An image is accepted where tests say so, which compute on a literal image.
+use Rattle.std.proofs.Common.{ℕ, ◌≡◌, ◌<◌, inl, inr, Bool, true, false, not, ◌&&◌, ◌||◌, ◌==◌, nat_eq, List, [], ◌∷◌, Option, Some, None, refl, ap, AllPairs, arith, option_and_then, length, eqb-true, ltb-true, ◌⊎◌, ap₂, drop}
+use Rattle.std.specs.Prelude.{All, Any, nat_lt, slice_get, codes}
+use Rattle.std.specs.List.{AllByRecursion, list_all, list_any, IsDistinct}
+use Rattle.std.specs.Option.{option_map_or}
+use Rattle.std.specs.declared.cmp.Ordering.{Ordering}
+use Rattle.std.specs.declared.cmp.Ordering.TheVariants.{Less, Equal, Greater}
+use Rattle.std.proofs.lemmas.Bool.{and_parts, or_cases}
+use Rattle.std.proofs.lemmas.List.Elements.{All-from_recursion}
+use Rattle.std.proofs.lemmas.List.Folds.{Any-from_list_any}
+use Rattle.std.proofs.lemmas.List.Kept.{AllPairs-cons}
+use Rattle.byteorder.specs.Endian.{little_number}
+use Rattle.lfs_model.specs.Disk.{Disk, block_count}
+use Rattle.lfs_model.specs.Names.{Name, name_cmp, same_name, is_less, is_name}
+use Rattle.lfs_model.specs.Slots.{Slot, Kind, File, Directory, Superblock, Struct, Inline, Ctz, Branch, Gstate, same_pair, is_superblock}
+use Rattle.lfs_model.specs.Content.{content_at, holder_at}
+use Rattle.lfs_model.specs.Thread.{Pair, anchor, Links, blocks_of, gstate_of, root_of}
+use Rattle.lfs_model.specs.Tree.{Path, root_slot, branch_of, slot_at, directory_at, names_at}
+use Rattle.lfs_model.specs.View.{first_name, IsAccepted, Leads, IsReached, BeginsWith, IsSuperblockStruct, HasSuperblock, IsEntry, Suits, IsListIfCtz, IsMove, NamesSlot, IsOtherSlot, superblock_entry, superblock_pairs, other_pairs, directories_in, entries_in, all_slots, used_blocks}
+use Rattle.lfs_model.specs.Apply.{same_path}
+use Rattle.lfs_model.proofs.Paths.{name_from_same, path_from_same}
+use Rattle.lfs_model.proofs.Outlines.{Outline, outline, is_outlined, outlined, found_in, found_holds}
+
+-- ---- lists
+
+each_from : {X : Type 0} (p : X → Bool) (xs : List X) → list_all p xs ≡ true → AllByRecursion (λ x. p x ≡ true) xs
+each_from p [] e = tt
+each_from p (x ∷ xs) e = let both = and_parts (p x) (list_all p xs) e in (both.0, each_from p xs both.1)
+
+each_as : {X : Type 0} (P Q : X → Type 0) → ((x : X) → P x → Q x) → (xs : List X) → AllByRecursion P xs → AllByRecursion Q xs
+each_as P Q f [] h = tt
+each_as P Q f (x ∷ xs) h = (f x h.0, each_as P Q f xs h.1)
+
+pub all_from : {X : Type 0} (p : X → Bool) (P : X → Type 0) → ((x : X) → p x ≡ true → P x) → (xs : List X) → list_all p xs ≡ true → All P xs
+all_from p P f xs e = All-from_recursion P xs (each_as (λ x. p x ≡ true) P f xs (each_from p xs e))
+
+turned : (b : Bool) → not b ≡ true → b ≡ false
+turned true e = absurd (cc)
+turned false e = refl
+
+abbrev pub are_apart : List ℕ → Bool
+are_apart [] = true
+are_apart (x ∷ xs) = list_all (λ y. not (nat_eq x y)) xs && are_apart xs
+
+pub distinct_from : (xs : List ℕ) → are_apart xs ≡ true → IsDistinct nat_eq xs
+unfolding IsDistinct
+distinct_from [] e = tt
+distinct_from (x ∷ xs) e =
+    let both = and_parts (list_all (λ y. not (nat_eq x y)) xs) (are_apart xs) e in
+    (each_as (λ y. not (nat_eq x y) ≡ true) (λ y. nat_eq x y ≡ false) (λ y. turned (nat_eq x y)) xs (each_from (λ y. not (nat_eq x y)) xs both.0), distinct_from xs both.1)
+
+abbrev pub rise : List Name → Bool
+rise [] = true
+rise (n ∷ ns) = list_all (λ m. is_less (name_cmp n m)) ns && rise ns
+
+less_from : (o : Ordering) → is_less o ≡ true → o ≡ Less
+less_from Less e = refl
+less_from Equal e = absurd (cc)
+less_from Greater e = absurd (cc)
+
+pub rise_from : (ns : List Name) → rise ns ≡ true → AllPairs (λ a b. name_cmp a b ≡ Less) ns
+rise_from [] e = λ i j d l m. absurd (omega arith)
+rise_from (n ∷ ns) e =
+    let both = and_parts (list_all (λ m. is_less (name_cmp n m)) ns) (rise ns) e in
+    AllPairs-cons (λ a b. name_cmp a b ≡ Less) n ns (all_from (λ m. is_less (name_cmp n m)) (λ m. name_cmp n m ≡ Less) (λ m. less_from (name_cmp n m)) ns both.0) (rise_from ns both.1)
+
+-- ---- slots
+
+abbrev suits : Kind → Struct → Bool
+suits File (Inline bytes) = true
+suits File (Ctz head size) = true
+suits Directory (Branch to) = true
+suits File (Branch to) = false
+suits Directory (Inline bytes) = false
+suits Directory (Ctz head size) = false
+suits Superblock s = false
+
+abbrev pub is_entry : Slot → Bool
+is_entry s = is_name s.name && suits s.kind s.struct
+
+suits_from : (k : Kind) (s : Struct) → suits k s ≡ true → Suits k s
+suits_from File (Inline bytes) e = tt
+suits_from File (Ctz head size) e = tt
+suits_from File (Branch to) e = absurd (cc)
+suits_from Directory (Inline bytes) e = absurd (cc)
+suits_from Directory (Ctz head size) e = absurd (cc)
+suits_from Directory (Branch to) e = tt
+suits_from Superblock s e = absurd (cc)
+
+entry_from : (s : Slot) → is_entry s ≡ true → IsEntry s
+entry_from s e = let both = and_parts (is_name s.name) (suits s.kind s.struct) e in record { name = both.0; struct = suits_from s.kind s.struct both.1 }
+
+abbrev is_inline : List ℕ → Struct → Bool
+is_inline bytes (Inline held) = same_name held bytes
+is_inline bytes (Ctz head size) = false
+is_inline bytes (Branch to) = false
+
+inline_from : (bytes : List ℕ) (s : Struct) → is_inline bytes s ≡ true → s ≡ Inline bytes
+inline_from bytes (Inline held) e = ap Inline (name_from_same held bytes e)
+inline_from bytes (Ctz head size) e = absurd (cc)
+inline_from bytes (Branch to) e = absurd (cc)
+
+abbrev has_superblock : List ℕ → List Slot → Bool
+has_superblock bytes [] = false
+has_superblock bytes (s ∷ slots) = is_superblock s && (is_inline bytes s.struct && list_all is_entry slots)
+
+superblock_from : (bytes : List ℕ) (slots : List Slot) → has_superblock bytes slots ≡ true → HasSuperblock bytes slots
+superblock_from bytes [] e = absurd (cc)
+superblock_from bytes (s ∷ slots) e =
+    let one = and_parts (is_superblock s) (is_inline bytes s.struct && list_all is_entry slots) e in
+    let two = and_parts (is_inline bytes s.struct) (list_all is_entry slots) one.1 in
+    (one.0, inline_from bytes s.struct two.0, all_from is_entry IsEntry entry_from slots two.1)
+
+-- ---- what a path leads to
+
+abbrev on_branches : (Path → ℕ × ℕ → Bool) → Outline → Bool
+on_branches T xs = list_all (λ f. option_map_or (T f.0) (branch_of f.1.struct) true) xs
+
+on_branch : (T : Path → ℕ × ℕ → Bool) (xs : Outline) (path : Path) (s : Slot) (at : ℕ × ℕ) → on_branches T xs ≡ true → found_in path xs ≡ Some s → branch_of s.struct ≡ Some at → T path at ≡ true
+on_branch T xs path s at e found branch =
+    let here : option_map_or (T path) (branch_of s.struct) true ≡ true =
+    found_holds (λ p u. option_map_or (T p) (branch_of u.struct) true ≡ true) xs (each_from (λ f. option_map_or (T f.0) (branch_of f.1.struct) true) xs e) path s found in
+    rw branch at here
+
+-- the directories that paths of at most k names lead to
+abbrev pub outline_in : ℕ → List Pair → Outline
+outline_in k ps = outline k (entries_in ps) (root_slot (root_of ps))
+
+led : (k : ℕ) (ps : List Pair) → is_outlined k (entries_in ps) (root_slot (root_of ps)) ≡ true → (T : Path → ℕ × ℕ → Bool) → on_branches T (outline_in k ps) ≡ true →
+    (path : Path) (at : ℕ × ℕ) → Leads ps path at → T path at ≡ true
+led k ps whole T e path at leads = go (slot_at (entries_in ps) (root_slot (root_of ps)) path) (outlined k (entries_in ps) (root_slot (root_of ps)) whole path) leads
+  where
+    go : (o : Option Slot) → found_in path (outline_in k ps) ≡ o → option_and_then (λ s. branch_of s.struct) o ≡ Some at → T path at ≡ true
+    go None found is = absurd (cc)
+    go (Some s) found is = on_branch T (outline_in k ps) path s at e found is
+
+abbrev begins : List Pair → ℕ × ℕ → Bool
+begins ps at = list_any (λ d. same_pair d.at at) (directories_in ps)
+
+-- no other path leads to the same directory
+abbrev is_once : Outline → Path → ℕ × ℕ → Bool
+is_once xs path at = on_branches (λ other to. not (same_pair at to) || same_path path other) xs
+
+-- a path of the outline leads to the directory
+abbrev leads_to : List Pair → ℕ × ℕ → Path → Bool
+leads_to ps first path = option_map_or (same_pair first) (directory_at (entries_in ps) (root_of ps) path) false
+
+reached_from : (ps : List Pair) (first : ℕ × ℕ) (xs : Outline) → list_any (λ f. leads_to ps first f.0) xs ≡ true → IsReached ps first
+reached_from ps first [] e = absurd (cc)
+reached_from ps first (x ∷ xs) e = go (or_cases (leads_to ps first x.0) (list_any (λ f. leads_to ps first f.0) xs) e) (reached_from ps first xs)
+  where
+    here : (o : Option (ℕ × ℕ)) → directory_at (entries_in ps) (root_of ps) x.0 ≡ o → option_map_or (same_pair first) o false ≡ true → IsReached ps first
+    here None leads h = absurd (cc)
+    here (Some at) leads h = (x.0, at, (leads, h))
+
+    go : (leads_to ps first x.0 ≡ true) ⊎ (list_any (λ f. leads_to ps first f.0) xs ≡ true) → (list_any (λ f. leads_to ps first f.0) xs ≡ true → IsReached ps first) → IsReached ps first
+    go (inl h) ih = here (directory_at (entries_in ps) (root_of ps) x.0) refl h
+    go (inr h) ih = ih h
+
+abbrev is_other : Option Slot → Bool
+is_other None = false
+is_other (Some s) = not (is_superblock s)
+
+other_from : (o : Option Slot) → is_other o ≡ true → IsOtherSlot o
+other_from None e = absurd (cc)
+other_from (Some s) e = turned (is_superblock s) e
+
+abbrev names_slot : List Pair → ℕ × ℕ → ℕ → Bool
+names_slot ps pair id = list_any (λ p. same_pair pair p.at && is_other (slice_get p.content.slots id)) ps
+
+named_from : (ps : List Pair) (pair : ℕ × ℕ) (id : ℕ) → names_slot ps pair id ≡ true → NamesSlot ps pair id
+named_from ps pair id e =
+    Any-as (λ p. (same_pair pair p.at && is_other (slice_get p.content.slots id)) ≡ true) (λ p. (same_pair pair p.at ≡ true) × IsOtherSlot (slice_get p.content.slots id))
+    (λ p h. let both = and_parts (same_pair pair p.at) (is_other (slice_get p.content.slots id)) h in (both.0, other_from (slice_get p.content.slots id) both.1))
+    (Any-from_list_any (λ p. same_pair pair p.at && is_other (slice_get p.content.slots id)) ps e)
+  where
+    Any-as : (P Q : Pair → Type 0) → ((p : Pair) → P p → Q p) → Any P ps → Any Q ps
+    Any-as P Q f h = (h.0, h.1, h.2, h.3, f h.1 h.4)
+
+abbrev is_move : List Pair → Gstate → Bool
+is_move ps g =
+    g.kind == 0x000 && (g.id == 0 && (g.pair.0 == 0 && g.pair.1 == 0)) || g.kind == 0x4ff && names_slot ps g.pair g.id
+
+move_from : (ps : List Pair) (g : Gstate) → is_move ps g ≡ true → IsMove ps g
+move_from ps g e = go (or_cases (g.kind == 0x000 && (g.id == 0 && (g.pair.0 == 0 && g.pair.1 == 0))) (g.kind == 0x4ff && names_slot ps g.pair g.id) e)
+  where
+    go : ((g.kind == 0x000 && (g.id == 0 && (g.pair.0 == 0 && g.pair.1 == 0))) ≡ true) ⊎ ((g.kind == 0x4ff && names_slot ps g.pair g.id) ≡ true) → IsMove ps g
+    go (inl h) =
+        let one = and_parts (g.kind == 0x000) (g.id == 0 && (g.pair.0 == 0 && g.pair.1 == 0)) h in
+        let two = and_parts (g.id == 0) (g.pair.0 == 0 && g.pair.1 == 0) one.1 in
+        let three = and_parts (g.pair.0 == 0) (g.pair.1 == 0) two.1 in
+        inl (eqb-true g.kind 0 one.0, eqb-true g.id 0 two.0, ap₂ (λ (x y : ℕ). (x, y)) (eqb-true g.pair.0 0 three.0) (eqb-true g.pair.1 0 three.1))
+    go (inr h) = let both = and_parts (g.kind == 0x4ff) (names_slot ps g.pair g.id) h in inr (eqb-true g.kind 0x4ff both.0, named_from ps g.pair g.id both.1)
+
+-- ---- images
+
+abbrev is_struct : Disk → List ℕ → Bool
+is_struct disk bytes =
+    length bytes == 24 && (little_number 4 bytes == 0x00020000 && (little_number 4 (drop 4 bytes) == disk.block_size && little_number 4 (drop 8 bytes) == block_count disk))
+
+struct_from : (disk : Disk) (bytes : List ℕ) → is_struct disk bytes ≡ true → IsSuperblockStruct disk bytes
+struct_from disk bytes e =
+    let one = and_parts (length bytes == 24) (little_number 4 bytes == 0x00020000 && (little_number 4 (drop 4 bytes) == disk.block_size && little_number 4 (drop 8 bytes) == block_count disk)) e in
+    let two = and_parts (little_number 4 bytes == 0x00020000) (little_number 4 (drop 4 bytes) == disk.block_size && little_number 4 (drop 8 bytes) == block_count disk) one.1 in
+    let three = and_parts (little_number 4 (drop 4 bytes) == disk.block_size) (little_number 4 (drop 8 bytes) == block_count disk) two.1 in
+    record {
+      len = eqb-true (length bytes) 24 one.0;
+      version = eqb-true (little_number 4 bytes) 0x00020000 two.0;
+      block_size = eqb-true (little_number 4 (drop 4 bytes)) disk.block_size three.0;
+      block_count = eqb-true (little_number 4 (drop 8 bytes)) (block_count disk) three.1;
+    }
+
+-- the tests of pairs whose superblock has that struct, where no path has more than k names
+abbrev pub tests : Disk → List Pair → List ℕ → ℕ → List Bool
+tests disk ps bytes k =
+    list_all (λ b. nat_lt b (block_count disk)) (blocks_of ps)
+    ∷ are_apart (blocks_of ps)
+    ∷ is_struct disk bytes
+    ∷ list_all (λ p. has_superblock bytes p.content.slots) (superblock_pairs ps)
+    ∷ list_all (λ p. list_all is_entry p.content.slots) (other_pairs ps)
+    ∷ is_outlined k (entries_in ps) (root_slot (root_of ps))
+    ∷ on_branches (λ path at. rise (names_at (entries_in ps) at)) (outline_in k ps)
+    ∷ on_branches (λ path at. begins ps at) (outline_in k ps)
+    ∷ on_branches (is_once (outline_in k ps)) (outline_in k ps)
+    ∷ ((gstate_of ps).sync || list_all (λ d. list_any (λ f. leads_to ps d.at f.0) (outline_in k ps)) (directories_in ps))
+    ∷ is_move ps (gstate_of ps)
+    ∷ are_apart (used_blocks disk ps)
+    ∷ []
+
+-- these pairs stand on the disk, and the tests pass
+pub record IsImage (disk : Disk) (ps : List Pair) (bytes : List ℕ) (k : ℕ) : Type 0 where
+  pub links : Links (Some anchor) ps
+  pub contents : AllByRecursion (λ p. content_at disk p.at ≡ Some p.content) ps
+  pub first : BeginsWith (holder_at disk anchor) superblock_entry
+  pub named : first_name ps ≡ Some (codes "littlefs")
+  pub lists : AllByRecursion (λ s. IsListIfCtz disk s.struct) (all_slots ps)
+  pub pass : list_all (λ b. b) (tests disk ps bytes k) ≡ true
+
+pub image_is_outlined : (disk : Disk) (ps : List Pair) (bytes : List ℕ) (k : ℕ) → IsImage disk ps bytes k → is_outlined k (entries_in ps) (root_slot (root_of ps)) ≡ true
+image_is_outlined disk ps bytes k h = (each_from (λ b. b) (tests disk ps bytes k) h.pass).1.1.1.1.1.0
+
+pub image_is_accepted : (disk : Disk) (ps : List Pair) (bytes : List ℕ) (k : ℕ) → IsImage disk ps bytes k → IsAccepted disk ps
+image_is_accepted disk ps bytes k h =
+    let t = each_from (λ b. b) (tests disk ps bytes k) h.pass in
+    let whole = image_is_outlined disk ps bytes k h in
+    record {
+      thread = record {
+        links = h.links;
+        contents = All-from_recursion (λ p. content_at disk p.at ≡ Some p.content) ps h.contents;
+        in_range = all_from (λ b. nat_lt b (block_count disk)) (λ b. b < block_count disk) (λ b. ltb-true b (block_count disk)) (blocks_of ps) t.0;
+        distinct = distinct_from (blocks_of ps) t.1.0;
+      };
+      first = h.first;
+      named = h.named;
+      superblock = (bytes, (struct_from disk bytes t.1.1.0, all_from (λ p. has_superblock bytes p.content.slots) (λ p. HasSuperblock bytes p.content.slots) (λ p. superblock_from bytes p.content.slots) (superblock_pairs ps) t.1.1.1.0));
+      slots = all_from (λ p. list_all is_entry p.content.slots) (λ p. All IsEntry p.content.slots) (λ p. all_from is_entry IsEntry entry_from p.content.slots) (other_pairs ps) t.1.1.1.1.0;
+      order = λ path at l. rise_from (names_at (entries_in ps) at) (led k ps whole (λ path at. rise (names_at (entries_in ps) at)) t.1.1.1.1.1.1.0 path at l);
+      branches = λ path at l. Any-from_list_any (λ d. same_pair d.at at) (directories_in ps) (led k ps whole (λ path at. begins ps at) t.1.1.1.1.1.1.1.0 path at l);
+      once = λ path other at to l m same. one path other at to same (led k ps whole (λ other to. not (same_pair at to) || same_path path other) (led k ps whole (is_once (outline_in k ps)) t.1.1.1.1.1.1.1.1.0 path at l) other to m);
+      reached = λ clear. let here = rw clear at t.1.1.1.1.1.1.1.1.1.0 in all_from (λ d. list_any (λ f. leads_to ps d.at f.0) (outline_in k ps)) (λ d. IsReached ps d.at) (λ d. reached_from ps d.at (outline_in k ps)) (directories_in ps) here;
+      move = move_from ps (gstate_of ps) t.1.1.1.1.1.1.1.1.1.1.0;
+      lists = All-from_recursion (λ s. IsListIfCtz disk s.struct) (all_slots ps) h.lists;
+      owned_once = distinct_from (used_blocks disk ps) t.1.1.1.1.1.1.1.1.1.1.1.0;
+    }
+  where
+    one : (path other : Path) (at to : ℕ × ℕ) → same_pair at to ≡ true → (not (same_pair at to) || same_path path other) ≡ true → path ≡ other
+    one path other at to same e = let f = rw same at e in path_from_same path other f

@@ -1,0 +1,64 @@
+-- What images show, from what computes.
+use Rattle.std.proofs.Common.{ℕ, ◌≡◌, Bool, true, false, List, [], ◌∷◌, Option, Some, refl, sym, ap, ◌∙◌, option_map, cond, map}
+use Rattle.std.specs.Prelude.{find}
+use Rattle.lfs_model.specs.Disk.{Disk}
+use Rattle.lfs_model.specs.Slots.{Slot, File, Directory, Inline, Ctz, Branch, Tail, Gstate}
+use Rattle.lfs_model.specs.Thread.{Pair, gstate_of, root_of}
+use Rattle.lfs_model.specs.Tree.{Path, Node, root_slot, node_of}
+use Rattle.lfs_model.specs.View.{entries_in, contents_in, tree_in, used_blocks}
+use Rattle.lfs_model.specs.Apply.{same_path}
+use Rattle.lfs_model.specs.Fresh.{superblock_slot}
+use Rattle.lfs_model.specs.Examples.{tree_with, Shows}
+use Rattle.lfs_model.proofs.Outlines.{Outline, found_in, outlined}
+use Rattle.lfs_model.proofs.Acceptance.{IsImage, image_is_accepted, image_is_outlined, outline_in}
+
+-- the nodes of the outline
+abbrev pub nodes_in : Disk → List Pair → ℕ → List (Path × Node)
+nodes_in disk ps k = map (λ f. (f.0, node_of (contents_in disk) (entries_in ps) f.1.attributes f.1.struct)) (outline_in k ps)
+
+found_nodes : (node : Slot → Node) (xs : Outline) (path : Path) → tree_with (map (λ (f : Path × Slot). (f.0, node f.1)) xs) path ≡ option_map node (found_in path xs)
+found_nodes node [] path = refl
+found_nodes node (x ∷ xs) path = go (same_path path x.0) (found_nodes node xs path)
+  where
+    go : (b : Bool) → tree_with (map (λ (f : Path × Slot). (f.0, node f.1)) xs) path ≡ option_map node (found_in path xs) →
+        option_map (λ (n : Path × Node). n.1) (cond b (Some (x.0, node x.1)) (find (λ (n : Path × Node). same_path path n.0) (map (λ (f : Path × Slot). (f.0, node f.1)) xs))) ≡ option_map node (option_map (λ (f : Path × Slot). f.1) (cond b (Some x) (find (λ (f : Path × Slot). same_path path f.0) xs)))
+    go true ih = refl
+    go false ih = ih
+
+pub image_shows : (disk : Disk) (ps : List Pair) (bytes : List ℕ) (k : ℕ) → IsImage disk ps bytes k →
+    (nodes : List (Path × Node)) (gstate : Gstate) (used : List ℕ) → nodes_in disk ps k ≡ nodes → gstate_of ps ≡ gstate → used_blocks disk ps ≡ used → Shows disk nodes gstate used
+image_shows disk ps bytes k h nodes gstate used nodes_are gstate_is used_are = record {
+  pairs = ps;
+  accepted = image_is_accepted disk ps bytes k h;
+  tree = (λ i path. tree_at path i) ∙ ap tree_with nodes_are;
+  gstate_is = gstate_is;
+  used_is = used_are;
+}
+  where
+    tree_at : (path : Path) → tree_in disk ps path ≡ tree_with (nodes_in disk ps k) path
+    tree_at path =
+        ap (option_map (λ s. node_of (contents_in disk) (entries_in ps) s.attributes s.struct)) (sym (outlined k (entries_in ps) (root_slot (root_of ps)) (image_is_outlined disk ps bytes k h) path))
+        ∙ sym (found_nodes (λ s. node_of (contents_in disk) (entries_in ps) s.attributes s.struct) (outline_in k ps) path)
+
+-- ---- pairs, written out
+
+abbrev pub pair : ℕ × ℕ → List Slot → Option Tail → Gstate → Pair
+pair at slots tail move = record { at = at; content = record { slots = slots; tail = tail; move = move } }
+
+abbrev pub soft : ℕ × ℕ → Option Tail
+soft to = Some (record { hard = false; to = to })
+
+abbrev pub hard : ℕ × ℕ → Option Tail
+hard to = Some (record { hard = true; to = to })
+
+abbrev pub file : List ℕ → List ℕ → Slot
+file name bytes = record { kind = File; name = name; struct = Inline bytes; attributes = [] }
+
+abbrev pub long_file : List ℕ → ℕ → ℕ → Slot
+long_file name head size = record { kind = File; name = name; struct = Ctz head size; attributes = [] }
+
+abbrev pub folder : List ℕ → ℕ × ℕ → Slot
+folder name to = record { kind = Directory; name = name; struct = Branch to; attributes = [] }
+
+abbrev pub large_superblock : Slot
+large_superblock = superblock_slot 4096 16

@@ -1,0 +1,53 @@
+-- Metadata blocks in bytes, from the entries that stand in them. Checksums are given as numbers.
+use Rattle.std.specs.Prelude.{ℕ, ◌-◌, Bool, if◌then◌else◌, List, [], ◌∷◌, ◌++◌, length, replicate, bit_xor}
+use Rattle.byteorder.specs.Endian.{big_bytes, little_bytes}
+use Rattle.lfs_model.specs.Tag.{tag_with, carried}
+use Rattle.lfs_model.specs.Log.{LogEntry}
+use Rattle.lfs_model.specs.Names.{Name}
+use Rattle.lfs_model.specs.Content.{file_name_type, directory_name_type, directory_struct_type, inline_struct_type, ctz_struct_type, soft_tail_type, hard_tail_type, move_state_type, no_id}
+use Rattle.lfs_model.specs.Written.{entry_with, pair_bytes}
+use Rattle.lfs_model.specs.View.{superblock_entry}
+use Rattle.lfs_model.specs.Fresh.{superblock_bytes}
+
+-- storage that nothing was written to
+abbrev pub unwritten : ℕ → List ℕ
+unwritten size = replicate size 0xff
+
+-- these bytes, and unwritten storage to the end of the block
+abbrev pub filled : ℕ → List ℕ → List ℕ
+filled size bytes = bytes ++ unwritten (size - length bytes)
+
+-- ---- entries
+
+-- a slot's name and struct
+abbrev pub file_entries : ℕ → Name → List ℕ → List LogEntry
+file_entries id name bytes = entry_with file_name_type id name ∷ entry_with inline_struct_type id bytes ∷ []
+
+abbrev pub long_file_entries : ℕ → Name → ℕ → ℕ → List LogEntry
+long_file_entries id name head size = entry_with file_name_type id name ∷ entry_with ctz_struct_type id (pair_bytes (head, size)) ∷ []
+
+abbrev pub directory_entries : ℕ → Name → ℕ × ℕ → List LogEntry
+directory_entries id name to = entry_with directory_name_type id name ∷ entry_with directory_struct_type id (pair_bytes to) ∷ []
+
+abbrev pub superblock_entries : ℕ → ℕ → List LogEntry
+superblock_entries block_size block_count = superblock_entry ∷ entry_with inline_struct_type 0 (superblock_bytes block_size block_count) ∷ []
+
+abbrev pub tail_entry : Bool → ℕ × ℕ → LogEntry
+tail_entry hard to = entry_with (if hard then hard_tail_type else soft_tail_type) no_id (pair_bytes to)
+
+abbrev pub move_entry : ℕ → ℕ × ℕ → LogEntry
+move_entry word pair = entry_with move_state_type no_id (little_bytes 4 word ++ pair_bytes pair)
+
+-- the checksum, and so many bytes of padding
+abbrev pub checksum_entry : ℕ → ℕ → LogEntry
+checksum_entry number padding = entry_with 0x500 no_id (little_bytes 4 number ++ unwritten padding)
+
+-- ---- in bytes
+
+-- each tag XORed with the one before it, then its bytes
+abbrev pub stored : ℕ → List LogEntry → List ℕ
+stored before [] = []
+stored before (e ∷ es) = big_bytes 4 (bit_xor e.tag before) ++ e.bytes ++ stored (carried e.tag) es
+
+abbrev pub metadata_block : ℕ → ℕ → List LogEntry → List ℕ
+metadata_block block_size revision entries = filled block_size (little_bytes 4 revision ++ stored 0xffffffff entries)

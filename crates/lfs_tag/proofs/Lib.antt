@@ -3,3 +3,4 @@ pub mod Table
 pub mod Logs
 pub mod Runs
 pub mod Local
+pub mod Places

@@ -1,3 +1,6 @@
 pub mod Seen
 pub mod Read
 pub mod Walk
+pub mod FieldsSeen
+pub mod ContentSeen
+pub mod ContentGives

@@ -7,7 +7,8 @@ ghost use Rattle.std.specs.Iterator.{YieldsFirstBy, YieldsLastBy, item_count};
 ghost use Rattle.lfs_model.specs.Log.{chain_of, log_entries};
 ghost use Rattle.lfs_tag.specs.Seen.{seen};
 
-use crate::log::{Entry, entry_at};
+use crate::entry::Entry;
+use crate::log::entry_at;
 use crate::tag::Tag;
 use byteorder::{BigEndian, ByteOrder};
 use std::marker::Model;

@@ -1,14 +1,21 @@
 //! The log of a metadata block: tags, checksums, commits, and what a block holds for a name or an id.
 #![tactic(auto)]
 
+mod content;
 mod crc_table;
 mod entries;
+mod entry;
+mod fields;
+pub mod kinds;
 mod log;
 mod tag;
 
+pub use content::{Attribute, Content, ContentError, Part, Slot, Tail};
 pub use crc_table::crc;
 pub use entries::Entries;
-pub use log::{Entry, Log};
+pub use entry::Entry;
+pub use fields::{MoveState, NULL_ADDRESS, Superblock, ctz_of, move_of, pair_of, superblock_of};
+pub use log::Log;
 pub use tag::Tag;
 
 #[cfg(test)]

@@ -8,23 +8,16 @@ ghost use Rattle.lfs_tag.specs.Seen.{seen};
 
 use crate::crc;
 use crate::entries::Entries;
+use crate::entry::Entry;
 use crate::tag::Tag;
 use byteorder::{BigEndian, ByteOrder, LittleEndian};
 use std::marker::Model;
-
-/// A tag and its bytes.
-#[derive(Clone, Copy, Drop)]
-pub struct Entry<'a> {
-    pub tag: Tag,
-    pub bytes: &'a [u8],
-}
 
 // The entry at an offset, where the tag before it carries `before`.
 #[tactic(auto, unfolding(lfs_model::specs::Log::entry_at))]
 pub(crate) fn entry_at(block: &[u8], at: usize, before: Tag) -> Option<Entry<'_>>
     ensures value { option_map seen result ≡ entry_at block.now at before }
     ensures within { IfSome result (λ e. at + 4 + length e.bytes.now ≤ length block.now) }
-    ensures size { IfSome result (λ e. length e.bytes.now ≡ size_of e.tag) }
 {
     if block.len() < 4 || block.len() - 4 < at {
         return None;
@@ -46,7 +39,6 @@ pub(crate) fn entry_at(block: &[u8], at: usize, before: Tag) -> Option<Entry<'_>
 fn closes(block: &[u8], start: usize, at: usize, entry: &Entry<'_>) -> bool
     requires start { start ≤ at }
     requires within { at + 4 + length entry.now.bytes.now ≤ length block.now }
-    requires size { length entry.now.bytes.now ≡ size_of entry.now.tag }
     ensures { result ≡ closes block.now start at (seen entry.now) }
 {
     let kind = entry.tag.kind();

@@ -99,6 +99,12 @@ impl Tag {
         self.kind() >> 8
     }
 
+    pub fn chunk(self) -> u8
+        ensures { result ≡ chunk_of self }
+    {
+        (self.kind() & 0xff) as u8
+    }
+
     /// How many bytes follow the tag.
     pub fn size(self) -> usize
         ensures { result ≡ size_of self }

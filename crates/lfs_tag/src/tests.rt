@@ -2,8 +2,9 @@
 
 ghost use Rattle.std.specs.Prelude.{◌≡◌, ◌+◌, ◌≤◌, ◌<◌, length};
 
-use crate::{Entries, Log, crc};
+use crate::{Content, Entries, Log, crc};
 use byteorder::{BigEndian, ByteOrder, LittleEndian};
+use std::test::Fail;
 
 // Copies bytes into the block.
 fn put(block: &mut [u8], at: usize, bytes: &[u8])
@@ -147,4 +148,38 @@ fn an_altered_byte(rt: HostRuntime) {
     assert_eq!(rt; Log::read(&block).end(), 256);
     block[8] = 0x63;
     assert!(rt; !Log::read(&block).has_commit());
+}
+
+// The lengths of a slot's name, struct and attribute, a 99 where there is none.
+fn shape(content: &Content<'_>, id: usize) -> [usize; 3] {
+    let mut shape = [99usize; 3];
+    if id < content.slots.len() {
+        let slot = &content.slots[id];
+        if let Some(name) = slot.name {
+            shape[0] = name.bytes.len();
+        }
+        if let Some(structure) = slot.structure {
+            shape[1] = structure.bytes.len();
+        }
+        if slot.attributes.len() == 1 {
+            shape[2] = slot.attributes[0].bytes.len();
+        }
+    }
+    shape
+}
+
+#[test]
+fn slots_that_shift(rt: HostRuntime) -> Result<(), Fail> {
+    let mut block = [0xffu8; 4096];
+    shifting(&mut block);
+    let log = Log::read(&block);
+    match Content::read(rt.alloc(), &log) {
+        Ok(content) => {
+            assert_eq!(rt; content.slots.len(), 2);
+            assert_eq!(rt; shape(&content, 0), [8, 24, 99]);
+            assert_eq!(rt; shape(&content, 1), [1, 0, 1]);
+        }
+        Err(_) => assert!(rt; false),
+    }
+    Ok(())
 }

@@ -1,0 +1,103 @@
+-- Attributes by type, and slots in a list.
+use Rattle.std.proofs.Common.{◌≡◌, ℕ, zero, suc, ◌+◌, ◌-◌, ◌<◌, ◌≤◌, Bool, true, false, not, filter, cond, eqb, leb, ltb, List, [], ◌∷◌, ◌++◌, length, map, take, drop, replicate, set, get_or, remove, insert, refl, sym, ap, ◌∙◌, arith, append_assoc, Some, None, inl, inr}
+use Rattle.std.specs.List.{take-map, drop-map}
+use Rattle.std.proofs.lemmas.Bool.{cases_order}
+use Rattle.std.proofs.lemmas.Bool.Decides.{nat_tests}
+use Rattle.std.proofs.lemmas.List.{map-append, map-set, get_or-map, replicate-append-replicate}
+use Rattle.lfs_model.specs.Slots.{Attributes}
+use Rattle.lfs_model.specs.Content.{RawSlot, RawContent, empty_slot, put_attribute, without_attribute, changed, content_after, content_after_all}
+use Rattle.lfs_model.specs.Log.{LogEntry}
+use Rattle.lfs_tag.specs.ContentGives.{Fails}
+use Rattle.lfs_tag.specs.declared.content.ContentError.{ContentError}
+use Rattle.lfs_tag.specs.declared.content.ContentError.TheVariants as errors
+use Rattle.lfs_tag.specs.declared.content.Slot.{Slot}
+use Rattle.lfs_tag.specs.declared.content.Attribute.{Attribute}
+use Rattle.lfs_tag.specs.ContentSeen.{slot_seen, attribute_seen, first_not_below}
+
+pub map-remove : {X Y : Type 0} (f : X → Y) (xs : List X) (i : ℕ) → map f (remove xs i) ≡ remove (map f xs) i
+map-remove f xs i = map-append f (take i xs) (drop (suc i) xs) ∙ rw (take-map f i xs, drop-map f (suc i) xs) refl
+
+pub map-insert : {X Y : Type 0} (f : X → Y) (xs : List X) (i : ℕ) (x : X) → map f (insert xs i x) ≡ insert (map f xs) i (f x)
+map-insert f xs i x = map-append f (take i xs) (x ∷ drop i xs) ∙ rw (take-map f i xs, drop-map f i xs) refl
+
+-- ---- attributes
+
+-- the attribute of that type stands where one of its type or a greater one first stands
+pub put_same : (type : ℕ) (bytes : List ℕ) (xs : Attributes) (x : ℕ × List ℕ) → first_not_below type xs < length xs → (get_or xs (first_not_below type xs) x).0 ≡ type
+    → put_attribute type bytes xs ≡ set xs (first_not_below type xs) (type, bytes)
+put_same type bytes [] x lt same = absurd (omega arith)
+put_same type bytes (a ∷ xs) x lt same = elim (cases_order type a.0) [
+  | inl equal ↦
+      let l : leb type a.0 ≡ true = grind (arith, nat_tests) in
+      let t : ltb type a.0 ≡ false = grind (arith, nat_tests) in
+      let e : eqb type a.0 ≡ true = grind (arith, nat_tests) in
+      rw (l, t, e) refl
+  | inr (inl below) ↦
+      let l : leb type a.0 ≡ true = grind (arith, nat_tests) in
+      absurd (let s : a.0 ≡ type = rw l at same in omega arith)
+  | inr (inr above) ↦
+      let l : leb type a.0 ≡ false = grind (arith, nat_tests) in
+      let t : ltb type a.0 ≡ false = grind (arith, nat_tests) in
+      let e : eqb type a.0 ≡ false = grind (arith, nat_tests) in
+      rw (l, t, e) (ap (λ (ys : Attributes). a ∷ ys) (put_same type bytes xs x (let m = rw l at lt in omega arith) (rw l at same)))
+]
+
+-- no attribute of that type stands there
+pub put_other : (type : ℕ) (bytes : List ℕ) (xs : Attributes) (x : ℕ × List ℕ) → (first_not_below type xs < length xs → (get_or xs (first_not_below type xs) x).0 ≡ type → ⊥)
+    → put_attribute type bytes xs ≡ insert xs (first_not_below type xs) (type, bytes)
+put_other type bytes [] x other = refl
+put_other type bytes (a ∷ xs) x other = elim (cases_order type a.0) [
+  | inl equal ↦
+      let l : leb type a.0 ≡ true = grind (arith, nat_tests) in
+      absurd ((rw l at other) (omega arith) (sym equal))
+  | inr (inl below) ↦
+      let l : leb type a.0 ≡ true = grind (arith, nat_tests) in
+      let t : ltb type a.0 ≡ true = grind (arith, nat_tests) in
+      rw (l, t) refl
+  | inr (inr above) ↦
+      let l : leb type a.0 ≡ false = grind (arith, nat_tests) in
+      let t : ltb type a.0 ≡ false = grind (arith, nat_tests) in
+      let e : eqb type a.0 ≡ false = grind (arith, nat_tests) in
+      rw (l, t, e) (ap (λ (ys : Attributes). a ∷ ys) (put_other type bytes xs x (λ lt same. (rw l at other) (omega arith) same)))
+]
+
+pub first_within : (type : ℕ) (xs : Attributes) → first_not_below type xs ≤ length xs
+first_within type [] = omega arith
+first_within type (a ∷ xs) = by_test (leb type a.0) (first_within type xs)
+  where
+    by_test : (b : Bool) → first_not_below type xs ≤ length xs → cond b 0 (suc (first_not_below type xs)) ≤ suc (length xs)
+    by_test true within = omega arith
+    by_test false within = omega arith
+
+pub without_is : (kind : ℕ) (xs : List Attribute) → map attribute_seen (filter (λ a. not (eqb a.kind kind)) xs) ≡ without_attribute kind (map attribute_seen xs)
+without_is kind [] = refl
+without_is kind (a ∷ xs) = by_test (eqb a.kind kind) (without_is kind xs)
+  where
+    by_test : (b : Bool) → map attribute_seen (filter (λ a. not (eqb a.kind kind)) xs) ≡ without_attribute kind (map attribute_seen xs) → map attribute_seen (cond (not b) (a ∷ filter (λ a. not (eqb a.kind kind)) xs) (filter (λ a. not (eqb a.kind kind)) xs))
+        ≡ cond (not b) (attribute_seen a ∷ without_attribute kind (map attribute_seen xs)) (without_attribute kind (map attribute_seen xs))
+    by_test true rest = rest
+    by_test false rest = ap (λ (ys : Attributes). attribute_seen a ∷ ys) rest
+
+-- ---- slots
+
+-- one more empty slot
+pub one_more : (xs ys : List RawSlot) (n : ℕ) → ys ≡ xs ++ replicate n empty_slot → ys ++ empty_slot ∷ [] ≡ xs ++ replicate (n + 1) empty_slot
+one_more xs ys n e = rw (e, append_assoc xs (replicate n empty_slot) (empty_slot ∷ [])) (ap (λ (t : List RawSlot). xs ++ t) (replicate-append-replicate n 1 empty_slot))
+
+-- a slot that is changed in the code is changed as it is seen
+pub changed_is : (f : RawSlot → RawSlot) (xs : List Slot) (i : ℕ) (x y : Slot) → i < length xs → x ≡ get_or xs i x → slot_seen y ≡ f (slot_seen x)
+    → map slot_seen (set xs i y) ≡ changed f (map slot_seen xs) i
+changed_is f xs i x y lt is new =
+    map-set slot_seen xs i y ∙ ap (set (map slot_seen xs) i) (new ∙ ap f (ap slot_seen is ∙ sym (get_or-map slot_seen xs i x empty_slot lt)))
+
+-- ---- entries in turn
+
+pub after_on : (s t : RawContent) (e : LogEntry) (es : List LogEntry) → content_after s e ≡ Some t → content_after_all s (e ∷ es) ≡ content_after_all t es
+after_on s t e es is = rw is refl
+
+pub after_fails : (s : RawContent) (e : LogEntry) (es : List LogEntry) → content_after s e ≡ None → content_after_all s (e ∷ es) ≡ None
+after_fails s e es is = rw is refl
+
+pub fails_on : (error : ContentError) (s : RawContent) (e : LogEntry) (es : List LogEntry) → Fails error (content_after s e) → Fails error (content_after_all s (e ∷ es))
+fails_on errors.NoMemory s e es h = tt
+fails_on errors.Malformed s e es h = after_fails s e es h

@@ -1,0 +1,14 @@
+-- What a step of a content, or its reading, answers.
+use Rattle.std.specs.Prelude.{◌≡◌, Result, Ok, Err, Option, Some, None}
+use Rattle.lfs_tag.specs.declared.content.ContentError.{ContentError}
+use Rattle.lfs_tag.specs.declared.content.ContentError.TheVariants as errors
+
+-- an error is the malformed log, or want of memory, which may come at any log
+abbrev pub Fails : {S : Type 0} → ContentError → Option S → Type 0
+Fails errors.NoMemory o = Unit {0}
+Fails errors.Malformed o = o ≡ None
+
+-- what was computed is what is left, unless memory ran out
+abbrev pub Gives : {X S : Type 0} → (X → S) → Result X ContentError → Option S → Type 0
+Gives view (Ok x) o = o ≡ Some (view x)
+Gives view (Err e) o = Fails e o

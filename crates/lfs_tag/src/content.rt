@@ -1,0 +1,350 @@
+// The content of a log, by taking its entries forward.
+
+ghost use Rattle.std.specs.Prelude.{◌≡◌, ℕ, ◌+◌, ◌≤◌, ◌<◌, ◌++◌, List, [], ◌∷◌, length, map, OnOk, IfOk, IsTrue, replicate, remove, insert, slice_set, vec_len, is_some, filter, not, ◌==◌, Some, None};
+ghost use Rattle.std.specs.Option.{option_map};
+ghost use Rattle.lfs_model.specs.Tag.{kind_of, size_of};
+ghost use Rattle.lfs_model.specs.Log.{LogEntry, log_entries};
+ghost use Rattle.lfs_model.specs.Content.{is_in_table, has_its_id, put_attribute, without_attribute, with_attribute, empty_slot, slot_of_id, changed, up_to, typed, tail_of, slots_after, content_after, content_after_all, no_content};
+ghost use Rattle.lfs_tag.specs.Seen.{seen};
+ghost use Rattle.lfs_tag.specs.FieldsSeen.{move_seen};
+ghost use Rattle.lfs_tag.specs.ContentSeen.{part_seen, attribute_seen, slot_seen, tail_seen, content_seen, first_not_below};
+ghost use Rattle.lfs_tag.specs.ContentGives.{Gives};
+
+use crate::entry::Entry;
+use crate::fields::{MoveState, NULL_ADDRESS, move_at, pair_at};
+use crate::kinds::{
+    ATTRIBUTE_CLASS, CHECKSUM_CLASS, CREATE, CTZ_STRUCT, DELETE, DIRECTORY_NAME, DIRECTORY_STRUCT,
+    FILE_NAME, HARD_TAIL, INLINE_STRUCT, MOVE_CLASS, MOVE_STATE, NAME_CLASS, SOFT_TAIL,
+    STRUCT_CLASS, SUPERBLOCK_NAME, TAIL_CLASS,
+};
+use crate::log::Log;
+use crate::tag::Tag;
+use std::alloc::{AllocError, Global};
+
+/// A name or a struct: its type, and its bytes in the block.
+#[derive(Clone, Copy, Drop)]
+pub struct Part<'a> {
+    pub kind: u16,
+    pub bytes: &'a [u8],
+}
+
+/// A user attribute: its type, and its bytes in the block.
+#[derive(Clone, Copy, Drop)]
+pub struct Attribute<'a> {
+    pub kind: u8,
+    pub bytes: &'a [u8],
+}
+
+/// What a log says of one id. In a foreign image a slot may lack its name or its struct.
+#[derive(Drop)]
+pub struct Slot<'a> {
+    pub name: Option<Part<'a>>,
+    pub structure: Option<Part<'a>>,
+    /// By ascending type, each type once.
+    pub attributes: Vec<Attribute<'a>>,
+}
+
+/// The next pair of the thread. A hard tail continues the directory.
+#[derive(Clone, Copy, Debug, PartialEq, Eq, Drop)]
+pub struct Tail {
+    pub hard: bool,
+    pub pair: [u32; 2],
+}
+
+/// What a log's entries come to: the slots by their ids, the last tail and the last move state. A
+/// tail to two null addresses is none.
+#[derive(Drop)]
+pub struct Content<'a> {
+    pub slots: Vec<Slot<'a>>,
+    pub tail: Option<Tail>,
+    pub move_state: MoveState,
+}
+
+/// Why a log's content wasn't read.
+#[derive(Clone, Copy, Debug, PartialEq, Eq, Drop)]
+pub enum ContentError {
+    /// An entry has a type that the format doesn't have, a length that doesn't go with its type,
+    /// or an id that may not stand there.
+    Malformed,
+    /// A growth was refused.
+    NoMemory,
+}
+
+impl From<AllocError> for ContentError {
+    ghost use Rattle.lfs_tag.specs.declared.content.ContentError.TheVariants.{NoMemory};
+
+    ghost from_gives = { λ _ e. e ≡ NoMemory };
+
+    fn from(_error: AllocError) -> ContentError {
+        ContentError::NoMemory
+    }
+}
+
+// Whether the format has a tag's type, with its length.
+fn is_in_table(tag: Tag) -> bool
+    ensures { result ≡ is_in_table tag }
+{
+    let kind = tag.kind();
+    let len = tag.len();
+    let is_attribute = tag.class() == ATTRIBUTE_CLASS;
+    if len == 0x3ff {
+        return is_attribute;
+    }
+    match kind {
+        FILE_NAME | DIRECTORY_NAME | INLINE_STRUCT => true,
+        SUPERBLOCK_NAME | DIRECTORY_STRUCT | CTZ_STRUCT | SOFT_TAIL | HARD_TAIL => len == 8,
+        CREATE | DELETE => len == 0,
+        MOVE_STATE => len == 12,
+        _ => is_attribute,
+    }
+}
+
+// Whether a tag that needs an id has one.
+fn has_its_id(tag: Tag) -> bool
+    ensures { result ≡ has_its_id tag }
+{
+    CHECKSUM_CLASS <= tag.class() || tag.id() != 0x3ff
+}
+
+fn empty_slot<'a>(alloc: Global) -> Slot<'a>
+    ensures { slot_seen result ≡ empty_slot }
+{
+    Slot {
+        name: None,
+        structure: None,
+        attributes: Vec::new(alloc),
+    }
+}
+
+// Where the first attribute of a type or a greater one stands, or the length.
+fn place_of(attributes: &[Attribute<'_>], kind: u8) -> usize
+    ensures { result ≡ first_not_below kind (map attribute_seen attributes.now) }
+{
+    for (i, attribute) in attributes.iter().enumerate() {
+        if kind <= attribute.kind {
+            return i;
+        }
+    }
+    attributes.len()
+}
+
+// Sets the attribute of a type.
+fn set_attribute<'a>(
+    attributes: &mut Vec<Attribute<'a>>,
+    attribute: Attribute<'a>,
+) -> Result<(), AllocError>
+    ensures { OnOk result (map attribute_seen attributes.new.items ≡ put_attribute attribute.entry.kind attribute.entry.bytes.now (map attribute_seen attributes.old.items)) }
+{
+    let place = place_of(attributes, attribute.kind);
+    if place < attributes.len() && attributes[place].kind == attribute.kind {
+        attributes[place] = attribute;
+    } else {
+        attributes.insert(place, attribute)?;
+    }
+    Ok(())
+}
+
+// Removes the attribute of a type.
+fn remove_attribute(attributes: &mut Vec<Attribute<'_>>, kind: u8)
+    ensures { attributes.new.items ≡ filter (λ a. not (a.kind == kind)) attributes.old.items }
+{
+    attributes.retain(|attribute| attribute.kind != kind);
+}
+
+// Adds empty slots up to an id.
+fn fill_up(alloc: Global, slots: &mut Vec<Slot<'_>>, id: usize) -> Result<(), AllocError>
+    requires { id < 1024 }
+    ensures filled { OnOk result (map slot_seen slots.new.items ≡ up_to (map slot_seen slots.old.items) id) }
+    ensures long { OnOk result (id < vec_len slots.new) }
+{
+    while slots.len() <= id {
+        slots.push(empty_slot(alloc))?;
+    }
+    Ok(())
+}
+
+// Names a slot, which may be past the end.
+fn put_name<'a>(
+    alloc: Global,
+    slots: &mut Vec<Slot<'a>>,
+    id: usize,
+    part: Part<'a>,
+) -> Result<(), AllocError>
+    requires { id < 1024 }
+    ensures { OnOk result (map slot_seen slots.new.items ≡ changed (λ s. record s { name = Some (part_seen part.entry) }) (up_to (map slot_seen slots.old.items) id) id) }
+{
+    fill_up(alloc, slots, id)?;
+    let slot = &mut slots[id];
+    slot.name = Some(part);
+    Ok(())
+}
+
+// Gives a slot its struct.
+fn put_structure<'a>(slots: &mut Vec<Slot<'a>>, id: usize, part: Part<'a>)
+    requires { id < vec_len slots.old }
+    ensures { map slot_seen slots.new.items ≡ changed (λ s. record s { struct = Some (part_seen part.entry) }) (map slot_seen slots.old.items) id }
+{
+    let slot = &mut slots[id];
+    slot.structure = Some(part);
+}
+
+// Sets or removes a slot's attribute.
+fn change_attribute<'a>(
+    slots: &mut Vec<Slot<'a>>,
+    id: usize,
+    entry: &Entry<'a>,
+) -> Result<(), AllocError>
+    requires { id < vec_len slots.old }
+    ensures { OnOk result (map slot_seen slots.new.items ≡ changed (λ s. record s { attributes = with_attribute (seen entry.now) s.attributes }) (map slot_seen slots.old.items) id) }
+{
+    let slot = &mut slots[id];
+    let kind = entry.tag.chunk();
+    if entry.tag.len() == 0x3ff {
+        remove_attribute(&mut slot.attributes, kind);
+    } else {
+        let bytes = entry.bytes;
+        set_attribute(&mut slot.attributes, Attribute { kind, bytes })?;
+    }
+    Ok(())
+}
+
+// Whether a slot is there and has a name.
+fn is_named(slots: &[Slot<'_>], id: usize) -> bool
+    ensures value { result ≡ is_some (slot_of_id (map slot_seen slots.now) id).name }
+    ensures there { IsTrue result → id < length slots.now }
+{
+    if id < slots.len() {
+        slots[id].name.is_some()
+    } else {
+        false
+    }
+}
+
+// Inserts an empty slot.
+fn insert_empty(alloc: Global, slots: &mut Vec<Slot<'_>>, id: usize) -> Result<(), AllocError>
+    requires { id ≤ vec_len slots.old }
+    ensures { OnOk result (map slot_seen slots.new.items ≡ insert (map slot_seen slots.old.items) id empty_slot) }
+{
+    slots.insert(id, empty_slot(alloc))?;
+    Ok(())
+}
+
+// Removes a slot.
+fn remove_slot(slots: &mut Vec<Slot<'_>>, id: usize)
+    requires { id < vec_len slots.old }
+    ensures { map slot_seen slots.new.items ≡ remove (map slot_seen slots.old.items) id }
+{
+    slots.remove(id);
+}
+
+// What an entry that is no checksum, tail or move state makes of the slots.
+fn apply_to_slots<'a>(
+    alloc: Global,
+    slots: &mut Vec<Slot<'a>>,
+    entry: &Entry<'a>,
+) -> Result<(), ContentError>
+    ensures { Gives (λ _. map slot_seen slots.new.items) result (slots_after (map slot_seen slots.old.items) (seen entry.now)) }
+{
+    let kind = entry.tag.kind();
+    let class = entry.tag.class();
+    let id = usize::from(entry.tag.id());
+    let bytes = entry.bytes;
+    let is_named = is_named(slots, id);
+    if class == NAME_CLASS {
+        put_name(alloc, slots, id, Part { kind, bytes })?;
+        Ok(())
+    } else if kind == CREATE {
+        if id <= slots.len() {
+            insert_empty(alloc, slots, id)?;
+            Ok(())
+        } else {
+            Err(ContentError::Malformed)
+        }
+    } else if kind == DELETE {
+        if id < slots.len() {
+            remove_slot(slots, id);
+            Ok(())
+        } else {
+            Err(ContentError::Malformed)
+        }
+    } else if !is_named {
+        Err(ContentError::Malformed)
+    } else if class == STRUCT_CLASS {
+        put_structure(slots, id, Part { kind, bytes });
+        Ok(())
+    } else {
+        change_attribute(slots, id, entry)?;
+        Ok(())
+    }
+}
+
+// The tail that an entry sets.
+fn tail_of(entry: &Entry<'_>) -> Option<Tail>
+    requires { 8 ≤ length entry.now.bytes.now }
+    ensures { option_map tail_seen result ≡ tail_of (seen entry.now) }
+{
+    let pair = pair_at(entry.bytes);
+    if pair[0] == NULL_ADDRESS && pair[1] == NULL_ADDRESS {
+        None
+    } else {
+        Some(Tail {
+            hard: entry.tag.kind() == HARD_TAIL,
+            pair,
+        })
+    }
+}
+
+// What an entry makes of the content.
+fn apply<'a>(
+    alloc: Global,
+    content: &mut Content<'a>,
+    entry: &Entry<'a>,
+) -> Result<(), ContentError>
+    ensures { Gives (λ _. content_seen content.new) result (content_after (content_seen content.old) (seen entry.now)) }
+{
+    let tag = entry.tag;
+    let class = tag.class();
+    if class == CHECKSUM_CLASS {
+        return Ok(());
+    }
+    if !is_in_table(tag) || !has_its_id(tag) {
+        return Err(ContentError::Malformed);
+    }
+    if class == TAIL_CLASS {
+        content.tail = tail_of(entry);
+        Ok(())
+    } else if class == MOVE_CLASS {
+        content.move_state = move_at(entry.bytes);
+        Ok(())
+    } else {
+        apply_to_slots(alloc, &mut content.slots, entry)?;
+        Ok(())
+    }
+}
+
+impl<'a> Content<'a> {
+    /// Reads a log's content, by taking its entries forward (SPEC.md of littlefs, "Metadata
+    /// tags"). Names, structs and attributes aren't copied. Answers `Malformed` exactly where the
+    /// log is.
+    pub fn read(alloc: Global, log: &Log<'a>) -> Result<Content<'a>, ContentError>
+        ensures content { IfOk result (λ c. content_after_all no_content (log_entries log.now) ≡ Some (content_seen c)) }
+        ensures malformed { result ≡ Err ContentError.Malformed → content_after_all no_content (log_entries log.now) ≡ None }
+    {
+        let mut content = Content {
+            slots: Vec::new(alloc),
+            tail: None,
+            move_state: MoveState {
+                sync: false,
+                kind: 0,
+                id: 0,
+                pair: [0, 0],
+            },
+        };
+        for entry in log.entries() {
+            if let Err(error) = apply(alloc, &mut content, &entry) {
+                return Err(error);
+            }
+        }
+        Ok(content)
+    }
+}

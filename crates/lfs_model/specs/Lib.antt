@@ -12,6 +12,7 @@ pub mod Content
 pub mod Written
 pub mod Logged
 pub mod Changes
+pub mod Lookup
 pub mod Lists
 pub mod Thread
 pub mod Tree

@@ -4,3 +4,6 @@ pub mod Logs
 pub mod Runs
 pub mod Local
 pub mod Places
+pub mod Effects
+pub mod Held
+pub mod Searches

@@ -4,3 +4,5 @@ pub mod Walk
 pub mod FieldsSeen
 pub mod ContentSeen
 pub mod ContentGives
+pub mod Search
+pub mod VerdictSeen

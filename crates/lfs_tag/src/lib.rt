@@ -8,6 +8,8 @@ mod entry;
 mod fields;
 pub mod kinds;
 mod log;
+mod search;
+mod steps;
 mod tag;
 
 pub use content::{Attribute, Content, ContentError, Part, Slot, Tail};
@@ -16,6 +18,8 @@ pub use entries::Entries;
 pub use entry::Entry;
 pub use fields::{MoveState, NULL_ADDRESS, Superblock, ctz_of, move_of, pair_of, superblock_of};
 pub use log::Log;
+pub use search::get;
+pub use steps::Steps;
 pub use tag::Tag;
 
 #[cfg(test)]

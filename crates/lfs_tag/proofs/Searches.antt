@@ -1,0 +1,261 @@
+-- A search back finds what the slots hold.
+use Rattle.std.proofs.Common.{◌≡◌, ◌≢◌, ◌⊎◌, ℕ, suc, ◌+◌, ◌-◌, ◌*◌, ◌/◌, ◌%◌, ◌^◌, ◌<◌, ◌≤◌, Bool, true, false, ◌&&◌, ◌||◌, not, cond, eqb, ltb, leb, List, [], ◌∷◌, ◌++◌, reverse, length, insert, remove, get_or, Option, Some, None, refl, sym, ap, subst, ◌∙◌, arith, inl, inr}
+use Rattle.std.specs.Option.{option_and_then}
+use Rattle.std.proofs.lemmas.Bool.{cases_lt, cases_order, cases_eq}
+use Rattle.std.proofs.lemmas.Bool.Decides.{nat_tests}
+use Rattle.std.proofs.lemmas.Option.{option_and_then_some, same_Some}
+use Rattle.std.proofs.lemmas.List.{reverse-append}
+use Rattle.std.proofs.lemmas.List.Edits.{get_or-insert_below, get_or-insert_at, get_or-insert_above, get_or-remove_below, get_or-remove_above}
+use Rattle.lfs_model.specs.Slots.{Attributes}
+use Rattle.lfs_model.specs.Tag.{kind_of, id_of, len_of, class_of, chunk_of}
+use Rattle.lfs_model.specs.Log.{LogEntry}
+use Rattle.lfs_model.specs.Content.{RawSlot, RawContent, empty_slot, slot_of_id, changed, up_to, typed, with_attribute, put_attribute, without_attribute, attribute_of, removes, create_type, content_after, content_after_all, no_content}
+use Rattle.lfs_model.specs.Lookup.{bytes_typed, bytes_in, bytes_at}
+use Rattle.lfs_tag.specs.Search.{Verdict, Holds, Was, is_about, splice_verdict, verdict_of, settled, sought, looks, looks_after}
+use Rattle.lfs_tag.proofs.Effects.{Effect, rests, names, creates, deletes, structures, attributes, effect}
+use Rattle.lfs_tag.proofs.Held.{attribute-put_same, attribute-put_other, attribute-without_same, attribute-without_other, slot-up_to, length-up_to, slot-changed_same, slot-changed_other}
+
+-- what an entry says of a type and an id is what the slots behind it hold
+abbrev Finds : LogEntry → ℕ → ℕ → List RawSlot → List RawSlot → Type 0
+Finds e type i s t = settled (verdict_of e type i) (bytes_at s type) ≡ bytes_at t type i
+
+empty_bytes : (type : ℕ) → bytes_in type empty_slot ≡ None
+empty_bytes type = either (eqb (type / 2 ^ 8) 0) (eqb (type / 2 ^ 8) 2) (eqb (type / 2 ^ 8) 3)
+  where
+    none : Option (List ℕ)
+    none = None
+
+    either : (a b c : Bool) → cond a none (cond b none (cond c none none)) ≡ none
+    either true b c = refl
+    either false true c = refl
+    either false false true = refl
+    either false false false = refl
+
+-- ---- creates and deletes
+
+create_finds : (e : LogEntry) (type i : ℕ) (s : List RawSlot) → class_of e.tag ≡ 4 → kind_of e.tag ≡ create_type → id_of e.tag ≤ length s → Finds e type i s (insert s (id_of e.tag) empty_slot)
+create_finds e type i s class create le =
+    let a : eqb (class_of e.tag) 4 ≡ true = grind (arith, nat_tests) in
+    let b : eqb (kind_of e.tag) create_type ≡ true = grind (arith, nat_tests) in
+    let j = id_of e.tag in
+    rw (a, b) (elim (cases_order j i) [
+      | inl same ↦
+          let t : eqb j i ≡ true = grind (arith, nat_tests) in
+          rw (t, ← same, get_or-insert_at s j empty_slot empty_slot le) (sym (empty_bytes type))
+      | inr (inl lt) ↦
+          let t : eqb j i ≡ false = grind (arith, nat_tests) in
+          let u : ltb j i ≡ true = grind (arith, nat_tests) in
+          let v : i ≡ i - 1 + 1 = omega arith in
+          rw (t, u) (ap (bytes_in type) (sym (get_or-insert_above s j empty_slot empty_slot (i - 1) (omega arith) le) ∙ ap (slot_of_id (insert s j empty_slot)) (sym v)))
+      | inr (inr gt) ↦
+          let t : eqb j i ≡ false = grind (arith, nat_tests) in
+          let u : ltb j i ≡ false = grind (arith, nat_tests) in
+          rw (t, u) (ap (bytes_in type) (sym (get_or-insert_below s j empty_slot empty_slot i gt le)))
+    ])
+
+delete_finds : (e : LogEntry) (type i : ℕ) (s : List RawSlot) → class_of e.tag ≡ 4 → kind_of e.tag ≢ create_type → id_of e.tag < length s → Finds e type i s (remove s (id_of e.tag))
+delete_finds e type i s class delete lt =
+    let a : eqb (class_of e.tag) 4 ≡ true = grind (arith, nat_tests) in
+    let b : eqb (kind_of e.tag) create_type ≡ false = grind (arith, nat_tests) in
+    let j = id_of e.tag in
+    rw (a, b) (elim (cases_lt i j) [
+      | inl below ↦
+          let t : leb j i ≡ false = grind (arith, nat_tests) in
+          rw t (ap (bytes_in type) (sym (get_or-remove_below s j empty_slot i below lt)))
+      | inr above ↦
+          let t : leb j i ≡ true = grind (arith, nat_tests) in
+          rw t (ap (bytes_in type) (sym (get_or-remove_above s j empty_slot i above lt)))
+    ])
+
+-- ---- names, structs and attributes
+
+-- the entry isn't about that
+not_about : (e : LogEntry) (type i : ℕ) → class_of e.tag ≢ 4 → is_about e type i ≡ false → (before : ℕ → Option (List ℕ)) → settled (verdict_of e type i) before ≡ before i
+not_about e type i class other before =
+    let a : eqb (class_of e.tag) 4 ≡ false = grind (arith, nat_tests) in
+    rw (a, other) refl
+
+-- it is
+about : (e : LogEntry) (type i : ℕ) → class_of e.tag ≢ 4 → is_about e type i ≡ true → (before : ℕ → Option (List ℕ))
+    → settled (verdict_of e type i) before ≡ cond (eqb (kind_of e.tag) type && not (removes e.tag)) (Some e.bytes) None
+about e type i class here before =
+    let a : eqb (class_of e.tag) 4 ≡ false = grind (arith, nat_tests) in
+    rw (a, here) refl
+
+elsewhere : (e : LogEntry) (type i : ℕ) → id_of e.tag ≢ i → is_about e type i ≡ false
+elsewhere e type i ne = let a : eqb (id_of e.tag) i ≡ false = grind (arith, nat_tests) in rw a refl
+
+high : (e : LogEntry) (type i : ℕ) → 5 ≤ class_of e.tag → is_about e type i ≡ false
+high e type i le = let a : ltb (class_of e.tag) 4 ≡ false = grind (arith, nat_tests) in rw a (either (eqb (id_of e.tag) i))
+  where
+    either : (b : Bool) → (b && false) ≡ false
+    either true = refl
+    either false = refl
+
+other_class : (e : LogEntry) (type i : ℕ) → class_of e.tag ≢ type / 2 ^ 8 → is_about e type i ≡ false
+other_class e type i ne = let a : eqb (class_of e.tag) (type / 2 ^ 8) ≡ false = grind (arith, nat_tests) in rw a (either (eqb (id_of e.tag) i) (ltb (class_of e.tag) 4))
+  where
+    either : (b c : Bool) → (b && (c && false)) ≡ false
+    either true true = refl
+    either true false = refl
+    either false c = refl
+
+-- a name or a struct of that class
+same_class : (e : LogEntry) (type i : ℕ) → id_of e.tag ≡ i → class_of e.tag < 3 → class_of e.tag ≡ type / 2 ^ 8 → is_about e type i ≡ true
+same_class e type i id small class =
+    let a : eqb (id_of e.tag) i ≡ true = grind (arith, nat_tests) in
+    let b : ltb (class_of e.tag) 4 ≡ true = grind (arith, nat_tests) in
+    let c : eqb (class_of e.tag) (type / 2 ^ 8) ≡ true = grind (arith, nat_tests) in
+    let d : eqb (class_of e.tag) 3 ≡ false = grind (arith, nat_tests) in
+    rw (a, b, c, d) refl
+
+-- one slot is changed, and the others stay
+changed_finds : (e : LogEntry) (type i : ℕ) (f : RawSlot → RawSlot) (s all : List RawSlot) → class_of e.tag ≢ 4 → id_of e.tag < length all → ((k : ℕ) → slot_of_id all k ≡ slot_of_id s k)
+    → (id_of e.tag ≡ i → settled (verdict_of e type i) (bytes_at s type) ≡ bytes_in type (f (slot_of_id s i)))
+    → Finds e type i s (changed f all (id_of e.tag))
+changed_finds e type i f s all class lt same here =
+    elim (cases_eq (id_of e.tag) i) [
+      | inl hit ↦
+          let there : slot_of_id (changed f all (id_of e.tag)) i ≡ f (slot_of_id s i) =
+          ap (slot_of_id (changed f all (id_of e.tag))) (sym hit) ∙ slot-changed_same f all (id_of e.tag) lt ∙ ap f (same (id_of e.tag) ∙ ap (slot_of_id s) hit) in
+          here hit ∙ ap (bytes_in type) (sym there)
+      | inr miss ↦ not_about e type i class (elsewhere e type i miss) (bytes_at s type) ∙ ap (bytes_in type) (sym (slot-changed_other f all (id_of e.tag) i (λ z. miss (sym z)) ∙ same i))
+    ]
+
+-- the bytes are held, or another type stands there
+and_true : (b : Bool) (x y : Option (List ℕ)) → cond (b && true) x y ≡ cond b x y
+and_true true x y = refl
+and_true false x y = refl
+
+name_finds : (e : LogEntry) (type i : ℕ) (s : List RawSlot) → class_of e.tag ≡ 0 → removes e.tag ≡ false → Finds e type i s (changed (λ r. record r { name = typed e }) (up_to s (id_of e.tag)) (id_of e.tag))
+name_finds e type i s class keeps =
+    changed_finds e type i (λ r. record r { name = typed e }) s (up_to s (id_of e.tag)) (omega arith) (omega (arith, length-up_to s (id_of e.tag))) (slot-up_to s (id_of e.tag))
+    (λ hit. elim (cases_eq (type / 2 ^ 8) 0) [
+      | inl same ↦
+          let z : eqb (type / 2 ^ 8) 0 ≡ true = grind (arith, nat_tests) in
+          about e type i (omega arith) (same_class e type i hit (omega arith) (omega arith)) (bytes_at s type)
+          ∙ rw (keeps, z) (and_true (eqb (kind_of e.tag) type) (Some e.bytes) None)
+      | inr other ↦
+          let z : eqb (type / 2 ^ 8) 0 ≡ false = grind (arith, nat_tests) in
+          not_about e type i (omega arith) (other_class e type i (omega arith)) (bytes_at s type) ∙ rw z refl
+    ])
+
+structure_finds : (e : LogEntry) (type i : ℕ) (s : List RawSlot) → class_of e.tag ≡ 2 → removes e.tag ≡ false → id_of e.tag < length s → Finds e type i s (changed (λ r. record r { struct = typed e }) s (id_of e.tag))
+structure_finds e type i s class keeps lt =
+    changed_finds e type i (λ r. record r { struct = typed e }) s s (omega arith) lt (λ k. refl)
+    (λ hit. elim (cases_eq (type / 2 ^ 8) 2) [
+      | inl same ↦
+          let z : eqb (type / 2 ^ 8) 0 ≡ false = grind (arith, nat_tests) in
+          let w : eqb (type / 2 ^ 8) 2 ≡ true = grind (arith, nat_tests) in
+          about e type i (omega arith) (same_class e type i hit (omega arith) (omega arith)) (bytes_at s type)
+          ∙ rw (keeps, z, w) (and_true (eqb (kind_of e.tag) type) (Some e.bytes) None)
+      | inr other ↦
+          let w : eqb (type / 2 ^ 8) 2 ≡ false = grind (arith, nat_tests) in
+          not_about e type i (omega arith) (other_class e type i (omega arith)) (bytes_at s type) ∙ rw w refl
+    ])
+
+-- the attribute that an entry sets or removes
+attribute_same : (e : LogEntry) (xs : Attributes) → attribute_of (chunk_of e.tag) (with_attribute e xs) ≡ cond (not (removes e.tag)) (Some e.bytes) None
+attribute_same e xs = by_test (removes e.tag)
+  where
+    by_test : (b : Bool) → attribute_of (chunk_of e.tag) (cond b (without_attribute (chunk_of e.tag) xs) (put_attribute (chunk_of e.tag) e.bytes xs)) ≡ cond (not b) (Some e.bytes) None
+    by_test true = attribute-without_same (chunk_of e.tag) xs
+    by_test false = attribute-put_same (chunk_of e.tag) e.bytes xs
+
+-- the others
+attribute_other : (e : LogEntry) (type : ℕ) (xs : Attributes) → chunk_of e.tag ≢ type → attribute_of type (with_attribute e xs) ≡ attribute_of type xs
+attribute_other e type xs ne = by_test (removes e.tag)
+  where
+    by_test : (b : Bool) → attribute_of type (cond b (without_attribute (chunk_of e.tag) xs) (put_attribute (chunk_of e.tag) e.bytes xs)) ≡ attribute_of type xs
+    by_test true = attribute-without_other type (chunk_of e.tag) xs ne
+    by_test false = attribute-put_other type (chunk_of e.tag) e.bytes xs ne
+
+attribute_finds : (e : LogEntry) (type i : ℕ) (s : List RawSlot) → class_of e.tag ≡ 3 → id_of e.tag < length s → Finds e type i s (changed (λ r. record r { attributes = with_attribute e r.attributes }) s (id_of e.tag))
+attribute_finds e type i s class lt =
+    changed_finds e type i (λ r. record r { attributes = with_attribute e r.attributes }) s s (omega arith) lt (λ k. refl)
+    (λ hit. elim (cases_eq (kind_of e.tag) type) [
+      | inl same ↦
+          let id : eqb (id_of e.tag) i ≡ true = grind (arith, nat_tests) in
+          let small : ltb (class_of e.tag) 4 ≡ true = grind (arith, nat_tests) in
+          let here : eqb (class_of e.tag) (type / 2 ^ 8) ≡ true = grind (arith, nat_tests) in
+          let k : eqb (kind_of e.tag) type ≡ true = grind (arith, nat_tests) in
+          let z : eqb (type / 2 ^ 8) 0 ≡ false = grind (arith, nat_tests) in
+          let w : eqb (type / 2 ^ 8) 2 ≡ false = grind (arith, nat_tests) in
+          let v : eqb (type / 2 ^ 8) 3 ≡ true = grind (arith, nat_tests) in
+          let chunk : chunk_of e.tag ≡ type % 2 ^ 8 = omega arith in
+          let is : is_about e type i ≡ true = rw (id, small, here, k) (either (not (eqb (class_of e.tag) 3))) in
+          about e type i (omega arith) is (bytes_at s type) ∙ rw (k, z, w, v) (sym (ap (λ (n : ℕ). attribute_of n (with_attribute e (slot_of_id s i).attributes)) (sym chunk) ∙ attribute_same e (slot_of_id s i).attributes))
+      | inr other ↦
+          let k : eqb (kind_of e.tag) type ≡ false = grind (arith, nat_tests) in
+          let three : eqb (class_of e.tag) 3 ≡ true = grind (arith, nat_tests) in
+          let is : is_about e type i ≡ false = rw (three, k) (never (eqb (id_of e.tag) i) (ltb (class_of e.tag) 4) (eqb (class_of e.tag) (type / 2 ^ 8))) in
+          not_about e type i (omega arith) is (bytes_at s type) ∙ stays (slot_of_id s i) other (cases_eq (type / 2 ^ 8) 3)
+    ])
+  where
+    either : (b : Bool) → (b || true) ≡ true
+    either true = refl
+    either false = refl
+
+    never : (a b c : Bool) → (a && (b && (c && false))) ≡ false
+    never true true true = refl
+    never true true false = refl
+    never true false c = refl
+    never false b c = refl
+
+    stays : (r : RawSlot) → kind_of e.tag ≢ type → ((type / 2 ^ 8 ≡ 3) ⊎ (type / 2 ^ 8 ≢ 3)) → bytes_in type r ≡ bytes_in type (record r { attributes = with_attribute e r.attributes })
+    stays r other (inl three) =
+        let z : eqb (type / 2 ^ 8) 0 ≡ false = grind (arith, nat_tests) in
+        let w : eqb (type / 2 ^ 8) 2 ≡ false = grind (arith, nat_tests) in
+        let v : eqb (type / 2 ^ 8) 3 ≡ true = grind (arith, nat_tests) in
+        rw (z, w, v) (sym (attribute_other e (type % 2 ^ 8) r.attributes (λ same. other (omega arith))))
+    stays r other (inr apart) =
+        let v : eqb (type / 2 ^ 8) 3 ≡ false = grind (arith, nat_tests) in
+        rw v refl
+
+-- ---- an entry
+
+effect_finds : (e : LogEntry) (type i : ℕ) (s t : List RawSlot) → Effect s t e → Finds e type i s t
+effect_finds e type i s t (rests high_class same) = not_about e type i (omega arith) (high e type i high_class) (bytes_at s type) ∙ ap (λ (x : List RawSlot). bytes_at x type i) (sym same)
+effect_finds e type i s t (names class keeps is) = subst (Finds e type i s) (sym is) (name_finds e type i s class keeps)
+effect_finds e type i s t (creates class create le is) = subst (Finds e type i s) (sym is) (create_finds e type i s class create le)
+effect_finds e type i s t (deletes class delete lt is) = subst (Finds e type i s) (sym is) (delete_finds e type i s class delete lt)
+effect_finds e type i s t (structures class keeps lt is) = subst (Finds e type i s) (sym is) (structure_finds e type i s class keeps lt)
+effect_finds e type i s t (attributes class lt is) = subst (Finds e type i s) (sym is) (attribute_finds e type i s class lt)
+
+-- ---- all entries
+
+funext : {A B : Type 0} (f g : A → B) → ((x : A) → f x ≡ g x) → f ≡ g
+funext f g h = λ i x. h x i
+
+pub after_last : (s : RawContent) (xs : List LogEntry) (e : LogEntry) → content_after_all s (xs ++ e ∷ []) ≡ option_and_then (λ t. content_after t e) (content_after_all s xs)
+after_last s [] e = last (content_after s e)
+  where
+    last : (o : Option RawContent) → option_and_then (λ t. content_after_all t []) o ≡ o
+    last None = refl
+    last (Some t) = refl
+after_last s (x ∷ xs) e = elim (content_after s x) as (λ o. option_and_then (λ t. content_after_all t (xs ++ e ∷ [])) o ≡ option_and_then (λ t. content_after t e) (option_and_then (λ t. content_after_all t xs) o)) [
+  | None ↦ refl
+  | Some t ↦ after_last t xs e
+]
+
+-- the newest first: what a search says is what the slots hold
+pub sought_is : (es : List LogEntry) (t : RawContent) (type i : ℕ) → content_after_all no_content (reverse es) ≡ Some t → sought es type i ≡ bytes_at t.slots type i
+sought_is [] t type i h = sym (ap (λ (x : RawContent). bytes_at x.slots type i) (sym (same_Some no_content t h)) ∙ empty_bytes type)
+sought_is (e ∷ es) t type i h =
+    let split : option_and_then (λ u. content_after u e) (content_after_all no_content (reverse es)) ≡ Some t =
+    sym (after_last no_content (reverse es) e) ∙ ap (content_after_all no_content) (sym (reverse-append (e ∷ []) es)) ∙ h in
+    option_and_then_some (λ u. content_after u e) (content_after_all no_content (reverse es)) t split (λ u was is.
+    let same : (λ (j : ℕ). sought es type j) ≡ bytes_at u.slots type = funext _ _ (λ j. sought_is es u type j was) in
+    ap (settled (verdict_of e type i)) same ∙ effect_finds e type i u.slots t.slots (effect u t e is))
+
+-- the last entry is looked at first
+pub sought_last : (es front : List LogEntry) (e : LogEntry) (type i : ℕ) → es ≡ front ++ e ∷ [] → sought (reverse es) type i ≡ settled (verdict_of e type i) (λ j. sought (reverse front) type j)
+sought_last es front e type i h = ap (λ (xs : List LogEntry). sought (reverse xs) type i) h ∙ ap (λ (xs : List LogEntry). sought xs type i) (reverse-append front (e ∷ []))
+
+pub looks_within : (es : List LogEntry) (type i : ℕ) → looks es type i ≤ length es
+looks_within [] type i = omega arith
+looks_within (e ∷ es) type i = by_verdict (verdict_of e type i) (λ j. looks_within es type j)
+  where
+    by_verdict : (v : Verdict) → ((j : ℕ) → looks es type j ≤ length es) → looks_after v (λ j. looks es type j) ≤ suc (length es)
+    by_verdict (Holds bytes) within = omega arith
+    by_verdict (Was j) within = omega (arith, within j)

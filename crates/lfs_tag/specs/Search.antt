@@ -1,0 +1,46 @@
+-- How a search from the newest entry back finds what a log's slots hold, while the id shifts.
+use Rattle.std.specs.Prelude.{ℕ, ◌+◌, ◌-◌, ◌/◌, ◌^◌, ◌==◌, ◌&&◌, ◌||◌, not, nat_lt, nat_le, if◌then◌else◌, Bool, List, [], ◌∷◌, Option, Some, None}
+use Rattle.lfs_model.specs.Tag.{kind_of, id_of, class_of}
+use Rattle.lfs_model.specs.Log.{LogEntry}
+use Rattle.lfs_model.specs.Content.{create_type, removes}
+
+-- What an entry says of an id behind it: what is held for it, or which id it was before the entry.
+pub data Verdict : Type 0 where
+  Holds : (bytes : Option (List ℕ)) → Verdict
+  Was : (id : ℕ) → Verdict
+
+-- the entry is about this id, and about this type or the one that takes its place
+abbrev pub is_about : LogEntry → ℕ → ℕ → Bool
+is_about e type id =
+    id_of e.tag == id && (nat_lt (class_of e.tag) 4 && (class_of e.tag == type / 2 ^ 8 && (not (class_of e.tag == 3) || kind_of e.tag == type)))
+
+-- what a create or a delete says
+abbrev pub splice_verdict : LogEntry → ℕ → Verdict
+splice_verdict e id =
+    if kind_of e.tag == create_type
+    then (if id_of e.tag == id then Holds None else Was (if nat_lt (id_of e.tag) id then id - 1 else id))
+    else Was (if nat_le (id_of e.tag) id then id + 1 else id)
+
+abbrev pub verdict_of : LogEntry → ℕ → ℕ → Verdict
+verdict_of e type id =
+    if class_of e.tag == 4 then splice_verdict e id
+    else (if is_about e type id then Holds (if kind_of e.tag == type && not (removes e.tag) then Some e.bytes else None) else Was id)
+
+-- what a verdict comes to, where `before` is what the entries before say of an id
+abbrev pub settled : Verdict → (ℕ → Option (List ℕ)) → Option (List ℕ)
+settled (Holds bytes) before = bytes
+settled (Was id) before = before id
+
+-- what entries say of a type and an id, the newest first
+abbrev pub sought : List LogEntry → ℕ → ℕ → Option (List ℕ)
+sought [] type id = None
+sought (e ∷ es) type id = settled (verdict_of e type id) (λ i. sought es type i)
+
+abbrev pub looks_after : Verdict → (ℕ → ℕ) → ℕ
+looks_after (Holds bytes) before = 1
+looks_after (Was id) before = 1 + before id
+
+-- how many entries are looked at for that, the newest first
+abbrev pub looks : List LogEntry → ℕ → ℕ → ℕ
+looks [] type id = 0
+looks (e ∷ es) type id = looks_after (verdict_of e type id) (λ i. looks es type i)

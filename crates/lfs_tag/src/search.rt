@@ -1,0 +1,96 @@
+// What a log holds of a type for an id, found from its newest entry back.
+
+ghost use Rattle.std.specs.Prelude.{◌≡◌, ℕ, ◌+◌, ◌-◌, ◌≤◌, ◌<◌, ◌^◌, ◌/◌, List, length, reverse, min, Some};
+ghost use Rattle.std.specs.Option.{option_copied};
+ghost use Rattle.lfs_model.specs.Log.{log_entries};
+ghost use Rattle.lfs_model.specs.Content.{RawContent, content_after_all, no_content};
+ghost use Rattle.lfs_model.specs.Lookup.{bytes_at};
+ghost use Rattle.lfs_tag.specs.Search.{splice_verdict, verdict_of, sought, looks};
+ghost use Rattle.lfs_tag.specs.VerdictSeen.{verdict_seen};
+ghost use Rattle.lfs_tag.specs.Seen.{seen};
+
+use crate::entries::Entries;
+use crate::entry::Entry;
+use crate::kinds::{ATTRIBUTE_CLASS, CREATE, SPLICE_CLASS};
+use crate::log::Log;
+use crate::steps::Steps;
+
+// What an entry says of an id behind it.
+enum Verdict<'a> {
+    // The bytes that are held for it, if any are.
+    Holds(Option<&'a [u8]>),
+    // The id that it was before the entry.
+    Was(u64),
+}
+
+// What a create or a delete says of an id behind it.
+fn splice_verdict<'a>(entry: &Entry<'a>, id: u64) -> Verdict<'a>
+    requires { id < 2 ^ 64 - 1 }
+    ensures { verdict_seen result ≡ splice_verdict (seen entry.now) id }
+{
+    let at = u64::from(entry.tag.id());
+    if entry.tag.kind() == CREATE {
+        if at == id {
+            Verdict::Holds(None)
+        } else {
+            Verdict::Was(if at < id { id - 1 } else { id })
+        }
+    } else {
+        Verdict::Was(if at <= id { id + 1 } else { id })
+    }
+}
+
+// What an entry says of a type and an id behind it.
+fn verdict_of<'a>(entry: &Entry<'a>, kind: u16, id: u64) -> Verdict<'a>
+    requires { id < 2 ^ 64 - 1 }
+    ensures { verdict_seen result ≡ verdict_of (seen entry.now) kind id }
+{
+    let tag = entry.tag;
+    let class = tag.class();
+    let at = u64::from(tag.id());
+    if class == SPLICE_CLASS {
+        return splice_verdict(entry, id);
+    }
+    let is_about = at == id
+        && class < SPLICE_CLASS
+        && class == kind >> 8
+        && (class != ATTRIBUTE_CLASS || tag.kind() == kind);
+    if !is_about {
+        Verdict::Was(id)
+    } else if tag.kind() == kind && tag.len() != 0x3ff {
+        Verdict::Holds(Some(entry.bytes))
+    } else {
+        Verdict::Holds(None)
+    }
+}
+
+// Searches from the newest entry back; answers also how many entries it looked at.
+fn search<'a>(mut entries: Entries<'a>, kind: u16, mut id: u64) -> (Option<&'a [u8]>, u64)
+    requires { id + length entries < 2 ^ 63 }
+    ensures held { option_copied result.0 ≡ sought (reverse entries.entry) kind id }
+    ensures looks { result.1 ≡ looks (reverse entries.entry) kind id }
+{
+    let mut looks = 0;
+    while let Some(entry) = entries.next_back() {
+        looks += 1;
+        match verdict_of(&entry, kind, id) {
+            Verdict::Holds(bytes) => return (bytes, looks),
+            Verdict::Was(earlier) => id = earlier,
+        }
+    }
+    (None, looks)
+}
+
+/// The bytes of a name's, a struct's or an attribute's type that a log now holds for an id; `None`
+/// exactly where it holds none, in any log that isn't malformed. A slot holds one name and one
+/// struct, so of another type than these have there is none. Ticks `steps` for each entry that it
+/// looks at, of which there are no more than the log has.
+pub fn get<'a>(log: &Log<'a>, kind: u16, id: u16, steps: &mut Steps) -> Option<&'a [u8]>
+    ensures held { (c : RawContent) → content_after_all no_content (log_entries log.now) ≡ Some c → option_copied result ≡ bytes_at c.slots kind id }
+    ensures steps { steps.new ≡ min (steps.old + looks (reverse (log_entries log.now)) kind id) (2 ^ 64 - 1) }
+    ensures bound { steps.new ≤ steps.old + length (log_entries log.now) }
+{
+    let found = search(log.entries(), kind, u64::from(id));
+    steps.add(found.1);
+    found.0
+}

@@ -1,0 +1,20 @@
+-- What 64 blocks' marks say of each.
+use Rattle.std.specs.Prelude.{ℕ, ◌==◌, if◌then◌else◌}
+use Rattle.std.specs.Int.{bit_at}
+use Rattle.lfs_model.specs.BlockSets.{BlockState}
+use Rattle.lfs_model.specs.BlockSets.BlockState.{Free, InFlight, Used}
+use Rattle.lfs_alloc.specs.declared.marks.Marks.{Marks}
+use Rattle.lfs_alloc.specs.declared.marks.State.{State}
+use Rattle.lfs_alloc.specs.declared.marks.State.TheVariants as state
+
+abbrev pub shown : State → BlockState
+shown state.Free = Free
+shown state.InFlight = InFlight
+shown state.Used = Used
+
+-- the state of the block at a place
+abbrev pub state_in : Marks → ℕ → BlockState
+state_in marks place =
+    if bit_at marks.used place == 1 then Used
+    else if bit_at marks.in_flight place == 1 then InFlight
+    else Free

@@ -1,0 +1,214 @@
+ghost use Rattle.std.specs.Prelude.{◌≡◌, ◌≤◌, ◌<◌, ◌↔◌, ℕ, Some, length, replicate, slice_get, slice_set, IsTrue, IfErr, IfNone, IfOk, IfSome};
+ghost use Rattle.std.specs.Bool.{OnFalse, OnTrue};
+ghost use Rattle.lfs_model.specs.BlockSets.{IsFree, IsInFlight, IsUsed, used_count};
+ghost use Rattle.lfs_model.specs.BlockSets.BlockState.{Free, InFlight, Used};
+ghost use Rattle.lfs_alloc.specs.Marks.{shown};
+
+use crate::marks::{Marks, State};
+use lfs_device::Error;
+use std::alloc::Global;
+use std::marker::Model;
+
+/// Which blocks are used and which are in flight, that is handed out and not settled yet. No block is both.
+///
+/// A contract sees the state of each block, by its number.
+#[derive(Drop)]
+pub struct BlockMap {
+    marks: Vec<Marks>,
+    block_count: u32,
+    used_count: u32,
+    // where the search for a free block goes on
+    next: u32,
+}
+
+impl Model for BlockMap {
+    ghost use Rattle.std.specs.Prelude.{List};
+    ghost use Rattle.lfs_model.specs.BlockSets.{BlockState};
+    ghost use Rattle.lfs_alloc.specs.BlockMap.{IsMap, sets_of};
+
+    ghost Value = { List BlockState };
+
+    ghost view = { λ map. sets_of map.marks.items map.block_count };
+
+    ghost invariant = { λ map. IsMap map.marks.items map.block_count map.used_count map.next };
+}
+
+impl BlockMap {
+    /// A map of so many blocks, all of them free. No other call takes memory.
+    ///
+    /// NoMemory where there is none for it, about a quarter of a byte for each block.
+    pub fn new(alloc: Global, block_count: u32) -> Result<BlockMap, Error>
+        ensures free { IfOk result (λ map. map ≡ replicate block_count Free) }
+        ensures error { IfErr result (λ e. e ≡ Error.NoMemory) }
+    {
+        let marks = Vec::from_elem(alloc, Marks::none(), block_count.div_ceil(64) as usize)?;
+        Ok(BlockMap {
+            marks,
+            block_count,
+            used_count: 0,
+            next: 0,
+        })
+    }
+
+    /// Whether a block is used. One in flight isn't.
+    pub fn is_used(&self, block: u32) -> bool
+        requires { block < length self.now }
+        ensures { IsTrue result ↔ IsUsed self.now block }
+    {
+        self.state(block).is_used()
+    }
+
+    /// How many blocks are used.
+    pub fn used_count(&self) -> u32
+        ensures { result ≡ used_count self.now }
+    {
+        self.used_count
+    }
+
+    /// Makes a free block used, and says whether it was free. Where it wasn't, nothing changes.
+    pub fn mark(&mut self, block: u32) -> bool
+        requires { block < length self.old }
+        ensures free { IsTrue result ↔ IsFree self.old block }
+        ensures marked { OnTrue result (self.new ≡ slice_set self.old block Used) }
+        ensures same { OnFalse result (self.new ≡ self.old) }
+    {
+        let is_free = self.state(block) == State::Free;
+        if is_free {
+            self.set(block, State::Used);
+        }
+        is_free
+    }
+
+    /// Hands out a free block, which is then in flight until it is settled or released. None where no block is free.
+    ///
+    /// The blocks come in turn, from the one after the last that was taken, so that all of them wear alike.
+    pub fn take(&mut self) -> Option<u32>
+        ensures was_free { IfSome result (IsFree self.old) }
+        ensures taken { IfSome result (λ block. self.new ≡ slice_set self.old block InFlight) }
+        ensures none { IfNone result ((block : ℕ) → ¬ (IsFree self.old block)) }
+        ensures same { IfNone result (self.new ≡ self.old) }
+    {
+        let block = self.next_free()?;
+        self.set(block, State::InFlight);
+        self.next = block + 1;
+        Some(block)
+    }
+
+    /// Makes a block free, whether it was used or in flight.
+    pub fn release(&mut self, block: u32)
+        requires { block < length self.old }
+        ensures { self.new ≡ slice_set self.old block Free }
+    {
+        self.set(block, State::Free);
+    }
+
+    /// Makes a block in flight used: a commit that names it has succeeded.
+    pub fn settle(&mut self, block: u32)
+        requires { IsInFlight self.old block }
+        ensures { self.new ≡ slice_set self.old block Used }
+    {
+        self.set(block, State::Used);
+    }
+
+    fn state(&self, block: u32) -> State
+        requires { block < length self.now }
+        ensures { slice_get self.now block ≡ Some (shown result) }
+    {
+        self.marks[block as usize / 64].state(block % 64)
+    }
+
+    fn set(&mut self, block: u32, state: State)
+        requires { block < length self.old }
+        ensures { self.new ≡ slice_set self.old block (shown state) }
+    {
+        let marks = &mut self.marks[block as usize / 64];
+        let was = marks.state(block % 64);
+        *marks = marks.with(block % 64, state);
+        self.used_count -= u32::from(was.is_used());
+        self.used_count += u32::from(state.is_used());
+    }
+
+    // The first free block after the last that was taken, the blocks before that coming last.
+    fn next_free(&self) -> Option<u32>
+        ensures found { IfSome result (IsFree self.now) }
+        ensures not_last { IfSome result (λ block. block < u32.MAX) }
+        ensures none { IfNone result ((block : ℕ) → ¬ (IsFree self.now block)) }
+    {
+        self.free_from(self.next).or_else(|| self.free_from(0))
+    }
+
+    // The first free block from a block on.
+    fn free_from(&self, start: u32) -> Option<u32>
+        requires { start ≤ length self.now }
+        ensures found { IfSome result (IsFree self.now) }
+        ensures not_last { IfSome result (λ block. block < u32.MAX) }
+        ensures none { IfNone result ((block : ℕ) → start ≤ block → ¬ (IsFree self.now block)) }
+    {
+        let block_count = self.block_count as usize;
+        let mut place = start % 64;
+        for index in start as usize / 64..self.marks.len() {
+            if let Some(free) = self.marks[index].first_free(place) {
+                let block = index * 64 + free as usize;
+                return if block < block_count {
+                    Some(block as u32)
+                } else {
+                    None
+                };
+            }
+            place = 0;
+        }
+        None
+    }
+}
+
+#[cfg(test)]
+mod tests {
+    use super::*;
+    use std::process::Abort;
+    use std::test::Fail;
+
+    #[test]
+    fn two_blocks(rt: HostRuntime) -> Result<(), Fail> {
+        let mut map = BlockMap::new(rt.alloc(), 2)?;
+        assert_eq!(rt; map.take(), Some(0));
+        assert!(rt; !map.mark(0) && !map.is_used(0));
+        assert!(rt; map.mark(1) && map.is_used(1));
+        assert!(rt; !map.mark(1));
+        assert_eq!(rt; map.take(), None);
+        assert_eq!(rt; map.used_count(), 1);
+        map.release(1);
+        // A released block isn't the next, where another is free behind the last one taken.
+        map.release(0);
+        assert_eq!(rt; map.used_count(), 0);
+        assert_eq!(rt;
+            (map.take(), map.take(), map.take()),
+            (Some(1), Some(0), None)
+        );
+        Ok(())
+    }
+
+    // Takes each block in turn, and settles it.
+    fn fill(rt: &impl Abort, map: &mut BlockMap, block_count: u32)
+        ensures { length map.new ≡ length map.old }
+    {
+        for block in 0..block_count {
+            let taken = map.take();
+            assert_eq!(rt; taken, Some(block));
+            map.settle(block);
+        }
+        assert_eq!(rt; map.take(), None);
+    }
+
+    #[test]
+    fn the_most_blocks(rt: HostRuntime) -> Result<(), Fail> {
+        let mut map = BlockMap::new(rt.alloc(), 65536)?;
+        fill(&rt, &mut map, 65536);
+        assert_eq!(rt; map.used_count(), 65536);
+        for block in 0..65536 {
+            map.release(block);
+        }
+        assert_eq!(rt; map.used_count(), 0);
+        fill(&rt, &mut map, 65536);
+        Ok(())
+    }
+}

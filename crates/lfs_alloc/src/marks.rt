@@ -1,0 +1,94 @@
+//! The states of 64 blocks in two words.
+
+ghost use Rattle.std.specs.Prelude.{◌≡◌, ◌≢◌, ℕ, ◌<◌, ◌≤◌, IfNone, IfSome};
+ghost use Rattle.lfs_model.specs.BlockSets.{is_used};
+ghost use Rattle.lfs_model.specs.BlockSets.BlockState.{Free};
+ghost use Rattle.lfs_alloc.specs.Marks.{shown, state_in};
+
+/// What a block is to the map.
+#[derive(Clone, Copy, PartialEq, Eq)]
+pub enum State {
+    Free,
+    InFlight,
+    Used,
+}
+
+impl State {
+    pub fn is_used(self) -> bool
+        ensures { result ≡ is_used (shown self) }
+    {
+        matches!(self, State::Used)
+    }
+}
+
+/// The states of 64 blocks in a row. Bit `k` of each word is the block's at place `k`.
+#[derive(Clone, Copy)]
+pub struct Marks {
+    used: u64,
+    in_flight: u64,
+}
+
+impl Marks {
+    /// All 64 are free.
+    pub fn none() -> Marks
+        ensures { (place : ℕ) → state_in result place ≡ Free }
+    {
+        Marks {
+            used: 0,
+            in_flight: 0,
+        }
+    }
+
+    pub fn state(self, place: u32) -> State
+        requires { place < 64 }
+        ensures { shown result ≡ state_in self place }
+    {
+        let bit = 1u64 << place;
+        if self.used & bit != 0 {
+            State::Used
+        } else if self.in_flight & bit != 0 {
+            State::InFlight
+        } else {
+            State::Free
+        }
+    }
+
+    /// The same with one block in another state.
+    pub fn with(self, place: u32, state: State) -> Marks
+        requires { place < 64 }
+        ensures here { state_in result place ≡ shown state }
+        ensures others { (other : ℕ) → other < 64 → other ≢ place → state_in result other ≡ state_in self other }
+    {
+        let bit = 1u64 << place;
+        let used = self.used & !bit;
+        let in_flight = self.in_flight & !bit;
+        match state {
+            State::Free => Marks { used, in_flight },
+            State::InFlight => Marks {
+                used,
+                in_flight: in_flight | bit,
+            },
+            State::Used => Marks {
+                used: used | bit,
+                in_flight,
+            },
+        }
+    }
+
+    /// The first free block from a place on.
+    pub fn first_free(self, start: u32) -> Option<u32>
+        requires { start < 64 }
+        ensures found { IfSome result (λ place. state_in self place ≡ Free) }
+        ensures within { IfSome result (λ place. (start ≤ place) × (place < 64)) }
+        ensures first { IfSome result (λ found. (place : ℕ) → start ≤ place → place < found → state_in self place ≢ Free) }
+        ensures none { IfNone result ((place : ℕ) → start ≤ place → place < 64 → state_in self place ≢ Free) }
+    {
+        let passed = (1u64 << start) - 1;
+        let taken = self.used | self.in_flight | passed;
+        if taken == u64::MAX {
+            None
+        } else {
+            Some(taken.trailing_ones())
+        }
+    }
+}

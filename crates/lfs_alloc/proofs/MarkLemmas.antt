@@ -1,12 +1,10 @@
 -- The state that two bits show.
-use Rattle.std.proofs.Common.{◌≡◌, ◌≢◌, ℕ, ◌+◌, ◌-◌, ◌*◌, ◌/◌, ◌%◌, ◌^◌, ◌<◌, ◌≤◌, max, Bool, true, false, cond, eqb, bit_and, bit_or, refl, sym, ap, ◌∙◌, ⊎_elim, arith, w64}
+use Rattle.std.proofs.Common.{◌≡◌, ◌≢◌, ℕ, ◌+◌, ◌-◌, ◌*◌, ◌%◌, ◌^◌, ◌<◌, ◌≤◌, max, bit_and, bit_or, sym, ap, ◌∙◌, ⊎_elim, arith, w64}
 use Rattle.std.proofs.lemmas.Bool.{cases_lt}
 use Rattle.std.specs.Int.{bit_at, bit_not, trailing_ones}
-use Rattle.std.proofs.lemmas.Nat.Bits.{and_pow, bit_at-lt, bit_at_or, bit_at_ones, bit_at_ones_above, bit_at-trailing_ones, bit_at_set_same, bit_at_set_other, bit_at_clear_same, bit_at_clear_other, same_from_bits_below}
+use Rattle.std.proofs.lemmas.Nat.Bits.{and_pow, bit_at-lt, bit_at_or, bit_at_ones, bit_at_ones_above, bit_at-trailing_ones, bit_at_set_same, bit_at_set_other, bit_at_clear_other}
 use Rattle.std.proofs.lemmas.Nat.{one_shl, or_lt, pow_below, pow_pos}
-use Rattle.std.proofs.Math.Nat.{mul-le-mul_left}
 use mir.Val.{bits}
-use Rattle.lfs_model.specs.BlockSets.{BlockState}
 use Rattle.lfs_model.specs.BlockSets.BlockState.{Free, InFlight, Used}
 use Rattle.lfs_alloc.specs.declared.marks.Marks.{Marks}
 use Rattle.lfs_alloc.specs.Marks.{state_in}

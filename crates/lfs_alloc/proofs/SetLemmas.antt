@@ -1,13 +1,13 @@
 -- What marks show of the blocks of a device, and what a change of one block changes.
-use Rattle.std.proofs.Common.{◌≡◌, ◌≢◌, ℕ, zero, suc, ◌+◌, ◌-◌, ◌*◌, ◌/◌, ◌%◌, ◌<◌, ◌≤◌, Bool, true, false, cond, List, [], ◌∷◌, Option, Some, length, map, replicate, get_or, set, refl, sym, ap, ◌∙◌, ⊎_elim, inl, inr, arith}
-use Rattle.std.specs.List.{range_with_len, slice_get, count_by}
+use Rattle.std.proofs.Common.{◌≡◌, ◌≢◌, ℕ, zero, suc, ◌+◌, ◌-◌, ◌*◌, ◌/◌, ◌%◌, ◌<◌, ◌≤◌, Bool, cond, List, Some, length, replicate, get_or, set, refl, sym, ap, ◌∙◌, ⊎_elim, arith}
+use Rattle.std.specs.List.{slice_get, count_by}
 use Rattle.std.proofs.lemmas.Bool.{cases_eq, cases_lt}
 use Rattle.std.proofs.lemmas.List.{get_or-set_same, get_or-set_other, length-set, length-replicate, get_or-replicate}
 use Rattle.std.proofs.lemmas.List.Sums.{sum_by-set, count_by-le-length}
 use Rattle.std.proofs.lemmas.List.FromFn.{length-map-range_with_len, get_or-map-range_with_len, fill_by_all}
 use Rattle.std.proofs.lemmas.Option.{slice_get-get_or, slice_get_within, same_Some}
-use Rattle.lfs_model.specs.BlockSets.{BlockState, BlockSets, IsFree, is_used, used_count}
-use Rattle.lfs_model.specs.BlockSets.BlockState.{Free, InFlight, Used}
+use Rattle.lfs_model.specs.BlockSets.{BlockState, IsFree, is_used, used_count}
+use Rattle.lfs_model.specs.BlockSets.BlockState.{Free}
 use Rattle.lfs_alloc.specs.declared.marks.Marks.{Marks}
 use Rattle.lfs_alloc.specs.Marks.{state_in}
 use Rattle.lfs_alloc.specs.BlockMap.{IsMap, no_marks, state_at, sets_of}

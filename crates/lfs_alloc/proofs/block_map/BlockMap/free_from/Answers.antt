@@ -1,7 +1,5 @@
-use Rattle.std.proofs.Common.{arith, rules, ap, sym, ◌∙◌, ◌≡◌, ◌≢◌, ℕ, ◌<◌, ◌≤◌, ◌+◌, ◌*◌, ◌^◌, length, get_or}
+use Rattle.std.proofs.Common.{arith, rules, ap, sym, ◌∙◌, ◌≡◌, ◌<◌, ◌^◌, get_or}
 use Rattle.std.proofs.lemmas.List.{get_or_read}
-use Rattle.lfs_model.specs.BlockSets.{IsFree}
-use Rattle.lfs_model.specs.BlockSets.BlockState.{Free}
 use Rattle.lfs_alloc.specs.Marks.{state_in}
 use Rattle.lfs_alloc.specs.BlockMap.{no_marks}
 use Rattle.lfs_alloc.proofs.SetLemmas.{IsFree-sets_of, free_at, none_free_before}

@@ -1,4 +1,4 @@
-use Rattle.std.proofs.Common.{◌≡◌, ◌≢◌, ℕ, ◌+◌, ◌*◌, ◌/◌, ◌<◌, ◌≤◌}
+use Rattle.std.proofs.Common.{◌≢◌, ℕ, ◌+◌, ◌*◌, ◌<◌, ◌≤◌}
 use Rattle.lfs_model.specs.BlockSets.BlockState.{Free}
 use Rattle.lfs_alloc.specs.BlockMap.{state_at}
 use Rattle.lfs_alloc.proofs.block_map.BlockMap.free_from.Given as goal

@@ -1,5 +1,4 @@
-use Rattle.std.proofs.Common.{arith, ap, sym, ◌∙◌, ◌≡◌, ◌≤◌, ℕ, ◌*◌, replicate}
-use Rattle.lfs_model.specs.BlockSets.BlockState.{Free}
+use Rattle.std.proofs.Common.{arith, ap, ◌∙◌, ◌≡◌, replicate}
 use Rattle.lfs_alloc.specs.BlockMap.{sets_of}
 use Rattle.lfs_alloc.proofs.SetLemmas.{IsMap-replicate, sets_of-replicate}
 use Rattle.lfs_alloc.proofs.block_map.BlockMap.new.Goals as goal

@@ -1,4 +1,4 @@
-use Rattle.std.proofs.Common.{arith, ap, sym, ◌∙◌, ◌≡◌, ◌≢◌, ℕ, ◌<◌, ◌≤◌, ◌*◌, ◌/◌, ◌%◌, ◌^◌, Bool, true, false, cond, length, get_or, set, refl, List, rules}
+use Rattle.std.proofs.Common.{arith, ap, ◌∙◌, ◌≡◌, ◌<◌, ◌/◌, ◌%◌, ◌^◌, Bool, true, false, cond, length, get_or, set, refl, rules}
 use Rattle.std.proofs.lemmas.List.{get_or_read}
 use mir.Val.{bool_byte}
 use Rattle.lfs_model.specs.BlockSets.{is_used}

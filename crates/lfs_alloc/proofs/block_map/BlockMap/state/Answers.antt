@@ -3,7 +3,7 @@ use Rattle.std.specs.List.{slice_get}
 use Rattle.std.proofs.lemmas.List.{get_or_read}
 use Rattle.lfs_alloc.specs.BlockMap.{no_marks}
 use Rattle.lfs_alloc.specs.Marks.{state_in}
-use Rattle.lfs_alloc.proofs.SetLemmas.{length-sets_of, slice_get-sets_of, count_by-set, sets_of-set, state_at-place, IsFree-sets_of}
+use Rattle.lfs_alloc.proofs.SetLemmas.{length-sets_of, slice_get-sets_of}
 use Rattle.lfs_alloc.proofs.block_map.BlockMap.state.Goals as goal
 
 pub index-requires : goal.index-requires

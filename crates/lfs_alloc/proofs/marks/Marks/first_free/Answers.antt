@@ -1,5 +1,5 @@
-use Rattle.std.proofs.Common.{◌<◌, ◌^◌, ◌≡◌, rules}
-use Rattle.lfs_alloc.proofs.MarkLemmas.{IsFirstFree, IsFirstFree-trailing_ones, not_free-from_full, taken_by}
+use Rattle.std.proofs.Common.{◌<◌, ◌^◌, rules}
+use Rattle.lfs_alloc.proofs.MarkLemmas.{IsFirstFree, IsFirstFree-trailing_ones, not_free-from_full}
 use Rattle.lfs_alloc.proofs.marks.Marks.first_free.Goals as goal
 use Rattle.lfs_alloc.proofs.marks.Marks.first_free.Goals.{After-trailing_ones}
 

@@ -16,6 +16,17 @@ pointers_of (suc i) = trailing_zeros w32 (suc i) + 1
 abbrev pub capacity_of : ℕ → ℕ → ℕ
 capacity_of block_size i = block_size - 4 * pointers_of i
 
+-- how many of the file's bytes the blocks before block i hold
+abbrev pub bytes_before : ℕ → ℕ → ℕ
+bytes_before block_size zero = 0
+bytes_before block_size (suc i) = bytes_before block_size i + capacity_of block_size i
+
+-- the file's byte pos stands in block index of the list, at that offset of the block
+pub record IsPlace (block_size pos index offset : ℕ) : Type 0 where
+  pub from : bytes_before block_size index ≤ pos
+  pub below : pos < bytes_before block_size index + capacity_of block_size index
+  pub at : offset ≡ 4 * pointers_of index + (pos - bytes_before block_size index)
+
 -- the least number of blocks that hold size bytes, from block i on; steps bounds it
 abbrev pub blocks_from : ℕ → ℕ → ℕ → ℕ → ℕ
 blocks_from zero block_size i size = 0

@@ -1,0 +1,186 @@
+-- How many bytes the blocks of a list hold, by the number of ones of an index.
+use Rattle.std.proofs.Common.{ℕ, zero, suc, ◌≡◌, ◌+◌, ◌*◌, ◌-◌, ◌/◌, ◌%◌, ◌<◌, ◌≤◌, ◌^◌, ◌⊎◌, inl, inr, refl, sym, ap, ap₂, subst, ◌∙◌, arith}
+use Rattle.std.proofs.Common.{⊎_elim, add-one, if◌then◌else◌, ◌==◌, false}
+use Rattle.std.proofs.lemmas.Bool.Decides.{nat_tests}
+use Rattle.std.proofs.Math.Nat.{mul-suc, mul_comm, div-add-mod}
+use Rattle.std.proofs.lemmas.Nat.{mul-le, mod_below, div-mul-add}
+use Rattle.std.proofs.lemmas.Bool.{cases_lt}
+use lib.Count.{ones, ones_step, ones-le, count_trailing_zeros, under, trailing_le}
+use Rattle.lfs_model.specs.Lists.{pointers_of, capacity_of, bytes_before, IsPlace, blocks_from, blocks_for}
+
+-- ---- the ones of a number and of the next one differ by its zeros behind
+
+ones_even : (n p : ℕ) → n % 2 ≡ 0 → n / 2 ≡ p → ones n ≡ ones p
+ones_even n p e f = ones_step n ∙ ap₂ (λ r q. r + ones q) e f ∙ omega arith
+
+ones_odd : (n p : ℕ) → n % 2 ≡ 1 → n / 2 ≡ p → ones n ≡ 1 + ones p
+ones_odd n p e f = ones_step n ∙ ap₂ (λ r q. r + ones q) e f
+
+zeros_even : (k n p : ℕ) → n % 2 ≡ 0 → n / 2 ≡ p → count_trailing_zeros (suc k) n ≡ suc (count_trailing_zeros k p)
+unfolding count_trailing_zeros
+zeros_even k n p e f = ap₂ (λ r q. under r (count_trailing_zeros k q)) e f
+
+zeros_odd : (k n : ℕ) → n % 2 ≡ 1 → count_trailing_zeros (suc k) n ≡ 0
+unfolding count_trailing_zeros
+zeros_odd k n e = ap (λ r. under r (count_trailing_zeros k (n / 2))) e
+
+ones_next : (k n : ℕ) → suc n < 2 ^ k → ones (suc n) + count_trailing_zeros k (suc n) ≡ ones n + 1
+ones_next zero n h = absurd (omega arith)
+ones_next (suc k) n h = go (λ p l. ones_next k p l) (suc n % 2) (suc n / 2) refl refl
+  where
+    go : ((p : ℕ) → suc p < 2 ^ k → ones (suc p) + count_trailing_zeros k (suc p) ≡ ones p + 1)
+        → (r q : ℕ) → suc n % 2 ≡ r → suc n / 2 ≡ q → ones (suc n) + count_trailing_zeros (suc k) (suc n) ≡ ones n + 1
+    go before zero zero e f = absurd (omega arith)
+    go before zero (suc p) e f =
+        let half : suc p < 2 ^ k = omega arith in
+        let ih = before p half in
+        let odd : ones n ≡ 1 + ones p = ones_odd n p (omega arith) (omega arith) in
+        let even = ones_even (suc n) (suc p) e f in
+        let zeros = zeros_even k (suc n) (suc p) e f in
+        omega arith
+    go before (suc zero) q e f =
+        let even : ones n ≡ ones q = ones_even n q (omega arith) (omega arith) in
+        let odd = ones_odd (suc n) q e f in
+        let zeros = zeros_odd k (suc n) e in
+        omega arith
+    go before (suc (suc r)) q e f = absurd (omega arith)
+
+-- ---- the bytes before a block
+
+-- blocks 0 to n hold so many
+pub bytes_before-suc : (block_size n : ℕ) → 1024 ≤ block_size → n < 2 ^ 32 → bytes_before block_size (suc n) ≡ (block_size - 8) * n + block_size + 4 * ones n
+bytes_before-suc block_size zero le h =
+    let none = ones-le 0 0 (omega arith) in
+    omega arith
+bytes_before-suc block_size (suc n) le h =
+    let ih = bytes_before-suc block_size n le (omega arith) in
+    let next = ones_next 32 n h in
+    let few = trailing_le 32 (suc n) in
+    let product = mul-suc (block_size - 8) n in
+    omega arith
+
+-- ---- the place of a byte
+
+module _ (block_size pos : ℕ) (large : 1024 ≤ block_size) where
+  place_at : (i : ℕ) → i < 2 ^ 32 → bytes_before block_size i ≤ pos → pos < (block_size - 8) * i + block_size + 4 * ones i
+      → (4 * ones i ≤ pos - (block_size - 8) * i) × IsPlace block_size pos i (pos - (block_size - 8) * i - 4 * ones i)
+  place_at zero h from below =
+      let none = ones-le 0 0 (omega arith) in
+      (omega arith, record { from = omega arith; below = omega arith; at = omega arith })
+  place_at (suc n) h from below =
+      let before = bytes_before-suc block_size n large (omega arith) in
+      let next = ones_next 32 n h in
+      let few = trailing_le 32 (suc n) in
+      let product = mul-suc (block_size - 8) n in
+      (omega arith, record { from = omega arith; below = omega arith; at = omega arith })
+
+  -- the block's index by the formula
+  abbrev pub index_by : ℕ → ℕ
+  index_by guess = (pos - 4 * (ones (guess - 1) + 2)) / (block_size - 8)
+
+  abbrev pub IsPlaceBy : ℕ → Type 0
+  IsPlaceBy i = (4 * ones i ≤ pos - (block_size - 8) * i) × IsPlace block_size pos i (pos - (block_size - 8) * i - 4 * ones i)
+
+  place_is : (i j : ℕ) → j ≡ i → i < 2 ^ 32 → bytes_before block_size i ≤ pos → pos < (block_size - 8) * i + block_size + 4 * ones i → IsPlaceBy j
+  place_is i j e h from below = subst IsPlaceBy (sym e) (place_at i h from below)
+
+  -- a guess that is right, or one too great
+  index_is : (g i r : ℕ) → r < block_size - 8 → pos - 4 * (ones g + 2) ≡ i * (block_size - 8) + r → index_by (suc g) ≡ i
+  index_is g i r lt e =
+      let same : suc g - 1 ≡ g = omega arith in
+      ap (λ n. (pos - 4 * (ones n + 2)) / (block_size - 8)) same ∙ ap (λ n. n / (block_size - 8)) e ∙ div-mul-add i (block_size - 8) r lt
+
+  bytes_before-le : (g : ℕ) → suc g < 2 ^ 32 → (block_size - 8) * suc g ≤ pos → bytes_before block_size g ≤ pos
+  bytes_before-le zero h le = omega arith
+  bytes_before-le (suc n) h le =
+      let before = bytes_before-suc block_size n large (omega arith) in
+      let few = ones-le 32 n (omega arith) in
+      let product = mul-suc (block_size - 8) n in
+      let product_next = mul-suc (block_size - 8) (suc n) in
+      omega arith
+
+  pub place_by : pos < 2 ^ 32 → (g : ℕ) → pos / (block_size - 8) ≡ suc g → IsPlaceBy (index_by (suc g))
+  place_by low g e = go (pos % (block_size - 8)) (ap (λ q. (block_size - 8) * q + pos % (block_size - 8)) (sym e) ∙ div-add-mod pos (block_size - 8)) (mod_below pos (block_size - 8) (omega arith))
+    where
+      go : (r : ℕ) → (block_size - 8) * suc g + r ≡ pos → r < block_size - 8 → IsPlaceBy (index_by (suc g))
+      go r split lt =
+          let product = mul-suc (block_size - 8) g in
+          let product_next = mul-suc (block_size - 8) (suc g) in
+          let turned = mul_comm (block_size - 8) g in
+          let turned_next = mul_comm (block_size - 8) (suc g) in
+          let guess : suc g < 2 ^ 32 = omega (arith, mul-le 1 (suc g) (block_size - 8) (suc g) (omega arith) (omega arith)) in
+          let few = ones-le 32 g (omega arith) in
+          let before = bytes_before-suc block_size g large (omega arith) in
+          ⊎_elim
+          (λ less. place_is g (index_by (suc g)) (index_is g g ((block_size - 8) + r - 4 * (ones g + 2)) (omega arith) (omega arith)) (omega arith) (bytes_before-le g guess (omega arith)) (omega arith))
+          (λ more. place_is (suc g) (index_by (suc g)) (index_is g (suc g) (r - 4 * (ones g + 2)) (omega arith) (omega arith)) guess (omega arith) (omega arith))
+          (cases_lt r (8 + 4 * ones g))
+
+  pub place_by_guess : pos < 2 ^ 32 → (pos / (block_size - 8) ≡ 0 → ⊥) → IsPlaceBy (index_by (pos / (block_size - 8)))
+  place_by_guess low some =
+      let is : pos / (block_size - 8) ≡ suc (pos / (block_size - 8) - 1) = omega arith in
+      subst (λ q. IsPlaceBy (index_by q)) (sym is) (place_by low (pos / (block_size - 8) - 1) is)
+
+-- ---- the blocks that hold so many bytes
+
+pub pointers_of-le : (i : ℕ) → pointers_of i ≤ 33
+pointers_of-le zero = omega arith
+pointers_of-le (suc i) = let few = trailing_le 32 (suc i) in omega arith
+
+pub capacity_of-pos : (block_size i : ℕ) → 1024 ≤ block_size → 892 ≤ capacity_of block_size i
+capacity_of-pos block_size i large = let few = pointers_of-le i in omega arith
+
+-- further blocks hold more
+pub bytes_before-more : (block_size i j : ℕ) → i ≤ j → bytes_before block_size i ≤ bytes_before block_size j
+bytes_before-more block_size zero zero le = omega arith
+bytes_before-more block_size (suc i) zero le = absurd (omega arith)
+bytes_before-more block_size i (suc j) le =
+    ⊎_elim (λ here. let before = bytes_before-more block_size i j (omega arith) in omega arith)
+    (λ past. let same : i ≡ suc j = omega arith in subst (λ n. bytes_before block_size n ≤ bytes_before block_size (suc j)) (sym same) (omega arith))
+    (cases_lt i (suc j))
+
+bytes_before-least : (block_size i : ℕ) → 1024 ≤ block_size → 892 * i ≤ bytes_before block_size i
+bytes_before-least block_size zero large = omega arith
+bytes_before-least block_size (suc i) large =
+    let before = bytes_before-least block_size i large in
+    let one = capacity_of-pos block_size i large in
+    omega arith
+
+blocks_from-none : (steps block_size i : ℕ) → blocks_from steps block_size i 0 ≡ 0
+blocks_from-none zero block_size i = refl
+blocks_from-none (suc steps) block_size i = refl
+
+blocks_from-some : (steps block_size i size : ℕ) → 1 ≤ size → blocks_from (suc steps) block_size i size ≡ 1 + blocks_from steps block_size (i + 1) (size - capacity_of block_size i)
+blocks_from-some steps block_size i size some =
+    let no : (size == 0) ≡ false = grind (arith, nat_tests) in
+    ap (λ t. if t then 0 else 1 + blocks_from steps block_size (i + 1) (size - capacity_of block_size i)) no
+
+-- counted from block i on, up to the block n in which the last byte stands
+blocks_from-last : (block_size n total : ℕ) → 1024 ≤ block_size → bytes_before block_size n < total → total ≤ bytes_before block_size n + capacity_of block_size n
+    → (steps i rest : ℕ) → i ≤ n → rest ≤ steps → bytes_before block_size i + rest ≡ total → i + blocks_from steps block_size i rest ≡ suc n
+blocks_from-last block_size n total large above within steps i zero le enough is = let more = bytes_before-more block_size i n le in absurd (omega arith)
+blocks_from-last block_size n total large above within zero i (suc rest) le enough is = absurd (omega arith)
+blocks_from-last block_size n total large above within (suc steps) i (suc rest) le enough is =
+    ⊎_elim
+    (λ inside.
+    let more = bytes_before-more block_size (suc i) n (omega arith) in
+    let one = capacity_of-pos block_size i large in
+    let next : suc i + blocks_from steps block_size (suc i) (suc rest - capacity_of block_size i) ≡ suc n =
+    blocks_from-last block_size n total large above within steps (suc i) (suc rest - capacity_of block_size i) (omega arith) (omega arith) (omega arith) in
+    omega (arith, blocks_from-some steps block_size i (suc rest) (omega arith), ap (λ k. blocks_from steps block_size k (suc rest - capacity_of block_size i)) (add-one i)))
+    (λ last.
+    let same : i ≡ n = omega arith in
+    let here : suc rest ≤ capacity_of block_size i = subst (λ k. bytes_before block_size k + suc rest ≡ total → suc rest ≤ capacity_of block_size k) (sym same) (λ e. omega arith) is in
+    let none : suc rest - capacity_of block_size i ≡ 0 = omega arith in
+    omega (arith, blocks_from-some steps block_size i (suc rest) (omega arith), ap (blocks_from steps block_size (i + 1)) none, blocks_from-none steps block_size (i + 1)))
+    (cases_lt i n)
+
+-- the byte before the end stands in the last block
+pub blocks_for-place : (block_size size index offset : ℕ) → 1024 ≤ block_size → 1 ≤ size → IsPlace block_size (size - 1) index offset → blocks_for block_size size ≡ index + 1
+blocks_for-place block_size size index offset large some is =
+    let counted = blocks_from-last block_size index size large (omega arith) (omega arith) size 0 size (omega arith) (omega arith) (omega arith) in
+    omega arith
+
+-- a list has fewer blocks than bytes
+pub place-le : (block_size pos index offset : ℕ) → 1024 ≤ block_size → IsPlace block_size pos index offset → 892 * index ≤ pos
+place-le block_size pos index offset large is = let k = bytes_before-least block_size index large in omega arith

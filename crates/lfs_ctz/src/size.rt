@@ -1,0 +1,34 @@
+ghost use Rattle.std.specs.Prelude.{◌≡◌, ◌≤◌};
+ghost use Rattle.lfs_model.specs.Lists.{IsPlace, blocks_for};
+
+/// The least number of blocks of a list that hold `size` bytes, 0 for none.
+///
+/// The block size is at least 1,024 bytes.
+pub fn blocks_for(block_size: u32, size: u32) -> u32
+    requires { 1024 ≤ block_size }
+    ensures { result ≡ blocks_for block_size size }
+{
+    if size == 0 {
+        return 0;
+    }
+    let (last, _) = place(block_size, size - 1);
+    last + 1
+}
+
+/// Where a file's byte `pos` stands in a list: the index of its block, counted from the file's
+/// first block, and its offset in that block, whose pointers come first.
+///
+/// The block size is at least 1,024 bytes. The formula is the one of DESIGN.md of littlefs.
+pub fn place(block_size: u32, pos: u32) -> (u32, u32)
+    requires { 1024 ≤ block_size }
+    ensures { IsPlace block_size pos result.0 result.1 }
+{
+    // A block has two pointers on average.
+    let mean = block_size - 8;
+    let guess = pos / mean;
+    if guess == 0 {
+        return (0, pos);
+    }
+    let index = (pos - 4 * ((guess - 1).count_ones() + 2)) / mean;
+    (index, pos - mean * index - 4 * index.count_ones())
+}

@@ -42,6 +42,14 @@ blocks_back disk zero head = []
 blocks_back disk (suc zero) head = head ∷ []
 blocks_back disk (suc (suc n)) head = blocks_back disk (suc n) (word_at (block_in disk head) 0) ++ head ∷ []
 
+-- so many blocks, followed back from the head, stand on the disk as a list's first blocks
+pub record IsChain (disk : Blocks) (count head : ℕ) : Type 0 where
+  pub in_range : All (λ b. b < length disk) (blocks_back disk count head)
+  pub distinct : IsDistinct nat_eq (blocks_back disk count head)
+  -- pointer k of block i names block i - 2^k
+  pub pointers : (i k : ℕ) → i < count → k < pointers_of i →
+      word_at (block_in disk (slice_index (blocks_back disk count head) i)) (4 * k) ≡ slice_index (blocks_back disk count head) (i - 2 ^ k)
+
 pub record IsList (disk : Blocks) (block_size head size : ℕ) : Type 0 where
   pub size_low : 1 ≤ size
   pub size_high : size < 2 ^ 31

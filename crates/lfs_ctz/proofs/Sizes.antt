@@ -1,11 +1,12 @@
 -- How many bytes the blocks of a list hold, by the number of ones of an index.
-use Rattle.std.proofs.Common.{ℕ, zero, suc, ◌≡◌, ◌+◌, ◌*◌, ◌-◌, ◌/◌, ◌%◌, ◌<◌, ◌≤◌, ◌^◌, ◌⊎◌, inl, inr, refl, sym, ap, ap₂, subst, ◌∙◌, arith}
+use Rattle.std.proofs.Common.{ℕ, zero, suc, ◌≡◌, ◌+◌, ◌*◌, ◌-◌, ◌/◌, ◌%◌, ◌<◌, ◌≤◌, ◌^◌, refl, sym, ap, ap₂, subst, ◌∙◌, arith}
 use Rattle.std.proofs.Common.{⊎_elim, add-one, if◌then◌else◌, ◌==◌, false}
 use Rattle.std.proofs.lemmas.Bool.Decides.{nat_tests}
 use Rattle.std.proofs.Math.Nat.{mul-suc, mul_comm, div-add-mod}
 use Rattle.std.proofs.lemmas.Nat.{mul-le, mod_below, div-mul-add}
 use Rattle.std.proofs.lemmas.Bool.{cases_lt}
-use lib.Count.{ones, ones_step, ones-le, count_trailing_zeros, under, trailing_le}
+use lib.Count.{ones, ones_step, ones-le, count_trailing_zeros, trailing_le}
+use Rattle.lfs_ctz.proofs.Zeros.{zeros_even, zeros_odd}
 use Rattle.lfs_model.specs.Lists.{pointers_of, capacity_of, bytes_before, IsPlace, blocks_from, blocks_for}
 
 -- ---- the ones of a number and of the next one differ by its zeros behind
@@ -15,14 +16,6 @@ ones_even n p e f = ones_step n ∙ ap₂ (λ r q. r + ones q) e f ∙ omega ari
 
 ones_odd : (n p : ℕ) → n % 2 ≡ 1 → n / 2 ≡ p → ones n ≡ 1 + ones p
 ones_odd n p e f = ones_step n ∙ ap₂ (λ r q. r + ones q) e f
-
-zeros_even : (k n p : ℕ) → n % 2 ≡ 0 → n / 2 ≡ p → count_trailing_zeros (suc k) n ≡ suc (count_trailing_zeros k p)
-unfolding count_trailing_zeros
-zeros_even k n p e f = ap₂ (λ r q. under r (count_trailing_zeros k q)) e f
-
-zeros_odd : (k n : ℕ) → n % 2 ≡ 1 → count_trailing_zeros (suc k) n ≡ 0
-unfolding count_trailing_zeros
-zeros_odd k n e = ap (λ r. under r (count_trailing_zeros k (n / 2))) e
 
 ones_next : (k n : ℕ) → suc n < 2 ^ k → ones (suc n) + count_trailing_zeros k (suc n) ≡ ones n + 1
 ones_next zero n h = absurd (omega arith)

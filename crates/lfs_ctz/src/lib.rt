@@ -1,6 +1,7 @@
 //! Skip lists of blocks, in which the bytes of a file stand.
 #![tactic(auto)]
 
+mod read;
 mod size;
 
 pub use size::{blocks_for, place};

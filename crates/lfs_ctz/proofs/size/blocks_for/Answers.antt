@@ -1,4 +1,4 @@
-use Rattle.std.proofs.Common.{◌≡◌, sym, arith}
+use Rattle.std.proofs.Common.{sym, arith}
 use Rattle.lfs_ctz.proofs.Sizes.{blocks_for-place, place-le}
 use Rattle.lfs_ctz.proofs.size.blocks_for.Goals as goal
 

@@ -1,0 +1,38 @@
+-- The blocks of a list, from the head back.
+use Rattle.std.proofs.Common.{ℕ, zero, suc, ◌≡◌, ◌+◌, ◌*◌, ◌-◌, ◌<◌, ◌≤◌, ◌^◌, [], ◌∷◌, length, slice_index, refl, ap, ◌∙◌, arith, add-one, length-append}
+use Rattle.std.specs.Int.{w32, trailing_zeros}
+use Rattle.std.proofs.lemmas.List.{get_or_at}
+use Rattle.lfs_model.specs.Blocks.{Blocks, block_in}
+use Rattle.lfs_model.specs.Lists.{word_at, pointers_of, blocks_back, blocks_for, IsChain, IsList}
+
+pub length_back : (d : Blocks) (n head : ℕ) → length (blocks_back d n head) ≡ n
+length_back d zero head = refl
+length_back d (suc zero) head = refl
+length_back d (suc (suc n)) head = length-append (blocks_back d (suc n) (word_at (block_in d head) 0)) (head ∷ []) ∙ ap (λ z. z + 1) (length_back d (suc n) (word_at (block_in d head) 0)) ∙ omega arith
+
+-- the head is the last of them
+pub head_of_back : (d : Blocks) (n head : ℕ) → slice_index (blocks_back d (n + 1) head) n ≡ head
+head_of_back d zero head = refl
+head_of_back d (suc n) head =
+    ap (λ k. slice_index (blocks_back d k head) (suc n)) (add-one (suc n))
+    ∙ get_or_at (blocks_back d (suc n) (word_at (block_in d head) 0)) head [] 0 (suc n) (length_back d (suc n) (word_at (block_in d head) 0))
+
+pub pointers_of-pos : (i : ℕ) → 0 < i → pointers_of i ≡ trailing_zeros w32 i + 1
+pointers_of-pos zero some = absurd (omega arith)
+pointers_of-pos (suc i) some = refl
+
+pub chain_of_list : {d : Blocks} {block_size head size : ℕ} → IsList d block_size head size → IsChain d (blocks_for block_size size) head
+chain_of_list l = record { in_range = l.in_range; distinct = l.distinct; pointers = l.pointers }
+
+-- each of them is a block of the disk
+pub in_range_at : (d : Blocks) (n head i : ℕ) → IsChain d n head → i < n → slice_index (blocks_back d n head) i < length d
+in_range_at d n head i chain lt =
+    let l = length_back d n head in
+    chain.in_range i 0 (omega arith)
+
+-- pointer k of the block at a place names the one so far before it
+pub pointer_at : (d : Blocks) (last head at k : ℕ) → IsChain d (last + 1) head → 0 < at → at ≤ last → k ≤ trailing_zeros w32 at
+    → (block : ℕ) → block ≡ slice_index (blocks_back d (last + 1) head) at → word_at (block_in d block) (4 * k) ≡ slice_index (blocks_back d (last + 1) head) (at - 2 ^ k)
+pointer_at d last head at k chain some le few block is =
+    let many = pointers_of-pos at some in
+    ap (λ b. word_at (block_in d b) (4 * k)) is ∙ chain.pointers at k (omega arith) (omega arith)

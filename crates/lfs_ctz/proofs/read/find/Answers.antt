@@ -1,7 +1,7 @@
 use Rattle.std.proofs.Common.{ℕ, ◌≡◌, ◌≤◌, ◌+◌, ◌-◌, ◌*◌, ◌%◌, ◌^◌, min, refl, sym, ap, subst, ◌∙◌, arith}
 use Rattle.std.specs.Int.{w32, trailing_zeros}
 use Rattle.std.proofs.lemmas.Nat.{one_shl}
-use Rattle.lfs_device.proofs.HistoryLemmas.{began}
+use Rattle.lfs_model.proofs.Histories.{began}
 use lib.Pow.{pow_mono}
 use Rattle.std.proofs.Common.{slice_index}
 use Rattle.lfs_model.specs.Blocks.{Blocks, block_in}

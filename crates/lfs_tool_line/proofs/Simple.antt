@@ -1,0 +1,38 @@
+-- The command is one of those whose matches clap gives as a function of the words.
+use Rattle.std.proofs.Common.{◌≡◌, ◌∙◌, ap, refl, subst, true, List, Result}
+use Rattle.std.proofs.lemmas.Result.{IfOk-weaker}
+use Rattle.std.specs.Prelude.{IfOk}
+use Rattle.clap.specs.Words.{App, FailsBy, HasMatchesOf, Kinds, Text, fault_of, found_of, is_simple, is_simple_and_free, matches_of, rows_of}
+use Rattle.clap.specs.declared.error.Error.{Error}
+use Rattle.clap.specs.declared.parser.ArgMatches.{ArgMatches}
+use Rattle.lfs_tool_line.specs.Command.{mklittlefs}
+use Rattle.lfs_tool_line.specs.Matches.{faults, rows}
+
+is_simple_command : is_simple mklittlefs ≡ true
+unfolding mklittlefs
+is_simple_command = refl
+
+is_free_command : is_simple_and_free mklittlefs ≡ true
+unfolding mklittlefs
+is_free_command = refl
+
+matches_along : (a b : App) (words : List Text) (m : ArgMatches) → a ≡ b → is_simple b ≡ true → HasMatchesOf a words m
+    → rows_of (found_of m) ≡ matches_of b words
+matches_along a b words m same simple h = (h (ap is_simple same ∙ simple)).0 ∙ ap (λ (x : App). matches_of x words) same
+
+-- the matches of a parse by the command
+pub rows_are : (a : App) (words : List Text) (r : Result ArgMatches Error) → a ≡ mklittlefs → IfOk r (HasMatchesOf a words)
+    → IfOk r (λ m. rows_of (found_of m) ≡ rows words)
+unfolding rows
+rows_are a words r same h = IfOk-weaker r _ _ (λ m. matches_along a mklittlefs words m same is_simple_command) h
+
+faults_along : (a b : App) (words : List Text) (r : Result ArgMatches Error) → a ≡ b → is_simple_and_free b ≡ true
+    → (is_simple_and_free a ≡ true → FailsBy (fault_of a words) r) → FailsBy (fault_of b words) r
+faults_along a b words r same simple h =
+    subst (λ (ks : Kinds). FailsBy ks r) (ap (λ (x : App). fault_of x words) same) (h (ap is_simple_and_free same ∙ simple))
+
+-- when it fails
+pub faults_are : (a : App) (words : List Text) (r : Result ArgMatches Error) → a ≡ mklittlefs
+    → (is_simple_and_free a ≡ true → FailsBy (fault_of a words) r) → FailsBy (faults words) r
+unfolding faults
+faults_are a words r same h = faults_along a mklittlefs words r same is_free_command h

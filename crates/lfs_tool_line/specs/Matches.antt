@@ -1,0 +1,87 @@
+-- What a line of words says.
+use Rattle.std.specs.Prelude.{◌≡◌, ◌∷◌, pos, ℕ, [], Bool, List, Option, Some, None, true, false, codes, is_some, option_map, count_by}
+use Rattle.std.specs.Str.{bytes_eq}
+use Rattle.std.specs.Str.Parse.{digits_value, without_leading_plus}
+use Rattle.clap.specs.Words.{Kinds, Row, Text, fault_of, first_of, matches_of, one_of}
+use Rattle.clap.specs.Words.{HasKind, IsSignedIn, first_value, one_text, without_minus}
+use Rattle.clap.specs.declared.parser.matches.Found.{Found}
+use Rattle.lfs_tool_line.specs.Command.{mklittlefs}
+use Rattle.lfs_tool_line.specs.declared.line.Line.{Line}
+use Rattle.lfs_tool_line.specs.declared.line.LineError.{LineError}
+use Rattle.lfs_tool_line.specs.declared.line.LineError.TheVariants.{Modes, Parser}
+use Rattle.lfs_tool_line.specs.declared.line.Mode.{Mode}
+use Rattle.lfs_tool_line.specs.declared.line.Mode.TheVariants as mode
+
+-- the matches that clap's definition of a simple command gives for the words
+unfoldable pub rows : List Text → List Row
+rows words = matches_of mklittlefs words
+
+-- why the parser refuses the words; empty where it takes them
+unfoldable pub faults : List Text → Kinds
+faults words = fault_of mklittlefs words
+
+abbrev pub Parses : List Text → Type 0
+Parses words = faults words ≡ []
+
+-- the value of an option that takes a number
+abbrev pub number_of : Text → ℕ
+number_of text = digits_value 10 (without_leading_plus text)
+
+abbrev pub number_at : Text → List Row → Option ℕ
+number_at id rows = option_map number_of (one_of id rows)
+
+-- the flag's text, which clap gives as true or false
+abbrev pub is_flag : Option Text → Bool
+is_flag None = false
+is_flag (Some text) = bytes_eq text (codes "true")
+
+-- the value of a flag
+abbrev pub flag_at : Text → List Row → Bool
+flag_at id rows = is_flag (one_of id rows)
+
+abbrev pub is_listed : List Row → Bool
+is_listed rows = flag_at (codes "list") rows
+
+abbrev pub modes_given : List Row → List Bool
+modes_given rows = is_some (first_of (codes "create") rows)
+    ∷ is_some (first_of (codes "unpack") rows) ∷ is_listed rows ∷ []
+
+-- how many of -c, -u and -l are given
+abbrev pub mode_count : List Row → ℕ
+mode_count rows = count_by (λ b. b) (modes_given rows)
+
+abbrev pub HasOneMode : List Row → Type 0
+HasOneMode rows = mode_count rows ≡ 1
+
+-- the mode is the one that is given
+abbrev pub IsModeOf : List Row → Mode → Type 0
+IsModeOf rows (mode.Create dir) = first_of (codes "create") rows ≡ Some dir.now
+IsModeOf rows (mode.Unpack dir) = first_of (codes "unpack") rows ≡ Some dir.now
+IsModeOf rows mode.List = is_listed rows ≡ true
+
+-- each part of the line is the value that the words give it, or its default
+pub record IsLineOf (rows : List Row) (line : Line) : Type 0 where
+  pub one_mode : HasOneMode rows
+  pub mode : IsModeOf rows line.mode
+  pub block_size : number_at (codes "block_size") rows ≡ Some line.block_size
+  pub page : number_at (codes "page") rows ≡ Some line.page
+  pub size : number_at (codes "size") rows ≡ Some line.size
+  pub image : first_of (codes "image") rows ≡ Some line.image.now
+
+-- the option has a text that reads as a number of 32 bits
+abbrev pub HasNumber : Found → Text → Type 0
+HasNumber f id = (t : Text) × (one_text f id ≡ Some (without_minus t))
+    × IsSignedIn (pos 0) (pos 4294967295) t
+
+-- what is required, or has a default, is there
+pub record IsComplete (f : Found) : Type 0 where
+  pub block_size : HasNumber f (codes "block_size")
+  pub page : HasNumber f (codes "page")
+  pub size : HasNumber f (codes "size")
+  pub image : is_some (first_value f (codes "image")) ≡ true
+
+-- why there is no line: the parser refuses the words, or it takes them and not exactly one mode is
+-- given
+abbrev pub IsFaultOf : List Text → LineError → Type 0
+IsFaultOf words (Parser e) = HasKind (faults words) e
+IsFaultOf words Modes = Parses words × ¬ HasOneMode (rows words)

@@ -1,0 +1,124 @@
+ghost use Rattle.std.specs.Prelude.{◌≡◌, IfErr, IfOk, MatchOption, Some, map, option_map};
+ghost use Rattle.clap.specs.Words.{first_of, found_of, rows_of};
+ghost use Rattle.lfs_tool_line.specs.Matches.{HasNumber, HasOneMode, IsComplete, IsFaultOf, IsLineOf, IsModeOf, Parses, flag_at, number_at, rows};
+
+use crate::command::parse;
+use clap::ArgMatches;
+use std::alloc::Global;
+use std::convert::AsStr;
+use thiserror::Error;
+
+/// What is to be done.
+#[derive(Clone, Copy, Debug, PartialEq)]
+pub enum Mode<'a> {
+    /// Create the image from this folder.
+    Create(&'a str),
+    /// Unpack the image into this folder.
+    Unpack(&'a str),
+    /// List the image.
+    List,
+}
+
+/// What a command line asks for. Its numbers are as they were given: no size is checked here.
+#[derive(Clone, Copy, Debug, PartialEq)]
+pub struct Line<'a> {
+    pub mode: Mode<'a>,
+    /// The size of a block in bytes.
+    pub block_size: u32,
+    /// The size of a page in bytes, the unit that a device programs.
+    pub page: u32,
+    /// The size of the image in bytes, for `Mode::Create`.
+    pub size: u32,
+    /// The path of the image.
+    pub image: &'a str,
+}
+
+/// Why there is no command line.
+#[derive(Debug, Drop, Error)]
+pub enum LineError {
+    /// The parser's own error, which also brings a request for help, and want of memory.
+    #[error(transparent)]
+    Parser(clap::Error),
+    /// None of `-c`, `-u` and `-l` is given, or more than one is.
+    #[error("error: give exactly one of -c, -u, -l")]
+    Modes,
+}
+
+// The text of an argument.
+fn text_in<'a>(matches: &ArgMatches<'a>, id: &str) -> Option<&'a str>
+    ensures { option_map (λ s. s.now) result ≡ first_of id.now (rows_of (found_of matches.now)) }
+{
+    matches.get_str(id)
+}
+
+// The value of a flag.
+fn flag_in(matches: &ArgMatches<'_>, id: &str) -> bool
+    ensures { result ≡ flag_at id.now (rows_of (found_of matches.now)) }
+{
+    matches.get_one::<bool>(id).unwrap_or(false)
+}
+
+// The number of an option that has one.
+fn number_in(matches: &ArgMatches<'_>, id: &str) -> u32
+    requires { HasNumber (found_of matches.now) id.now }
+    ensures { number_at id.now (rows_of (found_of matches.now)) ≡ Some result }
+{
+    matches.get_one::<u32>(id).unwrap()
+}
+
+// The mode, where exactly one is given.
+fn mode_of<'a>(matches: &ArgMatches<'a>) -> Option<Mode<'a>>
+    ensures { MatchOption result (¬ HasOneMode (rows_of (found_of matches.now)))
+        (λ mode. HasOneMode (rows_of (found_of matches.now)) × IsModeOf (rows_of (found_of matches.now)) mode) }
+{
+    let create = text_in(matches, "create");
+    let unpack = text_in(matches, "unpack");
+    let list = flag_in(matches, "list");
+    match (create, unpack, list) {
+        (Some(dir), None, false) => Some(Mode::Create(dir)),
+        (None, Some(dir), false) => Some(Mode::Unpack(dir)),
+        (None, None, true) => Some(Mode::List),
+        _ => None,
+    }
+}
+
+// The line that the matches say.
+fn line_of<'a>(matches: &ArgMatches<'a>, mode: Mode<'a>) -> Line<'a>
+    requires complete { IsComplete (found_of matches.now) }
+    requires one { HasOneMode (rows_of (found_of matches.now)) }
+    requires mode { IsModeOf (rows_of (found_of matches.now)) mode }
+    ensures { IsLineOf (rows_of (found_of matches.now)) result }
+{
+    Line {
+        mode,
+        block_size: number_in(matches, "block_size"),
+        page: number_in(matches, "page"),
+        size: number_in(matches, "size"),
+        image: text_in(matches, "image").unwrap(),
+    }
+}
+
+/// Reads the words of a command line, the program's name first:
+/// `mklittlefs (-c DIR | -u DIR | -l) [-b N] [-p N] [-s N] IMAGE`.
+///
+/// A number is decimal, from 0 to 4294967295. Where an option isn't given, a block has 4096 bytes, a
+/// page 256 and the image 65536.
+///
+/// # Errors
+/// `LineError::Parser` where the parser refuses the words, where they ask for help, or where a growth
+/// was refused. `LineError::Modes` where it takes them and not exactly one of `-c`, `-u` and `-l` is
+/// given.
+pub fn read_line<'a, S: AsStr>(alloc: Global, words: &'a [S]) -> Result<Line<'a>, LineError>
+    ensures ok { IfOk result (λ line. Parses (map S.text words.entry.now)
+        × IsLineOf (rows (map S.text words.entry.now)) line) }
+    ensures err { IfErr result (IsFaultOf (map S.text words.entry.now)) }
+{
+    let matches = match parse(alloc, words) {
+        Ok(matches) => matches,
+        Err(error) => return Err(LineError::Parser(error)),
+    };
+    match mode_of(&matches) {
+        Some(mode) => Ok(line_of(&matches, mode)),
+        None => Err(LineError::Modes),
+    }
+}

@@ -1,0 +1,54 @@
+-- What several calls in a row do to known bytes.
+use Rattle.std.proofs.Common.{◌≡◌, ◌∙◌, ◌++◌, ◌+◌, ◌-◌, ◌≤◌, ap, ℕ, List, [], Option, Some, None, append_assoc, arith, drop, length, refl, sym, take}
+use Rattle.std.specs.Prelude.{IfSome}
+use Rattle.std.specs.Io.KnownBytes.{Appends, Consumes, IsAtEnd, Keeps}
+use Rattle.std.proofs.Math.Seq.{take-add, take-append_seam}
+use Rattle.std.proofs.lemmas.List.{append-nil, length-drop, take_all}
+
+rest_whole : (a : ℕ) (bs : List ℕ) → take (length bs - a) (drop a bs) ≡ drop a bs
+rest_whole a bs = take_all _ (drop a bs) (omega (arith, length-drop a bs))
+
+pub appends_more : (old mid new : Option (List ℕ)) (a n : ℕ) (bs : List ℕ) → Appends old mid (take a bs) → Appends mid new (take n (take (length bs - a) (drop a bs)))
+    → Appends old new (take (a + n) bs)
+appends_more None mid new a n bs first second = tt
+appends_more (Some xs) None new a n bs first second = absurd first
+appends_more (Some xs) (Some ys) None a n bs first second = absurd second
+appends_more (Some xs) (Some ys) (Some zs) a n bs first second =
+    second ∙ ap (λ s. ys ++ take n s) (rest_whole a bs) ∙ ap (λ s. s ++ take n (drop a bs)) first ∙ append_assoc xs (take a bs) (take n (drop a bs)) ∙ ap (λ s. xs ++ s) (sym (take-add a n bs))
+
+-- as many bytes as are wanted were read
+pub read_full : (old now : Option (List ℕ)) (items : List ℕ) (k : ℕ) → length items ≡ k → Consumes old now items → IfSome old (λ bytes. items ≡ take k bytes)
+read_full None now items k len read = tt
+read_full (Some xs) None items k len read = absurd read
+read_full (Some xs) (Some ys) items k len read = rw (← len, read) (sym (take-append_seam items ys))
+
+-- or all that there were
+pub read_ended : (old mid new : Option (List ℕ)) (items buf : List ℕ) (k n : ℕ) → length items ≤ k → Consumes old mid items → n ≡ 0 → Consumes mid new (take n buf) → IsAtEnd new
+    → IfSome old (λ bytes. items ≡ take k bytes)
+read_ended None mid new items buf k n len read none last ends = tt
+read_ended (Some xs) None new items buf k n len read none last ends = absurd read
+read_ended (Some xs) (Some ys) None items buf k n len read none last ends = absurd last
+read_ended (Some xs) (Some ys) (Some zs) items buf k n len read none last ends =
+    let all : xs ≡ items = read ∙ ap (λ s. items ++ s) (last ∙ ap (λ i. take i buf ++ zs) none ∙ ends) ∙ append-nil items in
+    rw all (sym (take_all k items len))
+
+-- ---- a call that is made again, after calls that kept the known bytes
+
+pub consumes_behind : (old mid new : Option (List ℕ)) (bs : List ℕ) → Keeps old mid → Consumes mid new bs → Consumes old new bs
+consumes_behind None mid new bs kept read = tt
+consumes_behind (Some xs) None new bs kept read = absurd kept
+consumes_behind (Some xs) (Some ys) None bs kept read = absurd read
+consumes_behind (Some xs) (Some ys) (Some zs) bs kept read = sym kept ∙ read
+
+pub appends_behind : (old mid new : Option (List ℕ)) (bs : List ℕ) → Keeps old mid → Appends mid new bs → Appends old new bs
+appends_behind None mid new bs kept written = tt
+appends_behind (Some xs) None new bs kept written = absurd kept
+appends_behind (Some xs) (Some ys) None bs kept written = absurd written
+appends_behind (Some xs) (Some ys) (Some zs) bs kept written = written ∙ ap (λ s. s ++ bs) kept
+
+-- to write none of some bytes is to keep what is there
+pub keeps_behind : (old mid new : Option (List ℕ)) (n : ℕ) (bs : List ℕ) → n ≡ 0 → Keeps old mid → Appends mid new (take n bs) → Keeps old new
+keeps_behind None mid new n bs none kept written = tt
+keeps_behind (Some xs) None new n bs none kept written = absurd kept
+keeps_behind (Some xs) (Some ys) None n bs none kept written = absurd written
+keeps_behind (Some xs) (Some ys) (Some zs) n bs none kept written = written ∙ ap (λ i. ys ++ take i bs) none ∙ append-nil ys ∙ kept

@@ -1,0 +1,13 @@
+use Rattle.std.proofs.Common.{◌≡◌, ◌-◌, ◌≤◌, vec_len}
+use Rattle.std.specs.Io.KnownBytes.{Consumes}
+use Rattle.lfs_tool.proofs.input.read_image.Given as goal
+
+abbrev pub invariant-loop-buffer : goal.invariant-loop-buffer
+invariant-loop-buffer g l = record {
+  within : vec_len l.bytes ≤ 268435457;
+  same : l.image.has_failed ≡ l.initial.image.has_failed;
+  read : Consumes (g.R.Read.remaining l.initial.image.inner) (g.R.Read.remaining l.image.inner) l.bytes.items;
+}
+
+abbrev pub decreases-loop-buffer : goal.decreases-loop-buffer
+decreases-loop-buffer g l = 268435457 - vec_len l.bytes

@@ -1,0 +1,70 @@
+ghost use Rattle.std.specs.Prelude.{◌≡◌, IfSome, Some, false, true};
+ghost use Rattle.std.specs.Io.KnownBytes.{Appends, Keeps};
+ghost use Rattle.lfs_tool.specs.Known.{AppendsBeginning};
+ghost use Rattle.lfs_tool.specs.Ending.{own_line, shows_help, status_of};
+
+use crate::output::write_bytes;
+use crate::{Fault, ToolError, Watched};
+use clap::error::ErrorKind;
+use lfs_device::Error;
+use lfs_tool_line::LineError;
+use std::io::Write;
+
+// The parser's text. A failed write is ignored.
+fn show<W: Write>(to: &mut Watched<W>, error: &clap::Error) {
+    if write!(to.inner, "{error}").is_err() {
+        to.has_failed = true;
+    }
+}
+
+// A line of the tool's own. A failed write is ignored.
+fn say<E: Write>(err: &mut Watched<E>, line: &str, status: u8) -> u8
+    ensures status { result ≡ status }
+    ensures beginning { AppendsBeginning (E.contents err.old.inner) (E.contents err.new.inner) line.now }
+    ensures line { err.new.has_failed ≡ false → Appends (E.contents err.old.inner) (E.contents err.new.inner) line.now }
+{
+    let _ = write_bytes(err, line.as_bytes());
+    status
+}
+
+/// Shows why a run did not do what it was asked, and gives the status with which the program ends.
+///
+/// | Status | Meaning | Text |
+/// |---|---|---|
+/// | 0 | help was asked for | the parser's text, to `out` |
+/// | 1 | the file system refused, or memory ran out | `error: <name> (<number>)`, to `err` |
+/// | 2 | there is no command line | the parser's text, or `error: give exactly one of -c, -u, -l`, to `err` |
+/// | 3 | input or output failed | `error: input` or `error: output`, to `err` |
+///
+/// A failed write is ignored. A line of the tool's own is written whole unless the writer failed; what
+/// the parser's text says is not promised.
+pub fn report<O: Write, E: Write>(
+    fault: &Fault,
+    out: &mut Watched<O>,
+    err: &mut Watched<E>,
+) -> u8
+    ensures status { result ≡ status_of fault.now }
+    ensures out { shows_help fault.now ≡ false → Keeps (O.contents out.old.inner) (O.contents out.new.inner) }
+    ensures err { shows_help fault.now ≡ true → Keeps (E.contents err.old.inner) (E.contents err.new.inner) }
+    ensures beginning { IfSome (own_line fault.now) (AppendsBeginning (E.contents err.old.inner) (E.contents err.new.inner)) }
+    ensures line { err.new.has_failed ≡ false → IfSome (own_line fault.now) (Appends (E.contents err.old.inner) (E.contents err.new.inner)) }
+{
+    match fault {
+        Fault::Line(LineError::Modes) => say(err, "error: give exactly one of -c, -u, -l\n", 2),
+        Fault::Line(LineError::Parser(error)) => match error.kind() {
+            ErrorKind::OutOfMemory => {
+                let error = ToolError::Fs(Error::NoMemory);
+                say(err, error.line(), error.status())
+            }
+            ErrorKind::DisplayHelp | ErrorKind::DisplayVersion => {
+                show(out, error);
+                0
+            }
+            _ => {
+                show(err, error);
+                2
+            }
+        },
+        Fault::Tool(error) => say(err, error.line(), error.status()),
+    }
+}

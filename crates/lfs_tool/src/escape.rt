@@ -1,0 +1,39 @@
+// How a listed path shows its bytes.
+
+ghost use Rattle.std.specs.Prelude.{◌≡◌, ◌++◌, ◌<◌, OnOk};
+ghost use Rattle.lfs_model.specs.Listing.{escaped, escaped_text, hex_digit};
+
+use std::alloc::AllocError;
+
+fn digit(value: u8) -> u8
+    requires { value < 16 }
+    ensures { result ≡ hex_digit value }
+{
+    if value < 10 {
+        b'0' + value
+    } else {
+        b'a' + (value - 10)
+    }
+}
+
+fn push_escaped(text: &mut Vec<u8>, byte: u8) -> Result<(), AllocError>
+    ensures { OnOk result (text.new.items ≡ text.old.items ++ escaped byte) }
+{
+    if (0x20..=0x7e).contains(&byte) && byte != b'\\' {
+        text.push(byte)?;
+    } else {
+        let shown = [b'\\', b'x', digit(byte / 16), digit(byte % 16)];
+        text.extend_from_slice(&shown)?;
+    }
+    Ok(())
+}
+
+// Adds the path as it is listed.
+pub(crate) fn escape_path(text: &mut Vec<u8>, path: &[u8]) -> Result<(), AllocError>
+    ensures { OnOk result (text.new.items ≡ text.old.items ++ escaped_text path.now) }
+{
+    for byte in path {
+        push_escaped(text, *byte)?;
+    }
+    Ok(())
+}

@@ -1,0 +1,18 @@
+//! The tool mklittlefs, over any reader and any writer.
+#![tactic(auto)]
+
+mod ending;
+mod errors;
+mod escape;
+mod input;
+mod output;
+
+mod watched;
+
+pub use errors::{Fault, ToolError};
+pub use lfs_tool_line::{Line, LineError, Mode, read_line};
+pub use ending::report;
+pub use watched::Watched;
+
+#[cfg(test)]
+mod tests;

@@ -1,6 +1,7 @@
 -- A device's bytes under a geometry.
-use Rattle.std.specs.Prelude.{ℕ, ◌-◌, ◌/◌, min, List, length}
-use Rattle.lfs_model.specs.Blocks.{Blocks, block_in}
+use Rattle.std.specs.Prelude.{ℕ, ◌≡◌, ◌-◌, ◌/◌, ◌%◌, min, List, length}
+use Rattle.lfs_model.specs.Blocks.{Blocks, block_in, cut}
+use Rattle.lfs_model.specs.Geometry.{IsGeometry}
 
 pub record Disk : Type 0 where
   pub block_size : ℕ
@@ -12,6 +13,15 @@ block_count disk = length disk.blocks
 
 abbrev pub block_at : Disk → ℕ → List ℕ
 block_at disk b = block_in disk.blocks b
+
+-- An image of a device: its bytes, a whole number of blocks.
+pub record IsImage (block_size page : ℕ) (bytes : List ℕ) : Type 0 where
+  pub geometry : IsGeometry block_size page (length bytes / block_size)
+  pub whole : length bytes % block_size ≡ 0
+
+-- the disk that an image is of
+abbrev pub disk_of : ℕ → ℕ → List ℕ → Disk
+disk_of block_size page bytes = record { block_size = block_size; page = page; blocks = cut block_size (length bytes / block_size) bytes }
 
 -- The largest file that is kept in its entry.
 abbrev pub inline_limit : ℕ → ℕ

@@ -1,6 +1,8 @@
 -- What the slots of a log hold for an id, and where a name stands among them.
-use Rattle.std.specs.Prelude.{ℕ, ◌/◌, ◌%◌, ◌^◌, ◌==◌, if◌then◌else◌, List, Option, Some, None}
-use Rattle.lfs_model.specs.Content.{RawSlot, slot_of_id, attribute_of}
+use Rattle.std.specs.Prelude.{ℕ, ◌≡◌, ◌<◌, ◌≤◌, ◌/◌, ◌%◌, ◌^◌, ◌==◌, ◌&&◌, not, if◌then◌else◌, Bool, true, false, List, length, Option, Some, None}
+use Rattle.std.specs.Option.{option_and_then, option_map_or}
+use Rattle.lfs_model.specs.Names.{Name, name_cmp, same_name, is_less}
+use Rattle.lfs_model.specs.Content.{RawSlot, slot_of_id, attribute_of, superblock_name_type}
 
 -- the bytes of a name or a struct, where it has that type
 abbrev pub bytes_typed : ℕ → Option (ℕ × List ℕ) → Option (List ℕ)
@@ -16,3 +18,28 @@ bytes_in type s =
 
 abbrev pub bytes_at : List RawSlot → ℕ → ℕ → Option (List ℕ)
 bytes_at slots type id = bytes_in type (slot_of_id slots id)
+
+-- ---- names
+
+-- the name by which a slot can be looked up: a superblock's can't
+abbrev pub entry_name : RawSlot → Option Name
+entry_name s = option_and_then (λ name. if name.0 == superblock_name_type then None else Some name.1) s.name
+
+-- the slot at an id has such a name, and isn't the one that is passed over
+abbrev pub is_named : (Name → Bool) → Option ℕ → List RawSlot → ℕ → Bool
+is_named passes skip slots id = option_map_or passes (entry_name (slot_of_id slots id)) false && not (option_map_or (λ k. k == id) skip false)
+
+abbrev pub is_behind : Name → Name → Bool
+is_behind name other = is_less (name_cmp name other)
+
+-- the least id that has a name, one slot passed over
+pub record IsFound (name : Name) (skip : Option ℕ) (slots : List RawSlot) (id : ℕ) : Type 0 where
+  pub named : is_named (same_name name) skip slots id ≡ true
+  pub least : (other : ℕ) → other < id → is_named (same_name name) skip slots other ≡ false
+
+-- no slot has the name, and this is the least id of a greater one, or the count where there is none
+pub record IsPlace (name : Name) (skip : Option ℕ) (slots : List RawSlot) (id : ℕ) : Type 0 where
+  pub absent : (other : ℕ) → is_named (same_name name) skip slots other ≡ false
+  pub least : (other : ℕ) → other < id → is_named (is_behind name) skip slots other ≡ false
+  pub greater : id < length slots → is_named (is_behind name) skip slots id ≡ true
+  pub within : id ≤ length slots

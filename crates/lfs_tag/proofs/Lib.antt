@@ -7,3 +7,5 @@ pub mod Places
 pub mod Effects
 pub mod Held
 pub mod Searches
+pub mod Finds
+pub mod Answered

@@ -6,3 +6,5 @@ pub mod ContentSeen
 pub mod ContentGives
 pub mod Search
 pub mod VerdictSeen
+pub mod Find
+pub mod FindSeen

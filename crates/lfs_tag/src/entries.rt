@@ -54,6 +54,21 @@ impl<'a> Entries<'a> {
     }
 }
 
+impl<'a> Entries<'a> {
+    // The same entries once more.
+    pub(crate) fn rest(&self) -> Entries<'a>
+        ensures { result ≡ self.now }
+    {
+        Entries {
+            block: self.block,
+            at: self.at,
+            before: self.before,
+            end: self.end,
+            last: self.last,
+        }
+    }
+}
+
 impl<'a> Iterator for Entries<'a> {
     type Item = Entry<'a>;
 

@@ -1,5 +1,6 @@
 pub mod Polynomials
 pub mod Table
+pub mod Words
 pub mod Logs
 pub mod Runs
 pub mod Local

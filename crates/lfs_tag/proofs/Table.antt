@@ -1,12 +1,12 @@
 -- A table of what eight steps make of each byte.
-use Rattle.std.proofs.Common.{◌≡◌, ℕ, zero, suc, ◌+◌, ◌*◌, ◌/◌, ◌%◌, ◌^◌, ◌<◌, Bool, true, false, ◌&&◌, cond, eqb, List, [], ◌∷◌, length, get_or, refl, sym, ap, ◌∙◌, arith}
+use Rattle.std.proofs.Common.{◌≡◌, ℕ, zero, suc, ◌+◌, ◌*◌, ◌/◌, ◌%◌, ◌^◌, ◌<◌, Bool, true, false, ◌&&◌, cond, eqb, List, [], ◌∷◌, length, get_or, refl, sym, ap, ◌∙◌, arith, zero-add}
 use Rattle.std.specs.Int.Bits.{bit_xor, xor_zero_l, xor_zero_r, xor_shifted, xor_assoc}
 use Rattle.std.proofs.lemmas.Bool.Decides.{nat_tests}
 use Rattle.std.proofs.lemmas.Bool.{eqb-true}
 use Rattle.std.proofs.lemmas.Nat.{xor_comm, xor_shr, xor_mod}
 use Rattle.std.proofs.Math.Nat.{pow-suc}
 use Rattle.lfs_model.specs.Crc.{next_bit, next_bits}
-use Rattle.lfs_tag.specs.declared.crc_table.TheConstants.{AFTER_BYTE}
+use Rattle.lfs_tag.specs.declared.crc_table.TheConstants.{AFTER}
 
 -- a shift by one bit, whose lowest bit is 0
 next_bit_even : (a : ℕ) → next_bit (a * 2) ≡ a
@@ -25,7 +25,7 @@ next_bit-xor x y even =
     by_test true a b = xor_assoc a b 0xedb88320 ∙ ap (bit_xor a) (xor_comm b 0xedb88320) ∙ sym (xor_assoc a 0xedb88320 b)
     by_test false a b = refl
 
-next_bits-xor : (n x a : ℕ) → next_bits n (bit_xor x (a * 2 ^ n)) ≡ bit_xor (next_bits n x) a
+pub next_bits-xor : (n x a : ℕ) → next_bits n (bit_xor x (a * 2 ^ n)) ≡ bit_xor (next_bits n x) a
 unfolding next_bits
 next_bits-xor zero x a = let e : a * 2 ^ 0 ≡ a = omega arith in rw e refl
 next_bits-xor (suc n) x a =
@@ -40,11 +40,15 @@ by_low_byte x =
     let split : bit_xor (x % 256) (x / 256 * 2 ^ 8) ≡ x = xor_comm (x % 256) (x / 256 * 2 ^ 8) ∙ xor_shifted (x / 256) 8 (x % 256) (omega arith) ∙ omega arith in
     ap (next_bits 8) (sym split) ∙ next_bits-xor 8 (x % 256) (x / 256) ∙ xor_comm (next_bits 8 (x % 256)) (x / 256)
 
+-- the number for the byte i % 256 in the row i / 256
+abbrev entry : ℕ → ℕ
+entry i = next_bits (8 * (i / 256 + 1)) (i % 256)
+
 abbrev is_table : ℕ → List ℕ → Bool
 is_table i [] = true
-is_table i (x ∷ xs) = eqb x (next_bits 8 i) && is_table (suc i) xs
+is_table i (x ∷ xs) = eqb x (entry i) && is_table (suc i) xs
 
-the_table : is_table 0 AFTER_BYTE ≡ true
+the_table : is_table 0 AFTER ≡ true
 unfolding next_bits
 the_table = refl
 
@@ -53,10 +57,14 @@ and_true true true e = (refl, refl)
 and_true true false e = absurd cc
 and_true false b e = absurd cc
 
-table_at : (xs : List ℕ) (i k : ℕ) → is_table i xs ≡ true → k < length xs → get_or xs k 0 ≡ next_bits 8 (i + k)
+table_at : (xs : List ℕ) (i k : ℕ) → is_table i xs ≡ true → k < length xs → get_or xs k 0 ≡ entry (i + k)
 table_at [] i k e lt = absurd (omega arith)
-table_at (x ∷ xs) i zero e lt = let f : i + zero ≡ i = omega arith in rw f (eqb-true x (next_bits 8 i) (and_true (eqb x (next_bits 8 i)) (is_table (suc i) xs) e).0)
-table_at (x ∷ xs) i (suc k) e lt = let f : i + suc k ≡ suc i + k = omega arith in rw f (table_at xs (suc i) k (and_true (eqb x (next_bits 8 i)) (is_table (suc i) xs) e).1 (omega arith))
+table_at (x ∷ xs) i zero e lt = let f : i + zero ≡ i = omega arith in rw f (eqb-true x (entry i) (and_true (eqb x (entry i)) (is_table (suc i) xs) e).0)
+table_at (x ∷ xs) i (suc k) e lt = let f : i + suc k ≡ suc i + k = omega arith in rw f (table_at xs (suc i) k (and_true (eqb x (entry i)) (is_table (suc i) xs) e).1 (omega arith))
 
-pub in_table : (k : ℕ) → k < 256 → get_or AFTER_BYTE k 0 ≡ next_bits 8 k
-in_table k lt = table_at AFTER_BYTE 0 k the_table lt ∙ ap (next_bits 8) (omega arith)
+pub in_table : (row byte : ℕ) → row < 8 → byte < 256 → get_or AFTER (row * 256 + byte) 0 ≡ next_bits (8 * (row + 1)) byte
+in_table row byte lt small =
+    let place : row * 256 + byte < 2048 = omega arith in
+    let high : (row * 256 + byte) / 256 ≡ row = omega arith in
+    let low : (row * 256 + byte) % 256 ≡ byte = omega arith in
+    table_at AFTER 0 (row * 256 + byte) the_table place ∙ rw (zero-add (row * 256 + byte), high, low) refl

@@ -1,6 +1,7 @@
 //! The log of a metadata block: tags, checksums, commits, and what a block holds for a name or an id.
 #![tactic(auto)]
 
+mod checksum;
 mod content;
 mod crc_table;
 mod entries;
@@ -13,8 +14,8 @@ mod search;
 mod steps;
 mod tag;
 
+pub use checksum::crc;
 pub use content::{Attribute, Content, ContentError, Part, Slot, Tail};
-pub use crc_table::crc;
 pub use entries::Entries;
 pub use entry::Entry;
 pub use fields::{MoveState, NULL_ADDRESS, Superblock, ctz_of, move_of, pair_of, superblock_of};

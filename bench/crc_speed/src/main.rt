@@ -1,0 +1,44 @@
+//! How long the checksum of a block of 64 KiB takes: prints the checksum of so many rounds, each over
+//! the last one's, and the nanoseconds that they took.
+#![tactic(auto)]
+
+ghost use Rattle.std.specs.Prelude.{◌≡◌, length};
+
+use lfs_tag::crc;
+use std::env;
+use std::io;
+use std::time::Instant;
+
+const BLOCK: usize = 65536;
+
+// Bytes without a pattern that a table would favour.
+fn fill(block: &mut [u8]) {
+    let mut state = 1u32;
+    for byte in block.iter_mut() {
+        state = state.wrapping_mul(1_103_515_245).wrapping_add(12345);
+        *byte = (state >> 16 & 0xff) as u8;
+    }
+}
+
+fn rounds_over(block: &[u8], rounds: u32) -> u32 {
+    let mut sum = 0xffff_ffff;
+    for _ in 0..rounds {
+        sum = crc(sum, block);
+    }
+    sum
+}
+
+fn main(rt: HostRuntime) -> io::Result<()> {
+    let mut rounds = 1000;
+    for word in env::args(&rt)? {
+        if let Ok(number) = word.as_str().parse::<u32>() {
+            rounds = number;
+        }
+    }
+    let mut block = [0u8; BLOCK];
+    fill(&mut block);
+    let start = Instant::now(&rt)?;
+    let sum = rounds_over(&block, rounds);
+    let took = start.elapsed(&rt)?;
+    println!(rt; "{} {}", sum, took.as_nanos())
+}

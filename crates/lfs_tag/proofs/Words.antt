@@ -1,0 +1,82 @@
+-- The checksum's steps over a word at once.
+use Rattle.std.proofs.Common.{◌≡◌, ℕ, zero, suc, ◌+◌, ◌*◌, ◌/◌, ◌%◌, ◌^◌, ◌<◌, ◌≤◌, Bool, true, false, cond, eqb, List, [], ◌∷◌, ◌++◌, length, take, drop, get_or, refl, sym, ap, ◌∙◌, arith, zero-add, drop-cons, add-one, inl, inr, ◌⊎◌}
+use Rattle.std.specs.Int.Bits.{bit_xor, xor_zero_l, xor_zero_r, xor_shifted, xor_assoc}
+use Rattle.std.proofs.Math.Seq.{take-add}
+use Rattle.std.proofs.lemmas.Bool.{cases_lt}
+use Rattle.std.proofs.lemmas.Nat.{xor_comm, xor_shr, xor_mod}
+use Rattle.byteorder.specs.Endian.{little_from, little_number}
+use Rattle.lfs_model.specs.Crc.{next_bit, next_bits, crc_of}
+use Rattle.lfs_tag.proofs.Polynomials.{xor_swap, xor_cancel, AreBytes, crc-append}
+use Rattle.lfs_tag.proofs.Table.{by_low_byte, next_bits-xor}
+
+-- ---- the steps are linear
+
+next_bit-sum : (x y : ℕ) → next_bit (bit_xor x y) ≡ bit_xor (next_bit x) (next_bit y)
+next_bit-sum x y = by_low (low_cases x) (low_cases y)
+  where
+    low_cases : (n : ℕ) → (n % 2 ≡ 0) ⊎ (n % 2 ≡ 1)
+    low_cases n = elim (cases_lt (n % 2) 1) [
+      | inl lt ↦ inl (omega arith)
+      | inr le ↦ inr (omega arith)
+    ]
+
+    by_low : ((x % 2 ≡ 0) ⊎ (x % 2 ≡ 1)) → ((y % 2 ≡ 0) ⊎ (y % 2 ≡ 1)) → next_bit (bit_xor x y) ≡ bit_xor (next_bit x) (next_bit y)
+    by_low (inl a) (inl b) = let low : bit_xor x y % 2 ≡ 0 = xor_mod x y 1 ∙ rw (a, b) refl in rw (low, a, b, xor_shr x y 1) refl
+    by_low (inl a) (inr b) = let low : bit_xor x y % 2 ≡ 1 = xor_mod x y 1 ∙ rw (a, b) refl in rw (low, a, b, xor_shr x y 1) (xor_assoc (x / 2) (y / 2) 0xedb88320)
+    by_low (inr a) (inl b) = let low : bit_xor x y % 2 ≡ 1 = xor_mod x y 1 ∙ rw (a, b) refl in
+        rw (low, a, b, xor_shr x y 1) (xor_assoc (x / 2) (y / 2) 0xedb88320 ∙ ap (bit_xor (x / 2)) (xor_comm (y / 2) 0xedb88320) ∙ sym (xor_assoc (x / 2) 0xedb88320 (y / 2)))
+    by_low (inr a) (inr b) = let low : bit_xor x y % 2 ≡ 0 = xor_mod x y 1 ∙ rw (a, b) refl in
+        rw (low, a, b, xor_shr x y 1) (sym (xor_swap (x / 2) 0xedb88320 (y / 2) 0xedb88320 ∙ xor_zero_r (bit_xor (x / 2) (y / 2))))
+
+pub next_bits-sum : (n x y : ℕ) → next_bits n (bit_xor x y) ≡ bit_xor (next_bits n x) (next_bits n y)
+unfolding next_bits
+next_bits-sum zero x y = refl
+next_bits-sum (suc n) x y = rw (next_bit-sum x y) (next_bits-sum n (next_bit x) (next_bit y))
+
+pub next_bits-append : (m n x : ℕ) → next_bits (m + n) x ≡ next_bits n (next_bits m x)
+unfolding next_bits
+next_bits-append zero n x = rw (zero-add n) refl
+next_bits-append (suc m) n x = let e : suc m + n ≡ suc (m + n) = omega arith in rw e (next_bits-append m n (next_bit x))
+
+next_bits-zero : (n : ℕ) → next_bits n 0 ≡ 0
+unfolding next_bits
+next_bits-zero zero = refl
+next_bits-zero (suc n) = next_bits-zero n
+
+-- ---- a word by its bytes
+
+-- the lowest byte apart from the others
+low_apart : (m x : ℕ) → next_bits (m + 8) x ≡ bit_xor (next_bits (m + 8) (x % 256)) (next_bits m (x / 256))
+low_apart m x =
+    let order : m + 8 ≡ 8 + m = omega arith in
+    rw order (next_bits-append 8 m x ∙ ap (next_bits m) (by_low_byte x) ∙ next_bits-sum m (x / 256) (next_bits 8 (x % 256))
+    ∙ ap (bit_xor (next_bits m (x / 256))) (sym (next_bits-append 8 m (x % 256))) ∙ xor_comm (next_bits m (x / 256)) (next_bits (8 + m) (x % 256)))
+
+pub word_apart : (m x : ℕ) → x < 2 ^ 32
+    → next_bits (m + 32) x ≡ bit_xor (bit_xor (bit_xor (next_bits (m + 32) (x % 256)) (next_bits (m + 24) (x / 2 ^ 8 % 256))) (next_bits (m + 16) (x / 2 ^ 16 % 256))) (next_bits (m + 8) (x / 2 ^ 24))
+word_apart m x lt =
+    let a : next_bits (m + 32) x ≡ bit_xor (next_bits (m + 32) (x % 256)) (next_bits (m + 24) (x / 2 ^ 8)) = (let e : m + 24 + 8 ≡ m + 32 = omega arith in rw e at (low_apart (m + 24) x)) in
+    let b : next_bits (m + 24) (x / 2 ^ 8) ≡ bit_xor (next_bits (m + 24) (x / 2 ^ 8 % 256)) (next_bits (m + 16) (x / 2 ^ 8 / 256)) = (let e : m + 16 + 8 ≡ m + 24 = omega arith in rw e at (low_apart (m + 16) (x / 2 ^ 8))) in
+    let c : next_bits (m + 16) (x / 2 ^ 16) ≡ bit_xor (next_bits (m + 16) (x / 2 ^ 16 % 256)) (next_bits (m + 8) (x / 2 ^ 16 / 256)) = (let e : m + 8 + 8 ≡ m + 16 = omega arith in rw e at (low_apart (m + 8) (x / 2 ^ 16))) in
+    let second : x / 2 ^ 8 / 256 ≡ x / 2 ^ 16 = omega arith in
+    let third : x / 2 ^ 16 / 256 ≡ x / 2 ^ 24 = omega arith in
+    let first = next_bits (m + 32) (x % 256) in
+    a ∙ ap (bit_xor first) (b ∙ rw second (ap (bit_xor (next_bits (m + 24) (x / 2 ^ 8 % 256))) (c ∙ rw third refl)))
+    ∙ sym (xor_assoc first (next_bits (m + 24) (x / 2 ^ 8 % 256)) _) ∙ sym (xor_assoc _ (next_bits (m + 16) (x / 2 ^ 16 % 256)) _)
+
+-- ---- bytes by the number that they are
+
+pub crc-number : (sum i n : ℕ) (bytes : List ℕ) → AreBytes bytes → i + n ≤ length bytes → crc_of sum (take n (drop i bytes)) ≡ next_bits (8 * n) (bit_xor sum (little_from i n bytes))
+unfolding crc_of next_bits
+crc-number sum i zero bytes are le = sym (xor_zero_r sum)
+crc-number sum i (suc n) bytes are le =
+    let b = get_or bytes i 0 in
+    let rest = little_from (suc i) n bytes in
+    let small : b < 2 ^ 8 = are i in
+    let there : i < length bytes = omega arith in
+    let front : take (suc n) (drop i bytes) ≡ b ∷ take n (drop (suc i) bytes) = rw (drop-cons bytes i 0) refl in
+    let count : 8 * suc n ≡ 8 + 8 * n = omega arith in
+    let number : b + 256 * rest ≡ bit_xor b (rest * 2 ^ 8) = sym (xor_comm b (rest * 2 ^ 8) ∙ xor_shifted rest 8 b small ∙ omega arith) in
+    rw (front, count, number) (crc-number (next_bits 8 (bit_xor sum b)) (suc i) n bytes are (omega arith)
+    ∙ ap (next_bits (8 * n)) (sym (next_bits-xor 8 (bit_xor sum b) rest) ∙ ap (next_bits 8) (xor_assoc sum b (rest * 2 ^ 8)))
+    ∙ sym (next_bits-append 8 (8 * n) (bit_xor sum (bit_xor b (rest * 2 ^ 8)))))

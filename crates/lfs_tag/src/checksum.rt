@@ -1,0 +1,47 @@
+// The checksum of bytes.
+
+ghost use Rattle.std.specs.Prelude.{◌≡◌, ℕ, ◌^◌, ◌<◌};
+ghost use Rattle.lfs_model.specs.Crc.{crc_of, IsChecksum};
+
+use crate::crc_table::{after_byte, after_eight};
+
+/// The CRC-32 of bytes that follow those with the checksum `start`: polynomial 0x04c11db7, lowest bit
+/// first. Nothing is inverted, so that the checksum of a commit begins at 0xffff_ffff and goes on
+/// from part to part (SPEC.md of littlefs, "CRC").
+pub fn crc(start: u32, bytes: &[u8]) -> u32
+    // The computed form, for the checksum of parts.
+    ensures value { result ≡ crc_of start bytes.now }
+    // It is the remainder of the polynomials.
+    ensures remainder { IsChecksum start bytes.now result }
+    // No other number is.
+    ensures only { (other : ℕ) → other < 2 ^ 32 → IsChecksum start bytes.now other → other ≡ result }
+{
+    let mut sum = start;
+    let mut rest = bytes;
+    while rest.len() >= 8 {
+        sum = after_eight(sum, rest);
+        rest = &rest[8..];
+    }
+    after_bytes(sum, rest)
+}
+
+// The checksum byte by byte.
+fn after_bytes(start: u32, bytes: &[u8]) -> u32
+    ensures { result ≡ crc_of start bytes.now }
+{
+    let mut sum = start;
+    for byte in bytes {
+        sum = after_byte(sum ^ u32::from(*byte));
+    }
+    sum
+}
+
+#[cfg(test)]
+mod tests {
+    use super::*;
+
+    #[test]
+    fn of_digits(rt: HostRuntime) {
+        assert_eq!(rt; crc(0xffff_ffff, b"123456789"), 0x340b_c6d9);
+    }
+}

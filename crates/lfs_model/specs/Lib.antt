@@ -7,6 +7,7 @@ pub mod Names
 pub mod Crc
 pub mod Tag
 pub mod Log
+pub mod Commit
 pub mod Slots
 pub mod Content
 pub mod Written

@@ -1,0 +1,21 @@
+-- A commit as it is written: whole pages, whose checksum ends the log.
+use Rattle.std.specs.Prelude.{ℕ, ◌+◌, nat_lt, if◌then◌else◌, List, length, take, drop, slice_index, sum_by, Option, Some, None}
+use Rattle.std.specs.Int.{next_multiple_of}
+use Rattle.lfs_model.specs.Log.{LogEntry}
+
+-- the bytes that entries take, each with its tag
+abbrev pub entries_size : List LogEntry → ℕ
+entries_size es = sum_by (λ e. 4 + length e.bytes) es
+
+-- where a commit ends whose checksum's tag is at `at`: on the next page boundary that leaves room for that tag and four bytes
+abbrev pub page_end : ℕ → ℕ → ℕ
+page_end page at = next_multiple_of (at + 8) page
+
+-- the four bytes of a block from an offset on, or none where there are fewer
+abbrev pub next_at : List ℕ → ℕ → Option (List ℕ)
+next_at block at = if nat_lt (length block) (at + 4) then None else Some (take 4 (drop at block))
+
+-- The type of the checksum in front of these bytes. They must decode as an invalid tag, and 0x501 turns that tag's top bit.
+abbrev pub checksum_type : Option (List ℕ) → ℕ
+checksum_type None = 0x500
+checksum_type (Some next) = if nat_lt (slice_index next 0) 0x80 then 0x501 else 0x500

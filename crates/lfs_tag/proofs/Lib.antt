@@ -10,3 +10,9 @@ pub mod Held
 pub mod Searches
 pub mod Finds
 pub mod Answered
+pub mod BuilderWrites
+pub mod BuilderEntries
+pub mod BuilderCommits
+pub mod BuilderChecksums
+pub mod BuilderPages
+pub mod BuilderEnds

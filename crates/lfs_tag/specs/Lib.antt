@@ -8,3 +8,6 @@ pub mod Search
 pub mod VerdictSeen
 pub mod Find
 pub mod FindSeen
+pub mod Builder
+pub mod BuilderKeeps
+pub mod BuilderSeen

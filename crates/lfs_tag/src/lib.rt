@@ -2,22 +2,27 @@
 #![tactic(auto)]
 
 mod checksum;
+mod builder;
 mod content;
 mod crc_table;
 mod entries;
 mod entry;
+mod field_bytes;
 mod fields;
 pub mod kinds;
 mod log;
 mod lookup;
+mod pushed;
 mod search;
 mod steps;
 mod tag;
 
 pub use checksum::crc;
+pub use builder::CommitBuilder;
 pub use content::{Attribute, Content, ContentError, Part, Slot, Tail};
 pub use entries::Entries;
 pub use entry::Entry;
+pub use field_bytes::{ctz_bytes, move_bytes, pair_bytes, superblock_bytes};
 pub use fields::{MoveState, NULL_ADDRESS, Superblock, ctz_of, move_of, pair_of, superblock_of};
 pub use log::Log;
 pub use lookup::{Lookup, find};

@@ -1,0 +1,129 @@
+-- A commit's pages in a block.
+use Rattle.std.proofs.Common.{◌≡◌, ℕ, zero, suc, ◌+◌, ◌-◌, ◌*◌, ◌/◌, ◌%◌, ◌^◌, ◌<◌, ◌≤◌, Bool, true, false, cond, eqb, ltb, leb, ◌||◌, ◌⊎◌, inl, inr, List, [], ◌∷◌, ◌++◌, length, take, drop, get_or, slice_range, bit_xor, Option, Some, None, IfSome, unwrap_or, refl, sym, ap, subst, eq-eqb, ◌∙◌, arith, rules, append_assoc, length-append, replicate}
+use Rattle.std.specs.Int.{next_multiple_of}
+use Rattle.std.specs.Int.Bits.{xor_zero_l}
+use Rattle.std.proofs.lemmas.Bool.{le-ltb}
+use Rattle.std.proofs.lemmas.Bool.Decides.{nat_tests}
+use Rattle.std.proofs.lemmas.Nat.{xor_shr}
+use Rattle.std.proofs.lemmas.List.{drop-drop, length-drop, length-take-le, take-append-drop, length-replicate}
+use Rattle.std.proofs.Math.Seq.{take-append_seam, drop-append_seam}
+use Rattle.byteorder.specs.Endian.{big_number, big_bytes, little_number, little_bytes}
+use Rattle.byteorder.specs.Numbers.{big_from-take, little_from-take, little_from-append, little_number-reads_back}
+use Rattle.lfs_model.specs.Crc.{crc_of}
+use Rattle.lfs_model.specs.Tag.{IsValid, kind_of, len_of, class_of, chunk_of, size_of, carried, tag_with}
+use Rattle.lfs_model.specs.Log.{LogEntry, Chain, tag_at, entry_at, with_commit, IsCommit, commit_at, chain_of, revision_of}
+use Rattle.lfs_model.specs.Geometry.{is_page}
+use Rattle.lfs_model.specs.Content.{no_id}
+use Rattle.lfs_model.specs.Blocks.{overwritten}
+use Rattle.lfs_model.specs.Commit.{entries_size, next_at, checksum_type}
+use Rattle.lfs_tag.specs.Builder.{Building, entries_start, checksum_start, padded_end, checksum_tag, checksum_entry, GoesTo, earlier, AreCommitted}
+use Rattle.lfs_tag.specs.BuilderKeeps.{stored, last_tag, revision_bytes, front_of, AreStorable}
+use Rattle.lfs_tag.proofs.Logs.{commit_none, commit_complete, chain_on, chain_none}
+use Rattle.lfs_tag.proofs.Local.{appended, next_start}
+use Rattle.lfs_tag.proofs.Runs.{all_run, run_space}
+use Rattle.lfs_tag.proofs.BuilderWrites.{drop-overwritten, length-overwritten}
+use Rattle.lfs_tag.proofs.BuilderEntries.{length-stored, length-front_of}
+use Rattle.lfs_tag.proofs.BuilderCommits.{IsChecksumKind, class_of_kind, closing, entries_read}
+
+-- ---- the checksum's tag
+
+page_bounds : (n : ℕ) → is_page n ≡ true → (8 ≤ n) × (n ≤ 512)
+page_bounds n h = (grind (arith, nat_tests, h), grind (arith, nat_tests, h))
+
+-- its length, and the padding
+pub record Padded (b : Building) : Type 0 where
+  pub low : checksum_start b + 8 ≤ padded_end b
+  pub high : padded_end b < checksum_start b + 8 + 512
+
+pub padded : (b : Building) → is_page b.page ≡ true → Padded b
+padded b h =
+    let bounds = page_bounds b.page h in
+    record { low = omega arith; high = omega (arith, bounds.0, bounds.1) }
+
+abbrev pub IsKind : ℕ → Type 0
+IsKind kind = (kind ≡ 0x500) ⊎ (kind ≡ 0x501)
+
+pub kind_cases : (next : Option (List ℕ)) → IsKind (checksum_type next)
+kind_cases None = inl refl
+kind_cases (Some bytes) = by_bit (ltb (get_or bytes 0 0) 128)
+  where
+    by_bit : (t : Bool) → IsKind (cond t 0x501 0x500)
+    by_bit true = inr refl
+    by_bit false = inl refl
+
+pub kind_is : (kind size : ℕ) → IsKind kind → size < 2 ^ 10 → kind_of (tag_with kind no_id size) ≡ kind
+kind_is kind size (inl h) small = omega arith
+kind_is kind size (inr h) small = omega arith
+
+pub kind_of_cases : (kind tag : ℕ) → IsKind kind → kind_of tag ≡ kind → IsChecksumKind tag
+kind_of_cases kind tag (inl h) is = inl (is ∙ h)
+kind_of_cases kind tag (inr h) is = inr (is ∙ h)
+
+pub valid_is : (kind size : ℕ) → IsKind kind → size < 2 ^ 10 → IsValid (tag_with kind no_id size)
+valid_is kind size (inl h) small = omega arith
+valid_is kind size (inr h) small = omega arith
+
+pub len_is : (kind size : ℕ) → size < 2 ^ 10 → len_of (tag_with kind no_id size) ≡ size
+len_is kind size small = omega arith
+
+-- ---- nothing follows
+
+-- what the bytes behind the commit give as a tag
+top_of : (tag stored turn : ℕ) → tag < 2 ^ 31 → stored / 2 ^ 31 + turn ≡ 1 → bit_xor stored (bit_xor tag (turn * 2 ^ 31)) / 2 ^ 31 ≡ 1
+top_of tag stored turn lt is =
+    let none : tag / 2 ^ 31 ≡ 0 = omega arith in
+    let whole : turn * 2 ^ 31 / 2 ^ 31 ≡ turn = omega arith in
+    let turned : bit_xor tag (turn * 2 ^ 31) / 2 ^ 31 ≡ turn = xor_shr tag (turn * 2 ^ 31) 31 ∙ rw (none, whole) (xor_zero_l turn) in
+    xor_shr stored (bit_xor tag (turn * 2 ^ 31)) 31 ∙ rw turned (one (stored / 2 ^ 31) turn is)
+  where
+    one : (s t : ℕ) → s + t ≡ 1 → bit_xor s t ≡ 1
+    one zero t h = let e : t ≡ 1 = omega arith in rw e refl
+    one (suc s) t h = let e : t ≡ 0 = omega arith in let f : suc s ≡ 1 = omega arith in rw (e, f) refl
+
+-- each of the bytes that were told is one
+abbrev pub AreBytes : List ℕ → Type 0
+AreBytes bytes = (i : ℕ) → get_or bytes i 0 < 256
+
+-- the top bit of four bytes is that of the first
+top_byte : (bytes : List ℕ) → AreBytes bytes → big_number 4 bytes / 2 ^ 31 ≡ get_or bytes 0 0 / 2 ^ 7
+top_byte bytes h = omega (arith, h 0, h 1, h 2, h 3)
+
+-- and the checksum's kind turns it to 1
+turns : (bytes : List ℕ) → AreBytes bytes → big_number 4 bytes / 2 ^ 31 + checksum_type (Some bytes) % 2 ≡ 1
+turns bytes h = grind (arith, nat_tests, top_byte bytes h, h 0)
+
+-- what a checksum's tag carries: the lowest bit of its kind is in the top bit
+carried_is : (kind size : ℕ) → IsKind kind → size < 2 ^ 10 → carried (tag_with kind no_id size) ≡ bit_xor (tag_with kind no_id size) (kind % 2 * 2 ^ 31)
+carried_is kind size k small =
+    let is = kind_is kind size k small in
+    let class : class_of (tag_with kind no_id size) ≡ 5 = class_of_kind (tag_with kind no_id size) (kind_of_cases kind (tag_with kind no_id size) k is) in
+    let bit : chunk_of (tag_with kind no_id size) % 2 ≡ kind % 2 = ap (λ (n : ℕ). n % 2 ^ 8 % 2) is ∙ omega arith in
+    rw (class, bit) refl
+
+pub nothing_follows : (block : List ℕ) (end size : ℕ) (next : Option (List ℕ)) → IfSome next AreBytes → size < 2 ^ 10 → next_at block end ≡ next
+    → entry_at block end (carried (tag_with (checksum_type next) no_id size)) ≡ None
+unfolding entry_at
+nothing_follows block end size None are small is =
+    let short : ltb (length block) (end + 4) ≡ true = told (ltb (length block) (end + 4)) is in
+    rw short refl
+  where
+    told : (t : Bool) → cond t None (Some (take 4 (drop end block))) ≡ None → t ≡ true
+    told true h = refl
+    told false h = absurd (cc)
+nothing_follows block end size (Some bytes) are small is =
+    let tag = tag_with (checksum_type (Some bytes)) no_id size in
+    let held : take 4 (drop end block) ≡ bytes = told (ltb (length block) (end + 4)) is in
+    let number : big_number 4 (drop end block) ≡ big_number 4 bytes = sym (big_from-take 0 4 4 (drop end block) (omega arith)) ∙ ap (big_number 4) held in
+    let high : tag_at block end (carried tag) / 2 ^ 31 ≡ 1 =
+    rw (number, carried_is (checksum_type (Some bytes)) size (kind_cases (Some bytes)) small)
+    (top_of tag (big_number 4 bytes) (checksum_type (Some bytes) % 2) (valid_is (checksum_type (Some bytes)) size (kind_cases (Some bytes)) small) (turns bytes are)) in
+    let invalid : leb (2 ^ 31) (tag_at block end (carried tag)) ≡ true = grind (arith, nat_tests, high) in
+    rw invalid (either (ltb (length block) (end + 4)) (ltb (length block) (end + 4 + size_of (tag_at block end (carried tag)))) _)
+  where
+    told : (t : Bool) → cond t None (Some (take 4 (drop end block))) ≡ Some bytes → take 4 (drop end block) ≡ bytes
+    told true h = absurd (cc)
+    told false h = cc
+
+    either : (a b : Bool) (e : LogEntry) → cond (a || (true || b)) None (Some e) ≡ None
+    either true b e = refl
+    either false b e = refl

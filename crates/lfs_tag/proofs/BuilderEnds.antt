@@ -1,0 +1,66 @@
+-- What the buffer holds at the end is the commit's pages.
+use Rattle.std.proofs.Common.{◌≡◌, ℕ, ◌+◌, ◌-◌, ◌≤◌, ◌<◌, ◌^◌, List, ◌++◌, length, take, drop, bit_xor, Option, IfSome, refl, sym, ap, ◌∙◌, arith, append_assoc, length-append, replicate}
+use Rattle.std.proofs.lemmas.List.{length-replicate}
+use Rattle.std.proofs.Math.Seq.{drop-append_seam}
+use Rattle.byteorder.specs.Endian.{big_bytes, little_bytes}
+use Rattle.lfs_model.specs.Crc.{crc_of}
+use Rattle.lfs_model.specs.Blocks.{overwritten}
+use Rattle.lfs_tag.specs.Builder.{Building, checksum_start, padded_end, checksum_tag}
+use Rattle.lfs_tag.specs.BuilderKeeps.{last_tag, front_of, Keeps}
+use Rattle.lfs_tag.proofs.BuilderWrites.{take-overwritten}
+use Rattle.lfs_tag.proofs.BuilderEntries.{length-front_of}
+use Rattle.lfs_tag.proofs.BuilderChecksums.{AreBytes, padded}
+use Rattle.lfs_tag.proofs.BuilderPages.{ArePages}
+
+-- what is known when the checksum is written
+pub record Sealed (page len last stored end tag : ℕ) (buf now : List ℕ) (b : Building) : Type 0 where
+  pub kept : Keeps page len last buf b
+  pub end_is : end ≡ padded_end b
+  pub within : end ≤ length buf
+  pub room : length buf < 2 ^ 64 - 1
+  pub stored_is : stored ≡ bit_xor tag last
+  pub fits : stored < 2 ^ 32
+  pub small : crc_of 0xffffffff (take len buf ++ big_bytes 4 stored) < 2 ^ 32
+  pub bytes : now ≡ overwritten buf len (big_bytes 4 stored ++ (little_bytes 4 (crc_of 0xffffffff (take len buf ++ big_bytes 4 stored)) ++ replicate (end - (len + 8)) 255))
+
+module _ (page len last stored end tag : ℕ) (buf now : List ℕ) (b : Building) (s : Sealed page len last stored end tag buf now b) where
+  abbrev sum : ℕ
+  sum = crc_of 0xffffffff (take len buf ++ big_bytes 4 stored)
+
+  abbrev pad : List ℕ
+  pad = replicate (padded_end b - (checksum_start b + 8)) 255
+
+  exact : len ≡ checksum_start b
+  exact = let p = padded b s.kept.power in omega (arith, s.kept.len_is, s.end_is, s.within, s.room, p.low)
+
+  pages_are : take end now ≡ front_of b ++ (big_bytes 4 (bit_xor tag last) ++ (little_bytes 4 sum ++ pad))
+  pages_are =
+      let p = padded b s.kept.power in
+      let filled = big_bytes 4 stored ++ (little_bytes 4 sum ++ replicate (end - (len + 8)) 255) in
+      let filler : ℕ = 255 in
+      let eight : length filled ≡ 8 + length (replicate (end - (len + 8)) filler) = omega arith in
+      let stop : end ≡ len + length filled = omega (arith, eight, length-replicate (end - (len + 8)) filler, exact, s.end_is, p.low) in
+      let same : end - (len + 8) ≡ padded_end b - (checksum_start b + 8) = omega (arith, exact, s.end_is) in
+      ap (take end) s.bytes ∙ take-overwritten len end buf filled (omega (arith, s.within, stop)) stop ∙ ap (λ (l : List ℕ). l ++ filled) (s.kept.bytes (omega (arith, s.within, stop)))
+      ∙ rw (same, ← s.stored_is) refl
+
+  pub padding_is : drop (checksum_start b + 8) (take end now) ≡ pad
+  padding_is =
+      let tag_bytes = big_bytes 4 (bit_xor tag last) in
+      let front = front_of b ++ (tag_bytes ++ little_bytes 4 sum) in
+      let joined : take end now ≡ front ++ pad = pages_are ∙ sym (append_assoc (front_of b) (tag_bytes ++ little_bytes 4 sum) pad) in
+      let at : checksum_start b + 8 ≡ length front = omega (arith, length-front_of b, length-append (front_of b) (tag_bytes ++ little_bytes 4 sum)) in
+      ap (drop (checksum_start b + 8)) joined ∙ ap (λ (n : ℕ). drop n (front ++ pad)) at ∙ drop-append_seam front pad
+
+  pub are_pages : (next : Option (List ℕ)) → IfSome next AreBytes → tag ≡ checksum_tag b next → ArePages b next (take end now) last sum
+  are_pages next bytes is = record {
+    power = s.kept.power;
+    last_is = s.kept.last_is;
+    revision = s.kept.revision;
+    entries = s.kept.entries;
+    bytes = bytes;
+    fits = rw (← is, ← s.stored_is) s.fits;
+    small = s.small;
+    sum_is = rw (← is, ← s.stored_is) (ap (λ (l : List ℕ). crc_of 0xffffffff (l ++ big_bytes 4 stored)) (s.kept.bytes (omega (arith, exact, s.within, s.end_is, (padded b s.kept.power).low))));
+    pages_are = rw (← is) pages_are;
+  }

@@ -1,0 +1,66 @@
+-- A commit that is being built, and what its pages make of a block's log.
+use Rattle.std.specs.Prelude.{◌≡◌, ◌<◌, ◌≤◌, ℕ, ◌+◌, ◌-◌, List, [], ◌∷◌, ◌++◌, length, drop, Option, Some, None, unwrap_or}
+use Rattle.lfs_model.specs.Tag.{class_of, tag_with, carried}
+use Rattle.lfs_model.specs.Log.{LogEntry, Chain, chain_of, revision_of}
+use Rattle.lfs_model.specs.Commit.{entries_size, page_end, next_at, checksum_type}
+use Rattle.lfs_model.specs.Content.{no_id}
+use Rattle.lfs_model.specs.Blocks.{overwritten}
+
+-- The entries so far, for a buffer of `room` bytes. `previous` is what the last tag before the commit carries. A block's
+-- first commit has the block's revision.
+pub record Building : Type 0 where
+  pub page : ℕ
+  pub room : ℕ
+  pub previous : ℕ
+  pub revision : Option ℕ
+  pub entries : List LogEntry
+
+-- the commit with an entry more
+abbrev pub with_entry : LogEntry → Building → Building
+with_entry e b = record b { entries = b.entries ++ e ∷ [] }
+
+-- the revision stands before the first entry
+abbrev pub entries_start : Option ℕ → ℕ
+entries_start None = 0
+entries_start (Some revision) = 4
+
+-- where the checksum's tag stands
+abbrev pub checksum_start : Building → ℕ
+checksum_start b = entries_start b.revision + entries_size b.entries
+
+abbrev pub padded_end : Building → ℕ
+padded_end b = page_end b.page (checksum_start b)
+
+-- ---- the checksum's entry
+
+abbrev pub checksum_tag : Building → Option (List ℕ) → ℕ
+checksum_tag b next = tag_with (checksum_type next) no_id (padded_end b - checksum_start b - 4)
+
+-- its bytes are the checksum and the padding
+abbrev pub checksum_entry : Building → Option (List ℕ) → List ℕ → LogEntry
+checksum_entry b next pages = record { tag = checksum_tag b next; bytes = drop (checksum_start b + 4) pages }
+
+-- ---- the log
+
+-- Where a commit goes in a block: a first one to its beginning, another one to the end of the chain.
+abbrev pub GoesTo : Option ℕ → ℕ → List ℕ → ℕ → Type 0
+GoesTo None previous block at = (0 < length (chain_of block).commits) × (at ≡ (chain_of block).end) × (previous ≡ (chain_of block).last)
+GoesTo (Some revision) previous block at = (at ≡ 0) × (previous ≡ 0xffffffff)
+
+-- the commits before it
+abbrev pub earlier : Option ℕ → List ℕ → List (List LogEntry)
+earlier None block = (chain_of block).commits
+earlier (Some revision) block = []
+
+-- Pages that are the commit: in a block where they go, in front of the bytes that were told, the log has the earlier
+-- commits and exactly this one.
+pub record AreCommitted (b : Building) (next : Option (List ℕ)) (pages : List ℕ) : Type 0 where
+  pub log : (block : List ℕ) (at : ℕ) → GoesTo b.revision b.previous block at → at + length pages ≤ length block → next_at block (at + length pages) ≡ next
+      → chain_of (overwritten block at pages) ≡ record {
+        commits = earlier b.revision block ++ (b.entries ++ checksum_entry b next pages ∷ []) ∷ [];
+        end = at + length pages;
+        last = carried (checksum_tag b next);
+      }
+  pub revision : (block : List ℕ) (at : ℕ) → GoesTo b.revision b.previous block at → at + length pages ≤ length block
+      → revision_of (overwritten block at pages) ≡ unwrap_or b.revision (revision_of block)
+  pub class : class_of (checksum_tag b next) ≡ 5

@@ -1,0 +1,205 @@
+// Commits, written.
+
+ghost use Rattle.std.specs.Prelude.{◌≡◌, ℕ, IfSome, slice_index, ◌≢◌, ◌+◌, ◌-◌, ◌≤◌, ◌<◌, ◌^◌, ◌++◌, [], ◌∷◌, ◌↔◌, length, take, drop, min, true, replicate, IsOk, IfOk, IfErr};
+ghost use Rattle.byteorder.specs.Endian.{big_bytes, little_bytes};
+ghost use Rattle.lfs_model.specs.Crc.{crc_of};
+ghost use Rattle.lfs_model.specs.Tag.{IsValid, class_of, size_of, tag_with};
+ghost use Rattle.lfs_model.specs.Geometry.{is_page};
+ghost use Rattle.lfs_model.specs.Content.{no_id};
+ghost use Rattle.lfs_model.specs.Blocks.{overwritten};
+ghost use Rattle.lfs_model.specs.Commit.{checksum_type};
+ghost use Rattle.lfs_tag.specs.Builder.{Building, with_entry, checksum_start, padded_end, AreCommitted};
+
+use crate::crc;
+use crate::kinds::{CHECKSUM, TURNED_CHECKSUM};
+use crate::pushed::Pushed;
+use crate::tag::Tag;
+use byteorder::{BigEndian, ByteOrder, LittleEndian};
+use lfs_device::Error;
+use std::marker::Model;
+
+/// A commit that is being built in a buffer: entries, then the checksum and the padding to a page
+/// (SPEC.md of littlefs, "Metadata pairs" and "0x5xx LFS_TYPE_CRC").
+///
+/// The buffer stands for the bytes of a block from where its log ends, and for a first commit from
+/// the beginning of the block. It may be longer than the commit.
+#[derive(Drop)]
+pub struct CommitBuilder<'a> {
+    page: usize,
+    buf: &'a mut [u8],
+    // How many bytes there are so far, also where they don't fit the buffer.
+    len: usize,
+    last: Tag,
+    pushed: Pushed,
+}
+
+impl<'a> Model for CommitBuilder<'a> {
+    ghost use Rattle.lfs_tag.specs.Builder.{Building};
+
+    ghost Value = { Building };
+
+    ghost use Rattle.lfs_tag.specs.BuilderSeen.{building, IsBuilt};
+
+    ghost view = { building };
+
+    ghost invariant = { IsBuilt };
+}
+
+// Writes the revision of a block where there is room, and says how many bytes it takes.
+fn write_revision(buf: &mut [u8], revision: u32) -> usize
+    ensures value { result ≡ 4 }
+    ensures len { length buf.new ≡ length buf.old }
+    ensures bytes { 4 ≤ length buf.old → take 4 buf.new ≡ little_bytes 4 revision }
+{
+    if buf.len() >= 4 {
+        LittleEndian::write_u32(buf, revision);
+    }
+    4
+}
+
+// Writes a stored tag and the bytes behind it.
+fn put_entry(buf: &mut [u8], at: usize, stored: u32, bytes: &[u8])
+    requires { at + 4 + length bytes.now ≤ length buf.old }
+    ensures { buf.new ≡ overwritten buf.old at (big_bytes 4 stored ++ bytes.now) }
+{
+    BigEndian::write_u32(&mut buf[at..], stored);
+    let start = at + 4;
+    buf[start..start + bytes.len()].copy_from_slice(bytes);
+}
+
+// Does so where there is room, and says where the bytes end, or would.
+fn write_entry(buf: &mut [u8], at: usize, stored: u32, bytes: &[u8]) -> usize
+    ensures end { result ≡ min (at + 4 + length bytes.now) (2 ^ 64 - 1) }
+    ensures exact { result ≤ length buf.old → result ≡ at + 4 + length bytes.now }
+    ensures len { length buf.new ≡ length buf.old }
+    ensures bytes { result ≤ length buf.old → buf.new ≡ overwritten buf.old at (big_bytes 4 stored ++ bytes.now) }
+{
+    let end = at.saturating_add(4).saturating_add(bytes.len());
+    if end <= buf.len() {
+        put_entry(buf, at, stored, bytes);
+    }
+    end
+}
+
+// Writes the checksum's stored tag, the checksum of all bytes up to there, and the padding.
+fn seal(buf: &mut [u8], at: usize, stored: u32, end: usize)
+    requires room { at + 8 ≤ end }
+    requires within { end ≤ length buf.old }
+    ensures fits { crc_of 0xffffffff (take at buf.old ++ big_bytes 4 stored) < 2 ^ 32 }
+    ensures bytes { buf.new ≡ overwritten buf.old at (big_bytes 4 stored
+        ++ (little_bytes 4 (crc_of 0xffffffff (take at buf.old ++ big_bytes 4 stored)) ++ replicate (end - (at + 8)) 255)) }
+{
+    BigEndian::write_u32(&mut buf[at..], stored);
+    let sum = crc(0xffff_ffff, &buf[..at + 4]);
+    LittleEndian::write_u32(&mut buf[at + 4..], sum);
+    buf[at + 8..end].fill(0xff);
+}
+
+// The checksum's tag, where it has so many bytes.
+fn checksum_tag(next: Option<[u8; 4]>, size: usize) -> Tag
+    requires { size < 2 ^ 10 }
+    ensures tag { result ≡ tag_with (checksum_type next) no_id size }
+    ensures bytes { IfSome next (λ next. (i : ℕ) → slice_index next i < 256) }
+{
+    let turns = match next {
+        Some(next) => next[0] < 0x80,
+        None => false,
+    };
+    let kind = if turns { TURNED_CHECKSUM } else { CHECKSUM };
+    Tag::new(kind, 0x3ff, size as u16)
+}
+
+impl<'a> CommitBuilder<'a> {
+    /// An empty commit, for pages of a size from 8 to 512 that is a power of two.
+    ///
+    /// With a revision it is a block's first commit: the revision stands before its entries, and
+    /// `previous` is 0xffffffff. Else `previous` is the last tag of the block's log, as the next
+    /// one is decoded with it.
+    pub fn new(
+        page: u32,
+        buf: &'a mut [u8],
+        previous: Tag,
+        revision: Option<u32>,
+    ) -> CommitBuilder<'a>
+        requires { is_page page ≡ true }
+        ensures { result ≡ record { page = page; room = length buf.old; previous = previous; revision = revision; entries = [] } }
+    {
+        let len = match revision {
+            Some(revision) => write_revision(buf, revision),
+            None => 0,
+        };
+        CommitBuilder {
+            page: page as usize,
+            pushed: Pushed::told_by(&(page, buf.len(), previous, revision), &()),
+            buf,
+            len,
+            last: previous,
+        }
+    }
+
+    /// Adds an entry: a valid tag that is no checksum, and as many bytes as its length says, where
+    /// 0x3ff says none. What doesn't fit the buffer is only counted, and then the end refuses.
+    pub fn push(&mut self, tag: Tag, bytes: &[u8])
+        requires valid { IsValid tag }
+        requires other { class_of tag ≢ 5 }
+        requires bytes { length bytes.now ≡ size_of tag }
+        ensures { self.new ≡ with_entry (record { tag = tag; bytes = bytes.now }) self.old }
+    {
+        let stored = tag.encode(self.last);
+        let buf = &mut *self.buf;
+        let end = write_entry(buf, self.len, stored, bytes);
+        self.pushed = Pushed::told_by(&self.pushed, &(tag, bytes));
+        self.len = end;
+        self.last = tag;
+    }
+
+    // Where the padded commit ends, or the greatest number where it would be past that.
+    fn padded_end(&self) -> usize
+        ensures { result ≡ min (padded_end self.now) (2 ^ 64 - 1) }
+    {
+        self.len
+            .saturating_add(8)
+            .checked_next_multiple_of(self.page)
+            .unwrap_or(usize::MAX)
+    }
+
+    /// Where the padded commit will end, in bytes from the buffer's start, whether it fits the
+    /// buffer or not. It is `u32::MAX` where the end is past that.
+    pub fn end(&self) -> u32
+        ensures { result ≡ min (padded_end self.now) (2 ^ 32 - 1) }
+    {
+        u32::try_from(self.padded_end()).unwrap_or(u32::MAX)
+    }
+
+    /// The commit's pages, to be programmed where it goes. `next` is the four bytes of the block
+    /// behind them, or none at the block's end. The checksum's type is chosen so that they decode
+    /// as an invalid tag, since an erase may leave any bytes; the padding is 0xff.
+    ///
+    /// `TooBig` exactly where the padded commit doesn't fit the buffer, whose bytes are then
+    /// without meaning.
+    pub fn finish(self, next: Option<[u8; 4]>) -> Result<&'a [u8], Error>
+        ensures fits { IsOk result ↔ (padded_end self.entry ≤ self.entry.room) }
+        ensures error { IfErr result (λ e. e ≡ Error.TooBig) }
+        ensures size { IfOk result (λ pages. length pages.now ≡ padded_end self.entry) }
+        ensures padding { IfOk result (λ pages. drop (checksum_start self.entry + 8) pages.now ≡ replicate (padded_end self.entry - (checksum_start self.entry + 8)) 255) }
+        ensures commit { IfOk result (λ pages. AreCommitted self.entry next pages.now) }
+    {
+        let end = self.padded_end();
+        let CommitBuilder {
+            page: _,
+            buf,
+            len,
+            last,
+            pushed: _,
+        } = self;
+        if buf.len() < end {
+            return Err(Error::TooBig);
+        }
+        let tag = checksum_tag(next, end - (len + 4));
+        seal(buf, len, tag.encode(last), end);
+        Ok(&buf[..end])
+    }
+}
+
+#[cfg(test)]
+mod tests;

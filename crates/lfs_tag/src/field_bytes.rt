@@ -1,0 +1,112 @@
+// The bytes of structs, tails and move states: numbers of 32 bits, the lowest byte first.
+
+ghost use Rattle.std.specs.Prelude.{◌≡◌, ◌%◌, ◌^◌, ◌<◌, slice_index};
+ghost use Rattle.byteorder.specs.Endian.{little_number};
+ghost use Rattle.lfs_model.specs.Slots.{Ctz, address_of};
+ghost use Rattle.lfs_model.specs.Content.{pair_at, gstate_at, superblock_at, struct_typed, ctz_struct_type};
+ghost use Rattle.lfs_tag.specs.FieldsSeen.{superblock_seen, move_seen};
+
+use crate::fields::{MoveState, Superblock};
+use byteorder::{ByteOrder, LittleEndian};
+
+/// The bytes of a tail or of a directory's struct that names this pair.
+pub fn pair_bytes(pair: [u32; 2]) -> [u8; 8]
+    ensures { pair_at result ≡ address_of pair }
+{
+    let mut bytes = [0; 8];
+    LittleEndian::write_u32_into(&pair, &mut bytes);
+    bytes
+}
+
+/// The bytes of a file's struct that names a skip list: the address of its last block, and its
+/// size in bytes (SPEC.md of littlefs, "CTZ structs").
+pub fn ctz_bytes(head: u32, size: u32) -> [u8; 8]
+    ensures { struct_typed ctz_struct_type result ≡ Ctz head size }
+{
+    pair_bytes([head, size])
+}
+
+/// The bytes of a superblock's struct.
+pub fn superblock_bytes(superblock: &Superblock) -> [u8; 24]
+    ensures { superblock_at result ≡ superblock_seen superblock.now }
+{
+    words_bytes([
+        superblock.version,
+        superblock.block_size,
+        superblock.block_count,
+        superblock.name_max,
+        superblock.file_max,
+        superblock.attr_max,
+    ])
+}
+
+// The same of a superblock's six numbers, in their order.
+fn words_bytes(words: [u32; 6]) -> [u8; 24]
+    ensures { superblock_at result ≡ record {
+      version = slice_index words 0;
+      block_size = slice_index words 1;
+      block_count = slice_index words 2;
+      name_max = slice_index words 3;
+      file_max = slice_index words 4;
+      attr_max = slice_index words 5;
+    } }
+{
+    let mut bytes = [0; 24];
+    LittleEndian::write_u32_into(&words, &mut bytes);
+    bytes
+}
+
+/// The bytes of a move state. The lowest ten bits of the first word, which say nothing, are 0.
+pub fn move_bytes(state: &MoveState) -> [u8; 12]
+    requires kind { state.now.kind < 2 ^ 11 }
+    requires id { state.now.id < 2 ^ 10 }
+    ensures state { gstate_at result ≡ move_seen state.now }
+    ensures rest { little_number 4 result % 2 ^ 10 ≡ 0 }
+{
+    let word = u32::from(state.sync) * 0x8000_0000
+        + u32::from(state.kind) * 0x10_0000
+        + u32::from(state.id) * 0x400;
+    let mut bytes = [0; 12];
+    LittleEndian::write_u32(&mut bytes, word);
+    LittleEndian::write_u32(&mut bytes[4..], state.pair[0]);
+    LittleEndian::write_u32(&mut bytes[8..], state.pair[1]);
+    bytes
+}
+
+#[cfg(test)]
+mod tests {
+    use super::*;
+
+    #[test]
+    fn of_addresses(rt: HostRuntime) {
+        assert_eq!(rt;
+            pair_bytes([2, 0xffff_ffff]),
+            [2, 0, 0, 0, 0xff, 0xff, 0xff, 0xff]
+        );
+        assert_eq!(rt; ctz_bytes(7, 2045), [7, 0, 0, 0, 0xfd, 7, 0, 0]);
+    }
+
+    #[test]
+    fn of_move_states(rt: HostRuntime) {
+        let unreached = MoveState {
+            sync: true,
+            kind: 0,
+            id: 0,
+            pair: [0, 0],
+        };
+        assert_eq!(rt;
+            move_bytes(&unreached),
+            [0, 0, 0, 0x80, 0, 0, 0, 0, 0, 0, 0, 0]
+        );
+        let moving = MoveState {
+            sync: false,
+            kind: 0x4ff,
+            id: 1,
+            pair: [2, 3],
+        };
+        assert_eq!(rt;
+            move_bytes(&moving),
+            [0, 4, 0xf0, 0x4f, 2, 0, 0, 0, 3, 0, 0, 0]
+        );
+    }
+}

@@ -1,0 +1,25 @@
+ghost use Rattle.std.specs.Prelude.{◌≡◌};
+ghost use Rattle.std.specs.Borrow.{ftrue};
+ghost use Rattle.lfs_tag.specs.Builder.{Building};
+
+use std::marker::Model;
+
+// What was pushed, which only proofs read. It takes no memory.
+#[derive(Drop)]
+pub(crate) struct Pushed {
+    pub(crate) ghost so_far: { Building },
+}
+
+impl Model for Pushed {
+    ghost also_owns = { λ _. ftrue };
+}
+
+impl Pushed {
+    // Any commit, which the caller's proof picks from what is referred to.
+    pub(crate) fn told_by<S, T>(_before: &S, _pushed: &T) -> Pushed
+        ghost so_far: { Building }
+        ensures { result.so_far ≡ so_far }
+    {
+        Pushed {}
+    }
+}

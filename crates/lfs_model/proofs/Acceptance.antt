@@ -5,8 +5,8 @@ use Rattle.std.specs.List.{AllByRecursion, list_all, list_any, IsDistinct}
 use Rattle.std.specs.Option.{option_map_or}
 use Rattle.std.specs.declared.cmp.Ordering.{Ordering}
 use Rattle.std.specs.declared.cmp.Ordering.TheVariants.{Less, Equal, Greater}
-use Rattle.std.proofs.lemmas.Bool.{and_parts, or_cases}
-use Rattle.std.proofs.lemmas.List.Elements.{All-from_recursion}
+use Rattle.std.proofs.lemmas.Bool.{and_parts, and_from, or_cases}
+use Rattle.std.proofs.lemmas.List.Elements.{All-from_recursion, All-head, All-tail}
 use Rattle.std.proofs.lemmas.List.Folds.{Any-from_list_any}
 use Rattle.std.proofs.lemmas.List.Kept.{AllPairs-cons}
 use Rattle.byteorder.specs.Endian.{little_number}
@@ -34,6 +34,10 @@ each_as P Q f (x ∷ xs) h = (f x h.0, each_as P Q f xs h.1)
 pub all_from : {X : Type 0} (p : X → Bool) (P : X → Type 0) → ((x : X) → p x ≡ true → P x) → (xs : List X) → list_all p xs ≡ true → All P xs
 all_from p P f xs e = All-from_recursion P xs (each_as (λ x. p x ≡ true) P f xs (each_from p xs e))
 
+pub all_to : {X : Type 0} (p : X → Bool) (P : X → Type 0) → ((x : X) → P x → p x ≡ true) → (xs : List X) → All P xs → list_all p xs ≡ true
+all_to p P f [] h = refl
+all_to p P f (x ∷ xs) h = and_from (p x) (list_all p xs) (f x (All-head P x xs h)) (all_to p P f xs (All-tail P x xs h))
+
 turned : (b : Bool) → not b ≡ true → b ≡ false
 turned true e = absurd (cc)
 turned false e = refl
@@ -48,6 +52,15 @@ distinct_from [] e = tt
 distinct_from (x ∷ xs) e =
     let both = and_parts (list_all (λ y. not (nat_eq x y)) xs) (are_apart xs) e in
     (each_as (λ y. not (nat_eq x y) ≡ true) (λ y. nat_eq x y ≡ false) (λ y. turned (nat_eq x y)) xs (each_from (λ y. not (nat_eq x y)) xs both.0), distinct_from xs both.1)
+
+pub apart_from : (xs : List ℕ) → IsDistinct nat_eq xs → are_apart xs ≡ true
+unfolding IsDistinct
+apart_from [] h = refl
+apart_from (x ∷ xs) h = and_from (list_all (λ y. not (nat_eq x y)) xs) (are_apart xs) (each x xs h.0) (apart_from xs h.1)
+  where
+    each : (x : ℕ) (ys : List ℕ) → AllByRecursion (λ y. nat_eq x y ≡ false) ys → list_all (λ y. not (nat_eq x y)) ys ≡ true
+    each x [] h = refl
+    each x (y ∷ ys) h = and_from (not (nat_eq x y)) (list_all (λ y. not (nat_eq x y)) ys) (ap not h.0) (each x ys h.1)
 
 abbrev pub rise : List Name → Bool
 rise [] = true
@@ -66,7 +79,7 @@ rise_from (n ∷ ns) e =
 
 -- ---- slots
 
-abbrev suits : Kind → Struct → Bool
+abbrev pub suits : Kind → Struct → Bool
 suits File (Inline bytes) = true
 suits File (Ctz head size) = true
 suits Directory (Branch to) = true
@@ -90,7 +103,7 @@ suits_from Superblock s e = absurd (cc)
 entry_from : (s : Slot) → is_entry s ≡ true → IsEntry s
 entry_from s e = let both = and_parts (is_name s.name) (suits s.kind s.struct) e in record { name = both.0; struct = suits_from s.kind s.struct both.1 }
 
-abbrev is_inline : List ℕ → Struct → Bool
+abbrev pub is_inline : List ℕ → Struct → Bool
 is_inline bytes (Inline held) = same_name held bytes
 is_inline bytes (Ctz head size) = false
 is_inline bytes (Branch to) = false
@@ -100,7 +113,7 @@ inline_from bytes (Inline held) e = ap Inline (name_from_same held bytes e)
 inline_from bytes (Ctz head size) e = absurd (cc)
 inline_from bytes (Branch to) e = absurd (cc)
 
-abbrev has_superblock : List ℕ → List Slot → Bool
+abbrev pub has_superblock : List ℕ → List Slot → Bool
 has_superblock bytes [] = false
 has_superblock bytes (s ∷ slots) = is_superblock s && (is_inline bytes s.struct && list_all is_entry slots)
 
@@ -113,7 +126,7 @@ superblock_from bytes (s ∷ slots) e =
 
 -- ---- what a path leads to
 
-abbrev on_branches : (Path → ℕ × ℕ → Bool) → Outline → Bool
+abbrev pub on_branches : (Path → ℕ × ℕ → Bool) → Outline → Bool
 on_branches T xs = list_all (λ f. option_map_or (T f.0) (branch_of f.1.struct) true) xs
 
 on_branch : (T : Path → ℕ × ℕ → Bool) (xs : Outline) (path : Path) (s : Slot) (at : ℕ × ℕ) → on_branches T xs ≡ true → found_in path xs ≡ Some s → branch_of s.struct ≡ Some at → T path at ≡ true
@@ -126,7 +139,7 @@ on_branch T xs path s at e found branch =
 abbrev pub outline_in : ℕ → List Pair → Outline
 outline_in k ps = outline k (entries_in ps) (root_slot (root_of ps))
 
-led : (k : ℕ) (ps : List Pair) → is_outlined k (entries_in ps) (root_slot (root_of ps)) ≡ true → (T : Path → ℕ × ℕ → Bool) → on_branches T (outline_in k ps) ≡ true →
+pub led : (k : ℕ) (ps : List Pair) → is_outlined k (entries_in ps) (root_slot (root_of ps)) ≡ true → (T : Path → ℕ × ℕ → Bool) → on_branches T (outline_in k ps) ≡ true →
     (path : Path) (at : ℕ × ℕ) → Leads ps path at → T path at ≡ true
 led k ps whole T e path at leads = go (slot_at (entries_in ps) (root_slot (root_of ps)) path) (outlined k (entries_in ps) (root_slot (root_of ps)) whole path) leads
   where
@@ -134,7 +147,7 @@ led k ps whole T e path at leads = go (slot_at (entries_in ps) (root_slot (root_
     go None found is = absurd (cc)
     go (Some s) found is = on_branch T (outline_in k ps) path s at e found is
 
-abbrev begins : List Pair → ℕ × ℕ → Bool
+abbrev pub begins : List Pair → ℕ × ℕ → Bool
 begins ps at = list_any (λ d. same_pair d.at at) (directories_in ps)
 
 -- no other path leads to the same directory
@@ -157,7 +170,7 @@ reached_from ps first (x ∷ xs) e = go (or_cases (leads_to ps first x.0) (list_
     go (inl h) ih = here (directory_at (entries_in ps) (root_of ps) x.0) refl h
     go (inr h) ih = ih h
 
-abbrev is_other : Option Slot → Bool
+abbrev pub is_other : Option Slot → Bool
 is_other None = false
 is_other (Some s) = not (is_superblock s)
 
@@ -165,7 +178,7 @@ other_from : (o : Option Slot) → is_other o ≡ true → IsOtherSlot o
 other_from None e = absurd (cc)
 other_from (Some s) e = turned (is_superblock s) e
 
-abbrev names_slot : List Pair → ℕ × ℕ → ℕ → Bool
+abbrev pub names_slot : List Pair → ℕ × ℕ → ℕ → Bool
 names_slot ps pair id = list_any (λ p. same_pair pair p.at && is_other (slice_get p.content.slots id)) ps
 
 named_from : (ps : List Pair) (pair : ℕ × ℕ) (id : ℕ) → names_slot ps pair id ≡ true → NamesSlot ps pair id
@@ -177,7 +190,7 @@ named_from ps pair id e =
     Any-as : (P Q : Pair → Type 0) → ((p : Pair) → P p → Q p) → Any P ps → Any Q ps
     Any-as P Q f h = (h.0, h.1, h.2, h.3, f h.1 h.4)
 
-abbrev is_move : List Pair → Gstate → Bool
+abbrev pub is_move : List Pair → Gstate → Bool
 is_move ps g =
     g.kind == 0x000 && (g.id == 0 && (g.pair.0 == 0 && g.pair.1 == 0)) || g.kind == 0x4ff && names_slot ps g.pair g.id
 
@@ -194,7 +207,7 @@ move_from ps g e = go (or_cases (g.kind == 0x000 && (g.id == 0 && (g.pair.0 == 0
 
 -- ---- images
 
-abbrev is_struct : Disk → List ℕ → Bool
+abbrev pub is_struct : Disk → List ℕ → Bool
 is_struct disk bytes =
     length bytes == 24 && (little_number 4 bytes == 0x00020000 && (little_number 4 (drop 4 bytes) == disk.block_size && little_number 4 (drop 8 bytes) == block_count disk))
 

@@ -5,10 +5,10 @@ use Rattle.lfs_model.specs.Disk.{Disk}
 use Rattle.lfs_model.specs.Slots.{Slot, File, Directory, Inline, Ctz, Branch, Tail, Gstate}
 use Rattle.lfs_model.specs.Thread.{Pair, gstate_of, root_of}
 use Rattle.lfs_model.specs.Tree.{Path, Node, root_slot, node_of}
-use Rattle.lfs_model.specs.View.{entries_in, contents_in, tree_in, used_blocks}
+use Rattle.lfs_model.specs.View.{HasView, view_in, entries_in, contents_in, tree_in, used_blocks}
 use Rattle.lfs_model.specs.Apply.{same_path}
 use Rattle.lfs_model.specs.Fresh.{superblock_slot}
-use Rattle.lfs_model.specs.Examples.{tree_with, Shows}
+use Rattle.lfs_model.specs.Examples.{tree_with, view_with}
 use Rattle.lfs_model.proofs.Outlines.{Outline, found_in, outlined}
 use Rattle.lfs_model.proofs.Acceptance.{IsImage, image_is_accepted, image_is_outlined, outline_in}
 
@@ -26,14 +26,11 @@ found_nodes node (x ∷ xs) path = go (same_path path x.0) (found_nodes node xs 
     go false ih = ih
 
 pub image_shows : (disk : Disk) (ps : List Pair) (bytes : List ℕ) (k : ℕ) → IsImage disk ps bytes k →
-    (nodes : List (Path × Node)) (gstate : Gstate) (used : List ℕ) → nodes_in disk ps k ≡ nodes → gstate_of ps ≡ gstate → used_blocks disk ps ≡ used → Shows disk nodes gstate used
-image_shows disk ps bytes k h nodes gstate used nodes_are gstate_is used_are = record {
-  pairs = ps;
-  accepted = image_is_accepted disk ps bytes k h;
-  tree = (λ i path. tree_at path i) ∙ ap tree_with nodes_are;
-  gstate_is = gstate_is;
-  used_is = used_are;
-}
+    (nodes : List (Path × Node)) (gstate : Gstate) (used : List ℕ) → nodes_in disk ps k ≡ nodes → gstate_of ps ≡ gstate → used_blocks disk ps ≡ used → HasView disk (view_with nodes gstate used)
+image_shows disk ps bytes k h nodes gstate used nodes_are gstate_is used_are =
+    let tree : tree_in disk ps ≡ tree_with nodes = (λ i path. tree_at path i) ∙ ap tree_with nodes_are in
+    let view : view_in disk ps ≡ view_with nodes gstate used = λ i. record { tree = tree i; gstate = gstate_is i; used = used_are i } in
+    (ps, (image_is_accepted disk ps bytes k h, sym view))
   where
     tree_at : (path : Path) → tree_in disk ps path ≡ tree_with (nodes_in disk ps k) path
     tree_at path =

@@ -1,42 +1,65 @@
--- A list of three blocks, computed.
-use Rattle.std.proofs.Common.{ℕ, zero, suc, ◌≡◌, ◌<◌, ◌*◌, ◌-◌, ◌^◌, nat_eq, List, [], ◌∷◌, ◌++◌, replicate, refl, sym, subst, arith}
-use Rattle.std.specs.Prelude.{All, slice_index}
-use Rattle.std.specs.List.{IsDistinct}
-use Rattle.std.proofs.lemmas.List.Elements.{All-from_recursion}
+-- A skip list is well formed where tests say so, which compute on literal blocks.
+use Rattle.std.proofs.Common.{ℕ, zero, suc, ◌≡◌, ◌<◌, ◌*◌, ◌-◌, ◌^◌, ◌==◌, Bool, true, ◌&&◌, List, length, refl, arith, inl, inr, eqb-true, ltb-true, leb-true, eq-eqb, lt-ltb, le-leb}
+use Rattle.std.specs.Prelude.{slice_index, nat_lt, nat_le}
+use Rattle.std.specs.List.{list_all}
+use Rattle.std.proofs.lemmas.Bool.{and_parts, and_from, cases_lt}
 use Rattle.lfs_model.specs.Blocks.{Blocks, block_in}
 use Rattle.lfs_model.specs.Lists.{word_at, pointers_of, blocks_for, blocks_back, IsList}
+use Rattle.lfs_model.proofs.Acceptance.{all_from, all_to, are_apart, distinct_from, apart_from}
 
--- 2,045 bytes in the blocks 5, 6 and 7
-disk : Blocks
-disk = replicate 6 (replicate 1024 1) ++ (5 ∷ 0 ∷ 0 ∷ 0 ∷ replicate 1020 2) ∷ (6 ∷ 0 ∷ 0 ∷ 0 ∷ 5 ∷ 0 ∷ 0 ∷ 0 ∷ replicate 1016 3) ∷ []
+-- the test passes below a number
+abbrev all_below : (ℕ → Bool) → ℕ → Bool
+all_below p zero = true
+all_below p (suc n) = p n && all_below p n
 
-three : blocks_back disk (blocks_for 1024 2045) 7 ≡ 5 ∷ 6 ∷ 7 ∷ []
-unfolding disk lib.Count.count_trailing_zeros
-three = refl
+below_from : (p : ℕ → Bool) (n : ℕ) → all_below p n ≡ true → (i : ℕ) → i < n → p i ≡ true
+below_from p zero e i l = absurd (omega arith)
+below_from p (suc n) e i l =
+    let both = and_parts (p n) (all_below p n) e in
+    elim (cases_lt i n) [
+      | inl less ↦ below_from p n both.1 i less
+      | inr more ↦ let is : i ≡ n = omega arith in rw is both.0
+    ]
 
-count : blocks_for 1024 2045 ≡ 3
-unfolding lib.Count.count_trailing_zeros
-count = refl
+abbrev points : Blocks → List ℕ → ℕ → ℕ → Bool
+points disk bs i k = word_at (block_in disk (slice_index bs i)) (4 * k) == slice_index bs (i - 2 ^ k)
 
-abbrev three_blocks : List ℕ
-three_blocks = 5 ∷ 6 ∷ 7 ∷ []
+abbrev pub is_list : Blocks → ℕ → ℕ → ℕ → Bool
+is_list disk block_size head size =
+    nat_le 1 size && (nat_lt size (2 ^ 31)
+    && (list_all (λ b. nat_lt b (length disk)) (blocks_back disk (blocks_for block_size size) head)
+    && (are_apart (blocks_back disk (blocks_for block_size size) head)
+    && all_below (λ i. all_below (points disk (blocks_back disk (blocks_for block_size size) head) i) (pointers_of i)) (blocks_for block_size size))))
 
-points : (i k : ℕ) → i < 3 → k < pointers_of i → word_at (block_in disk (slice_index three_blocks i)) (4 * k) ≡ slice_index three_blocks (i - 2 ^ k)
-unfolding disk lib.Count.count_trailing_zeros
-points zero k l m = absurd (omega arith)
-points (suc zero) zero l m = refl
-points (suc zero) (suc k) l m = absurd (omega arith)
-points (suc (suc zero)) zero l m = refl
-points (suc (suc zero)) (suc zero) l m = refl
-points (suc (suc zero)) (suc (suc k)) l m = absurd (omega arith)
-points (suc (suc (suc i))) k l m = absurd (omega arith)
+pub list_from : (disk : Blocks) (block_size head size : ℕ) → is_list disk block_size head size ≡ true → IsList disk block_size head size
+list_from disk block_size head size e =
+    let n = blocks_for block_size size in
+    let bs = blocks_back disk n head in
+    let pointers = all_below (λ i. all_below (points disk bs i) (pointers_of i)) n in
+    let one = and_parts (nat_le 1 size) (nat_lt size (2 ^ 31) && (list_all (λ b. nat_lt b (length disk)) bs && (are_apart bs && pointers))) e in
+    let two = and_parts (nat_lt size (2 ^ 31)) (list_all (λ b. nat_lt b (length disk)) bs && (are_apart bs && pointers)) one.1 in
+    let three = and_parts (list_all (λ b. nat_lt b (length disk)) bs) (are_apart bs && pointers) two.1 in
+    let four = and_parts (are_apart bs) pointers three.1 in
+    record {
+      size_low = leb-true 1 size one.0;
+      size_high = ltb-true size (2 ^ 31) two.0;
+      in_range = all_from (λ b. nat_lt b (length disk)) (λ b. b < length disk) (λ b. ltb-true b (length disk)) bs three.0;
+      distinct = distinct_from bs four.0;
+      pointers = λ i k l m.
+          let here = below_from (λ i. all_below (points disk bs i) (pointers_of i)) n four.1 i l in
+          eqb-true (word_at (block_in disk (slice_index bs i)) (4 * k)) (slice_index bs (i - 2 ^ k)) (below_from (points disk bs i) (pointers_of i) here k m);
+    }
 
-is_list : IsList disk 1024 7 2045
-unfolding disk IsDistinct
-is_list = record {
-  size_low = omega arith;
-  size_high = omega arith;
-  in_range = subst (All (λ b. b < 8)) (sym three) (All-from_recursion (λ b. b < 8) three_blocks (omega arith, (omega arith, (omega arith, tt))));
-  distinct = subst (IsDistinct nat_eq) (sym three) ((refl, (refl, tt)), ((refl, tt), (tt, tt)));
-  pointers = λ i k l m. subst (λ bs. word_at (block_in disk (slice_index bs i)) (4 * k) ≡ slice_index bs (i - 2 ^ k)) (sym three) (points i k (subst (λ n. i < n) count l) m);
-}
+below_to : (p : ℕ → Bool) (n : ℕ) → ((i : ℕ) → i < n → p i ≡ true) → all_below p n ≡ true
+below_to p zero h = refl
+below_to p (suc n) h = and_from (p n) (all_below p n) (h n (omega arith)) (below_to p n (λ i l. h i (omega arith)))
+
+pub list_to : (disk : Blocks) (block_size head size : ℕ) → IsList disk block_size head size → is_list disk block_size head size ≡ true
+list_to disk block_size head size h =
+    let n = blocks_for block_size size in
+    let bs = blocks_back disk n head in
+    and_from _ _ (le-leb 1 size h.size_low) (and_from _ _ (lt-ltb size (2 ^ 31) h.size_high)
+    (and_from _ _ (all_to (λ b. nat_lt b (length disk)) (λ b. b < length disk) (λ b. lt-ltb b (length disk)) bs h.in_range)
+    (and_from _ _ (apart_from bs h.distinct)
+    (below_to (λ i. all_below (points disk bs i) (pointers_of i)) n
+    (λ i l. below_to (points disk bs i) (pointers_of i) (λ k m. eq-eqb (word_at (block_in disk (slice_index bs i)) (4 * k)) (slice_index bs (i - 2 ^ k)) (h.pointers i k l m)))))))

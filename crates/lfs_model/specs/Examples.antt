@@ -1,27 +1,26 @@
 -- Images in bytes.
-use Rattle.std.specs.Prelude.{ℕ, ◌-◌, ◌≡◌, List, [], ◌∷◌, ◌++◌, length, find, replicate, codes}
+use Rattle.std.specs.Prelude.{ℕ, ◌-◌, List, [], ◌∷◌, ◌++◌, length, find, replicate, codes}
+use Rattle.std.specs.List.{flat_map}
 use Rattle.std.specs.Option.{option_map}
+use Rattle.byteorder.specs.Endian.{little_bytes}
 use Rattle.lfs_model.specs.Blocks.{Blocks}
-use Rattle.lfs_model.specs.Disk.{Disk}
+use Rattle.lfs_model.specs.Disk.{Disk, file_limit}
 use Rattle.lfs_model.specs.Slots.{Gstate}
 use Rattle.lfs_model.specs.Log.{LogEntry}
-use Rattle.lfs_model.specs.Thread.{Pair, gstate_of}
+use Rattle.lfs_model.specs.Content.{inline_struct_type}
+use Rattle.lfs_model.specs.Thread.{Pair}
 use Rattle.lfs_model.specs.Tree.{Path, Node, Tree}
 use Rattle.lfs_model.specs.Apply.{same_path}
-use Rattle.lfs_model.specs.View.{IsAccepted, IsWritable, tree_in, used_blocks}
+use Rattle.lfs_model.specs.View.{View, IsAccepted, IsWritable, superblock_entry}
+use Rattle.lfs_model.specs.Written.{entry_with}
 use Rattle.lfs_model.specs.Stored.{unwritten, filled, superblock_entries, checksum_entry, metadata_block}
 
 -- the tree with these nodes and no others
 abbrev pub tree_with : List (Path × Node) → Tree
 tree_with nodes path = option_map (λ n. n.1) (find (λ n. same_path path n.0) nodes)
 
--- The disk is an accepted image with these nodes, this global state and these blocks in use.
-pub record Shows (disk : Disk) (nodes : List (Path × Node)) (gstate : Gstate) (used : List ℕ) : Type 0 where
-  pub pairs : List Pair
-  pub accepted : IsAccepted disk pairs
-  pub tree : tree_in disk pairs ≡ tree_with nodes
-  pub gstate_is : gstate_of pairs ≡ gstate
-  pub used_is : used_blocks disk pairs ≡ used
+abbrev pub view_with : List (Path × Node) → Gstate → List ℕ → View
+view_with nodes gstate used = record { tree = tree_with nodes; gstate = gstate; used = used }
 
 -- No pairs make the disk an accepted image.
 abbrev pub IsRefused : Disk → Type 0
@@ -121,3 +120,10 @@ pair_block entries number padding = metadata_block 4096 1 (entries ++ checksum_e
 -- the root in block 0, and these blocks from block 2 on
 abbrev pub image_with : List ℕ → Blocks → Disk
 image_with root blocks = large_disk (root ∷ unwritten 4096 ∷ blocks)
+
+-- a superblock's bytes with another limit of names, and a fresh root with them
+abbrev pub limited_bytes : ℕ → List ℕ
+limited_bytes limit = flat_map (little_bytes 4) (0x00020000 ∷ 4096 ∷ 16 ∷ limit ∷ file_limit ∷ 1022 ∷ [])
+
+abbrev pub limited_block : ℕ → ℕ → List ℕ
+limited_block limit number = metadata_block 4096 1 (superblock_entry ∷ entry_with inline_struct_type 0 (limited_bytes limit) ∷ checksum_entry number 204 ∷ [])

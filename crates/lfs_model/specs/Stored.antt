@@ -1,10 +1,10 @@
 -- Metadata blocks in bytes, from the entries that stand in them. Checksums are given as numbers.
-use Rattle.std.specs.Prelude.{ℕ, ◌-◌, Bool, if◌then◌else◌, List, [], ◌∷◌, ◌++◌, length, replicate, bit_xor}
+use Rattle.std.specs.Prelude.{ℕ, ◌-◌, List, [], ◌∷◌, ◌++◌, length, replicate, bit_xor}
 use Rattle.byteorder.specs.Endian.{big_bytes, little_bytes}
-use Rattle.lfs_model.specs.Tag.{tag_with, carried}
+use Rattle.lfs_model.specs.Tag.{carried}
 use Rattle.lfs_model.specs.Log.{LogEntry}
 use Rattle.lfs_model.specs.Names.{Name}
-use Rattle.lfs_model.specs.Content.{file_name_type, directory_name_type, directory_struct_type, inline_struct_type, ctz_struct_type, soft_tail_type, hard_tail_type, move_state_type, no_id}
+use Rattle.lfs_model.specs.Content.{file_name_type, directory_name_type, directory_struct_type, inline_struct_type, ctz_struct_type, move_state_type, no_id}
 use Rattle.lfs_model.specs.Written.{entry_with, pair_bytes}
 use Rattle.lfs_model.specs.View.{superblock_entry}
 use Rattle.lfs_model.specs.Fresh.{superblock_bytes}
@@ -32,11 +32,9 @@ directory_entries id name to = entry_with directory_name_type id name ∷ entry_
 abbrev pub superblock_entries : ℕ → ℕ → List LogEntry
 superblock_entries block_size block_count = superblock_entry ∷ entry_with inline_struct_type 0 (superblock_bytes block_size block_count) ∷ []
 
-abbrev pub tail_entry : Bool → ℕ × ℕ → LogEntry
-tail_entry hard to = entry_with (if hard then hard_tail_type else soft_tail_type) no_id (pair_bytes to)
-
-abbrev pub move_entry : ℕ → ℕ × ℕ → LogEntry
-move_entry word pair = entry_with move_state_type no_id (little_bytes 4 word ++ pair_bytes pair)
+-- a move state by its first word
+abbrev pub move_word_entry : ℕ → ℕ × ℕ → LogEntry
+move_word_entry word pair = entry_with move_state_type no_id (little_bytes 4 word ++ pair_bytes pair)
 
 -- the checksum, and so many bytes of padding
 abbrev pub checksum_entry : ℕ → ℕ → LogEntry

@@ -1,14 +1,16 @@
 // Which images are accepted, and what they show.
 
-ghost use Rattle.std.specs.Prelude.{◌≡◌, List, [], ◌∷◌, codes};
+ghost use Rattle.std.specs.Prelude.{◌≡◌, true, false, List, [], ◌∷◌, ◌++◌, Some, replicate, codes};
+ghost use Rattle.byteorder.specs.Endian.{little_bytes};
 ghost use Rattle.lfs_model.specs.Disk.{Disk};
 ghost use Rattle.lfs_model.specs.Slots.{no_gstate};
 ghost use Rattle.lfs_model.specs.Thread.{gstate_of};
 ghost use Rattle.lfs_model.specs.Tree.{FileNode, DirectoryNode};
-ghost use Rattle.lfs_model.specs.View.{IsAccepted, IsWritable, tree_in, used_blocks};
+ghost use Rattle.lfs_model.specs.View.{HasView, IsAccepted, IsWritable, tree_in, used_blocks};
 ghost use Rattle.lfs_model.specs.Fresh.{IsFresh, fresh_pair, empty_tree};
-ghost use Rattle.lfs_model.specs.Stored.{file_entries, long_file_entries};
-ghost use Rattle.lfs_model.specs.Examples.{Shows, small_image, large_image, shifting_image, root_block, image_with};
+ghost use Rattle.lfs_model.specs.Written.{tail_entry};
+ghost use Rattle.lfs_model.specs.Stored.{filled, file_entries, long_file_entries, directory_entries, move_word_entry, superblock_entries};
+ghost use Rattle.lfs_model.specs.Examples.{view_with, IsRefused, IsReadOnly, small_image, large_image, shifting_image, root_block, pair_block, limited_block, image_with};
 
 /// A fresh image is accepted and may be written. It shows the empty root, and uses the first two blocks.
 pub fn fresh_image_is_accepted()
@@ -25,10 +27,113 @@ pub fn fresh_image_is_accepted()
 
 /// Images with one file show it: one whose slot has shifted, one with bytes in its entry, one with bytes in a list.
 pub fn file_is_shown()
-    ensures shifted { Shows shifting_image
-        (([], DirectoryNode [] (codes "b" ∷ [])) ∷ (codes "b" ∷ [], FileNode ((0x41, codes "x") ∷ []) []) ∷ [])
-        no_gstate (0 ∷ 1 ∷ []) }
-    ensures inline { Shows (image_with (root_block (file_entries 1 (codes "a") (codes "hello")) 0xe787463a 190) [])
-        (([], DirectoryNode [] (codes "a" ∷ [])) ∷ (codes "a" ∷ [], FileNode [] (codes "hello")) ∷ [])
-        no_gstate (0 ∷ 1 ∷ []) }
+    ensures shifted { HasView shifting_image
+        (view_with (([], DirectoryNode [] (codes "b" ∷ []))
+        ∷ (codes "b" ∷ [], FileNode ((0x41, codes "x") ∷ []) []) ∷ [])
+        no_gstate (0 ∷ 1 ∷ [])) }
+    ensures inline { HasView (image_with (root_block (file_entries 1 (codes "a") (codes "hello")) 0xe787463a 190) [])
+        (view_with (([], DirectoryNode [] (codes "a" ∷ []))
+        ∷ (codes "a" ∷ [], FileNode [] (codes "hello")) ∷ [])
+        no_gstate (0 ∷ 1 ∷ [])) }
+
+    // Three blocks: the last has one byte, behind the addresses of the second and the first.
+    ensures list { HasView
+        (image_with (root_block (long_file_entries 1 (codes "a") 4 8189) 0xaa94cc85 187)
+        (replicate 4096 97
+        ∷ (little_bytes 4 2 ++ replicate 4092 98)
+        ∷ filled 4096 (little_bytes 4 3 ++ little_bytes 4 2 ++ 99 ∷ []) ∷ []))
+        (view_with (([], DirectoryNode [] (codes "a" ∷ []))
+        ∷ (codes "a" ∷ [], FileNode [] (replicate 4096 97 ++ replicate 4092 98 ++ 99 ∷ [])) ∷ [])
+        no_gstate (0 ∷ 1 ∷ 2 ∷ 3 ∷ 4 ∷ [])) }
+{}
+
+/// A directory may name its pair's blocks in either order. Which of them holds, the thread's order decides.
+pub fn directory_is_shown()
+    ensures { HasView
+        (image_with (root_block (directory_entries 1 (codes "d") (3, 2) ++ tail_entry false (Some (2, 3)) ∷ []) 0x73136a7f 175)
+        (pair_block (file_entries 0 (codes "x") (codes "hi")) 0x99061daa 233
+        ∷ pair_block (file_entries 0 (codes "f") (codes "hi")) 0x6586f267 233 ∷ []))
+        (view_with (([], DirectoryNode [] (codes "d" ∷ []))
+        ∷ (codes "d" ∷ [], DirectoryNode [] (codes "x" ∷ []))
+        ∷ (codes "d" ∷ codes "x" ∷ [], FileNode [] (codes "hi")) ∷ [])
+        no_gstate (0 ∷ 1 ∷ 2 ∷ 3 ∷ [])) }
+{}
+
+/// A slot that a set move names isn't shown.
+pub fn moved_slot_is_hidden()
+    // "f" of {2, 3} has become "g" of the root, and hasn't gone from its old place.
+    ensures old_place { HasView
+        (image_with (root_block (directory_entries 1 (codes "d") (2, 3) ++ file_entries 2 (codes "g") (codes "hi") ++ tail_entry false (Some (2, 3)) ∷ move_word_entry 0x4ff00000 (2, 3) ∷ []) 0x3341c275 148)
+        (pair_block (file_entries 0 (codes "f") (codes "hi")) 0x6586f267 233 ∷ []))
+        (view_with (([], DirectoryNode [] (codes "d" ∷ codes "g" ∷ []))
+        ∷ (codes "d" ∷ [], DirectoryNode [] [])
+        ∷ (codes "g" ∷ [], FileNode [] (codes "hi")) ∷ [])
+        (record { sync = false; kind = 0x4ff; id = 0; pair = (2, 3) }) (0 ∷ 1 ∷ 2 ∷ 3 ∷ [])) }
+
+    // Of two slots of one name the moved one, whose list begins past the last block, doesn't count.
+    ensures same_name { HasView
+        (image_with (root_block (long_file_entries 1 (codes "f") 16 5 ++ file_entries 2 (codes "f") (codes "hi") ++ move_word_entry 0x4ff00400 (0, 1) ∷ []) 0x13066eaa 160) [])
+        (view_with (([], DirectoryNode [] (codes "f" ∷ []))
+        ∷ (codes "f" ∷ [], FileNode [] (codes "hi")) ∷ [])
+        (record { sync = false; kind = 0x4ff; id = 1; pair = (0, 1) }) (0 ∷ 1 ∷ [])) }
+{}
+
+/// A pair that no directory names is accepted with the sync bit, and only with it.
+pub fn unreached_pair_wants_sync()
+    ensures with_it { HasView
+        (image_with (root_block (tail_entry false (Some (2, 3)) ∷ move_word_entry 0x80000000 (0, 0) ∷ []) 0x45859103 176)
+        (pair_block [] 0x43f29ceb 244 ∷ []))
+        (view_with (([], DirectoryNode [] []) ∷ [])
+        (record { sync = true; kind = 0; id = 0; pair = (0, 0) }) (0 ∷ 1 ∷ 2 ∷ 3 ∷ [])) }
+    ensures without { IsRefused
+        (image_with (root_block (tail_entry false (Some (2, 3)) ∷ []) 0xb7c275fc 192)
+        (pair_block [] 0x43f29ceb 244 ∷ [])) }
+{}
+
+/// A tail of two null addresses ends the thread.
+pub fn null_tail_is_none()
+    ensures { HasView (image_with (root_block (tail_entry false (Some (0xffffffff, 0xffffffff)) ∷ []) 0xcb81f586 192) [])
+        (view_with (([], DirectoryNode [] []) ∷ []) no_gstate (0 ∷ 1 ∷ [])) }
+{}
+
+/// The root begins at the last pair of the superblock's chain.
+pub fn superblock_chain_is_read()
+    ensures expanded { HasView
+        (image_with (root_block (tail_entry true (Some (2, 3)) ∷ []) 0xef8649c3 192)
+        (root_block (file_entries 1 (codes "a") (codes "hi")) 0xa7a04ca1 193 ∷ []))
+        (view_with (([], DirectoryNode [] (codes "a" ∷ []))
+        ∷ (codes "a" ∷ [], FileNode [] (codes "hi")) ∷ [])
+        no_gstate (0 ∷ 1 ∷ 2 ∷ 3 ∷ [])) }
+
+    // A follower without a superblock continues the root.
+    ensures follower { HasView
+        (image_with (root_block (tail_entry true (Some (2, 3)) ∷ []) 0xef8649c3 192)
+        (pair_block (file_entries 0 (codes "a") (codes "hi")) 0x4cbde7e4 233 ∷ []))
+        (view_with (([], DirectoryNode [] (codes "a" ∷ []))
+        ∷ (codes "a" ∷ [], FileNode [] (codes "hi")) ∷ [])
+        no_gstate (0 ∷ 1 ∷ 2 ∷ 3 ∷ [])) }
+
+    // The second superblock says 17 blocks.
+    ensures other_bytes { IsRefused
+        (image_with (root_block (tail_entry true (Some (2, 3)) ∷ []) 0xef8649c3 192)
+        (pair_block (superblock_entries 4096 17 ++ file_entries 1 (codes "a") (codes "hi")) 0xa947a470 193 ∷ [])) }
+
+    // The first pair has a file beside its superblock.
+    ensures not_alone { IsRefused
+        (image_with (root_block (file_entries 1 (codes "z") [] ++ tail_entry true (Some (2, 3)) ∷ []) 0xfc3d37d9 183)
+        (root_block [] 0xf3277f4a 204 ∷ [])) }
+{}
+
+/// What other tools write is shown, and may not be written.
+pub fn other_profile_is_read_only()
+    // 600 bytes stand in an entry, where at most 512 are written.
+    ensures long_entry { HasView (image_with (root_block (file_entries 1 (codes "a") (replicate 600 97)) 0x961dcdc4 107) [])
+        (view_with (([], DirectoryNode [] (codes "a" ∷ []))
+        ∷ (codes "a" ∷ [], FileNode [] (replicate 600 97)) ∷ [])
+        no_gstate (0 ∷ 1 ∷ [])) }
+    ensures long_entry_read_only { IsReadOnly (image_with (root_block (file_entries 1 (codes "a") (replicate 600 97)) 0x961dcdc4 107) []) }
+
+    // The superblock limits names to 32 bytes.
+    ensures name_limit { HasView (image_with (limited_block 32 0xe9693de0) []) (view_with (([], DirectoryNode [] []) ∷ []) no_gstate (0 ∷ 1 ∷ [])) }
+    ensures name_limit_read_only { IsReadOnly (image_with (limited_block 32 0xe9693de0) []) }
 {}

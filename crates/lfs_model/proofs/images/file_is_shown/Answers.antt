@@ -4,17 +4,21 @@ use Rattle.lfs_model.specs.Crc.{crc_of, next_bits}
 use Rattle.lfs_model.specs.Log.{chain_of, chain_within, commit_within, entry_at, closes}
 use Rattle.lfs_model.specs.Slots.{no_gstate}
 use Rattle.lfs_model.specs.Fresh.{superblock_bytes}
-use Rattle.lfs_model.specs.Stored.{file_entries}
-use Rattle.lfs_model.specs.Examples.{root_block, image_with, shifting_image}
-use Rattle.lfs_model.proofs.Examples.{image_shows, pair, file, large_superblock}
+use Rattle.lfs_model.proofs.Skips.{list_from}
+use Rattle.lfs_model.proofs.Examples.{image_shows, pair, file, long_file, large_superblock}
 use Rattle.lfs_model.proofs.images.file_is_shown.Goals as goal
 
 pub returns-clause-shifted : goal.returns-clause-shifted
 unfolding chain_of chain_within commit_within entry_at closes crc_of next_bits
-returns-clause-shifted c = image_shows shifting_image (pair (0, 1) (large_superblock ∷ record (file (codes "b") []) { attributes = (0x41, codes "x") ∷ [] } ∷ []) None no_gstate ∷ []) (superblock_bytes 4096 16) 2
+returns-clause-shifted c = image_shows _ (pair (0, 1) (large_superblock ∷ record (file (codes "b") []) { attributes = (0x41, codes "x") ∷ [] } ∷ []) None no_gstate ∷ []) (superblock_bytes 4096 16) 2
     (record { links = (refl, refl); contents = (refl, tt); first = refl; named = refl; lists = (tt, (tt, tt)); pass = refl }) _ _ _ refl refl refl
 
 pub returns-clause-inline : goal.returns-clause-inline
 unfolding chain_of chain_within commit_within entry_at closes crc_of next_bits
-returns-clause-inline c = image_shows (image_with (root_block (file_entries 1 (codes "a") (codes "hello")) 0xe787463a 190) []) (pair (0, 1) (large_superblock ∷ file (codes "a") (codes "hello") ∷ []) None no_gstate ∷ []) (superblock_bytes 4096 16) 2
+returns-clause-inline c = image_shows _ (pair (0, 1) (large_superblock ∷ file (codes "a") (codes "hello") ∷ []) None no_gstate ∷ []) (superblock_bytes 4096 16) 2
     (record { links = (refl, refl); contents = (refl, tt); first = refl; named = refl; lists = (tt, (tt, tt)); pass = refl }) _ _ _ refl refl refl
+
+pub returns-clause-list : goal.returns-clause-list
+unfolding chain_of chain_within commit_within entry_at closes crc_of next_bits lib.Count.count_trailing_zeros
+returns-clause-list c = image_shows _ (pair (0, 1) (large_superblock ∷ long_file (codes "a") 4 8189 ∷ []) None no_gstate ∷ []) (superblock_bytes 4096 16) 2
+    (record { links = (refl, refl); contents = (refl, tt); first = refl; named = refl; lists = (tt, (list_from _ 4096 4 8189 refl, tt)); pass = refl }) _ _ _ refl refl refl

@@ -164,3 +164,20 @@ programmed_next blocks b at first second lt room =
     (block_in-programmed mid b (at + length first) second there
     ∙ ap (λ (l : List ℕ). overwritten l (at + length first) second) (block_in-programmed blocks b at first lt)
     ∙ overwritten_next (block_in blocks b) at first second (omega arith))
+
+-- a write of more, of which the rest is what was there
+pub overwritten_beginning : (block : List ℕ) (at n : ℕ) (new : List ℕ) → length new ≤ n → at + n ≤ length block → overwritten block at (new ++ drop (length new) (take n (drop at block))) ≡ overwritten block at new
+overwritten_beginning block at n new short fits =
+    let there : List ℕ = drop at block in
+    let rest : List ℕ = drop (length new) (take n there) in
+    let part : length (take n there) ≡ n = length-take-le n there (omega (arith, length-drop at block)) in
+    let long : at + length (new ++ rest) ≡ at + n = omega (arith, length-append new rest, length-drop (length new) (take n there)) in
+    let joined : rest ++ drop (at + length (new ++ rest)) block ≡ drop (at + length new) block =
+    ap (λ k. rest ++ drop k block) long
+    ∙ ap (λ (l : List ℕ). rest ++ l) (sym (drop-drop n at block))
+    ∙ sym (drop-append-le (length new) (take n there) (drop n there) (omega (arith, part)))
+    ∙ ap (drop (length new)) (take-append-drop n there)
+    ∙ drop-drop (length new) at block in
+    ap (λ (l : List ℕ). l ++ drop (at + length (new ++ rest)) block) (sym (append_assoc (take at block) new rest))
+    ∙ append_assoc (take at block ++ new) rest (drop (at + length (new ++ rest)) block)
+    ∙ ap (λ (l : List ℕ). take at block ++ new ++ l) joined

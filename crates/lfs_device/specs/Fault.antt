@@ -1,7 +1,10 @@
--- Which calls a device counts towards its fault, and which are to fail.
-use Rattle.std.specs.Prelude.{ℕ, ◌+◌, ◌-◌, ◌^◌, min, Bool, true, false, not, ◌&&◌, ◌||◌, ◌==◌, nat_le, List, [], ◌∷◌}
+-- Which calls of a device are to fail, and how much of them is carried out first.
+use Rattle.std.specs.Prelude.{ℕ, ◌+◌, Bool, true, false, not, ◌&&◌, ◌||◌, ◌==◌, nat_le, nat_lt, if◌then◌else◌, Option, Some, None, List, [], ◌∷◌}
 use Rattle.lfs_device.specs.declared.fault.Which.{Which}
 use Rattle.lfs_device.specs.declared.fault.Which.TheVariants.{Any, Read, Program, Erase}
+use Rattle.lfs_device.specs.declared.fault.Extent.{Extent}
+use Rattle.lfs_device.specs.declared.fault.Extent.TheVariants.{Nothing}
+use Rattle.lfs_device.specs.declared.fault.Fault.{Fault}
 use Rattle.lfs_model.specs.History.Call.{Read as Read', Program as Program', Erase as Erase'}
 use Rattle.lfs_model.specs.History.{Call, Event, reads, programs, erases}
 
@@ -18,16 +21,33 @@ counts Program (Program' block off bytes) = true
 counts Erase (Erase' block) = true
 counts which call = false
 
--- the n-th call that counts is to fail, and each call behind it if the device stops there
-abbrev pub is_due_if : Bool → Which → ℕ → Bool → List Event → Bool
-is_due_if counted which n stop older =
-    let so_far = min (calls_of which older) (2 ^ 64 - 1) in
-    not (n == 0) && ((counted && so_far + 1 == n) || (stop && nat_le n so_far))
+-- a call that counts is the one at which the device fails
+abbrev pub is_turn : Bool → Which → ℕ → List Event → Bool
+is_turn counted which nth older = counted && calls_of which older + 1 == nth
 
+-- that one is past, and each later call fails too
+abbrev pub has_stopped : Which → ℕ → Bool → List Event → Bool
+has_stopped which nth stops older = stops && nat_lt 0 nth && nat_le nth (calls_of which older)
+
+-- the next call is to fail
 abbrev pub is_due : Which → ℕ → Bool → Call → List Event → Bool
-is_due which n stop call older = is_due_if (counts which call) which n stop older
+is_due which nth stops call older = is_turn (counts which call) which nth older || has_stopped which nth stops older
+
+-- how much of it is carried out; none where it isn't to fail
+abbrev pub due_if : Fault → Bool → List Event → Option Extent
+due_if fault counted older =
+    if is_turn counted fault.which fault.nth older then Some fault.extent else
+    (if has_stopped fault.which fault.nth fault.stops older then Some Nothing else None)
+
+abbrev pub due : Fault → Call → List Event → Option Extent
+due fault call older = due_if fault (counts fault.which call) older
 
 -- each call failed that was to fail
 abbrev pub due_failed : Which → ℕ → Bool → List Event → Bool
-due_failed which n stop [] = true
-due_failed which n stop (e ∷ older) = (not (is_due which n stop e.call older) || e.failed) && due_failed which n stop older
+due_failed which nth stops [] = true
+due_failed which nth stops (e ∷ older) = (not (is_due which nth stops e.call older) || e.failed) && due_failed which nth stops older
+
+-- how many calls failed that weren't to fail
+abbrev pub undue_faults : Which → ℕ → Bool → List Event → ℕ
+undue_faults which nth stops [] = 0
+undue_faults which nth stops (e ∷ older) = undue_faults which nth stops older + (if e.failed && not (is_due which nth stops e.call older) then 1 else 0)

@@ -1,6 +1,8 @@
+pub mod Carried
 pub mod Erased
 pub mod Error
 pub mod Fault
-pub mod Ram
+pub mod FaultDevice
+pub mod Partial
+pub mod RamDevice
 pub mod Shown
-pub mod Wrapped

@@ -1,7 +1,11 @@
-ghost use Rattle.std.specs.Prelude.{◌≡◌, ℕ, ◌-◌, ◌^◌, true, min, []};
-ghost use Rattle.lfs_device.specs.Fault.{calls_of, is_due_if, due_failed};
-ghost use Rattle.lfs_model.specs.History.{reads, programs, erases, unprogrammed};
+ghost use Rattle.std.specs.Prelude.{◌≡◌, ◌≤◌, ◌<◌, ◌+◌, ◌-◌, ◌%◌, ◌^◌, ℕ, true, false, min, [], ◌∷◌, length, slice_range, is_err, IfSome, IfErr, OnOk, OnErr, Some};
+ghost use Rattle.lfs_model.specs.Blocks.{SameBut, SameOutside, block_in, programmed};
+ghost use Rattle.lfs_model.specs.History.{event, reads, programs, erases, faults, unprogrammed, AllUnprogrammed};
+ghost use Rattle.lfs_model.specs.History.Call.{Read, Program, Erase};
+ghost use Rattle.lfs_device.specs.Fault.{calls_of, due, due_if, due_failed, undue_faults};
+ghost use Rattle.lfs_device.specs.Carried.{NoFault, CarriedOut, stored};
 
+use crate::partial::{carry_out_erase, carry_out_program, carry_out_read};
 use crate::{BlockDevice, Error, Geometry, Trace};
 
 /// Which calls are counted towards a fault.
@@ -13,19 +17,44 @@ pub enum Which {
     Erase,
 }
 
-/// A device one of whose calls fails, and then each later call, if it is to stop there.
-/// A program or an erase that fails leaves the bytes as they were.
+/// How much of the call at which a device fails is carried out before it fails.
+#[derive(Clone, Copy, Debug, PartialEq, Eq)]
+pub enum Extent {
+    /// Nothing: the bytes stay as they were.
+    Nothing,
+    /// Of a program so many of its first bytes, and all where it has fewer. Of another call nothing.
+    FirstBytes(u32),
+    /// All of it.
+    Whole,
+}
+
+/// At which call a device fails, and how.
+#[derive(Clone, Copy, Debug, PartialEq, Eq)]
+pub struct Fault {
+    /// The calls that are counted.
+    pub which: Which,
+    /// The how manieth of them fails, from 1 on. At 0 none does.
+    pub nth: u64,
+    /// Whether each call behind it fails too, with nothing of it carried out.
+    pub stops: bool,
+    /// How much of it is carried out.
+    pub extent: Extent,
+}
+
+/// A device one of whose calls fails, over another device.
+///
+/// Each other call goes to the other device, and fails only where that one fails.
+/// The calls are counted up to `u64::MAX`.
 #[derive(Drop)]
 pub struct FaultDevice<D: BlockDevice> {
     inner: D,
-    which: Which,
-    n: u64,
-    stop: bool,
+    fault: Fault,
     read_calls: u64,
     program_calls: u64,
     erase_calls: u64,
     trace: Trace,
-    ghost failed: { due_failed which n stop trace.events ≡ true },
+    pub ghost due_failed: { due_failed fault.which fault.nth fault.stops trace.events ≡ true },
+    pub ghost undue_faults: { undue_faults fault.which fault.nth fault.stops trace.events ≤ faults (D.history inner) },
     ghost reads_counted: { read_calls ≡ min (reads trace.events) (2 ^ 64 - 1) },
     ghost programs_counted: { program_calls ≡ min (programs trace.events) (2 ^ 64 - 1) },
     ghost erases_counted: { erase_calls ≡ min (erases trace.events) (2 ^ 64 - 1) },
@@ -33,22 +62,25 @@ pub struct FaultDevice<D: BlockDevice> {
 }
 
 impl<D: BlockDevice> FaultDevice<D> {
-    ghost use Rattle.lfs_device.specs.Wrapped.{inner_of, which_of, turn_of, stop_of};
+    ghost use Rattle.lfs_device.specs.FaultDevice.{inner_of, fault_of, history_of};
 
-    /// The n-th call that `which` names fails, from 1 on.
+    /// A device whose `n`-th call of those that `which` names fails, from 1 on, with nothing of it carried out.
+    /// With `stop` each call behind that one fails too. Every byte counts as programmed.
     pub fn new(inner: D, which: Which, n: u64, stop: bool) -> FaultDevice<D>
         ensures inner { inner_of result ≡ inner }
-        ensures which { which_of result ≡ which }
-        ensures n { turn_of result ≡ n }
-        ensures stop { stop_of result ≡ stop }
-        ensures none_yet { ⟦<FaultDevice<D> as BlockDevice>⟧.history result ≡ [] }
+        ensures fault { fault_of result ≡ record { which = which; nth = n; stops = stop; extent = Extent.Nothing } }
+        ensures no_call { history_of result ≡ [] }
     {
         let trace = Trace::told_by(&inner, &());
+        let fault = Fault {
+            which,
+            nth: n,
+            stops: stop,
+            extent: Extent::Nothing,
+        };
         FaultDevice {
             inner,
-            which,
-            n,
-            stop,
+            fault,
             read_calls: 0,
             program_calls: 0,
             erase_calls: 0,
@@ -56,14 +88,40 @@ impl<D: BlockDevice> FaultDevice<D> {
         }
     }
 
+    /// The same device, whose failing call, if it is a program, first stores its first `k` bytes.
+    pub fn torn(self, k: u32) -> FaultDevice<D>
+        ensures inner { inner_of result ≡ inner_of self }
+        ensures fault { fault_of result ≡ record (fault_of self) { extent = Extent.FirstBytes k } }
+        ensures history { history_of result ≡ history_of self }
+    {
+        self.carrying_out(Extent::FirstBytes(k))
+    }
+
+    /// The same device, whose failing call is carried out whole and then fails.
+    pub fn whole(self) -> FaultDevice<D>
+        ensures inner { inner_of result ≡ inner_of self }
+        ensures fault { fault_of result ≡ record (fault_of self) { extent = Extent.Whole } }
+        ensures history { history_of result ≡ history_of self }
+    {
+        self.carrying_out(Extent::Whole)
+    }
+
+    fn carrying_out(mut self, extent: Extent) -> FaultDevice<D>
+        ensures inner { inner_of result ≡ inner_of self }
+        ensures fault { fault_of result ≡ record (fault_of self) { extent = extent } }
+        ensures history { history_of result ≡ history_of self }
+    {
+        self.fault.extent = extent;
+        self
+    }
+
+    /// Gives back the device below.
     pub fn into_inner(self) -> D
         ensures { result ≡ inner_of self }
     {
         let FaultDevice {
             inner,
-            which: _,
-            n: _,
-            stop: _,
+            fault: _,
             read_calls: _,
             program_calls: _,
             erase_calls: _,
@@ -72,15 +130,16 @@ impl<D: BlockDevice> FaultDevice<D> {
         inner
     }
 
+    /// The device below.
     pub fn inner(&self) -> &D
         ensures { result.now ≡ inner_of self.now }
     {
         &self.inner
     }
 
-    /// How many calls there have been, with those that failed.
+    /// How many calls there have been of those that `which` names, failed ones among them, and `u64::MAX` where there were more.
     pub fn calls(&self, which: Which) -> u64
-        ensures { result ≡ min (calls_of which (⟦<FaultDevice<D> as BlockDevice>⟧.history self.now)) (2 ^ 64 - 1) }
+        ensures { result ≡ min (calls_of which (history_of self.now)) (2 ^ 64 - 1) }
     {
         match which {
             Which::Any => self
@@ -93,22 +152,27 @@ impl<D: BlockDevice> FaultDevice<D> {
         }
     }
 
-    // Whether the next call is to fail, if `counts` says that it counts.
-    fn is_due(&self, counts: bool) -> bool
-        ensures { result ≡ is_due_if counts self.now.which self.now.n self.now.stop self.now.trace.events }
+    // How much of the next call is carried out before it fails, if it is to fail. `counts` says whether it counts.
+    fn due(&self, counts: bool) -> Option<Extent>
+        ensures { result ≡ due_if self.now.fault counts self.now.trace.events }
     {
-        if self.n == 0 {
-            return false;
+        let so_far = self.calls(self.fault.which);
+        if self.fault.nth == 0 {
+            return None;
         }
-        let so_far = self.calls(self.which);
-        if counts && so_far == self.n - 1 {
-            return true;
+        if counts && so_far == self.fault.nth - 1 {
+            return Some(self.fault.extent);
         }
-        self.stop && so_far >= self.n
+        if self.fault.stops && so_far >= self.fault.nth {
+            return Some(Extent::Nothing);
+        }
+        None
     }
 }
 
 impl<D: BlockDevice> BlockDevice for FaultDevice<D> {
+    ghost use Rattle.lfs_device.specs.FaultDevice.{inner_of, fault_of, blocks_of, history_of};
+
     ghost geometry = { λ d. D.geometry d.inner };
 
     ghost blocks = { λ d. D.blocks d.inner };
@@ -121,45 +185,74 @@ impl<D: BlockDevice> BlockDevice for FaultDevice<D> {
         self.inner.geometry()
     }
 
-    fn read(&mut self, block: u32, off: u32, buf: &mut [u8]) -> Result<(), Error> {
-        let counts = matches!(self.which, Which::Any | Which::Read);
-        let is_due = self.is_due(counts);
-        let faulted = Trace::told_by(self, &(block, off, buf.len()));
+    fn read(&mut self, block: u32, off: u32, buf: &mut [u8]) -> Result<(), Error>
+        requires in_device { block < (D.geometry (inner_of self.old)).block_count }
+        requires in_block { off + length buf.old ≤ (D.geometry (inner_of self.old)).block_size }
+        ensures carried { CarriedOut ⟦<D as BlockDevice>⟧ (due (fault_of self.old) (Read block off (length buf.old)) (history_of self.old))
+            (Read block off (length buf.old)) (is_err result) (inner_of self.old) (inner_of self.new) }
+        ensures whole { due (fault_of self.old) (Read block off (length buf.old)) (history_of self.old) ≡ Some Extent.Whole
+            → NoFault ⟦<D as BlockDevice>⟧ (inner_of self.old) (inner_of self.new)
+            → buf.new ≡ slice_range (block_in (blocks_of self.old) block) off (off + length buf.old) }
+        ensures fault { fault_of self.new ≡ fault_of self.old }
+        ensures bytes { OnOk result (buf.new ≡ slice_range (block_in (blocks_of self.old) block) off (off + length buf.old)) }
+        ensures same { blocks_of self.new ≡ blocks_of self.old }
+        ensures geometry { D.geometry (inner_of self.new) ≡ D.geometry (inner_of self.old) }
+        ensures history { history_of self.new ≡ event (Read block off (length buf.old)) (blocks_of self.old) (blocks_of self.new) (is_err result) ∷ history_of self.old }
+        ensures error { IfErr result (λ e. e ≡ Error.Io) }
+    {
+        let counts = matches!(self.fault.which, Which::Any | Which::Read);
+        let due = self.due(counts);
+        let begun = Trace::told_by(self, &(block, off, buf.len()));
         self.read_calls = self.read_calls.saturating_add(1);
-        if is_due {
-            self.trace = faulted;
-            return Err(Error::Io);
-        }
-        let outcome = self.inner.read(block, off, buf);
-        self.trace = Trace::told_by(&self.inner, &(faulted, outcome.is_err()));
+        let outcome = carry_out_read(&mut self.inner, due, block, off, buf);
+        self.trace = Trace::told_by(&self.inner, &(begun, outcome.is_err()));
         outcome
     }
 
-    fn prog(&mut self, block: u32, off: u32, bytes: &[u8]) -> Result<(), Error> {
-        let counts = matches!(self.which, Which::Any | Which::Program);
-        let is_due = self.is_due(counts);
-        let faulted = Trace::told_by(self, &(block, off, bytes));
+    fn prog(&mut self, block: u32, off: u32, bytes: &[u8]) -> Result<(), Error>
+        requires in_device { block < (D.geometry (inner_of self.old)).block_count }
+        requires in_block { off + length bytes.now ≤ (D.geometry (inner_of self.old)).block_size }
+        requires begins { off % (D.geometry (inner_of self.old)).page ≡ 0 }
+        requires ends { (off + length bytes.now) % (D.geometry (inner_of self.old)).page ≡ 0 }
+        requires unprogrammed { AllUnprogrammed (history_of self.old) block off (off + length bytes.now) }
+        ensures carried { CarriedOut ⟦<D as BlockDevice>⟧ (due (fault_of self.old) (Program block off bytes.now) (history_of self.old))
+            (Program block off bytes.now) (is_err result) (inner_of self.old) (inner_of self.new) }
+        ensures stored { IfSome (due (fault_of self.old) (Program block off bytes.now) (history_of self.old))
+            (λ extent. NoFault ⟦<D as BlockDevice>⟧ (inner_of self.old) (inner_of self.new)
+            → blocks_of self.new ≡ programmed (blocks_of self.old) block off (stored extent bytes.now)) }
+        ensures fault { fault_of self.new ≡ fault_of self.old }
+        ensures ok { OnOk result (blocks_of self.new ≡ programmed (blocks_of self.old) block off bytes.now) }
+        ensures err { OnErr result (SameOutside off (off + length bytes.now) (block_in (blocks_of self.old) block) (block_in (blocks_of self.new) block)) }
+        ensures others { SameBut block (blocks_of self.old) (blocks_of self.new) }
+        ensures geometry { D.geometry (inner_of self.new) ≡ D.geometry (inner_of self.old) }
+        ensures history { history_of self.new ≡ event (Program block off bytes.now) (blocks_of self.old) (blocks_of self.new) (is_err result) ∷ history_of self.old }
+        ensures error { IfErr result (λ e. e ≡ Error.Io) }
+    {
+        let counts = matches!(self.fault.which, Which::Any | Which::Program);
+        let due = self.due(counts);
+        let begun = Trace::told_by(self, &(block, off, bytes));
         self.program_calls = self.program_calls.saturating_add(1);
-        if is_due {
-            self.trace = faulted;
-            return Err(Error::Io);
-        }
-        let outcome = self.inner.prog(block, off, bytes);
-        self.trace = Trace::told_by(&self.inner, &(faulted, outcome.is_err()));
+        let outcome = carry_out_program(&mut self.inner, due, block, off, bytes);
+        self.trace = Trace::told_by(&self.inner, &(begun, outcome.is_err()));
         outcome
     }
 
-    fn erase(&mut self, block: u32) -> Result<(), Error> {
-        let counts = matches!(self.which, Which::Any | Which::Erase);
-        let is_due = self.is_due(counts);
-        let faulted = Trace::told_by(self, &block);
+    fn erase(&mut self, block: u32) -> Result<(), Error>
+        requires { block < (D.geometry (inner_of self.old)).block_count }
+        ensures carried { CarriedOut ⟦<D as BlockDevice>⟧ (due (fault_of self.old) (Erase block) (history_of self.old))
+            (Erase block) (is_err result) (inner_of self.old) (inner_of self.new) }
+        ensures fault { fault_of self.new ≡ fault_of self.old }
+        ensures others { SameBut block (blocks_of self.old) (blocks_of self.new) }
+        ensures geometry { D.geometry (inner_of self.new) ≡ D.geometry (inner_of self.old) }
+        ensures history { history_of self.new ≡ event (Erase block) (blocks_of self.old) (blocks_of self.new) (is_err result) ∷ history_of self.old }
+        ensures error { IfErr result (λ e. e ≡ Error.Io) }
+    {
+        let counts = matches!(self.fault.which, Which::Any | Which::Erase);
+        let due = self.due(counts);
+        let begun = Trace::told_by(self, &block);
         self.erase_calls = self.erase_calls.saturating_add(1);
-        if is_due {
-            self.trace = faulted;
-            return Err(Error::Io);
-        }
-        let outcome = self.inner.erase(block);
-        self.trace = Trace::told_by(&self.inner, &(faulted, outcome.is_err()));
+        let outcome = carry_out_erase(&mut self.inner, due, block);
+        self.trace = Trace::told_by(&self.inner, &(begun, outcome.is_err()));
         outcome
     }
 }

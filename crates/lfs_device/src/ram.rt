@@ -1,18 +1,22 @@
-ghost use Rattle.std.specs.Prelude.{◌≡◌, ◌≤◌, ◌<◌, ◌+◌, ◌*◌, length, replicate, IfOk, OnErr, MatchResult};
-ghost use Rattle.lfs_model.specs.Blocks.{overwritten};
-ghost use Rattle.lfs_device.specs.Erased.{erased_bytes};
+ghost use Rattle.std.specs.Prelude.{◌≡◌, ◌≤◌, ◌<◌, ◌+◌, ◌*◌, ◌%◌, [], ◌∷◌, false, length, replicate, slice_range, IsOk, IfOk, IfErr, OnErr, MatchResult};
+ghost use Rattle.lfs_model.specs.Blocks.{SameBut, block_in, cut, overwritten, programmed};
+ghost use Rattle.lfs_model.specs.History.{event, faults, AllUnprogrammed};
+ghost use Rattle.lfs_model.specs.History.Call.{Read, Program, Erase};
+ghost use Rattle.lfs_device.specs.Erased.{erased_block, erased_bytes};
 
 use crate::{BlockDevice, Error, Geometry, Trace};
 use std::alloc::Global;
 
-/// What an erase leaves in each byte of a block.
+/// What a successful erase leaves in each byte of a block.
 #[derive(Clone, Copy, Debug, PartialEq, Eq)]
 pub enum Erased {
+    /// This byte, as flash does with 0xff.
     Fill(u8),
+    /// What was there before.
     Keep,
 }
 
-/// A device in memory. No call fails.
+/// A device in memory. Its reads, programs and erases take no memory and never fail.
 #[derive(Drop)]
 pub struct RamDevice {
     geometry: Geometry,
@@ -20,15 +24,20 @@ pub struct RamDevice {
     erased: Erased,
     trace: Trace,
     ghost size: { length bytes.items ≡ geometry.block_size * geometry.block_count },
+    pub ghost no_fault: { faults trace.events ≡ 0 },
 }
 
 impl RamDevice {
-    ghost use Rattle.lfs_device.specs.Ram.{bytes_of, geometry_of, erased_of};
+    ghost use Rattle.lfs_device.specs.RamDevice.{geometry_of, bytes_of, blocks_of, erased_of, history_of};
 
-    /// A device of bytes 0xff, which count as programmed.
+    /// A device that holds 0xff in every byte and erases to 0xff. Every byte counts as programmed.
+    ///
+    /// `NoMemory` where its bytes aren't granted.
     pub fn blank(alloc: Global, geometry: Geometry) -> Result<RamDevice, Error>
-        ensures ok { IfOk result (λ d. (geometry_of d ≡ geometry)
-            × (bytes_of d ≡ replicate (geometry.block_size * geometry.block_count) 255)) }
+        ensures geometry { IfOk result (λ d. geometry_of d ≡ geometry) }
+        ensures bytes { IfOk result (λ d. bytes_of d ≡ replicate (geometry.block_size * geometry.block_count) 255) }
+        ensures erased { IfOk result (λ d. erased_of d ≡ Erased.Fill 255) }
+        ensures no_call { IfOk result (λ d. history_of d ≡ []) }
         ensures err { OnErr result (result ≡ Err Error.NoMemory) }
     {
         let len = geometry.block_size as usize * geometry.block_count as usize;
@@ -41,11 +50,14 @@ impl RamDevice {
         })
     }
 
-    /// A device of these bytes, which count as programmed.
+    /// A device that holds these bytes, block after block, and erases to 0xff. Every byte counts as programmed.
+    ///
+    /// `Invalid` exactly where they aren't as many as the geometry has. It takes no memory.
     pub fn from_bytes(geometry: Geometry, bytes: Vec<u8>) -> Result<RamDevice, Error>
-        ensures { MatchResult result
-            (λ d. (geometry_of d ≡ geometry) × (bytes_of d ≡ bytes.items))
+        ensures made { MatchResult result
+            (λ d. (geometry_of d ≡ geometry) × (bytes_of d ≡ bytes.items) × (erased_of d ≡ Erased.Fill 255))
             (λ e. (e ≡ Error.Invalid) × (¬ (length bytes.items ≡ geometry.block_size * geometry.block_count))) }
+        ensures no_call { IfOk result (λ d. history_of d ≡ []) }
     {
         if bytes.len() != geometry.block_size as usize * geometry.block_count as usize {
             return Err(Error::Invalid);
@@ -58,11 +70,12 @@ impl RamDevice {
         })
     }
 
-    /// The same device, in which an erase leaves something else.
+    /// The same device, in which an erase leaves something else from now on.
     pub fn erased_as(self, erased: Erased) -> RamDevice
-        ensures bytes { bytes_of result ≡ bytes_of self }
         ensures geometry { geometry_of result ≡ geometry_of self }
+        ensures bytes { bytes_of result ≡ bytes_of self }
         ensures erased { erased_of result ≡ erased }
+        ensures history { history_of result ≡ history_of self }
     {
         let RamDevice {
             geometry,
@@ -78,19 +91,23 @@ impl RamDevice {
         }
     }
 
+    /// All its bytes, block after block.
     pub fn bytes(&self) -> &[u8]
-        ensures { result.now ≡ bytes_of self.now }
+        ensures bytes { result.now ≡ bytes_of self.now }
+        ensures blocks { blocks_of self.now ≡ cut (geometry_of self.now).block_size (geometry_of self.now).block_count result.now }
     {
         &self.bytes
     }
 
+    /// Gives up the device for its bytes.
     pub fn to_bytes(self) -> Vec<u8>
-        ensures { result.items ≡ bytes_of self }
+        ensures bytes { result.items ≡ bytes_of self }
+        ensures blocks { blocks_of self ≡ cut (geometry_of self).block_size (geometry_of self).block_count result.items }
     {
         self.bytes
     }
 
-    /// Where a byte lies.
+    // Where a byte lies.
     fn position(&self, block: u32, off: u32) -> usize
         requires in_device { block < self.now.geometry.block_count }
         requires in_block { off ≤ self.now.geometry.block_size }
@@ -121,13 +138,13 @@ fn erase_at(all: &mut Vec<u8>, at: usize, len: usize, erased: Erased)
 
 impl BlockDevice for RamDevice {
     ghost use Rattle.lfs_model.proofs.Cuts.{IsDivided-cut};
-    ghost use Rattle.lfs_model.specs.Blocks.{cut};
+    ghost use Rattle.lfs_device.specs.RamDevice.{geometry_of, bytes_of, blocks_of, erased_of, history_of};
 
-    ghost geometry = { λ d. d.geometry };
+    ghost geometry = { geometry_of };
 
-    ghost blocks = { λ d. cut d.geometry.block_size d.geometry.block_count d.bytes.items };
+    ghost blocks = { blocks_of };
 
-    ghost history = { λ d. d.trace.events };
+    ghost history = { history_of };
 
     ghost shape = { λ d. IsDivided-cut d.geometry.block_size d.geometry.block_count d.bytes.items d.size };
 
@@ -135,14 +152,35 @@ impl BlockDevice for RamDevice {
         self.geometry
     }
 
-    fn read(&mut self, block: u32, off: u32, buf: &mut [u8]) -> Result<(), Error> {
+    fn read(&mut self, block: u32, off: u32, buf: &mut [u8]) -> Result<(), Error>
+        requires in_device { block < (geometry_of self.old).block_count }
+        requires in_block { off + length buf.old ≤ (geometry_of self.old).block_size }
+        ensures ok { IsOk result }
+        ensures bytes { buf.new ≡ slice_range (block_in (blocks_of self.old) block) off (off + length buf.old) }
+        ensures same { blocks_of self.new ≡ blocks_of self.old }
+        ensures geometry { geometry_of self.new ≡ geometry_of self.old }
+        ensures erased { erased_of self.new ≡ erased_of self.old }
+        ensures history { history_of self.new ≡ event (Read block off (length buf.old)) (blocks_of self.old) (blocks_of self.new) false ∷ history_of self.old }
+    {
         let start = self.position(block, off);
         buf.copy_from_slice(&self.bytes[start..start + buf.len()]);
         self.trace = Trace::told_by(self, &(block, off, buf.len()));
         Ok(())
     }
 
-    fn prog(&mut self, block: u32, off: u32, bytes: &[u8]) -> Result<(), Error> {
+    fn prog(&mut self, block: u32, off: u32, bytes: &[u8]) -> Result<(), Error>
+        requires in_device { block < (geometry_of self.old).block_count }
+        requires in_block { off + length bytes.now ≤ (geometry_of self.old).block_size }
+        requires begins { off % (geometry_of self.old).page ≡ 0 }
+        requires ends { (off + length bytes.now) % (geometry_of self.old).page ≡ 0 }
+        requires unprogrammed { AllUnprogrammed (history_of self.old) block off (off + length bytes.now) }
+        ensures ok { IsOk result }
+        ensures bytes { blocks_of self.new ≡ programmed (blocks_of self.old) block off bytes.now }
+        ensures others { SameBut block (blocks_of self.old) (blocks_of self.new) }
+        ensures geometry { geometry_of self.new ≡ geometry_of self.old }
+        ensures erased { erased_of self.new ≡ erased_of self.old }
+        ensures history { history_of self.new ≡ event (Program block off bytes.now) (blocks_of self.old) (blocks_of self.new) false ∷ history_of self.old }
+    {
         let trace = Trace::told_by(self, &(block, off, bytes));
         let start = self.position(block, off);
         overwrite(&mut self.bytes, start, bytes);
@@ -150,7 +188,15 @@ impl BlockDevice for RamDevice {
         Ok(())
     }
 
-    fn erase(&mut self, block: u32) -> Result<(), Error> {
+    fn erase(&mut self, block: u32) -> Result<(), Error>
+        requires { block < (geometry_of self.old).block_count }
+        ensures ok { IsOk result }
+        ensures bytes { block_in (blocks_of self.new) block ≡ erased_block (erased_of self.old) (block_in (blocks_of self.old) block) }
+        ensures others { SameBut block (blocks_of self.old) (blocks_of self.new) }
+        ensures geometry { geometry_of self.new ≡ geometry_of self.old }
+        ensures erased { erased_of self.new ≡ erased_of self.old }
+        ensures history { history_of self.new ≡ event (Erase block) (blocks_of self.old) (blocks_of self.new) false ∷ history_of self.old }
+    {
         let trace = Trace::told_by(self, &block);
         let start = self.position(block, 0);
         let size = self.geometry.block_size as usize;

@@ -1,23 +1,28 @@
 use Rattle.std.proofs.Common.{◌≡◌, ◌∙◌, ap}
-use Rattle.lfs_model.specs.Blocks.{Blocks, cut}
+use Rattle.lfs_model.specs.Blocks.{cut}
 use Rattle.lfs_model.proofs.Cuts.{IsDivided-cut}
 use Rattle.lfs_device.specs.Erased.{erased_bytes, erased_disk}
-use Rattle.lfs_device.proofs.Erasures.{cut-erased, SameBut-erased}
+use Rattle.lfs_device.specs.RamDevice.{blocks_of}
+use Rattle.lfs_device.proofs.Erasures.{cut-erased, SameBut-erased, block_in-erased}
 use Rattle.lfs_device.proofs.ram.RamDeviceBlockDevice.erase.Goals as goal
 
 -- the blocks after the erase
 after : (c : goal.After-self-1) → cut c.args.self.now.geometry.block_size c.args.self.now.geometry.block_count c.erase_at.new.all.items
-    ≡ erased_disk c.args.self.now.erased c.args.self.now.geometry.block_size (cut c.args.self.now.geometry.block_size c.args.self.now.geometry.block_count c.args.self.now.bytes.items) c.args.block
+    ≡ erased_disk c.args.self.now.erased c.args.self.now.geometry.block_size (blocks_of c.args.self.now) c.args.block
 after c =
     let d = c.args.self.now in
     ap (cut d.geometry.block_size d.geometry.block_count) (c.erase_at.ensures ∙ ap (λ at. erased_bytes d.erased d.bytes.items at d.geometry.block_size) c.position-start.ensures)
     ∙ cut-erased d.erased d.geometry.block_size d.geometry.block_count d.bytes.items c.args.block d.size c.requires
 
+pub returns-clause-bytes : goal.returns-clause-bytes
+returns-clause-bytes c =
+    let d = c.args.self.now in
+    rw (after c) (block_in-erased d.erased d.geometry.block_size d.geometry.block_count (blocks_of d) c.args.block (IsDivided-cut d.geometry.block_size d.geometry.block_count d.bytes.items d.size) c.requires)
+
 pub returns-clause-others : goal.returns-clause-others
 returns-clause-others c =
     let d = c.args.self.now in
-    let disk : Blocks = cut d.geometry.block_size d.geometry.block_count d.bytes.items in
-    rw (after c) (SameBut-erased d.erased d.geometry.block_size d.geometry.block_count disk c.args.block (IsDivided-cut d.geometry.block_size d.geometry.block_count d.bytes.items d.size) c.requires)
+    rw (after c) (SameBut-erased d.erased d.geometry.block_size d.geometry.block_count (blocks_of d) c.args.block (IsDivided-cut d.geometry.block_size d.geometry.block_count d.bytes.items d.size) c.requires)
 
 pub returns-clause-history : goal.returns-clause-history
 returns-clause-history c = rw (after c) c.told_by-trace.ensures

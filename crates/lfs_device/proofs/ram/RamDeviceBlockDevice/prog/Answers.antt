@@ -4,14 +4,14 @@ use Rattle.lfs_model.proofs.Cuts.{IsDivided-cut, cut-overwritten, size_fits}
 use Rattle.lfs_model.proofs.Overwrites.{length-overwritten, SameBut-programmed}
 use Rattle.lfs_device.proofs.ram.RamDeviceBlockDevice.prog.Goals as goal
 
-pub invariant_of-self : goal.invariant_of-self
-invariant_of-self c =
+pub invariant_of-self-clause-size : goal.invariant_of-self-clause-size
+invariant_of-self-clause-size c =
     let d = c.args.self.now in
     let room = size_fits d.geometry.block_size d.geometry.block_count c.args.block (length d.bytes.items) c.requires.in_device d.size in
-    record { size = ap length c.overwrite.ensures ∙ length-overwritten d.bytes.items c.position-start.result c.args.bytes.now (omega (arith, room)) ∙ d.size }
+    ap length c.overwrite.ensures ∙ length-overwritten d.bytes.items c.position-start.result c.args.bytes.now (omega (arith, room)) ∙ d.size
 
-pub returns-clause-ok : goal.returns-clause-ok
-returns-clause-ok c =
+pub returns-clause-bytes : goal.returns-clause-bytes
+returns-clause-bytes c =
     let d = c.args.self.now in
     ap (cut d.geometry.block_size d.geometry.block_count) (c.overwrite.ensures ∙ ap (λ at. overwritten d.bytes.items at c.args.bytes.now) c.position-start.ensures)
     ∙ cut-overwritten d.geometry.block_size d.geometry.block_count d.bytes.items c.args.block c.args.off c.args.bytes.now d.size c.requires.in_device c.requires.in_block
@@ -21,7 +21,7 @@ returns-clause-others c =
     let d = c.args.self.now in
     let disk : Blocks = cut d.geometry.block_size d.geometry.block_count d.bytes.items in
     let shape = IsDivided-cut d.geometry.block_size d.geometry.block_count d.bytes.items d.size in
-    rw (returns-clause-ok c) (SameBut-programmed disk c.args.block c.args.off c.args.bytes.now (omega (arith, shape.count)) (omega (arith, shape.sizes c.args.block c.requires.in_device)))
+    rw (returns-clause-bytes c) (SameBut-programmed disk c.args.block c.args.off c.args.bytes.now (omega (arith, shape.count)) (omega (arith, shape.sizes c.args.block c.requires.in_device)))
 
 pub returns-clause-history : goal.returns-clause-history
-returns-clause-history c = rw (returns-clause-ok c) c.told_by-trace.ensures
+returns-clause-history c = rw (returns-clause-bytes c) c.told_by-trace.ensures

@@ -1,0 +1,60 @@
+-- One more call of a device with a fault.
+use Rattle.std.proofs.Common.{◌≡◌, ◌+◌, ℕ, Bool, true, false, not, ◌&&◌, ◌||◌, ◌==◌, nat_le, nat_lt, length, cond, Option, Some, None, List, ◌∷◌, refl, sym, ◌∙◌, ap}
+use Rattle.std.specs.Prelude.{is_some}
+use Rattle.lfs_device.specs.declared.device.BlockDevice.{Ghosts}
+use Rattle.lfs_device.specs.declared.fault.Extent.{Extent}
+use Rattle.lfs_device.specs.declared.fault.Extent.TheVariants.{Nothing, FirstBytes, Whole}
+use Rattle.lfs_device.specs.declared.fault.Fault.{Fault}
+use Rattle.lfs_model.specs.Blocks.{Blocks}
+use Rattle.lfs_model.specs.History.{Call, Read, Program, Erase, Event, event, unprogrammed, unprogrammed_after}
+use Rattle.lfs_device.specs.Fault.{counts, is_turn, has_stopped, is_due, due, due_failed}
+use Rattle.lfs_device.specs.Carried.{CarriedOut}
+
+-- the two ways to say that a call is to fail
+is_due-is_some : (fault : Fault) (call : Call) (older : List Event) → is_due fault.which fault.nth fault.stops call older ≡ is_some (due fault call older)
+is_due-is_some fault call older = either (is_turn (counts fault.which call) fault.which fault.nth older) (has_stopped fault.which fault.nth fault.stops older)
+  where
+    either : (a b : Bool) → (a || b) ≡ is_some (cond a (Some fault.extent) (cond b (Some Nothing) None))
+    either true b = refl
+    either false true = refl
+    either false false = refl
+
+fails_if_due : {D : Type 0} (g : Ghosts D) (o : Option Extent) (call : Call) (failed : Bool) (old new : D) → CarriedOut g o call failed old new → is_some o ≡ true → failed ≡ true
+fails_if_due g None call failed old new carried is = absurd (cc)
+fails_if_due g (Some Nothing) call failed old new carried is = carried.0
+fails_if_due g (Some (FirstBytes k)) call failed old new carried is = carried.0
+fails_if_due g (Some Whole) call failed old new carried is = carried.0
+
+pub due_failed-call : {D : Type 0} {call : Call} {failed : Bool} {before after : Blocks} {older later : List Event} (g : Ghosts D) (fault : Fault) (old new : D)
+    → CarriedOut g (due fault call older) call failed old new → later ≡ event call before after failed ∷ older
+    → due_failed fault.which fault.nth fault.stops older ≡ true → due_failed fault.which fault.nth fault.stops later ≡ true
+due_failed-call {call = call} {failed = failed} {older = older} g fault old new carried is so_far =
+    ap (due_failed fault.which fault.nth fault.stops) is
+    ∙ ap (λ rest. (not (is_due fault.which fault.nth fault.stops call older) || failed) && rest) so_far
+    ∙ here (is_due fault.which fault.nth fault.stops call older) failed (λ to_fail. fails_if_due g (due fault call older) call failed old new carried (sym (is_due-is_some fault call older) ∙ to_fail))
+  where
+    here : (to_fail failed : Bool) → (to_fail ≡ true → failed ≡ true) → ((not to_fail || failed) && true) ≡ true
+    here true true of = refl
+    here true false of = of refl
+    here false failed of = refl
+
+-- what is unprogrammed above is so below
+pub below-call : {call : Call} {failed : Bool} {before after : Blocks} {older later : List Event} (old new : List Event) → later ≡ event call before after failed ∷ older
+    → ((b k : ℕ) → unprogrammed older b k ≡ true → unprogrammed old b k ≡ true)
+    → ((b k : ℕ) → unprogrammed_after call failed b k (unprogrammed old b k) ≡ true → unprogrammed new b k ≡ true)
+    → (b k : ℕ) → unprogrammed later b k ≡ true → unprogrammed new b k ≡ true
+below-call {call} {failed} {older = older} old new is below keeps b k was =
+    keeps b k (more call (unprogrammed older b k) (unprogrammed old b k) (below b k) (sym (ap (λ (h : List Event). unprogrammed h b k) is) ∙ was))
+  where
+    both : (t x y : Bool) → (x ≡ true → y ≡ true) → (x && t) ≡ true → (y && t) ≡ true
+    both t true y of here = ap (λ v. v && t) (of refl) ∙ here
+    both t false y of here = absurd (cc)
+
+    either : (t f x y : Bool) → (x ≡ true → y ≡ true) → cond t f x ≡ true → cond t f y ≡ true
+    either true f x y of here = here
+    either false f x y of here = of here
+
+    more : (call : Call) (x y : Bool) → (x ≡ true → y ≡ true) → unprogrammed_after call failed b k x ≡ true → unprogrammed_after call failed b k y ≡ true
+    more (Read at off len) x y of here = of here
+    more (Program at off bytes) x y of here = both (not (b == at && nat_le off k && nat_lt k (off + length bytes))) x y of here
+    more (Erase at) x y of here = either (b == at) (not failed) x y of here

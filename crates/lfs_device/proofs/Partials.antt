@@ -1,0 +1,106 @@
+-- What stays unprogrammed where a part of a block is programmed.
+use Rattle.std.proofs.Common.{◌≡◌, ◌≤◌, ◌<◌, ℕ, ◌+◌, Bool, true, false, nat_le, nat_lt, ◌==◌, length, arith, List, ◌∷◌, ◌++◌, ◌-◌, ◌*◌, ◌/◌, ◌%◌, take, drop, slice_range, not, ◌&&◌, inl, inr, refl, sym, ◌∙◌, ap, subst}
+use Rattle.std.proofs.lemmas.Bool.Decides.{nat_tests}
+use Rattle.std.proofs.Math.Nat.{mul-le-mul_left, add-mul-mod_self_right}
+use Rattle.std.proofs.lemmas.Bool.{cases_lt, cases_eq}
+use Rattle.std.proofs.lemmas.List.{take-take, drop-take, take-append-drop}
+use Rattle.std.proofs.lemmas.Nat.{div-add-mod'}
+use Rattle.lfs_model.specs.Blocks.{Blocks, SameOutside, block_in, programmed}
+use Rattle.lfs_model.proofs.Overwrites.{SameOutside-trans, SameOutside-wider, SameOutside-programmed}
+use Rattle.lfs_model.specs.History.{Event, event, Read, Program, unprogrammed, unprogrammed_after}
+use Rattle.lfs_device.specs.Partial.{KeepsUnprogrammed}
+
+pub keeps-none : (b low high : ℕ) (history : List Event) → KeepsUnprogrammed b low high history history
+keeps-none b low high history = record { elsewhere = λ other k ne was. was; below = λ k lt was. was; above = λ k le was. was }
+
+pub keeps-trans : {b low high : ℕ} {old mid new : List Event} → KeepsUnprogrammed b low high old mid → KeepsUnprogrammed b low high mid new → KeepsUnprogrammed b low high old new
+keeps-trans first second = record {
+  elsewhere = λ other k ne was. second.elsewhere other k ne (first.elsewhere other k ne was);
+  below = λ k lt was. second.below k lt (first.below k lt was);
+  above = λ k le was. second.above k le (first.above k le was);
+}
+
+pub keeps-wider : {b low high : ℕ} {old new : List Event} (from to : ℕ) → KeepsUnprogrammed b low high old new → from ≤ low → high ≤ to → KeepsUnprogrammed b from to old new
+keeps-wider {low = low} {high = high} from to keeps before behind = record {
+  elsewhere = keeps.elsewhere;
+  below = λ k lt was. keeps.below k (omega arith) was;
+  above = λ k le was. keeps.above k (omega arith) was;
+}
+
+pub keeps-read : {old new : List Event} {block off len : ℕ} {before after : Blocks} {failed : Bool} (b low high : ℕ) → new ≡ event (Read block off len) before after failed ∷ old → KeepsUnprogrammed b low high old new
+keeps-read b low high is = record {
+  elsewhere = λ other k ne was. ap (λ (h : List Event). unprogrammed h other k) is ∙ was;
+  below = λ k lt was. ap (λ (h : List Event). unprogrammed h b k) is ∙ was;
+  above = λ k le was. ap (λ (h : List Event). unprogrammed h b k) is ∙ was;
+}
+
+pub keeps-program : {old new : List Event} {b off : ℕ} {bytes : List ℕ} {before after : Blocks} {failed : Bool} → new ≡ event (Program b off bytes) before after failed ∷ old
+    → KeepsUnprogrammed b off (off + length bytes) old new
+keeps-program {old} {b = b} {off = off} {bytes = bytes} is = record {
+  elsewhere = λ other k ne was.
+      let still : unprogrammed old other k ≡ true = was in
+      let apart : (other == b) ≡ false = grind (arith, nat_tests) in
+      ap (λ (h : List Event). unprogrammed h other k) is ∙ grind (arith, nat_tests, still, apart);
+  below = λ k lt was.
+      let still : unprogrammed old b k ≡ true = was in
+      let short : nat_le off k ≡ false = grind (arith, nat_tests) in
+      ap (λ (h : List Event). unprogrammed h b k) is ∙ grind (arith, nat_tests, still, short);
+  above = λ k le was.
+      let still : unprogrammed old b k ≡ true = was in
+      let past : nat_lt k (off + length bytes) ≡ false = grind (arith, nat_tests) in
+      ap (λ (h : List Event). unprogrammed h b k) is ∙ grind (arith, nat_tests, still, past);
+}
+
+-- a program, and behind it a change within a page
+pub within_both : (blocks mid new : Blocks) (b off at width len : ℕ) (first : List ℕ) → b < length blocks → off ≤ length (block_in blocks b) → mid ≡ programmed blocks b off first → at ≡ off + length first → length first + width ≤ len
+    → SameOutside at (at + width) (block_in mid b) (block_in new b) → SameOutside off (off + len) (block_in blocks b) (block_in new b)
+within_both blocks mid new b off at width len first lt fits is next room later =
+    let before : SameOutside off (off + length first) (block_in blocks b) (block_in mid b) = rw is (SameOutside-programmed blocks b off first lt fits) in
+    SameOutside-trans (SameOutside-wider off (off + len) before (omega arith) (omega arith)) (SameOutside-wider off (off + len) later (omega arith) (omega arith))
+
+-- a part of a list and the part behind it
+pub take-append-slice_range : (xs : List ℕ) (m n : ℕ) → m ≤ n → take m xs ++ slice_range xs m n ≡ take n xs
+take-append-slice_range xs m n le =
+    let more : m + (n - m) ≡ n = omega arith in
+    ap (λ (l : List ℕ). l ++ slice_range xs m n) (sym (take-take m n xs le))
+    ∙ ap (λ (l : List ℕ). take m (take n xs) ++ l) (sym (drop-take m (n - m) xs) ∙ ap (λ k. drop m (take k xs)) more)
+    ∙ take-append-drop m (take n xs)
+
+-- a multiple below another is at least a step below it
+pub step_below : (m n page : ℕ) → m % page ≡ 0 → n % page ≡ 0 → m < n → m + page ≤ n
+step_below m n page a b lt =
+    let quotient : m / page * page ≡ m = omega (arith, div-add-mod' m page) in
+    let other : n / page * page ≡ n = omega (arith, div-add-mod' n page) in
+    elim (cases_lt (m / page) (n / page)) [
+      | inl lower ↦ let more : m / page + 1 ≤ n / page = omega arith in omega (arith, mul-le-mul_left page more)
+      | inr above ↦ absurd (omega (arith, mul-le-mul_left page above))
+    ]
+
+-- behind the whole pages of what is stored there is room for one more, where more is stored
+pub page_room : (off stored len page : ℕ) → off % page ≡ 0 → (off + len) % page ≡ 0 → stored ≤ len → stored - stored % page < stored → off + (stored - stored % page) + page ≤ off + len
+page_room off stored len page begins ends le lt =
+    let whole : stored / page * page ≡ stored - stored % page = omega (arith, div-add-mod' stored page) in
+    let there : (off + (stored - stored % page)) % page ≡ 0 = ap (λ n. (off + n) % page) (sym whole) ∙ add-mul-mod_self_right off (stored / page) page ∙ begins in
+    step_below (off + (stored - stored % page)) (off + len) page there ends (omega arith)
+
+pub keeps-after : {b off : ℕ} {old new : List Event} (bytes : List ℕ) (failed : Bool) → KeepsUnprogrammed b off (off + length bytes) old new → (other k : ℕ)
+    → unprogrammed_after (Program b off bytes) failed other k (unprogrammed old other k) ≡ true → unprogrammed new other k ≡ true
+keeps-after {b} {off} {old} {new} bytes failed keeps other k is =
+    elim (cases_eq other b) [
+      | inr apart ↦ keeps.elsewhere other k apart (left (unprogrammed old other k) (not (other == b && nat_le off k && nat_lt k (off + length bytes))) is)
+      | inl here ↦ elim (cases_lt k off) [
+        | inl short ↦ subst (λ at. unprogrammed new at k ≡ true) (sym here) (keeps.below k short (subst (λ at. unprogrammed old at k ≡ true) here (left (unprogrammed old other k) (not (other == b && nat_le off k && nat_lt k (off + length bytes))) is)))
+        | inr reached ↦ elim (cases_lt k (off + length bytes)) [
+          | inr past ↦ subst (λ at. unprogrammed new at k ≡ true) (sym here) (keeps.above k past (subst (λ at. unprogrammed old at k ≡ true) here (left (unprogrammed old other k) (not (other == b && nat_le off k && nat_lt k (off + length bytes))) is)))
+          | inl within ↦ let inside : (other == b && nat_le off k && nat_lt k (off + length bytes)) ≡ true = grind (arith, nat_tests) in absurd (none (unprogrammed old other k) (ap (λ t. unprogrammed old other k && not t) (sym inside) ∙ is))
+        ]
+      ]
+    ]
+  where
+    left : (a c : Bool) → (a && c) ≡ true → a ≡ true
+    left true c is = refl
+    left false c is = is
+
+    none : (a : Bool) → (a && false) ≡ true → ⊥
+    none true is = absurd (cc)
+    none false is = absurd (cc)

@@ -1,0 +1,21 @@
+use Rattle.std.proofs.Common.{rules, ◌≡◌, ◌∷◌, is_err}
+use Rattle.lfs_model.specs.History.{event}
+use Rattle.lfs_model.specs.History.Call.{Erase}
+use Rattle.lfs_device.specs.Fault.{due}
+use Rattle.lfs_device.specs.Carried.{CarriedOut}
+use Rattle.lfs_device.proofs.Faults.{due_failed-call, below-call}
+use Rattle.lfs_device.proofs.fault.FaultDeviceBlockDevice.erase.Goals as goal
+
+carried : (g : _) (c : goal.After-told_by-self g) → CarriedOut g.D.BlockDevice (due c.args.self.now.fault (Erase c.args.block) c.args.self.now.trace.events)
+    (Erase c.args.block) (is_err c.carry_out_erase-outcome.result) c.args.self.now.inner c.carry_out_erase-outcome.new.device
+carried g c = search rules
+
+newest : (g : _) (c : goal.After-told_by-self g) → c.told_by-self.result.events
+    ≡ event (Erase c.args.block) (g.D.BlockDevice.blocks c.args.self.now.inner) (g.D.BlockDevice.blocks c.carry_out_erase-outcome.new.device) (is_err c.carry_out_erase-outcome.result) ∷ c.args.self.now.trace.events
+newest g c = search rules
+
+pub invariant_of-self-clause-due_failed : goal.invariant_of-self-clause-due_failed
+invariant_of-self-clause-due_failed g c = due_failed-call g.D.BlockDevice c.args.self.now.fault c.args.self.now.inner c.carry_out_erase-outcome.new.device (carried g c) (newest g c) c.args.self.now.due_failed
+
+pub invariant_of-self-clause-below : goal.invariant_of-self-clause-below
+invariant_of-self-clause-below g c = below-call (g.D.BlockDevice.history c.args.self.now.inner) (g.D.BlockDevice.history c.carry_out_erase-outcome.new.device) (newest g c) c.args.self.now.below (c.carry_out_erase-outcome.ensures.keeps)

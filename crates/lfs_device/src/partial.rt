@@ -1,0 +1,160 @@
+ghost use Rattle.std.specs.Prelude.{◌≡◌, ◌≤◌, ◌<◌, ◌+◌, ◌%◌, ℕ, true, length, take, slice_range, is_err, IfSome, IfErr, OnOk, OnErr, Some};
+ghost use Rattle.lfs_model.specs.Blocks.{SameBut, SameOutside, block_in, programmed};
+ghost use Rattle.lfs_model.specs.History.{faults, unprogrammed, unprogrammed_after, AllUnprogrammed};
+ghost use Rattle.lfs_model.specs.History.Call.{Read, Program, Erase};
+ghost use Rattle.lfs_device.specs.Carried.{NoFault, CarriedOut, stored};
+ghost use Rattle.lfs_device.specs.Partial.{KeepsUnprogrammed};
+
+use crate::fault::Extent;
+use crate::{BlockDevice, Error};
+
+/// Reads, or does as much of it as is due and fails.
+pub(crate) fn carry_out_read<D: BlockDevice>(
+    device: &mut D,
+    due: Option<Extent>,
+    block: u32,
+    off: u32,
+    buf: &mut [u8],
+) -> Result<(), Error>
+    requires in_device { block < (D.geometry device.old).block_count }
+    requires in_block { off + length buf.old ≤ (D.geometry device.old).block_size }
+    ensures carried { CarriedOut ⟦<D as BlockDevice>⟧ due (Read block off (length buf.old)) (is_err result) device.old device.new }
+    ensures whole { due ≡ Some Extent.Whole → NoFault ⟦<D as BlockDevice>⟧ device.old device.new
+        → buf.new ≡ slice_range (block_in (D.blocks device.old) block) off (off + length buf.old) }
+    ensures bytes { OnOk result (buf.new ≡ slice_range (block_in (D.blocks device.old) block) off (off + length buf.old)) }
+    ensures same { D.blocks device.new ≡ D.blocks device.old }
+    ensures geometry { D.geometry device.new ≡ D.geometry device.old }
+    ensures error { IfErr result (λ e. e ≡ Error.Io) }
+    ensures faults { faults (D.history device.old) ≤ faults (D.history device.new) }
+    ensures keeps { (b k : ℕ) → unprogrammed (D.history device.old) b k ≡ true → unprogrammed (D.history device.new) b k ≡ true }
+{
+    match due {
+        None => device.read(block, off, buf),
+        Some(Extent::Whole) => {
+            let _ = device.read(block, off, buf);
+            Err(Error::Io)
+        }
+        Some(_) => Err(Error::Io),
+    }
+}
+
+/// Programs, or does as much of it as is due and fails.
+pub(crate) fn carry_out_program<D: BlockDevice>(
+    device: &mut D,
+    due: Option<Extent>,
+    block: u32,
+    off: u32,
+    bytes: &[u8],
+) -> Result<(), Error>
+    requires in_device { block < (D.geometry device.old).block_count }
+    requires in_block { off + length bytes.now ≤ (D.geometry device.old).block_size }
+    requires begins { off % (D.geometry device.old).page ≡ 0 }
+    requires ends { (off + length bytes.now) % (D.geometry device.old).page ≡ 0 }
+    requires unprogrammed { AllUnprogrammed (D.history device.old) block off (off + length bytes.now) }
+    ensures carried { CarriedOut ⟦<D as BlockDevice>⟧ due (Program block off bytes.now) (is_err result) device.old device.new }
+    ensures stored { IfSome due (λ extent. NoFault ⟦<D as BlockDevice>⟧ device.old device.new
+        → D.blocks device.new ≡ programmed (D.blocks device.old) block off (stored extent bytes.now)) }
+    ensures ok { OnOk result (D.blocks device.new ≡ programmed (D.blocks device.old) block off bytes.now) }
+    ensures err { OnErr result (SameOutside off (off + length bytes.now) (block_in (D.blocks device.old) block) (block_in (D.blocks device.new) block)) }
+    ensures others { SameBut block (D.blocks device.old) (D.blocks device.new) }
+    ensures geometry { D.geometry device.new ≡ D.geometry device.old }
+    ensures error { IfErr result (λ e. e ≡ Error.Io) }
+    ensures faults { faults (D.history device.old) ≤ faults (D.history device.new) }
+    ensures keeps { KeepsUnprogrammed block off (off + length bytes.now) (D.history device.old) (D.history device.new) }
+{
+    match due {
+        None => device.prog(block, off, bytes),
+        Some(Extent::Nothing) => Err(Error::Io),
+        Some(Extent::FirstBytes(k)) => {
+            let _ = program_first(device, block, off, bytes, k);
+            Err(Error::Io)
+        }
+        Some(Extent::Whole) => {
+            let _ = device.prog(block, off, bytes);
+            Err(Error::Io)
+        }
+    }
+}
+
+/// Erases, or does as much of it as is due and fails.
+pub(crate) fn carry_out_erase<D: BlockDevice>(
+    device: &mut D,
+    due: Option<Extent>,
+    block: u32,
+) -> Result<(), Error>
+    requires { block < (D.geometry device.old).block_count }
+    ensures carried { CarriedOut ⟦<D as BlockDevice>⟧ due (Erase block) (is_err result) device.old device.new }
+    ensures others { SameBut block (D.blocks device.old) (D.blocks device.new) }
+    ensures geometry { D.geometry device.new ≡ D.geometry device.old }
+    ensures error { IfErr result (λ e. e ≡ Error.Io) }
+    ensures faults { faults (D.history device.old) ≤ faults (D.history device.new) }
+    ensures keeps { (b k : ℕ) → unprogrammed_after (Erase block) (is_err result) b k (unprogrammed (D.history device.old) b k) ≡ true → unprogrammed (D.history device.new) b k ≡ true }
+{
+    match due {
+        None => device.erase(block),
+        Some(Extent::Whole) => {
+            let _ = device.erase(block);
+            Err(Error::Io)
+        }
+        Some(_) => Err(Error::Io),
+    }
+}
+
+/// Programs the first `k` of these bytes, all where there are fewer, and leaves those behind them as they are.
+pub(crate) fn program_first<D: BlockDevice>(
+    device: &mut D,
+    block: u32,
+    off: u32,
+    bytes: &[u8],
+    k: u32,
+) -> Result<(), Error>
+    requires in_device { block < (D.geometry device.old).block_count }
+    requires in_block { off + length bytes.now ≤ (D.geometry device.old).block_size }
+    requires begins { off % (D.geometry device.old).page ≡ 0 }
+    requires ends { (off + length bytes.now) % (D.geometry device.old).page ≡ 0 }
+    requires unprogrammed { AllUnprogrammed (D.history device.old) block off (off + length bytes.now) }
+    ensures ok { OnOk result (D.blocks device.new ≡ programmed (D.blocks device.old) block off (take k bytes.now)) }
+    ensures within { SameOutside off (off + length bytes.now) (block_in (D.blocks device.old) block) (block_in (D.blocks device.new) block) }
+    ensures others { SameBut block (D.blocks device.old) (D.blocks device.new) }
+    ensures geometry { D.geometry device.new ≡ D.geometry device.old }
+    ensures faults { faults (D.history device.old) ≤ faults (D.history device.new) }
+    ensures err { OnErr result (faults (D.history device.old) < faults (D.history device.new)) }
+    ensures keeps { KeepsUnprogrammed block off (off + length bytes.now) (D.history device.old) (D.history device.new) }
+{
+    let stored = (k as usize).min(bytes.len());
+    let page = device.geometry().page as usize;
+    let whole = stored - stored % page;
+    device.prog(block, off, &bytes[..whole])?;
+    if whole == stored {
+        return Ok(());
+    }
+    program_beginning(device, block, off + whole as u32, &bytes[whole..stored])
+}
+
+// Programs the beginning of a page, and the rest of the page with what it holds.
+fn program_beginning<D: BlockDevice>(
+    device: &mut D,
+    block: u32,
+    off: u32,
+    bytes: &[u8],
+) -> Result<(), Error>
+    requires in_device { block < (D.geometry device.old).block_count }
+    requires in_page { length bytes.now ≤ (D.geometry device.old).page }
+    requires in_block { off + (D.geometry device.old).page ≤ (D.geometry device.old).block_size }
+    requires begins { off % (D.geometry device.old).page ≡ 0 }
+    requires unprogrammed { AllUnprogrammed (D.history device.old) block off (off + (D.geometry device.old).page) }
+    ensures ok { OnOk result (D.blocks device.new ≡ programmed (D.blocks device.old) block off bytes.now) }
+    ensures within { SameOutside off (off + (D.geometry device.old).page) (block_in (D.blocks device.old) block) (block_in (D.blocks device.new) block) }
+    ensures others { SameBut block (D.blocks device.old) (D.blocks device.new) }
+    ensures geometry { D.geometry device.new ≡ D.geometry device.old }
+    ensures faults { faults (D.history device.old) ≤ faults (D.history device.new) }
+    ensures err { OnErr result (faults (D.history device.old) < faults (D.history device.new)) }
+    ensures keeps { KeepsUnprogrammed block off (off + (D.geometry device.old).page) (D.history device.old) (D.history device.new) }
+{
+    let mut buffer = [0u8; 512];
+    let page = &mut buffer[..device.geometry().page as usize];
+    device.read(block, off, page)?;
+    page[..bytes.len()].copy_from_slice(bytes);
+    device.prog(block, off, page)?;
+    Ok(())
+}

@@ -87,6 +87,10 @@ pub OnlyReads-read : {blocks : Blocks} {old mid new : List Event} {block off len
     → OnlyReads blocks old mid → new ≡ event (Read block off len) before after failed ∷ mid → before ≡ blocks → after ≡ blocks → OnlyReads blocks old new
 OnlyReads-read so_far is was stays = goes_on so_far is (record { reads = refl; before = was; after = stays })
 
+-- another stretch of reads, of the same blocks
+pub OnlyReads-trans : {blocks same : Blocks} {old mid new : List Event} → OnlyReads blocks old mid → OnlyReads same mid new → same ≡ blocks → OnlyReads blocks old new
+OnlyReads-trans {mid = mid} {new = new} first second is = goes_on_by first (subst (λ d. OnlyReads d mid new) is second)
+
 writes_in_read : (call : Call) → reads_in call ≡ 1 → (programs (event call [] [] false ∷ []) ≡ 0) × (erases (event call [] [] false ∷ []) ≡ 0)
 writes_in_read (Read block off len) is = (refl, refl)
 writes_in_read (Program block off bytes) is = absurd (cc)

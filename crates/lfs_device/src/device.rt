@@ -6,7 +6,13 @@ ghost use Rattle.lfs_device.specs.declared.geometry.Geometry.{Geometry};
 
 use crate::{Error, Geometry};
 
-/// Flash. A block is erased whole, and then its pages are programmed, each once.
+/// Flash. A block is erased whole, and then its bytes are programmed in whole pages, each byte once until the next erase.
+///
+/// Blocks are numbered from 0 on, and an offset counts bytes from the block's beginning.
+/// The only error is `Io`: the device failed in this call. No call takes memory.
+///
+/// A contract sees the bytes of each block and the calls so far. The other things that it may speak of follow from the calls:
+/// how many of each kind there were and how many failed, which bytes are unprogrammed, and what a loss of power may have left.
 pub trait BlockDevice {
     /// How it is divided. It never changes.
     ghost geometry: { Self → Geometry };
@@ -17,10 +23,13 @@ pub trait BlockDevice {
     /// The calls so far, the newest first.
     ghost history: { Self → List Event };
 
+    /// How it is divided.
     fn geometry(&self) -> Geometry
         ensures { result ≡ geometry self.now };
 
-    /// Fills the buffer with the bytes from an offset of a block on.
+    /// Fills the buffer with the bytes of a block from the offset `off` on.
+    ///
+    /// After an error the buffer holds any bytes.
     fn read(&mut self, block: u32, off: u32, buf: &mut [u8]) -> Result<(), Error>
         requires in_device { block < (geometry self.old).block_count }
         requires in_block { off + length buf.old ≤ (geometry self.old).block_size }
@@ -30,7 +39,9 @@ pub trait BlockDevice {
         ensures history { history self.new ≡ event (Read block off (length buf.old)) (blocks self.old) (blocks self.new) (is_err result) ∷ history self.old }
         ensures error { IfErr result (λ e. e ≡ Error.Io) };
 
-    /// Programs whole pages.
+    /// Programs whole pages of a block, from the offset `off` on. Each byte of them has to be unprogrammed since the last erase of the block.
+    ///
+    /// After an error these pages hold any bytes, and count as programmed.
     fn prog(&mut self, block: u32, off: u32, bytes: &[u8]) -> Result<(), Error>
         requires in_device { block < (geometry self.old).block_count }
         requires in_block { off + length bytes.now ≤ (geometry self.old).block_size }
@@ -44,7 +55,9 @@ pub trait BlockDevice {
         ensures history { history self.new ≡ event (Program block off bytes.now) (blocks self.old) (blocks self.new) (is_err result) ∷ history self.old }
         ensures error { IfErr result (λ e. e ≡ Error.Io) };
 
-    /// Erases a block. What it holds then is not known.
+    /// Erases a block. It then holds any bytes, all of them unprogrammed.
+    ///
+    /// After an error it holds any bytes too, and they count as programmed.
     fn erase(&mut self, block: u32) -> Result<(), Error>
         requires { block < (geometry self.old).block_count }
         ensures others { SameBut block (blocks self.old) (blocks self.new) }
@@ -52,6 +65,6 @@ pub trait BlockDevice {
         ensures history { history self.new ≡ event (Erase block) (blocks self.old) (blocks self.new) (is_err result) ∷ history self.old }
         ensures error { IfErr result (λ e. e ≡ Error.Io) };
 
-    /// It has as many blocks as its geometry says, of that size.
+    /// It has as many blocks as its geometry says, each of that size.
     ghost shape: { (d : Self) → IsDivided (geometry d).block_size (geometry d).block_count (blocks d) };
 }

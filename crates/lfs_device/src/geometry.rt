@@ -3,7 +3,11 @@ ghost use Rattle.lfs_model.specs.Geometry.{IsGeometry};
 
 use crate::Error;
 
-/// How a device is divided: blocks, which are erased whole, and pages, which are programmed whole.
+/// How a device is divided: blocks, which are erased whole, and pages, which are programmed whole. Sizes are in bytes.
+///
+/// A page is a power of two from 8 to 512 and at most an eighth of a block.
+/// A block is a multiple of the page, from 1,024 to 65,536.
+/// There are 2 to 65,536 blocks, in all at most 268,435,456 bytes.
 #[derive(Clone, Copy, Debug, PartialEq, Eq)]
 pub struct Geometry {
     pub block_size: u32,
@@ -13,6 +17,7 @@ pub struct Geometry {
 }
 
 impl Geometry {
+    /// A geometry of these sizes. `Invalid` exactly where they are outside the limits. It takes no memory.
     pub fn new(block_size: u32, page: u32, block_count: u32) -> Result<Geometry, Error>
         ensures { MatchResult result
             (λ g. (g.block_size ≡ block_size) × (g.page ≡ page) × (g.block_count ≡ block_count))

@@ -4,7 +4,10 @@ ghost use Rattle.lfs_model.specs.History.{Event};
 
 use std::marker::Model;
 
-/// A history that only proofs read. It takes no memory, and its methods do nothing at run time.
+/// The history of a device, for those who write one. Only proofs read it: it takes no memory, and its methods do nothing when they run.
+///
+/// A device keeps a `Trace` in a field, gives `events` of it as its ghost member `history`, and in each call assigns a new one.
+/// Callers of a device need none.
 #[derive(Drop)]
 pub struct Trace {
     pub ghost events: { List Event },
@@ -15,7 +18,7 @@ impl Model for Trace {
 }
 
 impl Trace {
-    /// Any history, which the caller's proof picks from what is referred to.
+    /// Any history. The caller's proof picks it, from what the two references point to: mostly the device before the call and the call's arguments.
     pub fn told_by<S, T>(_device: &S, _call: &T) -> Trace
         ghost events: { List Event }
         ensures { result.events ≡ events }

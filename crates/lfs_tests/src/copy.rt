@@ -1,0 +1,42 @@
+ghost use Rattle.std.specs.Prelude.{◌≡◌, ◌⊎◌, ◌+◌, ◌/◌, ◌<◌, IfErr, OnOk, IsErrOf, slice_set};
+ghost use Rattle.lfs_model.specs.Blocks.{SameBut, block_in};
+ghost use Rattle.lfs_model.specs.History.{AtWorst, LeavesOnly, erases, programs, faults};
+
+use lfs_device::{BlockDevice, Error, read_block};
+use std::alloc::Global;
+
+/// Copies the block `from` over the block `to`, which is erased first and programmed a page at a time.
+///
+/// `NoMemory` where there is none for the bytes of a block; the device is then untouched.
+/// After `Io`, and after a loss of power at any moment, `to` may hold any bytes, and each other block what it held.
+pub fn copy_block<D: BlockDevice>(
+    alloc: Global,
+    device: &mut D,
+    from: u32,
+    to: u32,
+) -> Result<(), Error>
+    requires from { from < (D.geometry device.old).block_count }
+    requires to { to < (D.geometry device.old).block_count }
+    ensures copied { OnOk result (D.blocks device.new ≡ slice_set (D.blocks device.old) to (block_in (D.blocks device.old) from)) }
+    ensures others { SameBut to (D.blocks device.old) (D.blocks device.new) }
+    ensures geometry { D.geometry device.new ≡ D.geometry device.old }
+    ensures erases { OnOk result (erases (D.history device.new) ≡ erases (D.history device.old) + 1) }
+    ensures programs { OnOk result (programs (D.history device.new)
+        ≡ programs (D.history device.old) + (D.geometry device.old).block_size / (D.geometry device.old).page) }
+
+    ensures errors { IfErr result (λ e. (e ≡ Error.Io) ⊎ (e ≡ Error.NoMemory)) }
+    ensures io { IsErrOf result Error.Io → faults (D.history device.old) < faults (D.history device.new) }
+    ensures no_memory { IsErrOf result Error.NoMemory → D.history device.new ≡ D.history device.old }
+
+    ensures stops { LeavesOnly AtWorst (D.history device.old) (D.history device.new) (SameBut to (D.blocks device.old)) }
+{
+    let geometry = device.geometry();
+    let bytes = read_block(alloc, device, from)?;
+    device.erase(to)?;
+    for page in 0..geometry.block_size / geometry.page {
+        let off = page * geometry.page;
+        let end = off + geometry.page;
+        device.prog(to, off, &bytes[off as usize..end as usize])?;
+    }
+    Ok(())
+}

@@ -1,5 +1,6 @@
 pub mod Blocks
 pub mod BlockSets
+pub mod Cache
 pub mod Geometry
 pub mod History
 pub mod Disk

@@ -1,0 +1,21 @@
+-- The blocks that are at hand, each with its bytes, the most recent first.
+use Rattle.std.specs.Prelude.{ℕ, not, nat_eq, List, ◌∷◌, Option, filter, take}
+use Rattle.std.specs.Map.{lookup}
+
+abbrev pub CachedBlocks : Type 0
+CachedBlocks = List (ℕ × List ℕ)
+
+abbrev pub cache_limit : ℕ
+cache_limit = 8
+
+-- the bytes of a block that is at hand
+abbrev pub cached : CachedBlocks → ℕ → Option (List ℕ)
+cached cache b = lookup (nat_eq b) cache
+
+-- all but this block, in their order
+abbrev pub without : CachedBlocks → ℕ → CachedBlocks
+without cache b = filter (λ e. not (nat_eq b e.0)) cache
+
+-- this block with these bytes in front of the others, of which one too many goes from the end
+abbrev pub put_first : CachedBlocks → ℕ → List ℕ → CachedBlocks
+put_first cache b bytes = take cache_limit ((b, bytes) ∷ without cache b)

@@ -1,0 +1,20 @@
+use Rattle.std.proofs.Common.{arith, ap, sym, ◌∙◌, ◌≡◌, nat_eq, length}
+use Rattle.std.proofs.lemmas.Map.Made.{IsDistinct-keys_filter}
+use Rattle.lru.specs.LruCache.{lru_cache}
+use Rattle.lfs_model.specs.Cache.{without}
+use Rattle.lfs_cache.specs.Cache.{shown}
+use Rattle.lfs_cache.proofs.EntryLemmas.{IsCache-rest, remove_entry-distinct, rest, shown-rest}
+use Rattle.lfs_cache.proofs.cache.Cache.forget.Goals as goal
+use Rattle.lfs_cache.proofs.cache.Cache.forget.Goals.{Joined-pop}
+
+left : (c : Joined-pop) → c.pop.new.self ≡ lru_cache (rest c.args.block c.self.inside.recent.entries) c.self.inside.recent.cap
+left c = c.pop.ensures.entries ∙ ap (λ es. lru_cache es c.self.inside.recent.cap) (remove_entry-distinct c.args.block c.self.inside.recent.entries c.self.invariant.distinct)
+
+pub invariant_of-self : goal.invariant_of-self
+invariant_of-self c = rw (left c) (IsCache-rest c.self.inside.recent c.args.block c.self.invariant)
+
+pub returns : goal.returns
+returns c =
+    ap (λ recent. shown recent.entries) (left c)
+    ∙ shown-rest c.self.inside.recent.entries c.args.block
+    ∙ ap (λ cache. without cache c.args.block) c.self.view_is

@@ -177,3 +177,61 @@ blocks_for-place block_size size index offset large some is =
 -- a list has fewer blocks than bytes
 pub place-le : (block_size pos index offset : ℕ) → 1024 ≤ block_size → IsPlace block_size pos index offset → 892 * index ≤ pos
 place-le block_size pos index offset large is = let k = bytes_before-least block_size index large in omega arith
+
+-- ---- places in order
+
+-- each byte has a place
+pub placed : (block_size pos : ℕ) → 1024 ≤ block_size → (i : ℕ) × ((off : ℕ) × IsPlace block_size pos i off)
+placed block_size zero large = (0, (0, record { from = omega arith; below = omega arith; at = omega arith }))
+placed block_size (suc pos) large =
+    let before = placed block_size pos large in
+    let i : ℕ = before.0 in
+    let low = before.1.1.from in
+    let high = before.1.1.below in
+    let one = capacity_of-pos block_size (suc i) large in
+    ⊎_elim
+    (λ same. (i, (4 * pointers_of i + (suc pos - bytes_before block_size i), record { from = omega arith; below = same; at = refl })))
+    (λ next. (suc i, (4 * pointers_of (suc i) + (suc pos - bytes_before block_size (suc i)), record { from = omega arith; below = omega arith; at = refl })))
+    (cases_lt (suc pos) (bytes_before block_size i + capacity_of block_size i))
+
+-- a later byte is in the same block or a later one
+pub place-mono : (block_size p q i j off end : ℕ) → IsPlace block_size p i off → IsPlace block_size q j end → p ≤ q → i ≤ j
+place-mono block_size p q i j off end is there le = ⊎_elim
+    (λ less. let more = bytes_before-more block_size (suc j) i (omega arith) in let low = is.from in let high = there.below in absurd (omega arith))
+    (λ ge. ge)
+    (cases_lt j i)
+
+pub place_unique : (block_size p i j off end : ℕ) → IsPlace block_size p i off → IsPlace block_size p j end → i ≡ j
+place_unique block_size p i j off end is there =
+    let a = place-mono block_size p p i j off end is there (omega arith) in
+    let b = place-mono block_size p p j i end off there is (omega arith) in
+    omega arith
+
+-- the last byte before a block stands in the block before it
+pub place_before : (block_size p i j off : ℕ) → 1024 ≤ block_size → IsPlace block_size p j off → suc p ≡ bytes_before block_size i → i ≡ suc j
+place_before block_size p i j off large is e =
+    let low = is.from in
+    let high = is.below in
+    ⊎_elim
+    (λ above. ⊎_elim
+    (λ past. let more = bytes_before-more block_size (suc (suc j)) i (omega arith) in let one = capacity_of-pos block_size (suc j) large in absurd (omega arith))
+    (λ le. omega arith)
+    (cases_lt (suc j) i))
+    (λ below. let more = bytes_before-more block_size i j (omega arith) in absurd (omega arith))
+    (cases_lt j i)
+
+-- the last byte stands in the last block
+pub blocks_for-last : (block_size size : ℕ) → 1024 ≤ block_size → 1 ≤ size
+    → (n : ℕ) × ((blocks_for block_size size ≡ suc n) × ((bytes_before block_size n < size) × (size ≤ bytes_before block_size n + capacity_of block_size n)))
+blocks_for-last block_size size large some =
+    let last = placed block_size (size - 1) large in
+    let low = last.1.1.from in
+    let high = last.1.1.below in
+    (last.0, (blocks_for-place block_size size last.0 last.1.0 large some last.1.1 ∙ add-one last.0, (omega arith, omega arith)))
+
+pub place-lt : (block_size size p i off : ℕ) → 1024 ≤ block_size → IsPlace block_size p i off → p < size → i < blocks_for block_size size
+place-lt block_size size p i off large is lt =
+    let last = placed block_size (size - 1) large in
+    let count = blocks_for-place block_size size last.0 last.1.0 large (omega arith) last.1.1 in
+    let le = place-mono block_size p (size - 1) i last.0 off last.1.0 is last.1.1 (omega arith) in
+    omega arith

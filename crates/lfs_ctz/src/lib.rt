@@ -4,4 +4,5 @@
 mod read;
 mod size;
 
+pub use read::read_at;
 pub use size::{blocks_for, place};

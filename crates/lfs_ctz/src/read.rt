@@ -1,8 +1,9 @@
-ghost use Rattle.std.specs.Prelude.{◌≡◌, ◌≤◌, ◌<◌, ◌+◌, ◌*◌, ◌^◌, ◌⊎◌, ℕ, OnOk, IfOk, IfErr, IsErrOf, slice_index};
+ghost use Rattle.std.specs.Prelude.{◌≡◌, ◌≤◌, ◌<◌, ◌+◌, ◌*◌, ◌^◌, ◌⊎◌, ℕ, ◌-◌, ◌++◌, min, length, take, drop, OnOk, IfOk, IfErr, IsErrOf, slice_index, slice_range};
 ghost use Rattle.lfs_model.specs.Blocks.{block_in};
 ghost use Rattle.lfs_model.specs.History.{OnlyReads, faults, reads};
-ghost use Rattle.lfs_model.specs.Lists.{IsChain, blocks_back, word_at};
+ghost use Rattle.lfs_model.specs.Lists.{IsChain, IsList, IsPlace, blocks_back, blocks_for, bytes_of, pointers_of, word_at};
 
+use crate::{blocks_for, place};
 use byteorder::{ByteOrder, LittleEndian};
 use lfs_device::{BlockDevice, Error};
 
@@ -54,4 +55,113 @@ fn find<D: BlockDevice>(dev: &mut D, head: u32, last: u32, index: u32) -> Result
         return Err(Error::Corrupt);
     }
     Ok(block)
+}
+
+// The block that pointer 0 of a block names: Corrupt where there is no such block.
+fn before<D: BlockDevice>(dev: &mut D, block: u32) -> Result<u32, Error>
+    requires { block < (D.geometry dev.old).block_count }
+    ensures word { IfOk result (λ word. word ≡ word_at (block_in (D.blocks dev.old) block) 0) }
+    ensures in_range { IfOk result (λ b. b < (D.geometry dev.old).block_count) }
+    ensures corrupt { IsErrOf result Error.Corrupt → (D.geometry dev.old).block_count ≤ word_at (block_in (D.blocks dev.old) block) 0 }
+    ensures same { D.blocks dev.new ≡ D.blocks dev.old }
+    ensures geometry { D.geometry dev.new ≡ D.geometry dev.old }
+    ensures history { OnlyReads (D.blocks dev.old) (D.history dev.old) (D.history dev.new) }
+    ensures no_fault { OnOk result (faults (D.history dev.new) ≡ faults (D.history dev.old)) }
+    ensures io { IsErrOf result Error.Io → faults (D.history dev.old) < faults (D.history dev.new) }
+    ensures errors { IfErr result (λ e. (e ≡ Error.Io) ⊎ (e ≡ Error.Corrupt)) }
+    ensures few { reads (D.history dev.new) ≤ reads (D.history dev.old) + 1 }
+{
+    let word = pointer(dev, block, 0)?;
+    if word >= dev.geometry().block_count {
+        return Err(Error::Corrupt);
+    }
+    Ok(word)
+}
+
+// How many pointers a block begins with.
+fn pointers(index: u32) -> u32
+    ensures { result ≡ pointers_of index }
+{
+    if index == 0 {
+        0
+    } else {
+        index.trailing_zeros() + 1
+    }
+}
+
+// Reads so many bytes of a block into the buffer, over those from `start` on.
+fn read_part<D: BlockDevice>(
+    dev: &mut D,
+    block: u32,
+    off: u32,
+    buf: &mut [u8],
+    start: usize,
+    len: u32,
+) -> Result<(), Error>
+    requires in_device { block < (D.geometry dev.old).block_count }
+    requires in_block { off + len ≤ (D.geometry dev.old).block_size }
+    requires in_buffer { start + len ≤ length buf.old }
+    ensures bytes { OnOk result (buf.new ≡ take start buf.old ++ (take len (drop off (block_in (D.blocks dev.old) block)) ++ drop (start + len) buf.old)) }
+    ensures same { D.blocks dev.new ≡ D.blocks dev.old }
+    ensures geometry { D.geometry dev.new ≡ D.geometry dev.old }
+    ensures history { OnlyReads (D.blocks dev.old) (D.history dev.old) (D.history dev.new) }
+    ensures no_fault { OnOk result (faults (D.history dev.new) ≡ faults (D.history dev.old)) }
+    ensures io { IsErrOf result Error.Io → faults (D.history dev.old) < faults (D.history dev.new) }
+    ensures errors { IfErr result (λ e. e ≡ Error.Io) }
+    ensures few { reads (D.history dev.new) ≡ reads (D.history dev.old) + 1 }
+{
+    dev.read(block, off, &mut buf[start..start + len as usize])?;
+    Ok(())
+}
+
+/// Reads a file's bytes from position `pos` on into the buffer, as many as the buffer and the
+/// `size` allow, and answers their number. The file's list has its last block at `head`.
+///
+/// On a list that isn't well formed the answer is Corrupt or some bytes. `Error::Io` comes where
+/// the device failed. After an error what the buffer holds is open.
+///
+/// The last block that is read is found by the highest pointers that don't overshoot, as
+/// DESIGN.md of littlefs says, and each block before it by one pointer.
+pub fn read_at<D: BlockDevice>(
+    dev: &mut D,
+    head: u32,
+    size: u32,
+    pos: u32,
+    buf: &mut [u8],
+) -> Result<usize, Error>
+    ensures count { IfOk result (λ n. n ≡ min (length buf.old) (size - pos)) }
+    ensures bytes { IsList (D.blocks dev.old) (D.geometry dev.old).block_size head size →
+        IfOk result (λ n. take n buf.new ≡ slice_range (bytes_of (D.blocks dev.old) (D.geometry dev.old).block_size head size) pos (pos + n)) }
+    ensures rest { IfOk result (λ n. drop n buf.new ≡ drop n buf.old) }
+    ensures corrupt { IsErrOf result Error.Corrupt → ¬ IsList (D.blocks dev.old) (D.geometry dev.old).block_size head size }
+    ensures same { D.blocks dev.new ≡ D.blocks dev.old }
+    ensures geometry { D.geometry dev.new ≡ D.geometry dev.old }
+    ensures history { OnlyReads (D.blocks dev.old) (D.history dev.old) (D.history dev.new) }
+    ensures no_fault { OnOk result (faults (D.history dev.new) ≡ faults (D.history dev.old)) }
+    ensures io { IsErrOf result Error.Io → faults (D.history dev.old) < faults (D.history dev.new) }
+    ensures errors { IfErr result (λ e. (e ≡ Error.Io) ⊎ (e ≡ Error.Corrupt)) }
+    // Steps to the last block by the logarithm of the list's length, and two reads for each block.
+    ensures few { (m first last off end : ℕ) → blocks_for (D.geometry dev.old).block_size size ≤ 2 ^ m
+        → IsPlace (D.geometry dev.old).block_size pos first off
+        → IsPlace (D.geometry dev.old).block_size (pos + min (length buf.old) (size - pos) - 1) last end
+        → OnOk result (reads (D.history dev.new) ≤ reads (D.history dev.old) + 2 * m + 2 * (last - first) + 1) }
+{
+    let block_size = dev.geometry().block_size;
+    if pos >= size || buf.is_empty() {
+        return Ok(0);
+    }
+    let len = buf.len().min((size - pos) as usize);
+    let mut left = len as u32;
+    let (index, _) = place(block_size, pos + left - 1);
+    let mut block = find(dev, head, blocks_for(block_size, size) - 1, index)?;
+    'blocks: loop {
+        let (index, off) = place(block_size, pos + left - 1);
+        let part = left.min(off + 1 - 4 * pointers(index));
+        left -= part;
+        read_part(dev, block, off + 1 - part, buf, left as usize, part)?;
+        if left == 0 {
+            return Ok(len);
+        }
+        block = before(dev, block)?;
+    }
 }

@@ -1,0 +1,213 @@
+use Rattle.std.proofs.Common.{suc, ℕ, Bool, false, ◌==◌, ◌≡◌, ◌≤◌, ◌<◌, ◌+◌, ◌-◌, ◌*◌, ◌^◌, ◌++◌, min, List, length, length-append, length-drop, take, drop, slice_index, slice_range, refl, sym, ap, subst, ◌∙◌, arith}
+use Rattle.std.proofs.lemmas.Bool.Decides.{nat_tests}
+use Rattle.std.proofs.lemmas.List.{take_at}
+use Rattle.std.proofs.lemmas.Result.{err_from_is_err_and}
+use Rattle.lfs_device.specs.declared.geometry.Geometry.{Geometry}
+use Rattle.lfs_model.specs.Blocks.{Blocks, IsDivided, block_in}
+use Rattle.lfs_model.specs.Lists.{IsChain, IsList, IsPlace, pointers_of, blocks_for, blocks_back, bytes_of, word_at}
+use Rattle.lfs_ctz.proofs.Sizes.{blocks_for-last, place-lt, place_unique, place-mono}
+use Rattle.lfs_ctz.proofs.Chains.{chain_of_list}
+use Rattle.lfs_ctz.proofs.Gathered.{IsPart, IsTurn, filled, turn_bytes, turn_rest, turn_before, turn_in_range, turn_index}
+use Rattle.lfs_ctz.proofs.Readings.{reads_on}
+use Rattle.lfs_ctz.proofs.read.read_at.Goals as goal
+
+last_is : (block_size size n : ℕ) → 1024 ≤ block_size → 1 ≤ size → n ≡ blocks_for block_size size → n - 1 + 1 ≡ blocks_for block_size size
+last_is block_size size n large some is =
+    let last = blocks_for-last block_size size large some in
+    omega (arith, last.1.0)
+
+-- a list is a chain from its last block
+chain : (d : Blocks) (block_size head size n : ℕ) → 1024 ≤ block_size → n ≡ blocks_for block_size size → IsList d block_size head size → IsChain d (n - 1 + 1) head
+chain d block_size head size n large is ok = subst (λ k. IsChain d k head) (sym (last_is block_size size n large ok.size_low is)) (chain_of_list ok)
+
+sized : (d : Blocks) (block_size head size : ℕ) (geometry same : Geometry) → same ≡ geometry → block_size ≡ same.block_size → IsList d geometry.block_size head size → IsList d block_size head size
+sized d block_size head size geometry same e f ok = subst (λ n. IsList d n head size) (sym (f ∙ ap (λ (k : Geometry). k.block_size) e)) ok
+
+pub overflow_sub-blocks_for : goal.overflow_sub-blocks_for
+overflow_sub-blocks_for g c =
+    let large = c.geometry-block_size.result.valid.no_smaller in
+    let last = blocks_for-last c.geometry-block_size.result.block_size c.args.size large (omega arith) in
+    omega (arith, last.1.0, c.blocks_for.ensures)
+
+some_room : (len size pos n : ℕ) (empty : Bool) → pos < size → empty ≡ (len == 0) → empty ≡ false → n ≡ min len (size - pos) → (1 ≤ n) × (pos + n ≤ size)
+some_room len size pos n empty lt is not_empty e =
+    let some : (len ≡ 0) → ⊥ = grind (arith, nat_tests) in
+    (omega arith, omega arith)
+
+pub find-requires : goal.find-requires
+find-requires g c =
+    let large = c.geometry-block_size.result.valid.no_smaller in
+    let room = some_room (length c.args.buf.now) c.args.size c.args.pos c.min-len.result false (omega arith) c.if-is_empty.ensures refl c.min-len.ensures in
+    let lt = place-lt c.geometry-block_size.result.block_size c.args.size _ _ _ large c.place-index.ensures (omega arith) in
+    omega (arith, lt, c.blocks_for.ensures)
+
+pub returns-in_err-block-clause-corrupt : goal.returns-in_err-block-clause-corrupt
+returns-in_err-block-clause-corrupt g c =
+    let p = err_from_is_err_and c.from_residual.result c.from_residual.ensures.1 in
+    rw (p.1, p.2) (λ is ok. c.in_err-block.ensures.corrupt is
+    (chain _ _ _ _ _ c.geometry-block_size.result.valid.no_smaller c.blocks_for.ensures (sized _ _ _ _ _ _ c.geometry-block_size.ensures refl ok)))
+
+nothing_yet : (bytes buf : List ℕ) (pos n len : ℕ) → n ≡ len → drop n buf ≡ slice_range bytes (pos + n) (pos + len) ++ drop len buf
+nothing_yet bytes buf pos n len is =
+    let none : pos + len - (pos + n) ≡ 0 = omega arith in
+    ap (λ k. drop k buf) is ∙ ap (λ k. take k (drop (pos + n) bytes) ++ drop len buf) (sym none)
+
+pub blocks-2-init : goal.blocks-2-init
+blocks-2-init g c =
+    let old : Blocks = g.D.BlockDevice.blocks c.args.dev.now in
+    let size : ℕ = c.geometry-block_size.result.block_size in
+    let large = c.geometry-block_size.result.valid.no_smaller in
+    let room = some_room (length c.args.buf.now) c.args.size c.args.pos c.min-len.result false (omega arith) c.if-is_empty.ensures refl c.min-len.ensures in
+    record {
+      some = room.0;
+      high = omega (arith, c.min-len.ensures);
+      in_range = c.in_ok-block.ensures.in_range;
+      found = λ ok i off is.
+          c.in_ok-block.ensures.found (chain old size c.args.head c.args.size c.blocks_for.result large c.blocks_for.ensures ok)
+          ∙ ap (λ n. slice_index (blocks_back old n c.args.head) c.place-index.result.0) (last_is size c.args.size c.blocks_for.result large (omega arith) c.blocks_for.ensures)
+          ∙ ap (slice_index (blocks_back old (blocks_for size c.args.size) c.args.head)) (place_unique size _ _ _ _ _ c.place-index.ensures is);
+      bytes = λ ok. nothing_yet (bytes_of old size c.args.head c.args.size) c.args.buf.now c.args.pos c.min-len.result _ c.min-len.ensures;
+      rest = refl;
+      same = c.find.ensures.same;
+      same_geometry = c.find.ensures.geometry;
+      only_reads = c.find.ensures.history;
+      no_fault = c.in_ok-block.ensures.no_fault;
+      few = λ m i last off end le is there.
+          let few = c.in_ok-block.ensures.few m (omega (arith, le, c.blocks_for.ensures, (blocks_for-last size c.args.size large (omega arith)).1.0)) in
+          omega arith;
+    }
+
+pub returns-in_err-read_part-clause-history : goal.returns-in_err-read_part-clause-history
+returns-in_err-read_part-clause-history g c = reads_on _ _ _ _ _ c.blocks-2.invariant.same c.blocks-2.invariant.only_reads c.read_part.ensures.history
+
+-- what is read at an iteration
+is_part : (block_size pos left n i off k : ℕ) → IsPlace block_size (pos + left - 1) i off → k ≡ pointers_of i → n ≡ min left (off + 1 - 4 * k) → IsPart block_size pos left n i off
+is_part block_size pos left n i off k there many is = record { place = there; size = is ∙ ap (λ p. min left (off + 1 - 4 * p)) many }
+
+is_filled : (d same : Blocks) (new buf : List ℕ) (start n off block : ℕ) → same ≡ d → new ≡ take start buf ++ (take n (drop off (block_in same block)) ++ drop (start + n) buf) → new ≡ filled buf start n off (block_in d block)
+is_filled d same new buf start n off block e is = is ∙ ap (λ b. filled buf start n off (block_in b block)) e
+
+shaped : (d : Blocks) (geometry same : Geometry) → same ≡ geometry → IsDivided geometry.block_size geometry.block_count d → IsDivided same.block_size geometry.block_count d
+shaped d geometry same e shape = subst (λ n. IsDivided n geometry.block_count d) (ap (λ (k : Geometry). k.block_size) (sym e)) shape
+
+-- all of it is there
+all_there : (bytes new rest : List ℕ) (pos left len : ℕ) → left ≡ 0 → length new ≡ len + length rest → drop left new ≡ slice_range bytes (pos + left) (pos + len) ++ rest → take len new ≡ slice_range bytes pos (pos + len)
+all_there bytes new rest pos left len none size is =
+    let start : pos + left ≡ pos = omega arith in
+    let whole : new ≡ slice_range bytes pos (pos + len) ++ rest = ap (λ k. drop k new) (sym none) ∙ is ∙ ap (λ k. slice_range bytes k (pos + len) ++ rest) start in
+    ap (take len) whole ∙ take_at (slice_range bytes pos (pos + len)) rest len (omega (arith, ap length whole, length-append (slice_range bytes pos (pos + len)) rest, size))
+
+-- what an iteration knows, as a turn
+turn_of : (d same : Blocks) (geometry made : Geometry) (size pos len left n i off k block : ℕ) (buf new old : List ℕ)
+    → made ≡ geometry → IsDivided geometry.block_size geometry.block_count d → IsPlace made.block_size (pos + left - 1) i off → k ≡ pointers_of i → n ≡ min left (off + 1 - 4 * k)
+    → 1 ≤ left → left ≤ len → len ≡ min (length old) (size - pos) → pos < size → length buf ≡ length old → block < geometry.block_count → same ≡ d
+    → new ≡ take (left - n) buf ++ (take n (drop (off + 1 - n) (block_in same block)) ++ drop (left - n + n) buf)
+    → IsTurn d made.block_size geometry.block_count size pos len left n i off block buf new
+turn_of d same geometry made size pos len left n i off k block buf new old e shape there many is some le len_is lt room in_range s bytes = record {
+  large = made.valid.no_smaller;
+  shape = shaped d geometry made e shape;
+  part = is_part made.block_size pos left n i off k there many is;
+  some = some;
+  le = le;
+  within = omega arith;
+  room = omega arith;
+  in_range = in_range;
+  is = is_filled d same new buf (left - n) n (off + 1 - n) block s bytes;
+}
+
+-- when nothing is left
+at_end : (d : Blocks) (geometry made : Geometry) (head size pos left len n : ℕ) (new buf old : List ℕ) → made ≡ geometry → n ≡ len → left ≡ 0 → length new ≡ length buf → length buf ≡ length old → len ≤ length old
+    → drop left new ≡ slice_range (bytes_of d made.block_size head size) (pos + left) (pos + len) ++ drop len old
+    → take n new ≡ slice_range (bytes_of d geometry.block_size head size) pos (pos + n)
+at_end d geometry made head size pos left len n new buf old e n_is none kept was room is =
+    ap (λ k. take k new) n_is
+    ∙ all_there (bytes_of d made.block_size head size) new (drop len old) pos left len none (omega (arith, length-drop len old)) is
+    ∙ ap (λ (k : Geometry). slice_range (bytes_of d k.block_size head size) pos (pos + len)) e
+    ∙ ap (λ k. slice_range (bytes_of d geometry.block_size head size) pos (pos + k)) (sym n_is)
+
+pub returns-then-left-eq0-clause-bytes : goal.returns-then-left-eq0-clause-bytes
+returns-then-left-eq0-clause-bytes g c listed =
+    let inv = c.blocks-2.invariant in
+    let turn = turn_of _ _ _ _ c.args.size c.args.pos _ _ _ _ _ _ _ _ _ c.args.buf.now c.geometry-block_size.ensures (g.met.D.BlockDevice.shape c.args.dev.now) c.place-index-in-blocks-2.ensures c.pointers.ensures c.min-part.ensures
+    inv.some inv.high refl (omega arith) c.blocks-2.auto.buf inv.in_range inv.same c.in_ok-read_part.ensures.bytes in
+    let ok = sized _ _ c.args.head c.args.size _ _ c.geometry-block_size.ensures refl listed in
+    at_end _ _ _ c.args.head c.args.size c.args.pos _ _ _ _ _ _ c.geometry-block_size.ensures c.min-len.ensures c.if-left-eq0.true c.read_part.auto.buf c.blocks-2.auto.buf (omega arith)
+    (turn_bytes turn c.args.head _ ok (inv.found ok _ _ c.place-index-in-blocks-2.ensures) (inv.bytes ok))
+
+pub returns-then-left-eq0-clause-rest : goal.returns-then-left-eq0-clause-rest
+returns-then-left-eq0-clause-rest g c =
+    let inv = c.blocks-2.invariant in
+    let turn = turn_of _ _ _ _ c.args.size c.args.pos _ _ _ _ _ _ _ _ _ c.args.buf.now c.geometry-block_size.ensures (g.met.D.BlockDevice.shape c.args.dev.now) c.place-index-in-blocks-2.ensures c.pointers.ensures c.min-part.ensures
+    inv.some inv.high refl (omega arith) c.blocks-2.auto.buf inv.in_range inv.same c.in_ok-read_part.ensures.bytes in
+    ap (λ k. drop k c.read_part.new.buf) c.min-len.ensures ∙ turn_rest turn ∙ inv.rest ∙ ap (λ k. drop k c.args.buf.now) (sym c.min-len.ensures)
+
+pub returns-then-left-eq0-clause-history : goal.returns-then-left-eq0-clause-history
+returns-then-left-eq0-clause-history g c = reads_on _ _ _ _ _ c.blocks-2.invariant.same c.blocks-2.invariant.only_reads c.read_part.ensures.history
+
+-- a place by the geometry of the device
+placed_by : (geometry made : Geometry) (pos i off : ℕ) → made ≡ geometry → IsPlace geometry.block_size pos i off → IsPlace made.block_size pos i off
+placed_by geometry made pos i off e is = subst (λ (k : Geometry). IsPlace k.block_size pos i off) (sym e) is
+
+pub returns-then-left-eq0-clause-few : goal.returns-then-left-eq0-clause-few
+returns-then-left-eq0-clause-few g c m first last off end le is there =
+    let inv = c.blocks-2.invariant in
+    let made = c.geometry-block_size.ensures in
+    let now = c.place-index-in-blocks-2.ensures in
+    let is_first = placed_by _ _ _ first off made is in
+    let is_last = placed_by _ _ _ last end made there in
+    let few = inv.few m _ last _ end (subst (λ (k : Geometry). blocks_for k.block_size c.args.size ≤ 2 ^ m) (sym made) le) now is_last in
+    let low = place-mono _ _ _ _ _ _ _ is_first now (let s = inv.some in omega arith) in
+    let one = c.read_part.ensures.few in
+    omega arith
+
+out_of_range : (d same : Blocks) (geometry now : Geometry) (block : ℕ) → same ≡ d → now ≡ geometry → now.block_count ≤ word_at (block_in same block) 0 → word_at (block_in d block) 0 < geometry.block_count → ⊥
+out_of_range d same geometry now block e f outside inside =
+    let there = ap (λ b. word_at (block_in b block) 0) e in
+    let count = ap (λ (k : Geometry). k.block_count) f in
+    omega (arith, there, count, outside, inside)
+
+pub returns-in_err-block-2-clause-corrupt : goal.returns-in_err-block-2-clause-corrupt
+returns-in_err-block-2-clause-corrupt g c =
+    let inv = c.blocks-2.invariant in
+    let turn = turn_of _ _ _ _ c.args.size c.args.pos _ _ _ _ _ _ _ _ _ c.args.buf.now c.geometry-block_size.ensures (g.met.D.BlockDevice.shape c.args.dev.now) c.place-index-in-blocks-2.ensures c.pointers.ensures c.min-part.ensures
+    inv.some inv.high refl (omega arith) c.blocks-2.auto.buf inv.in_range inv.same c.in_ok-read_part.ensures.bytes in
+    let p = err_from_is_err_and c.from_residual-in_err-block-2.result c.from_residual-in_err-block-2.ensures.1 in
+    rw (p.1, p.2) (λ is listed.
+    let ok = sized _ _ c.args.head c.args.size _ _ c.geometry-block_size.ensures refl listed in
+    out_of_range _ _ _ _ _ (c.read_part.ensures.same ∙ inv.same) (c.read_part.ensures.geometry ∙ inv.same_geometry) (c.in_err-block-2.ensures.corrupt is)
+    (turn_in_range turn c.args.head ok (inv.found ok _ _ c.place-index-in-blocks-2.ensures) (omega arith)))
+
+pub returns-in_err-block-2-clause-history : goal.returns-in_err-block-2-clause-history
+returns-in_err-block-2-clause-history g c =
+    let inv = c.blocks-2.invariant in
+    reads_on _ _ _ _ _ (c.read_part.ensures.same ∙ inv.same) (reads_on _ _ _ _ _ inv.same inv.only_reads c.read_part.ensures.history) c.before-in-blocks-2.ensures.history
+
+few_more : (reads_old reads_now reads_part reads_next m last i j : ℕ) → i ≡ suc j → i ≤ last → reads_now ≤ reads_old + 2 * m + 2 * (last - i) → reads_part ≡ reads_now + 1 → reads_next ≤ reads_part + 1
+    → reads_next ≤ reads_old + 2 * m + 2 * (last - j)
+few_more reads_old reads_now reads_part reads_next m last i j next le few one more = omega arith
+
+pub blocks-2-preserved : goal.blocks-2-preserved
+blocks-2-preserved g c =
+    let inv = c.blocks-2.invariant in
+    let now = c.place-index-in-blocks-2.ensures in
+    let turn = turn_of _ _ _ _ c.args.size c.args.pos _ _ _ _ _ _ _ _ _ c.args.buf.now c.geometry-block_size.ensures (g.met.D.BlockDevice.shape c.args.dev.now) now c.pointers.ensures c.min-part.ensures
+    inv.some inv.high refl (omega arith) c.blocks-2.auto.buf inv.in_range inv.same c.in_ok-read_part.ensures.bytes in
+    let some : 1 ≤ c.blocks-2.left - c.min-part.result = omega arith in
+    let same = c.read_part.ensures.same ∙ inv.same in
+    let geometry = c.read_part.ensures.geometry ∙ inv.same_geometry in
+    record {
+      some = some;
+      high = (let h = inv.high in omega arith);
+      in_range = (let lt = c.in_ok-block-2.ensures.in_range in omega (arith, lt, ap (λ (k : Geometry). k.block_count) geometry));
+      found = λ ok j end is.
+          c.in_ok-block-2.ensures.word ∙ ap (λ b. word_at (block_in b c.blocks-2.block) 0) same
+          ∙ turn_before turn c.args.head ok (inv.found ok _ _ now) some j end is;
+      bytes = λ ok. turn_bytes turn c.args.head _ ok (inv.found ok _ _ now) (inv.bytes ok);
+      rest = turn_rest turn ∙ inv.rest;
+      same = c.before-in-blocks-2.ensures.same ∙ same;
+      same_geometry = c.before-in-blocks-2.ensures.geometry ∙ geometry;
+      only_reads = reads_on _ _ _ _ _ same (reads_on _ _ _ _ _ inv.same inv.only_reads c.read_part.ensures.history) c.before-in-blocks-2.ensures.history;
+      no_fault = c.in_ok-block-2.ensures.no_fault ∙ c.in_ok-read_part.ensures.no_fault ∙ inv.no_fault;
+      few = λ m j last off end le is there.
+          few_more _ _ _ _ m last _ j (turn_index turn some j off is) (place-mono _ _ _ _ _ _ _ now there (let h = inv.high in omega arith)) (inv.few m _ last _ end le now there) c.read_part.ensures.few c.before-in-blocks-2.ensures.few;
+    }

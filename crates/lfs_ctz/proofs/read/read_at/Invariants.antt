@@ -1,0 +1,31 @@
+use Rattle.std.proofs.Common.{ℕ, ◌≡◌, ◌≤◌, ◌<◌, ◌+◌, ◌-◌, ◌*◌, ◌^◌, ◌++◌, min, length, drop, slice_index, slice_range}
+use Rattle.lfs_model.specs.History.{OnlyReads, faults, reads}
+use Rattle.lfs_model.specs.Lists.{IsList, IsPlace, blocks_back, blocks_for, bytes_of}
+use Rattle.lfs_ctz.proofs.read.read_at.Given as goal
+
+abbrev pub invariant-blocks-2 : goal.invariant-blocks-2
+invariant-blocks-2 g l =
+    let geometry = g.D.BlockDevice.geometry in
+    let blocks = g.D.BlockDevice.blocks in
+    let history = g.D.BlockDevice.history in
+    let old = l.fn.dev in
+    let len = min (length l.fn.buf) (l.fn.size - l.fn.pos) in
+    record {
+      some : 1 ≤ l.left;
+      high : l.left ≤ len;
+      in_range : l.block < (geometry old).block_count;
+      found : IsList (blocks old) l.block_size l.fn.head l.fn.size → (i off : ℕ) → IsPlace l.block_size (l.fn.pos + l.left - 1) i off
+          → l.block ≡ slice_index (blocks_back (blocks old) (blocks_for l.block_size l.fn.size) l.fn.head) i;
+      bytes : IsList (blocks old) l.block_size l.fn.head l.fn.size
+          → drop l.left l.buf ≡ slice_range (bytes_of (blocks old) l.block_size l.fn.head l.fn.size) (l.fn.pos + l.left) (l.fn.pos + len) ++ drop len l.fn.buf;
+      rest : drop len l.buf ≡ drop len l.fn.buf;
+      same : blocks l.dev ≡ blocks old;
+      same_geometry : geometry l.dev ≡ geometry old;
+      only_reads : OnlyReads (blocks old) (history old) (history l.dev);
+      no_fault : faults (history l.dev) ≡ faults (history old);
+      few : (m i last off end : ℕ) → blocks_for l.block_size l.fn.size ≤ 2 ^ m → IsPlace l.block_size (l.fn.pos + l.left - 1) i off → IsPlace l.block_size (l.fn.pos + len - 1) last end
+          → reads (history l.dev) ≤ reads (history old) + 2 * m + 2 * (last - i);
+    }
+
+abbrev pub decreases-blocks-2 : goal.decreases-blocks-2
+decreases-blocks-2 g l = l.left

@@ -1,7 +1,8 @@
 -- The blocks of a list, from the head back.
-use Rattle.std.proofs.Common.{ℕ, zero, suc, ◌≡◌, ◌+◌, ◌*◌, ◌-◌, ◌<◌, ◌≤◌, ◌^◌, [], ◌∷◌, length, slice_index, refl, ap, ◌∙◌, arith, add-one, length-append}
+use Rattle.std.proofs.Common.{ℕ, zero, suc, ◌≡◌, ◌+◌, ◌*◌, ◌-◌, ◌<◌, ◌≤◌, ◌^◌, List, [], ◌∷◌, ◌++◌, length, slice_index, refl, sym, ap, ◌∙◌, arith, add-one, length-append, ⊎_elim}
+use Rattle.std.proofs.lemmas.Bool.{cases_lt}
 use Rattle.std.specs.Int.{w32, trailing_zeros}
-use Rattle.std.proofs.lemmas.List.{get_or_at}
+use Rattle.std.proofs.lemmas.List.{get_or_at, get_or_append_left}
 use Rattle.lfs_model.specs.Blocks.{Blocks, block_in}
 use Rattle.lfs_model.specs.Lists.{word_at, pointers_of, blocks_back, blocks_for, IsChain, IsList}
 
@@ -36,3 +37,25 @@ pub pointer_at : (d : Blocks) (last head at k : ℕ) → IsChain d (last + 1) he
 pointer_at d last head at k chain some le few block is =
     let many = pointers_of-pos at some in
     ap (λ b. word_at (block_in d b) (4 * k)) is ∙ chain.pointers at k (omega arith) (omega arith)
+
+-- a block's pointer 0 names the block before it
+pub back-pointer0 : (d : Blocks) (n head i : ℕ) → suc i < n → word_at (block_in d (slice_index (blocks_back d n head) (suc i))) 0 ≡ slice_index (blocks_back d n head) i
+back-pointer0 d zero head i lt = absurd (omega arith)
+back-pointer0 d (suc zero) head i lt = absurd (omega arith)
+back-pointer0 d (suc (suc n)) head i lt =
+    let inner : List ℕ = blocks_back d (suc n) (word_at (block_in d head) 0) in
+    let len : length inner ≡ suc n = length_back d (suc n) (word_at (block_in d head) 0) in
+    ⊎_elim
+    (λ less.
+    ap (λ b. word_at (block_in d b) 0) (get_or_append_left inner (head ∷ []) 0 (suc i) (omega arith))
+    ∙ back-pointer0 d (suc n) (word_at (block_in d head) 0) i less
+    ∙ sym (get_or_append_left inner (head ∷ []) 0 i (omega arith)))
+    (λ last.
+    let here : suc i ≡ suc n = omega arith in
+    ap (λ k. word_at (block_in d (slice_index (inner ++ head ∷ []) k)) 0) here
+    ∙ ap (λ b. word_at (block_in d b) 0) (get_or_at inner head [] 0 (suc n) len)
+    ∙ sym (head_of_back d n (word_at (block_in d head) 0))
+    ∙ ap (λ k. slice_index (blocks_back d k (word_at (block_in d head) 0)) n) (add-one n)
+    ∙ sym (get_or_append_left inner (head ∷ []) 0 n (omega arith))
+    ∙ ap (slice_index (inner ++ head ∷ [])) (let k : n ≡ i = omega arith in k))
+    (cases_lt (suc i) (suc n))

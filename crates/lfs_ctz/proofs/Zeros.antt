@@ -1,7 +1,7 @@
 -- The zeros behind a number, by the powers of two that divide it.
 use Rattle.std.proofs.Common.{ℕ, zero, suc, ◌≡◌, ◌+◌, ◌*◌, ◌-◌, ◌/◌, ◌%◌, ◌<◌, ◌≤◌, ◌^◌, refl, sym, ap, ap₂, subst, ◌∙◌, arith}
-use Rattle.std.proofs.Math.Nat.{mul_assoc, add-mul, pow-suc}
-use Rattle.std.proofs.lemmas.Nat.{mul-le}
+use Rattle.std.proofs.Math.Nat.{mul_assoc, add-mul, pow-suc, one-le-pow}
+use Rattle.std.proofs.lemmas.Nat.{mul-le, pow-add}
 use Rattle.std.specs.Int.{w32, trailing_zeros}
 use lib.Count.{count_trailing_zeros, under}
 
@@ -45,6 +45,10 @@ zeros-le (suc w) n q (suc k) some low e =
     let more = zeros_even w n (q * 2 ^ k) (omega arith) (omega arith) in
     omega arith
 
+pub factor-pos : (c p n : ℕ) → n ≡ c * p → 0 < n → 1 ≤ c
+factor-pos zero p n e some = absurd (omega arith)
+factor-pos (suc c) p n e some = omega arith
+
 -- ---- at 32 bits
 
 pub zeros32-multiple : (n : ℕ) → 0 < n → n < 2 ^ 32 → IsOddMultiple n (trailing_zeros w32 n)
@@ -62,3 +66,21 @@ zeros32-more n low more =
     let rest : n - 2 ^ k ≡ odd.half * 2 ^ suc k = (let less : n - 2 ^ k ≡ 2 * odd.half * 2 ^ k = omega arith in less) ∙ mul_assoc 2 odd.half (2 ^ k) ∙ twice odd.half k in
     let high = zeros-le 32 (n - 2 ^ k) odd.half (suc k) (omega arith) (omega arith) rest in
     omega arith
+
+-- less a smaller power of two than the greatest that divides it, a number is still a multiple of that one
+pub zeros32_before : (n k : ℕ) → 0 < n → n < 2 ^ 32 → k < trailing_zeros w32 n → (0 < n - 2 ^ k) × (k ≤ trailing_zeros w32 (n - 2 ^ k))
+zeros32_before n k some low less =
+    let odd = zeros32-multiple n some low in
+    let z : ℕ = trailing_zeros w32 n in
+    let c : ℕ = (2 * odd.half + 1) * 2 ^ (z - suc k) in
+    let whole : n ≡ c * 2 ^ suc k =
+        odd.is ∙ ap (λ p. (2 * odd.half + 1) * p) (ap (λ e. 2 ^ e) (let s : z ≡ (z - suc k) + suc k = omega arith in s) ∙ pow-add 2 (z - suc k) (suc k))
+        ∙ sym (mul_assoc (2 * odd.half + 1) (2 ^ (z - suc k)) (2 ^ suc k)) in
+    let doubled = twice c k in
+    let factor = factor-pos c (2 ^ suc k) n whole some in
+    let large = mul-le 1 (2 ^ k) c (2 ^ k) factor (omega arith) in
+    let power = one-le-pow k 2 (omega arith) in
+    let parts : 2 * c * 2 ^ k ≡ (2 * c - 1) * 2 ^ k + 1 * 2 ^ k = ap (λ x. x * 2 ^ k) (let s : 2 * c ≡ (2 * c - 1) + 1 = omega arith in s) ∙ add-mul (2 * c - 1) 1 (2 ^ k) in
+    let less_one : n - 2 ^ k ≡ (2 * c - 1) * 2 ^ k = omega (arith, parts, mul_assoc 2 c (2 ^ k)) in
+    let there : 0 < n - 2 ^ k = omega arith in
+    (there, zeros-le 32 (n - 2 ^ k) (2 * c - 1) k there (omega arith) less_one)

@@ -3,6 +3,8 @@
 
 mod read;
 mod size;
+mod visits;
 
 pub use read::read_at;
 pub use size::{blocks_for, place};
+pub use visits::walk;

@@ -8,7 +8,7 @@ use byteorder::{ByteOrder, LittleEndian};
 use lfs_device::{BlockDevice, Error};
 
 // Reads pointer k of a block that a list names: Corrupt where there is no such block.
-fn pointer<D: BlockDevice>(dev: &mut D, block: u32, k: u32) -> Result<u32, Error>
+pub(crate) fn pointer<D: BlockDevice>(dev: &mut D, block: u32, k: u32) -> Result<u32, Error>
     requires { k ≤ 32 }
     ensures word { IfOk result (λ word. word ≡ word_at (block_in (D.blocks dev.old) block) (4 * k)) }
     ensures in_range { OnOk result (block < (D.geometry dev.old).block_count) }
@@ -31,7 +31,7 @@ fn pointer<D: BlockDevice>(dev: &mut D, block: u32, k: u32) -> Result<u32, Error
 
 // The block at an index of a list, from the head at another: back by the highest pointer that
 // does not overshoot.
-fn find<D: BlockDevice>(dev: &mut D, head: u32, last: u32, index: u32) -> Result<u32, Error>
+pub(crate) fn find<D: BlockDevice>(dev: &mut D, head: u32, last: u32, index: u32) -> Result<u32, Error>
     requires { index ≤ last }
     ensures found { IsChain (D.blocks dev.old) (last + 1) head → IfOk result (λ b. b ≡ slice_index (blocks_back (D.blocks dev.old) (last + 1) head) index) }
     ensures in_range { IfOk result (λ b. b < (D.geometry dev.old).block_count) }

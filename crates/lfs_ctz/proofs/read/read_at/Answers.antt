@@ -8,20 +8,9 @@ use Rattle.lfs_model.specs.Lists.{IsChain, IsList, IsPlace, pointers_of, blocks_
 use Rattle.lfs_ctz.proofs.Sizes.{blocks_for-last, place-lt, place_unique, place-mono}
 use Rattle.lfs_ctz.proofs.Chains.{chain_of_list}
 use Rattle.lfs_ctz.proofs.Gathered.{IsPart, IsTurn, filled, turn_bytes, turn_rest, turn_before, turn_in_range, turn_index}
+use Rattle.lfs_ctz.proofs.Geometries.{last_is, chain, sized, shaped}
 use Rattle.lfs_ctz.proofs.Readings.{reads_on}
 use Rattle.lfs_ctz.proofs.read.read_at.Goals as goal
-
-last_is : (block_size size n : ℕ) → 1024 ≤ block_size → 1 ≤ size → n ≡ blocks_for block_size size → n - 1 + 1 ≡ blocks_for block_size size
-last_is block_size size n large some is =
-    let last = blocks_for-last block_size size large some in
-    omega (arith, last.1.0)
-
--- a list is a chain from its last block
-chain : (d : Blocks) (block_size head size n : ℕ) → 1024 ≤ block_size → n ≡ blocks_for block_size size → IsList d block_size head size → IsChain d (n - 1 + 1) head
-chain d block_size head size n large is ok = subst (λ k. IsChain d k head) (sym (last_is block_size size n large ok.size_low is)) (chain_of_list ok)
-
-sized : (d : Blocks) (block_size head size : ℕ) (geometry same : Geometry) → same ≡ geometry → block_size ≡ same.block_size → IsList d geometry.block_size head size → IsList d block_size head size
-sized d block_size head size geometry same e f ok = subst (λ n. IsList d n head size) (sym (f ∙ ap (λ (k : Geometry). k.block_size) e)) ok
 
 pub overflow_sub-blocks_for : goal.overflow_sub-blocks_for
 overflow_sub-blocks_for g c =
@@ -45,7 +34,7 @@ pub returns-in_err-block-clause-corrupt : goal.returns-in_err-block-clause-corru
 returns-in_err-block-clause-corrupt g c =
     let p = err_from_is_err_and c.from_residual.result c.from_residual.ensures.1 in
     rw (p.1, p.2) (λ is ok. c.in_err-block.ensures.corrupt is
-    (chain _ _ _ _ _ c.geometry-block_size.result.valid.no_smaller c.blocks_for.ensures (sized _ _ _ _ _ _ c.geometry-block_size.ensures refl ok)))
+    (chain _ _ _ _ _ c.geometry-block_size.result.valid.no_smaller c.blocks_for.ensures (sized _ _ _ _ _ c.geometry-block_size.ensures ok)))
 
 nothing_yet : (bytes buf : List ℕ) (pos n len : ℕ) → n ≡ len → drop n buf ≡ slice_range bytes (pos + n) (pos + len) ++ drop len buf
 nothing_yet bytes buf pos n len is =
@@ -87,9 +76,6 @@ is_part block_size pos left n i off k there many is = record { place = there; si
 is_filled : (d same : Blocks) (new buf : List ℕ) (start n off block : ℕ) → same ≡ d → new ≡ take start buf ++ (take n (drop off (block_in same block)) ++ drop (start + n) buf) → new ≡ filled buf start n off (block_in d block)
 is_filled d same new buf start n off block e is = is ∙ ap (λ b. filled buf start n off (block_in b block)) e
 
-shaped : (d : Blocks) (geometry same : Geometry) → same ≡ geometry → IsDivided geometry.block_size geometry.block_count d → IsDivided same.block_size geometry.block_count d
-shaped d geometry same e shape = subst (λ n. IsDivided n geometry.block_count d) (ap (λ (k : Geometry). k.block_size) (sym e)) shape
-
 -- all of it is there
 all_there : (bytes new rest : List ℕ) (pos left len : ℕ) → left ≡ 0 → length new ≡ len + length rest → drop left new ≡ slice_range bytes (pos + left) (pos + len) ++ rest → take len new ≡ slice_range bytes pos (pos + len)
 all_there bytes new rest pos left len none size is =
@@ -130,7 +116,7 @@ returns-then-left-eq0-clause-bytes g c listed =
     let inv = c.blocks-2.invariant in
     let turn = turn_of _ _ _ _ c.args.size c.args.pos _ _ _ _ _ _ _ _ _ c.args.buf.now c.geometry-block_size.ensures (g.met.D.BlockDevice.shape c.args.dev.now) c.place-index-in-blocks-2.ensures c.pointers.ensures c.min-part.ensures
     inv.some inv.high refl (omega arith) c.blocks-2.auto.buf inv.in_range inv.same c.in_ok-read_part.ensures.bytes in
-    let ok = sized _ _ c.args.head c.args.size _ _ c.geometry-block_size.ensures refl listed in
+    let ok = sized _ c.args.head c.args.size _ _ c.geometry-block_size.ensures listed in
     at_end _ _ _ c.args.head c.args.size c.args.pos _ _ _ _ _ _ c.geometry-block_size.ensures c.min-len.ensures c.if-left-eq0.true c.read_part.auto.buf c.blocks-2.auto.buf (omega arith)
     (turn_bytes turn c.args.head _ ok (inv.found ok _ _ c.place-index-in-blocks-2.ensures) (inv.bytes ok))
 
@@ -173,7 +159,7 @@ returns-in_err-block-2-clause-corrupt g c =
     inv.some inv.high refl (omega arith) c.blocks-2.auto.buf inv.in_range inv.same c.in_ok-read_part.ensures.bytes in
     let p = err_from_is_err_and c.from_residual-in_err-block-2.result c.from_residual-in_err-block-2.ensures.1 in
     rw (p.1, p.2) (λ is listed.
-    let ok = sized _ _ c.args.head c.args.size _ _ c.geometry-block_size.ensures refl listed in
+    let ok = sized _ c.args.head c.args.size _ _ c.geometry-block_size.ensures listed in
     out_of_range _ _ _ _ _ (c.read_part.ensures.same ∙ inv.same) (c.read_part.ensures.geometry ∙ inv.same_geometry) (c.in_err-block-2.ensures.corrupt is)
     (turn_in_range turn c.args.head ok (inv.found ok _ _ c.place-index-in-blocks-2.ensures) (omega arith)))
 

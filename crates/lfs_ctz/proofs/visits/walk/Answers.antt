@@ -1,0 +1,171 @@
+use Rattle.std.proofs.Common.{ℕ, ◌≡◌, ◌≤◌, ◌<◌, ◌+◌, ◌-◌, ◌++◌, List, [], ◌∷◌, length, drop, reverse, slice_index, refl, sym, ap, subst, ◌∙◌, arith}
+use Rattle.std.proofs.Common.{suc, Result, Err, ◌*◌, ◌^◌, rules, of_calls}
+use Rattle.std.specs.List.{FoldsTo}
+use Rattle.lfs_device.specs.declared.error.Error.{Error}
+use Rattle.lfs_ctz.specs.Right.{IsRight}
+use Rattle.std.proofs.lemmas.Fn.{FoldsTo-push}
+use Rattle.std.proofs.lemmas.Result.{err_from_is_err_and}
+use Rattle.std.proofs.lemmas.List.{drop_all, drop_more}
+use Rattle.lfs_device.specs.declared.geometry.Geometry.{Geometry}
+use Rattle.lfs_model.specs.Blocks.{Blocks, IsDivided, block_in}
+use Rattle.lfs_model.specs.Lists.{IsChain, IsList, blocks_for, blocks_back, pointers_of, word_at}
+use Rattle.lfs_ctz.proofs.Sizes.{blocks_for-last}
+use Rattle.lfs_ctz.proofs.Chains.{head_of_back, length_back, in_range_at, back-pointer0}
+use Rattle.lfs_ctz.proofs.Geometries.{chain, sized, count_by}
+use Rattle.lfs_ctz.proofs.Readings.{reads_on}
+use Rattle.lfs_ctz.proofs.Walked.{IsChecked, none_checked, more_checked, chain_of_walk, right_of_chain, chain_fits, first_of_distinct, visited_more}
+use Rattle.lfs_ctz.proofs.visits.walk.Goals as goal
+
+pub overflow_sub-last : goal.overflow_sub-last
+overflow_sub-last g c =
+    let last = blocks_for-last c.geometry-geometry.result.block_size c.args.size c.geometry-geometry.result.valid.no_smaller (omega arith) in
+    omega (arith, last.1.0, c.blocks_for-last.ensures)
+
+pub returns-then-last-geometry-clause-corrupt : goal.returns-then-last-geometry-clause-corrupt
+returns-then-last-geometry-clause-corrupt g c is listed =
+    let ok = sized _ _ _ _ _ c.geometry-geometry.ensures listed in
+    let fits = chain_fits _ _ _ (chain _ _ _ _ _ c.geometry-geometry.result.valid.no_smaller c.blocks_for-last.ensures ok) in
+    let shape = g.met.D.BlockDevice.shape c.args.dev.now in
+    omega (arith, fits, shape.count, c.if-last-geometry.true, ap (λ (k : Geometry). k.block_count) c.geometry-geometry.ensures)
+
+-- the same error of a call with another result
+again : {S T : Type 0} (x y : Error) → ◌≡◌ {A = Result S Error} (Err x) (Err y) → ◌≡◌ {A = Result T Error} (Err x) (Err y)
+again x y e = let same : x ≡ y = cc in ap Err same
+
+pub returns-in_err-first-clause-corrupt : goal.returns-in_err-first-clause-corrupt
+returns-in_err-first-clause-corrupt g c =
+    let p = err_from_is_err_and c.from_residual.result c.from_residual.ensures.1 in
+    rw (p.1, p.2) (λ is listed. c.in_err-first.ensures.corrupt (again _ _ is)
+    (chain _ _ _ _ _ c.geometry-geometry.result.valid.no_smaller c.blocks_for-last.ensures (sized _ _ _ _ _ c.geometry-geometry.ensures listed)))
+
+pub loop-index-init : goal.loop-index-init
+loop-index-init g c =
+    let old : Blocks = g.D.BlockDevice.blocks c.args.dev.now in
+    let last : ℕ = c.blocks_for-last.result - 1 in
+    let none : drop (last + 1) (blocks_back old (last + 1) c.args.head) ≡ [] = drop_all (last + 1) (blocks_back old (last + 1) c.args.head) (let l = length_back old (last + 1) c.args.head in omega arith) in
+    record {
+      low = omega arith;
+      at = sym (head_of_back old last c.args.head);
+      checked = none_checked old last c.args.head c.in_ok-first.first (g.D.BlockDevice.geometry c.args.dev.now).block_count;
+      visited = rw none refl;
+      callable = search (rules, of_calls);
+      same = c.find.ensures.same;
+      same_geometry = c.find.ensures.geometry;
+      only_reads = c.find.ensures.history;
+      no_fault = c.in_ok-first.ensures.no_fault;
+    }
+
+-- in a list a checked block is right
+module _ (d : Blocks) (geometry made : Geometry) (head size n index block : ℕ) (e : made ≡ geometry) (n_is : n ≡ blocks_for made.block_size size) (shape : IsDivided geometry.block_size geometry.block_count d)
+    (fits : n - 1 < made.block_count) (some : 0 < index) (le : index ≤ n - 1) (is : block ≡ slice_index (blocks_back d (n - 1 + 1) head) index) (listed : IsList d geometry.block_size head size) where
+  as_chain : IsChain d (n - 1 + 1) head
+  as_chain = chain d made.block_size head size n made.valid.no_smaller n_is (sized d head size geometry made e listed)
+
+  few : n - 1 + 1 ≤ 2 ^ 32
+  few = let many = made.valid.no_more in omega arith
+
+  in_range_then : block < geometry.block_count
+  in_range_then = let lt = in_range_at d (n - 1 + 1) head index as_chain (omega arith) in omega (arith, lt, is, shape.count)
+
+  pointers_then : (k : ℕ) → k < pointers_of index → word_at (block_in d block) (4 * k) < geometry.block_count
+  pointers_then k less =
+      let there = as_chain.pointers index k (omega arith) less in
+      let lt = in_range_at d (n - 1 + 1) head (index - 2 ^ k) as_chain (omega arith) in
+      let same = ap (λ b. word_at (block_in d b) (4 * k)) is in
+      omega (arith, lt, there, same, shape.count)
+
+  right_then : IsRight d index block
+  right_then = subst (IsRight d index) (sym is) (right_of_chain d (n - 1 + 1) head few as_chain index some (omega arith))
+
+-- and where all of it is checked it is a list
+list_of_walk : (d : Blocks) (head size n first : ℕ) (geometry made : Geometry) → made ≡ geometry → n ≡ blocks_for made.block_size size → IsDivided geometry.block_size geometry.block_count d
+    → 1 ≤ size → size < 2 ^ 31 → n - 1 < made.block_count → IsChecked d (n - 1) head first geometry.block_count 0 → slice_index (blocks_back d (n - 1 + 1) head) 0 ≡ first → first < geometry.block_count
+    → IsList d geometry.block_size head size
+list_of_walk d head size n first geometry made e n_is shape low high fits checked is lt =
+    let many = made.valid.no_more in
+    let walked = chain_of_walk d (n - 1) head first (omega arith) (subst (λ k. IsChecked d (n - 1) head first k 0) (sym shape.count) checked) is (omega (arith, lt, shape.count)) in
+    let count : n - 1 + 1 ≡ blocks_for geometry.block_size size = count_by geometry made size n e low n_is in
+    let whole : IsChain d (blocks_for geometry.block_size size) head = subst (λ k. IsChain d k head) count walked in
+    record { size_low = low; size_high = high; in_range = whole.in_range; distinct = whole.distinct; pointers = whole.pointers }
+
+pub returns-in_err-before-clause-corrupt : goal.returns-in_err-before-clause-corrupt
+returns-in_err-before-clause-corrupt g c =
+    let inv = c.loop-index.invariant in
+    let p = err_from_is_err_and c.from_residual-in_err-before.result c.from_residual-in_err-before.ensures.1 in
+    rw (p.1, p.2) (λ is listed.
+    let shape = g.met.D.BlockDevice.shape c.args.dev.now in
+    let made = c.geometry-geometry.ensures in
+    let refused = rw (inv.same, inv.same_geometry) at c.in_err-before.ensures.corrupt in
+    refused (again _ _ is)
+    (in_range_then _ _ _ _ _ _ _ _ made c.blocks_for-last.ensures shape c.if-last-geometry.false (omega arith) inv.low inv.at listed)
+    (pointers_then _ _ _ _ _ _ _ _ made c.blocks_for-last.ensures shape c.if-last-geometry.false (omega arith) inv.low inv.at listed)
+    (right_then _ _ _ _ _ _ _ _ made c.blocks_for-last.ensures shape c.if-last-geometry.false (omega arith) inv.low inv.at listed))
+
+pub returns-in_err-before-clause-history : goal.returns-in_err-before-clause-history
+returns-in_err-before-clause-history g c = reads_on _ _ _ _ _ c.loop-index.invariant.same c.loop-index.invariant.only_reads c.checked_before.ensures.history
+
+pub returns-then-block-first-clause-corrupt : goal.returns-then-block-first-clause-corrupt
+returns-then-block-first-clause-corrupt g c is listed =
+    let inv = c.loop-index.invariant in
+    let ok = chain _ _ _ _ _ c.geometry-geometry.result.valid.no_smaller c.blocks_for-last.ensures (sized _ _ _ _ _ c.geometry-geometry.ensures listed) in
+    first_of_distinct (g.D.BlockDevice.blocks c.args.dev.now) (c.blocks_for-last.result - 1 + 1) c.args.head ok.distinct c.loop-index.index (omega arith) (omega (arith, inv.low)) (sym inv.at ∙ c.if-block-first.true ∙ c.in_ok-first.ensures.found ok)
+
+pub returns-then-block-first-clause-history : goal.returns-then-block-first-clause-history
+returns-then-block-first-clause-history g c = reads_on _ _ _ _ _ c.loop-index.invariant.same c.loop-index.invariant.only_reads c.checked_before.ensures.history
+
+pub loop-index-preserved : goal.loop-index-preserved
+loop-index-preserved g c =
+    let inv = c.loop-index.invariant in
+    let old : Blocks = g.D.BlockDevice.blocks c.args.dev.now in
+    let last : ℕ = c.blocks_for-last.result - 1 in
+    let index : ℕ = c.loop-index.index in
+    let bs : List ℕ = blocks_back old (last + 1) c.args.head in
+    let size = length_back old (last + 1) c.args.head in
+    let next : suc (index - 1) ≡ index = omega arith in
+    record {
+      low = (let l = inv.low in omega arith);
+      at = c.in_ok-before.ensures.word
+          ∙ ap (λ d. word_at (block_in d c.loop-index.block) 0) inv.same
+          ∙ ap (λ b. word_at (block_in old b) 0) (inv.at ∙ ap (slice_index bs) (sym next))
+          ∙ back-pointer0 old (last + 1) c.args.head (index - 1) (let l = inv.low in omega arith);
+      checked = more_checked old last c.args.head c.in_ok-first.first _ index c.loop-index.block inv.checked inv.at
+          (omega (arith, c.in_ok-before.ensures.in_range, ap (λ (k : Geometry). k.block_count) inv.same_geometry))
+          (subst (λ d. IsRight d index c.loop-index.block) inv.same c.in_ok-before.ensures.right)
+          c.if-block-first.false;
+      visited = visited_more _ _ _ c.visit.new.self bs index c.loop-index.block (index - 1 + 1) (omega (arith, size, inv.low)) inv.at (omega arith) inv.visited (search (rules, of_calls));
+      callable = search (rules, of_calls);
+      same = c.checked_before.ensures.same ∙ inv.same;
+      same_geometry = c.checked_before.ensures.geometry ∙ inv.same_geometry;
+      only_reads = reads_on _ _ _ _ _ inv.same inv.only_reads c.checked_before.ensures.history;
+      no_fault = c.in_ok-before.ensures.no_fault ∙ inv.no_fault;
+    }
+
+pub returns-then-block-first-2-clause-corrupt : goal.returns-then-block-first-2-clause-corrupt
+returns-then-block-first-2-clause-corrupt g c is listed =
+    let inv = c.loop-index.invariant in
+    let ok = chain _ _ _ _ _ c.geometry-geometry.result.valid.no_smaller c.blocks_for-last.ensures (sized _ _ _ _ _ c.geometry-geometry.ensures listed) in
+    let none : c.loop-index.index ≡ 0 = omega arith in
+    c.if-block-first-2.true (inv.at ∙ ap (slice_index _) none ∙ sym (c.in_ok-first.ensures.found ok))
+
+pub returns-clause-well_formed : goal.returns-clause-well_formed
+returns-clause-well_formed g c =
+    let inv = c.loop-index.invariant in
+    let old : Blocks = g.D.BlockDevice.blocks c.args.dev.now in
+    let last : ℕ = c.blocks_for-last.result - 1 in
+    let shape = g.met.D.BlockDevice.shape c.args.dev.now in
+    let none : c.loop-index.index ≡ 0 = omega arith in
+    let first = c.in_ok-first.ensures.in_range in
+    let is : slice_index (blocks_back old (last + 1) c.args.head) 0 ≡ c.in_ok-first.first = ap (slice_index (blocks_back old (last + 1) c.args.head)) (sym none) ∙ sym inv.at ∙ c.if-block-first-2.false in
+    list_of_walk old c.args.head c.args.size c.blocks_for-last.result c.in_ok-first.first _ _ c.geometry-geometry.ensures c.blocks_for-last.ensures shape (omega arith) (omega arith) (omega arith)
+    (subst (IsChecked old last c.args.head c.in_ok-first.first (g.D.BlockDevice.geometry c.args.dev.now).block_count) none inv.checked) is first
+
+pub returns-clause-visited : goal.returns-clause-visited
+returns-clause-visited g c =
+    let inv = c.loop-index.invariant in
+    let old : Blocks = g.D.BlockDevice.blocks c.args.dev.now in
+    let last : ℕ = c.blocks_for-last.result - 1 in
+    let bs : List ℕ = blocks_back old (last + 1) c.args.head in
+    let size = length_back old (last + 1) c.args.head in
+    let all = visited_more _ _ _ c.visit-2.new.self bs c.loop-index.index c.loop-index.block 0 (omega (arith, size, inv.low)) inv.at (omega arith) inv.visited (search (rules, of_calls)) in
+    subst (λ n. FoldsTo (λ p x q. goal.F-step g p x tt q) c.args.visit.now (reverse (blocks_back old n c.args.head)) c.visit-2.new.self)
+    (count_by (g.D.BlockDevice.geometry c.args.dev.now) c.geometry-geometry.result c.args.size c.blocks_for-last.result c.geometry-geometry.ensures (omega arith) c.blocks_for-last.ensures) all

@@ -1,1 +1,2 @@
 mod KnownBytes
+mod Commits

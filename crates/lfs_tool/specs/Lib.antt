@@ -1,3 +1,4 @@
 pub mod Known
 pub mod Errors
 pub mod Ending
+pub mod OnePair

@@ -4,7 +4,11 @@
 mod ending;
 mod errors;
 mod escape;
+mod holder;
 mod input;
+mod lines;
+mod names;
+mod one_pair;
 mod output;
 
 mod watched;

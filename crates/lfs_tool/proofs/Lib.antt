@@ -1,2 +1,5 @@
 mod KnownBytes
 mod Commits
+mod RootFiles
+mod RootPair
+mod Starts

@@ -1,16 +1,16 @@
 -- Images whose files all stand in the first pair, with their bytes. No other is listed so far.
-use Rattle.std.specs.Prelude.{ℕ, ◌≡◌, ◌≢◌, ◌⊎◌, ◌==◌, ◌&&◌, ◌||◌, not, Bool, true, false, if◌then◌else◌, List, [], ◌∷◌, ◌++◌, length, drop, Option, Some, None, is_some, codes}
+use Rattle.std.specs.Prelude.{ℕ, ◌≡◌, ◌⊎◌, ◌==◌, ◌&&◌, ◌||◌, not, Bool, true, false, if◌then◌else◌, List, [], ◌∷◌, ◌++◌, length, drop, Option, Some, None, is_some, codes}
 use Rattle.std.specs.List.{list_all}
 use Rattle.std.specs.Option.{option_and_then, option_map}
 use Rattle.std.specs.Str.{bytes_eq}
 use Rattle.byteorder.specs.Endian.{little_number}
-use Rattle.lfs_model.specs.Disk.{Disk, block_count, IsImage, disk_of}
+use Rattle.lfs_model.specs.Disk.{Disk, block_count, block_at, IsImage, disk_of}
 use Rattle.lfs_model.specs.Names.{Name, name_cmp, is_less, is_name}
 use Rattle.lfs_model.specs.Slots.{Gstate}
-use Rattle.lfs_model.specs.Content.{RawSlot, RawContent, raw_at, holder_at, file_name_type, directory_name_type, superblock_name_type, inline_struct_type, ctz_struct_type}
-use Rattle.lfs_model.specs.Thread.{Pair, anchor}
+use Rattle.lfs_model.specs.Content.{RawSlot, RawContent, raw_at, holder_at, file_name_type, directory_name_type, superblock_name_type, directory_struct_type, inline_struct_type}
+use Rattle.lfs_model.specs.Thread.{anchor}
 use Rattle.lfs_model.specs.Tree.{FileNode}
-use Rattle.lfs_model.specs.View.{View, Shows, IsAccepted, BeginsWith, superblock_entry}
+use Rattle.lfs_model.specs.View.{View, Shows, BeginsWith, superblock_entry}
 use Rattle.lfs_model.specs.Listing.{IsListing, line_of}
 use Rattle.lfs_device.specs.declared.error.Error.{Error}
 use Rattle.lfs_device.specs.declared.error.Error.TheVariants.{Invalid, Corrupt, NoMemory, Unsupported}
@@ -55,21 +55,25 @@ pub record Starts (disk : Disk) (content : RawContent) : Type 0 where
 abbrev pub is_still : Gstate → Bool
 is_still g = not g.sync && (g.kind == 0 && (g.id == 0 && (g.pair.0 == 0 && g.pair.1 == 0)))
 
+-- the struct names a list of blocks
+abbrev pub is_elsewhere : Option (ℕ × List ℕ) → Bool
+is_elsewhere None = false
+is_elsewhere (Some part) = not (part.0 == inline_struct_type || part.0 == directory_struct_type)
+
 -- neither a directory nor a file whose bytes stand elsewhere
 abbrev pub is_whole : RawSlot → Bool
-is_whole s = not (has_type directory_name_type s.name) && not (has_type ctz_struct_type s.struct)
+is_whole s = not (has_type directory_name_type s.name) && not (is_elsewhere s.struct)
 
 abbrev pub is_one_pair : RawContent → Bool
 is_one_pair content = not (is_some content.tail) && (is_still content.move && list_all is_whole content.slots)
 
 -- ---- what a listing answers
 
--- the image is accepted, and this text lists what it shows
-abbrev pub Lists : ℕ → ℕ → List ℕ → List ℕ → Type 0
-Lists block_size page image text =
-    IsImage block_size page image × ((view : View) × (Shows (disk_of block_size page image) view × IsListing view.tree text))
+-- the disk is accepted, and this text lists what it shows
+abbrev pub IsListed : Disk → List ℕ → Type 0
+IsListed disk text = (view : View) × (Shows disk view × IsListing view.tree text)
 
--- its first pair isn't well formed, or it holds all files and isn't accepted
+-- its first pair isn't well formed, or it holds all files and the disk isn't accepted
 abbrev pub IsCorrupt : Disk → Type 0
 IsCorrupt disk =
     ((content : RawContent) → ¬ Starts disk content)
@@ -79,13 +83,28 @@ IsCorrupt disk =
 abbrev pub IsUnsupported : Disk → Type 0
 IsUnsupported disk = (content : RawContent) × (Starts disk content × (is_one_pair content ≡ false))
 
--- why an image isn't listed; memory may run out at any
+-- why a disk isn't listed
+abbrev pub IsRefused : Disk → Error → Type 0
+IsRefused disk Corrupt = IsCorrupt disk
+IsRefused disk Unsupported = IsUnsupported disk
+IsRefused disk other = ⊥
+
+-- the bytes are an image that this text lists
+abbrev pub Lists : ℕ → ℕ → List ℕ → List ℕ → Type 0
+Lists block_size page image text = IsImage block_size page image × IsListed (disk_of block_size page image) text
+
+-- why bytes aren't listed; memory may run out at any
 abbrev pub Refuses : ℕ → ℕ → List ℕ → Error → Type 0
 Refuses block_size page image Invalid = ¬ IsImage block_size page image
-Refuses block_size page image Corrupt = IsImage block_size page image × IsCorrupt (disk_of block_size page image)
-Refuses block_size page image Unsupported = IsImage block_size page image × IsUnsupported (disk_of block_size page image)
 Refuses block_size page image NoMemory = Unit {0}
-Refuses block_size page image other = ⊥
+Refuses block_size page image e = IsImage block_size page image × IsRefused (disk_of block_size page image) e
+
+-- the disk has so many blocks of this size, and begins with these two
+pub record HasBlocks (disk : Disk) (size n : ℕ) (a b : List ℕ) : Type 0 where
+  pub block_size : disk.block_size ≡ size
+  pub count : block_count disk ≡ n
+  pub first : block_at disk 0 ≡ a
+  pub second : block_at disk 1 ≡ b
 
 -- ---- the lines
 

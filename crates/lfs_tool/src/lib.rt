@@ -7,6 +7,7 @@ mod escape;
 mod holder;
 mod input;
 mod lines;
+mod listing;
 mod names;
 mod one_pair;
 mod output;
@@ -14,6 +15,7 @@ mod output;
 mod watched;
 
 pub use errors::{Fault, ToolError};
+pub use listing::list;
 pub use lfs_tool_line::{Line, LineError, Mode, read_line};
 pub use ending::report;
 pub use watched::Watched;

@@ -7,13 +7,13 @@ ghost use Rattle.lfs_model.specs.Content.{superblock_name_type};
 ghost use Rattle.lfs_model.specs.View.{BeginsWith, superblock_entry};
 ghost use Rattle.lfs_tag.specs.ContentSeen.{content_seen, part_seen, slot_seen};
 ghost use Rattle.lfs_tag.specs.FieldsSeen.{move_seen};
-ghost use Rattle.lfs_tool.specs.OnePair.{describes, file_of, has_superblock, has_type, is_one_pair, is_still, is_superblock, is_whole, lines_behind};
+ghost use Rattle.lfs_tool.specs.OnePair.{describes, file_of, has_superblock, has_type, is_elsewhere, is_one_pair, is_still, is_superblock, is_whole, lines_behind};
 
 use crate::lines::push_line;
 use crate::names::is_name;
 use lfs_device::{Error, Geometry};
 use lfs_tag::kinds::{
-    CTZ_STRUCT, DIRECTORY_NAME, FILE_NAME, INLINE_STRUCT, SUPERBLOCK_NAME,
+    DIRECTORY_NAME, DIRECTORY_STRUCT, FILE_NAME, INLINE_STRUCT, SUPERBLOCK_NAME,
 };
 use lfs_tag::{Content, Log, MoveState, Part, Slot, Tag, superblock_of};
 use std::alloc::Global;
@@ -96,11 +96,21 @@ fn is_still(state: &MoveState) -> bool
     !state.sync && state.kind == 0 && state.id == 0 && state.pair[0] == 0 && state.pair[1] == 0
 }
 
+// Whether a struct names a list of blocks.
+fn is_elsewhere(structure: &Option<Part<'_>>) -> bool
+    ensures { result ≡ is_elsewhere (option_map part_seen structure.now) }
+{
+    match structure {
+        Some(part) => !(part.kind == INLINE_STRUCT || part.kind == DIRECTORY_STRUCT),
+        None => false,
+    }
+}
+
 // Whether a slot is no directory, and no file whose bytes stand elsewhere.
 fn is_whole(slot: &Slot<'_>) -> bool
     ensures { result ≡ is_whole (slot_seen slot.now) }
 {
-    !has_type(&slot.name, DIRECTORY_NAME) && !has_type(&slot.structure, CTZ_STRUCT)
+    !has_type(&slot.name, DIRECTORY_NAME) && !is_elsewhere(&slot.structure)
 }
 
 fn are_whole(slots: &[Slot<'_>]) -> bool

@@ -3,3 +3,4 @@ mod Commits
 mod RootFiles
 mod RootPair
 mod Starts
+mod Images

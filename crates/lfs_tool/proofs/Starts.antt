@@ -8,14 +8,15 @@ use Rattle.std.proofs.lemmas.Option.{same_Some}
 use Rattle.std.proofs.lemmas.Slice.Eq.{bytes_eq-Decides}
 use Rattle.byteorder.specs.Endian.{little_number}
 use Rattle.lfs_model.specs.Disk.{Disk, block_count}
+use Rattle.lfs_model.specs.Log.{log_entries}
 use Rattle.lfs_model.specs.Slots.{Attributes, Content, Gstate, Slot, Tail, no_gstate}
-use Rattle.lfs_model.specs.Content.{RawContent, RawSlot, complete, complete_all, completed, content_at, inline_struct_type, kind_named, raw_at, struct_typed, superblock_name_type}
+use Rattle.lfs_model.specs.Content.{RawContent, RawSlot, complete, complete_all, completed, content_after_all, content_at, holder, holder_at, inline_struct_type, kind_named, no_content, struct_typed, superblock_name_type}
 use Rattle.lfs_model.specs.Thread.{Links, Pair, anchor, next_of}
-use Rattle.lfs_model.specs.View.{HasSuperblock, IsAccepted, IsEntry, IsSuperblockStruct, Shows, View, tree_in, view_in}
+use Rattle.lfs_model.specs.View.{BeginsWith, HasSuperblock, IsAccepted, IsEntry, IsSuperblockStruct, Shows, View, superblock_entry, tree_in, view_in}
 use Rattle.lfs_model.specs.Listing.{IsListing}
 use Rattle.lfs_model.proofs.Counts.{Each}
 use Rattle.lfs_model.proofs.Names.{Rise, names_in}
-use Rattle.lfs_tool.specs.OnePair.{IsListed, Starts, bytes_in, describes, has_superblock, has_type, is_one_pair, is_still, is_superblock, is_whole, lines_behind}
+use Rattle.lfs_tool.specs.OnePair.{HasBlocks, IsListed, Starts, bytes_in, describes, has_superblock, has_type, is_one_pair, is_still, is_superblock, is_whole, lines_behind}
 use Rattle.lfs_tool.proofs.RootFiles.{ReadAs, behind_nothing, read_from, refused_from, rise_from, slot_line}
 use Rattle.lfs_tool.proofs.RootPair.{IsRoot, accepted, entries_at, listed, root_content, root_pair, superblock_with}
 
@@ -64,6 +65,18 @@ first_slot disk s e =
     record {
       made_as = superblock_made s.name s.struct s.attributes name.0 ((bytes_eq-Decides (bytes_in s.name) (codes "littlefs")).0 name.1) struct.0;
       struct = described disk (bytes_in s.struct) struct.1;
+    }
+
+-- ---- how a disk starts
+
+pub starts_from : (disk : Disk) (content : RawContent) (first second block : List ℕ) (size n : ℕ) → HasBlocks disk size n first second → Some block ≡ holder first second
+    → content_after_all no_content (log_entries block) ≡ Some content → BeginsWith (Some block) superblock_entry → has_superblock size n content.slots ≡ true → Starts disk content
+starts_from disk content first second block size n blocks holds read begins slots =
+    let held : holder_at disk anchor ≡ Some block = ap₂ holder blocks.first blocks.second ∙ sym holds in
+    record {
+      held = ap (option_and_then (λ b. content_after_all no_content (log_entries b))) held ∙ read;
+      first = subst (λ o. BeginsWith o superblock_entry) (sym held) begins;
+      superblock = ap₂ (λ x y. has_superblock x y content.slots) blocks.block_size blocks.count ∙ slots;
     }
 
 -- ---- the content

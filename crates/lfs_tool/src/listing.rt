@@ -1,4 +1,4 @@
-ghost use Rattle.std.specs.Prelude.{◌≡◌, ◌≢◌, ◌/◌, ◌%◌, ◌<◌, ◌^◌, IfErr, IfOk, IfSome, IsErrOf, OnOk, None, Some, length, true};
+ghost use Rattle.std.specs.Prelude.{◌≡◌, ◌≢◌, ◌↔◌, ◌/◌, ◌%◌, ◌<◌, ◌^◌, IfErr, IfOk, IfSome, IsErrOf, OnOk, None, Some, false, length, true};
 ghost use Rattle.std.specs.Io.KnownBytes.{Appends, Keeps};
 ghost use Rattle.lfs_model.specs.Geometry.{IsGeometry};
 ghost use Rattle.lfs_model.specs.Disk.{Disk};
@@ -101,11 +101,16 @@ pub fn list<R: Read, W: Write>(
 ) -> Result<(), ToolError>
     ensures ok { OnOk result (IfSome (R.remaining image.old.inner) (λ bytes.
         (text : _) × (Lists block_size page bytes text × Appends (W.contents out.old.inner) (W.contents out.new.inner) text))) }
-    ensures refused { (e : _) → IsErrOf result (ToolError.Fs e) → Keeps (W.contents out.old.inner) (W.contents out.new.inner)
-        × IfSome (R.remaining image.old.inner) (λ bytes. Refuses block_size page bytes e) }
-    ensures input { IsErrOf result ToolError.Input → Keeps (W.contents out.old.inner) (W.contents out.new.inner) × (image.new.has_failed ≡ true) }
-    ensures output { IsErrOf result ToolError.Output → (out.new.has_failed ≡ true) × IfSome (R.remaining image.old.inner) (λ bytes.
+
+    // Nothing is written, unless the writer fails: then a beginning of the lines may be.
+    ensures unwritten { IfErr result (λ e. e ≢ ToolError.Output → Keeps (W.contents out.old.inner) (W.contents out.new.inner)) }
+    ensures beginning { IsErrOf result ToolError.Output → IfSome (R.remaining image.old.inner) (λ bytes.
         (text : _) × (Lists block_size page bytes text × AppendsBeginning (W.contents out.old.inner) (W.contents out.new.inner) text)) }
+
+    // When each error comes.
+    ensures refused { (e : _) → IsErrOf result (ToolError.Fs e) → IfSome (R.remaining image.old.inner) (λ bytes. Refuses block_size page bytes e) }
+    ensures input { image.old.has_failed ≡ false → IsErrOf result ToolError.Input ↔ (image.new.has_failed ≡ true) }
+    ensures output { out.old.has_failed ≡ false → IsErrOf result ToolError.Output ↔ (out.new.has_failed ≡ true) }
 {
     let bytes = read_image(alloc, image)?;
     match lines_of_image(alloc, bytes.as_slice(), block_size, page) {

@@ -12,7 +12,7 @@ use Rattle.lfs_model.specs.Log.{log_entries}
 use Rattle.lfs_model.specs.Slots.{Attributes, Content, Gstate, Slot, Tail, no_gstate}
 use Rattle.lfs_model.specs.Content.{RawContent, RawSlot, complete, complete_all, completed, content_after_all, content_at, holder, holder_at, inline_struct_type, kind_named, no_content, struct_typed, superblock_name_type}
 use Rattle.lfs_model.specs.Thread.{Links, Pair, anchor, next_of}
-use Rattle.lfs_model.specs.View.{BeginsWith, HasSuperblock, IsAccepted, IsEntry, IsSuperblockStruct, Shows, View, superblock_entry, tree_in, view_in}
+use Rattle.lfs_model.specs.View.{BeginsWith, HasSuperblock, IsAccepted, IsEntry, IsSuperblockStruct, HasView, View, superblock_entry, tree_in, view_in}
 use Rattle.lfs_model.specs.Listing.{IsListing}
 use Rattle.lfs_model.proofs.Counts.{Each}
 use Rattle.lfs_model.proofs.Names.{Rise, names_in}
@@ -202,7 +202,7 @@ first_content disk (p ∷ ps) ok =
     (p.content, ap (content_at disk) (sym at) ∙ there.0)
 
 pub refuses_from : (disk : Disk) (content : RawContent) → Starts disk content → is_one_pair content ≡ true
-    → lines_behind [] (drop 1 content.slots) ≡ None → (view : View) → Shows disk view → ⊥
+    → lines_behind [] (drop 1 content.slots) ≡ None → (view : View) → HasView disk view → ⊥
 refuses_from disk content starts one none view shows = go (complete_all o.slots) refl
   where
     o : Opened disk content

@@ -10,7 +10,7 @@ use Rattle.lfs_model.specs.Slots.{Gstate}
 use Rattle.lfs_model.specs.Content.{RawSlot, RawContent, raw_at, holder_at, file_name_type, directory_name_type, superblock_name_type, directory_struct_type, inline_struct_type}
 use Rattle.lfs_model.specs.Thread.{anchor}
 use Rattle.lfs_model.specs.Tree.{FileNode}
-use Rattle.lfs_model.specs.View.{View, Shows, BeginsWith, superblock_entry}
+use Rattle.lfs_model.specs.View.{View, HasView, BeginsWith, superblock_entry}
 use Rattle.lfs_model.specs.Listing.{IsListing, line_of}
 use Rattle.lfs_device.specs.declared.error.Error.{Error}
 use Rattle.lfs_device.specs.declared.error.Error.TheVariants.{Invalid, Corrupt, NoMemory, Unsupported}
@@ -71,13 +71,13 @@ is_one_pair content = not (is_some content.tail) && (is_still content.move && li
 
 -- the disk is accepted, and this text lists what it shows
 abbrev pub IsListed : Disk → List ℕ → Type 0
-IsListed disk text = (view : View) × (Shows disk view × IsListing view.tree text)
+IsListed disk text = (view : View) × (HasView disk view × IsListing view.tree text)
 
 -- its first pair isn't well formed, or it holds all files and the disk isn't accepted
 abbrev pub IsCorrupt : Disk → Type 0
 IsCorrupt disk =
     ((content : RawContent) → ¬ Starts disk content)
-    ⊎ ((content : RawContent) × (Starts disk content × (is_one_pair content ≡ true) × ((view : View) → ¬ Shows disk view)))
+    ⊎ ((content : RawContent) × (Starts disk content × (is_one_pair content ≡ true) × ((view : View) → ¬ HasView disk view)))
 
 -- its first pair is well formed, and there is more
 abbrev pub IsUnsupported : Disk → Type 0

@@ -1,7 +1,5 @@
-pub mod Polynomials
 pub mod Table
 pub mod Words
-pub mod Logs
 pub mod Runs
 pub mod Local
 pub mod Places

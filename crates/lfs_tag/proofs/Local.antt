@@ -8,7 +8,7 @@ use Rattle.byteorder.specs.Endian.{big_number}
 use Rattle.byteorder.specs.Numbers.{big_from-append}
 use Rattle.lfs_model.specs.Tag.{size_of, carried}
 use Rattle.lfs_model.specs.Log.{LogEntry, Chain, with_commit, tag_at, entry_at, past, is_checksum, closes, IsCommit, IsChain, IsChainOf, commit_at, chain_at, chain_of}
-use Rattle.lfs_tag.proofs.Logs.{Lies, lies, Within, commit_none, commit_space, commit_complete, chain_on, chain_none, chain_sound}
+use Rattle.lfs_model.proofs.Chains.{Lies, lies, Within, commit_none, commit_space, commit_complete, chain_on, chain_none, chain_sound}
 
 pub from_lies : (block : List ℕ) (at before : ℕ) (e : LogEntry) → Lies block at before e → entry_at block at before ≡ Some e
 unfolding entry_at

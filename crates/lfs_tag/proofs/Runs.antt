@@ -9,8 +9,9 @@ use Rattle.byteorder.specs.Endian.{big_number}
 use Rattle.lfs_model.specs.Tag.{class_of, chunk_of, size_of, carried}
 use Rattle.std.specs.List.{flat_map}
 use Rattle.lfs_model.specs.Log.{LogEntry, tag_at, entry_at, past, is_checksum, IsCommit, IsChain, chain_of, log_entries, IsRun, run_within, run_of}
-use Rattle.lfs_tag.proofs.Polynomials.{xor_cancel}
-use Rattle.lfs_tag.proofs.Logs.{Lies, lies, chain_sound}
+use Rattle.lfs_model.proofs.Checksums.{xor_cancel}
+use Rattle.lfs_model.specs.Content.{has_commit}
+use Rattle.lfs_model.proofs.Chains.{Lies, lies, commit_space, chain_sound}
 
 run_zero : (n : ℕ) (block : List ℕ) (at before end : ℕ) → end ≤ at → run_within n block at before end ≡ []
 unfolding run_within
@@ -169,3 +170,17 @@ all_is block = run_is block 4 0xffffffff (log_entries block) (chain_of block).en
 pub run_count : (block : List ℕ) (at before : ℕ) (es : List LogEntry) (end last : ℕ) → IsRun block at before es end last → at + 4 * length es ≤ end
 run_count block at before [] end last h = omega (arith, h.0)
 run_count block at before (e ∷ es) end last h = omega (arith, run_count block (past at e) (carried e.tag) es end last h.1)
+
+-- there is a commit where the chain goes on past the revision
+pub goes_on : (block : List ℕ) → ltb 4 (chain_of block).end ≡ has_commit block
+unfolding chain_of
+goes_on block =
+    let c = chain_of block in
+    by_commits c.commits (chain_sound (length block - 4) block 0 4 0xffffffff)
+  where
+    by_commits : (cs : List (List LogEntry)) → IsChain block 0 4 0xffffffff cs (chain_of block).end (chain_of block).last → ltb 4 (chain_of block).end ≡ ltb 0 (length cs)
+    by_commits [] h = rw h.0 refl
+    by_commits (c ∷ cs) h =
+        let first = commit_space block 0 4 0xffffffff c h.0 h.1 h.2 in
+        let rest = run_space block h.0 h.1 (flat_map (λ c. c) cs) (chain_of block).end (chain_of block).last (chain_run block h.0 h.0 h.1 cs (chain_of block).end (chain_of block).last h.3) in
+        grind (arith, nat_tests, first.after, rest)

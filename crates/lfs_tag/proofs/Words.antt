@@ -6,7 +6,7 @@ use Rattle.std.proofs.lemmas.Bool.{cases_lt}
 use Rattle.std.proofs.lemmas.Nat.{xor_comm, xor_shr, xor_mod}
 use Rattle.byteorder.specs.Endian.{little_from, little_number}
 use Rattle.lfs_model.specs.Crc.{next_bit, next_bits, crc_of}
-use Rattle.lfs_tag.proofs.Polynomials.{xor_swap, xor_cancel, AreBytes, crc-append}
+use Rattle.lfs_model.proofs.Checksums.{xor_swap, xor_cancel, AreBytes, crc-append}
 use Rattle.lfs_tag.proofs.Table.{by_low_byte, next_bits-xor}
 
 -- ---- the steps are linear

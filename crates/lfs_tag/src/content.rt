@@ -87,7 +87,7 @@ fn is_in_table(tag: Tag) -> bool
     let kind = tag.kind();
     let len = tag.len();
     let is_attribute = tag.class() == ATTRIBUTE_CLASS;
-    if len == 0x3ff {
+    if tag.removes() {
         return is_attribute;
     }
     match kind {
@@ -103,7 +103,7 @@ fn is_in_table(tag: Tag) -> bool
 fn has_its_id(tag: Tag) -> bool
     ensures { result ≡ has_its_id tag }
 {
-    CHECKSUM_CLASS <= tag.class() || tag.id() != 0x3ff
+    CHECKSUM_CLASS <= tag.class() || tag.id() != Tag::NO_ID
 }
 
 fn empty_slot<'a>(alloc: Global) -> Slot<'a>
@@ -199,7 +199,7 @@ fn change_attribute<'a>(
 {
     let slot = &mut slots[id];
     let kind = entry.tag.chunk();
-    if entry.tag.len() == 0x3ff {
+    if entry.tag.removes() {
         remove_attribute(&mut slot.attributes, kind);
     } else {
         let bytes = entry.bytes;

@@ -4,6 +4,7 @@ ghost use Rattle.std.specs.Prelude.{◌≡◌, ℕ, ◌+◌, ◌≤◌, ◌<◌,
 ghost use Rattle.std.specs.Option.{option_map};
 ghost use Rattle.lfs_model.specs.Tag.{size_of};
 ghost use Rattle.lfs_model.specs.Log.{entry_at, closes, commit_at, chain_of, revision_of, log_entries, past, IsChainOf, LogEntry};
+ghost use Rattle.lfs_model.specs.Content.{has_commit};
 ghost use Rattle.lfs_tag.specs.Seen.{seen};
 
 use crate::crc;
@@ -82,7 +83,8 @@ fn revision(block: &[u8]) -> u32
     }
 }
 
-/// The valid commits of a block.
+/// The valid commits of a block: the longest chain of commits from offset 4, each of them with the
+/// right checksum (SPEC.md of littlefs, "Metadata pairs"). To a contract a log is its block's bytes.
 #[derive(Drop)]
 pub struct Log<'a> {
     block: &'a [u8],
@@ -104,7 +106,10 @@ impl<'a> Model for Log<'a> {
 }
 
 impl<'a> Log<'a> {
-    /// Reads a block: its longest chain of commits, which may be none.
+    /// Reads a block of any length and any bytes. The chain ends in front of the first commit that an
+    /// entry of it spoils: an invalid tag, bytes past the end of the block, a type of class 5 that is
+    /// neither checksum's, a checksum of less than 4 or more than 1,022 bytes, or one with the wrong
+    /// number. There may be no commit.
     pub fn read(block: &'a [u8]) -> Log<'a>
         ensures { result ≡ block.now }
     {
@@ -126,33 +131,33 @@ impl<'a> Log<'a> {
 
     /// Whether there is a commit.
     pub fn has_commit(&self) -> bool
-        ensures { IsTrue result ↔ (4 < (chain_of self.now).end) }
+        ensures { result ≡ has_commit self.now }
     {
         4 < self.end
     }
 
-    /// Where the last commit ends.
+    /// Where the last commit ends, in bytes; 4 where there is none.
     pub fn end(&self) -> usize
         ensures { result ≡ (chain_of self.now).end }
     {
         self.end
     }
 
-    /// The last tag, as the next one is decoded with it.
+    /// What the tag behind the last commit is decoded with; all bits set where there is no commit.
     pub fn last(&self) -> Tag
         ensures { result ≡ (chain_of self.now).last }
     {
         self.last
     }
 
-    /// The block's revision.
+    /// The block's revision count, or 0 in a block of less than 4 bytes.
     pub fn revision(&self) -> u32
         ensures { result ≡ revision_of self.now }
     {
         self.revision
     }
 
-    /// The entries, which can be taken from both ends.
+    /// The entries of all commits, oldest first; they can be taken from both ends. Nothing is copied.
     pub fn entries(&self) -> Entries<'a>
         ensures value { result ≡ log_entries self.now }
         ensures small { length (log_entries self.now) < 2 ^ 62 }
@@ -160,9 +165,3 @@ impl<'a> Log<'a> {
         Entries::of_chain(self.block, self.end, self.last)
     }
 }
-
-/// What a block's log is: the chain that is computed is one, and none is longer.
-pub fn chain_is_longest()
-    ensures chain { (block : List ℕ) → IsChainOf block (chain_of block).commits (chain_of block).end (chain_of block).last }
-    ensures longest { (block : List ℕ) (others : List (List LogEntry)) (end last : ℕ) → IsChainOf block others end last → length others ≤ length (chain_of block).commits }
-{}

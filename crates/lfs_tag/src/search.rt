@@ -57,7 +57,7 @@ fn verdict_of<'a>(entry: &Entry<'a>, kind: u16, id: u64) -> Verdict<'a>
         && (class != ATTRIBUTE_CLASS || tag.kind() == kind);
     if !is_about {
         Verdict::Was(id)
-    } else if tag.kind() == kind && tag.len() != 0x3ff {
+    } else if tag.kind() == kind && !tag.removes() {
         Verdict::Holds(Some(entry.bytes))
     } else {
         Verdict::Holds(None)

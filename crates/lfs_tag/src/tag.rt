@@ -2,10 +2,12 @@
 
 ghost use Rattle.std.specs.Prelude.{◌≡◌, ◌<◌, ◌^◌, ◌%◌, ◌↔◌, IsTrue, bit_xor};
 ghost use Rattle.lfs_model.specs.Tag.{IsValid, kind_of, id_of, len_of, class_of, chunk_of, size_of, tag_with, carried};
+ghost use Rattle.lfs_model.specs.Content.{removes};
 
 use std::marker::Model;
 
-/// A tag: the valid bit, a kind, an id and a length.
+/// A tag of 32 bits: from the top a bit that is 0 where the tag is valid, 11 bits of type, ten of id
+/// and ten of length (SPEC.md of littlefs, "Metadata tags").
 #[derive(Clone, Copy, Debug, PartialEq, Eq, Drop)]
 pub struct Tag {
     bits: u32,
@@ -22,6 +24,12 @@ impl Model for Tag {
 }
 
 impl Tag {
+    /// The id of a tag that is about no slot.
+    pub const NO_ID: u16 = 0x3ff;
+
+    /// The length that stands for no bytes, and removes an attribute.
+    pub const REMOVED: u16 = 0x3ff;
+
     /// The tag with these bits.
     pub fn from_bits(bits: u32) -> Tag
         ensures { result ≡ bits }
@@ -36,7 +44,7 @@ impl Tag {
         self.bits
     }
 
-    /// The tag with these fields.
+    /// The valid tag with these fields.
     pub fn new(kind: u16, id: u16, len: u16) -> Tag
         requires kind { kind < 2 ^ 11 }
         requires id { id < 2 ^ 10 }
@@ -52,7 +60,8 @@ impl Tag {
         }
     }
 
-    /// The tag that is stored so behind the tag `previous`.
+    /// The tag that is stored so behind the tag `previous`. In front of a block's first tag all bits
+    /// count as set.
     pub fn decode(stored: u32, previous: Tag) -> Tag
         ensures { result ≡ bit_xor stored previous }
     {
@@ -69,52 +78,70 @@ impl Tag {
         self.bits ^ previous.bits
     }
 
+    /// Whether the top bit is 0, as it is in every entry of a log.
     pub fn is_valid(self) -> bool
         ensures { IsTrue result ↔ IsValid self }
     {
         self.bits >> 31 == 0
     }
 
+    /// The type, below 2,048: one of [`crate::kinds`], or that of a user attribute, 0x300 and its
+    /// own type.
     pub fn kind(self) -> u16
         ensures { result ≡ kind_of self }
     {
         (self.bits >> 20 & 0x7ff) as u16
     }
 
+    /// The id of the slot, below 1,024.
     pub fn id(self) -> u16
         ensures { result ≡ id_of self }
     {
         (self.bits >> 10 & 0x3ff) as u16
     }
 
+    /// The length, below 1,024.
     pub fn len(self) -> u16
         ensures { result ≡ len_of self }
     {
         (self.bits & 0x3ff) as u16
     }
 
+    /// The upper three bits of the type.
     pub fn class(self) -> u16
         ensures { result ≡ class_of self }
     {
         self.kind() >> 8
     }
 
+    /// The lower eight bits of the type. In an attribute's tag they are the attribute's own type.
     pub fn chunk(self) -> u8
         ensures { result ≡ chunk_of self }
     {
         (self.kind() & 0xff) as u8
     }
 
+    /// Whether the length is the one that removes an attribute.
+    pub fn removes(self) -> bool
+        ensures { result ≡ removes self }
+    {
+        self.len() == Tag::REMOVED
+    }
+
     /// How many bytes follow the tag.
     pub fn size(self) -> usize
         ensures { result ≡ size_of self }
     {
-        let len = self.len();
-        if len == 0x3ff { 0 } else { usize::from(len) }
+        if self.removes() {
+            0
+        } else {
+            usize::from(self.len())
+        }
     }
 
-    /// The tag as the next one is decoded with it.
-    pub fn carried(self) -> Tag
+    // The tag as the next one is decoded with it: a checksum's lowest chunk bit is added to the top
+    // bit, so that what stands behind a commit can be made to decode as no tag.
+    pub(crate) fn carried(self) -> Tag
         ensures { result ≡ carried self }
     {
         if self.class() == 5 {
@@ -126,8 +153,8 @@ impl Tag {
         }
     }
 
-    /// The valid tag that carries this.
-    pub fn plain(self) -> Tag
+    // The valid tag that carries this.
+    pub(crate) fn plain(self) -> Tag
         ensures { result ≡ self % 2 ^ 31 }
     {
         Tag {

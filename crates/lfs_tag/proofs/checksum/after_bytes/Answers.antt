@@ -1,7 +1,7 @@
 use Rattle.std.proofs.Common.{arith, sym, ◌∙◌, ◌≡◌, drop, []}
 use Rattle.std.proofs.lemmas.List.{drop_all}
 use Rattle.lfs_model.specs.Crc.{crc_of}
-use Rattle.lfs_tag.proofs.Polynomials.{crc-drop}
+use Rattle.lfs_model.proofs.Checksums.{crc-drop}
 use Rattle.lfs_tag.proofs.checksum.after_bytes.Goals as goal
 
 pub loop-byte-preserved : goal.loop-byte-preserved

@@ -1,5 +1,4 @@
-use Rattle.std.proofs.Common.{◌≡◌, ◌∙◌, ap, refl, arith, eqb, List, map, true, false}
-use Rattle.std.proofs.lemmas.Bool.Decides.{nat_tests}
+use Rattle.std.proofs.Common.{◌≡◌, ◌∙◌, sym, ap, refl, arith, eqb, List, map, true, false}
 use Rattle.lfs_model.specs.Slots.{Attributes}
 use Rattle.lfs_model.specs.Tag.{len_of}
 use Rattle.lfs_model.specs.Content.{RawSlot, with_attribute, put_attribute, without_attribute}
@@ -9,12 +8,12 @@ use Rattle.lfs_tag.specs.Seen.{seen}
 use Rattle.lfs_tag.proofs.Places.{changed_is, without_is}
 use Rattle.lfs_tag.proofs.content.change_attribute.Goals as goal
 
-pub returns-then-len-eq1023 : goal.returns-then-len-eq1023
-returns-then-len-eq1023 c =
+pub returns-then-removes : goal.returns-then-removes
+returns-then-removes c =
     let x : Slot = c.index_mut-slot.result.now in
     let y : Slot = record x { attributes = c.remove_attribute.new.attributes } in
     let f : RawSlot → RawSlot = λ s. record s { attributes = with_attribute (seen c.args.entry.now) s.attributes } in
-    let removes : eqb (len_of c.args.entry.now.tag) 0x3ff ≡ true = grind (arith, nat_tests, c.len.ensures, c.if-len-eq1023.true) in
+    let removes : eqb (len_of c.args.entry.now.tag) 0x3ff ≡ true = sym c.removes.ensures ∙ c.if-removes.true in
     let same = ap (map attribute_seen) c.remove_attribute.ensures ∙ without_is c.chunk-kind.result x.attributes.items in
     changed_is f c.args.slots.now.items c.args.id x y (omega arith) c.index_mut-slot.ensures.value
     (rw removes (ap (λ (others : Attributes). record (slot_seen x) { attributes = others }) (same ∙ rw c.chunk-kind.ensures refl)))
@@ -24,6 +23,6 @@ returns-in_ok-set_attribute c =
     let x : Slot = c.index_mut-slot.result.now in
     let y : Slot = record x { attributes = c.set_attribute.new.attributes } in
     let f : RawSlot → RawSlot = λ s. record s { attributes = with_attribute (seen c.args.entry.now) s.attributes } in
-    let sets : eqb (len_of c.args.entry.now.tag) 0x3ff ≡ false = grind (arith, nat_tests, c.len.ensures, c.if-len-eq1023.false) in
+    let sets : eqb (len_of c.args.entry.now.tag) 0x3ff ≡ false = sym c.removes.ensures ∙ c.if-removes.false in
     changed_is f c.args.slots.now.items c.args.id x y (omega arith) c.index_mut-slot.ensures.value
     (rw sets (ap (λ (others : Attributes). record (slot_seen x) { attributes = others }) (c.in_ok-set_attribute.ensures ∙ rw c.chunk-kind.ensures refl)))

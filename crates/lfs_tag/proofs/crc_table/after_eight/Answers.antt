@@ -4,7 +4,7 @@ use Rattle.std.proofs.Math.Seq.{take-add}
 use Rattle.std.specs.Int.Bits.{bit_xor}
 use Rattle.byteorder.specs.Endian.{little_number, little_from}
 use Rattle.lfs_model.specs.Crc.{crc_of, next_bits}
-use Rattle.lfs_tag.proofs.Polynomials.{AreBytes, crc-append}
+use Rattle.lfs_model.proofs.Checksums.{AreBytes, crc-append}
 use Rattle.lfs_tag.proofs.Words.{crc-number, next_bits-sum, next_bits-append}
 use Rattle.lfs_tag.proofs.crc_table.after_eight.Goals as goal
 

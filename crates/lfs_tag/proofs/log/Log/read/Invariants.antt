@@ -1,6 +1,6 @@
 use Rattle.std.proofs.Common.{◌≡◌, ◌≤◌, ◌-◌, length}
 use Rattle.lfs_model.specs.Log.{chain_at, chain_of}
-use Rattle.lfs_tag.proofs.Logs.{chain_stop}
+use Rattle.lfs_model.proofs.Chains.{chain_stop}
 use Rattle.lfs_tag.proofs.log.Log.read.Given as goal
 
 abbrev pub invariant-loop-commit : goal.invariant-loop-commit

@@ -2,10 +2,10 @@ ghost use Rattle.std.specs.Prelude.{◌≡◌, ◌⊎◌, ◌<◌, ◌≤◌, �
 ghost use Rattle.std.specs.Bool.{OnFalse, OnTrue};
 ghost use Rattle.lfs_model.specs.Blocks.{block_in};
 ghost use Rattle.lfs_model.specs.Cache.{cache_limit, cached, put_first, without};
+ghost use Rattle.lfs_model.specs.History.{OnlyReads};
 ghost use Rattle.lfs_cache.specs.Read.{read_whole};
 
-use crate::read::read_block;
-use lfs_device::{BlockDevice, Error};
+use lfs_device::{BlockDevice, Error, read_block};
 use lru::LruCache;
 use std::alloc::Global;
 use std::marker::Model;
@@ -61,6 +61,7 @@ impl Cache {
         ensures read { cached self.old block ≡ None → OnOk result (D.history dev.new ≡ read_whole (D.geometry dev.old).block_size (D.blocks dev.old) block false ∷ D.history dev.old) }
         ensures failed { IsErrOf result Error.Io → D.history dev.new ≡ read_whole (D.geometry dev.old).block_size (D.blocks dev.old) block true ∷ D.history dev.old }
         ensures no_memory { IsErrOf result Error.NoMemory → (D.history dev.new ≡ D.history dev.old) ⊎ (D.history dev.new ≡ read_whole (D.geometry dev.old).block_size (D.blocks dev.old) block false ∷ D.history dev.old) }
+        ensures reads { OnlyReads (D.blocks dev.old) (D.history dev.old) (D.history dev.new) }
         ensures errors { IfErr result (λ e. (e ≡ Error.Io) ⊎ (e ≡ Error.NoMemory)) }
     {
         if self.promote(block) {
@@ -110,3 +111,6 @@ impl Cache {
         Ok(())
     }
 }
+
+#[cfg(test)]
+mod tests;

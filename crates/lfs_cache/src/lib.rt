@@ -2,6 +2,5 @@
 #![tactic(auto)]
 
 mod cache;
-mod read;
 
 pub use cache::Cache;

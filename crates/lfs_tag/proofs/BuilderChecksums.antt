@@ -1,29 +1,18 @@
 -- A commit's pages in a block.
-use Rattle.std.proofs.Common.{◌≡◌, ℕ, zero, suc, ◌+◌, ◌-◌, ◌*◌, ◌/◌, ◌%◌, ◌^◌, ◌<◌, ◌≤◌, Bool, true, false, cond, eqb, ltb, leb, ◌||◌, ◌⊎◌, inl, inr, List, [], ◌∷◌, ◌++◌, length, take, drop, get_or, slice_range, bit_xor, Option, Some, None, IfSome, unwrap_or, refl, sym, ap, subst, eq-eqb, ◌∙◌, arith, rules, append_assoc, length-append, replicate}
-use Rattle.std.specs.Int.{next_multiple_of}
+use Rattle.std.proofs.Common.{◌≡◌, ℕ, zero, suc, ◌+◌, ◌*◌, ◌/◌, ◌%◌, ◌^◌, ◌<◌, ◌≤◌, Bool, true, false, cond, ltb, leb, ◌||◌, ◌⊎◌, inl, inr, List, length, take, drop, get_or, bit_xor, Option, Some, None, IfSome, refl, sym, ap, ◌∙◌, arith}
 use Rattle.std.specs.Int.Bits.{xor_zero_l}
-use Rattle.std.proofs.lemmas.Bool.{le-ltb}
 use Rattle.std.proofs.lemmas.Bool.Decides.{nat_tests}
 use Rattle.std.proofs.lemmas.Nat.{xor_shr}
-use Rattle.std.proofs.lemmas.List.{drop-drop, length-drop, length-take-le, take-append-drop, length-replicate}
-use Rattle.std.proofs.Math.Seq.{take-append_seam, drop-append_seam}
-use Rattle.byteorder.specs.Endian.{big_number, big_bytes, little_number, little_bytes}
-use Rattle.byteorder.specs.Numbers.{big_from-take, little_from-take, little_from-append, little_number-reads_back}
-use Rattle.lfs_model.specs.Crc.{crc_of}
+use Rattle.byteorder.specs.Endian.{big_number}
+use Rattle.byteorder.specs.Numbers.{big_from-take}
 use Rattle.lfs_model.specs.Tag.{IsValid, kind_of, len_of, class_of, chunk_of, size_of, carried, tag_with}
-use Rattle.lfs_model.specs.Log.{LogEntry, Chain, tag_at, entry_at, with_commit, IsCommit, commit_at, chain_of, revision_of}
+use Rattle.lfs_model.specs.Log.{LogEntry, tag_at, entry_at}
 use Rattle.lfs_model.specs.Geometry.{is_page}
 use Rattle.lfs_model.specs.Content.{no_id}
-use Rattle.lfs_model.specs.Blocks.{overwritten}
-use Rattle.lfs_model.specs.Commit.{entries_size, next_at, checksum_type}
-use Rattle.lfs_tag.specs.Builder.{Building, entries_start, checksum_start, padded_end, checksum_tag, checksum_entry, GoesTo, earlier, AreCommitted}
-use Rattle.lfs_tag.specs.BuilderKeeps.{stored, last_tag, revision_bytes, front_of, AreStorable}
-use Rattle.lfs_tag.proofs.Logs.{commit_none, commit_complete, chain_on, chain_none}
-use Rattle.lfs_tag.proofs.Local.{appended, next_start}
-use Rattle.lfs_tag.proofs.Runs.{all_run, run_space}
-use Rattle.lfs_tag.proofs.BuilderWrites.{drop-overwritten, length-overwritten}
-use Rattle.lfs_tag.proofs.BuilderEntries.{length-stored, length-front_of}
-use Rattle.lfs_tag.proofs.BuilderCommits.{IsChecksumKind, class_of_kind, closing, entries_read}
+use Rattle.lfs_model.specs.Commit.{next_at, checksum_type}
+use Rattle.lfs_tag.specs.Builder.{Building, checksum_start, padded_end}
+use Rattle.lfs_tag.specs.BuilderKeeps.{stored}
+use Rattle.lfs_tag.proofs.BuilderCommits.{IsChecksumKind, class_of_kind}
 
 -- ---- the checksum's tag
 

@@ -1,22 +1,18 @@
 -- The bytes of a commit are that commit.
-use Rattle.std.proofs.Common.{◌≡◌, ℕ, zero, suc, ◌+◌, ◌-◌, ◌*◌, ◌/◌, ◌%◌, ◌^◌, ◌<◌, ◌≤◌, Bool, true, false, cond, eqb, ltb, leb, ◌||◌, ◌⊎◌, inl, inr, List, [], ◌∷◌, ◌++◌, length, take, drop, slice_range, bit_xor, Option, Some, None, refl, sym, ap, subst, eq-eqb, ◌∙◌, arith, rules, add-zero, append_assoc, length-append}
+use Rattle.std.proofs.Common.{◌≡◌, ℕ, ◌+◌, ◌-◌, ◌/◌, ◌^◌, ◌<◌, ◌≤◌, true, false, eqb, leb, ◌||◌, ◌⊎◌, inl, inr, List, [], ◌∷◌, ◌++◌, length, take, drop, slice_range, bit_xor, Some, refl, sym, ap, eq-eqb, ◌∙◌, arith, add-zero, append_assoc, length-append}
 use Rattle.std.specs.Int.Bits.{xor_assoc, xor_self, xor_zero_r}
-use Rattle.std.proofs.lemmas.Bool.{le-ltb}
 use Rattle.std.proofs.lemmas.Bool.Decides.{nat_tests}
-use Rattle.std.proofs.lemmas.List.{drop-drop, length-drop, take-append-le, append-nil}
+use Rattle.std.proofs.lemmas.List.{drop-drop, length-drop}
 use Rattle.std.proofs.lemmas.List.Sums.{sum_by-cons}
-use Rattle.std.proofs.Math.Seq.{take-append_seam, drop-append_seam, drop-append-add}
+use Rattle.std.proofs.Math.Seq.{take-append_seam, drop-append_seam}
 use Rattle.byteorder.specs.Endian.{big_number, big_bytes, little_number, little_bytes}
 use Rattle.byteorder.specs.Numbers.{big_number-reads_back, little_number-reads_back}
 use Rattle.lfs_model.specs.Crc.{crc_of}
 use Rattle.lfs_model.specs.Tag.{IsValid, kind_of, len_of, class_of, size_of, carried}
-use Rattle.lfs_model.specs.Log.{LogEntry, tag_at, entry_at, past, is_checksum, closes, IsCommit}
+use Rattle.lfs_model.specs.Log.{LogEntry, entry_at, past, is_checksum, closes, IsCommit}
 use Rattle.lfs_model.specs.Commit.{entries_size}
-use Rattle.lfs_tag.specs.BuilderKeeps.{stored, last_tag, IsStorable, AreStorable}
-use Rattle.lfs_tag.proofs.Polynomials.{xor_cancel}
-use Rattle.lfs_tag.proofs.Logs.{Lies}
+use Rattle.lfs_tag.specs.BuilderKeeps.{stored, last_tag, AreStorable}
 use Rattle.lfs_tag.proofs.Local.{from_lies}
-use Rattle.lfs_tag.proofs.BuilderEntries.{length-stored}
 
 -- the stored tag gives the tag back
 tag_back : (tag before : ℕ) → tag ≡ bit_xor (bit_xor tag before) before

@@ -6,7 +6,7 @@ use Rattle.byteorder.specs.Endian.{big_bytes, little_bytes}
 use Rattle.lfs_model.specs.Crc.{crc_of}
 use Rattle.lfs_model.specs.Blocks.{overwritten}
 use Rattle.lfs_tag.specs.Builder.{Building, checksum_start, padded_end, checksum_tag}
-use Rattle.lfs_tag.specs.BuilderKeeps.{last_tag, front_of, Keeps}
+use Rattle.lfs_tag.specs.BuilderKeeps.{front_of, Keeps}
 use Rattle.lfs_tag.proofs.BuilderWrites.{take-overwritten}
 use Rattle.lfs_tag.proofs.BuilderEntries.{length-front_of}
 use Rattle.lfs_tag.proofs.BuilderChecksums.{AreBytes, padded}

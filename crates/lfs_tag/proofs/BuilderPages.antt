@@ -1,13 +1,13 @@
 -- A commit's pages, put into a block.
-use Rattle.std.proofs.Common.{◌≡◌, ℕ, zero, suc, ◌+◌, ◌-◌, ◌*◌, ◌/◌, ◌%◌, ◌^◌, ◌<◌, ◌≤◌, Bool, true, false, cond, ltb, List, [], ◌∷◌, ◌++◌, length, take, drop, bit_xor, Option, Some, None, IfSome, unwrap_or, refl, sym, ap, subst, ◌∙◌, arith, rules, append_assoc, length-append, replicate}
+use Rattle.std.proofs.Common.{◌≡◌, ℕ, ◌+◌, ◌-◌, ◌^◌, ◌<◌, ◌≤◌, true, false, ltb, List, [], ◌∷◌, ◌++◌, length, take, drop, bit_xor, Option, Some, None, IfSome, unwrap_or, refl, sym, ap, subst, ◌∙◌, arith, append_assoc, length-append, replicate}
 use Rattle.std.proofs.lemmas.Bool.{le-ltb}
-use Rattle.std.proofs.lemmas.List.{drop-drop, length-drop, length-take-le, take-append-drop, length-replicate}
-use Rattle.std.proofs.Math.Seq.{take-append_seam, drop-append_seam}
+use Rattle.std.proofs.lemmas.List.{drop-drop, length-take-le, take-append-drop, length-replicate}
+use Rattle.std.proofs.Math.Seq.{drop-append_seam}
 use Rattle.byteorder.specs.Endian.{big_bytes, little_number, little_bytes}
 use Rattle.byteorder.specs.Numbers.{little_from-take, little_from-append, little_number-reads_back}
 use Rattle.lfs_model.specs.Crc.{crc_of}
 use Rattle.lfs_model.specs.Tag.{carried, len_of}
-use Rattle.lfs_model.specs.Log.{LogEntry, Chain, with_commit, IsCommit, entry_at, commit_at, chain_of, revision_of, log_entries}
+use Rattle.lfs_model.specs.Log.{LogEntry, with_commit, IsCommit, commit_at, chain_of, revision_of, log_entries}
 use Rattle.lfs_model.specs.Geometry.{is_page}
 use Rattle.lfs_model.specs.Blocks.{overwritten}
 use Rattle.lfs_model.specs.Commit.{entries_size, next_at, checksum_type}
@@ -17,7 +17,7 @@ use Rattle.lfs_tag.proofs.Logs.{commit_none, commit_complete, chain_on, chain_no
 use Rattle.lfs_tag.proofs.Local.{appended, next_start}
 use Rattle.lfs_tag.proofs.Runs.{all_run, run_space}
 use Rattle.lfs_tag.proofs.BuilderWrites.{drop-overwritten, length-overwritten}
-use Rattle.lfs_tag.proofs.BuilderEntries.{length-stored, length-front_of}
+use Rattle.lfs_tag.proofs.BuilderEntries.{length-front_of}
 use Rattle.lfs_tag.proofs.BuilderCommits.{class_of_kind, closing, entries_read}
 use Rattle.lfs_tag.proofs.BuilderChecksums.{AreBytes, padded, kind_cases, kind_is, kind_of_cases, valid_is, len_is, nothing_follows}
 

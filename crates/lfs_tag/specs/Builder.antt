@@ -1,7 +1,7 @@
 -- A commit that is being built, and what its pages make of a block's log.
 use Rattle.std.specs.Prelude.{◌≡◌, ◌<◌, ◌≤◌, ℕ, ◌+◌, ◌-◌, List, [], ◌∷◌, ◌++◌, length, drop, Option, Some, None, unwrap_or}
 use Rattle.lfs_model.specs.Tag.{class_of, tag_with, carried}
-use Rattle.lfs_model.specs.Log.{LogEntry, Chain, chain_of, revision_of}
+use Rattle.lfs_model.specs.Log.{LogEntry, chain_of, revision_of}
 use Rattle.lfs_model.specs.Commit.{entries_size, page_end, next_at, checksum_type}
 use Rattle.lfs_model.specs.Content.{no_id}
 use Rattle.lfs_model.specs.Blocks.{overwritten}

@@ -1,7 +1,7 @@
-use Rattle.std.proofs.Common.{◌≡◌, ◌+◌, ◌-◌, ◌++◌, length, take, drop, refl, sym, ap, ◌∙◌, arith}
+use Rattle.std.proofs.Common.{◌+◌, ◌-◌, length, refl, ◌∙◌, arith}
 use Rattle.byteorder.specs.Endian.{big_bytes}
 use Rattle.lfs_model.specs.Blocks.{overwritten}
-use Rattle.lfs_tag.proofs.BuilderWrites.{put_mid-part, put_mid-front, overwritten-twice, length-overwritten}
+use Rattle.lfs_tag.proofs.BuilderWrites.{put_mid-part, put_mid-front, overwritten-twice}
 use Rattle.lfs_tag.proofs.builder.put_entry.Goals as goal
 
 pub returns : goal.returns

@@ -1,4 +1,4 @@
-use Rattle.std.proofs.Common.{◌≡◌, ℕ, ◌+◌, ◌-◌, ◌≤◌, ◌<◌, ◌^◌, length, sym, ap, ◌∙◌, arith}
+use Rattle.std.proofs.Common.{◌≡◌, ℕ, ◌+◌, ◌-◌, ap, ◌∙◌, arith}
 use Rattle.lfs_model.specs.Tag.{tag_with}
 use Rattle.lfs_model.specs.Content.{no_id}
 use Rattle.lfs_model.specs.Commit.{checksum_type}

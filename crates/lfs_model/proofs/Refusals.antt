@@ -1,17 +1,17 @@
 -- An image is refused where a rule fails, by tests that compute on a literal image.
-use Rattle.std.proofs.Common.{ℕ, suc, ◌≡◌, inl, inr, Bool, true, false, not, ◌&&◌, ◌==◌, nat_eq, List, [], ◌∷◌, ◌++◌, Option, Some, None, refl, sym, ap, subst, ◌∙◌, AllPairs, arith, length, drop, eq-eqb, get_or}
-use Rattle.std.specs.Prelude.{All, slice_get}
+use Rattle.std.proofs.Common.{ℕ, suc, ◌≡◌, ◌<◌, inl, inr, Bool, true, false, not, ◌&&◌, ◌==◌, nat_eq, List, [], ◌∷◌, ◌++◌, Option, Some, None, refl, sym, ap, subst, ◌∙◌, AllPairs, arith, length, drop, eq-eqb, lt-ltb, get_or}
+use Rattle.std.specs.Prelude.{All, slice_get, nat_lt}
 use Rattle.std.specs.List.{AllByRecursion, list_all, IsDistinct}
 use Rattle.std.specs.declared.cmp.Ordering.TheVariants.{Less}
 use Rattle.std.proofs.lemmas.Bool.{and_from, or_left, or_right}
 use Rattle.std.proofs.lemmas.Option.{same_Some, slice_get_within, get_or_from_slice_get}
-use Rattle.std.proofs.lemmas.List.Elements.{recursion_from_All, All-head, All-tail}
+use Rattle.std.proofs.lemmas.List.Elements.{All-from_recursion, All-head, All-tail}
 use Rattle.std.proofs.lemmas.List.Folds.{list_any-from_Any}
 use Rattle.byteorder.specs.Endian.{little_number}
-use Rattle.lfs_model.specs.Disk.{Disk, block_count}
+use Rattle.lfs_model.specs.Disk.{Disk, block_count, block_at}
 use Rattle.lfs_model.specs.Names.{Name, name_cmp, is_less, is_name}
 use Rattle.lfs_model.specs.Slots.{Content, Slot, Kind, File, Directory, Superblock, Struct, Inline, Ctz, Branch, Gstate, same_pair}
-use Rattle.lfs_model.specs.Content.{content_at}
+use Rattle.lfs_model.specs.Content.{content_at, has_commit}
 use Rattle.lfs_model.specs.Thread.{Pair, anchor, Links, next_of, blocks_of, gstate_of, root_of, Listing}
 use Rattle.lfs_model.specs.Tree.{Path, root_slot, names_at}
 use Rattle.lfs_model.specs.Apply.{same_path}
@@ -21,7 +21,7 @@ use Rattle.lfs_model.proofs.Acceptance.{are_apart, apart_from, all_to, rise, beg
 use Rattle.lfs_model.proofs.Outlines.{is_outlined}
 use Rattle.lfs_model.proofs.Paths.{path_itself, same_itself}
 use Rattle.lfs_model.proofs.Skips.{is_list, list_to}
-use Rattle.lfs_model.proofs.Unique.{same_links}
+use Rattle.lfs_model.proofs.Uniqueness.{one_way}
 
 -- ---- the thread
 
@@ -50,6 +50,10 @@ none_stands disk (p ∷ ps) here l all is =
 -- the first pair holds nothing
 pub no_first : (disk : Disk) → content_at disk anchor ≡ None → IsRefused disk
 no_first disk is ps a = none_stands disk ps anchor a.thread.links a.thread.contents is
+
+-- neither of its blocks has a commit
+pub no_commit : (disk : Disk) → has_commit (block_at disk 0) ≡ false → has_commit (block_at disk 1) ≡ false → IsRefused disk
+no_commit disk first second = no_first disk (rw (first, second) refl)
 
 -- the second pair holds nothing
 pub no_second : (disk : Disk) (c : Content) (to : ℕ × ℕ) → content_at disk anchor ≡ Some c → next_of c.tail ≡ Some to → content_at disk to ≡ None → IsRefused disk
@@ -80,7 +84,7 @@ no_distinct disk c d to first next second twice ps a =
 -- these pairs are the thread, so no others are accepted
 pub refused_with : (disk : Disk) (qs : List Pair) → Links (Some anchor) qs → AllByRecursion (λ p. content_at disk p.at ≡ Some p.content) qs → (IsAccepted disk qs → ⊥) → IsRefused disk
 refused_with disk qs links contents never ps a =
-    let is : ps ≡ qs = same_links (content_at disk) (Some anchor) ps qs a.thread.links links (recursion_from_All (λ p. content_at disk p.at ≡ Some p.content) ps a.thread.contents) contents in
+    let is : ps ≡ qs = one_way (content_at disk) (Some anchor) ps qs a.thread.links links a.thread.contents (All-from_recursion (λ p. content_at disk p.at ≡ Some p.content) qs contents) in
     never (subst (IsAccepted disk) is a)
 
 -- ---- rules that fail
@@ -91,6 +95,10 @@ rise_to (n ∷ ns) h =
     and_from (list_all (λ m. is_less (name_cmp n m)) ns) (rise ns)
     (all_to (λ m. is_less (name_cmp n m)) (λ m. name_cmp n m ≡ Less) (λ m e. ap is_less e) ns (λ j d l. h 0 (suc j) d (omega arith) (omega arith)))
     (rise_to ns (λ i j d l m. h (suc i) (suc j) d (omega arith) (omega arith)))
+
+-- a block isn't there
+pub fails_range : (disk : Disk) (ps : List Pair) → list_all (λ b. nat_lt b (block_count disk)) (blocks_of ps) ≡ false → IsAccepted disk ps → ⊥
+fails_range disk ps fails a = let e = all_to (λ b. nat_lt b (block_count disk)) (λ b. b < block_count disk) (λ b. lt-ltb b (block_count disk)) (blocks_of ps) a.thread.in_range in cc
 
 -- the names of a directory don't rise
 pub fails_order : (disk : Disk) (ps : List Pair) (path : Path) (at : ℕ × ℕ) → Leads ps path at → rise (names_at (entries_in ps) at) ≡ false → IsAccepted disk ps → ⊥
@@ -203,7 +211,7 @@ fails_lists disk ps fails a = let e = all_to (λ s. is_list_if_ctz disk s.struct
 
 pub read_only_with : (disk : Disk) (qs : List Pair) → Links (Some anchor) qs → AllByRecursion (λ p. content_at disk p.at ≡ Some p.content) qs → (IsWritable disk qs → ⊥) → IsReadOnly disk
 read_only_with disk qs links contents never ps a w =
-    let is : ps ≡ qs = same_links (content_at disk) (Some anchor) ps qs a.thread.links links (recursion_from_All (λ p. content_at disk p.at ≡ Some p.content) ps a.thread.contents) contents in
+    let is : ps ≡ qs = one_way (content_at disk) (Some anchor) ps qs a.thread.links links a.thread.contents (All-from_recursion (λ p. content_at disk p.at ≡ Some p.content) qs contents) in
     never (subst (IsWritable disk) is w)
 
 -- a slot of a pair that doesn't fit

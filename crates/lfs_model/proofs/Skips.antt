@@ -8,11 +8,11 @@ use Rattle.lfs_model.specs.Lists.{word_at, pointers_of, blocks_for, blocks_back,
 use Rattle.lfs_model.proofs.Acceptance.{all_from, all_to, are_apart, distinct_from, apart_from}
 
 -- the test passes below a number
-abbrev all_below : (ℕ → Bool) → ℕ → Bool
+abbrev pub all_below : (ℕ → Bool) → ℕ → Bool
 all_below p zero = true
 all_below p (suc n) = p n && all_below p n
 
-below_from : (p : ℕ → Bool) (n : ℕ) → all_below p n ≡ true → (i : ℕ) → i < n → p i ≡ true
+pub below_from : (p : ℕ → Bool) (n : ℕ) → all_below p n ≡ true → (i : ℕ) → i < n → p i ≡ true
 below_from p zero e i l = absurd (omega arith)
 below_from p (suc n) e i l =
     let both = and_parts (p n) (all_below p n) e in

@@ -1,5 +1,5 @@
 -- Images in bytes.
-use Rattle.std.specs.Prelude.{ℕ, ◌-◌, List, [], ◌∷◌, ◌++◌, length, find, replicate, codes}
+use Rattle.std.specs.Prelude.{ℕ, ◌-◌, List, [], ◌∷◌, ◌++◌, length, take, find, replicate, slice_index, slice_set, bit_xor, ◌/◌, ◌%◌, ◌^◌, ◌+◌, codes}
 use Rattle.std.specs.List.{flat_map}
 use Rattle.std.specs.Option.{option_map}
 use Rattle.byteorder.specs.Endian.{little_bytes}
@@ -80,6 +80,22 @@ large_disk blocks = record { block_size = 4096; page = 256; blocks = blocks ++ r
 abbrev pub large_image : Disk
 large_image = large_disk (filled 4096 large_commit ∷ [])
 
+-- a file "b" has been appended to the small image
+abbrev pub appended_commit : List ℕ
+appended_commit =
+    0x10 ∷ 0x1f ∷ 0xf8 ∷ 0x50 ∷  -- 0x40100400 XOR 0x500ffc50: create id 1
+    0x40 ∷ 0x00 ∷ 0x00 ∷ 0x01 ∷ codes "b" ++  -- a file's name of id 1
+    0x20 ∷ 0x00 ∷ 0x00 ∷ 0x01 ∷  -- an inline struct of no bytes
+    0x70 ∷ 0x1f ∷ 0xf8 ∷ 0x6f ∷  -- a checksum entry of 111 bytes
+    0x6a ∷ 0xa8 ∷ 0x34 ∷ 0x70 ∷ unwritten 107
+
+abbrev pub appended_image : Disk
+appended_image = small_disk (filled 1024 (small_commit ++ appended_commit))
+
+-- bit k of the checksum is turned
+abbrev pub turned_block : ℕ → List ℕ
+turned_block k = slice_set small_block (48 + k / 8) (bit_xor (slice_index small_block (48 + k / 8)) (2 ^ (k % 8)))
+
 -- ---- slots that shift: "b" comes, "a" comes before it and goes again, and "b" gets an attribute
 
 abbrev pub shifting_commits : List ℕ
@@ -107,6 +123,23 @@ shifting_block = filled 4096 (large_commit ++ shifting_commits)
 abbrev pub shifting_image : Disk
 shifting_image = large_disk (shifting_block ∷ [])
 
+-- ---- a file comes, over storage whose erased bytes are zero: the tag behind such a checksum has the top bit turned
+
+abbrev pub zeroed_block : List ℕ
+zeroed_block =
+    take 44 large_commit ++  -- revision, name and struct as above
+    0x70 ∷ 0x0f ∷ 0xfc ∷ 0xc8 ∷  -- 0x501ffcd0 XOR 0x20100018: a checksum entry of 208 bytes
+    0x3a ∷ 0xdc ∷ 0x01 ∷ 0xef ∷ unwritten 204 ++
+    0x90 ∷ 0x0f ∷ 0xf8 ∷ 0xd0 ∷  -- 0x40100400 XOR 0xd01ffcd0: create id 1
+    0x40 ∷ 0x00 ∷ 0x00 ∷ 0x01 ∷ codes "b" ++  -- a file's name of id 1
+    0x20 ∷ 0x00 ∷ 0x00 ∷ 0x01 ∷  -- an inline struct of no bytes
+    0x70 ∷ 0x0f ∷ 0xf8 ∷ 0xef ∷  -- 0x501ffcef XOR 0x20100400: a checksum entry of 239 bytes
+    0xae ∷ 0x92 ∷ 0x72 ∷ 0x5e ∷ unwritten 235 ++
+    replicate 3584 0
+
+abbrev pub zeroed_image : Disk
+zeroed_image = record { block_size = 4096; page = 256; blocks = zeroed_block ∷ replicate 15 (replicate 4096 0) }
+
 -- ---- other images of 16 blocks, by their entries
 
 -- a block of the root: the superblock, these entries, the checksum and its padding
@@ -121,9 +154,26 @@ pair_block entries number padding = metadata_block 4096 1 (entries ++ checksum_e
 abbrev pub image_with : List ℕ → Blocks → Disk
 image_with root blocks = large_disk (root ∷ unwritten 4096 ∷ blocks)
 
--- a superblock's bytes with another limit of names, and a fresh root with them
-abbrev pub limited_bytes : ℕ → List ℕ
-limited_bytes limit = flat_map (little_bytes 4) (0x00020000 ∷ 4096 ∷ 16 ∷ limit ∷ file_limit ∷ 1022 ∷ [])
+-- the fresh image cut or lengthened to so many blocks
+abbrev pub resized : ℕ → Disk
+resized count = record { block_size = 4096; page = 256; blocks = filled 4096 large_commit ∷ replicate (count - 1) (unwritten 4096) }
 
-abbrev pub limited_block : ℕ → ℕ → List ℕ
-limited_block limit number = metadata_block 4096 1 (superblock_entry ∷ entry_with inline_struct_type 0 (limited_bytes limit) ∷ checksum_entry number 204 ∷ [])
+-- a superblock's struct with another version, block size or limit of names, and a fresh root with it
+abbrev pub superblock_with : ℕ → ℕ → ℕ → List ℕ
+superblock_with version block_size name_limit = flat_map (little_bytes 4) (version ∷ block_size ∷ 16 ∷ name_limit ∷ file_limit ∷ 1022 ∷ [])
+
+abbrev pub other_root : List ℕ → ℕ → List ℕ
+other_root struct number = metadata_block 4096 1 (superblock_entry ∷ entry_with inline_struct_type 0 struct ∷ checksum_entry number 204 ∷ [])
+
+-- ---- a skip list
+
+-- 2,045 bytes in the blocks 5, 6 and 7; the second pointer of the last is given
+abbrev pub three_blocks_with : ℕ → Blocks
+three_blocks_with pointer =
+    replicate 5 (unwritten 1024)
+    ++ replicate 1024 1
+    ∷ (little_bytes 4 5 ++ replicate 1020 2)
+    ∷ (little_bytes 4 6 ++ little_bytes 4 pointer ++ replicate 1016 3) ∷ []
+
+abbrev pub three_blocks : Blocks
+three_blocks = three_blocks_with 5

@@ -29,3 +29,4 @@ pub mod Steps
 pub mod State
 pub mod Stops
 pub mod Listing
+pub mod Sessions

@@ -6,11 +6,12 @@ ghost use Rattle.lfs_model.specs.Disk.{Disk};
 ghost use Rattle.lfs_model.specs.Slots.{no_gstate};
 ghost use Rattle.lfs_model.specs.Thread.{gstate_of};
 ghost use Rattle.lfs_model.specs.Tree.{FileNode, DirectoryNode};
+ghost use Rattle.lfs_model.specs.Apply.{added};
 ghost use Rattle.lfs_model.specs.View.{HasView, IsAccepted, IsWritable, tree_in, used_blocks};
 ghost use Rattle.lfs_model.specs.Fresh.{IsFresh, fresh_pair, empty_tree};
 ghost use Rattle.lfs_model.specs.Written.{tail_entry};
-ghost use Rattle.lfs_model.specs.Stored.{filled, file_entries, long_file_entries, directory_entries, move_word_entry, superblock_entries};
-ghost use Rattle.lfs_model.specs.Examples.{view_with, IsRefused, IsReadOnly, small_image, large_image, shifting_image, root_block, pair_block, limited_block, image_with};
+ghost use Rattle.lfs_model.specs.Stored.{unwritten, filled, file_entries, long_file_entries, directory_entries, move_word_entry, superblock_entries, checksum_entry, metadata_block};
+ghost use Rattle.lfs_model.specs.Examples.{view_with, IsRefused, IsReadOnly, small_image, large_image, shifting_block, shifting_image, zeroed_image, appended_image, large_disk, root_block, pair_block, superblock_with, other_root, image_with};
 
 /// A fresh image is accepted and may be written. It shows the empty root, and uses the first two blocks.
 pub fn fresh_image_is_accepted()
@@ -25,7 +26,7 @@ pub fn fresh_image_is_accepted()
     ensures large { IsFresh large_image }
 {}
 
-/// Images with one file show it: one whose slot has shifted, one with bytes in its entry, one with bytes in a list.
+/// Images with one file show it.
 pub fn file_is_shown()
     ensures shifted { HasView shifting_image
         (view_with (([], DirectoryNode [] (codes "b" ∷ []))
@@ -34,6 +35,15 @@ pub fn file_is_shown()
     ensures inline { HasView (image_with (root_block (file_entries 1 (codes "a") (codes "hello")) 0xe787463a 190) [])
         (view_with (([], DirectoryNode [] (codes "a" ∷ []))
         ∷ (codes "a" ∷ [], FileNode [] (codes "hello")) ∷ [])
+        no_gstate (0 ∷ 1 ∷ [])) }
+
+    // The tree is that of the fresh image with an empty file added.
+    ensures appended { HasView appended_image (record { tree = added (codes "b" ∷ []) (FileNode [] []) empty_tree; gstate = no_gstate; used = 0 ∷ 1 ∷ [] }) }
+
+    // The erased bytes of this storage are zero.
+    ensures zeroed { HasView zeroed_image
+        (view_with (([], DirectoryNode [] (codes "b" ∷ []))
+        ∷ (codes "b" ∷ [], FileNode [] []) ∷ [])
         no_gstate (0 ∷ 1 ∷ [])) }
 
     // Three blocks: the last has one byte, behind the addresses of the second and the first.
@@ -47,9 +57,27 @@ pub fn file_is_shown()
         no_gstate (0 ∷ 1 ∷ 2 ∷ 3 ∷ 4 ∷ [])) }
 {}
 
-/// A directory may name its pair's blocks in either order. Which of them holds, the thread's order decides.
+/// Of the two blocks of a pair the later one is shown.
+pub fn later_block_is_shown()
+    // Block 1 is a fresh root of the revision before block 0's.
+    ensures first { HasView
+        (large_disk (shifting_block ∷ metadata_block 4096 0xffffffff (superblock_entries 4096 16 ++ checksum_entry 0xc3e1dffc 204 ∷ []) ∷ []))
+        (view_with (([], DirectoryNode [] (codes "b" ∷ []))
+        ∷ (codes "b" ∷ [], FileNode ((0x41, codes "x") ∷ []) []) ∷ [])
+        no_gstate (0 ∷ 1 ∷ [])) }
+
+    // Block 1 has a file, and the revision after block 0's.
+    ensures second { HasView
+        (large_disk (root_block [] 0xf3277f4a 204 ∷ metadata_block 4096 2 (superblock_entries 4096 16 ++ file_entries 1 (codes "a") (codes "hello") ++ checksum_entry 0xe6da60eb 190 ∷ []) ∷ []))
+        (view_with (([], DirectoryNode [] (codes "a" ∷ []))
+        ∷ (codes "a" ∷ [], FileNode [] (codes "hello")) ∷ [])
+        no_gstate (0 ∷ 1 ∷ [])) }
+{}
+
+/// A directory is its pairs, from the first that an entry names to the last that a hard tail names.
 pub fn directory_is_shown()
-    ensures { HasView
+    // The entry may name the two blocks in either order. Which of them holds, the thread's order decides.
+    ensures either_order { HasView
         (image_with (root_block (directory_entries 1 (codes "d") (3, 2) ++ tail_entry false (Some (2, 3)) ∷ []) 0x73136a7f 175)
         (pair_block (file_entries 0 (codes "x") (codes "hi")) 0x99061daa 233
         ∷ pair_block (file_entries 0 (codes "f") (codes "hi")) 0x6586f267 233 ∷ []))
@@ -57,6 +85,16 @@ pub fn directory_is_shown()
         ∷ (codes "d" ∷ [], DirectoryNode [] (codes "x" ∷ []))
         ∷ (codes "d" ∷ codes "x" ∷ [], FileNode [] (codes "hi")) ∷ [])
         no_gstate (0 ∷ 1 ∷ 2 ∷ 3 ∷ [])) }
+    ensures two_pairs { HasView
+        (image_with (root_block (directory_entries 1 (codes "d") (4, 5) ++ tail_entry false (Some (4, 5)) ∷ []) 0x8a1d57fc 175)
+        (unwritten 4096 ∷ unwritten 4096
+        ∷ pair_block (file_entries 0 (codes "a") (codes "hi") ++ tail_entry true (Some (6, 7)) ∷ []) 0xd0dc452b 221 ∷ unwritten 4096
+        ∷ pair_block (file_entries 0 (codes "z") (codes "hi")) 0xc16aa46b 233 ∷ []))
+        (view_with (([], DirectoryNode [] (codes "d" ∷ []))
+        ∷ (codes "d" ∷ [], DirectoryNode [] (codes "a" ∷ codes "z" ∷ []))
+        ∷ (codes "d" ∷ codes "a" ∷ [], FileNode [] (codes "hi"))
+        ∷ (codes "d" ∷ codes "z" ∷ [], FileNode [] (codes "hi")) ∷ [])
+        no_gstate (0 ∷ 1 ∷ 4 ∷ 5 ∷ 6 ∷ 7 ∷ [])) }
 {}
 
 /// A slot that a set move names isn't shown.
@@ -134,6 +172,6 @@ pub fn other_profile_is_read_only()
     ensures long_entry_read_only { IsReadOnly (image_with (root_block (file_entries 1 (codes "a") (replicate 600 97)) 0x961dcdc4 107) []) }
 
     // The superblock limits names to 32 bytes.
-    ensures name_limit { HasView (image_with (limited_block 32 0xe9693de0) []) (view_with (([], DirectoryNode [] []) ∷ []) no_gstate (0 ∷ 1 ∷ [])) }
-    ensures name_limit_read_only { IsReadOnly (image_with (limited_block 32 0xe9693de0) []) }
+    ensures name_limit { HasView (image_with (other_root (superblock_with 0x00020000 4096 32) 0xe9693de0) []) (view_with (([], DirectoryNode [] []) ∷ []) no_gstate (0 ∷ 1 ∷ [])) }
+    ensures name_limit_read_only { IsReadOnly (image_with (other_root (superblock_with 0x00020000 4096 32) 0xe9693de0) []) }
 {}

@@ -1,4 +1,4 @@
-use Rattle.std.proofs.Common.{[], ◌∷◌, None, refl}
+use Rattle.std.proofs.Common.{◌≡◌, sym, ap, ◌∙◌, [], ◌∷◌, None, refl}
 use Rattle.std.specs.Prelude.{codes}
 use Rattle.lfs_model.specs.Crc.{crc_of, next_bits}
 use Rattle.lfs_model.specs.Log.{chain_of, chain_within, commit_within, entry_at, closes}
@@ -6,6 +6,13 @@ use Rattle.lfs_model.specs.Slots.{no_gstate}
 use Rattle.lfs_model.specs.Fresh.{superblock_bytes}
 use Rattle.lfs_model.proofs.Skips.{list_from}
 use Rattle.lfs_model.proofs.Examples.{image_shows, pair, file, long_file, large_superblock}
+use Rattle.lfs_model.specs.Examples.{small_image, appended_image}
+use Rattle.lfs_model.specs.View.{tree_in}
+use Rattle.lfs_model.specs.Apply.{added}
+use Rattle.lfs_model.specs.Tree.{FileNode}
+use Rattle.lfs_model.specs.Fresh.{empty_tree}
+use Rattle.lfs_model.proofs.Fresh.{shows}
+use Rattle.lfs_model.proofs.Example.{next, file_came}
 use Rattle.lfs_model.proofs.images.file_is_shown.Goals as goal
 
 pub returns-clause-shifted : goal.returns-clause-shifted
@@ -22,3 +29,13 @@ pub returns-clause-list : goal.returns-clause-list
 unfolding chain_of chain_within commit_within entry_at closes crc_of next_bits lib.Count.count_trailing_zeros
 returns-clause-list c = image_shows _ (pair (0, 1) (large_superblock ∷ long_file (codes "a") 4 8189 ∷ []) None no_gstate ∷ []) (superblock_bytes 4096 16) 2
     (record { links = (refl, refl); contents = (refl, tt); first = refl; named = refl; lists = (tt, (list_from _ 4096 4 8189 refl, tt)); pass = refl }) _ _ _ refl refl refl
+
+pub returns-clause-zeroed : goal.returns-clause-zeroed
+unfolding chain_of chain_within commit_within entry_at closes crc_of next_bits
+returns-clause-zeroed c = image_shows _ (pair (0, 1) (large_superblock ∷ file (codes "b") [] ∷ []) None no_gstate ∷ []) (superblock_bytes 4096 16) 2
+    (record { links = (refl, refl); contents = (refl, tt); first = refl; named = refl; lists = (tt, (tt, tt)); pass = refl }) _ _ _ refl refl refl
+
+pub returns-clause-appended : goal.returns-clause-appended
+returns-clause-appended c =
+    let tree : tree_in appended_image (next ∷ []) ≡ added (codes "b" ∷ []) (FileNode [] []) empty_tree = file_came.shows ∙ ap (added (codes "b" ∷ []) (FileNode [] [])) (shows small_image) in
+    (next ∷ [], (file_came.accepted, λ i. record { tree = sym tree i; gstate = no_gstate; used = 0 ∷ 1 ∷ [] }))

@@ -1,0 +1,18 @@
+use Rattle.std.proofs.Common.{refl}
+use Rattle.lfs_model.proofs.lists.list_has_its_blocks.Goals as goal
+
+pub returns-clause-blocks : goal.returns-clause-blocks
+unfolding lib.Count.count_trailing_zeros
+returns-clause-blocks c = refl
+
+pub returns-clause-pointers : goal.returns-clause-pointers
+unfolding lib.Count.count_trailing_zeros
+returns-clause-pointers c = refl
+
+pub returns-clause-capacities : goal.returns-clause-capacities
+unfolding lib.Count.count_trailing_zeros
+returns-clause-capacities c = refl
+
+pub returns-clause-inline : goal.returns-clause-inline
+unfolding lib.Count.count_trailing_zeros
+returns-clause-inline c = refl

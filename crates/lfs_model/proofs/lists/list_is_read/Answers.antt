@@ -1,0 +1,23 @@
+use Rattle.std.proofs.Common.{◌≡◌, false, refl}
+use Rattle.lfs_model.specs.Examples.{three_blocks, three_blocks_with}
+use Rattle.lfs_model.proofs.Skips.{is_list, list_from, list_to}
+use Rattle.lfs_model.proofs.lists.list_is_read.Goals as goal
+
+pub returns-clause-list : goal.returns-clause-list
+unfolding lib.Count.count_trailing_zeros
+returns-clause-list c = list_from three_blocks 1024 7 2045 refl
+
+pub returns-clause-blocks : goal.returns-clause-blocks
+unfolding lib.Count.count_trailing_zeros
+returns-clause-blocks c = refl
+
+pub returns-clause-bytes : goal.returns-clause-bytes
+unfolding lib.Count.count_trailing_zeros
+returns-clause-bytes c = refl
+
+pub returns-clause-wrong_pointer : goal.returns-clause-wrong_pointer
+unfolding lib.Count.count_trailing_zeros
+returns-clause-wrong_pointer c = λ h.
+    let passes = list_to (three_blocks_with 6) 1024 7 2045 h in
+    let fails : is_list (three_blocks_with 6) 1024 7 2045 ≡ false = refl in
+    cc

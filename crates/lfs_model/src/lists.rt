@@ -1,0 +1,28 @@
+// Skip lists, in blocks of 1,024 bytes.
+
+ghost use Rattle.std.specs.Prelude.{◌≡◌, ℕ, List, [], ◌∷◌, ◌++◌, map, replicate};
+ghost use Rattle.byteorder.specs.Endian.{little_bytes};
+ghost use Rattle.lfs_model.specs.Lists.{IsList, blocks_for, blocks_back, bytes_of, pointers_of, capacity_of};
+ghost use Rattle.lfs_model.specs.Session.{ctz_blocks};
+ghost use Rattle.lfs_model.specs.Examples.{three_blocks, three_blocks_with};
+
+/// How many blocks a list of some bytes has, and how many bytes each block holds behind its pointers.
+pub fn list_has_its_blocks()
+    ensures blocks { map (blocks_for 1024) (0 ∷ 1 ∷ 1024 ∷ 1025 ∷ 2044 ∷ 2045 ∷ 3060 ∷ 3061 ∷ 4080 ∷ 4081 ∷ [])
+        ≡ 0 ∷ 1 ∷ 1 ∷ 2 ∷ 2 ∷ 3 ∷ 3 ∷ 4 ∷ 4 ∷ 5 ∷ [] }
+    ensures pointers { map pointers_of (0 ∷ 1 ∷ 2 ∷ 3 ∷ 4 ∷ 5 ∷ 6 ∷ 7 ∷ 8 ∷ []) ≡ 0 ∷ 1 ∷ 2 ∷ 1 ∷ 3 ∷ 1 ∷ 2 ∷ 1 ∷ 4 ∷ [] }
+    ensures capacities { map (capacity_of 1024) (0 ∷ 1 ∷ 2 ∷ 3 ∷ 4 ∷ []) ≡ 1024 ∷ 1020 ∷ 1016 ∷ 1020 ∷ 1012 ∷ [] }
+
+    // A file of at most an eighth of a block has no list.
+    ensures inline { map (ctz_blocks 1024) (128 ∷ 129 ∷ []) ≡ 0 ∷ 1 ∷ [] }
+{}
+
+/// A list of 2,045 bytes in the blocks 5, 6 and 7.
+pub fn list_is_read()
+    ensures list { IsList three_blocks 1024 7 2045 }
+    ensures blocks { blocks_back three_blocks (blocks_for 1024 2045) 7 ≡ 5 ∷ 6 ∷ 7 ∷ [] }
+    ensures bytes { bytes_of three_blocks 1024 7 2045 ≡ replicate 1024 1 ++ replicate 1020 2 ++ 3 ∷ [] }
+
+    // Pointer 1 of the last block names the second block.
+    ensures wrong_pointer { IsList (three_blocks_with 6) 1024 7 2045 → ⊥ }
+{}

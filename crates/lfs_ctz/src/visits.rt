@@ -56,6 +56,7 @@ pub fn walk<D: BlockDevice, F: FnMut(u32)>(
     ensures corrupt { IsErrOf result Error.Corrupt → ¬ IsList (D.blocks dev.old) (D.geometry dev.old).block_size head size }
     ensures visited { OnOk result (FoldsTo (λ p x q. F.step p x tt q) visit.old
         (reverse (blocks_back (D.blocks dev.old) (blocks_for (D.geometry dev.old).block_size size) head)) visit.new) }
+    ensures callable { F.IsAlwaysCallable visit.new }
     ensures same { D.blocks dev.new ≡ D.blocks dev.old }
     ensures geometry { D.geometry dev.new ≡ D.geometry dev.old }
     ensures history { OnlyReads (D.blocks dev.old) (D.history dev.old) (D.history dev.new) }

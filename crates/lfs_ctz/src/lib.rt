@@ -1,6 +1,7 @@
 //! Skip lists of blocks, in which the bytes of a file stand.
 #![tactic(auto)]
 
+mod block;
 mod read;
 mod size;
 mod visits;

@@ -79,7 +79,7 @@ fn before<D: BlockDevice>(dev: &mut D, block: u32) -> Result<u32, Error>
 }
 
 // How many pointers a block begins with.
-fn pointers(index: u32) -> u32
+pub(crate) fn pointers(index: u32) -> u32
     ensures { result ≡ pointers_of index }
 {
     if index == 0 {

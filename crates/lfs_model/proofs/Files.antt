@@ -10,10 +10,10 @@ use Rattle.lfs_model.specs.Lists.{word_at, pointers_of, blocks_for, blocks_back,
 use Rattle.lfs_model.specs.View.{contents_in, file_blocks, IsListIfCtz}
 use Rattle.lfs_model.proofs.Counts.{Each, each_left, each_right}
 
-abbrev Same : Blocks → Blocks → List ℕ → Type 0
+abbrev pub Same : Blocks → Blocks → List ℕ → Type 0
 Same d e = Each (λ b. block_in e b ≡ block_in d b)
 
-back_same : (d e : Blocks) (n head : ℕ) → Same d e (blocks_back d n head) → blocks_back e n head ≡ blocks_back d n head
+pub back_same : (d e : Blocks) (n head : ℕ) → Same d e (blocks_back d n head) → blocks_back e n head ≡ blocks_back d n head
 back_same d e zero head h = refl
 back_same d e (suc zero) head h = refl
 back_same d e (suc (suc n)) head h =
@@ -41,7 +41,7 @@ list_same d e block_size head size l h ok = record {
     back : blocks_back e (blocks_for block_size size) head ≡ blocks_back d (blocks_for block_size size) head
     back = back_same d e (blocks_for block_size size) head h
 
-data_same : (d e : Blocks) (n : ℕ) (bs : List ℕ) → Same d e bs → flat_map (data_of e) (enumerate_from n bs) ≡ flat_map (data_of d) (enumerate_from n bs)
+pub data_same : (d e : Blocks) (n : ℕ) (bs : List ℕ) → Same d e bs → flat_map (data_of e) (enumerate_from n bs) ≡ flat_map (data_of d) (enumerate_from n bs)
 data_same d e n [] h = refl
 data_same d e n (b ∷ bs) h = ap₂ (λ y z. drop (4 * pointers_of n) y ++ z) h.0 (data_same d e (n + 1) bs h.1)
 

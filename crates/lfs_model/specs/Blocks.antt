@@ -1,5 +1,5 @@
 -- Blocks of bytes, and what changes them.
-use Rattle.std.specs.Prelude.{◌≡◌, ◌≢◌, ◌<◌, ℕ, zero, suc, ◌+◌, List, [], ◌∷◌, ◌++◌, length, take, drop, slice_index_or, slice_set}
+use Rattle.std.specs.Prelude.{◌≡◌, ◌≢◌, ◌<◌, ℕ, zero, suc, ◌+◌, List, [], ◌∷◌, ◌++◌, length, take, drop, slice_index_or, slice_set, All}
 
 -- each block's bytes
 abbrev pub Blocks : Type 0
@@ -32,6 +32,12 @@ pub record SameBut (b : ℕ) (old new : Blocks) : Type 0 where
 pub record SameOutside (low high : ℕ) (old new : List ℕ) : Type 0 where
   pub below : take low new ≡ take low old
   pub above : drop high new ≡ drop high old
+
+-- the blocks differ at most in the bytes of these
+pub record SameButThese (bs : List ℕ) (old new : Blocks) : Type 0 where
+  pub count : length new ≡ length old
+  pub sizes : (b : ℕ) → length (block_in new b) ≡ length (block_in old b)
+  pub others : (other : ℕ) → All (λ b. b ≢ other) bs → block_in new other ≡ block_in old other
 
 -- bytes cut into so many blocks of a size
 abbrev pub cut : ℕ → ℕ → List ℕ → Blocks

@@ -30,3 +30,4 @@ pub mod State
 pub mod Stops
 pub mod Listing
 pub mod Sessions
+pub mod Source

@@ -1,0 +1,64 @@
+-- What a tree of files is made from: folders that name what stands in them, in any order, and files.
+use Rattle.std.specs.Prelude.{ℕ, ◌≡◌, ◌≤◌, ◌⊎◌, Bool, false, if◌then◌else◌, List, [], ◌∷◌, ◌++◌, map, find, Option, Some, None, Any, AllPairs, sum_by}
+use Rattle.std.specs.List.Sorted.{IsPermutation}
+use Rattle.std.specs.Option.{option_and_then, option_map}
+use Rattle.std.specs.declared.cmp.Ordering.TheVariants.{Less}
+use Rattle.lfs_model.specs.Names.{Name, name_cmp, same_name, is_component, slash}
+use Rattle.lfs_model.specs.Tree.{Path, Node, FileNode, DirectoryNode, Tree}
+
+-- A path is its bytes, a slash before each component. The folder that all stands in has the empty path.
+pub record Source : Type 0 where
+  -- the names in a folder, each with whether it is a folder's
+  pub names : List ℕ → List (Name × Bool)
+  -- the bytes of a file
+  pub bytes : List ℕ → List ℕ
+
+-- the path of a name in a folder
+abbrev pub path_in : List ℕ → Name → List ℕ
+path_in folder name = folder ++ slash ∷ name
+
+abbrev pub names_of : List (Name × Bool) → List Name
+names_of given = map (λ g. g.0) given
+
+-- ---- faults
+
+-- how often a name is given
+abbrev pub times : Name → List Name → ℕ
+times name names = sum_by (λ n. if same_name name n then 1 else 0) names
+
+-- one is no component of a path, or one is given twice
+abbrev pub AreBad : List Name → Type 0
+AreBad names = Any (λ n. is_component n ≡ false) names ⊎ ((name : Name) × (2 ≤ times name names))
+
+-- ---- trees
+
+pub data Standing : Type 0 where
+  AFile : (bytes : List ℕ) → Standing
+  AFolder : (names : List Name) → Standing
+
+-- whether a name is a folder's, where it is given
+abbrev pub kind_given : Name → List (Name × Bool) → Option Bool
+kind_given name given = option_map (λ g. g.1) (find (λ g. same_name name g.0) given)
+
+-- a file has nothing beneath it
+abbrev pub file_at : Source → List ℕ → Path → Option Standing
+file_at s path [] = Some (AFile (s.bytes path))
+file_at s path (name ∷ rest) = None
+
+-- what names lead to from a folder
+abbrev pub standing : Source → List ℕ → Path → Option Standing
+standing s folder [] = Some (AFolder (names_of (s.names folder)))
+standing s folder (name ∷ rest) =
+    option_and_then (λ is_folder. if is_folder then standing s (path_in folder name) rest else file_at s (path_in folder name) rest) (kind_given name (s.names folder))
+
+-- A tree has this at a path. It has a folder's names in order.
+abbrev pub Shows : Option Standing → Option Node → Type 0
+Shows None None = Unit {0}
+Shows (Some (AFile bytes)) (Some (FileNode attributes shown)) = (attributes ≡ []) × (shown ≡ bytes)
+Shows (Some (AFolder names)) (Some (DirectoryNode attributes shown)) =
+    (attributes ≡ []) × IsPermutation names shown × AllPairs (λ a b. name_cmp a b ≡ Less) shown
+Shows _ _ = ⊥
+
+-- the tree that a source makes
+abbrev pub IsTreeOf : Source → Tree → Type 0
+IsTreeOf s tree = (path : Path) → Shows (standing s [] path) (tree path)

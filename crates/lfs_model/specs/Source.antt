@@ -1,5 +1,5 @@
 -- What a tree of files is made from: folders that name what stands in them, in any order, and files.
-use Rattle.std.specs.Prelude.{ℕ, ◌≡◌, ◌≤◌, ◌⊎◌, Bool, false, if◌then◌else◌, List, [], ◌∷◌, ◌++◌, map, find, Option, Some, None, Any, AllPairs, sum_by}
+use Rattle.std.specs.Prelude.{ℕ, ◌≡◌, ◌≤◌, ◌⊎◌, Bool, false, if◌then◌else◌, List, [], ◌∷◌, ◌++◌, map, find, Option, Some, None, AllPairs, sum_by}
 use Rattle.std.specs.List.Sorted.{IsPermutation}
 use Rattle.std.specs.Option.{option_and_then, option_map}
 use Rattle.std.specs.declared.cmp.Ordering.TheVariants.{Less}
@@ -26,9 +26,9 @@ names_of given = map (λ g. g.0) given
 abbrev pub times : Name → List Name → ℕ
 times name names = sum_by (λ n. if same_name name n then 1 else 0) names
 
--- one is no component of a path, or one is given twice
+-- a name is given that is no component of a path, or one is given twice
 abbrev pub AreBad : List Name → Type 0
-AreBad names = Any (λ n. is_component n ≡ false) names ⊎ ((name : Name) × (2 ≤ times name names))
+AreBad names = ((name : Name) × (is_component name ≡ false) × (1 ≤ times name names)) ⊎ ((name : Name) × (2 ≤ times name names))
 
 -- ---- trees
 

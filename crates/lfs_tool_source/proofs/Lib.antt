@@ -1,0 +1,3 @@
+mod HeldItems
+mod Order
+mod Gathers

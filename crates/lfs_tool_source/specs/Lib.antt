@@ -1,0 +1,3 @@
+pub mod Shown
+pub mod InMemory
+pub mod Entries

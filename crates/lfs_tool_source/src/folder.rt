@@ -1,0 +1,95 @@
+ghost use Rattle.std.specs.Prelude.{◌≡◌, false, true};
+
+use crate::{Kind, Listed, Source, SourceError};
+use std::alloc::Global;
+use std::rt::Files;
+use std::{fs, io};
+
+/// A folder of the real file system. A name that isn't UTF-8 is a fault, and so is a symbolic link or
+/// anything else but a file or a folder.
+#[derive(Drop)]
+pub struct Folder<'a, R> {
+    rt: &'a R,
+    root: &'a str,
+    has_failed: bool,
+}
+
+impl<'a, R: Files + AllocGlobal + Clone + Drop> Folder<'a, R> {
+    /// The folder at a path of the file system. Nothing is read yet.
+    pub fn new(rt: &'a R, root: &'a str) -> Folder<'a, R>
+        ensures { result.has_failed ≡ false }
+    {
+        Folder {
+            rt,
+            root,
+            has_failed: false,
+        }
+    }
+
+    // The path in the file system, where it is text.
+    fn full(&self, path: &[u8]) -> io::Result<String> {
+        let Ok(path) = str::from_utf8(path) else {
+            return Err(io::Error::from(io::ErrorKind::InvalidFilename));
+        };
+        let mut full = String::from_str(self.rt.alloc(), self.root)?;
+        full.push_str(path)?;
+        Ok(full)
+    }
+
+    fn names(&self, alloc: Global, path: &[u8]) -> io::Result<Vec<Listed>> {
+        let full = self.full(path)?;
+        let mut names = Vec::new(alloc);
+        for entry in fs::read_dir(self.rt, full.as_str())? {
+            let entry = entry?;
+            let kind = entry.file_type()?;
+            let kind = if kind.is_dir() {
+                Kind::Folder
+            } else if kind.is_file() {
+                Kind::File
+            } else {
+                return Err(io::Error::from(io::ErrorKind::Unsupported));
+            };
+            let name = entry.file_name().as_bytes().to_vec(alloc)?;
+            if str::from_utf8(name.as_slice()).is_err() {
+                return Err(io::Error::from(io::ErrorKind::InvalidFilename));
+            }
+            names.push(Listed { name, kind })?;
+        }
+        Ok(names)
+    }
+
+    fn bytes(&self, path: &[u8]) -> io::Result<Vec<u8>> {
+        let full = self.full(path)?;
+        fs::read(self.rt, full.as_str())
+    }
+
+    // What the error says to the reader of the source.
+    fn failed(&mut self, error: io::Error) -> SourceError
+        ensures fault { result ≡ SourceError.Fault → self.new.has_failed ≡ true }
+        ensures no_memory { result ≡ SourceError.NoMemory → self.new.has_failed ≡ self.old.has_failed }
+    {
+        if error.kind() == io::ErrorKind::OutOfMemory {
+            return SourceError::NoMemory;
+        }
+        self.has_failed = true;
+        SourceError::Fault
+    }
+}
+
+impl<'a, R: Files + AllocGlobal + Clone + Drop> Source for Folder<'a, R> {
+    ghost has_failed = { λ s. s.has_failed };
+
+    fn list(&mut self, alloc: Global, folder: &[u8]) -> Result<Vec<Listed>, SourceError> {
+        match self.names(alloc, folder) {
+            Ok(names) => Ok(names),
+            Err(error) => Err(self.failed(error)),
+        }
+    }
+
+    fn read(&mut self, _alloc: Global, file: &[u8]) -> Result<Vec<u8>, SourceError> {
+        match self.bytes(file) {
+            Ok(bytes) => Ok(bytes),
+            Err(error) => Err(self.failed(error)),
+        }
+    }
+}

@@ -1,0 +1,108 @@
+ghost use Rattle.std.specs.Prelude.{◌≡◌, ◌+◌, ◌++◌, ◌∷◌, [], IfOk, IfSome, MatchOption, None, OnOk, Some, drop, false, length, map, true, ◌==◌};
+ghost use Rattle.std.specs.List.{list_any};
+ghost use Rattle.lfs_model.specs.Names.{slash};
+ghost use Rattle.lfs_tool_source.specs.Shown.{is_folder, listed};
+ghost use Rattle.lfs_tool_source.specs.InMemory.{has_no_bytes, is_within, item_of, items_by, name_of, source_of};
+
+use crate::{Kind, Listed, Source, SourceError};
+use std::alloc::Global;
+
+/// What a source in memory has at a path.
+#[derive(Debug, Drop)]
+pub struct Held {
+    /// The path, `/` before each name.
+    pub path: Vec<u8>,
+    /// A file's bytes, and none for a folder.
+    pub bytes: Option<Vec<u8>>,
+}
+
+/// A tree in memory. Where two files have one path, the first is read.
+#[derive(Drop)]
+pub struct MemorySource {
+    /// What stands at each path, in any order.
+    pub held: Vec<Held>,
+    /// Whether a file was read that isn't there.
+    pub has_failed: bool,
+}
+
+fn has_slash(name: &[u8]) -> bool
+    ensures { result ≡ list_any (λ b. b == slash) name.now }
+{
+    name.iter().any(|b| *b == b'/')
+}
+
+// The name of the path where it stands in the folder.
+fn name_in<'a>(folder: &[u8], path: &'a [u8]) -> Option<&'a [u8]>
+    ensures { MatchOption result (is_within folder.now path.now ≡ false)
+        (λ name. (is_within folder.now path.now ≡ true) × (name.now ≡ drop (length folder.now + 1) path.now)) }
+{
+    let at = folder.len();
+    if at >= path.len() || &path[..at] != folder || path[at] != b'/' {
+        return None;
+    }
+    let name = &path[at + 1..];
+    if has_slash(name) { None } else { Some(name) }
+}
+
+fn copied(alloc: Global, bytes: &[u8]) -> Result<Vec<u8>, SourceError>
+    ensures bytes { IfOk result (λ v. v.items ≡ bytes.now) }
+    ensures memory { (e : _) → result ≡ Err e → e ≡ SourceError.NoMemory }
+{
+    bytes.to_vec(alloc).map_err(|_| SourceError::NoMemory)
+}
+
+fn kind(held: &Held) -> Kind
+    ensures { is_folder result ≡ has_no_bytes (item_of held.now).1 }
+{
+    match &held.bytes {
+        Some(_) => Kind::File,
+        None => Kind::Folder,
+    }
+}
+
+// Adds the name of what is held, where it stands in the folder.
+fn push_name(
+    alloc: Global,
+    names: &mut Vec<Listed>,
+    folder: &[u8],
+    held: &Held,
+) -> Result<(), SourceError>
+    ensures names { OnOk result (map listed names.new.items ≡ map listed names.old.items ++ name_of folder.now (item_of held.now)) }
+    ensures memory { (e : _) → result ≡ Err e → e ≡ SourceError.NoMemory }
+{
+    let Some(name) = name_in(folder, held.path.as_slice()) else {
+        return Ok(());
+    };
+    let name = copied(alloc, name)?;
+    let kind = kind(held);
+    names
+        .push(Listed { name, kind })
+        .map_err(|_| SourceError::NoMemory)
+}
+
+impl Source for MemorySource {
+    ghost shown = { λ s. Some (source_of (map item_of s.held.items)) };
+
+    ghost has_failed = { λ s. s.has_failed };
+
+    fn list(&mut self, alloc: Global, folder: &[u8]) -> Result<Vec<Listed>, SourceError> {
+        let mut names = Vec::new(alloc);
+        for held in &self.held {
+            push_name(alloc, &mut names, folder, held)?;
+        }
+        Ok(names)
+    }
+
+    fn read(&mut self, alloc: Global, file: &[u8]) -> Result<Vec<u8>, SourceError> {
+        for held in &self.held {
+            if held.path.as_slice() == file {
+                if let Some(bytes) = &held.bytes {
+                    return copied(alloc, bytes.as_slice());
+                }
+                break;
+            }
+        }
+        self.has_failed = true;
+        Err(SourceError::Fault)
+    }
+}

@@ -4,7 +4,7 @@ use Rattle.std.proofs.Math.Nat.{pow-suc, one-le-pow}
 use Rattle.std.proofs.lemmas.Result.{err_from_is_err_and}
 use Rattle.std.proofs.Common.{drop, Result, Err, ◌⊎◌, inl, inr}
 use Rattle.lfs_device.specs.declared.error.Error.{Error}
-use Rattle.lfs_device.proofs.HistoryLemmas.{began}
+use Rattle.lfs_model.proofs.Histories.{began}
 use Rattle.lfs_ctz.proofs.Sizes.{pointers_of-le}
 use Rattle.lfs_device.specs.declared.geometry.Geometry.{Geometry}
 use Rattle.lfs_model.specs.Blocks.{Blocks, IsDivided, block_in}

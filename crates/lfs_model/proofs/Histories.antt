@@ -2,6 +2,7 @@
 use Rattle.std.proofs.Common.{◌≡◌, ◌≢◌, ◌≤◌, ◌<◌, ℕ, ◌+◌, Bool, true, false, nat_lt, nat_le, ◌==◌, length, arith, List, [], ◌∷◌, ◌++◌, refl, sym, ◌∙◌, ap, subst, append_assoc}
 use Rattle.std.proofs.lemmas.Bool.Decides.{nat_tests}
 use Rattle.lfs_model.specs.Blocks.{Blocks}
+use Rattle.lfs_model.specs.Stops.{Stops, stops_in}
 use Rattle.lfs_model.specs.History.{Call, Event, event, Read, Program, Erase, reads_in, at_worst, reads, programs, erases, faults, unprogrammed, unprogrammed_after, AllUnprogrammed, EachEvent, EachSince, IsReadOf, OnlyReads, AtWorst, LeavesOnly}
 
 -- Calls that all have P: none yet, one more, those of another stretch, and what P implies.
@@ -140,6 +141,14 @@ pub AtWorst-read : (e : Event) (disk : Blocks) → reads_in e.call ≡ 1 → AtW
 AtWorst-read e = at_call e.call e.before
   where
     at_call : (call : Call) (before disk : Blocks) → reads_in call ≡ 1 → at_worst call before disk → disk ≡ before
+    at_call (Read block off len) before disk is left = left
+    at_call (Program block off bytes) before disk is left = absurd (cc)
+    at_call (Erase block) before disk is left = absurd (cc)
+
+pub Stops-read : (e : Event) (disk : Blocks) → reads_in e.call ≡ 1 → Stops e disk → disk ≡ e.before
+Stops-read e = at_call e.call e.before
+  where
+    at_call : (call : Call) (before disk : Blocks) → reads_in call ≡ 1 → stops_in call before disk → disk ≡ before
     at_call (Read block off len) before disk is left = left
     at_call (Program block off bytes) before disk is left = absurd (cc)
     at_call (Erase block) before disk is left = absurd (cc)

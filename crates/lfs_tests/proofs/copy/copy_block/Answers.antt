@@ -1,8 +1,7 @@
 use Rattle.std.proofs.Common.{◌≡◌, ◌<◌, ◌≤◌, ◌+◌, ◌*◌, List, ℕ, length, take, drop, rules, sym, ◌∙◌, ap, arith}
 use Rattle.std.proofs.lemmas.List.{take_all}
 use Rattle.lfs_device.specs.declared.geometry.Geometry.{Geometry}
-use Rattle.lfs_model.specs.Blocks.{Blocks, SameBut, block_in, overwritten}
-use Rattle.lfs_model.specs.History.{AtWorst, LeavesOnly}
+use Rattle.lfs_model.specs.Blocks.{Blocks, block_in, overwritten}
 use Rattle.lfs_model.proofs.Histories.{goes_on, LeavesOnly-reads, AtWorst-read, unprogrammed-erase, unprogrammed-program}
 use Rattle.lfs_model.proofs.Overwrites.{SameBut-refl, SameBut-trans, SameBut-is, block_in-set, take-overwritten_next}
 use Rattle.lfs_tests.proofs.copy.copy_block.Goals as goal

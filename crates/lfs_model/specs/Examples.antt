@@ -1,18 +1,21 @@
 -- Images in bytes.
-use Rattle.std.specs.Prelude.{ℕ, ◌-◌, List, [], ◌∷◌, ◌++◌, length, take, find, replicate, slice_index, slice_set, bit_xor, ◌/◌, ◌%◌, ◌^◌, ◌+◌, codes}
+use Rattle.std.specs.Prelude.{ℕ, ◌-◌, List, [], ◌∷◌, ◌++◌, length, take, find, replicate, slice_index, slice_set, bit_xor, ◌/◌, ◌%◌, ◌^◌, ◌+◌, Some, None, codes}
 use Rattle.std.specs.List.{flat_map}
 use Rattle.std.specs.Option.{option_map}
 use Rattle.byteorder.specs.Endian.{little_bytes}
 use Rattle.lfs_model.specs.Blocks.{Blocks}
 use Rattle.lfs_model.specs.Disk.{Disk, file_limit}
-use Rattle.lfs_model.specs.Slots.{Gstate}
+use Rattle.lfs_model.specs.Slots.{Gstate, no_gstate}
 use Rattle.lfs_model.specs.Log.{LogEntry}
-use Rattle.lfs_model.specs.Content.{inline_struct_type}
+use Rattle.lfs_model.specs.Content.{RawSlot, RawContent, file_name_type, superblock_name_type, inline_struct_type}
 use Rattle.lfs_model.specs.Thread.{Pair}
-use Rattle.lfs_model.specs.Tree.{Path, Node, Tree}
+use Rattle.lfs_model.specs.Tree.{Path, Node, FileNode, DirectoryNode, Tree}
 use Rattle.lfs_model.specs.Apply.{same_path}
 use Rattle.lfs_model.specs.View.{View, IsAccepted, IsWritable, superblock_entry}
 use Rattle.lfs_model.specs.Written.{entry_with}
+use Rattle.lfs_model.specs.Changes.{Change, Create, Delete, PutStruct, PutAttribute}
+use Rattle.lfs_model.specs.Names.{Name}
+use Rattle.lfs_model.specs.Fresh.{superblock_bytes}
 use Rattle.lfs_model.specs.Stored.{unwritten, filled, superblock_entries, checksum_entry, metadata_block}
 
 -- the tree with these nodes and no others
@@ -21,6 +24,15 @@ tree_with nodes path = option_map (λ n. n.1) (find (λ n. same_path path n.0) n
 
 abbrev pub view_with : List (Path × Node) → Gstate → List ℕ → View
 view_with nodes gstate used = record { tree = tree_with nodes; gstate = gstate; used = used }
+
+-- file `a` with `hello`, and directory `d` with an empty file `x`
+abbrev pub small_nodes : List (Path × Node)
+small_nodes =
+    ([], DirectoryNode [] (codes "a" ∷ codes "d" ∷ []))
+    ∷ (codes "a" ∷ [], FileNode [] (codes "hello"))
+    ∷ (codes "d" ∷ [], DirectoryNode [] (codes "x" ∷ []))
+    ∷ (codes "d" ∷ codes "x" ∷ [], FileNode [] [])
+    ∷ []
 
 -- No pairs make the disk an accepted image.
 abbrev pub IsRefused : Disk → Type 0
@@ -122,6 +134,24 @@ shifting_block = filled 4096 (large_commit ++ shifting_commits)
 
 abbrev pub shifting_image : Disk
 shifting_image = large_disk (shifting_block ∷ [])
+
+abbrev pub raw_file : Name → RawSlot
+raw_file name = record { name = Some (file_name_type, name); struct = Some (inline_struct_type, []); attributes = [] }
+
+abbrev pub raw_root : RawSlot
+raw_root = record { name = Some (superblock_name_type, codes "littlefs"); struct = Some (inline_struct_type, superblock_bytes 4096 16); attributes = [] }
+
+abbrev pub raw_content : List RawSlot → RawContent
+raw_content slots = record { slots = slots; tail = None; move = no_gstate }
+
+-- the same, as changes
+abbrev pub shifting_changes : List Change
+shifting_changes =
+    Create 1 file_name_type (codes "b") ∷ PutStruct 1 inline_struct_type []
+    ∷ Create 1 file_name_type (codes "a") ∷ PutStruct 1 inline_struct_type []
+    ∷ Delete 1
+    ∷ PutAttribute 1 0x41 (codes "x")
+    ∷ []
 
 -- ---- a file comes, over storage whose erased bytes are zero: the tag behind such a checksum has the top bit turned
 

@@ -4,6 +4,8 @@ ghost use Rattle.std.specs.Prelude.{◌≡◌, ℕ, ◌<◌, ◌^◌, true, fals
 ghost use Rattle.lfs_model.specs.Tag.{IsValid, tag_with, kind_of, id_of, len_of};
 ghost use Rattle.lfs_model.specs.Slots.{Gstate, no_gstate, gstate_xor};
 ghost use Rattle.lfs_model.specs.Content.{RawSlot, RawContent, no_content, empty_slot, content_after_all, gstate_with, create_type, delete_type, file_name_type, superblock_name_type, inline_struct_type, directory_struct_type, ctz_struct_type, soft_tail_type, hard_tail_type, move_state_type, no_id};
+ghost use Rattle.lfs_model.specs.Lookup.{IsFound, IsPlace, bytes_at};
+ghost use Rattle.lfs_model.specs.Examples.{raw_root, raw_file};
 ghost use Rattle.lfs_model.specs.Written.{entry_with, tail_entry};
 ghost use Rattle.lfs_model.specs.Stored.{file_entries, move_word_entry};
 
@@ -82,4 +84,25 @@ pub fn bad_entry_is_refused()
     ensures tail_len { content_after_all no_content (entry_with hard_tail_type no_id (codes "1234") ∷ []) ≡ None }
     ensures move_len { content_after_all no_content (entry_with move_state_type no_id (codes "12345678") ∷ []) ≡ None }
     ensures removed_name { content_after_all no_content (record { tag = tag_with file_name_type 0 0x3ff; bytes = [] } ∷ []) ≡ None }
+{}
+
+/// Where a name stands among slots. The superblock's name and the slot that is passed over don't count.
+pub fn name_has_its_place()
+    ensures found { IsFound (codes "b") None (raw_root ∷ raw_file (codes "b") ∷ []) 1 }
+    ensures before { IsPlace (codes "a") None (raw_root ∷ raw_file (codes "b") ∷ []) 1 }
+    ensures behind { IsPlace (codes "littlefs") None (raw_root ∷ raw_file (codes "b") ∷ []) 2 }
+    ensures passed_over { IsPlace (codes "b") (Some 1) (raw_root ∷ raw_file (codes "b") ∷ []) 2 }
+    ensures second { IsFound (codes "b") (Some 1) (raw_root ∷ raw_file (codes "b") ∷ raw_file (codes "b") ∷ []) 2 }
+{}
+
+/// What slots hold of a type for an id.
+pub fn slot_holds_its_bytes()
+    ensures name { bytes_at (raw_root ∷ raw_file (codes "b") ∷ []) file_name_type 1 ≡ Some (codes "b") }
+    ensures structure { bytes_at (raw_root ∷ raw_file (codes "b") ∷ []) inline_struct_type 1 ≡ Some [] }
+    ensures attribute { bytes_at (record (raw_file (codes "b")) { attributes = (0x41, codes "x") ∷ [] } ∷ []) 0x341 0 ≡ Some (codes "x") }
+    ensures no_attribute { bytes_at (record (raw_file (codes "b")) { attributes = (0x41, codes "x") ∷ [] } ∷ []) 0x342 0 ≡ None }
+    ensures other_name { bytes_at (raw_root ∷ []) file_name_type 0 ≡ None }
+    ensures other_struct { bytes_at (raw_file (codes "b") ∷ []) ctz_struct_type 0 ≡ None }
+    ensures absent { bytes_at (raw_root ∷ []) file_name_type 1 ≡ None }
+    ensures splice { bytes_at (raw_root ∷ []) create_type 0 ≡ None }
 {}

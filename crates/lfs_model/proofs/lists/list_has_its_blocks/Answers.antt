@@ -1,4 +1,4 @@
-use Rattle.std.proofs.Common.{refl}
+use Rattle.std.proofs.Common.{refl, arith}
 use Rattle.lfs_model.proofs.lists.list_has_its_blocks.Goals as goal
 
 pub returns-clause-blocks : goal.returns-clause-blocks
@@ -16,3 +16,13 @@ returns-clause-capacities c = refl
 pub returns-clause-inline : goal.returns-clause-inline
 unfolding lib.Count.count_trailing_zeros
 returns-clause-inline c = refl
+
+pub returns-clause-places : goal.returns-clause-places
+unfolding lib.Count.count_trailing_zeros
+returns-clause-places c = (
+  record { from = omega arith; below = omega arith; at = refl },
+  record { from = omega arith; below = omega arith; at = refl },
+  record { from = omega arith; below = omega arith; at = refl },
+  record { from = omega arith; below = omega arith; at = refl },
+  record { from = omega arith; below = omega arith; at = refl },
+)

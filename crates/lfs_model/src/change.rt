@@ -1,0 +1,29 @@
+// What changes make of what a pair holds.
+
+ghost use Rattle.std.specs.Prelude.{◌≡◌, ℕ, false, true, List, [], ◌∷◌, ◌++◌, map, replicate, Some, None, codes};
+ghost use Rattle.lfs_model.specs.Slots.{no_gstate};
+ghost use Rattle.lfs_model.specs.Log.{LogEntry};
+ghost use Rattle.lfs_model.specs.Content.{RawSlot, RawContent, no_content, file_name_type, superblock_name_type, inline_struct_type, content_after_all};
+ghost use Rattle.lfs_model.specs.Written.{entries_of};
+ghost use Rattle.lfs_model.specs.Logged.{IsSound};
+ghost use Rattle.lfs_model.specs.Changes.{Create, Delete, PutStruct, PutAttribute, RemoveAttribute, PutTail, PutMove, entries_of_changes, changed_by};
+ghost use Rattle.lfs_model.specs.Examples.{raw_root, raw_file, raw_content, shifting_changes};
+
+/// Changes do what their entries do, in turn.
+pub fn changes_are_made()
+    // "b" comes, "a" comes before it and goes again, and "b" gets an attribute.
+    ensures shifted { changed_by (raw_content (raw_root ∷ [])) shifting_changes ≡ Some (raw_content (raw_root ∷ record (raw_file (codes "b")) { attributes = (0x41, codes "x") ∷ [] } ∷ [])) }
+    ensures tags { map (λ (e : LogEntry). e.tag) (entries_of_changes shifting_changes)
+        ≡ 0x40100400 ∷ 0x00100401 ∷ 0x20100400 ∷ 0x40100400 ∷ 0x00100401 ∷ 0x20100400 ∷ 0x4ff00400 ∷ 0x34100401 ∷ [] }
+    ensures removed { changed_by (raw_content (raw_file (codes "a") ∷ [])) (PutAttribute 0 0x41 (codes "x") ∷ RemoveAttribute 0 0x42 ∷ RemoveAttribute 0 0x41 ∷ [])
+        ≡ Some (raw_content (raw_file (codes "a") ∷ [])) }
+    ensures none { (c : RawContent) → changed_by c [] ≡ Some c }
+    ensures absent { changed_by (raw_content (raw_root ∷ [])) (Delete 1 ∷ []) ≡ None }
+    ensures tail { changed_by (raw_content []) (PutTail false (Some (2, 3)) ∷ PutMove (record no_gstate { sync = true }) ∷ [])
+        ≡ Some (record { slots = []; tail = Some (record { hard = false; to = (2, 3) }); move = record no_gstate { sync = true } }) }
+    ensures no_tail { changed_by (record { slots = []; tail = Some (record { hard = false; to = (2, 3) }); move = record no_gstate { sync = true } }) (PutTail true None ∷ PutMove no_gstate ∷ [])
+        ≡ Some no_content }
+
+    // What a compacted block is written from reads back.
+    ensures written { (c : RawContent) → IsSound c → content_after_all no_content (entries_of c) ≡ Some c }
+{}

@@ -1,0 +1,19 @@
+// What the stop of a device leaves, and what changes make of a pair.
+
+ghost use Rattle.std.specs.Prelude.{◌≡◌, ℕ, ◌+◌, ◌≤◌, ◌<◌, List, [], ◌∷◌, ◌++◌, length, take, true};
+ghost use Rattle.lfs_model.specs.Blocks.{Blocks, block_in, programmed};
+ghost use Rattle.lfs_model.specs.History.{Call, Program, event};
+ghost use Rattle.lfs_model.specs.Stops.{stops_in, Stops};
+ghost use Rattle.lfs_model.specs.Stored.{unwritten};
+ghost use Rattle.lfs_model.specs.Examples.{small_commit, appended_commit};
+
+/// A stop may leave the disk before the call, or what the whole call makes, or a torn commit that isn't one.
+pub fn stop_leaves_old_or_new()
+    ensures before { (call : Call) (disk : Blocks) → stops_in call disk disk }
+    ensures whole { (block off : ℕ) (bytes : List ℕ) (disk : Blocks) → block < length disk → off + length bytes ≤ length (block_in disk block)
+        → stops_in (Program block off bytes) disk (programmed disk block off bytes) }
+
+    // Ten bytes of a second commit were stored.
+    ensures torn { (after : Blocks) → Stops (event (Program 0 128 appended_commit) ((small_commit ++ unwritten 896) ∷ []) after true)
+        ((small_commit ++ take 10 appended_commit ++ unwritten 886) ∷ []) }
+{}

@@ -167,5 +167,5 @@ listed disk bytes attributes files h =
     let found = recursion_from_All (λ (f : Slot). entry_named f.name files ≡ Some f) files (found_all files h.rise) in
     let each : Each (Shown tree) files = each_both IsWholeFile (λ f. entry_named f.name files ≡ Some f) (Shown tree) (shown disk bytes attributes files h) files h.whole found in
     let paths : map (λ f. f.name ∷ []) files ≡ paths_in tree [] =
-        paths_are files ∙ ap (λ slots. map (λ name. [] ++ name ∷ []) (names_in slots)) (sym (entries_at bytes attributes files anchor h.entries refl)) in
+    paths_are files ∙ ap (λ slots. map (λ name. [] ++ name ∷ []) (names_in slots)) (sym (entries_at bytes attributes files anchor h.entries refl)) in
     (map entry_of files, (subst (λ ps. IsWalk tree ps (map entry_of files)) paths (walk_from tree files each), lines_are files))

@@ -38,11 +38,7 @@ fn say<E: Write>(err: &mut Watched<E>, line: &str, status: u8) -> u8
 ///
 /// A failed write is ignored. A line of the tool's own is written whole unless the writer failed; what
 /// the parser's text says is not promised.
-pub fn report<O: Write, E: Write>(
-    fault: &Fault,
-    out: &mut Watched<O>,
-    err: &mut Watched<E>,
-) -> u8
+pub fn report<O: Write, E: Write>(fault: &Fault, out: &mut Watched<O>, err: &mut Watched<E>) -> u8
     ensures status { result ≡ status_of fault.now }
     ensures out { shows_help fault.now ≡ false → Keeps (O.contents out.old.inner) (O.contents out.new.inner) }
     ensures err { shows_help fault.now ≡ true → Keeps (E.contents err.old.inner) (E.contents err.new.inner) }

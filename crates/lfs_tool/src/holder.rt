@@ -21,7 +21,11 @@ pub(crate) fn holder<'a>(first: &'a [u8], second: &'a [u8]) -> Option<Log<'a>>
     let first = Log::read(first);
     let second = Log::read(second);
     if !first.has_commit() {
-        return if second.has_commit() { Some(second) } else { None };
+        return if second.has_commit() {
+            Some(second)
+        } else {
+            None
+        };
     }
     if second.has_commit() && is_later(first.revision(), second.revision()) {
         Some(second)

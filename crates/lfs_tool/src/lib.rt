@@ -11,13 +11,12 @@ mod listing;
 mod names;
 mod one_pair;
 mod output;
-
 mod watched;
 
-pub use errors::{Fault, ToolError};
-pub use listing::list;
-pub use lfs_tool_line::{Line, LineError, Mode, read_line};
 pub use ending::report;
+pub use errors::{Fault, ToolError};
+pub use lfs_tool_line::{Line, LineError, Mode, read_line};
+pub use listing::list;
 pub use watched::Watched;
 
 #[cfg(test)]

@@ -12,9 +12,7 @@ ghost use Rattle.lfs_tool.specs.OnePair.{describes, file_of, has_superblock, has
 use crate::lines::push_line;
 use crate::names::is_name;
 use lfs_device::{Error, Geometry};
-use lfs_tag::kinds::{
-    DIRECTORY_NAME, DIRECTORY_STRUCT, FILE_NAME, INLINE_STRUCT, SUPERBLOCK_NAME,
-};
+use lfs_tag::kinds::{DIRECTORY_NAME, DIRECTORY_STRUCT, FILE_NAME, INLINE_STRUCT, SUPERBLOCK_NAME};
 use lfs_tag::{Content, Log, MoveState, Part, Slot, Tag, superblock_of};
 use std::alloc::Global;
 
@@ -83,9 +81,7 @@ pub(crate) fn has_superblock(geometry: &Geometry, slots: &[Slot<'_>]) -> bool
     ensures { result ≡ has_superblock geometry.now.block_size geometry.now.block_count (map slot_seen slots.now) }
 {
     match slots {
-        [first, others @ ..] => {
-            is_superblock(geometry, first) && none_is_superblock(others)
-        }
+        [first, others @ ..] => { is_superblock(geometry, first) && none_is_superblock(others) }
         [] => false,
     }
 }
@@ -123,9 +119,7 @@ fn are_whole(slots: &[Slot<'_>]) -> bool
 pub(crate) fn is_one_pair(content: &Content<'_>) -> bool
     ensures { result ≡ is_one_pair (content_seen content.now) }
 {
-    content.tail.is_none()
-        && is_still(&content.move_state)
-        && are_whole(&content.slots)
+    content.tail.is_none() && is_still(&content.move_state) && are_whole(&content.slots)
 }
 
 // A file that stands whole in its slot.
@@ -140,10 +134,7 @@ fn file_of<'a>(slot: &Slot<'a>) -> Option<File<'a>>
 {
     match (slot.name, slot.structure) {
         (Some(name), Some(structure))
-            if name.kind == FILE_NAME
-                && structure.kind == INLINE_STRUCT
-                && is_name(name.bytes) =>
-        {
+            if name.kind == FILE_NAME && structure.kind == INLINE_STRUCT && is_name(name.bytes) => {
             Some(File {
                 name: name.bytes,
                 bytes: structure.bytes,

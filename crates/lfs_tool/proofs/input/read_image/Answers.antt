@@ -7,7 +7,7 @@ pub returns-clause-bytes : goal.returns-clause-bytes
 returns-clause-bytes g c = elim c.loop-buffer-test.branch [
   | else-loop-buffer-test w ↦ read_full _ _ c.loop-buffer.bytes.items 268435457 (omega arith) c.loop-buffer.invariant.read
   | then-loop-buffer-test+in-Ok-eq0 w ↦ read_ended _ _ _ c.loop-buffer.bytes.items w.read.new.buf 268435457 w.in-Ok-eq0.field-0 (omega arith) c.loop-buffer.invariant.read
-    w.in-Ok-eq0.field-0-test w.in-Ok-eq0.ensures.bytes.0 (w.in-Ok-eq0.ensures.bytes.1 w.in-Ok-eq0.field-0-test (search rules))
+      w.in-Ok-eq0.field-0-test w.in-Ok-eq0.ensures.bytes.0 (w.in-Ok-eq0.ensures.bytes.1 w.in-Ok-eq0.field-0-test (search rules))
 ]
 
 pub returns-then-is_err-clause-err : goal.returns-then-is_err-clause-err

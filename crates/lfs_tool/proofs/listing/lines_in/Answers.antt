@@ -21,7 +21,7 @@ returns-then-not-is_one_pair-clause-err c = λ _ disk blocks. (
   content_seen c.in_ok-content.content,
   (
     starts_from disk _ _ _ c.in-Some.log _ _ blocks (sym c.in-Some.is ∙ c.holder.ensures) c.in_ok-content.ensures.ok (c.begins_with_superblock.ensures.0 c.if-not-begins_with_superblock.false)
-    (sym (c.has_superblock.ensures ∙ ap (λ slots. has_superblock c.args.geometry.now.block_size c.args.geometry.now.block_count (map slot_seen slots)) c.deref.ensures.value) ∙ c.if-not-has_superblock.false),
+        (sym (c.has_superblock.ensures ∙ ap (λ slots. has_superblock c.args.geometry.now.block_size c.args.geometry.now.block_count (map slot_seen slots)) c.deref.ensures.value) ∙ c.if-not-has_superblock.false),
     sym c.is_one_pair.ensures ∙ c.if-not-is_one_pair.true,
   ),
 )
@@ -29,20 +29,27 @@ returns-then-not-is_one_pair-clause-err c = λ _ disk blocks. (
 pub returns-clause-ok : goal.returns-clause-ok
 returns-clause-ok c =
     let starts : (disk : Disk) → HasBlocks disk c.args.geometry.now.block_size c.args.geometry.now.block_count c.args.first.now c.args.second.now → Starts disk (content_seen c.in_ok-content.content) =
-        λ disk blocks. starts_from disk _ _ _ c.in-Some.log _ _ blocks (sym c.in-Some.is ∙ c.holder.ensures) c.in_ok-content.ensures.ok (c.begins_with_superblock.ensures.0 c.if-not-begins_with_superblock.false)
-        (sym (c.has_superblock.ensures ∙ ap (λ slots. has_superblock c.args.geometry.now.block_size c.args.geometry.now.block_count (map slot_seen slots)) c.deref.ensures.value) ∙ c.if-not-has_superblock.false) in
+    λ disk blocks. starts_from disk _ _ _ c.in-Some.log _ _ blocks (sym c.in-Some.is ∙ c.holder.ensures) c.in_ok-content.ensures.ok (c.begins_with_superblock.ensures.0 c.if-not-begins_with_superblock.false)
+    (sym (c.has_superblock.ensures ∙ ap (λ slots. has_superblock c.args.geometry.now.block_size c.args.geometry.now.block_count (map slot_seen slots)) c.deref.ensures.value) ∙ c.if-not-has_superblock.false) in
     IfOk-weaker c.lines_of.result _ _ (λ text lines disk blocks.
-      lists_from disk (content_seen c.in_ok-content.content) text.items (let few = c.args.geometry.now.valid.no_fewer in omega (arith, blocks.count)) (starts disk blocks)
-      (sym c.is_one_pair.ensures ∙ c.if-not-is_one_pair.false)
-      (sym (ap (lines_behind []) (behind_same c.deref-2.result.now c.in_ok-content.content.slots.items c.deref-2.ensures.value)) ∙ lines)) c.lines_of.ensures.ok
+    lists_from disk (content_seen c.in_ok-content.content) text.items (let few = c.args.geometry.now.valid.no_fewer in omega (arith, blocks.count)) (starts disk blocks)
+    (sym c.is_one_pair.ensures ∙ c.if-not-is_one_pair.false)
+    (sym (ap (lines_behind []) (behind_same c.deref-2.result.now c.in_ok-content.content.slots.items c.deref-2.ensures.value)) ∙ lines)) c.lines_of.ensures.ok
 
 pub returns-clause-err : goal.returns-clause-err
 returns-clause-err c =
     let starts : (disk : Disk) → HasBlocks disk c.args.geometry.now.block_size c.args.geometry.now.block_count c.args.first.now c.args.second.now → Starts disk (content_seen c.in_ok-content.content) =
-        λ disk blocks. starts_from disk _ _ _ c.in-Some.log _ _ blocks (sym c.in-Some.is ∙ c.holder.ensures) c.in_ok-content.ensures.ok (c.begins_with_superblock.ensures.0 c.if-not-begins_with_superblock.false)
-        (sym (c.has_superblock.ensures ∙ ap (λ slots. has_superblock c.args.geometry.now.block_size c.args.geometry.now.block_count (map slot_seen slots)) c.deref.ensures.value) ∙ c.if-not-has_superblock.false) in
+    λ disk blocks. starts_from disk _ _ _ c.in-Some.log _ _ blocks (sym c.in-Some.is ∙ c.holder.ensures) c.in_ok-content.ensures.ok (c.begins_with_superblock.ensures.0 c.if-not-begins_with_superblock.false)
+    (sym (c.has_superblock.ensures ∙ ap (λ slots. has_superblock c.args.geometry.now.block_size c.args.geometry.now.block_count (map slot_seen slots)) c.deref.ensures.value) ∙ c.if-not-has_superblock.false) in
     IfErr-weaker c.lines_of.result _ _ (λ e wrong memory disk blocks.
-      let both = wrong memory in
-      let one = sym c.is_one_pair.ensures ∙ c.if-not-is_one_pair.false in
-      subst (IsRefused disk) (sym both.0) (inr (content_seen c.in_ok-content.content, (starts disk blocks, one, refuses_from disk (content_seen c.in_ok-content.content) (starts disk blocks) one
-      (sym (ap (lines_behind []) (behind_same c.deref-2.result.now c.in_ok-content.content.slots.items c.deref-2.ensures.value)) ∙ both.1))))) c.lines_of.ensures.err
+    let both = wrong memory in
+    let one = sym c.is_one_pair.ensures ∙ c.if-not-is_one_pair.false in
+    subst (IsRefused disk) (sym both.0) (inr (
+      content_seen c.in_ok-content.content,
+      (
+        starts disk blocks,
+        one,
+        refuses_from disk (content_seen c.in_ok-content.content) (starts disk blocks) one
+            (sym (ap (lines_behind []) (behind_same c.deref-2.result.now c.in_ok-content.content.slots.items c.deref-2.ensures.value)) ∙ both.1),
+      ),
+    ))) c.lines_of.ensures.err

@@ -11,8 +11,8 @@ returns-in-Ok-clause-ok g c =
     let P : List ℕ → Type 0 = Appends (g.W.Write.contents c.args.out.now.inner) (g.W.Write.contents c.write_bytes.new.out.inner) in
     let lists : Lists c.args.block_size c.args.page c.in_ok-bytes.bytes.items c.in-Ok.text.items = subst (λ (i : List ℕ). Lists c.args.block_size c.args.page i c.in-Ok.text.items) c.as_slice.ensures.value c.in-Ok.ensures.ok in
     on_ok_weaker c.write_bytes.result (λ written.
-      with_lines (g.R.Read.remaining c.args.image.now.inner) c.args.block_size c.args.page c.in-Ok.text.items P (lists_read _ _ _ c.in_ok-bytes.bytes.items c.in-Ok.text.items c.in_ok-bytes.ensures.bytes lists)
-      (subst P c.as_slice-in-Ok.ensures.value written)) c.write_bytes.ensures.ok
+    with_lines (g.R.Read.remaining c.args.image.now.inner) c.args.block_size c.args.page c.in-Ok.text.items P (lists_read _ _ _ c.in_ok-bytes.bytes.items c.in-Ok.text.items c.in_ok-bytes.ensures.bytes lists)
+    (subst P c.as_slice-in-Ok.ensures.value written)) c.write_bytes.ensures.ok
 
 pub returns-in-Ok-clause-beginning : goal.returns-in-Ok-clause-beginning
 returns-in-Ok-clause-beginning g c = λ failed.

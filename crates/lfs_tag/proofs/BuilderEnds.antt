@@ -44,14 +44,6 @@ module _ (page len last stored end tag : ℕ) (buf now : List ℕ) (b : Building
       ap (take end) s.bytes ∙ take-overwritten len end buf filled (omega (arith, s.within, stop)) stop ∙ ap (λ (l : List ℕ). l ++ filled) (s.kept.bytes (omega (arith, s.within, stop)))
       ∙ rw (same, ← s.stored_is) refl
 
-  pub padding_is : drop (checksum_start b + 8) (take end now) ≡ pad
-  padding_is =
-      let tag_bytes = big_bytes 4 (bit_xor tag last) in
-      let front = front_of b ++ (tag_bytes ++ little_bytes 4 sum) in
-      let joined : take end now ≡ front ++ pad = pages_are ∙ sym (append_assoc (front_of b) (tag_bytes ++ little_bytes 4 sum) pad) in
-      let at : checksum_start b + 8 ≡ length front = omega (arith, length-front_of b, length-append (front_of b) (tag_bytes ++ little_bytes 4 sum)) in
-      ap (drop (checksum_start b + 8)) joined ∙ ap (λ (n : ℕ). drop n (front ++ pad)) at ∙ drop-append_seam front pad
-
   pub are_pages : (next : Option (List ℕ)) → IfSome next AreBytes → tag ≡ checksum_tag b next → ArePages b next (take end now) last sum
   are_pages next bytes is = record {
     power = s.kept.power;

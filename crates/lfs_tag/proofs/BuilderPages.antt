@@ -78,6 +78,14 @@ module _ (b : Building) (next : Option (List ℕ)) (pages : List ℕ) (last sum 
       ∙ ap (λ (n : ℕ). drop n ((front_of b ++ tag_bytes) ++ (little_bytes 4 sum ++ pad))) from ∙ drop-append_seam (front_of b ++ tag_bytes) (little_bytes 4 sum ++ pad) in
       rw rest refl
 
+  -- what is behind the checksum
+  padding_is : drop (checksum_start b + 8) pages ≡ pad
+  padding_is =
+      let front = front_of b ++ (tag_bytes ++ little_bytes 4 sum) in
+      let joined : pages ≡ front ++ pad = h.pages_are ∙ sym (append_assoc (front_of b) (tag_bytes ++ little_bytes 4 sum) pad) in
+      let at : checksum_start b + 8 ≡ length front = omega (arith, length-front_of b, length-append (front_of b) (tag_bytes ++ little_bytes 4 sum)) in
+      ap (drop (checksum_start b + 8)) joined ∙ ap (λ (n : ℕ). drop n (front ++ pad)) at ∙ drop-append_seam front pad
+
   commit_here : (new rest : List ℕ) (start : ℕ) → drop start new ≡ pages ++ rest → IsCommit new start (start + entries_start b.revision) b.previous (b.entries ++ ck ∷ []) (start + length pages) (carried tag)
   commit_here new rest start here =
       let head = revision_bytes b.revision in
@@ -204,4 +212,5 @@ committed b next pages last sum h =
           (named b next pages last sum h) (log_of b next pages last sum h block at within b.revision refl goes nexts);
       revision = λ block at goes within. revision_is b next pages last sum h block at within b.revision refl goes;
       class = class_of_kind (checksum_tag b next) (kind_of_cases kind (checksum_tag b next) (kind_cases next) (kind_is kind size (kind_cases next) (size_small b next pages last sum h)));
+      padding = padding_is b next pages last sum h;
     }

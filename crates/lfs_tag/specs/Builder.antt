@@ -1,5 +1,5 @@
 -- A commit that is being built, and what its pages make of a block's log.
-use Rattle.std.specs.Prelude.{◌≡◌, ◌<◌, ◌≤◌, ℕ, ◌+◌, ◌-◌, List, [], ◌∷◌, ◌++◌, length, drop, Option, Some, None, unwrap_or}
+use Rattle.std.specs.Prelude.{◌≡◌, ◌<◌, ◌≤◌, ℕ, ◌+◌, ◌-◌, List, [], ◌∷◌, ◌++◌, length, drop, replicate, Option, Some, None, unwrap_or}
 use Rattle.lfs_model.specs.Tag.{class_of, tag_with, carried}
 use Rattle.lfs_model.specs.Log.{LogEntry, chain_of, revision_of}
 use Rattle.lfs_model.specs.Commit.{entries_size, page_end, next_at, checksum_type}
@@ -64,3 +64,4 @@ pub record AreCommitted (b : Building) (next : Option (List ℕ)) (pages : List 
   pub revision : (block : List ℕ) (at : ℕ) → GoesTo b.revision b.previous block at → at + length pages ≤ length block
       → revision_of (overwritten block at pages) ≡ unwrap_or b.revision (revision_of block)
   pub class : class_of (checksum_tag b next) ≡ 5
+  pub padding : drop (checksum_start b + 8) pages ≡ replicate (padded_end b - (checksum_start b + 8)) 0xff

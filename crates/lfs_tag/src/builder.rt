@@ -1,14 +1,15 @@
 // Commits, written.
 
-ghost use Rattle.std.specs.Prelude.{◌≡◌, ℕ, IfSome, slice_index, ◌≢◌, ◌+◌, ◌-◌, ◌≤◌, ◌<◌, ◌^◌, ◌++◌, [], ◌∷◌, ◌↔◌, length, take, drop, min, true, replicate, IsOk, IfOk, IfErr};
+ghost use Rattle.std.specs.Prelude.{◌≡◌, ℕ, IfSome, slice_index, ◌≢◌, ◌+◌, ◌-◌, ◌≤◌, ◌<◌, ◌^◌, ◌++◌, [], ◌↔◌, length, take, min, true, replicate, IsOk, IfOk, IfErr};
 ghost use Rattle.byteorder.specs.Endian.{big_bytes, little_bytes};
 ghost use Rattle.lfs_model.specs.Crc.{crc_of};
+ghost use Rattle.lfs_model.specs.Log.{LogEntry};
 ghost use Rattle.lfs_model.specs.Tag.{IsValid, class_of, size_of, tag_with};
 ghost use Rattle.lfs_model.specs.Geometry.{is_page};
 ghost use Rattle.lfs_model.specs.Content.{no_id};
 ghost use Rattle.lfs_model.specs.Blocks.{overwritten};
 ghost use Rattle.lfs_model.specs.Commit.{checksum_type};
-ghost use Rattle.lfs_tag.specs.Builder.{Building, with_entry, checksum_start, padded_end, AreCommitted};
+ghost use Rattle.lfs_tag.specs.Builder.{with_entry, padded_end, AreCommitted};
 
 use crate::crc;
 use crate::kinds::{CHECKSUM, TURNED_CHECKSUM};
@@ -72,7 +73,8 @@ fn write_entry(buf: &mut [u8], at: usize, stored: u32, bytes: &[u8]) -> usize
     ensures end { result ≡ min (at + 4 + length bytes.now) (2 ^ 64 - 1) }
     ensures exact { result ≤ length buf.old → result ≡ at + 4 + length bytes.now }
     ensures len { length buf.new ≡ length buf.old }
-    ensures bytes { result ≤ length buf.old → buf.new ≡ overwritten buf.old at (big_bytes 4 stored ++ bytes.now) }
+    ensures bytes { result ≤ length buf.old
+        → buf.new ≡ overwritten buf.old at (big_bytes 4 stored ++ bytes.now) }
 {
     let end = at.saturating_add(4).saturating_add(bytes.len());
     if end <= buf.len() {
@@ -86,8 +88,9 @@ fn seal(buf: &mut [u8], at: usize, stored: u32, end: usize)
     requires room { at + 8 ≤ end }
     requires within { end ≤ length buf.old }
     ensures fits { crc_of 0xffffffff (take at buf.old ++ big_bytes 4 stored) < 2 ^ 32 }
-    ensures bytes { buf.new ≡ overwritten buf.old at (big_bytes 4 stored
-        ++ (little_bytes 4 (crc_of 0xffffffff (take at buf.old ++ big_bytes 4 stored)) ++ replicate (end - (at + 8)) 255)) }
+    ensures bytes { let sum = crc_of 0xffffffff (take at buf.old ++ big_bytes 4 stored) in
+        buf.new ≡ overwritten buf.old at (big_bytes 4 stored
+        ++ (little_bytes 4 sum ++ replicate (end - (at + 8)) 255)) }
 {
     BigEndian::write_u32(&mut buf[at..], stored);
     let sum = crc(0xffff_ffff, &buf[..at + 4]);
@@ -122,7 +125,13 @@ impl<'a> CommitBuilder<'a> {
         revision: Option<u32>,
     ) -> CommitBuilder<'a>
         requires { is_page page ≡ true }
-        ensures { result ≡ record { page = page; room = length buf.old; previous = previous; revision = revision; entries = [] } }
+        ensures { result ≡ record {
+          page = page;
+          room = length buf.old;
+          previous = previous;
+          revision = revision;
+          entries = [];
+        } }
     {
         let len = match revision {
             Some(revision) => write_revision(buf, revision),
@@ -143,7 +152,8 @@ impl<'a> CommitBuilder<'a> {
         requires valid { IsValid tag }
         requires other { class_of tag ≢ 5 }
         requires bytes { length bytes.now ≡ size_of tag }
-        ensures { self.new ≡ with_entry (record { tag = tag; bytes = bytes.now }) self.old }
+        ensures { let entry : LogEntry = record { tag = tag; bytes = bytes.now } in
+            self.new ≡ with_entry entry self.old }
     {
         let stored = tag.encode(self.last);
         let buf = &mut *self.buf;
@@ -181,7 +191,6 @@ impl<'a> CommitBuilder<'a> {
         ensures fits { IsOk result ↔ (padded_end self.entry ≤ self.entry.room) }
         ensures error { IfErr result (λ e. e ≡ Error.TooBig) }
         ensures size { IfOk result (λ pages. length pages.now ≡ padded_end self.entry) }
-        ensures padding { IfOk result (λ pages. drop (checksum_start self.entry + 8) pages.now ≡ replicate (padded_end self.entry - (checksum_start self.entry + 8)) 255) }
         ensures commit { IfOk result (λ pages. AreCommitted self.entry next pages.now) }
     {
         let end = self.padded_end();

@@ -1,10 +1,12 @@
+// What a commit builder was given, for its contract alone.
+
 ghost use Rattle.std.specs.Prelude.{◌≡◌};
 ghost use Rattle.std.specs.Borrow.{ftrue};
 ghost use Rattle.lfs_tag.specs.Builder.{Building};
 
 use std::marker::Model;
 
-// What was pushed, which only proofs read. It takes no memory.
+// It takes no memory, and its function does nothing at run time.
 #[derive(Drop)]
 pub(crate) struct Pushed {
     pub(crate) ghost so_far: { Building },

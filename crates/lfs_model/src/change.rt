@@ -12,7 +12,8 @@ ghost use Rattle.lfs_model.specs.Examples.{raw_root, raw_file, raw_content, shif
 /// Changes do what their entries do, in turn.
 pub fn changes_are_made()
     // "b" comes, "a" comes before it and goes again, and "b" gets an attribute.
-    ensures shifted { changed_by (raw_content (raw_root ∷ [])) shifting_changes ≡ Some (raw_content (raw_root ∷ record (raw_file (codes "b")) { attributes = (0x41, codes "x") ∷ [] } ∷ [])) }
+    ensures shifted { changed_by (raw_content (raw_root ∷ [])) shifting_changes
+        ≡ Some (raw_content (raw_root ∷ record (raw_file (codes "b")) { attributes = (0x41, codes "x") ∷ [] } ∷ [])) }
     ensures tags { map (λ (e : LogEntry). e.tag) (entries_of_changes shifting_changes)
         ≡ 0x40100400 ∷ 0x00100401 ∷ 0x20100400 ∷ 0x40100400 ∷ 0x00100401 ∷ 0x20100400 ∷ 0x4ff00400 ∷ 0x34100401 ∷ [] }
     ensures removed { changed_by (raw_content (raw_file (codes "a") ∷ [])) (PutAttribute 0 0x41 (codes "x") ∷ RemoveAttribute 0 0x42 ∷ RemoveAttribute 0 0x41 ∷ [])

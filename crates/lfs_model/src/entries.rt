@@ -54,7 +54,8 @@ pub fn entries_make_slots()
     ensures tail { content_after_all no_content (tail_entry false (Some (2, 3)) ∷ tail_entry true (Some (4, 5)) ∷ [])
         ≡ Some (record no_content { tail = Some (record { hard = true; to = (4, 5) }) }) }
     ensures no_tail { content_after_all no_content (tail_entry true (Some (2, 3)) ∷ tail_entry true None ∷ []) ≡ Some no_content }
-    ensures any_id { content_after_all no_content (entry_with soft_tail_type 0 (tail_entry false None).bytes ∷ []) ≡ Some no_content }
+    ensures any_id { content_after_all no_content (entry_with soft_tail_type 0 (tail_entry false None).bytes ∷ [])
+        ≡ Some no_content }
     ensures move_state { content_after_all no_content (move_word_entry 0x4ff00400 (0, 1) ∷ move_word_entry 0x80000000 (0, 0) ∷ [])
         ≡ Some (record no_content { move = record no_gstate { sync = true } }) }
 {}
@@ -80,7 +81,8 @@ pub fn bad_entry_is_refused()
     ensures directory_len { content_after_all no_content (entry_with file_name_type 0 (codes "a") ∷ entry_with directory_struct_type 0 (codes "1234567") ∷ []) ≡ None }
     ensures list_len { content_after_all no_content (entry_with file_name_type 0 (codes "a") ∷ entry_with ctz_struct_type 0 (codes "123456789") ∷ []) ≡ None }
     ensures create_len { content_after_all no_content (entry_with create_type 0 (codes "1") ∷ []) ≡ None }
-    ensures delete_len { content_after_all no_content (entry_with create_type 0 [] ∷ entry_with delete_type 0 (codes "1") ∷ []) ≡ None }
+    ensures delete_len { content_after_all no_content (entry_with create_type 0 [] ∷ entry_with delete_type 0 (codes "1") ∷ [])
+        ≡ None }
     ensures tail_len { content_after_all no_content (entry_with hard_tail_type no_id (codes "1234") ∷ []) ≡ None }
     ensures move_len { content_after_all no_content (entry_with move_state_type no_id (codes "12345678") ∷ []) ≡ None }
     ensures removed_name { content_after_all no_content (record { tag = tag_with file_name_type 0 0x3ff; bytes = [] } ∷ []) ≡ None }
@@ -99,7 +101,8 @@ pub fn name_has_its_place()
 pub fn slot_holds_its_bytes()
     ensures name { bytes_at (raw_root ∷ raw_file (codes "b") ∷ []) file_name_type 1 ≡ Some (codes "b") }
     ensures structure { bytes_at (raw_root ∷ raw_file (codes "b") ∷ []) inline_struct_type 1 ≡ Some [] }
-    ensures attribute { bytes_at (record (raw_file (codes "b")) { attributes = (0x41, codes "x") ∷ [] } ∷ []) 0x341 0 ≡ Some (codes "x") }
+    ensures attribute { bytes_at (record (raw_file (codes "b")) { attributes = (0x41, codes "x") ∷ [] } ∷ []) 0x341 0
+        ≡ Some (codes "x") }
     ensures no_attribute { bytes_at (record (raw_file (codes "b")) { attributes = (0x41, codes "x") ∷ [] } ∷ []) 0x342 0 ≡ None }
     ensures other_name { bytes_at (raw_root ∷ []) file_name_type 0 ≡ None }
     ensures other_struct { bytes_at (raw_file (codes "b") ∷ []) ctz_struct_type 0 ≡ None }

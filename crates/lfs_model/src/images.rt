@@ -38,7 +38,12 @@ pub fn file_is_shown()
         no_gstate (0 ∷ 1 ∷ [])) }
 
     // The tree is that of the fresh image with an empty file added.
-    ensures appended { HasView appended_image (record { tree = added (codes "b" ∷ []) (FileNode [] []) empty_tree; gstate = no_gstate; used = 0 ∷ 1 ∷ [] }) }
+    ensures appended { HasView appended_image (record {
+      tree = added (codes "b" ∷ []) (FileNode []
+          []) empty_tree;
+      gstate = no_gstate;
+      used = 0 ∷ 1 ∷ [];
+    }) }
 
     // The erased bytes of this storage are zero.
     ensures zeroed { HasView zeroed_image
@@ -172,6 +177,7 @@ pub fn other_profile_is_read_only()
     ensures long_entry_read_only { IsReadOnly (image_with (root_block (file_entries 1 (codes "a") (replicate 600 97)) 0x961dcdc4 107) []) }
 
     // The superblock limits names to 32 bytes.
-    ensures name_limit { HasView (image_with (other_root (superblock_with 0x00020000 4096 32) 0xe9693de0) []) (view_with (([], DirectoryNode [] []) ∷ []) no_gstate (0 ∷ 1 ∷ [])) }
+    ensures name_limit { HasView (image_with (other_root (superblock_with 0x00020000 4096 32) 0xe9693de0) [])
+        (view_with (([], DirectoryNode [] []) ∷ []) no_gstate (0 ∷ 1 ∷ [])) }
     ensures name_limit_read_only { IsReadOnly (image_with (other_root (superblock_with 0x00020000 4096 32) 0xe9693de0) []) }
 {}

@@ -10,11 +10,13 @@ ghost use Rattle.lfs_model.specs.Examples.{IsRefused, root_block, pair_block, im
 pub fn bad_thread_is_refused()
     // The root's tail names the root.
     ensures itself { IsRefused (image_with (root_block (tail_entry false (Some (0, 1)) ∷ []) 0x19dcec1e 192) []) }
-    ensures block_twice { IsRefused (image_with (root_block (tail_entry false (Some (2, 2)) ∷ []) 0x7b687562 192) (pair_block [] 0x43f29ceb 244 ∷ [])) }
+    ensures block_twice { IsRefused (image_with (root_block (tail_entry false (Some (2, 2)) ∷ []) 0x7b687562 192)
+        (pair_block [] 0x43f29ceb 244 ∷ [])) }
     ensures one_null { IsRefused (image_with (root_block (tail_entry false (Some (2, 0xffffffff)) ∷ []) 0xa3905289 192) []) }
 
     // Block 2 has a commit, and block 16 isn't there.
-    ensures out_of_range { IsRefused (image_with (root_block (tail_entry false (Some (2, 16)) ∷ []) 0x45f64334 192) (pair_block [] 0x43f29ceb 244 ∷ [])) }
+    ensures out_of_range { IsRefused (image_with (root_block (tail_entry false (Some (2, 16)) ∷ []) 0x45f64334 192)
+        (pair_block [] 0x43f29ceb 244 ∷ [])) }
     ensures unwritten_pair { IsRefused (image_with (root_block (tail_entry false (Some (2, 3)) ∷ []) 0xb7c275fc 192) []) }
 {}
 
@@ -24,7 +26,8 @@ pub fn bad_branch_is_refused()
     ensures twice { IsRefused
         (image_with (root_block (directory_entries 1 (codes "d") (2, 3) ++ directory_entries 2 (codes "e") (2, 3) ++ tail_entry false (Some (2, 3)) ∷ []) 0x9b4a311a 158)
         (pair_block [] 0x43f29ceb 244 ∷ [])) }
-    ensures absent { IsRefused (image_with (root_block (directory_entries 1 (codes "d") (2, 3)) 0x4c654d37 187) (pair_block [] 0x43f29ceb 244 ∷ [])) }
+    ensures absent { IsRefused (image_with (root_block (directory_entries 1 (codes "d") (2, 3)) 0x4c654d37 187)
+        (pair_block [] 0x43f29ceb 244 ∷ [])) }
 
     // It names a pair that continues the root.
     ensures follower { IsRefused
@@ -34,8 +37,10 @@ pub fn bad_branch_is_refused()
 
 /// Names have a form, and increase in their directory.
 pub fn bad_name_is_refused()
-    ensures descending { IsRefused (image_with (root_block (file_entries 1 (codes "b") [] ++ file_entries 2 (codes "a") []) 0x5f10df56 186) []) }
-    ensures twice { IsRefused (image_with (root_block (file_entries 1 (codes "a") [] ++ file_entries 2 (codes "a") []) 0xb5960234 186) []) }
+    ensures descending { IsRefused (image_with (root_block (file_entries 1 (codes "b") [] ++ file_entries 2 (codes "a")
+        []) 0x5f10df56 186) []) }
+    ensures twice { IsRefused (image_with (root_block (file_entries 1 (codes "a") [] ++ file_entries 2 (codes "a")
+        []) 0xb5960234 186) []) }
     ensures dot { IsRefused (image_with (root_block (file_entries 1 (codes ".") []) 0x78002b02 195) []) }
     ensures slash { IsRefused (image_with (root_block (file_entries 1 (codes "a/b") []) 0xd9b0dbad 193) []) }
     ensures long { IsRefused (image_with (root_block (file_entries 1 (replicate 256 97) []) 0xe28fdd43 196) []) }

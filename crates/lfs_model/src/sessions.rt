@@ -12,26 +12,33 @@ pub fn paths_are_checked()
     ensures forms { fresh_replies 4096 256 16 (each_at 2
         (ops.Stat [] ∷ ops.Stat (codes "a") ∷ ops.Stat (codes "/a/") ∷ ops.Stat (codes "//a") ∷ ops.Stat (codes "/.") ∷ ops.Stat (codes "/a/../b")
         ∷ ops.Stat (47 ∷ 0 ∷ []) ∷ ops.Stat (codes "/") ∷ ops.Stat (codes "/a") ∷ ops.Stat (codes "/a/b") ∷ []))
-        ≡ ops.Refused Invalid ∷ ops.Refused Invalid ∷ ops.Refused Invalid ∷ ops.Refused Invalid ∷ ops.Refused Invalid ∷ ops.Refused Invalid
+        ≡ ops.Refused Invalid ∷ ops.Refused Invalid ∷ ops.Refused Invalid ∷ ops.Refused Invalid
+        ∷ ops.Refused Invalid ∷ ops.Refused Invalid
         ∷ ops.Refused Invalid ∷ ops.StatIs None ∷ ops.Refused NoEnt ∷ ops.Refused NoEnt ∷ [] }
     ensures lengths { fresh_replies 4096 256 16 (each_at 2
-        (ops.Mkdir (47 ∷ replicate 255 97) ∷ ops.Mkdir (47 ∷ replicate 256 97) ∷ ops.Mkdir (codes "/") ∷ ops.Mkdir (codes "/x/y") ∷ ops.Mkdir (codes "/littlefs") ∷ []))
+        (ops.Mkdir (47 ∷ replicate 255 97) ∷ ops.Mkdir (47 ∷ replicate 256 97) ∷ ops.Mkdir (codes "/")
+        ∷ ops.Mkdir (codes "/x/y") ∷ ops.Mkdir (codes "/littlefs") ∷ []))
         ≡ ops.Done ∷ ops.Refused NameTooLong ∷ ops.Refused Exist ∷ ops.Refused NoEnt ∷ ops.Done ∷ [] }
 {}
 
 /// Which flags an open takes, and what they do.
 pub fn flags_are_checked()
     ensures refused { fresh_replies 4096 256 16 (each_at 2
-        (ops.Open (codes "/a") no_flags ∷ ops.Open (codes "/a") (record for_new { read = true }) ∷ ops.Open (codes "/a") (record for_read { create = true })
-        ∷ ops.Open (codes "/a") (record for_write { exclusive = true }) ∷ ops.Open (codes "/a") (record for_read { unknown = true }) ∷ ops.Open (codes "/a") for_write ∷ []))
-        ≡ ops.Refused Invalid ∷ ops.Refused Invalid ∷ ops.Refused Invalid ∷ ops.Refused Invalid ∷ ops.Refused Invalid ∷ ops.Refused NoEnt ∷ [] }
+        (ops.Open (codes "/a") no_flags ∷ ops.Open (codes "/a") (record for_new { read = true })
+        ∷ ops.Open (codes "/a") (record for_read { create = true })
+        ∷ ops.Open (codes "/a") (record for_write { exclusive = true })
+        ∷ ops.Open (codes "/a") (record for_read { unknown = true }) ∷ ops.Open (codes "/a") for_write ∷ []))
+        ≡ ops.Refused Invalid ∷ ops.Refused Invalid ∷ ops.Refused Invalid ∷ ops.Refused Invalid
+        ∷ ops.Refused Invalid ∷ ops.Refused NoEnt ∷ [] }
 
     // Truncate empties a file at the next sync, and append writes at its end.
     ensures used { fresh_replies 4096 256 16 (each_at 2
-        (ops.Open (codes "/a") for_new ∷ ops.Write 0 (codes "hello") ∷ ops.Close 0 ∷ ops.Open (codes "/a") (record for_new { exclusive = true })
+        (ops.Open (codes "/a") for_new ∷ ops.Write 0 (codes "hello") ∷ ops.Close 0
+        ∷ ops.Open (codes "/a") (record for_new { exclusive = true })
         ∷ ops.Open (codes "/a") (record for_write { append = true }) ∷ ops.Write 0 (codes "!") ∷ ops.Close 0
         ∷ ops.Open (codes "/a") for_read ∷ ops.Read 0 9 ∷ ops.Close 0
-        ∷ ops.Open (codes "/a") (record for_write { truncate = true }) ∷ ops.Stat (codes "/a") ∷ ops.Close 0 ∷ ops.Stat (codes "/a") ∷ []))
+        ∷ ops.Open (codes "/a") (record for_write { truncate = true }) ∷ ops.Stat (codes "/a") ∷ ops.Close 0
+        ∷ ops.Stat (codes "/a") ∷ []))
         ≡ ops.Opened 0 ∷ ops.Count 5 ∷ ops.Done ∷ ops.Refused Exist
         ∷ ops.Opened 0 ∷ ops.Count 1 ∷ ops.Done
         ∷ ops.Opened 0 ∷ ops.Bytes (codes "hello!") ∷ ops.Done
@@ -41,8 +48,10 @@ pub fn flags_are_checked()
 /// Positions, gaps and the greatest size of a file.
 pub fn positions_are_kept()
     ensures { fresh_replies 1024 128 64 (each_at 2
-        (ops.Open (codes "/a") for_new ∷ ops.Seek 0 2147483647 ∷ ops.Write 0 (0 ∷ []) ∷ ops.Write 0 [] ∷ ops.Seek 0 2147483648 ∷ ops.Truncate 0 2147483648
-        ∷ ops.Seek 0 3 ∷ ops.Write 0 (codes "x") ∷ ops.Stat (codes "/a") ∷ ops.Sync 0 ∷ ops.Stat (codes "/a") ∷ ops.Sync 0 ∷ ops.Close 0
+        (ops.Open (codes "/a") for_new ∷ ops.Seek 0 2147483647 ∷ ops.Write 0 (0 ∷ []) ∷ ops.Write 0 []
+        ∷ ops.Seek 0 2147483648 ∷ ops.Truncate 0 2147483648
+        ∷ ops.Seek 0 3 ∷ ops.Write 0 (codes "x") ∷ ops.Stat (codes "/a") ∷ ops.Sync 0 ∷ ops.Stat (codes "/a")
+        ∷ ops.Sync 0 ∷ ops.Close 0
         ∷ ops.Open (codes "/a") for_read ∷ ops.Read 0 2 ∷ ops.Read 0 9 ∷ ops.Read 0 9 ∷ []))
         ≡ ops.Opened 0 ∷ ops.Done ∷ ops.Refused TooBig ∷ ops.Count 0 ∷ ops.Refused Invalid ∷ ops.Refused TooBig
         ∷ ops.Done ∷ ops.Count 1 ∷ ops.StatIs (Some 0) ∷ ops.Done ∷ ops.StatIs (Some 4) ∷ ops.Done ∷ ops.Done
@@ -52,13 +61,18 @@ pub fn positions_are_kept()
 /// One writer and 16 readers, and what can't be done to an open file.
 pub fn open_files_are_busy()
     ensures { fresh_replies 4096 256 16 (each_at 2
-        (ops.Open (codes "/a") for_new ∷ ops.Open (codes "/b") for_new ∷ ops.Open (codes "/a") for_read ∷ ops.Remove (codes "/a") ∷ ops.Close 0
+        (ops.Open (codes "/a") for_new ∷ ops.Open (codes "/b") for_new ∷ ops.Open (codes "/a") for_read
+        ∷ ops.Remove (codes "/a") ∷ ops.Close 0
         ∷ replicate 17 (ops.Open (codes "/a") for_read)
-        ++ ops.Open (codes "/a") for_write ∷ ops.Open (codes "/b") for_new ∷ ops.Read 16 1 ∷ ops.Write 0 [] ∷ ops.Read 17 1
-        ∷ ops.Rename (codes "/a") (codes "/c") ∷ ops.Rename (codes "/b") (codes "/a") ∷ ops.Close 3 ∷ ops.Read 3 1 ∷ ops.Open (codes "/a") for_read ∷ []))
+        ++ ops.Open (codes "/a") for_write ∷ ops.Open (codes "/b") for_new ∷ ops.Read 16 1 ∷ ops.Write 0 []
+        ∷ ops.Read 17 1
+        ∷ ops.Rename (codes "/a") (codes "/c") ∷ ops.Rename (codes "/b") (codes "/a") ∷ ops.Close 3 ∷ ops.Read 3 1
+        ∷ ops.Open (codes "/a") for_read ∷ []))
         ≡ ops.Opened 0 ∷ ops.Refused Busy ∷ ops.Refused Busy ∷ ops.Refused Busy ∷ ops.Done
-        ∷ ops.Opened 0 ∷ ops.Opened 1 ∷ ops.Opened 2 ∷ ops.Opened 3 ∷ ops.Opened 4 ∷ ops.Opened 5 ∷ ops.Opened 6 ∷ ops.Opened 7
-        ∷ ops.Opened 8 ∷ ops.Opened 9 ∷ ops.Opened 10 ∷ ops.Opened 11 ∷ ops.Opened 12 ∷ ops.Opened 13 ∷ ops.Opened 14 ∷ ops.Opened 15 ∷ ops.Refused Busy
+        ∷ ops.Opened 0 ∷ ops.Opened 1 ∷ ops.Opened 2 ∷ ops.Opened 3 ∷ ops.Opened 4 ∷ ops.Opened 5 ∷ ops.Opened 6
+        ∷ ops.Opened 7
+        ∷ ops.Opened 8 ∷ ops.Opened 9 ∷ ops.Opened 10 ∷ ops.Opened 11 ∷ ops.Opened 12 ∷ ops.Opened 13
+        ∷ ops.Opened 14 ∷ ops.Opened 15 ∷ ops.Refused Busy
         ∷ ops.Refused Busy ∷ ops.Opened 16 ∷ ops.Refused BadFile ∷ ops.Refused BadFile ∷ ops.Refused BadFile
         ∷ ops.Refused Busy ∷ ops.Refused Busy ∷ ops.Done ∷ ops.Refused BadFile ∷ ops.Opened 3 ∷ [] }
 {}
@@ -66,14 +80,17 @@ pub fn open_files_are_busy()
 /// What a rename replaces, and what it takes along.
 pub fn renames_take_all_along()
     ensures onto_itself { fresh_replies 4096 256 16 (each_at 2
-        (ops.Rename (codes "/a") (codes "/a/b/c") ∷ ops.Rename (codes "/") (codes "/a") ∷ ops.Rename (codes "/a") (codes "/b") ∷ ops.Open (codes "/a") for_new ∷ ops.Remove (codes "/a") ∷ ops.Close 0
+        (ops.Rename (codes "/a") (codes "/a/b/c") ∷ ops.Rename (codes "/") (codes "/a")
+        ∷ ops.Rename (codes "/a") (codes "/b") ∷ ops.Open (codes "/a") for_new ∷ ops.Remove (codes "/a")
+        ∷ ops.Close 0
         ∷ ops.Rename (codes "/a") (codes "/a") ∷ ops.Rename (codes "/a") (codes "/a/b/c") ∷ []))
         ≡ ops.Refused Invalid ∷ ops.Refused Invalid ∷ ops.Refused NoEnt ∷ ops.Opened 0 ∷ ops.Refused Busy ∷ ops.Done
         ∷ ops.Done ∷ ops.Refused Invalid ∷ [] }
 
     // A file leaves its directory, which can then be removed.
     ensures across { fresh_replies 4096 256 16
-        ((2, ops.Mkdir (codes "/s")) ∷ each_at 4 (ops.Open (codes "/s/f") for_new ∷ ops.Close 0 ∷ ops.Remove (codes "/s") ∷ ops.Rename (codes "/s/f") (codes "/g") ∷ ops.Remove (codes "/s") ∷ [])
+        ((2, ops.Mkdir (codes "/s")) ∷ each_at 4 (ops.Open (codes "/s/f") for_new ∷ ops.Close 0
+        ∷ ops.Remove (codes "/s") ∷ ops.Rename (codes "/s/f") (codes "/g") ∷ ops.Remove (codes "/s") ∷ [])
         ++ (2, ops.ListAll (codes "/")) ∷ [])
         ≡ ops.Done ∷ ops.Opened 0 ∷ ops.Done ∷ ops.Refused NotEmpty ∷ ops.Done ∷ ops.Done
         ∷ ops.Items (record { name = codes "g"; size = Some 0 } ∷ []) ∷ [] }
@@ -81,59 +98,80 @@ pub fn renames_take_all_along()
     // A directory goes with what stands in it, and replaces an empty one.
     ensures directories { fresh_replies 4096 256 64
         ((2, ops.Mkdir (codes "/a")) ∷ (4, ops.Mkdir (codes "/a/b")) ∷ (6, ops.Mkdir (codes "/c")) ∷ each_at 8
-        (ops.Open (codes "/a/b/f") for_new ∷ ops.Write 0 (codes "hello") ∷ ops.Rename (codes "/a") (codes "/c") ∷ ops.Close 0 ∷ ops.SetAttr (codes "/a") 0x41 (codes "x")
-        ∷ ops.Rename (codes "/c") (codes "/a") ∷ ops.Rename (codes "/a") (codes "/c") ∷ ops.Stat (codes "/a") ∷ ops.Stat (codes "/c/b/f") ∷ ops.GetAttr (codes "/c") 0x41
-        ∷ ops.Rename (codes "/c/b/f") (codes "/c/b") ∷ ops.Rename (codes "/c/b/f") (codes "/c") ∷ ops.Open (codes "/g") for_new ∷ ops.Close 0 ∷ ops.Rename (codes "/c") (codes "/g") ∷ ops.Stat (codes "/g/x")
-        ∷ ops.Rename (codes "/c/b/f") (codes "/g") ∷ ops.Stat (codes "/g") ∷ ops.ListAll (codes "/c") ∷ ops.ListAll (codes "/c/b") ∷ ops.ListAll (codes "/g") ∷ []))
+        (ops.Open (codes "/a/b/f") for_new ∷ ops.Write 0 (codes "hello") ∷ ops.Rename (codes "/a") (codes "/c")
+        ∷ ops.Close 0 ∷ ops.SetAttr (codes "/a") 0x41 (codes "x")
+        ∷ ops.Rename (codes "/c") (codes "/a") ∷ ops.Rename (codes "/a") (codes "/c") ∷ ops.Stat (codes "/a")
+        ∷ ops.Stat (codes "/c/b/f") ∷ ops.GetAttr (codes "/c") 0x41
+        ∷ ops.Rename (codes "/c/b/f") (codes "/c/b") ∷ ops.Rename (codes "/c/b/f") (codes "/c")
+        ∷ ops.Open (codes "/g") for_new ∷ ops.Close 0 ∷ ops.Rename (codes "/c") (codes "/g")
+        ∷ ops.Stat (codes "/g/x")
+        ∷ ops.Rename (codes "/c/b/f") (codes "/g") ∷ ops.Stat (codes "/g") ∷ ops.ListAll (codes "/c")
+        ∷ ops.ListAll (codes "/c/b") ∷ ops.ListAll (codes "/g") ∷ []))
         ≡ ops.Done ∷ ops.Done ∷ ops.Done
         ∷ ops.Opened 0 ∷ ops.Count 5 ∷ ops.Refused Busy ∷ ops.Done ∷ ops.Done
         ∷ ops.Refused NotEmpty ∷ ops.Done ∷ ops.Refused NoEnt ∷ ops.StatIs (Some 5) ∷ ops.Bytes (codes "x")
         ∷ ops.Refused IsDir ∷ ops.Refused IsDir ∷ ops.Opened 0 ∷ ops.Done ∷ ops.Refused NotDir ∷ ops.Refused NotDir
-        ∷ ops.Done ∷ ops.StatIs (Some 5) ∷ ops.Items (record { name = codes "b"; size = None } ∷ []) ∷ ops.Items [] ∷ ops.Refused NotDir ∷ [] }
+        ∷ ops.Done ∷ ops.StatIs (Some 5) ∷ ops.Items (record { name = codes "b"; size = None } ∷ []) ∷ ops.Items []
+        ∷ ops.Refused NotDir ∷ [] }
 {}
 
 /// What space an operation needs, and what a writer holds.
 pub fn space_is_counted()
     ensures two_blocks { fresh_replies 1024 128 2 ((2, ops.Open (codes "/a") for_new) ∷ []) ≡ ops.Refused NoSpace ∷ [] }
     ensures four_blocks { fresh_replies 1024 128 4 (each_at 2
-        (ops.Mkdir (codes "/d") ∷ ops.Open (codes "/a") for_new ∷ ops.Write 0 (1 ∷ []) ∷ ops.Mkdir (codes "/d") ∷ ops.Close 0 ∷ ops.UsedCount ∷ []))
+        (ops.Mkdir (codes "/d") ∷ ops.Open (codes "/a") for_new ∷ ops.Write 0 (1 ∷ []) ∷ ops.Mkdir (codes "/d")
+        ∷ ops.Close 0 ∷ ops.UsedCount ∷ []))
         ≡ ops.Refused NoSpace ∷ ops.Opened 0 ∷ ops.Count 1 ∷ ops.Refused NoSpace ∷ ops.Done ∷ ops.Count 2 ∷ [] }
 
     // 5,000 bytes take five blocks. A write elsewhere turns the writer, which then holds them twice.
     ensures not_turned { fresh_replies 1024 128 13
-        (each_at 2 (ops.Open (codes "/a") for_new ∷ ops.Write 0 (replicate 5000 7) ∷ ops.Seek 0 10 ∷ ops.Write 0 (1 ∷ []) ∷ ops.Close 0 ∷ []) ++ (7, ops.Stat (codes "/a")) ∷ [])
+        (each_at 2 (ops.Open (codes "/a") for_new ∷ ops.Write 0 (replicate 5000 7) ∷ ops.Seek 0 10
+        ∷ ops.Write 0 (1 ∷ []) ∷ ops.Close 0 ∷ []) ++ (7, ops.Stat (codes "/a")) ∷ [])
         ≡ ops.Opened 0 ∷ ops.Count 5000 ∷ ops.Done ∷ ops.Refused NoSpace ∷ ops.Done ∷ ops.StatIs (Some 5000) ∷ [] }
     ensures turned { fresh_replies 1024 128 14
-        (each_at 2 (ops.Open (codes "/a") for_new ∷ ops.Write 0 (replicate 5000 7) ∷ ops.Seek 0 10 ∷ ops.Write 0 (1 ∷ []) ∷ ops.Seek 0 20 ∷ ops.Write 0 (1 ∷ []) ∷ ops.Close 0 ∷ []) ++ (7, ops.Stat (codes "/a")) ∷ [])
-        ≡ ops.Opened 0 ∷ ops.Count 5000 ∷ ops.Done ∷ ops.Count 1 ∷ ops.Done ∷ ops.Count 1 ∷ ops.Done ∷ ops.StatIs (Some 5000) ∷ [] }
+        (each_at 2 (ops.Open (codes "/a") for_new ∷ ops.Write 0 (replicate 5000 7) ∷ ops.Seek 0 10
+        ∷ ops.Write 0 (1 ∷ []) ∷ ops.Seek 0 20 ∷ ops.Write 0 (1 ∷ []) ∷ ops.Close 0 ∷ [])
+        ++ (7, ops.Stat (codes "/a")) ∷ [])
+        ≡ ops.Opened 0 ∷ ops.Count 5000 ∷ ops.Done ∷ ops.Count 1 ∷ ops.Done ∷ ops.Count 1 ∷ ops.Done
+        ∷ ops.StatIs (Some 5000) ∷ [] }
     ensures truncated { fresh_replies 1024 128 13
-        (each_at 2 (ops.Open (codes "/a") for_new ∷ ops.Write 0 (replicate 5000 7) ∷ ops.Truncate 0 4000 ∷ ops.Truncate 0 5000 ∷ ops.Close 0 ∷ []) ++ (6, ops.Stat (codes "/a")) ∷ [])
+        (each_at 2 (ops.Open (codes "/a") for_new ∷ ops.Write 0 (replicate 5000 7) ∷ ops.Truncate 0 4000
+        ∷ ops.Truncate 0 5000 ∷ ops.Close 0 ∷ []) ++ (6, ops.Stat (codes "/a")) ∷ [])
         ≡ ops.Opened 0 ∷ ops.Count 5000 ∷ ops.Done ∷ ops.Refused NoSpace ∷ ops.Done ∷ ops.StatIs (Some 4000) ∷ [] }
 {}
 
 /// What attributes are kept, and how many bytes fit an entry: 428 here, with 128 reserved for contents.
 pub fn attributes_are_kept()
     ensures limit { fresh_replies 1024 128 64 (each_at 2
-        (ops.Open (47 ∷ replicate 255 97) for_new ∷ ops.Close 0 ∷ ops.SetAttr (47 ∷ replicate 255 97) 0x41 (replicate 33 1) ∷ ops.SetAttr (47 ∷ replicate 255 97) 0x41 (replicate 34 2)
-        ∷ ops.GetAttr (47 ∷ replicate 255 97) 0x41 ∷ ops.RemoveAttr (47 ∷ replicate 255 97) 0x41 ∷ ops.GetAttr (47 ∷ replicate 255 97) 0x41 ∷ ops.RemoveAttr (47 ∷ replicate 255 97) 0x41 ∷ []))
+        (ops.Open (47 ∷ replicate 255 97) for_new ∷ ops.Close 0
+        ∷ ops.SetAttr (47 ∷ replicate 255 97) 0x41 (replicate 33 1)
+        ∷ ops.SetAttr (47 ∷ replicate 255 97) 0x41 (replicate 34 2)
+        ∷ ops.GetAttr (47 ∷ replicate 255 97) 0x41 ∷ ops.RemoveAttr (47 ∷ replicate 255 97) 0x41
+        ∷ ops.GetAttr (47 ∷ replicate 255 97) 0x41 ∷ ops.RemoveAttr (47 ∷ replicate 255 97) 0x41 ∷ []))
         ≡ ops.Opened 0 ∷ ops.Done ∷ ops.Done ∷ ops.Refused EntryFull
         ∷ ops.Bytes (replicate 33 1) ∷ ops.Done ∷ ops.Refused NoAttr ∷ ops.Refused NoAttr ∷ [] }
 
     // A missing file is told before too many bytes, and those before a full entry.
     ensures order { fresh_replies 1024 128 64 (each_at 2
-        (ops.SetAttr (codes "/none") 0x41 (replicate 1023 1) ∷ ops.Open (codes "/f") for_new ∷ ops.SetAttr (codes "/f") 0x41 (replicate 1023 1) ∷ ops.SetAttr (codes "/f") 0x41 (replicate 1022 1) ∷ ops.SetAttr (codes "/") 0x41 [] ∷ []))
+        (ops.SetAttr (codes "/none") 0x41 (replicate 1023 1) ∷ ops.Open (codes "/f") for_new
+        ∷ ops.SetAttr (codes "/f") 0x41 (replicate 1023 1) ∷ ops.SetAttr (codes "/f") 0x41 (replicate 1022 1)
+        ∷ ops.SetAttr (codes "/") 0x41 [] ∷ []))
         ≡ ops.Refused NoEnt ∷ ops.Opened 0 ∷ ops.Refused TooBig ∷ ops.Refused EntryFull ∷ ops.Refused Invalid ∷ [] }
 {}
 
 /// A session from a directory to a file of the root.
 pub fn session_goes_through()
     ensures { fresh_replies 1024 128 64
-        ((2, ops.Mkdir (codes "/d")) ∷ each_at 4 (ops.Open (codes "/d/f") for_new ∷ ops.Write 0 (replicate 5000 7) ∷ ops.Seek 0 10 ∷ ops.Write 0 (1 ∷ []) ∷ ops.Close 0 ∷ [])
-        ++ each_at 9 (ops.SetAttr (codes "/d/f") 0x41 (codes "x") ∷ ops.Rename (codes "/d/f") (codes "/g") ∷ ops.Remove (codes "/d") ∷ [])
-        ++ each_at 7 (ops.ListAll (codes "/") ∷ ops.Open (codes "/g") for_read ∷ ops.Read 0 5000 ∷ ops.Close 0 ∷ ops.GetAttr (codes "/g") 0x41 ∷ ops.UsedCount ∷ []))
+        ((2, ops.Mkdir (codes "/d")) ∷ each_at 4 (ops.Open (codes "/d/f") for_new ∷ ops.Write 0 (replicate 5000 7)
+        ∷ ops.Seek 0 10 ∷ ops.Write 0 (1 ∷ []) ∷ ops.Close 0 ∷ [])
+        ++ each_at 9 (ops.SetAttr (codes "/d/f") 0x41 (codes "x") ∷ ops.Rename (codes "/d/f") (codes "/g")
+        ∷ ops.Remove (codes "/d") ∷ [])
+        ++ each_at 7 (ops.ListAll (codes "/") ∷ ops.Open (codes "/g") for_read ∷ ops.Read 0 5000 ∷ ops.Close 0
+        ∷ ops.GetAttr (codes "/g") 0x41 ∷ ops.UsedCount ∷ []))
         ≡ ops.Done ∷ ops.Opened 0 ∷ ops.Count 5000 ∷ ops.Done ∷ ops.Count 1 ∷ ops.Done
         ∷ ops.Done ∷ ops.Done ∷ ops.Done
-        ∷ ops.Items (record { name = codes "g"; size = Some 5000 } ∷ []) ∷ ops.Opened 0 ∷ ops.Bytes (replicate 10 7 ++ 1 ∷ replicate 4989 7) ∷ ops.Done ∷ ops.Bytes (codes "x") ∷ ops.Count 7 ∷ [] }
+        ∷ ops.Items (record { name = codes "g"; size = Some 5000 } ∷ []) ∷ ops.Opened 0 ∷ ops.Bytes (replicate 10 7
+        ++ 1 ∷ replicate 4989 7) ∷ ops.Done ∷ ops.Bytes (codes "x") ∷ ops.Count 7 ∷ [] }
 {}
 
 /// A failed session refuses all but a remount, which begins a session with the tree of the disk.

@@ -1,13 +1,13 @@
 // What the checksum and the log of a block are.
 
-ghost use Rattle.std.specs.Prelude.{◌≡◌, ℕ, ◌≤◌, ◌<◌, ◌^◌, ◌++◌, true, false, List, [], ◌∷◌, Some, None, length, take, slice_set, All, codes};
+ghost use Rattle.std.specs.Prelude.{◌≡◌, ℕ, ◌+◌, ◌≤◌, ◌<◌, ◌^◌, ◌++◌, true, false, List, [], ◌∷◌, Some, None, length, take, slice_set, All, codes};
 ghost use Rattle.byteorder.specs.Endian.{little_bytes};
 ghost use Rattle.lfs_model.specs.Crc.{IsChecksum, crc_of};
 ghost use Rattle.lfs_model.specs.Log.{LogEntry, IsChainOf, chain_of, revision_of};
 ghost use Rattle.lfs_model.specs.Content.{has_commit, is_later, holder, create_type, no_id};
 ghost use Rattle.lfs_model.specs.Written.{entry_with};
 ghost use Rattle.lfs_model.specs.Stored.{unwritten, metadata_block, checksum_entry};
-ghost use Rattle.lfs_model.specs.Examples.{IsRefused, small_disk, turned_block, shifting_block};
+ghost use Rattle.lfs_model.specs.Examples.{IsRefused, small_block, small_disk, turned_block, shifting_block};
 
 /// The checksum that is computed is the remainder of the polynomials, and no other number of 32 bits is.
 pub fn checksum_is_remainder()
@@ -41,6 +41,9 @@ pub fn altered_commit_ends_log()
         ≡ record { commits = take 3 (chain_of shifting_block).commits; end = 768; last = 0x500ffcef } }
     ensures first { (chain_of (slice_set shifting_block 20 0x01)).commits ≡ [] }
     ensures whole { length (chain_of shifting_block).commits ≡ 5 }
+
+    // Padding may be any bytes.
+    ensures padding { (k : ℕ) → k < 76 → (chain_of (slice_set small_block (52 + k) 0x00)).end ≡ 128 }
 {}
 
 /// What ends a commit: a checksum of type 0x500 or 0x501 and of 4 to 1,022 bytes, over all before it and its own tag.

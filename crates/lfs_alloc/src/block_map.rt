@@ -9,7 +9,7 @@ use lfs_device::Error;
 use std::alloc::Global;
 use std::marker::Model;
 
-/// Which blocks are used and which are in flight, that is handed out and not settled yet. No block is both.
+/// Which blocks are used, and which are in flight: handed out, and not settled yet. No block is both.
 ///
 /// A contract sees the state of each block, by its number.
 #[derive(Drop)]
@@ -34,9 +34,9 @@ impl Model for BlockMap {
 }
 
 impl BlockMap {
-    /// A map of so many blocks, all of them free. No other call takes memory.
+    /// A map of the blocks below `block_count`, all of them free. No other call takes memory.
     ///
-    /// NoMemory where there is none for it, about a quarter of a byte for each block.
+    /// `NoMemory` where its memory isn't granted, 16 bytes for each 64 blocks.
     pub fn new(alloc: Global, block_count: u32) -> Result<BlockMap, Error>
         ensures free { IfOk result (λ map. map ≡ replicate block_count Free) }
         ensures error { IfErr result (λ e. e ≡ Error.NoMemory) }
@@ -79,7 +79,7 @@ impl BlockMap {
         is_free
     }
 
-    /// Hands out a free block, which is then in flight until it is settled or released. None where no block is free.
+    /// Hands out a free block, which is then in flight until it is settled or released. None exactly where no block is free.
     ///
     /// The blocks come in turn, from the one after the last that was taken, so that all of them wear alike.
     pub fn take(&mut self) -> Option<u32>

@@ -11,10 +11,10 @@ use std::alloc::Global;
 use std::marker::Model;
 use std::num::NonZeroUsize;
 
-/// At most eight blocks with their bytes, as they were when each was read.
+/// At most eight blocks of a device with their bytes, as they were when each was read.
 ///
-/// A contract sees them as a list, the most recent first. A block that is to be changed on the device is forgotten
-/// before: a cache doesn't notice.
+/// A contract sees them as a list, the most recent first. A change of a block on the device isn't noticed:
+/// the block is to be forgotten before.
 #[derive(Drop)]
 pub struct Cache {
     alloc: Global,
@@ -33,7 +33,9 @@ impl Model for Cache {
 }
 
 impl Cache {
-    /// An empty cache. NoMemory where there is none for it.
+    /// An empty cache.
+    ///
+    /// `NoMemory` where the room for eight entries isn't granted.
     pub fn new(alloc: Global) -> Result<Cache, Error>
         ensures empty { IfOk result (λ cache. cache ≡ []) }
         ensures error { IfErr result (λ e. e ≡ Error.NoMemory) }
@@ -43,36 +45,44 @@ impl Cache {
         Ok(Cache { alloc, recent })
     }
 
-    /// Makes a block the most recent. Where it isn't at hand it is read whole, by one read, and a ninth block is dropped.
+    /// Makes a block of the device the most recent. Where it isn't at hand it is read whole, by one read,
+    /// and the least recent one goes where there were eight.
     ///
-    /// Io where that read fails, and NoMemory. After either the cache is as it was.
-    pub fn fill<D: BlockDevice>(&mut self, dev: &mut D, block: u32) -> Result<(), Error>
-        requires { block < (D.geometry dev.old).block_count }
-        ensures filled { OnOk result (self.new ≡ put_first self.old block (unwrap_or (cached self.old block) (block_in (D.blocks dev.old) block))) }
+    /// `Io` where that read fails, and `NoMemory` where the room for the block isn't granted.
+    /// After either the cache is as it was.
+    pub fn fill<D: BlockDevice>(&mut self, device: &mut D, block: u32) -> Result<(), Error>
+        requires { block < (D.geometry device.old).block_count }
+        ensures filled { OnOk result (self.new
+            ≡ put_first self.old block (unwrap_or (cached self.old block) (block_in (D.blocks device.old) block))) }
         ensures err { OnErr result (self.new ≡ self.old) }
         ensures few { length self.new ≤ cache_limit }
 
         // A block at hand takes no call of the device and no memory.
         ensures at_hand { IsSome (cached self.old block) → IsOk result }
-        ensures no_call { IsSome (cached self.old block) → dev.new ≡ dev.old }
+        ensures no_call { IsSome (cached self.old block) → device.new ≡ device.old }
 
-        ensures blocks { D.blocks dev.new ≡ D.blocks dev.old }
-        ensures geometry { D.geometry dev.new ≡ D.geometry dev.old }
-        ensures read { cached self.old block ≡ None → OnOk result (D.history dev.new ≡ read_whole (D.geometry dev.old).block_size (D.blocks dev.old) block false ∷ D.history dev.old) }
-        ensures failed { IsErrOf result Error.Io → D.history dev.new ≡ read_whole (D.geometry dev.old).block_size (D.blocks dev.old) block true ∷ D.history dev.old }
-        ensures no_memory { IsErrOf result Error.NoMemory → (D.history dev.new ≡ D.history dev.old) ⊎ (D.history dev.new ≡ read_whole (D.geometry dev.old).block_size (D.blocks dev.old) block false ∷ D.history dev.old) }
-        ensures reads { OnlyReads (D.blocks dev.old) (D.history dev.old) (D.history dev.new) }
+        ensures blocks { D.blocks device.new ≡ D.blocks device.old }
+        ensures geometry { D.geometry device.new ≡ D.geometry device.old }
+
+        // Another takes one read, unless there is no memory for its bytes.
+        ensures read { cached self.old block ≡ None → OnOk result (D.history device.new
+            ≡ read_whole (D.geometry device.old).block_size (D.blocks device.old) block false ∷ D.history device.old) }
+        ensures failed { IsErrOf result Error.Io → D.history device.new
+            ≡ read_whole (D.geometry device.old).block_size (D.blocks device.old) block true ∷ D.history device.old }
+        ensures no_memory { IsErrOf result Error.NoMemory → (D.history device.new ≡ D.history device.old) ⊎ (D.history device.new
+            ≡ read_whole (D.geometry device.old).block_size (D.blocks device.old) block false ∷ D.history device.old) }
+        ensures reads { OnlyReads (D.blocks device.old) (D.history device.old) (D.history device.new) }
         ensures errors { IfErr result (λ e. (e ≡ Error.Io) ⊎ (e ≡ Error.NoMemory)) }
     {
         if self.promote(block) {
             return Ok(());
         }
-        let bytes = read_block(self.alloc, dev, block)?;
+        let bytes = read_block(self.alloc, device, block)?;
         self.put(block, bytes)?;
         Ok(())
     }
 
-    /// The bytes of a block, where it is at hand. That makes it no more recent.
+    /// The bytes of a block, without a copy. None where it isn't at hand. That makes it no more recent.
     pub fn lend(&self, block: u32) -> Option<&[u8]>
         ensures { option_copied result ≡ cached self.now block }
     {
@@ -82,7 +92,7 @@ impl Cache {
         }
     }
 
-    /// Drops a block, where it is at hand.
+    /// Drops a block, where it is at hand. It takes no memory and makes no call of the device.
     pub fn forget(&mut self, block: u32)
         ensures { self.new ≡ without self.old block }
     {

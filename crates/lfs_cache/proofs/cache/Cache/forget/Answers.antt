@@ -1,5 +1,4 @@
-use Rattle.std.proofs.Common.{arith, ap, sym, ◌∙◌, ◌≡◌, nat_eq, length}
-use Rattle.std.proofs.lemmas.Map.Made.{IsDistinct-keys_filter}
+use Rattle.std.proofs.Common.{ap, ◌∙◌, ◌≡◌}
 use Rattle.lru.specs.LruCache.{lru_cache}
 use Rattle.lfs_model.specs.Cache.{without}
 use Rattle.lfs_cache.specs.Cache.{shown}

@@ -1,4 +1,4 @@
-use Rattle.std.proofs.Common.{ap, sym, ◌∙◌, Some, Vec}
+use Rattle.std.proofs.Common.{ap, sym, ◌∙◌, Some}
 use Rattle.std.specs.Option.{option_map}
 use Rattle.lfs_model.specs.Cache.{cached}
 use Rattle.lfs_cache.proofs.EntryLemmas.{cached-shown}

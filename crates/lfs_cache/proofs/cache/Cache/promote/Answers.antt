@@ -1,7 +1,5 @@
-use Rattle.std.proofs.Common.{ap, sym, ◌∙◌, ◌≡◌, List, ℕ, length, is_some, unwrap_or}
-use Rattle.std.specs.Bool.{OnFalse, OnTrue}
-use Rattle.lfs_model.specs.Cache.{CachedBlocks, cached, put_first}
-use Rattle.lfs_cache.specs.Cache.{IsCache, shown}
+use Rattle.std.proofs.Common.{ap, sym, ◌∙◌, is_some}
+use Rattle.lfs_model.specs.Cache.{cached}
 use Rattle.lfs_cache.proofs.EntryLemmas.{IsCache-promoted, few-shown, is_some-cached, shown-not_promoted, shown-promoted}
 use Rattle.lfs_cache.proofs.cache.Cache.promote.Goals as goal
 

@@ -1,4 +1,4 @@
-use Rattle.std.proofs.Common.{ap, sym, ◌∙◌, ◌≡◌, length, None}
+use Rattle.std.proofs.Common.{ap, ◌∙◌, ◌≡◌, None}
 use Rattle.lfs_model.specs.Cache.{cached, put_first}
 use Rattle.lfs_cache.specs.Cache.{IsCache, shown}
 use Rattle.lfs_cache.proofs.EntryLemmas.{IsCache-put, few-shown, shown-put}

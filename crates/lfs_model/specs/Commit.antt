@@ -1,7 +1,14 @@
 -- A commit as it is written: whole pages, whose checksum ends the log.
-use Rattle.std.specs.Prelude.{ℕ, ◌+◌, nat_lt, if◌then◌else◌, List, length, take, drop, slice_index, sum_by, Option, Some, None}
+use Rattle.std.specs.Prelude.{ℕ, ◌+◌, nat_lt, if◌then◌else◌, List, [], ◌∷◌, ◌++◌, length, take, drop, slice_index, sum_by, bit_xor, Option, Some, None}
 use Rattle.std.specs.Int.{next_multiple_of}
+use Rattle.byteorder.specs.Endian.{big_bytes}
+use Rattle.lfs_model.specs.Tag.{carried}
 use Rattle.lfs_model.specs.Log.{LogEntry}
+
+-- each tag XORed with the one before it, then its bytes
+abbrev pub stored : ℕ → List LogEntry → List ℕ
+stored before [] = []
+stored before (e ∷ es) = big_bytes 4 (bit_xor e.tag before) ++ e.bytes ++ stored (carried e.tag) es
 
 -- the bytes that entries take, each with its tag
 abbrev pub entries_size : List LogEntry → ℕ

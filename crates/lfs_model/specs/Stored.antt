@@ -1,8 +1,8 @@
 -- Metadata blocks in bytes, from the entries that stand in them. Checksums are given as numbers.
-use Rattle.std.specs.Prelude.{ℕ, ◌-◌, List, [], ◌∷◌, ◌++◌, length, replicate, bit_xor}
-use Rattle.byteorder.specs.Endian.{big_bytes, little_bytes}
-use Rattle.lfs_model.specs.Tag.{carried}
+use Rattle.std.specs.Prelude.{ℕ, ◌-◌, List, [], ◌∷◌, ◌++◌, length, replicate}
+use Rattle.byteorder.specs.Endian.{little_bytes}
 use Rattle.lfs_model.specs.Log.{LogEntry}
+use Rattle.lfs_model.specs.Commit.{stored}
 use Rattle.lfs_model.specs.Names.{Name}
 use Rattle.lfs_model.specs.Content.{file_name_type, directory_name_type, directory_struct_type, inline_struct_type, ctz_struct_type, move_state_type, no_id}
 use Rattle.lfs_model.specs.Written.{entry_with, pair_bytes}
@@ -41,11 +41,6 @@ abbrev pub checksum_entry : ℕ → ℕ → LogEntry
 checksum_entry number padding = entry_with 0x500 no_id (little_bytes 4 number ++ unwritten padding)
 
 -- ---- in bytes
-
--- each tag XORed with the one before it, then its bytes
-abbrev pub stored : ℕ → List LogEntry → List ℕ
-stored before [] = []
-stored before (e ∷ es) = big_bytes 4 (bit_xor e.tag before) ++ e.bytes ++ stored (carried e.tag) es
 
 abbrev pub metadata_block : ℕ → ℕ → List LogEntry → List ℕ
 metadata_block block_size revision entries = filled block_size (little_bytes 4 revision ++ stored 0xffffffff entries)

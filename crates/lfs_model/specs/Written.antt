@@ -1,16 +1,20 @@
 -- The entries that write what a pair holds into an empty log.
 use Rattle.std.specs.Prelude.{ℕ, ◌+◌, ◌*◌, ◌^◌, ◌≤◌, ◌==◌, ◌&&◌, not, if◌then◌else◌, Bool, List, [], ◌∷◌, ◌++◌, length, map, Option, Some, None, sum_by}
+use Rattle.std.specs.List.{flat_map}
 use Rattle.byteorder.specs.Endian.{little_bytes}
 use Rattle.lfs_model.specs.Disk.{pair_capacity, slot_limit}
 use Rattle.lfs_model.specs.Slots.{Attributes, Tail, Gstate, attributes_size, null_address}
 use Rattle.lfs_model.specs.Tag.{tag_with}
 use Rattle.lfs_model.specs.Log.{LogEntry}
-use Rattle.lfs_model.specs.Content.{RawSlot, RawContent, soft_tail_type, hard_tail_type, move_state_type, no_id}
+use Rattle.lfs_model.specs.Content.{RawSlot, RawContent, SuperblockFields, soft_tail_type, hard_tail_type, move_state_type, no_id}
 
 -- ---- fields
 
 abbrev pub pair_bytes : ℕ × ℕ → List ℕ
 pair_bytes pair = little_bytes 4 pair.0 ++ little_bytes 4 pair.1
+
+abbrev pub fields_bytes : SuperblockFields → List ℕ
+fields_bytes s = flat_map (little_bytes 4) (s.version ∷ s.block_size ∷ s.block_count ∷ s.name_max ∷ s.file_max ∷ s.attr_max ∷ [])
 
 -- the first word of a move state: the sync bit, the move type, the move id and ten bits that are 0
 abbrev pub move_word : Gstate → ℕ

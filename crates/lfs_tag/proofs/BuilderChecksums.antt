@@ -11,7 +11,6 @@ use Rattle.lfs_model.specs.Geometry.{is_page}
 use Rattle.lfs_model.specs.Content.{no_id}
 use Rattle.lfs_model.specs.Commit.{next_at, checksum_type}
 use Rattle.lfs_tag.specs.Builder.{Building, checksum_start, padded_end}
-use Rattle.lfs_tag.specs.BuilderKeeps.{stored}
 use Rattle.lfs_tag.proofs.BuilderCommits.{IsChecksumKind, class_of_kind}
 
 -- ---- the checksum's tag

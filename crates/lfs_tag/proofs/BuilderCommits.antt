@@ -1,5 +1,5 @@
 -- The bytes of a commit are that commit.
-use Rattle.std.proofs.Common.{◌≡◌, ℕ, ◌+◌, ◌-◌, ◌/◌, ◌^◌, ◌<◌, ◌≤◌, true, false, eqb, leb, ◌||◌, ◌⊎◌, inl, inr, List, [], ◌∷◌, ◌++◌, length, take, drop, slice_range, bit_xor, Some, refl, sym, ap, eq-eqb, ◌∙◌, arith, add-zero, append_assoc, length-append}
+use Rattle.std.proofs.Common.{◌≡◌, subst, ℕ, ◌+◌, ◌-◌, ◌/◌, ◌^◌, ◌<◌, ◌≤◌, true, false, eqb, leb, ◌||◌, ◌⊎◌, inl, inr, List, [], ◌∷◌, ◌++◌, length, take, drop, slice_range, bit_xor, Some, refl, sym, ap, eq-eqb, ◌∙◌, arith, add-zero, append_assoc, length-append}
 use Rattle.std.specs.Int.Bits.{xor_assoc, xor_self, xor_zero_r}
 use Rattle.std.proofs.lemmas.Bool.Decides.{nat_tests}
 use Rattle.std.proofs.lemmas.List.{drop-drop, length-drop}
@@ -10,9 +10,10 @@ use Rattle.byteorder.specs.Numbers.{big_number-reads_back, little_number-reads_b
 use Rattle.lfs_model.specs.Crc.{crc_of}
 use Rattle.lfs_model.specs.Tag.{IsValid, kind_of, len_of, class_of, size_of, carried}
 use Rattle.lfs_model.specs.Log.{LogEntry, entry_at, past, is_checksum, closes, IsCommit}
-use Rattle.lfs_model.specs.Commit.{entries_size}
-use Rattle.lfs_tag.specs.BuilderKeeps.{stored, last_tag, AreStorable}
+use Rattle.lfs_model.specs.Commit.{stored, entries_size}
+use Rattle.lfs_tag.specs.BuilderKeeps.{last_tag, AreStorable}
 use Rattle.lfs_tag.proofs.Local.{from_lies}
+use Rattle.lfs_tag.proofs.BuilderEntries.{carried_other}
 
 -- the stored tag gives the tag back
 tag_back : (tag before : ℕ) → tag ≡ bit_xor (bit_xor tag before) before
@@ -44,14 +45,16 @@ pub entries_read : (block rest : List ℕ) (start at before : ℕ) (es : List Lo
 entries_read block rest start at before [] ck end last all here base = rw add-zero at base
 entries_read block rest start at before (e ∷ es) ck end last all here base =
     let tag = big_bytes 4 (bit_xor e.tag before) in
-    let more = stored e.tag es ++ rest in
-    let here' : drop at block ≡ tag ++ (e.bytes ++ more) = here ∙ append_assoc tag (e.bytes ++ stored e.tag es) rest ∙ ap (λ (l : List ℕ). tag ++ l) (append_assoc e.bytes (stored e.tag es) rest) in
+    let later = stored (carried e.tag) es in
+    let more = later ++ rest in
+    let here' : drop at block ≡ tag ++ (e.bytes ++ more) = here ∙ append_assoc (tag ++ e.bytes) later rest ∙ append_assoc tag e.bytes more in
     let read = entry_read block more at before e all.0.valid all.0.size all.0.fits here' in
     let behind : drop (past at e) block ≡ more =
     sym (drop-drop (length e.bytes) (at + 4) block) ∙ ap (drop (length e.bytes)) (sym (drop-drop 4 at block) ∙ ap (drop 4) here') ∙ drop-append_seam e.bytes more in
     let place : at + entries_size (e ∷ es) ≡ past at e + entries_size es = omega (arith, sum_by-cons (λ (e : LogEntry). 4 + length e.bytes) e es) in
+    let ends = entries_read block rest start (past at e) (carried e.tag) es ck end last all.1 behind (rw place at base) in
     commit_cons block start at before e (es ++ ck ∷ []) end last read all.0.other
-    (entries_read block rest start (past at e) e.tag es ck end last all.1 behind (rw place at base))
+    (subst (λ (n : ℕ). IsCommit block start (past at e) n (es ++ ck ∷ []) end last) (carried_other e all.0.other) ends)
 
 -- ---- the checksum's entry
 

@@ -1,35 +1,41 @@
 -- One entry more in a commit.
-use Rattle.std.proofs.Common.{◌≡◌, ℕ, ◌+◌, ◌-◌, ◌≤◌, ◌^◌, List, [], ◌∷◌, ◌++◌, length, take, min, bit_xor, Option, Some, None, refl, sym, ap, ◌∙◌, arith, append_assoc, length-append}
+use Rattle.std.proofs.Common.{◌≡◌, false, ℕ, ◌+◌, ◌-◌, ◌≤◌, ◌^◌, List, [], ◌∷◌, ◌++◌, length, take, min, bit_xor, Option, Some, None, refl, sym, ap, ◌∙◌, arith, append_assoc, length-append}
 use Rattle.std.proofs.lemmas.List.{append-nil}
 use Rattle.std.proofs.lemmas.List.Sums.{sum_by-cons, sum_by_push}
 use Rattle.byteorder.specs.Endian.{big_bytes}
 use Rattle.lfs_model.specs.Blocks.{overwritten}
-use Rattle.lfs_model.specs.Log.{LogEntry}
-use Rattle.lfs_model.specs.Commit.{entries_size}
+use Rattle.lfs_model.specs.Tag.{carried}
+use Rattle.lfs_model.specs.Log.{LogEntry, is_checksum}
+use Rattle.lfs_model.specs.Commit.{stored, entries_size}
 use Rattle.lfs_tag.specs.Builder.{Building, with_entry, entries_start, checksum_start}
-use Rattle.lfs_tag.specs.BuilderKeeps.{stored, last_tag, revision_bytes, front_of, IsStorable, AreStorable, Keeps}
+use Rattle.lfs_tag.specs.BuilderKeeps.{last_tag, revision_bytes, front_of, IsStorable, AreStorable, Keeps}
 use Rattle.lfs_tag.proofs.BuilderWrites.{take-overwritten}
 
-stored-push : (before : ℕ) (es : List LogEntry) (e : LogEntry) → stored before (es ++ e ∷ []) ≡ stored before es ++ (big_bytes 4 (bit_xor e.tag (last_tag before es)) ++ e.bytes)
-stored-push before [] e = ap (λ (l : List ℕ). big_bytes 4 (bit_xor e.tag before) ++ l) (append-nil e.bytes)
-stored-push before (d ∷ es) e =
-    ap (λ (l : List ℕ). big_bytes 4 (bit_xor d.tag before) ++ (d.bytes ++ l)) (stored-push d.tag es e)
-    ∙ ap (λ (l : List ℕ). big_bytes 4 (bit_xor d.tag before) ++ l) (sym (append_assoc d.bytes (stored d.tag es) (big_bytes 4 (bit_xor e.tag (last_tag d.tag es)) ++ e.bytes)))
+-- what isn't a checksum carries its tag
+pub carried_other : (e : LogEntry) → is_checksum e ≡ false → carried e.tag ≡ e.tag
+carried_other e other = rw other refl
 
-last_tag-push : (before : ℕ) (es : List LogEntry) (e : LogEntry) → last_tag before (es ++ e ∷ []) ≡ e.tag
+stored-push : (before : ℕ) (es : List LogEntry) (e : LogEntry) → stored before (es ++ e ∷ []) ≡ stored before es ++ (big_bytes 4 (bit_xor e.tag (last_tag before es)) ++ e.bytes)
+stored-push before [] e = append-nil (big_bytes 4 (bit_xor e.tag before) ++ e.bytes)
+stored-push before (d ∷ es) e =
+    let first = big_bytes 4 (bit_xor d.tag before) ++ d.bytes in
+    ap (λ (l : List ℕ). first ++ l) (stored-push (carried d.tag) es e)
+    ∙ sym (append_assoc first (stored (carried d.tag) es) (big_bytes 4 (bit_xor e.tag (last_tag (carried d.tag) es)) ++ e.bytes))
+
+last_tag-push : (before : ℕ) (es : List LogEntry) (e : LogEntry) → last_tag before (es ++ e ∷ []) ≡ carried e.tag
 last_tag-push before [] e = refl
-last_tag-push before (d ∷ es) e = last_tag-push d.tag es e
+last_tag-push before (d ∷ es) e = last_tag-push (carried d.tag) es e
 
 AreStorable-push : (before : ℕ) (es : List LogEntry) (e : LogEntry) → AreStorable before es → IsStorable (last_tag before es) e → AreStorable before (es ++ e ∷ [])
 AreStorable-push before [] e all one = (one, tt)
-AreStorable-push before (d ∷ es) e all one = (all.0, AreStorable-push d.tag es e all.1 one)
+AreStorable-push before (d ∷ es) e all one = (all.0, AreStorable-push (carried d.tag) es e all.1 one)
 
 entries_size-push : (es : List LogEntry) (e : LogEntry) → entries_size (es ++ e ∷ []) ≡ entries_size es + (4 + length e.bytes)
 entries_size-push es e = sum_by_push (λ (e : LogEntry). 4 + length e.bytes) es e
 
 pub length-stored : (before : ℕ) (es : List LogEntry) → length (stored before es) ≡ entries_size es
 length-stored before [] = refl
-length-stored before (e ∷ es) = omega (arith, length-append e.bytes (stored e.tag es), length-stored e.tag es, sum_by-cons (λ (e : LogEntry). 4 + length e.bytes) e es)
+length-stored before (e ∷ es) = omega (arith, length-append e.bytes (stored (carried e.tag) es), length-stored (carried e.tag) es, sum_by-cons (λ (e : LogEntry). 4 + length e.bytes) e es)
 
 pub length-front_of : (b : Building) → length (front_of b) ≡ checksum_start b
 length-front_of b = by_revision b.revision
@@ -53,7 +59,7 @@ push_keeps page len last stored end buf now b e k one is ends exact same writes 
       power = k.power;
       room = same ∙ k.room;
       len_is = omega (arith, ends, k.len_is, entries_size-push b.entries e);
-      last_is = sym (last_tag-push b.previous b.entries e);
+      last_is = sym (last_tag-push b.previous b.entries e ∙ carried_other e one.other);
       revision = k.revision;
       entries = AreStorable-push b.previous b.entries e k.entries (rw k.last_is at one);
       bytes = λ le.

@@ -10,9 +10,9 @@ use Rattle.lfs_model.specs.Tag.{carried, len_of}
 use Rattle.lfs_model.specs.Log.{LogEntry, with_commit, IsCommit, commit_at, chain_of, revision_of, log_entries}
 use Rattle.lfs_model.specs.Geometry.{is_page}
 use Rattle.lfs_model.specs.Blocks.{overwritten}
-use Rattle.lfs_model.specs.Commit.{entries_size, next_at, checksum_type}
+use Rattle.lfs_model.specs.Commit.{stored, entries_size, next_at, checksum_type}
 use Rattle.lfs_tag.specs.Builder.{Building, entries_start, checksum_start, padded_end, checksum_tag, checksum_entry, GoesTo, earlier, AreCommitted}
-use Rattle.lfs_tag.specs.BuilderKeeps.{stored, last_tag, revision_bytes, front_of, AreStorable}
+use Rattle.lfs_tag.specs.BuilderKeeps.{last_tag, revision_bytes, front_of, AreStorable}
 use Rattle.lfs_model.proofs.Chains.{commit_none, commit_complete, chain_on, chain_none}
 use Rattle.lfs_tag.proofs.Local.{appended, next_start}
 use Rattle.lfs_tag.proofs.Runs.{all_run, run_space}

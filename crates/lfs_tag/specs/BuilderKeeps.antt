@@ -1,19 +1,16 @@
 -- A commit's bytes before its checksum, and what a builder keeps of them.
 use Rattle.std.specs.Prelude.{◌≡◌, ◌<◌, ◌≤◌, ℕ, ◌^◌, ◌-◌, true, false, List, [], ◌∷◌, ◌++◌, length, take, min, bit_xor, Option, Some, None, IfSome}
-use Rattle.byteorder.specs.Endian.{big_bytes, little_bytes}
-use Rattle.lfs_model.specs.Tag.{IsValid, size_of}
+use Rattle.byteorder.specs.Endian.{little_bytes}
+use Rattle.lfs_model.specs.Tag.{IsValid, size_of, carried}
 use Rattle.lfs_model.specs.Log.{LogEntry, is_checksum}
+use Rattle.lfs_model.specs.Commit.{stored}
 use Rattle.lfs_model.specs.Geometry.{is_page}
 use Rattle.lfs_tag.specs.Builder.{Building, checksum_start}
 
--- entries behind a tag that carries `before`
-abbrev pub stored : ℕ → List LogEntry → List ℕ
-stored before [] = []
-stored before (e ∷ es) = big_bytes 4 (bit_xor e.tag before) ++ (e.bytes ++ stored e.tag es)
-
+-- what the last of the tags carries
 abbrev pub last_tag : ℕ → List LogEntry → ℕ
 last_tag before [] = before
-last_tag before (e ∷ es) = last_tag e.tag es
+last_tag before (e ∷ es) = last_tag (carried e.tag) es
 
 abbrev pub revision_bytes : Option ℕ → List ℕ
 revision_bytes None = []
@@ -32,7 +29,7 @@ pub record IsStorable (before : ℕ) (e : LogEntry) : Type 0 where
 
 abbrev pub AreStorable : ℕ → List LogEntry → Type 0
 AreStorable before [] = Unit {0}
-AreStorable before (e ∷ es) = IsStorable before e × AreStorable e.tag es
+AreStorable before (e ∷ es) = IsStorable before e × AreStorable (carried e.tag) es
 
 -- what a builder keeps: how many bytes there are, whether they fit or not, the last tag, and the bytes where they fit
 pub record Keeps (page len last : ℕ) (buf : List ℕ) (b : Building) : Type 0 where

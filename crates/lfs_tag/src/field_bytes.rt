@@ -1,9 +1,11 @@
 // The bytes of structs, tails and move states: numbers of 32 bits, the lowest byte first.
 
-ghost use Rattle.std.specs.Prelude.{◌≡◌, ◌%◌, ◌^◌, ◌<◌, slice_index};
-ghost use Rattle.byteorder.specs.Endian.{little_number};
+ghost use Rattle.std.specs.Prelude.{◌≡◌, ◌^◌, ◌<◌, slice_index};
+ghost use Rattle.std.specs.List.{flat_map};
+ghost use Rattle.byteorder.specs.Endian.{little_bytes};
 ghost use Rattle.lfs_model.specs.Slots.{Ctz, address_of};
 ghost use Rattle.lfs_model.specs.Content.{pair_at, gstate_at, superblock_at, struct_typed, ctz_struct_type};
+ghost use Rattle.lfs_model.specs.Written.{pair_bytes, move_bytes, fields_bytes};
 ghost use Rattle.lfs_tag.specs.FieldsSeen.{superblock_seen, move_seen};
 
 use crate::fields::{MoveState, Superblock};
@@ -11,7 +13,8 @@ use byteorder::{ByteOrder, LittleEndian};
 
 /// The bytes of a tail or of a directory's struct that names this pair.
 pub fn pair_bytes(pair: [u32; 2]) -> [u8; 8]
-    ensures { pair_at result ≡ address_of pair }
+    ensures bytes { result ≡ pair_bytes (address_of pair) }
+    ensures read { pair_at result ≡ address_of pair }
 {
     let mut bytes = [0; 8];
     LittleEndian::write_u32_into(&pair, &mut bytes);
@@ -21,14 +24,16 @@ pub fn pair_bytes(pair: [u32; 2]) -> [u8; 8]
 /// The bytes of a file's struct that names a skip list: the address of its last block, and its
 /// size in bytes (SPEC.md of littlefs, "CTZ structs").
 pub fn ctz_bytes(head: u32, size: u32) -> [u8; 8]
-    ensures { struct_typed ctz_struct_type result ≡ Ctz head size }
+    ensures bytes { result ≡ pair_bytes (head, size) }
+    ensures read { struct_typed ctz_struct_type result ≡ Ctz head size }
 {
     pair_bytes([head, size])
 }
 
 /// The bytes of a superblock's struct.
 pub fn superblock_bytes(superblock: &Superblock) -> [u8; 24]
-    ensures { superblock_at result ≡ superblock_seen superblock.now }
+    ensures bytes { result ≡ fields_bytes (superblock_seen superblock.now) }
+    ensures read { superblock_at result ≡ superblock_seen superblock.now }
 {
     words_bytes([
         superblock.version,
@@ -42,7 +47,8 @@ pub fn superblock_bytes(superblock: &Superblock) -> [u8; 24]
 
 // The same of a superblock's six numbers, in their order.
 fn words_bytes(words: [u32; 6]) -> [u8; 24]
-    ensures { superblock_at result ≡ record {
+    ensures bytes { result ≡ flat_map (little_bytes 4) words }
+    ensures read { superblock_at result ≡ record {
       version = slice_index words 0;
       block_size = slice_index words 1;
       block_count = slice_index words 2;
@@ -60,8 +66,8 @@ fn words_bytes(words: [u32; 6]) -> [u8; 24]
 pub fn move_bytes(state: &MoveState) -> [u8; 12]
     requires kind { state.now.kind < 2 ^ 11 }
     requires id { state.now.id < 2 ^ 10 }
-    ensures state { gstate_at result ≡ move_seen state.now }
-    ensures rest { little_number 4 result % 2 ^ 10 ≡ 0 }
+    ensures bytes { result ≡ move_bytes (move_seen state.now) }
+    ensures read { gstate_at result ≡ move_seen state.now }
 {
     let word = u32::from(state.sync) * 0x8000_0000
         + u32::from(state.kind) * 0x10_0000

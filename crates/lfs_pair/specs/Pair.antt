@@ -1,0 +1,40 @@
+-- What is kept of a pair, as the disk has it.
+use Rattle.std.specs.Prelude.{ℕ, ◌≡◌, ◌⊎◌, ◌%◌, true, false, List, length, Some}
+use Rattle.std.specs.Option.{option_map}
+use Rattle.lfs_model.specs.Disk.{Disk, block_at}
+use Rattle.lfs_model.specs.History.{Event, AllUnprogrammed}
+use Rattle.lfs_model.specs.Log.{chain_of, revision_of, log_entries}
+use Rattle.lfs_model.specs.Slots.{address_of}
+use Rattle.lfs_model.specs.Content.{RawContent, holder_at, content_after_all, no_content}
+use Rattle.lfs_tag.specs.ContentSeen.{tail_seen}
+use Rattle.lfs_tag.specs.FieldsSeen.{move_seen}
+use Rattle.lfs_pair.specs.declared.pair.Pair.{Pair}
+
+abbrev pub address_in : Pair → ℕ × ℕ
+address_in pair = address_of pair.blocks
+
+-- a block's log comes to that content, and the pair says so
+pub record Describes (block : List ℕ) (pair : Pair) (held : RawContent) : Type 0 where
+  pub content : content_after_all no_content (log_entries block) ≡ Some held
+  pub end : pair.end ≡ (chain_of block).end
+  pub last : pair.last ≡ (chain_of block).last
+  pub revision : pair.revision ≡ revision_of block
+  pub slot_count : pair.slot_count ≡ length held.slots
+  pub tail : option_map tail_seen pair.tail ≡ held.tail
+  pub move : move_seen pair.move_state ≡ held.move
+
+-- The disk holds that content at the pair's address, and the pair says so. Unless it was only fetched, nothing is
+-- programmed behind its end.
+pub record IsPair (disk : Disk) (history : List Event) (pair : Pair) (held : RawContent) : Type 0 where
+  pub active : (pair.active ≡ (address_in pair).0) ⊎ (pair.active ≡ (address_in pair).1)
+  pub holds : holder_at disk (address_in pair) ≡ Some (block_at disk pair.active)
+  pub describes : Describes (block_at disk pair.active) pair held
+  pub whole_pages : pair.is_fetched ≡ false → pair.end % disk.page ≡ 0
+  pub unprogrammed : pair.is_fetched ≡ false → AllUnprogrammed history pair.active pair.end disk.block_size
+
+-- what a fetch of these two blocks finds on the disk
+pub record Fetches (disk : Disk) (history : List Event) (address : ℕ × ℕ) (pair : Pair) : Type 0 where
+  pub held : RawContent
+  pub is_pair : IsPair disk history pair held
+  pub at : address_in pair ≡ address
+  pub fetched : pair.is_fetched ≡ true

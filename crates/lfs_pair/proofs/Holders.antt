@@ -1,4 +1,47 @@
--- Which block of a pair holds.
-use Rattle.std.proofs.Common.{◌≡◌, Bool, true, false, cond, not, ◌&&◌, List, Option, Some, None, refl, ap₂, ap, ◌∙◌}
+-- Which block of a pair holds, and which one does after a write.
+use Rattle.std.proofs.Common.{ℕ, ◌≡◌, ◌+◌, ◌-◌, ◌%◌, ◌^◌, ◌<◌, Bool, true, false, cond, not, ◌&&◌, ◌||◌, List, Option, Some, None, refl, sym, ap, ap₂, ◌∙◌, arith}
+use Rattle.std.specs.Prelude.{nat_lt}
+use Rattle.std.proofs.lemmas.Bool.{lt-ltb, le-ltb}
 use Rattle.lfs_model.specs.Log.{revision_of}
 use Rattle.lfs_model.specs.Content.{has_commit, is_later, holder}
+use Rattle.lfs_pair.specs.Pair.{second_holds}
+
+-- the block that holds, by which of the two it is
+pub holder_is : (a b : List ℕ) → has_commit (cond (second_holds a b) b a) ≡ true → holder a b ≡ Some (cond (second_holds a b) b a)
+holder_is a b h = go (has_commit a) (has_commit b) (is_later (revision_of a) (revision_of b)) refl refl h
+  where
+    go : (ca cb later : Bool) → has_commit a ≡ ca → has_commit b ≡ cb → has_commit (cond (cb && (not ca || later)) b a) ≡ true
+        → cond (not ca) (cond cb (Some b) None) (cond (cb && later) (Some b) (Some a)) ≡ Some (cond (cb && (not ca || later)) b a)
+    go true true true e f h = refl
+    go true true false e f h = refl
+    go true false later e f h = refl
+    go false true later e f h = refl
+    go false false later e f h = absurd (let k = sym e ∙ h in cc)
+
+-- where neither has a commit, none holds
+pub holder_none : (a b : List ℕ) → has_commit a ≡ false → has_commit b ≡ false → holder a b ≡ None
+holder_none a b e f = ap₂ (λ x y. cond (not x) (cond y (Some b) None) (cond (y && is_later (revision_of a) (revision_of b)) (Some b) (Some a))) e f
+
+-- ---- a commit behind others
+
+pub second_holds-first_grows : (a b new : List ℕ) → has_commit a ≡ true → has_commit new ≡ true → revision_of new ≡ revision_of a → second_holds new b ≡ second_holds a b
+second_holds-first_grows a b new e f r = rw (e, f, r) refl
+
+pub second_holds-second_grows : (a b new : List ℕ) → has_commit b ≡ true → has_commit new ≡ true → revision_of new ≡ revision_of b → second_holds a new ≡ second_holds a b
+second_holds-second_grows a b new e f r = rw (e, f, r) refl
+
+-- ---- a first commit in the other block, with the next revision
+
+later : (x : ℕ) → x < 2 ^ 32 → is_later x ((x + 1) % 2 ^ 32) ≡ true
+later x l =
+    let one : ((x + 1) % 2 ^ 32 + 2 ^ 32 - x) % 2 ^ 32 ≡ 1 = omega arith in rw one refl
+
+not_later : (x : ℕ) → x < 2 ^ 32 → is_later ((x + 1) % 2 ^ 32) x ≡ false
+not_later x l =
+    let last : (x + 2 ^ 32 - (x + 1) % 2 ^ 32) % 2 ^ 32 ≡ 2 ^ 32 - 1 = omega arith in rw last refl
+
+pub second_holds-written : (a new : List ℕ) → has_commit a ≡ true → has_commit new ≡ true → revision_of a < 2 ^ 32 → revision_of new ≡ (revision_of a + 1) % 2 ^ 32 → second_holds a new ≡ true
+second_holds-written a new e f l r = rw (e, f, r) (later (revision_of a) l)
+
+pub first_holds-written : (new b : List ℕ) → has_commit b ≡ true → has_commit new ≡ true → revision_of b < 2 ^ 32 → revision_of new ≡ (revision_of b + 1) % 2 ^ 32 → second_holds new b ≡ false
+first_holds-written new b e f l r = rw (e, f, r) (not_later (revision_of b) l)

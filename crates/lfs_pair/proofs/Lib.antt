@@ -1,2 +1,4 @@
 pub mod Following
 pub mod Holders
+pub mod Tails
+pub mod Applied

@@ -1,11 +1,11 @@
 -- What is kept of a pair, as the disk has it.
-use Rattle.std.specs.Prelude.{ℕ, ◌≡◌, ◌⊎◌, ◌%◌, true, false, List, length, Some}
+use Rattle.std.specs.Prelude.{ℕ, ◌≡◌, ◌%◌, ◌&&◌, ◌||◌, not, Bool, true, false, if◌then◌else◌, List, length, Some}
 use Rattle.std.specs.Option.{option_map}
 use Rattle.lfs_model.specs.Disk.{Disk, block_at}
 use Rattle.lfs_model.specs.History.{Event, AllUnprogrammed}
 use Rattle.lfs_model.specs.Log.{chain_of, revision_of, log_entries}
 use Rattle.lfs_model.specs.Slots.{address_of}
-use Rattle.lfs_model.specs.Content.{RawContent, holder_at, content_after_all, no_content}
+use Rattle.lfs_model.specs.Content.{RawContent, has_commit, is_later, content_after_all, no_content}
 use Rattle.lfs_tag.specs.ContentSeen.{tail_seen}
 use Rattle.lfs_tag.specs.FieldsSeen.{move_seen}
 use Rattle.lfs_pair.specs.declared.pair.Pair.{Pair}
@@ -23,11 +23,19 @@ pub record Describes (block : List ℕ) (pair : Pair) (held : RawContent) : Type
   pub tail : option_map tail_seen pair.tail ≡ held.tail
   pub move : move_seen pair.move_state ≡ held.move
 
+-- of two blocks the second holds: it has a commit, and the first has none or an earlier revision
+abbrev pub second_holds : List ℕ → List ℕ → Bool
+second_holds a b = has_commit b && (not (has_commit a) || is_later (revision_of a) (revision_of b))
+
+-- the address of the block that holds, if one does
+abbrev pub active_at : Disk → ℕ × ℕ → ℕ
+active_at disk at = if second_holds (block_at disk at.0) (block_at disk at.1) then at.1 else at.0
+
 -- The disk holds that content at the pair's address, and the pair says so. Unless it was only fetched, nothing is
 -- programmed behind its end.
 pub record IsPair (disk : Disk) (history : List Event) (pair : Pair) (held : RawContent) : Type 0 where
-  pub active : (pair.active ≡ (address_in pair).0) ⊎ (pair.active ≡ (address_in pair).1)
-  pub holds : holder_at disk (address_in pair) ≡ Some (block_at disk pair.active)
+  pub active : pair.active ≡ active_at disk (address_in pair)
+  pub has_commit : has_commit (block_at disk pair.active) ≡ true
   pub describes : Describes (block_at disk pair.active) pair held
   pub whole_pages : pair.is_fetched ≡ false → pair.end % disk.page ≡ 0
   pub unprogrammed : pair.is_fetched ≡ false → AllUnprogrammed history pair.active pair.end disk.block_size

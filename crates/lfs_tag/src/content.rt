@@ -347,4 +347,13 @@ impl<'a> Content<'a> {
         }
         Ok(content)
     }
+
+    /// Takes one entry more, as the reading of a longer log would. After an error nothing is known
+    /// of the content.
+    pub fn take(&mut self, alloc: Global, entry: &Entry<'a>) -> Result<(), ContentError>
+        ensures { Gives (λ _. content_seen self.new) result (content_after (content_seen self.old) (seen entry.now)) }
+    {
+        apply(alloc, self, entry)?;
+        Ok(())
+    }
 }

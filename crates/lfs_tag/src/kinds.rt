@@ -13,6 +13,8 @@ pub const DIRECTORY_STRUCT: u16 = 0x200;
 pub const INLINE_STRUCT: u16 = 0x201;
 /// A file's struct that names a skip list.
 pub const CTZ_STRUCT: u16 = 0x202;
+/// The first type of a user attribute; its own type is added.
+pub const ATTRIBUTE: u16 = 0x300;
 /// Inserts a slot.
 pub const CREATE: u16 = 0x401;
 /// Removes a slot.

@@ -1,0 +1,144 @@
+// Changes to what a pair holds.
+
+ghost use Rattle.std.specs.Prelude.{◌≡◌, ◌<◌, ◌≤◌, ◌^◌, ◌++◌, true, [], ◌∷◌, length, map, Some};
+ghost use Rattle.std.specs.List.{list_all};
+ghost use Rattle.std.specs.Option.{option_map};
+ghost use Rattle.lfs_model.specs.Slots.{address_of};
+ghost use Rattle.lfs_model.specs.Content.{content_after, content_after_all, tail_with as tail_with_pair};
+ghost use Rattle.lfs_model.specs.Written.{entry_with, named_pair};
+ghost use Rattle.lfs_model.specs.Changes.{entries_of_change, entries_of_changes, is_storable, RemoveAttribute};
+ghost use Rattle.lfs_tag.specs.ContentSeen.{content_seen, tail_seen};
+ghost use Rattle.lfs_tag.specs.ContentGives.{Gives};
+ghost use Rattle.lfs_pair.specs.ChangeSeen.{change_seen, changes_seen};
+
+use lfs_tag::kinds::{ATTRIBUTE, CREATE, DELETE};
+use lfs_tag::{Content, ContentError, Entry, MoveState, NULL_ADDRESS, Tag, Tail};
+use std::alloc::Global;
+
+/// A change to what a pair holds. Changes are applied in order; an id is one at that moment.
+#[derive(Clone, Copy, Drop)]
+pub enum Change<'a> {
+    /// A slot comes at the id, from 0 to the count, with a name of that type.
+    Create { id: u16, kind: u16, name: &'a [u8] },
+    /// The slot at the id goes.
+    Delete { id: u16 },
+    /// The slot at the id gets a struct of that type.
+    Struct { id: u16, kind: u16, bytes: &'a [u8] },
+    /// The slot at the id gets an attribute, of at most 1,022 bytes.
+    Attr { id: u16, attr: u8, bytes: &'a [u8] },
+    /// The slot at the id loses an attribute, if it has it.
+    NoAttr { id: u16, attr: u8 },
+    /// The pair gets another tail, or none.
+    Tail { hard: bool, pair: Option<[u32; 2]> },
+    /// The pair gets another share of the global state.
+    Move { state: MoveState },
+}
+
+// Takes an entry with these fields.
+fn put<'a>(
+    alloc: Global,
+    content: &mut Content<'a>,
+    kind: u16,
+    id: u16,
+    bytes: &'a [u8],
+) -> Result<(), ContentError>
+    requires kind { kind < 2 ^ 11 }
+    requires id { id < 2 ^ 10 }
+    requires bytes { length bytes.now ≤ 1022 }
+    ensures { Gives (λ _. content_seen content.new) result (content_after (content_seen content.old) (entry_with kind id bytes.now)) }
+{
+    let tag = Tag::new(kind, id, bytes.len() as u16);
+    content.take(alloc, &Entry { tag, bytes })?;
+    Ok(())
+}
+
+// Takes an entry that removes an attribute.
+fn put_removal(
+    alloc: Global,
+    content: &mut Content<'_>,
+    id: u16,
+    attr: u8,
+) -> Result<(), ContentError>
+    requires { id < 2 ^ 10 }
+    ensures { Gives (λ _. content_seen content.new) result (content_after_all (content_seen content.old) (entries_of_change (RemoveAttribute id attr))) }
+{
+    let tag = Tag::new(ATTRIBUTE + u16::from(attr), id, 0x3ff);
+    content.take(alloc, &Entry { tag, bytes: &[] })?;
+    Ok(())
+}
+
+// The tail that a change sets.
+fn tail_with(hard: bool, pair: Option<[u32; 2]>) -> Option<Tail>
+    ensures { option_map tail_seen result ≡ tail_with_pair hard (named_pair (option_map address_of pair)) }
+{
+    match pair {
+        None => None,
+        Some(pair) => {
+            if pair[0] == NULL_ADDRESS && pair[1] == NULL_ADDRESS {
+                None
+            } else {
+                Some(Tail { hard, pair })
+            }
+        }
+    }
+}
+
+// Takes what a change makes of the content.
+pub(crate) fn apply<'a>(
+    alloc: Global,
+    content: &mut Content<'a>,
+    change: &Change<'a>,
+) -> Result<(), ContentError>
+    requires { is_storable (change_seen change.now) ≡ true }
+    ensures { Gives (λ _. content_seen content.new) result (content_after_all (content_seen content.old) (entries_of_change (change_seen change.now))) }
+{
+    match *change {
+        Change::Create { id, kind, name } => {
+            put(alloc, content, CREATE, id, &[])?;
+            put(alloc, content, kind, id, name)?;
+            Ok(())
+        }
+        Change::Delete { id } => {
+            put(alloc, content, DELETE, id, &[])?;
+            Ok(())
+        }
+        Change::Struct { id, kind, bytes } => {
+            put(alloc, content, kind, id, bytes)?;
+            Ok(())
+        }
+        Change::Attr { id, attr, bytes } => {
+            put(alloc, content, ATTRIBUTE + u16::from(attr), id, bytes)?;
+            Ok(())
+        }
+        Change::NoAttr { id, attr } => {
+            put_removal(alloc, content, id, attr)?;
+            Ok(())
+        }
+        Change::Tail { hard, pair } => {
+            content.tail = tail_with(hard, pair);
+            Ok(())
+        }
+        Change::Move { state } => {
+            content.move_state = state;
+            Ok(())
+        }
+    }
+}
+
+// Takes what all changes make of the content, in order.
+pub(crate) fn apply_all<'a>(
+    alloc: Global,
+    content: &mut Content<'a>,
+    changes: &[Change<'a>],
+) -> Result<(), ContentError>
+    requires { list_all is_storable (changes_seen changes.now) ≡ true }
+    ensures { Gives (λ _. content_seen content.new) result (content_after_all (content_seen content.old) (entries_of_changes (changes_seen changes.now))) }
+{
+    for change in changes {
+        match apply(alloc, content, change) {
+            Ok(()) => {}
+            Err(error) => return Err(error),
+        }
+    }
+    Ok(())
+}

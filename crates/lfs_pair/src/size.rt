@@ -1,0 +1,61 @@
+// How many bytes a pair's slots take.
+
+ghost use Rattle.std.specs.Prelude.{◌≡◌, ℕ, ◌+◌, ◌-◌, ◌^◌, ◌<◌, ◌≤◌, ◌↔◌, IsTrue, length, min, map, sum_by};
+ghost use Rattle.std.specs.Option.{option_map};
+ghost use Rattle.lfs_model.specs.Slots.{attributes_size};
+ghost use Rattle.lfs_model.specs.Written.{part_size, raw_slot_size, raw_size, FitsRaw};
+ghost use Rattle.lfs_tag.specs.ContentSeen.{part_seen, attribute_seen, slot_seen, content_seen};
+
+use lfs_device::Geometry;
+use lfs_tag::{Attribute, Content, Part, Slot};
+
+// The bytes of a name or a struct with its tag, or the greatest number where there are more.
+fn part_size(part: &Option<Part<'_>>) -> u64
+    ensures { result ≡ min (part_size (option_map part_seen part.now)) (2 ^ 64 - 1) }
+{
+    match part {
+        None => 0,
+        Some(part) => (part.bytes.len() as u64).saturating_add(4),
+    }
+}
+
+// The same of attributes.
+fn attributes_size(attributes: &[Attribute<'_>]) -> u64
+    ensures { result ≡ min (attributes_size (map attribute_seen attributes.now)) (2 ^ 64 - 1) }
+{
+    let mut total: u64 = 0;
+    for attribute in attributes {
+        total = total
+            .saturating_add(4)
+            .saturating_add(attribute.bytes.len() as u64);
+    }
+    total
+}
+
+// The same of a slot.
+fn slot_size(slot: &Slot<'_>) -> u64
+    ensures { result ≡ min (raw_slot_size (slot_seen slot.now)) (2 ^ 64 - 1) }
+{
+    part_size(&slot.name)
+        .saturating_add(part_size(&slot.structure))
+        .saturating_add(attributes_size(&slot.attributes))
+}
+
+// The same of all slots.
+fn slots_size(slots: &[Slot<'_>]) -> u64
+    ensures { result ≡ min (sum_by raw_slot_size (map slot_seen slots.now)) (2 ^ 64 - 1) }
+{
+    let mut total: u64 = 0;
+    for slot in slots {
+        total = total.saturating_add(slot_size(slot));
+    }
+    total
+}
+
+// Whether a pair may hold this: the slots within its capacity, and no more than a thousand.
+pub(crate) fn fits(content: &Content<'_>, geometry: Geometry) -> bool
+    ensures { IsTrue result ↔ FitsRaw geometry.block_size geometry.page (content_seen content.now) }
+{
+    let capacity = u64::from(geometry.block_size - 39 - geometry.page);
+    content.slots.len() <= 1000 && slots_size(&content.slots) <= capacity
+}

@@ -125,8 +125,14 @@ pub(crate) fn apply<'a>(
     }
 }
 
-// Takes what all changes make of the content, in order.
-pub(crate) fn apply_all<'a>(
+/// Makes the changes to a content, in order. That each can be stored in a tag is the caller's
+/// condition: an id below 0x3ff, a name's or a struct's type, at most 1,022 bytes.
+///
+/// Answers `Malformed` exactly where a change may not stand there: a create with an id past the
+/// count, a delete, struct or attribute for an id that isn't there, a struct or attribute for a slot
+/// without a name, a type or a length that the format doesn't have. After an error nothing is known
+/// of the content.
+pub fn apply_all<'a>(
     alloc: Global,
     content: &mut Content<'a>,
     changes: &[Change<'a>],

@@ -9,8 +9,8 @@ ghost use Rattle.lfs_model.specs.Content.{raw_at, content_after_all, no_content,
 ghost use Rattle.lfs_pair.specs.Pair.{Describes, Fetches};
 
 use crate::pair::Pair;
-use crate::reading::{Head, head_of, read_block};
-use lfs_device::{BlockDevice, Error};
+use crate::reading::{Head, head_of};
+use lfs_device::{BlockDevice, Error, read_block};
 use lfs_tag::{Content, ContentError, Log};
 use std::alloc::Global;
 

@@ -7,6 +7,7 @@ mod pair;
 mod reading;
 mod size;
 
-pub use change::Change;
+pub use change::{Change, apply_all};
 pub use fetching::fetch;
 pub use pair::Pair;
+pub use size::fits;

@@ -1,4 +1,4 @@
-// Blocks read whole.
+// Which block of a pair holds.
 
 ghost use Rattle.std.specs.Prelude.{◌≡◌, ◌+◌, ◌<◌, ◌⊎◌, IfOk, IfErr};
 ghost use Rattle.lfs_model.specs.Blocks.{block_in};
@@ -6,29 +6,9 @@ ghost use Rattle.lfs_model.specs.History.{OnlyReads, faults};
 ghost use Rattle.lfs_model.specs.Log.{revision_of};
 ghost use Rattle.lfs_model.specs.Content.{has_commit, is_later};
 
-use lfs_device::{BlockDevice, Error};
+use lfs_device::{BlockDevice, Error, read_block};
 use lfs_tag::Log;
 use std::alloc::Global;
-
-// A block's bytes.
-pub(crate) fn read_block<D: BlockDevice>(
-    alloc: Global,
-    dev: &mut D,
-    block: u32,
-) -> Result<Vec<u8>, Error>
-    requires { block < (D.geometry dev.old).block_count }
-    ensures bytes { IfOk result (λ bytes. bytes.items ≡ block_in (D.blocks dev.old) block) }
-    ensures same { D.blocks dev.new ≡ D.blocks dev.old }
-    ensures geometry { D.geometry dev.new ≡ D.geometry dev.old }
-    ensures reads { OnlyReads (D.blocks dev.old) (D.history dev.old) (D.history dev.new) }
-    ensures errors { IfErr result (λ e. (e ≡ Error.NoMemory) ⊎ (e ≡ Error.Io)) }
-    ensures fault { result ≡ Err Error.Io → faults (D.history dev.old) < faults (D.history dev.new) }
-{
-    let size = dev.geometry().block_size as usize;
-    let mut bytes = Vec::from_elem(alloc, 0u8, size)?;
-    dev.read(block, 0, &mut bytes)?;
-    Ok(bytes)
-}
 
 // What decides which block of a pair holds.
 #[derive(Clone, Copy, Drop)]

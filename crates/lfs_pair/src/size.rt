@@ -52,8 +52,9 @@ fn slots_size(slots: &[Slot<'_>]) -> u64
     total
 }
 
-// Whether a pair may hold this: the slots within its capacity, and no more than a thousand.
-pub(crate) fn fits(content: &Content<'_>, geometry: Geometry) -> bool
+/// Whether a pair that is written may hold this: at most a thousand slots, and their bytes within
+/// the pair's capacity, which is a block less 39 bytes and a page.
+pub fn fits(content: &Content<'_>, geometry: Geometry) -> bool
     ensures { IsTrue result ↔ FitsRaw geometry.block_size geometry.page (content_seen content.now) }
 {
     let capacity = u64::from(geometry.block_size - 39 - geometry.page);

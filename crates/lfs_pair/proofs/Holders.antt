@@ -1,7 +1,5 @@
 -- Which block of a pair holds, and which one does after a write.
-use Rattle.std.proofs.Common.{ℕ, ◌≡◌, ◌+◌, ◌-◌, ◌%◌, ◌^◌, ◌<◌, Bool, true, false, cond, not, ◌&&◌, ◌||◌, List, Option, Some, None, refl, sym, ap, ap₂, ◌∙◌, arith}
-use Rattle.std.specs.Prelude.{nat_lt}
-use Rattle.std.proofs.lemmas.Bool.{lt-ltb, le-ltb}
+use Rattle.std.proofs.Common.{ℕ, ◌≡◌, ◌+◌, ◌-◌, ◌%◌, ◌^◌, ◌<◌, Bool, true, false, cond, not, ◌&&◌, ◌||◌, List, Some, None, refl, sym, ap₂, ◌∙◌, arith}
 use Rattle.lfs_model.specs.Log.{revision_of}
 use Rattle.lfs_model.specs.Content.{has_commit, is_later, holder}
 use Rattle.lfs_pair.specs.Pair.{second_holds}

@@ -1,5 +1,5 @@
 -- A tail that a change sets.
-use Rattle.std.proofs.Common.{ℕ, ◌≡◌, ◌^◌, Bool, true, false, Option, Some, None, refl, ap, ◌∙◌}
+use Rattle.std.proofs.Common.{ℕ, ◌≡◌, ◌^◌, Bool, true, false, Option, Some, refl, ap, ◌∙◌}
 use Rattle.std.proofs.lemmas.Bool.{and_parts, ltb-true}
 use Rattle.std.specs.Prelude.{[], ◌∷◌, nat_lt}
 use Rattle.lfs_model.specs.Content.{RawContent, content_after_all, tail_with, pair_at}

@@ -15,12 +15,7 @@ use lfs_tag::{Content, ContentError, Log};
 use std::alloc::Global;
 
 // The pair whose active block has these bytes.
-fn described(
-    alloc: Global,
-    blocks: [u32; 2],
-    active: u32,
-    bytes: &[u8],
-) -> Result<Pair, Error>
+fn described(alloc: Global, blocks: [u32; 2], active: u32, bytes: &[u8]) -> Result<Pair, Error>
     ensures describes { IfOk result (λ pair. (held : RawContent) × Describes bytes.now pair held) }
     ensures blocks { IfOk result (λ pair. pair.blocks ≡ blocks) }
     ensures active { IfOk result (λ pair. pair.active ≡ active) }
@@ -52,11 +47,7 @@ fn described(
 ///
 /// Answers `Corrupt` exactly where neither block has a commit, or the log of the block that holds
 /// is malformed, and `Io` or `NoMemory` at any disk.
-pub fn fetch<D: BlockDevice>(
-    alloc: Global,
-    dev: &mut D,
-    blocks: [u32; 2],
-) -> Result<Pair, Error>
+pub fn fetch<D: BlockDevice>(alloc: Global, dev: &mut D, blocks: [u32; 2]) -> Result<Pair, Error>
     requires apart { (address_of blocks).0 ≢ (address_of blocks).1 }
     requires first { (address_of blocks).0 < (D.geometry dev.old).block_count }
     requires second { (address_of blocks).1 < (D.geometry dev.old).block_count }

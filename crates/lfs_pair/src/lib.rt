@@ -11,3 +11,6 @@ pub use change::{Change, apply_all};
 pub use fetching::fetch;
 pub use pair::Pair;
 pub use size::fits;
+
+#[cfg(test)]
+mod tests;

@@ -40,11 +40,7 @@ impl Head {
 }
 
 // The head of a block of the device.
-pub(crate) fn head_of<D: BlockDevice>(
-    alloc: Global,
-    dev: &mut D,
-    block: u32,
-) -> Result<Head, Error>
+pub(crate) fn head_of<D: BlockDevice>(alloc: Global, dev: &mut D, block: u32) -> Result<Head, Error>
     requires { block < (D.geometry dev.old).block_count }
     ensures has_commit { IfOk result (λ head. head.has_commit ≡ has_commit (block_in (D.blocks dev.old) block)) }
     ensures revision { IfOk result (λ head. head.revision ≡ revision_of (block_in (D.blocks dev.old) block)) }

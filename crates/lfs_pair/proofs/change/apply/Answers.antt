@@ -1,4 +1,4 @@
-use Rattle.std.proofs.Common.{◌≡◌, ◌∙◌, Some, sym, ap, option_map}
+use Rattle.std.proofs.Common.{◌∙◌, Some, sym, ap, option_map}
 use Rattle.lfs_model.specs.Slots.{address_of}
 use Rattle.lfs_model.specs.Content.{content_after_all}
 use Rattle.lfs_model.specs.Changes.{entries_of_change}

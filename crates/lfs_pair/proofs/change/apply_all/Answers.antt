@@ -1,4 +1,4 @@
-use Rattle.std.proofs.Common.{◌≡◌, ◌+◌, ◌∙◌, Some, None, take, drop, get_or, sym, ap}
+use Rattle.std.proofs.Common.{◌+◌, ◌∙◌, take, drop, ap}
 use Rattle.lfs_model.specs.Content.{content_after_all}
 use Rattle.lfs_model.specs.Changes.{entries_of_changes, is_storable}
 use Rattle.lfs_tag.specs.ContentSeen.{content_seen}

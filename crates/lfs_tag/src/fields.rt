@@ -46,10 +46,9 @@ pub(crate) fn pair_at(bytes: &[u8]) -> [u32; 2]
     requires { 8 ≤ length bytes.now }
     ensures { address_of result ≡ pair_at bytes.now }
 {
-    [
-        LittleEndian::read_u32(bytes),
-        LittleEndian::read_u32(&bytes[4..]),
-    ]
+    let first = LittleEndian::read_u32(bytes);
+    let second = LittleEndian::read_u32(&bytes[4..]);
+    [first, second]
 }
 
 // The move state that these bytes begin with.

@@ -1,5 +1,4 @@
 mod KnownBytes
-mod Commits
 mod RootFiles
 mod RootPair
 mod Starts

@@ -132,7 +132,7 @@ bytes_before-more block_size i (suc j) le =
     (λ past. let same : i ≡ suc j = omega arith in subst (λ n. bytes_before block_size n ≤ bytes_before block_size (suc j)) (sym same) (omega arith))
     (cases_lt i (suc j))
 
-bytes_before-least : (block_size i : ℕ) → 1024 ≤ block_size → 892 * i ≤ bytes_before block_size i
+pub bytes_before-least : (block_size i : ℕ) → 1024 ≤ block_size → 892 * i ≤ bytes_before block_size i
 bytes_before-least block_size zero large = omega arith
 bytes_before-least block_size (suc i) large =
     let before = bytes_before-least block_size i large in
@@ -235,3 +235,26 @@ place-lt block_size size p i off large is lt =
     let count = blocks_for-place block_size size last.0 last.1.0 large (omega arith) last.1.1 in
     let le = place-mono block_size p (size - 1) i last.0 off last.1.0 is last.1.1 (omega arith) in
     omega arith
+
+-- more bytes than the blocks before one hold need that one
+pub blocks_for-above : (block_size total n : ℕ) → 1024 ≤ block_size → bytes_before block_size n < total → n < blocks_for block_size total
+blocks_for-above block_size total n large above =
+    let last = blocks_for-last block_size total large (omega arith) in
+    let count = last.1.0 in
+    let within = last.1.1.1 in
+    ⊎_elim
+    (λ less. let more = bytes_before-more block_size (suc last.0) n (omega arith) in absurd (omega arith))
+    (λ ge. omega arith)
+    (cases_lt last.0 n)
+
+-- and those that it holds need no further one
+pub blocks_for-within : (block_size total n : ℕ) → 1024 ≤ block_size → total ≤ bytes_before block_size n → blocks_for block_size total ≤ n
+blocks_for-within block_size zero n large within = omega arith
+blocks_for-within block_size (suc total) n large within =
+    let last = blocks_for-last block_size (suc total) large (omega arith) in
+    let count = last.1.0 in
+    let above = last.1.1.0 in
+    ⊎_elim
+    (λ less. let more = bytes_before-more block_size n last.0 (omega arith) in absurd (omega arith))
+    (λ ge. omega arith)
+    (cases_lt n (suc last.0))

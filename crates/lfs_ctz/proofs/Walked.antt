@@ -138,10 +138,10 @@ pub chain_fits : (d : Blocks) (n head : ℕ) → IsChain d n head → n ≤ leng
 chain_fits d n head chain =
     let len = length_back d n head in
     let le = length-le_from_distinct_below (blocks_back d n head) (length d) chain.distinct (λ q there.
-        let found = Any-from_list_any (nat_eq q) (blocks_back d n head) there in
-        let same = eqb-true q found.1 found.4 in
-        let low = chain.in_range found.0 found.1 found.2 in
-        omega (arith, same, low, found.3)) in
+    let found = Any-from_list_any (nat_eq q) (blocks_back d n head) there in
+    let same = eqb-true q found.1 found.4 in
+    let low = chain.in_range found.0 found.1 found.2 in
+    omega (arith, same, low, found.3)) in
     omega arith
 
 -- one block more is visited

@@ -1,7 +1,10 @@
 -- Words in a block's bytes.
 use Rattle.std.proofs.Common.{ℕ, ◌≡◌, ◌+◌, ◌-◌, ◌*◌, ◌≤◌, ◌<◌, ◌^◌, ◌++◌, List, length, take, drop, slice_range, refl, sym, ap, ◌∙◌, arith}
 use Rattle.std.specs.Int.{w32, from_le_bytes}
-use Rattle.std.proofs.lemmas.List.{drop_at, drop-drop, length-take-le, take-append-le, take-take}
+use Rattle.std.proofs.Common.{length-drop}
+use Rattle.std.proofs.lemmas.List.{drop_at, drop-drop, drop-take, length-take-le, take-append-le, drop-append-le, take-append-drop, take-take}
+use Rattle.lfs_model.proofs.Overwrites.{block_in-set}
+use Rattle.lfs_model.specs.Blocks.{Blocks, block_in, overwritten, programmed}
 use Rattle.std.proofs.lemmas.Slice.{drop-put_mid, between_is}
 use Rattle.std.proofs.lemmas.Nat.{from_le_bytes-to_le_bytes_4}
 use Rattle.byteorder.specs.Endian.{little_bytes}
@@ -37,3 +40,29 @@ pub word_at-take : (bytes more : List ℕ) (i : ℕ) → i + 4 ≤ length bytes 
 word_at-take bytes more i room =
     ap (from_le_bytes w32)
     (between_is (bytes ++ more) i (i + 4) ∙ ap (drop i) (take-append-le (i + 4) bytes more room) ∙ sym (between_is bytes i (i + 4)))
+
+-- a block that was written from its beginning on
+pub block_in-written : (mid new : Blocks) (block end : ℕ) (bytes buf : List ℕ) → block < length mid → end ≤ length buf → bytes ≡ take end buf → new ≡ programmed mid block 0 bytes
+    → block_in new block ≡ take end buf ++ drop end (block_in mid block)
+block_in-written mid new block end bytes buf lt room is written =
+    let len : length bytes ≡ end = ap length is ∙ length-take-le end buf room in
+    ap (λ d. block_in d block) written
+    ∙ block_in-set mid block (overwritten (block_in mid block) 0 bytes) lt
+    ∙ ap (λ n. bytes ++ drop n (block_in mid block)) (let s : 0 + length bytes ≡ end = omega arith in s)
+    ∙ ap (λ (l : List ℕ). l ++ drop end (block_in mid block)) is
+
+word_at-front : (buf : List ℕ) (end i : ℕ) → end ≤ length buf → i + 4 ≤ end → word_at (take end buf) i ≡ word_at buf i
+word_at-front buf end i room within =
+    sym (word_at-take (take end buf) (drop end buf) i (omega (arith, length-take-le end buf room))) ∙ ap (λ (l : List ℕ). word_at l i) (take-append-drop end buf)
+
+pub word_at-written : (buf more : List ℕ) (end i : ℕ) → end ≤ length buf → i + 4 ≤ end → word_at (take end buf ++ more) i ≡ word_at buf i
+word_at-written buf more end i room within = word_at-take (take end buf) more i (omega (arith, length-take-le end buf room)) ∙ word_at-front buf end i room within
+
+pub data-written : (buf more : List ℕ) (end p : ℕ) → end ≤ length buf → p ≤ end → take (end - p) (drop p (take end buf ++ more)) ≡ take (end - p) (drop p buf)
+data-written buf more end p room low =
+    let split : end ≡ p + (end - p) = omega arith in
+    ap (take (end - p)) (drop-append-le p (take end buf) more (omega (arith, length-take-le end buf room)))
+    ∙ take-append-le (end - p) (drop p (take end buf)) more (omega (arith, length-drop p (take end buf), length-take-le end buf room))
+    ∙ ap (λ k. take (end - p) (drop p (take k buf))) split
+    ∙ ap (take (end - p)) (drop-take p (end - p) buf)
+    ∙ take-take (end - p) (end - p) (drop p buf) (omega arith)

@@ -74,8 +74,8 @@ zeros32_before n k some low less =
     let z : ℕ = trailing_zeros w32 n in
     let c : ℕ = (2 * odd.half + 1) * 2 ^ (z - suc k) in
     let whole : n ≡ c * 2 ^ suc k =
-        odd.is ∙ ap (λ p. (2 * odd.half + 1) * p) (ap (λ e. 2 ^ e) (let s : z ≡ (z - suc k) + suc k = omega arith in s) ∙ pow-add 2 (z - suc k) (suc k))
-        ∙ sym (mul_assoc (2 * odd.half + 1) (2 ^ (z - suc k)) (2 ^ suc k)) in
+    odd.is ∙ ap (λ p. (2 * odd.half + 1) * p) (ap (λ e. 2 ^ e) (let s : z ≡ (z - suc k) + suc k = omega arith in s) ∙ pow-add 2 (z - suc k) (suc k))
+    ∙ sym (mul_assoc (2 * odd.half + 1) (2 ^ (z - suc k)) (2 ^ suc k)) in
     let doubled = twice c k in
     let factor = factor-pos c (2 ^ suc k) n whole some in
     let large = mul-le 1 (2 ^ k) c (2 ^ k) factor (omega arith) in

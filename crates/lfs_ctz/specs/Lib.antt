@@ -1,1 +1,4 @@
+pub mod Extended
+pub mod Filled
+pub mod Growing
 pub mod Right

@@ -1,4 +1,4 @@
-ghost use Rattle.std.specs.Prelude.{◌≡◌, ◌≢◌, ◌≤◌, ◌<◌, ◌+◌, ◌-◌, ◌*◌, ◌%◌, ◌^◌, ◌++◌, ◌⊎◌, ℕ, All, length, take, drop, OnOk, IfErr, IsErrOf, slice_index};
+ghost use Rattle.std.specs.Prelude.{[], ◌∷◌, ◌≡◌, ◌≢◌, ◌≤◌, ◌<◌, ◌+◌, ◌-◌, ◌*◌, ◌%◌, ◌^◌, ◌++◌, ◌⊎◌, ℕ, All, length, take, drop, OnOk, IfErr, IsErrOf, slice_index};
 ghost use Rattle.byteorder.specs.Endian.{little_bytes};
 ghost use Rattle.lfs_model.specs.Blocks.{SameBut, block_in};
 ghost use Rattle.lfs_model.specs.History.{AtWorst, LeavesOnly, OnlyReads, faults};
@@ -45,5 +45,41 @@ fn put_pointers<D: BlockDevice>(
         to = pointer(dev, to, k)?;
         put_word(buf, 4 * (k + 1) as usize, to);
     }
+    Ok(())
+}
+
+// Erases a block and writes to it the buffer up to `end`, with the pointers of a list's block at
+// that index before the bytes, where the blocks before it end at `head`.
+pub(crate) fn write_block<D: BlockDevice>(
+    dev: &mut D,
+    head: u32,
+    index: u32,
+    block: u32,
+    buf: &mut [u8],
+    end: u32,
+) -> Result<(), Error>
+    requires chain { IsChain (D.blocks dev.old) index head }
+    requires in_device { block < (D.geometry dev.old).block_count }
+    requires apart { All (λ c. c ≢ block) (blocks_back (D.blocks dev.old) index head) }
+    requires size { length buf.old ≡ (D.geometry dev.old).block_size }
+    requires large { 1024 ≤ length buf.old }
+    requires pages { end % (D.geometry dev.old).page ≡ 0 }
+    requires room { end ≤ (D.geometry dev.old).block_size }
+    requires pointers { 4 * pointers_of index ≤ end }
+    ensures chain { OnOk result (IsChain (D.blocks dev.new) (index + 1) block) }
+    ensures back { OnOk result (blocks_back (D.blocks dev.new) (index + 1) block ≡ blocks_back (D.blocks dev.old) index head ++ block ∷ []) }
+    ensures bytes { OnOk result (take (end - 4 * pointers_of index) (drop (4 * pointers_of index) (block_in (D.blocks dev.new) block))
+        ≡ take (end - 4 * pointers_of index) (drop (4 * pointers_of index) buf.old)) }
+    ensures len { length buf.new ≡ length buf.old }
+    ensures others { SameBut block (D.blocks dev.old) (D.blocks dev.new) }
+    ensures geometry { D.geometry dev.new ≡ D.geometry dev.old }
+    ensures stops { LeavesOnly AtWorst (D.history dev.old) (D.history dev.new) (SameBut block (D.blocks dev.old)) }
+    ensures no_fault { OnOk result (faults (D.history dev.new) ≡ faults (D.history dev.old)) }
+    ensures io { IsErrOf result Error.Io → faults (D.history dev.old) < faults (D.history dev.new) }
+    ensures errors { IfErr result (λ e. e ≡ Error.Io) }
+{
+    put_pointers(dev, head, index, buf)?;
+    dev.erase(block)?;
+    dev.prog(block, 0, &buf[..end as usize])?;
     Ok(())
 }

@@ -2,10 +2,12 @@
 #![tactic(auto)]
 
 mod block;
+mod extender;
 mod read;
 mod size;
 mod visits;
 
+pub use extender::Extender;
 pub use read::read_at;
 pub use size::{blocks_for, place};
 pub use visits::walk;

@@ -31,7 +31,12 @@ pub(crate) fn pointer<D: BlockDevice>(dev: &mut D, block: u32, k: u32) -> Result
 
 // The block at an index of a list, from the head at another: back by the highest pointer that
 // does not overshoot.
-pub(crate) fn find<D: BlockDevice>(dev: &mut D, head: u32, last: u32, index: u32) -> Result<u32, Error>
+pub(crate) fn find<D: BlockDevice>(
+    dev: &mut D,
+    head: u32,
+    last: u32,
+    index: u32,
+) -> Result<u32, Error>
     requires { index ≤ last }
     ensures found { IsChain (D.blocks dev.old) (last + 1) head → IfOk result (λ b. b ≡ slice_index (blocks_back (D.blocks dev.old) (last + 1) head) index) }
     ensures in_range { IfOk result (λ b. b < (D.geometry dev.old).block_count) }

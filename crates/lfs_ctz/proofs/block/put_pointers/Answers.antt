@@ -85,7 +85,7 @@ loop-k-preserved g c =
     let many = pointers_of-pos index (omega arith) in
     let few = pointers_of-le index in
     let is : c.in_ok-to.to ≡ slice_index (blocks_back old index head) (index - 2 ^ (k + 1)) =
-        c.in_ok-to.ensures.word ∙ ap (λ d. word_at (block_in d c.loop-k.to) (4 * k)) inv.same ∙ next_pointer old index head k c.loop-k.to c.requires.chain (omega arith) (omega arith) (omega arith) inv.at in
+    c.in_ok-to.ensures.word ∙ ap (λ d. word_at (block_in d c.loop-k.to) (4 * k)) inv.same ∙ next_pointer old index head k c.loop-k.to c.requires.chain (omega arith) (omega arith) (omega arith) inv.at in
     let room = c.requires.room in
     let len = inv.len in
     record {

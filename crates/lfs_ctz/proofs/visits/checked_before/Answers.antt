@@ -22,9 +22,9 @@ loop-k-preserved g c =
     let inv = c.loop-k.invariant in
     let same = c.pointer-in-loop-k.ensures.same ∙ inv.same in
     let next : c.in_ok-next.next ≡ word_at (block_in (g.D.BlockDevice.blocks c.args.dev.now) c.args.block) (4 * (c.loop-k.k + 1)) =
-        c.in_ok-next.ensures.word ∙ ap (λ d. word_at (block_in d c.args.block) (4 * (c.loop-k.k + 1))) same in
+    c.in_ok-next.ensures.word ∙ ap (λ d. word_at (block_in d c.args.block) (4 * (c.loop-k.k + 1))) same in
     let to : c.in_ok-to.to ≡ word_at (block_in (g.D.BlockDevice.blocks c.args.dev.now) (word_at (block_in (g.D.BlockDevice.blocks c.args.dev.now) c.args.block) (4 * c.loop-k.k))) (4 * c.loop-k.k) =
-        c.in_ok-to.ensures.word ∙ ap₂ (λ d b. word_at (block_in d b) (4 * c.loop-k.k)) inv.same inv.at in
+    c.in_ok-to.ensures.word ∙ ap₂ (λ d b. word_at (block_in d b) (4 * c.loop-k.k)) inv.same inv.at in
     record {
       at = sym c.if-next-to.false ∙ next;
       right = below_more _ _ inv.right (sym next ∙ c.if-next-to.false ∙ to);

@@ -1,0 +1,121 @@
+-- Blocks that an extender is handed, one after the other.
+use Rattle.std.proofs.Common.{ℕ, zero, suc, ◌≡◌, ◌≢◌, ◌+◌, ◌*◌, ◌-◌, ◌<◌, ◌≤◌, ⊎_elim, inl, inr, nat_eq, get_or, List, [], ◌∷◌, ◌++◌, length, take, drop, slice_index, refl, sym, ap, subst, ◌∙◌, arith, append_assoc, length-append}
+use Rattle.std.specs.Prelude.{All}
+use Rattle.std.specs.List.{IsDistinct}
+use Rattle.std.proofs.lemmas.Bool.{cases_eq, eqb-false}
+use Rattle.std.proofs.lemmas.List.{append-nil, get_or_append_left, get_or-append-add, get_or-take, length-take-le, take_more, get_or_default}
+use Rattle.std.proofs.Math.Seq.{take-append-add}
+use Rattle.std.proofs.lemmas.Map.Keys.{apart_from_distinct}
+use Rattle.lfs_model.specs.Blocks.{Blocks, SameBut, SameButThese, block_in}
+use Rattle.lfs_model.specs.Lists.{bytes_before, capacity_of, blocks_back, blocks_for}
+use Rattle.lfs_ctz.specs.declared.extender.Tail.{Tail}
+use Rattle.lfs_ctz.specs.declared.extender.Tail.TheVariants.{Closed, Shared, Handed}
+use Rattle.lfs_ctz.specs.Growing.{Growing, pending_in, last_in, pending_of, kept_of, blocks_of, size_of, needed_of, next_of, IsTail, IsHanded, IsGrowing}
+use Rattle.lfs_ctz.proofs.Sizes.{blocks_for-above, blocks_for-within}
+use Rattle.lfs_ctz.proofs.Chains.{length_back}
+
+pub outside-refl : (bs : List ℕ) (d : Blocks) → SameButThese bs d d
+outside-refl bs d = record { count = refl; sizes = λ b. refl; others = λ other apart. refl }
+
+-- another of the blocks changes
+pub outside-but : (bs : List ℕ) (block : ℕ) (d mid new : Blocks) → ((other : ℕ) → All (λ b. b ≢ other) bs → block ≢ other) → SameButThese bs d mid → SameBut block mid new → SameButThese bs d new
+outside-but bs block d mid new among first second = record {
+  count = second.count ∙ first.count;
+  sizes = λ b. elim (cases_eq b block) [
+    | inl is ↦ ap (λ k. length (block_in new k)) is ∙ second.size ∙ ap (λ k. length (block_in mid k)) (sym is) ∙ first.sizes b
+    | inr ne ↦ ap length (second.others b ne) ∙ first.sizes b
+  ];
+  others = λ other apart. second.others other (λ is. among other apart (sym is)) ∙ first.others other apart;
+}
+
+-- one of those handed in is among them
+pub among_handed : (pending blocks : List ℕ) (used : ℕ) → used < length blocks → (other : ℕ) → All (λ b. b ≢ other) (pending ++ blocks) → slice_index blocks used ≢ other
+among_handed pending blocks used lt other apart is =
+    apart (length pending + used) 0 (omega (arith, length-append pending blocks)) (get_or-append-add pending blocks used 0 ∙ is)
+
+-- the block that takes the next bytes is among them
+pub next_among : (t : Tail) (handed pending blocks : List ℕ) (used : ℕ) → handed ≡ pending ++ blocks → (pending_in t ≡ [] → used < length blocks)
+    → ((other : ℕ) → All (λ b. b ≢ other) handed → All (λ b. b ≢ other) (pending_in t)) → (other : ℕ) → All (λ b. b ≢ other) handed → (next_of t blocks used).0 ≢ other
+next_among Closed handed pending blocks used is some among other apart = among_handed pending blocks used (some refl) other (subst (All (λ b. b ≢ other)) is apart)
+next_among (Shared b) handed pending blocks used is some among other apart = among_handed pending blocks used (some refl) other (subst (All (λ b. b ≢ other)) is apart)
+next_among (Handed b) handed pending blocks used is some among other apart = among other apart 0 0 (omega arith)
+
+-- and it is none of the full blocks
+apart_before : (back front blocks : List ℕ) (used : ℕ) → used < length blocks → back ≡ front ++ take used blocks → IsDistinct nat_eq (front ++ blocks) → All (λ c. c ≢ slice_index blocks used) back
+apart_before back front blocks used lt is distinct k x l e =
+    let len = length-take-le used blocks (omega arith) in
+    let all : length back ≡ length front + used = omega (arith, ap length is, length-append front (take used blocks)) in
+    let there : get_or back k x ≡ get_or (front ++ blocks) k x =
+    ap (λ (xs : List ℕ). get_or xs k x) (is ∙ sym (take-append-add front blocks used)) ∙ get_or-take (length front + used) (front ++ blocks) k x (omega arith) in
+    let next : get_or (front ++ blocks) (length front + used) x ≡ slice_index blocks used = get_or-append-add front blocks used x ∙ get_or_default blocks used x 0 lt in
+    eqb-false (get_or (front ++ blocks) k x) (get_or (front ++ blocks) (length front + used) x)
+    (apart_from_distinct nat_eq (front ++ blocks) k (length front + used) x distinct (omega arith) (omega (arith, length-append front blocks)))
+    (sym there ∙ e ∙ sym next)
+
+pub next_apart : (d : Blocks) (full head : ℕ) (rest : List ℕ) (t : Tail) (front blocks : List ℕ) (used : ℕ) → IsTail d full head rest t → (pending_in t ≡ [] → used < length blocks)
+    → blocks_back d full head ++ pending_in t ≡ front ++ take used blocks → IsDistinct nat_eq (front ++ blocks) → All (λ c. c ≢ (next_of t blocks used).0) (blocks_back d full head)
+next_apart d full head rest Closed front blocks used tail some is distinct = apart_before (blocks_back d full head) front blocks used (some refl) (sym (append-nil (blocks_back d full head)) ∙ is) distinct
+next_apart d full head rest (Shared b) front blocks used tail some is distinct = apart_before (blocks_back d full head) front blocks used (some refl) (sym (append-nil (blocks_back d full head)) ∙ is) distinct
+next_apart d full head rest (Handed b) front blocks used tail some is distinct = tail.apart
+
+pub next_some : (t : Tail) (blocks : List ℕ) (used : ℕ) → (pending_in t ≡ [] → used < length blocks) → used ≤ length blocks → (next_of t blocks used).1 ≤ length blocks
+next_some Closed blocks used some le = let lt = some refl in omega arith
+next_some (Shared b) blocks used some le = let lt = some refl in omega arith
+next_some (Handed b) blocks used some le = le
+
+one_used : (back front blocks : List ℕ) (used : ℕ) → used < length blocks → back ++ [] ≡ front ++ take used blocks → back ++ slice_index blocks used ∷ [] ≡ front ++ take (used + 1) blocks
+one_used back front blocks used lt is =
+    ap (λ (l : List ℕ). l ++ slice_index blocks used ∷ []) (sym (append-nil back) ∙ is)
+    ∙ append_assoc front (take used blocks) (slice_index blocks used ∷ [])
+    ∙ ap (λ (l : List ℕ). front ++ l) (sym (take_more blocks used 0 lt))
+
+pub next_kept : (t : Tail) (back front blocks : List ℕ) (used : ℕ) → (pending_in t ≡ [] → used < length blocks) → back ++ pending_in t ≡ front ++ take used blocks
+    → back ++ (next_of t blocks used).0 ∷ [] ≡ front ++ take (next_of t blocks used).1 blocks
+next_kept Closed back front blocks used some is = one_used back front blocks used (some refl) is
+next_kept (Shared b) back front blocks used some is = one_used back front blocks used (some refl) is
+next_kept (Handed b) back front blocks used some is = is
+
+-- ---- how many are used
+
+-- the full blocks and the pending one
+pub kept_count : (d e : Blocks) (was now : Growing) (blocks : List ℕ) (used : ℕ) → used ≤ length blocks → kept_of e now ≡ kept_of d was ++ take used blocks
+    → now.full + length (pending_of now) ≡ was.full + length (pending_of was) + used
+kept_count d e was now blocks used le is =
+    omega (
+      arith,
+      ap length is,
+      length-append (blocks_back e now.full now.head) (pending_of now),
+      length-append (blocks_back d was.full was.head) (pending_of was),
+      length-append (kept_of d was) (take used blocks),
+      length_back e now.full now.head,
+      length_back d was.full was.head,
+      length-take-le used blocks le,
+    )
+
+-- while bytes are left and no block is pending there is one to take
+pub still_some : (d e : Blocks) (block_size : ℕ) (was now : Growing) (blocks : List ℕ) (used done total : ℕ) → 1024 ≤ block_size → used ≤ length blocks → kept_of e now ≡ kept_of d was ++ take used blocks
+    → length blocks ≡ needed_of block_size was total → size_of block_size now ≡ size_of block_size was + done → done < total → pending_of now ≡ [] → used < length blocks
+still_some d e block_size was now blocks used done total large le is count sum less none =
+    let counted = kept_count d e was now blocks used le is in
+    let more = blocks_for-above block_size (size_of block_size was + total) now.full large (omega arith) in
+    omega (arith, counted, more, count, ap length none)
+
+-- at the end all are used
+size_fits : (d : Blocks) (block_size : ℕ) (g : Growing) → 1024 ≤ block_size → IsGrowing d g → length g.rest < capacity_of block_size g.full → blocks_of d g ≡ kept_of d g
+    → blocks_for block_size (size_of block_size g) ≤ g.full + length (pending_of g)
+size_fits d block_size g large held short own = go g.tail held.tail own
+  where
+    go : (t : Tail) → IsTail d g.full g.head g.rest t → blocks_back d g.full g.head ++ last_in t ≡ blocks_back d g.full g.head ++ pending_in t
+        → blocks_for block_size (size_of block_size g) ≤ g.full + length (pending_in t)
+    go Closed none e = let w = blocks_for-within block_size (size_of block_size g) g.full large (omega (arith, ap length none)) in omega arith
+    go (Shared b) shared e =
+        absurd (omega (arith, ap length e, length-append (blocks_back d g.full g.head) (b ∷ []), length-append (blocks_back d g.full g.head) []))
+    go (Handed b) handed e = let w = blocks_for-within block_size (size_of block_size g) (suc g.full) large (omega arith) in omega arith
+
+pub all_used : (d e : Blocks) (block_size : ℕ) (was now : Growing) (blocks : List ℕ) (used total : ℕ) → 1024 ≤ block_size → used ≤ length blocks → kept_of e now ≡ kept_of d was ++ take used blocks
+    → length blocks ≡ needed_of block_size was total → size_of block_size now ≡ size_of block_size was + total → IsGrowing e now → length now.rest < capacity_of block_size now.full → blocks_of e now ≡ kept_of e now
+    → length blocks ≤ used
+all_used d e block_size was now blocks used total large le is count sum held short own =
+    let counted = kept_count d e was now blocks used le is in
+    let fits = size_fits e block_size now large held short own in
+    omega (arith, counted, fits, count, ap (blocks_for block_size) sum)

@@ -1,0 +1,10 @@
+-- How the numbers of an extender hang together.
+use Rattle.std.specs.Prelude.{ℕ, ◌≡◌, ◌≤◌, ◌<◌, ◌+◌, ◌-◌, ◌*◌, ◌^◌}
+use Rattle.lfs_model.specs.Lists.{pointers_of, bytes_before}
+
+-- a block is filled so far, pointers first, behind so many full ones, and size bytes are in all of them
+pub record IsFilled (block_size full filled size : ℕ) : Type 0 where
+  pub low : 4 * pointers_of full ≤ filled
+  pub high : filled < block_size
+  pub sum : size ≡ bytes_before block_size full + (filled - 4 * pointers_of full)
+  pub fits : size < 2 ^ 31

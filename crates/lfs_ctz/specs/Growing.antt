@@ -1,0 +1,81 @@
+-- A list that grows, as contracts see it.
+use Rattle.std.specs.Prelude.{ℕ, ◌≡◌, ◌≢◌, ◌≤◌, ◌<◌, ◌+◌, ◌-◌, ◌*◌, ◌^◌, List, [], ◌∷◌, ◌++◌, length, take, drop, slice_index, All}
+use Rattle.std.specs.List.{flat_map, enumerate_from}
+use Rattle.lfs_model.specs.Blocks.{Blocks, block_in}
+use Rattle.lfs_model.specs.Lists.{pointers_of, bytes_before, blocks_back, blocks_for, IsChain, data_of}
+use Rattle.lfs_ctz.specs.declared.extender.Tail.{Tail}
+use Rattle.lfs_ctz.specs.declared.extender.Tail.TheVariants.{Closed, Shared, Handed}
+
+pub record Growing : Type 0 where
+  -- so many blocks are full and on the disk; the last of them, where there is one
+  pub full : ℕ
+  pub head : ℕ
+  -- the bytes behind them, which do not fill a block, and where they stand
+  pub rest : List ℕ
+  pub tail : Tail
+
+-- the block that was handed in for the rest and is not written yet
+abbrev pub pending_in : Tail → List ℕ
+pending_in Closed = []
+pending_in (Shared b) = []
+pending_in (Handed b) = b ∷ []
+
+-- the block in which the rest stands, or will
+abbrev pub last_in : Tail → List ℕ
+last_in Closed = []
+last_in (Shared b) = b ∷ []
+last_in (Handed b) = b ∷ []
+
+abbrev pub pending_of : Growing → List ℕ
+pending_of g = pending_in g.tail
+
+-- the blocks that stay the list's when it grows: full ones, and the pending one
+abbrev pub kept_of : Blocks → Growing → List ℕ
+kept_of disk g = blocks_back disk g.full g.head ++ pending_of g
+
+-- the blocks of the list as it is
+abbrev pub blocks_of : Blocks → Growing → List ℕ
+blocks_of disk g = blocks_back disk g.full g.head ++ last_in g.tail
+
+abbrev pub joined : Blocks → List ℕ → List ℕ
+joined disk bs = flat_map (data_of disk) (enumerate_from 0 bs)
+
+-- its bytes
+abbrev pub content_of : Blocks → Growing → List ℕ
+content_of disk g = joined disk (blocks_back disk g.full g.head) ++ g.rest
+
+abbrev pub size_of : ℕ → Growing → ℕ
+size_of block_size g = bytes_before block_size g.full + length g.rest
+
+-- how many blocks it needs for so many bytes more
+abbrev pub needed_of : ℕ → Growing → ℕ → ℕ
+needed_of block_size g n = blocks_for block_size (size_of block_size g + n) - (g.full + length (pending_of g))
+
+-- the rest is in a block that was handed in for it
+pub record IsHanded (disk : Blocks) (full head : ℕ) (rest : List ℕ) (b : ℕ) : Type 0 where
+  pub some : 1 ≤ length rest
+  pub in_range : b < length disk
+  pub apart : All (λ c. c ≢ b) (blocks_back disk full head)
+
+-- the rest is the beginning of a block that stands behind the full ones
+pub record IsShared (disk : Blocks) (full head : ℕ) (rest : List ℕ) (b : ℕ) : Type 0 where
+  pub some : 1 ≤ length rest
+  pub chain : IsChain disk (full + 1) b
+  pub back : blocks_back disk (full + 1) b ≡ blocks_back disk full head ++ b ∷ []
+  pub begins : take (length rest) (drop (4 * pointers_of full) (block_in disk b)) ≡ rest
+
+abbrev pub IsTail : Blocks → ℕ → ℕ → List ℕ → Tail → Type 0
+IsTail disk full head rest Closed = rest ≡ []
+IsTail disk full head rest (Shared b) = IsShared disk full head rest b
+IsTail disk full head rest (Handed b) = IsHanded disk full head rest b
+
+-- the disk holds the list's full blocks as they are
+pub record IsGrowing (disk : Blocks) (g : Growing) : Type 0 where
+  pub chain : IsChain disk g.full g.head
+  pub tail : IsTail disk g.full g.head g.rest g.tail
+
+-- the block that takes the next bytes, and how many of those handed in are used then
+abbrev pub next_of : Tail → List ℕ → ℕ → ℕ × ℕ
+next_of Closed blocks used = (slice_index blocks used, used + 1)
+next_of (Shared b) blocks used = (slice_index blocks used, used + 1)
+next_of (Handed b) blocks used = (b, used)

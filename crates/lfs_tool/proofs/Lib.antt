@@ -1,5 +1,6 @@
 mod KnownBytes
 mod RootFiles
 mod RootPair
+mod Accepted
 mod Starts
 mod Images

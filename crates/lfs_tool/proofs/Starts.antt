@@ -10,13 +10,14 @@ use Rattle.byteorder.specs.Endian.{little_number}
 use Rattle.lfs_model.specs.Disk.{Disk, block_count}
 use Rattle.lfs_model.specs.Log.{log_entries}
 use Rattle.lfs_model.specs.Slots.{Attributes, Content, Gstate, Slot, Tail, no_gstate}
-use Rattle.lfs_model.specs.Content.{RawContent, RawSlot, complete, complete_all, completed, content_after_all, content_at, holder, holder_at, inline_struct_type, kind_named, no_content, struct_typed, superblock_name_type}
+use Rattle.lfs_model.specs.Content.{RawContent, RawSlot, complete, complete_all, completed, content_after_all, content_at, holder, holder_at, inline_struct_type, kind_named, no_content, raw_at, struct_typed, superblock_name_type}
 use Rattle.lfs_model.specs.Thread.{Links, Pair, anchor, next_of}
 use Rattle.lfs_model.specs.View.{BeginsWith, HasSuperblock, IsAccepted, IsEntry, IsSuperblockStruct, HasView, View, superblock_entry, tree_in, view_in}
 use Rattle.lfs_model.specs.Listing.{IsListing}
 use Rattle.lfs_model.proofs.Counts.{Each}
 use Rattle.lfs_model.proofs.Names.{Rise, names_in}
-use Rattle.lfs_tool.specs.OnePair.{HasBlocks, IsListed, Starts, bytes_in, describes, has_superblock, has_type, is_one_pair, is_still, is_superblock, is_whole, lines_behind}
+use Rattle.lfs_tool.specs.OnePair.{HasBlocks, IsCorrupt, IsListed, Starts, bytes_in, describes, has_superblock, has_type, is_one_pair, is_still, is_superblock, is_whole, lines_behind}
+use Rattle.lfs_tool.proofs.Accepted.{AreBytes, starts_shown}
 use Rattle.lfs_tool.proofs.RootFiles.{ReadAs, behind_nothing, read_from, refused_from, rise_from, slot_line}
 use Rattle.lfs_tool.proofs.RootPair.{IsRoot, accepted, entries_at, listed, root_content, root_pair, superblock_with}
 
@@ -201,7 +202,7 @@ first_content disk (p ∷ ps) ok =
     let there = recursion_from_All (λ (q : Pair). content_at disk q.at ≡ Some q.content) (p ∷ ps) ok.thread.contents in
     (p.content, ap (content_at disk) (sym at) ∙ there.0)
 
-pub refuses_from : (disk : Disk) (content : RawContent) → Starts disk content → is_one_pair content ≡ true
+refuses_from : (disk : Disk) (content : RawContent) → Starts disk content → is_one_pair content ≡ true
     → lines_behind [] (drop 1 content.slots) ≡ None → (view : View) → HasView disk view → ⊥
 refuses_from disk content starts one none view shows = go (complete_all o.slots) refl
   where
@@ -219,3 +220,54 @@ refuses_from disk content starts one none view shows = go (complete_all o.slots)
         let entries : Each IsEntry files = recursion_from_All IsEntry files headed.0.2 in
         let rise : Rise files = subst Rise (entries_at o.bytes o.attributes files anchor entries refl) (ok.order [] anchor refl) in
         refused_from o.slots [] files (sym (ap (lines_behind []) o.behind) ∙ none) o.whole is entries (behind_nothing files entries rise)
+
+-- ---- a disk that doesn't start so
+
+-- the log of the block that holds
+pub record Holds (disk : Disk) (size n : ℕ) (block : List ℕ) : Type 0 where
+  pub a : List ℕ
+  pub b : List ℕ
+  pub of_a : AreBytes a
+  pub of_b : AreBytes b
+  pub blocks : HasBlocks disk size n a b
+  pub holds : holder a b ≡ Some block
+
+corrupt_from : (disk : Disk) (size n : ℕ) (block : List ℕ) → Holds disk size n block → ((content : RawContent) → Starts disk content → ⊥) → IsCorrupt disk
+corrupt_from disk size n block h never = (
+  λ more. never more.0 more.1.0,
+  λ view shows.
+      let start = starts_shown disk view (subst AreBytes (sym h.blocks.first) h.of_a) (subst AreBytes (sym h.blocks.second) h.of_b) shows in
+      never start.0 start.1,
+)
+
+holder_is : (disk : Disk) (size n : ℕ) (block : List ℕ) → Holds disk size n block → holder_at disk anchor ≡ Some block
+holder_is disk size n block h = ap₂ holder h.blocks.first h.blocks.second ∙ h.holds
+
+raw_is : (disk : Disk) (size n : ℕ) (block : List ℕ) → Holds disk size n block → raw_at disk anchor ≡ content_after_all no_content (log_entries block)
+raw_is disk size n block h = ap (option_and_then (λ b. content_after_all no_content (log_entries b))) (holder_is disk size n block h)
+
+pub malformed_log : (disk : Disk) (size n : ℕ) (block : List ℕ) → Holds disk size n block → content_after_all no_content (log_entries block) ≡ None → IsCorrupt disk
+malformed_log disk size n block h none = corrupt_from disk size n block h (λ content starts.
+    let wrong : Some content ≡ None = sym starts.held ∙ raw_is disk size n block h ∙ none in absurd (cc))
+
+pub begins_otherwise : (disk : Disk) (size n : ℕ) (block : List ℕ) → Holds disk size n block → ¬ BeginsWith (Some block) superblock_entry → IsCorrupt disk
+begins_otherwise disk size n block h no_start = corrupt_from disk size n block h (λ content starts.
+    no_start (subst (λ o. BeginsWith o superblock_entry) (holder_is disk size n block h) starts.first))
+
+pub no_superblock : (disk : Disk) (size n : ℕ) (block : List ℕ) (content : RawContent) → Holds disk size n block → content_after_all no_content (log_entries block) ≡ Some content
+    → has_superblock size n content.slots ≡ false → IsCorrupt disk
+no_superblock disk size n block content h read none = corrupt_from disk size n block h (λ other starts.
+    let same : other ≡ content = same_Some other content (sym starts.held ∙ raw_is disk size n block h ∙ read) in
+    let wrong : false ≡ true = sym none ∙ sym (ap₂ (λ x y. has_superblock x y content.slots) h.blocks.block_size h.blocks.count)
+        ∙ ap (λ c. has_superblock disk.block_size (block_count disk) c.slots) (sym same) ∙ starts.superblock in
+    absurd (cc))
+
+-- all files stand in its first pair, and they have no lines
+pub no_lines : (disk : Disk) (content : RawContent) → Starts disk content → is_one_pair content ≡ true → lines_behind [] (drop 1 content.slots) ≡ None → IsCorrupt disk
+no_lines disk content starts one none = (
+  λ more.
+      let same : more.0 ≡ content = same_Some more.0 content (sym more.1.0.held ∙ starts.held) in
+      let wrong : false ≡ true = sym more.1.1 ∙ ap is_one_pair same ∙ one in
+      absurd (cc),
+  λ view shows. refuses_from disk content starts one none view shows,
+)

@@ -1,5 +1,5 @@
 -- Images whose files all stand in the first pair, with their bytes. No other is listed so far.
-use Rattle.std.specs.Prelude.{ℕ, ◌≡◌, ◌⊎◌, ◌==◌, ◌&&◌, ◌||◌, not, Bool, true, false, if◌then◌else◌, List, [], ◌∷◌, ◌++◌, length, drop, Option, Some, None, is_some, codes}
+use Rattle.std.specs.Prelude.{ℕ, ◌≡◌, ◌==◌, ◌&&◌, ◌||◌, not, Bool, true, false, if◌then◌else◌, List, [], ◌∷◌, ◌++◌, length, drop, Option, Some, None, is_some, codes}
 use Rattle.std.specs.List.{list_all}
 use Rattle.std.specs.Option.{option_and_then, option_map}
 use Rattle.std.specs.Str.{bytes_eq}
@@ -73,15 +73,13 @@ is_one_pair content = not (is_some content.tail) && (is_still content.move && li
 abbrev pub IsListed : Disk → List ℕ → Type 0
 IsListed disk text = (view : View) × (HasView disk view × IsListing view.tree text)
 
--- its first pair isn't well formed, or it holds all files and the disk isn't accepted
-abbrev pub IsCorrupt : Disk → Type 0
-IsCorrupt disk =
-    ((content : RawContent) → ¬ Starts disk content)
-    ⊎ ((content : RawContent) × (Starts disk content × (is_one_pair content ≡ true) × ((view : View) → ¬ HasView disk view)))
-
 -- its first pair is well formed, and there is more
 abbrev pub IsUnsupported : Disk → Type 0
 IsUnsupported disk = (content : RawContent) × (Starts disk content × (is_one_pair content ≡ false))
+
+-- the disk isn't accepted; where there is more behind a first pair that is well formed, that isn't looked into
+abbrev pub IsCorrupt : Disk → Type 0
+IsCorrupt disk = (¬ IsUnsupported disk) × ((view : View) → ¬ HasView disk view)
 
 -- why a disk isn't listed
 abbrev pub IsRefused : Disk → Error → Type 0

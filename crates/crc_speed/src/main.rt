@@ -5,9 +5,8 @@
 ghost use Rattle.std.specs.Prelude.{◌≡◌, length};
 
 use lfs_tag::crc;
-use std::env;
-use std::io;
 use std::time::Instant;
+use std::{env, io};
 
 const BLOCK: usize = 65536;
 

@@ -1,8 +1,8 @@
 //! The log of a metadata block: tags, checksums, commits, and what a block holds for a name or an id.
 #![tactic(auto)]
 
-mod checksum;
 mod builder;
+mod checksum;
 mod content;
 mod crc_table;
 mod entries;
@@ -17,8 +17,8 @@ mod search;
 mod steps;
 mod tag;
 
-pub use checksum::crc;
 pub use builder::CommitBuilder;
+pub use checksum::crc;
 pub use content::{Attribute, Content, ContentError, Part, Slot, Tail};
 pub use entries::Entries;
 pub use entry::Entry;

@@ -52,7 +52,7 @@ superblock_type part h file directory = go (part.0 == superblock_name_type) refl
           ne_eqb part.0 hard_tail_type (λ e. omega arith),
           ne_eqb part.0 create_type (λ e. omega arith),
           ne_eqb part.0 delete_type (λ e. omega arith),
-          ne_eqb part.0 move_state_type (λ e. omega arith)
+          ne_eqb part.0 move_state_type (λ e. omega arith),
         ) refl
 
     go : (b : Bool) → (part.0 == superblock_name_type) ≡ b → b ≡ true

@@ -259,7 +259,7 @@ pub no_superblock : (disk : Disk) (size n : ℕ) (block : List ℕ) (content : R
 no_superblock disk size n block content h read none = corrupt_from disk size n block h (λ other starts.
     let same : other ≡ content = same_Some other content (sym starts.held ∙ raw_is disk size n block h ∙ read) in
     let wrong : false ≡ true = sym none ∙ sym (ap₂ (λ x y. has_superblock x y content.slots) h.blocks.block_size h.blocks.count)
-        ∙ ap (λ c. has_superblock disk.block_size (block_count disk) c.slots) (sym same) ∙ starts.superblock in
+    ∙ ap (λ c. has_superblock disk.block_size (block_count disk) c.slots) (sym same) ∙ starts.superblock in
     absurd (cc))
 
 -- all files stand in its first pair, and they have no lines

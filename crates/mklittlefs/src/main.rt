@@ -47,7 +47,9 @@ fn main(rt: HostRuntime) -> ExitCode {
             Err(Fault::Tool(ToolError::Fs(Error::NoMemory)))
         }
         Err(_) => {
-            let _ = err.inner.write_all(b"error: the command line is not UTF-8\n");
+            let _ = err
+                .inner
+                .write_all(b"error: the command line is not UTF-8\n");
             return ExitCode::from(USAGE);
         }
     };

@@ -46,26 +46,36 @@ returns-clause-ok c =
 pub returns-clause-err : goal.returns-clause-err
 returns-clause-err c =
     let starts : (disk : Disk) → HasBlocks disk c.args.geometry.now.block_size c.args.geometry.now.block_count c.args.first.now c.args.second.now → Starts disk (content_seen c.in_ok-content.content) =
-        λ disk blocks. starts_from disk _ _ _ c.in-Some.log _ _ blocks (sym c.in-Some.is ∙ c.holder.ensures) c.in_ok-content.ensures.ok (c.begins_with_superblock.ensures.0 c.if-not-begins_with_superblock.false)
-        (sym (c.has_superblock.ensures ∙ ap (λ slots. has_superblock c.args.geometry.now.block_size c.args.geometry.now.block_count (map slot_seen slots)) c.deref.ensures.value) ∙ c.if-not-has_superblock.false) in
+    λ disk blocks. starts_from disk _ _ _ c.in-Some.log _ _ blocks (sym c.in-Some.is ∙ c.holder.ensures) c.in_ok-content.ensures.ok (c.begins_with_superblock.ensures.0 c.if-not-begins_with_superblock.false)
+    (sym (c.has_superblock.ensures ∙ ap (λ slots. has_superblock c.args.geometry.now.block_size c.args.geometry.now.block_count (map slot_seen slots)) c.deref.ensures.value) ∙ c.if-not-has_superblock.false) in
     IfErr-weaker c.lines_of.result _ _ (λ e wrong memory disk blocks.
-      let both = wrong memory in
-      subst (IsRefused disk) (sym both.0) (no_lines disk (content_seen c.in_ok-content.content) (starts disk blocks) (sym c.is_one_pair.ensures ∙ c.if-not-is_one_pair.false)
-      (sym (ap (lines_behind []) (behind_same c.deref-2.result.now c.in_ok-content.content.slots.items c.deref-2.ensures.value)) ∙ both.1))) c.lines_of.ensures.err
+    let both = wrong memory in
+    subst (IsRefused disk) (sym both.0) (no_lines disk (content_seen c.in_ok-content.content) (starts disk blocks) (sym c.is_one_pair.ensures ∙ c.if-not-is_one_pair.false)
+    (sym (ap (lines_behind []) (behind_same c.deref-2.result.now c.in_ok-content.content.slots.items c.deref-2.ensures.value)) ∙ both.1))) c.lines_of.ensures.err
 
 pub returns-in_err-content-clause-err : goal.returns-in_err-content-clause-err
 returns-in_err-content-clause-err c =
     passed_on c.from_residual.result c.in_err-content.field-0.0 _ c.from_residual.ensures.1 (λ memory disk blocks.
-      let both = c.in_err-content.ensures.err memory in
-      let h : Holds disk c.args.geometry.now.block_size c.args.geometry.now.block_count c.in-Some.log = record {
-        a = c.args.first.now; b = c.args.second.now; of_a = λ i. (c.type_inv.first i).fits; of_b = λ i. (c.type_inv.second i).fits; blocks = blocks; holds = sym c.holder.ensures ∙ c.in-Some.is;
-      } in
-      subst (IsRefused disk) (sym both.0) (malformed_log disk _ _ c.in-Some.log h both.1))
+    let both = c.in_err-content.ensures.err memory in
+    let h : Holds disk c.args.geometry.now.block_size c.args.geometry.now.block_count c.in-Some.log = record {
+      a = c.args.first.now;
+      b = c.args.second.now;
+      of_a = λ i. (c.type_inv.first i).fits;
+      of_b = λ i. (c.type_inv.second i).fits;
+      blocks = blocks;
+      holds = sym c.holder.ensures ∙ c.in-Some.is;
+    } in
+    subst (IsRefused disk) (sym both.0) (malformed_log disk _ _ c.in-Some.log h both.1))
 
 pub returns-then-not-begins_with_superblock-clause-err : goal.returns-then-not-begins_with_superblock-clause-err
 returns-then-not-begins_with_superblock-clause-err c = λ _ disk blocks.
     let h : Holds disk c.args.geometry.now.block_size c.args.geometry.now.block_count c.in-Some.log = record {
-      a = c.args.first.now; b = c.args.second.now; of_a = λ i. (c.type_inv.first i).fits; of_b = λ i. (c.type_inv.second i).fits; blocks = blocks; holds = sym c.holder.ensures ∙ c.in-Some.is;
+      a = c.args.first.now;
+      b = c.args.second.now;
+      of_a = λ i. (c.type_inv.first i).fits;
+      of_b = λ i. (c.type_inv.second i).fits;
+      blocks = blocks;
+      holds = sym c.holder.ensures ∙ c.in-Some.is;
     } in
     elim c.then-not-begins_with_superblock.branch [
       | then-not-begins_with_superblock-via-then-not-begins_with_superblock w ↦ begins_otherwise disk _ _ c.in-Some.log h (λ begins. absurd (let answer = c.begins_with_superblock.ensures.1 begins in cc))

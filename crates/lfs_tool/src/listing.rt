@@ -1,4 +1,4 @@
-ghost use Rattle.std.specs.Prelude.{◌≡◌, ◌≢◌, ◌↔◌, ◌/◌, ◌%◌, ◌<◌, ◌^◌, IfErr, IfOk, IfSome, IsErrOf, OnOk, None, Some, false, length, true};
+ghost use Rattle.std.specs.Prelude.{◌≡◌, ◌≢◌, ◌↔◌, ◌/◌, ◌%◌, ◌<◌, ◌^◌, IfErr, IfOk, IfSome, IsErrOf, OnOk, None, Some, false, length, true, vec_len};
 ghost use Rattle.std.specs.Io.KnownBytes.{Appends, Keeps};
 ghost use Rattle.lfs_model.specs.Geometry.{IsGeometry};
 ghost use Rattle.lfs_model.specs.Disk.{Disk};
@@ -6,7 +6,7 @@ ghost use Rattle.lfs_model.specs.Log.{log_entries};
 ghost use Rattle.lfs_model.specs.Content.{content_after_all, no_content};
 ghost use Rattle.lfs_tag.specs.ContentSeen.{content_seen};
 ghost use Rattle.lfs_tool.specs.Known.{AppendsBeginning};
-ghost use Rattle.lfs_tool.specs.OnePair.{HasBlocks, IsListed, IsRefused, Lists, Refuses};
+ghost use Rattle.lfs_tool.specs.OnePair.{HasBlocks, IsCorrupt, IsListed, IsRefused, Lists, Refuses, Starts};
 
 use crate::holder::holder;
 use crate::input::read_image;
@@ -44,15 +44,17 @@ fn content_of<'a>(alloc: Global, log: &Log<'a>) -> Result<Content<'a>, Error>
     }
 }
 
-// The lines of a disk that begins with these two blocks.
-fn lines_in(
+// What the first pair holds of a disk that begins with these two blocks.
+fn first_pair<'a>(
     alloc: Global,
     geometry: &Geometry,
-    first: &[u8],
-    second: &[u8],
-) -> Result<Vec<u8>, Error>
-    ensures ok { IfOk result (λ text. (disk : Disk) → HasBlocks disk geometry.now.block_size geometry.now.block_count first.now second.now → IsListed disk text.items) }
-    ensures err { IfErr result (λ e. e ≢ Error.NoMemory → (disk : Disk) → HasBlocks disk geometry.now.block_size geometry.now.block_count first.now second.now → IsRefused disk e) }
+    first: &'a [u8],
+    second: &'a [u8],
+) -> Result<Content<'a>, Error>
+    ensures ok { IfOk result (λ c. (disk : Disk) → HasBlocks disk geometry.now.block_size geometry.now.block_count first.now second.now → Starts disk (content_seen c)) }
+    ensures some { IfOk result (λ c. 0 < vec_len c.slots) }
+    ensures err { IfErr result (λ e. e ≢ Error.NoMemory → (e ≡ Error.Corrupt)
+        × ((disk : Disk) → HasBlocks disk geometry.now.block_size geometry.now.block_count first.now second.now → IsCorrupt disk)) }
 {
     let Some(log) = holder(first, second) else {
         return Err(Error::Corrupt);
@@ -61,6 +63,21 @@ fn lines_in(
     if !begins_with_superblock(&log) || !has_superblock(geometry, &content.slots) {
         return Err(Error::Corrupt);
     }
+    Ok(content)
+}
+
+// The lines of a disk that begins with these two blocks.
+fn lines_in(
+    alloc: Global,
+    geometry: &Geometry,
+    first: &[u8],
+    second: &[u8],
+) -> Result<Vec<u8>, Error>
+    ensures ok { IfOk result (λ text. (disk : Disk) → HasBlocks disk geometry.now.block_size geometry.now.block_count first.now second.now → IsListed disk text.items) }
+    ensures err { IfErr result (λ e. e ≢ Error.NoMemory
+        → (disk : Disk) → HasBlocks disk geometry.now.block_size geometry.now.block_count first.now second.now → IsRefused disk e) }
+{
+    let content = first_pair(alloc, geometry, first, second)?;
     if !is_one_pair(&content) {
         return Err(Error::Unsupported);
     }

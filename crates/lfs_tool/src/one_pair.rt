@@ -1,6 +1,6 @@
 // What the first pair of an image holds, and its lines where it holds all files.
 
-ghost use Rattle.std.specs.Prelude.{◌≡◌, ◌≢◌, ◌↔◌, IsTrue, IfErr, IfOk, None, Some, [], map, not};
+ghost use Rattle.std.specs.Prelude.{◌≡◌, ◌≢◌, ◌↔◌, IsTrue, IfErr, IfOk, None, Some, [], ◌<◌, length, map, not};
 ghost use Rattle.std.specs.List.{list_all};
 ghost use Rattle.std.specs.Option.{option_map};
 ghost use Rattle.lfs_model.specs.Content.{superblock_name_type};
@@ -78,7 +78,8 @@ fn none_is_superblock(slots: &[Slot<'_>]) -> bool
 
 // Whether the first slot is the superblock, and no other is one.
 pub(crate) fn has_superblock(geometry: &Geometry, slots: &[Slot<'_>]) -> bool
-    ensures { result ≡ has_superblock geometry.now.block_size geometry.now.block_count (map slot_seen slots.now) }
+    ensures some { IsTrue result → 0 < length slots.now }
+    ensures value { result ≡ has_superblock geometry.now.block_size geometry.now.block_count (map slot_seen slots.now) }
 {
     match slots {
         [first, others @ ..] => { is_superblock(geometry, first) && none_is_superblock(others) }

@@ -17,6 +17,6 @@ headed block_size count (s ∷ slots) first some at is =
     ∙ sym (list_all-map (λ (o : RawSlot). not (has_type superblock_name_type o.name)) slot_seen slots)
     ∙ sym (ap (λ b. b && list_all (λ o. not (has_type superblock_name_type o.name)) (map slot_seen slots)) (ap (λ f. is_superblock block_size count (slot_seen f)) (sym at) ∙ is))
 
-pub returns-then-is_superblock : goal.returns-then-is_superblock
-returns-then-is_superblock c =
+pub returns-then-is_superblock-clause-value : goal.returns-then-is_superblock-clause-value
+returns-then-is_superblock-clause-value c =
     c.none_is_superblock.ensures ∙ headed _ _ c.args.slots.now c.first-item.result c.in-len1-up.len_at_least c.first-item.is (sym c.is_superblock.ensures ∙ c.if-is_superblock.true)

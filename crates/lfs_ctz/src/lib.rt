@@ -11,3 +11,6 @@ pub use extender::Extender;
 pub use read::read_at;
 pub use size::{blocks_for, place};
 pub use visits::walk;
+
+#[cfg(test)]
+mod tests;

@@ -17,6 +17,7 @@ pub use ending::report;
 pub use errors::{Fault, ToolError};
 pub use lfs_tool_line::{Line, LineError, Mode, read_line};
 pub use listing::list;
+pub use output::write_bytes;
 pub use watched::Watched;
 
 #[cfg(test)]

@@ -7,8 +7,11 @@ ghost use Rattle.lfs_tool.specs.Known.{AppendsBeginning};
 use crate::{ToolError, Watched};
 use std::io::Write;
 
-// Writes the bytes. After an error a beginning of them was written.
-pub(crate) fn write_bytes<W: Write>(out: &mut Watched<W>, bytes: &[u8]) -> Result<(), ToolError>
+/// Writes the bytes. After an error a beginning of them was written.
+///
+/// # Errors
+/// `Output` where the writer failed.
+pub fn write_bytes<W: Write>(out: &mut Watched<W>, bytes: &[u8]) -> Result<(), ToolError>
     ensures ok { OnOk result (Appends (W.contents out.old.inner) (W.contents out.new.inner) bytes.now) }
     ensures beginning { AppendsBeginning (W.contents out.old.inner) (W.contents out.new.inner) bytes.now }
     ensures kept { OnOk result (out.new.has_failed ≡ out.old.has_failed) }

@@ -1,0 +1,130 @@
+use crate::create;
+use lfs_device::{Error, Geometry};
+use lfs_tool::{ToolError, Watched, list};
+use lfs_tool_source::{Held, MemorySource, SourceError};
+use std::alloc::Global;
+use std::test::Fail;
+
+fn file(alloc: Global, path: &[u8], bytes: &[u8]) -> Result<Held, SourceError> {
+    let path = path.to_vec(alloc).map_err(|_| SourceError::NoMemory)?;
+    let bytes = bytes.to_vec(alloc).map_err(|_| SourceError::NoMemory)?;
+    Ok(Held {
+        path,
+        bytes: Some(bytes),
+    })
+}
+
+fn source(held: Vec<Held>) -> MemorySource {
+    MemorySource {
+        held,
+        has_failed: false,
+    }
+}
+
+// The image, or why there is none. `Output` says that something was written all the same.
+fn made(
+    alloc: Global,
+    held: Vec<Held>,
+    block_size: u32,
+    page: u32,
+    block_count: u32,
+) -> Result<Vec<u8>, ToolError> {
+    let geometry = Geometry::new(block_size, page, block_count).map_err(ToolError::Fs)?;
+    let mut image = Watched::new(Vec::new(alloc));
+    let result = create(alloc, &mut source(held), geometry, &mut image);
+    if result.is_err() && !image.inner.is_empty() {
+        return Err(ToolError::Output);
+    }
+    result?;
+    Ok(image.inner)
+}
+
+#[test]
+fn an_empty_folder_makes_a_fresh_image(rt: HostRuntime) -> Result<(), Fail> {
+    let alloc = rt.alloc();
+    let image = made(alloc, Vec::new(alloc), 4096, 256, 16).expect(&rt, "an image");
+    assert_eq!(rt; image.len(), 65536);
+    let start = [
+        0x01, 0, 0, 0, 0xf0, 0x0f, 0xff, 0xf7, 0x6c, 0x69, 0x74, 0x74, 0x6c, 0x65, 0x66, 0x73,
+        0x2f, 0xe0, 0x00, 0x10, 0, 0, 0x02, 0, 0, 0x10, 0, 0, 0x10, 0, 0, 0, 0xff, 0, 0, 0, 0xff,
+        0xff, 0xff, 0x7f, 0xfe, 0x03, 0, 0, 0x70, 0x1f, 0xfc, 0xc8,
+    ];
+    assert!(rt; &image[..48] == start.as_slice());
+    assert!(rt; image[52..].iter().all(|byte| *byte == 0xff));
+    Ok(())
+}
+
+#[test]
+fn a_file_is_listed(rt: HostRuntime) -> Result<(), Fail> {
+    let alloc = rt.alloc();
+    let held = vec![in alloc; file(alloc, b"/a", b"hello").expect(&rt, "a file")]?;
+    let image = made(alloc, held, 4096, 256, 16).expect(&rt, "an image");
+    assert_eq!(rt; image.len(), 65536);
+    let mut lines = Watched::new(Vec::new(alloc));
+    let mut reader = Watched::new(image.as_slice());
+    list(alloc, &mut reader, 4096, 256, &mut lines).expect(&rt, "a list");
+    assert!(rt; lines.inner.as_slice() == b"f 5 /a\n".as_slice());
+    Ok(())
+}
+
+#[test]
+fn files_stand_in_their_slots(rt: HostRuntime) -> Result<(), Fail> {
+    let alloc = rt.alloc();
+    let held = vec![in alloc; file(alloc, b"/a", &[7; 512]).expect(&rt, "a file")]?;
+    assert!(rt; made(alloc, held, 4096, 256, 16).is_ok());
+    let held = vec![in alloc; file(alloc, b"/a", &[7; 513]).expect(&rt, "a file")]?;
+    let refused = made(alloc, held, 4096, 256, 16);
+    assert!(rt; matches!(&refused, Err(ToolError::Fs(Error::Unsupported))));
+    let folder = Held {
+        path: b"/d".to_vec(alloc)?,
+        bytes: None,
+    };
+    let refused = made(alloc, vec![in alloc; folder]?, 4096, 256, 16);
+    assert!(rt; matches!(&refused, Err(ToolError::Fs(Error::Unsupported))));
+    Ok(())
+}
+
+#[test]
+fn two_blocks_have_no_space(rt: HostRuntime) -> Result<(), Fail> {
+    let alloc = rt.alloc();
+    for blocks in [2, 3] {
+        let held = vec![in alloc; file(alloc, b"/a", b"").expect(&rt, "a file")]?;
+        let refused = made(alloc, held, 4096, 256, blocks);
+        assert!(rt; matches!(&refused, Err(ToolError::Fs(Error::NoSpace))));
+    }
+    assert!(rt; made(alloc, Vec::new(alloc), 4096, 256, 2).is_ok());
+    Ok(())
+}
+
+#[test]
+fn long_names_are_refused(rt: HostRuntime) -> Result<(), Fail> {
+    let alloc = rt.alloc();
+    let mut path = [b'x'; 257];
+    path[0] = b'/';
+    let held = vec![in alloc; file(alloc, &path, b"").expect(&rt, "a file")]?;
+    let refused = made(alloc, held, 4096, 256, 2);
+    assert!(rt; matches!(&refused, Err(ToolError::Fs(Error::NameTooLong))));
+    let held = vec![in alloc; file(alloc, &path[..256], b"").expect(&rt, "a file")]?;
+    assert!(rt; made(alloc, held, 4096, 256, 4).is_ok());
+    Ok(())
+}
+
+#[test]
+fn a_pair_has_a_capacity(rt: HostRuntime) -> Result<(), Fail> {
+    let alloc = rt.alloc();
+    // 40 and six files of 136 and 137 bytes beside 857 that a pair holds.
+    let mut held = Vec::new(alloc);
+    for name in [b"/a", b"/b", b"/c", b"/d", b"/e"] {
+        held.push(file(alloc, name, &[0; 128]).expect(&rt, "a file"))?;
+    }
+    held.push(file(alloc, b"/f", &[0; 123]).expect(&rt, "a file"))?;
+    assert!(rt; made(alloc, held, 1024, 128, 4).is_ok());
+    let mut held = Vec::new(alloc);
+    for name in [b"/a", b"/b", b"/c", b"/d", b"/e"] {
+        held.push(file(alloc, name, &[0; 128]).expect(&rt, "a file"))?;
+    }
+    held.push(file(alloc, b"/f", &[0; 124]).expect(&rt, "a file"))?;
+    let refused = made(alloc, held, 1024, 128, 4);
+    assert!(rt; matches!(&refused, Err(ToolError::Fs(Error::Unsupported))));
+    Ok(())
+}

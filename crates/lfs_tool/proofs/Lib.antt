@@ -2,7 +2,6 @@ mod KnownBytes
 mod RootFiles
 mod RootPair
 mod Accepted
-mod Commits
 pub mod RootFiles
 pub mod RootPair
 mod Starts

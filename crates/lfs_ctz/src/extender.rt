@@ -6,7 +6,7 @@ ghost use Rattle.lfs_model.specs.Lists.{IsChain, IsList, blocks_back, blocks_for
 ghost use Rattle.lfs_ctz.specs.Filled.{IsFilled};
 
 use crate::block::write_block;
-use crate::read::pointers;
+use crate::read::{find, head_before, pointers, read_part};
 use crate::{blocks_for, place};
 use lfs_device::{BlockDevice, Error, Geometry};
 use std::alloc::Global;
@@ -78,6 +78,63 @@ impl Extender {
             filled: 0,
             size: 0,
             tail: Tail::Closed,
+        })
+    }
+
+    /// The first `keep` bytes of a well-formed list.
+    ///
+    /// There is at least one byte, and at most as many as the list has. `Error::NoMemory` comes
+    /// where there is no memory for a block, `Error::Io` where the device failed.
+    pub fn resume<D: BlockDevice>(
+        alloc: Global,
+        dev: &mut D,
+        head: u32,
+        size: u32,
+        keep: u32,
+    ) -> Result<Extender, Error>
+        requires list { IsList (D.blocks dev.old) (D.geometry dev.old).block_size head size }
+        requires some { 1 ≤ keep }
+        requires within { keep ≤ size }
+        ensures held { IfOk result (λ e. IsGrowing (D.blocks dev.old) (growing_of e)) }
+        ensures bytes { IfOk result (λ e. content_of (D.blocks dev.old) (growing_of e) ≡ take keep (bytes_of (D.blocks dev.old) (D.geometry dev.old).block_size head size)) }
+        ensures sum { IfOk result (λ e. size_of (geometry_of e).block_size (growing_of e) ≡ keep) }
+        ensures blocks { IfOk result (λ e. blocks_of (D.blocks dev.old) (growing_of e)
+            ≡ take (blocks_for (D.geometry dev.old).block_size keep) (blocks_back (D.blocks dev.old) (blocks_for (D.geometry dev.old).block_size size) head)) }
+        ensures pending { IfOk result (λ e. pending_of (growing_of e) ≡ []) }
+        ensures geometry { IfOk result (λ e. geometry_of e ≡ D.geometry dev.old) }
+        ensures same { D.blocks dev.new ≡ D.blocks dev.old }
+        ensures device { D.geometry dev.new ≡ D.geometry dev.old }
+        ensures history { OnlyReads (D.blocks dev.old) (D.history dev.old) (D.history dev.new) }
+        ensures no_fault { OnOk result (faults (D.history dev.new) ≡ faults (D.history dev.old)) }
+        ensures io { IsErrOf result Error.Io → faults (D.history dev.old) < faults (D.history dev.new) }
+        ensures errors { IfErr result (λ e. (e ≡ Error.Io) ⊎ (e ≡ Error.NoMemory)) }
+    {
+        let geometry = dev.geometry();
+        let block_size = geometry.block_size;
+        let mut buffer = Vec::from_elem(alloc, 0u8, block_size as usize)?;
+        let (index, off) = place(block_size, keep - 1);
+        let block = find(dev, head, blocks_for(block_size, size) - 1, index)?;
+        if off + 1 == block_size {
+            return Ok(Extender {
+                geometry,
+                buffer,
+                full: index + 1,
+                head: block,
+                filled: 4 * pointers(index + 1),
+                size: keep,
+                tail: Tail::Closed,
+            });
+        }
+        let head = head_before(dev, block, index)?;
+        read_part(dev, block, 0, buffer.as_mut_slice(), 0, off + 1)?;
+        Ok(Extender {
+            geometry,
+            buffer,
+            full: index,
+            head,
+            filled: off + 1,
+            size: keep,
+            tail: Tail::Shared(block),
         })
     }
 

@@ -83,6 +83,26 @@ fn before<D: BlockDevice>(dev: &mut D, block: u32) -> Result<u32, Error>
     Ok(word)
 }
 
+// The last of so many blocks before one, 0 where there are none.
+pub(crate) fn head_before<D: BlockDevice>(dev: &mut D, block: u32, count: u32) -> Result<u32, Error>
+    requires { block < (D.geometry dev.old).block_count }
+    ensures word { IfOk result (λ word. 0 < count → word ≡ word_at (block_in (D.blocks dev.old) block) 0) }
+    ensures corrupt { IsErrOf result Error.Corrupt → 0 < count → (D.geometry dev.old).block_count ≤ word_at (block_in (D.blocks dev.old) block) 0 }
+    ensures some { IsErrOf result Error.Corrupt → 0 < count }
+    ensures same { D.blocks dev.new ≡ D.blocks dev.old }
+    ensures geometry { D.geometry dev.new ≡ D.geometry dev.old }
+    ensures history { OnlyReads (D.blocks dev.old) (D.history dev.old) (D.history dev.new) }
+    ensures no_fault { OnOk result (faults (D.history dev.new) ≡ faults (D.history dev.old)) }
+    ensures io { IsErrOf result Error.Io → faults (D.history dev.old) < faults (D.history dev.new) }
+    ensures errors { IfErr result (λ e. (e ≡ Error.Io) ⊎ (e ≡ Error.Corrupt)) }
+{
+    if count == 0 {
+        return Ok(0);
+    }
+    let head = before(dev, block)?;
+    Ok(head)
+}
+
 // How many pointers a block begins with.
 pub(crate) fn pointers(index: u32) -> u32
     ensures { result ≡ pointers_of index }
@@ -95,7 +115,7 @@ pub(crate) fn pointers(index: u32) -> u32
 }
 
 // Reads so many bytes of a block into the buffer, over those from `start` on.
-fn read_part<D: BlockDevice>(
+pub(crate) fn read_part<D: BlockDevice>(
     dev: &mut D,
     block: u32,
     off: u32,

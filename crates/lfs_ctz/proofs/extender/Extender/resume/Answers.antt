@@ -1,0 +1,213 @@
+use Rattle.std.proofs.Common.{suc, ℕ, ◌≡◌, ◌≤◌, ◌<◌, ◌+◌, ◌-◌, ◌*◌, ◌++◌, ◌⊎◌, inl, inr, List, [], ◌∷◌, length, take, drop, slice_index, Result, Err, refl, sym, ap, subst, ◌∙◌, arith, add-one}
+use Rattle.std.specs.Vec.{with_items}
+use Rattle.std.proofs.lemmas.List.{with_items_is}
+use Rattle.std.proofs.lemmas.Result.{err_from_is_err_and}
+use Rattle.lfs_device.specs.declared.error.Error.{Error}
+use Rattle.lfs_device.specs.declared.geometry.Geometry.{Geometry}
+use Rattle.lfs_model.specs.Blocks.{Blocks, IsDivided, block_in}
+use Rattle.lfs_model.specs.Lists.{IsChain, IsList, IsPlace, pointers_of, bytes_before, blocks_back, blocks_for, bytes_of, word_at}
+use Rattle.lfs_ctz.specs.Growing.{joined, IsShared}
+use Rattle.lfs_ctz.proofs.Sizes.{blocks_for-last, place-lt, pointers_of-le, place-le}
+use Rattle.lfs_ctz.proofs.Chains.{chain_of_list, in_range_at, back-pointer0}
+use Rattle.lfs_ctz.proofs.Geometries.{last_is, chain, sized, shaped}
+use Rattle.lfs_ctz.proofs.Readings.{reads_on}
+use Rattle.lfs_ctz.proofs.Resumed.{few_blocks, front_back, front_chain, keep_full, full_content, full_blocks, before_chain, open_blocks, rest_long, open_shared, open_content}
+use Rattle.lfs_ctz.proofs.Words.{data-written}
+use Rattle.lfs_ctz.proofs.extender.Extender.resume.Goals as goal
+
+pub overflow_sub-blocks_for : goal.overflow_sub-blocks_for
+overflow_sub-blocks_for g c =
+    let last = blocks_for-last c.geometry-geometry.result.block_size c.args.size c.geometry-geometry.result.valid.no_smaller c.requires.list.size_low in
+    omega (arith, last.1.0, c.blocks_for.ensures)
+
+pub find-requires : goal.find-requires
+find-requires g c =
+    let lt = place-lt c.geometry-geometry.result.block_size c.args.size _ _ _ c.geometry-geometry.result.valid.no_smaller c.place-index.ensures (let s = c.requires.some in let w = c.requires.within in omega arith) in
+    omega (arith, lt, c.blocks_for.ensures)
+
+-- a list's blocks are all there
+never_corrupt : {T : Type 0} (x : Error) → (x ≡ Error.Io) ⊎ (x ≡ Error.Corrupt) → (◌≡◌ {A = Result T Error} (Err x) (Err Error.Corrupt) → ⊥) → (x ≡ Error.Io) ⊎ (x ≡ Error.NoMemory)
+never_corrupt x (inl is) other = inl is
+never_corrupt x (inr is) other = absurd (other (ap Err is))
+
+pub returns-in_err-block-clause-errors : goal.returns-in_err-block-clause-errors
+returns-in_err-block-clause-errors g c =
+    let p = err_from_is_err_and c.from_residual-in_err-block.result c.from_residual-in_err-block.ensures.1 in
+    rw (p.1, p.2) (never_corrupt {T = ℕ} _ c.in_err-block.ensures.errors (λ is. c.in_err-block.ensures.corrupt is
+    (chain _ _ _ _ _ c.geometry-geometry.result.valid.no_smaller c.blocks_for.ensures (sized _ _ _ _ _ c.geometry-geometry.ensures c.requires.list))))
+
+pub overflow_add-result : goal.overflow_add-result
+overflow_add-result g c =
+    let few = place-le _ _ _ _ c.geometry-geometry.result.valid.no_smaller c.place-index.ensures in
+    omega arith
+
+pub overflow_add-index : goal.overflow_add-index
+overflow_add-index g c =
+    let few = place-le _ _ _ _ c.geometry-geometry.result.valid.no_smaller c.place-index.ensures in
+    omega arith
+
+-- the block that was found
+found_at : (d : Blocks) (geometry made : Geometry) (head size n i block : ℕ) → made ≡ geometry → n ≡ blocks_for made.block_size size → IsList d geometry.block_size head size
+    → (IsChain d (n - 1 + 1) head → block ≡ slice_index (blocks_back d (n - 1 + 1) head) i) → block ≡ slice_index (blocks_back d (blocks_for made.block_size size) head) i
+found_at d geometry made head size n i block e is list found =
+    found (chain d made.block_size head size n made.valid.no_smaller is (sized d head size geometry made e list))
+    ∙ ap (λ k. slice_index (blocks_back d k head) i) (last_is made.block_size size n made.valid.no_smaller list.size_low is)
+
+-- a front that ends with a block
+record IsFull (d : Blocks) (geometry made : Geometry) (head size keep i block : ℕ) : Type 0 where
+  chain_is : IsChain d (i + 1) block
+  content : joined d (blocks_back d (i + 1) block) ++ [] ≡ take keep (bytes_of d geometry.block_size head size)
+  blocks_are : blocks_back d (i + 1) block ++ [] ≡ take (blocks_for geometry.block_size keep) (blocks_back d (blocks_for geometry.block_size size) head)
+  sum : keep ≡ bytes_before made.block_size (i + 1)
+
+is_full : (d : Blocks) (geometry made : Geometry) (head size keep n i off block : ℕ) → made ≡ geometry → n ≡ blocks_for made.block_size size → IsDivided geometry.block_size geometry.block_count d
+    → IsList d geometry.block_size head size → 1 ≤ keep → keep ≤ size → IsPlace made.block_size (keep - 1) i off → (IsChain d (n - 1 + 1) head → block ≡ slice_index (blocks_back d (n - 1 + 1) head) i)
+    → off + 1 ≡ made.block_size → IsFull d geometry made head size keep i block
+is_full d geometry made head size keep n i off block e is shape list some within place found ends =
+    let here = found_at d geometry made head size n i block e is list found in
+    let large = made.valid.no_smaller in
+    let parts = shaped d geometry made e shape in
+    let same = sized d head size geometry made e list in
+    record {
+      chain_is = front_chain d made.block_size geometry.block_count head size keep i off block large parts same some within place here;
+      content = full_content d made.block_size geometry.block_count head size keep i off block large parts same some within place here ends ∙ ap (λ (k : Geometry). take keep (bytes_of d k.block_size head size)) e;
+      blocks_are = full_blocks d made.block_size geometry.block_count head size keep i off block large parts same some within place here ends
+          ∙ ap (λ (k : Geometry). take (blocks_for k.block_size keep) (blocks_back d (blocks_for k.block_size size) head)) e;
+      sum = keep_full d made.block_size geometry.block_count head size keep i off block large parts same some within place here ends;
+    }
+
+-- a front that ends in one
+record IsOpen (d : Blocks) (geometry made : Geometry) (head size keep i off block before : ℕ) (rest : List ℕ) : Type 0 where
+  chain_is : IsChain d i before
+  shared : IsShared d i before rest block
+  content : joined d (blocks_back d i before) ++ rest ≡ take keep (bytes_of d geometry.block_size head size)
+  blocks_are : blocks_back d i before ++ block ∷ [] ≡ take (blocks_for geometry.block_size keep) (blocks_back d (blocks_for geometry.block_size size) head)
+
+is_open : (d : Blocks) (geometry made : Geometry) (head size keep n i off block before : ℕ) (rest : List ℕ) → made ≡ geometry → n ≡ blocks_for made.block_size size
+    → IsDivided geometry.block_size geometry.block_count d → IsList d geometry.block_size head size → 1 ≤ keep → keep ≤ size → IsPlace made.block_size (keep - 1) i off
+    → (IsChain d (n - 1 + 1) head → block ≡ slice_index (blocks_back d (n - 1 + 1) head) i) → off + 1 < made.block_size → (0 < i → before ≡ word_at (block_in d block) 0)
+    → rest ≡ take (off + 1 - 4 * pointers_of i) (drop (4 * pointers_of i) (block_in d block)) → IsOpen d geometry made head size keep i off block before rest
+is_open d geometry made head size keep n i off block before rest e is shape list some within place found short named rest_is =
+    let here = found_at d geometry made head size n i block e is list found in
+    let large = made.valid.no_smaller in
+    let parts = shaped d geometry made e shape in
+    let same = sized d head size geometry made e list in
+    record {
+      chain_is = before_chain d made.block_size geometry.block_count head size keep i off block large parts same some within place here before named short;
+      shared = open_shared d made.block_size geometry.block_count head size keep i off block large parts same some within place here before named short rest rest_is;
+      content = open_content d made.block_size geometry.block_count head size keep i off block large parts same some within place here before named short rest rest_is ∙ ap (λ (k : Geometry). take keep (bytes_of d k.block_size head size)) e;
+      blocks_are = open_blocks d made.block_size geometry.block_count head size keep i off block large parts same some within place here before named short
+          ∙ ap (λ (k : Geometry). take (blocks_for k.block_size keep) (blocks_back d (blocks_for k.block_size size) head)) e;
+    }
+
+-- the block does not end the front
+short_of : (block_size keep i off : ℕ) → 1024 ≤ block_size → IsPlace block_size (keep - 1) i off → (off + 1 ≡ block_size → ⊥) → off + 1 < block_size
+short_of block_size keep i off large place other =
+    let at = place.at in
+    let from = place.from in
+    let below = place.below in
+    let few = pointers_of-le i in
+    omega arith
+
+-- the block that its pointer 0 names is there
+before_there : (d : Blocks) (geometry made : Geometry) (head size keep n i off block : ℕ) → made ≡ geometry → n ≡ blocks_for made.block_size size → IsDivided geometry.block_size geometry.block_count d
+    → IsList d geometry.block_size head size → 1 ≤ keep → keep ≤ size → IsPlace made.block_size (keep - 1) i off → (IsChain d (n - 1 + 1) head → block ≡ slice_index (blocks_back d (n - 1 + 1) head) i)
+    → 0 < i → word_at (block_in d block) 0 < geometry.block_count
+before_there d geometry made head size keep n i off block e is shape list some within place found more =
+    let here = found_at d geometry made head size n i block e is list found in
+    let same = sized d head size geometry made e list in
+    let low = place-lt made.block_size size (keep - 1) i off made.valid.no_smaller place (omega arith) in
+    let next : suc (i - 1) ≡ i = omega arith in
+    let bs : List ℕ = blocks_back d (blocks_for made.block_size size) head in
+    let to : word_at (block_in d block) 0 ≡ slice_index bs (i - 1) =
+    ap (λ b. word_at (block_in d b) 0) (here ∙ ap (slice_index bs) (sym next)) ∙ back-pointer0 d (blocks_for made.block_size size) head (i - 1) (omega arith) in
+    let lt = in_range_at d (blocks_for made.block_size size) head (i - 1) (chain_of_list same) (omega arith) in
+    omega (arith, lt, to, shape.count)
+
+-- what the buffer holds of the block then
+read_rest : (d same : Blocks) (old new items : List ℕ) (block off p block_size : ℕ) → same ≡ d → items ≡ new → new ≡ take 0 old ++ (take (off + 1) (drop 0 (block_in same block)) ++ drop (0 + (off + 1)) old)
+    → length (block_in d block) ≡ block_size → off + 1 ≤ block_size → p ≤ off + 1 → take (off + 1 - p) (drop p items) ≡ take (off + 1 - p) (drop p (block_in d block))
+read_rest d same old new items block off p block_size e is read long within low =
+    ap (λ (l : List ℕ). take (off + 1 - p) (drop p l)) (is ∙ read ∙ ap (λ b. take (off + 1) (block_in b block) ++ drop (0 + (off + 1)) old) e)
+    ∙ data-written (block_in d block) (drop (0 + (off + 1)) old) (off + 1) p (omega arith) low
+
+pub invariant_of-result-clause-in_step : goal.invariant_of-result-clause-in_step
+invariant_of-result-clause-in_step g c =
+    let full = is_full _ _ _ _ _ _ _ _ _ _ c.geometry-geometry.ensures c.blocks_for.ensures (g.met.D.BlockDevice.shape c.args.dev.now) c.requires.list c.requires.some c.requires.within c.place-index.ensures c.in_ok-block.ensures.found c.if-off-block_size.true in
+    let few = pointers_of-le (c.place-index.result.0 + 1) in
+    let large = c.geometry-geometry.result.valid.no_smaller in
+    let many = c.pointers.ensures in
+    let high = c.requires.list.size_high in
+    let within = c.requires.within in
+    let sum = full.sum in
+    record { low = omega arith; high = omega arith; sum = omega arith; fits = omega arith }
+
+pub returns-then-off-block_size-clause-held : goal.returns-then-off-block_size-clause-held
+returns-then-off-block_size-clause-held g c =
+    let full = is_full _ _ _ _ _ _ _ _ _ _ c.geometry-geometry.ensures c.blocks_for.ensures (g.met.D.BlockDevice.shape c.args.dev.now) c.requires.list c.requires.some c.requires.within c.place-index.ensures c.in_ok-block.ensures.found c.if-off-block_size.true in
+    let none : 4 * c.pointers.result - 4 * pointers_of (c.place-index.result.0 + 1) ≡ 0 = omega (arith, c.pointers.ensures) in
+    record { chain = full.chain_is; tail = ap (λ k. take k (drop (4 * pointers_of (c.place-index.result.0 + 1)) c.in_ok-buffer.buffer.items)) none }
+
+pub returns-then-off-block_size-clause-bytes : goal.returns-then-off-block_size-clause-bytes
+returns-then-off-block_size-clause-bytes g c =
+    let full = is_full _ _ _ _ _ _ _ _ _ _ c.geometry-geometry.ensures c.blocks_for.ensures (g.met.D.BlockDevice.shape c.args.dev.now) c.requires.list c.requires.some c.requires.within c.place-index.ensures c.in_ok-block.ensures.found c.if-off-block_size.true in
+    let none : 4 * c.pointers.result - 4 * pointers_of (c.place-index.result.0 + 1) ≡ 0 = omega (arith, c.pointers.ensures) in
+    ap (λ k. joined (g.D.BlockDevice.blocks c.args.dev.now) (blocks_back (g.D.BlockDevice.blocks c.args.dev.now) (c.place-index.result.0 + 1) c.in_ok-block.block) ++ take k (drop (4 * pointers_of (c.place-index.result.0 + 1)) c.in_ok-buffer.buffer.items)) none
+    ∙ full.content
+
+pub returns-then-off-block_size-clause-blocks : goal.returns-then-off-block_size-clause-blocks
+returns-then-off-block_size-clause-blocks g c =
+    (is_full _ _ _ _ _ _ _ _ _ _ c.geometry-geometry.ensures c.blocks_for.ensures (g.met.D.BlockDevice.shape c.args.dev.now) c.requires.list c.requires.some c.requires.within c.place-index.ensures c.in_ok-block.ensures.found c.if-off-block_size.true).blocks_are
+
+pub returns-in_err-head-clause-history : goal.returns-in_err-head-clause-history
+returns-in_err-head-clause-history g c = reads_on _ _ _ _ _ c.find.ensures.same c.find.ensures.history c.head_before.ensures.history
+
+pub returns-in_err-head-clause-errors : goal.returns-in_err-head-clause-errors
+returns-in_err-head-clause-errors g c =
+    let p = err_from_is_err_and c.from_residual-in_err-head.result c.from_residual-in_err-head.ensures.1 in
+    rw (p.1, p.2) (never_corrupt {T = ℕ} _ c.in_err-head.ensures.errors (λ is.
+    let some = c.in_err-head.ensures.some is in
+    let refused = rw (c.find.ensures.same, c.find.ensures.geometry) at c.in_err-head.ensures.corrupt in
+    let out = refused is some in
+    let inside = before_there _ _ _ _ _ c.args.keep _ _ _ _ c.geometry-geometry.ensures c.blocks_for.ensures (g.met.D.BlockDevice.shape c.args.dev.now) c.requires.list c.requires.some c.requires.within c.place-index.ensures c.in_ok-block.ensures.found some in
+    omega (arith, out, inside)))
+
+pub returns-in_err-read_part-clause-history : goal.returns-in_err-read_part-clause-history
+returns-in_err-read_part-clause-history g c =
+    reads_on _ _ _ _ _ (c.head_before.ensures.same ∙ c.find.ensures.same) (reads_on _ _ _ _ _ c.find.ensures.same c.find.ensures.history c.head_before.ensures.history) c.read_part.ensures.history
+
+pub returns-clause-history : goal.returns-clause-history
+returns-clause-history g c =
+    reads_on _ _ _ _ _ (c.head_before.ensures.same ∙ c.find.ensures.same) (reads_on _ _ _ _ _ c.find.ensures.same c.find.ensures.history c.head_before.ensures.history) c.read_part.ensures.history
+
+-- the bytes of the block that are kept
+rest_is : (g : _) (c : goal.After-result-2-1 g) → take (c.place-index.result.1 + 1 - 4 * pointers_of c.place-index.result.0) (drop (4 * pointers_of c.place-index.result.0) (with_items c.in_ok-buffer.buffer c.read_part.new.buf).items)
+    ≡ take (c.place-index.result.1 + 1 - 4 * pointers_of c.place-index.result.0) (drop (4 * pointers_of c.place-index.result.0) (block_in (g.D.BlockDevice.blocks c.args.dev.now) c.in_ok-block.block))
+rest_is g c =
+    let made = c.geometry-geometry.ensures in
+    let shape = g.met.D.BlockDevice.shape c.args.dev.now in
+    let in_range = c.in_ok-block.ensures.in_range in
+    let place = c.place-index.ensures in
+    let short = short_of c.geometry-geometry.result.block_size c.args.keep c.place-index.result.0 c.place-index.result.1 c.geometry-geometry.result.valid.no_smaller place c.if-off-block_size.false in
+    read_rest _ _ _ c.read_part.new.buf _ c.in_ok-block.block c.place-index.result.1 (4 * pointers_of c.place-index.result.0) c.geometry-geometry.result.block_size (c.head_before.ensures.same ∙ c.find.ensures.same)
+    (with_items_is c.in_ok-buffer.buffer c.read_part.new.buf (omega (arith, c.read_part.auto.buf, c.as_mut_slice.ensures.len, c.in_ok-buffer.buffer.ok.0)))
+    c.in_ok-read_part.ensures.bytes
+    (omega (arith, shape.sizes c.in_ok-block.block in_range, ap (λ (k : Geometry). k.block_size) made))
+    (omega arith) (let at = place.at in omega arith)
+
+opened : (g : _) (c : goal.After-result-2-1 g) → IsOpen (g.D.BlockDevice.blocks c.args.dev.now) (g.D.BlockDevice.geometry c.args.dev.now) c.geometry-geometry.result c.args.head c.args.size c.args.keep c.place-index.result.0 c.place-index.result.1
+    c.in_ok-block.block c.in_ok-head.head (take (c.place-index.result.1 + 1 - 4 * pointers_of c.place-index.result.0) (drop (4 * pointers_of c.place-index.result.0) (with_items c.in_ok-buffer.buffer c.read_part.new.buf).items))
+opened g c =
+    is_open _ _ _ _ _ _ _ _ _ _ _ _ c.geometry-geometry.ensures c.blocks_for.ensures (g.met.D.BlockDevice.shape c.args.dev.now) c.requires.list c.requires.some c.requires.within c.place-index.ensures c.in_ok-block.ensures.found
+    (short_of c.geometry-geometry.result.block_size c.args.keep c.place-index.result.0 c.place-index.result.1 c.geometry-geometry.result.valid.no_smaller c.place-index.ensures c.if-off-block_size.false)
+    (λ more. c.in_ok-head.ensures.word more ∙ ap (λ d. word_at (block_in d c.in_ok-block.block) 0) c.find.ensures.same)
+    (rest_is g c)
+
+pub returns-clause-held : goal.returns-clause-held
+returns-clause-held g c = let o = opened g c in record { chain = o.chain_is; tail = o.shared }
+
+pub returns-clause-bytes : goal.returns-clause-bytes
+returns-clause-bytes g c = (opened g c).content
+
+pub returns-clause-blocks : goal.returns-clause-blocks
+returns-clause-blocks g c = (opened g c).blocks_are

@@ -2,7 +2,7 @@
 use Rattle.std.proofs.Common.{ℕ, zero, suc, ◌≡◌, ◌≢◌, ◌+◌, ◌*◌, ◌-◌, ◌<◌, ◌≤◌, ⊎_elim, inl, inr, nat_eq, get_or, List, [], ◌∷◌, ◌++◌, length, take, drop, slice_index, refl, sym, ap, subst, ◌∙◌, arith, append_assoc, length-append}
 use Rattle.std.specs.Prelude.{All}
 use Rattle.std.specs.List.{IsDistinct}
-use Rattle.std.proofs.lemmas.Bool.{cases_eq, eqb-false}
+use Rattle.std.proofs.lemmas.Bool.{cases_eq, cases_lt, eqb-false}
 use Rattle.std.proofs.lemmas.List.{append-nil, get_or_append_left, get_or-append-add, get_or-take, length-take-le, take_more, get_or_default}
 use Rattle.std.proofs.Math.Seq.{take-append-add}
 use Rattle.std.proofs.lemmas.Map.Keys.{apart_from_distinct}
@@ -41,22 +41,27 @@ next_among (Shared b) handed pending blocks used is some among other apart = amo
 next_among (Handed b) handed pending blocks used is some among other apart = among other apart 0 0 (omega arith)
 
 -- and it is none of the full blocks
-apart_before : (back front blocks : List ℕ) (used : ℕ) → used < length blocks → back ≡ front ++ take used blocks → IsDistinct nat_eq (front ++ blocks) → All (λ c. c ≢ slice_index blocks used) back
-apart_before back front blocks used lt is distinct k x l e =
+apart_before : (back front blocks : List ℕ) (used : ℕ) → used < length blocks → back ≡ front ++ take used blocks → IsDistinct nat_eq blocks → All (λ b. All (λ c. c ≢ b) front) blocks
+    → All (λ c. c ≢ slice_index blocks used) back
+apart_before back front blocks used lt is distinct apart k x l e =
     let len = length-take-le used blocks (omega arith) in
     let all : length back ≡ length front + used = omega (arith, ap length is, length-append front (take used blocks)) in
-    let there : get_or back k x ≡ get_or (front ++ blocks) k x =
-    ap (λ (xs : List ℕ). get_or xs k x) (is ∙ sym (take-append-add front blocks used)) ∙ get_or-take (length front + used) (front ++ blocks) k x (omega arith) in
-    let next : get_or (front ++ blocks) (length front + used) x ≡ slice_index blocks used = get_or-append-add front blocks used x ∙ get_or_default blocks used x 0 lt in
-    eqb-false (get_or (front ++ blocks) k x) (get_or (front ++ blocks) (length front + used) x)
-    (apart_from_distinct nat_eq (front ++ blocks) k (length front + used) x distinct (omega arith) (omega (arith, length-append front blocks)))
-    (sym there ∙ e ∙ sym next)
+    ⊎_elim
+    (λ low. apart used 0 lt k x low (sym (get_or_append_left front (take used blocks) x k low) ∙ ap (λ (xs : List ℕ). get_or xs k x) (sym is) ∙ e))
+    (λ high.
+    let i : ℕ = k - length front in
+    let at : length front + i ≡ k = omega arith in
+    let there : get_or back k x ≡ get_or blocks i x =
+    ap (λ (xs : List ℕ). get_or xs k x) is ∙ ap (λ n. get_or (front ++ take used blocks) n x) (sym at) ∙ get_or-append-add front (take used blocks) i x ∙ get_or-take used blocks i x (omega arith) in
+    eqb-false (get_or blocks i x) (get_or blocks used x) (apart_from_distinct nat_eq blocks i used x distinct (omega arith) lt) (sym there ∙ e ∙ get_or_default blocks used 0 x lt))
+    (cases_lt k (length front))
 
 pub next_apart : (d : Blocks) (full head : ℕ) (rest : List ℕ) (t : Tail) (front blocks : List ℕ) (used : ℕ) → IsTail d full head rest t → (pending_in t ≡ [] → used < length blocks)
-    → blocks_back d full head ++ pending_in t ≡ front ++ take used blocks → IsDistinct nat_eq (front ++ blocks) → All (λ c. c ≢ (next_of t blocks used).0) (blocks_back d full head)
-next_apart d full head rest Closed front blocks used tail some is distinct = apart_before (blocks_back d full head) front blocks used (some refl) (sym (append-nil (blocks_back d full head)) ∙ is) distinct
-next_apart d full head rest (Shared b) front blocks used tail some is distinct = apart_before (blocks_back d full head) front blocks used (some refl) (sym (append-nil (blocks_back d full head)) ∙ is) distinct
-next_apart d full head rest (Handed b) front blocks used tail some is distinct = tail.apart
+    → blocks_back d full head ++ pending_in t ≡ front ++ take used blocks → IsDistinct nat_eq blocks → All (λ b. All (λ c. c ≢ b) front) blocks → All (λ c. c ≢ (next_of t blocks used).0) (blocks_back d full head)
+next_apart d full head rest Closed front blocks used tail some is distinct apart = apart_before (blocks_back d full head) front blocks used (some refl) (sym (append-nil (blocks_back d full head)) ∙ is) distinct apart
+next_apart d full head rest (Shared b) front blocks used tail some is distinct apart =
+    apart_before (blocks_back d full head) front blocks used (some refl) (sym (append-nil (blocks_back d full head)) ∙ is) distinct apart
+next_apart d full head rest (Handed b) front blocks used tail some is distinct apart = tail.apart
 
 pub next_some : (t : Tail) (blocks : List ℕ) (used : ℕ) → (pending_in t ≡ [] → used < length blocks) → used ≤ length blocks → (next_of t blocks used).1 ≤ length blocks
 next_some Closed blocks used some le = let lt = some refl in omega arith

@@ -123,6 +123,9 @@ module _ (d : Blocks) (block_size count head size keep i off block : ℕ) (large
         named (omega arith) ∙ ap (λ b. word_at (block_in d b) 0) (is ∙ ap (slice_index bs) e) ∙ back-pointer0 d (blocks_for block_size size) head m (omega arith) in
         subst (λ k. IsChain d k before) (add-one m ∙ sym e) (subst (IsChain d (m + 1)) (sym to) (chain_prefix d (blocks_for block_size size) head m (omega arith) (chain_of_list list)))
 
+    pub before_front : blocks_back d i before ≡ take i bs
+    before_front = before_back i refl
+
     pub before_chain : IsChain d i before
     before_chain = before_chain_at i refl
 

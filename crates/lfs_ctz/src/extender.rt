@@ -66,6 +66,8 @@ impl Extender {
         ensures held { IfOk result (λ e. (disk : Blocks) → IsGrowing disk (growing_of e)) }
         ensures empty { IfOk result (λ e. (disk : Blocks) → content_of disk (growing_of e) ≡ []) }
         ensures none { IfOk result (λ e. (disk : Blocks) → blocks_of disk (growing_of e) ≡ []) }
+        ensures kept { IfOk result (λ e. (disk : Blocks) → kept_of disk (growing_of e) ≡ []) }
+        ensures sum { IfOk result (λ e. size_of (geometry_of e).block_size (growing_of e) ≡ 0) }
         ensures geometry { IfOk result (λ e. geometry_of e ≡ geometry) }
         ensures errors { IfErr result (λ e. e ≡ Error.NoMemory) }
     {
@@ -100,6 +102,8 @@ impl Extender {
         ensures sum { IfOk result (λ e. size_of (geometry_of e).block_size (growing_of e) ≡ keep) }
         ensures blocks { IfOk result (λ e. blocks_of (D.blocks dev.old) (growing_of e)
             ≡ take (blocks_for (D.geometry dev.old).block_size keep) (blocks_back (D.blocks dev.old) (blocks_for (D.geometry dev.old).block_size size) head)) }
+        ensures kept { IfOk result (λ e. kept_of (D.blocks dev.old) (growing_of e)
+            ≡ take (growing_of e).full (blocks_back (D.blocks dev.old) (blocks_for (D.geometry dev.old).block_size size) head)) }
         ensures pending { IfOk result (λ e. pending_of (growing_of e) ≡ []) }
         ensures geometry { IfOk result (λ e. geometry_of e ≡ D.geometry dev.old) }
         ensures same { D.blocks dev.new ≡ D.blocks dev.old }
@@ -233,9 +237,11 @@ impl Extender {
         requires room { size_of (geometry_of self.old).block_size (growing_of self.old) + length bytes.now < 2 ^ 31 }
         requires count { length blocks.now ≡ needed_of (geometry_of self.old).block_size (growing_of self.old) (length bytes.now) }
         requires in_device { All (λ b. b < (D.geometry dev.old).block_count) blocks.now }
-        requires distinct { IsDistinct nat_eq (kept_of (D.blocks dev.old) (growing_of self.old) ++ blocks.now) }
+        requires distinct { IsDistinct nat_eq blocks.now }
+        requires apart { All (λ b. All (λ c. c ≢ b) (kept_of (D.blocks dev.old) (growing_of self.old))) blocks.now }
         ensures held { OnOk result (IsGrowing (D.blocks dev.new) (growing_of self.new)) }
         ensures bytes { OnOk result (content_of (D.blocks dev.new) (growing_of self.new) ≡ content_of (D.blocks dev.old) (growing_of self.old) ++ bytes.now) }
+        ensures sum { OnOk result (size_of (geometry_of self.new).block_size (growing_of self.new) ≡ size_of (geometry_of self.old).block_size (growing_of self.old) + length bytes.now) }
         ensures kept { OnOk result (kept_of (D.blocks dev.new) (growing_of self.new) ≡ kept_of (D.blocks dev.old) (growing_of self.old) ++ blocks.now) }
         ensures own { OnOk result (blocks_of (D.blocks dev.new) (growing_of self.new) ≡ kept_of (D.blocks dev.new) (growing_of self.new)) }
         ensures same { geometry_of self.new ≡ geometry_of self.old }

@@ -56,7 +56,7 @@ fill-requires-clause-apart g c =
     let inv = c.loop-done.invariant in
     let some = still _ _ c.args.self.now c.loop-done.self c.args.blocks.now c.loop-done.used c.loop-done.done _ inv.same inv.some inv.kept c.requires.count inv.sum c.loop-done-test.true in
     subst (λ b. All (λ x. x ≢ b) (blocks_back (g.D.BlockDevice.blocks c.loop-done.dev) c.loop-done.self.full c.loop-done.self.head)) (sym (ap (λ r. r.0) c.next_block-block.ensures))
-    (next_apart (g.D.BlockDevice.blocks c.loop-done.dev) c.loop-done.self.full c.loop-done.self.head _ c.loop-done.self.tail _ c.args.blocks.now c.loop-done.used inv.held.tail some inv.kept c.requires.distinct)
+    (next_apart (g.D.BlockDevice.blocks c.loop-done.dev) c.loop-done.self.full c.loop-done.self.head _ c.loop-done.self.tail _ c.args.blocks.now c.loop-done.used inv.held.tail some inv.kept c.requires.distinct c.requires.apart)
 
 -- the block is one of those handed in
 among : (was : Growing) (t : Tail) (blocks : List ℕ) (used block : ℕ) (next : ℕ × ℕ) → next ≡ next_of t blocks used → block ≡ next.0 → (pending_in t ≡ [] → used < length blocks)

@@ -1,6 +1,6 @@
 use Rattle.std.proofs.Common.{suc, ℕ, ◌≡◌, ◌≤◌, ◌<◌, ◌+◌, ◌-◌, ◌*◌, ◌++◌, ◌⊎◌, inl, inr, List, [], ◌∷◌, length, take, drop, slice_index, Result, Err, refl, sym, ap, subst, ◌∙◌, arith, add-one}
 use Rattle.std.specs.Vec.{with_items}
-use Rattle.std.proofs.lemmas.List.{with_items_is}
+use Rattle.std.proofs.lemmas.List.{append-nil, with_items_is}
 use Rattle.std.proofs.lemmas.Result.{err_from_is_err_and}
 use Rattle.lfs_device.specs.declared.error.Error.{Error}
 use Rattle.lfs_device.specs.declared.geometry.Geometry.{Geometry}
@@ -11,7 +11,7 @@ use Rattle.lfs_ctz.proofs.Sizes.{blocks_for-last, place-lt, pointers_of-le, plac
 use Rattle.lfs_ctz.proofs.Chains.{chain_of_list, in_range_at, back-pointer0}
 use Rattle.lfs_ctz.proofs.Geometries.{last_is, chain, sized, shaped}
 use Rattle.lfs_ctz.proofs.Readings.{reads_on}
-use Rattle.lfs_ctz.proofs.Resumed.{few_blocks, front_back, front_chain, keep_full, full_content, full_blocks, before_chain, open_blocks, rest_long, open_shared, open_content}
+use Rattle.lfs_ctz.proofs.Resumed.{few_blocks, front_back, front_chain, keep_full, full_content, full_blocks, before_chain, before_front, open_blocks, rest_long, open_shared, open_content}
 use Rattle.lfs_ctz.proofs.Words.{data-written}
 use Rattle.lfs_ctz.proofs.extender.Extender.resume.Goals as goal
 
@@ -58,6 +58,7 @@ record IsFull (d : Blocks) (geometry made : Geometry) (head size keep i block : 
   chain_is : IsChain d (i + 1) block
   content : joined d (blocks_back d (i + 1) block) ++ [] ≡ take keep (bytes_of d geometry.block_size head size)
   blocks_are : blocks_back d (i + 1) block ++ [] ≡ take (blocks_for geometry.block_size keep) (blocks_back d (blocks_for geometry.block_size size) head)
+  kept : blocks_back d (i + 1) block ++ [] ≡ take (i + 1) (blocks_back d (blocks_for geometry.block_size size) head)
   sum : keep ≡ bytes_before made.block_size (i + 1)
 
 is_full : (d : Blocks) (geometry made : Geometry) (head size keep n i off block : ℕ) → made ≡ geometry → n ≡ blocks_for made.block_size size → IsDivided geometry.block_size geometry.block_count d
@@ -73,6 +74,8 @@ is_full d geometry made head size keep n i off block e is shape list some within
       content = full_content d made.block_size geometry.block_count head size keep i off block large parts same some within place here ends ∙ ap (λ (k : Geometry). take keep (bytes_of d k.block_size head size)) e;
       blocks_are = full_blocks d made.block_size geometry.block_count head size keep i off block large parts same some within place here ends
           ∙ ap (λ (k : Geometry). take (blocks_for k.block_size keep) (blocks_back d (blocks_for k.block_size size) head)) e;
+      kept = append-nil (blocks_back d (i + 1) block) ∙ front_back d made.block_size geometry.block_count head size keep i off block large parts same some within place here
+          ∙ ap (λ (k : Geometry). take (i + 1) (blocks_back d (blocks_for k.block_size size) head)) e;
       sum = keep_full d made.block_size geometry.block_count head size keep i off block large parts same some within place here ends;
     }
 
@@ -80,6 +83,7 @@ is_full d geometry made head size keep n i off block e is shape list some within
 record IsOpen (d : Blocks) (geometry made : Geometry) (head size keep i off block before : ℕ) (rest : List ℕ) : Type 0 where
   chain_is : IsChain d i before
   shared : IsShared d i before rest block
+  kept : blocks_back d i before ++ [] ≡ take i (blocks_back d (blocks_for geometry.block_size size) head)
   content : joined d (blocks_back d i before) ++ rest ≡ take keep (bytes_of d geometry.block_size head size)
   blocks_are : blocks_back d i before ++ block ∷ [] ≡ take (blocks_for geometry.block_size keep) (blocks_back d (blocks_for geometry.block_size size) head)
 
@@ -95,6 +99,8 @@ is_open d geometry made head size keep n i off block before rest e is shape list
     record {
       chain_is = before_chain d made.block_size geometry.block_count head size keep i off block large parts same some within place here before named short;
       shared = open_shared d made.block_size geometry.block_count head size keep i off block large parts same some within place here before named short rest rest_is;
+      kept = append-nil (blocks_back d i before) ∙ before_front d made.block_size geometry.block_count head size keep i off block large parts same some within place here before named short
+          ∙ ap (λ (k : Geometry). take i (blocks_back d (blocks_for k.block_size size) head)) e;
       content = open_content d made.block_size geometry.block_count head size keep i off block large parts same some within place here before named short rest rest_is ∙ ap (λ (k : Geometry). take keep (bytes_of d k.block_size head size)) e;
       blocks_are = open_blocks d made.block_size geometry.block_count head size keep i off block large parts same some within place here before named short
           ∙ ap (λ (k : Geometry). take (blocks_for k.block_size keep) (blocks_back d (blocks_for k.block_size size) head)) e;
@@ -159,6 +165,10 @@ pub returns-then-off-block_size-clause-blocks : goal.returns-then-off-block_size
 returns-then-off-block_size-clause-blocks g c =
     (is_full _ _ _ _ _ _ _ _ _ _ c.geometry-geometry.ensures c.blocks_for.ensures (g.met.D.BlockDevice.shape c.args.dev.now) c.requires.list c.requires.some c.requires.within c.place-index.ensures c.in_ok-block.ensures.found c.if-off-block_size.true).blocks_are
 
+pub returns-then-off-block_size-clause-kept : goal.returns-then-off-block_size-clause-kept
+returns-then-off-block_size-clause-kept g c =
+    (is_full _ _ _ _ _ _ _ _ _ _ c.geometry-geometry.ensures c.blocks_for.ensures (g.met.D.BlockDevice.shape c.args.dev.now) c.requires.list c.requires.some c.requires.within c.place-index.ensures c.in_ok-block.ensures.found c.if-off-block_size.true).kept
+
 pub returns-in_err-head-clause-history : goal.returns-in_err-head-clause-history
 returns-in_err-head-clause-history g c = reads_on _ _ _ _ _ c.find.ensures.same c.find.ensures.history c.head_before.ensures.history
 
@@ -211,3 +221,6 @@ returns-clause-bytes g c = (opened g c).content
 
 pub returns-clause-blocks : goal.returns-clause-blocks
 returns-clause-blocks g c = (opened g c).blocks_are
+
+pub returns-clause-kept : goal.returns-clause-kept
+returns-clause-kept g c = (opened g c).kept

@@ -4,5 +4,6 @@ mod RootPair
 mod Accepted
 pub mod RootFiles
 pub mod RootPair
+mod Accepted
 mod Starts
 mod Images

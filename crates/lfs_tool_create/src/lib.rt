@@ -5,8 +5,10 @@ mod checks;
 mod image;
 mod making;
 mod root;
+mod sizes;
 
 pub use making::create;
+pub use sizes::geometry_for;
 
 #[cfg(test)]
 mod tests;

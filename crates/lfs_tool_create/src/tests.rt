@@ -1,4 +1,4 @@
-use crate::create;
+use crate::{create, geometry_for};
 use lfs_device::{Error, Geometry};
 use lfs_tool::{ToolError, Watched, list};
 use lfs_tool_source::{Held, MemorySource, SourceError};
@@ -49,8 +49,8 @@ fn an_empty_folder_makes_a_fresh_image(rt: HostRuntime) -> Result<(), Fail> {
         0x2f, 0xe0, 0x00, 0x10, 0, 0, 0x02, 0, 0, 0x10, 0, 0, 0x10, 0, 0, 0, 0xff, 0, 0, 0, 0xff,
         0xff, 0xff, 0x7f, 0xfe, 0x03, 0, 0, 0x70, 0x1f, 0xfc, 0xc8,
     ];
-    assert!(rt; &image[..48] == start.as_slice());
-    assert!(rt; image[52..].iter().all(|byte| *byte == 0xff));
+    assert!(rt; image.as_slice().starts_with(start.as_slice()));
+    assert!(rt; image.iter().skip(52).all(|byte| *byte == 0xff));
     Ok(())
 }
 
@@ -126,5 +126,14 @@ fn a_pair_has_a_capacity(rt: HostRuntime) -> Result<(), Fail> {
     held.push(file(alloc, b"/f", &[0; 124]).expect(&rt, "a file"))?;
     let refused = made(alloc, held, 1024, 128, 4);
     assert!(rt; matches!(&refused, Err(ToolError::Fs(Error::Unsupported))));
+    Ok(())
+}
+
+#[test]
+fn sizes_make_geometries(rt: HostRuntime) -> Result<(), Fail> {
+    let geometry = geometry_for(65536, 4096, 256).expect(&rt, "a geometry");
+    assert_eq!(rt; geometry.block_count, 16);
+    assert!(rt; matches!(&geometry_for(65537, 4096, 256), Err(Error::Invalid)));
+    assert!(rt; matches!(&geometry_for(65536, 0, 256), Err(Error::Invalid)));
     Ok(())
 }

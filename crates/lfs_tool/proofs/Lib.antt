@@ -1,9 +1,6 @@
 mod KnownBytes
-mod RootFiles
-mod RootPair
 mod Accepted
 pub mod RootFiles
 pub mod RootPair
-mod Accepted
 mod Starts
 mod Images

@@ -8,7 +8,6 @@ use lfs_tool_source::Folder;
 use std::fs::File;
 use std::io::{ErrorKind, Write};
 use std::process::ExitCode;
-use std::rt::Files;
 use std::{env, io};
 
 // The status where there is no command line.
@@ -34,13 +33,13 @@ fn list_image<W: Write>(
 
 // The file of an image, made by the first write: where nothing is written, an old image stays.
 #[derive(Drop)]
-struct ImageFile<'a, R> {
-    rt: &'a R,
+struct ImageFile<'a> {
+    rt: &'a HostRuntime,
     path: &'a str,
     file: Option<File>,
 }
 
-impl<'a, R: Files + Drop> Write for ImageFile<'a, R> {
+impl<'a> Write for ImageFile<'a> {
     fn write(&mut self, buf: &[u8]) -> io::Result<usize> {
         if self.file.is_none() {
             self.file = Some(File::create(self.rt, self.path)?);

@@ -1,15 +1,11 @@
 -- Attributes by type, and slots in a list.
-use Rattle.std.proofs.Common.{◌≡◌, ℕ, zero, suc, ◌+◌, ◌-◌, ◌<◌, ◌≤◌, Bool, true, false, not, filter, cond, eqb, leb, ltb, List, [], ◌∷◌, ◌++◌, length, map, take, drop, replicate, set, get_or, remove, insert, refl, sym, ap, ◌∙◌, arith, append_assoc, Some, None, inl, inr}
+use Rattle.std.proofs.Common.{◌≡◌, ℕ, suc, ◌+◌, ◌<◌, ◌≤◌, Bool, true, false, not, filter, cond, eqb, leb, ltb, List, [], ◌∷◌, ◌++◌, length, map, take, drop, replicate, set, get_or, remove, insert, refl, sym, ap, ◌∙◌, arith, append_assoc, inl, inr}
 use Rattle.std.specs.List.{take-map, drop-map}
 use Rattle.std.proofs.lemmas.Bool.{cases_order}
 use Rattle.std.proofs.lemmas.Bool.Decides.{nat_tests}
 use Rattle.std.proofs.lemmas.List.{map-append, map-set, get_or-map, replicate-append-replicate}
 use Rattle.lfs_model.specs.Slots.{Attributes}
-use Rattle.lfs_model.specs.Content.{RawSlot, RawContent, empty_slot, put_attribute, without_attribute, changed, content_after, content_after_all}
-use Rattle.lfs_model.specs.Log.{LogEntry}
-use Rattle.lfs_tag.specs.ContentGives.{Fails}
-use Rattle.lfs_tag.specs.declared.content.ContentError.{ContentError}
-use Rattle.lfs_tag.specs.declared.content.ContentError.TheVariants as errors
+use Rattle.lfs_model.specs.Content.{RawSlot, empty_slot, put_attribute, without_attribute, changed}
 use Rattle.lfs_tag.specs.declared.content.Slot.{Slot}
 use Rattle.lfs_tag.specs.declared.content.Attribute.{Attribute}
 use Rattle.lfs_tag.specs.ContentSeen.{slot_seen, attribute_seen, first_not_below}
@@ -89,15 +85,3 @@ pub changed_is : (f : RawSlot → RawSlot) (xs : List Slot) (i : ℕ) (x y : Slo
     → map slot_seen (set xs i y) ≡ changed f (map slot_seen xs) i
 changed_is f xs i x y lt is new =
     map-set slot_seen xs i y ∙ ap (set (map slot_seen xs) i) (new ∙ ap f (ap slot_seen is ∙ sym (get_or-map slot_seen xs i x empty_slot lt)))
-
--- ---- entries in turn
-
-pub after_on : (s t : RawContent) (e : LogEntry) (es : List LogEntry) → content_after s e ≡ Some t → content_after_all s (e ∷ es) ≡ content_after_all t es
-after_on s t e es is = rw is refl
-
-pub after_fails : (s : RawContent) (e : LogEntry) (es : List LogEntry) → content_after s e ≡ None → content_after_all s (e ∷ es) ≡ None
-after_fails s e es is = rw is refl
-
-pub fails_on : (error : ContentError) (s : RawContent) (e : LogEntry) (es : List LogEntry) → Fails error (content_after s e) → Fails error (content_after_all s (e ∷ es))
-fails_on errors.NoMemory s e es h = tt
-fails_on errors.Malformed s e es h = after_fails s e es h

@@ -1,17 +1,17 @@
 -- Entries one behind the other, from the front and from the back.
-use Rattle.std.proofs.Common.{◌≡◌, ℕ, zero, suc, ◌+◌, ◌-◌, ◌*◌, ◌%◌, ◌^◌, ◌<◌, ◌≤◌, Bool, true, false, cond, eqb, ltb, List, [], ◌∷◌, ◌++◌, length, take, drop, slice_range, Option, Some, None, refl, sym, ap, subst, ◌∙◌, arith, rules}
+use Rattle.std.proofs.Common.{◌≡◌, ℕ, zero, suc, ◌+◌, ◌-◌, ◌*◌, ◌%◌, ◌^◌, ◌<◌, ◌≤◌, Bool, true, false, cond, eqb, ltb, List, [], ◌∷◌, ◌++◌, length, drop, slice_range, Option, Some, None, refl, sym, ap, ◌∙◌, arith}
 use Rattle.std.specs.Option.{option_map_or}
-use Rattle.std.specs.Int.Bits.{bit_xor, xor_zero_r, xor_assoc, xor_self}
-use Rattle.std.proofs.lemmas.Nat.{xor_comm, xor_mod}
+use Rattle.std.specs.Int.Bits.{bit_xor, xor_zero_r}
+use Rattle.std.proofs.lemmas.Nat.{xor_mod}
 use Rattle.std.proofs.lemmas.Bool.Decides.{nat_tests}
 use Rattle.std.proofs.lemmas.List.{length-append}
 use Rattle.byteorder.specs.Endian.{big_number}
 use Rattle.lfs_model.specs.Tag.{class_of, chunk_of, size_of, carried}
 use Rattle.std.specs.List.{flat_map}
-use Rattle.lfs_model.specs.Log.{LogEntry, tag_at, entry_at, past, is_checksum, IsCommit, IsChain, chain_of, log_entries, IsRun, run_within, run_of}
+use Rattle.lfs_model.specs.Log.{LogEntry, entry_at, past, is_checksum, IsCommit, IsChain, chain_of, log_entries, IsRun, run_within, run_of}
 use Rattle.lfs_model.proofs.Checksums.{xor_cancel}
 use Rattle.lfs_model.specs.Content.{has_commit}
-use Rattle.lfs_model.proofs.Chains.{Lies, lies, commit_space, chain_sound}
+use Rattle.lfs_model.proofs.Chains.{lies, commit_space, chain_sound}
 
 run_zero : (n : ℕ) (block : List ℕ) (at before end : ℕ) → end ≤ at → run_within n block at before end ≡ []
 unfolding run_within

@@ -1,5 +1,5 @@
 -- A search back finds what the slots hold.
-use Rattle.std.proofs.Common.{◌≡◌, ◌≢◌, ◌⊎◌, ℕ, suc, ◌+◌, ◌-◌, ◌*◌, ◌/◌, ◌%◌, ◌^◌, ◌<◌, ◌≤◌, Bool, true, false, ◌&&◌, ◌||◌, not, cond, eqb, ltb, leb, List, [], ◌∷◌, ◌++◌, reverse, length, insert, remove, get_or, Option, Some, None, refl, sym, ap, subst, ◌∙◌, arith, inl, inr}
+use Rattle.std.proofs.Common.{◌≡◌, ◌≢◌, ◌⊎◌, ℕ, suc, ◌+◌, ◌-◌, ◌/◌, ◌%◌, ◌^◌, ◌<◌, ◌≤◌, Bool, true, false, ◌&&◌, ◌||◌, not, cond, eqb, ltb, leb, List, [], ◌∷◌, ◌++◌, reverse, length, insert, remove, Option, Some, None, refl, sym, ap, subst, ◌∙◌, arith, inl, inr}
 use Rattle.std.specs.Option.{option_and_then}
 use Rattle.std.proofs.lemmas.Bool.{cases_lt, cases_order, cases_eq}
 use Rattle.std.proofs.lemmas.Bool.Decides.{nat_tests}
@@ -7,11 +7,11 @@ use Rattle.std.proofs.lemmas.Option.{option_and_then_some, same_Some}
 use Rattle.std.proofs.lemmas.List.{reverse-append}
 use Rattle.std.proofs.lemmas.List.Edits.{get_or-insert_below, get_or-insert_at, get_or-insert_above, get_or-remove_below, get_or-remove_above}
 use Rattle.lfs_model.specs.Slots.{Attributes}
-use Rattle.lfs_model.specs.Tag.{kind_of, id_of, len_of, class_of, chunk_of}
+use Rattle.lfs_model.specs.Tag.{kind_of, id_of, class_of, chunk_of}
 use Rattle.lfs_model.specs.Log.{LogEntry}
 use Rattle.lfs_model.specs.Content.{RawSlot, RawContent, empty_slot, slot_of_id, changed, up_to, typed, with_attribute, put_attribute, without_attribute, attribute_of, removes, create_type, content_after, content_after_all, no_content}
-use Rattle.lfs_model.specs.Lookup.{bytes_typed, bytes_in, bytes_at}
-use Rattle.lfs_tag.specs.Search.{Verdict, Holds, Was, is_about, splice_verdict, verdict_of, settled, sought, looks, looks_after}
+use Rattle.lfs_model.specs.Lookup.{bytes_in, bytes_at}
+use Rattle.lfs_tag.specs.Search.{Verdict, Holds, Was, is_about, verdict_of, settled, sought, looks, looks_after}
 use Rattle.lfs_tag.proofs.Effects.{Effect, rests, names, creates, deletes, structures, attributes, effect}
 use Rattle.lfs_tag.proofs.Held.{attribute-put_same, attribute-put_other, attribute-without_same, attribute-without_other, slot-up_to, length-up_to, slot-changed_same, slot-changed_other}
 
@@ -247,10 +247,6 @@ sought_is (e ∷ es) t type i h =
     option_and_then_some (λ u. content_after u e) (content_after_all no_content (reverse es)) t split (λ u was is.
     let same : (λ (j : ℕ). sought es type j) ≡ bytes_at u.slots type = funext _ _ (λ j. sought_is es u type j was) in
     ap (settled (verdict_of e type i)) same ∙ effect_finds e type i u.slots t.slots (effect u t e is))
-
--- the last entry is looked at first
-pub sought_last : (es front : List LogEntry) (e : LogEntry) (type i : ℕ) → es ≡ front ++ e ∷ [] → sought (reverse es) type i ≡ settled (verdict_of e type i) (λ j. sought (reverse front) type j)
-sought_last es front e type i h = ap (λ (xs : List LogEntry). sought (reverse xs) type i) h ∙ ap (λ (xs : List LogEntry). sought xs type i) (reverse-append front (e ∷ []))
 
 pub looks_within : (es : List LogEntry) (type i : ℕ) → looks es type i ≤ length es
 looks_within [] type i = omega arith

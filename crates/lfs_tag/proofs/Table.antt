@@ -1,19 +1,11 @@
 -- A table of what eight steps make of each byte.
 use Rattle.std.proofs.Common.{◌≡◌, ℕ, zero, suc, ◌+◌, ◌*◌, ◌/◌, ◌%◌, ◌^◌, ◌<◌, Bool, true, false, ◌&&◌, cond, eqb, List, [], ◌∷◌, length, get_or, refl, sym, ap, ◌∙◌, arith, zero-add}
-use Rattle.std.specs.Int.Bits.{bit_xor, xor_zero_l, xor_zero_r, xor_shifted, xor_assoc}
-use Rattle.std.proofs.lemmas.Bool.Decides.{nat_tests}
+use Rattle.std.specs.Int.Bits.{bit_xor, xor_zero_r, xor_shifted, xor_assoc}
 use Rattle.std.proofs.lemmas.Bool.{eqb-true}
 use Rattle.std.proofs.lemmas.Nat.{xor_comm, xor_shr, xor_mod}
 use Rattle.std.proofs.Math.Nat.{pow-suc}
 use Rattle.lfs_model.specs.Crc.{next_bit, next_bits}
 use Rattle.lfs_tag.specs.declared.crc_table.TheConstants.{AFTER}
-
--- a shift by one bit, whose lowest bit is 0
-next_bit_even : (a : ℕ) → next_bit (a * 2) ≡ a
-next_bit_even a =
-    let even : eqb (a * 2 % 2) 1 ≡ false = grind (arith, nat_tests) in
-    let half : a * 2 / 2 ≡ a = omega arith in
-    rw (even, half) refl
 
 -- the lowest bit alone decides what is mixed in, and the others move down
 next_bit-xor : (x y : ℕ) → y % 2 ≡ 0 → next_bit (bit_xor x y) ≡ bit_xor (next_bit x) (y / 2)

@@ -1,12 +1,11 @@
 -- The checksum's steps over a word at once.
-use Rattle.std.proofs.Common.{◌≡◌, ℕ, zero, suc, ◌+◌, ◌*◌, ◌/◌, ◌%◌, ◌^◌, ◌<◌, ◌≤◌, Bool, true, false, cond, eqb, List, [], ◌∷◌, ◌++◌, length, take, drop, get_or, refl, sym, ap, ◌∙◌, arith, zero-add, drop-cons, add-one, inl, inr, ◌⊎◌}
-use Rattle.std.specs.Int.Bits.{bit_xor, xor_zero_l, xor_zero_r, xor_shifted, xor_assoc}
-use Rattle.std.proofs.Math.Seq.{take-add}
+use Rattle.std.proofs.Common.{◌≡◌, ℕ, zero, suc, ◌+◌, ◌*◌, ◌/◌, ◌%◌, ◌^◌, ◌<◌, ◌≤◌, List, ◌∷◌, length, take, drop, get_or, refl, sym, ap, ◌∙◌, arith, zero-add, drop-cons, inl, inr, ◌⊎◌}
+use Rattle.std.specs.Int.Bits.{bit_xor, xor_zero_r, xor_shifted, xor_assoc}
 use Rattle.std.proofs.lemmas.Bool.{cases_lt}
 use Rattle.std.proofs.lemmas.Nat.{xor_comm, xor_shr, xor_mod}
-use Rattle.byteorder.specs.Endian.{little_from, little_number}
+use Rattle.byteorder.specs.Endian.{little_from}
 use Rattle.lfs_model.specs.Crc.{next_bit, next_bits, crc_of}
-use Rattle.lfs_model.proofs.Checksums.{xor_swap, xor_cancel, AreBytes, crc-append}
+use Rattle.lfs_model.proofs.Checksums.{xor_swap, AreBytes}
 use Rattle.lfs_tag.proofs.Table.{by_low_byte, next_bits-xor}
 
 -- ---- the steps are linear
@@ -37,11 +36,6 @@ pub next_bits-append : (m n x : ℕ) → next_bits (m + n) x ≡ next_bits n (ne
 unfolding next_bits
 next_bits-append zero n x = rw (zero-add n) refl
 next_bits-append (suc m) n x = let e : suc m + n ≡ suc (m + n) = omega arith in rw e (next_bits-append m n (next_bit x))
-
-next_bits-zero : (n : ℕ) → next_bits n 0 ≡ 0
-unfolding next_bits
-next_bits-zero zero = refl
-next_bits-zero (suc n) = next_bits-zero n
 
 -- ---- a word by its bytes
 

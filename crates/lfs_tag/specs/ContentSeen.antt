@@ -1,5 +1,5 @@
 -- The content of the code, in the words of the definitions: without where its bytes lie in memory.
-use Rattle.std.specs.Prelude.{ℕ, zero, suc, if◌then◌else◌, nat_le, List, [], ◌∷◌, map}
+use Rattle.std.specs.Prelude.{ℕ, suc, if◌then◌else◌, nat_le, List, [], ◌∷◌, map}
 use Rattle.std.specs.Option.{option_map}
 use Rattle.lfs_model.specs.Slots.{Attributes, address_of}
 use Rattle.lfs_model.specs.Slots as slots

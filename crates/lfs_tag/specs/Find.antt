@@ -4,7 +4,7 @@ use Rattle.std.specs.Option.{option_and_then, option_map, option_map_or}
 use Rattle.lfs_model.specs.Tag.{kind_of, id_of, class_of}
 use Rattle.lfs_model.specs.Log.{LogEntry}
 use Rattle.lfs_model.specs.Names.{Name}
-use Rattle.lfs_model.specs.Content.{create_type, delete_type, superblock_name_type}
+use Rattle.lfs_model.specs.Content.{create_type, superblock_name_type}
 
 -- the id that a slot has behind an entry; none where the entry removes it or names it anew
 abbrev pub id_behind : LogEntry → ℕ → Option ℕ

@@ -1,5 +1,5 @@
 -- What is left of a walk over a log's entries.
-use Rattle.std.specs.Prelude.{◌≡◌, List}
+use Rattle.std.specs.Prelude.{List}
 use Rattle.lfs_tag.specs.declared.entries.Entries.TheInside.{Inside}
 use Rattle.lfs_model.specs.Log.{LogEntry, IsRun, run_of}
 

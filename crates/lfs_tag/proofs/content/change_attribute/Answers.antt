@@ -1,7 +1,7 @@
-use Rattle.std.proofs.Common.{◌≡◌, ◌∙◌, sym, ap, refl, arith, eqb, List, map, true, false}
+use Rattle.std.proofs.Common.{◌≡◌, ◌∙◌, sym, ap, refl, arith, eqb, map, true, false}
 use Rattle.lfs_model.specs.Slots.{Attributes}
 use Rattle.lfs_model.specs.Tag.{len_of}
-use Rattle.lfs_model.specs.Content.{RawSlot, with_attribute, put_attribute, without_attribute}
+use Rattle.lfs_model.specs.Content.{RawSlot, with_attribute}
 use Rattle.lfs_tag.specs.declared.content.Slot.{Slot}
 use Rattle.lfs_tag.specs.ContentSeen.{slot_seen, attribute_seen}
 use Rattle.lfs_tag.specs.Seen.{seen}

@@ -1,6 +1,5 @@
-use Rattle.std.proofs.Common.{rules, ◌≡◌, ◌<◌, sym, ap, ◌∙◌, refl, arith, List, ℕ, map, length}
 use Rattle.lfs_tag.specs.ContentSeen.{slot_seen}
-use Rattle.lfs_tag.proofs.Places.{map-insert, map-remove}
+use Rattle.lfs_tag.proofs.Places.{map-insert}
 use Rattle.lfs_tag.proofs.content.insert_empty.Goals as goal
 
 pub returns : goal.returns

@@ -1,6 +1,5 @@
-use Rattle.std.proofs.Common.{◌≡◌, ◌<◌, ◌≤◌, ◌∙◌, sym, ap, refl, arith, map, length, get_or, ℕ, List}
+use Rattle.std.proofs.Common.{◌≡◌, ◌<◌, ◌∙◌, sym, ap, refl, arith, map, length, get_or, ℕ, List}
 use Rattle.std.proofs.lemmas.List.{length-map, map-set, get_or-map}
-use Rattle.lfs_model.specs.Slots.{Attributes}
 use Rattle.lfs_tag.specs.ContentSeen.{attribute_seen, first_not_below}
 use Rattle.lfs_tag.proofs.Places.{put_same, put_other, map-insert, first_within}
 use Rattle.lfs_tag.proofs.content.set_attribute.Goals as goal

@@ -1,8 +1,8 @@
-use Rattle.std.proofs.Common.{arith, ℕ, List, sym, ap, ◌∙◌, ◌≡◌, ◌++◌, ◌<◌, ◌+◌, ◌^◌, ◌-◌, take, drop, length, refl}
+use Rattle.std.proofs.Common.{arith, ℕ, sym, ap, ◌∙◌, ◌≡◌, ◌+◌, ◌-◌, take, drop, length}
 use Rattle.std.proofs.lemmas.List.{take_all, get_or-drop, length-drop}
 use Rattle.std.proofs.Math.Seq.{take-add}
 use Rattle.std.specs.Int.Bits.{bit_xor}
-use Rattle.byteorder.specs.Endian.{little_number, little_from}
+use Rattle.byteorder.specs.Endian.{little_from}
 use Rattle.lfs_model.specs.Crc.{crc_of, next_bits}
 use Rattle.lfs_model.proofs.Checksums.{AreBytes, crc-append}
 use Rattle.lfs_tag.proofs.Words.{crc-number, next_bits-sum, next_bits-append}

@@ -1,8 +1,7 @@
-use Rattle.std.proofs.Common.{rules, ◌≡◌, ◌+◌, ◌≤◌, ◌<◌, sym, ap, ◌∙◌, refl, arith, Some, None, Option, ℕ, List, true, false, eq-eqb, eqb}
+use Rattle.std.proofs.Common.{rules, ◌≡◌, sym, ap, ◌∙◌, arith, Some, None, true, false}
 use Rattle.std.specs.Option.{option_map}
 use Rattle.std.proofs.lemmas.Bool.Decides.{nat_tests}
-use Rattle.lfs_model.specs.Tag.{carried}
-use Rattle.lfs_model.specs.Log.{entry_at, is_checksum, closes, commit_at, past, LogEntry}
+use Rattle.lfs_model.specs.Log.{entry_at, is_checksum, closes, commit_at, past}
 use Rattle.lfs_tag.specs.Seen.{seen}
 use Rattle.lfs_model.proofs.Chains.{stop, commit_none, commit_closed, commit_refused, commit_on, stop-with}
 use Rattle.lfs_tag.proofs.log.commit_end.Goals as goal

@@ -1,4 +1,4 @@
-use Rattle.std.proofs.Common.{◌≡◌, ◌∙◌, sym, ap, subst, Option, ℕ, Some, None, inl, inr}
+use Rattle.std.proofs.Common.{◌∙◌, sym, ap, subst, ℕ, Some, inl, inr}
 use Rattle.lfs_model.specs.Log.{log_entries}
 use Rattle.lfs_model.specs.Names.{same_name}
 use Rattle.lfs_model.specs.Lookup.{is_named, is_behind}

@@ -1,8 +1,7 @@
-use Rattle.std.proofs.Common.{◌≡◌, ◌∙◌, ap, arith, length, reverse, Some, List}
+use Rattle.std.proofs.Common.{◌∙◌, ap, arith, length, reverse, List}
 use Rattle.std.proofs.lemmas.List.{reverse-reverse, length-reverse}
 use Rattle.lfs_model.specs.Log.{LogEntry, log_entries}
 use Rattle.lfs_model.specs.Content.{content_after_all, no_content}
-use Rattle.lfs_tag.specs.Search.{looks}
 use Rattle.lfs_tag.proofs.Searches.{sought_is, looks_within}
 use Rattle.lfs_tag.proofs.search.get.Goals as goal
 

@@ -1,4 +1,4 @@
-use Rattle.std.proofs.Common.{arith, ◌≡◌, refl, sym, ◌∙◌}
+use Rattle.std.proofs.Common.{arith}
 use Rattle.lfs_model.specs.Log.{chain_of, log_entries}
 use Rattle.lfs_tag.proofs.Runs.{all_run, all_is, run_count}
 use Rattle.lfs_tag.proofs.entries.Entries.of_chain.Goals as goal

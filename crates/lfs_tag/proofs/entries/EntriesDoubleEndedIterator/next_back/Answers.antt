@@ -1,7 +1,5 @@
-use Rattle.std.proofs.Common.{rules, ◌≡◌, ◌+◌, ◌≤◌, ◌<◌, List, length, sym, ap, ◌∙◌, refl, arith, Some, None, [], ◌∷◌, ℕ}
-use Rattle.lfs_model.specs.Log.{entry_at, past, run_of}
+use Rattle.std.proofs.Common.{sym, ◌∙◌}
 use Rattle.lfs_tag.specs.Walk.{left}
-use Rattle.lfs_tag.specs.Seen.{seen}
 use Rattle.lfs_tag.proofs.Runs.{run_past, back, shorter}
 use Rattle.lfs_tag.proofs.entries.EntriesDoubleEndedIterator.next_back.Goals as goal
 

@@ -1,5 +1,4 @@
-use Rattle.std.proofs.Common.{rules, ◌≡◌, ◌+◌, ◌≤◌, ◌<◌, List, length, sym, ap, ◌∙◌, refl, arith, Some, None, [], ◌∷◌, ℕ}
-use Rattle.lfs_model.specs.Log.{entry_at, past, run_of}
+use Rattle.std.proofs.Common.{rules, length, sym, ap, ◌∙◌}
 use Rattle.lfs_tag.specs.Seen.{seen}
 use Rattle.lfs_tag.proofs.Runs.{run_past, run_none, run_on, run_rest}
 use Rattle.lfs_tag.proofs.entries.EntriesIterator.next.Goals as goal

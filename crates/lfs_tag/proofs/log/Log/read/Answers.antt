@@ -1,7 +1,6 @@
-use Rattle.std.proofs.Common.{rules, ◌≡◌, ◌≤◌, sym, ap, ◌∙◌, refl, arith, Some, None, Option, ℕ, List}
-use Rattle.std.specs.Option.{option_map}
-use Rattle.lfs_model.specs.Log.{chain_at, chain_of, commit_at}
-use Rattle.lfs_model.proofs.Chains.{stop, chain_stop, chain_follows, chain_stops}
+use Rattle.std.proofs.Common.{rules, sym, ap, ◌∙◌, refl, ℕ}
+use Rattle.lfs_model.specs.Log.{chain_of}
+use Rattle.lfs_model.proofs.Chains.{chain_follows, chain_stops}
 use Rattle.lfs_tag.proofs.log.Log.read.Goals as goal
 
 pub loop-commit-init : goal.loop-commit-init

@@ -1,5 +1,5 @@
 -- A block of bytes 0xff has no commit.
-use Rattle.std.proofs.Common.{ℕ, zero, suc, ◌≡◌, ◌≤◌, ◌+◌, ◌-◌, ◌^◌, ◌∙◌, ◌||◌, Bool, true, false, cond, List, [], ◌∷◌, length, Option, Some, None, refl, sym, ap, ap₂, arith, drop, take, replicate, option_map}
+use Rattle.std.proofs.Common.{ℕ, zero, suc, ◌≡◌, ◌≤◌, ◌+◌, ◌-◌, ◌^◌, ◌∙◌, ◌||◌, Bool, true, false, cond, List, [], length, Option, Some, None, refl, ap, arith, drop, take, replicate, option_map}
 use Rattle.std.specs.Prelude.{nat_le, nat_lt, bit_xor}
 use Rattle.std.proofs.lemmas.Bool.{le-ltb}
 use Rattle.std.proofs.lemmas.List.{drop-replicate, length-replicate}

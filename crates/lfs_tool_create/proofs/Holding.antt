@@ -1,18 +1,17 @@
 -- What the first pair of an image holds, where its first block has a first commit of files.
-use Rattle.std.proofs.Common.{ℕ, ◌≡◌, ◌≢◌, ◌<◌, ◌≤◌, ◌+◌, ◌/◌, ◌^◌, ◌∙◌, ◌++◌, Bool, true, false, cond, not, ◌&&◌, List, [], ◌∷◌, length, map, Option, Some, None, refl, sym, ap, ap₂, subst, arith, codes, option_and_then, option_map, append-nil, eq-eqb, slice_get, ◌||◌, ◌==◌}
+use Rattle.std.proofs.Common.{ℕ, ◌≡◌, ◌<◌, ◌≤◌, ◌/◌, ◌^◌, ◌∙◌, ◌++◌, true, false, cond, not, ◌&&◌, List, [], ◌∷◌, length, map, Some, None, refl, sym, ap, ap₂, subst, arith, codes, option_and_then, option_map, append-nil, eq-eqb, slice_get, ◌||◌, ◌==◌}
 use Rattle.std.specs.Prelude.{nat_lt, flat_map}
 use Rattle.std.proofs.lemmas.Bool.{ne_eqb}
 use Rattle.std.proofs.lemmas.List.{length-map}
 use Rattle.lfs_model.specs.Disk.{Disk, block_at}
-use Rattle.lfs_model.specs.Names.{Name}
 use Rattle.lfs_model.specs.Tag.{class_of, kind_of, len_of, tag_with}
 use Rattle.lfs_model.specs.Log.{LogEntry, chain_of, log_entries, revision_of}
-use Rattle.lfs_model.specs.Slots.{Content, File, Inline, Slot, Superblock, no_gstate}
-use Rattle.lfs_model.specs.Content.{RawSlot, RawContent, complete, complete_all, completed, content_after, content_after_all, content_at, directory_name_type, has_any_length, has_commit, removes, holder, holder_at, is_in_table, is_later, no_content, raw_at, file_name_type, inline_struct_type, superblock_name_type}
+use Rattle.lfs_model.specs.Slots.{File, Inline, Slot, Superblock, no_gstate}
+use Rattle.lfs_model.specs.Content.{RawContent, complete, complete_all, completed, content_after_all, content_at, directory_name_type, has_any_length, has_commit, removes, holder_at, is_in_table, is_later, no_content, raw_at, file_name_type, inline_struct_type, superblock_name_type}
 use Rattle.lfs_model.specs.Thread.{anchor}
 use Rattle.lfs_model.specs.View.{BeginsWith, superblock_entry}
 use Rattle.lfs_model.specs.Written.{entries_of}
-use Rattle.lfs_model.specs.Logged.{HasParts, HaveNames, HaveParts, IsLogged, IsMoveState, IsPart, IsSound}
+use Rattle.lfs_model.specs.Logged.{HasParts, HaveNames, HaveParts, IsPart, IsSound}
 use Rattle.lfs_model.proofs.WrittenAnew.{entries_of-reads, kind_of-tag_with, len_of-tag_with, then}
 use Rattle.lfs_tool_create.specs.Root.{raw_file, raw_root, raw_superblock}
 use Rattle.lfs_tool_create.specs.Files as root

@@ -6,3 +6,4 @@ mod Counting
 mod Taking
 mod Sizing
 mod Whole
+mod Refused

@@ -1,6 +1,6 @@
 -- The tree that a pair with a source's files shows.
-use Rattle.std.proofs.Common.{ℕ, zero, suc, ◌≡◌, ◌≤◌, ◌<◌, ◌+◌, ◌∙◌, ◌++◌, Bool, true, false, cond, not, List, [], ◌∷◌, length, map, Option, Some, None, refl, sym, ap, ap₂, subst, arith, codes, option_and_then, option_map, AllPairs}
-use Rattle.std.specs.Prelude.{All, find}
+use Rattle.std.proofs.Common.{ℕ, ◌≡◌, ◌≤◌, ◌+◌, ◌∙◌, Bool, true, false, cond, List, [], ◌∷◌, map, Option, Some, None, refl, sym, ap, subst, arith, option_and_then, option_map, AllPairs}
+use Rattle.std.specs.Prelude.{find}
 use Rattle.std.specs.List.Sorted.{IsPermutation}
 use Rattle.std.specs.declared.cmp.Ordering.TheVariants.{Less}
 use Rattle.std.specs.List.{AllByRecursion}
@@ -8,10 +8,10 @@ use Rattle.std.proofs.lemmas.List.Elements.{All-from_recursion, recursion_from_A
 use Rattle.std.proofs.lemmas.List.Sums.{sum_by-cons}
 use Rattle.std.proofs.lemmas.Option.{same_Some}
 use Rattle.std.proofs.lemmas.List.Sorted.{All-permutation, IsPermutation-sym, IsPermutation-map, sum_by-IsPermutation}
-use Rattle.lfs_model.specs.Names.{Name, name_cmp, same_name, slash}
-use Rattle.lfs_model.specs.Slots.{Inline, Slot}
-use Rattle.lfs_model.specs.Source.{AFile, AFolder, IsTreeOf, Shows, Source, Standing, file_at, kind_given, names_of, path_in, standing, times}
-use Rattle.lfs_model.specs.Tree.{DirectoryNode, Entries, FileNode, Node, Path, Tree, entry_named, root_slot, tree_from, tree_of}
+use Rattle.lfs_model.specs.Names.{Name, name_cmp, same_name}
+use Rattle.lfs_model.specs.Slots.{Slot}
+use Rattle.lfs_model.specs.Source.{IsTreeOf, Shows, Source, Standing, file_at, kind_given, names_of, path_in, standing, times}
+use Rattle.lfs_model.specs.Tree.{Entries, Path, entry_named, root_slot, tree_from, tree_of}
 use Rattle.lfs_model.proofs.Paths.{name_from_same}
 use Rattle.lfs_model.proofs.Walks.{leaf_tree, tree_below}
 use Rattle.lfs_tool_create.specs.Files.{File}

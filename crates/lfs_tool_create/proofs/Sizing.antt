@@ -1,12 +1,12 @@
 -- How long the first commit is.
-use Rattle.std.proofs.Common.{◌≡◌, ◌∙◌, ◌<◌, ◌≤◌, ◌+◌, ◌++◌, ◌*◌, ℕ, true, List, [], ◌∷◌, Some, None, ap, ap₂, arith, codes, length, map, refl, subst, sum_by, sym, append-nil, Result, Ok, Err}
+use Rattle.std.proofs.Common.{◌≡◌, ◌∙◌, ◌<◌, ◌≤◌, ◌+◌, ◌++◌, ◌*◌, ℕ, true, List, [], ◌∷◌, Some, ap, ap₂, arith, codes, length, map, refl, subst, sum_by, sym, append-nil, Result, Ok, Err}
 use Rattle.std.specs.Prelude.{IfErr, IfOk, IsOk}
 use Rattle.std.proofs.Math.Nat.{mul-le-mul_left}
 use Rattle.std.proofs.lemmas.Bool.Decides.{nat_tests}
 use Rattle.std.proofs.lemmas.List.Sums.{sum_by-append, sum_by-cons}
 use Rattle.lfs_model.specs.Commit.{entries_size, page_end}
 use Rattle.lfs_model.specs.Disk.{pair_capacity}
-use Rattle.lfs_model.specs.Geometry.{IsGeometry, is_page}
+use Rattle.lfs_model.specs.Geometry.{is_page}
 use Rattle.lfs_model.specs.Log.{LogEntry}
 use Rattle.lfs_model.specs.Content.{file_name_type, inline_struct_type, superblock_name_type}
 use Rattle.lfs_model.specs.Written.{entry_with, entries_of, entries_of_slot, entries_of_slots}

@@ -1,11 +1,11 @@
 -- Entries that nothing refuses.
-use Rattle.std.proofs.Common.{◌≡◌, ◌∙◌, ◌<◌, ◌≤◌, ◌+◌, ◌/◌, ◌&&◌, ltb-false, ℕ, Bool, true, false, cond, not, List, [], ◌∷◌, Option, Some, None, ap, arith, length, map, min, refl, sum_by, subst, sym, inl, inr, ◌⊎◌}
-use Rattle.std.specs.Prelude.{All, nat_le, nat_lt, unwrap_or}
+use Rattle.std.proofs.Common.{◌≡◌, ◌∙◌, ◌<◌, ◌≤◌, ◌+◌, ◌&&◌, ltb-false, ℕ, Bool, true, false, cond, not, List, [], ◌∷◌, Some, None, ap, arith, length, map, refl, sum_by, subst, sym, inl, inr, ◌⊎◌}
+use Rattle.std.specs.Prelude.{All, nat_le, nat_lt}
 use Rattle.std.specs.List.{list_all}
 use Rattle.std.proofs.lemmas.Bool.{and_parts, leb-true}
-use Rattle.std.proofs.lemmas.List.Elements.{All-from_recursion, recursion_from_All}
+use Rattle.std.proofs.lemmas.List.Elements.{All-from_recursion}
 use Rattle.lfs_model.specs.Disk.{inline_limit, pair_capacity}
-use Rattle.lfs_model.specs.Names.{Name, is_component, is_name}
+use Rattle.lfs_model.specs.Names.{Name}
 use Rattle.lfs_model.proofs.Counts.{Each, each_weaker}
 use Rattle.lfs_device.specs.declared.error.Error.{Error}
 use Rattle.lfs_device.specs.declared.error.Error.TheVariants.{NameTooLong, NoSpace}

@@ -1,6 +1,6 @@
 -- The image is made as it must be.
-use Rattle.std.proofs.Common.{◌≡◌, ◌∙◌, ◌<◌, ◌≤◌, ◌+◌, ◌-◌, ◌*◌, ◌/◌, ◌%◌, ◌&&◌, ◌++◌, ℕ, Bool, true, false, AllPairs, Less, List, [], ◌∷◌, Option, Some, None, ap, ap₂, arith, codes, cond, drop, length, map, min, refl, replicate, subst, sum_by, sym, take}
-use Rattle.std.specs.Prelude.{All, Err, IfSome, IsErrOf, Ok, OnErr, Result, nat_le, nat_lt, unwrap_or}
+use Rattle.std.proofs.Common.{◌≡◌, ◌∙◌, ◌≤◌, ◌+◌, ◌-◌, ◌*◌, ◌/◌, ◌%◌, ◌&&◌, ℕ, Bool, true, false, AllPairs, Less, List, [], ◌∷◌, Option, Some, None, ap, ap₂, arith, codes, cond, drop, length, map, refl, replicate, subst, sum_by, sym, take}
+use Rattle.std.specs.Prelude.{All, Err, IfSome, IsErrOf, Ok, OnErr, Result, unwrap_or}
 use Rattle.std.specs.List.Sorted.{IsPermutation}
 use Rattle.std.proofs.Math.Nat.{mul-le-mul_left}
 use Rattle.std.proofs.lemmas.Bool.{le-leb, le-ltb}
@@ -10,28 +10,28 @@ use Rattle.std.proofs.lemmas.List.Sums.{sum_by-cons}
 use Rattle.std.proofs.lemmas.Nat.{div-mul-add, mod-mul-add}
 use Rattle.lfs_model.specs.Blocks.{block_in, cut, overwritten}
 use Rattle.lfs_model.specs.Commit.{next_at}
-use Rattle.lfs_model.specs.Content.{SuperblockFields, has_commit, superblock_at}
-use Rattle.lfs_model.specs.Disk.{Disk, IsImage, block_at, block_count, disk_of, entry_limit, file_limit, inline_limit, pair_capacity}
+use Rattle.lfs_model.specs.Content.{SuperblockFields, has_commit}
+use Rattle.lfs_model.specs.Disk.{Disk, block_at, block_count, disk_of, entry_limit}
 use Rattle.lfs_model.specs.Geometry.{IsGeometry}
 use Rattle.lfs_model.specs.Log.{LogEntry, chain_of}
-use Rattle.lfs_model.specs.Names.{Name, is_component, is_name, name_cmp}
-use Rattle.lfs_model.specs.Slots.{FitsPair, Inline, Slot, Superblock, charge_of, content_size, no_gstate, slot_size}
+use Rattle.lfs_model.specs.Names.{Name, is_component, name_cmp}
+use Rattle.lfs_model.specs.Slots.{FitsPair, Inline, Slot, Superblock, charge_of, slot_size}
 use Rattle.lfs_model.specs.Source.{IsTreeOf, Source, path_in}
-use Rattle.lfs_model.specs.Thread.{Pair, anchor, gstate_of}
-use Rattle.lfs_model.specs.View.{FitsEntry, FitsSlot, IsAccepted, IsEntry, IsSuperblockStruct, IsWritable, contents_in, entries_in, tree_in}
-use Rattle.lfs_model.proofs.Counts.{Each, each_weaker}
+use Rattle.lfs_model.specs.Thread.{Pair, anchor}
+use Rattle.lfs_model.specs.View.{FitsSlot, IsEntry, IsWritable, contents_in, entries_in, tree_in}
+use Rattle.lfs_model.proofs.Counts.{Each}
 use Rattle.lfs_model.proofs.Cuts.{length-cut}
-use Rattle.lfs_model.proofs.Names.{Rise, names_in}
+use Rattle.lfs_model.proofs.Names.{names_in}
 use Rattle.lfs_device.specs.declared.geometry.Geometry.{Geometry}
 use Rattle.lfs_tag.specs.Builder.{checksum_entry}
 use Rattle.lfs_tool.proofs.RootFiles.{IsWholeFile}
-use Rattle.lfs_tool.proofs.RootPair.{IsRoot, accepted, entries_at, root_content, root_pair}
+use Rattle.lfs_tool.proofs.RootPair.{IsRoot, accepted, entries_at, root_pair}
 use Rattle.lfs_tool_source.specs.InMemory.{has_no_bytes, items_by}
 use Rattle.lfs_tool_source.specs.Entries.{AreIn, AreInOrder, HasBytes, IsRead, given, name_of}
 use Rattle.lfs_tool_source.specs.declared.entries.Entry.{Entry}
 use Rattle.lfs_tool_create.specs.Files.{File, file_of, file_size}
 use Rattle.lfs_tool_create.specs.Made.{AreTaken, AreTop, IsMade}
-use Rattle.lfs_tool_create.specs.Root.{ArePages, IsStruct, blank_next, first_commit, image_of, raw_root}
+use Rattle.lfs_tool_create.specs.Root.{ArePages, blank_next, first_commit, image_of, raw_root}
 use Rattle.lfs_tool_create.proofs.Blank.{blank_has_none}
 use Rattle.lfs_tool_create.proofs.Cutting.{filled_length, first_block, second_block}
 use Rattle.lfs_tool_create.proofs.Holding.{AreBrief, Holds, content_held, first_held, root_slots, slot_of, sound}

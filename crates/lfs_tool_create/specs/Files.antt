@@ -1,5 +1,5 @@
 -- Which entries of a folder are files that an image of one pair holds, and what refuses them.
-use Rattle.std.specs.Prelude.{ℕ, ◌≡◌, ◌+◌, ◌&&◌, not, nat_le, nat_lt, if◌then◌else◌, Bool, List, [], ◌∷◌, length, map, sum_by, Option, Some, None, unwrap_or}
+use Rattle.std.specs.Prelude.{ℕ, ◌+◌, ◌&&◌, not, nat_le, nat_lt, if◌then◌else◌, Bool, List, [], ◌∷◌, length, sum_by, Option, Some, None, unwrap_or}
 use Rattle.std.specs.List.{list_all}
 use Rattle.lfs_model.specs.Disk.{inline_limit, pair_capacity}
 use Rattle.lfs_model.specs.Names.{Name}

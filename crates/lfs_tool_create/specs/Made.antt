@@ -1,5 +1,5 @@
 -- What is made of a source, and why nothing is.
-use Rattle.std.specs.Prelude.{ℕ, ◌≡◌, ◌≢◌, ◌⊎◌, ◌*◌, ◌+◌, Bool, true, false, List, [], ◌∷◌, length, map, Option, Some, None, IfSome}
+use Rattle.std.specs.Prelude.{ℕ, ◌≡◌, ◌⊎◌, ◌*◌, Bool, true, false, List, [], length, map, Option, Some, None, IfSome}
 use Rattle.lfs_model.specs.Disk.{IsImage, disk_of}
 use Rattle.lfs_model.specs.Slots.{no_gstate}
 use Rattle.lfs_model.specs.Source.{Source, IsTreeOf, AreBad, names_of}

@@ -1,8 +1,10 @@
 use crate::{create, geometry_for};
 use lfs_device::{Error, Geometry};
 use lfs_tool::{ToolError, Watched, list};
-use lfs_tool_source::{Held, MemorySource, SourceError};
+use lfs_tool_source::{Held, Listed, MemorySource, Source, SourceError};
 use std::alloc::Global;
+use std::io;
+use std::io::Write;
 use std::test::Fail;
 
 fn file(alloc: Global, path: &[u8], bytes: &[u8]) -> Result<Held, SourceError> {
@@ -135,5 +137,97 @@ fn sizes_make_geometries(rt: HostRuntime) -> Result<(), Fail> {
     assert_eq!(rt; geometry.block_count, 16);
     assert!(rt; matches!(&geometry_for(65537, 4096, 256), Err(Error::Invalid)));
     assert!(rt; matches!(&geometry_for(65536, 0, 256), Err(Error::Invalid)));
+    Ok(())
+}
+
+// A writer that takes so many bytes.
+#[derive(Drop)]
+struct Short {
+    taken: usize,
+    room: usize,
+}
+
+impl Write for Short {
+    fn write(&mut self, buf: &[u8]) -> io::Result<usize> {
+        let left = self.room - self.taken.min(self.room);
+        if left == 0 {
+            return Err(io::Error::from(io::ErrorKind::StorageFull));
+        }
+        let n = left.min(buf.len()).min(4096);
+        self.taken = self.taken.saturating_add(n);
+        Ok(n)
+    }
+
+    fn flush(&mut self) -> io::Result<()> {
+        Ok(())
+    }
+}
+
+#[test]
+fn a_failing_writer_is_told(rt: HostRuntime) -> Result<(), Fail> {
+    let alloc = rt.alloc();
+    let geometry = geometry_for(65536, 4096, 256).expect(&rt, "a geometry");
+    for room in [0, 1, 4096, 65535] {
+        let mut out = Watched::new(Short { taken: 0, room });
+        let result = create(alloc, &mut source(Vec::new(alloc)), geometry, &mut out);
+        assert!(rt; matches!(&result, Err(ToolError::Output)));
+        assert_eq!(rt; out.inner.taken, room);
+    }
+    Ok(())
+}
+
+// A source whose calls fail after so many.
+#[derive(Drop)]
+struct Failing {
+    inner: MemorySource,
+    left: u32,
+    has_failed: bool,
+}
+
+impl Source for Failing {
+    ghost has_failed = { λ s. s.has_failed };
+
+    fn list(&mut self, alloc: Global, folder: &[u8]) -> Result<Vec<Listed>, SourceError> {
+        if self.left == 0 {
+            self.has_failed = true;
+            return Err(SourceError::Fault);
+        }
+        self.left -= 1;
+        match self.inner.list(alloc, folder) {
+            Ok(names) => Ok(names),
+            Err(_) => Err(SourceError::NoMemory),
+        }
+    }
+
+    fn read(&mut self, alloc: Global, path: &[u8]) -> Result<Vec<u8>, SourceError> {
+        if self.left == 0 {
+            self.has_failed = true;
+            return Err(SourceError::Fault);
+        }
+        self.left -= 1;
+        match self.inner.read(alloc, path) {
+            Ok(bytes) => Ok(bytes),
+            Err(_) => Err(SourceError::NoMemory),
+        }
+    }
+}
+
+#[test]
+fn a_failing_source_is_told(rt: HostRuntime) -> Result<(), Fail> {
+    let alloc = rt.alloc();
+    let geometry = geometry_for(65536, 4096, 256).expect(&rt, "a geometry");
+    for left in [0, 1, 2] {
+        let a = file(alloc, b"/a", b"1").expect(&rt, "a file");
+        let b = file(alloc, b"/b", b"2").expect(&rt, "a file");
+        let mut failing = Failing {
+            inner: source(vec![in alloc; a, b]?),
+            left,
+            has_failed: false,
+        };
+        let mut out = Watched::new(Vec::new(alloc));
+        let result = create(alloc, &mut failing, geometry, &mut out);
+        assert!(rt; matches!(&result, Err(ToolError::Input)));
+        assert!(rt; out.inner.is_empty() && failing.has_failed);
+    }
     Ok(())
 }

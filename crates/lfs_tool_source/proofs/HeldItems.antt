@@ -1,6 +1,6 @@
 -- Names in a folder, and what stands at a path, one held thing at a time.
 use Rattle.lfs_model.specs.Names.{slash}
-use Rattle.std.proofs.Common.{◌≡◌, ◌∙◌, ◌<◌, ◌++◌, ◌∷◌, ◌+◌, ap, ℕ, zero, suc, Bool, true, false, List, [], Option, Some, None, cond, arith, drop, get_or, length, lt-ltb, map, not, refl, slice_index, ◌==◌, subst, sym, take}
+use Rattle.std.proofs.Common.{◌≡◌, ◌∙◌, ◌<◌, ◌++◌, ◌∷◌, ◌+◌, ap, ℕ, zero, suc, Bool, true, false, List, [], Some, None, cond, arith, drop, get_or, length, lt-ltb, map, not, refl, slice_index, ◌==◌, subst, sym, take}
 use Rattle.std.specs.Prelude.{filter, find}
 use Rattle.std.specs.List.{list_any}
 use Rattle.std.specs.Str.{bytes_eq}

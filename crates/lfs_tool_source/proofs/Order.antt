@@ -1,5 +1,5 @@
 -- Names in order, and names that aren't.
-use Rattle.std.proofs.Common.{◌≡◌, ◌∙◌, ◌<◌, ◌≤◌, ◌+◌, ◌&&◌, ℕ, suc, Bool, true, false, cond, get_or, inl, inr, List, [], ◌∷◌, Less, Equal, Greater, Option, Some, None, Ordering, ap, arith, length, map, refl, subst, sym}
+use Rattle.std.proofs.Common.{◌≡◌, ◌∙◌, ◌+◌, ◌&&◌, ℕ, suc, Bool, true, false, cond, get_or, inl, inr, List, [], ◌∷◌, Less, Equal, Greater, Option, Some, None, Ordering, ap, arith, map, refl, subst, sym}
 use Rattle.std.specs.Prelude.{AllPairs, IfSome}
 use Rattle.std.specs.List.Sorted.{IsPermutation, IsSortedBy}
 use Rattle.std.specs.Ordering.{ordering_reverse}

@@ -1,5 +1,5 @@
 -- What a source in memory shows.
-use Rattle.std.specs.Prelude.{◌≡◌, ◌+◌, ◌==◌, ◌&&◌, not, ℕ, Bool, true, false, [], ◌∷◌, List, Option, Some, None, Vec, drop, filter, find, if◌then◌else◌, length, map, nat_lt, slice_index, take, unwrap_or}
+use Rattle.std.specs.Prelude.{◌+◌, ◌==◌, ◌&&◌, not, ℕ, Bool, true, false, [], ◌∷◌, List, Option, Some, None, Vec, drop, filter, find, if◌then◌else◌, length, map, nat_lt, slice_index, take, unwrap_or}
 use Rattle.std.specs.Global.{Global}
 use Rattle.std.specs.List.{list_any}
 use Rattle.std.specs.Option.{option_and_then}

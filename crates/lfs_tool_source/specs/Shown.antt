@@ -1,5 +1,5 @@
 -- What a source shows, while it is read.
-use Rattle.std.specs.Prelude.{◌≡◌, ℕ, Bool, true, false, List, Option, Some, None}
+use Rattle.std.specs.Prelude.{◌≡◌, Bool, true, false, Option, Some, None}
 use Rattle.lfs_model.specs.Names.{Name}
 use Rattle.lfs_tool_source.specs.declared.source.Kind.{Kind}
 use Rattle.lfs_tool_source.specs.declared.source.Kind.TheVariants.{File, Folder}

@@ -1,5 +1,4 @@
 use Rattle.std.proofs.Common.{◌≡◌, arith, map}
-use Rattle.lfs_tag.specs.Builder.{Building}
 use Rattle.lfs_tool_create.specs.Files.{file_of}
 use Rattle.lfs_tool_create.specs.Root.{first_commit}
 use Rattle.lfs_tool_create.proofs.Sizing.{both_ok, built, built_fits, built_pages, ok_no_err}

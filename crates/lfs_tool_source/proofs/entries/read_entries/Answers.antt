@@ -2,7 +2,7 @@ use Rattle.std.proofs.Common.{◌∙◌, ◌++◌, ◌∷◌, [], ap, ap₂, ari
 use Rattle.std.proofs.lemmas.List.{map-append, map_more}
 use Rattle.lfs_tool_source.specs.Shown.{listed}
 use Rattle.lfs_tool_source.specs.Entries.{IsRead, given}
-use Rattle.lfs_tool_source.proofs.Gathers.{along, none_read, one_read, rests_both}
+use Rattle.lfs_tool_source.proofs.Gathers.{along, one_read, rests_both}
 use Rattle.lfs_tool_source.proofs.entries.read_entries.Goals as goal
 
 pub loop-one-preserved : goal.loop-one-preserved

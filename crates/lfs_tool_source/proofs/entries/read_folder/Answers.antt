@@ -1,8 +1,6 @@
 use Rattle.std.proofs.Common.{◌∙◌, inr, map, subst, sym}
-use Rattle.std.specs.Prelude.{All, IfSome}
 use Rattle.std.proofs.lemmas.Result.{IfOk-weaker}
-use Rattle.lfs_tool_source.specs.Entries.{AreInOrder, IsRead, name_in}
-use Rattle.lfs_tool_source.specs.declared.source.Listed.{Listed}
+use Rattle.lfs_tool_source.specs.Entries.{AreInOrder, name_in}
 use Rattle.lfs_tool_source.proofs.Gathers.{all_read, both_ok, in_order_read}
 use Rattle.lfs_tool_source.proofs.Order.{bad_given}
 use Rattle.lfs_tool_source.proofs.entries.read_folder.Goals as goal

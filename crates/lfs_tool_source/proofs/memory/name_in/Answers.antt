@@ -1,7 +1,6 @@
-use Rattle.std.proofs.Common.{◌≡◌, ◌∙◌, ◌+◌, ap, arith, drop, false, length, sym, take, true}
+use Rattle.std.proofs.Common.{◌∙◌, ◌+◌, ap, arith, drop, length, sym}
 use Rattle.std.specs.List.{list_any}
 use Rattle.std.specs.Prelude.{◌==◌}
-use Rattle.std.specs.Str.{bytes_eq}
 use Rattle.std.proofs.lemmas.List.{length-drop, take_all}
 use Rattle.lfs_tool_source.proofs.HeldItems.{is_within_from, not_false}
 use Rattle.lfs_tool_source.proofs.memory.name_in.Goals as goal

@@ -1,4 +1,4 @@
-use Rattle.std.proofs.Common.{◌≡◌, ◌∙◌, [], ap, arith, false, map, rules, sym, true}
+use Rattle.std.proofs.Common.{◌≡◌, ◌∙◌, [], ap, arith, false, map, sym, true}
 use Rattle.std.proofs.lemmas.Result.{IfOk-weaker}
 use Rattle.std.proofs.lemmas.Grind.{common_steps}
 use Rattle.std.specs.Prelude.{Some, option_and_then, unwrap_or}

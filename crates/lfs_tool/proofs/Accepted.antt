@@ -1,5 +1,5 @@
 -- An accepted disk starts with a first pair that is well formed.
-use Rattle.std.proofs.Common.{◌≡◌, ◌∙◌, ◌<◌, ◌≤◌, ◌+◌, ◌/◌, ◌^◌, ◌&&◌, ◌==◌, ◌∷◌, [], ℕ, Bool, true, false, not, cond, List, Option, Some, None, All, ap, ap₂, arith, codes, drop, eq-eqb, eqb-true, length, nat_eq, ne_eqb, option_and_then, option_map, refl, slice_get, slice_index, subst, suc, sym, take, add-one}
+use Rattle.std.proofs.Common.{◌≡◌, ◌∙◌, ◌<◌, ◌/◌, ◌^◌, ◌&&◌, ◌==◌, ◌∷◌, [], ℕ, Bool, true, false, not, cond, List, Option, Some, None, All, ap, arith, codes, eq-eqb, eqb-true, length, ne_eqb, option_and_then, option_map, refl, slice_get, slice_index, subst, sym, take, add-one}
 use Rattle.std.specs.List.{list_all}
 use Rattle.std.specs.Str.{bytes_eq}
 use Rattle.std.proofs.lemmas.Bool.{and_from}
@@ -11,15 +11,15 @@ use Rattle.lfs_model.specs.Log.{log_entries, revision_of}
 use Rattle.lfs_model.specs.Disk.{Disk, block_at, block_count}
 use Rattle.lfs_model.specs.Slots.{Attributes, Branch, Content, Ctz, Directory, File, Inline, Kind, Slot, Struct, Superblock, is_superblock_kind}
 use Rattle.lfs_model.specs.Slots as slots
-use Rattle.lfs_model.specs.Content.{RawContent, RawSlot, complete, complete_all, completed, content_after_all, content_at, create_type, ctz_struct_type, delete_type, directory_name_type, directory_struct_type, file_name_type, hard_tail_type, has_commit, holder, holder_at, inline_struct_type, is_in_table, is_later, kind_named, move_state_type, no_content, raw_at, soft_tail_type, struct_typed, superblock_name_type}
-use Rattle.lfs_model.specs.Logged.{HasParts, HaveParts, IsLogged, IsPart, IsPartIfSome}
+use Rattle.lfs_model.specs.Content.{RawContent, RawSlot, complete_all, completed, content_after_all, content_at, create_type, ctz_struct_type, delete_type, directory_name_type, directory_struct_type, file_name_type, hard_tail_type, has_commit, holder, holder_at, inline_struct_type, is_in_table, is_later, kind_named, move_state_type, no_content, raw_at, soft_tail_type, struct_typed, superblock_name_type}
+use Rattle.lfs_model.specs.Logged.{HaveParts, IsLogged, IsPart, IsPartIfSome}
 use Rattle.lfs_model.specs.Thread.{Pair, anchor, superblocks_before}
 use Rattle.lfs_model.specs.View.{HasSuperblock, HasView, IsAccepted, IsEntry, IsSuperblockStruct, Suits, View}
 use Rattle.lfs_model.proofs.Counts.{Each}
-use Rattle.lfs_model.proofs.Completed.{AreComplete, complete_parts, completed_parts}
+use Rattle.lfs_model.proofs.Completed.{complete_parts, completed_parts}
 use Rattle.lfs_model.proofs.Logged.{logged}
 use Rattle.lfs_model.proofs.WrittenAnew.{kind_of-tag_with, len_of-tag_with}
-use Rattle.lfs_tool.specs.OnePair.{Starts, bytes_in, describes, has_superblock, has_type, is_superblock}
+use Rattle.lfs_tool.specs.OnePair.{Starts, bytes_in, describes, has_superblock, has_type}
 
 -- ---- the superblock's slot
 

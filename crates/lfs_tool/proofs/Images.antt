@@ -1,14 +1,12 @@
 -- An image's first blocks, and why it isn't listed.
 use Rattle.std.proofs.Common.{◌≡◌, ◌≢◌, ◌∙◌, ◌<◌, ◌≤◌, ◌+◌, ◌-◌, ◌*◌, ◌/◌, ◌%◌, ℕ, List, Option, Some, None, ap, ap₂, arith, drop, length, subst, sym, take}
 use Rattle.std.specs.Prelude.{IfSome}
-use Rattle.std.specs.Io.KnownBytes.{Appends}
 use Rattle.std.proofs.lemmas.List.{length-take, take_all}
 use Rattle.lfs_model.specs.Geometry.{IsGeometry}
 use Rattle.lfs_model.specs.Disk.{IsImage, disk_of}
 use Rattle.lfs_model.proofs.Cuts.{block_in-cut, length-cut}
 use Rattle.lfs_device.specs.declared.error.Error.{Error}
 use Rattle.lfs_device.specs.declared.error.Error.TheVariants.{Invalid, NoMemory}
-use Rattle.lfs_tool.specs.Known.{AppendsBeginning}
 use Rattle.lfs_tool.specs.OnePair.{HasBlocks, IsRefused, Lists, Refuses}
 
 -- sizes that were found, and the image that has them

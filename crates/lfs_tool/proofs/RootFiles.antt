@@ -1,6 +1,5 @@
 -- Slots that are files with their bytes in them, and the lines that list them.
-use Rattle.std.proofs.Common.{◌≡◌, ◌∙◌, ◌<◌, ◌&&◌, ◌||◌, ◌==◌, ◌++◌, ◌∷◌, [], ℕ, Bool, true, false, not, cond, List, Option, Some, None, Less, Equal, Greater, AllPairs, ap, ap₂, arith, codes, eqb-true, flat_map, length, map, option_and_then, option_map, refl, subst, suc, sym}
-use Rattle.std.specs.Prelude.{All}
+use Rattle.std.proofs.Common.{◌≡◌, ◌∙◌, ◌&&◌, ◌||◌, ◌==◌, ◌++◌, ◌∷◌, [], ℕ, Bool, true, false, not, cond, List, Option, Some, None, Less, Equal, Greater, AllPairs, ap, ap₂, arith, eqb-true, flat_map, option_and_then, option_map, refl, subst, suc, sym}
 use Rattle.std.specs.List.{list_all}
 use Rattle.std.specs.declared.cmp.Ordering.{Ordering}
 use Rattle.std.proofs.lemmas.Bool.{and_parts}
@@ -9,7 +8,7 @@ use Rattle.std.proofs.lemmas.List.Elements.{All-from_recursion, All-map}
 use Rattle.std.proofs.lemmas.List.Kept.{AllPairs-cons}
 use Rattle.std.proofs.lemmas.Option.{cond_some, same_Some}
 use Rattle.lfs_model.specs.Names.{Name, is_less, is_name, name_cmp}
-use Rattle.lfs_model.specs.Slots.{Attributes, Branch, Ctz, Directory, File, Inline, Kind, Slot, Struct, Superblock}
+use Rattle.lfs_model.specs.Slots.{Attributes, Branch, Ctz, Directory, File, Inline, Slot, Struct, Superblock}
 use Rattle.lfs_model.specs.Content.{RawSlot, complete, complete_all, directory_name_type, directory_struct_type, file_name_type, inline_struct_type, kind_named, struct_typed}
 use Rattle.lfs_model.specs.View.{IsEntry, Suits}
 use Rattle.lfs_model.proofs.Counts.{Each, each_weaker}

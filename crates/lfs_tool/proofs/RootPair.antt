@@ -1,17 +1,17 @@
 -- A disk whose first pair holds all files: it is accepted, and lists them.
-use Rattle.std.proofs.Common.{◌≡◌, ◌∙◌, ◌<◌, ◌≤◌, ◌&&◌, ◌==◌, ◌++◌, ◌∷◌, [], ℕ, Bool, true, false, not, cond, List, Option, Some, None, Less, AllPairs, All, ap, ap₂, arith, codes, flat_map, get_or, inl, length, map, nat_eq, option_and_then, option_map, refl, subst, sym}
+use Rattle.std.proofs.Common.{◌≡◌, ◌∙◌, ◌<◌, ◌≤◌, ◌++◌, ◌∷◌, [], ℕ, Bool, true, false, not, cond, List, Option, Some, None, Less, AllPairs, All, ap, ap₂, arith, codes, flat_map, get_or, inl, map, nat_eq, option_and_then, refl, subst, sym}
 use Rattle.std.specs.List.{IsDistinct, filter}
 use Rattle.std.proofs.lemmas.List.Elements.{All-from_recursion, recursion_from_All}
 use Rattle.std.proofs.lemmas.Option.{same_Some, slice_get-get_or}
 use Rattle.lfs_model.specs.Disk.{Disk, block_count}
 use Rattle.lfs_model.specs.Names.{Name, name_cmp, same_name}
-use Rattle.lfs_model.specs.Slots.{Attributes, Branch, Content, Ctz, Inline, Slot, Struct, Superblock, is_superblock, no_gstate, same_pair}
+use Rattle.lfs_model.specs.Slots.{Attributes, Content, Inline, Slot, Struct, Superblock, is_superblock, no_gstate, same_pair}
 use Rattle.lfs_model.specs.Content.{content_at, holder_at}
-use Rattle.lfs_model.specs.Thread.{Listing, Pair, anchor}
-use Rattle.lfs_model.specs.Tree.{Entries, FileNode, Node, Path, Tree, branch_of, directory_from, entry_named, node_of, root_slot, tree_from}
-use Rattle.lfs_model.specs.View.{BeginsWith, HasSuperblock, IsAccepted, IsEntry, IsListIfCtz, IsReached, IsSuperblockStruct, Leads, all_slots, contents_in, directories_in, entries_in, file_blocks, superblock_entry, tree_in, used_blocks}
+use Rattle.lfs_model.specs.Thread.{Pair, anchor}
+use Rattle.lfs_model.specs.Tree.{Entries, FileNode, Path, Tree, branch_of, directory_from, entry_named, node_of, root_slot, tree_from}
+use Rattle.lfs_model.specs.View.{BeginsWith, HasSuperblock, IsAccepted, IsEntry, IsListIfCtz, IsReached, IsSuperblockStruct, Leads, all_slots, contents_in, directories_in, entries_in, file_blocks, superblock_entry, tree_in}
 use Rattle.lfs_model.specs.Apply.{names_of}
-use Rattle.lfs_model.specs.Listing.{Entry, IsListing, IsWalk, line_of, lines_of, paths_in}
+use Rattle.lfs_model.specs.Listing.{Entry, IsListing, IsWalk, lines_of, paths_in}
 use Rattle.lfs_model.proofs.Counts.{Each, each_append, each_both, each_weaker}
 use Rattle.lfs_model.proofs.Names.{Rise, found_at, names_in}
 use Rattle.lfs_model.proofs.Superblocks.{entry_is_other}

@@ -1,5 +1,5 @@
 -- A disk that starts with a superblock and holds all files in its first pair: its lines, or that it isn't accepted.
-use Rattle.std.proofs.Common.{◌≡◌, ◌∙◌, ◌≤◌, ◌&&◌, ◌||◌, ◌==◌, ◌∷◌, [], ℕ, Bool, true, false, not, List, Option, Some, None, All, ap, ap₂, codes, drop, eqb-true, length, option_and_then, option_map, refl, subst, sym, is_some}
+use Rattle.std.proofs.Common.{◌≡◌, ◌∙◌, ◌≤◌, ◌&&◌, ◌==◌, ◌∷◌, [], ℕ, Bool, true, false, not, List, Option, Some, None, ap, ap₂, codes, drop, eqb-true, length, option_and_then, option_map, refl, subst, sym, is_some}
 use Rattle.std.specs.List.{list_all}
 use Rattle.std.specs.Str.{bytes_eq}
 use Rattle.std.proofs.lemmas.Bool.{and_parts}
@@ -15,10 +15,10 @@ use Rattle.lfs_model.specs.Thread.{Links, Pair, anchor, next_of}
 use Rattle.lfs_model.specs.View.{BeginsWith, HasSuperblock, IsAccepted, IsEntry, IsSuperblockStruct, HasView, View, superblock_entry, tree_in, view_in}
 use Rattle.lfs_model.specs.Listing.{IsListing}
 use Rattle.lfs_model.proofs.Counts.{Each}
-use Rattle.lfs_model.proofs.Names.{Rise, names_in}
+use Rattle.lfs_model.proofs.Names.{Rise}
 use Rattle.lfs_tool.specs.OnePair.{HasBlocks, IsCorrupt, IsListed, Starts, bytes_in, describes, has_superblock, has_type, is_one_pair, is_still, is_superblock, is_whole, lines_behind}
 use Rattle.lfs_tool.proofs.Accepted.{AreBytes, starts_shown}
-use Rattle.lfs_tool.proofs.RootFiles.{ReadAs, behind_nothing, read_from, refused_from, rise_from, slot_line}
+use Rattle.lfs_tool.proofs.RootFiles.{behind_nothing, read_from, refused_from, rise_from}
 use Rattle.lfs_tool.proofs.RootPair.{IsRoot, accepted, entries_at, listed, root_content, root_pair, superblock_with}
 
 -- ---- the superblock's slot

@@ -3,7 +3,6 @@ use Rattle.std.specs.Prelude.{◌++◌, ℕ, List, Option, Some, None, Bool, tru
 use Rattle.clap.specs.Words.{kind_of}
 use Rattle.clap.specs.declared.error.ErrorKind.{ErrorKind}
 use Rattle.clap.specs.declared.error.ErrorKind.TheVariants as kind
-use Rattle.lfs_tool_line.specs.declared.line.LineError.{LineError}
 use Rattle.lfs_tool_line.specs.declared.line.LineError.TheVariants.{Modes, Parser}
 use Rattle.lfs_model.specs.Listing.{newline}
 use Rattle.lfs_tool.specs.Errors.{error_line, tool_line, tool_status}

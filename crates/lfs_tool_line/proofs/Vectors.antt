@@ -1,5 +1,5 @@
 -- What some lines of words say.
-use Rattle.std.proofs.Common.{◌≡◌, ◌∷◌, [], Some, List, refl, codes, true, ℕ}
+use Rattle.std.proofs.Common.{◌≡◌, ◌∷◌, [], Some, List, refl, codes}
 use Rattle.clap.specs.Words.{Text, first_of}
 use Rattle.clap.specs.declared.error.ErrorKind.TheVariants as kind
 use Rattle.clap.proofs.OnLiterals.{clap_on_literals}

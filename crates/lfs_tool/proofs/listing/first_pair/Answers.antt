@@ -2,7 +2,7 @@ use Rattle.std.proofs.Common.{◌≡◌, ◌∙◌, Err, Ok, Result, ap, map, re
 use Rattle.std.specs.Prelude.{IfErr, IsErrAnd}
 use Rattle.lfs_tag.specs.ContentSeen.{content_seen, slot_seen}
 use Rattle.lfs_tool.specs.OnePair.{has_superblock}
-use Rattle.lfs_tool.proofs.Starts.{Holds, begins_otherwise, malformed_log, no_superblock, starts_from}
+use Rattle.lfs_tool.proofs.Starts.{Holds, begins_otherwise, malformed_log, no_superblock}
 use Rattle.lfs_tool.proofs.listing.first_pair.Goals as goal
 use Rattle.lfs_tool.proofs.listing.first_pair.Goals.{then-not-begins_with_superblock-via-then-not-begins_with_superblock, then-not-begins_with_superblock-via-else-not-begins_with_superblock+then-not-has_superblock}
 

@@ -1,7 +1,6 @@
-use Rattle.std.proofs.Common.{List, ℕ}
 use Rattle.std.proofs.lemmas.Result.{IfErr-weaker, IfOk-weaker}
 use Rattle.lfs_model.specs.Disk.{disk_of}
-use Rattle.lfs_tool.proofs.Images.{Measures, blocks_from, image_from, refuses_by, refuses_invalid}
+use Rattle.lfs_tool.proofs.Images.{Measures, blocks_from, image_from, refuses_by}
 use Rattle.lfs_tool.proofs.listing.lines_of_image.Goals as goal
 
 pub returns-clause-ok : goal.returns-clause-ok

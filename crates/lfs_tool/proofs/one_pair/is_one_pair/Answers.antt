@@ -1,4 +1,4 @@
-use Rattle.std.proofs.Common.{◌≡◌, ◌&&◌, ◌∙◌, Bool, true, false, not, Option, Some, None, ap, ap₂, refl, map, option_map, is_some, sym}
+use Rattle.std.proofs.Common.{◌≡◌, ◌&&◌, ◌∙◌, true, false, not, Option, Some, None, ap, ap₂, refl, map, option_map, is_some, sym}
 use Rattle.std.specs.List.{list_all}
 use Rattle.std.proofs.lemmas.List.Folds.{list_all-map}
 use Rattle.lfs_tag.specs.declared.content.Content.{Content}

@@ -1,4 +1,4 @@
-use Rattle.std.proofs.Common.{arith, rules}
+use Rattle.std.proofs.Common.{rules}
 use Rattle.lfs_tool.proofs.KnownBytes.{appends_more}
 use Rattle.lfs_tool.proofs.output.write_bytes.Goals as goal
 

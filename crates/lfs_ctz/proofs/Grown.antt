@@ -1,16 +1,16 @@
 -- A block more behind the blocks of a list.
-use Rattle.std.proofs.Common.{ℕ, zero, suc, ◌≡◌, ◌≢◌, ◌+◌, ◌*◌, ◌-◌, ◌<◌, ◌≤◌, ◌^◌, ⊎_elim, nat_eq, false, get_or, List, [], ◌∷◌, ◌++◌, length, slice_index, refl, sym, ap, subst, ◌∙◌, arith, add-one, length-append}
+use Rattle.std.proofs.Common.{ℕ, zero, suc, ◌≡◌, ◌≢◌, ◌+◌, ◌*◌, ◌-◌, ◌<◌, ◌^◌, ⊎_elim, nat_eq, get_or, List, [], ◌∷◌, ◌++◌, length, slice_index, refl, sym, ap, subst, ◌∙◌, arith, add-one, length-append}
 use Rattle.std.specs.Prelude.{All}
 use Rattle.std.specs.List.{IsDistinct}
 use Rattle.std.proofs.Math.Nat.{one-le-pow}
 use Rattle.std.proofs.lemmas.Bool.{cases_lt, ne_eqb, eqb-false}
-use Rattle.std.proofs.lemmas.List.{get_or_at, get_or_append_left, get_or_default}
+use Rattle.std.proofs.lemmas.List.{get_or_at, get_or_append_left}
 use Rattle.std.proofs.lemmas.List.Elements.{recursion_from_All}
 use Rattle.std.proofs.lemmas.Map.Keys.{IsDistinct-from_apart, apart_from_distinct}
 use Rattle.lfs_model.specs.Blocks.{Blocks, SameBut, block_in}
 use Rattle.lfs_model.specs.Lists.{word_at, pointers_of, blocks_back, IsChain}
 use Rattle.lfs_model.proofs.Files.{Same, back_same}
-use Rattle.lfs_ctz.proofs.Chains.{length_back, head_of_back, in_range_at, pointers_of-pos}
+use Rattle.lfs_ctz.proofs.Chains.{length_back, head_of_back, pointers_of-pos}
 
 -- blocks apart from one that changes are the same
 pub same_apart : (d e : Blocks) (block : ℕ) (bs : List ℕ) → SameBut block d e → All (λ c. c ≢ block) bs → Same d e bs

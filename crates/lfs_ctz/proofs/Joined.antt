@@ -1,11 +1,9 @@
 -- The bytes of blocks, one behind the other.
-use Rattle.std.proofs.Common.{ℕ, zero, suc, ◌≡◌, ◌≢◌, ◌+◌, ◌*◌, ◌-◌, ◌<◌, ◌≤◌, ◌^◌, List, [], ◌∷◌, ◌++◌, length, take, drop, slice_index, get_or, refl, sym, ap, ap₂, subst, ◌∙◌, arith, add-one, append_assoc, length-append, length-drop, flat_map}
-use Rattle.std.specs.Prelude.{All}
+use Rattle.std.proofs.Common.{ℕ, zero, suc, ◌≡◌, ◌+◌, ◌*◌, ◌<◌, ◌≤◌, List, [], ◌∷◌, ◌++◌, length, take, slice_index, sym, ap, ◌∙◌, arith, add-one, append_assoc, length-append, length-drop, flat_map}
 use Rattle.std.specs.List.{enumerate_from}
-use Rattle.std.proofs.lemmas.List.{append-nil, take_at, take_more, get_or_append_left, take-append-drop}
-use Rattle.std.proofs.Math.Seq.{take-append-add}
+use Rattle.std.proofs.lemmas.List.{take_more}
 use Rattle.lfs_model.specs.Blocks.{Blocks, block_in}
-use Rattle.lfs_model.specs.Lists.{word_at, pointers_of, capacity_of, bytes_before, blocks_back, IsChain, data_of}
+use Rattle.lfs_model.specs.Lists.{pointers_of, capacity_of, bytes_before, blocks_back, data_of}
 use Rattle.lfs_ctz.proofs.Sizes.{pointers_of-le}
 use Rattle.lfs_ctz.proofs.Chains.{length_back, back-pointer0}
 use Rattle.lfs_ctz.proofs.Parts.{AllSized}

@@ -1,16 +1,15 @@
 -- Blocks that an extender is handed, one after the other.
-use Rattle.std.proofs.Common.{ℕ, zero, suc, ◌≡◌, ◌≢◌, ◌+◌, ◌*◌, ◌-◌, ◌<◌, ◌≤◌, ⊎_elim, inl, inr, nat_eq, get_or, List, [], ◌∷◌, ◌++◌, length, take, drop, slice_index, refl, sym, ap, subst, ◌∙◌, arith, append_assoc, length-append}
+use Rattle.std.proofs.Common.{ℕ, suc, ◌≡◌, ◌≢◌, ◌+◌, ◌-◌, ◌<◌, ◌≤◌, ⊎_elim, inl, inr, nat_eq, get_or, List, [], ◌∷◌, ◌++◌, length, take, slice_index, refl, sym, ap, subst, ◌∙◌, arith, append_assoc, length-append}
 use Rattle.std.specs.Prelude.{All}
 use Rattle.std.specs.List.{IsDistinct}
 use Rattle.std.proofs.lemmas.Bool.{cases_eq, cases_lt, eqb-false}
 use Rattle.std.proofs.lemmas.List.{append-nil, get_or_append_left, get_or-append-add, get_or-take, length-take-le, take_more, get_or_default}
-use Rattle.std.proofs.Math.Seq.{take-append-add}
 use Rattle.std.proofs.lemmas.Map.Keys.{apart_from_distinct}
 use Rattle.lfs_model.specs.Blocks.{Blocks, SameBut, SameButThese, block_in}
-use Rattle.lfs_model.specs.Lists.{bytes_before, capacity_of, blocks_back, blocks_for}
+use Rattle.lfs_model.specs.Lists.{capacity_of, blocks_back, blocks_for}
 use Rattle.lfs_ctz.specs.declared.extender.Tail.{Tail}
 use Rattle.lfs_ctz.specs.declared.extender.Tail.TheVariants.{Closed, Shared, Handed}
-use Rattle.lfs_ctz.specs.Growing.{Growing, pending_in, last_in, pending_of, kept_of, blocks_of, size_of, needed_of, next_of, IsTail, IsHanded, IsGrowing}
+use Rattle.lfs_ctz.specs.Growing.{Growing, pending_in, last_in, pending_of, kept_of, blocks_of, size_of, needed_of, next_of, IsTail, IsGrowing}
 use Rattle.lfs_ctz.proofs.Sizes.{blocks_for-above, blocks_for-within}
 use Rattle.lfs_ctz.proofs.Chains.{length_back}
 

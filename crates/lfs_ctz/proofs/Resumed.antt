@@ -1,5 +1,5 @@
 -- The front of a list.
-use Rattle.std.proofs.Common.{ℕ, zero, suc, ◌≡◌, ◌≢◌, ◌+◌, ◌*◌, ◌-◌, ◌<◌, ◌≤◌, ◌^◌, nat_eq, false, get_or, List, [], ◌∷◌, ◌++◌, length, take, drop, slice_index, refl, sym, ap, subst, ◌∙◌, arith, add-one, append_assoc, length-append, length-drop}
+use Rattle.std.proofs.Common.{ℕ, zero, suc, ◌≡◌, ◌+◌, ◌*◌, ◌-◌, ◌<◌, ◌≤◌, ◌^◌, nat_eq, false, get_or, List, [], ◌∷◌, ◌++◌, length, take, drop, slice_index, refl, sym, ap, subst, ◌∙◌, arith, add-one, length-drop}
 use Rattle.std.specs.Prelude.{All}
 use Rattle.std.specs.List.{IsDistinct}
 use Rattle.std.proofs.Math.Nat.{one-le-pow}
@@ -7,7 +7,7 @@ use Rattle.std.proofs.Math.Seq.{take-append-add}
 use Rattle.std.proofs.lemmas.List.{append-nil, take_at, take_more, drop_more, take-take, take-append-le, take-append-drop, get_or-take, length-take-le}
 use Rattle.std.proofs.lemmas.Map.Keys.{IsDistinct-from_apart, apart_from_distinct}
 use Rattle.lfs_model.specs.Blocks.{Blocks, IsDivided, block_in}
-use Rattle.lfs_model.specs.Lists.{word_at, pointers_of, capacity_of, bytes_before, blocks_back, blocks_for, IsChain, IsList, IsPlace, data_of, bytes_of}
+use Rattle.lfs_model.specs.Lists.{word_at, pointers_of, bytes_before, blocks_back, blocks_for, IsChain, IsList, IsPlace, data_of, bytes_of}
 use Rattle.lfs_ctz.specs.Growing.{joined, IsShared}
 use Rattle.lfs_ctz.proofs.Sizes.{pointers_of-le, blocks_for-place, place-lt}
 use Rattle.lfs_ctz.proofs.Chains.{length_back, chain_of_list, back-pointer0}

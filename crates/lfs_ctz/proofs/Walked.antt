@@ -1,7 +1,5 @@
 -- Blocks that a walk from the head back has checked are a list's.
-use Rattle.std.proofs.Common.{ℕ, zero, suc, ◌≡◌, ◌≢◌, ◌+◌, ◌*◌, ◌-◌, ◌<◌, ◌≤◌, ◌^◌, ◌⊎◌, inl, inr, ⊎_elim, nat_eq, false, List, [], ◌∷◌, ◌++◌, length, drop, slice_index, refl, sym, ap, subst, ◌∙◌, arith, add-one, length-append, eqb-true, eq-eqb}
-use Rattle.std.specs.Prelude.{All}
-use Rattle.std.specs.Int.{w32, trailing_zeros}
+use Rattle.std.proofs.Common.{ℕ, zero, suc, ◌≡◌, ◌≢◌, ◌+◌, ◌*◌, ◌-◌, ◌<◌, ◌≤◌, ◌^◌, ⊎_elim, nat_eq, false, List, [], ◌∷◌, ◌++◌, length, drop, slice_index, sym, ap, subst, ◌∙◌, arith, add-one, eqb-true}
 use Rattle.std.specs.List.{IsDistinct}
 use Rattle.std.proofs.Math.Nat.{pow-suc, one-le-pow}
 use Rattle.std.proofs.Common.{get_or}

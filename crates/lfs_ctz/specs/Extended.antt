@@ -1,5 +1,5 @@
 -- What callers see of an extender.
-use Rattle.std.specs.Prelude.{ℕ, ◌≡◌, ◌≤◌, ◌<◌, ◌+◌, ◌-◌, ◌*◌, ◌^◌, take, drop}
+use Rattle.std.specs.Prelude.{◌-◌, ◌*◌, take, drop}
 use Rattle.lfs_device.specs.declared.geometry.Geometry.{Geometry}
 use Rattle.lfs_model.specs.Lists.{pointers_of}
 use Rattle.lfs_ctz.specs.Growing.{Growing}

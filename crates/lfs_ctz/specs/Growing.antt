@@ -1,8 +1,8 @@
 -- A list that grows, as contracts see it.
-use Rattle.std.specs.Prelude.{ℕ, ◌≡◌, ◌≢◌, ◌≤◌, ◌<◌, ◌+◌, ◌-◌, ◌*◌, ◌^◌, List, [], ◌∷◌, ◌++◌, length, take, drop, slice_index, All}
+use Rattle.std.specs.Prelude.{ℕ, ◌≡◌, ◌≢◌, ◌≤◌, ◌<◌, ◌+◌, ◌-◌, ◌*◌, List, [], ◌∷◌, ◌++◌, length, take, drop, slice_index, All}
 use Rattle.std.specs.List.{flat_map, enumerate_from}
 use Rattle.lfs_model.specs.Blocks.{Blocks, block_in}
-use Rattle.lfs_model.specs.Lists.{pointers_of, bytes_before, blocks_back, blocks_for, IsChain, data_of}
+use Rattle.lfs_model.specs.Lists.{pointers_of, bytes_before, capacity_of, blocks_back, blocks_for, IsChain, data_of}
 use Rattle.lfs_ctz.specs.declared.extender.Tail.{Tail}
 use Rattle.lfs_ctz.specs.declared.extender.Tail.TheVariants.{Closed, Shared, Handed}
 
@@ -46,6 +46,10 @@ content_of disk g = joined disk (blocks_back disk g.full g.head) ++ g.rest
 
 abbrev pub size_of : ℕ → Growing → ℕ
 size_of block_size g = bytes_before block_size g.full + length g.rest
+
+-- the rest does not fill a block, so that no other blocks are full
+abbrev pub IsShort : ℕ → Growing → Type 0
+IsShort block_size g = length g.rest < capacity_of block_size g.full
 
 -- how many blocks it needs for so many bytes more
 abbrev pub needed_of : ℕ → Growing → ℕ → ℕ

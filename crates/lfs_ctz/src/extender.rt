@@ -1,7 +1,7 @@
 ghost use Rattle.std.specs.Prelude.{◌≡◌, ◌≢◌, ◌≤◌, ◌<◌, ◌+◌, ◌-◌, ◌*◌, ◌%◌, ◌^◌, ◌++◌, ◌∷◌, [], ◌⊎◌, ℕ, All, length, take, drop, replicate, nat_eq, OnOk, IfOk, IfErr, IsErrOf, slice_index};
 ghost use Rattle.std.specs.List.{IsDistinct};
 ghost use Rattle.lfs_model.specs.Blocks.{Blocks, SameBut, SameButThese, block_in, overwritten};
-ghost use Rattle.lfs_model.specs.History.{AtWorst, LeavesOnly, OnlyReads, faults};
+ghost use Rattle.lfs_model.specs.History.{AtWorst, LeavesOnly, OnlyReads, erases, faults, programs};
 ghost use Rattle.lfs_model.specs.Lists.{IsChain, IsList, blocks_back, blocks_for, bytes_of, pointers_of, word_at};
 ghost use Rattle.lfs_ctz.specs.Filled.{IsFilled};
 
@@ -57,7 +57,7 @@ fn pad(all: &mut Vec<u8>, at: usize, end: usize)
 
 impl Extender {
     ghost use Rattle.lfs_ctz.specs.Extended.{geometry_of, growing_of};
-    ghost use Rattle.lfs_ctz.specs.Growing.{IsGrowing, blocks_of, content_of, kept_of, needed_of, next_of, pending_of, size_of};
+    ghost use Rattle.lfs_ctz.specs.Growing.{IsGrowing, IsShort, blocks_of, content_of, kept_of, needed_of, next_of, pending_of, size_of};
 
     /// An empty list.
     ///
@@ -68,6 +68,7 @@ impl Extender {
         ensures none { IfOk result (λ e. (disk : Blocks) → blocks_of disk (growing_of e) ≡ []) }
         ensures kept { IfOk result (λ e. (disk : Blocks) → kept_of disk (growing_of e) ≡ []) }
         ensures sum { IfOk result (λ e. size_of (geometry_of e).block_size (growing_of e) ≡ 0) }
+        ensures short { IfOk result (λ e. IsShort (geometry_of e).block_size (growing_of e)) }
         ensures geometry { IfOk result (λ e. geometry_of e ≡ geometry) }
         ensures errors { IfErr result (λ e. e ≡ Error.NoMemory) }
     {
@@ -100,6 +101,7 @@ impl Extender {
         ensures held { IfOk result (λ e. IsGrowing (D.blocks dev.old) (growing_of e)) }
         ensures bytes { IfOk result (λ e. content_of (D.blocks dev.old) (growing_of e) ≡ take keep (bytes_of (D.blocks dev.old) (D.geometry dev.old).block_size head size)) }
         ensures sum { IfOk result (λ e. size_of (geometry_of e).block_size (growing_of e) ≡ keep) }
+        ensures short { IfOk result (λ e. IsShort (geometry_of e).block_size (growing_of e)) }
         ensures blocks { IfOk result (λ e. blocks_of (D.blocks dev.old) (growing_of e)
             ≡ take (blocks_for (D.geometry dev.old).block_size keep) (blocks_back (D.blocks dev.old) (blocks_for (D.geometry dev.old).block_size size) head)) }
         ensures kept { IfOk result (λ e. kept_of (D.blocks dev.old) (growing_of e)
@@ -193,6 +195,8 @@ impl Extender {
         ensures same { geometry_of self.new ≡ geometry_of self.old }
         ensures others { SameBut block (D.blocks dev.old) (D.blocks dev.new) }
         ensures device { D.geometry dev.new ≡ D.geometry dev.old }
+        ensures erases { OnOk result (erases (D.history dev.new) + (growing_of self.old).full ≡ erases (D.history dev.old) + (growing_of self.new).full) }
+        ensures programs { OnOk result (programs (D.history dev.new) + (growing_of self.old).full ≡ programs (D.history dev.old) + (growing_of self.new).full) }
         ensures stops { LeavesOnly AtWorst (D.history dev.old) (D.history dev.new) (SameBut block (D.blocks dev.old)) }
         ensures no_fault { OnOk result (faults (D.history dev.new) ≡ faults (D.history dev.old)) }
         ensures io { IsErrOf result Error.Io → faults (D.history dev.old) < faults (D.history dev.new) }
@@ -244,7 +248,11 @@ impl Extender {
         ensures sum { OnOk result (size_of (geometry_of self.new).block_size (growing_of self.new) ≡ size_of (geometry_of self.old).block_size (growing_of self.old) + length bytes.now) }
         ensures kept { OnOk result (kept_of (D.blocks dev.new) (growing_of self.new) ≡ kept_of (D.blocks dev.old) (growing_of self.old) ++ blocks.now) }
         ensures own { OnOk result (blocks_of (D.blocks dev.new) (growing_of self.new) ≡ kept_of (D.blocks dev.new) (growing_of self.new)) }
+        ensures short { OnOk result (IsShort (geometry_of self.new).block_size (growing_of self.new)) }
         ensures same { geometry_of self.new ≡ geometry_of self.old }
+        // A block that fills is erased once and programmed once.
+        ensures erases { OnOk result (erases (D.history dev.new) + (growing_of self.old).full ≡ erases (D.history dev.old) + (growing_of self.new).full) }
+        ensures programs { OnOk result (programs (D.history dev.new) + (growing_of self.old).full ≡ programs (D.history dev.old) + (growing_of self.new).full) }
         ensures others { SameButThese (pending_of (growing_of self.old) ++ blocks.now) (D.blocks dev.old) (D.blocks dev.new) }
         ensures device { D.geometry dev.new ≡ D.geometry dev.old }
         // A stop at any moment changes no block but those handed in.
@@ -275,6 +283,8 @@ impl Extender {
         ensures bytes { OnOk result (take (length (growing_of self.old).rest) (drop (4 * pointers_of (growing_of self.old).full) (block_in (D.blocks dev.new) block)) ≡ (growing_of self.old).rest) }
         ensures others { SameBut block (D.blocks dev.old) (D.blocks dev.new) }
         ensures device { D.geometry dev.new ≡ D.geometry dev.old }
+        ensures erases { OnOk result (erases (D.history dev.new) ≡ erases (D.history dev.old) + 1) }
+        ensures programs { OnOk result (programs (D.history dev.new) ≡ programs (D.history dev.old) + 1) }
         ensures stops { LeavesOnly AtWorst (D.history dev.old) (D.history dev.new) (SameBut block (D.blocks dev.old)) }
         ensures no_fault { OnOk result (faults (D.history dev.new) ≡ faults (D.history dev.old)) }
         ensures io { IsErrOf result Error.Io → faults (D.history dev.old) < faults (D.history dev.new) }
@@ -300,6 +310,9 @@ impl Extender {
         ensures bytes { IfOk result (λ r. bytes_of (D.blocks dev.new) (geometry_of self).block_size r.0 r.1 ≡ content_of (D.blocks dev.old) (growing_of self)) }
         ensures size { IfOk result (λ r. r.1 ≡ size_of (geometry_of self).block_size (growing_of self)) }
         ensures blocks { IfOk result (λ r. blocks_back (D.blocks dev.new) (blocks_for (geometry_of self).block_size r.1) r.0 ≡ blocks_of (D.blocks dev.old) (growing_of self)) }
+        ensures no_call { pending_of (growing_of self) ≡ [] → D.history dev.new ≡ D.history dev.old }
+        ensures erases { OnOk result (erases (D.history dev.new) ≡ erases (D.history dev.old) + length (pending_of (growing_of self))) }
+        ensures programs { OnOk result (programs (D.history dev.new) ≡ programs (D.history dev.old) + length (pending_of (growing_of self))) }
         ensures others { SameButThese (pending_of (growing_of self)) (D.blocks dev.old) (D.blocks dev.new) }
         ensures device { D.geometry dev.new ≡ D.geometry dev.old }
         // A stop at any moment changes no block but the one that was handed in.

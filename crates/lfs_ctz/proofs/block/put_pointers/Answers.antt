@@ -1,4 +1,4 @@
-use Rattle.std.proofs.Common.{ℕ, ◌≡◌, ◌≤◌, ◌<◌, ◌+◌, ◌-◌, ◌*◌, ◌^◌, List, length, slice_index, refl, sym, ap, ap₂, ◌∙◌, arith, below_more, suc, subst, add-one}
+use Rattle.std.proofs.Common.{ℕ, ◌≡◌, ◌≤◌, ◌<◌, ◌+◌, ◌-◌, ◌*◌, ◌^◌, List, length, slice_index, refl, sym, ap, ◌∙◌, arith, below_more, subst, add-one}
 use Rattle.std.specs.Int.{w32, trailing_zeros}
 use Rattle.std.proofs.Math.Nat.{pow-suc, one-le-pow}
 use Rattle.std.proofs.lemmas.Result.{err_from_is_err_and}
@@ -7,7 +7,7 @@ use Rattle.lfs_device.specs.declared.error.Error.{Error}
 use Rattle.lfs_model.proofs.Histories.{began}
 use Rattle.lfs_ctz.proofs.Sizes.{pointers_of-le}
 use Rattle.lfs_device.specs.declared.geometry.Geometry.{Geometry}
-use Rattle.lfs_model.specs.Blocks.{Blocks, IsDivided, block_in}
+use Rattle.lfs_model.specs.Blocks.{Blocks, block_in}
 use Rattle.lfs_model.specs.Lists.{IsChain, blocks_back, pointers_of, word_at}
 use Rattle.lfs_ctz.proofs.Chains.{head_of_back, in_range_at, pointers_of-pos}
 use Rattle.lfs_ctz.proofs.Readings.{reads_on}

@@ -1,8 +1,8 @@
-use Rattle.std.proofs.Common.{ℕ, ◌≡◌, ◌+◌, ◌-◌, ◌*◌, ◌≤◌, ◌<◌, ◌^◌, ◌++◌, List, length, take, drop, slice_index, refl, sym, ap, subst, ◌∙◌, arith}
+use Rattle.std.proofs.Common.{ℕ, ◌≡◌, ◌-◌, ◌*◌, ◌<◌, ◌^◌, ◌++◌, List, take, drop, slice_index, refl, ap, subst, ◌∙◌, arith}
 use Rattle.lfs_model.proofs.Overwrites.{SameBut-trans}
-use Rattle.lfs_model.proofs.Histories.{goes_on}
+use Rattle.lfs_model.proofs.Histories.{goes_on, erases-reads, programs-reads}
 use Rattle.lfs_model.specs.Blocks.{Blocks, SameBut, block_in}
-use Rattle.lfs_model.specs.History.{AtWorst, LeavesOnly}
+use Rattle.lfs_model.specs.History.{erases, programs}
 use Rattle.lfs_model.specs.Lists.{blocks_back, pointers_of, word_at}
 use Rattle.lfs_ctz.proofs.Grown.{chain_grown, grown_back}
 use Rattle.lfs_ctz.proofs.Readings.{reads_stop}
@@ -65,3 +65,9 @@ returns-clause-bytes g c =
     ap (λ (b : List ℕ). take (c.args.end - p) (drop p b)) (block_is g c)
     ∙ data-written c.put_pointers.new.buf _ c.args.end p (omega (arith, c.put_pointers.ensures.len, c.requires.size, c.requires.room)) c.requires.pointers
     ∙ ap (take (c.args.end - p)) c.put_pointers.ensures.rest
+
+pub returns-clause-erases : goal.returns-clause-erases
+returns-clause-erases g c = omega (arith, ap erases c.in_ok-prog.ensures.history, ap erases c.in_ok-erase.ensures.history, erases-reads c.put_pointers.ensures.history)
+
+pub returns-clause-programs : goal.returns-clause-programs
+returns-clause-programs g c = omega (arith, ap programs c.in_ok-prog.ensures.history, ap programs c.in_ok-erase.ensures.history, programs-reads c.put_pointers.ensures.history)

@@ -4,9 +4,8 @@ use Rattle.std.proofs.lemmas.List.{take_at}
 use Rattle.std.proofs.lemmas.Result.{err_from_is_err_and}
 use Rattle.lfs_device.specs.declared.geometry.Geometry.{Geometry}
 use Rattle.lfs_model.specs.Blocks.{Blocks, IsDivided, block_in}
-use Rattle.lfs_model.specs.Lists.{IsChain, IsList, IsPlace, pointers_of, blocks_for, blocks_back, bytes_of, word_at}
+use Rattle.lfs_model.specs.Lists.{IsPlace, pointers_of, blocks_for, blocks_back, bytes_of, word_at}
 use Rattle.lfs_ctz.proofs.Sizes.{blocks_for-last, place-lt, place_unique, place-mono}
-use Rattle.lfs_ctz.proofs.Chains.{chain_of_list}
 use Rattle.lfs_ctz.proofs.Gathered.{IsPart, IsTurn, filled, turn_bytes, turn_rest, turn_before, turn_in_range, turn_index}
 use Rattle.lfs_ctz.proofs.Geometries.{last_is, chain, sized, shaped}
 use Rattle.lfs_ctz.proofs.Readings.{reads_on}

@@ -1,4 +1,4 @@
-use Rattle.std.proofs.Common.{ℕ, ◌≡◌, ◌+◌, ◌*◌, refl, sym, ap, ap₂, ◌∙◌, arith, below_more}
+use Rattle.std.proofs.Common.{◌≡◌, ◌+◌, ◌*◌, sym, ap, ap₂, ◌∙◌, below_more}
 use Rattle.lfs_model.specs.Blocks.{block_in}
 use Rattle.lfs_model.specs.Lists.{word_at}
 use Rattle.lfs_ctz.proofs.Readings.{reads_on}

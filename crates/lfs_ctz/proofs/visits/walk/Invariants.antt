@@ -1,6 +1,5 @@
 use Rattle.std.proofs.Common.{◌≡◌, ◌≤◌, ◌+◌, drop, reverse, slice_index}
 use Rattle.std.specs.List.{FoldsTo}
-use denote.Param.Always.{always_mut}
 use Rattle.lfs_model.specs.History.{OnlyReads, faults}
 use Rattle.lfs_model.specs.Lists.{blocks_back}
 use Rattle.lfs_ctz.proofs.Walked.{IsChecked}

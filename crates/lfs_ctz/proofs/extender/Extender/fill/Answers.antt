@@ -1,4 +1,4 @@
-use Rattle.std.proofs.Common.{ℕ, ◌≡◌, ◌+◌, ◌-◌, ◌*◌, ◌≤◌, ◌<◌, ◌++◌, List, [], length, take, drop, sym, ap, ◌∙◌, arith, add-one, append_assoc, length-drop}
+use Rattle.std.proofs.Common.{ℕ, ◌≡◌, ◌+◌, ◌-◌, ◌*◌, ◌++◌, List, length, take, drop, sym, ap, ◌∙◌, arith, add-one, append_assoc, length-drop}
 use Rattle.std.specs.Vec.{with_items}
 use Rattle.std.proofs.lemmas.List.{length-take-le, append-nil}
 use Rattle.lfs_device.specs.declared.geometry.Geometry.{Geometry}

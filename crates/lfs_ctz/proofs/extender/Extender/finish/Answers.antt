@@ -1,26 +1,17 @@
-use Rattle.std.proofs.Common.{ℕ, ◌≡◌, ◌≢◌, ◌≤◌, ◌<◌, ◌+◌, ◌-◌, ◌*◌, ◌^◌, ◌++◌, List, [], ◌∷◌, length, take, drop, refl, sym, ap, subst, ◌∙◌, arith, length-drop}
-use Rattle.std.specs.Prelude.{All}
-use Rattle.std.proofs.lemmas.List.{length-take-le}
+use Rattle.std.proofs.Common.{ℕ, ◌≡◌, ◌≤◌, ◌+◌, ◌++◌, [], ◌∷◌, length, take, sym, subst, arith}
 use Rattle.lfs_model.proofs.Histories.{EachSince-weaker}
 use Rattle.lfs_device.specs.declared.geometry.Geometry.{Geometry}
-use Rattle.lfs_model.specs.Blocks.{Blocks, IsDivided, SameBut, SameButThese, block_in}
-use Rattle.lfs_model.specs.Lists.{pointers_of, capacity_of, bytes_before, blocks_back, IsChain, data_of}
+use Rattle.lfs_model.specs.Blocks.{Blocks, IsDivided, SameBut, SameButThese}
+use Rattle.lfs_model.specs.Lists.{bytes_before, blocks_back, IsChain, data_of}
 use Rattle.lfs_ctz.specs.declared.extender.Extender.{Extender}
 use Rattle.lfs_ctz.specs.declared.extender.Tail.TheVariants.{Closed, Shared, Handed}
 use Rattle.lfs_ctz.specs.Extended.{geometry_of, growing_of}
-use Rattle.lfs_ctz.specs.Growing.{joined, content_of, blocks_of, pending_of, last_in, pending_in, IsGrowing}
-use Rattle.lfs_ctz.proofs.Sizes.{pointers_of-le}
+use Rattle.lfs_ctz.specs.Growing.{content_of, blocks_of, pending_of, last_in, pending_in, IsGrowing}
 use Rattle.lfs_ctz.proofs.Geometries.{shaped}
+use Rattle.lfs_ctz.proofs.Rests.{rest_of}
 use Rattle.lfs_ctz.proofs.Pushing.{outside-refl, outside-but}
 use Rattle.lfs_ctz.proofs.Filling.{IsEnd, closed_end, shared_end, handed_end}
 use Rattle.lfs_ctz.proofs.extender.Extender.finish.Goals as goal
-
--- the rest does not fill a block, and the size counts it
-rest_of : (e : Extender) → (length (growing_of e).rest < capacity_of e.geometry.block_size e.full) × (e.size ≡ bytes_before e.geometry.block_size e.full + length (growing_of e).rest)
-rest_of e =
-    let p : ℕ = 4 * pointers_of e.full in
-    let rest = length-take-le (e.filled - p) (drop p e.buffer.items) (omega (arith, e.one_block, e.in_step.high, length-drop p e.buffer.items)) in
-    (omega (arith, rest, e.in_step.low, e.in_step.high), omega (arith, rest, e.in_step.sum))
 
 module _ (d : Blocks) (e : Extender) (geometry : Geometry) (same : geometry ≡ geometry_of e) (shape : IsDivided geometry.block_size geometry.block_count d) (held : IsGrowing d (growing_of e)) (some : 1 ≤ e.size) where
   divided : IsDivided e.geometry.block_size geometry.block_count d

@@ -4,9 +4,8 @@ use Rattle.std.proofs.Math.Seq.{take-add}
 use Rattle.std.proofs.lemmas.List.{append-nil, get_or_append_left, take_all, length-take-le, take-take}
 use Rattle.lfs_model.proofs.Histories.{began, goes_on_by, EachSince-weaker}
 use Rattle.lfs_device.specs.declared.geometry.Geometry.{Geometry}
-use Rattle.lfs_model.specs.Blocks.{Blocks, SameBut, SameButThese}
-use Rattle.lfs_model.specs.History.{AtWorst, LeavesOnly}
-use Rattle.lfs_model.specs.Lists.{pointers_of, capacity_of, blocks_back}
+use Rattle.lfs_model.specs.Blocks.{Blocks}
+use Rattle.lfs_model.specs.Lists.{pointers_of, blocks_back}
 use Rattle.lfs_ctz.specs.Extended.{geometry_of, growing_of}
 use Rattle.lfs_ctz.specs.Growing.{Growing, kept_of, pending_of, pending_in, next_of, size_of, needed_of}
 use Rattle.lfs_ctz.specs.declared.extender.Extender.{Extender}
@@ -33,6 +32,8 @@ loop-done-init g c = record {
   outside = outside-refl _ _;
   same_geometry = refl;
   stops = began;
+  erases = refl;
+  programs = refl;
   no_fault = refl;
 }
 
@@ -112,6 +113,8 @@ loop-done-preserved g c =
       outside = outside-but _ _ _ _ _ here inv.outside c.fill.ensures.others;
       same_geometry = c.fill.ensures.device ∙ inv.same_geometry;
       stops = goes_on_by inv.stops (EachSince-weaker (λ e from left stop. outside-but _ _ _ _ _ here inv.outside (from left stop)) c.fill.ensures.stops);
+      erases = omega (arith, c.in_ok-done.ensures.erases, inv.erases);
+      programs = omega (arith, c.in_ok-done.ensures.programs, inv.programs);
       no_fault = c.in_ok-done.ensures.no_fault ∙ inv.no_fault;
     }
 

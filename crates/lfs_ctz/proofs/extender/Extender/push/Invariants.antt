@@ -1,7 +1,7 @@
-use Rattle.std.proofs.Common.{ℕ, ◌≡◌, ◌≢◌, ◌≤◌, ◌<◌, ◌+◌, ◌-◌, ◌++◌, List, length, take}
+use Rattle.std.proofs.Common.{ℕ, ◌≡◌, ◌≢◌, ◌≤◌, ◌+◌, ◌-◌, ◌++◌, length, take}
 use Rattle.std.specs.Prelude.{All}
 use Rattle.lfs_model.specs.Blocks.{SameButThese}
-use Rattle.lfs_model.specs.History.{AtWorst, LeavesOnly, faults}
+use Rattle.lfs_model.specs.History.{AtWorst, LeavesOnly, erases, faults, programs}
 use Rattle.lfs_ctz.specs.Extended.{geometry_of, growing_of}
 use Rattle.lfs_ctz.specs.Growing.{IsGrowing, blocks_of, content_of, kept_of, pending_of, size_of}
 use Rattle.lfs_ctz.proofs.extender.Extender.push.Given as goal
@@ -28,6 +28,8 @@ invariant-loop-done g l =
       outside : SameButThese handed (blocks old) (blocks l.dev);
       same_geometry : geometry l.dev ≡ geometry old;
       stops : LeavesOnly AtWorst (history old) (history l.dev) (SameButThese handed (blocks old));
+      erases : erases (history l.dev) + was.full ≡ erases (history old) + now.full;
+      programs : programs (history l.dev) + was.full ≡ programs (history old) + now.full;
       no_fault : faults (history l.dev) ≡ faults (history old);
     }
 

@@ -1,4 +1,4 @@
-use Rattle.std.proofs.Common.{ℕ, ◌≡◌, ◌≤◌, ◌+◌, ◌-◌, ◌*◌, List, length, take, drop, sym, ap, ◌∙◌, arith, length-drop, replicate, rules}
+use Rattle.std.proofs.Common.{ℕ, ◌≤◌, ◌-◌, ◌*◌, List, take, drop, sym, ap, ◌∙◌, arith, length-drop, replicate, rules}
 use Rattle.std.proofs.lemmas.List.{length-take-le, length-replicate, take-take}
 use Rattle.lfs_model.specs.Blocks.{block_in}
 use Rattle.lfs_model.specs.Lists.{pointers_of}

@@ -13,4 +13,6 @@ pub use size::{blocks_for, place};
 pub use visits::walk;
 
 #[cfg(test)]
+mod extender_tests;
+#[cfg(test)]
 mod tests;

@@ -1,0 +1,115 @@
+//! How many device reads it takes to read a byte of a list of 1,000 blocks, beside those of a walk
+//! back by each block's first pointer. Prints both for some of the blocks, and the most and the sum
+//! over all of them (bench/ctz_reads.py judges them).
+#![tactic(auto)]
+
+use lfs_ctz::read_at;
+use lfs_device::{BlockDevice, Error, FaultDevice, Geometry, RamDevice, Which};
+use std::alloc::Global;
+use std::io;
+
+const BLOCK: usize = 1024;
+
+const BLOCKS: u32 = 1000;
+
+const SHOWN: [u32; 6] = [0, 1, 500, 512, 998, 999];
+
+// How many reads it took to read the first byte of a block of the list, and without the further
+// pointers.
+#[derive(Clone, Copy)]
+struct Reads {
+    block: u32,
+    ours: u64,
+    plain: u64,
+}
+
+// A device whose block i is block i of the list, with the list's size.
+fn device(alloc: Global) -> Result<(RamDevice, u32), Error> {
+    let mut bytes = Vec::new(alloc);
+    let mut size = 0u32;
+    for block in 0..BLOCKS {
+        let begin = bytes.len();
+        for power in [1, 2, 4, 8, 16, 32, 64, 128, 256, 512] {
+            if block > 0 && block % power == 0 {
+                bytes.extend_from_slice(&block.saturating_sub(power).to_le_bytes())?;
+            }
+        }
+        let pointers = bytes.len().saturating_sub(begin);
+        let room = BLOCK.saturating_sub(pointers);
+        bytes.resize(bytes.len().saturating_add(room), (block % 256) as u8)?;
+        size = size.saturating_add(room as u32);
+    }
+    let geometry = Geometry::new(BLOCK as u32, 128, BLOCKS)?;
+    Ok((RamDevice::from_bytes(geometry, bytes)?, size))
+}
+
+// Reads a byte of the block that lies so many first pointers behind another.
+fn read_plainly<D: BlockDevice>(dev: &mut D, head: u32, steps: u32) -> Result<(), Error> {
+    let mut block = head;
+    for _step in 0..steps {
+        if block >= dev.geometry().block_count {
+            return Err(Error::Corrupt);
+        }
+        let mut word = [0; 4];
+        dev.read(block, 0, &mut word)?;
+        block = u32::from_le_bytes(word);
+    }
+    if block >= dev.geometry().block_count {
+        return Err(Error::Corrupt);
+    }
+    dev.read(block, 1023, &mut [0])?;
+    Ok(())
+}
+
+// Reads the first byte of each block.
+fn measure(alloc: Global) -> Result<Vec<Reads>, Error> {
+    let (device, size) = device(alloc)?;
+    let mut device = FaultDevice::new(device, Which::Read, 0, false);
+    let mut all = Vec::new(alloc);
+    let mut pos = 0u32;
+    for block in 0..BLOCKS {
+        let before = device.calls(Which::Read);
+        let mut byte = [0];
+        read_at(&mut device, BLOCKS - 1, size, pos, &mut byte)?;
+        if byte[0] as u32 != block % 256 {
+            return Err(Error::Corrupt);
+        }
+        let between = device.calls(Which::Read);
+        read_plainly(&mut device, BLOCKS - 1, BLOCKS - 1 - block)?;
+        let after = device.calls(Which::Read);
+        all.push(Reads {
+            block,
+            ours: between.saturating_sub(before),
+            plain: after.saturating_sub(between),
+        })?;
+        let pointers = if block == 0 {
+            0
+        } else {
+            block.trailing_zeros() + 1
+        };
+        pos = pos.saturating_add(1024 - 4 * pointers);
+    }
+    Ok(all)
+}
+
+fn main(rt: HostRuntime) -> io::Result<()> {
+    let all = match measure(rt.alloc()) {
+        Ok(all) => all,
+        Err(error) => return eprintln!(rt; "{error:?}"),
+    };
+    let mut most = 0;
+    let mut ours = 0u64;
+    let mut plain = 0u64;
+    for reads in all.iter() {
+        if SHOWN.contains(&reads.block) {
+            println!(rt;
+                "block {}: {} reads, plainly {}",
+                reads.block, reads.ours, reads.plain
+            )?;
+        }
+        most = most.max(reads.ours);
+        ours = ours.saturating_add(reads.ours);
+        plain = plain.saturating_add(reads.plain);
+    }
+    println!(rt; "most {most}, sum {ours}, plainly {plain}")
+}

@@ -4,12 +4,12 @@ ghost use Rattle.std.specs.Prelude.{◌≡◌, ℕ, IfSome, slice_index, ◌≢�
 ghost use Rattle.byteorder.specs.Endian.{big_bytes, little_bytes};
 ghost use Rattle.lfs_model.specs.Crc.{crc_of};
 ghost use Rattle.lfs_model.specs.Log.{LogEntry};
-ghost use Rattle.lfs_model.specs.Tag.{IsValid, class_of, size_of, tag_with};
+ghost use Rattle.lfs_model.specs.Tag.{IsValid, class_of, size_of, tag_with, carried};
 ghost use Rattle.lfs_model.specs.Geometry.{is_page};
 ghost use Rattle.lfs_model.specs.Content.{no_id};
 ghost use Rattle.lfs_model.specs.Blocks.{overwritten};
 ghost use Rattle.lfs_model.specs.Commit.{checksum_type};
-ghost use Rattle.lfs_tag.specs.Builder.{with_entry, padded_end, AreCommitted};
+ghost use Rattle.lfs_tag.specs.Builder.{with_entry, padded_end, checksum_tag as checksum_entry_tag, AreCommitted};
 
 use crate::crc;
 use crate::kinds::{CHECKSUM, TURNED_CHECKSUM};
@@ -179,6 +179,17 @@ impl<'a> CommitBuilder<'a> {
         ensures { result ≡ min (padded_end self.now) (2 ^ 32 - 1) }
     {
         u32::try_from(self.padded_end()).unwrap_or(u32::MAX)
+    }
+
+    /// The commit's last tag, as the next one in the block is stored with it. `next` is what
+    /// [`finish`](CommitBuilder::finish) is to be given. That the commit fits the buffer is the
+    /// caller's condition.
+    pub fn last(&self, next: Option<[u8; 4]>) -> Tag
+        requires { padded_end self.now ≤ self.now.room }
+        ensures { result ≡ carried (checksum_entry_tag self.now next) }
+    {
+        let size = self.padded_end() - (self.len + 4);
+        checksum_tag(next, size).carried()
     }
 
     /// The commit's pages, to be programmed where it goes. `next` is the four bytes of the block

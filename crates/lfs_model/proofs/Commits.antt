@@ -34,3 +34,13 @@ has_commit-end block = go (chain_reach block)
 -- a test that tells whether there is one
 pub has_commit-from : (block : List ℕ) (b : Bool) → IsTrue b ↔ (4 < (chain_of block).end) → b ≡ has_commit block
 has_commit-from block b h = ltb_from_iff h ∙ sym (has_commit-end block)
+
+ends_within : (block : List ℕ) (start at before : ℕ) (cs : List (List LogEntry)) (end last : ℕ) → IsChain block start at before cs end last → at ≤ length block → end ≤ length block
+ends_within block start at before [] end last h below = omega (arith, h.0)
+ends_within block start at before (c ∷ cs) end last (mid, carry, commit, rest) below =
+    ends_within block mid mid carry cs end last rest (commit_space block start at before c mid carry commit).within
+
+-- a chain ends within its block
+pub chain_ends : (block : List ℕ) → 4 ≤ length block → (chain_of block).end ≤ length block
+unfolding chain_of
+chain_ends block room = ends_within block 0 4 0xffffffff _ _ _ (chain_sound (length block - 4) block 0 4 0xffffffff) room

@@ -1,9 +1,11 @@
 -- What follows from the history of a device, for those who call it.
 use Rattle.std.proofs.Common.{◌≡◌, ◌≢◌, ◌≤◌, ◌<◌, ℕ, ◌+◌, Bool, true, false, nat_lt, nat_le, ◌==◌, length, arith, List, [], ◌∷◌, ◌++◌, refl, sym, ◌∙◌, ap, subst, append_assoc}
+use Rattle.std.specs.Prelude.{All}
 use Rattle.std.proofs.lemmas.Bool.Decides.{nat_tests}
+use Rattle.std.proofs.lemmas.List.{append_cancel_right}
 use Rattle.lfs_model.specs.Blocks.{Blocks}
 use Rattle.lfs_model.specs.Stops.{Stops, stops_in}
-use Rattle.lfs_model.specs.History.{Call, Event, event, Read, Program, Erase, reads_in, at_worst, reads, programs, erases, faults, unprogrammed, unprogrammed_after, AllUnprogrammed, EachEvent, EachSince, IsReadOf, OnlyReads, AtWorst, LeavesOnly}
+use Rattle.lfs_model.specs.History.{Call, Event, event, Read, Program, Erase, reads_in, at_worst, reads, programs, erases, faults, unprogrammed, unprogrammed_after, AllUnprogrammed, StayUnprogrammed, EachEvent, EachSince, IsReadOf, OnlyReads, AtWorst, LeavesOnly}
 
 -- Calls that all have P: none yet, one more, those of another stretch, and what P implies.
 
@@ -38,6 +40,34 @@ EachSince-weaker {P} {Q} of since = record { events = since.events; extends = si
 -- the histories under other names
 pub EachSince-same : {P : Event → Type 0} {old new other later : List Event} → EachSince P old new → other ≡ old → later ≡ new → EachSince P other later
 EachSince-same since start end = record { events = since.events; extends = end ∙ since.extends ∙ ap (λ (l : List Event). since.events ++ l) (sym start); each = since.each }
+
+-- What holds of all calls holds of those up to a moment between, of those behind it, and of the only one.
+
+same_events : {P Q R : Event → Type 0} {old mid new : List Event} (all : EachSince P old new) (first : EachSince Q old mid) (second : EachSince R mid new) → all.events ≡ second.events ++ first.events
+same_events {old = old} all first second =
+    append_cancel_right all.events (second.events ++ first.events) old
+    (sym all.extends ∙ second.extends ∙ ap (λ (l : List Event). second.events ++ l) first.extends ∙ sym (append_assoc second.events first.events old))
+
+EachEvent-parts : (P : Event → Type 0) (first second : List Event) → EachEvent P (first ++ second) → EachEvent P first × EachEvent P second
+EachEvent-parts P [] second all = (tt, all)
+EachEvent-parts P (e ∷ first) second all = let rest = EachEvent-parts P first second all.1 in ((all.0, rest.0), rest.1)
+
+pub EachSince-until : {P Q R : Event → Type 0} {old mid new : List Event} → EachSince P old new → EachSince Q old mid → EachSince R mid new → EachSince P old mid
+EachSince-until {P} all first second = record {
+  events = first.events;
+  extends = first.extends;
+  each = (EachEvent-parts P second.events first.events (subst (EachEvent P) (same_events all first second) all.each)).1;
+}
+
+pub EachSince-behind : {P Q R : Event → Type 0} {old mid new : List Event} → EachSince P old new → EachSince Q old mid → EachSince R mid new → EachSince P mid new
+EachSince-behind {P} all first second = record {
+  events = second.events;
+  extends = second.extends;
+  each = (EachEvent-parts P second.events first.events (subst (EachEvent P) (same_events all first second) all.each)).0;
+}
+
+pub EachSince-only : {P : Event → Type 0} {old new : List Event} {e : Event} → EachSince P old new → new ≡ e ∷ old → P e
+EachSince-only {P} {old} {new} {e} all is = (subst (EachEvent P) (append_cancel_right all.events (e ∷ []) old (sym all.extends ∙ is)) all.each).0
 
 -- What a stop leaves, over one call more, over another stretch, and what that implies.
 
@@ -197,3 +227,53 @@ unprogrammed-program_elsewhere {old} {block = block} {programmed = programmed} i
     let still : unprogrammed old block k ≡ true = was k above below in
     let other : (block == programmed) ≡ false = grind (arith, nat_tests) in
     ap (λ (h : List Event). unprogrammed h block k) is ∙ grind (arith, nat_tests, still, other)
+
+-- What was unprogrammed outside some blocks and still is.
+
+pub StayUnprogrammed-refl : (bs : List ℕ) (history : List Event) → StayUnprogrammed bs history history
+StayUnprogrammed-refl bs history = record { stays = λ b k apart was. was }
+
+pub StayUnprogrammed-trans : {bs : List ℕ} {old mid new : List Event} → StayUnprogrammed bs old mid → StayUnprogrammed bs mid new → StayUnprogrammed bs old new
+StayUnprogrammed-trans first second = record { stays = λ b k apart was. second.stays b k apart (first.stays b k apart was) }
+
+-- outside more blocks
+pub StayUnprogrammed-wider : {bs : List ℕ} (cs : List ℕ) {old new : List Event} → ((b : ℕ) → All (λ c. c ≢ b) cs → All (λ c. c ≢ b) bs) → StayUnprogrammed bs old new → StayUnprogrammed cs old new
+StayUnprogrammed-wider cs among same = record { stays = λ b k apart was. same.stays b k (among b apart) was }
+
+pub StayUnprogrammed-reads : (bs : List ℕ) {blocks : Blocks} {old new : List Event} → OnlyReads blocks old new → StayUnprogrammed bs old new
+StayUnprogrammed-reads bs since = record { stays = λ b k apart was. unprogrammed-reads b k since ∙ was }
+
+pub StayUnprogrammed-erase : {old new : List Event} {erased : ℕ} {before after : Blocks} {failed : Bool} → new ≡ event (Erase erased) before after failed ∷ old → StayUnprogrammed (erased ∷ []) old new
+StayUnprogrammed-erase {old} {new} {erased} is = record { stays = step }
+  where
+    step : (b k : ℕ) → All (λ c. c ≢ b) (erased ∷ []) → unprogrammed old b k ≡ true → unprogrammed new b k ≡ true
+    step b k apart was =
+        let differs : erased ≢ b = apart 0 0 (omega arith) in
+        let other : (b == erased) ≡ false = grind (arith, nat_tests, differs) in
+        ap (λ (h : List Event). unprogrammed h b k) is ∙ grind (arith, nat_tests, was, other)
+
+pub StayUnprogrammed-program : {old new : List Event} {programmed off : ℕ} {bytes : List ℕ} {before after : Blocks} {failed : Bool} → new ≡ event (Program programmed off bytes) before after failed ∷ old
+    → StayUnprogrammed (programmed ∷ []) old new
+StayUnprogrammed-program {old} {new} {programmed} is = record { stays = step }
+  where
+    step : (b k : ℕ) → All (λ c. c ≢ b) (programmed ∷ []) → unprogrammed old b k ≡ true → unprogrammed new b k ≡ true
+    step b k apart was =
+        let differs : programmed ≢ b = apart 0 0 (omega arith) in
+        let other : (b == programmed) ≡ false = grind (arith, nat_tests, differs) in
+        ap (λ (h : List Event). unprogrammed h b k) is ∙ grind (arith, nat_tests, was, other)
+
+-- where a part of a block is unprogrammed and stays so
+pub AllUnprogrammed-stays : {bs : List ℕ} {old new : List Event} {low high : ℕ} (block : ℕ) → StayUnprogrammed bs old new → All (λ c. c ≢ block) bs → AllUnprogrammed old block low high → AllUnprogrammed new block low high
+AllUnprogrammed-stays block same apart was k above below = same.stays block k apart (was k above below)
+
+-- what a stop leaves in the sharper sense it leaves at worst
+pub Stops-worst : (e : Event) (disk : Blocks) → Stops e disk → AtWorst e disk
+Stops-worst e = at_call e.call e.before
+  where
+    at_call : (call : Call) (before disk : Blocks) → stops_in call before disk → at_worst call before disk
+    at_call (Read block off len) before disk left = left
+    at_call (Program block off bytes) before disk left = left.0
+    at_call (Erase block) before disk left = left.0
+
+pub LeavesOnly-worst : {P : Blocks → Type 0} {old new : List Event} → LeavesOnly AtWorst old new P → LeavesOnly Stops old new P
+LeavesOnly-worst since = EachSince-weaker (λ e worst disk left. worst disk (Stops-worst e disk left)) since

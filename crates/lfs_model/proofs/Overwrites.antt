@@ -1,9 +1,10 @@
 -- Bytes written over others, and blocks that differ in one.
+use Rattle.std.specs.Prelude.{All}
 use Rattle.std.proofs.Common.{◌≡◌, ◌≢◌, ℕ, ◌+◌, ◌-◌, ◌<◌, ◌≤◌, List, [], ◌++◌, length, take, drop, slice_set, slice_range, inl, inr, refl, sym, ◌∙◌, ap, arith, append_assoc, length-append, length-drop}
 use Rattle.std.proofs.Math.Seq.{take-append-add, drop-append-add}
 use Rattle.std.proofs.lemmas.List.{append-nil, take_at, take-take, drop-take, drop_all, take_all, take-append-drop, take-append-le, drop-append-le, drop-drop, length-take-le, length-set, get_or-set_other, get_or-set_same, ext_get_or, set-get_or}
 use Rattle.std.proofs.lemmas.Bool.{cases_eq}
-use Rattle.lfs_model.specs.Blocks.{Blocks, block_in, IsDivided, overwritten, programmed, SameBut, SameOutside}
+use Rattle.lfs_model.specs.Blocks.{Blocks, block_in, IsDivided, overwritten, programmed, SameBut, SameButThese, SameOutside}
 
 -- Bytes of one block.
 
@@ -181,3 +182,30 @@ overwritten_beginning block at n new short fits =
     ap (λ (l : List ℕ). l ++ drop (at + length (new ++ rest)) block) (sym (append_assoc (take at block) new rest))
     ∙ append_assoc (take at block ++ new) rest (drop (at + length (new ++ rest)) block)
     ∙ ap (λ (l : List ℕ). take at block ++ new ++ l) joined
+
+-- Blocks that differ at most in some.
+
+pub SameButThese-refl : (bs : List ℕ) (blocks : Blocks) → SameButThese bs blocks blocks
+SameButThese-refl bs blocks = record { count = refl; sizes = λ b. refl; others = λ other apart. refl }
+
+-- one of them changes
+pub SameButThese-one : (bs : List ℕ) (block : ℕ) (old mid new : Blocks) → ((other : ℕ) → All (λ b. b ≢ other) bs → block ≢ other) → SameButThese bs old mid → SameBut block mid new → SameButThese bs old new
+SameButThese-one bs block old mid new among first second = record {
+  count = second.count ∙ first.count;
+  sizes = λ b. elim (cases_eq b block) [
+    | inl is ↦ ap (λ k. length (block_in new k)) is ∙ second.size ∙ ap (λ k. length (block_in mid k)) (sym is) ∙ first.sizes b
+    | inr ne ↦ ap length (second.others b ne) ∙ first.sizes b
+  ];
+  others = λ other apart. second.others other (λ is. among other apart (sym is)) ∙ first.others other apart;
+}
+
+pub SameButThese-trans : {bs : List ℕ} {old mid new : Blocks} → SameButThese bs old mid → SameButThese bs mid new → SameButThese bs old new
+SameButThese-trans first second = record {
+  count = second.count ∙ first.count;
+  sizes = λ b. second.sizes b ∙ first.sizes b;
+  others = λ other apart. second.others other apart ∙ first.others other apart;
+}
+
+-- at most in more
+pub SameButThese-wider : {bs : List ℕ} (cs : List ℕ) {old new : Blocks} → ((other : ℕ) → All (λ c. c ≢ other) cs → All (λ c. c ≢ other) bs) → SameButThese bs old new → SameButThese cs old new
+SameButThese-wider cs among same = record { count = same.count; sizes = same.sizes; others = λ other apart. same.others other (among other apart) }

@@ -1,5 +1,5 @@
 -- The calls that a device has had, the newest first, and what follows from them.
-use Rattle.std.specs.Prelude.{◌≡◌, ◌≤◌, ◌<◌, ℕ, ◌+◌, Bool, true, false, not, ◌&&◌, if◌then◌else◌, ◌==◌, nat_le, nat_lt, List, [], ◌∷◌, ◌++◌, length}
+use Rattle.std.specs.Prelude.{◌≡◌, ◌≢◌, All, ◌≤◌, ◌<◌, ℕ, ◌+◌, Bool, true, false, not, ◌&&◌, if◌then◌else◌, ◌==◌, nat_le, nat_lt, List, [], ◌∷◌, ◌++◌, length}
 use Rattle.lfs_model.specs.Blocks.{Blocks, SameBut}
 
 pub data Call : Type 0 where
@@ -63,6 +63,10 @@ unprogrammed (e ∷ older) b k = unprogrammed_after e.call e.failed b k (unprogr
 -- each byte of a block from an offset up to another
 abbrev pub AllUnprogrammed : List Event → ℕ → ℕ → ℕ → Type 0
 AllUnprogrammed history b low high = (k : ℕ) → low ≤ k → k < high → unprogrammed history b k ≡ true
+
+-- what was unprogrammed outside these blocks still is
+pub record StayUnprogrammed (bs : List ℕ) (old new : List Event) : Type 0 where
+  pub stays : (b k : ℕ) → All (λ c. c ≢ b) bs → unprogrammed old b k ≡ true → unprogrammed new b k ≡ true
 
 abbrev pub EachEvent : (Event → Type 0) → List Event → Type 0
 EachEvent P [] = Unit {0}

@@ -2,3 +2,16 @@ pub mod Following
 pub mod Holders
 pub mod Tails
 pub mod Applied
+pub mod SameLogs
+pub mod TwoBlocks
+pub mod Changed
+pub mod Committed
+pub mod Pushed
+pub mod Made
+pub mod Cutting
+pub mod Anew
+pub mod Named
+pub mod Stay
+pub mod Kept
+pub mod BothBlocks
+pub mod Parted

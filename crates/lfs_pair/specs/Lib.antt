@@ -1,2 +1,8 @@
 pub mod Pair
 pub mod ChangeSeen
+pub mod Writing
+pub mod Commit
+pub mod Cut
+pub mod Fresh
+pub mod Split
+pub mod Kept

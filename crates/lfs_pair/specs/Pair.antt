@@ -1,5 +1,5 @@
 -- What is kept of a pair, as the disk has it.
-use Rattle.std.specs.Prelude.{ℕ, ◌≡◌, ◌%◌, ◌&&◌, ◌||◌, not, Bool, true, false, if◌then◌else◌, List, length, Some}
+use Rattle.std.specs.Prelude.{ℕ, ◌≡◌, ◌==◌, ◌%◌, ◌&&◌, ◌||◌, not, Bool, true, false, if◌then◌else◌, List, length, Some}
 use Rattle.std.specs.Option.{option_map}
 use Rattle.lfs_model.specs.Disk.{Disk, block_at}
 use Rattle.lfs_model.specs.History.{Event, AllUnprogrammed}
@@ -12,6 +12,13 @@ use Rattle.lfs_pair.specs.declared.pair.Pair.{Pair}
 
 abbrev pub address_in : Pair → ℕ × ℕ
 address_in pair = address_of pair.blocks
+
+-- the block of the two that isn't the active one
+abbrev pub other_of : ℕ × ℕ → ℕ → ℕ
+other_of at active = if active == at.0 then at.1 else at.0
+
+abbrev pub other_in : Pair → ℕ
+other_in pair = other_of (address_in pair) pair.active
 
 -- a block's log comes to that content, and the pair says so
 pub record Describes (block : List ℕ) (pair : Pair) (held : RawContent) : Type 0 where

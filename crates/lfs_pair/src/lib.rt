@@ -2,15 +2,26 @@
 #![tactic(auto)]
 
 mod change;
+mod committing;
+mod cut;
+mod entries;
 mod fetching;
+mod fresh;
+mod making;
 mod pair;
 mod reading;
 mod size;
+mod splitting;
+mod writing;
 
 pub use change::{Change, apply_all};
+pub use committing::{Outcome, commit};
 pub use fetching::fetch;
 pub use pair::Pair;
 pub use size::fits;
+pub use splitting::split;
 
 #[cfg(test)]
 mod tests;
+#[cfg(test)]
+mod trial;

@@ -1,6 +1,13 @@
 // What is kept of a pair.
 
-use lfs_tag::{MoveState, Tag, Tail};
+ghost use Rattle.std.specs.Prelude.{◌≡◌, false, length};
+ghost use Rattle.std.specs.Option.{option_map};
+ghost use Rattle.lfs_tag.specs.FieldsSeen.{move_seen};
+ghost use Rattle.lfs_tag.specs.ContentSeen.{content_seen, tail_seen};
+ghost use Rattle.lfs_pair.specs.Pair.{other_in};
+
+use crate::writing::Written;
+use lfs_tag::{Content, MoveState, Tag, Tail};
 
 /// What is known of a pair without its slots: enough to append to the block that holds.
 #[derive(Clone, Copy, Debug, PartialEq, Eq, Drop)]
@@ -19,4 +26,48 @@ pub struct Pair {
     pub move_state: MoveState,
     /// Nothing was written since it was fetched, so what lies past its end isn't known.
     pub is_fetched: bool,
+}
+
+impl Pair {
+    // The block that doesn't hold.
+    pub(crate) fn other(&self) -> u32
+        ensures { result ≡ other_in self.now }
+    {
+        if self.active == self.blocks[0] {
+            self.blocks[1]
+        } else {
+            self.blocks[0]
+        }
+    }
+
+    // The pair whose active block was just written.
+    pub(crate) fn written(
+        blocks: [u32; 2],
+        active: u32,
+        revision: u32,
+        written: Written,
+        content: &Content<'_>,
+    ) -> Pair
+        ensures blocks { result.blocks ≡ blocks }
+        ensures active { result.active ≡ active }
+        ensures revision { result.revision ≡ revision }
+        ensures end { result.end ≡ written.end }
+        ensures last { result.last ≡ written.last }
+        ensures slot_count { result.slot_count ≡ length (content_seen content.now).slots }
+        ensures tail { option_map tail_seen result.tail ≡ (content_seen content.now).tail }
+        ensures move_state { move_seen result.move_state ≡ (content_seen content.now).move }
+        ensures fetched { result.is_fetched ≡ false }
+    {
+        Pair {
+            blocks,
+            active,
+            end: written.end,
+            last: written.last,
+            revision,
+            slot_count: content.slots.len(),
+            tail: content.tail,
+            move_state: content.move_state,
+            is_fetched: false,
+        }
+    }
 }

@@ -2,6 +2,7 @@
 
 ghost use Rattle.std.specs.Prelude.{◌≡◌, ℕ, ◌+◌, ◌-◌, ◌^◌, ◌<◌, ◌≤◌, ◌↔◌, IsTrue, length, min, map, sum_by};
 ghost use Rattle.std.specs.Option.{option_map};
+ghost use Rattle.lfs_model.specs.Disk.{pair_capacity};
 ghost use Rattle.lfs_model.specs.Slots.{attributes_size};
 ghost use Rattle.lfs_model.specs.Written.{part_size, raw_slot_size, raw_size, FitsRaw};
 ghost use Rattle.lfs_tag.specs.ContentSeen.{part_seen, attribute_seen, slot_seen, content_seen};
@@ -33,7 +34,7 @@ fn attributes_size(attributes: &[Attribute<'_>]) -> u64
 }
 
 // The same of a slot.
-fn slot_size(slot: &Slot<'_>) -> u64
+pub(crate) fn slot_size(slot: &Slot<'_>) -> u64
     ensures { result ≡ min (raw_slot_size (slot_seen slot.now)) (2 ^ 64 - 1) }
 {
     part_size(&slot.name)
@@ -42,7 +43,7 @@ fn slot_size(slot: &Slot<'_>) -> u64
 }
 
 // The same of all slots.
-fn slots_size(slots: &[Slot<'_>]) -> u64
+pub(crate) fn slots_size(slots: &[Slot<'_>]) -> u64
     ensures { result ≡ min (sum_by raw_slot_size (map slot_seen slots.now)) (2 ^ 64 - 1) }
 {
     let mut total: u64 = 0;
@@ -52,11 +53,17 @@ fn slots_size(slots: &[Slot<'_>]) -> u64
     total
 }
 
+// How many bytes of slots a pair that is written may hold: a block less 39 bytes and a page.
+pub(crate) fn capacity_of(geometry: Geometry) -> u64
+    ensures { result ≡ pair_capacity geometry.block_size geometry.page }
+{
+    u64::from(geometry.block_size - 39 - geometry.page)
+}
+
 /// Whether a pair that is written may hold this: at most a thousand slots, and their bytes within
 /// the pair's capacity, which is a block less 39 bytes and a page.
 pub fn fits(content: &Content<'_>, geometry: Geometry) -> bool
     ensures { IsTrue result ↔ FitsRaw geometry.block_size geometry.page (content_seen content.now) }
 {
-    let capacity = u64::from(geometry.block_size - 39 - geometry.page);
-    content.slots.len() <= 1000 && slots_size(&content.slots) <= capacity
+    content.slots.len() <= 1000 && slots_size(&content.slots) <= capacity_of(geometry)
 }

@@ -1,0 +1,264 @@
+-- What a pair holds after a commit, and what a stop on the way leaves of it.
+use Rattle.std.proofs.Common.{ℕ, zero, suc, get_or, ◌≡◌, ◌≢◌, ◌⊎◌, ◌+◌, ◌%◌, ◌^◌, ◌<◌, ◌≤◌, Bool, true, false, cond, List, [], ◌∷◌, ◌++◌, length, Option, Some, None, flat_map, refl, sym, ap, ◌∙◌, subst, arith, inl, inr, length-append}
+use Rattle.std.specs.Prelude.{nat_lt, unwrap_or}
+use Rattle.std.specs.List.{list_all}
+use Rattle.std.proofs.lemmas.Bool.{lt-ltb, ltb-true}
+use Rattle.lfs_model.specs.Blocks.{Blocks, SameBut, block_in}
+use Rattle.lfs_model.specs.Disk.{Disk, block_at}
+use Rattle.lfs_model.specs.Log.{LogEntry, chain_of, revision_of, log_entries}
+use Rattle.lfs_model.specs.Content.{RawContent, has_commit, raw_at, content_after_all, no_content}
+use Rattle.lfs_model.specs.Changes.{Change, changed_by, entries_of_changes, is_storable}
+use Rattle.lfs_model.proofs.Appended.{appended_content}
+use Rattle.lfs_model.proofs.Histories.{StayUnprogrammed-wider}
+use Rattle.lfs_model.proofs.Overwrites.{SameButThese-refl}
+use Rattle.lfs_model.proofs.Commits.{has_commit-end, chain_ends}
+use Rattle.std.specs.Option.{option_and_then, option_map}
+use Rattle.lfs_tag.specs.ContentSeen.{tail_seen}
+use Rattle.lfs_tag.specs.FieldsSeen.{move_seen}
+use Rattle.lfs_tag.specs.Builder.{Building, earlier}
+use Rattle.lfs_model.specs.History.{Event, AllUnprogrammed, StayUnprogrammed}
+use Rattle.lfs_pair.specs.declared.pair.Pair.{Pair}
+use Rattle.lfs_pair.specs.Pair.{IsPair, active_at, address_in, other_in}
+use Rattle.lfs_pair.specs.Writing.{Gets, Holds, LeftByCommit, LeftByWriting, LeftInBlock}
+use Rattle.lfs_pair.specs.Commit.{IsActive, IsAddressOn, LeftWithAny, NowHolds, OutsideStays, made_of, made_in, made_at}
+use Rattle.lfs_pair.proofs.SameLogs.{entries_same}
+use Rattle.lfs_pair.proofs.TwoBlocks.{Sides, Stays, sides, raw_is, still_active, other_active, stays_same, stays_log, weaker_same, weaker_log, weaker_none, active_is, other_is, outside_one, sides_apart, below_count}
+
+-- ---- what changes make
+
+pub changed_content : (held new : RawContent) (changes : List Change) → changed_by held changes ≡ Some new → content_after_all held (entries_of_changes changes) ≡ Some new
+changed_content held new changes h = go (list_all is_storable changes) refl
+  where
+    go : (s : Bool) → list_all is_storable changes ≡ s → content_after_all held (entries_of_changes changes) ≡ Some new
+    go true e = sym (ap (λ s. cond s (content_after_all held (entries_of_changes changes)) None) e) ∙ h
+    go false e = absurd (let none : None ≡ Some new = sym (ap (λ s. cond s (content_after_all held (entries_of_changes changes)) None) e) ∙ h in cc)
+
+pub changed_storable : (held new : RawContent) (changes : List Change) → changed_by held changes ≡ Some new → list_all is_storable changes ≡ true
+changed_storable held new changes h = go (list_all is_storable changes) refl
+  where
+    go : (s : Bool) → list_all is_storable changes ≡ s → list_all is_storable changes ≡ true
+    go true e = e
+    go false e = absurd (let none : None ≡ Some new = sym (ap (λ s. cond s (content_after_all held (entries_of_changes changes)) None) e) ∙ h in cc)
+
+-- ---- a commit behind others
+
+pub gets_content : (b : Building) (held new : RawContent) (old left : List ℕ) → b.revision ≡ None
+    → content_after_all no_content (log_entries old) ≡ Some held → content_after_all held b.entries ≡ Some new → Gets b old left
+    → content_after_all no_content (log_entries left) ≡ Some new
+gets_content b held new old left none so_far more gets =
+    appended_content left (earlier b.revision old) b.entries gets.checksum held new gets.commits gets.class
+    (ap (λ r. content_after_all no_content (flat_map (λ c. c) (earlier r old))) none ∙ so_far) more
+
+pub gets_commit : (b : Building) (old left : List ℕ) → Gets b old left → has_commit left ≡ true
+gets_commit b old left gets =
+    ap (λ (cs : List (List LogEntry)). nat_lt 0 (length cs)) gets.commits
+    ∙ lt-ltb 0 (length (earlier b.revision old ++ (b.entries ++ gets.checksum ∷ []) ∷ [])) (omega (arith, length-append (earlier b.revision old) ((b.entries ++ gets.checksum ∷ []) ∷ [])))
+
+pub gets_stays : (b : Building) (old left : List ℕ) → b.revision ≡ None → has_commit old ≡ true → Gets b old left → Stays old left
+gets_stays b old left none had gets = record {
+  had = had;
+  has = gets_commit b old left gets;
+  revision_is = gets.revision ∙ ap (λ r. unwrap_or r (revision_of old)) none;
+}
+
+-- a block that has a commit ends past its beginning
+pub ends_past : (block : List ℕ) → has_commit block ≡ true → 4 < (chain_of block).end
+ends_past block has = ltb-true 4 (chain_of block).end (sym (has_commit-end block) ∙ has)
+
+-- an append in progress
+pub record IsAppending (disk : Disk) (at : ℕ × ℕ) (active other : ℕ) (held new : RawContent) (b : Building) : Type 0 where
+  pub sides : Sides disk at active other
+  pub apart : other ≢ active
+  pub is : active ≡ active_at disk at
+  pub had : has_commit (block_at disk active) ≡ true
+  pub held_is : content_after_all no_content (log_entries (block_at disk active)) ≡ Some held
+  pub more : content_after_all held b.entries ≡ Some new
+  pub no_revision : b.revision ≡ None
+
+-- the active block still is, where it has the log from before or behind the commit
+appended_active : (disk : Disk) (at : ℕ × ℕ) (active other : ℕ) (held new : RawContent) (b : Building) (left : Blocks) → IsAppending disk at active other held new b
+    → SameBut active disk.blocks left → Stays (block_at disk active) (block_in left active) → active ≡ active_at (record disk { blocks = left }) at
+appended_active disk at active other held new b left a same stays =
+    still_active disk at active other left a.sides stays (weaker_same (block_at disk other) (block_in left other) (same.others other a.apart))
+
+pub record IsIn (disk : Disk) (at : ℕ × ℕ) (active : ℕ) (c : RawContent) : Type 0 where
+  pub active_is : active ≡ active_at disk at
+  pub has : has_commit (block_at disk active) ≡ true
+  pub content : content_after_all no_content (log_entries (block_at disk active)) ≡ Some c
+
+pub raw_in : (disk : Disk) (at : ℕ × ℕ) (active : ℕ) (c : RawContent) → IsIn disk at active c → raw_at disk at ≡ Some c
+raw_in disk at active c h = raw_is disk at active h.active_is h.has ∙ h.content
+
+pub appended : (disk : Disk) (at : ℕ × ℕ) (active other : ℕ) (held new : RawContent) (b : Building) (left : Blocks) → IsAppending disk at active other held new b
+    → SameBut active disk.blocks left → Gets b (block_at disk active) (block_in left active) → IsIn (record disk { blocks = left }) at active new
+appended disk at active other held new b left a same gets = record {
+  active_is = appended_active disk at active other held new b left a same (gets_stays b (block_at disk active) (block_in left active) a.no_revision a.had gets);
+  has = gets_commit b (block_at disk active) (block_in left active) gets;
+  content = gets_content b held new (block_at disk active) (block_in left active) a.no_revision a.held_is a.more gets;
+}
+
+pub left_by_append : (disk : Disk) (at : ℕ × ℕ) (active other : ℕ) (held new : RawContent) (b : Building) (end : ℕ) (left : Blocks) → IsAppending disk at active other held new b
+    → end ≡ (chain_of (block_at disk active)).end → LeftInBlock active (LeftByCommit b end) disk.blocks left → LeftWithAny disk at (Some new) left
+left_by_append disk at active other held new b end left a is (same, which) = record {
+  others = outside_one at active disk.blocks left (active_is disk at active other a.sides) same;
+  content = go which;
+}
+  where
+    go : LeftByCommit b end (block_at disk active) (block_in left active) → (raw_at (record disk { blocks = left }) at ≡ raw_at disk at) ⊎ (raw_at (record disk { blocks = left }) at ≡ Some new)
+    go (inl log) =
+        let stays = stays_log (block_at disk active) (block_in left active) a.had log in
+        inl (raw_is (record disk { blocks = left }) at active (appended_active disk at active other held new b left a same stays) stays.has
+        ∙ ap (content_after_all no_content) (entries_same (block_in left active) (block_at disk active) log)
+        ∙ sym (raw_is disk at active a.is a.had))
+    go (inr (inl (begins, none))) = absurd (let past = ends_past (block_at disk active) a.had in omega (arith, is, begins, past))
+    go (inr (inr gets)) = inr (raw_in (record disk { blocks = left }) at active new (appended disk at active other held new b left a same gets))
+
+-- ---- a content written anew into the other block
+
+pub record IsCompacting (disk : Disk) (at : ℕ × ℕ) (active other revision : ℕ) : Type 0 where
+  pub sides : Sides disk at active other
+  pub apart : active ≢ other
+  pub is : active ≡ active_at disk at
+  pub had : has_commit (block_at disk active) ≡ true
+  pub small : revision_of (block_at disk active) < 2 ^ 32
+  pub next : revision ≡ (revision_of (block_at disk active) + 1) % 2 ^ 32
+
+pub compacted : (disk : Disk) (at : ℕ × ℕ) (active other revision : ℕ) (new : RawContent) (left : Blocks) → IsCompacting disk at active other revision
+    → SameBut other disk.blocks left → Holds revision new (block_in left other) → IsIn (record disk { blocks = left }) at other new
+compacted disk at active other revision new left k same holds =
+    let stays : block_in left active ≡ block_at disk active = same.others active k.apart in
+    record {
+      active_is = other_active disk at active other left k.sides (ap has_commit stays ∙ k.had) holds.has_commit (subst (λ x. revision_of x < 2 ^ 32) (sym stays) k.small)
+          (holds.revision_is ∙ k.next ∙ ap (λ x. (revision_of x + 1) % 2 ^ 32) (sym stays));
+      has = holds.has_commit;
+      content = holds.content;
+    }
+
+pub left_by_compaction : (disk : Disk) (at : ℕ × ℕ) (active other revision : ℕ) (new : RawContent) (left : Blocks) → IsCompacting disk at active other revision
+    → LeftInBlock other (LeftByWriting revision new) disk.blocks left → LeftWithAny disk at (Some new) left
+left_by_compaction disk at active other revision new left k (same, which) = record {
+  others = outside_one at other disk.blocks left (other_is disk at active other k.sides) same;
+  content = go which;
+}
+  where
+    stays : block_in left active ≡ block_at disk active
+    stays = same.others active k.apart
+
+    before : (active ≡ active_at (record disk { blocks = left }) at) → raw_at (record disk { blocks = left }) at ≡ raw_at disk at
+    before still =
+        raw_is (record disk { blocks = left }) at active still (ap has_commit stays ∙ k.had)
+        ∙ ap (λ x. content_after_all no_content (log_entries x)) stays ∙ sym (raw_is disk at active k.is k.had)
+
+    go : LeftByWriting revision new (block_at disk other) (block_in left other) → (raw_at (record disk { blocks = left }) at ≡ raw_at disk at) ⊎ (raw_at (record disk { blocks = left }) at ≡ Some new)
+    go (inl log) =
+        inl (before (still_active disk at active other left k.sides (stays_same (block_at disk active) (block_in left active) k.had stays) (weaker_log (block_at disk other) (block_in left other) log)))
+    go (inr (inl none)) =
+        inl (before (still_active disk at active other left k.sides (stays_same (block_at disk active) (block_in left active) k.had stays) (weaker_none (block_at disk other) (block_in left other) none)))
+    go (inr (inr holds)) = inr (raw_in (record disk { blocks = left }) at other new (compacted disk at active other revision new left k same holds))
+
+-- ---- by what the pair says
+
+pub is_compacting : (disk : Disk) (pair : Pair) (other revision : ℕ) → IsAddressOn disk (address_in pair) → IsActive disk pair
+    → other ≡ other_in pair → pair.revision < 2 ^ 32 → revision ≡ (pair.revision + 1) % 2 ^ 32 → IsCompacting disk (address_in pair) pair.active other revision
+is_compacting disk pair other revision on is also small next =
+    let both : Sides disk (address_in pair) pair.active other = subst (Sides disk (address_in pair) pair.active) (sym also) (sides disk (address_in pair) pair.active on.apart is.active) in
+    record {
+      sides = both;
+      apart = λ same. sides_apart disk (address_in pair) pair.active other on.apart both (sym same);
+      is = is.active;
+      had = is.has_commit;
+      small = subst (λ r. r < 2 ^ 32) is.revision_is small;
+      next = next ∙ ap (λ r. (r + 1) % 2 ^ 32) is.revision_is;
+    }
+
+pub is_active : (disk : Disk) (history : List Event) (pair : Pair) (held : RawContent) → IsPair disk history pair held → IsActive disk pair
+is_active disk history pair held is = record { active = is.active; has_commit = is.has_commit; revision_is = is.describes.revision }
+
+-- a pair that was just written
+pub now_holds : (disk : Disk) (history : List Event) (at : ℕ × ℕ) (pair : Pair) (active : ℕ) (c : RawContent) → IsIn disk at active c
+    → address_in pair ≡ at → pair.active ≡ active → pair.is_fetched ≡ false
+    → pair.end ≡ (chain_of (block_at disk active)).end → pair.last ≡ (chain_of (block_at disk active)).last → pair.revision ≡ revision_of (block_at disk active)
+    → pair.slot_count ≡ length c.slots → option_map tail_seen pair.tail ≡ c.tail → move_seen pair.move_state ≡ c.move
+    → pair.end % disk.page ≡ 0 → AllUnprogrammed history active pair.end disk.block_size → NowHolds disk history at pair c
+now_holds disk history at pair active c in_block same is written end last revision slot_count tail moved pages behind = record {
+  is_pair = record {
+    active = is ∙ in_block.active_is ∙ ap (active_at disk) (sym same);
+    has_commit = ap (λ b. has_commit (block_at disk b)) is ∙ in_block.has;
+    describes = record {
+      content = ap (λ b. content_after_all no_content (log_entries (block_at disk b))) is ∙ in_block.content;
+      end = end ∙ ap (λ b. (chain_of (block_at disk b)).end) (sym is);
+      last = last ∙ ap (λ b. (chain_of (block_at disk b)).last) (sym is);
+      revision = revision ∙ ap (λ b. revision_of (block_at disk b)) (sym is);
+      slot_count = slot_count;
+      tail = tail;
+      move = moved;
+    };
+    whole_pages = λ w. pages;
+    unprogrammed = λ w. subst (λ b. AllUnprogrammed history b pair.end disk.block_size) (sym is) behind;
+  };
+  same = same;
+  written = written;
+}
+
+pub is_appending : (disk : Disk) (history : List Event) (pair : Pair) (held new : RawContent) (changes : List Change) (b : Building) → IsAddressOn disk (address_in pair) → IsPair disk history pair held
+    → changed_by held changes ≡ Some new → b.entries ≡ entries_of_changes changes → b.revision ≡ None → IsAppending disk (address_in pair) pair.active (other_in pair) held new b
+is_appending disk history pair held new changes b on is made entries none =
+    let both = sides disk (address_in pair) pair.active on.apart is.active in
+    record {
+      sides = both;
+      apart = sides_apart disk (address_in pair) pair.active (other_in pair) on.apart both;
+      is = is.active;
+      had = is.has_commit;
+      held_is = is.describes.content;
+      more = ap (content_after_all held) entries ∙ changed_content held new changes made;
+      no_revision = none;
+    }
+
+-- what the changes make of what the pair holds is what they make of its block's content
+pub made_is : (disk : Disk) (history : List Event) (pair : Pair) (held : RawContent) (changes : List Change) → IsPair disk history pair held → made_at disk (address_in pair) changes ≡ changed_by held changes
+made_is disk history pair held changes is =
+    ap (option_and_then (λ c. changed_by c changes)) (raw_is disk (address_in pair) pair.active is.active is.has_commit ∙ is.describes.content)
+
+-- the log of a pair ends within its block
+pub ends_in_block : (disk : Disk) (history : List Event) (pair : Pair) (held : RawContent) (block_size : ℕ) → IsPair disk history pair held → length (block_at disk pair.active) ≡ block_size → 1024 ≤ block_size → pair.end ≤ block_size
+ends_in_block disk history pair held block_size is size large =
+    let within = chain_ends (block_at disk pair.active) (omega (arith, size, large)) in
+    let end = is.describes.end in
+    omega (arith, within, end, size)
+
+-- the active block is one of the two
+pub active_among : (disk : Disk) (history : List Event) (pair : Pair) (held : RawContent) → IsAddressOn disk (address_in pair) → IsPair disk history pair held
+    → (pair.active ≡ (address_in pair).0) ⊎ (pair.active ≡ (address_in pair).1)
+active_among disk history pair held on is =
+    active_is disk (address_in pair) pair.active (other_in pair) (sides disk (address_in pair) pair.active on.apart is.active)
+
+-- it is a block of the device, and the log ends within it
+pub active_below : (disk : Disk) (history : List Event) (pair : Pair) (held : RawContent) (block_count : ℕ) → IsAddressOn disk (address_in pair) → IsPair disk history pair held
+    → length disk.blocks ≡ block_count → pair.active < block_count
+active_below disk history pair held block_count on is count =
+    let below = below_count disk (address_in pair) pair.active on (active_among disk history pair held on is) in omega (arith, below, count)
+
+pub some_same : {c d : RawContent} → Some c ≡ Some d → c ≡ d
+some_same e = cc
+
+pub gets_revision : (b : Building) (old left : List ℕ) → b.revision ≡ None → Gets b old left → revision_of left ≡ revision_of old
+gets_revision b old left none gets = gets.revision ∙ ap (λ r. unwrap_or r (revision_of old)) none
+
+only : (other b k d : ℕ) → k < length (b ∷ []) → b ≢ other → get_or (b ∷ []) k d ≢ other
+only other b zero d l apart = apart
+only other b (suc k) d l apart = absurd (omega arith)
+
+-- what a call on one of the pair's blocks leaves unprogrammed elsewhere
+pub stays_outside : (at : ℕ × ℕ) (b : ℕ) (old new : List Event) → (b ≡ at.0) ⊎ (b ≡ at.1) → StayUnprogrammed (b ∷ []) old new → OutsideStays at old new
+stays_outside at b old new (inl is) stays = StayUnprogrammed-wider (at.0 ∷ at.1 ∷ []) (λ other apart k d l. only other b k d l (λ same. apart 0 0 (omega arith) (sym is ∙ same))) stays
+stays_outside at b old new (inr is) stays = StayUnprogrammed-wider (at.0 ∷ at.1 ∷ []) (λ other apart k d l. only other b k d l (λ same. apart 1 0 (omega arith) (sym is ∙ same))) stays
+
+-- what changes make of a block with these bytes, they make of the pair
+pub made_here : (disk : Disk) (history : List Event) (pair : Pair) (held : RawContent) (block : List ℕ) (changes : List Change) (new : Option RawContent) → IsPair disk history pair held
+    → block ≡ block_at disk pair.active → made_in block changes ≡ new → made_at disk (address_in pair) changes ≡ new
+made_here disk history pair held block changes new is here made =
+    ap (λ h. made_of h changes) (raw_is disk (address_in pair) pair.active is.active is.has_commit) ∙ ap (λ b. made_in b changes) (sym here) ∙ made
+
+-- the disk itself, before a call
+pub left_alone : (disk : Disk) (at : ℕ × ℕ) (new : Option RawContent) → LeftWithAny disk at new disk.blocks
+left_alone disk at new = record { others = SameButThese-refl (at.0 ∷ at.1 ∷ []) disk.blocks; content = inl refl }

@@ -1,0 +1,65 @@
+-- What a commit's pages make of a block, and what a stop while they are programmed leaves.
+use Rattle.std.proofs.Common.{ℕ, ◌≡◌, ◌+◌, ◌≤◌, true, List, [], ◌∷◌, ◌++◌, length, Option, inl, inr, sym, ap, ◌∙◌, subst, arith, length-append}
+use Rattle.std.proofs.lemmas.Bool.{lt-ltb}
+use Rattle.lfs_model.specs.Blocks.{Blocks, block_in, overwritten, SameBut}
+use Rattle.lfs_model.specs.Log.{LogEntry, chain_of}
+use Rattle.lfs_model.specs.Content.{has_commit}
+use Rattle.lfs_model.specs.Commit.{next_at}
+use Rattle.lfs_model.specs.Stops.{SameLog, LeftByProgram}
+use Rattle.lfs_tag.specs.Builder.{Building, AreCommitted, GoesTo, earlier, padded_end, checksum_entry}
+use Rattle.lfs_pair.specs.Writing.{Gets, LeftByCommit, LeftInBlock}
+use Rattle.lfs_pair.proofs.SameLogs.{commits_same, revision_same}
+
+-- a block that got a commit has one
+pub Gets-has_commit : {b : Building} {old new : List ℕ} → Gets b old new → has_commit new ≡ true
+Gets-has_commit {b} {old} {new} gets =
+    lt-ltb 0 (length (chain_of new).commits)
+    (omega (arith, ap (λ (cs : List (List LogEntry)). length cs) gets.commits, length-append (earlier b.revision old) ((b.entries ++ gets.checksum ∷ []) ∷ [])))
+
+pub Gets-same : {b : Building} {old new : List ℕ} (left : List ℕ) → Gets b old new → SameLog left new → Gets b old left
+Gets-same {b} {old} {new} left gets same = record {
+  checksum = gets.checksum;
+  class = gets.class;
+  commits = commits_same left new same ∙ gets.commits;
+  revision = revision_same left new same (Gets-has_commit gets) ∙ gets.revision;
+}
+
+-- the block has room for the pages, they go there, and it has these bytes behind them
+pub record GoInto (b : Building) (next : Option (List ℕ)) (pages : List ℕ) (at : ℕ) (block : List ℕ) : Type 0 where
+  pub commit : AreCommitted b next pages
+  pub goes : GoesTo b.revision b.previous block at
+  pub room : at + length pages ≤ length block
+  pub behind : next_at block (at + length pages) ≡ next
+
+pub goes_into : {b : Building} {next : Option (List ℕ)} {pages : List ℕ} {at size end : ℕ} {block : List ℕ} → AreCommitted b next pages → length pages ≡ padded_end b → GoesTo b.revision b.previous block at
+    → length block ≡ size → at + padded_end b ≤ size → end ≡ at + padded_end b → next ≡ next_at block end → GoInto b next pages at block
+goes_into {b} {pages = pages} {at = at} {block = block} commit long goes whole ends is next = record {
+  commit = commit;
+  goes = goes;
+  room = omega arith;
+  behind = ap (λ n. next_at block (at + n)) long ∙ ap (next_at block) (sym is) ∙ sym next;
+}
+
+pub gets_commit : {b : Building} {next : Option (List ℕ)} {pages : List ℕ} {at : ℕ} {block : List ℕ} → GoInto b next pages at block → Gets b block (overwritten block at pages)
+gets_commit {b} {next} {pages} {at} {block} into = record {
+  checksum = checksum_entry b next pages;
+  class = into.commit.class;
+  commits = ap (λ k. k.commits) (into.commit.log block at into.goes into.room into.behind);
+  revision = into.commit.revision block at into.goes into.room;
+}
+
+pub left_by_commit : {b : Building} {next : Option (List ℕ)} {pages : List ℕ} {at : ℕ} {block : List ℕ} (left : List ℕ) → GoInto b next pages at block → LeftByProgram at pages block left → LeftByCommit b at block left
+left_by_commit left into stopped = elim stopped [
+  | inl same ↦ inl same
+  | inr more ↦ elim more [
+    | inl same ↦ inr (inr (Gets-same left (gets_commit into) same))
+    | inr none ↦ inr (inl none)
+  ]
+]
+
+-- the same among other blocks
+pub left_in_block : {b : Building} {next : Option (List ℕ)} {pages : List ℕ} {at block : ℕ} {old before : Blocks} (disk : Blocks) → before ≡ old → GoInto b next pages at (block_in old block)
+    → SameBut block before disk × LeftByProgram at pages (block_in before block) (block_in disk block) → LeftInBlock block (LeftByCommit b at) old disk
+left_in_block {pages = pages} {at = at} {block = block} disk is into stopped =
+    let same = subst (λ d. SameBut block d disk × LeftByProgram at pages (block_in d block) (block_in disk block)) is stopped in
+    (same.0, left_by_commit (block_in disk block) into same.1)

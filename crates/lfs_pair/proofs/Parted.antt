@@ -1,0 +1,190 @@
+-- A content cut into the parts of two pairs, and what a stop on the way there leaves.
+use Rattle.std.specs.Prelude.{All}
+use Rattle.std.proofs.Common.{ℕ, zero, suc, get_or, ◌≡◌, ◌≢◌, ◌⊎◌, ◌<◌, ◌==◌, ◌&&◌, ◌^◌, Bool, true, false, List, [], ◌∷◌, Some, length, take, drop, refl, sym, ap, ◌∙◌, subst, arith, inl, inr}
+use Rattle.std.proofs.lemmas.Bool.{ne_eqb}
+use Rattle.lfs_device.specs.Shown.{disk_of}
+use Rattle.lfs_device.specs.declared.geometry.Geometry.{Geometry}
+use Rattle.lfs_model.specs.Blocks.{Blocks, block_in}
+use Rattle.lfs_model.specs.Disk.{Disk, block_at}
+use Rattle.lfs_model.specs.History.{Event, OnlyReads}
+use Rattle.lfs_model.specs.Slots.{null_address}
+use Rattle.lfs_model.specs.Content.{RawSlot, RawContent, raw_at}
+use Rattle.lfs_model.specs.Logged.{HaveNames, HaveParts, IsLogged}
+use Rattle.lfs_model.specs.Written.{FitsRaw}
+use Rattle.lfs_model.specs.Changes.{Change}
+use Rattle.lfs_model.proofs.Histories.{StayUnprogrammed-trans, StayUnprogrammed-wider}
+use Rattle.lfs_model.proofs.Logged.{nothing_logged}
+use Rattle.lfs_model.proofs.Overwrites.{SameButThese-refl, SameButThese-trans, SameButThese-wider}
+use Rattle.lfs_pair.specs.declared.pair.Pair.{Pair}
+use Rattle.lfs_pair.specs.Pair.{IsPair, address_in}
+use Rattle.lfs_pair.specs.Commit.{LeftWith, NowHolds, OutsideKeeps, OutsideStays, made_of, made_in, made_at}
+use Rattle.lfs_pair.specs.Split.{AreApart, AreParted, AreParts, CanSplit, LeftBySplit, OutsideBothKeeps, OutsideBothStays, front_of, back_of}
+use Rattle.lfs_pair.proofs.Stay.{AreElsewhere, IsPair-reads, raw_at-stays}
+use Rattle.lfs_pair.proofs.TwoBlocks.{raw_is}
+use Rattle.lfs_pair.proofs.Changed.{made_here, made_is, some_same}
+
+-- ---- blocks of two pairs
+
+both : (P : ℕ → Type 0) (a b : ℕ) → P a → P b → All P (a ∷ b ∷ [])
+both P a b p q = go
+  where
+    go : (k d : ℕ) → k < length (a ∷ b ∷ []) → P (get_or (a ∷ b ∷ []) k d)
+    go zero d l = p
+    go (suc zero) d l = q
+    go (suc (suc k)) d l = absurd (omega arith)
+
+pub pair_elsewhere : {at fresh : ℕ × ℕ} → AreApart at fresh → AreElsewhere at (fresh.0 ∷ fresh.1 ∷ [])
+pair_elsewhere {at} {fresh} apart = record {
+  first = both (λ b. b ≢ at.0) fresh.0 fresh.1 (λ is. apart.first_first (sym is)) (λ is. apart.first_second (sym is));
+  second = both (λ b. b ≢ at.1) fresh.0 fresh.1 (λ is. apart.second_first (sym is)) (λ is. apart.second_second (sym is));
+}
+
+pub fresh_elsewhere : {at fresh : ℕ × ℕ} → AreApart at fresh → AreElsewhere fresh (at.0 ∷ at.1 ∷ [])
+fresh_elsewhere {at} {fresh} apart = record {
+  first = both (λ b. b ≢ fresh.0) at.0 at.1 apart.first_first apart.second_first;
+  second = both (λ b. b ≢ fresh.1) at.0 at.1 apart.first_second apart.second_second;
+}
+
+among_first : (at fresh : ℕ × ℕ) (other : ℕ) → All (λ c. c ≢ other) (at.0 ∷ at.1 ∷ fresh.0 ∷ fresh.1 ∷ []) → All (λ c. c ≢ other) (at.0 ∷ at.1 ∷ [])
+among_first at fresh other apart = both (λ c. c ≢ other) at.0 at.1 (apart 0 0 (omega arith)) (apart 1 0 (omega arith))
+
+among_second : (at fresh : ℕ × ℕ) (other : ℕ) → All (λ c. c ≢ other) (at.0 ∷ at.1 ∷ fresh.0 ∷ fresh.1 ∷ []) → All (λ c. c ≢ other) (fresh.0 ∷ fresh.1 ∷ [])
+among_second at fresh other apart = both (λ c. c ≢ other) fresh.0 fresh.1 (apart 2 0 (omega arith)) (apart 3 0 (omega arith))
+
+pub keeps_by_fresh : (at fresh : ℕ × ℕ) {old new : Blocks} → OutsideKeeps fresh old new → OutsideBothKeeps at fresh old new
+keeps_by_fresh at fresh same = SameButThese-wider (at.0 ∷ at.1 ∷ fresh.0 ∷ fresh.1 ∷ []) (among_second at fresh) same
+
+pub keeps_by_both : (at fresh : ℕ × ℕ) {old mid new : Blocks} → OutsideKeeps fresh old mid → OutsideKeeps at mid new → OutsideBothKeeps at fresh old new
+keeps_by_both at fresh first second = SameButThese-trans (keeps_by_fresh at fresh first) (SameButThese-wider (at.0 ∷ at.1 ∷ fresh.0 ∷ fresh.1 ∷ []) (among_first at fresh) second)
+
+pub stays_by_fresh : (at fresh : ℕ × ℕ) {old new : List Event} → OutsideStays fresh old new → OutsideBothStays at fresh old new
+stays_by_fresh at fresh same = StayUnprogrammed-wider (at.0 ∷ at.1 ∷ fresh.0 ∷ fresh.1 ∷ []) (among_second at fresh) same
+
+pub stays_by_both : (at fresh : ℕ × ℕ) {old mid new : List Event} → OutsideStays fresh old mid → OutsideStays at mid new → OutsideBothStays at fresh old new
+stays_by_both at fresh first second = StayUnprogrammed-trans (stays_by_fresh at fresh first) (StayUnprogrammed-wider (at.0 ∷ at.1 ∷ fresh.0 ∷ fresh.1 ∷ []) (among_first at fresh) second)
+
+-- ---- both parts can be written
+
+HaveParts-take : (n : ℕ) (slots : List RawSlot) → HaveParts slots → HaveParts (take n slots)
+HaveParts-take zero slots have = tt
+HaveParts-take (suc n) [] have = tt
+HaveParts-take (suc n) (s ∷ slots) have = (have.0, HaveParts-take n slots have.1)
+
+HaveParts-drop : (n : ℕ) (slots : List RawSlot) → HaveParts slots → HaveParts (drop n slots)
+HaveParts-drop zero slots have = have
+HaveParts-drop (suc n) [] have = tt
+HaveParts-drop (suc n) (s ∷ slots) have = HaveParts-drop n slots have.1
+
+HaveNames-take : (n : ℕ) (slots : List RawSlot) → HaveNames slots → HaveNames (take n slots)
+HaveNames-take zero slots have = tt
+HaveNames-take (suc n) [] have = tt
+HaveNames-take (suc n) (s ∷ slots) have = (have.0, HaveNames-take n slots have.1)
+
+HaveNames-drop : (n : ℕ) (slots : List RawSlot) → HaveNames slots → HaveNames (drop n slots)
+HaveNames-drop zero slots have = have
+HaveNames-drop (suc n) [] have = tt
+HaveNames-drop (suc n) (s ∷ slots) have = HaveNames-drop n slots have.1
+
+-- a content that can be written anew
+pub record IsReady (block_size page : ℕ) (c : RawContent) : Type 0 where
+  pub logged : IsLogged c
+  pub names : HaveNames c.slots
+  pub fits : FitsRaw block_size page c
+
+pub front_ready : {block_size page : ℕ} {whole front back : RawContent} {fresh : ℕ × ℕ} → AreParts block_size page whole fresh front back → IsLogged whole → HaveNames whole.slots
+    → fresh.0 < 2 ^ 16 → fresh.1 < 2 ^ 16 → IsReady block_size page front
+front_ready {block_size} {page} {whole} {fresh = fresh} parts logged names first second =
+    let real : (fresh.0 == null_address) ≡ false = ne_eqb fresh.0 null_address (λ is. absurd (omega (arith, is, first))) in
+    subst (IsReady block_size page) (sym parts.front_is) (record {
+      logged = record {
+        slots = HaveParts-take parts.cut whole.slots logged.slots;
+        tail = ((omega (arith, first), omega (arith, second)), ap (λ b. b && fresh.1 == null_address) real);
+        move = logged.move;
+      };
+      names = HaveNames-take parts.cut whole.slots names;
+      fits = record { size = parts.is_cut.front.size; count = parts.is_cut.front.count };
+    })
+
+pub back_ready : {block_size page : ℕ} {whole front back : RawContent} {fresh : ℕ × ℕ} → AreParts block_size page whole fresh front back → IsLogged whole → HaveNames whole.slots → IsReady block_size page back
+back_ready {block_size} {page} {whole} parts logged names =
+    subst (IsReady block_size page) (sym parts.back_is) (record {
+      logged = record {
+        slots = HaveParts-drop parts.cut whole.slots logged.slots;
+        tail = logged.tail;
+        move = nothing_logged.move;
+      };
+      names = HaveNames-drop parts.cut whole.slots names;
+      fits = record { size = parts.is_cut.back.size; count = parts.is_cut.back.count };
+    })
+
+-- ---- a pair that is being split
+
+pub record IsSplitting (disk : Disk) (at fresh : ℕ × ℕ) (changes : List Change) (front back : RawContent) : Type 0 where
+  pub whole : RawContent
+  pub made : made_at disk at changes ≡ Some whole
+  pub parts : AreParts disk.block_size disk.page whole fresh front back
+  pub apart : AreApart at fresh
+  pub front_ready : IsReady disk.block_size disk.page front
+  pub back_ready : IsReady disk.block_size disk.page back
+
+pub is_splitting : (geometry here : Geometry) (blocks : Blocks) (history : List Event) (pair : Pair) (fresh : ℕ × ℕ) (block : List ℕ) (changes : List Change) (whole front back : RawContent)
+    → here ≡ geometry → length blocks ≡ geometry.block_count → CanSplit (disk_of geometry blocks) history pair fresh changes → block ≡ block_in blocks pair.active
+    → made_in block changes ≡ Some whole → IsLogged whole → AreParts here.block_size here.page whole fresh front back
+    → IsSplitting (disk_of geometry blocks) (address_in pair) fresh changes front back
+is_splitting geometry here blocks history pair fresh block changes whole front back same count can is made_is_whole logged cut =
+    let commit = can.commit in
+    let made = made_here (disk_of geometry blocks) history pair commit.held block changes (Some whole) commit.is_pair is made_is_whole in
+    let whole_is : commit.new ≡ whole = some_same (sym (made_is (disk_of geometry blocks) history pair commit.held changes commit.is_pair ∙ commit.changed) ∙ made) in
+    let names = subst (λ (c : RawContent). HaveNames c.slots) whole_is commit.names in
+    let parts = subst (λ (k : Geometry). AreParts k.block_size k.page whole fresh front back) same cut in
+    let few = geometry.valid.no_more in
+    record {
+      whole = whole;
+      made = made;
+      parts = parts;
+      apart = can.apart;
+      front_ready = front_ready parts logged names (omega (arith, can.fresh_is.first, count, few)) (omega (arith, can.fresh_is.second, count, few));
+      back_ready = back_ready parts logged names;
+    }
+
+pub CanSplit-reads : {blocks : Blocks} {disk : Disk} {before after : List Event} {pair : Pair} {fresh : ℕ × ℕ} {changes : List Change} → OnlyReads blocks before after
+    → CanSplit disk before pair fresh changes → CanSplit disk after pair fresh changes
+CanSplit-reads reads can =
+    let commit = can.commit in
+    record {
+      commit = record { address = commit.address; held = commit.held; is_pair = IsPair-reads reads commit.is_pair; new = commit.new; changed = commit.changed; names = commit.names };
+      fresh_is = can.fresh_is;
+      apart = can.apart;
+      cut = can.cut;
+    }
+
+-- ---- what a stop on the way there leaves
+
+pub raw_held : {disk : Disk} {history : List Event} {at : ℕ × ℕ} {pair : Pair} {c : RawContent} → NowHolds disk history at pair c → raw_at disk at ≡ Some c
+raw_held {disk} {pair = pair} holds =
+    ap (raw_at disk) (sym holds.same) ∙ raw_is disk (address_in pair) pair.active holds.is_pair.active holds.is_pair.has_commit ∙ holds.is_pair.describes.content
+
+-- before a call
+pub left_before : (old : Disk) (at fresh : ℕ × ℕ) (changes : List Change) → LeftBySplit old at fresh changes old.blocks
+left_before old at fresh changes = record { others = SameButThese-refl (at.0 ∷ at.1 ∷ fresh.0 ∷ fresh.1 ∷ []) old.blocks; content = inl refl }
+
+pub left_while_fresh : (old : Disk) (at fresh : ℕ × ℕ) (changes : List Change) (left : Blocks) → AreApart at fresh → OutsideKeeps fresh old.blocks left → LeftBySplit old at fresh changes left
+left_while_fresh old at fresh changes left apart same = record { others = keeps_by_fresh at fresh same; content = inl (raw_at-stays old (pair_elsewhere apart) same) }
+
+pub left_while_old : (old : Disk) (at fresh : ℕ × ℕ) (changes : List Change) (mid left : Blocks) {whole front back : RawContent} → AreApart at fresh → OutsideKeeps fresh old.blocks mid
+    → made_at old at changes ≡ Some whole → AreParts old.block_size old.page whole fresh front back → raw_at (record old { blocks = mid }) fresh ≡ Some back
+    → LeftWith (record old { blocks = mid }) at front left → LeftBySplit old at fresh changes left
+left_while_old old at fresh changes mid left {whole} apart same made parts held stopped = record {
+  others = keeps_by_both at fresh same stopped.others;
+  content = elim stopped.content [
+    | inl was ↦ inl (was ∙ raw_at-stays old (pair_elsewhere apart) same)
+    | inr is ↦ inr (record {
+      new = whole;
+      made = made;
+      cut = parts.cut;
+      is_cut = parts.is_cut;
+      front = is ∙ ap Some parts.front_is;
+      back = raw_at-stays (record old { blocks = mid }) (fresh_elsewhere apart) stopped.others ∙ held ∙ ap Some parts.back_is;
+    })
+  ];
+}

@@ -1,0 +1,45 @@
+-- What blocks of the same log share.
+use Rattle.std.proofs.Common.{ℕ, ◌≡◌, true, false, List, [], ◌∷◌, length, Option, Some, None, refl, sym, ap, ◌∙◌, flat_map}
+use Rattle.std.specs.Prelude.{nat_lt}
+use Rattle.lfs_model.specs.Log.{LogEntry, BlockLog, chain_of, revision_of, log_entries, log_with}
+use Rattle.lfs_model.specs.Content.{has_commit}
+use Rattle.lfs_model.specs.Stops.{SameLog, HasNoLog}
+
+abbrev commits_in : Option BlockLog → List (List LogEntry)
+commits_in None = []
+commits_in (Some log) = log.commits
+
+abbrev revision_in : Option BlockLog → ℕ
+revision_in None = 0
+revision_in (Some log) = log.revision
+
+commits_told : (r : ℕ) (cs : List (List LogEntry)) → commits_in (log_with r cs) ≡ cs
+commits_told r [] = refl
+commits_told r (c ∷ cs) = refl
+
+revision_told : (r : ℕ) (cs : List (List LogEntry)) → nat_lt 0 (length cs) ≡ true → revision_in (log_with r cs) ≡ r
+revision_told r [] some = absurd (cc)
+revision_told r (c ∷ cs) some = refl
+
+pub commits_same : (x y : List ℕ) → SameLog x y → (chain_of x).commits ≡ (chain_of y).commits
+commits_same x y same =
+    sym (commits_told (revision_of x) (chain_of x).commits) ∙ ap commits_in same ∙ commits_told (revision_of y) (chain_of y).commits
+
+pub entries_same : (x y : List ℕ) → SameLog x y → log_entries x ≡ log_entries y
+entries_same x y same = ap (flat_map (λ (c : List LogEntry). c)) (commits_same x y same)
+
+pub has_commit_same : (x y : List ℕ) → SameLog x y → has_commit x ≡ has_commit y
+has_commit_same x y same = ap (λ (cs : List (List LogEntry)). nat_lt 0 (length cs)) (commits_same x y same)
+
+-- a block without a commit has a revision too, which its log doesn't tell
+pub revision_same : (x y : List ℕ) → SameLog x y → has_commit y ≡ true → revision_of x ≡ revision_of y
+revision_same x y same has =
+    sym (revision_told (revision_of x) (chain_of x).commits (has_commit_same x y same ∙ has))
+    ∙ ap revision_in same
+    ∙ revision_told (revision_of y) (chain_of y).commits has
+
+pub no_commits : (x : List ℕ) → HasNoLog x → (chain_of x).commits ≡ []
+no_commits x none = sym (commits_told (revision_of x) (chain_of x).commits) ∙ ap commits_in none
+
+pub has_no_commit : (x : List ℕ) → HasNoLog x → has_commit x ≡ false
+has_no_commit x none = ap (λ (cs : List (List LogEntry)). nat_lt 0 (length cs)) (no_commits x none)

@@ -1,0 +1,93 @@
+-- What a pair holds where nothing is written to its two blocks.
+use Rattle.std.specs.Prelude.{All}
+use Rattle.std.proofs.Common.{ℕ, zero, suc, get_or, ◌≡◌, ◌≢◌, ◌<◌, Bool, true, false, cond, List, [], ◌∷◌, Some, length, refl, sym, ap, ap₂, ◌∙◌, subst, arith}
+use Rattle.std.specs.Option.{option_and_then}
+use Rattle.lfs_model.specs.Blocks.{Blocks, block_in, SameButThese}
+use Rattle.lfs_model.specs.Disk.{Disk, block_at, block_count}
+use Rattle.lfs_model.specs.Log.{chain_of, log_entries, revision_of}
+use Rattle.lfs_model.specs.History.{Event, OnlyReads, StayUnprogrammed}
+use Rattle.lfs_model.specs.Content.{RawContent, has_commit, holder, raw_at, content_after_all, no_content}
+use Rattle.lfs_model.proofs.Histories.{AllUnprogrammed-reads, AllUnprogrammed-stays}
+use Rattle.lfs_pair.specs.declared.pair.Pair.{Pair}
+use Rattle.lfs_pair.specs.Pair.{IsPair, Describes, second_holds, active_at, address_in}
+use Rattle.lfs_pair.specs.Commit.{IsActive, IsAddressOn, NowHolds}
+
+-- neither block of a pair is one of those
+pub record AreElsewhere (at : ℕ × ℕ) (bs : List ℕ) : Type 0 where
+  pub first : All (λ b. b ≢ at.0) bs
+  pub second : All (λ b. b ≢ at.1) bs
+
+-- ---- on the disk
+
+pub active_at-stays : {at : ℕ × ℕ} {bs : List ℕ} (disk : Disk) {blocks : Blocks} → AreElsewhere at bs → SameButThese bs disk.blocks blocks
+    → active_at (record disk { blocks = blocks }) at ≡ active_at disk at
+active_at-stays {at} disk elsewhere same =
+    ap₂ (λ a b. cond (second_holds a b) at.1 at.0) (same.others at.0 elsewhere.first) (same.others at.1 elsewhere.second)
+
+pub raw_at-stays : {at : ℕ × ℕ} {bs : List ℕ} (disk : Disk) {blocks : Blocks} → AreElsewhere at bs → SameButThese bs disk.blocks blocks
+    → raw_at (record disk { blocks = blocks }) at ≡ raw_at disk at
+raw_at-stays {at} disk elsewhere same =
+    ap₂ (λ a b. option_and_then (λ block. content_after_all no_content (log_entries block)) (holder a b)) (same.others at.0 elsewhere.first) (same.others at.1 elsewhere.second)
+
+pub IsAddressOn-stays : {at : ℕ × ℕ} {bs : List ℕ} {disk : Disk} {blocks : Blocks} → SameButThese bs disk.blocks blocks → IsAddressOn disk at → IsAddressOn (record disk { blocks = blocks }) at
+IsAddressOn-stays {at} same on = record {
+  apart = on.apart;
+  first = subst (λ n. at.0 < n) (sym same.count) on.first;
+  second = subst (λ n. at.1 < n) (sym same.count) on.second;
+}
+
+-- ---- as the pair says
+
+-- the active block isn't one of those either
+active_elsewhere : {at : ℕ × ℕ} {bs : List ℕ} (disk : Disk) (active : ℕ) → AreElsewhere at bs → active ≡ active_at disk at → All (λ b. b ≢ active) bs
+active_elsewhere {at} {bs} disk active elsewhere is = go (second_holds (block_at disk at.0) (block_at disk at.1)) is
+  where
+    go : (s : Bool) → active ≡ cond s at.1 at.0 → All (λ b. b ≢ active) bs
+    go true e = subst (λ (a : ℕ). All (λ b. b ≢ a) bs) (sym e) elsewhere.second
+    go false e = subst (λ (a : ℕ). All (λ b. b ≢ a) bs) (sym e) elsewhere.first
+
+pub IsActive-stays : {bs : List ℕ} {disk : Disk} {blocks : Blocks} {pair : Pair} → AreElsewhere (address_in pair) bs → SameButThese bs disk.blocks blocks
+    → IsActive disk pair → IsActive (record disk { blocks = blocks }) pair
+IsActive-stays {disk = disk} {pair = pair} elsewhere same is =
+    let block = same.others pair.active (active_elsewhere disk pair.active elsewhere is.active) in
+    record {
+      active = is.active ∙ sym (active_at-stays disk elsewhere same);
+      has_commit = ap has_commit block ∙ is.has_commit;
+      revision_is = is.revision_is ∙ ap revision_of (sym block);
+    }
+
+pub IsPair-stays : {bs : List ℕ} {disk : Disk} {blocks : Blocks} {before after : List Event} {pair : Pair} {held : RawContent}
+    → AreElsewhere (address_in pair) bs → SameButThese bs disk.blocks blocks → StayUnprogrammed bs before after → IsPair disk before pair held → IsPair (record disk { blocks = blocks }) after pair held
+IsPair-stays {disk = disk} {pair = pair} {held} elsewhere same stay is =
+    let apart = active_elsewhere disk pair.active elsewhere is.active in
+    let block = same.others pair.active apart in
+    record {
+      active = is.active ∙ sym (active_at-stays disk elsewhere same);
+      has_commit = ap has_commit block ∙ is.has_commit;
+      describes = subst (λ b. Describes b pair held) (sym block) is.describes;
+      whole_pages = is.whole_pages;
+      unprogrammed = λ written. AllUnprogrammed-stays pair.active stay apart (is.unprogrammed written);
+    }
+
+-- a pair's address is that of its blocks
+pub NowHolds-stays : {at : ℕ × ℕ} {bs : List ℕ} {disk : Disk} {blocks : Blocks} {before after : List Event} {pair : Pair} {held : RawContent}
+    → AreElsewhere at bs → SameButThese bs disk.blocks blocks → StayUnprogrammed bs before after → NowHolds disk before at pair held → NowHolds (record disk { blocks = blocks }) after at pair held
+NowHolds-stays {bs = bs} elsewhere same stay holds = record {
+  is_pair = IsPair-stays (subst (λ a. AreElsewhere a bs) (sym holds.same) elsewhere) same stay holds.is_pair;
+  same = holds.same;
+  written = holds.written;
+}
+
+-- ---- after reads
+
+pub IsPair-reads : {blocks : Blocks} {disk : Disk} {before after : List Event} {pair : Pair} {held : RawContent} → OnlyReads blocks before after → IsPair disk before pair held → IsPair disk after pair held
+IsPair-reads {pair = pair} reads is = record {
+  active = is.active;
+  has_commit = is.has_commit;
+  describes = is.describes;
+  whole_pages = is.whole_pages;
+  unprogrammed = λ written. AllUnprogrammed-reads pair.active reads (is.unprogrammed written);
+}
+
+pub NowHolds-reads : {blocks : Blocks} {disk : Disk} {before after : List Event} {at : ℕ × ℕ} {pair : Pair} {held : RawContent} → OnlyReads blocks before after → NowHolds disk before at pair held → NowHolds disk after at pair held
+NowHolds-reads reads holds = record { is_pair = IsPair-reads reads holds.is_pair; same = holds.same; written = holds.written }

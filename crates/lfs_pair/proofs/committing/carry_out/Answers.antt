@@ -1,0 +1,58 @@
+use Rattle.std.proofs.Common.{rules, ℕ, ◌≡◌, ◌<◌, ◌≤◌, true, false, Ok, Some, refl, sym, ap, ◌∙◌, subst, arith}
+use Rattle.lfs_device.specs.Shown.{disk_of}
+use Rattle.lfs_model.specs.History.{AtWorst, EachSince, LeavesOnly}
+use Rattle.lfs_model.specs.Stops.{ErasesCleanly, Stops}
+use Rattle.lfs_model.specs.Written.{FitsRaw}
+use Rattle.lfs_model.proofs.Histories.{LeavesOnly-weaker}
+use Rattle.lfs_tag.specs.ContentSeen.{content_seen}
+use Rattle.lfs_pair.specs.Pair.{address_in}
+use Rattle.lfs_pair.specs.ChangeSeen.{changes_seen}
+use Rattle.lfs_pair.specs.Commit.{NowHolds, OutsideKeeps, LeftWith, LeftWithAny}
+use Rattle.lfs_pair.proofs.Changed.{made_here}
+use Rattle.lfs_pair.proofs.committing.carry_out.Goals as goal
+
+pub returns-then-branch-clause-done : goal.returns-then-branch-clause-done
+returns-then-branch-clause-done g c done =
+    let made = made_here _ _ c.args.pair.now c.requires.can.held c.args.block.now (changes_seen c.args.changes.now) (Some (content_seen c.in_ok-content.content)) c.requires.can.is_pair c.requires.block c.in_ok-content.ensures.content in
+    let fits : FitsRaw (g.D.BlockDevice.geometry c.args.dev.now).block_size (g.D.BlockDevice.geometry c.args.dev.now).page (content_seen c.in_ok-content.content) = search rules in
+    record { new = content_seen c.in_ok-content.content; made = made; fits = fits; holds = c.in_ok-append.ensures.done (ap Ok c.if-branch.true) }
+
+pub returns-in_err-compact-clause-stops : goal.returns-in_err-compact-clause-stops
+returns-in_err-compact-clause-stops g c =
+    let made = made_here _ _ c.args.pair.now c.requires.can.held c.args.block.now (changes_seen c.args.changes.now) (Some (content_seen c.in_ok-content.content)) c.requires.can.is_pair c.requires.block c.in_ok-content.ensures.content in
+    let moved = subst (λ p. EachSince ErasesCleanly (g.D.BlockDevice.history c.append.new.dev) (g.D.BlockDevice.history c.compact.new.dev)
+    → LeavesOnly Stops (g.D.BlockDevice.history c.append.new.dev) (g.D.BlockDevice.history c.compact.new.dev) (LeftWith (disk_of (g.D.BlockDevice.geometry c.append.new.dev) (g.D.BlockDevice.blocks c.append.new.dev)) (address_in p) (content_seen c.in_ok-content.content)))
+    (c.in_ok-append.ensures.no_room_pair (ap Ok c.if-branch.false)) c.in_err-compact.ensures.stops in
+    let stops = subst (λ d. EachSince ErasesCleanly (g.D.BlockDevice.history d) (g.D.BlockDevice.history c.compact.new.dev)
+    → LeavesOnly Stops (g.D.BlockDevice.history d) (g.D.BlockDevice.history c.compact.new.dev) (LeftWith (disk_of (g.D.BlockDevice.geometry d) (g.D.BlockDevice.blocks d)) (address_in c.args.pair.now) (content_seen c.in_ok-content.content)))
+    (c.in_ok-append.ensures.no_room_dev (ap Ok c.if-branch.false)) moved in
+    λ cleanly. LeavesOnly-weaker (λ disk left. subst (λ new. LeftWithAny (disk_of (g.D.BlockDevice.geometry c.args.dev.now) (g.D.BlockDevice.blocks c.args.dev.now)) (address_in c.args.pair.now) new disk) (sym made) left) (stops cleanly)
+
+pub returns-clause-done : goal.returns-clause-done
+returns-clause-done g c done =
+    let made = made_here _ _ c.args.pair.now c.requires.can.held c.args.block.now (changes_seen c.args.changes.now) (Some (content_seen c.in_ok-content.content)) c.requires.can.is_pair c.requires.block c.in_ok-content.ensures.content in
+    let fits : FitsRaw (g.D.BlockDevice.geometry c.args.dev.now).block_size (g.D.BlockDevice.geometry c.args.dev.now).page (content_seen c.in_ok-content.content) = search rules in
+    let holds = subst (λ p. NowHolds (disk_of (g.D.BlockDevice.geometry c.compact.new.dev) (g.D.BlockDevice.blocks c.compact.new.dev)) (g.D.BlockDevice.history c.compact.new.dev) (address_in p) c.compact.new.pair (content_seen c.in_ok-content.content))
+    (c.in_ok-append.ensures.no_room_pair (ap Ok c.if-branch.false)) c.in_ok-compact.ensures.done in
+    record { new = content_seen c.in_ok-content.content; made = made; fits = fits; holds = holds }
+
+pub returns-clause-appended : goal.returns-clause-appended
+returns-clause-appended g c done appends = absurd (c.in_ok-append.ensures.no_room (ap Ok c.if-branch.false) appends)
+
+pub returns-clause-stops : goal.returns-clause-stops
+returns-clause-stops g c =
+    let made = made_here _ _ c.args.pair.now c.requires.can.held c.args.block.now (changes_seen c.args.changes.now) (Some (content_seen c.in_ok-content.content)) c.requires.can.is_pair c.requires.block c.in_ok-content.ensures.content in
+    let moved = subst (λ p. EachSince ErasesCleanly (g.D.BlockDevice.history c.append.new.dev) (g.D.BlockDevice.history c.compact.new.dev)
+    → LeavesOnly Stops (g.D.BlockDevice.history c.append.new.dev) (g.D.BlockDevice.history c.compact.new.dev) (LeftWith (disk_of (g.D.BlockDevice.geometry c.append.new.dev) (g.D.BlockDevice.blocks c.append.new.dev)) (address_in p) (content_seen c.in_ok-content.content)))
+    (c.in_ok-append.ensures.no_room_pair (ap Ok c.if-branch.false)) c.in_ok-compact.ensures.stops in
+    let stops = subst (λ d. EachSince ErasesCleanly (g.D.BlockDevice.history d) (g.D.BlockDevice.history c.compact.new.dev)
+    → LeavesOnly Stops (g.D.BlockDevice.history d) (g.D.BlockDevice.history c.compact.new.dev) (LeftWith (disk_of (g.D.BlockDevice.geometry d) (g.D.BlockDevice.blocks d)) (address_in c.args.pair.now) (content_seen c.in_ok-content.content)))
+    (c.in_ok-append.ensures.no_room_dev (ap Ok c.if-branch.false)) moved in
+    λ cleanly. LeavesOnly-weaker (λ disk left. subst (λ new. LeftWithAny (disk_of (g.D.BlockDevice.geometry c.args.dev.now) (g.D.BlockDevice.blocks c.args.dev.now)) (address_in c.args.pair.now) new disk) (sym made) left) (stops cleanly)
+
+pub returns-clause-at_worst : goal.returns-clause-at_worst
+returns-clause-at_worst g c =
+    let moved = subst (λ p. LeavesOnly AtWorst (g.D.BlockDevice.history c.append.new.dev) (g.D.BlockDevice.history c.compact.new.dev) (OutsideKeeps (address_in p) (g.D.BlockDevice.blocks c.append.new.dev)))
+    (c.in_ok-append.ensures.no_room_pair (ap Ok c.if-branch.false)) c.in_ok-compact.ensures.at_worst in
+    subst (λ d. LeavesOnly AtWorst (g.D.BlockDevice.history d) (g.D.BlockDevice.history c.compact.new.dev) (OutsideKeeps (address_in c.args.pair.now) (g.D.BlockDevice.blocks d)))
+    (c.in_ok-append.ensures.no_room_dev (ap Ok c.if-branch.false)) moved

@@ -1,0 +1,61 @@
+use Rattle.std.proofs.Common.{rules, ℕ, ◌≡◌, ◌<◌, ◌+◌, true, false, Ok, refl, sym, ap, ap₂, ◌∙◌, subst, arith, inl}
+use Rattle.lfs_device.specs.Shown.{disk_of}
+use Rattle.lfs_model.specs.Blocks.{block_in}
+use Rattle.lfs_model.specs.History.{EachSince, LeavesOnly}
+use Rattle.lfs_model.specs.Stops.{ErasesCleanly, Stops}
+use Rattle.lfs_model.proofs.Histories.{goes_on_by, LeavesOnly-reads, LeavesOnly-weaker, EachSince-behind, Stops-read, AtWorst-read, erases-reads}
+use Rattle.lfs_model.proofs.Overwrites.{SameButThese-refl}
+use Rattle.lfs_pair.specs.Pair.{address_in}
+use Rattle.lfs_pair.specs.ChangeSeen.{changes_seen}
+use Rattle.lfs_pair.specs.Commit.{Commits, Appends, LeftByChange, OutsideKeeps}
+use Rattle.lfs_pair.proofs.Changed.{active_below, left_alone}
+use Rattle.lfs_pair.proofs.committing.commit.Goals as goal
+
+pub read_block-requires : goal.read_block-requires
+read_block-requires g c = active_below _ _ c.args.pair.now c.requires.held _ c.requires.address c.requires.is_pair (g.met.D.BlockDevice.shape c.args.dev.now).count
+
+pub returns-in_err-block-clause-stops : goal.returns-in_err-block-clause-stops
+returns-in_err-block-clause-stops g c cleanly = LeavesOnly-reads Stops-read c.in_err-block.ensures.reads (left_alone _ _ _)
+
+pub returns-in_err-outcome-clause-stops : goal.returns-in_err-outcome-clause-stops
+returns-in_err-outcome-clause-stops g c cleanly =
+    let same_disk = ap₂ disk_of c.in_ok-block.ensures.geometry c.in_ok-block.ensures.same in
+    goes_on_by (LeavesOnly-reads Stops-read c.in_ok-block.ensures.reads (left_alone _ _ _))
+    (LeavesOnly-weaker (λ disk left. subst (λ old. LeftByChange old (address_in c.args.pair.now) (changes_seen c.args.changes.now) disk) same_disk left)
+    (c.in_err-outcome.ensures.stops (EachSince-behind cleanly c.in_ok-block.ensures.reads c.in_err-outcome.ensures.at_worst)))
+
+pub returns-clause-done : goal.returns-clause-done
+returns-clause-done g c done =
+    let same_disk = ap₂ disk_of c.in_ok-block.ensures.geometry c.in_ok-block.ensures.same in
+    subst (λ old. Commits old (changes_seen c.args.changes.now) c.args.pair.now (disk_of (g.D.BlockDevice.geometry c.carry_out.new.dev) (g.D.BlockDevice.blocks c.carry_out.new.dev)) (g.D.BlockDevice.history c.carry_out.new.dev) c.carry_out.new.pair)
+    same_disk (c.in_ok-outcome.ensures.done done)
+
+pub returns-clause-compacted : goal.returns-clause-compacted
+returns-clause-compacted g c done full =
+    let same_disk = ap₂ disk_of c.in_ok-block.ensures.geometry c.in_ok-block.ensures.same in
+    let is = c.in_ok-outcome.ensures.compacted done (λ appends. full (subst (λ old. Appends old c.args.pair.now (changes_seen c.args.changes.now)) same_disk appends)) in
+    record {
+      active = is.active;
+      erases = is.erases ∙ ap (λ n. n + 1) (erases-reads c.in_ok-block.ensures.reads);
+      kept = is.kept ∙ ap (λ b. block_in b c.args.pair.now.active) c.in_ok-block.ensures.same;
+    }
+
+pub returns-clause-stops : goal.returns-clause-stops
+returns-clause-stops g c cleanly =
+    let same_disk = ap₂ disk_of c.in_ok-block.ensures.geometry c.in_ok-block.ensures.same in
+    goes_on_by (LeavesOnly-reads Stops-read c.in_ok-block.ensures.reads (left_alone _ _ _))
+    (LeavesOnly-weaker (λ disk left. subst (λ old. LeftByChange old (address_in c.args.pair.now) (changes_seen c.args.changes.now) disk) same_disk left)
+    (c.in_ok-outcome.ensures.stops (EachSince-behind cleanly c.in_ok-block.ensures.reads c.in_ok-outcome.ensures.at_worst)))
+
+pub returns-in_err-block-clause-at_worst : goal.returns-in_err-block-clause-at_worst
+returns-in_err-block-clause-at_worst g c = LeavesOnly-reads AtWorst-read c.in_err-block.ensures.reads (SameButThese-refl _ _)
+
+pub returns-in_err-outcome-clause-at_worst : goal.returns-in_err-outcome-clause-at_worst
+returns-in_err-outcome-clause-at_worst g c =
+    goes_on_by (LeavesOnly-reads AtWorst-read c.in_ok-block.ensures.reads (SameButThese-refl _ _))
+    (LeavesOnly-weaker (λ disk left. subst (λ old. OutsideKeeps (address_in c.args.pair.now) old disk) c.in_ok-block.ensures.same left) c.in_err-outcome.ensures.at_worst)
+
+pub returns-clause-at_worst : goal.returns-clause-at_worst
+returns-clause-at_worst g c =
+    goes_on_by (LeavesOnly-reads AtWorst-read c.in_ok-block.ensures.reads (SameButThese-refl _ _))
+    (LeavesOnly-weaker (λ disk left. subst (λ old. OutsideKeeps (address_in c.args.pair.now) old disk) c.in_ok-block.ensures.same left) c.in_ok-outcome.ensures.at_worst)

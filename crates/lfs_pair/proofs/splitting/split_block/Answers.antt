@@ -1,0 +1,121 @@
+use Rattle.std.proofs.Common.{◌≡◌, ◌<◌, ◌∙◌, Err, ap, sym, subst, arith}
+use Rattle.lfs_device.specs.Shown.{disk_of}
+use Rattle.lfs_model.specs.Slots.{address_of}
+use Rattle.lfs_model.proofs.Histories.{goes_on_by, faults-since, EachSince-behind, LeavesOnly-weaker, LeavesOnly-worst}
+use Rattle.lfs_tag.specs.ContentSeen.{content_seen}
+use Rattle.lfs_pair.specs.Pair.{address_in}
+use Rattle.lfs_pair.specs.ChangeSeen.{changes_seen}
+use Rattle.lfs_pair.specs.Commit.{IsActive, LeftWith, NowHolds}
+use Rattle.lfs_pair.proofs.Changed.{is_active}
+use Rattle.lfs_pair.proofs.Stay.{IsActive-stays, NowHolds-stays}
+use Rattle.lfs_pair.proofs.Parted.{IsSplitting, IsReady, is_splitting, pair_elsewhere, fresh_elsewhere, keeps_by_fresh, keeps_by_both, stays_by_fresh, stays_by_both, left_while_fresh, left_while_old, raw_held}
+use Rattle.lfs_pair.proofs.splitting.split_block.Goals as goal
+
+pub write_fresh-requires-clause-logged : goal.write_fresh-requires-clause-logged
+write_fresh-requires-clause-logged g c =
+    let ready = is_splitting _ c.geometry-geometry.result _ _ c.args.pair.now (address_of c.args.fresh) c.args.block.now (changes_seen c.args.changes.now) (content_seen c.in_ok-front.front) (content_seen c.cut_off.new.content) (content_seen c.in_ok-back.back) c.geometry-geometry.ensures (g.met.D.BlockDevice.shape c.args.dev.now).count c.requires.can c.requires.block c.in_ok-front.ensures.content c.in_ok-front.ensures.logged c.in_ok-back.ensures.parts in
+    ready.back_ready.logged
+
+pub write_fresh-requires-clause-names : goal.write_fresh-requires-clause-names
+write_fresh-requires-clause-names g c =
+    let ready = is_splitting _ c.geometry-geometry.result _ _ c.args.pair.now (address_of c.args.fresh) c.args.block.now (changes_seen c.args.changes.now) (content_seen c.in_ok-front.front) (content_seen c.cut_off.new.content) (content_seen c.in_ok-back.back) c.geometry-geometry.ensures (g.met.D.BlockDevice.shape c.args.dev.now).count c.requires.can c.requires.block c.in_ok-front.ensures.content c.in_ok-front.ensures.logged c.in_ok-back.ensures.parts in
+    ready.back_ready.names
+
+pub compact-requires-clause-logged : goal.compact-requires-clause-logged
+compact-requires-clause-logged g c =
+    let ready = is_splitting _ c.geometry-geometry.result _ _ c.args.pair.now (address_of c.args.fresh) c.args.block.now (changes_seen c.args.changes.now) (content_seen c.in_ok-front.front) (content_seen c.cut_off.new.content) (content_seen c.in_ok-back.back) c.geometry-geometry.ensures (g.met.D.BlockDevice.shape c.args.dev.now).count c.requires.can c.requires.block c.in_ok-front.ensures.content c.in_ok-front.ensures.logged c.in_ok-back.ensures.parts in
+    ready.front_ready.logged
+
+pub compact-requires-clause-names : goal.compact-requires-clause-names
+compact-requires-clause-names g c =
+    let ready = is_splitting _ c.geometry-geometry.result _ _ c.args.pair.now (address_of c.args.fresh) c.args.block.now (changes_seen c.args.changes.now) (content_seen c.in_ok-front.front) (content_seen c.cut_off.new.content) (content_seen c.in_ok-back.back) c.geometry-geometry.ensures (g.met.D.BlockDevice.shape c.args.dev.now).count c.requires.can c.requires.block c.in_ok-front.ensures.content c.in_ok-front.ensures.logged c.in_ok-back.ensures.parts in
+    ready.front_ready.names
+
+pub returns-in_err-fresh_pair-clause-others : goal.returns-in_err-fresh_pair-clause-others
+returns-in_err-fresh_pair-clause-others g c =
+    keeps_by_fresh (address_in c.args.pair.now) (address_of c.args.fresh) c.in_err-fresh_pair.ensures.others
+
+pub returns-in_err-fresh_pair-clause-elsewhere : goal.returns-in_err-fresh_pair-clause-elsewhere
+returns-in_err-fresh_pair-clause-elsewhere g c =
+    stays_by_fresh (address_in c.args.pair.now) (address_of c.args.fresh) c.in_err-fresh_pair.ensures.elsewhere
+
+pub returns-in_err-fresh_pair-clause-stops : goal.returns-in_err-fresh_pair-clause-stops
+returns-in_err-fresh_pair-clause-stops g c cleanly =
+    LeavesOnly-weaker (λ disk left. left_while_fresh _ _ _ (changes_seen c.args.changes.now) disk c.requires.can.apart left) (LeavesOnly-worst c.in_err-fresh_pair.ensures.at_worst)
+
+pub returns-in_err-fresh_pair-clause-at_worst : goal.returns-in_err-fresh_pair-clause-at_worst
+returns-in_err-fresh_pair-clause-at_worst g c =
+    LeavesOnly-weaker (λ disk left. keeps_by_fresh (address_in c.args.pair.now) (address_of c.args.fresh) left) c.in_err-fresh_pair.ensures.at_worst
+
+pub compact-requires-clause-active : goal.compact-requires-clause-active
+compact-requires-clause-active g c =
+    let fresh = c.in_ok-fresh_pair.ensures in
+    subst (λ k. IsActive (disk_of k (g.D.BlockDevice.blocks c.write_fresh.new.dev)) c.args.pair.now) (sym fresh.geometry)
+    (IsActive-stays (pair_elsewhere c.requires.can.apart) fresh.others (is_active _ _ c.args.pair.now _ c.requires.can.commit.is_pair))
+
+pub returns-in_err-compact-clause-fault : goal.returns-in_err-compact-clause-fault
+returns-in_err-compact-clause-fault g c is =
+    let so_far = faults-since c.in_ok-fresh_pair.ensures.at_worst in
+    let rose = c.in_err-compact.ensures.fault (ap Err c.in_err-compact.ensures.errors) in
+    omega (arith, so_far, rose)
+
+pub returns-in_err-compact-clause-others : goal.returns-in_err-compact-clause-others
+returns-in_err-compact-clause-others g c =
+    keeps_by_both (address_in c.args.pair.now) (address_of c.args.fresh) c.in_ok-fresh_pair.ensures.others c.in_err-compact.ensures.others
+
+pub returns-in_err-compact-clause-elsewhere : goal.returns-in_err-compact-clause-elsewhere
+returns-in_err-compact-clause-elsewhere g c =
+    stays_by_both (address_in c.args.pair.now) (address_of c.args.fresh) c.in_ok-fresh_pair.ensures.elsewhere c.in_err-compact.ensures.elsewhere
+
+pub returns-in_err-compact-clause-stops : goal.returns-in_err-compact-clause-stops
+returns-in_err-compact-clause-stops g c cleanly =
+    let ready = is_splitting _ c.geometry-geometry.result _ _ c.args.pair.now (address_of c.args.fresh) c.args.block.now (changes_seen c.args.changes.now) (content_seen c.in_ok-front.front) (content_seen c.cut_off.new.content) (content_seen c.in_ok-back.back) c.geometry-geometry.ensures (g.met.D.BlockDevice.shape c.args.dev.now).count c.requires.can c.requires.block c.in_ok-front.ensures.content c.in_ok-front.ensures.logged c.in_ok-back.ensures.parts in
+    let fresh = c.in_ok-fresh_pair.ensures in
+    goes_on_by (LeavesOnly-weaker (λ disk left. left_while_fresh _ _ _ (changes_seen c.args.changes.now) disk ready.apart left) (LeavesOnly-worst fresh.at_worst))
+    (LeavesOnly-weaker (λ disk left. left_while_old _ _ _ (changes_seen c.args.changes.now) (g.D.BlockDevice.blocks c.write_fresh.new.dev) disk ready.apart fresh.others ready.made ready.parts (raw_held fresh.holds)
+      (subst (λ k. LeftWith (disk_of k (g.D.BlockDevice.blocks c.write_fresh.new.dev)) (address_in c.args.pair.now) (content_seen c.cut_off.new.content) disk) fresh.geometry left))
+    (c.in_err-compact.ensures.stops (EachSince-behind cleanly fresh.at_worst c.in_err-compact.ensures.at_worst)))
+
+pub returns-in_err-compact-clause-at_worst : goal.returns-in_err-compact-clause-at_worst
+returns-in_err-compact-clause-at_worst g c =
+    let fresh = c.in_ok-fresh_pair.ensures in
+    goes_on_by (LeavesOnly-weaker (λ disk left. keeps_by_fresh (address_in c.args.pair.now) (address_of c.args.fresh) left) fresh.at_worst)
+    (LeavesOnly-weaker (λ disk left. keeps_by_both (address_in c.args.pair.now) (address_of c.args.fresh) fresh.others left) c.in_err-compact.ensures.at_worst)
+
+pub returns-clause-splits : goal.returns-clause-splits
+returns-clause-splits g c =
+    let ready = is_splitting _ c.geometry-geometry.result _ _ c.args.pair.now (address_of c.args.fresh) c.args.block.now (changes_seen c.args.changes.now) (content_seen c.in_ok-front.front) (content_seen c.cut_off.new.content) (content_seen c.in_ok-back.back) c.geometry-geometry.ensures (g.met.D.BlockDevice.shape c.args.dev.now).count c.requires.can c.requires.block c.in_ok-front.ensures.content c.in_ok-front.ensures.logged c.in_ok-back.ensures.parts in
+    let fresh = c.in_ok-fresh_pair.ensures in
+    record {
+      new = ready.whole;
+      made = ready.made;
+      cut = ready.parts.cut;
+      is_cut = ready.parts.is_cut;
+      front = subst (NowHolds _ _ (address_in c.args.pair.now) c.compact.new.pair) ready.parts.front_is c.in_ok-compact.ensures.done;
+      back = subst (NowHolds _ _ (address_of c.args.fresh) c.in_ok-fresh_pair.fresh_pair) ready.parts.back_is
+        (subst (λ k. NowHolds (disk_of k (g.D.BlockDevice.blocks c.compact.new.dev)) (g.D.BlockDevice.history c.compact.new.dev) (address_of c.args.fresh) c.in_ok-fresh_pair.fresh_pair (content_seen c.in_ok-back.back)) (sym c.in_ok-compact.ensures.geometry)
+        (NowHolds-stays {disk = disk_of (g.D.BlockDevice.geometry c.write_fresh.new.dev) (g.D.BlockDevice.blocks c.write_fresh.new.dev)} (fresh_elsewhere ready.apart) c.in_ok-compact.ensures.others c.in_ok-compact.ensures.elsewhere fresh.holds));
+    }
+
+pub returns-clause-others : goal.returns-clause-others
+returns-clause-others g c =
+    keeps_by_both (address_in c.args.pair.now) (address_of c.args.fresh) c.in_ok-fresh_pair.ensures.others c.in_ok-compact.ensures.others
+
+pub returns-clause-elsewhere : goal.returns-clause-elsewhere
+returns-clause-elsewhere g c =
+    stays_by_both (address_in c.args.pair.now) (address_of c.args.fresh) c.in_ok-fresh_pair.ensures.elsewhere c.in_ok-compact.ensures.elsewhere
+
+pub returns-clause-stops : goal.returns-clause-stops
+returns-clause-stops g c cleanly =
+    let ready = is_splitting _ c.geometry-geometry.result _ _ c.args.pair.now (address_of c.args.fresh) c.args.block.now (changes_seen c.args.changes.now) (content_seen c.in_ok-front.front) (content_seen c.cut_off.new.content) (content_seen c.in_ok-back.back) c.geometry-geometry.ensures (g.met.D.BlockDevice.shape c.args.dev.now).count c.requires.can c.requires.block c.in_ok-front.ensures.content c.in_ok-front.ensures.logged c.in_ok-back.ensures.parts in
+    let fresh = c.in_ok-fresh_pair.ensures in
+    goes_on_by (LeavesOnly-weaker (λ disk left. left_while_fresh _ _ _ (changes_seen c.args.changes.now) disk ready.apart left) (LeavesOnly-worst fresh.at_worst))
+    (LeavesOnly-weaker (λ disk left. left_while_old _ _ _ (changes_seen c.args.changes.now) (g.D.BlockDevice.blocks c.write_fresh.new.dev) disk ready.apart fresh.others ready.made ready.parts (raw_held fresh.holds)
+      (subst (λ k. LeftWith (disk_of k (g.D.BlockDevice.blocks c.write_fresh.new.dev)) (address_in c.args.pair.now) (content_seen c.cut_off.new.content) disk) fresh.geometry left))
+    (c.in_ok-compact.ensures.stops (EachSince-behind cleanly fresh.at_worst c.in_ok-compact.ensures.at_worst)))
+
+pub returns-clause-at_worst : goal.returns-clause-at_worst
+returns-clause-at_worst g c =
+    let fresh = c.in_ok-fresh_pair.ensures in
+    goes_on_by (LeavesOnly-weaker (λ disk left. keeps_by_fresh (address_in c.args.pair.now) (address_of c.args.fresh) left) fresh.at_worst)
+    (LeavesOnly-weaker (λ disk left. keeps_by_both (address_in c.args.pair.now) (address_of c.args.fresh) fresh.others left) c.in_ok-compact.ensures.at_worst)

@@ -1,0 +1,96 @@
+-- What a commit to a pair does.
+use Rattle.std.specs.Prelude.{ℕ, ◌≡◌, ◌≢◌, ◌⊎◌, ◌+◌, ◌<◌, ◌≤◌, false, true, is_some, List, [], ◌∷◌, length, take, Option, Some}
+use Rattle.std.specs.Option.{option_and_then}
+use Rattle.lfs_model.specs.Blocks.{Blocks, SameButThese, block_in}
+use Rattle.lfs_model.specs.Disk.{Disk, block_at, block_count}
+use Rattle.lfs_model.specs.History.{Event, StayUnprogrammed, erases}
+use Rattle.lfs_model.specs.Log.{log_entries, revision_of}
+use Rattle.lfs_model.specs.Logged.{HaveNames}
+use Rattle.lfs_model.specs.Content.{RawContent, has_commit, raw_at, content_after_all, no_content}
+use Rattle.lfs_model.specs.Changes.{Change, changed_by, entries_of_changes}
+use Rattle.lfs_model.specs.Commit.{entries_size, page_end}
+use Rattle.lfs_model.specs.Written.{FitsRaw}
+use Rattle.lfs_pair.specs.declared.pair.Pair.{Pair}
+use Rattle.lfs_pair.specs.Pair.{IsPair, active_at, address_in}
+
+-- a pair's address: two blocks of the disk
+pub record IsAddressOn (disk : Disk) (at : ℕ × ℕ) : Type 0 where
+  pub apart : at.0 ≢ at.1
+  pub first : at.0 < block_count disk
+  pub second : at.1 < block_count disk
+
+-- what changes make of what a content holds, or a block's log, or a pair on the disk
+abbrev pub made_of : Option RawContent → List Change → Option RawContent
+made_of held changes = option_and_then (λ c. changed_by c changes) held
+
+abbrev pub made_in : List ℕ → List Change → Option RawContent
+made_in block changes = made_of (content_after_all no_content (log_entries block)) changes
+
+abbrev pub made_at : Disk → ℕ × ℕ → List Change → Option RawContent
+made_at disk at changes = made_of (raw_at disk at) changes
+
+-- The disk has the pair as the pair says, and the changes can be made: they are none that the log may not have, and each
+-- slot has a name afterwards.
+pub record CanCommit (disk : Disk) (history : List Event) (pair : Pair) (changes : List Change) : Type 0 where
+  pub address : IsAddressOn disk (address_in pair)
+  pub held : RawContent
+  pub is_pair : IsPair disk history pair held
+  pub new : RawContent
+  pub changed : changed_by held changes ≡ Some new
+  pub names : HaveNames new.slots
+
+-- the pair says which of its blocks holds
+pub record IsActive (disk : Disk) (pair : Pair) : Type 0 where
+  pub active : pair.active ≡ active_at disk (address_in pair)
+  pub has_commit : has_commit (block_at disk pair.active) ≡ true
+  pub revision_is : pair.revision ≡ revision_of (block_at disk pair.active)
+
+-- the pair holds that, and something was written since it was fetched
+pub record NowHolds (disk : Disk) (history : List Event) (at : ℕ × ℕ) (pair : Pair) (held : RawContent) : Type 0 where
+  pub is_pair : IsPair disk history pair held
+  pub same : address_in pair ≡ at
+  pub written : pair.is_fetched ≡ false
+
+-- What the changes make fits the pair, and the pair holds it.
+pub record Commits (old : Disk) (changes : List Change) (was : Pair) (disk : Disk) (history : List Event) (pair : Pair) : Type 0 where
+  pub new : RawContent
+  pub made : made_at old (address_in was) changes ≡ Some new
+  pub fits : FitsRaw old.block_size old.page new
+  pub holds : NowHolds disk history (address_in was) pair new
+
+-- the changes can be appended: something was written since the fetch, and the padded commit ends within the block
+pub record Appends (disk : Disk) (pair : Pair) (changes : List Change) : Type 0 where
+  pub written : pair.is_fetched ≡ false
+  pub room : pair.end + page_end disk.page (entries_size (entries_of_changes changes)) ≤ disk.block_size
+
+-- an append erases nothing, and leaves all bytes before the old end
+pub record IsAppended (was : Pair) (old new : Blocks) (before after : List Event) (pair : Pair) : Type 0 where
+  pub active : pair.active ≡ was.active
+  pub erases : erases after ≡ erases before
+  pub kept : take was.end (block_in new was.active) ≡ take was.end (block_in old was.active)
+
+-- a compaction erases the other block once, and leaves the block that held as it is
+pub record IsCompacted (was : Pair) (old new : Blocks) (before after : List Event) (pair : Pair) : Type 0 where
+  pub active : pair.active ≢ was.active
+  pub erases : erases after ≡ erases before + 1
+  pub kept : block_in new was.active ≡ block_in old was.active
+
+-- no block but the pair's changes
+abbrev pub OutsideKeeps : ℕ × ℕ → Blocks → Blocks → Type 0
+OutsideKeeps at old new = SameButThese (at.0 ∷ at.1 ∷ []) old new
+
+-- what was unprogrammed elsewhere still is
+abbrev pub OutsideStays : ℕ × ℕ → List Event → List Event → Type 0
+OutsideStays at old new = StayUnprogrammed (at.0 ∷ at.1 ∷ []) old new
+
+-- a stop leaves the pair with what it held, or with that content, and other blocks as they are
+pub record LeftWithAny (old : Disk) (at : ℕ × ℕ) (new : Option RawContent) (left : Blocks) : Type 0 where
+  pub others : OutsideKeeps at old.blocks left
+  pub content : (raw_at (record old { blocks = left }) at ≡ raw_at old at) ⊎ (raw_at (record old { blocks = left }) at ≡ new)
+
+abbrev pub LeftWith : Disk → ℕ × ℕ → RawContent → Blocks → Type 0
+LeftWith old at new left = LeftWithAny old at (Some new) left
+
+-- the same with all that changes make
+abbrev pub LeftByChange : Disk → ℕ × ℕ → List Change → Blocks → Type 0
+LeftByChange old at changes left = LeftWithAny old at (made_at old at changes) left

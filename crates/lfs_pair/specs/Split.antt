@@ -1,0 +1,72 @@
+-- What becomes of a pair that is split.
+use Rattle.std.specs.Prelude.{ℕ, ◌≡◌, ◌≢◌, ◌⊎◌, true, List, [], ◌∷◌, take, drop, Some}
+use Rattle.lfs_model.specs.Blocks.{Blocks, SameButThese}
+use Rattle.lfs_model.specs.Disk.{Disk}
+use Rattle.lfs_model.specs.History.{Event, StayUnprogrammed}
+use Rattle.lfs_model.specs.Slots.{no_gstate}
+use Rattle.lfs_model.specs.Content.{RawContent, raw_at}
+use Rattle.lfs_model.specs.Changes.{Change}
+use Rattle.lfs_pair.specs.declared.pair.Pair.{Pair}
+use Rattle.lfs_pair.specs.Pair.{address_in}
+use Rattle.lfs_pair.specs.Commit.{IsAddressOn, CanCommit, NowHolds, made_at}
+use Rattle.lfs_pair.specs.Cut.{CanBeCut, IsCut}
+
+-- no block is in both pairs
+pub record AreApart (at fresh : ℕ × ℕ) : Type 0 where
+  pub first_first : at.0 ≢ fresh.0
+  pub first_second : at.0 ≢ fresh.1
+  pub second_first : at.1 ≢ fresh.0
+  pub second_second : at.1 ≢ fresh.1
+
+-- what the changes make can be cut into two parts that each fit a pair
+pub record CanSplit (disk : Disk) (history : List Event) (pair : Pair) (fresh : ℕ × ℕ) (changes : List Change) : Type 0 where
+  pub commit : CanCommit disk history pair changes
+  pub fresh_is : IsAddressOn disk fresh
+  pub apart : AreApart (address_in pair) fresh
+  pub cut : CanBeCut disk.block_size disk.page commit.new.slots
+
+-- the first slots stay, with a hard tail to the fresh pair and the share of the global state
+abbrev pub front_of : RawContent → ℕ → ℕ × ℕ → RawContent
+front_of c cut fresh = record { slots = take cut c.slots; tail = Some (record { hard = true; to = fresh }); move = c.move }
+
+-- the others go to the fresh pair, with the tail
+abbrev pub back_of : RawContent → ℕ → RawContent
+back_of c cut = record { slots = drop cut c.slots; tail = c.tail; move = no_gstate }
+
+-- a content cut in two
+pub record AreParts (block_size page : ℕ) (whole : RawContent) (fresh : ℕ × ℕ) (front back : RawContent) : Type 0 where
+  pub cut : ℕ
+  pub is_cut : IsCut block_size page whole.slots cut
+  pub front_is : front ≡ front_of whole cut fresh
+  pub back_is : back ≡ back_of whole cut
+
+-- what the changes make stands in both pairs, each of which fits
+pub record Splits (old : Disk) (changes : List Change) (was : Pair) (fresh : ℕ × ℕ) (disk : Disk) (history : List Event) (pair fresh_pair : Pair) : Type 0 where
+  pub new : RawContent
+  pub made : made_at old (address_in was) changes ≡ Some new
+  pub cut : ℕ
+  pub is_cut : IsCut old.block_size old.page new.slots cut
+  pub front : NowHolds disk history (address_in was) pair (front_of new cut fresh)
+  pub back : NowHolds disk history fresh fresh_pair (back_of new cut)
+
+-- both pairs hold their parts
+pub record AreParted (old : Disk) (at fresh : ℕ × ℕ) (changes : List Change) (disk : Disk) : Type 0 where
+  pub new : RawContent
+  pub made : made_at old at changes ≡ Some new
+  pub cut : ℕ
+  pub is_cut : IsCut old.block_size old.page new.slots cut
+  pub front : raw_at disk at ≡ Some (front_of new cut fresh)
+  pub back : raw_at disk fresh ≡ Some (back_of new cut)
+
+-- no block but those of the two pairs changes
+abbrev pub OutsideBothKeeps : ℕ × ℕ → ℕ × ℕ → Blocks → Blocks → Type 0
+OutsideBothKeeps at fresh old new = SameButThese (at.0 ∷ at.1 ∷ fresh.0 ∷ fresh.1 ∷ []) old new
+
+-- what was unprogrammed elsewhere still is
+abbrev pub OutsideBothStays : ℕ × ℕ → ℕ × ℕ → List Event → List Event → Type 0
+OutsideBothStays at fresh old new = StayUnprogrammed (at.0 ∷ at.1 ∷ fresh.0 ∷ fresh.1 ∷ []) old new
+
+-- a stop leaves the pair with what it held, or both pairs with their parts
+pub record LeftBySplit (old : Disk) (at fresh : ℕ × ℕ) (changes : List Change) (left : Blocks) : Type 0 where
+  pub others : OutsideBothKeeps at fresh old.blocks left
+  pub content : (raw_at (record old { blocks = left }) at ≡ raw_at old at) ⊎ AreParted old at fresh changes (record old { blocks = left })

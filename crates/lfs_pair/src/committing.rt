@@ -1,0 +1,214 @@
+// Changes committed to a pair.
+
+ghost use Rattle.std.specs.Prelude.{◌≡◌, ◌⊎◌, ◌<◌, true, false, IfErr, OnOk, Some, length};
+ghost use Rattle.lfs_device.specs.Shown.{disk_of};
+ghost use Rattle.lfs_model.specs.Blocks.{block_in};
+ghost use Rattle.lfs_model.specs.History.{AtWorst, EachSince, LeavesOnly, OnlyReads, faults};
+ghost use Rattle.lfs_model.specs.Stops.{ErasesCleanly, Stops};
+ghost use Rattle.lfs_model.specs.Content.{RawContent};
+ghost use Rattle.lfs_model.specs.Written.{FitsRaw};
+ghost use Rattle.lfs_model.specs.Logged.{HaveNames, IsLogged};
+ghost use Rattle.lfs_tag.specs.ContentSeen.{content_seen};
+ghost use Rattle.lfs_pair.specs.Pair.{address_in};
+ghost use Rattle.lfs_pair.specs.ChangeSeen.{changes_seen};
+ghost use Rattle.lfs_pair.specs.Commit.{made_at, CanCommit, Commits, NowHolds, Appends, IsAddressOn, IsAppended, IsCompacted, OutsideKeeps, OutsideStays, IsActive, LeftByChange, LeftWith};
+
+use crate::change::Change;
+use crate::entries::push_changes;
+use crate::making::made_in;
+use crate::pair::Pair;
+use crate::size::fits;
+use crate::writing::{program, write_anew};
+use lfs_device::{BlockDevice, Error, read_block};
+use lfs_tag::{CommitBuilder, Content};
+use std::alloc::Global;
+
+/// What became of a commit.
+#[derive(Clone, Copy, Debug, PartialEq, Eq, Drop)]
+pub enum Outcome {
+    /// The pair holds what the changes make.
+    Done,
+    /// That doesn't fit the pair; nothing was written.
+    Full,
+}
+
+/// Commits changes to a pair, all of them or, where power is lost on the way, none. They are
+/// appended to the log of the block that holds where the padded commit ends within the block.
+/// Else, and first of all after a [`fetch`](crate::fetch), since nothing is known of what lies
+/// behind the log then, the pair's other block is erased, and what the pair is to hold is written
+/// into it (DESIGN.md of littlefs, "Metadata pairs").
+///
+/// `Full` exactly where what the changes make exceeds what [`fits`] a pair; nothing is written
+/// then, and the pair stays as it was. `NoMemory` where there is no room for two blocks and the
+/// slots; nothing is written then either. `Io` where a call of the device failed. After an error
+/// nothing is known of `pair`, and its blocks are to be fetched again.
+///
+/// That the device has the pair as its last call left it, that the changes may stand in its log,
+/// and that each slot has a name afterwards, are the caller's conditions.
+pub fn commit<D: BlockDevice>(
+    alloc: Global,
+    dev: &mut D,
+    pair: &mut Pair,
+    changes: &[Change<'_>],
+) -> Result<Outcome, Error>
+    requires { CanCommit (disk_of (D.geometry dev.old) (D.blocks dev.old)) (D.history dev.old) pair.old (changes_seen changes.now) }
+
+    ensures done { result ≡ Ok Outcome.Done
+        → Commits (disk_of (D.geometry dev.old) (D.blocks dev.old)) (changes_seen changes.now) pair.old (disk_of (D.geometry dev.new) (D.blocks dev.new)) (D.history dev.new) pair.new }
+    ensures appended { result ≡ Ok Outcome.Done
+        → Appends (disk_of (D.geometry dev.old) (D.blocks dev.old)) pair.old (changes_seen changes.now)
+        → IsAppended pair.old (D.blocks dev.old) (D.blocks dev.new) (D.history dev.old) (D.history dev.new) pair.new }
+    ensures compacted { result ≡ Ok Outcome.Done
+        → ¬ Appends (disk_of (D.geometry dev.old) (D.blocks dev.old)) pair.old (changes_seen changes.now)
+        → IsCompacted pair.old (D.blocks dev.old) (D.blocks dev.new) (D.history dev.old) (D.history dev.new) pair.new }
+
+    ensures full { result ≡ Ok Outcome.Full → (new : RawContent)
+        → made_at (disk_of (D.geometry dev.old) (D.blocks dev.old)) (address_in pair.old) (changes_seen changes.now) ≡ Some new
+        → ¬ FitsRaw (D.geometry dev.old).block_size (D.geometry dev.old).page new }
+    ensures full_pair { result ≡ Ok Outcome.Full → pair.new ≡ pair.old }
+    ensures full_same { result ≡ Ok Outcome.Full → D.blocks dev.new ≡ D.blocks dev.old }
+    ensures full_reads { result ≡ Ok Outcome.Full → OnlyReads (D.blocks dev.old) (D.history dev.old) (D.history dev.new) }
+    ensures no_memory { result ≡ Err Error.NoMemory → D.blocks dev.new ≡ D.blocks dev.old }
+    ensures no_memory_reads { result ≡ Err Error.NoMemory → OnlyReads (D.blocks dev.old) (D.history dev.old) (D.history dev.new) }
+    ensures errors { IfErr result (λ e. (e ≡ Error.Io) ⊎ (e ≡ Error.NoMemory)) }
+    ensures fault { result ≡ Err Error.Io → faults (D.history dev.old) < faults (D.history dev.new) }
+
+    ensures others { OutsideKeeps (address_in pair.old) (D.blocks dev.old) (D.blocks dev.new) }
+    ensures elsewhere { OutsideStays (address_in pair.old) (D.history dev.old) (D.history dev.new) }
+    ensures geometry { D.geometry dev.new ≡ D.geometry dev.old }
+    ensures stops { EachSince ErasesCleanly (D.history dev.old) (D.history dev.new)
+        → LeavesOnly Stops (D.history dev.old) (D.history dev.new) (LeftByChange (disk_of (D.geometry dev.old) (D.blocks dev.old)) (address_in pair.old) (changes_seen changes.now)) }
+    ensures at_worst { LeavesOnly AtWorst (D.history dev.old) (D.history dev.new) (OutsideKeeps (address_in pair.old) (D.blocks dev.old)) }
+{
+    let block = read_block(alloc, dev, pair.active)?;
+    let outcome = carry_out(alloc, dev, pair, &block, changes)?;
+    Ok(outcome)
+}
+
+// Commits the changes to the pair whose active block has these bytes.
+fn carry_out<'a, 'b: 'a, D: BlockDevice>(
+    alloc: Global,
+    dev: &mut D,
+    pair: &mut Pair,
+    block: &'a [u8],
+    changes: &[Change<'b>],
+) -> Result<Outcome, Error>
+    requires can { CanCommit (disk_of (D.geometry dev.old) (D.blocks dev.old)) (D.history dev.old) pair.old (changes_seen changes.now) }
+    requires block { block.now ≡ block_in (D.blocks dev.old) pair.old.active }
+
+    ensures done { result ≡ Ok Outcome.Done
+        → Commits (disk_of (D.geometry dev.old) (D.blocks dev.old)) (changes_seen changes.now) pair.old (disk_of (D.geometry dev.new) (D.blocks dev.new)) (D.history dev.new) pair.new }
+    ensures appended { result ≡ Ok Outcome.Done
+        → Appends (disk_of (D.geometry dev.old) (D.blocks dev.old)) pair.old (changes_seen changes.now)
+        → IsAppended pair.old (D.blocks dev.old) (D.blocks dev.new) (D.history dev.old) (D.history dev.new) pair.new }
+    ensures compacted { result ≡ Ok Outcome.Done
+        → ¬ Appends (disk_of (D.geometry dev.old) (D.blocks dev.old)) pair.old (changes_seen changes.now)
+        → IsCompacted pair.old (D.blocks dev.old) (D.blocks dev.new) (D.history dev.old) (D.history dev.new) pair.new }
+
+    ensures full { result ≡ Ok Outcome.Full → (new : RawContent)
+        → made_at (disk_of (D.geometry dev.old) (D.blocks dev.old)) (address_in pair.old) (changes_seen changes.now) ≡ Some new
+        → ¬ FitsRaw (D.geometry dev.old).block_size (D.geometry dev.old).page new }
+    ensures full_pair { result ≡ Ok Outcome.Full → pair.new ≡ pair.old }
+    ensures full_dev { result ≡ Ok Outcome.Full → dev.new ≡ dev.old }
+    ensures no_memory { result ≡ Err Error.NoMemory → dev.new ≡ dev.old }
+    ensures errors { IfErr result (λ e. (e ≡ Error.Io) ⊎ (e ≡ Error.NoMemory)) }
+    ensures fault { result ≡ Err Error.Io → faults (D.history dev.old) < faults (D.history dev.new) }
+
+    ensures others { OutsideKeeps (address_in pair.old) (D.blocks dev.old) (D.blocks dev.new) }
+    ensures elsewhere { OutsideStays (address_in pair.old) (D.history dev.old) (D.history dev.new) }
+    ensures geometry { D.geometry dev.new ≡ D.geometry dev.old }
+    ensures stops { EachSince ErasesCleanly (D.history dev.old) (D.history dev.new)
+        → LeavesOnly Stops (D.history dev.old) (D.history dev.new) (LeftByChange (disk_of (D.geometry dev.old) (D.blocks dev.old)) (address_in pair.old) (changes_seen changes.now)) }
+    ensures at_worst { LeavesOnly AtWorst (D.history dev.old) (D.history dev.new) (OutsideKeeps (address_in pair.old) (D.blocks dev.old)) }
+{
+    let geometry = dev.geometry();
+    let content = made_in(alloc, block, changes)?;
+    if !fits(&content, geometry) {
+        return Ok(Outcome::Full);
+    }
+    let mut buf = Vec::from_elem(alloc, 0u8, geometry.block_size as usize)?;
+    if append(dev, pair, changes, &content, &mut buf)? {
+        return Ok(Outcome::Done);
+    }
+    compact(dev, pair, &content, &mut buf)?;
+    Ok(Outcome::Done)
+}
+
+// Appends the changes, which make the content, to the block that holds, where they fit behind its
+// log. Says whether they do.
+fn append<D: BlockDevice>(
+    dev: &mut D,
+    pair: &mut Pair,
+    changes: &[Change<'_>],
+    content: &Content<'_>,
+    buf: &mut [u8],
+) -> Result<bool, Error>
+    requires can { CanCommit (disk_of (D.geometry dev.old) (D.blocks dev.old)) (D.history dev.old) pair.old (changes_seen changes.now) }
+    requires made { made_at (disk_of (D.geometry dev.old) (D.blocks dev.old)) (address_in pair.old) (changes_seen changes.now) ≡ Some (content_seen content.now) }
+    requires buf { length buf.old ≡ (D.geometry dev.old).block_size }
+
+    ensures done { result ≡ Ok true
+        → NowHolds (disk_of (D.geometry dev.new) (D.blocks dev.new)) (D.history dev.new) (address_in pair.old) pair.new (content_seen content.now) }
+    ensures appends { result ≡ Ok true → Appends (disk_of (D.geometry dev.old) (D.blocks dev.old)) pair.old (changes_seen changes.now) }
+    ensures appended { result ≡ Ok true → IsAppended pair.old (D.blocks dev.old) (D.blocks dev.new) (D.history dev.old) (D.history dev.new) pair.new }
+    ensures no_room { result ≡ Ok false → ¬ Appends (disk_of (D.geometry dev.old) (D.blocks dev.old)) pair.old (changes_seen changes.now) }
+    ensures no_room_pair { result ≡ Ok false → pair.new ≡ pair.old }
+    ensures no_room_dev { result ≡ Ok false → dev.new ≡ dev.old }
+    ensures no_room_buf { length buf.new ≡ length buf.old }
+    ensures errors { IfErr result (λ e. e ≡ Error.Io) }
+    ensures fault { result ≡ Err Error.Io → faults (D.history dev.old) < faults (D.history dev.new) }
+
+    ensures others { OutsideKeeps (address_in pair.old) (D.blocks dev.old) (D.blocks dev.new) }
+    ensures elsewhere { OutsideStays (address_in pair.old) (D.history dev.old) (D.history dev.new) }
+    ensures geometry { D.geometry dev.new ≡ D.geometry dev.old }
+    ensures stops { LeavesOnly Stops (D.history dev.old) (D.history dev.new) (LeftByChange (disk_of (D.geometry dev.old) (D.blocks dev.old)) (address_in pair.old) (changes_seen changes.now)) }
+    ensures at_worst { LeavesOnly AtWorst (D.history dev.old) (D.history dev.new) (OutsideKeeps (address_in pair.old) (D.blocks dev.old)) }
+{
+    let geometry = dev.geometry();
+    let mut builder = CommitBuilder::new(geometry.page, buf, pair.last, None);
+    push_changes(&mut builder, changes);
+    let room = geometry.block_size - pair.end as u32;
+    if pair.is_fetched || room < builder.end() {
+        return Ok(false);
+    }
+    let written = program(dev, pair.active, pair.end as u32, builder)?;
+    *pair = Pair::written(pair.blocks, pair.active, pair.revision, written, content);
+    Ok(true)
+}
+
+// Writes the content into the pair's other block.
+pub(crate) fn compact<D: BlockDevice>(
+    dev: &mut D,
+    pair: &mut Pair,
+    content: &Content<'_>,
+    buf: &mut [u8],
+) -> Result<(), Error>
+    requires address { IsAddressOn (disk_of (D.geometry dev.old) (D.blocks dev.old)) (address_in pair.old) }
+    requires active { IsActive (disk_of (D.geometry dev.old) (D.blocks dev.old)) pair.old }
+    requires buf { length buf.old ≡ (D.geometry dev.old).block_size }
+    requires logged { IsLogged (content_seen content.now) }
+    requires names { HaveNames (content_seen content.now).slots }
+    requires fits { FitsRaw (D.geometry dev.old).block_size (D.geometry dev.old).page (content_seen content.now) }
+
+    ensures buf { length buf.new ≡ length buf.old }
+    ensures done { OnOk result (NowHolds (disk_of (D.geometry dev.new) (D.blocks dev.new)) (D.history dev.new) (address_in pair.old) pair.new (content_seen content.now)) }
+    ensures compacted { OnOk result (IsCompacted pair.old (D.blocks dev.old) (D.blocks dev.new) (D.history dev.old) (D.history dev.new) pair.new) }
+    ensures errors { IfErr result (λ e. e ≡ Error.Io) }
+    ensures fault { result ≡ Err Error.Io → faults (D.history dev.old) < faults (D.history dev.new) }
+
+    ensures others { OutsideKeeps (address_in pair.old) (D.blocks dev.old) (D.blocks dev.new) }
+    ensures elsewhere { OutsideStays (address_in pair.old) (D.history dev.old) (D.history dev.new) }
+    ensures geometry { D.geometry dev.new ≡ D.geometry dev.old }
+    ensures stops { EachSince ErasesCleanly (D.history dev.old) (D.history dev.new)
+        → LeavesOnly Stops (D.history dev.old) (D.history dev.new) (LeftWith (disk_of (D.geometry dev.old) (D.blocks dev.old)) (address_in pair.old) (content_seen content.now)) }
+    ensures at_worst { LeavesOnly AtWorst (D.history dev.old) (D.history dev.new) (OutsideKeeps (address_in pair.old) (D.blocks dev.old)) }
+{
+    let other = pair.other();
+    let revision = pair.revision.wrapping_add(1);
+    let written = write_anew(dev, other, revision, content, buf)?;
+    *pair = Pair::written(pair.blocks, other, revision, written, content);
+    Ok(())
+}
+
+#[cfg(test)]
+mod tests;

@@ -1,0 +1,175 @@
+// The entries of changes and of contents, put into a commit.
+
+ghost use Rattle.std.specs.Prelude.{◌≡◌, ◌≢◌, ◌+◌, ◌/◌, ◌<◌, ◌≤◌, ◌^◌, true, [], ◌∷◌, length, map};
+ghost use Rattle.std.specs.List.{list_all};
+ghost use Rattle.std.specs.Option.{option_map};
+ghost use Rattle.lfs_model.specs.Slots.{address_of};
+ghost use Rattle.lfs_model.specs.Logged.{Ascend, HasParts, HaveParts, IsLogged, IsMoveState, IsPartIfSome};
+ghost use Rattle.lfs_model.specs.Written.{part_entries, attribute_entries, entries_of_slot, entries_of_slots, tail_entries, tail_entry, move_entry, move_entries, entries_of, entry_with};
+ghost use Rattle.lfs_model.specs.Changes.{entries_of_change, entries_of_changes, is_storable, RemoveAttribute};
+ghost use Rattle.lfs_tag.specs.ContentSeen.{part_seen, attribute_seen, slot_seen, tail_seen, content_seen};
+ghost use Rattle.lfs_tag.specs.FieldsSeen.{move_seen};
+ghost use Rattle.lfs_pair.specs.ChangeSeen.{change_seen, changes_seen};
+ghost use Rattle.lfs_pair.specs.Writing.{with_entries};
+
+use crate::change::Change;
+use lfs_tag::kinds::{ATTRIBUTE, CREATE, DELETE, HARD_TAIL, MOVE_STATE, SOFT_TAIL};
+use lfs_tag::{
+    Attribute, CommitBuilder, Content, MoveState, NULL_ADDRESS, Part, Slot, Tag, Tail, move_bytes,
+    pair_bytes,
+};
+
+// Adds an entry with these fields.
+fn push(builder: &mut CommitBuilder<'_>, kind: u16, id: u16, bytes: &[u8])
+    requires kind { kind < 2 ^ 11 }
+    requires other { kind / 2 ^ 8 ≢ 5 }
+    requires id { id < 2 ^ 10 }
+    requires bytes { length bytes.now ≤ 1022 }
+    ensures { builder.new ≡ with_entries (entry_with kind id bytes.now ∷ []) builder.old }
+{
+    builder.push(Tag::new(kind, id, bytes.len() as u16), bytes);
+}
+
+// Adds an entry that removes an attribute.
+fn push_removal(builder: &mut CommitBuilder<'_>, id: u16, attr: u8)
+    requires { id < 2 ^ 10 }
+    ensures { builder.new ≡ with_entries (entries_of_change (RemoveAttribute id attr)) builder.old }
+{
+    builder.push(Tag::new(ATTRIBUTE + u16::from(attr), id, Tag::REMOVED), &[]);
+}
+
+// Adds a tail; without a pair it is two null addresses.
+fn push_tail(builder: &mut CommitBuilder<'_>, hard: bool, pair: Option<[u32; 2]>)
+    ensures { builder.new ≡ with_entries (tail_entry hard (option_map address_of pair) ∷ []) builder.old }
+{
+    let kind = if hard { HARD_TAIL } else { SOFT_TAIL };
+    let pair = pair.unwrap_or([NULL_ADDRESS, NULL_ADDRESS]);
+    push(builder, kind, Tag::NO_ID, &pair_bytes(pair));
+}
+
+// Adds a move state.
+fn push_move(builder: &mut CommitBuilder<'_>, state: &MoveState)
+    requires { IsMoveState (move_seen state.now) }
+    ensures { builder.new ≡ with_entries (move_entry (move_seen state.now) ∷ []) builder.old }
+{
+    push(builder, MOVE_STATE, Tag::NO_ID, &move_bytes(state));
+}
+
+// ---- changes
+
+// Adds the entries of a change.
+fn push_change(builder: &mut CommitBuilder<'_>, change: &Change<'_>)
+    requires { is_storable (change_seen change.now) ≡ true }
+    ensures { builder.new ≡ with_entries (entries_of_change (change_seen change.now)) builder.old }
+{
+    match *change {
+        Change::Create { id, kind, name } => {
+            push(builder, CREATE, id, &[]);
+            push(builder, kind, id, name);
+        }
+        Change::Delete { id } => push(builder, DELETE, id, &[]),
+        Change::Struct { id, kind, bytes } => push(builder, kind, id, bytes),
+        Change::Attr { id, attr, bytes } => {
+            push(builder, ATTRIBUTE + u16::from(attr), id, bytes);
+        }
+        Change::NoAttr { id, attr } => push_removal(builder, id, attr),
+        Change::Tail { hard, pair } => push_tail(builder, hard, pair),
+        Change::Move { state } => push_move(builder, &state),
+    }
+}
+
+// Adds the entries of all changes, in order.
+pub(crate) fn push_changes(builder: &mut CommitBuilder<'_>, changes: &[Change<'_>])
+    requires { list_all is_storable (changes_seen changes.now) ≡ true }
+    ensures { builder.new ≡ with_entries (entries_of_changes (changes_seen changes.now)) builder.old }
+{
+    for change in changes {
+        push_change(builder, change);
+    }
+}
+
+// ---- contents
+
+// Adds a name or a struct, if there is one.
+fn push_part(builder: &mut CommitBuilder<'_>, id: u16, part: &Option<Part<'_>>, class: u16)
+    requires id { id < 2 ^ 10 }
+    requires class { class < 5 }
+    requires part { IsPartIfSome class (option_map part_seen part.now) }
+    ensures { builder.new ≡ with_entries (part_entries id (option_map part_seen part.now)) builder.old }
+{
+    if let Some(part) = part {
+        push(builder, part.kind, id, part.bytes);
+    }
+}
+
+// Adds attributes.
+fn push_attributes(builder: &mut CommitBuilder<'_>, id: u16, attributes: &[Attribute<'_>])
+    requires id { id < 2 ^ 10 }
+    requires attributes { Ascend 0 (map attribute_seen attributes.now) }
+    ensures { builder.new ≡ with_entries (attribute_entries id (map attribute_seen attributes.now)) builder.old }
+{
+    for attribute in attributes {
+        push(
+            builder,
+            ATTRIBUTE + u16::from(attribute.kind),
+            id,
+            attribute.bytes,
+        );
+    }
+}
+
+// Adds a slot.
+fn push_slot(builder: &mut CommitBuilder<'_>, id: u16, slot: &Slot<'_>)
+    requires id { id < 2 ^ 10 }
+    requires parts { HasParts (slot_seen slot.now) }
+    ensures { builder.new ≡ with_entries (entries_of_slot id (slot_seen slot.now)) builder.old }
+{
+    push_part(builder, id, &slot.name, 0);
+    push_part(builder, id, &slot.structure, 2);
+    push_attributes(builder, id, &slot.attributes);
+}
+
+// Adds slots, from id 0 on.
+fn push_slots(builder: &mut CommitBuilder<'_>, slots: &[Slot<'_>])
+    requires few { length slots.now < 0x3ff }
+    requires parts { HaveParts (map slot_seen slots.now) }
+    ensures { builder.new ≡ with_entries (entries_of_slots 0 (map slot_seen slots.now)) builder.old }
+{
+    let mut id = 0;
+    for slot in slots {
+        push_slot(builder, id, slot);
+        id += 1;
+    }
+}
+
+// Adds a tail, if there is one.
+fn push_tail_if_some(builder: &mut CommitBuilder<'_>, tail: &Option<Tail>)
+    ensures { builder.new ≡ with_entries (tail_entries (option_map tail_seen tail.now)) builder.old }
+{
+    if let Some(tail) = tail {
+        push_tail(builder, tail.hard, Some(tail.pair));
+    }
+}
+
+// Adds a move state, unless it is zero.
+fn push_move_if_any(builder: &mut CommitBuilder<'_>, state: &MoveState)
+    requires { IsMoveState (move_seen state.now) }
+    ensures { builder.new ≡ with_entries (move_entries (move_seen state.now)) builder.old }
+{
+    let is_zero = !state.sync && state.kind == 0 && state.id == 0 && state.pair == [0, 0];
+    if !is_zero {
+        push_move(builder, state);
+    }
+}
+
+// Adds the entries that write a content into an empty log: each slot's name, struct and attributes
+// by ascending type, then the tail and the move state where there are such.
+pub(crate) fn push_content(builder: &mut CommitBuilder<'_>, content: &Content<'_>)
+    requires logged { IsLogged (content_seen content.now) }
+    requires few { length (content_seen content.now).slots < 0x3ff }
+    ensures { builder.new ≡ with_entries (entries_of (content_seen content.now)) builder.old }
+{
+    push_slots(builder, &content.slots);
+    push_tail_if_some(builder, &content.tail);
+    push_move_if_any(builder, &content.move_state);
+}

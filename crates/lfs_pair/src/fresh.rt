@@ -1,0 +1,126 @@
+// New pairs.
+
+ghost use Rattle.std.specs.Prelude.{◌≡◌, ◌⊎◌, ◌+◌, ◌<◌, false, [], ◌∷◌, length, IfErr, IfOk, OnOk};
+ghost use Rattle.lfs_device.specs.Shown.{disk_of};
+ghost use Rattle.lfs_model.specs.Blocks.{block_in, SameBut};
+ghost use Rattle.lfs_model.specs.History.{AtWorst, LeavesOnly, StayUnprogrammed, erases, faults};
+ghost use Rattle.lfs_model.specs.Content.{has_commit};
+ghost use Rattle.lfs_model.specs.Logged.{HaveNames, IsLogged};
+ghost use Rattle.lfs_model.specs.Slots.{address_of};
+ghost use Rattle.lfs_model.specs.Written.{FitsRaw};
+ghost use Rattle.lfs_tag.specs.ContentSeen.{content_seen};
+ghost use Rattle.lfs_pair.specs.ChangeSeen.{changes_seen};
+ghost use Rattle.lfs_pair.specs.Commit.{IsAddressOn, NowHolds, OutsideKeeps, OutsideStays};
+ghost use Rattle.lfs_pair.specs.Fresh.{CanBeFresh, IsFresh};
+
+use crate::change::Change;
+use crate::making::made_of_nothing;
+use crate::pair::Pair;
+use crate::writing::write_anew;
+use lfs_device::{BlockDevice, Error};
+use lfs_tag::{Content, Log};
+use std::alloc::Global;
+
+// The revision of a pair's first log.
+const FIRST_REVISION: u32 = 1;
+
+// The longest page.
+const ZEROS: [u8; 512] = [0; 512];
+
+// Erases a block, and leaves no log in it: where an old one is still there, since an erase may
+// leave any bytes, its first page is programmed with zeros. The buffer is as long as a block.
+fn clear<D: BlockDevice>(dev: &mut D, block: u32, buf: &mut [u8]) -> Result<(), Error>
+    requires in_device { block < (D.geometry dev.old).block_count }
+    requires buf { length buf.old ≡ (D.geometry dev.old).block_size }
+    ensures cleared { OnOk result (has_commit (block_in (D.blocks dev.new) block) ≡ false) }
+    ensures buf { length buf.new ≡ length buf.old }
+    ensures erases { OnOk result (erases (D.history dev.new) ≡ erases (D.history dev.old) + 1) }
+    ensures others { SameBut block (D.blocks dev.old) (D.blocks dev.new) }
+    ensures elsewhere { StayUnprogrammed (block ∷ []) (D.history dev.old) (D.history dev.new) }
+    ensures geometry { D.geometry dev.new ≡ D.geometry dev.old }
+    ensures errors { IfErr result (λ e. e ≡ Error.Io) }
+    ensures fault { result ≡ Err Error.Io → faults (D.history dev.old) < faults (D.history dev.new) }
+    ensures at_worst { LeavesOnly AtWorst (D.history dev.old) (D.history dev.new) (SameBut block (D.blocks dev.old)) }
+{
+    let page = dev.geometry().page as usize;
+    dev.erase(block)?;
+    dev.read(block, 0, buf)?;
+    if Log::read(buf).has_commit() {
+        dev.prog(block, 0, &ZEROS[..page])?;
+    }
+    Ok(())
+}
+
+// Makes a pair of two blocks that holds the content in the first of them.
+pub(crate) fn write_fresh<D: BlockDevice>(
+    dev: &mut D,
+    blocks: [u32; 2],
+    content: &Content<'_>,
+    buf: &mut [u8],
+) -> Result<Pair, Error>
+    requires address { IsAddressOn (disk_of (D.geometry dev.old) (D.blocks dev.old)) (address_of blocks) }
+    requires buf { length buf.old ≡ (D.geometry dev.old).block_size }
+    requires logged { IsLogged (content_seen content.now) }
+    requires names { HaveNames (content_seen content.now).slots }
+    requires fits { FitsRaw (D.geometry dev.old).block_size (D.geometry dev.old).page (content_seen content.now) }
+
+    ensures holds { IfOk result (λ pair. NowHolds (disk_of (D.geometry dev.new) (D.blocks dev.new)) (D.history dev.new) (address_of blocks) pair (content_seen content.now)) }
+    ensures active { IfOk result (λ pair. pair.active ≡ (address_of blocks).0) }
+    ensures revision { IfOk result (λ pair. pair.revision ≡ 1) }
+    ensures buf { length buf.new ≡ length buf.old }
+    ensures erases { OnOk result (erases (D.history dev.new) ≡ erases (D.history dev.old) + 2) }
+    ensures others { OutsideKeeps (address_of blocks) (D.blocks dev.old) (D.blocks dev.new) }
+    ensures elsewhere { OutsideStays (address_of blocks) (D.history dev.old) (D.history dev.new) }
+    ensures geometry { D.geometry dev.new ≡ D.geometry dev.old }
+    ensures errors { IfErr result (λ e. e ≡ Error.Io) }
+    ensures fault { result ≡ Err Error.Io → faults (D.history dev.old) < faults (D.history dev.new) }
+    ensures at_worst { LeavesOnly AtWorst (D.history dev.old) (D.history dev.new) (OutsideKeeps (address_of blocks) (D.blocks dev.old)) }
+{
+    let [first, second] = blocks;
+    clear(dev, second, buf)?;
+    let written = write_anew(dev, first, FIRST_REVISION, content, buf)?;
+    Ok(Pair::written(blocks, first, FIRST_REVISION, written, content))
+}
+
+impl Pair {
+    /// Makes a pair of two blocks, whatever they hold, and commits the changes to it. Both are
+    /// erased; the first then holds, with revision 1. Where the second still has a log after its
+    /// erase, which may leave any bytes, its first page is programmed with zeros before the first
+    /// is written, so that no old log is taken for the pair's.
+    ///
+    /// `NoMemory` where there is no room for a block and the slots; the device is untouched then.
+    /// `Io` where a call of the device failed. After it, and after a loss of power on the way, the
+    /// two blocks may hold any bytes, and each other block what it held.
+    ///
+    /// That the two blocks differ and are in the device, that the changes may stand in an empty
+    /// log, that each slot has a name afterwards, and that they [`fit`](crate::fits), are the
+    /// caller's conditions.
+    pub fn fresh<D: BlockDevice>(
+        alloc: Global,
+        dev: &mut D,
+        blocks: [u32; 2],
+        changes: &[Change<'_>],
+    ) -> Result<Pair, Error>
+        requires { CanBeFresh (disk_of (D.geometry dev.old) (D.blocks dev.old)) (address_of blocks) (changes_seen changes.now) }
+
+        ensures fresh { IfOk result (λ pair. IsFresh (changes_seen changes.now) (disk_of (D.geometry dev.new) (D.blocks dev.new)) (D.history dev.new) (address_of blocks) pair) }
+        ensures erases { OnOk result (erases (D.history dev.new) ≡ erases (D.history dev.old) + 2) }
+        ensures no_memory { result ≡ Err Error.NoMemory → dev.new ≡ dev.old }
+        ensures errors { IfErr result (λ e. (e ≡ Error.Io) ⊎ (e ≡ Error.NoMemory)) }
+        ensures fault { result ≡ Err Error.Io → faults (D.history dev.old) < faults (D.history dev.new) }
+
+        ensures others { OutsideKeeps (address_of blocks) (D.blocks dev.old) (D.blocks dev.new) }
+        ensures elsewhere { OutsideStays (address_of blocks) (D.history dev.old) (D.history dev.new) }
+        ensures geometry { D.geometry dev.new ≡ D.geometry dev.old }
+        ensures stops { LeavesOnly AtWorst (D.history dev.old) (D.history dev.new) (OutsideKeeps (address_of blocks) (D.blocks dev.old)) }
+    {
+        let content = made_of_nothing(alloc, changes)?;
+        let block_size = dev.geometry().block_size as usize;
+        let mut buf = Vec::from_elem(alloc, 0u8, block_size)?;
+        let pair = write_fresh(dev, blocks, &content, &mut buf)?;
+        Ok(pair)
+    }
+}
+
+#[cfg(test)]
+mod tests;

@@ -1,0 +1,71 @@
+// What changes make of what a block holds.
+
+ghost use Rattle.std.specs.Prelude.{◌≡◌, true, is_some, IfOk, IfErr, Some, length, None};
+ghost use Rattle.lfs_model.specs.Content.{no_content};
+ghost use Rattle.lfs_model.specs.Logged.{IsLogged};
+ghost use Rattle.lfs_tag.specs.ContentSeen.{content_seen};
+ghost use Rattle.lfs_pair.specs.ChangeSeen.{changes_seen};
+ghost use Rattle.lfs_pair.specs.Commit.{made_of, made_in};
+
+use crate::change::{Change, apply_all};
+use lfs_device::Error;
+use lfs_tag::{Content, ContentError, Log, MoveState};
+use std::alloc::Global;
+
+// Nothing.
+fn empty<'a>(alloc: Global) -> Content<'a>
+    ensures { content_seen result ≡ no_content }
+{
+    Content {
+        slots: Vec::new(alloc),
+        tail: None,
+        move_state: MoveState {
+            sync: false,
+            kind: 0,
+            id: 0,
+            pair: [0, 0],
+        },
+    }
+}
+
+// What the changes make of nothing.
+pub(crate) fn made_of_nothing<'a>(
+    alloc: Global,
+    changes: &[Change<'a>],
+) -> Result<Content<'a>, Error>
+    requires { is_some (made_of (Some no_content) (changes_seen changes.now)) ≡ true }
+    ensures content { IfOk result (λ c. made_of (Some no_content) (changes_seen changes.now) ≡ Some (content_seen c)) }
+    ensures logged { IfOk result (λ c. IsLogged (content_seen c)) }
+    ensures errors { IfErr result (λ e. e ≡ Error.NoMemory) }
+{
+    let mut content = empty(alloc);
+    match apply_all(alloc, &mut content, changes) {
+        Ok(()) => Ok(content),
+        Err(ContentError::NoMemory) => Err(Error::NoMemory),
+        Err(ContentError::Malformed) => unreachable!(),
+    }
+}
+
+// What the changes make of what the block with these bytes holds.
+pub(crate) fn made_in<'a, 'b: 'a>(
+    alloc: Global,
+    block: &'a [u8],
+    changes: &[Change<'b>],
+) -> Result<Content<'a>, Error>
+    requires { is_some (made_in block.now (changes_seen changes.now)) ≡ true }
+    ensures content { IfOk result (λ c. made_in block.now (changes_seen changes.now) ≡ Some (content_seen c)) }
+    ensures logged { IfOk result (λ c. IsLogged (content_seen c)) }
+    ensures errors { IfErr result (λ e. e ≡ Error.NoMemory) }
+{
+    let log = Log::read(block);
+    let mut content = match Content::read(alloc, &log) {
+        Ok(content) => content,
+        Err(ContentError::NoMemory) => return Err(Error::NoMemory),
+        Err(ContentError::Malformed) => unreachable!(),
+    };
+    match apply_all(alloc, &mut content, changes) {
+        Ok(()) => Ok(content),
+        Err(ContentError::NoMemory) => Err(Error::NoMemory),
+        Err(ContentError::Malformed) => unreachable!(),
+    }
+}

@@ -1,0 +1,130 @@
+// Commits, written to a block of the device.
+
+ghost use Rattle.std.specs.Prelude.{◌≡◌, ◌<◌, ◌≤◌, ◌+◌, ◌%◌, ◌^◌, [], ◌∷◌, length, take, IfOk, IfErr, OnOk};
+ghost use Rattle.lfs_device.specs.Shown.{disk_of};
+ghost use Rattle.lfs_model.specs.Blocks.{block_in, SameBut};
+ghost use Rattle.lfs_model.specs.History.{AllUnprogrammed, AtWorst, EachSince, LeavesOnly, OnlyReads, StayUnprogrammed, erases, faults};
+ghost use Rattle.lfs_model.specs.Log.{chain_of};
+ghost use Rattle.lfs_model.specs.Logged.{HaveNames, IsLogged};
+ghost use Rattle.lfs_model.specs.Commit.{next_at};
+ghost use Rattle.lfs_model.specs.Stops.{ErasesCleanly, Stops};
+ghost use Rattle.lfs_model.specs.Written.{FitsRaw};
+ghost use Rattle.lfs_tag.specs.Builder.{GoesTo, padded_end};
+ghost use Rattle.lfs_tag.specs.ContentSeen.{content_seen};
+ghost use Rattle.lfs_pair.specs.Writing.{Gets, Holds, LeftByCommit, LeftByWriting, LeftInBlock};
+
+use crate::entries::push_content;
+use lfs_device::{BlockDevice, Error};
+use lfs_tag::{CommitBuilder, Content, Tag};
+
+// A commit that was written.
+#[derive(Clone, Copy, Drop)]
+pub(crate) struct Written {
+    // Where it ends in its block.
+    pub end: usize,
+    // Its last tag, as the next one is stored with it.
+    pub last: Tag,
+}
+
+// The four bytes of a block from an offset on, or none where the block has fewer.
+fn next_bytes<D: BlockDevice>(dev: &mut D, block: u32, at: u32) -> Result<Option<[u8; 4]>, Error>
+    requires in_device { block < (D.geometry dev.old).block_count }
+    requires in_block { at ≤ (D.geometry dev.old).block_size }
+    ensures bytes { IfOk result (λ next. next ≡ next_at (block_in (D.blocks dev.old) block) at) }
+    ensures same { D.blocks dev.new ≡ D.blocks dev.old }
+    ensures geometry { D.geometry dev.new ≡ D.geometry dev.old }
+    ensures reads { OnlyReads (D.blocks dev.old) (D.history dev.old) (D.history dev.new) }
+    ensures errors { IfErr result (λ e. e ≡ Error.Io) }
+    ensures fault { result ≡ Err Error.Io → faults (D.history dev.old) < faults (D.history dev.new) }
+{
+    if dev.geometry().block_size - at < 4 {
+        return Ok(None);
+    }
+    let mut next = [0; 4];
+    dev.read(block, at, &mut next)?;
+    Ok(Some(next))
+}
+
+// Programs a commit into a block from an offset on, where the block is unprogrammed.
+pub(crate) fn program<D: BlockDevice>(
+    dev: &mut D,
+    block: u32,
+    at: u32,
+    builder: CommitBuilder<'_>,
+) -> Result<Written, Error>
+    requires in_device { block < (D.geometry dev.old).block_count }
+    requires begins { at % (D.geometry dev.old).page ≡ 0 }
+    requires page { builder.page ≡ (D.geometry dev.old).page }
+    requires room { padded_end builder ≤ builder.room }
+    requires ends { at + padded_end builder ≤ (D.geometry dev.old).block_size }
+    requires goes { GoesTo builder.revision builder.previous (block_in (D.blocks dev.old) block) at }
+    requires unprogrammed { AllUnprogrammed (D.history dev.old) block at (D.geometry dev.old).block_size }
+
+    ensures commit { OnOk result (Gets builder.entry (block_in (D.blocks dev.old) block) (block_in (D.blocks dev.new) block)) }
+    ensures end { IfOk result (λ written. written.end ≡ at + padded_end builder.entry) }
+    ensures pages { IfOk result (λ written. written.end % (D.geometry dev.old).page ≡ 0) }
+    ensures chain { IfOk result (λ written. written.end ≡ (chain_of (block_in (D.blocks dev.new) block)).end) }
+    ensures last { IfOk result (λ written. written.last ≡ (chain_of (block_in (D.blocks dev.new) block)).last) }
+    ensures behind { IfOk result (λ written. AllUnprogrammed (D.history dev.new) block written.end (D.geometry dev.old).block_size) }
+    ensures before { OnOk result (take at (block_in (D.blocks dev.new) block) ≡ take at (block_in (D.blocks dev.old) block)) }
+
+    ensures others { SameBut block (D.blocks dev.old) (D.blocks dev.new) }
+    ensures elsewhere { StayUnprogrammed (block ∷ []) (D.history dev.old) (D.history dev.new) }
+    ensures geometry { D.geometry dev.new ≡ D.geometry dev.old }
+    ensures erases { erases (D.history dev.new) ≡ erases (D.history dev.old) }
+    ensures errors { IfErr result (λ e. e ≡ Error.Io) }
+    ensures fault { result ≡ Err Error.Io → faults (D.history dev.old) < faults (D.history dev.new) }
+    ensures stops { LeavesOnly Stops (D.history dev.old) (D.history dev.new) (LeftInBlock block (LeftByCommit builder.entry at) (D.blocks dev.old)) }
+    ensures at_worst { LeavesOnly AtWorst (D.history dev.old) (D.history dev.new) (SameBut block (D.blocks dev.old)) }
+{
+    let end = at + builder.end();
+    let next = next_bytes(dev, block, end)?;
+    let last = builder.last(next);
+    let pages = builder.finish(next)?;
+    dev.prog(block, at, pages)?;
+    Ok(Written {
+        end: end as usize,
+        last,
+    })
+}
+
+// Erases a block and writes a content into it, as its first commit. The buffer is as long as a
+// block.
+pub(crate) fn write_anew<D: BlockDevice>(
+    dev: &mut D,
+    block: u32,
+    revision: u32,
+    content: &Content<'_>,
+    buf: &mut [u8],
+) -> Result<Written, Error>
+    requires in_device { block < (D.geometry dev.old).block_count }
+    requires buf { length buf.old ≡ (D.geometry dev.old).block_size }
+    requires logged { IsLogged (content_seen content.now) }
+    requires names { HaveNames (content_seen content.now).slots }
+    requires fits { FitsRaw (D.geometry dev.old).block_size (D.geometry dev.old).page (content_seen content.now) }
+
+    ensures holds { OnOk result (Holds revision (content_seen content.now) (block_in (D.blocks dev.new) block)) }
+    ensures end { IfOk result (λ written. written.end ≡ (chain_of (block_in (D.blocks dev.new) block)).end) }
+    ensures last { IfOk result (λ written. written.last ≡ (chain_of (block_in (D.blocks dev.new) block)).last) }
+    ensures pages { IfOk result (λ written. written.end % (D.geometry dev.old).page ≡ 0) }
+    ensures behind { IfOk result (λ written. AllUnprogrammed (D.history dev.new) block written.end (D.geometry dev.old).block_size) }
+
+    ensures others { SameBut block (D.blocks dev.old) (D.blocks dev.new) }
+    ensures elsewhere { StayUnprogrammed (block ∷ []) (D.history dev.old) (D.history dev.new) }
+    ensures geometry { D.geometry dev.new ≡ D.geometry dev.old }
+    ensures erases { OnOk result (erases (D.history dev.new) ≡ erases (D.history dev.old) + 1) }
+    ensures errors { IfErr result (λ e. e ≡ Error.Io) }
+    ensures fault { result ≡ Err Error.Io → faults (D.history dev.old) < faults (D.history dev.new) }
+
+    ensures stops { EachSince ErasesCleanly (D.history dev.old) (D.history dev.new)
+        → LeavesOnly Stops (D.history dev.old) (D.history dev.new) (LeftInBlock block (LeftByWriting revision (content_seen content.now)) (D.blocks dev.old)) }
+    ensures at_worst { LeavesOnly AtWorst (D.history dev.old) (D.history dev.new) (SameBut block (D.blocks dev.old)) }
+{
+    let page = dev.geometry().page;
+    let before = Tag::from_bits(0xffff_ffff);
+    let mut builder = CommitBuilder::new(page, buf, before, Some(revision));
+    push_content(&mut builder, content);
+    dev.erase(block)?;
+    let written = program(dev, block, 0, builder)?;
+    Ok(written)
+}

@@ -2,6 +2,7 @@ mod Blank
 mod Cutting
 mod Holding
 mod Showing
+mod Tops
 mod Counting
 mod Taking
 mod Sizing

@@ -11,9 +11,8 @@ use Rattle.lfs_device.specs.declared.error.Error.{Error}
 use Rattle.lfs_device.specs.declared.error.Error.TheVariants.{NameTooLong, NoSpace}
 use Rattle.lfs_device.specs.declared.geometry.Geometry.{Geometry}
 use Rattle.lfs_tool_source.specs.InMemory.{has_no_bytes, items_by}
-use Rattle.lfs_tool_source.specs.Entries.{name_of}
 use Rattle.lfs_tool_source.specs.declared.entries.Entry.{Entry}
-use Rattle.lfs_tool_create.specs.Files.{are_held, file_max, file_of, file_size, is_short, refusal_for, superblock_size}
+use Rattle.lfs_tool_create.specs.Files.{are_held, file_max, file_of, file_size, is_short, name_of, refusal_for, superblock_size}
 use Rattle.lfs_tool_create.specs.Made.{AreRefused, AreTaken}
 
 -- ---- refusals
@@ -43,7 +42,7 @@ refused g es e held is = go (of_these g.block_count (map name_of es) e is)
 pub record IsFile (block_size : ℕ) (e : Entry) : Type 0 where
   pub has : has_no_bytes (items_by e.bytes) ≡ false
   pub short : length (file_of e).1 ≤ inline_limit block_size
-  pub brief : length e.name.items ≤ 255
+  pub brief : length (name_of e) ≤ 255
 
 not_long : (b : Bool) (n : ℕ) → nat_lt 255 n ≡ false → n ≤ 255
 not_long b n e = ltb-false 255 n e
@@ -53,18 +52,18 @@ each_file block_size blocks [] s r = tt
 each_file block_size blocks (e ∷ es) s r =
     let both = and_parts (is_short block_size e) (list_all (is_short block_size) es) s in
     let parts = and_parts (not (has_no_bytes (items_by e.bytes))) (nat_le (length (file_of e).1) (inline_limit block_size)) both.0 in
-    let rest = go (nat_lt 255 (length e.name.items)) (nat_lt blocks 4) refl r in
+    let rest = go (nat_lt 255 (length (name_of e))) (nat_lt blocks 4) refl r in
     (record { has = turned (has_no_bytes (items_by e.bytes)) parts.0; short = leb-true _ _ parts.1; brief = rest.0 }, each_file block_size blocks es both.1 rest.1)
   where
     turned : (b : Bool) → not b ≡ true → b ≡ false
     turned true x = absurd (cc)
     turned false x = refl
 
-    go : (a b : Bool) → nat_lt 255 (length e.name.items) ≡ a → cond a (Some NameTooLong) (cond b (Some NoSpace) (refusal_for blocks (map name_of es))) ≡ None
-        → (length e.name.items ≤ 255) × (refusal_for blocks (map name_of es) ≡ None)
+    go : (a b : Bool) → nat_lt 255 (length (name_of e)) ≡ a → cond a (Some NameTooLong) (cond b (Some NoSpace) (refusal_for blocks (map name_of es))) ≡ None
+        → (length (name_of e) ≤ 255) × (refusal_for blocks (map name_of es) ≡ None)
     go true b is x = absurd (cc)
     go false true is x = absurd (cc)
-    go false false is x = (not_long false (length e.name.items) is, x)
+    go false false is x = (not_long false (length (name_of e)) is, x)
 
 -- what is known of entries that are taken
 pub record Taken (g : Geometry) (es : List Entry) : Type 0 where

@@ -1,7 +1,6 @@
 -- The image is made as it must be.
-use Rattle.std.proofs.Common.{◌≡◌, ◌∙◌, ◌≤◌, ◌+◌, ◌-◌, ◌*◌, ◌/◌, ◌%◌, ◌&&◌, ℕ, Bool, true, false, AllPairs, Less, List, [], ◌∷◌, Option, Some, None, ap, ap₂, arith, codes, cond, drop, length, map, refl, replicate, subst, sum_by, sym, take}
-use Rattle.std.specs.Prelude.{All, Err, IfSome, IsErrOf, Ok, OnErr, Result, unwrap_or}
-use Rattle.std.specs.List.Sorted.{IsPermutation}
+use Rattle.std.proofs.Common.{◌≡◌, ◌∙◌, ◌≤◌, ◌+◌, ◌-◌, ◌*◌, ◌/◌, ◌%◌, ◌&&◌, ℕ, true, AllPairs, Less, List, [], ◌∷◌, Option, Some, None, ap, ap₂, arith, codes, cond, drop, length, map, refl, replicate, subst, sum_by, sym, take}
+use Rattle.std.specs.Prelude.{All, Err, IfSome, IsErrOf, Ok, OnErr, Result}
 use Rattle.std.proofs.Math.Nat.{mul-le-mul_left}
 use Rattle.std.proofs.lemmas.Bool.{le-leb, le-ltb}
 use Rattle.std.proofs.lemmas.List.{drop-replicate, length-map, length-replicate, take-replicate}
@@ -16,26 +15,26 @@ use Rattle.lfs_model.specs.Geometry.{IsGeometry}
 use Rattle.lfs_model.specs.Log.{LogEntry, chain_of}
 use Rattle.lfs_model.specs.Names.{Name, is_component, name_cmp}
 use Rattle.lfs_model.specs.Slots.{FitsPair, Inline, Slot, Superblock, charge_of, slot_size}
-use Rattle.lfs_model.specs.Source.{IsTreeOf, Source, path_in}
+use Rattle.lfs_model.specs.Source.{IsTreeOf, Source}
 use Rattle.lfs_model.specs.Thread.{Pair, anchor}
 use Rattle.lfs_model.specs.View.{FitsSlot, IsEntry, IsWritable, contents_in, entries_in, tree_in}
-use Rattle.lfs_model.proofs.Counts.{Each}
+use Rattle.lfs_model.proofs.Counts.{Each, each_weaker}
 use Rattle.lfs_model.proofs.Cuts.{length-cut}
 use Rattle.lfs_model.proofs.Names.{names_in}
 use Rattle.lfs_device.specs.declared.geometry.Geometry.{Geometry}
 use Rattle.lfs_tag.specs.Builder.{checksum_entry}
 use Rattle.lfs_tool.proofs.RootFiles.{IsWholeFile}
 use Rattle.lfs_tool.proofs.RootPair.{IsRoot, accepted, entries_at, root_pair}
-use Rattle.lfs_tool_source.specs.InMemory.{has_no_bytes, items_by}
-use Rattle.lfs_tool_source.specs.Entries.{AreIn, AreInOrder, HasBytes, IsRead, given, name_of}
+use Rattle.lfs_tool_source.specs.Entries.{AreAll, AreInOrder}
 use Rattle.lfs_tool_source.specs.declared.entries.Entry.{Entry}
-use Rattle.lfs_tool_create.specs.Files.{File, file_of, file_size}
-use Rattle.lfs_tool_create.specs.Made.{AreTaken, AreTop, IsMade}
+use Rattle.lfs_tool_create.specs.Files.{File, file_of, file_size, name_of}
+use Rattle.lfs_tool_create.specs.Made.{AreTaken, IsMade}
 use Rattle.lfs_tool_create.specs.Root.{ArePages, blank_next, first_commit, image_of, raw_root}
 use Rattle.lfs_tool_create.proofs.Blank.{blank_has_none}
 use Rattle.lfs_tool_create.proofs.Cutting.{filled_length, first_block, second_block}
 use Rattle.lfs_tool_create.proofs.Holding.{AreBrief, Holds, content_held, first_held, root_slots, slot_of, sound}
-use Rattle.lfs_tool_create.proofs.Showing.{HaveBytes, Stand, given_of, shown}
+use Rattle.lfs_tool_create.proofs.Showing.{Stand, shown}
+use Rattle.lfs_tool_create.proofs.Tops.{IsAFile, on_top}
 use Rattle.lfs_tool_create.proofs.Sizing.{sizes_of}
 use Rattle.lfs_tool_create.proofs.Taking.{IsFile, taken}
 
@@ -49,7 +48,7 @@ entries_are : (block_size : ℕ) (es : List Entry) → Each (IsFile block_size) 
 entries_are block_size [] h c = tt
 entries_are block_size (e ∷ es) h c = (
   record {
-    name = ap₂ (λ a b. a && b) c.0 (le-leb (length e.name.items) 255 h.0.brief);
+    name = ap₂ (λ a b. a && b) c.0 (le-leb (length (name_of e)) 255 h.0.brief);
     struct = tt;
   },
   entries_are block_size es h.1 c.1,
@@ -61,32 +60,11 @@ whole_are (f ∷ fs) = ((f.1, refl), whole_are fs)
 
 slot_names : (es : List Entry) → names_in (map slot_of (map file_of es)) ≡ map name_of es
 slot_names [] = refl
-slot_names (e ∷ es) = ap (λ ns. e.name.items ∷ ns) (slot_names es)
+slot_names (e ∷ es) = ap (λ ns. name_of e ∷ ns) (slot_names es)
 
 file_names : (es : List Entry) → map (λ (f : File). f.0) (map file_of es) ≡ map name_of es
 file_names [] = refl
-file_names (e ∷ es) = ap (λ ns. e.name.items ∷ ns) (file_names es)
-
--- ---- what the source shows
-
-given_files : (block_size : ℕ) (es : List Entry) → Each (IsFile block_size) es → map given es ≡ map given_of (map file_of es)
-given_files block_size [] h = refl
-given_files block_size (e ∷ es) h = ap₂ (λ (b : Bool) gs. (e.name.items, b) ∷ gs) h.0.has (given_files block_size es h.1)
-
-has_bytes : (s : Source) (path : List ℕ) (o : Option (List ℕ)) → has_no_bytes o ≡ false → HasBytes s path o → unwrap_or o [] ≡ s.bytes path
-has_bytes s path None e h = absurd (cc)
-has_bytes s path (Some bytes) e h = h
-
-have_bytes : (s : Source) (block_size : ℕ) (es : List Entry) → Each (IsFile block_size) es → Each (IsRead s []) es → HaveBytes s (map file_of es)
-have_bytes s block_size [] h r = tt
-have_bytes s block_size (e ∷ es) h r = (has_bytes s (path_in [] e.name.items) (items_by e.bytes) h.0.has r.0, have_bytes s block_size es h.1 r.1)
-
-stand : (s : Source) (block_size : ℕ) (es : List Entry) → Each (IsFile block_size) es → AreInOrder (map name_of es) → AreIn s [] es → Stand s (map file_of es)
-stand s block_size es h o a = record {
-  names = subst (IsPermutation (s.names [])) (given_files block_size es h) a.names;
-  bytes = have_bytes s block_size es h (recursion_from_All (IsRead s []) es a.bytes);
-  rise = subst (AllPairs (λ a b. name_cmp a b ≡ Less)) (sym (file_names es)) o.rise;
-}
+file_names (e ∷ es) = ap (λ ns. name_of e ∷ ns) (file_names es)
 
 -- ---- the writing profile
 
@@ -106,7 +84,7 @@ charge_fits g name l =
 
 files_fit : (g : Geometry) (es : List Entry) → Each (IsFile g.block_size) es → Each (FitsSlot g.block_size g.page) (map slot_of (map file_of es))
 files_fit g [] h = tt
-files_fit g (e ∷ es) h = (((λ is. absurd (cc)), (λ _. record { charge = charge_fits g e.name.items h.0.brief; inline = h.0.short })), files_fit g es h.1)
+files_fit g (e ∷ es) h = (((λ is. absurd (cc)), (λ _. record { charge = charge_fits g (name_of e) h.0.brief; inline = h.0.short })), files_fit g es h.1)
 
 -- ---- the image
 
@@ -219,13 +197,12 @@ module _ (g : Geometry) (es : List Entry) (pages bytes : List ℕ) (order : AreI
         no_empty_pair = (λ e. absurd (cc), tt);
       }
 
-  tree : (known : Option Source) → AreTop known es → IfSome known (λ s. IsTreeOf s (tree_in disk (pair ∷ [])))
-  tree None top = tt
-  tree (Some s) top = shown s (contents_in disk) (entries_in (pair ∷ [])) anchor files (stand s g.block_size es each order top)
-      (entries_at p.bytes [] slots anchor root.entries refl)
+  tree : (known : Option Source) → IfSome known (λ s. Stand s files) → IfSome known (λ s. IsTreeOf s (tree_in disk (pair ∷ [])))
+  tree None stand = tt
+  tree (Some s) stand = shown s (contents_in disk) (entries_in (pair ∷ [])) anchor files stand (entries_at p.bytes [] slots anchor root.entries refl)
 
-  pub made : (known : Option Source) → AreTop known es → IsMade g known bytes
-  made known top = record {
+  pub made : (known : Option Source) → IfSome known (λ s. Stand s files) → IsMade g known bytes
+  made known stand = record {
     len = all_bytes;
     image = record {
       geometry = subst (IsGeometry g.block_size g.page) (sym count) g.valid;
@@ -235,17 +212,18 @@ module _ (g : Geometry) (es : List Entry) (pages bytes : List ℕ) (order : AreI
     accepted = accepted disk p.bytes [] slots root;
     writable = writable;
     gstate = refl;
-    tree = tree known top;
+    tree = tree known stand;
   }
 
 -- what the calls in turn say of what is written
-pub made_of : (g : Geometry) (known : Option Source) (es slice : List Entry) (written image : List ℕ) → slice ≡ es → AreInOrder (map name_of es) → AreTop known es
+pub made_of : (g : Geometry) (known : Option Source) (es slice : List Entry) (written image : List ℕ) → slice ≡ es → AreAll known es
     → (AreTaken g slice × ((pages : List ℕ) × (ArePages g.block_size g.page g.block_count (map file_of slice) pages × (image ≡ image_of g.block_size g.block_count pages)))) → written ≡ image
     → AreTaken g es × IsMade g known written
-made_of g known es slice written image same order top h w =
-    let taken_es : AreTaken g es = subst (AreTaken g) same h.0 in (
+made_of g known es slice written image same all h w =
+    let taken_es : AreTaken g es = subst (AreTaken g) same h.0 in
+    let top = on_top known es (each_weaker (IsFile g.block_size) IsAFile (λ e f. f.has) es (taken g es taken_es).files) all in (
       taken_es,
-      made g es h.1.0 written order taken_es (subst (λ xs. ArePages g.block_size g.page g.block_count (map file_of xs) h.1.0) same h.1.1.0) (w ∙ h.1.1.1) known top,
+      made g es h.1.0 written top.order taken_es (subst (λ xs. ArePages g.block_size g.page g.block_count (map file_of xs) h.1.0) same h.1.1.0) (w ∙ h.1.1.1) known top.stand,
     )
 
 pub at_error : {X E : Type 0} (r : Result X E) (e : E) (P : Type 0) → OnErr r P → IsErrOf r e → P

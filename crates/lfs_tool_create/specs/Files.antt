@@ -1,5 +1,5 @@
--- Which entries of a folder are files that an image of one pair holds, and what refuses them.
-use Rattle.std.specs.Prelude.{ℕ, ◌+◌, ◌&&◌, not, nat_le, nat_lt, if◌then◌else◌, Bool, List, [], ◌∷◌, length, sum_by, Option, Some, None, unwrap_or}
+-- Which entries of a source are files that an image of one pair holds, and what refuses them.
+use Rattle.std.specs.Prelude.{ℕ, ◌+◌, ◌&&◌, not, nat_le, nat_lt, if◌then◌else◌, Bool, List, [], ◌∷◌, drop, length, sum_by, Option, Some, None, unwrap_or}
 use Rattle.std.specs.List.{list_all}
 use Rattle.lfs_model.specs.Disk.{inline_limit, pair_capacity}
 use Rattle.lfs_model.specs.Names.{Name}
@@ -12,8 +12,12 @@ use Rattle.lfs_tool_source.specs.declared.entries.Entry.{Entry}
 abbrev pub File : Type 0
 File = Name × List ℕ
 
+-- the name of what stands in the source's own folder
+abbrev pub name_of : Entry → Name
+name_of e = drop 1 e.path.items
+
 abbrev pub file_of : Entry → File
-file_of e = (e.name.items, unwrap_or (items_by e.bytes) [])
+file_of e = (name_of e, unwrap_or (items_by e.bytes) [])
 
 -- what a file that stands whole in its slot takes, in bytes
 abbrev pub file_size : File → ℕ

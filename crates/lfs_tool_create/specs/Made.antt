@@ -1,20 +1,16 @@
 -- What is made of a source, and why nothing is.
-use Rattle.std.specs.Prelude.{ℕ, ◌≡◌, ◌⊎◌, ◌*◌, Bool, true, false, List, [], length, map, Option, Some, None, IfSome}
+use Rattle.std.specs.Prelude.{ℕ, ◌≡◌, ◌⊎◌, ◌*◌, Bool, true, false, List, length, map, Option, Some, None, IfSome}
 use Rattle.lfs_model.specs.Disk.{IsImage, disk_of}
 use Rattle.lfs_model.specs.Slots.{no_gstate}
-use Rattle.lfs_model.specs.Source.{Source, IsTreeOf, AreBad, names_of}
+use Rattle.lfs_model.specs.Source.{Source, IsTreeOf}
 use Rattle.lfs_model.specs.Thread.{Pair, gstate_of}
 use Rattle.lfs_model.specs.View.{IsAccepted, IsWritable, tree_in}
 use Rattle.lfs_device.specs.declared.error.Error.{Error}
 use Rattle.lfs_device.specs.declared.error.Error.TheVariants.{NoMemory, Unsupported}
 use Rattle.lfs_device.specs.declared.geometry.Geometry.{Geometry}
-use Rattle.lfs_tool_create.specs.Files.{are_held, refusal_for}
-use Rattle.lfs_tool_source.specs.Entries.{AreIn, name_of}
+use Rattle.lfs_tool_create.specs.Files.{are_held, name_of, refusal_for}
+use Rattle.lfs_tool_source.specs.Entries.{HasBadNames}
 use Rattle.lfs_tool_source.specs.declared.entries.Entry.{Entry}
-
--- the entries of the source's folder, where it is known what it shows
-abbrev pub AreTop : Option Source → List Entry → Type 0
-AreTop known entries = IfSome known (λ s. AreIn s [] entries)
 
 -- An image of the geometry that is accepted, in the writing profile, without a share of the global state, and shows the
 -- source's tree.
@@ -38,6 +34,6 @@ AreRefused geometry entries NoMemory = Unit {0}
 AreRefused geometry entries Unsupported = are_held geometry.block_size geometry.page entries ≡ false
 AreRefused geometry entries e = (are_held geometry.block_size geometry.page entries ≡ true) × (refusal_for geometry.block_count (map name_of entries) ≡ Some e)
 
--- the source has failed, or its folder has bad names
+-- the source has failed, or a folder in it has bad names
 abbrev pub HasFault : Bool → Option Source → Type 0
-HasFault failed known = (failed ≡ true) ⊎ IfSome known (λ s. AreBad (names_of (s.names [])))
+HasFault failed known = (failed ≡ true) ⊎ IfSome known HasBadNames

@@ -3,9 +3,8 @@
 ghost use Rattle.std.specs.Prelude.{◌≡◌, ◌+◌, ◌<◌, ◌≤◌, IfErr, MatchOption, OnOk, map, nat_le, sum_by};
 ghost use Rattle.std.specs.List.{list_all};
 ghost use Rattle.lfs_model.specs.Disk.{inline_limit, pair_capacity};
-ghost use Rattle.lfs_tool_create.specs.Files.{are_held, file_of, file_size, is_short, refusal_for};
+ghost use Rattle.lfs_tool_create.specs.Files.{are_held, file_of, file_size, is_short, name_of, refusal_for};
 ghost use Rattle.lfs_tool_create.specs.Made.{AreRefused, AreTaken};
-ghost use Rattle.lfs_tool_source.specs.Entries.{name_of};
 
 use lfs_device::{Error, Geometry};
 use lfs_tool_source::Entry;
@@ -17,6 +16,16 @@ const FILE_MAX: usize = 999;
 const SUPERBLOCK_SIZE: usize = 40;
 
 const NAME_MAX: usize = 255;
+
+// The name of what stands in the source's own folder.
+pub(crate) fn name_of(entry: &Entry) -> &[u8]
+    ensures { result.now ≡ name_of entry.now }
+{
+    match entry.path.as_slice() {
+        [] => b"",
+        [_, name @ ..] => name,
+    }
+}
 
 // A file's bytes; a folder has none.
 pub(crate) fn bytes_of(entry: &Entry) -> &[u8]
@@ -68,7 +77,7 @@ fn rest(left: usize, entry: &Entry) -> Option<usize>
     ensures { MatchOption result (left < file_size (file_of entry.now)) (λ rest. rest + file_size (file_of entry.now) ≡ left) }
 {
     left.checked_sub(8)?
-        .checked_sub(entry.name.len())?
+        .checked_sub(name_of(entry).len())?
         .checked_sub(bytes_of(entry).len())
 }
 
@@ -102,7 +111,7 @@ fn refusal(blocks: u32, entries: &[Entry]) -> Option<Error>
     ensures { result ≡ refusal_for blocks (map name_of entries.now) }
 {
     for entry in entries {
-        if entry.name.len() > NAME_MAX {
+        if name_of(entry).len() > NAME_MAX {
             return Some(Error::NameTooLong);
         }
         if blocks < 4 {

@@ -3,25 +3,24 @@ ghost use Rattle.std.specs.Io.KnownBytes.{Appends, Keeps};
 ghost use Rattle.lfs_tool.specs.Known.{AppendsBeginning};
 ghost use Rattle.lfs_tool_create.specs.Files.{file_of};
 ghost use Rattle.lfs_tool_create.specs.Root.{ArePages, image_of};
-ghost use Rattle.lfs_tool_create.specs.Made.{AreRefused, AreTaken, AreTop, HasFault, IsMade};
-ghost use Rattle.lfs_tool_source.specs.Entries.{AreInOrder, name_of};
+ghost use Rattle.lfs_tool_create.specs.Made.{AreRefused, AreTaken, HasFault, IsMade};
+ghost use Rattle.lfs_tool_source.specs.Entries.{AreAll};
 
 use crate::checks::check;
 use crate::image::image_of;
 use lfs_device::{Error, Geometry};
 use lfs_tool::{ToolError, Watched, write_bytes};
-use lfs_tool_source::{Entry, Source, SourceError, read_folder};
+use lfs_tool_source::{Entry, Source, SourceError, read_tree};
 use std::alloc::Global;
 use std::io::Write;
 
-// What a folder without a path has.
-fn read_top<S: Source>(alloc: Global, source: &mut S) -> Result<Vec<Entry>, ToolError>
-    ensures order { IfOk result (λ v. AreInOrder (map name_of v.items)) }
-    ensures entries { IfOk result (λ v. AreTop (S.shown source.old) v.items) }
+// All that the source has.
+fn read_source<S: Source>(alloc: Global, source: &mut S) -> Result<Vec<Entry>, ToolError>
+    ensures entries { IfOk result (λ v. AreAll (S.shown source.old) v.items) }
     ensures input { IsErrOf result ToolError.Input → HasFault (S.has_failed source.new) (S.shown source.old) }
     ensures other { IfErr result (λ e. e ≢ ToolError.Input → e ≡ ToolError.Fs Error.NoMemory) }
 {
-    match read_folder(alloc, source, b"") {
+    match read_tree(alloc, source) {
         Ok(entries) => Ok(entries),
         Err(SourceError::Fault) => Err(ToolError::Input),
         Err(SourceError::NoMemory) => Err(ToolError::Fs(Error::NoMemory)),
@@ -30,7 +29,6 @@ fn read_top<S: Source>(alloc: Global, source: &mut S) -> Result<Vec<Entry>, Tool
 
 // The image of these entries.
 fn make(alloc: Global, geometry: &Geometry, entries: &[Entry]) -> Result<Vec<u8>, Error>
-    requires { AreInOrder (map name_of entries.now) }
     ensures ok { IfOk result (λ v. AreTaken geometry.now entries.now
         × ((pages : _) × (ArePages geometry.now.block_size geometry.now.page geometry.now.block_count (map file_of entries.now) pages
         × (v.items ≡ image_of geometry.now.block_size geometry.now.block_count pages)))) }
@@ -40,14 +38,15 @@ fn make(alloc: Global, geometry: &Geometry, entries: &[Entry]) -> Result<Vec<u8>
     image_of(alloc, geometry, entries)
 }
 
-/// Writes an image of a geometry that holds the files of a source; what they don't fill is 0xff. The
-/// source is read first, and nothing is written where anything is refused.
+/// Writes an image of a geometry that holds the files of a source; what they don't fill is 0xff. All of
+/// the source is read first, and nothing is written where anything is refused.
 ///
 /// So far a source of files alone is taken, which stand in the image's first pair with their bytes: at
 /// most 999, none longer than an eighth of a block or 1022 bytes.
 ///
 /// # Errors
-/// - `Input` where the source couldn't be read, or a name in it is given twice or can't stand in a path.
+/// - `Input` where the source couldn't be read, or a name in a folder of it is given twice or can't stand
+///   in a path.
 /// - `Fs(Unsupported)` where the source has a folder, a longer file or more files, or where the first
 ///   pair doesn't hold them.
 /// - `Fs(NameTooLong)` where a name has more than 255 bytes, `Fs(NoSpace)` where there is a file and
@@ -60,15 +59,15 @@ pub fn create<S: Source, W: Write>(
     geometry: Geometry,
     out: &mut Watched<W>,
 ) -> Result<(), ToolError>
-    ensures ok { OnOk result ((entries : _) × (AreTop (S.shown source.old) entries × (AreTaken geometry entries
+    ensures ok { OnOk result ((entries : _) × (AreAll (S.shown source.old) entries × (AreTaken geometry entries
         × ((image : _) × (IsMade geometry (S.shown source.old) image × Appends (W.contents out.old.inner) (W.contents out.new.inner) image))))) }
     ensures refused { (e : _) → IsErrOf result (ToolError.Fs e) → Keeps (W.contents out.old.inner) (W.contents out.new.inner)
-        × (e ≢ Error.NoMemory → (entries : _) × (AreTop (S.shown source.old) entries × AreRefused geometry entries e)) }
+        × (e ≢ Error.NoMemory → (entries : _) × (AreAll (S.shown source.old) entries × AreRefused geometry entries e)) }
     ensures input { IsErrOf result ToolError.Input → Keeps (W.contents out.old.inner) (W.contents out.new.inner) × HasFault (S.has_failed source.new) (S.shown source.old) }
     ensures output { IsErrOf result ToolError.Output → (out.new.has_failed ≡ true)
         × ((image : _) × (IsMade geometry (S.shown source.old) image × AppendsBeginning (W.contents out.old.inner) (W.contents out.new.inner) image)) }
 {
-    let entries = read_top(alloc, source)?;
+    let entries = read_source(alloc, source)?;
     match make(alloc, &geometry, entries.as_slice()) {
         Ok(image) => write_bytes(out, image.as_slice()),
         Err(error) => Err(ToolError::Fs(error)),

@@ -2,11 +2,11 @@
 
 ghost use Rattle.std.specs.Prelude.{◌≡◌, ◌+◌, ◌++◌, ◌<◌, ◌≤◌, ◌^◌, All, IfErr, IfOk, length, map};
 ghost use Rattle.lfs_model.specs.Written.{entries_of_slot, entries_of_slots};
-ghost use Rattle.lfs_tool_create.specs.Files.{are_held, file_of};
+ghost use Rattle.lfs_tool_create.specs.Files.{are_held, file_of, name_of};
 ghost use Rattle.lfs_tool_create.specs.Made.{AreTaken};
 ghost use Rattle.lfs_tool_create.specs.Root.{ArePages, IsStruct, raw_file, raw_superblock};
 
-use crate::checks::bytes_of;
+use crate::checks::{bytes_of, name_of};
 use lfs_device::{Error, Geometry};
 use lfs_tag::kinds::{FILE_NAME, INLINE_STRUCT, SUPERBLOCK_NAME};
 use lfs_tag::{CommitBuilder, Superblock, Tag, superblock_bytes};
@@ -33,15 +33,13 @@ fn struct_of(geometry: &Geometry) -> [u8; 24]
 // Adds the name and the bytes of a file.
 fn push_file(commit: &mut CommitBuilder<'_>, id: u16, entry: &Entry)
     requires id { id < 2 ^ 10 }
-    requires name { length entry.now.name.items < 0x3ff }
+    requires name { length (name_of entry.now) < 0x3ff }
     requires bytes { length (file_of entry.now).1 < 0x3ff }
     ensures { commit.new ≡ record commit.old { entries = commit.old.entries ++ entries_of_slot id (raw_file (file_of entry.now)) } }
 {
+    let name = name_of(entry);
     let bytes = bytes_of(entry);
-    commit.push(
-        Tag::new(FILE_NAME, id, entry.name.len() as u16),
-        entry.name.as_slice(),
-    );
+    commit.push(Tag::new(FILE_NAME, id, name.len() as u16), name);
     commit.push(Tag::new(INLINE_STRUCT, id, bytes.len() as u16), bytes);
 }
 

@@ -87,6 +87,20 @@ fn files_stand_in_their_slots(rt: HostRuntime) -> Result<(), Fail> {
 }
 
 #[test]
+fn the_source_is_read_whole_first(rt: HostRuntime) -> Result<(), Fail> {
+    let alloc = rt.alloc();
+    let folder = Held {
+        path: b"/d".to_vec(alloc)?,
+        bytes: None,
+    };
+    let a = file(alloc, b"/a", &[7; 513]).expect(&rt, "a file");
+    let dots = file(alloc, b"/d/..", b"").expect(&rt, "a file");
+    let refused = made(alloc, vec![in alloc; folder, a, dots]?, 4096, 256, 16);
+    assert!(rt; matches!(&refused, Err(ToolError::Input)));
+    Ok(())
+}
+
+#[test]
 fn two_blocks_have_no_space(rt: HostRuntime) -> Result<(), Fail> {
     let alloc = rt.alloc();
     for blocks in [2, 3] {
@@ -216,11 +230,16 @@ impl Source for Failing {
 fn a_failing_source_is_told(rt: HostRuntime) -> Result<(), Fail> {
     let alloc = rt.alloc();
     let geometry = geometry_for(65536, 4096, 256).expect(&rt, "a geometry");
-    for left in [0, 1, 2] {
+    // Two folders are listed and two files read.
+    for left in 0..4 {
+        let folder = Held {
+            path: b"/d".to_vec(alloc)?,
+            bytes: None,
+        };
         let a = file(alloc, b"/a", b"1").expect(&rt, "a file");
-        let b = file(alloc, b"/b", b"2").expect(&rt, "a file");
+        let b = file(alloc, b"/d/b", b"2").expect(&rt, "a file");
         let mut failing = Failing {
-            inner: source(vec![in alloc; a, b]?),
+            inner: source(vec![in alloc; folder, a, b]?),
             left,
             has_failed: false,
         };

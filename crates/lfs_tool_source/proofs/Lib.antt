@@ -1,3 +1,3 @@
 mod HeldItems
 mod Order
-mod Gathers
+mod Reading

@@ -125,7 +125,7 @@ bad_before : (xs ys : List Listed) → IsPermutation xs ys → AreBad (map name_
 bad_before xs ys h (inl b) = inl (b.0, b.1, omega (arith, b.2, same_times xs ys b.0 h))
 bad_before xs ys h (inr b) = inr (b.0, omega (arith, b.1, same_times xs ys b.0 h))
 
-names_given : (xs : List Listed) → names_of (map listed xs) ≡ map name_in xs
+pub names_given : (xs : List Listed) → names_of (map listed xs) ≡ map name_in xs
 names_given [] = refl
 names_given (x ∷ xs) = ap (λ ns. x.name.items ∷ ns) (names_given xs)
 

@@ -1,12 +1,14 @@
--- What a folder has, once it is read.
-use Rattle.std.specs.Prelude.{◌≡◌, ◌&&◌, ℕ, Bool, true, List, [], ◌∷◌, Option, Some, None, All, AllPairs, map}
+-- What a source has, once it is read.
+use Rattle.std.specs.Prelude.{◌≡◌, ◌++◌, ◌&&◌, ℕ, Bool, true, false, List, [], ◌∷◌, Option, Some, None, All, AllPairs, Contains, IfSome, map}
 use Rattle.std.specs.List.Sorted.{IsPermutation}
 use Rattle.std.specs.declared.cmp.Ordering.TheVariants.{Less}
 use Rattle.lfs_model.specs.Names.{Name, name_cmp, is_component, is_less}
-use Rattle.lfs_model.specs.Source.{Source, path_in}
-use Rattle.lfs_tool_source.specs.InMemory.{has_no_bytes, items_by}
+use Rattle.lfs_model.specs.Source.{AreBad, Source, names_of, path_in}
+use Rattle.lfs_tool_source.specs.Shown.{is_folder}
+use Rattle.lfs_tool_source.specs.InMemory.{items_by}
 use Rattle.lfs_tool_source.specs.declared.source.Listed.{Listed}
 use Rattle.lfs_tool_source.specs.declared.entries.Entry.{Entry}
+use Rattle.lfs_tool_source.specs.declared.entries.Waiting.{Waiting}
 
 -- ---- names
 
@@ -26,24 +28,55 @@ pub record AreInOrder (names : List Name) : Type 0 where
   pub components : All (λ n. is_component n ≡ true) names
   pub rise : AllPairs (λ a b. name_cmp a b ≡ Less) names
 
+-- These names, each with whether it is a folder's, are in order, and all that stands in a folder of what the source
+-- is known to show.
+pub record AreWithin (known : Option Source) (folder : List ℕ) (given : List (Name × Bool)) : Type 0 where
+  pub order : AreInOrder (names_of given)
+  pub names : IfSome known (λ s. IsPermutation (s.names folder) given)
+
 -- ---- entries
 
-abbrev pub name_of : Entry → Name
-name_of e = e.name.items
+-- a path, and whether a folder stands there
+abbrev pub Place : Type 0
+Place = List ℕ × Bool
 
--- a name and whether it is a folder's
-abbrev pub given : Entry → Name × Bool
-given e = (e.name.items, has_no_bytes (items_by e.bytes))
+abbrev pub place_of : Waiting → Place
+place_of w = (w.path.items, is_folder w.kind)
 
-abbrev pub HasBytes : Source → List ℕ → Option (List ℕ) → Type 0
-HasBytes s path None = Unit {0}
-HasBytes s path (Some bytes) = bytes ≡ s.bytes path
+abbrev pub places_in : List ℕ → List (Name × Bool) → List Place
+places_in folder given = map (λ g. (path_in folder g.0, g.1)) given
 
--- a file has its bytes
-abbrev pub IsRead : Source → List ℕ → Entry → Type 0
-IsRead s folder e = HasBytes s (path_in folder e.name.items) (items_by e.bytes)
+-- a file has its bytes, and nothing within; a folder has no bytes, and these names within
+abbrev pub Holds : Option Source → List ℕ → Bool → Option (List ℕ) → List (Name × Bool) → Type 0
+Holds known path false None within = ⊥
+Holds known path false (Some bytes) within = IfSome known (λ s. bytes ≡ s.bytes path) × (within ≡ [])
+Holds known path true None within = AreWithin known path within
+Holds known path true (Some bytes) within = ⊥
 
--- all that stands in a folder, each once
-pub record AreIn (s : Source) (folder : List ℕ) (entries : List Entry) : Type 0 where
-  pub names : IsPermutation (s.names folder) (map given entries)
-  pub bytes : All (IsRead s folder) entries
+-- These entries are what stands at the places, in turn, and what stands beneath each: a folder comes before what
+-- stands beneath it, and that before the next place.
+abbrev pub AreRead : Option Source → List Place → List Entry → Type 0
+AreRead known [] [] = Unit {0}
+AreRead known [] (e ∷ es) = ⊥
+AreRead known (p ∷ ps) [] = ⊥
+AreRead known (p ∷ ps) (e ∷ es) =
+    (e.path.items ≡ p.0) × ((within : List (Name × Bool)) × (Holds known p.0 p.1 (items_by e.bytes) within × AreRead known (places_in p.0 within ++ ps) es))
+
+-- all that the source has, depth first and in name order
+abbrev pub AreAll : Option Source → List Entry → Type 0
+AreAll known entries = (top : List (Name × Bool)) × (AreWithin known [] top × AreRead known (places_in [] top) entries)
+
+-- ---- faults
+
+-- Names lead from one folder to another, each a folder's in the one before.
+abbrev pub LeadsTo : Source → List ℕ → List Name → List ℕ → Type 0
+LeadsTo s folder [] to = to ≡ folder
+LeadsTo s folder (name ∷ rest) to = Contains (s.names folder) (name, true) × LeadsTo s (path_in folder name) rest to
+
+-- a folder somewhere in the source
+abbrev pub IsFolder : Source → List ℕ → Type 0
+IsFolder s folder = (names : List Name) × LeadsTo s [] names folder
+
+-- a folder in it has names that can't stand in one
+abbrev pub HasBadNames : Source → Type 0
+HasBadNames s = (folder : List ℕ) × (IsFolder s folder × AreBad (names_of (s.names folder)))

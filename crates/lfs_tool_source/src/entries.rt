@@ -1,26 +1,27 @@
-ghost use Rattle.std.specs.Prelude.{◌≡◌, ◌++◌, ◌∷◌, ◌⊎◌, [], All, IfOk, IfSome, IsErrOf, OnOk, map, true};
+ghost use Rattle.std.specs.Prelude.{◌≡◌, ◌++◌, ◌∷◌, ◌⊎◌, [], IfOk, IfSome, IsErrOf, OnOk, map, reverse, true};
 ghost use Rattle.lfs_model.specs.Source.{AreBad, names_of, path_in};
-ghost use Rattle.lfs_tool_source.specs.Shown.{Rests, listed};
-ghost use Rattle.lfs_tool_source.specs.Entries.{AreIn, AreInOrder, IsRead, given, name_of};
+ghost use Rattle.lfs_tool_source.specs.Shown.{Rests, is_folder, listed};
+ghost use Rattle.lfs_tool_source.specs.InMemory.{items_by};
+ghost use Rattle.lfs_tool_source.specs.Entries.{AreAll, AreWithin, HasBadNames, Holds, place_of, places_in};
 
 use crate::names::{are_good, sort_names};
 use crate::{Kind, Listed, Source, SourceError};
 use std::alloc::Global;
 
-/// What a folder has under a name.
+/// What a source has at a path.
 #[derive(Debug, Drop)]
 pub struct Entry {
-    /// The name's bytes.
-    pub name: Vec<u8>,
+    /// The path, `/` before each name.
+    pub path: Vec<u8>,
     /// A file's bytes, and none for a folder.
     pub bytes: Option<Vec<u8>>,
 }
 
-fn copied(alloc: Global, bytes: &[u8]) -> Result<Vec<u8>, SourceError>
-    ensures bytes { IfOk result (λ v. v.items ≡ bytes.now) }
-    ensures memory { (e : _) → result ≡ Err e → e ≡ SourceError.NoMemory }
-{
-    bytes.to_vec(alloc).map_err(|_| SourceError::NoMemory)
+// What is known to be there, and is yet to be read.
+#[derive(Debug, Drop)]
+struct Waiting {
+    path: Vec<u8>,
+    kind: Kind,
 }
 
 // The path of a name in a folder.
@@ -28,100 +29,20 @@ fn joined(alloc: Global, folder: &[u8], name: &[u8]) -> Result<Vec<u8>, SourceEr
     ensures path { IfOk result (λ v. v.items ≡ path_in folder.now name.now) }
     ensures memory { (e : _) → result ≡ Err e → e ≡ SourceError.NoMemory }
 {
-    let mut path = copied(alloc, folder)?;
+    let mut path = folder.to_vec(alloc).map_err(|_| SourceError::NoMemory)?;
     path.push(b'/').map_err(|_| SourceError::NoMemory)?;
     path.extend_from_slice(name)
         .map_err(|_| SourceError::NoMemory)?;
     Ok(path)
 }
 
-fn read_file<S: Source>(
+// The names in a folder, in order.
+fn names_within<S: Source>(
     alloc: Global,
     source: &mut S,
     folder: &[u8],
-    name: &[u8],
-) -> Result<Vec<u8>, SourceError>
-    ensures bytes { IfOk result (λ v. IfSome (S.shown source.old) (λ s. v.items ≡ s.bytes (path_in folder.now name.now))) }
-    ensures shown { Rests (S.shown source.old) (S.shown source.new) }
-    ensures kept { OnOk result (S.has_failed source.new ≡ S.has_failed source.old) }
-    ensures fault { IsErrOf result SourceError.Fault → S.has_failed source.new ≡ true }
-    ensures no_memory { IsErrOf result SourceError.NoMemory → S.has_failed source.new ≡ S.has_failed source.old }
-{
-    let path = joined(alloc, folder, name)?;
-    let bytes = source.read(alloc, path.as_slice())?;
-    Ok(bytes)
-}
-
-// A folder's entry has no bytes, and is not looked into.
-fn read_entry<S: Source>(
-    alloc: Global,
-    source: &mut S,
-    folder: &[u8],
-    one: &Listed,
-) -> Result<Entry, SourceError>
-    ensures given { IfOk result (λ e. given e ≡ listed one.now) }
-    ensures bytes { IfOk result (λ e. IfSome (S.shown source.old) (λ s. IsRead s folder.now e)) }
-    ensures shown { Rests (S.shown source.old) (S.shown source.new) }
-    ensures kept { OnOk result (S.has_failed source.new ≡ S.has_failed source.old) }
-    ensures fault { IsErrOf result SourceError.Fault → S.has_failed source.new ≡ true }
-    ensures no_memory { IsErrOf result SourceError.NoMemory → S.has_failed source.new ≡ S.has_failed source.old }
-{
-    let name = copied(alloc, one.name.as_slice())?;
-    match one.kind {
-        Kind::Folder => Ok(Entry { name, bytes: None }),
-        Kind::File => {
-            let bytes = read_file(alloc, source, folder, one.name.as_slice())?;
-            Ok(Entry {
-                name,
-                bytes: Some(bytes),
-            })
-        }
-    }
-}
-
-fn hold(entries: &mut Vec<Entry>, entry: Entry) -> Result<(), SourceError>
-    ensures entries { OnOk result (entries.new.items ≡ entries.old.items ++ entry ∷ []) }
-    ensures memory { (e : _) → result ≡ Err e → e ≡ SourceError.NoMemory }
-{
-    entries.push(entry).map_err(|_| SourceError::NoMemory)
-}
-
-// Reads what stands under these names.
-fn read_entries<S: Source>(
-    alloc: Global,
-    source: &mut S,
-    folder: &[u8],
-    names: &[Listed],
-) -> Result<Vec<Entry>, SourceError>
-    ensures given { IfOk result (λ v. map given v.items ≡ map listed names.now) }
-    ensures bytes { IfOk result (λ v. IfSome (S.shown source.old) (λ s. All (IsRead s folder.now) v.items)) }
-    ensures shown { Rests (S.shown source.old) (S.shown source.new) }
-    ensures kept { OnOk result (S.has_failed source.new ≡ S.has_failed source.old) }
-    ensures fault { IsErrOf result SourceError.Fault → S.has_failed source.new ≡ true }
-    ensures no_memory { IsErrOf result SourceError.NoMemory → S.has_failed source.new ≡ S.has_failed source.old }
-{
-    let mut entries = Vec::new(alloc);
-    for one in names {
-        let entry = read_entry(alloc, source, folder, one)?;
-        hold(&mut entries, entry)?;
-    }
-    Ok(entries)
-}
-
-/// Reads a folder: its entries in name order, each file with its bytes. A folder in it is not looked
-/// into.
-///
-/// # Errors
-/// - `Fault` where the source couldn't be read, or a name in the folder is given twice, is empty, `.` or
-///   `..`, or has a byte 0x00 or `/`.
-/// - `NoMemory` where a growth was refused.
-pub fn read_folder<S: Source>(
-    alloc: Global,
-    source: &mut S,
-    folder: &[u8],
-) -> Result<Vec<Entry>, SourceError>
-    ensures order { IfOk result (λ v. AreInOrder (map name_of v.items)) }
-    ensures entries { IfOk result (λ v. IfSome (S.shown source.old) (λ s. AreIn s folder.now v.items)) }
+) -> Result<Vec<Listed>, SourceError>
+    ensures names { IfOk result (λ v. AreWithin (S.shown source.old) folder.now (map listed v.items)) }
     ensures shown { Rests (S.shown source.old) (S.shown source.new) }
     ensures kept { OnOk result (S.has_failed source.new ≡ S.has_failed source.old) }
     ensures fault { IsErrOf result SourceError.Fault
@@ -133,5 +54,112 @@ pub fn read_folder<S: Source>(
     if !are_good(names.as_slice()) {
         return Err(SourceError::Fault);
     }
-    read_entries(alloc, source, folder, names.as_slice())
+    Ok(names)
+}
+
+fn wait(waiting: &mut Vec<Waiting>, one: Waiting) -> Result<(), SourceError>
+    ensures waiting { OnOk result (waiting.new.items ≡ waiting.old.items ++ one ∷ []) }
+    ensures memory { (e : _) → result ≡ Err e → e ≡ SourceError.NoMemory }
+{
+    waiting.push(one).map_err(|_| SourceError::NoMemory)
+}
+
+fn wait_for(
+    alloc: Global,
+    folder: &[u8],
+    names: &[Listed],
+    waiting: &mut Vec<Waiting>,
+) -> Result<(), SourceError>
+    ensures places { OnOk result (map place_of waiting.new.items ≡ map place_of waiting.old.items ++ places_in folder.now (map listed names.now)) }
+    ensures memory { (e : _) → result ≡ Err e → e ≡ SourceError.NoMemory }
+{
+    for one in names {
+        let path = joined(alloc, folder, one.name.as_slice())?;
+        let kind = one.kind;
+        wait(waiting, Waiting { path, kind })?;
+    }
+    Ok(())
+}
+
+// Has what stands in a folder wait, the first name last.
+fn look_into<S: Source>(
+    alloc: Global,
+    source: &mut S,
+    folder: &[u8],
+    waiting: &mut Vec<Waiting>,
+) -> Result<(), SourceError>
+    ensures within { OnOk result ((within : _) × (AreWithin (S.shown source.old) folder.now within
+        × (map place_of waiting.new.items ≡ map place_of waiting.old.items ++ reverse (places_in folder.now within)))) }
+    ensures shown { Rests (S.shown source.old) (S.shown source.new) }
+    ensures kept { OnOk result (S.has_failed source.new ≡ S.has_failed source.old) }
+    ensures fault { IsErrOf result SourceError.Fault
+        → (S.has_failed source.new ≡ true) ⊎ IfSome (S.shown source.old) (λ s. AreBad (names_of (s.names folder.now))) }
+    ensures no_memory { IsErrOf result SourceError.NoMemory → S.has_failed source.new ≡ S.has_failed source.old }
+{
+    let mut names = names_within(alloc, source, folder)?;
+    names.reverse();
+    wait_for(alloc, folder, names.as_slice(), waiting)?;
+    Ok(())
+}
+
+// A file's bytes. What stands in a folder waits.
+fn read_one<S: Source>(
+    alloc: Global,
+    source: &mut S,
+    one: &Waiting,
+    waiting: &mut Vec<Waiting>,
+) -> Result<Option<Vec<u8>>, SourceError>
+    ensures holds { IfOk result (λ bytes. (within : _) × (Holds (S.shown source.old) one.now.path.items (is_folder one.now.kind) (items_by bytes) within
+        × (map place_of waiting.new.items ≡ map place_of waiting.old.items ++ reverse (places_in one.now.path.items within)))) }
+    ensures shown { Rests (S.shown source.old) (S.shown source.new) }
+    ensures kept { OnOk result (S.has_failed source.new ≡ S.has_failed source.old) }
+    ensures fault { IsErrOf result SourceError.Fault
+        → (S.has_failed source.new ≡ true) ⊎ ((is_folder one.now.kind ≡ true) × IfSome (S.shown source.old) (λ s. AreBad (names_of (s.names one.now.path.items)))) }
+    ensures no_memory { IsErrOf result SourceError.NoMemory → S.has_failed source.new ≡ S.has_failed source.old }
+{
+    match one.kind {
+        Kind::Folder => {
+            look_into(alloc, source, one.path.as_slice(), waiting)?;
+            Ok(None)
+        }
+        Kind::File => {
+            let bytes = source.read(alloc, one.path.as_slice())?;
+            Ok(Some(bytes))
+        }
+    }
+}
+
+fn hold(entries: &mut Vec<Entry>, entry: Entry) -> Result<(), SourceError>
+    ensures entries { OnOk result (entries.new.items ≡ entries.old.items ++ entry ∷ []) }
+    ensures memory { (e : _) → result ≡ Err e → e ≡ SourceError.NoMemory }
+{
+    entries.push(entry).map_err(|_| SourceError::NoMemory)
+}
+
+/// Reads all that a source has, depth first and in name order: a folder comes before what stands in it.
+///
+/// # Errors
+/// - `Fault` where the source couldn't be read, or a name in a folder is given twice, is empty, `.` or
+///   `..`, or has a byte 0x00 or `/`.
+/// - `NoMemory` where a growth was refused.
+pub fn read_tree<S: Source>(alloc: Global, source: &mut S) -> Result<Vec<Entry>, SourceError>
+    ensures entries { IfOk result (λ v. AreAll (S.shown source.old) v.items) }
+    ensures shown { Rests (S.shown source.old) (S.shown source.new) }
+    ensures kept { OnOk result (S.has_failed source.new ≡ S.has_failed source.old) }
+    ensures fault { IsErrOf result SourceError.Fault → (S.has_failed source.new ≡ true) ⊎ IfSome (S.shown source.old) HasBadNames }
+    ensures no_memory { IsErrOf result SourceError.NoMemory → S.has_failed source.new ≡ S.has_failed source.old }
+{
+    let mut entries = Vec::new(alloc);
+    let mut waiting = Vec::new(alloc);
+    look_into(alloc, source, b"", &mut waiting)?;
+    // Each round holds an entry, so memory ends before the rounds do.
+    for _ in 0..u64::MAX {
+        let Some(one) = waiting.pop() else {
+            return Ok(entries);
+        };
+        let bytes = read_one(alloc, source, &one, &mut waiting)?;
+        let path = one.path;
+        hold(&mut entries, Entry { path, bytes })?;
+    }
+    Err(SourceError::NoMemory)
 }

@@ -7,7 +7,7 @@ mod memory;
 mod names;
 mod source;
 
-pub use entries::{Entry, read_folder};
+pub use entries::{Entry, read_tree};
 pub use folder::Folder;
 pub use memory::{Held, MemorySource};
 pub use source::{Kind, Listed, Source, SourceError};

@@ -1,4 +1,4 @@
-use crate::{Folder, Held, Kind, MemorySource, Source, SourceError, read_folder};
+use crate::{Folder, Held, Kind, MemorySource, Source, SourceError, read_tree};
 use std::alloc::Global;
 use std::fs;
 use std::test::Fail;
@@ -37,22 +37,52 @@ fn memory_is_listed_and_read(rt: HostRuntime) -> Result<(), Fail> {
     Ok(())
 }
 
+fn folder(alloc: Global, path: &[u8]) -> Result<Held, SourceError> {
+    let path = path.to_vec(alloc).map_err(|_| SourceError::NoMemory)?;
+    Ok(Held { path, bytes: None })
+}
+
+fn source(held: Vec<Held>) -> MemorySource {
+    MemorySource {
+        held,
+        has_failed: false,
+    }
+}
+
 #[test]
 fn entries_come_in_name_order(rt: HostRuntime) -> Result<(), Fail> {
     let alloc = rt.alloc();
     let ab = file(alloc, b"/ab", b"1").expect(&rt, "a file");
     let high = file(alloc, b"/\xc3", b"2").expect(&rt, "a file");
     let a = file(alloc, b"/a", b"3").expect(&rt, "a file");
-    let mut source = MemorySource {
-        held: vec![in alloc; ab, high, a]?,
-        has_failed: false,
-    };
-    let entries = read_folder(alloc, &mut source, b"").expect(&rt, "entries");
+    let mut source = source(vec![in alloc; ab, high, a]?);
+    let entries = read_tree(alloc, &mut source).expect(&rt, "entries");
     assert_eq!(rt; entries.len(), 3);
-    assert!(rt; entries[0].name.as_slice() == b"a".as_slice());
-    assert!(rt; entries[1].name.as_slice() == b"ab".as_slice());
-    assert!(rt; entries[2].name.as_slice() == b"\xc3".as_slice());
+    assert!(rt; entries[0].path.as_slice() == b"/a".as_slice());
+    assert!(rt; entries[1].path.as_slice() == b"/ab".as_slice());
+    assert!(rt; entries[2].path.as_slice() == b"/\xc3".as_slice());
     assert!(rt; matches!(&entries[0].bytes, Some(bytes) if bytes.as_slice() == b"3".as_slice()));
+    Ok(())
+}
+
+#[test]
+fn a_folder_comes_before_what_stands_in_it(rt: HostRuntime) -> Result<(), Fail> {
+    let alloc = rt.alloc();
+    let mut held = Vec::new(alloc);
+    held.push(file(alloc, b"/d/x", b"1").expect(&rt, "a file"))?;
+    held.push(file(alloc, b"/e", b"2").expect(&rt, "a file"))?;
+    held.push(folder(alloc, b"/d/c").expect(&rt, "a folder"))?;
+    held.push(folder(alloc, b"/d").expect(&rt, "a folder"))?;
+    held.push(file(alloc, b"/d/c/z", b"3").expect(&rt, "a file"))?;
+    held.push(file(alloc, b"/d-", b"4").expect(&rt, "a file"))?;
+    let entries = read_tree(alloc, &mut source(held)).expect(&rt, "entries");
+    let paths = [b"/d".as_slice(), b"/d/c", b"/d/c/z", b"/d/x", b"/d-", b"/e"];
+    assert_eq!(rt; entries.len(), paths.len());
+    for (entry, path) in entries.iter().zip(paths) {
+        assert!(rt; entry.path.as_slice() == path);
+    }
+    assert!(rt; entries[0].bytes.is_none() && entries[1].bytes.is_none());
+    assert!(rt; matches!(&entries[2].bytes, Some(bytes) if bytes.as_slice() == b"3".as_slice()));
     Ok(())
 }
 
@@ -64,7 +94,7 @@ fn bad_names_are_faults(rt: HostRuntime) -> Result<(), Fail> {
             held: vec![in alloc; file(alloc, name, b"").expect(&rt, "a file")]?,
             has_failed: false,
         };
-        let fault = read_folder(alloc, &mut source, b"");
+        let fault = read_tree(alloc, &mut source);
         assert!(rt; matches!(&fault, Err(SourceError::Fault)));
         assert!(rt; !source.has_failed);
     }
@@ -74,7 +104,17 @@ fn bad_names_are_faults(rt: HostRuntime) -> Result<(), Fail> {
         held: vec![in alloc; one, other]?,
         has_failed: false,
     };
-    let fault = read_folder(alloc, &mut twice, b"");
+    let fault = read_tree(alloc, &mut twice);
+    assert!(rt; matches!(&fault, Err(SourceError::Fault)));
+    Ok(())
+}
+
+#[test]
+fn bad_names_below_are_faults(rt: HostRuntime) -> Result<(), Fail> {
+    let alloc = rt.alloc();
+    let d = folder(alloc, b"/d").expect(&rt, "a folder");
+    let dots = file(alloc, b"/d/..", b"").expect(&rt, "a file");
+    let fault = read_tree(alloc, &mut source(vec![in alloc; d, dots]?));
     assert!(rt; matches!(&fault, Err(SourceError::Fault)));
     Ok(())
 }
@@ -84,12 +124,14 @@ fn a_real_folder_is_read(rt: HostRuntime) -> Result<(), Fail> {
     let _ = fs::remove_dir_all(&rt, "source_folder");
     fs::create_dir(&rt, "source_folder")?;
     fs::create_dir(&rt, "source_folder/d")?;
+    fs::write(&rt, "source_folder/d/y", b"")?;
     fs::write(&rt, "source_folder/x", b"hi")?;
     let mut folder = Folder::new(&rt, "source_folder");
-    let entries = read_folder(rt.alloc(), &mut folder, b"").expect(&rt, "entries");
-    assert_eq!(rt; entries.len(), 2);
-    assert!(rt; entries[0].name.as_slice() == b"d".as_slice() && entries[0].bytes.is_none());
-    assert!(rt; matches!(&entries[1].bytes, Some(bytes) if bytes.as_slice() == b"hi".as_slice()));
+    let entries = read_tree(rt.alloc(), &mut folder).expect(&rt, "entries");
+    assert_eq!(rt; entries.len(), 3);
+    assert!(rt; entries[0].path.as_slice() == b"/d".as_slice() && entries[0].bytes.is_none());
+    assert!(rt; entries[1].path.as_slice() == b"/d/y".as_slice());
+    assert!(rt; matches!(&entries[2].bytes, Some(bytes) if bytes.as_slice() == b"hi".as_slice()));
     assert!(rt; folder.read(rt.alloc(), b"/d").is_err());
     assert!(rt; folder.list(rt.alloc(), b"/e\xff").is_err());
     assert!(rt;

@@ -1,6 +1,5 @@
 use Rattle.std.proofs.Common.{◌≡◌, drop, map}
-use Rattle.lfs_tool_create.specs.Files.{refusal_for}
-use Rattle.lfs_tool_source.specs.Entries.{name_of}
+use Rattle.lfs_tool_create.specs.Files.{name_of, refusal_for}
 use Rattle.lfs_tool_create.proofs.checks.refusal.Given as goal
 
 abbrev pub invariant-loop-entry : goal.invariant-loop-entry

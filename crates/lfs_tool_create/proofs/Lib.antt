@@ -8,3 +8,4 @@ mod Taking
 mod Sizing
 mod Whole
 mod Refused
+mod Carrying

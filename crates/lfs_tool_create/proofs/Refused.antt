@@ -6,11 +6,12 @@ use Rattle.std.proofs.lemmas.Bool.{le-leb, le-ltb}
 use Rattle.lfs_model.specs.Disk.{entry_limit, file_limit, inline_limit}
 use Rattle.lfs_model.specs.Geometry.{IsGeometry}
 use Rattle.lfs_model.specs.Names.{Name, is_component, same_name}
+use Rattle.lfs_model.specs.Slots.{no_gstate}
 use Rattle.lfs_model.specs.Tree.{FileNode, Node, Tree}
 use Rattle.lfs_model.specs.Apply.{added, bytes_at, same_path}
 use Rattle.lfs_model.specs.Operations as ops
 use Rattle.lfs_model.specs.Operations.{Operation, Refusal, NameTooLong, NoSpace, EntryFull, TooBig, path_bytes, path_of}
-use Rattle.lfs_model.specs.Listing.{new_file_flags}
+use Rattle.lfs_model.specs.Listing.{new_file_flags, operations_for}
 use Rattle.lfs_model.specs.Session.{Files, Session, Surroundings, Writer, Writing, after_write, first_of, is_overcharged, opened_writer, overfills, refuse_if}
 use Rattle.lfs_model.specs.Lists.{blocks_for}
 use Rattle.lfs_model.specs.Steps.{effect_of, open_effect, open_refusal, refusal_of, with_bytes}
@@ -19,7 +20,24 @@ use Rattle.lfs_model.specs.State.{mounted}
 use Rattle.lfs_device.specs.declared.error.Error.TheVariants as error
 use Rattle.lfs_model.proofs.Spelled.{spelled}
 use Rattle.lfs_tool_create.specs.Files.{File, refusal_for}
-use Rattle.lfs_tool_create.specs.Refusals.{AllOther, AreApart, around_pair, error_of, first_refusal, operations_of}
+use Rattle.lfs_tool_create.specs.Refusals.{error_of, first_refusal}
+
+-- what a disk that uses the first two blocks alone has around it
+abbrev pub around_pair : ℕ → ℕ → ℕ → Surroundings
+around_pair block_size page blocks = record { writable = true; block_size = block_size; page = page; block_count = blocks; used = 0 ∷ 1 ∷ []; gstate = no_gstate }
+
+-- what carries a file over
+abbrev pub file_operations : File → List Operation
+file_operations f = operations_for (path_bytes (f.0 ∷ [])) (FileNode [] f.1)
+
+abbrev pub AllOther : Name → List File → Type 0
+AllOther name [] = Unit {0}
+AllOther name (f ∷ fs) = (same_name name f.0 ≡ false) × AllOther name fs
+
+-- names that are components of paths, no two the same, and bytes that stand in a slot
+abbrev pub AreApart : ℕ → List File → Type 0
+AreApart block_size [] = Unit {0}
+AreApart block_size (f ∷ fs) = (is_component f.0 ≡ true) × (length f.1 ≤ inline_limit block_size) × AllOther f.0 fs × AreApart block_size fs
 
 -- the first refusal, of the names alone
 abbrev refusal_by_names : ℕ → List Name → Option Refusal
@@ -183,26 +201,26 @@ module _ (block_size page blocks : ℕ) (g : IsGeometry block_size page blocks) 
       go files (inr e) = ap (λ xs. (open_effect (begun tree xs) (name ∷ []) new_file_flags).1) e ∙ ap seen none
 
   carried : (tree : Tree) (files : Files) (fs : List File) → Idle files → AreApart block_size fs → IsFree tree fs
-      → first_refusal around (begun tree files) (flat_map operations_of fs) ≡ refusal_by_names blocks (map (λ f. f.0) fs)
+      → first_refusal around (begun tree files) (flat_map file_operations fs) ≡ refusal_by_names blocks (map (λ f. f.0) fs)
   carried tree files [] idle a h = refl
   carried tree files (f ∷ fs) idle a h =
-      ap₂ (λ r s. option_or r (first_refusal around s (ops.Write 0 f.1 ∷ ops.Close 0 ∷ flat_map operations_of fs))) (refusal_open tree files f.0 idle a.0 h.0) (effect_open tree files f.0 idle a.0 h.0)
+      ap₂ (λ r s. option_or r (first_refusal around s (ops.Write 0 f.1 ∷ ops.Close 0 ∷ flat_map file_operations fs))) (refusal_open tree files f.0 idle a.0 h.0) (effect_open tree files f.0 idle a.0 h.0)
       ∙ go (nat_lt 255 (length f.0)) (nat_lt blocks 4) refl
-      (ap (λ xs. first_refusal around (begun (after tree f.0 f.1).tree xs) (flat_map operations_of fs)) (after_files tree f.0 f.1)
+      (ap (λ xs. first_refusal around (begun (after tree f.0 f.1).tree xs) (flat_map file_operations fs)) (after_files tree f.0 f.1)
       ∙ carried (after tree f.0 f.1).tree (None ∷ []) fs (inr refl) a.3 (still_free tree f.0 f.1 fs a.2 h.1))
     where
-      go : (long few : Bool) → nat_lt blocks 4 ≡ few → first_refusal around (after tree f.0 f.1) (flat_map operations_of fs) ≡ refusal_by_names blocks (map (λ g. g.0) fs)
-          → option_or (opened long few) (first_refusal around (held_session (added (f.0 ∷ []) (FileNode [] []) tree) (writer f.0)) (ops.Write 0 f.1 ∷ ops.Close 0 ∷ flat_map operations_of fs))
+      go : (long few : Bool) → nat_lt blocks 4 ≡ few → first_refusal around (after tree f.0 f.1) (flat_map file_operations fs) ≡ refusal_by_names blocks (map (λ g. g.0) fs)
+          → option_or (opened long few) (first_refusal around (held_session (added (f.0 ∷ []) (FileNode [] []) tree) (writer f.0)) (ops.Write 0 f.1 ∷ ops.Close 0 ∷ flat_map file_operations fs))
           ≡ cond long (Some NameTooLong) (cond few (Some NoSpace) (refusal_by_names blocks (map (λ g. g.0) fs)))
       go true few e next = refl
       go false true e next = refl
       go false false e next =
-          ap (λ r. option_or r (first_refusal around (effect_of around (held_session (added (f.0 ∷ []) (FileNode [] []) tree) (writer f.0)) (ops.Write 0 f.1)).1 (ops.Close 0 ∷ flat_map operations_of fs)))
+          ap (λ r. option_or r (first_refusal around (effect_of around (held_session (added (f.0 ∷ []) (FileNode [] []) tree) (writer f.0)) (ops.Write 0 f.1)).1 (ops.Close 0 ∷ flat_map file_operations fs)))
           (write_fits (added (f.0 ∷ []) (FileNode [] []) tree) f.0 f.1 a.1 e)
           ∙ closed f.1 ∙ next
         where
-          closed : (bytes : List ℕ) → first_refusal around (effect_of around (held_session (added (f.0 ∷ []) (FileNode [] []) tree) (writer f.0)) (ops.Write 0 bytes)).1 (ops.Close 0 ∷ flat_map operations_of fs)
-              ≡ first_refusal around (after tree f.0 bytes) (flat_map operations_of fs)
+          closed : (bytes : List ℕ) → first_refusal around (effect_of around (held_session (added (f.0 ∷ []) (FileNode [] []) tree) (writer f.0)) (ops.Write 0 bytes)).1 (ops.Close 0 ∷ flat_map file_operations fs)
+              ≡ first_refusal around (after tree f.0 bytes) (flat_map file_operations fs)
           closed [] = refl
           closed (b ∷ bytes) = refl
 
@@ -210,5 +228,5 @@ module _ (block_size page blocks : ℕ) (g : IsGeometry block_size page blocks) 
   all_free [] = tt
   all_free (f ∷ fs) = (refl, all_free fs)
 
-  pub first_is : (fs : List File) → AreApart block_size fs → option_map error_of (first_refusal around (mounted empty_tree) (flat_map operations_of fs)) ≡ refusal_for blocks (map (λ f. f.0) fs)
+  pub first_is : (fs : List File) → AreApart block_size fs → option_map error_of (first_refusal around (mounted empty_tree) (flat_map file_operations fs)) ≡ refusal_for blocks (map (λ f. f.0) fs)
   first_is fs a = ap (option_map error_of) (carried empty_tree [] fs (inl refl) a (all_free fs)) ∙ named blocks (map (λ f. f.0) fs)

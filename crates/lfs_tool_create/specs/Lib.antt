@@ -1,4 +1,4 @@
 pub mod Files
 pub mod Root
-pub mod Made
 pub mod Refusals
+pub mod Made

@@ -9,6 +9,7 @@ use Rattle.lfs_device.specs.declared.error.Error.{Error}
 use Rattle.lfs_device.specs.declared.error.Error.TheVariants.{NoMemory, Unsupported}
 use Rattle.lfs_device.specs.declared.geometry.Geometry.{Geometry}
 use Rattle.lfs_tool_create.specs.Files.{are_held, name_of, refusal_for}
+use Rattle.lfs_tool_create.specs.Refusals.{AreMet}
 use Rattle.lfs_tool_source.specs.Entries.{HasBadNames}
 use Rattle.lfs_tool_source.specs.declared.entries.Entry.{Entry}
 
@@ -23,16 +24,28 @@ pub record IsMade (geometry : Geometry) (known : Option Source) (bytes : List �
   pub gstate : gstate_of pairs ≡ no_gstate
   pub tree : IfSome known (λ s. IsTreeOf s (tree_in (disk_of geometry.block_size geometry.page bytes) pairs))
 
--- nothing refuses these entries
+-- their names and sizes refuse nothing
 pub record AreTaken (geometry : Geometry) (entries : List Entry) : Type 0 where
   pub held : are_held geometry.block_size geometry.page entries ≡ true
   pub refusal : refusal_for geometry.block_count (map name_of entries) ≡ None
 
--- why these entries are refused; memory may run out at any
+-- why their names or sizes are refused; memory may run out at any
 abbrev pub AreRefused : Geometry → List Entry → Error → Type 0
 AreRefused geometry entries NoMemory = Unit {0}
 AreRefused geometry entries Unsupported = are_held geometry.block_size geometry.page entries ≡ false
 AreRefused geometry entries e = (are_held geometry.block_size geometry.page entries ≡ true) × (refusal_for geometry.block_count (map name_of entries) ≡ Some e)
+
+-- nothing refuses these entries, and none of the operations that carry them over
+pub record IsTaken (geometry : Geometry) (known : Option Source) (entries : List Entry) : Type 0 where
+  pub held : are_held geometry.block_size geometry.page entries ≡ true
+  pub met : AreMet geometry known entries None
+
+-- Why these entries of a source are refused: one pair doesn't hold them, or else an operation that carries them over is
+-- refused, and this is the first that is. Memory may run out at any.
+abbrev pub IsRefused : Geometry → Option Source → List Entry → Error → Type 0
+IsRefused geometry known entries NoMemory = Unit {0}
+IsRefused geometry known entries Unsupported = are_held geometry.block_size geometry.page entries ≡ false
+IsRefused geometry known entries e = (are_held geometry.block_size geometry.page entries ≡ true) × AreMet geometry known entries (Some e)
 
 -- the source has failed, or a folder in it has bad names
 abbrev pub HasFault : Bool → Option Source → Type 0

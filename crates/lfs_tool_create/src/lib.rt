@@ -3,12 +3,10 @@
 
 mod checks;
 mod image;
-mod laws;
 mod making;
 mod root;
 mod sizes;
 
-pub use laws::refusal_is_first;
 pub use making::create;
 pub use sizes::geometry_for;
 

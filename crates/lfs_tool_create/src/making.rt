@@ -3,7 +3,7 @@ ghost use Rattle.std.specs.Io.KnownBytes.{Appends, Keeps};
 ghost use Rattle.lfs_tool.specs.Known.{AppendsBeginning};
 ghost use Rattle.lfs_tool_create.specs.Files.{file_of};
 ghost use Rattle.lfs_tool_create.specs.Root.{ArePages, image_of};
-ghost use Rattle.lfs_tool_create.specs.Made.{AreRefused, AreTaken, HasFault, IsMade};
+ghost use Rattle.lfs_tool_create.specs.Made.{AreRefused, AreTaken, HasFault, IsMade, IsRefused, IsTaken};
 ghost use Rattle.lfs_tool_source.specs.Entries.{AreAll};
 
 use crate::checks::check;
@@ -59,10 +59,10 @@ pub fn create<S: Source, W: Write>(
     geometry: Geometry,
     out: &mut Watched<W>,
 ) -> Result<(), ToolError>
-    ensures ok { OnOk result ((entries : _) × (AreAll (S.shown source.old) entries × (AreTaken geometry entries
+    ensures ok { OnOk result ((entries : _) × (AreAll (S.shown source.old) entries × (IsTaken geometry (S.shown source.old) entries
         × ((image : _) × (IsMade geometry (S.shown source.old) image × Appends (W.contents out.old.inner) (W.contents out.new.inner) image))))) }
     ensures refused { (e : _) → IsErrOf result (ToolError.Fs e) → Keeps (W.contents out.old.inner) (W.contents out.new.inner)
-        × (e ≢ Error.NoMemory → (entries : _) × (AreAll (S.shown source.old) entries × AreRefused geometry entries e)) }
+        × (e ≢ Error.NoMemory → (entries : _) × (AreAll (S.shown source.old) entries × IsRefused geometry (S.shown source.old) entries e)) }
     ensures input { IsErrOf result ToolError.Input → Keeps (W.contents out.old.inner) (W.contents out.new.inner) × HasFault (S.has_failed source.new) (S.shown source.old) }
     ensures output { IsErrOf result ToolError.Output → (out.new.has_failed ≡ true)
         × ((image : _) × (IsMade geometry (S.shown source.old) image × AppendsBeginning (W.contents out.old.inner) (W.contents out.new.inner) image)) }

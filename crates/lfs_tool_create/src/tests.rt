@@ -1,11 +1,11 @@
 use crate::{create, geometry_for};
 use lfs_device::{Error, Geometry};
 use lfs_tool::{ToolError, Watched, list};
-use lfs_tool_source::{Held, Listed, MemorySource, Source, SourceError};
+use lfs_tool_source::{Folder, Held, Listed, MemorySource, Source, SourceError};
 use std::alloc::Global;
-use std::io;
 use std::io::Write;
 use std::test::Fail;
+use std::{fs, io};
 
 fn file(alloc: Global, path: &[u8], bytes: &[u8]) -> Result<Held, SourceError> {
     let path = path.to_vec(alloc).map_err(|_| SourceError::NoMemory)?;
@@ -248,5 +248,60 @@ fn a_failing_source_is_told(rt: HostRuntime) -> Result<(), Fail> {
         assert!(rt; matches!(&result, Err(ToolError::Input)));
         assert!(rt; out.inner.is_empty() && failing.has_failed);
     }
+    Ok(())
+}
+
+fn two_files(alloc: Global) -> Result<MemorySource, SourceError> {
+    let a = file(alloc, b"/a", b"1")?;
+    let b = file(alloc, b"/b", b"2")?;
+    let held = vec![in alloc; a, b].map_err(|_| SourceError::NoMemory)?;
+    Ok(source(held))
+}
+
+// Holds whichever allocation fails.
+#[test]
+fn want_of_memory_is_told(rt: HostRuntime) -> Result<(), Fail> {
+    let alloc = rt.alloc();
+    let Ok(mut source) = two_files(alloc) else {
+        return Ok(());
+    };
+    let geometry = geometry_for(65536, 4096, 256).expect(&rt, "a geometry");
+    let mut out = Watched::new(Short {
+        taken: 0,
+        room: 65536,
+    });
+    match create(alloc, &mut source, geometry, &mut out) {
+        Ok(()) => assert_eq!(rt; out.inner.taken, 65536),
+        Err(error) => {
+            assert!(rt; matches!(&error, ToolError::Fs(Error::NoMemory)));
+            assert!(rt; out.inner.taken == 0 && !source.has_failed);
+        }
+    }
+    Ok(())
+}
+
+// Holds whichever allocation fails.
+#[test]
+fn want_of_memory_for_a_real_folder_is_told(rt: HostRuntime) -> Result<(), Fail> {
+    let made = fs::create_dir_all(&rt, "memory_folder").is_ok()
+        && fs::write(&rt, "memory_folder/a", b"hi").is_ok()
+        && fs::write(&rt, "memory_folder/b", b"").is_ok();
+    if !made {
+        return Ok(());
+    }
+    let mut folder = Folder::new(&rt, "memory_folder");
+    let geometry = geometry_for(65536, 4096, 256).expect(&rt, "a geometry");
+    let mut out = Watched::new(Short {
+        taken: 0,
+        room: 65536,
+    });
+    match create(rt.alloc(), &mut folder, geometry, &mut out) {
+        Ok(()) => assert_eq!(rt; out.inner.taken, 65536),
+        Err(error) => {
+            assert!(rt; matches!(&error, ToolError::Fs(Error::NoMemory)));
+            assert_eq!(rt; out.inner.taken, 0);
+        }
+    }
+    let _ = fs::remove_dir_all(&rt, "memory_folder");
     Ok(())
 }

@@ -17,7 +17,8 @@ pub struct Folder<'a, R> {
 impl<'a, R: Files + AllocGlobal + Clone + Drop> Folder<'a, R> {
     /// The folder at a path of the file system. Nothing is read yet.
     pub fn new(rt: &'a R, root: &'a str) -> Folder<'a, R>
-        ensures { result.has_failed ≡ false }
+        ensures root { result.root.now ≡ root.now }
+        ensures has_failed { result.has_failed ≡ false }
     {
         Folder {
             rt,

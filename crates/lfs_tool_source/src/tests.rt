@@ -142,3 +142,43 @@ fn a_real_folder_is_read(rt: HostRuntime) -> Result<(), Fail> {
     fs::remove_dir_all(&rt, "source_folder")?;
     Ok(())
 }
+
+fn nested(alloc: Global) -> Result<MemorySource, SourceError> {
+    let d = folder(alloc, b"/d")?;
+    let a = file(alloc, b"/a", b"1")?;
+    let x = file(alloc, b"/d/x", b"2")?;
+    let held = vec![in alloc; d, a, x].map_err(|_| SourceError::NoMemory)?;
+    Ok(source(held))
+}
+
+// Holds whichever allocation fails.
+#[test]
+fn want_of_memory_is_told(rt: HostRuntime) -> Result<(), Fail> {
+    let alloc = rt.alloc();
+    let Ok(mut source) = nested(alloc) else {
+        return Ok(());
+    };
+    match read_tree(alloc, &mut source) {
+        Ok(entries) => assert_eq!(rt; entries.len(), 3),
+        Err(error) => assert!(rt; error == SourceError::NoMemory && !source.has_failed),
+    }
+    Ok(())
+}
+
+// Holds whichever allocation fails.
+#[test]
+fn want_of_memory_for_a_real_folder_is_told(rt: HostRuntime) -> Result<(), Fail> {
+    let alloc = rt.alloc();
+    let made = fs::create_dir_all(&rt, "memory_folder/d").is_ok()
+        && fs::write(&rt, "memory_folder/d/x", b"hi").is_ok();
+    if !made {
+        return Ok(());
+    }
+    let mut folder = Folder::new(&rt, "memory_folder");
+    match read_tree(alloc, &mut folder) {
+        Ok(entries) => assert_eq!(rt; entries.len(), 2),
+        Err(error) => assert!(rt; error == SourceError::NoMemory),
+    }
+    let _ = fs::remove_dir_all(&rt, "memory_folder");
+    Ok(())
+}

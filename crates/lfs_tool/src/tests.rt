@@ -348,3 +348,41 @@ fn reports_command_lines(rt: HostRuntime) -> Result<(), Fail> {
     assert_eq!(rt; err.inner.as_slice(), line.as_bytes());
     Ok(())
 }
+
+// A writer that counts, and takes no memory.
+#[derive(Drop)]
+struct Counting {
+    taken: usize,
+}
+
+impl Write for Counting {
+    fn write(&mut self, buf: &[u8]) -> io::Result<usize> {
+        self.taken = self.taken.saturating_add(buf.len());
+        Ok(buf.len())
+    }
+
+    fn flush(&mut self) -> io::Result<()> {
+        Ok(())
+    }
+}
+
+// Holds whichever allocation fails.
+#[test]
+fn want_of_memory_is_told(rt: HostRuntime) -> Result<(), Fail> {
+    let Ok(block) = shifting_block(rt.alloc()) else {
+        return Ok(());
+    };
+    let Ok(image) = image_of(block, &[]) else {
+        return Ok(());
+    };
+    let mut out = Watched::new(Counting { taken: 0 });
+    let mut reader = Watched::new(image.as_slice());
+    match list(rt.alloc(), &mut reader, 4096, 256, &mut out) {
+        Ok(()) => assert_eq!(rt; out.inner.taken, 7),
+        Err(error) => {
+            assert!(rt; matches!(&error, ToolError::Fs(Error::NoMemory)));
+            assert_eq!(rt; out.inner.taken, 0);
+        }
+    }
+    Ok(())
+}

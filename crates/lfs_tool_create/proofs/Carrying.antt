@@ -36,7 +36,7 @@ use Rattle.lfs_tool_create.specs.Refusals.{AreMet, CarryOver, IsFreshOf, MeetFir
 use Rattle.lfs_tool_create.proofs.Holding.{slot_of}
 use Rattle.lfs_tool_create.proofs.Refused.{AllOther, AreApart, around_pair, file_operations, first_is}
 use Rattle.lfs_tool_create.proofs.Showing.{Stand, shown}
-use Rattle.lfs_tool_create.proofs.Tops.{AreOnTop, IsAFile, IsOnTop, on_top}
+use Rattle.lfs_tool_create.proofs.Tops.{AreOnTop, IsAFile, IsOnTop, file_names, on_top}
 
 -- ---- the operations
 
@@ -164,10 +164,6 @@ meets g es a e = λ disk around h s.
     ∙ ap (λ t. option_map error_of (first_refusal (around_pair g.block_size g.page g.block_count) (mounted t) (flat_map file_operations (map file_of es)))) (shows disk)
     ∙ first_is g.block_size g.page g.block_count g.valid (map file_of es) a
     ∙ ap (refusal_for g.block_count) (file_names es)
-  where
-    file_names : (es : List Entry) → map (λ (f : File). f.0) (map file_of es) ≡ map name_of es
-    file_names [] = refl
-    file_names (e ∷ es) = ap (λ ns. name_of e ∷ ns) (file_names es)
 
 met : (g : Geometry) (known : Option Source) (es : List Entry) → AreAll known es → are_held g.block_size g.page es ≡ true → AreMet g known es (refusal_for g.block_count (map name_of es))
 met g known es all held =

@@ -64,7 +64,7 @@ names_given : (fs : List File) → names_of (map given_of fs) ≡ map (λ f. f.0
 names_given [] = refl
 names_given (f ∷ fs) = ap (λ ns. f.0 ∷ ns) (names_given fs)
 
-file_names : (es : List Entry) → map (λ (f : File). f.0) (map file_of es) ≡ map name_of es
+pub file_names : (es : List Entry) → map (λ (f : File). f.0) (map file_of es) ≡ map name_of es
 file_names [] = refl
 file_names (e ∷ es) = ap (λ ns. name_of e ∷ ns) (file_names es)
 

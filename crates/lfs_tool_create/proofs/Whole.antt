@@ -62,10 +62,6 @@ slot_names : (es : List Entry) → names_in (map slot_of (map file_of es)) ≡ m
 slot_names [] = refl
 slot_names (e ∷ es) = ap (λ ns. name_of e ∷ ns) (slot_names es)
 
-file_names : (es : List Entry) → map (λ (f : File). f.0) (map file_of es) ≡ map name_of es
-file_names [] = refl
-file_names (e ∷ es) = ap (λ ns. name_of e ∷ ns) (file_names es)
-
 -- ---- the writing profile
 
 slots_size : (fs : List File) → sum_by slot_size (map slot_of fs) ≡ sum_by file_size fs

@@ -73,7 +73,7 @@ returns-in_err-compact-clause-stops g c cleanly =
     let fresh = c.in_ok-fresh_pair.ensures in
     goes_on_by (LeavesOnly-weaker (λ disk left. left_while_fresh _ _ _ (changes_seen c.args.changes.now) disk ready.apart left) (LeavesOnly-worst fresh.at_worst))
     (LeavesOnly-weaker (λ disk left. left_while_old _ _ _ (changes_seen c.args.changes.now) (g.D.BlockDevice.blocks c.write_fresh.new.dev) disk ready.apart fresh.others ready.made ready.parts (raw_held fresh.holds)
-      (subst (λ k. LeftWith (disk_of k (g.D.BlockDevice.blocks c.write_fresh.new.dev)) (address_in c.args.pair.now) (content_seen c.cut_off.new.content) disk) fresh.geometry left))
+    (subst (λ k. LeftWith (disk_of k (g.D.BlockDevice.blocks c.write_fresh.new.dev)) (address_in c.args.pair.now) (content_seen c.cut_off.new.content) disk) fresh.geometry left))
     (c.in_err-compact.ensures.stops (EachSince-behind cleanly fresh.at_worst c.in_err-compact.ensures.at_worst)))
 
 pub returns-in_err-compact-clause-at_worst : goal.returns-in_err-compact-clause-at_worst
@@ -93,8 +93,8 @@ returns-clause-splits g c =
       is_cut = ready.parts.is_cut;
       front = subst (NowHolds _ _ (address_in c.args.pair.now) c.compact.new.pair) ready.parts.front_is c.in_ok-compact.ensures.done;
       back = subst (NowHolds _ _ (address_of c.args.fresh) c.in_ok-fresh_pair.fresh_pair) ready.parts.back_is
-        (subst (λ k. NowHolds (disk_of k (g.D.BlockDevice.blocks c.compact.new.dev)) (g.D.BlockDevice.history c.compact.new.dev) (address_of c.args.fresh) c.in_ok-fresh_pair.fresh_pair (content_seen c.in_ok-back.back)) (sym c.in_ok-compact.ensures.geometry)
-        (NowHolds-stays {disk = disk_of (g.D.BlockDevice.geometry c.write_fresh.new.dev) (g.D.BlockDevice.blocks c.write_fresh.new.dev)} (fresh_elsewhere ready.apart) c.in_ok-compact.ensures.others c.in_ok-compact.ensures.elsewhere fresh.holds));
+          (subst (λ k. NowHolds (disk_of k (g.D.BlockDevice.blocks c.compact.new.dev)) (g.D.BlockDevice.history c.compact.new.dev) (address_of c.args.fresh) c.in_ok-fresh_pair.fresh_pair (content_seen c.in_ok-back.back)) (sym c.in_ok-compact.ensures.geometry)
+          (NowHolds-stays {disk = disk_of (g.D.BlockDevice.geometry c.write_fresh.new.dev) (g.D.BlockDevice.blocks c.write_fresh.new.dev)} (fresh_elsewhere ready.apart) c.in_ok-compact.ensures.others c.in_ok-compact.ensures.elsewhere fresh.holds));
     }
 
 pub returns-clause-others : goal.returns-clause-others
@@ -111,7 +111,7 @@ returns-clause-stops g c cleanly =
     let fresh = c.in_ok-fresh_pair.ensures in
     goes_on_by (LeavesOnly-weaker (λ disk left. left_while_fresh _ _ _ (changes_seen c.args.changes.now) disk ready.apart left) (LeavesOnly-worst fresh.at_worst))
     (LeavesOnly-weaker (λ disk left. left_while_old _ _ _ (changes_seen c.args.changes.now) (g.D.BlockDevice.blocks c.write_fresh.new.dev) disk ready.apart fresh.others ready.made ready.parts (raw_held fresh.holds)
-      (subst (λ k. LeftWith (disk_of k (g.D.BlockDevice.blocks c.write_fresh.new.dev)) (address_in c.args.pair.now) (content_seen c.cut_off.new.content) disk) fresh.geometry left))
+    (subst (λ k. LeftWith (disk_of k (g.D.BlockDevice.blocks c.write_fresh.new.dev)) (address_in c.args.pair.now) (content_seen c.cut_off.new.content) disk) fresh.geometry left))
     (c.in_ok-compact.ensures.stops (EachSince-behind cleanly fresh.at_worst c.in_ok-compact.ensures.at_worst)))
 
 pub returns-clause-at_worst : goal.returns-clause-at_worst

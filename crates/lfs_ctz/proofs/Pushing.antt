@@ -1,11 +1,14 @@
 -- Blocks that an extender is handed, one after the other.
-use Rattle.std.proofs.Common.{ℕ, suc, ◌≡◌, ◌≢◌, ◌+◌, ◌-◌, ◌<◌, ◌≤◌, ⊎_elim, inl, inr, nat_eq, get_or, List, [], ◌∷◌, ◌++◌, length, take, slice_index, refl, sym, ap, subst, ◌∙◌, arith, append_assoc, length-append}
+use Rattle.std.proofs.Common.{ℕ, suc, ◌≡◌, ◌≢◌, ◌+◌, ◌-◌, ◌<◌, ◌≤◌, ⊎_elim, nat_eq, get_or, List, [], ◌∷◌, ◌++◌, length, take, slice_index, refl, sym, ap, subst, ◌∙◌, arith, append_assoc, length-append}
 use Rattle.std.specs.Prelude.{All}
 use Rattle.std.specs.List.{IsDistinct}
-use Rattle.std.proofs.lemmas.Bool.{cases_eq, cases_lt, eqb-false}
+use Rattle.std.proofs.lemmas.Bool.{cases_lt, eqb-false}
 use Rattle.std.proofs.lemmas.List.{append-nil, get_or_append_left, get_or-append-add, get_or-take, length-take-le, take_more, get_or_default}
+use Rattle.std.proofs.lemmas.List.Elements.{All-cons, All-nil}
 use Rattle.std.proofs.lemmas.Map.Keys.{apart_from_distinct}
-use Rattle.lfs_model.specs.Blocks.{Blocks, SameBut, SameButThese, block_in}
+use Rattle.lfs_model.specs.Blocks.{Blocks}
+use Rattle.lfs_model.specs.History.{Event, StayUnprogrammed}
+use Rattle.lfs_model.proofs.Histories.{StayUnprogrammed-trans, StayUnprogrammed-wider}
 use Rattle.lfs_model.specs.Lists.{capacity_of, blocks_back, blocks_for}
 use Rattle.lfs_ctz.specs.declared.extender.Tail.{Tail}
 use Rattle.lfs_ctz.specs.declared.extender.Tail.TheVariants.{Closed, Shared, Handed}
@@ -13,19 +16,10 @@ use Rattle.lfs_ctz.specs.Growing.{Growing, pending_in, last_in, pending_of, kept
 use Rattle.lfs_ctz.proofs.Sizes.{blocks_for-above, blocks_for-within}
 use Rattle.lfs_ctz.proofs.Chains.{length_back}
 
-pub outside-refl : (bs : List ℕ) (d : Blocks) → SameButThese bs d d
-outside-refl bs d = record { count = refl; sizes = λ b. refl; others = λ other apart. refl }
-
--- another of the blocks changes
-pub outside-but : (bs : List ℕ) (block : ℕ) (d mid new : Blocks) → ((other : ℕ) → All (λ b. b ≢ other) bs → block ≢ other) → SameButThese bs d mid → SameBut block mid new → SameButThese bs d new
-outside-but bs block d mid new among first second = record {
-  count = second.count ∙ first.count;
-  sizes = λ b. elim (cases_eq b block) [
-    | inl is ↦ ap (λ k. length (block_in new k)) is ∙ second.size ∙ ap (λ k. length (block_in mid k)) (sym is) ∙ first.sizes b
-    | inr ne ↦ ap length (second.others b ne) ∙ first.sizes b
-  ];
-  others = λ other apart. second.others other (λ is. among other apart (sym is)) ∙ first.others other apart;
-}
+-- one of the blocks is written
+pub stays_one : (bs : List ℕ) (block : ℕ) (old mid new : List Event) → ((other : ℕ) → All (λ b. b ≢ other) bs → block ≢ other) → StayUnprogrammed bs old mid → StayUnprogrammed (block ∷ []) mid new → StayUnprogrammed bs old new
+stays_one bs block old mid new among first second =
+    StayUnprogrammed-trans first (StayUnprogrammed-wider bs (λ other apart. All-cons (λ b. b ≢ other) block [] (among other apart) (All-nil (λ b. b ≢ other))) second)
 
 -- one of those handed in is among them
 pub among_handed : (pending blocks : List ℕ) (used : ℕ) → used < length blocks → (other : ℕ) → All (λ b. b ≢ other) (pending ++ blocks) → slice_index blocks used ≢ other

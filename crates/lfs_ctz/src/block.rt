@@ -1,7 +1,7 @@
 ghost use Rattle.std.specs.Prelude.{[], ◌∷◌, ◌≡◌, ◌≢◌, ◌≤◌, ◌<◌, ◌+◌, ◌-◌, ◌*◌, ◌%◌, ◌^◌, ◌++◌, ◌⊎◌, ℕ, All, length, take, drop, OnOk, IfErr, IsErrOf, slice_index};
 ghost use Rattle.byteorder.specs.Endian.{little_bytes};
 ghost use Rattle.lfs_model.specs.Blocks.{SameBut, block_in};
-ghost use Rattle.lfs_model.specs.History.{AtWorst, LeavesOnly, OnlyReads, erases, faults, programs};
+ghost use Rattle.lfs_model.specs.History.{AtWorst, LeavesOnly, OnlyReads, StayUnprogrammed, erases, faults, programs};
 ghost use Rattle.lfs_model.specs.Lists.{IsChain, blocks_back, pointers_of, word_at};
 
 use crate::read::pointer;
@@ -72,6 +72,7 @@ pub(crate) fn write_block<D: BlockDevice>(
         ≡ take (end - 4 * pointers_of index) (drop (4 * pointers_of index) buf.old)) }
     ensures len { length buf.new ≡ length buf.old }
     ensures others { SameBut block (D.blocks dev.old) (D.blocks dev.new) }
+    ensures elsewhere { StayUnprogrammed (block ∷ []) (D.history dev.old) (D.history dev.new) }
     ensures geometry { D.geometry dev.new ≡ D.geometry dev.old }
     ensures erases { OnOk result (erases (D.history dev.new) ≡ erases (D.history dev.old) + 1) }
     ensures programs { OnOk result (programs (D.history dev.new) ≡ programs (D.history dev.old) + 1) }

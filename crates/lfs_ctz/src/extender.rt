@@ -1,7 +1,7 @@
 ghost use Rattle.std.specs.Prelude.{◌≡◌, ◌≢◌, ◌≤◌, ◌<◌, ◌+◌, ◌-◌, ◌*◌, ◌%◌, ◌^◌, ◌++◌, ◌∷◌, [], ◌⊎◌, ℕ, All, length, take, drop, replicate, nat_eq, OnOk, IfOk, IfErr, IsErrOf, slice_index};
 ghost use Rattle.std.specs.List.{IsDistinct};
 ghost use Rattle.lfs_model.specs.Blocks.{Blocks, SameBut, SameButThese, block_in, overwritten};
-ghost use Rattle.lfs_model.specs.History.{AtWorst, LeavesOnly, OnlyReads, erases, faults, programs};
+ghost use Rattle.lfs_model.specs.History.{AtWorst, LeavesOnly, OnlyReads, StayUnprogrammed, erases, faults, programs};
 ghost use Rattle.lfs_model.specs.Lists.{IsChain, IsList, blocks_back, blocks_for, bytes_of, pointers_of, word_at};
 ghost use Rattle.lfs_ctz.specs.Filled.{IsFilled};
 
@@ -194,6 +194,7 @@ impl Extender {
         ensures pending { OnOk result (All (λ b. b ≡ block) (pending_of (growing_of self.new))) }
         ensures same { geometry_of self.new ≡ geometry_of self.old }
         ensures others { SameBut block (D.blocks dev.old) (D.blocks dev.new) }
+        ensures elsewhere { StayUnprogrammed (block ∷ []) (D.history dev.old) (D.history dev.new) }
         ensures device { D.geometry dev.new ≡ D.geometry dev.old }
         ensures erases { OnOk result (erases (D.history dev.new) + (growing_of self.old).full ≡ erases (D.history dev.old) + (growing_of self.new).full) }
         ensures programs { OnOk result (programs (D.history dev.new) + (growing_of self.old).full ≡ programs (D.history dev.old) + (growing_of self.new).full) }
@@ -254,6 +255,7 @@ impl Extender {
         ensures erases { OnOk result (erases (D.history dev.new) + (growing_of self.old).full ≡ erases (D.history dev.old) + (growing_of self.new).full) }
         ensures programs { OnOk result (programs (D.history dev.new) + (growing_of self.old).full ≡ programs (D.history dev.old) + (growing_of self.new).full) }
         ensures others { SameButThese (pending_of (growing_of self.old) ++ blocks.now) (D.blocks dev.old) (D.blocks dev.new) }
+        ensures elsewhere { StayUnprogrammed (pending_of (growing_of self.old) ++ blocks.now) (D.history dev.old) (D.history dev.new) }
         ensures device { D.geometry dev.new ≡ D.geometry dev.old }
         // A stop at any moment changes no block but those handed in.
         ensures stops { LeavesOnly AtWorst (D.history dev.old) (D.history dev.new) (SameButThese (pending_of (growing_of self.old) ++ blocks.now) (D.blocks dev.old)) }
@@ -282,6 +284,7 @@ impl Extender {
             ≡ blocks_back (D.blocks dev.old) (growing_of self.old).full (growing_of self.old).head ++ block ∷ []) }
         ensures bytes { OnOk result (take (length (growing_of self.old).rest) (drop (4 * pointers_of (growing_of self.old).full) (block_in (D.blocks dev.new) block)) ≡ (growing_of self.old).rest) }
         ensures others { SameBut block (D.blocks dev.old) (D.blocks dev.new) }
+        ensures elsewhere { StayUnprogrammed (block ∷ []) (D.history dev.old) (D.history dev.new) }
         ensures device { D.geometry dev.new ≡ D.geometry dev.old }
         ensures erases { OnOk result (erases (D.history dev.new) ≡ erases (D.history dev.old) + 1) }
         ensures programs { OnOk result (programs (D.history dev.new) ≡ programs (D.history dev.old) + 1) }
@@ -314,6 +317,7 @@ impl Extender {
         ensures erases { OnOk result (erases (D.history dev.new) ≡ erases (D.history dev.old) + length (pending_of (growing_of self))) }
         ensures programs { OnOk result (programs (D.history dev.new) ≡ programs (D.history dev.old) + length (pending_of (growing_of self))) }
         ensures others { SameButThese (pending_of (growing_of self)) (D.blocks dev.old) (D.blocks dev.new) }
+        ensures elsewhere { StayUnprogrammed (pending_of (growing_of self)) (D.history dev.old) (D.history dev.new) }
         ensures device { D.geometry dev.new ≡ D.geometry dev.old }
         // A stop at any moment changes no block but the one that was handed in.
         ensures stops { LeavesOnly AtWorst (D.history dev.old) (D.history dev.new) (SameButThese (pending_of (growing_of self)) (D.blocks dev.old)) }

@@ -1,6 +1,6 @@
-use Rattle.std.proofs.Common.{ℕ, ◌≡◌, ◌-◌, ◌*◌, ◌<◌, ◌^◌, ◌++◌, List, take, drop, slice_index, refl, ap, subst, ◌∙◌, arith}
+use Rattle.std.proofs.Common.{ℕ, ◌≡◌, ◌-◌, ◌*◌, ◌<◌, ◌^◌, ◌++◌, List, [], ◌∷◌, take, drop, slice_index, refl, ap, subst, ◌∙◌, arith}
 use Rattle.lfs_model.proofs.Overwrites.{SameBut-trans}
-use Rattle.lfs_model.proofs.Histories.{goes_on, erases-reads, programs-reads}
+use Rattle.lfs_model.proofs.Histories.{goes_on, erases-reads, programs-reads, StayUnprogrammed-erase, StayUnprogrammed-program, StayUnprogrammed-reads, StayUnprogrammed-trans}
 use Rattle.lfs_model.specs.Blocks.{Blocks, SameBut, block_in}
 use Rattle.lfs_model.specs.History.{erases, programs}
 use Rattle.lfs_model.specs.Lists.{blocks_back, pointers_of, word_at}
@@ -30,6 +30,23 @@ returns-clause-stops g c =
     (goes_on (reads_stop _ c.args.block _ _ c.put_pointers.ensures.history) c.erase.ensures.history (λ left stop. erased _ _ _ _ c.put_pointers.ensures.same stop))
     c.prog.ensures.history
     (λ left stop. SameBut-trans (erased _ _ _ _ c.put_pointers.ensures.same c.erase.ensures.others) stop)
+
+pub returns-in_err-put_pointers-clause-elsewhere : goal.returns-in_err-put_pointers-clause-elsewhere
+returns-in_err-put_pointers-clause-elsewhere g c = StayUnprogrammed-reads (c.args.block ∷ []) c.put_pointers.ensures.history
+
+pub returns-in_err-erase-clause-elsewhere : goal.returns-in_err-erase-clause-elsewhere
+returns-in_err-erase-clause-elsewhere g c =
+    StayUnprogrammed-trans (StayUnprogrammed-reads (c.args.block ∷ []) c.put_pointers.ensures.history) (StayUnprogrammed-erase c.erase.ensures.history)
+
+pub returns-in_err-prog-clause-elsewhere : goal.returns-in_err-prog-clause-elsewhere
+returns-in_err-prog-clause-elsewhere g c =
+    StayUnprogrammed-trans (StayUnprogrammed-reads (c.args.block ∷ []) c.put_pointers.ensures.history)
+    (StayUnprogrammed-trans (StayUnprogrammed-erase c.erase.ensures.history) (StayUnprogrammed-program c.prog.ensures.history))
+
+pub returns-clause-elsewhere : goal.returns-clause-elsewhere
+returns-clause-elsewhere g c =
+    StayUnprogrammed-trans (StayUnprogrammed-reads (c.args.block ∷ []) c.put_pointers.ensures.history)
+    (StayUnprogrammed-trans (StayUnprogrammed-erase c.erase.ensures.history) (StayUnprogrammed-program c.prog.ensures.history))
 
 -- the block is the buffer's beginning, and what the erase left
 block_is : (g : _) (c : goal.In_ok-prog g) → block_in (g.D.BlockDevice.blocks c.prog.new.self) c.args.block

@@ -1,5 +1,7 @@
-use Rattle.std.proofs.Common.{ℕ, ◌≡◌, ◌≤◌, ◌+◌, ◌++◌, [], ◌∷◌, length, take, sym, subst, arith}
+use Rattle.std.proofs.Common.{ℕ, ◌≡◌, ◌≤◌, ◌+◌, ◌++◌, List, [], ◌∷◌, length, take, sym, subst, arith}
 use Rattle.lfs_model.proofs.Histories.{EachSince-weaker}
+use Rattle.lfs_model.proofs.Overwrites.{SameButThese-refl, SameButThese-one}
+use Rattle.lfs_model.specs.History.{Event, StayUnprogrammed}
 use Rattle.lfs_device.specs.declared.geometry.Geometry.{Geometry}
 use Rattle.lfs_model.specs.Blocks.{Blocks, IsDivided, SameBut, SameButThese}
 use Rattle.lfs_model.specs.Lists.{bytes_before, blocks_back, IsChain, data_of}
@@ -9,7 +11,6 @@ use Rattle.lfs_ctz.specs.Extended.{geometry_of, growing_of}
 use Rattle.lfs_ctz.specs.Growing.{content_of, blocks_of, pending_of, last_in, pending_in, IsGrowing}
 use Rattle.lfs_ctz.proofs.Geometries.{shaped}
 use Rattle.lfs_ctz.proofs.Rests.{rest_of}
-use Rattle.lfs_ctz.proofs.Pushing.{outside-refl, outside-but}
 use Rattle.lfs_ctz.proofs.Filling.{IsEnd, closed_end, shared_end, handed_end}
 use Rattle.lfs_ctz.proofs.extender.Extender.finish.Goals as goal
 
@@ -65,7 +66,16 @@ returns-in-Shared-clause-blocks g c =
 -- the block that was handed in changes, and no other
 pub but_pending : (e : Extender) (b : ℕ) (d new : Blocks) → e.tail ≡ Handed b → SameBut b d new → SameButThese (pending_of (growing_of e)) d new
 but_pending e b d new is but =
-    subst (λ t. SameButThese (pending_in t) d new) (sym is) (outside-but (b ∷ []) b d d new (λ other apart. apart 0 0 (omega arith)) (outside-refl (b ∷ []) d) but)
+    subst (λ t. SameButThese (pending_in t) d new) (sym is) (SameButThese-one (b ∷ []) b d d new (λ other apart. apart 0 0 (omega arith)) (SameButThese-refl (b ∷ []) d) but)
+
+pub stays_pending : (e : Extender) (b : ℕ) (old new : List Event) → e.tail ≡ Handed b → StayUnprogrammed (b ∷ []) old new → StayUnprogrammed (pending_of (growing_of e)) old new
+stays_pending e b old new is stays = subst (λ t. StayUnprogrammed (pending_in t) old new) (sym is) stays
+
+pub returns-in_err-write_last-in-Handed-clause-elsewhere : goal.returns-in_err-write_last-in-Handed-clause-elsewhere
+returns-in_err-write_last-in-Handed-clause-elsewhere g c = stays_pending c.args.self c.in-Handed.block _ _ c.in-Handed.is c.write_last.ensures.elsewhere
+
+pub returns-clause-elsewhere : goal.returns-clause-elsewhere
+returns-clause-elsewhere g c = stays_pending c.args.self c.in-Handed.block _ _ c.in-Handed.is c.write_last.ensures.elsewhere
 
 pub returns-in_err-write_last-in-Handed-clause-others : goal.returns-in_err-write_last-in-Handed-clause-others
 returns-in_err-write_last-in-Handed-clause-others g c = but_pending c.args.self c.in-Handed.block _ _ c.in-Handed.is c.write_last.ensures.others

@@ -2,7 +2,8 @@ use Rattle.std.proofs.Common.{ℕ, ◌≡◌, ◌≢◌, ◌≤◌, ◌<◌, ◌
 use Rattle.std.specs.Prelude.{All}
 use Rattle.std.proofs.Math.Seq.{take-add}
 use Rattle.std.proofs.lemmas.List.{append-nil, get_or_append_left, take_all, length-take-le, take-take}
-use Rattle.lfs_model.proofs.Histories.{began, goes_on_by, EachSince-weaker}
+use Rattle.lfs_model.proofs.Histories.{began, goes_on_by, EachSince-weaker, StayUnprogrammed-refl}
+use Rattle.lfs_model.proofs.Overwrites.{SameButThese-refl, SameButThese-one}
 use Rattle.lfs_device.specs.declared.geometry.Geometry.{Geometry}
 use Rattle.lfs_model.specs.Blocks.{Blocks}
 use Rattle.lfs_model.specs.Lists.{pointers_of, blocks_back}
@@ -11,7 +12,7 @@ use Rattle.lfs_ctz.specs.Growing.{Growing, kept_of, pending_of, pending_in, next
 use Rattle.lfs_ctz.specs.declared.extender.Extender.{Extender}
 use Rattle.lfs_ctz.specs.declared.extender.Tail.{Tail}
 use Rattle.lfs_ctz.proofs.Sizes.{pointers_of-le}
-use Rattle.lfs_ctz.proofs.Pushing.{outside-refl, outside-but, next_among, next_apart, next_some, next_kept, still_some, all_used}
+use Rattle.lfs_ctz.proofs.Pushing.{stays_one, next_among, next_apart, next_some, next_kept, still_some, all_used}
 use Rattle.lfs_ctz.proofs.extender.Extender.push.Goals as goal
 
 -- part of the blocks handed in
@@ -29,7 +30,8 @@ loop-done-init g c = record {
   own = λ some. absurd (omega arith);
   pending = λ other apart. front_of _ c.args.blocks.now other apart;
   same = refl;
-  outside = outside-refl _ _;
+  outside = SameButThese-refl _ _;
+  elsewhere = StayUnprogrammed-refl _ _;
   same_geometry = refl;
   stops = began;
   erases = refl;
@@ -69,14 +71,20 @@ pub returns-in_err-done-clause-others : goal.returns-in_err-done-clause-others
 returns-in_err-done-clause-others g c =
     let inv = c.loop-done.invariant in
     let some = still _ _ c.args.self.now c.loop-done.self c.args.blocks.now c.loop-done.used c.loop-done.done _ inv.same inv.some inv.kept c.requires.count inv.sum c.loop-done-test.true in
-    outside-but _ _ _ _ _ (among (growing_of c.args.self.now) c.loop-done.self.tail c.args.blocks.now c.loop-done.used _ _ c.next_block-block.ensures refl some inv.pending) inv.outside c.fill.ensures.others
+    SameButThese-one _ _ _ _ _ (among (growing_of c.args.self.now) c.loop-done.self.tail c.args.blocks.now c.loop-done.used _ _ c.next_block-block.ensures refl some inv.pending) inv.outside c.fill.ensures.others
+
+pub returns-in_err-done-clause-elsewhere : goal.returns-in_err-done-clause-elsewhere
+returns-in_err-done-clause-elsewhere g c =
+    let inv = c.loop-done.invariant in
+    let some = still _ _ c.args.self.now c.loop-done.self c.args.blocks.now c.loop-done.used c.loop-done.done _ inv.same inv.some inv.kept c.requires.count inv.sum c.loop-done-test.true in
+    stays_one _ _ _ _ _ (among (growing_of c.args.self.now) c.loop-done.self.tail c.args.blocks.now c.loop-done.used _ _ c.next_block-block.ensures refl some inv.pending) inv.elsewhere c.fill.ensures.elsewhere
 
 pub returns-in_err-done-clause-stops : goal.returns-in_err-done-clause-stops
 returns-in_err-done-clause-stops g c =
     let inv = c.loop-done.invariant in
     let some = still _ _ c.args.self.now c.loop-done.self c.args.blocks.now c.loop-done.used c.loop-done.done _ inv.same inv.some inv.kept c.requires.count inv.sum c.loop-done-test.true in
     goes_on_by inv.stops (EachSince-weaker (λ e from left stop.
-    outside-but _ _ _ _ _ (among (growing_of c.args.self.now) c.loop-done.self.tail c.args.blocks.now c.loop-done.used _ _ c.next_block-block.ensures refl some inv.pending) inv.outside (from left stop)) c.fill.ensures.stops)
+    SameButThese-one _ _ _ _ _ (among (growing_of c.args.self.now) c.loop-done.self.tail c.args.blocks.now c.loop-done.used _ _ c.next_block-block.ensures refl some inv.pending) inv.outside (from left stop)) c.fill.ensures.stops)
 
 -- more of the bytes
 bytes_more : (front content bytes : List ℕ) (done n : ℕ) → done ≤ length bytes → n ≤ length (take (length bytes - done) (drop done bytes)) → content ≡ front ++ take done bytes
@@ -110,9 +118,10 @@ loop-done-preserved g c =
       own = λ _. c.in_ok-done.ensures.own;
       pending = λ other apart k x l e. here other apart (sym (c.in_ok-done.ensures.pending k x l) ∙ e);
       same = c.fill.ensures.same ∙ inv.same;
-      outside = outside-but _ _ _ _ _ here inv.outside c.fill.ensures.others;
+      outside = SameButThese-one _ _ _ _ _ here inv.outside c.fill.ensures.others;
+      elsewhere = stays_one _ _ _ _ _ here inv.elsewhere c.fill.ensures.elsewhere;
       same_geometry = c.fill.ensures.device ∙ inv.same_geometry;
-      stops = goes_on_by inv.stops (EachSince-weaker (λ e from left stop. outside-but _ _ _ _ _ here inv.outside (from left stop)) c.fill.ensures.stops);
+      stops = goes_on_by inv.stops (EachSince-weaker (λ e from left stop. SameButThese-one _ _ _ _ _ here inv.outside (from left stop)) c.fill.ensures.stops);
       erases = omega (arith, c.in_ok-done.ensures.erases, inv.erases);
       programs = omega (arith, c.in_ok-done.ensures.programs, inv.programs);
       no_fault = c.in_ok-done.ensures.no_fault ∙ inv.no_fault;

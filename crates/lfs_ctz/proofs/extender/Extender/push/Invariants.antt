@@ -1,7 +1,7 @@
 use Rattle.std.proofs.Common.{ℕ, ◌≡◌, ◌≢◌, ◌≤◌, ◌+◌, ◌-◌, ◌++◌, length, take}
 use Rattle.std.specs.Prelude.{All}
 use Rattle.lfs_model.specs.Blocks.{SameButThese}
-use Rattle.lfs_model.specs.History.{AtWorst, LeavesOnly, erases, faults, programs}
+use Rattle.lfs_model.specs.History.{AtWorst, LeavesOnly, StayUnprogrammed, erases, faults, programs}
 use Rattle.lfs_ctz.specs.Extended.{geometry_of, growing_of}
 use Rattle.lfs_ctz.specs.Growing.{IsGrowing, blocks_of, content_of, kept_of, pending_of, size_of}
 use Rattle.lfs_ctz.proofs.extender.Extender.push.Given as goal
@@ -26,6 +26,7 @@ invariant-loop-done g l =
       pending : (other : ℕ) → All (λ b. b ≢ other) handed → All (λ b. b ≢ other) (pending_of now);
       same : geometry_of l.self ≡ geometry_of l.fn.self;
       outside : SameButThese handed (blocks old) (blocks l.dev);
+      elsewhere : StayUnprogrammed handed (history old) (history l.dev);
       same_geometry : geometry l.dev ≡ geometry old;
       stops : LeavesOnly AtWorst (history old) (history l.dev) (SameButThese handed (blocks old));
       erases : erases (history l.dev) + was.full ≡ erases (history old) + now.full;

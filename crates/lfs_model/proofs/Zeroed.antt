@@ -1,11 +1,11 @@
 -- A block that begins with zeros has no commit.
-use Rattle.std.proofs.Common.{ℕ, ◌≡◌, ◌+◌, ◌-◌, ◌^◌, ◌<◌, ◌≤◌, ◌||◌, Bool, true, false, cond, List, [], ◌∷◌, ◌++◌, length, take, drop, replicate, Option, Some, None, refl, sym, ap, ◌∙◌, arith, bit_xor}
+use Rattle.std.proofs.Common.{ℕ, ◌≡◌, ◌+◌, ◌-◌, ◌^◌, ◌<◌, ◌≤◌, ◌||◌, Bool, true, false, cond, List, ◌++◌, length, take, drop, replicate, Option, Some, None, refl, sym, ap, ◌∙◌, arith, bit_xor}
 use Rattle.std.specs.Prelude.{nat_lt, nat_le}
 use Rattle.std.proofs.lemmas.List.{replicate-append-replicate}
 use Rattle.byteorder.specs.Endian.{big_number}
 use Rattle.lfs_model.specs.Blocks.{Blocks, block_in, overwritten, programmed}
 use Rattle.lfs_model.specs.Tag.{size_of}
-use Rattle.lfs_model.specs.Log.{Chain, LogEntry, entry_at, chain_of, tag_at}
+use Rattle.lfs_model.specs.Log.{Chain, entry_at, chain_of}
 use Rattle.lfs_model.specs.Content.{has_commit}
 use Rattle.lfs_model.proofs.Chains.{chain_none, commit_none}
 use Rattle.lfs_model.proofs.Overwrites.{block_in-programmed}

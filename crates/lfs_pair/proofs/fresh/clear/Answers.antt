@@ -1,4 +1,4 @@
-use Rattle.std.proofs.Common.{rules, ◌∙◌, ap, sym, refl, subst, arith}
+use Rattle.std.proofs.Common.{◌∙◌, ap, sym, refl, subst, arith}
 use Rattle.std.specs.Prelude.{[], ◌∷◌}
 use Rattle.std.proofs.lemmas.List.{take-replicate}
 use Rattle.lfs_device.specs.declared.geometry.Geometry.{Geometry}
@@ -6,7 +6,7 @@ use Rattle.lfs_model.specs.Blocks.{SameBut}
 use Rattle.lfs_model.proofs.Pages.{page_at_least, page_at_most}
 use Rattle.lfs_model.proofs.Zeroed.{no_commit-programmed}
 use Rattle.lfs_model.proofs.Histories.{began, goes_on, OnlyReads-read, StayUnprogrammed-erase, StayUnprogrammed-trans, StayUnprogrammed-reads, StayUnprogrammed-program}
-use Rattle.lfs_model.proofs.Overwrites.{SameBut-refl, SameBut-trans}
+use Rattle.lfs_model.proofs.Overwrites.{SameBut-trans}
 use Rattle.lfs_pair.proofs.fresh.clear.Goals as goal
 
 pub returns-in_err-erase-clause-at_worst : goal.returns-in_err-erase-clause-at_worst

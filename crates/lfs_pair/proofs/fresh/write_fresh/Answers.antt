@@ -1,4 +1,4 @@
-use Rattle.std.proofs.Common.{◌<◌, ap, arith, Err}
+use Rattle.std.proofs.Common.{ap, arith, Err}
 use Rattle.lfs_model.specs.Slots.{address_of}
 use Rattle.lfs_model.proofs.Histories.{faults-since}
 use Rattle.lfs_pair.proofs.BothBlocks.{keeps_both, stays_both, leaves_second, leaves_both}

@@ -1,6 +1,4 @@
-use Rattle.std.proofs.Common.{ℕ, ◌≡◌, ◌∷◌, [], Some, None, refl, arith}
-use Rattle.lfs_model.specs.Slots.{no_gstate}
-use Rattle.lfs_model.specs.Content.{RawContent}
+use Rattle.std.proofs.Common.{refl, arith}
 use Rattle.lfs_pair.proofs.fresh.tests.superblock_pair.Goals as goal
 
 pub fresh-requires : goal.fresh-requires

@@ -1,6 +1,6 @@
 -- A pair that is kept in memory, whatever it holds.
 use Rattle.std.specs.Prelude.{All}
-use Rattle.std.proofs.Common.{ℕ, ◌≡◌, ◌≢◌, ◌<◌, List, [], length, refl, sym, ap, subst, arith}
+use Rattle.std.proofs.Common.{ℕ, ◌≡◌, ◌≢◌, ◌<◌, List, [], length, refl, sym, ap, ◌∙◌, subst, arith}
 use Rattle.lfs_model.specs.Blocks.{Blocks, SameButThese, block_in}
 use Rattle.lfs_model.specs.Disk.{Disk}
 use Rattle.lfs_model.specs.History.{Event, OnlyReads}
@@ -11,6 +11,8 @@ use Rattle.lfs_device.specs.declared.geometry.Geometry.{Geometry}
 use Rattle.lfs_device.specs.Shown.{disk_of}
 use Rattle.lfs_pair.specs.Pair.{Fetches, address_in}
 use Rattle.lfs_pair.specs.Commit.{IsAddressOn, NowHolds}
+use Rattle.lfs_model.specs.Changes.{Change}
+use Rattle.lfs_pair.specs.Fresh.{IsFresh}
 use Rattle.lfs_pair.specs.Kept.{IsKept}
 use Rattle.lfs_pair.proofs.Stay.{AreElsewhere, IsPair-stays, IsAddressOn-stays}
 
@@ -55,3 +57,16 @@ kept_by_fetch geometry after blocks left history at pair same_geometry same coun
       held = found.held;
       is_pair = found.is_pair;
     }))
+
+-- of two blocks that a pair was made of
+pub kept_by_fresh : (geometry after : Geometry) (blocks left : Blocks) (history : List Event) (changes : List Change) (at : ℕ × ℕ) (pair : Pair) → after ≡ geometry → length left ≡ length blocks → length blocks ≡ geometry.block_count
+    → at.0 ≢ at.1 → at.0 < geometry.block_count → at.1 < geometry.block_count → IsFresh changes (disk_of after left) history at pair → IsKept (disk_of after left) history pair
+kept_by_fresh geometry after blocks left history changes at pair same_geometry same count apart first second fresh = record {
+  address = subst (IsAddressOn (disk_of after left)) (sym fresh.holds.same) (record {
+    apart = apart;
+    first = subst (λ n. at.0 < n) (sym (same ∙ count)) first;
+    second = subst (λ n. at.1 < n) (sym (same ∙ count)) second;
+  });
+  held = fresh.new;
+  is_pair = fresh.holds.is_pair;
+}

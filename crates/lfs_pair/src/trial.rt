@@ -87,19 +87,21 @@ pub(crate) fn fetch_kept<D: BlockDevice>(
     Ok(pair)
 }
 
-// Sets the attribute 0x41 of the slot 1 to one byte, so many times.
+// Sets the attribute 0x41 of a slot to one byte, so many times.
 pub(crate) fn set_often<D: BlockDevice>(
     alloc: Global,
     dev: &mut D,
     pair: &mut Pair,
+    id: u16,
     times: u8,
 ) -> Result<(), Error>
-    requires { IsKept (disk_of (D.geometry dev.old) (D.blocks dev.old)) (D.history dev.old) pair.old }
+    requires kept { IsKept (disk_of (D.geometry dev.old) (D.blocks dev.old)) (D.history dev.old) pair.old }
+    requires id { id < 0x3ff }
     ensures { IfOk result (λ _. IsKept (disk_of (D.geometry dev.new) (D.blocks dev.new)) (D.history dev.new) pair.new) }
 {
     for n in 0..times {
         let changes = [Change::Attr {
-            id: 1,
+            id,
             attr: 0x41,
             bytes: &[n],
         }];

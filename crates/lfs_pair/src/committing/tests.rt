@@ -85,14 +85,14 @@ fn commits_are_appended_while_there_is_room(rt: HostRuntime) -> Result<(), Fail>
     let mut device = counted(alloc, 0xffff_ffff)?;
     let mut pair = fetch_kept(alloc, &mut device, [0, 1])?;
     assert_eq!(rt; (pair.active, pair.end, pair.is_fetched), (0, 128, true));
-    set_often(alloc, &mut device, &mut pair, 1)?;
+    set_often(alloc, &mut device, &mut pair, 1, 1)?;
     assert_eq!(rt; device.calls(Which::Erase), 1);
     assert_eq!(rt; (pair.active, pair.end, pair.is_fetched), (1, 128, false));
     assert_eq!(rt; pair.revision, 0);
-    set_often(alloc, &mut device, &mut pair, 7)?;
+    set_often(alloc, &mut device, &mut pair, 1, 7)?;
     assert_eq!(rt; device.calls(Which::Erase), 1);
     assert_eq!(rt; (pair.active, pair.end), (1, 1024));
-    set_often(alloc, &mut device, &mut pair, 1)?;
+    set_often(alloc, &mut device, &mut pair, 1, 1)?;
     assert_eq!(rt; device.calls(Which::Erase), 2);
     assert_eq!(rt; (pair.active, pair.end, pair.revision), (0, 128, 1));
     assert_eq!(rt; pair.slot_count, 2);
@@ -184,13 +184,13 @@ fn a_compaction_keeps_what_is_held(rt: HostRuntime) -> Result<(), Fail> {
     for erased in [Erased::Fill(0xff), Erased::Fill(0), Erased::Keep] {
         let mut device = device_of(alloc, 5, erased)?;
         let mut pair = fetch_kept(alloc, &mut device, [0, 1])?;
-        set_often(alloc, &mut device, &mut pair, 3)?;
+        set_often(alloc, &mut device, &mut pair, 1, 3)?;
         assert_eq!(rt;
             attribute_in(alloc, &mut device, &pair)?.as_deref(),
             Some(&[2u8][..])
         );
         let mut pair = fetch_kept(alloc, &mut device, [0, 1])?;
-        set_often(alloc, &mut device, &mut pair, 1)?;
+        set_often(alloc, &mut device, &mut pair, 1, 1)?;
         assert_eq!(rt; (pair.active, pair.revision), (0, 7));
         assert_eq!(rt;
             attribute_in(alloc, &mut device, &pair)?.as_deref(),

@@ -1,5 +1,10 @@
 // The first pair of a file system, made on devices whose erases leave this or that.
 
+ghost use Rattle.std.specs.Prelude.{IfOk};
+ghost use Rattle.lfs_device.specs.Shown.{disk_of};
+ghost use Rattle.lfs_pair.specs.Kept.{IsKept};
+
+use crate::trial::set_often;
 use crate::{Change, Pair, fetch};
 use lfs_device::{BlockDevice, Erased, Error, FaultDevice, Geometry, RamDevice, Which};
 use lfs_tag::kinds::{FILE_NAME, INLINE_STRUCT, SUPERBLOCK_NAME};
@@ -37,7 +42,9 @@ fn first_page(alloc: Global, checksum: &[u8]) -> Result<Vec<u8>, Error> {
 }
 
 // The pair of a superblock, in the blocks 0 and 1.
-fn superblock_pair<D: BlockDevice>(alloc: Global, device: &mut D) -> Result<Pair, Error> {
+fn superblock_pair<D: BlockDevice>(alloc: Global, device: &mut D) -> Result<Pair, Error>
+    ensures { IfOk result (λ pair. IsKept (disk_of (D.geometry device.new) (D.blocks device.new)) (D.history device.new) pair) }
+{
     let changes = [
         Change::Create {
             id: 0,
@@ -50,7 +57,8 @@ fn superblock_pair<D: BlockDevice>(alloc: Global, device: &mut D) -> Result<Pair
             bytes: &FIELDS,
         },
     ];
-    Pair::fresh(alloc, device, [0, 1], &changes)
+    let pair = Pair::fresh(alloc, device, [0, 1], &changes)?;
+    Ok(pair)
 }
 
 fn fetched<D: BlockDevice>(alloc: Global, device: &mut D) -> Result<Pair, Error> {
@@ -118,6 +126,23 @@ fn a_superblock_is_written_on_flash(rt: HostRuntime) -> Result<(), Fail> {
             ..pair
         }
     );
+    Ok(())
+}
+
+// Each commit takes a page, and a block has 16.
+#[test]
+fn the_sixteenth_commit_is_a_compaction(rt: HostRuntime) -> Result<(), Fail> {
+    let alloc = rt.alloc();
+    let inner = sevens(alloc, Erased::Fill(0xff))?;
+    let mut device = FaultDevice::new(inner, Which::Any, 0, false);
+    let mut pair = superblock_pair(alloc, &mut device)?;
+    set_often(alloc, &mut device, &mut pair, 0, 15)?;
+    assert_eq!(rt; device.calls(Which::Erase), 2);
+    assert_eq!(rt; (pair.active, pair.end), (0, 4096));
+    set_often(alloc, &mut device, &mut pair, 0, 1)?;
+    assert_eq!(rt; device.calls(Which::Erase), 3);
+    let again = fetched(alloc, &mut device)?;
+    assert_eq!(rt; (again.active, again.revision, again.end), (1, 2, 256));
     Ok(())
 }
 

@@ -126,3 +126,6 @@ fn split_block<'a, 'b: 'a, D: BlockDevice>(
     compact(dev, pair, &front, &mut buf)?;
     Ok(fresh_pair)
 }
+
+#[cfg(test)]
+mod tests;

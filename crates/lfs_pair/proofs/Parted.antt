@@ -1,11 +1,11 @@
 -- A content cut into the parts of two pairs, and what a stop on the way there leaves.
 use Rattle.std.specs.Prelude.{All}
-use Rattle.std.proofs.Common.{ℕ, zero, suc, get_or, ◌≡◌, ◌≢◌, ◌⊎◌, ◌<◌, ◌==◌, ◌&&◌, ◌^◌, Bool, true, false, List, [], ◌∷◌, Some, length, take, drop, refl, sym, ap, ◌∙◌, subst, arith, inl, inr}
+use Rattle.std.proofs.Common.{ℕ, zero, suc, get_or, ◌≡◌, ◌≢◌, ◌<◌, ◌==◌, ◌&&◌, ◌^◌, false, List, [], ◌∷◌, Some, length, take, drop, refl, sym, ap, ◌∙◌, subst, arith, inl, inr}
 use Rattle.std.proofs.lemmas.Bool.{ne_eqb}
 use Rattle.lfs_device.specs.Shown.{disk_of}
 use Rattle.lfs_device.specs.declared.geometry.Geometry.{Geometry}
 use Rattle.lfs_model.specs.Blocks.{Blocks, block_in}
-use Rattle.lfs_model.specs.Disk.{Disk, block_at}
+use Rattle.lfs_model.specs.Disk.{Disk}
 use Rattle.lfs_model.specs.History.{Event, OnlyReads}
 use Rattle.lfs_model.specs.Slots.{null_address}
 use Rattle.lfs_model.specs.Content.{RawSlot, RawContent, raw_at}
@@ -16,9 +16,9 @@ use Rattle.lfs_model.proofs.Histories.{StayUnprogrammed-trans, StayUnprogrammed-
 use Rattle.lfs_model.proofs.Logged.{nothing_logged}
 use Rattle.lfs_model.proofs.Overwrites.{SameButThese-refl, SameButThese-trans, SameButThese-wider}
 use Rattle.lfs_pair.specs.declared.pair.Pair.{Pair}
-use Rattle.lfs_pair.specs.Pair.{IsPair, address_in}
-use Rattle.lfs_pair.specs.Commit.{LeftWith, NowHolds, OutsideKeeps, OutsideStays, made_of, made_in, made_at}
-use Rattle.lfs_pair.specs.Split.{AreApart, AreParted, AreParts, CanSplit, LeftBySplit, OutsideBothKeeps, OutsideBothStays, front_of, back_of}
+use Rattle.lfs_pair.specs.Pair.{address_in}
+use Rattle.lfs_pair.specs.Commit.{LeftWith, NowHolds, OutsideKeeps, OutsideStays, made_in, made_at}
+use Rattle.lfs_pair.specs.Split.{AreApart, AreParts, CanSplit, LeftBySplit, OutsideBothKeeps, OutsideBothStays}
 use Rattle.lfs_pair.proofs.Stay.{AreElsewhere, IsPair-reads, raw_at-stays}
 use Rattle.lfs_pair.proofs.TwoBlocks.{raw_is}
 use Rattle.lfs_pair.proofs.Changed.{made_here, made_is, some_same}

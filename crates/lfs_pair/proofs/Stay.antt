@@ -1,10 +1,10 @@
 -- What a pair holds where nothing is written to its two blocks.
 use Rattle.std.specs.Prelude.{All}
-use Rattle.std.proofs.Common.{ℕ, zero, suc, get_or, ◌≡◌, ◌≢◌, ◌<◌, Bool, true, false, cond, List, [], ◌∷◌, Some, length, refl, sym, ap, ap₂, ◌∙◌, subst, arith}
+use Rattle.std.proofs.Common.{ℕ, ◌≡◌, ◌≢◌, ◌<◌, Bool, true, false, cond, List, sym, ap, ap₂, ◌∙◌, subst}
 use Rattle.std.specs.Option.{option_and_then}
-use Rattle.lfs_model.specs.Blocks.{Blocks, block_in, SameButThese}
-use Rattle.lfs_model.specs.Disk.{Disk, block_at, block_count}
-use Rattle.lfs_model.specs.Log.{chain_of, log_entries, revision_of}
+use Rattle.lfs_model.specs.Blocks.{Blocks, SameButThese}
+use Rattle.lfs_model.specs.Disk.{Disk, block_at}
+use Rattle.lfs_model.specs.Log.{log_entries, revision_of}
 use Rattle.lfs_model.specs.History.{Event, OnlyReads, StayUnprogrammed}
 use Rattle.lfs_model.specs.Content.{RawContent, has_commit, holder, raw_at, content_after_all, no_content}
 use Rattle.lfs_model.proofs.Histories.{AllUnprogrammed-reads, AllUnprogrammed-stays}

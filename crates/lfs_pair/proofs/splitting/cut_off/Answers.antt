@@ -1,7 +1,7 @@
-use Rattle.std.proofs.Common.{◌≡◌, ◌∙◌, List, Some, true, map, sym, ap, subst}
+use Rattle.std.proofs.Common.{◌∙◌, List, Some, true, map, sym, ap, subst}
 use Rattle.std.proofs.lemmas.List.{take-map, drop-map}
 use Rattle.lfs_model.specs.Slots.{address_of, no_gstate}
-use Rattle.lfs_model.specs.Content.{RawSlot, RawContent}
+use Rattle.lfs_model.specs.Content.{RawSlot}
 use Rattle.lfs_tag.specs.ContentSeen.{slot_seen, content_seen}
 use Rattle.lfs_pair.specs.Cut.{IsCut}
 use Rattle.lfs_pair.proofs.splitting.cut_off.Goals as goal

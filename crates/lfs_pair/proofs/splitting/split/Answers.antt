@@ -1,4 +1,4 @@
-use Rattle.std.proofs.Common.{◌≡◌, ◌<◌, ◌∙◌, ap₂, sym, subst}
+use Rattle.std.proofs.Common.{ap₂, sym, subst}
 use Rattle.lfs_device.specs.Shown.{disk_of}
 use Rattle.lfs_model.specs.Slots.{address_of}
 use Rattle.lfs_model.proofs.Histories.{goes_on_by, EachSince-behind, LeavesOnly-reads, LeavesOnly-weaker, Stops-read, AtWorst-read, StayUnprogrammed-reads, StayUnprogrammed-trans}

@@ -1,4 +1,4 @@
-use Rattle.std.proofs.Common.{◌≡◌, ◌<◌, ◌∙◌, Err, ap, sym, subst, arith}
+use Rattle.std.proofs.Common.{Err, ap, sym, subst, arith}
 use Rattle.lfs_device.specs.Shown.{disk_of}
 use Rattle.lfs_model.specs.Slots.{address_of}
 use Rattle.lfs_model.proofs.Histories.{goes_on_by, faults-since, EachSince-behind, LeavesOnly-weaker, LeavesOnly-worst}
@@ -8,7 +8,7 @@ use Rattle.lfs_pair.specs.ChangeSeen.{changes_seen}
 use Rattle.lfs_pair.specs.Commit.{IsActive, LeftWith, NowHolds}
 use Rattle.lfs_pair.proofs.Changed.{is_active}
 use Rattle.lfs_pair.proofs.Stay.{IsActive-stays, NowHolds-stays}
-use Rattle.lfs_pair.proofs.Parted.{IsSplitting, IsReady, is_splitting, pair_elsewhere, fresh_elsewhere, keeps_by_fresh, keeps_by_both, stays_by_fresh, stays_by_both, left_while_fresh, left_while_old, raw_held}
+use Rattle.lfs_pair.proofs.Parted.{is_splitting, pair_elsewhere, fresh_elsewhere, keeps_by_fresh, keeps_by_both, stays_by_fresh, stays_by_both, left_while_fresh, left_while_old, raw_held}
 use Rattle.lfs_pair.proofs.splitting.split_block.Goals as goal
 
 pub write_fresh-requires-clause-logged : goal.write_fresh-requires-clause-logged

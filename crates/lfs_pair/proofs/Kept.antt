@@ -1,6 +1,5 @@
 -- A pair that is kept in memory, whatever it holds.
-use Rattle.std.specs.Prelude.{All}
-use Rattle.std.proofs.Common.{ℕ, ◌≡◌, ◌≢◌, ◌<◌, List, [], length, refl, sym, ap, ◌∙◌, subst, arith}
+use Rattle.std.proofs.Common.{ℕ, ◌≡◌, ◌≢◌, ◌<◌, List, [], length, sym, ap, ◌∙◌, subst, arith}
 use Rattle.lfs_model.specs.Blocks.{Blocks, SameButThese, block_in}
 use Rattle.lfs_model.specs.Disk.{Disk}
 use Rattle.lfs_model.specs.History.{Event, OnlyReads}

@@ -1,5 +1,5 @@
 -- Slots that all have names.
-use Rattle.std.proofs.Common.{ℕ, ◌≡◌, Bool, true, cond, IsTrue, Result, Ok, List, [], ◌∷◌, ◌++◌, is_some, Option, Some, None, sym, ap, ◌∙◌}
+use Rattle.std.proofs.Common.{ℕ, ◌≡◌, Bool, true, cond, IsTrue, Result, Ok, List, [], ◌∷◌, ◌++◌, is_some, Option, Some, None, ap, ◌∙◌}
 use Rattle.std.specs.List.{list_all}
 use Rattle.std.specs.Option.{option_map}
 use Rattle.lfs_model.specs.Log.{log_entries}

@@ -1,13 +1,13 @@
 -- What a pair holds, by which of its two blocks was written.
-use Rattle.std.proofs.Common.{ℕ, ◌≡◌, ◌≢◌, ◌⊎◌, ◌+◌, ◌%◌, ◌^◌, ◌<◌, ◌==◌, ◌&&◌, ◌||◌, Bool, true, false, cond, not, List, [], ◌∷◌, Option, Some, None, refl, sym, ap, ap₂, ◌∙◌, subst, arith, eq-eqb, inl, inr}
+use Rattle.std.proofs.Common.{ℕ, ◌≡◌, ◌≢◌, ◌⊎◌, ◌+◌, ◌%◌, ◌^◌, ◌<◌, ◌==◌, Bool, true, false, cond, List, [], ◌∷◌, refl, sym, ap, ◌∙◌, subst, arith, eq-eqb, inl, inr}
 use Rattle.std.specs.Prelude.{All}
 use Rattle.std.proofs.lemmas.Bool.{ne_eqb}
 use Rattle.std.specs.Option.{option_and_then}
-use Rattle.lfs_model.specs.Blocks.{Blocks, SameBut, SameButThese, block_in}
+use Rattle.lfs_model.specs.Blocks.{Blocks, SameBut, block_in}
 use Rattle.lfs_model.specs.Disk.{Disk, block_at, block_count}
 use Rattle.lfs_model.specs.Log.{revision_of, log_entries}
 use Rattle.lfs_model.specs.Stops.{SameLog, HasNoLog}
-use Rattle.lfs_model.specs.Content.{has_commit, is_later, holder, raw_at, content_after_all, no_content}
+use Rattle.lfs_model.specs.Content.{has_commit, is_later, raw_at, content_after_all, no_content}
 use Rattle.lfs_pair.specs.Pair.{second_holds, active_at, other_of}
 use Rattle.lfs_pair.specs.Commit.{IsAddressOn, OutsideKeeps}
 use Rattle.lfs_model.proofs.Overwrites.{SameButThese-refl, SameButThese-one}

@@ -1,5 +1,5 @@
 -- What a commit to a pair does.
-use Rattle.std.specs.Prelude.{ℕ, ◌≡◌, ◌≢◌, ◌⊎◌, ◌+◌, ◌<◌, ◌≤◌, false, true, is_some, List, [], ◌∷◌, length, take, Option, Some}
+use Rattle.std.specs.Prelude.{ℕ, ◌≡◌, ◌≢◌, ◌⊎◌, ◌+◌, ◌<◌, ◌≤◌, false, true, List, [], ◌∷◌, take, Option, Some}
 use Rattle.std.specs.Option.{option_and_then}
 use Rattle.lfs_model.specs.Blocks.{Blocks, SameButThese, block_in}
 use Rattle.lfs_model.specs.Disk.{Disk, block_at, block_count}

@@ -1,19 +1,18 @@
-use Rattle.std.proofs.Common.{ℕ, ◌≡◌, ◌≢◌, ◌⊎◌, ◌<◌, ◌≤◌, ◌+◌, ◌%◌, ◌^◌, true, refl, sym, ap, ◌∙◌, subst, arith, length, Some}
+use Rattle.std.proofs.Common.{◌≡◌, ◌%◌, sym, ap, ◌∙◌, subst, arith, length, Some}
 use Rattle.lfs_device.specs.Shown.{disk_of}
 use Rattle.lfs_device.specs.declared.geometry.Geometry.{Geometry}
 use Rattle.lfs_model.specs.Slots.{address_of}
-use Rattle.lfs_model.specs.History.{LeavesOnly, AllUnprogrammed}
+use Rattle.lfs_model.specs.History.{AllUnprogrammed}
 use Rattle.lfs_model.specs.Changes.{entries_of_changes}
 use Rattle.lfs_model.proofs.Histories.{LeavesOnly-weaker}
 use Rattle.lfs_tag.specs.Builder.{Building}
 use Rattle.lfs_tag.specs.ContentSeen.{content_seen}
-use Rattle.lfs_pair.specs.declared.pair.Pair.{Pair}
-use Rattle.lfs_pair.specs.Pair.{IsPair, address_in}
+use Rattle.lfs_pair.specs.Pair.{address_in}
 use Rattle.lfs_pair.specs.Writing.{with_entries}
 use Rattle.lfs_pair.specs.Commit.{NowHolds, LeftWithAny}
 use Rattle.lfs_pair.specs.ChangeSeen.{changes_seen}
 use Rattle.lfs_pair.proofs.TwoBlocks.{outside_one}
-use Rattle.lfs_pair.proofs.Changed.{IsAppending, IsIn, is_appending, appended, active_among, active_below, now_holds, left_by_append, ends_in_block, made_is, some_same, gets_revision, stays_outside}
+use Rattle.lfs_pair.proofs.Changed.{is_appending, appended, active_among, active_below, now_holds, left_by_append, ends_in_block, made_is, some_same, gets_revision, stays_outside}
 use Rattle.lfs_pair.proofs.committing.append.Goals as goal
 
 pub overflow_cast-room : goal.overflow_cast-room

@@ -1,8 +1,6 @@
-use Rattle.std.proofs.Common.{rules, ℕ, ◌≡◌, ◌<◌, ◌+◌, true, false, Ok, refl, sym, ap, ap₂, ◌∙◌, subst, arith, inl}
+use Rattle.std.proofs.Common.{◌+◌, ap, ap₂, ◌∙◌, subst}
 use Rattle.lfs_device.specs.Shown.{disk_of}
 use Rattle.lfs_model.specs.Blocks.{block_in}
-use Rattle.lfs_model.specs.History.{EachSince, LeavesOnly}
-use Rattle.lfs_model.specs.Stops.{ErasesCleanly, Stops}
 use Rattle.lfs_model.proofs.Histories.{goes_on_by, LeavesOnly-reads, LeavesOnly-weaker, EachSince-behind, Stops-read, AtWorst-read, erases-reads}
 use Rattle.lfs_model.proofs.Overwrites.{SameButThese-refl}
 use Rattle.lfs_pair.specs.Pair.{address_in}

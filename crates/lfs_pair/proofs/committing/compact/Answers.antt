@@ -1,15 +1,13 @@
-use Rattle.std.proofs.Common.{ℕ, ◌≡◌, ◌≢◌, ◌⊎◌, ◌<◌, ◌+◌, ◌%◌, ◌^◌, true, refl, sym, ap, ◌∙◌, subst, arith}
+use Rattle.std.proofs.Common.{◌+◌, ◌%◌, ◌^◌, refl, sym, ap, ◌∙◌, subst, arith}
 use Rattle.lfs_device.specs.Shown.{disk_of}
-use Rattle.lfs_model.specs.Disk.{Disk}
-use Rattle.lfs_model.specs.History.{LeavesOnly, AllUnprogrammed}
+use Rattle.lfs_model.specs.History.{AllUnprogrammed}
 use Rattle.lfs_model.specs.Slots.{address_of}
 use Rattle.lfs_tag.specs.ContentSeen.{content_seen}
 use Rattle.lfs_pair.specs.Commit.{NowHolds}
 use Rattle.lfs_model.proofs.Histories.{LeavesOnly-weaker}
-use Rattle.lfs_pair.specs.declared.pair.Pair.{Pair}
-use Rattle.lfs_pair.specs.Pair.{IsPair, address_in}
+use Rattle.lfs_pair.specs.Pair.{address_in}
 use Rattle.lfs_pair.proofs.TwoBlocks.{other_is, outside_one, below_count}
-use Rattle.lfs_pair.proofs.Changed.{IsCompacting, IsIn, is_compacting, compacted, now_holds, left_by_compaction, stays_outside}
+use Rattle.lfs_pair.proofs.Changed.{is_compacting, compacted, now_holds, left_by_compaction, stays_outside}
 use Rattle.lfs_pair.proofs.committing.compact.Goals as goal
 
 pub write_anew-requires-clause-in_device : goal.write_anew-requires-clause-in_device

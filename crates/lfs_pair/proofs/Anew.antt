@@ -3,7 +3,7 @@ use Rattle.std.proofs.Common.{ℕ, ◌≡◌, ◌+◌, ◌≤◌, Bool, false, L
 use Rattle.lfs_model.specs.Blocks.{Blocks, block_in, SameBut}
 use Rattle.lfs_model.specs.Geometry.{IsGeometry}
 use Rattle.lfs_model.specs.Content.{RawContent, no_content}
-use Rattle.lfs_model.specs.Commit.{entries_size}
+use Rattle.lfs_model.specs.Commit.{entries_size, page_end}
 use Rattle.lfs_model.specs.Written.{FitsRaw, entries_of}
 use Rattle.lfs_model.specs.Logged.{HaveNames, IsLogged, IsSound}
 use Rattle.lfs_model.specs.History.{Event, event, Erase, EachSince, LeavesOnly}
@@ -57,6 +57,9 @@ anew_holds {c = c} {old = old} new is sound gets =
       has_commit = Gets-has_commit got;
       revision_is = got.revision;
       content = appended_content new [] (entries_of c) got.checksum no_content c got.commits got.class refl (entries_of-reads c sound);
+      checksum = got.checksum;
+      class = got.class;
+      commits = got.commits;
     }
 
 -- ---- what a stop on the way there leaves
@@ -87,3 +90,11 @@ leaves_anew {revision = revision} {block = block} {c = c} {old = old} {mid = mid
     let first : LeavesOnly Stops before erased (LeftInBlock block (LeftByWriting revision c) old) = leaves_erase here in
     let left : LeftByErase (block_in old block) (block_in mid block) = EachSince-only (EachSince-until clean first behind) here in
     goes_on_by first (LeavesOnly-weaker (λ disk stopped. (SameBut-trans same stopped.0, left_anew (block_in old block) (block_in mid block) (block_in disk block) is sound left stopped.1)) behind)
+
+-- ---- where it ends
+
+pub nothing_more : (n : ℕ) → 0 + n ≡ n
+nothing_more n = omega arith
+
+pub anew_end : {b : Building} {size page revision : ℕ} (c : RawContent) (end : ℕ) → end ≡ 0 + padded_end b → b ≡ anew size page revision c → end ≡ page_end page (4 + entries_size (entries_of c))
+anew_end {page = page} c end is built = is ∙ ap (λ (d : Building). 0 + padded_end d) built ∙ nothing_more (page_end page (4 + entries_size (entries_of c)))

@@ -18,7 +18,7 @@ use Rattle.lfs_tag.specs.FieldsSeen.{move_seen}
 use Rattle.lfs_tag.specs.Builder.{Building, earlier}
 use Rattle.lfs_model.specs.History.{Event, AllUnprogrammed, StayUnprogrammed}
 use Rattle.lfs_pair.specs.declared.pair.Pair.{Pair}
-use Rattle.lfs_pair.specs.Pair.{IsPair, active_at, address_in, other_in}
+use Rattle.lfs_pair.specs.Pair.{IsPair, second_holds, active_at, address_in, other_in}
 use Rattle.lfs_pair.specs.Writing.{Gets, Holds, LeftByCommit, LeftByWriting, LeftInBlock}
 use Rattle.lfs_pair.specs.Commit.{IsActive, IsAddressOn, LeftWithAny, NowHolds, OutsideStays, made_of, made_in, made_at}
 use Rattle.lfs_pair.proofs.SameLogs.{entries_same}
@@ -262,3 +262,14 @@ made_here disk history pair held block changes new is here made =
 -- the disk itself, before a call
 pub left_alone : (disk : Disk) (at : ℕ × ℕ) (new : Option RawContent) → LeftWithAny disk at new disk.blocks
 left_alone disk at new = record { others = SameButThese-refl (at.0 ∷ at.1 ∷ []) disk.blocks; content = inl refl }
+
+second_alone : (a b : List ℕ) → has_commit b ≡ false → second_holds a b ≡ false
+second_alone a b none = rw none refl
+
+-- where the second block has no commit, the first holds
+pub first_in : (disk : Disk) (at : ℕ × ℕ) (revision : ℕ) (c : RawContent) → has_commit (block_at disk at.1) ≡ false → Holds revision c (block_at disk at.0) → IsIn disk at at.0 c
+first_in disk at revision c cleared holds = record {
+  active_is = sym (ap (λ s. cond s at.1 at.0) (second_alone (block_at disk at.0) (block_at disk at.1) cleared));
+  has = holds.has_commit;
+  content = holds.content;
+}

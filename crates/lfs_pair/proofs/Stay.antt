@@ -39,7 +39,7 @@ IsAddressOn-stays {at} same on = record {
 -- ---- as the pair says
 
 -- the active block isn't one of those either
-active_elsewhere : {at : ℕ × ℕ} {bs : List ℕ} (disk : Disk) (active : ℕ) → AreElsewhere at bs → active ≡ active_at disk at → All (λ b. b ≢ active) bs
+pub active_elsewhere : {at : ℕ × ℕ} {bs : List ℕ} (disk : Disk) (active : ℕ) → AreElsewhere at bs → active ≡ active_at disk at → All (λ b. b ≢ active) bs
 active_elsewhere {at} {bs} disk active elsewhere is = go (second_holds (block_at disk at.0) (block_at disk at.1)) is
   where
     go : (s : Bool) → active ≡ cond s at.1 at.0 → All (λ b. b ≢ active) bs

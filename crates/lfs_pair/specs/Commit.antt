@@ -1,15 +1,17 @@
 -- What a commit to a pair does.
-use Rattle.std.specs.Prelude.{ℕ, ◌≡◌, ◌≢◌, ◌⊎◌, ◌+◌, ◌<◌, ◌≤◌, false, true, List, [], ◌∷◌, take, Option, Some}
+use Rattle.std.specs.Prelude.{ℕ, ◌≡◌, ◌≢◌, ◌⊎◌, ◌+◌, ◌%◌, ◌^◌, ◌++◌, ◌<◌, ◌≤◌, false, true, List, [], ◌∷◌, take, Option, Some}
 use Rattle.std.specs.Option.{option_and_then}
-use Rattle.lfs_model.specs.Blocks.{Blocks, SameButThese, block_in}
+use Rattle.lfs_model.specs.Blocks.{Blocks, SameBut, SameButThese, block_in}
 use Rattle.lfs_model.specs.Disk.{Disk, block_at, block_count}
 use Rattle.lfs_model.specs.History.{Event, StayUnprogrammed, erases}
-use Rattle.lfs_model.specs.Log.{log_entries, revision_of}
+use Rattle.lfs_model.specs.Log.{LogEntry, chain_of, log_entries, revision_of}
 use Rattle.lfs_model.specs.Logged.{HaveNames}
 use Rattle.lfs_model.specs.Content.{RawContent, has_commit, raw_at, content_after_all, no_content}
 use Rattle.lfs_model.specs.Changes.{Change, changed_by, entries_of_changes}
 use Rattle.lfs_model.specs.Commit.{entries_size, page_end}
-use Rattle.lfs_model.specs.Written.{FitsRaw}
+use Rattle.lfs_model.specs.Written.{FitsRaw, entries_of}
+use Rattle.lfs_model.specs.Tag.{class_of}
+use Rattle.lfs_pair.specs.Writing.{Holds}
 use Rattle.lfs_pair.specs.declared.pair.Pair.{Pair}
 use Rattle.lfs_pair.specs.Pair.{IsPair, active_at, address_in}
 
@@ -19,7 +21,7 @@ pub record IsAddressOn (disk : Disk) (at : ℕ × ℕ) : Type 0 where
   pub first : at.0 < block_count disk
   pub second : at.1 < block_count disk
 
--- what changes make of what a content holds, or a block's log, or a pair on the disk
+-- what changes make of a content, if there is one, of a block's log, and of a pair on the disk
 abbrev pub made_of : Option RawContent → List Change → Option RawContent
 made_of held changes = option_and_then (λ c. changed_by c changes) held
 
@@ -29,8 +31,7 @@ made_in block changes = made_of (content_after_all no_content (log_entries block
 abbrev pub made_at : Disk → ℕ × ℕ → List Change → Option RawContent
 made_at disk at changes = made_of (raw_at disk at) changes
 
--- The disk has the pair as the pair says, and the changes can be made: they are none that the log may not have, and each
--- slot has a name afterwards.
+-- The disk has the pair as the pair says, each change may stand in its log, and each slot has a name afterwards.
 pub record CanCommit (disk : Disk) (history : List Event) (pair : Pair) (changes : List Change) : Type 0 where
   pub address : IsAddressOn disk (address_in pair)
   pub held : RawContent
@@ -39,13 +40,13 @@ pub record CanCommit (disk : Disk) (history : List Event) (pair : Pair) (changes
   pub changed : changed_by held changes ≡ Some new
   pub names : HaveNames new.slots
 
--- the pair says which of its blocks holds
+-- the pair says which of its blocks holds, and that one's revision
 pub record IsActive (disk : Disk) (pair : Pair) : Type 0 where
   pub active : pair.active ≡ active_at disk (address_in pair)
   pub has_commit : has_commit (block_at disk pair.active) ≡ true
   pub revision_is : pair.revision ≡ revision_of (block_at disk pair.active)
 
--- the pair holds that, and something was written since it was fetched
+-- the pair at that address holds that, and its active block was written, not only fetched
 pub record NowHolds (disk : Disk) (history : List Event) (at : ℕ × ℕ) (pair : Pair) (held : RawContent) : Type 0 where
   pub is_pair : IsPair disk history pair held
   pub same : address_in pair ≡ at
@@ -63,15 +64,27 @@ pub record Appends (disk : Disk) (pair : Pair) (changes : List Change) : Type 0 
   pub written : pair.is_fetched ≡ false
   pub room : pair.end + page_end disk.page (entries_size (entries_of_changes changes)) ≤ disk.block_size
 
--- an append erases nothing, and leaves all bytes before the old end
-pub record IsAppended (was : Pair) (old new : Blocks) (before after : List Event) (pair : Pair) : Type 0 where
+-- a block's log got one commit more, of these entries, which ends on the next page boundary
+pub record HasAppended (page : ℕ) (es : List LogEntry) (old new : List ℕ) : Type 0 where
+  pub checksum : LogEntry
+  pub class : class_of checksum.tag ≡ 5
+  pub commits : (chain_of new).commits ≡ (chain_of old).commits ++ (es ++ checksum ∷ []) ∷ []
+  pub end : (chain_of new).end ≡ (chain_of old).end + page_end page (entries_size es)
+
+-- an append erases nothing, changes the active block alone, and leaves all its bytes before the old end
+pub record IsAppended (page : ℕ) (was : Pair) (changes : List Change) (old new : Blocks) (before after : List Event) (pair : Pair) : Type 0 where
   pub active : pair.active ≡ was.active
+  pub log : HasAppended page (entries_of_changes changes) (block_in old was.active) (block_in new was.active)
+  pub others : SameBut was.active old new
   pub erases : erases after ≡ erases before
   pub kept : take was.end (block_in new was.active) ≡ take was.end (block_in old was.active)
 
--- a compaction erases the other block once, and leaves the block that held as it is
-pub record IsCompacted (was : Pair) (old new : Blocks) (before after : List Event) (pair : Pair) : Type 0 where
+-- a compaction erases once, leaves the block that held as it is, and writes the content anew into the other one, with the
+-- next revision and up to the next page boundary
+pub record IsCompacted (page : ℕ) (was : Pair) (c : RawContent) (old new : Blocks) (before after : List Event) (pair : Pair) : Type 0 where
   pub active : pair.active ≢ was.active
+  pub anew : Holds ((was.revision + 1) % 2 ^ 32) c (block_in new pair.active)
+  pub end : pair.end ≡ page_end page (4 + entries_size (entries_of c))
   pub erases : erases after ≡ erases before + 1
   pub kept : block_in new was.active ≡ block_in old was.active
 

@@ -1,4 +1,4 @@
--- A pair that is kept in memory, whatever it holds.
+-- A pair that is kept in memory, whatever it holds: for tests, which find out at run time whether changes can be made.
 use Rattle.std.specs.Prelude.{ℕ, ◌≡◌, List, Some}
 use Rattle.lfs_model.specs.Disk.{Disk}
 use Rattle.lfs_model.specs.History.{Event}

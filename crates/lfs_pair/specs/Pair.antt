@@ -34,7 +34,7 @@ pub record Describes (block : List ℕ) (pair : Pair) (held : RawContent) : Type
 abbrev pub second_holds : List ℕ → List ℕ → Bool
 second_holds a b = has_commit b && (not (has_commit a) || is_later (revision_of a) (revision_of b))
 
--- the address of the block that holds, if one does
+-- the address of the block that holds; the first one's where neither does
 abbrev pub active_at : Disk → ℕ × ℕ → ℕ
 active_at disk at = if second_holds (block_at disk at.0) (block_at disk at.1) then at.1 else at.0
 

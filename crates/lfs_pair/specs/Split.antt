@@ -1,14 +1,15 @@
 -- What becomes of a pair that is split.
-use Rattle.std.specs.Prelude.{ℕ, ◌≡◌, ◌≢◌, ◌⊎◌, true, List, [], ◌∷◌, take, drop, Some}
+use Rattle.std.specs.Prelude.{ℕ, ◌≡◌, ◌≢◌, ◌⊎◌, ◌+◌, ◌%◌, ◌^◌, true, false, List, [], ◌∷◌, take, drop, Some}
 use Rattle.lfs_model.specs.Blocks.{Blocks, SameButThese}
-use Rattle.lfs_model.specs.Disk.{Disk}
+use Rattle.lfs_model.specs.Disk.{Disk, block_at}
 use Rattle.lfs_model.specs.History.{Event, StayUnprogrammed}
 use Rattle.lfs_model.specs.Slots.{no_gstate}
-use Rattle.lfs_model.specs.Content.{RawContent, raw_at}
+use Rattle.lfs_model.specs.Content.{RawContent, has_commit, raw_at}
 use Rattle.lfs_model.specs.Changes.{Change}
 use Rattle.lfs_pair.specs.declared.pair.Pair.{Pair}
 use Rattle.lfs_pair.specs.Pair.{address_in}
 use Rattle.lfs_pair.specs.Commit.{IsAddressOn, CanCommit, NowHolds, made_at}
+use Rattle.lfs_pair.specs.Writing.{Holds}
 use Rattle.lfs_pair.specs.Cut.{CanBeCut, IsCut}
 
 -- no block is in both pairs
@@ -48,6 +49,14 @@ pub record Splits (old : Disk) (changes : List Change) (was : Pair) (fresh : ℕ
   pub is_cut : IsCut old.block_size old.page new.slots cut
   pub front : NowHolds disk history (address_in was) pair (front_of new cut fresh)
   pub back : NowHolds disk history fresh fresh_pair (back_of new cut)
+  -- the front is written anew into the block that didn't hold, with the next revision, and the other stays as it is
+  pub moved : pair.active ≢ was.active
+  pub kept : block_at disk was.active ≡ block_at old was.active
+  pub front_anew : Holds ((was.revision + 1) % 2 ^ 32) (front_of new cut fresh) (block_at disk pair.active)
+  -- the back stands in the fresh pair's first block, and no log is left in its second
+  pub fresh_active : fresh_pair.active ≡ fresh.0
+  pub back_anew : Holds 1 (back_of new cut) (block_at disk fresh.0)
+  pub cleared : has_commit (block_at disk fresh.1) ≡ false
 
 -- both pairs hold their parts
 pub record AreParted (old : Disk) (at fresh : ℕ × ℕ) (changes : List Change) (disk : Disk) : Type 0 where

@@ -4,6 +4,7 @@ use Rattle.lfs_model.specs.Blocks.{Blocks, block_in, SameBut}
 use Rattle.lfs_model.specs.Tag.{class_of}
 use Rattle.lfs_model.specs.Log.{LogEntry, chain_of, revision_of, log_entries}
 use Rattle.lfs_model.specs.Content.{RawContent, has_commit, content_after_all, no_content}
+use Rattle.lfs_model.specs.Written.{entries_of}
 use Rattle.lfs_model.specs.Stops.{SameLog, HasNoLog}
 use Rattle.lfs_tag.specs.Builder.{Building, earlier}
 
@@ -20,13 +21,16 @@ pub record Gets (b : Building) (old new : List ℕ) : Type 0 where
 
 -- a stop while it is programmed at an offset leaves the log before it or behind it; at the block's beginning also none
 abbrev pub LeftByCommit : Building → ℕ → List ℕ → List ℕ → Type 0
-LeftByCommit b at old left = SameLog left old ⊎ (((at ≡ 0) × HasNoLog left) ⊎ Gets b old left)
+LeftByCommit b off old left = SameLog left old ⊎ (((off ≡ 0) × HasNoLog left) ⊎ Gets b old left)
 
--- a block's log comes to that content
+-- a block's log is one commit, of the entries that write that content anew, and comes to it
 pub record Holds (revision : ℕ) (c : RawContent) (block : List ℕ) : Type 0 where
   pub has_commit : has_commit block ≡ true
   pub revision_is : revision_of block ≡ revision
   pub content : content_after_all no_content (log_entries block) ≡ Some c
+  pub checksum : LogEntry
+  pub class : class_of checksum.tag ≡ 5
+  pub commits : (chain_of block).commits ≡ (entries_of c ++ checksum ∷ []) ∷ []
 
 -- a stop while a block is erased and a content is written into it leaves its old log, or none, or the content
 abbrev pub LeftByWriting : ℕ → RawContent → List ℕ → List ℕ → Type 0

@@ -1,6 +1,6 @@
 // Changes committed to a pair.
 
-ghost use Rattle.std.specs.Prelude.{◌≡◌, ◌⊎◌, ◌<◌, true, false, IfErr, OnOk, Some, length};
+ghost use Rattle.std.specs.Prelude.{◌≡◌, ◌⊎◌, ◌<◌, true, false, IfErr, OnErr, OnOk, Some, length};
 ghost use Rattle.lfs_device.specs.Shown.{disk_of};
 ghost use Rattle.lfs_model.specs.Blocks.{block_in};
 ghost use Rattle.lfs_model.specs.History.{AtWorst, EachSince, LeavesOnly, OnlyReads, faults};
@@ -41,7 +41,11 @@ pub enum Outcome {
 /// `Full` exactly where what the changes make exceeds what [`fits`] a pair; nothing is written
 /// then, and the pair stays as it was. `NoMemory` where there is no room for two blocks and the
 /// slots; nothing is written then either. `Io` where a call of the device failed. After an error
-/// nothing is known of `pair`, and its blocks are to be fetched again.
+/// `pair` is as it was, but the device may hold something else, so its blocks are to be fetched
+/// again.
+///
+/// What is said of lost power holds where an erase leaves a block without a log or with the one
+/// that it had, and a program that is cut short leaves the log from before it or from behind it.
 ///
 /// That the device has the pair as its last call left it, that the changes may stand in its log,
 /// and that each slot has a name afterwards, are the caller's conditions.
@@ -57,10 +61,11 @@ pub fn commit<D: BlockDevice>(
         → Commits (disk_of (D.geometry dev.old) (D.blocks dev.old)) (changes_seen changes.now) pair.old (disk_of (D.geometry dev.new) (D.blocks dev.new)) (D.history dev.new) pair.new }
     ensures appended { result ≡ Ok Outcome.Done
         → Appends (disk_of (D.geometry dev.old) (D.blocks dev.old)) pair.old (changes_seen changes.now)
-        → IsAppended pair.old (D.blocks dev.old) (D.blocks dev.new) (D.history dev.old) (D.history dev.new) pair.new }
+        → IsAppended (D.geometry dev.old).page pair.old (changes_seen changes.now) (D.blocks dev.old) (D.blocks dev.new) (D.history dev.old) (D.history dev.new) pair.new }
     ensures compacted { result ≡ Ok Outcome.Done
         → ¬ Appends (disk_of (D.geometry dev.old) (D.blocks dev.old)) pair.old (changes_seen changes.now)
-        → IsCompacted pair.old (D.blocks dev.old) (D.blocks dev.new) (D.history dev.old) (D.history dev.new) pair.new }
+        → (new : RawContent) → made_at (disk_of (D.geometry dev.old) (D.blocks dev.old)) (address_in pair.old) (changes_seen changes.now) ≡ Some new
+        → IsCompacted (D.geometry dev.old).page pair.old new (D.blocks dev.old) (D.blocks dev.new) (D.history dev.old) (D.history dev.new) pair.new }
 
     ensures full { result ≡ Ok Outcome.Full → (new : RawContent)
         → made_at (disk_of (D.geometry dev.old) (D.blocks dev.old)) (address_in pair.old) (changes_seen changes.now) ≡ Some new
@@ -70,6 +75,7 @@ pub fn commit<D: BlockDevice>(
     ensures full_reads { result ≡ Ok Outcome.Full → OnlyReads (D.blocks dev.old) (D.history dev.old) (D.history dev.new) }
     ensures no_memory { result ≡ Err Error.NoMemory → D.blocks dev.new ≡ D.blocks dev.old }
     ensures no_memory_reads { result ≡ Err Error.NoMemory → OnlyReads (D.blocks dev.old) (D.history dev.old) (D.history dev.new) }
+    ensures err_pair { OnErr result (pair.new ≡ pair.old) }
     ensures errors { IfErr result (λ e. (e ≡ Error.Io) ⊎ (e ≡ Error.NoMemory)) }
     ensures fault { result ≡ Err Error.Io → faults (D.history dev.old) < faults (D.history dev.new) }
 
@@ -100,10 +106,11 @@ fn carry_out<'a, 'b: 'a, D: BlockDevice>(
         → Commits (disk_of (D.geometry dev.old) (D.blocks dev.old)) (changes_seen changes.now) pair.old (disk_of (D.geometry dev.new) (D.blocks dev.new)) (D.history dev.new) pair.new }
     ensures appended { result ≡ Ok Outcome.Done
         → Appends (disk_of (D.geometry dev.old) (D.blocks dev.old)) pair.old (changes_seen changes.now)
-        → IsAppended pair.old (D.blocks dev.old) (D.blocks dev.new) (D.history dev.old) (D.history dev.new) pair.new }
+        → IsAppended (D.geometry dev.old).page pair.old (changes_seen changes.now) (D.blocks dev.old) (D.blocks dev.new) (D.history dev.old) (D.history dev.new) pair.new }
     ensures compacted { result ≡ Ok Outcome.Done
         → ¬ Appends (disk_of (D.geometry dev.old) (D.blocks dev.old)) pair.old (changes_seen changes.now)
-        → IsCompacted pair.old (D.blocks dev.old) (D.blocks dev.new) (D.history dev.old) (D.history dev.new) pair.new }
+        → (new : RawContent) → made_at (disk_of (D.geometry dev.old) (D.blocks dev.old)) (address_in pair.old) (changes_seen changes.now) ≡ Some new
+        → IsCompacted (D.geometry dev.old).page pair.old new (D.blocks dev.old) (D.blocks dev.new) (D.history dev.old) (D.history dev.new) pair.new }
 
     ensures full { result ≡ Ok Outcome.Full → (new : RawContent)
         → made_at (disk_of (D.geometry dev.old) (D.blocks dev.old)) (address_in pair.old) (changes_seen changes.now) ≡ Some new
@@ -111,6 +118,7 @@ fn carry_out<'a, 'b: 'a, D: BlockDevice>(
     ensures full_pair { result ≡ Ok Outcome.Full → pair.new ≡ pair.old }
     ensures full_dev { result ≡ Ok Outcome.Full → dev.new ≡ dev.old }
     ensures no_memory { result ≡ Err Error.NoMemory → dev.new ≡ dev.old }
+    ensures err_pair { OnErr result (pair.new ≡ pair.old) }
     ensures errors { IfErr result (λ e. (e ≡ Error.Io) ⊎ (e ≡ Error.NoMemory)) }
     ensures fault { result ≡ Err Error.Io → faults (D.history dev.old) < faults (D.history dev.new) }
 
@@ -150,11 +158,12 @@ fn append<D: BlockDevice>(
     ensures done { result ≡ Ok true
         → NowHolds (disk_of (D.geometry dev.new) (D.blocks dev.new)) (D.history dev.new) (address_in pair.old) pair.new (content_seen content.now) }
     ensures appends { result ≡ Ok true → Appends (disk_of (D.geometry dev.old) (D.blocks dev.old)) pair.old (changes_seen changes.now) }
-    ensures appended { result ≡ Ok true → IsAppended pair.old (D.blocks dev.old) (D.blocks dev.new) (D.history dev.old) (D.history dev.new) pair.new }
+    ensures appended { result ≡ Ok true → IsAppended (D.geometry dev.old).page pair.old (changes_seen changes.now) (D.blocks dev.old) (D.blocks dev.new) (D.history dev.old) (D.history dev.new) pair.new }
     ensures no_room { result ≡ Ok false → ¬ Appends (disk_of (D.geometry dev.old) (D.blocks dev.old)) pair.old (changes_seen changes.now) }
     ensures no_room_pair { result ≡ Ok false → pair.new ≡ pair.old }
     ensures no_room_dev { result ≡ Ok false → dev.new ≡ dev.old }
     ensures no_room_buf { length buf.new ≡ length buf.old }
+    ensures err_pair { OnErr result (pair.new ≡ pair.old) }
     ensures errors { IfErr result (λ e. e ≡ Error.Io) }
     ensures fault { result ≡ Err Error.Io → faults (D.history dev.old) < faults (D.history dev.new) }
 
@@ -192,7 +201,8 @@ pub(crate) fn compact<D: BlockDevice>(
 
     ensures buf { length buf.new ≡ length buf.old }
     ensures done { OnOk result (NowHolds (disk_of (D.geometry dev.new) (D.blocks dev.new)) (D.history dev.new) (address_in pair.old) pair.new (content_seen content.now)) }
-    ensures compacted { OnOk result (IsCompacted pair.old (D.blocks dev.old) (D.blocks dev.new) (D.history dev.old) (D.history dev.new) pair.new) }
+    ensures compacted { OnOk result (IsCompacted (D.geometry dev.old).page pair.old (content_seen content.now) (D.blocks dev.old) (D.blocks dev.new) (D.history dev.old) (D.history dev.new) pair.new) }
+    ensures err_pair { OnErr result (pair.new ≡ pair.old) }
     ensures errors { IfErr result (λ e. e ≡ Error.Io) }
     ensures fault { result ≡ Err Error.Io → faults (D.history dev.old) < faults (D.history dev.new) }
 

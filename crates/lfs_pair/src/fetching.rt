@@ -46,7 +46,8 @@ fn described(alloc: Global, blocks: [u32; 2], active: u32, bytes: &[u8]) -> Resu
 /// the device is the caller's condition. It takes memory for a block and for its slots.
 ///
 /// Answers `Corrupt` exactly where neither block has a commit, or the log of the block that holds
-/// is malformed, and `Io` or `NoMemory` at any disk.
+/// is malformed; `Io` where a read failed, and `NoMemory` where there is no room for a block and
+/// its slots. Nothing is written.
 pub fn fetch<D: BlockDevice>(alloc: Global, dev: &mut D, blocks: [u32; 2]) -> Result<Pair, Error>
     requires apart { (address_of blocks).0 ≢ (address_of blocks).1 }
     requires first { (address_of blocks).0 < (D.geometry dev.old).block_count }

@@ -11,6 +11,7 @@ ghost use Rattle.lfs_model.specs.Written.{FitsRaw};
 ghost use Rattle.lfs_tag.specs.ContentSeen.{content_seen};
 ghost use Rattle.lfs_pair.specs.ChangeSeen.{changes_seen};
 ghost use Rattle.lfs_pair.specs.Commit.{IsAddressOn, NowHolds, OutsideKeeps, OutsideStays};
+ghost use Rattle.lfs_pair.specs.Writing.{Holds};
 ghost use Rattle.lfs_pair.specs.Fresh.{CanBeFresh, IsFresh};
 
 use crate::change::Change;
@@ -66,6 +67,8 @@ pub(crate) fn write_fresh<D: BlockDevice>(
 
     ensures holds { IfOk result (λ pair. NowHolds (disk_of (D.geometry dev.new) (D.blocks dev.new)) (D.history dev.new) (address_of blocks) pair (content_seen content.now)) }
     ensures active { IfOk result (λ pair. pair.active ≡ (address_of blocks).0) }
+    ensures anew { OnOk result (Holds 1 (content_seen content.now) (block_in (D.blocks dev.new) (address_of blocks).0)) }
+    ensures cleared { OnOk result (has_commit (block_in (D.blocks dev.new) (address_of blocks).1) ≡ false) }
     ensures revision { IfOk result (λ pair. pair.revision ≡ 1) }
     ensures buf { length buf.new ≡ length buf.old }
     ensures erases { OnOk result (erases (D.history dev.new) ≡ erases (D.history dev.old) + 2) }
@@ -112,7 +115,7 @@ impl Pair {
         ensures others { OutsideKeeps (address_of blocks) (D.blocks dev.old) (D.blocks dev.new) }
         ensures elsewhere { OutsideStays (address_of blocks) (D.history dev.old) (D.history dev.new) }
         ensures geometry { D.geometry dev.new ≡ D.geometry dev.old }
-        ensures stops { LeavesOnly AtWorst (D.history dev.old) (D.history dev.new) (OutsideKeeps (address_of blocks) (D.blocks dev.old)) }
+        ensures at_worst { LeavesOnly AtWorst (D.history dev.old) (D.history dev.new) (OutsideKeeps (address_of blocks) (D.blocks dev.old)) }
     {
         let content = made_of_nothing(alloc, changes)?;
         let block_size = dev.geometry().block_size as usize;

@@ -16,13 +16,16 @@ pub struct Pair {
     pub blocks: [u32; 2],
     /// The block of the two that holds.
     pub active: u32,
-    /// Where its last commit ends.
+    /// Where its last commit ends, in bytes from the block's beginning.
     pub end: usize,
     /// Its last tag, as the next one is stored with it.
     pub last: Tag,
+    /// The revision of its log.
     pub revision: u32,
     pub slot_count: usize,
+    /// The next pair of the thread.
     pub tail: Option<Tail>,
+    /// The pair's share of the global state.
     pub move_state: MoveState,
     /// Nothing was written since it was fetched, so what lies past its end isn't known.
     pub is_fetched: bool,

@@ -1,9 +1,9 @@
 // Pairs that are split.
 
-ghost use Rattle.std.specs.Prelude.{◌≡◌, ◌⊎◌, ◌<◌, IfErr, IfOk};
+ghost use Rattle.std.specs.Prelude.{◌≡◌, ◌⊎◌, ◌+◌, ◌<◌, IfErr, IfOk, OnErr, OnOk};
 ghost use Rattle.lfs_device.specs.Shown.{disk_of};
 ghost use Rattle.lfs_model.specs.Blocks.{block_in};
-ghost use Rattle.lfs_model.specs.History.{AtWorst, EachSince, LeavesOnly, OnlyReads, faults};
+ghost use Rattle.lfs_model.specs.History.{AtWorst, EachSince, LeavesOnly, OnlyReads, erases, faults};
 ghost use Rattle.lfs_model.specs.Slots.{address_of};
 ghost use Rattle.lfs_model.specs.Stops.{ErasesCleanly, Stops};
 ghost use Rattle.lfs_tag.specs.ContentSeen.{content_seen};
@@ -29,8 +29,9 @@ use std::alloc::Global;
 /// both pairs with what they are to hold. Answers the fresh pair.
 ///
 /// `NoMemory` where there is no room for two blocks and the slots; nothing is written then. `Io`
-/// where a call of the device failed. After an error nothing is known of `pair`, and its blocks
-/// are to be fetched again.
+/// where a call of the device failed. After an error `pair` is as it was, but the device may hold
+/// something else, so its blocks are to be fetched again. What is said of lost power holds under
+/// the conditions of [`commit`](crate::commit).
 ///
 /// What [`commit`](crate::commit) wants of the pair and of the changes are the caller's conditions
 /// here too, and so is that the slots can be cut into two parts that each [`fit`](crate::fits), and
@@ -46,8 +47,10 @@ pub fn split<D: BlockDevice>(
 
     ensures splits { IfOk result (λ fresh_pair. Splits (disk_of (D.geometry dev.old) (D.blocks dev.old)) (changes_seen changes.now) pair.old (address_of fresh)
         (disk_of (D.geometry dev.new) (D.blocks dev.new)) (D.history dev.new) pair.new fresh_pair) }
+    ensures erases { OnOk result (erases (D.history dev.new) ≡ erases (D.history dev.old) + 3) }
     ensures no_memory { result ≡ Err Error.NoMemory → D.blocks dev.new ≡ D.blocks dev.old }
     ensures no_memory_reads { result ≡ Err Error.NoMemory → OnlyReads (D.blocks dev.old) (D.history dev.old) (D.history dev.new) }
+    ensures err_pair { OnErr result (pair.new ≡ pair.old) }
     ensures errors { IfErr result (λ e. (e ≡ Error.Io) ⊎ (e ≡ Error.NoMemory)) }
     ensures fault { result ≡ Err Error.Io → faults (D.history dev.old) < faults (D.history dev.new) }
 
@@ -107,7 +110,9 @@ fn split_block<'a, 'b: 'a, D: BlockDevice>(
 
     ensures splits { IfOk result (λ fresh_pair. Splits (disk_of (D.geometry dev.old) (D.blocks dev.old)) (changes_seen changes.now) pair.old (address_of fresh)
         (disk_of (D.geometry dev.new) (D.blocks dev.new)) (D.history dev.new) pair.new fresh_pair) }
+    ensures erases { OnOk result (erases (D.history dev.new) ≡ erases (D.history dev.old) + 3) }
     ensures no_memory { result ≡ Err Error.NoMemory → dev.new ≡ dev.old }
+    ensures err_pair { OnErr result (pair.new ≡ pair.old) }
     ensures errors { IfErr result (λ e. (e ≡ Error.Io) ⊎ (e ≡ Error.NoMemory)) }
     ensures fault { result ≡ Err Error.Io → faults (D.history dev.old) < faults (D.history dev.new) }
 

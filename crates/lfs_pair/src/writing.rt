@@ -6,9 +6,9 @@ ghost use Rattle.lfs_model.specs.Blocks.{block_in, SameBut};
 ghost use Rattle.lfs_model.specs.History.{AllUnprogrammed, AtWorst, EachSince, LeavesOnly, OnlyReads, StayUnprogrammed, erases, faults};
 ghost use Rattle.lfs_model.specs.Log.{chain_of};
 ghost use Rattle.lfs_model.specs.Logged.{HaveNames, IsLogged};
-ghost use Rattle.lfs_model.specs.Commit.{next_at};
+ghost use Rattle.lfs_model.specs.Commit.{entries_size, next_at, page_end};
 ghost use Rattle.lfs_model.specs.Stops.{ErasesCleanly, Stops};
-ghost use Rattle.lfs_model.specs.Written.{FitsRaw};
+ghost use Rattle.lfs_model.specs.Written.{FitsRaw, entries_of};
 ghost use Rattle.lfs_tag.specs.Builder.{GoesTo, padded_end};
 ghost use Rattle.lfs_tag.specs.ContentSeen.{content_seen};
 ghost use Rattle.lfs_pair.specs.Writing.{Gets, Holds, LeftByCommit, LeftByWriting, LeftInBlock};
@@ -103,6 +103,7 @@ pub(crate) fn write_anew<D: BlockDevice>(
     requires names { HaveNames (content_seen content.now).slots }
     requires fits { FitsRaw (D.geometry dev.old).block_size (D.geometry dev.old).page (content_seen content.now) }
 
+    ensures size { IfOk result (λ written. written.end ≡ page_end (D.geometry dev.old).page (4 + entries_size (entries_of (content_seen content.now)))) }
     ensures holds { OnOk result (Holds revision (content_seen content.now) (block_in (D.blocks dev.new) block)) }
     ensures end { IfOk result (λ written. written.end ≡ (chain_of (block_in (D.blocks dev.new) block)).end) }
     ensures last { IfOk result (λ written. written.last ≡ (chain_of (block_in (D.blocks dev.new) block)).last) }

@@ -1,3 +1,9 @@
+use Rattle.std.proofs.Common.{◌+◌, ap₂}
+use Rattle.lfs_model.specs.Blocks.{block_in}
+use Rattle.lfs_model.specs.Commit.{entries_size, page_end}
+use Rattle.lfs_tag.specs.Builder.{padded_end}
+use Rattle.lfs_pair.specs.Writing.{Gets}
+use Rattle.lfs_pair.proofs.Anew.{nothing_more}
 use Rattle.std.proofs.Common.{◌≡◌, ◌%◌, sym, ap, ◌∙◌, subst, arith, length, Some}
 use Rattle.lfs_device.specs.Shown.{disk_of}
 use Rattle.lfs_device.specs.declared.geometry.Geometry.{Geometry}
@@ -91,3 +97,22 @@ returns-in_err-written-clause-at_worst g c = LeavesOnly-weaker (λ disk left. ou
 
 pub returns-clause-at_worst : goal.returns-clause-at_worst
 returns-clause-at_worst g c = LeavesOnly-weaker (λ disk left. outside_one _ _ _ _ (active_among _ _ c.args.pair.now c.requires.can.held c.requires.can.address c.requires.can.is_pair) left) c.in_ok-written.ensures.at_worst
+
+pub returns-clause-appended : goal.returns-clause-appended
+returns-clause-appended g c done =
+    let can = c.requires.can in
+    let built = c.push_changes.ensures ∙ ap (with_entries (entries_of_changes (changes_seen c.args.changes.now))) c.new-builder.ensures in
+    let gets = subst (λ (b : Building). Gets b (block_in (g.D.BlockDevice.blocks c.args.dev.now) c.args.pair.now.active) (block_in (g.D.BlockDevice.blocks c.program.new.dev) c.args.pair.now.active)) built c.in_ok-written.ensures.commit in
+    let ends = ap padded_end built ∙ ap (page_end c.geometry-geometry.result.page) (nothing_more (entries_size (entries_of_changes (changes_seen c.args.changes.now)))) ∙ ap (λ (k : Geometry). page_end k.page (entries_size (entries_of_changes (changes_seen c.args.changes.now)))) c.geometry-geometry.ensures in
+    record {
+      active = c.written.ensures.active;
+      log = record {
+        checksum = gets.checksum;
+        class = gets.class;
+        commits = gets.commits;
+        end = sym c.in_ok-written.ensures.chain ∙ c.in_ok-written.ensures.end ∙ ap₂ (λ m n. m + n) can.is_pair.describes.end ends;
+      };
+      others = c.in_ok-written.ensures.others;
+      erases = c.in_ok-written.ensures.erases;
+      kept = c.in_ok-written.ensures.before;
+    }

@@ -1,4 +1,4 @@
-use Rattle.std.proofs.Common.{rules, Ok, Some, sym, ap, subst}
+use Rattle.std.proofs.Common.{◌∙◌, rules, Ok, Some, sym, ap, subst}
 use Rattle.lfs_device.specs.Shown.{disk_of}
 use Rattle.lfs_model.specs.History.{AtWorst, EachSince, LeavesOnly}
 use Rattle.lfs_model.specs.Stops.{ErasesCleanly, Stops}
@@ -7,8 +7,8 @@ use Rattle.lfs_model.proofs.Histories.{LeavesOnly-weaker}
 use Rattle.lfs_tag.specs.ContentSeen.{content_seen}
 use Rattle.lfs_pair.specs.Pair.{address_in}
 use Rattle.lfs_pair.specs.ChangeSeen.{changes_seen}
-use Rattle.lfs_pair.specs.Commit.{NowHolds, OutsideKeeps, LeftWith, LeftWithAny}
-use Rattle.lfs_pair.proofs.Changed.{made_here}
+use Rattle.lfs_pair.specs.Commit.{IsCompacted, NowHolds, OutsideKeeps, LeftWith, LeftWithAny}
+use Rattle.lfs_pair.proofs.Changed.{made_here, some_same}
 use Rattle.lfs_pair.proofs.committing.carry_out.Goals as goal
 
 pub returns-then-branch-clause-done : goal.returns-then-branch-clause-done
@@ -56,3 +56,13 @@ returns-clause-at_worst g c =
     (c.in_ok-append.ensures.no_room_pair (ap Ok c.if-branch.false)) c.in_ok-compact.ensures.at_worst in
     subst (λ d. LeavesOnly AtWorst (g.D.BlockDevice.history d) (g.D.BlockDevice.history c.compact.new.dev) (OutsideKeeps (address_in c.args.pair.now) (g.D.BlockDevice.blocks d)))
     (c.in_ok-append.ensures.no_room_dev (ap Ok c.if-branch.false)) moved
+
+pub returns-clause-compacted : goal.returns-clause-compacted
+returns-clause-compacted g c done full new made_new =
+    let made = made_here _ _ c.args.pair.now c.requires.can.held c.args.block.now (changes_seen c.args.changes.now) (Some (content_seen c.in_ok-content.content)) c.requires.can.is_pair c.requires.block c.in_ok-content.ensures.content in
+    let moved = subst (λ p. IsCompacted (g.D.BlockDevice.geometry c.append.new.dev).page p (content_seen c.in_ok-content.content) (g.D.BlockDevice.blocks c.append.new.dev) (g.D.BlockDevice.blocks c.compact.new.dev)
+    (g.D.BlockDevice.history c.append.new.dev) (g.D.BlockDevice.history c.compact.new.dev) c.compact.new.pair) (c.in_ok-append.ensures.no_room_pair (ap Ok c.if-branch.false)) c.in_ok-compact.ensures.compacted in
+    let back = subst (λ d. IsCompacted (g.D.BlockDevice.geometry d).page c.args.pair.now (content_seen c.in_ok-content.content) (g.D.BlockDevice.blocks d) (g.D.BlockDevice.blocks c.compact.new.dev)
+    (g.D.BlockDevice.history d) (g.D.BlockDevice.history c.compact.new.dev) c.compact.new.pair) (c.in_ok-append.ensures.no_room_dev (ap Ok c.if-branch.false)) moved in
+    subst (λ k. IsCompacted (g.D.BlockDevice.geometry c.args.dev.now).page c.args.pair.now k (g.D.BlockDevice.blocks c.args.dev.now) (g.D.BlockDevice.blocks c.compact.new.dev)
+    (g.D.BlockDevice.history c.args.dev.now) (g.D.BlockDevice.history c.compact.new.dev) c.compact.new.pair) (some_same (sym made ∙ made_new)) back

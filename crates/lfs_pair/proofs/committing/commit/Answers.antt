@@ -1,11 +1,14 @@
-use Rattle.std.proofs.Common.{◌+◌, ap, ap₂, ◌∙◌, subst}
+use Rattle.lfs_device.specs.declared.geometry.Geometry.{Geometry}
+use Rattle.lfs_model.specs.Commit.{entries_size, page_end}
+use Rattle.lfs_model.specs.Written.{entries_of}
+use Rattle.std.proofs.Common.{sym, ◌+◌, ap, ap₂, ◌∙◌, subst}
 use Rattle.lfs_device.specs.Shown.{disk_of}
 use Rattle.lfs_model.specs.Blocks.{block_in}
 use Rattle.lfs_model.proofs.Histories.{goes_on_by, LeavesOnly-reads, LeavesOnly-weaker, EachSince-behind, Stops-read, AtWorst-read, erases-reads}
 use Rattle.lfs_model.proofs.Overwrites.{SameButThese-refl}
 use Rattle.lfs_pair.specs.Pair.{address_in}
 use Rattle.lfs_pair.specs.ChangeSeen.{changes_seen}
-use Rattle.lfs_pair.specs.Commit.{Commits, Appends, LeftByChange, OutsideKeeps}
+use Rattle.lfs_pair.specs.Commit.{Commits, Appends, IsAppended, made_at, LeftByChange, OutsideKeeps}
 use Rattle.lfs_pair.proofs.Changed.{active_below, left_alone}
 use Rattle.lfs_pair.proofs.committing.commit.Goals as goal
 
@@ -28,12 +31,31 @@ returns-clause-done g c done =
     subst (λ old. Commits old (changes_seen c.args.changes.now) c.args.pair.now (disk_of (g.D.BlockDevice.geometry c.carry_out.new.dev) (g.D.BlockDevice.blocks c.carry_out.new.dev)) (g.D.BlockDevice.history c.carry_out.new.dev) c.carry_out.new.pair)
     same_disk (c.in_ok-outcome.ensures.done done)
 
-pub returns-clause-compacted : goal.returns-clause-compacted
-returns-clause-compacted g c done full =
+pub returns-clause-appended : goal.returns-clause-appended
+returns-clause-appended g c done appends =
     let same_disk = ap₂ disk_of c.in_ok-block.ensures.geometry c.in_ok-block.ensures.same in
-    let is = c.in_ok-outcome.ensures.compacted done (λ appends. full (subst (λ old. Appends old c.args.pair.now (changes_seen c.args.changes.now)) same_disk appends)) in
+    let is = c.in_ok-outcome.ensures.appended done (subst (λ old. Appends old c.args.pair.now (changes_seen c.args.changes.now)) (sym same_disk) appends) in
+    let paged = subst (λ (k : Geometry). IsAppended k.page c.args.pair.now (changes_seen c.args.changes.now) (g.D.BlockDevice.blocks c.read_block.new.device) (g.D.BlockDevice.blocks c.carry_out.new.dev)
+    (g.D.BlockDevice.history c.read_block.new.device) (g.D.BlockDevice.history c.carry_out.new.dev) c.carry_out.new.pair) c.in_ok-block.ensures.geometry is in
+    let behind = subst (λ old. IsAppended (g.D.BlockDevice.geometry c.args.dev.now).page c.args.pair.now (changes_seen c.args.changes.now) old (g.D.BlockDevice.blocks c.carry_out.new.dev)
+    (g.D.BlockDevice.history c.read_block.new.device) (g.D.BlockDevice.history c.carry_out.new.dev) c.carry_out.new.pair) c.in_ok-block.ensures.same paged in
+    record {
+      active = behind.active;
+      log = behind.log;
+      others = behind.others;
+      erases = behind.erases ∙ erases-reads c.in_ok-block.ensures.reads;
+      kept = behind.kept;
+    }
+
+pub returns-clause-compacted : goal.returns-clause-compacted
+returns-clause-compacted g c done full new made =
+    let same_disk = ap₂ disk_of c.in_ok-block.ensures.geometry c.in_ok-block.ensures.same in
+    let is = c.in_ok-outcome.ensures.compacted done (λ appends. full (subst (λ old. Appends old c.args.pair.now (changes_seen c.args.changes.now)) same_disk appends)) new
+    (ap (λ old. made_at old (address_in c.args.pair.now) (changes_seen c.args.changes.now)) same_disk ∙ made) in
     record {
       active = is.active;
+      anew = is.anew;
+      end = is.end ∙ ap (λ (k : Geometry). page_end k.page (4 + entries_size (entries_of new))) c.in_ok-block.ensures.geometry;
       erases = is.erases ∙ ap (λ n. n + 1) (erases-reads c.in_ok-block.ensures.reads);
       kept = is.kept ∙ ap (λ b. block_in b c.args.pair.now.active) c.in_ok-block.ensures.same;
     }

@@ -1,4 +1,6 @@
-use Rattle.std.proofs.Common.{◌+◌, ◌%◌, ◌^◌, refl, sym, ap, ◌∙◌, subst, arith}
+use Rattle.lfs_model.specs.Blocks.{block_in}
+use Rattle.lfs_pair.specs.Writing.{Holds}
+use Rattle.std.proofs.Common.{ℕ, ◌+◌, ◌%◌, ◌^◌, refl, sym, ap, ◌∙◌, subst, arith}
 use Rattle.lfs_device.specs.Shown.{disk_of}
 use Rattle.lfs_model.specs.History.{AllUnprogrammed}
 use Rattle.lfs_model.specs.Slots.{address_of}
@@ -46,6 +48,8 @@ returns-clause-compacted g c =
     let ready = is_compacting _ c.args.pair.now c.other-other.result ((c.args.pair.now.revision + 1) % 2 ^ 32) c.requires.address c.requires.active c.other-other.ensures (omega arith) refl in
     record {
       active = λ same. ready.apart (sym same ∙ c.written.ensures.active);
+      anew = subst (λ (b : ℕ). Holds ((c.args.pair.now.revision + 1) % 2 ^ 32) (content_seen c.args.content.now) (block_in (g.D.BlockDevice.blocks c.write_anew.new.dev) b)) (sym c.written.ensures.active) c.in_ok-written.ensures.holds;
+      end = c.written.ensures.end ∙ c.in_ok-written.ensures.size;
       erases = c.in_ok-written.ensures.erases;
       kept = c.in_ok-written.ensures.others.others c.args.pair.now.active ready.apart;
     }

@@ -1,11 +1,11 @@
-use Rattle.std.proofs.Common.{ap₂, sym, subst}
+use Rattle.std.proofs.Common.{◌+◌, ap, ap₂, sym, ◌∙◌, subst}
 use Rattle.lfs_device.specs.Shown.{disk_of}
 use Rattle.lfs_model.specs.Slots.{address_of}
-use Rattle.lfs_model.proofs.Histories.{goes_on_by, EachSince-behind, LeavesOnly-reads, LeavesOnly-weaker, Stops-read, AtWorst-read, StayUnprogrammed-reads, StayUnprogrammed-trans}
+use Rattle.lfs_model.proofs.Histories.{goes_on_by, EachSince-behind, LeavesOnly-reads, LeavesOnly-weaker, Stops-read, AtWorst-read, StayUnprogrammed-reads, StayUnprogrammed-trans, erases-reads}
 use Rattle.lfs_model.proofs.Overwrites.{SameButThese-refl}
 use Rattle.lfs_pair.specs.Pair.{address_in}
 use Rattle.lfs_pair.specs.ChangeSeen.{changes_seen}
-use Rattle.lfs_pair.specs.Split.{CanSplit, LeftBySplit, OutsideBothKeeps}
+use Rattle.lfs_pair.specs.Split.{CanSplit, Splits, LeftBySplit, OutsideBothKeeps}
 use Rattle.lfs_pair.proofs.Changed.{active_below}
 use Rattle.lfs_pair.proofs.Parted.{CanSplit-reads, left_before}
 use Rattle.lfs_pair.proofs.splitting.split.Goals as goal
@@ -54,3 +54,13 @@ pub returns-clause-at_worst : goal.returns-clause-at_worst
 returns-clause-at_worst g c =
     goes_on_by (LeavesOnly-reads AtWorst-read c.in_ok-block.ensures.reads (SameButThese-refl _ _))
     (LeavesOnly-weaker (λ disk left. subst (λ old. OutsideBothKeeps (address_in c.args.pair.now) (address_of c.args.fresh) old disk) c.in_ok-block.ensures.same left) c.in_ok-fresh_pair.ensures.at_worst)
+
+pub returns-clause-splits : goal.returns-clause-splits
+returns-clause-splits g c =
+    let read = c.in_ok-block.ensures in
+    let is = c.in_ok-fresh_pair.ensures.splits in
+    subst (λ old. Splits old (changes_seen c.args.changes.now) c.args.pair.now (address_of c.args.fresh) (disk_of (g.D.BlockDevice.geometry c.split_block.new.dev) (g.D.BlockDevice.blocks c.split_block.new.dev))
+    (g.D.BlockDevice.history c.split_block.new.dev) c.split_block.new.pair c.in_ok-fresh_pair.fresh_pair) (ap₂ disk_of read.geometry read.same) is
+
+pub returns-clause-erases : goal.returns-clause-erases
+returns-clause-erases g c = c.in_ok-fresh_pair.ensures.erases ∙ ap (λ n. n + 3) (erases-reads c.in_ok-block.ensures.reads)

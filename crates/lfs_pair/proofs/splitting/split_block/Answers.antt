@@ -1,4 +1,7 @@
-use Rattle.std.proofs.Common.{Err, ap, sym, subst, arith}
+use Rattle.std.proofs.Common.{◌+◌, ◌%◌, ◌^◌, Err, ap, sym, ◌∙◌, subst, arith}
+use Rattle.lfs_model.specs.Blocks.{block_in}
+use Rattle.lfs_model.specs.Content.{RawContent, has_commit}
+use Rattle.lfs_pair.specs.Writing.{Holds}
 use Rattle.lfs_device.specs.Shown.{disk_of}
 use Rattle.lfs_model.specs.Slots.{address_of}
 use Rattle.lfs_model.proofs.Histories.{goes_on_by, faults-since, EachSince-behind, LeavesOnly-weaker, LeavesOnly-worst}
@@ -7,7 +10,7 @@ use Rattle.lfs_pair.specs.Pair.{address_in}
 use Rattle.lfs_pair.specs.ChangeSeen.{changes_seen}
 use Rattle.lfs_pair.specs.Commit.{IsActive, LeftWith, NowHolds}
 use Rattle.lfs_pair.proofs.Changed.{is_active}
-use Rattle.lfs_pair.proofs.Stay.{IsActive-stays, NowHolds-stays}
+use Rattle.lfs_pair.proofs.Stay.{IsActive-stays, NowHolds-stays, active_elsewhere}
 use Rattle.lfs_pair.proofs.Parted.{is_splitting, pair_elsewhere, fresh_elsewhere, keeps_by_fresh, keeps_by_both, stays_by_fresh, stays_by_both, left_while_fresh, left_while_old, raw_held}
 use Rattle.lfs_pair.proofs.splitting.split_block.Goals as goal
 
@@ -95,6 +98,13 @@ returns-clause-splits g c =
       back = subst (NowHolds _ _ (address_of c.args.fresh) c.in_ok-fresh_pair.fresh_pair) ready.parts.back_is
           (subst (λ k. NowHolds (disk_of k (g.D.BlockDevice.blocks c.compact.new.dev)) (g.D.BlockDevice.history c.compact.new.dev) (address_of c.args.fresh) c.in_ok-fresh_pair.fresh_pair (content_seen c.in_ok-back.back)) (sym c.in_ok-compact.ensures.geometry)
           (NowHolds-stays {disk = disk_of (g.D.BlockDevice.geometry c.write_fresh.new.dev) (g.D.BlockDevice.blocks c.write_fresh.new.dev)} (fresh_elsewhere ready.apart) c.in_ok-compact.ensures.others c.in_ok-compact.ensures.elsewhere fresh.holds));
+      moved = c.in_ok-compact.ensures.compacted.active;
+      kept = c.in_ok-compact.ensures.compacted.kept ∙ fresh.others.others c.args.pair.now.active (active_elsewhere (disk_of (g.D.BlockDevice.geometry c.args.dev.now) (g.D.BlockDevice.blocks c.args.dev.now)) c.args.pair.now.active (pair_elsewhere ready.apart) c.requires.can.commit.is_pair.active);
+      front_anew = subst (λ (k : RawContent). Holds ((c.args.pair.now.revision + 1) % 2 ^ 32) k (block_in (g.D.BlockDevice.blocks c.compact.new.dev) c.compact.new.pair.active)) ready.parts.front_is c.in_ok-compact.ensures.compacted.anew;
+      fresh_active = fresh.active;
+      back_anew = subst (λ (k : RawContent). Holds 1 k (block_in (g.D.BlockDevice.blocks c.compact.new.dev) (address_of c.args.fresh).0)) ready.parts.back_is
+          (subst (Holds 1 (content_seen c.in_ok-back.back)) (sym (c.in_ok-compact.ensures.others.others (address_of c.args.fresh).0 (fresh_elsewhere ready.apart).first)) fresh.anew);
+      cleared = ap has_commit (c.in_ok-compact.ensures.others.others (address_of c.args.fresh).1 (fresh_elsewhere ready.apart).second) ∙ fresh.cleared;
     }
 
 pub returns-clause-others : goal.returns-clause-others

@@ -6,7 +6,7 @@ use Rattle.lfs_model.proofs.Histories.{began, goes_on, goes_on_by, LeavesOnly-we
 use Rattle.lfs_model.proofs.Overwrites.{SameBut-trans}
 use Rattle.lfs_tag.specs.Builder.{padded_end}
 use Rattle.lfs_tag.specs.ContentSeen.{content_seen}
-use Rattle.lfs_pair.proofs.Anew.{is_anew, fits_sound, anew_room, anew_within, anew_holds, leaves_erase, leaves_anew}
+use Rattle.lfs_pair.proofs.Anew.{is_anew, fits_sound, anew_room, anew_within, anew_holds, anew_end, leaves_erase, leaves_anew}
 use Rattle.lfs_pair.proofs.writing.write_anew.Goals as goal
 
 pub returns-in_err-erase-clause-stops : goal.returns-in_err-erase-clause-stops
@@ -58,3 +58,8 @@ returns-in_err-written-clause-elsewhere g c = StayUnprogrammed-trans (StayUnprog
 
 pub returns-clause-elsewhere : goal.returns-clause-elsewhere
 returns-clause-elsewhere g c = StayUnprogrammed-trans (StayUnprogrammed-erase c.in_ok-erase.ensures.history) c.in_ok-written.ensures.elsewhere
+
+pub returns-clause-size : goal.returns-clause-size
+returns-clause-size g c =
+    anew_end (content_seen c.args.content.now) c.in_ok-written.written.end c.in_ok-written.ensures.end
+    (is_anew (content_seen c.args.content.now) c.push_content.ensures c.new-builder.ensures c.requires.buf (ap (λ (k : Geometry). k.page) c.geometry-page.ensures) c.from_bits-before.ensures)

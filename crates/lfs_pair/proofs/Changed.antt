@@ -197,6 +197,7 @@ now_holds disk history at pair active c in_block same is written end last revisi
     unprogrammed = λ w. subst (λ b. AllUnprogrammed history b pair.end disk.block_size) (sym is) behind;
   };
   same = same;
+  content = raw_in disk at active c in_block;
   written = written;
 }
 

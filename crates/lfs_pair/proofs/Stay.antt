@@ -72,9 +72,10 @@ IsPair-stays {disk = disk} {pair = pair} {held} elsewhere same stay is =
 -- a pair's address is that of its blocks
 pub NowHolds-stays : {at : ℕ × ℕ} {bs : List ℕ} {disk : Disk} {blocks : Blocks} {before after : List Event} {pair : Pair} {held : RawContent}
     → AreElsewhere at bs → SameButThese bs disk.blocks blocks → StayUnprogrammed bs before after → NowHolds disk before at pair held → NowHolds (record disk { blocks = blocks }) after at pair held
-NowHolds-stays {bs = bs} elsewhere same stay holds = record {
+NowHolds-stays {bs = bs} {disk = disk} elsewhere same stay holds = record {
   is_pair = IsPair-stays (subst (λ a. AreElsewhere a bs) (sym holds.same) elsewhere) same stay holds.is_pair;
   same = holds.same;
+  content = raw_at-stays disk elsewhere same ∙ holds.content;
   written = holds.written;
 }
 
@@ -90,4 +91,4 @@ IsPair-reads {pair = pair} reads is = record {
 }
 
 pub NowHolds-reads : {blocks : Blocks} {disk : Disk} {before after : List Event} {at : ℕ × ℕ} {pair : Pair} {held : RawContent} → OnlyReads blocks before after → NowHolds disk before at pair held → NowHolds disk after at pair held
-NowHolds-reads reads holds = record { is_pair = IsPair-reads reads holds.is_pair; same = holds.same; written = holds.written }
+NowHolds-reads reads holds = record { is_pair = IsPair-reads reads holds.is_pair; same = holds.same; content = holds.content; written = holds.written }

@@ -50,6 +50,7 @@ pub record IsActive (disk : Disk) (pair : Pair) : Type 0 where
 pub record NowHolds (disk : Disk) (history : List Event) (at : ℕ × ℕ) (pair : Pair) (held : RawContent) : Type 0 where
   pub is_pair : IsPair disk history pair held
   pub same : address_in pair ≡ at
+  pub content : raw_at disk at ≡ Some held
   pub written : pair.is_fetched ≡ false
 
 -- What the changes make fits the pair, and the pair holds it.

@@ -5,7 +5,7 @@ use Rattle.lfs_model.specs.Disk.{Disk, block_at}
 use Rattle.lfs_model.specs.History.{Event, AllUnprogrammed}
 use Rattle.lfs_model.specs.Log.{chain_of, revision_of, log_entries}
 use Rattle.lfs_model.specs.Slots.{address_of}
-use Rattle.lfs_model.specs.Content.{RawContent, has_commit, is_later, content_after_all, no_content}
+use Rattle.lfs_model.specs.Content.{RawContent, has_commit, is_later, content_after_all, no_content, raw_at}
 use Rattle.lfs_tag.specs.ContentSeen.{tail_seen}
 use Rattle.lfs_tag.specs.FieldsSeen.{move_seen}
 use Rattle.lfs_pair.specs.declared.pair.Pair.{Pair}
@@ -52,4 +52,5 @@ pub record Fetches (disk : Disk) (history : List Event) (address : ℕ × ℕ) (
   pub held : RawContent
   pub is_pair : IsPair disk history pair held
   pub at : address_in pair ≡ address
+  pub content : raw_at disk address ≡ Some held
   pub fetched : pair.is_fetched ≡ true

@@ -1,3 +1,4 @@
+pub mod Calls
 pub mod Carried
 pub mod Erased
 pub mod Error

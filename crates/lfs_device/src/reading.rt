@@ -1,6 +1,7 @@
 ghost use Rattle.std.specs.Prelude.{◌≡◌, ◌⊎◌, ◌≤◌, ◌<◌, ◌+◌, ◌∷◌, true, false, slice_range, IfOk, IfErr, OnOk, IsErrOf};
 ghost use Rattle.lfs_model.specs.Blocks.{block_in};
-ghost use Rattle.lfs_model.specs.History.{event, OnlyReads};
+ghost use Rattle.lfs_device.specs.Calls.{ReadsOnly, TellsFaults};
+ghost use Rattle.lfs_model.specs.History.{event};
 ghost use Rattle.lfs_model.specs.History.Call.{Read};
 
 use crate::{BlockDevice, Error};
@@ -19,15 +20,14 @@ pub fn read_part<D: BlockDevice>(
     requires in_device { block < (D.geometry device.old).block_count }
     requires in_block { off + len ≤ (D.geometry device.old).block_size }
     ensures bytes { IfOk result (λ bytes. bytes.items ≡ slice_range (block_in (D.blocks device.old) block) off (off + len)) }
-    ensures same { D.blocks device.new ≡ D.blocks device.old }
-    ensures geometry { D.geometry device.new ≡ D.geometry device.old }
+    ensures device { ReadsOnly D.BlockDevice device.old device.new }
+    ensures faults { TellsFaults D.BlockDevice device.old device.new result }
     ensures errors { IfErr result (λ e. (e ≡ Error.Io) ⊎ (e ≡ Error.NoMemory)) }
 
     // One read, unless there was no memory.
     ensures ok { OnOk result (D.history device.new ≡ event (Read block off len) (D.blocks device.old) (D.blocks device.old) false ∷ D.history device.old) }
     ensures io { IsErrOf result Error.Io → D.history device.new ≡ event (Read block off len) (D.blocks device.old) (D.blocks device.old) true ∷ D.history device.old }
     ensures no_memory { IsErrOf result Error.NoMemory → D.history device.new ≡ D.history device.old }
-    ensures reads { OnlyReads (D.blocks device.old) (D.history device.old) (D.history device.new) }
 {
     let mut bytes = Vec::from_elem(alloc, 0u8, len as usize)?;
     device.read(block, off, &mut bytes)?;
@@ -44,15 +44,14 @@ pub fn read_block<D: BlockDevice>(
 ) -> Result<Vec<u8>, Error>
     requires { block < (D.geometry device.old).block_count }
     ensures bytes { IfOk result (λ bytes. bytes.items ≡ block_in (D.blocks device.old) block) }
-    ensures same { D.blocks device.new ≡ D.blocks device.old }
-    ensures geometry { D.geometry device.new ≡ D.geometry device.old }
+    ensures device { ReadsOnly D.BlockDevice device.old device.new }
+    ensures faults { TellsFaults D.BlockDevice device.old device.new result }
     ensures errors { IfErr result (λ e. (e ≡ Error.Io) ⊎ (e ≡ Error.NoMemory)) }
 
     // One read, unless there was no memory.
     ensures ok { OnOk result (D.history device.new ≡ event (Read block 0 (D.geometry device.old).block_size) (D.blocks device.old) (D.blocks device.old) false ∷ D.history device.old) }
     ensures io { IsErrOf result Error.Io → D.history device.new ≡ event (Read block 0 (D.geometry device.old).block_size) (D.blocks device.old) (D.blocks device.old) true ∷ D.history device.old }
     ensures no_memory { IsErrOf result Error.NoMemory → D.history device.new ≡ D.history device.old }
-    ensures reads { OnlyReads (D.blocks device.old) (D.history device.old) (D.history device.new) }
 {
     let block_size = device.geometry().block_size;
     read_part(alloc, device, block, 0, block_size)

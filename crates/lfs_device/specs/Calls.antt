@@ -1,0 +1,35 @@
+-- What a function over any device may say of the device that it is given: `g` is what the device shows, `old` and `new`
+-- are the device before and after. Each word bundles what always stands together.
+use Rattle.std.specs.Prelude.{◌≡◌, ◌<◌, ℕ, List, [], ◌∷◌, Result}
+use Rattle.std.specs.Prelude.{IsErrOf}
+use Rattle.lfs_device.specs.declared.device.BlockDevice.{Ghosts}
+use Rattle.lfs_device.specs.declared.error.Error.{Error}
+use Rattle.lfs_device.specs.declared.error.Error.TheVariants.{Io, NoMemory}
+use Rattle.lfs_model.specs.Blocks.{SameBut, SameButThese}
+use Rattle.lfs_model.specs.History.{AtWorst, LeavesOnly, OnlyReads, StayUnprogrammed, faults}
+
+-- The device is only read: its blocks stay, and so does what a loss of power may leave.
+pub record ReadsOnly {D : Type 0} (g : Ghosts D) (old new : D) : Type 0 where
+  pub same : g.blocks new ≡ g.blocks old
+  pub geometry : g.geometry new ≡ g.geometry old
+  pub reads : OnlyReads (g.blocks old) (g.history old) (g.history new)
+
+-- No block but this one changes, what was unprogrammed in another still is, and a loss of power on the way leaves each
+-- other block as it was.
+pub record ChangesBlock {D : Type 0} (g : Ghosts D) (b : ℕ) (old new : D) : Type 0 where
+  pub others : SameBut b (g.blocks old) (g.blocks new)
+  pub elsewhere : StayUnprogrammed (b ∷ []) (g.history old) (g.history new)
+  pub geometry : g.geometry new ≡ g.geometry old
+  pub at_worst : LeavesOnly AtWorst (g.history old) (g.history new) (SameBut b (g.blocks old))
+
+-- the same of several blocks
+pub record ChangesOnly {D : Type 0} (g : Ghosts D) (bs : List ℕ) (old new : D) : Type 0 where
+  pub others : SameButThese bs (g.blocks old) (g.blocks new)
+  pub elsewhere : StayUnprogrammed bs (g.history old) (g.history new)
+  pub geometry : g.geometry new ≡ g.geometry old
+  pub at_worst : LeavesOnly AtWorst (g.history old) (g.history new) (SameButThese bs (g.blocks old))
+
+-- `Io` comes with a fault of the device, and any other answer without one.
+pub record TellsFaults {D X : Type 0} (g : Ghosts D) (old new : D) (result : Result X Error) : Type 0 where
+  pub fault : IsErrOf result Io → faults (g.history old) < faults (g.history new)
+  pub no_fault : (IsErrOf result Io → ⊥) → faults (g.history new) ≡ faults (g.history old)

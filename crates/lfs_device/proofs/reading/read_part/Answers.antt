@@ -1,6 +1,5 @@
 use Rattle.std.proofs.Common.{refl}
 use Rattle.lfs_model.proofs.Histories.{began, OnlyReads-read}
-use Rattle.lfs_device.specs.Calls.{ReadsOnly}
 use Rattle.lfs_device.proofs.reading.read_part.Goals as goal
 
 pub returns-in_err-read-clause-device : goal.returns-in_err-read-clause-device

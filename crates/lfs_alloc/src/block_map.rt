@@ -50,12 +50,27 @@ impl BlockMap {
         })
     }
 
+    /// How many blocks it has.
+    pub fn block_count(&self) -> u32
+        ensures { result ≡ length self.now }
+    {
+        self.block_count
+    }
+
     /// Whether a block is used. One in flight isn't.
     pub fn is_used(&self, block: u32) -> bool
         requires { block < length self.now }
         ensures { IsTrue result ↔ IsUsed self.now block }
     {
         self.state(block).is_used()
+    }
+
+    /// Whether a block is in flight.
+    pub fn is_in_flight(&self, block: u32) -> bool
+        requires { block < length self.now }
+        ensures { IsTrue result ↔ IsInFlight self.now block }
+    {
+        self.state(block).is_in_flight()
     }
 
     /// How many blocks are used.
@@ -158,57 +173,5 @@ impl BlockMap {
             place = 0;
         }
         None
-    }
-}
-
-#[cfg(test)]
-mod tests {
-    use super::*;
-    use std::process::Abort;
-    use std::test::Fail;
-
-    #[test]
-    fn two_blocks(rt: HostRuntime) -> Result<(), Fail> {
-        let mut map = BlockMap::new(rt.alloc(), 2)?;
-        assert_eq!(rt; map.take(), Some(0));
-        assert!(rt; !map.mark(0) && !map.is_used(0));
-        assert!(rt; map.mark(1) && map.is_used(1));
-        assert!(rt; !map.mark(1));
-        assert_eq!(rt; map.take(), None);
-        assert_eq!(rt; map.used_count(), 1);
-        map.release(1);
-        // A released block isn't the next, where another is free behind the last one taken.
-        map.release(0);
-        assert_eq!(rt; map.used_count(), 0);
-        assert_eq!(rt;
-            (map.take(), map.take(), map.take()),
-            (Some(1), Some(0), None)
-        );
-        Ok(())
-    }
-
-    // Takes each block in turn, and settles it.
-    fn fill(rt: &impl Abort, map: &mut BlockMap, block_count: u32)
-        ensures { length map.new ≡ length map.old }
-    {
-        for block in 0..block_count {
-            let taken = map.take();
-            assert_eq!(rt; taken, Some(block));
-            map.settle(block);
-        }
-        assert_eq!(rt; map.take(), None);
-    }
-
-    #[test]
-    fn the_most_blocks(rt: HostRuntime) -> Result<(), Fail> {
-        let mut map = BlockMap::new(rt.alloc(), 65536)?;
-        fill(&rt, &mut map, 65536);
-        assert_eq!(rt; map.used_count(), 65536);
-        for block in 0..65536 {
-            map.release(block);
-        }
-        assert_eq!(rt; map.used_count(), 0);
-        fill(&rt, &mut map, 65536);
-        Ok(())
     }
 }

@@ -1,7 +1,7 @@
 //! The states of 64 blocks in two words.
 
 ghost use Rattle.std.specs.Prelude.{◌≡◌, ◌≢◌, ℕ, ◌<◌, ◌≤◌, IfNone, IfSome};
-ghost use Rattle.lfs_model.specs.BlockSets.{is_used};
+ghost use Rattle.lfs_model.specs.BlockSets.{is_in_flight, is_used};
 ghost use Rattle.lfs_model.specs.BlockSets.BlockState.{Free};
 ghost use Rattle.lfs_alloc.specs.Marks.{shown, state_in};
 
@@ -18,6 +18,12 @@ impl State {
         ensures { result ≡ is_used (shown self) }
     {
         matches!(self, State::Used)
+    }
+
+    pub fn is_in_flight(self) -> bool
+        ensures { result ≡ is_in_flight (shown self) }
+    {
+        matches!(self, State::InFlight)
     }
 }
 

@@ -1,8 +1,21 @@
--- A device's event when a block is read whole.
-use Rattle.std.specs.Prelude.{ℕ, Bool}
+-- The calls of a device by which a block comes into the cache.
+use Rattle.std.specs.Prelude.{◌≡◌, ◌⊎◌, ℕ, Bool, true, false, List, ◌∷◌, Option, None, Result, OnOk, IsErrOf, IsOk, IsSome}
+use Rattle.lfs_device.specs.declared.device.BlockDevice.{Ghosts}
+use Rattle.lfs_device.specs.declared.error.Error.{Error}
+use Rattle.lfs_device.specs.declared.error.Error.TheVariants.{Io, NoMemory}
 use Rattle.lfs_model.specs.Blocks.{Blocks}
 use Rattle.lfs_model.specs.History.{Event, event}
 use Rattle.lfs_model.specs.History.Call.{Read}
 
+-- a block is read whole
 abbrev pub read_whole : ℕ → Blocks → ℕ → Bool → Event
 read_whole block_size blocks block failed = event (Read block 0 block_size) blocks blocks failed
+
+-- A block at hand takes no call of the device and no memory. Another takes one read, unless there is no memory for its bytes.
+pub record ReadsWhereMissing {D : Type 0} (g : Ghosts D) (was : Option (List ℕ)) (b : ℕ) (old new : D) (result : Result (Unit {0}) Error) : Type 0 where
+  pub at_hand : IsSome was → IsOk result
+  pub no_call : IsSome was → new ≡ old
+  pub read : was ≡ None → OnOk result (g.history new ≡ read_whole (g.geometry old).block_size (g.blocks old) b false ∷ g.history old)
+  pub failed : IsErrOf result Io → g.history new ≡ read_whole (g.geometry old).block_size (g.blocks old) b true ∷ g.history old
+  pub no_memory : IsErrOf result NoMemory → (g.history new ≡ g.history old)
+      ⊎ (g.history new ≡ read_whole (g.geometry old).block_size (g.blocks old) b false ∷ g.history old)

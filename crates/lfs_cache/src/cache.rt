@@ -1,9 +1,9 @@
-ghost use Rattle.std.specs.Prelude.{◌≡◌, ◌⊎◌, ◌<◌, ◌≤◌, ℕ, List, ◌∷◌, [], is_some, true, false, length, unwrap_or, IfErr, IfOk, IsErrOf, IsOk, IsSome, None, OnErr, OnOk, option_copied};
+ghost use Rattle.std.specs.Prelude.{◌≡◌, ◌⊎◌, ◌<◌, ◌≤◌, ℕ, List, ◌∷◌, [], is_some, true, false, length, unwrap_or, IfErr, IfOk, IsErrOf, IsOk, IsSome, None, OnErr, OnOk, option_copied, option_map};
 ghost use Rattle.std.specs.Bool.{OnFalse, OnTrue};
 ghost use Rattle.lfs_model.specs.Blocks.{block_in};
 ghost use Rattle.lfs_model.specs.Cache.{cache_limit, cached, put_first, without};
-ghost use Rattle.lfs_model.specs.History.{OnlyReads};
-ghost use Rattle.lfs_cache.specs.Read.{read_whole};
+ghost use Rattle.lfs_device.specs.Calls.{ReadsOnly, TellsFaults};
+ghost use Rattle.lfs_cache.specs.Read.{ReadsWhereMissing};
 
 use lfs_device::{BlockDevice, Error, read_block};
 use lru::LruCache;
@@ -56,22 +56,9 @@ impl Cache {
             ≡ put_first self.old block (unwrap_or (cached self.old block) (block_in (D.blocks device.old) block))) }
         ensures err { OnErr result (self.new ≡ self.old) }
         ensures few { length self.new ≤ cache_limit }
-
-        // A block at hand takes no call of the device and no memory.
-        ensures at_hand { IsSome (cached self.old block) → IsOk result }
-        ensures no_call { IsSome (cached self.old block) → device.new ≡ device.old }
-
-        ensures blocks { D.blocks device.new ≡ D.blocks device.old }
-        ensures geometry { D.geometry device.new ≡ D.geometry device.old }
-
-        // Another takes one read, unless there is no memory for its bytes.
-        ensures read { cached self.old block ≡ None → OnOk result (D.history device.new
-            ≡ read_whole (D.geometry device.old).block_size (D.blocks device.old) block false ∷ D.history device.old) }
-        ensures failed { IsErrOf result Error.Io → D.history device.new
-            ≡ read_whole (D.geometry device.old).block_size (D.blocks device.old) block true ∷ D.history device.old }
-        ensures no_memory { IsErrOf result Error.NoMemory → (D.history device.new ≡ D.history device.old) ⊎ (D.history device.new
-            ≡ read_whole (D.geometry device.old).block_size (D.blocks device.old) block false ∷ D.history device.old) }
-        ensures reads { OnlyReads (D.blocks device.old) (D.history device.old) (D.history device.new) }
+        ensures calls { ReadsWhereMissing D.BlockDevice (cached self.old block) block device.old device.new result }
+        ensures device { ReadsOnly D.BlockDevice device.old device.new }
+        ensures faults { TellsFaults D.BlockDevice device.old device.new result }
         ensures errors { IfErr result (λ e. (e ≡ Error.Io) ⊎ (e ≡ Error.NoMemory)) }
     {
         if self.promote(block) {
@@ -92,11 +79,21 @@ impl Cache {
         }
     }
 
+    /// The bytes of a block, which then isn't at hand any more. None where it wasn't.
+    ///
+    /// It takes no memory and makes no call of the device.
+    pub fn take(&mut self, block: u32) -> Option<Vec<u8>>
+        ensures bytes { option_map (λ bytes. bytes.items) result ≡ cached self.old block }
+        ensures others { self.new ≡ without self.old block }
+    {
+        self.recent.pop(&block)
+    }
+
     /// Drops a block, where it is at hand. It takes no memory and makes no call of the device.
     pub fn forget(&mut self, block: u32)
         ensures { self.new ≡ without self.old block }
     {
-        self.recent.pop(&block);
+        self.take(block);
     }
 
     // Puts a block first that is at hand, and says whether it is.
@@ -121,6 +118,3 @@ impl Cache {
         Ok(())
     }
 }
-
-#[cfg(test)]
-mod tests;

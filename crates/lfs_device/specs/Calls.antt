@@ -4,7 +4,7 @@ use Rattle.std.specs.Prelude.{◌≡◌, ◌<◌, ℕ, List, [], ◌∷◌, Resu
 use Rattle.std.specs.Prelude.{IsErrOf}
 use Rattle.lfs_device.specs.declared.device.BlockDevice.{Ghosts}
 use Rattle.lfs_device.specs.declared.error.Error.{Error}
-use Rattle.lfs_device.specs.declared.error.Error.TheVariants.{Io, NoMemory}
+use Rattle.lfs_device.specs.declared.error.Error.TheVariants.{Io}
 use Rattle.lfs_model.specs.Blocks.{SameBut, SameButThese}
 use Rattle.lfs_model.specs.History.{AtWorst, LeavesOnly, OnlyReads, StayUnprogrammed, faults}
 

@@ -1,3 +1,5 @@
+pub mod ByteLists
+pub mod Bytes
 pub mod Calls
 pub mod Carried
 pub mod Erased

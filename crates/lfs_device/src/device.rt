@@ -3,6 +3,7 @@ ghost use Rattle.lfs_model.specs.Blocks.{Blocks, IsDivided, SameBut, SameOutside
 ghost use Rattle.lfs_model.specs.History.{Event, event, AllUnprogrammed};
 ghost use Rattle.lfs_model.specs.History.Call.{Read, Program, Erase};
 ghost use Rattle.lfs_device.specs.declared.geometry.Geometry.{Geometry};
+ghost use Rattle.lfs_device.specs.Bytes.{HasBytes};
 
 use crate::{Error, Geometry};
 
@@ -67,4 +68,7 @@ pub trait BlockDevice {
 
     /// It has as many blocks as its geometry says, each of that size.
     ghost shape: { (d : Self) → IsDivided (geometry d).block_size (geometry d).block_count (blocks d) };
+
+    /// What a block holds are bytes: numbers below 256.
+    ghost bytes: { (d : Self) → HasBytes (blocks d) };
 }

@@ -181,6 +181,8 @@ impl<D: BlockDevice> BlockDevice for FaultDevice<D> {
 
     ghost shape = { λ d. D.shape d.inner };
 
+    ghost bytes = { λ d. D.bytes d.inner };
+
     fn geometry(&self) -> Geometry {
         self.inner.geometry()
     }

@@ -1,4 +1,5 @@
 ghost use Rattle.std.specs.Prelude.{◌≡◌, MatchResult};
+ghost use Rattle.lfs_model.specs.Disk.{pair_capacity, entry_limit, inline_limit, slot_limit};
 ghost use Rattle.lfs_model.specs.Geometry.{IsGeometry};
 
 use crate::Error;
@@ -44,5 +45,34 @@ impl Geometry {
             page,
             block_count,
         })
+    }
+
+    /// How many bytes the slots of a metadata pair that is written may take, each name, struct and attribute with its tag
+    /// of 4 bytes: a block less a page and 39 bytes, which are its revision, tail, move state and checksum.
+    pub fn pair_capacity(self) -> u32
+        ensures { result ≡ pair_capacity self.block_size self.page }
+    {
+        self.block_size - 39 - self.page
+    }
+
+    /// How many bytes a name and its attributes may take, with their tags: half of what the pair's slots may.
+    pub fn entry_limit(self) -> u32
+        ensures { result ≡ entry_limit self.block_size self.page }
+    {
+        self.pair_capacity() / 2
+    }
+
+    /// The size in bytes of the largest file that is kept in its entry: an eighth of a block, and at most 1,022.
+    pub fn inline_limit(self) -> u32
+        ensures { result ≡ inline_limit self.block_size }
+    {
+        (self.block_size / 8).min(1022)
+    }
+
+    /// How many slots a metadata pair that is written may have.
+    pub fn slot_limit(self) -> usize
+        ensures { result ≡ slot_limit }
+    {
+        1000
     }
 }

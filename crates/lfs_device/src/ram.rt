@@ -2,6 +2,7 @@ ghost use Rattle.std.specs.Prelude.{◌≡◌, ◌≤◌, ◌<◌, ◌+◌, ◌*
 ghost use Rattle.lfs_model.specs.Blocks.{SameBut, block_in, cut, overwritten, programmed};
 ghost use Rattle.lfs_model.specs.History.{event, faults, AllUnprogrammed};
 ghost use Rattle.lfs_model.specs.History.Call.{Read, Program, Erase};
+ghost use Rattle.lfs_device.specs.Bytes.{AreBytes};
 ghost use Rattle.lfs_device.specs.Erased.{erased_block, erased_bytes};
 
 use crate::{BlockDevice, Error, Geometry, Trace};
@@ -23,6 +24,7 @@ pub struct RamDevice {
     bytes: Vec<u8>,
     erased: Erased,
     trace: Trace,
+    ghost are_bytes: { AreBytes bytes.items },
     ghost size: { length bytes.items ≡ geometry.block_size * geometry.block_count },
     pub ghost no_fault: { faults trace.events ≡ 0 },
 }
@@ -128,7 +130,8 @@ fn overwrite(all: &mut Vec<u8>, at: usize, bytes: &[u8])
 // Leaves in the bytes from an offset on what an erase does.
 fn erase_at(all: &mut Vec<u8>, at: usize, len: usize, erased: Erased)
     requires { at + len ≤ length all.old.items }
-    ensures { all.new.items ≡ erased_bytes erased all.old.items at len }
+    ensures erased { all.new.items ≡ erased_bytes erased all.old.items at len }
+    ensures are_bytes { AreBytes all.old.items → AreBytes all.new.items }
 {
     match erased {
         Erased::Fill(byte) => all[at..at + len].fill(byte),
@@ -138,6 +141,7 @@ fn erase_at(all: &mut Vec<u8>, at: usize, len: usize, erased: Erased)
 
 impl BlockDevice for RamDevice {
     ghost use Rattle.lfs_model.proofs.Cuts.{IsDivided-cut};
+    ghost use Rattle.lfs_device.specs.ByteLists.{HasBytes-cut};
     ghost use Rattle.lfs_device.specs.RamDevice.{geometry_of, bytes_of, blocks_of, erased_of, history_of};
 
     ghost geometry = { geometry_of };
@@ -147,6 +151,8 @@ impl BlockDevice for RamDevice {
     ghost history = { history_of };
 
     ghost shape = { λ d. IsDivided-cut d.geometry.block_size d.geometry.block_count d.bytes.items d.size };
+
+    ghost bytes = { λ d. HasBytes-cut d.geometry.block_size d.geometry.block_count d.bytes.items d.are_bytes };
 
     fn geometry(&self) -> Geometry {
         self.geometry

@@ -11,7 +11,7 @@ after : (c : goal.After-self-1) → cut c.args.self.now.geometry.block_size c.ar
     ≡ erased_disk c.args.self.now.erased c.args.self.now.geometry.block_size (blocks_of c.args.self.now) c.args.block
 after c =
     let d = c.args.self.now in
-    ap (cut d.geometry.block_size d.geometry.block_count) (c.erase_at.ensures ∙ ap (λ at. erased_bytes d.erased d.bytes.items at d.geometry.block_size) c.position-start.ensures)
+    ap (cut d.geometry.block_size d.geometry.block_count) (c.erase_at.ensures.erased ∙ ap (λ at. erased_bytes d.erased d.bytes.items at d.geometry.block_size) c.position-start.ensures)
     ∙ cut-erased d.erased d.geometry.block_size d.geometry.block_count d.bytes.items c.args.block d.size c.requires
 
 pub returns-clause-bytes : goal.returns-clause-bytes

@@ -4,7 +4,7 @@ use Rattle.std.specs.Prelude.{All, slice_index}
 use Rattle.std.specs.List.{enumerate_from}
 use Rattle.std.proofs.lemmas.List.Elements.{All-from_recursion}
 use Rattle.lfs_model.specs.Blocks.{Blocks, block_in}
-use Rattle.lfs_model.specs.Disk.{Disk, block_at, block_count}
+use Rattle.lfs_model.specs.Disk.{Disk, block_at, SameGeometry}
 use Rattle.lfs_model.specs.Slots.{Struct, Inline, Ctz, Branch}
 use Rattle.lfs_model.specs.Lists.{word_at, pointers_of, blocks_for, blocks_back, IsList, data_of, bytes_of}
 use Rattle.lfs_model.specs.View.{contents_in, file_blocks, IsListIfCtz}
@@ -56,12 +56,6 @@ bytes_same d e block_size head size h =
 -- the blocks of the file that a struct names are the same on both disks
 abbrev pub HasSameFile : Disk → Disk → Struct → Type 0
 HasSameFile disk new s = Each (λ b. block_at new b ≡ block_at disk b) (file_blocks disk s)
-
--- as many blocks, of the same size
-pub record SameGeometry (disk new : Disk) : Type 0 where
-  pub block_size : new.block_size ≡ disk.block_size
-  pub page : new.page ≡ disk.page
-  pub count : block_count new ≡ block_count disk
 
 pub file_blocks_same : (disk new : Disk) (s : Struct) → SameGeometry disk new → HasSameFile disk new s → file_blocks new s ≡ file_blocks disk s
 file_blocks_same disk new (Inline bytes) g h = refl

@@ -27,6 +27,15 @@ pub mod Apply
 pub mod Session
 pub mod Steps
 pub mod State
+pub mod Recovery
+pub mod SlotEdits
+pub mod Layout
+pub mod Discipline
+pub mod Run
+pub mod PowerLoss
+pub mod Headline
+pub mod Thrift
+pub mod RunExamples
 pub mod Stops
 pub mod Listing
 pub mod Sessions

@@ -3,6 +3,7 @@ pub mod BlockSets
 pub mod Cache
 pub mod Geometry
 pub mod History
+pub mod Failures
 pub mod Disk
 pub mod Names
 pub mod Crc
@@ -12,6 +13,7 @@ pub mod Commit
 pub mod Slots
 pub mod Content
 pub mod Written
+pub mod Cut
 pub mod Logged
 pub mod Changes
 pub mod Lookup

@@ -33,6 +33,7 @@ pub mod Recovery
 pub mod SlotEdits
 pub mod Layout
 pub mod Discipline
+pub mod InDirectory
 pub mod Run
 pub mod PowerLoss
 pub mod Headline

@@ -35,11 +35,13 @@ pub mod Layout
 pub mod Discipline
 pub mod InDirectory
 pub mod Run
-pub mod PowerLoss
-pub mod Headline
+pub mod Failure
 pub mod Thrift
-pub mod RunExamples
+pub mod Headline
 pub mod Stops
+pub mod PowerLoss
+pub mod Outages
+pub mod RunExamples
 pub mod Listing
 pub mod Sessions
 pub mod Source

@@ -107,13 +107,13 @@ module _ (state : BlockState) (sets : BlockSets) (b : ℕ) where
 
 -- ---- how many are in a set
 
-count_by-set : (p : BlockState → Bool) (sets : BlockSets) (b : ℕ) (was to : BlockState) → slice_get sets b ≡ Some was → count_by p (set sets b to) + cond (p was) 1 0 ≡ count_by p sets + cond (p to) 1 0
+pub count_by-set : (p : BlockState → Bool) (sets : BlockSets) (b : ℕ) (was to : BlockState) → slice_get sets b ≡ Some was → count_by p (set sets b to) + cond (p was) 1 0 ≡ count_by p sets + cond (p to) 1 0
 count_by-set p sets b was to is =
     ap (λ s. count_by p (set sets b to) + cond (p s) 1 0) (sym (get_or_from_slice_get sets b was Free is))
     ∙ sum_by-set (λ s. cond (p s) 1 0) sets b to Free (slice_get_within sets b was is)
 
 -- none is in it
-count_by-none : (p : BlockState → Bool) (sets : BlockSets) → ((b : ℕ) (s : BlockState) → slice_get sets b ≡ Some s → p s ≡ false) → count_by p sets ≡ 0
+pub count_by-none : (p : BlockState → Bool) (sets : BlockSets) → ((b : ℕ) (s : BlockState) → slice_get sets b ≡ Some s → p s ≡ false) → count_by p sets ≡ 0
 count_by-none p [] none = refl
 count_by-none p (s ∷ sets) none =
     sum_by-cons (λ x. cond (p x) 1 0) s sets
@@ -143,7 +143,7 @@ count_by-AreIn p state test (b ∷ bs) sets distinct are =
     let after = ap number_of (test.only test.other test.differs) in
     omega (arith, less, change, before, after)
 
-used_test : IsTestOf is_used Used
+pub used_test : IsTestOf is_used Used
 used_test = record {
   passes = refl;
   only = only;
@@ -162,7 +162,7 @@ used_test = record {
     cases InFlight = inr (λ e. cc)
     cases Used = inl refl
 
-in_flight_test : IsTestOf is_in_flight InFlight
+pub in_flight_test : IsTestOf is_in_flight InFlight
 in_flight_test = record {
   passes = refl;
   only = only;

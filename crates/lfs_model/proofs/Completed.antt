@@ -139,14 +139,14 @@ slot_size_is s t h e = go s.name s.struct h.struct e
         ap slot_size (sym (same_Some (record { kind = kind_named n.0; name = n.1; struct = struct_typed p.0 p.1; attributes = s.attributes }) t f))
         ∙ ap (λ l. 4 + length n.1 + (4 + l) + attributes_size s.attributes) (struct_length p.0 p.1 k)
 
-slots_size_is : (slots : List RawSlot) (all : List Slot) → HaveParts slots → complete_all slots ≡ Some all → sum_by slot_size all ≡ sum_by raw_slot_size slots
+pub slots_size_is : (slots : List RawSlot) (all : List Slot) → HaveParts slots → complete_all slots ≡ Some all → sum_by slot_size all ≡ sum_by raw_slot_size slots
 slots_size_is [] all h e = ap (sum_by slot_size) (sym (same_Some [] all e))
 slots_size_is (s ∷ slots) all h e =
     let p = complete_parts s slots all e in
     ap (sum_by slot_size) p.all_are ∙ sum_by-cons slot_size p.first p.others
     ∙ ap₂ (λ x y. x + y) (slot_size_is s p.first h.0 p.is_first) (slots_size_is slots p.others h.1 p.are_others) ∙ sym (sum_by-cons raw_slot_size s slots)
 
-complete_length : (slots : List RawSlot) (all : List Slot) → complete_all slots ≡ Some all → length all ≡ length slots
+pub complete_length : (slots : List RawSlot) (all : List Slot) → complete_all slots ≡ Some all → length all ≡ length slots
 complete_length [] all e = ap length (sym (same_Some [] all e))
 complete_length (s ∷ slots) all e =
     let p = complete_parts s slots all e in

@@ -4,7 +4,7 @@ use Rattle.std.specs.Prelude.{All, slice_index}
 use Rattle.std.specs.List.{enumerate_from}
 use Rattle.std.proofs.lemmas.List.Elements.{All-from_recursion}
 use Rattle.lfs_model.specs.Blocks.{Blocks, block_in}
-use Rattle.lfs_model.specs.Disk.{Disk, block_at, block_count}
+use Rattle.lfs_model.specs.Disk.{Disk, block_at, SameGeometry}
 use Rattle.lfs_model.specs.Slots.{Struct, Inline, Ctz, Branch}
 use Rattle.lfs_model.specs.Lists.{word_at, pointers_of, blocks_for, blocks_back, IsList, data_of, bytes_of}
 use Rattle.lfs_model.specs.View.{contents_in, file_blocks, IsListIfCtz}
@@ -21,12 +21,12 @@ back_same d e (suc (suc n)) head h =
     ap (λ z. blocks_back e (suc n) z ++ head ∷ []) same
     ∙ ap (λ z. z ++ head ∷ []) (back_same d e (suc n) (word_at (block_in d head) 0) (each_left (λ b. block_in e b ≡ block_in d b) (blocks_back d (suc n) (word_at (block_in d head) 0)) (head ∷ []) h))
 
-length_back : (d : Blocks) (n head : ℕ) → length (blocks_back d n head) ≡ n
+pub length_back : (d : Blocks) (n head : ℕ) → length (blocks_back d n head) ≡ n
 length_back d zero head = refl
 length_back d (suc zero) head = refl
 length_back d (suc (suc n)) head = length-append (blocks_back d (suc n) (word_at (block_in d head) 0)) (head ∷ []) ∙ ap (λ z. z + 1) (length_back d (suc n) (word_at (block_in d head) 0)) ∙ omega arith
 
-list_same : (d e : Blocks) (block_size head size : ℕ) → length e ≡ length d → Same d e (blocks_back d (blocks_for block_size size) head) →
+pub list_same : (d e : Blocks) (block_size head size : ℕ) → length e ≡ length d → Same d e (blocks_back d (blocks_for block_size size) head) →
     IsList d block_size head size → IsList e block_size head size
 list_same d e block_size head size l h ok = record {
   size_low = ok.size_low;
@@ -45,7 +45,7 @@ pub data_same : (d e : Blocks) (n : ℕ) (bs : List ℕ) → Same d e bs → fla
 data_same d e n [] h = refl
 data_same d e n (b ∷ bs) h = ap₂ (λ y z. drop (4 * pointers_of n) y ++ z) h.0 (data_same d e (n + 1) bs h.1)
 
-bytes_same : (d e : Blocks) (block_size head size : ℕ) → Same d e (blocks_back d (blocks_for block_size size) head) →
+pub bytes_same : (d e : Blocks) (block_size head size : ℕ) → Same d e (blocks_back d (blocks_for block_size size) head) →
     bytes_of e block_size head size ≡ bytes_of d block_size head size
 bytes_same d e block_size head size h =
     ap (λ bs. take size (flat_map (data_of e) (enumerate_from 0 bs))) (back_same d e (blocks_for block_size size) head h)
@@ -56,12 +56,6 @@ bytes_same d e block_size head size h =
 -- the blocks of the file that a struct names are the same on both disks
 abbrev pub HasSameFile : Disk → Disk → Struct → Type 0
 HasSameFile disk new s = Each (λ b. block_at new b ≡ block_at disk b) (file_blocks disk s)
-
--- as many blocks, of the same size
-pub record SameGeometry (disk new : Disk) : Type 0 where
-  pub block_size : new.block_size ≡ disk.block_size
-  pub page : new.page ≡ disk.page
-  pub count : block_count new ≡ block_count disk
 
 pub file_blocks_same : (disk new : Disk) (s : Struct) → SameGeometry disk new → HasSameFile disk new s → file_blocks new s ≡ file_blocks disk s
 file_blocks_same disk new (Inline bytes) g h = refl

@@ -14,6 +14,12 @@ block_count disk = length disk.blocks
 abbrev pub block_at : Disk → ℕ → List ℕ
 block_at disk b = block_in disk.blocks b
 
+-- as many blocks and pages, of the same size
+pub record SameGeometry (disk new : Disk) : Type 0 where
+  pub block_size : new.block_size ≡ disk.block_size
+  pub page : new.page ≡ disk.page
+  pub count : block_count new ≡ block_count disk
+
 -- An image of a device: its bytes, a whole number of blocks.
 pub record IsImage (block_size page : ℕ) (bytes : List ℕ) : Type 0 where
   pub geometry : IsGeometry block_size page (length bytes / block_size)

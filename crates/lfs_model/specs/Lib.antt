@@ -3,6 +3,7 @@ pub mod BlockSets
 pub mod Cache
 pub mod Geometry
 pub mod History
+pub mod Failures
 pub mod Disk
 pub mod Names
 pub mod Crc
@@ -12,6 +13,7 @@ pub mod Commit
 pub mod Slots
 pub mod Content
 pub mod Written
+pub mod Cut
 pub mod Logged
 pub mod Changes
 pub mod Lookup
@@ -27,7 +29,19 @@ pub mod Apply
 pub mod Session
 pub mod Steps
 pub mod State
+pub mod Recovery
+pub mod SlotEdits
+pub mod Layout
+pub mod Discipline
+pub mod InDirectory
+pub mod Run
+pub mod Failure
+pub mod Thrift
+pub mod Headline
 pub mod Stops
+pub mod PowerLoss
+pub mod Outages
+pub mod RunExamples
 pub mod Listing
 pub mod Sessions
 pub mod Source

@@ -1,7 +1,7 @@
 // What changes make of what a pair holds.
 
 ghost use Rattle.std.specs.Prelude.{◌≡◌, ℕ, false, true, List, [], ◌∷◌, ◌++◌, map, replicate, Some, None, codes};
-ghost use Rattle.lfs_model.specs.Slots.{no_gstate};
+ghost use Rattle.lfs_model.specs.Slots.{Slot, FitsPair, no_gstate};
 ghost use Rattle.lfs_model.specs.Log.{LogEntry};
 ghost use Rattle.lfs_model.specs.Content.{RawSlot, RawContent, no_content, file_name_type, superblock_name_type, inline_struct_type, content_after_all};
 ghost use Rattle.lfs_model.specs.Written.{entries_of};
@@ -27,4 +27,14 @@ pub fn changes_are_made()
 
     // What a compacted block is written from reads back.
     ensures written { (c : RawContent) → IsSound c → content_after_all no_content (entries_of c) ≡ Some c }
+{}
+
+/// Such a content can be written anew.
+pub fn content_is_sound()
+    ensures { IsSound (raw_content (raw_root ∷ record (raw_file (codes "b")) { attributes = (0x41, codes "x") ∷ [] } ∷ [])) }
+{}
+
+/// A pair has at most a thousand slots.
+pub fn slots_are_counted()
+    ensures { (s : Slot) → FitsPair 65536 512 (record { slots = replicate 1001 s; tail = None; move = no_gstate }) → ⊥ }
 {}

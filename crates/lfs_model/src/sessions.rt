@@ -178,5 +178,6 @@ pub fn session_goes_through()
 pub fn failed_session_refuses()
     ensures stat { answered (around 4096 256 16 2) (Some empty_tree) HasFailed (ops.Stat (codes "/")) ≡ (Some (ops.Refused Failed), HasFailed) }
     ensures remount { answered (around 4096 256 16 2) (Some empty_tree) HasFailed ops.Remount ≡ (Some ops.Done, Healthy (mounted empty_tree)) }
+    ensures after_it { answered (around 4096 256 16 2) (Some empty_tree) (Healthy (mounted empty_tree)) (ops.Stat (codes "/d")) ≡ (Some (ops.Refused NoEnt), Healthy (mounted empty_tree)) }
     ensures not_accepted { (state : State) → answered (around 4096 256 16 2) None state ops.Remount ≡ (None, HasFailed) }
 {}

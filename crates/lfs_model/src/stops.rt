@@ -1,11 +1,11 @@
-// What the stop of a device leaves, and what changes make of a pair.
+// What the stop of a device leaves.
 
 ghost use Rattle.std.specs.Prelude.{◌≡◌, ℕ, ◌+◌, ◌≤◌, ◌<◌, List, [], ◌∷◌, ◌++◌, length, take, true};
 ghost use Rattle.lfs_model.specs.Blocks.{Blocks, block_in, programmed};
-ghost use Rattle.lfs_model.specs.History.{Call, Program, event};
+ghost use Rattle.lfs_model.specs.History.{Call, Program, Erase, event};
 ghost use Rattle.lfs_model.specs.Stops.{stops_in, Stops};
-ghost use Rattle.lfs_model.specs.Stored.{unwritten};
-ghost use Rattle.lfs_model.specs.Examples.{small_commit, appended_commit};
+ghost use Rattle.lfs_model.specs.Stored.{unwritten, filled};
+ghost use Rattle.lfs_model.specs.Examples.{small_commit, appended_commit, small_block};
 
 /// A stop may leave the disk before the call, or what the whole call makes, or a torn commit that isn't one.
 pub fn stop_leaves_old_or_new()
@@ -16,4 +16,10 @@ pub fn stop_leaves_old_or_new()
     // Ten bytes of a second commit were stored.
     ensures torn { (after : Blocks) → Stops (event (Program 0 128 appended_commit) ((small_commit ++ unwritten 896) ∷ []) after true)
         ((small_commit ++ take 10 appended_commit ++ unwritten 886) ∷ []) }
+{}
+
+/// A stopped erase leaves the log that was there or none, and no other.
+pub fn stopped_erase_leaves_no_other_log()
+    ensures none { (after : Blocks) → Stops (event (Erase 0) (small_block ∷ []) after true) (unwritten 1024 ∷ []) }
+    ensures other { (after : Blocks) → Stops (event (Erase 0) (small_block ∷ []) after true) (filled 1024 (small_commit ++ appended_commit) ∷ []) → ⊥ }
 {}

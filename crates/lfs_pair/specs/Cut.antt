@@ -1,23 +1,9 @@
--- Slots cut into two parts, each for a pair of its own.
-use Rattle.std.specs.Prelude.{ℕ, ◌*◌, ◌<◌, ◌≤◌, List, length, take, drop, sum_by}
-use Rattle.lfs_model.specs.Disk.{pair_capacity, slot_limit}
+-- Where slots are cut into two parts, each for a pair of its own.
+use Rattle.std.specs.Prelude.{ℕ, ◌*◌, ◌<◌, ◌≤◌, List, take, sum_by}
 use Rattle.lfs_model.specs.Content.{RawSlot}
 use Rattle.lfs_model.specs.Written.{raw_slot_size}
-
--- a pair that is written may have these slots
-pub record FitSlots (block_size page : ℕ) (slots : List RawSlot) : Type 0 where
-  pub size : sum_by raw_slot_size slots ≤ pair_capacity block_size page
-  pub count : length slots ≤ slot_limit
-
--- so many slots stand in front, and both parts fit
-pub record IsCut (block_size page : ℕ) (slots : List RawSlot) (cut : ℕ) : Type 0 where
-  pub within : cut ≤ length slots
-  pub front : FitSlots block_size page (take cut slots)
-  pub back : FitSlots block_size page (drop cut slots)
-
-pub record CanBeCut (block_size page : ℕ) (slots : List RawSlot) : Type 0 where
-  pub cut : ℕ
-  pub is_cut : IsCut block_size page slots cut
+use Rattle.lfs_model.specs.Cut.{IsCut}
+pub use Rattle.lfs_model.specs.Cut.{FitSlots, IsCut, CanBeCut}
 
 -- of the cuts with at most half of the bytes in front the last, and where there is none, the first of all
 pub record IsMiddle (block_size page : ℕ) (slots : List RawSlot) (cut : ℕ) : Type 0 where

@@ -1,0 +1,134 @@
+-- What runs of a session keep: the session that the accepted operations define, the writing profile, and nothing to recover.
+use Rattle.std.proofs.Common.{◌≡◌, Bool, true, false, cond, List, [], ◌∷◌, Option, Some, None, refl, sym, ap, subst, ◌∙◌}
+use Rattle.std.proofs.lemmas.Option.{same_Some}
+use Rattle.lfs_model.specs.Disk.{Disk, block_count}
+use Rattle.lfs_model.specs.Content.{content_at}
+use Rattle.lfs_model.specs.Thread.{Pair}
+use Rattle.lfs_model.specs.Tree.{Tree}
+use Rattle.lfs_model.specs.View.{IsAccepted, IsWritable, tree_in}
+use Rattle.lfs_model.specs.History.{Event}
+use Rattle.lfs_model.specs.Operations as ops
+use Rattle.lfs_model.specs.Operations.{Operation, Reply, Refusal}
+use Rattle.lfs_model.specs.Session.{Session, Surroundings}
+use Rattle.lfs_model.specs.Steps.{applied, refusal_of, effect_of, reply_or}
+use Rattle.lfs_model.specs.State.{State, HasFailed, Healthy, is_remount, remounted, answered_in, mounted}
+use Rattle.lfs_model.specs.Fresh.{fresh_pair, empty_tree}
+use Rattle.lfs_model.specs.Recovery.{IsRecovered}
+use Rattle.lfs_model.specs.Run.{Moment, Shows, Agrees, is_refusal, IsCarriedOut, IsTurn, AreTurns}
+use Rattle.lfs_model.specs.Headline.{ComesFromFresh, session_after, session_after_all, IsTrue, IsSettled}
+use Rattle.lfs_model.proofs.Uniqueness.{one_thread}
+use Rattle.lfs_model.proofs.Fresh.{accepted, writable}
+use Rattle.lfs_model.proofs.Turns.{IsHealthy, turn_is_healthy, true_from, fresh_agrees, fresh_turns}
+use Rattle.lfs_model.proofs.TurnsMade.{no_refusal}
+
+-- ---- what the accepted operations define
+
+-- what an operation makes of a session doesn't depend on the disk
+same_effect : (around other : Surroundings) (s : Session) (op : Operation) → (effect_of around s op).1 ≡ (effect_of other s op).1
+same_effect around other s (ops.Open path flags) = refl
+same_effect around other s (ops.Read fd count) = refl
+same_effect around other s (ops.Write fd bytes) = refl
+same_effect around other s (ops.Seek fd position) = refl
+same_effect around other s (ops.Truncate fd size) = refl
+same_effect around other s (ops.Sync fd) = refl
+same_effect around other s (ops.Close fd) = refl
+same_effect around other s (ops.Mkdir path) = refl
+same_effect around other s (ops.Remove path) = refl
+same_effect around other s (ops.Rename old new) = refl
+same_effect around other s (ops.SetAttr path kind bytes) = refl
+same_effect around other s (ops.RemoveAttr path kind) = refl
+same_effect around other s _ = refl
+
+-- the trees of two accepted threads of a disk
+pub one_tree : (disk : Disk) (t u : Tree) → Shows disk (Some t) → Shows disk (Some u) → t ≡ u
+one_tree disk t u (ps, (a, e)) (qs, (b, f)) = e ∙ ap (tree_in disk) (one_thread (content_at disk) (block_count disk) ps qs a.thread b.thread) ∙ sym f
+
+defined_next : (around : Surroundings) (from to : Moment) (op : Operation) (reply : Reply) (s : Session) → from.state ≡ Healthy s → Agrees from.disk from.state → IsTurn from op reply to →
+    to.state ≡ Healthy (session_after around s op reply)
+defined_next around from to op reply s healthy agrees turn =
+    go (is_remount op) refl (sym (ap (λ z. cond (is_remount op) (remounted turn.answered.shown) (answered_in turn.answered.around z op)) healthy) ∙ turn.answered.answers)
+  where
+    effect : Session
+    effect = (effect_of around s op).1
+
+    refused : (a : Surroundings) (r : Option Refusal) → (reply_or r s (effect_of a s op)).0 ≡ reply → (reply_or r s (effect_of a s op)).1 ≡ cond (is_refusal reply) s (effect_of around s op).1
+    refused a None e = same_effect a around s op ∙ sym (ap (λ b. cond b s effect) (no_refusal a s op)) ∙ ap (λ r. cond (is_refusal r) s effect) e
+    refused a (Some error) e = ap (λ r. cond (is_refusal r) s effect) e
+
+    remount : (shown : Option Tree) → Shows from.disk shown → remounted shown ≡ (Some reply, to.state) → to.state ≡ Healthy (cond (is_refusal reply) s (mounted s.tree))
+    remount None h e = absurd (let k = ap (λ (z : Option Reply × State). z.0) e in cc)
+    remount (Some tree) h e =
+        let done = same_Some ops.Done reply (ap (λ (z : Option Reply × State). z.0) e) in
+        let same = one_tree from.disk tree s.tree h (subst (Agrees from.disk) healthy agrees) in
+        sym (ap (λ (z : Option Reply × State). z.1) e) ∙ ap (λ t. Healthy (mounted t)) same ∙ ap (λ r. Healthy (cond (is_refusal r) s (mounted s.tree))) done
+
+    go : (b : Bool) → is_remount op ≡ b → cond b (remounted turn.answered.shown) (answered_in turn.answered.around (Healthy s) op) ≡ (Some reply, to.state) →
+        to.state ≡ Healthy (cond (is_refusal reply) s (cond b (mounted s.tree) (effect_of around s op).1))
+    go true is e = remount turn.answered.shown (turn.answered.shows is) e
+    go false is e =
+        let a = turn.answered.around in
+        let k = same_Some (applied a s op).0 reply (ap (λ (z : Option Reply × State). z.0) e) in
+        sym (ap (λ (z : Option Reply × State). z.1) e) ∙ ap Healthy (refused a (refusal_of a s op) k)
+
+pub defined : (around : Surroundings) (operations : List Operation) (replies : List Reply) (from to : Moment) (s : Session) → from.state ≡ Healthy s → Agrees from.disk from.state →
+    AreTurns from operations replies to → to.state ≡ Healthy (session_after_all around s operations replies)
+defined around [] [] from to s h agrees e = sym (ap (λ (m : Moment). m.state) e) ∙ h
+defined around [] (reply ∷ replies) from to s h agrees e = absurd e
+defined around (op ∷ operations) [] from to s h agrees e = absurd e
+defined around (op ∷ operations) (reply ∷ replies) from to s h agrees (next, (turn, rest)) =
+    defined around operations replies next to (session_after around s op reply) (defined_next around from next op reply s h agrees turn) turn.agrees rest
+
+-- ---- what holds of the disk's pairs
+
+-- the disk is accepted, and its pairs have Q
+abbrev pub ArePairs : (Disk → List Pair → Type 0) → Disk → Type 0
+ArePairs Q disk = (ps : List Pair) × (IsAccepted disk ps × Q disk ps)
+
+-- each operation that is carried out keeps it
+abbrev pub StaysCarried : (Disk → List Pair → Type 0) → Type 0
+StaysCarried Q = (disk new : Disk) (ps qs : List Pair) (s : Session) (op : Operation) (calls : List Event) → IsCarriedOut disk ps s op calls new qs → Q disk ps → Q new qs
+
+pub turn_keeps : (Q : Disk → List Pair → Type 0) → StaysCarried Q → (from to : Moment) (op : Operation) (reply : Reply) → IsTurn from op reply to → IsHealthy from.state → ArePairs Q from.disk →
+    ArePairs Q to.disk
+turn_keeps Q carries from to op reply turn h (ps, (ok, q)) = go (is_refusal reply) refl from.state refl h
+  where
+    known : IsTrue to
+    known = true_from to (turn_is_healthy from to op reply turn h) turn.agrees
+
+    go : (b : Bool) → is_refusal reply ≡ b → (state : State) → from.state ≡ state → IsHealthy state → ArePairs Q to.disk
+    go true is state e k = subst (ArePairs Q) (sym (turn.refused is)) (ps, (ok, q))
+    go false is HasFailed e k = absurd k
+    go false is (Healthy s) e k =
+        let shown = known.shows in
+        (shown.0, (shown.1.0, carries from.disk to.disk ps shown.0 s op turn.calls (turn.carried_out is s e ps shown.0 ok shown.1.0) q))
+
+pub turns_keep : (Q : Disk → List Pair → Type 0) → StaysCarried Q → (operations : List Operation) (replies : List Reply) (from to : Moment) → AreTurns from operations replies to → IsHealthy from.state →
+    ArePairs Q from.disk → ArePairs Q to.disk
+turns_keep Q carries [] [] from to e h q = subst (λ (m : Moment). ArePairs Q m.disk) e q
+turns_keep Q carries [] (reply ∷ replies) from to e h q = absurd e
+turns_keep Q carries (op ∷ operations) [] from to e h q = absurd e
+turns_keep Q carries (op ∷ operations) (reply ∷ replies) from to (next, (turn, rest)) h q =
+    turns_keep Q carries operations replies next to rest (turn_is_healthy from next op reply turn h) (turn_keeps Q carries from next op reply turn h q)
+
+pub profile_stays : StaysCarried IsWritable
+profile_stays disk new ps qs s op calls c h = c.profile h
+
+abbrev WritableRecovered : Disk → List Pair → Type 0
+WritableRecovered disk ps = IsWritable disk ps × IsRecovered ps
+
+-- ---- from a fresh disk
+
+pub fresh_true : (operations : List Operation) (replies : List Reply) (at : Moment) → ComesFromFresh operations replies at → IsTrue at
+fresh_true operations replies at c = fresh_turns operations replies c.from at c.fresh c.mounts c.turns
+
+pub fresh_defined : (operations : List Operation) (replies : List Reply) (at : Moment) (around : Surroundings) → ComesFromFresh operations replies at →
+    at.state ≡ Healthy (session_after_all around (mounted empty_tree) operations replies)
+fresh_defined operations replies at around c =
+    defined around operations replies c.from at (mounted empty_tree) c.mounts (subst (Agrees c.from.disk) (sym c.mounts) (fresh_agrees c.from.disk c.fresh)) c.turns
+
+pub fresh_settled : (operations : List Operation) (replies : List Reply) (at : Moment) → ComesFromFresh operations replies at → IsSettled at.disk
+fresh_settled operations replies at c =
+    let ok = accepted c.from.disk c.fresh in
+    let start : ArePairs WritableRecovered c.from.disk = (fresh_pair c.from.disk ∷ [], (ok, (writable c.from.disk c.fresh, record { gstate = refl; reached = ok.reached refl }))) in
+    let end = turns_keep WritableRecovered (λ disk new ps qs s op calls k q. (k.profile q.0, k.stays q.1)) operations replies c.from at c.turns (subst IsHealthy (sym c.mounts) tt) start in
+    record { pairs = end.0; accepted = end.1.0; writable = end.1.1.0; recovered = end.1.1.1 }

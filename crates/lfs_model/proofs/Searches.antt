@@ -1,0 +1,338 @@
+-- What a search in a directory's pairs says of an accepted image: where a name stands, or where it belongs.
+use Rattle.std.proofs.Common.{ℕ, zero, suc, ◌≡◌, ◌≢◌, ◌⊎◌, inl, inr, ◌+◌, ◌≤◌, true, false, cond, not, List, [], ◌∷◌, ◌++◌, length, take, drop, Option, Some, None, refl, sym, ap, ap₂, subst, ◌∙◌, arith, append_assoc, length-append, Less, slice_get}
+use Rattle.std.specs.Prelude.{All}
+use Rattle.std.specs.List.{IsDistinct}
+use Rattle.std.proofs.Common.{nat_eq}
+use Rattle.std.proofs.lemmas.List.Elements.{filter-append, recursion_from_All}
+use Rattle.std.proofs.lemmas.List.Concat.{flat_map-append}
+use Rattle.std.proofs.lemmas.Option.{same_Some}
+use Rattle.std.proofs.lemmas.Bool.{false_from_ne_true}
+use Rattle.lfs_model.specs.Disk.{Disk}
+use Rattle.lfs_model.specs.Names.{Name, name_cmp}
+use Rattle.lfs_model.specs.Slots.{Slot, is_superblock, same_pair}
+use Rattle.lfs_model.specs.Thread.{Pair, is_hard, blocks_of, gstate_of, superblocks_before, directory_pairs}
+use Rattle.lfs_model.specs.Tree.{Path}
+use Rattle.lfs_model.specs.View.{IsAccepted, IsEntry, Leads, entries_in}
+use Rattle.lfs_model.specs.SlotEdits.{slot_of_path}
+use Rattle.lfs_model.specs.Discipline.{run_of, pairs_at, pairs_of_path}
+use Rattle.lfs_model.specs.InDirectory.{entries_only, slots_in, BeginsAbove, HaveNoSuperblock, IsJoined, run_length, Runs, last_is_joined, IsBehind, BeginsAt, Stands, Belongs}
+use Rattle.lfs_model.proofs.Counts.{Each, each_append, each_right, each_weaker}
+use Rattle.lfs_model.proofs.Global.{HasNoMove}
+use Rattle.lfs_model.proofs.Pairs.{pair_back, pair_on}
+use Rattle.lfs_model.proofs.Listings.{IsRun, blocks_avoid}
+use Rattle.lfs_model.proofs.Names.{IsPlace, Rise}
+use Rattle.lfs_model.proofs.Sites.{Site, thread_at, IsSite, begin_of}
+use Rattle.lfs_model.proofs.Moves.{place_at, shown_before, shown_behind}
+use Rattle.lfs_model.proofs.Superblocks.{entry_is_other}
+use Rattle.lfs_model.proofs.Found.{HasDirectory, chain_of_thread, led_directory}
+use Rattle.lfs_model.proofs.Indexes.{IsInDirectory, site_in_directory, site_shows, slot_found, less_before, greater_behind, place_between, rise_right}
+
+-- ---- by an address
+
+-- no block comes twice, so at most one pair is at an address
+each_at : (P : Pair → Type 0) (xs : List Pair) (i : ℕ) (p : Pair) → Each P xs → slice_get xs i ≡ Some p → P p
+each_at P [] i p h e = absurd (cc)
+each_at P (x ∷ xs) zero p h e = subst P (same_Some x p e) h.0
+each_at P (x ∷ xs) (suc i) p h e = each_at P xs i p h.1 e
+
+not_again : (x : Pair) (xs : List Pair) (j : ℕ) (p q : Pair) → Each (λ r. same_pair x.at r.at ≡ false) xs → x ≡ p → slice_get xs j ≡ Some q → same_pair p.at q.at ≡ true → ⊥
+not_again x xs j p q h e f s = absurd (let k = each_at (λ r. same_pair x.at r.at ≡ false) xs j q h f in let m = ap (λ (y : Pair). same_pair y.at q.at) e in cc)
+
+pub same_number : (xs : List Pair) (i j : ℕ) (p q : Pair) → IsDistinct nat_eq (blocks_of xs) → slice_get xs i ≡ Some p → slice_get xs j ≡ Some q → same_pair p.at q.at ≡ true → i ≡ j
+unfolding IsDistinct
+same_number [] i j p q h e f s = absurd (cc)
+same_number (x ∷ xs) zero zero p q h e f s = refl
+same_number (x ∷ xs) zero (suc j) p q h e f s = absurd (not_again x xs j p q (blocks_avoid x.at xs h.0.1) (same_Some x p e) f s)
+same_number (x ∷ xs) (suc i) zero p q h e f s = absurd (not_again x xs i q p (blocks_avoid x.at xs h.0.1) (same_Some x q f) e (pair_back p.at q.at s))
+same_number (x ∷ xs) (suc i) (suc j) p q h e f s = ap suc (same_number xs i j p q h.1.1 e f s)
+
+get_behind : (xs : List Pair) (p : Pair) (ys : List Pair) → slice_get (xs ++ p ∷ ys) (length xs) ≡ Some p
+get_behind [] p ys = refl
+get_behind (x ∷ xs) p ys = get_behind xs p ys
+
+-- the pair at a directory's address is the directory's first
+pub record IsDirectory (ps : List Pair) (a : ℕ × ℕ) (first : ℕ) : Type 0 where
+  pub directory : HasDirectory (directory_pairs ps) a
+  pub number : first ≡ superblocks_before ps + length directory.before
+
+pub begins_directory : (disk : Disk) (ps : List Pair) (P : Path) (a : ℕ × ℕ) (first : ℕ) → IsAccepted disk ps → Leads ps P a → BeginsAt ps a first → IsDirectory ps a first
+begins_directory disk ps P a first ok leads b = record { directory = d; number = number }
+  where
+    d : HasDirectory (directory_pairs ps) a
+    d = led_directory disk ps P a ok leads
+
+    chain : List Pair
+    chain = take (superblocks_before ps) ps
+
+    chain_length : length (take (superblocks_before ps) ps) ≡ superblocks_before ps
+    chain_length = let e = chain_of_thread ps in sym (ap superblocks_before e.0 ∙ e.1)
+
+    whole : ps ≡ (take (superblocks_before ps) ps ++ d.before) ++ (d.first ∷ (d.run ++ d.after))
+    whole = (chain_of_thread ps).0 ∙ ap (λ z. take (superblocks_before ps) ps ++ z) d.is ∙ sym (append_assoc (take (superblocks_before ps) ps) d.before (d.first ∷ (d.run ++ d.after)))
+
+    there : slice_get ps (length (take (superblocks_before ps) ps ++ d.before)) ≡ Some d.first
+    there = ap (λ z. slice_get z (length (take (superblocks_before ps) ps ++ d.before))) whole ∙ get_behind (take (superblocks_before ps) ps ++ d.before) d.first (d.run ++ d.after)
+
+    number : first ≡ superblocks_before ps + length d.before
+    number =
+        let e = same_number ps first (length (take (superblocks_before ps) ps ++ d.before)) b.pair d.first ok.thread.distinct b.there there (pair_on b.pair.at a d.first.at b.same (pair_back d.first.at a d.at)) in
+        omega (arith, e, length-append (take (superblocks_before ps) ps) d.before, chain_length)
+
+-- the pairs in front aren't at that address
+avoids_front : (xs : List Pair) (p : Pair) (ys : List Pair) (a : ℕ × ℕ) → IsDistinct nat_eq (blocks_of (xs ++ p ∷ ys)) → same_pair p.at a ≡ true → Each (λ x. same_pair x.at a ≡ false) xs
+unfolding IsDistinct
+avoids_front [] p ys a h s = tt
+avoids_front (x ∷ xs) p ys a h s = (
+  false_from_ne_true (same_pair x.at a) (λ e. not_again x (xs ++ p ∷ ys) (length xs) x p (blocks_avoid x.at (xs ++ p ∷ ys) h.0.1) refl (get_behind xs p ys) (pair_on x.at a p.at e (pair_back p.at a s))),
+  avoids_front xs p ys a h.1.1 s,
+)
+
+pairs_past : (xs ys : List Pair) (a : ℕ × ℕ) → Each (λ x. same_pair x.at a ≡ false) xs → pairs_at (xs ++ ys) a ≡ pairs_at ys a
+pairs_past [] ys a h = refl
+pairs_past (x ∷ xs) ys a h = ap (λ b. cond b (run_of x (xs ++ ys)) (pairs_at (xs ++ ys) a)) h.0 ∙ pairs_past xs ys a h.1
+
+run_is : (p : Pair) (run after : List Pair) → IsRun (p ∷ run) → run_of p (run ++ after) ≡ p ∷ run
+run_is p [] [] h = refl
+run_is p [] (q ∷ after) h = ap (λ b. p ∷ cond b (run_of q after) []) h
+run_is p (q ∷ run) after h = ap (λ b. p ∷ cond b (run_of q (run ++ after)) []) h.0 ∙ ap (λ z. p ∷ z) (run_is q run after h.1)
+
+length_run : (p : Pair) (run after : List Pair) → IsRun (p ∷ run) → run_length (p ∷ (run ++ after)) ≡ length (p ∷ run)
+length_run p [] after h = ap (λ b. cond b (1 + run_length after) 1) h
+length_run p (q ∷ run) after h = ap (λ b. cond b (1 + run_length (q ∷ (run ++ after))) 1) h.0 ∙ (let e = length_run q run after h.1 in omega (arith, e))
+
+-- the pairs of a directory that a path leads to, and how many they are
+pub directory_pairs_at : (disk : Disk) (ps : List Pair) (P : Path) (a : ℕ × ℕ) (ok : IsAccepted disk ps) → Leads ps P a → (d : HasDirectory (directory_pairs ps) a) → pairs_at ps a ≡ d.first ∷ d.run
+directory_pairs_at disk ps P a ok leads d =
+    let whole : ps ≡ (take (superblocks_before ps) ps ++ d.before) ++ (d.first ∷ (d.run ++ d.after))
+    = (chain_of_thread ps).0 ∙ ap (λ z. take (superblocks_before ps) ps ++ z) d.is ∙ sym (append_assoc (take (superblocks_before ps) ps) d.before (d.first ∷ (d.run ++ d.after))) in
+    ap (λ z. pairs_at z a) whole
+    ∙ pairs_past (take (superblocks_before ps) ps ++ d.before) (d.first ∷ (d.run ++ d.after)) a
+    (avoids_front (take (superblocks_before ps) ps ++ d.before) d.first (d.run ++ d.after) a (subst (λ z. IsDistinct nat_eq (blocks_of z)) whole ok.thread.distinct) d.at)
+    ∙ ap (λ b. cond b (run_of d.first (d.run ++ d.after)) (pairs_at (d.run ++ d.after) a)) d.at
+    ∙ run_is d.first d.run d.after d.is_run
+
+drop_behind : (xs ys : List Pair) (n : ℕ) → n ≡ length xs → drop n (xs ++ ys) ≡ ys
+drop_behind [] ys n e = ap (λ k. drop k ys) e
+drop_behind (x ∷ xs) ys n e = ap (λ k. drop k (x ∷ (xs ++ ys))) e ∙ drop_behind xs ys (length xs) refl
+
+abbrev count_at : List Pair → Option (ℕ × ℕ) → ℕ
+count_at ps None = 0
+count_at ps (Some at) = length (pairs_at ps at)
+
+pub run_length_is : (disk : Disk) (ps : List Pair) (P : Path) (a : ℕ × ℕ) (first : ℕ) → IsAccepted disk ps → Leads ps P a → BeginsAt ps a first → run_length (drop first ps) ≡ pairs_of_path ps P
+run_length_is disk ps P a first ok leads b =
+    let i = begins_directory disk ps P a first ok leads b in
+    let d = i.directory in
+    let e = chain_of_thread ps in
+    let front : List Pair = take (superblocks_before ps) ps ++ d.before in
+    let whole : ps ≡ (take (superblocks_before ps) ps ++ d.before) ++ (d.first ∷ (d.run ++ d.after))
+    = e.0 ∙ ap (λ z. take (superblocks_before ps) ps ++ z) d.is ∙ sym (append_assoc (take (superblocks_before ps) ps) d.before (d.first ∷ (d.run ++ d.after))) in
+    let many : length (take (superblocks_before ps) ps) ≡ superblocks_before ps = sym (ap superblocks_before e.0 ∙ e.1) in
+    let at_first : first ≡ length (take (superblocks_before ps) ps ++ d.before) = omega (arith, i.number, length-append (take (superblocks_before ps) ps) d.before, many) in
+    ap (λ z. run_length (drop first z)) whole
+    ∙ ap run_length (drop_behind (take (superblocks_before ps) ps ++ d.before) (d.first ∷ (d.run ++ d.after)) first at_first)
+    ∙ length_run d.first d.run d.after d.is_run
+    ∙ sym (ap (count_at ps) leads ∙ ap length (directory_pairs_at disk ps P a ok leads d))
+
+-- ---- lists
+
+-- what stands behind as many
+same_back : (xs ys us vs : List Pair) → length xs ≡ length us → xs ++ ys ≡ us ++ vs → ys ≡ vs
+same_back [] ys [] vs l e = e
+same_back [] ys (u ∷ us) vs l e = absurd (omega arith)
+same_back (x ∷ xs) ys [] vs l e = absurd (omega arith)
+same_back (x ∷ xs) ys (u ∷ us) vs l e = same_back xs ys us vs (omega arith) (cc)
+
+-- a run that goes on with pairs of which all but the last are joined
+record Parted (run left : List Pair) (pair : Pair) (rest after : List Pair) : Type 0 where
+  ys : List Pair
+  is : run ≡ left ++ pair ∷ ys
+  rest_is : rest ≡ ys ++ after
+  runs : IsRun (pair ∷ ys)
+
+run_parts : (run left : List Pair) (pair : Pair) (rest after : List Pair) → run ≢ [] → IsRun run → Each IsJoined left → left ++ pair ∷ rest ≡ run ++ after → Parted run left pair rest after
+run_parts [] left pair rest after some is joined e = absurd (some refl)
+run_parts (r ∷ run) [] pair rest after some is joined e =
+    let h : pair ≡ r = cc in let t : rest ≡ run ++ after = cc in
+    record { ys = run; is = ap (λ z. z ∷ run) (sym h); rest_is = t; runs = subst (λ z. IsRun (z ∷ run)) (sym h) is }
+run_parts (r ∷ []) (l ∷ left) pair rest after some is joined e = let h : l ≡ r = cc in absurd (let k = ap (λ (p : Pair). is_hard p.content.tail) h in let j = joined.0 in cc)
+run_parts (r ∷ q ∷ run) (l ∷ left) pair rest after some is joined e =
+    let h : l ≡ r = cc in let t : left ++ pair ∷ rest ≡ q ∷ run ++ after = cc in
+    let p = run_parts (q ∷ run) left pair rest after (λ k. absurd (cc)) is.1 joined.1 t in
+    record { ys = p.ys; is = ap₂ (λ x xs. x ∷ xs) (sym h) p.is; rest_is = p.rest_is; runs = p.runs }
+
+record Goes (pair : Pair) (ys later : List Pair) : Type 0 where
+  more : List Pair
+  is : ys ≡ later ++ more
+  last : last_is_joined pair later ≡ false → more ≡ []
+
+goes : (pair : Pair) (ys later rest after : List Pair) → IsRun (pair ∷ ys) → Runs pair later → later ++ rest ≡ ys ++ after → Goes pair ys later
+goes pair [] [] rest after is runs e = record { more = []; is = refl; last = λ k. refl }
+goes pair (y ∷ ys) [] rest after is runs e = record { more = y ∷ ys; is = refl; last = λ k. absurd (let j = is.0 in cc) }
+goes pair [] (q ∷ later) rest after is runs e = absurd (let j = runs.0 in cc)
+goes pair (y ∷ ys) (q ∷ later) rest after is runs e =
+    let h : q ≡ y = cc in let t : later ++ rest ≡ ys ++ after = cc in
+    let g = goes q ys later rest after (subst (λ z. IsRun (z ∷ ys)) (sym h) is.1) runs.1 t in
+    record { more = g.more; is = ap₂ (λ x xs. x ∷ xs) (sym h) g.is; last = g.last }
+
+-- ---- the site
+
+module _ (disk : Disk) (ps : List Pair) (P : Path) (a : ℕ × ℕ) (ok : IsAccepted disk ps) (leads : Leads ps P a) (first index : ℕ) (pair : Pair) (rest : List Pair) (b : IsBehind ps first index pair rest)
+    (begins : BeginsAt ps a first) where
+  abbrev chain : List Pair
+  chain = take (superblocks_before ps) ps
+
+  pub begun : IsDirectory ps a first
+  begun = begins_directory disk ps P a first ok leads begins
+
+  abbrev d : HasDirectory (directory_pairs ps) a
+  d = begun.directory
+
+  chain_length : length chain ≡ superblocks_before ps
+  chain_length = let e = chain_of_thread ps in sym (ap superblocks_before e.0 ∙ e.1)
+
+  first_is : first ≡ length chain + length d.before
+  first_is = begun.number ∙ ap (λ (n : ℕ). n + length d.before) (sym chain_length)
+
+  parted : Parted (d.first ∷ d.run) b.left pair rest d.after
+  parted =
+      let e = chain_of_thread ps in
+      let l = length-append chain d.before in
+      let n = b.begins in
+      let f = first_is in
+      run_parts (d.first ∷ d.run) b.left pair rest d.after (λ k. absurd (cc)) d.is_run b.joined
+      (same_back b.front (b.left ++ pair ∷ rest) (chain ++ d.before) ((d.first ∷ d.run) ++ d.after) (omega arith)
+      (sym b.parts ∙ e.0 ∙ ap (λ z. chain ++ z) d.is ∙ sym (append_assoc chain d.before ((d.first ∷ d.run) ++ d.after))))
+
+  pub site : Site
+  site = record { chain = chain; before = d.before; left = b.left; right = parted.ys; after = d.after }
+
+  in_directory : IsInDirectory chain (directory_pairs ps) a pair (record { chain = chain; before = d.before; left = b.left; right = parted.ys; after = d.after })
+  in_directory = site_in_directory chain (directory_pairs ps) a (chain_of_thread ps).1 d b.left pair parted.ys parted.is
+
+  pub thread_is : ps ≡ thread_at site (pair ∷ [])
+  unfolding site
+  thread_is = (chain_of_thread ps).0 ∙ ap (λ z. chain ++ z) in_directory.dirs_are
+
+  pub is_site : IsSite site (pair ∷ [])
+  unfolding site
+  is_site = in_directory.site
+
+  pub same : same_pair (begin_of site (pair ∷ [])) a ≡ true
+  unfolding site
+  same = in_directory.same
+
+  pub number_is : index ≡ length site.chain + length (site.before ++ site.left)
+  unfolding site
+  number_is = let l = length-append d.before b.left in let n = b.number in let g = b.begins in let f = first_is in omega arith
+
+-- ---- a name that stands there
+
+pub slot_of_stands : (disk : Disk) (ps : List Pair) (P : Path) (a : ℕ × ℕ) (ok : IsAccepted disk ps) (leads : Leads ps P a) (first index id : ℕ) (name : Name) → HasNoMove (gstate_of ps)
+    → (s : Stands ps first name index id) → BeginsAt ps a first → slot_of_path ps (P ++ name ∷ []) ≡ Some s.stands.slot
+slot_of_stands disk ps P a ok leads first index id name none s begins =
+    let w = site disk ps P a ok leads first index s.pair s.rest s.place begins in
+    let is = thread_is disk ps P a ok leads first index s.pair s.rest s.place begins in
+    subst (λ z. slot_of_path ps (P ++ z ∷ []) ≡ Some s.stands.slot) s.stands.named
+    (subst (λ z. slot_of_path z (P ++ s.stands.slot.name ∷ []) ≡ Some s.stands.slot) (sym is)
+    (slot_found disk w s.pair s.stands.left s.stands.slot s.stands.right P a (subst (IsAccepted disk) is ok) (is_site disk ps P a ok leads first index s.pair s.rest s.place begins)
+    (subst (λ z. HasNoMove (gstate_of z)) is none) (subst (λ z. Leads z P a) is leads) (same disk ps P a ok leads first index s.pair s.rest s.place begins) s.stands.held s.stands.entry))
+
+-- ---- a name that belongs there
+
+-- the last of some
+record Last (xs : List Slot) : Type 0 where
+  front : List Slot
+  last : Slot
+  is : xs ≡ front ++ last ∷ []
+
+last_of : (xs : List Slot) → xs ≢ [] → Last xs
+last_of [] n = absurd (n refl)
+last_of (x ∷ []) n = record { front = []; last = x; is = refl }
+last_of (x ∷ y ∷ xs) n = let l = last_of (y ∷ xs) (λ e. absurd (cc)) in record { front = x ∷ l.front; last = l.last; is = ap (λ z. x ∷ z) l.is }
+
+module _ (disk : Disk) (ps : List Pair) (P : Path) (a : ℕ × ℕ) (ok : IsAccepted disk ps) (leads : Leads ps P a) (first index id : ℕ) (name : Name) (none : HasNoMove (gstate_of ps))
+    (b : Belongs ps first name index id) (begins : BeginsAt ps a first) where
+  abbrev at_site : Site
+  at_site = site disk ps P a ok leads first index b.pair (b.later ++ b.rest) b.place begins
+
+  abbrev whole : ps ≡ thread_at at_site (b.pair ∷ [])
+  whole = thread_is disk ps P a ok leads first index b.pair (b.later ++ b.rest) b.place begins
+
+  goes_there : Goes b.pair at_site.right b.later
+  unfolding site
+  goes_there =
+      let p = parted disk ps P a ok leads first index b.pair (b.later ++ b.rest) b.place begins in
+      goes b.pair p.ys b.later b.rest (begun disk ps P a ok leads first index b.pair (b.later ++ b.rest) b.place begins).directory.after p.runs b.runs p.rest_is
+
+  shows : entries_in ps a ≡ shown_before at_site b.left ++ shown_behind at_site b.right
+  shows = ap (λ z. entries_in z a) whole
+      ∙ site_shows disk at_site b.pair b.left [] b.right a (subst (IsAccepted disk) whole ok) (is_site disk ps P a ok leads first index b.pair (b.later ++ b.rest) b.place begins)
+      (subst (λ z. HasNoMove (gstate_of z)) whole none) (same disk ps P a ok leads first index b.pair (b.later ++ b.rest) b.place begins) b.held
+
+  rises : Rise (shown_before at_site b.left ++ shown_behind at_site b.right)
+  rises = subst Rise shows (ok.order P a leads)
+
+  left_is : at_site.left ≡ b.place.left
+  unfolding site
+  left_is = refl
+
+  less : Each (λ s. name_cmp s.name name ≡ Less) (shown_before at_site b.left)
+  less = go b.not_before
+    where
+      before_is : entries_only (slots_in at_site.left ++ b.left) ≡ entries_only (slots_in at_site.left) ++ entries_only b.left
+      before_is = filter-append (λ (s : Slot). not (is_superblock s)) (slots_in at_site.left) b.left
+
+      go : (b.place.left ≡ []) ⊎ (entries_only b.left ≢ []) → Each (λ s. name_cmp s.name name ≡ Less) (entries_only (slots_in at_site.left ++ b.left))
+      go (inl e) = subst (λ (z : List Pair). Each (λ s. name_cmp s.name name ≡ Less) (entries_only (slots_in z ++ b.left))) (sym (left_is ∙ e)) b.less
+      go (inr n) =
+          let l = last_of (entries_only b.left) n in
+          let f = entries_only (slots_in at_site.left) in
+          let last = each_right (λ s. name_cmp s.name name ≡ Less) l.front (l.last ∷ []) (subst (Each (λ s. name_cmp s.name name ≡ Less)) l.is b.less) in
+          let are : entries_only (slots_in at_site.left ++ b.left) ≡ (f ++ l.front) ++ l.last ∷ [] = before_is ∙ ap (λ z. f ++ z) l.is ∙ sym (append_assoc f l.front (l.last ∷ [])) in
+          let up : Rise ((f ++ l.front) ++ l.last ∷ shown_behind at_site b.right) =
+          subst Rise (ap (λ z. z ++ shown_behind at_site b.right) are ∙ append_assoc (f ++ l.front) (l.last ∷ []) (shown_behind at_site b.right)) rises in
+          subst (Each (λ s. name_cmp s.name name ≡ Less)) (sym are)
+          (each_append (λ s. name_cmp s.name name ≡ Less) (f ++ l.front) (l.last ∷ []) (less_before (f ++ l.front) l.last (shown_behind at_site b.right) name up last.0) last)
+
+  greater : Each (λ s. name_cmp name s.name ≡ Less) (shown_behind at_site b.right)
+  greater = go b.not_behind
+    where
+      behind_is : entries_only (b.right ++ slots_in at_site.right) ≡ entries_only (b.right ++ slots_in b.later) ++ entries_only (slots_in goes_there.more)
+      behind_is = ap (λ z. entries_only (b.right ++ slots_in z)) goes_there.is
+          ∙ ap (λ z. entries_only (b.right ++ z)) (flat_map-append (λ (p : Pair). p.content.slots) b.later goes_there.more)
+          ∙ ap entries_only (sym (append_assoc b.right (slots_in b.later) (slots_in goes_there.more)))
+          ∙ filter-append (λ (s : Slot). not (is_superblock s)) (b.right ++ slots_in b.later) (slots_in goes_there.more)
+
+      go : BeginsAbove name (entries_only (b.right ++ slots_in b.later)) ⊎ ((entries_only (b.right ++ slots_in b.later) ≡ []) × (last_is_joined b.pair b.later ≡ false)) →
+          Each (λ s. name_cmp name s.name ≡ Less) (entries_only (b.right ++ slots_in at_site.right))
+      go (inl begins) =
+          let are : entries_only (b.right ++ slots_in at_site.right) ≡ begins.first ∷ (begins.rest ++ entries_only (slots_in goes_there.more)) =
+          behind_is ∙ ap (λ z. z ++ entries_only (slots_in goes_there.more)) begins.are in
+          subst (Each (λ s. name_cmp name s.name ≡ Less)) (sym are) (
+            begins.above,
+            greater_behind begins.first (begins.rest ++ entries_only (slots_in goes_there.more)) name
+                (rise_right (shown_before at_site b.left) (begins.first ∷ (begins.rest ++ entries_only (slots_in goes_there.more))) (subst (λ z. Rise (shown_before at_site b.left ++ z)) are rises)) begins.above,
+          )
+      go (inr (nothing, last)) =
+          subst (Each (λ s. name_cmp name s.name ≡ Less)) (sym (behind_is ∙ ap₂ (λ x (y : List Pair). x ++ entries_only (slots_in y)) nothing (goes_there.last last))) tt
+
+  pub place_of_belongs : IsPlace (entries_in ps a) (place_at at_site b.left) name
+  place_of_belongs = subst (λ z. IsPlace z (place_at at_site b.left) name) (sym shows) (place_between (shown_before at_site b.left) (shown_behind at_site b.right) name less greater)
+
+-- ---- where no superblock stands
+
+each_dropped : (P : Pair → Type 0) (m n : ℕ) (ps : List Pair) → m ≤ n → Each P (drop m ps) → Each P (drop n ps)
+each_dropped P zero zero ps l h = h
+each_dropped P zero (suc n) [] l h = tt
+each_dropped P zero (suc n) (p ∷ ps) l h = each_dropped P zero n ps (omega arith) h.1
+each_dropped P (suc m) zero ps l h = absurd (omega arith)
+each_dropped P (suc m) (suc n) [] l h = tt
+each_dropped P (suc m) (suc n) (p ∷ ps) l h = each_dropped P m n ps (omega arith) h
+
+-- behind the first pair of a directory
+pub plain_behind : (disk : Disk) (ps : List Pair) (first : ℕ) → IsAccepted disk ps → superblocks_before ps ≤ first → HaveNoSuperblock (drop (first + 1) ps)
+plain_behind disk ps first ok low =
+    each_weaker (λ (p : Pair). All IsEntry p.content.slots) (λ (p : Pair). Each (λ s. is_superblock s ≡ false) p.content.slots)
+    (λ p h. each_weaker IsEntry (λ s. is_superblock s ≡ false) entry_is_other p.content.slots (recursion_from_All IsEntry p.content.slots h)) (drop (first + 1) ps)
+    (each_dropped (λ (p : Pair). All IsEntry p.content.slots) (superblocks_before ps + 1) (first + 1) ps (omega arith) (recursion_from_All (λ (p : Pair). All IsEntry p.content.slots) (drop (superblocks_before ps + 1) ps) ok.slots))

@@ -1,0 +1,85 @@
+-- What a disk has at an address, and a file's list, where none of their blocks changed.
+use Rattle.std.specs.Prelude.{All}
+use Rattle.std.proofs.Common.{ℕ, ◌≡◌, ◌≢◌, ◌*◌, ◌-◌, ◌<◌, ◌^◌, List, get_or, length, sym, ap, ap₂, ◌∙◌, subst, arith}
+use Rattle.std.specs.Prelude.{slice_index}
+use Rattle.std.specs.Option.{option_and_then}
+use Rattle.std.proofs.lemmas.List.Elements.{recursion_from_All, All-from_recursion}
+use Rattle.lfs_model.specs.Blocks.{Blocks, SameButThese, block_in}
+use Rattle.lfs_model.specs.Disk.{Disk, block_at}
+use Rattle.lfs_model.specs.Log.{log_entries}
+use Rattle.lfs_model.specs.Content.{holder, holder_at, raw_at, content_at, content_after_all, no_content}
+use Rattle.lfs_model.specs.Lists.{word_at, blocks_for, blocks_back, IsChain, IsList, bytes_of}
+use Rattle.lfs_model.proofs.Devices.{content_same}
+use Rattle.lfs_model.proofs.Files.{Same, back_same, length_back, list_same, bytes_same}
+
+-- ---- at an address
+
+-- neither block of a pair is one of those
+pub record AreElsewhere (at : ℕ × ℕ) (bs : List ℕ) : Type 0 where
+  pub first : All (λ b. b ≢ at.0) bs
+  pub second : All (λ b. b ≢ at.1) bs
+
+-- both blocks of a pair are the same on two disks
+pub record IsSameAt (disk new : Disk) (at : ℕ × ℕ) : Type 0 where
+  pub first : block_at new at.0 ≡ block_at disk at.0
+  pub second : block_at new at.1 ≡ block_at disk at.1
+
+pub same_elsewhere : {at : ℕ × ℕ} {bs : List ℕ} (disk new : Disk) → AreElsewhere at bs → SameButThese bs disk.blocks new.blocks → IsSameAt disk new at
+same_elsewhere {at} disk new elsewhere same = record { first = same.others at.0 elsewhere.first; second = same.others at.1 elsewhere.second }
+
+pub holder_same : {at : ℕ × ℕ} {disk new : Disk} → IsSameAt disk new at → holder_at new at ≡ holder_at disk at
+holder_same {at} {disk} {new} same = ap₂ holder same.first same.second
+
+pub raw_same : {at : ℕ × ℕ} {disk new : Disk} → IsSameAt disk new at → raw_at new at ≡ raw_at disk at
+raw_same same = ap (option_and_then (λ block. content_after_all no_content (log_entries block))) (holder_same same)
+
+pub content_stays : {at : ℕ × ℕ} {disk new : Disk} → IsSameAt disk new at → content_at new at ≡ content_at disk at
+content_stays {at} {disk} {new} same = content_same disk new at same.first same.second
+
+-- with other blocks changed
+pub holder_at-stays : {at : ℕ × ℕ} {bs : List ℕ} (disk : Disk) {blocks : Blocks} → AreElsewhere at bs → SameButThese bs disk.blocks blocks
+    → holder_at (record disk { blocks = blocks }) at ≡ holder_at disk at
+holder_at-stays disk {blocks} elsewhere same = holder_same (same_elsewhere disk (record disk { blocks = blocks }) elsewhere same)
+
+pub raw_at-stays : {at : ℕ × ℕ} {bs : List ℕ} (disk : Disk) {blocks : Blocks} → AreElsewhere at bs → SameButThese bs disk.blocks blocks
+    → raw_at (record disk { blocks = blocks }) at ≡ raw_at disk at
+raw_at-stays disk {blocks} elsewhere same = raw_same (same_elsewhere disk (record disk { blocks = blocks }) elsewhere same)
+
+pub content_at-stays : {at : ℕ × ℕ} {bs : List ℕ} (disk : Disk) {blocks : Blocks} → AreElsewhere at bs → SameButThese bs disk.blocks blocks
+    → content_at (record disk { blocks = blocks }) at ≡ content_at disk at
+content_at-stays disk {blocks} elsewhere same = content_stays (same_elsewhere disk (record disk { blocks = blocks }) elsewhere same)
+
+-- ---- a list
+
+-- none of these blocks is one of those
+abbrev pub AreApart : List ℕ → List ℕ → Type 0
+AreApart own bs = All (λ c. All (λ b. b ≢ c) bs) own
+
+pub same_apart : (own : List ℕ) {bs : List ℕ} (old new : Blocks) → AreApart own bs → SameButThese bs old new → Same old new own
+same_apart own old new apart same = recursion_from_All (λ b. block_in new b ≡ block_in old b) own (λ k x l. same.others (get_or own k x) (apart k x l))
+
+-- the first blocks of a list that grows
+pub chain_same : (old new : Blocks) (count head : ℕ) → length new ≡ length old → Same old new (blocks_back old count head) → IsChain old count head → IsChain new count head
+chain_same old new count head l h ok = record {
+  in_range = subst (λ bs. All (λ b. b < length new) bs) (sym back) (subst (λ n. All (λ b. b < n) (blocks_back old count head)) (sym l) ok.in_range);
+  distinct = rw back ok.distinct;
+  pointers = λ i k m j. ap (λ bs. word_at (block_in new (slice_index bs i)) (4 * k)) back
+      ∙ ap (λ z. word_at z (4 * k)) (All-from_recursion (λ b. block_in new b ≡ block_in old b) (blocks_back old count head) h i 0 (let n = length_back old count head in omega arith))
+      ∙ ok.pointers i k m j ∙ ap (λ bs. slice_index bs (i - 2 ^ k)) (sym back);
+}
+  where
+    back : blocks_back new count head ≡ blocks_back old count head
+    back = back_same old new count head h
+
+module _ (old new : Blocks) (bs : List ℕ) (same : SameButThese bs old new) where
+  pub back-stays : (count head : ℕ) → AreApart (blocks_back old count head) bs → blocks_back new count head ≡ blocks_back old count head
+  back-stays count head apart = back_same old new count head (same_apart (blocks_back old count head) old new apart same)
+
+  pub chain-stays : (count head : ℕ) → AreApart (blocks_back old count head) bs → IsChain old count head → IsChain new count head
+  chain-stays count head apart ok = chain_same old new count head same.count (same_apart (blocks_back old count head) old new apart same) ok
+
+  pub list-stays : (block_size head size : ℕ) → AreApart (blocks_back old (blocks_for block_size size) head) bs → IsList old block_size head size → IsList new block_size head size
+  list-stays block_size head size apart ok = list_same old new block_size head size same.count (same_apart (blocks_back old (blocks_for block_size size) head) old new apart same) ok
+
+  pub bytes-stay : (block_size head size : ℕ) → AreApart (blocks_back old (blocks_for block_size size) head) bs → bytes_of new block_size head size ≡ bytes_of old block_size head size
+  bytes-stay block_size head size apart = bytes_same old new block_size head size (same_apart (blocks_back old (blocks_for block_size size) head) old new apart same)

@@ -1,0 +1,88 @@
+-- A disk that has the same thread and files is accepted too, and shows the same tree. What the first pair has.
+use Rattle.std.proofs.Common.{ℕ, suc, ◌≡◌, ◌+◌, ◌<◌, true, List, [], ◌∷◌, ◌++◌, take, Some, refl, sym, ap, subst, ◌∙◌, arith}
+use Rattle.std.specs.Prelude.{All, slice_get, codes}
+use Rattle.std.specs.Option.{option_map}
+use Rattle.std.proofs.lemmas.List.Elements.{All-from_recursion, recursion_from_All}
+use Rattle.std.proofs.lemmas.List.Concat.{flat_map-append}
+use Rattle.lfs_model.specs.Disk.{Disk, block_count}
+use Rattle.lfs_model.specs.Slots.{Slot, gstate_xor}
+use Rattle.lfs_model.specs.Thread.{Pair, blocks_of, gstate_of, starts_with_superblock, superblocks_before, unmoved}
+use Rattle.lfs_model.specs.View.{HasSuperblock, IsListIfCtz, IsAccepted, all_slots, used_blocks}
+use Rattle.lfs_model.proofs.Counts.{Each, each_always, each_both, each_right, count}
+use Rattle.lfs_model.proofs.Changes.{Follows, SameFiles, rearranged_follows, owned_same}
+use Rattle.lfs_model.proofs.Files.{HasSameFile, is_list_same}
+use Rattle.lfs_model.proofs.Global.{gstate_append, gstate_cons}
+use Rattle.lfs_model.proofs.Splices.{IsDevice}
+use Rattle.lfs_model.proofs.Superblocks.{IsChain}
+use Rattle.lfs_model.proofs.Uses.{accepted_sound}
+
+-- ---- the first pair
+
+-- it has the superblock, by its name, in slot 0
+pub record HasFirst (slots : List Slot) : Type 0 where
+  pub kind : starts_with_superblock slots ≡ true
+  pub name : option_map (λ s. s.name) (slice_get slots 0) ≡ Some (codes "littlefs")
+
+pub accepted_first : (disk : Disk) (p : Pair) (rest : List Pair) → IsAccepted disk (p ∷ rest) → HasFirst p.content.slots
+accepted_first disk p rest ok = record {
+  kind = (headed p.content.slots (recursion_from_All (λ (x : Pair). HasSuperblock ok.superblock.0 x.content.slots) (p ∷ take (superblocks_before (p ∷ rest)) rest)
+      (subst (λ k. All (λ (x : Pair). HasSuperblock ok.superblock.0 x.content.slots) (take k (p ∷ rest))) more ok.superblock.1.1)).0);
+  name = ok.named;
+}
+  where
+    more : superblocks_before (p ∷ rest) + 1 ≡ suc (superblocks_before (p ∷ rest))
+    more = omega arith
+
+    headed : (slots : List Slot) → HasSuperblock ok.superblock.0 slots → starts_with_superblock slots ≡ true
+    headed [] h = absurd h
+    headed (s ∷ slots) h = h.0
+
+-- ---- the global state
+
+-- a pair that becomes another with the same share leaves it
+pub state_same : (front : List Pair) (p q : Pair) (back : List Pair) → q.content.move ≡ p.content.move → gstate_of (front ++ q ∷ back) ≡ gstate_of (front ++ p ∷ back)
+state_same front p q back move =
+    gstate_append front (q ∷ back)
+    ∙ ap (λ z. gstate_xor (gstate_of front) z) (gstate_cons q back ∙ ap (λ m. gstate_xor m (gstate_of back)) move ∙ sym (gstate_cons p back))
+    ∙ sym (gstate_append front (p ∷ back))
+
+-- ---- nothing came of it
+
+-- whatever move is set
+module _ (disk new : Disk) (chain : List Pair) (p : Pair) (rest : List Pair) (is_chain : IsChain chain (p ∷ rest)) (ok : IsAccepted disk (chain ++ p ∷ rest))
+    (device_same : IsDevice disk new (chain ++ p ∷ rest) (chain ++ p ∷ rest)) where
+  abbrev same_pairs : List Pair
+  same_pairs = chain ++ p ∷ rest
+
+  files_same : SameFiles disk new (all_slots same_pairs)
+  files_same = recursion_from_All (λ (s : Slot). HasSameFile disk new s.struct) (all_slots same_pairs) device_same.files
+
+  owns_same : used_blocks new same_pairs ≡ used_blocks disk same_pairs
+  owns_same = owned_same disk new (gstate_of same_pairs) (gstate_of same_pairs) same_pairs device_same.geometry
+      (each_always (λ r. unmoved (gstate_of same_pairs) r ≡ unmoved (gstate_of same_pairs) r) (λ r. refl) same_pairs) files_same
+
+  in_range_here : Each (λ b. b < block_count disk) (blocks_of (p ∷ []))
+  in_range_here =
+      let e = recursion_from_All (λ (b : ℕ). b < block_count disk) (blocks_of same_pairs) ok.thread.in_range in
+      let k = each_right (λ b. b < block_count disk) (blocks_of chain) (blocks_of (p ∷ rest)) (subst (Each (λ b. b < block_count disk)) (flat_map-append (λ (s : Pair). s.at.0 ∷ s.at.1 ∷ []) chain (p ∷ rest)) e) in
+      (k.0, (k.1.0, tt))
+
+  pub same_follows : Follows disk same_pairs new same_pairs (λ t. t) (λ d. d)
+  same_follows = rearranged_follows disk new chain [] p [] p [] rest [] is_chain ok
+      (record {
+        geometry = device_same.geometry;
+        contents = device_same.contents;
+        first = device_same.first;
+        files = device_same.files;
+        at = refl;
+        links = λ from h. h;
+        slots = λ m root h. h;
+        move = ok.move;
+        in_range = All-from_recursion (λ b. b < block_count disk) (blocks_of (p ∷ [])) in_range_here;
+        blocks = λ b. let e = ap (count b) owns_same in omega arith;
+        free = ok.owned_once;
+        lists = All-from_recursion (λ s. IsListIfCtz new s.struct) (all_slots same_pairs)
+            (each_both (λ s. HasSameFile disk new s.struct) (λ s. IsListIfCtz disk s.struct) (λ s. IsListIfCtz new s.struct) (λ s. is_list_same disk new s.struct device_same.geometry) (all_slots same_pairs)
+            files_same (recursion_from_All (λ (s : Slot). IsListIfCtz disk s.struct) (all_slots same_pairs) ok.lists));
+      })
+      (λ t. t) (λ d. d) (record { shows = refl; leads = refl; sound = accepted_sound disk same_pairs ok }) ok.branches ok.reached

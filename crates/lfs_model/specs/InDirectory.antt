@@ -1,0 +1,107 @@
+-- Where a name stands among the pairs of a directory, or where it belongs. Pairs are known by their numbers in the thread.
+use Rattle.std.specs.Prelude.{ℕ, ◌≡◌, ◌≢◌, ◌⊎◌, ◌+◌, not, Bool, true, false, if◌then◌else◌, List, [], ◌∷◌, ◌++◌, length, filter, slice_get, Some}
+use Rattle.std.specs.List.{flat_map, AllByRecursion}
+use Rattle.std.specs.declared.cmp.Ordering.TheVariants.{Less}
+use Rattle.lfs_model.specs.Names.{Name, name_cmp}
+use Rattle.lfs_model.specs.Slots.{Slot, is_superblock, same_pair}
+use Rattle.lfs_model.specs.Thread.{Pair, is_hard, starts_with_superblock}
+
+-- ---- in one pair
+
+-- the entries among slots: all but a superblock
+abbrev pub entries_only : List Slot → List Slot
+entries_only slots = filter (λ s. not (is_superblock s)) slots
+
+-- the slots of pairs, in turn
+abbrev pub slots_in : List Pair → List Slot
+slots_in ps = flat_map (λ p. p.content.slots) ps
+
+-- the entry at the id has the name
+pub record StandsAt (slots : List Slot) (name : Name) (id : ℕ) : Type 0 where
+  pub left : List Slot
+  pub slot : Slot
+  pub right : List Slot
+  pub held : slots ≡ left ++ slot ∷ right
+  pub number : length left ≡ id
+  pub entry : is_superblock slot ≡ false
+  pub named : slot.name ≡ name
+
+-- these begin with a greater name
+pub record BeginsAbove (name : Name) (slots : List Slot) : Type 0 where
+  pub first : Slot
+  pub rest : List Slot
+  pub are : slots ≡ first ∷ rest
+  pub above : name_cmp name first.name ≡ Less
+
+-- In front of the id all names are less; at the id there is a greater one, or nothing behind it.
+pub record PlaceAt (slots : List Slot) (name : Name) (id : ℕ) : Type 0 where
+  pub left : List Slot
+  pub right : List Slot
+  pub held : slots ≡ left ++ right
+  pub number : length left ≡ id
+  pub less : AllByRecursion (λ s. name_cmp s.name name ≡ Less) (entries_only left)
+  pub greater : (right ≡ []) ⊎ BeginsAbove name (entries_only right)
+  pub fronted : starts_with_superblock right ≡ false
+
+-- ---- in a directory
+
+abbrev pub IsJoined : Pair → Type 0
+IsJoined p = is_hard p.content.tail ≡ true
+
+-- a superblock stands at most in the first pair of a directory
+abbrev pub HaveNoSuperblock : List Pair → Type 0
+HaveNoSuperblock ps = AllByRecursion (λ p. AllByRecursion (λ s. is_superblock s ≡ false) p.content.slots) ps
+
+-- how many pairs hard tails join to the first, itself counted
+abbrev pub run_length : List Pair → ℕ
+run_length [] = 0
+run_length (p ∷ ps) = if is_hard p.content.tail then 1 + run_length ps else 1
+
+-- each of these pairs but the last has a hard tail
+abbrev pub Runs : Pair → List Pair → Type 0
+Runs p [] = Unit {0}
+Runs p (q ∷ qs) = IsJoined p × Runs q qs
+
+abbrev pub last_is_joined : Pair → List Pair → Bool
+last_is_joined p [] = is_hard p.content.tail
+last_is_joined p (q ∷ qs) = last_is_joined q qs
+
+-- a pair of the directory that begins with the pair of number `first`, and the directory's pairs in front of it
+pub record IsBehind (ps : List Pair) (first index : ℕ) (pair : Pair) (rest : List Pair) : Type 0 where
+  pub front : List Pair
+  pub left : List Pair
+  pub parts : ps ≡ front ++ (left ++ pair ∷ rest)
+  pub begins : length front ≡ first
+  pub number : length front + length left ≡ index
+  pub joined : AllByRecursion IsJoined left
+
+-- the pair of number `first` is at that address
+pub record BeginsAt (ps : List Pair) (at : ℕ × ℕ) (first : ℕ) : Type 0 where
+  pub pair : Pair
+  pub there : slice_get ps first ≡ Some pair
+  pub same : same_pair pair.at at ≡ true
+
+-- the name stands there
+pub record Stands (ps : List Pair) (first : ℕ) (name : Name) (index id : ℕ) : Type 0 where
+  pub pair : Pair
+  pub rest : List Pair
+  pub place : IsBehind ps first index pair rest
+  pub stands : StandsAt pair.content.slots name id
+
+-- The name belongs there: the pair is the directory's first or has an entry less than the name, and behind the place a greater
+-- name comes first, in this pair or a later one, or there is none in the directory.
+pub record Belongs (ps : List Pair) (first : ℕ) (name : Name) (index id : ℕ) : Type 0 where
+  pub pair : Pair
+  pub later : List Pair
+  pub rest : List Pair
+  pub place : IsBehind ps first index pair (later ++ rest)
+  pub runs : Runs pair later
+  pub left : List Slot
+  pub right : List Slot
+  pub held : pair.content.slots ≡ left ++ right
+  pub number : length left ≡ id
+  pub less : AllByRecursion (λ s. name_cmp s.name name ≡ Less) (entries_only left)
+  pub fronted : starts_with_superblock right ≡ false
+  pub not_before : (place.left ≡ []) ⊎ (entries_only left ≢ [])
+  pub not_behind : BeginsAbove name (entries_only (right ++ slots_in later))
+      ⊎ ((entries_only (right ++ slots_in later) ≡ []) × (last_is_joined pair later ≡ false))

@@ -42,6 +42,7 @@ pub mod Stops
 pub mod PowerLoss
 pub mod Outages
 pub mod RunExamples
+pub mod HistoryExamples
 pub mod Listing
 pub mod Sessions
 pub mod Source

@@ -25,3 +25,10 @@ returns-clause-other c = λ after stop. never stop.1
 pub returns-clause-none : goal.returns-clause-none
 unfolding chain_of chain_within commit_within entry_at closes crc_of next_bits
 returns-clause-none c = λ after. (record { count = refl; size = refl; others = λ b other. others b _ _ other }, inr refl)
+
+pub returns-clause-clean : goal.returns-clause-clean
+unfolding chain_of chain_within commit_within entry_at closes crc_of next_bits
+returns-clause-clean c = inr refl
+
+pub returns-clause-not_clean : goal.returns-clause-not_clean
+returns-clause-not_clean c = never

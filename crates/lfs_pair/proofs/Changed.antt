@@ -1,12 +1,17 @@
 -- What a pair holds after a commit, and what a stop on the way leaves of it.
 use Rattle.std.proofs.Common.{ℕ, zero, suc, get_or, ◌≡◌, ◌≢◌, ◌⊎◌, ◌+◌, ◌%◌, ◌^◌, ◌<◌, ◌≤◌, Bool, true, false, cond, List, [], ◌∷◌, ◌++◌, length, Option, Some, None, flat_map, refl, sym, ap, ◌∙◌, subst, arith, inl, inr, length-append}
-use Rattle.std.specs.Prelude.{nat_lt, unwrap_or}
+use Rattle.std.specs.Prelude.{nat_lt, slice_get, unwrap_or, is_some}
 use Rattle.std.specs.List.{list_all}
 use Rattle.std.proofs.lemmas.Bool.{lt-ltb, ltb-true}
 use Rattle.lfs_model.specs.Blocks.{Blocks, SameBut, block_in}
 use Rattle.lfs_model.specs.Disk.{Disk, block_at}
 use Rattle.lfs_model.specs.Log.{LogEntry, chain_of, revision_of, log_entries}
-use Rattle.lfs_model.specs.Content.{RawContent, has_commit, raw_at, content_after_all, no_content}
+use Rattle.lfs_model.specs.View.{BeginsWith}
+use Rattle.lfs_model.specs.Written.{FitsRaw, entries_of}
+use Rattle.lfs_model.specs.Logged.{IsLogged}
+use Rattle.std.proofs.lemmas.List.Concat.{flat_map-append}
+use Rattle.lfs_pair.proofs.Holders.{holder_is}
+use Rattle.lfs_model.specs.Content.{RawContent, has_commit, holder_at, raw_at, content_after_all, no_content, completed}
 use Rattle.lfs_model.specs.Changes.{Change, changed_by, entries_of_changes, is_storable}
 use Rattle.lfs_model.proofs.Appended.{appended_content}
 use Rattle.lfs_model.proofs.Histories.{StayUnprogrammed-wider}
@@ -20,9 +25,9 @@ use Rattle.lfs_model.specs.History.{Event, AllUnprogrammed, StayUnprogrammed}
 use Rattle.lfs_pair.specs.declared.pair.Pair.{Pair}
 use Rattle.lfs_pair.specs.Pair.{IsPair, second_holds, active_at, address_in, other_in}
 use Rattle.lfs_pair.specs.Writing.{Gets, Holds, LeftByCommit, LeftByWriting, LeftInBlock}
-use Rattle.lfs_pair.specs.Commit.{IsActive, IsAddressOn, LeftWithAny, NowHolds, OutsideStays, made_of, made_in, made_at}
+use Rattle.lfs_pair.specs.Commit.{IsActive, IsAddressOn, IsMade, IsNow, IsStill, KeepsFirst, LeftByChange, LeftWith, NowHolds, OutsideStays, made_of, made_in, made_at}
 use Rattle.lfs_pair.proofs.SameLogs.{entries_same}
-use Rattle.lfs_pair.proofs.TwoBlocks.{Sides, Stays, sides, raw_is, still_active, other_active, stays_same, stays_log, weaker_same, weaker_log, weaker_none, active_is, other_is, outside_one, sides_apart, below_count}
+use Rattle.lfs_pair.proofs.TwoBlocks.{active_block, Sides, Stays, sides, raw_is, still_active, other_active, stays_same, stays_log, weaker_same, weaker_log, weaker_none, active_is, other_is, outside_one, sides_apart, below_count}
 
 -- ---- what changes make
 
@@ -65,6 +70,35 @@ gets_stays b old left none had gets = record {
 pub ends_past : (block : List ℕ) → has_commit block ≡ true → 4 < (chain_of block).end
 ends_past block has = ltb-true 4 (chain_of block).end (sym (has_commit-end block) ∙ has)
 
+-- ---- the first entry
+
+-- the log of the block that holds, by which of the two it is
+pub holder_in : (disk : Disk) (at : ℕ × ℕ) (active : ℕ) → active ≡ active_at disk at → has_commit (block_at disk active) ≡ true → holder_at disk at ≡ Some (block_at disk active)
+holder_in disk at active is has =
+    let same = active_block disk at active is in
+    holder_is (block_at disk at.0) (block_at disk at.1) (sym (ap has_commit same) ∙ has) ∙ ap Some (sym same)
+
+begins_by : (old disk : Disk) (at : ℕ × ℕ) (active now : ℕ) (e : LogEntry) → active ≡ active_at old at → has_commit (block_at old active) ≡ true → now ≡ active_at disk at → has_commit (block_at disk now) ≡ true
+    → (slice_get (log_entries (block_at old active)) 0 ≡ Some e → slice_get (log_entries (block_at disk now)) 0 ≡ Some e) → BeginsWith (holder_at old at) e → BeginsWith (holder_at disk at) e
+begins_by old disk at active now e is had now_is has f h =
+    subst (λ o. BeginsWith o e) (sym (holder_in disk at now now_is has)) (f (subst (λ o. BeginsWith o e) (holder_in old at active is had) h))
+
+first_of : (xs ys : List LogEntry) (e : LogEntry) → slice_get xs 0 ≡ Some e → slice_get (xs ++ ys) 0 ≡ Some e
+first_of [] ys e h = absurd (cc)
+first_of (x ∷ xs) ys e h = h
+
+gets_first : (b : Building) (old left : List ℕ) (e : LogEntry) → b.revision ≡ None → Gets b old left → slice_get (log_entries old) 0 ≡ Some e → slice_get (log_entries left) 0 ≡ Some e
+gets_first b old left e none gets h =
+    ap (λ (cs : List (List LogEntry)). slice_get (flat_map (λ c. c) cs) 0) gets.commits
+    ∙ ap (λ (es : List LogEntry). slice_get es 0) (flat_map-append (λ (c : List LogEntry). c) (earlier b.revision old) ((b.entries ++ gets.checksum ∷ []) ∷ []))
+    ∙ first_of (flat_map (λ c. c) (earlier b.revision old)) (flat_map (λ c. c) ((b.entries ++ gets.checksum ∷ []) ∷ [])) e
+    (ap (λ r. slice_get (flat_map (λ c. c) (earlier r old)) 0) none ∙ h)
+
+holds_first : (revision : ℕ) (c : RawContent) (block : List ℕ) (e : LogEntry) → Holds revision c block → slice_get (entries_of c) 0 ≡ Some e → slice_get (log_entries block) 0 ≡ Some e
+holds_first revision c block e holds h =
+    ap (λ (cs : List (List LogEntry)). slice_get (flat_map (λ c. c) cs) 0) holds.commits
+    ∙ first_of (entries_of c ++ holds.checksum ∷ []) [] e (first_of (entries_of c) (holds.checksum ∷ []) e h)
+
 -- an append in progress
 pub record IsAppending (disk : Disk) (at : ℕ × ℕ) (active other : ℕ) (held new : RawContent) (b : Building) : Type 0 where
   pub sides : Sides disk at active other
@@ -97,21 +131,35 @@ appended disk at active other held new b left a same gets = record {
   content = gets_content b held new (block_at disk active) (block_in left active) a.no_revision a.held_is a.more gets;
 }
 
+pub appended_first : (disk : Disk) (at : ℕ × ℕ) (active other : ℕ) (held new : RawContent) (b : Building) (content : Option RawContent) (left : Blocks) → IsAppending disk at active other held new b
+    → SameBut active disk.blocks left → Gets b (block_at disk active) (block_in left active) → KeepsFirst disk at content (record disk { blocks = left })
+appended_first disk at active other held new b content left a same gets e begins anew =
+    let there = appended disk at active other held new b left a same gets in
+    begins_by disk (record disk { blocks = left }) at active active e a.is a.had there.active_is there.has (gets_first b (block_at disk active) (block_in left active) e a.no_revision gets) begins
+
 pub left_by_append : (disk : Disk) (at : ℕ × ℕ) (active other : ℕ) (held new : RawContent) (b : Building) (end : ℕ) (left : Blocks) → IsAppending disk at active other held new b
-    → end ≡ (chain_of (block_at disk active)).end → LeftInBlock active (LeftByCommit b end) disk.blocks left → LeftWithAny disk at (Some new) left
+    → end ≡ (chain_of (block_at disk active)).end → LeftInBlock active (LeftByCommit b end) disk.blocks left → LeftWith disk at new left
 left_by_append disk at active other held new b end left a is (same, which) = record {
   others = outside_one at active disk.blocks left (active_is disk at active other a.sides) same;
   content = go which;
 }
   where
-    go : LeftByCommit b end (block_at disk active) (block_in left active) → (raw_at (record disk { blocks = left }) at ≡ raw_at disk at) ⊎ (raw_at (record disk { blocks = left }) at ≡ Some new)
+    go : LeftByCommit b end (block_at disk active) (block_in left active) → IsStill disk at (record disk { blocks = left }) ⊎ IsNow disk at new (record disk { blocks = left })
     go (inl log) =
         let stays = stays_log (block_at disk active) (block_in left active) a.had log in
-        inl (raw_is (record disk { blocks = left }) at active (appended_active disk at active other held new b left a same stays) stays.has
-        ∙ ap (content_after_all no_content) (entries_same (block_in left active) (block_at disk active) log)
-        ∙ sym (raw_is disk at active a.is a.had))
+        let still = appended_active disk at active other held new b left a same stays in
+        inl (record {
+          content = raw_is (record disk { blocks = left }) at active still stays.has
+              ∙ ap (content_after_all no_content) (entries_same (block_in left active) (block_at disk active) log)
+              ∙ sym (raw_is disk at active a.is a.had);
+          first = λ e h. begins_by disk (record disk { blocks = left }) at active active e a.is a.had still stays.has
+              (λ was. ap (λ es. slice_get es 0) (entries_same (block_in left active) (block_at disk active) log) ∙ was) h;
+        })
     go (inr (inl (begins, none))) = absurd (let past = ends_past (block_at disk active) a.had in omega (arith, is, begins, past))
-    go (inr (inr gets)) = inr (raw_in (record disk { blocks = left }) at active new (appended disk at active other held new b left a same gets))
+    go (inr (inr gets)) = inr (record {
+      content = raw_in (record disk { blocks = left }) at active new (appended disk at active other held new b left a same gets);
+      first = appended_first disk at active other held new b (Some new) left a same gets;
+    })
 
 -- ---- a content written anew into the other block
 
@@ -134,8 +182,14 @@ compacted disk at active other revision new left k same holds =
       content = holds.content;
     }
 
+pub compacted_first : (disk : Disk) (at : ℕ × ℕ) (active other revision : ℕ) (new : RawContent) (left : Blocks) → IsCompacting disk at active other revision
+    → SameBut other disk.blocks left → Holds revision new (block_in left other) → KeepsFirst disk at (Some new) (record disk { blocks = left })
+compacted_first disk at active other revision new left k same holds e begins anew =
+    let there = compacted disk at active other revision new left k same holds in
+    begins_by disk (record disk { blocks = left }) at active other e k.is k.had there.active_is there.has (λ was. holds_first revision new (block_in left other) e holds anew) begins
+
 pub left_by_compaction : (disk : Disk) (at : ℕ × ℕ) (active other revision : ℕ) (new : RawContent) (left : Blocks) → IsCompacting disk at active other revision
-    → LeftInBlock other (LeftByWriting revision new) disk.blocks left → LeftWithAny disk at (Some new) left
+    → LeftInBlock other (LeftByWriting revision new) disk.blocks left → LeftWith disk at new left
 left_by_compaction disk at active other revision new left k (same, which) = record {
   others = outside_one at other disk.blocks left (other_is disk at active other k.sides) same;
   content = go which;
@@ -144,17 +198,23 @@ left_by_compaction disk at active other revision new left k (same, which) = reco
     stays : block_in left active ≡ block_at disk active
     stays = same.others active k.apart
 
-    before : (active ≡ active_at (record disk { blocks = left }) at) → raw_at (record disk { blocks = left }) at ≡ raw_at disk at
-    before still =
-        raw_is (record disk { blocks = left }) at active still (ap has_commit stays ∙ k.had)
-        ∙ ap (λ x. content_after_all no_content (log_entries x)) stays ∙ sym (raw_is disk at active k.is k.had)
+    before : (active ≡ active_at (record disk { blocks = left }) at) → IsStill disk at (record disk { blocks = left })
+    before still = record {
+      content = raw_is (record disk { blocks = left }) at active still (ap has_commit stays ∙ k.had)
+          ∙ ap (λ x. content_after_all no_content (log_entries x)) stays ∙ sym (raw_is disk at active k.is k.had);
+      first = λ e h. begins_by disk (record disk { blocks = left }) at active active e k.is k.had still (ap has_commit stays ∙ k.had)
+          (λ was. ap (λ x. slice_get (log_entries x) 0) stays ∙ was) h;
+    }
 
-    go : LeftByWriting revision new (block_at disk other) (block_in left other) → (raw_at (record disk { blocks = left }) at ≡ raw_at disk at) ⊎ (raw_at (record disk { blocks = left }) at ≡ Some new)
+    go : LeftByWriting revision new (block_at disk other) (block_in left other) → IsStill disk at (record disk { blocks = left }) ⊎ IsNow disk at new (record disk { blocks = left })
     go (inl log) =
         inl (before (still_active disk at active other left k.sides (stays_same (block_at disk active) (block_in left active) k.had stays) (weaker_log (block_at disk other) (block_in left other) log)))
     go (inr (inl none)) =
         inl (before (still_active disk at active other left k.sides (stays_same (block_at disk active) (block_in left active) k.had stays) (weaker_none (block_at disk other) (block_in left other) none)))
-    go (inr (inr holds)) = inr (raw_in (record disk { blocks = left }) at other new (compacted disk at active other revision new left k same holds))
+    go (inr (inr holds)) = inr (record {
+      content = raw_in (record disk { blocks = left }) at other new (compacted disk at active other revision new left k same holds);
+      first = compacted_first disk at active other revision new left k same holds;
+    })
 
 -- ---- by what the pair says
 
@@ -178,9 +238,9 @@ is_active disk history pair held is = record { active = is.active; has_commit = 
 pub now_holds : (disk : Disk) (history : List Event) (at : ℕ × ℕ) (pair : Pair) (active : ℕ) (c : RawContent) → IsIn disk at active c
     → address_in pair ≡ at → pair.active ≡ active → pair.is_fetched ≡ false
     → pair.end ≡ (chain_of (block_at disk active)).end → pair.last ≡ (chain_of (block_at disk active)).last → pair.revision ≡ revision_of (block_at disk active)
-    → pair.slot_count ≡ length c.slots → option_map tail_seen pair.tail ≡ c.tail → move_seen pair.move_state ≡ c.move
+    → pair.slot_count ≡ length c.slots → option_map tail_seen pair.tail ≡ c.tail → move_seen pair.move_state ≡ c.move → pair.is_complete ≡ is_some (completed c)
     → pair.end % disk.page ≡ 0 → AllUnprogrammed history active pair.end disk.block_size → NowHolds disk history at pair c
-now_holds disk history at pair active c in_block same is written end last revision slot_count tail moved pages behind = record {
+now_holds disk history at pair active c in_block same is written end last revision slot_count tail moved full pages behind = record {
   is_pair = record {
     active = is ∙ in_block.active_is ∙ ap (active_at disk) (sym same);
     has_commit = ap (λ b. has_commit (block_at disk b)) is ∙ in_block.has;
@@ -192,6 +252,7 @@ now_holds disk history at pair active c in_block same is written end last revisi
       slot_count = slot_count;
       tail = tail;
       move = moved;
+      complete = full;
     };
     whole_pages = λ w. pages;
     unprogrammed = λ w. subst (λ b. AllUnprogrammed history b pair.end disk.block_size) (sym is) behind;
@@ -261,8 +322,17 @@ made_here disk history pair held block changes new is here made =
     ap (λ h. made_of h changes) (raw_is disk (address_in pair) pair.active is.active is.has_commit) ∙ ap (λ b. made_in b changes) (sym here) ∙ made
 
 -- the disk itself, before a call
-pub left_alone : (disk : Disk) (at : ℕ × ℕ) (new : Option RawContent) → LeftWithAny disk at new disk.blocks
-left_alone disk at new = record { others = SameButThese-refl (at.0 ∷ at.1 ∷ []) disk.blocks; content = inl refl }
+pub left_alone : (disk : Disk) (at : ℕ × ℕ) (changes : List Change) → LeftByChange disk at changes disk.blocks
+left_alone disk at changes = record { others = SameButThese-refl (at.0 ∷ at.1 ∷ []) disk.blocks; content = inl (record { content = refl; first = λ e h. h }) }
+
+-- what changes make is what is left, where that isn't what was
+pub left_by_change : (disk : Disk) (at : ℕ × ℕ) (changes : List Change) (new : RawContent) (left : Blocks) → made_at disk at changes ≡ Some new → FitsRaw disk.block_size disk.page new → IsLogged new
+    → LeftWith disk at new left → LeftByChange disk at changes left
+left_by_change disk at changes new left made fits logged l = record { others = l.others; content = go l.content }
+  where
+    go : IsStill disk at (record disk { blocks = left }) ⊎ IsNow disk at new (record disk { blocks = left }) → IsStill disk at (record disk { blocks = left }) ⊎ IsMade disk at changes (record disk { blocks = left })
+    go (inl still) = inl still
+    go (inr now) = inr (record { new = new; made = made; fits = fits; logged = logged; now = now })
 
 second_alone : (a b : List ℕ) → has_commit b ≡ false → second_holds a b ≡ false
 second_alone a b none = rw none refl

@@ -8,7 +8,8 @@ use Rattle.lfs_model.specs.Blocks.{Blocks, block_in}
 use Rattle.lfs_model.specs.Disk.{Disk}
 use Rattle.lfs_model.specs.History.{Event, OnlyReads}
 use Rattle.lfs_model.specs.Slots.{null_address}
-use Rattle.lfs_model.specs.Content.{RawSlot, RawContent, raw_at}
+use Rattle.lfs_model.specs.Content.{RawSlot, RawContent, holder_at, raw_at}
+use Rattle.lfs_model.specs.Log.{LogEntry}
 use Rattle.lfs_model.specs.Logged.{HaveNames, HaveParts, IsLogged}
 use Rattle.lfs_model.specs.Written.{FitsRaw}
 use Rattle.lfs_model.specs.Changes.{Change}
@@ -17,9 +18,10 @@ use Rattle.lfs_model.proofs.Logged.{nothing_logged}
 use Rattle.lfs_model.proofs.Overwrites.{SameButThese-refl, SameButThese-trans, SameButThese-wider}
 use Rattle.lfs_pair.specs.declared.pair.Pair.{Pair}
 use Rattle.lfs_pair.specs.Pair.{address_in}
-use Rattle.lfs_pair.specs.Commit.{LeftWith, NowHolds, OutsideKeeps, OutsideStays, made_in, made_at}
+use Rattle.lfs_model.specs.View.{BeginsWith}
+use Rattle.lfs_pair.specs.Commit.{IsNow, IsStill, KeepsFirst, LeftWith, NowHolds, OutsideKeeps, OutsideStays, made_in, made_at}
 use Rattle.lfs_pair.specs.Split.{AreApart, AreParts, CanSplit, LeftBySplit, OutsideBothKeeps, OutsideBothStays}
-use Rattle.lfs_pair.proofs.Stay.{AreElsewhere, IsPair-reads, raw_at-stays}
+use Rattle.lfs_pair.proofs.Stay.{AreElsewhere, IsPair-reads, holder_at-stays, raw_at-stays}
 use Rattle.lfs_pair.proofs.TwoBlocks.{raw_is}
 use Rattle.lfs_pair.proofs.Changed.{made_here, made_is, some_same}
 
@@ -122,6 +124,7 @@ back_ready {block_size} {page} {whole} parts logged names =
 pub record IsSplitting (disk : Disk) (at fresh : ℕ × ℕ) (changes : List Change) (front back : RawContent) : Type 0 where
   pub whole : RawContent
   pub made : made_at disk at changes ≡ Some whole
+  pub logged : IsLogged whole
   pub parts : AreParts disk.block_size disk.page whole fresh front back
   pub apart : AreApart at fresh
   pub front_ready : IsReady disk.block_size disk.page front
@@ -141,6 +144,7 @@ is_splitting geometry here blocks history pair fresh block changes whole front b
     record {
       whole = whole;
       made = made;
+      logged = logged;
       parts = parts;
       apart = can.apart;
       front_ready = front_ready parts logged names (omega (arith, can.fresh_is.first, count, few)) (omega (arith, can.fresh_is.second, count, few));
@@ -166,24 +170,43 @@ raw_held {disk} {pair = pair} holds =
 
 -- before a call
 pub left_before : (old : Disk) (at fresh : ℕ × ℕ) (changes : List Change) → LeftBySplit old at fresh changes old.blocks
-left_before old at fresh changes = record { others = SameButThese-refl (at.0 ∷ at.1 ∷ fresh.0 ∷ fresh.1 ∷ []) old.blocks; content = inl refl }
+left_before old at fresh changes = record { others = SameButThese-refl (at.0 ∷ at.1 ∷ fresh.0 ∷ fresh.1 ∷ []) old.blocks; content = inl (record { content = refl; first = λ e h. h }) }
+
+still_elsewhere : (old : Disk) (at fresh : ℕ × ℕ) (left : Blocks) → AreApart at fresh → OutsideKeeps fresh old.blocks left → IsStill old at (record old { blocks = left })
+still_elsewhere old at fresh left apart same = record {
+  content = raw_at-stays old (pair_elsewhere apart) same;
+  first = λ e h. subst (λ o. BeginsWith o e) (sym (holder_at-stays old (pair_elsewhere apart) same)) h;
+}
+
+pub first_while_fresh : (old : Disk) (at fresh : ℕ × ℕ) (left : Blocks) → AreApart at fresh → OutsideKeeps fresh old.blocks left → (e : LogEntry) → BeginsWith (holder_at old at) e
+    → BeginsWith (holder_at (record old { blocks = left }) at) e
+first_while_fresh old at fresh left apart same = (still_elsewhere old at fresh left apart same).first
+
+-- the first entry stays where the fresh pair was written first
+pub first_behind : (old : Disk) (at fresh : ℕ × ℕ) (mid left : Blocks) (new : RawContent) → AreApart at fresh → OutsideKeeps fresh old.blocks mid
+    → KeepsFirst (record old { blocks = mid }) at (Some new) (record old { blocks = left }) → KeepsFirst old at (Some new) (record old { blocks = left })
+first_behind old at fresh mid left new apart same keeps e h anew = keeps e ((still_elsewhere old at fresh mid apart same).first e h) anew
 
 pub left_while_fresh : (old : Disk) (at fresh : ℕ × ℕ) (changes : List Change) (left : Blocks) → AreApart at fresh → OutsideKeeps fresh old.blocks left → LeftBySplit old at fresh changes left
-left_while_fresh old at fresh changes left apart same = record { others = keeps_by_fresh at fresh same; content = inl (raw_at-stays old (pair_elsewhere apart) same) }
+left_while_fresh old at fresh changes left apart same = record { others = keeps_by_fresh at fresh same; content = inl (still_elsewhere old at fresh left apart same) }
 
 pub left_while_old : (old : Disk) (at fresh : ℕ × ℕ) (changes : List Change) (mid left : Blocks) {whole front back : RawContent} → AreApart at fresh → OutsideKeeps fresh old.blocks mid
-    → made_at old at changes ≡ Some whole → AreParts old.block_size old.page whole fresh front back → raw_at (record old { blocks = mid }) fresh ≡ Some back
+    → made_at old at changes ≡ Some whole → IsLogged whole → AreParts old.block_size old.page whole fresh front back → raw_at (record old { blocks = mid }) fresh ≡ Some back
     → LeftWith (record old { blocks = mid }) at front left → LeftBySplit old at fresh changes left
-left_while_old old at fresh changes mid left {whole} apart same made parts held stopped = record {
+left_while_old old at fresh changes mid left {whole} {front} apart same made logged parts held stopped = record {
   others = keeps_by_both at fresh same stopped.others;
   content = elim stopped.content [
-    | inl was ↦ inl (was ∙ raw_at-stays old (pair_elsewhere apart) same)
+    | inl was ↦ inl (record {
+      content = was.content ∙ raw_at-stays old (pair_elsewhere apart) same;
+      first = λ e h. was.first e ((still_elsewhere old at fresh mid apart same).first e h);
+    })
     | inr is ↦ inr (record {
       new = whole;
       made = made;
+      logged = logged;
       cut = parts.cut;
       is_cut = parts.is_cut;
-      front = is ∙ ap Some parts.front_is;
+      front = subst (λ c. IsNow old at c (record old { blocks = left })) parts.front_is (record { content = is.content; first = first_behind old at fresh mid left front apart same is.first });
       back = raw_at-stays (record old { blocks = mid }) (fresh_elsewhere apart) stopped.others ∙ held ∙ ap Some parts.back_is;
     })
   ];

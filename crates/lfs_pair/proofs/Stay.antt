@@ -6,7 +6,7 @@ use Rattle.lfs_model.specs.Blocks.{Blocks, SameButThese}
 use Rattle.lfs_model.specs.Disk.{Disk, block_at}
 use Rattle.lfs_model.specs.Log.{log_entries, revision_of}
 use Rattle.lfs_model.specs.History.{Event, OnlyReads, StayUnprogrammed}
-use Rattle.lfs_model.specs.Content.{RawContent, has_commit, holder, raw_at, content_after_all, no_content}
+use Rattle.lfs_model.specs.Content.{RawContent, has_commit, holder, holder_at, raw_at, content_after_all, no_content}
 use Rattle.lfs_model.proofs.Histories.{AllUnprogrammed-reads, AllUnprogrammed-stays}
 use Rattle.lfs_pair.specs.declared.pair.Pair.{Pair}
 use Rattle.lfs_pair.specs.Pair.{IsPair, Describes, second_holds, active_at, address_in}
@@ -28,6 +28,10 @@ pub raw_at-stays : {at : ℕ × ℕ} {bs : List ℕ} (disk : Disk) {blocks : Blo
     → raw_at (record disk { blocks = blocks }) at ≡ raw_at disk at
 raw_at-stays {at} disk elsewhere same =
     ap₂ (λ a b. option_and_then (λ block. content_after_all no_content (log_entries block)) (holder a b)) (same.others at.0 elsewhere.first) (same.others at.1 elsewhere.second)
+
+pub holder_at-stays : {at : ℕ × ℕ} {bs : List ℕ} (disk : Disk) {blocks : Blocks} → AreElsewhere at bs → SameButThese bs disk.blocks blocks
+    → holder_at (record disk { blocks = blocks }) at ≡ holder_at disk at
+holder_at-stays {at} disk elsewhere same = ap₂ holder (same.others at.0 elsewhere.first) (same.others at.1 elsewhere.second)
 
 pub IsAddressOn-stays : {at : ℕ × ℕ} {bs : List ℕ} {disk : Disk} {blocks : Blocks} → SameButThese bs disk.blocks blocks → IsAddressOn disk at → IsAddressOn (record disk { blocks = blocks }) at
 IsAddressOn-stays {at} same on = record {

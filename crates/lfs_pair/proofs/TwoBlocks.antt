@@ -20,7 +20,7 @@ picked : (disk : Disk) (at : ℕ × ℕ) (s : Bool) → block_at disk (cond s at
 picked disk at true = refl
 picked disk at false = refl
 
-active_block : (disk : Disk) (at : ℕ × ℕ) (active : ℕ) → active ≡ active_at disk at
+pub active_block : (disk : Disk) (at : ℕ × ℕ) (active : ℕ) → active ≡ active_at disk at
     → block_at disk active ≡ cond (second_holds (block_at disk at.0) (block_at disk at.1)) (block_at disk at.1) (block_at disk at.0)
 active_block disk at active is = ap (block_at disk) is ∙ picked disk at (second_holds (block_at disk at.0) (block_at disk at.1))
 

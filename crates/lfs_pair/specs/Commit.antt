@@ -1,12 +1,13 @@
 -- What a commit to a pair does.
-use Rattle.std.specs.Prelude.{ℕ, ◌≡◌, ◌≢◌, ◌⊎◌, ◌+◌, ◌%◌, ◌^◌, ◌++◌, ◌<◌, ◌≤◌, false, true, List, [], ◌∷◌, take, Option, Some}
+use Rattle.std.specs.Prelude.{ℕ, ◌≡◌, ◌≢◌, ◌⊎◌, ◌+◌, ◌%◌, ◌^◌, ◌++◌, ◌<◌, ◌≤◌, false, true, List, [], ◌∷◌, take, slice_get, Option, Some, None}
 use Rattle.std.specs.Option.{option_and_then}
 use Rattle.lfs_model.specs.Blocks.{Blocks, SameBut, SameButThese, block_in}
 use Rattle.lfs_model.specs.Disk.{Disk, block_at, block_count}
 use Rattle.lfs_model.specs.History.{Event, StayUnprogrammed, erases}
 use Rattle.lfs_model.specs.Log.{LogEntry, chain_of, log_entries, revision_of}
-use Rattle.lfs_model.specs.Logged.{HaveNames}
-use Rattle.lfs_model.specs.Content.{RawContent, has_commit, raw_at, content_after_all, no_content}
+use Rattle.lfs_model.specs.Logged.{HaveNames, IsLogged}
+use Rattle.lfs_model.specs.Content.{RawContent, has_commit, holder_at, raw_at, content_after_all, no_content}
+use Rattle.lfs_model.specs.View.{BeginsWith}
 use Rattle.lfs_model.specs.Changes.{Change, changed_by, entries_of_changes}
 use Rattle.lfs_model.specs.Commit.{entries_size, page_end}
 use Rattle.lfs_model.specs.Written.{FitsRaw, entries_of}
@@ -14,6 +15,25 @@ use Rattle.lfs_model.specs.Tag.{class_of}
 use Rattle.lfs_pair.specs.Writing.{Holds}
 use Rattle.lfs_pair.specs.declared.pair.Pair.{Pair}
 use Rattle.lfs_pair.specs.Pair.{IsPair, active_at, address_in}
+
+-- what is written anew begins with that entry
+abbrev pub BeginsAnew : Option RawContent → LogEntry → Type 0
+BeginsAnew None e = ⊥
+BeginsAnew (Some c) e = slice_get (entries_of c) 0 ≡ Some e
+
+-- the log that holds begins as it did, where that content written anew begins so too
+abbrev pub KeepsFirst : Disk → ℕ × ℕ → Option RawContent → Disk → Type 0
+KeepsFirst old at new disk = (e : LogEntry) → BeginsWith (holder_at old at) e → BeginsAnew new e → BeginsWith (holder_at disk at) e
+
+-- the pair holds what it held, and its log begins as it did
+pub record IsStill (old : Disk) (at : ℕ × ℕ) (disk : Disk) : Type 0 where
+  pub content : raw_at disk at ≡ raw_at old at
+  pub first : (e : LogEntry) → BeginsWith (holder_at old at) e → BeginsWith (holder_at disk at) e
+
+-- the pair holds that
+pub record IsNow (old : Disk) (at : ℕ × ℕ) (new : RawContent) (disk : Disk) : Type 0 where
+  pub content : raw_at disk at ≡ Some new
+  pub first : KeepsFirst old at (Some new) disk
 
 -- a pair's address: two blocks of the disk
 pub record IsAddressOn (disk : Disk) (at : ℕ × ℕ) : Type 0 where
@@ -58,7 +78,9 @@ pub record Commits (old : Disk) (changes : List Change) (was : Pair) (disk : Dis
   pub new : RawContent
   pub made : made_at old (address_in was) changes ≡ Some new
   pub fits : FitsRaw old.block_size old.page new
+  pub logged : IsLogged new
   pub holds : NowHolds disk history (address_in was) pair new
+  pub first : KeepsFirst old (address_in was) (Some new) disk
 
 -- the changes can be appended: something was written since the fetch, and the padded commit ends within the block
 pub record Appends (disk : Disk) (pair : Pair) (changes : List Change) : Type 0 where
@@ -98,13 +120,19 @@ abbrev pub OutsideStays : ℕ × ℕ → List Event → List Event → Type 0
 OutsideStays at old new = StayUnprogrammed (at.0 ∷ at.1 ∷ []) old new
 
 -- a stop leaves the pair with what it held, or with that content, and other blocks as they are
-pub record LeftWithAny (old : Disk) (at : ℕ × ℕ) (new : Option RawContent) (left : Blocks) : Type 0 where
+pub record LeftWith (old : Disk) (at : ℕ × ℕ) (new : RawContent) (left : Blocks) : Type 0 where
   pub others : OutsideKeeps at old.blocks left
-  pub content : (raw_at (record old { blocks = left }) at ≡ raw_at old at) ⊎ (raw_at (record old { blocks = left }) at ≡ new)
+  pub content : IsStill old at (record old { blocks = left }) ⊎ IsNow old at new (record old { blocks = left })
 
-abbrev pub LeftWith : Disk → ℕ × ℕ → RawContent → Blocks → Type 0
-LeftWith old at new left = LeftWithAny old at (Some new) left
+-- the pair holds what the changes make, and that fits
+pub record IsMade (old : Disk) (at : ℕ × ℕ) (changes : List Change) (disk : Disk) : Type 0 where
+  pub new : RawContent
+  pub made : made_at old at changes ≡ Some new
+  pub fits : FitsRaw old.block_size old.page new
+  pub logged : IsLogged new
+  pub now : IsNow old at new disk
 
--- the same with all that changes make
-abbrev pub LeftByChange : Disk → ℕ × ℕ → List Change → Blocks → Type 0
-LeftByChange old at changes left = LeftWithAny old at (made_at old at changes) left
+-- the same with what changes make
+pub record LeftByChange (old : Disk) (at : ℕ × ℕ) (changes : List Change) (left : Blocks) : Type 0 where
+  pub others : OutsideKeeps at old.blocks left
+  pub content : IsStill old at (record old { blocks = left }) ⊎ IsMade old at changes (record old { blocks = left })

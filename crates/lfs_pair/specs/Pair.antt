@@ -1,11 +1,11 @@
 -- What is kept of a pair, as the disk has it.
-use Rattle.std.specs.Prelude.{ℕ, ◌≡◌, ◌==◌, ◌%◌, ◌&&◌, ◌||◌, not, Bool, true, false, if◌then◌else◌, List, length, Some}
+use Rattle.std.specs.Prelude.{ℕ, ◌≡◌, ◌==◌, ◌%◌, ◌&&◌, ◌||◌, not, Bool, true, false, if◌then◌else◌, List, length, Some, is_some}
 use Rattle.std.specs.Option.{option_map}
 use Rattle.lfs_model.specs.Disk.{Disk, block_at}
 use Rattle.lfs_model.specs.History.{Event, AllUnprogrammed}
 use Rattle.lfs_model.specs.Log.{chain_of, revision_of, log_entries}
 use Rattle.lfs_model.specs.Slots.{address_of}
-use Rattle.lfs_model.specs.Content.{RawContent, has_commit, is_later, content_after_all, no_content, raw_at}
+use Rattle.lfs_model.specs.Content.{RawContent, has_commit, is_later, content_after_all, no_content, raw_at, completed}
 use Rattle.lfs_tag.specs.ContentSeen.{tail_seen}
 use Rattle.lfs_tag.specs.FieldsSeen.{move_seen}
 use Rattle.lfs_pair.specs.declared.pair.Pair.{Pair}
@@ -29,6 +29,7 @@ pub record Describes (block : List ℕ) (pair : Pair) (held : RawContent) : Type
   pub slot_count : pair.slot_count ≡ length held.slots
   pub tail : option_map tail_seen pair.tail ≡ held.tail
   pub move : move_seen pair.move_state ≡ held.move
+  pub complete : pair.is_complete ≡ is_some (completed held)
 
 -- of two blocks the second holds: it has a commit, and the first has none or an earlier revision
 abbrev pub second_holds : List ℕ → List ℕ → Bool

@@ -5,10 +5,11 @@ use Rattle.lfs_model.specs.Disk.{Disk, block_at}
 use Rattle.lfs_model.specs.History.{Event, StayUnprogrammed}
 use Rattle.lfs_model.specs.Slots.{no_gstate}
 use Rattle.lfs_model.specs.Content.{RawContent, has_commit, raw_at}
+use Rattle.lfs_model.specs.Logged.{IsLogged}
 use Rattle.lfs_model.specs.Changes.{Change}
 use Rattle.lfs_pair.specs.declared.pair.Pair.{Pair}
 use Rattle.lfs_pair.specs.Pair.{address_in}
-use Rattle.lfs_pair.specs.Commit.{IsAddressOn, CanCommit, NowHolds, made_at}
+use Rattle.lfs_pair.specs.Commit.{IsAddressOn, CanCommit, IsNow, IsStill, KeepsFirst, NowHolds, made_at}
 use Rattle.lfs_pair.specs.Writing.{Holds}
 use Rattle.lfs_pair.specs.Cut.{CanBeCut, IsCut}
 
@@ -45,10 +46,12 @@ pub record AreParts (block_size page : ℕ) (whole : RawContent) (fresh : ℕ ×
 pub record Splits (old : Disk) (changes : List Change) (was : Pair) (fresh : ℕ × ℕ) (disk : Disk) (history : List Event) (pair fresh_pair : Pair) : Type 0 where
   pub new : RawContent
   pub made : made_at old (address_in was) changes ≡ Some new
+  pub logged : IsLogged new
   pub cut : ℕ
   pub is_cut : IsCut old.block_size old.page new.slots cut
   pub front : NowHolds disk history (address_in was) pair (front_of new cut fresh)
   pub back : NowHolds disk history fresh fresh_pair (back_of new cut)
+  pub first : KeepsFirst old (address_in was) (Some (front_of new cut fresh)) disk
   -- the front is written anew into the block that didn't hold, with the next revision, and the other stays as it is
   pub moved : pair.active ≢ was.active
   pub kept : block_at disk was.active ≡ block_at old was.active
@@ -62,9 +65,10 @@ pub record Splits (old : Disk) (changes : List Change) (was : Pair) (fresh : ℕ
 pub record AreParted (old : Disk) (at fresh : ℕ × ℕ) (changes : List Change) (disk : Disk) : Type 0 where
   pub new : RawContent
   pub made : made_at old at changes ≡ Some new
+  pub logged : IsLogged new
   pub cut : ℕ
   pub is_cut : IsCut old.block_size old.page new.slots cut
-  pub front : raw_at disk at ≡ Some (front_of new cut fresh)
+  pub front : IsNow old at (front_of new cut fresh) disk
   pub back : raw_at disk fresh ≡ Some (back_of new cut)
 
 -- no block but those of the two pairs changes
@@ -78,4 +82,4 @@ OutsideBothStays at fresh old new = StayUnprogrammed (at.0 ∷ at.1 ∷ fresh.0 
 -- a stop leaves the pair with what it held, or both pairs with their parts
 pub record LeftBySplit (old : Disk) (at fresh : ℕ × ℕ) (changes : List Change) (left : Blocks) : Type 0 where
   pub others : OutsideBothKeeps at fresh old.blocks left
-  pub content : (raw_at (record old { blocks = left }) at ≡ raw_at old at) ⊎ AreParted old at fresh changes (record old { blocks = left })
+  pub content : IsStill old at (record old { blocks = left }) ⊎ AreParted old at fresh changes (record old { blocks = left })

@@ -11,7 +11,7 @@ ghost use Rattle.lfs_model.specs.Logged.{HaveNames, IsLogged};
 ghost use Rattle.lfs_tag.specs.ContentSeen.{content_seen};
 ghost use Rattle.lfs_pair.specs.Pair.{address_in};
 ghost use Rattle.lfs_pair.specs.ChangeSeen.{changes_seen};
-ghost use Rattle.lfs_pair.specs.Commit.{made_at, CanCommit, Commits, NowHolds, Appends, IsAddressOn, IsAppended, IsCompacted, OutsideKeeps, OutsideStays, IsActive, LeftByChange, LeftWith};
+ghost use Rattle.lfs_pair.specs.Commit.{made_at, CanCommit, Commits, NowHolds, Appends, IsAddressOn, IsAppended, IsCompacted, OutsideKeeps, OutsideStays, IsActive, KeepsFirst, LeftByChange, LeftWith};
 
 use crate::change::Change;
 use crate::entries::push_changes;
@@ -74,6 +74,7 @@ pub fn commit<D: BlockDevice>(
     ensures full_same { result ≡ Ok Outcome.Full → D.blocks dev.new ≡ D.blocks dev.old }
     ensures full_reads { result ≡ Ok Outcome.Full → OnlyReads (D.blocks dev.old) (D.history dev.old) (D.history dev.new) }
     ensures no_memory { result ≡ Err Error.NoMemory → D.blocks dev.new ≡ D.blocks dev.old }
+    ensures no_fault { result ≡ Err Error.NoMemory → faults (D.history dev.new) ≡ faults (D.history dev.old) }
     ensures no_memory_reads { result ≡ Err Error.NoMemory → OnlyReads (D.blocks dev.old) (D.history dev.old) (D.history dev.new) }
     ensures err_pair { OnErr result (pair.new ≡ pair.old) }
     ensures errors { IfErr result (λ e. (e ≡ Error.Io) ⊎ (e ≡ Error.NoMemory)) }
@@ -157,6 +158,8 @@ fn append<D: BlockDevice>(
 
     ensures done { result ≡ Ok true
         → NowHolds (disk_of (D.geometry dev.new) (D.blocks dev.new)) (D.history dev.new) (address_in pair.old) pair.new (content_seen content.now) }
+    ensures first { result ≡ Ok true
+        → KeepsFirst (disk_of (D.geometry dev.old) (D.blocks dev.old)) (address_in pair.old) (Some (content_seen content.now)) (disk_of (D.geometry dev.new) (D.blocks dev.new)) }
     ensures appends { result ≡ Ok true → Appends (disk_of (D.geometry dev.old) (D.blocks dev.old)) pair.old (changes_seen changes.now) }
     ensures appended { result ≡ Ok true → IsAppended (D.geometry dev.old).page pair.old (changes_seen changes.now) (D.blocks dev.old) (D.blocks dev.new) (D.history dev.old) (D.history dev.new) pair.new }
     ensures no_room { result ≡ Ok false → ¬ Appends (disk_of (D.geometry dev.old) (D.blocks dev.old)) pair.old (changes_seen changes.now) }
@@ -170,7 +173,7 @@ fn append<D: BlockDevice>(
     ensures others { OutsideKeeps (address_in pair.old) (D.blocks dev.old) (D.blocks dev.new) }
     ensures elsewhere { OutsideStays (address_in pair.old) (D.history dev.old) (D.history dev.new) }
     ensures geometry { D.geometry dev.new ≡ D.geometry dev.old }
-    ensures stops { LeavesOnly Stops (D.history dev.old) (D.history dev.new) (LeftByChange (disk_of (D.geometry dev.old) (D.blocks dev.old)) (address_in pair.old) (changes_seen changes.now)) }
+    ensures stops { LeavesOnly Stops (D.history dev.old) (D.history dev.new) (LeftWith (disk_of (D.geometry dev.old) (D.blocks dev.old)) (address_in pair.old) (content_seen content.now)) }
     ensures at_worst { LeavesOnly AtWorst (D.history dev.old) (D.history dev.new) (OutsideKeeps (address_in pair.old) (D.blocks dev.old)) }
 {
     let geometry = dev.geometry();
@@ -201,6 +204,7 @@ pub(crate) fn compact<D: BlockDevice>(
 
     ensures buf { length buf.new ≡ length buf.old }
     ensures done { OnOk result (NowHolds (disk_of (D.geometry dev.new) (D.blocks dev.new)) (D.history dev.new) (address_in pair.old) pair.new (content_seen content.now)) }
+    ensures first { OnOk result (KeepsFirst (disk_of (D.geometry dev.old) (D.blocks dev.old)) (address_in pair.old) (Some (content_seen content.now)) (disk_of (D.geometry dev.new) (D.blocks dev.new))) }
     ensures compacted { OnOk result (IsCompacted (D.geometry dev.old).page pair.old (content_seen content.now) (D.blocks dev.old) (D.blocks dev.new) (D.history dev.old) (D.history dev.new) pair.new) }
     ensures err_pair { OnErr result (pair.new ≡ pair.old) }
     ensures errors { IfErr result (λ e. e ≡ Error.Io) }

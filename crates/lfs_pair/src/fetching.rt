@@ -8,7 +8,7 @@ ghost use Rattle.lfs_model.specs.Log.{log_entries};
 ghost use Rattle.lfs_model.specs.Content.{raw_at, content_after_all, no_content, RawContent};
 ghost use Rattle.lfs_pair.specs.Pair.{Describes, Fetches};
 
-use crate::pair::Pair;
+use crate::pair::{Pair, are_complete};
 use crate::reading::{Head, head_of};
 use lfs_device::{BlockDevice, Error, read_block};
 use lfs_tag::{Content, ContentError, Log};
@@ -34,6 +34,7 @@ fn described(alloc: Global, blocks: [u32; 2], active: u32, bytes: &[u8]) -> Resu
             slot_count: content.slots.len(),
             tail: content.tail,
             move_state: content.move_state,
+            is_complete: are_complete(&content.slots),
             is_fetched: true,
         }),
         Err(ContentError::Malformed) => Err(Error::Corrupt),
@@ -56,6 +57,7 @@ pub fn fetch<D: BlockDevice>(alloc: Global, dev: &mut D, blocks: [u32; 2]) -> Re
     ensures corrupt { result ≡ Err Error.Corrupt → raw_at (disk_of (D.geometry dev.old) (D.blocks dev.old)) (address_of blocks) ≡ None }
     ensures errors { IfErr result (λ e. (e ≡ Error.Corrupt) ⊎ (e ≡ Error.NoMemory) ⊎ (e ≡ Error.Io)) }
     ensures fault { result ≡ Err Error.Io → faults (D.history dev.old) < faults (D.history dev.new) }
+    ensures no_fault { ¬ (result ≡ Err Error.Io) → faults (D.history dev.new) ≡ faults (D.history dev.old) }
 
     ensures same { D.blocks dev.new ≡ D.blocks dev.old }
     ensures geometry { D.geometry dev.new ≡ D.geometry dev.old }

@@ -1,13 +1,26 @@
 // What is kept of a pair.
 
-ghost use Rattle.std.specs.Prelude.{◌≡◌, false, length};
+ghost use Rattle.std.specs.Prelude.{◌≡◌, false, is_some, length, map};
 ghost use Rattle.std.specs.Option.{option_map};
 ghost use Rattle.lfs_tag.specs.FieldsSeen.{move_seen};
-ghost use Rattle.lfs_tag.specs.ContentSeen.{content_seen, tail_seen};
+ghost use Rattle.lfs_model.specs.Content.{complete_all, completed};
+ghost use Rattle.lfs_tag.specs.ContentSeen.{content_seen, slot_seen, tail_seen};
 ghost use Rattle.lfs_pair.specs.Pair.{other_in};
 
 use crate::writing::Written;
-use lfs_tag::{Content, MoveState, Tag, Tail};
+use lfs_tag::{Content, MoveState, Slot, Tag, Tail};
+
+// Whether each of these slots has a name and a struct.
+pub(crate) fn are_complete(slots: &[Slot<'_>]) -> bool
+    ensures { result ≡ is_some (complete_all (map slot_seen slots.now)) }
+{
+    for slot in slots {
+        if slot.name.is_none() || slot.structure.is_none() {
+            return false;
+        }
+    }
+    true
+}
 
 /// What is known of a pair without its slots: enough to append to the block that holds.
 #[derive(Clone, Copy, Debug, PartialEq, Eq, Drop)]
@@ -27,6 +40,8 @@ pub struct Pair {
     pub tail: Option<Tail>,
     /// The pair's share of the global state.
     pub move_state: MoveState,
+    /// Each of its slots has a name and a struct.
+    pub is_complete: bool,
     /// Nothing was written since it was fetched, so what lies past its end isn't known.
     pub is_fetched: bool,
 }
@@ -59,6 +74,7 @@ impl Pair {
         ensures slot_count { result.slot_count ≡ length (content_seen content.now).slots }
         ensures tail { option_map tail_seen result.tail ≡ (content_seen content.now).tail }
         ensures move_state { move_seen result.move_state ≡ (content_seen content.now).move }
+        ensures complete { result.is_complete ≡ is_some (completed (content_seen content.now)) }
         ensures fetched { result.is_fetched ≡ false }
     {
         Pair {
@@ -70,6 +86,7 @@ impl Pair {
             slot_count: content.slots.len(),
             tail: content.tail,
             move_state: content.move_state,
+            is_complete: are_complete(&content.slots),
             is_fetched: false,
         }
     }

@@ -49,6 +49,7 @@ pub(crate) fn head_of<D: BlockDevice>(alloc: Global, dev: &mut D, block: u32) ->
     ensures reads { OnlyReads (D.blocks dev.old) (D.history dev.old) (D.history dev.new) }
     ensures errors { IfErr result (λ e. (e ≡ Error.NoMemory) ⊎ (e ≡ Error.Io)) }
     ensures fault { result ≡ Err Error.Io → faults (D.history dev.old) < faults (D.history dev.new) }
+    ensures no_fault { ¬ (result ≡ Err Error.Io) → faults (D.history dev.new) ≡ faults (D.history dev.old) }
 {
     let bytes = read_block(alloc, dev, block)?;
     Ok(Head::of(&bytes))

@@ -49,6 +49,7 @@ pub fn split<D: BlockDevice>(
         (disk_of (D.geometry dev.new) (D.blocks dev.new)) (D.history dev.new) pair.new fresh_pair) }
     ensures erases { OnOk result (erases (D.history dev.new) ≡ erases (D.history dev.old) + 3) }
     ensures no_memory { result ≡ Err Error.NoMemory → D.blocks dev.new ≡ D.blocks dev.old }
+    ensures no_fault { result ≡ Err Error.NoMemory → faults (D.history dev.new) ≡ faults (D.history dev.old) }
     ensures no_memory_reads { result ≡ Err Error.NoMemory → OnlyReads (D.blocks dev.old) (D.history dev.old) (D.history dev.new) }
     ensures err_pair { OnErr result (pair.new ≡ pair.old) }
     ensures errors { IfErr result (λ e. (e ≡ Error.Io) ⊎ (e ≡ Error.NoMemory)) }

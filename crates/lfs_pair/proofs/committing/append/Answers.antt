@@ -15,10 +15,12 @@ use Rattle.lfs_tag.specs.Builder.{Building}
 use Rattle.lfs_tag.specs.ContentSeen.{content_seen}
 use Rattle.lfs_pair.specs.Pair.{address_in}
 use Rattle.lfs_pair.specs.Writing.{with_entries}
-use Rattle.lfs_pair.specs.Commit.{NowHolds, LeftWithAny}
+use Rattle.std.specs.Prelude.{is_some}
+use Rattle.lfs_model.specs.Content.{completed}
+use Rattle.lfs_pair.specs.Commit.{NowHolds, KeepsFirst, LeftWith}
 use Rattle.lfs_pair.specs.ChangeSeen.{changes_seen}
 use Rattle.lfs_pair.proofs.TwoBlocks.{outside_one}
-use Rattle.lfs_pair.proofs.Changed.{is_appending, appended, active_among, active_below, now_holds, left_by_append, ends_in_block, made_is, some_same, gets_revision, stays_outside}
+use Rattle.lfs_pair.proofs.Changed.{is_appending, appended, appended_first, active_among, active_below, now_holds, left_by_append, ends_in_block, made_is, some_same, gets_revision, stays_outside}
 use Rattle.lfs_pair.proofs.committing.append.Goals as goal
 
 pub overflow_cast-room : goal.overflow_cast-room
@@ -52,8 +54,8 @@ returns-in_err-written-clause-stops g c =
     let can = c.requires.can in
     let built = c.push_changes.ensures ∙ ap (with_entries (entries_of_changes (changes_seen c.args.changes.now))) c.new-builder.ensures in
     let ready = is_appending _ _ c.args.pair.now can.held can.new (changes_seen c.args.changes.now) c.push_changes.new.builder can.address can.is_pair can.changed (ap (λ (b : Building). b.entries) built) (ap (λ (b : Building). b.revision) built) in
-    LeavesOnly-weaker (λ disk left. subst (λ new. LeftWithAny (disk_of (g.D.BlockDevice.geometry c.args.dev.now) (g.D.BlockDevice.blocks c.args.dev.now)) (address_in c.args.pair.now) new disk)
-    (sym (made_is _ _ c.args.pair.now can.held (changes_seen c.args.changes.now) can.is_pair ∙ can.changed))
+    let new : Some can.new ≡ Some (content_seen c.args.content.now) = sym (made_is _ _ c.args.pair.now can.held (changes_seen c.args.changes.now) can.is_pair ∙ can.changed) ∙ c.requires.made in
+    LeavesOnly-weaker (λ disk left. subst (λ k. LeftWith (disk_of (g.D.BlockDevice.geometry c.args.dev.now) (g.D.BlockDevice.blocks c.args.dev.now)) (address_in c.args.pair.now) k disk) (some_same new)
     (left_by_append _ _ _ _ _ _ _ c.args.pair.now.end disk ready can.is_pair.describes.end left)) c.in_err-written.ensures.stops
 
 pub returns-clause-done : goal.returns-clause-done
@@ -70,7 +72,7 @@ returns-clause-done g c done =
     (ap address_of c.written.ensures.blocks) c.written.ensures.active c.written.ensures.fetched
     (c.written.ensures.end ∙ c.in_ok-written.ensures.chain) (c.written.ensures.last ∙ c.in_ok-written.ensures.last)
     (c.written.ensures.revision ∙ can.is_pair.describes.revision ∙ sym (gets_revision c.push_changes.new.builder _ _ ready.no_revision c.in_ok-written.ensures.commit))
-    (c.written.ensures.slot_count ∙ ap (λ k. length k.slots) (sym (some_same new))) (c.written.ensures.tail ∙ ap (λ k. k.tail) (sym (some_same new))) (c.written.ensures.move_state ∙ ap (λ k. k.move) (sym (some_same new)))
+    (c.written.ensures.slot_count ∙ ap (λ k. length k.slots) (sym (some_same new))) (c.written.ensures.tail ∙ ap (λ k. k.tail) (sym (some_same new))) (c.written.ensures.move_state ∙ ap (λ k. k.move) (sym (some_same new))) (c.written.ensures.complete ∙ ap (λ k. is_some (completed k)) (sym (some_same new)))
     (ap (λ e. e % (g.D.BlockDevice.geometry c.args.dev.now).page) c.written.ensures.end ∙ c.in_ok-written.ensures.pages)
     (subst (λ e. AllUnprogrammed (g.D.BlockDevice.history c.program.new.dev) c.args.pair.now.active e (g.D.BlockDevice.geometry c.args.dev.now).block_size) (sym c.written.ensures.end) c.in_ok-written.ensures.behind)))
 
@@ -82,8 +84,8 @@ returns-clause-stops g c =
     let can = c.requires.can in
     let built = c.push_changes.ensures ∙ ap (with_entries (entries_of_changes (changes_seen c.args.changes.now))) c.new-builder.ensures in
     let ready = is_appending _ _ c.args.pair.now can.held can.new (changes_seen c.args.changes.now) c.push_changes.new.builder can.address can.is_pair can.changed (ap (λ (b : Building). b.entries) built) (ap (λ (b : Building). b.revision) built) in
-    LeavesOnly-weaker (λ disk left. subst (λ new. LeftWithAny (disk_of (g.D.BlockDevice.geometry c.args.dev.now) (g.D.BlockDevice.blocks c.args.dev.now)) (address_in c.args.pair.now) new disk)
-    (sym (made_is _ _ c.args.pair.now can.held (changes_seen c.args.changes.now) can.is_pair ∙ can.changed))
+    let new : Some can.new ≡ Some (content_seen c.args.content.now) = sym (made_is _ _ c.args.pair.now can.held (changes_seen c.args.changes.now) can.is_pair ∙ can.changed) ∙ c.requires.made in
+    LeavesOnly-weaker (λ disk left. subst (λ k. LeftWith (disk_of (g.D.BlockDevice.geometry c.args.dev.now) (g.D.BlockDevice.blocks c.args.dev.now)) (address_in c.args.pair.now) k disk) (some_same new)
     (left_by_append _ _ _ _ _ _ _ c.args.pair.now.end disk ready can.is_pair.describes.end left)) c.in_ok-written.ensures.stops
 
 pub returns-in_err-written-clause-elsewhere : goal.returns-in_err-written-clause-elsewhere
@@ -116,3 +118,12 @@ returns-clause-appended g c done =
       erases = c.in_ok-written.ensures.erases;
       kept = c.in_ok-written.ensures.before;
     }
+
+pub returns-clause-first : goal.returns-clause-first
+returns-clause-first g c done =
+    let can = c.requires.can in
+    let built = c.push_changes.ensures ∙ ap (with_entries (entries_of_changes (changes_seen c.args.changes.now))) c.new-builder.ensures in
+    let ready = is_appending _ _ c.args.pair.now can.held can.new (changes_seen c.args.changes.now) c.push_changes.new.builder can.address can.is_pair can.changed (ap (λ (b : Building). b.entries) built) (ap (λ (b : Building). b.revision) built) in
+    subst (λ k. KeepsFirst (disk_of (g.D.BlockDevice.geometry c.args.dev.now) (g.D.BlockDevice.blocks c.args.dev.now)) (address_in c.args.pair.now) (Some (content_seen c.args.content.now)) (disk_of k (g.D.BlockDevice.blocks c.program.new.dev)))
+    (sym c.in_ok-written.ensures.geometry)
+    (appended_first _ _ _ _ _ _ _ (Some (content_seen c.args.content.now)) (g.D.BlockDevice.blocks c.program.new.dev) ready c.in_ok-written.ensures.others c.in_ok-written.ensures.commit)

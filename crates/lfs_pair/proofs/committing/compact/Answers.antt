@@ -5,11 +5,12 @@ use Rattle.lfs_device.specs.Shown.{disk_of}
 use Rattle.lfs_model.specs.History.{AllUnprogrammed}
 use Rattle.lfs_model.specs.Slots.{address_of}
 use Rattle.lfs_tag.specs.ContentSeen.{content_seen}
-use Rattle.lfs_pair.specs.Commit.{NowHolds}
+use Rattle.std.proofs.Common.{Some}
+use Rattle.lfs_pair.specs.Commit.{NowHolds, KeepsFirst}
 use Rattle.lfs_model.proofs.Histories.{LeavesOnly-weaker}
 use Rattle.lfs_pair.specs.Pair.{address_in}
 use Rattle.lfs_pair.proofs.TwoBlocks.{other_is, outside_one, below_count}
-use Rattle.lfs_pair.proofs.Changed.{is_compacting, compacted, now_holds, left_by_compaction, stays_outside}
+use Rattle.lfs_pair.proofs.Changed.{is_compacting, compacted, compacted_first, now_holds, left_by_compaction, stays_outside}
 use Rattle.lfs_pair.proofs.committing.compact.Goals as goal
 
 pub write_anew-requires-clause-in_device : goal.write_anew-requires-clause-in_device
@@ -39,7 +40,7 @@ returns-clause-done g c =
     (ap address_of c.written.ensures.blocks) c.written.ensures.active c.written.ensures.fetched
     (c.written.ensures.end ∙ c.in_ok-written.ensures.end) (c.written.ensures.last ∙ c.in_ok-written.ensures.last)
     (c.written.ensures.revision ∙ sym c.in_ok-written.ensures.holds.revision_is)
-    c.written.ensures.slot_count c.written.ensures.tail c.written.ensures.move_state
+    c.written.ensures.slot_count c.written.ensures.tail c.written.ensures.move_state c.written.ensures.complete
     (ap (λ e. e % (g.D.BlockDevice.geometry c.args.dev.now).page) c.written.ensures.end ∙ c.in_ok-written.ensures.pages)
     (subst (λ e. AllUnprogrammed (g.D.BlockDevice.history c.write_anew.new.dev) c.other-other.result e (g.D.BlockDevice.geometry c.args.dev.now).block_size) (sym c.written.ensures.end) c.in_ok-written.ensures.behind))
 
@@ -83,3 +84,10 @@ pub returns-clause-at_worst : goal.returns-clause-at_worst
 returns-clause-at_worst g c =
     let ready = is_compacting _ c.args.pair.now c.other-other.result ((c.args.pair.now.revision + 1) % 2 ^ 32) c.requires.address c.requires.active c.other-other.ensures (omega arith) refl in
     LeavesOnly-weaker (λ disk left. outside_one _ _ _ _ (other_is _ _ _ _ ready.sides) left) c.in_ok-written.ensures.at_worst
+
+pub returns-clause-first : goal.returns-clause-first
+returns-clause-first g c =
+    let ready = is_compacting _ c.args.pair.now c.other-other.result ((c.args.pair.now.revision + 1) % 2 ^ 32) c.requires.address c.requires.active c.other-other.ensures (omega arith) refl in
+    subst (λ k. KeepsFirst (disk_of (g.D.BlockDevice.geometry c.args.dev.now) (g.D.BlockDevice.blocks c.args.dev.now)) (address_in c.args.pair.now) (Some (content_seen c.args.content.now)) (disk_of k (g.D.BlockDevice.blocks c.write_anew.new.dev)))
+    (sym c.in_ok-written.ensures.geometry)
+    (compacted_first _ _ _ _ _ _ (g.D.BlockDevice.blocks c.write_anew.new.dev) ready c.in_ok-written.ensures.others c.in_ok-written.ensures.holds)

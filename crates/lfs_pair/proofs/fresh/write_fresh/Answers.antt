@@ -52,7 +52,7 @@ returns-clause-holds g c =
     (ap address_of c.written.ensures.blocks) c.written.ensures.active c.written.ensures.fetched
     (c.written.ensures.end ∙ c.in_ok-written.ensures.end) (c.written.ensures.last ∙ c.in_ok-written.ensures.last)
     (c.written.ensures.revision ∙ sym c.in_ok-written.ensures.holds.revision_is)
-    c.written.ensures.slot_count c.written.ensures.tail c.written.ensures.move_state
+    c.written.ensures.slot_count c.written.ensures.tail c.written.ensures.move_state c.written.ensures.complete
     (subst (λ (k : Geometry). c.written.result.end % k.page ≡ 0) (sym c.in_ok-written.ensures.geometry) (ap (λ e. e % (g.D.BlockDevice.geometry c.clear.new.dev).page) c.written.ensures.end ∙ c.in_ok-written.ensures.pages))
     (subst (λ (k : Geometry). AllUnprogrammed (g.D.BlockDevice.history c.write_anew.new.dev) (address_of c.args.blocks).0 c.written.result.end k.block_size) (sym c.in_ok-written.ensures.geometry)
     (subst (λ (e : ℕ). AllUnprogrammed (g.D.BlockDevice.history c.write_anew.new.dev) (address_of c.args.blocks).0 e (g.D.BlockDevice.geometry c.clear.new.dev).block_size) (sym c.written.ensures.end) c.in_ok-written.ensures.behind))

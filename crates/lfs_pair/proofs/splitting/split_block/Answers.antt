@@ -1,4 +1,4 @@
-use Rattle.std.proofs.Common.{◌+◌, ◌%◌, ◌^◌, Err, ap, sym, ◌∙◌, subst, arith}
+use Rattle.std.proofs.Common.{◌+◌, ◌%◌, ◌^◌, Err, Some, ap, sym, ◌∙◌, subst, arith}
 use Rattle.lfs_model.specs.Blocks.{block_in}
 use Rattle.lfs_model.specs.Content.{RawContent, has_commit}
 use Rattle.lfs_pair.specs.Writing.{Holds}
@@ -8,10 +8,10 @@ use Rattle.lfs_model.proofs.Histories.{goes_on_by, faults-since, EachSince-behin
 use Rattle.lfs_tag.specs.ContentSeen.{content_seen}
 use Rattle.lfs_pair.specs.Pair.{address_in}
 use Rattle.lfs_pair.specs.ChangeSeen.{changes_seen}
-use Rattle.lfs_pair.specs.Commit.{IsActive, LeftWith, NowHolds}
+use Rattle.lfs_pair.specs.Commit.{IsActive, KeepsFirst, LeftWith, NowHolds}
 use Rattle.lfs_pair.proofs.Changed.{is_active}
 use Rattle.lfs_pair.proofs.Stay.{IsActive-stays, NowHolds-stays, active_elsewhere}
-use Rattle.lfs_pair.proofs.Parted.{is_splitting, pair_elsewhere, fresh_elsewhere, keeps_by_fresh, keeps_by_both, stays_by_fresh, stays_by_both, left_while_fresh, left_while_old, raw_held}
+use Rattle.lfs_pair.proofs.Parted.{is_splitting, first_while_fresh, pair_elsewhere, fresh_elsewhere, keeps_by_fresh, keeps_by_both, stays_by_fresh, stays_by_both, left_while_fresh, left_while_old, raw_held}
 use Rattle.lfs_pair.proofs.splitting.split_block.Goals as goal
 
 pub write_fresh-requires-clause-logged : goal.write_fresh-requires-clause-logged
@@ -75,7 +75,7 @@ returns-in_err-compact-clause-stops g c cleanly =
     let ready = is_splitting _ c.geometry-geometry.result _ _ c.args.pair.now (address_of c.args.fresh) c.args.block.now (changes_seen c.args.changes.now) (content_seen c.in_ok-front.front) (content_seen c.cut_off.new.content) (content_seen c.in_ok-back.back) c.geometry-geometry.ensures (g.met.D.BlockDevice.shape c.args.dev.now).count c.requires.can c.requires.block c.in_ok-front.ensures.content c.in_ok-front.ensures.logged c.in_ok-back.ensures.parts in
     let fresh = c.in_ok-fresh_pair.ensures in
     goes_on_by (LeavesOnly-weaker (λ disk left. left_while_fresh _ _ _ (changes_seen c.args.changes.now) disk ready.apart left) (LeavesOnly-worst fresh.at_worst))
-    (LeavesOnly-weaker (λ disk left. left_while_old _ _ _ (changes_seen c.args.changes.now) (g.D.BlockDevice.blocks c.write_fresh.new.dev) disk ready.apart fresh.others ready.made ready.parts (raw_held fresh.holds)
+    (LeavesOnly-weaker (λ disk left. left_while_old _ _ _ (changes_seen c.args.changes.now) (g.D.BlockDevice.blocks c.write_fresh.new.dev) disk ready.apart fresh.others ready.made ready.logged ready.parts (raw_held fresh.holds)
     (subst (λ k. LeftWith (disk_of k (g.D.BlockDevice.blocks c.write_fresh.new.dev)) (address_in c.args.pair.now) (content_seen c.cut_off.new.content) disk) fresh.geometry left))
     (c.in_err-compact.ensures.stops (EachSince-behind cleanly fresh.at_worst c.in_err-compact.ensures.at_worst)))
 
@@ -92,12 +92,15 @@ returns-clause-splits g c =
     record {
       new = ready.whole;
       made = ready.made;
+      logged = ready.logged;
       cut = ready.parts.cut;
       is_cut = ready.parts.is_cut;
       front = subst (NowHolds _ _ (address_in c.args.pair.now) c.compact.new.pair) ready.parts.front_is c.in_ok-compact.ensures.done;
       back = subst (NowHolds _ _ (address_of c.args.fresh) c.in_ok-fresh_pair.fresh_pair) ready.parts.back_is
           (subst (λ k. NowHolds (disk_of k (g.D.BlockDevice.blocks c.compact.new.dev)) (g.D.BlockDevice.history c.compact.new.dev) (address_of c.args.fresh) c.in_ok-fresh_pair.fresh_pair (content_seen c.in_ok-back.back)) (sym c.in_ok-compact.ensures.geometry)
           (NowHolds-stays {disk = disk_of (g.D.BlockDevice.geometry c.write_fresh.new.dev) (g.D.BlockDevice.blocks c.write_fresh.new.dev)} (fresh_elsewhere ready.apart) c.in_ok-compact.ensures.others c.in_ok-compact.ensures.elsewhere fresh.holds));
+      first = subst (λ k. KeepsFirst (disk_of (g.D.BlockDevice.geometry c.args.dev.now) (g.D.BlockDevice.blocks c.args.dev.now)) (address_in c.args.pair.now) (Some k) (disk_of (g.D.BlockDevice.geometry c.compact.new.dev) (g.D.BlockDevice.blocks c.compact.new.dev))) ready.parts.front_is
+          (λ e h anew. c.in_ok-compact.ensures.first e (first_while_fresh (disk_of (g.D.BlockDevice.geometry c.args.dev.now) (g.D.BlockDevice.blocks c.args.dev.now)) (address_in c.args.pair.now) (address_of c.args.fresh) (g.D.BlockDevice.blocks c.write_fresh.new.dev) ready.apart fresh.others e h) anew);
       moved = c.in_ok-compact.ensures.compacted.active;
       kept = c.in_ok-compact.ensures.compacted.kept ∙ fresh.others.others c.args.pair.now.active (active_elsewhere (disk_of (g.D.BlockDevice.geometry c.args.dev.now) (g.D.BlockDevice.blocks c.args.dev.now)) c.args.pair.now.active (pair_elsewhere ready.apart) c.requires.can.commit.is_pair.active);
       front_anew = subst (λ (k : RawContent). Holds ((c.args.pair.now.revision + 1) % 2 ^ 32) k (block_in (g.D.BlockDevice.blocks c.compact.new.dev) c.compact.new.pair.active)) ready.parts.front_is c.in_ok-compact.ensures.compacted.anew;
@@ -120,7 +123,7 @@ returns-clause-stops g c cleanly =
     let ready = is_splitting _ c.geometry-geometry.result _ _ c.args.pair.now (address_of c.args.fresh) c.args.block.now (changes_seen c.args.changes.now) (content_seen c.in_ok-front.front) (content_seen c.cut_off.new.content) (content_seen c.in_ok-back.back) c.geometry-geometry.ensures (g.met.D.BlockDevice.shape c.args.dev.now).count c.requires.can c.requires.block c.in_ok-front.ensures.content c.in_ok-front.ensures.logged c.in_ok-back.ensures.parts in
     let fresh = c.in_ok-fresh_pair.ensures in
     goes_on_by (LeavesOnly-weaker (λ disk left. left_while_fresh _ _ _ (changes_seen c.args.changes.now) disk ready.apart left) (LeavesOnly-worst fresh.at_worst))
-    (LeavesOnly-weaker (λ disk left. left_while_old _ _ _ (changes_seen c.args.changes.now) (g.D.BlockDevice.blocks c.write_fresh.new.dev) disk ready.apart fresh.others ready.made ready.parts (raw_held fresh.holds)
+    (LeavesOnly-weaker (λ disk left. left_while_old _ _ _ (changes_seen c.args.changes.now) (g.D.BlockDevice.blocks c.write_fresh.new.dev) disk ready.apart fresh.others ready.made ready.logged ready.parts (raw_held fresh.holds)
     (subst (λ k. LeftWith (disk_of k (g.D.BlockDevice.blocks c.write_fresh.new.dev)) (address_in c.args.pair.now) (content_seen c.cut_off.new.content) disk) fresh.geometry left))
     (c.in_ok-compact.ensures.stops (EachSince-behind cleanly fresh.at_worst c.in_ok-compact.ensures.at_worst)))
 

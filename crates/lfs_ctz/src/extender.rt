@@ -144,6 +144,20 @@ impl Extender {
         })
     }
 
+    /// How many bytes the list has.
+    pub fn size(&self) -> u32
+        ensures { result ≡ size_of (geometry_of self.now).block_size (growing_of self.now) }
+    {
+        self.size
+    }
+
+    /// How many blocks are full and on the device.
+    pub fn full(&self) -> u32
+        ensures { result ≡ (growing_of self.now).full }
+    {
+        self.full
+    }
+
     /// How many blocks a push of `n` bytes takes. The full blocks of a front that was kept are
     /// shared; its last block, where it isn't full, is copied and counts here.
     ///
@@ -151,7 +165,8 @@ impl Extender {
     pub fn needed(&self, n: u32) -> u32
         requires some { 1 ≤ n }
         requires room { size_of (geometry_of self.now).block_size (growing_of self.now) + n < 2 ^ 31 }
-        ensures { result ≡ needed_of (geometry_of self.now).block_size (growing_of self.now) n }
+        ensures count { result ≡ needed_of (geometry_of self.now).block_size (growing_of self.now) n }
+        ensures within { (growing_of self.now).full + length (pending_of (growing_of self.now)) ≤ blocks_for (geometry_of self.now).block_size (size_of (geometry_of self.now).block_size (growing_of self.now) + n) }
     {
         let begun = match self.tail {
             Tail::Handed(_) => 1,
@@ -249,6 +264,8 @@ impl Extender {
         ensures sum { OnOk result (size_of (geometry_of self.new).block_size (growing_of self.new) ≡ size_of (geometry_of self.old).block_size (growing_of self.old) + length bytes.now) }
         ensures kept { OnOk result (kept_of (D.blocks dev.new) (growing_of self.new) ≡ kept_of (D.blocks dev.old) (growing_of self.old) ++ blocks.now) }
         ensures own { OnOk result (blocks_of (D.blocks dev.new) (growing_of self.new) ≡ kept_of (D.blocks dev.new) (growing_of self.new)) }
+        // The block that waits for more bytes is the one that did, or one of those handed in.
+        ensures pending { OnOk result ((other : ℕ) → All (λ b. b ≢ other) (pending_of (growing_of self.old) ++ blocks.now) → All (λ b. b ≢ other) (pending_of (growing_of self.new))) }
         ensures short { OnOk result (IsShort (geometry_of self.new).block_size (growing_of self.new)) }
         ensures same { geometry_of self.new ≡ geometry_of self.old }
         // A block that fills is erased once and programmed once.

@@ -8,7 +8,7 @@ mod size;
 mod visits;
 
 pub use extender::Extender;
-pub use read::read_at;
+pub use read::{head_before, read_at};
 pub use size::{blocks_for, place};
 pub use visits::walk;
 

@@ -83,8 +83,9 @@ fn before<D: BlockDevice>(dev: &mut D, block: u32) -> Result<u32, Error>
     Ok(word)
 }
 
-// The last of so many blocks before one, 0 where there are none.
-pub(crate) fn head_before<D: BlockDevice>(dev: &mut D, block: u32, count: u32) -> Result<u32, Error>
+/// The last of so many blocks of a list before one, 0 where there are none. Corrupt where the
+/// device has no such block.
+pub fn head_before<D: BlockDevice>(dev: &mut D, block: u32, count: u32) -> Result<u32, Error>
     requires { block < (D.geometry dev.old).block_count }
     ensures word { IfOk result (λ word. 0 < count → word ≡ word_at (block_in (D.blocks dev.old) block) 0) }
     ensures corrupt { IsErrOf result Error.Corrupt → 0 < count → (D.geometry dev.old).block_count ≤ word_at (block_in (D.blocks dev.old) block) 0 }

@@ -13,7 +13,7 @@ handed : (shown made : List ℕ) (next count : ℕ) → shown ≡ made → made 
 handed shown made next count e f = e ∙ f ∙ ap (range_with_len next) (let many : next + count - next ≡ count = omega arith in many)
 
 pub push-requires-clause-count : goal.push-requires-clause-count
-push-requires-clause-count g c = ap length (handed _ _ c.args.next c.needed-count.result c.as_slice.ensures.value c.in_ok-blocks.ensures) ∙ length-range_with_len c.args.next c.needed-count.result ∙ c.needed-count.ensures
+push-requires-clause-count g c = ap length (handed _ _ c.args.next c.needed-count.result c.as_slice.ensures.value c.in_ok-blocks.ensures) ∙ length-range_with_len c.args.next c.needed-count.result ∙ c.needed-count.ensures.count
 
 pub push-requires-clause-in_device : goal.push-requires-clause-in_device
 push-requires-clause-in_device g c =

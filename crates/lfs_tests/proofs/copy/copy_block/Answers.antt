@@ -2,28 +2,35 @@ use Rattle.std.proofs.Common.{◌≡◌, ◌<◌, ◌≤◌, ◌+◌, ◌*◌, L
 use Rattle.std.proofs.lemmas.List.{take_all}
 use Rattle.lfs_device.specs.declared.geometry.Geometry.{Geometry}
 use Rattle.lfs_model.specs.Blocks.{Blocks, block_in, overwritten}
-use Rattle.lfs_model.proofs.Histories.{goes_on, LeavesOnly-reads, AtWorst-read, unprogrammed-erase, unprogrammed-program}
-use Rattle.lfs_model.proofs.Overwrites.{SameBut-refl, SameBut-trans, SameBut-is, block_in-set, take-overwritten_next}
+use Rattle.lfs_device.specs.Calls.{ChangesBlock}
+use Rattle.lfs_device.proofs.CallLaws.{ChangesBlock-reads, ChangesBlock-trans, ChangesBlock-erase, ChangesBlock-program}
+use Rattle.lfs_model.proofs.Histories.{unprogrammed-erase, unprogrammed-program}
+use Rattle.lfs_model.proofs.Overwrites.{SameBut-is, block_in-set, take-overwritten_next}
 use Rattle.lfs_tests.proofs.copy.copy_block.Goals as goal
 
-pub returns-in_err-erase-clause-stops : goal.returns-in_err-erase-clause-stops
-returns-in_err-erase-clause-stops g c =
-    goes_on (LeavesOnly-reads AtWorst-read c.in_ok-bytes.ensures.reads (SameBut-refl c.args.to (g.D.BlockDevice.blocks c.args.device.now))) c.erase.ensures.history (search rules)
+pub returns-in_err-bytes-clause-device : goal.returns-in_err-bytes-clause-device
+returns-in_err-bytes-clause-device g c = ChangesBlock-reads g.D.BlockDevice c.args.to c.in_err-bytes.ensures.device
+
+pub returns-in_err-erase-clause-device : goal.returns-in_err-erase-clause-device
+returns-in_err-erase-clause-device g c =
+    ChangesBlock-trans g.D.BlockDevice (ChangesBlock-reads g.D.BlockDevice c.args.to c.in_ok-bytes.ensures.device)
+    (ChangesBlock-erase g.D.BlockDevice c.erase.ensures.history c.erase.ensures.others c.erase.ensures.geometry)
 
 pub loop-page-init : goal.loop-page-init
 loop-page-init g c = record {
-  same_geometry = search rules;
-  others = search rules;
+  device = ChangesBlock-trans g.D.BlockDevice (ChangesBlock-reads g.D.BlockDevice c.args.to c.in_ok-bytes.ensures.device)
+      (ChangesBlock-erase g.D.BlockDevice c.erase.ensures.history c.erase.ensures.others c.erase.ensures.geometry);
   front = search rules;
   unprogrammed = unprogrammed-erase c.in_ok-erase.ensures.history;
   erases = search rules;
   programs = search rules;
   no_fault = search rules;
-  stops = goes_on (LeavesOnly-reads AtWorst-read c.in_ok-bytes.ensures.reads (SameBut-refl c.args.to (g.D.BlockDevice.blocks c.args.device.now))) c.erase.ensures.history (search rules);
 }
 
-pub returns-in_err-prog-clause-stops : goal.returns-in_err-prog-clause-stops
-returns-in_err-prog-clause-stops g c = goes_on c.loop-page.invariant.stops c.prog.ensures.history (λ disk left. SameBut-trans c.loop-page.invariant.others left)
+pub returns-in_err-prog-clause-device : goal.returns-in_err-prog-clause-device
+returns-in_err-prog-clause-device g c =
+    ChangesBlock-trans g.D.BlockDevice c.loop-page.invariant.device
+    (ChangesBlock-program g.D.BlockDevice c.prog.ensures.history c.prog.ensures.others c.prog.ensures.geometry)
 
 -- one page more
 front : (g : _) (c : goal.In_ok-prog g) → take ((c.loop-page.page + 1) * c.geometry-geometry.result.page) (block_in (g.D.BlockDevice.blocks c.prog.new.self) c.args.to)
@@ -40,8 +47,8 @@ front g c =
     let next : (c.loop-page.page + 1) * n ≡ off + n = omega arith in
     let room : off + n ≤ c.geometry-geometry.result.block_size = grind arith in
     let source : c.deref.result.now ≡ block_in old c.args.from = c.deref.ensures.value ∙ c.in_ok-bytes.ensures.bytes in
-    let there : c.args.to < length mid = omega (arith, shape.count, c.loop-page.invariant.others.count, c.requires.to) in
-    let fits : off ≤ length (block_in mid c.args.to) = omega (arith, room, known, c.loop-page.invariant.others.size, shape.sizes c.args.to c.requires.to) in
+    let there : c.args.to < length mid = omega (arith, shape.count, c.loop-page.invariant.device.others.count, c.requires.to) in
+    let fits : off ≤ length (block_in mid c.args.to) = omega (arith, room, known, c.loop-page.invariant.device.others.size, shape.sizes c.args.to c.requires.to) in
     ap (λ k. take k (block_in new c.args.to)) next
     ∙ ap (λ (d : Blocks). take (off + n) (block_in d c.args.to)) c.in_ok-prog.ensures.ok
     ∙ ap (λ (b : List ℕ). take (off + n) b) (block_in-set mid c.args.to _ there)
@@ -52,14 +59,13 @@ front g c =
 
 pub loop-page-preserved : goal.loop-page-preserved
 loop-page-preserved g c = record {
-  same_geometry = search rules;
-  others = SameBut-trans c.loop-page.invariant.others c.prog.ensures.others;
+  device = ChangesBlock-trans g.D.BlockDevice c.loop-page.invariant.device
+      (ChangesBlock-program g.D.BlockDevice c.prog.ensures.history c.prog.ensures.others c.prog.ensures.geometry);
   front = front g c;
   unprogrammed = unprogrammed-program c.prog.ensures.history c.loop-page.invariant.unprogrammed (grind arith) (grind arith);
   erases = search rules;
   programs = search rules;
   no_fault = search rules;
-  stops = goes_on c.loop-page.invariant.stops c.prog.ensures.history (λ disk left. SameBut-trans c.loop-page.invariant.others left);
 }
 
 pub returns-clause-copied : goal.returns-clause-copied
@@ -71,7 +77,7 @@ returns-clause-copied g c =
     let n = c.loop-page.page * c.geometry-geometry.result.page in
     let all : n ≡ c.geometry-geometry.result.block_size = grind arith in
     let whole : block_in new c.args.to ≡ block_in old c.args.from =
-    sym (take_all n (block_in new c.args.to) (omega (arith, all, known, c.loop-page.invariant.others.size, shape.sizes c.args.to c.requires.to)))
+    sym (take_all n (block_in new c.args.to) (omega (arith, all, known, c.loop-page.invariant.device.others.size, shape.sizes c.args.to c.requires.to)))
     ∙ c.loop-page.invariant.front
     ∙ take_all n (block_in old c.args.from) (omega (arith, all, known, shape.sizes c.args.from c.requires.from)) in
-    SameBut-is c.args.to old new (block_in old c.args.from) (omega (arith, shape.count, c.requires.to)) c.loop-page.invariant.others whole
+    SameBut-is c.args.to old new (block_in old c.args.from) (omega (arith, shape.count, c.requires.to)) c.loop-page.invariant.device.others whole

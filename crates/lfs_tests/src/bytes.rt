@@ -1,0 +1,9 @@
+ghost use Rattle.std.specs.Prelude.{◌<◌};
+ghost use Rattle.lfs_device.specs.Bytes.{HasBytes};
+
+use lfs_device::BlockDevice;
+
+/// Whatever a device is, it holds bytes.
+pub fn holds_bytes<D: BlockDevice>(_device: &D)
+    ensures { HasBytes (D.blocks _device.now) }
+{}

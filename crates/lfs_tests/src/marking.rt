@@ -1,0 +1,30 @@
+ghost use Rattle.std.specs.Prelude.{◌≡◌, length, OnOk};
+ghost use Rattle.lfs_model.specs.Lists.{IsList};
+
+use lfs_alloc::BlockMap;
+use lfs_ctz::walk;
+use lfs_device::{BlockDevice, Error};
+
+/// Marks the blocks of a file's list in a map, and says whether each of them was there and free.
+///
+/// `Corrupt` where the list isn't well formed, and `Io` where a read failed. Some blocks may be marked then.
+pub fn mark_list<D: BlockDevice>(
+    device: &mut D,
+    map: &mut BlockMap,
+    head: u32,
+    size: u32,
+) -> Result<bool, Error>
+    ensures list { OnOk result (IsList (D.blocks device.old) (D.geometry device.old).block_size head size) }
+    ensures blocks { D.blocks device.new ≡ D.blocks device.old }
+{
+    let mut is_taken = false;
+    walk(
+        device,
+        head,
+        size,
+        &mut |b| {
+            is_taken |= b >= map.block_count() || !map.mark(b);
+        },
+    )?;
+    Ok(!is_taken)
+}

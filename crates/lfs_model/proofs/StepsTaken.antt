@@ -23,9 +23,9 @@ use Rattle.lfs_model.proofs.MoveSets.{IsMoveSet}
 use Rattle.lfs_model.proofs.Rests.{IsMoveEnd}
 use Rattle.lfs_model.proofs.Writable.{IsWithin}
 use Rattle.lfs_model.proofs.Became.{Became, became_within, became_filled, fits_same, cut_some}
-use Rattle.lfs_model.proofs.Committed.{flag}
+use Rattle.lfs_model.proofs.Writable.{flag}
 use Rattle.lfs_model.proofs.MadeDirectory.{Cut, follows_then}
-use Rattle.lfs_model.proofs.ProfilesAt.{step_writable_at, drop_writable_at, beside_writable_at, set_writable_at, end_writable_at}
+use Rattle.lfs_model.proofs.Profiles.{step_writable, drop_writable, beside_writable, set_writable, end_writable}
 
 -- ---- what a step comes to
 
@@ -92,7 +92,7 @@ module _ (disk : Disk) (w : Site) (p q : Pair) (more : List Pair) (l olds news r
       → Follows disk (thread_at w (p ∷ [])) new (thread_at w (q ∷ more)) change walk → IsTaken disk (thread_at w (p ∷ [])) new (thread_at w (q ∷ more)) change walk
   commit_taken new extra fresh change walk step follows = record {
     follows = follows;
-    writable = step_writable_at disk new w p [] q more extra fresh l olds news r step c.writable put_within put_filled;
+    writable = step_writable disk new w p [] q more extra fresh l olds news r step c.writable put_within put_filled;
   }
 
   -- the first step of a rename across pairs: the slot comes, and a set move names the old one
@@ -101,7 +101,7 @@ module _ (disk : Disk) (w : Site) (p q : Pair) (more : List Pair) (l olds news r
       → IsTaken disk (thread_at w (p ∷ [])) new (thread_at w (q ∷ more)) change walk
   set_taken new wo o lo u ro extra v change walk step follows = record {
     follows = follows;
-    writable = set_writable_at disk new wo o lo u ro w p [] q more extra l olds v r step c.writable put_within put_filled;
+    writable = set_writable disk new wo o lo u ro w p [] q more extra l olds v r step c.writable put_within put_filled;
   }
 
 -- the second one: the old slot goes, and the set move ends
@@ -109,7 +109,7 @@ pub end_taken : (disk new : Disk) (w : Site) (p q : Pair) (more : List Pair) (l 
     → IsMoveEnd disk new w p [] q more l u r → Follows disk (thread_at w (p ∷ [])) new (thread_at w (q ∷ more)) change walk → IsTaken disk (thread_at w (p ∷ [])) new (thread_at w (q ∷ more)) change walk
 end_taken disk new w p q more l u r change walk c step follows = record {
   follows = follows;
-  writable = end_writable_at disk new w p [] q more l u r step c.writable (put_within disk w p q more l (u ∷ []) [] r c) (put_filled disk w p q more l (u ∷ []) [] r c);
+  writable = end_writable disk new w p [] q more l u r step c.writable (put_within disk w p q more l (u ∷ []) [] r c) (put_filled disk w p q more l (u ∷ []) [] r c);
 }
 
 -- ---- a pair goes
@@ -132,7 +132,7 @@ module _ (disk : Disk) (w : Site) (p o q : Pair) (c : IsTakenOver disk w p o q) 
       → Follows disk (thread_at w (p ∷ o ∷ [])) new (thread_at w (q ∷ [])) change walk → IsTaken disk (thread_at w (p ∷ o ∷ [])) new (thread_at w (q ∷ [])) change walk
   drop_taken new extra fresh l olds news r change walk step follows = record {
     follows = follows;
-    writable = step_writable_at disk new w p (o ∷ []) q [] extra fresh l olds news r step c.writable over_within over_filled;
+    writable = step_writable disk new w p (o ∷ []) q [] extra fresh l olds news r step c.writable over_within over_filled;
   }
 
   -- with the slot that the set move names
@@ -140,7 +140,7 @@ module _ (disk : Disk) (w : Site) (p o q : Pair) (c : IsTakenOver disk w p o q) 
       → Follows disk (thread_at w (p ∷ o ∷ [])) new (thread_at w (q ∷ [])) change walk → IsTaken disk (thread_at w (p ∷ o ∷ [])) new (thread_at w (q ∷ [])) change walk
   end_drop_taken new l u r change walk step follows = record {
     follows = follows;
-    writable = end_writable_at disk new w p (o ∷ []) q [] l u r step c.writable over_within over_filled;
+    writable = end_writable disk new w p (o ∷ []) q [] l u r step c.writable over_within over_filled;
   }
 
 -- the pair o behind p begins a directory, and goes from the thread; q has p's slots, and a soft tail to where o's led
@@ -151,7 +151,7 @@ pub unthread_taken : (disk new : Disk) (chain before left after : List Pair) (p 
     → IsTaken disk (thread_at (last_site chain before left after) (p ∷ ([] ++ o ∷ []))) new (thread_at (last_site chain before left after) (q ∷ [])) change walk
 unthread_taken disk new chain before left after p o q l r change walk ok tail slots step follows = record {
   follows = follows;
-  writable = drop_writable_at disk new chain before left after p [] o q [] [] [] l [] [] r step ok (within_same disk p q slots (within_at disk (last_site chain before left after) p (o ∷ []) ok), tt)
+  writable = drop_writable disk new chain before left after p [] o q [] [] [] l [] [] r step ok (within_same disk p q slots (within_at disk (last_site chain before left after) p (o ∷ []) ok), tt)
       (λ h. ((λ e n. h.0 e (sym slots ∙ n)), subst (λ t. HaveSlots (is_hard t) after) (sym tail) (weaker o.content.tail after h.1.1)));
 }
   where
@@ -227,5 +227,5 @@ module _ (disk new : Disk) (chain before left after : List Pair) (p q : Pair) (m
       → IsTaken disk (thread_at (last_site chain before left after) (p ∷ [])) new (thread_at (last_site chain before left after) (q ∷ (more ++ f ∷ []))) change walk
   beside_taken extra fresh change walk step P a leads same follows = record {
     follows = follows;
-    writable = beside_writable_at disk new chain before left after p [] q more f extra fresh l olds news r step P a leads same c.writable (beside_within more c.is c.cut) (beside_filled more c.is c.cut c.run);
+    writable = beside_writable disk new chain before left after p [] q more f extra fresh l olds news r step P a leads same c.writable (beside_within more c.is c.cut) (beside_filled more c.is c.cut c.run);
   }

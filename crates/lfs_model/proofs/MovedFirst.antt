@@ -1,12 +1,10 @@
 -- How a recovery begins where a move is set: the slot that it names goes, with its pair where that holds no other and a hard tail leads there.
-use Rattle.std.proofs.Common.{ℕ, ◌≡◌, Bool, true, false, List, [], ◌∷◌, ◌++◌, Option, Some, None, refl, sym, ap, ap₂, subst, ◌∙◌, append-nil}
-use Rattle.std.specs.Prelude.{is_some}
+use Rattle.std.proofs.Common.{ℕ, ◌≡◌, true, false, List, [], ◌∷◌, ◌++◌, Option, None, refl, sym, ap₂, subst, ◌∙◌, append-nil}
 use Rattle.lfs_model.specs.Disk.{Disk}
-use Rattle.lfs_model.specs.Slots.{Slot, Gstate, same_pair}
+use Rattle.lfs_model.specs.Slots.{Slot, same_pair}
 use Rattle.lfs_model.specs.Thread.{Pair, is_hard, gstate_of, unmoved}
 use Rattle.lfs_model.specs.Layout.{onward}
 use Rattle.lfs_model.proofs.Counts.{Each, each_left, each_right, each_weaker}
-use Rattle.lfs_model.proofs.Superblocks.{IsChain}
 use Rattle.lfs_model.proofs.Changes.{chain_now}
 use Rattle.lfs_model.proofs.Sites.{Site, dirs_at, thread_at}
 use Rattle.lfs_model.proofs.Rests.{IsMoveEnd, unmoved_elsewhere, end_change}

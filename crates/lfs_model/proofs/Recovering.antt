@@ -1,8 +1,8 @@
 -- A recovery, pair by pair in the thread's order: a pair whose directory a path leads to is kept, any other is dropped. It may drop any number.
-use Rattle.std.proofs.Common.{ℕ, ◌≡◌, ◌≢◌, inl, inr, Bool, true, false, List, [], ◌∷◌, ◌++◌, length, take, Option, Some, None, refl, sym, ap, ap₂, subst, ◌∙◌, arith, append_assoc, append-nil, subst₂}
+use Rattle.std.proofs.Common.{ℕ, ◌≡◌, ◌≢◌, inl, inr, true, List, [], ◌∷◌, ◌++◌, length, take, Option, None, refl, sym, ap, subst, ◌∙◌, append_assoc, append-nil, subst₂}
 use Rattle.std.specs.Prelude.{is_some}
 use Rattle.lfs_model.specs.Disk.{Disk}
-use Rattle.lfs_model.specs.Slots.{Slot, no_gstate}
+use Rattle.lfs_model.specs.Slots.{no_gstate}
 use Rattle.lfs_model.specs.Thread.{Pair, gstate_of, unmoved, superblocks_before, directory_pairs}
 use Rattle.lfs_model.specs.Tree.{Tree}
 use Rattle.lfs_model.specs.View.{IsAccepted, IsReached, IsWritable, tree_in}
@@ -15,11 +15,10 @@ use Rattle.lfs_model.proofs.Global.{HasNoMove, unmoved_all}
 use Rattle.lfs_model.proofs.Superblocks.{IsChain}
 use Rattle.lfs_model.proofs.Found.{chain_of_thread}
 use Rattle.lfs_model.proofs.Laws.{Walk}
-use Rattle.lfs_model.proofs.Changes.{Follows}
 use Rattle.lfs_model.proofs.Layouts.{singles, joined_parts, joined_singles, joined_append, onward_all}
 use Rattle.lfs_model.proofs.Alike.{AreAlike, alike_itself, alike_append}
 use Rattle.lfs_model.proofs.Committed.{IsCompleted}
-use Rattle.lfs_model.proofs.RecoveredImage.{Fate, Fates, recover_completed}
+use Rattle.lfs_model.proofs.RecoveredImage.{Fates, recover_completed}
 use Rattle.lfs_model.proofs.StepsTaken.{IsTaken, taken_then, taken_before}
 use Rattle.lfs_model.proofs.Unthreaded.{IsUnthreaded, IsReady, unthread}
 

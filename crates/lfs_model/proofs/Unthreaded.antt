@@ -1,7 +1,7 @@
 -- The pair behind another begins a directory that no path leads to, and goes from the thread. So may any number of pairs, in their order.
-use Rattle.std.proofs.Common.{ℕ, ◌≡◌, ◌+◌, ◌<◌, ◌≤◌, Bool, true, false, List, [], ◌∷◌, ◌++◌, length, refl, sym, ap, ap₂, subst, ◌∙◌, arith, append_assoc, append-nil, length-append}
+use Rattle.std.proofs.Common.{ℕ, ◌≡◌, ◌<◌, ◌≤◌, true, false, List, [], ◌∷◌, ◌++◌, length, refl, sym, ap, ap₂, subst, ◌∙◌, arith, append_assoc, append-nil, length-append}
 use Rattle.lfs_model.specs.Disk.{Disk}
-use Rattle.lfs_model.specs.Slots.{Slot, same_pair}
+use Rattle.lfs_model.specs.Slots.{same_pair}
 use Rattle.lfs_model.specs.Thread.{Pair, is_hard, gstate_of, superblocks_before, starts_with_superblock}
 use Rattle.lfs_model.specs.Tree.{Path}
 use Rattle.lfs_model.specs.View.{IsAccepted, IsWritable, Leads}
@@ -9,8 +9,8 @@ use Rattle.lfs_model.proofs.Global.{HasNoMove}
 use Rattle.lfs_model.proofs.Superblocks.{IsChain}
 use Rattle.lfs_model.proofs.Listings.{IsRun}
 use Rattle.lfs_model.proofs.Changes.{chain_now}
-use Rattle.lfs_model.proofs.Sites.{Site, dirs_at, thread_at, IsSite}
-use Rattle.lfs_model.proofs.Splices.{slots_in, IsDevice}
+use Rattle.lfs_model.proofs.Sites.{Site, dirs_at, thread_at}
+use Rattle.lfs_model.proofs.Splices.{IsDevice}
 use Rattle.lfs_model.proofs.Moves.{AllReachedBut}
 use Rattle.lfs_model.proofs.Beside.{last_site}
 use Rattle.lfs_model.proofs.Drops.{IsStepDrop, softened, unthread_shape, drop_change, unthreaded}
@@ -149,6 +149,6 @@ unthread disk new chain front p o q back r c = record { taken = taken; ready = r
       no_move = c.no_move;
       is_chain = ap superblocks_before new_is
           ∙ chain_now disk new at.site.chain (at.site.before ++ at.site.left) p ([] ++ o ∷ []) q [] back ([] ++ []) is_chain (subst (IsAccepted disk) old_is r.accepted)
-            (drop_change disk new at.site.chain at.site.before at.site.left back p [] o q [] [] [] p.content.slots [] [] [] step)
+          (drop_change disk new at.site.chain at.site.before at.site.left back p [] o q [] [] [] p.content.slots [] [] [] step)
           ∙ chain_length;
     }

@@ -1,6 +1,6 @@
-use Rattle.std.proofs.Common.{ℕ, ◌+◌, ◌≡◌, ◌⊎◌, inl, inr, Option, Some, None, List, [], ◌∷◌, ◌++◌, refl, ap, arith, zero, suc, length}
+use Rattle.std.proofs.Common.{ℕ, ◌+◌, ◌≡◌, inl, inr, Option, Some, None, List, [], ◌∷◌, ◌++◌, refl, ap, arith, zero, suc, length}
 use Rattle.lfs_model.specs.Crc.{crc_of, next_bits}
-use Rattle.lfs_model.specs.Log.{BlockLog, log_of, chain_of, chain_within, commit_within, entry_at, closes}
+use Rattle.lfs_model.specs.Log.{BlockLog, chain_of, chain_within, commit_within, entry_at, closes}
 use Rattle.lfs_model.specs.Stops.{LeftByErase}
 use Rattle.lfs_model.specs.Stored.{filled}
 use Rattle.lfs_model.specs.Examples.{small_block, small_commit, appended_commit}

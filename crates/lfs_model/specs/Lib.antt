@@ -43,3 +43,4 @@ pub mod HistoryExamples
 pub mod Listing
 pub mod Sessions
 pub mod Source
+pub mod SourceExamples

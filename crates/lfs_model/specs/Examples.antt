@@ -207,3 +207,7 @@ three_blocks_with pointer =
 
 abbrev pub three_blocks : Blocks
 three_blocks = three_blocks_with 5
+
+-- the last block's first pointer names the block itself
+abbrev pub round_blocks : Blocks
+round_blocks = slice_set three_blocks 7 (little_bytes 4 7 ++ little_bytes 4 5 ++ replicate 1016 3)

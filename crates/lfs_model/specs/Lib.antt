@@ -42,6 +42,8 @@ pub mod PowerLoss
 pub mod FailedCalls
 pub mod Outages
 pub mod RunExamples
+pub mod HistoryExamples
 pub mod Listing
 pub mod Sessions
 pub mod Source
+pub mod SourceExamples

@@ -148,6 +148,14 @@ pub fn superblock_chain_is_read()
         ∷ (codes "a" ∷ [], FileNode [] (codes "hi")) ∷ [])
         no_gstate (0 ∷ 1 ∷ 2 ∷ 3 ∷ [])) }
 
+    ensures three_pairs { HasView
+        (image_with (root_block (tail_entry true (Some (2, 3)) ∷ []) 0xef8649c3 192)
+        (root_block (tail_entry true (Some (4, 5)) ∷ []) 0xc6d4e5a4 192 ∷ unwritten 4096
+        ∷ root_block (file_entries 1 (codes "a") (codes "hi")) 0xa7a04ca1 193 ∷ []))
+        (view_with (([], DirectoryNode [] (codes "a" ∷ []))
+        ∷ (codes "a" ∷ [], FileNode [] (codes "hi")) ∷ [])
+        no_gstate (0 ∷ 1 ∷ 2 ∷ 3 ∷ 4 ∷ 5 ∷ [])) }
+
     // A follower without a superblock continues the root.
     ensures follower { HasView
         (image_with (root_block (tail_entry true (Some (2, 3)) ∷ []) 0xef8649c3 192)

@@ -4,7 +4,7 @@ ghost use Rattle.std.specs.Prelude.{◌≡◌, ℕ, List, [], ◌∷◌, ◌++�
 ghost use Rattle.byteorder.specs.Endian.{little_bytes};
 ghost use Rattle.lfs_model.specs.Lists.{IsPlace, IsList, blocks_for, blocks_back, bytes_of, pointers_of, capacity_of};
 ghost use Rattle.lfs_model.specs.Session.{ctz_blocks};
-ghost use Rattle.lfs_model.specs.Examples.{three_blocks, three_blocks_with};
+ghost use Rattle.lfs_model.specs.Examples.{three_blocks, three_blocks_with, round_blocks};
 
 /// How many blocks a list of some bytes has, and how many bytes each block holds behind its pointers.
 pub fn list_has_its_blocks()
@@ -25,6 +25,9 @@ pub fn list_is_read()
     ensures list { IsList three_blocks 1024 7 2045 }
     ensures blocks { blocks_back three_blocks (blocks_for 1024 2045) 7 ≡ 5 ∷ 6 ∷ 7 ∷ [] }
     ensures bytes { bytes_of three_blocks 1024 7 2045 ≡ replicate 1024 1 ++ replicate 1020 2 ++ 3 ∷ [] }
+
+    // A list whose pointers 0 go round never gets to its first block.
+    ensures round { IsList round_blocks 1024 7 2045 → ⊥ }
 
     // Pointer 1 of the last block names the second block.
     ensures wrong_pointer { IsList (three_blocks_with 6) 1024 7 2045 → ⊥ }

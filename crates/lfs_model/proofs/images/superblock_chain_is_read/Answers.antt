@@ -27,3 +27,8 @@ pub returns-clause-not_alone : goal.returns-clause-not_alone
 unfolding chain_of chain_within commit_within entry_at closes crc_of next_bits
 returns-clause-not_alone c = refused_with _ (pair (0, 1) (large_superblock ∷ file (codes "z") [] ∷ []) (hard (2, 3)) no_gstate ∷ pair (2, 3) (large_superblock ∷ []) None no_gstate ∷ []) (refl, (refl, refl)) (refl, (refl, tt))
     (fails_slots _ _ refl)
+
+pub returns-clause-three_pairs : goal.returns-clause-three_pairs
+unfolding chain_of chain_within commit_within entry_at closes crc_of next_bits
+returns-clause-three_pairs c = image_shows _ (pair (0, 1) (large_superblock ∷ []) (hard (2, 3)) no_gstate ∷ pair (2, 3) (large_superblock ∷ []) (hard (4, 5)) no_gstate ∷ pair (4, 5) (large_superblock ∷ file (codes "a") (codes "hi") ∷ []) None no_gstate ∷ []) (superblock_bytes 4096 16) 2
+    (record { links = (refl, (refl, (refl, refl))); contents = (refl, (refl, (refl, tt))); first = refl; named = refl; lists = (tt, (tt, (tt, (tt, tt)))); pass = refl }) _ _ _ refl refl refl

@@ -1,5 +1,5 @@
 use Rattle.std.proofs.Common.{◌≡◌, false, refl}
-use Rattle.lfs_model.specs.Examples.{three_blocks, three_blocks_with}
+use Rattle.lfs_model.specs.Examples.{three_blocks, three_blocks_with, round_blocks}
 use Rattle.lfs_model.proofs.Skips.{is_list, list_from, list_to}
 use Rattle.lfs_model.proofs.lists.list_is_read.Goals as goal
 
@@ -20,4 +20,11 @@ unfolding lib.Count.count_trailing_zeros
 returns-clause-wrong_pointer c = λ h.
     let passes = list_to (three_blocks_with 6) 1024 7 2045 h in
     let fails : is_list (three_blocks_with 6) 1024 7 2045 ≡ false = refl in
+    cc
+
+pub returns-clause-round : goal.returns-clause-round
+unfolding lib.Count.count_trailing_zeros
+returns-clause-round c = λ h.
+    let passes = list_to round_blocks 1024 7 2045 h in
+    let fails : is_list round_blocks 1024 7 2045 ≡ false = refl in
     cc

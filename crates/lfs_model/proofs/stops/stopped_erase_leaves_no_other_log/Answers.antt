@@ -1,10 +1,3 @@
-<<<<<<< HEAD
-use Rattle.std.proofs.Common.{ℕ, ◌+◌, ◌≡◌, inl, inr, Option, Some, None, List, [], ◌∷◌, ◌++◌, refl, ap, arith, zero, suc, length}
-use Rattle.lfs_model.specs.Crc.{crc_of, next_bits}
-use Rattle.lfs_model.specs.Log.{BlockLog, chain_of, chain_within, commit_within, entry_at, closes}
-use Rattle.lfs_model.specs.Stops.{LeftByErase}
-use Rattle.lfs_model.specs.Stored.{filled}
-=======
 use Rattle.std.proofs.Common.{ℕ, ◌+◌, ◌≡◌, ◌⊎◌, inl, inr, Option, Some, None, List, [], ◌∷◌, ◌++◌, true, refl, ap, arith, zero, suc, length}
 use Rattle.lfs_model.specs.Blocks.{Blocks, block_in}
 use Rattle.lfs_model.specs.History.{Erase, event}
@@ -12,7 +5,6 @@ use Rattle.lfs_model.specs.Crc.{crc_of, next_bits}
 use Rattle.lfs_model.specs.Log.{BlockLog, log_of, chain_of, chain_within, commit_within, entry_at, closes}
 use Rattle.lfs_model.specs.Stops.{Stops, LeftByErase}
 use Rattle.lfs_model.specs.Stored.{unwritten, filled}
->>>>>>> 72c184f8e6398c9f944a961c4534204c2b4ae2b7
 use Rattle.lfs_model.specs.Examples.{small_block, small_commit, appended_commit}
 use Rattle.lfs_model.proofs.stops.stopped_erase_leaves_no_other_log.Goals as goal
 

@@ -3,7 +3,6 @@ pub mod BlockSets
 pub mod Cache
 pub mod Geometry
 pub mod History
-pub mod Failures
 pub mod Disk
 pub mod Names
 pub mod Crc
@@ -40,9 +39,11 @@ pub mod Thrift
 pub mod Headline
 pub mod Stops
 pub mod PowerLoss
+pub mod FailedCalls
 pub mod Outages
 pub mod RunExamples
 pub mod HistoryExamples
 pub mod Listing
 pub mod Sessions
 pub mod Source
+pub mod SourceExamples

@@ -4,6 +4,7 @@ ghost use Rattle.std.specs.Prelude.{◌≡◌, ℕ, ◌+◌, ◌≤◌, ◌<◌,
 ghost use Rattle.lfs_model.specs.Blocks.{Blocks, block_in, programmed};
 ghost use Rattle.lfs_model.specs.History.{Call, Program, Erase, event};
 ghost use Rattle.lfs_model.specs.Stops.{stops_in, Stops, ErasesCleanly};
+ghost use Rattle.lfs_model.specs.PowerLoss.{FailsAsStopped};
 ghost use Rattle.lfs_model.specs.Stored.{unwritten, filled};
 ghost use Rattle.lfs_model.specs.Examples.{small_commit, appended_commit, small_block};
 
@@ -26,4 +27,8 @@ pub fn stopped_erase_leaves_no_other_log()
     // What is said of stops supposes that an erase which succeeds leaves no other log, either.
     ensures clean { ErasesCleanly (event (Erase 0) (small_block ∷ []) (unwritten 1024 ∷ []) false) }
     ensures not_clean { ErasesCleanly (event (Erase 0) (small_block ∷ []) (filled 1024 (small_commit ++ appended_commit) ∷ []) false) → ⊥ }
+
+    // A call that fails may leave what a stop in it leaves, or more.
+    ensures as_stopped { FailsAsStopped (event (Erase 0) (small_block ∷ []) (unwritten 1024 ∷ []) true) }
+    ensures not_stopped { FailsAsStopped (event (Erase 0) (small_block ∷ []) (filled 1024 (small_commit ++ appended_commit) ∷ []) true) → ⊥ }
 {}

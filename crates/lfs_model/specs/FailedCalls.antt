@@ -1,15 +1,12 @@
--- What a call that failed left, as a stop in it would.
+-- What calls that failed left, as stops in them would.
 use Rattle.std.specs.Prelude.{◌≡◌, true, List, [], ◌∷◌}
 use Rattle.lfs_model.specs.Blocks.{Blocks}
 use Rattle.lfs_model.specs.History.{Event, EachSince}
-
--- a call that failed left what a stop in it may leave
-abbrev pub FailsAsStopped : (Event → Blocks → Type 0) → Event → Type 0
-FailsAsStopped stops e = e.failed ≡ true → stops e e.after
+use Rattle.lfs_model.specs.PowerLoss.{FailsAsStopped}
 
 -- each failed call since the old history left what a stop in it may leave
-abbrev pub FailAsStopped : (Event → Blocks → Type 0) → List Event → List Event → Type 0
-FailAsStopped stops old new = EachSince (FailsAsStopped stops) old new
+abbrev pub FailAsStopped : List Event → List Event → Type 0
+FailAsStopped old new = EachSince FailsAsStopped old new
 
 -- what a stop in the newest call may leave
 abbrev pub IsLeftByNewest : (Event → Blocks → Type 0) → List Event → Blocks → Type 0

@@ -1,0 +1,136 @@
+-- An open of a new file takes a fresh disk to one with a file in its root: the step, and the operation's turn.
+use Rattle.std.proofs.Common.{◌≡◌, true, List, [], ◌∷◌, ◌++◌, Some, None, refl, sym, arith}
+use Rattle.std.specs.Prelude.{codes, nat_eq}
+use Rattle.std.specs.List.{IsDistinct}
+use Rattle.std.proofs.lemmas.List.Elements.{All-from_recursion}
+use Rattle.lfs_model.specs.Crc.{crc_of, next_bits}
+use Rattle.lfs_model.specs.Log.{chain_of, chain_within, commit_within, entry_at, closes}
+use Rattle.lfs_model.specs.Content.{content_at, holder_at}
+use Rattle.lfs_model.specs.Slots.{Slot, no_gstate}
+use Rattle.lfs_model.specs.Thread.{Pair, anchor}
+use Rattle.lfs_model.specs.View.{BeginsWith, superblock_entry, used_blocks}
+use Rattle.lfs_model.specs.Fresh.{IsFresh, fresh_pair, superblock_slot}
+use Rattle.lfs_model.specs.SlotEdits.{new_file}
+use Rattle.lfs_model.specs.Operations as ops
+use Rattle.lfs_model.specs.Session.{Session, Surroundings}
+use Rattle.lfs_model.specs.State.{mounted}
+use Rattle.lfs_model.specs.Fresh.{empty_tree}
+use Rattle.lfs_model.specs.Steps.{effect_of}
+use Rattle.lfs_model.specs.Run.{IsTurn}
+use Rattle.lfs_model.specs.Sessions.{for_new}
+use Rattle.lfs_model.specs.Examples.{large_image}
+use Rattle.lfs_model.specs.RunExamples.{large_moment, large_appended, opened_moment}
+use Rattle.lfs_model.proofs.Files.{HasSameFile}
+use Rattle.lfs_model.proofs.Sites.{Site}
+use Rattle.lfs_model.proofs.Fresh.{accepted, shows, writable}
+use Rattle.lfs_model.proofs.OnePair.{one_more_fits}
+use Rattle.lfs_model.proofs.Committed.{IsCommit, IsCompleted}
+use Rattle.lfs_model.proofs.OneCommit.{create_completed}
+use Rattle.lfs_model.proofs.Arranged.{finished_settled}
+use Rattle.lfs_model.proofs.TurnsMade.{IsOver, IsProper, completed_turn, idle_turn}
+
+abbrev pub op : ops.Operation
+op = ops.Open (codes "/b") for_new
+
+abbrev pub around : Surroundings
+around = record { writable = true; block_size = 4096; page = 256; block_count = 16; used = 0 ∷ 1 ∷ []; gstate = no_gstate }
+
+abbrev superblock : Slot
+superblock = superblock_slot 4096 16
+
+abbrev pub pair : Pair
+pair = fresh_pair large_image
+
+abbrev file : Slot
+file = new_file (codes "b")
+
+abbrev pub next : Pair
+next = record { at = anchor; content = record { slots = superblock ∷ file ∷ []; tail = None; move = no_gstate } }
+
+abbrev site : Site
+site = record { chain = []; before = []; left = []; right = []; after = [] }
+
+pub fresh : IsFresh large_image
+unfolding chain_of chain_within commit_within entry_at closes crc_of next_bits
+fresh = record {
+  geometry = record { power = refl; pages = omega arith; no_smaller = omega arith; no_larger = omega arith; whole_pages = refl; no_fewer = omega arith; no_more = omega arith; bytes = omega arith };
+  content = refl;
+  first = refl;
+}
+
+holds : content_at large_appended anchor ≡ Some next.content
+unfolding chain_of chain_within commit_within entry_at closes crc_of next_bits
+holds = refl
+
+begins : BeginsWith (holder_at large_appended anchor) superblock_entry
+unfolding chain_of chain_within commit_within entry_at closes crc_of next_bits
+begins = refl
+
+distinct : IsDistinct nat_eq (([] ++ []) ++ used_blocks large_image (pair ∷ []))
+unfolding IsDistinct
+distinct = ((refl, tt), (tt, tt))
+
+pub commit : IsCommit large_image large_appended site pair next [] [] (superblock ∷ []) [] (file ∷ []) []
+commit = record {
+  accepted = accepted large_image fresh;
+  writable = writable large_image fresh;
+  settled = refl;
+  still = refl;
+  site = record { chain = refl; ends = tt; run = refl };
+  device = record {
+    geometry = record { block_size = refl; page = refl; count = refl };
+    contents = All-from_recursion (λ r. content_at large_appended r.at ≡ Some r.content) (next ∷ []) (holds, tt);
+    first = begins;
+    files = All-from_recursion (λ s. HasSameFile large_image large_appended s.struct) (superblock ∷ []) (tt, tt);
+  };
+  free = record { distinct = distinct; in_range = λ k d l. absurd (omega arith) };
+  at = refl;
+  was = refl;
+  is = refl;
+  became = (refl, one_more_fits large_image (fresh_pair large_image) (superblock ∷ []) [] file refl (omega arith) (omega arith));
+  splice = record { front = λ e. absurd (cc); entries = (record { name = refl; struct = tt }, tt); lists = (tt, tt); blocks = λ b. omega arith };
+  fit = (((λ e. absurd (cc)), (λ e. record { charge = omega arith; inline = omega arith })), tt);
+}
+
+pub completed : IsCompleted large_image (pair ∷ []) (mounted empty_tree) op large_appended (next ∷ [])
+completed = create_completed large_image large_appended site pair next [] (superblock ∷ []) [] (codes "b") commit [] anchor refl refl
+    (record { within = omega arith; below = λ j d l. absurd (omega arith); above = λ j d l m. absurd (omega arith) })
+    (mounted empty_tree) (codes "/b") for_new (sym (shows large_image)) refl refl
+
+pub over : IsOver large_image (pair ∷ []) (mounted empty_tree) around
+over = record {
+  accepted = accepted large_image fresh;
+  surrounds = record { block_size = refl; page = refl; block_count = refl; used = refl; gstate = refl; writable = ((λ e. writable large_image fresh), λ w. refl) };
+  tree = sym (shows large_image);
+}
+
+proper : IsProper large_image (pair ∷ []) (mounted empty_tree) op opened_moment.calls large_appended
+proper = record {
+  geometry = record { block_size = refl; page = refl; count = refl };
+  other = refl;
+  asks = refl;
+  fills = refl;
+  opens = λ e. absurd (cc);
+  silent = λ e. absurd (cc);
+  itself = λ e. absurd (cc);
+  nothing_left = λ e. absurd (cc);
+}
+
+pub turn : IsTurn large_moment op (ops.Opened 0) opened_moment
+turn = completed_turn large_image (pair ∷ []) (mounted empty_tree) around op large_appended (next ∷ []) opened_moment.calls [] over refl proper
+    (finished_settled large_image (pair ∷ []) (mounted empty_tree) op large_appended (next ∷ []) commit.accepted commit.writable refl completed)
+
+-- ---- the open file is clean, so a sync finds nothing to do
+
+abbrev pub opened : Session
+opened = (effect_of around (mounted empty_tree) op).1
+
+pub opened_over : IsOver large_appended (next ∷ []) opened around
+opened_over = record {
+  accepted = completed.accepted;
+  surrounds = record { block_size = refl; page = refl; block_count = refl; used = refl; gstate = refl; writable = ((λ e. completed.writable), λ w. refl) };
+  tree = sym (completed.tree around);
+}
+
+pub sync_turn : IsTurn opened_moment (ops.Sync 0) ops.Done opened_moment
+sync_turn = idle_turn large_appended (next ∷ []) opened around (ops.Sync 0) [] opened_moment.calls opened_over refl refl refl refl refl (refl, refl) (λ e. refl)

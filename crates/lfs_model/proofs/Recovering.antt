@@ -1,0 +1,185 @@
+-- A recovery, pair by pair in the thread's order: a pair whose directory a path leads to is kept, any other is dropped. It may drop any number.
+use Rattle.std.proofs.Common.{ℕ, ◌≡◌, ◌≢◌, inl, inr, true, List, [], ◌∷◌, ◌++◌, length, take, Option, None, refl, sym, ap, subst, ◌∙◌, append_assoc, append-nil, subst₂}
+use Rattle.std.specs.Prelude.{is_some}
+use Rattle.lfs_model.specs.Disk.{Disk}
+use Rattle.lfs_model.specs.Slots.{no_gstate}
+use Rattle.lfs_model.specs.Thread.{Pair, gstate_of, unmoved, superblocks_before, directory_pairs}
+use Rattle.lfs_model.specs.Tree.{Tree}
+use Rattle.lfs_model.specs.View.{IsAccepted, IsReached, IsWritable, tree_in}
+use Rattle.lfs_model.specs.Operations as ops
+use Rattle.lfs_model.specs.Session.{Session}
+use Rattle.lfs_model.specs.PowerLoss.{IsLeft}
+use Rattle.lfs_model.specs.Layout.{begin_from, onward}
+use Rattle.lfs_model.proofs.Counts.{Each}
+use Rattle.lfs_model.proofs.Global.{HasNoMove, unmoved_all}
+use Rattle.lfs_model.proofs.Superblocks.{IsChain}
+use Rattle.lfs_model.proofs.Found.{chain_of_thread}
+use Rattle.lfs_model.proofs.Laws.{Walk}
+use Rattle.lfs_model.proofs.Layouts.{singles, joined_parts, joined_singles, joined_append, onward_all}
+use Rattle.lfs_model.proofs.Alike.{AreAlike, alike_itself, alike_append}
+use Rattle.lfs_model.proofs.Committed.{IsCompleted}
+use Rattle.lfs_model.proofs.RecoveredImage.{Fates, recover_completed}
+use Rattle.lfs_model.proofs.StepsTaken.{IsTaken, taken_then, taken_before}
+use Rattle.lfs_model.proofs.Unthreaded.{IsUnthreaded, IsReady, unthread}
+
+-- ---- the pairs still to come
+
+-- The pair stands there without the slot that a set move named; or it is gone already, since that was its only one.
+abbrev pub Waits : List Pair → Option (ℕ × ℕ) → Pair → List Pair → Type 0
+Waits ps from p [] = (is_some from ≡ true) × (unmoved (gstate_of ps) p ≡ [])
+Waits ps from p (x ∷ []) = (x.at ≡ p.at) × (x.content.slots ≡ unmoved (gstate_of ps) p)
+Waits ps from p (x ∷ y ∷ xs) = ⊥
+
+abbrev pub AllWait : List Pair → Option (ℕ × ℕ) → List Pair → List (List Pair) → Type 0
+AllWait ps from [] [] = Unit {0}
+AllWait ps from [] (x ∷ xs) = ⊥
+AllWait ps from (p ∷ todo) [] = ⊥
+AllWait ps from (p ∷ todo) (now ∷ waits) = Waits ps from p now × AllWait ps (onward from p) todo waits
+
+-- ---- on the way
+
+-- Of the pairs ps the ones seen came to parts, which stand there as kept; the others, todo, stand there as waits say.
+pub record IsRecovering (disk : Disk) (ps : List Pair) (now : Disk) (chain seen todo : List Pair) (parts waits : List (List Pair)) (kept : List Pair) : Type 0 where
+  pub are : ps ≡ chain ++ (seen ++ todo)
+  pub was_chain : IsChain chain (seen ++ todo)
+  pub plain : Each (λ p. unmoved (gstate_of ps) p ≡ p.content.slots) chain
+  pub fates : Fates ps 0 None seen parts
+  pub alike : AreAlike (joined_parts parts) kept
+  pub wait : AllWait ps (onward_all None seen) todo waits
+  pub taken : IsTaken disk ps now (chain ++ (kept ++ joined_parts waits)) (λ t. t) (λ d. d)
+  pub ready : IsReady now chain (kept ++ joined_parts waits)
+
+fates_append : (ps : List Pair) (from : Option (ℕ × ℕ)) (xs ys : List Pair) (us vs : List (List Pair)) → Fates ps 0 from xs us → Fates ps 0 (onward_all from xs) ys vs → Fates ps 0 from (xs ++ ys) (us ++ vs)
+fates_append ps from [] ys [] vs h k = k
+fates_append ps from [] ys (u ∷ us) vs h k = absurd h
+fates_append ps from (x ∷ xs) ys [] vs h k = absurd h
+fates_append ps from (x ∷ xs) ys (u ∷ us) vs h k = (h.0, fates_append ps (onward from x) xs ys us vs h.1 k)
+
+fates_behind : (ps chain xs : List Pair) (us : List (List Pair)) → Each (λ p. unmoved (gstate_of ps) p ≡ p.content.slots) chain → Fates ps 0 None xs us → Fates ps (length chain) None (chain ++ xs) (singles chain ++ us)
+fates_behind ps [] xs us h k = k
+fates_behind ps (c ∷ chain) xs us h k = (refl, h.0, fates_behind ps chain xs us h.1 k)
+
+onward_end : (from : Option (ℕ × ℕ)) (xs : List Pair) (p : Pair) → onward_all from (xs ++ p ∷ []) ≡ onward (onward_all from xs) p
+onward_end from [] p = refl
+onward_end from (x ∷ xs) p = onward_end (onward from x) xs p
+
+-- one that is seen more
+seen_more : (chain seen : List Pair) (p : Pair) (todo : List Pair) → chain ++ (seen ++ p ∷ todo) ≡ chain ++ ((seen ++ p ∷ []) ++ todo)
+seen_more chain seen p todo = ap (λ z. chain ++ z) (sym (append_assoc seen (p ∷ []) todo))
+
+alike_last : (xs front : List Pair) (p q : Pair) → q.at ≡ p.at → q.content.slots ≡ p.content.slots → AreAlike xs (front ++ p ∷ []) → AreAlike xs (front ++ q ∷ [])
+alike_last [] [] p q e f h = absurd h
+alike_last [] (y ∷ front) p q e f h = absurd h
+alike_last (x ∷ xs) [] p q e f h = (e ∙ h.0, f ∙ h.1, h.2)
+alike_last (x ∷ xs) (y ∷ front) p q e f h = (h.0, h.1, alike_last xs front p q e f h.2)
+
+module _ (disk : Disk) (ps : List Pair) (now : Disk) (chain seen : List Pair) (p : Pair) (todo : List Pair) (parts waits : List (List Pair)) (kept : List Pair) where
+  -- a pair whose directory is reached stays
+  pub recovery_keeps : (x : Pair) → IsRecovering disk ps now chain seen (p ∷ todo) parts ((x ∷ []) ∷ waits) kept → IsReached ps (begin_from (onward_all None seen) p)
+      → (is_some (onward_all None seen) ≡ true → unmoved (gstate_of ps) p ≢ []) → IsRecovering disk ps now chain (seen ++ p ∷ []) todo (parts ++ (x ∷ []) ∷ []) waits (kept ++ x ∷ [])
+  recovery_keeps x r reached some = record {
+    are = r.are ∙ seen_more chain seen p todo;
+    was_chain = ap superblocks_before (sym (seen_more chain seen p todo)) ∙ r.was_chain;
+    plain = r.plain;
+    fates = fates_append ps None seen (p ∷ []) parts ((x ∷ []) ∷ []) r.fates ((r.wait.0.0, r.wait.0.1, reached, some), tt);
+    alike = subst (λ z. AreAlike z (kept ++ x ∷ [])) (sym (joined_append parts ((x ∷ []) ∷ []))) (alike_append (joined_parts parts) (x ∷ []) kept (x ∷ []) r.alike (alike_itself (x ∷ [])));
+    wait = subst (λ z. AllWait ps z todo waits) (sym (onward_end None seen p)) r.wait.1;
+    taken = subst (λ z. IsTaken disk ps now (chain ++ z) (λ t. t) (λ d. d)) (sym (append_assoc kept (x ∷ []) (joined_parts waits))) r.taken;
+    ready = subst (IsReady now chain) (sym (append_assoc kept (x ∷ []) (joined_parts waits))) r.ready;
+  }
+
+  -- one that went with its only slot is gone
+  pub recovery_skips : IsRecovering disk ps now chain seen (p ∷ todo) parts ([] ∷ waits) kept → IsRecovering disk ps now chain (seen ++ p ∷ []) todo (parts ++ [] ∷ []) waits kept
+  recovery_skips r = record {
+    are = r.are ∙ seen_more chain seen p todo;
+    was_chain = ap superblocks_before (sym (seen_more chain seen p todo)) ∙ r.was_chain;
+    plain = r.plain;
+    fates = fates_append ps None seen (p ∷ []) parts ([] ∷ []) r.fates (inr r.wait.0, tt);
+    alike = subst (λ z. AreAlike z kept) (sym (joined_append parts ([] ∷ []) ∙ append-nil (joined_parts parts))) r.alike;
+    wait = subst (λ z. AllWait ps z todo waits) (sym (onward_end None seen p)) r.wait.1;
+    taken = r.taken;
+    ready = r.ready;
+  }
+
+  -- a pair whose directory isn't reached goes
+  pub recovery_drops : (new : Disk) (front : List Pair) (before o q : Pair) → kept ≡ front ++ before ∷ [] → IsRecovering disk ps now chain seen (p ∷ todo) parts ((o ∷ []) ∷ waits) kept
+      → (IsReached ps (begin_from (onward_all None seen) p) → ⊥) → IsUnthreaded now new chain front before o q (joined_parts waits)
+      → IsRecovering disk ps new chain (seen ++ p ∷ []) todo (parts ++ [] ∷ []) waits (front ++ q ∷ [])
+  recovery_drops new front before o q is r unreached c =
+      let here : kept ++ o ∷ joined_parts waits ≡ front ++ before ∷ o ∷ joined_parts waits = ap (λ z. z ++ o ∷ joined_parts waits) is ∙ append_assoc front (before ∷ []) (o ∷ joined_parts waits) in
+      let u = unthread now new chain front before o q (joined_parts waits) (subst (IsReady now chain) here r.ready) c in
+      let there : front ++ q ∷ joined_parts waits ≡ (front ++ q ∷ []) ++ joined_parts waits = sym (append_assoc front (q ∷ []) (joined_parts waits)) in
+      record {
+        are = r.are ∙ seen_more chain seen p todo;
+        was_chain = ap superblocks_before (sym (seen_more chain seen p todo)) ∙ r.was_chain;
+        plain = r.plain;
+        fates = fates_append ps None seen (p ∷ []) parts ([] ∷ []) r.fates (inl unreached, tt);
+        alike = subst (λ z. AreAlike z (front ++ q ∷ [])) (sym (joined_append parts ([] ∷ []) ∙ append-nil (joined_parts parts)))
+            (alike_last (joined_parts parts) front before q c.at c.slots (subst (AreAlike (joined_parts parts)) is r.alike));
+        wait = subst (λ z. AllWait ps z todo waits) (sym (onward_end None seen p)) r.wait.1;
+        taken = taken_then disk now new ps (chain ++ (kept ++ o ∷ joined_parts waits)) (chain ++ ((front ++ q ∷ []) ++ joined_parts waits)) (λ t. t) (λ t. t) (λ d. d) (λ d. d) r.taken
+            (subst₂ (λ y z. IsTaken now (chain ++ y) new (chain ++ z) (λ t. t) (λ d. d)) (sym here) there u.taken);
+        ready = subst (IsReady new chain) there u.ready;
+      }
+
+-- ---- its ends
+
+nothing_done : (disk : Disk) (ps : List Pair) → IsAccepted disk ps → IsWritable disk ps → IsTaken disk ps disk ps (λ t. t) (λ d. d)
+nothing_done disk ps ok fits = record { follows = record { accepted = ok; root = refl; shows = refl; leads = refl }; writable = fits }
+
+-- where no move is set, all pairs wait as they are
+pub recovery_begins : (disk : Disk) (ps : List Pair) → IsAccepted disk ps → IsWritable disk ps → HasNoMove (gstate_of ps)
+    → IsRecovering disk ps disk (take (superblocks_before ps) ps) [] (directory_pairs ps) [] (singles (directory_pairs ps)) []
+recovery_begins disk ps ok fits none =
+    let e = chain_of_thread ps in
+    let same : ps ≡ take (superblocks_before ps) ps ++ joined_parts (singles (directory_pairs ps)) = e.0 ∙ ap (λ z. take (superblocks_before ps) ps ++ z) (sym (joined_singles (directory_pairs ps))) in
+    record {
+      are = e.0;
+      was_chain = e.1;
+      plain = all_plain (take (superblocks_before ps) ps);
+      fates = tt;
+      alike = tt;
+      wait = all_wait None (directory_pairs ps);
+      taken = subst (λ z. IsTaken disk ps disk z (λ t. t) (λ d. d)) same (nothing_done disk ps ok fits);
+      ready = record {
+        accepted = subst (IsAccepted disk) same ok;
+        writable = subst (IsWritable disk) same fits;
+        no_move = subst (λ z. HasNoMove (gstate_of z)) same none;
+        is_chain = ap superblocks_before (sym same) ∙ ap superblocks_before e.0 ∙ e.1;
+      };
+    }
+  where
+    all_plain : (xs : List Pair) → Each (λ p. unmoved (gstate_of ps) p ≡ p.content.slots) xs
+    all_plain [] = tt
+    all_plain (x ∷ xs) = (unmoved_all (gstate_of ps) none x, all_plain xs)
+
+    all_wait : (from : Option (ℕ × ℕ)) (xs : List Pair) → AllWait ps from xs (singles xs)
+    all_wait from [] = tt
+    all_wait from (x ∷ xs) = ((refl, sym (unmoved_all (gstate_of ps) none x)), all_wait (onward from x) xs)
+
+-- All pairs were seen. A last commit may have changed a share of the global state, which now is none.
+pub recovery_ends : (disk : Disk) (ps : List Pair) (now : Disk) (chain seen : List Pair) (parts : List (List Pair)) (kept : List Pair) (new : Disk) (rs : List Pair) (walk : Walk → Walk) (s : Session)
+    → IsRecovering disk ps now chain seen [] parts [] kept → IsWritable disk ps → IsTaken now (chain ++ (kept ++ [])) new rs (λ t. t) walk → AreAlike (chain ++ kept) rs → gstate_of rs ≡ no_gstate
+    → s.tree ≡ tree_in disk ps → IsCompleted disk ps s ops.Recover new rs
+recovery_ends disk ps now chain seen parts kept new rs walk s r fits last alike settled tree =
+    let t = taken_then disk now new ps (chain ++ (kept ++ [])) rs (λ t. t) (λ t. t) (λ d. d) walk r.taken last in
+    let are : ps ≡ chain ++ seen = r.are ∙ ap (λ z. chain ++ z) (append-nil seen) in
+    let count : superblocks_before ps ≡ length chain = ap superblocks_before r.are ∙ r.was_chain in
+    recover_completed disk ps new rs (singles chain ++ parts) s (λ d. walk d) fits t.follows t.writable settled
+    (subst₂ (λ n z. Fates ps n None z (singles chain ++ parts)) (sym count) (sym are) (fates_behind ps chain seen parts r.plain r.fates))
+    (alike_through (joined_parts (singles chain ++ parts)) (chain ++ kept) rs
+    (subst (λ z. AreAlike z (chain ++ kept)) (sym (joined_append (singles chain) parts ∙ ap (λ z. z ++ joined_parts parts) (joined_singles chain))) (alike_append chain (joined_parts parts) chain kept (alike_itself chain) r.alike)) alike)
+    tree
+  where
+    alike_through : (xs ys zs : List Pair) → AreAlike xs ys → AreAlike ys zs → AreAlike xs zs
+    alike_through [] [] [] h k = tt
+    alike_through [] [] (z ∷ zs) h k = absurd k
+    alike_through [] (y ∷ ys) zs h k = absurd h
+    alike_through (x ∷ xs) [] zs h k = absurd h
+    alike_through (x ∷ xs) (y ∷ ys) [] h k = absurd k
+    alike_through (x ∷ xs) (y ∷ ys) (z ∷ zs) h k = (k.0 ∙ h.0, k.1 ∙ h.1, alike_through xs ys zs h.2 k.2)
+
+-- on each disk in between the tree is the one from before
+pub recovery_leaves : (disk : Disk) (ps : List Pair) (now : Disk) (chain seen todo : List Pair) (parts waits : List (List Pair)) (kept : List Pair) (after : Tree)
+    → IsRecovering disk ps now chain seen todo parts waits kept → IsLeft now (tree_in disk ps) after
+recovery_leaves disk ps now chain seen todo parts waits kept after r = taken_before disk ps now (chain ++ (kept ++ joined_parts waits)) (λ d. d) after r.taken

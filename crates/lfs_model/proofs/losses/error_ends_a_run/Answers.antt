@@ -1,0 +1,36 @@
+use Rattle.std.proofs.Common.{◌≡◌, List, [], ◌∷◌, ◌++◌, None, refl, sym, ◌∙◌, append-nil}
+use Rattle.std.specs.Prelude.{codes}
+use Rattle.lfs_model.specs.Operations as ops
+use Rattle.lfs_model.specs.RunExamples.{fresh_moment}
+use Rattle.lfs_model.proofs.FreshSession.{differ}
+use Rattle.lfs_model.proofs.AskedTurn.{turn}
+use Rattle.lfs_model.proofs.losses.error_ends_a_run.Goals as goal
+
+pub returns-clause-second : goal.returns-clause-second
+returns-clause-second c = record {
+  done = ops.Stat (codes "/") ∷ [];
+  next = ops.Mkdir (codes "/d");
+  others = ops.UsedCount ∷ [];
+  are = refl;
+  replies = ops.StatIs None ∷ [];
+  at = fresh_moment;
+  turns = (fresh_moment, (turn, refl));
+  fails = record {
+    failed = refl;
+    geometry = record { block_size = refl; page = refl; count = refl };
+    calls = [];
+    called = refl;
+    asks = λ s e f. absurd (cc);
+    remounted = λ e. absurd (cc);
+    silent = λ e. absurd (cc);
+  };
+}
+
+pub returns-clause-goes_on : goal.returns-clause-goes_on
+returns-clause-goes_on c = λ h. absurd (let e = h.fails.failed in cc)
+
+pub returns-clause-no_call : goal.returns-clause-no_call
+returns-clause-no_call c = λ h. absurd (let e = h.called ∙ append-nil h.calls ∙ (h.silent refl refl).1 in cc)
+
+pub returns-clause-no_write : goal.returns-clause-no_write
+returns-clause-no_write c = λ h. differ (sym (h.remounted refl).0)

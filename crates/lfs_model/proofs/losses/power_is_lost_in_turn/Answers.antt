@@ -1,0 +1,41 @@
+use Rattle.std.proofs.Common.{◌≡◌, inl, [], ◌∷◌, refl, sym}
+use Rattle.std.specs.Prelude.{codes}
+use Rattle.lfs_model.specs.Fresh.{empty_tree}
+use Rattle.lfs_model.specs.Operations as ops
+use Rattle.lfs_model.specs.State.{mounted}
+use Rattle.lfs_model.specs.Outages.{LosesPower}
+use Rattle.lfs_model.specs.Examples.{small_image}
+use Rattle.lfs_model.specs.RunExamples.{fresh_moment, no_disk}
+use Rattle.lfs_model.proofs.Fresh.{shows}
+use Rattle.lfs_model.proofs.AfterStops.{outage_leaves}
+use Rattle.lfs_model.proofs.FreshSession.{pairs, are_accepted, in_profile, around, surrounds, none_accepted, withstood}
+use Rattle.lfs_model.proofs.losses.power_is_lost_in_turn.Goals as goal
+
+-- power is lost before the first call of a stat
+once : LosesPower small_image small_image
+once = record {
+  begin = fresh_moment;
+  mounts = record { on = refl; tree = empty_tree; shows = (pairs, (are_accepted, sym (shows small_image))); healthy = refl };
+  operations = [];
+  replies = [];
+  from = fresh_moment;
+  turns = refl;
+  session = mounted empty_tree;
+  healthy = refl;
+  around = around;
+  surrounds = (pairs, (are_accepted, surrounds));
+  next = ops.Stat (codes "/");
+  to = fresh_moment;
+  withstands = withstood;
+  cleanly = record { events = []; extends = refl; each = tt };
+  stop = inl refl;
+}
+
+pub returns-clause-once : goal.returns-clause-once
+returns-clause-once c = once
+
+pub returns-clause-again : goal.returns-clause-again
+returns-clause-again c = (once, (once, tt))
+
+pub returns-clause-not_all : goal.returns-clause-not_all
+returns-clause-not_all c = λ o. let left = outage_leaves small_image no_disk o in_profile in none_accepted left.pairs left.accepted

@@ -1,0 +1,25 @@
+use Rattle.std.proofs.Common.{◌≡◌, refl, sym}
+use Rattle.lfs_model.specs.Fresh.{empty_tree}
+use Rattle.lfs_model.specs.State.{mounted}
+use Rattle.lfs_model.specs.Examples.{small_image}
+use Rattle.lfs_model.specs.RunExamples.{fresh_moment}
+use Rattle.lfs_model.proofs.Fresh.{shows, writable}
+use Rattle.lfs_model.proofs.Example.{fresh}
+use Rattle.lfs_model.proofs.FreshSession.{pairs, are_accepted, none_accepted}
+use Rattle.lfs_model.proofs.AskedTurn.{turn}
+use Rattle.lfs_model.proofs.runs.sessions_are_defined.Goals as goal
+
+pub returns-clause-fresh : goal.returns-clause-fresh
+returns-clause-fresh c = record { from = fresh_moment; fresh = fresh; mounts = refl; turns = (fresh_moment, (turn, refl)) }
+
+pub returns-clause-shown : goal.returns-clause-shown
+returns-clause-shown c = record { session = mounted empty_tree; healthy = refl; shows = (pairs, (are_accepted, sym (shows small_image))) }
+
+pub returns-clause-failed : goal.returns-clause-failed
+returns-clause-failed c = λ h. absurd (let e = h.healthy in cc)
+
+pub returns-clause-settled : goal.returns-clause-settled
+returns-clause-settled c = record { pairs = pairs; accepted = are_accepted; writable = writable small_image fresh; recovered = record { gstate = refl; reached = are_accepted.reached refl } }
+
+pub returns-clause-not_settled : goal.returns-clause-not_settled
+returns-clause-not_settled c = λ h. none_accepted h.pairs h.accepted

@@ -1,0 +1,83 @@
+use Rattle.std.proofs.Common.{ℕ, ◌≡◌, ◌⊎◌, inl, inr, true, List, [], ◌∷◌, ◌++◌, Option, Some, refl, sym, ap, subst, ◌∙◌, arith, flat_map}
+use Rattle.std.specs.Prelude.{codes, slice_index}
+use Rattle.std.proofs.lemmas.Option.{same_Some}
+use Rattle.std.proofs.lemmas.List.Concat.{flat_map-append}
+use Rattle.lfs_model.specs.Slots.{Slot, Struct, Inline}
+use Rattle.lfs_model.specs.Thread.{Pair, anchor}
+use Rattle.lfs_model.specs.Fresh.{superblock_slot, empty_tree}
+use Rattle.lfs_model.specs.Operations as ops
+use Rattle.lfs_model.specs.SlotEdits.{new_file, new_directory, with_slots, IsSpliced, slot_of_path, Moves}
+use Rattle.lfs_model.specs.Layout.{slots_of}
+use Rattle.lfs_model.specs.RunExamples.{directories_with, two_directories, root_with}
+use Rattle.lfs_model.proofs.Sites.{Among, among_left, among_right}
+use Rattle.lfs_model.proofs.slots.slots_are_edited.Goals as goal
+
+abbrev root : List Slot
+root = superblock_slot 4096 16 ∷ new_directory (codes "d") (4, 5) ∷ []
+
+pub returns-clause-made : goal.returns-clause-made
+returns-clause-made c = (refl, record { before = []; pair = _; after = _; left = root; right = []; was = refl; held = refl; is = refl })
+
+pub returns-clause-moved : goal.returns-clause-moved
+returns-clause-moved c = (
+  refl,
+  (
+    new_file (codes "a"),
+    directories_with [] [],
+    directories_with [] [],
+    (
+      refl,
+      record { before = _ ∷ []; pair = _; after = _; left = []; right = []; was = refl; held = refl; is = refl },
+      refl,
+      record { before = []; pair = _; after = _; left = root; right = []; was = refl; held = refl; is = refl },
+    ),
+  ),
+)
+
+pub returns-clause-removed : goal.returns-clause-removed
+returns-clause-removed c = (refl, new_file (codes "a"), (refl, record { before = _ ∷ []; pair = _; after = _; left = []; right = []; was = refl; held = refl; is = refl }))
+
+pub returns-clause-committed : goal.returns-clause-committed
+returns-clause-committed c = (
+  refl,
+  inr (
+    refl,
+    (
+      new_file (codes "a"),
+      record (new_file (codes "a")) { struct = Inline (codes "hi") },
+      (refl, (refl, (refl, omega arith)), record { before = []; pair = _; after = _; left = superblock_slot 4096 16 ∷ []; right = []; was = refl; held = refl; is = refl }),
+    ),
+  ),
+)
+
+pub returns-clause-no_slot : goal.returns-clause-no_slot
+returns-clause-no_slot c = λ new h. absurd (let k = h.2.0 in cc)
+
+-- a slot that comes is among those that stand then
+comes : (v : Slot) (olds : List Slot) (old new : List Pair) → IsSpliced olds (v ∷ []) old new → Among (λ s. s ≡ v) (slots_of new)
+comes v olds old new h = subst (λ qs. Among (λ s. s ≡ v) (slots_of qs)) (sym h.is)
+    (subst (Among (λ s. s ≡ v)) (sym (flat_map-append (λ (p : Pair). p.content.slots) h.before (with_slots (h.left ++ v ∷ h.right) h.pair ∷ h.after)))
+    (among_right (λ s. s ≡ v) (slots_of h.before) (slots_of (with_slots (h.left ++ v ∷ h.right) h.pair ∷ h.after))
+    (among_left (λ s. s ≡ v) (h.left ++ v ∷ h.right) (slots_of h.after) (among_right (λ s. s ≡ v) h.left (v ∷ h.right) (inl refl)))))
+
+abbrev first_byte_of : Struct → ℕ
+first_byte_of (Inline bytes) = slice_index bytes 0
+first_byte_of _ = 0
+
+abbrev first_byte : Slot → ℕ
+first_byte s = first_byte_of s.struct
+
+-- the moved slot says `x`, and none of these does
+other_bytes : Moves (root_with (codes "a") (codes "x")) (codes "a" ∷ []) (codes "b" ∷ []) (root_with (codes "a") (codes "x")) (root_with (codes "b") (codes "y")) → ⊥
+other_bytes (u, left, cleared, (at, out, clear, into)) = go (comes (record u { name = codes "b" }) [] cleared (root_with (codes "b") (codes "y")) into)
+  where
+    says : first_byte u ≡ 120
+    says = sym (ap first_byte (same_Some (record (new_file (codes "a")) { struct = Inline (codes "x") }) u at))
+
+    go : Among (λ s. s ≡ record u { name = codes "b" }) (slots_of (root_with (codes "b") (codes "y"))) → ⊥
+    go (inl e) = absurd (let k : 0 ≡ first_byte u = ap first_byte e in omega (arith, says))
+    go (inr (inl e)) = absurd (let k : 121 ≡ first_byte u = ap first_byte e in omega (arith, says))
+    go (inr (inr e)) = e
+
+pub returns-clause-other_bytes : goal.returns-clause-other_bytes
+returns-clause-other_bytes c = λ h. other_bytes h.1

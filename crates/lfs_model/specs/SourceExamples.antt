@@ -1,0 +1,12 @@
+-- Sources for contracts that show what a source is.
+use Rattle.std.specs.Prelude.{true, false, List, [], ◌∷◌, codes}
+use Rattle.lfs_model.specs.Names.{Name}
+use Rattle.lfs_model.specs.Source.{Source}
+
+-- a file `a` with `hello`
+abbrev pub one_file : Source
+one_file = record { names = λ folder. (codes "a", false) ∷ []; bytes = λ path. codes "hello" }
+
+-- in each folder a folder `d` and a file `a`, whose bytes are its path
+abbrev pub endless : Source
+endless = record { names = λ folder. (codes "d", true) ∷ (codes "a", false) ∷ []; bytes = λ path. path }

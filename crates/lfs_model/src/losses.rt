@@ -1,0 +1,39 @@
+// Where an error ends a run, and where power is lost.
+
+ghost use Rattle.std.specs.Prelude.{◌≡◌, ℕ, List, [], ◌∷◌, ◌++◌, Some, None, codes};
+ghost use Rattle.lfs_model.specs.Disk.{Disk};
+ghost use Rattle.lfs_model.specs.Fresh.{empty_tree};
+ghost use Rattle.lfs_model.specs.Operations as ops;
+ghost use Rattle.lfs_model.specs.Run.{Moment};
+ghost use Rattle.lfs_model.specs.Failure.{Fails, IsCutShort};
+ghost use Rattle.lfs_model.specs.PowerLoss.{Withstands, IsRestored, IsSafe};
+ghost use Rattle.lfs_model.specs.Outages.{LosesPower, LosesPowerInTurn};
+ghost use Rattle.lfs_model.specs.Examples.{small_image, appended_image};
+ghost use Rattle.lfs_model.specs.RunExamples.{fresh_moment, failed_moment, no_disk, some_reads};
+
+/// A run ends where its session fails; what came before it was carried out.
+pub fn error_ends_a_run()
+    ensures second { IsCutShort fresh_moment (ops.Stat (codes "/") ∷ ops.Mkdir (codes "/d") ∷ ops.UsedCount ∷ []) failed_moment }
+    ensures goes_on { IsCutShort fresh_moment (ops.Stat (codes "/") ∷ []) fresh_moment → ⊥ }
+
+    // A session that had failed makes no call, and a failed remount writes nothing.
+    ensures no_call { Fails failed_moment (ops.Stat (codes "/")) (record failed_moment { calls = some_reads 1 }) → ⊥ }
+    ensures no_write { Fails fresh_moment ops.Remount (record failed_moment { disk = appended_image }) → ⊥ }
+{}
+
+/// A stop leaves the tree from before or from after, and a mount and a recovery keep it.
+pub fn stops_are_withstood()
+    ensures no_call { Withstands fresh_moment (ops.Stat (codes "/")) fresh_moment }
+    ensures lost { Withstands fresh_moment (ops.Stat (codes "/")) (record fresh_moment { disk = no_disk }) → ⊥ }
+    ensures restored { IsRestored empty_tree (ops.Done ∷ ops.Done ∷ []) small_image }
+    ensures other_tree { IsRestored (λ path. None) (ops.Done ∷ ops.Done ∷ []) small_image → ⊥ }
+    ensures safe { IsSafe small_image }
+    ensures not_safe { IsSafe no_disk → ⊥ }
+{}
+
+/// Power may be lost again and again, but what is lost then isn't the tree.
+pub fn power_is_lost_in_turn()
+    ensures once { LosesPower small_image small_image }
+    ensures again { LosesPowerInTurn small_image (small_image ∷ small_image ∷ []) }
+    ensures not_all { LosesPower small_image no_disk → ⊥ }
+{}

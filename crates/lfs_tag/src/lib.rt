@@ -35,6 +35,3 @@ pub use search::{get, name_of, struct_of};
 pub use steps::Steps;
 pub use summary::Summary;
 pub use tag::Tag;
-
-#[cfg(test)]
-mod tests;

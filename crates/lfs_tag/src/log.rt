@@ -121,12 +121,7 @@ impl<'a> Log<'a> {
             end = commit.0;
             last = commit.1;
         }
-        Log {
-            block,
-            end,
-            last,
-            revision: revision(block),
-        }
+        Log::known(block, end, last)
     }
 
     /// The log of a block whose chain is known to end so, without reading the block again: what

@@ -13,11 +13,8 @@ loop-commit-preserved c = record {
   same = sym (chain_follows c.args.block.now c.loop-commit.start c.loop-commit.end c.loop-commit.last c.in-Some.commit c.in-Some.ensures.value) ∙ c.loop-commit.invariant.same;
 }
 
-pub invariant_of-result : goal.invariant_of-result
-invariant_of-result c =
-    let same = sym (chain_stops c.args.block.now c.loop-commit.start c.loop-commit.end c.loop-commit.last c.in_default.ensures.value) ∙ c.loop-commit.invariant.same in
-    record {
-      end = ap (λ (s : ℕ × ℕ). s.0) same;
-      last = ap (λ (s : ℕ × ℕ). s.1) same;
-      revision = search rules;
-    }
+pub known-requires-clause-end : goal.known-requires-clause-end
+known-requires-clause-end c = ap (λ (s : ℕ × ℕ). s.0) (sym (chain_stops c.args.block.now c.loop-commit.start c.loop-commit.end c.loop-commit.last c.in_default.ensures.value) ∙ c.loop-commit.invariant.same)
+
+pub known-requires-clause-last : goal.known-requires-clause-last
+known-requires-clause-last c = ap (λ (s : ℕ × ℕ). s.1) (sym (chain_stops c.args.block.now c.loop-commit.start c.loop-commit.end c.loop-commit.last c.in_default.ensures.value) ∙ c.loop-commit.invariant.same)

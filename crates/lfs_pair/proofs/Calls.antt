@@ -1,8 +1,8 @@
 -- What calls behind calls do to a device.
-use Rattle.std.proofs.Common.{ℕ, ◌≡◌, ◌⊎◌, ◌+◌, ◌<◌, ◌≤◌, Bool, List, [], ◌∷◌, refl, sym, ap, ◌∙◌, subst, arith}
+use Rattle.std.proofs.Common.{ℕ, ◌≡◌, ◌⊎◌, Bool, List, [], ◌∷◌, refl, sym, ◌∙◌, subst}
 use Rattle.lfs_device.specs.declared.device.BlockDevice.{Ghosts}
 use Rattle.lfs_device.specs.Calls.{ReadsOnly, ChangesBlock, ChangesOnly}
-use Rattle.std.specs.Prelude.{length, All, ◌≢◌}
+use Rattle.std.specs.Prelude.{All, ◌≢◌}
 use Rattle.lfs_model.specs.Blocks.{SameBut, SameButThese}
 use Rattle.lfs_model.specs.History.{Read, Program, Erase, event}
 use Rattle.lfs_model.proofs.Histories.{began, goes_on, goes_on_by, AtWorst-read, LeavesOnly-reads, LeavesOnly-weaker, OnlyReads-read, OnlyReads-trans, StayUnprogrammed-erase, StayUnprogrammed-program, StayUnprogrammed-reads, StayUnprogrammed-trans, StayUnprogrammed-wider}

@@ -15,7 +15,7 @@ use Rattle.lfs_pair.specs.Pair.{address_in}
 use Rattle.lfs_pair.specs.ChangeSeen.{changes_seen}
 use Rattle.lfs_device.specs.Calls.{ChangesOnly}
 use Rattle.lfs_pair.specs.Commit.{blocks_of, KeepsFirst, IsCompacted, NowHolds, LeftWith}
-use Rattle.lfs_pair.proofs.Changed.{left_by_change, made_here, some_same}
+use Rattle.lfs_pair.proofs.Changed.{left_by_change, made_here}
 use Rattle.lfs_pair.proofs.committing.commit_in.Goals as goal
 
 pub returns-in_err-compact-clause-stops : goal.returns-in_err-compact-clause-stops

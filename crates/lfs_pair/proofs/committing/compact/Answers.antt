@@ -11,7 +11,7 @@ use Rattle.lfs_model.proofs.Histories.{LeavesOnly-weaker}
 use Rattle.lfs_pair.specs.Pair.{address_in}
 use Rattle.lfs_pair.proofs.TwoBlocks.{other_is, below_count}
 use Rattle.lfs_pair.proofs.Calls.{only_block}
-use Rattle.lfs_pair.proofs.Changed.{is_compacting, compacted, compacted_first, now_holds, left_by_compaction, stays_outside}
+use Rattle.lfs_pair.proofs.Changed.{is_compacting, compacted, compacted_first, now_holds, left_by_compaction}
 use Rattle.lfs_pair.proofs.committing.compact.Goals as goal
 
 pub write_anew-requires-clause-in_device : goal.write_anew-requires-clause-in_device

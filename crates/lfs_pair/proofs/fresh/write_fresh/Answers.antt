@@ -7,9 +7,8 @@ use Rattle.lfs_model.specs.History.{AllUnprogrammed}
 use Rattle.lfs_model.specs.Slots.{address_of}
 use Rattle.lfs_tag.specs.ContentSeen.{content_seen}
 use Rattle.lfs_pair.proofs.Changed.{first_in, now_holds}
-use Rattle.std.proofs.Common.{ap, arith, Err}
+use Rattle.std.proofs.Common.{ap}
 use Rattle.lfs_model.specs.Slots.{address_of}
-use Rattle.lfs_model.proofs.Histories.{faults-since}
 use Rattle.std.proofs.Common.{inl, inr, refl}
 use Rattle.lfs_pair.proofs.Parted.{clears_more}
 use Rattle.lfs_pair.proofs.Calls.{only_block, only_trans}

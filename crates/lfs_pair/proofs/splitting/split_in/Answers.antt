@@ -1,10 +1,10 @@
-use Rattle.std.proofs.Common.{◌+◌, ◌%◌, ◌^◌, Err, Some, ap, sym, ◌∙◌, subst, arith}
+use Rattle.std.proofs.Common.{◌+◌, ◌%◌, ◌^◌, Some, ap, sym, ◌∙◌, subst, arith}
 use Rattle.lfs_model.specs.Blocks.{block_in}
 use Rattle.lfs_model.specs.Content.{RawContent, has_commit}
 use Rattle.lfs_pair.specs.Writing.{Holds}
 use Rattle.lfs_device.specs.Shown.{disk_of}
 use Rattle.lfs_model.specs.Slots.{address_of}
-use Rattle.lfs_model.proofs.Histories.{goes_on_by, faults-since, EachSince-behind, LeavesOnly-weaker, LeavesOnly-worst}
+use Rattle.lfs_model.proofs.Histories.{goes_on_by, EachSince-behind, LeavesOnly-weaker, LeavesOnly-worst}
 use Rattle.lfs_tag.specs.ContentSeen.{content_seen}
 use Rattle.lfs_pair.specs.Pair.{address_in}
 use Rattle.lfs_pair.specs.ChangeSeen.{changes_seen}

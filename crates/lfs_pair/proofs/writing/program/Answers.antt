@@ -1,13 +1,11 @@
-use Rattle.std.specs.Prelude.{[], ◌∷◌}
-use Rattle.lfs_model.proofs.Histories.{StayUnprogrammed-reads, StayUnprogrammed-trans, StayUnprogrammed-program}
 use Rattle.std.proofs.Common.{◌≡◌, ◌+◌, ◌-◌, ◌^◌, ◌≤◌, ℕ, refl, sym, ap, ◌∙◌, inl, arith, subst}
 use Rattle.std.specs.Prelude.{min}
-use Rattle.lfs_model.specs.Blocks.{block_in, overwritten, programmed, SameBut}
+use Rattle.lfs_model.specs.Blocks.{block_in, overwritten, programmed}
 use Rattle.lfs_model.specs.Geometry.{IsGeometry}
 use Rattle.lfs_model.specs.History.{AllUnprogrammed, erases, programs}
 use Rattle.lfs_tag.specs.Builder.{padded_end}
 use Rattle.lfs_pair.specs.Writing.{Gets}
-use Rattle.lfs_model.proofs.Histories.{goes_on, LeavesOnly-reads, AtWorst-read, Stops-read, AllUnprogrammed-reads, AllUnprogrammed-part, unprogrammed-program, erases-reads, programs-reads}
+use Rattle.lfs_model.proofs.Histories.{goes_on, LeavesOnly-reads, Stops-read, AllUnprogrammed-reads, AllUnprogrammed-part, unprogrammed-program, erases-reads, programs-reads}
 use Rattle.lfs_model.proofs.Overwrites.{SameBut-refl, block_in-programmed}
 use Rattle.lfs_pair.proofs.Committed.{gets_commit, goes_into, left_in_block}
 use Rattle.lfs_pair.proofs.Calls.{block_by_program, block_by_reads, block_trans}

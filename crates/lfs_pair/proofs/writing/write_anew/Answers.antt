@@ -1,9 +1,6 @@
-use Rattle.lfs_model.proofs.Histories.{StayUnprogrammed-erase, StayUnprogrammed-trans}
 use Rattle.std.proofs.Common.{◌+◌, ◌≤◌, ap, sym, subst}
 use Rattle.lfs_device.specs.declared.geometry.Geometry.{Geometry}
 use Rattle.lfs_model.specs.Blocks.{block_in}
-use Rattle.lfs_model.proofs.Histories.{began, goes_on, goes_on_by, LeavesOnly-weaker}
-use Rattle.lfs_model.proofs.Overwrites.{SameBut-trans}
 use Rattle.lfs_tag.specs.Builder.{padded_end}
 use Rattle.lfs_tag.specs.ContentSeen.{content_seen}
 use Rattle.lfs_pair.proofs.Anew.{is_anew, fits_sound, anew_room, anew_within, anew_holds, anew_end, leaves_erase, leaves_anew}

@@ -5,8 +5,9 @@ use Rattle.std.specs.List.{IsDistinct}
 use Rattle.std.proofs.lemmas.List.{append-nil, take_at, take_all, take-take, drop-append-le, drop-take, length-take-le}
 use Rattle.std.proofs.Math.Seq.{take-append-add}
 use Rattle.lfs_model.specs.Blocks.{Blocks, IsDivided, SameBut, block_in, overwritten}
-use Rattle.lfs_model.specs.Lists.{pointers_of, capacity_of, bytes_before, blocks_back, blocks_for, IsChain, IsList, bytes_of, data_of}
+use Rattle.lfs_model.specs.Lists.{pointers_of, capacity_of, bytes_before, blocks_back, blocks_for, IsChain, data_of}
 use Rattle.lfs_model.proofs.Files.{data_same}
+use Rattle.lfs_ctz.specs.Finished.{IsEnd}
 use Rattle.lfs_ctz.specs.Growing.{joined, IsHanded, IsShared}
 use Rattle.lfs_ctz.proofs.Chains.{length_back}
 use Rattle.lfs_ctz.proofs.Grown.{same_apart}
@@ -74,11 +75,6 @@ length-full d block_size count full head large shape chain =
     omega (arith, all, ap (bytes_before block_size) (let s : 0 + length (blocks_back d full head) ≡ full = omega arith in s))
 
 -- a list of so many blocks
-pub record IsEnd (d : Blocks) (block_size head size : ℕ) (content blocks : List ℕ) : Type 0 where
-  pub list : IsList d block_size head size
-  pub bytes : bytes_of d block_size head size ≡ content
-  pub blocks_are : blocks_back d (blocks_for block_size size) head ≡ blocks
-
 at_end : (d : Blocks) (block_size head size n : ℕ) (content : List ℕ) → 1 ≤ size → size < 2 ^ 31 → blocks_for block_size size ≡ n → IsChain d n head → take size (joined d (blocks_back d n head)) ≡ content
     → IsEnd d block_size head size content (blocks_back d n head)
 at_end d block_size head size n content low high count chain is =
@@ -86,7 +82,7 @@ at_end d block_size head size n content low high count chain is =
     record {
       list = record { size_low = low; size_high = high; in_range = whole.in_range; distinct = whole.distinct; pointers = whole.pointers };
       bytes = ap (λ k. take size (joined d (blocks_back d k head))) count ∙ is;
-      blocks_are = ap (λ k. blocks_back d k head) count;
+      blocks = ap (λ k. blocks_back d k head) count;
     }
 
 -- with nothing behind the full blocks
@@ -124,7 +120,7 @@ closed_end d block_size count full head size rest large shape chain none low hig
     record {
       list = end.list;
       bytes = end.bytes ∙ sym (append-nil (joined d (blocks_back d full head))) ∙ ap (λ (l : List ℕ). joined d (blocks_back d full head) ++ l) (sym none);
-      blocks_are = end.blocks_are ∙ sym (append-nil (blocks_back d full head));
+      blocks = end.blocks ∙ sym (append-nil (blocks_back d full head));
     }
 
 pub shared_end : (d : Blocks) (block_size count full head block size : ℕ) (rest : List ℕ) → 1024 ≤ block_size → IsDivided block_size count d → IsChain d full head → IsShared d full head rest block
@@ -132,7 +128,7 @@ pub shared_end : (d : Blocks) (block_size count full head block size : ℕ) (res
     → IsEnd d block_size block size (joined d (blocks_back d full head) ++ rest) (blocks_back d full head ++ block ∷ [])
 shared_end d block_size count full head block size rest large shape chain shared short high is =
     let end = end_open d d block_size count full head block size rest large shape chain shared.chain (joined_back d full head block shared.back) shared.begins shared.some short high is in
-    record { list = end.list; bytes = end.bytes; blocks_are = end.blocks_are ∙ shared.back }
+    record { list = end.list; bytes = end.bytes; blocks = end.blocks ∙ shared.back }
 
 pub handed_end : (d e : Blocks) (block_size count full head block size : ℕ) (rest : List ℕ) → 1024 ≤ block_size → IsDivided block_size count d → IsChain d full head → IsHanded d full head rest block
     → IsChain e (full + 1) block → blocks_back e (full + 1) block ≡ blocks_back d full head ++ block ∷ [] → SameBut block d e → take (length rest) (data_of e (full, block)) ≡ rest
@@ -140,7 +136,7 @@ pub handed_end : (d e : Blocks) (block_size count full head block size : ℕ) (r
     → IsEnd e block_size block size (joined d (blocks_back d full head) ++ rest) (blocks_back d full head ++ block ∷ [])
 handed_end d e block_size count full head block size rest large shape chain handed more back same begins short high is =
     let end = end_open d e block_size count full head block size rest large shape chain more (joined_grown d e full head block back same handed.apart) begins handed.some short high is in
-    record { list = end.list; bytes = end.bytes; blocks_are = end.blocks_are ∙ back }
+    record { list = end.list; bytes = end.bytes; blocks = end.blocks ∙ back }
 
 -- what stands before the bytes that are overwritten
 pub rest_kept : (items new : List ℕ) (p filled : ℕ) → p ≤ filled → filled + length new ≤ length items → take (filled - p) (drop p (overwritten items filled new)) ≡ take (filled - p) (drop p items)

@@ -1,5 +1,5 @@
 -- Blocks that an extender is handed, one after the other.
-use Rattle.std.proofs.Common.{ℕ, suc, ◌≡◌, ◌≢◌, ◌+◌, ◌-◌, ◌<◌, ◌≤◌, ⊎_elim, nat_eq, get_or, List, [], ◌∷◌, ◌++◌, length, take, slice_index, refl, sym, ap, subst, ◌∙◌, arith, append_assoc, length-append}
+use Rattle.std.proofs.Common.{ℕ, false, suc, ◌≡◌, ◌≢◌, ◌+◌, ◌-◌, ◌<◌, ◌≤◌, ⊎_elim, nat_eq, get_or, List, [], ◌∷◌, ◌++◌, length, take, slice_index, refl, sym, ap, subst, ◌∙◌, arith, append_assoc, length-append}
 use Rattle.std.specs.Prelude.{All}
 use Rattle.std.specs.List.{IsDistinct}
 use Rattle.std.proofs.lemmas.Bool.{cases_lt, eqb-false}
@@ -10,9 +10,9 @@ use Rattle.lfs_model.specs.Blocks.{Blocks}
 use Rattle.lfs_model.specs.History.{Event, StayUnprogrammed}
 use Rattle.lfs_model.proofs.Histories.{StayUnprogrammed-trans, StayUnprogrammed-wider}
 use Rattle.lfs_model.specs.Lists.{capacity_of, blocks_back, blocks_for}
-use Rattle.lfs_ctz.specs.declared.extender.Tail.{Tail}
-use Rattle.lfs_ctz.specs.declared.extender.Tail.TheVariants.{Closed, Shared, Handed}
-use Rattle.lfs_ctz.specs.Growing.{Growing, pending_in, last_in, pending_of, kept_of, blocks_of, size_of, needed_of, next_of, IsTail, IsGrowing}
+use Rattle.lfs_ctz.specs.declared.rest.Rest.{Rest}
+use Rattle.lfs_ctz.specs.declared.rest.Rest.TheVariants.{Closed, Shared, Handed, Held}
+use Rattle.lfs_ctz.specs.Growing.{Growing, pending_in, last_in, is_held, is_held_in, pending_of, kept_of, blocks_of, size_of, needed_of, next_of, IsRest, IsGrowing}
 use Rattle.lfs_ctz.proofs.Sizes.{blocks_for-above, blocks_for-within}
 use Rattle.lfs_ctz.proofs.Chains.{length_back}
 
@@ -27,11 +27,12 @@ among_handed pending blocks used lt other apart is =
     apart (length pending + used) 0 (omega (arith, length-append pending blocks)) (get_or-append-add pending blocks used 0 ∙ is)
 
 -- the block that takes the next bytes is among them
-pub next_among : (t : Tail) (handed pending blocks : List ℕ) (used : ℕ) → handed ≡ pending ++ blocks → (pending_in t ≡ [] → used < length blocks)
+pub next_among : (t : Rest) (handed pending blocks : List ℕ) (used : ℕ) → handed ≡ pending ++ blocks → (pending_in t ≡ [] → used < length blocks)
     → ((other : ℕ) → All (λ b. b ≢ other) handed → All (λ b. b ≢ other) (pending_in t)) → (other : ℕ) → All (λ b. b ≢ other) handed → (next_of t blocks used).0 ≢ other
 next_among Closed handed pending blocks used is some among other apart = among_handed pending blocks used (some refl) other (subst (All (λ b. b ≢ other)) is apart)
 next_among (Shared b) handed pending blocks used is some among other apart = among_handed pending blocks used (some refl) other (subst (All (λ b. b ≢ other)) is apart)
 next_among (Handed b) handed pending blocks used is some among other apart = among other apart 0 0 (omega arith)
+next_among Held handed pending blocks used is some among other apart = among_handed pending blocks used (some refl) other (subst (All (λ b. b ≢ other)) is apart)
 
 -- and it is none of the full blocks
 apart_before : (back front blocks : List ℕ) (used : ℕ) → used < length blocks → back ≡ front ++ take used blocks → IsDistinct nat_eq blocks → All (λ b. All (λ c. c ≢ b) front) blocks
@@ -49,17 +50,20 @@ apart_before back front blocks used lt is distinct apart k x l e =
     eqb-false (get_or blocks i x) (get_or blocks used x) (apart_from_distinct nat_eq blocks i used x distinct (omega arith) lt) (sym there ∙ e ∙ get_or_default blocks used 0 x lt))
     (cases_lt k (length front))
 
-pub next_apart : (d : Blocks) (full head : ℕ) (rest : List ℕ) (t : Tail) (front blocks : List ℕ) (used : ℕ) → IsTail d full head rest t → (pending_in t ≡ [] → used < length blocks)
+pub next_apart : (d : Blocks) (full head : ℕ) (rest : List ℕ) (t : Rest) (front blocks : List ℕ) (used : ℕ) → IsRest d full head rest t → (pending_in t ≡ [] → used < length blocks)
     → blocks_back d full head ++ pending_in t ≡ front ++ take used blocks → IsDistinct nat_eq blocks → All (λ b. All (λ c. c ≢ b) front) blocks → All (λ c. c ≢ (next_of t blocks used).0) (blocks_back d full head)
-next_apart d full head rest Closed front blocks used tail some is distinct apart = apart_before (blocks_back d full head) front blocks used (some refl) (sym (append-nil (blocks_back d full head)) ∙ is) distinct apart
-next_apart d full head rest (Shared b) front blocks used tail some is distinct apart =
+next_apart d full head rest Closed front blocks used stand some is distinct apart = apart_before (blocks_back d full head) front blocks used (some refl) (sym (append-nil (blocks_back d full head)) ∙ is) distinct apart
+next_apart d full head rest (Shared b) front blocks used stand some is distinct apart =
     apart_before (blocks_back d full head) front blocks used (some refl) (sym (append-nil (blocks_back d full head)) ∙ is) distinct apart
-next_apart d full head rest (Handed b) front blocks used tail some is distinct apart = tail.apart
+next_apart d full head rest (Handed b) front blocks used stand some is distinct apart = stand.apart
+next_apart d full head rest Held front blocks used stand some is distinct apart =
+    apart_before (blocks_back d full head) front blocks used (some refl) (sym (append-nil (blocks_back d full head)) ∙ is) distinct apart
 
-pub next_some : (t : Tail) (blocks : List ℕ) (used : ℕ) → (pending_in t ≡ [] → used < length blocks) → used ≤ length blocks → (next_of t blocks used).1 ≤ length blocks
+pub next_some : (t : Rest) (blocks : List ℕ) (used : ℕ) → (pending_in t ≡ [] → used < length blocks) → used ≤ length blocks → (next_of t blocks used).1 ≤ length blocks
 next_some Closed blocks used some le = let lt = some refl in omega arith
 next_some (Shared b) blocks used some le = let lt = some refl in omega arith
 next_some (Handed b) blocks used some le = le
+next_some Held blocks used some le = let lt = some refl in omega arith
 
 one_used : (back front blocks : List ℕ) (used : ℕ) → used < length blocks → back ++ [] ≡ front ++ take used blocks → back ++ slice_index blocks used ∷ [] ≡ front ++ take (used + 1) blocks
 one_used back front blocks used lt is =
@@ -67,11 +71,12 @@ one_used back front blocks used lt is =
     ∙ append_assoc front (take used blocks) (slice_index blocks used ∷ [])
     ∙ ap (λ (l : List ℕ). front ++ l) (sym (take_more blocks used 0 lt))
 
-pub next_kept : (t : Tail) (back front blocks : List ℕ) (used : ℕ) → (pending_in t ≡ [] → used < length blocks) → back ++ pending_in t ≡ front ++ take used blocks
+pub next_kept : (t : Rest) (back front blocks : List ℕ) (used : ℕ) → (pending_in t ≡ [] → used < length blocks) → back ++ pending_in t ≡ front ++ take used blocks
     → back ++ (next_of t blocks used).0 ∷ [] ≡ front ++ take (next_of t blocks used).1 blocks
 next_kept Closed back front blocks used some is = one_used back front blocks used (some refl) is
 next_kept (Shared b) back front blocks used some is = one_used back front blocks used (some refl) is
 next_kept (Handed b) back front blocks used some is = is
+next_kept Held back front blocks used some is = one_used back front blocks used (some refl) is
 
 -- ---- how many are used
 
@@ -99,21 +104,22 @@ still_some d e block_size was now blocks used done total large le is count sum l
     omega (arith, counted, more, count, ap length none)
 
 -- at the end all are used
-size_fits : (d : Blocks) (block_size : ℕ) (g : Growing) → 1024 ≤ block_size → IsGrowing d g → length g.rest < capacity_of block_size g.full → blocks_of d g ≡ kept_of d g
+size_fits : (d : Blocks) (block_size : ℕ) (g : Growing) → 1024 ≤ block_size → IsGrowing d g → length g.rest < capacity_of block_size g.full → blocks_of d g ≡ kept_of d g → is_held g ≡ false
     → blocks_for block_size (size_of block_size g) ≤ g.full + length (pending_of g)
-size_fits d block_size g large held short own = go g.tail held.tail own
+size_fits d block_size g large held short own listed = go g.stand held.stand listed own
   where
-    go : (t : Tail) → IsTail d g.full g.head g.rest t → blocks_back d g.full g.head ++ last_in t ≡ blocks_back d g.full g.head ++ pending_in t
+    go : (t : Rest) → IsRest d g.full g.head g.rest t → is_held_in t ≡ false → blocks_back d g.full g.head ++ last_in t ≡ blocks_back d g.full g.head ++ pending_in t
         → blocks_for block_size (size_of block_size g) ≤ g.full + length (pending_in t)
-    go Closed none e = let w = blocks_for-within block_size (size_of block_size g) g.full large (omega (arith, ap length none)) in omega arith
-    go (Shared b) shared e =
+    go Closed none out e = let w = blocks_for-within block_size (size_of block_size g) g.full large (omega (arith, ap length none)) in omega arith
+    go (Shared b) shared out e =
         absurd (omega (arith, ap length e, length-append (blocks_back d g.full g.head) (b ∷ []), length-append (blocks_back d g.full g.head) []))
-    go (Handed b) handed e = let w = blocks_for-within block_size (size_of block_size g) (suc g.full) large (omega arith) in omega arith
+    go (Handed b) handed out e = let w = blocks_for-within block_size (size_of block_size g) (suc g.full) large (omega arith) in omega arith
+    go Held none out e = absurd (cc)
 
 pub all_used : (d e : Blocks) (block_size : ℕ) (was now : Growing) (blocks : List ℕ) (used total : ℕ) → 1024 ≤ block_size → used ≤ length blocks → kept_of e now ≡ kept_of d was ++ take used blocks
     → length blocks ≡ needed_of block_size was total → size_of block_size now ≡ size_of block_size was + total → IsGrowing e now → length now.rest < capacity_of block_size now.full → blocks_of e now ≡ kept_of e now
-    → length blocks ≤ used
-all_used d e block_size was now blocks used total large le is count sum held short own =
+    → is_held now ≡ false → length blocks ≤ used
+all_used d e block_size was now blocks used total large le is count sum held short own listed =
     let counted = kept_count d e was now blocks used le is in
-    let fits = size_fits e block_size now large held short own in
+    let fits = size_fits e block_size now large held short own listed in
     omega (arith, counted, fits, count, ap (blocks_for block_size) sum)

@@ -8,6 +8,7 @@ use Rattle.std.proofs.lemmas.List.{append-nil, take_at, take_more, drop_more, ta
 use Rattle.std.proofs.lemmas.Map.Keys.{IsDistinct-from_apart, apart_from_distinct}
 use Rattle.lfs_model.specs.Blocks.{Blocks, IsDivided, block_in}
 use Rattle.lfs_model.specs.Lists.{word_at, pointers_of, bytes_before, blocks_back, blocks_for, IsChain, IsList, IsPlace, data_of, bytes_of}
+use Rattle.lfs_ctz.specs.Finished.{IsEnd}
 use Rattle.lfs_ctz.specs.Growing.{joined, IsShared}
 use Rattle.lfs_ctz.proofs.Sizes.{pointers_of-le, blocks_for-place, place-lt}
 use Rattle.lfs_ctz.proofs.Chains.{length_back, chain_of_list, back-pointer0}
@@ -79,6 +80,21 @@ module _ (d : Blocks) (block_size count head size keep i off block : ℕ) (large
         ap (joined d) (sym (take-append-drop m bs)) ∙ joined-append d 0 (take m bs) (drop m bs) ∙ ap (λ k. joined d (take m bs) ++ joined_from d k (drop m bs)) here,
         omega (arith, all, ap (bytes_before block_size) here),
       )
+
+  -- it is a list
+  pub front_end : keep < 2 ^ 31 → IsEnd d block_size block keep (take keep (bytes_of d block_size head size)) (take (blocks_for block_size keep) bs)
+  front_end few =
+      let split = joined_split (i + 1) (let l = low in omega arith) in
+      let whole : IsChain d (blocks_for block_size keep) block = subst (λ k. IsChain d k block) (sym few_blocks) front_chain in
+      let below = place.below in
+      let own : blocks_back d (blocks_for block_size keep) block ≡ take (i + 1) bs = ap (λ k. blocks_back d k block) few_blocks ∙ front_back in
+      record {
+        list = record { size_low = some; size_high = few; in_range = whole.in_range; distinct = whole.distinct; pointers = whole.pointers };
+        bytes = ap (λ (l : List ℕ). take keep (joined d l)) own
+            ∙ sym (take-take keep size (joined d bs) within ∙ ap (take keep) split.0
+            ∙ take-append-le keep (joined d (take (i + 1) bs)) (joined_from d (i + 1) (drop (i + 1) bs)) (omega (arith, split.1, ap (bytes_before block_size) (add-one i))));
+        blocks = own ∙ ap (λ k. take k bs) (sym few_blocks);
+      }
 
   -- ---- the front ends with a block
 

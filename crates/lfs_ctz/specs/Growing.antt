@@ -1,10 +1,10 @@
 -- A list that grows, as contracts see it.
-use Rattle.std.specs.Prelude.{ℕ, ◌≡◌, ◌≢◌, ◌≤◌, ◌<◌, ◌+◌, ◌-◌, ◌*◌, List, [], ◌∷◌, ◌++◌, length, take, drop, slice_index, All}
+use Rattle.std.specs.Prelude.{ℕ, Bool, true, false, ◌≡◌, ◌≢◌, ◌≤◌, ◌<◌, ◌+◌, ◌-◌, ◌*◌, List, [], ◌∷◌, ◌++◌, length, take, drop, slice_index, All}
 use Rattle.std.specs.List.{flat_map, enumerate_from}
 use Rattle.lfs_model.specs.Blocks.{Blocks, block_in}
 use Rattle.lfs_model.specs.Lists.{pointers_of, bytes_before, capacity_of, blocks_back, blocks_for, IsChain, data_of}
-use Rattle.lfs_ctz.specs.declared.extender.Tail.{Tail}
-use Rattle.lfs_ctz.specs.declared.extender.Tail.TheVariants.{Closed, Shared, Handed}
+use Rattle.lfs_ctz.specs.declared.rest.Rest.{Rest}
+use Rattle.lfs_ctz.specs.declared.rest.Rest.TheVariants.{Closed, Shared, Handed, Held}
 
 pub record Growing : Type 0 where
   -- so many blocks are full and on the disk; the last of them, where there is one
@@ -12,22 +12,34 @@ pub record Growing : Type 0 where
   pub head : ℕ
   -- the bytes behind them, which do not fill a block, and where they stand
   pub rest : List ℕ
-  pub tail : Tail
+  pub stand : Rest
 
 -- the block that was handed in for the rest and is not written yet
-abbrev pub pending_in : Tail → List ℕ
+abbrev pub pending_in : Rest → List ℕ
 pending_in Closed = []
 pending_in (Shared b) = []
 pending_in (Handed b) = b ∷ []
+pending_in Held = []
 
 -- the block in which the rest stands, or will
-abbrev pub last_in : Tail → List ℕ
+abbrev pub last_in : Rest → List ℕ
 last_in Closed = []
 last_in (Shared b) = b ∷ []
 last_in (Handed b) = b ∷ []
+last_in Held = []
+
+-- the rest stands in memory for no block
+abbrev pub is_held_in : Rest → Bool
+is_held_in Closed = false
+is_held_in (Shared b) = false
+is_held_in (Handed b) = false
+is_held_in Held = true
+
+abbrev pub is_held : Growing → Bool
+is_held g = is_held_in g.stand
 
 abbrev pub pending_of : Growing → List ℕ
-pending_of g = pending_in g.tail
+pending_of g = pending_in g.stand
 
 -- the blocks that stay the list's when it grows: full ones, and the pending one
 abbrev pub kept_of : Blocks → Growing → List ℕ
@@ -35,7 +47,7 @@ kept_of disk g = blocks_back disk g.full g.head ++ pending_of g
 
 -- the blocks of the list as it is
 abbrev pub blocks_of : Blocks → Growing → List ℕ
-blocks_of disk g = blocks_back disk g.full g.head ++ last_in g.tail
+blocks_of disk g = blocks_back disk g.full g.head ++ last_in g.stand
 
 abbrev pub joined : Blocks → List ℕ → List ℕ
 joined disk bs = flat_map (data_of disk) (enumerate_from 0 bs)
@@ -68,18 +80,37 @@ pub record IsShared (disk : Blocks) (full head : ℕ) (rest : List ℕ) (b : ℕ
   pub back : blocks_back disk (full + 1) b ≡ blocks_back disk full head ++ b ∷ []
   pub begins : take (length rest) (drop (4 * pointers_of full) (block_in disk b)) ≡ rest
 
-abbrev pub IsTail : Blocks → ℕ → ℕ → List ℕ → Tail → Type 0
-IsTail disk full head rest Closed = rest ≡ []
-IsTail disk full head rest (Shared b) = IsShared disk full head rest b
-IsTail disk full head rest (Handed b) = IsHanded disk full head rest b
+abbrev pub IsRest : Blocks → ℕ → ℕ → List ℕ → Rest → Type 0
+IsRest disk full head rest Closed = rest ≡ []
+IsRest disk full head rest (Shared b) = IsShared disk full head rest b
+IsRest disk full head rest (Handed b) = IsHanded disk full head rest b
+IsRest disk full head rest Held = full ≡ 0
 
 -- the disk holds the list's full blocks as they are
 pub record IsGrowing (disk : Blocks) (g : Growing) : Type 0 where
   pub chain : IsChain disk g.full g.head
-  pub tail : IsTail disk g.full g.head g.rest g.tail
+  pub stand : IsRest disk g.full g.head g.rest g.stand
 
 -- the block that takes the next bytes, and how many of those handed in are used then
-abbrev pub next_of : Tail → List ℕ → ℕ → ℕ × ℕ
+abbrev pub next_of : Rest → List ℕ → ℕ → ℕ × ℕ
 next_of Closed blocks used = (slice_index blocks used, used + 1)
 next_of (Shared b) blocks used = (slice_index blocks used, used + 1)
 next_of (Handed b) blocks used = (b, used)
+next_of Held blocks used = (slice_index blocks used, used + 1)
+
+-- the list on a disk that has the same bytes in its blocks
+pub record IsStill (disk later : Blocks) (g : Growing) : Type 0 where
+  pub growing : IsGrowing later g
+  pub content : content_of later g ≡ content_of disk g
+  pub kept : kept_of later g ≡ kept_of disk g
+  pub blocks : blocks_of later g ≡ blocks_of disk g
+
+-- all bytes are in memory, and none in a block
+pub record IsHeld (g : Growing) : Type 0 where
+  pub held : is_held g ≡ true
+  pub none : g.full ≡ 0
+
+-- the list can be ended, and the block that waits for more bytes is one of these
+pub record WaitsIn (bs : List ℕ) (g : Growing) : Type 0 where
+  pub listed : is_held g ≡ false
+  pub pending : (other : ℕ) → All (λ b. b ≢ other) bs → All (λ b. b ≢ other) (pending_of g)

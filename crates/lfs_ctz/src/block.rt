@@ -1,7 +1,9 @@
 ghost use Rattle.std.specs.Prelude.{[], ◌∷◌, ◌≡◌, ◌≢◌, ◌≤◌, ◌<◌, ◌+◌, ◌-◌, ◌*◌, ◌%◌, ◌^◌, ◌++◌, ◌⊎◌, ℕ, All, length, take, drop, OnOk, IfErr, IsErrOf, slice_index};
 ghost use Rattle.byteorder.specs.Endian.{little_bytes};
-ghost use Rattle.lfs_model.specs.Blocks.{SameBut, block_in};
-ghost use Rattle.lfs_model.specs.History.{AtWorst, LeavesOnly, OnlyReads, StayUnprogrammed, erases, faults, programs};
+ghost use Rattle.lfs_ctz.specs.Appended.{IsAppended};
+ghost use Rattle.lfs_ctz.specs.Counts.{Writes};
+ghost use Rattle.lfs_device.specs.Calls.{ChangesBlock, ReadsOnly, TellsFaults};
+ghost use Rattle.lfs_model.specs.Blocks.{block_in};
 ghost use Rattle.lfs_model.specs.Lists.{IsChain, blocks_back, pointers_of, word_at};
 
 use crate::read::pointer;
@@ -28,12 +30,8 @@ fn put_pointers<D: BlockDevice>(
     requires room { 1024 ≤ length buf.old }
     ensures pointers { OnOk result ((k : ℕ) → k < pointers_of index → word_at buf.new (4 * k) ≡ slice_index (blocks_back (D.blocks dev.old) index head) (index - 2 ^ k)) }
     ensures rest { drop (4 * pointers_of index) buf.new ≡ drop (4 * pointers_of index) buf.old }
-    ensures len { length buf.new ≡ length buf.old }
-    ensures same { D.blocks dev.new ≡ D.blocks dev.old }
-    ensures geometry { D.geometry dev.new ≡ D.geometry dev.old }
-    ensures history { OnlyReads (D.blocks dev.old) (D.history dev.old) (D.history dev.new) }
-    ensures no_fault { OnOk result (faults (D.history dev.new) ≡ faults (D.history dev.old)) }
-    ensures io { IsErrOf result Error.Io → faults (D.history dev.old) < faults (D.history dev.new) }
+    ensures device { ReadsOnly D.BlockDevice dev.old dev.new }
+    ensures faults { TellsFaults D.BlockDevice dev.old dev.new result }
     ensures errors { IfErr result (λ e. e ≡ Error.Io) }
 {
     if index == 0 {
@@ -66,19 +64,12 @@ pub(crate) fn write_block<D: BlockDevice>(
     requires pages { end % (D.geometry dev.old).page ≡ 0 }
     requires room { end ≤ (D.geometry dev.old).block_size }
     requires pointers { 4 * pointers_of index ≤ end }
-    ensures chain { OnOk result (IsChain (D.blocks dev.new) (index + 1) block) }
-    ensures back { OnOk result (blocks_back (D.blocks dev.new) (index + 1) block ≡ blocks_back (D.blocks dev.old) index head ++ block ∷ []) }
+    ensures appended { OnOk result (IsAppended (D.blocks dev.old) (D.blocks dev.new) index head block) }
     ensures bytes { OnOk result (take (end - 4 * pointers_of index) (drop (4 * pointers_of index) (block_in (D.blocks dev.new) block))
         ≡ take (end - 4 * pointers_of index) (drop (4 * pointers_of index) buf.old)) }
-    ensures len { length buf.new ≡ length buf.old }
-    ensures others { SameBut block (D.blocks dev.old) (D.blocks dev.new) }
-    ensures elsewhere { StayUnprogrammed (block ∷ []) (D.history dev.old) (D.history dev.new) }
-    ensures geometry { D.geometry dev.new ≡ D.geometry dev.old }
-    ensures erases { OnOk result (erases (D.history dev.new) ≡ erases (D.history dev.old) + 1) }
-    ensures programs { OnOk result (programs (D.history dev.new) ≡ programs (D.history dev.old) + 1) }
-    ensures stops { LeavesOnly AtWorst (D.history dev.old) (D.history dev.new) (SameBut block (D.blocks dev.old)) }
-    ensures no_fault { OnOk result (faults (D.history dev.new) ≡ faults (D.history dev.old)) }
-    ensures io { IsErrOf result Error.Io → faults (D.history dev.old) < faults (D.history dev.new) }
+    ensures writes { OnOk result (Writes 0 1 (D.history dev.old) (D.history dev.new)) }
+    ensures device { ChangesBlock D.BlockDevice block dev.old dev.new }
+    ensures faults { TellsFaults D.BlockDevice dev.old dev.new result }
     ensures errors { IfErr result (λ e. e ≡ Error.Io) }
 {
     put_pointers(dev, head, index, buf)?;

@@ -1,30 +1,24 @@
-ghost use Rattle.std.specs.Prelude.{◌≡◌, ◌≢◌, ◌≤◌, ◌<◌, ◌+◌, ◌-◌, ◌*◌, ◌%◌, ◌^◌, ◌++◌, ◌∷◌, [], ◌⊎◌, ℕ, All, length, take, drop, replicate, nat_eq, OnOk, IfOk, IfErr, IsErrOf, slice_index};
+ghost use Rattle.std.specs.Prelude.{◌≡◌, ◌≢◌, ◌≤◌, ◌<◌, ◌+◌, ◌-◌, ◌*◌, ◌%◌, ◌^◌, ◌++◌, ◌∷◌, [], ◌⊎◌, ℕ, All, false, length, take, drop, replicate, nat_eq, OnOk, IfOk, IfErr, IsErrOf, slice_index};
 ghost use Rattle.std.specs.List.{IsDistinct};
-ghost use Rattle.lfs_model.specs.Blocks.{Blocks, SameBut, SameButThese, block_in, overwritten};
-ghost use Rattle.lfs_model.specs.History.{AtWorst, LeavesOnly, OnlyReads, StayUnprogrammed, erases, faults, programs};
-ghost use Rattle.lfs_model.specs.Lists.{IsChain, IsList, blocks_back, blocks_for, bytes_of, pointers_of, word_at};
+ghost use Rattle.lfs_ctz.specs.Appended.{IsAppended};
+ghost use Rattle.lfs_ctz.specs.Counts.{Writes};
 ghost use Rattle.lfs_ctz.specs.Filled.{IsFilled};
+ghost use Rattle.lfs_ctz.specs.Finished.{IsEnd};
+ghost use Rattle.lfs_device.specs.Calls.{ChangesBlock, ChangesOnly, ReadsOnly, TellsFaults};
+ghost use Rattle.lfs_model.specs.Blocks.{Blocks, block_in, overwritten};
+ghost use Rattle.lfs_model.specs.Session.{overwritten as with_bytes};
+ghost use Rattle.lfs_model.specs.Lists.{IsChain, IsList, blocks_back, blocks_for, bytes_of, pointers_of};
 
 use crate::block::write_block;
 use crate::read::{find, head_before, pointers, read_part};
-use crate::{blocks_for, place};
+use crate::{Rest, blocks_for, place};
 use lfs_device::{BlockDevice, Error, Geometry};
 use std::alloc::Global;
 
-/// Where the bytes stand that do not fill a block.
-#[derive(Clone, Copy)]
-pub enum Tail {
-    /// There are none.
-    Closed,
-    /// In that block of another list, from which they are copied when more come.
-    Shared(u32),
-    /// In memory, for that block, which was handed in.
-    Handed(u32),
-}
-
 /// Appends bytes to a list, in blocks that are handed in, and writes a block as it fills.
 ///
-/// It holds one block of bytes in memory.
+/// It holds one block of bytes in memory. Contents that need no block yet can stand there alone:
+/// `hold`, `put` and `cut` change them, and a `push` goes on from them into blocks.
 #[derive(Drop)]
 pub struct Extender {
     geometry: Geometry,
@@ -33,7 +27,7 @@ pub struct Extender {
     head: u32,
     filled: u32,
     size: u32,
-    tail: Tail,
+    stand: Rest,
     ghost one_block: { length buffer.items ≡ geometry.block_size },
     ghost in_step: { IsFilled geometry.block_size full filled size },
 }
@@ -46,30 +40,25 @@ fn overwrite(all: &mut Vec<u8>, at: usize, bytes: &[u8])
     all[at..at + bytes.len()].copy_from_slice(bytes);
 }
 
-// Fills up to whole pages.
-fn pad(all: &mut Vec<u8>, at: usize, end: usize)
+// Fills up from a place to another.
+fn pad(all: &mut Vec<u8>, at: usize, end: usize, byte: u8)
     requires order { at ≤ end }
     requires within { end ≤ length all.old.items }
-    ensures { all.new.items ≡ overwritten all.old.items at (replicate (end - at) 255) }
+    ensures { all.new.items ≡ overwritten all.old.items at (replicate (end - at) byte) }
 {
-    all[at..end].fill(0xff);
+    all[at..end].fill(byte);
 }
 
 impl Extender {
-    ghost use Rattle.lfs_ctz.specs.Extended.{geometry_of, growing_of};
-    ghost use Rattle.lfs_ctz.specs.Growing.{IsGrowing, IsShort, blocks_of, content_of, kept_of, needed_of, next_of, pending_of, size_of};
+    ghost use Rattle.lfs_ctz.specs.Extended.{IsGrown, geometry_of, growing_of};
+    ghost use Rattle.lfs_ctz.specs.Growing.{IsGrowing, IsHeld, WaitsIn, blocks_of, content_of, is_held, kept_of, needed_of, next_of, pending_of, size_of};
 
     /// An empty list.
     ///
     /// `Error::NoMemory` comes where there is no memory for a block.
     pub fn start(alloc: Global, geometry: Geometry) -> Result<Extender, Error>
-        ensures held { IfOk result (λ e. (disk : Blocks) → IsGrowing disk (growing_of e)) }
-        ensures empty { IfOk result (λ e. (disk : Blocks) → content_of disk (growing_of e) ≡ []) }
-        ensures none { IfOk result (λ e. (disk : Blocks) → blocks_of disk (growing_of e) ≡ []) }
-        ensures kept { IfOk result (λ e. (disk : Blocks) → kept_of disk (growing_of e) ≡ []) }
-        ensures sum { IfOk result (λ e. size_of (geometry_of e).block_size (growing_of e) ≡ 0) }
-        ensures short { IfOk result (λ e. IsShort (geometry_of e).block_size (growing_of e)) }
-        ensures geometry { IfOk result (λ e. geometry_of e ≡ geometry) }
+        ensures started { IfOk result (λ e. (disk : Blocks) → IsGrown geometry disk e [] 0 [] []) }
+        ensures listed { IfOk result (λ e. is_held (growing_of e) ≡ false) }
         ensures errors { IfErr result (λ e. e ≡ Error.NoMemory) }
     {
         let buffer = Vec::from_elem(alloc, 0u8, geometry.block_size as usize)?;
@@ -80,7 +69,7 @@ impl Extender {
             head: 0,
             filled: 0,
             size: 0,
-            tail: Tail::Closed,
+            stand: Rest::Closed,
         })
     }
 
@@ -98,21 +87,13 @@ impl Extender {
         requires list { IsList (D.blocks dev.old) (D.geometry dev.old).block_size head size }
         requires some { 1 ≤ keep }
         requires within { keep ≤ size }
-        ensures held { IfOk result (λ e. IsGrowing (D.blocks dev.old) (growing_of e)) }
-        ensures bytes { IfOk result (λ e. content_of (D.blocks dev.old) (growing_of e) ≡ take keep (bytes_of (D.blocks dev.old) (D.geometry dev.old).block_size head size)) }
-        ensures sum { IfOk result (λ e. size_of (geometry_of e).block_size (growing_of e) ≡ keep) }
-        ensures short { IfOk result (λ e. IsShort (geometry_of e).block_size (growing_of e)) }
-        ensures blocks { IfOk result (λ e. blocks_of (D.blocks dev.old) (growing_of e)
-            ≡ take (blocks_for (D.geometry dev.old).block_size keep) (blocks_back (D.blocks dev.old) (blocks_for (D.geometry dev.old).block_size size) head)) }
-        ensures kept { IfOk result (λ e. kept_of (D.blocks dev.old) (growing_of e)
-            ≡ take (growing_of e).full (blocks_back (D.blocks dev.old) (blocks_for (D.geometry dev.old).block_size size) head)) }
-        ensures pending { IfOk result (λ e. pending_of (growing_of e) ≡ []) }
-        ensures geometry { IfOk result (λ e. geometry_of e ≡ D.geometry dev.old) }
-        ensures same { D.blocks dev.new ≡ D.blocks dev.old }
-        ensures device { D.geometry dev.new ≡ D.geometry dev.old }
-        ensures history { OnlyReads (D.blocks dev.old) (D.history dev.old) (D.history dev.new) }
-        ensures no_fault { OnOk result (faults (D.history dev.new) ≡ faults (D.history dev.old)) }
-        ensures io { IsErrOf result Error.Io → faults (D.history dev.old) < faults (D.history dev.new) }
+        ensures resumed { IfOk result (λ e. IsGrown (D.geometry dev.old) (D.blocks dev.old) e
+            (take keep (bytes_of (D.blocks dev.old) (D.geometry dev.old).block_size head size)) keep
+            (take (growing_of e).full (blocks_back (D.blocks dev.old) (blocks_for (D.geometry dev.old).block_size size) head))
+            (take (blocks_for (D.geometry dev.old).block_size keep) (blocks_back (D.blocks dev.old) (blocks_for (D.geometry dev.old).block_size size) head))) }
+        ensures waits { IfOk result (λ e. WaitsIn [] (growing_of e)) }
+        ensures device { ReadsOnly D.BlockDevice dev.old dev.new }
+        ensures faults { TellsFaults D.BlockDevice dev.old dev.new result }
         ensures errors { IfErr result (λ e. (e ≡ Error.Io) ⊎ (e ≡ Error.NoMemory)) }
     {
         let geometry = dev.geometry();
@@ -128,7 +109,7 @@ impl Extender {
                 head: block,
                 filled: 4 * pointers(index + 1),
                 size: keep,
-                tail: Tail::Closed,
+                stand: Rest::Closed,
             });
         }
         let head = head_before(dev, block, index)?;
@@ -140,8 +121,66 @@ impl Extender {
             head,
             filled: off + 1,
             size: keep,
-            tail: Tail::Shared(block),
+            stand: Rest::Shared(block),
         })
+    }
+
+    /// Begins anew with these bytes, in memory and in no block; what it had before is forgotten.
+    ///
+    /// There are fewer than a block has.
+    pub fn hold(&mut self, bytes: &[u8])
+        requires { length bytes.now < (geometry_of self.old).block_size }
+        ensures held { IsHeld (growing_of self.new) }
+        ensures rest { (growing_of self.new).rest ≡ bytes.now }
+        ensures holds { (disk : Blocks) → IsGrown (geometry_of self.old) disk self.new bytes.now (length bytes.now) [] [] }
+    {
+        overwrite(&mut self.buffer, 0, bytes);
+        self.full = 0;
+        self.head = 0;
+        self.filled = bytes.len() as u32;
+        self.size = self.filled;
+        self.stand = Rest::Held;
+    }
+
+    /// The bytes, where all are in memory and none in a block.
+    pub fn held(&self) -> &[u8]
+        requires { IsHeld (growing_of self.now) }
+        ensures { result.now ≡ (growing_of self.now).rest }
+    {
+        &self.buffer[..self.filled as usize]
+    }
+
+    /// Puts bytes over those from the place `at` on, or behind them, where all are in memory and
+    /// none in a block. Zeros fill the gap where the place lies past the end.
+    ///
+    /// There are fewer than a block has then.
+    pub fn put(&mut self, at: u32, bytes: &[u8])
+        requires held { IsHeld (growing_of self.old) }
+        requires room { at + length bytes.now < (geometry_of self.old).block_size }
+        ensures held { IsHeld (growing_of self.new) }
+        ensures rest { (growing_of self.new).rest ≡ with_bytes (growing_of self.old).rest at bytes.now }
+        ensures holds { (disk : Blocks) → IsGrown (geometry_of self.old) disk self.new
+            (with_bytes (growing_of self.old).rest at bytes.now) (length (with_bytes (growing_of self.old).rest at bytes.now)) [] [] }
+    {
+        let from = self.filled.max(at);
+        pad(&mut self.buffer, self.filled as usize, from as usize, 0);
+        overwrite(&mut self.buffer, at as usize, bytes);
+        self.filled = self.filled.max(at + bytes.len() as u32);
+        self.size = self.filled;
+    }
+
+    /// Keeps the first `len` bytes, where all are in memory and none in a block.
+    ///
+    /// There are at least so many.
+    pub fn cut(&mut self, len: u32)
+        requires held { IsHeld (growing_of self.old) }
+        requires within { len ≤ length (growing_of self.old).rest }
+        ensures held { IsHeld (growing_of self.new) }
+        ensures rest { (growing_of self.new).rest ≡ take len (growing_of self.old).rest }
+        ensures holds { (disk : Blocks) → IsGrown (geometry_of self.old) disk self.new (take len (growing_of self.old).rest) len [] [] }
+    {
+        self.filled = len;
+        self.size = len;
     }
 
     /// How many bytes the list has.
@@ -168,8 +207,8 @@ impl Extender {
         ensures count { result ≡ needed_of (geometry_of self.now).block_size (growing_of self.now) n }
         ensures within { (growing_of self.now).full + length (pending_of (growing_of self.now)) ≤ blocks_for (geometry_of self.now).block_size (size_of (geometry_of self.now).block_size (growing_of self.now) + n) }
     {
-        let begun = match self.tail {
-            Tail::Handed(_) => 1,
+        let begun = match self.stand {
+            Rest::Handed(_) => 1,
             _ => 0,
         };
         blocks_for(self.geometry.block_size, self.size + n) - (self.full + begun)
@@ -178,10 +217,10 @@ impl Extender {
     // The block that takes the next bytes, and how many of those handed in are used then.
     fn next_block(&self, blocks: &[u32], used: usize) -> (u32, usize)
         requires { pending_of (growing_of self.now) ≡ [] → used < length blocks.now }
-        ensures { result ≡ next_of (growing_of self.now).tail blocks.now used }
+        ensures { result ≡ next_of (growing_of self.now).stand blocks.now used }
     {
-        match self.tail {
-            Tail::Handed(block) => (block, used),
+        match self.stand {
+            Rest::Handed(block) => (block, used),
             _ => (blocks[used], used + 1),
         }
     }
@@ -201,21 +240,15 @@ impl Extender {
         requires some { 1 ≤ length bytes.now }
         requires room { size_of (geometry_of self.old).block_size (growing_of self.old) + length bytes.now < 2 ^ 31 }
         ensures count { IfOk result (λ n. (1 ≤ n) × (n ≤ length bytes.now)) }
-        ensures held { OnOk result (IsGrowing (D.blocks dev.new) (growing_of self.new)) }
-        ensures bytes { IfOk result (λ n. content_of (D.blocks dev.new) (growing_of self.new) ≡ content_of (D.blocks dev.old) (growing_of self.old) ++ take n bytes.now) }
-        ensures sum { IfOk result (λ n. size_of (geometry_of self.new).block_size (growing_of self.new) ≡ size_of (geometry_of self.old).block_size (growing_of self.old) + n) }
-        ensures kept { OnOk result (kept_of (D.blocks dev.new) (growing_of self.new) ≡ blocks_back (D.blocks dev.old) (growing_of self.old).full (growing_of self.old).head ++ block ∷ []) }
-        ensures own { OnOk result (blocks_of (D.blocks dev.new) (growing_of self.new) ≡ kept_of (D.blocks dev.new) (growing_of self.new)) }
-        ensures pending { OnOk result (All (λ b. b ≡ block) (pending_of (growing_of self.new))) }
-        ensures same { geometry_of self.new ≡ geometry_of self.old }
-        ensures others { SameBut block (D.blocks dev.old) (D.blocks dev.new) }
-        ensures elsewhere { StayUnprogrammed (block ∷ []) (D.history dev.old) (D.history dev.new) }
-        ensures device { D.geometry dev.new ≡ D.geometry dev.old }
-        ensures erases { OnOk result (erases (D.history dev.new) + (growing_of self.old).full ≡ erases (D.history dev.old) + (growing_of self.new).full) }
-        ensures programs { OnOk result (programs (D.history dev.new) + (growing_of self.old).full ≡ programs (D.history dev.old) + (growing_of self.new).full) }
-        ensures stops { LeavesOnly AtWorst (D.history dev.old) (D.history dev.new) (SameBut block (D.blocks dev.old)) }
-        ensures no_fault { OnOk result (faults (D.history dev.new) ≡ faults (D.history dev.old)) }
-        ensures io { IsErrOf result Error.Io → faults (D.history dev.old) < faults (D.history dev.new) }
+        ensures filled { IfOk result (λ n. IsGrown (geometry_of self.old) (D.blocks dev.new) self.new
+            (content_of (D.blocks dev.old) (growing_of self.old) ++ take n bytes.now)
+            (size_of (geometry_of self.old).block_size (growing_of self.old) + n)
+            (blocks_back (D.blocks dev.old) (growing_of self.old).full (growing_of self.old).head ++ block ∷ [])
+            (blocks_back (D.blocks dev.old) (growing_of self.old).full (growing_of self.old).head ++ block ∷ [])) }
+        ensures waits { OnOk result (WaitsIn (block ∷ []) (growing_of self.new)) }
+        ensures writes { OnOk result (Writes (growing_of self.old).full (growing_of self.new).full (D.history dev.old) (D.history dev.new)) }
+        ensures device { ChangesBlock D.BlockDevice block dev.old dev.new }
+        ensures faults { TellsFaults D.BlockDevice dev.old dev.new result }
         ensures errors { IfErr result (λ e. e ≡ Error.Io) }
     {
         let block_size = self.geometry.block_size;
@@ -225,7 +258,7 @@ impl Extender {
         if start + n < block_size as usize {
             self.filled += n as u32;
             self.size += n as u32;
-            self.tail = Tail::Handed(block);
+            self.stand = Rest::Handed(block);
             return Ok(n);
         }
         let buffer = self.buffer.as_mut_slice();
@@ -234,7 +267,7 @@ impl Extender {
         self.head = block;
         self.filled = 4 * pointers(self.full);
         self.size += n as u32;
-        self.tail = Tail::Closed;
+        self.stand = Rest::Closed;
         Ok(n)
     }
 
@@ -251,7 +284,7 @@ impl Extender {
         bytes: &[u8],
         blocks: &[u32],
     ) -> Result<(), Error>
-        requires held { IsGrowing (D.blocks dev.old) (growing_of self.old) }
+        requires growing { IsGrowing (D.blocks dev.old) (growing_of self.old) }
         requires geometry { D.geometry dev.old ≡ geometry_of self.old }
         requires some { 1 ≤ length bytes.now }
         requires room { size_of (geometry_of self.old).block_size (growing_of self.old) + length bytes.now < 2 ^ 31 }
@@ -259,25 +292,16 @@ impl Extender {
         requires in_device { All (λ b. b < (D.geometry dev.old).block_count) blocks.now }
         requires distinct { IsDistinct nat_eq blocks.now }
         requires apart { All (λ b. All (λ c. c ≢ b) (kept_of (D.blocks dev.old) (growing_of self.old))) blocks.now }
-        ensures held { OnOk result (IsGrowing (D.blocks dev.new) (growing_of self.new)) }
-        ensures bytes { OnOk result (content_of (D.blocks dev.new) (growing_of self.new) ≡ content_of (D.blocks dev.old) (growing_of self.old) ++ bytes.now) }
-        ensures sum { OnOk result (size_of (geometry_of self.new).block_size (growing_of self.new) ≡ size_of (geometry_of self.old).block_size (growing_of self.old) + length bytes.now) }
-        ensures kept { OnOk result (kept_of (D.blocks dev.new) (growing_of self.new) ≡ kept_of (D.blocks dev.old) (growing_of self.old) ++ blocks.now) }
-        ensures own { OnOk result (blocks_of (D.blocks dev.new) (growing_of self.new) ≡ kept_of (D.blocks dev.new) (growing_of self.new)) }
-        // The block that waits for more bytes is the one that did, or one of those handed in.
-        ensures pending { OnOk result ((other : ℕ) → All (λ b. b ≢ other) (pending_of (growing_of self.old) ++ blocks.now) → All (λ b. b ≢ other) (pending_of (growing_of self.new))) }
-        ensures short { OnOk result (IsShort (geometry_of self.new).block_size (growing_of self.new)) }
-        ensures same { geometry_of self.new ≡ geometry_of self.old }
+        ensures pushed { OnOk result (IsGrown (geometry_of self.old) (D.blocks dev.new) self.new
+            (content_of (D.blocks dev.old) (growing_of self.old) ++ bytes.now)
+            (size_of (geometry_of self.old).block_size (growing_of self.old) + length bytes.now)
+            (kept_of (D.blocks dev.old) (growing_of self.old) ++ blocks.now)
+            (kept_of (D.blocks dev.old) (growing_of self.old) ++ blocks.now)) }
+        ensures waits { OnOk result (WaitsIn (pending_of (growing_of self.old) ++ blocks.now) (growing_of self.new)) }
         // A block that fills is erased once and programmed once.
-        ensures erases { OnOk result (erases (D.history dev.new) + (growing_of self.old).full ≡ erases (D.history dev.old) + (growing_of self.new).full) }
-        ensures programs { OnOk result (programs (D.history dev.new) + (growing_of self.old).full ≡ programs (D.history dev.old) + (growing_of self.new).full) }
-        ensures others { SameButThese (pending_of (growing_of self.old) ++ blocks.now) (D.blocks dev.old) (D.blocks dev.new) }
-        ensures elsewhere { StayUnprogrammed (pending_of (growing_of self.old) ++ blocks.now) (D.history dev.old) (D.history dev.new) }
-        ensures device { D.geometry dev.new ≡ D.geometry dev.old }
-        // A stop at any moment changes no block but those handed in.
-        ensures stops { LeavesOnly AtWorst (D.history dev.old) (D.history dev.new) (SameButThese (pending_of (growing_of self.old) ++ blocks.now) (D.blocks dev.old)) }
-        ensures no_fault { OnOk result (faults (D.history dev.new) ≡ faults (D.history dev.old)) }
-        ensures io { IsErrOf result Error.Io → faults (D.history dev.old) < faults (D.history dev.new) }
+        ensures writes { OnOk result (Writes (growing_of self.old).full (growing_of self.new).full (D.history dev.old) (D.history dev.new)) }
+        ensures device { ChangesOnly D.BlockDevice (pending_of (growing_of self.old) ++ blocks.now) dev.old dev.new }
+        ensures faults { TellsFaults D.BlockDevice dev.old dev.new result }
         ensures errors { IfErr result (λ e. e ≡ Error.Io) }
     {
         let mut done = 0;
@@ -296,22 +320,15 @@ impl Extender {
         requires in_device { block < (D.geometry dev.old).block_count }
         requires apart { All (λ c. c ≢ block) (blocks_back (D.blocks dev.old) (growing_of self.old).full (growing_of self.old).head) }
         requires geometry { D.geometry dev.old ≡ geometry_of self.old }
-        ensures chain { OnOk result (IsChain (D.blocks dev.new) ((growing_of self.old).full + 1) block) }
-        ensures back { OnOk result (blocks_back (D.blocks dev.new) ((growing_of self.old).full + 1) block
-            ≡ blocks_back (D.blocks dev.old) (growing_of self.old).full (growing_of self.old).head ++ block ∷ []) }
+        ensures appended { OnOk result (IsAppended (D.blocks dev.old) (D.blocks dev.new) (growing_of self.old).full (growing_of self.old).head block) }
         ensures bytes { OnOk result (take (length (growing_of self.old).rest) (drop (4 * pointers_of (growing_of self.old).full) (block_in (D.blocks dev.new) block)) ≡ (growing_of self.old).rest) }
-        ensures others { SameBut block (D.blocks dev.old) (D.blocks dev.new) }
-        ensures elsewhere { StayUnprogrammed (block ∷ []) (D.history dev.old) (D.history dev.new) }
-        ensures device { D.geometry dev.new ≡ D.geometry dev.old }
-        ensures erases { OnOk result (erases (D.history dev.new) ≡ erases (D.history dev.old) + 1) }
-        ensures programs { OnOk result (programs (D.history dev.new) ≡ programs (D.history dev.old) + 1) }
-        ensures stops { LeavesOnly AtWorst (D.history dev.old) (D.history dev.new) (SameBut block (D.blocks dev.old)) }
-        ensures no_fault { OnOk result (faults (D.history dev.new) ≡ faults (D.history dev.old)) }
-        ensures io { IsErrOf result Error.Io → faults (D.history dev.old) < faults (D.history dev.new) }
+        ensures writes { OnOk result (Writes 0 1 (D.history dev.old) (D.history dev.new)) }
+        ensures device { ChangesBlock D.BlockDevice block dev.old dev.new }
+        ensures faults { TellsFaults D.BlockDevice dev.old dev.new result }
         ensures errors { IfErr result (λ e. e ≡ Error.Io) }
     {
         let end = self.filled.next_multiple_of(self.geometry.page);
-        pad(&mut self.buffer, self.filled as usize, end as usize);
+        pad(&mut self.buffer, self.filled as usize, end as usize, 0xff);
         let buffer = self.buffer.as_mut_slice();
         write_block(dev, self.head, self.full, block, buffer, end)?;
         Ok(())
@@ -320,33 +337,29 @@ impl Extender {
     /// Ends the list: writes the block that isn't full, and answers the list's last block and its
     /// size. Where nothing was pushed after `resume`, the last block is one of the old list's.
     ///
-    /// There is at least one byte. The device holds the list as the extender was given it or left
-    /// it. `Error::Io` comes where the device failed.
+    /// There is at least one byte, and they don't all stand in memory for no block. The device
+    /// holds the list as the extender was given it or left it. `Error::Io` comes where the device
+    /// failed.
     pub fn finish<D: BlockDevice>(mut self, dev: &mut D) -> Result<(u32, u32), Error>
-        requires held { IsGrowing (D.blocks dev.old) (growing_of self) }
+        requires growing { IsGrowing (D.blocks dev.old) (growing_of self) }
         requires geometry { D.geometry dev.old ≡ geometry_of self }
         requires some { 1 ≤ size_of (geometry_of self).block_size (growing_of self) }
-        ensures list { IfOk result (λ r. IsList (D.blocks dev.new) (geometry_of self).block_size r.0 r.1) }
-        ensures bytes { IfOk result (λ r. bytes_of (D.blocks dev.new) (geometry_of self).block_size r.0 r.1 ≡ content_of (D.blocks dev.old) (growing_of self)) }
+        requires listed { is_held (growing_of self) ≡ false }
+        ensures finished { IfOk result (λ r. IsEnd (D.blocks dev.new) (geometry_of self).block_size r.0 r.1
+            (content_of (D.blocks dev.old) (growing_of self)) (blocks_of (D.blocks dev.old) (growing_of self))) }
         ensures size { IfOk result (λ r. r.1 ≡ size_of (geometry_of self).block_size (growing_of self)) }
-        ensures blocks { IfOk result (λ r. blocks_back (D.blocks dev.new) (blocks_for (geometry_of self).block_size r.1) r.0 ≡ blocks_of (D.blocks dev.old) (growing_of self)) }
-        ensures no_call { pending_of (growing_of self) ≡ [] → D.history dev.new ≡ D.history dev.old }
-        ensures erases { OnOk result (erases (D.history dev.new) ≡ erases (D.history dev.old) + length (pending_of (growing_of self))) }
-        ensures programs { OnOk result (programs (D.history dev.new) ≡ programs (D.history dev.old) + length (pending_of (growing_of self))) }
-        ensures others { SameButThese (pending_of (growing_of self)) (D.blocks dev.old) (D.blocks dev.new) }
-        ensures elsewhere { StayUnprogrammed (pending_of (growing_of self)) (D.history dev.old) (D.history dev.new) }
-        ensures device { D.geometry dev.new ≡ D.geometry dev.old }
-        // A stop at any moment changes no block but the one that was handed in.
-        ensures stops { LeavesOnly AtWorst (D.history dev.old) (D.history dev.new) (SameButThese (pending_of (growing_of self)) (D.blocks dev.old)) }
-        ensures no_fault { OnOk result (faults (D.history dev.new) ≡ faults (D.history dev.old)) }
-        ensures io { IsErrOf result Error.Io → faults (D.history dev.old) < faults (D.history dev.new) }
+        ensures no_call { pending_of (growing_of self) ≡ [] → (D.history dev.new ≡ D.history dev.old) × (D.blocks dev.new ≡ D.blocks dev.old) }
+        ensures writes { OnOk result (Writes 0 (length (pending_of (growing_of self))) (D.history dev.old) (D.history dev.new)) }
+        ensures device { ChangesOnly D.BlockDevice (pending_of (growing_of self)) dev.old dev.new }
+        ensures faults { TellsFaults D.BlockDevice dev.old dev.new result }
         ensures errors { IfErr result (λ e. e ≡ Error.Io) }
     {
         let size = self.size;
-        match self.tail {
-            Tail::Closed => Ok((self.head, size)),
-            Tail::Shared(block) => Ok((block, size)),
-            Tail::Handed(block) => {
+        match self.stand {
+            Rest::Closed => Ok((self.head, size)),
+            Rest::Held => Ok((self.head, size)),
+            Rest::Shared(block) => Ok((block, size)),
+            Rest::Handed(block) => {
                 self.write_last(dev, block)?;
                 Ok((block, size))
             }

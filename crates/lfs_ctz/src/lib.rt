@@ -3,16 +3,15 @@
 
 mod block;
 mod extender;
+mod front;
 mod read;
+mod rest;
 mod size;
 mod visits;
 
 pub use extender::Extender;
+pub use front::cut;
 pub use read::{head_before, read_at};
+pub use rest::Rest;
 pub use size::{blocks_for, place};
 pub use visits::walk;
-
-#[cfg(test)]
-mod extender_tests;
-#[cfg(test)]
-mod tests;

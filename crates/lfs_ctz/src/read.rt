@@ -1,6 +1,7 @@
 ghost use Rattle.std.specs.Prelude.{◌≡◌, ◌≤◌, ◌<◌, ◌+◌, ◌*◌, ◌^◌, ◌⊎◌, ℕ, ◌-◌, ◌++◌, min, length, take, drop, OnOk, IfOk, IfErr, IsErrOf, slice_index, slice_range};
 ghost use Rattle.lfs_model.specs.Blocks.{block_in};
-ghost use Rattle.lfs_model.specs.History.{OnlyReads, faults, reads};
+ghost use Rattle.lfs_device.specs.Calls.{ReadsOnly, TellsFaults};
+ghost use Rattle.lfs_model.specs.History.{reads};
 ghost use Rattle.lfs_model.specs.Lists.{IsChain, IsList, IsPlace, blocks_back, blocks_for, bytes_of, pointers_of, word_at};
 
 use crate::{blocks_for, place};
@@ -13,11 +14,8 @@ pub(crate) fn pointer<D: BlockDevice>(dev: &mut D, block: u32, k: u32) -> Result
     ensures word { IfOk result (λ word. word ≡ word_at (block_in (D.blocks dev.old) block) (4 * k)) }
     ensures in_range { OnOk result (block < (D.geometry dev.old).block_count) }
     ensures corrupt { IsErrOf result Error.Corrupt → (D.geometry dev.old).block_count ≤ block }
-    ensures same { D.blocks dev.new ≡ D.blocks dev.old }
-    ensures geometry { D.geometry dev.new ≡ D.geometry dev.old }
-    ensures history { OnlyReads (D.blocks dev.old) (D.history dev.old) (D.history dev.new) }
-    ensures no_fault { OnOk result (faults (D.history dev.new) ≡ faults (D.history dev.old)) }
-    ensures io { IsErrOf result Error.Io → faults (D.history dev.old) < faults (D.history dev.new) }
+    ensures device { ReadsOnly D.BlockDevice dev.old dev.new }
+    ensures faults { TellsFaults D.BlockDevice dev.old dev.new result }
     ensures errors { IfErr result (λ e. (e ≡ Error.Io) ⊎ (e ≡ Error.Corrupt)) }
     ensures few { reads (D.history dev.new) ≤ reads (D.history dev.old) + 1 }
 {
@@ -41,11 +39,8 @@ pub(crate) fn find<D: BlockDevice>(
     ensures found { IsChain (D.blocks dev.old) (last + 1) head → IfOk result (λ b. b ≡ slice_index (blocks_back (D.blocks dev.old) (last + 1) head) index) }
     ensures in_range { IfOk result (λ b. b < (D.geometry dev.old).block_count) }
     ensures corrupt { IsErrOf result Error.Corrupt → ¬ IsChain (D.blocks dev.old) (last + 1) head }
-    ensures same { D.blocks dev.new ≡ D.blocks dev.old }
-    ensures geometry { D.geometry dev.new ≡ D.geometry dev.old }
-    ensures history { OnlyReads (D.blocks dev.old) (D.history dev.old) (D.history dev.new) }
-    ensures no_fault { OnOk result (faults (D.history dev.new) ≡ faults (D.history dev.old)) }
-    ensures io { IsErrOf result Error.Io → faults (D.history dev.old) < faults (D.history dev.new) }
+    ensures device { ReadsOnly D.BlockDevice dev.old dev.new }
+    ensures faults { TellsFaults D.BlockDevice dev.old dev.new result }
     ensures errors { IfErr result (λ e. (e ≡ Error.Io) ⊎ (e ≡ Error.Corrupt)) }
     ensures few { (m : ℕ) → last < 2 ^ m → OnOk result (reads (D.history dev.new) ≤ reads (D.history dev.old) + 2 * m) }
 {
@@ -68,11 +63,8 @@ fn before<D: BlockDevice>(dev: &mut D, block: u32) -> Result<u32, Error>
     ensures word { IfOk result (λ word. word ≡ word_at (block_in (D.blocks dev.old) block) 0) }
     ensures in_range { IfOk result (λ b. b < (D.geometry dev.old).block_count) }
     ensures corrupt { IsErrOf result Error.Corrupt → (D.geometry dev.old).block_count ≤ word_at (block_in (D.blocks dev.old) block) 0 }
-    ensures same { D.blocks dev.new ≡ D.blocks dev.old }
-    ensures geometry { D.geometry dev.new ≡ D.geometry dev.old }
-    ensures history { OnlyReads (D.blocks dev.old) (D.history dev.old) (D.history dev.new) }
-    ensures no_fault { OnOk result (faults (D.history dev.new) ≡ faults (D.history dev.old)) }
-    ensures io { IsErrOf result Error.Io → faults (D.history dev.old) < faults (D.history dev.new) }
+    ensures device { ReadsOnly D.BlockDevice dev.old dev.new }
+    ensures faults { TellsFaults D.BlockDevice dev.old dev.new result }
     ensures errors { IfErr result (λ e. (e ≡ Error.Io) ⊎ (e ≡ Error.Corrupt)) }
     ensures few { reads (D.history dev.new) ≤ reads (D.history dev.old) + 1 }
 {
@@ -83,18 +75,17 @@ fn before<D: BlockDevice>(dev: &mut D, block: u32) -> Result<u32, Error>
     Ok(word)
 }
 
-/// The last of so many blocks of a list before one, 0 where there are none. Corrupt where the
-/// device has no such block.
+/// The last of so many blocks of a list that stand before `block`, 0 where there are none.
+///
+/// `Error::Corrupt` says that the block's pointer 0 leads out of the device; `Error::Io` comes where
+/// the device failed.
 pub fn head_before<D: BlockDevice>(dev: &mut D, block: u32, count: u32) -> Result<u32, Error>
     requires { block < (D.geometry dev.old).block_count }
     ensures word { IfOk result (λ word. 0 < count → word ≡ word_at (block_in (D.blocks dev.old) block) 0) }
-    ensures corrupt { IsErrOf result Error.Corrupt → 0 < count → (D.geometry dev.old).block_count ≤ word_at (block_in (D.blocks dev.old) block) 0 }
-    ensures some { IsErrOf result Error.Corrupt → 0 < count }
-    ensures same { D.blocks dev.new ≡ D.blocks dev.old }
-    ensures geometry { D.geometry dev.new ≡ D.geometry dev.old }
-    ensures history { OnlyReads (D.blocks dev.old) (D.history dev.old) (D.history dev.new) }
-    ensures no_fault { OnOk result (faults (D.history dev.new) ≡ faults (D.history dev.old)) }
-    ensures io { IsErrOf result Error.Io → faults (D.history dev.old) < faults (D.history dev.new) }
+    ensures in_range { IfOk result (λ b. b < (D.geometry dev.old).block_count) }
+    ensures corrupt { IsErrOf result Error.Corrupt → (0 < count) × ((D.geometry dev.old).block_count ≤ word_at (block_in (D.blocks dev.old) block) 0) }
+    ensures device { ReadsOnly D.BlockDevice dev.old dev.new }
+    ensures faults { TellsFaults D.BlockDevice dev.old dev.new result }
     ensures errors { IfErr result (λ e. (e ≡ Error.Io) ⊎ (e ≡ Error.Corrupt)) }
 {
     if count == 0 {
@@ -128,11 +119,8 @@ pub(crate) fn read_part<D: BlockDevice>(
     requires in_block { off + len ≤ (D.geometry dev.old).block_size }
     requires in_buffer { start + len ≤ length buf.old }
     ensures bytes { OnOk result (buf.new ≡ take start buf.old ++ (take len (drop off (block_in (D.blocks dev.old) block)) ++ drop (start + len) buf.old)) }
-    ensures same { D.blocks dev.new ≡ D.blocks dev.old }
-    ensures geometry { D.geometry dev.new ≡ D.geometry dev.old }
-    ensures history { OnlyReads (D.blocks dev.old) (D.history dev.old) (D.history dev.new) }
-    ensures no_fault { OnOk result (faults (D.history dev.new) ≡ faults (D.history dev.old)) }
-    ensures io { IsErrOf result Error.Io → faults (D.history dev.old) < faults (D.history dev.new) }
+    ensures device { ReadsOnly D.BlockDevice dev.old dev.new }
+    ensures faults { TellsFaults D.BlockDevice dev.old dev.new result }
     ensures errors { IfErr result (λ e. e ≡ Error.Io) }
     ensures few { reads (D.history dev.new) ≡ reads (D.history dev.old) + 1 }
 {
@@ -155,16 +143,12 @@ pub fn read_at<D: BlockDevice>(
     pos: u32,
     buf: &mut [u8],
 ) -> Result<usize, Error>
-    ensures count { IfOk result (λ n. n ≡ min (length buf.old) (size - pos)) }
+    ensures count { IfOk result (λ n. (n ≡ min (length buf.old) (size - pos)) × (drop n buf.new ≡ drop n buf.old)) }
     ensures bytes { IsList (D.blocks dev.old) (D.geometry dev.old).block_size head size →
         IfOk result (λ n. take n buf.new ≡ slice_range (bytes_of (D.blocks dev.old) (D.geometry dev.old).block_size head size) pos (pos + n)) }
-    ensures rest { IfOk result (λ n. drop n buf.new ≡ drop n buf.old) }
     ensures corrupt { IsErrOf result Error.Corrupt → ¬ IsList (D.blocks dev.old) (D.geometry dev.old).block_size head size }
-    ensures same { D.blocks dev.new ≡ D.blocks dev.old }
-    ensures geometry { D.geometry dev.new ≡ D.geometry dev.old }
-    ensures history { OnlyReads (D.blocks dev.old) (D.history dev.old) (D.history dev.new) }
-    ensures no_fault { OnOk result (faults (D.history dev.new) ≡ faults (D.history dev.old)) }
-    ensures io { IsErrOf result Error.Io → faults (D.history dev.old) < faults (D.history dev.new) }
+    ensures device { ReadsOnly D.BlockDevice dev.old dev.new }
+    ensures faults { TellsFaults D.BlockDevice dev.old dev.new result }
     ensures errors { IfErr result (λ e. (e ≡ Error.Io) ⊎ (e ≡ Error.Corrupt)) }
     // Steps to the last block by the logarithm of the list's length, and two reads for each block.
     ensures few { (m first last off end : ℕ) → blocks_for (D.geometry dev.old).block_size size ≤ 2 ^ m

@@ -1,7 +1,7 @@
 ghost use Rattle.std.specs.Prelude.{◌≡◌, ◌≤◌, ◌<◌, ◌+◌, ◌*◌, ◌⊎◌, ℕ, OnOk, IfOk, IfErr, IsErrOf, reverse};
 ghost use Rattle.std.specs.List.{FoldsTo};
 ghost use Rattle.lfs_model.specs.Blocks.{block_in};
-ghost use Rattle.lfs_model.specs.History.{OnlyReads, faults};
+ghost use Rattle.lfs_device.specs.Calls.{ReadsOnly, TellsFaults};
 ghost use Rattle.lfs_model.specs.Lists.{IsList, blocks_back, blocks_for, pointers_of, word_at};
 ghost use Rattle.lfs_ctz.specs.Right.{IsRight};
 
@@ -19,11 +19,8 @@ fn checked_before<D: BlockDevice>(dev: &mut D, block: u32, index: u32) -> Result
     ensures corrupt { IsErrOf result Error.Corrupt → block < (D.geometry dev.old).block_count
         → ((k : ℕ) → k < pointers_of index → word_at (block_in (D.blocks dev.old) block) (4 * k) < (D.geometry dev.old).block_count)
         → ¬ IsRight (D.blocks dev.old) index block }
-    ensures same { D.blocks dev.new ≡ D.blocks dev.old }
-    ensures geometry { D.geometry dev.new ≡ D.geometry dev.old }
-    ensures history { OnlyReads (D.blocks dev.old) (D.history dev.old) (D.history dev.new) }
-    ensures no_fault { OnOk result (faults (D.history dev.new) ≡ faults (D.history dev.old)) }
-    ensures io { IsErrOf result Error.Io → faults (D.history dev.old) < faults (D.history dev.new) }
+    ensures device { ReadsOnly D.BlockDevice dev.old dev.new }
+    ensures faults { TellsFaults D.BlockDevice dev.old dev.new result }
     ensures errors { IfErr result (λ e. (e ≡ Error.Io) ⊎ (e ≡ Error.Corrupt)) }
 {
     let before = pointer(dev, block, 0)?;
@@ -57,11 +54,8 @@ pub fn walk<D: BlockDevice, F: FnMut(u32)>(
     ensures visited { OnOk result (FoldsTo (λ p x q. F.step p x tt q) visit.old
         (reverse (blocks_back (D.blocks dev.old) (blocks_for (D.geometry dev.old).block_size size) head)) visit.new) }
     ensures callable { F.IsAlwaysCallable visit.new }
-    ensures same { D.blocks dev.new ≡ D.blocks dev.old }
-    ensures geometry { D.geometry dev.new ≡ D.geometry dev.old }
-    ensures history { OnlyReads (D.blocks dev.old) (D.history dev.old) (D.history dev.new) }
-    ensures no_fault { OnOk result (faults (D.history dev.new) ≡ faults (D.history dev.old)) }
-    ensures io { IsErrOf result Error.Io → faults (D.history dev.old) < faults (D.history dev.new) }
+    ensures device { ReadsOnly D.BlockDevice dev.old dev.new }
+    ensures faults { TellsFaults D.BlockDevice dev.old dev.new result }
     ensures errors { IfErr result (λ e. (e ≡ Error.Io) ⊎ (e ≡ Error.Corrupt)) }
 {
     let geometry = dev.geometry();

@@ -4,13 +4,12 @@ use Rattle.std.proofs.Math.Nat.{pow-suc, one-le-pow}
 use Rattle.std.proofs.lemmas.Result.{err_from_is_err_and}
 use Rattle.std.proofs.Common.{drop, Result, Err, ◌⊎◌, inl, inr}
 use Rattle.lfs_device.specs.declared.error.Error.{Error}
-use Rattle.lfs_model.proofs.Histories.{began}
+use Rattle.lfs_ctz.proofs.Called.{not_read, read_on, quiet}
 use Rattle.lfs_ctz.proofs.Sizes.{pointers_of-le}
 use Rattle.lfs_device.specs.declared.geometry.Geometry.{Geometry}
 use Rattle.lfs_model.specs.Blocks.{Blocks, block_in}
 use Rattle.lfs_model.specs.Lists.{IsChain, blocks_back, pointers_of, word_at}
 use Rattle.lfs_ctz.proofs.Chains.{head_of_back, in_range_at, pointers_of-pos}
-use Rattle.lfs_ctz.proofs.Readings.{reads_on}
 use Rattle.lfs_ctz.proofs.Words.{with_word, word_at-with_word, word_at-with_word_above, drop-with_word}
 use Rattle.lfs_ctz.proofs.Zeros.{zeros32_before}
 use Rattle.lfs_ctz.proofs.block.put_pointers.Goals as goal
@@ -54,14 +53,12 @@ loop-k-init g c =
       words = λ j less. words_more c.args.buf.now c.put_word.new.buf head 0 (λ i. slice_index (blocks_back old index head) (index - 2 ^ i)) c.put_word.ensures (omega (arith, c.requires.room)) (omega arith) is (λ i none. absurd (omega arith)) j (omega arith);
       rest = ap (λ (b : List ℕ). drop (4 * pointers_of index) b) c.put_word.ensures ∙ drop-with_word c.args.buf.now 0 head (4 * pointers_of index) (omega (arith, c.requires.room)) (omega arith);
       len = c.put_word.auto.buf;
-      same = refl;
-      same_geometry = refl;
-      only_reads = began;
-      no_fault = refl;
+      device = not_read g.D.BlockDevice c.args.dev.now;
+      quiet = refl;
     }
 
-pub returns-in_err-to-clause-history : goal.returns-in_err-to-clause-history
-returns-in_err-to-clause-history g c = reads_on _ _ _ _ _ c.loop-k.invariant.same c.loop-k.invariant.only_reads c.pointer.ensures.history
+pub returns-in_err-to-clause-device : goal.returns-in_err-to-clause-device
+returns-in_err-to-clause-device g c = read_on g.D.BlockDevice c.loop-k.invariant.device c.pointer.ensures.device
 
 pub returns-in_err-to-clause-errors : goal.returns-in_err-to-clause-errors
 returns-in_err-to-clause-errors g c =
@@ -72,7 +69,7 @@ returns-in_err-to-clause-errors g c =
     let zeros = zeros32_before index c.loop-k.k (omega arith) (omega arith) (omega arith) in
     let power = one-le-pow c.loop-k.k 2 (omega arith) in
     let lt = in_range_at (g.D.BlockDevice.blocks c.args.dev.now) index c.args.head (index - 2 ^ c.loop-k.k) c.requires.chain (omega arith) in
-    let count = ap (λ (k : Geometry). k.block_count) inv.same_geometry in
+    let count = ap (λ (k : Geometry). k.block_count) inv.device.geometry in
     rw (p.1, p.2) (only_io _ c.in_err-to.ensures.errors (λ is. let out = c.in_err-to.ensures.corrupt is in omega (arith, out, count, lt, inv.at, shape.count)))
 
 pub loop-k-preserved : goal.loop-k-preserved
@@ -85,7 +82,7 @@ loop-k-preserved g c =
     let many = pointers_of-pos index (omega arith) in
     let few = pointers_of-le index in
     let is : c.in_ok-to.to ≡ slice_index (blocks_back old index head) (index - 2 ^ (k + 1)) =
-    c.in_ok-to.ensures.word ∙ ap (λ d. word_at (block_in d c.loop-k.to) (4 * k)) inv.same ∙ next_pointer old index head k c.loop-k.to c.requires.chain (omega arith) (omega arith) (omega arith) inv.at in
+    c.in_ok-to.ensures.word ∙ ap (λ d. word_at (block_in d c.loop-k.to) (4 * k)) inv.device.same ∙ next_pointer old index head k c.loop-k.to c.requires.chain (omega arith) (omega arith) (omega arith) inv.at in
     let room = c.requires.room in
     let len = inv.len in
     record {
@@ -93,8 +90,6 @@ loop-k-preserved g c =
       words = words_more c.loop-k.buf c.put_word-in-loop-k.new.buf c.in_ok-to.to (k + 1) (λ i. slice_index (blocks_back old index head) (index - 2 ^ i)) c.put_word-in-loop-k.ensures (omega arith) (omega arith) is inv.words;
       rest = ap (λ (b : List ℕ). drop (4 * pointers_of index) b) c.put_word-in-loop-k.ensures ∙ drop-with_word c.loop-k.buf (4 * (k + 1)) c.in_ok-to.to (4 * pointers_of index) (omega arith) (omega arith) ∙ inv.rest;
       len = c.put_word-in-loop-k.auto.buf ∙ inv.len;
-      same = c.pointer.ensures.same ∙ inv.same;
-      same_geometry = c.pointer.ensures.geometry ∙ inv.same_geometry;
-      only_reads = reads_on _ _ _ _ _ inv.same inv.only_reads c.pointer.ensures.history;
-      no_fault = c.in_ok-to.ensures.no_fault ∙ inv.no_fault;
+      device = read_on g.D.BlockDevice inv.device c.pointer.ensures.device;
+      quiet = quiet g.D.BlockDevice c.in_ok-to.ensures.faults ∙ inv.quiet;
     }

@@ -1,11 +1,11 @@
 use Rattle.std.proofs.Common.{ℕ, ◌≡◌, ◌<◌, ◌+◌, ◌-◌, ◌*◌, ◌^◌, length, drop, slice_index}
-use Rattle.lfs_model.specs.History.{OnlyReads, faults}
+use Rattle.lfs_device.specs.Calls.{ReadsOnly}
+use Rattle.lfs_model.specs.History.{faults}
 use Rattle.lfs_model.specs.Lists.{blocks_back, pointers_of, word_at}
 use Rattle.lfs_ctz.proofs.block.put_pointers.Given as goal
 
 abbrev pub invariant-loop-k : goal.invariant-loop-k
 invariant-loop-k g l =
-    let geometry = g.D.BlockDevice.geometry in
     let blocks = g.D.BlockDevice.blocks in
     let history = g.D.BlockDevice.history in
     let old = l.fn.dev in
@@ -14,8 +14,6 @@ invariant-loop-k g l =
       words : (j : ℕ) → j < l.k + 1 → word_at l.buf (4 * j) ≡ slice_index (blocks_back (blocks old) l.index l.head) (l.index - 2 ^ j);
       rest : drop (4 * pointers_of l.index) l.buf ≡ drop (4 * pointers_of l.index) l.fn.buf;
       len : length l.buf ≡ length l.fn.buf;
-      same : blocks l.dev ≡ blocks old;
-      same_geometry : geometry l.dev ≡ geometry old;
-      only_reads : OnlyReads (blocks old) (history old) (history l.dev);
-      no_fault : faults (history l.dev) ≡ faults (history old);
+      device : ReadsOnly g.D.BlockDevice old l.dev;
+      quiet : faults (history l.dev) ≡ faults (history old);
     }

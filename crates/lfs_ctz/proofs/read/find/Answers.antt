@@ -1,14 +1,13 @@
 use Rattle.std.proofs.Common.{ℕ, ◌≡◌, ◌≤◌, ◌+◌, ◌-◌, ◌*◌, ◌%◌, ◌^◌, min, refl, sym, ap, subst, ◌∙◌, arith}
 use Rattle.std.specs.Int.{w32, trailing_zeros}
 use Rattle.std.proofs.lemmas.Nat.{one_shl}
-use Rattle.lfs_model.proofs.Histories.{began}
+use Rattle.lfs_ctz.proofs.Called.{not_read, read_on, quiet}
 use lib.Pow.{pow_mono}
 use Rattle.std.proofs.Common.{slice_index}
 use Rattle.lfs_model.specs.Blocks.{Blocks, block_in}
 use Rattle.lfs_model.specs.Lists.{word_at, blocks_back}
 use Rattle.lfs_ctz.proofs.Back.{FewSteps, no_steps, step_back, few_steps}
 use Rattle.lfs_ctz.proofs.Chains.{head_of_back, pointer_at}
-use Rattle.lfs_ctz.proofs.Readings.{reads_on}
 use Rattle.lfs_ctz.proofs.read.find.Goals as goal
 
 pub loop-at-init : goal.loop-at-init
@@ -16,15 +15,13 @@ loop-at-init g c = record {
   low = c.requires;
   high = omega arith;
   found = λ chain. sym (head_of_back (g.D.BlockDevice.blocks c.args.dev.now) c.args.last c.args.head);
-  same = refl;
-  same_geometry = refl;
-  only_reads = began;
-  no_fault = refl;
+  device = not_read g.D.BlockDevice c.args.dev.now;
+  quiet = refl;
   few = λ m lt. (0, (omega arith, no_steps m c.args.last c.args.index));
 }
 
-pub returns-in_err-block-clause-history : goal.returns-in_err-block-clause-history
-returns-in_err-block-clause-history g c = reads_on _ _ _ _ _ c.loop-at.invariant.same c.loop-at.invariant.only_reads c.pointer.ensures.history
+pub returns-in_err-block-clause-device : goal.returns-in_err-block-clause-device
+returns-in_err-block-clause-device g c = read_on g.D.BlockDevice c.loop-at.invariant.device c.pointer.ensures.device
 
 -- the step
 stride : (g : _) (c : goal.In_ok-block g) → 1 * 2 ^ c.min-skip.result % 4294967296 ≡ 2 ^ min (trailing_zeros w32 c.loop-at.at) c.ilog2.result
@@ -55,13 +52,11 @@ loop-at-preserved g c =
       high = (let h = inv.high in omega arith);
       found = λ chain.
           c.in_ok-block.ensures.word
-          ∙ ap (λ d. word_at (block_in d c.loop-at.block) (4 * c.min-skip.result)) inv.same
+          ∙ ap (λ d. word_at (block_in d c.loop-at.block) (4 * c.min-skip.result)) inv.device.same
           ∙ pointer_at old c.args.last c.args.head at c.min-skip.result chain (omega arith) inv.high (let e = c.min-skip.ensures in omega arith) c.loop-at.block (inv.found chain)
           ∙ ap (λ n. slice_index (blocks_back old (c.args.last + 1) c.args.head) (at - n)) (ap (λ n. 2 ^ n) c.min-skip.ensures ∙ sym s);
-      same = c.pointer.ensures.same ∙ inv.same;
-      same_geometry = c.pointer.ensures.geometry ∙ inv.same_geometry;
-      only_reads = reads_on _ _ _ _ _ inv.same inv.only_reads c.pointer.ensures.history;
-      no_fault = c.in_ok-block.ensures.no_fault ∙ inv.no_fault;
+      device = read_on g.D.BlockDevice inv.device c.pointer.ensures.device;
+      quiet = quiet g.D.BlockDevice c.in_ok-block.ensures.faults ∙ inv.quiet;
       few = λ m lt.
           let steps = inv.few m lt in
           let one = c.pointer.ensures.few in

@@ -1,12 +1,12 @@
 use Rattle.std.proofs.Common.{ℕ, ◌≡◌, ◌≤◌, ◌<◌, ◌+◌, ◌^◌, slice_index}
-use Rattle.lfs_model.specs.History.{OnlyReads, faults, reads}
+use Rattle.lfs_device.specs.Calls.{ReadsOnly}
+use Rattle.lfs_model.specs.History.{faults, reads}
 use Rattle.lfs_model.specs.Lists.{IsChain, blocks_back}
 use Rattle.lfs_ctz.proofs.Back.{FewSteps}
 use Rattle.lfs_ctz.proofs.read.find.Given as goal
 
 abbrev pub invariant-loop-at : goal.invariant-loop-at
 invariant-loop-at g l =
-    let geometry = g.D.BlockDevice.geometry in
     let blocks = g.D.BlockDevice.blocks in
     let history = g.D.BlockDevice.history in
     let old = l.fn.dev in
@@ -14,10 +14,8 @@ invariant-loop-at g l =
       low : l.index ≤ l.at;
       high : l.at ≤ l.last;
       found : IsChain (blocks old) (l.last + 1) l.fn.head → l.block ≡ slice_index (blocks_back (blocks old) (l.last + 1) l.fn.head) l.at;
-      same : blocks l.dev ≡ blocks old;
-      same_geometry : geometry l.dev ≡ geometry old;
-      only_reads : OnlyReads (blocks old) (history old) (history l.dev);
-      no_fault : faults (history l.dev) ≡ faults (history old);
+      device : ReadsOnly g.D.BlockDevice old l.dev;
+      quiet : faults (history l.dev) ≡ faults (history old);
       few : (m : ℕ) → l.last < 2 ^ m → (done : ℕ) × ((reads (history l.dev) ≤ reads (history old) + done) × FewSteps m l.at l.index done);
     }
 

@@ -1,9 +1,8 @@
-use Rattle.std.proofs.Common.{refl}
-use Rattle.lfs_model.proofs.Histories.{began, goes_on}
+use Rattle.lfs_ctz.proofs.Called.{read_once}
 use Rattle.lfs_ctz.proofs.read.pointer.Goals as goal
 
-pub returns-in_err-read-clause-history : goal.returns-in_err-read-clause-history
-returns-in_err-read-clause-history g c = goes_on began c.read.ensures.history (record { reads = refl; before = refl; after = c.read.ensures.same })
+pub returns-in_err-read-clause-device : goal.returns-in_err-read-clause-device
+returns-in_err-read-clause-device g c = read_once g.D.BlockDevice c.read.ensures.history c.read.ensures.same c.read.ensures.geometry
 
-pub returns-clause-history : goal.returns-clause-history
-returns-clause-history g c = goes_on began c.read.ensures.history (record { reads = refl; before = refl; after = c.read.ensures.same })
+pub returns-clause-device : goal.returns-clause-device
+returns-clause-device g c = read_once g.D.BlockDevice c.read.ensures.history c.read.ensures.same c.read.ensures.geometry

@@ -8,7 +8,7 @@ use Rattle.lfs_model.specs.Lists.{IsPlace, pointers_of, blocks_for, blocks_back,
 use Rattle.lfs_ctz.proofs.Sizes.{blocks_for-last, place-lt, place_unique, place-mono}
 use Rattle.lfs_ctz.proofs.Gathered.{IsPart, IsTurn, filled, turn_bytes, turn_rest, turn_before, turn_in_range, turn_index}
 use Rattle.lfs_ctz.proofs.Geometries.{last_is, chain, sized, shaped}
-use Rattle.lfs_ctz.proofs.Readings.{reads_on}
+use Rattle.lfs_ctz.proofs.Called.{read_on, quiet, told_as, told_on}
 use Rattle.lfs_ctz.proofs.read.read_at.Goals as goal
 
 pub overflow_sub-blocks_for : goal.overflow_sub-blocks_for
@@ -56,17 +56,15 @@ blocks-2-init g c =
           ∙ ap (slice_index (blocks_back old (blocks_for size c.args.size) c.args.head)) (place_unique size _ _ _ _ _ c.place-index.ensures is);
       bytes = λ ok. nothing_yet (bytes_of old size c.args.head c.args.size) c.args.buf.now c.args.pos c.min-len.result _ c.min-len.ensures;
       rest = refl;
-      same = c.find.ensures.same;
-      same_geometry = c.find.ensures.geometry;
-      only_reads = c.find.ensures.history;
-      no_fault = c.in_ok-block.ensures.no_fault;
+      device = c.find.ensures.device;
+      quiet = quiet g.D.BlockDevice c.in_ok-block.ensures.faults;
       few = λ m i last off end le is there.
           let few = c.in_ok-block.ensures.few m (omega (arith, le, c.blocks_for.ensures, (blocks_for-last size c.args.size large (omega arith)).1.0)) in
           omega arith;
     }
 
-pub returns-in_err-read_part-clause-history : goal.returns-in_err-read_part-clause-history
-returns-in_err-read_part-clause-history g c = reads_on _ _ _ _ _ c.blocks-2.invariant.same c.blocks-2.invariant.only_reads c.read_part.ensures.history
+pub returns-in_err-read_part-clause-device : goal.returns-in_err-read_part-clause-device
+returns-in_err-read_part-clause-device g c = read_on g.D.BlockDevice c.blocks-2.invariant.device c.read_part.ensures.device
 
 -- what is read at an iteration
 is_part : (block_size pos left n i off k : ℕ) → IsPlace block_size (pos + left - 1) i off → k ≡ pointers_of i → n ≡ min left (off + 1 - 4 * k) → IsPart block_size pos left n i off
@@ -114,20 +112,20 @@ pub returns-then-left-eq0-clause-bytes : goal.returns-then-left-eq0-clause-bytes
 returns-then-left-eq0-clause-bytes g c listed =
     let inv = c.blocks-2.invariant in
     let turn = turn_of _ _ _ _ c.args.size c.args.pos _ _ _ _ _ _ _ _ _ c.args.buf.now c.geometry-block_size.ensures (g.met.D.BlockDevice.shape c.args.dev.now) c.place-index-in-blocks-2.ensures c.pointers.ensures c.min-part.ensures
-    inv.some inv.high refl (omega arith) c.blocks-2.auto.buf inv.in_range inv.same c.in_ok-read_part.ensures.bytes in
+    inv.some inv.high refl (omega arith) c.blocks-2.auto.buf inv.in_range inv.device.same c.in_ok-read_part.ensures.bytes in
     let ok = sized _ c.args.head c.args.size _ _ c.geometry-block_size.ensures listed in
     at_end _ _ _ c.args.head c.args.size c.args.pos _ _ _ _ _ _ c.geometry-block_size.ensures c.min-len.ensures c.if-left-eq0.true c.read_part.auto.buf c.blocks-2.auto.buf (omega arith)
     (turn_bytes turn c.args.head _ ok (inv.found ok _ _ c.place-index-in-blocks-2.ensures) (inv.bytes ok))
 
-pub returns-then-left-eq0-clause-rest : goal.returns-then-left-eq0-clause-rest
-returns-then-left-eq0-clause-rest g c =
+pub returns-then-left-eq0-clause-count : goal.returns-then-left-eq0-clause-count
+returns-then-left-eq0-clause-count g c =
     let inv = c.blocks-2.invariant in
     let turn = turn_of _ _ _ _ c.args.size c.args.pos _ _ _ _ _ _ _ _ _ c.args.buf.now c.geometry-block_size.ensures (g.met.D.BlockDevice.shape c.args.dev.now) c.place-index-in-blocks-2.ensures c.pointers.ensures c.min-part.ensures
-    inv.some inv.high refl (omega arith) c.blocks-2.auto.buf inv.in_range inv.same c.in_ok-read_part.ensures.bytes in
-    ap (λ k. drop k c.read_part.new.buf) c.min-len.ensures ∙ turn_rest turn ∙ inv.rest ∙ ap (λ k. drop k c.args.buf.now) (sym c.min-len.ensures)
+    inv.some inv.high refl (omega arith) c.blocks-2.auto.buf inv.in_range inv.device.same c.in_ok-read_part.ensures.bytes in
+    (c.min-len.ensures, ap (λ k. drop k c.read_part.new.buf) c.min-len.ensures ∙ turn_rest turn ∙ inv.rest ∙ ap (λ k. drop k c.args.buf.now) (sym c.min-len.ensures))
 
-pub returns-then-left-eq0-clause-history : goal.returns-then-left-eq0-clause-history
-returns-then-left-eq0-clause-history g c = reads_on _ _ _ _ _ c.blocks-2.invariant.same c.blocks-2.invariant.only_reads c.read_part.ensures.history
+pub returns-then-left-eq0-clause-device : goal.returns-then-left-eq0-clause-device
+returns-then-left-eq0-clause-device g c = read_on g.D.BlockDevice c.blocks-2.invariant.device c.read_part.ensures.device
 
 -- a place by the geometry of the device
 placed_by : (geometry made : Geometry) (pos i off : ℕ) → made ≡ geometry → IsPlace geometry.block_size pos i off → IsPlace made.block_size pos i off
@@ -155,17 +153,15 @@ pub returns-in_err-block-2-clause-corrupt : goal.returns-in_err-block-2-clause-c
 returns-in_err-block-2-clause-corrupt g c =
     let inv = c.blocks-2.invariant in
     let turn = turn_of _ _ _ _ c.args.size c.args.pos _ _ _ _ _ _ _ _ _ c.args.buf.now c.geometry-block_size.ensures (g.met.D.BlockDevice.shape c.args.dev.now) c.place-index-in-blocks-2.ensures c.pointers.ensures c.min-part.ensures
-    inv.some inv.high refl (omega arith) c.blocks-2.auto.buf inv.in_range inv.same c.in_ok-read_part.ensures.bytes in
+    inv.some inv.high refl (omega arith) c.blocks-2.auto.buf inv.in_range inv.device.same c.in_ok-read_part.ensures.bytes in
     let p = err_from_is_err_and c.from_residual-in_err-block-2.result c.from_residual-in_err-block-2.ensures.1 in
     rw (p.1, p.2) (λ is listed.
     let ok = sized _ c.args.head c.args.size _ _ c.geometry-block_size.ensures listed in
-    out_of_range _ _ _ _ _ (c.read_part.ensures.same ∙ inv.same) (c.read_part.ensures.geometry ∙ inv.same_geometry) (c.in_err-block-2.ensures.corrupt is)
+    out_of_range _ _ _ _ _ (c.read_part.ensures.device.same ∙ inv.device.same) (c.read_part.ensures.device.geometry ∙ inv.device.geometry) (c.in_err-block-2.ensures.corrupt is)
     (turn_in_range turn c.args.head ok (inv.found ok _ _ c.place-index-in-blocks-2.ensures) (omega arith)))
 
-pub returns-in_err-block-2-clause-history : goal.returns-in_err-block-2-clause-history
-returns-in_err-block-2-clause-history g c =
-    let inv = c.blocks-2.invariant in
-    reads_on _ _ _ _ _ (c.read_part.ensures.same ∙ inv.same) (reads_on _ _ _ _ _ inv.same inv.only_reads c.read_part.ensures.history) c.before-in-blocks-2.ensures.history
+pub returns-in_err-block-2-clause-device : goal.returns-in_err-block-2-clause-device
+returns-in_err-block-2-clause-device g c = read_on g.D.BlockDevice (read_on g.D.BlockDevice c.blocks-2.invariant.device c.read_part.ensures.device) c.before-in-blocks-2.ensures.device
 
 few_more : (reads_old reads_now reads_part reads_next m last i j : ℕ) → i ≡ suc j → i ≤ last → reads_now ≤ reads_old + 2 * m + 2 * (last - i) → reads_part ≡ reads_now + 1 → reads_next ≤ reads_part + 1
     → reads_next ≤ reads_old + 2 * m + 2 * (last - j)
@@ -176,23 +172,30 @@ blocks-2-preserved g c =
     let inv = c.blocks-2.invariant in
     let now = c.place-index-in-blocks-2.ensures in
     let turn = turn_of _ _ _ _ c.args.size c.args.pos _ _ _ _ _ _ _ _ _ c.args.buf.now c.geometry-block_size.ensures (g.met.D.BlockDevice.shape c.args.dev.now) now c.pointers.ensures c.min-part.ensures
-    inv.some inv.high refl (omega arith) c.blocks-2.auto.buf inv.in_range inv.same c.in_ok-read_part.ensures.bytes in
+    inv.some inv.high refl (omega arith) c.blocks-2.auto.buf inv.in_range inv.device.same c.in_ok-read_part.ensures.bytes in
     let some : 1 ≤ c.blocks-2.left - c.min-part.result = omega arith in
-    let same = c.read_part.ensures.same ∙ inv.same in
-    let geometry = c.read_part.ensures.geometry ∙ inv.same_geometry in
+    let device = read_on g.D.BlockDevice inv.device c.read_part.ensures.device in
     record {
       some = some;
       high = (let h = inv.high in omega arith);
-      in_range = (let lt = c.in_ok-block-2.ensures.in_range in omega (arith, lt, ap (λ (k : Geometry). k.block_count) geometry));
+      in_range = (let lt = c.in_ok-block-2.ensures.in_range in omega (arith, lt, ap (λ (k : Geometry). k.block_count) device.geometry));
       found = λ ok j end is.
-          c.in_ok-block-2.ensures.word ∙ ap (λ b. word_at (block_in b c.blocks-2.block) 0) same
+          c.in_ok-block-2.ensures.word ∙ ap (λ b. word_at (block_in b c.blocks-2.block) 0) device.same
           ∙ turn_before turn c.args.head ok (inv.found ok _ _ now) some j end is;
       bytes = λ ok. turn_bytes turn c.args.head _ ok (inv.found ok _ _ now) (inv.bytes ok);
       rest = turn_rest turn ∙ inv.rest;
-      same = c.before-in-blocks-2.ensures.same ∙ same;
-      same_geometry = c.before-in-blocks-2.ensures.geometry ∙ geometry;
-      only_reads = reads_on _ _ _ _ _ same (reads_on _ _ _ _ _ inv.same inv.only_reads c.read_part.ensures.history) c.before-in-blocks-2.ensures.history;
-      no_fault = c.in_ok-block-2.ensures.no_fault ∙ c.in_ok-read_part.ensures.no_fault ∙ inv.no_fault;
+      device = read_on g.D.BlockDevice device c.before-in-blocks-2.ensures.device;
+      quiet = quiet g.D.BlockDevice c.in_ok-block-2.ensures.faults ∙ quiet g.D.BlockDevice c.in_ok-read_part.ensures.faults ∙ inv.quiet;
       few = λ m j last off end le is there.
           few_more _ _ _ _ m last _ j (turn_index turn some j off is) (place-mono _ _ _ _ _ _ _ now there (let h = inv.high in omega arith)) (inv.few m _ last _ end le now there) c.read_part.ensures.few c.before-in-blocks-2.ensures.few;
     }
+
+pub returns-in_err-read_part-clause-faults : goal.returns-in_err-read_part-clause-faults
+returns-in_err-read_part-clause-faults g c =
+    let p = err_from_is_err_and c.from_residual-in_err-read_part.result c.from_residual-in_err-read_part.ensures.1 in
+    rw (p.1, p.2) (told_on g.D.BlockDevice c.blocks-2.invariant.quiet (told_as g.D.BlockDevice c.in_err-read_part.ensures.faults))
+
+pub returns-in_err-block-2-clause-faults : goal.returns-in_err-block-2-clause-faults
+returns-in_err-block-2-clause-faults g c =
+    let p = err_from_is_err_and c.from_residual-in_err-block-2.result c.from_residual-in_err-block-2.ensures.1 in
+    rw (p.1, p.2) (told_on g.D.BlockDevice (quiet g.D.BlockDevice c.in_ok-read_part.ensures.faults ∙ c.blocks-2.invariant.quiet) (told_as g.D.BlockDevice c.in_err-block-2.ensures.faults))

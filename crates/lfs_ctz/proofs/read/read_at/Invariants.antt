@@ -1,5 +1,6 @@
 use Rattle.std.proofs.Common.{ℕ, ◌≡◌, ◌≤◌, ◌<◌, ◌+◌, ◌-◌, ◌*◌, ◌^◌, ◌++◌, min, length, drop, slice_index, slice_range}
-use Rattle.lfs_model.specs.History.{OnlyReads, faults, reads}
+use Rattle.lfs_device.specs.Calls.{ReadsOnly}
+use Rattle.lfs_model.specs.History.{faults, reads}
 use Rattle.lfs_model.specs.Lists.{IsList, IsPlace, blocks_back, blocks_for, bytes_of}
 use Rattle.lfs_ctz.proofs.read.read_at.Given as goal
 
@@ -19,10 +20,8 @@ invariant-blocks-2 g l =
       bytes : IsList (blocks old) l.block_size l.fn.head l.fn.size
           → drop l.left l.buf ≡ slice_range (bytes_of (blocks old) l.block_size l.fn.head l.fn.size) (l.fn.pos + l.left) (l.fn.pos + len) ++ drop len l.fn.buf;
       rest : drop len l.buf ≡ drop len l.fn.buf;
-      same : blocks l.dev ≡ blocks old;
-      same_geometry : geometry l.dev ≡ geometry old;
-      only_reads : OnlyReads (blocks old) (history old) (history l.dev);
-      no_fault : faults (history l.dev) ≡ faults (history old);
+      device : ReadsOnly g.D.BlockDevice old l.dev;
+      quiet : faults (history l.dev) ≡ faults (history old);
       few : (m i last off end : ℕ) → blocks_for l.block_size l.fn.size ≤ 2 ^ m → IsPlace l.block_size (l.fn.pos + l.left - 1) i off → IsPlace l.block_size (l.fn.pos + len - 1) last end
           → reads (history l.dev) ≤ reads (history old) + 2 * m + 2 * (last - i);
     }

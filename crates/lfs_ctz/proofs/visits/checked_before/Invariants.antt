@@ -1,6 +1,7 @@
 use Rattle.std.proofs.Common.{ℕ, ◌≡◌, ◌<◌, ◌+◌, ◌*◌}
 use Rattle.lfs_model.specs.Blocks.{block_in}
-use Rattle.lfs_model.specs.History.{OnlyReads, faults}
+use Rattle.lfs_device.specs.Calls.{ReadsOnly}
+use Rattle.lfs_model.specs.History.{faults}
 use Rattle.lfs_model.specs.Lists.{word_at}
 use Rattle.lfs_ctz.proofs.visits.checked_before.Given as goal
 
@@ -14,8 +15,6 @@ invariant-loop-k g l =
       at : l.to ≡ word_at (block_in (blocks old) l.block) (4 * l.k);
       right : (j : ℕ) → j < l.k → word_at (block_in (blocks old) l.block) (4 * (j + 1)) ≡ word_at (block_in (blocks old) (word_at (block_in (blocks old) l.block) (4 * j))) (4 * j);
       in_range : l.block < (geometry old).block_count;
-      same : blocks l.dev ≡ blocks old;
-      same_geometry : geometry l.dev ≡ geometry old;
-      only_reads : OnlyReads (blocks old) (history old) (history l.dev);
-      no_fault : faults (history l.dev) ≡ faults (history old);
+      device : ReadsOnly g.D.BlockDevice old l.dev;
+      quiet : faults (history l.dev) ≡ faults (history old);
     }

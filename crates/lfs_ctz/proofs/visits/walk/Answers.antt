@@ -11,7 +11,7 @@ use Rattle.lfs_model.specs.Lists.{IsChain, IsList, blocks_for, blocks_back, poin
 use Rattle.lfs_ctz.proofs.Sizes.{blocks_for-last}
 use Rattle.lfs_ctz.proofs.Chains.{head_of_back, length_back, in_range_at, back-pointer0}
 use Rattle.lfs_ctz.proofs.Geometries.{chain, sized, count_by}
-use Rattle.lfs_ctz.proofs.Readings.{reads_on}
+use Rattle.lfs_ctz.proofs.Called.{quiet, read_on, told_as, told_corrupt, told_on}
 use Rattle.lfs_ctz.proofs.Walked.{IsChecked, none_checked, more_checked, chain_of_walk, right_of_chain, chain_fits, first_of_distinct, visited_more}
 use Rattle.lfs_ctz.proofs.visits.walk.Goals as goal
 
@@ -48,10 +48,8 @@ loop-index-init g c =
       checked = none_checked old last c.args.head c.in_ok-first.first (g.D.BlockDevice.geometry c.args.dev.now).block_count;
       visited = rw none refl;
       callable = search (rules, of_calls);
-      same = c.find.ensures.same;
-      same_geometry = c.find.ensures.geometry;
-      only_reads = c.find.ensures.history;
-      no_fault = c.in_ok-first.ensures.no_fault;
+      device = c.find.ensures.device;
+      quiet = quiet g.D.BlockDevice c.in_ok-first.ensures.faults;
     }
 
 -- in a list a checked block is right
@@ -94,14 +92,19 @@ returns-in_err-before-clause-corrupt g c =
     rw (p.1, p.2) (λ is listed.
     let shape = g.met.D.BlockDevice.shape c.args.dev.now in
     let made = c.geometry-geometry.ensures in
-    let refused = rw (inv.same, inv.same_geometry) at c.in_err-before.ensures.corrupt in
+    let refused = rw (inv.device.same, inv.device.geometry) at c.in_err-before.ensures.corrupt in
     refused (again _ _ is)
     (in_range_then _ _ _ _ _ _ _ _ made c.blocks_for-last.ensures shape c.if-last-geometry.false (omega arith) inv.low inv.at listed)
     (pointers_then _ _ _ _ _ _ _ _ made c.blocks_for-last.ensures shape c.if-last-geometry.false (omega arith) inv.low inv.at listed)
     (right_then _ _ _ _ _ _ _ _ made c.blocks_for-last.ensures shape c.if-last-geometry.false (omega arith) inv.low inv.at listed))
 
-pub returns-in_err-before-clause-history : goal.returns-in_err-before-clause-history
-returns-in_err-before-clause-history g c = reads_on _ _ _ _ _ c.loop-index.invariant.same c.loop-index.invariant.only_reads c.checked_before.ensures.history
+pub returns-in_err-before-clause-device : goal.returns-in_err-before-clause-device
+returns-in_err-before-clause-device g c = read_on g.D.BlockDevice c.loop-index.invariant.device c.checked_before.ensures.device
+
+pub returns-in_err-before-clause-faults : goal.returns-in_err-before-clause-faults
+returns-in_err-before-clause-faults g c =
+    let p = err_from_is_err_and c.from_residual-in_err-before.result c.from_residual-in_err-before.ensures.1 in
+    rw (p.1, p.2) (told_on g.D.BlockDevice c.loop-index.invariant.quiet (told_as g.D.BlockDevice c.in_err-before.ensures.faults))
 
 pub returns-then-block-first-clause-corrupt : goal.returns-then-block-first-clause-corrupt
 returns-then-block-first-clause-corrupt g c is listed =
@@ -109,8 +112,11 @@ returns-then-block-first-clause-corrupt g c is listed =
     let ok = chain _ _ _ _ _ c.geometry-geometry.result.valid.no_smaller c.blocks_for-last.ensures (sized _ _ _ _ _ c.geometry-geometry.ensures listed) in
     first_of_distinct (g.D.BlockDevice.blocks c.args.dev.now) (c.blocks_for-last.result - 1 + 1) c.args.head ok.distinct c.loop-index.index (omega arith) (omega (arith, inv.low)) (sym inv.at ∙ c.if-block-first.true ∙ c.in_ok-first.ensures.found ok)
 
-pub returns-then-block-first-clause-history : goal.returns-then-block-first-clause-history
-returns-then-block-first-clause-history g c = reads_on _ _ _ _ _ c.loop-index.invariant.same c.loop-index.invariant.only_reads c.checked_before.ensures.history
+pub returns-then-block-first-clause-device : goal.returns-then-block-first-clause-device
+returns-then-block-first-clause-device g c = read_on g.D.BlockDevice c.loop-index.invariant.device c.checked_before.ensures.device
+
+pub returns-then-block-first-clause-faults : goal.returns-then-block-first-clause-faults
+returns-then-block-first-clause-faults g c = told_corrupt g.D.BlockDevice (quiet g.D.BlockDevice c.in_ok-before.ensures.faults ∙ c.loop-index.invariant.quiet)
 
 pub loop-index-preserved : goal.loop-index-preserved
 loop-index-preserved g c =
@@ -124,19 +130,17 @@ loop-index-preserved g c =
     record {
       low = (let l = inv.low in omega arith);
       at = c.in_ok-before.ensures.word
-          ∙ ap (λ d. word_at (block_in d c.loop-index.block) 0) inv.same
+          ∙ ap (λ d. word_at (block_in d c.loop-index.block) 0) inv.device.same
           ∙ ap (λ b. word_at (block_in old b) 0) (inv.at ∙ ap (slice_index bs) (sym next))
           ∙ back-pointer0 old (last + 1) c.args.head (index - 1) (let l = inv.low in omega arith);
       checked = more_checked old last c.args.head c.in_ok-first.first _ index c.loop-index.block inv.checked inv.at
-          (omega (arith, c.in_ok-before.ensures.in_range, ap (λ (k : Geometry). k.block_count) inv.same_geometry))
-          (subst (λ d. IsRight d index c.loop-index.block) inv.same c.in_ok-before.ensures.right)
+          (omega (arith, c.in_ok-before.ensures.in_range, ap (λ (k : Geometry). k.block_count) inv.device.geometry))
+          (subst (λ d. IsRight d index c.loop-index.block) inv.device.same c.in_ok-before.ensures.right)
           c.if-block-first.false;
       visited = visited_more _ _ _ c.visit.new.self bs index c.loop-index.block (index - 1 + 1) (omega (arith, size, inv.low)) inv.at (omega arith) inv.visited (search (rules, of_calls));
       callable = search (rules, of_calls);
-      same = c.checked_before.ensures.same ∙ inv.same;
-      same_geometry = c.checked_before.ensures.geometry ∙ inv.same_geometry;
-      only_reads = reads_on _ _ _ _ _ inv.same inv.only_reads c.checked_before.ensures.history;
-      no_fault = c.in_ok-before.ensures.no_fault ∙ inv.no_fault;
+      device = read_on g.D.BlockDevice inv.device c.checked_before.ensures.device;
+      quiet = quiet g.D.BlockDevice c.in_ok-before.ensures.faults ∙ inv.quiet;
     }
 
 pub returns-then-block-first-2-clause-corrupt : goal.returns-then-block-first-2-clause-corrupt

@@ -1,6 +1,7 @@
 use Rattle.std.proofs.Common.{◌≡◌, ◌≤◌, ◌+◌, drop, reverse, slice_index}
 use Rattle.std.specs.List.{FoldsTo}
-use Rattle.lfs_model.specs.History.{OnlyReads, faults}
+use Rattle.lfs_device.specs.Calls.{ReadsOnly}
+use Rattle.lfs_model.specs.History.{faults}
 use Rattle.lfs_model.specs.Lists.{blocks_back}
 use Rattle.lfs_ctz.proofs.Walked.{IsChecked}
 use Rattle.lfs_ctz.proofs.visits.walk.Given as goal
@@ -17,10 +18,8 @@ invariant-loop-index g l =
       checked : IsChecked (blocks old) l.last l.fn.head l.first (geometry old).block_count l.index;
       visited : FoldsTo (λ p x q. goal.F-step g p x tt q) l.fn.visit (reverse (drop (l.index + 1) (blocks_back (blocks old) (l.last + 1) l.fn.head))) l.visit;
       callable : goal.F-IsAlwaysCallable g l.visit;
-      same : blocks l.dev ≡ blocks old;
-      same_geometry : geometry l.dev ≡ geometry old;
-      only_reads : OnlyReads (blocks old) (history old) (history l.dev);
-      no_fault : faults (history l.dev) ≡ faults (history old);
+      device : ReadsOnly g.D.BlockDevice old l.dev;
+      quiet : faults (history l.dev) ≡ faults (history old);
     }
 
 abbrev pub decreases-loop-index : goal.decreases-loop-index

@@ -1,18 +1,19 @@
-use Rattle.std.proofs.Common.{ℕ, ◌≡◌, ◌+◌, ◌<◌, ◌≤◌, length, arith}
+use Rattle.std.proofs.Common.{ℕ, ◌+◌, ◌<◌, ◌≤◌, length, arith}
 use Rattle.lfs_ctz.proofs.Sizes.{bytes_before-least, blocks_for-above}
 use Rattle.lfs_model.specs.Lists.{bytes_before}
-use Rattle.lfs_ctz.specs.declared.extender.Tail.{Tail}
-use Rattle.lfs_ctz.specs.declared.extender.Tail.TheVariants.{Closed, Shared, Handed}
+use Rattle.lfs_ctz.specs.declared.rest.Rest.{Rest}
+use Rattle.lfs_ctz.specs.declared.rest.Rest.TheVariants.{Closed, Shared, Handed, Held}
 use Rattle.lfs_ctz.specs.Extended.{growing_of}
 use Rattle.lfs_ctz.specs.Growing.{pending_in}
 use Rattle.lfs_ctz.proofs.Rests.{rest_of}
 use Rattle.lfs_ctz.proofs.extender.Extender.needed.Goals as goal
 use Rattle.lfs_ctz.proofs.extender.Extender.needed.Goals.{in-Handed, in_default}
 
-few_pending : (t : Tail) (full all : ℕ) → full < all → full + length (pending_in t) ≤ all
+few_pending : (t : Rest) (full all : ℕ) → full < all → full + length (pending_in t) ≤ all
 few_pending Closed full all lt = omega arith
 few_pending (Shared b) full all lt = omega arith
 few_pending (Handed b) full all lt = omega arith
+few_pending Held full all lt = omega arith
 
 pub overflow_add-result : goal.overflow_add-result
 overflow_add-result c =
@@ -37,4 +38,4 @@ returns-clause-within c =
     let some = c.requires.some in
     let rest = (rest_of e).1 in
     let more = blocks_for-above e.geometry.block_size (bytes_before e.geometry.block_size e.full + length (growing_of e).rest + c.args.n) e.full e.geometry.valid.no_smaller (omega arith) in
-    few_pending e.tail e.full _ more
+    few_pending e.stand e.full _ more

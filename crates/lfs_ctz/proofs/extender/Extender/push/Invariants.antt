@@ -1,14 +1,14 @@
-use Rattle.std.proofs.Common.{ℕ, ◌≡◌, ◌≢◌, ◌≤◌, ◌+◌, ◌-◌, ◌++◌, length, take}
+use Rattle.std.proofs.Common.{ℕ, false, ◌≡◌, ◌≢◌, ◌≤◌, ◌+◌, ◌-◌, ◌++◌, length, take}
 use Rattle.std.specs.Prelude.{All}
-use Rattle.lfs_model.specs.Blocks.{SameButThese}
-use Rattle.lfs_model.specs.History.{AtWorst, LeavesOnly, StayUnprogrammed, erases, faults, programs}
+use Rattle.lfs_ctz.specs.Counts.{Writes}
+use Rattle.lfs_device.specs.Calls.{ChangesOnly}
+use Rattle.lfs_model.specs.History.{faults}
 use Rattle.lfs_ctz.specs.Extended.{geometry_of, growing_of}
-use Rattle.lfs_ctz.specs.Growing.{IsGrowing, blocks_of, content_of, kept_of, pending_of, size_of}
+use Rattle.lfs_ctz.specs.Growing.{IsGrowing, blocks_of, content_of, is_held, kept_of, pending_of, size_of}
 use Rattle.lfs_ctz.proofs.extender.Extender.push.Given as goal
 
 abbrev pub invariant-loop-done : goal.invariant-loop-done
 invariant-loop-done g l =
-    let geometry = g.D.BlockDevice.geometry in
     let blocks = g.D.BlockDevice.blocks in
     let history = g.D.BlockDevice.history in
     let old = l.fn.dev in
@@ -18,20 +18,16 @@ invariant-loop-done g l =
     record {
       low : l.done ≤ length l.fn.bytes;
       some : l.used ≤ length l.fn.blocks;
-      held : IsGrowing (blocks l.dev) now;
+      growing : IsGrowing (blocks l.dev) now;
       bytes : content_of (blocks l.dev) now ≡ content_of (blocks old) was ++ take l.done l.fn.bytes;
       sum : size_of (geometry_of l.self).block_size now ≡ size_of (geometry_of l.fn.self).block_size was + l.done;
       kept : kept_of (blocks l.dev) now ≡ kept_of (blocks old) was ++ take l.used l.fn.blocks;
-      own : 1 ≤ l.done → blocks_of (blocks l.dev) now ≡ kept_of (blocks l.dev) now;
+      own : 1 ≤ l.done → (blocks_of (blocks l.dev) now ≡ kept_of (blocks l.dev) now) × (is_held now ≡ false);
       pending : (other : ℕ) → All (λ b. b ≢ other) handed → All (λ b. b ≢ other) (pending_of now);
       same : geometry_of l.self ≡ geometry_of l.fn.self;
-      outside : SameButThese handed (blocks old) (blocks l.dev);
-      elsewhere : StayUnprogrammed handed (history old) (history l.dev);
-      same_geometry : geometry l.dev ≡ geometry old;
-      stops : LeavesOnly AtWorst (history old) (history l.dev) (SameButThese handed (blocks old));
-      erases : erases (history l.dev) + was.full ≡ erases (history old) + now.full;
-      programs : programs (history l.dev) + was.full ≡ programs (history old) + now.full;
-      no_fault : faults (history l.dev) ≡ faults (history old);
+      device : ChangesOnly g.D.BlockDevice handed old l.dev;
+      writes : Writes was.full now.full (history old) (history l.dev);
+      quiet : faults (history l.dev) ≡ faults (history old);
     }
 
 abbrev pub decreases-loop-done : goal.decreases-loop-done

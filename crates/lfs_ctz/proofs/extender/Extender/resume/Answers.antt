@@ -1,4 +1,4 @@
-use Rattle.std.proofs.Common.{suc, ℕ, ◌≡◌, ◌≤◌, ◌<◌, ◌+◌, ◌-◌, ◌*◌, ◌++◌, ◌⊎◌, inl, inr, List, [], ◌∷◌, length, take, drop, slice_index, Result, Err, sym, ap, ◌∙◌, arith}
+use Rattle.std.proofs.Common.{refl, suc, ℕ, ◌≡◌, ◌≤◌, ◌<◌, ◌+◌, ◌-◌, ◌*◌, ◌++◌, ◌⊎◌, inl, inr, List, [], ◌∷◌, length, take, drop, slice_index, Result, Err, sym, ap, ◌∙◌, arith}
 use Rattle.std.specs.Vec.{with_items}
 use Rattle.std.proofs.lemmas.List.{append-nil, with_items_is}
 use Rattle.std.proofs.lemmas.Result.{err_from_is_err_and}
@@ -10,8 +10,9 @@ use Rattle.lfs_ctz.specs.Growing.{joined, IsShared}
 use Rattle.lfs_ctz.proofs.Sizes.{blocks_for-last, place-lt, pointers_of-le, place-le}
 use Rattle.lfs_ctz.proofs.Chains.{chain_of_list, in_range_at, back-pointer0}
 use Rattle.lfs_ctz.proofs.Geometries.{last_is, chain, sized, shaped}
-use Rattle.lfs_ctz.proofs.Readings.{reads_on}
-use Rattle.lfs_ctz.proofs.Resumed.{front_back, front_chain, keep_full, full_content, full_blocks, before_chain, before_front, open_blocks, open_shared, open_content}
+use Rattle.lfs_ctz.proofs.Called.{read_on}
+use Rattle.lfs_ctz.proofs.Stands.{is_grown}
+use Rattle.lfs_ctz.proofs.Resumed.{front_back, front_chain, keep_full, full_content, full_blocks, before_chain, before_front, open_blocks, open_shared, open_content, rest_long}
 use Rattle.lfs_ctz.proofs.Words.{data-written}
 use Rattle.lfs_ctz.proofs.extender.Extender.resume.Goals as goal
 
@@ -86,6 +87,7 @@ record IsOpen (d : Blocks) (geometry made : Geometry) (head size keep i off bloc
   kept : blocks_back d i before ++ [] ≡ take i (blocks_back d (blocks_for geometry.block_size size) head)
   content : joined d (blocks_back d i before) ++ rest ≡ take keep (bytes_of d geometry.block_size head size)
   blocks_are : blocks_back d i before ++ block ∷ [] ≡ take (blocks_for geometry.block_size keep) (blocks_back d (blocks_for geometry.block_size size) head)
+  sum : keep ≡ bytes_before made.block_size i + length rest
 
 is_open : (d : Blocks) (geometry made : Geometry) (head size keep n i off block before : ℕ) (rest : List ℕ) → made ≡ geometry → n ≡ blocks_for made.block_size size
     → IsDivided geometry.block_size geometry.block_count d → IsList d geometry.block_size head size → 1 ≤ keep → keep ≤ size → IsPlace made.block_size (keep - 1) i off
@@ -104,6 +106,7 @@ is_open d geometry made head size keep n i off block before rest e is shape list
       content = open_content d made.block_size geometry.block_count head size keep i off block large parts same some within place here before named short rest rest_is ∙ ap (λ (k : Geometry). take keep (bytes_of d k.block_size head size)) e;
       blocks_are = open_blocks d made.block_size geometry.block_count head size keep i off block large parts same some within place here before named short
           ∙ ap (λ (k : Geometry). take (blocks_for k.block_size keep) (blocks_back d (blocks_for k.block_size size) head)) e;
+      sum = (let long = rest_long d made.block_size geometry.block_count head size keep i off block large parts same some within place here before named short rest rest_is in omega (arith, long.0, long.2));
     }
 
 -- the block does not end the front
@@ -148,47 +151,44 @@ invariant_of-result-clause-in_step g c =
     let sum = full.sum in
     record { low = omega arith; high = omega arith; sum = omega arith; fits = omega arith }
 
-pub returns-then-off-block_size-clause-held : goal.returns-then-off-block_size-clause-held
-returns-then-off-block_size-clause-held g c =
-    let full = is_full _ _ _ _ _ _ _ _ _ _ c.geometry-geometry.ensures c.blocks_for.ensures (g.met.D.BlockDevice.shape c.args.dev.now) c.requires.list c.requires.some c.requires.within c.place-index.ensures c.in_ok-block.ensures.found c.if-off-block_size.true in
-    let none : 4 * c.pointers.result - 4 * pointers_of (c.place-index.result.0 + 1) ≡ 0 = omega (arith, c.pointers.ensures) in
-    record { chain = full.chain_is; tail = ap (λ k. take k (drop (4 * pointers_of (c.place-index.result.0 + 1)) c.in_ok-buffer.buffer.items)) none }
+pub returns-then-off-block_size-clause-resumed : goal.returns-then-off-block_size-clause-resumed
+returns-then-off-block_size-clause-resumed g c =
+    let old : Blocks = g.D.BlockDevice.blocks c.args.dev.now in
+    let made = c.geometry-geometry.ensures in
+    let full = is_full _ _ _ _ _ _ _ _ _ _ made c.blocks_for.ensures (g.met.D.BlockDevice.shape c.args.dev.now) c.requires.list c.requires.some c.requires.within c.place-index.ensures c.in_ok-block.ensures.found c.if-off-block_size.true in
+    let i : ℕ = c.place-index.result.0 in
+    let rest : take (4 * c.pointers.result - 4 * pointers_of (i + 1)) (drop (4 * pointers_of (i + 1)) c.in_ok-buffer.buffer.items) ≡ [] =
+    ap (λ k. take k (drop (4 * pointers_of (i + 1)) c.in_ok-buffer.buffer.items)) (let none : 4 * c.pointers.result - 4 * pointers_of (i + 1) ≡ 0 = omega (arith, c.pointers.ensures) in none) in
+    is_grown _ old _ _ _ _ _ _ (g.met.D.BlockDevice.shape c.args.dev.now) made
+    (record { chain = full.chain_is; stand = rest })
+    (ap (λ (l : List ℕ). joined old (blocks_back old (i + 1) c.in_ok-block.block) ++ l) rest ∙ full.content)
+    (omega (arith, ap length rest, full.sum, ap (λ (k : Geometry). bytes_before k.block_size (i + 1)) made))
+    full.kept full.blocks_are
 
-pub returns-then-off-block_size-clause-bytes : goal.returns-then-off-block_size-clause-bytes
-returns-then-off-block_size-clause-bytes g c =
-    let full = is_full _ _ _ _ _ _ _ _ _ _ c.geometry-geometry.ensures c.blocks_for.ensures (g.met.D.BlockDevice.shape c.args.dev.now) c.requires.list c.requires.some c.requires.within c.place-index.ensures c.in_ok-block.ensures.found c.if-off-block_size.true in
-    let none : 4 * c.pointers.result - 4 * pointers_of (c.place-index.result.0 + 1) ≡ 0 = omega (arith, c.pointers.ensures) in
-    ap (λ k. joined (g.D.BlockDevice.blocks c.args.dev.now) (blocks_back (g.D.BlockDevice.blocks c.args.dev.now) (c.place-index.result.0 + 1) c.in_ok-block.block) ++ take k (drop (4 * pointers_of (c.place-index.result.0 + 1)) c.in_ok-buffer.buffer.items)) none
-    ∙ full.content
+pub returns-then-off-block_size-clause-waits : goal.returns-then-off-block_size-clause-waits
+returns-then-off-block_size-clause-waits g c = record { listed = refl; pending = λ other apart. apart }
 
-pub returns-then-off-block_size-clause-blocks : goal.returns-then-off-block_size-clause-blocks
-returns-then-off-block_size-clause-blocks g c =
-    (is_full _ _ _ _ _ _ _ _ _ _ c.geometry-geometry.ensures c.blocks_for.ensures (g.met.D.BlockDevice.shape c.args.dev.now) c.requires.list c.requires.some c.requires.within c.place-index.ensures c.in_ok-block.ensures.found c.if-off-block_size.true).blocks_are
+pub returns-clause-waits : goal.returns-clause-waits
+returns-clause-waits g c = record { listed = refl; pending = λ other apart. apart }
 
-pub returns-then-off-block_size-clause-kept : goal.returns-then-off-block_size-clause-kept
-returns-then-off-block_size-clause-kept g c =
-    (is_full _ _ _ _ _ _ _ _ _ _ c.geometry-geometry.ensures c.blocks_for.ensures (g.met.D.BlockDevice.shape c.args.dev.now) c.requires.list c.requires.some c.requires.within c.place-index.ensures c.in_ok-block.ensures.found c.if-off-block_size.true).kept
-
-pub returns-in_err-head-clause-history : goal.returns-in_err-head-clause-history
-returns-in_err-head-clause-history g c = reads_on _ _ _ _ _ c.find.ensures.same c.find.ensures.history c.head_before.ensures.history
+pub returns-in_err-head-clause-device : goal.returns-in_err-head-clause-device
+returns-in_err-head-clause-device g c = read_on g.D.BlockDevice c.find.ensures.device c.head_before.ensures.device
 
 pub returns-in_err-head-clause-errors : goal.returns-in_err-head-clause-errors
 returns-in_err-head-clause-errors g c =
     let p = err_from_is_err_and c.from_residual-in_err-head.result c.from_residual-in_err-head.ensures.1 in
     rw (p.1, p.2) (never_corrupt {T = ℕ} _ c.in_err-head.ensures.errors (λ is.
-    let some = c.in_err-head.ensures.some is in
-    let refused = rw (c.find.ensures.same, c.find.ensures.geometry) at c.in_err-head.ensures.corrupt in
-    let out = refused is some in
+    let some = (c.in_err-head.ensures.corrupt is).0 in
+    let refused = rw (c.find.ensures.device.same, c.find.ensures.device.geometry) at c.in_err-head.ensures.corrupt in
+    let out = (refused is).1 in
     let inside = before_there _ _ _ _ _ c.args.keep _ _ _ _ c.geometry-geometry.ensures c.blocks_for.ensures (g.met.D.BlockDevice.shape c.args.dev.now) c.requires.list c.requires.some c.requires.within c.place-index.ensures c.in_ok-block.ensures.found some in
     omega (arith, out, inside)))
 
-pub returns-in_err-read_part-clause-history : goal.returns-in_err-read_part-clause-history
-returns-in_err-read_part-clause-history g c =
-    reads_on _ _ _ _ _ (c.head_before.ensures.same ∙ c.find.ensures.same) (reads_on _ _ _ _ _ c.find.ensures.same c.find.ensures.history c.head_before.ensures.history) c.read_part.ensures.history
+pub returns-in_err-read_part-clause-device : goal.returns-in_err-read_part-clause-device
+returns-in_err-read_part-clause-device g c = read_on g.D.BlockDevice (read_on g.D.BlockDevice c.find.ensures.device c.head_before.ensures.device) c.read_part.ensures.device
 
-pub returns-clause-history : goal.returns-clause-history
-returns-clause-history g c =
-    reads_on _ _ _ _ _ (c.head_before.ensures.same ∙ c.find.ensures.same) (reads_on _ _ _ _ _ c.find.ensures.same c.find.ensures.history c.head_before.ensures.history) c.read_part.ensures.history
+pub returns-clause-device : goal.returns-clause-device
+returns-clause-device g c = read_on g.D.BlockDevice (read_on g.D.BlockDevice c.find.ensures.device c.head_before.ensures.device) c.read_part.ensures.device
 
 -- the bytes of the block that are kept
 rest_is : (g : _) (c : goal.After-result-2-1 g) → take (c.place-index.result.1 + 1 - 4 * pointers_of c.place-index.result.0) (drop (4 * pointers_of c.place-index.result.0) (with_items c.in_ok-buffer.buffer c.read_part.new.buf).items)
@@ -199,7 +199,7 @@ rest_is g c =
     let in_range = c.in_ok-block.ensures.in_range in
     let place = c.place-index.ensures in
     let short = short_of c.geometry-geometry.result.block_size c.args.keep c.place-index.result.0 c.place-index.result.1 c.geometry-geometry.result.valid.no_smaller place c.if-off-block_size.false in
-    read_rest _ _ _ c.read_part.new.buf _ c.in_ok-block.block c.place-index.result.1 (4 * pointers_of c.place-index.result.0) c.geometry-geometry.result.block_size (c.head_before.ensures.same ∙ c.find.ensures.same)
+    read_rest _ _ _ c.read_part.new.buf _ c.in_ok-block.block c.place-index.result.1 (4 * pointers_of c.place-index.result.0) c.geometry-geometry.result.block_size (c.head_before.ensures.device.same ∙ c.find.ensures.device.same)
     (with_items_is c.in_ok-buffer.buffer c.read_part.new.buf (omega (arith, c.read_part.auto.buf, c.as_mut_slice.ensures.len, c.in_ok-buffer.buffer.ok.0)))
     c.in_ok-read_part.ensures.bytes
     (omega (arith, shape.sizes c.in_ok-block.block in_range, ap (λ (k : Geometry). k.block_size) made))
@@ -210,17 +210,12 @@ opened : (g : _) (c : goal.After-result-2-1 g) → IsOpen (g.D.BlockDevice.block
 opened g c =
     is_open _ _ _ _ _ _ _ _ _ _ _ _ c.geometry-geometry.ensures c.blocks_for.ensures (g.met.D.BlockDevice.shape c.args.dev.now) c.requires.list c.requires.some c.requires.within c.place-index.ensures c.in_ok-block.ensures.found
     (short_of c.geometry-geometry.result.block_size c.args.keep c.place-index.result.0 c.place-index.result.1 c.geometry-geometry.result.valid.no_smaller c.place-index.ensures c.if-off-block_size.false)
-    (λ more. c.in_ok-head.ensures.word more ∙ ap (λ d. word_at (block_in d c.in_ok-block.block) 0) c.find.ensures.same)
+    (λ more. c.in_ok-head.ensures.word more ∙ ap (λ d. word_at (block_in d c.in_ok-block.block) 0) c.find.ensures.device.same)
     (rest_is g c)
 
-pub returns-clause-held : goal.returns-clause-held
-returns-clause-held g c = let o = opened g c in record { chain = o.chain_is; tail = o.shared }
-
-pub returns-clause-bytes : goal.returns-clause-bytes
-returns-clause-bytes g c = (opened g c).content
-
-pub returns-clause-blocks : goal.returns-clause-blocks
-returns-clause-blocks g c = (opened g c).blocks_are
-
-pub returns-clause-kept : goal.returns-clause-kept
-returns-clause-kept g c = (opened g c).kept
+pub returns-clause-resumed : goal.returns-clause-resumed
+returns-clause-resumed g c =
+    let o = opened g c in
+    let made = c.geometry-geometry.ensures in
+    is_grown _ (g.D.BlockDevice.blocks c.args.dev.now) _ _ _ _ _ _ (g.met.D.BlockDevice.shape c.args.dev.now) made
+    (record { chain = o.chain_is; stand = o.shared }) o.content (omega (arith, o.sum, ap (λ (k : Geometry). bytes_before k.block_size c.place-index.result.0) made)) o.kept o.blocks_are

@@ -1,6 +1,6 @@
 use Rattle.std.proofs.Common.{refl}
-use Rattle.lfs_ctz.proofs.Filling.{none_chain}
+use Rattle.lfs_ctz.proofs.Stands.{grown_closed}
 use Rattle.lfs_ctz.proofs.extender.Extender.start.Goals as goal
 
-pub returns-clause-held : goal.returns-clause-held
-returns-clause-held c disk = record { chain = none_chain disk 0; tail = refl }
+pub returns-clause-started : goal.returns-clause-started
+returns-clause-started c = grown_closed _ _ _ _ refl refl refl refl refl refl

@@ -1,0 +1,107 @@
+-- What calls of a device one behind the other say of it.
+use Rattle.std.proofs.Common.{ℕ, ◌≡◌, ◌≢◌, Bool, List, [], ◌∷◌, Result, Ok, Err, refl, sym, subst, ◌∙◌, arith}
+use Rattle.std.specs.Prelude.{All}
+use Rattle.lfs_device.specs.Calls.{ReadsOnly, ChangesBlock, ChangesOnly, TellsFaults}
+use Rattle.lfs_device.specs.declared.device.BlockDevice.{Ghosts}
+use Rattle.lfs_device.specs.declared.error.Error.{Error}
+use Rattle.lfs_model.specs.Blocks.{SameBut}
+use Rattle.lfs_model.specs.History.{event, faults}
+use Rattle.lfs_model.specs.History.Call.{Read, Program, Erase}
+use Rattle.lfs_model.proofs.Histories.{began, goes_on, goes_on_by, EachSince-weaker, OnlyReads-trans, StayUnprogrammed-erase, StayUnprogrammed-program, StayUnprogrammed-reads, StayUnprogrammed-refl, StayUnprogrammed-trans}
+use Rattle.lfs_model.proofs.Overwrites.{SameBut-refl, SameBut-trans, SameButThese-one, SameButThese-refl}
+use Rattle.lfs_ctz.proofs.Pushing.{stays_one}
+use Rattle.lfs_ctz.proofs.Readings.{reads_stop}
+
+module _ {D : Type 0} (g : Ghosts D) where
+  pub not_read : (d : D) → ReadsOnly g d d
+  not_read d = record { same = refl; geometry = refl; reads = began }
+
+  pub read_on : {old mid new : D} → ReadsOnly g old mid → ReadsOnly g mid new → ReadsOnly g old new
+  read_on first second = record {
+    same = second.same ∙ first.same;
+    geometry = second.geometry ∙ first.geometry;
+    reads = OnlyReads-trans first.reads second.reads first.same;
+  }
+
+  pub read_once : {old new : D} {block off len : ℕ} {failed : Bool} → g.history new ≡ event (Read block off len) (g.blocks old) (g.blocks new) failed ∷ g.history old
+      → g.blocks new ≡ g.blocks old → g.geometry new ≡ g.geometry old → ReadsOnly g old new
+  read_once called same geometry = record { same = same; geometry = geometry; reads = goes_on began called (record { reads = refl; before = refl; after = same }) }
+
+  pub only_read : {old new : D} (b : ℕ) → ReadsOnly g old new → ChangesBlock g b old new
+  only_read {old} b read = record {
+    others = subst (SameBut b (g.blocks old)) (sym read.same) (SameBut-refl b (g.blocks old));
+    elsewhere = StayUnprogrammed-reads (b ∷ []) read.reads;
+    geometry = read.geometry;
+    at_worst = reads_stop (g.blocks old) b _ _ read.reads;
+  }
+
+  pub erase_once : {old new : D} {block : ℕ} {failed : Bool} → g.history new ≡ event (Erase block) (g.blocks old) (g.blocks new) failed ∷ g.history old
+      → SameBut block (g.blocks old) (g.blocks new) → g.geometry new ≡ g.geometry old → ChangesBlock g block old new
+  erase_once called others geometry = record {
+    others = others;
+    elsewhere = StayUnprogrammed-erase called;
+    geometry = geometry;
+    at_worst = goes_on began called (λ left stop. stop);
+  }
+
+  pub program_once : {old new : D} {block off : ℕ} {bytes : List ℕ} {failed : Bool} → g.history new ≡ event (Program block off bytes) (g.blocks old) (g.blocks new) failed ∷ g.history old
+      → SameBut block (g.blocks old) (g.blocks new) → g.geometry new ≡ g.geometry old → ChangesBlock g block old new
+  program_once called others geometry = record {
+    others = others;
+    elsewhere = StayUnprogrammed-program called;
+    geometry = geometry;
+    at_worst = goes_on began called (λ left stop. stop);
+  }
+
+  pub changes_on : {old mid new : D} {b : ℕ} → ChangesBlock g b old mid → ChangesBlock g b mid new → ChangesBlock g b old new
+  changes_on first second = record {
+    others = SameBut-trans first.others second.others;
+    elsewhere = StayUnprogrammed-trans first.elsewhere second.elsewhere;
+    geometry = second.geometry ∙ first.geometry;
+    at_worst = goes_on_by first.at_worst (EachSince-weaker (λ e from left stop. SameBut-trans first.others (from left stop)) second.at_worst);
+  }
+
+  pub changes_none : (bs : List ℕ) (d : D) → ChangesOnly g bs d d
+  changes_none bs d = record {
+    others = SameButThese-refl bs (g.blocks d);
+    elsewhere = StayUnprogrammed-refl bs (g.history d);
+    geometry = refl;
+    at_worst = began;
+  }
+
+  -- one of the blocks changes
+  pub changes_one : {old mid new : D} {bs : List ℕ} {block : ℕ} → ((other : ℕ) → All (λ b. b ≢ other) bs → block ≢ other) → ChangesOnly g bs old mid → ChangesBlock g block mid new → ChangesOnly g bs old new
+  changes_one {bs = bs} {block = block} among first second = record {
+    others = SameButThese-one bs block _ _ _ among first.others second.others;
+    elsewhere = stays_one bs block _ _ _ among first.elsewhere second.elsewhere;
+    geometry = second.geometry ∙ first.geometry;
+    at_worst = goes_on_by first.at_worst (EachSince-weaker (λ e from left stop. SameButThese-one bs block _ _ _ among first.others (from left stop)) second.at_worst);
+  }
+
+  -- a call that succeeds has no fault
+  pub quiet : {X : Type 0} {old new : D} {x : X} → TellsFaults g old new (Ok x) → faults (g.history new) ≡ faults (g.history old)
+  quiet told = told.no_fault (λ is. absurd (cc))
+
+  -- after calls without a fault
+  pub told_on : {X : Type 0} {old mid new : D} {result : Result X Error} → faults (g.history mid) ≡ faults (g.history old) → TellsFaults g mid new result → TellsFaults g old new result
+  told_on none told = record {
+    fault = λ is. (let more = told.fault is in omega arith);
+    no_fault = λ other. told.no_fault other ∙ none;
+  }
+
+  -- and neither has a list that isn't right
+  pub told_corrupt : {X : Type 0} {old new : D} → faults (g.history new) ≡ faults (g.history old) → TellsFaults {X = X} g old new (Err Error.Corrupt)
+  told_corrupt none = record { fault = λ is. absurd (cc); no_fault = λ other. none }
+
+  -- the same error of a call with another result
+  pub told_as : {X Y : Type 0} {old new : D} {e : Error} → TellsFaults {X = X} g old new (Err e) → TellsFaults {X = Y} g old new (Err e)
+  told_as {X} {Y} {e = e} told = record {
+    fault = λ is. told.fault (again is);
+    no_fault = λ other. told.no_fault (λ is. other (back is));
+  }
+    where
+      again : {f : Error} → ◌≡◌ {A = Result Y Error} (Err e) (Err f) → ◌≡◌ {A = Result X Error} (Err e) (Err f)
+      again {f} is = let same : e ≡ f = cc in subst (λ z. ◌≡◌ {A = Result X Error} (Err e) (Err z)) same refl
+
+      back : {f : Error} → ◌≡◌ {A = Result X Error} (Err e) (Err f) → ◌≡◌ {A = Result Y Error} (Err e) (Err f)
+      back {f} is = let same : e ≡ f = cc in subst (λ z. ◌≡◌ {A = Result Y Error} (Err e) (Err z)) same refl

@@ -1,0 +1,124 @@
+-- What an extender shows on a disk, and on one where the same bytes stand in its blocks.
+use Rattle.std.proofs.Common.{ℕ, true, ◌≡◌, ◌≢◌, ◌+◌, ◌*◌, ◌-◌, ◌^◌, ◌<◌, List, [], ◌∷◌, ◌++◌, length, take, drop, slice_index, refl, sym, ap, ap₂, subst, ◌∙◌, arith, length-append}
+use Rattle.std.specs.Prelude.{All}
+use Rattle.std.proofs.lemmas.List.Elements.{All-from_recursion, recursion_from_All}
+use Rattle.lfs_device.specs.declared.geometry.Geometry.{Geometry}
+use Rattle.lfs_model.proofs.Counts.{each_left, each_right}
+use Rattle.lfs_model.proofs.Files.{Same, back_same, data_same}
+use Rattle.lfs_model.specs.Blocks.{Blocks, IsDivided, block_in}
+use Rattle.lfs_model.specs.Lists.{IsChain, bytes_before, blocks_back, pointers_of, word_at}
+use Rattle.lfs_ctz.specs.declared.extender.Extender.{Extender}
+use Rattle.lfs_ctz.specs.declared.rest.Rest.{Rest}
+use Rattle.lfs_ctz.specs.declared.rest.Rest.TheVariants.{Closed, Shared, Handed, Held}
+use Rattle.lfs_ctz.specs.Extended.{IsGrown, geometry_of, growing_of}
+use Rattle.lfs_ctz.specs.Growing.{Growing, IsGrowing, IsRest, IsStill, blocks_of, content_of, is_held_in, joined, kept_of, last_in, pending_in, size_of}
+use Rattle.lfs_ctz.proofs.Chains.{length_back}
+use Rattle.lfs_ctz.proofs.Filling.{length-full, none_chain}
+use Rattle.lfs_ctz.proofs.Rests.{rest_of}
+
+pub chain_same : (d e : Blocks) (n head : ℕ) → length e ≡ length d → Same d e (blocks_back d n head) → IsChain d n head → IsChain e n head
+chain_same d e n head l h ok = record {
+  in_range = subst (λ bs. All (λ b. b < length e) bs) (sym back) (subst (λ (limit : ℕ). All (λ b. b < limit) (blocks_back d n head)) (sym l) ok.in_range);
+  distinct = rw back ok.distinct;
+  pointers = λ i k m j. ap (λ bs. word_at (block_in e (slice_index bs i)) (4 * k)) back
+      ∙ ap (λ z. word_at z (4 * k)) (All-from_recursion (λ b. block_in e b ≡ block_in d b) (blocks_back d n head) h i 0 (let n = length_back d n head in omega arith))
+      ∙ ok.pointers i k m j ∙ ap (λ bs. slice_index bs (i - 2 ^ k)) (sym back);
+}
+  where
+    back : blocks_back e n head ≡ blocks_back d n head
+    back = back_same d e n head h
+
+module _ (d later : Blocks) (count : length later ≡ length d) where
+  abbrev IsSame : ℕ → Type 0
+  IsSame b = block_in later b ≡ block_in d b
+
+  rest_same : (full head : ℕ) (rest : List ℕ) (t : Rest) → Same d later (blocks_back d full head ++ last_in t) → IsRest d full head rest t → IsRest later full head rest t
+  rest_same full head rest Closed same is = is
+  rest_same full head rest (Shared b) same is =
+      let all : Same d later (blocks_back d (full + 1) b) = subst (Same d later) (sym is.back) same in
+      let front = each_left IsSame (blocks_back d full head) (b ∷ []) same in
+      record {
+        some = is.some;
+        chain = chain_same d later (full + 1) b count all is.chain;
+        back = back_same d later (full + 1) b all ∙ is.back ∙ ap (λ (l : List ℕ). l ++ b ∷ []) (sym (back_same d later full head front));
+        begins = ap (λ (l : List ℕ). take (length rest) (drop (4 * pointers_of full) l)) (each_right IsSame (blocks_back d full head) (b ∷ []) same).0 ∙ is.begins;
+      }
+  rest_same full head rest (Handed b) same is =
+      let front = each_left IsSame (blocks_back d full head) (b ∷ []) same in
+      record {
+        some = is.some;
+        in_range = omega (arith, is.in_range, count);
+        apart = subst (λ (l : List ℕ). All (λ c. c ≢ b) l) (sym (back_same d later full head front)) is.apart;
+      }
+  rest_same full head rest Held same is = is
+
+  pub still : (g : Growing) → All IsSame (blocks_of d g) → IsGrowing d g → IsStill d later g
+  still g same is =
+      let each : Same d later (blocks_back d g.full g.head ++ last_in g.stand) = recursion_from_All IsSame (blocks_of d g) same in
+      let front = each_left IsSame (blocks_back d g.full g.head) (last_in g.stand) each in
+      let back = back_same d later g.full g.head front in
+      record {
+        growing = record { chain = chain_same d later g.full g.head count front is.chain; stand = rest_same g.full g.head g.rest g.stand each is.stand };
+        content = ap (λ (l : List ℕ). l ++ g.rest) (ap (joined later) back ∙ data_same d later 0 (blocks_back d g.full g.head) front);
+        kept = ap (λ (l : List ℕ). l ++ pending_in g.stand) back;
+        blocks = ap (λ (l : List ℕ). l ++ last_in g.stand) back;
+      }
+
+-- what an extender shows, from what doesn't follow
+pub is_grown : (divided : Geometry) (d : Blocks) (e : Extender) (bytes : List ℕ) (size count : ℕ) (own all : List ℕ) → IsDivided divided.block_size count d → geometry_of e ≡ divided
+    → IsGrowing d (growing_of e) → content_of d (growing_of e) ≡ bytes → size_of divided.block_size (growing_of e) ≡ size → kept_of d (growing_of e) ≡ own → blocks_of d (growing_of e) ≡ all
+    → IsGrown divided d e bytes size own all
+is_grown divided d e bytes size count own all shape geometry growing content sum kept blocks =
+    let full = length-full d divided.block_size count e.full e.head divided.valid.no_smaller shape growing.chain in
+    record {
+      geometry = geometry;
+      growing = growing;
+      content = content;
+      sum = sum;
+      whole = omega (arith, ap length content, full, sum, length-append (joined d (blocks_back d e.full e.head)) (growing_of e).rest);
+      kept = kept;
+      blocks = blocks;
+      short = subst (λ (k : Geometry). length (growing_of e).rest < k.block_size - 4 * pointers_of e.full) geometry (rest_of e).0;
+      stays = λ later count same. still d later count (growing_of e) (subst (All (λ b. block_in later b ≡ block_in d b)) (sym blocks) same) growing;
+    }
+
+-- all bytes in memory
+pub stands_held : (t : Rest) → is_held_in t ≡ true → t ≡ Held
+stands_held Closed is = absurd (cc)
+stands_held (Shared b) is = absurd (cc)
+stands_held (Handed b) is = absurd (cc)
+stands_held Held is = refl
+
+module _ (divided : Geometry) (e : Extender) (bytes : List ℕ) (size : ℕ) (geometry : geometry_of e ≡ divided) (none : e.full ≡ 0) (rest : (growing_of e).rest ≡ bytes) (long : length bytes ≡ size) where
+  nothing : (d : Blocks) → blocks_back d e.full e.head ≡ []
+  nothing d = ap (λ k. blocks_back d k e.head) none
+
+  alone : (d : Blocks) → IsGrowing d (growing_of e) → kept_of d (growing_of e) ≡ [] → blocks_of d (growing_of e) ≡ [] → IsGrown divided d e bytes size [] []
+  alone d growing kept blocks = record {
+    geometry = geometry;
+    growing = growing;
+    content = ap (λ (l : List ℕ). joined d l ++ (growing_of e).rest) (nothing d) ∙ rest;
+    sum = omega (arith, ap (bytes_before divided.block_size) none, ap length rest, long);
+    whole = long;
+    kept = kept;
+    blocks = blocks;
+    short = subst (λ (k : Geometry). length (growing_of e).rest < k.block_size - 4 * pointers_of e.full) geometry (rest_of e).0;
+    stays = λ later count same. still d later count (growing_of e) (subst (All (λ b. block_in later b ≡ block_in d b)) (sym blocks) same) growing;
+  }
+
+  chained : (d : Blocks) → IsChain d e.full e.head
+  chained d = subst (λ k. IsChain d k e.head) (sym none) (none_chain d e.head)
+
+  pub grown_held : e.stand ≡ Held → (d : Blocks) → IsGrown divided d e bytes size [] []
+  grown_held is d =
+      alone d
+      (record { chain = chained d; stand = subst (IsRest d e.full e.head (growing_of e).rest) (sym is) none })
+      (ap₂ (λ (x y : List ℕ). x ++ y) (nothing d) (ap pending_in is))
+      (ap₂ (λ (x y : List ℕ). x ++ y) (nothing d) (ap last_in is))
+
+  pub grown_closed : e.stand ≡ Closed → bytes ≡ [] → (d : Blocks) → IsGrown divided d e bytes size [] []
+  grown_closed is empty d =
+      alone d
+      (record { chain = chained d; stand = subst (IsRest d e.full e.head (growing_of e).rest) (sym is) (rest ∙ empty) })
+      (ap₂ (λ (x y : List ℕ). x ++ y) (nothing d) (ap pending_in is))
+      (ap₂ (λ (x y : List ℕ). x ++ y) (nothing d) (ap last_in is))

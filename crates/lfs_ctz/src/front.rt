@@ -1,0 +1,36 @@
+ghost use Rattle.std.specs.Prelude.{◌≡◌, ◌≤◌, ◌<◌, ◌+◌, ◌*◌, ◌^◌, ◌⊎◌, ℕ, take, OnOk, IfOk, IfErr, IsErrOf};
+ghost use Rattle.lfs_ctz.specs.Finished.{IsEnd};
+ghost use Rattle.lfs_device.specs.Calls.{ReadsOnly, TellsFaults};
+ghost use Rattle.lfs_model.specs.History.{reads};
+ghost use Rattle.lfs_model.specs.Lists.{IsList, blocks_back, blocks_for, bytes_of};
+
+use crate::read::find;
+use crate::{blocks_for, place};
+use lfs_device::{BlockDevice, Error};
+
+/// The last block of the list of a file's first `keep` bytes, whose own list has its last block at
+/// `head` and holds `size` bytes. The two share their blocks, and nothing is written.
+///
+/// There is at least one byte, and at most as many as the list has. `Error::Corrupt` says that the
+/// list isn't well formed: a pointer on the way leads out of the device. `Error::Io` comes where the
+/// device failed. It takes no memory, and reads only pointers.
+pub fn cut<D: BlockDevice>(dev: &mut D, head: u32, size: u32, keep: u32) -> Result<u32, Error>
+    requires some { 1 ≤ keep }
+    requires within { keep ≤ size }
+    ensures front { IsList (D.blocks dev.old) (D.geometry dev.old).block_size head size →
+        IfOk result (λ h. IsEnd (D.blocks dev.old) (D.geometry dev.old).block_size h keep
+        (take keep (bytes_of (D.blocks dev.old) (D.geometry dev.old).block_size head size))
+        (take (blocks_for (D.geometry dev.old).block_size keep) (blocks_back (D.blocks dev.old) (blocks_for (D.geometry dev.old).block_size size) head))) }
+    ensures in_range { IfOk result (λ h. h < (D.geometry dev.old).block_count) }
+    ensures corrupt { IsErrOf result Error.Corrupt → ¬ IsList (D.blocks dev.old) (D.geometry dev.old).block_size head size }
+    ensures device { ReadsOnly D.BlockDevice dev.old dev.new }
+    ensures faults { TellsFaults D.BlockDevice dev.old dev.new result }
+    ensures errors { IfErr result (λ e. (e ≡ Error.Io) ⊎ (e ≡ Error.Corrupt)) }
+    // Steps to that block by the logarithm of the list's length.
+    ensures few { (m : ℕ) → blocks_for (D.geometry dev.old).block_size size ≤ 2 ^ m → OnOk result (reads (D.history dev.new) ≤ reads (D.history dev.old) + 2 * m) }
+{
+    let block_size = dev.geometry().block_size;
+    let (index, _) = place(block_size, keep - 1);
+    let block = find(dev, head, blocks_for(block_size, size) - 1, index)?;
+    Ok(block)
+}

@@ -220,6 +220,3 @@ impl<'a> CommitBuilder<'a> {
         Ok(&buf[..end])
     }
 }
-
-#[cfg(test)]
-mod tests;

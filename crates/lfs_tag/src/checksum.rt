@@ -35,13 +35,3 @@ fn after_bytes(start: u32, bytes: &[u8]) -> u32
     }
     sum
 }
-
-#[cfg(test)]
-mod tests {
-    use super::*;
-
-    #[test]
-    fn of_digits(rt: HostRuntime) {
-        assert_eq!(rt; crc(0xffff_ffff, b"123456789"), 0x340b_c6d9);
-    }
-}

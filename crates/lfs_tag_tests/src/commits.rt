@@ -3,10 +3,11 @@
 ghost use Rattle.std.specs.Prelude.{◌≡◌, ◌≢◌, length};
 ghost use Rattle.lfs_model.specs.Tag.{IsValid, class_of, size_of};
 
-use super::CommitBuilder;
-use crate::kinds::{CREATE, DELETE, FILE_NAME, INLINE_STRUCT, SUPERBLOCK_NAME};
-use crate::{Log, Superblock, Tag, superblock_bytes};
+use crate::blocks::{fresh, shifting};
 use lfs_device::Error;
+use lfs_tag::kinds::{CREATE, DELETE, FILE_NAME, INLINE_STRUCT, SUPERBLOCK_NAME};
+use lfs_tag::{CommitBuilder, Log, Superblock, Tag, superblock_bytes};
+use std::test::Fail;
 
 const SUPERBLOCK: Superblock = Superblock {
     version: 0x0002_0000,
@@ -18,7 +19,7 @@ const SUPERBLOCK: Superblock = Superblock {
 };
 
 // A fresh image's commit, in front of these bytes.
-fn fresh(buf: &mut [u8], next: [u8; 4]) -> Result<&[u8], Error> {
+fn first(buf: &mut [u8], next: [u8; 4]) -> Result<&[u8], Error> {
     let mut builder = CommitBuilder::new(256, buf, Tag::from_bits(0xffff_ffff), Some(1));
     builder.push(Tag::new(SUPERBLOCK_NAME, 0, 8), b"littlefs");
     builder.push(
@@ -28,39 +29,21 @@ fn fresh(buf: &mut [u8], next: [u8; 4]) -> Result<&[u8], Error> {
     builder.finish(Some(next))
 }
 
-#[test]
-fn fresh_image(rt: HostRuntime) {
-    let mut buf = [0u8; 4096];
-    let pages = fresh(&mut buf, [0xff; 4]).expect(&rt, "there is room");
-    assert_eq!(rt; pages.len(), 256);
-    assert_eq!(rt;
-        &pages[0..8],
-        [1, 0, 0, 0, 0xf0, 0x0f, 0xff, 0xf7].as_slice()
-    );
-    assert_eq!(rt; &pages[8..16], b"littlefs".as_slice());
-    assert_eq!(rt;
-        &pages[16..24],
-        [0x2f, 0xe0, 0, 0x10, 0, 0, 2, 0].as_slice()
-    );
-    assert_eq!(rt; &pages[24..32], [0, 0x10, 0, 0, 0x10, 0, 0, 0].as_slice());
-    assert_eq!(rt;
-        &pages[32..40],
-        [0xff, 0, 0, 0, 0xff, 0xff, 0xff, 0x7f].as_slice()
-    );
-    assert_eq!(rt;
-        &pages[40..48],
-        [0xfe, 3, 0, 0, 0x70, 0x1f, 0xfc, 0xc8].as_slice()
-    );
-    assert_eq!(rt; &pages[48..52], [0x4a, 0x7f, 0x27, 0xf3].as_slice());
-    assert!(rt; pages[52..].iter().all(|byte| *byte == 0xff));
-}
-
 // Puts pages into a block, where they fit.
 fn put(block: &mut [u8], at: usize, pages: &[u8])
     ensures { length block.new ≡ length block.old }
 {
     if pages.len() <= block.len() && at <= block.len() - pages.len() {
         block[at..at + pages.len()].copy_from_slice(pages);
+    }
+}
+
+fn put_first(block: &mut [u8], next: [u8; 4])
+    ensures { length block.new ≡ length block.old }
+{
+    let mut buf = [0u8; 256];
+    if let Ok(pages) = first(&mut buf, next) {
+        put(block, 0, pages);
     }
 }
 
@@ -108,64 +91,74 @@ fn append(block: &mut [u8], tag: Tag, bytes: &[u8])
 }
 
 #[test]
-fn ids_that_shift(rt: HostRuntime) {
+fn fresh_image(rt: HostRuntime) -> Result<(), Fail> {
     let mut block = [0xffu8; 4096];
-    let mut buf = [0u8; 256];
-    let pages = fresh(&mut buf, [0xff; 4]).expect(&rt, "there is room");
-    put(&mut block, 0, pages);
+    put_first(&mut block, [0xff; 4]);
+    assert_eq!(rt; block.as_slice(), fresh(rt.alloc())?.as_slice());
+    Ok(())
+}
+
+#[test]
+fn ids_that_shift(rt: HostRuntime) -> Result<(), Fail> {
+    let mut block = [0xffu8; 4096];
+    put_first(&mut block, [0xff; 4]);
     create(&mut block, b"b", [0xff; 4]);
-    assert_eq!(rt;
-        &block[256..265],
-        [0x10, 0x1f, 0xf8, 0xd0, 0x40, 0, 0, 1, 0x62].as_slice()
-    );
-    assert_eq!(rt;
-        &block[265..273],
-        [0x20, 0, 0, 1, 0x70, 0x1f, 0xf8, 0xef].as_slice()
-    );
-    assert_eq!(rt; &block[273..277], [0xa8, 0xc4, 0xff, 0x1e].as_slice());
-    assert!(rt; block[277..].iter().all(|byte| *byte == 0xff));
     create(&mut block, b"a", [0xff; 4]);
     append(&mut block, Tag::new(DELETE, 1, 0), b"");
     append(&mut block, Tag::new(0x341, 1, 1), b"x");
-    let log = Log::read(&block);
-    assert_eq!(rt; log.end(), 1280);
-    assert_eq!(rt; log.last().bits(), 0x500f_fcf7);
+    assert_eq!(rt; block.as_slice(), shifting(rt.alloc())?.as_slice());
+    Ok(())
 }
 
 // Erased bytes of 0 turn the top bit of the tag behind the checksum.
 #[test]
 fn over_zeros(rt: HostRuntime) {
     let mut block = [0u8; 4096];
-    let mut buf = [0u8; 256];
-    let pages = fresh(&mut buf, [0; 4]).expect(&rt, "there is room");
-    put(&mut block, 0, pages);
-    assert_eq!(rt; &block[44..48], [0x70, 0x0f, 0xfc, 0xc8].as_slice());
+    put_first(&mut block, [0; 4]);
     create(&mut block, b"a", [0; 4]);
-    assert_eq!(rt; &block[256..260], [0x90, 0x0f, 0xf8, 0xd0].as_slice());
-    assert_eq!(rt; Log::read(&block).end(), 512);
+    assert_eq!(rt;
+        (&block[44..48], &block[256..260], Log::read(&block).end()),
+        (
+            [0x70, 0x0f, 0xfc, 0xc8].as_slice(),
+            [0x90, 0x0f, 0xf8, 0xd0].as_slice(),
+            512
+        )
+    );
+}
+
+// The end of a commit of one entry that fills the block, and whether it fits.
+fn fill(block: &mut [u8; 16]) -> (u32, bool) {
+    let mut builder = CommitBuilder::new(8, block, Tag::from_bits(0xffff_ffff), Some(7));
+    builder.push(Tag::new(CREATE, 0, 0), b"");
+    (builder.end(), builder.finish(None).is_ok())
 }
 
 // A block that a commit fills has nothing behind it.
 #[test]
 fn a_full_block(rt: HostRuntime) {
     let mut block = [0u8; 16];
-    let mut builder = CommitBuilder::new(8, &mut block, Tag::from_bits(0xffff_ffff), Some(7));
-    builder.push(Tag::new(CREATE, 0, 0), b"");
-    assert_eq!(rt; builder.end(), 16);
-    assert!(rt; builder.finish(None).is_ok());
+    let filled = fill(&mut block);
     let log = Log::read(&block);
-    assert_eq!(rt; log.end(), 16);
-    assert_eq!(rt; log.revision(), 7);
-    assert_eq!(rt; log.last().kind(), 0x500);
+    assert_eq!(rt;
+        (filled, log.end(), log.revision(), log.last().kind()),
+        ((16, true), 16, 7, 0x500)
+    );
+}
+
+// The end of a commit of two entries that pass a page, and why it isn't made.
+fn overfull(buf: &mut [u8]) -> (u32, Option<Error>) {
+    let mut builder = CommitBuilder::new(256, buf, Tag::from_bits(0xffff_ffff), None);
+    builder.push(Tag::new(INLINE_STRUCT, 0, 252), &[0; 252]);
+    builder.push(Tag::new(CREATE, 0, 0), b"");
+    (builder.end(), builder.finish(None).err())
 }
 
 #[test]
 fn too_big(rt: HostRuntime) {
     let mut buf = [0u8; 255];
-    assert_eq!(rt; fresh(&mut buf, [0xff; 4]).err(), Some(Error::TooBig));
-    let mut builder = CommitBuilder::new(256, &mut buf, Tag::from_bits(0xffff_ffff), None);
-    builder.push(Tag::new(INLINE_STRUCT, 0, 252), &[0; 252]);
-    builder.push(Tag::new(CREATE, 0, 0), b"");
-    assert_eq!(rt; builder.end(), 512);
-    assert_eq!(rt; builder.finish(None).err(), Some(Error::TooBig));
+    let error = first(&mut buf, [0xff; 4]).err();
+    assert_eq!(rt;
+        (error, overfull(&mut buf)),
+        (Some(Error::TooBig), (512, Some(Error::TooBig)))
+    );
 }

@@ -19,6 +19,3 @@ pub use lfs_tool_line::{Line, LineError, Mode, read_line};
 pub use listing::list;
 pub use output::write_bytes;
 pub use watched::Watched;
-
-#[cfg(test)]
-mod tests;

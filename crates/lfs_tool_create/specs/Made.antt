@@ -1,5 +1,6 @@
 -- What is made of a source, and why nothing is.
 use Rattle.std.specs.Prelude.{ℕ, ◌≡◌, ◌⊎◌, ◌*◌, Bool, true, false, List, length, map, Option, Some, None, IfSome}
+use Rattle.std.specs.Io.KnownBytes.{Appends}
 use Rattle.lfs_model.specs.Disk.{IsImage, disk_of}
 use Rattle.lfs_model.specs.Slots.{no_gstate}
 use Rattle.lfs_model.specs.Source.{Source, IsTreeOf}
@@ -10,7 +11,8 @@ use Rattle.lfs_device.specs.declared.error.Error.TheVariants.{NoMemory, Unsuppor
 use Rattle.lfs_device.specs.declared.geometry.Geometry.{Geometry}
 use Rattle.lfs_tool_create.specs.Files.{are_held, name_of, refusal_for}
 use Rattle.lfs_tool_create.specs.Refusals.{AreMet}
-use Rattle.lfs_tool_source.specs.Entries.{HasBadNames}
+use Rattle.lfs_tool.specs.Known.{AppendsBeginning}
+use Rattle.lfs_tool_source.specs.Entries.{AreAll, HasBadNames}
 use Rattle.lfs_tool_source.specs.declared.entries.Entry.{Entry}
 
 -- An image of the geometry that is accepted, in the writing profile, without a share of the global state, and shows the
@@ -46,6 +48,19 @@ abbrev pub IsRefused : Geometry → Option Source → List Entry → Error → T
 IsRefused geometry known entries NoMemory = Unit {0}
 IsRefused geometry known entries Unsupported = are_held geometry.block_size geometry.page entries ≡ false
 IsRefused geometry known entries e = (are_held geometry.block_size geometry.page entries ≡ true) × AreMet geometry known entries (Some e)
+
+-- all that the source has is taken, and what is known to be written grew by one image of it
+abbrev pub IsCreated : Geometry → Option Source → Option (List ℕ) → Option (List ℕ) → Type 0
+IsCreated geometry known old new = (entries : List Entry) × (AreAll known entries × (IsTaken geometry known entries
+    × ((image : List ℕ) × (IsMade geometry known image × Appends old new image))))
+
+-- what is known to be written grew by a beginning of an image of the source
+abbrev pub IsBegun : Geometry → Option Source → Option (List ℕ) → Option (List ℕ) → Type 0
+IsBegun geometry known old new = (image : List ℕ) × (IsMade geometry known image × AppendsBeginning old new image)
+
+-- all that the source has is refused
+abbrev pub HasRefusal : Geometry → Option Source → Error → Type 0
+HasRefusal geometry known e = (entries : List Entry) × (AreAll known entries × IsRefused geometry known entries e)
 
 -- the source has failed, or a folder in it has bad names
 abbrev pub HasFault : Bool → Option Source → Type 0

@@ -9,6 +9,3 @@ mod sizes;
 
 pub use making::create;
 pub use sizes::geometry_for;
-
-#[cfg(test)]
-mod tests;

@@ -1,9 +1,7 @@
 ghost use Rattle.std.specs.Prelude.{◌≡◌, ◌≢◌, ◌*◌, IfErr, IfOk, IsErrOf, OnOk, map, true};
-ghost use Rattle.std.specs.Io.KnownBytes.{Appends, Keeps};
-ghost use Rattle.lfs_tool.specs.Known.{AppendsBeginning};
 ghost use Rattle.lfs_tool_create.specs.Files.{file_of};
 ghost use Rattle.lfs_tool_create.specs.Root.{ArePages, image_of};
-ghost use Rattle.lfs_tool_create.specs.Made.{AreRefused, AreTaken, HasFault, IsMade, IsRefused, IsTaken};
+ghost use Rattle.lfs_tool_create.specs.Made.{AreRefused, AreTaken, HasFault, HasRefusal, IsBegun, IsCreated};
 ghost use Rattle.lfs_tool_source.specs.Entries.{AreAll};
 
 use crate::checks::check;
@@ -19,6 +17,8 @@ fn read_source<S: Source>(alloc: Global, source: &mut S) -> Result<Vec<Entry>, T
     ensures entries { IfOk result (λ v. AreAll (S.shown source.old) v.items) }
     ensures input { IsErrOf result ToolError.Input → HasFault (S.has_failed source.new) (S.shown source.old) }
     ensures other { IfErr result (λ e. e ≢ ToolError.Input → e ≡ ToolError.Fs Error.NoMemory) }
+    ensures kept { OnOk result (S.has_failed source.new ≡ S.has_failed source.old) }
+    ensures kept_by_fs { (e : _) → IsErrOf result (ToolError.Fs e) → S.has_failed source.new ≡ S.has_failed source.old }
 {
     match read_tree(alloc, source) {
         Ok(entries) => Ok(entries),
@@ -59,13 +59,18 @@ pub fn create<S: Source, W: Write>(
     geometry: Geometry,
     out: &mut Watched<W>,
 ) -> Result<(), ToolError>
-    ensures ok { OnOk result ((entries : _) × (AreAll (S.shown source.old) entries × (IsTaken geometry (S.shown source.old) entries
-        × ((image : _) × (IsMade geometry (S.shown source.old) image × Appends (W.contents out.old.inner) (W.contents out.new.inner) image))))) }
-    ensures refused { (e : _) → IsErrOf result (ToolError.Fs e) → Keeps (W.contents out.old.inner) (W.contents out.new.inner)
-        × (e ≢ Error.NoMemory → (entries : _) × (AreAll (S.shown source.old) entries × IsRefused geometry (S.shown source.old) entries e)) }
-    ensures input { IsErrOf result ToolError.Input → Keeps (W.contents out.old.inner) (W.contents out.new.inner) × HasFault (S.has_failed source.new) (S.shown source.old) }
+    ensures ok { OnOk result (IsCreated geometry (S.shown source.old) (W.contents out.old.inner) (W.contents out.new.inner)) }
+
+    // The writer isn't touched, unless it fails: then a beginning of the image may be written.
+    ensures untouched { IfErr result (λ e. e ≢ ToolError.Output → out.new ≡ out.old) }
     ensures output { IsErrOf result ToolError.Output → (out.new.has_failed ≡ true)
-        × ((image : _) × (IsMade geometry (S.shown source.old) image × AppendsBeginning (W.contents out.old.inner) (W.contents out.new.inner) image)) }
+        × IsBegun geometry (S.shown source.old) (W.contents out.old.inner) (W.contents out.new.inner) }
+
+    // When each other error comes. The source has a fault at `Input` alone.
+    ensures refused { (e : _) → IsErrOf result (ToolError.Fs e) → e ≢ Error.NoMemory → HasRefusal geometry (S.shown source.old) e }
+    ensures input { IsErrOf result ToolError.Input → HasFault (S.has_failed source.new) (S.shown source.old) }
+    ensures kept { OnOk result (S.has_failed source.new ≡ S.has_failed source.old) }
+    ensures kept_at_errors { IfErr result (λ e. e ≢ ToolError.Input → S.has_failed source.new ≡ S.has_failed source.old) }
 {
     let entries = read_source(alloc, source)?;
     match make(alloc, &geometry, entries.as_slice()) {

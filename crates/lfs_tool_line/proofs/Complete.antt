@@ -9,16 +9,16 @@ use Rattle.clap.specs.declared.builder.command.Command.{Command}
 use Rattle.clap.specs.declared.builder.value_parser.ValueParser.TheVariants.{Signed}
 use Rattle.clap.specs.declared.error.Error.{Error}
 use Rattle.clap.specs.declared.parser.matches.ArgMatches.{ArgMatches}
-use Rattle.lfs_tool_line.specs.Command.{image_rule, mklittlefs, number}
+use Rattle.lfs_tool_line.specs.Command.{image_rule, mklittlefs, number, with_modes, with_sizes}
 use Rattle.lfs_tool_line.specs.Matches.{IsComplete}
 use Rattle.lfs_tool_line.proofs.Defaults.{IsPlainApp, an_arg, args_there, default_reads, required_reads}
 
 plain_app : IsPlainApp mklittlefs
-unfolding mklittlefs
+unfolding mklittlefs with_modes with_sizes
 plain_app = record { ready = refl; leaves = refl; free = refl; negates = refl }
 
 complete : (c : Command) (m : ArgMatches) (d : Arg) → app_of c ≡ mklittlefs → IsParsedFrom c m → IsComplete (found_of m)
-unfolding mklittlefs
+unfolding mklittlefs with_modes with_sizes
 complete c m d same p = record {
   block_size = default_reads c m mklittlefs same plain_app p 3 d (number (codes "block_size") 98 (codes "4096")) (lit< tt) refl refl refl (codes "4096") refl refl refl (Signed (pos 0) (pos 4294967295)) refl;
   page = default_reads c m mklittlefs same plain_app p 4 d (number (codes "page") 112 (codes "256")) (lit< tt) refl refl refl (codes "256") refl refl refl (Signed (pos 0) (pos 4294967295)) refl;
@@ -27,5 +27,5 @@ complete c m d same p = record {
 }
 
 pub completes : (c : Command) (r : Result ArgMatches Error) → app_of c ≡ mklittlefs → IfOk r (λ m. IsParsedFrom c m) → IfOk r (λ m. IsComplete (found_of m))
-unfolding mklittlefs
+unfolding mklittlefs with_modes with_sizes
 completes c r same h = IfOk-weaker r _ _ (λ m p. complete c m (an_arg (args_of c) (args_there c mklittlefs same (lit< tt))) same p) h

@@ -1,15 +1,14 @@
 // The arguments of mklittlefs, and a parse of words by them.
 
 ghost use Rattle.std.specs.Prelude.{◌≡◌, IfOk, codes, map, false};
-ghost use Rattle.clap.specs.Words.{FailsBy, app_of, found_of, new_app, rows_of, rule_of};
-ghost use Rattle.lfs_tool_line.specs.Command.{folder, image_rule, list_rule, mklittlefs, number};
+ghost use Rattle.clap.specs.Words.{FailsBy, app_of, found_of, new_app, rows_of, rule_of, with_rule};
+ghost use Rattle.lfs_tool_line.specs.Command.{folder, image_rule, list_rule, mklittlefs, number, with_modes, with_sizes};
 ghost use Rattle.lfs_tool_line.specs.Matches.{IsComplete, faults, rows};
 
 use clap::{Arg, ArgAction, ArgMatches, Command, Error, value_parser};
 use std::alloc::{AllocError, Global};
 use std::convert::AsStr;
 
-// An option that takes a folder.
 fn folder_arg<'a>(alloc: Global, id: &'a str, short: char, help: &'a str) -> Arg<'a>
     ensures rule { rule_of result ≡ folder id.entry.now short }
     ensures local { result.global ≡ false }
@@ -21,7 +20,19 @@ fn folder_arg<'a>(alloc: Global, id: &'a str, short: char, help: &'a str) -> Arg
         .help(help)
 }
 
-// An option that takes a number, with its default.
+// Adds an option that takes a folder.
+fn with_folder<'a>(
+    alloc: Global,
+    command: Command<'a>,
+    id: &'a str,
+    short: char,
+    help: &'a str,
+) -> Result<Command<'a>, AllocError>
+    ensures { IfOk result (λ c. app_of c ≡ with_rule (app_of command.entry) (folder id.entry.now short)) }
+{
+    command.arg(folder_arg(alloc, id, short, help))
+}
+
 fn number_arg<'a>(
     alloc: Global,
     id: &'a str,
@@ -41,6 +52,20 @@ fn number_arg<'a>(
         .help(help)
 }
 
+// Adds an option that takes a number, with its default.
+fn with_number<'a>(
+    alloc: Global,
+    command: Command<'a>,
+    id: &'a str,
+    short: char,
+    default: &'a str,
+    help: &'a str,
+) -> Result<Command<'a>, AllocError>
+    ensures { IfOk result (λ c. app_of c ≡ with_rule (app_of command.entry) (number id.entry.now short default.entry.now)) }
+{
+    command.arg(number_arg(alloc, id, short, default, help))
+}
+
 fn list_arg<'a>(alloc: Global) -> Arg<'a>
     ensures rule { rule_of result ≡ list_rule }
     ensures local { result.global ≡ false }
@@ -49,6 +74,12 @@ fn list_arg<'a>(alloc: Global) -> Arg<'a>
         .short('l')
         .action(ArgAction::SetTrue)
         .help("List the files and folders of IMAGE")
+}
+
+fn with_list<'a>(alloc: Global, command: Command<'a>) -> Result<Command<'a>, AllocError>
+    ensures { IfOk result (λ c. app_of c ≡ with_rule (app_of command.entry) list_rule) }
+{
+    command.arg(list_arg(alloc))
 }
 
 fn image_arg<'a>(alloc: Global) -> Arg<'a>
@@ -62,6 +93,12 @@ fn image_arg<'a>(alloc: Global) -> Arg<'a>
         .help("The file with the image")
 }
 
+fn with_image<'a>(alloc: Global, command: Command<'a>) -> Result<Command<'a>, AllocError>
+    ensures { IfOk result (λ c. app_of c ≡ with_rule (app_of command.entry) image_rule) }
+{
+    command.arg(image_arg(alloc))
+}
+
 // The command without its arguments, with what its help says.
 fn bare_command<'a>(alloc: Global) -> Command<'a>
     ensures { app_of result ≡ new_app (codes "mklittlefs") }
@@ -71,26 +108,39 @@ fn bare_command<'a>(alloc: Global) -> Command<'a>
         .override_usage("mklittlefs (-c DIR | -u DIR | -l) [-b N] [-p N] [-s N] IMAGE")
 }
 
+// Adds the options of which exactly one is to be given.
+fn with_modes<'a>(alloc: Global, command: Command<'a>) -> Result<Command<'a>, AllocError>
+    ensures { IfOk result (λ c. app_of c ≡ with_modes (app_of command.entry)) }
+{
+    let create = "Create IMAGE from the folder DIR";
+    let unpack = "Unpack IMAGE into the folder DIR";
+    let command = with_folder(alloc, command, "create", 'c', create)?;
+    let command = with_folder(alloc, command, "unpack", 'u', unpack)?;
+    let command = with_list(alloc, command)?;
+    Ok(command)
+}
+
+// Adds the options for sizes.
+fn with_sizes<'a>(alloc: Global, command: Command<'a>) -> Result<Command<'a>, AllocError>
+    ensures { IfOk result (λ c. app_of c ≡ with_sizes (app_of command.entry)) }
+{
+    let block_size = "Size of a block in bytes";
+    let page = "Size of a page in bytes";
+    let size = "Size of the image in bytes, with -c";
+    let command = with_number(alloc, command, "block_size", 'b', "4096", block_size)?;
+    let command = with_number(alloc, command, "page", 'p', "256", page)?;
+    let command = with_number(alloc, command, "size", 's', "65536", size)?;
+    Ok(command)
+}
+
 // The command of mklittlefs.
 fn command<'a>(alloc: Global) -> Result<Command<'a>, AllocError>
     ensures { IfOk result (λ c. app_of c ≡ mklittlefs) }
 {
-    let create = folder_arg(alloc, "create", 'c', "Create IMAGE from the folder DIR");
-    let unpack = folder_arg(alloc, "unpack", 'u', "Unpack IMAGE into the folder DIR");
-    let list = list_arg(alloc);
-    let block_size = number_arg(alloc, "block_size", 'b', "4096", "Size of a block in bytes");
-    let page = number_arg(alloc, "page", 'p', "256", "Size of a page in bytes");
-    let size = number_arg(
-        alloc,
-        "size",
-        's',
-        "65536",
-        "Size of the image in bytes, with -c",
-    );
-    let image = image_arg(alloc);
-    let command = bare_command(alloc).arg(create)?.arg(unpack)?.arg(list)?;
-    let command = command.arg(block_size)?.arg(page)?.arg(size)?;
-    command.arg(image)
+    let command = with_modes(alloc, bare_command(alloc))?;
+    let command = with_sizes(alloc, command)?;
+    let command = with_image(alloc, command)?;
+    Ok(command)
 }
 
 // The matches of the words.

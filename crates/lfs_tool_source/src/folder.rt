@@ -2,6 +2,7 @@ ghost use Rattle.std.specs.Prelude.{◌≡◌, false, true};
 
 use crate::{Kind, Listed, Source, SourceError};
 use std::alloc::Global;
+use std::fs::FileType;
 use std::rt::Files;
 use std::{fs, io};
 
@@ -12,6 +13,25 @@ pub struct Folder<'a, R> {
     rt: &'a R,
     root: &'a str,
     has_failed: bool,
+}
+
+fn kind_of(kind: FileType) -> io::Result<Kind> {
+    if kind.is_dir() {
+        Ok(Kind::Folder)
+    } else if kind.is_file() {
+        Ok(Kind::File)
+    } else {
+        Err(io::Error::from(io::ErrorKind::Unsupported))
+    }
+}
+
+// A name that is text.
+fn name_of(alloc: Global, name: &[u8]) -> io::Result<Vec<u8>> {
+    if str::from_utf8(name).is_err() {
+        return Err(io::Error::from(io::ErrorKind::InvalidFilename));
+    }
+    let name = name.to_vec(alloc)?;
+    Ok(name)
 }
 
 impl<'a, R: Files + AllocGlobal + Clone + Drop> Folder<'a, R> {
@@ -42,18 +62,8 @@ impl<'a, R: Files + AllocGlobal + Clone + Drop> Folder<'a, R> {
         let mut names = Vec::new(alloc);
         for entry in fs::read_dir(self.rt, full.as_str())? {
             let entry = entry?;
-            let kind = entry.file_type()?;
-            let kind = if kind.is_dir() {
-                Kind::Folder
-            } else if kind.is_file() {
-                Kind::File
-            } else {
-                return Err(io::Error::from(io::ErrorKind::Unsupported));
-            };
-            let name = entry.file_name().as_bytes().to_vec(alloc)?;
-            if str::from_utf8(name.as_slice()).is_err() {
-                return Err(io::Error::from(io::ErrorKind::InvalidFilename));
-            }
+            let kind = kind_of(entry.file_type()?)?;
+            let name = name_of(alloc, entry.file_name().as_bytes())?;
             names.push(Listed { name, kind })?;
         }
         Ok(names)

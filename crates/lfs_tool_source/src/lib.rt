@@ -11,6 +11,3 @@ pub use entries::{Entry, read_tree};
 pub use folder::Folder;
 pub use memory::{Held, MemorySource};
 pub use source::{Kind, Listed, Source, SourceError};
-
-#[cfg(test)]
-mod tests;

@@ -2,7 +2,7 @@ ghost use Rattle.std.specs.Prelude.{◌≡◌, ◌+◌, ◌++◌, ◌∷◌, [],
 ghost use Rattle.std.specs.List.{list_any};
 ghost use Rattle.lfs_model.specs.Names.{slash};
 ghost use Rattle.lfs_tool_source.specs.Shown.{is_folder, listed};
-ghost use Rattle.lfs_tool_source.specs.InMemory.{has_no_bytes, is_within, item_of, items_by, name_of, source_of};
+ghost use Rattle.lfs_tool_source.specs.InMemory.{has_no_bytes, is_within, item_of, items_by, name_of, names_in, source_of};
 
 use crate::{Kind, Listed, Source, SourceError};
 use std::alloc::Global;
@@ -80,16 +80,25 @@ fn push_name(
         .map_err(|_| SourceError::NoMemory)
 }
 
+// The names of what is held that stand in the folder.
+fn names_in(alloc: Global, held: &[Held], folder: &[u8]) -> Result<Vec<Listed>, SourceError>
+    ensures names { IfOk result (λ v. map listed v.items ≡ names_in (map item_of held.now) folder.now) }
+    ensures memory { (e : _) → result ≡ Err e → e ≡ SourceError.NoMemory }
+{
+    let mut names = Vec::new(alloc);
+    for one in held {
+        push_name(alloc, &mut names, folder, one)?;
+    }
+    Ok(names)
+}
+
 impl Source for MemorySource {
     ghost shown = { λ s. Some (source_of (map item_of s.held.items)) };
 
     ghost has_failed = { λ s. s.has_failed };
 
     fn list(&mut self, alloc: Global, folder: &[u8]) -> Result<Vec<Listed>, SourceError> {
-        let mut names = Vec::new(alloc);
-        for held in &self.held {
-            push_name(alloc, &mut names, folder, held)?;
-        }
+        let names = names_in(alloc, self.held.as_slice(), folder)?;
         Ok(names)
     }
 

@@ -29,4 +29,4 @@ returns-clause-refused g c = λ e is.
     let error : c.in-Err.error ≡ e = cc in
     let names : AreRefused c.args.geometry entries c.in-Err.error = subst (λ (es : List Entry). AreRefused c.args.geometry es c.in-Err.error) c.as_slice.ensures.value c.in-Err.ensures.err in
     let refused : IsRefused c.args.geometry known entries e = subst (IsRefused c.args.geometry known entries) error (refused_as c.args.geometry known entries c.in-Err.error all names) in
-    (search rules, λ _. (entries, (all, refused)))
+    λ _. (entries, (all, refused))

@@ -1,0 +1,31 @@
+use Rattle.std.proofs.Common.{◌≡◌, ◌/◌, ◌%◌, inl, inr, subst}
+use Rattle.std.proofs.lemmas.Result.{IfOk-weaker}
+use Rattle.lfs_device.specs.declared.geometry.Geometry.{Geometry}
+use Rattle.lfs_tool_line.specs.declared.line.Line.{Line}
+use Rattle.lfs_tool_files.specs.Asked.{HasNoGeometry, HasSizes}
+use Rattle.lfs_tool_files.proofs.creating.create_asked.Goals as goal
+
+sized : (line : Line) (g : Geometry) → (g.block_size ≡ line.block_size) × (g.page ≡ line.page)
+    → (g.block_count ≡ line.size / line.block_size) × (line.size % line.block_size ≡ 0) → HasSizes line g
+sized line g sizes count = record { block_size = sizes.0; page = sizes.1; block_count = count.0; whole = count.1 }
+
+pub returns-in-Ok-clause-ok : goal.returns-in-Ok-clause-ok
+returns-in-Ok-clause-ok g c =
+    let sizes = sized c.args.line.now c.in-Ok.geometry c.in-Ok.ensures.sizes c.in-Ok.ensures.count in
+    IfOk-weaker c.create.result _ _ (λ _ made. (c.in-Ok.geometry, (sizes, made))) c.create.ensures.ok
+
+pub returns-in-Ok-clause-output : goal.returns-in-Ok-clause-output
+returns-in-Ok-clause-output g c = λ e.
+    let sizes = sized c.args.line.now c.in-Ok.geometry c.in-Ok.ensures.sizes c.in-Ok.ensures.count in
+    let begun = c.create.ensures.output e in
+    (begun.0, (c.in-Ok.geometry, (sizes, begun.1)))
+
+pub returns-in-Ok-clause-refused : goal.returns-in-Ok-clause-refused
+returns-in-Ok-clause-refused g c = λ e is other.
+    let sizes = sized c.args.line.now c.in-Ok.geometry c.in-Ok.ensures.sizes c.in-Ok.ensures.count in
+    inr (c.in-Ok.geometry, (sizes, c.create.ensures.refused e is other))
+
+pub returns-in-Err-clause-refused : goal.returns-in-Err-clause-refused
+returns-in-Err-clause-refused g c = λ e is other.
+    let same : c.in-Err.error ≡ e = cc in
+    inl (subst (HasNoGeometry c.args.line.now) same (record { error = c.in-Err.ensures.err.0; none = c.in-Err.ensures.err.1 }))

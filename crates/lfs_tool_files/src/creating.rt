@@ -1,0 +1,60 @@
+ghost use Rattle.std.specs.Prelude.{◌≡◌, ◌≢◌, ◌⊎◌, IfErr, IsErrOf, OnOk, true};
+ghost use Rattle.lfs_tool_create.specs.Made.{HasFault, HasRefusal, IsBegun, IsCreated};
+ghost use Rattle.lfs_tool_files.specs.Asked.{HasNoGeometry, HasSizes};
+
+use crate::ImageFile;
+use lfs_device::Error;
+use lfs_tool::{Line, ToolError, Watched};
+use lfs_tool_create::{create, geometry_for};
+use lfs_tool_source::{Folder, Source};
+use std::alloc::Global;
+use std::io::Write;
+use std::rt::Files;
+
+/// Writes the image of a source with the sizes that a command line gives, in bytes.
+///
+/// # Errors
+/// - `Fs(Invalid)` where the image isn't a whole number of blocks, or its geometry is out of range.
+/// - Those of `lfs_tool_create::create`, at the same times.
+pub fn create_asked<S: Source, W: Write>(
+    alloc: Global,
+    line: &Line<'_>,
+    source: &mut S,
+    out: &mut Watched<W>,
+) -> Result<(), ToolError>
+    ensures ok { OnOk result ((g : _) × (HasSizes line.now g × IsCreated g (S.shown source.old) (W.contents out.old.inner) (W.contents out.new.inner))) }
+
+    // The writer isn't touched, unless it fails: then a beginning of the image may be written.
+    ensures untouched { IfErr result (λ e. e ≢ ToolError.Output → out.new ≡ out.old) }
+    ensures output { IsErrOf result ToolError.Output → (out.new.has_failed ≡ true)
+        × ((g : _) × (HasSizes line.now g × IsBegun g (S.shown source.old) (W.contents out.old.inner) (W.contents out.new.inner))) }
+
+    // When each other error comes. The source has a fault at `Input` alone.
+    ensures refused { (e : _) → IsErrOf result (ToolError.Fs e) → e ≢ Error.NoMemory
+        → HasNoGeometry line.now e ⊎ ((g : _) × (HasSizes line.now g × HasRefusal g (S.shown source.old) e)) }
+    ensures input { IsErrOf result ToolError.Input → HasFault (S.has_failed source.new) (S.shown source.old) }
+    ensures kept { OnOk result (S.has_failed source.new ≡ S.has_failed source.old) }
+    ensures kept_at_errors { IfErr result (λ e. e ≢ ToolError.Input → S.has_failed source.new ≡ S.has_failed source.old) }
+{
+    match geometry_for(line.size, line.block_size, line.page) {
+        Ok(geometry) => create(alloc, source, geometry, out),
+        Err(error) => Err(ToolError::Fs(error)),
+    }
+}
+
+/// Makes the image that a command line asks for, of a folder of the real file system. A refusal, by the
+/// file system or by the folder, leaves the image's file alone.
+///
+/// # Errors
+/// Those of `create_asked`, at the same times.
+pub fn create_image<R: Files + AllocGlobal + Clone + Drop>(
+    rt: &R,
+    line: &Line<'_>,
+    folder: &str,
+    image: &mut Watched<ImageFile<'_, R>>,
+) -> Result<(), ToolError>
+    ensures untouched { IfErr result (λ e. e ≢ ToolError.Output → image.new ≡ image.old) }
+{
+    let mut source = Folder::new(rt, folder);
+    create_asked(rt.alloc(), line, &mut source, image)
+}

@@ -1,0 +1,130 @@
+// Sources and the images that are made of them.
+
+use crate::shown::{error_shown, shown};
+use crate::sources::{Items, source_of};
+use lfs_device::{Error, Geometry};
+use lfs_tool::{ToolError, Watched};
+use lfs_tool_create::{create, geometry_for};
+use std::alloc::{AllocError, Global};
+use std::test::Fail;
+
+const NAME_TOO_LONG: &str = "error: NameTooLong (36)\n";
+const NO_SPACE: &str = "error: NoSpace (28)\n";
+const UNSUPPORTED: &str = "error: Unsupported (202)\n";
+
+// What is written of a source, and how it ended.
+fn written(
+    alloc: Global,
+    items: Items<'_>,
+    geometry: Geometry,
+) -> Result<(Result<(), ToolError>, Vec<u8>), AllocError> {
+    let mut source = source_of(alloc, items)?;
+    let mut image = Watched::new(Vec::new(alloc));
+    let result = create(alloc, &mut source, geometry, &mut image);
+    Ok((result, image.inner))
+}
+
+// What is listed of the image, or the line of an error with which nothing was written.
+fn made(alloc: Global, items: Items<'_>, geometry: Geometry) -> Result<Vec<u8>, AllocError> {
+    let (result, image) = written(alloc, items, geometry)?;
+    match result {
+        Ok(()) => shown(alloc, image.as_slice(), geometry.block_size, geometry.page),
+        Err(error) if image.is_empty() => Ok(error_shown(alloc, error)),
+        Err(_) => Vec::from_slice(alloc, b"refused, and written\n"),
+    }
+}
+
+// Sources, how many blocks of 4,096 bytes with pages of 256 there are, and what comes of it.
+const SOURCES: [(Items<'static>, u32, &str); 8] = [
+    (&[], 2, ""),
+    (&[(b"/a", Some(b"hello"))], 16, "f 5 /a\n"),
+    (&[(b"/a", Some(&[7; 512]))], 16, "f 512 /a\n"),
+    (&[(b"/a", Some(&[7; 513]))], 16, UNSUPPORTED),
+    (&[(b"/d", None)], 16, UNSUPPORTED),
+    (&[(b"/a", Some(b""))], 2, NO_SPACE),
+    (&[(b"/a", Some(b""))], 3, NO_SPACE),
+    // all of the source is read before anything is refused
+    (
+        &[
+            (b"/d", None),
+            (b"/a", Some(&[7; 513])),
+            (b"/d/..", Some(b"")),
+        ],
+        16,
+        "error: input\n",
+    ),
+];
+
+#[test]
+fn images_are_made(rt: HostRuntime) -> Result<(), Fail> {
+    for (items, blocks, text) in SOURCES {
+        let geometry = Geometry::new(4096, 256, blocks)?;
+        let lines = made(rt.alloc(), items, geometry)?;
+        assert!(rt; lines.as_slice() == text.as_bytes(), "{text}");
+    }
+    Ok(())
+}
+
+#[test]
+fn names_have_at_most_255_bytes(rt: HostRuntime) -> Result<(), Fail> {
+    let mut path = [b'x'; 257];
+    path[0] = b'/';
+    let long = made(rt.alloc(), &[(&path, Some(b""))], Geometry::new(4096, 256, 2)?)?;
+    assert!(rt; long.as_slice() == NAME_TOO_LONG.as_bytes());
+    let listed = made(rt.alloc(), &[(&path[..256], Some(b""))], Geometry::new(4096, 256, 4)?)?;
+    assert!(rt; listed.len() == 261 && listed.starts_with(b"f 0 /x"));
+    Ok(())
+}
+
+// Beside 40 bytes of the superblock, six files of 8 and a name of 1 beside their bytes: a pair with
+// blocks of 1,024 bytes and pages of 128 holds 857.
+fn made_of_six(alloc: Global, last: &[u8]) -> Result<Vec<u8>, Fail> {
+    let bytes = Some([0; 128].as_slice());
+    let items = [
+        (b"/a".as_slice(), bytes),
+        (b"/b", bytes),
+        (b"/c", bytes),
+        (b"/d", bytes),
+        (b"/e", bytes),
+        (b"/f", Some(last)),
+    ];
+    let lines = made(alloc, &items, Geometry::new(1024, 128, 4)?)?;
+    Ok(lines)
+}
+
+const SIX: &str = "f 128 /a\nf 128 /b\nf 128 /c\nf 128 /d\nf 128 /e\nf 123 /f\n";
+
+#[test]
+fn a_pair_has_a_capacity(rt: HostRuntime) -> Result<(), Fail> {
+    let held = made_of_six(rt.alloc(), &[0; 123])?;
+    assert!(rt; held.as_slice() == SIX.as_bytes());
+    let refused = made_of_six(rt.alloc(), &[0; 124])?;
+    assert!(rt; refused.as_slice() == UNSUPPORTED.as_bytes());
+    Ok(())
+}
+
+// The first 52 bytes of an image of nothing, with 16 blocks of 4,096 bytes. All else is 0xff.
+const FRESH: [u8; 52] = [
+    0x01, 0, 0, 0, 0xf0, 0x0f, 0xff, 0xf7, 0x6c, 0x69, 0x74, 0x74, 0x6c, 0x65, 0x66, 0x73, 0x2f,
+    0xe0, 0x00, 0x10, 0, 0, 0x02, 0, 0, 0x10, 0, 0, 0x10, 0, 0, 0, 0xff, 0, 0, 0, 0xff, 0xff, 0xff,
+    0x7f, 0xfe, 0x03, 0, 0, 0x70, 0x1f, 0xfc, 0xc8, 0x4a, 0x7f, 0x27, 0xf3,
+];
+
+#[test]
+fn nothing_makes_a_fresh_image(rt: HostRuntime) -> Result<(), Fail> {
+    let (result, image) = written(rt.alloc(), &[], Geometry::new(4096, 256, 16)?)?;
+    let mut wanted = Vec::from_slice(rt.alloc(), &FRESH)?;
+    wanted.resize(65536, 0xff)?;
+    assert!(rt; result == Ok(()) && image.as_slice() == wanted.as_slice());
+    Ok(())
+}
+
+#[test]
+fn sizes_make_geometries(rt: HostRuntime) -> Result<(), Fail> {
+    let geometry = geometry_for(65536, 4096, 256)?;
+    assert!(rt; (geometry.block_size, geometry.page, geometry.block_count) == (4096, 256, 16));
+    let odd = geometry_for(65537, 4096, 256).err();
+    let none = geometry_for(65536, 0, 256).err();
+    assert!(rt; (odd, none) == (Some(Error::Invalid), Some(Error::Invalid)));
+    Ok(())
+}

@@ -1,0 +1,213 @@
+// Runs of the program over real files.
+
+use lfs_tool::Watched;
+use lfs_tool_files::answer;
+use std::alloc::{AllocError, Global};
+use std::rt::Files;
+use std::test::Fail;
+use std::{fs, io};
+
+// What the image's file holds before each run.
+const OLD: &[u8] = b"an older image";
+
+// What the image's file holds behind a run.
+#[derive(Clone, Copy, Debug, PartialEq)]
+enum Image {
+    // What it held before.
+    Old,
+    // So many other bytes.
+    New(usize),
+}
+
+// Words behind the program's name, the status, what goes to `out` and to `err`, and the image's file.
+struct Run {
+    words: &'static [&'static str],
+    status: u8,
+    out: &'static str,
+    err: &'static str,
+    image: Image,
+}
+
+const RUNS: [Run; 11] = [
+    Run {
+        words: &["-c", "runs/files", "runs/image"],
+        status: 0,
+        out: "",
+        err: "",
+        image: Image::New(65536),
+    },
+    Run {
+        words: &["-c", "runs/files", "-b", "1024", "-p", "128", "-s", "4096", "runs/image"],
+        status: 0,
+        out: "",
+        err: "",
+        image: Image::New(4096),
+    },
+    // what refuses leaves the old image
+    Run {
+        words: &["-c", "runs", "runs/image"],
+        status: 1,
+        out: "",
+        err: "error: Unsupported (202)\n",
+        image: Image::Old,
+    },
+    Run {
+        words: &["-c", "runs/files", "-b", "128", "-p", "1024", "-s", "4096", "runs/image"],
+        status: 1,
+        out: "",
+        err: "error: Invalid (22)\n",
+        image: Image::Old,
+    },
+    Run {
+        words: &["-c", "runs/files", "-s", "65537", "runs/image"],
+        status: 1,
+        out: "",
+        err: "error: Invalid (22)\n",
+        image: Image::Old,
+    },
+    Run {
+        words: &["-c", "runs/files", "-s", "8192", "runs/image"],
+        status: 1,
+        out: "",
+        err: "error: NoSpace (28)\n",
+        image: Image::Old,
+    },
+    Run {
+        words: &["-c", "runs/none", "runs/image"],
+        status: 3,
+        out: "",
+        err: "error: input\n",
+        image: Image::Old,
+    },
+    Run {
+        words: &["-u", "runs/files", "runs/image"],
+        status: 1,
+        out: "",
+        err: "error: Unsupported (202)\n",
+        image: Image::Old,
+    },
+    Run {
+        words: &["-c", "runs/files", "runs/none/image"],
+        status: 3,
+        out: "",
+        err: "error: output\n",
+        image: Image::Old,
+    },
+    Run {
+        words: &["-l", "runs/none/image"],
+        status: 3,
+        out: "",
+        err: "error: input\n",
+        image: Image::Old,
+    },
+    Run {
+        words: &["runs/image"],
+        status: 2,
+        out: "",
+        err: "error: give exactly one of -c, -u, -l\n",
+        image: Image::Old,
+    },
+];
+
+// A folder with two files, in a folder of the test's own.
+fn make_files<R: Files + AllocGlobal>(rt: &R, place: &str) -> io::Result<()> {
+    let folder = format!(in rt.alloc(); "{place}/files")?;
+    let a = format!(in rt.alloc(); "{place}/files/a")?;
+    let b = format!(in rt.alloc(); "{place}/files/b")?;
+    let _ = fs::remove_dir_all(rt, place);
+    fs::create_dir_all(rt, folder.as_str())?;
+    fs::write(rt, a.as_str(), b"hello")?;
+    fs::write(rt, b.as_str(), b"")
+}
+
+// What a run answers: its status, and what it wrote.
+#[derive(Drop)]
+struct Answer {
+    status: u8,
+    out: Vec<u8>,
+    err: Vec<u8>,
+}
+
+fn words_of(alloc: Global, words: &[&str]) -> Result<Vec<String>, AllocError> {
+    let mut all = vec![in alloc; String::from_str(alloc, "mklittlefs")?]?;
+    for word in words {
+        all.push(String::from_str(alloc, word)?)?;
+    }
+    Ok(all)
+}
+
+fn told<R: Files + AllocGlobal + Clone + Drop>(rt: &R, words: io::Result<Vec<String>>) -> Answer {
+    let mut out = Watched::new(Vec::new(rt.alloc()));
+    let mut err = Watched::new(Vec::new(rt.alloc()));
+    let status = answer(rt, words, &mut out, &mut err);
+    Answer {
+        status,
+        out: out.inner,
+        err: err.inner,
+    }
+}
+
+fn is_told(told: &Answer, status: u8, out: &str, err: &str) -> bool {
+    told.status == status
+        && told.out.as_slice() == out.as_bytes()
+        && told.err.as_slice() == err.as_bytes()
+}
+
+fn image_behind<R: Files + AllocGlobal>(rt: &R) -> io::Result<Image> {
+    let bytes = fs::read(rt, "runs/image")?;
+    if bytes.as_slice() == OLD {
+        return Ok(Image::Old);
+    }
+    Ok(Image::New(bytes.len()))
+}
+
+// Whether a run does what it is to do.
+fn holds<R: Files + AllocGlobal + Clone + Drop>(rt: &R, run: &Run) -> io::Result<bool> {
+    fs::write(rt, "runs/image", OLD)?;
+    let words = words_of(rt.alloc(), run.words)?;
+    let told = told(rt, Ok(words));
+    let image = image_behind(rt)?;
+    Ok(is_told(&told, run.status, run.out, run.err) && image == run.image)
+}
+
+#[test]
+fn runs(rt: HostRuntime) -> Result<(), Fail> {
+    make_files(&rt, "runs")?;
+    for run in &RUNS {
+        assert!(rt; holds(&rt, run)?, "{:?}", run.words);
+    }
+    fs::remove_dir_all(&rt, "runs")?;
+    Ok(())
+}
+
+// What is listed of an image that was made with these options.
+const LISTED: [(&[&str], &[&str]); 2] = [
+    (
+        &["-c", "listed/files", "listed/image"],
+        &["-l", "listed/image"],
+    ),
+    (
+        &["-c", "listed/files", "-s", "4096", "-b", "1024", "-p", "128", "listed/image"],
+        &["-l", "listed/image", "-b", "1024", "-p", "128"],
+    ),
+];
+
+#[test]
+fn what_was_made_is_listed(rt: HostRuntime) -> Result<(), Fail> {
+    make_files(&rt, "listed")?;
+    for (making, listing) in LISTED {
+        let made = told(&rt, Ok(words_of(rt.alloc(), making)?));
+        let listed = told(&rt, Ok(words_of(rt.alloc(), listing)?));
+        assert!(rt; made.status == 0 && is_told(&listed, 0, "f 5 /a\nf 0 /b\n", ""));
+    }
+    fs::remove_dir_all(&rt, "listed")?;
+    Ok(())
+}
+
+#[test]
+fn words_are_missing(rt: HostRuntime) {
+    let memory = told(&rt, Err(io::Error::from(io::ErrorKind::OutOfMemory)));
+    assert!(rt; is_told(&memory, 1, "", "error: NoMemory (12)\n"));
+    let text = told(&rt, Err(io::Error::from(io::ErrorKind::InvalidData)));
+    assert!(rt; is_told(&text, 2, "", "error: the command line is not UTF-8\n"));
+}

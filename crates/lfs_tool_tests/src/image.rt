@@ -1,0 +1,90 @@
+// Images, in their tags and bytes.
+
+use std::alloc::{AllocError, Global};
+
+// What a commit holds: each tag with its bytes.
+pub(crate) type Entries<'a> = &'a [(u32, &'a [u8])];
+
+// The superblock's struct: version 2.0, 16 blocks of 4,096 bytes, and three limits.
+const FIELDS: [u8; 24] = [
+    0, 0, 2, 0, 0, 16, 0, 0, 16, 0, 0, 0, 255, 0, 0, 0, 255, 255, 255, 127, 254, 3, 0, 0,
+];
+
+// The commits behind the superblock's in which a file moves from slot to slot.
+pub(crate) const SHIFTING: [Entries<'static>; 4] = [
+    &[(0x4010_0400, b""), (0x0010_0401, b"b"), (0x2010_0400, b"")],
+    &[(0x4010_0400, b""), (0x0010_0401, b"a"), (0x2010_0400, b"")],
+    &[(0x4ff0_0400, b"")],
+    &[(0x3410_0401, b"x")],
+];
+
+// The checksum, bit by bit.
+fn checksum(bytes: &[u8]) -> u32 {
+    let mut sum = 0xffff_ffffu32;
+    for byte in bytes {
+        sum ^= u32::from(*byte);
+        for _ in 0..8 {
+            sum = if sum & 1 == 1 {
+                sum >> 1 ^ 0xedb8_8320
+            } else {
+                sum >> 1
+            };
+        }
+    }
+    sum
+}
+
+// Fills up with 0xff to a multiple of a length.
+fn fill(bytes: &mut Vec<u8>, len: usize) -> Result<(), AllocError> {
+    let len = bytes.len().next_multiple_of(len);
+    bytes.resize(len, 0xff)
+}
+
+// Adds a commit behind the last tag, up to the next page of 256 bytes, and gives its own last tag.
+fn push_commit(bytes: &mut Vec<u8>, last: u32, entries: Entries<'_>) -> Result<u32, AllocError> {
+    let start = match bytes.len() {
+        4 => 0,
+        len => len,
+    };
+    let mut last = last;
+    for (tag, data) in entries {
+        bytes.extend_from_slice(&(tag ^ last).to_be_bytes())?;
+        bytes.extend_from_slice(data)?;
+        last = *tag;
+    }
+    let used = (bytes.len() % 256 + 8) % 256;
+    let tag = 0x500f_fc04 + ((256 - used) % 256) as u32;
+    bytes.extend_from_slice(&(tag ^ last).to_be_bytes())?;
+    let sum = checksum(bytes.get(start..).unwrap_or_default());
+    bytes.extend_from_slice(&sum.to_le_bytes())?;
+    fill(bytes, 256)?;
+    Ok(tag)
+}
+
+// A block with the superblock in its first commit, and these behind it.
+pub(crate) fn block_of(
+    alloc: Global,
+    revision: u32,
+    commits: &[Entries<'_>],
+) -> Result<Vec<u8>, AllocError> {
+    let mut bytes = Vec::from_slice(alloc, &revision.to_le_bytes())?;
+    let superblock = [(0x0ff0_0008, b"littlefs".as_slice()), (0x2010_0018, &FIELDS)];
+    let mut last = push_commit(&mut bytes, 0xffff_ffff, &superblock)?;
+    for entries in commits {
+        last = push_commit(&mut bytes, last, entries)?;
+    }
+    Ok(bytes)
+}
+
+// An image of 16 blocks of 4,096 bytes, of which these are the first two.
+pub(crate) fn image_of(
+    alloc: Global,
+    first: &[u8],
+    second: &[u8],
+) -> Result<Vec<u8>, AllocError> {
+    let mut image = Vec::from_slice(alloc, first)?;
+    image.resize(4096, 0xff)?;
+    image.extend_from_slice(second)?;
+    image.resize(65536, 0xff)?;
+    Ok(image)
+}

@@ -1,0 +1,206 @@
+// Images and what is listed of them.
+
+use crate::image::{Entries, SHIFTING, block_of, image_of};
+use crate::shown::shown;
+use std::alloc::{AllocError, Global};
+use std::test::Fail;
+
+const CORRUPT: &str = "error: Corrupt (84)\n";
+const INVALID: &str = "error: Invalid (22)\n";
+const UNSUPPORTED: &str = "error: Unsupported (202)\n";
+
+const PAIR: &[u8] = &[2, 0, 0, 0, 3, 0, 0, 0];
+const NO_PAIR: &[u8] = &[0xff; 8];
+
+// A second commit of these entries, and what is listed.
+const COMMITS: [(Entries<'static>, &str); 19] = [
+    // bytes that are shown as numbers, of an empty file and of one of five bytes
+    (
+        &[(0x0010_0405, b"a\n\\\xc3\xa9"), (0x2010_0400, b"")],
+        "f 0 /a\\x0a\\x5c\\xc3\\xa9\n",
+    ),
+    (
+        &[(0x0010_0405, b"a\n\\\xc3\xa9"), (0x2010_0405, b"hello")],
+        "f 5 /a\\x0a\\x5c\\xc3\\xa9\n",
+    ),
+    // a directory, a list of blocks, a directory whose name is bad, a tail
+    (&[(0x0020_0401, b"d"), (0x2000_0408, PAIR)], UNSUPPORTED),
+    (&[(0x0010_0401, b"a"), (0x2020_0408, PAIR)], UNSUPPORTED),
+    (&[(0x0020_0401, b"/"), (0x2010_0400, b"")], UNSUPPORTED),
+    (&[(0x600f_fc08, PAIR), (0x7fff_fc0c, &[0; 12])], UNSUPPORTED),
+    // a sync bit, an id without a move, and a move state that says nothing
+    (
+        &[
+            (0x600f_fc08, NO_PAIR),
+            (0x7fff_fc0c, &[0, 0, 0, 0x80, 0, 0, 0, 0, 0, 0, 0, 0]),
+        ],
+        UNSUPPORTED,
+    ),
+    (
+        &[
+            (0x600f_fc08, NO_PAIR),
+            (0x7fff_fc0c, &[0, 4, 0, 0, 0, 0, 0, 0, 0, 0, 0, 0]),
+        ],
+        UNSUPPORTED,
+    ),
+    (
+        &[
+            (0x600f_fc08, NO_PAIR),
+            (0x7fff_fc0c, &[0xff, 3, 0, 0, 0, 0, 0, 0, 0, 0, 0, 0]),
+        ],
+        "",
+    ),
+    // a superblock that isn't the first, a name twice, a name out of order
+    (&[(0x0ff0_0408, b"littlefs"), (0x2010_0400, b"")], CORRUPT),
+    (
+        &[
+            (0x0010_0401, b"a"),
+            (0x2010_0400, b""),
+            (0x0010_0801, b"a"),
+            (0x2010_0800, b""),
+        ],
+        CORRUPT,
+    ),
+    (
+        &[
+            (0x0010_0801, b"a"),
+            (0x2010_0800, b""),
+            (0x0010_0401, b"b"),
+            (0x2010_0400, b""),
+        ],
+        CORRUPT,
+    ),
+    // names that no entry may have
+    (&[(0x0010_0400, b""), (0x2010_0400, b"")], CORRUPT),
+    (&[(0x0010_0402, b".."), (0x2010_0400, b"")], CORRUPT),
+    (&[(0x0010_0403, b"a/b"), (0x2010_0400, b"")], CORRUPT),
+    // a file with a directory's struct, and one without a struct
+    (&[(0x0010_0401, b"a"), (0x2000_0408, PAIR)], CORRUPT),
+    (&[(0x0010_0401, b"a"), (0x3410_0400, b"")], CORRUPT),
+    // a slot in front of the superblock's, and a struct for a slot that isn't there
+    (
+        &[(0x4010_0000, b""), (0x0010_0001, b"a"), (0x2010_0000, b"")],
+        CORRUPT,
+    ),
+    (
+        &[
+            (0x0010_0401, b"a"),
+            (0x2010_0400, b""),
+            (0x2010_0800, b""),
+        ],
+        CORRUPT,
+    ),
+];
+
+// A second block behind the first one of `SHIFTING`: its revision, its second commit, and what is listed.
+const SECONDS: [(u32, Entries<'static>, &str); 2] = [
+    (0xffff_ffff, &[], "f 0 /b\n"),
+    (2, &[(0x0010_0401, b"c"), (0x2010_0400, b"")], "f 0 /c\n"),
+];
+
+// A byte of the image of `SHIFTING`, the bits in it that are flipped, and what is listed.
+const FLIPPED: [(usize, u8, &str); 4] = [
+    (0, 0, "f 0 /b\n"),
+    (264, 0x62 ^ 0x63, ""),
+    (776, 0xff, "f 0 /a\nf 0 /b\n"),
+    (48, 0xff, CORRUPT),
+];
+
+// Sizes of a block and of a page, and what is listed of a fresh image.
+const SIZES: [(u32, u32, &str); 6] = [
+    (4096, 256, ""),
+    (0, 256, INVALID),
+    (4096, 0, INVALID),
+    (512, 64, INVALID),
+    (65536, 256, INVALID),
+    (1024, 128, CORRUPT),
+];
+
+// How many bytes 0xff are an image, and what is listed of it.
+const BLANK: [(usize, &str); 3] = [(0, INVALID), (4100, INVALID), (65536, CORRUPT)];
+
+// Whether an image of 16 blocks of 4,096 bytes lists as the text.
+fn lists(alloc: Global, image: &[u8], text: &str) -> Result<bool, AllocError> {
+    let lines = shown(alloc, image, 4096, 256)?;
+    Ok(lines.as_slice() == text.as_bytes())
+}
+
+fn lists_commit(alloc: Global, entries: Entries<'_>, text: &str) -> Result<bool, AllocError> {
+    let block = block_of(alloc, 1, &[entries])?;
+    let image = image_of(alloc, block.as_slice(), &[])?;
+    lists(alloc, image.as_slice(), text)
+}
+
+#[test]
+fn second_commits(rt: HostRuntime) -> Result<(), Fail> {
+    for (entries, text) in COMMITS {
+        assert!(rt; lists_commit(rt.alloc(), entries, text)?, "{entries:?}");
+    }
+    Ok(())
+}
+
+fn lists_second(
+    alloc: Global,
+    revision: u32,
+    entries: Entries<'_>,
+    text: &str,
+) -> Result<bool, AllocError> {
+    let first = block_of(alloc, 1, &SHIFTING)?;
+    let second = block_of(alloc, revision, &[entries])?;
+    let image = image_of(alloc, first.as_slice(), second.as_slice())?;
+    lists(alloc, image.as_slice(), text)
+}
+
+#[test]
+fn second_blocks(rt: HostRuntime) -> Result<(), Fail> {
+    for (revision, entries, text) in SECONDS {
+        assert!(rt; lists_second(rt.alloc(), revision, entries, text)?, "{revision}");
+    }
+    Ok(())
+}
+
+#[test]
+fn a_first_block_without_a_commit(rt: HostRuntime) -> Result<(), Fail> {
+    let (revision, entries, text) = SECONDS[1];
+    let second = block_of(rt.alloc(), revision, &[entries])?;
+    let image = image_of(rt.alloc(), &[0; 4], second.as_slice())?;
+    assert!(rt; lists(rt.alloc(), image.as_slice(), text)?);
+    Ok(())
+}
+
+fn lists_flipped(alloc: Global, at: usize, bits: u8, text: &str) -> Result<bool, AllocError> {
+    let block = block_of(alloc, 1, &SHIFTING)?;
+    let mut image = image_of(alloc, block.as_slice(), &[])?;
+    if let Some(byte) = image.get_mut(at) {
+        *byte ^= bits;
+    }
+    lists(alloc, image.as_slice(), text)
+}
+
+#[test]
+fn bad_bytes(rt: HostRuntime) -> Result<(), Fail> {
+    for (at, bits, text) in FLIPPED {
+        assert!(rt; lists_flipped(rt.alloc(), at, bits, text)?, "{at}");
+    }
+    Ok(())
+}
+
+#[test]
+fn sizes_of_a_fresh_image(rt: HostRuntime) -> Result<(), Fail> {
+    let block = block_of(rt.alloc(), 1, &[])?;
+    let image = image_of(rt.alloc(), block.as_slice(), &[])?;
+    for (block_size, page, text) in SIZES {
+        let lines = shown(rt.alloc(), image.as_slice(), block_size, page)?;
+        assert!(rt; lines.as_slice() == text.as_bytes(), "{block_size}, {page}");
+    }
+    Ok(())
+}
+
+#[test]
+fn blank_images(rt: HostRuntime) -> Result<(), Fail> {
+    for (len, text) in BLANK {
+        let image = Vec::from_elem(rt.alloc(), 0xffu8, len)?;
+        assert!(rt; lists(rt.alloc(), image.as_slice(), text)?, "{len}");
+    }
+    Ok(())
+}

@@ -1,14 +1,17 @@
--- What stays unprogrammed where a part of a block is programmed.
+-- What stays where a part of a block is programmed.
 use Rattle.std.proofs.Common.{◌≡◌, ◌≤◌, ◌<◌, ℕ, ◌+◌, Bool, true, false, nat_le, nat_lt, ◌==◌, length, arith, List, ◌∷◌, ◌++◌, ◌-◌, ◌*◌, ◌/◌, ◌%◌, take, drop, slice_range, not, ◌&&◌, inl, inr, refl, sym, ◌∙◌, ap, subst}
 use Rattle.std.proofs.lemmas.Bool.Decides.{nat_tests}
 use Rattle.std.proofs.Math.Nat.{mul-le-mul_left, add-mul-mod_self_right}
 use Rattle.std.proofs.lemmas.Bool.{cases_lt, cases_eq}
 use Rattle.std.proofs.lemmas.List.{take-take, drop-take, take-append-drop}
 use Rattle.std.proofs.lemmas.Nat.{div-add-mod'}
-use Rattle.lfs_model.specs.Blocks.{Blocks, SameOutside, block_in, programmed}
-use Rattle.lfs_model.proofs.Overwrites.{SameOutside-trans, SameOutside-wider, SameOutside-programmed}
-use Rattle.lfs_model.specs.History.{Event, event, Read, Program, unprogrammed, unprogrammed_after}
-use Rattle.lfs_device.specs.Partial.{KeepsUnprogrammed}
+use Rattle.std.specs.Prelude.{Result, Ok, Err, OnOk, OnErr, is_err}
+use Rattle.lfs_model.specs.Blocks.{Blocks, SameBut, SameOutside, block_in, programmed}
+use Rattle.lfs_model.proofs.Overwrites.{SameBut-refl, SameBut-trans, SameOutside-refl, SameOutside-trans, SameOutside-wider, SameOutside-programmed}
+use Rattle.lfs_model.specs.History.{Call, Event, event, faults, Read, Program, unprogrammed, unprogrammed_after}
+use Rattle.lfs_device.specs.declared.device.BlockDevice.{Ghosts}
+use Rattle.lfs_device.specs.declared.error.Error.{Error}
+use Rattle.lfs_device.specs.Partial.{KeepsUnprogrammed, ChangesPart}
 
 pub keeps-none : (b low high : ℕ) (history : List Event) → KeepsUnprogrammed b low high history history
 keeps-none b low high history = record { elsewhere = λ other k ne was. was; below = λ k lt was. was; above = λ k le was. was }
@@ -51,12 +54,70 @@ keeps-program {old} {b = b} {off = off} {bytes = bytes} is = record {
       ap (λ (h : List Event). unprogrammed h b k) is ∙ grind (arith, nat_tests, still, past);
 }
 
--- a program, and behind it a change within a page
-pub within_both : (blocks mid new : Blocks) (b off at width len : ℕ) (first : List ℕ) → b < length blocks → off ≤ length (block_in blocks b) → mid ≡ programmed blocks b off first → at ≡ off + length first → length first + width ≤ len
-    → SameOutside at (at + width) (block_in mid b) (block_in new b) → SameOutside off (off + len) (block_in blocks b) (block_in new b)
-within_both blocks mid new b off at width len first lt fits is next room later =
-    let before : SameOutside off (off + length first) (block_in blocks b) (block_in mid b) = rw is (SameOutside-programmed blocks b off first lt fits) in
-    SameOutside-trans (SameOutside-wider off (off + len) before (omega arith) (omega arith)) (SameOutside-wider off (off + len) later (omega arith) (omega arith))
+more_faults : {old new : List Event} {call : Call} {before after : Blocks} {failed : Bool} → new ≡ event call before after failed ∷ old → faults old ≤ faults new
+more_faults {old} {failed = failed} is = subst (λ (h : List Event). faults old ≤ faults h) (sym is) (omega arith)
+
+-- ---- a change of a part
+
+module _ {D : Type 0} (g : Ghosts D) where
+  pub ChangesPart-none : (b low high : ℕ) (d : D) → ChangesPart g b low high d d
+  ChangesPart-none b low high d = record {
+    within = SameOutside-refl low high (block_in (g.blocks d) b);
+    others = SameBut-refl b (g.blocks d);
+    geometry = refl;
+    faults = omega arith;
+    keeps = keeps-none b low high (g.history d);
+  }
+
+  pub ChangesPart-trans : {b low high : ℕ} {old mid new : D} → ChangesPart g b low high old mid → ChangesPart g b low high mid new → ChangesPart g b low high old new
+  ChangesPart-trans first second = record {
+    within = SameOutside-trans first.within second.within;
+    others = SameBut-trans first.others second.others;
+    geometry = second.geometry ∙ first.geometry;
+    faults = omega (arith, first.faults, second.faults);
+    keeps = keeps-trans first.keeps second.keeps;
+  }
+
+  pub ChangesPart-wider : {b low high : ℕ} {old new : D} (from to : ℕ) → ChangesPart g b low high old new → from ≤ low → high ≤ to → ChangesPart g b from to old new
+  ChangesPart-wider from to part before behind = record {
+    within = SameOutside-wider from to part.within before behind;
+    others = part.others;
+    geometry = part.geometry;
+    faults = part.faults;
+    keeps = keeps-wider from to part.keeps before behind;
+  }
+
+  pub ChangesPart-read : {old new : D} {block at len : ℕ} {failed : Bool} (b low high : ℕ) → g.history new ≡ event (Read block at len) (g.blocks old) (g.blocks new) failed ∷ g.history old
+      → g.blocks new ≡ g.blocks old → g.geometry new ≡ g.geometry old → ChangesPart g b low high old new
+  ChangesPart-read {old} b low high is same geometry = record {
+    within = subst (λ (blocks : Blocks). SameOutside low high (block_in (g.blocks old) b) (block_in blocks b)) (sym same) (SameOutside-refl low high (block_in (g.blocks old) b));
+    others = subst (SameBut b (g.blocks old)) (sym same) (SameBut-refl b (g.blocks old));
+    geometry = geometry;
+    faults = more_faults is;
+    keeps = keeps-read b low high is;
+  }
+
+  pub ChangesPart-program : {old new : D} {b off : ℕ} {bytes : List ℕ} (result : Result (Unit {0}) Error) → b < length (g.blocks old) → off ≤ length (block_in (g.blocks old) b)
+      → OnOk result (g.blocks new ≡ programmed (g.blocks old) b off bytes)
+      → OnErr result (SameOutside off (off + length bytes) (block_in (g.blocks old) b) (block_in (g.blocks new) b))
+      → SameBut b (g.blocks old) (g.blocks new) → g.geometry new ≡ g.geometry old
+      → g.history new ≡ event (Program b off bytes) (g.blocks old) (g.blocks new) (is_err result) ∷ g.history old → ChangesPart g b off (off + length bytes) old new
+  ChangesPart-program {old} {new} {b} {off} {bytes} result there fits ok err others geometry is = record {
+    within = either result ok err;
+    others = others;
+    geometry = geometry;
+    faults = more_faults is;
+    keeps = keeps-program is;
+  }
+    where
+      either : (r : Result (Unit {0}) Error) → OnOk r (g.blocks new ≡ programmed (g.blocks old) b off bytes)
+          → OnErr r (SameOutside off (off + length bytes) (block_in (g.blocks old) b) (block_in (g.blocks new) b))
+          → SameOutside off (off + length bytes) (block_in (g.blocks old) b) (block_in (g.blocks new) b)
+      either (Ok u) done left = subst (λ (blocks : Blocks). SameOutside off (off + length bytes) (block_in (g.blocks old) b) (block_in blocks b)) (sym done)
+          (SameOutside-programmed (g.blocks old) b off bytes there fits)
+      either (Err e) done left = left
+
+-- ---- places in a block
 
 -- a part of a list and the part behind it
 pub take-append-slice_range : (xs : List ℕ) (m n : ℕ) → m ≤ n → take m xs ++ slice_range xs m n ≡ take n xs

@@ -2,8 +2,9 @@ ghost use Rattle.std.specs.Prelude.{◌≡◌, ◌≤◌, ◌<◌, ◌+◌, ◌%
 ghost use Rattle.lfs_model.specs.Blocks.{SameBut, SameOutside, block_in, programmed};
 ghost use Rattle.lfs_model.specs.History.{faults, unprogrammed, unprogrammed_after, AllUnprogrammed};
 ghost use Rattle.lfs_model.specs.History.Call.{Read, Program, Erase};
+ghost use Rattle.lfs_device.specs.Calls.{ReadsOnly};
 ghost use Rattle.lfs_device.specs.Carried.{NoFault, CarriedOut, stored};
-ghost use Rattle.lfs_device.specs.Partial.{KeepsUnprogrammed};
+ghost use Rattle.lfs_device.specs.Partial.{ChangesPart};
 
 use crate::fault::Extent;
 use crate::{BlockDevice, Error};
@@ -22,11 +23,9 @@ pub(crate) fn carry_out_read<D: BlockDevice>(
     ensures whole { due ≡ Some Extent.Whole → NoFault ⟦<D as BlockDevice>⟧ device.old device.new
         → buf.new ≡ slice_range (block_in (D.blocks device.old) block) off (off + length buf.old) }
     ensures bytes { OnOk result (buf.new ≡ slice_range (block_in (D.blocks device.old) block) off (off + length buf.old)) }
-    ensures same { D.blocks device.new ≡ D.blocks device.old }
-    ensures geometry { D.geometry device.new ≡ D.geometry device.old }
+    ensures device { ReadsOnly D.BlockDevice device.old device.new }
     ensures error { IfErr result (λ e. e ≡ Error.Io) }
     ensures faults { faults (D.history device.old) ≤ faults (D.history device.new) }
-    ensures keeps { (b k : ℕ) → unprogrammed (D.history device.old) b k ≡ true → unprogrammed (D.history device.new) b k ≡ true }
 {
     match due {
         None => device.read(block, off, buf),
@@ -55,12 +54,8 @@ pub(crate) fn carry_out_program<D: BlockDevice>(
     ensures stored { IfSome due (λ extent. NoFault ⟦<D as BlockDevice>⟧ device.old device.new
         → D.blocks device.new ≡ programmed (D.blocks device.old) block off (stored extent bytes.now)) }
     ensures ok { OnOk result (D.blocks device.new ≡ programmed (D.blocks device.old) block off bytes.now) }
-    ensures err { OnErr result (SameOutside off (off + length bytes.now) (block_in (D.blocks device.old) block) (block_in (D.blocks device.new) block)) }
-    ensures others { SameBut block (D.blocks device.old) (D.blocks device.new) }
-    ensures geometry { D.geometry device.new ≡ D.geometry device.old }
+    ensures part { ChangesPart D.BlockDevice block off (off + length bytes.now) device.old device.new }
     ensures error { IfErr result (λ e. e ≡ Error.Io) }
-    ensures faults { faults (D.history device.old) ≤ faults (D.history device.new) }
-    ensures keeps { KeepsUnprogrammed block off (off + length bytes.now) (D.history device.old) (D.history device.new) }
 {
     match due {
         None => device.prog(block, off, bytes),
@@ -114,12 +109,8 @@ pub(crate) fn program_first<D: BlockDevice>(
     requires ends { (off + length bytes.now) % (D.geometry device.old).page ≡ 0 }
     requires unprogrammed { AllUnprogrammed (D.history device.old) block off (off + length bytes.now) }
     ensures ok { OnOk result (D.blocks device.new ≡ programmed (D.blocks device.old) block off (take k bytes.now)) }
-    ensures within { SameOutside off (off + length bytes.now) (block_in (D.blocks device.old) block) (block_in (D.blocks device.new) block) }
-    ensures others { SameBut block (D.blocks device.old) (D.blocks device.new) }
-    ensures geometry { D.geometry device.new ≡ D.geometry device.old }
-    ensures faults { faults (D.history device.old) ≤ faults (D.history device.new) }
+    ensures part { ChangesPart D.BlockDevice block off (off + length bytes.now) device.old device.new }
     ensures err { OnErr result (faults (D.history device.old) < faults (D.history device.new)) }
-    ensures keeps { KeepsUnprogrammed block off (off + length bytes.now) (D.history device.old) (D.history device.new) }
 {
     let stored = (k as usize).min(bytes.len());
     let page = device.geometry().page as usize;
@@ -144,12 +135,8 @@ fn program_beginning<D: BlockDevice>(
     requires begins { off % (D.geometry device.old).page ≡ 0 }
     requires unprogrammed { AllUnprogrammed (D.history device.old) block off (off + (D.geometry device.old).page) }
     ensures ok { OnOk result (D.blocks device.new ≡ programmed (D.blocks device.old) block off bytes.now) }
-    ensures within { SameOutside off (off + (D.geometry device.old).page) (block_in (D.blocks device.old) block) (block_in (D.blocks device.new) block) }
-    ensures others { SameBut block (D.blocks device.old) (D.blocks device.new) }
-    ensures geometry { D.geometry device.new ≡ D.geometry device.old }
-    ensures faults { faults (D.history device.old) ≤ faults (D.history device.new) }
+    ensures part { ChangesPart D.BlockDevice block off (off + (D.geometry device.old).page) device.old device.new }
     ensures err { OnErr result (faults (D.history device.old) < faults (D.history device.new)) }
-    ensures keeps { KeepsUnprogrammed block off (off + (D.geometry device.old).page) (D.history device.old) (D.history device.new) }
 {
     let mut buffer = [0u8; 512];
     let page = &mut buffer[..device.geometry().page as usize];

@@ -2,19 +2,33 @@ use Rattle.std.proofs.Common.{◌≡◌, ◌+◌, ◌-◌, ◌%◌, length, take
 use Rattle.std.specs.Prelude.{slice_range}
 use Rattle.std.proofs.lemmas.List.{length-take-le, take_min}
 use Rattle.std.proofs.lemmas.Result.{on_ok_weaker}
-use Rattle.lfs_model.specs.Blocks.{Blocks, SameOutside, block_in, programmed}
-use Rattle.lfs_model.proofs.Overwrites.{SameOutside-wider, SameOutside-programmed, programmed_next}
-use Rattle.lfs_device.proofs.Partials.{within_both, keeps-trans, keeps-wider, keeps-program, take-append-slice_range, page_room}
+use Rattle.lfs_model.specs.Blocks.{Blocks, programmed}
+use Rattle.lfs_model.proofs.Overwrites.{programmed_next}
+use Rattle.lfs_device.proofs.Partials.{ChangesPart-trans, ChangesPart-wider, ChangesPart-program, take-append-slice_range, page_room}
 use Rattle.lfs_device.proofs.partial.program_first.Goals as goal
 
-pub returns-in_err-prog-clause-within : goal.returns-in_err-prog-clause-within
-returns-in_err-prog-clause-within g c =
+pub returns-in_err-prog-clause-part : goal.returns-in_err-prog-clause-part
+returns-in_err-prog-clause-part g c =
     let whole = c.min-stored.result - c.min-stored.result % c.geometry-page.result.page in
     let first : length (take whole c.args.bytes.now) ≡ whole = length-take-le whole c.args.bytes.now (omega arith) in
-    SameOutside-wider c.args.off (c.args.off + length c.args.bytes.now) c.in_err-prog.ensures.err (omega arith) (omega (arith, first))
+    let shape = g.met.D.BlockDevice.shape c.args.device.now in
+    ChangesPart-wider g.D.BlockDevice c.args.off (c.args.off + length c.args.bytes.now)
+    (ChangesPart-program g.D.BlockDevice c.prog.result (omega (arith, shape.count, c.requires.in_device)) (omega (arith, shape.sizes c.args.block c.requires.in_device, c.requires.in_block))
+    c.prog.ensures.ok c.prog.ensures.err c.prog.ensures.others c.prog.ensures.geometry c.prog.ensures.history)
+    (omega arith) (omega (arith, first))
 
-pub returns-clause-within : goal.returns-clause-within
-returns-clause-within g c =
+pub returns-then-whole-stored-clause-part : goal.returns-then-whole-stored-clause-part
+returns-then-whole-stored-clause-part g c =
+    let whole = c.min-stored.result - c.min-stored.result % c.geometry-page.result.page in
+    let first : length (take whole c.args.bytes.now) ≡ whole = length-take-le whole c.args.bytes.now (omega arith) in
+    let shape = g.met.D.BlockDevice.shape c.args.device.now in
+    ChangesPart-wider g.D.BlockDevice c.args.off (c.args.off + length c.args.bytes.now)
+    (ChangesPart-program g.D.BlockDevice c.prog.result (omega (arith, shape.count, c.requires.in_device)) (omega (arith, shape.sizes c.args.block c.requires.in_device, c.requires.in_block))
+    c.prog.ensures.ok c.prog.ensures.err c.prog.ensures.others c.prog.ensures.geometry c.prog.ensures.history)
+    (omega arith) (omega (arith, first))
+
+pub returns-clause-part : goal.returns-clause-part
+returns-clause-part g c =
     let page = c.geometry-page.result.page in
     let whole = c.min-stored.result - c.min-stored.result % page in
     let first : length (take whole c.args.bytes.now) ≡ whole = length-take-le whole c.args.bytes.now (omega arith) in
@@ -22,17 +36,12 @@ returns-clause-within g c =
     let then : (g.D.BlockDevice.geometry c.prog.new.self).page ≡ page = grind arith in
     let room = page_room c.args.off c.min-stored.result (length c.args.bytes.now) page (rw known at c.requires.begins) (rw known at c.requires.ends) (omega arith) (omega arith) in
     let shape = g.met.D.BlockDevice.shape c.args.device.now in
-    within_both _ _ _ _ _ _ _ _ (take whole c.args.bytes.now) (omega (arith, shape.count, c.requires.in_device)) (omega (arith, shape.sizes c.args.block c.requires.in_device, c.requires.in_block))
-    c.in_ok-prog.ensures.ok (omega (arith, first)) (omega (arith, first, then, room)) c.program_beginning.ensures.within
-
-pub returns-then-whole-stored-clause-within : goal.returns-then-whole-stored-clause-within
-returns-then-whole-stored-clause-within g c =
-    let whole = c.min-stored.result - c.min-stored.result % c.geometry-page.result.page in
-    let first : length (take whole c.args.bytes.now) ≡ whole = length-take-le whole c.args.bytes.now (omega arith) in
-    let shape = g.met.D.BlockDevice.shape c.args.device.now in
-    let same : SameOutside c.args.off (c.args.off + length (take whole c.args.bytes.now)) (block_in (g.D.BlockDevice.blocks c.args.device.now) c.args.block) (block_in (g.D.BlockDevice.blocks c.prog.new.self) c.args.block) =
-    rw c.in_ok-prog.ensures.ok (SameOutside-programmed (g.D.BlockDevice.blocks c.args.device.now) c.args.block c.args.off (take whole c.args.bytes.now) (omega (arith, shape.count, c.requires.in_device)) (omega (arith, shape.sizes c.args.block c.requires.in_device, c.requires.in_block))) in
-    SameOutside-wider c.args.off (c.args.off + length c.args.bytes.now) same (omega arith) (omega (arith, first))
+    ChangesPart-trans g.D.BlockDevice
+    (ChangesPart-wider g.D.BlockDevice c.args.off (c.args.off + length c.args.bytes.now)
+    (ChangesPart-program g.D.BlockDevice c.prog.result (omega (arith, shape.count, c.requires.in_device)) (omega (arith, shape.sizes c.args.block c.requires.in_device, c.requires.in_block))
+    c.prog.ensures.ok c.prog.ensures.err c.prog.ensures.others c.prog.ensures.geometry c.prog.ensures.history)
+    (omega arith) (omega (arith, first)))
+    (ChangesPart-wider g.D.BlockDevice c.args.off (c.args.off + length c.args.bytes.now) c.program_beginning.ensures.part (omega arith) (omega (arith, then, room)))
 
 pub returns-clause-ok : goal.returns-clause-ok
 returns-clause-ok g c =
@@ -49,14 +58,3 @@ returns-clause-ok g c =
     ∙ ap (λ n. programmed (programmed old c.args.block c.args.off (take whole bytes)) c.args.block (c.args.off + n) rest) (sym first)
     ∙ programmed_next old c.args.block c.args.off (take whole bytes) rest (omega (arith, shape.count, c.requires.in_device)) (omega (arith, size, shape.sizes c.args.block c.requires.in_device, c.requires.in_block))
     ∙ ap (λ (l : List ℕ). programmed old c.args.block c.args.off l) (both ∙ ap (λ n. take n bytes) c.min-stored.ensures ∙ take_min c.args.k bytes)) c.program_beginning.ensures.ok
-
-pub returns-clause-keeps : goal.returns-clause-keeps
-returns-clause-keeps g c =
-    let page = c.geometry-page.result.page in
-    let whole = c.min-stored.result - c.min-stored.result % page in
-    let first : length (take whole c.args.bytes.now) ≡ whole = length-take-le whole c.args.bytes.now (omega arith) in
-    let known : (g.D.BlockDevice.geometry c.args.device.now).page ≡ page = grind arith in
-    let then : (g.D.BlockDevice.geometry c.prog.new.self).page ≡ page = grind arith in
-    let room = page_room c.args.off c.min-stored.result (length c.args.bytes.now) page (rw known at c.requires.begins) (rw known at c.requires.ends) (omega arith) (omega arith) in
-    keeps-trans (keeps-wider c.args.off (c.args.off + length c.args.bytes.now) (keeps-program c.in_ok-prog.ensures.history) (omega arith) (omega (arith, first)))
-    (keeps-wider c.args.off (c.args.off + length c.args.bytes.now) c.program_beginning.ensures.keeps (omega arith) (omega (arith, then, room)))

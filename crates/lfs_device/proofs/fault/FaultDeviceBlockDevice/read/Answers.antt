@@ -1,6 +1,7 @@
-use Rattle.std.proofs.Common.{rules, ◌≡◌, ◌∷◌, length, is_err}
+use Rattle.std.proofs.Common.{rules, ◌≡◌, ◌∙◌, ◌∷◌, length, is_err}
 use Rattle.lfs_model.specs.History.{event}
 use Rattle.lfs_model.specs.History.Call.{Read}
+use Rattle.lfs_model.proofs.Histories.{unprogrammed-reads}
 use Rattle.lfs_device.specs.Fault.{due}
 use Rattle.lfs_device.specs.Carried.{CarriedOut}
 use Rattle.lfs_device.proofs.Faults.{due_failed-call, below-call}
@@ -18,4 +19,4 @@ pub invariant_of-self-clause-due_failed : goal.invariant_of-self-clause-due_fail
 invariant_of-self-clause-due_failed g c = due_failed-call g.D.BlockDevice c.args.self.now.fault c.args.self.now.inner c.carry_out_read-outcome.new.device (carried g c) (newest g c) c.args.self.now.due_failed
 
 pub invariant_of-self-clause-below : goal.invariant_of-self-clause-below
-invariant_of-self-clause-below g c = below-call (g.D.BlockDevice.history c.args.self.now.inner) (g.D.BlockDevice.history c.carry_out_read-outcome.new.device) (newest g c) c.args.self.now.below (c.carry_out_read-outcome.ensures.keeps)
+invariant_of-self-clause-below g c = below-call (g.D.BlockDevice.history c.args.self.now.inner) (g.D.BlockDevice.history c.carry_out_read-outcome.new.device) (newest g c) c.args.self.now.below (λ b k was. unprogrammed-reads b k c.carry_out_read-outcome.ensures.device.reads ∙ was)

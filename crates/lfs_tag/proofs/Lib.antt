@@ -7,8 +7,7 @@ pub mod Effects
 pub mod Held
 pub mod Searches
 pub mod Summaries
-pub mod Finds
-pub mod Answered
+pub mod Ranks
 pub mod BuilderWrites
 pub mod BuilderEntries
 pub mod BuilderCommits

@@ -1,70 +1,58 @@
--- How the slot with the least id that has such a name is found, by taking a log's entries forward.
-use Rattle.std.specs.Prelude.{ℕ, ◌+◌, ◌-◌, ◌==◌, ◌&&◌, not, nat_lt, nat_le, max, if◌then◌else◌, Bool, true, false, List, [], ◌∷◌, Option, Some, None}
-use Rattle.std.specs.Option.{option_and_then, option_map, option_map_or}
+-- How each slot's name stands to a wanted one, kept while a log's entries are taken forward.
+use Rattle.std.specs.Prelude.{ℕ, ◌+◌, ◌-◌, ◌==◌, ◌&&◌, not, nat_lt, nat_le, if◌then◌else◌, Bool, false, List, [], ◌∷◌, ◌++◌, length, replicate, slice_set, Option, Some, None}
+use Rattle.std.specs.Option.{option_map, option_map_or}
+use Rattle.std.specs.List.{insert, remove}
+use Rattle.std.specs.declared.cmp.Ordering.{Ordering}
+use Rattle.std.specs.declared.cmp.Ordering.TheVariants.{Less, Equal, Greater}
 use Rattle.lfs_model.specs.Tag.{kind_of, id_of, class_of}
 use Rattle.lfs_model.specs.Log.{LogEntry}
-use Rattle.lfs_model.specs.Names.{Name}
-use Rattle.lfs_model.specs.Content.{create_type, superblock_name_type}
+use Rattle.lfs_model.specs.Names.{Name, name_cmp}
+use Rattle.lfs_model.specs.Content.{RawSlot, create_type, superblock_name_type}
+use Rattle.lfs_model.specs.Lookup.{entry_name}
 
--- the id that a slot has behind an entry; none where the entry removes it or names it anew
-abbrev pub id_behind : LogEntry → ℕ → Option ℕ
-id_behind e id =
-    if class_of e.tag == 0 then (if id_of e.tag == id then None else Some id)
-    else (if not (class_of e.tag == 4) then Some id
-    else (if kind_of e.tag == create_type then Some (if nat_le (id_of e.tag) id then id + 1 else id)
-    else (if id_of e.tag == id then None else Some (if nat_lt (id_of e.tag) id then id - 1 else id))))
+-- how a wanted name stands to a slot's; none where the slot has no name that is looked up
+abbrev pub rank_of : Name → RawSlot → Option Ordering
+rank_of name s = option_map (name_cmp name) (entry_name s)
 
--- and behind all of these
-abbrev pub final_id : List LogEntry → ℕ → Option ℕ
-final_id [] id = Some id
-final_id (e ∷ es) id = option_and_then (λ next. final_id es next) (id_behind e id)
+-- to the name that an entry gives a slot
+abbrev pub entry_rank : Name → LogEntry → Option Ordering
+entry_rank name e = if kind_of e.tag == superblock_name_type then None else Some (name_cmp name e.bytes)
 
--- A slot with such a name: its id behind all entries, and behind those so far.
-pub record Candidate : Type 0 where
-  pub id : ℕ
-  pub place : ℕ
+abbrev pub ranks_up_to : List (Option Ordering) → ℕ → List (Option Ordering)
+ranks_up_to ranks id = ranks ++ replicate (id + 1 - length ranks) None
 
-abbrev pub with_place : ℕ → ℕ → Candidate
-with_place id place = record { id = id; place = place }
+-- the ranks behind a create or a delete
+abbrev pub spliced : List (Option Ordering) → LogEntry → List (Option Ordering)
+spliced ranks e =
+    if kind_of e.tag == create_type
+    then (if nat_le (id_of e.tag) (length ranks) then insert ranks (id_of e.tag) None else ranks)
+    else (if nat_lt (id_of e.tag) (length ranks) then remove ranks (id_of e.tag) else ranks)
 
-abbrev pub moved : LogEntry → Option Candidate → Option Candidate
-moved e None = None
-moved e (Some c) = option_map (λ place. with_place c.id place) (id_behind e c.place)
+-- the ranks behind an entry, and behind all of these
+abbrev pub ranks_after : Name → List (Option Ordering) → LogEntry → List (Option Ordering)
+ranks_after name ranks e =
+    if class_of e.tag == 0 then slice_set (ranks_up_to ranks (id_of e.tag)) (id_of e.tag) (entry_rank name e)
+    else (if class_of e.tag == 4 then spliced ranks e else ranks)
 
--- the entry gives a slot such a name
-abbrev pub names_so : (Name → Bool) → LogEntry → Bool
-names_so passes e = class_of e.tag == 0 && (not (kind_of e.tag == superblock_name_type) && passes e.bytes)
+abbrev pub ranks_after_all : Name → List (Option Ordering) → List LogEntry → List (Option Ordering)
+ranks_after_all name ranks [] = ranks
+ranks_after_all name ranks (e ∷ es) = ranks_after_all name (ranks_after name ranks e) es
 
--- a slot in front of the candidate is in front of it behind all entries
-abbrev pub is_in_front : ℕ → Option Candidate → Bool
-is_in_front place None = true
-is_in_front place (Some c) = nat_lt place c.place
+-- ---- the first slot
+
+-- what is looked for: a name, or one behind it
+abbrev pub is_wanted : Bool → Ordering → Bool
+is_wanted same Less = not same
+is_wanted same Equal = same
+is_wanted same Greater = false
 
 abbrev pub is_skipped : Option ℕ → ℕ → Bool
 is_skipped skip id = option_map_or (λ k. k == id) skip false
 
--- a slot that ends at this id, in place of the candidate
-abbrev pub or_else : Option ℕ → ℕ → Option Candidate → Option ℕ → Option Candidate
-or_else skip place best None = best
-or_else skip place best (Some id) = if is_skipped skip id then best else Some (with_place id place)
+abbrev pub is_first : Bool → Option ℕ → ℕ → Option Ordering → Bool
+is_first same skip id rank = option_map_or (is_wanted same) rank false && not (is_skipped skip id)
 
--- the candidate behind an entry that others follow
-abbrev pub best_behind : (Name → Bool) → Option ℕ → Option Candidate → LogEntry → List LogEntry → Option Candidate
-best_behind passes skip best e es =
-    if names_so passes e && is_in_front (id_of e.tag) (moved e best)
-    then or_else skip (id_of e.tag) (moved e best) (final_id es (id_of e.tag)) else moved e best
-
-abbrev pub best_of : (Name → Bool) → Option ℕ → Option Candidate → List LogEntry → Option Candidate
-best_of passes skip best [] = best
-best_of passes skip best (e ∷ es) = best_of passes skip (best_behind passes skip best e es) es
-
--- how many slots there are behind an entry, and behind all of these
-abbrev pub count_behind : ℕ → LogEntry → ℕ
-count_behind count e =
-    if class_of e.tag == 0 then max count (id_of e.tag + 1)
-    else (if not (class_of e.tag == 4) then count
-    else (if kind_of e.tag == create_type then count + 1 else count - 1))
-
-abbrev pub count_of : ℕ → List LogEntry → ℕ
-count_of count [] = count
-count_of count (e ∷ es) = count_of (count_behind count e) es
+-- the first wanted one of the slots from an id on, or the id past them
+abbrev pub first_from : Bool → Option ℕ → ℕ → List (Option Ordering) → ℕ
+first_from same skip id [] = id
+first_from same skip id (rank ∷ ranks) = if is_first same skip id rank then id else first_from same skip (id + 1) ranks

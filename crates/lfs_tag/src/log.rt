@@ -168,6 +168,13 @@ impl<'a> Log<'a> {
         self.revision
     }
 
+    // The bytes of the block.
+    pub(crate) fn block(&self) -> &'a [u8]
+        ensures { result.now ≡ self.now }
+    {
+        self.block
+    }
+
     /// The entries of all commits, oldest first; they can be taken from both ends. Nothing is copied.
     pub fn entries(&self) -> Entries<'a>
         ensures value { result ≡ log_entries self.now }

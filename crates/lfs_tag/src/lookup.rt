@@ -1,20 +1,18 @@
 // The slot of a name, or the place where it belongs.
 
-ghost use Rattle.std.specs.Prelude.{◌≡◌, ℕ, ◌+◌, ◌-◌, ◌≤◌, ◌<◌, ◌^◌, List, length, min, Some, None, IfSome, ◌⊎◌};
-ghost use Rattle.std.specs.Option.{option_map};
-ghost use Rattle.std.specs.declared.cmp.Ordering.{Ordering};
+ghost use Rattle.std.specs.Prelude.{◌≡◌, ℕ, ◌+◌, ◌≤◌, ◌<◌, ◌^◌, [], length, max, slice_set, Some, None};
+ghost use Rattle.std.specs.List.{insert, remove};
+ghost use Rattle.arrayvec.specs.ArrayVec.{array_vec_len};
 ghost use Rattle.lfs_model.specs.Log.{log_entries};
-ghost use Rattle.lfs_model.specs.Names.{name_cmp};
 ghost use Rattle.lfs_model.specs.Content.{RawContent, content_after_all, no_content};
-ghost use Rattle.lfs_tag.specs.Find.{id_behind, final_id, moved, names_so, is_in_front, is_skipped, best_behind, best_of, count_behind, count_of};
-ghost use Rattle.lfs_tag.specs.FindSeen.{candidate_seen, passes, Answers};
+ghost use Rattle.lfs_tag.specs.Find.{entry_rank, ranks_up_to, spliced, ranks_after, ranks_after_all, is_wanted, is_skipped, is_first, first_from};
+ghost use Rattle.lfs_tag.specs.FindSeen.{Answers};
 ghost use Rattle.lfs_tag.specs.Seen.{seen};
 
-use crate::entries::Entries;
 use crate::entry::Entry;
 use crate::kinds::{CREATE, NAME_CLASS, SPLICE_CLASS, SUPERBLOCK_NAME};
 use crate::log::Log;
-use crate::tag::Tag;
+use arrayvec::ArrayVec;
 use std::cmp::Ordering;
 
 /// Where a name stands among a log's slots.
@@ -26,194 +24,151 @@ pub enum Lookup {
     Place(u16),
 }
 
-// What is looked for: a name, or one behind it.
-#[derive(Clone, Copy, Drop)]
-enum Wanted<'a> {
-    Same(&'a [u8]),
-    Behind(&'a [u8]),
-}
+// More slots than a log of `BLOCK_MAX` bytes can come to: a name makes slots up to its id, which is
+// below 1,024, and each entry at most one.
+const SLOT_MAX: usize = 17_408;
 
-// A slot with a wanted name: its id behind all entries, and behind those so far.
-#[derive(Clone, Copy, Drop)]
-struct Candidate {
-    id: u64,
-    place: u64,
-}
+const BLOCK_MAX: usize = 65536;
 
-// The id that a slot has behind an entry; none where the entry removes it or names it anew.
-fn id_behind(entry: &Entry<'_>, id: u64) -> Option<u64>
-    requires { id < 2 ^ 64 - 1 }
-    ensures value { result ≡ id_behind (seen entry.now) id }
-    ensures near { IfSome result (λ next. next ≤ id + 1) }
-{
-    let tag = entry.tag;
-    let at = u64::from(tag.id());
-    if tag.class() == NAME_CLASS {
-        if at == id { None } else { Some(id) }
-    } else if tag.class() != SPLICE_CLASS {
-        Some(id)
-    } else if tag.kind() == CREATE {
-        Some(if at <= id { id + 1 } else { id })
-    } else if at == id {
-        None
-    } else {
-        Some(if at < id { id - 1 } else { id })
-    }
-}
-
-// The id that a slot has behind all of these entries.
-fn final_id(mut entries: Entries<'_>, mut id: u64) -> Option<u64>
-    requires { id + length entries < 2 ^ 63 }
-    ensures { result ≡ final_id entries.entry id }
-{
-    while let Some(entry) = entries.next() {
-        let Some(next) = id_behind(&entry, id) else {
-            return None;
-        };
-        id = next;
-    }
-    Some(id)
-}
-
-// The candidate behind an entry.
-fn moved(entry: &Entry<'_>, best: Option<Candidate>) -> Option<Candidate>
-    requires { IfSome best (λ b. b.place < 2 ^ 64 - 1) }
-    ensures value { option_map candidate_seen result ≡ moved (seen entry.now) (option_map candidate_seen best) }
-{
-    let Some(best) = best else {
-        return None;
-    };
-    let Some(place) = id_behind(entry, best.place) else {
-        return None;
-    };
-    Some(Candidate { id: best.id, place })
-}
-
-// Whether an entry gives a slot such a name.
-fn names_so(entry: &Entry<'_>, wanted: Wanted<'_>) -> bool
-    ensures { result ≡ names_so (passes wanted.entry) (seen entry.now) }
-{
-    if entry.tag.class() != NAME_CLASS || entry.tag.kind() == SUPERBLOCK_NAME {
-        return false;
-    }
-    match wanted {
-        Wanted::Same(name) => name.cmp(entry.bytes) == Ordering::Equal,
-        Wanted::Behind(name) => name.cmp(entry.bytes) == Ordering::Less,
-    }
-}
-
-// The candidate behind an entry that others follow.
-fn best_behind(
-    best: Option<Candidate>,
-    entry: &Entry<'_>,
-    rest: Entries<'_>,
-    wanted: Wanted<'_>,
-    skip: Option<u16>,
-) -> Option<Candidate>
-    requires room { IfSome best (λ b. b.place < 2 ^ 64 - 1) }
-    requires few { length rest < 2 ^ 62 }
-    ensures value { option_map candidate_seen result ≡ best_behind (passes wanted.entry) skip (option_map candidate_seen best) (seen entry.now) rest.entry }
-    ensures near { IfSome result (λ b. b.place < 2 ^ 10 ⊎ IfSome best (λ old. b.place ≤ old.place + 1)) }
-{
-    let best = moved(entry, best);
-    let place = u64::from(entry.tag.id());
-    if !names_so(entry, wanted) || !is_in_front(place, best) {
-        return best;
-    }
-    let Some(id) = final_id(rest, place) else {
-        return best;
-    };
-    if is_skipped(skip, id) {
-        return best;
-    }
-    Some(Candidate { id, place })
-}
-
-// Whether a slot at this place is in front of the candidate.
-fn is_in_front(place: u64, best: Option<Candidate>) -> bool
-    ensures { result ≡ is_in_front place (option_map candidate_seen best) }
-{
-    match best {
-        Some(best) => place < best.place,
-        None => true,
-    }
-}
-
-fn is_skipped(skip: Option<u16>, id: u64) -> bool
-    ensures { result ≡ is_skipped skip id }
-{
-    match skip {
-        Some(skipped) => u64::from(skipped) == id,
-        None => false,
-    }
-}
-
-// The least id that has such a name, the one at `skip` passed over.
-fn least_id(log: &Log<'_>, wanted: Wanted<'_>, skip: Option<u16>) -> Option<u64>
-    ensures { result ≡ option_map (λ c. c.id) (best_of (passes wanted.entry) skip None (log_entries log.now)) }
-{
-    let mut best = None;
-    let mut entries = log.entries();
-    while let Some(entry) = entries.next() {
-        best = best_behind(best, &entry, entries.rest(), wanted, skip);
-    }
-    match best {
-        Some(best) => Some(best.id),
-        None => None,
-    }
-}
-
-// How many slots a log comes to.
-fn slot_count(log: &Log<'_>) -> u64
-    ensures { result ≡ count_of 0 (log_entries log.now) }
-{
-    let mut count = 0u64;
-    for entry in log.entries() {
-        count = count_behind(count, &entry);
-    }
-    count
-}
-
-fn count_behind(count: u64, entry: &Entry<'_>) -> u64
-    requires { count < 2 ^ 64 - 1 }
-    ensures value { result ≡ count_behind count (seen entry.now) }
-    ensures near { result ≤ count + 1 ⊎ result ≤ 2 ^ 10 }
-{
-    let tag = entry.tag;
-    if tag.class() == NAME_CLASS {
-        count.max(u64::from(tag.id()) + 1)
-    } else if tag.class() != SPLICE_CLASS {
-        count
-    } else if tag.kind() == CREATE {
-        count + 1
-    } else {
-        count.saturating_sub(1)
-    }
-}
-
-// An id in the width of a tag's ids and more; a block of the format has no greater one.
-fn narrow(id: u64) -> u16
-    ensures { result ≡ min id (2 ^ 16 - 1) }
-{
-    u16::try_from(id).unwrap_or(u16::MAX)
-}
+// For each slot how the wanted name stands to its own; `None` where it has none, or the
+// superblock's.
+type Ranks = ArrayVec<Option<Ordering>, 17_408>;
 
 /// Where a name stands among a log's slots, or where it belongs, which is in front of the first
 /// slot with a greater name. Names are ordered by their bytes, a proper beginning first. A
 /// superblock's slot and the slot `skip` are passed over, though they keep their ids.
 ///
-/// The answer is of a log that isn't malformed, in a block of at most 65,536 bytes. It takes no
-/// memory: an entry with a wanted name is followed to the id that its slot has in the end, unless
-/// its slot stands behind the best one so far.
+/// The answer is of a log that isn't malformed, in a block of at most 65,536 bytes. The log's
+/// entries are taken once, and each name is compared once. It takes no memory but a table on the
+/// stack with a byte for each slot that a block can have.
 pub fn find(log: &Log<'_>, name: &[u8], skip: Option<u16>) -> Lookup
     ensures { (c : RawContent) → content_after_all no_content (log_entries log.now) ≡ Some c → length log.now ≤ 2 ^ 16 → Answers name.now skip c.slots result }
 {
-    if let Some(id) = least_id(log, Wanted::Same(name), skip) {
-        return Lookup::Found(narrow(id));
+    if BLOCK_MAX < log.block().len() {
+        return Lookup::Place(0);
     }
-    let place = match least_id(log, Wanted::Behind(name), skip) {
-        Some(id) => id,
-        None => slot_count(log),
-    };
-    Lookup::Place(narrow(place))
+    let mut ranks = Ranks::new();
+    rank_slots(&mut ranks, log, name);
+    let found = first(&ranks, true, skip);
+    if found < ranks.len() {
+        Lookup::Found(found as u16)
+    } else {
+        Lookup::Place(first(&ranks, false, skip) as u16)
+    }
+}
+
+// The ranks of a log's slots.
+#[tactic(auto, using(crate::proofs::Ranks::few_entries))]
+fn rank_slots(ranks: &mut Ranks, log: &Log<'_>, name: &[u8])
+    requires none { ranks.old.items ≡ [] }
+    requires small { length log.now ≤ 2 ^ 16 }
+    ensures { ranks.new.items ≡ ranks_after_all name.now [] (log_entries log.now) }
+{
+    for entry in log.entries() {
+        take(ranks, name, &entry);
+    }
+}
+
+// What an entry makes of the ranks.
+fn take(ranks: &mut Ranks, name: &[u8], entry: &Entry<'_>)
+    requires { max (array_vec_len ranks.old) 1024 < 17408 }
+    ensures ranks { ranks.new.items ≡ ranks_after name.now ranks.old.items (seen entry.now) }
+    ensures room { array_vec_len ranks.new ≤ max (array_vec_len ranks.old) 1024 + 1 }
+{
+    let class = entry.tag.class();
+    if class == NAME_CLASS {
+        put_rank(ranks, usize::from(entry.tag.id()), entry_rank(name, entry));
+    } else if class == SPLICE_CLASS {
+        splice(ranks, entry);
+    }
+}
+
+// How the wanted name stands to the one that an entry gives a slot.
+fn entry_rank(name: &[u8], entry: &Entry<'_>) -> Option<Ordering>
+    ensures { result ≡ entry_rank name.now (seen entry.now) }
+{
+    if entry.tag.kind() == SUPERBLOCK_NAME {
+        None
+    } else {
+        Some(name.cmp(entry.bytes))
+    }
+}
+
+// Ranks a slot, which may be past the end.
+fn put_rank(ranks: &mut Ranks, id: usize, rank: Option<Ordering>)
+    requires { id < 1024 }
+    ensures ranks { ranks.new.items ≡ slice_set (ranks_up_to ranks.old.items id) id rank }
+    ensures room { array_vec_len ranks.new ≤ max (array_vec_len ranks.old) 1024 }
+{
+    fill_up(ranks, id);
+    ranks[id] = rank;
+}
+
+// Adds slots without a name up to an id.
+fn fill_up(ranks: &mut Ranks, id: usize)
+    requires { id < 1024 }
+    ensures ranks { ranks.new.items ≡ ranks_up_to ranks.old.items id }
+    ensures long { id < array_vec_len ranks.new }
+    ensures room { array_vec_len ranks.new ≤ max (array_vec_len ranks.old) 1024 }
+{
+    while ranks.len() <= id {
+        ranks.push(None);
+    }
+}
+
+// Carries out a create or a delete.
+fn splice(ranks: &mut Ranks, entry: &Entry<'_>)
+    requires { array_vec_len ranks.old < 17408 }
+    ensures ranks { ranks.new.items ≡ spliced ranks.old.items (seen entry.now) }
+    ensures room { array_vec_len ranks.new ≤ array_vec_len ranks.old + 1 }
+{
+    let id = usize::from(entry.tag.id());
+    if entry.tag.kind() == CREATE {
+        if id <= ranks.len() {
+            ranks.insert(id, None);
+        }
+    } else if id < ranks.len() {
+        ranks.remove(id);
+    }
+}
+
+// The first slot whose name is the wanted one, or is behind it; the number of slots where none is.
+fn first(ranks: &[Option<Ordering>], same: bool, skip: Option<u16>) -> usize
+    ensures first { result ≡ first_from same skip 0 ranks.now }
+    ensures within { result ≤ length ranks.now }
+{
+    for (id, rank) in ranks.iter().enumerate() {
+        if is_first(same, skip, id, *rank) {
+            return id;
+        }
+    }
+    ranks.len()
+}
+
+fn is_first(same: bool, skip: Option<u16>, id: usize, rank: Option<Ordering>) -> bool
+    ensures { result ≡ is_first same skip id rank }
+{
+    match rank {
+        Some(rank) => is_wanted(same, rank) && !is_skipped(skip, id),
+        None => false,
+    }
+}
+
+fn is_wanted(same: bool, rank: Ordering) -> bool
+    ensures { result ≡ is_wanted same rank }
+{
+    match rank {
+        Ordering::Less => !same,
+        Ordering::Equal => same,
+        Ordering::Greater => false,
+    }
+}
+
+fn is_skipped(skip: Option<u16>, id: usize) -> bool
+    ensures { result ≡ is_skipped skip id }
+{
+    match skip {
+        Some(skipped) => usize::from(skipped) == id,
+        None => false,
+    }
 }

@@ -94,8 +94,8 @@ fn held_by_a_search(rt: HostRuntime) -> Result<(), Fail> {
     let block = shifting(rt.alloc())?;
     let log = Log::read(&block);
     assert_eq!(rt;
-        [held(&log, 0x341, 1), held(&log, 1, 1)],
-        [(Some(b"x".as_slice()), 2), (Some(b"b".as_slice()), 11)]
+        (held(&log, 0x341, 1), held(&log, 1, 1)),
+        ((Some(b"x".as_slice()), 2), (Some(b"b".as_slice()), 11))
     );
     Ok(())
 }
@@ -129,11 +129,11 @@ fn parts_of_slots(rt: HostRuntime) -> Result<(), Fail> {
     let block = shifting(rt.alloc())?;
     let log = Log::read(&block);
     assert_eq!(rt;
-        [parts_of(&log, 1), parts_of(&log, 2)],
-        [
+        (parts_of(&log, 1), parts_of(&log, 2)),
+        (
             (Some((1, b"b".as_slice())), Some((0x201, b"".as_slice()))),
-            (None, None),
-        ]
+            (None, None)
+        )
     );
     Ok(())
 }

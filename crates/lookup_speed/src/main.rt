@@ -1,0 +1,101 @@
+//! Look-ups in a block of 64 KiB that holds a thousand files, each created in front of the others.
+//! Prints where two names stand, and on standard error the nanoseconds that a reading of the log, a
+//! log that is known by its end, a look-up of a name, and a reading of the content take.
+#![tactic(auto)]
+
+use lfs_tag::kinds::{CREATE, FILE_NAME};
+use lfs_tag::{CommitBuilder, Content, Log, Lookup, Tag, find};
+use std::alloc::Global;
+use std::time::Instant;
+use std::{env, io};
+
+const BLOCK: usize = 65536;
+
+const FILES: u32 = 1000;
+
+// Names that fall as the numbers rise.
+fn name_of(number: u32) -> [u8; 4] {
+    u32::MAX.wrapping_sub(number).to_be_bytes()
+}
+
+// Writes the files' names into the block, in one commit.
+fn fill(block: &mut [u8]) {
+    let mut commit = CommitBuilder::new(512, block, Tag::from_bits(0xffff_ffff), Some(1));
+    for number in 0..FILES {
+        commit.push(Tag::new(CREATE, 0, 0), b"");
+        commit.push(Tag::new(FILE_NAME, 0, 4), &name_of(number));
+    }
+    let _finished = commit.finish(Some([0xff; 4]));
+}
+
+fn shown(lookup: Lookup) -> u32 {
+    match lookup {
+        Lookup::Found(id) => u32::from(id),
+        Lookup::Place(id) => 65536 + u32::from(id),
+    }
+}
+
+// The sum of the ends that so many readings of the log find.
+fn read_often(block: &[u8], rounds: u32) -> u64 {
+    let mut sum = 0u64;
+    for _ in 0..rounds {
+        sum = sum.wrapping_add(Log::read(block).end() as u64);
+    }
+    sum
+}
+
+// The same of a log that is known by its end.
+fn know_often(block: &[u8], rounds: u32) -> u64 {
+    let log = Log::read(block);
+    let (end, last) = (log.end(), log.last());
+    let mut sum = 0u64;
+    for _ in 0..rounds {
+        sum = sum.wrapping_add(Log::known(block, end, last).end() as u64);
+    }
+    sum
+}
+
+fn find_often(log: &Log<'_>, rounds: u32) -> u64 {
+    let mut sum = 0u64;
+    for round in 0..rounds {
+        sum = sum.wrapping_add(u64::from(shown(find(log, &name_of(round), None))));
+    }
+    sum
+}
+
+fn content_often(alloc: Global, log: &Log<'_>, rounds: u32) -> u64 {
+    let mut sum = 0u64;
+    for _ in 0..rounds {
+        if let Ok(content) = Content::read(alloc, log) {
+            sum = sum.wrapping_add(content.slots.len() as u64);
+        }
+    }
+    sum
+}
+
+fn main(rt: HostRuntime) -> io::Result<()> {
+    let mut rounds = 1;
+    for word in env::args(&rt)? {
+        if let Ok(number) = word.as_str().parse::<u32>() {
+            rounds = number;
+        }
+    }
+    let mut block = [0xffu8; BLOCK];
+    fill(&mut block);
+    let log = Log::read(&block);
+    println!(rt; "{} {}", shown(find(&log, &name_of(0), None)), shown(find(&log, b"\0", None)))?;
+    let start = Instant::now(&rt)?;
+    let read = read_often(&block, rounds);
+    let reading = start.elapsed(&rt)?;
+    let start = Instant::now(&rt)?;
+    let known = know_often(&block, rounds);
+    let knowing = start.elapsed(&rt)?;
+    let start = Instant::now(&rt)?;
+    let found = find_often(&log, rounds);
+    let finding = start.elapsed(&rt)?;
+    let start = Instant::now(&rt)?;
+    let contents = content_often(rt.alloc(), &log, rounds);
+    let whole = start.elapsed(&rt)?;
+    eprintln!(rt; "{read} {known} {found} {contents}")?;
+    eprintln!(rt; "{} {} {} {}", reading.as_nanos(), knowing.as_nanos(), finding.as_nanos(), whole.as_nanos())
+}

@@ -1,20 +1,20 @@
 -- An empty directory is removed by the steps themselves: its entry goes with the sync bit set, and then its pair goes from the thread.
 use Rattle.std.proofs.Common.{ℕ, ◌≡◌, ◌≢◌, ◌⊎◌, inl, inr, Bool, true, false, cond, List, [], ◌∷◌, ◌++◌, Option, Some, None, refl, sym, ap, ap₂, subst, ◌∙◌, append_assoc, append-nil, subst₂}
-use Rattle.std.specs.Prelude.{is_some}
+use Rattle.std.specs.Prelude.{All, is_some, slice_get}
 use Rattle.std.specs.List.{IsDistinct}
 use Rattle.std.proofs.Common.{nat_eq}
 use Rattle.std.proofs.lemmas.List.Elements.{All-from_recursion, recursion_from_All}
 use Rattle.std.proofs.lemmas.Bool.{false_from_ne_true}
 use Rattle.lfs_model.specs.Disk.{Disk}
-use Rattle.lfs_model.specs.Slots.{Slot, Branch, no_gstate, is_superblock, same_pair}
+use Rattle.lfs_model.specs.Slots.{Slot, Tail, Branch, no_gstate, is_superblock, same_pair}
 use Rattle.lfs_model.specs.Thread.{Pair, Listing, blocks_of, gstate_of, is_hard, superblocks_before}
 use Rattle.lfs_model.specs.Tree.{Path, Tree}
-use Rattle.lfs_model.specs.View.{IsAccepted, IsReached, IsWritable, Leads, directories_in, entries_in, tree_in}
+use Rattle.lfs_model.specs.View.{IsAccepted, IsReached, IsWritable, FitsSlot, HaveSlots, Leads, directories_in, entries_in, tree_in}
 use Rattle.lfs_model.specs.Apply.{removed, planted}
 use Rattle.lfs_model.specs.Operations as ops
 use Rattle.lfs_model.specs.Session.{Session}
 use Rattle.lfs_model.specs.Steps.{as_path}
-use Rattle.lfs_model.specs.SlotEdits.{slot_of_path}
+use Rattle.lfs_model.specs.SlotEdits.{with_slots, slot_of_path}
 use Rattle.lfs_model.specs.Layout.{begin_from, onward}
 use Rattle.lfs_model.specs.PowerLoss.{IsLeft}
 use Rattle.lfs_model.proofs.Counts.{Each, each_append, each_left, each_right, each_weaker}
@@ -25,15 +25,19 @@ use Rattle.lfs_model.proofs.Laws.{Walk}
 use Rattle.lfs_model.proofs.Changes.{Follows, chain_now}
 use Rattle.lfs_model.proofs.Sites.{Site, dirs_at, thread_at, begin_of}
 use Rattle.lfs_model.proofs.Splices.{IsDevice, splice_change}
-use Rattle.lfs_model.proofs.Moves.{IsStep, AllReachedBut, place_at, goes_from, directory_goes, directory_goes_reached, directory_goes_unled}
+use Rattle.lfs_model.proofs.Moves.{IsStep, AllReachedBut, place_at, shown_before, shown_behind, entry_only, get_here, goes_from, directory_goes, directory_goes_reached, directory_goes_unled}
+use Rattle.lfs_model.proofs.Beside.{last_site}
+use Rattle.lfs_model.proofs.Became.{fits_same}
+use Rattle.lfs_model.proofs.Writable.{IsWithin, flag}
+use Rattle.lfs_model.proofs.Profiles.{drop_writable}
 use Rattle.lfs_model.proofs.Layouts.{onward_all}
 use Rattle.lfs_model.proofs.Alike.{AreAlike, alike_itself, alike_append}
 use Rattle.lfs_model.proofs.OneCommit.{slot_there}
 use Rattle.lfs_model.proofs.Committed.{IsCompleted, recovered_from, no_move_from}
-use Rattle.lfs_model.proofs.TwoPlaces.{two, OldStays}
+use Rattle.lfs_model.proofs.TwoPlaces.{two, OldStays, fits_fewer}
 use Rattle.lfs_model.proofs.RemovedDirectory.{IsRmdir, rmdir_completed, from_kept, before_gone, onward_append}
-use Rattle.lfs_model.proofs.Drops.{softened}
-use Rattle.lfs_model.proofs.StepsTaken.{IsTaken, taken_then, taken_after}
+use Rattle.lfs_model.proofs.Drops.{softened, IsStepDrop, directory_goes_beside, own_entries}
+use Rattle.lfs_model.proofs.StepsTaken.{IsTaken, taken_then, taken_after, within_at, fit_spliced}
 use Rattle.lfs_model.proofs.Unthreaded.{IsUnthreaded, IsReady, Unthreads, unthread}
 use Rattle.lfs_model.proofs.Searches.{avoids_front, avoids_behind}
 
@@ -187,3 +191,134 @@ module _ (disk middle new : Disk) (w : Site) (p q : Pair) (l r : List Slot) (u :
   rmdir_ahead_completed s path tree is =
       subst (λ z. IsCompleted disk z s (ops.Remove path) new (w.chain ++ (((w.before ++ w.left) ++ q ∷ mid) ++ y ∷ back))) (sym were)
       (rmdir_completed disk new (w.chain ++ (((w.before ++ w.left) ++ q ∷ mid) ++ y ∷ back)) true w.chain (w.before ++ w.left) (mid ++ x ∷ []) back p o (q ∷ []) l u r d (P ++ u.name ∷ []) made s path (tree ∙ ap (tree_in disk) were) is)
+
+-- ---- behind it
+
+module _ (disk middle new : Disk) (w : Site) (p q : Pair) (l r : List Slot) (u : Slot) (step : IsStep disk middle w p [] q [] [] [] l (u ∷ []) [] r) (other : is_superblock u ≡ false)
+    (old_writable : IsWritable disk (thread_at w (p ∷ []))) (writable : IsWritable middle (thread_at w (q ∷ [])))
+    (P : Path) (a : ℕ × ℕ) (leads : Leads (thread_at w (p ∷ [])) P a) (same : same_pair (begin_of w (p ∷ [])) a ≡ true)
+    (d : ℕ × ℕ) (branch : u.struct ≡ Branch d) (empty : entries_in (thread_at w (p ∷ [])) d ≡ []) (sync : (gstate_of (thread_at w (q ∷ []))).sync ≡ true)
+    (settled : gstate_of (thread_at w (p ∷ [])) ≡ no_gstate)
+    (front : List Pair) (x o y : Pair) (mid : List Pair) (behind : w.before ++ w.left ≡ front ++ x ∷ o ∷ mid) (address : same_pair o.at d ≡ true) (alone : is_hard o.content.tail ≡ false)
+    (held : p.content.slots ≡ l ++ u ∷ r) (kept : q.content.slots ≡ l ++ r) (some : is_some (onward_all None (w.before ++ w.left)) ≡ true → l ++ r ≢ [])
+    (gone : IsGone middle new w.chain front x o y (mid ++ q ∷ (w.right ++ w.after))) where
+  abbrev back : List Pair
+  back = w.right ++ w.after
+
+  -- the thread with a pair in place of p
+  turned : (z : Pair) → (w.before ++ w.left) ++ z ∷ (w.right ++ w.after) ≡ front ++ x ∷ o ∷ (mid ++ z ∷ (w.right ++ w.after))
+  turned z = ap (λ xs. xs ++ z ∷ back) behind ∙ append_assoc front (x ∷ o ∷ mid) (z ∷ back)
+
+  taken2 : IsTaken disk (thread_at w (p ∷ [])) new (w.chain ++ (front ++ y ∷ (mid ++ q ∷ (w.right ++ w.after)))) (removed (P ++ u.name ∷ [])) (planted (P ++ u.name ∷ []) (λ t. None))
+  taken2 = rmdir_taken disk middle new w p [] q l r u step other writable P a leads same d branch empty sync settled front x o y (mid ++ q ∷ (w.right ++ w.after)) (turned q) address alone gone
+
+  were2 : thread_at w (p ∷ []) ≡ w.chain ++ two false (front ++ x ∷ []) (p ∷ []) mid (o ∷ []) (w.right ++ w.after)
+  were2 = ap (λ z. w.chain ++ z) (turned p ∙ sym (append_assoc front (x ∷ []) (o ∷ (mid ++ p ∷ back))))
+
+  distinct2 : IsDistinct nat_eq (blocks_of ((w.chain ++ (front ++ x ∷ [])) ++ o ∷ (mid ++ p ∷ (w.right ++ w.after))))
+  distinct2 = subst (λ z. IsDistinct nat_eq (blocks_of z)) (were2 ∙ sym (append_assoc w.chain (front ++ x ∷ []) (o ∷ (mid ++ p ∷ back)))) step.accepted.thread.distinct
+
+  made2 : IsRmdir disk new (w.chain ++ (front ++ y ∷ (mid ++ q ∷ (w.right ++ w.after)))) false w.chain (front ++ x ∷ []) mid (w.right ++ w.after) p o (q ∷ []) l u r d (P ++ u.name ∷ [])
+  made2 = record {
+    is_chain = ap superblocks_before (sym were2) ∙ step.site.chain;
+    accepted = subst (IsAccepted disk) were2 step.accepted;
+    writable = subst (IsWritable disk) were2 old_writable;
+    settled = ap gstate_of (sym were2) ∙ settled;
+    still = gone.settled;
+    walk = planted (P ++ u.name ∷ []) (λ t. None);
+    follows = subst (λ z. Follows disk z new (w.chain ++ (front ++ y ∷ (mid ++ q ∷ (w.right ++ w.after)))) (removed (P ++ u.name ∷ [])) (planted (P ++ u.name ∷ []) (λ t. None))) were2 taken2.follows;
+    still_writable = taken2.writable;
+    held = held;
+    branch = branch;
+    alike_address = address;
+    soft = alone;
+    begins = soft_end None front x gone.soft;
+    apart = each_append (λ (z : Pair). same_pair z.at d ≡ false) (front ++ x ∷ []) (mid ++ p ∷ back)
+        (each_right (λ (z : Pair). same_pair z.at d ≡ false) w.chain (front ++ x ∷ []) (avoids_front (w.chain ++ (front ++ x ∷ [])) o (mid ++ p ∷ back) d distinct2 address))
+        (avoids_behind (w.chain ++ (front ++ x ∷ [])) o (mid ++ p ∷ back) d distinct2 address);
+    stays = (step.shape.at, kept, (λ e. some (ap (λ z. is_some z) (ap (λ z. onward_all None z) (behind ∙ sym (append_assoc front (x ∷ []) (o ∷ mid))) ∙ onward_append None (front ++ x ∷ []) (o ∷ mid)) ∙ e)));
+    alike = subst (λ s. AreAlike (w.chain ++ s) (w.chain ++ (front ++ y ∷ (mid ++ q ∷ back)))) (sym (append_assoc front (x ∷ []) (mid ++ q ∷ back)))
+        (alike_append w.chain (front ++ x ∷ (mid ++ q ∷ back)) w.chain (front ++ y ∷ (mid ++ q ∷ back)) (alike_itself w.chain)
+        (alike_append front (x ∷ (mid ++ q ∷ back)) front (y ∷ (mid ++ q ∷ back)) (alike_itself front) (gone.at, gone.slots, alike_itself (mid ++ q ∷ back))));
+    named = subst (λ z. slot_of_path z (P ++ u.name ∷ []) ≡ Some u) were2
+        (rmdir_named disk middle new w p [] q l r u step other writable P a leads same d branch empty sync settled front x o y (mid ++ q ∷ (w.right ++ w.after)) (turned q) address alone gone);
+  }
+
+  pub rmdir_behind_completed : (s : Session) (path : List ℕ) → s.tree ≡ tree_in disk (thread_at w (p ∷ [])) → as_path path ≡ P ++ u.name ∷ []
+      → IsCompleted disk (thread_at w (p ∷ [])) s (ops.Remove path) new (w.chain ++ (front ++ y ∷ (mid ++ q ∷ (w.right ++ w.after))))
+  rmdir_behind_completed s path tree is =
+      subst (λ z. IsCompleted disk z s (ops.Remove path) new (w.chain ++ (front ++ y ∷ (mid ++ q ∷ (w.right ++ w.after))))) (sym were2)
+      (rmdir_completed disk new (w.chain ++ (front ++ y ∷ (mid ++ q ∷ (w.right ++ w.after)))) false w.chain (front ++ x ∷ []) mid (w.right ++ w.after) p o (q ∷ []) l u r d (P ++ u.name ∷ []) made2 s path (tree ∙ ap (tree_in disk) were2) is)
+
+-- ---- in one commit, where the pair of the entry is the one in front
+
+module _ (disk new : Disk) (chain before left after : List Pair) (p o q : Pair) (l r : List Slot) (u : Slot) (step : IsStepDrop disk new chain before left after p [] o q [] [] [] l (u ∷ []) [] r) (other : is_superblock u ≡ false)
+    (old_writable : IsWritable disk (thread_at (last_site chain before left after) (p ∷ ([] ++ o ∷ []))))
+    (P : Path) (a : ℕ × ℕ) (leads : Leads (thread_at (last_site chain before left after) (p ∷ ([] ++ o ∷ []))) P a)
+    (same : same_pair (begin_of (last_site chain before left (o ∷ after)) (p ∷ [])) a ≡ true)
+    (d : ℕ × ℕ) (branch : u.struct ≡ Branch d) (empty : entries_in (thread_at (last_site chain before left after) (p ∷ ([] ++ o ∷ []))) d ≡ [])
+    (settled : gstate_of (thread_at (last_site chain before left after) (p ∷ ([] ++ o ∷ []))) ≡ no_gstate) (still : gstate_of (thread_at (last_site chain before left after) (q ∷ [])) ≡ no_gstate)
+    (address : same_pair o.at d ≡ true) (alone : is_hard o.content.tail ≡ false) (soft : is_hard p.content.tail ≡ false) (tail : q.content.tail ≡ softened o.content.tail)
+    (held : p.content.slots ≡ l ++ u ∷ r) (kept : q.content.slots ≡ l ++ r) (some : is_some (onward_all None (before ++ left)) ≡ true → l ++ r ≢ []) (full : flag false (before ++ left) ≡ true → l ++ r ≢ []) where
+  abbrev all : List Pair
+  all = thread_at (last_site chain before left after) (p ∷ ([] ++ o ∷ []))
+
+  abbrev those : List Pair
+  those = thread_at (last_site chain before left after) (q ∷ [])
+
+  follows : Follows disk (thread_at (last_site chain before left after) (p ∷ ([] ++ o ∷ []))) new (thread_at (last_site chain before left after) (q ∷ [])) (removed (P ++ u.name ∷ [])) (planted (P ++ u.name ∷ []) (λ t. None))
+  follows = directory_goes_beside disk new chain before left after p [] o q [] [] [] l r u step other P a leads same d branch (pair_back o.at d address) empty
+      (λ e. (alone, (recovered_from disk (thread_at (last_site chain before left after) (p ∷ ([] ++ o ∷ []))) step.accepted settled).reached))
+
+  old_within : IsWithin disk.block_size disk.page p
+  old_within = within_at disk (last_site chain before left after) p (o ∷ []) old_writable
+
+  within : IsWithin disk.block_size disk.page q
+  within = record {
+    pair = fits_same disk (with_slots (l ++ r) p) q kept (fits_fewer disk p l r u held old_within.pair);
+    slots = subst (All (FitsSlot disk.block_size disk.page)) (sym kept)
+        (All-from_recursion (FitsSlot disk.block_size disk.page) (l ++ r) (fit_spliced disk p l (u ∷ []) [] r old_within held tt));
+  }
+
+  still_writable : IsWritable new (thread_at (last_site chain before left after) (q ∷ []))
+  still_writable = drop_writable disk new chain before left after p [] o q [] [] [] l (u ∷ []) [] r step old_writable (within, tt)
+      (λ h. ((λ e n. full e (sym kept ∙ n)), subst (λ b. HaveSlots b after) (alone ∙ sym (ap is_hard tail ∙ soft_tail o.content.tail)) h.1.1))
+    where
+      soft_tail : (t : Option Tail) → is_hard (softened t) ≡ false
+      soft_tail None = refl
+      soft_tail (Some t) = refl
+
+  distinct3 : IsDistinct nat_eq (blocks_of ((chain ++ ((before ++ left) ++ p ∷ [])) ++ o ∷ after))
+  distinct3 = subst (λ z. IsDistinct nat_eq (blocks_of z)) (ap (λ z. chain ++ z) (sym (append_assoc (before ++ left) (p ∷ []) (o ∷ after))) ∙ sym (append_assoc chain ((before ++ left) ++ p ∷ []) (o ∷ after))) step.accepted.thread.distinct
+
+  made3 : IsRmdir disk new (thread_at (last_site chain before left after) (q ∷ [])) true chain (before ++ left) [] after p o (q ∷ []) l u r d (P ++ u.name ∷ [])
+  made3 = record {
+    is_chain = step.is_chain;
+    accepted = step.accepted;
+    writable = old_writable;
+    settled = settled;
+    still = still;
+    walk = planted (P ++ u.name ∷ []) (λ t. None);
+    follows = follows;
+    still_writable = still_writable;
+    held = held;
+    branch = branch;
+    alike_address = address;
+    soft = alone;
+    begins = soft_end None (before ++ left) p soft;
+    apart =
+        let ahead_of = each_right (λ (z : Pair). same_pair z.at d ≡ false) chain ((before ++ left) ++ p ∷ []) (avoids_front (chain ++ ((before ++ left) ++ p ∷ [])) o after d distinct3 address) in
+        each_append (λ (z : Pair). same_pair z.at d ≡ false) (before ++ left) (p ∷ after) (each_left (λ (z : Pair). same_pair z.at d ≡ false) (before ++ left) (p ∷ []) ahead_of)
+        ((each_right (λ (z : Pair). same_pair z.at d ≡ false) (before ++ left) (p ∷ []) ahead_of).0, avoids_behind (chain ++ ((before ++ left) ++ p ∷ [])) o after d distinct3 address);
+    stays = (step.shape.at, kept, some);
+    alike = alike_itself (thread_at (last_site chain before left after) (q ∷ []));
+    named = slot_there disk all P a (place_at (last_site chain before left after) l) u step.accepted leads
+        (ap (λ s. slice_get s (place_at (last_site chain before left after) l)) (own_entries disk new chain before left after p [] o q [] [] [] l (u ∷ []) [] r step a same
+        ∙ ap (λ s. shown_before (last_site chain before left after) l ++ (s ++ shown_behind (last_site chain before left after) r)) (entry_only u other))
+        ∙ get_here (shown_before (last_site chain before left after) l) (shown_behind (last_site chain before left after) r) u);
+  }
+
+  pub rmdir_in_one_completed : (s : Session) (path : List ℕ) → s.tree ≡ tree_in disk (thread_at (last_site chain before left after) (p ∷ ([] ++ o ∷ []))) → as_path path ≡ P ++ u.name ∷ []
+      → IsCompleted disk (thread_at (last_site chain before left after) (p ∷ ([] ++ o ∷ []))) s (ops.Remove path) new (thread_at (last_site chain before left after) (q ∷ []))
+  rmdir_in_one_completed s path tree is =
+      rmdir_completed disk new (thread_at (last_site chain before left after) (q ∷ [])) true chain (before ++ left) [] after p o (q ∷ []) l u r d (P ++ u.name ∷ []) made3 s path tree is

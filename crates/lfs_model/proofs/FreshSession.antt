@@ -1,5 +1,5 @@
 -- A session on a fresh disk, for examples: its disk's pairs, and what a loss of power leaves before the first call.
-use Rattle.std.proofs.Common.{ℕ, ◌≡◌, ◌<◌, inl, true, List, [], ◌∷◌, Some, None, refl, sym, ap, ◌∙◌, arith}
+use Rattle.std.proofs.Common.{ℕ, ◌≡◌, ◌<◌, inl, true, List, [], ◌∷◌, Some, refl, sym, ap, ◌∙◌, arith}
 use Rattle.std.specs.Prelude.{All, codes, slice_index}
 use Rattle.lfs_model.specs.Disk.{Disk, block_at, block_count}
 use Rattle.lfs_model.specs.Content.{content_at}
@@ -12,7 +12,6 @@ use Rattle.lfs_model.specs.Operations as ops
 use Rattle.lfs_model.specs.Session.{Session, Surroundings}
 use Rattle.lfs_model.specs.State.{Surrounds, State, HasFailed, Healthy, mounted}
 use Rattle.lfs_model.specs.Steps.{applied}
-use Rattle.lfs_model.specs.Run.{Moment, Shows}
 use Rattle.lfs_model.specs.PowerLoss.{IsLeft, IsAtWork, Withstands}
 use Rattle.lfs_model.specs.Examples.{small_image, appended_image}
 use Rattle.lfs_model.specs.RunExamples.{fresh_moment, no_disk}

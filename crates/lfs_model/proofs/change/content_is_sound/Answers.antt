@@ -4,8 +4,10 @@ use Rattle.lfs_model.proofs.change.content_is_sound.Goals as goal
 pub returns : goal.returns
 returns c = record {
   logged = record {
-    slots = (record { name = record { of_class = refl; short = omega arith; in_table = refl }; struct = record { of_class = refl; short = omega arith; in_table = refl }; attributes = tt },
-        (record { name = record { of_class = refl; short = omega arith; in_table = refl }; struct = record { of_class = refl; short = omega arith; in_table = refl }; attributes = (omega arith, omega arith, omega arith, tt) }, tt));
+    slots = (
+      record { name = record { of_class = refl; short = omega arith; in_table = refl }; struct = record { of_class = refl; short = omega arith; in_table = refl }; attributes = tt },
+      (record { name = record { of_class = refl; short = omega arith; in_table = refl }; struct = record { of_class = refl; short = omega arith; in_table = refl }; attributes = (omega arith, omega arith, omega arith, tt) }, tt),
+    );
     tail = tt;
     move = record { kind = omega arith; id = omega arith; pair = (omega arith, omega arith) };
   };

@@ -1,4 +1,4 @@
-use Rattle.std.proofs.Common.{ℕ, ◌≤◌, arith}
+use Rattle.std.proofs.Common.{◌≤◌, arith}
 use Rattle.lfs_model.proofs.change.slots_are_counted.Goals as goal
 
 pub returns : goal.returns

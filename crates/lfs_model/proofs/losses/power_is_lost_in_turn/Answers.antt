@@ -1,4 +1,4 @@
-use Rattle.std.proofs.Common.{◌≡◌, inl, [], ◌∷◌, refl, sym}
+use Rattle.std.proofs.Common.{inl, [], refl, sym}
 use Rattle.std.specs.Prelude.{codes}
 use Rattle.lfs_model.specs.Fresh.{empty_tree}
 use Rattle.lfs_model.specs.Operations as ops

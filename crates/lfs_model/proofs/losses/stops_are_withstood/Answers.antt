@@ -1,4 +1,4 @@
-use Rattle.std.proofs.Common.{◌≡◌, [], Option, None, refl, sym, ap, ◌∙◌}
+use Rattle.std.proofs.Common.{[], refl, sym, ap, ◌∙◌}
 use Rattle.lfs_model.specs.Tree.{Tree}
 use Rattle.lfs_model.specs.Fresh.{empty_tree}
 use Rattle.lfs_model.specs.State.{mounted}

@@ -1,14 +1,13 @@
-use Rattle.std.proofs.Common.{ℕ, ◌≡◌, ◌⊎◌, inl, inr, true, List, [], ◌∷◌, ◌++◌, Option, Some, refl, sym, ap, subst, ◌∙◌, arith, flat_map}
+use Rattle.std.proofs.Common.{ℕ, ◌≡◌, inl, inr, List, [], ◌∷◌, ◌++◌, refl, sym, ap, subst, arith}
 use Rattle.std.specs.Prelude.{codes, slice_index}
 use Rattle.std.proofs.lemmas.Option.{same_Some}
 use Rattle.std.proofs.lemmas.List.Concat.{flat_map-append}
 use Rattle.lfs_model.specs.Slots.{Slot, Struct, Inline}
-use Rattle.lfs_model.specs.Thread.{Pair, anchor}
-use Rattle.lfs_model.specs.Fresh.{superblock_slot, empty_tree}
-use Rattle.lfs_model.specs.Operations as ops
-use Rattle.lfs_model.specs.SlotEdits.{new_file, new_directory, with_slots, IsSpliced, slot_of_path, Moves}
+use Rattle.lfs_model.specs.Thread.{Pair}
+use Rattle.lfs_model.specs.Fresh.{superblock_slot}
+use Rattle.lfs_model.specs.SlotEdits.{new_file, new_directory, with_slots, IsSpliced, Moves}
 use Rattle.lfs_model.specs.Layout.{slots_of}
-use Rattle.lfs_model.specs.RunExamples.{directories_with, two_directories, root_with}
+use Rattle.lfs_model.specs.RunExamples.{directories_with, root_with}
 use Rattle.lfs_model.proofs.Sites.{Among, among_left, among_right}
 use Rattle.lfs_model.proofs.slots.slots_are_edited.Goals as goal
 

@@ -7,13 +7,14 @@ ghost use Rattle.lfs_model.specs.Operations as ops;
 ghost use Rattle.lfs_model.specs.Run.{Moment};
 ghost use Rattle.lfs_model.specs.Failure.{Fails, IsCutShort};
 ghost use Rattle.lfs_model.specs.PowerLoss.{Withstands, IsRestored, IsSafe};
-ghost use Rattle.lfs_model.specs.Outages.{LosesPower, LosesPowerInTurn};
+ghost use Rattle.lfs_model.specs.Outages.{IsCutShortWithstood, LosesPower, LosesPowerInTurn};
 ghost use Rattle.lfs_model.specs.Examples.{small_image, appended_image};
 ghost use Rattle.lfs_model.specs.RunExamples.{fresh_moment, failed_moment, no_disk, some_reads};
 
 /// A run ends where its session fails; what came before it was carried out.
 pub fn error_ends_a_run()
     ensures second { IsCutShort fresh_moment (ops.Stat (codes "/") ∷ ops.Mkdir (codes "/d") ∷ ops.UsedCount ∷ []) failed_moment }
+    ensures withstood { IsCutShortWithstood fresh_moment (ops.Stat (codes "/") ∷ ops.Mkdir (codes "/d") ∷ ops.UsedCount ∷ []) failed_moment }
     ensures goes_on { IsCutShort fresh_moment (ops.Stat (codes "/") ∷ []) fresh_moment → ⊥ }
 
     // A session that had failed makes no call, and a failed remount writes nothing.

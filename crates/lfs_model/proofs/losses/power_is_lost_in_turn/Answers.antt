@@ -2,7 +2,7 @@ use Rattle.std.proofs.Common.{inl, [], refl, sym}
 use Rattle.std.specs.Prelude.{codes}
 use Rattle.lfs_model.specs.Fresh.{empty_tree}
 use Rattle.lfs_model.specs.Operations as ops
-use Rattle.lfs_model.specs.State.{mounted}
+use Rattle.lfs_model.specs.State.{Healthy, mounted}
 use Rattle.lfs_model.specs.Outages.{LosesPower}
 use Rattle.lfs_model.specs.Examples.{small_image}
 use Rattle.lfs_model.specs.RunExamples.{fresh_moment, no_disk}
@@ -26,7 +26,7 @@ once = record {
   surrounds = (pairs, (are_accepted, surrounds));
   next = ops.Stat (codes "/");
   to = fresh_moment;
-  withstands = withstood;
+  withstands = withstood (ops.Stat (codes "/")) (Healthy (mounted empty_tree));
   cleanly = record { events = []; extends = refl; each = tt };
   stop = inl refl;
 }

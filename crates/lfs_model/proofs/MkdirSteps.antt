@@ -1,5 +1,5 @@
 -- A directory is made by the steps themselves: one commit to the last pair of its parent, or one to it and one to the pair where the name belongs.
-use Rattle.std.proofs.Common.{ℕ, ◌≡◌, Bool, true, false, List, [], ◌∷◌, ◌++◌, refl, sym, ap, subst, ◌∙◌, append_assoc, append-nil, subst₂}
+use Rattle.std.proofs.Common.{ℕ, ◌≡◌, true, List, [], ◌∷◌, ◌++◌, refl, sym, ap, subst, ◌∙◌, append_assoc, append-nil, subst₂}
 use Rattle.lfs_model.specs.Disk.{Disk}
 use Rattle.lfs_model.specs.Names.{Name}
 use Rattle.lfs_model.specs.Slots.{Slot, no_gstate, same_pair, FitsPair}
@@ -14,8 +14,7 @@ use Rattle.lfs_model.specs.SlotEdits.{with_slots, new_directory}
 use Rattle.lfs_model.specs.Layout.{Fits}
 use Rattle.lfs_model.specs.PowerLoss.{IsLeft}
 use Rattle.lfs_model.proofs.Names.{IsPlace}
-use Rattle.lfs_model.proofs.Superblocks.{IsChain}
-use Rattle.lfs_model.proofs.Sites.{Site, dirs_at, thread_at, begin_of}
+use Rattle.lfs_model.proofs.Sites.{Site, thread_at, begin_of}
 use Rattle.lfs_model.proofs.Moves.{IsStep, place_at}
 use Rattle.lfs_model.proofs.Beside.{last_site, IsStepBeside, directory_comes_beside, threaded}
 use Rattle.lfs_model.proofs.Alike.{AreAlike, alike_itself, alike_append}

@@ -1,6 +1,6 @@
 -- Where slots stand after a rename onto a directory, whatever the order in which the three pairs stand: the one that loses the slot, the
 -- one that gains it, and the one of the directory that goes.
-use Rattle.std.proofs.Common.{ℕ, ◌≡◌, ◌≢◌, ◌⊎◌, inl, inr, Bool, true, false, cond, List, [], ◌∷◌, ◌++◌, length, map, Option, Some, None, refl, sym, ap, subst, ◌∙◌, flat_map, append-nil}
+use Rattle.std.proofs.Common.{ℕ, ◌≡◌, ◌≢◌, ◌⊎◌, inl, inr, Bool, true, false, cond, List, [], ◌∷◌, ◌++◌, length, map, Option, Some, None, refl, sym, ap, subst, ◌∙◌, flat_map}
 use Rattle.std.specs.Prelude.{Any, is_some}
 use Rattle.std.proofs.lemmas.Option.{same_Some}
 use Rattle.lfs_model.specs.Disk.{Disk}
@@ -8,13 +8,13 @@ use Rattle.lfs_model.specs.Slots.{Slot, same_pair}
 use Rattle.lfs_model.specs.Thread.{Pair, is_hard}
 use Rattle.lfs_model.specs.View.{HaveSlots}
 use Rattle.lfs_model.specs.SlotEdits.{with_slots}
-use Rattle.lfs_model.specs.Layout.{Fits, begin_from, onward, AllStand}
+use Rattle.lfs_model.specs.Layout.{Fits, begin_from, onward}
 use Rattle.lfs_model.proofs.Counts.{Each, each_left, each_right}
 use Rattle.lfs_model.proofs.Sites.{any_from}
 use Rattle.lfs_model.proofs.Splices.{slots_in}
 use Rattle.lfs_model.proofs.Became.{Became, became_stands}
 use Rattle.lfs_model.proofs.TwoPlaces.{OldStays, old_stands}
-use Rattle.lfs_model.proofs.Layouts.{singles, onward_all, NoneGoes, none_goes_left, none_goes_right, have_left, have_right}
+use Rattle.lfs_model.proofs.Layouts.{onward_all, NoneGoes, none_goes_left, none_goes_right, have_left, have_right}
 use Rattle.lfs_model.proofs.Alike.{AreAlike, Stood}
 use Rattle.lfs_model.proofs.Layouts.{joined_parts}
 use Rattle.lfs_model.proofs.RemovedDirectory.{none_both, none_apart}

@@ -14,12 +14,12 @@ use Rattle.lfs_model.specs.Operations as ops
 use Rattle.lfs_model.specs.Session.{Session}
 use Rattle.lfs_model.specs.Steps.{as_path}
 use Rattle.lfs_model.specs.SlotEdits.{with_slots, slot_of_path, IsSpliced, Clears}
-use Rattle.lfs_model.specs.Layout.{Goes, directory_of, removed_directories, Fits, begin_from, onward, IsLaidOut}
+use Rattle.lfs_model.specs.Layout.{Goes, directory_of, removed_directories, begin_from, onward, IsLaidOut}
 use Rattle.lfs_model.proofs.Counts.{Each, each_append, each_left, each_right, each_weaker}
 use Rattle.lfs_model.proofs.Superblocks.{IsChain, pairs_behind}
 use Rattle.lfs_model.proofs.Laws.{Walk}
 use Rattle.lfs_model.proofs.Changes.{Follows}
-use Rattle.lfs_model.proofs.Sites.{any_from, among_from}
+use Rattle.lfs_model.proofs.Sites.{any_from}
 use Rattle.lfs_model.proofs.Layouts.{onward_all, NoneGoes, none_goes_left, none_goes_right, none_where, rest_all}
 use Rattle.lfs_model.proofs.Committed.{IsCompleted, recovered_from, nothing_moved}
 use Rattle.lfs_model.proofs.Alike.{AreAlike, stood_alike, Stood, stand_apart}

@@ -1,14 +1,14 @@
 -- A rename onto an empty directory: no path leads to that one any more, and every other directory is still reached. So its pair may go.
-use Rattle.std.proofs.Common.{ℕ, ◌≡◌, ◌⊎◌, inl, inr, true, false, List, [], ◌∷◌, ◌++◌, Option, Some, None, refl, sym, ap, subst, ◌∙◌, append-nil}
+use Rattle.std.proofs.Common.{ℕ, ◌≡◌, ◌⊎◌, inl, inr, true, false, List, [], ◌∷◌, ◌++◌, Option, Some, None, sym, ap, subst, ◌∙◌, append-nil}
 use Rattle.std.specs.Prelude.{All}
 use Rattle.std.proofs.lemmas.List.Elements.{All-from_recursion, recursion_from_All}
 use Rattle.std.proofs.lemmas.Option.{same_Some}
 use Rattle.lfs_model.specs.Disk.{Disk}
-use Rattle.lfs_model.specs.Slots.{same_pair, no_gstate}
-use Rattle.lfs_model.specs.Thread.{Pair, Listing, gstate_of, is_hard, root_of}
+use Rattle.lfs_model.specs.Slots.{same_pair}
+use Rattle.lfs_model.specs.Thread.{Pair, Listing, is_hard, root_of}
 use Rattle.lfs_model.specs.Tree.{Path, Tree, directory_at}
 use Rattle.lfs_model.specs.Apply.{rest_after, planted, renamed}
-use Rattle.lfs_model.specs.View.{IsAccepted, IsReached, IsWritable, Leads, directories_in, entries_in, tree_in}
+use Rattle.lfs_model.specs.View.{IsReached, directories_in, entries_in, tree_in}
 use Rattle.lfs_model.specs.PowerLoss.{IsLeft}
 use Rattle.lfs_model.proofs.Paths.{Rest, beyond, aside, rest, rest_itself}
 use Rattle.lfs_model.proofs.Pairs.{pair_back, pair_on}

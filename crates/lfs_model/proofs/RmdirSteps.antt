@@ -1,10 +1,9 @@
 -- An empty directory is removed by the steps themselves: its entry goes with the sync bit set, and then its pair goes from the thread.
-use Rattle.std.proofs.Common.{ℕ, ◌≡◌, ◌≢◌, ◌⊎◌, inl, inr, Bool, true, false, cond, List, [], ◌∷◌, ◌++◌, Option, Some, None, refl, sym, ap, ap₂, subst, ◌∙◌, append_assoc, append-nil, subst₂}
+use Rattle.std.proofs.Common.{ℕ, ◌≡◌, ◌≢◌, ◌⊎◌, inl, inr, true, false, cond, List, [], ◌∷◌, ◌++◌, Option, Some, None, refl, sym, ap, subst, ◌∙◌, append_assoc, subst₂}
 use Rattle.std.specs.Prelude.{All, is_some, slice_get}
 use Rattle.std.specs.List.{IsDistinct}
 use Rattle.std.proofs.Common.{nat_eq}
 use Rattle.std.proofs.lemmas.List.Elements.{All-from_recursion, recursion_from_All}
-use Rattle.std.proofs.lemmas.Bool.{false_from_ne_true}
 use Rattle.lfs_model.specs.Disk.{Disk}
 use Rattle.lfs_model.specs.Slots.{Slot, Tail, Branch, no_gstate, is_superblock, same_pair}
 use Rattle.lfs_model.specs.Thread.{Pair, Listing, blocks_of, gstate_of, is_hard, superblocks_before}
@@ -21,7 +20,6 @@ use Rattle.lfs_model.proofs.Counts.{Each, each_append, each_left, each_right, ea
 use Rattle.lfs_model.proofs.Pairs.{pair_back, pair_on}
 use Rattle.lfs_model.proofs.Global.{HasNoMove}
 use Rattle.lfs_model.proofs.Superblocks.{IsChain}
-use Rattle.lfs_model.proofs.Laws.{Walk}
 use Rattle.lfs_model.proofs.Changes.{Follows, chain_now}
 use Rattle.lfs_model.proofs.Sites.{Site, dirs_at, thread_at, begin_of}
 use Rattle.lfs_model.proofs.Splices.{IsDevice, splice_change}
@@ -34,11 +32,11 @@ use Rattle.lfs_model.proofs.Layouts.{onward_all}
 use Rattle.lfs_model.proofs.Alike.{AreAlike, alike_itself, alike_append}
 use Rattle.lfs_model.proofs.OneCommit.{slot_there}
 use Rattle.lfs_model.proofs.Committed.{IsCompleted, recovered_from, no_move_from}
-use Rattle.lfs_model.proofs.TwoPlaces.{two, OldStays, fits_fewer}
-use Rattle.lfs_model.proofs.RemovedDirectory.{IsRmdir, rmdir_completed, from_kept, before_gone, onward_append}
+use Rattle.lfs_model.proofs.TwoPlaces.{two, fits_fewer}
+use Rattle.lfs_model.proofs.RemovedDirectory.{IsRmdir, rmdir_completed, onward_append}
 use Rattle.lfs_model.proofs.Drops.{softened, IsStepDrop, directory_goes_beside, own_entries}
 use Rattle.lfs_model.proofs.StepsTaken.{IsTaken, taken_then, taken_after, within_at, fit_spliced}
-use Rattle.lfs_model.proofs.Unthreaded.{IsUnthreaded, IsReady, Unthreads, unthread}
+use Rattle.lfs_model.proofs.Unthreaded.{Unthreads, unthread}
 use Rattle.lfs_model.proofs.Searches.{avoids_front, avoids_behind}
 
 -- as many superblock's pairs stand in front after a step

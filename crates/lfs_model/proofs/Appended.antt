@@ -1,11 +1,10 @@
 -- What a log comes to behind one commit more.
-use Rattle.std.proofs.Common.{ℕ, ◌≡◌, ◌==◌, Bool, true, false, List, [], ◌∷◌, ◌++◌, Option, Some, flat_map, refl, sym, ap, ◌∙◌, eq-eqb}
+use Rattle.std.proofs.Common.{ℕ, ◌≡◌, ◌==◌, true, List, [], ◌∷◌, ◌++◌, Some, flat_map, refl, ap, ◌∙◌, eq-eqb}
 use Rattle.std.proofs.lemmas.List.{append-nil}
 use Rattle.std.proofs.lemmas.List.Concat.{flat_map-append}
-use Rattle.std.specs.Option.{option_and_then}
 use Rattle.lfs_model.specs.Tag.{class_of}
 use Rattle.lfs_model.specs.Log.{LogEntry, chain_of, log_entries}
-use Rattle.lfs_model.specs.Content.{RawContent, content_after, content_after_all, no_content}
+use Rattle.lfs_model.specs.Content.{RawContent, content_after_all, no_content}
 use Rattle.lfs_model.proofs.WrittenAnew.{then}
 
 -- a checksum changes nothing

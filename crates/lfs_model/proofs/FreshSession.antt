@@ -1,6 +1,6 @@
 -- A session on a fresh disk, for examples: its disk's pairs, and what a loss of power leaves before the first call.
-use Rattle.std.proofs.Common.{ℕ, ◌≡◌, ◌<◌, inl, true, List, [], ◌∷◌, Some, None, refl, sym, ap, ◌∙◌, arith}
-use Rattle.std.specs.Prelude.{All, codes, slice_index}
+use Rattle.std.proofs.Common.{ℕ, ◌≡◌, ◌<◌, inl, true, List, [], ◌∷◌, Some, refl, sym, ap, ◌∙◌, arith}
+use Rattle.std.specs.Prelude.{All, slice_index}
 use Rattle.lfs_model.specs.Disk.{Disk, block_at, block_count}
 use Rattle.lfs_model.specs.Content.{content_at}
 use Rattle.lfs_model.specs.Slots.{no_gstate}
@@ -8,11 +8,10 @@ use Rattle.lfs_model.specs.Thread.{Pair, Links, anchor, blocks_of}
 use Rattle.lfs_model.specs.Tree.{Tree}
 use Rattle.lfs_model.specs.View.{IsAccepted, IsInProfile, tree_in}
 use Rattle.lfs_model.specs.Fresh.{fresh_pair, empty_tree}
-use Rattle.lfs_model.specs.Operations as ops
+use Rattle.lfs_model.specs.Operations.{Operation}
 use Rattle.lfs_model.specs.Session.{Session, Surroundings}
 use Rattle.lfs_model.specs.State.{Surrounds, State, HasFailed, Healthy, mounted}
 use Rattle.lfs_model.specs.Steps.{applied}
-use Rattle.lfs_model.specs.Run.{Moment, Shows}
 use Rattle.lfs_model.specs.PowerLoss.{IsLeft, IsAtWork, Withstands}
 use Rattle.lfs_model.specs.Examples.{small_image, appended_image}
 use Rattle.lfs_model.specs.RunExamples.{fresh_moment, no_disk}
@@ -59,11 +58,11 @@ differ e = apart (slice_index (block_at small_image 0) 128) (slice_index (block_
     apart : (m n : ℕ) → m ≡ 0xff → n ≡ 0x10 → m ≡ n → ⊥
     apart m n e f g = absurd (omega arith)
 
--- no call was made
-pub withstood : Withstands fresh_moment (ops.Stat (codes "/")) fresh_moment
-withstood = record {
+-- an operation that makes no call withstands a stop, however it ends
+pub withstood : (op : Operation) (state : State) → Withstands fresh_moment op (record fresh_moment { state = state })
+withstood op state = record {
   stops = λ s ps a work clean. record { events = []; extends = refl; each = tt };
-  stands = λ s ps a work clean fails. still_there s.tree (applied a s (ops.Stat (codes "/"))).1.tree (sym (ap (λ (z : Session). z.tree) (same_session (mounted empty_tree) s work.healthy)));
+  stands = λ s ps a work clean fails. still_there s.tree (applied a s op).1.tree (sym (ap (λ (z : Session). z.tree) (same_session (mounted empty_tree) s work.healthy)));
 }
   where
     same_session : (s t : Session) → Healthy s ≡ Healthy t → s ≡ t

@@ -1,19 +1,19 @@
 -- What a log comes to can be written again.
-use Rattle.std.proofs.Common.{ℕ, zero, suc, ◌≡◌, ◌≢◌, ◌+◌, ◌-◌, ◌*◌, ◌/◌, ◌%◌, ◌^◌, ◌<◌, ◌≤◌, ◌==◌, ◌&&◌, Bool, true, false, cond, not, List, [], ◌∷◌, ◌++◌, length, take, drop, filter, flat_map, inl, inr, Option, Some, None, refl, sym, ap, ap₂, subst, ◌∙◌, arith, replicate, length-append, eq-eqb, eqb-true, get_or-drop}
+use Rattle.std.proofs.Common.{ℕ, zero, suc, ◌≡◌, ◌≢◌, ◌+◌, ◌-◌, ◌^◌, ◌<◌, ◌≤◌, ◌==◌, ◌&&◌, Bool, true, false, cond, not, List, [], ◌∷◌, ◌++◌, length, take, drop, flat_map, inl, inr, Option, Some, None, refl, sym, ap, subst, ◌∙◌, arith, replicate, eqb-true, get_or-drop}
 use Rattle.std.proofs.lemmas.List.{length-take, get_or-take, get_or_past}
-use Rattle.std.specs.Prelude.{slice_set, slice_index_or, slice_index, nat_lt, nat_le, is_some}
+use Rattle.std.specs.Prelude.{slice_set, slice_index, nat_lt, nat_le, is_some}
 use Rattle.std.specs.List.{insert, remove}
 use Rattle.std.specs.Option.{option_and_then, option_map}
 use Rattle.std.proofs.lemmas.Option.{same_Some}
-use Rattle.std.proofs.lemmas.Bool.{cases_lt, ne_eqb, eqb-false, ltb-false, ltb-true, and_parts}
+use Rattle.std.proofs.lemmas.Bool.{cases_lt, ne_eqb, eqb-false, ltb-false, ltb-true}
 use Rattle.byteorder.specs.Endian.{little_number}
 use Rattle.lfs_model.specs.Tag.{tag_with, kind_of, id_of, len_of, class_of, chunk_of, size_of}
 use Rattle.lfs_model.specs.Log.{LogEntry, entry_at, past, IsCommit, IsChain, chain_of, log_entries}
-use Rattle.lfs_model.specs.Slots.{Attributes, Tail, Gstate, no_gstate}
-use Rattle.lfs_model.specs.Content.{RawSlot, RawContent, content_after, content_after_all, slots_after, changed, up_to, empty_slot, slot_of_id, is_in_table, has_its_id, put_attribute, without_attribute, with_attribute, removes, no_id, create_type, delete_type, no_content, pair_at, tail_of, gstate_at, hard_tail_type, typed}
+use Rattle.lfs_model.specs.Slots.{Attributes}
+use Rattle.lfs_model.specs.Content.{RawSlot, RawContent, content_after, content_after_all, slots_after, changed, up_to, empty_slot, slot_of_id, is_in_table, has_its_id, put_attribute, without_attribute, with_attribute, removes, create_type, delete_type, no_content, pair_at, tail_of, gstate_at, hard_tail_type, typed}
 use Rattle.lfs_model.proofs.Chains.{lies, chain_sound}
 use Rattle.lfs_model.proofs.WrittenAnew.{kind_of-tag_with, len_of-tag_with}
-use Rattle.lfs_model.specs.Logged.{IsPart, IsPartIfSome, Ascend, HasParts, HaveParts, IsLogged, IsStored, AreStored, IsAddress, IsTailIfSome, IsMoveState, is_null}
+use Rattle.lfs_model.specs.Logged.{IsPart, Ascend, HasParts, HaveParts, IsLogged, IsStored, AreStored, IsAddress, IsTailIfSome, IsMoveState, is_null}
 
 -- ---- attributes
 

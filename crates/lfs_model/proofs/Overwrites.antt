@@ -1,8 +1,8 @@
 -- Bytes written over others, and blocks that differ in one.
 use Rattle.std.specs.Prelude.{All}
 use Rattle.std.proofs.Common.{◌≡◌, ◌≢◌, ℕ, ◌+◌, ◌-◌, ◌<◌, ◌≤◌, List, [], ◌++◌, length, take, drop, slice_set, slice_range, inl, inr, refl, sym, ◌∙◌, ap, arith, append_assoc, length-append, length-drop}
-use Rattle.std.proofs.Math.Seq.{take-append-add, drop-append-add}
-use Rattle.std.proofs.lemmas.List.{append-nil, take_at, take-take, drop-take, drop_all, take_all, take-append-drop, take-append-le, drop-append-le, drop-drop, length-take-le, length-set, get_or-set_other, get_or-set_same, ext_get_or, set-get_or}
+use Rattle.std.proofs.Math.Seq.{drop-append-add}
+use Rattle.std.proofs.lemmas.List.{append-nil, take_at, take-take, drop-take, drop_all, take_all, take-append-drop, drop-append-le, drop-drop, length-take-le, length-set, get_or-set_other, get_or-set_same, ext_get_or, set-get_or}
 use Rattle.std.proofs.lemmas.Bool.{cases_eq}
 use Rattle.lfs_model.specs.Blocks.{Blocks, block_in, IsDivided, overwritten, programmed, SameBut, SameButThese, SameOutside}
 

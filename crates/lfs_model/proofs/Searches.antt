@@ -79,13 +79,20 @@ begins_directory disk ps P a first ok leads b = record { directory = d; number =
         omega (arith, e, length-append (take (superblocks_before ps) ps) d.before, chain_length)
 
 -- the pairs in front aren't at that address
-avoids_front : (xs : List Pair) (p : Pair) (ys : List Pair) (a : ℕ × ℕ) → IsDistinct nat_eq (blocks_of (xs ++ p ∷ ys)) → same_pair p.at a ≡ true → Each (λ x. same_pair x.at a ≡ false) xs
+pub avoids_front : (xs : List Pair) (p : Pair) (ys : List Pair) (a : ℕ × ℕ) → IsDistinct nat_eq (blocks_of (xs ++ p ∷ ys)) → same_pair p.at a ≡ true → Each (λ x. same_pair x.at a ≡ false) xs
 unfolding IsDistinct
 avoids_front [] p ys a h s = tt
 avoids_front (x ∷ xs) p ys a h s = (
   false_from_ne_true (same_pair x.at a) (λ e. not_again x (xs ++ p ∷ ys) (length xs) x p (blocks_avoid x.at (xs ++ p ∷ ys) h.0.1) refl (get_behind xs p ys) (pair_on x.at a p.at e (pair_back p.at a s))),
   avoids_front xs p ys a h.1.1 s,
 )
+
+-- nor are those behind
+pub avoids_behind : (xs : List Pair) (p : Pair) (ys : List Pair) (a : ℕ × ℕ) → IsDistinct nat_eq (blocks_of (xs ++ p ∷ ys)) → same_pair p.at a ≡ true → Each (λ x. same_pair x.at a ≡ false) ys
+unfolding IsDistinct
+avoids_behind [] p ys a h s = each_weaker (λ (x : Pair). same_pair p.at x.at ≡ false) (λ (x : Pair). same_pair x.at a ≡ false)
+    (λ x e. false_from_ne_true (same_pair x.at a) (λ t. let k = pair_on p.at a x.at s (pair_back x.at a t) in absurd (cc))) ys (blocks_avoid p.at ys h.0.1)
+avoids_behind (x ∷ xs) p ys a h s = avoids_behind xs p ys a h.1.1 s
 
 pairs_past : (xs ys : List Pair) (a : ℕ × ℕ) → Each (λ x. same_pair x.at a ≡ false) xs → pairs_at (xs ++ ys) a ≡ pairs_at ys a
 pairs_past [] ys a h = refl

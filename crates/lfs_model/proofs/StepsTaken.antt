@@ -81,10 +81,10 @@ pub record IsPut (disk : Disk) (w : Site) (p q : Pair) (more : List Pair) (l old
   pub filled : flag false (w.before ++ w.left) ≡ true → l ++ (news ++ r) ≢ []
 
 module _ (disk : Disk) (w : Site) (p q : Pair) (more : List Pair) (l olds news r : List Slot) (c : IsPut disk w p q more l olds news r) where
-  put_within : Each (IsWithin disk.block_size disk.page) (q ∷ more)
+  pub put_within : Each (IsWithin disk.block_size disk.page) (q ∷ more)
   put_within = became_within disk p (with_slots (l ++ (news ++ r)) p) q more c.is c.became (fit_spliced disk p l olds news r (within_at disk w p [] c.writable) c.was c.fit)
 
-  put_filled : HaveSlots (flag false (w.before ++ w.left)) (p ∷ [] ++ (w.right ++ w.after)) → HaveSlots (flag false (w.before ++ w.left)) (q ∷ more ++ (w.right ++ w.after))
+  pub put_filled : HaveSlots (flag false (w.before ++ w.left)) (p ∷ [] ++ (w.right ++ w.after)) → HaveSlots (flag false (w.before ++ w.left)) (q ∷ more ++ (w.right ++ w.after))
   put_filled h = became_filled disk p (with_slots (l ++ (news ++ r)) p) q more (w.right ++ w.after) c.is c.became (flag false (w.before ++ w.left)) c.filled h
 
   -- a commit that changes slots, and perhaps the share of the global state but for a move

@@ -1,15 +1,13 @@
 -- The entries of changes can be stored, so what they make of a content can be written again.
-use Rattle.std.proofs.Common.{ℕ, zero, suc, ◌≡◌, ◌+◌, ◌*◌, ◌/◌, ◌%◌, ◌^◌, ◌<◌, ◌≤◌, ◌==◌, ◌&&◌, Bool, true, false, cond, List, [], ◌∷◌, ◌++◌, length, Option, Some, None, refl, sym, ap, subst, ◌∙◌, arith}
+use Rattle.std.proofs.Common.{ℕ, zero, suc, ◌≡◌, ◌+◌, ◌/◌, ◌%◌, ◌<◌, ◌≤◌, ◌==◌, ◌&&◌, Bool, true, false, cond, List, [], ◌∷◌, length, Some, None, refl, sym, ap, ◌∙◌, arith}
 use Rattle.std.specs.Prelude.{slice_index, nat_le, nat_lt}
-use Rattle.std.specs.List.{flat_map, list_all}
+use Rattle.std.specs.List.{list_all}
 use Rattle.std.proofs.lemmas.Bool.{and_parts, ne_eqb, leb-true, ltb-true}
-use Rattle.byteorder.specs.Endian.{little_bytes}
-use Rattle.lfs_model.specs.Tag.{tag_with, size_of, class_of, len_of}
-use Rattle.lfs_model.specs.Log.{LogEntry}
+use Rattle.lfs_model.specs.Tag.{tag_with, class_of, len_of}
 use Rattle.lfs_model.specs.Content.{RawContent, removes, no_id, content_after_all, create_type, delete_type, move_state_type}
-use Rattle.lfs_model.specs.Written.{entry_with, attribute_type, pair_bytes, move_bytes, move_entry, tail_entry, tail_type, move_word, named_pair}
+use Rattle.lfs_model.specs.Written.{entry_with, attribute_type, pair_bytes, move_bytes, tail_type, named_pair}
 use Rattle.lfs_model.specs.Logged.{IsStored, AreStored, IsLogged}
-use Rattle.lfs_model.specs.Changes.{Change, Create, Delete, PutStruct, PutAttribute, RemoveAttribute, PutTail, PutMove, entries_of_change, entries_of_changes, is_storable, is_name_kind, is_struct_kind, is_data, is_pair, changed_by}
+use Rattle.lfs_model.specs.Changes.{Change, Create, Delete, PutStruct, PutAttribute, RemoveAttribute, PutTail, PutMove, entries_of_change, entries_of_changes, is_storable, is_name_kind, is_struct_kind, is_data, changed_by}
 use Rattle.lfs_model.proofs.WrittenAnew.{len_of-tag_with}
 use Rattle.lfs_model.proofs.Logged.{stored_append, logged_after_all}
 

@@ -1,8 +1,8 @@
 -- A compacted block holds what was written to it.
-use Rattle.std.proofs.Common.{ℕ, zero, suc, ◌≡◌, ◌≢◌, ◌+◌, ◌-◌, ◌*◌, ◌/◌, ◌%◌, ◌^◌, ◌<◌, ◌≤◌, ◌==◌, ◌&&◌, Bool, true, false, cond, not, List, [], ◌∷◌, ◌++◌, length, Option, Some, None, refl, sym, ap, ap₂, subst, ◌∙◌, arith, replicate, length-append, append_assoc, eq-eqb, eqb-true}
-use Rattle.std.specs.Prelude.{slice_set, slice_index_or, nat_lt, nat_le, is_some}
+use Rattle.std.proofs.Common.{ℕ, ◌≡◌, ◌+◌, ◌-◌, ◌*◌, ◌/◌, ◌%◌, ◌^◌, ◌<◌, ◌≤◌, ◌==◌, Bool, true, false, cond, not, List, [], ◌∷◌, ◌++◌, length, Option, Some, None, refl, sym, ap, ap₂, ◌∙◌, arith, length-append, append_assoc, eq-eqb, eqb-true}
+use Rattle.std.specs.Prelude.{nat_lt, nat_le, is_some}
 use Rattle.std.specs.Option.{option_and_then, option_map}
-use Rattle.std.proofs.lemmas.Bool.{ne_eqb, or_left, or_right, le-ltb, le-leb, lt-leb, and_parts}
+use Rattle.std.proofs.lemmas.Bool.{ne_eqb, or_right, le-ltb, le-leb, lt-leb, and_parts}
 use Rattle.std.proofs.lemmas.List.{append-nil}
 use Rattle.std.proofs.Math.Seq.{set-append_seam, get_or-append_seam}
 use Rattle.byteorder.specs.Endian.{little_number, little_bytes}
@@ -10,7 +10,7 @@ use Rattle.byteorder.specs.Numbers.{little_number-reads_back}
 use Rattle.lfs_model.specs.Tag.{tag_with, kind_of, id_of, len_of, class_of, chunk_of}
 use Rattle.lfs_model.specs.Log.{LogEntry}
 use Rattle.lfs_model.specs.Slots.{Attributes, Tail, Gstate, no_gstate}
-use Rattle.lfs_model.specs.Content.{RawSlot, RawContent, content_after, content_after_all, slots_after, changed, up_to, empty_slot, slot_of_id, is_in_table, has_its_id, put_attribute, no_id, create_type, delete_type, removes, pair_at, tail_with, gstate_at, gstate_with, no_content, move_state_type}
+use Rattle.lfs_model.specs.Content.{RawSlot, RawContent, content_after, content_after_all, slots_after, is_in_table, has_its_id, put_attribute, no_id, create_type, delete_type, removes, pair_at, tail_with, gstate_at, gstate_with, no_content, move_state_type}
 use Rattle.lfs_model.specs.Written.{entry_with, part_entries, attribute_entries, entries_of_slot, entries_of_slots, pair_bytes, tail_entries, move_word, move_bytes, move_entries, is_no_gstate, entries_of}
 use Rattle.lfs_model.specs.Logged.{IsPart, IsPartIfSome, Ascend, HasParts, HaveParts, HaveNames, IsAddress, IsTailIfSome, IsMoveState, IsSound}
 

@@ -10,8 +10,34 @@ use Rattle.lfs_model.specs.Stops.{Stops, ErasesCleanly}
 use Rattle.lfs_model.specs.Operations.{Operation, Reply}
 use Rattle.lfs_model.specs.Session.{Session, Surroundings}
 use Rattle.lfs_model.specs.State.{Surrounds, Healthy, mounted}
-use Rattle.lfs_model.specs.Run.{Moment, Shows, AreTurns}
+use Rattle.lfs_model.specs.Run.{Moment, Shows, IsTurn, AreTurns}
+use Rattle.lfs_model.specs.Failure.{IsCutShort}
 use Rattle.lfs_model.specs.PowerLoss.{with_blocks, FailsAsStopped, Withstands}
+
+-- ---- runs
+
+-- operations in turn, each of which withstands a stop
+abbrev pub AreWithstood : Moment → List Operation → List Reply → Moment → Type 0
+AreWithstood from [] [] to = from ≡ to
+AreWithstood from [] (reply ∷ replies) to = ⊥
+AreWithstood from (op ∷ operations) [] to = ⊥
+AreWithstood from (op ∷ operations) (reply ∷ replies) to = (next : Moment) × (IsTurn from op reply next × Withstands from op next × AreWithstood next operations replies to)
+
+-- a run that an error ended, and the operation that met it withstands a stop, too
+pub record IsCutShortWithstood (from : Moment) (operations : List Operation) (to : Moment) : Type 0 where
+  pub cut : IsCutShort from operations to
+  pub done : AreWithstood from cut.done cut.replies cut.at
+  pub next : Withstands cut.at cut.next to
+
+-- an operation of such a run: what was done before it, and what it withstands
+pub record IsWithstoodAt (from : Moment) (done : List Operation) (next : Operation) : Type 0 where
+  pub replies : List Reply
+  pub at : Moment
+  pub turns : AreTurns from done replies at
+  pub after : Moment
+  pub withstands : Withstands at next after
+
+-- ---- losses
 
 -- a session just mounted from the disk
 pub record IsMounted (disk : Disk) (begin : Moment) : Type 0 where

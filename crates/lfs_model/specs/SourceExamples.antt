@@ -1,6 +1,5 @@
 -- Sources for contracts that show what a source is.
-use Rattle.std.specs.Prelude.{true, false, List, [], ◌∷◌, codes}
-use Rattle.lfs_model.specs.Names.{Name}
+use Rattle.std.specs.Prelude.{true, false, [], ◌∷◌, codes}
 use Rattle.lfs_model.specs.Source.{Source}
 
 -- a file `a` with `hello`

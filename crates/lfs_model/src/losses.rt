@@ -1,19 +1,21 @@
 // Where an error ends a run, and where power is lost.
 
-ghost use Rattle.std.specs.Prelude.{◌≡◌, ℕ, List, [], ◌∷◌, ◌++◌, Some, None, codes};
-ghost use Rattle.lfs_model.specs.Disk.{Disk};
+ghost use Rattle.std.specs.Prelude.{◌≡◌, ℕ, false, List, [], ◌∷◌, ◌++◌, Some, None, codes};
+ghost use Rattle.lfs_model.specs.Blocks.{Blocks};
+ghost use Rattle.lfs_model.specs.History.{Read, event};
 ghost use Rattle.lfs_model.specs.Fresh.{empty_tree};
 ghost use Rattle.lfs_model.specs.Operations as ops;
 ghost use Rattle.lfs_model.specs.Run.{Moment};
 ghost use Rattle.lfs_model.specs.Failure.{Fails, IsCutShort};
 ghost use Rattle.lfs_model.specs.PowerLoss.{Withstands, IsRestored, IsSafe};
-ghost use Rattle.lfs_model.specs.Outages.{LosesPower, LosesPowerInTurn};
+ghost use Rattle.lfs_model.specs.Outages.{IsCutShortWithstood, IsStoppedSince, LosesPower, LosesPowerInTurn};
 ghost use Rattle.lfs_model.specs.Examples.{small_image, appended_image};
 ghost use Rattle.lfs_model.specs.RunExamples.{fresh_moment, failed_moment, no_disk, some_reads};
 
 /// A run ends where its session fails; what came before it was carried out.
 pub fn error_ends_a_run()
     ensures second { IsCutShort fresh_moment (ops.Stat (codes "/") ∷ ops.Mkdir (codes "/d") ∷ ops.UsedCount ∷ []) failed_moment }
+    ensures withstood { IsCutShortWithstood fresh_moment (ops.Stat (codes "/") ∷ ops.Mkdir (codes "/d") ∷ ops.UsedCount ∷ []) failed_moment }
     ensures goes_on { IsCutShort fresh_moment (ops.Stat (codes "/") ∷ []) fresh_moment → ⊥ }
 
     // A session that had failed makes no call, and a failed remount writes nothing.
@@ -36,4 +38,6 @@ pub fn power_is_lost_in_turn()
     ensures once { LosesPower small_image small_image }
     ensures again { LosesPowerInTurn small_image (small_image ∷ small_image ∷ []) }
     ensures not_all { LosesPower small_image no_disk → ⊥ }
+    ensures in_a_read { (blocks : Blocks) → IsStoppedSince [] (event (Read 0 0 4) blocks blocks false ∷ []) blocks }
+    ensures not_in_none { (blocks : Blocks) → IsStoppedSince [] [] blocks → ⊥ }
 {}

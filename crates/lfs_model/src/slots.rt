@@ -50,6 +50,20 @@ pub fn slots_are_edited()
         (root_with (codes "a") []) (root_with (codes "a") (codes "hi")) }
 {}
 
+/// Entries that others replace, and attributes that come and go.
+pub fn entries_are_replaced()
+    ensures onto { Edits large_image (directories_with (new_file (codes "e") ∷ []) (new_file (codes "a") ∷ [])) (mounted empty_tree) (ops.Rename (codes "/d/a") (codes "/e")) []
+        (directories_with (new_file (codes "e") ∷ []) (new_file (codes "a") ∷ [])) (directories_with (new_file (codes "e") ∷ []) []) }
+    ensures set { Edits large_image (directories_with [] (new_file (codes "a") ∷ [])) (mounted empty_tree) (ops.SetAttr (codes "/d/a") 0x41 (replicate 500 1)) []
+        (directories_with [] (new_file (codes "a") ∷ [])) (directories_with [] (heavy_file (codes "a") ∷ [])) }
+    ensures unset { Edits large_image two_directories (mounted empty_tree) (ops.SetAttr (codes "/d/a") 0x41 (codes "x")) [] two_directories two_directories → ⊥ }
+    ensures removed { Edits large_image (directories_with [] (heavy_file (codes "a") ∷ [])) (mounted empty_tree) (ops.RemoveAttr (codes "/d/a") 0x41) []
+        (directories_with [] (heavy_file (codes "a") ∷ [])) (directories_with [] (new_file (codes "a") ∷ [])) }
+    ensures clean { Edits large_image two_directories (writing_at (codes "a" ∷ []) false (codes "hi")) (ops.Sync 0) [] two_directories two_directories }
+    ensures uncommitted { Edits large_image (root_with (codes "a") []) (writing_at (codes "a" ∷ []) true (codes "hi")) (ops.Sync 0) []
+        (root_with (codes "a") []) (root_with (codes "a") []) → ⊥ }
+{}
+
 /// At most an eighth of a block stands in the entry, and more doesn't.
 pub fn bytes_are_stored()
     ensures inline { Stores small_image (replicate 128 7) (Inline (replicate 128 7)) }

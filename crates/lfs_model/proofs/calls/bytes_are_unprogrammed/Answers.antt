@@ -1,8 +1,8 @@
-use Rattle.std.proofs.Common.{ℕ, zero, suc, ◌≡◌, ◌≢◌, ◌≤◌, ◌<◌, true, false, nat_le, ◌==◌, cond, [], ◌∷◌, refl, sym, ap, ◌∙◌, arith}
+use Rattle.std.proofs.Common.{ℕ, zero, suc, ◌≡◌, ◌≢◌, ◌≤◌, ◌<◌, true, false, ◌==◌, cond, [], ◌∷◌, refl, sym, ap, ◌∙◌, arith}
 use Rattle.std.specs.Prelude.{All}
 use Rattle.std.proofs.lemmas.List.Elements.{All-from_recursion}
 use Rattle.std.proofs.lemmas.Bool.Decides.{nat_tests}
-use Rattle.lfs_model.specs.History.{unprogrammed, AllUnprogrammed}
+use Rattle.lfs_model.specs.History.{unprogrammed}
 use Rattle.lfs_model.specs.HistoryExamples.{after_erase, after_read}
 use Rattle.lfs_model.proofs.calls.bytes_are_unprogrammed.Goals as goal
 

@@ -1,7 +1,7 @@
-use Rattle.std.proofs.Common.{ℕ, ◌≡◌, ◌≢◌, [], ◌∷◌, List, refl, sym, ap, ◌∙◌, subst, arith, append-nil}
+use Rattle.std.proofs.Common.{◌≡◌, [], ◌∷◌, refl, sym, ap, ◌∙◌, subst, arith, append-nil}
 use Rattle.std.specs.Prelude.{slice_index}
 use Rattle.lfs_model.specs.Blocks.{Blocks, block_in}
-use Rattle.lfs_model.specs.History.{Event, EachEvent, AtWorst}
+use Rattle.lfs_model.specs.History.{EachEvent, AtWorst}
 use Rattle.lfs_model.specs.HistoryExamples.{first_blocks, after_read}
 use Rattle.lfs_model.proofs.calls.stop_leaves_other_blocks.Goals as goal
 

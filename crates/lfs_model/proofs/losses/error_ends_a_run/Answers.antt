@@ -1,13 +1,16 @@
-use Rattle.std.proofs.Common.{◌≡◌, List, [], ◌∷◌, ◌++◌, None, refl, sym, ◌∙◌, append-nil}
+use Rattle.std.proofs.Common.{[], ◌∷◌, None, refl, sym, ◌∙◌, append-nil}
 use Rattle.std.specs.Prelude.{codes}
 use Rattle.lfs_model.specs.Operations as ops
-use Rattle.lfs_model.specs.RunExamples.{fresh_moment}
-use Rattle.lfs_model.proofs.FreshSession.{differ}
+use Rattle.lfs_model.specs.RunExamples.{fresh_moment, failed_moment}
+use Rattle.lfs_model.specs.Failure.{IsCutShort}
+use Rattle.lfs_model.specs.State.{HasFailed, Healthy, mounted}
+use Rattle.lfs_model.specs.Fresh.{empty_tree}
+use Rattle.lfs_model.proofs.FreshSession.{differ, withstood}
 use Rattle.lfs_model.proofs.AskedTurn.{turn}
 use Rattle.lfs_model.proofs.losses.error_ends_a_run.Goals as goal
 
-pub returns-clause-second : goal.returns-clause-second
-returns-clause-second c = record {
+cut : IsCutShort fresh_moment (ops.Stat (codes "/") ∷ ops.Mkdir (codes "/d") ∷ ops.UsedCount ∷ []) failed_moment
+cut = record {
   done = ops.Stat (codes "/") ∷ [];
   next = ops.Mkdir (codes "/d");
   others = ops.UsedCount ∷ [];
@@ -24,6 +27,17 @@ returns-clause-second c = record {
     remounted = λ e. absurd (cc);
     silent = λ e. absurd (cc);
   };
+}
+
+pub returns-clause-second : goal.returns-clause-second
+returns-clause-second c = cut
+
+pub returns-clause-withstood : goal.returns-clause-withstood
+unfolding cut
+returns-clause-withstood c = record {
+  cut = cut;
+  done = (fresh_moment, (turn, withstood (ops.Stat (codes "/")) (Healthy (mounted empty_tree)), refl));
+  next = withstood (ops.Mkdir (codes "/d")) HasFailed;
 }
 
 pub returns-clause-goes_on : goal.returns-clause-goes_on

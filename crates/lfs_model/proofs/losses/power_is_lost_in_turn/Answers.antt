@@ -1,8 +1,11 @@
-use Rattle.std.proofs.Common.{◌≡◌, inl, [], ◌∷◌, refl, sym}
-use Rattle.std.specs.Prelude.{codes}
+use Rattle.std.proofs.Common.{inl, false, [], ◌∷◌, refl, sym, ◌∙◌, subst, append-nil}
+use Rattle.std.specs.Prelude.{Any, codes}
+use Rattle.lfs_model.specs.History.{Read, event}
+use Rattle.lfs_model.specs.Stops.{Stops}
+use Rattle.lfs_model.proofs.Sites.{any_from, among_from}
 use Rattle.lfs_model.specs.Fresh.{empty_tree}
 use Rattle.lfs_model.specs.Operations as ops
-use Rattle.lfs_model.specs.State.{mounted}
+use Rattle.lfs_model.specs.State.{Healthy, mounted}
 use Rattle.lfs_model.specs.Outages.{LosesPower}
 use Rattle.lfs_model.specs.Examples.{small_image}
 use Rattle.lfs_model.specs.RunExamples.{fresh_moment, no_disk}
@@ -26,7 +29,7 @@ once = record {
   surrounds = (pairs, (are_accepted, surrounds));
   next = ops.Stat (codes "/");
   to = fresh_moment;
-  withstands = withstood;
+  withstands = withstood (ops.Stat (codes "/")) (Healthy (mounted empty_tree));
   cleanly = record { events = []; extends = refl; each = tt };
   stop = inl refl;
 }
@@ -39,3 +42,13 @@ returns-clause-again c = (once, (once, tt))
 
 pub returns-clause-not_all : goal.returns-clause-not_all
 returns-clause-not_all c = λ o. let left = outage_leaves small_image no_disk o in_profile in none_accepted left.pairs left.accepted
+
+pub returns-clause-in_a_read : goal.returns-clause-in_a_read
+returns-clause-in_a_read c = λ blocks. record {
+  events = event (Read 0 0 4) blocks blocks false ∷ [];
+  extends = refl;
+  stopped = any_from (λ e. Stops e blocks) (event (Read 0 0 4) blocks blocks false ∷ []) (inl refl);
+}
+
+pub returns-clause-not_in_none : goal.returns-clause-not_in_none
+returns-clause-not_in_none c = λ blocks h. among_from (λ e. Stops e blocks) [] (subst (λ es. Any (λ e. Stops e blocks) es) (sym (h.extends ∙ append-nil h.events)) h.stopped)

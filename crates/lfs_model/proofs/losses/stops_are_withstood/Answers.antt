@@ -1,7 +1,9 @@
-use Rattle.std.proofs.Common.{◌≡◌, [], Option, None, refl, sym, ap, ◌∙◌}
+use Rattle.std.proofs.Common.{[], refl, sym, ap, ◌∙◌}
+use Rattle.std.specs.Prelude.{codes}
 use Rattle.lfs_model.specs.Tree.{Tree}
+use Rattle.lfs_model.specs.Operations as ops
 use Rattle.lfs_model.specs.Fresh.{empty_tree}
-use Rattle.lfs_model.specs.State.{mounted}
+use Rattle.lfs_model.specs.State.{Healthy, mounted}
 use Rattle.lfs_model.specs.Examples.{small_image}
 use Rattle.lfs_model.proofs.Fresh.{shows, writable}
 use Rattle.lfs_model.proofs.Example.{fresh}
@@ -10,7 +12,7 @@ use Rattle.lfs_model.proofs.FreshSession.{pairs, are_accepted, tree_is_empty, ar
 use Rattle.lfs_model.proofs.losses.stops_are_withstood.Goals as goal
 
 pub returns-clause-no_call : goal.returns-clause-no_call
-returns-clause-no_call c = withstood
+returns-clause-no_call c = withstood (ops.Stat (codes "/")) (Healthy (mounted empty_tree))
 
 pub returns-clause-lost : goal.returns-clause-lost
 returns-clause-lost c = λ h.

@@ -1,4 +1,4 @@
-use Rattle.std.proofs.Common.{◌≡◌, ◌⊎◌, inl, inr, List, [], ◌∷◌, None, refl, arith}
+use Rattle.std.proofs.Common.{◌⊎◌, inl, inr, [], ◌∷◌, refl, arith}
 use Rattle.std.specs.Prelude.{codes, Any}
 use Rattle.lfs_model.specs.Slots.{Slot}
 use Rattle.lfs_model.specs.SlotEdits.{new_file}

@@ -1,6 +1,5 @@
-use Rattle.std.proofs.Common.{◌≡◌, ◌≤◌, inr, false, [], ◌∷◌, None, refl, arith}
+use Rattle.std.proofs.Common.{◌≤◌, [], ◌∷◌, None, refl, arith}
 use Rattle.std.specs.Prelude.{codes}
-use Rattle.lfs_model.specs.Thread.{Pair}
 use Rattle.lfs_model.specs.Layout.{Fits}
 use Rattle.lfs_model.specs.Examples.{small_image}
 use Rattle.lfs_model.specs.RunExamples.{pair_with, heavy_file}

@@ -1,15 +1,13 @@
-use Rattle.std.proofs.Common.{ℕ, ◌≡◌, ◌⊎◌, inl, inr, true, List, [], ◌∷◌, ◌++◌, Option, Some, refl, sym, ap, subst, ◌∙◌, arith, flat_map}
+use Rattle.std.proofs.Common.{ℕ, ◌≡◌, inl, inr, List, [], ◌∷◌, refl, sym, ap, arith}
 use Rattle.std.specs.Prelude.{codes, slice_index}
 use Rattle.std.proofs.lemmas.Option.{same_Some}
-use Rattle.std.proofs.lemmas.List.Concat.{flat_map-append}
 use Rattle.lfs_model.specs.Slots.{Slot, Struct, Inline}
-use Rattle.lfs_model.specs.Thread.{Pair, anchor}
-use Rattle.lfs_model.specs.Fresh.{superblock_slot, empty_tree}
-use Rattle.lfs_model.specs.Operations as ops
-use Rattle.lfs_model.specs.SlotEdits.{new_file, new_directory, with_slots, IsSpliced, slot_of_path, Moves}
+use Rattle.lfs_model.specs.Fresh.{superblock_slot}
+use Rattle.lfs_model.specs.SlotEdits.{new_file, new_directory, Moves}
 use Rattle.lfs_model.specs.Layout.{slots_of}
-use Rattle.lfs_model.specs.RunExamples.{directories_with, two_directories, root_with}
-use Rattle.lfs_model.proofs.Sites.{Among, among_left, among_right}
+use Rattle.lfs_model.specs.RunExamples.{directories_with, root_with}
+use Rattle.lfs_model.proofs.Sites.{Among}
+use Rattle.lfs_model.proofs.Spliced.{comes}
 use Rattle.lfs_model.proofs.slots.slots_are_edited.Goals as goal
 
 abbrev root : List Slot
@@ -52,13 +50,6 @@ returns-clause-committed c = (
 
 pub returns-clause-no_slot : goal.returns-clause-no_slot
 returns-clause-no_slot c = λ new h. absurd (let k = h.2.0 in cc)
-
--- a slot that comes is among those that stand then
-comes : (v : Slot) (olds : List Slot) (old new : List Pair) → IsSpliced olds (v ∷ []) old new → Among (λ s. s ≡ v) (slots_of new)
-comes v olds old new h = subst (λ qs. Among (λ s. s ≡ v) (slots_of qs)) (sym h.is)
-    (subst (Among (λ s. s ≡ v)) (sym (flat_map-append (λ (p : Pair). p.content.slots) h.before (with_slots (h.left ++ v ∷ h.right) h.pair ∷ h.after)))
-    (among_right (λ s. s ≡ v) (slots_of h.before) (slots_of (with_slots (h.left ++ v ∷ h.right) h.pair ∷ h.after))
-    (among_left (λ s. s ≡ v) (h.left ++ v ∷ h.right) (slots_of h.after) (among_right (λ s. s ≡ v) h.left (v ∷ h.right) (inl refl)))))
 
 abbrev first_byte_of : Struct → ℕ
 first_byte_of (Inline bytes) = slice_index bytes 0

@@ -1,8 +1,8 @@
-use Rattle.std.proofs.Common.{ℕ, ◌+◌, ◌≡◌, ◌⊎◌, inl, inr, Option, Some, None, List, [], ◌∷◌, ◌++◌, true, refl, ap, arith, zero, suc, length}
+use Rattle.std.proofs.Common.{ℕ, ◌+◌, ◌≡◌, inl, inr, Option, Some, None, List, [], ◌∷◌, ◌++◌, true, refl, ap, arith, zero, suc, length}
 use Rattle.lfs_model.specs.Blocks.{Blocks, block_in}
 use Rattle.lfs_model.specs.History.{Erase, event}
 use Rattle.lfs_model.specs.Crc.{crc_of, next_bits}
-use Rattle.lfs_model.specs.Log.{BlockLog, log_of, chain_of, chain_within, commit_within, entry_at, closes}
+use Rattle.lfs_model.specs.Log.{BlockLog, chain_of, chain_within, commit_within, entry_at, closes}
 use Rattle.lfs_model.specs.Stops.{Stops, LeftByErase}
 use Rattle.lfs_model.specs.Stored.{unwritten, filled}
 use Rattle.lfs_model.specs.Examples.{small_block, small_commit, appended_commit}

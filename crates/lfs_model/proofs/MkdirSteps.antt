@@ -1,0 +1,195 @@
+-- A directory is made by the steps themselves: one commit to the last pair of its parent, or one to it and one to the pair where the name belongs.
+use Rattle.std.proofs.Common.{ℕ, ◌≡◌, true, List, [], ◌∷◌, ◌++◌, refl, sym, ap, subst, ◌∙◌, append_assoc, append-nil, subst₂}
+use Rattle.lfs_model.specs.Disk.{Disk}
+use Rattle.lfs_model.specs.Names.{Name}
+use Rattle.lfs_model.specs.Slots.{Slot, no_gstate, same_pair, FitsPair}
+use Rattle.lfs_model.specs.Thread.{Pair, first_at, gstate_of, superblocks_before}
+use Rattle.lfs_model.specs.Tree.{Path, Tree, DirectoryNode, directory_from}
+use Rattle.lfs_model.specs.View.{IsAccepted, IsWritable, Leads, entries_in, tree_in}
+use Rattle.lfs_model.specs.Apply.{added, planted}
+use Rattle.lfs_model.specs.Operations as ops
+use Rattle.lfs_model.specs.Session.{Session}
+use Rattle.lfs_model.specs.Steps.{as_path}
+use Rattle.lfs_model.specs.SlotEdits.{with_slots, new_directory}
+use Rattle.lfs_model.specs.Layout.{Fits}
+use Rattle.lfs_model.specs.PowerLoss.{IsLeft}
+use Rattle.lfs_model.proofs.Names.{IsPlace}
+use Rattle.lfs_model.proofs.Sites.{Site, thread_at, begin_of}
+use Rattle.lfs_model.proofs.Moves.{IsStep, place_at}
+use Rattle.lfs_model.proofs.Beside.{last_site, IsStepBeside, directory_comes_beside, threaded}
+use Rattle.lfs_model.proofs.Alike.{AreAlike, alike_itself, alike_append}
+use Rattle.lfs_model.proofs.Committed.{IsCompleted, recovered_from}
+use Rattle.lfs_model.proofs.MadeDirectory.{Cut, IsMkdir, mkdir_completed}
+use Rattle.lfs_model.proofs.Changes.{Follows}
+use Rattle.lfs_model.proofs.Became.{Became}
+use Rattle.lfs_model.proofs.Profiles.{step_writable}
+use Rattle.lfs_model.proofs.Chained.{InTwo, mkdir_in_two}
+use Rattle.lfs_model.proofs.StepsTaken.{IsTaken, IsPut, IsPutBeside, beside_taken, taken_before, put_within, put_filled}
+
+-- ---- in one commit
+
+module _ (disk new : Disk) (chain before left after : List Pair) (p q : Pair) (more : List Pair) (f : Pair) (extra : List ℕ) (l r : List Slot) (P : Path) (name : Name)
+    (step : IsStepBeside disk new chain before left after p [] q more f extra [] l [] (new_directory name f.at ∷ []) r)
+    (put : IsPutBeside disk (last_site chain before left after) p q more f l [] (new_directory name f.at ∷ []) r)
+    (a : ℕ × ℕ) (leads : Leads (thread_at (last_site chain before left after) (p ∷ [])) P a) (same : same_pair (begin_of (last_site chain before left after) (p ∷ [])) a ≡ true)
+    (place : IsPlace (entries_in (thread_at (last_site chain before left after) (p ∷ [])) a) (place_at (last_site chain before left after) l) name)
+    (settled : gstate_of (thread_at (last_site chain before left after) (p ∷ [])) ≡ no_gstate)
+    (still : gstate_of (thread_at (last_site chain before left after) (q ∷ (more ++ f ∷ []))) ≡ no_gstate) where
+  abbrev w : Site
+  w = last_site chain before left after
+
+  taken : IsTaken disk (thread_at (last_site chain before left after) (p ∷ [])) new (thread_at (last_site chain before left after) (q ∷ (more ++ f ∷ []))) (added (P ++ name ∷ []) (DirectoryNode [] []))
+      (planted (P ++ name ∷ []) (directory_from (entries_in (thread_at (last_site chain before left after) (p ∷ []))) (new_directory name f.at)))
+  taken = beside_taken disk new chain before left after p q more f l [] (new_directory name f.at ∷ []) r put extra [] _ _ step P a leads same
+      (directory_comes_beside disk new chain before left after p [] q more f extra l r (new_directory name f.at) step P a leads same place refl (λ e. (recovered_from disk (thread_at (last_site chain before left after) (p ∷ [])) step.accepted settled).reached))
+
+  placed : thread_at (last_site chain before left after) (q ∷ (more ++ f ∷ [])) ≡ (chain ++ ((before ++ left) ++ (q ∷ more))) ++ (f ∷ after)
+  placed = ap (λ z. chain ++ ((before ++ left) ++ q ∷ z)) (append_assoc more (f ∷ []) after)
+      ∙ ap (λ z. chain ++ z) (sym (append_assoc (before ++ left) (q ∷ more) (f ∷ after))) ∙ sym (append_assoc chain ((before ++ left) ++ (q ∷ more)) (f ∷ after))
+
+  made : IsMkdir disk new (thread_at (last_site chain before left after) (q ∷ (more ++ f ∷ []))) chain (before ++ left) after p q more (chain ++ ((before ++ left) ++ (q ∷ more))) after f l r P name
+  made = record {
+    is_chain = step.site.chain;
+    accepted = step.accepted;
+    writable = put.writable;
+    settled = settled;
+    still = still;
+    walk = _;
+    follows = taken.follows;
+    still_writable = taken.writable;
+    was = put.was;
+    at = step.shape.at;
+    is = put.is;
+    cut = put.cut;
+    empty = put.empty;
+    placed = placed;
+    alike = subst (AreAlike (chain ++ ((before ++ left) ++ ((q ∷ more) ++ after))))
+        (ap (λ z. chain ++ z) (sym (append_assoc (before ++ left) (q ∷ more) after)) ∙ sym (append_assoc chain ((before ++ left) ++ (q ∷ more)) after))
+        (alike_itself (chain ++ ((before ++ left) ++ ((q ∷ more) ++ after))));
+  }
+
+  pub mkdir_in_one_completed : (s : Session) (path : List ℕ) → s.tree ≡ tree_in disk (thread_at (last_site chain before left after) (p ∷ [])) → as_path path ≡ P ++ name ∷ []
+      → IsCompleted disk (thread_at (last_site chain before left after) (p ∷ [])) s (ops.Mkdir path) new (thread_at (last_site chain before left after) (q ∷ (more ++ f ∷ [])))
+  mkdir_in_one_completed s path tree is =
+      mkdir_completed disk new (thread_at (last_site chain before left after) (q ∷ (more ++ f ∷ []))) chain (before ++ left) after p q more (chain ++ ((before ++ left) ++ (q ∷ more))) after f l r P name made s path tree is
+
+-- ---- in two: the fresh pair is threaded behind the last pair of the parent, with the sync bit set; then the entry comes into a pair in front of that
+
+module _ (disk middle new : Disk) (chain before front mid after : List Pair) (x y f : Pair) (extra : List ℕ) (l0 r0 : List Slot) (p q : Pair) (more : List Pair) (extra2 : List ℕ) (l r : List Slot) (P : Path) (name : Name)
+    (step : IsStepBeside disk middle chain before (front ++ p ∷ mid) after x [] y [] f extra [] l0 [] [] r0)
+    (put : IsPutBeside disk (last_site chain before (front ++ p ∷ mid) after) x y [] f l0 [] [] r0)
+    (step2 : IsStep middle new (record { chain = chain; before = before; left = front; right = mid ++ y ∷ []; after = f ∷ after }) p [] q more extra2 [] l [] (new_directory name f.at ∷ []) r)
+    (put2 : IsPut middle (record { chain = chain; before = before; left = front; right = mid ++ y ∷ []; after = f ∷ after }) p q more l [] (new_directory name f.at ∷ []) r)
+    (a : ℕ × ℕ) (leads : Leads (thread_at (last_site chain before (front ++ p ∷ mid) after) (x ∷ [])) P a)
+    (same : same_pair (begin_of (last_site chain before (front ++ p ∷ mid) after) (x ∷ [])) a ≡ true)
+    (place : IsPlace (entries_in (thread_at (record { chain = chain; before = before; left = front; right = mid ++ y ∷ []; after = f ∷ after }) (p ∷ [])) a)
+    (place_at (record { chain = chain; before = before; left = front; right = mid ++ y ∷ []; after = f ∷ after }) l) name)
+    (sync : (gstate_of (thread_at (last_site chain before (front ++ p ∷ mid) after) (y ∷ ([] ++ f ∷ [])))).sync ≡ true)
+    (settled : gstate_of (thread_at (last_site chain before (front ++ p ∷ mid) after) (x ∷ [])) ≡ no_gstate)
+    (still : gstate_of (thread_at (record { chain = chain; before = before; left = front; right = mid ++ y ∷ []; after = f ∷ after }) (q ∷ more)) ≡ no_gstate) where
+  abbrev here : Site
+  here = last_site chain before (front ++ p ∷ mid) after
+
+  abbrev there : Site
+  there = record { chain = chain; before = before; left = front; right = mid ++ y ∷ []; after = f ∷ after }
+
+  abbrev ps : List Pair
+  ps = thread_at here (x ∷ [])
+
+  abbrev rs : List Pair
+  rs = thread_at there (q ∷ more)
+
+  -- the thread with some pairs in place of p, and some behind its directory
+  turned : (us vs : List Pair) → (before ++ (front ++ (us ++ mid))) ++ vs ≡ (before ++ front) ++ (us ++ (mid ++ vs))
+  turned us vs = append_assoc before (front ++ (us ++ mid)) vs ∙ ap (λ z. before ++ z) (append_assoc front (us ++ mid) vs ∙ ap (λ z. front ++ z) (append_assoc us mid vs)) ∙ sym (append_assoc before front (us ++ (mid ++ vs)))
+
+  same_thread : thread_at (last_site chain before (front ++ p ∷ mid) after) (y ∷ ([] ++ f ∷ [])) ≡ thread_at (record { chain = chain; before = before; left = front; right = mid ++ y ∷ []; after = f ∷ after }) (p ∷ [])
+  same_thread = ap (λ z. chain ++ z) (turned (p ∷ []) (y ∷ f ∷ after) ∙ ap (λ z. (before ++ front) ++ (p ∷ z)) (sym (append_assoc mid (y ∷ []) (f ∷ after))))
+
+  first : IsTaken disk (thread_at (last_site chain before (front ++ p ∷ mid) after) (x ∷ [])) middle (thread_at (last_site chain before (front ++ p ∷ mid) after) (y ∷ ([] ++ f ∷ []))) (λ t. t) (λ d. d)
+  first = beside_taken disk middle chain before (front ++ p ∷ mid) after x y [] f l0 [] [] r0 put extra [] (λ t. t) (λ d. d) step P a leads same
+      (threaded disk middle chain before (front ++ p ∷ mid) after x [] y [] f extra l0 r0 step P a leads same sync)
+
+  -- between the steps the tree is the one from before
+  pub mkdir_between : (new_tree : Tree) → IsLeft middle (tree_in disk (thread_at (last_site chain before (front ++ p ∷ mid) after) (x ∷ []))) new_tree
+  mkdir_between new_tree = taken_before disk ps middle (thread_at (last_site chain before (front ++ p ∷ mid) after) (y ∷ ([] ++ f ∷ []))) (λ d. d) new_tree first
+
+  leads2 : Leads (thread_at (record { chain = chain; before = before; left = front; right = mid ++ y ∷ []; after = f ∷ after }) (p ∷ [])) P a
+  leads2 = subst (λ z. Leads z P a) same_thread (ap (λ d. d P) first.follows.leads ∙ leads)
+
+  same2 : same_pair (begin_of (record { chain = chain; before = before; left = front; right = mid ++ y ∷ []; after = f ∷ after }) (p ∷ [])) a ≡ true
+  same2 = ap (λ z. same_pair z a) (go front) ∙ same
+    where
+      go : (xs : List Pair) → first_at (xs ++ p ∷ []) ≡ first_at ((xs ++ p ∷ mid) ++ x ∷ [])
+      go [] = refl
+      go (z ∷ xs) = refl
+
+  both : InTwo disk (thread_at (last_site chain before (front ++ p ∷ mid) after) (x ∷ [])) middle (thread_at (record { chain = chain; before = before; left = front; right = mid ++ y ∷ []; after = f ∷ after }) (p ∷ []))
+      new (thread_at (record { chain = chain; before = before; left = front; right = mid ++ y ∷ []; after = f ∷ after }) (q ∷ more)) (λ t. t) (added (P ++ name ∷ []) (DirectoryNode [] []))
+  both = mkdir_in_two disk middle new chain before (front ++ p ∷ mid) after x [] y [] f extra l0 r0 step P a leads same sync
+      (record { chain = chain; before = before; left = front; right = mid ++ y ∷ []; after = f ∷ after }) p q more extra2 l r (new_directory name f.at) step2 same_thread P a leads2 same2 place refl
+      (recovered_from disk (thread_at (last_site chain before (front ++ p ∷ mid) after) (x ∷ [])) step.accepted settled).reached
+
+  second : IsWritable new (thread_at (record { chain = chain; before = before; left = front; right = mid ++ y ∷ []; after = f ∷ after }) (q ∷ more))
+  second = step_writable middle new (record { chain = chain; before = before; left = front; right = mid ++ y ∷ []; after = f ∷ after }) p [] q more extra2 [] l [] (new_directory name f.at ∷ []) r step2 put2.writable
+      (put_within middle there p q more l [] (new_directory name f.at ∷ []) r put2) (put_filled middle there p q more l [] (new_directory name f.at ∷ []) r put2)
+
+  -- where the pairs stand before and after
+  were : thread_at (last_site chain before (front ++ p ∷ mid) after) (x ∷ []) ≡ chain ++ ((before ++ front) ++ (p ∷ [] ++ (mid ++ x ∷ after)))
+  were = ap (λ z. chain ++ z) (turned (p ∷ []) (x ∷ after))
+
+  ahead : List Pair
+  ahead = chain ++ ((before ++ front) ++ ((q ∷ more) ++ (mid ++ y ∷ [])))
+
+  parted : (zs : List Pair) → chain ++ ((before ++ front) ++ ((q ∷ more) ++ ((mid ++ y ∷ []) ++ zs))) ≡ (chain ++ ((before ++ front) ++ ((q ∷ more) ++ (mid ++ y ∷ [])))) ++ zs
+  parted zs = ap (λ z. chain ++ ((before ++ front) ++ z)) (sym (append_assoc (q ∷ more) (mid ++ y ∷ []) zs)) ∙ ap (λ z. chain ++ z) (sym (append_assoc (before ++ front) ((q ∷ more) ++ (mid ++ y ∷ [])) zs))
+      ∙ sym (append_assoc chain ((before ++ front) ++ ((q ∷ more) ++ (mid ++ y ∷ []))) zs)
+
+  -- x and y hold the same
+  same_slots : y.content.slots ≡ x.content.slots
+  same_slots = sym (append-nil y.content.slots) ∙ put.is ∙ sym put.was
+
+  alike : AreAlike (chain ++ ((before ++ front) ++ ((q ∷ more) ++ (mid ++ x ∷ after)))) ((chain ++ ((before ++ front) ++ ((q ∷ more) ++ (mid ++ y ∷ [])))) ++ after)
+  alike = subst (AreAlike (chain ++ ((before ++ front) ++ ((q ∷ more) ++ (mid ++ x ∷ after))))) (ap (λ z. chain ++ ((before ++ front) ++ ((q ∷ more) ++ z))) (sym (append_assoc mid (y ∷ []) after)) ∙ parted after)
+      (alike_append chain ((before ++ front) ++ ((q ∷ more) ++ (mid ++ x ∷ after))) chain ((before ++ front) ++ ((q ∷ more) ++ (mid ++ y ∷ after))) (alike_itself chain)
+      (alike_append (before ++ front) ((q ∷ more) ++ (mid ++ x ∷ after)) (before ++ front) ((q ∷ more) ++ (mid ++ y ∷ after)) (alike_itself (before ++ front))
+      (alike_append (q ∷ more) (mid ++ x ∷ after) (q ∷ more) (mid ++ y ∷ after) (alike_itself (q ∷ more))
+      (alike_append mid (x ∷ after) mid (y ∷ after) (alike_itself mid) (step.shape.at, same_slots, alike_itself after)))))
+
+  made2 : IsMkdir disk new (thread_at (record { chain = chain; before = before; left = front; right = mid ++ y ∷ []; after = f ∷ after }) (q ∷ more)) chain (before ++ front) (mid ++ x ∷ after) p q more
+      (chain ++ ((before ++ front) ++ ((q ∷ more) ++ (mid ++ y ∷ [])))) after f l r P name
+  made2 = record {
+    is_chain = ap superblocks_before (sym were) ∙ step.site.chain;
+    accepted = subst (IsAccepted disk) were step.accepted;
+    writable = subst (IsWritable disk) were put.writable;
+    settled = ap gstate_of (sym were) ∙ settled;
+    still = still;
+    walk = both.walk_on;
+    follows = subst (λ z. Follows disk z new (thread_at (record { chain = chain; before = before; left = front; right = mid ++ y ∷ []; after = f ∷ after }) (q ∷ more)) (added (P ++ name ∷ []) (DirectoryNode [] [])) both.walk_on) were both.end;
+    still_writable = second;
+    was = put2.was;
+    at = step2.shape.at;
+    is = put2.is;
+    cut = became_cut more put2.became;
+    empty = put.empty;
+    placed = parted (f ∷ after);
+    alike = alike;
+  }
+    where
+      -- the tails don't matter, and the sizes are the same on both disks
+      sized : (d : Pair) → Fits middle d → Fits disk d
+      sized d h = subst₂ (λ b g. FitsPair b g d.content) step.device.geometry.block_size step.device.geometry.page h
+
+      resized : (d : Pair) → Fits disk d → Fits middle d
+      resized d h = subst₂ (λ b g. FitsPair b g d.content) (sym step.device.geometry.block_size) (sym step.device.geometry.page) h
+
+      became_cut : (more : List Pair) → Became middle p (with_slots (l ++ (new_directory name f.at ∷ [] ++ r)) p) q more → Cut disk (with_slots (l ++ new_directory name f.at ∷ r) p) q more
+      became_cut [] h = sized (with_slots (l ++ new_directory name f.at ∷ r) p) h.1
+      became_cut (g ∷ []) h = ((λ k. h.2 (resized (with_slots (l ++ new_directory name f.at ∷ r) p) k)), sized q h.3, sized g h.4)
+      became_cut (g ∷ i ∷ more) h = absurd h
+
+  pub mkdir_in_two_completed : (s : Session) (path : List ℕ) → s.tree ≡ tree_in disk (thread_at (last_site chain before (front ++ p ∷ mid) after) (x ∷ [])) → as_path path ≡ P ++ name ∷ []
+      → IsCompleted disk (thread_at (last_site chain before (front ++ p ∷ mid) after) (x ∷ [])) s (ops.Mkdir path) new (thread_at (record { chain = chain; before = before; left = front; right = mid ++ y ∷ []; after = f ∷ after }) (q ∷ more))
+  mkdir_in_two_completed s path tree is =
+      subst (λ z. IsCompleted disk z s (ops.Mkdir path) new (thread_at (record { chain = chain; before = before; left = front; right = mid ++ y ∷ []; after = f ∷ after }) (q ∷ more))) (sym were)
+      (mkdir_completed disk new rs chain (before ++ front) (mid ++ x ∷ after) p q more (chain ++ ((before ++ front) ++ ((q ∷ more) ++ (mid ++ y ∷ [])))) after f l r P name made2 s path (tree ∙ ap (tree_in disk) were) is)

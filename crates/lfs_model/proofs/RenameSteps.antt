@@ -1,0 +1,203 @@
+-- A rename within one pair, from its commit alone: to a name that is new, which stands behind the old slot or in front of it.
+use Rattle.std.proofs.Common.{ℕ, zero, suc, ◌≡◌, ◌<◌, ◌≤◌, ⊎_elim, true, false, not, List, [], ◌∷◌, ◌++◌, length, Some, None, refl, sym, ap, subst, ◌∙◌, arith, append_assoc, length-append, get_or, slice_get, remove}
+use Rattle.std.specs.List.{insert}
+use Rattle.std.specs.declared.cmp.Ordering.TheVariants.{Less}
+use Rattle.std.proofs.lemmas.Bool.{cases_lt}
+use Rattle.std.proofs.lemmas.List.Elements.{filter-append}
+use Rattle.lfs_model.specs.Disk.{Disk}
+use Rattle.lfs_model.specs.Names.{Name, name_cmp}
+use Rattle.lfs_model.specs.Slots.{Slot, is_superblock, same_pair}
+use Rattle.lfs_model.specs.Thread.{Pair, blocks_of}
+use Rattle.lfs_model.specs.Tree.{Path}
+use Rattle.lfs_model.specs.View.{Leads, entries_in, tree_in}
+use Rattle.lfs_model.specs.Apply.{rest_after}
+use Rattle.lfs_model.specs.Operations as ops
+use Rattle.lfs_model.specs.Session.{Session}
+use Rattle.lfs_model.specs.Steps.{as_path}
+use Rattle.lfs_model.specs.InDirectory.{entries_only, slots_in}
+use Rattle.lfs_model.proofs.Edits.{not_after}
+use Rattle.lfs_model.proofs.Paths.{last_is}
+use Rattle.lfs_model.proofs.Names.{IsPlace, greater}
+use Rattle.lfs_model.proofs.Sites.{Site, thread_at, begin_of}
+use Rattle.lfs_model.proofs.Moves.{place_at, shown_before, shown_behind, entry_only, get_here, remove_here, insert_here}
+use Rattle.lfs_model.proofs.Renames.{entry_moves}
+use Rattle.lfs_model.proofs.OneCommit.{slot_there}
+use Rattle.lfs_model.proofs.Indexes.{site_shows, nothing_there}
+use Rattle.lfs_model.proofs.Committed.{IsCompleted, IsCommit, commit_step, recovered_from, no_move_from}
+use Rattle.lfs_model.proofs.RenamedWithin.{within_completed}
+
+-- ---- names and places
+
+-- a sibling of another name is not beneath
+pub sibling_apart : (P : Path) (n m : Name) → (m ≡ n → ⊥) → rest_after (P ++ n ∷ []) (P ++ m ∷ []) ≡ None
+sibling_apart P n m apart = not_after (P ++ n ∷ []) (P ++ m ∷ []) (λ r e. apart (go P r e))
+  where
+    go : (P r : Path) → P ++ m ∷ [] ≡ (P ++ n ∷ []) ++ r → m ≡ n
+    go [] r e = cc
+    go (x ∷ P) r e = go P r (cc)
+
+less_differs : (a b : Name) → name_cmp a b ≡ Less → b ≡ a → ⊥
+less_differs a b e same = absurd (let k : name_cmp a a ≡ Less = ap (name_cmp a) (sym same) ∙ e in let g = greater a a k in cc)
+
+get_past : (xs : List Slot) (u : Slot) (ys : List Slot) (i : ℕ) (d : Slot) → length xs ≤ i → get_or (xs ++ u ∷ ys) (suc i) d ≡ get_or (xs ++ ys) i d
+get_past [] u ys i d le = refl
+get_past (x ∷ xs) u ys zero d le = absurd (omega arith)
+get_past (x ∷ xs) u ys (suc i) d le = get_past xs u ys i d (omega arith)
+
+get_before : (xs : List Slot) (u : Slot) (ys : List Slot) (i : ℕ) (d : Slot) → i < length xs → get_or (xs ++ u ∷ ys) i d ≡ get_or (xs ++ ys) i d
+get_before [] u ys i d lt = absurd (omega arith)
+get_before (x ∷ xs) u ys zero d lt = refl
+get_before (x ∷ xs) u ys (suc i) d lt = get_before xs u ys i d (omega arith)
+
+-- without an entry in front of it a place is one less
+pub place_behind : (xs : List Slot) (u : Slot) (ys : List Slot) (n : ℕ) (name : Name) → length xs ≤ n → IsPlace (xs ++ u ∷ ys) (suc n) name → IsPlace (xs ++ ys) n name
+place_behind xs u ys n name le h = record {
+  within = (let w = h.within in omega (arith, w, length-append xs (u ∷ ys), length-append xs ys));
+  below = λ j d lt. ⊎_elim
+      (λ less. subst (λ (s : Slot). name_cmp s.name name ≡ Less) (get_before xs u ys j d less) (h.below j d (omega arith)))
+      (λ past. subst (λ (s : Slot). name_cmp s.name name ≡ Less) (get_past xs u ys j d past) (h.below (suc j) d (omega arith)))
+      (cases_lt j (length xs));
+  above = λ j d low high. subst (λ (s : Slot). name_cmp name s.name ≡ Less) (get_past xs u ys j d (omega arith))
+      (h.above (suc j) d (omega arith) (omega (arith, length-append xs (u ∷ ys), length-append xs ys, high)));
+}
+
+-- without one behind it it stays
+pub place_ahead : (xs : List Slot) (u : Slot) (ys : List Slot) (n : ℕ) (name : Name) → n ≤ length xs → IsPlace (xs ++ u ∷ ys) n name → IsPlace (xs ++ ys) n name
+place_ahead xs u ys n name le h = record {
+  within = omega (arith, le, length-append xs ys);
+  below = λ j d lt. subst (λ (s : Slot). name_cmp s.name name ≡ Less) (get_before xs u ys j d (omega arith)) (h.below j d lt);
+  above = λ j d low high. ⊎_elim
+      (λ less. subst (λ (s : Slot). name_cmp name s.name ≡ Less) (get_before xs u ys j d less) (h.above j d low (omega (arith, length-append xs (u ∷ ys), less))))
+      (λ past. subst (λ (s : Slot). name_cmp name s.name ≡ Less) (get_past xs u ys j d past) (h.above (suc j) d (omega arith) (omega (arith, length-append xs (u ∷ ys), length-append xs ys, high))))
+      (cases_lt j (length xs));
+}
+
+-- the entry there isn't of that name
+behind_differs : (xs : List Slot) (u : Slot) (ys : List Slot) (n : ℕ) (name : Name) → length xs ≤ n → IsPlace (xs ++ u ∷ ys) (suc n) name → name ≡ u.name → ⊥
+behind_differs xs u ys n name le h = less_differs u.name name (subst (λ (s : Slot). name_cmp s.name name ≡ Less) (here xs u ys) (h.below (length xs) u (omega arith)))
+  where
+    here : (xs : List Slot) (u : Slot) (ys : List Slot) → get_or (xs ++ u ∷ ys) (length xs) u ≡ u
+    here [] u ys = refl
+    here (x ∷ xs) u ys = here xs u ys
+
+ahead_differs : (xs : List Slot) (u : Slot) (ys : List Slot) (n : ℕ) (name : Name) → n ≤ length xs → IsPlace (xs ++ u ∷ ys) n name → name ≡ u.name → ⊥
+ahead_differs xs u ys n name le h e = less_differs name u.name (subst (λ (s : Slot). name_cmp name s.name ≡ Less) (here xs u ys) (h.above (length xs) u le (omega (arith, length-append xs (u ∷ ys))))) (sym e)
+  where
+    here : (xs : List Slot) (u : Slot) (ys : List Slot) → get_or (xs ++ u ∷ ys) (length xs) u ≡ u
+    here [] u ys = refl
+    here (x ∷ xs) u ys = here xs u ys
+
+entries_of_both : (xs ys : List Slot) → entries_only (xs ++ ys) ≡ entries_only xs ++ entries_only ys
+entries_of_both xs ys = filter-append (λ (s : Slot). not (is_superblock s)) xs ys
+
+-- ---- behind the old slot
+
+module _ (disk new : Disk) (w : Site) (p q : Pair) (more : List Pair) (l : List Slot) (u : Slot) (passed r : List Slot) (name : Name)
+    (c : IsCommit disk new w p q more [] l (u ∷ passed) (passed ++ record u { name = name } ∷ []) r) (other : is_superblock u ≡ false)
+    (P : Path) (a : ℕ × ℕ) (leads : Leads (thread_at w (p ∷ [])) P a) (same : same_pair (begin_of w (p ∷ [])) a ≡ true)
+    (place : IsPlace (entries_in (thread_at w (p ∷ [])) a) (place_at w (l ++ u ∷ passed)) name)
+    (s : Session) (old_bytes new_bytes : List ℕ) (tree : s.tree ≡ tree_in disk (thread_at w (p ∷ []))) (old_is : as_path old_bytes ≡ P ++ u.name ∷ []) (new_is : as_path new_bytes ≡ P ++ name ∷ []) where
+  abbrev moved : Slot
+  moved = record u { name = name }
+
+  abbrev ahead : List Slot
+  ahead = shown_before w l
+
+  abbrev rest : List Slot
+  rest = entries_only passed ++ shown_behind w r
+
+  shows : entries_in (thread_at w (p ∷ [])) a ≡ shown_before w l ++ u ∷ (entries_only passed ++ shown_behind w r)
+  shows = site_shows disk w p l (u ∷ passed) r a c.accepted c.site (no_move_from (thread_at w (p ∷ [])) c.settled) same c.was
+      ∙ ap (λ z. ahead ++ (z ++ shown_behind w r)) (entries_of_both (u ∷ []) passed ∙ ap (λ z. z ++ entries_only passed) (entry_only u other))
+
+  at_old : slice_get (entries_in (thread_at w (p ∷ [])) a) (place_at w l) ≡ Some u
+  at_old = ap (λ z. slice_get z (place_at w l)) shows ∙ get_here ahead rest u
+
+  left_over : remove (entries_in (thread_at w (p ∷ [])) a) (place_at w l) ≡ shown_before w l ++ (entries_only passed ++ shown_behind w r)
+  left_over = ap (λ z. remove z (place_at w l)) shows ∙ remove_here ahead rest u
+
+  abbrev number : ℕ
+  number = length (shown_before w l ++ entries_only passed)
+
+  -- the place with the old slot in front of it
+  number_is : place_at w (l ++ u ∷ passed) ≡ suc (length (shown_before w l ++ entries_only passed))
+  number_is = ap length (ap entries_only (sym (append_assoc (slots_in w.left) l (u ∷ passed))) ∙ entries_of_both (slots_in w.left ++ l) (u ∷ passed)
+      ∙ ap (λ z. ahead ++ z) (entries_of_both (u ∷ []) passed ∙ ap (λ z. z ++ entries_only passed) (entry_only u other)))
+      ∙ omega (arith, length-append ahead (u ∷ entries_only passed), length-append ahead (entries_only passed))
+
+  place_there : IsPlace (shown_before w l ++ u ∷ (entries_only passed ++ shown_behind w r)) (suc (length (shown_before w l ++ entries_only passed))) name
+  place_there = subst (λ k. IsPlace (ahead ++ u ∷ rest) k name) number_is (subst (λ z. IsPlace z (place_at w (l ++ u ∷ passed)) name) shows place)
+
+  new_place : IsPlace (remove (entries_in (thread_at w (p ∷ [])) a) (place_at w l)) (length (shown_before w l ++ entries_only passed)) name
+  new_place = subst (λ z. IsPlace z number name) (sym left_over) (place_behind ahead u rest number name (omega (arith, length-append ahead (entries_only passed))) place_there)
+
+  shown_moved : shown_before w l ++ (entries_only (passed ++ record u { name = name } ∷ []) ++ shown_behind w r)
+      ≡ insert (remove (entries_in (thread_at w (p ∷ [])) a) (place_at w l)) (length (shown_before w l ++ entries_only passed)) (record u { name = name })
+  shown_moved = ap (λ z. ahead ++ (z ++ shown_behind w r)) (entries_of_both passed (moved ∷ []) ∙ ap (λ z. entries_only passed ++ z) (entry_only moved other))
+      ∙ ap (λ z. ahead ++ z) (append_assoc (entries_only passed) (moved ∷ []) (shown_behind w r)) ∙ sym (append_assoc ahead (entries_only passed) (moved ∷ shown_behind w r))
+      ∙ sym (insert_here (ahead ++ entries_only passed) (shown_behind w r) moved)
+      ∙ ap (λ z. insert z number moved) (append_assoc ahead (entries_only passed) (shown_behind w r) ∙ sym left_over)
+
+  abbrev differs : name ≡ u.name → ⊥
+  differs = behind_differs ahead u rest number name (omega (arith, length-append (shown_before w l) (entries_only passed))) place_there
+
+  pub renamed_behind_completed : IsCompleted disk (thread_at w (p ∷ [])) s (ops.Rename old_bytes new_bytes) new (thread_at w (q ∷ more))
+  renamed_behind_completed = within_completed disk new w p q more l (u ∷ passed) (passed ++ moved ∷ []) r c l u (passed ++ r) (l ++ passed) None r name
+      c.was (sym (append_assoc l passed r)) (ap (λ z. l ++ z) (append_assoc passed (moved ∷ []) r) ∙ sym (append_assoc l passed (moved ∷ r)))
+      s old_bytes new_bytes (P ++ u.name ∷ []) (P ++ name ∷ []) tree old_is new_is (last_is P name)
+      (slot_there disk (thread_at w (p ∷ [])) P a (place_at w l) u c.accepted leads at_old)
+      (nothing_there disk (thread_at w (p ∷ [])) P a (place_at w (l ++ u ∷ passed)) name leads place).0 tt
+      _ (entry_moves disk new w p [] q more (blocks_of more) [] l (u ∷ passed) (passed ++ moved ∷ []) r (commit_step disk new w p q more [] l (u ∷ passed) (passed ++ moved ∷ []) r c)
+      P a leads same (place_at w l) u at_old name number shown_moved (sibling_apart P u.name name differs) new_place (λ e. (recovered_from disk (thread_at w (p ∷ [])) c.accepted c.settled).reached))
+
+-- ---- in front of it
+
+module _ (disk new : Disk) (w : Site) (p q : Pair) (more : List Pair) (l : List Slot) (u : Slot) (passed r : List Slot) (name : Name)
+    (c : IsCommit disk new w p q more [] l (passed ++ u ∷ []) (record u { name = name } ∷ passed) r) (other : is_superblock u ≡ false)
+    (P : Path) (a : ℕ × ℕ) (leads : Leads (thread_at w (p ∷ [])) P a) (same : same_pair (begin_of w (p ∷ [])) a ≡ true)
+    (place : IsPlace (entries_in (thread_at w (p ∷ [])) a) (place_at w l) name)
+    (s : Session) (old_bytes new_bytes : List ℕ) (tree : s.tree ≡ tree_in disk (thread_at w (p ∷ []))) (old_is : as_path old_bytes ≡ P ++ u.name ∷ []) (new_is : as_path new_bytes ≡ P ++ name ∷ []) where
+  abbrev moved2 : Slot
+  moved2 = record u { name = name }
+
+  abbrev ahead2 : List Slot
+  ahead2 = shown_before w l ++ entries_only passed
+
+  shows2 : entries_in (thread_at w (p ∷ [])) a ≡ (shown_before w l ++ entries_only passed) ++ u ∷ shown_behind w r
+  shows2 = site_shows disk w p l (passed ++ u ∷ []) r a c.accepted c.site (no_move_from (thread_at w (p ∷ [])) c.settled) same c.was
+      ∙ ap (λ z. shown_before w l ++ (z ++ shown_behind w r)) (entries_of_both passed (u ∷ []) ∙ ap (λ z. entries_only passed ++ z) (entry_only u other))
+      ∙ ap (λ z. shown_before w l ++ z) (append_assoc (entries_only passed) (u ∷ []) (shown_behind w r)) ∙ sym (append_assoc (shown_before w l) (entries_only passed) (u ∷ shown_behind w r))
+
+  abbrev old_number : ℕ
+  old_number = length (shown_before w l ++ entries_only passed)
+
+  at_old2 : slice_get (entries_in (thread_at w (p ∷ [])) a) (length (shown_before w l ++ entries_only passed)) ≡ Some u
+  at_old2 = ap (λ z. slice_get z old_number) shows2 ∙ get_here ahead2 (shown_behind w r) u
+
+  left_over2 : remove (entries_in (thread_at w (p ∷ [])) a) (length (shown_before w l ++ entries_only passed)) ≡ (shown_before w l ++ entries_only passed) ++ shown_behind w r
+  left_over2 = ap (λ z. remove z old_number) shows2 ∙ remove_here ahead2 (shown_behind w r) u
+
+  few : place_at w l ≤ length (shown_before w l ++ entries_only passed)
+  few = omega (arith, length-append (shown_before w l) (entries_only passed))
+
+  place_there2 : IsPlace ((shown_before w l ++ entries_only passed) ++ u ∷ shown_behind w r) (place_at w l) name
+  place_there2 = subst (λ z. IsPlace z (place_at w l) name) shows2 place
+
+  new_place2 : IsPlace (remove (entries_in (thread_at w (p ∷ [])) a) (length (shown_before w l ++ entries_only passed))) (place_at w l) name
+  new_place2 = subst (λ z. IsPlace z (place_at w l) name) (sym left_over2) (place_ahead ahead2 u (shown_behind w r) (place_at w l) name few place_there2)
+
+  shown_moved2 : shown_before w l ++ (entries_only (record u { name = name } ∷ passed) ++ shown_behind w r)
+      ≡ insert (remove (entries_in (thread_at w (p ∷ [])) a) (length (shown_before w l ++ entries_only passed))) (place_at w l) (record u { name = name })
+  shown_moved2 = ap (λ z. shown_before w l ++ (z ++ shown_behind w r)) (entries_of_both (moved2 ∷ []) passed ∙ ap (λ z. z ++ entries_only passed) (entry_only moved2 other))
+      ∙ sym (insert_here (shown_before w l) (entries_only passed ++ shown_behind w r) moved2)
+      ∙ ap (λ z. insert z (place_at w l) moved2) (sym (append_assoc (shown_before w l) (entries_only passed) (shown_behind w r)) ∙ sym left_over2)
+
+  pub renamed_ahead_completed : IsCompleted disk (thread_at w (p ∷ [])) s (ops.Rename old_bytes new_bytes) new (thread_at w (q ∷ more))
+  renamed_ahead_completed = within_completed disk new w p q more l (passed ++ u ∷ []) (moved2 ∷ passed) r c (l ++ passed) u r l None (passed ++ r) name
+      (c.was ∙ ap (λ z. l ++ z) (append_assoc passed (u ∷ []) r) ∙ sym (append_assoc l passed (u ∷ r))) (append_assoc l passed r) refl
+      s old_bytes new_bytes (P ++ u.name ∷ []) (P ++ name ∷ []) tree old_is new_is (last_is P name)
+      (slot_there disk (thread_at w (p ∷ [])) P a old_number u c.accepted leads at_old2)
+      (nothing_there disk (thread_at w (p ∷ [])) P a (place_at w l) name leads place).0 tt
+      _ (entry_moves disk new w p [] q more (blocks_of more) [] l (passed ++ u ∷ []) (moved2 ∷ passed) r (commit_step disk new w p q more [] l (passed ++ u ∷ []) (moved2 ∷ passed) r c)
+      P a leads same old_number u at_old2 name (place_at w l) shown_moved2 (sibling_apart P u.name name (ahead_differs ahead2 u (shown_behind w r) (place_at w l) name few place_there2)) new_place2
+      (λ e. (recovered_from disk (thread_at w (p ∷ [])) c.accepted c.settled).reached))

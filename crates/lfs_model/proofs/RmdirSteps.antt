@@ -1,0 +1,322 @@
+-- An empty directory is removed by the steps themselves: its entry goes with the sync bit set, and then its pair goes from the thread.
+use Rattle.std.proofs.Common.{ℕ, ◌≡◌, ◌≢◌, ◌⊎◌, inl, inr, true, false, cond, List, [], ◌∷◌, ◌++◌, Option, Some, None, refl, sym, ap, subst, ◌∙◌, append_assoc, subst₂}
+use Rattle.std.specs.Prelude.{All, is_some, slice_get}
+use Rattle.std.specs.List.{IsDistinct}
+use Rattle.std.proofs.Common.{nat_eq}
+use Rattle.std.proofs.lemmas.List.Elements.{All-from_recursion, recursion_from_All}
+use Rattle.lfs_model.specs.Disk.{Disk}
+use Rattle.lfs_model.specs.Slots.{Slot, Tail, Branch, no_gstate, is_superblock, same_pair}
+use Rattle.lfs_model.specs.Thread.{Pair, Listing, blocks_of, gstate_of, is_hard, superblocks_before}
+use Rattle.lfs_model.specs.Tree.{Path, Tree}
+use Rattle.lfs_model.specs.View.{IsAccepted, IsReached, IsWritable, FitsSlot, HaveSlots, Leads, directories_in, entries_in, tree_in}
+use Rattle.lfs_model.specs.Apply.{removed, planted}
+use Rattle.lfs_model.specs.Operations as ops
+use Rattle.lfs_model.specs.Session.{Session}
+use Rattle.lfs_model.specs.Steps.{as_path}
+use Rattle.lfs_model.specs.SlotEdits.{with_slots, slot_of_path}
+use Rattle.lfs_model.specs.Layout.{begin_from, onward}
+use Rattle.lfs_model.specs.PowerLoss.{IsLeft}
+use Rattle.lfs_model.proofs.Counts.{Each, each_append, each_left, each_right, each_weaker}
+use Rattle.lfs_model.proofs.Pairs.{pair_back, pair_on}
+use Rattle.lfs_model.proofs.Global.{HasNoMove}
+use Rattle.lfs_model.proofs.Superblocks.{IsChain}
+use Rattle.lfs_model.proofs.Changes.{Follows, chain_now}
+use Rattle.lfs_model.proofs.Sites.{Site, dirs_at, thread_at, begin_of}
+use Rattle.lfs_model.proofs.Splices.{IsDevice, splice_change}
+use Rattle.lfs_model.proofs.Moves.{IsStep, AllReachedBut, place_at, shown_before, shown_behind, entry_only, get_here, goes_from, directory_goes, directory_goes_reached, directory_goes_unled}
+use Rattle.lfs_model.proofs.Beside.{last_site}
+use Rattle.lfs_model.proofs.Became.{fits_same}
+use Rattle.lfs_model.proofs.Writable.{IsWithin, flag}
+use Rattle.lfs_model.proofs.Profiles.{drop_writable}
+use Rattle.lfs_model.proofs.Layouts.{onward_all}
+use Rattle.lfs_model.proofs.Alike.{AreAlike, alike_itself, alike_append}
+use Rattle.lfs_model.proofs.OneCommit.{slot_there}
+use Rattle.lfs_model.proofs.Committed.{IsCompleted, recovered_from, no_move_from}
+use Rattle.lfs_model.proofs.TwoPlaces.{two, fits_fewer}
+use Rattle.lfs_model.proofs.RemovedDirectory.{IsRmdir, rmdir_completed, onward_append}
+use Rattle.lfs_model.proofs.Drops.{softened, IsStepDrop, directory_goes_beside, own_entries}
+use Rattle.lfs_model.proofs.StepsTaken.{IsTaken, taken_then, taken_after, within_at, fit_spliced}
+use Rattle.lfs_model.proofs.Unthreaded.{Unthreads, unthread}
+use Rattle.lfs_model.proofs.Searches.{avoids_front, avoids_behind}
+
+-- as many superblock's pairs stand in front after a step
+pub step_chain : (disk new : Disk) (w : Site) (p : Pair) (mid : List Pair) (q : Pair) (more : List Pair) (extra fresh : List ℕ) (l olds news r : List Slot)
+    → IsStep disk new w p mid q more extra fresh l olds news r → IsChain w.chain (dirs_at w (q ∷ more))
+step_chain disk new w p mid q more extra fresh l olds news r step =
+    chain_now disk new w.chain (w.before ++ w.left) p mid q more (w.right ++ w.after) (extra ++ fresh) step.site.chain step.accepted
+    (splice_change disk new w.chain (w.before ++ w.left) p mid q more (w.right ++ w.after) extra fresh l olds news r step.accepted step.no_move step.still_none step.device step.free
+    step.shape.at (step.shape.links (w.right ++ w.after)) step.shape.front step.shape.blocks step.was step.is step.splice)
+
+-- the pair o behind x goes in the second step, and x becomes y
+pub record IsGone (middle new : Disk) (chain front : List Pair) (x o y : Pair) (back : List Pair) : Type 0 where
+  pub device : IsDevice middle new (chain ++ (front ++ x ∷ o ∷ back)) (chain ++ (front ++ y ∷ back))
+  pub settled : gstate_of (chain ++ (front ++ y ∷ back)) ≡ no_gstate
+  pub soft : is_hard x.content.tail ≡ false
+  pub at : y.at ≡ x.at
+  pub slots : y.content.slots ≡ x.content.slots
+  pub tail : y.content.tail ≡ softened o.content.tail
+
+module _ (disk middle new : Disk) (w : Site) (p : Pair) (mids : List Pair) (q : Pair) (l r : List Slot) (u : Slot) (step : IsStep disk middle w p mids q [] [] [] l (u ∷ []) [] r) (other : is_superblock u ≡ false)
+    (writable : IsWritable middle (thread_at w (q ∷ [])))
+    (P : Path) (a : ℕ × ℕ) (leads : Leads (thread_at w (p ∷ mids)) P a) (same : same_pair (begin_of w (p ∷ mids)) a ≡ true)
+    (d : ℕ × ℕ) (branch : u.struct ≡ Branch d) (empty : entries_in (thread_at w (p ∷ mids)) d ≡ []) (sync : (gstate_of (thread_at w (q ∷ []))).sync ≡ true)
+    (settled : gstate_of (thread_at w (p ∷ mids)) ≡ no_gstate)
+    (front : List Pair) (x o y : Pair) (back : List Pair) (there : dirs_at w (q ∷ []) ≡ front ++ x ∷ o ∷ back) (address : same_pair o.at d ≡ true) (alone : is_hard o.content.tail ≡ false)
+    (gone : IsGone middle new w.chain front x o y back) where
+  abbrev ps : List Pair
+  ps = thread_at w (p ∷ mids)
+
+  abbrev path : Path
+  path = P ++ u.name ∷ []
+
+  first : IsTaken disk (thread_at w (p ∷ mids)) middle (thread_at w (q ∷ [])) (removed (P ++ u.name ∷ [])) (planted (P ++ u.name ∷ []) (λ t. None))
+  first = record { follows = directory_goes disk middle w p mids q [] [] [] l r u step other P a leads same d branch empty sync; writable = writable }
+
+  -- between the steps the tree is the new one already
+  pub rmdir_between : (old_tree : Tree) → IsLeft middle old_tree (removed (P ++ u.name ∷ []) (tree_in disk (thread_at w (p ∷ mids))))
+  rmdir_between old_tree = taken_after disk ps middle (thread_at w (q ∷ [])) (removed (P ++ u.name ∷ [])) (planted (P ++ u.name ∷ []) (λ t. None)) old_tree first
+
+  thread_is : thread_at w (q ∷ []) ≡ w.chain ++ (front ++ x ∷ o ∷ back)
+  thread_is = ap (λ z. w.chain ++ z) there
+
+  but_o : AllReachedBut (thread_at w (q ∷ [])) o.at
+  but_o = All-from_recursion (λ z. IsReached (thread_at w (q ∷ [])) z.at ⊎ (same_pair z.at o.at ≡ true)) (directories_in (thread_at w (q ∷ [])))
+      (each_weaker (λ (z : Listing). IsReached (thread_at w (q ∷ [])) z.at ⊎ (same_pair z.at d ≡ true)) (λ (z : Listing). IsReached (thread_at w (q ∷ [])) z.at ⊎ (same_pair z.at o.at ≡ true)) (λ z k. go z k) (directories_in (thread_at w (q ∷ [])))
+      (recursion_from_All (λ (z : Listing). IsReached (thread_at w (q ∷ [])) z.at ⊎ (same_pair z.at d ≡ true)) (directories_in (thread_at w (q ∷ [])))
+      (directory_goes_reached disk middle w p mids q [] [] [] l r u step other P a leads same d branch empty sync (recovered_from disk (thread_at w (p ∷ mids)) step.accepted settled).reached)))
+    where
+      go : (z : Listing) → IsReached (thread_at w (q ∷ [])) z.at ⊎ (same_pair z.at d ≡ true) → IsReached (thread_at w (q ∷ [])) z.at ⊎ (same_pair z.at o.at ≡ true)
+      go z (inl k) = inl k
+      go z (inr k) = inr (pair_on z.at d o.at k (pair_back o.at d address))
+
+  second : Unthreads middle new w.chain (front ++ x ∷ o ∷ back) (front ++ y ∷ back)
+  second = unthread middle new w.chain front x o y back
+      (record {
+        accepted = subst (IsAccepted middle) thread_is first.follows.accepted;
+        writable = subst (IsWritable middle) thread_is writable;
+        no_move = subst (λ z. HasNoMove (gstate_of z)) thread_is step.still_none;
+        is_chain = subst (IsChain w.chain) there (step_chain disk middle w p mids q [] [] [] l (u ∷ []) [] r step);
+      })
+      (record {
+        device = gone.device;
+        no_move = no_move_from (w.chain ++ (front ++ y ∷ back)) gone.settled;
+        soft = gone.soft;
+        at = gone.at;
+        slots = gone.slots;
+        tail = gone.tail;
+        unled = λ other_path z k e. directory_goes_unled disk middle w p mids q [] [] [] l r u step other P a leads same d branch empty sync other_path z
+            (subst (λ xs. Leads xs other_path z) (sym thread_is) k) (pair_on d o.at z (pair_back o.at d address) e);
+        reached = λ e. (alone, subst (λ xs. AllReachedBut xs o.at) thread_is but_o);
+      })
+
+  pub rmdir_taken : IsTaken disk (thread_at w (p ∷ mids)) new (w.chain ++ (front ++ y ∷ back)) (removed (P ++ u.name ∷ [])) (planted (P ++ u.name ∷ []) (λ t. None))
+  rmdir_taken = taken_then disk middle new ps (thread_at w (q ∷ [])) (w.chain ++ (front ++ y ∷ back)) (removed (P ++ u.name ∷ [])) (λ t. t) (planted (P ++ u.name ∷ []) (λ t. None)) (λ z. z) first
+      (subst (λ z. IsTaken middle z new (w.chain ++ (front ++ y ∷ back)) (λ t. t) (λ z. z)) (sym thread_is) second.taken)
+
+  pub rmdir_named : slot_of_path (thread_at w (p ∷ mids)) (P ++ u.name ∷ []) ≡ Some u
+  rmdir_named = slot_there disk ps P a (place_at w l) u step.accepted leads (goes_from disk middle w p mids q [] [] [] l r u step other P a leads same)
+
+-- nothing goes on behind a soft tail
+soft_end : (from : Option (ℕ × ℕ)) (xs : List Pair) (x : Pair) → is_hard x.content.tail ≡ false → onward_all from (xs ++ x ∷ []) ≡ None
+soft_end from [] x e = ap (λ b. cond b (Some (begin_from from x)) None) e
+soft_end from (z ∷ xs) x e = soft_end (onward from z) xs x e
+
+-- ---- the pair of the entry stays, ahead of the one that goes
+
+module _ (disk middle new : Disk) (w : Site) (p q : Pair) (l r : List Slot) (u : Slot) (step : IsStep disk middle w p [] q [] [] [] l (u ∷ []) [] r) (other : is_superblock u ≡ false)
+    (old_writable : IsWritable disk (thread_at w (p ∷ []))) (writable : IsWritable middle (thread_at w (q ∷ [])))
+    (P : Path) (a : ℕ × ℕ) (leads : Leads (thread_at w (p ∷ [])) P a) (same : same_pair (begin_of w (p ∷ [])) a ≡ true)
+    (d : ℕ × ℕ) (branch : u.struct ≡ Branch d) (empty : entries_in (thread_at w (p ∷ [])) d ≡ []) (sync : (gstate_of (thread_at w (q ∷ []))).sync ≡ true)
+    (settled : gstate_of (thread_at w (p ∷ [])) ≡ no_gstate)
+    (mid : List Pair) (x o y : Pair) (back : List Pair) (ahead : w.right ++ w.after ≡ mid ++ x ∷ o ∷ back) (address : same_pair o.at d ≡ true) (alone : is_hard o.content.tail ≡ false)
+    (held : p.content.slots ≡ l ++ u ∷ r) (kept : q.content.slots ≡ l ++ r) (some : is_some (onward_all None (w.before ++ w.left)) ≡ true → l ++ r ≢ [])
+    (gone : IsGone middle new w.chain ((w.before ++ w.left) ++ q ∷ mid) x o y back) where
+  abbrev in_front : List Pair
+  in_front = w.before ++ w.left
+
+  there : dirs_at w (q ∷ []) ≡ ((w.before ++ w.left) ++ q ∷ mid) ++ x ∷ o ∷ back
+  there = ap (λ z. in_front ++ q ∷ z) ahead ∙ sym (append_assoc in_front (q ∷ mid) (x ∷ o ∷ back))
+
+  taken : IsTaken disk (thread_at w (p ∷ [])) new (w.chain ++ (((w.before ++ w.left) ++ q ∷ mid) ++ y ∷ back)) (removed (P ++ u.name ∷ [])) (planted (P ++ u.name ∷ []) (λ t. None))
+  taken = rmdir_taken disk middle new w p [] q l r u step other writable P a leads same d branch empty sync settled ((w.before ++ w.left) ++ q ∷ mid) x o y back there address alone gone
+
+  were : thread_at w (p ∷ []) ≡ w.chain ++ two true (w.before ++ w.left) (p ∷ []) (mid ++ x ∷ []) (o ∷ []) back
+  were = ap (λ z. w.chain ++ (in_front ++ p ∷ z)) (ahead ∙ sym (append_assoc mid (x ∷ []) (o ∷ back)))
+
+  distinct : IsDistinct nat_eq (blocks_of ((w.chain ++ ((w.before ++ w.left) ++ p ∷ (mid ++ x ∷ []))) ++ o ∷ back))
+  distinct = subst (λ z. IsDistinct nat_eq (blocks_of z))
+      (were ∙ ap (λ z. w.chain ++ z) (sym (append_assoc in_front (p ∷ (mid ++ x ∷ [])) (o ∷ back))) ∙ sym (append_assoc w.chain (in_front ++ p ∷ (mid ++ x ∷ [])) (o ∷ back))) step.accepted.thread.distinct
+
+  apart : Each (λ z. same_pair z.at d ≡ false) (two true (w.before ++ w.left) (p ∷ []) (mid ++ x ∷ []) [] back)
+  apart =
+      let F = λ (z : Pair). same_pair z.at d ≡ false in
+      let ahead_of = each_right (λ (z : Pair). same_pair z.at d ≡ false) w.chain (in_front ++ p ∷ (mid ++ x ∷ [])) (avoids_front (w.chain ++ (in_front ++ p ∷ (mid ++ x ∷ []))) o back d distinct address) in
+      let behind = avoids_behind (w.chain ++ (in_front ++ p ∷ (mid ++ x ∷ []))) o back d distinct address in
+      let rest = each_right (λ (z : Pair). same_pair z.at d ≡ false) in_front (p ∷ (mid ++ x ∷ [])) ahead_of in
+      each_append (λ (z : Pair). same_pair z.at d ≡ false) in_front (p ∷ ((mid ++ x ∷ []) ++ back)) (each_left (λ (z : Pair). same_pair z.at d ≡ false) in_front (p ∷ (mid ++ x ∷ [])) ahead_of)
+      (rest.0, each_append (λ (z : Pair). same_pair z.at d ≡ false) (mid ++ x ∷ []) back rest.1 behind)
+
+  alike : AreAlike (w.chain ++ two true (w.before ++ w.left) (q ∷ []) (mid ++ x ∷ []) [] back) (w.chain ++ (((w.before ++ w.left) ++ q ∷ mid) ++ y ∷ back))
+  alike = subst₂ (λ s t. AreAlike (w.chain ++ s) (w.chain ++ t))
+      (append_assoc in_front (q ∷ mid) (x ∷ back) ∙ ap (λ z. in_front ++ q ∷ z) (sym (append_assoc mid (x ∷ []) back))) refl
+      (alike_append w.chain ((in_front ++ q ∷ mid) ++ x ∷ back) w.chain ((in_front ++ q ∷ mid) ++ y ∷ back) (alike_itself w.chain)
+      (alike_append (in_front ++ q ∷ mid) (x ∷ back) (in_front ++ q ∷ mid) (y ∷ back) (alike_itself (in_front ++ q ∷ mid)) (gone.at, gone.slots, alike_itself back)))
+
+  made : IsRmdir disk new (w.chain ++ (((w.before ++ w.left) ++ q ∷ mid) ++ y ∷ back)) true w.chain (w.before ++ w.left) (mid ++ x ∷ []) back p o (q ∷ []) l u r d (P ++ u.name ∷ [])
+  made = record {
+    is_chain = ap superblocks_before (sym were) ∙ step.site.chain;
+    accepted = subst (IsAccepted disk) were step.accepted;
+    writable = subst (IsWritable disk) were old_writable;
+    settled = ap gstate_of (sym were) ∙ settled;
+    still = gone.settled;
+    walk = planted (P ++ u.name ∷ []) (λ t. None);
+    follows = subst (λ z. Follows disk z new (w.chain ++ (((w.before ++ w.left) ++ q ∷ mid) ++ y ∷ back)) (removed (P ++ u.name ∷ [])) (planted (P ++ u.name ∷ []) (λ t. None))) were taken.follows;
+    still_writable = taken.writable;
+    held = held;
+    branch = branch;
+    alike_address = address;
+    soft = alone;
+    begins = ap (λ z. onward_all None z) (sym (append_assoc in_front (p ∷ mid) (x ∷ []))) ∙ soft_end None (in_front ++ p ∷ mid) x gone.soft;
+    apart = apart;
+    stays = (step.shape.at, kept, some);
+    alike = alike;
+    named = subst (λ z. slot_of_path z (P ++ u.name ∷ []) ≡ Some u) were
+        (rmdir_named disk middle new w p [] q l r u step other writable P a leads same d branch empty sync settled ((w.before ++ w.left) ++ q ∷ mid) x o y back there address alone gone);
+  }
+
+  pub rmdir_ahead_completed : (s : Session) (path : List ℕ) → s.tree ≡ tree_in disk (thread_at w (p ∷ [])) → as_path path ≡ P ++ u.name ∷ []
+      → IsCompleted disk (thread_at w (p ∷ [])) s (ops.Remove path) new (w.chain ++ (((w.before ++ w.left) ++ q ∷ mid) ++ y ∷ back))
+  rmdir_ahead_completed s path tree is =
+      subst (λ z. IsCompleted disk z s (ops.Remove path) new (w.chain ++ (((w.before ++ w.left) ++ q ∷ mid) ++ y ∷ back))) (sym were)
+      (rmdir_completed disk new (w.chain ++ (((w.before ++ w.left) ++ q ∷ mid) ++ y ∷ back)) true w.chain (w.before ++ w.left) (mid ++ x ∷ []) back p o (q ∷ []) l u r d (P ++ u.name ∷ []) made s path (tree ∙ ap (tree_in disk) were) is)
+
+-- ---- behind it
+
+module _ (disk middle new : Disk) (w : Site) (p q : Pair) (l r : List Slot) (u : Slot) (step : IsStep disk middle w p [] q [] [] [] l (u ∷ []) [] r) (other : is_superblock u ≡ false)
+    (old_writable : IsWritable disk (thread_at w (p ∷ []))) (writable : IsWritable middle (thread_at w (q ∷ [])))
+    (P : Path) (a : ℕ × ℕ) (leads : Leads (thread_at w (p ∷ [])) P a) (same : same_pair (begin_of w (p ∷ [])) a ≡ true)
+    (d : ℕ × ℕ) (branch : u.struct ≡ Branch d) (empty : entries_in (thread_at w (p ∷ [])) d ≡ []) (sync : (gstate_of (thread_at w (q ∷ []))).sync ≡ true)
+    (settled : gstate_of (thread_at w (p ∷ [])) ≡ no_gstate)
+    (front : List Pair) (x o y : Pair) (mid : List Pair) (behind : w.before ++ w.left ≡ front ++ x ∷ o ∷ mid) (address : same_pair o.at d ≡ true) (alone : is_hard o.content.tail ≡ false)
+    (held : p.content.slots ≡ l ++ u ∷ r) (kept : q.content.slots ≡ l ++ r) (some : is_some (onward_all None (w.before ++ w.left)) ≡ true → l ++ r ≢ [])
+    (gone : IsGone middle new w.chain front x o y (mid ++ q ∷ (w.right ++ w.after))) where
+  abbrev back : List Pair
+  back = w.right ++ w.after
+
+  -- the thread with a pair in place of p
+  turned : (z : Pair) → (w.before ++ w.left) ++ z ∷ (w.right ++ w.after) ≡ front ++ x ∷ o ∷ (mid ++ z ∷ (w.right ++ w.after))
+  turned z = ap (λ xs. xs ++ z ∷ back) behind ∙ append_assoc front (x ∷ o ∷ mid) (z ∷ back)
+
+  taken2 : IsTaken disk (thread_at w (p ∷ [])) new (w.chain ++ (front ++ y ∷ (mid ++ q ∷ (w.right ++ w.after)))) (removed (P ++ u.name ∷ [])) (planted (P ++ u.name ∷ []) (λ t. None))
+  taken2 = rmdir_taken disk middle new w p [] q l r u step other writable P a leads same d branch empty sync settled front x o y (mid ++ q ∷ (w.right ++ w.after)) (turned q) address alone gone
+
+  were2 : thread_at w (p ∷ []) ≡ w.chain ++ two false (front ++ x ∷ []) (p ∷ []) mid (o ∷ []) (w.right ++ w.after)
+  were2 = ap (λ z. w.chain ++ z) (turned p ∙ sym (append_assoc front (x ∷ []) (o ∷ (mid ++ p ∷ back))))
+
+  distinct2 : IsDistinct nat_eq (blocks_of ((w.chain ++ (front ++ x ∷ [])) ++ o ∷ (mid ++ p ∷ (w.right ++ w.after))))
+  distinct2 = subst (λ z. IsDistinct nat_eq (blocks_of z)) (were2 ∙ sym (append_assoc w.chain (front ++ x ∷ []) (o ∷ (mid ++ p ∷ back)))) step.accepted.thread.distinct
+
+  made2 : IsRmdir disk new (w.chain ++ (front ++ y ∷ (mid ++ q ∷ (w.right ++ w.after)))) false w.chain (front ++ x ∷ []) mid (w.right ++ w.after) p o (q ∷ []) l u r d (P ++ u.name ∷ [])
+  made2 = record {
+    is_chain = ap superblocks_before (sym were2) ∙ step.site.chain;
+    accepted = subst (IsAccepted disk) were2 step.accepted;
+    writable = subst (IsWritable disk) were2 old_writable;
+    settled = ap gstate_of (sym were2) ∙ settled;
+    still = gone.settled;
+    walk = planted (P ++ u.name ∷ []) (λ t. None);
+    follows = subst (λ z. Follows disk z new (w.chain ++ (front ++ y ∷ (mid ++ q ∷ (w.right ++ w.after)))) (removed (P ++ u.name ∷ [])) (planted (P ++ u.name ∷ []) (λ t. None))) were2 taken2.follows;
+    still_writable = taken2.writable;
+    held = held;
+    branch = branch;
+    alike_address = address;
+    soft = alone;
+    begins = soft_end None front x gone.soft;
+    apart = each_append (λ (z : Pair). same_pair z.at d ≡ false) (front ++ x ∷ []) (mid ++ p ∷ back)
+        (each_right (λ (z : Pair). same_pair z.at d ≡ false) w.chain (front ++ x ∷ []) (avoids_front (w.chain ++ (front ++ x ∷ [])) o (mid ++ p ∷ back) d distinct2 address))
+        (avoids_behind (w.chain ++ (front ++ x ∷ [])) o (mid ++ p ∷ back) d distinct2 address);
+    stays = (step.shape.at, kept, (λ e. some (ap (λ z. is_some z) (ap (λ z. onward_all None z) (behind ∙ sym (append_assoc front (x ∷ []) (o ∷ mid))) ∙ onward_append None (front ++ x ∷ []) (o ∷ mid)) ∙ e)));
+    alike = subst (λ s. AreAlike (w.chain ++ s) (w.chain ++ (front ++ y ∷ (mid ++ q ∷ back)))) (sym (append_assoc front (x ∷ []) (mid ++ q ∷ back)))
+        (alike_append w.chain (front ++ x ∷ (mid ++ q ∷ back)) w.chain (front ++ y ∷ (mid ++ q ∷ back)) (alike_itself w.chain)
+        (alike_append front (x ∷ (mid ++ q ∷ back)) front (y ∷ (mid ++ q ∷ back)) (alike_itself front) (gone.at, gone.slots, alike_itself (mid ++ q ∷ back))));
+    named = subst (λ z. slot_of_path z (P ++ u.name ∷ []) ≡ Some u) were2
+        (rmdir_named disk middle new w p [] q l r u step other writable P a leads same d branch empty sync settled front x o y (mid ++ q ∷ (w.right ++ w.after)) (turned q) address alone gone);
+  }
+
+  pub rmdir_behind_completed : (s : Session) (path : List ℕ) → s.tree ≡ tree_in disk (thread_at w (p ∷ [])) → as_path path ≡ P ++ u.name ∷ []
+      → IsCompleted disk (thread_at w (p ∷ [])) s (ops.Remove path) new (w.chain ++ (front ++ y ∷ (mid ++ q ∷ (w.right ++ w.after))))
+  rmdir_behind_completed s path tree is =
+      subst (λ z. IsCompleted disk z s (ops.Remove path) new (w.chain ++ (front ++ y ∷ (mid ++ q ∷ (w.right ++ w.after))))) (sym were2)
+      (rmdir_completed disk new (w.chain ++ (front ++ y ∷ (mid ++ q ∷ (w.right ++ w.after)))) false w.chain (front ++ x ∷ []) mid (w.right ++ w.after) p o (q ∷ []) l u r d (P ++ u.name ∷ []) made2 s path (tree ∙ ap (tree_in disk) were2) is)
+
+-- ---- in one commit, where the pair of the entry is the one in front
+
+module _ (disk new : Disk) (chain before left after : List Pair) (p o q : Pair) (l r : List Slot) (u : Slot) (step : IsStepDrop disk new chain before left after p [] o q [] [] [] l (u ∷ []) [] r) (other : is_superblock u ≡ false)
+    (old_writable : IsWritable disk (thread_at (last_site chain before left after) (p ∷ ([] ++ o ∷ []))))
+    (P : Path) (a : ℕ × ℕ) (leads : Leads (thread_at (last_site chain before left after) (p ∷ ([] ++ o ∷ []))) P a)
+    (same : same_pair (begin_of (last_site chain before left (o ∷ after)) (p ∷ [])) a ≡ true)
+    (d : ℕ × ℕ) (branch : u.struct ≡ Branch d) (empty : entries_in (thread_at (last_site chain before left after) (p ∷ ([] ++ o ∷ []))) d ≡ [])
+    (settled : gstate_of (thread_at (last_site chain before left after) (p ∷ ([] ++ o ∷ []))) ≡ no_gstate) (still : gstate_of (thread_at (last_site chain before left after) (q ∷ [])) ≡ no_gstate)
+    (address : same_pair o.at d ≡ true) (alone : is_hard o.content.tail ≡ false) (soft : is_hard p.content.tail ≡ false) (tail : q.content.tail ≡ softened o.content.tail)
+    (held : p.content.slots ≡ l ++ u ∷ r) (kept : q.content.slots ≡ l ++ r) (some : is_some (onward_all None (before ++ left)) ≡ true → l ++ r ≢ []) (full : flag false (before ++ left) ≡ true → l ++ r ≢ []) where
+  abbrev all : List Pair
+  all = thread_at (last_site chain before left after) (p ∷ ([] ++ o ∷ []))
+
+  abbrev those : List Pair
+  those = thread_at (last_site chain before left after) (q ∷ [])
+
+  follows : Follows disk (thread_at (last_site chain before left after) (p ∷ ([] ++ o ∷ []))) new (thread_at (last_site chain before left after) (q ∷ [])) (removed (P ++ u.name ∷ [])) (planted (P ++ u.name ∷ []) (λ t. None))
+  follows = directory_goes_beside disk new chain before left after p [] o q [] [] [] l r u step other P a leads same d branch (pair_back o.at d address) empty
+      (λ e. (alone, (recovered_from disk (thread_at (last_site chain before left after) (p ∷ ([] ++ o ∷ []))) step.accepted settled).reached))
+
+  old_within : IsWithin disk.block_size disk.page p
+  old_within = within_at disk (last_site chain before left after) p (o ∷ []) old_writable
+
+  within : IsWithin disk.block_size disk.page q
+  within = record {
+    pair = fits_same disk (with_slots (l ++ r) p) q kept (fits_fewer disk p l r u held old_within.pair);
+    slots = subst (All (FitsSlot disk.block_size disk.page)) (sym kept)
+        (All-from_recursion (FitsSlot disk.block_size disk.page) (l ++ r) (fit_spliced disk p l (u ∷ []) [] r old_within held tt));
+  }
+
+  still_writable : IsWritable new (thread_at (last_site chain before left after) (q ∷ []))
+  still_writable = drop_writable disk new chain before left after p [] o q [] [] [] l (u ∷ []) [] r step old_writable (within, tt)
+      (λ h. ((λ e n. full e (sym kept ∙ n)), subst (λ b. HaveSlots b after) (alone ∙ sym (ap is_hard tail ∙ soft_tail o.content.tail)) h.1.1))
+    where
+      soft_tail : (t : Option Tail) → is_hard (softened t) ≡ false
+      soft_tail None = refl
+      soft_tail (Some t) = refl
+
+  distinct3 : IsDistinct nat_eq (blocks_of ((chain ++ ((before ++ left) ++ p ∷ [])) ++ o ∷ after))
+  distinct3 = subst (λ z. IsDistinct nat_eq (blocks_of z)) (ap (λ z. chain ++ z) (sym (append_assoc (before ++ left) (p ∷ []) (o ∷ after))) ∙ sym (append_assoc chain ((before ++ left) ++ p ∷ []) (o ∷ after))) step.accepted.thread.distinct
+
+  made3 : IsRmdir disk new (thread_at (last_site chain before left after) (q ∷ [])) true chain (before ++ left) [] after p o (q ∷ []) l u r d (P ++ u.name ∷ [])
+  made3 = record {
+    is_chain = step.is_chain;
+    accepted = step.accepted;
+    writable = old_writable;
+    settled = settled;
+    still = still;
+    walk = planted (P ++ u.name ∷ []) (λ t. None);
+    follows = follows;
+    still_writable = still_writable;
+    held = held;
+    branch = branch;
+    alike_address = address;
+    soft = alone;
+    begins = soft_end None (before ++ left) p soft;
+    apart =
+        let ahead_of = each_right (λ (z : Pair). same_pair z.at d ≡ false) chain ((before ++ left) ++ p ∷ []) (avoids_front (chain ++ ((before ++ left) ++ p ∷ [])) o after d distinct3 address) in
+        each_append (λ (z : Pair). same_pair z.at d ≡ false) (before ++ left) (p ∷ after) (each_left (λ (z : Pair). same_pair z.at d ≡ false) (before ++ left) (p ∷ []) ahead_of)
+        ((each_right (λ (z : Pair). same_pair z.at d ≡ false) (before ++ left) (p ∷ []) ahead_of).0, avoids_behind (chain ++ ((before ++ left) ++ p ∷ [])) o after d distinct3 address);
+    stays = (step.shape.at, kept, some);
+    alike = alike_itself (thread_at (last_site chain before left after) (q ∷ []));
+    named = slot_there disk all P a (place_at (last_site chain before left after) l) u step.accepted leads
+        (ap (λ s. slice_get s (place_at (last_site chain before left after) l)) (own_entries disk new chain before left after p [] o q [] [] [] l (u ∷ []) [] r step a same
+        ∙ ap (λ s. shown_before (last_site chain before left after) l ++ (s ++ shown_behind (last_site chain before left after) r)) (entry_only u other))
+        ∙ get_here (shown_before (last_site chain before left after) l) (shown_behind (last_site chain before left after) r) u);
+  }
+
+  pub rmdir_in_one_completed : (s : Session) (path : List ℕ) → s.tree ≡ tree_in disk (thread_at (last_site chain before left after) (p ∷ ([] ++ o ∷ []))) → as_path path ≡ P ++ u.name ∷ []
+      → IsCompleted disk (thread_at (last_site chain before left after) (p ∷ ([] ++ o ∷ []))) s (ops.Remove path) new (thread_at (last_site chain before left after) (q ∷ []))
+  rmdir_in_one_completed s path tree is =
+      rmdir_completed disk new (thread_at (last_site chain before left after) (q ∷ [])) true chain (before ++ left) [] after p o (q ∷ []) l u r d (P ++ u.name ∷ []) made3 s path tree is

@@ -1,0 +1,95 @@
+use Rattle.std.proofs.Common.{ℕ, ◌+◌, ◌≡◌, ◌≤◌, inl, inr, true, List, [], ◌∷◌, length, refl, sym, ap, ◌∙◌, arith}
+use Rattle.std.specs.Prelude.{codes}
+use Rattle.std.proofs.lemmas.Option.{same_Some}
+use Rattle.lfs_model.specs.Slots.{Slot, Struct, Inline, Ctz, Branch}
+use Rattle.lfs_model.specs.Content.{put_attribute}
+use Rattle.lfs_model.specs.Fresh.{superblock_slot}
+use Rattle.lfs_model.specs.Session.{file_of}
+use Rattle.lfs_model.specs.SlotEdits.{new_file, new_directory, Replaces, Stores, Commits}
+use Rattle.lfs_model.specs.Layout.{slots_of}
+use Rattle.lfs_model.specs.Examples.{large_image}
+use Rattle.lfs_model.specs.RunExamples.{directories_with, two_directories, root_with, heavy_file, writing_at}
+use Rattle.lfs_model.proofs.Sites.{Among}
+use Rattle.lfs_model.proofs.Spliced.{comes}
+use Rattle.lfs_model.proofs.slots.entries_are_replaced.Goals as goal
+
+abbrev root : List Slot
+root = superblock_slot 4096 16 ∷ new_directory (codes "d") (4, 5) ∷ []
+
+pub returns-clause-onto : goal.returns-clause-onto
+returns-clause-onto c = (
+  refl,
+  (
+    new_file (codes "a"),
+    directories_with (new_file (codes "e") ∷ []) [],
+    directories_with [] [],
+    (
+      refl,
+      record { before = _ ∷ []; pair = _; after = _; left = []; right = []; was = refl; held = refl; is = refl },
+      record { before = []; pair = _; after = _; left = root; right = []; was = refl; held = refl; is = refl },
+      record { before = []; pair = _; after = _; left = root; right = []; was = refl; held = refl; is = refl },
+    ),
+  ),
+)
+
+pub returns-clause-set : goal.returns-clause-set
+returns-clause-set c = (refl, (new_file (codes "a"), heavy_file (codes "a"), (refl, refl, record { before = _ ∷ []; pair = _; after = _; left = []; right = []; was = refl; held = refl; is = refl })))
+
+pub returns-clause-removed : goal.returns-clause-removed
+returns-clause-removed c = (refl, (heavy_file (codes "a"), new_file (codes "a"), (refl, refl, record { before = _ ∷ []; pair = _; after = _; left = []; right = []; was = refl; held = refl; is = refl })))
+
+pub returns-clause-clean : goal.returns-clause-clean
+returns-clause-clean c = (refl, inl (refl, refl))
+
+-- no slot has an attribute
+unset : Replaces (λ u v. v ≡ record u { attributes = put_attribute 0x41 (codes "x") u.attributes }) two_directories (codes "d" ∷ codes "a" ∷ []) two_directories two_directories → ⊥
+unset (u, v, (at, is, spliced)) = go (comes v (u ∷ []) two_directories two_directories spliced)
+  where
+    some : length v.attributes ≡ 1
+    some = ap (λ (s : Slot). length s.attributes) is ∙ sym (ap (λ (s : Slot). length (put_attribute 0x41 (codes "x") s.attributes)) (same_Some (new_file (codes "a")) u at))
+
+    none : (s : Slot) → length s.attributes ≡ 0 → s ≡ v → ⊥
+    none s e f = absurd (let k = ap (λ (t : Slot). length t.attributes) f in omega (arith, some))
+
+    go : Among (λ s. s ≡ v) (slots_of two_directories) → ⊥
+    go (inl e) = none (superblock_slot 4096 16) refl e
+    go (inr (inl e)) = none (new_directory (codes "d") (4, 5)) refl e
+    go (inr (inr (inl e))) = none (new_file (codes "a")) refl e
+    go (inr (inr (inr (inl e)))) = none (new_file (codes "z")) refl e
+    go (inr (inr (inr (inr e)))) = e
+
+pub returns-clause-unset : goal.returns-clause-unset
+returns-clause-unset c = λ h. unset h.1
+
+-- no slot says `hi`
+size : Struct → ℕ
+size (Inline bytes) = length bytes
+size _ = 0
+
+stored : (s : Struct) → Stores large_image (codes "hi") s → size s ≡ 2
+unfolding size
+stored (Inline own) h = ap length h.0
+stored (Ctz head long) h = absurd (let k : 512 + 1 ≤ 2 = h.2 in omega arith)
+stored (Branch to) h = absurd h
+
+uncommitted : Replaces (λ u v. (v ≡ record u { struct = v.struct }) × Stores large_image (codes "hi") v.struct) (root_with (codes "a") []) (codes "a" ∷ []) (root_with (codes "a") []) (root_with (codes "a") []) → ⊥
+unfolding size
+uncommitted (u, v, (at, (is, said), spliced)) = go (comes v (u ∷ []) (root_with (codes "a") []) (root_with (codes "a") []) spliced)
+  where
+    two : size v.struct ≡ 2
+    two = stored v.struct said
+
+    other : (s : Slot) (n : ℕ) → size s.struct ≡ n → s ≡ v → n ≡ 2
+    other s n e f = sym e ∙ ap (λ (t : Slot). size t.struct) f ∙ two
+
+    go : Among (λ s. s ≡ v) (slots_of (root_with (codes "a") [])) → ⊥
+    go (inl e) = absurd (let k : 24 ≡ 2 = other (superblock_slot 4096 16) 24 refl e in omega arith)
+    go (inr (inl e)) = absurd (let k : 0 ≡ 2 = other (new_file (codes "a")) 0 refl e in omega arith)
+    go (inr (inr e)) = e
+
+either : Commits large_image (root_with (codes "a") []) (file_of (writing_at (codes "a" ∷ []) true (codes "hi")).files 0) (root_with (codes "a") []) (root_with (codes "a") []) → ⊥
+either (inl e) = absurd (let k = e.0 in cc)
+either (inr e) = uncommitted e.1
+
+pub returns-clause-uncommitted : goal.returns-clause-uncommitted
+returns-clause-uncommitted c = λ h. either h.1

@@ -2,7 +2,7 @@
 
 ghost use Rattle.std.specs.Prelude.{◌≡◌, false, true};
 
-use crate::image::{SHIFTING, block_of, image_of};
+use crate::image::{image_of, shifting_block};
 use crate::sources::source_of;
 use lfs_device::Geometry;
 use lfs_tool::{ToolError, Watched, list};
@@ -38,7 +38,7 @@ impl Read for Faulty<'_> {
 }
 
 fn shifting_image(alloc: Global) -> Result<Vec<u8>, AllocError> {
-    let block = block_of(alloc, 1, &SHIFTING)?;
+    let block = shifting_block(alloc)?;
     image_of(alloc, block.as_slice(), &[])
 }
 

@@ -1,6 +1,6 @@
 // Each of these holds whichever allocation fails.
 
-use crate::image::{SHIFTING, block_of, image_of};
+use crate::image::{image_of, shifting_block};
 use crate::sources::source_of;
 use lfs_device::{Error, Geometry};
 use lfs_tool::{ToolError, Watched, list};
@@ -38,7 +38,7 @@ fn is_whole(answer: &Result<(), ToolError>, taken: usize, all: usize) -> bool {
 
 #[test]
 fn an_image_is_listed(rt: HostRuntime) -> Result<(), Fail> {
-    let Ok(block) = block_of(rt.alloc(), 1, &SHIFTING) else {
+    let Ok(block) = shifting_block(rt.alloc()) else {
         return Ok(());
     };
     let Ok(image) = image_of(rt.alloc(), block.as_slice(), &[]) else {

@@ -9,7 +9,9 @@ use std::alloc::{AllocError, Global};
 use std::test::Fail;
 
 const NAME_TOO_LONG: &str = "error: NameTooLong (36)\n";
+
 const NO_SPACE: &str = "error: NoSpace (28)\n";
+
 const UNSUPPORTED: &str = "error: Unsupported (202)\n";
 
 // What is written of a source, and how it ended.
@@ -71,24 +73,25 @@ fn images_are_made(rt: HostRuntime) -> Result<(), Fail> {
     Ok(())
 }
 
-// What comes of an empty file with a name of so many bytes, at most 256.
-fn made_of_name(alloc: Global, len: usize, blocks: u32) -> Result<Vec<u8>, Error> {
+// A slash and a name of 256 bytes.
+fn long_path() -> [u8; 257] {
     let mut path = [b'x'; 257];
     path[0] = b'/';
-    let path = path.get(..len + 1).unwrap_or_default();
-    made_in(alloc, &[(path, Some(b""))], blocks)
+    path
 }
 
 #[test]
 fn a_name_has_255_bytes(rt: HostRuntime) -> Result<(), Fail> {
-    let lines = made_of_name(rt.alloc(), 255, 4)?;
+    let path = long_path();
+    let lines = made_in(rt.alloc(), &[(&path[..256], Some(b""))], 4)?;
     assert!(rt; lines.len() == 261 && lines.starts_with(b"f 0 /x"));
     Ok(())
 }
 
 #[test]
 fn a_name_has_256_bytes(rt: HostRuntime) -> Result<(), Fail> {
-    let lines = made_of_name(rt.alloc(), 256, 2)?;
+    let path = long_path();
+    let lines = made_in(rt.alloc(), &[(&path, Some(b""))], 2)?;
     assert!(rt; lines.as_slice() == NAME_TOO_LONG.as_bytes());
     Ok(())
 }
@@ -155,6 +158,9 @@ fn blocks_for(size: u32, block_size: u32, page: u32) -> Result<u32, Error> {
 #[test]
 fn sizes_make_geometries(rt: HostRuntime) {
     for (size, block_size, page, blocks) in SIZES {
-        assert!(rt; blocks_for(size, block_size, page) == blocks, "{size}, {block_size}");
+        assert!(rt;
+            blocks_for(size, block_size, page) == blocks,
+            "{size}, {block_size}"
+        );
     }
 }

@@ -44,7 +44,11 @@ fn shifting_image(alloc: Global) -> Result<Vec<u8>, AllocError> {
 
 // What listing answers where the reader fails at a call: how it ended, whether the reader failed, and
 // what was written.
-fn read_badly(alloc: Global, image: &[u8], fails_at: u32) -> (Result<(), ToolError>, bool, Vec<u8>) {
+fn read_badly(
+    alloc: Global,
+    image: &[u8],
+    fails_at: u32,
+) -> (Result<(), ToolError>, bool, Vec<u8>) {
     let mut image = Watched::new(Faulty {
         left: image,
         calls: 0,
@@ -105,8 +109,18 @@ fn a_failing_writer_of_lines_is_told(rt: HostRuntime) -> Result<(), Fail> {
     let image = shifting_image(rt.alloc())?;
     for room in 0..9usize {
         let mut out = writer_of(rt.alloc(), room, 2);
-        let result = list(rt.alloc(), &mut Watched::new(image.as_slice()), 4096, 256, &mut out);
-        let wanted = if room < 7 { Err(ToolError::Output) } else { Ok(()) };
+        let result = list(
+            rt.alloc(),
+            &mut Watched::new(image.as_slice()),
+            4096,
+            256,
+            &mut out,
+        );
+        let wanted = if room < 7 {
+            Err(ToolError::Output)
+        } else {
+            Ok(())
+        };
         let is_told = result == wanted
             && out.has_failed == wanted.is_err()
             && out.inner.taken.as_slice() == &LINES[..room.min(7)];

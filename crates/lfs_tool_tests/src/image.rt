@@ -59,7 +59,10 @@ fn push_commit(bytes: &mut Vec<u8>, last: u32, entries: Entries<'_>) -> Result<u
 // A block with the superblock in its first commit, and the last tag of that.
 fn begun(alloc: Global, revision: u32) -> Result<(Vec<u8>, u32), AllocError> {
     let mut bytes = Vec::from_slice(alloc, &revision.to_le_bytes())?;
-    let superblock = [(0x0ff0_0008, b"littlefs".as_slice()), (0x2010_0018, &FIELDS)];
+    let superblock = [
+        (0x0ff0_0008, b"littlefs".as_slice()),
+        (0x2010_0018, &FIELDS),
+    ];
     let last = push_commit(&mut bytes, 0xffff_ffff, &superblock)?;
     Ok((bytes, last))
 }
@@ -87,11 +90,7 @@ pub(crate) fn shifting_block(alloc: Global) -> Result<Vec<u8>, AllocError> {
 }
 
 // An image of 16 blocks of 4,096 bytes, of which these are the first two.
-pub(crate) fn image_of(
-    alloc: Global,
-    first: &[u8],
-    second: &[u8],
-) -> Result<Vec<u8>, AllocError> {
+pub(crate) fn image_of(alloc: Global, first: &[u8], second: &[u8]) -> Result<Vec<u8>, AllocError> {
     let mut image = Vec::from_slice(alloc, first)?;
     image.resize(4096, 0xff)?;
     image.extend_from_slice(second)?;

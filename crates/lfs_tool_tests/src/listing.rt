@@ -6,10 +6,13 @@ use std::alloc::{AllocError, Global};
 use std::test::Fail;
 
 const CORRUPT: &str = "error: Corrupt (84)\n";
+
 const INVALID: &str = "error: Invalid (22)\n";
+
 const UNSUPPORTED: &str = "error: Unsupported (202)\n";
 
 const PAIR: &[u8] = &[2, 0, 0, 0, 3, 0, 0, 0];
+
 const NO_PAIR: &[u8] = &[0xff; 8];
 
 // A second commit of these entries, and what is listed.
@@ -83,11 +86,7 @@ const COMMITS: [(Entries<'static>, &str); 19] = [
         CORRUPT,
     ),
     (
-        &[
-            (0x0010_0401, b"a"),
-            (0x2010_0400, b""),
-            (0x2010_0800, b""),
-        ],
+        &[(0x0010_0401, b"a"), (0x2010_0400, b""), (0x2010_0800, b"")],
         CORRUPT,
     ),
 ];
@@ -154,7 +153,10 @@ fn lists_second(
 #[test]
 fn second_blocks(rt: HostRuntime) -> Result<(), Fail> {
     for (revision, entries, text) in SECONDS {
-        assert!(rt; lists_second(rt.alloc(), revision, entries, text)?, "{revision}");
+        assert!(rt;
+            lists_second(rt.alloc(), revision, entries, text)?,
+            "{revision}"
+        );
     }
     Ok(())
 }

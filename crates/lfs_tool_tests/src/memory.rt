@@ -45,7 +45,13 @@ fn an_image_is_listed(rt: HostRuntime) -> Result<(), Fail> {
         return Ok(());
     };
     let mut out = Watched::new(Counting { taken: 0 });
-    let result = list(rt.alloc(), &mut Watched::new(image.as_slice()), 4096, 256, &mut out);
+    let result = list(
+        rt.alloc(),
+        &mut Watched::new(image.as_slice()),
+        4096,
+        256,
+        &mut out,
+    );
     assert!(rt; is_whole(&result, out.inner.taken, 7));
     Ok(())
 }
@@ -94,7 +100,10 @@ fn is_made<S: Source>(alloc: Global, source: &mut S) -> bool {
 
 #[test]
 fn an_image_is_made(rt: HostRuntime) -> Result<(), Fail> {
-    let items = [(b"/a".as_slice(), Some(b"1".as_slice())), (b"/b", Some(b"2"))];
+    let items = [
+        (b"/a".as_slice(), Some(b"1".as_slice())),
+        (b"/b", Some(b"2")),
+    ];
     let Ok(mut source) = source_of(rt.alloc(), &items) else {
         return Ok(());
     };

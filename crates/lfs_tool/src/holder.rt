@@ -1,17 +1,9 @@
 // Which block of a pair holds what the pair holds.
 
 ghost use Rattle.std.specs.Prelude.{◌≡◌};
-ghost use Rattle.lfs_model.specs.Content.{holder, is_later};
+ghost use Rattle.lfs_model.specs.Content.{holder};
 
-use lfs_tag::Log;
-
-// Whether b is a later revision than a, by the sign of the difference.
-fn is_later(a: u32, b: u32) -> bool
-    ensures { result ≡ is_later a b }
-{
-    let ahead = b.wrapping_sub(a);
-    0 < ahead && ahead < 0x8000_0000
-}
+use lfs_tag::{Log, is_later};
 
 // The log of the block that holds, of two: the only one with a commit, or the later one, or the
 // first.

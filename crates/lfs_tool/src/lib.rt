@@ -8,7 +8,6 @@ mod holder;
 mod input;
 mod lines;
 mod listing;
-mod names;
 mod one_pair;
 mod output;
 mod watched;

@@ -10,10 +10,9 @@ ghost use Rattle.lfs_tag.specs.FieldsSeen.{move_seen};
 ghost use Rattle.lfs_tool.specs.OnePair.{describes, file_of, has_superblock, has_type, is_elsewhere, is_one_pair, is_still, is_superblock, is_whole, lines_behind};
 
 use crate::lines::push_line;
-use crate::names::is_name;
 use lfs_device::{Error, Geometry};
 use lfs_tag::kinds::{DIRECTORY_NAME, DIRECTORY_STRUCT, FILE_NAME, INLINE_STRUCT, SUPERBLOCK_NAME};
-use lfs_tag::{Content, Log, MoveState, Part, Slot, Tag, superblock_of};
+use lfs_tag::{Content, Log, MoveState, Part, Slot, Tag, is_name, superblock_of};
 use std::alloc::Global;
 
 const MAGIC: &[u8] = b"littlefs";

@@ -2,11 +2,10 @@
 use Rattle.std.proofs.Common.{◌≡◌, ◌∙◌, ◌<◌, ◌≤◌, ◌+◌, ◌++◌, ◌*◌, ℕ, true, List, [], ◌∷◌, Some, ap, ap₂, arith, codes, length, map, refl, subst, sum_by, sym, append-nil, Result, Ok, Err}
 use Rattle.std.specs.Prelude.{IfErr, IfOk, IsOk}
 use Rattle.std.proofs.Math.Nat.{mul-le-mul_left}
-use Rattle.std.proofs.lemmas.Bool.Decides.{nat_tests}
 use Rattle.std.proofs.lemmas.List.Sums.{sum_by-append, sum_by-cons}
 use Rattle.lfs_model.specs.Commit.{entries_size, page_end}
 use Rattle.lfs_model.specs.Disk.{pair_capacity}
-use Rattle.lfs_model.specs.Geometry.{is_page}
+use Rattle.lfs_model.proofs.Pages.{page_positive}
 use Rattle.lfs_model.specs.Log.{LogEntry}
 use Rattle.lfs_model.specs.Content.{file_name_type, inline_struct_type, superblock_name_type}
 use Rattle.lfs_model.specs.Written.{entry_with, entries_of, entries_of_slot, entries_of_slots}
@@ -42,9 +41,6 @@ root_size bytes fs l =
     let here : entries_size (entries_of_slot 0 (raw_superblock bytes)) ≡ 4 + 8 + (4 + length bytes) = two_size (entry_with superblock_name_type 0 (codes "littlefs")) (entry_with inline_struct_type 0 bytes) in
     let rest = files_size 1 fs in
     ap entries_size (root_entries bytes fs) ∙ omega (arith, joined, here, rest, l)
-
-page_positive : (page : ℕ) → is_page page ≡ true → 0 < page
-page_positive page h = grind (arith, nat_tests, h)
 
 within_page : (at page : ℕ) → 0 < page → page_end page at < at + 8 + page
 within_page at page h = omega arith

@@ -20,14 +20,7 @@ const BEFORE_FIRST: u32 = 0xffff_ffff;
 fn struct_of(geometry: &Geometry) -> [u8; 24]
     ensures { IsStruct geometry.now.block_size geometry.now.block_count result }
 {
-    superblock_bytes(&Superblock {
-        version: 0x0002_0000,
-        block_size: geometry.block_size,
-        block_count: geometry.block_count,
-        name_max: 255,
-        file_max: 2_147_483_647,
-        attr_max: 1022,
-    })
+    superblock_bytes(&Superblock::of(geometry))
 }
 
 // Adds the name and the bytes of a file.

@@ -1,32 +1,12 @@
 // Names of files and folders.
 
-ghost use Rattle.std.specs.Prelude.{◌≡◌, ◌==◌, ◌||◌, [], map, false, not, true};
-ghost use Rattle.std.specs.List.{list_all};
+ghost use Rattle.std.specs.Prelude.{◌≡◌, [], map, false, true};
 ghost use Rattle.std.specs.List.Sorted.{IsPermutation, IsSortedBy};
-ghost use Rattle.lfs_model.specs.Names.{is_component, name_cmp, same_name, slash};
 ghost use Rattle.lfs_model.specs.Source.{AreBad};
 ghost use Rattle.lfs_tool_source.specs.Entries.{AreInOrder, comes_before, name_in, rise_behind};
 
 use crate::Listed;
-
-fn is_same(name: &[u8], other: &[u8]) -> bool
-    ensures { result ≡ same_name name.now other.now }
-{
-    name == other
-}
-
-// Whether neither 0 nor '/' is among the bytes.
-fn are_plain(name: &[u8]) -> bool
-    ensures { result ≡ list_all (λ b. not (b == 0 || b == slash)) name.now }
-{
-    name.iter().all(|byte| !(*byte == 0 || *byte == b'/'))
-}
-
-fn is_component(name: &[u8]) -> bool
-    ensures { result ≡ is_component name.now }
-{
-    !name.is_empty() && are_plain(name) && !is_same(name, b".") && !is_same(name, b"..")
-}
+use lfs_tag::is_component;
 
 // Sorts by name.
 pub(crate) fn sort_names(names: &mut Vec<Listed>)

@@ -9,7 +9,9 @@ use std::alloc::{AllocError, Global};
 use std::test::Fail;
 
 const NAME_TOO_LONG: &str = "error: NameTooLong (36)\n";
+
 const NO_SPACE: &str = "error: NoSpace (28)\n";
+
 const UNSUPPORTED: &str = "error: Unsupported (202)\n";
 
 // What is written of a source, and how it ended.
@@ -55,30 +57,48 @@ const SOURCES: [(Items<'static>, u32, &str); 8] = [
     ),
 ];
 
+// As `made`, with so many blocks of 4,096 bytes and pages of 256.
+fn made_in(alloc: Global, items: Items<'_>, blocks: u32) -> Result<Vec<u8>, Error> {
+    let geometry = Geometry::new(4096, 256, blocks)?;
+    let text = made(alloc, items, geometry)?;
+    Ok(text)
+}
+
 #[test]
 fn images_are_made(rt: HostRuntime) -> Result<(), Fail> {
     for (items, blocks, text) in SOURCES {
-        let geometry = Geometry::new(4096, 256, blocks)?;
-        let lines = made(rt.alloc(), items, geometry)?;
+        let lines = made_in(rt.alloc(), items, blocks)?;
         assert!(rt; lines.as_slice() == text.as_bytes(), "{text}");
     }
     Ok(())
 }
 
-#[test]
-fn names_have_at_most_255_bytes(rt: HostRuntime) -> Result<(), Fail> {
+// A slash and a name of 256 bytes.
+fn long_path() -> [u8; 257] {
     let mut path = [b'x'; 257];
     path[0] = b'/';
-    let long = made(rt.alloc(), &[(&path, Some(b""))], Geometry::new(4096, 256, 2)?)?;
-    assert!(rt; long.as_slice() == NAME_TOO_LONG.as_bytes());
-    let listed = made(rt.alloc(), &[(&path[..256], Some(b""))], Geometry::new(4096, 256, 4)?)?;
-    assert!(rt; listed.len() == 261 && listed.starts_with(b"f 0 /x"));
+    path
+}
+
+#[test]
+fn a_name_has_255_bytes(rt: HostRuntime) -> Result<(), Fail> {
+    let path = long_path();
+    let lines = made_in(rt.alloc(), &[(&path[..256], Some(b""))], 4)?;
+    assert!(rt; lines.len() == 261 && lines.starts_with(b"f 0 /x"));
+    Ok(())
+}
+
+#[test]
+fn a_name_has_256_bytes(rt: HostRuntime) -> Result<(), Fail> {
+    let path = long_path();
+    let lines = made_in(rt.alloc(), &[(&path, Some(b""))], 2)?;
+    assert!(rt; lines.as_slice() == NAME_TOO_LONG.as_bytes());
     Ok(())
 }
 
 // Beside 40 bytes of the superblock, six files of 8 and a name of 1 beside their bytes: a pair with
 // blocks of 1,024 bytes and pages of 128 holds 857.
-fn made_of_six(alloc: Global, last: &[u8]) -> Result<Vec<u8>, Fail> {
+fn made_of_six(alloc: Global, last: &[u8]) -> Result<Vec<u8>, Error> {
     let bytes = Some([0; 128].as_slice());
     let items = [
         (b"/a".as_slice(), bytes),
@@ -110,21 +130,37 @@ const FRESH: [u8; 52] = [
     0x7f, 0xfe, 0x03, 0, 0, 0x70, 0x1f, 0xfc, 0xc8, 0x4a, 0x7f, 0x27, 0xf3,
 ];
 
-#[test]
-fn nothing_makes_a_fresh_image(rt: HostRuntime) -> Result<(), Fail> {
-    let (result, image) = written(rt.alloc(), &[], Geometry::new(4096, 256, 16)?)?;
-    let mut wanted = Vec::from_slice(rt.alloc(), &FRESH)?;
+fn is_fresh(alloc: Global) -> Result<bool, Error> {
+    let (answer, image) = written(alloc, &[], Geometry::new(4096, 256, 16)?)?;
+    let mut wanted = Vec::from_slice(alloc, &FRESH)?;
     wanted.resize(65536, 0xff)?;
-    assert!(rt; result == Ok(()) && image.as_slice() == wanted.as_slice());
-    Ok(())
+    Ok(answer.is_ok() && image.as_slice() == wanted.as_slice())
 }
 
 #[test]
-fn sizes_make_geometries(rt: HostRuntime) -> Result<(), Fail> {
-    let geometry = geometry_for(65536, 4096, 256)?;
-    assert!(rt; (geometry.block_size, geometry.page, geometry.block_count) == (4096, 256, 16));
-    let odd = geometry_for(65537, 4096, 256).err();
-    let none = geometry_for(65536, 0, 256).err();
-    assert!(rt; (odd, none) == (Some(Error::Invalid), Some(Error::Invalid)));
+fn nothing_makes_a_fresh_image(rt: HostRuntime) -> Result<(), Fail> {
+    assert!(rt; is_fresh(rt.alloc())?);
     Ok(())
+}
+
+// Sizes of an image, a block and a page, and how many blocks there are.
+const SIZES: [(u32, u32, u32, Result<u32, Error>); 3] = [
+    (65536, 4096, 256, Ok(16)),
+    (65537, 4096, 256, Err(Error::Invalid)),
+    (65536, 0, 256, Err(Error::Invalid)),
+];
+
+fn blocks_for(size: u32, block_size: u32, page: u32) -> Result<u32, Error> {
+    let geometry = geometry_for(size, block_size, page)?;
+    Ok(geometry.block_count)
+}
+
+#[test]
+fn sizes_make_geometries(rt: HostRuntime) {
+    for (size, block_size, page, blocks) in SIZES {
+        assert!(rt;
+            blocks_for(size, block_size, page) == blocks,
+            "{size}, {block_size}"
+        );
+    }
 }

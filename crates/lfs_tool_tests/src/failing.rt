@@ -2,7 +2,7 @@
 
 ghost use Rattle.std.specs.Prelude.{◌≡◌, false, true};
 
-use crate::image::{SHIFTING, block_of, image_of};
+use crate::image::{image_of, shifting_block};
 use crate::sources::source_of;
 use lfs_device::Geometry;
 use lfs_tool::{ToolError, Watched, list};
@@ -38,13 +38,17 @@ impl Read for Faulty<'_> {
 }
 
 fn shifting_image(alloc: Global) -> Result<Vec<u8>, AllocError> {
-    let block = block_of(alloc, 1, &SHIFTING)?;
+    let block = shifting_block(alloc)?;
     image_of(alloc, block.as_slice(), &[])
 }
 
 // What listing answers where the reader fails at a call: how it ended, whether the reader failed, and
 // what was written.
-fn read_badly(alloc: Global, image: &[u8], fails_at: u32) -> (Result<(), ToolError>, bool, Vec<u8>) {
+fn read_badly(
+    alloc: Global,
+    image: &[u8],
+    fails_at: u32,
+) -> (Result<(), ToolError>, bool, Vec<u8>) {
     let mut image = Watched::new(Faulty {
         left: image,
         calls: 0,
@@ -105,8 +109,18 @@ fn a_failing_writer_of_lines_is_told(rt: HostRuntime) -> Result<(), Fail> {
     let image = shifting_image(rt.alloc())?;
     for room in 0..9usize {
         let mut out = writer_of(rt.alloc(), room, 2);
-        let result = list(rt.alloc(), &mut Watched::new(image.as_slice()), 4096, 256, &mut out);
-        let wanted = if room < 7 { Err(ToolError::Output) } else { Ok(()) };
+        let result = list(
+            rt.alloc(),
+            &mut Watched::new(image.as_slice()),
+            4096,
+            256,
+            &mut out,
+        );
+        let wanted = if room < 7 {
+            Err(ToolError::Output)
+        } else {
+            Ok(())
+        };
         let is_told = result == wanted
             && out.has_failed == wanted.is_err()
             && out.inner.taken.as_slice() == &LINES[..room.min(7)];

@@ -10,8 +10,8 @@ const FIELDS: [u8; 24] = [
     0, 0, 2, 0, 0, 16, 0, 0, 16, 0, 0, 0, 255, 0, 0, 0, 255, 255, 255, 127, 254, 3, 0, 0,
 ];
 
-// The commits behind the superblock's in which a file moves from slot to slot.
-pub(crate) const SHIFTING: [Entries<'static>; 4] = [
+// Commits in which a file moves from slot to slot.
+const SHIFTING: [Entries<'static>; 4] = [
     &[(0x4010_0400, b""), (0x0010_0401, b"b"), (0x2010_0400, b"")],
     &[(0x4010_0400, b""), (0x0010_0401, b"a"), (0x2010_0400, b"")],
     &[(0x4ff0_0400, b"")],
@@ -34,12 +34,6 @@ fn checksum(bytes: &[u8]) -> u32 {
     sum
 }
 
-// Fills up with 0xff to a multiple of a length.
-fn fill(bytes: &mut Vec<u8>, len: usize) -> Result<(), AllocError> {
-    let len = bytes.len().next_multiple_of(len);
-    bytes.resize(len, 0xff)
-}
-
 // Adds a commit behind the last tag, up to the next page of 256 bytes, and gives its own last tag.
 fn push_commit(bytes: &mut Vec<u8>, last: u32, entries: Entries<'_>) -> Result<u32, AllocError> {
     let start = match bytes.len() {
@@ -57,31 +51,46 @@ fn push_commit(bytes: &mut Vec<u8>, last: u32, entries: Entries<'_>) -> Result<u
     bytes.extend_from_slice(&(tag ^ last).to_be_bytes())?;
     let sum = checksum(bytes.get(start..).unwrap_or_default());
     bytes.extend_from_slice(&sum.to_le_bytes())?;
-    fill(bytes, 256)?;
+    let end = bytes.len().next_multiple_of(256);
+    bytes.resize(end, 0xff)?;
     Ok(tag)
 }
 
-// A block with the superblock in its first commit, and these behind it.
-pub(crate) fn block_of(
+// A block with the superblock in its first commit, and the last tag of that.
+fn begun(alloc: Global, revision: u32) -> Result<(Vec<u8>, u32), AllocError> {
+    let mut bytes = Vec::from_slice(alloc, &revision.to_le_bytes())?;
+    let superblock = [
+        (0x0ff0_0008, b"littlefs".as_slice()),
+        (0x2010_0018, &FIELDS),
+    ];
+    let last = push_commit(&mut bytes, 0xffff_ffff, &superblock)?;
+    Ok((bytes, last))
+}
+
+// A block with a commit of these behind the superblock's, where there are any.
+pub(crate) fn block_with(
     alloc: Global,
     revision: u32,
-    commits: &[Entries<'_>],
+    entries: Entries<'_>,
 ) -> Result<Vec<u8>, AllocError> {
-    let mut bytes = Vec::from_slice(alloc, &revision.to_le_bytes())?;
-    let superblock = [(0x0ff0_0008, b"littlefs".as_slice()), (0x2010_0018, &FIELDS)];
-    let mut last = push_commit(&mut bytes, 0xffff_ffff, &superblock)?;
-    for entries in commits {
+    let (mut bytes, last) = begun(alloc, revision)?;
+    if !entries.is_empty() {
+        push_commit(&mut bytes, last, entries)?;
+    }
+    Ok(bytes)
+}
+
+// The block in which a file moves from slot to slot.
+pub(crate) fn shifting_block(alloc: Global) -> Result<Vec<u8>, AllocError> {
+    let (mut bytes, mut last) = begun(alloc, 1)?;
+    for entries in SHIFTING {
         last = push_commit(&mut bytes, last, entries)?;
     }
     Ok(bytes)
 }
 
 // An image of 16 blocks of 4,096 bytes, of which these are the first two.
-pub(crate) fn image_of(
-    alloc: Global,
-    first: &[u8],
-    second: &[u8],
-) -> Result<Vec<u8>, AllocError> {
+pub(crate) fn image_of(alloc: Global, first: &[u8], second: &[u8]) -> Result<Vec<u8>, AllocError> {
     let mut image = Vec::from_slice(alloc, first)?;
     image.resize(4096, 0xff)?;
     image.extend_from_slice(second)?;

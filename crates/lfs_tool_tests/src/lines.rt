@@ -18,7 +18,16 @@ const LINES: [(&[&str], Line<'static>); 3] = [
         },
     ),
     (
-        &["mklittlefs", "-cdir", "-b=512", "-p", "+16", "-s", "1024", "i"],
+        &[
+            "mklittlefs",
+            "-cdir",
+            "-b=512",
+            "-p",
+            "+16",
+            "-s",
+            "1024",
+            "i",
+        ],
         Line {
             mode: Mode::Create("dir"),
             block_size: 512,
@@ -135,7 +144,8 @@ fn one_mode_is_given(rt: HostRuntime) -> Result<(), Fail> {
     for words in WITHOUT_A_MODE {
         let fault = fault_of(rt.alloc(), words);
         let is_told = match &fault {
-            Some(fault) => is_shown(rt.alloc(), fault, 2, "", MODES) && is_text(rt.alloc(), fault, MODES)?,
+            Some(fault) => is_shown(rt.alloc(), fault, 2, "", MODES)
+                && is_text(rt.alloc(), fault, MODES)?,
             None => false,
         };
         assert!(rt; is_told, "{words:?}");
@@ -148,7 +158,8 @@ fn help_is_shown(rt: HostRuntime) -> Result<(), Fail> {
     for words in HELPED {
         let fault = fault_of(rt.alloc(), words);
         let is_told = match &fault {
-            Some(fault) => is_shown(rt.alloc(), fault, 0, HELP, "") && is_text(rt.alloc(), fault, HELP)?,
+            Some(fault) => is_shown(rt.alloc(), fault, 0, HELP, "")
+                && is_text(rt.alloc(), fault, HELP)?,
             None => false,
         };
         assert!(rt; is_told, "{words:?}");
@@ -186,7 +197,8 @@ const ERRORS: [(ToolError, u8, &str); 5] = [
 fn errors_are_shown(rt: HostRuntime) -> Result<(), Fail> {
     for (error, status, line) in ERRORS {
         let fault = Fault::Tool(error);
-        let is_told = is_shown(rt.alloc(), &fault, status, "", line) && is_text(rt.alloc(), &fault, line)?;
+        let is_told = is_shown(rt.alloc(), &fault, status, "", line)
+            && is_text(rt.alloc(), &fault, line)?;
         assert!(rt; is_told, "{line}");
     }
     Ok(())

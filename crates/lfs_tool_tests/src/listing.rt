@@ -1,15 +1,18 @@
 // Images and what is listed of them.
 
-use crate::image::{Entries, SHIFTING, block_of, image_of};
+use crate::image::{Entries, block_with, image_of, shifting_block};
 use crate::shown::shown;
 use std::alloc::{AllocError, Global};
 use std::test::Fail;
 
 const CORRUPT: &str = "error: Corrupt (84)\n";
+
 const INVALID: &str = "error: Invalid (22)\n";
+
 const UNSUPPORTED: &str = "error: Unsupported (202)\n";
 
 const PAIR: &[u8] = &[2, 0, 0, 0, 3, 0, 0, 0];
+
 const NO_PAIR: &[u8] = &[0xff; 8];
 
 // A second commit of these entries, and what is listed.
@@ -83,22 +86,18 @@ const COMMITS: [(Entries<'static>, &str); 19] = [
         CORRUPT,
     ),
     (
-        &[
-            (0x0010_0401, b"a"),
-            (0x2010_0400, b""),
-            (0x2010_0800, b""),
-        ],
+        &[(0x0010_0401, b"a"), (0x2010_0400, b""), (0x2010_0800, b"")],
         CORRUPT,
     ),
 ];
 
-// A second block behind the first one of `SHIFTING`: its revision, its second commit, and what is listed.
+// A second block behind the one in which a file moves: its revision, its second commit, and what is listed.
 const SECONDS: [(u32, Entries<'static>, &str); 2] = [
     (0xffff_ffff, &[], "f 0 /b\n"),
     (2, &[(0x0010_0401, b"c"), (0x2010_0400, b"")], "f 0 /c\n"),
 ];
 
-// A byte of the image of `SHIFTING`, the bits in it that are flipped, and what is listed.
+// A byte of the image in which a file moves, the bits in it that are flipped, and what is listed.
 const FLIPPED: [(usize, u8, &str); 4] = [
     (0, 0, "f 0 /b\n"),
     (264, 0x62 ^ 0x63, ""),
@@ -126,7 +125,7 @@ fn lists(alloc: Global, image: &[u8], text: &str) -> Result<bool, AllocError> {
 }
 
 fn lists_commit(alloc: Global, entries: Entries<'_>, text: &str) -> Result<bool, AllocError> {
-    let block = block_of(alloc, 1, &[entries])?;
+    let block = block_with(alloc, 1, entries)?;
     let image = image_of(alloc, block.as_slice(), &[])?;
     lists(alloc, image.as_slice(), text)
 }
@@ -145,8 +144,8 @@ fn lists_second(
     entries: Entries<'_>,
     text: &str,
 ) -> Result<bool, AllocError> {
-    let first = block_of(alloc, 1, &SHIFTING)?;
-    let second = block_of(alloc, revision, &[entries])?;
+    let first = shifting_block(alloc)?;
+    let second = block_with(alloc, revision, entries)?;
     let image = image_of(alloc, first.as_slice(), second.as_slice())?;
     lists(alloc, image.as_slice(), text)
 }
@@ -154,7 +153,10 @@ fn lists_second(
 #[test]
 fn second_blocks(rt: HostRuntime) -> Result<(), Fail> {
     for (revision, entries, text) in SECONDS {
-        assert!(rt; lists_second(rt.alloc(), revision, entries, text)?, "{revision}");
+        assert!(rt;
+            lists_second(rt.alloc(), revision, entries, text)?,
+            "{revision}"
+        );
     }
     Ok(())
 }
@@ -162,14 +164,14 @@ fn second_blocks(rt: HostRuntime) -> Result<(), Fail> {
 #[test]
 fn a_first_block_without_a_commit(rt: HostRuntime) -> Result<(), Fail> {
     let (revision, entries, text) = SECONDS[1];
-    let second = block_of(rt.alloc(), revision, &[entries])?;
+    let second = block_with(rt.alloc(), revision, entries)?;
     let image = image_of(rt.alloc(), &[0; 4], second.as_slice())?;
     assert!(rt; lists(rt.alloc(), image.as_slice(), text)?);
     Ok(())
 }
 
 fn lists_flipped(alloc: Global, at: usize, bits: u8, text: &str) -> Result<bool, AllocError> {
-    let block = block_of(alloc, 1, &SHIFTING)?;
+    let block = shifting_block(alloc)?;
     let mut image = image_of(alloc, block.as_slice(), &[])?;
     if let Some(byte) = image.get_mut(at) {
         *byte ^= bits;
@@ -187,7 +189,7 @@ fn bad_bytes(rt: HostRuntime) -> Result<(), Fail> {
 
 #[test]
 fn sizes_of_a_fresh_image(rt: HostRuntime) -> Result<(), Fail> {
-    let block = block_of(rt.alloc(), 1, &[])?;
+    let block = block_with(rt.alloc(), 1, &[])?;
     let image = image_of(rt.alloc(), block.as_slice(), &[])?;
     for (block_size, page, text) in SIZES {
         let lines = shown(rt.alloc(), image.as_slice(), block_size, page)?;

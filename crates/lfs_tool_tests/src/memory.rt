@@ -1,6 +1,6 @@
 // Each of these holds whichever allocation fails.
 
-use crate::image::{SHIFTING, block_of, image_of};
+use crate::image::{image_of, shifting_block};
 use crate::sources::source_of;
 use lfs_device::{Error, Geometry};
 use lfs_tool::{ToolError, Watched, list};
@@ -38,14 +38,20 @@ fn is_whole(answer: &Result<(), ToolError>, taken: usize, all: usize) -> bool {
 
 #[test]
 fn an_image_is_listed(rt: HostRuntime) -> Result<(), Fail> {
-    let Ok(block) = block_of(rt.alloc(), 1, &SHIFTING) else {
+    let Ok(block) = shifting_block(rt.alloc()) else {
         return Ok(());
     };
     let Ok(image) = image_of(rt.alloc(), block.as_slice(), &[]) else {
         return Ok(());
     };
     let mut out = Watched::new(Counting { taken: 0 });
-    let result = list(rt.alloc(), &mut Watched::new(image.as_slice()), 4096, 256, &mut out);
+    let result = list(
+        rt.alloc(),
+        &mut Watched::new(image.as_slice()),
+        4096,
+        256,
+        &mut out,
+    );
     assert!(rt; is_whole(&result, out.inner.taken, 7));
     Ok(())
 }
@@ -94,7 +100,10 @@ fn is_made<S: Source>(alloc: Global, source: &mut S) -> bool {
 
 #[test]
 fn an_image_is_made(rt: HostRuntime) -> Result<(), Fail> {
-    let items = [(b"/a".as_slice(), Some(b"1".as_slice())), (b"/b", Some(b"2"))];
+    let items = [
+        (b"/a".as_slice(), Some(b"1".as_slice())),
+        (b"/b", Some(b"2")),
+    ];
     let Ok(mut source) = source_of(rt.alloc(), &items) else {
         return Ok(());
     };

@@ -2,8 +2,9 @@
 
 use lfs_tool_source::{Entry, Folder, Held, Kind, MemorySource, Source, SourceError, read_tree};
 use std::alloc::{AllocError, Global};
-use std::fs;
+use std::rt::Files;
 use std::test::Fail;
+use std::{fs, io};
 
 // What stands at paths: a file's bytes, and none for a folder.
 pub(crate) type Items<'a> = &'a [(&'a [u8], Option<&'a [u8]>)];
@@ -84,12 +85,21 @@ const READ: [(Items<'static>, Items<'static>); 2] = [
     ),
 ];
 
+// Whether the entries of a source are these.
+fn is_read<S: Source>(
+    alloc: Global,
+    source: &mut S,
+    wanted: Items<'_>,
+) -> Result<bool, SourceError> {
+    let entries = read_tree(alloc, source)?;
+    Ok(are_same(entries.as_slice(), wanted))
+}
+
 #[test]
 fn sources_are_read(rt: HostRuntime) -> Result<(), Fail> {
     for (items, wanted) in READ {
         let mut source = source_of(rt.alloc(), items)?;
-        let entries = read_tree(rt.alloc(), &mut source)?;
-        assert!(rt; are_same(entries.as_slice(), wanted));
+        assert!(rt; is_read(rt.alloc(), &mut source, wanted)?);
     }
     Ok(())
 }
@@ -119,48 +129,72 @@ fn bad_names_are_faults(rt: HostRuntime) -> Result<(), Fail> {
     Ok(())
 }
 
+const NESTED: Items<'static> = &[(b"/d", None), (b"/a", Some(b"hello")), (b"/d/x", Some(b""))];
+
+// How many names a folder has, and what the first is.
+fn listed<S: Source>(
+    alloc: Global,
+    source: &mut S,
+    folder: &[u8],
+) -> Result<(usize, Option<Kind>), SourceError> {
+    let names = source.list(alloc, folder)?;
+    let first = match names.as_slice() {
+        [first, ..] => Some(first.kind),
+        [] => None,
+    };
+    Ok((names.len(), first))
+}
+
 #[test]
-fn memory_is_listed_and_read(rt: HostRuntime) -> Result<(), Fail> {
-    let alloc = rt.alloc();
-    let items = [
-        (b"/d".as_slice(), None),
-        (b"/a", Some(b"hello".as_slice())),
-        (b"/d/x", Some(b"")),
-    ];
-    let mut source = source_of(alloc, &items)?;
-    let root = source.list(alloc, b"")?;
-    let kinds = (root.len(), root.first().map(|one| one.kind));
-    assert!(rt; kinds == (2, Some(Kind::Folder)));
-    let below = source.list(alloc, b"/d")?;
-    let bytes = source.read(alloc, b"/a")?;
-    assert!(rt; below.len() == 1 && bytes.as_slice() == b"hello".as_slice() && !source.has_failed);
-    let of_folder = source.read(alloc, b"/d");
-    assert!(rt; matches!(&of_folder, Err(SourceError::Fault)) && source.has_failed);
+fn memory_is_listed(rt: HostRuntime) -> Result<(), Fail> {
+    let mut source = source_of(rt.alloc(), NESTED)?;
+    let root = listed(rt.alloc(), &mut source, b"");
+    let below = listed(rt.alloc(), &mut source, b"/d");
+    assert!(rt; root == Ok((2, Some(Kind::Folder))) && below == Ok((1, Some(Kind::File))));
+    Ok(())
+}
+
+// Whether a file of a source has these bytes; with None, whether reading it is a fault.
+fn is_held<S: Source>(alloc: Global, source: &mut S, path: &[u8], wanted: Option<&[u8]>) -> bool {
+    match source.read(alloc, path) {
+        Ok(bytes) => Some(bytes.as_slice()) == wanted,
+        Err(error) => error == SourceError::Fault && wanted.is_none(),
+    }
+}
+
+#[test]
+fn memory_is_read(rt: HostRuntime) -> Result<(), Fail> {
+    let mut source = source_of(rt.alloc(), NESTED)?;
+    let is_file = is_held(rt.alloc(), &mut source, b"/a", Some(b"hello")) && !source.has_failed;
+    let is_folder = is_held(rt.alloc(), &mut source, b"/d", None) && source.has_failed;
+    assert!(rt; is_file && is_folder);
+    Ok(())
+}
+
+fn make_folder<R: Files + AllocGlobal>(rt: &R) -> io::Result<()> {
+    let _ = fs::remove_dir_all(rt, "source_folder");
+    fs::create_dir_all(rt, "source_folder/d")?;
+    fs::write(rt, "source_folder/d/y", b"")?;
+    fs::write(rt, "source_folder/x", b"hi")
+}
+
+const REAL: Items<'static> = &[(b"/d", None), (b"/d/y", Some(b"")), (b"/x", Some(b"hi"))];
+
+#[test]
+fn a_real_folder_is_read(rt: HostRuntime) -> Result<(), Fail> {
+    make_folder(&rt)?;
+    let mut folder = Folder::new(&rt, "source_folder");
+    assert!(rt; is_read(rt.alloc(), &mut folder, REAL)?);
+    assert!(rt; is_held(rt.alloc(), &mut folder, b"/d", None));
+    let bad = listed(rt.alloc(), &mut folder, b"/e\xff");
+    assert!(rt; bad == Err(SourceError::Fault));
+    fs::remove_dir_all(&rt, "source_folder")?;
     Ok(())
 }
 
 #[test]
-fn a_real_folder_is_read(rt: HostRuntime) -> Result<(), Fail> {
-    let alloc = rt.alloc();
-    let _ = fs::remove_dir_all(&rt, "source_folder");
-    fs::create_dir_all(&rt, "source_folder/d")?;
-    fs::write(&rt, "source_folder/d/y", b"")?;
-    fs::write(&rt, "source_folder/x", b"hi")?;
-    let mut folder = Folder::new(&rt, "source_folder");
-    let entries = read_tree(alloc, &mut folder)?;
-    let wanted = [
-        (b"/d".as_slice(), None),
-        (b"/d/y", Some(b"".as_slice())),
-        (b"/x", Some(b"hi")),
-    ];
-    assert!(rt; are_same(entries.as_slice(), &wanted));
-    let faults = (
-        folder.read(alloc, b"/d").err(),
-        folder.list(alloc, b"/e\xff").err(),
-        Folder::new(&rt, "source_folder/none").list(alloc, b"").err(),
-    );
-    let fault = Some(SourceError::Fault);
-    assert!(rt; faults == (fault, fault, fault));
-    fs::remove_dir_all(&rt, "source_folder")?;
-    Ok(())
+fn a_folder_that_is_not_there(rt: HostRuntime) {
+    let mut folder = Folder::new(&rt, "source_none");
+    let none = listed(rt.alloc(), &mut folder, b"");
+    assert!(rt; none == Err(SourceError::Fault));
 }

@@ -238,9 +238,9 @@ is_active disk history pair held is = record { active = is.active; has_commit = 
 pub now_holds : (disk : Disk) (history : List Event) (at : ℕ × ℕ) (pair : Pair) (active : ℕ) (c : RawContent) → IsIn disk at active c
     → address_in pair ≡ at → pair.active ≡ active → pair.is_fetched ≡ false
     → pair.end ≡ (chain_of (block_at disk active)).end → pair.last ≡ (chain_of (block_at disk active)).last → pair.revision ≡ revision_of (block_at disk active)
-    → pair.slot_count ≡ length c.slots → option_map tail_seen pair.tail ≡ c.tail → move_seen pair.move_state ≡ c.move → pair.is_complete ≡ is_some (completed c)
+    → pair.slot_count ≡ length c.slots → option_map tail_seen pair.tail ≡ c.tail → move_seen pair.move_state ≡ c.move → pair.is_complete ≡ is_some (completed c) → IsLogged c
     → pair.end % disk.page ≡ 0 → AllUnprogrammed history active pair.end disk.block_size → NowHolds disk history at pair c
-now_holds disk history at pair active c in_block same is written end last revision slot_count tail moved full pages behind = record {
+now_holds disk history at pair active c in_block same is written end last revision slot_count tail moved full logged pages behind = record {
   is_pair = record {
     active = is ∙ in_block.active_is ∙ ap (active_at disk) (sym same);
     has_commit = ap (λ b. has_commit (block_at disk b)) is ∙ in_block.has;
@@ -253,6 +253,7 @@ now_holds disk history at pair active c in_block same is written end last revisi
       tail = tail;
       move = moved;
       complete = full;
+      logged = logged;
     };
     whole_pages = λ w. pages;
     unprogrammed = λ w. subst (λ b. AllUnprogrammed history b pair.end disk.block_size) (sym is) behind;

@@ -10,8 +10,8 @@ pub mod Pushed
 pub mod Made
 pub mod Cutting
 pub mod Anew
-pub mod Named
 pub mod Stay
-pub mod Kept
-pub mod BothBlocks
 pub mod Parted
+pub mod Calls
+pub mod Behind
+pub mod Erring

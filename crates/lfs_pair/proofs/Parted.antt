@@ -1,26 +1,29 @@
 -- A content cut into the parts of two pairs, and what a stop on the way there leaves.
 use Rattle.std.specs.Prelude.{All}
-use Rattle.std.proofs.Common.{ℕ, zero, suc, get_or, ◌≡◌, ◌≢◌, ◌<◌, ◌==◌, ◌&&◌, ◌^◌, false, List, [], ◌∷◌, Some, length, take, drop, refl, sym, ap, ◌∙◌, subst, arith, inl, inr}
-use Rattle.std.proofs.lemmas.Bool.{ne_eqb}
+use Rattle.std.proofs.Common.{ℕ, zero, suc, get_or, ◌≡◌, ◌≢◌, ◌+◌, ◌≤◌, ◌<◌, ◌==◌, ◌&&◌, ◌^◌, false, List, [], ◌∷◌, Some, length, take, drop, sum_by, refl, sym, ap, ◌∙◌, subst, arith, inl, inr}
+use Rattle.std.proofs.lemmas.Bool.{cases_lt, ne_eqb}
+use Rattle.std.proofs.lemmas.List.{take_all}
 use Rattle.lfs_device.specs.Shown.{disk_of}
 use Rattle.lfs_device.specs.declared.geometry.Geometry.{Geometry}
 use Rattle.lfs_model.specs.Blocks.{Blocks, block_in}
-use Rattle.lfs_model.specs.Disk.{Disk}
-use Rattle.lfs_model.specs.History.{Event, OnlyReads}
+use Rattle.lfs_model.specs.Disk.{Disk, pair_capacity, slot_limit}
+use Rattle.lfs_model.specs.History.{EachSince, Event, OnlyReads, programs}
 use Rattle.lfs_model.specs.Slots.{null_address}
 use Rattle.lfs_model.specs.Content.{RawSlot, RawContent, holder_at, raw_at}
 use Rattle.lfs_model.specs.Log.{LogEntry}
 use Rattle.lfs_model.specs.Logged.{HaveNames, HaveParts, IsLogged}
-use Rattle.lfs_model.specs.Written.{FitsRaw}
+use Rattle.lfs_model.specs.Written.{FitsRaw, raw_slot_size}
 use Rattle.lfs_model.specs.Changes.{Change}
-use Rattle.lfs_model.proofs.Histories.{StayUnprogrammed-trans, StayUnprogrammed-wider}
+use Rattle.lfs_model.proofs.Histories.{EachSince-until}
 use Rattle.lfs_model.proofs.Logged.{nothing_logged}
 use Rattle.lfs_model.proofs.Overwrites.{SameButThese-refl, SameButThese-trans, SameButThese-wider}
 use Rattle.lfs_pair.specs.declared.pair.Pair.{Pair}
 use Rattle.lfs_pair.specs.Pair.{address_in}
 use Rattle.lfs_model.specs.View.{BeginsWith}
-use Rattle.lfs_pair.specs.Commit.{IsNow, IsStill, KeepsFirst, LeftWith, NowHolds, OutsideKeeps, OutsideStays, made_in, made_at}
-use Rattle.lfs_pair.specs.Split.{AreApart, AreParts, CanSplit, LeftBySplit, OutsideBothKeeps, OutsideBothStays}
+use Rattle.lfs_pair.specs.Commit.{IsNow, IsStill, KeepsFirst, LeftWith, NowHolds, OutsideKeeps, made_in, made_at}
+use Rattle.lfs_pair.specs.Cut.{IsCut}
+use Rattle.lfs_pair.specs.Fresh.{ClearsLogs}
+use Rattle.lfs_pair.specs.Split.{AreApart, AreParts, CanSplit, IsInside, LeftBySplit, OutsideBothKeeps}
 use Rattle.lfs_pair.proofs.Stay.{AreElsewhere, IsPair-reads, holder_at-stays, raw_at-stays}
 use Rattle.lfs_pair.proofs.TwoBlocks.{raw_is}
 use Rattle.lfs_pair.proofs.Changed.{made_here, made_is, some_same}
@@ -47,10 +50,10 @@ fresh_elsewhere {at} {fresh} apart = record {
   second = both (λ b. b ≢ fresh.1) at.0 at.1 apart.first_second apart.second_second;
 }
 
-among_first : (at fresh : ℕ × ℕ) (other : ℕ) → All (λ c. c ≢ other) (at.0 ∷ at.1 ∷ fresh.0 ∷ fresh.1 ∷ []) → All (λ c. c ≢ other) (at.0 ∷ at.1 ∷ [])
+pub among_first : (at fresh : ℕ × ℕ) (other : ℕ) → All (λ c. c ≢ other) (at.0 ∷ at.1 ∷ fresh.0 ∷ fresh.1 ∷ []) → All (λ c. c ≢ other) (at.0 ∷ at.1 ∷ [])
 among_first at fresh other apart = both (λ c. c ≢ other) at.0 at.1 (apart 0 0 (omega arith)) (apart 1 0 (omega arith))
 
-among_second : (at fresh : ℕ × ℕ) (other : ℕ) → All (λ c. c ≢ other) (at.0 ∷ at.1 ∷ fresh.0 ∷ fresh.1 ∷ []) → All (λ c. c ≢ other) (fresh.0 ∷ fresh.1 ∷ [])
+pub among_second : (at fresh : ℕ × ℕ) (other : ℕ) → All (λ c. c ≢ other) (at.0 ∷ at.1 ∷ fresh.0 ∷ fresh.1 ∷ []) → All (λ c. c ≢ other) (fresh.0 ∷ fresh.1 ∷ [])
 among_second at fresh other apart = both (λ c. c ≢ other) fresh.0 fresh.1 (apart 2 0 (omega arith)) (apart 3 0 (omega arith))
 
 pub keeps_by_fresh : (at fresh : ℕ × ℕ) {old new : Blocks} → OutsideKeeps fresh old new → OutsideBothKeeps at fresh old new
@@ -58,12 +61,6 @@ keeps_by_fresh at fresh same = SameButThese-wider (at.0 ∷ at.1 ∷ fresh.0 ∷
 
 pub keeps_by_both : (at fresh : ℕ × ℕ) {old mid new : Blocks} → OutsideKeeps fresh old mid → OutsideKeeps at mid new → OutsideBothKeeps at fresh old new
 keeps_by_both at fresh first second = SameButThese-trans (keeps_by_fresh at fresh first) (SameButThese-wider (at.0 ∷ at.1 ∷ fresh.0 ∷ fresh.1 ∷ []) (among_first at fresh) second)
-
-pub stays_by_fresh : (at fresh : ℕ × ℕ) {old new : List Event} → OutsideStays fresh old new → OutsideBothStays at fresh old new
-stays_by_fresh at fresh same = StayUnprogrammed-wider (at.0 ∷ at.1 ∷ fresh.0 ∷ fresh.1 ∷ []) (among_second at fresh) same
-
-pub stays_by_both : (at fresh : ℕ × ℕ) {old mid new : List Event} → OutsideStays fresh old mid → OutsideStays at mid new → OutsideBothStays at fresh old new
-stays_by_both at fresh first second = StayUnprogrammed-trans (stays_by_fresh at fresh first) (StayUnprogrammed-wider (at.0 ∷ at.1 ∷ fresh.0 ∷ fresh.1 ∷ []) (among_first at fresh) second)
 
 -- ---- both parts can be written
 
@@ -118,6 +115,30 @@ back_ready {block_size} {page} {whole} parts logged names =
       names = HaveNames-drop parts.cut whole.slots names;
       fits = record { size = parts.is_cut.back.size; count = parts.is_cut.back.count };
     })
+
+-- where the whole doesn't fit, neither part is empty
+pub cut_inside : {block_size page cut : ℕ} {whole : RawContent} → IsCut block_size page whole.slots cut → IsInside block_size page whole cut
+cut_inside {block_size} {page} {cut} {whole} is full = (front cut is, back)
+  where
+    front : (k : ℕ) → IsCut block_size page whole.slots k → 0 < k
+    front zero none = absurd (full (record { size = none.back.size; count = none.back.count }))
+    front (suc k) some = omega arith
+
+    back : cut < length whole.slots
+    back = elim (cases_lt cut (length whole.slots)) [
+      | inl lt ↦ lt
+      | inr le ↦
+          let all = take_all cut whole.slots le in
+          absurd (full (record { size = subst (λ s. sum_by raw_slot_size s ≤ pair_capacity block_size page) all is.front.size; count = subst (λ s. length s ≤ slot_limit) all is.front.count }))
+    ]
+
+-- one more program behind others
+pub clears_more : {count : ℕ} {before mid history : List Event} {P Q : Event → Type 0} → EachSince P before mid → EachSince Q mid history → ClearsLogs count before mid → programs history ≡ programs mid + 1
+    → ClearsLogs (count + 1) before history
+clears_more {before = before} {mid = mid} {history = history} first second clears more = record {
+  at_most = let most = clears.at_most in omega (arith, most, more);
+  programs = λ logs. let one = clears.programs (EachSince-until logs first second) in omega (arith, one, more);
+}
 
 -- ---- a pair that is being split
 
@@ -206,6 +227,7 @@ left_while_old old at fresh changes mid left {whole} {front} apart same made log
       logged = logged;
       cut = parts.cut;
       is_cut = parts.is_cut;
+      inside = cut_inside parts.is_cut;
       front = subst (λ c. IsNow old at c (record old { blocks = left })) parts.front_is (record { content = is.content; first = first_behind old at fresh mid left front apart same is.first });
       back = raw_at-stays (record old { blocks = mid }) (fresh_elsewhere apart) stopped.others ∙ held ∙ ap Some parts.back_is;
     })

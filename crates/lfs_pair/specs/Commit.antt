@@ -1,12 +1,18 @@
 -- What a commit to a pair does.
 use Rattle.std.specs.Prelude.{ℕ, ◌≡◌, ◌≢◌, ◌⊎◌, ◌+◌, ◌%◌, ◌^◌, ◌++◌, ◌<◌, ◌≤◌, false, true, List, [], ◌∷◌, take, slice_get, Option, Some, None}
 use Rattle.std.specs.Option.{option_and_then}
+use Rattle.lfs_device.specs.declared.device.BlockDevice.{Ghosts}
+use Rattle.lfs_device.specs.declared.error.Error.{Error}
+use Rattle.lfs_device.specs.declared.error.Error.TheVariants.{Io, NoMemory}
+use Rattle.lfs_device.specs.Calls.{ReadsOnly}
+use Rattle.lfs_device.specs.Shown.{disk_of}
 use Rattle.lfs_model.specs.Blocks.{Blocks, SameBut, SameButThese, block_in}
 use Rattle.lfs_model.specs.Disk.{Disk, block_at, block_count}
-use Rattle.lfs_model.specs.History.{Event, StayUnprogrammed, erases}
+use Rattle.lfs_model.specs.History.{Event, StayUnprogrammed, erases, programs}
 use Rattle.lfs_model.specs.Log.{LogEntry, chain_of, log_entries, revision_of}
 use Rattle.lfs_model.specs.Logged.{HaveNames, IsLogged}
-use Rattle.lfs_model.specs.Content.{RawContent, has_commit, holder_at, raw_at, content_after_all, no_content}
+use Rattle.lfs_model.specs.Slots.{Content, FitsPair}
+use Rattle.lfs_model.specs.Content.{RawContent, completed, has_commit, holder_at, raw_at, content_after_all, no_content}
 use Rattle.lfs_model.specs.View.{BeginsWith}
 use Rattle.lfs_model.specs.Changes.{Change, changed_by, entries_of_changes}
 use Rattle.lfs_model.specs.Commit.{entries_size, page_end}
@@ -73,15 +79,6 @@ pub record NowHolds (disk : Disk) (history : List Event) (at : ℕ × ℕ) (pair
   pub content : raw_at disk at ≡ Some held
   pub written : pair.is_fetched ≡ false
 
--- What the changes make fits the pair, and the pair holds it.
-pub record Commits (old : Disk) (changes : List Change) (was : Pair) (disk : Disk) (history : List Event) (pair : Pair) : Type 0 where
-  pub new : RawContent
-  pub made : made_at old (address_in was) changes ≡ Some new
-  pub fits : FitsRaw old.block_size old.page new
-  pub logged : IsLogged new
-  pub holds : NowHolds disk history (address_in was) pair new
-  pub first : KeepsFirst old (address_in was) (Some new) disk
-
 -- the changes can be appended: something was written since the fetch, and the padded commit ends within the block
 pub record Appends (disk : Disk) (pair : Pair) (changes : List Change) : Type 0 where
   pub written : pair.is_fetched ≡ false
@@ -100,6 +97,7 @@ pub record IsAppended (page : ℕ) (was : Pair) (changes : List Change) (old new
   pub log : HasAppended page (entries_of_changes changes) (block_in old was.active) (block_in new was.active)
   pub others : SameBut was.active old new
   pub erases : erases after ≡ erases before
+  pub programs : programs after ≡ programs before + 1
   pub kept : take was.end (block_in new was.active) ≡ take was.end (block_in old was.active)
 
 -- a compaction erases once, leaves the block that held as it is, and writes the content anew into the other one, with the
@@ -109,15 +107,46 @@ pub record IsCompacted (page : ℕ) (was : Pair) (c : RawContent) (old new : Blo
   pub anew : Holds ((was.revision + 1) % 2 ^ 32) c (block_in new pair.active)
   pub end : pair.end ≡ page_end page (4 + entries_size (entries_of c))
   pub erases : erases after ≡ erases before + 1
+  pub programs : programs after ≡ programs before + 1
   pub kept : block_in new was.active ≡ block_in old was.active
+
+-- What the changes make fits the pair, and the pair holds it: appended to its log where they can be, and else written anew.
+pub record Commits (old : Disk) (before : List Event) (changes : List Change) (was : Pair) (disk : Disk) (history : List Event) (pair : Pair) : Type 0 where
+  pub new : RawContent
+  pub made : made_at old (address_in was) changes ≡ Some new
+  pub fits : FitsRaw old.block_size old.page new
+  pub logged : IsLogged new
+  pub holds : NowHolds disk history (address_in was) pair new
+  pub first : KeepsFirst old (address_in was) (Some new) disk
+  pub appended : Appends old was changes → IsAppended old.page was changes old.blocks disk.blocks before history pair
+  pub compacted : (Appends old was changes → ⊥) → IsCompacted old.page was new old.blocks disk.blocks before history pair
+
+-- What the changes make doesn't fit the pair, in its bytes as it stands in a log or, where each slot is complete, as slots.
+-- The pair is as it was, and nothing was written.
+pub record IsFull {D : Type 0} (g : Ghosts D) (changes : List Change) (old new : D) (was now : Pair) : Type 0 where
+  pub full : (c : RawContent) → made_at (disk_of (g.geometry old) (g.blocks old)) (address_in was) changes ≡ Some c → FitsRaw (g.geometry old).block_size (g.geometry old).page c → ⊥
+  pub completed : (c : RawContent) (d : Content) → made_at (disk_of (g.geometry old) (g.blocks old)) (address_in was) changes ≡ Some c → completed c ≡ Some d
+      → FitsPair (g.geometry old).block_size (g.geometry old).page d → ⊥
+  pub pair : now ≡ was
+  pub device : ReadsOnly g old new
+
+-- An error: the pair is as it was, and where memory was lacking nothing was written.
+pub record Fails {D : Type 0} (g : Ghosts D) (old new : D) (was now : Pair) (e : Error) : Type 0 where
+  pub errors : (e ≡ Io) ⊎ (e ≡ NoMemory)
+  pub pair : now ≡ was
+  pub no_memory : e ≡ NoMemory → ReadsOnly g old new
+
+-- both blocks of a pair
+abbrev pub blocks_of : ℕ × ℕ → List ℕ
+blocks_of at = at.0 ∷ at.1 ∷ []
 
 -- no block but the pair's changes
 abbrev pub OutsideKeeps : ℕ × ℕ → Blocks → Blocks → Type 0
-OutsideKeeps at old new = SameButThese (at.0 ∷ at.1 ∷ []) old new
+OutsideKeeps at old new = SameButThese (blocks_of at) old new
 
 -- what was unprogrammed elsewhere still is
 abbrev pub OutsideStays : ℕ × ℕ → List Event → List Event → Type 0
-OutsideStays at old new = StayUnprogrammed (at.0 ∷ at.1 ∷ []) old new
+OutsideStays at old new = StayUnprogrammed (blocks_of at) old new
 
 -- a stop leaves the pair with what it held, or with that content, and other blocks as they are
 pub record LeftWith (old : Disk) (at : ℕ × ℕ) (new : RawContent) (left : Blocks) : Type 0 where

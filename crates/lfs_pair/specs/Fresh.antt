@@ -1,7 +1,10 @@
 -- What becomes of two blocks of which a pair is made.
-use Rattle.std.specs.Prelude.{ℕ, ◌≡◌, false, List, Some}
+use Rattle.std.specs.Prelude.{ℕ, ◌≡◌, ◌⊎◌, ◌+◌, ◌≤◌, Bool, true, false, List, Some}
+use Rattle.lfs_device.specs.declared.error.Error.{Error}
+use Rattle.lfs_device.specs.declared.error.Error.TheVariants.{Io, NoMemory}
+use Rattle.lfs_model.specs.Blocks.{Blocks, block_in}
 use Rattle.lfs_model.specs.Disk.{Disk, block_at}
-use Rattle.lfs_model.specs.History.{Event}
+use Rattle.lfs_model.specs.History.{Call, Read, Program, Erase, EachSince, Event, erases, programs}
 use Rattle.lfs_model.specs.Logged.{HaveNames}
 use Rattle.lfs_model.specs.Content.{RawContent, has_commit, no_content}
 use Rattle.lfs_model.specs.Changes.{Change, changed_by}
@@ -18,8 +21,23 @@ pub record CanBeFresh (disk : Disk) (at : ℕ × ℕ) (changes : List Change) : 
   pub names : HaveNames new.slots
   pub fits : FitsRaw disk.block_size disk.page new
 
+-- an erase that succeeds leaves no log
+abbrev pub erases_logs : Call → Bool → Blocks → Type 0
+erases_logs (Read block off len) failed after = Unit {0}
+erases_logs (Program block off bytes) failed after = Unit {0}
+erases_logs (Erase block) true after = Unit {0}
+erases_logs (Erase block) false after = has_commit (block_in after block) ≡ false
+
+abbrev pub ErasesLogs : Event → Type 0
+ErasesLogs e = erases_logs e.call e.failed e.after
+
+-- so many programs, and one more only where a log still stands in a block after its erase
+pub record ClearsLogs (count : ℕ) (before history : List Event) : Type 0 where
+  pub at_most : programs history ≤ programs before + (count + 1)
+  pub programs : EachSince ErasesLogs before history → programs history ≡ programs before + count
+
 -- the pair holds what the changes make of nothing, in its first block, whose revision is 1; no log is left in the second
-pub record IsFresh (changes : List Change) (disk : Disk) (history : List Event) (at : ℕ × ℕ) (pair : Pair) : Type 0 where
+pub record IsFresh (before : List Event) (changes : List Change) (disk : Disk) (history : List Event) (at : ℕ × ℕ) (pair : Pair) : Type 0 where
   pub new : RawContent
   pub made : changed_by no_content changes ≡ Some new
   pub holds : NowHolds disk history at pair new
@@ -27,3 +45,10 @@ pub record IsFresh (changes : List Change) (disk : Disk) (history : List Event) 
   pub revision_is : pair.revision ≡ 1
   pub anew : Holds 1 new (block_at disk at.0)
   pub cleared : has_commit (block_at disk at.1) ≡ false
+  pub erases : erases history ≡ erases before + 2
+  pub clears : ClearsLogs 1 before history
+
+-- an error: where memory was lacking the device is untouched
+pub record FailsUntouched {D : Type 0} (old new : D) (e : Error) : Type 0 where
+  pub errors : (e ≡ Io) ⊎ (e ≡ NoMemory)
+  pub no_memory : e ≡ NoMemory → new ≡ old

@@ -5,4 +5,3 @@ pub mod Commit
 pub mod Cut
 pub mod Fresh
 pub mod Split
-pub mod Kept

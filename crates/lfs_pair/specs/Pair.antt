@@ -6,6 +6,7 @@ use Rattle.lfs_model.specs.History.{Event, AllUnprogrammed}
 use Rattle.lfs_model.specs.Log.{chain_of, revision_of, log_entries}
 use Rattle.lfs_model.specs.Slots.{address_of}
 use Rattle.lfs_model.specs.Content.{RawContent, has_commit, is_later, content_after_all, no_content, raw_at, completed}
+use Rattle.lfs_model.specs.Logged.{IsLogged}
 use Rattle.lfs_tag.specs.ContentSeen.{tail_seen}
 use Rattle.lfs_tag.specs.FieldsSeen.{move_seen}
 use Rattle.lfs_pair.specs.declared.pair.Pair.{Pair}
@@ -30,6 +31,7 @@ pub record Describes (block : List ℕ) (pair : Pair) (held : RawContent) : Type
   pub tail : option_map tail_seen pair.tail ≡ held.tail
   pub move : move_seen pair.move_state ≡ held.move
   pub complete : pair.is_complete ≡ is_some (completed held)
+  pub logged : IsLogged held
 
 -- of two blocks the second holds: it has a commit, and the first has none or an earlier revision
 abbrev pub second_holds : List ℕ → List ℕ → Bool

@@ -1,12 +1,14 @@
 -- What becomes of a pair that is split.
-use Rattle.std.specs.Prelude.{ℕ, ◌≡◌, ◌≢◌, ◌⊎◌, ◌+◌, ◌%◌, ◌^◌, true, false, List, [], ◌∷◌, take, drop, Some}
+use Rattle.std.specs.Prelude.{ℕ, ◌≡◌, ◌≢◌, ◌⊎◌, ◌+◌, ◌<◌, ◌%◌, ◌^◌, true, false, List, [], ◌∷◌, length, take, drop, Some}
 use Rattle.lfs_model.specs.Blocks.{Blocks, SameButThese}
 use Rattle.lfs_model.specs.Disk.{Disk, block_at}
-use Rattle.lfs_model.specs.History.{Event, StayUnprogrammed}
+use Rattle.lfs_model.specs.History.{Event, StayUnprogrammed, erases}
 use Rattle.lfs_model.specs.Slots.{no_gstate}
 use Rattle.lfs_model.specs.Content.{RawContent, has_commit, raw_at}
 use Rattle.lfs_model.specs.Logged.{IsLogged}
 use Rattle.lfs_model.specs.Changes.{Change}
+use Rattle.lfs_model.specs.Written.{FitsRaw}
+use Rattle.lfs_pair.specs.Fresh.{ClearsLogs}
 use Rattle.lfs_pair.specs.declared.pair.Pair.{Pair}
 use Rattle.lfs_pair.specs.Pair.{address_in}
 use Rattle.lfs_pair.specs.Commit.{IsAddressOn, CanCommit, IsNow, IsStill, KeepsFirst, NowHolds, made_at}
@@ -35,6 +37,10 @@ front_of c cut fresh = record { slots = take cut c.slots; tail = Some (record { 
 abbrev pub back_of : RawContent → ℕ → RawContent
 back_of c cut = record { slots = drop cut c.slots; tail = c.tail; move = no_gstate }
 
+-- where the whole doesn't fit one pair, both parts have slots, and the first slot stays in front
+abbrev pub IsInside : ℕ → ℕ → RawContent → ℕ → Type 0
+IsInside block_size page whole cut = (FitsRaw block_size page whole → ⊥) → (0 < cut) × (cut < length whole.slots)
+
 -- a content cut in two
 pub record AreParts (block_size page : ℕ) (whole : RawContent) (fresh : ℕ × ℕ) (front back : RawContent) : Type 0 where
   pub cut : ℕ
@@ -43,12 +49,13 @@ pub record AreParts (block_size page : ℕ) (whole : RawContent) (fresh : ℕ ×
   pub back_is : back ≡ back_of whole cut
 
 -- what the changes make stands in both pairs, each of which fits
-pub record Splits (old : Disk) (changes : List Change) (was : Pair) (fresh : ℕ × ℕ) (disk : Disk) (history : List Event) (pair fresh_pair : Pair) : Type 0 where
+pub record Splits (old : Disk) (before : List Event) (changes : List Change) (was : Pair) (fresh : ℕ × ℕ) (disk : Disk) (history : List Event) (pair fresh_pair : Pair) : Type 0 where
   pub new : RawContent
   pub made : made_at old (address_in was) changes ≡ Some new
   pub logged : IsLogged new
   pub cut : ℕ
   pub is_cut : IsCut old.block_size old.page new.slots cut
+  pub inside : IsInside old.block_size old.page new cut
   pub front : NowHolds disk history (address_in was) pair (front_of new cut fresh)
   pub back : NowHolds disk history fresh fresh_pair (back_of new cut)
   pub first : KeepsFirst old (address_in was) (Some (front_of new cut fresh)) disk
@@ -60,6 +67,8 @@ pub record Splits (old : Disk) (changes : List Change) (was : Pair) (fresh : ℕ
   pub fresh_active : fresh_pair.active ≡ fresh.0
   pub back_anew : Holds 1 (back_of new cut) (block_at disk fresh.0)
   pub cleared : has_commit (block_at disk fresh.1) ≡ false
+  pub erases : erases history ≡ erases before + 3
+  pub clears : ClearsLogs 2 before history
 
 -- both pairs hold their parts
 pub record AreParted (old : Disk) (at fresh : ℕ × ℕ) (changes : List Change) (disk : Disk) : Type 0 where
@@ -68,16 +77,21 @@ pub record AreParted (old : Disk) (at fresh : ℕ × ℕ) (changes : List Change
   pub logged : IsLogged new
   pub cut : ℕ
   pub is_cut : IsCut old.block_size old.page new.slots cut
+  pub inside : IsInside old.block_size old.page new cut
   pub front : IsNow old at (front_of new cut fresh) disk
   pub back : raw_at disk fresh ≡ Some (back_of new cut)
 
+-- the blocks of both pairs
+abbrev pub blocks_of_both : ℕ × ℕ → ℕ × ℕ → List ℕ
+blocks_of_both at fresh = at.0 ∷ at.1 ∷ fresh.0 ∷ fresh.1 ∷ []
+
 -- no block but those of the two pairs changes
 abbrev pub OutsideBothKeeps : ℕ × ℕ → ℕ × ℕ → Blocks → Blocks → Type 0
-OutsideBothKeeps at fresh old new = SameButThese (at.0 ∷ at.1 ∷ fresh.0 ∷ fresh.1 ∷ []) old new
+OutsideBothKeeps at fresh old new = SameButThese (blocks_of_both at fresh) old new
 
 -- what was unprogrammed elsewhere still is
 abbrev pub OutsideBothStays : ℕ × ℕ → ℕ × ℕ → List Event → List Event → Type 0
-OutsideBothStays at fresh old new = StayUnprogrammed (at.0 ∷ at.1 ∷ fresh.0 ∷ fresh.1 ∷ []) old new
+OutsideBothStays at fresh old new = StayUnprogrammed (blocks_of_both at fresh) old new
 
 -- a stop leaves the pair with what it held, or both pairs with their parts
 pub record LeftBySplit (old : Disk) (at fresh : ℕ × ℕ) (changes : List Change) (left : Blocks) : Type 0 where

@@ -1,17 +1,17 @@
 // Changes committed to a pair.
 
-ghost use Rattle.std.specs.Prelude.{◌≡◌, ◌⊎◌, ◌<◌, true, false, IfErr, OnErr, OnOk, Some, length};
+ghost use Rattle.std.specs.Prelude.{◌≡◌, true, false, IfErr, OnErr, OnOk, Some, length};
 ghost use Rattle.lfs_device.specs.Shown.{disk_of};
 ghost use Rattle.lfs_model.specs.Blocks.{block_in};
-ghost use Rattle.lfs_model.specs.History.{AtWorst, EachSince, LeavesOnly, OnlyReads, faults};
+ghost use Rattle.lfs_device.specs.Calls.{ChangesOnly, TellsFaults};
+ghost use Rattle.lfs_model.specs.History.{EachSince, LeavesOnly};
 ghost use Rattle.lfs_model.specs.Stops.{ErasesCleanly, Stops};
-ghost use Rattle.lfs_model.specs.Content.{RawContent};
 ghost use Rattle.lfs_model.specs.Written.{FitsRaw};
 ghost use Rattle.lfs_model.specs.Logged.{HaveNames, IsLogged};
 ghost use Rattle.lfs_tag.specs.ContentSeen.{content_seen};
 ghost use Rattle.lfs_pair.specs.Pair.{address_in};
 ghost use Rattle.lfs_pair.specs.ChangeSeen.{changes_seen};
-ghost use Rattle.lfs_pair.specs.Commit.{made_at, CanCommit, Commits, NowHolds, Appends, IsAddressOn, IsAppended, IsCompacted, OutsideKeeps, OutsideStays, IsActive, KeepsFirst, LeftByChange, LeftWith};
+ghost use Rattle.lfs_pair.specs.Commit.{made_at, blocks_of, CanCommit, Commits, Fails, IsFull, NowHolds, Appends, IsAddressOn, IsAppended, IsCompacted, IsActive, KeepsFirst, LeftByChange, LeftWith};
 
 use crate::change::Change;
 use crate::entries::push_changes;
@@ -58,42 +58,25 @@ pub fn commit<D: BlockDevice>(
     requires { CanCommit (disk_of (D.geometry dev.old) (D.blocks dev.old)) (D.history dev.old) pair.old (changes_seen changes.now) }
 
     ensures done { result ≡ Ok Outcome.Done
-        → Commits (disk_of (D.geometry dev.old) (D.blocks dev.old)) (changes_seen changes.now) pair.old (disk_of (D.geometry dev.new) (D.blocks dev.new)) (D.history dev.new) pair.new }
-    ensures appended { result ≡ Ok Outcome.Done
-        → Appends (disk_of (D.geometry dev.old) (D.blocks dev.old)) pair.old (changes_seen changes.now)
-        → IsAppended (D.geometry dev.old).page pair.old (changes_seen changes.now) (D.blocks dev.old) (D.blocks dev.new) (D.history dev.old) (D.history dev.new) pair.new }
-    ensures compacted { result ≡ Ok Outcome.Done
-        → ¬ Appends (disk_of (D.geometry dev.old) (D.blocks dev.old)) pair.old (changes_seen changes.now)
-        → (new : RawContent) → made_at (disk_of (D.geometry dev.old) (D.blocks dev.old)) (address_in pair.old) (changes_seen changes.now) ≡ Some new
-        → IsCompacted (D.geometry dev.old).page pair.old new (D.blocks dev.old) (D.blocks dev.new) (D.history dev.old) (D.history dev.new) pair.new }
-
-    ensures full { result ≡ Ok Outcome.Full → (new : RawContent)
-        → made_at (disk_of (D.geometry dev.old) (D.blocks dev.old)) (address_in pair.old) (changes_seen changes.now) ≡ Some new
-        → ¬ FitsRaw (D.geometry dev.old).block_size (D.geometry dev.old).page new }
-    ensures full_pair { result ≡ Ok Outcome.Full → pair.new ≡ pair.old }
-    ensures full_same { result ≡ Ok Outcome.Full → D.blocks dev.new ≡ D.blocks dev.old }
-    ensures full_reads { result ≡ Ok Outcome.Full → OnlyReads (D.blocks dev.old) (D.history dev.old) (D.history dev.new) }
-    ensures no_memory { result ≡ Err Error.NoMemory → D.blocks dev.new ≡ D.blocks dev.old }
-    ensures no_fault { result ≡ Err Error.NoMemory → faults (D.history dev.new) ≡ faults (D.history dev.old) }
-    ensures no_memory_reads { result ≡ Err Error.NoMemory → OnlyReads (D.blocks dev.old) (D.history dev.old) (D.history dev.new) }
-    ensures err_pair { OnErr result (pair.new ≡ pair.old) }
-    ensures errors { IfErr result (λ e. (e ≡ Error.Io) ⊎ (e ≡ Error.NoMemory)) }
-    ensures fault { result ≡ Err Error.Io → faults (D.history dev.old) < faults (D.history dev.new) }
-
-    ensures others { OutsideKeeps (address_in pair.old) (D.blocks dev.old) (D.blocks dev.new) }
-    ensures elsewhere { OutsideStays (address_in pair.old) (D.history dev.old) (D.history dev.new) }
-    ensures geometry { D.geometry dev.new ≡ D.geometry dev.old }
+        → Commits (disk_of (D.geometry dev.old) (D.blocks dev.old)) (D.history dev.old) (changes_seen changes.now) pair.old (disk_of (D.geometry dev.new) (D.blocks dev.new)) (D.history dev.new) pair.new }
+    ensures full { result ≡ Ok Outcome.Full → IsFull D.BlockDevice (changes_seen changes.now) dev.old dev.new pair.old pair.new }
+    ensures error { IfErr result (λ e. Fails D.BlockDevice dev.old dev.new pair.old pair.new e) }
+    ensures device { ChangesOnly D.BlockDevice (blocks_of (address_in pair.old)) dev.old dev.new }
+    ensures faults { TellsFaults D.BlockDevice dev.old dev.new result }
     ensures stops { EachSince ErasesCleanly (D.history dev.old) (D.history dev.new)
         → LeavesOnly Stops (D.history dev.old) (D.history dev.new) (LeftByChange (disk_of (D.geometry dev.old) (D.blocks dev.old)) (address_in pair.old) (changes_seen changes.now)) }
-    ensures at_worst { LeavesOnly AtWorst (D.history dev.old) (D.history dev.new) (OutsideKeeps (address_in pair.old) (D.blocks dev.old)) }
 {
     let block = read_block(alloc, dev, pair.active)?;
-    let outcome = carry_out(alloc, dev, pair, &block, changes)?;
+    let outcome = commit_in(alloc, dev, pair, &block, changes)?;
     Ok(outcome)
 }
 
-// Commits the changes to the pair whose active block has these bytes.
-fn carry_out<'a, 'b: 'a, D: BlockDevice>(
+/// [`commit`] to a pair whose active block has these bytes, which a cache may have. It reads the
+/// four bytes behind what it programs, and nothing else.
+///
+/// That the block has these bytes is the caller's condition, beside those of [`commit`]. `NoMemory`
+/// where there is no room for a block and the slots; the device is untouched then.
+pub fn commit_in<'a, 'b: 'a, D: BlockDevice>(
     alloc: Global,
     dev: &mut D,
     pair: &mut Pair,
@@ -104,31 +87,13 @@ fn carry_out<'a, 'b: 'a, D: BlockDevice>(
     requires block { block.now ≡ block_in (D.blocks dev.old) pair.old.active }
 
     ensures done { result ≡ Ok Outcome.Done
-        → Commits (disk_of (D.geometry dev.old) (D.blocks dev.old)) (changes_seen changes.now) pair.old (disk_of (D.geometry dev.new) (D.blocks dev.new)) (D.history dev.new) pair.new }
-    ensures appended { result ≡ Ok Outcome.Done
-        → Appends (disk_of (D.geometry dev.old) (D.blocks dev.old)) pair.old (changes_seen changes.now)
-        → IsAppended (D.geometry dev.old).page pair.old (changes_seen changes.now) (D.blocks dev.old) (D.blocks dev.new) (D.history dev.old) (D.history dev.new) pair.new }
-    ensures compacted { result ≡ Ok Outcome.Done
-        → ¬ Appends (disk_of (D.geometry dev.old) (D.blocks dev.old)) pair.old (changes_seen changes.now)
-        → (new : RawContent) → made_at (disk_of (D.geometry dev.old) (D.blocks dev.old)) (address_in pair.old) (changes_seen changes.now) ≡ Some new
-        → IsCompacted (D.geometry dev.old).page pair.old new (D.blocks dev.old) (D.blocks dev.new) (D.history dev.old) (D.history dev.new) pair.new }
-
-    ensures full { result ≡ Ok Outcome.Full → (new : RawContent)
-        → made_at (disk_of (D.geometry dev.old) (D.blocks dev.old)) (address_in pair.old) (changes_seen changes.now) ≡ Some new
-        → ¬ FitsRaw (D.geometry dev.old).block_size (D.geometry dev.old).page new }
-    ensures full_pair { result ≡ Ok Outcome.Full → pair.new ≡ pair.old }
-    ensures full_dev { result ≡ Ok Outcome.Full → dev.new ≡ dev.old }
-    ensures no_memory { result ≡ Err Error.NoMemory → dev.new ≡ dev.old }
-    ensures err_pair { OnErr result (pair.new ≡ pair.old) }
-    ensures errors { IfErr result (λ e. (e ≡ Error.Io) ⊎ (e ≡ Error.NoMemory)) }
-    ensures fault { result ≡ Err Error.Io → faults (D.history dev.old) < faults (D.history dev.new) }
-
-    ensures others { OutsideKeeps (address_in pair.old) (D.blocks dev.old) (D.blocks dev.new) }
-    ensures elsewhere { OutsideStays (address_in pair.old) (D.history dev.old) (D.history dev.new) }
-    ensures geometry { D.geometry dev.new ≡ D.geometry dev.old }
+        → Commits (disk_of (D.geometry dev.old) (D.blocks dev.old)) (D.history dev.old) (changes_seen changes.now) pair.old (disk_of (D.geometry dev.new) (D.blocks dev.new)) (D.history dev.new) pair.new }
+    ensures full { result ≡ Ok Outcome.Full → IsFull D.BlockDevice (changes_seen changes.now) dev.old dev.new pair.old pair.new }
+    ensures error { IfErr result (λ e. Fails D.BlockDevice dev.old dev.new pair.old pair.new e) }
+    ensures device { ChangesOnly D.BlockDevice (blocks_of (address_in pair.old)) dev.old dev.new }
+    ensures faults { TellsFaults D.BlockDevice dev.old dev.new result }
     ensures stops { EachSince ErasesCleanly (D.history dev.old) (D.history dev.new)
         → LeavesOnly Stops (D.history dev.old) (D.history dev.new) (LeftByChange (disk_of (D.geometry dev.old) (D.blocks dev.old)) (address_in pair.old) (changes_seen changes.now)) }
-    ensures at_worst { LeavesOnly AtWorst (D.history dev.old) (D.history dev.new) (OutsideKeeps (address_in pair.old) (D.blocks dev.old)) }
 {
     let geometry = dev.geometry();
     let content = made_in(alloc, block, changes)?;
@@ -153,6 +118,7 @@ fn append<D: BlockDevice>(
     buf: &mut [u8],
 ) -> Result<bool, Error>
     requires can { CanCommit (disk_of (D.geometry dev.old) (D.blocks dev.old)) (D.history dev.old) pair.old (changes_seen changes.now) }
+    requires logged { IsLogged (content_seen content.now) }
     requires made { made_at (disk_of (D.geometry dev.old) (D.blocks dev.old)) (address_in pair.old) (changes_seen changes.now) ≡ Some (content_seen content.now) }
     requires buf { length buf.old ≡ (D.geometry dev.old).block_size }
 
@@ -168,13 +134,9 @@ fn append<D: BlockDevice>(
     ensures no_room_buf { length buf.new ≡ length buf.old }
     ensures err_pair { OnErr result (pair.new ≡ pair.old) }
     ensures errors { IfErr result (λ e. e ≡ Error.Io) }
-    ensures fault { result ≡ Err Error.Io → faults (D.history dev.old) < faults (D.history dev.new) }
-
-    ensures others { OutsideKeeps (address_in pair.old) (D.blocks dev.old) (D.blocks dev.new) }
-    ensures elsewhere { OutsideStays (address_in pair.old) (D.history dev.old) (D.history dev.new) }
-    ensures geometry { D.geometry dev.new ≡ D.geometry dev.old }
+    ensures device { ChangesOnly D.BlockDevice (blocks_of (address_in pair.old)) dev.old dev.new }
+    ensures faults { TellsFaults D.BlockDevice dev.old dev.new result }
     ensures stops { LeavesOnly Stops (D.history dev.old) (D.history dev.new) (LeftWith (disk_of (D.geometry dev.old) (D.blocks dev.old)) (address_in pair.old) (content_seen content.now)) }
-    ensures at_worst { LeavesOnly AtWorst (D.history dev.old) (D.history dev.new) (OutsideKeeps (address_in pair.old) (D.blocks dev.old)) }
 {
     let geometry = dev.geometry();
     let mut builder = CommitBuilder::new(geometry.page, buf, pair.last, None);
@@ -208,14 +170,10 @@ pub(crate) fn compact<D: BlockDevice>(
     ensures compacted { OnOk result (IsCompacted (D.geometry dev.old).page pair.old (content_seen content.now) (D.blocks dev.old) (D.blocks dev.new) (D.history dev.old) (D.history dev.new) pair.new) }
     ensures err_pair { OnErr result (pair.new ≡ pair.old) }
     ensures errors { IfErr result (λ e. e ≡ Error.Io) }
-    ensures fault { result ≡ Err Error.Io → faults (D.history dev.old) < faults (D.history dev.new) }
-
-    ensures others { OutsideKeeps (address_in pair.old) (D.blocks dev.old) (D.blocks dev.new) }
-    ensures elsewhere { OutsideStays (address_in pair.old) (D.history dev.old) (D.history dev.new) }
-    ensures geometry { D.geometry dev.new ≡ D.geometry dev.old }
+    ensures device { ChangesOnly D.BlockDevice (blocks_of (address_in pair.old)) dev.old dev.new }
+    ensures faults { TellsFaults D.BlockDevice dev.old dev.new result }
     ensures stops { EachSince ErasesCleanly (D.history dev.old) (D.history dev.new)
         → LeavesOnly Stops (D.history dev.old) (D.history dev.new) (LeftWith (disk_of (D.geometry dev.old) (D.blocks dev.old)) (address_in pair.old) (content_seen content.now)) }
-    ensures at_worst { LeavesOnly AtWorst (D.history dev.old) (D.history dev.new) (OutsideKeeps (address_in pair.old) (D.blocks dev.old)) }
 {
     let other = pair.other();
     let revision = pair.revision.wrapping_add(1);
@@ -223,6 +181,3 @@ pub(crate) fn compact<D: BlockDevice>(
     *pair = Pair::written(pair.blocks, other, revision, written, content);
     Ok(())
 }
-
-#[cfg(test)]
-mod tests;

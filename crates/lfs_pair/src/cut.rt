@@ -36,6 +36,3 @@ pub(crate) fn cut_of(slots: &[Slot<'_>], geometry: Geometry) -> usize
     }
     cut
 }
-
-#[cfg(test)]
-mod tests;

@@ -156,8 +156,7 @@ fn push_move_if_any(builder: &mut CommitBuilder<'_>, state: &MoveState)
     requires { IsMoveState (move_seen state.now) }
     ensures { builder.new ≡ with_entries (move_entries (move_seen state.now)) builder.old }
 {
-    let is_zero = !state.sync && state.kind == 0 && state.id == 0 && state.pair == [0, 0];
-    if !is_zero {
+    if !state.is_none() {
         push_move(builder, state);
     }
 }

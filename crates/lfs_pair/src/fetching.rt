@@ -1,21 +1,31 @@
 // A pair read from the device.
 
-ghost use Rattle.std.specs.Prelude.{◌≡◌, ◌≢◌, ◌<◌, ◌⊎◌, ℕ, true, IfOk, IfErr, IsOk, None, Some};
+ghost use Rattle.std.specs.Prelude.{◌≡◌, ◌≢◌, ◌+◌, ◌≤◌, ◌<◌, ◌⊎◌, true, IfOk, IfErr, IsOk, None, Some};
 ghost use Rattle.lfs_device.specs.Shown.{disk_of};
-ghost use Rattle.lfs_model.specs.History.{OnlyReads, faults};
+ghost use Rattle.lfs_device.specs.Calls.{ReadsOnly, TellsFaults};
+ghost use Rattle.lfs_model.specs.History.{reads};
 ghost use Rattle.lfs_model.specs.Slots.{address_of};
-ghost use Rattle.lfs_model.specs.Log.{log_entries};
+ghost use Rattle.lfs_model.specs.Log.{chain_of, log_entries, revision_of};
 ghost use Rattle.lfs_model.specs.Content.{raw_at, content_after_all, no_content, RawContent};
 ghost use Rattle.lfs_pair.specs.Pair.{Describes, Fetches};
 
-use crate::pair::{Pair, are_complete};
+use crate::pair::Pair;
 use crate::reading::{Head, head_of};
 use lfs_device::{BlockDevice, Error, read_block};
-use lfs_tag::{Content, ContentError, Log};
+use lfs_tag::{ContentError, Log, Summary, is_later};
 use std::alloc::Global;
 
-// The pair whose active block has these bytes.
-fn described(alloc: Global, blocks: [u32; 2], active: u32, bytes: &[u8]) -> Result<Pair, Error>
+// The pair whose active block has these bytes and that head.
+fn described(
+    alloc: Global,
+    blocks: [u32; 2],
+    active: u32,
+    head: Head,
+    bytes: &[u8],
+) -> Result<Pair, Error>
+    requires end { head.end ≡ (chain_of bytes.now).end }
+    requires last { head.last ≡ (chain_of bytes.now).last }
+    requires revision { head.revision ≡ revision_of bytes.now }
     ensures describes { IfOk result (λ pair. (held : RawContent) × Describes bytes.now pair held) }
     ensures blocks { IfOk result (λ pair. pair.blocks ≡ blocks) }
     ensures active { IfOk result (λ pair. pair.active ≡ active) }
@@ -23,18 +33,18 @@ fn described(alloc: Global, blocks: [u32; 2], active: u32, bytes: &[u8]) -> Resu
     ensures corrupt { result ≡ Err Error.Corrupt → content_after_all no_content (log_entries bytes.now) ≡ None }
     ensures errors { IfErr result (λ e. (e ≡ Error.Corrupt) ⊎ (e ≡ Error.NoMemory)) }
 {
-    let log = Log::read(bytes);
-    match Content::read(alloc, &log) {
-        Ok(content) => Ok(Pair {
+    let log = Log::known(bytes, head.end, head.last);
+    match Summary::read(alloc, &log) {
+        Ok(summary) => Ok(Pair {
             blocks,
             active,
-            end: log.end(),
-            last: log.last(),
-            revision: log.revision(),
-            slot_count: content.slots.len(),
-            tail: content.tail,
-            move_state: content.move_state,
-            is_complete: are_complete(&content.slots),
+            end: head.end,
+            last: head.last,
+            revision: head.revision,
+            slot_count: summary.slot_count,
+            tail: summary.tail,
+            move_state: summary.move_state,
+            is_complete: summary.is_complete,
             is_fetched: true,
         }),
         Err(ContentError::Malformed) => Err(Error::Corrupt),
@@ -44,7 +54,8 @@ fn described(alloc: Global, blocks: [u32; 2], active: u32, bytes: &[u8]) -> Resu
 
 /// Reads a pair: which of its blocks holds, where that block's log ends, and what it comes to but
 /// for the slots (SPEC.md of littlefs, "Metadata pairs"). That the two blocks differ and are in
-/// the device is the caller's condition. It takes memory for a block and for its slots.
+/// the device is the caller's condition. It takes memory for one block and two bytes a slot, so a
+/// third read is needed where the second block holds; no checksum is computed twice.
 ///
 /// Answers `Corrupt` exactly where neither block has a commit, or the log of the block that holds
 /// is malformed; `Io` where a read failed, and `NoMemory` where there is no room for a block and
@@ -56,22 +67,19 @@ pub fn fetch<D: BlockDevice>(alloc: Global, dev: &mut D, blocks: [u32; 2]) -> Re
     ensures ok { IfOk result (λ pair. Fetches (disk_of (D.geometry dev.old) (D.blocks dev.old)) (D.history dev.new) (address_of blocks) pair) }
     ensures corrupt { result ≡ Err Error.Corrupt → raw_at (disk_of (D.geometry dev.old) (D.blocks dev.old)) (address_of blocks) ≡ None }
     ensures errors { IfErr result (λ e. (e ≡ Error.Corrupt) ⊎ (e ≡ Error.NoMemory) ⊎ (e ≡ Error.Io)) }
-    ensures fault { result ≡ Err Error.Io → faults (D.history dev.old) < faults (D.history dev.new) }
-    ensures no_fault { ¬ (result ≡ Err Error.Io) → faults (D.history dev.new) ≡ faults (D.history dev.old) }
-
-    ensures same { D.blocks dev.new ≡ D.blocks dev.old }
-    ensures geometry { D.geometry dev.new ≡ D.geometry dev.old }
-    ensures reads { OnlyReads (D.blocks dev.old) (D.history dev.old) (D.history dev.new) }
+    ensures faults { TellsFaults D.BlockDevice dev.old dev.new result }
+    ensures device { ReadsOnly D.BlockDevice dev.old dev.new }
+    ensures reads { reads (D.history dev.new) ≤ reads (D.history dev.old) + 3 }
 {
     let second = head_of(alloc, dev, blocks[1])?;
     let bytes = read_block(alloc, dev, blocks[0])?;
     let first = Head::of(&bytes);
-    if first.has_commit && !(second.has_commit && first.is_before(second)) {
-        return described(alloc, blocks, blocks[0], &bytes);
+    if first.has_commit && !(second.has_commit && is_later(first.revision, second.revision)) {
+        return described(alloc, blocks, blocks[0], first, &bytes);
     }
     if !second.has_commit {
         return Err(Error::Corrupt);
     }
     let bytes = read_block(alloc, dev, blocks[1])?;
-    described(alloc, blocks, blocks[1], &bytes)
+    described(alloc, blocks, blocks[1], second, &bytes)
 }

@@ -2,17 +2,18 @@
 
 ghost use Rattle.std.specs.Prelude.{◌≡◌, ◌⊎◌, ◌+◌, ◌<◌, false, [], ◌∷◌, length, IfErr, IfOk, OnOk};
 ghost use Rattle.lfs_device.specs.Shown.{disk_of};
-ghost use Rattle.lfs_model.specs.Blocks.{block_in, SameBut};
-ghost use Rattle.lfs_model.specs.History.{AtWorst, LeavesOnly, StayUnprogrammed, erases, faults};
+ghost use Rattle.lfs_device.specs.Calls.{ChangesBlock, ChangesOnly, TellsFaults};
+ghost use Rattle.lfs_model.specs.Blocks.{block_in};
+ghost use Rattle.lfs_model.specs.History.{erases};
 ghost use Rattle.lfs_model.specs.Content.{has_commit};
 ghost use Rattle.lfs_model.specs.Logged.{HaveNames, IsLogged};
 ghost use Rattle.lfs_model.specs.Slots.{address_of};
 ghost use Rattle.lfs_model.specs.Written.{FitsRaw};
 ghost use Rattle.lfs_tag.specs.ContentSeen.{content_seen};
 ghost use Rattle.lfs_pair.specs.ChangeSeen.{changes_seen};
-ghost use Rattle.lfs_pair.specs.Commit.{IsAddressOn, NowHolds, OutsideKeeps, OutsideStays};
+ghost use Rattle.lfs_pair.specs.Commit.{IsAddressOn, NowHolds, blocks_of};
 ghost use Rattle.lfs_pair.specs.Writing.{Holds};
-ghost use Rattle.lfs_pair.specs.Fresh.{CanBeFresh, IsFresh};
+ghost use Rattle.lfs_pair.specs.Fresh.{CanBeFresh, ClearsLogs, FailsUntouched, IsFresh};
 
 use crate::change::Change;
 use crate::making::made_of_nothing;
@@ -36,12 +37,10 @@ fn clear<D: BlockDevice>(dev: &mut D, block: u32, buf: &mut [u8]) -> Result<(), 
     ensures cleared { OnOk result (has_commit (block_in (D.blocks dev.new) block) ≡ false) }
     ensures buf { length buf.new ≡ length buf.old }
     ensures erases { OnOk result (erases (D.history dev.new) ≡ erases (D.history dev.old) + 1) }
-    ensures others { SameBut block (D.blocks dev.old) (D.blocks dev.new) }
-    ensures elsewhere { StayUnprogrammed (block ∷ []) (D.history dev.old) (D.history dev.new) }
-    ensures geometry { D.geometry dev.new ≡ D.geometry dev.old }
+    ensures clears { OnOk result (ClearsLogs 0 (D.history dev.old) (D.history dev.new)) }
+    ensures device { ChangesBlock D.BlockDevice block dev.old dev.new }
     ensures errors { IfErr result (λ e. e ≡ Error.Io) }
-    ensures fault { result ≡ Err Error.Io → faults (D.history dev.old) < faults (D.history dev.new) }
-    ensures at_worst { LeavesOnly AtWorst (D.history dev.old) (D.history dev.new) (SameBut block (D.blocks dev.old)) }
+    ensures faults { TellsFaults D.BlockDevice dev.old dev.new result }
 {
     let page = dev.geometry().page as usize;
     dev.erase(block)?;
@@ -72,12 +71,10 @@ pub(crate) fn write_fresh<D: BlockDevice>(
     ensures revision { IfOk result (λ pair. pair.revision ≡ 1) }
     ensures buf { length buf.new ≡ length buf.old }
     ensures erases { OnOk result (erases (D.history dev.new) ≡ erases (D.history dev.old) + 2) }
-    ensures others { OutsideKeeps (address_of blocks) (D.blocks dev.old) (D.blocks dev.new) }
-    ensures elsewhere { OutsideStays (address_of blocks) (D.history dev.old) (D.history dev.new) }
-    ensures geometry { D.geometry dev.new ≡ D.geometry dev.old }
+    ensures clears { OnOk result (ClearsLogs 1 (D.history dev.old) (D.history dev.new)) }
+    ensures device { ChangesOnly D.BlockDevice (blocks_of (address_of blocks)) dev.old dev.new }
     ensures errors { IfErr result (λ e. e ≡ Error.Io) }
-    ensures fault { result ≡ Err Error.Io → faults (D.history dev.old) < faults (D.history dev.new) }
-    ensures at_worst { LeavesOnly AtWorst (D.history dev.old) (D.history dev.new) (OutsideKeeps (address_of blocks) (D.blocks dev.old)) }
+    ensures faults { TellsFaults D.BlockDevice dev.old dev.new result }
 {
     let [first, second] = blocks;
     clear(dev, second, buf)?;
@@ -106,16 +103,10 @@ impl Pair {
     ) -> Result<Pair, Error>
         requires { CanBeFresh (disk_of (D.geometry dev.old) (D.blocks dev.old)) (address_of blocks) (changes_seen changes.now) }
 
-        ensures fresh { IfOk result (λ pair. IsFresh (changes_seen changes.now) (disk_of (D.geometry dev.new) (D.blocks dev.new)) (D.history dev.new) (address_of blocks) pair) }
-        ensures erases { OnOk result (erases (D.history dev.new) ≡ erases (D.history dev.old) + 2) }
-        ensures no_memory { result ≡ Err Error.NoMemory → dev.new ≡ dev.old }
-        ensures errors { IfErr result (λ e. (e ≡ Error.Io) ⊎ (e ≡ Error.NoMemory)) }
-        ensures fault { result ≡ Err Error.Io → faults (D.history dev.old) < faults (D.history dev.new) }
-
-        ensures others { OutsideKeeps (address_of blocks) (D.blocks dev.old) (D.blocks dev.new) }
-        ensures elsewhere { OutsideStays (address_of blocks) (D.history dev.old) (D.history dev.new) }
-        ensures geometry { D.geometry dev.new ≡ D.geometry dev.old }
-        ensures at_worst { LeavesOnly AtWorst (D.history dev.old) (D.history dev.new) (OutsideKeeps (address_of blocks) (D.blocks dev.old)) }
+        ensures fresh { IfOk result (λ pair. IsFresh (D.history dev.old) (changes_seen changes.now) (disk_of (D.geometry dev.new) (D.blocks dev.new)) (D.history dev.new) (address_of blocks) pair) }
+        ensures error { IfErr result (λ e. FailsUntouched dev.old dev.new e) }
+        ensures device { ChangesOnly D.BlockDevice (blocks_of (address_of blocks)) dev.old dev.new }
+        ensures faults { TellsFaults D.BlockDevice dev.old dev.new result }
     {
         let content = made_of_nothing(alloc, changes)?;
         let block_size = dev.geometry().block_size as usize;
@@ -124,6 +115,3 @@ impl Pair {
         Ok(pair)
     }
 }
-
-#[cfg(test)]
-mod tests;

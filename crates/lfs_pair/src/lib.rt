@@ -15,13 +15,8 @@ mod splitting;
 mod writing;
 
 pub use change::{Change, apply_all};
-pub use committing::{Outcome, commit};
+pub use committing::{Outcome, commit, commit_in};
 pub use fetching::fetch;
 pub use pair::Pair;
 pub use size::fits;
-pub use splitting::split;
-
-#[cfg(test)]
-mod tests;
-#[cfg(test)]
-mod trial;
+pub use splitting::{split, split_in};

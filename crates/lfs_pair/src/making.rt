@@ -19,12 +19,7 @@ fn empty<'a>(alloc: Global) -> Content<'a>
     Content {
         slots: Vec::new(alloc),
         tail: None,
-        move_state: MoveState {
-            sync: false,
-            kind: 0,
-            id: 0,
-            pair: [0, 0],
-        },
+        move_state: MoveState::none(),
     }
 }
 

@@ -1,16 +1,18 @@
 // Pairs that are split.
 
-ghost use Rattle.std.specs.Prelude.{◌≡◌, ◌⊎◌, ◌+◌, ◌<◌, IfErr, IfOk, OnErr, OnOk};
+ghost use Rattle.std.specs.Prelude.{◌≡◌, IfErr, IfOk};
 ghost use Rattle.lfs_device.specs.Shown.{disk_of};
 ghost use Rattle.lfs_model.specs.Blocks.{block_in};
-ghost use Rattle.lfs_model.specs.History.{AtWorst, EachSince, LeavesOnly, OnlyReads, erases, faults};
+ghost use Rattle.lfs_device.specs.Calls.{ChangesOnly, TellsFaults};
+ghost use Rattle.lfs_model.specs.History.{EachSince, LeavesOnly};
 ghost use Rattle.lfs_model.specs.Slots.{address_of};
 ghost use Rattle.lfs_model.specs.Stops.{ErasesCleanly, Stops};
 ghost use Rattle.lfs_tag.specs.ContentSeen.{content_seen};
 ghost use Rattle.lfs_pair.specs.Pair.{address_in};
+ghost use Rattle.lfs_pair.specs.Commit.{Fails};
 ghost use Rattle.lfs_pair.specs.ChangeSeen.{changes_seen};
 ghost use Rattle.lfs_pair.specs.Cut.{CanBeCut};
-ghost use Rattle.lfs_pair.specs.Split.{CanSplit, Splits, OutsideBothKeeps, OutsideBothStays, LeftBySplit, AreParts};
+ghost use Rattle.lfs_pair.specs.Split.{blocks_of_both, CanSplit, Splits, LeftBySplit, AreParts};
 
 use crate::change::Change;
 use crate::committing::compact;
@@ -45,25 +47,48 @@ pub fn split<D: BlockDevice>(
 ) -> Result<Pair, Error>
     requires { CanSplit (disk_of (D.geometry dev.old) (D.blocks dev.old)) (D.history dev.old) pair.old (address_of fresh) (changes_seen changes.now) }
 
-    ensures splits { IfOk result (λ fresh_pair. Splits (disk_of (D.geometry dev.old) (D.blocks dev.old)) (changes_seen changes.now) pair.old (address_of fresh)
+    ensures splits { IfOk result (λ fresh_pair. Splits (disk_of (D.geometry dev.old) (D.blocks dev.old)) (D.history dev.old) (changes_seen changes.now) pair.old (address_of fresh)
         (disk_of (D.geometry dev.new) (D.blocks dev.new)) (D.history dev.new) pair.new fresh_pair) }
-    ensures erases { OnOk result (erases (D.history dev.new) ≡ erases (D.history dev.old) + 3) }
-    ensures no_memory { result ≡ Err Error.NoMemory → D.blocks dev.new ≡ D.blocks dev.old }
-    ensures no_fault { result ≡ Err Error.NoMemory → faults (D.history dev.new) ≡ faults (D.history dev.old) }
-    ensures no_memory_reads { result ≡ Err Error.NoMemory → OnlyReads (D.blocks dev.old) (D.history dev.old) (D.history dev.new) }
-    ensures err_pair { OnErr result (pair.new ≡ pair.old) }
-    ensures errors { IfErr result (λ e. (e ≡ Error.Io) ⊎ (e ≡ Error.NoMemory)) }
-    ensures fault { result ≡ Err Error.Io → faults (D.history dev.old) < faults (D.history dev.new) }
-
-    ensures others { OutsideBothKeeps (address_in pair.old) (address_of fresh) (D.blocks dev.old) (D.blocks dev.new) }
-    ensures elsewhere { OutsideBothStays (address_in pair.old) (address_of fresh) (D.history dev.old) (D.history dev.new) }
-    ensures geometry { D.geometry dev.new ≡ D.geometry dev.old }
+    ensures error { IfErr result (λ e. Fails D.BlockDevice dev.old dev.new pair.old pair.new e) }
+    ensures device { ChangesOnly D.BlockDevice (blocks_of_both (address_in pair.old) (address_of fresh)) dev.old dev.new }
+    ensures faults { TellsFaults D.BlockDevice dev.old dev.new result }
     ensures stops { EachSince ErasesCleanly (D.history dev.old) (D.history dev.new)
         → LeavesOnly Stops (D.history dev.old) (D.history dev.new) (LeftBySplit (disk_of (D.geometry dev.old) (D.blocks dev.old)) (address_in pair.old) (address_of fresh) (changes_seen changes.now)) }
-    ensures at_worst { LeavesOnly AtWorst (D.history dev.old) (D.history dev.new) (OutsideBothKeeps (address_in pair.old) (address_of fresh) (D.blocks dev.old)) }
 {
     let block = read_block(alloc, dev, pair.active)?;
-    let fresh_pair = split_block(alloc, dev, pair, fresh, &block, changes)?;
+    let fresh_pair = split_in(alloc, dev, pair, fresh, &block, changes)?;
+    Ok(fresh_pair)
+}
+
+/// [`split`] of a pair whose active block has these bytes, which a cache may have.
+///
+/// That the block has these bytes is the caller's condition, beside those of [`split`]. `NoMemory`
+/// where there is no room for a block and the slots; the device is untouched then.
+pub fn split_in<'a, 'b: 'a, D: BlockDevice>(
+    alloc: Global,
+    dev: &mut D,
+    pair: &mut Pair,
+    fresh: [u32; 2],
+    block: &'a [u8],
+    changes: &[Change<'b>],
+) -> Result<Pair, Error>
+    requires can { CanSplit (disk_of (D.geometry dev.old) (D.blocks dev.old)) (D.history dev.old) pair.old (address_of fresh) (changes_seen changes.now) }
+    requires block { block.now ≡ block_in (D.blocks dev.old) pair.old.active }
+
+    ensures splits { IfOk result (λ fresh_pair. Splits (disk_of (D.geometry dev.old) (D.blocks dev.old)) (D.history dev.old) (changes_seen changes.now) pair.old (address_of fresh)
+        (disk_of (D.geometry dev.new) (D.blocks dev.new)) (D.history dev.new) pair.new fresh_pair) }
+    ensures error { IfErr result (λ e. Fails D.BlockDevice dev.old dev.new pair.old pair.new e) }
+    ensures device { ChangesOnly D.BlockDevice (blocks_of_both (address_in pair.old) (address_of fresh)) dev.old dev.new }
+    ensures faults { TellsFaults D.BlockDevice dev.old dev.new result }
+    ensures stops { EachSince ErasesCleanly (D.history dev.old) (D.history dev.new)
+        → LeavesOnly Stops (D.history dev.old) (D.history dev.new) (LeftBySplit (disk_of (D.geometry dev.old) (D.blocks dev.old)) (address_in pair.old) (address_of fresh) (changes_seen changes.now)) }
+{
+    let geometry = dev.geometry();
+    let mut front = made_in(alloc, block, changes)?;
+    let back = cut_off(&mut front, fresh, geometry)?;
+    let mut buf = Vec::from_elem(alloc, 0u8, geometry.block_size as usize)?;
+    let fresh_pair = write_fresh(dev, fresh, &back, &mut buf)?;
+    compact(dev, pair, &front, &mut buf)?;
     Ok(fresh_pair)
 }
 
@@ -83,12 +108,7 @@ fn cut_off<'a>(
     let back = Content {
         slots,
         tail: content.tail,
-        move_state: MoveState {
-            sync: false,
-            kind: 0,
-            id: 0,
-            pair: [0, 0],
-        },
+        move_state: MoveState::none(),
     };
     content.tail = Some(Tail {
         hard: true,
@@ -96,42 +116,3 @@ fn cut_off<'a>(
     });
     Ok(back)
 }
-
-// Splits the pair whose active block has these bytes.
-fn split_block<'a, 'b: 'a, D: BlockDevice>(
-    alloc: Global,
-    dev: &mut D,
-    pair: &mut Pair,
-    fresh: [u32; 2],
-    block: &'a [u8],
-    changes: &[Change<'b>],
-) -> Result<Pair, Error>
-    requires can { CanSplit (disk_of (D.geometry dev.old) (D.blocks dev.old)) (D.history dev.old) pair.old (address_of fresh) (changes_seen changes.now) }
-    requires block { block.now ≡ block_in (D.blocks dev.old) pair.old.active }
-
-    ensures splits { IfOk result (λ fresh_pair. Splits (disk_of (D.geometry dev.old) (D.blocks dev.old)) (changes_seen changes.now) pair.old (address_of fresh)
-        (disk_of (D.geometry dev.new) (D.blocks dev.new)) (D.history dev.new) pair.new fresh_pair) }
-    ensures erases { OnOk result (erases (D.history dev.new) ≡ erases (D.history dev.old) + 3) }
-    ensures no_memory { result ≡ Err Error.NoMemory → dev.new ≡ dev.old }
-    ensures err_pair { OnErr result (pair.new ≡ pair.old) }
-    ensures errors { IfErr result (λ e. (e ≡ Error.Io) ⊎ (e ≡ Error.NoMemory)) }
-    ensures fault { result ≡ Err Error.Io → faults (D.history dev.old) < faults (D.history dev.new) }
-
-    ensures others { OutsideBothKeeps (address_in pair.old) (address_of fresh) (D.blocks dev.old) (D.blocks dev.new) }
-    ensures elsewhere { OutsideBothStays (address_in pair.old) (address_of fresh) (D.history dev.old) (D.history dev.new) }
-    ensures geometry { D.geometry dev.new ≡ D.geometry dev.old }
-    ensures stops { EachSince ErasesCleanly (D.history dev.old) (D.history dev.new)
-        → LeavesOnly Stops (D.history dev.old) (D.history dev.new) (LeftBySplit (disk_of (D.geometry dev.old) (D.blocks dev.old)) (address_in pair.old) (address_of fresh) (changes_seen changes.now)) }
-    ensures at_worst { LeavesOnly AtWorst (D.history dev.old) (D.history dev.new) (OutsideBothKeeps (address_in pair.old) (address_of fresh) (D.blocks dev.old)) }
-{
-    let geometry = dev.geometry();
-    let mut front = made_in(alloc, block, changes)?;
-    let back = cut_off(&mut front, fresh, geometry)?;
-    let mut buf = Vec::from_elem(alloc, 0u8, geometry.block_size as usize)?;
-    let fresh_pair = write_fresh(dev, fresh, &back, &mut buf)?;
-    compact(dev, pair, &front, &mut buf)?;
-    Ok(fresh_pair)
-}
-
-#[cfg(test)]
-mod tests;

@@ -2,8 +2,9 @@
 
 ghost use Rattle.std.specs.Prelude.{◌≡◌, ◌<◌, ◌≤◌, ◌+◌, ◌%◌, ◌^◌, [], ◌∷◌, length, take, IfOk, IfErr, OnOk};
 ghost use Rattle.lfs_device.specs.Shown.{disk_of};
-ghost use Rattle.lfs_model.specs.Blocks.{block_in, SameBut};
-ghost use Rattle.lfs_model.specs.History.{AllUnprogrammed, AtWorst, EachSince, LeavesOnly, OnlyReads, StayUnprogrammed, erases, faults};
+ghost use Rattle.lfs_device.specs.Calls.{ChangesBlock, ReadsOnly, TellsFaults};
+ghost use Rattle.lfs_model.specs.Blocks.{block_in};
+ghost use Rattle.lfs_model.specs.History.{AllUnprogrammed, EachSince, LeavesOnly, erases, programs};
 ghost use Rattle.lfs_model.specs.Log.{chain_of};
 ghost use Rattle.lfs_model.specs.Logged.{HaveNames, IsLogged};
 ghost use Rattle.lfs_model.specs.Commit.{entries_size, next_at, page_end};
@@ -31,11 +32,9 @@ fn next_bytes<D: BlockDevice>(dev: &mut D, block: u32, at: u32) -> Result<Option
     requires in_device { block < (D.geometry dev.old).block_count }
     requires in_block { at ≤ (D.geometry dev.old).block_size }
     ensures bytes { IfOk result (λ next. next ≡ next_at (block_in (D.blocks dev.old) block) at) }
-    ensures same { D.blocks dev.new ≡ D.blocks dev.old }
-    ensures geometry { D.geometry dev.new ≡ D.geometry dev.old }
-    ensures reads { OnlyReads (D.blocks dev.old) (D.history dev.old) (D.history dev.new) }
+    ensures device { ReadsOnly D.BlockDevice dev.old dev.new }
     ensures errors { IfErr result (λ e. e ≡ Error.Io) }
-    ensures fault { result ≡ Err Error.Io → faults (D.history dev.old) < faults (D.history dev.new) }
+    ensures faults { TellsFaults D.BlockDevice dev.old dev.new result }
 {
     if dev.geometry().block_size - at < 4 {
         return Ok(None);
@@ -68,14 +67,12 @@ pub(crate) fn program<D: BlockDevice>(
     ensures behind { IfOk result (λ written. AllUnprogrammed (D.history dev.new) block written.end (D.geometry dev.old).block_size) }
     ensures before { OnOk result (take at (block_in (D.blocks dev.new) block) ≡ take at (block_in (D.blocks dev.old) block)) }
 
-    ensures others { SameBut block (D.blocks dev.old) (D.blocks dev.new) }
-    ensures elsewhere { StayUnprogrammed (block ∷ []) (D.history dev.old) (D.history dev.new) }
-    ensures geometry { D.geometry dev.new ≡ D.geometry dev.old }
+    ensures device { ChangesBlock D.BlockDevice block dev.old dev.new }
     ensures erases { erases (D.history dev.new) ≡ erases (D.history dev.old) }
+    ensures programs { OnOk result (programs (D.history dev.new) ≡ programs (D.history dev.old) + 1) }
     ensures errors { IfErr result (λ e. e ≡ Error.Io) }
-    ensures fault { result ≡ Err Error.Io → faults (D.history dev.old) < faults (D.history dev.new) }
+    ensures faults { TellsFaults D.BlockDevice dev.old dev.new result }
     ensures stops { LeavesOnly Stops (D.history dev.old) (D.history dev.new) (LeftInBlock block (LeftByCommit builder.entry at) (D.blocks dev.old)) }
-    ensures at_worst { LeavesOnly AtWorst (D.history dev.old) (D.history dev.new) (SameBut block (D.blocks dev.old)) }
 {
     let end = at + builder.end();
     let next = next_bytes(dev, block, end)?;
@@ -110,16 +107,14 @@ pub(crate) fn write_anew<D: BlockDevice>(
     ensures pages { IfOk result (λ written. written.end % (D.geometry dev.old).page ≡ 0) }
     ensures behind { IfOk result (λ written. AllUnprogrammed (D.history dev.new) block written.end (D.geometry dev.old).block_size) }
 
-    ensures others { SameBut block (D.blocks dev.old) (D.blocks dev.new) }
-    ensures elsewhere { StayUnprogrammed (block ∷ []) (D.history dev.old) (D.history dev.new) }
-    ensures geometry { D.geometry dev.new ≡ D.geometry dev.old }
+    ensures device { ChangesBlock D.BlockDevice block dev.old dev.new }
     ensures erases { OnOk result (erases (D.history dev.new) ≡ erases (D.history dev.old) + 1) }
+    ensures programs { OnOk result (programs (D.history dev.new) ≡ programs (D.history dev.old) + 1) }
     ensures errors { IfErr result (λ e. e ≡ Error.Io) }
-    ensures fault { result ≡ Err Error.Io → faults (D.history dev.old) < faults (D.history dev.new) }
+    ensures faults { TellsFaults D.BlockDevice dev.old dev.new result }
 
     ensures stops { EachSince ErasesCleanly (D.history dev.old) (D.history dev.new)
         → LeavesOnly Stops (D.history dev.old) (D.history dev.new) (LeftInBlock block (LeftByWriting revision (content_seen content.now)) (D.blocks dev.old)) }
-    ensures at_worst { LeavesOnly AtWorst (D.history dev.old) (D.history dev.new) (SameBut block (D.blocks dev.old)) }
 {
     let page = dev.geometry().page;
     let before = Tag::from_bits(0xffff_ffff);

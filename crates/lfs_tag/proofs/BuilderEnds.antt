@@ -1,14 +1,12 @@
 -- What the buffer holds at the end is the commit's pages.
-use Rattle.std.proofs.Common.{◌≡◌, ℕ, ◌+◌, ◌-◌, ◌≤◌, ◌<◌, ◌^◌, List, ◌++◌, length, take, drop, bit_xor, Option, IfSome, refl, sym, ap, ◌∙◌, arith, append_assoc, length-append, replicate}
+use Rattle.std.proofs.Common.{◌≡◌, ℕ, ◌+◌, ◌-◌, ◌≤◌, ◌<◌, ◌^◌, List, ◌++◌, length, take, bit_xor, Option, IfSome, refl, ap, ◌∙◌, arith, replicate}
 use Rattle.std.proofs.lemmas.List.{length-replicate}
-use Rattle.std.proofs.Math.Seq.{drop-append_seam}
 use Rattle.byteorder.specs.Endian.{big_bytes, little_bytes}
 use Rattle.lfs_model.specs.Crc.{crc_of}
 use Rattle.lfs_model.specs.Blocks.{overwritten}
 use Rattle.lfs_tag.specs.Builder.{Building, checksum_start, padded_end, checksum_tag}
 use Rattle.lfs_tag.specs.BuilderKeeps.{front_of, Keeps}
 use Rattle.lfs_tag.proofs.BuilderWrites.{take-overwritten}
-use Rattle.lfs_tag.proofs.BuilderEntries.{length-front_of}
 use Rattle.lfs_tag.proofs.BuilderChecksums.{AreBytes, padded}
 use Rattle.lfs_tag.proofs.BuilderPages.{ArePages}
 

@@ -6,6 +6,7 @@ pub mod Places
 pub mod Effects
 pub mod Held
 pub mod Searches
+pub mod Summaries
 pub mod Finds
 pub mod Answered
 pub mod BuilderWrites

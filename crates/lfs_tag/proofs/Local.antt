@@ -1,14 +1,14 @@
 -- What lies in the front of a block stays when the rest changes.
-use Rattle.std.proofs.Common.{◌≡◌, ℕ, zero, suc, ◌+◌, ◌-◌, ◌*◌, ◌^◌, ◌<◌, ◌≤◌, Bool, true, false, cond, eqb, ltb, leb, List, [], ◌∷◌, ◌++◌, length, take, drop, slice_range, bit_xor, ◌||◌, ◌/◌, Option, Some, None, refl, sym, ap, subst, ◌∙◌, arith, rules, length-append}
+use Rattle.std.proofs.Common.{◌≡◌, ℕ, ◌+◌, ◌-◌, ◌^◌, ◌<◌, ◌≤◌, Bool, true, false, cond, ltb, leb, List, [], ◌∷◌, ◌++◌, length, take, drop, bit_xor, ◌||◌, ◌/◌, Option, Some, None, refl, sym, ap, subst, ◌∙◌, arith, length-append}
 use Rattle.std.proofs.lemmas.Bool.{le-ltb}
 use Rattle.std.proofs.lemmas.Bool.Decides.{nat_tests}
 use Rattle.std.proofs.lemmas.Nat.{xor_shr}
 use Rattle.std.proofs.lemmas.List.{drop-append-le, take-append-le, length-drop}
 use Rattle.byteorder.specs.Endian.{big_number}
 use Rattle.byteorder.specs.Numbers.{big_from-append}
-use Rattle.lfs_model.specs.Tag.{size_of, carried}
-use Rattle.lfs_model.specs.Log.{LogEntry, Chain, with_commit, tag_at, entry_at, past, is_checksum, closes, IsCommit, IsChain, IsChainOf, commit_at, chain_at, chain_of}
-use Rattle.lfs_model.proofs.Chains.{Lies, lies, Within, commit_none, commit_space, commit_complete, chain_on, chain_none, chain_sound}
+use Rattle.lfs_model.specs.Tag.{size_of}
+use Rattle.lfs_model.specs.Log.{LogEntry, with_commit, tag_at, entry_at, past, closes, IsCommit, IsChain, commit_at, chain_at, chain_of}
+use Rattle.lfs_model.proofs.Chains.{Lies, lies, commit_none, commit_space, commit_complete, chain_on, chain_none, chain_sound}
 
 pub from_lies : (block : List ℕ) (at before : ℕ) (e : LogEntry) → Lies block at before e → entry_at block at before ≡ Some e
 unfolding entry_at

@@ -1,28 +1,53 @@
 -- A search back finds what the slots hold.
 use Rattle.std.proofs.Common.{◌≡◌, ◌≢◌, ◌⊎◌, ℕ, suc, ◌+◌, ◌-◌, ◌/◌, ◌%◌, ◌^◌, ◌<◌, ◌≤◌, Bool, true, false, ◌&&◌, ◌||◌, not, cond, eqb, ltb, leb, List, [], ◌∷◌, ◌++◌, reverse, length, insert, remove, Option, Some, None, refl, sym, ap, subst, ◌∙◌, arith, inl, inr}
-use Rattle.std.specs.Option.{option_and_then}
+use Rattle.std.specs.Option.{option_and_then, option_map}
 use Rattle.std.proofs.lemmas.Bool.{cases_lt, cases_order, cases_eq}
 use Rattle.std.proofs.lemmas.Bool.Decides.{nat_tests}
 use Rattle.std.proofs.lemmas.Option.{option_and_then_some, same_Some}
-use Rattle.std.proofs.lemmas.List.{reverse-append}
+use Rattle.std.proofs.lemmas.List.{reverse-append, reverse-reverse}
 use Rattle.std.proofs.lemmas.List.Edits.{get_or-insert_below, get_or-insert_at, get_or-insert_above, get_or-remove_below, get_or-remove_above}
 use Rattle.lfs_model.specs.Slots.{Attributes}
 use Rattle.lfs_model.specs.Tag.{kind_of, id_of, class_of, chunk_of}
-use Rattle.lfs_model.specs.Log.{LogEntry}
+use Rattle.lfs_model.specs.Log.{LogEntry, log_entries}
 use Rattle.lfs_model.specs.Content.{RawSlot, RawContent, empty_slot, slot_of_id, changed, up_to, typed, with_attribute, put_attribute, without_attribute, attribute_of, removes, create_type, content_after, content_after_all, no_content}
-use Rattle.lfs_model.specs.Lookup.{bytes_in, bytes_at}
-use Rattle.lfs_tag.specs.Search.{Verdict, Holds, Was, is_about, verdict_of, settled, sought, looks, looks_after}
+use Rattle.lfs_model.specs.Lookup.{bytes_typed, bytes_in}
+use Rattle.lfs_tag.specs.Search.{Verdict, Holds, Was, is_about, verdict_of, settled, found, looks, looks_after}
 use Rattle.lfs_tag.proofs.Effects.{Effect, rests, names, creates, deletes, structures, attributes, effect}
 use Rattle.lfs_tag.proofs.Held.{attribute-put_same, attribute-put_other, attribute-without_same, attribute-without_other, slot-up_to, length-up_to, slot-changed_same, slot-changed_other}
 
+-- what a slot holds of the class of a type, or of an attribute's type
+abbrev pub part_in : ℕ → RawSlot → Option (ℕ × List ℕ)
+part_in type s =
+    cond (eqb (type / 2 ^ 8) 0) s.name
+    (cond (eqb (type / 2 ^ 8) 2) s.struct
+    (cond (eqb (type / 2 ^ 8) 3) (option_map (λ bytes. (type, bytes)) (attribute_of (type % 2 ^ 8) s.attributes)) None))
+
+abbrev pub part_at : List RawSlot → ℕ → ℕ → Option (ℕ × List ℕ)
+part_at slots type i = part_in type (slot_of_id slots i)
+
+-- its bytes, where it has the type
+pub bytes_of_part : (type : ℕ) (s : RawSlot) → bytes_typed type (part_in type s) ≡ bytes_in type s
+bytes_of_part type s = either (eqb (type / 2 ^ 8) 0) (eqb (type / 2 ^ 8) 2) (eqb (type / 2 ^ 8) 3)
+  where
+    attribute : (o : Option (List ℕ)) → bytes_typed type (option_map (λ bytes. (type, bytes)) o) ≡ o
+    attribute None = refl
+    attribute (Some bytes) = let e : eqb type type ≡ true = grind (arith, nat_tests) in rw e refl
+
+    either : (a b c : Bool) → bytes_typed type (cond a s.name (cond b s.struct (cond c (option_map (λ bytes. (type, bytes)) (attribute_of (type % 2 ^ 8) s.attributes)) None)))
+        ≡ cond a (bytes_typed type s.name) (cond b (bytes_typed type s.struct) (cond c (attribute_of (type % 2 ^ 8) s.attributes) None))
+    either true b c = refl
+    either false true c = refl
+    either false false true = attribute (attribute_of (type % 2 ^ 8) s.attributes)
+    either false false false = refl
+
 -- what an entry says of a type and an id is what the slots behind it hold
 abbrev Finds : LogEntry → ℕ → ℕ → List RawSlot → List RawSlot → Type 0
-Finds e type i s t = settled (verdict_of e type i) (bytes_at s type) ≡ bytes_at t type i
+Finds e type i s t = settled (verdict_of e type i) (part_at s type) ≡ part_at t type i
 
-empty_bytes : (type : ℕ) → bytes_in type empty_slot ≡ None
-empty_bytes type = either (eqb (type / 2 ^ 8) 0) (eqb (type / 2 ^ 8) 2) (eqb (type / 2 ^ 8) 3)
+empty_part : (type : ℕ) → part_in type empty_slot ≡ None
+empty_part type = either (eqb (type / 2 ^ 8) 0) (eqb (type / 2 ^ 8) 2) (eqb (type / 2 ^ 8) 3)
   where
-    none : Option (List ℕ)
+    none : Option (ℕ × List ℕ)
     none = None
 
     either : (a b c : Bool) → cond a none (cond b none (cond c none none)) ≡ none
@@ -41,16 +66,16 @@ create_finds e type i s class create le =
     rw (a, b) (elim (cases_order j i) [
       | inl same ↦
           let t : eqb j i ≡ true = grind (arith, nat_tests) in
-          rw (t, ← same, get_or-insert_at s j empty_slot empty_slot le) (sym (empty_bytes type))
+          rw (t, ← same, get_or-insert_at s j empty_slot empty_slot le) (sym (empty_part type))
       | inr (inl lt) ↦
           let t : eqb j i ≡ false = grind (arith, nat_tests) in
           let u : ltb j i ≡ true = grind (arith, nat_tests) in
           let v : i ≡ i - 1 + 1 = omega arith in
-          rw (t, u) (ap (bytes_in type) (sym (get_or-insert_above s j empty_slot empty_slot (i - 1) (omega arith) le) ∙ ap (slot_of_id (insert s j empty_slot)) (sym v)))
+          rw (t, u) (ap (part_in type) (sym (get_or-insert_above s j empty_slot empty_slot (i - 1) (omega arith) le) ∙ ap (slot_of_id (insert s j empty_slot)) (sym v)))
       | inr (inr gt) ↦
           let t : eqb j i ≡ false = grind (arith, nat_tests) in
           let u : ltb j i ≡ false = grind (arith, nat_tests) in
-          rw (t, u) (ap (bytes_in type) (sym (get_or-insert_below s j empty_slot empty_slot i gt le)))
+          rw (t, u) (ap (part_in type) (sym (get_or-insert_below s j empty_slot empty_slot i gt le)))
     ])
 
 delete_finds : (e : LogEntry) (type i : ℕ) (s : List RawSlot) → class_of e.tag ≡ 4 → kind_of e.tag ≢ create_type → id_of e.tag < length s → Finds e type i s (remove s (id_of e.tag))
@@ -61,23 +86,23 @@ delete_finds e type i s class delete lt =
     rw (a, b) (elim (cases_lt i j) [
       | inl below ↦
           let t : leb j i ≡ false = grind (arith, nat_tests) in
-          rw t (ap (bytes_in type) (sym (get_or-remove_below s j empty_slot i below lt)))
+          rw t (ap (part_in type) (sym (get_or-remove_below s j empty_slot i below lt)))
       | inr above ↦
           let t : leb j i ≡ true = grind (arith, nat_tests) in
-          rw t (ap (bytes_in type) (sym (get_or-remove_above s j empty_slot i above lt)))
+          rw t (ap (part_in type) (sym (get_or-remove_above s j empty_slot i above lt)))
     ])
 
 -- ---- names, structs and attributes
 
 -- the entry isn't about that
-not_about : (e : LogEntry) (type i : ℕ) → class_of e.tag ≢ 4 → is_about e type i ≡ false → (before : ℕ → Option (List ℕ)) → settled (verdict_of e type i) before ≡ before i
+not_about : (e : LogEntry) (type i : ℕ) → class_of e.tag ≢ 4 → is_about e type i ≡ false → (before : ℕ → Option (ℕ × List ℕ)) → settled (verdict_of e type i) before ≡ before i
 not_about e type i class other before =
     let a : eqb (class_of e.tag) 4 ≡ false = grind (arith, nat_tests) in
     rw (a, other) refl
 
 -- it is
-about : (e : LogEntry) (type i : ℕ) → class_of e.tag ≢ 4 → is_about e type i ≡ true → (before : ℕ → Option (List ℕ))
-    → settled (verdict_of e type i) before ≡ cond (eqb (kind_of e.tag) type && not (removes e.tag)) (Some e.bytes) None
+about : (e : LogEntry) (type i : ℕ) → class_of e.tag ≢ 4 → is_about e type i ≡ true → (before : ℕ → Option (ℕ × List ℕ))
+    → settled (verdict_of e type i) before ≡ cond (removes e.tag) None (typed e)
 about e type i class here before =
     let a : eqb (class_of e.tag) 4 ≡ false = grind (arith, nat_tests) in
     rw (a, here) refl
@@ -111,21 +136,16 @@ same_class e type i id small class =
 
 -- one slot is changed, and the others stay
 changed_finds : (e : LogEntry) (type i : ℕ) (f : RawSlot → RawSlot) (s all : List RawSlot) → class_of e.tag ≢ 4 → id_of e.tag < length all → ((k : ℕ) → slot_of_id all k ≡ slot_of_id s k)
-    → (id_of e.tag ≡ i → settled (verdict_of e type i) (bytes_at s type) ≡ bytes_in type (f (slot_of_id s i)))
+    → (id_of e.tag ≡ i → settled (verdict_of e type i) (part_at s type) ≡ part_in type (f (slot_of_id s i)))
     → Finds e type i s (changed f all (id_of e.tag))
 changed_finds e type i f s all class lt same here =
     elim (cases_eq (id_of e.tag) i) [
       | inl hit ↦
           let there : slot_of_id (changed f all (id_of e.tag)) i ≡ f (slot_of_id s i) =
           ap (slot_of_id (changed f all (id_of e.tag))) (sym hit) ∙ slot-changed_same f all (id_of e.tag) lt ∙ ap f (same (id_of e.tag) ∙ ap (slot_of_id s) hit) in
-          here hit ∙ ap (bytes_in type) (sym there)
-      | inr miss ↦ not_about e type i class (elsewhere e type i miss) (bytes_at s type) ∙ ap (bytes_in type) (sym (slot-changed_other f all (id_of e.tag) i (λ z. miss (sym z)) ∙ same i))
+          here hit ∙ ap (part_in type) (sym there)
+      | inr miss ↦ not_about e type i class (elsewhere e type i miss) (part_at s type) ∙ ap (part_in type) (sym (slot-changed_other f all (id_of e.tag) i (λ z. miss (sym z)) ∙ same i))
     ]
-
--- the bytes are held, or another type stands there
-and_true : (b : Bool) (x y : Option (List ℕ)) → cond (b && true) x y ≡ cond b x y
-and_true true x y = refl
-and_true false x y = refl
 
 name_finds : (e : LogEntry) (type i : ℕ) (s : List RawSlot) → class_of e.tag ≡ 0 → removes e.tag ≡ false → Finds e type i s (changed (λ r. record r { name = typed e }) (up_to s (id_of e.tag)) (id_of e.tag))
 name_finds e type i s class keeps =
@@ -133,11 +153,11 @@ name_finds e type i s class keeps =
     (λ hit. elim (cases_eq (type / 2 ^ 8) 0) [
       | inl same ↦
           let z : eqb (type / 2 ^ 8) 0 ≡ true = grind (arith, nat_tests) in
-          about e type i (omega arith) (same_class e type i hit (omega arith) (omega arith)) (bytes_at s type)
-          ∙ rw (keeps, z) (and_true (eqb (kind_of e.tag) type) (Some e.bytes) None)
+          about e type i (omega arith) (same_class e type i hit (omega arith) (omega arith)) (part_at s type)
+          ∙ rw (keeps, z) refl
       | inr other ↦
           let z : eqb (type / 2 ^ 8) 0 ≡ false = grind (arith, nat_tests) in
-          not_about e type i (omega arith) (other_class e type i (omega arith)) (bytes_at s type) ∙ rw z refl
+          not_about e type i (omega arith) (other_class e type i (omega arith)) (part_at s type) ∙ rw z refl
     ])
 
 structure_finds : (e : LogEntry) (type i : ℕ) (s : List RawSlot) → class_of e.tag ≡ 2 → removes e.tag ≡ false → id_of e.tag < length s → Finds e type i s (changed (λ r. record r { struct = typed e }) s (id_of e.tag))
@@ -147,11 +167,11 @@ structure_finds e type i s class keeps lt =
       | inl same ↦
           let z : eqb (type / 2 ^ 8) 0 ≡ false = grind (arith, nat_tests) in
           let w : eqb (type / 2 ^ 8) 2 ≡ true = grind (arith, nat_tests) in
-          about e type i (omega arith) (same_class e type i hit (omega arith) (omega arith)) (bytes_at s type)
-          ∙ rw (keeps, z, w) (and_true (eqb (kind_of e.tag) type) (Some e.bytes) None)
+          about e type i (omega arith) (same_class e type i hit (omega arith) (omega arith)) (part_at s type)
+          ∙ rw (keeps, z, w) refl
       | inr other ↦
           let w : eqb (type / 2 ^ 8) 2 ≡ false = grind (arith, nat_tests) in
-          not_about e type i (omega arith) (other_class e type i (omega arith)) (bytes_at s type) ∙ rw w refl
+          not_about e type i (omega arith) (other_class e type i (omega arith)) (part_at s type) ∙ rw w refl
     ])
 
 -- the attribute that an entry sets or removes
@@ -184,17 +204,22 @@ attribute_finds e type i s class lt =
           let v : eqb (type / 2 ^ 8) 3 ≡ true = grind (arith, nat_tests) in
           let chunk : chunk_of e.tag ≡ type % 2 ^ 8 = omega arith in
           let is : is_about e type i ≡ true = rw (id, small, here, k) (either (not (eqb (class_of e.tag) 3))) in
-          about e type i (omega arith) is (bytes_at s type) ∙ rw (k, z, w, v) (sym (ap (λ (n : ℕ). attribute_of n (with_attribute e (slot_of_id s i).attributes)) (sym chunk) ∙ attribute_same e (slot_of_id s i).attributes))
+          about e type i (omega arith) is (part_at s type)
+          ∙ rw (z, w, v) (kept (removes e.tag) same ∙ ap (option_map (λ bytes. (type, bytes))) (sym (ap (λ (n : ℕ). attribute_of n (with_attribute e (slot_of_id s i).attributes)) (sym chunk) ∙ attribute_same e (slot_of_id s i).attributes)))
       | inr other ↦
           let k : eqb (kind_of e.tag) type ≡ false = grind (arith, nat_tests) in
           let three : eqb (class_of e.tag) 3 ≡ true = grind (arith, nat_tests) in
           let is : is_about e type i ≡ false = rw (three, k) (never (eqb (id_of e.tag) i) (ltb (class_of e.tag) 4) (eqb (class_of e.tag) (type / 2 ^ 8))) in
-          not_about e type i (omega arith) is (bytes_at s type) ∙ stays (slot_of_id s i) other (cases_eq (type / 2 ^ 8) 3)
+          not_about e type i (omega arith) is (part_at s type) ∙ stays (slot_of_id s i) other (cases_eq (type / 2 ^ 8) 3)
     ])
   where
     either : (b : Bool) → (b || true) ≡ true
     either true = refl
     either false = refl
+
+    kept : (b : Bool) → kind_of e.tag ≡ type → cond b None (typed e) ≡ option_map (λ bytes. (type, bytes)) (cond (not b) (Some e.bytes) None)
+    kept true same = refl
+    kept false same = ap (λ k. Some (k, e.bytes)) same
 
     never : (a b c : Bool) → (a && (b && (c && false))) ≡ false
     never true true true = refl
@@ -202,12 +227,12 @@ attribute_finds e type i s class lt =
     never true false c = refl
     never false b c = refl
 
-    stays : (r : RawSlot) → kind_of e.tag ≢ type → ((type / 2 ^ 8 ≡ 3) ⊎ (type / 2 ^ 8 ≢ 3)) → bytes_in type r ≡ bytes_in type (record r { attributes = with_attribute e r.attributes })
+    stays : (r : RawSlot) → kind_of e.tag ≢ type → ((type / 2 ^ 8 ≡ 3) ⊎ (type / 2 ^ 8 ≢ 3)) → part_in type r ≡ part_in type (record r { attributes = with_attribute e r.attributes })
     stays r other (inl three) =
         let z : eqb (type / 2 ^ 8) 0 ≡ false = grind (arith, nat_tests) in
         let w : eqb (type / 2 ^ 8) 2 ≡ false = grind (arith, nat_tests) in
         let v : eqb (type / 2 ^ 8) 3 ≡ true = grind (arith, nat_tests) in
-        rw (z, w, v) (sym (attribute_other e (type % 2 ^ 8) r.attributes (λ same. other (omega arith))))
+        rw (z, w, v) (ap (option_map (λ bytes. (type, bytes))) (sym (attribute_other e (type % 2 ^ 8) r.attributes (λ same. other (omega arith)))))
     stays r other (inr apart) =
         let v : eqb (type / 2 ^ 8) 3 ≡ false = grind (arith, nat_tests) in
         rw v refl
@@ -215,7 +240,7 @@ attribute_finds e type i s class lt =
 -- ---- an entry
 
 effect_finds : (e : LogEntry) (type i : ℕ) (s t : List RawSlot) → Effect s t e → Finds e type i s t
-effect_finds e type i s t (rests high_class same) = not_about e type i (omega arith) (high e type i high_class) (bytes_at s type) ∙ ap (λ (x : List RawSlot). bytes_at x type i) (sym same)
+effect_finds e type i s t (rests high_class same) = not_about e type i (omega arith) (high e type i high_class) (part_at s type) ∙ ap (λ (x : List RawSlot). part_at x type i) (sym same)
 effect_finds e type i s t (names class keeps is) = subst (Finds e type i s) (sym is) (name_finds e type i s class keeps)
 effect_finds e type i s t (creates class create le is) = subst (Finds e type i s) (sym is) (create_finds e type i s class create le)
 effect_finds e type i s t (deletes class delete lt is) = subst (Finds e type i s) (sym is) (delete_finds e type i s class delete lt)
@@ -239,14 +264,18 @@ after_last s (x ∷ xs) e = elim (content_after s x) as (λ o. option_and_then (
 ]
 
 -- the newest first: what a search says is what the slots hold
-pub sought_is : (es : List LogEntry) (t : RawContent) (type i : ℕ) → content_after_all no_content (reverse es) ≡ Some t → sought es type i ≡ bytes_at t.slots type i
-sought_is [] t type i h = sym (ap (λ (x : RawContent). bytes_at x.slots type i) (sym (same_Some no_content t h)) ∙ empty_bytes type)
-sought_is (e ∷ es) t type i h =
+pub found_is : (es : List LogEntry) (t : RawContent) (type i : ℕ) → content_after_all no_content (reverse es) ≡ Some t → found es type i ≡ part_at t.slots type i
+found_is [] t type i h = sym (ap (λ (x : RawContent). part_at x.slots type i) (sym (same_Some no_content t h)) ∙ empty_part type)
+found_is (e ∷ es) t type i h =
     let split : option_and_then (λ u. content_after u e) (content_after_all no_content (reverse es)) ≡ Some t =
     sym (after_last no_content (reverse es) e) ∙ ap (content_after_all no_content) (sym (reverse-append (e ∷ []) es)) ∙ h in
     option_and_then_some (λ u. content_after u e) (content_after_all no_content (reverse es)) t split (λ u was is.
-    let same : (λ (j : ℕ). sought es type j) ≡ bytes_at u.slots type = funext _ _ (λ j. sought_is es u type j was) in
+    let same : (λ (j : ℕ). found es type j) ≡ part_at u.slots type = funext _ _ (λ j. found_is es u type j was) in
     ap (settled (verdict_of e type i)) same ∙ effect_finds e type i u.slots t.slots (effect u t e is))
+
+-- so of the log of a block
+pub found_in_log : (block : List ℕ) (t : RawContent) (type i : ℕ) → content_after_all no_content (log_entries block) ≡ Some t → found (reverse (log_entries block)) type i ≡ part_at t.slots type i
+found_in_log block t type i h = found_is (reverse (log_entries block)) t type i (ap (content_after_all no_content) (reverse-reverse (log_entries block)) ∙ h)
 
 pub looks_within : (es : List LogEntry) (type i : ℕ) → looks es type i ≤ length es
 looks_within [] type i = omega arith

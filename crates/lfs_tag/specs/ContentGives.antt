@@ -2,6 +2,8 @@
 use Rattle.std.specs.Prelude.{◌≡◌, Result, Ok, Err, Option, Some, None}
 use Rattle.lfs_tag.specs.declared.content.ContentError.{ContentError}
 use Rattle.lfs_tag.specs.declared.content.ContentError.TheVariants as errors
+use Rattle.lfs_device.specs.declared.error.Error.{Error}
+use Rattle.lfs_device.specs.declared.error.Error.TheVariants.{Corrupt, NoMemory}
 
 -- an error is the malformed log, or want of memory, which may come at any log
 abbrev pub Fails : {S : Type 0} → ContentError → Option S → Type 0
@@ -12,3 +14,8 @@ Fails errors.Malformed o = o ≡ None
 abbrev pub Gives : {X S : Type 0} → (X → S) → Result X ContentError → Option S → Type 0
 Gives view (Ok x) o = o ≡ Some (view x)
 Gives view (Err e) o = Fails e o
+
+-- as the file system's error
+abbrev pub error_of : ContentError → Error
+error_of errors.Malformed = Corrupt
+error_of errors.NoMemory = NoMemory

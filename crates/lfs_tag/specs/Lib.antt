@@ -4,6 +4,7 @@ pub mod Walk
 pub mod FieldsSeen
 pub mod ContentSeen
 pub mod ContentGives
+pub mod Summary
 pub mod Search
 pub mod VerdictSeen
 pub mod Find

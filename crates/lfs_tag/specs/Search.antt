@@ -1,12 +1,12 @@
 -- How a search from the newest entry back finds what a log's slots hold, while the id shifts.
-use Rattle.std.specs.Prelude.{ℕ, ◌+◌, ◌-◌, ◌/◌, ◌^◌, ◌==◌, ◌&&◌, ◌||◌, not, nat_lt, nat_le, if◌then◌else◌, Bool, List, [], ◌∷◌, Option, Some, None}
+use Rattle.std.specs.Prelude.{ℕ, ◌+◌, ◌-◌, ◌/◌, ◌^◌, ◌==◌, ◌&&◌, ◌||◌, not, nat_lt, nat_le, if◌then◌else◌, Bool, List, [], ◌∷◌, Option, None}
 use Rattle.lfs_model.specs.Tag.{kind_of, id_of, class_of}
 use Rattle.lfs_model.specs.Log.{LogEntry}
-use Rattle.lfs_model.specs.Content.{create_type, removes}
+use Rattle.lfs_model.specs.Content.{create_type, removes, typed}
 
--- What an entry says of an id behind it: what is held for it, or which id it was before the entry.
+-- What an entry says of an id behind it: what is held for it, its type and its bytes, or which id it was before the entry.
 pub data Verdict : Type 0 where
-  Holds : (bytes : Option (List ℕ)) → Verdict
+  Holds : (part : Option (ℕ × List ℕ)) → Verdict
   Was : (id : ℕ) → Verdict
 
 -- the entry is about this id, and about this type or the one that takes its place
@@ -24,20 +24,20 @@ splice_verdict e id =
 abbrev pub verdict_of : LogEntry → ℕ → ℕ → Verdict
 verdict_of e type id =
     if class_of e.tag == 4 then splice_verdict e id
-    else (if is_about e type id then Holds (if kind_of e.tag == type && not (removes e.tag) then Some e.bytes else None) else Was id)
+    else (if is_about e type id then Holds (if removes e.tag then None else typed e) else Was id)
 
 -- what a verdict comes to, where `before` is what the entries before say of an id
-abbrev pub settled : Verdict → (ℕ → Option (List ℕ)) → Option (List ℕ)
-settled (Holds bytes) before = bytes
+abbrev pub settled : Verdict → (ℕ → Option (ℕ × List ℕ)) → Option (ℕ × List ℕ)
+settled (Holds part) before = part
 settled (Was id) before = before id
 
--- what entries say of a type and an id, the newest first
-abbrev pub sought : List LogEntry → ℕ → ℕ → Option (List ℕ)
-sought [] type id = None
-sought (e ∷ es) type id = settled (verdict_of e type id) (λ i. sought es type i)
+-- what entries say of a type and an id, the newest first; it may be of another type of that class
+abbrev pub found : List LogEntry → ℕ → ℕ → Option (ℕ × List ℕ)
+found [] type id = None
+found (e ∷ es) type id = settled (verdict_of e type id) (λ i. found es type i)
 
 abbrev pub looks_after : Verdict → (ℕ → ℕ) → ℕ
-looks_after (Holds bytes) before = 1
+looks_after (Holds part) before = 1
 looks_after (Was id) before = 1 + before id
 
 -- how many entries are looked at for that, the newest first

@@ -19,6 +19,7 @@ use crate::kinds::{
 };
 use crate::log::Log;
 use crate::tag::Tag;
+use lfs_device::Error;
 use std::alloc::{AllocError, Global};
 
 /// A name or a struct: its type, and its bytes in the block.
@@ -80,8 +81,22 @@ impl From<AllocError> for ContentError {
     }
 }
 
+/// A malformed log is an image that isn't accepted.
+impl From<ContentError> for Error {
+    ghost use Rattle.lfs_tag.specs.ContentGives.{error_of};
+
+    ghost from_gives = { λ c e. e ≡ error_of c };
+
+    fn from(error: ContentError) -> Error {
+        match error {
+            ContentError::Malformed => Error::Corrupt,
+            ContentError::NoMemory => Error::NoMemory,
+        }
+    }
+}
+
 // Whether the format has a tag's type, with its length.
-fn is_in_table(tag: Tag) -> bool
+pub(crate) fn is_in_table(tag: Tag) -> bool
     ensures { result ≡ is_in_table tag }
 {
     let kind = tag.kind();
@@ -100,7 +115,7 @@ fn is_in_table(tag: Tag) -> bool
 }
 
 // Whether a tag that needs an id has one.
-fn has_its_id(tag: Tag) -> bool
+pub(crate) fn has_its_id(tag: Tag) -> bool
     ensures { result ≡ has_its_id tag }
 {
     CHECKSUM_CLASS <= tag.class() || tag.id() != Tag::NO_ID
@@ -279,7 +294,7 @@ fn apply_to_slots<'a>(
 }
 
 // The tail that an entry sets.
-fn tail_of(entry: &Entry<'_>) -> Option<Tail>
+pub(crate) fn tail_of(entry: &Entry<'_>) -> Option<Tail>
     requires { 8 ≤ length entry.now.bytes.now }
     ensures { option_map tail_seen result ≡ tail_of (seen entry.now) }
 {
@@ -333,12 +348,7 @@ impl<'a> Content<'a> {
         let mut content = Content {
             slots: Vec::new(alloc),
             tail: None,
-            move_state: MoveState {
-                sync: false,
-                kind: 0,
-                id: 0,
-                pair: [0, 0],
-            },
+            move_state: MoveState::none(),
         };
         for entry in log.entries() {
             if let Err(error) = apply(alloc, &mut content, &entry) {

@@ -2,11 +2,15 @@
 
 ghost use Rattle.std.specs.Prelude.{◌≡◌, ◌+◌, ◌≤◌, length, drop};
 ghost use Rattle.byteorder.specs.Endian.{little_number};
-ghost use Rattle.lfs_model.specs.Slots.{Ctz, address_of};
+ghost use Rattle.lfs_model.specs.Disk.{file_limit};
+ghost use Rattle.lfs_model.specs.Fresh.{superblock_bytes};
+ghost use Rattle.lfs_model.specs.Slots.{Ctz, address_of, no_gstate};
 ghost use Rattle.lfs_model.specs.Content.{pair_at, gstate_at, superblock_at, struct_typed, ctz_struct_type};
+ghost use Rattle.lfs_model.specs.Written.{fields_bytes, is_no_gstate};
 ghost use Rattle.lfs_tag.specs.FieldsSeen.{superblock_seen, move_seen};
 
 use byteorder::{ByteOrder, LittleEndian};
+use lfs_device::Geometry;
 
 /// The address that names no block.
 pub const NULL_ADDRESS: u32 = 0xffff_ffff;
@@ -39,6 +43,67 @@ pub struct MoveState {
     pub id: u16,
     /// The pair of that slot.
     pub pair: [u32; 2],
+}
+
+impl Superblock {
+    /// The name of the superblock's slot.
+    pub const NAME: &'static [u8] = b"littlefs";
+
+    /// Version 2.0.
+    pub const VERSION: u32 = 0x0002_0000;
+
+    /// The longest name that is written, in bytes.
+    pub const NAME_MAX: u32 = 255;
+
+    /// The longest file that is written, in bytes.
+    pub const FILE_MAX: u32 = 2_147_483_647;
+
+    /// The longest attribute that is written, in bytes.
+    pub const ATTR_MAX: u32 = 1022;
+
+    /// What the superblock of a fresh image says: this version, the device's geometry and the
+    /// limits that are written.
+    pub fn of(geometry: &Geometry) -> Superblock
+        ensures fields { superblock_seen result ≡ record {
+          version = 0x00020000;
+          block_size = geometry.now.block_size;
+          block_count = geometry.now.block_count;
+          name_max = 255;
+          file_max = file_limit;
+          attr_max = 1022;
+        } }
+        ensures bytes { fields_bytes (superblock_seen result) ≡ superblock_bytes geometry.now.block_size geometry.now.block_count }
+    {
+        Superblock {
+            version: Superblock::VERSION,
+            block_size: geometry.block_size,
+            block_count: geometry.block_count,
+            name_max: Superblock::NAME_MAX,
+            file_max: Superblock::FILE_MAX,
+            attr_max: Superblock::ATTR_MAX,
+        }
+    }
+}
+
+impl MoveState {
+    /// No share, which changes nothing of the global state.
+    pub fn none() -> MoveState
+        ensures { move_seen result ≡ no_gstate }
+    {
+        MoveState {
+            sync: false,
+            kind: 0,
+            id: 0,
+            pair: [0, 0],
+        }
+    }
+
+    /// Whether there is nothing in it: then a pair that is written anew has no entry for it.
+    pub fn is_none(&self) -> bool
+        ensures { result ≡ is_no_gstate (move_seen self.now) }
+    {
+        !self.sync && self.kind == 0 && self.id == 0 && self.pair[0] == 0 && self.pair[1] == 0
+    }
 }
 
 // The two addresses that these bytes begin with.

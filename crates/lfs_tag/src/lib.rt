@@ -12,9 +12,12 @@ mod fields;
 pub mod kinds;
 mod log;
 mod lookup;
+mod names;
 mod pushed;
+mod revision;
 mod search;
 mod steps;
+mod summary;
 mod tag;
 
 pub use builder::CommitBuilder;
@@ -26,8 +29,11 @@ pub use field_bytes::{ctz_bytes, move_bytes, pair_bytes, superblock_bytes};
 pub use fields::{MoveState, NULL_ADDRESS, Superblock, ctz_of, move_of, pair_of, superblock_of};
 pub use log::Log;
 pub use lookup::{Lookup, find};
-pub use search::get;
+pub use names::{is_component, is_name};
+pub use revision::is_later;
+pub use search::{get, name_of, struct_of};
 pub use steps::Steps;
+pub use summary::Summary;
 pub use tag::Tag;
 
 #[cfg(test)]

@@ -129,6 +129,22 @@ impl<'a> Log<'a> {
         }
     }
 
+    /// The log of a block whose chain is known to end so, without reading the block again: what
+    /// [`end`](Log::end) and [`last`](Log::last) said of these bytes. That they still say so is the
+    /// caller's condition.
+    pub fn known(block: &'a [u8], end: usize, last: Tag) -> Log<'a>
+        requires end { end ≡ (chain_of block.now).end }
+        requires last { last ≡ (chain_of block.now).last }
+        ensures { result ≡ block.now }
+    {
+        Log {
+            block,
+            end,
+            last,
+            revision: revision(block),
+        }
+    }
+
     /// Whether there is a commit.
     pub fn has_commit(&self) -> bool
         ensures { result ≡ has_commit self.now }

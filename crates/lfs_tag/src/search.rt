@@ -1,24 +1,26 @@
 // What a log holds of a type for an id, found from its newest entry back.
 
 ghost use Rattle.std.specs.Prelude.{◌≡◌, ℕ, ◌+◌, ◌-◌, ◌≤◌, ◌<◌, ◌^◌, ◌/◌, List, length, reverse, min, Some};
-ghost use Rattle.std.specs.Option.{option_copied};
+ghost use Rattle.std.specs.Option.{option_copied, option_map};
 ghost use Rattle.lfs_model.specs.Log.{log_entries};
-ghost use Rattle.lfs_model.specs.Content.{RawContent, content_after_all, no_content};
-ghost use Rattle.lfs_model.specs.Lookup.{bytes_at};
-ghost use Rattle.lfs_tag.specs.Search.{splice_verdict, verdict_of, sought, looks};
+ghost use Rattle.lfs_model.specs.Content.{RawContent, content_after_all, no_content, slot_of_id};
+ghost use Rattle.lfs_model.specs.Lookup.{bytes_at, bytes_typed};
+ghost use Rattle.lfs_tag.specs.ContentSeen.{part_seen};
+ghost use Rattle.lfs_tag.specs.Search.{splice_verdict, verdict_of, found, looks};
 ghost use Rattle.lfs_tag.specs.VerdictSeen.{verdict_seen};
 ghost use Rattle.lfs_tag.specs.Seen.{seen};
 
+use crate::content::Part;
 use crate::entries::Entries;
 use crate::entry::Entry;
-use crate::kinds::{ATTRIBUTE_CLASS, CREATE, SPLICE_CLASS};
+use crate::kinds::{ATTRIBUTE_CLASS, CREATE, NAME_CLASS, SPLICE_CLASS, STRUCT_CLASS};
 use crate::log::Log;
 use crate::steps::Steps;
 
 // What an entry says of an id behind it.
 enum Verdict<'a> {
-    // The bytes that are held for it, if any are.
-    Holds(Option<&'a [u8]>),
+    // What is held for it, if anything is.
+    Holds(Option<Part<'a>>),
     // The id that it was before the entry.
     Was(u64),
 }
@@ -57,28 +59,53 @@ fn verdict_of<'a>(entry: &Entry<'a>, kind: u16, id: u64) -> Verdict<'a>
         && (class != ATTRIBUTE_CLASS || tag.kind() == kind);
     if !is_about {
         Verdict::Was(id)
-    } else if tag.kind() == kind && !tag.removes() {
-        Verdict::Holds(Some(entry.bytes))
-    } else {
+    } else if tag.removes() {
         Verdict::Holds(None)
+    } else {
+        Verdict::Holds(Some(Part {
+            kind: tag.kind(),
+            bytes: entry.bytes,
+        }))
     }
 }
 
 // Searches from the newest entry back; answers also how many entries it looked at.
-fn search<'a>(mut entries: Entries<'a>, kind: u16, mut id: u64) -> (Option<&'a [u8]>, u64)
+fn search<'a>(mut entries: Entries<'a>, kind: u16, mut id: u64) -> (Option<Part<'a>>, u64)
     requires { id + length entries < 2 ^ 63 }
-    ensures held { option_copied result.0 ≡ sought (reverse entries.entry) kind id }
+    ensures found { option_map part_seen result.0 ≡ found (reverse entries.entry) kind id }
     ensures looks { result.1 ≡ looks (reverse entries.entry) kind id }
 {
     let mut looks = 0;
     while let Some(entry) = entries.next_back() {
         looks += 1;
         match verdict_of(&entry, kind, id) {
-            Verdict::Holds(bytes) => return (bytes, looks),
+            Verdict::Holds(part) => return (part, looks),
             Verdict::Was(earlier) => id = earlier,
         }
     }
     (None, looks)
+}
+
+// What the log holds for an id, of a type or of another one in its place; each entry that is looked
+// at ticks.
+fn newest<'a>(log: &Log<'a>, kind: u16, id: u16, steps: &mut Steps) -> Option<Part<'a>>
+    ensures found { option_map part_seen result ≡ found (reverse (log_entries log.now)) kind id }
+    ensures steps { steps.new ≡ min (steps.old + looks (reverse (log_entries log.now)) kind id) (2 ^ 64 - 1) }
+    ensures bound { steps.new ≤ steps.old + length (log_entries log.now) }
+{
+    let found = search(log.entries(), kind, u64::from(id));
+    steps.add(found.1);
+    found.0
+}
+
+// The bytes of a part, where it has that type.
+fn bytes_typed<'a>(part: Option<Part<'a>>, kind: u16) -> Option<&'a [u8]>
+    ensures { option_copied result ≡ bytes_typed kind (option_map part_seen part.entry) }
+{
+    match part {
+        Some(part) if part.kind == kind => Some(part.bytes),
+        _ => None,
+    }
 }
 
 /// The bytes of a name's, a struct's or an attribute's type that a log now holds for an id; `None`
@@ -90,7 +117,25 @@ pub fn get<'a>(log: &Log<'a>, kind: u16, id: u16, steps: &mut Steps) -> Option<&
     ensures steps { steps.new ≡ min (steps.old + looks (reverse (log_entries log.now)) kind id) (2 ^ 64 - 1) }
     ensures bound { steps.new ≤ steps.old + length (log_entries log.now) }
 {
-    let found = search(log.entries(), kind, u64::from(id));
-    steps.add(found.1);
-    found.0
+    bytes_typed(newest(log, kind, id, steps), kind)
+}
+
+/// The name of a slot, its type and bytes; `None` where the slot has none or isn't there, in any
+/// log that isn't malformed. Ticks `steps` as [`get`] does.
+pub fn name_of<'a>(log: &Log<'a>, id: u16, steps: &mut Steps) -> Option<Part<'a>>
+    ensures held { (c : RawContent) → content_after_all no_content (log_entries log.now) ≡ Some c → option_map part_seen result ≡ (slot_of_id c.slots id).name }
+    ensures steps { steps.new ≡ min (steps.old + looks (reverse (log_entries log.now)) 0 id) (2 ^ 64 - 1) }
+    ensures bound { steps.new ≤ steps.old + length (log_entries log.now) }
+{
+    newest(log, NAME_CLASS << 8, id, steps)
+}
+
+/// The struct of a slot, its type and bytes; `None` where the slot has none or isn't there, in any
+/// log that isn't malformed. Ticks `steps` as [`get`] does.
+pub fn struct_of<'a>(log: &Log<'a>, id: u16, steps: &mut Steps) -> Option<Part<'a>>
+    ensures held { (c : RawContent) → content_after_all no_content (log_entries log.now) ≡ Some c → option_map part_seen result ≡ (slot_of_id c.slots id).struct }
+    ensures steps { steps.new ≡ min (steps.old + looks (reverse (log_entries log.now)) 0x200 id) (2 ^ 64 - 1) }
+    ensures bound { steps.new ≤ steps.old + length (log_entries log.now) }
+{
+    newest(log, STRUCT_CLASS << 8, id, steps)
 }

@@ -19,8 +19,9 @@ use Rattle.std.specs.Prelude.{is_some}
 use Rattle.lfs_model.specs.Content.{completed}
 use Rattle.lfs_pair.specs.Commit.{NowHolds, KeepsFirst, LeftWith}
 use Rattle.lfs_pair.specs.ChangeSeen.{changes_seen}
-use Rattle.lfs_pair.proofs.TwoBlocks.{outside_one}
-use Rattle.lfs_pair.proofs.Changed.{is_appending, appended, appended_first, active_among, active_below, now_holds, left_by_append, ends_in_block, made_is, some_same, gets_revision, stays_outside}
+use Rattle.lfs_model.specs.Logged.{IsLogged}
+use Rattle.lfs_pair.proofs.Calls.{only_block}
+use Rattle.lfs_pair.proofs.Changed.{is_appending, appended, appended_first, active_among, active_below, now_holds, left_by_append, ends_in_block, made_is, some_same, gets_revision}
 use Rattle.lfs_pair.proofs.committing.append.Goals as goal
 
 pub overflow_cast-room : goal.overflow_cast-room
@@ -46,9 +47,6 @@ program-requires-clause-in_device g c =
     let below = active_below _ _ c.args.pair.now c.requires.can.held _ c.requires.can.address c.requires.can.is_pair shape.count in
     below
 
-pub returns-in_err-written-clause-others : goal.returns-in_err-written-clause-others
-returns-in_err-written-clause-others g c = outside_one _ _ _ _ (active_among _ _ c.args.pair.now c.requires.can.held c.requires.can.address c.requires.can.is_pair) c.in_err-written.ensures.others
-
 pub returns-in_err-written-clause-stops : goal.returns-in_err-written-clause-stops
 returns-in_err-written-clause-stops g c =
     let can = c.requires.can in
@@ -63,21 +61,18 @@ returns-clause-done g c done =
     let can = c.requires.can in
     let built = c.push_changes.ensures ∙ ap (with_entries (entries_of_changes (changes_seen c.args.changes.now))) c.new-builder.ensures in
     let ready = is_appending _ _ c.args.pair.now can.held can.new (changes_seen c.args.changes.now) c.push_changes.new.builder can.address can.is_pair can.changed (ap (λ (b : Building). b.entries) built) (ap (λ (b : Building). b.revision) built) in
-    let holds = appended _ _ _ _ _ _ _ (g.D.BlockDevice.blocks c.program.new.dev) ready c.in_ok-written.ensures.others c.in_ok-written.ensures.commit in
+    let holds = appended _ _ _ _ _ _ _ (g.D.BlockDevice.blocks c.program.new.dev) ready c.in_ok-written.ensures.device.others c.in_ok-written.ensures.commit in
     let new : Some can.new ≡ Some (content_seen c.args.content.now) = sym (made_is _ _ c.args.pair.now can.held (changes_seen c.args.changes.now) can.is_pair ∙ can.changed) ∙ c.requires.made in
     subst (λ k. NowHolds (disk_of k (g.D.BlockDevice.blocks c.program.new.dev)) (g.D.BlockDevice.history c.program.new.dev) (address_in c.args.pair.now) c.written.result (content_seen c.args.content.now))
-    (sym c.in_ok-written.ensures.geometry)
+    (sym c.in_ok-written.ensures.device.geometry)
     (subst (NowHolds (disk_of (g.D.BlockDevice.geometry c.args.dev.now) (g.D.BlockDevice.blocks c.program.new.dev)) (g.D.BlockDevice.history c.program.new.dev) (address_in c.args.pair.now) c.written.result) (some_same new)
     (now_holds _ _ _ c.written.result c.args.pair.now.active can.new holds
     (ap address_of c.written.ensures.blocks) c.written.ensures.active c.written.ensures.fetched
     (c.written.ensures.end ∙ c.in_ok-written.ensures.chain) (c.written.ensures.last ∙ c.in_ok-written.ensures.last)
     (c.written.ensures.revision ∙ can.is_pair.describes.revision ∙ sym (gets_revision c.push_changes.new.builder _ _ ready.no_revision c.in_ok-written.ensures.commit))
-    (c.written.ensures.slot_count ∙ ap (λ k. length k.slots) (sym (some_same new))) (c.written.ensures.tail ∙ ap (λ k. k.tail) (sym (some_same new))) (c.written.ensures.move_state ∙ ap (λ k. k.move) (sym (some_same new))) (c.written.ensures.complete ∙ ap (λ k. is_some (completed k)) (sym (some_same new)))
+    (c.written.ensures.slot_count ∙ ap (λ k. length k.slots) (sym (some_same new))) (c.written.ensures.tail ∙ ap (λ k. k.tail) (sym (some_same new))) (c.written.ensures.move_state ∙ ap (λ k. k.move) (sym (some_same new))) (c.written.ensures.complete ∙ ap (λ k. is_some (completed k)) (sym (some_same new))) (subst IsLogged (sym (some_same new)) c.requires.logged)
     (ap (λ e. e % (g.D.BlockDevice.geometry c.args.dev.now).page) c.written.ensures.end ∙ c.in_ok-written.ensures.pages)
     (subst (λ e. AllUnprogrammed (g.D.BlockDevice.history c.program.new.dev) c.args.pair.now.active e (g.D.BlockDevice.geometry c.args.dev.now).block_size) (sym c.written.ensures.end) c.in_ok-written.ensures.behind)))
-
-pub returns-clause-others : goal.returns-clause-others
-returns-clause-others g c = outside_one _ _ _ _ (active_among _ _ c.args.pair.now c.requires.can.held c.requires.can.address c.requires.can.is_pair) c.in_ok-written.ensures.others
 
 pub returns-clause-stops : goal.returns-clause-stops
 returns-clause-stops g c =
@@ -87,18 +82,6 @@ returns-clause-stops g c =
     let new : Some can.new ≡ Some (content_seen c.args.content.now) = sym (made_is _ _ c.args.pair.now can.held (changes_seen c.args.changes.now) can.is_pair ∙ can.changed) ∙ c.requires.made in
     LeavesOnly-weaker (λ disk left. subst (λ k. LeftWith (disk_of (g.D.BlockDevice.geometry c.args.dev.now) (g.D.BlockDevice.blocks c.args.dev.now)) (address_in c.args.pair.now) k disk) (some_same new)
     (left_by_append _ _ _ _ _ _ _ c.args.pair.now.end disk ready can.is_pair.describes.end left)) c.in_ok-written.ensures.stops
-
-pub returns-in_err-written-clause-elsewhere : goal.returns-in_err-written-clause-elsewhere
-returns-in_err-written-clause-elsewhere g c = stays_outside _ _ _ _ (active_among _ _ c.args.pair.now c.requires.can.held c.requires.can.address c.requires.can.is_pair) c.in_err-written.ensures.elsewhere
-
-pub returns-clause-elsewhere : goal.returns-clause-elsewhere
-returns-clause-elsewhere g c = stays_outside _ _ _ _ (active_among _ _ c.args.pair.now c.requires.can.held c.requires.can.address c.requires.can.is_pair) c.in_ok-written.ensures.elsewhere
-
-pub returns-in_err-written-clause-at_worst : goal.returns-in_err-written-clause-at_worst
-returns-in_err-written-clause-at_worst g c = LeavesOnly-weaker (λ disk left. outside_one _ _ _ _ (active_among _ _ c.args.pair.now c.requires.can.held c.requires.can.address c.requires.can.is_pair) left) c.in_err-written.ensures.at_worst
-
-pub returns-clause-at_worst : goal.returns-clause-at_worst
-returns-clause-at_worst g c = LeavesOnly-weaker (λ disk left. outside_one _ _ _ _ (active_among _ _ c.args.pair.now c.requires.can.held c.requires.can.address c.requires.can.is_pair) left) c.in_ok-written.ensures.at_worst
 
 pub returns-clause-appended : goal.returns-clause-appended
 returns-clause-appended g c done =
@@ -114,8 +97,9 @@ returns-clause-appended g c done =
         commits = gets.commits;
         end = sym c.in_ok-written.ensures.chain ∙ c.in_ok-written.ensures.end ∙ ap₂ (λ m n. m + n) can.is_pair.describes.end ends;
       };
-      others = c.in_ok-written.ensures.others;
+      others = c.in_ok-written.ensures.device.others;
       erases = c.in_ok-written.ensures.erases;
+      programs = c.in_ok-written.ensures.programs;
       kept = c.in_ok-written.ensures.before;
     }
 
@@ -125,5 +109,11 @@ returns-clause-first g c done =
     let built = c.push_changes.ensures ∙ ap (with_entries (entries_of_changes (changes_seen c.args.changes.now))) c.new-builder.ensures in
     let ready = is_appending _ _ c.args.pair.now can.held can.new (changes_seen c.args.changes.now) c.push_changes.new.builder can.address can.is_pair can.changed (ap (λ (b : Building). b.entries) built) (ap (λ (b : Building). b.revision) built) in
     subst (λ k. KeepsFirst (disk_of (g.D.BlockDevice.geometry c.args.dev.now) (g.D.BlockDevice.blocks c.args.dev.now)) (address_in c.args.pair.now) (Some (content_seen c.args.content.now)) (disk_of k (g.D.BlockDevice.blocks c.program.new.dev)))
-    (sym c.in_ok-written.ensures.geometry)
-    (appended_first _ _ _ _ _ _ _ (Some (content_seen c.args.content.now)) (g.D.BlockDevice.blocks c.program.new.dev) ready c.in_ok-written.ensures.others c.in_ok-written.ensures.commit)
+    (sym c.in_ok-written.ensures.device.geometry)
+    (appended_first _ _ _ _ _ _ _ (Some (content_seen c.args.content.now)) (g.D.BlockDevice.blocks c.program.new.dev) ready c.in_ok-written.ensures.device.others c.in_ok-written.ensures.commit)
+
+pub returns-in_err-written-clause-device : goal.returns-in_err-written-clause-device
+returns-in_err-written-clause-device g c = only_block (address_in c.args.pair.now) (active_among _ _ c.args.pair.now c.requires.can.held c.requires.can.address c.requires.can.is_pair) c.in_err-written.ensures.device
+
+pub returns-clause-device : goal.returns-clause-device
+returns-clause-device g c = only_block (address_in c.args.pair.now) (active_among _ _ c.args.pair.now c.requires.can.held c.requires.can.address c.requires.can.is_pair) c.in_ok-written.ensures.device

@@ -1,48 +1,30 @@
-use Rattle.std.proofs.Common.{◌∙◌, ap, sym, refl, subst, arith}
-use Rattle.std.specs.Prelude.{[], ◌∷◌}
+use Rattle.std.proofs.Common.{◌≡◌, ◌<◌, false, ◌∙◌, ap, sym, subst, arith}
 use Rattle.std.proofs.lemmas.List.{take-replicate}
 use Rattle.lfs_device.specs.declared.geometry.Geometry.{Geometry}
-use Rattle.lfs_model.specs.Blocks.{SameBut}
+use Rattle.lfs_model.specs.Blocks.{block_in}
+use Rattle.lfs_model.specs.Content.{has_commit}
+use Rattle.lfs_model.specs.History.{programs}
 use Rattle.lfs_model.proofs.Pages.{page_at_least, page_at_most}
 use Rattle.lfs_model.proofs.Zeroed.{no_commit-programmed}
-use Rattle.lfs_model.proofs.Histories.{began, goes_on, OnlyReads-read, StayUnprogrammed-erase, StayUnprogrammed-trans, StayUnprogrammed-reads, StayUnprogrammed-program}
-use Rattle.lfs_model.proofs.Overwrites.{SameBut-trans}
+use Rattle.lfs_model.proofs.Histories.{began, goes_on, EachSince-only, EachSince-until}
+use Rattle.lfs_model.proofs.Overwrites.{slice_range_whole}
+use Rattle.lfs_pair.proofs.Calls.{block_by_erase, block_by_program, block_by_reads, block_trans, reads_one}
 use Rattle.lfs_pair.proofs.fresh.clear.Goals as goal
 
-pub returns-in_err-erase-clause-at_worst : goal.returns-in_err-erase-clause-at_worst
-returns-in_err-erase-clause-at_worst g c = goes_on began c.erase.ensures.history (λ disk left. left)
+pub returns-in_err-erase-clause-device : goal.returns-in_err-erase-clause-device
+returns-in_err-erase-clause-device g c = block_by_erase c.erase.ensures.others c.erase.ensures.geometry c.erase.ensures.history
 
-pub returns-in_err-read-clause-at_worst : goal.returns-in_err-read-clause-at_worst
-returns-in_err-read-clause-at_worst g c =
-    goes_on (goes_on began c.erase.ensures.history (λ disk left. left)) c.read.ensures.history
-    (λ disk left. subst (SameBut c.args.block (g.D.BlockDevice.blocks c.args.dev.now)) (sym left) c.erase.ensures.others)
+pub returns-in_err-read-clause-device : goal.returns-in_err-read-clause-device
+returns-in_err-read-clause-device g c = block_trans (block_by_erase c.erase.ensures.others c.erase.ensures.geometry c.erase.ensures.history) (block_by_reads (reads_one c.read.ensures.same c.read.ensures.geometry c.read.ensures.history))
 
-pub returns-in_err-prog-clause-at_worst : goal.returns-in_err-prog-clause-at_worst
-returns-in_err-prog-clause-at_worst g c =
-    goes_on (goes_on (goes_on began c.erase.ensures.history (λ disk left. left)) c.read.ensures.history
-    (λ disk left. subst (SameBut c.args.block (g.D.BlockDevice.blocks c.args.dev.now)) (sym left) c.erase.ensures.others)) c.prog.ensures.history
-    (λ disk left. SameBut-trans c.erase.ensures.others (subst (λ d. SameBut c.args.block d disk) c.read.ensures.same left))
+pub returns-in_err-prog-clause-device : goal.returns-in_err-prog-clause-device
+returns-in_err-prog-clause-device g c = block_trans (block_by_erase c.erase.ensures.others c.erase.ensures.geometry c.erase.ensures.history) (block_trans (block_by_reads (reads_one c.read.ensures.same c.read.ensures.geometry c.read.ensures.history)) (block_by_program c.prog.ensures.others c.prog.ensures.geometry c.prog.ensures.history))
 
-pub returns-in_ok-prog-clause-at_worst : goal.returns-in_ok-prog-clause-at_worst
-returns-in_ok-prog-clause-at_worst g c =
-    goes_on (goes_on (goes_on began c.erase.ensures.history (λ disk left. left)) c.read.ensures.history
-    (λ disk left. subst (SameBut c.args.block (g.D.BlockDevice.blocks c.args.dev.now)) (sym left) c.erase.ensures.others)) c.prog.ensures.history
-    (λ disk left. SameBut-trans c.erase.ensures.others (subst (λ d. SameBut c.args.block d disk) c.read.ensures.same left))
+pub returns-in_ok-prog-clause-device : goal.returns-in_ok-prog-clause-device
+returns-in_ok-prog-clause-device g c = block_trans (block_by_erase c.erase.ensures.others c.erase.ensures.geometry c.erase.ensures.history) (block_trans (block_by_reads (reads_one c.read.ensures.same c.read.ensures.geometry c.read.ensures.history)) (block_by_program c.prog.ensures.others c.prog.ensures.geometry c.prog.ensures.history))
 
-pub returns-else-has_commit-clause-at_worst : goal.returns-else-has_commit-clause-at_worst
-returns-else-has_commit-clause-at_worst g c =
-    goes_on (goes_on began c.erase.ensures.history (λ disk left. left)) c.read.ensures.history
-    (λ disk left. subst (SameBut c.args.block (g.D.BlockDevice.blocks c.args.dev.now)) (sym left) c.erase.ensures.others)
-
-pub returns-in_err-prog-clause-elsewhere : goal.returns-in_err-prog-clause-elsewhere
-returns-in_err-prog-clause-elsewhere g c =
-    StayUnprogrammed-trans (StayUnprogrammed-erase c.erase.ensures.history)
-    (StayUnprogrammed-trans (StayUnprogrammed-reads (c.args.block ∷ []) (OnlyReads-read began c.read.ensures.history refl c.read.ensures.same)) (StayUnprogrammed-program c.prog.ensures.history))
-
-pub returns-in_ok-prog-clause-elsewhere : goal.returns-in_ok-prog-clause-elsewhere
-returns-in_ok-prog-clause-elsewhere g c =
-    StayUnprogrammed-trans (StayUnprogrammed-erase c.erase.ensures.history)
-    (StayUnprogrammed-trans (StayUnprogrammed-reads (c.args.block ∷ []) (OnlyReads-read began c.read.ensures.history refl c.read.ensures.same)) (StayUnprogrammed-program c.prog.ensures.history))
+pub returns-else-has_commit-clause-device : goal.returns-else-has_commit-clause-device
+returns-else-has_commit-clause-device g c = block_trans (block_by_erase c.erase.ensures.others c.erase.ensures.geometry c.erase.ensures.history) (block_by_reads (reads_one c.read.ensures.same c.read.ensures.geometry c.read.ensures.history))
 
 pub returns-in_ok-prog-clause-cleared : goal.returns-in_ok-prog-clause-cleared
 returns-in_ok-prog-clause-cleared g c =
@@ -50,3 +32,22 @@ returns-in_ok-prog-clause-cleared g c =
     let same = ap (λ (k : Geometry). k.block_count) (c.read.ensures.geometry ∙ c.erase.ensures.geometry) in
     let power = c.geometry-page.result.valid.power in
     no_commit-programmed _ _ _ _ _ c.in_ok-prog.ensures.ok (omega (arith, shape.count, same, c.requires.in_device)) (take-replicate c.geometry-page.result.page 512 0 (page_at_most _ power)) (page_at_least _ power)
+
+-- where each erase leaves no log, none is read behind it
+pub returns-in_ok-prog-clause-clears : goal.returns-in_ok-prog-clause-clears
+returns-in_ok-prog-clause-clears g c =
+    let blocks = g.D.BlockDevice.blocks c.erase.new.self in
+    let size = (g.met.D.BlockDevice.shape c.erase.new.self).sizes c.args.block (subst (λ (k : Geometry). c.args.block < k.block_count) (sym c.erase.ensures.geometry) c.requires.in_device) in
+    let whole = slice_range_whole (block_in blocks c.args.block) _ (c.requires.buf ∙ sym (ap (λ (k : Geometry). k.block_size) c.erase.ensures.geometry) ∙ sym size) in
+    let read = c.in_ok-read.ensures.bytes ∙ whole in
+    let erased = ap programs c.in_ok-erase.ensures.history in
+    let then = ap programs c.in_ok-read.ensures.history in
+    let last = ap programs c.in_ok-prog.ensures.history in
+    record {
+      at_most = omega arith;
+      programs = λ logs.
+          let first = goes_on {P = λ _. Unit {0}} began c.in_ok-erase.ensures.history tt in
+          let behind = goes_on {P = λ _. Unit {0}} (goes_on began c.in_ok-read.ensures.history tt) c.in_ok-prog.ensures.history tt in
+          let none : has_commit (block_in blocks c.args.block) ≡ false = EachSince-only (EachSince-until logs first behind) c.in_ok-erase.ensures.history in
+          absurd (cc (none, read, c.if-has_commit.true, c.has_commit.ensures, c.read-2.ensures));
+    }

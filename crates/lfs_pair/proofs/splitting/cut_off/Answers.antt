@@ -1,6 +1,7 @@
-use Rattle.std.proofs.Common.{◌∙◌, List, Some, true, map, sym, ap, subst}
+use Rattle.std.proofs.Common.{◌∙◌, drop, List, Some, true, map, sym, ap, subst}
 use Rattle.std.proofs.lemmas.List.{take-map, drop-map}
-use Rattle.lfs_model.specs.Slots.{address_of, no_gstate}
+use Rattle.lfs_model.specs.Slots.{Gstate, address_of}
+use Rattle.lfs_tag.specs.FieldsSeen.{move_seen}
 use Rattle.lfs_model.specs.Content.{RawSlot}
 use Rattle.lfs_tag.specs.ContentSeen.{slot_seen, content_seen}
 use Rattle.lfs_pair.specs.Cut.{IsCut}
@@ -15,5 +16,6 @@ returns-clause-parts c =
       cut = c.cut_of-cut.result;
       is_cut = subst (λ s. IsCut c.args.geometry.block_size c.args.geometry.page (map slot_seen s) c.cut_of-cut.result) c.deref.ensures.value c.cut_of-cut.ensures.is_cut;
       front_is = ap (λ (s : List RawSlot). record { slots = s; tail = Some (record { hard = true; to = address_of c.args.fresh }); move = (content_seen c.args.content.now).move }) front;
-      back_is = ap (λ (s : List RawSlot). record { slots = s; tail = (content_seen c.args.content.now).tail; move = no_gstate }) back;
+      back_is = ap (λ (s : List RawSlot). record { slots = s; tail = (content_seen c.args.content.now).tail; move = move_seen c.none.result }) back
+          ∙ ap (λ (m : Gstate). record { slots = drop c.cut_of-cut.result (content_seen c.args.content.now).slots; tail = (content_seen c.args.content.now).tail; move = m }) c.none.ensures;
     }

@@ -1,33 +1,28 @@
-use Rattle.std.specs.Prelude.{[], ◌∷◌}
-use Rattle.lfs_model.proofs.Histories.{StayUnprogrammed-reads, StayUnprogrammed-trans, StayUnprogrammed-program}
 use Rattle.std.proofs.Common.{◌≡◌, ◌+◌, ◌-◌, ◌^◌, ◌≤◌, ℕ, refl, sym, ap, ◌∙◌, inl, arith, subst}
 use Rattle.std.specs.Prelude.{min}
-use Rattle.lfs_model.specs.Blocks.{block_in, overwritten, programmed, SameBut}
+use Rattle.lfs_model.specs.Blocks.{block_in, overwritten, programmed}
 use Rattle.lfs_model.specs.Geometry.{IsGeometry}
-use Rattle.lfs_model.specs.History.{AllUnprogrammed, erases}
+use Rattle.lfs_model.specs.History.{AllUnprogrammed, erases, programs}
 use Rattle.lfs_tag.specs.Builder.{padded_end}
 use Rattle.lfs_pair.specs.Writing.{Gets}
-use Rattle.lfs_model.proofs.Histories.{goes_on, LeavesOnly-reads, AtWorst-read, Stops-read, AllUnprogrammed-reads, AllUnprogrammed-part, unprogrammed-program, erases-reads}
+use Rattle.lfs_model.proofs.Histories.{goes_on, LeavesOnly-reads, Stops-read, AllUnprogrammed-reads, AllUnprogrammed-part, unprogrammed-program, erases-reads, programs-reads}
 use Rattle.lfs_model.proofs.Overwrites.{SameBut-refl, block_in-programmed}
 use Rattle.lfs_pair.proofs.Committed.{gets_commit, goes_into, left_in_block}
-use Rattle.lfs_pair.proofs.Following.{then_fault, fault_of}
+use Rattle.lfs_pair.proofs.Calls.{block_by_program, block_by_reads, block_trans}
 use Rattle.lfs_pair.proofs.writing.program.Goals as goal
 
 -- before the program
 
 pub returns-in_err-next-clause-erases : goal.returns-in_err-next-clause-erases
-returns-in_err-next-clause-erases g c = erases-reads c.next_bytes.ensures.reads
+returns-in_err-next-clause-erases g c = erases-reads c.next_bytes.ensures.device.reads
 
 pub returns-in_err-next-clause-stops : goal.returns-in_err-next-clause-stops
-returns-in_err-next-clause-stops g c = LeavesOnly-reads Stops-read c.next_bytes.ensures.reads (SameBut-refl _ _, inl refl)
-
-pub returns-in_err-next-clause-at_worst : goal.returns-in_err-next-clause-at_worst
-returns-in_err-next-clause-at_worst g c = LeavesOnly-reads AtWorst-read c.next_bytes.ensures.reads (SameBut-refl _ _)
+returns-in_err-next-clause-stops g c = LeavesOnly-reads Stops-read c.next_bytes.ensures.device.reads (SameBut-refl _ _, inl refl)
 
 pub prog-requires-clause-unprogrammed : goal.prog-requires-clause-unprogrammed
 prog-requires-clause-unprogrammed g c =
     AllUnprogrammed-part (g.D.BlockDevice.history c.next_bytes.new.dev) c.args.block
-    (AllUnprogrammed-reads c.args.block c.next_bytes.ensures.reads c.requires.unprogrammed) (omega arith) (omega (arith, c.requires.ends, c.in_ok-pages.ensures.size))
+    (AllUnprogrammed-reads c.args.block c.next_bytes.ensures.device.reads c.requires.unprogrammed) (omega arith) (omega (arith, c.requires.ends, c.in_ok-pages.ensures.size))
 
 -- the program
 
@@ -41,23 +36,15 @@ at_least at padded long end same is = omega arith
 pub returns-in_err-prog-clause-erases : goal.returns-in_err-prog-clause-erases
 returns-in_err-prog-clause-erases g c =
     let here = ap erases c.prog.ensures.history in
-    let before = erases-reads c.next_bytes.ensures.reads in
+    let before = erases-reads c.next_bytes.ensures.device.reads in
     omega arith
-
-pub returns-in_err-prog-clause-fault : goal.returns-in_err-prog-clause-fault
-returns-in_err-prog-clause-fault g c e = then_fault _ c.next_bytes.ensures.reads (fault_of c.in_err-prog.ensures.history refl)
 
 pub returns-in_err-prog-clause-stops : goal.returns-in_err-prog-clause-stops
 returns-in_err-prog-clause-stops g c =
     let end : c.args.at + c.end.result ≡ c.args.at + padded_end c.args.builder = whole_end _ _ _ _ _ _ c.end.ensures c.requires.ends (g.D.BlockDevice.geometry c.args.dev.now).valid in
     let size = (g.met.D.BlockDevice.shape c.args.dev.now).sizes c.args.block c.requires.in_device in
-    goes_on (LeavesOnly-reads Stops-read c.next_bytes.ensures.reads (SameBut-refl _ _, inl refl)) c.prog.ensures.history
-    (λ disk left. left_in_block disk c.next_bytes.ensures.same (goes_into c.in_ok-pages.ensures.commit c.in_ok-pages.ensures.size c.requires.goes size c.requires.ends end c.in_ok-next.ensures.bytes) left)
-
-pub returns-in_err-prog-clause-at_worst : goal.returns-in_err-prog-clause-at_worst
-returns-in_err-prog-clause-at_worst g c =
-    goes_on (LeavesOnly-reads AtWorst-read c.next_bytes.ensures.reads (SameBut-refl _ _)) c.prog.ensures.history
-    (λ disk left. subst (λ d. SameBut c.args.block d disk) c.next_bytes.ensures.same left)
+    goes_on (LeavesOnly-reads Stops-read c.next_bytes.ensures.device.reads (SameBut-refl _ _, inl refl)) c.prog.ensures.history
+    (λ disk left. left_in_block disk c.next_bytes.ensures.device.same (goes_into c.in_ok-pages.ensures.commit c.in_ok-pages.ensures.size c.requires.goes size c.requires.ends end c.in_ok-next.ensures.bytes) left)
 
 pub returns-clause-commit : goal.returns-clause-commit
 returns-clause-commit g c =
@@ -67,42 +54,41 @@ returns-clause-commit g c =
     let old = g.D.BlockDevice.blocks c.args.dev.now in
     let is : block_in (g.D.BlockDevice.blocks c.prog.new.self) c.args.block ≡ overwritten (block_in old c.args.block) c.args.at c.in_ok-pages.pages.now =
     ap (λ d. block_in d c.args.block) c.in_ok-prog.ensures.ok
-    ∙ ap (λ d. block_in (programmed d c.args.block c.args.at c.in_ok-pages.pages.now) c.args.block) c.next_bytes.ensures.same
+    ∙ ap (λ d. block_in (programmed d c.args.block c.args.at c.in_ok-pages.pages.now) c.args.block) c.next_bytes.ensures.device.same
     ∙ block_in-programmed old c.args.block c.args.at c.in_ok-pages.pages.now (omega (arith, shape.count, c.requires.in_device)) in
     subst (Gets c.args.builder (block_in old c.args.block)) (sym is) (gets_commit (goes_into c.in_ok-pages.ensures.commit c.in_ok-pages.ensures.size c.requires.goes size c.requires.ends end c.in_ok-next.ensures.bytes))
 
 pub returns-clause-behind : goal.returns-clause-behind
 returns-clause-behind g c =
     let old : AllUnprogrammed (g.D.BlockDevice.history c.next_bytes.new.dev) c.args.block c.args.at (g.D.BlockDevice.geometry c.args.dev.now).block_size =
-    AllUnprogrammed-reads c.args.block c.next_bytes.ensures.reads c.requires.unprogrammed in
+    AllUnprogrammed-reads c.args.block c.next_bytes.ensures.device.reads c.requires.unprogrammed in
     let end : c.args.at + c.end.result ≡ c.args.at + padded_end c.args.builder = whole_end _ _ _ _ _ _ c.end.ensures c.requires.ends (g.D.BlockDevice.geometry c.args.dev.now).valid in
     unprogrammed-program {low = c.args.at} c.prog.ensures.history old (omega arith) (at_least _ _ _ _ c.in_ok-pages.ensures.size end)
 
 pub returns-clause-erases : goal.returns-clause-erases
 returns-clause-erases g c =
     let here = ap erases c.prog.ensures.history in
-    let before = erases-reads c.next_bytes.ensures.reads in
+    let before = erases-reads c.next_bytes.ensures.device.reads in
     omega arith
 
 pub returns-clause-stops : goal.returns-clause-stops
 returns-clause-stops g c =
     let end : c.args.at + c.end.result ≡ c.args.at + padded_end c.args.builder = whole_end _ _ _ _ _ _ c.end.ensures c.requires.ends (g.D.BlockDevice.geometry c.args.dev.now).valid in
     let size = (g.met.D.BlockDevice.shape c.args.dev.now).sizes c.args.block c.requires.in_device in
-    goes_on (LeavesOnly-reads Stops-read c.next_bytes.ensures.reads (SameBut-refl _ _, inl refl)) c.prog.ensures.history
-    (λ disk left. left_in_block disk c.next_bytes.ensures.same (goes_into c.in_ok-pages.ensures.commit c.in_ok-pages.ensures.size c.requires.goes size c.requires.ends end c.in_ok-next.ensures.bytes) left)
+    goes_on (LeavesOnly-reads Stops-read c.next_bytes.ensures.device.reads (SameBut-refl _ _, inl refl)) c.prog.ensures.history
+    (λ disk left. left_in_block disk c.next_bytes.ensures.device.same (goes_into c.in_ok-pages.ensures.commit c.in_ok-pages.ensures.size c.requires.goes size c.requires.ends end c.in_ok-next.ensures.bytes) left)
 
-pub returns-clause-at_worst : goal.returns-clause-at_worst
-returns-clause-at_worst g c =
-    goes_on (LeavesOnly-reads AtWorst-read c.next_bytes.ensures.reads (SameBut-refl _ _)) c.prog.ensures.history
-    (λ disk left. subst (λ d. SameBut c.args.block d disk) c.next_bytes.ensures.same left)
+pub returns-in_err-next-clause-device : goal.returns-in_err-next-clause-device
+returns-in_err-next-clause-device g c = block_by_reads c.in_err-next.ensures.device
 
-pub returns-in_err-next-clause-elsewhere : goal.returns-in_err-next-clause-elsewhere
-returns-in_err-next-clause-elsewhere g c = StayUnprogrammed-reads (c.args.block ∷ []) c.in_err-next.ensures.reads
+pub returns-in_err-prog-clause-device : goal.returns-in_err-prog-clause-device
+returns-in_err-prog-clause-device g c = block_trans (block_by_reads c.in_ok-next.ensures.device) (block_by_program c.in_err-prog.ensures.others c.in_err-prog.ensures.geometry c.in_err-prog.ensures.history)
 
-pub returns-in_err-prog-clause-elsewhere : goal.returns-in_err-prog-clause-elsewhere
-returns-in_err-prog-clause-elsewhere g c =
-    StayUnprogrammed-trans (StayUnprogrammed-reads (c.args.block ∷ []) c.in_ok-next.ensures.reads) (StayUnprogrammed-program c.in_err-prog.ensures.history)
+pub returns-clause-device : goal.returns-clause-device
+returns-clause-device g c = block_trans (block_by_reads c.in_ok-next.ensures.device) (block_by_program c.in_ok-prog.ensures.others c.in_ok-prog.ensures.geometry c.in_ok-prog.ensures.history)
 
-pub returns-clause-elsewhere : goal.returns-clause-elsewhere
-returns-clause-elsewhere g c =
-    StayUnprogrammed-trans (StayUnprogrammed-reads (c.args.block ∷ []) c.in_ok-next.ensures.reads) (StayUnprogrammed-program c.in_ok-prog.ensures.history)
+pub returns-clause-programs : goal.returns-clause-programs
+returns-clause-programs g c =
+    let here = ap programs c.prog.ensures.history in
+    let before = programs-reads c.next_bytes.ensures.device.reads in
+    omega arith

@@ -1,19 +1,14 @@
-use Rattle.lfs_model.proofs.Histories.{StayUnprogrammed-erase, StayUnprogrammed-trans}
 use Rattle.std.proofs.Common.{◌+◌, ◌≤◌, ap, sym, subst}
 use Rattle.lfs_device.specs.declared.geometry.Geometry.{Geometry}
 use Rattle.lfs_model.specs.Blocks.{block_in}
-use Rattle.lfs_model.proofs.Histories.{began, goes_on, goes_on_by, LeavesOnly-weaker}
-use Rattle.lfs_model.proofs.Overwrites.{SameBut-trans}
 use Rattle.lfs_tag.specs.Builder.{padded_end}
 use Rattle.lfs_tag.specs.ContentSeen.{content_seen}
 use Rattle.lfs_pair.proofs.Anew.{is_anew, fits_sound, anew_room, anew_within, anew_holds, anew_end, leaves_erase, leaves_anew}
+use Rattle.lfs_pair.proofs.Calls.{block_by_erase, block_trans}
 use Rattle.lfs_pair.proofs.writing.write_anew.Goals as goal
 
 pub returns-in_err-erase-clause-stops : goal.returns-in_err-erase-clause-stops
 returns-in_err-erase-clause-stops g c clean = leaves_erase c.erase.ensures.history
-
-pub returns-in_err-erase-clause-at_worst : goal.returns-in_err-erase-clause-at_worst
-returns-in_err-erase-clause-at_worst g c = goes_on began c.erase.ensures.history (λ disk left. left)
 
 pub program-requires-clause-room : goal.program-requires-clause-room
 program-requires-clause-room g c =
@@ -31,10 +26,6 @@ returns-in_err-written-clause-stops g c =
     leaves_anew (is_anew (content_seen c.args.content.now) c.push_content.ensures c.new-builder.ensures c.requires.buf (ap (λ (k : Geometry). k.page) c.geometry-page.ensures) c.from_bits-before.ensures)
     (fits_sound c.requires.logged c.requires.names c.requires.fits) c.erase.ensures.others c.in_ok-erase.ensures.history c.program.ensures.stops
 
-pub returns-in_err-written-clause-at_worst : goal.returns-in_err-written-clause-at_worst
-returns-in_err-written-clause-at_worst g c =
-    goes_on_by (goes_on began c.erase.ensures.history (λ disk left. left)) (LeavesOnly-weaker (λ disk left. SameBut-trans c.erase.ensures.others left) c.program.ensures.at_worst)
-
 pub returns-clause-holds : goal.returns-clause-holds
 returns-clause-holds g c =
     anew_holds (block_in (g.D.BlockDevice.blocks c.program.new.dev) c.args.block)
@@ -46,20 +37,16 @@ returns-clause-stops g c =
     leaves_anew (is_anew (content_seen c.args.content.now) c.push_content.ensures c.new-builder.ensures c.requires.buf (ap (λ (k : Geometry). k.page) c.geometry-page.ensures) c.from_bits-before.ensures)
     (fits_sound c.requires.logged c.requires.names c.requires.fits) c.erase.ensures.others c.in_ok-erase.ensures.history c.program.ensures.stops
 
-pub returns-clause-at_worst : goal.returns-clause-at_worst
-returns-clause-at_worst g c =
-    goes_on_by (goes_on began c.erase.ensures.history (λ disk left. left)) (LeavesOnly-weaker (λ disk left. SameBut-trans c.erase.ensures.others left) c.program.ensures.at_worst)
-
-pub returns-in_err-erase-clause-elsewhere : goal.returns-in_err-erase-clause-elsewhere
-returns-in_err-erase-clause-elsewhere g c = StayUnprogrammed-erase c.in_err-erase.ensures.history
-
-pub returns-in_err-written-clause-elsewhere : goal.returns-in_err-written-clause-elsewhere
-returns-in_err-written-clause-elsewhere g c = StayUnprogrammed-trans (StayUnprogrammed-erase c.in_ok-erase.ensures.history) c.in_err-written.ensures.elsewhere
-
-pub returns-clause-elsewhere : goal.returns-clause-elsewhere
-returns-clause-elsewhere g c = StayUnprogrammed-trans (StayUnprogrammed-erase c.in_ok-erase.ensures.history) c.in_ok-written.ensures.elsewhere
-
 pub returns-clause-size : goal.returns-clause-size
 returns-clause-size g c =
     anew_end (content_seen c.args.content.now) c.in_ok-written.written.end c.in_ok-written.ensures.end
     (is_anew (content_seen c.args.content.now) c.push_content.ensures c.new-builder.ensures c.requires.buf (ap (λ (k : Geometry). k.page) c.geometry-page.ensures) c.from_bits-before.ensures)
+
+pub returns-in_err-erase-clause-device : goal.returns-in_err-erase-clause-device
+returns-in_err-erase-clause-device g c = block_by_erase c.erase.ensures.others c.erase.ensures.geometry c.erase.ensures.history
+
+pub returns-in_err-written-clause-device : goal.returns-in_err-written-clause-device
+returns-in_err-written-clause-device g c = block_trans (block_by_erase c.erase.ensures.others c.erase.ensures.geometry c.erase.ensures.history) c.program.ensures.device
+
+pub returns-clause-device : goal.returns-clause-device
+returns-clause-device g c = block_trans (block_by_erase c.erase.ensures.others c.erase.ensures.geometry c.erase.ensures.history) c.program.ensures.device

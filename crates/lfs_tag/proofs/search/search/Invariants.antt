@@ -1,10 +1,10 @@
 use Rattle.std.proofs.Common.{◌≡◌, ◌+◌, ◌<◌, ◌^◌, length, reverse}
-use Rattle.lfs_tag.specs.Search.{sought, looks}
+use Rattle.lfs_tag.specs.Search.{found, looks}
 use Rattle.lfs_tag.proofs.search.search.Given as goal
 
 abbrev pub invariant-loop-entry : goal.invariant-loop-entry
 invariant-loop-entry l = record {
-  held : sought (reverse l.entries) l.kind l.id ≡ sought (reverse l.initial.entries) l.kind l.initial.id;
+  found : found (reverse l.entries) l.kind l.id ≡ found (reverse l.initial.entries) l.kind l.initial.id;
   looks : l.looks + looks (reverse l.entries) l.kind l.id ≡ looks (reverse l.initial.entries) l.kind l.initial.id;
   small : l.id + length l.entries < 2 ^ 63;
   few : l.looks + length l.entries < 2 ^ 64;

@@ -1,0 +1,102 @@
+-- What calls behind calls do to a device.
+use Rattle.std.proofs.Common.{ℕ, ◌≡◌, ◌⊎◌, Bool, List, [], ◌∷◌, refl, sym, ◌∙◌, subst}
+use Rattle.lfs_device.specs.declared.device.BlockDevice.{Ghosts}
+use Rattle.lfs_device.specs.Calls.{ReadsOnly, ChangesBlock, ChangesOnly}
+use Rattle.std.specs.Prelude.{All, ◌≢◌}
+use Rattle.lfs_model.specs.Blocks.{SameBut, SameButThese}
+use Rattle.lfs_model.specs.History.{Read, Program, Erase, event}
+use Rattle.lfs_model.proofs.Histories.{began, goes_on, goes_on_by, AtWorst-read, LeavesOnly-reads, LeavesOnly-weaker, OnlyReads-read, OnlyReads-trans, StayUnprogrammed-erase, StayUnprogrammed-program, StayUnprogrammed-reads, StayUnprogrammed-trans, StayUnprogrammed-wider}
+use Rattle.lfs_model.proofs.Overwrites.{SameBut-refl, SameBut-trans, SameButThese-refl, SameButThese-trans, SameButThese-wider}
+use Rattle.lfs_pair.specs.Commit.{blocks_of}
+use Rattle.lfs_pair.proofs.Changed.{stays_outside}
+use Rattle.lfs_pair.proofs.TwoBlocks.{outside_one}
+
+-- ---- reads
+
+pub reads_none : {D : Type 0} {g : Ghosts D} {d : D} → ReadsOnly g d d
+reads_none = record { same = refl; geometry = refl; reads = began }
+
+pub reads_one : {D : Type 0} {g : Ghosts D} {old new : D} {block off len : ℕ} {failed : Bool} → g.blocks new ≡ g.blocks old → g.geometry new ≡ g.geometry old
+    → g.history new ≡ event (Read block off len) (g.blocks old) (g.blocks new) failed ∷ g.history old → ReadsOnly g old new
+reads_one same geometry is = record { same = same; geometry = geometry; reads = OnlyReads-read began is refl same }
+
+pub reads_trans : {D : Type 0} {g : Ghosts D} {old mid new : D} → ReadsOnly g old mid → ReadsOnly g mid new → ReadsOnly g old new
+reads_trans first second = record {
+  same = second.same ∙ first.same;
+  geometry = second.geometry ∙ first.geometry;
+  reads = OnlyReads-trans first.reads second.reads first.same;
+}
+
+-- ---- one block
+
+pub block_by_reads : {D : Type 0} {g : Ghosts D} {b : ℕ} {old new : D} → ReadsOnly g old new → ChangesBlock g b old new
+block_by_reads {g = g} {b = b} {old = old} reads = record {
+  others = subst (SameBut b (g.blocks old)) (sym reads.same) (SameBut-refl b (g.blocks old));
+  elsewhere = StayUnprogrammed-reads (b ∷ []) reads.reads;
+  geometry = reads.geometry;
+  at_worst = LeavesOnly-reads AtWorst-read reads.reads (SameBut-refl b (g.blocks old));
+}
+
+pub block_by_erase : {D : Type 0} {g : Ghosts D} {b : ℕ} {old new : D} {failed : Bool} → SameBut b (g.blocks old) (g.blocks new) → g.geometry new ≡ g.geometry old
+    → g.history new ≡ event (Erase b) (g.blocks old) (g.blocks new) failed ∷ g.history old → ChangesBlock g b old new
+block_by_erase same geometry is = record {
+  others = same;
+  elsewhere = StayUnprogrammed-erase is;
+  geometry = geometry;
+  at_worst = goes_on began is (λ disk left. left);
+}
+
+pub block_by_program : {D : Type 0} {g : Ghosts D} {b off : ℕ} {bytes : List ℕ} {old new : D} {failed : Bool} → SameBut b (g.blocks old) (g.blocks new) → g.geometry new ≡ g.geometry old
+    → g.history new ≡ event (Program b off bytes) (g.blocks old) (g.blocks new) failed ∷ g.history old → ChangesBlock g b old new
+block_by_program same geometry is = record {
+  others = same;
+  elsewhere = StayUnprogrammed-program is;
+  geometry = geometry;
+  at_worst = goes_on began is (λ disk left. left);
+}
+
+pub block_trans : {D : Type 0} {g : Ghosts D} {b : ℕ} {old mid new : D} → ChangesBlock g b old mid → ChangesBlock g b mid new → ChangesBlock g b old new
+block_trans first second = record {
+  others = SameBut-trans first.others second.others;
+  elsewhere = StayUnprogrammed-trans first.elsewhere second.elsewhere;
+  geometry = second.geometry ∙ first.geometry;
+  at_worst = goes_on_by first.at_worst (LeavesOnly-weaker (λ disk left. SameBut-trans first.others left) second.at_worst);
+}
+
+-- ---- several blocks
+
+pub only_by_reads : {D : Type 0} {g : Ghosts D} {bs : List ℕ} {old new : D} → ReadsOnly g old new → ChangesOnly g bs old new
+only_by_reads {g = g} {bs = bs} {old = old} reads = record {
+  others = subst (SameButThese bs (g.blocks old)) (sym reads.same) (SameButThese-refl bs (g.blocks old));
+  elsewhere = StayUnprogrammed-reads bs reads.reads;
+  geometry = reads.geometry;
+  at_worst = LeavesOnly-reads AtWorst-read reads.reads (SameButThese-refl bs (g.blocks old));
+}
+
+pub only_none : {D : Type 0} {g : Ghosts D} {bs : List ℕ} {d : D} → ChangesOnly g bs d d
+only_none = only_by_reads reads_none
+
+pub only_trans : {D : Type 0} {g : Ghosts D} {bs : List ℕ} {old mid new : D} → ChangesOnly g bs old mid → ChangesOnly g bs mid new → ChangesOnly g bs old new
+only_trans first second = record {
+  others = SameButThese-trans first.others second.others;
+  elsewhere = StayUnprogrammed-trans first.elsewhere second.elsewhere;
+  geometry = second.geometry ∙ first.geometry;
+  at_worst = goes_on_by first.at_worst (LeavesOnly-weaker (λ disk left. SameButThese-trans first.others left) second.at_worst);
+}
+
+pub only_wider : {D : Type 0} {g : Ghosts D} {bs : List ℕ} (cs : List ℕ) {old new : D} → ((other : ℕ) → All (λ c. c ≢ other) cs → All (λ c. c ≢ other) bs) → ChangesOnly g bs old new → ChangesOnly g cs old new
+only_wider cs among only = record {
+  others = SameButThese-wider cs among only.others;
+  elsewhere = StayUnprogrammed-wider cs among only.elsewhere;
+  geometry = only.geometry;
+  at_worst = LeavesOnly-weaker (λ disk left. SameButThese-wider cs among left) only.at_worst;
+}
+
+-- one block of a pair
+pub only_block : {D : Type 0} {g : Ghosts D} {b : ℕ} {old new : D} (at : ℕ × ℕ) → (b ≡ at.0) ⊎ (b ≡ at.1) → ChangesBlock g b old new → ChangesOnly g (blocks_of at) old new
+only_block {b = b} at is block = record {
+  others = outside_one at b _ _ is block.others;
+  elsewhere = stays_outside at b _ _ is block.elsewhere;
+  geometry = block.geometry;
+  at_worst = LeavesOnly-weaker (λ disk left. outside_one at b _ disk is left) block.at_worst;
+}

@@ -1,0 +1,135 @@
+use Rattle.std.proofs.Common.{◌≡◌, ◌<◌, Err}
+use Rattle.std.proofs.lemmas.Result.{err_from_is_err_and}
+use Rattle.lfs_device.specs.declared.geometry.Geometry.{Geometry}
+use Rattle.lfs_model.specs.History.{faults}
+use Rattle.lfs_pair.proofs.Behind.{is_full}
+use Rattle.lfs_pair.proofs.Erring.{fails_io, tells_io, tells_ok}
+use Rattle.std.proofs.Common.{◌∙◌, rules, Ok, Some, sym, ap, subst}
+use Rattle.lfs_device.specs.Shown.{disk_of}
+use Rattle.lfs_model.specs.History.{EachSince, LeavesOnly}
+use Rattle.lfs_model.specs.Stops.{ErasesCleanly, Stops}
+use Rattle.lfs_model.specs.Written.{FitsRaw}
+use Rattle.lfs_model.proofs.Histories.{LeavesOnly-weaker}
+use Rattle.lfs_tag.specs.ContentSeen.{content_seen}
+use Rattle.lfs_pair.specs.Pair.{address_in}
+use Rattle.lfs_pair.specs.ChangeSeen.{changes_seen}
+use Rattle.lfs_device.specs.Calls.{ChangesOnly}
+use Rattle.lfs_pair.specs.Commit.{blocks_of, KeepsFirst, IsCompacted, NowHolds, LeftWith}
+use Rattle.lfs_pair.proofs.Changed.{left_by_change, made_here}
+use Rattle.lfs_pair.proofs.committing.commit_in.Goals as goal
+
+pub returns-in_err-compact-clause-stops : goal.returns-in_err-compact-clause-stops
+returns-in_err-compact-clause-stops g c =
+    let made = made_here _ _ c.args.pair.now c.requires.can.held c.args.block.now (changes_seen c.args.changes.now) (Some (content_seen c.in_ok-content.content)) c.requires.can.is_pair c.requires.block c.in_ok-content.ensures.content in
+    let moved = subst (λ p. EachSince ErasesCleanly (g.D.BlockDevice.history c.append.new.dev) (g.D.BlockDevice.history c.compact.new.dev)
+    → LeavesOnly Stops (g.D.BlockDevice.history c.append.new.dev) (g.D.BlockDevice.history c.compact.new.dev) (LeftWith (disk_of (g.D.BlockDevice.geometry c.append.new.dev) (g.D.BlockDevice.blocks c.append.new.dev)) (address_in p) (content_seen c.in_ok-content.content)))
+    (c.in_ok-append.ensures.no_room_pair (ap Ok c.if-branch.false)) c.in_err-compact.ensures.stops in
+    let stops = subst (λ d. EachSince ErasesCleanly (g.D.BlockDevice.history d) (g.D.BlockDevice.history c.compact.new.dev)
+    → LeavesOnly Stops (g.D.BlockDevice.history d) (g.D.BlockDevice.history c.compact.new.dev) (LeftWith (disk_of (g.D.BlockDevice.geometry d) (g.D.BlockDevice.blocks d)) (address_in c.args.pair.now) (content_seen c.in_ok-content.content)))
+    (c.in_ok-append.ensures.no_room_dev (ap Ok c.if-branch.false)) moved in
+    let fits : FitsRaw (g.D.BlockDevice.geometry c.args.dev.now).block_size (g.D.BlockDevice.geometry c.args.dev.now).page (content_seen c.in_ok-content.content) = search rules in
+    λ cleanly. LeavesOnly-weaker (λ disk left. left_by_change (disk_of (g.D.BlockDevice.geometry c.args.dev.now) (g.D.BlockDevice.blocks c.args.dev.now)) (address_in c.args.pair.now) (changes_seen c.args.changes.now) (content_seen c.in_ok-content.content) disk made fits c.in_ok-content.ensures.logged left) (stops cleanly)
+
+pub returns-clause-stops : goal.returns-clause-stops
+returns-clause-stops g c =
+    let made = made_here _ _ c.args.pair.now c.requires.can.held c.args.block.now (changes_seen c.args.changes.now) (Some (content_seen c.in_ok-content.content)) c.requires.can.is_pair c.requires.block c.in_ok-content.ensures.content in
+    let moved = subst (λ p. EachSince ErasesCleanly (g.D.BlockDevice.history c.append.new.dev) (g.D.BlockDevice.history c.compact.new.dev)
+    → LeavesOnly Stops (g.D.BlockDevice.history c.append.new.dev) (g.D.BlockDevice.history c.compact.new.dev) (LeftWith (disk_of (g.D.BlockDevice.geometry c.append.new.dev) (g.D.BlockDevice.blocks c.append.new.dev)) (address_in p) (content_seen c.in_ok-content.content)))
+    (c.in_ok-append.ensures.no_room_pair (ap Ok c.if-branch.false)) c.in_ok-compact.ensures.stops in
+    let stops = subst (λ d. EachSince ErasesCleanly (g.D.BlockDevice.history d) (g.D.BlockDevice.history c.compact.new.dev)
+    → LeavesOnly Stops (g.D.BlockDevice.history d) (g.D.BlockDevice.history c.compact.new.dev) (LeftWith (disk_of (g.D.BlockDevice.geometry d) (g.D.BlockDevice.blocks d)) (address_in c.args.pair.now) (content_seen c.in_ok-content.content)))
+    (c.in_ok-append.ensures.no_room_dev (ap Ok c.if-branch.false)) moved in
+    let fits : FitsRaw (g.D.BlockDevice.geometry c.args.dev.now).block_size (g.D.BlockDevice.geometry c.args.dev.now).page (content_seen c.in_ok-content.content) = search rules in
+    λ cleanly. LeavesOnly-weaker (λ disk left. left_by_change (disk_of (g.D.BlockDevice.geometry c.args.dev.now) (g.D.BlockDevice.blocks c.args.dev.now)) (address_in c.args.pair.now) (changes_seen c.args.changes.now) (content_seen c.in_ok-content.content) disk made fits c.in_ok-content.ensures.logged left) (stops cleanly)
+
+pub returns-in_err-append-clause-stops : goal.returns-in_err-append-clause-stops
+returns-in_err-append-clause-stops g c cleanly =
+    let made = made_here _ _ c.args.pair.now c.requires.can.held c.args.block.now (changes_seen c.args.changes.now) (Some (content_seen c.in_ok-content.content)) c.requires.can.is_pair c.requires.block c.in_ok-content.ensures.content in
+    let fits : FitsRaw (g.D.BlockDevice.geometry c.args.dev.now).block_size (g.D.BlockDevice.geometry c.args.dev.now).page (content_seen c.in_ok-content.content) = search rules in
+    LeavesOnly-weaker (λ disk left. left_by_change (disk_of (g.D.BlockDevice.geometry c.args.dev.now) (g.D.BlockDevice.blocks c.args.dev.now)) (address_in c.args.pair.now) (changes_seen c.args.changes.now) (content_seen c.in_ok-content.content) disk made fits c.in_ok-content.ensures.logged left) c.in_err-append.ensures.stops
+
+pub returns-then-branch-clause-stops : goal.returns-then-branch-clause-stops
+returns-then-branch-clause-stops g c cleanly =
+    let made = made_here _ _ c.args.pair.now c.requires.can.held c.args.block.now (changes_seen c.args.changes.now) (Some (content_seen c.in_ok-content.content)) c.requires.can.is_pair c.requires.block c.in_ok-content.ensures.content in
+    let fits : FitsRaw (g.D.BlockDevice.geometry c.args.dev.now).block_size (g.D.BlockDevice.geometry c.args.dev.now).page (content_seen c.in_ok-content.content) = search rules in
+    LeavesOnly-weaker (λ disk left. left_by_change (disk_of (g.D.BlockDevice.geometry c.args.dev.now) (g.D.BlockDevice.blocks c.args.dev.now)) (address_in c.args.pair.now) (changes_seen c.args.changes.now) (content_seen c.in_ok-content.content) disk made fits c.in_ok-content.ensures.logged left) c.in_ok-append.ensures.stops
+
+pub returns-then-branch-clause-done : goal.returns-then-branch-clause-done
+returns-then-branch-clause-done g c done =
+    let made = made_here _ _ c.args.pair.now c.requires.can.held c.args.block.now (changes_seen c.args.changes.now) (Some (content_seen c.in_ok-content.content)) c.requires.can.is_pair c.requires.block c.in_ok-content.ensures.content in
+    let fits : FitsRaw (g.D.BlockDevice.geometry c.args.dev.now).block_size (g.D.BlockDevice.geometry c.args.dev.now).page (content_seen c.in_ok-content.content) = search rules in
+    record {
+      new = content_seen c.in_ok-content.content;
+      made = made;
+      fits = fits;
+      logged = c.in_ok-content.ensures.logged;
+      holds = c.in_ok-append.ensures.done (ap Ok c.if-branch.true);
+      first = c.in_ok-append.ensures.first (ap Ok c.if-branch.true);
+      appended = λ appends. c.in_ok-append.ensures.appended (ap Ok c.if-branch.true);
+      compacted = λ full. absurd (full (c.in_ok-append.ensures.appends (ap Ok c.if-branch.true)));
+    }
+
+pub returns-clause-done : goal.returns-clause-done
+returns-clause-done g c done =
+    let made = made_here _ _ c.args.pair.now c.requires.can.held c.args.block.now (changes_seen c.args.changes.now) (Some (content_seen c.in_ok-content.content)) c.requires.can.is_pair c.requires.block c.in_ok-content.ensures.content in
+    let fits : FitsRaw (g.D.BlockDevice.geometry c.args.dev.now).block_size (g.D.BlockDevice.geometry c.args.dev.now).page (content_seen c.in_ok-content.content) = search rules in
+    let holds = subst (λ p. NowHolds (disk_of (g.D.BlockDevice.geometry c.compact.new.dev) (g.D.BlockDevice.blocks c.compact.new.dev)) (g.D.BlockDevice.history c.compact.new.dev) (address_in p) c.compact.new.pair (content_seen c.in_ok-content.content))
+    (c.in_ok-append.ensures.no_room_pair (ap Ok c.if-branch.false)) c.in_ok-compact.ensures.done in
+    let moved = subst (λ p. KeepsFirst (disk_of (g.D.BlockDevice.geometry c.append.new.dev) (g.D.BlockDevice.blocks c.append.new.dev)) (address_in p) (Some (content_seen c.in_ok-content.content)) (disk_of (g.D.BlockDevice.geometry c.compact.new.dev) (g.D.BlockDevice.blocks c.compact.new.dev)))
+    (c.in_ok-append.ensures.no_room_pair (ap Ok c.if-branch.false)) c.in_ok-compact.ensures.first in
+    let first = subst (λ d. KeepsFirst (disk_of (g.D.BlockDevice.geometry d) (g.D.BlockDevice.blocks d)) (address_in c.args.pair.now) (Some (content_seen c.in_ok-content.content)) (disk_of (g.D.BlockDevice.geometry c.compact.new.dev) (g.D.BlockDevice.blocks c.compact.new.dev)))
+    (c.in_ok-append.ensures.no_room_dev (ap Ok c.if-branch.false)) moved in
+    let anew = subst (λ p. IsCompacted (g.D.BlockDevice.geometry c.append.new.dev).page p (content_seen c.in_ok-content.content) (g.D.BlockDevice.blocks c.append.new.dev) (g.D.BlockDevice.blocks c.compact.new.dev)
+    (g.D.BlockDevice.history c.append.new.dev) (g.D.BlockDevice.history c.compact.new.dev) c.compact.new.pair) (c.in_ok-append.ensures.no_room_pair (ap Ok c.if-branch.false)) c.in_ok-compact.ensures.compacted in
+    let back = subst (λ d. IsCompacted (g.D.BlockDevice.geometry d).page c.args.pair.now (content_seen c.in_ok-content.content) (g.D.BlockDevice.blocks d) (g.D.BlockDevice.blocks c.compact.new.dev)
+    (g.D.BlockDevice.history d) (g.D.BlockDevice.history c.compact.new.dev) c.compact.new.pair) (c.in_ok-append.ensures.no_room_dev (ap Ok c.if-branch.false)) anew in
+    record {
+      new = content_seen c.in_ok-content.content;
+      made = made;
+      fits = fits;
+      logged = c.in_ok-content.ensures.logged;
+      holds = holds;
+      first = first;
+      appended = λ appends. absurd (c.in_ok-append.ensures.no_room (ap Ok c.if-branch.false) appends);
+      compacted = λ full. back;
+    }
+
+pub returns-clause-device : goal.returns-clause-device
+returns-clause-device g c =
+    let moved = subst (λ p. ChangesOnly g.D.BlockDevice (blocks_of (address_in p)) c.append.new.dev c.compact.new.dev) (c.in_ok-append.ensures.no_room_pair (ap Ok c.if-branch.false)) c.in_ok-compact.ensures.device in
+    subst (λ d. ChangesOnly g.D.BlockDevice (blocks_of (address_in c.args.pair.now)) d c.compact.new.dev) (c.in_ok-append.ensures.no_room_dev (ap Ok c.if-branch.false)) moved
+
+pub returns-in_err-compact-clause-device : goal.returns-in_err-compact-clause-device
+returns-in_err-compact-clause-device g c =
+    let moved = subst (λ p. ChangesOnly g.D.BlockDevice (blocks_of (address_in p)) c.append.new.dev c.compact.new.dev) (c.in_ok-append.ensures.no_room_pair (ap Ok c.if-branch.false)) c.in_err-compact.ensures.device in
+    subst (λ d. ChangesOnly g.D.BlockDevice (blocks_of (address_in c.args.pair.now)) d c.compact.new.dev) (c.in_ok-append.ensures.no_room_dev (ap Ok c.if-branch.false)) moved
+
+pub returns-then-not-fits-clause-full : goal.returns-then-not-fits-clause-full
+returns-then-not-fits-clause-full g c is =
+    let made = made_here _ _ c.args.pair.now c.requires.can.held c.args.block.now (changes_seen c.args.changes.now) (Some (content_seen c.in_ok-content.content)) c.requires.can.is_pair c.requires.block c.in_ok-content.ensures.content in
+    is_full made c.in_ok-content.ensures.logged (λ fits.
+    let is = c.fits.ensures.1 (subst (λ (k : Geometry). FitsRaw k.block_size k.page (content_seen c.in_ok-content.content)) (sym c.geometry-geometry.ensures) fits) in
+    absurd (cc (c.if-not-fits.true, is)))
+
+pub returns-in_err-append-clause-faults : goal.returns-in_err-append-clause-faults
+returns-in_err-append-clause-faults g c =
+    let p = err_from_is_err_and c.from_residual-in_err-append.result c.from_residual-in_err-append.ensures.1 in
+    tells_io p.1 p.2 c.in_err-append.ensures.errors (c.in_err-append.ensures.faults.fault (ap Err c.in_err-append.ensures.errors))
+
+pub returns-then-branch-clause-faults : goal.returns-then-branch-clause-faults
+returns-then-branch-clause-faults g c = tells_ok (c.in_ok-append.ensures.faults.no_fault (λ gives. absurd (cc)))
+
+pub returns-in_err-compact-clause-error : goal.returns-in_err-compact-clause-error
+returns-in_err-compact-clause-error g c =
+    let p = err_from_is_err_and c.from_residual-in_err-compact.result c.from_residual-in_err-compact.ensures.1 in
+    fails_io g.D.BlockDevice c.args.dev.now c.compact.new.dev p.1 p.2 c.in_err-compact.ensures.errors (c.in_err-compact.ensures.err_pair ∙ c.in_ok-append.ensures.no_room_pair (ap Ok c.if-branch.false))
+
+pub returns-in_err-compact-clause-faults : goal.returns-in_err-compact-clause-faults
+returns-in_err-compact-clause-faults g c =
+    let p = err_from_is_err_and c.from_residual-in_err-compact.result c.from_residual-in_err-compact.ensures.1 in
+    tells_io p.1 p.2 c.in_err-compact.ensures.errors
+    (subst (λ d. faults (g.D.BlockDevice.history d) < faults (g.D.BlockDevice.history c.compact.new.dev)) (c.in_ok-append.ensures.no_room_dev (ap Ok c.if-branch.false)) (c.in_err-compact.ensures.faults.fault (ap Err c.in_err-compact.ensures.errors)))
+
+pub returns-clause-faults : goal.returns-clause-faults
+returns-clause-faults g c =
+    tells_ok (subst (λ d. faults (g.D.BlockDevice.history c.compact.new.dev) ≡ faults (g.D.BlockDevice.history d)) (c.in_ok-append.ensures.no_room_dev (ap Ok c.if-branch.false)) (c.in_ok-compact.ensures.faults.no_fault (λ gives. absurd (cc))))

@@ -1,0 +1,105 @@
+use Rattle.std.proofs.Common.{◌+◌, ◌%◌, ◌^◌, Some, ap, sym, ◌∙◌, subst, arith}
+use Rattle.lfs_model.specs.Blocks.{block_in}
+use Rattle.lfs_model.specs.Content.{RawContent, has_commit}
+use Rattle.lfs_pair.specs.Writing.{Holds}
+use Rattle.lfs_device.specs.Shown.{disk_of}
+use Rattle.lfs_model.specs.Slots.{address_of}
+use Rattle.lfs_model.proofs.Histories.{goes_on_by, EachSince-behind, LeavesOnly-weaker, LeavesOnly-worst}
+use Rattle.lfs_tag.specs.ContentSeen.{content_seen}
+use Rattle.lfs_pair.specs.Pair.{address_in}
+use Rattle.lfs_pair.specs.ChangeSeen.{changes_seen}
+use Rattle.lfs_pair.specs.Commit.{IsActive, KeepsFirst, LeftWith, NowHolds}
+use Rattle.lfs_pair.proofs.Changed.{is_active}
+use Rattle.lfs_pair.proofs.Stay.{IsActive-stays, NowHolds-stays, active_elsewhere}
+use Rattle.lfs_pair.proofs.Calls.{only_trans, only_wider}
+use Rattle.lfs_pair.proofs.Parted.{among_first, among_second, clears_more, cut_inside, is_splitting, first_while_fresh, pair_elsewhere, fresh_elsewhere, left_while_fresh, left_while_old, raw_held}
+use Rattle.lfs_pair.proofs.splitting.split_in.Goals as goal
+
+pub write_fresh-requires-clause-logged : goal.write_fresh-requires-clause-logged
+write_fresh-requires-clause-logged g c =
+    let ready = is_splitting _ c.geometry-geometry.result _ _ c.args.pair.now (address_of c.args.fresh) c.args.block.now (changes_seen c.args.changes.now) (content_seen c.in_ok-front.front) (content_seen c.cut_off.new.content) (content_seen c.in_ok-back.back) c.geometry-geometry.ensures (g.met.D.BlockDevice.shape c.args.dev.now).count c.requires.can c.requires.block c.in_ok-front.ensures.content c.in_ok-front.ensures.logged c.in_ok-back.ensures.parts in
+    ready.back_ready.logged
+
+pub write_fresh-requires-clause-names : goal.write_fresh-requires-clause-names
+write_fresh-requires-clause-names g c =
+    let ready = is_splitting _ c.geometry-geometry.result _ _ c.args.pair.now (address_of c.args.fresh) c.args.block.now (changes_seen c.args.changes.now) (content_seen c.in_ok-front.front) (content_seen c.cut_off.new.content) (content_seen c.in_ok-back.back) c.geometry-geometry.ensures (g.met.D.BlockDevice.shape c.args.dev.now).count c.requires.can c.requires.block c.in_ok-front.ensures.content c.in_ok-front.ensures.logged c.in_ok-back.ensures.parts in
+    ready.back_ready.names
+
+pub compact-requires-clause-logged : goal.compact-requires-clause-logged
+compact-requires-clause-logged g c =
+    let ready = is_splitting _ c.geometry-geometry.result _ _ c.args.pair.now (address_of c.args.fresh) c.args.block.now (changes_seen c.args.changes.now) (content_seen c.in_ok-front.front) (content_seen c.cut_off.new.content) (content_seen c.in_ok-back.back) c.geometry-geometry.ensures (g.met.D.BlockDevice.shape c.args.dev.now).count c.requires.can c.requires.block c.in_ok-front.ensures.content c.in_ok-front.ensures.logged c.in_ok-back.ensures.parts in
+    ready.front_ready.logged
+
+pub compact-requires-clause-names : goal.compact-requires-clause-names
+compact-requires-clause-names g c =
+    let ready = is_splitting _ c.geometry-geometry.result _ _ c.args.pair.now (address_of c.args.fresh) c.args.block.now (changes_seen c.args.changes.now) (content_seen c.in_ok-front.front) (content_seen c.cut_off.new.content) (content_seen c.in_ok-back.back) c.geometry-geometry.ensures (g.met.D.BlockDevice.shape c.args.dev.now).count c.requires.can c.requires.block c.in_ok-front.ensures.content c.in_ok-front.ensures.logged c.in_ok-back.ensures.parts in
+    ready.front_ready.names
+
+pub returns-in_err-fresh_pair-clause-stops : goal.returns-in_err-fresh_pair-clause-stops
+returns-in_err-fresh_pair-clause-stops g c cleanly =
+    LeavesOnly-weaker (λ disk left. left_while_fresh _ _ _ (changes_seen c.args.changes.now) disk c.requires.can.apart left) (LeavesOnly-worst c.in_err-fresh_pair.ensures.device.at_worst)
+
+pub compact-requires-clause-active : goal.compact-requires-clause-active
+compact-requires-clause-active g c =
+    let fresh = c.in_ok-fresh_pair.ensures in
+    subst (λ k. IsActive (disk_of k (g.D.BlockDevice.blocks c.write_fresh.new.dev)) c.args.pair.now) (sym fresh.device.geometry)
+    (IsActive-stays (pair_elsewhere c.requires.can.apart) fresh.device.others (is_active _ _ c.args.pair.now _ c.requires.can.commit.is_pair))
+
+pub returns-in_err-compact-clause-stops : goal.returns-in_err-compact-clause-stops
+returns-in_err-compact-clause-stops g c cleanly =
+    let ready = is_splitting _ c.geometry-geometry.result _ _ c.args.pair.now (address_of c.args.fresh) c.args.block.now (changes_seen c.args.changes.now) (content_seen c.in_ok-front.front) (content_seen c.cut_off.new.content) (content_seen c.in_ok-back.back) c.geometry-geometry.ensures (g.met.D.BlockDevice.shape c.args.dev.now).count c.requires.can c.requires.block c.in_ok-front.ensures.content c.in_ok-front.ensures.logged c.in_ok-back.ensures.parts in
+    let fresh = c.in_ok-fresh_pair.ensures in
+    goes_on_by (LeavesOnly-weaker (λ disk left. left_while_fresh _ _ _ (changes_seen c.args.changes.now) disk ready.apart left) (LeavesOnly-worst fresh.device.at_worst))
+    (LeavesOnly-weaker (λ disk left. left_while_old _ _ _ (changes_seen c.args.changes.now) (g.D.BlockDevice.blocks c.write_fresh.new.dev) disk ready.apart fresh.device.others ready.made ready.logged ready.parts (raw_held fresh.holds)
+    (subst (λ k. LeftWith (disk_of k (g.D.BlockDevice.blocks c.write_fresh.new.dev)) (address_in c.args.pair.now) (content_seen c.cut_off.new.content) disk) fresh.device.geometry left))
+    (c.in_err-compact.ensures.stops (EachSince-behind cleanly fresh.device.at_worst c.in_err-compact.ensures.device.at_worst)))
+
+pub returns-clause-splits : goal.returns-clause-splits
+returns-clause-splits g c =
+    let ready = is_splitting _ c.geometry-geometry.result _ _ c.args.pair.now (address_of c.args.fresh) c.args.block.now (changes_seen c.args.changes.now) (content_seen c.in_ok-front.front) (content_seen c.cut_off.new.content) (content_seen c.in_ok-back.back) c.geometry-geometry.ensures (g.met.D.BlockDevice.shape c.args.dev.now).count c.requires.can c.requires.block c.in_ok-front.ensures.content c.in_ok-front.ensures.logged c.in_ok-back.ensures.parts in
+    let fresh = c.in_ok-fresh_pair.ensures in
+    record {
+      new = ready.whole;
+      made = ready.made;
+      logged = ready.logged;
+      cut = ready.parts.cut;
+      is_cut = ready.parts.is_cut;
+      front = subst (NowHolds _ _ (address_in c.args.pair.now) c.compact.new.pair) ready.parts.front_is c.in_ok-compact.ensures.done;
+      back = subst (NowHolds _ _ (address_of c.args.fresh) c.in_ok-fresh_pair.fresh_pair) ready.parts.back_is
+          (subst (λ k. NowHolds (disk_of k (g.D.BlockDevice.blocks c.compact.new.dev)) (g.D.BlockDevice.history c.compact.new.dev) (address_of c.args.fresh) c.in_ok-fresh_pair.fresh_pair (content_seen c.in_ok-back.back)) (sym c.in_ok-compact.ensures.device.geometry)
+          (NowHolds-stays {disk = disk_of (g.D.BlockDevice.geometry c.write_fresh.new.dev) (g.D.BlockDevice.blocks c.write_fresh.new.dev)} (fresh_elsewhere ready.apart) c.in_ok-compact.ensures.device.others c.in_ok-compact.ensures.device.elsewhere fresh.holds));
+      first = subst (λ k. KeepsFirst (disk_of (g.D.BlockDevice.geometry c.args.dev.now) (g.D.BlockDevice.blocks c.args.dev.now)) (address_in c.args.pair.now) (Some k) (disk_of (g.D.BlockDevice.geometry c.compact.new.dev) (g.D.BlockDevice.blocks c.compact.new.dev))) ready.parts.front_is
+          (λ e h anew. c.in_ok-compact.ensures.first e (first_while_fresh (disk_of (g.D.BlockDevice.geometry c.args.dev.now) (g.D.BlockDevice.blocks c.args.dev.now)) (address_in c.args.pair.now) (address_of c.args.fresh) (g.D.BlockDevice.blocks c.write_fresh.new.dev) ready.apart fresh.device.others e h) anew);
+      moved = c.in_ok-compact.ensures.compacted.active;
+      kept = c.in_ok-compact.ensures.compacted.kept ∙ fresh.device.others.others c.args.pair.now.active (active_elsewhere (disk_of (g.D.BlockDevice.geometry c.args.dev.now) (g.D.BlockDevice.blocks c.args.dev.now)) c.args.pair.now.active (pair_elsewhere ready.apart) c.requires.can.commit.is_pair.active);
+      front_anew = subst (λ (k : RawContent). Holds ((c.args.pair.now.revision + 1) % 2 ^ 32) k (block_in (g.D.BlockDevice.blocks c.compact.new.dev) c.compact.new.pair.active)) ready.parts.front_is c.in_ok-compact.ensures.compacted.anew;
+      fresh_active = fresh.active;
+      back_anew = subst (λ (k : RawContent). Holds 1 k (block_in (g.D.BlockDevice.blocks c.compact.new.dev) (address_of c.args.fresh).0)) ready.parts.back_is
+          (subst (Holds 1 (content_seen c.in_ok-back.back)) (sym (c.in_ok-compact.ensures.device.others.others (address_of c.args.fresh).0 (fresh_elsewhere ready.apart).first)) fresh.anew);
+      inside = cut_inside ready.parts.is_cut;
+      erases = let first = fresh.erases in let second = c.in_ok-compact.ensures.compacted.erases in omega (arith, first, second);
+      clears = clears_more (LeavesOnly-worst fresh.device.at_worst) (LeavesOnly-worst c.in_ok-compact.ensures.device.at_worst) fresh.clears c.in_ok-compact.ensures.compacted.programs;
+      cleared = ap has_commit (c.in_ok-compact.ensures.device.others.others (address_of c.args.fresh).1 (fresh_elsewhere ready.apart).second) ∙ fresh.cleared;
+    }
+
+pub returns-clause-stops : goal.returns-clause-stops
+returns-clause-stops g c cleanly =
+    let ready = is_splitting _ c.geometry-geometry.result _ _ c.args.pair.now (address_of c.args.fresh) c.args.block.now (changes_seen c.args.changes.now) (content_seen c.in_ok-front.front) (content_seen c.cut_off.new.content) (content_seen c.in_ok-back.back) c.geometry-geometry.ensures (g.met.D.BlockDevice.shape c.args.dev.now).count c.requires.can c.requires.block c.in_ok-front.ensures.content c.in_ok-front.ensures.logged c.in_ok-back.ensures.parts in
+    let fresh = c.in_ok-fresh_pair.ensures in
+    goes_on_by (LeavesOnly-weaker (λ disk left. left_while_fresh _ _ _ (changes_seen c.args.changes.now) disk ready.apart left) (LeavesOnly-worst fresh.device.at_worst))
+    (LeavesOnly-weaker (λ disk left. left_while_old _ _ _ (changes_seen c.args.changes.now) (g.D.BlockDevice.blocks c.write_fresh.new.dev) disk ready.apart fresh.device.others ready.made ready.logged ready.parts (raw_held fresh.holds)
+    (subst (λ k. LeftWith (disk_of k (g.D.BlockDevice.blocks c.write_fresh.new.dev)) (address_in c.args.pair.now) (content_seen c.cut_off.new.content) disk) fresh.device.geometry left))
+    (c.in_ok-compact.ensures.stops (EachSince-behind cleanly fresh.device.at_worst c.in_ok-compact.ensures.device.at_worst)))
+
+pub returns-in_err-fresh_pair-clause-device : goal.returns-in_err-fresh_pair-clause-device
+returns-in_err-fresh_pair-clause-device g c = only_wider _ (among_second (address_in c.args.pair.now) (address_of c.args.fresh)) c.in_err-fresh_pair.ensures.device
+
+pub returns-in_err-compact-clause-device : goal.returns-in_err-compact-clause-device
+returns-in_err-compact-clause-device g c =
+    only_trans (only_wider _ (among_second (address_in c.args.pair.now) (address_of c.args.fresh)) c.in_ok-fresh_pair.ensures.device)
+    (only_wider _ (among_first (address_in c.args.pair.now) (address_of c.args.fresh)) c.in_err-compact.ensures.device)
+
+pub returns-clause-device : goal.returns-clause-device
+returns-clause-device g c =
+    only_trans (only_wider _ (among_second (address_in c.args.pair.now) (address_of c.args.fresh)) c.in_ok-fresh_pair.ensures.device)
+    (only_wider _ (among_first (address_in c.args.pair.now) (address_of c.args.fresh)) c.in_ok-compact.ensures.device)

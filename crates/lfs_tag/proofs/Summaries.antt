@@ -1,0 +1,154 @@
+-- What is kept of a log without its slots is kept of its content.
+use Rattle.std.proofs.Common.{◌≡◌, ℕ, zero, suc, ◌+◌, ◌-◌, Bool, true, false, ◌&&◌, not, cond, eqb, leb, ltb, is_some, List, [], ◌∷◌, ◌++◌, length, map, replicate, insert, remove, Option, Some, None, refl, sym, ap, ap₂, ◌∙◌}
+use Rattle.std.specs.Option.{option_map, option_and_then}
+use Rattle.std.specs.List.{list_all}
+use Rattle.std.proofs.lemmas.List.{map-append, length-map}
+use Rattle.std.proofs.lemmas.Option.{same_Some}
+use Rattle.lfs_model.specs.Tag.{kind_of, id_of, class_of}
+use Rattle.lfs_model.specs.Log.{LogEntry, log_entries}
+use Rattle.lfs_model.specs.Slots.{Slot, Content}
+use Rattle.lfs_model.specs.Content.{RawSlot, RawContent, empty_slot, slot_of_id, changed, up_to, typed, with_attribute, is_in_table, has_its_id, create_type, delete_type, slots_after, content_after, content_after_all, no_content, tail_of, gstate_at, kind_named, struct_typed, complete_all, completed}
+use Rattle.lfs_tag.specs.declared.summary.Mark.{Mark}
+use Rattle.lfs_tag.specs.Summary.{mark_of, mark_of_id, marked, marks_up_to, no_mark, is_whole, marks_after, Outline, outline_of, outline_after, outline_after_all, no_outline}
+use Rattle.lfs_tag.proofs.Places.{map-insert, map-remove}
+
+marks_of : List RawSlot → List Mark
+marks_of slots = map mark_of slots
+
+-- ---- one slot
+
+mark_at : (slots : List RawSlot) (i : ℕ) → mark_of_id (map mark_of slots) i ≡ mark_of (slot_of_id slots i)
+mark_at [] i = refl
+mark_at (s ∷ slots) zero = refl
+mark_at (s ∷ slots) (suc i) = mark_at slots i
+
+change_marks : (f : RawSlot → RawSlot) (g : Mark → Mark) → ((s : RawSlot) → mark_of (f s) ≡ g (mark_of s)) → (slots : List RawSlot) (i : ℕ) → map mark_of (changed f slots i) ≡ marked g (map mark_of slots) i
+change_marks f g same [] i = refl
+change_marks f g same (s ∷ slots) zero = ap (λ m. m ∷ map mark_of slots) (same s)
+change_marks f g same (s ∷ slots) (suc i) = ap (λ ms. mark_of s ∷ ms) (change_marks f g same slots i)
+
+marked_as_it_is : (marks : List Mark) (i : ℕ) → marked (λ m. m) marks i ≡ marks
+marked_as_it_is [] i = refl
+marked_as_it_is (m ∷ marks) zero = refl
+marked_as_it_is (m ∷ marks) (suc i) = ap (λ ms. m ∷ ms) (marked_as_it_is marks i)
+
+empty_marks : (n : ℕ) → map mark_of (replicate n empty_slot) ≡ replicate n no_mark
+empty_marks zero = refl
+empty_marks (suc n) = ap (λ ms. no_mark ∷ ms) (empty_marks n)
+
+up_to_marks : (slots : List RawSlot) (i : ℕ) → map mark_of (up_to slots i) ≡ marks_up_to (map mark_of slots) i
+up_to_marks slots i =
+    map-append mark_of slots (replicate (i + 1 - length slots) empty_slot)
+    ∙ ap (λ ms. map mark_of slots ++ ms) (empty_marks (i + 1 - length slots) ∙ ap (λ n. replicate (i + 1 - n) no_mark) (sym (length-map slots mark_of)))
+
+-- ---- one entry
+
+either : {A B : Type 0} (f : A → B) (a create within delete there named struct : Bool) (x y z u v : A) (x2 y2 z2 u2 v2 : B) → f x ≡ x2 → f y ≡ y2 → f z ≡ z2 → f u ≡ u2 → f v ≡ v2
+    → option_map f (cond a (Some x) (cond create (cond within (Some y) None) (cond delete (cond there (Some z) None) (cond (not named) None (cond struct (Some u) (Some v))))))
+    ≡ cond a (Some x2) (cond create (cond within (Some y2) None) (cond delete (cond there (Some z2) None) (cond (not named) None (cond struct (Some u2) (Some v2)))))
+either f true create within delete there named struct x y z u v x2 y2 z2 u2 v2 a b c d e = ap Some a
+either f false true true delete there named struct x y z u v x2 y2 z2 u2 v2 a b c d e = ap Some b
+either f false true false delete there named struct x y z u v x2 y2 z2 u2 v2 a b c d e = refl
+either f false false within true true named struct x y z u v x2 y2 z2 u2 v2 a b c d e = ap Some c
+either f false false within true false named struct x y z u v x2 y2 z2 u2 v2 a b c d e = refl
+either f false false within false there true true x y z u v x2 y2 z2 u2 v2 a b c d e = ap Some d
+either f false false within false there true false x y z u v x2 y2 z2 u2 v2 a b c d e = ap Some e
+either f false false within false there false struct x y z u v x2 y2 z2 u2 v2 a b c d e = refl
+
+slots_marked : (slots : List RawSlot) (e : LogEntry) → option_map (map mark_of) (slots_after slots e) ≡ marks_after (map mark_of slots) e
+slots_marked slots e =
+    either (map mark_of) (eqb (class_of e.tag) 0) (eqb (kind_of e.tag) create_type) (leb i (length slots)) (eqb (kind_of e.tag) delete_type) (ltb i (length slots)) (is_some (slot_of_id slots i).name) (eqb (class_of e.tag) 2)
+    (changed (λ s. record s { name = typed e }) (up_to slots i) i) (insert slots i empty_slot) (remove slots i) (changed (λ s. record s { struct = typed e }) slots i) (changed (λ s. record s { attributes = with_attribute e s.attributes }) slots i)
+    named (insert marks i no_mark) (remove marks i) structured marks
+    (change_marks (λ s. record s { name = typed e }) (λ m. record m { has_name = true }) (λ s. refl) (up_to slots i) i ∙ ap (λ ms. marked (λ m. record m { has_name = true }) ms i) (up_to_marks slots i))
+    (map-insert mark_of slots i empty_slot)
+    (map-remove mark_of slots i)
+    (change_marks (λ s. record s { struct = typed e }) (λ m. record m { has_struct = true }) (λ s. refl) slots i)
+    (change_marks (λ s. record s { attributes = with_attribute e s.attributes }) (λ m. m) (λ s. refl) slots i ∙ marked_as_it_is marks i)
+    ∙ ap₂ tested (sym (length-map slots mark_of)) (sym (ap (λ m. m.has_name) (mark_at slots i)))
+  where
+    i : ℕ
+    i = id_of e.tag
+
+    marks : List Mark
+    marks = map mark_of slots
+
+    named : List Mark
+    named = marked (λ m. record m { has_name = true }) (marks_up_to marks i) i
+
+    structured : List Mark
+    structured = marked (λ m. record m { has_struct = true }) marks i
+
+    tested : ℕ → Bool → Option (List Mark)
+    tested count is_named =
+        cond (eqb (class_of e.tag) 0) (Some named)
+        (cond (eqb (kind_of e.tag) create_type) (cond (leb i count) (Some (insert marks i no_mark)) None)
+        (cond (eqb (kind_of e.tag) delete_type) (cond (ltb i count) (Some (remove marks i)) None)
+        (cond (not is_named) None
+        (cond (eqb (class_of e.tag) 2) (Some structured) (Some marks)))))
+
+-- ---- all entries
+
+entry_outlined : (c : RawContent) (e : LogEntry) → option_map outline_of (content_after c e) ≡ outline_after (outline_of c) e
+entry_outlined c e = go (eqb (class_of e.tag) 5) (is_in_table e.tag && has_its_id e.tag) (eqb (class_of e.tag) 6) (eqb (class_of e.tag) 7) (slots_after c.slots e) (slots_marked c.slots e)
+  where
+    slots : (o : Option (List RawSlot)) → option_map outline_of (option_map (λ slots. record c { slots = slots }) o) ≡ option_map (λ marks. record (outline_of c) { marks = marks }) (option_map (map mark_of) o)
+    slots None = refl
+    slots (Some s) = refl
+
+    go : (checksum fits tail move : Bool) (o : Option (List RawSlot)) → option_map (map mark_of) o ≡ marks_after (map mark_of c.slots) e
+        → option_map outline_of (cond checksum (Some c) (cond (not fits) None (cond tail (Some (record c { tail = tail_of e })) (cond move (Some (record c { move = gstate_at e.bytes })) (option_map (λ slots. record c { slots = slots }) o)))))
+        ≡ cond checksum (Some (outline_of c)) (cond (not fits) None (cond tail (Some (record (outline_of c) { tail = tail_of e })) (cond move (Some (record (outline_of c) { move = gstate_at e.bytes })) (option_map (λ marks. record (outline_of c) { marks = marks }) (marks_after (map mark_of c.slots) e)))))
+    go true fits tail move o same = refl
+    go false false tail move o same = refl
+    go false true true move o same = refl
+    go false true false true o same = refl
+    go false true false false o same = slots o ∙ ap (option_map (λ marks. record (outline_of c) { marks = marks })) same
+
+pub outlined : (c : RawContent) (es : List LogEntry) → option_map outline_of (content_after_all c es) ≡ outline_after_all (outline_of c) es
+outlined c [] = refl
+outlined c (e ∷ es) = go (content_after c e) (λ d. outlined d es) ∙ ap (option_and_then (λ p. outline_after_all p es)) (entry_outlined c e)
+  where
+    go : (o : Option RawContent) → ((d : RawContent) → option_map outline_of (content_after_all d es) ≡ outline_after_all (outline_of d) es)
+        → option_map outline_of (option_and_then (λ d. content_after_all d es) o) ≡ option_and_then (λ p. outline_after_all p es) (option_map outline_of o)
+    go None rest = refl
+    go (Some d) rest = rest d
+
+-- ---- complete slots
+
+whole_slots : (slots : List RawSlot) → list_all is_whole (map mark_of slots) ≡ is_some (complete_all slots)
+whole_slots [] = refl
+whole_slots (s ∷ slots) = by_parts (λ name struct. record { kind = kind_named name.0; name = name.1; struct = struct_typed struct.0 struct.1; attributes = s.attributes }) s.name s.struct (complete_all slots) (whole_slots slots)
+  where
+    by_parts : (make : ℕ × List ℕ → ℕ × List ℕ → Slot) (name struct : Option (ℕ × List ℕ)) (others : Option (List Slot)) → list_all is_whole (map mark_of slots) ≡ is_some others
+        → ((is_some name && is_some struct) && list_all is_whole (map mark_of slots)) ≡ is_some (option_and_then (λ t. option_map (λ ts. t ∷ ts) others) (option_and_then (λ n. option_map (λ p. make n p) struct) name))
+    by_parts make None struct others same = refl
+    by_parts make (Some n) None others same = refl
+    by_parts make (Some n) (Some p) None same = same
+    by_parts make (Some n) (Some p) (Some ts) same = same
+
+pub whole_content : (c : RawContent) → list_all is_whole (map mark_of c.slots) ≡ is_some (completed c)
+whole_content c = whole_slots c.slots ∙ go (complete_all c.slots)
+  where
+    the_content : List Slot → Content
+    the_content slots = record { slots = slots; tail = c.tail; move = c.move }
+
+    go : (o : Option (List Slot)) → is_some o ≡ is_some (option_map (λ slots. the_content slots) o)
+    go None = refl
+    go (Some slots) = refl
+
+-- ---- the log
+
+pub of_content : (block : List ℕ) (o : Outline) → outline_after_all no_outline (log_entries block) ≡ Some o → (c : RawContent) × (content_after_all no_content (log_entries block) ≡ Some c) × (outline_of c ≡ o)
+of_content block o h = go (content_after_all no_content (log_entries block)) refl (outlined no_content (log_entries block) ∙ h)
+  where
+    go : (d : Option RawContent) → content_after_all no_content (log_entries block) ≡ d → option_map outline_of (content_after_all no_content (log_entries block)) ≡ Some o → (c : RawContent) × (content_after_all no_content (log_entries block) ≡ Some c) × (outline_of c ≡ o)
+    go None is same = absurd (let z : None ≡ Some o = sym (ap (option_map outline_of) is) ∙ same in cc)
+    go (Some c) is same = (c, is, same_Some (outline_of c) o (sym (ap (option_map outline_of) is) ∙ same))
+
+pub no_content_where_none : (block : List ℕ) → outline_after_all no_outline (log_entries block) ≡ None → content_after_all no_content (log_entries block) ≡ None
+no_content_where_none block h = go (content_after_all no_content (log_entries block)) (outlined no_content (log_entries block) ∙ h)
+  where
+    go : (d : Option RawContent) → option_map outline_of d ≡ None → d ≡ None
+    go None same = refl
+    go (Some c) same = absurd (cc)

@@ -1,0 +1,33 @@
+// Names of files and directories.
+
+ghost use Rattle.std.specs.Prelude.{◌≡◌, ◌==◌, ◌||◌, not};
+ghost use Rattle.std.specs.List.{list_all};
+ghost use Rattle.lfs_model.specs.Names.{is_component, is_name, same_name, slash};
+
+/// Whether a path may have such a component, of any length: it isn't empty, has neither a byte 0
+/// nor a slash, and is neither `.` nor `..`.
+pub fn is_component(name: &[u8]) -> bool
+    ensures { result ≡ is_component name.now }
+{
+    !name.is_empty() && are_plain(name) && !is_same(name, b".") && !is_same(name, b"..")
+}
+
+/// Whether a directory may have such a name: a component of at most 255 bytes.
+pub fn is_name(name: &[u8]) -> bool
+    ensures { result ≡ is_name name.now }
+{
+    is_component(name) && name.len() <= 255
+}
+
+fn is_same(name: &[u8], other: &[u8]) -> bool
+    ensures { result ≡ same_name name.now other.now }
+{
+    name == other
+}
+
+// Whether neither 0 nor '/' is among the bytes.
+fn are_plain(name: &[u8]) -> bool
+    ensures { result ≡ list_all (λ b. not (b == 0 || b == slash)) name.now }
+{
+    name.iter().all(|byte| !(*byte == 0 || *byte == b'/'))
+}

@@ -1,0 +1,13 @@
+// The order of revisions.
+
+ghost use Rattle.std.specs.Prelude.{◌≡◌};
+ghost use Rattle.lfs_model.specs.Content.{is_later};
+
+/// Whether the revision `b` is later than `a`, by the sign of their difference: revisions go on
+/// from 0 behind the greatest (SPEC.md of littlefs, "Metadata pairs").
+pub fn is_later(a: u32, b: u32) -> bool
+    ensures { result ≡ is_later a b }
+{
+    let ahead = b.wrapping_sub(a);
+    0 < ahead && ahead < 0x8000_0000
+}

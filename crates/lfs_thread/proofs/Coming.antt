@@ -1,0 +1,96 @@
+-- Blocks that come into the thread.
+use Rattle.std.proofs.Common.{ℕ, ◌≡◌, ◌≢◌, ◌+◌, ◌<◌, ◌≤◌, Bool, true, false, cond, nat_eq, List, [], ◌∷◌, length, Some, refl, sym, ap, subst, ◌∙◌, arith, set, slice_get, eqb-true}
+use Rattle.std.proofs.lemmas.Bool.{ne_eqb}
+use Rattle.std.proofs.lemmas.Option.{slice_get_within}
+use Rattle.std.proofs.lemmas.List.{length-set}
+use Rattle.lfs_model.specs.BlockSets.{BlockSets, Free, InFlight, Used, IsFree, IsInFlight, IsUsed}
+use Rattle.lfs_model.specs.Disk.{Disk, block_count}
+use Rattle.lfs_model.specs.History.{Event}
+use Rattle.lfs_model.proofs.BlockSets.{slice_get-set_same, slice_get-set_other}
+use Rattle.lfs_model.proofs.Counts.{count, count_here}
+use Rattle.lfs_pair.specs.Commit.{IsAddressOn}
+use Rattle.lfs_thread.specs.Kept.{Header, AllUsed, IsKept}
+use Rattle.lfs_thread.specs.Steps.{AreHeld, settled}
+
+-- ---- blocks that aren't used stand in no pair
+
+pub count_other : (x b : ℕ) (bs : List ℕ) → x ≢ b → count x (b ∷ bs) ≡ count x bs
+count_other x b bs apart = let e : 0 + count x bs ≡ count x bs = omega arith in ap (λ t. cond t 1 0 + count x bs) (ne_eqb x b apart) ∙ e
+
+pub unused_counts : (sets : BlockSets) (x : ℕ) (bs : List ℕ) → ¬ IsUsed sets x → AllUsed sets bs → count x bs ≡ 0
+unused_counts sets x [] unused used = refl
+unused_counts sets x (b ∷ bs) unused used = count_other x b bs (λ e. unused (subst (IsUsed sets) (sym e) used.0)) ∙ unused_counts sets x bs unused used.1
+
+pub used_at : (sets : BlockSets) (b : ℕ) (bs : List ℕ) → AllUsed sets bs → 1 ≤ count b bs → IsUsed sets b
+used_at sets b [] used k = absurd (omega (arith, k))
+used_at sets b (x ∷ bs) used k = go (nat_eq b x) refl k (used_at sets b bs used.1)
+  where
+    go : (t : Bool) → nat_eq b x ≡ t → 1 ≤ cond t 1 0 + count b bs → (1 ≤ count b bs → IsUsed sets b) → IsUsed sets b
+    go true e k next = subst (IsUsed sets) (sym (eqb-true b x e)) used.0
+    go false e k next = next (omega (arith, k))
+
+pub two_unused : (sets : BlockSets) (f g : ℕ) (bs : List ℕ) → ¬ IsUsed sets f → ¬ IsUsed sets g → f ≢ g → AllUsed sets bs → ((b : ℕ) → count b bs ≤ 1) → (b : ℕ) → count b (f ∷ g ∷ []) + count b bs ≤ 1
+two_unused sets f g bs ff fg apart used once b = go (nat_eq b f) refl
+  where
+    second : (t : Bool) → nat_eq b g ≡ t → count b (g ∷ []) + count b bs ≤ 1
+    second true e =
+        let same = eqb-true b g e in
+        let none = ap (λ x. count x bs) same ∙ unused_counts sets g bs fg used in
+        let one = ap (λ x. count x (g ∷ [])) same ∙ count_here g [] in
+        omega arith
+    second false e = let o = once b in let z = ap (λ t. cond t 1 0 + count b []) e in omega arith
+
+    go : (t : Bool) → nat_eq b f ≡ t → count b (f ∷ g ∷ []) + count b bs ≤ 1
+    go true e =
+        let same = eqb-true b f e in
+        let none = ap (λ x. count x bs) same ∙ unused_counts sets f bs ff used in
+        let one = ap (λ x. count x (f ∷ g ∷ [])) same ∙ count_here f (g ∷ []) in
+        let other = count_other f g [] apart in
+        omega arith
+    go false e = let s = second (nat_eq b g) refl in let z = ap (λ t. cond t 1 0 + count b (g ∷ [])) e in omega arith
+
+pub in_flight_unused : (sets : BlockSets) (b : ℕ) → IsInFlight sets b → ¬ IsUsed sets b
+in_flight_unused sets b f u = absurd (let e : Some InFlight ≡ Some Used = sym f ∙ u in cc)
+
+pub free_unused : (sets : BlockSets) (b : ℕ) → IsFree sets b → ¬ IsUsed sets b
+free_unused sets b f u = absurd (let e : Some Free ≡ Some Used = sym f ∙ u in cc)
+
+-- two blocks that no pair has, which are in use now
+pub record SettlesTwo (old : BlockSets) (fresh : ℕ × ℕ) (new : BlockSets) : Type 0 where
+  pub first_unused : ¬ IsUsed old fresh.0
+  pub second_unused : ¬ IsUsed old fresh.1
+  pub apart : fresh.0 ≢ fresh.1
+  pub first : IsUsed new fresh.0
+  pub second : IsUsed new fresh.1
+  pub others : (b : ℕ) → b ≢ fresh.0 → b ≢ fresh.1 → slice_get new b ≡ slice_get old b
+  pub size : length new ≡ length old
+
+pub settles_two : (sets : BlockSets) (fresh : ℕ × ℕ) → AreHeld sets fresh → SettlesTwo sets fresh (settled sets fresh)
+settles_two sets fresh t = record {
+  first_unused = in_flight_unused sets fresh.0 t.first;
+  second_unused = in_flight_unused sets fresh.1 t.second;
+  apart = t.apart;
+  first = slice_get-set_other (set sets fresh.0 Used) fresh.1 fresh.0 Used t.apart ∙ slice_get-set_same sets fresh.0 Used (slice_get_within sets fresh.0 InFlight t.first);
+  second = slice_get-set_same (set sets fresh.0 Used) fresh.1 Used (let l = slice_get_within sets fresh.1 InFlight t.second in let e = length-set sets fresh.0 Used in omega arith);
+  others = λ b f g. slice_get-set_other (set sets fresh.0 Used) fresh.1 b Used g ∙ slice_get-set_other sets fresh.0 b Used f;
+  size = length-set (set sets fresh.0 Used) fresh.1 Used ∙ length-set sets fresh.0 Used;
+}
+
+-- the second is still in flight, where the first is settled
+pub second_held : (sets : BlockSets) (fresh : ℕ × ℕ) → AreHeld sets fresh → IsInFlight (set sets fresh.0 Used) fresh.1
+second_held sets fresh t = slice_get-set_other sets fresh.0 fresh.1 Used (λ e. t.apart (sym e)) ∙ t.second
+
+pub used_still : (sets now : BlockSets) (fresh : ℕ × ℕ) (bs : List ℕ) → SettlesTwo sets fresh now → AllUsed sets bs → AllUsed now bs
+used_still sets now fresh [] uses used = tt
+used_still sets now fresh (b ∷ bs) uses used = (
+  uses.others b (λ e. uses.first_unused (subst (IsUsed sets) e used.0)) (λ e. uses.second_unused (subst (IsUsed sets) e used.0)) ∙ used.0,
+  used_still sets now fresh bs uses used.1,
+)
+
+-- two blocks in flight are an address of the disk
+pub held_address : (disk : Disk) (history : List Event) (hs : List Header) (sets : BlockSets) (fresh : ℕ × ℕ) → IsKept disk history hs sets → AreHeld sets fresh → IsAddressOn disk fresh
+held_address disk history hs sets fresh kept held = record {
+  apart = held.apart;
+  first = let l = slice_get_within sets fresh.0 InFlight held.first in let s = kept.size in omega arith;
+  second = let l = slice_get_within sets fresh.1 InFlight held.second in let s = kept.size in omega arith;
+}

@@ -1,0 +1,12 @@
+pub mod AtHand
+pub mod Keeping
+pub mod First
+pub mod Changing
+pub mod Coming
+pub mod Parting
+pub mod Begun
+pub mod Dropped
+pub mod Joined
+pub mod Threaded
+pub mod Failed
+pub mod Told

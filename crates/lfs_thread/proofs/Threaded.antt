@@ -1,0 +1,256 @@
+-- A fresh pair beside the thread, and then in it.
+use Rattle.std.proofs.Common.{ℕ, zero, suc, ◌≡◌, ◌≢◌, ◌⊎◌, inl, inr, get_or, ◌+◌, ◌<◌, ◌≤◌, ◌==◌, ◌&&◌, Bool, true, false, cond, nat_eq, List, [], ◌∷◌, ◌++◌, length, Option, Some, None, refl, sym, ap, ap₂, subst, ◌∙◌, arith, map, set, insert, remove, slice_get, eqb-true}
+use Rattle.std.proofs.lemmas.Bool.{ne_eqb}
+use Rattle.std.proofs.lemmas.Option.{same_Some, slice_get_within}
+use Rattle.std.proofs.lemmas.List.{map-append, length-map}
+use Rattle.std.proofs.lemmas.List.Concat.{flat_map-append}
+use Rattle.std.proofs.Math.Seq.{set-append_seam}
+use Rattle.lfs_model.specs.Blocks.{Blocks}
+use Rattle.std.specs.List.{IsDistinct}
+use Rattle.std.specs.Option.{option_and_then, option_map}
+use Rattle.lfs_tag.specs.ContentSeen.{tail_seen}
+use Rattle.lfs_model.proofs.Completed.{completed_parts, fits_pair}
+use Rattle.lfs_model.specs.View.{BeginsWith, superblock_entry}
+use Rattle.lfs_model.specs.BlockSets.{BlockSets, InFlight, Used, IsInFlight, IsUsed}
+use Rattle.lfs_model.specs.Disk.{Disk, block_count}
+use Rattle.lfs_device.specs.declared.geometry.Geometry.{Geometry}
+use Rattle.lfs_device.specs.Shown.{disk_of}
+use Rattle.lfs_model.specs.History.{AtWorst, Event, LeavesOnly, OnlyReads}
+use Rattle.lfs_model.specs.Stops.{Stops}
+use Rattle.lfs_model.proofs.Histories.{EachSince-behind, LeavesOnly-weaker, LeavesOnly-worst, goes_on_by}
+use Rattle.lfs_model.specs.Slots.{Content, Tail, no_gstate, null_address}
+use Rattle.lfs_model.specs.Logged.{IsAddress, IsTailIfSome, is_null}
+use Rattle.lfs_model.specs.Changes.{Change, PutTail, changed_by}
+use Rattle.lfs_model.proofs.Effects.{does_first, does_nothing, ends_tail, puts_tail}
+use Rattle.lfs_model.specs.Content.{RawContent, holder_at, no_content, tail_with, raw_at, content_at, completed}
+use Rattle.lfs_model.specs.Thread.{Pair, anchor, Links, next_of, blocks_of}
+use Rattle.lfs_model.proofs.Counts.{count, count_here, once_from_distinct}
+use Rattle.lfs_pair.specs.Pair.{address_in}
+use Rattle.lfs_pair.specs.Commit.{CanCommit, Commits, IsMade, IsStill, LeftByChange, made_at, made_of, IsAddressOn, OutsideKeeps, OutsideStays}
+use Rattle.lfs_pair.specs.Fresh.{CanBeFresh, IsFresh}
+use Rattle.lfs_pair.specs.Split.{AreApart, OutsideBothKeeps}
+use Rattle.lfs_pair.proofs.Parted.{first_while_fresh, fresh_elsewhere, keeps_by_both, keeps_by_fresh, pair_elsewhere}
+use Rattle.lfs_pair.proofs.Stay.{AreElsewhere, raw_at-stays}
+use Rattle.lfs_thread.proofs.First.{superblock_anew}
+use Rattle.lfs_thread.specs.Kept.{Kept, Header, seen, pair_on, pairs_on, IsHeader, AreHeaders, AllUsed, IsKept}
+use Rattle.lfs_thread.specs.Device.{StopsLeave}
+use Rattle.lfs_thread.specs.Steps.{pair_in, no_pair, IsBeside, made_in_thread, CanJoin, HasSuperblockFirst, IsAsBefore, IsJoined, IsJoinedOn, IsLeftByJoin, StaysFirst, joined_pair, put_tail, settled, with_two}
+use Rattle.lfs_thread.proofs.Keeping.{kept_thread, AllElsewhere, elsewhere_from, headers_right, headers-stay, pairs-stay, header-stays, header_content, pair_on_content, pair_on-stays, used_left, used_right, IsReplaced, pairs_are, kept_replaced}
+use Rattle.lfs_thread.proofs.Changing.{IsAt, Completes, can_commit, kept_read, header_at_index, pair_at_index, made_of_header}
+use Rattle.lfs_thread.proofs.Coming.{count_other, used_at, two_unused, used_still, SettlesTwo, settles_two, held_address}
+use Rattle.lfs_thread.proofs.Dropped.{remove_behind}
+use Rattle.lfs_thread.proofs.Parting.{insert_behind}
+use Rattle.lfs_thread.proofs.Joined.{beside_pairs, beside_kept, beside_made, joined_kept, joined_pairs, tail_named, header_tail, IsFreshHeader, fresh_header}
+
+-- ---- beside the thread, and then in it
+
+module _ (disk : Disk) (history : List Event) (hs : List Header) (sets : BlockSets) (index : ℕ) (h : Header) (fresh : ℕ × ℕ) (changes : List Change)
+    (a : IsAt hs index h) (kept : IsKept disk history hs sets) (can : CanJoin (seen disk history hs sets) index fresh changes)
+    (mid : Blocks) (then : List Event) (others : OutsideKeeps fresh disk.blocks mid) (stay : OutsideStays fresh history then) where
+  abbrev old : Kept
+  old = seen disk history hs sets
+
+  abbrev beside : Disk
+  beside = record disk { blocks = mid }
+
+  uses : SettlesTwo sets fresh (settled sets fresh)
+  uses = settles_two sets fresh can.held
+
+  pub still_kept : IsKept beside then hs sets
+  still_kept = beside_kept disk history mid then hs sets fresh kept uses.first_unused uses.second_unused others stay
+
+  pub still_pairs : pairs_on beside hs ≡ pairs_on disk hs
+  still_pairs = beside_pairs disk history mid then hs sets fresh kept uses.first_unused uses.second_unused others stay
+
+  still_made : made_in_thread (seen beside then hs sets) index changes ≡ Some can.content
+  still_made = beside_made disk history mid then hs sets fresh index h changes a kept uses.first_unused uses.second_unused others ∙ can.made
+
+  pub then_can : CanCommit beside then h changes
+  then_can = can_commit beside then hs sets index h changes a still_kept can.content still_made
+
+  was_pair : pair_in old index ≡ pair_on disk (address_in h)
+  was_pair = pair_at_index disk history hs sets index h a
+
+  is_header : IsHeader disk history h
+  is_header = header_at_index disk history hs index h a kept.each
+
+  was_content : content_at disk (address_in h) ≡ Some (pair_in old index).content
+  was_content = header_content disk history h is_header
+      ∙ ap (λ (p : Pair). Some p.content) (sym (was_pair ∙ pair_on_content disk (address_in h) is_header.content (header_content disk history h is_header)))
+
+  blocks_used : AllUsed sets ((address_in h).0 ∷ (address_in h).1 ∷ [])
+  blocks_used =
+      let all = subst (λ z. AllUsed sets (blocks_of (pairs_on disk z))) a.parts kept.used in
+      let parts = subst (λ ps. AllUsed sets (blocks_of ps)) (map-append (λ x. pair_on disk (address_in x)) a.front (h ∷ a.back)) all in
+      let cut = subst (AllUsed sets) (flat_map-append (λ (s : Pair). s.at.0 ∷ s.at.1 ∷ []) (pairs_on disk a.front) (pairs_on disk (h ∷ a.back))) parts in
+      let right = used_right sets (blocks_of (pairs_on disk a.front)) (blocks_of (pairs_on disk (h ∷ a.back))) cut in
+      (right.0, (right.1.0, tt))
+
+  pub apart : AreApart (address_in h) fresh
+  apart = record {
+    first_first = λ e. uses.first_unused (subst (IsUsed sets) e blocks_used.0);
+    first_second = λ e. uses.second_unused (subst (IsUsed sets) e blocks_used.0);
+    second_first = λ e. uses.first_unused (subst (IsUsed sets) e blocks_used.1.0);
+    second_second = λ e. uses.second_unused (subst (IsUsed sets) e blocks_used.1.0);
+  }
+
+  same_raw : raw_at beside (address_in h) ≡ raw_at disk (address_in h)
+  same_raw = raw_at-stays disk (pair_elsewhere apart) others
+
+  -- the log that holds begins as it did
+  still_first : (left : Disk) (c : Content) → (BeginsWith (holder_at beside (address_in h)) superblock_entry → HasSuperblockFirst c → BeginsWith (holder_at left (address_in h)) superblock_entry)
+      → StaysFirst disk (address_in h) c left
+  still_first left c f begins has = f (first_while_fresh disk (address_in h) fresh mid apart others superblock_entry begins) has
+
+  -- ---- a stop before the commit
+
+  pub left_beside : (left : Blocks) → OutsideKeeps fresh disk.blocks left → IsLeftByJoin old index fresh changes left
+  left_beside left keeps = record {
+    others = keeps_by_fresh (pair_in old index).at fresh keeps;
+    content = inl (record {
+      holds = ap (λ (p : Pair). content_at (record disk { blocks = left }) p.at) was_pair
+          ∙ ap (λ r. option_and_then completed r) (raw_at-stays disk (pair_elsewhere apart) keeps) ∙ was_content;
+      first = subst (λ (p : Pair). BeginsWith (holder_at disk p.at) superblock_entry → BeginsWith (holder_at (record disk { blocks = left }) p.at) superblock_entry) (sym was_pair)
+          (first_while_fresh disk (address_in h) fresh left apart keeps superblock_entry);
+    });
+  }
+
+  -- ---- with the fresh pair
+
+  module _ (f : Header) (is : IsFreshHeader beside then f fresh (pair_on disk (address_in h)).content.tail) where
+    same_pair : pair_on beside (address_in h) ≡ pair_on disk (address_in h)
+    same_pair = pair_on-stays disk (address_in h) (pair_elsewhere apart) others
+
+    -- a stop in the commit
+    pub left_by_join : (left : Blocks) → LeftByChange beside (address_in h) changes left → IsLeftByJoin old index fresh changes left
+    left_by_join left l = record {
+      others = subst (λ (p : Pair). OutsideBothKeeps p.at fresh disk.blocks left) (sym was_pair) (keeps_by_both (address_in h) fresh others l.others);
+      content = sides l.content;
+    }
+      where
+        made_here : Completes (made_at beside (address_in h) changes) can.content
+        made_here = made_of_header beside then hs sets index h changes can.content a still_made
+
+        behind : content_at (record disk { blocks = left }) fresh ≡ Some (joined_pair old index fresh).content
+        behind = ap (content_at (record disk { blocks = left })) (sym is.at)
+            ∙ ap (λ r. option_and_then completed r) (raw_at-stays beside (subst (λ x. AreElsewhere x ((address_in h).0 ∷ (address_in h).1 ∷ [])) (sym is.at) (fresh_elsewhere apart)) l.others)
+            ∙ header_content beside then f is.header ∙ ap Some is.empty
+            ∙ ap (λ (p : Pair). Some (record { slots = []; tail = p.content.tail; move = no_gstate })) (sym was_pair)
+
+        sides : IsStill beside (address_in h) (record disk { blocks = left }) ⊎ IsMade beside (address_in h) changes (record disk { blocks = left })
+            → IsAsBefore old index (record disk { blocks = left }) ⊎ IsJoinedOn old index fresh changes (record disk { blocks = left })
+        sides (inl k) = inl (record {
+          holds = ap (λ (p : Pair). content_at (record disk { blocks = left }) p.at) was_pair ∙ ap (λ o. option_and_then completed o) (k.content ∙ same_raw) ∙ was_content;
+          first = subst (λ (p : Pair). BeginsWith (holder_at disk p.at) superblock_entry → BeginsWith (holder_at (record disk { blocks = left }) p.at) superblock_entry) (sym was_pair)
+              (λ begins. k.first superblock_entry (first_while_fresh disk (address_in h) fresh mid apart others superblock_entry begins));
+        })
+        sides (inr k) =
+            let whole : completed k.new ≡ Some can.content = ap completed (same_Some k.new made_here.raw (sym k.made ∙ made_here.is)) ∙ made_here.complete in
+            inr (record {
+              content = can.content;
+              made = can.made;
+              fits = fits_pair disk.block_size disk.page k.new can.content k.logged whole k.fits;
+              holds = ap (λ (p : Pair). content_at (record disk { blocks = left }) p.at) was_pair ∙ ap (λ o. option_and_then completed o) k.now.content ∙ whole;
+              behind = behind;
+              first = subst (λ (p : Pair). StaysFirst disk p.at can.content (record disk { blocks = left })) (sym was_pair)
+                  (still_first (record disk { blocks = left }) can.content (λ begins has. k.now.first superblock_entry begins (superblock_anew k.new can.content k.logged.slots whole has)));
+            })
+
+    -- after the commit
+    module _ (blocks : Blocks) (after : List Event) (new : Header) (commits : Commits beside changes h (record disk { blocks = blocks }) after new)
+        (keeps : OutsideKeeps (address_in h) mid blocks) (stays : OutsideStays (address_in h) then after) where
+      abbrev left : Disk
+      left = record disk { blocks = blocks }
+
+      empty : is.header.content ≡ record { slots = []; tail = (pair_on beside (address_in h)).content.tail; move = no_gstate }
+      empty = is.empty ∙ ap (λ (p : Pair). record { slots = []; tail = p.content.tail; move = no_gstate }) (sym same_pair)
+
+      pub is_kept : IsKept left after (insert (set hs index new) (index + 1) f) (settled sets fresh)
+      is_kept = joined_kept beside then blocks after hs sets (settled sets fresh) index h new f fresh changes can.content a still_kept still_made can.next commits keeps stays is.header is.at empty uses
+
+      is_whole : completed commits.new ≡ Some can.content
+      is_whole = let m = made_of_header beside then hs sets index h changes can.content a still_made in
+          ap completed (same_Some commits.new m.raw (sym commits.made ∙ m.is)) ∙ m.complete
+
+      same_at : pair_in (seen beside then hs sets) index ≡ pair_in old index
+      same_at = ap (λ ps. get_or ps index no_pair) still_pairs
+
+      pub is_joined : IsJoined old index fresh changes (seen left after (insert (set hs index new) (index + 1) f) (settled sets fresh))
+      is_joined = record {
+        content = can.content;
+        made = can.made;
+        fits = fits_pair disk.block_size disk.page commits.new can.content commits.logged is_whole commits.fits;
+        first = subst (λ (p : Pair). StaysFirst disk p.at can.content left) (sym was_pair)
+            (still_first left can.content (λ begins has. commits.first superblock_entry begins (superblock_anew commits.new can.content commits.logged.slots is_whole has)));
+        pairs = joined_pairs beside then blocks after hs sets (settled sets fresh) index h new f fresh changes can.content a still_kept still_made can.next commits keeps stays is.header is.at empty uses
+            ∙ ap₂ (λ (ps : List Pair) (p : Pair). with_two ps index (record { at = p.at; content = can.content }) (record { at = fresh; content = record { slots = []; tail = p.content.tail; move = no_gstate } })) still_pairs same_at;
+        thread = kept_thread left after (insert (set hs index new) (index + 1) f) (settled sets fresh) is_kept;
+        map = refl;
+      }
+
+-- ---- in the code's words
+
+module _ (geometry later : Geometry) (old mid : Blocks) (before then : List Event) (hs : List Header) (sets : BlockSets) (index : ℕ) (h : Header) (fresh : ℕ × ℕ) (changes : List Change)
+    (same : later ≡ geometry) (a : IsAt hs index h) (kept : IsKept (disk_of geometry old) before hs sets) (can : CanJoin (seen (disk_of geometry old) before hs sets) index fresh changes)
+    (others : OutsideKeeps fresh old mid) (stay : OutsideStays fresh before then) where
+  abbrev was : Kept
+  was = seen (disk_of geometry old) before hs sets
+
+  pub device_can : CanCommit (disk_of later mid) then h changes
+  device_can = subst (λ k. CanCommit (disk_of k mid) then h changes) (sym same) (then_can (disk_of geometry old) before hs sets index h fresh changes a kept can mid then others stay)
+
+  pub device_left_beside : LeavesOnly AtWorst before then (OutsideKeeps fresh old) → LeavesOnly Stops before then (IsLeftByJoin was index fresh changes)
+  device_left_beside worst = LeavesOnly-weaker (λ left keeps. left_beside (disk_of geometry old) before hs sets index h fresh changes a kept can mid then others stay left keeps) (LeavesOnly-worst worst)
+
+  pub beside_read : (disk : Disk) (after : List Event) → disk ≡ disk_of later mid → OnlyReads mid then after → IsKept disk after hs sets
+  beside_read disk after e reads = subst (λ d. IsKept d after hs sets) (sym e) (subst (λ k. IsKept (disk_of k mid) after hs sets) (sym same)
+      (kept_read (disk_of geometry mid) mid then after hs sets reads (still_kept (disk_of geometry old) before hs sets index h fresh changes a kept can mid then others stay)))
+
+  pub is_beside : (disk : Disk) (after : List Event) → disk ≡ disk_of later mid → IsBeside was fresh (seen disk after hs sets)
+  is_beside disk after e = subst (λ d. IsBeside was fresh (seen d after hs sets)) (sym e) (subst (λ k. IsBeside was fresh (seen (disk_of k mid) after hs sets)) (sym same) (record {
+    pairs = still_pairs (disk_of geometry old) before hs sets index h fresh changes a kept can mid then others stay;
+    map = refl;
+    others = others;
+  }))
+
+  module _ (f : Header) (tail : Change) (is : IsFresh (tail ∷ []) (disk_of later mid) then fresh f) (tail_is : tail ≡ put_tail (option_map tail_seen h.tail)) (few : length old ≤ 65536) where
+    fresh_there : IsFreshHeader (disk_of geometry mid) then f fresh (pair_on (disk_of geometry old) (address_in h)).content.tail
+    fresh_there =
+        let on = held_address (disk_of geometry old) before hs sets fresh kept can.held in
+        let named = subst (λ t. tail ≡ put_tail t) (sym (header_tail (disk_of geometry old) before h (header_at_index (disk_of geometry old) before hs index h a kept.each))) tail_is in
+        fresh_header (disk_of geometry mid) then f fresh (pair_on (disk_of geometry old) (address_in h)).content.tail
+        (record { apart = on.apart; first = subst (λ n. fresh.0 < n) (sym others.count) on.first; second = subst (λ n. fresh.1 < n) (sym others.count) on.second })
+        (tail_named (disk_of geometry old) before hs sets index h a kept few)
+        (subst (λ t. IsFresh (t ∷ []) (disk_of geometry mid) then fresh f) named (subst (λ k. IsFresh (tail ∷ []) (disk_of k mid) then fresh f) same is))
+
+    pub device_stops : (after : List Event) → LeavesOnly AtWorst before then (OutsideKeeps fresh old) → LeavesOnly AtWorst then after (OutsideKeeps (address_in h) mid)
+        → StopsLeave then after (LeftByChange (disk_of later mid) (address_in h) changes) → StopsLeave before after (IsLeftByJoin was index fresh changes)
+    device_stops after first second stops cleanly = goes_on_by (device_left_beside first)
+        (LeavesOnly-weaker (λ left l. left_by_join (disk_of geometry old) before hs sets index h fresh changes a kept can mid then others stay f fresh_there left
+        (subst (λ k. LeftByChange (disk_of k mid) (address_in h) changes left) same l)) (stops (EachSince-behind cleanly first second)))
+
+    module _ (now_geometry : Geometry) (blocks : Blocks) (after : List Event) (new : Header) (still : now_geometry ≡ later) (commits : Commits (disk_of later mid) changes h (disk_of now_geometry blocks) after new)
+        (keeps : OutsideKeeps (address_in h) mid blocks) (stays : OutsideStays (address_in h) then after) (items : List Header) (are : items ≡ insert (set hs index new) (index + 1) f)
+        (now : BlockSets) (is_now : now ≡ settled sets fresh) where
+      commits_there : Commits (disk_of geometry mid) changes h (disk_of geometry blocks) after new
+      commits_there = subst (λ k. Commits (disk_of k mid) changes h (disk_of k blocks) after new) same (subst (λ k. Commits (disk_of later mid) changes h (disk_of k blocks) after new) still commits)
+
+      there : now_geometry ≡ geometry
+      there = still ∙ same
+
+      pub device_joined : IsKept (disk_of now_geometry blocks) after items now
+      device_joined = subst (λ k. IsKept (disk_of k blocks) after items now) (sym there) (subst (λ z. IsKept (disk_of geometry blocks) after z now) (sym are)
+          (subst (λ m. IsKept (disk_of geometry blocks) after (insert (set hs index new) (index + 1) f) m) (sym is_now)
+          (is_kept (disk_of geometry old) before hs sets index h fresh changes a kept can mid then others stay f fresh_there blocks after new commits_there keeps stays)))
+
+      pub device_is_joined : IsJoined was index fresh changes (seen (disk_of now_geometry blocks) after items now)
+      device_is_joined = subst (λ k. IsJoined was index fresh changes (seen (disk_of k blocks) after items now)) (sym there)
+          (subst (λ z. IsJoined was index fresh changes (seen (disk_of geometry blocks) after z now)) (sym are)
+          (subst (λ m. IsJoined was index fresh changes (seen (disk_of geometry blocks) after (insert (set hs index new) (index + 1) f) m)) (sym is_now)
+          (is_joined (disk_of geometry old) before hs sets index h fresh changes a kept can mid then others stay f fresh_there blocks after new commits_there keeps stays)))
+
+-- a header put behind another one is taken out again
+pub unplaced : (hs : List Header) (index : ℕ) (h x : Header) → IsAt hs index h → remove (insert hs (index + 1) x) (index + 1) ≡ hs
+unplaced hs index h x a =
+    ap₂ (λ (z : List Header) (i : ℕ). remove (insert z (i + 1) x) (i + 1)) a.parts a.place
+    ∙ ap (λ z. remove z (length a.front + 1)) (insert_behind a.front h a.back x) ∙ remove_behind a.front h x a.back ∙ sym a.parts

@@ -1,0 +1,73 @@
+use Rattle.std.proofs.lemmas.Result.{err_from_is_err_and}
+use Rattle.std.proofs.Common.{◌+◌, ◌<◌, ◌∙◌, Err, [], ◌∷◌, length, refl, sym, ap, ap₂, subst, arith, rules, length-append}
+use Rattle.std.specs.Option.{option_map}
+use Rattle.lfs_device.specs.Shown.{disk_of}
+use Rattle.lfs_device.specs.declared.geometry.Geometry.{Geometry}
+use Rattle.lfs_model.specs.Slots.{address_of}
+use Rattle.lfs_model.proofs.Histories.{began}
+use Rattle.lfs_thread.specs.Begun.{IsBegun}
+use Rattle.lfs_thread.proofs.Begun.{begun_first, begun_next, begun_kept, begun_few, no_thread, same_error, then_reads}
+use Rattle.lfs_thread.proofs.reading.read_pairs.Goals as goal
+
+pub loop-init : goal.loop-init
+loop-init g c = record {
+  begun = begun_first _ _ _ _ _ (sym (g.met.D.BlockDevice.shape c.args.device.now).count) c.requires.none c.requires.free;
+  device = record { same = refl; geometry = refl; reads = began };
+  no_fault = refl;
+  count = ap length c.requires.none;
+}
+
+pub returns-in-None-clause-kept : goal.returns-in-None-clause-kept
+returns-in-None-clause-kept g c =
+    begun_kept _ _ _ _ (subst (IsBegun (disk_of (g.D.BlockDevice.geometry c.loop.device) (g.D.BlockDevice.blocks c.loop.device)) (g.D.BlockDevice.history c.loop.device) c.loop.pairs.items c.loop.map)
+    (ap (option_map address_of) c.in-None.is) c.loop.invariant.begun)
+
+pub returns-in_err-pair-in-Some-clause-corrupt : goal.returns-in_err-pair-in-Some-clause-corrupt
+returns-in_err-pair-in-Some-clause-corrupt g c e =
+    let p = err_from_is_err_and c.from_residual.result c.from_residual.ensures.1 in
+    no_thread _ _ _ _ _ _ _ (address_of c.in-Some.at) (ap₂ disk_of c.loop.invariant.device.geometry c.loop.invariant.device.same) (g.met.D.BlockDevice.shape c.args.device.now).count (ap (option_map address_of) c.in-Some.is)
+    c.loop.invariant.begun (c.in_err-pair-in-Some.ensures.corrupt (ap Err (same_error p.1 p.2 e)))
+
+pub returns-in_err-pair-in-Some-clause-device : goal.returns-in_err-pair-in-Some-clause-device
+returns-in_err-pair-in-Some-clause-device g c =
+    let read = c.in_err-pair-in-Some.ensures.device in
+    record {
+      same = read.same ∙ c.loop.invariant.device.same;
+      geometry = read.geometry ∙ c.loop.invariant.device.geometry;
+      reads = then_reads c.loop.invariant.device.reads c.loop.invariant.device.same read.reads;
+    }
+
+pub returns-in_err-push-in-Some-clause-device : goal.returns-in_err-push-in-Some-clause-device
+returns-in_err-push-in-Some-clause-device g c =
+    let read = c.in_ok-pair-in-Some.ensures.device in
+    record {
+      same = read.same ∙ c.loop.invariant.device.same;
+      geometry = read.geometry ∙ c.loop.invariant.device.geometry;
+      reads = then_reads c.loop.invariant.device.reads c.loop.invariant.device.same read.reads;
+    }
+
+pub loop-preserved : goal.loop-preserved
+loop-preserved g c =
+    let read = c.in_ok-pair-in-Some.ensures in
+    let no_fault = read.faults.no_fault (λ e. absurd (cc)) in
+    record {
+      begun = begun_next (disk_of (g.D.BlockDevice.geometry c.loop.device) (g.D.BlockDevice.blocks c.loop.device)) _ _ _ _ c.loop.pairs.items _ c.loop.map _ (option_map address_of c.loop.next) (address_of c.in-Some.at) c.in_ok-pair-in-Some.pair (option_map address_of c.tail_of-next.result)
+    (ap₂ disk_of read.device.geometry read.device.same) read.device.reads (ap (option_map address_of) c.in-Some.is) c.loop.invariant.begun read.header read.at read.stands c.in_ok-push-in-Some.ensures.items read.marked c.tail_of-next.ensures;
+      device = record {
+        same = read.device.same ∙ c.loop.invariant.device.same;
+        geometry = read.device.geometry ∙ c.loop.invariant.device.geometry;
+        reads = then_reads c.loop.invariant.device.reads c.loop.invariant.device.same read.device.reads;
+      };
+      no_fault = no_fault ∙ c.loop.invariant.no_fault;
+      count = ap length c.in_ok-push-in-Some.ensures.items ∙ length-append c.loop.pairs.items (c.in_ok-pair-in-Some.pair ∷ []) ∙ ap (λ n. n + 1) c.loop.invariant.count;
+    }
+
+pub returns-clause-corrupt : goal.returns-clause-corrupt
+returns-clause-corrupt g c _ ps t =
+    let few = begun_few _ _ _ _ _ c.loop.invariant.begun in
+    let count = c.loop.invariant.count in
+    let size = ap length c.loop.invariant.device.same ∙ (g.met.D.BlockDevice.shape c.args.device.now).count in
+    let some = (g.D.BlockDevice.geometry c.args.device.now).valid in
+    let over : ¬ (c.loop.counter < c.geometry-block_count.result.block_count) = search rules in
+    let end = ap (λ (k : Geometry). k.block_count) c.geometry-block_count.ensures in
+    absurd (omega (arith, few, count, size, some.no_fewer, over, end))

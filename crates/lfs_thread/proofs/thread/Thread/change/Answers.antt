@@ -1,0 +1,75 @@
+use Rattle.std.proofs.Common.{sym, ap, ap₂, subst, ◌∙◌, inl, inr, set}
+use Rattle.lfs_device.specs.Shown.{disk_of}
+use Rattle.lfs_pair.specs.ChangeSeen.{changes_seen}
+use Rattle.lfs_pair.specs.Pair.{address_in}
+use Rattle.lfs_model.specs.Thread.{Pair}
+use Rattle.lfs_model.proofs.Histories.{LeavesOnly-weaker}
+use Rattle.lfs_thread.specs.Device.{StopsLeave, two_of}
+use Rattle.lfs_thread.specs.Kept.{State, disk_on, seen_on}
+use Rattle.lfs_thread.specs.Steps.{CanChange, HasTold, IsChanged, IsLeft, IsOnlyRead, Writes, pair_in}
+use Rattle.lfs_thread.proofs.Changing.{at_there, pair_at_index, can_commit, device_kept, device_changed, ok_outcome, full_kept, full_read, left_in_thread}
+use Rattle.lfs_thread.proofs.Told.{told_from, writes_from}
+use Rattle.lfs_thread.proofs.thread.Thread.change.Goals as goal
+
+pub commit_to-outcome-requires-clause-can : goal.commit_to-outcome-requires-clause-can
+commit_to-outcome-requires-clause-can g c =
+    let works = ap (λ (v : State). v.failed) c.self.view_is ∙ c.requires.works in
+    let can = subst (λ (v : State). CanChange v.kept c.args.index (changes_seen c.args.changes.now)) (sym c.self.view_is) c.requires.can in
+    let a = at_there (disk_on g.D.BlockDevice c.self.inside.device) c.self.inside.pairs.items c.args.index c.index_mut.result.now can.below c.index_mut.ensures.value in
+    can_commit _ _ c.self.inside.pairs.items c.self.inside.map c.args.index c.index_mut.result.now _ a (c.self.invariant works).0 can.content can.made
+
+pub commit_to-outcome-requires-clause-current : goal.commit_to-outcome-requires-clause-current
+commit_to-outcome-requires-clause-current g c =
+    let works = ap (λ (v : State). v.failed) c.self.view_is ∙ c.requires.works in
+    (c.self.invariant works).1
+
+pub invariant_of-self : goal.invariant_of-self
+invariant_of-self g c ok =
+    let works = ap (λ (v : State). v.failed) c.self.view_is ∙ c.requires.works in
+    let can = subst (λ (v : State). CanChange v.kept c.args.index (changes_seen c.args.changes.now)) (sym c.self.view_is) c.requires.can in
+    let a = at_there (disk_on g.D.BlockDevice c.self.inside.device) c.self.inside.pairs.items c.args.index c.index_mut.result.now can.below c.index_mut.ensures.value in
+    let e = c.commit_to-outcome.ensures in
+    (elim (ok_outcome c.commit_to-outcome.result (sym c.is_err-self-inside.ensures.value ∙ ok)) [
+      | inl done ↦ device_kept _ _ _ _ _ _ _ _ _ _ _ _ e.device.geometry a (c.self.invariant works).0 can (e.done done) e.device.others e.device.elsewhere
+      | inr full ↦ full_kept _ _ _ _ _ _ _ _ _ a (c.self.invariant works).0 (ap₂ disk_of (e.full_device full).geometry (e.full_device full).same) (e.full_pair full) (e.full_device full).reads
+    ], e.current)
+
+pub returns-clause-done : goal.returns-clause-done
+returns-clause-done g c done =
+    let works = ap (λ (v : State). v.failed) c.self.view_is ∙ c.requires.works in
+    let can = subst (λ (v : State). CanChange v.kept c.args.index (changes_seen c.args.changes.now)) (sym c.self.view_is) c.requires.can in
+    let a = at_there (disk_on g.D.BlockDevice c.self.inside.device) c.self.inside.pairs.items c.args.index c.index_mut.result.now can.below c.index_mut.ensures.value in
+    let e = c.commit_to-outcome.ensures in
+    subst (λ (v : State). IsChanged v.kept c.args.index (changes_seen c.args.changes.now) (seen_on g.D.BlockDevice c.commit_to-outcome.new.device (set c.self.inside.pairs.items c.args.index c.commit_to-outcome.new.pair) c.self.inside.map)) c.self.view_is
+    (device_changed _ _ _ _ _ _ c.self.inside.pairs.items _ c.args.index _ _ _ e.device.geometry a (c.self.invariant works).0 can (e.done done) e.device.others e.device.elsewhere)
+
+pub returns-clause-full : goal.returns-clause-full
+returns-clause-full g c full =
+    let can = subst (λ (v : State). CanChange v.kept c.args.index (changes_seen c.args.changes.now)) (sym c.self.view_is) c.requires.can in
+    let a = at_there (disk_on g.D.BlockDevice c.self.inside.device) c.self.inside.pairs.items c.args.index c.index_mut.result.now can.below c.index_mut.ensures.value in
+    let e = c.commit_to-outcome.ensures in
+    subst (λ (v : State). IsOnlyRead v.kept (seen_on g.D.BlockDevice c.commit_to-outcome.new.device (set c.self.inside.pairs.items c.args.index c.commit_to-outcome.new.pair) c.self.inside.map)) c.self.view_is
+    (full_read _ _ _ _ c.self.inside.pairs.items _ c.args.index _ _ a (ap₂ disk_of (e.full_device full).geometry (e.full_device full).same) (e.full_pair full) (e.full_device full).reads)
+
+pub returns-clause-errors : goal.returns-clause-errors
+returns-clause-errors g c =
+    subst (λ (v : State). HasTold v.kept (seen_on g.D.BlockDevice c.commit_to-outcome.new.device (set c.self.inside.pairs.items c.args.index c.commit_to-outcome.new.pair) c.self.inside.map) c.commit_to-outcome.result) c.self.view_is
+    (told_from g.D.BlockDevice c.self.inside.device c.commit_to-outcome.new.device c.self.inside.pairs.items (set c.self.inside.pairs.items c.args.index c.commit_to-outcome.new.pair) c.self.inside.map c.self.inside.map c.commit_to-outcome.result c.commit_to-outcome.ensures.errors)
+
+pub returns-clause-device : goal.returns-clause-device
+returns-clause-device g c =
+    let can = subst (λ (v : State). CanChange v.kept c.args.index (changes_seen c.args.changes.now)) (sym c.self.view_is) c.requires.can in
+    let a = at_there (disk_on g.D.BlockDevice c.self.inside.device) c.self.inside.pairs.items c.args.index c.index_mut.result.now can.below c.index_mut.ensures.value in
+    let at = pair_at_index (disk_on g.D.BlockDevice c.self.inside.device) (g.D.BlockDevice.history c.self.inside.device) c.self.inside.pairs.items c.self.inside.map c.args.index _ a in
+    subst (λ (v : State). Writes (two_of (pair_in v.kept c.args.index).at) v.kept (seen_on g.D.BlockDevice c.commit_to-outcome.new.device (set c.self.inside.pairs.items c.args.index c.commit_to-outcome.new.pair) c.self.inside.map)) c.self.view_is
+    (subst (λ (p : Pair). Writes (two_of p.at) (seen_on g.D.BlockDevice c.self.inside.device c.self.inside.pairs.items c.self.inside.map) (seen_on g.D.BlockDevice c.commit_to-outcome.new.device (set c.self.inside.pairs.items c.args.index c.commit_to-outcome.new.pair) c.self.inside.map)) (sym at)
+    (writes_from g.D.BlockDevice c.self.inside.device c.commit_to-outcome.new.device c.self.inside.pairs.items (set c.self.inside.pairs.items c.args.index c.commit_to-outcome.new.pair) c.self.inside.map c.self.inside.map (two_of (address_in c.index_mut.result.now)) c.commit_to-outcome.ensures.device))
+
+pub returns-clause-stops : goal.returns-clause-stops
+returns-clause-stops g c cleanly =
+    let works = ap (λ (v : State). v.failed) c.self.view_is ∙ c.requires.works in
+    let can = subst (λ (v : State). CanChange v.kept c.args.index (changes_seen c.args.changes.now)) (sym c.self.view_is) c.requires.can in
+    let a = at_there (disk_on g.D.BlockDevice c.self.inside.device) c.self.inside.pairs.items c.args.index c.index_mut.result.now can.below c.index_mut.ensures.value in
+    subst (λ (v : State). StopsLeave v.kept.history (g.D.BlockDevice.history c.commit_to-outcome.new.device) (IsLeft v.kept c.args.index (changes_seen c.args.changes.now))) c.self.view_is
+    (λ clean. LeavesOnly-weaker (λ left l. left_in_thread _ _ c.self.inside.pairs.items c.self.inside.map c.args.index _ _ left a (c.self.invariant works).0 can.content can.made l) (c.commit_to-outcome.ensures.stops clean))
+    cleanly

@@ -1,0 +1,4 @@
+pub mod Kept
+pub mod Device
+pub mod Steps
+pub mod Begun

@@ -1,0 +1,73 @@
+// Commits to pairs and splits of them, beside the blocks that are at hand.
+
+ghost use Rattle.std.specs.Prelude.{◌≡◌, IfOk, OnOk};
+ghost use Rattle.lfs_device.specs.Calls.{ChangesOnly, ReadsOnly};
+ghost use Rattle.lfs_model.specs.Cache.{without};
+ghost use Rattle.lfs_model.specs.Slots.{address_of};
+ghost use Rattle.lfs_pair.specs.ChangeSeen.{changes_seen};
+ghost use Rattle.lfs_pair.specs.Commit.{CanCommit, Commits, LeftByChange};
+ghost use Rattle.lfs_pair.specs.Pair.{address_in};
+ghost use Rattle.lfs_pair.specs.Split.{CanSplit, LeftBySplit, Splits};
+ghost use Rattle.lfs_thread.specs.Kept.{IsCurrent, disk_on};
+ghost use Rattle.lfs_thread.specs.Device.{StopsLeave, TellsErrors, four_of, two_of};
+
+use lfs_cache::Cache;
+use lfs_device::{BlockDevice, Error};
+use lfs_pair::{Change, Outcome, Pair, commit, split};
+use std::alloc::Global;
+
+// Commits changes to a pair. Its blocks are at hand no more.
+pub(crate) fn commit_to<D: BlockDevice>(
+    alloc: Global,
+    device: &mut D,
+    cache: &mut Cache,
+    pair: &mut Pair,
+    changes: &[Change<'_>],
+) -> Result<Outcome, Error>
+    requires can { CanCommit (disk_on D.BlockDevice device.old) (D.history device.old) pair.old (changes_seen changes.now) }
+    requires current { IsCurrent (D.blocks device.old) cache.old }
+    ensures done { result ≡ Ok Outcome.Done
+        → Commits (disk_on D.BlockDevice device.old) (changes_seen changes.now) pair.old (disk_on D.BlockDevice device.new) (D.history device.new) pair.new }
+    ensures full_pair { result ≡ Ok Outcome.Full → pair.new ≡ pair.old }
+    ensures full_device { result ≡ Ok Outcome.Full → ReadsOnly D.BlockDevice device.old device.new }
+    ensures current { IsCurrent (D.blocks device.new) cache.new }
+    ensures device { ChangesOnly D.BlockDevice (two_of (address_in pair.old)) device.old device.new }
+    ensures errors { TellsErrors D.BlockDevice device.old device.new result }
+    ensures stops { StopsLeave (D.history device.old) (D.history device.new)
+        (LeftByChange (disk_on D.BlockDevice device.old) (address_in pair.old) (changes_seen changes.now)) }
+{
+    forget_pair(cache, pair.blocks);
+    commit(alloc, device, pair, changes)
+}
+
+// Splits a pair. The blocks of both are at hand no more.
+pub(crate) fn split_to<D: BlockDevice>(
+    alloc: Global,
+    device: &mut D,
+    cache: &mut Cache,
+    pair: &mut Pair,
+    fresh: [u32; 2],
+    changes: &[Change<'_>],
+) -> Result<Pair, Error>
+    requires can { CanSplit (disk_on D.BlockDevice device.old) (D.history device.old) pair.old (address_of fresh) (changes_seen changes.now) }
+    requires current { IsCurrent (D.blocks device.old) cache.old }
+    ensures splits { IfOk result (λ fresh_pair. Splits (disk_on D.BlockDevice device.old) (changes_seen changes.now) pair.old (address_of fresh)
+        (disk_on D.BlockDevice device.new) (D.history device.new) pair.new fresh_pair) }
+    ensures current { IsCurrent (D.blocks device.new) cache.new }
+    ensures device { ChangesOnly D.BlockDevice (four_of (address_in pair.old) (address_of fresh)) device.old device.new }
+    ensures errors { TellsErrors D.BlockDevice device.old device.new result }
+    ensures stops { StopsLeave (D.history device.old) (D.history device.new)
+        (LeftBySplit (disk_on D.BlockDevice device.old) (address_in pair.old) (address_of fresh) (changes_seen changes.now)) }
+{
+    forget_pair(cache, pair.blocks);
+    forget_pair(cache, fresh);
+    split(alloc, device, pair, fresh, changes)
+}
+
+// The blocks of a pair are at hand no more.
+pub(crate) fn forget_pair(cache: &mut Cache, blocks: [u32; 2])
+    ensures { cache.new ≡ without (without cache.old (address_of blocks).0) (address_of blocks).1 }
+{
+    cache.forget(blocks[0]);
+    cache.forget(blocks[1]);
+}

@@ -1,0 +1,51 @@
+// Pairs of the thread that go.
+
+ghost use Rattle.std.specs.Prelude.{◌≡◌, OnOk};
+ghost use Rattle.lfs_device.specs.Calls.{ChangesOnly};
+ghost use Rattle.lfs_pair.specs.ChangeSeen.{changes_seen};
+ghost use Rattle.lfs_thread.specs.Device.{StopsLeave, TellsErrors, two_of};
+ghost use Rattle.lfs_thread.specs.Kept.{IsCurrent, IsKeptOn, seen_on};
+ghost use Rattle.lfs_thread.specs.Steps.{CanDrop, IsDropped, IsLeft, IsOnlyRead, pair_in};
+
+use crate::committing::commit_to;
+use lfs_alloc::BlockMap;
+use lfs_cache::Cache;
+use lfs_device::{BlockDevice, Error};
+use lfs_pair::{Change, Outcome, Pair};
+use std::alloc::Global;
+
+// Commits changes to one of these pairs, by which its tail names what the tail of the one behind it
+// names; that one goes, and its blocks are free. After an error nothing is known of the headers and
+// the map.
+pub(crate) fn drop_pair<D: BlockDevice>(
+    alloc: Global,
+    device: &mut D,
+    cache: &mut Cache,
+    pairs: &mut Vec<Pair>,
+    map: &mut BlockMap,
+    index: usize,
+    changes: &[Change<'_>],
+) -> Result<Outcome, Error>
+    requires kept { IsKeptOn D.BlockDevice device.old pairs.old.items map.old }
+    requires current { IsCurrent (D.blocks device.old) cache.old }
+    requires can { CanDrop (seen_on D.BlockDevice device.old pairs.old.items map.old) index (changes_seen changes.now) }
+    ensures kept { OnOk result (IsKeptOn D.BlockDevice device.new pairs.new.items map.new) }
+    ensures current { IsCurrent (D.blocks device.new) cache.new }
+    ensures is_dropped { result ≡ Ok Outcome.Done → IsDropped (seen_on D.BlockDevice device.old pairs.old.items map.old) index (changes_seen changes.now)
+        (seen_on D.BlockDevice device.new pairs.new.items map.new) }
+    ensures full { result ≡ Ok Outcome.Full → IsOnlyRead (seen_on D.BlockDevice device.old pairs.old.items map.old)
+        (seen_on D.BlockDevice device.new pairs.new.items map.new) }
+    ensures device { ChangesOnly D.BlockDevice (two_of (pair_in (seen_on D.BlockDevice device.old pairs.old.items map.old) index).at) device.old device.new }
+    ensures errors { TellsErrors D.BlockDevice device.old device.new result }
+    ensures stops { StopsLeave (D.history device.old) (D.history device.new)
+        (IsLeft (seen_on D.BlockDevice device.old pairs.old.items map.old) index (changes_seen changes.now)) }
+{
+    let outcome = commit_to(alloc, device, cache, &mut pairs[index], changes)?;
+    if let Outcome::Full = outcome {
+        return Ok(Outcome::Full);
+    }
+    let gone = pairs.remove(index + 1);
+    map.release(gone.blocks[0]);
+    map.release(gone.blocks[1]);
+    Ok(Outcome::Done)
+}

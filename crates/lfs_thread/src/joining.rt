@@ -1,0 +1,81 @@
+// Pairs that come into the thread.
+
+ghost use Rattle.std.specs.Prelude.{◌≡◌, OnOk};
+ghost use Rattle.std.specs.Option.{option_map};
+ghost use Rattle.lfs_device.specs.Calls.{ChangesOnly};
+ghost use Rattle.lfs_model.specs.Slots.{address_of};
+ghost use Rattle.lfs_tag.specs.ContentSeen.{tail_seen};
+ghost use Rattle.lfs_pair.specs.ChangeSeen.{change_seen, changes_seen};
+ghost use Rattle.lfs_thread.specs.Device.{StopsLeave, TellsErrorsBeside, four_of, two_of};
+ghost use Rattle.lfs_thread.specs.Kept.{IsCurrent, IsKeptOn, seen_on};
+ghost use Rattle.lfs_thread.specs.Steps.{CanJoin, IsBeside, IsJoined, IsLeftByJoin, put_tail, pair_in};
+
+use crate::committing::{commit_to, forget_pair};
+use lfs_alloc::BlockMap;
+use lfs_cache::Cache;
+use lfs_device::{BlockDevice, Error};
+use lfs_pair::{Change, Outcome, Pair};
+use lfs_tag::Tail;
+use std::alloc::Global;
+
+// Makes a pair of two blocks in flight, without slots and with the tail of the pair at the index,
+// and commits the changes to that one, whose tail then names the fresh pair. Where they don't fit
+// nothing names it, and the blocks stay in flight. After an error nothing is known of the headers
+// and the map.
+pub(crate) fn join_pair<D: BlockDevice>(
+    alloc: Global,
+    device: &mut D,
+    cache: &mut Cache,
+    pairs: &mut Vec<Pair>,
+    map: &mut BlockMap,
+    index: usize,
+    fresh: [u32; 2],
+    changes: &[Change<'_>],
+) -> Result<Outcome, Error>
+    requires kept { IsKeptOn D.BlockDevice device.old pairs.old.items map.old }
+    requires current { IsCurrent (D.blocks device.old) cache.old }
+    requires can { CanJoin (seen_on D.BlockDevice device.old pairs.old.items map.old) index (address_of fresh) (changes_seen changes.now) }
+    ensures kept { OnOk result (IsKeptOn D.BlockDevice device.new pairs.new.items map.new) }
+    ensures current { IsCurrent (D.blocks device.new) cache.new }
+    ensures is_joined { result ≡ Ok Outcome.Done → IsJoined (seen_on D.BlockDevice device.old pairs.old.items map.old) index (address_of fresh) (changes_seen changes.now)
+        (seen_on D.BlockDevice device.new pairs.new.items map.new) }
+    ensures full { result ≡ Ok Outcome.Full → IsBeside (seen_on D.BlockDevice device.old pairs.old.items map.old) (address_of fresh)
+        (seen_on D.BlockDevice device.new pairs.new.items map.new) }
+    ensures device { ChangesOnly D.BlockDevice (four_of (pair_in (seen_on D.BlockDevice device.old pairs.old.items map.old) index).at (address_of fresh)) device.old device.new }
+    ensures errors { TellsErrorsBeside D.BlockDevice (two_of (address_of fresh)) device.old device.new result }
+    ensures stops { StopsLeave (D.history device.old) (D.history device.new)
+        (IsLeftByJoin (seen_on D.BlockDevice device.old pairs.old.items map.old) index (address_of fresh) (changes_seen changes.now)) }
+{
+    let mut pair = pairs[index];
+    // Room for the fresh pair's header, before anything is written.
+    pairs.insert(index + 1, pair)?;
+    forget_pair(cache, fresh);
+    let tail = tail_change(&pair.tail);
+    let fresh_pair = Pair::fresh(alloc, device, fresh, &[tail])?;
+    let outcome = commit_to(alloc, device, cache, &mut pair, changes)?;
+    if let Outcome::Full = outcome {
+        pairs.remove(index + 1);
+        return Ok(Outcome::Full);
+    }
+    pairs[index] = pair;
+    pairs[index + 1] = fresh_pair;
+    map.settle(fresh[0]);
+    map.settle(fresh[1]);
+    Ok(Outcome::Done)
+}
+
+// The change that gives a pair that tail.
+fn tail_change<'a>(tail: &Option<Tail>) -> Change<'a>
+    ensures { change_seen result ≡ put_tail (option_map tail_seen tail.now) }
+{
+    match tail {
+        None => Change::Tail {
+            hard: false,
+            pair: None,
+        },
+        Some(tail) => Change::Tail {
+            hard: tail.hard,
+            pair: Some(tail.pair),
+        },
+    }
+}

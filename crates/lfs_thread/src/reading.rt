@@ -1,0 +1,99 @@
+// A thread read from a device.
+
+ghost use Rattle.std.specs.Prelude.{◌≡◌, ◌⊎◌, ◌↔◌, ℕ, [], length, replicate, Contains, IfErr, IfOk, List, OnOk, slice_set};
+ghost use Rattle.std.specs.Option.{option_map};
+ghost use Rattle.lfs_model.specs.Slots.{address_of};
+ghost use Rattle.lfs_tag.specs.ContentSeen.{tail_seen};
+ghost use Rattle.lfs_device.specs.Calls.{ReadsOnly, TellsFaults};
+ghost use Rattle.lfs_model.specs.BlockSets.{IsUsed};
+ghost use Rattle.lfs_model.specs.BlockSets.BlockState.{Free, Used};
+ghost use Rattle.lfs_model.specs.Content.{content_at};
+ghost use Rattle.lfs_model.specs.Thread.{IsThread, Pair as ThreadPair, blocks_of, next_of};
+ghost use Rattle.lfs_pair.specs.Pair.{address_in};
+ghost use Rattle.lfs_thread.specs.Begun.{CanStand};
+ghost use Rattle.lfs_thread.specs.Kept.{IsHeader, IsKeptOn, disk_on, pairs_on};
+
+use lfs_alloc::BlockMap;
+use lfs_device::{BlockDevice, Error};
+use lfs_pair::{Pair, fetch};
+use std::alloc::Global;
+
+// Reads the pairs of the thread, and marks their blocks. After an error nothing is known of the
+// headers and the map.
+pub(crate) fn read_pairs<D: BlockDevice>(
+    alloc: Global,
+    device: &mut D,
+    pairs: &mut Vec<Pair>,
+    map: &mut BlockMap,
+) -> Result<(), Error>
+    requires none { pairs.old.items ≡ [] }
+    requires free { map.old ≡ replicate (D.geometry device.old).block_count Free }
+    ensures kept { OnOk result (IsKeptOn D.BlockDevice device.new pairs.new.items map.new) }
+    ensures marked { OnOk result ((b : ℕ) → IsUsed map.new b ↔ Contains (blocks_of (pairs_on (disk_on D.BlockDevice device.new) pairs.new.items)) b) }
+    ensures corrupt { result ≡ Err Error.Corrupt → (ps : List ThreadPair)
+        → ¬ IsThread (content_at (disk_on D.BlockDevice device.old)) (D.geometry device.old).block_count ps }
+    ensures device { ReadsOnly D.BlockDevice device.old device.new }
+    ensures errors { IfErr result (λ e. (e ≡ Error.Corrupt) ⊎ ((e ≡ Error.Io) ⊎ (e ≡ Error.NoMemory))) }
+    ensures faults { TellsFaults D.BlockDevice device.old device.new result }
+{
+    let block_count = device.geometry().block_count;
+    let mut next = Some([0, 1]);
+    // A thread has fewer pairs than the device has blocks, since each marks two.
+    for _ in 0..block_count {
+        match next {
+            None => return Ok(()),
+            Some(at) => {
+                let pair = read_pair(alloc, device, map, at)?;
+                next = tail_of(&pair);
+                pairs.push(pair)?;
+            }
+        }
+    }
+    Err(Error::Corrupt)
+}
+
+// The address that a pair's tail names.
+fn tail_of(pair: &Pair) -> Option<[u32; 2]>
+    ensures { option_map address_of result ≡ next_of (option_map tail_seen pair.now.tail) }
+{
+    match pair.tail {
+        None => None,
+        Some(tail) => Some(tail.pair),
+    }
+}
+
+// Reads the pair at an address, and marks its blocks. `Corrupt` where a block is out of range or
+// marked, or the pair holds no content.
+fn read_pair<D: BlockDevice>(
+    alloc: Global,
+    device: &mut D,
+    map: &mut BlockMap,
+    at: [u32; 2],
+) -> Result<Pair, Error>
+    requires { length map.old ≡ (D.geometry device.old).block_count }
+    ensures header { IfOk result (IsHeader (disk_on D.BlockDevice device.old) (D.history device.new)) }
+    ensures at { IfOk result (λ pair. address_in pair ≡ address_of at) }
+    ensures stands { OnOk result (CanStand (disk_on D.BlockDevice device.old) map.old (address_of at)) }
+    ensures marked { OnOk result (map.new ≡ slice_set (slice_set map.old (address_of at).0 Used) (address_of at).1 Used) }
+    ensures corrupt { result ≡ Err Error.Corrupt → ¬ CanStand (disk_on D.BlockDevice device.old) map.old (address_of at) }
+    ensures device { ReadsOnly D.BlockDevice device.old device.new }
+    ensures errors { IfErr result (λ e. (e ≡ Error.Corrupt) ⊎ ((e ≡ Error.Io) ⊎ (e ≡ Error.NoMemory))) }
+    ensures faults { TellsFaults D.BlockDevice device.old device.new result }
+{
+    let [first, second] = at;
+    let block_count = device.geometry().block_count;
+    if first >= block_count || second >= block_count || first == second {
+        return Err(Error::Corrupt);
+    }
+    if !map.mark(first) {
+        return Err(Error::Corrupt);
+    }
+    if !map.mark(second) {
+        return Err(Error::Corrupt);
+    }
+    let pair = fetch(alloc, device, at)?;
+    if !pair.is_complete {
+        return Err(Error::Corrupt);
+    }
+    Ok(pair)
+}

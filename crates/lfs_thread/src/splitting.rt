@@ -1,0 +1,51 @@
+// Pairs of the thread that are split.
+
+ghost use Rattle.std.specs.Prelude.{◌≡◌, OnOk};
+ghost use Rattle.lfs_device.specs.Calls.{ChangesOnly};
+ghost use Rattle.lfs_model.specs.Slots.{address_of};
+ghost use Rattle.lfs_pair.specs.ChangeSeen.{changes_seen};
+ghost use Rattle.lfs_thread.specs.Device.{StopsLeave, TellsErrors, four_of};
+ghost use Rattle.lfs_thread.specs.Kept.{IsCurrent, IsKeptOn, seen_on};
+ghost use Rattle.lfs_thread.specs.Steps.{CanBeSplit, IsLeftBySplit, IsSplit, pair_in};
+
+use crate::committing::split_to;
+use lfs_alloc::BlockMap;
+use lfs_cache::Cache;
+use lfs_device::{BlockDevice, Error};
+use lfs_pair::{Change, Pair};
+use std::alloc::Global;
+
+// Splits a pair of these; the fresh one stands behind it, in two blocks in flight, which are used
+// then. After an error nothing is known of the headers and the map.
+pub(crate) fn split_pair<D: BlockDevice>(
+    alloc: Global,
+    device: &mut D,
+    cache: &mut Cache,
+    pairs: &mut Vec<Pair>,
+    map: &mut BlockMap,
+    index: usize,
+    fresh: [u32; 2],
+    changes: &[Change<'_>],
+) -> Result<(), Error>
+    requires kept { IsKeptOn D.BlockDevice device.old pairs.old.items map.old }
+    requires current { IsCurrent (D.blocks device.old) cache.old }
+    requires can { CanBeSplit (seen_on D.BlockDevice device.old pairs.old.items map.old) index (address_of fresh) (changes_seen changes.now) }
+    ensures kept { OnOk result (IsKeptOn D.BlockDevice device.new pairs.new.items map.new) }
+    ensures current { IsCurrent (D.blocks device.new) cache.new }
+    ensures is_split { OnOk result (IsSplit (seen_on D.BlockDevice device.old pairs.old.items map.old) index (address_of fresh) (changes_seen changes.now)
+        (seen_on D.BlockDevice device.new pairs.new.items map.new)) }
+    ensures device { ChangesOnly D.BlockDevice (four_of (pair_in (seen_on D.BlockDevice device.old pairs.old.items map.old) index).at (address_of fresh)) device.old device.new }
+    ensures errors { TellsErrors D.BlockDevice device.old device.new result }
+    ensures stops { StopsLeave (D.history device.old) (D.history device.new)
+        (IsLeftBySplit (seen_on D.BlockDevice device.old pairs.old.items map.old) index (address_of fresh) (changes_seen changes.now)) }
+{
+    let mut pair = pairs[index];
+    // Room for the fresh pair's header, before anything is written.
+    pairs.insert(index + 1, pair)?;
+    let fresh_pair = split_to(alloc, device, cache, &mut pair, fresh, changes)?;
+    pairs[index] = pair;
+    pairs[index + 1] = fresh_pair;
+    map.settle(fresh[0]);
+    map.settle(fresh[1]);
+    Ok(())
+}

@@ -1,0 +1,239 @@
+ghost use Rattle.std.specs.Prelude.{ℕ, List, Contains, ◌↔◌, IfOk, ◌≡◌, ◌⊎◌, ◌<◌, length, false, is_err, [], replicate, IfErr, OnOk};
+ghost use Rattle.lfs_model.specs.Content.{content_at};
+ghost use Rattle.lfs_model.specs.BlockSets.{IsUsed};
+ghost use Rattle.lfs_model.specs.BlockSets.BlockState.{Free};
+ghost use Rattle.lfs_model.specs.History.{OnlyReads, faults};
+ghost use Rattle.lfs_model.specs.Slots.{address_of};
+ghost use Rattle.lfs_model.specs.Thread.{IsThread, Pair as ThreadPair, blocks_of};
+ghost use Rattle.lfs_pair.specs.ChangeSeen.{changes_seen};
+ghost use Rattle.lfs_thread.specs.Device.{StopsLeave, four_of, two_of};
+ghost use Rattle.lfs_thread.specs.Kept.{disk_on};
+ghost use Rattle.lfs_thread.specs.Steps.{CanBeSplit, CanChange, CanDrop, CanJoin, HasTold, HasToldBeside, IsBeside, IsJoined, IsLeftByJoin, IsChanged, IsDropped, IsLeft, IsLeftBySplit, IsOnlyRead, IsSplit, Writes, pair_in};
+
+use crate::committing::commit_to;
+use crate::dropping::drop_pair;
+use crate::joining::join_pair;
+use crate::reading::read_pairs;
+use crate::splitting::split_pair;
+use lfs_alloc::BlockMap;
+use lfs_cache::Cache;
+use lfs_device::{BlockDevice, Error};
+use lfs_pair::{Change, Outcome, Pair};
+use std::alloc::Global;
+use std::marker::Model;
+
+/// The metadata pairs of a device in the thread's order, kept in memory from one commit to the
+/// next, with what is known of each block and the blocks that were read last.
+///
+/// After an error of a step it has failed: the device may hold something else than what is kept,
+/// so it is to be read anew. What a contract sees of it is what the device holds as long as it
+/// hasn't failed.
+#[derive(Drop)]
+pub struct Thread<D: BlockDevice> {
+    device: D,
+    cache: Cache,
+    pairs: Vec<Pair>,
+    map: BlockMap,
+    has_failed: bool,
+}
+
+impl<D: BlockDevice> Model for Thread<D> {
+    ghost use Rattle.std.specs.Prelude.{◌≡◌, false};
+    ghost use Rattle.lfs_thread.specs.Kept.{IsCurrent, IsKeptOn, State, seen_on};
+
+    ghost Value = { State };
+
+    ghost view = { λ t. record {
+        kept = seen_on D.BlockDevice t.device t.pairs.items t.map;
+        cache = t.cache;
+        failed = t.has_failed;
+    } };
+
+    ghost invariant = { λ t. t.has_failed ≡ false
+        → IsKeptOn D.BlockDevice t.device t.pairs.items t.map × IsCurrent (D.blocks t.device) t.cache };
+}
+
+impl<D: BlockDevice> Thread<D> {
+    /// Reads the thread of a device: from the pair of blocks 0 and 1 on, by the tails (SPEC.md of
+    /// littlefs, "The metadata tree"). Nothing is written. The blocks of the pairs are used then,
+    /// and no other is.
+    ///
+    /// `Corrupt` exactly where there is no thread: an address is out of range, a block comes twice,
+    /// or a pair holds no content whose slots each have a name and a struct. `Io` where a read
+    /// failed, and `NoMemory` where there is no room for the headers, the map or a block and its
+    /// slots. The device comes back with an error.
+    pub fn read(alloc: Global, mut device: D) -> Result<Thread<D>, (D, Error)>
+        ensures works { IfOk result (λ t. t.failed ≡ false) }
+        ensures thread { IfOk result (λ t. IsThread (content_at (disk_on D.BlockDevice device)) (D.geometry device).block_count t.kept.pairs) }
+        ensures marked { IfOk result (λ t. (b : ℕ) → IsUsed t.kept.map b ↔ Contains (blocks_of t.kept.pairs) b) }
+        ensures only { IfOk result (λ t. (t.kept.disk ≡ disk_on D.BlockDevice device) × OnlyReads (D.blocks device) (D.history device) t.kept.history) }
+        ensures corrupt { IfErr result (λ e. e.1 ≡ Error.Corrupt → (ps : List ThreadPair) → ¬ IsThread (content_at (disk_on D.BlockDevice device)) (D.geometry device).block_count ps) }
+        ensures errors { IfErr result (λ e. (e.1 ≡ Error.Corrupt) ⊎ ((e.1 ≡ Error.Io) ⊎ (e.1 ≡ Error.NoMemory))) }
+        ensures fault { IfErr result (λ e. e.1 ≡ Error.Io → faults (D.history device) < faults (D.history e.0)) }
+    {
+        let block_count = device.geometry().block_count;
+        let mut pairs = Vec::new(alloc);
+        let (cache, mut map) = match in_memory(alloc, block_count) {
+            Ok(parts) => parts,
+            Err(error) => return Err((device, error)),
+        };
+        match read_pairs(alloc, &mut device, &mut pairs, &mut map) {
+            Ok(()) => Ok(Thread {
+                device,
+                cache,
+                pairs,
+                map,
+                has_failed: false,
+            }),
+            Err(error) => Err((device, error)),
+        }
+    }
+
+    /// How many pairs there are.
+    pub fn len(&self) -> usize
+        ensures { result ≡ length self.now.kept.pairs }
+    {
+        self.pairs.len()
+    }
+
+    /// Commits changes to a pair, whose tail then names what it named. They may change its share of
+    /// the global state, and whether its tail is a hard one.
+    ///
+    /// `Full` where what the changes make doesn't fit; nothing is written then. `Io` where a call of
+    /// the device failed. `NoMemory` where there is no room for two blocks and the slots; nothing is
+    /// written then either.
+    pub fn change(
+        &mut self,
+        alloc: Global,
+        index: usize,
+        changes: &[Change<'_>],
+    ) -> Result<Outcome, Error>
+        requires works { self.old.failed ≡ false }
+        requires can { CanChange self.old.kept index (changes_seen changes.now) }
+        ensures done { result ≡ Ok Outcome.Done → IsChanged self.old.kept index (changes_seen changes.now) self.new.kept }
+        ensures full { result ≡ Ok Outcome.Full → IsOnlyRead self.old.kept self.new.kept }
+        ensures failed { self.new.failed ≡ is_err result }
+        ensures errors { HasTold self.old.kept self.new.kept result }
+        ensures device { Writes (two_of (pair_in self.old.kept index).at) self.old.kept self.new.kept }
+        ensures stops { StopsLeave self.old.kept.history self.new.kept.history (IsLeft self.old.kept index (changes_seen changes.now)) }
+    {
+        let outcome = commit_to(alloc, &mut self.device, &mut self.cache, &mut self.pairs[index], changes);
+        self.has_failed = outcome.is_err();
+        outcome
+    }
+
+    /// Splits a pair, whose fresh part in those two blocks stands behind it: what the changes make is
+    /// cut in two, the pair keeps the first slots and its share of the global state, and the fresh one
+    /// gets the others and the tail, which names what it named. The two blocks are in flight before,
+    /// and used after it.
+    ///
+    /// Errors as those of [`change`](Thread::change).
+    pub fn split(
+        &mut self,
+        alloc: Global,
+        index: usize,
+        fresh: [u32; 2],
+        changes: &[Change<'_>],
+    ) -> Result<(), Error>
+        requires works { self.old.failed ≡ false }
+        requires can { CanBeSplit self.old.kept index (address_of fresh) (changes_seen changes.now) }
+        ensures done { OnOk result (IsSplit self.old.kept index (address_of fresh) (changes_seen changes.now) self.new.kept) }
+        ensures failed { self.new.failed ≡ is_err result }
+        ensures errors { HasTold self.old.kept self.new.kept result }
+        ensures device { Writes (four_of (pair_in self.old.kept index).at (address_of fresh)) self.old.kept self.new.kept }
+        ensures stops { StopsLeave self.old.kept.history self.new.kept.history (IsLeftBySplit self.old.kept index (address_of fresh) (changes_seen changes.now)) }
+    {
+        let result = split_pair(
+            alloc,
+            &mut self.device,
+            &mut self.cache,
+            &mut self.pairs,
+            &mut self.map,
+            index,
+            fresh,
+            changes,
+        );
+        self.has_failed = result.is_err();
+        result
+    }
+
+    /// Threads a fresh pair, in those two blocks, behind a pair: it has no slots and that one's tail,
+    /// and the changes are committed to that one, whose tail then names it. The two blocks are in
+    /// flight before, and used after it.
+    ///
+    /// `Full` where what the changes make doesn't fit: nothing names the fresh pair then, and its
+    /// blocks stay in flight. Errors as those of [`change`](Thread::change), but that at `NoMemory`
+    /// the two blocks may have been written.
+    pub fn thread_in(
+        &mut self,
+        alloc: Global,
+        index: usize,
+        fresh: [u32; 2],
+        changes: &[Change<'_>],
+    ) -> Result<Outcome, Error>
+        requires works { self.old.failed ≡ false }
+        requires can { CanJoin self.old.kept index (address_of fresh) (changes_seen changes.now) }
+        ensures done { result ≡ Ok Outcome.Done → IsJoined self.old.kept index (address_of fresh) (changes_seen changes.now) self.new.kept }
+        ensures full { result ≡ Ok Outcome.Full → IsBeside self.old.kept (address_of fresh) self.new.kept }
+        ensures failed { self.new.failed ≡ is_err result }
+        ensures errors { HasToldBeside (two_of (address_of fresh)) self.old.kept self.new.kept result }
+        ensures device { Writes (four_of (pair_in self.old.kept index).at (address_of fresh)) self.old.kept self.new.kept }
+        ensures stops { StopsLeave self.old.kept.history self.new.kept.history (IsLeftByJoin self.old.kept index (address_of fresh) (changes_seen changes.now)) }
+    {
+        let outcome = join_pair(
+            alloc,
+            &mut self.device,
+            &mut self.cache,
+            &mut self.pairs,
+            &mut self.map,
+            index,
+            fresh,
+            changes,
+        );
+        self.has_failed = outcome.is_err();
+        outcome
+    }
+
+    /// Commits changes to a pair, by which its tail names what the tail of the pair behind it names.
+    /// That one goes, and its blocks are free.
+    ///
+    /// `Full` and errors as those of [`change`](Thread::change).
+    pub fn drop_next(
+        &mut self,
+        alloc: Global,
+        index: usize,
+        changes: &[Change<'_>],
+    ) -> Result<Outcome, Error>
+        requires works { self.old.failed ≡ false }
+        requires can { CanDrop self.old.kept index (changes_seen changes.now) }
+        ensures done { result ≡ Ok Outcome.Done → IsDropped self.old.kept index (changes_seen changes.now) self.new.kept }
+        ensures full { result ≡ Ok Outcome.Full → IsOnlyRead self.old.kept self.new.kept }
+        ensures failed { self.new.failed ≡ is_err result }
+        ensures errors { HasTold self.old.kept self.new.kept result }
+        ensures device { Writes (two_of (pair_in self.old.kept index).at) self.old.kept self.new.kept }
+        ensures stops { StopsLeave self.old.kept.history self.new.kept.history (IsLeft self.old.kept index (changes_seen changes.now)) }
+    {
+        let outcome = drop_pair(
+            alloc,
+            &mut self.device,
+            &mut self.cache,
+            &mut self.pairs,
+            &mut self.map,
+            index,
+            changes,
+        );
+        self.has_failed = outcome.is_err();
+        outcome
+    }
+}
+
+// An empty cache, and a map of so many free blocks.
+fn in_memory(alloc: Global, block_count: u32) -> Result<(Cache, BlockMap), Error>
+    ensures empty { IfOk result (λ parts. parts.0 ≡ []) }
+    ensures free { IfOk result (λ parts. parts.1 ≡ replicate block_count Free) }
+    ensures error { IfErr result (λ e. e ≡ Error.NoMemory) }
+{
+    let cache = Cache::new(alloc)?;
+    let map = BlockMap::new(alloc, block_count)?;
+    Ok((cache, map))
+}

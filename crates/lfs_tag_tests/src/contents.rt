@@ -62,7 +62,11 @@ fn a_slot_that_is_not_there(rt: HostRuntime) -> Result<(), Fail> {
     let block = one_file(rt.alloc(), &BAD_DELETE)?;
     assert_eq!(rt;
         errors_of(rt.alloc(), &block),
-        (true, Some(ContentError::Malformed), Some(ContentError::Malformed))
+        (
+            true,
+            Some(ContentError::Malformed),
+            Some(ContentError::Malformed)
+        )
     );
     Ok(())
 }
@@ -112,7 +116,13 @@ fn held_or_not(rt: HostRuntime) -> Result<(), Fail> {
             held(&log, 1, 2).0,
             held(&log, 0x4ff, 1).0,
         ],
-        [Some(b"".as_slice()), Some(b"littlefs".as_slice()), None, None, None]
+        [
+            Some(b"".as_slice()),
+            Some(b"littlefs".as_slice()),
+            None,
+            None,
+            None
+        ]
     );
     Ok(())
 }

@@ -37,12 +37,18 @@ fn superblock_of_a_geometry(rt: HostRuntime) -> Result<(), Fail> {
 #[test]
 fn addresses(rt: HostRuntime) {
     assert_eq!(rt;
-        (pair_of(&[2, 0, 0, 0, 3, 1, 0, 0]), ctz_of(&[7, 0, 0, 0, 0xfd, 7, 0, 0])),
+        (
+            pair_of(&[2, 0, 0, 0, 3, 1, 0, 0]),
+            ctz_of(&[7, 0, 0, 0, 0xfd, 7, 0, 0])
+        ),
         ([2, 259], (7, 2045))
     );
     assert_eq!(rt;
         [pair_bytes([2, 0xffff_ffff]), ctz_bytes(7, 2045)],
-        [[2, 0, 0, 0, 0xff, 0xff, 0xff, 0xff], [7, 0, 0, 0, 0xfd, 7, 0, 0]]
+        [
+            [2, 0, 0, 0, 0xff, 0xff, 0xff, 0xff],
+            [7, 0, 0, 0, 0xfd, 7, 0, 0]
+        ]
     );
 }
 

@@ -71,7 +71,10 @@ fn the_end_of_a_block(rt: HostRuntime) -> Result<(), Fail> {
 #[test]
 fn revisions(rt: HostRuntime) {
     assert_eq!(rt;
-        [Log::read(&[7, 0, 0, 1]).revision(), Log::read(&[7, 0, 0]).revision()],
+        [
+            Log::read(&[7, 0, 0, 1]).revision(),
+            Log::read(&[7, 0, 0]).revision()
+        ],
         [0x0100_0007, 0]
     );
 }
@@ -132,7 +135,12 @@ fn entries_from_both_ends(rt: HostRuntime) -> Result<(), Fail> {
         (tags, count(entries)),
         (
             [
-                0x0ff0_0008, 0x500f_fcf7, 0x3410_0401, 0x500f_fcf8, 0x2010_0018, 0x4ff0_0400,
+                0x0ff0_0008,
+                0x500f_fcf7,
+                0x3410_0401,
+                0x500f_fcf8,
+                0x2010_0018,
+                0x4ff0_0400,
             ],
             9
         )
@@ -147,7 +155,11 @@ fn known_by_its_end(rt: HostRuntime) -> Result<(), Fail> {
     let read = Log::read(&block);
     let known = Log::known(&block, read.end(), read.last());
     assert_eq!(rt;
-        (known.has_commit(), known.revision(), known.entries().count()),
+        (
+            known.has_commit(),
+            known.revision(),
+            known.entries().count()
+        ),
         (true, 1, 15)
     );
     Ok(())

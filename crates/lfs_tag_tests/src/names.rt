@@ -21,7 +21,11 @@ fn names(rt: HostRuntime) {
 #[test]
 fn length_of_names(rt: HostRuntime) {
     assert_eq!(rt;
-        [is_name(&[0x61; 255]), is_name(&[0x61; 256]), is_component(&[0x61; 256])],
+        [
+            is_name(&[0x61; 255]),
+            is_name(&[0x61; 256]),
+            is_component(&[0x61; 256])
+        ],
         [true, false, true]
     );
 }
@@ -29,7 +33,12 @@ fn length_of_names(rt: HostRuntime) {
 #[test]
 fn later_revisions(rt: HostRuntime) {
     assert_eq!(rt;
-        [is_later(1, 2), is_later(2, 1), is_later(0xffff_ffff, 0), is_later(5, 5)],
+        [
+            is_later(1, 2),
+            is_later(2, 1),
+            is_later(0xffff_ffff, 0),
+            is_later(5, 5)
+        ],
         [true, false, true, false]
     );
 }

@@ -83,7 +83,11 @@ fn main(rt: HostRuntime) -> io::Result<()> {
     let mut block = [0xffu8; BLOCK];
     fill(&mut block);
     let log = Log::read(&block);
-    println!(rt; "{} {}", shown(find(&log, &name_of(0), None)), shown(find(&log, b"\0", None)))?;
+    println!(rt;
+        "{} {}",
+        shown(find(&log, &name_of(0), None)),
+        shown(find(&log, b"\0", None))
+    )?;
     let start = Instant::now(&rt)?;
     let read = read_often(&block, rounds);
     let reading = start.elapsed(&rt)?;
@@ -97,5 +101,11 @@ fn main(rt: HostRuntime) -> io::Result<()> {
     let contents = content_often(rt.alloc(), &log, rounds);
     let whole = start.elapsed(&rt)?;
     eprintln!(rt; "{read} {known} {found} {contents}")?;
-    eprintln!(rt; "{} {} {} {}", reading.as_nanos(), knowing.as_nanos(), finding.as_nanos(), whole.as_nanos())
+    eprintln!(rt;
+        "{} {} {} {}",
+        reading.as_nanos(),
+        knowing.as_nanos(),
+        finding.as_nanos(),
+        whole.as_nanos()
+    )
 }

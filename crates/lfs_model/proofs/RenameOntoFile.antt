@@ -1,5 +1,5 @@
 -- A rename within one pair onto a file, from its commit alone; the file stands behind the old slot or in front of it.
-use Rattle.std.proofs.Common.{ℕ, ◌≡◌, Bool, true, false, not, List, [], ◌∷◌, ◌++◌, length, Option, Some, None, refl, sym, ap, ap₂, subst, ◌∙◌, append_assoc, slice_get, remove, set}
+use Rattle.std.proofs.Common.{ℕ, ◌≡◌, true, false, not, List, [], ◌∷◌, ◌++◌, length, Some, None, refl, sym, ap, ◌∙◌, append_assoc, slice_get, remove, set}
 use Rattle.std.proofs.lemmas.List.Elements.{filter-append}
 use Rattle.std.proofs.Math.Seq.{set-append_seam}
 use Rattle.lfs_model.specs.Disk.{Disk}

@@ -7,7 +7,7 @@ use Rattle.std.specs.Int.{w32, trailing_zeros}
 use lib.Pow.{pow_mono}
 use Rattle.lfs_ctz.proofs.Zeros.{zeros32-multiple, zeros32-more, zeros-le, power-le, twice, factor-pos}
 
-power_below : (a b x : ℕ) → 2 ^ a ≤ x → x < 2 ^ b → a < b
+pub power_below : (a b x : ℕ) → 2 ^ a ≤ x → x < 2 ^ b → a < b
 power_below a b x le lt = ⊎_elim (λ less. less) (λ more. let k : 2 ^ b ≤ 2 ^ a = pow_mono more in absurd (omega arith)) (cases_lt a b)
 
 -- The way left is below 2^r, and the place is a multiple of half that.

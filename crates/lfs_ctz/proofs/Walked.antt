@@ -1,7 +1,8 @@
 -- Blocks that a walk from the head back has checked are a list's.
-use Rattle.std.proofs.Common.{ℕ, zero, suc, ◌≡◌, ◌≢◌, ◌+◌, ◌*◌, ◌-◌, ◌<◌, ◌≤◌, ◌^◌, ⊎_elim, nat_eq, false, List, [], ◌∷◌, ◌++◌, length, drop, slice_index, sym, ap, subst, ◌∙◌, arith, add-one, eqb-true}
+use Rattle.std.proofs.Common.{ℕ, zero, suc, ◌≡◌, ◌≢◌, ◌+◌, ◌*◌, ◌-◌, ◌<◌, ◌≤◌, ◌^◌, ⊎_elim, nat_eq, false, List, [], ◌∷◌, ◌++◌, length, drop, slice_index, sym, ap, subst, ◌∙◌, arith, eqb-true}
 use Rattle.std.specs.List.{IsDistinct}
-use Rattle.std.proofs.Math.Nat.{pow-suc, one-le-pow}
+use Rattle.std.proofs.Math.Nat.{mul_assoc, add-mul, one-le-pow}
+use Rattle.std.proofs.lemmas.Nat.{mul-le, pow-add}
 use Rattle.std.proofs.Common.{get_or}
 use Rattle.std.proofs.Common.{reverse}
 use Rattle.std.specs.List.{FoldsTo}
@@ -14,43 +15,16 @@ use Rattle.std.proofs.lemmas.Map.Steps.{length-le_from_distinct_below}
 use Rattle.std.proofs.lemmas.Map.Keys.{IsDistinct-from_apart, apart_from_distinct}
 use Rattle.lfs_model.specs.Blocks.{Blocks, block_in}
 use Rattle.lfs_model.specs.Lists.{word_at, pointers_of, blocks_back, IsChain}
-use Rattle.lfs_ctz.specs.Right.{IsRight}
-use Rattle.lfs_ctz.proofs.Zeros.{zeros32_before}
+use Rattle.lfs_ctz.specs.Right.{IsNamed, IsNoted}
+use Rattle.lfs_ctz.proofs.Back.{power_below}
+use lib.Count.{count_trailing_zeros}
+use Rattle.std.specs.Int.{w32, trailing_zeros}
+use Rattle.lfs_ctz.proofs.Zeros.{zeros32-multiple, zeros-le, factor-pos}
 use Rattle.lfs_ctz.proofs.Chains.{length_back, pointers_of-pos, back-pointer0}
 
 module _ (d : Blocks) (n head : ℕ) where
   abbrev bs : List ℕ
   bs = blocks_back d n head
-
-  -- ---- where each block but the first is right
-
-  module _ (low : n ≤ 2 ^ 32) (right : (j : ℕ) → 0 < j → j < n → IsRight d j (slice_index bs j)) where
-    -- the pointers of one block, where those of the blocks before it are right
-    points_below : (i : ℕ) → i < n → ((j : ℕ) → j < i → (k : ℕ) → k < pointers_of j → word_at (block_in d (slice_index bs j)) (4 * k) ≡ slice_index bs (j - 2 ^ k))
-        → (k : ℕ) → k < pointers_of i → word_at (block_in d (slice_index bs i)) (4 * k) ≡ slice_index bs (i - 2 ^ k)
-    points_below zero lt before k few = absurd (omega arith)
-    points_below (suc i) lt before zero few =
-        let back : suc i - 2 ^ 0 ≡ i = omega arith in
-        back-pointer0 d n head i lt ∙ ap (slice_index bs) (sym back)
-    points_below (suc i) lt before (suc k) few =
-        let zeros = zeros32_before (suc i) k (omega arith) (omega arith) (omega arith) in
-        let power = one-le-pow k 2 (omega arith) in
-        let many = pointers_of-pos (suc i - 2 ^ k) zeros.0 in
-        let next = right (suc i) (omega arith) lt k (omega arith) in
-        let so_far = points_below (suc i) lt before k (omega arith) in
-        let twice : suc i - 2 ^ k - 2 ^ k ≡ suc i - 2 ^ suc k = omega (arith, pow-suc 2 k) in
-        ap (λ j. word_at (block_in d (slice_index bs (suc i))) (4 * j)) (sym (add-one k))
-        ∙ next
-        ∙ ap (λ b. word_at (block_in d b) (4 * k)) so_far
-        ∙ before (suc i - 2 ^ k) (omega arith) k (omega arith)
-        ∙ ap (slice_index bs) twice
-
-    points_before : (m : ℕ) → m ≤ n → (j : ℕ) → j < m → (k : ℕ) → k < pointers_of j → word_at (block_in d (slice_index bs j)) (4 * k) ≡ slice_index bs (j - 2 ^ k)
-    points_before zero le j lt = absurd (omega arith)
-    points_before (suc m) le j lt = points_below j (omega arith) (λ i less. points_before m (omega arith) i (omega arith))
-
-    pub points : (i k : ℕ) → i < n → k < pointers_of i → word_at (block_in d (slice_index bs i)) (4 * k) ≡ slice_index bs (i - 2 ^ k)
-    points i k lt few = points_before n (omega arith) i lt k few
 
   -- ---- where the first block comes once
 
@@ -79,34 +53,116 @@ module _ (d : Blocks) (n head : ℕ) where
       let other : nat_eq (slice_index bs 0) (slice_index bs j) ≡ false = apart_from_distinct nat_eq bs 0 j 0 distinct some (omega arith) in
       grind (arith, nat_tests)
 
+-- ---- multiples of powers of two
+
+multiple : (j k : ℕ) → 0 < j → j < 2 ^ 32 → k ≤ trailing_zeros w32 j → (c : ℕ) × (j ≡ c * 2 ^ k)
+multiple j k some low le =
+    let odd = zeros32-multiple j some low in
+    let z : ℕ = trailing_zeros w32 j in (
+      (2 * odd.half + 1) * 2 ^ (z - k),
+      odd.is ∙ ap (λ p. (2 * odd.half + 1) * p) (ap (λ e. 2 ^ e) (let s : z ≡ (z - k) + k = omega arith in s) ∙ pow-add 2 (z - k) k) ∙ sym (mul_assoc (2 * odd.half + 1) (2 ^ (z - k)) (2 ^ k)),
+    )
+
+-- a power of two that divides a number is no greater, and its exponent is below 32
+power_small : (j k : ℕ) → 0 < j → j < 2 ^ 32 → k ≤ trailing_zeros w32 j → (2 ^ k ≤ j) × (k < 32)
+power_small j k some low le =
+    let m = multiple j k some low le in
+    let one = factor-pos m.0 (2 ^ k) j m.1 some in
+    let large : 2 ^ k ≤ j = omega (arith, m.1, mul-le 1 (2 ^ k) m.0 (2 ^ k) one (omega arith)) in
+    (large, power_below k 32 j large low)
+
+none_zeros : 32 ≤ trailing_zeros w32 0
+unfolding count_trailing_zeros
+none_zeros = omega arith
+
+-- it divides the number less it, and the number and it
+zeros_less : (j k i : ℕ) → 0 < j → j < 2 ^ 32 → k ≤ trailing_zeros w32 j → j - 2 ^ k ≡ i → k ≤ trailing_zeros w32 i
+zeros_less j k zero some low le is = let small = power_small j k some low le in omega (arith, none_zeros, small.1)
+zeros_less j k (suc i) some low le is =
+    let m = multiple j k some low le in
+    let one = factor-pos m.0 (2 ^ k) j m.1 some in
+    let less : m.0 * 2 ^ k ≡ (m.0 - 1) * 2 ^ k + 1 * 2 ^ k = ap (λ x. x * 2 ^ k) (let s : m.0 ≡ (m.0 - 1) + 1 = omega arith in s) ∙ add-mul (m.0 - 1) 1 (2 ^ k) in
+    zeros-le 32 (suc i) (m.0 - 1) k (omega arith) (omega arith) (omega (arith, less, m.1, is))
+
+zeros_more : (i k : ℕ) → i + 2 ^ k < 2 ^ 32 → k ≤ trailing_zeros w32 i → k ≤ trailing_zeros w32 (i + 2 ^ k)
+zeros_more zero k low le = let one = one-le-pow k 2 (omega arith) in zeros-le 32 (0 + 2 ^ k) 1 k (omega arith) low (omega arith)
+zeros_more (suc i) k low le =
+    let m = multiple (suc i) k (omega arith) (omega arith) le in
+    zeros-le 32 (suc i + 2 ^ k) (m.0 + 1) k (omega arith) low (omega (arith, m.1, add-mul m.0 1 (2 ^ k)))
+
+-- between two multiples that follow one another there is none
+between_none : (i j k : ℕ) → 0 < i → i < j → j < 2 ^ 32 → j - 2 ^ k < i → k ≤ trailing_zeros w32 j → k ≤ trailing_zeros w32 i → ⊥
+between_none i j k some less low above here there =
+    let a = multiple i k some (omega arith) there in
+    let b = multiple j k (omega arith) low here in
+    ⊎_elim
+    (λ lt. let le = mul-le (a.0 + 1) (2 ^ k) b.0 (2 ^ k) (omega arith) (omega arith) in omega (arith, le, a.1, b.1, add-mul a.0 1 (2 ^ k)))
+    (λ ge. let le = mul-le b.0 (2 ^ k) a.0 (2 ^ k) ge (omega arith) in omega (arith, le, a.1, b.1))
+    (cases_lt a.0 b.0)
+
 -- ---- what a walk tells
 
 -- what it has checked of the blocks behind a place
-pub record IsChecked (d : Blocks) (last head first count index : ℕ) : Type 0 where
+pub record IsChecked (d : Blocks) (last head first count index : ℕ) (words : List ℕ) : Type 0 where
   pub in_range : (j : ℕ) → index < j → j ≤ last → slice_index (blocks_back d (last + 1) head) j < count
-  pub right : (j : ℕ) → index < j → j ≤ last → IsRight d j (slice_index (blocks_back d (last + 1) head) j)
   pub other : (j : ℕ) → index < j → j ≤ last → slice_index (blocks_back d (last + 1) head) j ≢ first
+  -- their pointers to one another are right, and the others are noted
+  pub right : (j k : ℕ) → index < j → j ≤ last → k < pointers_of j → index < j - 2 ^ k
+      → word_at (block_in d (slice_index (blocks_back d (last + 1) head) j)) (4 * k) ≡ slice_index (blocks_back d (last + 1) head) (j - 2 ^ k)
+  pub noted : (j k : ℕ) → index < j → j ≤ last → k < pointers_of j → j - 2 ^ k ≤ index → word_at words (4 * k) ≡ word_at (block_in d (slice_index (blocks_back d (last + 1) head) j)) (4 * k)
 
-pub none_checked : (d : Blocks) (last head first count : ℕ) → IsChecked d last head first count last
-none_checked d last head first count = record {
+pub none_checked : (d : Blocks) (last head first count : ℕ) (words : List ℕ) → IsChecked d last head first count last words
+none_checked d last head first count words = record {
   in_range = λ j above le. absurd (omega arith);
-  right = λ j above le. absurd (omega arith);
   other = λ j above le. absurd (omega arith);
+  right = λ j k above le. absurd (omega arith);
+  noted = λ j k above le. absurd (omega arith);
 }
 
 one_more : (P : ℕ → Type 0) (index last : ℕ) → ((j : ℕ) → index < j → j ≤ last → P j) → P index → (j : ℕ) → index - 1 < j → j ≤ last → P j
 one_more P index last checked here j above le = ⊎_elim (λ more. checked j more le) (λ most. subst P (let e : index ≡ j = omega arith in e) here) (cases_lt index j)
 
-pub more_checked : (d : Blocks) (last head first count index block : ℕ) → IsChecked d last head first count index → block ≡ slice_index (blocks_back d (last + 1) head) index
-    → block < count → IsRight d index block → block ≢ first → IsChecked d last head first count (index - 1)
-more_checked d last head first count index block checked is lt right other = record {
-  in_range = one_more (λ j. slice_index (blocks_back d (last + 1) head) j < count) index last checked.in_range (omega (arith, is, lt));
-  right = one_more (λ j. IsRight d j (slice_index (blocks_back d (last + 1) head) j)) index last checked.right (subst (IsRight d index) is right);
-  other = one_more (λ j. slice_index (blocks_back d (last + 1) head) j ≢ first) index last checked.other (subst (λ b. b ≢ first) is other);
-}
+module _ (d : Blocks) (last head first count index block : ℕ) (words new : List ℕ) (low : last < 2 ^ 32) (some : 0 < index) (checked : IsChecked d last head first count index words)
+    (is : block ≡ slice_index (blocks_back d (last + 1) head) index) (named : IsNamed words block index last) (notes : IsNoted d block index words new) where
+  abbrev all : List ℕ
+  all = blocks_back d (last + 1) head
 
-pub chain_of_walk : (d : Blocks) (last head first : ℕ) → last < 2 ^ 32 → IsChecked d last head first (length d) 0 → slice_index (blocks_back d (last + 1) head) 0 ≡ first → first < length d → IsChain d (last + 1) head
-chain_of_walk d last head first low checked is lt = record {
+  right_before : (j k : ℕ) → index < j → j ≤ last → k < pointers_of j → index - 1 < j - 2 ^ k → word_at (block_in d (slice_index all j)) (4 * k) ≡ slice_index all (j - 2 ^ k)
+  right_before j k above le few over =
+      let many = pointers_of-pos j (omega arith) in
+      let small = power_small j k (omega arith) (omega arith) (omega arith) in
+      ⊎_elim (λ more. checked.right j k above le few more)
+      (λ most.
+      let here : j - 2 ^ k ≡ index = omega arith in
+      sym (checked.noted j k above le few (omega arith)) ∙ named k (omega (arith, small.0)) (zeros_less j k index (omega arith) (omega arith) (omega arith) here) ∙ is ∙ ap (slice_index all) (sym here))
+      (cases_lt index (j - 2 ^ k))
+
+  noted_before : (j k : ℕ) → index < j → j ≤ last → k < pointers_of j → j - 2 ^ k ≤ index - 1 → word_at new (4 * k) ≡ word_at (block_in d (slice_index all j)) (4 * k)
+  noted_before j k above le few under =
+      let many = pointers_of-pos j (omega arith) in
+      let own = pointers_of-pos index some in
+      let small = power_small j k (omega arith) (omega arith) (omega arith) in
+      ⊎_elim (λ less. absurd (between_none index j k some above (omega arith) (omega arith) (omega arith) (omega arith)))
+      (λ more. notes.others k more small.1 ∙ checked.noted j k above le few (omega arith))
+      (cases_lt k (pointers_of index))
+
+  pub more_checked : index ≤ last → block < count → block ≢ first → IsChecked d last head first count (index - 1) new
+  more_checked within lt other = record {
+    in_range = one_more (λ j. slice_index all j < count) index last checked.in_range (omega (arith, is, lt));
+    other = one_more (λ j. slice_index all j ≢ first) index last checked.other (subst (λ b. b ≢ first) is other);
+    right = λ j k above le few over. ⊎_elim (λ more. right_before j k more le few over)
+        (λ most. absurd (let power = one-le-pow k 2 (omega arith) in omega arith))
+        (cases_lt index j);
+    noted = λ j k above le few under. ⊎_elim (λ more. noted_before j k more le few under)
+        (λ most.
+        let here : index ≡ j = omega arith in
+        notes.own k (subst (λ i. k < pointers_of i) (sym here) few) ∙ ap (λ b. word_at (block_in d b) (4 * k)) (is ∙ ap (slice_index all) here))
+        (cases_lt index j);
+  }
+
+pub chain_of_walk : (d : Blocks) (last head first : ℕ) (words : List ℕ) → last < 2 ^ 32 → IsChecked d last head first (length d) 0 words → slice_index (blocks_back d (last + 1) head) 0 ≡ first → first < length d
+    → IsNamed words first 0 last → IsChain d (last + 1) head
+chain_of_walk d last head first words low checked is lt named = record {
   in_range = λ k x l.
       let len = length_back d (last + 1) head in
       let same = get_or_default (blocks_back d (last + 1) head) k x 0 l in
@@ -114,22 +170,29 @@ chain_of_walk d last head first low checked is lt = record {
       (λ none. let here : slice_index (blocks_back d (last + 1) head) k ≡ first = ap (slice_index (blocks_back d (last + 1) head)) (let e : k ≡ 0 = omega arith in e) ∙ is in omega (arith, here, same, lt))
       (cases_lt 0 k);
   distinct = distinct_of_first d (last + 1) head (λ j some l e. checked.other j some (omega arith) (e ∙ is));
-  pointers = points d (last + 1) head (omega arith) (λ j some l. checked.right j some (omega arith));
+  pointers = points;
 }
+  where
+    points : (i k : ℕ) → i < last + 1 → k < pointers_of i → word_at (block_in d (slice_index (blocks_back d (last + 1) head) i)) (4 * k) ≡ slice_index (blocks_back d (last + 1) head) (i - 2 ^ k)
+    points zero k l few = absurd (omega arith)
+    points (suc i) k l few =
+        let many = pointers_of-pos (suc i) (omega arith) in
+        let small = power_small (suc i) k (omega arith) (omega arith) (omega arith) in
+        ⊎_elim (λ more. checked.right (suc i) k (omega arith) (omega arith) few more)
+        (λ none.
+        let here : suc i - 2 ^ k ≡ 0 = omega arith in
+        sym (checked.noted (suc i) k (omega arith) (omega arith) few (omega arith)) ∙ named k (omega (arith, small.0)) (omega (arith, none_zeros, small.1)) ∙ sym is ∙ ap (slice_index (blocks_back d (last + 1) head)) (sym here))
+        (cases_lt 0 (suc i - 2 ^ k))
 
 -- and what it would have found in a list
-pub right_of_chain : (d : Blocks) (n head : ℕ) → n ≤ 2 ^ 32 → IsChain d n head → (j : ℕ) → 0 < j → j < n → IsRight d j (slice_index (blocks_back d n head) j)
-right_of_chain d n head low chain j some lt k less =
-    let bs : List ℕ = blocks_back d n head in
-    let zeros = zeros32_before j k some (omega arith) less in
+pub named_of_chain : (d : Blocks) (last head first count index : ℕ) (words : List ℕ) → last < 2 ^ 32 → IsChecked d last head first count index words → IsChain d (last + 1) head → index ≤ last
+    → (block : ℕ) → block ≡ slice_index (blocks_back d (last + 1) head) index → IsNamed words block index last
+named_of_chain d last head first count index words low checked chain within block is k fits le =
     let power = one-le-pow k 2 (omega arith) in
-    let many = pointers_of-pos j some in
-    let many_before = pointers_of-pos (j - 2 ^ k) zeros.0 in
-    let twice : j - 2 ^ (k + 1) ≡ j - 2 ^ k - 2 ^ k = omega (arith, pow-suc 2 k, ap (λ e. 2 ^ e) (add-one k)) in
-    chain.pointers j (k + 1) lt (omega arith)
-    ∙ ap (slice_index bs) twice
-    ∙ sym (chain.pointers (j - 2 ^ k) k (omega arith) (omega arith))
-    ∙ ap (λ b. word_at (block_in d b) (4 * k)) (sym (chain.pointers j k lt (omega arith)))
+    let more = zeros_more index k (omega arith) le in
+    let many = pointers_of-pos (index + 2 ^ k) (omega arith) in
+    let back : index + 2 ^ k - 2 ^ k ≡ index = omega arith in
+    checked.noted (index + 2 ^ k) k (omega arith) (omega arith) (omega arith) (omega arith) ∙ chain.pointers (index + 2 ^ k) k (omega arith) (omega arith) ∙ ap (slice_index (blocks_back d (last + 1) head)) back ∙ sym is
 
 -- a list has at most as many blocks as the disk
 pub chain_fits : (d : Blocks) (n head : ℕ) → IsChain d n head → n ≤ length d

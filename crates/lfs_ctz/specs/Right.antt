@@ -1,10 +1,14 @@
--- Pointers of a block that lead to one another.
-use Rattle.std.specs.Prelude.{ℕ, ◌≡◌, ◌<◌, ◌+◌, ◌*◌}
+-- Pointers of a list's blocks, as a walk from the head back checks them.
+use Rattle.std.specs.Prelude.{ℕ, ◌≡◌, ◌≤◌, ◌<◌, ◌-◌, ◌*◌, ◌^◌, List}
 use Rattle.std.specs.Int.{w32, trailing_zeros}
 use Rattle.lfs_model.specs.Blocks.{Blocks, block_in}
-use Rattle.lfs_model.specs.Lists.{word_at}
+use Rattle.lfs_model.specs.Lists.{pointers_of, word_at}
 
--- In a list's block at that index each further pointer is the one of the same place, but one, in the block that the pointer before it names.
-abbrev pub IsRight : Blocks → ℕ → ℕ → Type 0
-IsRight disk index block = (k : ℕ) → k < trailing_zeros w32 index →
-    word_at (block_in disk block) (4 * (k + 1)) ≡ word_at (block_in disk (word_at (block_in disk block) (4 * k))) (4 * k)
+-- Each block behind this one that has a pointer to its place names it. At each power of two there are the words of the last block that has such a pointer.
+abbrev pub IsNamed : List ℕ → ℕ → ℕ → ℕ → Type 0
+IsNamed words block index last = (k : ℕ) → 2 ^ k ≤ last - index → k ≤ trailing_zeros w32 index → word_at words (4 * k) ≡ block
+
+-- the words with the pointers of one block more, at that index
+pub record IsNoted (disk : Blocks) (block index : ℕ) (old new : List ℕ) : Type 0 where
+  pub own : (k : ℕ) → k < pointers_of index → word_at new (4 * k) ≡ word_at (block_in disk block) (4 * k)
+  pub others : (k : ℕ) → pointers_of index ≤ k → k < 32 → word_at new (4 * k) ≡ word_at old (4 * k)

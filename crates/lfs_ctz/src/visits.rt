@@ -1,38 +1,69 @@
-ghost use Rattle.std.specs.Prelude.{◌≡◌, ◌≤◌, ◌<◌, ◌+◌, ◌*◌, ◌⊎◌, ℕ, OnOk, IfOk, IfErr, IsErrOf, reverse};
+ghost use Rattle.std.specs.Prelude.{◌≡◌, ◌≤◌, ◌<◌, ◌+◌, ◌*◌, ◌^◌, ◌⊎◌, ℕ, true, false, length, OnOk, IfOk, IfErr, IsErrOf, reverse};
 ghost use Rattle.std.specs.List.{FoldsTo};
 ghost use Rattle.lfs_model.specs.Blocks.{block_in};
 ghost use Rattle.lfs_device.specs.Calls.{ReadsOnly, TellsFaults};
-ghost use Rattle.lfs_model.specs.Lists.{IsList, blocks_back, blocks_for, pointers_of, word_at};
-ghost use Rattle.lfs_ctz.specs.Right.{IsRight};
+ghost use Rattle.lfs_model.specs.Lists.{IsList, blocks_back, blocks_for, word_at};
+ghost use Rattle.lfs_ctz.specs.Right.{IsNamed, IsNoted};
+ghost use Rattle.lfs_model.specs.History.{reads};
 
 use crate::blocks_for;
-use crate::read::{find, pointer};
+use crate::read::{find, pointers, read_part};
+use byteorder::{ByteOrder, LittleEndian};
 use lfs_device::{BlockDevice, Error};
 
-// The block that pointer 0 of a block names. Corrupt where another of its pointers is not the one
-// that the one before it leads to, or where one leads out of the device.
-fn checked_before<D: BlockDevice>(dev: &mut D, block: u32, index: u32) -> Result<u32, Error>
-    requires { 0 < index }
+// The word at a place.
+fn word(words: &[u8], at: usize) -> u32
+    requires { at + 4 ≤ length words.now }
+    ensures { result ≡ word_at words.now at }
+{
+    LittleEndian::read_u32(&words[at..at + 4])
+}
+
+// Whether a block is the one that the pointers to its place name.
+fn is_named(words: &[u8], block: u32, index: u32, last: u32) -> bool
+    requires order { index ≤ last }
+    requires room { length words.now ≡ 128 }
+    ensures yes { result ≡ true → IsNamed words.now block index last }
+    ensures no { result ≡ false → ¬ IsNamed words.now block index last }
+{
+    if index == last {
+        return true;
+    }
+    let most = index.trailing_zeros().min((last - index).ilog2());
+    for k in 0..most + 1 {
+        if word(words, 4 * k as usize) != block {
+            return false;
+        }
+    }
+    true
+}
+
+// The block that pointer 0 of a block names, whose pointers are noted, by one read. Corrupt where
+// it is no block of the device, or not the one that the pointers to its place name.
+fn checked_before<D: BlockDevice>(
+    dev: &mut D,
+    block: u32,
+    index: u32,
+    last: u32,
+    words: &mut [u8],
+) -> Result<u32, Error>
+    requires some { 0 < index }
+    requires order { index ≤ last }
+    requires room { length words.old ≡ 128 }
     ensures word { IfOk result (λ word. word ≡ word_at (block_in (D.blocks dev.old) block) 0) }
-    ensures right { OnOk result (IsRight (D.blocks dev.old) index block) }
-    ensures in_range { OnOk result (block < (D.geometry dev.old).block_count) }
-    ensures corrupt { IsErrOf result Error.Corrupt → block < (D.geometry dev.old).block_count
-        → ((k : ℕ) → k < pointers_of index → word_at (block_in (D.blocks dev.old) block) (4 * k) < (D.geometry dev.old).block_count)
-        → ¬ IsRight (D.blocks dev.old) index block }
+    ensures noted { OnOk result (IsNoted (D.blocks dev.old) block index words.old words.new) }
+    ensures right { OnOk result ((block < (D.geometry dev.old).block_count) × IsNamed words.old block index last) }
+    ensures corrupt { IsErrOf result Error.Corrupt → block < (D.geometry dev.old).block_count → ¬ IsNamed words.old block index last }
     ensures device { ReadsOnly D.BlockDevice dev.old dev.new }
     ensures faults { TellsFaults D.BlockDevice dev.old dev.new result }
     ensures errors { IfErr result (λ e. (e ≡ Error.Io) ⊎ (e ≡ Error.Corrupt)) }
+    ensures few { reads (D.history dev.new) ≤ reads (D.history dev.old) + 1 }
 {
-    let before = pointer(dev, block, 0)?;
-    let mut to = before;
-    for k in 0..index.trailing_zeros() {
-        to = pointer(dev, to, k)?;
-        let next = pointer(dev, block, k + 1)?;
-        if next != to {
-            return Err(Error::Corrupt);
-        }
+    if block >= dev.geometry().block_count || !is_named(words, block, index, last) {
+        return Err(Error::Corrupt);
     }
-    Ok(before)
+    read_part(dev, block, 0, words, 0, 4 * pointers(index))?;
+    Ok(word(words, 0))
 }
 
 /// Visits each block of a file's list once, the last one first, and checks the list on the way.
@@ -57,6 +88,9 @@ pub fn walk<D: BlockDevice, F: FnMut(u32)>(
     ensures device { ReadsOnly D.BlockDevice dev.old dev.new }
     ensures faults { TellsFaults D.BlockDevice dev.old dev.new result }
     ensures errors { IfErr result (λ e. (e ≡ Error.Io) ⊎ (e ≡ Error.Corrupt)) }
+    // One read for each block, and the steps to the first one.
+    ensures few { (m : ℕ) → blocks_for (D.geometry dev.old).block_size size ≤ 2 ^ m
+        → OnOk result (reads (D.history dev.new) ≤ reads (D.history dev.old) + blocks_for (D.geometry dev.old).block_size size + 2 * m) }
 {
     let geometry = dev.geometry();
     if size == 0 || size > 0x7fff_ffff {
@@ -68,10 +102,11 @@ pub fn walk<D: BlockDevice, F: FnMut(u32)>(
     }
     // If any block came twice, the first one would: equal blocks have equal blocks before them.
     let first = find(dev, head, last, 0)?;
+    let mut words = [0; 128];
     let mut block = head;
     let mut index = last;
     while index > 0 {
-        let before = checked_before(dev, block, index)?;
+        let before = checked_before(dev, block, index, last, &mut words)?;
         if block == first {
             return Err(Error::Corrupt);
         }
@@ -80,6 +115,9 @@ pub fn walk<D: BlockDevice, F: FnMut(u32)>(
         index -= 1;
     }
     if block != first {
+        return Err(Error::Corrupt);
+    }
+    if !is_named(&words, block, 0, last) {
         return Err(Error::Corrupt);
     }
     visit(block);

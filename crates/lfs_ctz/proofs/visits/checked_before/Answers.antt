@@ -1,30 +1,40 @@
-use Rattle.std.proofs.Common.{◌≡◌, ◌+◌, ◌*◌, sym, ap, ap₂, ◌∙◌, below_more}
-use Rattle.lfs_model.specs.Blocks.{block_in}
-use Rattle.lfs_model.specs.Lists.{word_at}
-use Rattle.lfs_ctz.proofs.Called.{quiet, read_on}
+use Rattle.std.proofs.Common.{ℕ, ◌≡◌, ◌≤◌, ◌+◌, ◌-◌, ◌*◌, ◌++◌, List, length, take, drop, ap, ◌∙◌, arith}
+use Rattle.std.proofs.lemmas.List.{length-take-le}
+use Rattle.std.proofs.lemmas.Slice.{drop-append-drop}
+use Rattle.std.specs.Int.{w32, from_le_bytes}
+use Rattle.lfs_device.specs.declared.geometry.Geometry.{Geometry}
+use Rattle.lfs_model.specs.Blocks.{Blocks, block_in}
+use Rattle.lfs_model.specs.Lists.{pointers_of, word_at}
+use Rattle.lfs_ctz.specs.Right.{IsNoted}
+use Rattle.lfs_ctz.proofs.Chains.{pointers_of-pos}
+use Rattle.lfs_ctz.proofs.Sizes.{pointers_of-le}
+use Rattle.lfs_ctz.proofs.Words.{word_at-written}
 use Rattle.lfs_ctz.proofs.visits.checked_before.Goals as goal
 
-pub returns-in_err-to-clause-device : goal.returns-in_err-to-clause-device
-returns-in_err-to-clause-device g c = read_on g.D.BlockDevice c.loop-k.invariant.device c.pointer-in-loop-k.ensures.device
+noted : (d : Blocks) (block index n : ℕ) (old new : List ℕ) → n ≡ pointers_of index → 4 * n ≤ length (block_in d block) → new ≡ take 0 old ++ (take (4 * n) (drop 0 (block_in d block)) ++ drop (0 + 4 * n) old)
+    → IsNoted d block index old new
+noted d block index n old new is room read = record {
+  own = λ k less. ap (λ (l : List ℕ). word_at l (4 * k)) read ∙ word_at-written (block_in d block) (drop (0 + 4 * n) old) (4 * n) (4 * k) room (omega arith);
+  others = λ k more less. ap (λ (l : List ℕ). word_at l (4 * k)) read
+      ∙ ap (λ e. word_at (take (4 * n) (block_in d block) ++ drop e old) (4 * k)) (let s : 0 + 4 * n ≡ 4 * n = omega arith in s)
+      ∙ ap (λ (l : List ℕ). from_le_bytes w32 (take (4 * k + 4 - 4 * k) l)) (drop-append-drop (4 * n) old (take (4 * n) (block_in d block)) (4 * k) (omega arith) (length-take-le (4 * n) (block_in d block) room));
+}
 
-pub returns-in_err-next-clause-device : goal.returns-in_err-next-clause-device
-returns-in_err-next-clause-device g c = read_on g.D.BlockDevice (read_on g.D.BlockDevice c.loop-k.invariant.device c.pointer-in-loop-k.ensures.device) c.pointer-in-loop-k-2.ensures.device
+room : (g : _) (c : goal.After-word g) → 4 * c.pointers.result ≤ length (block_in (g.D.BlockDevice.blocks c.args.dev.now) c.args.block)
+room g c =
+    let shape = g.met.D.BlockDevice.shape c.args.dev.now in
+    let few = pointers_of-le c.args.index in
+    let count = ap (λ (k : Geometry). k.block_count) c.geometry.ensures in
+    omega (arith, shape.sizes c.args.block (omega (arith, count)), (g.D.BlockDevice.geometry c.args.dev.now).valid.no_smaller, few, c.pointers.ensures)
 
-pub returns-then-next-to-clause-device : goal.returns-then-next-to-clause-device
-returns-then-next-to-clause-device g c = read_on g.D.BlockDevice (read_on g.D.BlockDevice c.loop-k.invariant.device c.pointer-in-loop-k.ensures.device) c.pointer-in-loop-k-2.ensures.device
+pub returns-clause-noted : goal.returns-clause-noted
+returns-clause-noted g c =
+    let shape = g.met.D.BlockDevice.shape c.args.dev.now in
+    let few = pointers_of-le c.args.index in
+    noted (g.D.BlockDevice.blocks c.args.dev.now) c.args.block c.args.index c.pointers.result c.args.words.now _ c.pointers.ensures (room g c) c.in_ok-read_part.ensures.bytes
 
-pub loop-k-preserved : goal.loop-k-preserved
-loop-k-preserved g c =
-    let inv = c.loop-k.invariant in
-    let same = c.pointer-in-loop-k.ensures.device.same ∙ inv.device.same in
-    let next : c.in_ok-next.next ≡ word_at (block_in (g.D.BlockDevice.blocks c.args.dev.now) c.args.block) (4 * (c.loop-k.k + 1)) =
-    c.in_ok-next.ensures.word ∙ ap (λ d. word_at (block_in d c.args.block) (4 * (c.loop-k.k + 1))) same in
-    let to : c.in_ok-to.to ≡ word_at (block_in (g.D.BlockDevice.blocks c.args.dev.now) (word_at (block_in (g.D.BlockDevice.blocks c.args.dev.now) c.args.block) (4 * c.loop-k.k))) (4 * c.loop-k.k) =
-    c.in_ok-to.ensures.word ∙ ap₂ (λ d b. word_at (block_in d b) (4 * c.loop-k.k)) inv.device.same inv.at in
-    record {
-      at = sym c.if-next-to.false ∙ next;
-      right = below_more _ _ inv.right (sym next ∙ c.if-next-to.false ∙ to);
-      in_range = inv.in_range;
-      device = read_on g.D.BlockDevice (read_on g.D.BlockDevice inv.device c.pointer-in-loop-k.ensures.device) c.pointer-in-loop-k-2.ensures.device;
-      quiet = quiet g.D.BlockDevice c.in_ok-next.ensures.faults ∙ quiet g.D.BlockDevice c.in_ok-to.ensures.faults ∙ inv.quiet;
-    }
+pub returns-clause-word : goal.returns-clause-word
+returns-clause-word g c =
+    let some = c.requires.some in
+    let many = pointers_of-pos c.args.index some in
+    c.word.ensures ∙ (returns-clause-noted g c).own 0 (omega arith)

@@ -1,18 +1,18 @@
 use Rattle.std.proofs.Common.{ℕ, ◌≡◌, ◌≤◌, ◌<◌, ◌+◌, ◌-◌, List, [], drop, reverse, slice_index, refl, sym, ap, subst, ◌∙◌, arith}
-use Rattle.std.proofs.Common.{suc, Result, Err, ◌*◌, ◌^◌, rules, of_calls}
+use Rattle.std.proofs.Common.{suc, Result, Err, ◌^◌, rules, of_calls}
 use Rattle.std.specs.List.{FoldsTo}
 use Rattle.lfs_device.specs.declared.error.Error.{Error}
-use Rattle.lfs_ctz.specs.Right.{IsRight}
+use Rattle.lfs_ctz.specs.Right.{IsNamed, IsNoted}
 use Rattle.std.proofs.lemmas.Result.{err_from_is_err_and}
 use Rattle.std.proofs.lemmas.List.{drop_all}
 use Rattle.lfs_device.specs.declared.geometry.Geometry.{Geometry}
 use Rattle.lfs_model.specs.Blocks.{Blocks, IsDivided, block_in}
-use Rattle.lfs_model.specs.Lists.{IsChain, IsList, blocks_for, blocks_back, pointers_of, word_at}
+use Rattle.lfs_model.specs.Lists.{IsChain, IsList, blocks_for, blocks_back, word_at}
 use Rattle.lfs_ctz.proofs.Sizes.{blocks_for-last}
 use Rattle.lfs_ctz.proofs.Chains.{head_of_back, length_back, in_range_at, back-pointer0}
 use Rattle.lfs_ctz.proofs.Geometries.{chain, sized, count_by}
 use Rattle.lfs_ctz.proofs.Called.{quiet, read_on, told_as, told_corrupt, told_on}
-use Rattle.lfs_ctz.proofs.Walked.{IsChecked, none_checked, more_checked, chain_of_walk, right_of_chain, chain_fits, first_of_distinct, visited_more}
+use Rattle.lfs_ctz.proofs.Walked.{IsChecked, none_checked, more_checked, chain_of_walk, named_of_chain, chain_fits, first_of_distinct, visited_more}
 use Rattle.lfs_ctz.proofs.visits.walk.Goals as goal
 
 pub overflow_sub-last : goal.overflow_sub-last
@@ -45,7 +45,9 @@ loop-index-init g c =
     record {
       low = omega arith;
       at = sym (head_of_back old last c.args.head);
-      checked = none_checked old last c.args.head c.in_ok-first.first (g.D.BlockDevice.geometry c.args.dev.now).block_count;
+      checked = none_checked old last c.args.head c.in_ok-first.first (g.D.BlockDevice.geometry c.args.dev.now).block_count _;
+      room = refl;
+      few = λ m lt. (let steps = c.in_ok-first.ensures.few m lt in omega arith);
       visited = rw none refl;
       callable = search (rules, of_calls);
       device = c.find.ensures.device;
@@ -64,23 +66,16 @@ module _ (d : Blocks) (geometry made : Geometry) (head size n index block : ℕ)
   in_range_then : block < geometry.block_count
   in_range_then = let lt = in_range_at d (n - 1 + 1) head index as_chain (omega arith) in omega (arith, lt, is, shape.count)
 
-  pointers_then : (k : ℕ) → k < pointers_of index → word_at (block_in d block) (4 * k) < geometry.block_count
-  pointers_then k less =
-      let there = as_chain.pointers index k (omega arith) less in
-      let lt = in_range_at d (n - 1 + 1) head (index - 2 ^ k) as_chain (omega arith) in
-      let same = ap (λ b. word_at (block_in d b) (4 * k)) is in
-      omega (arith, lt, there, same, shape.count)
-
-  right_then : IsRight d index block
-  right_then = subst (IsRight d index) (sym is) (right_of_chain d (n - 1 + 1) head few as_chain index some (omega arith))
+few_blocks : (made : Geometry) (last : ℕ) → last < made.block_count → last < 2 ^ 32
+few_blocks made last fits = let many = made.valid.no_more in omega arith
 
 -- and where all of it is checked it is a list
 list_of_walk : (d : Blocks) (head size n first : ℕ) (geometry made : Geometry) → made ≡ geometry → n ≡ blocks_for made.block_size size → IsDivided geometry.block_size geometry.block_count d
-    → 1 ≤ size → size < 2 ^ 31 → n - 1 < made.block_count → IsChecked d (n - 1) head first geometry.block_count 0 → slice_index (blocks_back d (n - 1 + 1) head) 0 ≡ first → first < geometry.block_count
-    → IsList d geometry.block_size head size
-list_of_walk d head size n first geometry made e n_is shape low high fits checked is lt =
+    → 1 ≤ size → size < 2 ^ 31 → n - 1 < made.block_count → (words : List ℕ) → IsChecked d (n - 1) head first geometry.block_count 0 words → slice_index (blocks_back d (n - 1 + 1) head) 0 ≡ first
+    → first < geometry.block_count → IsNamed words first 0 (n - 1) → IsList d geometry.block_size head size
+list_of_walk d head size n first geometry made e n_is shape low high fits words checked is lt named =
     let many = made.valid.no_more in
-    let walked = chain_of_walk d (n - 1) head first (omega arith) (subst (λ k. IsChecked d (n - 1) head first k 0) (sym shape.count) checked) is (omega (arith, lt, shape.count)) in
+    let walked = chain_of_walk d (n - 1) head first words (omega arith) (subst (λ k. IsChecked d (n - 1) head first k 0 words) (sym shape.count) checked) is (omega (arith, lt, shape.count)) named in
     let count : n - 1 + 1 ≡ blocks_for geometry.block_size size = count_by geometry made size n e low n_is in
     let whole : IsChain d (blocks_for geometry.block_size size) head = subst (λ k. IsChain d k head) count walked in
     record { size_low = low; size_high = high; in_range = whole.in_range; distinct = whole.distinct; pointers = whole.pointers }
@@ -92,11 +87,11 @@ returns-in_err-before-clause-corrupt g c =
     rw (p.1, p.2) (λ is listed.
     let shape = g.met.D.BlockDevice.shape c.args.dev.now in
     let made = c.geometry-geometry.ensures in
-    let refused = rw (inv.device.same, inv.device.geometry) at c.in_err-before.ensures.corrupt in
+    let refused = rw (inv.device.geometry) at c.in_err-before.ensures.corrupt in
     refused (again _ _ is)
     (in_range_then _ _ _ _ _ _ _ _ made c.blocks_for-last.ensures shape c.if-last-geometry.false (omega arith) inv.low inv.at listed)
-    (pointers_then _ _ _ _ _ _ _ _ made c.blocks_for-last.ensures shape c.if-last-geometry.false (omega arith) inv.low inv.at listed)
-    (right_then _ _ _ _ _ _ _ _ made c.blocks_for-last.ensures shape c.if-last-geometry.false (omega arith) inv.low inv.at listed))
+    (named_of_chain _ _ c.args.head _ _ c.loop-index.index _ (few_blocks c.geometry-geometry.result _ c.if-last-geometry.false) inv.checked
+    (chain _ _ _ _ _ c.geometry-geometry.result.valid.no_smaller c.blocks_for-last.ensures (sized _ _ _ _ _ made listed)) inv.low c.loop-index.block inv.at))
 
 pub returns-in_err-before-clause-device : goal.returns-in_err-before-clause-device
 returns-in_err-before-clause-device g c = read_on g.D.BlockDevice c.loop-index.invariant.device c.checked_before.ensures.device
@@ -133,10 +128,14 @@ loop-index-preserved g c =
           ∙ ap (λ d. word_at (block_in d c.loop-index.block) 0) inv.device.same
           ∙ ap (λ b. word_at (block_in old b) 0) (inv.at ∙ ap (slice_index bs) (sym next))
           ∙ back-pointer0 old (last + 1) c.args.head (index - 1) (let l = inv.low in omega arith);
-      checked = more_checked old last c.args.head c.in_ok-first.first _ index c.loop-index.block inv.checked inv.at
-          (omega (arith, c.in_ok-before.ensures.in_range, ap (λ (k : Geometry). k.block_count) inv.device.geometry))
-          (subst (λ d. IsRight d index c.loop-index.block) inv.device.same c.in_ok-before.ensures.right)
+      checked = more_checked old last c.args.head c.in_ok-first.first _ index c.loop-index.block _ _ (few_blocks c.geometry-geometry.result last c.if-last-geometry.false) (omega arith) inv.checked inv.at
+          c.in_ok-before.ensures.right.1
+          (subst (λ d. IsNoted d c.loop-index.block index c.loop-index.words c.checked_before.new.words) inv.device.same c.in_ok-before.ensures.noted)
+          inv.low
+          (omega (arith, c.in_ok-before.ensures.right.0, ap (λ (k : Geometry). k.block_count) inv.device.geometry))
           c.if-block-first.false;
+      room = c.checked_before.auto.words ∙ inv.room;
+      few = λ m lt. (let so_far = inv.few m lt in let one = c.checked_before.ensures.few in omega arith);
       visited = visited_more _ _ _ c.visit.new.self bs index c.loop-index.block (index - 1 + 1) (omega (arith, size, inv.low)) inv.at (omega arith) inv.visited (search (rules, of_calls));
       callable = search (rules, of_calls);
       device = read_on g.D.BlockDevice inv.device c.checked_before.ensures.device;
@@ -160,7 +159,8 @@ returns-clause-well_formed g c =
     let first = c.in_ok-first.ensures.in_range in
     let is : slice_index (blocks_back old (last + 1) c.args.head) 0 ≡ c.in_ok-first.first = ap (slice_index (blocks_back old (last + 1) c.args.head)) (sym none) ∙ sym inv.at ∙ c.if-block-first-2.false in
     list_of_walk old c.args.head c.args.size c.blocks_for-last.result c.in_ok-first.first _ _ c.geometry-geometry.ensures c.blocks_for-last.ensures shape (omega arith) (omega arith) (omega arith)
-    (subst (IsChecked old last c.args.head c.in_ok-first.first (g.D.BlockDevice.geometry c.args.dev.now).block_count) none inv.checked) is first
+    _ (subst (λ k. IsChecked old last c.args.head c.in_ok-first.first (g.D.BlockDevice.geometry c.args.dev.now).block_count k c.loop-index.words) none inv.checked) is first
+    (subst (λ b. IsNamed c.loop-index.words b 0 last) c.if-block-first-2.false (c.if-not-is_named.ensures.yes refl))
 
 pub returns-clause-visited : goal.returns-clause-visited
 returns-clause-visited g c =
@@ -172,3 +172,11 @@ returns-clause-visited g c =
     let all = visited_more _ _ _ c.visit-2.new.self bs c.loop-index.index c.loop-index.block 0 (omega (arith, size, inv.low)) inv.at (omega arith) inv.visited (search (rules, of_calls)) in
     subst (λ n. FoldsTo (λ p x q. goal.F-step g p x tt q) c.args.visit.now (reverse (blocks_back old n c.args.head)) c.visit-2.new.self)
     (count_by (g.D.BlockDevice.geometry c.args.dev.now) c.geometry-geometry.result c.args.size c.blocks_for-last.result c.geometry-geometry.ensures (omega arith) c.blocks_for-last.ensures) all
+
+pub returns-then-not-is_named-clause-corrupt : goal.returns-then-not-is_named-clause-corrupt
+returns-then-not-is_named-clause-corrupt g c is listed =
+    let inv = c.loop-index.invariant in
+    let ok = chain _ _ _ _ _ c.geometry-geometry.result.valid.no_smaller c.blocks_for-last.ensures (sized _ _ _ _ _ c.geometry-geometry.ensures listed) in
+    let none : c.loop-index.index ≡ 0 = omega arith in
+    c.if-not-is_named.ensures.no refl (subst (λ k. IsNamed c.loop-index.words c.loop-index.block k (c.blocks_for-last.result - 1)) none
+    (named_of_chain _ _ c.args.head _ _ c.loop-index.index _ (few_blocks c.geometry-geometry.result _ c.if-last-geometry.false) inv.checked ok inv.low c.loop-index.block inv.at))

@@ -1,7 +1,7 @@
-use Rattle.std.proofs.Common.{◌≡◌, ◌≤◌, ◌+◌, drop, reverse, slice_index}
+use Rattle.std.proofs.Common.{ℕ, ◌<◌, ◌*◌, ◌^◌, length, ◌≡◌, ◌≤◌, ◌+◌, drop, reverse, slice_index}
 use Rattle.std.specs.List.{FoldsTo}
 use Rattle.lfs_device.specs.Calls.{ReadsOnly}
-use Rattle.lfs_model.specs.History.{faults}
+use Rattle.lfs_model.specs.History.{faults, reads}
 use Rattle.lfs_model.specs.Lists.{blocks_back}
 use Rattle.lfs_ctz.proofs.Walked.{IsChecked}
 use Rattle.lfs_ctz.proofs.visits.walk.Given as goal
@@ -15,10 +15,12 @@ invariant-loop-index g l =
     record {
       low : l.index ≤ l.last;
       at : l.block ≡ slice_index (blocks_back (blocks old) (l.last + 1) l.fn.head) l.index;
-      checked : IsChecked (blocks old) l.last l.fn.head l.first (geometry old).block_count l.index;
+      checked : IsChecked (blocks old) l.last l.fn.head l.first (geometry old).block_count l.index l.words;
+      room : length l.words ≡ 128;
       visited : FoldsTo (λ p x q. goal.F-step g p x tt q) l.fn.visit (reverse (drop (l.index + 1) (blocks_back (blocks old) (l.last + 1) l.fn.head))) l.visit;
       callable : goal.F-IsAlwaysCallable g l.visit;
       device : ReadsOnly g.D.BlockDevice old l.dev;
+      few : (m : ℕ) → l.last < 2 ^ m → reads (history l.dev) + l.index ≤ reads (history old) + l.last + 2 * m;
       quiet : faults (history l.dev) ≡ faults (history old);
     }
 

@@ -42,7 +42,11 @@ fn appended<D: BlockDevice>(alloc: Global, dev: &mut D) -> Result<([Place; 4], b
     set_often(alloc, dev, &mut pair, 1, 1)?;
     let ninth = place(&pair);
     let again = fetch_first(alloc, dev)?;
-    let is_same = again == Pair { is_fetched: true, ..pair };
+    let is_same = again
+        == Pair {
+            is_fetched: true,
+            ..pair
+        };
     Ok(([fetched, first, eighth, ninth], is_same))
 }
 
@@ -51,7 +55,12 @@ fn appended<D: BlockDevice>(alloc: Global, dev: &mut D) -> Result<([Place; 4], b
 #[test]
 fn commits_are_appended_while_there_is_room(rt: HostRuntime) -> Result<(), Fail> {
     let mut device = counted(rt.alloc(), 0xffff_ffff)?;
-    let places = [(0, 128, 0xffff_ffff), (1, 128, 0), (1, 1024, 0), (0, 128, 1)];
+    let places = [
+        (0, 128, 0xffff_ffff),
+        (1, 128, 0),
+        (1, 1024, 0),
+        (0, 128, 1),
+    ];
     assert_eq!(rt; appended(rt.alloc(), &mut device), Ok((places, true)));
     assert_eq!(rt; device.calls(Which::Erase), 2);
     Ok(())
@@ -146,7 +155,11 @@ fn a_thousand_slots_fit(rt: HostRuntime) -> Result<(), Fail> {
 }
 
 // The first byte of the attribute 0x41 of the slot 1, as the block that holds has it.
-fn attribute_in<D: BlockDevice>(alloc: Global, dev: &mut D, pair: &Pair) -> Result<Option<u8>, Error>
+fn attribute_in<D: BlockDevice>(
+    alloc: Global,
+    dev: &mut D,
+    pair: &Pair,
+) -> Result<Option<u8>, Error>
     requires { IsKept (disk_of (D.geometry dev.old) (D.blocks dev.old)) (D.history dev.old) pair.now }
     ensures { IsKept (disk_of (D.geometry dev.new) (D.blocks dev.new)) (D.history dev.new) pair.now }
 {

@@ -24,9 +24,21 @@ fn the_later_log_holds(rt: HostRuntime) -> Result<(), Fail> {
         (Half::Empty, Half::Holds(7), 1, 7, false),
         (Half::Holds(0), Half::Holds(0xffff_ffff), 0, 0, false),
         (Half::Holds(0xffff_ffff), Half::Holds(0), 1, 0, false),
-        (Half::Holds(0xffff_ffff), Half::Holds(0xffff_ffff), 0, 0xffff_ffff, false),
+        (
+            Half::Holds(0xffff_ffff),
+            Half::Holds(0xffff_ffff),
+            0,
+            0xffff_ffff,
+            false,
+        ),
         (Half::Holds(0), Half::Holds(0x8000_0000), 0, 0, false),
-        (Half::Holds(0x8000_0000), Half::Holds(0), 0, 0x8000_0000, false),
+        (
+            Half::Holds(0x8000_0000),
+            Half::Holds(0),
+            0,
+            0x8000_0000,
+            false,
+        ),
     ] {
         let expected = (active, 128, revision, 2, is_complete, TAIL, SYNC);
         assert_eq!(rt; fetched(rt.alloc(), [first, second]), Ok(expected));
@@ -110,7 +122,13 @@ fn changed(alloc: Global, block: &[u8]) -> Result<Changed, ContentError> {
         Ok(geometry) => fits(&content, geometry),
         Err(_) => false,
     };
-    Ok((content.slots.len(), attributes, has_tail, content.move_state.sync, fits))
+    Ok((
+        content.slots.len(),
+        attributes,
+        has_tail,
+        content.move_state.sync,
+        fits,
+    ))
 }
 
 #[test]

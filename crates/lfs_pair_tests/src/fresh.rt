@@ -42,7 +42,13 @@ const ON_LOW_BYTES: [u8; 8] = [0x70, 0x0f, 0xfc, 0xc8, 0x3a, 0xdc, 0x01, 0xef];
 // An image whose first page is the superblock's, with that checksum, whose first block is then
 // full of a byte, and whose second begins with a page of another byte and is full of a third.
 // The other blocks are full of sevens.
-fn image(alloc: Global, checksum: &[u8], first: u8, page: u8, second: u8) -> Result<Vec<u8>, Error> {
+fn image(
+    alloc: Global,
+    checksum: &[u8],
+    first: u8,
+    page: u8,
+    second: u8,
+) -> Result<Vec<u8>, Error> {
     let mut bytes = Vec::new(alloc);
     bytes.extend_from_slice(&BEGINNING)?;
     bytes.extend_from_slice(&FIELDS)?;
@@ -105,7 +111,11 @@ fn with_old_log(alloc: Global) -> Result<RamDevice, Error> {
 fn made<D: BlockDevice>(alloc: Global, device: &mut D) -> Result<(Seen, u32, bool), Error> {
     let pair = superblock_pair(alloc, device)?;
     let again = fetched(alloc, device)?;
-    let is_same = again == Pair { is_fetched: true, ..pair };
+    let is_same = again
+        == Pair {
+            is_fetched: true,
+            ..pair
+        };
     Ok((seen(&pair), pair.last.bits(), is_same && !pair.is_fetched))
 }
 
@@ -121,7 +131,10 @@ fn a_superblock_is_written(rt: HostRuntime) -> Result<(), Fail> {
         let mut device = counted(alloc, Erased::Fill(byte))?;
         let expected = ((0, 256, 1, 1, true, None, NOT_MOVED), last, true);
         assert_eq!(rt; made(alloc, &mut device), Ok(expected));
-        assert_eq!(rt; (device.calls(Which::Erase), device.calls(Which::Program)), (2, 1));
+        assert_eq!(rt;
+            (device.calls(Which::Erase), device.calls(Which::Program)),
+            (2, 1)
+        );
         let image = image(alloc, checksum, byte, byte, byte)?;
         assert_eq!(rt; device.inner().bytes(), image.as_slice());
     }
@@ -136,7 +149,10 @@ fn an_old_log_is_cleared(rt: HostRuntime) -> Result<(), Fail> {
     let old = fetched(alloc, &mut device)?;
     assert_eq!(rt; (old.active, old.revision, old.slot_count), (1, 9, 2));
     let answer = made(alloc, &mut device)?;
-    assert_eq!(rt; (answer.0, answer.2), ((0, 256, 1, 1, true, None, NOT_MOVED), true));
+    assert_eq!(rt;
+        (answer.0, answer.2),
+        ((0, 256, 1, 1, true, None, NOT_MOVED), true)
+    );
     let image = image(alloc, &ON_LOW_BYTES, 7, 0, 7)?;
     assert_eq!(rt; device.bytes(), image.as_slice());
     Ok(())

@@ -161,8 +161,16 @@ fn parts<D: BlockDevice>(alloc: Global, device: &mut D) -> Result<(Part, Part, b
     let [pair, fresh_pair] = full_and_split(alloc, device)?;
     let (front, front_names) = found(alloc, device, [0, 1])?;
     let (back, back_names) = found(alloc, device, [2, 3])?;
-    let is_same = front == Pair { is_fetched: true, ..pair };
-    let is_fresh = back == Pair { is_fetched: true, ..fresh_pair };
+    let is_same = front
+        == Pair {
+            is_fetched: true,
+            ..pair
+        };
+    let is_fresh = back
+        == Pair {
+            is_fetched: true,
+            ..fresh_pair
+        };
     let parts = ((seen(&front), front_names), (seen(&back), back_names));
     Ok((parts.0, parts.1, is_same && is_fresh))
 }
@@ -174,10 +182,14 @@ fn both_parts_are_found(rt: HostRuntime) -> Result<(), Fail> {
     for erased in [Erased::Keep, Erased::Fill(0x00), Erased::Fill(0xff)] {
         let mut device = eight(alloc, erased)?;
         let (front, back, is_same) = parts(alloc, &mut device)?;
-        let names = front.1.as_slice() == b"ab".as_slice() && back.1.as_slice() == b"cde".as_slice();
+        let names = front.1.as_slice() == b"ab".as_slice()
+            && back.1.as_slice() == b"cde".as_slice();
         let front_is = (1, 512, 2, 2, true, Some(HARD_TAIL), MOVED);
         let back_is = (2, 768, 1, 3, true, Some(SOFT_TAIL), NOT_MOVED);
-        assert_eq!(rt; (front.0, back.0, names, is_same), (front_is, back_is, true, true));
+        assert_eq!(rt;
+            (front.0, back.0, names, is_same),
+            (front_is, back_is, true, true)
+        );
     }
     Ok(())
 }

@@ -1,5 +1,3 @@
-use Rattle.std.proofs.Common.{◌≡◌, ◌<◌, sym, ◌∙◌, subst}
-use Rattle.lfs_device.specs.Shown.{disk_of}
 use Rattle.lfs_pair_tests.proofs.Kept.{kept_by_fetch}
 use Rattle.lfs_pair_tests.proofs.trial.fetch_kept.Goals as goal
 

@@ -1,4 +1,4 @@
-use Rattle.std.proofs.Common.{◌≡◌, Ok, length, refl, ap, ap₂, ◌∙◌, subst, sym}
+use Rattle.std.proofs.Common.{◌≡◌, Ok, length, refl, ap, ◌∙◌, subst, sym}
 use Rattle.lfs_device.specs.Shown.{disk_of}
 use Rattle.lfs_model.proofs.Histories.{OnlyReads-trans}
 use Rattle.lfs_pair.specs.declared.committing.Outcome.{Outcome}

@@ -75,7 +75,7 @@ pub fn commit<D: BlockDevice>(
 /// four bytes behind what it programs, and nothing else.
 ///
 /// That the block has these bytes is the caller's condition, beside those of [`commit`]. `NoMemory`
-/// where there is no room for a block and the slots; the device is untouched then.
+/// where there is no room for a block and the slots; nothing is written then.
 pub fn commit_in<'a, 'b: 'a, D: BlockDevice>(
     alloc: Global,
     dev: &mut D,

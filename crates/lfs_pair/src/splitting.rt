@@ -63,7 +63,7 @@ pub fn split<D: BlockDevice>(
 /// [`split`] of a pair whose active block has these bytes, which a cache may have.
 ///
 /// That the block has these bytes is the caller's condition, beside those of [`split`]. `NoMemory`
-/// where there is no room for a block and the slots; the device is untouched then.
+/// where there is no room for a block and the slots; nothing is written then.
 pub fn split_in<'a, 'b: 'a, D: BlockDevice>(
     alloc: Global,
     dev: &mut D,

@@ -1,0 +1,50 @@
+-- Pairs of known contents that can be made and split, on a device of at least four blocks of 1,024 bytes with pages of 8.
+use Rattle.std.proofs.Common.{ℕ, ◌≡◌, ◌≤◌, List, length, Some, sym, subst, arith}
+use Rattle.lfs_model.specs.Disk.{Disk, block_count}
+use Rattle.lfs_model.specs.History.{Event}
+use Rattle.lfs_model.specs.Content.{RawContent, no_content}
+use Rattle.lfs_model.specs.Changes.{Change, changed_by}
+use Rattle.lfs_model.specs.Logged.{HaveNames}
+use Rattle.lfs_model.specs.Written.{raw_size}
+use Rattle.lfs_pair.specs.declared.pair.Pair.{Pair}
+use Rattle.lfs_pair.specs.Commit.{IsAddressOn, NowHolds}
+use Rattle.lfs_pair.specs.Cut.{IsCut}
+use Rattle.lfs_pair.specs.Fresh.{CanBeFresh}
+use Rattle.lfs_pair.specs.Split.{AreApart, CanSplit}
+
+pub record IsSmall (disk : Disk) : Type 0 where
+  pub size : disk.block_size ≡ 1024
+  pub page : disk.page ≡ 8
+  pub count : 4 ≤ block_count disk
+
+pub fresh_ready : (disk : Disk) (c : RawContent) (changes : List Change) → IsSmall disk → changed_by no_content changes ≡ Some c → HaveNames c.slots → raw_size c ≤ 977 → length c.slots ≤ 1000 → CanBeFresh disk (0, 1) changes
+fresh_ready disk c changes is made names small few =
+    let size = is.size in
+    let page = is.page in
+    let count = is.count in
+    record {
+      address = record { apart = λ same. absurd (omega (arith, same)); first = omega (arith, count); second = omega (arith, count) };
+      new = c;
+      changed = made;
+      names = names;
+      fits = record { size = omega (arith, small, size, page); count = few };
+    }
+
+pub split_ready : (disk : Disk) (history : List Event) (pair : Pair) (held full more : RawContent) (changes : List Change) (cut : ℕ) → IsSmall disk → NowHolds disk history (0, 1) pair held → full ≡ held
+    → changed_by full changes ≡ Some more → HaveNames more.slots → IsCut 1024 8 more.slots cut → CanSplit disk history pair (2, 3) changes
+split_ready disk history pair held full more changes cut is holds same made names is_cut =
+    let count = is.count in
+    let at = sym holds.same in
+    record {
+      commit = record {
+        address = subst (IsAddressOn disk) at (record { apart = λ e. absurd (omega (arith, e)); first = omega (arith, count); second = omega (arith, count) });
+        held = held;
+        is_pair = holds.is_pair;
+        new = more;
+        changed = subst (λ h. changed_by h changes ≡ Some more) same made;
+        names = names;
+      };
+      fresh_is = record { apart = λ e. absurd (omega (arith, e)); first = omega (arith, count); second = omega (arith, count) };
+      apart = subst (λ a. AreApart a (2, 3)) at (record { first_first = λ e. absurd (omega (arith, e)); first_second = λ e. absurd (omega (arith, e)); second_first = λ e. absurd (omega (arith, e)); second_second = λ e. absurd (omega (arith, e)) });
+      cut = record { cut = cut; is_cut = subst (λ s. IsCut s disk.page more.slots cut) (sym is.size) (subst (λ p. IsCut 1024 p more.slots cut) (sym is.page) is_cut) };
+    }

@@ -193,7 +193,7 @@ module _ (disk : Disk) (blocks : Blocks) (before after : List Event) (hs : List 
       go (q ∷ rest) e l =
           let here : q.at ≡ address_in h = same_Some q.at (address_in h) (sym l.0 ∙ ap Some (sym same)) in
           let has : content_at disk q.at ≡ Some q.content = (each_right (λ (x : Pair). content_at disk x.at ≡ Some x.content) (pairs_on disk hs) (q ∷ rest)
-              (subst (Each (λ (x : Pair). content_at disk x.at ≡ Some x.content)) e (recursion_from_All (λ (x : Pair). content_at disk x.at ≡ Some x.content) ps t.contents))).0 in
+          (subst (Each (λ (x : Pair). content_at disk x.at ≡ Some x.content)) e (recursion_from_All (λ (x : Pair). content_at disk x.at ≡ Some x.content) ps t.contents))).0 in
           let is_q : q ≡ p = sym (pair_on_content disk q.at q.content has) ∙ ap (pair_on disk) here in
           (rest, (e ∙ ap (λ z. pairs_on disk hs ++ z ∷ rest) is_q ∙ behind rest, subst (λ z. Links (next_of z) rest) (ap (λ (z : Pair). z.content.tail) is_q ∙ tail_is) l.1))
 

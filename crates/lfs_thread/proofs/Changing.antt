@@ -11,7 +11,7 @@ use Rattle.lfs_model.specs.BlockSets.{BlockSets}
 use Rattle.lfs_model.specs.Disk.{Disk}
 use Rattle.lfs_model.specs.History.{Event, OnlyReads, LeavesOnly}
 use Rattle.lfs_model.specs.Stops.{Stops}
-use Rattle.lfs_model.specs.Slots.{Slot, Content}
+use Rattle.lfs_model.specs.Slots.{Slot, Content, FitsPair}
 use Rattle.lfs_model.specs.Changes.{Change, changed_by}
 use Rattle.lfs_model.specs.Logged.{HaveNames}
 use Rattle.lfs_model.specs.Content.{RawSlot, RawContent, raw_at, content_at, completed, complete, complete_all, kind_named, struct_typed}
@@ -30,7 +30,7 @@ use Rattle.lfs_model.specs.View.{superblock_entry}
 use Rattle.lfs_thread.proofs.First.{superblock_anew}
 use Rattle.lfs_pair.proofs.Stay.{IsPair-reads}
 use Rattle.lfs_thread.specs.Kept.{Kept, Header, seen, pair_on, pairs_on, IsHeader, AreHeaders, AllUsed, IsKept}
-use Rattle.lfs_thread.specs.Steps.{pair_in, no_pair, made_in_thread, CanChange, with_pair, StaysFirst, IsWrittenAs, IsChanged, IsOnlyRead, IsLeft}
+use Rattle.lfs_thread.specs.Steps.{pair_in, no_pair, made_in_thread, CanChange, with_pair, StaysFirst, IsWrittenAs, IsChanged, IsOnlyRead, IsRefused, IsLeft}
 use Rattle.lfs_thread.proofs.Keeping.{kept_thread, headers_right, header_content, pair_on_content, used_left, used_right, IsReplaced, pairs_are, kept_replaced}
 
 -- ---- the header at an index
@@ -119,7 +119,7 @@ can_commit disk history hs sets index h changes a kept c made =
 
 module _ (disk : Disk) (before : List Event) (blocks : Blocks) (after : List Event) (hs : List Header) (sets : BlockSets) (index : ℕ) (h new : Header) (changes : List Change)
     (a : IsAt hs index h) (kept : IsKept disk before hs sets) (can : CanChange (seen disk before hs sets) index changes)
-    (commits : Commits disk changes h (record disk { blocks = blocks }) after new) (others : OutsideKeeps (address_in h) disk.blocks blocks) (stay : OutsideStays (address_in h) before after) where
+    (commits : Commits disk before changes h (record disk { blocks = blocks }) after new) (others : OutsideKeeps (address_in h) disk.blocks blocks) (stay : OutsideStays (address_in h) before after) where
   abbrev left : Disk
   left = record disk { blocks = blocks }
 
@@ -195,8 +195,8 @@ module _ (disk : Disk) (before : List Event) (blocks : Blocks) (after : List Eve
       ∙ ap (λ p. pairs_on disk a.front ++ p ∷ pairs_on disk a.back) (now_pair ∙ ap (λ (p : Pair). record { at = p.at; content = can.content }) (sym was_pair))
       ∙ sym (set-append_seam (pairs_on disk a.front) (pair_on disk (address_in h)) (pairs_on disk a.back) (record { at = (pair_in (seen disk before hs sets) index).at; content = can.content }))
       ∙ ap₂ (λ (z : List Pair) (i : ℕ). set z i (record { at = (pair_in (seen disk before hs sets) index).at; content = can.content }))
-        (sym (ap (pairs_on disk) a.parts ∙ map-append (λ x. pair_on disk (address_in x)) a.front (h ∷ a.back)))
-        (length-map a.front (λ x. pair_on disk (address_in x)) ∙ sym a.place)
+      (sym (ap (pairs_on disk) a.parts ∙ map-append (λ x. pair_on disk (address_in x)) a.front (h ∷ a.back)))
+      (length-map a.front (λ x. pair_on disk (address_in x)) ∙ sym a.place)
 
   pub is_changed : IsChanged (seen disk before hs sets) index changes (seen left after (set hs index new) sets)
   unfolding now_header
@@ -218,9 +218,9 @@ module _ (disk : Disk) (before : List Event) (blocks : Blocks) (after : List Eve
 -- the same of a device that keeps its geometry
 module _ (geometry later : Geometry) (old blocks : Blocks) (before after : List Event) (hs : List Header) (sets : BlockSets) (index : ℕ) (h new : Header) (changes : List Change)
     (same : later ≡ geometry) (a : IsAt hs index h) (kept : IsKept (disk_of geometry old) before hs sets) (can : CanChange (seen (disk_of geometry old) before hs sets) index changes)
-    (commits : Commits (disk_of geometry old) changes h (disk_of later blocks) after new) (others : OutsideKeeps (address_in h) old blocks) (stay : OutsideStays (address_in h) before after) where
-  commits_there : Commits (disk_of geometry old) changes h (disk_of geometry blocks) after new
-  commits_there = subst (λ k. Commits (disk_of geometry old) changes h (disk_of k blocks) after new) same commits
+    (commits : Commits (disk_of geometry old) before changes h (disk_of later blocks) after new) (others : OutsideKeeps (address_in h) old blocks) (stay : OutsideStays (address_in h) before after) where
+  commits_there : Commits (disk_of geometry old) before changes h (disk_of geometry blocks) after new
+  commits_there = subst (λ k. Commits (disk_of geometry old) before changes h (disk_of k blocks) after new) same commits
 
   pub device_kept : IsKept (disk_of later blocks) after (set hs index new) sets
   device_kept = subst (λ k. IsKept (disk_of k blocks) after (set hs index new) sets) (sym same)
@@ -326,3 +326,17 @@ full_read disk new before after hs sets index h same a e f reads = record {
   pairs = ap₂ pairs_on e (ap (set hs index) f ∙ set_same hs index h a);
   map = refl;
 }
+
+-- what doesn't fit, in the words of the pair's commit, doesn't fit the thread's pair
+pub refused : (disk new : Disk) (before after : List Event) (hs : List Header) (sets : BlockSets) (index : ℕ) (h same : Header) (changes : List Change) (c : Content) → IsAt hs index h
+    → made_in_thread (seen disk before hs sets) index changes ≡ Some c
+    → ((raw : RawContent) (d : Content) → made_at disk (address_in h) changes ≡ Some raw → completed raw ≡ Some d → FitsPair disk.block_size disk.page d → ⊥)
+    → new ≡ disk → same ≡ h → OnlyReads disk.blocks before after → IsRefused (seen disk before hs sets) index changes (seen new after (set hs index same) sets)
+refused disk new before after hs sets index h same changes c a made too_large e f reads =
+    let m = made_of_header disk before hs sets index h changes c a made in
+    record {
+      content = c;
+      made = made;
+      too_large = too_large m.raw c m.is m.complete;
+      only = full_read disk new before after hs sets index h same a e f reads;
+    }

@@ -1,15 +1,17 @@
 -- Blocks that come into the thread.
-use Rattle.std.proofs.Common.{ℕ, ◌≡◌, ◌≢◌, ◌+◌, ◌<◌, ◌≤◌, Bool, true, false, cond, nat_eq, List, [], ◌∷◌, length, Some, refl, sym, ap, subst, ◌∙◌, arith, set, slice_get, eqb-true}
+use Rattle.std.proofs.Common.{ℕ, ◌≡◌, ◌≢◌, ◌+◌, ◌<◌, ◌≤◌, Bool, true, false, cond, nat_eq, List, [], ◌∷◌, length, Option, Some, None, refl, sym, ap, subst, ◌∙◌, arith, set, slice_get, eqb-true}
+use Rattle.std.specs.Prelude.{IfNone, IfSome}
 use Rattle.std.proofs.lemmas.Bool.{ne_eqb}
 use Rattle.std.proofs.lemmas.Option.{slice_get_within}
 use Rattle.std.proofs.lemmas.List.{length-set}
-use Rattle.lfs_model.specs.BlockSets.{BlockSets, Free, InFlight, Used, IsFree, IsInFlight, IsUsed}
+use Rattle.lfs_model.specs.BlockSets.{BlockState, BlockSets, Free, InFlight, Used, IsFree, IsInFlight, IsUsed}
 use Rattle.lfs_model.specs.Disk.{Disk, block_count}
 use Rattle.lfs_model.specs.History.{Event}
 use Rattle.lfs_model.proofs.BlockSets.{slice_get-set_same, slice_get-set_other}
 use Rattle.lfs_model.proofs.Counts.{count, count_here}
 use Rattle.lfs_pair.specs.Commit.{IsAddressOn}
-use Rattle.lfs_thread.specs.Kept.{Header, AllUsed, IsKept}
+use Rattle.lfs_model.specs.Thread.{blocks_of}
+use Rattle.lfs_thread.specs.Kept.{Header, AllUsed, IsKept, pairs_on}
 use Rattle.lfs_thread.specs.Steps.{AreHeld, settled}
 
 -- ---- blocks that aren't used stand in no pair
@@ -94,3 +96,23 @@ held_address disk history hs sets fresh kept held = record {
   first = let l = slice_get_within sets fresh.0 InFlight held.first in let s = kept.size in omega arith;
   second = let l = slice_get_within sets fresh.1 InFlight held.second in let s = kept.size in omega arith;
 }
+
+-- ---- a block that isn't used comes into another state
+
+used_beside : (sets : BlockSets) (x : ℕ) (s : BlockState) (bs : List ℕ) → ¬ IsUsed sets x → AllUsed sets bs → AllUsed (set sets x s) bs
+used_beside sets x s [] unused used = tt
+used_beside sets x s (b ∷ bs) unused used = (slice_get-set_other sets x b s (λ e. unused (subst (IsUsed sets) e used.0)) ∙ used.0, used_beside sets x s bs unused used.1)
+
+pub kept_with : (disk : Disk) (history : List Event) (hs : List Header) (sets now : BlockSets) (x : ℕ) (s : BlockState) → now ≡ set sets x s → ¬ IsUsed sets x → IsKept disk history hs sets → IsKept disk history hs now
+kept_with disk history hs sets now x s is unused kept = subst (IsKept disk history hs) (sym is) (record {
+  each = kept.each;
+  links = kept.links;
+  distinct = kept.distinct;
+  size = length-set sets x s ∙ kept.size;
+  used = used_beside sets x s (blocks_of (pairs_on disk hs)) unused kept.used;
+})
+
+pub kept_taken : (disk : Disk) (history : List Event) (hs : List Header) (sets now : BlockSets) (o : Option ℕ) → IfSome o (IsFree sets) → IfSome o (λ b. now ≡ set sets b InFlight) → IfNone o (now ≡ sets)
+    → IsKept disk history hs sets → IsKept disk history hs now
+kept_taken disk history hs sets now None free taken same kept = subst (IsKept disk history hs) (sym same) kept
+kept_taken disk history hs sets now (Some b) free taken same kept = kept_with disk history hs sets now b InFlight taken (free_unused sets b free) kept

@@ -95,7 +95,7 @@ next_used disk before hs sets index h n kept =
 
 module _ (disk : Disk) (before : List Event) (blocks : Blocks) (after : List Event) (hs : List Header) (sets : BlockSets) (index : ℕ) (h new : Header) (changes : List Change)
     (n : HasNext hs index h) (kept : IsKept disk before hs sets) (can : CanDrop (seen disk before hs sets) index changes)
-    (commits : Commits disk changes h (record disk { blocks = blocks }) after new) (others : OutsideKeeps (address_in h) disk.blocks blocks) (stay : OutsideStays (address_in h) before after) where
+    (commits : Commits disk before changes h (record disk { blocks = blocks }) after new) (others : OutsideKeeps (address_in h) disk.blocks blocks) (stay : OutsideStays (address_in h) before after) where
   abbrev left : Disk
   left = record disk { blocks = blocks }
 
@@ -207,9 +207,9 @@ module _ (disk : Disk) (before : List Event) (blocks : Blocks) (after : List Eve
       ∙ pairs_are disk before blocks after n.front two (new ∷ []) n.back ((address_in h).0 ∷ (address_in h).1 ∷ []) [] sets now kept_parts replaced
       ∙ ap (λ q. pairs_on disk n.front ++ q ∷ pairs_on disk n.back) (now_pair ∙ ap (λ (q : Pair). record { at = q.at; content = can.content }) (sym was_pair))
       ∙ sym (ap₂ (λ (z : List Pair) (i : ℕ). remove (set z i p) (i + 1))
-          (ap (pairs_on disk) n.parts ∙ map-append (λ x. pair_on disk (address_in x)) n.front (h ∷ n.next ∷ n.back)) (n.place ∙ sym (length-map n.front (λ x. pair_on disk (address_in x))))
-          ∙ ap (λ z. remove z (length (pairs_on disk n.front) + 1)) (set-append_seam (pairs_on disk n.front) (pair_on disk (address_in h)) (pairs_on disk (n.next ∷ n.back)) p)
-          ∙ remove_behind (pairs_on disk n.front) p (pair_on disk (address_in n.next)) (pairs_on disk n.back))
+      (ap (pairs_on disk) n.parts ∙ map-append (λ x. pair_on disk (address_in x)) n.front (h ∷ n.next ∷ n.back)) (n.place ∙ sym (length-map n.front (λ x. pair_on disk (address_in x))))
+      ∙ ap (λ z. remove z (length (pairs_on disk n.front) + 1)) (set-append_seam (pairs_on disk n.front) (pair_on disk (address_in h)) (pairs_on disk (n.next ∷ n.back)) p)
+      ∙ remove_behind (pairs_on disk n.front) p (pair_on disk (address_in n.next)) (pairs_on disk n.back))
 
   pub is_dropped : IsDropped (seen disk before hs sets) index changes (seen left after headers now)
   unfolding now_header
@@ -232,10 +232,10 @@ module _ (disk : Disk) (before : List Event) (blocks : Blocks) (after : List Eve
 
 module _ (geometry later : Geometry) (old blocks : Blocks) (before after : List Event) (hs : List Header) (sets : BlockSets) (index : ℕ) (h new : Header) (changes : List Change)
     (same : later ≡ geometry) (n : HasNext hs index h) (kept : IsKept (disk_of geometry old) before hs sets) (can : CanDrop (seen (disk_of geometry old) before hs sets) index changes)
-    (commits : Commits (disk_of geometry old) changes h (disk_of later blocks) after new) (others : OutsideKeeps (address_in h) old blocks) (stay : OutsideStays (address_in h) before after)
+    (commits : Commits (disk_of geometry old) before changes h (disk_of later blocks) after new) (others : OutsideKeeps (address_in h) old blocks) (stay : OutsideStays (address_in h) before after)
     (items : List Header) (are : items ≡ remove (set hs index new) (index + 1)) (now : BlockSets) (is_now : now ≡ without_pair sets (address_in n.next)) where
-  commits_there : Commits (disk_of geometry old) changes h (disk_of geometry blocks) after new
-  commits_there = subst (λ k. Commits (disk_of geometry old) changes h (disk_of k blocks) after new) same commits
+  commits_there : Commits (disk_of geometry old) before changes h (disk_of geometry blocks) after new
+  commits_there = subst (λ k. Commits (disk_of geometry old) before changes h (disk_of k blocks) after new) same commits
 
   pub device_dropped : IsKept (disk_of later blocks) after items now
   device_dropped = subst (λ k. IsKept (disk_of k blocks) after items now) (sym same) (subst (λ z. IsKept (disk_of geometry blocks) after z now) (sym are) (subst (λ m. IsKept (disk_of geometry blocks) after (remove (set hs index new) (index + 1)) m) (sym is_now)

@@ -91,7 +91,7 @@ beside_made disk before blocks after hs sets fresh index h changes a kept first 
 
 module _ (disk : Disk) (before : List Event) (blocks : Blocks) (after : List Event) (hs : List Header) (sets now : BlockSets) (index : ℕ) (h new f : Header) (fresh : ℕ × ℕ) (changes : List Change) (c : Content)
     (a : IsAt hs index h) (kept : IsKept disk before hs sets) (made : made_in_thread (seen disk before hs sets) index changes ≡ Some c) (next : next_of c.tail ≡ Some fresh)
-    (commits : Commits disk changes h (record disk { blocks = blocks }) after new) (others : OutsideKeeps (address_in h) disk.blocks blocks) (stay : OutsideStays (address_in h) before after)
+    (commits : Commits disk before changes h (record disk { blocks = blocks }) after new) (others : OutsideKeeps (address_in h) disk.blocks blocks) (stay : OutsideStays (address_in h) before after)
     (beside : IsHeader disk before f) (at_fresh : address_in f ≡ fresh) (empty : beside.content ≡ record { slots = []; tail = (pair_on disk (address_in h)).content.tail; move = no_gstate })
     (uses : SettlesTwo sets fresh now) where
   abbrev left : Disk
@@ -202,9 +202,9 @@ module _ (disk : Disk) (before : List Event) (blocks : Blocks) (after : List Eve
       ∙ pairs_are disk before blocks after a.front (h ∷ []) (new ∷ f ∷ []) a.back ((address_in h).0 ∷ (address_in h).1 ∷ []) (fresh.0 ∷ fresh.1 ∷ []) sets now kept_parts replaced
       ∙ ap₂ (λ p q. pairs_on disk a.front ++ p ∷ q ∷ pairs_on disk a.back) (now_pair ∙ ap (λ (p : Pair). record { at = p.at; content = c }) (sym was_pair)) f_pair
       ∙ sym (ap₂ (λ (z : List Pair) (i : ℕ). with_two z i then (joined_pair (seen disk before hs sets) index fresh))
-          (ap (pairs_on disk) a.parts ∙ map-append (λ x. pair_on disk (address_in x)) a.front (h ∷ a.back)) (a.place ∙ sym (length-map a.front (λ x. pair_on disk (address_in x))))
-          ∙ ap (λ z. insert z (length (pairs_on disk a.front) + 1) (joined_pair (seen disk before hs sets) index fresh)) (set-append_seam (pairs_on disk a.front) (pair_on disk (address_in h)) (pairs_on disk a.back) then)
-          ∙ insert_behind (pairs_on disk a.front) then (pairs_on disk a.back) (joined_pair (seen disk before hs sets) index fresh))
+      (ap (pairs_on disk) a.parts ∙ map-append (λ x. pair_on disk (address_in x)) a.front (h ∷ a.back)) (a.place ∙ sym (length-map a.front (λ x. pair_on disk (address_in x))))
+      ∙ ap (λ z. insert z (length (pairs_on disk a.front) + 1) (joined_pair (seen disk before hs sets) index fresh)) (set-append_seam (pairs_on disk a.front) (pair_on disk (address_in h)) (pairs_on disk a.back) then)
+      ∙ insert_behind (pairs_on disk a.front) then (pairs_on disk a.back) (joined_pair (seen disk before hs sets) index fresh))
 
 -- ---- what the fresh pair is to hold
 
@@ -267,9 +267,9 @@ pub record IsFreshHeader (disk : Disk) (history : List Event) (f : Header) (fres
   pub at : address_in f ≡ fresh
   pub empty : header.content ≡ record { slots = []; tail = t; move = no_gstate }
 
-pub fresh_header : (disk : Disk) (history : List Event) (f : Header) (fresh : ℕ × ℕ) (t : Option Tail) → IsAddressOn disk fresh → IsTailIfSome t → IsFresh (put_tail t ∷ []) disk history fresh f
+pub fresh_header : (disk : Disk) (before history : List Event) (f : Header) (fresh : ℕ × ℕ) (t : Option Tail) → IsAddressOn disk fresh → IsTailIfSome t → IsFresh before (put_tail t ∷ []) disk history fresh f
     → IsFreshHeader disk history f fresh t
-fresh_header disk history f fresh t on real is = record {
+fresh_header disk before history f fresh t on real is = record {
   header = record {
     address = subst (IsAddressOn disk) (sym is.holds.same) on;
     held = is.new;

@@ -22,13 +22,13 @@ use Rattle.lfs_model.specs.Changes.{Change}
 use Rattle.lfs_model.specs.Content.{RawSlot, RawContent, holder_at, raw_at, content_at, completed, complete_all}
 use Rattle.lfs_model.specs.Thread.{Pair, Links, next_of, blocks_of}
 use Rattle.lfs_model.proofs.Counts.{count, count_here, once_from_distinct}
-use Rattle.lfs_model.proofs.Completed.{complete_take, complete_drop, completed_from, fits_pair}
+use Rattle.lfs_model.proofs.Completed.{complete_parts, complete_take, complete_drop, completed_from, fits_pair}
 use Rattle.lfs_pair.specs.Pair.{address_in}
 use Rattle.lfs_pair.specs.Cut.{CanBeCut, FitSlots, IsCut}
 use Rattle.lfs_pair.proofs.Changed.{made_is}
 use Rattle.lfs_pair.specs.Commit.{IsAddressOn, CanCommit, IsStill, KeepsFirst, made_at}
 use Rattle.lfs_thread.proofs.First.{superblock_anew}
-use Rattle.lfs_pair.specs.Split.{CanSplit, Splits, OutsideBothKeeps, OutsideBothStays, LeftBySplit, AreParted, front_of, back_of}
+use Rattle.lfs_pair.specs.Split.{CanSplit, IsInside, Splits, OutsideBothKeeps, OutsideBothStays, LeftBySplit, AreParted, front_of, back_of}
 use Rattle.lfs_thread.specs.Kept.{Kept, Header, seen, pair_on, pairs_on, IsHeader, AllUsed, IsKept}
 use Rattle.lfs_thread.specs.Steps.{pair_in, CanBeSplit, settled, front_pair, back_pair, with_two, IsSplit, AreHalves, ArePartsOf, IsAsBefore, IsLeftBySplit}
 use Rattle.lfs_thread.proofs.Coming.{two_unused, used_still, SettlesTwo, settles_two, held_address}
@@ -80,12 +80,20 @@ slots_fit : (block_size page : ℕ) (slots : List RawSlot) (us : List Slot) (tai
     → FitsPair block_size page (record { slots = us; tail = tail; move = move })
 slots_fit block_size page slots us tail move have e fit =
     let f = fits_pair block_size page (record { slots = slots; tail = None; move = no_gstate }) (record { slots = us; tail = None; move = no_gstate })
-        (record { slots = have; tail = tt; move = nothing_logged.move }) (completed_from (record { slots = slots; tail = None; move = no_gstate }) us e) (record { size = fit.size; count = fit.count }) in
+    (record { slots = have; tail = tt; move = nothing_logged.move }) (completed_from (record { slots = slots; tail = None; move = no_gstate }) us e) (record { size = fit.size; count = fit.count }) in
     record { size = f.size; count = f.count }
 
-parts_of_cut : (old : Kept) (index : ℕ) (raw : RawContent) (c : Content) (cut : ℕ) (fresh : ℕ × ℕ) (disk : Disk) → IsComplete raw c → IsLogged raw → IsCut old.disk.block_size old.disk.page raw.slots cut
+complete_length : (slots : List RawSlot) (all : List Slot) → complete_all slots ≡ Some all → length all ≡ length slots
+complete_length [] all e = ap length (sym (same_Some [] all e))
+complete_length (s ∷ slots) all e =
+    let p = complete_parts s slots all e in
+    ap length p.all_are ∙ ap suc (complete_length slots p.others p.are_others)
+
+parts_of_cut : (old : Kept) (index : ℕ) (raw : RawContent) (c : Content) (cut : ℕ) (fresh : ℕ × ℕ) (disk : Disk) → IsComplete raw c → completed raw ≡ Some c → IsLogged raw → IsCut old.disk.block_size old.disk.page raw.slots cut
+    → IsInside old.disk.block_size old.disk.page raw cut
     → KeepsFirst old.disk (pair_in old index).at (Some (front_of raw cut fresh)) disk → ArePartsOf old index c cut fresh disk
-parts_of_cut old index raw c cut fresh disk is logged is_cut keeps = record {
+parts_of_cut old index raw c cut fresh disk is whole logged is_cut is_inside keeps = record {
+  inside = λ too_large. let i = is_inside (λ f. too_large (fits_pair old.disk.block_size old.disk.page raw c logged whole f)) in let l = complete_length raw.slots c.slots is.slots in (i.0, omega arith);
   front_fits = slots_fit old.disk.block_size old.disk.page (take cut raw.slots) (take cut c.slots) (Some (record { hard = true; to = fresh })) c.move
       (HaveParts-take cut raw.slots logged.slots) (complete_take cut raw.slots c.slots is.slots) is_cut.front;
   back_fits = slots_fit old.disk.block_size old.disk.page (drop cut raw.slots) (drop cut c.slots) c.tail no_gstate
@@ -138,7 +146,7 @@ can_split disk before hs sets index h fresh changes a kept can =
 
 module _ (disk : Disk) (before : List Event) (blocks : Blocks) (after : List Event) (hs : List Header) (sets : BlockSets) (index : ℕ) (h new f : Header) (fresh : ℕ × ℕ) (changes : List Change)
     (a : IsAt hs index h) (kept : IsKept disk before hs sets) (can : CanBeSplit (seen disk before hs sets) index fresh changes)
-    (splits : Splits disk changes h fresh (record disk { blocks = blocks }) after new f) (others : OutsideBothKeeps (address_in h) fresh disk.blocks blocks)
+    (splits : Splits disk before changes h fresh (record disk { blocks = blocks }) after new f) (others : OutsideBothKeeps (address_in h) fresh disk.blocks blocks)
     (stay : OutsideBothStays (address_in h) fresh before after) where
   abbrev left : Disk
   left = record disk { blocks = blocks }
@@ -158,9 +166,11 @@ module _ (disk : Disk) (before : List Event) (blocks : Blocks) (after : List Eve
   was_pair : pair_in (seen disk before hs sets) index ≡ pair_on disk (address_in h)
   was_pair = pair_at_index disk before hs sets index h a
 
+  is_whole : completed splits.new ≡ Some c
+  is_whole = let m = made_of_header disk before hs sets index h changes c a can.can.made in ap completed (same_Some splits.new m.raw (sym splits.made ∙ m.is)) ∙ m.complete
+
   parts_of : IsComplete splits.new c
-  parts_of = let m = made_of_header disk before hs sets index h changes c a can.can.made in
-      is_complete splits.new c (ap completed (same_Some splits.new m.raw (sym splits.made ∙ m.is)) ∙ m.complete)
+  parts_of = is_complete splits.new c is_whole
 
   new_header : IsHeader left after new
   new_header =
@@ -270,7 +280,7 @@ module _ (disk : Disk) (before : List Event) (blocks : Blocks) (after : List Eve
     content = c;
     made = can.can.made;
     cut = splits.cut;
-    parts = parts_of_cut (seen disk before hs sets) index splits.new c splits.cut fresh left parts_of splits.logged splits.is_cut
+    parts = parts_of_cut (seen disk before hs sets) index splits.new c splits.cut fresh left parts_of is_whole splits.logged splits.is_cut splits.inside
         (subst (λ (p : Pair). KeepsFirst disk p.at (Some (front_of splits.new splits.cut fresh)) left) (sym was_pair) splits.first);
     pairs = split_pairs;
     thread = kept_thread left after headers now split_kept;
@@ -281,10 +291,10 @@ module _ (disk : Disk) (before : List Event) (blocks : Blocks) (after : List Eve
 
 module _ (geometry later : Geometry) (old blocks : Blocks) (before after : List Event) (hs : List Header) (sets : BlockSets) (index : ℕ) (h new f : Header) (fresh : ℕ × ℕ) (changes : List Change)
     (same : later ≡ geometry) (a : IsAt hs index h) (kept : IsKept (disk_of geometry old) before hs sets) (can : CanBeSplit (seen (disk_of geometry old) before hs sets) index fresh changes)
-    (splits : Splits (disk_of geometry old) changes h fresh (disk_of later blocks) after new f) (others : OutsideBothKeeps (address_in h) fresh old blocks)
+    (splits : Splits (disk_of geometry old) before changes h fresh (disk_of later blocks) after new f) (others : OutsideBothKeeps (address_in h) fresh old blocks)
     (stay : OutsideBothStays (address_in h) fresh before after) (items : List Header) (are : items ≡ insert (set hs index new) (index + 1) f) (now : BlockSets) (is_now : now ≡ settled sets fresh) where
-  splits_there : Splits (disk_of geometry old) changes h fresh (disk_of geometry blocks) after new f
-  splits_there = subst (λ k. Splits (disk_of geometry old) changes h fresh (disk_of k blocks) after new f) same splits
+  splits_there : Splits (disk_of geometry old) before changes h fresh (disk_of geometry blocks) after new f
+  splits_there = subst (λ k. Splits (disk_of geometry old) before changes h fresh (disk_of k blocks) after new f) same splits
 
   pub device_split : IsKept (disk_of later blocks) after items now
   device_split = subst (λ k. IsKept (disk_of k blocks) after items now) (sym same) (subst (λ z. IsKept (disk_of geometry blocks) after z now) (sym are) (subst (λ m. IsKept (disk_of geometry blocks) after (insert (set hs index new) (index + 1) f) m) (sym is_now)
@@ -329,9 +339,11 @@ left_by_split disk before hs sets index h fresh changes blocks a kept can l = re
     was : content_at disk (address_in h) ≡ Some (pair_in (seen disk before hs sets) index).content
     was = header_content disk before h is ∙ ap (λ (p : Pair). Some p.content) (sym (e ∙ pair_on_content disk (address_in h) is.content (header_content disk before h is)))
 
+    made_whole : (raw : RawContent) → made_at disk (address_in h) changes ≡ Some raw → completed raw ≡ Some can.can.content
+    made_whole raw made = let m = made_of_header disk before hs sets index h changes can.can.content a can.can.made in ap completed (same_Some raw m.raw (sym made ∙ m.is)) ∙ m.complete
+
     whole : (raw : RawContent) → made_at disk (address_in h) changes ≡ Some raw → IsComplete raw can.can.content
-    whole raw made = let m = made_of_header disk before hs sets index h changes can.can.content a can.can.made in
-        is_complete raw can.can.content (ap completed (same_Some raw m.raw (sym made ∙ m.is)) ∙ m.complete)
+    whole raw made = is_complete raw can.can.content (made_whole raw made)
 
     sides : IsStill disk (address_in h) (record disk { blocks = blocks }) ⊎ AreParted disk (address_in h) fresh changes (record disk { blocks = blocks })
         → IsAsBefore (seen disk before hs sets) index (record disk { blocks = blocks })
@@ -346,6 +358,6 @@ left_by_split disk before hs sets index h fresh changes blocks a kept can l = re
       cut = k.cut;
       front = ap (λ (p : Pair). content_at (record disk { blocks = blocks }) p.at) e ∙ ap (λ o. option_and_then completed o) k.front.content ∙ front_complete k.new can.can.content k.cut fresh (whole k.new k.made);
       back = ap (λ o. option_and_then completed o) k.back ∙ back_complete k.new can.can.content k.cut (whole k.new k.made);
-      parts = parts_of_cut (seen disk before hs sets) index k.new can.can.content k.cut fresh (record disk { blocks = blocks }) (whole k.new k.made) k.logged k.is_cut
+      parts = parts_of_cut (seen disk before hs sets) index k.new can.can.content k.cut fresh (record disk { blocks = blocks }) (whole k.new k.made) (made_whole k.new k.made) k.logged k.is_cut k.inside
           (subst (λ (p : Pair). KeepsFirst disk p.at (Some (front_of k.new k.cut fresh)) (record disk { blocks = blocks })) (sym e) k.front.first);
     })

@@ -18,7 +18,7 @@ use Rattle.lfs_device.specs.Shown.{disk_of}
 use Rattle.lfs_model.specs.History.{AtWorst, Event, LeavesOnly, OnlyReads}
 use Rattle.lfs_model.specs.Stops.{Stops}
 use Rattle.lfs_model.proofs.Histories.{EachSince-behind, LeavesOnly-weaker, LeavesOnly-worst, goes_on_by}
-use Rattle.lfs_model.specs.Slots.{Content, Tail, no_gstate, null_address}
+use Rattle.lfs_model.specs.Slots.{Content, FitsPair, Tail, no_gstate, null_address}
 use Rattle.lfs_model.specs.Logged.{IsAddress, IsTailIfSome, is_null}
 use Rattle.lfs_model.specs.Changes.{Change, PutTail, changed_by}
 use Rattle.lfs_model.proofs.Effects.{does_first, does_nothing, ends_tail, puts_tail}
@@ -157,7 +157,7 @@ module _ (disk : Disk) (history : List Event) (hs : List Header) (sets : BlockSe
             })
 
     -- after the commit
-    module _ (blocks : Blocks) (after : List Event) (new : Header) (commits : Commits beside changes h (record disk { blocks = blocks }) after new)
+    module _ (blocks : Blocks) (after : List Event) (new : Header) (commits : Commits beside then changes h (record disk { blocks = blocks }) after new)
         (keeps : OutsideKeeps (address_in h) mid blocks) (stays : OutsideStays (address_in h) then after) where
       abbrev left : Disk
       left = record disk { blocks = blocks }
@@ -206,22 +206,29 @@ module _ (geometry later : Geometry) (old mid : Blocks) (before then : List Even
   beside_read disk after e reads = subst (λ d. IsKept d after hs sets) (sym e) (subst (λ k. IsKept (disk_of k mid) after hs sets) (sym same)
       (kept_read (disk_of geometry mid) mid then after hs sets reads (still_kept (disk_of geometry old) before hs sets index h fresh changes a kept can mid then others stay)))
 
-  pub is_beside : (disk : Disk) (after : List Event) → disk ≡ disk_of later mid → IsBeside was fresh (seen disk after hs sets)
-  is_beside disk after e = subst (λ d. IsBeside was fresh (seen d after hs sets)) (sym e) (subst (λ k. IsBeside was fresh (seen (disk_of k mid) after hs sets)) (sym same) (record {
+  pub is_beside : (disk : Disk) (after : List Event) → disk ≡ disk_of later mid
+      → ((raw : RawContent) (d : Content) → made_at (disk_of later mid) (address_in h) changes ≡ Some raw → completed raw ≡ Some d → FitsPair later.block_size later.page d → ⊥)
+      → IsBeside was index fresh changes (seen disk after hs sets)
+  is_beside disk after e too_large = subst (λ d. IsBeside was index fresh changes (seen d after hs sets)) (sym e) (subst (λ k. IsBeside was index fresh changes (seen (disk_of k mid) after hs sets)) (sym same) (record {
+    content = can.content;
+    made = can.made;
+    too_large = λ f.
+        let m = made_of_header (disk_of geometry mid) then hs sets index h changes can.content a (still_made (disk_of geometry old) before hs sets index h fresh changes a kept can mid then others stay) in
+        subst (λ k. (raw : RawContent) (d : Content) → made_at (disk_of k mid) (address_in h) changes ≡ Some raw → completed raw ≡ Some d → FitsPair k.block_size k.page d → ⊥) same too_large m.raw can.content m.is m.complete f;
     pairs = still_pairs (disk_of geometry old) before hs sets index h fresh changes a kept can mid then others stay;
     map = refl;
     others = others;
   }))
 
-  module _ (f : Header) (tail : Change) (is : IsFresh (tail ∷ []) (disk_of later mid) then fresh f) (tail_is : tail ≡ put_tail (option_map tail_seen h.tail)) (few : length old ≤ 65536) where
+  module _ (f : Header) (tail : Change) (is : IsFresh before (tail ∷ []) (disk_of later mid) then fresh f) (tail_is : tail ≡ put_tail (option_map tail_seen h.tail)) (few : length old ≤ 65536) where
     fresh_there : IsFreshHeader (disk_of geometry mid) then f fresh (pair_on (disk_of geometry old) (address_in h)).content.tail
     fresh_there =
         let on = held_address (disk_of geometry old) before hs sets fresh kept can.held in
         let named = subst (λ t. tail ≡ put_tail t) (sym (header_tail (disk_of geometry old) before h (header_at_index (disk_of geometry old) before hs index h a kept.each))) tail_is in
-        fresh_header (disk_of geometry mid) then f fresh (pair_on (disk_of geometry old) (address_in h)).content.tail
+        fresh_header (disk_of geometry mid) before then f fresh (pair_on (disk_of geometry old) (address_in h)).content.tail
         (record { apart = on.apart; first = subst (λ n. fresh.0 < n) (sym others.count) on.first; second = subst (λ n. fresh.1 < n) (sym others.count) on.second })
         (tail_named (disk_of geometry old) before hs sets index h a kept few)
-        (subst (λ t. IsFresh (t ∷ []) (disk_of geometry mid) then fresh f) named (subst (λ k. IsFresh (tail ∷ []) (disk_of k mid) then fresh f) same is))
+        (subst (λ t. IsFresh before (t ∷ []) (disk_of geometry mid) then fresh f) named (subst (λ k. IsFresh before (tail ∷ []) (disk_of k mid) then fresh f) same is))
 
     pub device_stops : (after : List Event) → LeavesOnly AtWorst before then (OutsideKeeps fresh old) → LeavesOnly AtWorst then after (OutsideKeeps (address_in h) mid)
         → StopsLeave then after (LeftByChange (disk_of later mid) (address_in h) changes) → StopsLeave before after (IsLeftByJoin was index fresh changes)
@@ -229,11 +236,11 @@ module _ (geometry later : Geometry) (old mid : Blocks) (before then : List Even
         (LeavesOnly-weaker (λ left l. left_by_join (disk_of geometry old) before hs sets index h fresh changes a kept can mid then others stay f fresh_there left
         (subst (λ k. LeftByChange (disk_of k mid) (address_in h) changes left) same l)) (stops (EachSince-behind cleanly first second)))
 
-    module _ (now_geometry : Geometry) (blocks : Blocks) (after : List Event) (new : Header) (still : now_geometry ≡ later) (commits : Commits (disk_of later mid) changes h (disk_of now_geometry blocks) after new)
+    module _ (now_geometry : Geometry) (blocks : Blocks) (after : List Event) (new : Header) (still : now_geometry ≡ later) (commits : Commits (disk_of later mid) then changes h (disk_of now_geometry blocks) after new)
         (keeps : OutsideKeeps (address_in h) mid blocks) (stays : OutsideStays (address_in h) then after) (items : List Header) (are : items ≡ insert (set hs index new) (index + 1) f)
         (now : BlockSets) (is_now : now ≡ settled sets fresh) where
-      commits_there : Commits (disk_of geometry mid) changes h (disk_of geometry blocks) after new
-      commits_there = subst (λ k. Commits (disk_of k mid) changes h (disk_of k blocks) after new) same (subst (λ k. Commits (disk_of later mid) changes h (disk_of k blocks) after new) still commits)
+      commits_there : Commits (disk_of geometry mid) then changes h (disk_of geometry blocks) after new
+      commits_there = subst (λ k. Commits (disk_of k mid) then changes h (disk_of k blocks) after new) same (subst (λ k. Commits (disk_of later mid) then changes h (disk_of k blocks) after new) still commits)
 
       there : now_geometry ≡ geometry
       there = still ∙ same

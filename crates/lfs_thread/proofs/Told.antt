@@ -1,14 +1,17 @@
 -- What a call says of the device, in the words of the thread.
-use Rattle.std.proofs.Common.{ℕ, List, ◌≡◌, ◌∙◌, ap, ap₂, Result, Err}
+use Rattle.std.proofs.Common.{ℕ, List, ◌≡◌, ◌⊎◌, ◌∙◌, sym, ap, ap₂, subst, Result, Ok, Err}
+use Rattle.std.specs.Prelude.{IfErr}
 use Rattle.lfs_device.specs.declared.device.BlockDevice.{Ghosts}
 use Rattle.lfs_device.specs.declared.error.Error.{Error}
-use Rattle.lfs_device.specs.declared.error.Error.TheVariants.{NoMemory}
+use Rattle.lfs_device.specs.declared.error.Error.TheVariants.{Io, NoMemory}
 use Rattle.lfs_device.specs.declared.geometry.Geometry.{Geometry}
 use Rattle.lfs_device.specs.Calls.{ChangesOnly, ReadsOnly}
 use Rattle.lfs_device.specs.Shown.{disk_of}
 use Rattle.lfs_model.specs.BlockSets.{BlockSets}
-use Rattle.lfs_model.proofs.Histories.{LeavesOnly-weaker, goes_on_by}
-use Rattle.lfs_pair.proofs.Parted.{keeps_by_both, keeps_by_fresh, stays_by_both, stays_by_fresh}
+use Rattle.lfs_model.proofs.Histories.{LeavesOnly-weaker, StayUnprogrammed-trans, StayUnprogrammed-wider, goes_on_by}
+use Rattle.lfs_pair.specs.declared.pair.Pair.{Pair}
+use Rattle.lfs_pair.specs.Commit.{Fails}
+use Rattle.lfs_pair.proofs.Parted.{among_first, among_second, keeps_by_both, keeps_by_fresh}
 use Rattle.lfs_thread.specs.Device.{TellsErrors, TellsErrorsBeside, four_of, two_of}
 use Rattle.lfs_thread.specs.Kept.{Header, seen_on}
 use Rattle.lfs_thread.specs.Steps.{HasTold, HasToldBeside, IsUnwritten, Writes}
@@ -20,13 +23,13 @@ module _ {D : Type 0} (g : Ghosts D) (old new : D) (hs now_hs : List Header) (se
   pub told_from : {X : Type 0} (result : Result X Error) → TellsErrors g old new result → HasTold (seen_on g old hs sets) (seen_on g new now_hs now_sets) result
   told_from result t = record {
     errors = t.errors;
-    fault = t.fault;
-    no_fault = t.no_fault;
+    fault = t.faults.fault;
+    no_fault = t.faults.no_fault;
     unwritten = λ (e : result ≡ Err NoMemory). unwritten_from (t.unwritten e);
   }
 
   pub told_beside_from : {X : Type 0} (bs : List ℕ) (result : Result X Error) → TellsErrorsBeside g bs old new result → HasToldBeside bs (seen_on g old hs sets) (seen_on g new now_hs now_sets) result
-  told_beside_from bs result t = record { errors = t.errors; fault = t.fault; beside = t.beside }
+  told_beside_from bs result t = record { errors = t.errors; fault = t.faults.fault; no_fault = t.faults.no_fault; beside = t.beside }
 
   pub writes_from : (bs : List ℕ) → ChangesOnly g bs old new → Writes bs (seen_on g old hs sets) (seen_on g new now_hs now_sets)
   writes_from bs w = record {
@@ -46,7 +49,7 @@ module _ {D : Type 0} (g : Ghosts D) (at fresh : ℕ × ℕ) where
   pub changes_by_fresh : {old new : D} → ChangesOnly g (two_of fresh) old new → ChangesOnly g (four_of at fresh) old new
   changes_by_fresh w = record {
     others = keeps_by_fresh at fresh w.others;
-    elsewhere = stays_by_fresh at fresh w.elsewhere;
+    elsewhere = StayUnprogrammed-wider (four_of at fresh) (among_second at fresh) w.elsewhere;
     geometry = w.geometry;
     at_worst = LeavesOnly-weaker (λ disk left. keeps_by_fresh at fresh left) w.at_worst;
   }
@@ -54,8 +57,32 @@ module _ {D : Type 0} (g : Ghosts D) (at fresh : ℕ × ℕ) where
   pub changes_by_both : {old mid new : D} → ChangesOnly g (two_of fresh) old mid → ChangesOnly g (two_of at) mid new → ChangesOnly g (four_of at fresh) old new
   changes_by_both w v = record {
     others = keeps_by_both at fresh w.others v.others;
-    elsewhere = stays_by_both at fresh w.elsewhere v.elsewhere;
+    elsewhere = StayUnprogrammed-trans (StayUnprogrammed-wider (four_of at fresh) (among_second at fresh) w.elsewhere) (StayUnprogrammed-wider (four_of at fresh) (among_first at fresh) v.elsewhere);
     geometry = v.geometry ∙ w.geometry;
     at_worst = goes_on_by (LeavesOnly-weaker (λ disk left. keeps_by_fresh at fresh left) w.at_worst)
         (LeavesOnly-weaker (λ disk left. keeps_by_both at fresh w.others left) v.at_worst);
   }
+
+-- ---- what a call of lfs_pair says of its error
+
+pub record HasErrors {D X : Type 0} (g : Ghosts D) (old new : D) (result : Result X Error) : Type 0 where
+  pub errors : IfErr result (λ e. (e ≡ Io) ⊎ (e ≡ NoMemory))
+  pub unwritten : result ≡ Err NoMemory → ReadsOnly g old new
+
+same_error : (X : Type 0) (e f : Error) → (let r : Result X Error = Err e in r) ≡ Err f → e ≡ f
+same_error X e f h = cc
+
+pub errors_of : {D X : Type 0} {g : Ghosts D} {old new : D} (was now : Pair) {result : Result X Error} → IfErr result (λ e. Fails g old new was now e) → HasErrors g old new result
+errors_of was now {result = Ok x} h = record { errors = tt; unwritten = λ e. absurd (cc) }
+errors_of {X = X} was now {result = Err e} h = record { errors = h.errors; unwritten = λ same. h.no_memory (same_error X e NoMemory same) }
+
+-- an error that is passed on
+pub errors_again : {D X Y : Type 0} {g : Ghosts D} {old new : D} (e : Error) (first : Result X Error) (second : Result Y Error) → first ≡ Err e → second ≡ Err e → TellsErrors g old new first → TellsErrors g old new second
+errors_again {X = X} {Y = Y} e first second is now t = record {
+  errors = subst (λ (r : Result Y Error). IfErr r (λ e. (e ≡ Io) ⊎ (e ≡ NoMemory))) (sym now) (subst (λ (r : Result X Error). IfErr r (λ e. (e ≡ Io) ⊎ (e ≡ NoMemory))) is t.errors);
+  faults = record {
+    fault = λ gives. t.faults.fault (is ∙ ap Err (same_error Y e Io (sym now ∙ gives)));
+    no_fault = λ other. t.faults.no_fault (λ gives. other (now ∙ ap Err (same_error X e Io (sym is ∙ gives))));
+  };
+  unwritten = λ gives. t.unwritten (is ∙ ap Err (same_error Y e NoMemory (sym now ∙ gives)));
+}

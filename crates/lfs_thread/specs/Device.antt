@@ -1,11 +1,11 @@
 -- What the steps of a thread say of the device.
-use Rattle.std.specs.Prelude.{ℕ, ◌≡◌, ◌⊎◌, ◌<◌, List, [], ◌∷◌, Result, Err, IfErr}
+use Rattle.std.specs.Prelude.{ℕ, ◌≡◌, ◌⊎◌, List, [], ◌∷◌, Result, Err, IfErr}
 use Rattle.lfs_device.specs.declared.device.BlockDevice.{Ghosts}
 use Rattle.lfs_device.specs.declared.error.Error.{Error}
 use Rattle.lfs_device.specs.declared.error.Error.TheVariants.{Io, NoMemory}
-use Rattle.lfs_device.specs.Calls.{ReadsOnly}
+use Rattle.lfs_device.specs.Calls.{ReadsOnly, TellsFaults}
 use Rattle.lfs_model.specs.Blocks.{Blocks, SameButThese}
-use Rattle.lfs_model.specs.History.{Event, EachSince, LeavesOnly, faults}
+use Rattle.lfs_model.specs.History.{Event, EachSince, LeavesOnly}
 use Rattle.lfs_model.specs.Stops.{ErasesCleanly, Stops}
 
 -- the blocks of a pair, and of two pairs
@@ -15,17 +15,16 @@ two_of at = at.0 ∷ at.1 ∷ []
 abbrev pub four_of : ℕ × ℕ → ℕ × ℕ → List ℕ
 four_of at fresh = at.0 ∷ at.1 ∷ fresh.0 ∷ fresh.1 ∷ []
 
--- `Io` comes with a fault of the device; `NoMemory` with none, and then nothing was written
+-- `Io` comes with a fault of the device, and any other answer with none; at `NoMemory` nothing was written
 pub record TellsErrors {D X : Type 0} (g : Ghosts D) (old new : D) (result : Result X Error) : Type 0 where
   pub errors : IfErr result (λ e. (e ≡ Io) ⊎ (e ≡ NoMemory))
-  pub fault : result ≡ Err Io → faults (g.history old) < faults (g.history new)
-  pub no_fault : result ≡ Err NoMemory → faults (g.history new) ≡ faults (g.history old)
+  pub faults : TellsFaults g old new result
   pub unwritten : result ≡ Err NoMemory → ReadsOnly g old new
 
 -- the same of a call that may have written these blocks by then
 pub record TellsErrorsBeside {D X : Type 0} (g : Ghosts D) (bs : List ℕ) (old new : D) (result : Result X Error) : Type 0 where
   pub errors : IfErr result (λ e. (e ≡ Io) ⊎ (e ≡ NoMemory))
-  pub fault : result ≡ Err Io → faults (g.history old) < faults (g.history new)
+  pub faults : TellsFaults g old new result
   pub beside : result ≡ Err NoMemory → SameButThese bs (g.blocks old) (g.blocks new)
 
 -- a stop in any of the calls since leaves a disk that has P, where erases are clean

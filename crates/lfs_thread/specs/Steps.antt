@@ -1,5 +1,5 @@
 -- What the steps of a thread do to it.
-use Rattle.std.specs.Prelude.{ℕ, ◌≡◌, ◌≢◌, ◌⊎◌, ◌<◌, ◌+◌, slice_get, codes, true, false, List, [], length, take, drop, slice_set, slice_index_or, Option, Some, None, Result, Err, IfErr}
+use Rattle.std.specs.Prelude.{ℕ, ◌≡◌, ◌≢◌, ◌⊎◌, ◌<◌, ◌+◌, slice_get, codes, true, false, List, [], length, take, drop, slice_set, slice_index_or, Option, Some, None, Result, Err, IfErr, IsErrOf}
 use Rattle.lfs_device.specs.declared.error.Error.{Error}
 use Rattle.lfs_device.specs.declared.error.Error.TheVariants.{Io, NoMemory}
 use Rattle.std.specs.Option.{option_and_then, option_map}
@@ -48,17 +48,18 @@ pub record IsUnwritten (old new : Kept) : Type 0 where
   pub disk : new.disk ≡ old.disk
   pub reads : OnlyReads old.disk.blocks old.history new.history
 
--- `Io` comes with a fault of the device; `NoMemory` with none, and then nothing was written
+-- `Io` comes with a fault of the device, and any other answer with none; at `NoMemory` nothing was written
 pub record HasTold {X : Type 0} (old new : Kept) (result : Result X Error) : Type 0 where
   pub errors : IfErr result (λ e. (e ≡ Io) ⊎ (e ≡ NoMemory))
-  pub fault : result ≡ Err Io → faults old.history < faults new.history
-  pub no_fault : result ≡ Err NoMemory → faults new.history ≡ faults old.history
+  pub fault : IsErrOf result Io → faults old.history < faults new.history
+  pub no_fault : ¬ IsErrOf result Io → faults new.history ≡ faults old.history
   pub unwritten : result ≡ Err NoMemory → IsUnwritten old new
 
 -- the same of a step that may have written these blocks by then
 pub record HasToldBeside {X : Type 0} (bs : List ℕ) (old new : Kept) (result : Result X Error) : Type 0 where
   pub errors : IfErr result (λ e. (e ≡ Io) ⊎ (e ≡ NoMemory))
-  pub fault : result ≡ Err Io → faults old.history < faults new.history
+  pub fault : IsErrOf result Io → faults old.history < faults new.history
+  pub no_fault : ¬ IsErrOf result Io → faults new.history ≡ faults old.history
   pub beside : result ≡ Err NoMemory → SameButThese bs old.disk.blocks new.disk.blocks
 
 -- only read, and the thread is as it was
@@ -159,10 +160,11 @@ front_pair t index c cut fresh = record { at = (pair_in t index).at; content = r
 abbrev pub back_pair : Content → ℕ → ℕ × ℕ → Pair
 back_pair c cut fresh = record { at = fresh; content = record { slots = drop cut c.slots; tail = c.tail; move = no_gstate } }
 
--- both parts fit, and the superblock stays first
+-- both parts fit, and have slots where the whole doesn't fit; the superblock stays first
 pub record ArePartsOf (old : Kept) (index : ℕ) (content : Content) (cut : ℕ) (fresh : ℕ × ℕ) (disk : Disk) : Type 0 where
   pub front_fits : FitsPair old.disk.block_size old.disk.page (front_pair old index content cut fresh).content
   pub back_fits : FitsPair old.disk.block_size old.disk.page (back_pair content cut fresh).content
+  pub inside : ¬ FitsPair old.disk.block_size old.disk.page content → (0 < cut) × (cut < length content.slots)
   pub first : StaysFirst old.disk (pair_in old index).at (front_pair old index content cut fresh).content disk
 
 -- both pairs have their parts, and everything else is as it was
@@ -219,8 +221,11 @@ pub record IsJoined (old : Kept) (index : ℕ) (fresh : ℕ × ℕ) (changes : L
   pub thread : IsThread (content_at new.disk) (block_count new.disk) new.pairs
   pub map : new.map ≡ settled old.map fresh
 
--- the thread is as it was, and no block but the two was written
-pub record IsBeside (old : Kept) (fresh : ℕ × ℕ) (new : Kept) : Type 0 where
+-- what the changes make doesn't fit; the thread is as it was, and no block but the two was written
+pub record IsBeside (old : Kept) (index : ℕ) (fresh : ℕ × ℕ) (changes : List Change) (new : Kept) : Type 0 where
+  pub content : Content
+  pub made : made_in_thread old index changes ≡ Some content
+  pub too_large : ¬ FitsPair old.disk.block_size old.disk.page content
   pub pairs : new.pairs ≡ old.pairs
   pub map : new.map ≡ old.map
   pub others : OutsideKeeps fresh old.disk.blocks new.disk.blocks

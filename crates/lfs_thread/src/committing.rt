@@ -1,11 +1,11 @@
 // Commits to pairs and splits of them, beside the blocks that are at hand.
 
 ghost use Rattle.std.specs.Prelude.{◌≡◌, IfOk, OnOk};
-ghost use Rattle.lfs_device.specs.Calls.{ChangesOnly, ReadsOnly};
+ghost use Rattle.lfs_device.specs.Calls.{ChangesOnly};
 ghost use Rattle.lfs_model.specs.Cache.{without};
 ghost use Rattle.lfs_model.specs.Slots.{address_of};
 ghost use Rattle.lfs_pair.specs.ChangeSeen.{changes_seen};
-ghost use Rattle.lfs_pair.specs.Commit.{CanCommit, Commits, LeftByChange};
+ghost use Rattle.lfs_pair.specs.Commit.{CanCommit, Commits, IsFull, LeftByChange};
 ghost use Rattle.lfs_pair.specs.Pair.{address_in};
 ghost use Rattle.lfs_pair.specs.Split.{CanSplit, LeftBySplit, Splits};
 ghost use Rattle.lfs_thread.specs.Kept.{IsCurrent, disk_on};
@@ -27,9 +27,8 @@ pub(crate) fn commit_to<D: BlockDevice>(
     requires can { CanCommit (disk_on D.BlockDevice device.old) (D.history device.old) pair.old (changes_seen changes.now) }
     requires current { IsCurrent (D.blocks device.old) cache.old }
     ensures done { result ≡ Ok Outcome.Done
-        → Commits (disk_on D.BlockDevice device.old) (changes_seen changes.now) pair.old (disk_on D.BlockDevice device.new) (D.history device.new) pair.new }
-    ensures full_pair { result ≡ Ok Outcome.Full → pair.new ≡ pair.old }
-    ensures full_device { result ≡ Ok Outcome.Full → ReadsOnly D.BlockDevice device.old device.new }
+        → Commits (disk_on D.BlockDevice device.old) (D.history device.old) (changes_seen changes.now) pair.old (disk_on D.BlockDevice device.new) (D.history device.new) pair.new }
+    ensures full { result ≡ Ok Outcome.Full → IsFull D.BlockDevice (changes_seen changes.now) device.old device.new pair.old pair.new }
     ensures current { IsCurrent (D.blocks device.new) cache.new }
     ensures device { ChangesOnly D.BlockDevice (two_of (address_in pair.old)) device.old device.new }
     ensures errors { TellsErrors D.BlockDevice device.old device.new result }
@@ -51,7 +50,7 @@ pub(crate) fn split_to<D: BlockDevice>(
 ) -> Result<Pair, Error>
     requires can { CanSplit (disk_on D.BlockDevice device.old) (D.history device.old) pair.old (address_of fresh) (changes_seen changes.now) }
     requires current { IsCurrent (D.blocks device.old) cache.old }
-    ensures splits { IfOk result (λ fresh_pair. Splits (disk_on D.BlockDevice device.old) (changes_seen changes.now) pair.old (address_of fresh)
+    ensures splits { IfOk result (λ fresh_pair. Splits (disk_on D.BlockDevice device.old) (D.history device.old) (changes_seen changes.now) pair.old (address_of fresh)
         (disk_on D.BlockDevice device.new) (D.history device.new) pair.new fresh_pair) }
     ensures current { IsCurrent (D.blocks device.new) cache.new }
     ensures device { ChangesOnly D.BlockDevice (four_of (address_in pair.old) (address_of fresh)) device.old device.new }

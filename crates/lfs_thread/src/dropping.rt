@@ -5,7 +5,7 @@ ghost use Rattle.lfs_device.specs.Calls.{ChangesOnly};
 ghost use Rattle.lfs_pair.specs.ChangeSeen.{changes_seen};
 ghost use Rattle.lfs_thread.specs.Device.{StopsLeave, TellsErrors, two_of};
 ghost use Rattle.lfs_thread.specs.Kept.{IsCurrent, IsKeptOn, seen_on};
-ghost use Rattle.lfs_thread.specs.Steps.{CanDrop, IsDropped, IsLeft, IsOnlyRead, pair_in};
+ghost use Rattle.lfs_thread.specs.Steps.{CanDrop, IsDropped, IsLeft, IsRefused, pair_in};
 
 use crate::committing::commit_to;
 use lfs_alloc::BlockMap;
@@ -33,7 +33,7 @@ pub(crate) fn drop_pair<D: BlockDevice>(
     ensures current { IsCurrent (D.blocks device.new) cache.new }
     ensures is_dropped { result ≡ Ok Outcome.Done → IsDropped (seen_on D.BlockDevice device.old pairs.old.items map.old) index (changes_seen changes.now)
         (seen_on D.BlockDevice device.new pairs.new.items map.new) }
-    ensures full { result ≡ Ok Outcome.Full → IsOnlyRead (seen_on D.BlockDevice device.old pairs.old.items map.old)
+    ensures full { result ≡ Ok Outcome.Full → IsRefused (seen_on D.BlockDevice device.old pairs.old.items map.old) index (changes_seen changes.now)
         (seen_on D.BlockDevice device.new pairs.new.items map.new) }
     ensures device { ChangesOnly D.BlockDevice (two_of (pair_in (seen_on D.BlockDevice device.old pairs.old.items map.old) index).at) device.old device.new }
     ensures errors { TellsErrors D.BlockDevice device.old device.new result }

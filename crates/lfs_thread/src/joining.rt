@@ -39,7 +39,7 @@ pub(crate) fn join_pair<D: BlockDevice>(
     ensures current { IsCurrent (D.blocks device.new) cache.new }
     ensures is_joined { result ≡ Ok Outcome.Done → IsJoined (seen_on D.BlockDevice device.old pairs.old.items map.old) index (address_of fresh) (changes_seen changes.now)
         (seen_on D.BlockDevice device.new pairs.new.items map.new) }
-    ensures full { result ≡ Ok Outcome.Full → IsBeside (seen_on D.BlockDevice device.old pairs.old.items map.old) (address_of fresh)
+    ensures full { result ≡ Ok Outcome.Full → IsBeside (seen_on D.BlockDevice device.old pairs.old.items map.old) index (address_of fresh) (changes_seen changes.now)
         (seen_on D.BlockDevice device.new pairs.new.items map.new) }
     ensures device { ChangesOnly D.BlockDevice (four_of (pair_in (seen_on D.BlockDevice device.old pairs.old.items map.old) index).at (address_of fresh)) device.old device.new }
     ensures errors { TellsErrorsBeside D.BlockDevice (two_of (address_of fresh)) device.old device.new result }

@@ -4,7 +4,6 @@
 mod committing;
 mod dropping;
 mod joining;
-
 mod reading;
 mod splitting;
 mod thread;

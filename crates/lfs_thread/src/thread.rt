@@ -1,14 +1,14 @@
-ghost use Rattle.std.specs.Prelude.{ℕ, List, Contains, ◌↔◌, IfOk, ◌≡◌, ◌⊎◌, ◌<◌, length, false, is_err, [], replicate, IfErr, OnOk};
+ghost use Rattle.std.specs.Prelude.{ℕ, List, Contains, ◌↔◌, IfOk, ◌≡◌, ◌⊎◌, ◌<◌, length, false, is_err, [], replicate, slice_set, IfErr, IfNone, IfSome, OnOk};
 ghost use Rattle.lfs_model.specs.Content.{content_at};
-ghost use Rattle.lfs_model.specs.BlockSets.{IsUsed};
-ghost use Rattle.lfs_model.specs.BlockSets.BlockState.{Free};
+ghost use Rattle.lfs_model.specs.BlockSets.{IsFree, IsInFlight, IsUsed};
+ghost use Rattle.lfs_model.specs.BlockSets.BlockState.{Free, InFlight};
 ghost use Rattle.lfs_model.specs.History.{OnlyReads, faults};
 ghost use Rattle.lfs_model.specs.Slots.{address_of};
 ghost use Rattle.lfs_model.specs.Thread.{IsThread, Pair as ThreadPair, blocks_of};
 ghost use Rattle.lfs_pair.specs.ChangeSeen.{changes_seen};
 ghost use Rattle.lfs_thread.specs.Device.{StopsLeave, four_of, two_of};
 ghost use Rattle.lfs_thread.specs.Kept.{disk_on};
-ghost use Rattle.lfs_thread.specs.Steps.{CanBeSplit, CanChange, CanDrop, CanJoin, HasTold, HasToldBeside, IsBeside, IsJoined, IsLeftByJoin, IsChanged, IsDropped, IsLeft, IsLeftBySplit, IsOnlyRead, IsSplit, Writes, pair_in};
+ghost use Rattle.lfs_thread.specs.Steps.{CanBeSplit, CanChange, CanDrop, CanJoin, HasTold, HasToldBeside, IsBeside, IsJoined, IsLeftByJoin, IsChanged, IsDropped, IsLeft, IsLeftBySplit, IsRefused, IsSplit, Writes, pair_in};
 
 use crate::committing::commit_to;
 use crate::dropping::drop_pair;
@@ -44,9 +44,9 @@ impl<D: BlockDevice> Model for Thread<D> {
     ghost Value = { State };
 
     ghost view = { λ t. record {
-        kept = seen_on D.BlockDevice t.device t.pairs.items t.map;
-        cache = t.cache;
-        failed = t.has_failed;
+      kept = seen_on D.BlockDevice t.device t.pairs.items t.map;
+      cache = t.cache;
+      failed = t.has_failed;
     } };
 
     ghost invariant = { λ t. t.has_failed ≡ false
@@ -96,6 +96,35 @@ impl<D: BlockDevice> Thread<D> {
         self.pairs.len()
     }
 
+    /// Where a pair stands.
+    pub fn address(&self, index: usize) -> [u32; 2]
+        requires { index < length self.now.kept.pairs }
+        ensures { address_of result ≡ (pair_in self.now.kept index).at }
+    {
+        self.pairs[index].blocks
+    }
+
+    /// Hands out a free block, which is then in flight. None exactly where no block is free.
+    pub fn take(&mut self) -> Option<u32>
+        ensures was_free { IfSome result (IsFree self.old.kept.map) }
+        ensures taken { IfSome result (λ block. self.new ≡ record self.old { kept = record self.old.kept { map = slice_set self.old.kept.map block InFlight } }) }
+        ensures none { IfNone result ((block : ℕ) → ¬ IsFree self.old.kept.map block) }
+        ensures same { IfNone result (self.new ≡ self.old) }
+    {
+        match self.map.take() {
+            Some(block) => Some(block),
+            None => None,
+        }
+    }
+
+    /// Makes a block in flight free again, since nothing came to name it.
+    pub fn release(&mut self, block: u32)
+        requires { IsInFlight self.old.kept.map block }
+        ensures { self.new ≡ record self.old { kept = record self.old.kept { map = slice_set self.old.kept.map block Free } } }
+    {
+        self.map.release(block);
+    }
+
     /// Commits changes to a pair, whose tail then names what it named. They may change its share of
     /// the global state, and whether its tail is a hard one.
     ///
@@ -111,13 +140,19 @@ impl<D: BlockDevice> Thread<D> {
         requires works { self.old.failed ≡ false }
         requires can { CanChange self.old.kept index (changes_seen changes.now) }
         ensures done { result ≡ Ok Outcome.Done → IsChanged self.old.kept index (changes_seen changes.now) self.new.kept }
-        ensures full { result ≡ Ok Outcome.Full → IsOnlyRead self.old.kept self.new.kept }
+        ensures full { result ≡ Ok Outcome.Full → IsRefused self.old.kept index (changes_seen changes.now) self.new.kept }
         ensures failed { self.new.failed ≡ is_err result }
         ensures errors { HasTold self.old.kept self.new.kept result }
         ensures device { Writes (two_of (pair_in self.old.kept index).at) self.old.kept self.new.kept }
         ensures stops { StopsLeave self.old.kept.history self.new.kept.history (IsLeft self.old.kept index (changes_seen changes.now)) }
     {
-        let outcome = commit_to(alloc, &mut self.device, &mut self.cache, &mut self.pairs[index], changes);
+        let outcome = commit_to(
+            alloc,
+            &mut self.device,
+            &mut self.cache,
+            &mut self.pairs[index],
+            changes,
+        );
         self.has_failed = outcome.is_err();
         outcome
     }
@@ -174,7 +209,7 @@ impl<D: BlockDevice> Thread<D> {
         requires works { self.old.failed ≡ false }
         requires can { CanJoin self.old.kept index (address_of fresh) (changes_seen changes.now) }
         ensures done { result ≡ Ok Outcome.Done → IsJoined self.old.kept index (address_of fresh) (changes_seen changes.now) self.new.kept }
-        ensures full { result ≡ Ok Outcome.Full → IsBeside self.old.kept (address_of fresh) self.new.kept }
+        ensures full { result ≡ Ok Outcome.Full → IsBeside self.old.kept index (address_of fresh) (changes_seen changes.now) self.new.kept }
         ensures failed { self.new.failed ≡ is_err result }
         ensures errors { HasToldBeside (two_of (address_of fresh)) self.old.kept self.new.kept result }
         ensures device { Writes (four_of (pair_in self.old.kept index).at (address_of fresh)) self.old.kept self.new.kept }
@@ -207,7 +242,7 @@ impl<D: BlockDevice> Thread<D> {
         requires works { self.old.failed ≡ false }
         requires can { CanDrop self.old.kept index (changes_seen changes.now) }
         ensures done { result ≡ Ok Outcome.Done → IsDropped self.old.kept index (changes_seen changes.now) self.new.kept }
-        ensures full { result ≡ Ok Outcome.Full → IsOnlyRead self.old.kept self.new.kept }
+        ensures full { result ≡ Ok Outcome.Full → IsRefused self.old.kept index (changes_seen changes.now) self.new.kept }
         ensures failed { self.new.failed ≡ is_err result }
         ensures errors { HasTold self.old.kept self.new.kept result }
         ensures device { Writes (two_of (pair_in self.old.kept index).at) self.old.kept self.new.kept }

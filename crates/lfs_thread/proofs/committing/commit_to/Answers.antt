@@ -1,16 +1,13 @@
 use Rattle.lfs_pair.specs.Pair.{address_in}
+use Rattle.lfs_thread.proofs.Told.{errors_of}
 use Rattle.lfs_thread.proofs.AtHand.{current_but_two}
 use Rattle.lfs_thread.proofs.committing.commit_to.Goals as goal
 
 pub returns-clause-current : goal.returns-clause-current
-returns-clause-current g c = current_but_two _ _ _ _ (address_in c.args.pair.now) c.requires.current c.forget_pair.ensures c.commit.ensures.others
+returns-clause-current g c = current_but_two _ _ _ _ (address_in c.args.pair.now) c.requires.current c.forget_pair.ensures c.commit.ensures.device.others
 
 pub returns-clause-errors : goal.returns-clause-errors
 returns-clause-errors g c =
     let e = c.commit.ensures in
-    record {
-      errors = e.errors;
-      fault = e.fault;
-      no_fault = e.no_fault;
-      unwritten = λ same. record { same = e.no_memory same; geometry = e.geometry; reads = e.no_memory_reads same };
-    }
+    let f = errors_of c.args.pair.now c.commit.new.pair e.error in
+    record { errors = f.errors; faults = e.faults; unwritten = f.unwritten }

@@ -6,7 +6,7 @@ use Rattle.lfs_model.proofs.Histories.{LeavesOnly-weaker}
 use Rattle.lfs_pair.specs.Pair.{address_in}
 use Rattle.lfs_thread.specs.Kept.{Header}
 use Rattle.lfs_thread.specs.Steps.{without_pair}
-use Rattle.lfs_thread.proofs.Changing.{can_commit, left_in_thread, full_kept, full_read}
+use Rattle.lfs_thread.proofs.Changing.{can_commit, left_in_thread, full_kept, refused}
 use Rattle.lfs_thread.proofs.Dropped.{next_there, here_at, gone_is, next_used, device_dropped, device_is_dropped}
 use Rattle.lfs_thread.proofs.dropping.drop_pair.Goals as goal
 
@@ -35,14 +35,14 @@ returns-in-Full-clause-kept g c =
     let n = next_there (disk_of (g.D.BlockDevice.geometry c.args.device.now) (g.D.BlockDevice.blocks c.args.device.now)) c.args.pairs.now.items c.args.index c.index_mut.result.now c.requires.can.below c.index_mut.ensures.value in
     let e = c.in_ok-outcome.ensures in
     let full = ap Ok c.in-Full.is in
-    full_kept _ _ _ _ c.args.pairs.now.items _ c.args.index _ _ (here_at _ _ _ n) c.requires.kept (ap₂ disk_of (e.full_device full).geometry (e.full_device full).same) (e.full_pair full) (e.full_device full).reads
+    full_kept _ _ _ _ c.args.pairs.now.items _ c.args.index _ _ (here_at _ _ _ n) c.requires.kept (ap₂ disk_of (e.full full).device.geometry (e.full full).device.same) (e.full full).pair (e.full full).device.reads
 
 pub returns-in-Full-clause-full : goal.returns-in-Full-clause-full
 returns-in-Full-clause-full g c _ =
     let n = next_there (disk_of (g.D.BlockDevice.geometry c.args.device.now) (g.D.BlockDevice.blocks c.args.device.now)) c.args.pairs.now.items c.args.index c.index_mut.result.now c.requires.can.below c.index_mut.ensures.value in
     let e = c.in_ok-outcome.ensures in
     let full = ap Ok c.in-Full.is in
-    full_read _ _ _ _ c.args.pairs.now.items _ c.args.index _ _ (here_at _ _ _ n) (ap₂ disk_of (e.full_device full).geometry (e.full_device full).same) (e.full_pair full) (e.full_device full).reads
+    refused _ _ _ _ c.args.pairs.now.items _ c.args.index _ _ _ c.requires.can.content (here_at _ _ _ n) c.requires.can.made (e.full full).completed (ap₂ disk_of (e.full full).device.geometry (e.full full).device.same) (e.full full).pair (e.full full).device.reads
 
 pub release-requires : goal.release-requires
 release-requires g c =

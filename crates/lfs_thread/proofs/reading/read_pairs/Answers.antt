@@ -52,7 +52,7 @@ loop-preserved g c =
     let no_fault = read.faults.no_fault (λ e. absurd (cc)) in
     record {
       begun = begun_next (disk_of (g.D.BlockDevice.geometry c.loop.device) (g.D.BlockDevice.blocks c.loop.device)) _ _ _ _ c.loop.pairs.items _ c.loop.map _ (option_map address_of c.loop.next) (address_of c.in-Some.at) c.in_ok-pair-in-Some.pair (option_map address_of c.tail_of-next.result)
-    (ap₂ disk_of read.device.geometry read.device.same) read.device.reads (ap (option_map address_of) c.in-Some.is) c.loop.invariant.begun read.header read.at read.stands c.in_ok-push-in-Some.ensures.items read.marked c.tail_of-next.ensures;
+          (ap₂ disk_of read.device.geometry read.device.same) read.device.reads (ap (option_map address_of) c.in-Some.is) c.loop.invariant.begun read.header read.at read.stands c.in_ok-push-in-Some.ensures.items read.marked c.tail_of-next.ensures;
       device = record {
         same = read.device.same ∙ c.loop.invariant.device.same;
         geometry = read.device.geometry ∙ c.loop.invariant.device.geometry;

@@ -6,8 +6,8 @@ use Rattle.lfs_model.specs.Thread.{Pair}
 use Rattle.lfs_model.proofs.Histories.{LeavesOnly-weaker}
 use Rattle.lfs_thread.specs.Device.{StopsLeave, two_of}
 use Rattle.lfs_thread.specs.Kept.{State, disk_on, seen_on}
-use Rattle.lfs_thread.specs.Steps.{CanChange, HasTold, IsChanged, IsLeft, IsOnlyRead, Writes, pair_in}
-use Rattle.lfs_thread.proofs.Changing.{at_there, pair_at_index, can_commit, device_kept, device_changed, ok_outcome, full_kept, full_read, left_in_thread}
+use Rattle.lfs_thread.specs.Steps.{CanChange, HasTold, IsChanged, IsLeft, IsRefused, Writes, pair_in}
+use Rattle.lfs_thread.proofs.Changing.{at_there, pair_at_index, can_commit, device_kept, device_changed, ok_outcome, full_kept, refused, left_in_thread}
 use Rattle.lfs_thread.proofs.Told.{told_from, writes_from}
 use Rattle.lfs_thread.proofs.thread.Thread.change.Goals as goal
 
@@ -28,11 +28,13 @@ invariant_of-self g c ok =
     let works = ap (λ (v : State). v.failed) c.self.view_is ∙ c.requires.works in
     let can = subst (λ (v : State). CanChange v.kept c.args.index (changes_seen c.args.changes.now)) (sym c.self.view_is) c.requires.can in
     let a = at_there (disk_on g.D.BlockDevice c.self.inside.device) c.self.inside.pairs.items c.args.index c.index_mut.result.now can.below c.index_mut.ensures.value in
-    let e = c.commit_to-outcome.ensures in
-    (elim (ok_outcome c.commit_to-outcome.result (sym c.is_err-self-inside.ensures.value ∙ ok)) [
-      | inl done ↦ device_kept _ _ _ _ _ _ _ _ _ _ _ _ e.device.geometry a (c.self.invariant works).0 can (e.done done) e.device.others e.device.elsewhere
-      | inr full ↦ full_kept _ _ _ _ _ _ _ _ _ a (c.self.invariant works).0 (ap₂ disk_of (e.full_device full).geometry (e.full_device full).same) (e.full_pair full) (e.full_device full).reads
-    ], e.current)
+    let e = c.commit_to-outcome.ensures in (
+      elim (ok_outcome c.commit_to-outcome.result (sym c.is_err-self-inside.ensures.value ∙ ok)) [
+        | inl done ↦ device_kept _ _ _ _ _ _ _ _ _ _ _ _ e.device.geometry a (c.self.invariant works).0 can (e.done done) e.device.others e.device.elsewhere
+        | inr full ↦ full_kept _ _ _ _ _ _ _ _ _ a (c.self.invariant works).0 (ap₂ disk_of (e.full full).device.geometry (e.full full).device.same) (e.full full).pair (e.full full).device.reads
+      ],
+      e.current,
+    )
 
 pub returns-clause-done : goal.returns-clause-done
 returns-clause-done g c done =
@@ -48,8 +50,8 @@ returns-clause-full g c full =
     let can = subst (λ (v : State). CanChange v.kept c.args.index (changes_seen c.args.changes.now)) (sym c.self.view_is) c.requires.can in
     let a = at_there (disk_on g.D.BlockDevice c.self.inside.device) c.self.inside.pairs.items c.args.index c.index_mut.result.now can.below c.index_mut.ensures.value in
     let e = c.commit_to-outcome.ensures in
-    subst (λ (v : State). IsOnlyRead v.kept (seen_on g.D.BlockDevice c.commit_to-outcome.new.device (set c.self.inside.pairs.items c.args.index c.commit_to-outcome.new.pair) c.self.inside.map)) c.self.view_is
-    (full_read _ _ _ _ c.self.inside.pairs.items _ c.args.index _ _ a (ap₂ disk_of (e.full_device full).geometry (e.full_device full).same) (e.full_pair full) (e.full_device full).reads)
+    subst (λ (v : State). IsRefused v.kept c.args.index (changes_seen c.args.changes.now) (seen_on g.D.BlockDevice c.commit_to-outcome.new.device (set c.self.inside.pairs.items c.args.index c.commit_to-outcome.new.pair) c.self.inside.map)) c.self.view_is
+    (refused _ _ _ _ c.self.inside.pairs.items _ c.args.index _ _ _ can.content a can.made (e.full full).completed (ap₂ disk_of (e.full full).device.geometry (e.full full).device.same) (e.full full).pair (e.full full).device.reads)
 
 pub returns-clause-errors : goal.returns-clause-errors
 returns-clause-errors g c =

@@ -1,6 +1,6 @@
-use crate::devices::{device, runs};
+use crate::devices::{device, runs, stopping};
 use lfs_alloc::BlockMap;
-use lfs_device::{BlockDevice, Erased, Error, FaultDevice, Geometry, RamDevice, Which};
+use lfs_device::{BlockDevice, Erased, Error, Extent, Geometry, RamDevice, Which};
 use lfs_tests::{copy_block, mark_list};
 use std::alloc::Global;
 use std::test::Fail;
@@ -24,68 +24,64 @@ fn a_block_is_copied(rt: HostRuntime) -> Result<(), Fail> {
     Ok(())
 }
 
-// How much of the call at which the device stops is carried out: nothing, five bytes of a program, or all.
-#[derive(Clone, Copy)]
-enum Stop {
-    Before,
-    Torn,
-    Whole,
+// The first four blocks after a copy that Io ends, since the device stops.
+fn stopped(alloc: Global, which: Which, nth: u64, extent: Extent) -> Result<Vec<u8>, Error> {
+    let mut device = stopping(alloc, which, nth, extent)?;
+    match copy(alloc, &mut device) {
+        Err(Error::Io) => first_blocks(device.into_inner().to_bytes()),
+        _ => Err(Error::Invalid),
+    }
 }
 
-// What a copy answers that is stopped, and the block that it wrote to.
-fn stopped(
-    alloc: Global,
-    which: Which,
-    nth: u64,
-    stop: Stop,
-) -> Result<(Result<(), Error>, Vec<u8>), Error> {
-    let faulty = FaultDevice::new(device(alloc)?, which, nth, true);
-    let mut faulty = match stop {
-        Stop::Before => faulty,
-        Stop::Torn => faulty.torn(5),
-        Stop::Whole => faulty.whole(),
-    };
-    let outcome = copy(alloc, &mut faulty);
-    Ok((outcome, faulty.into_inner().to_bytes()))
+fn first_blocks(mut bytes: Vec<u8>) -> Result<Vec<u8>, Error> {
+    bytes.truncate(4096);
+    Ok(bytes)
 }
 
-// A block has 64 pages. So many bytes are copied; behind them the block is as it was, or erased.
+// The same blocks with so many bytes copied, and behind them this one.
+fn beginning(alloc: Global, copied: usize, rest: u8) -> Result<Vec<u8>, Error> {
+    let uncopied = 1024usize.saturating_sub(copied);
+    let third = [(copied, 1), (uncopied, rest)];
+    let mut bytes = runs(alloc, &[(1024, 1), (1024, 2)])?;
+    bytes.extend_from_slice(&runs(alloc, &third)?)?;
+    bytes.extend_from_slice(&runs(alloc, &[(1024, 4)])?)?;
+    Ok(bytes)
+}
+
 #[test]
-fn a_stop_leaves_a_beginning(rt: HostRuntime) -> Result<(), Fail> {
+fn a_stop_before_a_program_leaves_a_block_or_none(rt: HostRuntime) -> Result<(), Fail> {
     let alloc = rt.alloc();
-    for (which, nth, stop, copied, rest) in [
-        (Which::Read, 1, Stop::Before, 0, 3),
-        (Which::Read, 1, Stop::Torn, 0, 3),
-        (Which::Read, 1, Stop::Whole, 0, 3),
-        (Which::Erase, 1, Stop::Before, 0, 3),
-        (Which::Erase, 1, Stop::Torn, 0, 3),
-        (Which::Erase, 1, Stop::Whole, 0, 0xff),
-        (Which::Program, 1, Stop::Before, 0, 0xff),
-        (Which::Program, 1, Stop::Torn, 5, 0xff),
-        (Which::Program, 1, Stop::Whole, 16, 0xff),
-        (Which::Program, 3, Stop::Before, 32, 0xff),
-        (Which::Program, 3, Stop::Torn, 37, 0xff),
-        (Which::Program, 3, Stop::Whole, 48, 0xff),
-        (Which::Program, 64, Stop::Before, 1008, 0xff),
-        (Which::Program, 64, Stop::Torn, 1013, 0xff),
-        (Which::Program, 64, Stop::Whole, 1024, 0xff),
+    for (which, extent, rest) in [
+        (Which::Read, Extent::Nothing, 3),
+        (Which::Read, Extent::FirstBytes(5), 3),
+        (Which::Read, Extent::Whole, 3),
+        (Which::Erase, Extent::Nothing, 3),
+        (Which::Erase, Extent::FirstBytes(5), 3),
+        (Which::Erase, Extent::Whole, 0xff),
     ] {
-        let (outcome, bytes) = stopped(alloc, which, nth, stop)?;
-        let uncopied = 1024usize.saturating_sub(copied);
-        let expected = runs(
-            alloc,
-            &[
-                (1024, 1),
-                (1024, 2),
-                (copied, 1),
-                (uncopied, rest),
-                (1024, 4),
-            ],
-        )?;
-        assert_eq!(rt;
-            (outcome, bytes.get(..4096)),
-            (Err(Error::Io), Some(expected.as_slice()))
-        );
+        let left = stopped(alloc, which, 1, extent)?;
+        assert_eq!(rt; left.as_slice(), beginning(alloc, 0, rest)?.as_slice());
+    }
+    Ok(())
+}
+
+// A block has 64 pages.
+#[test]
+fn a_stop_in_a_program_leaves_a_beginning(rt: HostRuntime) -> Result<(), Fail> {
+    let alloc = rt.alloc();
+    for (nth, extent, copied) in [
+        (1, Extent::Nothing, 0),
+        (1, Extent::FirstBytes(5), 5),
+        (1, Extent::Whole, 16),
+        (3, Extent::Nothing, 32),
+        (3, Extent::FirstBytes(5), 37),
+        (3, Extent::Whole, 48),
+        (64, Extent::Nothing, 1008),
+        (64, Extent::FirstBytes(5), 1013),
+        (64, Extent::Whole, 1024),
+    ] {
+        let left = stopped(alloc, Which::Program, nth, extent)?;
+        assert_eq!(rt; left.as_slice(), beginning(alloc, copied, 0xff)?.as_slice());
     }
     Ok(())
 }

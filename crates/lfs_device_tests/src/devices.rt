@@ -1,8 +1,6 @@
 //! Images and devices for all tests.
 
-ghost use Rattle.std.specs.Prelude.{◌≡◌, IfOk};
-
-use lfs_device::{BlockDevice, Error, Geometry, RamDevice};
+use lfs_device::{BlockDevice, Error, Extent, FaultDevice, Geometry, RamDevice, Which};
 use std::alloc::Global;
 
 /// Bytes, as how many there are of each in a row.
@@ -27,7 +25,7 @@ pub fn device(alloc: Global) -> Result<RamDevice, Error> {
     RamDevice::from_bytes(Geometry::new(1024, 16, 10)?, bytes)
 }
 
-/// Erases a block and programs its beginning with fives.
+/// Erases a block and programs its beginning.
 pub fn rewrite<D: BlockDevice>(device: &mut D, block: u32, bytes: &[u8]) -> Result<(), Error> {
     let geometry = device.geometry();
     if block >= geometry.block_count
@@ -39,4 +37,19 @@ pub fn rewrite<D: BlockDevice>(device: &mut D, block: u32, bytes: &[u8]) -> Resu
     device.erase(block)?;
     device.prog(block, 0, bytes)?;
     Ok(())
+}
+
+/// The device, which stops at its `nth` call of a kind, when so much of that is carried out.
+pub fn stopping(
+    alloc: Global,
+    which: Which,
+    nth: u64,
+    extent: Extent,
+) -> Result<FaultDevice<RamDevice>, Error> {
+    let faulty = FaultDevice::new(device(alloc)?, which, nth, true);
+    Ok(match extent {
+        Extent::Nothing => faulty,
+        Extent::FirstBytes(k) => faulty.torn(k),
+        Extent::Whole => faulty.whole(),
+    })
 }

@@ -1,5 +1,5 @@
-use crate::devices::{device, rewrite, runs};
-use lfs_device::{BlockDevice, Error, Extent, FaultDevice, RamDevice, Which};
+use crate::devices::{device, rewrite, runs, stopping};
+use lfs_device::{Error, Extent, FaultDevice, RamDevice, Which};
 use std::alloc::Global;
 use std::test::Fail;
 
@@ -28,16 +28,6 @@ fn the_nth_call_fails(rt: HostRuntime) -> Result<(), Fail> {
     Ok(())
 }
 
-// A device that stops at its first program, of which so much is carried out.
-fn stopping(alloc: Global, extent: Extent) -> Result<FaultDevice<RamDevice>, Error> {
-    let faulty = FaultDevice::new(device(alloc)?, Which::Program, 1, true);
-    Ok(match extent {
-        Extent::Nothing => faulty,
-        Extent::FirstBytes(k) => faulty.torn(k),
-        Extent::Whole => faulty.whole(),
-    })
-}
-
 // What two rewrites answer, of which the first stops the device, and how many calls there were.
 fn stopped(device: &mut FaultDevice<RamDevice>) -> (Option<Error>, Option<Error>, u64) {
     let first = rewrite(device, 1, &[5; 64]).err();
@@ -57,7 +47,7 @@ fn a_stop_leaves_what_was_stored(rt: HostRuntime) -> Result<(), Fail> {
         (Extent::FirstBytes(65), 64),
         (Extent::Whole, 64),
     ] {
-        let mut faulty = stopping(alloc, extent)?;
+        let mut faulty = stopping(alloc, Which::Program, 1, extent)?;
         let answers = stopped(&mut faulty);
         assert_eq!(rt; answers, (Some(Error::Io), Some(Error::Io), 3));
         let expected = runs(

@@ -2,7 +2,6 @@ use Rattle.std.proofs.Common.{◌≡◌, ◌<◌, ◌≤◌, ◌+◌, ◌*◌, L
 use Rattle.std.proofs.lemmas.List.{take_all}
 use Rattle.lfs_device.specs.declared.geometry.Geometry.{Geometry}
 use Rattle.lfs_model.specs.Blocks.{Blocks, block_in, overwritten}
-use Rattle.lfs_device.specs.Calls.{ChangesBlock}
 use Rattle.lfs_device.proofs.CallLaws.{ChangesBlock-reads, ChangesBlock-trans, ChangesBlock-erase, ChangesBlock-program}
 use Rattle.lfs_model.proofs.Histories.{unprogrammed-erase, unprogrammed-program}
 use Rattle.lfs_model.proofs.Overwrites.{SameBut-is, block_in-set, take-overwritten_next}

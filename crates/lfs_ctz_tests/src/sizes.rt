@@ -1,0 +1,61 @@
+use lfs_ctz::{blocks_for, place};
+
+#[test]
+fn a_list_has_no_block_too_many(rt: HostRuntime) {
+    for (size, blocks) in [
+        (0, 0),
+        (1, 1),
+        (1024, 1),
+        (1025, 2),
+        (2044, 2),
+        (2045, 3),
+        (3060, 3),
+        (3061, 4),
+        (4080, 4),
+        (4081, 5),
+    ] {
+        assert_eq!(rt; (size, blocks_for(1024, size)), (size, blocks));
+    }
+}
+
+#[test]
+fn a_byte_has_a_place(rt: HostRuntime) {
+    for (pos, index, off) in [
+        (1023, 0, 1023),
+        (1024, 1, 4),
+        (2043, 1, 1023),
+        (2044, 2, 8),
+        (4080, 4, 12),
+    ] {
+        assert_eq!(rt; (pos, place(1024, pos)), (pos, (index, off)));
+    }
+}
+
+// The pointers of a block take this much: one for each power of two that divides its index.
+fn pointer_bytes(index: u32) -> u32 {
+    let mut off = 0u32;
+    for power in [1, 2, 4, 8, 16, 32] {
+        if index > 0 && index % power == 0 {
+            off = off.saturating_add(4);
+        }
+    }
+    off
+}
+
+#[test]
+fn blocks_hold_what_their_pointers_leave(rt: HostRuntime) {
+    let mut size = 0u32;
+    for index in 0..40u32 {
+        let off = pointer_bytes(index);
+        let next = size.saturating_add(1024).saturating_sub(off);
+        assert_eq!(rt;
+            (
+                blocks_for(1024, size),
+                place(1024, size),
+                blocks_for(1024, next)
+            ),
+            (index, (index, off), index + 1)
+        );
+        size = next;
+    }
+}

@@ -1,11 +1,13 @@
 -- Blocks that are at hand, where others change.
-use Rattle.std.proofs.Common.{ℕ, ◌≡◌, ◌≢◌, ◌⊎◌, inl, inr, nat_eq, true, false, List, [], ◌∷◌, Some, None, sym, ap, subst, ◌∙◌}
-use Rattle.std.specs.Prelude.{All}
+use Rattle.std.proofs.Common.{ℕ, ◌≡◌, ◌≢◌, ◌⊎◌, inl, inr, nat_eq, true, false, List, Option, Some, None, Result, Ok, Err, rules, refl, sym, ap, subst, ◌∙◌}
+use Rattle.std.specs.Prelude.{IsSome, OnErr, OnOk, unwrap_or}
+use Rattle.std.proofs.lemmas.Option.{same_Some}
+use Rattle.lfs_device.specs.declared.error.Error.{Error}
 use Rattle.std.proofs.lemmas.Bool.Decides.{eqb_tells}
 use Rattle.std.proofs.lemmas.List.Elements.{All-from_recursion}
 use Rattle.lfs_model.specs.Blocks.{Blocks, SameButThese, block_in}
-use Rattle.lfs_model.specs.Cache.{CachedBlocks, cached, without}
-use Rattle.lfs_model.proofs.Cache.{cached-without_same, cached-without_other}
+use Rattle.lfs_model.specs.Cache.{CachedBlocks, cached, put_first, without}
+use Rattle.lfs_model.proofs.Cache.{cached-put_first_other, cached-put_first_same, cached-without_same, cached-without_other}
 use Rattle.lfs_thread.specs.Device.{two_of, four_of}
 use Rattle.lfs_thread.specs.Kept.{IsCurrent}
 
@@ -37,3 +39,30 @@ current_but_four old new cache mid now at fresh current is_mid is same b bytes h
     let second = still_there (without cache at.0) at.1 b bytes (ap (λ z. cached z b) (sym is_mid) ∙ third.was) in
     let first = still_there cache at.0 b bytes second.was in
     current b bytes first.was ∙ sym (same.others b (All-from_recursion (λ k. k ≢ b) (four_of at fresh) (first.other, (second.other, (third.other, (fourth.other, tt))))))
+
+-- after a block was brought to hand
+pub current_filled : (blocks : Blocks) (cache now : CachedBlocks) (b : ℕ) (r : Result (Unit {0}) Error) → OnOk r (now ≡ put_first cache b (unwrap_or (cached cache b) (block_in blocks b))) → OnErr r (now ≡ cache)
+    → IsCurrent blocks cache → IsCurrent blocks now
+current_filled blocks cache now b (Err e) filled same current other bytes h = subst (IsCurrent blocks) (sym same) current other bytes h
+current_filled blocks cache now b (Ok u) filled same current other bytes h = go (eqb_tells other b)
+  where
+    there : (o : Option (List ℕ)) → cached cache b ≡ o → unwrap_or o (block_in blocks b) ≡ block_in blocks b
+    there None e = refl
+    there (Some x) e = current b x e
+
+    go : ((nat_eq other b ≡ true) × (other ≡ b)) ⊎ ((nat_eq other b ≡ false) × (other ≢ b)) → bytes ≡ block_in blocks other
+    go (inl k) =
+        let x : List ℕ = unwrap_or (cached cache b) (block_in blocks b) in
+        let e : Some bytes ≡ Some x = sym h ∙ ap (λ z. cached z other) filled ∙ ap (cached (put_first cache b x)) k.1 ∙ cached-put_first_same cache b x in
+        same_Some bytes x e ∙ there (cached cache b) refl ∙ ap (block_in blocks) (sym k.1)
+    go (inr k) =
+        let x : List ℕ = unwrap_or (cached cache b) (block_in blocks b) in
+        current other bytes (cached-put_first_other cache b other x bytes k.1 (sym (ap (λ z. cached z other) filled) ∙ h))
+
+pub filled_there : (blocks : Blocks) (cache now : CachedBlocks) (b : ℕ) (r : Result (Unit {0}) Error) → OnOk r (now ≡ put_first cache b (unwrap_or (cached cache b) (block_in blocks b))) → OnOk r (IsSome (cached now b))
+filled_there blocks cache now b (Err e) filled = tt
+filled_there blocks cache now b (Ok u) filled =
+    let x : List ℕ = unwrap_or (cached cache b) (block_in blocks b) in
+    let found : Option (List ℕ) = Some x in
+    let is : IsSome found = search rules in
+    subst IsSome (sym (ap (λ z. cached z b) filled ∙ cached-put_first_same cache b x)) is

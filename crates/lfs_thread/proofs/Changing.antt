@@ -1,5 +1,5 @@
 -- A commit to one pair of the thread.
-use Rattle.std.proofs.Common.{ℕ, zero, suc, ◌≡◌, ◌⊎◌, inl, inr, ◌<◌, Bool, true, false, List, [], ◌∷◌, ◌++◌, length, Option, Some, None, refl, sym, ap, ap₂, subst, ◌∙◌, arith, get_or, set, Ok, Err, Result}
+use Rattle.std.proofs.Common.{ℕ, zero, suc, ◌≡◌, ◌⊎◌, inl, inr, ◌<◌, true, false, List, [], ◌∷◌, ◌++◌, length, Option, Some, None, refl, sym, ap, ap₂, subst, ◌∙◌, arith, get_or, set, Ok, Err, Result}
 use Rattle.std.specs.Prelude.{is_some, is_err}
 use Rattle.std.specs.Option.{option_and_then, option_map}
 use Rattle.std.proofs.lemmas.Option.{same_Some}
@@ -9,8 +9,7 @@ use Rattle.std.proofs.lemmas.List.Concat.{flat_map-append}
 use Rattle.lfs_model.specs.Blocks.{Blocks}
 use Rattle.lfs_model.specs.BlockSets.{BlockSets}
 use Rattle.lfs_model.specs.Disk.{Disk}
-use Rattle.lfs_model.specs.History.{Event, OnlyReads, LeavesOnly}
-use Rattle.lfs_model.specs.Stops.{Stops}
+use Rattle.lfs_model.specs.History.{Event, OnlyReads}
 use Rattle.lfs_model.specs.Slots.{Slot, Content, FitsPair}
 use Rattle.lfs_model.specs.Changes.{Change, changed_by}
 use Rattle.lfs_model.specs.Logged.{HaveNames}
@@ -18,7 +17,6 @@ use Rattle.lfs_model.specs.Content.{RawSlot, RawContent, raw_at, content_at, com
 use Rattle.lfs_model.specs.Thread.{Pair, Links, next_of, blocks_of}
 use Rattle.lfs_model.proofs.Counts.{count, once_from_distinct}
 use Rattle.lfs_model.proofs.Completed.{complete_parts, fits_pair}
-use Rattle.lfs_model.proofs.Histories.{LeavesOnly-weaker}
 use Rattle.lfs_device.specs.declared.error.Error.{Error}
 use Rattle.lfs_device.specs.declared.geometry.Geometry.{Geometry}
 use Rattle.lfs_device.specs.Shown.{disk_of}
@@ -29,7 +27,7 @@ use Rattle.lfs_pair.specs.Commit.{CanCommit, Commits, NowHolds, IsAddressOn, Out
 use Rattle.lfs_model.specs.View.{superblock_entry}
 use Rattle.lfs_thread.proofs.First.{superblock_anew}
 use Rattle.lfs_pair.proofs.Stay.{IsPair-reads}
-use Rattle.lfs_thread.specs.Kept.{Kept, Header, seen, pair_on, pairs_on, IsHeader, AreHeaders, AllUsed, IsKept}
+use Rattle.lfs_thread.specs.Kept.{Header, seen, pair_on, pairs_on, IsHeader, AreHeaders, AllUsed, IsKept}
 use Rattle.lfs_thread.specs.Steps.{pair_in, no_pair, made_in_thread, CanChange, with_pair, StaysFirst, IsWrittenAs, IsChanged, IsOnlyRead, IsRefused, IsLeft}
 use Rattle.lfs_thread.proofs.Keeping.{kept_thread, headers_right, header_content, pair_on_content, used_left, used_right, IsReplaced, pairs_are, kept_replaced}
 

@@ -1,7 +1,7 @@
 -- A pair comes into the thread: a fresh one stands beside it, and then the tail of another names it.
-use Rattle.std.proofs.Common.{ℕ, zero, suc, ◌≡◌, ◌≢◌, ◌⊎◌, inl, inr, get_or, ◌+◌, ◌<◌, ◌≤◌, ◌==◌, ◌&&◌, Bool, true, false, cond, nat_eq, List, [], ◌∷◌, ◌++◌, length, Option, Some, None, refl, sym, ap, ap₂, subst, ◌∙◌, arith, map, set, insert, remove, slice_get, eqb-true}
+use Rattle.std.proofs.Common.{ℕ, ◌≡◌, ◌+◌, ◌<◌, ◌≤◌, ◌==◌, ◌&&◌, false, cond, nat_eq, List, [], ◌∷◌, ◌++◌, length, Option, Some, None, refl, sym, ap, ap₂, subst, ◌∙◌, arith, set, insert}
 use Rattle.std.proofs.lemmas.Bool.{ne_eqb}
-use Rattle.std.proofs.lemmas.Option.{same_Some, slice_get_within}
+use Rattle.std.proofs.lemmas.Option.{same_Some}
 use Rattle.std.proofs.lemmas.List.{map-append, length-map}
 use Rattle.std.proofs.lemmas.List.Concat.{flat_map-append}
 use Rattle.std.proofs.Math.Seq.{set-append_seam}
@@ -9,36 +9,28 @@ use Rattle.lfs_model.specs.Blocks.{Blocks}
 use Rattle.std.specs.List.{IsDistinct}
 use Rattle.std.specs.Option.{option_and_then, option_map}
 use Rattle.lfs_tag.specs.ContentSeen.{tail_seen}
-use Rattle.lfs_model.proofs.Completed.{completed_parts, fits_pair}
-use Rattle.lfs_model.specs.View.{BeginsWith, superblock_entry}
-use Rattle.lfs_model.specs.BlockSets.{BlockSets, InFlight, Used, IsInFlight, IsUsed}
+use Rattle.lfs_model.proofs.Completed.{completed_parts}
+use Rattle.lfs_model.specs.BlockSets.{BlockSets, IsUsed}
 use Rattle.lfs_model.specs.Disk.{Disk, block_count}
-use Rattle.lfs_device.specs.declared.geometry.Geometry.{Geometry}
-use Rattle.lfs_device.specs.Shown.{disk_of}
-use Rattle.lfs_model.specs.History.{AtWorst, Event, LeavesOnly, OnlyReads}
-use Rattle.lfs_model.specs.Stops.{Stops}
-use Rattle.lfs_model.proofs.Histories.{EachSince-behind, LeavesOnly-weaker, LeavesOnly-worst, goes_on_by}
+use Rattle.lfs_model.specs.History.{Event}
 use Rattle.lfs_model.specs.Slots.{Content, Tail, no_gstate, null_address}
 use Rattle.lfs_model.specs.Logged.{IsAddress, IsTailIfSome, is_null}
 use Rattle.lfs_model.specs.Changes.{Change, PutTail, changed_by}
 use Rattle.lfs_model.proofs.Effects.{does_first, does_nothing, ends_tail, puts_tail}
-use Rattle.lfs_model.specs.Content.{RawContent, holder_at, no_content, tail_with, raw_at, content_at, completed}
+use Rattle.lfs_model.specs.Content.{no_content, tail_with, raw_at, completed}
 use Rattle.lfs_model.specs.Thread.{Pair, anchor, Links, next_of, blocks_of}
-use Rattle.lfs_model.proofs.Counts.{count, count_here, once_from_distinct}
+use Rattle.lfs_model.proofs.Counts.{count, once_from_distinct}
 use Rattle.lfs_pair.specs.Pair.{address_in}
-use Rattle.lfs_pair.specs.Commit.{CanCommit, Commits, IsMade, IsStill, LeftByChange, made_at, made_of, IsAddressOn, OutsideKeeps, OutsideStays}
+use Rattle.lfs_pair.specs.Commit.{Commits, made_at, made_of, IsAddressOn, OutsideKeeps, OutsideStays}
 use Rattle.lfs_pair.specs.Fresh.{CanBeFresh, IsFresh}
-use Rattle.lfs_pair.specs.Split.{AreApart, OutsideBothKeeps}
-use Rattle.lfs_pair.proofs.Parted.{first_while_fresh, fresh_elsewhere, keeps_by_both, keeps_by_fresh, pair_elsewhere}
+use Rattle.lfs_pair.specs.Split.{AreApart}
+use Rattle.lfs_pair.proofs.Parted.{fresh_elsewhere, pair_elsewhere}
 use Rattle.lfs_pair.proofs.Stay.{AreElsewhere, raw_at-stays}
-use Rattle.lfs_thread.proofs.First.{superblock_anew}
-use Rattle.lfs_thread.specs.Kept.{Kept, Header, seen, pair_on, pairs_on, IsHeader, AreHeaders, AllUsed, IsKept}
-use Rattle.lfs_thread.specs.Device.{StopsLeave}
-use Rattle.lfs_thread.specs.Steps.{pair_in, no_pair, IsBeside, made_in_thread, CanJoin, HasSuperblockFirst, IsAsBefore, IsJoined, IsJoinedOn, IsLeftByJoin, StaysFirst, joined_pair, put_tail, settled, with_two}
-use Rattle.lfs_thread.proofs.Keeping.{kept_thread, AllElsewhere, elsewhere_from, headers_right, headers-stay, pairs-stay, header-stays, header_content, pair_on_content, pair_on-stays, used_left, used_right, IsReplaced, pairs_are, kept_replaced}
-use Rattle.lfs_thread.proofs.Changing.{IsAt, Completes, can_commit, kept_read, header_at_index, pair_at_index, made_of_header}
-use Rattle.lfs_thread.proofs.Coming.{count_other, used_at, two_unused, used_still, SettlesTwo, settles_two, held_address}
-use Rattle.lfs_thread.proofs.Dropped.{remove_behind}
+use Rattle.lfs_thread.specs.Kept.{Header, seen, pair_on, pairs_on, IsHeader, AreHeaders, AllUsed, IsKept}
+use Rattle.lfs_thread.specs.Steps.{pair_in, made_in_thread, CanJoin, joined_pair, put_tail, with_two}
+use Rattle.lfs_thread.proofs.Keeping.{AllElsewhere, elsewhere_from, headers_right, headers-stay, pairs-stay, header-stays, header_content, pair_on_content, pair_on-stays, used_left, used_right, IsReplaced, pairs_are, kept_replaced}
+use Rattle.lfs_thread.proofs.Changing.{IsAt, header_at_index, pair_at_index, made_of_header}
+use Rattle.lfs_thread.proofs.Coming.{count_other, used_at, two_unused, used_still, SettlesTwo, held_address}
 use Rattle.lfs_thread.proofs.Parting.{insert_behind}
 
 -- ---- the fresh pair is written, and nothing names it yet

@@ -10,3 +10,4 @@ pub mod Joined
 pub mod Threaded
 pub mod Failed
 pub mod Told
+pub mod Lending

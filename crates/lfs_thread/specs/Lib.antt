@@ -1,4 +1,5 @@
 pub mod Kept
 pub mod Device
 pub mod Steps
+pub mod Lent
 pub mod Begun

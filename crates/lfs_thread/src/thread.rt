@@ -1,4 +1,4 @@
-ghost use Rattle.std.specs.Prelude.{ℕ, List, Contains, ◌↔◌, IfOk, ◌≡◌, ◌⊎◌, ◌<◌, length, false, is_err, [], replicate, slice_set, IfErr, IfNone, IfSome, OnOk};
+ghost use Rattle.std.specs.Prelude.{ℕ, List, Contains, ◌↔◌, IfOk, ◌≡◌, ◌⊎◌, ◌<◌, length, false, is_err, [], replicate, slice_set, IfErr, IfNone, IfSome, IsSome, OnOk, option_copied};
 ghost use Rattle.lfs_model.specs.Content.{content_at};
 ghost use Rattle.lfs_model.specs.BlockSets.{IsFree, IsInFlight, IsUsed};
 ghost use Rattle.lfs_model.specs.BlockSets.BlockState.{Free, InFlight};
@@ -8,7 +8,8 @@ ghost use Rattle.lfs_model.specs.Thread.{IsThread, Pair as ThreadPair, blocks_of
 ghost use Rattle.lfs_pair.specs.ChangeSeen.{changes_seen};
 ghost use Rattle.lfs_thread.specs.Device.{StopsLeave, four_of, two_of};
 ghost use Rattle.lfs_thread.specs.Kept.{disk_on};
-ghost use Rattle.lfs_thread.specs.Steps.{CanBeSplit, CanChange, CanDrop, CanJoin, HasTold, HasToldBeside, IsBeside, IsJoined, IsLeftByJoin, IsChanged, IsDropped, IsLeft, IsLeftBySplit, IsRefused, IsSplit, Writes, pair_in};
+ghost use Rattle.lfs_thread.specs.Lent.{IsBlockOf, at_hand};
+ghost use Rattle.lfs_thread.specs.Steps.{CanBeSplit, CanChange, CanDrop, CanJoin, HasTold, HasToldBeside, IsBeside, IsJoined, IsLeftByJoin, IsChanged, IsDropped, IsLeft, IsLeftBySplit, IsOnlyRead, IsRefused, IsSplit, Writes, pair_in};
 
 use crate::committing::commit_to;
 use crate::dropping::drop_pair;
@@ -102,6 +103,38 @@ impl<D: BlockDevice> Thread<D> {
         ensures { address_of result ≡ (pair_in self.now.kept index).at }
     {
         self.pairs[index].blocks
+    }
+
+    /// Brings the block in which a pair's log stands to hand, by at most one read and by none where
+    /// it is. The least recent one goes where there were eight.
+    ///
+    /// `Io` where that read failed, and `NoMemory` where the room for the block isn't granted. The
+    /// thread is as it was then.
+    pub fn bring(&mut self, index: usize) -> Result<(), Error>
+        requires works { self.old.failed ≡ false }
+        requires below { index < length self.old.kept.pairs }
+        ensures at_hand { OnOk result (IsSome (at_hand self.new index)) }
+        ensures no_call { IsSome (at_hand self.old index) → self.new.kept ≡ self.old.kept }
+        ensures only { IsOnlyRead self.old.kept self.new.kept }
+        ensures works { self.new.failed ≡ false }
+        ensures errors { IfErr result (λ e. (e ≡ Error.Io) ⊎ (e ≡ Error.NoMemory)) }
+    {
+        let block = self.pairs[index].active;
+        self.cache.fill(&mut self.device, block)
+    }
+
+    /// The bytes of the block in which a pair's log stands, without a copy. None where it isn't at
+    /// hand.
+    pub fn lend(&self, index: usize) -> Option<&[u8]>
+        requires works { self.now.failed ≡ false }
+        requires below { index < length self.now.kept.pairs }
+        ensures lent { option_copied result ≡ at_hand self.now index }
+        ensures holds { IfSome result (λ block. IsBlockOf block.now (pair_in self.now.kept index).content) }
+    {
+        match self.cache.lend(self.pairs[index].active) {
+            Some(block) => Some(block),
+            None => None,
+        }
     }
 
     /// Hands out a free block, which is then in flight. None exactly where no block is free.

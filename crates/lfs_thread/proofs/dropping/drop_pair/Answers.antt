@@ -1,4 +1,4 @@
-use Rattle.std.proofs.Common.{false, length, ◌<◌, sym, ap, ap₂, subst, ◌∙◌, set, Ok}
+use Rattle.std.proofs.Common.{length, ◌<◌, sym, ap, ap₂, subst, ◌∙◌, set, Ok}
 use Rattle.std.proofs.lemmas.List.{length-set}
 use Rattle.lfs_device.specs.Shown.{disk_of}
 use Rattle.lfs_model.specs.BlockSets.{BlockSets, Free}

@@ -1,4 +1,4 @@
-use Rattle.std.proofs.Common.{◌+◌, ◌∙◌, Err, List, ap, refl, subst, sym, set, insert}
+use Rattle.std.proofs.Common.{◌+◌, ◌∙◌, Err, List, ap, refl, subst, sym, set}
 use Rattle.std.proofs.lemmas.Result.{err_from_is_err_and}
 use Rattle.lfs_device.specs.Calls.{ChangesOnly}
 use Rattle.lfs_model.specs.BlockSets.{BlockSets, IsInFlight, Used}

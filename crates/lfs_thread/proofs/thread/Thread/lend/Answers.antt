@@ -1,0 +1,36 @@
+use Rattle.std.proofs.Common.{ap, sym, subst, ◌∙◌, ◌<◌, length}
+use Rattle.lfs_model.specs.Cache.{cached}
+use Rattle.lfs_thread.specs.Kept.{State, disk_on}
+use Rattle.lfs_thread.specs.Lent.{IsBlockOf, at_hand}
+use Rattle.lfs_thread.specs.Steps.{pair_in}
+use Rattle.lfs_thread.proofs.Changing.{at_there}
+use Rattle.lfs_thread.proofs.Lending.{active_is, block_there}
+use Rattle.lfs_thread.proofs.thread.Thread.lend.Goals as goal
+
+pub returns-in-Some-clause-lent : goal.returns-in-Some-clause-lent
+returns-in-Some-clause-lent g c =
+    let works = ap (λ (v : State). v.failed) c.self.view_is ∙ c.requires.works in
+    let below = subst (λ (v : State). c.args.index < length v.kept.pairs) (sym c.self.view_is) c.requires.below in
+    let disk = disk_on g.D.BlockDevice c.self.inside.device in
+    let a = at_there disk c.self.inside.pairs.items c.args.index c.index.result.now below c.index.ensures in
+    c.in-Some.ensures ∙ ap (cached c.self.inside.cache) (active_is disk (g.D.BlockDevice.history c.self.inside.device) c.self.inside.pairs.items c.self.inside.map c.args.index c.index.result.now a (c.self.invariant works).0)
+    ∙ ap (λ (v : State). at_hand v c.args.index) c.self.view_is
+
+pub returns-in-None-clause-lent : goal.returns-in-None-clause-lent
+returns-in-None-clause-lent g c =
+    let works = ap (λ (v : State). v.failed) c.self.view_is ∙ c.requires.works in
+    let below = subst (λ (v : State). c.args.index < length v.kept.pairs) (sym c.self.view_is) c.requires.below in
+    let disk = disk_on g.D.BlockDevice c.self.inside.device in
+    let a = at_there disk c.self.inside.pairs.items c.args.index c.index.result.now below c.index.ensures in
+    c.in-None.ensures ∙ ap (cached c.self.inside.cache) (active_is disk (g.D.BlockDevice.history c.self.inside.device) c.self.inside.pairs.items c.self.inside.map c.args.index c.index.result.now a (c.self.invariant works).0)
+    ∙ ap (λ (v : State). at_hand v c.args.index) c.self.view_is
+
+pub returns-in-Some-clause-holds : goal.returns-in-Some-clause-holds
+returns-in-Some-clause-holds g c =
+    let works = ap (λ (v : State). v.failed) c.self.view_is ∙ c.requires.works in
+    let below = subst (λ (v : State). c.args.index < length v.kept.pairs) (sym c.self.view_is) c.requires.below in
+    let disk = disk_on g.D.BlockDevice c.self.inside.device in
+    let a = at_there disk c.self.inside.pairs.items c.args.index c.index.result.now below c.index.ensures in
+    subst (λ (v : State). IsBlockOf c.in-Some.block.now (pair_in v.kept c.args.index).content) c.self.view_is
+    (block_there disk (g.D.BlockDevice.history c.self.inside.device) c.self.inside.pairs.items c.self.inside.map c.args.index c.index.result.now a (c.self.invariant works).0
+    c.in-Some.block.now ((c.self.invariant works).1 c.index.result.now.active c.in-Some.block.now (sym c.in-Some.ensures)))

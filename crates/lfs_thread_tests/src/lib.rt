@@ -1,0 +1,5 @@
+//! Tests of threads.
+#![tactic(auto)]
+
+#[cfg(test)]
+mod reading;

@@ -62,5 +62,5 @@ module _ (disk : Disk) (history : List Event) (hs : List Header) (sets : BlockSe
       let e = ap length parts in
       let p = a.place in
       let k = behind_hard (pairs_on disk a.front) (pair_on disk (address_in h)) (pairs_on disk a.back) (Some anchor) (subst (Links (Some anchor)) parts kept.links)
-          (sym (ap (λ (q : Pair). is_hard q.content.tail) (pair_at_index disk history hs sets index h a)) ∙ hard) in
+      (sym (ap (λ (q : Pair). is_hard q.content.tail) (pair_at_index disk history hs sets index h a)) ∙ hard) in
       omega arith

@@ -23,6 +23,10 @@ still_there cache gone b bytes h = go (eqb_tells b gone)
     go (inl k) = absurd (let e : None ≡ Some bytes = sym (cached-without_same cache gone) ∙ ap (cached (without cache gone)) (sym k.1) ∙ h in cc)
     go (inr k) = record { other = λ e. k.1 (sym e); was = sym (cached-without_other cache gone b k.1) ∙ h }
 
+-- after one went
+pub current_without : (blocks : Blocks) (cache : CachedBlocks) (gone : ℕ) → IsCurrent blocks cache → IsCurrent blocks (without cache gone)
+current_without blocks cache gone current b bytes h = let is = still_there cache gone b bytes h in current b bytes is.was
+
 -- after two blocks went, and only they changed
 pub current_but_two : (old new : Blocks) (cache now : CachedBlocks) (at : ℕ × ℕ) → IsCurrent old cache → now ≡ without (without cache at.0) at.1 → SameButThese (two_of at) old new → IsCurrent new now
 current_but_two old new cache now at current is same b bytes h =

@@ -25,7 +25,7 @@ use Rattle.lfs_pair.specs.declared.committing.Outcome.TheVariants.{Done, Full}
 use Rattle.lfs_pair.specs.Pair.{address_in}
 use Rattle.lfs_pair.specs.Commit.{CanCommit, Commits, NowHolds, IsAddressOn, OutsideKeeps, OutsideStays, IsMade, IsStill, LeftByChange, made_at}
 use Rattle.lfs_model.specs.View.{superblock_entry}
-use Rattle.lfs_thread.proofs.First.{superblock_anew}
+use Rattle.lfs_model.proofs.FirstEntries.{superblock_anew}
 use Rattle.lfs_pair.proofs.Stay.{IsPair-reads}
 use Rattle.lfs_thread.specs.Kept.{Header, seen, pair_on, pairs_on, IsHeader, AreHeaders, AllUsed, IsKept}
 use Rattle.lfs_thread.specs.Steps.{pair_in, no_pair, made_in_thread, CanChange, with_pair, StaysFirst, IsWrittenAs, IsChanged, IsOnlyRead, IsRefused, IsLeft}
@@ -206,7 +206,7 @@ module _ (disk : Disk) (before : List Event) (blocks : Blocks) (after : List Eve
       holds = ap (content_at left) (ap (λ (p : Pair). p.at) was_pair ∙ sym holds.same) ∙ header_content left after new now_header;
       others = subst (λ (p : Pair). OutsideKeeps p.at disk.blocks blocks) (sym was_pair) others;
       shape = record { block_size = refl; page = refl; count = others.count };
-      first = subst (λ (p : Pair). StaysFirst disk p.at can.content left) (sym was_pair) (λ begins has. commits.first superblock_entry begins (superblock_anew commits.new can.content commits.logged.slots whole has));
+      first = subst (λ (p : Pair). StaysFirst disk p.at can.content left) (sym was_pair) (λ begins has. commits.first superblock_entry begins (superblock_anew commits.new can.content commits.logged.slots whole has.0 has.1));
     };
     pairs = changed_pairs;
     thread = kept_thread left after (set hs index new) sets changed_kept;
@@ -300,7 +300,7 @@ left_in_thread disk history hs sets index h changes blocks a kept made_content m
     sides (inr k) = record {
       content = made_content;
       is = inr (made, fits_pair disk.block_size disk.page k.new made_content k.logged (whole k) k.fits);
-      written = written made_content (ap (λ o. option_and_then completed o) k.now.content ∙ whole k) (λ begins has. k.now.first superblock_entry begins (superblock_anew k.new made_content k.logged.slots (whole k) has));
+      written = written made_content (ap (λ o. option_and_then completed o) k.now.content ∙ whole k) (λ begins has. k.now.first superblock_entry begins (superblock_anew k.new made_content k.logged.slots (whole k) has.0 has.1));
     }
 
 -- ---- what a commit leaves, by its outcome

@@ -19,7 +19,7 @@ use Rattle.lfs_model.proofs.Counts.{count, count_here, once_from_distinct}
 use Rattle.lfs_pair.specs.Pair.{address_in}
 use Rattle.lfs_pair.specs.Commit.{IsAddressOn, Commits, OutsideKeeps, OutsideStays}
 use Rattle.lfs_model.specs.View.{superblock_entry}
-use Rattle.lfs_thread.proofs.First.{superblock_anew}
+use Rattle.lfs_model.proofs.FirstEntries.{superblock_anew}
 use Rattle.lfs_thread.specs.Kept.{Header, seen, pair_on, pairs_on, IsHeader, AllUsed, IsKept}
 use Rattle.lfs_thread.specs.Steps.{pair_in, with_pair, CanDrop, IsDropped, without_pair, StaysFirst}
 use Rattle.lfs_thread.proofs.Keeping.{kept_thread, header_content, pair_on_content, used_left, used_right, blocks_append, IsReplaced, pairs_are, kept_replaced}
@@ -221,7 +221,7 @@ module _ (disk : Disk) (before : List Event) (blocks : Blocks) (after : List Eve
       holds = ap (content_at left) (ap (λ (q : Pair). q.at) was_pair ∙ sym commits.holds.same) ∙ header_content left after new now_header;
       others = subst (λ (q : Pair). OutsideKeeps q.at disk.blocks blocks) (sym was_pair) others;
       shape = record { block_size = refl; page = refl; count = others.count };
-      first = subst (λ (q : Pair). StaysFirst disk q.at can.content left) (sym was_pair) (λ begins has. commits.first superblock_entry begins (superblock_anew commits.new can.content commits.logged.slots whole has));
+      first = subst (λ (q : Pair). StaysFirst disk q.at can.content left) (sym was_pair) (λ begins has. commits.first superblock_entry begins (superblock_anew commits.new can.content commits.logged.slots whole has.0 has.1));
     };
     pairs = dropped_pairs;
     map = ap (λ (q : Pair). without_pair sets q.at) (sym next_pair);

@@ -24,11 +24,10 @@ use Rattle.lfs_pair.specs.Pair.{address_in}
 use Rattle.lfs_pair.specs.Commit.{Commits, made_at, made_of, IsAddressOn, OutsideKeeps, OutsideStays}
 use Rattle.lfs_pair.specs.Fresh.{CanBeFresh, IsFresh}
 use Rattle.lfs_pair.specs.Split.{AreApart}
-use Rattle.lfs_pair.proofs.Parted.{fresh_elsewhere, pair_elsewhere}
-use Rattle.lfs_pair.proofs.Stay.{AreElsewhere, raw_at-stays}
+use Rattle.lfs_model.proofs.Staying.{AreElsewhere, raw_at-stays}
 use Rattle.lfs_thread.specs.Kept.{Header, seen, pair_on, pairs_on, IsHeader, AreHeaders, AllUsed, IsKept}
 use Rattle.lfs_thread.specs.Steps.{pair_in, made_in_thread, CanJoin, joined_pair, put_tail, with_two}
-use Rattle.lfs_thread.proofs.Keeping.{AllElsewhere, elsewhere_from, headers_right, headers-stay, pairs-stay, header-stays, header_content, pair_on_content, pair_on-stays, used_left, used_right, IsReplaced, pairs_are, kept_replaced}
+use Rattle.lfs_thread.proofs.Keeping.{AllElsewhere, elsewhere_from, headers_right, headers-stay, pairs-stay, header-stays, header_content, pair_on_content, pair_on-stays, used_left, used_right, IsReplaced, pairs_are, kept_replaced, pair_elsewhere, fresh_elsewhere}
 use Rattle.lfs_thread.proofs.Changing.{IsAt, header_at_index, pair_at_index, made_of_header}
 use Rattle.lfs_thread.proofs.Coming.{count_other, used_at, two_unused, used_still, SettlesTwo, held_address}
 use Rattle.lfs_thread.proofs.Parting.{insert_behind}

@@ -1,22 +1,40 @@
 -- The block of a pair that is at hand.
-use Rattle.std.proofs.Common.{ℕ, ◌≡◌, ◌<◌, List, Some, sym, ap, ◌∙◌}
+use Rattle.std.proofs.Common.{ℕ, ◌≡◌, ◌<◌, ◌+◌, true, List, [], ◌∷◌, ◌++◌, length, Option, None, Some, sym, ap, subst, ◌∙◌, arith}
+use Rattle.std.specs.Option.{option_map}
+use Rattle.std.proofs.lemmas.List.{length-map, map-append}
 use Rattle.lfs_model.specs.BlockSets.{BlockSets}
 use Rattle.lfs_model.specs.Disk.{Disk, block_at, block_count}
 use Rattle.lfs_model.specs.History.{Event}
 use Rattle.lfs_model.specs.Log.{log_entries}
 use Rattle.lfs_model.specs.Content.{content_after_all, no_content}
-use Rattle.lfs_model.specs.Thread.{Pair}
+use Rattle.lfs_model.specs.Slots.{Content, Tail}
+use Rattle.lfs_model.specs.Thread.{Pair, anchor, Links, is_hard, next_of}
+use Rattle.lfs_model.proofs.Completed.{complete_length, completed_parts}
+use Rattle.lfs_tag.specs.ContentSeen.{tail_seen}
 use Rattle.lfs_pair.specs.Pair.{active_at, address_in}
 use Rattle.lfs_pair.proofs.Changed.{active_below}
-use Rattle.lfs_thread.specs.Kept.{Header, IsHeader, IsKept, seen}
+use Rattle.lfs_thread.specs.Kept.{Header, IsHeader, IsKept, pair_on, pairs_on, seen}
 use Rattle.lfs_thread.specs.Lent.{IsBlockOf}
 use Rattle.lfs_thread.specs.Steps.{pair_in}
 use Rattle.lfs_thread.proofs.Keeping.{header_content, pair_on_content}
 use Rattle.lfs_thread.proofs.Changing.{IsAt, header_at_index, pair_at_index}
 
+-- a hard tail leads somewhere
+hard_leads : (t : Option Tail) → is_hard t ≡ true → next_of t ≡ None → ⊥
+hard_leads None e f = absurd (cc)
+hard_leads (Some t) e f = absurd (cc)
+
+behind_hard : (front : List Pair) (p : Pair) (back : List Pair) (from : Option (ℕ × ℕ)) → Links from (front ++ p ∷ back) → is_hard p.content.tail ≡ true → length front + 1 < length (front ++ p ∷ back)
+behind_hard [] p [] from links hard = absurd (hard_leads p.content.tail hard links.1)
+behind_hard [] p (q ∷ back) from links hard = omega arith
+behind_hard (x ∷ front) p back from links hard = let rest = behind_hard front p back (next_of x.content.tail) links.1 hard in omega arith
+
 module _ (disk : Disk) (history : List Event) (hs : List Header) (sets : BlockSets) (index : ℕ) (h : Header) (a : IsAt hs index h) (kept : IsKept disk history hs sets) where
   there : IsHeader disk history h
   there = header_at_index disk history hs index h a kept.each
+
+  content_is : there.content ≡ (pair_in (seen disk history hs sets) index).content
+  content_is = sym (ap (λ (p : Pair). p.content) (pair_at_index disk history hs sets index h a ∙ pair_on_content disk (address_in h) there.content (header_content disk history h there)))
 
   pub active_is : h.active ≡ active_at disk (pair_in (seen disk history hs sets) index).at
   active_is = there.is_pair.active ∙ ap (λ (p : Pair). active_at disk p.at) (sym (pair_at_index disk history hs sets index h a))
@@ -28,6 +46,21 @@ module _ (disk : Disk) (history : List Event) (hs : List Header) (sets : BlockSe
   block_there bytes e = record {
     raw = there.held;
     log = ap (λ b. content_after_all no_content (log_entries b)) e ∙ there.is_pair.describes.content;
-    complete = there.complete
-        ∙ ap (λ (p : Pair). Some p.content) (sym (pair_at_index disk history hs sets index h a ∙ pair_on_content disk (address_in h) there.content (header_content disk history h there)));
+    complete = there.complete ∙ ap Some content_is;
   }
+
+  pub count_there : h.slot_count ≡ length (pair_in (seen disk history hs sets) index).content.slots
+  count_there = there.is_pair.describes.slot_count ∙ sym (complete_length there.held.slots there.content.slots (completed_parts there.held there.content there.complete).slots) ∙ ap (λ (c : Content). length c.slots) content_is
+
+  pub tail_there : option_map tail_seen h.tail ≡ (pair_in (seen disk history hs sets) index).content.tail
+  tail_there = there.is_pair.describes.tail ∙ sym (completed_parts there.held there.content there.complete).tail ∙ ap (λ (c : Content). c.tail) content_is
+
+  pub next_there : is_hard (pair_in (seen disk history hs sets) index).content.tail ≡ true → index + 1 < length (pairs_on disk hs)
+  next_there hard =
+      let parts : pairs_on disk hs ≡ pairs_on disk a.front ++ pair_on disk (address_in h) ∷ pairs_on disk a.back = ap (pairs_on disk) a.parts ∙ map-append (λ x. pair_on disk (address_in x)) a.front (h ∷ a.back) in
+      let l = length-map a.front (λ x. pair_on disk (address_in x)) in
+      let e = ap length parts in
+      let p = a.place in
+      let k = behind_hard (pairs_on disk a.front) (pair_on disk (address_in h)) (pairs_on disk a.back) (Some anchor) (subst (Links (Some anchor)) parts kept.links)
+      (sym (ap (λ (q : Pair). is_hard q.content.tail) (pair_at_index disk history hs sets index h a)) ∙ hard) in
+      omega arith

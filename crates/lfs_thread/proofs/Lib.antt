@@ -1,6 +1,5 @@
 pub mod AtHand
 pub mod Keeping
-pub mod First
 pub mod Changing
 pub mod Coming
 pub mod Parting
@@ -8,6 +7,5 @@ pub mod Begun
 pub mod Dropped
 pub mod Joined
 pub mod Threaded
-pub mod Failed
 pub mod Told
 pub mod Lending

@@ -25,7 +25,7 @@ use Rattle.lfs_pair.specs.Pair.{address_in}
 use Rattle.lfs_pair.specs.Cut.{CanBeCut, FitSlots, IsCut}
 use Rattle.lfs_pair.proofs.Changed.{made_is}
 use Rattle.lfs_pair.specs.Commit.{IsAddressOn, CanCommit, IsStill, KeepsFirst, made_at}
-use Rattle.lfs_thread.proofs.First.{superblock_anew}
+use Rattle.lfs_model.proofs.FirstEntries.{superblock_anew}
 use Rattle.lfs_pair.specs.Split.{CanSplit, IsInside, Splits, OutsideBothKeeps, OutsideBothStays, LeftBySplit, AreParted, front_of, back_of}
 use Rattle.lfs_thread.specs.Kept.{Kept, Header, seen, pair_on, pairs_on, IsHeader, AllUsed, IsKept}
 use Rattle.lfs_thread.specs.Steps.{pair_in, CanBeSplit, settled, front_pair, back_pair, with_two, IsSplit, AreHalves, ArePartsOf, IsAsBefore, IsLeftBySplit}
@@ -97,7 +97,7 @@ parts_of_cut old index raw c cut fresh disk is whole logged is_cut is_inside kee
   back_fits = slots_fit old.disk.block_size old.disk.page (drop cut raw.slots) (drop cut c.slots) c.tail no_gstate
       (HaveParts-drop cut raw.slots logged.slots) (complete_drop cut raw.slots c.slots is.slots) is_cut.back;
   first = λ begins has. keeps superblock_entry begins (superblock_anew (front_of raw cut fresh) (record { slots = take cut c.slots; tail = Some (record { hard = true; to = fresh }); move = c.move })
-      (HaveParts-take cut raw.slots logged.slots) (front_complete raw c cut fresh is) has);
+      (HaveParts-take cut raw.slots logged.slots) (front_complete raw c cut fresh is) has.0 has.1);
 }
 
 pub insert_behind : {X : Type 0} (xs : List X) (y : X) (ys : List X) (z : X) → insert (xs ++ y ∷ ys) (length xs + 1) z ≡ xs ++ y ∷ z ∷ ys

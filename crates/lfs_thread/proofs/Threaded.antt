@@ -23,13 +23,13 @@ use Rattle.lfs_pair.specs.Pair.{address_in}
 use Rattle.lfs_pair.specs.Commit.{CanCommit, Commits, IsMade, IsStill, LeftByChange, made_at, OutsideKeeps, OutsideStays}
 use Rattle.lfs_pair.specs.Fresh.{IsFresh}
 use Rattle.lfs_pair.specs.Split.{AreApart, OutsideBothKeeps}
-use Rattle.lfs_pair.proofs.Parted.{first_while_fresh, fresh_elsewhere, keeps_by_both, keeps_by_fresh, pair_elsewhere}
-use Rattle.lfs_pair.proofs.Stay.{AreElsewhere, raw_at-stays}
-use Rattle.lfs_thread.proofs.First.{superblock_anew}
+use Rattle.lfs_pair.proofs.Parted.{keeps_by_both, keeps_by_fresh}
+use Rattle.lfs_model.proofs.FirstEntries.{superblock_anew}
+use Rattle.lfs_model.proofs.Staying.{AreElsewhere, raw_at-stays}
 use Rattle.lfs_thread.specs.Kept.{Kept, Header, seen, pair_on, pairs_on, IsHeader, AllUsed, IsKept}
 use Rattle.lfs_thread.specs.Device.{StopsLeave}
 use Rattle.lfs_thread.specs.Steps.{pair_in, no_pair, IsBeside, made_in_thread, CanJoin, HasSuperblockFirst, IsAsBefore, IsJoined, IsJoinedOn, IsLeftByJoin, StaysFirst, joined_pair, put_tail, settled, with_two}
-use Rattle.lfs_thread.proofs.Keeping.{kept_thread, header_content, pair_on_content, pair_on-stays, used_right}
+use Rattle.lfs_thread.proofs.Keeping.{kept_thread, header_content, pair_on_content, pair_on-stays, used_right, pair_elsewhere, fresh_elsewhere, first_stays}
 use Rattle.lfs_thread.proofs.Changing.{IsAt, Completes, can_commit, kept_read, header_at_index, pair_at_index, made_of_header}
 use Rattle.lfs_thread.proofs.Coming.{SettlesTwo, settles_two, held_address}
 use Rattle.lfs_thread.proofs.Dropped.{remove_behind}
@@ -94,7 +94,7 @@ module _ (disk : Disk) (history : List Event) (hs : List Header) (sets : BlockSe
   -- the log that holds begins as it did
   still_first : (left : Disk) (c : Content) → (BeginsWith (holder_at beside (address_in h)) superblock_entry → HasSuperblockFirst c → BeginsWith (holder_at left (address_in h)) superblock_entry)
       → StaysFirst disk (address_in h) c left
-  still_first left c f begins has = f (first_while_fresh disk (address_in h) fresh mid apart others superblock_entry begins) has
+  still_first left c f begins has = f (first_stays disk (pair_elsewhere apart) others superblock_entry begins) has
 
   -- ---- a stop before the commit
 
@@ -105,7 +105,7 @@ module _ (disk : Disk) (history : List Event) (hs : List Header) (sets : BlockSe
       holds = ap (λ (p : Pair). content_at (record disk { blocks = left }) p.at) was_pair
           ∙ ap (λ r. option_and_then completed r) (raw_at-stays disk (pair_elsewhere apart) keeps) ∙ was_content;
       first = subst (λ (p : Pair). BeginsWith (holder_at disk p.at) superblock_entry → BeginsWith (holder_at (record disk { blocks = left }) p.at) superblock_entry) (sym was_pair)
-          (first_while_fresh disk (address_in h) fresh left apart keeps superblock_entry);
+          (first_stays disk (pair_elsewhere apart) keeps superblock_entry);
     });
   }
 
@@ -136,7 +136,7 @@ module _ (disk : Disk) (history : List Event) (hs : List Header) (sets : BlockSe
         sides (inl k) = inl (record {
           holds = ap (λ (p : Pair). content_at (record disk { blocks = left }) p.at) was_pair ∙ ap (λ o. option_and_then completed o) (k.content ∙ same_raw) ∙ was_content;
           first = subst (λ (p : Pair). BeginsWith (holder_at disk p.at) superblock_entry → BeginsWith (holder_at (record disk { blocks = left }) p.at) superblock_entry) (sym was_pair)
-              (λ begins. k.first superblock_entry (first_while_fresh disk (address_in h) fresh mid apart others superblock_entry begins));
+              (λ begins. k.first superblock_entry (first_stays disk (pair_elsewhere apart) others superblock_entry begins));
         })
         sides (inr k) =
             let whole : completed k.new ≡ Some can.content = ap completed (same_Some k.new made_here.raw (sym k.made ∙ made_here.is)) ∙ made_here.complete in
@@ -147,7 +147,7 @@ module _ (disk : Disk) (history : List Event) (hs : List Header) (sets : BlockSe
               holds = ap (λ (p : Pair). content_at (record disk { blocks = left }) p.at) was_pair ∙ ap (λ o. option_and_then completed o) k.now.content ∙ whole;
               behind = behind;
               first = subst (λ (p : Pair). StaysFirst disk p.at can.content (record disk { blocks = left })) (sym was_pair)
-                  (still_first (record disk { blocks = left }) can.content (λ begins has. k.now.first superblock_entry begins (superblock_anew k.new can.content k.logged.slots whole has)));
+                  (still_first (record disk { blocks = left }) can.content (λ begins has. k.now.first superblock_entry begins (superblock_anew k.new can.content k.logged.slots whole has.0 has.1)));
             })
 
     -- after the commit
@@ -175,7 +175,7 @@ module _ (disk : Disk) (history : List Event) (hs : List Header) (sets : BlockSe
         made = can.made;
         fits = fits_pair disk.block_size disk.page commits.new can.content commits.logged is_whole commits.fits;
         first = subst (λ (p : Pair). StaysFirst disk p.at can.content left) (sym was_pair)
-            (still_first left can.content (λ begins has. commits.first superblock_entry begins (superblock_anew commits.new can.content commits.logged.slots is_whole has)));
+            (still_first left can.content (λ begins has. commits.first superblock_entry begins (superblock_anew commits.new can.content commits.logged.slots is_whole has.0 has.1)));
         pairs = joined_pairs beside then blocks after hs sets (settled sets fresh) index h new f fresh changes can.content a still_kept still_made can.next commits keeps stays is.header is.at empty uses
             ∙ ap₂ (λ (ps : List Pair) (p : Pair). with_two ps index (record { at = p.at; content = can.content }) (record { at = fresh; content = record { slots = []; tail = p.content.tail; move = no_gstate } })) still_pairs same_at;
         thread = kept_thread left after (insert (set hs index new) (index + 1) f) (settled sets fresh) is_kept;

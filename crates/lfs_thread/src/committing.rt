@@ -1,8 +1,8 @@
 // Commits to pairs and splits of them, beside the blocks that are at hand.
 
-ghost use Rattle.std.specs.Prelude.{◌≡◌, IfOk, OnOk};
+ghost use Rattle.std.specs.Prelude.{◌≡◌, IfOk, OnOk, option_map};
 ghost use Rattle.lfs_device.specs.Calls.{ChangesOnly};
-ghost use Rattle.lfs_model.specs.Cache.{without};
+ghost use Rattle.lfs_model.specs.Cache.{cached, without};
 ghost use Rattle.lfs_model.specs.Slots.{address_of};
 ghost use Rattle.lfs_pair.specs.ChangeSeen.{changes_seen};
 ghost use Rattle.lfs_pair.specs.Commit.{CanCommit, Commits, IsFull, LeftByChange};
@@ -13,10 +13,11 @@ ghost use Rattle.lfs_thread.specs.Device.{StopsLeave, TellsErrors, four_of, two_
 
 use lfs_cache::Cache;
 use lfs_device::{BlockDevice, Error};
-use lfs_pair::{Change, Outcome, Pair, commit, split};
+use lfs_pair::{Change, Outcome, Pair, commit, commit_in, split, split_in};
 use std::alloc::Global;
 
-// Commits changes to a pair. Its blocks are at hand no more.
+// Commits changes to a pair, whose active block isn't read where it is at hand. Its blocks are at
+// hand no more.
 pub(crate) fn commit_to<D: BlockDevice>(
     alloc: Global,
     device: &mut D,
@@ -35,11 +36,14 @@ pub(crate) fn commit_to<D: BlockDevice>(
     ensures stops { StopsLeave (D.history device.old) (D.history device.new)
         (LeftByChange (disk_on D.BlockDevice device.old) (address_in pair.old) (changes_seen changes.now)) }
 {
-    forget_pair(cache, pair.blocks);
-    commit(alloc, device, pair, changes)
+    match take_pair(cache, pair.blocks, pair.active) {
+        Some(block) => commit_in(alloc, device, pair, &block, changes),
+        None => commit(alloc, device, pair, changes),
+    }
 }
 
-// Splits a pair. The blocks of both are at hand no more.
+// Splits a pair, whose active block isn't read where it is at hand. The blocks of both are at hand
+// no more.
 pub(crate) fn split_to<D: BlockDevice>(
     alloc: Global,
     device: &mut D,
@@ -58,9 +62,22 @@ pub(crate) fn split_to<D: BlockDevice>(
     ensures stops { StopsLeave (D.history device.old) (D.history device.new)
         (LeftBySplit (disk_on D.BlockDevice device.old) (address_in pair.old) (address_of fresh) (changes_seen changes.now)) }
 {
-    forget_pair(cache, pair.blocks);
+    let held = take_pair(cache, pair.blocks, pair.active);
     forget_pair(cache, fresh);
-    split(alloc, device, pair, fresh, changes)
+    match held {
+        Some(block) => split_in(alloc, device, pair, fresh, &block, changes),
+        None => split(alloc, device, pair, fresh, changes),
+    }
+}
+
+// The bytes of a pair's active block, if they are at hand. Neither of its blocks is then.
+fn take_pair(cache: &mut Cache, blocks: [u32; 2], active: u32) -> Option<Vec<u8>>
+    ensures bytes { option_map (λ bytes. bytes.items) result ≡ cached cache.old active }
+    ensures gone { cache.new ≡ without (without (without cache.old active) (address_of blocks).0) (address_of blocks).1 }
+{
+    let held = cache.take(active);
+    forget_pair(cache, blocks);
+    held
 }
 
 // The blocks of a pair are at hand no more.

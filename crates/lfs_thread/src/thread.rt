@@ -1,10 +1,12 @@
-ghost use Rattle.std.specs.Prelude.{ℕ, List, Contains, ◌↔◌, IfOk, ◌≡◌, ◌⊎◌, ◌<◌, length, false, is_err, [], replicate, slice_set, IfErr, IfNone, IfSome, IsSome, OnOk, option_copied};
+ghost use Rattle.std.specs.Prelude.{ℕ, ◌+◌, if◌then◌else◌, None, Some, List, Contains, ◌↔◌, IfOk, ◌≡◌, ◌⊎◌, ◌<◌, length, false, is_err, [], replicate, slice_set, IfErr, IfNone, IfSome, IsSome, OnOk, option_copied};
+ghost use Rattle.std.specs.Option.{option_map};
 ghost use Rattle.lfs_model.specs.Content.{content_at};
 ghost use Rattle.lfs_model.specs.BlockSets.{IsFree, IsInFlight, IsUsed};
 ghost use Rattle.lfs_model.specs.BlockSets.BlockState.{Free, InFlight};
 ghost use Rattle.lfs_model.specs.History.{OnlyReads, faults};
 ghost use Rattle.lfs_model.specs.Slots.{address_of};
-ghost use Rattle.lfs_model.specs.Thread.{IsThread, Pair as ThreadPair, blocks_of};
+ghost use Rattle.lfs_model.specs.Thread.{IsThread, Pair as ThreadPair, blocks_of, is_hard};
+ghost use Rattle.lfs_tag.specs.ContentSeen.{tail_seen};
 ghost use Rattle.lfs_pair.specs.ChangeSeen.{changes_seen};
 ghost use Rattle.lfs_thread.specs.Device.{StopsLeave, four_of, two_of};
 ghost use Rattle.lfs_thread.specs.Kept.{disk_on};
@@ -105,6 +107,31 @@ impl<D: BlockDevice> Thread<D> {
         self.pairs[index].blocks
     }
 
+    /// How many slots a pair has.
+    pub fn slot_count(&self, index: usize) -> usize
+        requires works { self.now.failed ≡ false }
+        requires below { index < length self.now.kept.pairs }
+        ensures { result ≡ length (pair_in self.now.kept index).content.slots }
+    {
+        self.pairs[index].slot_count
+    }
+
+    /// The number of the pair to which a pair's hard tail leads, as in a directory of several pairs
+    /// (SPEC.md of littlefs, "0x601 LFS_TYPE_HARDTAIL"). None where the tail is a soft one, or there
+    /// is none.
+    pub fn next(&self, index: usize) -> Option<usize>
+        requires works { self.now.failed ≡ false }
+        requires below { index < length self.now.kept.pairs }
+        ensures next { result ≡ (if is_hard (pair_in self.now.kept index).content.tail then Some (index + 1) else None) }
+        ensures below { IfSome result (λ next. next < length self.now.kept.pairs) }
+    {
+        if leads_on(&self.pairs[index]) {
+            Some(index + 1)
+        } else {
+            None
+        }
+    }
+
     /// Brings the block in which a pair's log stands to hand, by at most one read and by none where
     /// it is. The least recent one goes where there were eight.
     ///
@@ -159,11 +186,12 @@ impl<D: BlockDevice> Thread<D> {
     }
 
     /// Commits changes to a pair, whose tail then names what it named. They may change its share of
-    /// the global state, and whether its tail is a hard one.
+    /// the global state, and whether its tail is a hard one. The pair's block isn't read where it is
+    /// at hand, and isn't at hand afterwards.
     ///
     /// `Full` where what the changes make doesn't fit; nothing is written then. `Io` where a call of
-    /// the device failed. `NoMemory` where there is no room for two blocks and the slots; nothing is
-    /// written then either.
+    /// the device failed. `NoMemory` where there is no room for the slots and for two blocks, of
+    /// which one may be at hand; nothing is written then either.
     pub fn change(
         &mut self,
         alloc: Global,
@@ -292,6 +320,16 @@ impl<D: BlockDevice> Thread<D> {
         );
         self.has_failed = outcome.is_err();
         outcome
+    }
+}
+
+// Whether a pair's tail is a hard one.
+fn leads_on(pair: &Pair) -> bool
+    ensures { result ≡ is_hard (option_map tail_seen pair.now.tail) }
+{
+    match pair.tail {
+        None => false,
+        Some(tail) => tail.hard,
     }
 }
 

@@ -21,9 +21,9 @@ pub invariant_of-self : goal.invariant_of-self
 invariant_of-self g c ok =
     let works = ap (λ (v : State). v.failed) c.self.view_is ∙ c.requires.works in
     let e = c.fill.ensures in (
-      subst (λ d. IsKept d (g.D.BlockDevice.history c.fill.new.device) c.self.inside.pairs.items c.self.inside.map) (sym (ap₂ disk_of e.geometry e.blocks))
-          (kept_read _ _ _ _ c.self.inside.pairs.items c.self.inside.map e.reads (c.self.invariant works).0),
-      subst (λ bs. IsCurrent bs c.fill.new.self) (sym e.blocks) (current_filled _ _ _ c.index.result.now.active c.fill.result e.filled e.err (c.self.invariant works).1),
+      subst (λ d. IsKept d (g.D.BlockDevice.history c.fill.new.device) c.self.inside.pairs.items c.self.inside.map) (sym (ap₂ disk_of e.device.geometry e.device.same))
+          (kept_read _ _ _ _ c.self.inside.pairs.items c.self.inside.map e.device.reads (c.self.invariant works).0),
+      subst (λ bs. IsCurrent bs c.fill.new.self) (sym e.device.same) (current_filled _ _ _ c.index.result.now.active c.fill.result e.filled e.err (c.self.invariant works).1),
     )
 
 pub returns-clause-at_hand : goal.returns-clause-at_hand
@@ -33,8 +33,8 @@ returns-clause-at_hand g c =
     let disk = disk_on g.D.BlockDevice c.self.inside.device in
     let a = at_there disk c.self.inside.pairs.items c.args.index c.index.result.now below c.index.ensures in
     let e = c.fill.ensures in
-    let kept = subst (λ d. IsKept d (g.D.BlockDevice.history c.fill.new.device) c.self.inside.pairs.items c.self.inside.map) (sym (ap₂ disk_of e.geometry e.blocks))
-    (kept_read _ _ _ _ c.self.inside.pairs.items c.self.inside.map e.reads (c.self.invariant works).0) in
+    let kept = subst (λ d. IsKept d (g.D.BlockDevice.history c.fill.new.device) c.self.inside.pairs.items c.self.inside.map) (sym (ap₂ disk_of e.device.geometry e.device.same))
+    (kept_read _ _ _ _ c.self.inside.pairs.items c.self.inside.map e.device.reads (c.self.invariant works).0) in
     subst (λ b. OnOk c.fill.result (IsSome (cached c.fill.new.self b)))
     (active_is (disk_on g.D.BlockDevice c.fill.new.device) (g.D.BlockDevice.history c.fill.new.device) c.self.inside.pairs.items c.self.inside.map c.args.index c.index.result.now a kept)
     (filled_there _ _ _ c.index.result.now.active c.fill.result e.filled)
@@ -48,4 +48,4 @@ returns-clause-no_call g c there =
     let here = subst (λ (v : State). IsSome (at_hand v c.args.index)) (sym c.self.view_is) there in
     let is = subst (λ b. IsSome (cached c.self.inside.cache b))
     (sym (active_is disk (g.D.BlockDevice.history c.self.inside.device) c.self.inside.pairs.items c.self.inside.map c.args.index c.index.result.now a (c.self.invariant works).0)) here in
-    ap (λ d. seen_on g.D.BlockDevice d c.self.inside.pairs.items c.self.inside.map) (c.fill.ensures.no_call is) ∙ ap (λ (v : State). v.kept) c.self.view_is
+    ap (λ d. seen_on g.D.BlockDevice d c.self.inside.pairs.items c.self.inside.map) (c.fill.ensures.calls.no_call is) ∙ ap (λ (v : State). v.kept) c.self.view_is

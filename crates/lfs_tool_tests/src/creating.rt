@@ -73,8 +73,15 @@ fn images_are_made(rt: HostRuntime) -> Result<(), Fail> {
     Ok(())
 }
 
-// A slash and a name of 256 bytes.
-fn long_path() -> [u8; 257] {
+// A slash and the longest name.
+fn longest_path() -> [u8; 256] {
+    let mut path = [b'x'; 256];
+    path[0] = b'/';
+    path
+}
+
+// A slash and a name that is a byte longer.
+fn longer_path() -> [u8; 257] {
     let mut path = [b'x'; 257];
     path[0] = b'/';
     path
@@ -82,15 +89,15 @@ fn long_path() -> [u8; 257] {
 
 #[test]
 fn a_name_has_255_bytes(rt: HostRuntime) -> Result<(), Fail> {
-    let path = long_path();
-    let lines = made_in(rt.alloc(), &[(&path[..256], Some(b""))], 4)?;
+    let path = longest_path();
+    let lines = made_in(rt.alloc(), &[(&path, Some(b""))], 4)?;
     assert!(rt; lines.len() == 261 && lines.starts_with(b"f 0 /x"));
     Ok(())
 }
 
 #[test]
 fn a_name_has_256_bytes(rt: HostRuntime) -> Result<(), Fail> {
-    let path = long_path();
+    let path = longer_path();
     let lines = made_in(rt.alloc(), &[(&path, Some(b""))], 2)?;
     assert!(rt; lines.as_slice() == NAME_TOO_LONG.as_bytes());
     Ok(())

@@ -7,7 +7,7 @@ use Rattle.std.proofs.lemmas.Option.{same_Some, slice_get_within}
 use Rattle.std.proofs.lemmas.List.{map-append, length-set, length-replicate}
 use Rattle.std.proofs.lemmas.List.Elements.{recursion_from_All}
 use Rattle.lfs_model.specs.Blocks.{Blocks}
-use Rattle.lfs_model.specs.BlockSets.{Free, Used, BlockSets, IsFree, IsUsed}
+use Rattle.lfs_model.specs.BlockSets.{Free, InFlight, Used, AreInFlight, BlockSets, IsFree, IsInFlight, IsUsed}
 use Rattle.lfs_model.specs.Disk.{Disk, block_count}
 use Rattle.lfs_model.specs.History.{Event, OnlyReads}
 use Rattle.lfs_model.specs.Slots.{Content}
@@ -221,6 +221,16 @@ begun_kept disk history hs sets begun = record {
   size = begun.size;
   used = used_now disk history hs sets None begun;
 }
+
+pub begun_none_in_flight : (disk : Disk) (history : List Event) (hs : List Header) (sets : BlockSets) (next : Option (ℕ × ℕ)) → IsBegun disk history hs sets next → AreInFlight sets []
+begun_none_in_flight disk history hs sets next begun b = (
+  λ flies. absurd (go flies (begun.others b (slice_get_within sets b InFlight flies))),
+  λ (none : Contains [] b). absurd (let below : none.0 < 0 = none.1 in omega arith),
+)
+  where
+    go : IsInFlight sets b → IsUsed sets b ⊎ IsFree sets b → ⊥
+    go flies (inl used) = absurd (let e : Some InFlight ≡ Some Used = sym flies ∙ used in cc)
+    go flies (inr free) = absurd (let e : Some InFlight ≡ Some Free = sym flies ∙ free in cc)
 
 -- there is no thread, where no pair can stand at the next address
 pub begun_ends : (disk : Disk) (history : List Event) (hs : List Header) (sets : BlockSets) (at : ℕ × ℕ) → IsBegun disk history hs sets (Some at) → ¬ CanStand disk sets at

@@ -1,18 +1,23 @@
 -- The block of a pair that is at hand.
-use Rattle.std.proofs.Common.{ℕ, ◌≡◌, ◌<◌, ◌+◌, true, List, [], ◌∷◌, ◌++◌, length, Option, None, Some, sym, ap, subst, ◌∙◌, arith}
+use Rattle.std.proofs.Common.{ℕ, ◌≡◌, ◌<◌, ◌≤◌, ◌^◌, ◌+◌, true, false, List, [], ◌∷◌, ◌++◌, length, Option, None, Some, Result, Ok, Err, ◌⊎◌, inl, inr, rules, refl, sym, ap, subst, ◌∙◌, arith}
 use Rattle.std.specs.Option.{option_map}
+use Rattle.std.specs.Prelude.{IfErr}
+use Rattle.lfs_device.specs.declared.device.BlockDevice.{Ghosts}
+use Rattle.lfs_device.specs.declared.error.Error.{Error}
+use Rattle.lfs_device.specs.declared.error.Error.TheVariants.{Io, NoMemory}
+use Rattle.lfs_cache.specs.Read.{ReadsWhereMissing, read_whole}
 use Rattle.std.proofs.lemmas.List.{length-map, map-append}
 use Rattle.lfs_model.specs.BlockSets.{BlockSets}
 use Rattle.lfs_model.specs.Disk.{Disk, block_at, block_count}
-use Rattle.lfs_model.specs.History.{Event}
+use Rattle.lfs_model.specs.History.{Event, reads}
 use Rattle.lfs_model.specs.Log.{log_entries}
-use Rattle.lfs_model.specs.Content.{content_after_all, no_content}
+use Rattle.lfs_model.specs.Content.{content_after_all, holder_at, no_content}
 use Rattle.lfs_model.specs.Slots.{Content, Tail}
 use Rattle.lfs_model.specs.Thread.{Pair, anchor, Links, is_hard, next_of}
 use Rattle.lfs_model.proofs.Completed.{complete_length, completed_parts}
 use Rattle.lfs_tag.specs.ContentSeen.{tail_seen}
 use Rattle.lfs_pair.specs.Pair.{active_at, address_in}
-use Rattle.lfs_pair.proofs.Changed.{active_below}
+use Rattle.lfs_pair.proofs.Changed.{active_below, holder_in}
 use Rattle.lfs_thread.specs.Kept.{Header, IsHeader, IsKept, pair_on, pairs_on, seen}
 use Rattle.lfs_thread.specs.Lent.{IsBlockOf}
 use Rattle.lfs_thread.specs.Steps.{pair_in}
@@ -42,12 +47,17 @@ module _ (disk : Disk) (history : List Event) (hs : List Header) (sets : BlockSe
   pub active_there : (count : ℕ) → block_count disk ≡ count → h.active < count
   active_there count e = active_below disk history h there.held count there.address there.is_pair e
 
-  pub block_there : (bytes : List ℕ) → bytes ≡ block_at disk h.active → IsBlockOf bytes (pair_in (seen disk history hs sets) index).content
-  block_there bytes e = record {
+  pub block_there : (bytes : List ℕ) → bytes ≡ block_at disk h.active → length bytes ≤ 2 ^ 16 → IsBlockOf bytes (pair_in (seen disk history hs sets) index).content
+  block_there bytes e short = record {
     raw = there.held;
     log = ap (λ b. content_after_all no_content (log_entries b)) e ∙ there.is_pair.describes.content;
     complete = there.complete ∙ ap Some content_is;
+    short = short;
   }
+
+  pub holder_there : (bytes : List ℕ) → bytes ≡ block_at disk h.active → holder_at disk (pair_in (seen disk history hs sets) index).at ≡ Some bytes
+  holder_there bytes e = ap (λ (p : Pair). holder_at disk p.at) (pair_at_index disk history hs sets index h a)
+      ∙ holder_in disk (address_in h) h.active there.is_pair.active there.is_pair.has_commit ∙ ap Some (sym e)
 
   pub count_there : h.slot_count ≡ length (pair_in (seen disk history hs sets) index).content.slots
   count_there = there.is_pair.describes.slot_count ∙ sym (complete_length there.held.slots there.content.slots (completed_parts there.held there.content there.complete).slots) ∙ ap (λ (c : Content). length c.slots) content_is
@@ -64,3 +74,17 @@ module _ (disk : Disk) (history : List Event) (hs : List Header) (sets : BlockSe
       let k = behind_hard (pairs_on disk a.front) (pair_on disk (address_in h)) (pairs_on disk a.back) (Some anchor) (subst (Links (Some anchor)) parts kept.links)
       (sym (ap (λ (q : Pair). is_hard q.content.tail) (pair_at_index disk history hs sets index h a)) ∙ hard) in
       omega arith
+
+-- ---- the reads of a block that is brought to hand
+
+-- one at most, whatever comes of it
+pub few_reads : {D : Type 0} (g : Ghosts D) (was : Option (List ℕ)) (b : ℕ) (old new : D) (result : Result (Unit {0}) Error) → ReadsWhereMissing g was b old new result → IfErr result (λ e. (e ≡ Io) ⊎ (e ≡ NoMemory))
+    → reads (g.history new) ≤ reads (g.history old) + 1
+few_reads g (Some bytes) b old new result r e = let s = ap (λ d. reads (g.history d)) (r.no_call (search rules)) in omega (arith, s)
+few_reads g None b old new (Ok u) r e = let s = ap reads (r.read refl) in omega (arith, s)
+few_reads g None b old new (Err e) r (inl io) = let s = ap reads (r.failed (ap Err io)) in omega (arith, s)
+few_reads g None b old new (Err e) r (inr memory) = go (r.no_memory (ap Err memory))
+  where
+    go : (g.history new ≡ g.history old) ⊎ (g.history new ≡ read_whole (g.geometry old).block_size (g.blocks old) b false ∷ g.history old) → reads (g.history new) ≤ reads (g.history old) + 1
+    go (inl s) = let k = ap reads s in omega (arith, k)
+    go (inr s) = let k = ap reads s in omega (arith, k)

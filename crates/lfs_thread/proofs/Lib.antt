@@ -9,3 +9,4 @@ pub mod Joined
 pub mod Threaded
 pub mod Told
 pub mod Lending
+pub mod GlobalState

@@ -1,11 +1,12 @@
 -- What the steps of a thread say of the device.
-use Rattle.std.specs.Prelude.{ℕ, ◌≡◌, ◌⊎◌, List, [], ◌∷◌, Result, Err, IfErr}
+use Rattle.std.specs.Prelude.{ℕ, ◌≡◌, ◌≢◌, ◌<◌, ◌⊎◌, List, [], ◌∷◌, Result, Err, IfErr}
 use Rattle.lfs_device.specs.declared.device.BlockDevice.{Ghosts}
 use Rattle.lfs_device.specs.declared.error.Error.{Error}
 use Rattle.lfs_device.specs.declared.error.Error.TheVariants.{Io, NoMemory}
 use Rattle.lfs_device.specs.Calls.{ReadsOnly, TellsFaults}
+use Rattle.lfs_device.specs.Shown.{disk_of}
 use Rattle.lfs_model.specs.Blocks.{Blocks, SameButThese}
-use Rattle.lfs_model.specs.History.{Event, EachSince, LeavesOnly}
+use Rattle.lfs_model.specs.History.{Event, EachSince, LeavesOnly, OnlyReads, faults}
 use Rattle.lfs_model.specs.Stops.{ErasesCleanly, Stops}
 
 -- the blocks of a pair, and of two pairs
@@ -26,6 +27,13 @@ pub record TellsErrorsBeside {D X : Type 0} (g : Ghosts D) (bs : List ℕ) (old 
   pub errors : IfErr result (λ e. (e ≡ Io) ⊎ (e ≡ NoMemory))
   pub faults : TellsFaults g old new result
   pub beside : result ≡ Err NoMemory → SameButThese bs (g.blocks old) (g.blocks new)
+
+-- The device comes back with an error: it was only read. `Io` comes with a fault of it, and any other error with none.
+pub record GivesBack {D : Type 0} (g : Ghosts D) (old back : D) (error : Error) : Type 0 where
+  pub disk : disk_of (g.geometry back) (g.blocks back) ≡ disk_of (g.geometry old) (g.blocks old)
+  pub reads : OnlyReads (g.blocks old) (g.history old) (g.history back)
+  pub fault : error ≡ Io → faults (g.history old) < faults (g.history back)
+  pub no_fault : error ≢ Io → faults (g.history back) ≡ faults (g.history old)
 
 -- a stop in any of the calls since leaves a disk that has P, where erases are clean
 abbrev pub StopsLeave : List Event → List Event → (Blocks → Type 0) → Type 0

@@ -7,7 +7,7 @@ use Rattle.lfs_model.specs.Blocks.{Blocks, block_in}
 use Rattle.lfs_model.specs.BlockSets.{BlockSets, IsUsed}
 use Rattle.lfs_model.specs.Cache.{CachedBlocks, cached}
 use Rattle.lfs_model.specs.Disk.{Disk, block_count}
-use Rattle.lfs_model.specs.History.{Event}
+use Rattle.lfs_model.specs.History.{Event, OnlyReads}
 use Rattle.lfs_model.specs.Slots.{Content, no_gstate}
 use Rattle.lfs_model.specs.Content.{RawContent, raw_at, content_at, completed}
 use Rattle.lfs_model.specs.Thread.{Pair, anchor, Links, blocks_of}
@@ -67,6 +67,16 @@ pub record IsKept (disk : Disk) (history : List Event) (headers : List Header) (
   pub size : length sets ≡ block_count disk
   pub used : AllUsed sets (blocks_of (pairs_on disk headers))
 
+-- it was kept once, but for the map, and the disk was only read since
+pub record WasKept (disk : Disk) (history : List Event) (headers : List Header) (sets : BlockSets) : Type 0 where
+  pub before : List Event
+  pub since : OnlyReads disk.blocks before history
+  pub each : AreHeaders disk before headers
+  pub links : Links (Some anchor) (pairs_on disk headers)
+  pub distinct : IsDistinct nat_eq (blocks_of (pairs_on disk headers))
+  pub size : length sets ≡ block_count disk
+  pub used : AllUsed sets (blocks_of (pairs_on disk headers))
+
 -- each block that is at hand is as the device has it
 abbrev pub IsCurrent : Blocks → CachedBlocks → Type 0
 IsCurrent blocks cache = (b : ℕ) (bytes : List ℕ) → cached cache b ≡ Some bytes → bytes ≡ block_in blocks b
@@ -81,3 +91,6 @@ seen_on g device headers sets = seen (disk_on g device) (g.history device) heade
 
 abbrev pub IsKeptOn : {D : Type 0} → Ghosts D → D → List Header → BlockSets → Type 0
 IsKeptOn g device headers sets = IsKept (disk_on g device) (g.history device) headers sets
+
+abbrev pub WasKeptOn : {D : Type 0} → Ghosts D → D → List Header → BlockSets → Type 0
+WasKeptOn g device headers sets = WasKept (disk_on g device) (g.history device) headers sets

@@ -4,8 +4,12 @@
 mod committing;
 mod dropping;
 mod joining;
+mod parts;
 mod reading;
+mod shares;
 mod splitting;
 mod thread;
 
+pub use parts::Parts;
+pub use shares::joined_state;
 pub use thread::Thread;

@@ -1,11 +1,11 @@
 // A thread read from a device.
 
-ghost use Rattle.std.specs.Prelude.{◌≡◌, ◌⊎◌, ◌↔◌, ℕ, [], length, replicate, Contains, IfErr, IfOk, List, OnOk, slice_set};
+ghost use Rattle.std.specs.Prelude.{◌≡◌, ◌⊎◌, ℕ, [], length, replicate, IfErr, IfOk, List, OnOk, slice_set};
 ghost use Rattle.std.specs.Option.{option_map};
 ghost use Rattle.lfs_model.specs.Slots.{address_of};
 ghost use Rattle.lfs_tag.specs.ContentSeen.{tail_seen};
 ghost use Rattle.lfs_device.specs.Calls.{ReadsOnly, TellsFaults};
-ghost use Rattle.lfs_model.specs.BlockSets.{IsUsed};
+ghost use Rattle.lfs_model.specs.BlockSets.{AreInFlight, AreUsed};
 ghost use Rattle.lfs_model.specs.BlockSets.BlockState.{Free, Used};
 ghost use Rattle.lfs_model.specs.Content.{content_at};
 ghost use Rattle.lfs_model.specs.Thread.{IsThread, Pair as ThreadPair, blocks_of, next_of};
@@ -29,7 +29,7 @@ pub(crate) fn read_pairs<D: BlockDevice>(
     requires none { pairs.old.items ≡ [] }
     requires free { map.old ≡ replicate (D.geometry device.old).block_count Free }
     ensures kept { OnOk result (IsKeptOn D.BlockDevice device.new pairs.new.items map.new) }
-    ensures marked { OnOk result ((b : ℕ) → IsUsed map.new b ↔ Contains (blocks_of (pairs_on (disk_on D.BlockDevice device.new) pairs.new.items)) b) }
+    ensures marked { OnOk result (AreUsed map.new (blocks_of (pairs_on (disk_on D.BlockDevice device.new) pairs.new.items)) × AreInFlight map.new []) }
     ensures corrupt { result ≡ Err Error.Corrupt → (ps : List ThreadPair)
         → ¬ IsThread (content_at (disk_on D.BlockDevice device.old)) (D.geometry device.old).block_count ps }
     ensures device { ReadsOnly D.BlockDevice device.old device.new }

@@ -1,27 +1,33 @@
-ghost use Rattle.std.specs.Prelude.{ℕ, ◌+◌, if◌then◌else◌, None, Some, List, Contains, ◌↔◌, IfOk, ◌≡◌, ◌⊎◌, ◌<◌, length, false, is_err, [], replicate, slice_set, IfErr, IfNone, IfSome, IsSome, OnOk, option_copied};
+ghost use Rattle.std.specs.Prelude.{ℕ, ◌+◌, ◌≤◌, if◌then◌else◌, None, Some, List, Contains, ◌↔◌, IfOk, ◌≡◌, ◌⊎◌, ◌<◌, length, false, is_err, [], replicate, slice_set, IfErr, IfNone, IfSome, IsSome, OnOk, option_copied, ◌-◌, min, take, drop, slice_range};
 ghost use Rattle.std.specs.Option.{option_map};
-ghost use Rattle.lfs_model.specs.Content.{content_at};
-ghost use Rattle.lfs_model.specs.BlockSets.{IsFree, IsInFlight, IsUsed};
+ghost use Rattle.lfs_model.specs.Content.{content_at, holder_at};
+ghost use Rattle.lfs_model.specs.BlockSets.{AreInFlight, AreUsed, IsFree, IsInFlight};
 ghost use Rattle.lfs_model.specs.BlockSets.BlockState.{Free, InFlight};
-ghost use Rattle.lfs_model.specs.History.{OnlyReads, faults};
+ghost use Rattle.lfs_model.specs.Lists.{IsList, bytes_of};
+ghost use Rattle.lfs_model.specs.History.{OnlyReads, faults, reads};
 ghost use Rattle.lfs_model.specs.Slots.{address_of};
-ghost use Rattle.lfs_model.specs.Thread.{IsThread, Pair as ThreadPair, blocks_of, is_hard};
+ghost use Rattle.lfs_model.specs.Thread.{IsThread, Pair as ThreadPair, blocks_of, gstate_of, is_hard};
 ghost use Rattle.lfs_tag.specs.ContentSeen.{tail_seen};
+ghost use Rattle.lfs_tag.specs.FieldsSeen.{move_seen};
 ghost use Rattle.lfs_pair.specs.ChangeSeen.{changes_seen};
-ghost use Rattle.lfs_thread.specs.Device.{StopsLeave, four_of, two_of};
-ghost use Rattle.lfs_thread.specs.Kept.{disk_on};
+ghost use Rattle.lfs_thread.specs.Device.{GivesBack, StopsLeave, four_of, two_of};
+ghost use Rattle.lfs_thread.specs.Kept.{IsCurrent, IsKeptOn, WasKeptOn, disk_on, seen_on};
 ghost use Rattle.lfs_thread.specs.Lent.{IsBlockOf, at_hand};
 ghost use Rattle.lfs_thread.specs.Steps.{CanBeSplit, CanChange, CanDrop, CanJoin, HasTold, HasToldBeside, IsBeside, IsJoined, IsLeftByJoin, IsChanged, IsDropped, IsLeft, IsLeftBySplit, IsOnlyRead, IsRefused, IsSplit, Writes, pair_in};
 
 use crate::committing::commit_to;
 use crate::dropping::drop_pair;
 use crate::joining::join_pair;
+use crate::parts::Parts;
 use crate::reading::read_pairs;
+use crate::shares::joined_state;
 use crate::splitting::split_pair;
 use lfs_alloc::BlockMap;
 use lfs_cache::Cache;
+use lfs_ctz::read_at;
 use lfs_device::{BlockDevice, Error};
 use lfs_pair::{Change, Outcome, Pair};
+use lfs_tag::MoveState;
 use std::alloc::Global;
 use std::marker::Model;
 
@@ -68,11 +74,11 @@ impl<D: BlockDevice> Thread<D> {
     pub fn read(alloc: Global, mut device: D) -> Result<Thread<D>, (D, Error)>
         ensures works { IfOk result (λ t. t.failed ≡ false) }
         ensures thread { IfOk result (λ t. IsThread (content_at (disk_on D.BlockDevice device)) (D.geometry device).block_count t.kept.pairs) }
-        ensures marked { IfOk result (λ t. (b : ℕ) → IsUsed t.kept.map b ↔ Contains (blocks_of t.kept.pairs) b) }
-        ensures only { IfOk result (λ t. (t.kept.disk ≡ disk_on D.BlockDevice device) × OnlyReads (D.blocks device) (D.history device) t.kept.history) }
+        ensures marked { IfOk result (λ t. AreUsed t.kept.map (blocks_of t.kept.pairs) × AreInFlight t.kept.map []) }
+        ensures only { IfOk result (λ t. (t.kept.disk ≡ disk_on D.BlockDevice device) × OnlyReads (D.blocks device) (D.history device) t.kept.history × (faults t.kept.history ≡ faults (D.history device))) }
         ensures corrupt { IfErr result (λ e. e.1 ≡ Error.Corrupt → (ps : List ThreadPair) → ¬ IsThread (content_at (disk_on D.BlockDevice device)) (D.geometry device).block_count ps) }
         ensures errors { IfErr result (λ e. (e.1 ≡ Error.Corrupt) ⊎ ((e.1 ≡ Error.Io) ⊎ (e.1 ≡ Error.NoMemory))) }
-        ensures fault { IfErr result (λ e. e.1 ≡ Error.Io → faults (D.history device) < faults (D.history e.0)) }
+        ensures back { IfErr result (λ e. GivesBack D.BlockDevice device e.0 e.1) }
     {
         let block_count = device.geometry().block_count;
         let mut pairs = Vec::new(alloc);
@@ -90,6 +96,67 @@ impl<D: BlockDevice> Thread<D> {
             }),
             Err(error) => Err((device, error)),
         }
+    }
+
+    /// What the thread is made of, for work on all of it at once. [`Thread::from_parts`] makes it a
+    /// thread again.
+    pub fn into_parts(self) -> Parts<D>
+        requires works { self.failed ≡ false }
+        ensures kept { IsKeptOn D.BlockDevice result.device result.pairs.items result.map }
+        ensures same { seen_on D.BlockDevice result.device result.pairs.items result.map ≡ self.kept }
+        ensures current { IsCurrent (D.blocks result.device) result.cache }
+        ensures cache { result.cache ≡ self.cache }
+    {
+        Parts {
+            device: self.device,
+            cache: self.cache,
+            pairs: self.pairs,
+            map: self.map,
+        }
+    }
+
+    /// A thread of these parts: the headers are those of the thread that the device has, which was
+    /// only read since they were, the map has at least their blocks, and each block at hand is as the
+    /// device has it.
+    pub fn from_parts(parts: Parts<D>) -> Thread<D>
+        requires kept { WasKeptOn D.BlockDevice parts.device parts.pairs.items parts.map }
+        requires current { IsCurrent (D.blocks parts.device) parts.cache }
+        ensures works { result.failed ≡ false }
+        ensures kept { result.kept ≡ seen_on D.BlockDevice parts.device parts.pairs.items parts.map }
+        ensures cache { result.cache ≡ parts.cache }
+    {
+        Thread {
+            device: parts.device,
+            cache: parts.cache,
+            pairs: parts.pairs,
+            map: parts.map,
+            has_failed: false,
+        }
+    }
+
+    /// The device, as the last call left it, after an error too.
+    pub fn device(&self) -> &D
+        ensures disk { disk_on D.BlockDevice result.now ≡ self.now.kept.disk }
+        ensures history { D.history result.now ≡ self.now.kept.history }
+    {
+        &self.device
+    }
+
+    /// The device, as the last call left it. It may be had from a thread that has failed, too.
+    pub fn into_device(self) -> D
+        ensures disk { disk_on D.BlockDevice result ≡ self.kept.disk }
+        ensures history { D.history result ≡ self.kept.history }
+    {
+        self.device
+    }
+
+    /// The global state: the exclusive or of all pairs' shares (DESIGN.md of littlefs, "The move
+    /// problem").
+    pub fn state(&self) -> MoveState
+        requires works { self.now.failed ≡ false }
+        ensures { move_seen result ≡ gstate_of self.now.kept.pairs }
+    {
+        joined_state(&self.pairs)
     }
 
     /// How many pairs there are.
@@ -143,8 +210,9 @@ impl<D: BlockDevice> Thread<D> {
         ensures at_hand { OnOk result (IsSome (at_hand self.new index)) }
         ensures no_call { IsSome (at_hand self.old index) → self.new.kept ≡ self.old.kept }
         ensures only { IsOnlyRead self.old.kept self.new.kept }
+        ensures few { reads self.new.kept.history ≤ reads self.old.kept.history + 1 }
         ensures works { self.new.failed ≡ false }
-        ensures errors { IfErr result (λ e. (e ≡ Error.Io) ⊎ (e ≡ Error.NoMemory)) }
+        ensures errors { HasTold self.old.kept self.new.kept result }
     {
         let block = self.pairs[index].active;
         self.cache.fill(&mut self.device, block)
@@ -157,11 +225,35 @@ impl<D: BlockDevice> Thread<D> {
         requires below { index < length self.now.kept.pairs }
         ensures lent { option_copied result ≡ at_hand self.now index }
         ensures holds { IfSome result (λ block. IsBlockOf block.now (pair_in self.now.kept index).content) }
+        ensures holder { IfSome result (λ block. holder_at self.now.kept.disk (pair_in self.now.kept index).at ≡ Some block.now) }
     {
         match self.cache.lend(self.pairs[index].active) {
             Some(block) => Some(block),
             None => None,
         }
+    }
+
+    /// Reads bytes of a skip list from position `pos` on into the buffer, as many as the buffer and
+    /// the `size` allow, and answers their number. The list has its last block at `head`, and is well
+    /// formed, as each file's is in an accepted image. No block comes to hand by it.
+    ///
+    /// `Io` where a read failed; what the buffer holds is open then.
+    pub fn read_list(
+        &mut self,
+        head: u32,
+        size: u32,
+        pos: u32,
+        buf: &mut [u8],
+    ) -> Result<usize, Error>
+        requires works { self.old.failed ≡ false }
+        requires list { IsList self.old.kept.disk.blocks self.old.kept.disk.block_size head size }
+        ensures count { IfOk result (λ n. (n ≡ min (length buf.old) (size - pos)) × (drop n buf.new ≡ drop n buf.old)) }
+        ensures bytes { IfOk result (λ n. take n buf.new ≡ slice_range (bytes_of self.old.kept.disk.blocks self.old.kept.disk.block_size head size) pos (pos + n)) }
+        ensures only { IsOnlyRead self.old.kept self.new.kept }
+        ensures same { (self.new.failed ≡ false) × (self.new.cache ≡ self.old.cache) }
+        ensures errors { HasTold self.old.kept self.new.kept result }
+    {
+        read_at(&mut self.device, head, size, pos, buf)
     }
 
     /// Hands out a free block, which is then in flight. None exactly where no block is free.

@@ -8,7 +8,7 @@ use std::alloc::Global;
 use std::test::Fail;
 
 // A block of 1,024 bytes with one commit: an empty file `a`, or its name alone, and a soft tail.
-fn written(alloc: Global, tail: Option<[u32; 2]>, is_complete: bool) -> Result<Vec<u8>, Error> {
+pub fn written(alloc: Global, tail: Option<[u32; 2]>, is_complete: bool) -> Result<Vec<u8>, Error> {
     let mut block = Vec::from_elem(alloc, 0xffu8, 1024)?;
     let first = Tag::from_bits(0xffff_ffff);
     let mut builder = CommitBuilder::new(128, &mut block, first, Some(1));

@@ -6,7 +6,7 @@ use Rattle.lfs_device.specs.declared.geometry.Geometry.{Geometry}
 use Rattle.lfs_model.specs.Slots.{address_of}
 use Rattle.lfs_model.proofs.Histories.{began}
 use Rattle.lfs_thread.specs.Begun.{IsBegun}
-use Rattle.lfs_thread.proofs.Begun.{begun_first, begun_next, begun_kept, begun_few, no_thread, same_error, then_reads}
+use Rattle.lfs_thread.proofs.Begun.{begun_first, begun_next, begun_kept, begun_none_in_flight, begun_few, no_thread, same_error, then_reads}
 use Rattle.lfs_thread.proofs.reading.read_pairs.Goals as goal
 
 pub loop-init : goal.loop-init
@@ -21,6 +21,9 @@ pub returns-in-None-clause-kept : goal.returns-in-None-clause-kept
 returns-in-None-clause-kept g c =
     begun_kept _ _ _ _ (subst (IsBegun (disk_of (g.D.BlockDevice.geometry c.loop.device) (g.D.BlockDevice.blocks c.loop.device)) (g.D.BlockDevice.history c.loop.device) c.loop.pairs.items c.loop.map)
     (ap (option_map address_of) c.in-None.is) c.loop.invariant.begun)
+
+pub returns-in-None-clause-marked : goal.returns-in-None-clause-marked
+returns-in-None-clause-marked g c = (c.loop.invariant.begun.marked, begun_none_in_flight _ _ _ _ _ c.loop.invariant.begun)
 
 pub returns-in_err-pair-in-Some-clause-corrupt : goal.returns-in_err-pair-in-Some-clause-corrupt
 returns-in_err-pair-in-Some-clause-corrupt g c e =

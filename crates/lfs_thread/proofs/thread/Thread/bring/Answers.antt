@@ -1,4 +1,4 @@
-use Rattle.std.proofs.Common.{ap, ap₂, sym, subst, ◌∙◌, ◌<◌, length}
+use Rattle.std.proofs.Common.{ap, ap₂, sym, subst, ◌∙◌, ◌<◌, ◌≤◌, ◌+◌, length}
 use Rattle.std.specs.Prelude.{IsSome, OnOk}
 use Rattle.lfs_device.specs.Shown.{disk_of}
 use Rattle.lfs_model.specs.Cache.{cached}
@@ -6,7 +6,10 @@ use Rattle.lfs_thread.specs.Kept.{IsCurrent, IsKept, State, disk_on, seen_on}
 use Rattle.lfs_thread.specs.Lent.{at_hand}
 use Rattle.lfs_thread.proofs.AtHand.{current_filled, filled_there}
 use Rattle.lfs_thread.proofs.Changing.{at_there, kept_read}
-use Rattle.lfs_thread.proofs.Lending.{active_is, active_there}
+use Rattle.lfs_model.specs.History.{reads}
+use Rattle.lfs_thread.specs.Steps.{HasTold}
+use Rattle.lfs_thread.proofs.Told.{told_from}
+use Rattle.lfs_thread.proofs.Lending.{active_is, active_there, few_reads}
 use Rattle.lfs_thread.proofs.thread.Thread.bring.Goals as goal
 
 pub fill-requires : goal.fill-requires
@@ -49,3 +52,14 @@ returns-clause-no_call g c there =
     let is = subst (λ b. IsSome (cached c.self.inside.cache b))
     (sym (active_is disk (g.D.BlockDevice.history c.self.inside.device) c.self.inside.pairs.items c.self.inside.map c.args.index c.index.result.now a (c.self.invariant works).0)) here in
     ap (λ d. seen_on g.D.BlockDevice d c.self.inside.pairs.items c.self.inside.map) (c.fill.ensures.calls.no_call is) ∙ ap (λ (v : State). v.kept) c.self.view_is
+
+pub returns-clause-few : goal.returns-clause-few
+returns-clause-few g c =
+    subst (λ (v : State). reads (g.D.BlockDevice.history c.fill.new.device) ≤ reads v.kept.history + 1) c.self.view_is
+    (few_reads g.D.BlockDevice _ _ c.self.inside.device c.fill.new.device c.fill.result c.fill.ensures.calls c.fill.ensures.errors)
+
+pub returns-clause-errors : goal.returns-clause-errors
+returns-clause-errors g c =
+    let e = c.fill.ensures in
+    subst (λ (v : State). HasTold v.kept (seen_on g.D.BlockDevice c.fill.new.device c.self.inside.pairs.items c.self.inside.map) c.fill.result) c.self.view_is
+    (told_from g.D.BlockDevice c.self.inside.device c.fill.new.device c.self.inside.pairs.items c.self.inside.pairs.items c.self.inside.map c.self.inside.map c.fill.result (record { errors = e.errors; faults = e.faults; unwritten = λ no. e.device }))

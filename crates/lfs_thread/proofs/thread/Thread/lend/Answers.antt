@@ -1,10 +1,11 @@
-use Rattle.std.proofs.Common.{ap, sym, subst, ◌∙◌, ◌<◌, length}
+use Rattle.std.proofs.Common.{◌≡◌, Some, ap, sym, subst, ◌∙◌, ◌<◌, length, arith}
 use Rattle.lfs_model.specs.Cache.{cached}
+use Rattle.lfs_model.specs.Content.{holder_at}
 use Rattle.lfs_thread.specs.Kept.{State, disk_on}
 use Rattle.lfs_thread.specs.Lent.{IsBlockOf, at_hand}
 use Rattle.lfs_thread.specs.Steps.{pair_in}
 use Rattle.lfs_thread.proofs.Changing.{at_there}
-use Rattle.lfs_thread.proofs.Lending.{active_is, block_there}
+use Rattle.lfs_thread.proofs.Lending.{active_is, active_there, block_there, holder_there}
 use Rattle.lfs_thread.proofs.thread.Thread.lend.Goals as goal
 
 pub returns-in-Some-clause-lent : goal.returns-in-Some-clause-lent
@@ -31,6 +32,20 @@ returns-in-Some-clause-holds g c =
     let below = subst (λ (v : State). c.args.index < length v.kept.pairs) (sym c.self.view_is) c.requires.below in
     let disk = disk_on g.D.BlockDevice c.self.inside.device in
     let a = at_there disk c.self.inside.pairs.items c.args.index c.index.result.now below c.index.ensures in
+    let shape = g.met.D.BlockDevice.shape c.self.inside.device in
+    let size = shape.sizes c.index.result.now.active (active_there disk (g.D.BlockDevice.history c.self.inside.device) c.self.inside.pairs.items c.self.inside.map c.args.index c.index.result.now a (c.self.invariant works).0 _ shape.count) in
+    let most = (g.D.BlockDevice.geometry c.self.inside.device).valid.no_larger in
+    let is = (c.self.invariant works).1 c.index.result.now.active c.in-Some.block.now (sym c.in-Some.ensures) in
     subst (λ (v : State). IsBlockOf c.in-Some.block.now (pair_in v.kept c.args.index).content) c.self.view_is
     (block_there disk (g.D.BlockDevice.history c.self.inside.device) c.self.inside.pairs.items c.self.inside.map c.args.index c.index.result.now a (c.self.invariant works).0
+    c.in-Some.block.now is (let l = ap length is in omega arith))
+
+pub returns-in-Some-clause-holder : goal.returns-in-Some-clause-holder
+returns-in-Some-clause-holder g c =
+    let works = ap (λ (v : State). v.failed) c.self.view_is ∙ c.requires.works in
+    let below = subst (λ (v : State). c.args.index < length v.kept.pairs) (sym c.self.view_is) c.requires.below in
+    let disk = disk_on g.D.BlockDevice c.self.inside.device in
+    let a = at_there disk c.self.inside.pairs.items c.args.index c.index.result.now below c.index.ensures in
+    subst (λ (v : State). holder_at v.kept.disk (pair_in v.kept c.args.index).at ≡ Some c.in-Some.block.now) c.self.view_is
+    (holder_there disk (g.D.BlockDevice.history c.self.inside.device) c.self.inside.pairs.items c.self.inside.map c.args.index c.index.result.now a (c.self.invariant works).0
     c.in-Some.block.now ((c.self.invariant works).1 c.index.result.now.active c.in-Some.block.now (sym c.in-Some.ensures)))

@@ -1,0 +1,200 @@
+// A script of steps on a small device, with what is kept after each step.
+
+ghost use Rattle.std.specs.Prelude.{◌≡◌, false};
+
+use crate::reading::written;
+use crate::stepping::{Step, carry_out};
+use lfs_device::{BlockDevice, Erased, Error, Geometry, RamDevice};
+use lfs_pair::Change;
+use lfs_tag::kinds::{DIRECTORY_NAME, DIRECTORY_STRUCT, FILE_NAME, INLINE_STRUCT};
+use lfs_thread::Thread;
+use std::alloc::Global;
+
+// With a name of one byte a slot takes 309 bytes, and a pair may have 857.
+const LARGE: [u8; 300] = [9; 300];
+
+const SECOND: [Change<'static>; 2] = [
+    Change::Create {
+        id: 1,
+        kind: FILE_NAME,
+        name: b"b",
+    },
+    Change::Struct {
+        id: 1,
+        kind: INLINE_STRUCT,
+        bytes: &LARGE,
+    },
+];
+
+const THIRD: [Change<'static>; 2] = [
+    Change::Create {
+        id: 2,
+        kind: FILE_NAME,
+        name: b"c",
+    },
+    Change::Struct {
+        id: 2,
+        kind: INLINE_STRUCT,
+        bytes: &LARGE,
+    },
+];
+
+const ATTRIBUTE: [Change<'static>; 1] = [Change::Attr {
+    id: 0,
+    attr: 0x41,
+    bytes: b"x",
+}];
+
+// A directory in the blocks 2 and 3, which come next.
+const DIRECTORY: [Change<'static>; 3] = [
+    Change::Tail {
+        hard: false,
+        pair: Some([2, 3]),
+    },
+    Change::Create {
+        id: 3,
+        kind: DIRECTORY_NAME,
+        name: b"d",
+    },
+    Change::Struct {
+        id: 3,
+        kind: DIRECTORY_STRUCT,
+        bytes: &[2, 0, 0, 0, 3, 0, 0, 0],
+    },
+];
+
+const FIRST: [Change<'static>; 2] = [
+    Change::Create {
+        id: 0,
+        kind: FILE_NAME,
+        name: b"f",
+    },
+    Change::Struct {
+        id: 0,
+        kind: INLINE_STRUCT,
+        bytes: b"hi",
+    },
+];
+
+const FIFTH: [Change<'static>; 2] = [
+    Change::Create {
+        id: 4,
+        kind: FILE_NAME,
+        name: b"e",
+    },
+    Change::Struct {
+        id: 4,
+        kind: INLINE_STRUCT,
+        bytes: &LARGE,
+    },
+];
+
+const NO_FIRST: [Change<'static>; 1] = [Change::Delete { id: 0 }];
+
+// The directory's slot goes, and the pair that it named with it.
+const NO_DIRECTORY: [Change<'static>; 2] = [
+    Change::Delete { id: 1 },
+    Change::Tail {
+        hard: false,
+        pair: None,
+    },
+];
+
+const NO_TAIL: [Change<'static>; 1] = [Change::Tail {
+    hard: false,
+    pair: None,
+}];
+
+/// A pair is filled, a directory's pair comes, the first is split where it is full, and what came
+/// goes again.
+pub const STEPS: [Step<'static>; 11] = [
+    Step::Change(0, &SECOND),
+    Step::Change(0, &THIRD),
+    Step::Change(0, &ATTRIBUTE),
+    Step::ThreadIn(0, &DIRECTORY),
+    Step::Change(1, &FIRST),
+    Step::Change(0, &FIFTH),
+    Step::Split(0, &FIFTH),
+    Step::Change(2, &NO_FIRST),
+    Step::DropNext(1, &NO_DIRECTORY),
+    Step::Change(0, &NO_FIRST),
+    Step::DropNext(0, &NO_TAIL),
+];
+
+/// Where a pair stands, and how many slots it has.
+pub type Row = ([u32; 2], usize);
+
+/// The pairs before the first step and after each.
+pub const KEPT: [&[Row]; 12] = [
+    &[([0, 1], 1)],
+    &[([0, 1], 2)],
+    &[([0, 1], 3)],
+    &[([0, 1], 3)],
+    &[([0, 1], 4), ([2, 3], 0)],
+    &[([0, 1], 4), ([2, 3], 1)],
+    &[([0, 1], 4), ([2, 3], 1)],
+    &[([0, 1], 2), ([4, 5], 3), ([2, 3], 1)],
+    &[([0, 1], 2), ([4, 5], 3), ([2, 3], 0)],
+    &[([0, 1], 2), ([4, 5], 2)],
+    &[([0, 1], 1), ([4, 5], 2)],
+    &[([0, 1], 1)],
+];
+
+/// 16 blocks of 1,024 bytes with pages of 128, and a pair with an empty file `a`.
+pub fn small(alloc: Global, erased: Erased) -> Result<RamDevice, Error> {
+    let mut bytes = written(alloc, None, true)?;
+    bytes.resize(16 * 1024, 7)?;
+    let geometry = Geometry::new(1024, 128, 16)?;
+    Ok(RamDevice::from_bytes(geometry, bytes)?.erased_as(erased))
+}
+
+/// What is kept of each pair.
+pub fn rows_of<D: BlockDevice>(alloc: Global, thread: &Thread<D>) -> Result<Vec<Row>, Error>
+    requires { thread.now.failed ≡ false }
+{
+    let mut rows = Vec::new(alloc);
+    for index in 0..thread.len() {
+        rows.push((thread.address(index), thread.slot_count(index)))?;
+    }
+    Ok(rows)
+}
+
+/// What is read of a device.
+pub fn read_rows<D: BlockDevice + Drop>(alloc: Global, device: D) -> Result<Vec<Row>, Error> {
+    match Thread::read(alloc, device) {
+        Ok(thread) => rows_of(alloc, &thread),
+        Err((_, error)) => Err(error),
+    }
+}
+
+// Carries out the steps, and says how many were done and which error came then.
+fn carry_out_all<D: BlockDevice>(
+    alloc: Global,
+    thread: &mut Thread<D>,
+    steps: &[Step<'_>],
+) -> (usize, Option<Error>)
+    requires { thread.old.failed ≡ false }
+{
+    for (done, step) in steps.iter().enumerate() {
+        if let Err(error) = carry_out(alloc, thread, *step) {
+            return (done, Some(error));
+        }
+    }
+    (steps.len(), None)
+}
+
+/// Reads a device's thread and carries out the steps. Gives back how many were done, the error that
+/// came then and the device.
+pub fn run<D: BlockDevice>(
+    alloc: Global,
+    device: D,
+    steps: &[Step<'_>],
+) -> (usize, Option<Error>, D) {
+    match Thread::read(alloc, device) {
+        Ok(mut thread) => {
+            let (done, error) = carry_out_all(alloc, &mut thread, steps);
+            (done, error, thread.into_device())
+        }
+        Err((device, error)) => (0, Some(error), device),
+    }
+}

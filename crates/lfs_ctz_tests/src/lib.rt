@@ -1,12 +1,15 @@
-//! Tests of skip lists.
+//! Tests of skip lists, and clients of them that are proved.
 #![tactic(auto)]
 
 #[cfg(test)]
 mod by_hand;
+mod clients;
 #[cfg(test)]
 mod extending;
 #[cfg(test)]
 mod faults;
+#[cfg(test)]
+mod in_memory;
 #[cfg(test)]
 mod lists;
 #[cfg(test)]
@@ -15,3 +18,5 @@ mod memory;
 mod reading;
 #[cfg(test)]
 mod sizes;
+
+pub use clients::{Memory, patch, read_front};

@@ -1,3 +1,4 @@
 pub mod Kept
 pub mod Named
 pub mod Ready
+pub mod Tailed

@@ -11,7 +11,7 @@ use lfs_tag::kinds::{FILE_NAME, INLINE_STRUCT};
 use std::alloc::Global;
 use std::test::Fail;
 
-const ALIKE: [Change<'static>; 6] = [
+pub const ALIKE: [Change<'static>; 6] = [
     Change::Create {
         id: 0,
         kind: FILE_NAME,

@@ -1,6 +1,7 @@
 //! Tests of metadata pairs, on devices whose erases leave this or that, whose calls fail and which stop.
 #![tactic(auto)]
 
+mod clients;
 #[cfg(test)]
 mod committing;
 #[cfg(test)]
@@ -15,3 +16,7 @@ mod images;
 mod splitting;
 #[cfg(test)]
 mod trial;
+#[cfg(test)]
+mod using;
+
+pub use clients::{commit_or_stop, split_before};

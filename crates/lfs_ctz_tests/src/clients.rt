@@ -1,0 +1,79 @@
+// Clients of contents in memory and of the fronts of lists.
+
+ghost use Rattle.std.specs.Prelude.{◌≡◌, ◌⊎◌, ◌≤◌, ◌<◌, ◌+◌, ◌^◌, take, length, IfErr, IfOk};
+ghost use Rattle.lfs_device.specs.Calls.{ReadsOnly, TellsFaults};
+ghost use Rattle.lfs_model.specs.Lists.{IsList, bytes_of};
+ghost use Rattle.lfs_model.specs.Session.{overwritten as with_bytes};
+
+use lfs_ctz::{Extender, cut, read_at};
+use lfs_device::{BlockDevice, Error, Geometry};
+use std::alloc::Global;
+
+/// What an extender has in memory.
+#[derive(Drop)]
+pub struct Memory {
+    pub bytes: Vec<u8>,
+    /// How many there are.
+    pub size: u32,
+    /// How many blocks of the device are full of them.
+    pub full: u32,
+}
+
+/// Puts bytes over others from the place `at` on, with zeros in a gap, and keeps the first `keep` of
+/// them, all in memory.
+///
+/// There are fewer than a block has, and at least `keep`. `Error::NoMemory` comes where there is no
+/// memory for a block or for the bytes.
+pub fn patch(
+    alloc: Global,
+    geometry: Geometry,
+    bytes: &[u8],
+    at: u32,
+    more: &[u8],
+    keep: u32,
+) -> Result<Memory, Error>
+    requires short { length bytes.now < geometry.block_size }
+    requires room { at + length more.now < geometry.block_size }
+    requires within { keep ≤ length (with_bytes bytes.now at more.now) }
+    ensures bytes { IfOk result (λ memory. memory.bytes.items ≡ take keep (with_bytes bytes.now at more.now)) }
+    ensures size { IfOk result (λ memory. memory.size ≡ keep) }
+    ensures full { IfOk result (λ memory. memory.full ≡ 0) }
+    ensures errors { IfErr result (λ e. e ≡ Error.NoMemory) }
+{
+    let mut extender = Extender::start(alloc, geometry)?;
+    extender.hold(bytes);
+    extender.put(at, more);
+    extender.cut(keep);
+    let mut bytes = Vec::new(alloc);
+    bytes.extend_from_slice(extender.held())?;
+    Ok(Memory {
+        bytes,
+        size: extender.size(),
+        full: extender.full(),
+    })
+}
+
+/// Reads the first `keep` bytes of a well-formed list, as the list that they are of their own.
+///
+/// There is at least one byte, and at most as many as the list has. `Error::Io` comes where the
+/// device failed, and `Error::NoMemory` where there is no memory for the bytes.
+pub fn read_front<D: BlockDevice>(
+    alloc: Global,
+    dev: &mut D,
+    head: u32,
+    size: u32,
+    keep: u32,
+) -> Result<Vec<u8>, Error>
+    requires list { IsList (D.blocks dev.old) (D.geometry dev.old).block_size head size }
+    requires some { 1 ≤ keep }
+    requires within { keep ≤ size }
+    ensures bytes { IfOk result (λ bytes. bytes.items ≡ take keep (bytes_of (D.blocks dev.old) (D.geometry dev.old).block_size head size)) }
+    ensures device { ReadsOnly D.BlockDevice dev.old dev.new }
+    ensures faults { TellsFaults D.BlockDevice dev.old dev.new result }
+    ensures errors { IfErr result (λ e. (e ≡ Error.Io) ⊎ (e ≡ Error.NoMemory)) }
+{
+    let mut bytes = Vec::from_elem(alloc, 0u8, keep as usize)?;
+    let front = cut(dev, head, size, keep)?;
+    read_at(dev, front, keep, 0, bytes.as_mut_slice())?;
+    Ok(bytes)
+}

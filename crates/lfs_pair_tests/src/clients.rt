@@ -1,0 +1,68 @@
+// Clients of commits that fail, and of splits that set the tail.
+
+ghost use Rattle.std.specs.Prelude.{◌≡◌, ◌<◌, false, true, [], ◌∷◌, IfErr, IfOk, OnOk, Some};
+ghost use Rattle.std.specs.Option.{option_map};
+ghost use Rattle.lfs_device.specs.Shown.{disk_of};
+ghost use Rattle.lfs_model.specs.Changes.{PutTail};
+ghost use Rattle.lfs_model.specs.FailedCalls.{FailAsStopped, HasFailedWith};
+ghost use Rattle.lfs_model.specs.History.{EachSince};
+ghost use Rattle.lfs_model.specs.Slots.{address_of};
+ghost use Rattle.lfs_model.specs.Stops.{ErasesCleanly};
+ghost use Rattle.lfs_tag.specs.ContentSeen.{tail_seen};
+ghost use Rattle.lfs_pair.specs.ChangeSeen.{changes_seen};
+ghost use Rattle.lfs_pair.specs.Commit.{CanCommit, Commits, LeftByChange};
+ghost use Rattle.lfs_pair.specs.Pair.{address_in};
+ghost use Rattle.lfs_pair.specs.Split.{CanSplit};
+
+use lfs_device::{BlockDevice, Error};
+use lfs_pair::{Change, Outcome, Pair, commit, split};
+use std::alloc::Global;
+
+/// Commits changes that are known to fit. After `Io` the device holds what a loss of power in the
+/// commit may leave, where the call that failed was the last one and left what a stop in it may.
+///
+/// Errors are those of [`commit`], and `NoSpace` comes where the changes don't fit.
+pub fn commit_or_stop<D: BlockDevice>(
+    alloc: Global,
+    dev: &mut D,
+    pair: &mut Pair,
+    changes: &[Change<'_>],
+) -> Result<(), Error>
+    requires { CanCommit (disk_of (D.geometry dev.old) (D.blocks dev.old)) (D.history dev.old) pair.old (changes_seen changes.now) }
+    ensures done { OnOk result (Commits (disk_of (D.geometry dev.old) (D.blocks dev.old)) (D.history dev.old) (changes_seen changes.now) pair.old
+        (disk_of (D.geometry dev.new) (D.blocks dev.new)) (D.history dev.new) pair.new) }
+    ensures left { result ≡ Err Error.Io → EachSince ErasesCleanly (D.history dev.old) (D.history dev.new) → FailAsStopped (D.history dev.old) (D.history dev.new)
+        → HasFailedWith (D.history dev.new) (D.blocks dev.new)
+        → LeftByChange (disk_of (D.geometry dev.old) (D.blocks dev.old)) (address_in pair.old) (changes_seen changes.now) (D.blocks dev.new) }
+{
+    match commit(alloc, dev, pair, changes) {
+        Ok(Outcome::Done) => Ok(()),
+        Ok(Outcome::Full) => Err(Error::NoSpace),
+        Err(error) => Err(error),
+    }
+}
+
+/// Splits a pair, whose fresh part gets a soft tail to another address, where a directory of its own
+/// begins.
+///
+/// That address is one of the device's. Errors are those of [`split`].
+pub fn split_before<D: BlockDevice>(
+    alloc: Global,
+    dev: &mut D,
+    pair: &mut Pair,
+    fresh: [u32; 2],
+    next: [u32; 2],
+) -> Result<Pair, Error>
+    requires can { CanSplit (disk_of (D.geometry dev.old) (D.blocks dev.old)) (D.history dev.old) pair.old (address_of fresh) (PutTail false (Some (address_of next)) ∷ []) }
+    requires first { (address_of next).0 < (D.geometry dev.old).block_count }
+    requires second { (address_of next).1 < (D.geometry dev.old).block_count }
+    ensures front { OnOk result (option_map tail_seen pair.new.tail ≡ Some (record { hard = true; to = address_of fresh })) }
+    ensures back { IfOk result (λ fresh_pair. option_map tail_seen fresh_pair.tail ≡ Some (record { hard = false; to = address_of next })) }
+{
+    let changes = [Change::Tail {
+        hard: false,
+        pair: Some(next),
+    }];
+    let fresh_pair = split(alloc, dev, pair, fresh, &changes)?;
+    Ok(fresh_pair)
+}

@@ -1,0 +1,189 @@
+-- The first slot of a pair: whether it is a superblock's, and its struct.
+use Rattle.std.proofs.Common.{ℕ, ◌≡◌, ◌==◌, ◌&&◌, ◌||◌, not, Bool, true, false, cond, List, [], ◌∷◌, length, slice_get, Option, Some, None, codes, refl, sym, ap, subst, ◌∙◌, eqb-true, eq-eqb, option_and_then, option_map}
+use Rattle.std.specs.Str.{bytes_eq}
+use Rattle.std.proofs.lemmas.Bool.{and_parts, and_from}
+use Rattle.std.proofs.lemmas.Option.{same_Some}
+use Rattle.std.proofs.lemmas.Slice.Eq.{bytes_eq-Decides}
+use Rattle.lfs_model.specs.Content.{RawSlot, complete, complete_all, kind_named, struct_typed, file_name_type, directory_name_type, inline_struct_type, directory_struct_type, superblock_at}
+use Rattle.lfs_model.specs.Disk.{Disk, block_count}
+use Rattle.lfs_model.specs.Slots.{Slot, File, Directory, Superblock, Struct, Inline, Ctz, Branch, is_superblock, is_superblock_kind}
+use Rattle.lfs_model.specs.Thread.{starts_with_superblock}
+use Rattle.lfs_model.specs.View.{HasStruct, IsSuperblockStruct}
+use Rattle.lfs_model.proofs.Completed.{complete_parts}
+use Rattle.lfs_mount.specs.Checked.{HasStart}
+use Rattle.lfs_mount.specs.Head.{names_superblock, is_called, inline_in, describes, if_describes, superblock_in, if_same, repeats_in}
+
+-- ---- a slot with a name and a struct
+
+record IsMadeOf (s : RawSlot) (t : Slot) : Type 0 where
+  name : ℕ × List ℕ
+  struct : ℕ × List ℕ
+  name_is : s.name ≡ Some name
+  struct_is : s.struct ≡ Some struct
+  made : t ≡ record { kind = kind_named name.0; name = name.1; struct = struct_typed struct.0 struct.1; attributes = s.attributes }
+
+made_of : (s : RawSlot) (t : Slot) → complete s ≡ Some t → IsMadeOf s t
+made_of s t e = go s.name s.struct refl refl e
+  where
+    go : (n u : Option (ℕ × List ℕ)) → s.name ≡ n → s.struct ≡ u
+        → option_and_then (λ name. option_map (λ struct. record { kind = kind_named name.0; name = name.1; struct = struct_typed struct.0 struct.1; attributes = s.attributes }) u) n ≡ Some t → IsMadeOf s t
+    go None u f h k = absurd (cc)
+    go (Some n) None f h k = absurd (cc)
+    go (Some n) (Some u) f h k =
+        record { name = n; struct = u; name_is = f; struct_is = h; made = sym (same_Some (record { kind = kind_named n.0; name = n.1; struct = struct_typed u.0 u.1; attributes = s.attributes }) t k) }
+
+kind_superblock : (type : ℕ) → is_superblock_kind (kind_named type) ≡ not (type == file_name_type || type == directory_name_type)
+kind_superblock type = go (type == file_name_type) (type == directory_name_type)
+  where
+    go : (a b : Bool) → is_superblock_kind (cond a File (cond b Directory Superblock)) ≡ not (a || b)
+    go true b = refl
+    go false true = refl
+    go false false = refl
+
+slot_named : (s : RawSlot) (t : Slot) → IsMadeOf s t → is_superblock t ≡ names_superblock s.name
+slot_named s t m = ap is_superblock m.made ∙ kind_superblock m.name.0 ∙ sym (ap names_superblock m.name_is)
+
+inline_some : (u : ℕ × List ℕ) (bytes : List ℕ) → struct_typed u.0 u.1 ≡ Inline bytes → inline_in (Some u) ≡ Some bytes
+inline_some u bytes e = go (u.0 == inline_struct_type) (u.0 == directory_struct_type) _ _ _ e
+  where
+    go : (a b : Bool) (to : ℕ × ℕ) (head size : ℕ) → cond a (Inline u.1) (cond b (Branch to) (Ctz head size)) ≡ Inline bytes → cond a (Some u.1) None ≡ Some bytes
+    go true b to head size f = let same : u.1 ≡ bytes = cc in ap (λ (x : List ℕ). Some x) same
+    go false true to head size f = absurd (cc)
+    go false false to head size f = absurd (cc)
+
+inline_back : (u : ℕ × List ℕ) (bytes : List ℕ) → inline_in (Some u) ≡ Some bytes → struct_typed u.0 u.1 ≡ Inline bytes
+inline_back u bytes e = go (u.0 == inline_struct_type) _ e
+  where
+    go : (a : Bool) (other : Struct) → cond a (Some u.1) None ≡ Some bytes → cond a (Inline u.1) other ≡ Inline bytes
+    go true other f = ap Inline (same_Some u.1 bytes f)
+    go false other f = absurd (cc)
+
+slot_inline : (s : RawSlot) (t : Slot) (bytes : List ℕ) → IsMadeOf s t → HasStruct bytes t → inline_in s.struct ≡ Some bytes
+slot_inline s t bytes m h = ap inline_in m.struct_is ∙ inline_some m.struct bytes (sym (ap (λ (x : Slot). x.struct) m.made) ∙ h)
+
+slot_struct : (s : RawSlot) (t : Slot) (bytes : List ℕ) → IsMadeOf s t → inline_in s.struct ≡ Some bytes → HasStruct bytes t
+slot_struct s t bytes m h = ap (λ (x : Slot). x.struct) m.made ∙ inline_back m.struct bytes (sym (ap inline_in m.struct_is) ∙ h)
+
+-- ---- whether the superblock is repeated
+
+same_from : (bytes : List ℕ) (o : Option (List ℕ)) → if_same bytes o ≡ Some true → o ≡ Some bytes
+same_from bytes None e = absurd (cc)
+same_from bytes (Some other) e = go (bytes_eq other bytes) refl e
+  where
+    go : (b : Bool) → bytes_eq other bytes ≡ b → cond b (Some true) None ≡ Some true → Some other ≡ Some bytes
+    go true f k = ap (λ (x : List ℕ). Some x) ((bytes_eq-Decides other bytes).0 f)
+    go false f k = absurd (cc)
+
+never_false : (bytes : List ℕ) (o : Option (List ℕ)) → if_same bytes o ≡ Some false → ⊥
+never_false bytes None e = absurd (cc)
+never_false bytes (Some other) e = go (bytes_eq other bytes) e
+  where
+    go : (b : Bool) → cond b (Some true) None ≡ Some false → ⊥
+    go true k = absurd (cc)
+    go false k = absurd (cc)
+
+differs : (bytes : List ℕ) (o : Option (List ℕ)) → if_same bytes o ≡ None → o ≡ Some bytes → ⊥
+differs bytes o e f = absurd (
+    let same : if_same bytes o ≡ Some true = ap (if_same bytes) f ∙ ap (λ b. cond b (Some true) None) ((bytes_eq-Decides bytes bytes).1 refl) in
+    let clash : Some true ≡ None = sym same ∙ e in cc)
+
+module _ (bytes : List ℕ) where
+  pub repeats_true : (raws : List RawSlot) (slots : List Slot) → complete_all raws ≡ Some slots → repeats_in bytes raws ≡ Some true → HasStart bytes slots
+  repeats_true [] slots c e = absurd (cc)
+  repeats_true (s ∷ raws) slots c e =
+      let p = complete_parts s raws slots c in
+      subst (HasStart bytes) (sym p.all_are) (go p.first (made_of s p.first p.is_first) (names_superblock s.name) refl e)
+    where
+      go : (t : Slot) → IsMadeOf s t → (b : Bool) → names_superblock s.name ≡ b → cond b (if_same bytes (inline_in s.struct)) (Some false) ≡ Some true → (is_superblock t ≡ true) × HasStruct bytes t
+      go t m true n k = (slot_named s t m ∙ n, slot_struct s t bytes m (same_from bytes (inline_in s.struct) k))
+      go t m false n k = absurd (cc)
+
+  pub repeats_false : (raws : List RawSlot) (slots : List Slot) → complete_all raws ≡ Some slots → repeats_in bytes raws ≡ Some false → starts_with_superblock slots ≡ false
+  repeats_false [] slots c e = ap starts_with_superblock (sym (same_Some [] slots c))
+  repeats_false (s ∷ raws) slots c e =
+      let p = complete_parts s raws slots c in
+      ap starts_with_superblock p.all_are ∙ slot_named s p.first (made_of s p.first p.is_first) ∙ go (names_superblock s.name) refl e
+    where
+      go : (b : Bool) → names_superblock s.name ≡ b → cond b (if_same bytes (inline_in s.struct)) (Some false) ≡ Some false → b ≡ false
+      go true n k = absurd (never_false bytes (inline_in s.struct) k)
+      go false n k = refl
+
+  pub repeats_none : (raws : List RawSlot) (slots : List Slot) → complete_all raws ≡ Some slots → repeats_in bytes raws ≡ None → (starts_with_superblock slots ≡ true) × (HasStart bytes slots → ⊥)
+  repeats_none [] slots c e = absurd (cc)
+  repeats_none (s ∷ raws) slots c e =
+      let p = complete_parts s raws slots c in
+      let m = made_of s p.first p.is_first in
+      let k = go (names_superblock s.name) refl e in
+      (ap starts_with_superblock p.all_are ∙ slot_named s p.first m ∙ k.0, λ h. differs bytes (inline_in s.struct) k.1 (slot_inline s p.first bytes m (subst (HasStart bytes) p.all_are h).1))
+    where
+      go : (b : Bool) → names_superblock s.name ≡ b → cond b (if_same bytes (inline_in s.struct)) (Some false) ≡ None → (b ≡ true) × (if_same bytes (inline_in s.struct) ≡ None)
+      go true n k = (refl, k)
+      go false n k = absurd (cc)
+
+-- ---- the superblock itself
+
+-- it is named so
+abbrev pub IsNamed : List Slot → Type 0
+IsNamed slots = option_map (λ (s : Slot). s.name) (slice_get slots 0) ≡ Some (codes "littlefs")
+
+pub record IsFirst (block_size count : ℕ) (bytes : List ℕ) (slots : List Slot) : Type 0 where
+  pub start : HasStart bytes slots
+  pub named : IsNamed slots
+  pub describes : describes block_size count bytes ≡ true
+
+described : (block_size count : ℕ) (o : Option (List ℕ)) (bytes : List ℕ) → if_describes block_size count o ≡ Some bytes → (o ≡ Some bytes) × (describes block_size count bytes ≡ true)
+described block_size count None bytes e = absurd (cc)
+described block_size count (Some held) bytes e = go (describes block_size count held) refl e
+  where
+    go : (b : Bool) → describes block_size count held ≡ b → cond b (Some held) None ≡ Some bytes → (Some held ≡ Some bytes) × (describes block_size count bytes ≡ true)
+    go true f k = (k, ap (describes block_size count) (sym (same_Some held bytes k)) ∙ f)
+    go false f k = absurd (cc)
+
+called : (s : RawSlot) (t : Slot) (name : List ℕ) → IsMadeOf s t → is_called name s.name ≡ true → t.name ≡ name
+called s t name m e = ap (λ (x : Slot). x.name) m.made ∙ (bytes_eq-Decides m.name.1 name).0 (sym (ap (is_called name) m.name_is) ∙ e)
+
+calls : (s : RawSlot) (t : Slot) (name : List ℕ) → IsMadeOf s t → t.name ≡ name → is_called name s.name ≡ true
+calls s t name m e = ap (is_called name) m.name_is ∙ (bytes_eq-Decides m.name.1 name).1 (sym (ap (λ (x : Slot). x.name) m.made) ∙ e)
+
+pub first_found : (block_size count : ℕ) (raws : List RawSlot) (slots : List Slot) (bytes : List ℕ) → complete_all raws ≡ Some slots → superblock_in block_size count raws ≡ Some bytes
+    → IsFirst block_size count bytes slots
+first_found block_size count [] slots bytes c e = absurd (cc)
+first_found block_size count (s ∷ raws) slots bytes c e =
+    let p = complete_parts s raws slots c in
+    subst (IsFirst block_size count bytes) (sym p.all_are) (go p.first p.others (made_of s p.first p.is_first) (names_superblock s.name && is_called (codes "littlefs") s.name) refl e)
+  where
+    go : (t : Slot) (ts : List Slot) → IsMadeOf s t → (b : Bool) → (names_superblock s.name && is_called (codes "littlefs") s.name) ≡ b → cond b (if_describes block_size count (inline_in s.struct)) None ≡ Some bytes
+        → IsFirst block_size count bytes (t ∷ ts)
+    go t ts m false n k = absurd (cc)
+    go t ts m true n k =
+        let both = and_parts (names_superblock s.name) (is_called (codes "littlefs") s.name) n in
+        let d = described block_size count (inline_in s.struct) bytes k in
+        record {
+          start = (slot_named s t m ∙ both.0, slot_struct s t bytes m d.0);
+          named = ap (λ (x : List ℕ). Some x) (called s t (codes "littlefs") m both.1);
+          describes = d.1;
+        }
+
+pub first_is : (block_size count : ℕ) (raws : List RawSlot) (slots : List Slot) (bytes : List ℕ) → complete_all raws ≡ Some slots → IsFirst block_size count bytes slots
+    → superblock_in block_size count raws ≡ Some bytes
+first_is block_size count [] slots bytes c f = absurd (subst (HasStart bytes) (sym (same_Some [] slots c)) f.start)
+first_is block_size count (s ∷ raws) slots bytes c f =
+    let p = complete_parts s raws slots c in
+    go p.first p.others (made_of s p.first p.is_first) (subst (IsFirst block_size count bytes) p.all_are f)
+  where
+    go : (t : Slot) (ts : List Slot) → IsMadeOf s t → IsFirst block_size count bytes (t ∷ ts) → superblock_in block_size count (s ∷ raws) ≡ Some bytes
+    go t ts m h =
+        ap (λ b. cond b (if_describes block_size count (inline_in s.struct)) None)
+        (and_from (names_superblock s.name) (is_called (codes "littlefs") s.name) (sym (slot_named s t m) ∙ h.start.0) (calls s t (codes "littlefs") m (same_Some t.name (codes "littlefs") h.named)))
+        ∙ ap (if_describes block_size count) (slot_inline s t bytes m h.start.1) ∙ ap (λ b. cond b (Some bytes) None) h.describes
+
+pub struct_described : (disk : Disk) (bytes : List ℕ) → describes disk.block_size (block_count disk) bytes ≡ true → IsSuperblockStruct disk bytes
+struct_described disk bytes e =
+    let a = and_parts (length bytes == 24) _ e in
+    let b = and_parts ((superblock_at bytes).version == 0x00020000) _ a.1 in
+    let c = and_parts ((superblock_at bytes).block_size == disk.block_size) _ b.1 in
+    record { len = eqb-true _ _ a.0; version = eqb-true _ _ b.0; block_size = eqb-true _ _ c.0; block_count = eqb-true _ _ c.1 }
+
+pub describes_struct : (disk : Disk) (bytes : List ℕ) → IsSuperblockStruct disk bytes → describes disk.block_size (block_count disk) bytes ≡ true
+describes_struct disk bytes h =
+    and_from _ _ (eq-eqb _ _ h.len) (and_from _ _ (eq-eqb _ _ h.version) (and_from _ _ (eq-eqb _ _ h.block_size) (eq-eqb _ _ h.block_count)))

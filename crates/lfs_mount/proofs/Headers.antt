@@ -1,0 +1,90 @@
+-- What the disk holds of a pair that a header describes.
+use Rattle.std.proofs.Common.{ℕ, zero, suc, ◌≡◌, ◌==◌, ◌&&◌, ◌||◌, ◌<◌, not, Bool, true, false, cond, List, [], ◌∷◌, length, slice_get, Option, Some, None, refl, sym, ap, ap₂, subst, ◌∙◌, option_and_then, option_map}
+use Rattle.std.specs.Prelude.{unwrap_or}
+use Rattle.std.proofs.lemmas.Option.{same_Some, slice_get-map}
+use Rattle.lfs_model.specs.Content.{RawContent, complete_all, completed, content_after_all, content_at, has_commit, holder, holder_at, is_later, no_content}
+use Rattle.lfs_model.specs.Disk.{Disk, block_at, block_count}
+use Rattle.lfs_model.specs.History.{Event}
+use Rattle.lfs_model.specs.Log.{log_entries, revision_of}
+use Rattle.lfs_model.specs.Slots.{Content, no_gstate}
+use Rattle.lfs_model.specs.Thread.{Pair, is_hard}
+use Rattle.lfs_model.proofs.Completed.{complete_length, completed_parts}
+use Rattle.lfs_tag.specs.ContentSeen.{tail_seen}
+use Rattle.lfs_tag.specs.FieldsSeen.{move_seen}
+use Rattle.lfs_pair.specs.Pair.{active_at, address_in, second_holds}
+use Rattle.lfs_thread.specs.Kept.{Header, AreHeaders, IsHeader, pair_on, pairs_on}
+use Rattle.lfs_mount.specs.Head.{leads_on}
+
+abbrev pub pair_of : Disk → Header → Pair
+pair_of disk h = pair_on disk (address_in h)
+
+pub record IsSeen (disk : Disk) (h : Header) : Type 0 where
+  pub active : h.active < block_count disk
+  pub held : RawContent
+  pub log : content_after_all no_content (log_entries (block_at disk h.active)) ≡ Some held
+  pub slots : complete_all held.slots ≡ Some (pair_of disk h).content.slots
+  pub move : move_seen h.move_state ≡ (pair_of disk h).content.move
+  pub leads : leads_on h ≡ (length (pair_of disk h).content.slots == 1 && is_hard (pair_of disk h).content.tail)
+  pub hard : is_hard (option_map tail_seen h.tail) ≡ is_hard (pair_of disk h).content.tail
+  pub holds : holder_at disk (address_in h) ≡ Some (block_at disk h.active)
+  pub content : content_at disk (address_in h) ≡ Some (pair_of disk h).content
+
+content_on : (disk : Disk) (at : ℕ × ℕ) (c : Content) → content_at disk at ≡ Some c → (pair_on disk at).content ≡ c
+content_on disk at c e = ap (λ (o : Option Content). unwrap_or o (record { slots = []; tail = None; move = no_gstate })) e
+
+-- the block that holds, by which of the two it is
+holder_is : (a b : List ℕ) → has_commit (cond (second_holds a b) b a) ≡ true → holder a b ≡ Some (cond (second_holds a b) b a)
+holder_is a b h = go (has_commit a) (has_commit b) (is_later (revision_of a) (revision_of b)) refl h
+  where
+    go : (ca cb later : Bool) → has_commit a ≡ ca → has_commit (cond (cb && (not ca || later)) b a) ≡ true
+        → cond (not ca) (cond cb (Some b) None) (cond (cb && later) (Some b) (Some a)) ≡ Some (cond (cb && (not ca || later)) b a)
+    go true true true e k = refl
+    go true true false e k = refl
+    go true false later e k = refl
+    go false true later e k = refl
+    go false false later e k = absurd (let clash : false ≡ true = sym e ∙ k in cc)
+
+active_block : (disk : Disk) (at : ℕ × ℕ) → block_at disk (active_at disk at) ≡ cond (second_holds (block_at disk at.0) (block_at disk at.1)) (block_at disk at.1) (block_at disk at.0)
+active_block disk at = go (second_holds (block_at disk at.0) (block_at disk at.1))
+  where
+    go : (b : Bool) → block_at disk (cond b at.1 at.0) ≡ cond b (block_at disk at.1) (block_at disk at.0)
+    go true = refl
+    go false = refl
+
+active_within : (disk : Disk) (at : ℕ × ℕ) → at.0 < block_count disk → at.1 < block_count disk → active_at disk at < block_count disk
+active_within disk at first second = go (second_holds (block_at disk at.0) (block_at disk at.1))
+  where
+    go : (b : Bool) → cond b at.1 at.0 < block_count disk
+    go true = second
+    go false = first
+
+pub seen_from : (disk : Disk) (history : List Event) (h : Header) → IsHeader disk history h → IsSeen disk h
+seen_from disk history h is =
+    let at = address_in h in
+    let whole : content_at disk at ≡ Some is.content = ap (option_and_then completed) is.raw ∙ is.complete in
+    let content : (pair_of disk h).content ≡ is.content = content_on disk at is.content whole in
+    let parts = completed_parts is.held is.content is.complete in
+    let slots : complete_all is.held.slots ≡ Some (pair_of disk h).content.slots = parts.slots ∙ ap (λ (c : Content). Some c.slots) (sym content) in
+    let d = is.is_pair.describes in
+    let block = ap (block_at disk) is.is_pair.active ∙ active_block disk at in
+    record {
+      active = subst (λ b. b < block_count disk) (sym is.is_pair.active) (active_within disk at is.address.first is.address.second);
+      held = is.held;
+      log = d.content;
+      slots = slots;
+      move = d.move ∙ sym parts.move ∙ ap (λ (c : Content). c.move) (sym content);
+      leads = ap₂ (λ n t. n == 1 && is_hard t) (d.slot_count ∙ sym (complete_length is.held.slots (pair_of disk h).content.slots slots)) (d.tail ∙ sym parts.tail ∙ ap (λ (c : Content). c.tail) (sym content));
+      hard = ap is_hard (d.tail ∙ sym parts.tail ∙ ap (λ (c : Content). c.tail) (sym content));
+      content = whole ∙ ap (λ (c : Content). Some c) (sym content);
+      holds = holder_is (block_at disk at.0) (block_at disk at.1) (ap has_commit (sym block) ∙ is.is_pair.has_commit) ∙ ap (λ (x : List ℕ). Some x) (sym block);
+    }
+
+-- the header at an index
+pub header_at : (disk : Disk) (history : List Event) (hs : List Header) (k : ℕ) (h : Header) → AreHeaders disk history hs → slice_get hs k ≡ Some h → IsSeen disk h
+header_at disk history [] k h is e = absurd (cc)
+header_at disk history (x ∷ hs) zero h is e = subst (IsSeen disk) (same_Some x h e) (seen_from disk history x is.0)
+header_at disk history (x ∷ hs) (suc k) h is e = header_at disk history hs k h is.1 e
+
+-- its pair
+pub pair_at : (disk : Disk) (hs : List Header) (k : ℕ) (h : Header) → slice_get hs k ≡ Some h → slice_get (pairs_on disk hs) k ≡ Some (pair_of disk h)
+pair_at disk hs k h e = slice_get-map (pair_of disk) hs k ∙ ap (option_map (pair_of disk)) e

@@ -1,0 +1,168 @@
+-- The move of a thread, by the headers of its directories and the slot that it names.
+use Rattle.std.proofs.Common.{ℕ, zero, suc, ◌≡◌, ◌⊎◌, inl, inr, ◌==◌, ◌&&◌, ◌||◌, ◌+◌, Bool, true, false, cond, List, [], ◌∷◌, ◌++◌, length, map, drop, slice_get, Some, None, refl, sym, ap, ap₂, subst, ◌∙◌, arith, eqb-true, eq-eqb, drop_at, fold, length-append, ◌<◌}
+use Rattle.std.proofs.lemmas.Bool.{and_parts, and_from}
+use Rattle.std.proofs.lemmas.List.{drop-map, length-map}
+use Rattle.lfs_model.specs.Disk.{Disk}
+use Rattle.lfs_model.specs.History.{Event}
+use Rattle.lfs_model.specs.Slots.{Gstate, Slot, gstate_xor, no_gstate, same_pair}
+use Rattle.lfs_model.specs.Thread.{Pair, gstate_of, is_hard, starts_with_superblock, superblocks_before}
+use Rattle.lfs_model.specs.View.{HasStruct, IsAccepted, IsEntry, IsHeaded, IsMove, IsOtherSlot}
+use Rattle.lfs_model.proofs.Counts.{Each}
+use Rattle.lfs_model.proofs.Sites.{Among, among_from, among_parts, among_right, any_from}
+use Rattle.lfs_model.proofs.Superblocks.{IsChain, StructMark, entry_is_other, hold_from_rules}
+use Rattle.lfs_tag.specs.FieldsSeen.{move_seen}
+use Rattle.lfs_pair.specs.Pair.{address_in}
+use Rattle.lfs_thread.specs.Kept.{AreHeaders, Header, pairs_on}
+use Rattle.lfs_mount.specs.Described.{moved_in}
+use Rattle.lfs_mount.specs.Head.{HasHeaders, IsHead}
+use Rattle.lfs_mount.specs.Moves.{HasDirectories, IsEntryIfSome, IsMovedFrom, joined_of, names_known, names_one}
+use Rattle.lfs_mount.proofs.Headers.{pair_of, seen_from}
+
+-- ---- the global state
+
+shares : (disk : Disk) (history : List Event) (hs : List Header) → AreHeaders disk history hs → map (λ h. move_seen h.move_state) hs ≡ map (λ p. p.content.move) (pairs_on disk hs)
+shares disk history [] is = refl
+shares disk history (h ∷ hs) is = ap₂ (λ (m : Gstate) (ms : List Gstate). m ∷ ms) (seen_from disk history h is.0).move (shares disk history hs is.1)
+
+pub joined_global : (disk : Disk) (history : List Event) (hs : List Header) → AreHeaders disk history hs → joined_of hs ≡ gstate_of (pairs_on disk hs)
+joined_global disk history hs is = ap (fold gstate_xor no_gstate) (shares disk history hs is)
+
+-- ---- a pair that the move names
+
+abbrev Named : Gstate → Pair → Type 0
+Named g q = (same_pair g.pair q.at ≡ true) × IsOtherSlot (slice_get q.content.slots g.id)
+
+other_slot : (g : Gstate) (q : Pair) → g.kind ≡ 0x4ff → same_pair g.pair q.at ≡ true → IsEntryIfSome (moved_in g q) q.content.slots → IsOtherSlot (slice_get q.content.slots g.id)
+other_slot g q kind same h =
+    let is : moved_in g q ≡ Some g.id = ap (λ b. cond b (Some g.id) None) (and_from (g.kind == 0x4ff) (same_pair g.pair q.at) (eq-eqb g.kind 0x4ff kind) same) in
+    let there : (t : Slot) × ((slice_get q.content.slots g.id ≡ Some t) × IsEntry t) = subst (λ o. IsEntryIfSome o q.content.slots) is h in
+    subst IsOtherSlot (sym there.1.0) (entry_is_other there.0 there.1.1)
+
+among_named : (g : Gstate) (qs : List Pair) → g.kind ≡ 0x4ff → names_one g.pair (map (λ q. q.at) qs) ≡ true → IsMovedFrom g qs → Among (Named g) qs
+among_named g [] kind e h = absurd (cc)
+among_named g (q ∷ qs) kind e h = go (same_pair g.pair q.at) refl e (λ k. among_named g qs kind k h.1)
+  where
+    go : (b : Bool) → same_pair g.pair q.at ≡ b → (b || names_one g.pair (map (λ r. r.at) qs)) ≡ true → (names_one g.pair (map (λ r. r.at) qs) ≡ true → Among (Named g) qs) → Among (Named g) (q ∷ qs)
+    go true is k next = inl (is, other_slot g q kind is h.0)
+    go false is k next = inr (next k)
+
+names_among : (g : Gstate) (qs : List Pair) → Among (Named g) qs → names_one g.pair (map (λ q. q.at) qs) ≡ true
+names_among g [] k = absurd k
+names_among g (q ∷ qs) (inl k) = ap (λ b. b || names_one g.pair (map (λ r. r.at) qs)) k.0
+names_among g (q ∷ qs) (inr k) = go (same_pair g.pair q.at) (names_among g qs k)
+  where
+    go : (b : Bool) → names_one g.pair (map (λ r. r.at) qs) ≡ true → (b || names_one g.pair (map (λ r. r.at) qs)) ≡ true
+    go true e = refl
+    go false e = e
+
+-- ---- a move that names one of the directories' pairs, and an entry there, is right
+
+abbrev is_none : Gstate → Bool
+is_none g = g.kind == 0 && g.id == 0 && (g.pair.0 == 0 && g.pair.1 == 0)
+
+no_move : (g : Gstate) → is_none g ≡ true → (g.kind ≡ 0) × (g.id ≡ 0) × (g.pair ≡ (0, 0))
+no_move g e =
+    let a = and_parts (g.kind == 0 && g.id == 0) (g.pair.0 == 0 && g.pair.1 == 0) e in
+    let b = and_parts (g.kind == 0) (g.id == 0) a.0 in
+    let c = and_parts (g.pair.0 == 0) (g.pair.1 == 0) a.1 in
+    (eqb-true g.kind 0 b.0, eqb-true g.id 0 b.1, ap₂ (λ (x y : ℕ). (x, y)) (eqb-true g.pair.0 0 c.0) (eqb-true g.pair.1 0 c.1))
+
+move_right : (g : Gstate) (chain dirs : List Pair) → names_known g (map (λ q. q.at) dirs) ≡ true → IsMovedFrom g dirs → IsMove (chain ++ dirs) g
+move_right g chain dirs e h = go (is_none g) refl e
+  where
+    go : (b : Bool) → is_none g ≡ b → (b || (g.kind == 0x4ff && names_one g.pair (map (λ q. q.at) dirs))) ≡ true → IsMove (chain ++ dirs) g
+    go true is k = inl (no_move g is)
+    go false is k =
+        let both = and_parts (g.kind == 0x4ff) (names_one g.pair (map (λ q. q.at) dirs)) k in
+        let kind = eqb-true g.kind 0x4ff both.0 in
+        inr (kind, any_from (Named g) (chain ++ dirs) (among_right (Named g) chain dirs (among_named g dirs kind both.1 h)))
+
+pub known_right : (g : Gstate) (headers : List Header) (chain : List Pair) (p : Pair) (rest : List Pair) → HasDirectories g headers chain p rest → names_known g (map address_in headers) ≡ true
+    → IsMovedFrom g (p ∷ rest) → IsMove (chain ++ p ∷ rest) g
+known_right g headers chain p rest has e h = move_right g chain (p ∷ rest) (ap (names_known g) has.at ∙ e) h
+
+-- ---- the move of an accepted image names one of the directories' pairs
+
+-- a superblock's pair in front of the root's first one has one slot
+have_one : (chain : List Pair) (p : Pair) (rest : List Pair) → IsChain chain (p ∷ rest) → Each (λ q. length q.content.slots ≡ 1) chain
+have_one [] p rest h = tt
+have_one (c ∷ []) p rest h = go (length c.content.slots == 1 && is_hard c.content.tail && starts_with_superblock p.content.slots) refl h
+  where
+    go : (b : Bool) → (length c.content.slots == 1 && is_hard c.content.tail && starts_with_superblock p.content.slots) ≡ b → cond b (1 + superblocks_before (p ∷ rest)) 0 ≡ 1
+        → Each (λ q. length q.content.slots ≡ 1) (c ∷ [])
+    go true e k =
+        let first = and_parts (length c.content.slots == 1 && is_hard c.content.tail) (starts_with_superblock p.content.slots) e in
+        (eqb-true (length c.content.slots) 1 (and_parts (length c.content.slots == 1) (is_hard c.content.tail) first.0).0, tt)
+    go false e k = absurd (omega arith)
+have_one (c ∷ d ∷ chain) p rest h = go (length c.content.slots == 1 && is_hard c.content.tail && starts_with_superblock d.content.slots) refl h (have_one (d ∷ chain) p rest)
+  where
+    go : (b : Bool) → (length c.content.slots == 1 && is_hard c.content.tail && starts_with_superblock d.content.slots) ≡ b → cond b (1 + superblocks_before (d ∷ (chain ++ p ∷ rest))) 0 ≡ length (c ∷ d ∷ chain)
+        → (IsChain (d ∷ chain) (p ∷ rest) → Each (λ q. length q.content.slots ≡ 1) (d ∷ chain)) → Each (λ q. length q.content.slots ≡ 1) (c ∷ d ∷ chain)
+    go true e k next =
+        let first = and_parts (length c.content.slots == 1 && is_hard c.content.tail) (starts_with_superblock d.content.slots) e in
+        (eqb-true (length c.content.slots) 1 (and_parts (length c.content.slots == 1) (is_hard c.content.tail) first.0).0, next (omega arith))
+    go false e k next = absurd (omega arith)
+
+-- and that slot is the superblock's
+no_other : (P : Slot → Type 0) (slots : List Slot) (id : ℕ) → length slots ≡ 1 → IsHeaded P slots → IsOtherSlot (slice_get slots id) → ⊥
+no_other P [] id one h k = h
+no_other P (s ∷ []) zero one h k = absurd (let clash : true ≡ false = sym h.0 ∙ k in cc)
+no_other P (s ∷ []) (suc id) one h k = k
+no_other P (s ∷ t ∷ slots) id one h k = absurd (omega arith)
+
+none_named : (g : Gstate) (bytes : List ℕ) (chain : List Pair) → Each (λ q. length q.content.slots ≡ 1) chain → Each (λ q. IsHeaded (HasStruct bytes) q.content.slots) chain → Among (Named g) chain → ⊥
+none_named g bytes [] one h k = k
+none_named g bytes (c ∷ chain) one h (inl k) = no_other (HasStruct bytes) c.content.slots g.id one.0 h.0 k.1
+none_named g bytes (c ∷ chain) one h (inr k) = none_named g bytes chain one.1 h.1 k
+
+move_known : (g : Gstate) (disk : Disk) (chain : List Pair) (p : Pair) (rest : List Pair) → IsChain chain (p ∷ rest) → IsAccepted disk (chain ++ p ∷ rest) → gstate_of (chain ++ p ∷ rest) ≡ g
+    → names_known g (map (λ q. q.at) (p ∷ rest)) ≡ true
+move_known g disk chain p rest is a e = go (subst (IsMove (chain ++ p ∷ rest)) e a.move)
+  where
+    headed : Each (λ q. IsHeaded (HasStruct a.superblock.0) q.content.slots) chain
+    headed = (hold_from_rules (StructMark a.superblock.0) chain p rest is a.superblock.1.1 a.slots).0
+
+    named : Among (Named g) chain ⊎ Among (Named g) (p ∷ rest) → names_one g.pair (map (λ q. q.at) (p ∷ rest)) ≡ true
+    named (inl k) = absurd (none_named g a.superblock.0 chain (have_one chain p rest is) headed k)
+    named (inr k) = names_among g (p ∷ rest) k
+
+    go : IsMove (chain ++ p ∷ rest) g → names_known g (map (λ q. q.at) (p ∷ rest)) ≡ true
+    go (inl k) =
+        ap (λ b. b || (g.kind == 0x4ff && names_one g.pair (map (λ q. q.at) (p ∷ rest))))
+        (and_from (g.kind == 0 && g.id == 0) (g.pair.0 == 0 && g.pair.1 == 0) (and_from (g.kind == 0) (g.id == 0) (eq-eqb g.kind 0 k.0) (eq-eqb g.id 0 k.1))
+        (and_from (g.pair.0 == 0) (g.pair.1 == 0) (eq-eqb g.pair.0 0 (ap (λ (x : ℕ × ℕ). x.0) k.2)) (eq-eqb g.pair.1 0 (ap (λ (x : ℕ × ℕ). x.1) k.2))))
+    go (inr k) =
+        either (is_none g) (g.kind == 0x4ff && names_one g.pair (map (λ q. q.at) (p ∷ rest)))
+        (and_from (g.kind == 0x4ff) (names_one g.pair (map (λ q. q.at) (p ∷ rest))) (eq-eqb g.kind 0x4ff k.0) (named (among_parts (Named g) chain (p ∷ rest) (among_from (Named g) (chain ++ p ∷ rest) k.1))))
+      where
+        either : (x y : Bool) → y ≡ true → (x || y) ≡ true
+        either true y f = refl
+        either false y f = f
+
+pub unknown_refused : (g : Gstate) (headers : List Header) (disk : Disk) (chain : List Pair) (p : Pair) (rest : List Pair) → HasDirectories g headers chain p rest → names_known g (map address_in headers) ≡ false
+    → IsAccepted disk (chain ++ p ∷ rest) → ⊥
+unknown_refused g headers disk chain p rest has e a = absurd (
+    let known = move_known g disk chain p rest has.chain_is a has.global in
+    let clash : true ≡ false = sym known ∙ ap (names_known g) has.at ∙ e in cc)
+
+-- ---- the headers of the directories' pairs are those behind the superblock's
+
+pub directories_behind : (disk : Disk) (history : List Event) (hs : List Header) (count : ℕ) → HasHeaders disk history hs → (head : IsHead disk (pairs_on disk hs) count)
+    → HasDirectories (joined_of hs) (drop count hs) head.chain head.p head.rest
+directories_behind disk history hs count has head = record {
+  at = ap (map (λ q. q.at)) (sym (ap (drop count) head.parts ∙ drop_at head.chain (head.p ∷ head.rest) count head.chain_is)) ∙ ap (map (λ q. q.at)) (drop-map (pair_of disk) count hs) ∙ addresses (drop count hs);
+  global = ap gstate_of (sym head.parts) ∙ sym (joined_global disk history hs has.each);
+  chain_is = ap superblocks_before (sym head.parts) ∙ head.before ∙ sym head.chain_is;
+}
+  where
+    addresses : (xs : List Header) → map (λ q. q.at) (map (pair_of disk) xs) ≡ map address_in xs
+    addresses [] = refl
+    addresses (x ∷ xs) = ap (λ (ys : List (ℕ × ℕ)). address_in x ∷ ys) (addresses xs)
+
+-- there is one of them
+pub directories_within : (disk : Disk) (hs : List Header) (count : ℕ) → IsHead disk (pairs_on disk hs) count → count < length hs
+directories_within disk hs count head =
+    let all = ap length head.parts ∙ length-append head.chain (head.p ∷ head.rest) in
+    let same = length-map hs (pair_of disk) in
+    let chain = head.chain_is in
+    omega (arith, all, same, chain)

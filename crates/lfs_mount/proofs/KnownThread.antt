@@ -1,0 +1,165 @@
+-- What headers say of the pairs of directories is so.
+use Rattle.std.proofs.Common.{ℕ, zero, suc, ◌≡◌, ◌+◌, ◌≤◌, ◌<◌, ◌^◌, Bool, true, false, cond, not, nat_eq, List, [], ◌∷◌, ◌++◌, length, drop, Some, refl, sym, ap, subst, ◌∙◌, arith, slice_get, drop_at, get_or, ◌||◌, eqb-true}
+use Rattle.std.specs.Prelude.{Contains}
+use Rattle.std.specs.List.{IsDistinct}
+use Rattle.std.specs.List.{list_any}
+use Rattle.std.proofs.lemmas.List.{drop-map, length-drop, length-map}
+use Rattle.std.proofs.lemmas.List.Elements.{recursion_from_All}
+use Rattle.std.proofs.lemmas.Map.Steps.{length-le_from_distinct_below}
+use Rattle.lfs_model.proofs.Listings.{distinct_right}
+use Rattle.std.proofs.lemmas.Option.{slice_get-get_or}
+use Rattle.lfs_model.specs.BlockSets.{AreInFlight, AreUsed, BlockState, BlockSets}
+use Rattle.lfs_model.specs.BlockSets.BlockState.{Free, InFlight, Used}
+use Rattle.lfs_model.specs.Disk.{Disk, block_count}
+use Rattle.lfs_model.specs.Content.{content_at}
+use Rattle.lfs_model.specs.History.{Event}
+use Rattle.lfs_model.specs.Slots.{Gstate}
+use Rattle.lfs_model.specs.Thread.{IsThread, Listing, Pair, blocks_of, directories_of, gstate_of, is_hard, joined, starts_with_superblock, superblocks_before, visible}
+use Rattle.lfs_model.specs.View.{directories_in}
+use Rattle.lfs_model.proofs.BlockSets.{Contains-count, count-Contains}
+use Rattle.lfs_model.proofs.Counts.{Each}
+use Rattle.lfs_model.proofs.Superblocks.{pairs_behind}
+use Rattle.lfs_pair.specs.Pair.{address_in}
+use Rattle.lfs_thread.specs.Kept.{AreHeaders, Header, pairs_on}
+use Rattle.lfs_mount.specs.Described.{AreMembers, IsMember}
+use Rattle.lfs_mount.specs.Entries.{firsts_of}
+use Rattle.lfs_mount.specs.Head.{IsHead}
+use Rattle.lfs_mount.specs.Marking.{Owns}
+use Rattle.lfs_mount.specs.Members.{AreDirectories, IsRead, IsThreadOf, begins_in, continues, member_in, members_in}
+use Rattle.lfs_mount.proofs.Accepts.{starts_so}
+use Rattle.lfs_mount.proofs.Begins.{begins_distinct}
+use Rattle.lfs_mount.proofs.Headers.{pair_of, seen_from}
+use Rattle.lfs_mount.proofs.Owned.{counted_place, placed_count}
+
+-- ---- members
+
+member_is : (disk : Disk) (history : List Event) (g : Gstate) (first : Bool) (h : Header) → AreHeaders disk history (h ∷ []) → (first ≡ true → starts_with_superblock (pair_of disk h).content.slots ≡ true)
+    → IsMember disk g first (pair_of disk h) (member_in g first h)
+member_is disk history g first h are starts =
+    let s = seen_from disk history h are.0 in
+    record { content = s.content; within = s.active; active = s.holds; hard = s.hard; first = refl; starts = starts; moved = refl }
+
+members_are : (disk : Disk) (history : List Event) (g : Gstate) (hs : List Header) → AreHeaders disk history hs → AreMembers disk g false (pairs_on disk hs) (members_in g false hs)
+members_are disk history g [] are = tt
+members_are disk history g (h ∷ hs) are = (member_is disk history g false h (are.0, tt) (λ e. absurd (cc)), members_are disk history g hs are.1)
+
+abbrev Starts : List Pair → Type 0
+Starts [] = Unit {0}
+Starts (p ∷ ps) = starts_with_superblock p.content.slots ≡ true
+
+described : (disk : Disk) (history : List Event) (g : Gstate) (hs : List Header) → AreHeaders disk history hs → Starts (pairs_on disk hs) → AreMembers disk g true (pairs_on disk hs) (members_in g true hs)
+described disk history g [] are starts = tt
+described disk history g (h ∷ hs) are starts = (member_is disk history g true h (are.0, tt) (λ e. starts), members_are disk history g hs are.1)
+
+headers_drop : (disk : Disk) (history : List Event) (n : ℕ) (hs : List Header) → AreHeaders disk history hs → AreHeaders disk history (drop n hs)
+headers_drop disk history zero hs are = are
+headers_drop disk history (suc n) [] are = tt
+headers_drop disk history (suc n) (h ∷ hs) are = headers_drop disk history n hs are.1
+
+-- ---- where directories begin
+
+abbrev begins_of : Bool → List Pair → List (ℕ × ℕ)
+begins_of begins [] = []
+begins_of begins (p ∷ ps) = cond begins (p.at ∷ begins_of (not (is_hard p.content.tail)) ps) (begins_of (not (is_hard p.content.tail)) ps)
+
+begins_seen : (disk : Disk) (history : List Event) (begins : Bool) (hs : List Header) → AreHeaders disk history hs → begins_in begins hs ≡ begins_of begins (pairs_on disk hs)
+begins_seen disk history begins [] are = refl
+begins_seen disk history begins (h ∷ hs) are =
+    let next = begins_seen disk history (not (continues h)) hs are.1 ∙ ap (λ (b : Bool). begins_of (not b) (pairs_on disk hs)) (seen_from disk history h are.0).hard in
+    ap (λ (xs : List (ℕ × ℕ)). cond begins (address_in h ∷ xs) xs) next
+
+begins_listed : (g : Gstate) (ps : List Pair) → firsts_of (directories_of g ps) ≡ begins_of true ps
+begins_listed g [] = refl
+begins_listed g (p ∷ []) = refl
+begins_listed g (p ∷ q ∷ qs) = go (is_hard p.content.tail) (directories_of g (q ∷ qs)) (begins_listed g (q ∷ qs))
+  where
+    more : List (ℕ × ℕ)
+    more = begins_of (not (is_hard q.content.tail)) qs
+
+    go : (hard : Bool) (ds : List Listing) → firsts_of ds ≡ q.at ∷ more → firsts_of (joined p.at hard (visible g p) ds) ≡ p.at ∷ begins_of (not hard) (q ∷ qs)
+    go hard [] e = absurd (cc)
+    go true (d ∷ ds) e = ap (λ (xs : List (ℕ × ℕ)). p.at ∷ drop 1 xs) e
+    go false (d ∷ ds) e = ap (λ (xs : List (ℕ × ℕ)). p.at ∷ xs) e
+
+-- ---- the map
+
+owns_from : (sets : BlockSets) (bs : List ℕ) → IsDistinct nat_eq bs → AreUsed sets bs → AreInFlight sets [] → Owns sets bs
+owns_from sets bs distinct used none = record {
+  distinct = distinct;
+  used = λ i b e. (used b).1 (Contains-count bs b (placed_count b bs i e));
+  free = λ b within apart. state b apart (get_or sets b Free) (slice_get-get_or sets b Free within);
+}
+  where
+    nowhere : (b : ℕ) → ((i : ℕ) → slice_get bs i ≡ Some b → ⊥) → Contains bs b → ⊥
+    nowhere b apart has = let i = counted_place b bs (count-Contains bs b has) in apart i.0 i.1
+
+    state : (b : ℕ) → ((i : ℕ) → slice_get bs i ≡ Some b → ⊥) → (s : BlockState) → slice_get sets b ≡ Some s → slice_get sets b ≡ Some Free
+    state b apart Free e = e
+    state b apart InFlight e = absurd (let c = (none b).0 e in let below : c.0 < 0 = c.1 in omega arith)
+    state b apart Used e = absurd (nowhere b apart ((used b).0 e))
+
+-- ---- how many there are
+
+named_below : (n : ℕ) (xs : List ℕ) (q : ℕ) → Each (λ x. x < n) xs → list_any (nat_eq q) xs ≡ true → q < n
+named_below n [] q h e = absurd (cc)
+named_below n (x ∷ xs) q h e = go (nat_eq q x) refl e (named_below n xs q h.1)
+  where
+    go : (b : Bool) → nat_eq q x ≡ b → (b || list_any (nat_eq q) xs) ≡ true → (list_any (nat_eq q) xs ≡ true → q < n) → q < n
+    go true is k next = subst (λ (y : ℕ). y < n) (sym (eqb-true q x is)) h.0
+    go false is k next = next k
+
+blocks_twice : (ps : List Pair) → length (blocks_of ps) ≡ length ps + length ps
+blocks_twice [] = refl
+blocks_twice (p ∷ ps) = let e = blocks_twice ps in omega arith
+
+pairs_few : (disk : Disk) (ps : List Pair) → IsThread (content_at disk) (block_count disk) ps → length ps + length ps ≤ block_count disk
+pairs_few disk ps t =
+    let twice = blocks_twice ps in
+    let most = length-le_from_distinct_below (blocks_of ps) (block_count disk) t.distinct (λ q e. named_below (block_count disk) (blocks_of ps) q (recursion_from_All (λ b. b < block_count disk) (blocks_of ps) t.in_range) e) in
+    omega arith
+
+-- ---- the thread
+
+module _ (disk : Disk) (history : List Event) (hs : List Header) (sets : BlockSets) (g : Gstate) (count : ℕ) (r : IsRead disk history hs sets g) (head : IsHead disk (pairs_on disk hs) count) where
+  abbrev dirs : List Header
+  dirs = drop count hs
+
+  behind : head.p ∷ head.rest ≡ pairs_on disk dirs
+  behind = sym (ap (drop count) head.parts ∙ drop_at head.chain (head.p ∷ head.rest) count head.chain_is) ∙ drop-map (pair_of disk) count hs
+
+  are : AreHeaders disk history dirs
+  are = headers_drop disk history count hs r.kept.each
+
+  starts : Starts (pairs_on disk dirs)
+  starts = subst Starts behind (starts_so head.bytes head.p.content.slots head.head.start)
+
+  chain_behind : superblocks_before (head.chain ++ head.p ∷ head.rest) ≡ length head.chain
+  chain_behind = ap superblocks_before (sym head.parts) ∙ head.before ∙ sym head.chain_is
+
+  places : begins_in true dirs ≡ firsts_of (directories_in (head.chain ++ head.p ∷ head.rest))
+  places =
+      begins_seen disk history true dirs are ∙ ap (begins_of true) (sym behind)
+      ∙ sym (begins_listed (gstate_of (head.chain ++ head.p ∷ head.rest)) (head.p ∷ head.rest))
+      ∙ ap (λ (qs : List Pair). firsts_of (directories_of (gstate_of (head.chain ++ head.p ∷ head.rest)) qs)) (sym (pairs_behind head.chain (head.p ∷ head.rest) chain_behind))
+
+  global : g ≡ gstate_of (head.chain ++ head.p ∷ head.rest)
+  global = r.global ∙ ap gstate_of head.parts
+
+  pub known_thread : IsThreadOf disk sets g dirs head.chain head.p head.rest
+  known_thread = record {
+    thread = subst (IsThread (content_at disk) (block_count disk)) head.parts r.thread;
+    chain_is = chain_behind;
+    sets_len = r.kept.size;
+    owns = subst (λ qs. Owns sets (blocks_of qs)) head.parts (owns_from sets (blocks_of (pairs_on disk hs)) r.kept.distinct r.used r.none_in_flight);
+    described = subst (λ qs. AreMembers disk (gstate_of (head.chain ++ head.p ∷ head.rest)) true qs (members_in g true dirs)) (sym behind)
+        (subst (λ s. AreMembers disk s true (pairs_on disk dirs) (members_in g true dirs)) global (described disk history g dirs are starts));
+    places = places;
+    sync_is = ap (λ (s : Gstate). s.sync) (sym global);
+  }
+
+  pub directories_are : block_count disk < 2 ^ 32 → AreDirectories disk sets g dirs
+  directories_are small = record {
+    few = (let most = pairs_few disk (pairs_on disk hs) r.thread in let len = length-map hs (pair_of disk) in let fewer = length-drop count hs in omega arith);
+    apart = begins_distinct disk dirs (subst (λ qs. IsDistinct nat_eq (blocks_of qs)) behind (distinct_right head.chain (head.p ∷ head.rest) (subst (λ qs. IsDistinct nat_eq (blocks_of qs)) head.parts r.kept.distinct)));
+    known = (head.chain, head.p, head.rest, known_thread);
+  }

@@ -1,0 +1,122 @@
+-- Blocks can be marked one by one exactly where no block is owned twice.
+use Rattle.std.proofs.Common.{Bool, true, false, cond, eqb-true, ℕ, zero, suc, ◌≡◌, ◌≤◌, ◌+◌, ◌<◌, ⊎_elim, List, [], ◌∷◌, ◌++◌, length, set, Some, refl, sym, ap, subst, ◌∙◌, arith, slice_get, nat_eq, append_assoc, append-nil}
+use Rattle.std.specs.Prelude.{All, Contains}
+use Rattle.std.specs.List.{IsDistinct}
+use Rattle.std.proofs.lemmas.Bool.{cases_eq}
+use Rattle.std.proofs.lemmas.List.{get_or-set_same, get_or-set_other, length-set}
+use Rattle.std.proofs.lemmas.List.Elements.{All-head, All-tail}
+use Rattle.std.proofs.lemmas.Option.{same_Some, slice_get_within, slice_get-get_or, get_or_from_slice_get}
+use Rattle.lfs_model.specs.BlockSets.{AreInFlight, AreUsed, BlockState, BlockSets, IsFree, IsUsed}
+use Rattle.lfs_model.specs.BlockSets.BlockState.{Free, InFlight, Used}
+use Rattle.lfs_model.proofs.BlockSets.{Contains-count, count-Contains}
+use Rattle.lfs_model.proofs.Counts.{count, count_here}
+use Rattle.lfs_mount.specs.Accepted.{HasOnly}
+use Rattle.lfs_mount.proofs.ReadCounts.{marks_length}
+use Rattle.lfs_mount.specs.Marking.{Marks, Owns}
+use Rattle.lfs_mount.proofs.Found.{get_left, get_right, Part, left, right, part}
+use Rattle.lfs_mount.proofs.Searches.{place_once, distinct_by_places}
+
+one_owned : (sets : BlockSets) (bs : List ℕ) (b : ℕ) → Owns sets bs → IsFree sets b → Owns (set sets b Used) (bs ++ b ∷ [])
+one_owned sets bs b h free = record {
+  distinct = distinct_by_places (bs ++ b ∷ []) (λ i m x e f. once i m x (part bs (b ∷ []) i x e) (part bs (b ∷ []) m x f));
+  used = λ i x e. each i x (part bs (b ∷ []) i x e);
+  free = λ x within none. ⊎_elim
+      (λ is. absurd (none (length bs + 0) (get_right bs (b ∷ []) 0 x (ap (λ (y : ℕ). Some y) (sym is)))))
+      (λ ne. stays x Free ne (h.free x (omega (arith, within, length-set sets b Used)) (λ i e. none i (get_left bs (b ∷ []) i x e))))
+      (cases_eq x b);
+}
+  where
+    lt : b < length sets
+    lt = slice_get_within sets b Free free
+
+    here : slice_get (set sets b Used) b ≡ Some Used
+    here = slice_get-get_or (set sets b Used) b Free (omega (arith, lt, length-set sets b Used)) ∙ ap (λ (y : BlockState). Some y) (get_or-set_same sets b Used Free lt)
+
+    stays : (x : ℕ) (s : BlockState) → (x ≡ b → ⊥) → slice_get sets x ≡ Some s → slice_get (set sets b Used) x ≡ Some s
+    stays x s ne e = slice_get-get_or (set sets b Used) x Free (omega (arith, slice_get_within sets x s e, length-set sets b Used))
+        ∙ ap (λ (y : BlockState). Some y) (get_or-set_other sets b x Used Free ne ∙ get_or_from_slice_get sets x s Free e)
+
+    fresh : (i : ℕ) → slice_get bs i ≡ Some b → ⊥
+    fresh i e = absurd (let clash : Some Free ≡ Some Used = sym free ∙ h.used i b e in cc)
+
+    last : (j x : ℕ) → slice_get (b ∷ []) j ≡ Some x → (j ≡ 0) × (x ≡ b)
+    last zero x e = (refl, sym (same_Some b x e))
+    last (suc j) x e = absurd (cc)
+
+    once : (i m x : ℕ) → Part bs (b ∷ []) i x → Part bs (b ∷ []) m x → i ≡ m
+    once i m x (left e) (left f) = place_once bs h.distinct i m x e f
+    once i m x (left e) (right j p f) = absurd (fresh i (e ∙ ap (λ (y : ℕ). Some y) (last j x f).1))
+    once i m x (right j p f) (left e) = absurd (fresh m (e ∙ ap (λ (y : ℕ). Some y) (last j x f).1))
+    once i m x (right j p e) (right k q f) = let a = (last j x e).0 in let c = (last k x f).0 in omega arith
+
+    each : (i x : ℕ) → Part bs (b ∷ []) i x → slice_get (set sets b Used) x ≡ Some Used
+    each i x (left e) = ⊎_elim (λ is. subst (λ w. slice_get (set sets b Used) w ≡ Some Used) (sym is) here) (λ ne. stays x Used ne (h.used i x e)) (cases_eq x b)
+    each i x (right j p e) = subst (λ w. slice_get (set sets b Used) w ≡ Some Used) (sym (last j x e).1) here
+
+-- blocks that were marked are owned, and none of them twice
+pub owned_more : (sets : BlockSets) (bs more : List ℕ) (new : BlockSets) → Owns sets bs → Marks sets more new → Owns new (bs ++ more)
+owned_more sets bs [] new h e = subst (λ xs. Owns new xs) (sym (append-nil bs)) (subst (λ (s : BlockSets). Owns s bs) e h)
+owned_more sets bs (b ∷ more) new h (free, marks) = subst (λ xs. Owns new xs) (append_assoc bs (b ∷ []) more) (owned_more (set sets b Used) (bs ++ b ∷ []) more new (one_owned sets bs b h free) marks)
+
+not_owned : (bs : List ℕ) (b : ℕ) (more : List ℕ) → IsDistinct nat_eq (bs ++ b ∷ more) → (i : ℕ) → slice_get bs i ≡ Some b → ⊥
+not_owned bs b more distinct i e =
+    let same = place_once (bs ++ b ∷ more) distinct i (length bs + 0) b (get_left bs (b ∷ more) i b e) (get_right bs (b ∷ more) 0 b refl) in
+    let lt = slice_get_within bs i b e in
+    absurd (omega arith)
+
+-- and blocks that no one owns can be marked
+pub can_mark : (sets : BlockSets) (bs more : List ℕ) → Owns sets bs → All (λ b. b < length sets) more → IsDistinct nat_eq (bs ++ more) → (new : BlockSets) × Marks sets more new
+can_mark sets bs [] h within distinct = (sets, refl)
+can_mark sets bs (b ∷ more) h within distinct =
+    let apart : (i : ℕ) → slice_get bs i ≡ Some b → ⊥ = not_owned bs b more distinct in
+    let free = h.free b (All-head (λ x. x < length sets) b more within) apart in
+    let rest = can_mark (set sets b Used) (bs ++ b ∷ []) more (one_owned sets bs b h free)
+    (subst (λ n. All (λ x. x < n) more) (sym (length-set sets b Used)) (All-tail (λ x. x < length sets) b more within))
+    (subst (IsDistinct nat_eq) (sym (append_assoc bs (b ∷ []) more)) distinct) in
+    (rest.0, (free, rest.1))
+
+-- ---- which blocks a map has
+
+pub counted_place : (b : ℕ) (bs : List ℕ) → 1 ≤ count b bs → (i : ℕ) × (slice_get bs i ≡ Some b)
+counted_place b [] some = absurd (omega arith)
+counted_place b (x ∷ bs) some = go (nat_eq b x) refl some (counted_place b bs)
+  where
+    go : (t : Bool) → nat_eq b x ≡ t → 1 ≤ cond t 1 0 + count b bs → (1 ≤ count b bs → (i : ℕ) × (slice_get bs i ≡ Some b)) → (i : ℕ) × (slice_get (x ∷ bs) i ≡ Some b)
+    go true e k next = (0, ap (λ (y : ℕ). Some y) (sym (eqb-true b x e)))
+    go false e k next = let i = next (omega arith) in (suc i.0, i.1)
+
+pub placed_count : (b : ℕ) (bs : List ℕ) (i : ℕ) → slice_get bs i ≡ Some b → 1 ≤ count b bs
+placed_count b [] i e = absurd (cc)
+placed_count b (x ∷ bs) zero e = let h = count_here b bs in subst (λ (y : ℕ). 1 ≤ count b (y ∷ bs)) (sym (same_Some x b e)) (omega arith)
+placed_count b (x ∷ bs) (suc i) e = let h = placed_count b bs i e in omega arith
+
+module _ (sets : BlockSets) (bs cs : List ℕ) (owns : Owns sets bs) (same : (b : ℕ) → count b cs ≡ count b bs) where
+  used_if : (b : ℕ) → Contains cs b → IsUsed sets b
+  used_if b c = let i = counted_place b bs (let k = count-Contains cs b c in let e = same b in omega arith) in owns.used i.0 b i.1
+
+  free_if : (b : ℕ) → b < length sets → count b bs ≡ 0 → IsFree sets b
+  free_if b within none = owns.free b within (λ i e. absurd (let h = placed_count b bs i e in omega arith))
+
+  in_list : (b : ℕ) (s : BlockState) → slice_get sets b ≡ Some s → (s ≡ Free → ⊥) → 1 ≤ count b bs
+  in_list b s e taken = go (count b bs) refl
+    where
+      go : (n : ℕ) → count b bs ≡ n → 1 ≤ n
+      go zero k = absurd (taken (same_Some s Free (sym e ∙ free_if b (slice_get_within sets b s e) k)))
+      go (suc n) k = omega arith
+
+  pub are_used : AreUsed sets cs
+  are_used b = (λ u. Contains-count cs b (let k = in_list b Used u (λ e. absurd (cc)) in let e = same b in omega arith), used_if b)
+
+  pub none_flies : AreInFlight sets []
+  none_flies b = (
+    λ flies. absurd (
+        let i = counted_place b bs (in_list b InFlight flies (λ e. absurd (cc))) in
+        let clash : Some InFlight ≡ Some Used = sym flies ∙ owns.used i.0 b i.1 in cc),
+    λ (none : Contains [] b). absurd (let below : none.0 < 0 = none.1 in omega arith),
+  )
+
+-- the blocks that were there and those that were marked, in any order
+pub has_only : (old new : BlockSets) (bs more cs : List ℕ) → Owns old bs → Marks old more new → ((b : ℕ) → count b cs ≡ count b (bs ++ more)) → HasOnly old new cs
+has_only old new bs more cs owns marks same =
+    let all = owned_more old bs more new owns marks in
+    record { len = marks_length more old new marks; used = are_used new (bs ++ more) cs all same; none_in_flight = none_flies new (bs ++ more) cs all same }

@@ -1,0 +1,264 @@
+-- Pairs that can be taken keep the rules, and what is known of them draws the directories.
+use Rattle.std.proofs.Common.{ℕ, zero, suc, ◌≡◌, ◌==◌, ◌&&◌, not, Bool, true, false, cond, List, [], ◌∷◌, map, drop, remove, filter, slice_get, Option, Some, None, is_some, refl, sym, ap, ap₂, subst, ◌∙◌, arith, option_and_then}
+use Rattle.std.specs.Prelude.{All}
+use Rattle.std.specs.List.{filter_map, cons_option}
+use Rattle.std.proofs.lemmas.Option.{same_Some}
+use Rattle.std.proofs.lemmas.List.Elements.{All-head, All-tail}
+use Rattle.lfs_model.specs.Disk.{Disk, block_at}
+use Rattle.lfs_model.specs.Log.{log_entries}
+use Rattle.lfs_model.specs.Names.{Name}
+use Rattle.lfs_model.specs.BlockSets.{BlockSets}
+use Rattle.lfs_model.specs.Content.{RawSlot, RawContent, complete_all, completed, content_after_all, no_content}
+use Rattle.lfs_model.specs.Slots.{Slot, Gstate, is_superblock, same_pair}
+use Rattle.lfs_model.specs.Thread.{Pair, starts_with_superblock, unmoved, visible, is_hard}
+use Rattle.lfs_model.specs.View.{IsEntry}
+use Rattle.lfs_model.proofs.Completed.{AreComplete, complete_parts, complete_remove, completed_parts}
+use Rattle.lfs_model.proofs.Counts.{Each}
+use Rattle.lfs_model.proofs.Superblocks.{entry_is_other}
+use Rattle.lfs_mount.specs.Reaching.{Vertex, Graph}
+use Rattle.lfs_mount.specs.Entries.{Entry, entry_of, entry_in, with_entries, with_entry, nothing_known}
+use Rattle.lfs_mount.specs.Scanned.{scanned}
+use Rattle.lfs_mount.specs.Marking.{MarksLists, list_of, lists_in}
+use Rattle.lfs_mount.specs.Taken.{Takes, unmoved_of, behind_superblock, kept_of}
+use Rattle.lfs_mount.specs.Described.{moved_in, IsMember, AreMembers}
+use Rattle.lfs_mount.specs.Passed.{in_hand, ended, Passes}
+use Rattle.lfs_mount.specs.declared.pass.Member.{Member}
+use Rattle.std.proofs.Math.Seq.{drop-nil}
+use Rattle.std.specs.List.{flat_map}
+use Rattle.lfs_model.specs.Disk.{block_count}
+use Rattle.lfs_model.specs.Content.{content_at}
+use Rattle.lfs_model.specs.Slots.{Tail}
+use Rattle.lfs_model.specs.Thread.{anchor, next_of, Links, IsThread, gstate_of, superblocks_before, directory_pairs, directories_of}
+use Rattle.lfs_model.specs.View.{directories_in}
+use Rattle.lfs_model.proofs.Listings.{Ends}
+use Rattle.lfs_mount.specs.Places.{Draws}
+use Rattle.lfs_mount.specs.Directories.{Shows}
+use Rattle.lfs_mount.specs.Entries.{firsts_of}
+use Rattle.lfs_mount.proofs.Runs.{shown_in, vertices, entries_of, Named, thread_drawn}
+use Rattle.lfs_mount.proofs.MarkedLists.{lists_joined}
+use Rattle.lfs_mount.proofs.Scans.{entry_some, scan_some}
+
+-- ---- complete slots, some of them taken away
+
+abbrev pub without : Option ℕ → List Slot → List Slot
+without None slots = slots
+without (Some id) slots = remove slots id
+
+abbrev pub behind : Bool → List Slot → List Slot
+behind false slots = slots
+behind true [] = []
+behind true (s ∷ slots) = slots
+
+-- the slot that goes is an entry
+abbrev pub IsMovedEntry : Option ℕ → List Slot → Type 0
+IsMovedEntry None slots = Unit {0}
+IsMovedEntry (Some id) slots = (t : Slot) × ((slice_get slots id ≡ Some t) × IsEntry t)
+
+some_entry : (o : Option Entry) → is_some o ≡ true → (e : Entry) × (o ≡ Some e)
+some_entry None e = absurd (cc)
+some_entry (Some x) e = (x, refl)
+
+entry_at : (raws : List RawSlot) (slots : List Slot) (id : ℕ) → complete_all raws ≡ Some slots → is_some (option_and_then {U = Entry} entry_in (slice_get raws id)) ≡ true
+    → (t : Slot) × ((slice_get slots id ≡ Some t) × IsEntry t)
+entry_at [] slots id c e = absurd (cc)
+entry_at (r ∷ raws) slots zero c e =
+    let p = complete_parts r raws slots c in
+    let x = some_entry (entry_in r) e in
+    let h = entry_some r x.0 x.1 in
+    (h.slot, (ap (λ ss. slice_get ss 0) p.all_are ∙ (sym p.is_first ∙ h.is), h.entry))
+entry_at (r ∷ raws) slots (suc id) c e =
+    let p = complete_parts r raws slots c in
+    let x = entry_at raws p.others id p.are_others e in
+    (x.0, (ap (λ ss. slice_get ss (suc id)) p.all_are ∙ x.1.0, x.1.1))
+
+pub record IsWithout (moved : Option ℕ) (slots : List Slot) (raws : List RawSlot) : Type 0 where
+  pub are : complete_all raws ≡ Some (without moved slots)
+  pub entry : IsMovedEntry moved slots
+
+pub without_moved : (moved : Option ℕ) (raws kept : List RawSlot) (slots : List Slot) → complete_all raws ≡ Some slots → unmoved_of moved raws ≡ Some kept → IsWithout moved slots kept
+without_moved None raws kept slots c e = record { are = ap complete_all (sym (same_Some raws kept e)) ∙ c; entry = tt }
+without_moved (Some id) raws kept slots c e = go (is_some (option_and_then {U = Entry} entry_in (slice_get raws id))) refl e
+  where
+    go : (b : Bool) → is_some (option_and_then {U = Entry} entry_in (slice_get raws id)) ≡ b → cond b (Some (remove raws id)) None ≡ Some kept → IsWithout (Some id) slots kept
+    go true f g = record { are = ap complete_all (sym (same_Some (remove raws id) kept g)) ∙ complete_remove raws slots id c; entry = entry_at raws slots id c f }
+    go false f g = absurd (cc)
+
+pub without_superblock : (first : Bool) (raws kept : List RawSlot) (slots : List Slot) → complete_all raws ≡ Some slots → behind_superblock first raws ≡ Some kept → complete_all kept ≡ Some (behind first slots)
+without_superblock false raws kept slots c e = ap complete_all (sym (same_Some raws kept e)) ∙ c
+without_superblock true [] kept slots c e = absurd (cc)
+without_superblock true (r ∷ raws) kept slots c e =
+    let p = complete_parts r raws slots c in
+    ap complete_all (sym (same_Some raws kept e)) ∙ p.are_others ∙ ap (λ ss. Some (behind true ss)) (sym p.all_are)
+
+-- ---- what is visible
+
+all_visible : (slots : List Slot) → All IsEntry slots → filter (λ s. not (is_superblock s)) slots ≡ slots
+all_visible [] h = refl
+all_visible (s ∷ slots) h =
+    ap (λ b. cond (not b) (s ∷ filter (λ x. not (is_superblock x)) slots) (filter (λ x. not (is_superblock x)) slots)) (entry_is_other s (All-head IsEntry s slots h))
+    ∙ ap (λ ss. s ∷ ss) (all_visible slots (All-tail IsEntry s slots h))
+
+starts_still : (slots : List Slot) (id : ℕ) (t : Slot) → starts_with_superblock slots ≡ true → slice_get slots id ≡ Some t → IsEntry t → starts_with_superblock (remove slots id) ≡ true
+starts_still [] id t s e h = absurd (cc)
+starts_still (x ∷ slots) zero t s e h = absurd (let other = entry_is_other t h in let same = ap is_superblock (same_Some x t e) in let clash : true ≡ false = sym s ∙ same ∙ other in cc)
+starts_still (x ∷ slots) (suc id) t s e h = s
+
+pub starts_without : (moved : Option ℕ) (slots : List Slot) → IsMovedEntry moved slots → starts_with_superblock slots ≡ true → starts_with_superblock (without moved slots) ≡ true
+starts_without None slots h s = s
+starts_without (Some id) slots (t, (e, h)) s = starts_still slots id t s e h
+
+pub visible_behind : (first : Bool) (slots : List Slot) → (first ≡ true → starts_with_superblock slots ≡ true) → All IsEntry (behind first slots) → filter (λ s. not (is_superblock s)) slots ≡ behind first slots
+visible_behind false slots s h = all_visible slots h
+visible_behind true [] s h = refl
+visible_behind true (x ∷ slots) s h =
+    ap (λ b. cond (not b) (x ∷ filter (λ y. not (is_superblock y)) slots) (filter (λ y. not (is_superblock y)) slots)) (s refl) ∙ all_visible slots h
+
+pub unmoved-without : (g : Gstate) (p : Pair) → unmoved g p ≡ without (moved_in g p) p.content.slots
+unmoved-without g p = go (g.kind == 0x4ff && same_pair g.pair p.at)
+  where
+    go : (b : Bool) → cond b (remove p.content.slots g.id) p.content.slots ≡ without (cond b (Some g.id) None) p.content.slots
+    go true = refl
+    go false = refl
+
+-- ---- the lists in slots
+
+some_parts : {X : Type 0} (f : Entry → Option X) (y : X) (o : Option Entry) → option_and_then f o ≡ Some y → (x : Entry) × ((o ≡ Some x) × (f x ≡ Some y))
+some_parts f y None e = absurd (cc)
+some_parts f y (Some x) e = (x, (refl, e))
+
+one_list : (r : RawSlot) (raws : List RawSlot) (slots : List Slot) (p : AreComplete r raws slots) (Q : Entry → Type 0) → ((x : Entry) → Q x → lists_in raws ≡ filter_map (λ s. list_of (entry_of s)) p.others)
+    → (x : Entry) × ((entry_in r ≡ Some x) × Q x) → lists_in (r ∷ raws) ≡ filter_map (λ s. list_of (entry_of s)) slots
+one_list r raws slots p Q others (x, (f, q)) =
+    let h = entry_some r x f in
+    ap₂ (λ o ls. cons_option (option_and_then list_of o) ls) f (others x q)
+    ∙ ap (λ (y : Entry). cons_option (list_of y) (filter_map (λ s. list_of (entry_of s)) p.others)) (sym h.same ∙ ap entry_of (same_Some h.slot p.first (sym h.is ∙ p.is_first)))
+    ∙ ap (filter_map (λ s. list_of (entry_of s))) (sym p.all_are)
+
+pub same_lists : (firsts : List (ℕ × ℕ)) (known new : Name × Vertex) (raws : List RawSlot) (slots : List Slot) → scanned firsts known raws ≡ Some new → complete_all raws ≡ Some slots
+    → lists_in raws ≡ filter_map (λ s. list_of (entry_of s)) slots
+same_lists firsts known new [] slots e c = ap (filter_map (λ s. list_of (entry_of s))) (same_Some [] slots c)
+same_lists firsts known new (r ∷ raws) slots e c =
+    let p = complete_parts r raws slots c in
+    one_list r raws slots p (λ x. scanned firsts (with_entry firsts known x) raws ≡ Some new) (λ x f. same_lists firsts (with_entry firsts known x) new raws p.others f p.are_others)
+    (some_parts (λ x. scanned firsts (with_entry firsts known x) raws) new (entry_in r) e)
+
+-- ---- one pair
+
+abbrev pub lists_of : List Slot → List (ℕ × ℕ)
+lists_of slots = filter_map (λ s. list_of (entry_of s)) slots
+
+pub record IsTaken (disk : Disk) (firsts : List (ℕ × ℕ)) (g : Gstate) (first : Bool) (p : Pair) (known : Name × Vertex) (sets : BlockSets) (new : Name × Vertex) (marked : BlockSets) : Type 0 where
+  pub kept : All IsEntry (behind first (unmoved g p))
+  pub entries : All IsEntry (visible g p)
+  pub known_is : new ≡ with_entries firsts known (map entry_of (visible g p))
+  pub lists : MarksLists disk sets (lists_of (visible g p)) marked
+  pub moved : IsMovedEntry (moved_in g p) p.content.slots
+
+kept_parts : (m : Member) (raws kept : List RawSlot) → kept_of m raws ≡ Some kept → (mid : List RawSlot) × ((unmoved_of m.moved raws ≡ Some mid) × (behind_superblock m.has_superblock mid ≡ Some kept))
+kept_parts m raws kept e = go (unmoved_of m.moved raws) refl e
+  where
+    go : (o : Option (List RawSlot)) → unmoved_of m.moved raws ≡ o → option_and_then (behind_superblock m.has_superblock) o ≡ Some kept
+        → (mid : List RawSlot) × ((unmoved_of m.moved raws ≡ Some mid) × (behind_superblock m.has_superblock mid ≡ Some kept))
+    go None f h = absurd (cc)
+    go (Some mid) f h = (mid, (f, h))
+
+-- what the pair's active block holds is the pair's content
+pub held_slots : (disk : Disk) (g : Gstate) (first : Bool) (p : Pair) (m : Member) (held : RawContent) → IsMember disk g first p m
+    → content_after_all no_content (log_entries (block_at disk m.active)) ≡ Some held → complete_all held.slots ≡ Some p.content.slots
+held_slots disk g first p m held h e =
+    (completed_parts held p.content
+    (ap (option_and_then completed) (sym (ap (option_and_then (λ block. content_after_all no_content (log_entries block))) h.active ∙ e)) ∙ h.content)).slots
+
+pub taken_rules : (disk : Disk) (firsts : List (ℕ × ℕ)) (g : Gstate) (first : Bool) (p : Pair) (m : Member) (known : Name × Vertex) (sets : BlockSets) (new : Name × Vertex) (marked : BlockSets)
+    → IsMember disk g first p m → Takes disk firsts m known sets new marked → IsTaken disk firsts g first p known sets new marked
+taken_rules disk firsts g first p m known sets new marked h t =
+    let all = held_slots disk g first p m t.held h t.content in
+    let parts = kept_parts m t.held.slots t.entries t.kept in
+    let w = without_moved (moved_in g p) t.held.slots parts.0 p.content.slots all (ap (λ o. unmoved_of o t.held.slots) (sym h.moved) ∙ parts.1.0) in
+    let are = without_superblock first parts.0 t.entries (without (moved_in g p) p.content.slots) w.are (ap (λ b. behind_superblock b parts.0) (sym h.first) ∙ parts.1.1) in
+    let s = scan_some firsts known t.entries new t.scan in
+    let same : s.slots ≡ behind first (without (moved_in g p) p.content.slots) = same_Some s.slots (behind first (without (moved_in g p) p.content.slots)) (sym s.are ∙ are) in
+    let seen : behind first (without (moved_in g p) p.content.slots) ≡ visible g p =
+    sym (visible_behind first (without (moved_in g p) p.content.slots) (λ e. starts_without (moved_in g p) p.content.slots w.entry (h.starts e)) (subst (All IsEntry) same s.entries))
+    ∙ ap (filter (λ x. not (is_superblock x))) (sym (unmoved-without g p)) in
+    record {
+      kept = subst (λ ss. All IsEntry (behind first ss)) (sym (unmoved-without g p)) (subst (All IsEntry) same s.entries);
+      entries = subst (All IsEntry) (same ∙ seen) s.entries;
+      known_is = s.same ∙ ap (λ ss. with_entries firsts known (map entry_of ss)) (same ∙ seen);
+      lists = subst (λ ls. MarksLists disk sets ls marked) (same_lists firsts known new t.entries s.slots t.scan s.are ∙ ap (filter_map (λ x. list_of (entry_of x))) (same ∙ seen)) t.lists;
+      moved = w.entry;
+    }
+
+-- ---- all pairs
+
+-- the slots that are taken are entries; the first pair has the superblock
+abbrev pub HaveEntries : Gstate → Bool → List Pair → Type 0
+HaveEntries g first [] = Unit {0}
+HaveEntries g first (p ∷ ps) = All IsEntry (behind first (unmoved g p)) × HaveEntries g false ps
+
+pub record HavePassed (disk : Disk) (firsts : List (ℕ × ℕ)) (g : Gstate) (first : Bool) (ps : List Pair) (known : Name × Vertex) (sets : BlockSets) (graph : Graph) (end : BlockSets) : Type 0 where
+  pub kept : HaveEntries g first ps
+  pub entries : Each (λ p. All IsEntry (visible g p)) ps
+  pub graph_is : graph ≡ vertices firsts known (map entries_of (shown_in g ps))
+  pub lists : MarksLists disk sets (flat_map (λ p. lists_of (visible g p)) ps) end
+  pub moved : Each (λ p. IsMovedEntry (moved_in g p) p.content.slots) ps
+
+ended-vertices : (hard : Bool) (firsts : List (ℕ × ℕ)) (new : Name × Vertex) (rest : List (Bool × List Entry))
+    → ended hard new (vertices firsts (in_hand hard new) rest) ≡ cond hard (vertices firsts new rest) (new.1 ∷ vertices firsts nothing_known rest)
+ended-vertices true firsts new rest = refl
+ended-vertices false firsts new rest = refl
+
+pub passed_rules : (disk : Disk) (firsts : List (ℕ × ℕ)) (g : Gstate) (first : Bool) (ps : List Pair) (ms : List Member) (known : Name × Vertex) (sets : BlockSets) (graph : Graph) (end : BlockSets)
+    → AreMembers disk g first ps ms → Passes disk firsts known sets ms graph end → HavePassed disk firsts g first ps known sets graph end
+passed_rules disk firsts g first [] [] known sets graph end h (e, f) =
+    record { kept = tt; entries = tt; graph_is = e; lists = record { lists = λ k d lt. absurd (omega arith); marked = f }; moved = tt }
+passed_rules disk firsts g first [] (m ∷ ms) known sets graph end h t = absurd h
+passed_rules disk firsts g first (p ∷ ps) [] known sets graph end h t = absurd h
+passed_rules disk firsts g first (p ∷ ps) (m ∷ ms) known sets graph end h (new, mid, rest, (takes, (e, more))) =
+    let one = taken_rules disk firsts g first p m known sets new mid h.0 takes in
+    let others = passed_rules disk firsts g false ps ms (in_hand m.is_hard new) mid rest end h.1 more in
+    let tail : List (Bool × List Entry) = map entries_of (shown_in g ps) in
+    record {
+      kept = (one.kept, others.kept);
+      entries = (one.entries, others.entries);
+      graph_is = e ∙ ap (ended m.is_hard new) others.graph_is ∙ ended-vertices m.is_hard firsts new tail
+          ∙ ap₂ (λ (b : Bool) (n : Name × Vertex). cond b (vertices firsts n tail) (n.1 ∷ vertices firsts nothing_known tail)) h.0.hard one.known_is;
+      lists = lists_joined disk (lists_of (visible g p)) (flat_map (λ q. lists_of (visible g q)) ps) sets mid end one.lists others.lists;
+      moved = (one.moved, others.moved);
+    }
+
+-- ---- the graph
+
+named_all : (g : Gstate) (ps : List Pair) → Each (λ p. All IsEntry (visible g p)) ps → Each Named (shown_in g ps)
+named_all g [] h = tt
+named_all g (p ∷ ps) h = ((λ k d lt. (h.0 k d lt).name), named_all g ps h.1)
+
+pub passed_draws : (disk : Disk) (g : Gstate) (ps : List Pair) (ms : List Member) (sets : BlockSets) (graph : Graph) (end : BlockSets) → Ends ps → AreMembers disk g true ps ms
+    → Passes disk (firsts_of (directories_of g ps)) nothing_known sets ms graph end → Draws (directories_of g ps) graph
+passed_draws disk g ps ms sets graph end ends members passes =
+    let h = passed_rules disk (firsts_of (directories_of g ps)) g true ps ms nothing_known sets graph end members passes in
+    subst (Draws (directories_of g ps)) (sym h.graph_is) (thread_drawn g ps ends (named_all g ps h.entries))
+
+-- the last pair of a thread has no tail
+pub links_end : (at : Option (ℕ × ℕ)) (ps : List Pair) → Links at ps → Ends ps
+links_end at [] h = tt
+links_end at (p ∷ []) h = no_tail p.content.tail h.1
+  where
+    no_tail : (t : Option Tail) → next_of t ≡ None → is_hard t ≡ false
+    no_tail None e = refl
+    no_tail (Some t) e = absurd (cc)
+links_end at (p ∷ q ∷ ps) h = links_end (next_of p.content.tail) (q ∷ ps) h.1
+
+ends_behind : (n : ℕ) (ps : List Pair) → Ends ps → Ends (drop n ps)
+ends_behind zero ps h = h
+ends_behind (suc n) [] h = tt
+ends_behind (suc n) (p ∷ []) h = subst Ends (sym (drop-nil n)) tt
+ends_behind (suc n) (p ∷ q ∷ ps) h = ends_behind n (q ∷ ps) h
+
+pub thread_shows : (disk : Disk) (ps : List Pair) (ms : List Member) (sets : BlockSets) (graph : Graph) (end : BlockSets) → IsThread (content_at disk) (block_count disk) ps
+    → AreMembers disk (gstate_of ps) true (directory_pairs ps) ms → Passes disk (firsts_of (directories_in ps)) nothing_known sets ms graph end → Shows graph (gstate_of ps).sync ps
+thread_shows disk ps ms sets graph end thread members passes = record {
+  distinct = thread.distinct;
+  draws = passed_draws disk (gstate_of ps) (directory_pairs ps) ms sets graph end (ends_behind (superblocks_before ps) ps (links_end (Some anchor) ps thread.links)) members passes;
+  same = refl;
+}

@@ -1,0 +1,123 @@
+-- From the pairs of a thread to its graph, pair by pair from the front: the run of pairs in hand, and the pairs to come.
+use Rattle.std.proofs.Common.{if◌then◌else◌, ℕ, zero, suc, ◌≡◌, Bool, true, false, cond, List, [], ◌∷◌, ◌++◌, length, map, Some, refl, ap, subst, ◌∙◌, slice_get, append_assoc}
+use Rattle.std.specs.Prelude.{All}
+use Rattle.std.proofs.lemmas.Option.{same_Some}
+use Rattle.std.proofs.lemmas.List.{length-map}
+use Rattle.lfs_model.specs.Names.{Name, is_name}
+use Rattle.lfs_model.specs.Slots.{Slot, Gstate}
+use Rattle.lfs_model.specs.Thread.{Pair, Listing, is_hard, visible, joined, directories_of}
+use Rattle.lfs_model.proofs.Counts.{Each}
+use Rattle.lfs_model.proofs.Listings.{Ends}
+use Rattle.lfs_mount.specs.Reaching.{Vertex, Graph}
+use Rattle.lfs_mount.specs.Places.{IsDrawn, Draws}
+use Rattle.lfs_mount.specs.Entries.{Entry, entry_of, firsts_of, with_entries, nothing_known}
+use Rattle.lfs_mount.proofs.Drawn.{IsKnown, known_more, nothing_drawn}
+
+-- ---- the run of pairs in hand, and the pairs to come
+
+-- whether a pair's tail is hard, and its slots
+abbrev pub Shown : Type 0
+Shown = Bool × List Slot
+
+abbrev pub shown_in : Gstate → List Pair → List Shown
+shown_in g ps = map (λ p. (is_hard p.content.tail, visible g p)) ps
+
+-- the slots of each directory, the first one's behind those in hand
+abbrev pub runs : List Slot → List Shown → List (List Slot)
+runs hand [] = []
+runs hand (p ∷ ps) = if p.0 then runs (hand ++ p.1) ps else (hand ++ p.1) ∷ runs [] ps
+
+-- what is known of each directory, the first one's behind what is known so far
+abbrev pub vertices : List (ℕ × ℕ) → Name × Vertex → List (Bool × List Entry) → Graph
+vertices firsts known [] = []
+vertices firsts known (p ∷ ps) =
+    if p.0 then vertices firsts (with_entries firsts known p.1) ps
+    else (with_entries firsts known p.1).1 ∷ vertices firsts nothing_known ps
+
+abbrev pub entries_of : Shown → Bool × List Entry
+entries_of p = (p.0, map entry_of p.1)
+
+abbrev pub AreDrawn : List Listing → List (List Slot) → Graph → Type 0
+AreDrawn ds [] [] = Unit {0}
+AreDrawn ds [] (v ∷ vs) = ⊥
+AreDrawn ds (s ∷ ss) [] = ⊥
+AreDrawn ds (s ∷ ss) (v ∷ vs) = IsDrawn ds s v × AreDrawn ds ss vs
+
+-- ---- the same directories from either end
+
+abbrev slots_in : List Listing → List (List Slot)
+slots_in ds = map (λ d. d.slots) ds
+
+abbrev in_front : List Slot → List (List Slot) → List (List Slot)
+in_front hand [] = []
+in_front hand (s ∷ ss) = (hand ++ s) ∷ ss
+
+nothing_in_front : (ss : List (List Slot)) → in_front [] ss ≡ ss
+nothing_in_front [] = refl
+nothing_in_front (s ∷ ss) = refl
+
+never_empty : (at : ℕ × ℕ) (hard : Bool) (slots : List Slot) (ds : List Listing) → joined at hard slots ds ≡ [] → ⊥
+never_empty at hard slots [] e = absurd (cc)
+never_empty at true slots (d ∷ ds) e = absurd (cc)
+never_empty at false slots (d ∷ ds) e = absurd (cc)
+
+-- one pair more in front of directories
+one_joined : (at : ℕ × ℕ) (hard : Bool) (slots hand : List Slot) (rest : List Shown) (ds : List Listing) → (ds ≡ [] → ⊥)
+    → ((more : List Slot) → runs more rest ≡ in_front more (slots_in ds))
+    → cond hard (runs (hand ++ slots) rest) ((hand ++ slots) ∷ runs [] rest) ≡ in_front hand (slots_in (joined at hard slots ds))
+one_joined at hard slots hand rest [] some next = absurd (some refl)
+one_joined at true slots hand rest (d ∷ ds) some next = next (hand ++ slots) ∙ ap (λ s. s ∷ slots_in ds) (append_assoc hand slots d.slots)
+one_joined at false slots hand rest (d ∷ ds) some next = ap (λ ss. (hand ++ slots) ∷ ss) (next [])
+
+runs_in_front : (g : Gstate) (ps : List Pair) (hand : List Slot) → Ends ps → runs hand (shown_in g ps) ≡ in_front hand (slots_in (directories_of g ps))
+runs_in_front g [] hand ends = refl
+runs_in_front g (p ∷ []) hand ends = ap (λ b. cond b [] ((hand ++ visible g p) ∷ [])) ends
+runs_in_front g (p ∷ q ∷ ps) hand ends =
+    one_joined p.at (is_hard p.content.tail) (visible g p) hand (shown_in g (q ∷ ps)) (directories_of g (q ∷ ps))
+    (never_empty q.at (is_hard q.content.tail) (visible g q) (directories_of g ps)) (λ more. runs_in_front g (q ∷ ps) more ends)
+
+pub directories_from_front : (g : Gstate) (ps : List Pair) → Ends ps → runs [] (shown_in g ps) ≡ map (λ d. d.slots) (directories_of g ps)
+directories_from_front g ps ends = runs_in_front g ps [] ends ∙ nothing_in_front (slots_in (directories_of g ps))
+
+-- ---- what is known of them
+
+abbrev pub Named : Shown → Type 0
+Named p = All (λ s. is_name s.name ≡ true) p.1
+
+pub runs_drawn : (ds : List Listing) (ps : List Shown) (hand : List Slot) (known : Name × Vertex) → Each Named ps → IsKnown ds hand known
+    → AreDrawn ds (runs hand ps) (vertices (firsts_of ds) known (map entries_of ps))
+runs_drawn ds [] hand known named h = tt
+runs_drawn ds ((true, slots) ∷ ps) hand known named h =
+    runs_drawn ds ps (hand ++ slots) (with_entries (firsts_of ds) known (map entry_of slots)) named.1 (known_more ds hand slots known named.0 h)
+runs_drawn ds ((false, slots) ∷ ps) hand known named h =
+    ((known_more ds hand slots known named.0 h).drawn, runs_drawn ds ps [] nothing_known named.1 (nothing_drawn ds))
+
+-- ---- the graph
+
+drawn_len : (ds : List Listing) (ss : List (List Slot)) (graph : Graph) → AreDrawn ds ss graph → length graph ≡ length ss
+drawn_len ds [] [] h = refl
+drawn_len ds [] (v ∷ vs) h = absurd h
+drawn_len ds (s ∷ ss) [] h = absurd h
+drawn_len ds (s ∷ ss) (v ∷ vs) h = ap (λ n. suc n) (drawn_len ds ss vs h.1)
+
+drawn_at : (ds es : List Listing) (graph : Graph) → AreDrawn ds (slots_in es) graph → (i : ℕ) (d : Listing) (v : Vertex) → slice_get es i ≡ Some d → slice_get graph i ≡ Some v → IsDrawn ds d.slots v
+drawn_at ds [] graph h i d v e f = absurd (cc)
+drawn_at ds (x ∷ es) [] h i d v e f = absurd h
+drawn_at ds (x ∷ es) (w ∷ vs) h zero d v e f =
+    subst (IsDrawn ds d.slots) (same_Some w v f) (subst (λ (y : Listing). IsDrawn ds y.slots w) (same_Some x d e) h.0)
+drawn_at ds (x ∷ es) (w ∷ vs) h (suc i) d v e f = drawn_at ds es vs h.1 i d v e f
+
+pub draws_from : (ds : List Listing) (graph : Graph) → AreDrawn ds (map (λ d. d.slots) ds) graph → Draws ds graph
+draws_from ds graph h = record {
+  len = drawn_len ds (slots_in ds) graph h ∙ length-map ds (λ (d : Listing). d.slots);
+  each = drawn_at ds ds graph h;
+}
+
+-- pairs taken from the front draw the directories
+pub thread_drawn : (g : Gstate) (ps : List Pair) → Ends ps → Each Named (shown_in g ps)
+    → Draws (directories_of g ps) (vertices (firsts_of (directories_of g ps)) nothing_known (map entries_of (shown_in g ps)))
+thread_drawn g ps ends named =
+    draws_from (directories_of g ps) (vertices (firsts_of (directories_of g ps)) nothing_known (map entries_of (shown_in g ps)))
+    (subst (λ ss. AreDrawn (directories_of g ps) ss (vertices (firsts_of (directories_of g ps)) nothing_known (map entries_of (shown_in g ps))))
+    (directories_from_front g ps ends)
+    (runs_drawn (directories_of g ps) (shown_in g ps) [] nothing_known named (nothing_drawn (directories_of g ps))))

@@ -1,0 +1,235 @@
+-- What a scan of slots finds: they are entries of a directory, or they aren't.
+use Rattle.std.proofs.Common.{ℕ, ◌≡◌, ◌/◌, ◌^◌, ◌<◌, ◌==◌, ◌&&◌, ◌||◌, ⊎_elim, Bool, true, false, cond, List, [], ◌∷◌, length, map, Option, Some, None, refl, sym, ap, ap₂, subst, subst₂, ◌∙◌, arith, eqb-true, eq-eqb, option_and_then, option_map, true≢false}
+use Rattle.std.specs.Prelude.{All}
+use Rattle.std.proofs.lemmas.Bool.{and_parts, or_cases, ne_eqb}
+use Rattle.std.proofs.lemmas.List.Elements.{All-head, All-tail, All-cons}
+use Rattle.std.proofs.lemmas.Option.{same_Some}
+use Rattle.lfs_model.specs.Names.{Name, is_name}
+use Rattle.lfs_model.specs.Tag.{tag_with, kind_of, len_of, class_of}
+use Rattle.lfs_model.specs.Slots.{Slot, File, Directory, Superblock}
+use Rattle.lfs_model.specs.Content.{is_in_table, removes, has_any_length, has_no_bytes, has_eight_bytes, superblock_name_type, create_type, delete_type, soft_tail_type, hard_tail_type, move_state_type, RawSlot, complete, complete_all, kind_named, struct_typed, pair_at, file_name_type, directory_name_type, inline_struct_type, ctz_struct_type, directory_struct_type}
+use Rattle.lfs_model.specs.Logged.{IsPart, IsPartIfSome, HasParts, HaveParts}
+use Rattle.lfs_model.specs.View.{IsEntry, Suits}
+use Rattle.lfs_model.proofs.WrittenAnew.{kind_of-tag_with, len_of-tag_with}
+use Rattle.lfs_model.proofs.Completed.{AreComplete, complete_parts, complete_cons}
+use Rattle.lfs_mount.specs.Reaching.{Vertex}
+use Rattle.lfs_mount.specs.Entries.{Stand, InSlot, InList, Below, stand_of, Entry, entry_of, stand_in, entry_in, with_entry, with_entries}
+use Rattle.lfs_mount.specs.Scanned.{scanned}
+
+-- ---- one slot that is an entry
+
+data Suited (kind : ℕ) (part : ℕ × List ℕ) (stand : Stand) : Type 0 where
+  inline : kind ≡ file_name_type → part.0 ≡ inline_struct_type → stand ≡ InSlot → Suited kind part stand
+  list : kind ≡ file_name_type → part.0 ≡ ctz_struct_type → stand ≡ InList (pair_at part.1).0 (pair_at part.1).1 → Suited kind part stand
+  below : kind ≡ directory_name_type → part.0 ≡ directory_struct_type → stand ≡ Below (pair_at part.1) → Suited kind part stand
+
+suited : (kind : ℕ) (part : ℕ × List ℕ) (stand : Stand) → stand_in kind part ≡ Some stand → Suited kind part stand
+suited kind part stand e =
+    go (kind == file_name_type && part.0 == inline_struct_type) (kind == file_name_type && part.0 == ctz_struct_type) (kind == directory_name_type && part.0 == directory_struct_type) (length part.1 == 8) refl refl refl e
+  where
+    go : (a b c l : Bool) → (kind == file_name_type && part.0 == inline_struct_type) ≡ a → (kind == file_name_type && part.0 == ctz_struct_type) ≡ b
+        → (kind == directory_name_type && part.0 == directory_struct_type) ≡ c
+        → cond a (Some InSlot) (cond b (cond l (Some (InList (pair_at part.1).0 (pair_at part.1).1)) None) (cond c (cond l (Some (Below (pair_at part.1))) None) None)) ≡ Some stand
+        → Suited kind part stand
+    go true b c l f g h is = let w = and_parts (kind == file_name_type) (part.0 == inline_struct_type) f in
+        inline (eqb-true kind file_name_type w.0) (eqb-true part.0 inline_struct_type w.1) (sym (same_Some InSlot stand is))
+    go false true c true f g h is = let w = and_parts (kind == file_name_type) (part.0 == ctz_struct_type) g in
+        list (eqb-true kind file_name_type w.0) (eqb-true part.0 ctz_struct_type w.1) (sym (same_Some (InList (pair_at part.1).0 (pair_at part.1).1) stand is))
+    go false true c false f g h is = absurd (cc)
+    go false false true true f g h is = let w = and_parts (kind == directory_name_type) (part.0 == directory_struct_type) h in
+        below (eqb-true kind directory_name_type w.0) (eqb-true part.0 directory_struct_type w.1) (sym (same_Some (Below (pair_at part.1)) stand is))
+    go false false true false f g h is = absurd (cc)
+    go false false false l f g h is = absurd (cc)
+
+suits_typed : (kind : ℕ) (part : ℕ × List ℕ) (stand : Stand) → Suited kind part stand → Suits (kind_named kind) (struct_typed part.0 part.1) × (stand_of (struct_typed part.0 part.1) ≡ stand)
+suits_typed kind part stand (inline k t is) =
+    (subst₂ Suits (sym (ap kind_named k)) (sym (ap (λ (ty : ℕ). struct_typed ty part.1) t)) tt, ap (λ (ty : ℕ). stand_of (struct_typed ty part.1)) t ∙ sym is)
+suits_typed kind part stand (list k t is) =
+    (subst₂ Suits (sym (ap kind_named k)) (sym (ap (λ (ty : ℕ). struct_typed ty part.1) t)) tt, ap (λ (ty : ℕ). stand_of (struct_typed ty part.1)) t ∙ sym is)
+suits_typed kind part stand (below k t is) =
+    (subst₂ Suits (sym (ap kind_named k)) (sym (ap (λ (ty : ℕ). struct_typed ty part.1) t)) tt, ap (λ (ty : ℕ). stand_of (struct_typed ty part.1)) t ∙ sym is)
+
+pub record Holds (s : RawSlot) (e : Entry) : Type 0 where
+  pub slot : Slot
+  pub is : complete s ≡ Some slot
+  pub entry : IsEntry slot
+  pub same : entry_of slot ≡ e
+
+pub entry_some : (s : RawSlot) (e : Entry) → entry_in s ≡ Some e → Holds s e
+entry_some s e is = go s.name s.struct refl refl is
+  where
+    parts : (n p : ℕ × List ℕ) → s.name ≡ Some n → s.struct ≡ Some p → (b : Bool) → is_name n.1 ≡ b → (o : Option Stand) → stand_in n.0 p ≡ o
+        → cond b (option_map (λ stand. (n.1, stand)) o) None ≡ Some e → Holds s e
+    parts n p f g true h None i is = absurd (cc)
+    parts n p f g true h (Some stand) i is =
+        let both = suits_typed n.0 p stand (suited n.0 p stand i) in
+        record {
+          slot = record { kind = kind_named n.0; name = n.1; struct = struct_typed p.0 p.1; attributes = s.attributes };
+          is = ap₂ (λ (a b : Option (ℕ × List ℕ)). complete (record { name = a; struct = b; attributes = s.attributes })) f g;
+          entry = record { name = h; struct = both.0 };
+          same = ap (λ (st : Stand). (n.1, st)) both.1 ∙ same_Some (n.1, stand) e is;
+        }
+    parts n p f g false h o i is = absurd (cc)
+
+    go : (n p : Option (ℕ × List ℕ)) → s.name ≡ n → s.struct ≡ p
+        → option_and_then (λ name. option_and_then (λ struct. cond (is_name name.1) (option_map (λ stand. (name.1, stand)) (stand_in name.0 struct)) None) p) n ≡ Some e → Holds s e
+    go None p f g is = absurd (cc)
+    go (Some n) None f g is = absurd (cc)
+    go (Some n) (Some p) f g is = parts n p f g (is_name n.1) refl (stand_in n.0 p) refl is
+
+-- ---- one slot that is none
+
+-- what is in the table, no attribute and of none of the other lengths, has 8 bytes
+eight_bytes : (tag : ℕ) → is_in_table tag ≡ true → removes tag ≡ false → has_any_length tag ≡ false → has_no_bytes tag ≡ false → (kind_of tag == move_state_type) ≡ false
+    → (has_eight_bytes tag ≡ true) × (len_of tag ≡ 8)
+eight_bytes tag h a b c d = go (has_eight_bytes tag) (len_of tag == 8) refl refl (ap (λ x. cond x (class_of tag == 3) (cond false true (cond (has_eight_bytes tag) (len_of tag == 8) (cond false (len_of tag == 0) false)))) (sym a) ∙ rest)
+  where
+    rest : cond (removes tag) (class_of tag == 3) (cond false true (cond (has_eight_bytes tag) (len_of tag == 8) (cond false (len_of tag == 0) false))) ≡ true
+    rest = ap₂ (λ x y. cond (removes tag) (class_of tag == 3) (cond x true (cond (has_eight_bytes tag) (len_of tag == 8) (cond y (len_of tag == 0) false)))) (sym b) (sym c)
+        ∙ ap (λ z. cond (removes tag) (class_of tag == 3) (cond (has_any_length tag) true (cond (has_eight_bytes tag) (len_of tag == 8) (cond (has_no_bytes tag) (len_of tag == 0) (z && len_of tag == 12))))) (sym d)
+        ∙ h
+
+    go : (e l : Bool) → has_eight_bytes tag ≡ e → (len_of tag == 8) ≡ l → cond e l (cond false (len_of tag == 0) false) ≡ true → (has_eight_bytes tag ≡ true) × (len_of tag ≡ 8)
+    go true true k f g = (k, eqb-true (len_of tag) 8 f)
+    go true false k f g = absurd (cc)
+    go false l k f g = absurd (cc)
+
+data PartType (type : ℕ) (bytes : List ℕ) : Type 0 where
+  bytes_there : type ≡ inline_struct_type → PartType type bytes
+  pair_there : type ≡ directory_struct_type → length bytes ≡ 8 → PartType type bytes
+  list_there : type ≡ ctz_struct_type → length bytes ≡ 8 → PartType type bytes
+
+part_type : (type : ℕ) (bytes : List ℕ) → IsPart 2 (type, bytes) → PartType type bytes
+part_type type bytes h = go (type == inline_struct_type) refl
+  where
+    of_class : type / 2 ^ 8 ≡ 2
+    of_class = h.of_class
+
+    short : length bytes < 0x3ff
+    short = h.short
+
+    kind : kind_of (tag_with type 0 (length bytes)) ≡ type
+    kind = kind_of-tag_with type 0 (length bytes) (omega arith) (omega arith) (omega arith)
+
+    len : len_of (tag_with type 0 (length bytes)) ≡ length bytes
+    len = len_of-tag_with type 0 (length bytes) (omega arith)
+
+    eight : (type == inline_struct_type) ≡ false → (has_eight_bytes (tag_with type 0 (length bytes)) ≡ true) × (len_of (tag_with type 0 (length bytes)) ≡ 8)
+    eight other = eight_bytes (tag_with type 0 (length bytes)) h.in_table (rw len (ne_eqb (length bytes) 0x3ff (λ e. omega arith)))
+        (rw kind (rw (ne_eqb (type / 2 ^ 8) 3 (λ e. omega arith), ne_eqb type file_name_type (λ e. omega arith), ne_eqb type directory_name_type (λ e. omega arith), other) refl))
+        (rw kind (rw (ne_eqb type create_type (λ e. omega arith), ne_eqb type delete_type (λ e. omega arith)) refl))
+        (rw kind (ne_eqb type move_state_type (λ e. omega arith)))
+
+    five : (type == superblock_name_type || (type == directory_struct_type || (type == ctz_struct_type || (type == soft_tail_type || type == hard_tail_type)))) ≡ true → length bytes ≡ 8 → PartType type bytes
+    five e l = ⊎_elim
+        (λ f. let k = eqb-true type superblock_name_type f in absurd (omega arith))
+        (λ f. ⊎_elim (λ g. pair_there (eqb-true type directory_struct_type g) l)
+        (λ g. ⊎_elim (λ i. list_there (eqb-true type ctz_struct_type i) l)
+        (λ i. ⊎_elim (λ j. let k = eqb-true type soft_tail_type j in absurd (omega arith)) (λ j. let k = eqb-true type hard_tail_type j in absurd (omega arith))
+        (or_cases (type == soft_tail_type) (type == hard_tail_type) i))
+        (or_cases (type == ctz_struct_type) (type == soft_tail_type || type == hard_tail_type) g))
+        (or_cases (type == directory_struct_type) (type == ctz_struct_type || (type == soft_tail_type || type == hard_tail_type)) f))
+        (or_cases (type == superblock_name_type) (type == directory_struct_type || (type == ctz_struct_type || (type == soft_tail_type || type == hard_tail_type))) e)
+
+    go : (b : Bool) → (type == inline_struct_type) ≡ b → PartType type bytes
+    go true e = bytes_there (eqb-true type inline_struct_type e)
+    go false e = let w = eight e in five (subst (λ (k : ℕ). (k == superblock_name_type || (k == directory_struct_type || (k == ctz_struct_type || (k == soft_tail_type || k == hard_tail_type)))) ≡ true) kind w.0) (sym len ∙ w.1)
+
+data NameType (kind : ℕ) : Type 0 where
+  file_there : kind ≡ file_name_type → NameType kind
+  directory_there : kind ≡ directory_name_type → NameType kind
+  other_there : kind_named kind ≡ Superblock → NameType kind
+
+name_type : (kind : ℕ) → NameType kind
+name_type kind = go (kind == file_name_type) (kind == directory_name_type) refl refl
+  where
+    go : (a b : Bool) → (kind == file_name_type) ≡ a → (kind == directory_name_type) ≡ b → NameType kind
+    go true b e f = file_there (eqb-true kind file_name_type e)
+    go false true e f = directory_there (eqb-true kind directory_name_type f)
+    go false false e f = other_there (ap₂ (λ x y. cond x File (cond y Directory Superblock)) e f)
+
+-- a kind and a struct that suit stand for something
+stands : (kind type : ℕ) (bytes : List ℕ) → IsPart 2 (type, bytes) → Suits (kind_named kind) (struct_typed type bytes) → stand_in kind (type, bytes) ≡ None → ⊥
+stands kind type bytes h suits none = go (name_type kind) (part_type type bytes h)
+  where
+    -- the types written out
+    at : (k t : ℕ) (b : Bool) → kind ≡ k → type ≡ t → (length bytes == 8) ≡ b
+        → cond (k == file_name_type && t == inline_struct_type) (Some InSlot)
+        (cond (k == file_name_type && t == ctz_struct_type) (cond b (Some (InList (pair_at bytes).0 (pair_at bytes).1)) None)
+        (cond (k == directory_name_type && t == directory_struct_type) (cond b (Some (Below (pair_at bytes))) None) None)) ≡ None
+    at k t b e f l = ap (λ (x : Bool). cond (k == file_name_type && t == inline_struct_type) (Some InSlot)
+        (cond (k == file_name_type && t == ctz_struct_type) (cond x (Some (InList (pair_at bytes).0 (pair_at bytes).1)) None)
+        (cond (k == directory_name_type && t == directory_struct_type) (cond x (Some (Below (pair_at bytes))) None) None))) (sym l)
+        ∙ ap₂ (λ (x y : ℕ). stand_in x (y, bytes)) (sym e) (sym f) ∙ none
+
+    told : (k t : ℕ) → kind ≡ k → type ≡ t → Suits (kind_named k) (struct_typed t bytes)
+    told k t e f = subst₂ (λ (x y : ℕ). Suits (kind_named x) (struct_typed y bytes)) e f suits
+
+    long : length bytes ≡ 8 → (length bytes == 8) ≡ true
+    long e = eq-eqb (length bytes) 8 e
+
+    go : NameType kind → PartType type bytes → ⊥
+    go (file_there e) (bytes_there f) = absurd (let c = at file_name_type inline_struct_type (length bytes == 8) e f refl in cc)
+    go (file_there e) (pair_there f l) = told file_name_type directory_struct_type e f
+    go (file_there e) (list_there f l) = absurd (let c = at file_name_type ctz_struct_type true e f (long l) in cc)
+    go (directory_there e) (bytes_there f) = told directory_name_type inline_struct_type e f
+    go (directory_there e) (pair_there f l) = absurd (let c = at directory_name_type directory_struct_type true e f (long l) in cc)
+    go (directory_there e) (list_there f l) = told directory_name_type ctz_struct_type e f
+    go (other_there e) p = subst (λ k. Suits k (struct_typed type bytes)) e suits
+
+pub entry_none : (s : RawSlot) (t : Slot) → HasParts s → entry_in s ≡ None → complete s ≡ Some t → IsEntry t → ⊥
+entry_none s t parts none is entry = go s.name s.struct parts.struct none is
+  where
+    below_name : (n p : ℕ × List ℕ) → IsPart 2 p → (b : Bool) → is_name n.1 ≡ b → (o : Option Stand) → stand_in n.0 p ≡ o
+        → cond b (option_map {U = Entry} (λ stand. (n.1, stand)) o) None ≡ None → record { kind = kind_named n.0; name = n.1; struct = struct_typed p.0 p.1; attributes = s.attributes } ≡ t → ⊥
+    below_name n p h true f None g e same = stands n.0 p.0 p.1 h (subst (λ (u : Slot). Suits u.kind u.struct) (sym same) entry.struct) g
+    below_name n p h true f (Some stand) g e same = absurd (cc)
+    below_name n p h false f o g e same = true≢false (sym entry.name ∙ ap (λ (u : Slot). is_name u.name) (sym same) ∙ f)
+
+    go : (n p : Option (ℕ × List ℕ)) → IsPartIfSome 2 p
+        → option_and_then (λ name. option_and_then (λ struct. cond (is_name name.1) (option_map {U = Entry} (λ stand. (name.1, stand)) (stand_in name.0 struct)) None) p) n ≡ None
+        → option_and_then (λ name. option_map (λ struct. record { kind = kind_named name.0; name = name.1; struct = struct_typed struct.0 struct.1; attributes = s.attributes }) p) n ≡ Some t → ⊥
+    go None p h e f = absurd (cc)
+    go (Some n) None h e f = absurd (cc)
+    go (Some n) (Some p) h e f = below_name n p h (is_name n.1) refl (stand_in n.0 p) refl e (same_Some _ t f)
+
+-- ---- all slots of a pair
+
+-- the slots are entries, and this is known then
+pub record IsScanned (firsts : List (ℕ × ℕ)) (known : Name × Vertex) (raws : List RawSlot) (new : Name × Vertex) : Type 0 where
+  pub slots : List Slot
+  pub are : complete_all raws ≡ Some slots
+  pub entries : All IsEntry slots
+  pub same : new ≡ with_entries firsts known (map entry_of slots)
+
+pub scan_some : (firsts : List (ℕ × ℕ)) (known : Name × Vertex) (raws : List RawSlot) (new : Name × Vertex) → scanned firsts known raws ≡ Some new → IsScanned firsts known raws new
+scan_some firsts known [] new e = record { slots = []; are = refl; entries = λ k d lt. absurd (omega arith); same = sym (same_Some known new e) }
+scan_some firsts known (s ∷ raws) new e = go (entry_in s) refl e (λ x. scan_some firsts (with_entry firsts known x) raws new)
+  where
+    go : (o : Option Entry) → entry_in s ≡ o → option_and_then (λ x. scanned firsts (with_entry firsts known x) raws) o ≡ Some new
+        → ((x : Entry) → scanned firsts (with_entry firsts known x) raws ≡ Some new → IsScanned firsts (with_entry firsts known x) raws new) → IsScanned firsts known (s ∷ raws) new
+    go None f g next = absurd (cc)
+    go (Some x) f g next =
+        let h = entry_some s x f in
+        let r = next x g in
+        record {
+          slots = h.slot ∷ r.slots;
+          are = complete_cons s raws h.slot r.slots h.is r.are;
+          entries = All-cons IsEntry h.slot r.slots h.entry r.entries;
+          same = r.same ∙ ap (λ (y : Entry). with_entries firsts (with_entry firsts known y) (map entry_of r.slots)) (sym h.same);
+        }
+
+pub scan_none : (firsts : List (ℕ × ℕ)) (known : Name × Vertex) (raws : List RawSlot) → HaveParts raws → scanned firsts known raws ≡ None → (slots : List Slot) → complete_all raws ≡ Some slots → All IsEntry slots → ⊥
+scan_none firsts known [] parts e slots are entries = absurd (cc)
+scan_none firsts known (s ∷ raws) parts e slots are entries = go (entry_in s) refl e (λ x f. scan_none firsts (with_entry firsts known x) raws parts.1 f p.others p.are_others (All-tail IsEntry p.first p.others all))
+  where
+    p : AreComplete s raws slots
+    p = complete_parts s raws slots are
+
+    all : All IsEntry (p.first ∷ p.others)
+    all = subst (All IsEntry) p.all_are entries
+
+    go : (o : Option Entry) → entry_in s ≡ o → option_and_then (λ x. scanned firsts (with_entry firsts known x) raws) o ≡ None
+        → ((x : Entry) → scanned firsts (with_entry firsts known x) raws ≡ None → ⊥) → ⊥
+    go None f g next = entry_none s p.first parts.0 f p.is_first (All-head IsEntry p.first p.others all)
+    go (Some x) f g next = next x g

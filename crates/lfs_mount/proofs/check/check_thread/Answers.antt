@@ -1,0 +1,58 @@
+use Rattle.std.proofs.Common.{true, ◌++◌, ◌∷◌, ◌<◌, List, Err, length, sym, ap, subst}
+use Rattle.std.specs.Prelude.{All}
+use Rattle.std.proofs.lemmas.Result.{err_from_is_err_and}
+use Rattle.lfs_model.specs.Thread.{gstate_of}
+use Rattle.lfs_thread.specs.Kept.{disk_on}
+use Rattle.lfs_mount.specs.DirectorySeen.{graph_of}
+use Rattle.lfs_mount.specs.Directories.{Shows}
+use Rattle.lfs_mount.specs.declared.pass.Member.{Member}
+use Rattle.lfs_mount.specs.declared.reaching.Directory.{Directory}
+use Rattle.lfs_mount.proofs.Called.{same_error}
+use Rattle.lfs_mount.proofs.Ending.{known_drawn, checked_accepted, checked_blocks, checked_moved, accepted_right}
+use Rattle.lfs_mount.proofs.Refuses.{accepted_passes}
+use Rattle.lfs_mount.proofs.Within.{members_within, some_directory, within_directories}
+use Rattle.lfs_mount.proofs.check.check_thread.Goals as goal
+
+pub returns-in_err-directories-clause-corrupt : goal.returns-in_err-directories-clause-corrupt
+returns-in_err-directories-clause-corrupt g c = λ is chain p rest known a.
+    let e = err_from_is_err_and c.from_residual.result c.from_residual.ensures.1 in
+    let disk = disk_on g.D.BlockDevice c.args.device.now in
+    let r = accepted_passes disk chain p rest c.args.members.now c.args.places.now c.args.map.now known.chain_is (g.met.D.BlockDevice.bytes c.args.device.now) known.sets_len known.owns known.described a in
+    c.in_err-directories.ensures.corrupt (ap Err (same_error e.1 e.2 is)) r.0 r.1 r.2
+
+pub take_pairs-requires : goal.take_pairs-requires
+take_pairs-requires g c =
+    subst (λ n. All (λ (m : Member). m.active < n) c.args.members.now) (g.met.D.BlockDevice.shape c.args.device.now).count
+    (members_within (disk_on g.D.BlockDevice c.args.device.now) (gstate_of (c.requires.0 ++ c.requires.1 ∷ c.requires.2)) true (c.requires.1 ∷ c.requires.2) c.args.members.now c.requires.3.described)
+
+pub check_reached-requires-clause-some : goal.check_reached-requires-clause-some
+check_reached-requires-clause-some g c =
+    let disk = disk_on g.D.BlockDevice c.args.device.now in
+    subst (λ (ds : List Directory). 0 < length ds) (sym c.deref.ensures.value)
+    (some_directory disk c.args.map.now c.args.places.now c.args.members.now c.args.sync c.requires c.in_ok-directories.directories.items c.take_pairs.new.map c.in_ok-directories.ensures.taken)
+
+pub check_reached-requires-clause-within : goal.check_reached-requires-clause-within
+check_reached-requires-clause-within g c =
+    let disk = disk_on g.D.BlockDevice c.args.device.now in
+    subst (λ (ds : List Directory). All (λ d. All (λ b. b < length ds) d.branches.items) ds) (sym c.deref.ensures.value)
+    (within_directories disk c.args.map.now c.args.places.now c.args.members.now c.args.sync c.requires c.in_ok-directories.directories.items c.take_pairs.new.map c.in_ok-directories.ensures.taken)
+
+pub returns-in_err-check_reached-clause-corrupt : goal.returns-in_err-check_reached-clause-corrupt
+returns-in_err-check_reached-clause-corrupt g c = λ is chain p rest known a.
+    let e = err_from_is_err_and c.from_residual-in_err-check_reached.result c.from_residual-in_err-check_reached.ensures.1 in
+    let disk = disk_on g.D.BlockDevice c.args.device.now in
+    let shows = known_drawn disk c.args.map.now c.args.places.now c.args.members.now c.args.sync chain p rest (graph_of c.in_ok-directories.directories.items) c.take_pairs.new.map known c.in_ok-directories.ensures.taken in
+    c.in_err-check_reached.ensures.corrupt (ap Err (same_error e.1 e.2 is)) (chain ++ p ∷ rest)
+    (subst (λ (ds : List Directory). Shows (graph_of ds) c.args.sync (chain ++ p ∷ rest)) (sym c.deref.ensures.value) shows) (accepted_right disk (chain ++ p ∷ rest) a)
+
+pub returns-clause-ok : goal.returns-clause-ok
+returns-clause-ok g c = λ chain p rest known.
+    let disk = disk_on g.D.BlockDevice c.args.device.now in
+    let shows = known_drawn disk c.args.map.now c.args.places.now c.args.members.now c.args.sync chain p rest (graph_of c.in_ok-directories.directories.items) c.take_pairs.new.map known c.in_ok-directories.ensures.taken in
+    record {
+      moved = checked_moved disk c.args.map.now c.args.places.now c.args.members.now c.args.sync chain p rest (graph_of c.in_ok-directories.directories.items) c.take_pairs.new.map known c.in_ok-directories.ensures.taken;
+      marked = λ bytes head. checked_blocks disk c.args.map.now c.args.places.now c.args.members.now c.args.sync chain p rest bytes (graph_of c.in_ok-directories.directories.items) c.take_pairs.new.map known head c.in_ok-directories.ensures.taken;
+      accepted = λ bytes head move. checked_accepted disk c.args.map.now c.args.places.now c.args.members.now c.args.sync chain p rest bytes (graph_of c.in_ok-directories.directories.items) c.take_pairs.new.map known head move
+          c.in_ok-directories.ensures.taken
+          (c.in_ok-check_reached.ensures.ok (chain ++ p ∷ rest) (subst (λ (ds : List Directory). Shows (graph_of ds) c.args.sync (chain ++ p ∷ rest)) (sym c.deref.ensures.value) shows));
+    }

@@ -1,0 +1,73 @@
+use Rattle.std.proofs.Common.{◌≡◌, Err, ◌^◌, ◌<◌, sym, ap, ap₂, subst, arith}
+use Rattle.std.proofs.lemmas.Result.{err_from_is_err_and}
+use Rattle.lfs_device.specs.Shown.{disk_of}
+use Rattle.lfs_model.specs.Disk.{Disk, block_count}
+use Rattle.lfs_model.specs.Slots.{Gstate}
+use Rattle.lfs_tag.specs.FieldsSeen.{move_seen}
+use Rattle.lfs_thread.specs.Kept.{disk_on, pairs_on}
+use Rattle.lfs_mount.specs.Members.{AreDirectories}
+use Rattle.lfs_mount.proofs.KnownMoves.{directories_within}
+use Rattle.lfs_mount.proofs.KnownThread.{directories_are}
+use Rattle.lfs_mount.proofs.Mounts.{has_image, move_refuses, none_accepted, pairs_refuse}
+use Rattle.lfs_mount.proofs.Told.{same_error, then_reads}
+use Rattle.lfs_mount.proofs.mounting.check_image.Goals as goal
+
+pub returns-in_err-count-clause-corrupt : goal.returns-in_err-count-clause-corrupt
+returns-in_err-count-clause-corrupt g c = λ is.
+    let disk : Disk = disk_on g.D.BlockDevice c.args.device.now in
+    let e = err_from_is_err_and c.from_residual.result c.from_residual.ensures.1 in
+    none_accepted disk (pairs_on disk c.args.pairs.now) c.requires.thread (c.in_err-count.ensures.corrupt (ap Err (same_error e.1 e.2 is)))
+
+pub pairs_from-directories-requires : goal.pairs_from-directories-requires
+pairs_from-directories-requires g c =
+    let disk : Disk = disk_on g.D.BlockDevice c.args.device.now in
+    let below = directories_within disk c.args.pairs.now c.in_ok-count.count c.in_ok-count.ensures.head in
+    omega (arith, below)
+
+pub returns-in_err-check_move-clause-corrupt : goal.returns-in_err-check_move-clause-corrupt
+returns-in_err-check_move-clause-corrupt g c = λ is.
+    let disk : Disk = disk_on g.D.BlockDevice c.args.device.now in
+    let history = g.D.BlockDevice.history c.args.device.now in
+    move_refuses disk history c.args.pairs.now c.args.map.now (move_seen c.args.state.now) c.in_ok-count.count c.requires c.in_ok-count.ensures.head
+    c.pairs_from-directories.result.now c.pairs_from-directories.ensures c.in_err-check_move.ensures.refused
+
+pub check_directories-requires : goal.check_directories-requires
+check_directories-requires g c =
+    let disk : Disk = disk_on g.D.BlockDevice c.args.device.now in
+    let now : Disk = disk_on g.D.BlockDevice c.count_superblocks.new.dev in
+    let history = g.D.BlockDevice.history c.args.device.now in
+    let read = c.in_ok-count.ensures.device in
+    let same : now ≡ disk = ap₂ disk_of read.geometry read.same in
+    let count = (g.met.D.BlockDevice.shape c.args.device.now).count in
+    let most = (g.D.BlockDevice.geometry c.args.device.now).valid.no_more in
+    let small : block_count disk < 2 ^ 32 = omega (arith, count, most) in
+    let state : Gstate = move_seen c.args.state.now in
+    subst (λ d. AreDirectories d c.args.map.now state c.pairs_from-directories.result.now) (sym same)
+    (subst (λ xs. AreDirectories disk c.args.map.now state xs) (sym c.pairs_from-directories.ensures)
+    (directories_are disk history c.args.pairs.now c.args.map.now state c.in_ok-count.count c.requires c.in_ok-count.ensures.head small))
+
+pub returns-in_err-check_directories-clause-corrupt : goal.returns-in_err-check_directories-clause-corrupt
+returns-in_err-check_directories-clause-corrupt g c = λ is.
+    let disk : Disk = disk_on g.D.BlockDevice c.args.device.now in
+    let now : Disk = disk_on g.D.BlockDevice c.count_superblocks.new.dev in
+    let history = g.D.BlockDevice.history c.args.device.now in
+    let read = c.in_ok-count.ensures.device in
+    let e = err_from_is_err_and c.from_residual-in_err-check_directories.result c.from_residual-in_err-check_directories.ensures.1 in
+    pairs_refuse disk history c.args.pairs.now c.args.map.now (move_seen c.args.state.now) c.in_ok-count.count c.requires c.in_ok-count.ensures.head
+    now (ap₂ disk_of read.geometry read.same) c.pairs_from-directories.result.now c.pairs_from-directories.ensures (c.in_err-check_directories.ensures.corrupt (ap Err (same_error e.1 e.2 is)))
+
+pub returns-in_err-check_directories-clause-device : goal.returns-in_err-check_directories-clause-device
+returns-in_err-check_directories-clause-device g c = then_reads c.in_ok-count.ensures.device c.in_err-check_directories.ensures.device
+
+pub returns-clause-image : goal.returns-clause-image
+returns-clause-image g c =
+    let disk : Disk = disk_on g.D.BlockDevice c.args.device.now in
+    let now : Disk = disk_on g.D.BlockDevice c.count_superblocks.new.dev in
+    let history = g.D.BlockDevice.history c.args.device.now in
+    let read = c.in_ok-count.ensures.device in
+    has_image disk history c.args.pairs.now c.args.map.now (move_seen c.args.state.now) c.in_ok-count.count c.requires c.in_ok-count.ensures.head
+    now (ap₂ disk_of read.geometry read.same) c.check_directories.new.map c.pairs_from-directories.result.now c.pairs_from-directories.ensures
+    c.in_ok-check_move.ensures.right c.in_ok-check_directories.ensures.ok
+
+pub returns-clause-device : goal.returns-clause-device
+returns-clause-device g c = then_reads c.in_ok-count.ensures.device c.in_ok-check_directories.ensures.device

@@ -1,0 +1,40 @@
+-- What the pass over a thread's slots finds.
+use Rattle.std.specs.Prelude.{ℕ, ◌≡◌, false, List, [], ◌∷◌, ◌++◌, length}
+use Rattle.lfs_model.specs.BlockSets.{AreInFlight, AreUsed, BlockSets}
+use Rattle.lfs_model.specs.Disk.{Disk, block_count}
+use Rattle.lfs_model.specs.Thread.{Pair, gstate_of}
+use Rattle.lfs_model.specs.View.{IsAccepted, IsMove, used_blocks}
+use Rattle.lfs_model.specs.History.{Event, OnlyReads, faults}
+use Rattle.lfs_thread.specs.Kept.{Header, State, pairs_on}
+use Rattle.lfs_mount.specs.Checked.{HasHead}
+use Rattle.lfs_mount.specs.Moves.{IsMovedFrom}
+
+-- of as many blocks as before these are used, and all others are free
+pub record HasOnly (old new : BlockSets) (bs : List ℕ) : Type 0 where
+  pub len : length new ≡ length old
+  pub used : AreUsed new bs
+  pub none_in_flight : AreInFlight new []
+
+-- The slot that is moved away is an entry. Where the superblock's pairs are right the map has the image's blocks, and where
+-- the move is right too the image is accepted.
+pub record IsRight (disk : Disk) (old new : BlockSets) (chain : List Pair) (p : Pair) (rest : List Pair) : Type 0 where
+  pub moved : IsMovedFrom (gstate_of (chain ++ p ∷ rest)) (p ∷ rest)
+  pub marked : (bytes : List ℕ) → HasHead disk chain p rest bytes → HasOnly old new (used_blocks disk (chain ++ p ∷ rest))
+  pub accepted : (bytes : List ℕ) → HasHead disk chain p rest bytes → IsMove (chain ++ p ∷ rest) (gstate_of (chain ++ p ∷ rest)) → IsAccepted disk (chain ++ p ∷ rest)
+
+-- the image is accepted, and the map has its blocks
+pub record HasImage (disk : Disk) (headers : List Header) (old new : BlockSets) : Type 0 where
+  pub accepted : IsAccepted disk (pairs_on disk headers)
+  pub marked : HasOnly old new (used_blocks disk (pairs_on disk headers))
+
+-- The thread of an accepted image, whose device was only read, without a fault: the map has all blocks, none but the image's are
+-- used, and none is in flight.
+pub record IsMounted (disk : Disk) (history : List Event) (t : State) : Type 0 where
+  pub works : t.failed ≡ false
+  pub disk_is : t.kept.disk ≡ disk
+  pub reads : OnlyReads disk.blocks history t.kept.history
+  pub accepted : IsAccepted disk t.kept.pairs
+  pub used : AreUsed t.kept.map (used_blocks disk t.kept.pairs)
+  pub none_in_flight : AreInFlight t.kept.map []
+  pub size : length t.kept.map ≡ block_count disk
+  pub no_fault : faults t.kept.history ≡ faults history

@@ -1,0 +1,45 @@
+-- What is known of a thread before its slots are looked at, and of the superblock's pairs.
+use Rattle.std.specs.Prelude.{ℕ, ◌≡◌, Bool, true, List, [], ◌∷◌, ◌++◌, length, Some, codes}
+use Rattle.std.specs.List.{AllByRecursion}
+use Rattle.lfs_model.specs.BlockSets.{BlockSets}
+use Rattle.lfs_model.specs.Content.{holder_at, content_at}
+use Rattle.lfs_model.specs.Disk.{Disk, block_count}
+use Rattle.lfs_model.specs.Slots.{Slot, is_superblock}
+use Rattle.lfs_model.specs.Thread.{Pair, anchor, IsThread, blocks_of, gstate_of, superblocks_before}
+use Rattle.lfs_model.specs.View.{HasStruct, BeginsWith, superblock_entry, IsSuperblockStruct, first_name, directories_in}
+use Rattle.lfs_mount.specs.Entries.{firsts_of}
+use Rattle.lfs_mount.specs.Marking.{Owns}
+use Rattle.lfs_mount.specs.Described.{AreMembers}
+use Rattle.lfs_mount.specs.declared.pass.Member.{Member}
+
+abbrev pub HasStart : List ℕ → List Slot → Type 0
+HasStart bytes [] = ⊥
+HasStart bytes (s ∷ slots) = (is_superblock s ≡ true) × HasStruct bytes s
+
+-- a superblock's pair in front of the root's first one has no other slot
+pub record IsAlone (bytes : List ℕ) (p : Pair) : Type 0 where
+  pub slot : Slot
+  pub slots : p.content.slots ≡ slot ∷ []
+  pub superblock : is_superblock slot ≡ true
+  pub struct : HasStruct bytes slot
+
+-- the superblock's pairs, up to the root's first one
+pub record HasHead (disk : Disk) (chain : List Pair) (p : Pair) (rest : List Pair) (bytes : List ℕ) : Type 0 where
+  pub first : BeginsWith (holder_at disk anchor) superblock_entry
+  pub named : first_name (chain ++ p ∷ rest) ≡ Some (codes "littlefs")
+  pub struct : IsSuperblockStruct disk bytes
+  pub alone : AllByRecursion (IsAlone bytes) chain
+  pub start : HasStart bytes p.content.slots
+
+-- a thread: so many pairs stand in front of the root's first one; its pairs' blocks are marked, its directories have their places
+pub record IsKnownThread (disk : Disk) (sets : BlockSets) (firsts : List (ℕ × ℕ)) (members : List Member) (sync : Bool) (chain : List Pair) (p : Pair) (rest : List Pair) : Type 0 where
+  pub thread : IsThread (content_at disk) (block_count disk) (chain ++ p ∷ rest)
+  pub chain_is : superblocks_before (chain ++ p ∷ rest) ≡ length chain
+  pub sets_len : length sets ≡ block_count disk
+  pub owns : Owns sets (blocks_of (chain ++ p ∷ rest))
+  pub described : AreMembers disk (gstate_of (chain ++ p ∷ rest)) true (p ∷ rest) members
+  pub places : firsts ≡ firsts_of (directories_in (chain ++ p ∷ rest))
+  pub sync_is : (gstate_of (chain ++ p ∷ rest)).sync ≡ sync
+
+abbrev pub HasKnownThread : Disk → BlockSets → List (ℕ × ℕ) → List Member → Bool → Type 0
+HasKnownThread disk sets firsts members sync = (chain : List Pair) × (p : Pair) × (rest : List Pair) × IsKnownThread disk sets firsts members sync chain p rest

@@ -1,0 +1,70 @@
+-- What stands in the slots of a pair, and what it adds to what is known of a directory.
+use Rattle.std.specs.Prelude.{ℕ, suc, ◌==◌, ◌&&◌, true, false, if◌then◌else◌, List, [], ◌∷◌, ◌++◌, length, map, Option, Some, None}
+use Rattle.std.specs.Option.{option_and_then, option_map}
+use Rattle.lfs_model.specs.Names.{Name, name_cmp, is_less, is_name}
+use Rattle.lfs_model.specs.Slots.{Slot, Struct, Inline, Ctz, Branch, same_pair}
+use Rattle.lfs_model.specs.Content.{RawSlot, file_name_type, directory_name_type, inline_struct_type, ctz_struct_type, directory_struct_type, pair_at}
+use Rattle.lfs_model.specs.Thread.{Listing}
+use Rattle.lfs_mount.specs.Reaching.{Vertex}
+
+-- what an entry of a directory stands for, without a file's bytes
+pub data Stand : Type 0 where
+  InSlot : Stand
+  InList : (head size : ℕ) → Stand
+  Below : (to : ℕ × ℕ) → Stand
+
+abbrev pub stand_of : Struct → Stand
+stand_of (Inline bytes) = InSlot
+stand_of (Ctz head size) = InList head size
+stand_of (Branch to) = Below to
+
+-- an entry by its name and what it stands for
+abbrev pub Entry : Type 0
+Entry = Name × Stand
+
+abbrev pub entry_of : Slot → Entry
+entry_of s = (s.name, stand_of s.struct)
+
+-- a name's type and a struct that suit
+abbrev pub stand_in : ℕ → ℕ × List ℕ → Option Stand
+stand_in kind part =
+    if kind == file_name_type && part.0 == inline_struct_type then Some InSlot
+    else (if kind == file_name_type && part.0 == ctz_struct_type then (if length part.1 == 8 then Some (InList (pair_at part.1).0 (pair_at part.1).1) else None)
+    else (if kind == directory_name_type && part.0 == directory_struct_type then (if length part.1 == 8 then Some (Below (pair_at part.1)) else None)
+    else None))
+
+-- what a slot of a log holds, where that may stand in a directory
+abbrev pub entry_in : RawSlot → Option Entry
+entry_in s = option_and_then (λ name. option_and_then (λ struct.
+    if is_name name.1 then option_map (λ stand. (name.1, stand)) (stand_in name.0 struct) else None) s.struct) s.name
+
+-- ---- directories by their addresses
+
+abbrev pub place_of : List (ℕ × ℕ) → ℕ × ℕ → Option ℕ
+place_of [] at = None
+place_of (a ∷ firsts) at = if same_pair a at then Some 0 else option_map (λ i. suc i) (place_of firsts at)
+
+abbrev pub firsts_of : List Listing → List (ℕ × ℕ)
+firsts_of ds = map (λ d. d.at) ds
+
+-- ---- one entry more
+
+abbrev pub with_branch : Vertex → Option ℕ → Vertex
+with_branch v None = record v { is_sound = false }
+with_branch v (Some i) = record v { branches = v.branches ++ i ∷ [] }
+
+abbrev pub with_stand : List (ℕ × ℕ) → Vertex → Stand → Vertex
+with_stand firsts v InSlot = v
+with_stand firsts v (InList head size) = v
+with_stand firsts v (Below to) = with_branch v (place_of firsts to)
+
+-- behind the last name so far
+abbrev pub with_entry : List (ℕ × ℕ) → Name × Vertex → Entry → Name × Vertex
+with_entry firsts (last, v) (name, stand) = (name, with_stand firsts (record v { is_sound = v.is_sound && is_less (name_cmp last name) }) stand)
+
+abbrev pub with_entries : List (ℕ × ℕ) → Name × Vertex → List Entry → Name × Vertex
+with_entries firsts known [] = known
+with_entries firsts known (e ∷ es) = with_entries firsts (with_entry firsts known e) es
+
+abbrev pub nothing_known : Name × Vertex
+nothing_known = ([], record { is_sound = true; branches = [] })

@@ -1,0 +1,97 @@
+-- The superblock's pairs, as they are read.
+use Rattle.std.specs.Prelude.{ℕ, ◌≡◌, ◌==◌, ◌&&◌, ◌||◌, not, Bool, true, false, if◌then◌else◌, List, [], ◌∷◌, ◌++◌, length, Option, Some, None, codes}
+use Rattle.std.specs.Option.{option_and_then, option_map}
+use Rattle.std.specs.Str.{bytes_eq}
+use Rattle.lfs_model.specs.Blocks.{Blocks, block_in}
+use Rattle.lfs_model.specs.Content.{RawSlot, content_after_all, content_at, directory_name_type, file_name_type, inline_struct_type, no_content, superblock_at}
+use Rattle.lfs_model.specs.Disk.{Disk, block_at, block_count}
+use Rattle.lfs_model.specs.History.{Event}
+use Rattle.lfs_model.specs.Log.{log_entries}
+use Rattle.lfs_model.specs.Thread.{Pair, IsThread, is_hard, superblocks_before}
+use Rattle.lfs_model.specs.View.{BeginsWith, superblock_entry}
+use Rattle.lfs_tag.specs.ContentSeen.{tail_seen}
+use Rattle.lfs_thread.specs.Kept.{Header, AreHeaders, pairs_on}
+use Rattle.lfs_mount.specs.Checked.{HasHead}
+
+-- ---- slots
+
+-- a name that is neither a file's nor a directory's is a superblock's
+abbrev pub names_superblock : Option (ℕ × List ℕ) → Bool
+names_superblock None = false
+names_superblock (Some name) = not (name.0 == file_name_type || name.0 == directory_name_type)
+
+-- the bytes of a struct that stand in its entry
+abbrev pub inline_in : Option (ℕ × List ℕ) → Option (List ℕ)
+inline_in None = None
+inline_in (Some struct) = if struct.0 == inline_struct_type then Some struct.1 else None
+
+-- the name is these bytes
+abbrev pub is_called : List ℕ → Option (ℕ × List ℕ) → Bool
+is_called bytes None = false
+is_called bytes (Some name) = bytes_eq name.1 bytes
+
+-- a superblock's struct of version 2.0, for so many blocks of this size
+abbrev pub describes : ℕ → ℕ → List ℕ → Bool
+describes block_size count bytes =
+    length bytes == 24 && ((superblock_at bytes).version == 0x00020000 && ((superblock_at bytes).block_size == block_size && (superblock_at bytes).block_count == count))
+
+abbrev pub if_describes : ℕ → ℕ → Option (List ℕ) → Option (List ℕ)
+if_describes block_size count None = None
+if_describes block_size count (Some bytes) = if describes block_size count bytes then Some bytes else None
+
+-- the struct in the first slot, where that is the superblock of a device of so many blocks of this size
+abbrev pub superblock_in : ℕ → ℕ → List RawSlot → Option (List ℕ)
+superblock_in block_size count [] = None
+superblock_in block_size count (s ∷ slots) =
+    if names_superblock s.name && is_called (codes "littlefs") s.name then if_describes block_size count (inline_in s.struct) else None
+
+abbrev pub if_same : List ℕ → Option (List ℕ) → Option Bool
+if_same bytes None = None
+if_same bytes (Some other) = if bytes_eq other bytes then Some true else None
+
+-- whether the first slot is a superblock's; none where it is one with another struct
+abbrev pub repeats_in : List ℕ → List RawSlot → Option Bool
+repeats_in bytes [] = Some false
+repeats_in bytes (s ∷ slots) = if names_superblock s.name then if_same bytes (inline_in s.struct) else Some false
+
+-- ---- blocks
+
+-- the same of the slots to which a block's log comes
+abbrev pub superblock_of : ℕ → ℕ → List ℕ → Option (List ℕ)
+superblock_of block_size count block = option_and_then (λ c. superblock_in block_size count c.slots) (content_after_all no_content (log_entries block))
+
+abbrev pub repeats_of : List ℕ → List ℕ → Option Bool
+repeats_of bytes block = option_and_then (λ c. repeats_in bytes c.slots) (content_after_all no_content (log_entries block))
+
+-- the block begins with the superblock, and that is its struct
+pub record IsSuperblockOf (disk : Disk) (block : ℕ) (bytes : List ℕ) : Type 0 where
+  pub begins : BeginsWith (Some (block_at disk block)) superblock_entry
+  pub struct : superblock_of disk.block_size (block_count disk) (block_at disk block) ≡ Some bytes
+
+-- ---- pairs
+
+-- one slot and a hard tail, by which the superblock may go on in the next pair
+abbrev pub leads_on : Header → Bool
+leads_on h = h.slot_count == 1 && is_hard (option_map tail_seen h.tail)
+
+-- whether the superblock goes on in the pair behind one; none where that one has another struct
+abbrev pub goes_on : Blocks → List ℕ → Header → Header → Option Bool
+goes_on blocks bytes h next = if leads_on h then repeats_of bytes (block_in blocks next.active) else Some false
+
+-- ---- the thread
+
+-- these headers are those of the disk's thread
+pub record HasHeaders (disk : Disk) (history : List Event) (headers : List Header) : Type 0 where
+  pub each : AreHeaders disk history headers
+  pub thread : IsThread (content_at disk) (block_count disk) (pairs_on disk headers)
+
+-- so many of the superblock's pairs stand in front of the root's first one
+pub record IsHead (disk : Disk) (ps : List Pair) (count : ℕ) : Type 0 where
+  pub chain : List Pair
+  pub p : Pair
+  pub rest : List Pair
+  pub parts : ps ≡ chain ++ p ∷ rest
+  pub chain_is : length chain ≡ count
+  pub before : superblocks_before ps ≡ count
+  pub bytes : List ℕ
+  pub head : HasHead disk chain p rest bytes

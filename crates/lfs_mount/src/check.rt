@@ -1,0 +1,58 @@
+// The slots of a thread, and its directories.
+
+ghost use Rattle.std.specs.Prelude.{List, ◌≡◌, ◌≤◌, ◌+◌, ◌^◌, ◌++◌, ◌∷◌, ℕ, OnOk, IsErrOf, length, sum_by};
+ghost use Rattle.lfs_device.specs.Calls.{ReadsOnly};
+ghost use Rattle.lfs_model.specs.History.{reads};
+ghost use Rattle.lfs_model.specs.Thread.{Pair};
+ghost use Rattle.lfs_model.specs.View.{IsAccepted};
+ghost use Rattle.lfs_mount.specs.Checked.{HasKnownThread, IsKnownThread};
+ghost use Rattle.lfs_mount.specs.Accepted.{IsRight};
+ghost use Rattle.lfs_mount.specs.Device.{TellsErrors};
+ghost use Rattle.lfs_thread.specs.Kept.{disk_on};
+ghost use Rattle.lfs_mount.specs.Reads.{pair_reads};
+
+use crate::pass::{Member, take_pairs};
+use crate::places::Places;
+use crate::reaching::check_reached;
+use lfs_alloc::BlockMap;
+use lfs_device::{BlockDevice, Error};
+use std::alloc::Global;
+
+/// Checks what stands in the pairs of a thread whose headers are known, and marks the blocks of its
+/// files in `map`, where those of the pairs are used and all others free.
+///
+/// `members` are the pairs from the root's first one on, in the thread's order; `places` are the
+/// directories; `sync` is the sync bit of the global state.
+///
+/// Where the superblock's pairs and the move that the global state names are right, Ok says that
+/// the image is accepted and that the map has its blocks, and `Corrupt` that it isn't accepted: a
+/// slot holds no entry, a file's list isn't well formed, a block is owned twice, or the directories
+/// are no tree (SPEC.md of littlefs, "Metadata types"; DESIGN.md, "CTZ skip-lists", "Directories"
+/// and "The move problem").
+/// `NoMemory` comes where memory isn't granted, `Io` where the device failed. After an error
+/// nothing is known of the map.
+pub fn check_thread<D: BlockDevice>(
+    alloc: Global,
+    device: &mut D,
+    map: &mut BlockMap,
+    places: &Places,
+    members: &[Member],
+    sync: bool,
+) -> Result<(), Error>
+    requires { HasKnownThread (disk_on D.BlockDevice device.old) map.old places.now members.now sync }
+    ensures ok { OnOk result ((chain : List Pair) (p : Pair) (rest : List Pair)
+        → IsKnownThread (disk_on D.BlockDevice device.old) map.old places.now members.now sync chain p rest
+        → IsRight (disk_on D.BlockDevice device.old) map.old map.new chain p rest) }
+    ensures corrupt { IsErrOf result Error.Corrupt → (chain : List Pair) (p : Pair) (rest : List Pair)
+        → IsKnownThread (disk_on D.BlockDevice device.old) map.old places.now members.now sync chain p rest
+        → ¬ IsAccepted (disk_on D.BlockDevice device.old) (chain ++ p ∷ rest) }
+    ensures device { ReadsOnly D.BlockDevice device.old device.new }
+    ensures errors { TellsErrors D.BlockDevice device.old device.new result }
+    // One read for each pair, and those of the files' lists.
+    ensures few { (m : ℕ) → length map.old ≤ 2 ^ m
+        → OnOk result (reads (D.history device.new) ≤ reads (D.history device.old) + sum_by (pair_reads (disk_on D.BlockDevice device.old) m) members.now) }
+{
+    let directories = take_pairs(alloc, device, map, places, members)?;
+    check_reached(alloc, &directories, sync)?;
+    Ok(())
+}

@@ -1,0 +1,81 @@
+// What stands in a slot of an image.
+
+ghost use Rattle.std.specs.Prelude.{◌≡◌, ◌+◌, ◌==◌, length, Some, None, if◌then◌else◌, drop};
+ghost use Rattle.std.specs.Option.{option_map};
+ghost use Rattle.lfs_model.specs.Content.{ctz_struct_type, directory_name_type, directory_struct_type, file_name_type};
+ghost use Rattle.lfs_tag.specs.ContentSeen.{part_seen, slot_seen};
+ghost use Rattle.lfs_mount.specs.Entries.{entry_in, stand_in, InList, Below};
+ghost use Rattle.lfs_mount.specs.EntrySeen.{entry_seen, target_seen};
+
+use lfs_tag::kinds::{CTZ_STRUCT, DIRECTORY_NAME, DIRECTORY_STRUCT, FILE_NAME, INLINE_STRUCT};
+use lfs_tag::{Part, Slot, ctz_of, is_name, pair_of};
+
+// What an entry of a directory stands for.
+#[derive(Clone, Copy, Drop)]
+pub(crate) enum Target {
+    // A file whose bytes stand in its slot.
+    Inline,
+    // A file of `size` bytes, which stand in a skip list whose last block is `head`.
+    List { head: u32, size: u32 },
+    // A directory, by the address of its first pair.
+    Directory([u32; 2]),
+}
+
+// An entry of a directory.
+#[derive(Clone, Copy, Drop)]
+pub(crate) struct Entry<'a> {
+    pub name: &'a [u8],
+    pub target: Target,
+}
+
+fn list_at(bytes: &[u8]) -> Option<Target>
+    ensures { option_map target_seen result ≡ stand_in file_name_type (ctz_struct_type, bytes.now) }
+{
+    match <&[u8; 8]>::try_from(bytes) {
+        Ok(bytes) => {
+            let (head, size) = ctz_of(bytes);
+            Some(Target::List { head, size })
+        }
+        Err(_) => None,
+    }
+}
+
+fn directory_at(bytes: &[u8]) -> Option<Target>
+    ensures { option_map target_seen result ≡ stand_in directory_name_type (directory_struct_type, bytes.now) }
+{
+    match <&[u8; 8]>::try_from(bytes) {
+        Ok(bytes) => Some(Target::Directory(pair_of(bytes))),
+        Err(_) => None,
+    }
+}
+
+fn target_of(kind: u16, structure: &Part<'_>) -> Option<Target>
+    ensures { option_map target_seen result ≡ stand_in kind (part_seen structure.now) }
+{
+    match (kind, structure.kind) {
+        (FILE_NAME, INLINE_STRUCT) => Some(Target::Inline),
+        (FILE_NAME, CTZ_STRUCT) => list_at(structure.bytes),
+        (DIRECTORY_NAME, DIRECTORY_STRUCT) => directory_at(structure.bytes),
+        _ => None,
+    }
+}
+
+// The entry in a slot of a directory, by the tables of types in SPEC.md of littlefs. None exactly
+// where the slot has no name that a directory may have, or no struct that suits the name's type.
+pub(crate) fn entry_of<'a>(slot: &Slot<'a>) -> Option<Entry<'a>>
+    ensures { option_map entry_seen result ≡ entry_in (slot_seen slot.now) }
+{
+    let (Some(name), Some(structure)) = (slot.name, slot.structure) else {
+        return None;
+    };
+    if !is_name(name.bytes) {
+        return None;
+    }
+    match target_of(name.kind, &structure) {
+        Some(target) => Some(Entry {
+            name: name.bytes,
+            target,
+        }),
+        None => None,
+    }
+}

@@ -1,0 +1,234 @@
+// The superblock's pairs, in front of the root's first one.
+
+ghost use Rattle.std.specs.Prelude.{ℕ, List, ◌≡◌, ◌↔◌, ◌⊎◌, ◌<◌, ◌≤◌, ◌+◌, IsTrue, IfOk, IfErr, IsErrOf, OnOk, None, Some, codes, map};
+ghost use Rattle.std.specs.Option.{option_map};
+ghost use Rattle.lfs_device.specs.Calls.{ReadsOnly, TellsFaults};
+ghost use Rattle.lfs_model.specs.Blocks.{block_in};
+ghost use Rattle.lfs_model.specs.Content.{content_after_all, no_content};
+ghost use Rattle.lfs_model.specs.History.{reads};
+ghost use Rattle.lfs_model.specs.Log.{log_entries};
+ghost use Rattle.lfs_model.specs.View.{BeginsWith, IsAccepted, superblock_entry};
+ghost use Rattle.lfs_tag.specs.ContentSeen.{content_seen, part_seen, slot_seen};
+ghost use Rattle.lfs_thread.specs.Kept.{disk_on, pairs_on};
+ghost use Rattle.lfs_mount.specs.Head.{HasHeaders, IsHead, IsSuperblockOf, describes, goes_on, inline_in, is_called, leads_on, names_superblock, repeats_in, repeats_of, superblock_in, superblock_of};
+
+use lfs_device::{BlockDevice, Error, Geometry, read_block};
+use lfs_pair::Pair;
+use lfs_tag::kinds::{DIRECTORY_NAME, FILE_NAME, INLINE_STRUCT, SUPERBLOCK_NAME};
+use lfs_tag::{Content, ContentError, Log, Slot, Superblock, Tag, superblock_of};
+use std::alloc::Global;
+
+const MAGIC: &[u8] = b"littlefs";
+
+// Whether the first entry names the superblock.
+fn begins_with_superblock(log: &Log<'_>) -> bool
+    ensures { IsTrue result ↔ BeginsWith (Some log.now) superblock_entry }
+{
+    match log.entries().next() {
+        Some(entry) => entry.tag == Tag::new(SUPERBLOCK_NAME, 0, 8) && entry.bytes == MAGIC,
+        None => false,
+    }
+}
+
+// Whether a superblock's struct is of this version and geometry.
+fn describes(geometry: &Geometry, bytes: &[u8]) -> bool
+    ensures { result ≡ describes geometry.now.block_size geometry.now.block_count bytes.now }
+{
+    match <&[u8; 24]>::try_from(bytes) {
+        Ok(bytes) => {
+            let fields = superblock_of(bytes);
+            fields.version == Superblock::VERSION
+                && fields.block_size == geometry.block_size
+                && fields.block_count == geometry.block_count
+        }
+        Err(_) => false,
+    }
+}
+
+// Whether a slot is a superblock's: a name that is neither a file's nor a directory's.
+fn names_superblock(slot: &Slot<'_>) -> bool
+    ensures { result ≡ names_superblock (slot_seen slot.now).name }
+{
+    match slot.name {
+        Some(name) => !(name.kind == FILE_NAME || name.kind == DIRECTORY_NAME),
+        None => false,
+    }
+}
+
+fn is_called(slot: &Slot<'_>, bytes: &[u8]) -> bool
+    ensures { result ≡ is_called bytes.now (slot_seen slot.now).name }
+{
+    match slot.name {
+        Some(name) => name.bytes == bytes,
+        None => false,
+    }
+}
+
+// The bytes of a struct that stand in its entry.
+fn inline_in<'a>(slot: &Slot<'a>) -> Option<&'a [u8]>
+    ensures { option_map (λ b. b.now) result ≡ inline_in (slot_seen slot.now).struct }
+{
+    match slot.structure {
+        Some(part) if part.kind == INLINE_STRUCT => Some(part.bytes),
+        _ => None,
+    }
+}
+
+// The superblock's struct in the first slot.
+fn superblock_in<'a>(geometry: &Geometry, slots: &[Slot<'a>]) -> Option<&'a [u8]>
+    ensures { option_map (λ b. b.now) result ≡ superblock_in geometry.now.block_size geometry.now.block_count (map slot_seen slots.now) }
+{
+    let [first, ..] = slots else {
+        return None;
+    };
+    if !names_superblock(first) || !is_called(first, MAGIC) {
+        return None;
+    }
+    match inline_in(first) {
+        Some(bytes) if describes(geometry, bytes) => Some(bytes),
+        _ => None,
+    }
+}
+
+// Whether the first slot is a superblock's. Corrupt exactly where it is one with another struct.
+fn repeats_in(slots: &[Slot<'_>], bytes: &[u8]) -> Result<bool, Error>
+    ensures ok { IfOk result (λ repeats. repeats_in bytes.now (map slot_seen slots.now) ≡ Some repeats) }
+    ensures corrupt { IfErr result (λ e. (e ≡ Error.Corrupt) × (repeats_in bytes.now (map slot_seen slots.now) ≡ None)) }
+{
+    let [first, ..] = slots else {
+        return Ok(false);
+    };
+    if !names_superblock(first) {
+        return Ok(false);
+    }
+    match inline_in(first) {
+        Some(other) if other == bytes => Ok(true),
+        _ => Err(Error::Corrupt),
+    }
+}
+
+// The superblock's struct in a block whose log begins with the superblock. Corrupt exactly where
+// there is none.
+fn read_superblock(alloc: Global, geometry: &Geometry, block: &[u8]) -> Result<Vec<u8>, Error>
+    ensures begins { OnOk result (BeginsWith (Some block.now) superblock_entry) }
+    ensures holds { IfOk result (λ bytes. superblock_of geometry.now.block_size geometry.now.block_count block.now ≡ Some bytes.items) }
+    ensures corrupt { IsErrOf result Error.Corrupt → BeginsWith (Some block.now) superblock_entry → superblock_of geometry.now.block_size geometry.now.block_count block.now ≡ None }
+    ensures errors { IfErr result (λ e. (e ≡ Error.Corrupt) ⊎ (e ≡ Error.NoMemory)) }
+{
+    let log = Log::read(block);
+    if !begins_with_superblock(&log) {
+        return Err(Error::Corrupt);
+    }
+    let content = content_of(alloc, &log)?;
+    match superblock_in(geometry, &content.slots) {
+        Some(bytes) => Ok(Vec::from_slice(alloc, bytes)?),
+        None => Err(Error::Corrupt),
+    }
+}
+
+fn content_of<'a>(alloc: Global, log: &Log<'a>) -> Result<Content<'a>, Error>
+    ensures content { IfOk result (λ c. content_after_all no_content (log_entries log.now) ≡ Some (content_seen c)) }
+    ensures corrupt { IsErrOf result Error.Corrupt → content_after_all no_content (log_entries log.now) ≡ None }
+    ensures errors { IfErr result (λ e. (e ≡ Error.Corrupt) ⊎ (e ≡ Error.NoMemory)) }
+{
+    match Content::read(alloc, log) {
+        Ok(content) => Ok(content),
+        Err(ContentError::Malformed) => Err(Error::Corrupt),
+        Err(ContentError::NoMemory) => Err(Error::NoMemory),
+    }
+}
+
+// Whether the first slot to which a block's log comes is a superblock's. Corrupt exactly where it
+// is one with another struct, or the log is malformed.
+fn repeats(alloc: Global, block: &[u8], bytes: &[u8]) -> Result<bool, Error>
+    ensures ok { IfOk result (λ repeats. repeats_of bytes.now block.now ≡ Some repeats) }
+    ensures corrupt { IsErrOf result Error.Corrupt → repeats_of bytes.now block.now ≡ None }
+    ensures errors { IfErr result (λ e. (e ≡ Error.Corrupt) ⊎ (e ≡ Error.NoMemory)) }
+{
+    let log = Log::read(block);
+    let content = content_of(alloc, &log)?;
+    repeats_in(&content.slots, bytes)
+}
+
+// The struct of the superblock that a block of the device has. Corrupt exactly where it has none.
+fn superblock_at<D: BlockDevice>(alloc: Global, dev: &mut D, block: u32) -> Result<Vec<u8>, Error>
+    requires { block < (D.geometry dev.old).block_count }
+    ensures found { IfOk result (λ bytes. IsSuperblockOf (disk_on D.BlockDevice dev.old) block bytes.items) }
+    ensures corrupt { IsErrOf result Error.Corrupt → (bytes : List ℕ) → ¬ IsSuperblockOf (disk_on D.BlockDevice dev.old) block bytes }
+    ensures device { ReadsOnly D.BlockDevice dev.old dev.new }
+    ensures errors { IfErr result (λ e. (e ≡ Error.Corrupt) ⊎ ((e ≡ Error.Io) ⊎ (e ≡ Error.NoMemory))) }
+    ensures faults { TellsFaults D.BlockDevice dev.old dev.new result }
+    ensures reads { reads (D.history dev.new) ≤ reads (D.history dev.old) + 1 }
+{
+    let geometry = dev.geometry();
+    let bytes = read_block(alloc, dev, block)?;
+    read_superblock(alloc, &geometry, &bytes)
+}
+
+// Whether the superblock with this struct goes on in the next pair. Corrupt exactly where that one
+// has a superblock with another struct, or no content.
+fn goes_on<D: BlockDevice>(
+    alloc: Global,
+    dev: &mut D,
+    pair: &Pair,
+    next: &Pair,
+    bytes: &[u8],
+) -> Result<bool, Error>
+    requires { next.now.active < (D.geometry dev.old).block_count }
+    ensures ok { IfOk result (λ more. goes_on (D.blocks dev.old) bytes.now pair.now next.now ≡ Some more) }
+    ensures corrupt { IsErrOf result Error.Corrupt → goes_on (D.blocks dev.old) bytes.now pair.now next.now ≡ None }
+    ensures device { ReadsOnly D.BlockDevice dev.old dev.new }
+    ensures errors { IfErr result (λ e. (e ≡ Error.Corrupt) ⊎ ((e ≡ Error.Io) ⊎ (e ≡ Error.NoMemory))) }
+    ensures faults { TellsFaults D.BlockDevice dev.old dev.new result }
+    ensures reads { reads (D.history dev.new) ≤ reads (D.history dev.old) + 1 }
+{
+    if !leads_on(pair) {
+        return Ok(false);
+    }
+    let block = read_block(alloc, dev, next.active)?;
+    repeats(alloc, &block, bytes)
+}
+
+// Whether a pair has one slot and a hard tail.
+fn leads_on(pair: &Pair) -> bool
+    ensures { result ≡ leads_on pair.now }
+{
+    match pair.tail {
+        Some(tail) => pair.slot_count == 1 && tail.hard,
+        None => false,
+    }
+}
+
+/// How many superblock pairs stand in front of the root's first pair, in the thread with these
+/// headers. The log of the first pair begins with the superblock, and slot 0 keeps its name, with a
+/// struct of version 2.0 and of the device's geometry (SPEC.md of littlefs, "0x0ff
+/// LFS_TYPE_SUPERBLOCK"). The superblock goes on in the next pair where a pair has no other slot and
+/// a hard tail, and the next one's slot 0 is a superblock's too; both then have the same struct, and
+/// the root begins at the last of them.
+///
+/// `Corrupt` where the superblock isn't so; no such image is accepted. `Io` where a read failed, and
+/// `NoMemory` where there is no room for a block and its slots. Nothing is written. Each of the
+/// superblock's pairs is read once, and the one behind them at most once.
+///
+/// That the headers are those of the device's thread, all and in order, is the caller's condition.
+pub fn count_superblocks<D: BlockDevice>(
+    alloc: Global,
+    dev: &mut D,
+    pairs: &[Pair],
+) -> Result<usize, Error>
+    requires { HasHeaders (disk_on D.BlockDevice dev.old) (D.history dev.old) pairs.now }
+    ensures head { IfOk result (IsHead (disk_on D.BlockDevice dev.old) (pairs_on (disk_on D.BlockDevice dev.old) pairs.now)) }
+    ensures corrupt { IsErrOf result Error.Corrupt → ¬ IsAccepted (disk_on D.BlockDevice dev.old) (pairs_on (disk_on D.BlockDevice dev.old) pairs.now) }
+    ensures device { ReadsOnly D.BlockDevice dev.old dev.new }
+    ensures errors { IfErr result (λ e. (e ≡ Error.Corrupt) ⊎ ((e ≡ Error.Io) ⊎ (e ≡ Error.NoMemory))) }
+    ensures faults { TellsFaults D.BlockDevice dev.old dev.new result }
+    ensures reads { IfOk result (λ count. reads (D.history dev.new) ≤ reads (D.history dev.old) + count + 2) }
+{
+    let bytes = superblock_at(alloc, dev, pairs[0].active)?;
+    for index in 1..pairs.len() {
+        if !goes_on(alloc, dev, &pairs[index - 1], &pairs[index], &bytes)? {
+            return Ok(index - 1);
+        }
+    }
+    Ok(pairs.len() - 1)
+}

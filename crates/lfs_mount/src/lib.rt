@@ -1,0 +1,22 @@
+//! Which images are accepted: one pass over the metadata pairs, whose headers are in memory, and a
+//! search among the directories, which reads nothing.
+#![tactic(auto)]
+
+mod check;
+mod entry;
+mod head;
+mod known;
+mod lists;
+mod members;
+mod mounting;
+mod moves;
+mod pass;
+mod places;
+mod reaching;
+
+pub use check::check_thread;
+pub use head::count_superblocks;
+pub use mounting::mount;
+pub use moves::check_move;
+pub use pass::Member;
+pub use places::Places;

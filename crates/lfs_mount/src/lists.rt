@@ -1,0 +1,99 @@
+// The lists of files, their blocks marked.
+
+ghost use Rattle.std.specs.Prelude.{◌≡◌, ◌⊎◌, ◌≤◌, ◌+◌, ◌^◌, ℕ, length, slice_set, sum_by, OnOk, IfErr, IsErrOf, IsTrue, ◌↔◌};
+ghost use Rattle.std.specs.Bool.{OnFalse, OnTrue};
+ghost use Rattle.std.specs.Option.{option_and_then};
+ghost use Rattle.lfs_device.specs.Calls.{ReadsOnly, TellsFaults};
+ghost use Rattle.lfs_model.specs.BlockSets.{BlockSets, IsFree};
+ghost use Rattle.lfs_model.specs.BlockSets.BlockState.{Used};
+ghost use Rattle.lfs_model.specs.History.{reads};
+ghost use Rattle.lfs_model.specs.Lists.{blocks_for};
+ghost use Rattle.lfs_thread.specs.Kept.{disk_on};
+ghost use Rattle.lfs_mount.specs.Entries.{entry_in};
+ghost use Rattle.lfs_mount.specs.ListsSeen.{lists_seen};
+ghost use Rattle.lfs_mount.specs.Marking.{MarksList, MarksLists, Step, list_of};
+ghost use Rattle.lfs_mount.specs.Reads.{list_reads};
+ghost use Rattle.lfs_tag.specs.ContentSeen.{slot_seen};
+
+use crate::entry::{Target, entry_of};
+use lfs_alloc::BlockMap;
+use lfs_ctz::walk;
+use lfs_device::{BlockDevice, Error};
+use lfs_tag::Slot;
+
+// Makes a free block used, and says whether it was free. One that isn't there isn't.
+fn mark(map: &mut BlockMap, block: u32) -> bool
+    ensures free { IsTrue result ↔ IsFree map.old block }
+    ensures marked { OnTrue result (map.new ≡ slice_set map.old block Used) }
+    ensures same { OnFalse result (map.new ≡ map.old) }
+{
+    block < map.block_count() && map.mark(block)
+}
+
+// Marks the blocks of a file's list, which has its last block at `head` and holds `size` bytes.
+// Corrupt exactly where the list isn't well formed, or one of its blocks was marked before; some
+// may be marked then.
+fn mark_list<D: BlockDevice>(
+    device: &mut D,
+    map: &mut BlockMap,
+    head: u32,
+    size: u32,
+) -> Result<(), Error>
+    ensures marked { OnOk result (MarksList (disk_on D.BlockDevice device.old) map.old (head, size) map.new) }
+    ensures corrupt { IsErrOf result Error.Corrupt → (new : BlockSets) → ¬ MarksList (disk_on D.BlockDevice device.old) map.old (head, size) new }
+    ensures device { ReadsOnly D.BlockDevice device.old device.new }
+    ensures faults { TellsFaults D.BlockDevice device.old device.new result }
+    ensures errors { IfErr result (λ e. (e ≡ Error.Io) ⊎ (e ≡ Error.Corrupt)) }
+    ensures few { (m : ℕ) → blocks_for (D.geometry device.old).block_size size ≤ 2 ^ m
+        → OnOk result (reads (D.history device.new) ≤ reads (D.history device.old) + list_reads (D.geometry device.old).block_size m (head, size)) }
+{
+    let mut is_free = true;
+    walk(
+        device,
+        head,
+        size,
+        &mut |block: u32|
+            ensures { Step map.entry.now is_free.entry block map.exit.now is_free.exit }
+        {
+            let was_free = mark(map, block);
+            is_free = is_free && was_free;
+        },
+    )?;
+    if is_free { Ok(()) } else { Err(Error::Corrupt) }
+}
+
+// The head and the size of the list that an entry in this slot has.
+fn list_of(slot: &Slot<'_>) -> Option<(u32, u32)>
+    ensures { result ≡ option_and_then list_of (entry_in (slot_seen slot.now)) }
+{
+    let Some(entry) = entry_of(slot) else {
+        return None;
+    };
+    match entry.target {
+        Target::List { head, size } => Some((head, size)),
+        _ => None,
+    }
+}
+
+// Marks the blocks of all lists of these slots. Corrupt exactly where one of the lists isn't well
+// formed, or a block was marked before; some may be marked then.
+pub(crate) fn mark_lists<D: BlockDevice>(
+    device: &mut D,
+    map: &mut BlockMap,
+    slots: &[Slot<'_>],
+) -> Result<(), Error>
+    ensures marked { OnOk result (MarksLists (disk_on D.BlockDevice device.old) map.old (lists_seen slots.now) map.new) }
+    ensures corrupt { IsErrOf result Error.Corrupt → (new : BlockSets) → ¬ MarksLists (disk_on D.BlockDevice device.old) map.old (lists_seen slots.now) new }
+    ensures device { ReadsOnly D.BlockDevice device.old device.new }
+    ensures faults { TellsFaults D.BlockDevice device.old device.new result }
+    ensures errors { IfErr result (λ e. (e ≡ Error.Io) ⊎ (e ≡ Error.Corrupt)) }
+    ensures few { (m : ℕ) → length map.old ≤ 2 ^ m
+        → OnOk result (reads (D.history device.new) ≤ reads (D.history device.old) + sum_by (list_reads (D.geometry device.old).block_size m) (lists_seen slots.now)) }
+{
+    for slot in slots {
+        if let Some((head, size)) = list_of(slot) {
+            mark_list(device, map, head, size)?;
+        }
+    }
+    Ok(())
+}

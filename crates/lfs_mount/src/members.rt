@@ -1,0 +1,84 @@
+// What a mount knows of the pairs of directories from their headers.
+
+ghost use Rattle.std.specs.Prelude.{◌≡◌, ◌≤◌, ◌^◌, IfErr, IfOk, length, map, nat_eq, true};
+ghost use Rattle.std.specs.List.{IsDistinct};
+ghost use Rattle.lfs_model.specs.Slots.{address_of};
+ghost use Rattle.lfs_tag.specs.FieldsSeen.{move_seen};
+ghost use Rattle.lfs_mount.specs.ByBlock.{lesser_of};
+ghost use Rattle.lfs_mount.specs.Members.{begins_in, continues, member_in, members_in, moved_at};
+
+use crate::moves::is_same_pair;
+use crate::pass::Member;
+use crate::places::Places;
+use lfs_device::Error;
+use lfs_pair::Pair;
+use lfs_tag::MoveState;
+use lfs_tag::kinds::DELETE;
+use std::alloc::Global;
+
+// Whether a pair's tail is a hard one.
+fn continues(pair: &Pair) -> bool
+    ensures { result ≡ continues pair.now }
+{
+    match pair.tail {
+        None => false,
+        Some(tail) => tail.hard,
+    }
+}
+
+// The slot at an address that the global state says is moved away.
+fn moved_at(state: &MoveState, at: [u32; 2]) -> Option<u32>
+    ensures { result ≡ moved_at (move_seen state.now) (address_of at) }
+{
+    if state.kind == DELETE && is_same_pair(state.pair, at) {
+        Some(u32::from(state.id))
+    } else {
+        None
+    }
+}
+
+fn member_of(state: &MoveState, is_first: bool, pair: &Pair) -> Member
+    ensures { result ≡ member_in (move_seen state.now) is_first pair.now }
+{
+    Member {
+        active: pair.active,
+        is_hard: continues(pair),
+        has_superblock: is_first,
+        moved: moved_at(state, pair.blocks),
+    }
+}
+
+// What is known of these pairs, from the root's first one on.
+pub(crate) fn members_of(
+    alloc: Global,
+    state: &MoveState,
+    pairs: &[Pair],
+) -> Result<Vec<Member>, Error>
+    ensures members { IfOk result (λ members. members.items ≡ members_in (move_seen state.now) true pairs.now) }
+    ensures error { IfErr result (λ e. e ≡ Error.NoMemory) }
+{
+    let mut members = Vec::new(alloc);
+    for pair in pairs {
+        let is_first = members.is_empty();
+        members.push(member_of(state, is_first, pair))?;
+    }
+    Ok(members)
+}
+
+// Where the directories of these pairs begin, from the root's first pair on.
+pub(crate) fn places_of(alloc: Global, pairs: &[Pair]) -> Result<Places, Error>
+    requires few { length pairs.now ≤ 2 ^ 31 }
+    requires apart { IsDistinct nat_eq (map lesser_of (begins_in true pairs.now)) }
+    ensures places { IfOk result (λ places. places ≡ begins_in true pairs.now) }
+    ensures error { IfErr result (λ e. e ≡ Error.NoMemory) }
+{
+    let mut places = Places::new(alloc);
+    let mut begins = true;
+    for pair in pairs {
+        if begins {
+            places.add(pair.blocks)?;
+        }
+        begins = !continues(pair);
+    }
+    Ok(places)
+}

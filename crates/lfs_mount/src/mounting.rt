@@ -1,0 +1,104 @@
+// A device's image, where it is accepted.
+
+ghost use Rattle.std.specs.Prelude.{List, ◌≡◌, ◌≤◌, ◌++◌, ◌∷◌, drop, length, IfErr, IfOk, IsErrOf, OnOk};
+ghost use Rattle.lfs_device.specs.Calls.{ReadsOnly};
+ghost use Rattle.lfs_model.specs.Thread.{Pair as ThreadPair};
+ghost use Rattle.lfs_model.specs.View.{IsAccepted};
+ghost use Rattle.lfs_tag.specs.FieldsSeen.{move_seen};
+ghost use Rattle.lfs_thread.specs.Device.{GivesBack};
+ghost use Rattle.lfs_thread.specs.Kept.{disk_on};
+ghost use Rattle.lfs_mount.specs.Accepted.{HasImage, IsMounted, IsRight};
+ghost use Rattle.lfs_mount.specs.Device.{IsMountError, TellsErrors};
+ghost use Rattle.lfs_mount.specs.Members.{AreDirectories, IsRead, IsThreadOf};
+
+use crate::check::check_thread;
+use crate::head::count_superblocks;
+use crate::members::{members_of, places_of};
+use crate::moves::check_move;
+use lfs_alloc::BlockMap;
+use lfs_device::{BlockDevice, Error};
+use lfs_pair::Pair;
+use lfs_tag::MoveState;
+use lfs_thread::Thread;
+use std::alloc::Global;
+
+/// Reads the image of a device, and keeps its thread where the image is accepted: what littlefs
+/// 2.0 allows (SPEC.md of littlefs), with every file's list well formed, no block owned twice, and
+/// each directory reached once, or not at all where the sync bit is set. Only reads are made. The
+/// map's used blocks are then those of the image's pairs and files, and none is in flight.
+///
+/// `Corrupt` exactly where no image is accepted there. `Io` where a read failed, and `NoMemory` where
+/// memory isn't granted. The device comes back with an error.
+pub fn mount<D: BlockDevice>(alloc: Global, device: D) -> Result<Thread<D>, (D, Error)>
+    ensures mounted { IfOk result (IsMounted (disk_on D.BlockDevice device) (D.history device)) }
+    ensures corrupt { IfErr result (λ e. e.1 ≡ Error.Corrupt → (ps : List ThreadPair) → ¬ IsAccepted (disk_on D.BlockDevice device) ps) }
+    ensures errors { IfErr result (λ e. IsMountError e.1) }
+    ensures back { IfErr result (λ e. GivesBack D.BlockDevice device e.0 e.1) }
+{
+    let thread = Thread::read(alloc, device)?;
+    let state = thread.state();
+    let mut parts = thread.into_parts();
+    match check_image(
+        alloc,
+        &mut parts.device,
+        &mut parts.map,
+        &parts.pairs,
+        &state,
+    ) {
+        Ok(()) => Ok(Thread::from_parts(parts)),
+        Err(error) => Err((parts.device, error)),
+    }
+}
+
+// Checks the image whose thread was read, and marks the blocks of its files.
+fn check_image<D: BlockDevice>(
+    alloc: Global,
+    device: &mut D,
+    map: &mut BlockMap,
+    pairs: &[Pair],
+    state: &MoveState,
+) -> Result<(), Error>
+    requires { IsRead (disk_on D.BlockDevice device.old) (D.history device.old) pairs.now map.old (move_seen state.now) }
+    ensures image { OnOk result (HasImage (disk_on D.BlockDevice device.old) pairs.now map.old map.new) }
+    ensures corrupt { IsErrOf result Error.Corrupt → (ps : List ThreadPair) → ¬ IsAccepted (disk_on D.BlockDevice device.old) ps }
+    ensures device { ReadsOnly D.BlockDevice device.old device.new }
+    ensures errors { TellsErrors D.BlockDevice device.old device.new result }
+{
+    let count = count_superblocks(alloc, device, pairs)?;
+    let directories = pairs_from(pairs, count);
+    check_move(state, directories)?;
+    check_directories(alloc, device, map, directories, state)?;
+    Ok(())
+}
+
+// The pairs from an index on.
+fn pairs_from(pairs: &[Pair], index: usize) -> &[Pair]
+    requires { index ≤ length pairs.now }
+    ensures { result.now ≡ drop index pairs.now }
+{
+    &pairs[index..]
+}
+
+// Checks what stands in the pairs of directories, and marks the blocks of their files.
+fn check_directories<D: BlockDevice>(
+    alloc: Global,
+    device: &mut D,
+    map: &mut BlockMap,
+    pairs: &[Pair],
+    state: &MoveState,
+) -> Result<(), Error>
+    requires { AreDirectories (disk_on D.BlockDevice device.old) map.old (move_seen state.now) pairs.now }
+    ensures ok { OnOk result ((chain : List ThreadPair) (p : ThreadPair) (rest : List ThreadPair)
+        → IsThreadOf (disk_on D.BlockDevice device.old) map.old (move_seen state.now) pairs.now chain p rest
+        → IsRight (disk_on D.BlockDevice device.old) map.old map.new chain p rest) }
+    ensures corrupt { IsErrOf result Error.Corrupt → (chain : List ThreadPair) (p : ThreadPair) (rest : List ThreadPair)
+        → IsThreadOf (disk_on D.BlockDevice device.old) map.old (move_seen state.now) pairs.now chain p rest
+        → ¬ IsAccepted (disk_on D.BlockDevice device.old) (chain ++ p ∷ rest) }
+    ensures device { ReadsOnly D.BlockDevice device.old device.new }
+    ensures errors { TellsErrors D.BlockDevice device.old device.new result }
+{
+    let members = members_of(alloc, state, pairs)?;
+    let places = places_of(alloc, pairs)?;
+    check_thread(alloc, device, map, &places, &members, state.sync)?;
+    Ok(())
+}

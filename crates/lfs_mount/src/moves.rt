@@ -1,0 +1,65 @@
+// Whether the move of a thread's global state is right.
+
+ghost use Rattle.std.specs.Prelude.{◌≡◌, ◌++◌, ◌∷◌, IfErr, List, OnErr, OnOk, false, map, true};
+ghost use Rattle.lfs_model.specs.Disk.{Disk};
+ghost use Rattle.lfs_model.specs.History.{Event};
+ghost use Rattle.lfs_model.specs.Slots.{address_of, gstate_xor, same_pair};
+ghost use Rattle.lfs_model.specs.Thread.{Pair as ThreadPair, gstate_of};
+ghost use Rattle.lfs_model.specs.View.{IsAccepted, IsMove};
+ghost use Rattle.lfs_pair.specs.Pair.{address_in};
+ghost use Rattle.lfs_tag.specs.FieldsSeen.{move_seen};
+ghost use Rattle.lfs_thread.specs.Kept.{AreHeaders, pairs_on};
+ghost use Rattle.lfs_mount.specs.Moves.{HasDirectories, IsMovedFrom, joined_of, names_known, names_one};
+
+use lfs_device::Error;
+use lfs_pair::Pair;
+use lfs_tag::MoveState;
+use lfs_tag::kinds::DELETE;
+
+// Whether two addresses are those of one pair, in either order.
+pub(crate) fn is_same_pair(a: [u32; 2], b: [u32; 2]) -> bool
+    ensures { result ≡ same_pair (address_of a) (address_of b) }
+{
+    (a[0] == b[0] && a[1] == b[1]) || (a[0] == b[1] && a[1] == b[0])
+}
+
+// Whether one of the pairs is at an address.
+fn names_one(address: [u32; 2], pairs: &[Pair]) -> bool
+    ensures { result ≡ names_one (address_of address) (map address_in pairs.now) }
+{
+    for pair in pairs {
+        if is_same_pair(address, pair.blocks) {
+            return true;
+        }
+    }
+    false
+}
+
+/// Checks the move of a global state, as far as the headers of the directories' pairs tell: none is
+/// set, with nothing in the other fields, or it is a delete of a slot in one of these pairs (SPEC.md
+/// of littlefs, "0x7ff LFS_TYPE_MOVESTATE"). That the slot is an entry there is left to who reads the
+/// slots; where one is, the move is right.
+///
+/// `Corrupt` exactly where it is neither, and no accepted image has such a move.
+pub fn check_move(state: &MoveState, pairs: &[Pair]) -> Result<(), Error>
+    ensures ok { OnOk result (names_known (move_seen state.now) (map address_in pairs.now) ≡ true) }
+    ensures corrupt { IfErr result (λ e. (e ≡ Error.Corrupt) × (names_known (move_seen state.now) (map address_in pairs.now) ≡ false)) }
+    ensures right { OnOk result ((chain : List ThreadPair) (p : ThreadPair) (rest : List ThreadPair)
+        → HasDirectories (move_seen state.now) pairs.now chain p rest → IsMovedFrom (move_seen state.now) (p ∷ rest) → IsMove (chain ++ p ∷ rest) (move_seen state.now)) }
+    ensures refused { OnErr result ((disk : Disk) (chain : List ThreadPair) (p : ThreadPair) (rest : List ThreadPair)
+        → HasDirectories (move_seen state.now) pairs.now chain p rest → ¬ IsAccepted disk (chain ++ p ∷ rest)) }
+{
+    if is_known(state, pairs) {
+        Ok(())
+    } else {
+        Err(Error::Corrupt)
+    }
+}
+
+// Whether no move is set, or one of a slot in one of these pairs.
+fn is_known(state: &MoveState, pairs: &[Pair]) -> bool
+    ensures { result ≡ names_known (move_seen state.now) (map address_in pairs.now) }
+{
+    let is_none = state.kind == 0 && state.id == 0 && state.pair[0] == 0 && state.pair[1] == 0;
+    is_none || (state.kind == DELETE && names_one(state.pair, pairs))
+}

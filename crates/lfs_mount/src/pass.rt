@@ -1,0 +1,134 @@
+// The pairs of directories, read and taken.
+
+ghost use Rattle.std.specs.Prelude.{◌≡◌, ◌≤◌, ◌<◌, ◌+◌, ◌^◌, ℕ, All, IfOk, OnOk, IfErr, IsErrOf, None, Some, is_some, length, map, sum_by};
+ghost use Rattle.lfs_device.specs.Calls.{ReadsOnly};
+ghost use Rattle.lfs_model.specs.BlockSets.{BlockSets};
+ghost use Rattle.lfs_model.specs.History.{reads};
+ghost use Rattle.lfs_model.specs.Names.{Name};
+ghost use Rattle.lfs_mount.specs.Device.{TellsErrors};
+ghost use Rattle.lfs_thread.specs.Kept.{disk_on};
+ghost use Rattle.lfs_mount.specs.DirectorySeen.{graph_of};
+ghost use Rattle.lfs_mount.specs.Entries.{entry_in, nothing_known};
+ghost use Rattle.lfs_mount.specs.KnownSeen.{known_seen};
+ghost use Rattle.lfs_mount.specs.Passed.{Passes};
+ghost use Rattle.lfs_mount.specs.Reaching.{Graph, Vertex};
+ghost use Rattle.lfs_mount.specs.Reads.{pair_reads};
+ghost use Rattle.lfs_mount.specs.Taken.{Takes, behind_superblock, unmoved_of};
+ghost use Rattle.lfs_tag.specs.ContentSeen.{slot_seen};
+
+use crate::entry::entry_of;
+use crate::known::Known;
+use crate::lists::mark_lists;
+use crate::places::Places;
+use crate::reaching::Directory;
+use lfs_alloc::BlockMap;
+use lfs_device::{BlockDevice, Error, read_block};
+use lfs_tag::{Content, Log, Slot};
+use std::alloc::Global;
+
+/// What is known of a directory's pair before its slots are looked at.
+#[derive(Clone, Copy, Drop)]
+pub struct Member {
+    /// The block of the two that holds.
+    pub active: u32,
+    /// The tail is hard: the next pair continues the directory.
+    pub is_hard: bool,
+    /// Slot 0 is the superblock, as in the root's first pair.
+    pub has_superblock: bool,
+    /// The id of the slot that the global state says is moved away.
+    pub moved: Option<u32>,
+}
+
+// Takes away the slot that is moved away. Corrupt exactly where it is no entry.
+fn take_moved(slots: &mut Vec<Slot<'_>>, moved: Option<u32>) -> Result<(), Error>
+    ensures ok { OnOk result (unmoved_of moved (map slot_seen slots.old.items) ≡ Some (map slot_seen slots.new.items)) }
+    ensures corrupt { IfErr result (λ e. (e ≡ Error.Corrupt) × (unmoved_of moved (map slot_seen slots.old.items) ≡ None)) }
+{
+    let Some(id) = moved else {
+        return Ok(());
+    };
+    let id = id as usize;
+    if id >= slots.len() || !is_entry(&slots[id]) {
+        return Err(Error::Corrupt);
+    }
+    slots.remove(id);
+    Ok(())
+}
+
+fn is_entry(slot: &Slot<'_>) -> bool
+    ensures { result ≡ is_some (entry_in (slot_seen slot.now)) }
+{
+    entry_of(slot).is_some()
+}
+
+// Takes away the superblock. Corrupt exactly where there is no slot.
+fn take_superblock(slots: &mut Vec<Slot<'_>>, has_superblock: bool) -> Result<(), Error>
+    ensures ok { OnOk result (behind_superblock has_superblock (map slot_seen slots.old.items) ≡ Some (map slot_seen slots.new.items)) }
+    ensures corrupt { IfErr result (λ e. (e ≡ Error.Corrupt) × (behind_superblock has_superblock (map slot_seen slots.old.items) ≡ None)) }
+{
+    if !has_superblock {
+        return Ok(());
+    }
+    if slots.is_empty() {
+        return Err(Error::Corrupt);
+    }
+    slots.remove(0);
+    Ok(())
+}
+
+// Takes the entries of a pair of a directory by its active block, and marks the blocks of its
+// files. Corrupt exactly where its log is malformed, a slot holds no entry, a list isn't well formed
+// or a block was marked before.
+fn take_pair<D: BlockDevice>(
+    alloc: Global,
+    device: &mut D,
+    map: &mut BlockMap,
+    places: &Places,
+    known: &mut Known,
+    member: &Member,
+) -> Result<(), Error>
+    requires { member.now.active < (D.geometry device.old).block_count }
+    ensures taken { OnOk result (Takes (disk_on D.BlockDevice device.old) places.now member.now (known_seen known.old) map.old (known_seen known.new) map.new) }
+    ensures corrupt { IsErrOf result Error.Corrupt → (new : Name × Vertex) (sets : BlockSets) → ¬ Takes (disk_on D.BlockDevice device.old) places.now member.now (known_seen known.old) map.old new sets }
+    ensures device { ReadsOnly D.BlockDevice device.old device.new }
+    ensures errors { TellsErrors D.BlockDevice device.old device.new result }
+    ensures few { (m : ℕ) → length map.old ≤ 2 ^ m
+        → OnOk result (reads (D.history device.new) ≤ reads (D.history device.old) + pair_reads (disk_on D.BlockDevice device.old) m member.now) }
+{
+    let bytes = read_block(alloc, device, member.active)?;
+    let log = Log::read(&bytes);
+    let mut slots = Content::read(alloc, &log)?.slots;
+    take_moved(&mut slots, member.moved)?;
+    take_superblock(&mut slots, member.has_superblock)?;
+    known.scan(places, &slots)?;
+    mark_lists(device, map, &slots)?;
+    Ok(())
+}
+
+// Takes the pairs of all directories, in the thread's order. Corrupt exactly where one of them can't
+// be taken.
+pub(crate) fn take_pairs<D: BlockDevice>(
+    alloc: Global,
+    device: &mut D,
+    map: &mut BlockMap,
+    places: &Places,
+    members: &[Member],
+) -> Result<Vec<Directory>, Error>
+    requires { All (λ m. m.active < (D.geometry device.old).block_count) members.now }
+    ensures taken { IfOk result (λ ds. Passes (disk_on D.BlockDevice device.old) places.now nothing_known map.old members.now (graph_of ds.items) map.new) }
+    ensures corrupt { IsErrOf result Error.Corrupt → (graph : Graph) (end : BlockSets) → ¬ Passes (disk_on D.BlockDevice device.old) places.now nothing_known map.old members.now graph end }
+    ensures device { ReadsOnly D.BlockDevice device.old device.new }
+    ensures errors { TellsErrors D.BlockDevice device.old device.new result }
+    ensures few { (m : ℕ) → length map.old ≤ 2 ^ m
+        → OnOk result (reads (D.history device.new) ≤ reads (D.history device.old) + sum_by (pair_reads (disk_on D.BlockDevice device.old) m) members.now) }
+{
+    let mut directories = Vec::new(alloc);
+    let mut known = Known::nothing(alloc);
+    for member in members {
+        take_pair(alloc, device, map, places, &mut known, member)?;
+        if !member.is_hard {
+            directories.push(known.end(alloc))?;
+        }
+    }
+    Ok(directories)
+}

@@ -1,0 +1,5 @@
+//! Tests of mounts.
+#![tactic(auto)]
+
+#[cfg(test)]
+mod mounts;

@@ -1,0 +1,107 @@
+-- What comes of a pair that is changed, or split where what the changes make doesn't fit.
+use Rattle.std.specs.Prelude.{ℕ, ◌≡◌, ◌≢◌, ◌⊎◌, ◌<◌, Bool, true, false, List, ◌∷◌, Some, slice_set, Result, Ok, Err, IfErr, IsErrOf, ◌≤◌, length}
+use Rattle.std.specs.List.{AllByRecursion}
+use Rattle.lfs_device.specs.declared.error.Error.{Error}
+use Rattle.lfs_device.specs.declared.error.Error.TheVariants.{Io, NoMemory, NoSpace}
+use Rattle.lfs_model.specs.Blocks.{Blocks}
+use Rattle.lfs_model.specs.BlockSets.{BlockSets, IsFree}
+use Rattle.lfs_model.specs.BlockSets.BlockState.{InFlight}
+use Rattle.lfs_model.specs.Changes.{Change}
+use Rattle.lfs_model.specs.Content.{RawContent, content_at}
+use Rattle.lfs_model.specs.Disk.{block_count}
+use Rattle.lfs_model.specs.History.{faults}
+use Rattle.lfs_model.specs.Slots.{Content, FitsPair}
+use Rattle.lfs_model.specs.Thread.{IsThread}
+use Rattle.lfs_model.specs.Cut.{CanBeCut}
+use Rattle.lfs_pair.specs.Commit.{made_at}
+use Rattle.lfs_pair.specs.Split.{OutsideBothKeeps}
+use Rattle.lfs_thread.specs.Kept.{Kept, State}
+use Rattle.lfs_thread.specs.Steps.{pair_in, made_in_thread, CanChange, HasShape, IsChanged, IsLeft, IsLeftBySplit, IsOnlyRead, IsUnwritten, ArePartsOf, Writes, front_pair, back_pair, settled, with_two}
+
+-- ---- free blocks
+
+pub record AreTwoFree (sets : BlockSets) (fresh : ℕ × ℕ) : Type 0 where
+  pub apart : fresh.0 ≢ fresh.1
+  pub first : IsFree sets fresh.0
+  pub second : IsFree sets fresh.1
+
+abbrev pub HasTwoFree : BlockSets → Type 0
+HasTwoFree sets = (fresh : ℕ × ℕ) × AreTwoFree sets fresh
+
+-- they are in flight now
+abbrev pub flying : BlockSets → ℕ × ℕ → BlockSets
+flying sets fresh = slice_set (slice_set sets fresh.0 InFlight) fresh.1 InFlight
+
+-- ---- what an operation tells
+
+-- the thread has failed then: it is to be read anew
+abbrev pub has_failed : {X : Type 0} → Result X Error → Bool
+has_failed (Ok x) = false
+has_failed (Err NoSpace) = false
+has_failed (Err _) = true
+
+-- `Io` comes with a fault of the device, and any other answer with none. At `NoMemory` nothing was written. At `NoSpace`, which
+-- comes where fewer than two blocks are free, everything is as it was.
+pub record TellsSpace {X : Type 0} (old new : Kept) (result : Result X Error) : Type 0 where
+  pub errors : IfErr result (λ e. (e ≡ Io) ⊎ ((e ≡ NoMemory) ⊎ (e ≡ NoSpace)))
+  pub fault : IsErrOf result Io → faults old.history < faults new.history
+  pub no_fault : ¬ IsErrOf result Io → faults new.history ≡ faults old.history
+  pub unwritten : result ≡ Err NoMemory → IsUnwritten old new
+  pub unchanged : result ≡ Err NoSpace → IsOnlyRead old new
+  pub no_space : result ≡ Err NoSpace → HasTwoFree old.map → ⊥
+
+-- Only blocks of the pair changed, and at most two blocks that were free.
+pub record WritesIn (old : Kept) (index : ℕ) (new : Kept) : Type 0 where
+  pub fresh : List ℕ
+  pub few : length fresh ≤ 2
+  pub free : AllByRecursion (IsFree old.map) fresh
+  pub writes : Writes ((pair_in old index).at.0 ∷ (pair_in old index).at.1 ∷ fresh) old new
+
+-- ---- a pair is changed or split
+
+-- there is such a pair, and the changes make something of it that can be cut in two and whose tail names the same pair
+pub record CanPut (t : Kept) (index : ℕ) (changes : List Change) : Type 0 where
+  pub can : CanChange t index changes
+  pub raw : RawContent
+  pub made : made_at t.disk (pair_in t index).at changes ≡ Some raw
+  pub cut : CanBeCut t.disk.block_size t.disk.page raw.slots
+
+-- the pair and a fresh one, in two blocks that were free, have the two parts, and everything else is as it was
+pub record IsCutIn (old : Kept) (index : ℕ) (fresh : ℕ × ℕ) (changes : List Change) (new : Kept) : Type 0 where
+  pub free : AreTwoFree old.map fresh
+  pub content : Content
+  pub made : made_in_thread old index changes ≡ Some content
+  pub cut : ℕ
+  pub parts : ArePartsOf old index content cut fresh new.disk
+  pub others : OutsideBothKeeps (pair_in old index).at fresh old.disk.blocks new.disk.blocks
+  pub shape : HasShape old.disk new.disk
+  pub pairs : new.pairs ≡ with_two old.pairs index (front_pair old index content cut fresh) (back_pair content cut fresh)
+  pub thread : IsThread (content_at new.disk) (block_count new.disk) new.pairs
+  pub map : new.map ≡ settled (flying old.map fresh) fresh
+
+abbrev pub IsCut : Kept → ℕ → List Change → Kept → Type 0
+IsCut old index changes new = (fresh : ℕ × ℕ) × IsCutIn old index fresh changes new
+
+-- what the changes make doesn't fit the pair
+abbrev pub IsTooLarge : Kept → ℕ → List Change → Type 0
+IsTooLarge t index changes = (content : Content) × ((made_in_thread t index changes ≡ Some content) × (FitsPair t.disk.block_size t.disk.page content → ⊥))
+
+abbrev pub IsPut : Kept → ℕ → List Change → Kept → Type 0
+IsPut old index changes new = IsChanged old index changes new ⊎ (IsTooLarge old index changes × IsCut old index changes new)
+
+-- what a stop leaves
+abbrev pub IsLeftByCut : Kept → ℕ → List Change → Blocks → Type 0
+IsLeftByCut old index changes left = (fresh : ℕ × ℕ) × (AreTwoFree old.map fresh × IsLeftBySplit old index fresh changes left)
+
+abbrev pub IsLeftByPut : Kept → ℕ → List Change → Blocks → Type 0
+IsLeftByPut old index changes left = IsLeft old index changes left ⊎ (IsTooLarge old index changes × IsLeftByCut old index changes left)
+
+-- what a step of an operation tells, and whether the thread has failed by it
+pub record Tells {X : Type 0} (old new : State) (result : Result X Error) : Type 0 where
+  pub failed : new.failed ≡ has_failed result
+  pub tells : TellsSpace old.kept new.kept result
+
+-- The same, where the pair is split only if it has to be: `NoSpace` comes only where what the changes make doesn't fit it.
+pub record TellsPut {X : Type 0} (old new : State) (index : ℕ) (changes : List Change) (result : Result X Error) : Type 0 where
+  pub tells : Tells old new result
+  pub too_large : result ≡ Err NoSpace → IsTooLarge old.kept index changes

@@ -1,0 +1,15 @@
+pub mod Entry
+pub mod Search
+pub mod Paths
+pub mod FileBytes
+pub mod Items
+pub mod Listed
+pub mod Reading
+pub mod Ready
+pub mod Changing
+pub mod Creating
+pub mod Walk
+pub mod Editing
+pub mod Storing
+pub mod Removing
+pub mod Formatting

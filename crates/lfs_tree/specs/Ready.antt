@@ -1,0 +1,62 @@
+-- An image that an operation may change.
+use Rattle.std.specs.Prelude.{ℕ, ◌≡◌, ◌≤◌, ◌+◌, List, length, slice_get, Some}
+use Rattle.lfs_model.specs.BlockSets.{AreUsed, BlockSets, IsFree, IsInFlight}
+use Rattle.lfs_model.specs.Content.{RawContent, raw_at}
+use Rattle.lfs_model.specs.Disk.{Disk, block_count}
+use Rattle.lfs_model.specs.Logged.{IsLogged}
+use Rattle.lfs_model.specs.Slots.{no_gstate}
+use Rattle.lfs_model.specs.Thread.{gstate_of}
+use Rattle.lfs_model.specs.View.{IsAccepted, IsWritable, tree_in, used_blocks}
+use Rattle.lfs_model.specs.Tree.{Tree}
+use Rattle.lfs_model.proofs.Counts.{count}
+use Rattle.lfs_thread.specs.Kept.{Kept}
+
+-- It is accepted and in the writing profile, no move is set and the sync bit isn't; the map knows each of its blocks.
+-- A block has at least 1,024 bytes, as in each geometry.
+pub record IsReady (t : Kept) : Type 0 where
+  pub accepted : IsAccepted t.disk t.pairs
+  pub writable : IsWritable t.disk t.pairs
+  pub settled : gstate_of t.pairs ≡ no_gstate
+  pub used : AreUsed t.map (used_blocks t.disk t.pairs)
+  pub size : length t.map ≡ block_count t.disk
+  pub large : 1024 ≤ t.disk.block_size
+
+-- a block that wasn't free is what it was
+abbrev pub StayTaken : BlockSets → BlockSets → Type 0
+StayTaken old new = (b : ℕ) → (IsFree old b → ⊥) → slice_get new b ≡ slice_get old b
+
+-- a block in flight was so before
+abbrev pub NoneComes : BlockSets → BlockSets → Type 0
+NoneComes old new = (b : ℕ) → IsInFlight new b → IsInFlight old b
+
+-- what the log of a pair comes to is what a log can come to, as where its bytes are numbers below 256
+abbrev pub IsLoggedAt : Disk → ℕ × ℕ → Type 0
+IsLoggedAt disk at = (raw : RawContent) → raw_at disk at ≡ Some raw → IsLogged raw
+
+-- The image shows that tree and may be changed again; the map has lost nothing, and no block more is in flight.
+pub record HasBecome (old new : Kept) (tree : Tree) : Type 0 where
+  pub ready : IsReady new
+  pub shows : tree_in new.disk new.pairs ≡ tree
+  pub stays : StayTaken old.map new.map
+  pub none_comes : NoneComes old.map new.map
+
+-- The used blocks are these without those that come, and those that are gone.
+pub record AreUsedBut (sets : BlockSets) (used gone come : List ℕ) : Type 0 where
+  pub owned : List ℕ
+  pub are : AreUsed sets owned
+  pub same : (b : ℕ) → count b owned + count b come ≡ count b used + count b gone
+
+-- An image that may be changed again once those that come are settled in the map, and those that are gone are freed.
+pub record IsReadyBut (t : Kept) (gone come : List ℕ) : Type 0 where
+  pub accepted : IsAccepted t.disk t.pairs
+  pub writable : IsWritable t.disk t.pairs
+  pub settled : gstate_of t.pairs ≡ no_gstate
+  pub used : AreUsedBut t.map (used_blocks t.disk t.pairs) gone come
+  pub size : length t.map ≡ block_count t.disk
+  pub large : 1024 ≤ t.disk.block_size
+
+pub record HasBecomeBut (old new : Kept) (tree : Tree) (gone come : List ℕ) : Type 0 where
+  pub ready : IsReadyBut new gone come
+  pub shows : tree_in new.disk new.pairs ≡ tree
+  pub stays : StayTaken old.map new.map
+  pub none_comes : NoneComes old.map new.map

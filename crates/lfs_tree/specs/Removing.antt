@@ -1,0 +1,37 @@
+-- A file that goes from a directory.
+use Rattle.std.specs.Prelude.{ℕ, ◌≡◌, ◌⊎◌, ◌<◌, List, [], ◌∷◌, ◌++◌, length, None, Result, is_err}
+use Rattle.lfs_device.specs.declared.error.Error.{Error}
+use Rattle.lfs_model.specs.Apply.{removed}
+use Rattle.lfs_model.specs.Names.{Name}
+use Rattle.lfs_model.specs.Operations as ops
+use Rattle.lfs_model.specs.Session.{Session}
+use Rattle.lfs_model.specs.Slots.{Struct}
+use Rattle.lfs_model.specs.Steps.{as_path}
+use Rattle.lfs_model.specs.Tree.{Path, Tree, branch_of}
+use Rattle.lfs_model.specs.View.{file_blocks, tree_in}
+use Rattle.lfs_model.proofs.Committed.{IsCompleted}
+use Rattle.lfs_thread.specs.Kept.{Kept, State}
+use Rattle.lfs_thread.specs.Steps.{HasTold, pair_in}
+use Rattle.lfs_tree.specs.Editing.{CanEdit, slot_at}
+use Rattle.lfs_tree.specs.Ready.{HasBecomeBut}
+
+-- A file stands there, and its pair is the first of its directory or has another slot: so the pair stays.
+pub record CanRemove (t : Kept) (pair id : ℕ) : Type 0 where
+  pub can : CanEdit t pair id
+  pub file : branch_of (slot_at can).struct ≡ None
+  pub stays : (pair ≡ can.first) ⊎ (1 < length (pair_in t pair).content.slots)
+
+abbrev pub without_file : Kept → Path → Name → Tree
+without_file t path name = removed (path ++ name ∷ []) (tree_in t.disk t.pairs)
+
+-- The tree hasn't it, and the other slots stand where they should: so a remove of its path is completed. The blocks of its list
+-- are gone.
+pub record IsRemoved (old new : Kept) (path : Path) (name : Name) (struct : Struct) : Type 0 where
+  pub now : HasBecomeBut old new (without_file old path name) (file_blocks old.disk struct) []
+  pub completed : (s : Session) (given : List ℕ) → s.tree ≡ tree_in old.disk old.pairs → as_path given ≡ path ++ name ∷ []
+      → IsCompleted old.disk old.pairs s (ops.Remove given) new.disk new.pairs
+
+-- what a step tells that takes no block, and whether the thread has failed by it
+pub record TellsOfCalls {X : Type 0} (old new : State) (result : Result X Error) : Type 0 where
+  pub failed : new.failed ≡ is_err result
+  pub told : HasTold old.kept new.kept result

@@ -1,0 +1,127 @@
+// An empty file system on a device.
+
+ghost use Rattle.std.specs.Prelude.{◌≡◌, ◌≤◌, ◌+◌, [], false, IfErr, IfOk, OnOk};
+ghost use Rattle.lfs_device.specs.Calls.{ChangesOnly, TellsFaults};
+ghost use Rattle.lfs_model.specs.History.{erases};
+ghost use Rattle.lfs_model.specs.Thread.{anchor};
+ghost use Rattle.lfs_pair.specs.ChangeSeen.{changes_seen};
+ghost use Rattle.lfs_pair.specs.Fresh.{FailsUntouched};
+ghost use Rattle.lfs_thread.specs.Device.{two_of};
+ghost use Rattle.lfs_thread.specs.Kept.{disk_on, seen_on};
+ghost use Rattle.lfs_thread.specs.Steps.{Writes};
+ghost use Rattle.lfs_tree.specs.Formatting.{ComesBack, ErasesTwo, IsEmptyMap, IsEmptyRoot, IsEmptyThread, IsFormatted, ShowsEmptyRoot, put_superblock};
+
+use lfs_alloc::BlockMap;
+use lfs_cache::Cache;
+use lfs_device::{BlockDevice, Error};
+use lfs_pair::{Change, Pair};
+use lfs_tag::kinds::{INLINE_STRUCT, SUPERBLOCK_NAME};
+use lfs_tag::{Superblock, superblock_bytes};
+use lfs_thread::{Parts, Thread};
+use std::alloc::Global;
+
+// Where the thread begins.
+const ROOT: [u32; 2] = [0, 1];
+
+// The changes that put the superblock into slot 0.
+fn superblock_changes<'a>(structure: &'a [u8; 24]) -> [Change<'a>; 2]
+    ensures { changes_seen result ≡ put_superblock structure.now }
+{
+    [
+        Change::Create {
+            id: 0,
+            kind: SUPERBLOCK_NAME,
+            name: Superblock::NAME,
+        },
+        Change::Struct {
+            id: 0,
+            kind: INLINE_STRUCT,
+            bytes: structure,
+        },
+    ]
+}
+
+// Writes the superblock, and nothing else, into a pair of the blocks 0 and 1.
+fn write_root<D: BlockDevice>(alloc: Global, device: &mut D) -> Result<Pair, Error>
+    ensures root { IfOk result (λ pair. IsEmptyRoot (disk_on D.BlockDevice device.new) (D.history device.new) pair) }
+    ensures erases { OnOk result (erases (D.history device.new) ≡ erases (D.history device.old) + 2) }
+    ensures error { IfErr result (λ e. FailsUntouched device.old device.new e) }
+    ensures device { ChangesOnly D.BlockDevice (two_of anchor) device.old device.new }
+    ensures faults { TellsFaults D.BlockDevice device.old device.new result }
+{
+    let geometry = device.geometry();
+    let structure = superblock_bytes(&Superblock::of(&geometry));
+    let changes = superblock_changes(&structure);
+    let pair = Pair::fresh(alloc, device, ROOT, &changes)?;
+    Ok(pair)
+}
+
+// Writes the superblock, and makes its pair the only one of the thread.
+fn write_thread<D: BlockDevice>(
+    alloc: Global,
+    device: &mut D,
+    pairs: &mut Vec<Pair>,
+) -> Result<(), Error>
+    requires none { pairs.old.items ≡ [] }
+    ensures root { OnOk result (IsEmptyThread (disk_on D.BlockDevice device.new) (D.history device.new) pairs.new.items) }
+    ensures erases { OnOk result (erases (D.history device.new) ≡ erases (D.history device.old) + 2) }
+    ensures error { IfErr result (λ e. FailsUntouched device.old device.new e) }
+    ensures device { ChangesOnly D.BlockDevice (two_of anchor) device.old device.new }
+    ensures faults { TellsFaults D.BlockDevice device.old device.new result }
+{
+    // Room for the header, before anything is written.
+    pairs.reserve(1)?;
+    let pair = write_root(alloc, device)?;
+    pairs.push(pair)?;
+    Ok(())
+}
+
+// An empty cache, and a map of so many blocks, of which the first two are used.
+fn in_memory(alloc: Global, block_count: u32) -> Result<(Cache, BlockMap), Error>
+    requires { 2 ≤ block_count }
+    ensures empty { IfOk result (λ parts. parts.0 ≡ []) }
+    ensures map { IfOk result (λ parts. IsEmptyMap block_count parts.1) }
+    ensures error { IfErr result (λ e. e ≡ Error.NoMemory) }
+{
+    let cache = Cache::new(alloc)?;
+    let mut map = BlockMap::new(alloc, block_count)?;
+    map.mark(ROOT[0]);
+    map.mark(ROOT[1]);
+    Ok((cache, map))
+}
+
+/// Makes an empty file system on a device, whatever it holds: both blocks of the pair of the blocks
+/// 0 and 1 are erased, and the first then has the superblock alone, at revision 1. It says version
+/// 2.0, the device's block size in bytes and its block count, and the limits of what is written:
+/// names of 255 bytes, files of 2,147,483,647 and attributes of 1,022 (SPEC.md of littlefs, "0x0ff
+/// LFS_TYPE_SUPERBLOCK"). The root directory is empty then, and the image may be written.
+///
+/// No other block is written, and a loss of power on the way leaves each other block as it was.
+///
+/// `Io` where a call of the device failed; the two blocks may hold anything then. `NoMemory` where
+/// there is no room for the map, the headers and a block; nothing is written then. The device comes
+/// back with an error.
+pub fn format<D: BlockDevice>(alloc: Global, mut device: D) -> Result<Thread<D>, (D, Error)>
+    ensures works { IfOk result (λ t. t.failed ≡ false) }
+    ensures formatted { IfOk result (λ t. IsFormatted t.kept) }
+    ensures shows { IfOk result (λ t. ShowsEmptyRoot t.kept) }
+    ensures writes { IfOk result (λ t. Writes (two_of anchor) (seen_on D.BlockDevice device [] []) t.kept) }
+    ensures calls { IfOk result (λ t. ErasesTwo (D.history device) t.kept.history) }
+    ensures back { IfErr result (λ e. ComesBack D.BlockDevice (two_of anchor) device e.0 e.1) }
+{
+    let block_count = device.geometry().block_count;
+    let mut pairs = Vec::new(alloc);
+    let (cache, map) = match in_memory(alloc, block_count) {
+        Ok(parts) => parts,
+        Err(error) => return Err((device, error)),
+    };
+    match write_thread(alloc, &mut device, &mut pairs) {
+        Ok(()) => Ok(Thread::from_parts(Parts {
+            device,
+            cache,
+            pairs,
+            map,
+        })),
+        Err(error) => Err((device, error)),
+    }
+}

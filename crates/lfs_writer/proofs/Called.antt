@@ -1,0 +1,125 @@
+-- What calls of a device one behind the other say of its faults and of what they leave alone.
+use Rattle.std.proofs.Common.{ℕ, ◌≡◌, List, Result, Ok, Err, refl, sym, subst, ◌∙◌, arith}
+use Rattle.lfs_device.specs.Calls.{ReadsOnly, ChangesOnly, TellsFaults}
+use Rattle.lfs_device.specs.declared.device.BlockDevice.{Ghosts}
+use Rattle.lfs_device.specs.declared.error.Error.{Error}
+use Rattle.lfs_device.specs.declared.error.Error.TheVariants.{Io, NoMemory}
+use Rattle.lfs_model.specs.Blocks.{Blocks}
+use Rattle.lfs_model.specs.BlockSets.{BlockSets}
+use Rattle.lfs_model.specs.History.{faults}
+use Rattle.lfs_model.proofs.Histories.{AtWorst-read, LeavesOnly-reads, OnlyReads-trans, began, unprogrammed-reads}
+use Rattle.lfs_ctz.specs.Growing.{Growing, pending_of}
+use Rattle.lfs_writer.specs.Apart.{IsApart, IsMarked, Spares}
+use Rattle.lfs_writer.specs.Calls.{LeavesApart, LeavesUsed}
+use Rattle.lfs_writer.specs.Hand.{KeepsUsed, SparesUsed}
+use Rattle.lfs_writer.proofs.Growth.{Spares-refl, Spares-trans, SparesPages-trans, stops_trans}
+use Rattle.lfs_writer.proofs.Spared.{SparesUsed-refl, SparesUsed-trans, SparesUsedPages-trans, pages_end, spares_end, stops_end, to_used, to_used_pages, to_used_stops, used_stops_trans}
+
+module _ {D : Type 0} (g : Ghosts D) where
+  -- a call that succeeds has no fault
+  pub quiet : {X : Type 0} {old new : D} {x : X} → TellsFaults g old new (Ok x) → faults (g.history new) ≡ faults (g.history old)
+  quiet told = told.no_fault (λ is. absurd (cc))
+
+  -- after calls without a fault
+  pub told_on : {X : Type 0} {old mid new : D} {result : Result X Error} → faults (g.history mid) ≡ faults (g.history old) → TellsFaults g mid new result → TellsFaults g old new result
+  told_on none told = record {
+    fault = λ is. (let more = told.fault is in omega arith);
+    no_fault = λ other. told.no_fault other ∙ none;
+  }
+
+  -- success after calls without a fault
+  pub told_ok : {X : Type 0} {old new : D} {x : X} → faults (g.history new) ≡ faults (g.history old) → TellsFaults {X = X} g old new (Ok x)
+  told_ok none = record { fault = λ is. absurd (cc); no_fault = λ other. none }
+
+  -- no memory after calls without a fault
+  pub told_no_memory : {X : Type 0} {old new : D} {e : Error} → e ≡ NoMemory → faults (g.history new) ≡ faults (g.history old) → TellsFaults {X = X} g old new (Err e)
+  told_no_memory {X} {e = e} is none = record {
+    fault = λ io. (let same : e ≡ Io = cc in let both : NoMemory ≡ Io = cc in absurd (cc));
+    no_fault = λ other. none;
+  }
+
+  -- the same error of a call with another result
+  pub told_as : {X Y : Type 0} {old new : D} {e : Error} → TellsFaults {X = X} g old new (Err e) → TellsFaults {X = Y} g old new (Err e)
+  told_as {X} {Y} {e = e} told = record {
+    fault = λ is. told.fault (again is);
+    no_fault = λ other. told.no_fault (λ is. other (back is));
+  }
+    where
+      again : {f : Error} → ◌≡◌ {A = Result Y Error} (Err e) (Err f) → ◌≡◌ {A = Result X Error} (Err e) (Err f)
+      again {f} is = let same : e ≡ f = cc in subst (λ z. ◌≡◌ {A = Result X Error} (Err e) (Err z)) same refl
+
+      back : {f : Error} → ◌≡◌ {A = Result X Error} (Err e) (Err f) → ◌≡◌ {A = Result Y Error} (Err e) (Err f)
+      back {f} is = let same : e ≡ f = cc in subst (λ z. ◌≡◌ {A = Result Y Error} (Err e) (Err z)) same refl
+
+  -- ---- reads
+
+  pub not_read : (d : D) → ReadsOnly g d d
+  not_read d = record { same = refl; geometry = refl; reads = began }
+
+  pub read_on : {old mid new : D} → ReadsOnly g old mid → ReadsOnly g mid new → ReadsOnly g old new
+  read_on first second = record {
+    same = second.same ∙ first.same;
+    geometry = second.geometry ∙ first.geometry;
+    reads = OnlyReads-trans first.reads second.reads first.same;
+  }
+
+  -- ---- blocks that stand apart
+
+  pub apart_reads : {old new : D} (map : BlockSets) (pending : List ℕ) → ReadsOnly g old new → LeavesApart g map pending old new
+  apart_reads {old} {new} map pending only = record {
+    spared = subst (Spares map pending (g.blocks old)) (sym only.same) (Spares-refl map pending (g.blocks old));
+    pages = record { stays = λ k i apart was. unprogrammed-reads k i only.reads ∙ was };
+    geometry = only.geometry;
+    at_worst = LeavesOnly-reads AtWorst-read only.reads (Spares-refl map pending (g.blocks old));
+  }
+
+  -- the list's last block is written
+  pub apart_end : {old new : D} {pending : List ℕ} (map : BlockSets) → ChangesOnly g pending old new → LeavesApart g map pending old new
+  apart_end {old} {new} {pending} map changes = record {
+    spared = spares_end map pending (g.blocks old) (g.blocks new) changes.others;
+    pages = pages_end map pending (g.history old) (g.history new) changes.elsewhere;
+    geometry = changes.geometry;
+    at_worst = stops_end map pending (g.blocks old) (g.history old) (g.history new) changes.at_worst;
+  }
+
+  pub apart_on : {map later : BlockSets} {pending then : List ℕ} {old mid new : D} → ((k : ℕ) → IsApart map pending k → IsApart later then k) → LeavesApart g map pending old mid → LeavesApart g later then mid new
+      → LeavesApart g map pending old new
+  apart_on {map} {later} {pending} {then} {old} {mid} {new} apart first second = record {
+    spared = Spares-trans map later pending then (g.blocks old) (g.blocks mid) (g.blocks new) apart first.spared second.spared;
+    pages = SparesPages-trans map later pending then (g.history old) (g.history mid) (g.history new) apart first.pages second.pages;
+    geometry = second.geometry ∙ first.geometry;
+    at_worst = stops_trans map later pending then (g.blocks old) (g.blocks mid) (g.history old) (g.history mid) (g.history new) apart first.at_worst first.spared second.at_worst;
+  }
+
+  pub apart_read : {map : BlockSets} {pending : List ℕ} {old mid new : D} → LeavesApart g map pending old mid → ReadsOnly g mid new → LeavesApart g map pending old new
+  apart_read {map} {pending} first only = apart_on (λ k apart. apart) first (apart_reads map pending only)
+
+  -- ---- used blocks
+
+  pub used_reads : {old new : D} (map : BlockSets) → ReadsOnly g old new → LeavesUsed g map old new
+  used_reads {old} {new} map only = record {
+    spared = subst (SparesUsed map (g.blocks old)) (sym only.same) (SparesUsed-refl map (g.blocks old));
+    pages = record { stays = λ k i used was. unprogrammed-reads k i only.reads ∙ was };
+    geometry = only.geometry;
+    at_worst = LeavesOnly-reads AtWorst-read only.reads (SparesUsed-refl map (g.blocks old));
+  }
+
+  pub used_on : {map later : BlockSets} {old mid new : D} → KeepsUsed map later → LeavesUsed g map old mid → LeavesUsed g later mid new → LeavesUsed g map old new
+  used_on {map} {later} {old} {mid} {new} keeps first second = record {
+    spared = SparesUsed-trans map later (g.blocks old) (g.blocks mid) (g.blocks new) keeps first.spared second.spared;
+    pages = SparesUsedPages-trans map later (g.history old) (g.history mid) (g.history new) keeps first.pages second.pages;
+    geometry = second.geometry ∙ first.geometry;
+    at_worst = used_stops_trans map later (g.blocks old) (g.blocks mid) (g.history old) (g.history mid) (g.history new) keeps first.at_worst first.spared second.at_worst;
+  }
+
+  pub used_read : {map : BlockSets} {old mid new : D} → LeavesUsed g map old mid → ReadsOnly g mid new → LeavesUsed g map old new
+  used_read {map} first only = used_on (record { count = refl; used = refl; stays = λ b used. used }) first (used_reads map only)
+
+  -- used blocks stand apart
+  pub used_of : {map : BlockSets} {d : Blocks} {old new : D} (list : Growing) → IsMarked map d list → LeavesApart g map (pending_of list) old new → LeavesUsed g map old new
+  used_of {map} {d} {old} {new} list marked leaves = record {
+    spared = to_used map d list marked (g.blocks old) (g.blocks new) leaves.spared;
+    pages = to_used_pages map d list marked (g.history old) (g.history new) leaves.pages;
+    geometry = leaves.geometry;
+    at_worst = to_used_stops map d list marked (g.blocks old) (g.history old) (g.history new) leaves.at_worst;
+  }

@@ -1,0 +1,51 @@
+-- A finished list that is cut.
+use Rattle.std.proofs.Common.{ℕ, ◌≡◌, ◌≢◌, inl, inr, ⊎_elim, get_or, List, [], take, drop, sym, ◌∙◌, subst, arith, length-drop}
+use Rattle.std.specs.Prelude.{All, Contains}
+use Rattle.std.proofs.lemmas.List.{take-take, length-take}
+use Rattle.std.proofs.lemmas.List.Elements.{All-contains, All-contains_itself, All-take}
+use Rattle.lfs_model.specs.Blocks.{Blocks, SameButThese}
+use Rattle.lfs_model.specs.BlockSets.{BlockSets, IsFree, IsInFlight}
+use Rattle.lfs_model.specs.Lists.{IsList}
+use Rattle.lfs_writer.specs.Apart.{IsApart}
+use Rattle.lfs_writer.specs.Based.{IsBase, list_blocks}
+use Rattle.lfs_writer.specs.Hand.{IsStored}
+use Rattle.lfs_writer.specs.Released.{Releases}
+use Rattle.lfs_writer.specs.declared.stored.Stored.{Stored}
+use Rattle.lfs_writer.proofs.Bases.{blocks_stay, list_stays}
+use Rattle.lfs_writer.proofs.Ends.{base_distinct, gone_of, still_apart, still_flying}
+use Rattle.lfs_writer.proofs.Spared.{spares_end}
+use Rattle.lfs_writer.proofs.Takings.{member}
+
+module _ (map : BlockSets) (d f : Blocks) (block_size : ℕ) (stored : Stored) (pending : List ℕ) (is : IsStored map d block_size stored) (none : pending ≡ []) (same : SameButThese pending d f) where
+  abbrev bb : List ℕ
+  bb = list_blocks d block_size stored.head stored.size
+
+  apart : All (IsApart map pending) (list_blocks d block_size stored.head stored.size)
+  apart k x l = (is.marked k x l, subst (All (λ p. p ≢ get_or (list_blocks d block_size stored.head stored.size) k x)) (sym none) (λ i y m. absurd (omega (arith, m))))
+
+  stay : list_blocks f block_size stored.head stored.size ≡ list_blocks d block_size stored.head stored.size
+  stay = blocks_stay map pending d f block_size stored.head stored.size (spares_end map pending d f same) apart
+
+  pub base_stays : IsBase f block_size stored.head stored.size
+  base_stays = ⊎_elim (λ zero. inl zero) (λ list. inr (list_stays map pending d f block_size stored.head stored.size (spares_end map pending d f same) apart list)) is.base
+
+  pub cuts : (later : BlockSets) (n head keep : ℕ) → IsList f block_size head keep → list_blocks f block_size head keep ≡ take n bb → Releases map later (gone_of stored.in_flight n (list_blocks f block_size stored.head stored.size))
+      → IsStored later f block_size (record { head = head; size = keep; in_flight = stored.in_flight })
+  cuts later n head keep list blocks released =
+      let out : Releases map later (gone_of stored.in_flight n bb) = subst (λ (l : List ℕ). Releases map later (gone_of stored.in_flight n l)) stay released in
+      let front : take n (take n bb) ≡ take n bb = take-take n n bb (omega arith) in
+      let behind : All (λ b. All (λ c. c ≢ b) bb) (drop n (take n bb)) = λ k x l. absurd (omega (arith, l, length-drop n (take n bb), length-take n bb)) in
+      let distinct = base_distinct d block_size stored.head stored.size is.base in
+      record {
+        base = inr list;
+        count = released.count ∙ is.count ∙ sym same.count;
+        marked = subst (All (λ b. ¬ (IsFree later b))) (sym blocks) (λ k x l free.
+            All-take (λ b. ¬ (IsFree map b)) n bb is.marked k x l
+            (sym (out.others (get_or (take n bb) k x) (still_apart n (take n bb) bb (get_or (take n bb) k x) stored.in_flight distinct front behind (All-contains_itself (take n bb) k x l))) ∙ free));
+        flying = λ b flying. (
+          ⊎_elim (λ has. absurd (All-contains (λ x. ¬ (IsInFlight later x)) (gone_of stored.in_flight n bb) b out.gone has flying))
+              (λ away. (is.flying b (sym (out.others b away) ∙ flying)).0)
+              (member (gone_of stored.in_flight n bb) b),
+          subst (λ (l : List ℕ). Contains l b) (sym blocks) (still_flying map later n (take n bb) bb b stored.in_flight front out (λ was. inr (is.flying b was)) flying),
+        );
+      }

@@ -1,0 +1,118 @@
+-- A list in hand that is begun, grows and ends.
+use Rattle.std.proofs.Common.{ℕ, false, ◌≡◌, ◌≢◌, ◌+◌, ◌≤◌, inl, inr, ⊎_elim, nat_eq, get_or, List, [], ◌++◌, length, take, drop, refl, sym, ap, ◌∙◌, subst, arith, length-drop}
+use Rattle.std.specs.Prelude.{All, Contains}
+use Rattle.std.specs.List.{IsDistinct}
+use Rattle.std.proofs.lemmas.Bool.{eqb-false}
+use Rattle.std.proofs.lemmas.List.{take-take, take-append-le, drop-append-le, take-append-drop, length-take, length-take-le, get_or-take, get_or-drop}
+use Rattle.std.proofs.lemmas.Grind.{get_or_default_zero}
+use Rattle.std.proofs.lemmas.List.Elements.{All-append, All-take, Contains-append_left, Contains-append_cases}
+use Rattle.std.proofs.lemmas.Map.Keys.{apart_from_distinct}
+use Rattle.lfs_model.specs.Blocks.{Blocks}
+use Rattle.lfs_model.specs.BlockSets.{BlockSets, IsFree}
+use Rattle.lfs_model.specs.Lists.{blocks_for}
+use Rattle.lfs_ctz.specs.Growing.{Growing, IsGrowing, blocks_of, is_held, kept_of, pending_of, size_of}
+use Rattle.lfs_ctz.specs.Growing.{pending_in}
+use Rattle.lfs_ctz.specs.declared.rest.Rest.{Rest}
+use Rattle.lfs_ctz.specs.declared.rest.Rest.TheVariants.{Closed, Shared, Handed, Held}
+use Rattle.lfs_writer.specs.Apart.{Grows, IsApart, IsMarked, Spares}
+use Rattle.lfs_writer.specs.Based.{list_blocks}
+use Rattle.lfs_writer.specs.Hand.{IsBegun, IsHand, IsStored}
+use Rattle.lfs_writer.specs.Taken.{Keeps}
+use Rattle.lfs_writer.specs.declared.stored.Stored.{Stored}
+use Rattle.lfs_writer.proofs.Bases.{blocks_stay, list_stays}
+use Rattle.lfs_writer.proofs.Growth.{in_longer, split}
+use Rattle.lfs_model.proofs.Files.{length_back}
+use Rattle.lfs_writer.proofs.Pushed.{length-kept}
+
+-- ---- lists
+
+pub Contains-drop : (n : ℕ) (xs : List ℕ) (b : ℕ) → Contains xs b → ¬ (Contains (drop n xs) b) → Contains (take n xs) b
+Contains-drop n xs b has not = ⊎_elim (λ front. front) (λ behind. absurd (not behind)) (Contains-append_cases (take n xs) (drop n xs) b (subst (λ (l : List ℕ). Contains l b) (sym (take-append-drop n xs)) has))
+
+pub Contains-take : (n : ℕ) (xs : List ℕ) (b : ℕ) → Contains (take n xs) b → Contains xs b
+Contains-take n xs b has = subst (λ (l : List ℕ). Contains l b) (take-append-drop n xs) (Contains-append_left (take n xs) (drop n xs) b has)
+
+-- the front of distinct elements has none of those behind it
+pub distinct_parts : (n : ℕ) (xs : List ℕ) (b : ℕ) → IsDistinct nat_eq xs → Contains (take n xs) b → All (λ r. r ≢ b) (drop n xs)
+distinct_parts n xs b distinct (i, lt, is) k x l same =
+    let len = length-take n xs in
+    let behind = length-drop n xs in
+    let here : get_or (take n xs) i b ≡ get_or xs i b = get_or-take n xs i b (omega arith) in
+    let there : get_or (drop n xs) k x ≡ get_or xs (n + k) x = get_or-drop n xs k x in
+    let zero_b = get_or_default_zero xs (n + k) b (omega arith) in
+    let zero_x = get_or_default_zero xs (n + k) x (omega arith) in
+    eqb-false (get_or xs i b) (get_or xs (n + k) b) (apart_from_distinct nat_eq xs i (n + k) b distinct (omega arith) (omega arith))
+    (sym here ∙ is ∙ sym same ∙ there ∙ zero_x ∙ sym zero_b)
+
+-- ---- growth
+
+pub hand_grows : (map later : BlockSets) (d e : Blocks) (block_size : ℕ) (g h : Growing) (base : Stored) (shared : ℕ) → IsBegun map d block_size g base shared → Spares map (pending_of g) d e → Keeps map later
+    → Grows map d g later e h → IsGrowing e h → IsMarked later e h → blocks_of e h ≡ kept_of e h → length (kept_of e h) ≡ blocks_for block_size (size_of block_size h) → is_held h ≡ false → IsHand later e block_size h base shared
+hand_grows map later d e block_size g h base shared begun spared keeps grown growing marked own many listed =
+    let bb : List ℕ = list_blocks d block_size base.head base.size in
+    let stay : list_blocks e block_size base.head base.size ≡ bb = blocks_stay map (pending_of g) d e block_size base.head base.size spared begun.apart in
+    let x : List ℕ = kept_of d g in
+    let y : List ℕ = kept_of e h in
+    let all : y ≡ x ++ drop (length x) y = split x y grown.front in
+    let size : length (take shared x) ≡ length (take shared bb) = ap length begun.front in
+    let long = length_back d (blocks_for block_size base.size) base.head in
+    let few : shared ≤ length x = (let p = length-take shared x in let q = length-take-le shared bb (let f = begun.few in omega arith) in omega arith) in
+    record {
+      begun = record {
+        growing = growing;
+        marked = marked;
+        list = ⊎_elim (λ none. inl none) (λ list. inr (list_stays map (pending_of g) d e block_size base.head base.size spared begun.apart list)) begun.list;
+        apart = subst (All (IsApart later (pending_of h))) (sym stay) (λ k v l. grown.apart (get_or bb k v) (begun.apart k v l));
+        few = begun.few;
+        front = ap (take shared) all ∙ take-append-le shared x (drop (length x) y) few ∙ begun.front ∙ ap (take shared) (sym stay);
+        behind = subst (λ (l : List ℕ). All (λ b. All (λ c. c ≢ b) l) (drop shared y)) (sym stay)
+            (subst (All (λ b. All (λ c. c ≢ b) bb)) (sym (ap (drop shared) all ∙ drop-append-le shared x (drop (length x) y) few))
+            (All-append (λ b. All (λ c. c ≢ b) bb) (drop shared x) (drop (length x) y) begun.behind
+            (λ k v l i w m same. (begun.apart i w m).0 (subst (IsFree map) (sym same) (grown.fresh k v l)))));
+        flying = λ b is. ⊎_elim
+            (λ was. ⊎_elim (λ has. inl (in_longer x y b grown.front has)) (λ both. inr (both.0, subst (λ (l : List ℕ). Contains l b) (sym stay) both.1)) (begun.flying b was))
+            (λ has. inl has)
+            (grown.flying b is);
+      };
+      own = own;
+      many = many;
+      listed = listed;
+    }
+
+-- ---- the beginning
+
+pub begins : (map : BlockSets) (d : Blocks) (block_size : ℕ) (g : Growing) (base : Stored) (full : ℕ) → IsStored map d block_size base → IsGrowing d g → pending_of g ≡ []
+    → kept_of d g ≡ take full (list_blocks d block_size base.head base.size) → g.full ≡ full → IsBegun map d block_size g base full
+begins map d block_size g base full stored growing none kept is =
+    let bb : List ℕ = list_blocks d block_size base.head base.size in
+    let long = length_back d (blocks_for block_size base.size) base.head in
+    let many = length-kept d g in
+    let empty = ap length none in
+    let part = length-take full bb in
+    let few : full ≤ length bb = omega (arith, ap length kept) in
+    record {
+      growing = growing;
+      marked = record {
+        count = stored.count;
+        kept = subst (All (λ b. ¬ (IsFree map b))) (sym kept) (All-take (λ b. ¬ (IsFree map b)) full bb stored.marked);
+        pending = λ k x l. absurd (omega (arith, l));
+      };
+      list = stored.base;
+      apart = λ k x l. (stored.marked k x l, λ i y m. absurd (omega (arith, m)));
+      few = omega arith;
+      front = ap (take full) kept ∙ take-take full full bb (omega arith);
+      behind = λ k x l. absurd (omega (arith, l, length-drop full (kept_of d g), ap length kept));
+      flying = λ b flying. inr (stored.flying b flying);
+    }
+
+pub pending_none : (t : Rest) → length (pending_in t) ≡ 0 → pending_in t ≡ []
+pending_none Closed e = refl
+pending_none (Shared b) e = refl
+pending_none (Handed b) e = absurd (omega (arith, e))
+pending_none Held e = refl
+
+pub none_pending : (d : Blocks) (g : Growing) → kept_of d g ≡ [] → (pending_of g ≡ []) × (g.full ≡ 0)
+none_pending d g none =
+    let many = length-kept d g in
+    let empty = ap length none in
+    (pending_none g.stand (omega arith), omega arith)

@@ -1,0 +1,16 @@
+use Rattle.std.proofs.Common.{length, ap}
+use Rattle.lfs_writer.specs.Extended.{end_of}
+use Rattle.lfs_writer.proofs.Forms.{written_hand}
+use Rattle.lfs_writer.proofs.contents.write_hand.Goals as goal
+
+pub returns-clause-written : goal.returns-clause-written
+returns-clause-written g c =
+    let hand = c.args.hand in
+    let wrote = c.in_ok-hand.ensures.written in
+    let over = c.in_ok-hand.ensures.over in
+    record {
+      stands = wrote.going;
+      has = wrote.bytes;
+      form = written_hand c.args.limit c.args.place (length c.args.bytes.now) (end_of hand.list) hand.base.size hand.base.in_flight _ _ _ c.requires.large wrote.size
+          (λ e. (ap (λ s. s.size) (over.same e), ap (λ s. s.in_flight) (over.same e))) (λ ne. (over.size ne, over.flying ne));
+    }

@@ -1,0 +1,35 @@
+use Rattle.std.proofs.Common.{◌≡◌, ◌≤◌, ◌++◌, ◌-◌, drop, max}
+use Rattle.lfs_model.specs.History.{faults}
+use Rattle.lfs_model.specs.Lists.{bytes_of}
+use Rattle.lfs_ctz.specs.Extended.{geometry_of, growing_of}
+use Rattle.lfs_ctz.specs.Growing.{IsGrowing, content_of, pending_of, size_of}
+use Rattle.lfs_writer.specs.Apart.{Grows, IsMarked}
+use Rattle.lfs_writer.specs.Calls.{LeavesApart}
+use Rattle.lfs_writer.specs.Extended.{IsOwn}
+use Rattle.lfs_writer.specs.Taken.{Keeps}
+use Rattle.lfs_writer.proofs.copying.copy_rest.Given as goal
+
+abbrev pub invariant-copying : goal.invariant-copying
+invariant-copying g l =
+    let was = growing_of l.fn.list in
+    let now = growing_of l.list in
+    let block_size = (geometry_of l.fn.list).block_size in
+    let old = g.D.BlockDevice.blocks l.fn.dev in
+    let new = g.D.BlockDevice.blocks l.dev in
+    let base = bytes_of old block_size l.fn.head l.fn.size in
+    record {
+      growing : IsGrowing new now;
+      same : geometry_of l.list ≡ geometry_of l.fn.list;
+      grown : Grows l.fn.map old was l.map new now;
+      marked : IsMarked l.map new now;
+      map : Keeps l.fn.map l.map;
+      device : LeavesApart g.D.BlockDevice l.fn.map (pending_of was) l.fn.dev l.dev;
+      own : IsOwn new l.list;
+      some : size_of block_size was ≤ size_of block_size now;
+      top : size_of block_size now ≤ max (size_of block_size was) l.fn.size;
+      bytes : content_of new now ++ drop (size_of block_size now) base ≡ content_of old was ++ drop (size_of block_size was) base;
+      quiet : faults (g.D.BlockDevice.history l.dev) ≡ faults (g.D.BlockDevice.history l.fn.dev);
+    }
+
+abbrev pub decreases-copying : goal.decreases-copying
+decreases-copying g l = l.fn.size - size_of (geometry_of l.list).block_size (growing_of l.list)

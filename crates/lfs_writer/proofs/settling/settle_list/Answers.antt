@@ -1,0 +1,35 @@
+use Rattle.std.proofs.Common.{◌≡◌, sym, ap, ◌∙◌, subst}
+use Rattle.lfs_device.specs.declared.geometry.Geometry.{Geometry}
+use Rattle.lfs_model.specs.Blocks.{Blocks}
+use Rattle.lfs_model.specs.BlockSets.BlockState.{Free, Used}
+use Rattle.lfs_model.specs.Lists.{IsChain, blocks_back, blocks_for}
+use Rattle.lfs_writer.specs.Settled.{Puts}
+use Rattle.lfs_writer.proofs.Called.{read_on}
+use Rattle.lfs_writer.proofs.Ends.{base_chain}
+use Rattle.lfs_writer.proofs.Settlings.{settles}
+use Rattle.lfs_writer.proofs.settling.settle_list.Goals as goal
+
+pub free_blocks-requires-clause-chain : goal.free_blocks-requires-clause-chain
+free_blocks-requires-clause-chain g c = base_chain _ _ _ _ _ _ c.geometry-block_size.ensures c.blocks_for-gone.ensures c.requires.before
+
+pub use_blocks-requires-clause-chain : goal.use_blocks-requires-clause-chain
+use_blocks-requires-clause-chain g c =
+    subst (λ (d : Blocks). IsChain d c.blocks_for-kept.result c.args.stored.head) (sym c.free_blocks.ensures.device.same)
+    (base_chain (g.D.BlockDevice.blocks c.args.dev.now) _ _ c.args.stored.head c.args.stored.size c.blocks_for-kept.result c.geometry-block_size.ensures c.blocks_for-kept.ensures c.requires.stored)
+
+pub returns-in_err-use_blocks-clause-device : goal.returns-in_err-use_blocks-clause-device
+returns-in_err-use_blocks-clause-device g c = read_on g.D.BlockDevice c.free_blocks.ensures.device c.use_blocks.ensures.device
+
+pub returns-clause-device : goal.returns-clause-device
+returns-clause-device g c = read_on g.D.BlockDevice c.free_blocks.ensures.device c.use_blocks.ensures.device
+
+pub returns-clause-settled : goal.returns-clause-settled
+returns-clause-settled g c =
+    let d : Blocks = g.D.BlockDevice.blocks c.args.dev.now in
+    let now : Geometry = g.D.BlockDevice.geometry c.args.dev.now in
+    let gone : c.blocks_for-gone.result ≡ blocks_for now.block_size c.args.before.size = c.blocks_for-gone.ensures ∙ ap (λ (k : Geometry). blocks_for k.block_size c.args.before.size) c.geometry-block_size.ensures in
+    let kept : c.blocks_for-kept.result ≡ blocks_for now.block_size c.args.stored.size = c.blocks_for-kept.ensures ∙ ap (λ (k : Geometry). blocks_for k.block_size c.args.stored.size) c.geometry-block_size.ensures in
+    settles c.args.map.now c.free_blocks.new.map c.use_blocks.new.map (blocks_back d (blocks_for now.block_size c.args.before.size) c.args.before.head) (blocks_back d (blocks_for now.block_size c.args.stored.size) c.args.stored.head)
+    (subst (λ n. Puts Free c.args.map.now c.free_blocks.new.map (blocks_back d n c.args.before.head)) gone c.in_ok-free_blocks.ensures.freed)
+    (subst (λ n. Puts Used c.free_blocks.new.map c.use_blocks.new.map (blocks_back d n c.args.stored.head)) kept
+    (subst (λ (x : Blocks). Puts Used c.free_blocks.new.map c.use_blocks.new.map (blocks_back x c.blocks_for-kept.result c.args.stored.head)) c.free_blocks.ensures.device.same c.in_ok-use_blocks.ensures.used))

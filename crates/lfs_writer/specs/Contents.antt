@@ -1,0 +1,96 @@
+-- The contents of an open writer: their form, their bytes, and what map and disk say of them.
+use Rattle.std.specs.Prelude.{ℕ, ◌≡◌, ◌≢◌, ◌≤◌, ◌<◌, ◌+◌, ◌*◌, true, min, max, ◌==◌, nat_lt, if◌then◌else◌, List, length}
+use Rattle.lfs_model.specs.Blocks.{Blocks}
+use Rattle.lfs_model.specs.BlockSets.{BlockSets, IsInFlight}
+use Rattle.lfs_model.specs.Lists.{blocks_for}
+use Rattle.lfs_device.specs.declared.geometry.Geometry.{Geometry}
+use Rattle.lfs_ctz.specs.Extended.{geometry_of, growing_of}
+use Rattle.lfs_ctz.specs.Growing.{IsHeld}
+use Rattle.lfs_ctz.specs.declared.extender.Extender.{Extender}
+use Rattle.lfs_writer.specs.Extended.{end_of}
+use Rattle.lfs_writer.specs.Form as form
+use Rattle.lfs_writer.specs.Form.{Form, form_size}
+use Rattle.lfs_writer.specs.Hand.{IsStored, stored_bytes}
+use Rattle.lfs_writer.specs.Written.{IsGoing, bytes_over}
+use Rattle.lfs_writer.specs.declared.contents.Contents.{Contents}
+use Rattle.lfs_writer.specs.declared.contents.Contents.TheVariants.{InMemory, Finished, InHand}
+
+-- what stands in the extender's buffer alone
+abbrev pub held_bytes : Extender → List ℕ
+held_bytes list = (growing_of list).rest
+
+abbrev pub form_of : Contents → Form
+form_of (InMemory list) = form.InMemory (length (held_bytes list))
+form_of (Finished stored) = form.Finished stored.size stored.in_flight
+form_of (InHand hand) = form.InHand (end_of hand.list) hand.base.size hand.base.in_flight
+
+abbrev pub bytes_in : Blocks → ℕ → Contents → List ℕ
+bytes_in disk block_size (InMemory list) = held_bytes list
+bytes_in disk block_size (Finished stored) = stored_bytes disk block_size stored
+bytes_in disk block_size (InHand hand) = bytes_over disk hand
+
+-- no block is in flight
+pub record IsIdle (map : BlockSets) (disk : Blocks) : Type 0 where
+  pub count : length map ≡ length disk
+  pub none : (b : ℕ) → ¬ (IsInFlight map b)
+
+-- an extender of this device has all bytes in its buffer
+pub record IsResting (now : Geometry) (list : Extender) : Type 0 where
+  pub geometry : now ≡ geometry_of list
+  pub held : IsHeld (growing_of list)
+
+-- all bytes stand in memory, and no block is in flight
+pub record IsQuiet (map : BlockSets) (disk : Blocks) (now : Geometry) (list : Extender) : Type 0 where
+  pub idle : IsIdle map disk
+  pub resting : IsResting now list
+
+abbrev pub Stands : BlockSets → Blocks → Geometry → Contents → Type 0
+Stands map disk now (InMemory list) = IsQuiet map disk now list
+Stands map disk now (Finished stored) = IsStored map disk now.block_size stored
+Stands map disk now (InHand hand) = IsGoing map disk now hand
+
+-- they stand so, with these bytes in that form
+pub record HasContents (map : BlockSets) (disk : Blocks) (now : Geometry) (contents : Contents) (bytes : List ℕ) (shape : Form) : Type 0 where
+  pub stands : Stands map disk now contents
+  pub has : bytes_in disk now.block_size contents ≡ bytes
+  pub form : form_of contents ≡ shape
+
+-- only contents past the limit have blocks in flight
+abbrev pub IsLarge : ℕ → Form → Type 0
+IsLarge limit (form.InMemory size) = size ≤ limit
+IsLarge limit (form.Finished size flying) = flying ≡ true → limit < size
+IsLarge limit (form.InHand stop base flying) = limit < max stop base
+
+-- how many blocks a write past the limit may want in flight
+abbrev pub write_room : ℕ → ℕ → ℕ → Form → ℕ
+write_room block_size place count (form.InMemory size) = blocks_for block_size (place + count)
+write_room block_size place count (form.Finished size flying) = blocks_for block_size (place + count) + (if flying then blocks_for block_size size else 0)
+write_room block_size place count (form.InHand stop base flying) =
+    if stop == min place (max stop base) then blocks_for block_size (place + count) + (if flying then blocks_for block_size base else 0)
+    else 2 * blocks_for block_size (max (max stop base) (place + count))
+
+-- the form once the list in hand is ended, and the room that this wants
+abbrev pub finished : Form → Form
+finished (form.InMemory size) = form.InMemory size
+finished (form.Finished size flying) = form.Finished size flying
+finished (form.InHand stop base flying) = form.Finished (max stop base) true
+
+abbrev pub end_room : ℕ → Form → ℕ
+end_room block_size (form.InMemory size) = 0
+end_room block_size (form.Finished size flying) = 0
+end_room block_size (form.InHand stop base flying) = (if flying then blocks_for block_size base else 0) + blocks_for block_size base
+
+-- and a truncation to a size: contents in hand are ended where they are cut
+abbrev pub truncate_room : ℕ → ℕ → Form → ℕ
+truncate_room block_size size (form.InMemory old) = blocks_for block_size size
+truncate_room block_size size (form.Finished old flying) = blocks_for block_size size + (if flying then blocks_for block_size old else 0)
+truncate_room block_size size (form.InHand stop base flying) =
+    if nat_lt (max stop base) size
+    then (if stop == max stop base then blocks_for block_size size + (if flying then blocks_for block_size base else 0) else 2 * blocks_for block_size size)
+    else (if flying then blocks_for block_size base else 0) + blocks_for block_size base
+
+-- a truncation to a size wants blocks: it fills a list up, or ends the one in hand
+abbrev pub NeedsRoom : ℕ → ℕ → Form → Type 0
+NeedsRoom limit size (form.InMemory old) = limit < size
+NeedsRoom limit size (form.Finished old flying) = (limit < size) × (old < size)
+NeedsRoom limit size (form.InHand stop base flying) = size ≢ max stop base

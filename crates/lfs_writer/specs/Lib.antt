@@ -1,0 +1,12 @@
+pub mod Apart
+pub mod Based
+pub mod Calls
+pub mod Extended
+pub mod Hand
+pub mod Released
+pub mod Roomy
+pub mod Taken
+pub mod Written
+pub mod Form
+pub mod Contents
+pub mod Settled

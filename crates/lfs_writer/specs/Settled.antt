@@ -1,0 +1,16 @@
+-- Blocks of a list that take another state.
+use Rattle.std.specs.Prelude.{ℕ, ◌≡◌, ◌≢◌, All, Contains, List, Some, length, slice_get}
+use Rattle.lfs_model.specs.BlockSets.{BlockSets, BlockState, IsFree, IsUsed}
+
+-- each of these blocks is in that state, and the others are as they were
+pub record Puts (state : BlockState) (old new : BlockSets) (bs : List ℕ) : Type 0 where
+  pub count : length new ≡ length old
+  pub put : All (λ b. slice_get new b ≡ Some state) bs
+  pub others : (b : ℕ) → All (λ x. x ≢ b) bs → slice_get new b ≡ slice_get old b
+
+-- The blocks of the list that is kept are used, and those that only the other one had are free.
+pub record IsSettled (old new : BlockSets) (gone kept : List ℕ) : Type 0 where
+  pub count : length new ≡ length old
+  pub used : All (IsUsed new) kept
+  pub freed : (b : ℕ) → Contains gone b → All (λ x. x ≢ b) kept → IsFree new b
+  pub others : (b : ℕ) → All (λ x. x ≢ b) gone → All (λ x. x ≢ b) kept → slice_get new b ≡ slice_get old b

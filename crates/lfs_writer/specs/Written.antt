@@ -1,0 +1,58 @@
+-- A list in hand over its base, and the contents that both have.
+use Rattle.std.specs.Prelude.{ℕ, ◌≡◌, ◌≢◌, ◌≤◌, true, List, max}
+use Rattle.lfs_device.specs.declared.geometry.Geometry.{Geometry}
+use Rattle.lfs_model.specs.Blocks.{Blocks}
+use Rattle.lfs_model.specs.BlockSets.{BlockSets}
+use Rattle.lfs_ctz.specs.Extended.{geometry_of, growing_of}
+use Rattle.lfs_writer.specs.Extended.{end_of}
+use Rattle.lfs_writer.specs.Hand.{IsBegun, IsHand, IsStored, hand_bytes, stored_bytes}
+use Rattle.lfs_writer.specs.declared.stored.Stored.{Stored}
+use Rattle.lfs_writer.specs.declared.writing.Hand.{Hand}
+
+-- how many bytes the contents have
+abbrev pub length_in : Hand → ℕ
+length_in hand = max (end_of hand.list) hand.base.size
+
+-- the contents
+abbrev pub bytes_over : Blocks → Hand → List ℕ
+bytes_over disk hand = hand_bytes disk (geometry_of hand.list).block_size (growing_of hand.list) hand.base
+
+-- a list that is begun, of this device
+pub record HasBegun (map : BlockSets) (disk : Blocks) (now : Geometry) (hand : Hand) : Type 0 where
+  pub geometry : now ≡ geometry_of hand.list
+  pub begun : IsBegun map disk (geometry_of hand.list).block_size (growing_of hand.list) hand.base hand.shared
+
+-- a list in hand that has bytes, of this device
+pub record IsGoing (map : BlockSets) (disk : Blocks) (now : Geometry) (hand : Hand) : Type 0 where
+  pub geometry : now ≡ geometry_of hand.list
+  pub list : IsHand map disk (geometry_of hand.list).block_size (growing_of hand.list) hand.base hand.shared
+  pub some : 1 ≤ end_of hand.list
+
+-- it is begun, ends there, and the contents are these
+pub record IsAt (map : BlockSets) (disk : Blocks) (now : Geometry) (hand : Hand) (place : ℕ) (contents : List ℕ) : Type 0 where
+  pub begun : HasBegun map disk now hand
+  pub size : end_of hand.list ≡ place
+  pub bytes : bytes_over disk hand ≡ contents
+
+-- it has bytes, ends there, and the contents are these
+pub record HasWritten (map : BlockSets) (disk : Blocks) (now : Geometry) (hand : Hand) (place : ℕ) (contents : List ℕ) : Type 0 where
+  pub going : IsGoing map disk now hand
+  pub size : end_of hand.list ≡ place
+  pub bytes : bytes_over disk hand ≡ contents
+
+-- the base is the same where the list goes on at its end; elsewhere the base has all contents, and is in flight
+pub record IsOver (old : Hand) (place : ℕ) (new : Hand) : Type 0 where
+  pub same : end_of old.list ≡ place → new.base ≡ old.base
+  pub size : end_of old.list ≢ place → new.base.size ≡ length_in old
+  pub flying : end_of old.list ≢ place → new.base.in_flight ≡ true
+
+-- a finished list of so many bytes, these ones
+pub record HasEnded (map : BlockSets) (disk : Blocks) (now : Geometry) (s : Stored) (length : ℕ) (contents : List ℕ) : Type 0 where
+  pub stored : IsStored map disk now.block_size s
+  pub count : s.size ≡ length
+  pub bytes : stored_bytes disk now.block_size s ≡ contents
+
+-- so many zeros were written at its end
+pub record IsZeroed (map : BlockSets) (disk : Blocks) (now : Geometry) (hand : Hand) (count place : ℕ) (contents : List ℕ) : Type 0 where
+  pub at : IsAt map disk now hand place contents
+  pub going : 1 ≤ count → IsGoing map disk now hand

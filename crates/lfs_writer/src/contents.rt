@@ -1,0 +1,203 @@
+// The contents of an open writer, and writes to them.
+
+ghost use Rattle.std.specs.Prelude.{◌≡◌, ◌≤◌, ◌<◌, ◌+◌, ◌^◌, ◌⊎◌, length, max, true, OnOk, IfOk, IfErr};
+ghost use Rattle.lfs_device.specs.Calls.{TellsFaults};
+ghost use Rattle.lfs_model.specs.Blocks.{Blocks};
+ghost use Rattle.lfs_model.specs.BlockSets.{BlockSets, used_count};
+ghost use Rattle.lfs_model.specs.Lists.{blocks_for};
+ghost use Rattle.lfs_model.specs.Session.{overwritten};
+ghost use Rattle.lfs_writer.specs.Calls.{LeavesUsed};
+ghost use Rattle.lfs_writer.specs.Contents.{HasContents, IsIdle, IsLarge, IsQuiet, Stands, bytes_in, form_of, held_bytes, write_room};
+ghost use Rattle.lfs_writer.specs.Form as form;
+ghost use Rattle.lfs_writer.specs.Form.{form_size, written};
+ghost use Rattle.lfs_writer.specs.Hand.{IsStored, KeepsUsed, stored_bytes};
+ghost use Rattle.lfs_writer.specs.Roomy.{base_blocks};
+ghost use Rattle.lfs_writer.specs.Written.{HasWritten, IsGoing, bytes_over, length_in};
+
+use crate::beginning::begin_over;
+use crate::memory::{load, write_out};
+use crate::stored::Stored;
+use crate::turning::write_turned;
+use crate::writing::{Hand, write_from};
+use lfs_alloc::BlockMap;
+use lfs_ctz::Extender;
+use lfs_device::{BlockDevice, Error, Geometry};
+use std::alloc::Global;
+
+/// Where the contents of an open writer are.
+#[derive(Drop)]
+pub enum Contents {
+    /// In the buffer of an extender and in no block, up to the limit of what is kept in a file's
+    /// entry.
+    InMemory(Extender),
+    /// In a finished list.
+    Finished(Stored),
+    /// In a list in hand, and behind it in its base.
+    InHand(Hand),
+}
+
+/// Contents in memory: what a file's entry holds, or no bytes for a new file.
+///
+/// There are fewer than a block has. `Error::NoMemory` comes where there is no memory for a block.
+pub fn in_memory(alloc: Global, geometry: Geometry, bytes: &[u8]) -> Result<Contents, Error>
+    requires { length bytes.now < geometry.block_size }
+    ensures holds { IfOk result (λ c. (map : BlockSets) (disk : Blocks) → IsIdle map disk → HasContents map disk geometry c bytes.now (form.InMemory (length bytes.now))) }
+    ensures errors { IfErr result (λ e. e ≡ Error.NoMemory) }
+{
+    let mut list = Extender::start(alloc, geometry)?;
+    list.hold(bytes);
+    Ok(Contents::InMemory(list))
+}
+
+// A write to contents in memory.
+fn write_held<D: BlockDevice>(
+    alloc: Global,
+    dev: &mut D,
+    map: &mut BlockMap,
+    list: Extender,
+    limit: u32,
+    place: u32,
+    bytes: &[u8],
+) -> Result<Contents, Error>
+    requires quiet { IsQuiet map.old (D.blocks dev.old) (D.geometry dev.old) list }
+    requires few { length (held_bytes list) ≤ limit }
+    requires short { limit < (D.geometry dev.old).block_size }
+    requires some { 1 ≤ length bytes.now }
+    requires small { place + length bytes.now < 2 ^ 31 }
+    requires room { limit < max (length (held_bytes list)) (place + length bytes.now) → used_count map.old + blocks_for (D.geometry dev.old).block_size (place + length bytes.now) ≤ length map.old }
+    ensures written { IfOk result (λ c. HasContents map.new (D.blocks dev.new) (D.geometry dev.old) c
+        (overwritten (held_bytes list) place bytes.now) (written limit place (length bytes.now) (form.InMemory (length (held_bytes list))))) }
+    ensures map { OnOk result (KeepsUsed map.old map.new) }
+    ensures device { LeavesUsed D.BlockDevice map.old dev.old dev.new }
+    ensures faults { TellsFaults D.BlockDevice dev.old dev.new result }
+    ensures errors { IfErr result (λ e. (e ≡ Error.Io) ⊎ (e ≡ Error.NoMemory)) }
+{
+    let size = list.size().max(place + bytes.len() as u32);
+    if size <= limit {
+        let mut list = list;
+        list.put(place, bytes);
+        return Ok(Contents::InMemory(list));
+    }
+    let hand = write_out(alloc, dev, map, list, place, bytes)?;
+    Ok(Contents::InHand(hand))
+}
+
+// Bytes at a place over a finished list, as a list in hand over it.
+fn write_over<D: BlockDevice>(
+    alloc: Global,
+    dev: &mut D,
+    map: &mut BlockMap,
+    stored: Stored,
+    place: u32,
+    bytes: &[u8],
+) -> Result<Hand, Error>
+    requires stored { IsStored map.old (D.blocks dev.old) (D.geometry dev.old).block_size stored }
+    requires some { 1 ≤ length bytes.now }
+    requires small { place + length bytes.now < 2 ^ 31 }
+    requires room { used_count map.old + blocks_for (D.geometry dev.old).block_size (place + length bytes.now) + base_blocks (D.geometry dev.old).block_size stored ≤ length map.old }
+    ensures written { IfOk result (λ h. HasWritten map.new (D.blocks dev.new) (D.geometry dev.old) h (place + length bytes.now)
+        (overwritten (stored_bytes (D.blocks dev.old) (D.geometry dev.old).block_size stored) place bytes.now)) }
+    ensures base { IfOk result (λ h. h.base ≡ stored) }
+    ensures map { OnOk result (KeepsUsed map.old map.new) }
+    ensures device { LeavesUsed D.BlockDevice map.old dev.old dev.new }
+    ensures faults { TellsFaults D.BlockDevice dev.old dev.new result }
+    ensures errors { IfErr result (λ e. (e ≡ Error.Io) ⊎ (e ≡ Error.NoMemory)) }
+{
+    let begun = begin_over(alloc, dev, stored, place.min(stored.size))?;
+    let mut hand = begun;
+    write_from(alloc, dev, map, &mut hand, place, bytes)?;
+    Ok(hand)
+}
+
+// A write over a finished list. One within the limit has no blocks in flight.
+fn write_stored<D: BlockDevice>(
+    alloc: Global,
+    dev: &mut D,
+    map: &mut BlockMap,
+    stored: Stored,
+    limit: u32,
+    place: u32,
+    bytes: &[u8],
+) -> Result<Contents, Error>
+    requires stored { IsStored map.old (D.blocks dev.old) (D.geometry dev.old).block_size stored }
+    requires large { stored.in_flight ≡ true → limit < stored.size }
+    requires short { limit < (D.geometry dev.old).block_size }
+    requires some { 1 ≤ length bytes.now }
+    requires small { place + length bytes.now < 2 ^ 31 }
+    requires room { limit < max stored.size (place + length bytes.now) → used_count map.old + blocks_for (D.geometry dev.old).block_size (place + length bytes.now) + base_blocks (D.geometry dev.old).block_size stored ≤ length map.old }
+    ensures written { IfOk result (λ c. HasContents map.new (D.blocks dev.new) (D.geometry dev.old) c
+        (overwritten (stored_bytes (D.blocks dev.old) (D.geometry dev.old).block_size stored) place bytes.now) (written limit place (length bytes.now) (form.Finished stored.size stored.in_flight))) }
+    ensures map { OnOk result (KeepsUsed map.old map.new) }
+    ensures device { LeavesUsed D.BlockDevice map.old dev.old dev.new }
+    ensures faults { TellsFaults D.BlockDevice dev.old dev.new result }
+    ensures errors { IfErr result (λ e. (e ≡ Error.Io) ⊎ (e ≡ Error.NoMemory)) }
+{
+    let size = stored.size.max(place + bytes.len() as u32);
+    if size <= limit {
+        let mut list = load(alloc, dev, stored, stored.size)?;
+        list.put(place, bytes);
+        return Ok(Contents::InMemory(list));
+    }
+    let hand = write_over(alloc, dev, map, stored, place, bytes)?;
+    Ok(Contents::InHand(hand))
+}
+
+// A write to contents in hand.
+fn write_hand<D: BlockDevice>(
+    alloc: Global,
+    dev: &mut D,
+    map: &mut BlockMap,
+    hand: Hand,
+    limit: u32,
+    place: u32,
+    bytes: &[u8],
+) -> Result<Contents, Error>
+    requires going { IsGoing map.old (D.blocks dev.old) (D.geometry dev.old) hand }
+    requires large { limit < length_in hand }
+    requires some { 1 ≤ length bytes.now }
+    requires small { place + length bytes.now < 2 ^ 31 }
+    requires room { used_count map.old + write_room (D.geometry dev.old).block_size place (length bytes.now) (form_of (Contents.InHand hand)) ≤ length map.old }
+    ensures written { IfOk result (λ c. HasContents map.new (D.blocks dev.new) (D.geometry dev.old) c
+        (overwritten (bytes_over (D.blocks dev.old) hand) place bytes.now) (written limit place (length bytes.now) (form_of (Contents.InHand hand)))) }
+    ensures map { OnOk result (KeepsUsed map.old map.new) }
+    ensures device { LeavesUsed D.BlockDevice map.old dev.old dev.new }
+    ensures faults { TellsFaults D.BlockDevice dev.old dev.new result }
+    ensures errors { IfErr result (λ e. (e ≡ Error.Io) ⊎ (e ≡ Error.NoMemory)) }
+{
+    let hand = write_turned(alloc, dev, map, hand, place, bytes)?;
+    Ok(Contents::InHand(hand))
+}
+
+/// Writes bytes, at least one, at a place; zeros fill a gap before it.
+///
+/// Contents of at most `limit` bytes are kept in memory. Past it there are as many free blocks as
+/// the form of the contents may want. The contents are gone after an error: `Error::Io` where the
+/// device failed, `Error::NoMemory` where there is no memory for a block.
+pub fn write_contents<D: BlockDevice>(
+    alloc: Global,
+    dev: &mut D,
+    map: &mut BlockMap,
+    contents: Contents,
+    limit: u32,
+    place: u32,
+    bytes: &[u8],
+) -> Result<Contents, Error>
+    requires stands { Stands map.old (D.blocks dev.old) (D.geometry dev.old) contents }
+    requires large { IsLarge limit (form_of contents) }
+    requires short { limit < (D.geometry dev.old).block_size }
+    requires some { 1 ≤ length bytes.now }
+    requires small { place + length bytes.now < 2 ^ 31 }
+    requires room { limit < max (form_size (form_of contents)) (place + length bytes.now) → used_count map.old + write_room (D.geometry dev.old).block_size place (length bytes.now) (form_of contents) ≤ length map.old }
+    ensures written { IfOk result (λ c. HasContents map.new (D.blocks dev.new) (D.geometry dev.old) c
+        (overwritten (bytes_in (D.blocks dev.old) (D.geometry dev.old).block_size contents) place bytes.now) (written limit place (length bytes.now) (form_of contents))) }
+    ensures map { OnOk result (KeepsUsed map.old map.new) }
+    ensures device { LeavesUsed D.BlockDevice map.old dev.old dev.new }
+    ensures faults { TellsFaults D.BlockDevice dev.old dev.new result }
+    ensures errors { IfErr result (λ e. (e ≡ Error.Io) ⊎ (e ≡ Error.NoMemory)) }
+{
+    match contents {
+        Contents::InMemory(list) => write_held(alloc, dev, map, list, limit, place, bytes),
+        Contents::Finished(stored) => write_stored(alloc, dev, map, stored, limit, place, bytes),
+        Contents::InHand(hand) => write_hand(alloc, dev, map, hand, limit, place, bytes),
+    }
+}

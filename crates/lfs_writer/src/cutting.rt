@@ -1,0 +1,43 @@
+// Finished lists that are cut.
+
+ghost use Rattle.std.specs.Prelude.{◌≡◌, ◌≤◌, take, OnOk, IfOk, IfErr};
+ghost use Rattle.lfs_device.specs.Calls.{ReadsOnly, TellsFaults};
+ghost use Rattle.lfs_writer.specs.Hand.{IsStored, KeepsUsed, stored_bytes};
+ghost use Rattle.lfs_writer.specs.Written.{HasEnded};
+
+use crate::ending::release_base;
+use crate::stored::Stored;
+use lfs_alloc::BlockMap;
+use lfs_ctz::{blocks_for, cut};
+use lfs_device::{BlockDevice, Error};
+
+/// Cuts a finished list to its first bytes, at least one. It shares their blocks; those behind them
+/// are in flight no more.
+///
+/// There are at least so many bytes. It takes no memory, and writes nothing. `Error::Io` comes
+/// where the device failed.
+pub(crate) fn cut_list<D: BlockDevice>(
+    dev: &mut D,
+    map: &mut BlockMap,
+    stored: Stored,
+    keep: u32,
+) -> Result<Stored, Error>
+    requires stored { IsStored map.old (D.blocks dev.old) (D.geometry dev.old).block_size stored }
+    requires some { 1 ≤ keep }
+    requires within { keep ≤ stored.size }
+    ensures cut { IfOk result (λ s. HasEnded map.new (D.blocks dev.new) (D.geometry dev.old) s keep (take keep (stored_bytes (D.blocks dev.old) (D.geometry dev.old).block_size stored))) }
+    ensures flying { IfOk result (λ s. s.in_flight ≡ stored.in_flight) }
+    ensures map { OnOk result (KeepsUsed map.old map.new) }
+    ensures device { ReadsOnly D.BlockDevice dev.old dev.new }
+    ensures faults { TellsFaults D.BlockDevice dev.old dev.new result }
+    ensures errors { IfErr result (λ e. e ≡ Error.Io) }
+{
+    let head = cut(dev, stored.head, stored.size, keep)?;
+    let count = blocks_for(dev.geometry().block_size, keep);
+    release_base(dev, map, stored, count)?;
+    Ok(Stored {
+        head,
+        size: keep,
+        in_flight: stored.in_flight,
+    })
+}

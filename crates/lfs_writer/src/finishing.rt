@@ -1,0 +1,57 @@
+// Contents that are finished for a commit, or given up.
+
+ghost use Rattle.std.specs.Prelude.{◌≡◌, ◌≤◌, ◌+◌, ◌⊎◌, ℕ, length, OnOk, IfOk, IfErr};
+ghost use Rattle.lfs_device.specs.Calls.{TellsFaults};
+ghost use Rattle.lfs_model.specs.BlockSets.{IsInFlight, used_count};
+ghost use Rattle.lfs_writer.specs.Calls.{LeavesUsed};
+ghost use Rattle.lfs_writer.specs.Contents.{HasContents, Stands, bytes_in, end_room, finished, form_of};
+ghost use Rattle.lfs_writer.specs.Hand.{KeepsUsed};
+
+use crate::contents::Contents;
+use crate::ending::end_hand;
+use crate::releasing::release_one;
+use lfs_alloc::BlockMap;
+use lfs_device::{BlockDevice, Error};
+use std::alloc::Global;
+
+/// Ends the list in hand, where there is one. The contents stay.
+///
+/// There are as many free blocks as the rest of its base takes. The contents are gone after an
+/// error: `Error::Io` where the device failed, `Error::NoMemory` where there is no memory.
+pub fn finish<D: BlockDevice>(
+    alloc: Global,
+    dev: &mut D,
+    map: &mut BlockMap,
+    contents: Contents,
+) -> Result<Contents, Error>
+    requires stands { Stands map.old (D.blocks dev.old) (D.geometry dev.old) contents }
+    requires room { used_count map.old + end_room (D.geometry dev.old).block_size (form_of contents) ≤ length map.old }
+    ensures finished { IfOk result (λ c. HasContents map.new (D.blocks dev.new) (D.geometry dev.old) c
+        (bytes_in (D.blocks dev.old) (D.geometry dev.old).block_size contents) (finished (form_of contents))) }
+    ensures map { OnOk result (KeepsUsed map.old map.new) }
+    ensures device { LeavesUsed D.BlockDevice map.old dev.old dev.new }
+    ensures faults { TellsFaults D.BlockDevice dev.old dev.new result }
+    ensures errors { IfErr result (λ e. (e ≡ Error.Io) ⊎ (e ≡ Error.NoMemory)) }
+{
+    match contents {
+        Contents::InMemory(list) => Ok(Contents::InMemory(list)),
+        Contents::Finished(stored) => Ok(Contents::Finished(stored)),
+        Contents::InHand(hand) => {
+            let stored = end_hand(alloc, dev, map, hand)?;
+            Ok(Contents::Finished(stored))
+        }
+    }
+}
+
+/// Gives up what is in flight. It reads no block: no other file has blocks in flight.
+pub fn abandon(map: &mut BlockMap)
+    ensures none { (b : ℕ) → ¬ (IsInFlight map.new b) }
+    ensures map { KeepsUsed map.old map.new }
+{
+    let block_count = map.block_count();
+    let mut block = 0;
+    'abandoning: while block < block_count {
+        release_one(map, block);
+        block += 1;
+    }
+}

@@ -1,0 +1,33 @@
+// Laws of the forms of contents, for the session above: what it says of a writer and what it holds
+// back for one cover where the contents stand.
+
+ghost use Rattle.std.specs.Prelude.{◌≤◌, ◌<◌, ◌+◌, ◌-◌, ℕ, false, max, List, ◌∷◌, length};
+ghost use Rattle.lfs_model.specs.Disk.{inline_limit};
+ghost use Rattle.lfs_model.specs.Operations.{Flags};
+ghost use Rattle.lfs_model.specs.Session.{Writer, after_sync, after_truncate, after_write, held_by, opened_writer, write_place};
+ghost use Rattle.lfs_model.specs.Tree.{Path};
+ghost use Rattle.lfs_writer.specs.Contents.{IsLarge, NeedsRoom, end_room, truncate_room, write_room};
+ghost use Rattle.lfs_writer.specs.Form.{Form, InMemory, Finished, IsKept, form_blocks, form_size, synced, truncated, written};
+
+/// Each call of a writer leaves the contents in a form that fits what the session says of it.
+pub fn forms_keep_step()
+    ensures opened_inline { (block_size : ℕ) (path : Path) (flags : Flags) (bytes : List ℕ) → length (opened_writer path flags bytes).contents ≤ inline_limit block_size
+        → IsKept block_size (InMemory (length (opened_writer path flags bytes).contents)) (opened_writer path flags bytes) }
+    ensures opened_list { (block_size : ℕ) (path : Path) (flags : Flags) (bytes : List ℕ) → IsKept block_size (Finished (length (opened_writer path flags bytes).contents) false) (opened_writer path flags bytes) }
+    ensures moved { (block_size place : ℕ) (form : Form) (w : Writer) → IsKept block_size form w → IsKept block_size form (record w { position = place }) }
+    ensures written { (block_size : ℕ) (form : Form) (w : Writer) (byte : ℕ) (bytes : List ℕ) → IsKept block_size form w
+        → IsKept block_size (written (inline_limit block_size) (write_place w) (length (byte ∷ bytes)) form) (after_write w (byte ∷ bytes)) }
+    ensures truncated { (block_size : ℕ) (form : Form) (w : Writer) (size : ℕ) → IsKept block_size form w → IsKept block_size (truncated (inline_limit block_size) size form) (after_truncate w size) }
+    ensures synced { (block_size : ℕ) (form : Form) (w : Writer) → IsKept block_size form w → IsKept block_size (synced form) (after_sync w) }
+{}
+
+/// The blocks that the session holds back for a writer are room for each call.
+pub fn held_blocks_are_room()
+    ensures covers { (block_size : ℕ) (form : Form) (w : Writer) → IsKept block_size form w → form_blocks block_size form ≤ held_by block_size w - 2 }
+    ensures large { (block_size : ℕ) (form : Form) (w : Writer) → IsKept block_size form w → IsLarge (inline_limit block_size) form }
+    ensures write { (block_size : ℕ) (form : Form) (w : Writer) (byte : ℕ) (bytes : List ℕ) (used all : ℕ) → IsKept block_size form w → used + held_by block_size (after_write w (byte ∷ bytes)) ≤ all
+        → inline_limit block_size < max (form_size form) (write_place w + length (byte ∷ bytes)) → used + write_room block_size (write_place w) (length (byte ∷ bytes)) form ≤ all }
+    ensures truncate { (block_size : ℕ) (form : Form) (w : Writer) (size used all : ℕ) → IsKept block_size form w → used + held_by block_size w ≤ all → used + held_by block_size (after_truncate w size) ≤ all
+        → NeedsRoom (inline_limit block_size) size form → used + truncate_room block_size size form ≤ all }
+    ensures end { (block_size : ℕ) (form : Form) (w : Writer) (used all : ℕ) → IsKept block_size form w → used + held_by block_size w ≤ all → used + end_room block_size form ≤ all }
+{}

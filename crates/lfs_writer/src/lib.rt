@@ -1,0 +1,32 @@
+//! The contents of a file that is open for writing, streamed into blocks of the device.
+//!
+//! The contents are in memory while they are short, in a finished list, or in a list in hand over
+//! a finished one. The only buffer of contents is the one block of an extender.
+#![tactic(auto)]
+
+mod beginning;
+mod contents;
+mod copying;
+mod cutting;
+mod ending;
+mod extending;
+mod finishing;
+mod laws;
+mod memory;
+mod releasing;
+mod settling;
+mod stored;
+mod taking;
+mod truncating;
+mod turning;
+mod writing;
+mod zeroing;
+
+pub use contents::{Contents, in_memory, write_contents};
+pub use finishing::{abandon, finish};
+pub use laws::{forms_keep_step, held_blocks_are_room};
+pub use memory::load;
+pub use settling::settle_list;
+pub use stored::Stored;
+pub use truncating::truncate_contents;
+pub use writing::Hand;

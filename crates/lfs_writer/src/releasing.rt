@@ -1,0 +1,49 @@
+// Blocks in flight that are given back.
+
+ghost use Rattle.std.specs.Prelude.{◌≡◌, ◌≤◌, ◌<◌, ◌∷◌, [], length, drop, OnOk, IfErr};
+ghost use Rattle.lfs_device.specs.Calls.{ReadsOnly, TellsFaults};
+ghost use Rattle.lfs_model.specs.Lists.{IsChain, blocks_back};
+ghost use Rattle.lfs_writer.specs.Released.{Releases};
+
+use lfs_alloc::BlockMap;
+use lfs_ctz::head_before;
+use lfs_device::{BlockDevice, Error};
+
+// Takes a block out of flight. A used one stays used.
+pub(crate) fn release_one(map: &mut BlockMap, block: u32)
+    requires { block < length map.old }
+    ensures { Releases map.old map.new (block ∷ []) }
+{
+    if !map.is_used(block) {
+        map.release(block);
+    }
+}
+
+/// Takes the blocks of a list from an index on out of flight, the last one first. Used ones stay
+/// used.
+///
+/// The list has so many blocks, up to the head. `Error::Io` comes where the device failed.
+pub(crate) fn release_from<D: BlockDevice>(
+    dev: &mut D,
+    map: &mut BlockMap,
+    head: u32,
+    count: u32,
+    from: u32,
+) -> Result<(), Error>
+    requires chain { IsChain (D.blocks dev.old) count head }
+    requires map { length map.old ≡ length (D.blocks dev.old) }
+    requires within { from ≤ count }
+    ensures released { OnOk result (Releases map.old map.new (drop from (blocks_back (D.blocks dev.old) count head))) }
+    ensures device { ReadsOnly D.BlockDevice dev.old dev.new }
+    ensures faults { TellsFaults D.BlockDevice dev.old dev.new result }
+    ensures errors { IfErr result (λ e. e ≡ Error.Io) }
+{
+    let mut block = head;
+    let mut index = count;
+    'releasing: while index > from {
+        release_one(map, block);
+        index -= 1;
+        block = head_before(dev, block, index)?;
+    }
+    Ok(())
+}

@@ -1,0 +1,101 @@
+// Lists that a commit names.
+
+ghost use Rattle.std.specs.Prelude.{◌≡◌, ◌<◌, ◌∷◌, [], length, OnOk, IfErr};
+ghost use Rattle.lfs_device.specs.Calls.{ReadsOnly, TellsFaults};
+ghost use Rattle.lfs_model.specs.BlockSets.{Free, Used};
+ghost use Rattle.lfs_model.specs.Lists.{IsChain, blocks_back};
+ghost use Rattle.lfs_writer.specs.Based.{IsBase, list_blocks};
+ghost use Rattle.lfs_writer.specs.Settled.{IsSettled, Puts};
+
+use crate::stored::Stored;
+use lfs_alloc::BlockMap;
+use lfs_ctz::{blocks_for, head_before};
+use lfs_device::{BlockDevice, Error};
+
+// Makes a block used, whatever it was.
+fn use_one(map: &mut BlockMap, block: u32)
+    requires { block < length map.old }
+    ensures { Puts Used map.old map.new (block ∷ []) }
+{
+    if map.is_in_flight(block) {
+        map.settle(block);
+        return;
+    }
+    map.mark(block);
+}
+
+// Makes each block of a list free, the last one first.
+fn free_blocks<D: BlockDevice>(
+    dev: &mut D,
+    map: &mut BlockMap,
+    head: u32,
+    count: u32,
+) -> Result<(), Error>
+    requires chain { IsChain (D.blocks dev.old) count head }
+    requires map { length map.old ≡ length (D.blocks dev.old) }
+    ensures freed { OnOk result (Puts Free map.old map.new (blocks_back (D.blocks dev.old) count head)) }
+    ensures device { ReadsOnly D.BlockDevice dev.old dev.new }
+    ensures faults { TellsFaults D.BlockDevice dev.old dev.new result }
+    ensures errors { IfErr result (λ e. e ≡ Error.Io) }
+{
+    let mut block = head;
+    let mut index = count;
+    'freeing: while index > 0 {
+        map.release(block);
+        index -= 1;
+        block = head_before(dev, block, index)?;
+    }
+    Ok(())
+}
+
+// Makes each block of a list used, the last one first.
+fn use_blocks<D: BlockDevice>(
+    dev: &mut D,
+    map: &mut BlockMap,
+    head: u32,
+    count: u32,
+) -> Result<(), Error>
+    requires chain { IsChain (D.blocks dev.old) count head }
+    requires map { length map.old ≡ length (D.blocks dev.old) }
+    ensures used { OnOk result (Puts Used map.old map.new (blocks_back (D.blocks dev.old) count head)) }
+    ensures device { ReadsOnly D.BlockDevice dev.old dev.new }
+    ensures faults { TellsFaults D.BlockDevice dev.old dev.new result }
+    ensures errors { IfErr result (λ e. e ≡ Error.Io) }
+{
+    let mut block = head;
+    let mut index = count;
+    'using: while index > 0 {
+        use_one(map, block);
+        index -= 1;
+        block = head_before(dev, block, index)?;
+    }
+    Ok(())
+}
+
+/// Settles a finished list once a commit names it: its blocks are used, and those that only the
+/// list before it had are free.
+///
+/// Either list may have no bytes, and then has no block. After `Error::Io`, which comes where the
+/// device failed, the map is of no use any more: the image is to be read anew.
+pub fn settle_list<D: BlockDevice>(
+    dev: &mut D,
+    map: &mut BlockMap,
+    before: Stored,
+    stored: Stored,
+) -> Result<(), Error>
+    requires before { IsBase (D.blocks dev.old) (D.geometry dev.old).block_size before.head before.size }
+    requires stored { IsBase (D.blocks dev.old) (D.geometry dev.old).block_size stored.head stored.size }
+    requires map { length map.old ≡ length (D.blocks dev.old) }
+    ensures settled { OnOk result (IsSettled map.old map.new (list_blocks (D.blocks dev.old) (D.geometry dev.old).block_size before.head before.size)
+        (list_blocks (D.blocks dev.old) (D.geometry dev.old).block_size stored.head stored.size)) }
+    ensures device { ReadsOnly D.BlockDevice dev.old dev.new }
+    ensures faults { TellsFaults D.BlockDevice dev.old dev.new result }
+    ensures errors { IfErr result (λ e. e ≡ Error.Io) }
+{
+    let block_size = dev.geometry().block_size;
+    let gone = blocks_for(block_size, before.size);
+    free_blocks(dev, map, before.head, gone)?;
+    let kept = blocks_for(block_size, stored.size);
+    use_blocks(dev, map, stored.head, kept)?;
+    Ok(())
+}

@@ -1,0 +1,188 @@
+//! Calls of a writer, each where there is room for it.
+
+ghost use Rattle.std.specs.Prelude.{◌≡◌, ◌≤◌, ◌<◌, ◌+◌, ◌*◌, ◌^◌, true, max, length, IfOk};
+ghost use Rattle.lfs_model.specs.BlockSets.{used_count};
+ghost use Rattle.lfs_model.specs.Lists.{blocks_for};
+ghost use Rattle.lfs_writer.specs.Contents.{IsLarge, Stands, form_of};
+ghost use Rattle.lfs_writer.specs.Form.{form_size};
+
+use crate::plain::content;
+use lfs_alloc::BlockMap;
+use lfs_ctz::{blocks_for, read_at, walk};
+use lfs_device::{BlockDevice, Error};
+use lfs_writer::{
+    Contents, Stored, abandon, finish, in_memory, settle_list, truncate_contents, write_contents,
+};
+use std::alloc::Global;
+
+/// So many bytes at a place, or another size.
+#[derive(Clone, Copy, Debug, PartialEq, Eq)]
+pub enum Call {
+    Write(u32, u32),
+    Truncate(u32),
+}
+
+/// No bytes, and a map of blocks that are all free.
+pub fn start<D: BlockDevice>(alloc: Global, dev: &D) -> Result<(BlockMap, Contents), Error>
+    ensures stands { IfOk result (λ r. Stands r.0 (D.blocks dev.now) (D.geometry dev.now) r.1) }
+{
+    let geometry = dev.geometry();
+    let mut map = BlockMap::new(alloc, geometry.block_count)?;
+    abandon(&mut map);
+    let contents = in_memory(alloc, geometry, &[])?;
+    Ok((map, contents))
+}
+
+// How many bytes the contents have.
+fn length<D: BlockDevice>(dev: &D, map: &BlockMap, contents: &Contents) -> u32
+    requires { Stands map.now (D.blocks dev.now) (D.geometry dev.now) contents.now }
+    ensures { result ≡ form_size (form_of contents.now) }
+{
+    match contents {
+        Contents::InMemory(list) => list.held().len() as u32,
+        Contents::Finished(stored) => stored.size,
+        Contents::InHand(hand) => hand.list.size().max(hand.base.size),
+    }
+}
+
+// Whether contents in a list that are in flight are past the limit, and those in memory are not.
+fn is_large<D: BlockDevice>(dev: &D, map: &BlockMap, contents: &Contents) -> bool
+    requires { Stands map.now (D.blocks dev.now) (D.geometry dev.now) contents.now }
+    ensures { result ≡ true → IsLarge 128 (form_of contents.now) }
+{
+    match contents {
+        Contents::InMemory(list) => list.held().len() <= 128,
+        Contents::Finished(stored) => !stored.in_flight || stored.size > 128,
+        Contents::InHand(hand) => hand.list.size().max(hand.base.size) > 128,
+    }
+}
+
+// Whether there is room for two lists of so many bytes.
+fn has_room<D: BlockDevice>(dev: &D, map: &BlockMap, size: u32) -> bool
+    ensures { result ≡ true → used_count map.now + 2 * blocks_for (D.geometry dev.now).block_size size ≤ length map.now }
+{
+    let blocks = blocks_for(dev.geometry().block_size, size);
+    let wanted = u64::from(map.used_count()) + 2 * u64::from(blocks);
+    wanted <= u64::from(map.block_count())
+}
+
+// Writes bytes at a place. Invalid where there may be no room for them.
+fn write<D: BlockDevice>(
+    alloc: Global,
+    dev: &mut D,
+    map: &mut BlockMap,
+    contents: Contents,
+    place: u32,
+    bytes: &[u8],
+) -> Result<Contents, Error>
+    requires stands { Stands map.old (D.blocks dev.old) (D.geometry dev.old) contents }
+    ensures stands { IfOk result (λ c. Stands map.new (D.blocks dev.new) (D.geometry dev.new) c) }
+{
+    if bytes.is_empty() || bytes.len() > 65536 || place > 65536 {
+        return Err(Error::Invalid);
+    }
+    let most = length(dev, map, &contents).max(place + bytes.len() as u32);
+    if !is_large(dev, map, &contents) || !has_room(dev, map, most) {
+        return Err(Error::Invalid);
+    }
+    let written = write_contents(alloc, dev, map, contents, 128, place, bytes)?;
+    Ok(written)
+}
+
+// Gives the contents another size. Invalid where there may be no room for it.
+fn truncate<D: BlockDevice>(
+    alloc: Global,
+    dev: &mut D,
+    map: &mut BlockMap,
+    contents: Contents,
+    size: u32,
+) -> Result<Contents, Error>
+    requires stands { Stands map.old (D.blocks dev.old) (D.geometry dev.old) contents }
+    ensures stands { IfOk result (λ c. Stands map.new (D.blocks dev.new) (D.geometry dev.new) c) }
+{
+    let most = length(dev, map, &contents).max(size);
+    if size > 65536 || !is_large(dev, map, &contents) || !has_room(dev, map, most) {
+        return Err(Error::Invalid);
+    }
+    let truncated = truncate_contents(alloc, dev, map, contents, 128, size)?;
+    Ok(truncated)
+}
+
+/// Carries out a call. Invalid where there may be no room for it.
+pub fn carry_out<D: BlockDevice>(
+    alloc: Global,
+    dev: &mut D,
+    map: &mut BlockMap,
+    contents: Contents,
+    call: Call,
+) -> Result<Contents, Error>
+    requires stands { Stands map.old (D.blocks dev.old) (D.geometry dev.old) contents }
+    ensures stands { IfOk result (λ c. Stands map.new (D.blocks dev.new) (D.geometry dev.new) c) }
+{
+    match call {
+        Call::Write(place, count) => {
+            let bytes = content(alloc, count, 0x55)?;
+            write(alloc, dev, map, contents, place, bytes.as_slice())
+        }
+        Call::Truncate(size) => truncate(alloc, dev, map, contents, size),
+    }
+}
+
+/// Ends the contents. Invalid where there may be no room for it.
+pub fn end<D: BlockDevice>(
+    alloc: Global,
+    dev: &mut D,
+    map: &mut BlockMap,
+    contents: Contents,
+) -> Result<Contents, Error>
+    requires stands { Stands map.old (D.blocks dev.old) (D.geometry dev.old) contents }
+    ensures stands { IfOk result (λ c. Stands map.new (D.blocks dev.new) (D.geometry dev.new) c) }
+{
+    let most = length(dev, map, &contents);
+    if !has_room(dev, map, most) {
+        return Err(Error::Invalid);
+    }
+    let finished = finish(alloc, dev, map, contents)?;
+    Ok(finished)
+}
+
+/// Settles contents that are ended and were in no list before.
+pub fn settle<D: BlockDevice>(
+    dev: &mut D,
+    map: &mut BlockMap,
+    contents: &Contents,
+) -> Result<(), Error>
+    requires { Stands map.old (D.blocks dev.old) (D.geometry dev.old) contents.now }
+{
+    let before = Stored {
+        head: 0,
+        size: 0,
+        in_flight: false,
+    };
+    match contents {
+        Contents::Finished(stored) => settle_list(dev, map, before, *stored),
+        Contents::InMemory(_) => Ok(()),
+        Contents::InHand(_) => Err(Error::Invalid),
+    }
+}
+
+/// The bytes of contents that are ended, from a list that is well formed.
+pub fn read<D: BlockDevice>(
+    alloc: Global,
+    dev: &mut D,
+    map: &BlockMap,
+    contents: &Contents,
+) -> Result<Vec<u8>, Error>
+    requires { Stands map.now (D.blocks dev.old) (D.geometry dev.old) contents.now }
+{
+    match contents {
+        Contents::InMemory(list) => Ok(Vec::from_slice(alloc, list.held())?),
+        Contents::Finished(stored) => {
+            walk(dev, stored.head, stored.size, &mut |_block| {})?;
+            let mut bytes = Vec::from_elem(alloc, 0xeeu8, stored.size as usize)?;
+            read_at(dev, stored.head, stored.size, 0, bytes.as_mut_slice())?;
+            Ok(bytes)
+        }
+        Contents::InHand(_) => Err(Error::Invalid),
+    }
+}

@@ -1,6 +1,5 @@
 mod KnownBytes
-mod Accepted
-pub mod RootFiles
-pub mod RootPair
-mod Starts
 mod Images
+mod Walked
+mod ActionsDone
+mod Unpacks

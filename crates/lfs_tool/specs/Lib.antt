@@ -1,4 +1,5 @@
 pub mod Known
 pub mod Errors
 pub mod Ending
-pub mod OnePair
+pub mod Listed
+pub mod Unpacked

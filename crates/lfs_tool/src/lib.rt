@@ -4,12 +4,12 @@
 mod ending;
 mod errors;
 mod escape;
-mod holder;
 mod input;
 mod lines;
 mod listing;
-mod one_pair;
+mod opening;
 mod output;
+mod unpacking;
 mod watched;
 
 pub use ending::report;
@@ -17,4 +17,5 @@ pub use errors::{Fault, ToolError};
 pub use lfs_tool_line::{Line, LineError, Mode, read_line};
 pub use listing::list;
 pub use output::write_bytes;
+pub use unpacking::unpack;
 pub use watched::Watched;

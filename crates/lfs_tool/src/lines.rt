@@ -1,23 +1,54 @@
 // The lines that list an image.
 
-ghost use Rattle.std.specs.Prelude.{◌≡◌, ◌++◌, OnOk, length};
-ghost use Rattle.std.specs.Fmt.{decimal};
-ghost use Rattle.lfs_tool.specs.OnePair.{file_line};
+ghost use Rattle.std.specs.Prelude.{◌≡◌, ◌++◌, IfOk, None, OnOk, Some};
+ghost use Rattle.lfs_tool.specs.Listed.{line_at, line_with, lines_at};
+ghost use Rattle.lfs_tree.specs.Walk.{found_seen, founds_seen};
 
 use crate::escape::escape_path;
-use crate::one_pair::File;
-use std::alloc::AllocError;
+use lfs_tree::{Structure, TreeItem};
+use std::alloc::{AllocError, Global};
 use std::io::Write;
 
-// Adds the line of a file in the root.
-pub(crate) fn push_line(text: &mut Vec<u8>, file: &File<'_>) -> Result<(), AllocError>
-    ensures { OnOk result (text.new.items ≡ text.old.items ++ file_line (file.now.name.now, file.now.bytes.now)) }
+// Adds the line of a file, with its size in bytes.
+fn push_file(text: &mut Vec<u8>, size: usize, path: &[u8]) -> Result<(), AllocError>
+    ensures { OnOk result (text.new.items ≡ text.old.items ++ line_with (Some size) path.now) }
 {
-    if write!(text, "f {} ", file.bytes.len()).is_err() {
+    if write!(text, "f {} ", size).is_err() {
         return Err(AllocError);
     }
-    escape_path(text, b"/")?;
-    escape_path(text, file.name)?;
+    escape_path(text, path)?;
     text.push(b'\n')?;
     Ok(())
+}
+
+// Adds the line of a directory.
+fn push_directory(text: &mut Vec<u8>, path: &[u8]) -> Result<(), AllocError>
+    ensures { OnOk result (text.new.items ≡ text.old.items ++ line_with None path.now) }
+{
+    text.extend_from_slice(b"d 0 ")?;
+    escape_path(text, path)?;
+    text.push(b'\n')?;
+    Ok(())
+}
+
+// Adds the line of what was found.
+fn push_line(text: &mut Vec<u8>, found: &TreeItem) -> Result<(), AllocError>
+    ensures { OnOk result (text.new.items ≡ text.old.items ++ line_at (found_seen found.now)) }
+{
+    match &found.structure {
+        Structure::Inline(bytes) => push_file(text, bytes.len(), &found.path),
+        Structure::Ctz { size, .. } => push_file(text, *size as usize, &found.path),
+        Structure::Branch(_) => push_directory(text, &found.path),
+    }
+}
+
+// The lines of what was found, in turn.
+pub(crate) fn lines_of(alloc: Global, found: &[TreeItem]) -> Result<Vec<u8>, AllocError>
+    ensures { IfOk result (λ text. text.items ≡ lines_at (founds_seen found.now)) }
+{
+    let mut text = Vec::new(alloc);
+    for one in found {
+        push_line(&mut text, one)?;
+    }
+    Ok(text)
 }

@@ -9,3 +9,4 @@ mod Sizing
 mod Whole
 mod Refused
 mod Carrying
+mod RootPair

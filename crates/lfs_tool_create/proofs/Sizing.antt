@@ -1,5 +1,5 @@
 -- How long the first commit is.
-use Rattle.std.proofs.Common.{◌≡◌, ◌∙◌, ◌<◌, ◌≤◌, ◌+◌, ◌++◌, ◌*◌, ℕ, true, List, [], ◌∷◌, Some, ap, ap₂, arith, codes, length, map, refl, subst, sum_by, sym, append-nil, Result, Ok, Err}
+use Rattle.std.proofs.Common.{◌≡◌, ◌∙◌, ◌<◌, ◌≤◌, ◌+◌, ◌++◌, ◌*◌, ℕ, List, [], ◌∷◌, Some, ap, ap₂, arith, codes, length, map, refl, subst, sum_by, sym, append-nil, Result, Ok, Err}
 use Rattle.std.specs.Prelude.{IfErr, IfOk, IsOk}
 use Rattle.std.proofs.Math.Nat.{mul-le-mul_left}
 use Rattle.std.proofs.lemmas.List.Sums.{sum_by-append, sum_by-cons}

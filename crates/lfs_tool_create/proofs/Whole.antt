@@ -23,8 +23,6 @@ use Rattle.lfs_model.proofs.Cuts.{length-cut}
 use Rattle.lfs_model.proofs.Names.{names_in}
 use Rattle.lfs_device.specs.declared.geometry.Geometry.{Geometry}
 use Rattle.lfs_tag.specs.Builder.{checksum_entry}
-use Rattle.lfs_tool.proofs.RootFiles.{IsWholeFile}
-use Rattle.lfs_tool.proofs.RootPair.{IsRoot, accepted, entries_at, root_pair}
 use Rattle.lfs_tool_source.specs.Entries.{AreAll, AreInOrder}
 use Rattle.lfs_tool_source.specs.declared.entries.Entry.{Entry}
 use Rattle.lfs_tool_create.specs.Files.{File, file_of, file_size, name_of}
@@ -33,6 +31,7 @@ use Rattle.lfs_tool_create.specs.Root.{ArePages, blank_next, first_commit, image
 use Rattle.lfs_tool_create.proofs.Blank.{blank_has_none}
 use Rattle.lfs_tool_create.proofs.Cutting.{filled_length, first_block, second_block}
 use Rattle.lfs_tool_create.proofs.Holding.{AreBrief, Holds, content_held, first_held, root_slots, slot_of, sound}
+use Rattle.lfs_tool_create.proofs.RootPair.{IsRoot, IsWholeFile, accepted, entries_at, root_pair}
 use Rattle.lfs_tool_create.proofs.Showing.{Stand, shown}
 use Rattle.lfs_tool_create.proofs.Tops.{IsAFile, on_top}
 use Rattle.lfs_tool_create.proofs.Sizing.{sizes_of}

@@ -1,6 +1,9 @@
 use crate::{ImageFile, create_image};
 use lfs_device::Error;
-use lfs_tool::{Fault, Line, Mode, ToolError, Watched, list, read_line, report, write_bytes};
+use lfs_tool::{
+    Fault, Line, Mode, ToolError, Watched, list, read_line, report, unpack, write_bytes,
+};
+use lfs_tool_target::TargetFolder;
 use std::fs::File;
 use std::io;
 use std::io::{ErrorKind, Write};
@@ -21,12 +24,32 @@ fn list_image<R: Files + AllocGlobal, W: Write>(
     list(rt.alloc(), &mut image, line.block_size, line.page, out)
 }
 
+// Unpacks an image into a folder of the real file system.
+fn unpack_into<R: Files + AllocGlobal + Clone + Drop>(
+    rt: &R,
+    line: &Line<'_>,
+    folder: &str,
+) -> Result<(), ToolError> {
+    let Ok(file) = File::open(rt, line.image) else {
+        return Err(ToolError::Input);
+    };
+    let mut image = Watched::new(file);
+    let mut target = TargetFolder::new(rt, folder);
+    unpack(
+        rt.alloc(),
+        &mut image,
+        line.block_size,
+        line.page,
+        &mut target,
+    )
+}
+
 /// Carries out the words of a command line, the program's name first. Listed lines go to `out`.
 ///
 /// # Errors
 /// - `Line` where there is no command line.
-/// - `Tool` where the image isn't listed or made: the errors of `lfs_tool::list` and `create_image`,
-///   `Input` where the image to be listed can't be opened, and `Fs(Unsupported)` for `-u`.
+/// - `Tool` where the image isn't listed, unpacked or made: the errors of `lfs_tool::list`,
+///   `lfs_tool::unpack` and `create_image`, and `Input` where the image to be read can't be opened.
 pub fn run<R: Files + AllocGlobal + Clone + Drop, W: Write>(
     rt: &R,
     words: &[String],
@@ -39,7 +62,7 @@ pub fn run<R: Files + AllocGlobal + Clone + Drop, W: Write>(
             let mut image = Watched::new(ImageFile::new(rt, line.image));
             create_image(rt, &line, folder, &mut image)
         }
-        Mode::Unpack(_) => Err(ToolError::Fs(Error::Unsupported)),
+        Mode::Unpack(folder) => unpack_into(rt, &line, folder),
     };
     result.map_err(Fault::Tool)
 }

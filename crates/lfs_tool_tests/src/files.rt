@@ -103,7 +103,7 @@ const RUNS: [Run; 11] = [
         words: &["-u", "runs/files", "runs/image"],
         status: 1,
         out: "",
-        err: "error: Unsupported (202)\n",
+        err: "error: Invalid (22)\n",
         image: Image::Old,
     },
     Run {
@@ -231,6 +231,33 @@ fn what_was_made_is_listed(rt: HostRuntime) -> Result<(), Fail> {
         assert!(rt; made.status == 0 && is_told(&listed, 0, "f 5 /a\nf 0 /b\n", ""));
     }
     fs::remove_dir_all(&rt, "listed")?;
+    Ok(())
+}
+
+// Whether an image of the folder, unpacked into another one, gives the files again, also where they
+// are there already.
+fn comes_back<R: Files + AllocGlobal + Clone + Drop>(rt: &R) -> io::Result<bool> {
+    let making = words_of(rt.alloc(), &["-c", "back/files", "back/image"])?;
+    let made = told(rt, Ok(making)).status;
+    fs::create_dir_all(rt, "back/other")?;
+    fs::write(rt, "back/other/a", b"an older file")?;
+    let unpacking = words_of(rt.alloc(), &["-u", "back/other", "back/image"])?;
+    let unpacked = told(rt, Ok(unpacking));
+    let a = fs::read(rt, "back/other/a")?;
+    let b = fs::read(rt, "back/other/b")?;
+    Ok(
+        made == 0
+            && is_told(&unpacked, 0, "", "")
+            && a.as_slice() == b"hello".as_slice()
+            && b.is_empty(),
+    )
+}
+
+#[test]
+fn what_was_made_is_unpacked(rt: HostRuntime) -> Result<(), Fail> {
+    make_files(&rt, "back")?;
+    assert!(rt; comes_back(&rt)?);
+    fs::remove_dir_all(&rt, "back")?;
     Ok(())
 }
 

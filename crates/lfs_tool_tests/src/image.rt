@@ -80,6 +80,55 @@ pub(crate) fn block_with(
     Ok(bytes)
 }
 
+// A block with one commit of these.
+fn block_of(alloc: Global, entries: Entries<'_>) -> Result<Vec<u8>, AllocError> {
+    let mut bytes = Vec::from_slice(alloc, &[1, 0, 0, 0])?;
+    push_commit(&mut bytes, 0xffff_ffff, entries)?;
+    Ok(bytes)
+}
+
+// What stands in a block: a commit, or bytes.
+#[derive(Clone, Copy)]
+pub(crate) enum Held<'a> {
+    Commit(Entries<'a>),
+    Bytes(&'a [u8]),
+}
+
+fn put(image: &mut [u8], block: usize, bytes: &[u8]) {
+    let start = block.saturating_mul(4096);
+    let end = start.saturating_add(bytes.len());
+    if let Some(place) = image.get_mut(start..end) {
+        place.copy_from_slice(bytes);
+    }
+}
+
+fn put_held(
+    alloc: Global,
+    image: &mut [u8],
+    block: usize,
+    held: Held<'_>,
+) -> Result<(), AllocError> {
+    match held {
+        Held::Commit(entries) => put(image, block, block_of(alloc, entries)?.as_slice()),
+        Held::Bytes(bytes) => put(image, block, bytes),
+    }
+    Ok(())
+}
+
+// An image of 16 blocks of 4,096 bytes: a second commit of its first block, and its other blocks.
+pub(crate) fn image_with(
+    alloc: Global,
+    entries: Entries<'_>,
+    others: &[(usize, Held<'_>)],
+) -> Result<Vec<u8>, AllocError> {
+    let first = block_with(alloc, 1, entries)?;
+    let mut image = image_of(alloc, first.as_slice(), &[])?;
+    for (block, held) in others {
+        put_held(alloc, image.as_mut_slice(), *block, *held)?;
+    }
+    Ok(image)
+}
+
 // The block in which a file moves from slot to slot.
 pub(crate) fn shifting_block(alloc: Global) -> Result<Vec<u8>, AllocError> {
     let (mut bytes, mut last) = begun(alloc, 1)?;

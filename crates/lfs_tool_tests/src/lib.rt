@@ -16,6 +16,10 @@ mod listing;
 #[cfg(test)]
 mod memory;
 #[cfg(test)]
+mod mounting;
+#[cfg(test)]
 mod shown;
 #[cfg(test)]
 mod sources;
+#[cfg(test)]
+mod unpacking;

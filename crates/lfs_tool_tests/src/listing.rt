@@ -9,8 +9,6 @@ const CORRUPT: &str = "error: Corrupt (84)\n";
 
 const INVALID: &str = "error: Invalid (22)\n";
 
-const UNSUPPORTED: &str = "error: Unsupported (202)\n";
-
 const PAIR: &[u8] = &[2, 0, 0, 0, 3, 0, 0, 0];
 
 const NO_PAIR: &[u8] = &[0xff; 8];
@@ -26,25 +24,26 @@ const COMMITS: [(Entries<'static>, &str); 19] = [
         &[(0x0010_0405, b"a\n\\\xc3\xa9"), (0x2010_0405, b"hello")],
         "f 5 /a\\x0a\\x5c\\xc3\\xa9\n",
     ),
-    // a directory, a list of blocks, a directory whose name is bad, a tail
-    (&[(0x0020_0401, b"d"), (0x2000_0408, PAIR)], UNSUPPORTED),
-    (&[(0x0010_0401, b"a"), (0x2020_0408, PAIR)], UNSUPPORTED),
-    (&[(0x0020_0401, b"/"), (0x2010_0400, b"")], UNSUPPORTED),
-    (&[(0x600f_fc08, PAIR), (0x7fff_fc0c, &[0; 12])], UNSUPPORTED),
+    // a directory that isn't in the thread, a list of one block, a directory with a file's struct, a
+    // tail to a pair without a commit
+    (&[(0x0020_0401, b"d"), (0x2000_0408, PAIR)], CORRUPT),
+    (&[(0x0010_0401, b"a"), (0x2020_0408, PAIR)], "f 3 /a\n"),
+    (&[(0x0020_0401, b"d"), (0x2010_0400, b"")], CORRUPT),
+    (&[(0x600f_fc08, PAIR), (0x7fff_fc0c, &[0; 12])], CORRUPT),
     // a sync bit, an id without a move, and a move state that says nothing
     (
         &[
             (0x600f_fc08, NO_PAIR),
             (0x7fff_fc0c, &[0, 0, 0, 0x80, 0, 0, 0, 0, 0, 0, 0, 0]),
         ],
-        UNSUPPORTED,
+        "",
     ),
     (
         &[
             (0x600f_fc08, NO_PAIR),
             (0x7fff_fc0c, &[0, 4, 0, 0, 0, 0, 0, 0, 0, 0, 0, 0]),
         ],
-        UNSUPPORTED,
+        CORRUPT,
     ),
     (
         &[

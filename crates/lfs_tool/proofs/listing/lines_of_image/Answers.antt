@@ -1,29 +1,15 @@
+use Rattle.std.proofs.Common.{subst}
 use Rattle.std.proofs.lemmas.Result.{IfErr-weaker, IfOk-weaker}
-use Rattle.lfs_model.specs.Disk.{disk_of}
-use Rattle.lfs_tool.proofs.Images.{Measures, blocks_from, image_from, refuses_by}
+use Rattle.lfs_tool.specs.Listed.{HasLines, IsNotMounted}
+use Rattle.lfs_tool.proofs.Walked.{lists_from, refuses_from}
 use Rattle.lfs_tool.proofs.listing.lines_of_image.Goals as goal
 
 pub returns-clause-ok : goal.returns-clause-ok
 returns-clause-ok c =
-    let g = c.in_ok-geometry in
-    let m : Measures c.args.block_size c.args.page c.args.image.now g.geometry.block_size g.geometry.page g.geometry.block_count = record {
-      size_is = g.ensures.sizes.0;
-      pages_are = g.ensures.sizes.1;
-      count_is = g.ensures.count.0;
-      whole = g.ensures.count.1;
-      geometry = g.geometry.valid;
-    } in
-    IfOk-weaker c.lines_in.result _ _ (λ text h. (image_from _ _ _ _ _ _ m, h (disk_of c.args.block_size c.args.page c.args.image.now) (blocks_from _ _ _ _ _ _ m))) c.lines_in.ensures.ok
+    let d = c.in_ok-device in
+    IfOk-weaker c.lines_on.result _ _ (λ text h. lists_from c.args.block_size c.args.page c.args.image.items text.items d.ensures.image (subst (λ disk. HasLines disk text.items) d.ensures.disk h)) c.lines_on.ensures.lines
 
 pub returns-clause-err : goal.returns-clause-err
 returns-clause-err c =
-    let g = c.in_ok-geometry in
-    let m : Measures c.args.block_size c.args.page c.args.image.now g.geometry.block_size g.geometry.page g.geometry.block_count = record {
-      size_is = g.ensures.sizes.0;
-      pages_are = g.ensures.sizes.1;
-      count_is = g.ensures.count.0;
-      whole = g.ensures.count.1;
-      geometry = g.geometry.valid;
-    } in
-    IfErr-weaker c.lines_in.result _ _ (λ e h. refuses_by c.args.block_size c.args.page c.args.image.now e (image_from _ _ _ _ _ _ m)
-    (λ memory. h memory (disk_of c.args.block_size c.args.page c.args.image.now) (blocks_from _ _ _ _ _ _ m))) c.lines_in.ensures.err
+    let d = c.in_ok-device in
+    IfErr-weaker c.lines_on.result _ _ (λ e h. refuses_from c.args.block_size c.args.page c.args.image.items e d.ensures.image (subst (λ disk. IsNotMounted disk e) d.ensures.disk h)) c.lines_on.ensures.err

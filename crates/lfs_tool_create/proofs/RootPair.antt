@@ -1,24 +1,24 @@
--- A disk whose first pair holds all files: it is accepted, and lists them.
-use Rattle.std.proofs.Common.{◌≡◌, ◌∙◌, ◌<◌, ◌≤◌, ◌++◌, ◌∷◌, [], ℕ, Bool, true, false, not, cond, List, Option, Some, None, Less, AllPairs, All, ap, ap₂, arith, codes, flat_map, get_or, inl, map, nat_eq, option_and_then, refl, subst, sym}
+-- A disk whose first pair holds all files: it is accepted.
+use Rattle.std.proofs.Common.{◌≡◌, ◌∙◌, ◌<◌, ◌≤◌, ◌++◌, ◌∷◌, [], ℕ, Bool, true, false, not, cond, List, Option, Some, None, Less, AllPairs, ap, ap₂, arith, codes, flat_map, inl, nat_eq, option_and_then, refl, subst, sym}
 use Rattle.std.specs.List.{IsDistinct, filter}
-use Rattle.std.proofs.lemmas.List.Elements.{All-from_recursion, recursion_from_All}
-use Rattle.std.proofs.lemmas.Option.{same_Some, slice_get-get_or}
+use Rattle.std.proofs.lemmas.List.Elements.{All-from_recursion}
+use Rattle.std.proofs.lemmas.Option.{same_Some}
 use Rattle.lfs_model.specs.Disk.{Disk, block_count}
 use Rattle.lfs_model.specs.Names.{Name, name_cmp, same_name}
-use Rattle.lfs_model.specs.Slots.{Attributes, Content, Inline, Slot, Struct, Superblock, is_superblock, no_gstate, same_pair}
+use Rattle.lfs_model.specs.Slots.{Attributes, Content, Inline, Slot, Superblock, is_superblock, no_gstate, same_pair}
 use Rattle.lfs_model.specs.Content.{content_at, holder_at}
 use Rattle.lfs_model.specs.Thread.{Pair, anchor}
-use Rattle.lfs_model.specs.Tree.{Entries, FileNode, Path, Tree, branch_of, directory_from, entry_named, node_of, root_slot, tree_from}
-use Rattle.lfs_model.specs.View.{BeginsWith, HasSuperblock, IsAccepted, IsEntry, IsListIfCtz, IsReached, IsSuperblockStruct, Leads, all_slots, contents_in, directories_in, entries_in, file_blocks, superblock_entry, tree_in}
-use Rattle.lfs_model.specs.Apply.{names_of}
-use Rattle.lfs_model.specs.Listing.{Entry, IsListing, IsWalk, lines_of, paths_in}
-use Rattle.lfs_model.proofs.Counts.{Each, each_append, each_both, each_weaker}
-use Rattle.lfs_model.proofs.Names.{Rise, found_at, names_in}
+use Rattle.lfs_model.specs.Tree.{Entries, Path, branch_of, directory_from, entry_named, root_slot}
+use Rattle.lfs_model.specs.View.{BeginsWith, HasSuperblock, IsAccepted, IsEntry, IsListIfCtz, IsReached, IsSuperblockStruct, Leads, all_slots, directories_in, entries_in, file_blocks, superblock_entry}
+use Rattle.lfs_model.proofs.Counts.{Each, each_append, each_weaker}
+use Rattle.lfs_model.proofs.Names.{Rise, names_in}
 use Rattle.lfs_model.proofs.Superblocks.{entry_is_other}
-use Rattle.lfs_model.proofs.Walks.{file_leads, leads_below, tree_below}
-use Rattle.lfs_tool.proofs.RootFiles.{IsWholeFile, held_bytes, slot_line}
+use Rattle.lfs_model.proofs.Walks.{file_leads, leads_below}
 
 -- ---- the pair
+
+abbrev pub IsWholeFile : Slot → Type 0
+IsWholeFile f = (bytes : List ℕ) × (f.struct ≡ Inline bytes)
 
 abbrev pub superblock_with : List ℕ → Attributes → Slot
 superblock_with bytes attributes = record { kind = Superblock; name = codes "littlefs"; struct = Inline bytes; attributes = attributes }
@@ -120,52 +120,3 @@ accepted disk bytes attributes files h =
           (tt, each_append (λ s. IsListIfCtz disk s.struct) files [] (each_weaker IsWholeFile (λ s. IsListIfCtz disk s.struct) (no_list disk) files h.whole) tt);
       owned_once = subst (λ xs. IsDistinct nat_eq (0 ∷ 1 ∷ xs)) (sym (no_blocks disk files h.whole)) ((refl, tt), (tt, tt));
     }
-
--- ---- what it lists
-
-abbrev entry_of : Slot → Entry
-entry_of f = record { path = f.name ∷ []; node = FileNode f.attributes (held_bytes f.struct) }
-
-abbrev Shown : Tree → Slot → Type 0
-Shown tree f = tree (f.name ∷ []) ≡ Some (entry_of f).node
-
-walk_from : (tree : Tree) (files : List Slot) → Each (Shown tree) files → IsWalk tree (map (λ f. f.name ∷ []) files) (map entry_of files)
-walk_from tree [] h = tt
-walk_from tree (f ∷ fs) h =
-    let nothing : [] ≡ paths_in tree (f.name ∷ []) = sym (ap (λ o. map (λ name. (f.name ∷ []) ++ name ∷ []) (names_of o)) h.0) in
-    (refl, h.0, subst (λ ps. IsWalk tree (ps ++ map (λ g. g.name ∷ []) fs) (map entry_of fs)) nothing (walk_from tree fs h.1))
-
-paths_are : (files : List Slot) → map (λ f. f.name ∷ []) files ≡ map (λ name. [] ++ name ∷ []) (names_in files)
-paths_are [] = refl
-paths_are (f ∷ fs) = ap (λ ps. (f.name ∷ []) ∷ ps) (paths_are fs)
-
-lines_are : (files : List Slot) → flat_map slot_line files ≡ lines_of (map entry_of files)
-lines_are [] = refl
-lines_are (f ∷ fs) = ap (λ text. slot_line f ++ text) (lines_are fs)
-
-node_is : (contents : ℕ → ℕ → List ℕ) (E : Entries) (attributes : Attributes) (struct : Struct) (bytes : List ℕ) → struct ≡ Inline bytes
-    → node_of contents E attributes struct ≡ FileNode attributes (held_bytes struct)
-node_is contents E attributes struct bytes e = ap (node_of contents E attributes) e ∙ sym (ap (λ s. FileNode attributes (held_bytes s)) e)
-
-shown : (disk : Disk) (bytes : List ℕ) (attributes : Attributes) (files : List Slot) → IsRoot disk bytes attributes files
-    → (f : Slot) → IsWholeFile f → entry_named f.name files ≡ Some f → Shown (tree_in disk (root_thread bytes attributes files)) f
-shown disk bytes attributes files h f whole found =
-    let c = contents_in disk in
-    let E = entries_in (root_thread bytes attributes files) in
-    tree_below c E (root_slot anchor) [] anchor refl f.name []
-    ∙ ap (λ slots. option_and_then (λ u. tree_from c E u []) (entry_named f.name slots)) (entries_at bytes attributes files anchor h.entries refl)
-    ∙ ap (option_and_then (λ u. tree_from c E u [])) found
-    ∙ ap Some (node_is c E f.attributes f.struct whole.0 whole.1)
-
-found_all : (files : List Slot) → Rise files → All (λ f. entry_named f.name files ≡ Some f) files
-found_all files rise = λ k d lt. found_at files k (get_or files k d) rise (slice_get-get_or files k d lt)
-
-pub listed : (disk : Disk) (bytes : List ℕ) (attributes : Attributes) (files : List Slot) → IsRoot disk bytes attributes files
-    → IsListing (tree_in disk (root_pair bytes attributes files ∷ [])) (flat_map slot_line files)
-listed disk bytes attributes files h =
-    let tree = tree_in disk (root_thread bytes attributes files) in
-    let found = recursion_from_All (λ (f : Slot). entry_named f.name files ≡ Some f) files (found_all files h.rise) in
-    let each : Each (Shown tree) files = each_both IsWholeFile (λ f. entry_named f.name files ≡ Some f) (Shown tree) (shown disk bytes attributes files h) files h.whole found in
-    let paths : map (λ f. f.name ∷ []) files ≡ paths_in tree [] =
-    paths_are files ∙ ap (λ slots. map (λ name. [] ++ name ∷ []) (names_in slots)) (sym (entries_at bytes attributes files anchor h.entries refl)) in
-    (map entry_of files, (subst (λ ps. IsWalk tree ps (map entry_of files)) paths (walk_from tree files each), lines_are files))

@@ -1,0 +1,119 @@
+-- What is done of an image that is unpacked.
+use Rattle.std.proofs.Common.{ℕ, ◌≡◌, ◌⊎◌, ◌∙◌, inl, inr, Bool, List, [], ◌∷◌, Option, Some, None, Result, Ok, Err, ap, ap₂, map, refl, subst, sym, take}
+use Rattle.std.specs.Prelude.{IfErr, IfSome, IsErrOf, OnErr}
+use Rattle.lfs_model.specs.Disk.{Disk, IsImage, disk_of}
+use Rattle.lfs_model.specs.Listing.{Action, Entry, action_for, action_of}
+use Rattle.lfs_model.specs.Slots.{Branch, Ctz, Inline, Struct}
+use Rattle.lfs_model.specs.Thread.{Pair}
+use Rattle.lfs_model.specs.Tree.{Node}
+use Rattle.lfs_model.specs.View.{IsAccepted, IsListIfCtz, view_in}
+use Rattle.lfs_device.specs.declared.error.Error.TheVariants.{Corrupt, Invalid, NoMemory}
+use Rattle.lfs_device.specs.declared.error.Error.{Error}
+use Rattle.lfs_tree.specs.Walk.{AllShow, IsWalked, Place, Shows, ShowsNode}
+use Rattle.lfs_tool.specs.declared.errors.ToolError.{ToolError}
+use Rattle.lfs_tool.specs.declared.errors.ToolError.TheVariants.{Fs, Output}
+use Rattle.lfs_tool.specs.Listed.{Refuses}
+use Rattle.lfs_tool.specs.Unpacked.{AreLists, FailsToUnpack, FailsToUnpackImage, HasBegun, HasDone, IsBegunOf, IsBegunOfImage, IsDoneOf, IsDoneOfImage, IsUnpacked, TellsTarget, action_at, action_below, actions_at}
+use Rattle.lfs_tool.proofs.Images.{all_read, most}
+
+-- ---- what was found of a tree unpacks it
+
+list_node : (disk : Disk) (struct : Struct) (node : Node) → ShowsNode disk struct node → IsListIfCtz disk struct
+list_node disk (Inline bytes) node h = tt
+list_node disk (Ctz head size) node (attributes, (is, list)) = list
+list_node disk (Branch to) node h = tt
+
+lists_shown : (disk : Disk) (ps : List Place) (es : List Entry) → AllShow disk ps es → AreLists disk ps
+lists_shown disk [] es s = tt
+lists_shown disk (p ∷ ps) [] s = absurd s
+lists_shown disk (p ∷ ps) (e ∷ es) s = (list_node disk p.struct e.node s.0.node, lists_shown disk ps es s.1)
+
+pub lists_walked : (disk now : Disk) (ps : List Pair) (places : List Place) → now ≡ disk → IsWalked disk ps places → AreLists now places
+lists_walked disk now ps places same (entries, (walk, shows)) = subst (λ d. AreLists d places) (sym same) (lists_shown disk places entries shows)
+
+action_node : (disk : Disk) (path : List ℕ) (struct : Struct) (node : Node) → ShowsNode disk struct node → action_below disk path struct ≡ action_for path node
+action_node disk path (Inline bytes) node (attributes, is) = ap (action_for path) (sym is)
+action_node disk path (Ctz head size) node (attributes, (is, list)) = ap (action_for path) (sym is)
+action_node disk path (Branch to) node (attributes, (names, is)) = ap (action_for path) (sym is)
+
+action_shown : (disk : Disk) (p : Place) (e : Entry) → Shows disk p e → action_at disk p ≡ action_of e
+action_shown disk p e s = action_node disk p.path p.struct e.node s.node ∙ ap (λ path. action_for path e.node) s.path
+
+actions_shown : (disk : Disk) (ps : List Place) (es : List Entry) → AllShow disk ps es → actions_at disk ps ≡ map action_of es
+actions_shown disk [] [] s = refl
+actions_shown disk [] (e ∷ es) s = absurd s
+actions_shown disk (p ∷ ps) [] s = absurd s
+actions_shown disk (p ∷ ps) (e ∷ es) s = ap₂ (λ a more. a ∷ more) (action_shown disk p e s.0) (actions_shown disk ps es s.1)
+
+unpacks : (disk : Disk) (ps : List Pair) (places : List Place) → IsAccepted disk ps → IsWalked disk ps places → IsUnpacked disk (actions_at disk places)
+unpacks disk ps places accepted (entries, (walk, shows)) = (view_in disk ps, ((ps, (accepted, refl)), (entries, (walk, actions_shown disk places entries shows))))
+
+pub done_of : (disk now : Disk) (ps : List Pair) (places : List Place) (old new : Option (List Action)) → now ≡ disk → IsAccepted disk ps → IsWalked disk ps places
+    → HasDone old new (actions_at now places) → IsDoneOf disk old new
+done_of disk now ps places old new same accepted walked h = (actions_at disk places, (unpacks disk ps places accepted walked, subst (λ d. HasDone old new (actions_at d places)) same h))
+
+pub begun_of : (disk now : Disk) (ps : List Pair) (places : List Place) (old new : Option (List Action)) → now ≡ disk → IsAccepted disk ps → IsWalked disk ps places
+    → HasBegun old new (actions_at now places) → IsBegunOf disk old new
+begun_of disk now ps places old new same accepted walked h = (actions_at disk places, (unpacks disk ps places accepted walked, subst (λ d. HasBegun old new (actions_at d places)) same h))
+
+pub fails_begun : {X : Type 0} (disk : Disk) (old new : Option (List Action)) (was now : Bool) (r : Result X ToolError) (begun : Type 0) → OnErr r begun → (begun → IsBegunOf disk old new)
+    → TellsTarget was now r → IfErr r (FailsToUnpack disk old new)
+fails_begun disk old new was now (Ok x) begun h to tells = tt
+fails_begun disk old new was now (Err Output) begun h to tells = to h
+fails_begun disk old new was now (Err (Fs NoMemory)) begun h to tells = inr (to h)
+fails_begun disk old new was now (Err e) begun h to tells = absurd tells
+
+-- ---- of an image
+
+pub done_image : (block_size page : ℕ) (image : List ℕ) (disk : Disk) (old new : Option (List Action)) → IsImage block_size page image → disk ≡ disk_of block_size page image
+    → IsDoneOf disk old new → IsDoneOfImage block_size page image old new
+done_image block_size page image disk old new is same (actions, (unpacked, h)) = (actions, ((is, subst (λ d. IsUnpacked d actions) same unpacked), h))
+
+begun_image : (block_size page : ℕ) (image : List ℕ) (disk : Disk) (old new : Option (List Action)) → IsImage block_size page image → disk ≡ disk_of block_size page image
+    → IsBegunOf disk old new → IsBegunOfImage block_size page image old new
+begun_image block_size page image disk old new is same (actions, (unpacked, h)) = (actions, ((is, subst (λ d. IsUnpacked d actions) same unpacked), h))
+
+pub fails_image : (block_size page : ℕ) (image : List ℕ) (disk : Disk) (old new : Option (List Action)) (e : ToolError) → IsImage block_size page image → disk ≡ disk_of block_size page image
+    → FailsToUnpack disk old new e → FailsToUnpackImage block_size page image old new e
+fails_image block_size page image disk old new (Fs Corrupt) is same (wrong, undone) =
+    ((is, λ view (ps, (accepted, shows)). wrong ps (subst (λ d. IsAccepted d ps) (sym same) accepted)), undone)
+fails_image block_size page image disk old new (Fs NoMemory) is same (inl undone) = inl undone
+fails_image block_size page image disk old new (Fs NoMemory) is same (inr begun) = inr (begun_image block_size page image disk old new is same begun)
+fails_image block_size page image disk old new Output is same begun = begun_image block_size page image disk old new is same begun
+fails_image block_size page image disk old new e is same h = absurd h
+
+-- ---- of what was read
+
+pub done_read : (known : Option (List ℕ)) (block_size page : ℕ) (items : List ℕ) (old new : Option (List Action)) → IfSome known (λ bytes. items ≡ take most bytes)
+    → IsDoneOfImage block_size page items old new → IfSome known (λ bytes. IsDoneOfImage block_size page bytes old new)
+done_read None block_size page items old new read h = tt
+done_read (Some bytes) block_size page items old new read h = subst (λ (i : List ℕ). IsDoneOfImage block_size page i old new) (all_read block_size page bytes items read h.1.0.0) h
+
+begun_read : (known : Option (List ℕ)) (block_size page : ℕ) (items : List ℕ) (old new : Option (List Action)) → IfSome known (λ bytes. items ≡ take most bytes)
+    → IsBegunOfImage block_size page items old new → IfSome known (λ bytes. IsBegunOfImage block_size page bytes old new)
+begun_read None block_size page items old new read h = tt
+begun_read (Some bytes) block_size page items old new read h = subst (λ (i : List ℕ). IsBegunOfImage block_size page i old new) (all_read block_size page bytes items read h.1.0.0) h
+
+pub begun_at_error : (known : Option (List ℕ)) (block_size page : ℕ) (items : List ℕ) (old new : Option (List Action)) (e : ToolError) → IfSome known (λ bytes. items ≡ take most bytes)
+    → FailsToUnpackImage block_size page items old new e → (new ≡ old) ⊎ IfSome known (λ bytes. IsBegunOfImage block_size page bytes old new)
+begun_at_error known block_size page items old new (Fs Corrupt) read h = inl h.1
+begun_at_error known block_size page items old new (Fs Invalid) read h = inl h.1
+begun_at_error known block_size page items old new (Fs NoMemory) read (inl undone) = inl undone
+begun_at_error known block_size page items old new (Fs NoMemory) read (inr begun) = inr (begun_read known block_size page items old new read begun)
+begun_at_error known block_size page items old new Output read h = inr (begun_read known block_size page items old new read h)
+begun_at_error known block_size page items old new e read h = absurd h
+
+pub refused_at : (block_size page : ℕ) (items : List ℕ) (old new : Option (List Action)) (e : Error) → FailsToUnpackImage block_size page items old new (Fs e) → Refuses block_size page items e
+refused_at block_size page items old new Corrupt h = h.0
+refused_at block_size page items old new Invalid h = h.0
+refused_at block_size page items old new NoMemory h = tt
+refused_at block_size page items old new e h = absurd h
+
+-- ---- errors
+
+pub err_gives : {X E : Type 0} (r : Result X E) (Q : E → Type 0) (P : Type 0) → IfErr r Q → ((e : E) → Q e → P) → OnErr r P
+err_gives (Ok x) Q P h to = tt
+err_gives (Err e) Q P h to = to e h
+
+pub err_is : {X E : Type 0} (r : Result X E) (f : E) (Q : E → Type 0) → IfErr r Q → IsErrOf r f → Q f
+err_is r f Q h same = subst (λ z. IfErr z Q) same h

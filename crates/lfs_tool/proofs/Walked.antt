@@ -1,0 +1,56 @@
+-- What was found of a tree lists it.
+use Rattle.std.proofs.Common.{◌≡◌, ◌∙◌, ◌++◌, ◌/◌, ◌≤◌, ℕ, List, Some, [], ◌∷◌, ap, ap₂, arith, length, refl, sym}
+use Rattle.lfs_model.specs.Blocks.{IsDivided}
+use Rattle.lfs_model.specs.Disk.{Disk, IsImage, disk_of}
+use Rattle.lfs_model.specs.Listing.{Entry, escaped_text, line_head, line_of, lines_of, newline}
+use Rattle.lfs_model.specs.Slots.{Branch, Ctz, Inline, Struct}
+use Rattle.lfs_model.specs.Tree.{Node}
+use Rattle.lfs_model.specs.View.{view_in}
+use Rattle.lfs_model.proofs.Cuts.{IsDivided-cut}
+use Rattle.lfs_model.proofs.ListSizes.{length-bytes_of}
+use Rattle.lfs_tree.specs.Walk.{AllShow, Place, Shows, ShowsNode}
+use Rattle.lfs_device.specs.declared.error.Error.{Error}
+use Rattle.lfs_device.specs.declared.error.Error.TheVariants.{Corrupt, NoMemory}
+use Rattle.lfs_tool.specs.Listed.{HasLines, IsNotMounted, Lists, Refuses, line_at, line_with, lines_at, size_in}
+
+record HasSizes (disk : Disk) : Type 0 where
+  enough : 1024 ≤ disk.block_size
+  count : ℕ
+  divided : IsDivided disk.block_size count disk.blocks
+
+image_sizes : (block_size page : ℕ) (image : List ℕ) → IsImage block_size page image → HasSizes (disk_of block_size page image)
+image_sizes block_size page image is = record {
+  enough = is.geometry.no_smaller;
+  count = length image / block_size;
+  divided = IsDivided-cut block_size (length image / block_size) image (let g = is.geometry.no_smaller in omega (arith, g, is.whole));
+}
+
+abbrev line_for : List ℕ → Node → List ℕ
+line_for path node = line_head node ++ escaped_text path ++ newline
+
+line_node : (disk : Disk) → HasSizes disk → (path : List ℕ) (struct : Struct) (node : Node) → ShowsNode disk struct node → line_with (size_in struct) path ≡ line_for path node
+line_node disk sizes path (Inline bytes) node (attributes, is) = ap (line_for path) (sym is)
+line_node disk sizes path (Ctz head size) node (attributes, (is, list)) =
+    ap (λ k. line_with (Some k) path) (sym (length-bytes_of disk.blocks disk.block_size sizes.count head size sizes.enough sizes.divided list)) ∙ ap (line_for path) (sym is)
+line_node disk sizes path (Branch to) node (attributes, (names, is)) = ap (line_for path) (sym is)
+
+line_shown : (disk : Disk) → HasSizes disk → (p : Place) (e : Entry) → Shows disk p e → line_at p ≡ line_of e
+line_shown disk sizes p e s = line_node disk sizes p.path p.struct e.node s.node ∙ ap (λ path. line_for path e.node) s.path
+
+lines_shown : (disk : Disk) → HasSizes disk → (ps : List Place) (es : List Entry) → AllShow disk ps es → lines_at ps ≡ lines_of es
+lines_shown disk sizes [] [] s = refl
+lines_shown disk sizes [] (e ∷ es) s = absurd s
+lines_shown disk sizes (p ∷ ps) [] s = absurd s
+lines_shown disk sizes (p ∷ ps) (e ∷ es) s = ap₂ (λ a b. a ++ b) (line_shown disk sizes p e s.0) (lines_shown disk sizes ps es s.1)
+
+-- an image of which each place has its line is listed
+pub lists_from : (block_size page : ℕ) (image text : List ℕ) → IsImage block_size page image → HasLines (disk_of block_size page image) text → Lists block_size page image text
+lists_from block_size page image text is (ps, (accepted, (places, ((entries, (walk, shows)), lines)))) =
+    let disk = disk_of block_size page image in
+    (is, (view_in disk ps, ((ps, (accepted, refl)), (entries, (walk, lines ∙ lines_shown disk (image_sizes block_size page image is) places entries shows)))))
+
+-- an image that isn't mounted is refused
+pub refuses_from : (block_size page : ℕ) (image : List ℕ) (e : Error) → IsImage block_size page image → IsNotMounted (disk_of block_size page image) e → Refuses block_size page image e
+refuses_from block_size page image Corrupt is h = (is, λ view (ps, (accepted, same)). h ps accepted)
+refuses_from block_size page image NoMemory is h = tt
+refuses_from block_size page image e is h = absurd h

@@ -1,0 +1,68 @@
+-- What a listing answers.
+use Rattle.std.specs.Prelude.{ℕ, ◌≡◌, false, List, ◌++◌, Option, Some, None, codes, length}
+use Rattle.std.specs.List.{flat_map}
+use Rattle.std.specs.Fmt.{decimal}
+use Rattle.lfs_model.specs.Disk.{Disk, IsImage, disk_of}
+use Rattle.lfs_model.specs.Thread.{Pair}
+use Rattle.lfs_model.specs.View.{View, HasView, IsAccepted}
+use Rattle.lfs_model.specs.Slots.{Struct, Inline, Ctz, Branch}
+use Rattle.lfs_model.specs.Listing.{IsListing, escaped_text, newline}
+use Rattle.lfs_thread.specs.Kept.{State}
+use Rattle.lfs_tree.specs.Walk.{IsWalked, Place}
+use Rattle.lfs_device.specs.declared.error.Error.{Error}
+use Rattle.lfs_device.specs.declared.error.Error.TheVariants.{Invalid, Corrupt, NoMemory}
+
+-- the disk is accepted, and this text lists what it shows
+abbrev pub IsListed : Disk → List ℕ → Type 0
+IsListed disk text = (view : View) × (HasView disk view × IsListing view.tree text)
+
+-- the bytes are an image that this text lists
+abbrev pub Lists : ℕ → ℕ → List ℕ → List ℕ → Type 0
+Lists block_size page image text = IsImage block_size page image × IsListed (disk_of block_size page image) text
+
+-- the bytes are an image that isn't accepted
+abbrev pub IsBad : ℕ → ℕ → List ℕ → Type 0
+IsBad block_size page image = IsImage block_size page image × ((view : View) → ¬ HasView (disk_of block_size page image) view)
+
+-- why bytes aren't listed; memory may run out at any
+abbrev pub Refuses : ℕ → ℕ → List ℕ → Error → Type 0
+Refuses block_size page image Invalid = ¬ IsImage block_size page image
+Refuses block_size page image NoMemory = Unit {0}
+Refuses block_size page image Corrupt = IsBad block_size page image
+Refuses block_size page image other = ⊥
+
+-- the line of a file of that size, or of a directory, at a path
+abbrev pub line_with : Option ℕ → List ℕ → List ℕ
+line_with (Some size) path = (codes "f " ++ decimal size ++ codes " ") ++ escaped_text path ++ newline
+line_with None path = codes "d 0 " ++ escaped_text path ++ newline
+
+-- a file's size, by what its entry says
+abbrev pub size_in : Struct → Option ℕ
+size_in (Inline bytes) = Some (length bytes)
+size_in (Ctz head size) = Some size
+size_in (Branch to) = None
+
+abbrev pub line_at : Place → List ℕ
+line_at p = line_with (size_in p.struct) p.path
+
+abbrev pub lines_at : List Place → List ℕ
+lines_at places = flat_map line_at places
+
+-- ---- an image that is mounted
+
+-- the disk is accepted, and the text has a line for each place of its tree's walk
+abbrev pub HasLines : Disk → List ℕ → Type 0
+HasLines disk text = (ps : List Pair) × (IsAccepted disk ps × ((places : List Place) × (IsWalked disk ps places × (text ≡ lines_at places))))
+
+-- the thread is that of the accepted disk, and these are the places of its tree's walk
+pub record HasItems (disk : Disk) (t : State) (places : List Place) : Type 0 where
+  pub works : t.failed ≡ false
+  pub disk_is : t.kept.disk ≡ disk
+  pub accepted : IsAccepted disk t.kept.pairs
+  pub walked : IsWalked disk t.kept.pairs places
+
+-- why a disk in memory isn't mounted or walked: it isn't accepted, or memory ran out
+abbrev pub IsNotMounted : Disk → Error → Type 0
+IsNotMounted disk Corrupt = (ps : List Pair) → ¬ IsAccepted disk ps
+IsNotMounted disk NoMemory = Unit {0}
+IsNotMounted disk other = ⊥

@@ -16,6 +16,7 @@ use Rattle.lfs_model.specs.Slots.{Content, Tail}
 use Rattle.lfs_model.specs.Thread.{Pair, anchor, Links, is_hard, next_of}
 use Rattle.lfs_model.proofs.Completed.{complete_length, completed_parts}
 use Rattle.lfs_tag.specs.ContentSeen.{tail_seen}
+use Rattle.lfs_tag.specs.FieldsSeen.{move_seen}
 use Rattle.lfs_pair.specs.Pair.{active_at, address_in}
 use Rattle.lfs_pair.proofs.Changed.{active_below, holder_in}
 use Rattle.lfs_thread.specs.Kept.{Header, IsHeader, IsKept, pair_on, pairs_on, seen}
@@ -64,6 +65,9 @@ module _ (disk : Disk) (history : List Event) (hs : List Header) (sets : BlockSe
 
   pub tail_there : option_map tail_seen h.tail ≡ (pair_in (seen disk history hs sets) index).content.tail
   tail_there = there.is_pair.describes.tail ∙ sym (completed_parts there.held there.content there.complete).tail ∙ ap (λ (c : Content). c.tail) content_is
+
+  pub move_there : move_seen h.move_state ≡ (pair_in (seen disk history hs sets) index).content.move
+  move_there = there.is_pair.describes.move ∙ sym (completed_parts there.held there.content there.complete).move ∙ ap (λ (c : Content). c.move) content_is
 
   pub next_there : is_hard (pair_in (seen disk history hs sets) index).content.tail ≡ true → index + 1 < length (pairs_on disk hs)
   next_there hard =

@@ -10,3 +10,4 @@ pub mod Threaded
 pub mod Told
 pub mod Lending
 pub mod GlobalState
+pub mod Beside

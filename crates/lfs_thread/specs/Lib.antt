@@ -3,3 +3,4 @@ pub mod Device
 pub mod Steps
 pub mod Lent
 pub mod Begun
+pub mod Beside

@@ -15,13 +15,14 @@ pub fn joined_state(pairs: &[Pair]) -> MoveState
 {
     let mut state = MoveState::none();
     for pair in pairs {
-        state = joined(&state, &pair.move_state);
+        state = with_share(&state, &pair.move_state);
     }
     state
 }
 
-// Two shares in one.
-fn joined(state: &MoveState, share: &MoveState) -> MoveState
+/// A share, or the global state itself, with one share more: their exclusive or. What changes a
+/// share so changes the global state.
+pub fn with_share(state: &MoveState, share: &MoveState) -> MoveState
     ensures { move_seen result ≡ gstate_xor (move_seen state.now) (move_seen share.now) }
 {
     MoveState {

@@ -1,7 +1,7 @@
-ghost use Rattle.std.specs.Prelude.{ℕ, ◌+◌, ◌≤◌, if◌then◌else◌, None, Some, List, Contains, ◌↔◌, IfOk, ◌≡◌, ◌⊎◌, ◌<◌, length, false, is_err, [], replicate, slice_set, IfErr, IfNone, IfSome, IsSome, OnOk, option_copied, ◌-◌, min, take, drop, slice_range};
+ghost use Rattle.std.specs.Prelude.{ℕ, ◌+◌, ◌≤◌, if◌then◌else◌, None, Some, List, Contains, ◌↔◌, IfOk, ◌≡◌, IsTrue, true, OnErr, ◌⊎◌, ◌<◌, length, false, is_err, [], replicate, slice_set, IfErr, IfNone, IfSome, IsSome, OnOk, option_copied, ◌-◌, min, take, drop, slice_range};
 ghost use Rattle.std.specs.Option.{option_map};
 ghost use Rattle.lfs_model.specs.Content.{content_at, holder_at};
-ghost use Rattle.lfs_model.specs.BlockSets.{AreInFlight, AreUsed, IsFree, IsInFlight};
+ghost use Rattle.lfs_model.specs.BlockSets.{AreInFlight, AreUsed, IsFree, IsInFlight, IsUsed, used_count};
 ghost use Rattle.lfs_model.specs.BlockSets.BlockState.{Free, InFlight};
 ghost use Rattle.lfs_model.specs.Lists.{IsList, bytes_of};
 ghost use Rattle.lfs_model.specs.History.{OnlyReads, faults, reads};
@@ -10,6 +10,7 @@ ghost use Rattle.lfs_model.specs.Thread.{IsThread, Pair as ThreadPair, blocks_of
 ghost use Rattle.lfs_tag.specs.ContentSeen.{tail_seen};
 ghost use Rattle.lfs_tag.specs.FieldsSeen.{move_seen};
 ghost use Rattle.lfs_pair.specs.ChangeSeen.{changes_seen};
+ghost use Rattle.lfs_thread.specs.Beside.{CanRun, HasRun, IsDividedAs, LeavesPairs, Runs, Shows};
 ghost use Rattle.lfs_thread.specs.Device.{GivesBack, StopsLeave, four_of, two_of};
 ghost use Rattle.lfs_thread.specs.Kept.{IsCurrent, IsKeptOn, WasKeptOn, disk_on, seen_on};
 ghost use Rattle.lfs_thread.specs.Lent.{IsBlockOf, at_hand};
@@ -25,9 +26,9 @@ use crate::splitting::split_pair;
 use lfs_alloc::BlockMap;
 use lfs_cache::Cache;
 use lfs_ctz::read_at;
-use lfs_device::{BlockDevice, Error};
+use lfs_device::{BlockDevice, Error, Geometry};
 use lfs_pair::{Change, Outcome, Pair};
-use lfs_tag::MoveState;
+use lfs_tag::{MoveState, Tail};
 use std::alloc::Global;
 use std::marker::Model;
 
@@ -197,6 +198,25 @@ impl<D: BlockDevice> Thread<D> {
         } else {
             None
         }
+    }
+
+    /// What a pair's tail names: the next pair of the thread, and whether it goes on with the same
+    /// directory. None at the thread's end.
+    pub fn tail(&self, index: usize) -> Option<Tail>
+        requires works { self.now.failed ≡ false }
+        requires below { index < length self.now.kept.pairs }
+        ensures { option_map tail_seen result ≡ (pair_in self.now.kept index).content.tail }
+    {
+        self.pairs[index].tail
+    }
+
+    /// A pair's share of the global state.
+    pub fn share(&self, index: usize) -> MoveState
+        requires works { self.now.failed ≡ false }
+        requires below { index < length self.now.kept.pairs }
+        ensures { move_seen result ≡ (pair_in self.now.kept index).content.move }
+    {
+        self.pairs[index].move_state
     }
 
     /// Brings the block in which a pair's log stands to hand, by at most one read and by none where
@@ -412,6 +432,61 @@ impl<D: BlockDevice> Thread<D> {
         );
         self.has_failed = outcome.is_err();
         outcome
+    }
+    /// Lends the device and the map to work that leaves the blocks of the pairs as they are, and used:
+    /// such as writing a file's list into blocks that are free or in flight, or settling it in the map.
+    /// No block is at hand afterwards.
+    ///
+    /// `NoMemory` where there is no room for an empty cache; the work isn't begun then.
+    pub fn beside<X, F: FnOnce(&mut D, &mut BlockMap) -> X>(
+        &mut self,
+        alloc: Global,
+        work: F,
+    ) -> Result<X, Error>
+        requires works { self.old.failed ≡ false }
+        requires can { (device : D) (map : BlockMap) → Shows D.BlockDevice self.old.kept device map → CanRun F.FnOnce work device map }
+        requires leaves { (device : D) (map : BlockMap) (x : X) (later : D) (later_map : BlockMap) → Shows D.BlockDevice self.old.kept device map
+            → Runs F.FnOnce work device map x later later_map → LeavesPairs D.BlockDevice self.old.kept device map later later_map }
+        ensures ran { IfOk result (λ x. HasRun D.BlockDevice F.FnOnce work self.old.kept x self.new.kept) }
+        ensures pairs { self.new.kept.pairs ≡ self.old.kept.pairs }
+        ensures works { self.new.failed ≡ false }
+        ensures cache { OnOk result (self.new.cache ≡ []) }
+        ensures unbegun { OnErr result (self.new ≡ self.old) }
+        ensures error { IfErr result (λ e. e ≡ Error.NoMemory) }
+    {
+        let cache = Cache::new(alloc)?;
+        self.cache = cache;
+        let x = work(&mut self.device, &mut self.map);
+        Ok(x)
+    }
+
+    /// Makes it a thread that has failed, where what it lent may be of no use any more.
+    pub fn fail(&mut self)
+        ensures { self.new ≡ record self.old { failed = true } }
+    {
+        self.has_failed = true;
+    }
+
+    /// How the device is divided.
+    pub fn geometry(&self) -> Geometry
+        ensures { IsDividedAs result self.now.kept.disk }
+    {
+        self.device.geometry()
+    }
+
+    /// How many blocks are used.
+    pub fn used_count(&self) -> u32
+        ensures { result ≡ used_count self.now.kept.map }
+    {
+        self.map.used_count()
+    }
+
+    /// Whether a block is used. One in flight isn't.
+    pub fn is_used(&self, block: u32) -> bool
+        requires { block < length self.now.kept.map }
+        ensures { IsTrue result ↔ IsUsed self.now.kept.map block }
+    {
+        self.map.is_used(block)
     }
 }
 

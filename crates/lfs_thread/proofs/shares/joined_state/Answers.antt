@@ -7,5 +7,5 @@ use Rattle.lfs_thread.proofs.shares.joined_state.Goals as goal
 pub loop-pair-preserved : goal.loop-pair-preserved
 loop-pair-preserved c =
     let all = c.args.pairs.now in
-    c.joined-state.ensures ∙ ap (λ (g : Gstate). gstate_xor g (move_seen c.pair-item.result.move_state)) c.loop-pair.invariant
+    c.with_share-state.ensures ∙ ap (λ (g : Gstate). gstate_xor g (move_seen c.pair-item.result.move_state)) c.loop-pair.invariant
     ∙ sym (joined_more all c.loop-pair.pair-index c.pair-item.result c.loop-pair-test.true c.pair-item.is)

@@ -1,0 +1,129 @@
+-- What is kept of a thread, where no block of its pairs changes.
+use Rattle.std.proofs.Common.{ℕ, ◌≡◌, ◌<◌, ◌≤◌, Bool, true, false, cond, List, [], ◌∷◌, length, Some, None, refl, sym, ap, ap₂, subst, ◌∙◌, arith}
+use Rattle.std.specs.Prelude.{unwrap_or}
+use Rattle.std.specs.Option.{option_and_then}
+use Rattle.lfs_device.specs.declared.device.BlockDevice.{Ghosts}
+use Rattle.lfs_device.specs.declared.geometry.Geometry.{Geometry}
+use Rattle.lfs_device.specs.Shown.{disk_of}
+use Rattle.lfs_model.specs.Blocks.{Blocks, block_in}
+use Rattle.lfs_model.specs.BlockSets.{BlockSets, IsUsed}
+use Rattle.lfs_model.specs.Cache.{CachedBlocks, cached}
+use Rattle.lfs_model.specs.Content.{completed, has_commit}
+use Rattle.lfs_model.specs.Disk.{Disk, block_at}
+use Rattle.lfs_model.specs.History.{Event, unprogrammed}
+use Rattle.lfs_model.specs.Slots.{no_gstate}
+use Rattle.lfs_model.specs.Thread.{Links, anchor, blocks_of}
+use Rattle.lfs_model.proofs.BlockSets.{Contains-count}
+use Rattle.lfs_model.proofs.Counts.{count, count_here}
+use Rattle.lfs_model.proofs.Staying.{IsSameAt, raw_same}
+use Rattle.lfs_pair.specs.Pair.{Describes, active_at, address_in, second_holds}
+use Rattle.lfs_thread.specs.Kept.{AllUsed, AreHeaders, Header, IsCurrent, IsHeader, pair_on, pairs_on, seen_on, disk_on, IsKeptOn}
+use Rattle.lfs_thread.specs.Beside.{LeavesPairs}
+use Rattle.lfs_thread.proofs.Coming.{used_at}
+
+-- ---- one pair
+
+-- a block holds the same bytes, and what was unprogrammed in it still is
+pub record IsAsItWas (old new : Blocks) (before after : List Event) (b : ℕ) : Type 0 where
+  pub same : block_in new b ≡ block_in old b
+  pub stays : (k : ℕ) → unprogrammed before b k ≡ true → unprogrammed after b k ≡ true
+
+pub of_two : (P : ℕ → Type 0) (s : Bool) (at : ℕ × ℕ) → P at.0 → P at.1 → P (cond s at.1 at.0)
+of_two P true at p q = q
+of_two P false at p q = p
+
+pub pair_beside : (disk : Disk) (blocks : Blocks) (before after : List Event) (h : Header) → length blocks ≡ length disk.blocks
+    → IsAsItWas disk.blocks blocks before after (address_in h).0 → IsAsItWas disk.blocks blocks before after (address_in h).1
+    → IsHeader disk before h → IsHeader (record disk { blocks = blocks }) after h
+pair_beside disk blocks before after h size first second is =
+    let same : IsSameAt disk (record disk { blocks = blocks }) (address_in h) = record { first = first.same; second = second.same } in
+    let e : active_at (record disk { blocks = blocks }) (address_in h) ≡ active_at disk (address_in h) = ap₂ (λ a b. cond (second_holds a b) (address_in h).1 (address_in h).0) first.same second.same in
+    let was = subst (IsAsItWas disk.blocks blocks before after) (sym is.is_pair.active)
+    (of_two (IsAsItWas disk.blocks blocks before after) (second_holds (block_at disk (address_in h).0) (block_at disk (address_in h).1)) (address_in h) first second) in
+    record {
+      address = record {
+        apart = is.address.apart;
+        first = subst (λ n. (address_in h).0 < n) (sym size) is.address.first;
+        second = subst (λ n. (address_in h).1 < n) (sym size) is.address.second;
+      };
+      held = is.held;
+      is_pair = record {
+        active = is.is_pair.active ∙ sym e;
+        has_commit = ap has_commit was.same ∙ is.is_pair.has_commit;
+        describes = subst (λ b. Describes b h is.held) (sym was.same) is.is_pair.describes;
+        whole_pages = is.is_pair.whole_pages;
+        unprogrammed = λ written k low high. was.stays k (is.is_pair.unprogrammed written k low high);
+      };
+      raw = raw_same same ∙ is.raw;
+      content = is.content;
+      complete = is.complete;
+    }
+
+pub pair_on-beside : (disk : Disk) (blocks : Blocks) (at : ℕ × ℕ) → block_in blocks at.0 ≡ block_in disk.blocks at.0 → block_in blocks at.1 ≡ block_in disk.blocks at.1
+    → pair_on (record disk { blocks = blocks }) at ≡ pair_on disk at
+pair_on-beside disk blocks at first second =
+    let same : IsSameAt disk (record disk { blocks = blocks }) at = record { first = first; second = second } in
+    ap (λ r. record { at = at; content = unwrap_or (option_and_then completed r) (record { slots = []; tail = None; move = no_gstate }) }) (raw_same same)
+
+-- ---- all of them
+
+behind : (b a : ℕ) (bs : List ℕ) → count b bs ≤ count b (a ∷ bs)
+behind b a bs = omega arith
+
+module _ (disk : Disk) (blocks : Blocks) (before after : List Event) (size : length blocks ≡ length disk.blocks) where
+  pub headers_beside : (hs : List Header) → ((b : ℕ) → 1 ≤ count b (blocks_of (pairs_on disk hs)) → IsAsItWas disk.blocks blocks before after b)
+      → AreHeaders disk before hs → AreHeaders (record disk { blocks = blocks }) after hs
+  headers_beside [] was are = tt
+  headers_beside (h ∷ hs) was are =
+      let first = (address_in h).0 in let second = (address_in h).1 in let rest = blocks_of (pairs_on disk hs) in (
+        pair_beside disk blocks before after h size (was first (let m = count_here first (second ∷ rest) in omega arith))
+            (was second (let m = count_here second rest in let k = behind second first (second ∷ rest) in omega arith)) are.0,
+        headers_beside hs (λ b k. was b (let m = behind b first (second ∷ rest) in let n = behind b second rest in omega arith)) are.1,
+      )
+
+  pub pairs_beside : (hs : List Header) → ((b : ℕ) → 1 ≤ count b (blocks_of (pairs_on disk hs)) → IsAsItWas disk.blocks blocks before after b)
+      → pairs_on (record disk { blocks = blocks }) hs ≡ pairs_on disk hs
+  pairs_beside [] was = refl
+  pairs_beside (h ∷ hs) was =
+      let first = (address_in h).0 in let second = (address_in h).1 in let rest = blocks_of (pairs_on disk hs) in
+      ap₂ (λ p ps. p ∷ ps)
+      (pair_on-beside disk blocks (address_in h) (was first (let m = count_here first (second ∷ rest) in omega arith)).same
+      (was second (let m = count_here second rest in let k = behind second first (second ∷ rest) in omega arith)).same)
+      (pairs_beside hs (λ b k. was b (let m = behind b first (second ∷ rest) in let n = behind b second rest in omega arith)))
+
+pub used_beside : (sets later : BlockSets) (bs : List ℕ) → AllUsed sets bs → ((b : ℕ) → 1 ≤ count b bs → IsUsed sets b → IsUsed later b) → AllUsed later bs
+used_beside sets later [] used f = tt
+used_beside sets later (b ∷ bs) used f = (f b (let m = count_here b bs in omega arith) used.0, used_beside sets later bs used.1 (λ c k. f c (let m = behind c b bs in omega arith)))
+
+-- ---- a thread
+
+module _ {D : Type 0} (g : Ghosts D) (device : D) (map : BlockSets) (later : D) (later_map : BlockSets) (hs : List Header)
+    (kept : IsKeptOn g device hs map) (leaves : LeavesPairs g (seen_on g device hs map) device map later later_map) where
+  abbrev bs : List ℕ
+  bs = blocks_of (pairs_on (disk_on g device) hs)
+
+  was : (b : ℕ) → 1 ≤ count b bs → IsAsItWas (g.blocks device) (g.blocks later) (g.history device) (g.history later) b
+  was b k = let u = used_at map b bs kept.used k in let in_pairs = Contains-count bs b k in record {
+    same = leaves.same b in_pairs u;
+    stays = λ k. leaves.stays b k in_pairs u;
+  }
+
+  now_is : disk_on g later ≡ record (disk_on g device) { blocks = g.blocks later }
+  now_is = ap (λ (x : Geometry). disk_of x (g.blocks later)) leaves.geometry
+
+  pub pairs_left : pairs_on (disk_on g later) hs ≡ pairs_on (disk_on g device) hs
+  pairs_left = ap (λ d. pairs_on d hs) now_is ∙ pairs_beside (disk_on g device) (g.blocks later) (g.history device) (g.history later) leaves.count hs was
+
+  pub kept_left : IsKeptOn g later hs later_map
+  kept_left = record {
+    each = subst (λ d. AreHeaders d (g.history later) hs) (sym now_is) (headers_beside (disk_on g device) (g.blocks later) (g.history device) (g.history later) leaves.count hs was kept.each);
+    links = subst (Links (Some anchor)) (sym pairs_left) kept.links;
+    distinct = rw pairs_left kept.distinct;
+    size = leaves.size ∙ kept.size ∙ sym leaves.count;
+    used = subst (λ ps. AllUsed later_map (blocks_of ps)) (sym pairs_left)
+        (used_beside map later_map bs kept.used (λ b k u. leaves.used b (Contains-count bs b k) u));
+  }
+
+-- an empty cache is current
+pub none_at_hand : (blocks : Blocks) (cache : CachedBlocks) → cache ≡ [] → IsCurrent blocks cache
+none_at_hand blocks cache empty b bytes has = absurd (let e : None ≡ Some bytes = ap (λ c. cached c b) (sym empty) ∙ has in cc)

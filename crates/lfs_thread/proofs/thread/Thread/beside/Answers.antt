@@ -1,0 +1,43 @@
+use Rattle.std.proofs.Common.{refl, sym, ap, subst, ◌∙◌}
+use Rattle.lfs_thread.specs.Kept.{State}
+use Rattle.lfs_thread.specs.Beside.{LeavesPairs}
+use Rattle.lfs_thread.proofs.Beside.{kept_left, none_at_hand, pairs_left}
+use Rattle.lfs_thread.proofs.thread.Thread.beside.Goals as goal
+
+pub work-x-requires : goal.work-x-requires
+work-x-requires g c =
+    (c.requires.can c.self.inside.device c.self.inside.map
+    (record { disk = ap (λ (v : State). v.kept.disk) c.self.view_is; history = ap (λ (v : State). v.kept.history) c.self.view_is; map = ap (λ (v : State). v.kept.map) c.self.view_is })).can
+    _ _ refl refl
+
+pub invariant_of-self : goal.invariant_of-self
+invariant_of-self g c _ =
+    let works = ap (λ (v : State). v.failed) c.self.view_is ∙ c.requires.works in
+    let leaves = c.requires.leaves c.self.inside.device c.self.inside.map c.work-x.result c.work-x.new.arg2 c.work-x.new.arg3
+    (record { disk = ap (λ (v : State). v.kept.disk) c.self.view_is; history = ap (λ (v : State). v.kept.history) c.self.view_is; map = ap (λ (v : State). v.kept.map) c.self.view_is })
+    (record { shown = _; shows = refl; shown_map = _; shows_map = refl; left = _; left_map = _; met = c.work-x.ensures; leaves = refl; leaves_map = refl }) in
+    let here = subst (λ (v : State). LeavesPairs g.D.BlockDevice v.kept c.self.inside.device c.self.inside.map c.work-x.new.arg2 c.work-x.new.arg3) (sym c.self.view_is) leaves in (
+      kept_left g.D.BlockDevice c.self.inside.device c.self.inside.map c.work-x.new.arg2 c.work-x.new.arg3 c.self.inside.pairs.items (c.self.invariant works).0 here,
+      none_at_hand (g.D.BlockDevice.blocks c.work-x.new.arg2) c.in_ok-cache.cache c.in_ok-cache.ensures.empty,
+    )
+
+pub returns-clause-ran : goal.returns-clause-ran
+returns-clause-ran g c = record {
+  device = c.self.inside.device;
+  map = c.self.inside.map;
+  later = c.work-x.new.arg2;
+  later_map = c.work-x.new.arg3;
+  before = record { disk = ap (λ (v : State). v.kept.disk) c.self.view_is; history = ap (λ (v : State). v.kept.history) c.self.view_is; map = ap (λ (v : State). v.kept.map) c.self.view_is };
+  after = record { disk = refl; history = refl; map = refl };
+  run = record { shown = _; shows = refl; shown_map = _; shows_map = refl; left = _; left_map = _; met = c.work-x.ensures; leaves = refl; leaves_map = refl };
+}
+
+pub returns-clause-pairs : goal.returns-clause-pairs
+returns-clause-pairs g c =
+    let works = ap (λ (v : State). v.failed) c.self.view_is ∙ c.requires.works in
+    let leaves = c.requires.leaves c.self.inside.device c.self.inside.map c.work-x.result c.work-x.new.arg2 c.work-x.new.arg3
+    (record { disk = ap (λ (v : State). v.kept.disk) c.self.view_is; history = ap (λ (v : State). v.kept.history) c.self.view_is; map = ap (λ (v : State). v.kept.map) c.self.view_is })
+    (record { shown = _; shows = refl; shown_map = _; shows_map = refl; left = _; left_map = _; met = c.work-x.ensures; leaves = refl; leaves_map = refl }) in
+    let here = subst (λ (v : State). LeavesPairs g.D.BlockDevice v.kept c.self.inside.device c.self.inside.map c.work-x.new.arg2 c.work-x.new.arg3) (sym c.self.view_is) leaves in
+    pairs_left g.D.BlockDevice c.self.inside.device c.self.inside.map c.work-x.new.arg2 c.work-x.new.arg3 c.self.inside.pairs.items (c.self.invariant works).0 here
+    ∙ ap (λ (v : State). v.kept.pairs) c.self.view_is

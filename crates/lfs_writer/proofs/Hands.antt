@@ -1,14 +1,15 @@
 -- A list in hand that is begun, grows and ends.
-use Rattle.std.proofs.Common.{ℕ, false, ◌≡◌, ◌≢◌, ◌+◌, ◌≤◌, inl, inr, ⊎_elim, nat_eq, get_or, List, [], ◌++◌, length, take, drop, refl, sym, ap, ◌∙◌, subst, arith, length-drop}
+use Rattle.std.proofs.Common.{ℕ, false, ◌≡◌, ◌≢◌, ◌+◌, ◌≤◌, inl, inr, ⊎_elim, nat_eq, get_or, List, [], ◌++◌, length, take, drop, Some, refl, sym, ap, ◌∙◌, subst, arith, length-drop}
 use Rattle.std.specs.Prelude.{All, Contains}
 use Rattle.std.specs.List.{IsDistinct}
 use Rattle.std.proofs.lemmas.Bool.{eqb-false}
 use Rattle.std.proofs.lemmas.List.{take-take, take-append-le, drop-append-le, take-append-drop, length-take, length-take-le, get_or-take, get_or-drop}
 use Rattle.std.proofs.lemmas.Grind.{get_or_default_zero}
-use Rattle.std.proofs.lemmas.List.Elements.{All-append, All-take, Contains-append_left, Contains-append_cases}
+use Rattle.std.proofs.lemmas.List.Elements.{All-append, All-contains, All-take, Contains-append_left, Contains-append_cases}
 use Rattle.std.proofs.lemmas.Map.Keys.{apart_from_distinct}
 use Rattle.lfs_model.specs.Blocks.{Blocks}
 use Rattle.lfs_model.specs.BlockSets.{BlockSets, IsFree}
+use Rattle.lfs_model.specs.BlockSets.BlockState.{Free, Used}
 use Rattle.lfs_model.specs.Lists.{blocks_for}
 use Rattle.lfs_ctz.specs.Growing.{Growing, IsGrowing, blocks_of, is_held, kept_of, pending_of, size_of}
 use Rattle.lfs_ctz.specs.Growing.{pending_in}
@@ -21,6 +22,8 @@ use Rattle.lfs_writer.specs.Taken.{Keeps}
 use Rattle.lfs_writer.specs.declared.stored.Stored.{Stored}
 use Rattle.lfs_writer.proofs.Bases.{blocks_stay, list_stays}
 use Rattle.lfs_writer.proofs.Growth.{in_longer, split}
+use Rattle.lfs_writer.proofs.Spared.{keeps_used}
+use Rattle.lfs_writer.proofs.Used.{used_back}
 use Rattle.lfs_model.proofs.Files.{length_back}
 use Rattle.lfs_writer.proofs.Pushed.{length-kept}
 
@@ -69,6 +72,12 @@ hand_grows map later d e block_size g h base shared begun spared keeps grown gro
             (subst (All (λ b. All (λ c. c ≢ b) bb)) (sym (ap (drop shared) all ∙ drop-append-le shared x (drop (length x) y) few))
             (All-append (λ b. All (λ c. c ≢ b) bb) (drop shared x) (drop (length x) y) begun.behind
             (λ k v l i w m same. (begun.apart i w m).0 (subst (IsFree map) (sym same) (grown.fresh k v l)))));
+        taken = λ b has used.
+            let was = used_back (keeps_used keeps) b used in
+            ⊎_elim
+            (λ front. subst (λ (l : List ℕ). Contains l b) (sym stay) (begun.taken b front was))
+            (λ fresh. absurd (let free = All-contains (IsFree map) (drop (length x) y) b grown.fresh fresh in let both : Some Free ≡ Some Used = sym free ∙ was in cc))
+            (Contains-append_cases x (drop (length x) y) b (subst (λ (l : List ℕ). Contains l b) all has));
         flying = λ b is. ⊎_elim
             (λ was. ⊎_elim (λ has. inl (in_longer x y b grown.front has)) (λ both. inr (both.0, subst (λ (l : List ℕ). Contains l b) (sym stay) both.1)) (begun.flying b was))
             (λ has. inl has)
@@ -102,6 +111,7 @@ begins map d block_size g base full stored growing none kept is =
       few = omega arith;
       front = ap (take full) kept ∙ take-take full full bb (omega arith);
       behind = λ k x l. absurd (omega (arith, l, length-drop full (kept_of d g), ap length kept));
+      taken = λ b has used. Contains-take full bb b (subst (λ (l : List ℕ). Contains l b) kept has);
       flying = λ b flying. inr (stored.flying b flying);
     }
 

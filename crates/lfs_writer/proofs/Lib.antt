@@ -16,3 +16,6 @@ pub mod Rooms
 pub mod Cuts
 pub mod Truncations
 pub mod Settlings
+pub mod Others
+pub mod Used
+pub mod Owning

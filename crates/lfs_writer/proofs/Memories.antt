@@ -6,7 +6,7 @@ use Rattle.lfs_model.specs.Blocks.{overwritten as in_block}
 use Rattle.lfs_model.specs.Session.{overwritten, zeros_to}
 use Rattle.lfs_device.specs.declared.geometry.Geometry.{Geometry}
 use Rattle.std.proofs.Math.Seq.{take-add}
-use Rattle.std.specs.Prelude.{All, slice_range}
+use Rattle.std.specs.Prelude.{All, Contains, slice_range}
 use Rattle.lfs_model.specs.Blocks.{Blocks}
 use Rattle.lfs_model.specs.BlockSets.{BlockSets, IsFree, IsInFlight}
 use Rattle.lfs_model.specs.Lists.{IsChain, IsList, blocks_back, blocks_for, bytes_before, bytes_of}
@@ -168,6 +168,7 @@ begins_none map d now e quiet =
           few = omega arith;
           front = refl;
           behind = subst (All (λ b. All (λ c. c ≢ b) (list_blocks d block_size 0 0))) (sym none) (λ k x l. absurd (omega (arith, l)));
+          taken = λ b has used. absurd (omega (arith, (subst (λ (l : List ℕ). Contains l b) none has).1));
           flying = λ b is. absurd (quiet.idle.none b is);
         };
       };

@@ -8,6 +8,7 @@ use Rattle.lfs_model.proofs.Histories.{EachSince-weaker, goes_on_by}
 use Rattle.lfs_ctz.specs.Growing.{Growing, pending_of}
 use Rattle.lfs_writer.specs.Apart.{IsApart, IsMarked, Spares, SparesPages}
 use Rattle.lfs_writer.specs.Hand.{KeepsUsed, SparesUsed, SparesUsedPages}
+use Rattle.lfs_writer.specs.Released.{Releases}
 use Rattle.lfs_writer.specs.Taken.{Keeps}
 
 module _ (map : BlockSets) (at : Blocks) (g : Growing) (marked : IsMarked map at g) where
@@ -68,3 +69,7 @@ keeps_used keeps = record {
   used = keeps.used;
   stays = λ k used. keeps.states k (λ free. let both : Some Free ≡ Some Used = sym free ∙ used in cc) ∙ used;
 }
+
+-- where blocks are taken out of flight
+pub after_release : {old new : BlockSets} {bs : List ℕ} → Releases old new bs → KeepsUsed old new
+after_release released = record { count = released.count; used = released.used; stays = released.stays }

@@ -17,7 +17,7 @@ pub record IsStored (map : BlockSets) (disk : Blocks) (block_size : ℕ) (s : St
   pub flying : (b : ℕ) → IsInFlight map b → (s.in_flight ≡ true) × Contains (list_blocks disk block_size s.head s.size) b
 
 -- A list in hand has the first bytes, its base the others. They share the first blocks; the other blocks in hand are
--- none of the base's. No other block is in flight.
+-- none of the base's, and not used. No other block is in flight.
 pub record IsBegun (map : BlockSets) (disk : Blocks) (block_size : ℕ) (g : Growing) (base : Stored) (shared : ℕ) : Type 0 where
   pub growing : IsGrowing disk g
   pub marked : IsMarked map disk g
@@ -26,6 +26,7 @@ pub record IsBegun (map : BlockSets) (disk : Blocks) (block_size : ℕ) (g : Gro
   pub few : shared ≤ blocks_for block_size base.size
   pub front : take shared (kept_of disk g) ≡ take shared (list_blocks disk block_size base.head base.size)
   pub behind : All (λ b. All (λ c. c ≢ b) (list_blocks disk block_size base.head base.size)) (drop shared (kept_of disk g))
+  pub taken : (b : ℕ) → Contains (kept_of disk g) b → IsUsed map b → Contains (list_blocks disk block_size base.head base.size) b
   pub flying : (b : ℕ) → IsInFlight map b → Contains (kept_of disk g) b ⊎ ((base.in_flight ≡ true) × Contains (list_blocks disk block_size base.head base.size) b)
 
 -- All its blocks are its own, as many as its bytes need, and it can be ended.

@@ -10,3 +10,4 @@ pub mod Written
 pub mod Form
 pub mod Contents
 pub mod Settled
+pub mod Owned

@@ -14,3 +14,8 @@ pub record IsSettled (old new : BlockSets) (gone kept : List ℕ) : Type 0 where
   pub used : All (IsUsed new) kept
   pub freed : (b : ℕ) → Contains gone b → All (λ x. x ≢ b) kept → IsFree new b
   pub others : (b : ℕ) → All (λ x. x ≢ b) gone → All (λ x. x ≢ b) kept → slice_get new b ≡ slice_get old b
+
+-- the blocks that aren't among these are as they were
+pub record KeepsOthers (old new : BlockSets) (bs : List ℕ) : Type 0 where
+  pub count : length new ≡ length old
+  pub others : (b : ℕ) → ¬ (Contains bs b) → slice_get new b ≡ slice_get old b

@@ -6,6 +6,7 @@ use Rattle.lfs_model.specs.BlockSets.{BlockSets}
 use Rattle.lfs_ctz.specs.Extended.{geometry_of, growing_of}
 use Rattle.lfs_writer.specs.Extended.{end_of}
 use Rattle.lfs_writer.specs.Hand.{IsBegun, IsHand, IsStored, hand_bytes, stored_bytes}
+use Rattle.lfs_writer.specs.Owned.{AreOwned, blocks_in}
 use Rattle.lfs_writer.specs.declared.stored.Stored.{Stored}
 use Rattle.lfs_writer.specs.declared.writing.Hand.{Hand}
 
@@ -45,6 +46,11 @@ pub record IsOver (old : Hand) (place : ℕ) (new : Hand) : Type 0 where
   pub same : end_of old.list ≡ place → new.base ≡ old.base
   pub size : end_of old.list ≢ place → new.base.size ≡ length_in old
   pub flying : end_of old.list ≢ place → new.base.in_flight ≡ true
+
+-- and the used blocks of the base are those of the base before
+pub record TurnsOver (map : BlockSets) (block_size : ℕ) (disk : Blocks) (old : Hand) (place : ℕ) (later : Blocks) (new : Hand) : Type 0 where
+  pub over : IsOver old place new
+  pub owned : AreOwned map (blocks_in disk block_size old.base) (blocks_in later block_size new.base)
 
 -- a finished list of so many bytes, these ones
 pub record HasEnded (map : BlockSets) (disk : Blocks) (now : Geometry) (s : Stored) (length : ℕ) (contents : List ℕ) : Type 0 where

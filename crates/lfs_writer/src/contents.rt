@@ -13,6 +13,7 @@ ghost use Rattle.lfs_writer.specs.Form.{form_size, written};
 ghost use Rattle.lfs_writer.specs.Hand.{IsStored, KeepsUsed, stored_bytes};
 ghost use Rattle.lfs_writer.specs.Roomy.{base_blocks};
 ghost use Rattle.lfs_writer.specs.Written.{HasWritten, IsGoing, bytes_over, length_in};
+ghost use Rattle.lfs_writer.specs.Owned.{AreOwned, KeepsList, blocks_held};
 
 use crate::beginning::begin_over;
 use crate::memory::{load, write_out};
@@ -67,7 +68,8 @@ fn write_held<D: BlockDevice>(
     requires room { limit < max (length (held_bytes list)) (place + length bytes.now) → used_count map.old + blocks_for (D.geometry dev.old).block_size (place + length bytes.now) ≤ length map.old }
     ensures written { IfOk result (λ c. HasContents map.new (D.blocks dev.new) (D.geometry dev.old) c
         (overwritten (held_bytes list) place bytes.now) (written limit place (length bytes.now) (form.InMemory (length (held_bytes list))))) }
-    ensures map { OnOk result (KeepsUsed map.old map.new) }
+    ensures owned { IfOk result (λ c. AreOwned map.new (blocks_held (D.blocks dev.old) (D.geometry dev.old).block_size (Contents.InMemory list)) (blocks_held (D.blocks dev.new) (D.geometry dev.old).block_size c)) }
+    ensures map { KeepsUsed map.old map.new }
     ensures device { LeavesUsed D.BlockDevice map.old dev.old dev.new }
     ensures faults { TellsFaults D.BlockDevice dev.old dev.new result }
     ensures errors { IfErr result (λ e. (e ≡ Error.Io) ⊎ (e ≡ Error.NoMemory)) }
@@ -97,8 +99,8 @@ fn write_over<D: BlockDevice>(
     requires room { used_count map.old + blocks_for (D.geometry dev.old).block_size (place + length bytes.now) + base_blocks (D.geometry dev.old).block_size stored ≤ length map.old }
     ensures written { IfOk result (λ h. HasWritten map.new (D.blocks dev.new) (D.geometry dev.old) h (place + length bytes.now)
         (overwritten (stored_bytes (D.blocks dev.old) (D.geometry dev.old).block_size stored) place bytes.now)) }
-    ensures base { IfOk result (λ h. h.base ≡ stored) }
-    ensures map { OnOk result (KeepsUsed map.old map.new) }
+    ensures base { IfOk result (λ h. KeepsList (D.geometry dev.old).block_size (D.blocks dev.old) stored (D.blocks dev.new) h.base) }
+    ensures map { KeepsUsed map.old map.new }
     ensures device { LeavesUsed D.BlockDevice map.old dev.old dev.new }
     ensures faults { TellsFaults D.BlockDevice dev.old dev.new result }
     ensures errors { IfErr result (λ e. (e ≡ Error.Io) ⊎ (e ≡ Error.NoMemory)) }
@@ -127,7 +129,8 @@ fn write_stored<D: BlockDevice>(
     requires room { limit < max stored.size (place + length bytes.now) → used_count map.old + blocks_for (D.geometry dev.old).block_size (place + length bytes.now) + base_blocks (D.geometry dev.old).block_size stored ≤ length map.old }
     ensures written { IfOk result (λ c. HasContents map.new (D.blocks dev.new) (D.geometry dev.old) c
         (overwritten (stored_bytes (D.blocks dev.old) (D.geometry dev.old).block_size stored) place bytes.now) (written limit place (length bytes.now) (form.Finished stored.size stored.in_flight))) }
-    ensures map { OnOk result (KeepsUsed map.old map.new) }
+    ensures owned { IfOk result (λ c. AreOwned map.new (blocks_held (D.blocks dev.old) (D.geometry dev.old).block_size (Contents.Finished stored)) (blocks_held (D.blocks dev.new) (D.geometry dev.old).block_size c)) }
+    ensures map { KeepsUsed map.old map.new }
     ensures device { LeavesUsed D.BlockDevice map.old dev.old dev.new }
     ensures faults { TellsFaults D.BlockDevice dev.old dev.new result }
     ensures errors { IfErr result (λ e. (e ≡ Error.Io) ⊎ (e ≡ Error.NoMemory)) }
@@ -159,7 +162,8 @@ fn write_hand<D: BlockDevice>(
     requires room { used_count map.old + write_room (D.geometry dev.old).block_size place (length bytes.now) (form_of (Contents.InHand hand)) ≤ length map.old }
     ensures written { IfOk result (λ c. HasContents map.new (D.blocks dev.new) (D.geometry dev.old) c
         (overwritten (bytes_over (D.blocks dev.old) hand) place bytes.now) (written limit place (length bytes.now) (form_of (Contents.InHand hand)))) }
-    ensures map { OnOk result (KeepsUsed map.old map.new) }
+    ensures owned { IfOk result (λ c. AreOwned map.new (blocks_held (D.blocks dev.old) (D.geometry dev.old).block_size (Contents.InHand hand)) (blocks_held (D.blocks dev.new) (D.geometry dev.old).block_size c)) }
+    ensures map { KeepsUsed map.old map.new }
     ensures device { LeavesUsed D.BlockDevice map.old dev.old dev.new }
     ensures faults { TellsFaults D.BlockDevice dev.old dev.new result }
     ensures errors { IfErr result (λ e. (e ≡ Error.Io) ⊎ (e ≡ Error.NoMemory)) }
@@ -190,7 +194,8 @@ pub fn write_contents<D: BlockDevice>(
     requires room { limit < max (form_size (form_of contents)) (place + length bytes.now) → used_count map.old + write_room (D.geometry dev.old).block_size place (length bytes.now) (form_of contents) ≤ length map.old }
     ensures written { IfOk result (λ c. HasContents map.new (D.blocks dev.new) (D.geometry dev.old) c
         (overwritten (bytes_in (D.blocks dev.old) (D.geometry dev.old).block_size contents) place bytes.now) (written limit place (length bytes.now) (form_of contents))) }
-    ensures map { OnOk result (KeepsUsed map.old map.new) }
+    ensures owned { IfOk result (λ c. AreOwned map.new (blocks_held (D.blocks dev.old) (D.geometry dev.old).block_size contents) (blocks_held (D.blocks dev.new) (D.geometry dev.old).block_size c)) }
+    ensures map { KeepsUsed map.old map.new }
     ensures device { LeavesUsed D.BlockDevice map.old dev.old dev.new }
     ensures faults { TellsFaults D.BlockDevice dev.old dev.new result }
     ensures errors { IfErr result (λ e. (e ≡ Error.Io) ⊎ (e ≡ Error.NoMemory)) }

@@ -4,6 +4,7 @@ ghost use Rattle.std.specs.Prelude.{◌≡◌, ◌≤◌, take, OnOk, IfOk, IfEr
 ghost use Rattle.lfs_device.specs.Calls.{ReadsOnly, TellsFaults};
 ghost use Rattle.lfs_writer.specs.Hand.{IsStored, KeepsUsed, stored_bytes};
 ghost use Rattle.lfs_writer.specs.Written.{HasEnded};
+ghost use Rattle.lfs_writer.specs.Owned.{IsFrontOf};
 
 use crate::ending::release_base;
 use crate::stored::Stored;
@@ -26,8 +27,8 @@ pub(crate) fn cut_list<D: BlockDevice>(
     requires some { 1 ≤ keep }
     requires within { keep ≤ stored.size }
     ensures cut { IfOk result (λ s. HasEnded map.new (D.blocks dev.new) (D.geometry dev.old) s keep (take keep (stored_bytes (D.blocks dev.old) (D.geometry dev.old).block_size stored))) }
-    ensures flying { IfOk result (λ s. s.in_flight ≡ stored.in_flight) }
-    ensures map { OnOk result (KeepsUsed map.old map.new) }
+    ensures front { IfOk result (IsFrontOf (D.geometry dev.old).block_size (D.blocks dev.old) stored (D.blocks dev.new)) }
+    ensures map { KeepsUsed map.old map.new }
     ensures device { ReadsOnly D.BlockDevice dev.old dev.new }
     ensures faults { TellsFaults D.BlockDevice dev.old dev.new result }
     ensures errors { IfErr result (λ e. e ≡ Error.Io) }

@@ -10,6 +10,7 @@ ghost use Rattle.lfs_writer.specs.Hand.{KeepsUsed};
 ghost use Rattle.lfs_writer.specs.Released.{Releases};
 ghost use Rattle.lfs_writer.specs.Roomy.{base_blocks};
 ghost use Rattle.lfs_writer.specs.Written.{HasEnded, IsGoing, bytes_over, length_in};
+ghost use Rattle.lfs_writer.specs.Owned.{EndsOver};
 
 use crate::copying::copy_rest;
 use crate::releasing::release_from;
@@ -31,6 +32,7 @@ pub(crate) fn release_base<D: BlockDevice>(
     requires map { length map.old ≡ length (D.blocks dev.old) }
     requires within { shared ≤ blocks_for (D.geometry dev.old).block_size base.size }
     ensures released { OnOk result (Releases map.old map.new (if base.in_flight then drop shared (list_blocks (D.blocks dev.old) (D.geometry dev.old).block_size base.head base.size) else [])) }
+    ensures map { KeepsUsed map.old map.new }
     ensures device { ReadsOnly D.BlockDevice dev.old dev.new }
     ensures faults { TellsFaults D.BlockDevice dev.old dev.new result }
     ensures errors { IfErr result (λ e. e ≡ Error.Io) }
@@ -58,8 +60,8 @@ pub(crate) fn end_hand<D: BlockDevice>(
     requires going { IsGoing map.old (D.blocks dev.old) (D.geometry dev.old) hand }
     requires room { used_count map.old + base_blocks (D.geometry dev.old).block_size hand.base + blocks_for (D.geometry dev.old).block_size hand.base.size ≤ length map.old }
     ensures ended { IfOk result (λ s. HasEnded map.new (D.blocks dev.new) (D.geometry dev.old) s (length_in hand) (bytes_over (D.blocks dev.old) hand)) }
-    ensures flying { IfOk result (λ s. s.in_flight ≡ true) }
-    ensures map { OnOk result (KeepsUsed map.old map.new) }
+    ensures own { IfOk result (EndsOver map.new (D.geometry dev.old).block_size (D.blocks dev.old) hand.base (D.blocks dev.new)) }
+    ensures map { KeepsUsed map.old map.new }
     ensures device { LeavesUsed D.BlockDevice map.old dev.old dev.new }
     ensures faults { TellsFaults D.BlockDevice dev.old dev.new result }
     ensures errors { IfErr result (λ e. (e ≡ Error.Io) ⊎ (e ≡ Error.NoMemory)) }

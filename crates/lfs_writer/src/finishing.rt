@@ -6,6 +6,7 @@ ghost use Rattle.lfs_model.specs.BlockSets.{IsInFlight, used_count};
 ghost use Rattle.lfs_writer.specs.Calls.{LeavesUsed};
 ghost use Rattle.lfs_writer.specs.Contents.{HasContents, Stands, bytes_in, end_room, finished, form_of};
 ghost use Rattle.lfs_writer.specs.Hand.{KeepsUsed};
+ghost use Rattle.lfs_writer.specs.Owned.{AreOwned, blocks_held};
 
 use crate::contents::Contents;
 use crate::ending::end_hand;
@@ -28,7 +29,8 @@ pub fn finish<D: BlockDevice>(
     requires room { used_count map.old + end_room (D.geometry dev.old).block_size (form_of contents) ≤ length map.old }
     ensures finished { IfOk result (λ c. HasContents map.new (D.blocks dev.new) (D.geometry dev.old) c
         (bytes_in (D.blocks dev.old) (D.geometry dev.old).block_size contents) (finished (form_of contents))) }
-    ensures map { OnOk result (KeepsUsed map.old map.new) }
+    ensures owned { IfOk result (λ c. AreOwned map.new (blocks_held (D.blocks dev.old) (D.geometry dev.old).block_size contents) (blocks_held (D.blocks dev.new) (D.geometry dev.old).block_size c)) }
+    ensures map { KeepsUsed map.old map.new }
     ensures device { LeavesUsed D.BlockDevice map.old dev.old dev.new }
     ensures faults { TellsFaults D.BlockDevice dev.old dev.new result }
     ensures errors { IfErr result (λ e. (e ≡ Error.Io) ⊎ (e ≡ Error.NoMemory)) }

@@ -91,7 +91,7 @@ pub(crate) fn write_out<D: BlockDevice>(
     requires room { used_count map.old + blocks_for (D.geometry dev.old).block_size (place + length bytes.now) ≤ length map.old }
     ensures written { IfOk result (λ h. HasWritten map.new (D.blocks dev.new) (D.geometry dev.old) h (place + length bytes.now) (overwritten (held_bytes list) place bytes.now)) }
     ensures base { IfOk result (λ h. (h.base.size ≡ 0) × (h.base.in_flight ≡ false)) }
-    ensures map { OnOk result (KeepsUsed map.old map.new) }
+    ensures map { KeepsUsed map.old map.new }
     ensures device { LeavesUsed D.BlockDevice map.old dev.old dev.new }
     ensures faults { TellsFaults D.BlockDevice dev.old dev.new result }
     ensures errors { IfErr result (λ e. (e ≡ Error.Io) ⊎ (e ≡ Error.NoMemory)) }

@@ -1,11 +1,11 @@
 // Lists that a commit names.
 
-ghost use Rattle.std.specs.Prelude.{◌≡◌, ◌<◌, ◌∷◌, [], length, OnOk, IfErr};
+ghost use Rattle.std.specs.Prelude.{◌≡◌, ◌<◌, ◌∷◌, ◌++◌, [], length, OnOk, IfErr};
 ghost use Rattle.lfs_device.specs.Calls.{ReadsOnly, TellsFaults};
 ghost use Rattle.lfs_model.specs.BlockSets.{Free, Used};
 ghost use Rattle.lfs_model.specs.Lists.{IsChain, blocks_back};
 ghost use Rattle.lfs_writer.specs.Based.{IsBase, list_blocks};
-ghost use Rattle.lfs_writer.specs.Settled.{IsSettled, Puts};
+ghost use Rattle.lfs_writer.specs.Settled.{IsSettled, KeepsOthers, Puts};
 
 use crate::stored::Stored;
 use lfs_alloc::BlockMap;
@@ -34,6 +34,7 @@ fn free_blocks<D: BlockDevice>(
     requires chain { IsChain (D.blocks dev.old) count head }
     requires map { length map.old ≡ length (D.blocks dev.old) }
     ensures freed { OnOk result (Puts Free map.old map.new (blocks_back (D.blocks dev.old) count head)) }
+    ensures others { KeepsOthers map.old map.new (blocks_back (D.blocks dev.old) count head) }
     ensures device { ReadsOnly D.BlockDevice dev.old dev.new }
     ensures faults { TellsFaults D.BlockDevice dev.old dev.new result }
     ensures errors { IfErr result (λ e. e ≡ Error.Io) }
@@ -58,6 +59,7 @@ fn use_blocks<D: BlockDevice>(
     requires chain { IsChain (D.blocks dev.old) count head }
     requires map { length map.old ≡ length (D.blocks dev.old) }
     ensures used { OnOk result (Puts Used map.old map.new (blocks_back (D.blocks dev.old) count head)) }
+    ensures others { KeepsOthers map.old map.new (blocks_back (D.blocks dev.old) count head) }
     ensures device { ReadsOnly D.BlockDevice dev.old dev.new }
     ensures faults { TellsFaults D.BlockDevice dev.old dev.new result }
     ensures errors { IfErr result (λ e. e ≡ Error.Io) }
@@ -76,7 +78,7 @@ fn use_blocks<D: BlockDevice>(
 /// list before it had are free.
 ///
 /// Either list may have no bytes, and then has no block. After `Error::Io`, which comes where the
-/// device failed, the map is of no use any more: the image is to be read anew.
+/// device failed, the map is of no use any more for these blocks: the image is to be read anew.
 pub fn settle_list<D: BlockDevice>(
     dev: &mut D,
     map: &mut BlockMap,
@@ -88,6 +90,8 @@ pub fn settle_list<D: BlockDevice>(
     requires map { length map.old ≡ length (D.blocks dev.old) }
     ensures settled { OnOk result (IsSettled map.old map.new (list_blocks (D.blocks dev.old) (D.geometry dev.old).block_size before.head before.size)
         (list_blocks (D.blocks dev.old) (D.geometry dev.old).block_size stored.head stored.size)) }
+    ensures others { KeepsOthers map.old map.new (list_blocks (D.blocks dev.old) (D.geometry dev.old).block_size before.head before.size
+        ++ list_blocks (D.blocks dev.old) (D.geometry dev.old).block_size stored.head stored.size) }
     ensures device { ReadsOnly D.BlockDevice dev.old dev.new }
     ensures faults { TellsFaults D.BlockDevice dev.old dev.new result }
     ensures errors { IfErr result (λ e. e ≡ Error.Io) }

@@ -12,7 +12,8 @@ ghost use Rattle.lfs_writer.specs.Form as form;
 ghost use Rattle.lfs_writer.specs.Form.{form_size, truncated};
 ghost use Rattle.lfs_writer.specs.Hand.{IsStored, KeepsUsed, stored_bytes};
 ghost use Rattle.lfs_writer.specs.Roomy.{base_blocks};
-ghost use Rattle.lfs_writer.specs.Written.{HasWritten, IsGoing, IsOver, bytes_over, length_in};
+ghost use Rattle.lfs_writer.specs.Written.{HasWritten, IsGoing, TurnsOver, bytes_over, length_in};
+ghost use Rattle.lfs_writer.specs.Owned.{AreOwned, KeepsList, blocks_held};
 
 use crate::beginning::begin_over;
 use crate::contents::Contents;
@@ -43,7 +44,7 @@ fn fill_out<D: BlockDevice>(
     requires room { used_count map.old + blocks_for (D.geometry dev.old).block_size size ≤ length map.old }
     ensures filled { IfOk result (λ h. HasWritten map.new (D.blocks dev.new) (D.geometry dev.old) h size (take size (zeros_to size (held_bytes list)))) }
     ensures base { IfOk result (λ h. (h.base.size ≡ 0) × (h.base.in_flight ≡ false)) }
-    ensures map { OnOk result (KeepsUsed map.old map.new) }
+    ensures map { KeepsUsed map.old map.new }
     ensures device { LeavesUsed D.BlockDevice map.old dev.old dev.new }
     ensures faults { TellsFaults D.BlockDevice dev.old dev.new result }
     ensures errors { IfErr result (λ e. (e ≡ Error.Io) ⊎ (e ≡ Error.NoMemory)) }
@@ -70,7 +71,8 @@ fn truncate_held<D: BlockDevice>(
     requires room { limit < size → used_count map.old + blocks_for (D.geometry dev.old).block_size size ≤ length map.old }
     ensures truncated { IfOk result (λ c. HasContents map.new (D.blocks dev.new) (D.geometry dev.old) c
         (take size (zeros_to size (held_bytes list))) (truncated limit size (form.InMemory (length (held_bytes list))))) }
-    ensures map { OnOk result (KeepsUsed map.old map.new) }
+    ensures owned { IfOk result (λ c. AreOwned map.new (blocks_held (D.blocks dev.old) (D.geometry dev.old).block_size (Contents.InMemory list)) (blocks_held (D.blocks dev.new) (D.geometry dev.old).block_size c)) }
+    ensures map { KeepsUsed map.old map.new }
     ensures device { LeavesUsed D.BlockDevice map.old dev.old dev.new }
     ensures faults { TellsFaults D.BlockDevice dev.old dev.new result }
     ensures errors { IfErr result (λ e. (e ≡ Error.Io) ⊎ (e ≡ Error.NoMemory)) }
@@ -97,7 +99,7 @@ fn take_back<D: BlockDevice>(
     requires short { size < (D.geometry dev.old).block_size }
     ensures quiet { IfOk result (IsQuiet map.new (D.blocks dev.new) (D.geometry dev.old)) }
     ensures bytes { IfOk result (λ list. held_bytes list ≡ take size (zeros_to size (stored_bytes (D.blocks dev.old) (D.geometry dev.old).block_size stored))) }
-    ensures map { OnOk result (KeepsUsed map.old map.new) }
+    ensures map { KeepsUsed map.old map.new }
     ensures device { ReadsOnly D.BlockDevice dev.old dev.new }
     ensures faults { TellsFaults D.BlockDevice dev.old dev.new result }
     ensures errors { IfErr result (λ e. (e ≡ Error.Io) ⊎ (e ≡ Error.NoMemory)) }
@@ -122,8 +124,8 @@ fn fill_over<D: BlockDevice>(
     requires room { used_count map.old + blocks_for (D.geometry dev.old).block_size size + base_blocks (D.geometry dev.old).block_size stored ≤ length map.old }
     ensures filled { IfOk result (λ h. HasWritten map.new (D.blocks dev.new) (D.geometry dev.old) h size
         (take size (zeros_to size (stored_bytes (D.blocks dev.old) (D.geometry dev.old).block_size stored)))) }
-    ensures base { IfOk result (λ h. h.base ≡ stored) }
-    ensures map { OnOk result (KeepsUsed map.old map.new) }
+    ensures base { IfOk result (λ h. KeepsList (D.geometry dev.old).block_size (D.blocks dev.old) stored (D.blocks dev.new) h.base) }
+    ensures map { KeepsUsed map.old map.new }
     ensures device { LeavesUsed D.BlockDevice map.old dev.old dev.new }
     ensures faults { TellsFaults D.BlockDevice dev.old dev.new result }
     ensures errors { IfErr result (λ e. (e ≡ Error.Io) ⊎ (e ≡ Error.NoMemory)) }
@@ -149,7 +151,8 @@ fn truncate_stored<D: BlockDevice>(
     requires room { limit < size → stored.size < size → used_count map.old + blocks_for (D.geometry dev.old).block_size size + base_blocks (D.geometry dev.old).block_size stored ≤ length map.old }
     ensures truncated { IfOk result (λ c. HasContents map.new (D.blocks dev.new) (D.geometry dev.old) c
         (take size (zeros_to size (stored_bytes (D.blocks dev.old) (D.geometry dev.old).block_size stored))) (truncated limit size (form.Finished stored.size stored.in_flight))) }
-    ensures map { OnOk result (KeepsUsed map.old map.new) }
+    ensures owned { IfOk result (λ c. AreOwned map.new (blocks_held (D.blocks dev.old) (D.geometry dev.old).block_size (Contents.Finished stored)) (blocks_held (D.blocks dev.new) (D.geometry dev.old).block_size c)) }
+    ensures map { KeepsUsed map.old map.new }
     ensures device { LeavesUsed D.BlockDevice map.old dev.old dev.new }
     ensures faults { TellsFaults D.BlockDevice dev.old dev.new result }
     ensures errors { IfErr result (λ e. (e ≡ Error.Io) ⊎ (e ≡ Error.NoMemory)) }
@@ -186,8 +189,8 @@ fn lengthen_hand<D: BlockDevice>(
         used_count map.old + 2 * blocks_for (D.geometry dev.old).block_size size ≤ length map.old }
     ensures lengthened { IfOk result (λ h. HasWritten map.new (D.blocks dev.new) (D.geometry dev.old) h size
         (take size (zeros_to size (bytes_over (D.blocks dev.old) hand)))) }
-    ensures over { IfOk result (IsOver hand (length_in hand)) }
-    ensures map { OnOk result (KeepsUsed map.old map.new) }
+    ensures over { IfOk result (TurnsOver map.new (D.geometry dev.old).block_size (D.blocks dev.old) hand (length_in hand) (D.blocks dev.new)) }
+    ensures map { KeepsUsed map.old map.new }
     ensures device { LeavesUsed D.BlockDevice map.old dev.old dev.new }
     ensures faults { TellsFaults D.BlockDevice dev.old dev.new result }
     ensures errors { IfErr result (λ e. (e ≡ Error.Io) ⊎ (e ≡ Error.NoMemory)) }
@@ -215,7 +218,8 @@ fn shorten_hand<D: BlockDevice>(
     requires room { used_count map.old + base_blocks (D.geometry dev.old).block_size hand.base + blocks_for (D.geometry dev.old).block_size hand.base.size ≤ length map.old }
     ensures truncated { IfOk result (λ c. HasContents map.new (D.blocks dev.new) (D.geometry dev.old) c
         (take size (zeros_to size (bytes_over (D.blocks dev.old) hand))) (truncated limit size (form.Finished (length_in hand) true))) }
-    ensures map { OnOk result (KeepsUsed map.old map.new) }
+    ensures owned { IfOk result (λ c. AreOwned map.new (blocks_held (D.blocks dev.old) (D.geometry dev.old).block_size (Contents.InHand hand)) (blocks_held (D.blocks dev.new) (D.geometry dev.old).block_size c)) }
+    ensures map { KeepsUsed map.old map.new }
     ensures device { LeavesUsed D.BlockDevice map.old dev.old dev.new }
     ensures faults { TellsFaults D.BlockDevice dev.old dev.new result }
     ensures errors { IfErr result (λ e. (e ≡ Error.Io) ⊎ (e ≡ Error.NoMemory)) }
@@ -241,7 +245,8 @@ fn truncate_hand<D: BlockDevice>(
     requires room { size ≢ length_in hand → used_count map.old + truncate_room (D.geometry dev.old).block_size size (form_of (Contents.InHand hand)) ≤ length map.old }
     ensures truncated { IfOk result (λ c. HasContents map.new (D.blocks dev.new) (D.geometry dev.old) c
         (take size (zeros_to size (bytes_over (D.blocks dev.old) hand))) (truncated limit size (form_of (Contents.InHand hand)))) }
-    ensures map { OnOk result (KeepsUsed map.old map.new) }
+    ensures owned { IfOk result (λ c. AreOwned map.new (blocks_held (D.blocks dev.old) (D.geometry dev.old).block_size (Contents.InHand hand)) (blocks_held (D.blocks dev.new) (D.geometry dev.old).block_size c)) }
+    ensures map { KeepsUsed map.old map.new }
     ensures device { LeavesUsed D.BlockDevice map.old dev.old dev.new }
     ensures faults { TellsFaults D.BlockDevice dev.old dev.new result }
     ensures errors { IfErr result (λ e. (e ≡ Error.Io) ⊎ (e ≡ Error.NoMemory)) }
@@ -278,7 +283,8 @@ pub fn truncate_contents<D: BlockDevice>(
     requires room { NeedsRoom limit size (form_of contents) → used_count map.old + truncate_room (D.geometry dev.old).block_size size (form_of contents) ≤ length map.old }
     ensures truncated { IfOk result (λ c. HasContents map.new (D.blocks dev.new) (D.geometry dev.old) c
         (take size (zeros_to size (bytes_in (D.blocks dev.old) (D.geometry dev.old).block_size contents))) (truncated limit size (form_of contents))) }
-    ensures map { OnOk result (KeepsUsed map.old map.new) }
+    ensures owned { IfOk result (λ c. AreOwned map.new (blocks_held (D.blocks dev.old) (D.geometry dev.old).block_size contents) (blocks_held (D.blocks dev.new) (D.geometry dev.old).block_size c)) }
+    ensures map { KeepsUsed map.old map.new }
     ensures device { LeavesUsed D.BlockDevice map.old dev.old dev.new }
     ensures faults { TellsFaults D.BlockDevice dev.old dev.new result }
     ensures errors { IfErr result (λ e. (e ≡ Error.Io) ⊎ (e ≡ Error.NoMemory)) }

@@ -9,7 +9,7 @@ ghost use Rattle.lfs_writer.specs.Calls.{LeavesUsed};
 ghost use Rattle.lfs_writer.specs.Extended.{end_of};
 ghost use Rattle.lfs_writer.specs.Hand.{KeepsUsed};
 ghost use Rattle.lfs_writer.specs.Roomy.{base_blocks};
-ghost use Rattle.lfs_writer.specs.Written.{HasWritten, IsAt, IsGoing, IsOver, bytes_over, length_in};
+ghost use Rattle.lfs_writer.specs.Written.{HasWritten, IsAt, IsGoing, TurnsOver, bytes_over, length_in};
 
 use crate::beginning::begin_over;
 use crate::ending::end_hand;
@@ -35,8 +35,8 @@ pub(crate) fn turn_to<D: BlockDevice>(
     requires room { end_of hand.list ≢ place →
         used_count map.old + base_blocks (D.geometry dev.old).block_size hand.base + blocks_for (D.geometry dev.old).block_size hand.base.size ≤ length map.old }
     ensures turned { IfOk result (λ h. IsAt map.new (D.blocks dev.new) (D.geometry dev.old) h place (bytes_over (D.blocks dev.old) hand)) }
-    ensures over { IfOk result (IsOver hand place) }
-    ensures map { OnOk result (KeepsUsed map.old map.new) }
+    ensures over { IfOk result (TurnsOver map.new (D.geometry dev.old).block_size (D.blocks dev.old) hand place (D.blocks dev.new)) }
+    ensures map { KeepsUsed map.old map.new }
     ensures device { LeavesUsed D.BlockDevice map.old dev.old dev.new }
     ensures faults { TellsFaults D.BlockDevice dev.old dev.new result }
     ensures errors { IfErr result (λ e. (e ≡ Error.Io) ⊎ (e ≡ Error.NoMemory)) }
@@ -71,8 +71,8 @@ pub(crate) fn write_turned<D: BlockDevice>(
         used_count map.old + 2 * blocks_for (D.geometry dev.old).block_size (max (length_in hand) (place + length bytes.now)) ≤ length map.old }
     ensures written { IfOk result (λ h. HasWritten map.new (D.blocks dev.new) (D.geometry dev.old) h (place + length bytes.now)
         (overwritten (bytes_over (D.blocks dev.old) hand) place bytes.now)) }
-    ensures over { IfOk result (IsOver hand (min place (length_in hand))) }
-    ensures map { OnOk result (KeepsUsed map.old map.new) }
+    ensures over { IfOk result (TurnsOver map.new (D.geometry dev.old).block_size (D.blocks dev.old) hand (min place (length_in hand)) (D.blocks dev.new)) }
+    ensures map { KeepsUsed map.old map.new }
     ensures device { LeavesUsed D.BlockDevice map.old dev.old dev.new }
     ensures faults { TellsFaults D.BlockDevice dev.old dev.new result }
     ensures errors { IfErr result (λ e. (e ≡ Error.Io) ⊎ (e ≡ Error.NoMemory)) }

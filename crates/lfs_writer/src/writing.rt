@@ -10,6 +10,7 @@ ghost use Rattle.lfs_writer.specs.Extended.{end_of};
 ghost use Rattle.lfs_writer.specs.Hand.{KeepsUsed};
 ghost use Rattle.lfs_writer.specs.Roomy.{base_blocks};
 ghost use Rattle.lfs_writer.specs.Written.{HasBegun, HasWritten, bytes_over, length_in};
+ghost use Rattle.lfs_writer.specs.Owned.{KeepsList};
 
 use crate::extending::extend;
 use crate::stored::Stored;
@@ -47,7 +48,7 @@ pub(crate) fn write_on<D: BlockDevice>(
         + base_blocks (D.geometry dev.old).block_size hand.old.base ≤ length map.old }
     ensures written { OnOk result (HasWritten map.new (D.blocks dev.new) (D.geometry dev.old) hand.new (end_of hand.old.list + length bytes.now)
         (overwritten (bytes_over (D.blocks dev.old) hand.old) (end_of hand.old.list) bytes.now)) }
-    ensures base { hand.new.base ≡ hand.old.base }
+    ensures base { KeepsList (D.geometry dev.old).block_size (D.blocks dev.old) hand.old.base (D.blocks dev.new) hand.new.base }
     ensures map { KeepsUsed map.old map.new }
     ensures device { LeavesUsed D.BlockDevice map.old dev.old dev.new }
     ensures faults { TellsFaults D.BlockDevice dev.old dev.new result }
@@ -77,7 +78,7 @@ pub(crate) fn write_from<D: BlockDevice>(
     requires room { used_count map.old + blocks_for (D.geometry dev.old).block_size (place + length bytes.now) + base_blocks (D.geometry dev.old).block_size hand.old.base ≤ length map.old }
     ensures written { OnOk result (HasWritten map.new (D.blocks dev.new) (D.geometry dev.old) hand.new (place + length bytes.now)
         (overwritten (bytes_over (D.blocks dev.old) hand.old) place bytes.now)) }
-    ensures base { hand.new.base ≡ hand.old.base }
+    ensures base { KeepsList (D.geometry dev.old).block_size (D.blocks dev.old) hand.old.base (D.blocks dev.new) hand.new.base }
     ensures map { KeepsUsed map.old map.new }
     ensures device { LeavesUsed D.BlockDevice map.old dev.old dev.new }
     ensures faults { TellsFaults D.BlockDevice dev.old dev.new result }

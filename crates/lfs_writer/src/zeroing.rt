@@ -10,6 +10,7 @@ ghost use Rattle.lfs_writer.specs.Extended.{end_of};
 ghost use Rattle.lfs_writer.specs.Hand.{KeepsUsed};
 ghost use Rattle.lfs_writer.specs.Roomy.{base_blocks};
 ghost use Rattle.lfs_writer.specs.Written.{HasBegun, IsZeroed, bytes_over};
+ghost use Rattle.lfs_writer.specs.Owned.{KeepsList};
 
 use crate::writing::{Hand, write_on};
 use lfs_alloc::BlockMap;
@@ -33,7 +34,7 @@ pub(crate) fn write_zeros<D: BlockDevice>(
         + base_blocks (D.geometry dev.old).block_size hand.old.base ≤ length map.old }
     ensures zeroed { OnOk result (IsZeroed map.new (D.blocks dev.new) (D.geometry dev.old) hand.new count (end_of hand.old.list + count)
         (overwritten (bytes_over (D.blocks dev.old) hand.old) (end_of hand.old.list) (replicate count 0))) }
-    ensures base { hand.new.base ≡ hand.old.base }
+    ensures base { KeepsList (D.geometry dev.old).block_size (D.blocks dev.old) hand.old.base (D.blocks dev.new) hand.new.base }
     ensures map { KeepsUsed map.old map.new }
     ensures device { LeavesUsed D.BlockDevice map.old dev.old dev.new }
     ensures faults { TellsFaults D.BlockDevice dev.old dev.new result }

@@ -4,6 +4,7 @@ use Rattle.lfs_device.specs.declared.geometry.Geometry.{Geometry}
 use Rattle.lfs_model.specs.Blocks.{Blocks}
 use Rattle.lfs_model.specs.Session.{overwritten}
 use Rattle.lfs_writer.specs.Written.{IsGoing, bytes_over}
+use Rattle.lfs_writer.proofs.Owning.{list_from}
 use Rattle.lfs_writer.proofs.Called.{quiet, told_as, told_on, used_on, used_reads}
 use Rattle.lfs_writer.proofs.Spared.{KeepsUsed-refl}
 use Rattle.lfs_writer.proofs.contents.write_over.Goals as goal
@@ -33,3 +34,8 @@ returns-clause-written g c =
       size = wrote.size;
       bytes = wrote.bytes ∙ ap (λ (x : Blocks). overwritten (bytes_over x hand) c.args.place c.args.bytes.now) read.same ∙ ap (λ (l : List ℕ). overwritten l c.args.place c.args.bytes.now) at.bytes;
     }
+
+pub returns-clause-base : goal.returns-clause-base
+returns-clause-base g c =
+    let read = c.begin_over.ensures.device in
+    list_from _ _ _ _ _ _ _ _ read.geometry read.same c.in_ok-begun.ensures.base c.write_from.ensures.base

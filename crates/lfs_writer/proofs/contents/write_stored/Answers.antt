@@ -6,6 +6,7 @@ use Rattle.lfs_model.specs.Session.{overwritten}
 use Rattle.lfs_writer.specs.Contents.{held_bytes}
 use Rattle.lfs_writer.specs.Form.{InMemory, Finished}
 use Rattle.lfs_writer.specs.Hand.{stored_bytes}
+use Rattle.lfs_writer.proofs.Owning.{hand_owned, owned_is}
 use Rattle.lfs_writer.proofs.Called.{used_reads}
 use Rattle.lfs_writer.proofs.Flights.{length-base}
 use Rattle.lfs_writer.proofs.Forms.{length-written, written_few}
@@ -41,3 +42,7 @@ returns-then-size-limit-clause-written g c =
       has = has;
       form = ap InMemory long ∙ sym (written_few c.args.limit c.args.place n (Finished stored.size stored.in_flight) (omega arith));
     }
+
+pub returns-clause-owned : goal.returns-clause-owned
+returns-clause-owned g c =
+    hand_owned c.write_over.new.map (g.D.BlockDevice.blocks c.write_over.new.dev) (g.D.BlockDevice.geometry c.args.dev.now) c.in_ok-hand.hand _ c.in_ok-hand.ensures.written.going (owned_is _ c.in_ok-hand.ensures.base.blocks)

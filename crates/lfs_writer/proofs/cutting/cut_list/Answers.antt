@@ -1,4 +1,5 @@
 use Rattle.std.proofs.Common.{ℕ, [], ◌≡◌, take, refl, sym, ap, ◌∙◌, subst, arith}
+use Rattle.std.specs.Prelude.{Contains, List}
 use Rattle.lfs_device.specs.declared.geometry.Geometry.{Geometry}
 use Rattle.lfs_model.specs.Blocks.{Blocks}
 use Rattle.lfs_model.specs.Lists.{blocks_for, bytes_of}
@@ -7,6 +8,7 @@ use Rattle.lfs_model.proofs.Overwrites.{SameButThese-refl}
 use Rattle.lfs_writer.specs.Based.{list_blocks}
 use Rattle.lfs_writer.specs.Hand.{IsStored}
 use Rattle.lfs_writer.specs.Released.{Releases}
+use Rattle.lfs_writer.proofs.Hands.{Contains-take}
 use Rattle.lfs_writer.proofs.Called.{read_on}
 use Rattle.lfs_writer.proofs.Copies.{base_list}
 use Rattle.lfs_writer.proofs.Cuts.{cuts}
@@ -45,4 +47,19 @@ returns-clause-cut g c =
       stored = subst at (sym all) (cuts c.args.map.now d d now.block_size stored [] c.requires.stored refl (SameButThese-refl [] d) c.release_base.new.map c.blocks_for-count.result c.in_ok-head.head c.args.keep front.list blocks released);
       count = refl;
       bytes = ap (λ x. bytes_of x now.block_size c.in_ok-head.head c.args.keep) all ∙ front.bytes;
+    }
+
+pub returns-clause-front : goal.returns-clause-front
+returns-clause-front g c =
+    let now : Geometry = g.D.BlockDevice.geometry c.args.dev.now in
+    let stored = c.args.stored in
+    let d : Blocks = g.D.BlockDevice.blocks c.args.dev.now in
+    let all = c.release_base.ensures.device.same ∙ c.cut.ensures.device.same in
+    let some = c.requires.some in
+    let within = c.requires.within in
+    let front = c.in_ok-head.ensures.front (base_list d now.block_size stored.head stored.size (omega arith) c.requires.stored.base) in
+    record {
+      flying = refl;
+      among = λ b has. Contains-take _ (list_blocks d now.block_size stored.head stored.size) b
+          (subst (λ (l : List ℕ). Contains l b) (ap (λ x. list_blocks x now.block_size c.in_ok-head.head c.args.keep) all ∙ front.blocks) has);
     }

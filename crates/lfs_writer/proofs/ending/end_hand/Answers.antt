@@ -1,10 +1,15 @@
-use Rattle.std.proofs.Common.{◌≡◌, true, sym, ap, ◌∙◌, subst, arith}
+use Rattle.std.proofs.Common.{◌≡◌, true, refl, sym, ap, ◌∙◌, subst, arith}
 use Rattle.lfs_device.specs.declared.geometry.Geometry.{Geometry}
 use Rattle.lfs_model.specs.Blocks.{Blocks}
 use Rattle.lfs_model.specs.Lists.{blocks_for, bytes_of}
 use Rattle.lfs_ctz.specs.Extended.{geometry_of, growing_of}
+use Rattle.lfs_ctz.specs.Growing.{pending_of}
 use Rattle.lfs_writer.specs.Hand.{IsStored}
 use Rattle.lfs_writer.specs.Roomy.{base_blocks}
+use Rattle.lfs_writer.proofs.Bases.{blocks_stay}
+use Rattle.lfs_writer.proofs.Owning.{ends_over}
+use Rattle.lfs_writer.proofs.Spared.{after_release}
+use Rattle.lfs_writer.specs.Based.{list_blocks}
 use Rattle.lfs_writer.proofs.Called.{apart_end, apart_on, used_of, used_read}
 use Rattle.lfs_writer.proofs.Ends.{base_end, ends_by, used_kept}
 use Rattle.lfs_writer.proofs.Flights.{begun_flying}
@@ -72,3 +77,21 @@ returns-clause-ended g c =
           ∙ ap (λ (k : Geometry). bytes_of (g.D.BlockDevice.blocks c.finish.new.dev) k.block_size c.in_ok-head.head c.in_ok-head.size) (is ∙ sym more.geometry)
           ∙ finished.bytes ∙ more.content;
     }
+
+pub returns-clause-own : goal.returns-clause-own
+returns-clause-own g c =
+    let hand = c.args.hand in
+    let geometry : Geometry = geometry_of hand.list in
+    let now : Geometry = g.D.BlockDevice.geometry c.args.dev.now in
+    let longer = c.copy_rest.new.list in
+    let more = c.in_ok-copy_rest.ensures.extended in
+    let finished = c.in_ok-head.ensures.finished in
+    let going = c.requires.going in
+    let d = g.D.BlockDevice.blocks c.args.dev.now in
+    let e = g.D.BlockDevice.blocks c.copy_rest.new.dev in
+    let whole = extended_hand c.args.map.now c.copy_rest.new.map d e hand.list longer hand.base hand.shared _ _ going.list.begun c.copy_rest.ensures.device.spared c.copy_rest.ensures.map more in
+    ends_over c.copy_rest.new.map c.release_base.new.map d e (g.D.BlockDevice.blocks c.release_base.new.dev) geometry now (growing_of longer) hand.base hand.shared
+    (record { head = c.in_ok-head.head; size = c.in_ok-head.size; in_flight = true }) going.geometry whole (after_release c.in_ok-release_base.ensures.released)
+    (blocks_stay c.args.map.now (pending_of (growing_of hand.list)) d e geometry.block_size hand.base.head hand.base.size c.copy_rest.ensures.device.spared going.list.begun.apart)
+    (ap (λ x. list_blocks x geometry.block_size c.in_ok-head.head c.in_ok-head.size) c.release_base.ensures.device.same
+    ∙ ap (λ (k : Geometry). list_blocks (g.D.BlockDevice.blocks c.finish.new.dev) k.block_size c.in_ok-head.head c.in_ok-head.size) (sym more.geometry) ∙ finished.blocks ∙ whole.own) refl

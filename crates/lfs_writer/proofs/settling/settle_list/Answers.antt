@@ -3,9 +3,10 @@ use Rattle.lfs_device.specs.declared.geometry.Geometry.{Geometry}
 use Rattle.lfs_model.specs.Blocks.{Blocks}
 use Rattle.lfs_model.specs.BlockSets.BlockState.{Free, Used}
 use Rattle.lfs_model.specs.Lists.{IsChain, blocks_back, blocks_for}
-use Rattle.lfs_writer.specs.Settled.{Puts}
+use Rattle.lfs_writer.specs.Settled.{KeepsOthers, Puts}
 use Rattle.lfs_writer.proofs.Called.{read_on}
 use Rattle.lfs_writer.proofs.Ends.{base_chain}
+use Rattle.lfs_writer.proofs.Others.{others_left, others_more}
 use Rattle.lfs_writer.proofs.Settlings.{settles}
 use Rattle.lfs_writer.proofs.settling.settle_list.Goals as goal
 
@@ -33,3 +34,33 @@ returns-clause-settled g c =
     (subst (λ n. Puts Free c.args.map.now c.free_blocks.new.map (blocks_back d n c.args.before.head)) gone c.in_ok-free_blocks.ensures.freed)
     (subst (λ n. Puts Used c.free_blocks.new.map c.use_blocks.new.map (blocks_back d n c.args.stored.head)) kept
     (subst (λ (x : Blocks). Puts Used c.free_blocks.new.map c.use_blocks.new.map (blocks_back x c.blocks_for-kept.result c.args.stored.head)) c.free_blocks.ensures.device.same c.in_ok-use_blocks.ensures.used))
+
+pub returns-in_err-free_blocks-clause-others : goal.returns-in_err-free_blocks-clause-others
+returns-in_err-free_blocks-clause-others g c =
+    let d : Blocks = g.D.BlockDevice.blocks c.args.dev.now in
+    let now : Geometry = g.D.BlockDevice.geometry c.args.dev.now in
+    let gone : c.blocks_for-gone.result ≡ blocks_for now.block_size c.args.before.size = c.blocks_for-gone.ensures ∙ ap (λ (k : Geometry). blocks_for k.block_size c.args.before.size) c.geometry-block_size.ensures in
+    others_left _ _ (blocks_back d (blocks_for now.block_size c.args.before.size) c.args.before.head) (blocks_back d (blocks_for now.block_size c.args.stored.size) c.args.stored.head)
+    (subst (λ n. KeepsOthers c.args.map.now c.free_blocks.new.map (blocks_back d n c.args.before.head)) gone c.free_blocks.ensures.others)
+
+pub returns-in_err-use_blocks-clause-others : goal.returns-in_err-use_blocks-clause-others
+returns-in_err-use_blocks-clause-others g c =
+    let d : Blocks = g.D.BlockDevice.blocks c.args.dev.now in
+    let now : Geometry = g.D.BlockDevice.geometry c.args.dev.now in
+    let gone : c.blocks_for-gone.result ≡ blocks_for now.block_size c.args.before.size = c.blocks_for-gone.ensures ∙ ap (λ (k : Geometry). blocks_for k.block_size c.args.before.size) c.geometry-block_size.ensures in
+    let kept : c.blocks_for-kept.result ≡ blocks_for now.block_size c.args.stored.size = c.blocks_for-kept.ensures ∙ ap (λ (k : Geometry). blocks_for k.block_size c.args.stored.size) c.geometry-block_size.ensures in
+    others_more _ _ _ (blocks_back d (blocks_for now.block_size c.args.before.size) c.args.before.head) (blocks_back d (blocks_for now.block_size c.args.stored.size) c.args.stored.head)
+    (subst (λ n. KeepsOthers c.args.map.now c.free_blocks.new.map (blocks_back d n c.args.before.head)) gone c.free_blocks.ensures.others)
+    (subst (λ n. KeepsOthers c.free_blocks.new.map c.use_blocks.new.map (blocks_back d n c.args.stored.head)) kept
+    (subst (λ (x : Blocks). KeepsOthers c.free_blocks.new.map c.use_blocks.new.map (blocks_back x c.blocks_for-kept.result c.args.stored.head)) c.free_blocks.ensures.device.same c.use_blocks.ensures.others))
+
+pub returns-clause-others : goal.returns-clause-others
+returns-clause-others g c =
+    let d : Blocks = g.D.BlockDevice.blocks c.args.dev.now in
+    let now : Geometry = g.D.BlockDevice.geometry c.args.dev.now in
+    let gone : c.blocks_for-gone.result ≡ blocks_for now.block_size c.args.before.size = c.blocks_for-gone.ensures ∙ ap (λ (k : Geometry). blocks_for k.block_size c.args.before.size) c.geometry-block_size.ensures in
+    let kept : c.blocks_for-kept.result ≡ blocks_for now.block_size c.args.stored.size = c.blocks_for-kept.ensures ∙ ap (λ (k : Geometry). blocks_for k.block_size c.args.stored.size) c.geometry-block_size.ensures in
+    others_more _ _ _ (blocks_back d (blocks_for now.block_size c.args.before.size) c.args.before.head) (blocks_back d (blocks_for now.block_size c.args.stored.size) c.args.stored.head)
+    (subst (λ n. KeepsOthers c.args.map.now c.free_blocks.new.map (blocks_back d n c.args.before.head)) gone c.free_blocks.ensures.others)
+    (subst (λ n. KeepsOthers c.free_blocks.new.map c.use_blocks.new.map (blocks_back d n c.args.stored.head)) kept
+    (subst (λ (x : Blocks). KeepsOthers c.free_blocks.new.map c.use_blocks.new.map (blocks_back x c.blocks_for-kept.result c.args.stored.head)) c.free_blocks.ensures.device.same c.use_blocks.ensures.others))

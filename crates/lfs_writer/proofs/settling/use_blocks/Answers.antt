@@ -9,6 +9,7 @@ use Rattle.lfs_model.proofs.Files.{length_back}
 use Rattle.lfs_writer.specs.Settled.{Puts}
 use Rattle.lfs_writer.proofs.Called.{not_read, quiet, read_on, told_as, told_on}
 use Rattle.lfs_writer.proofs.Releasings.{in_range_at, next_is, next_there}
+use Rattle.lfs_writer.proofs.Others.{others_drop, puts_others}
 use Rattle.lfs_writer.proofs.Settlings.{head_is, never_corrupt, puts_here, puts_none}
 use Rattle.lfs_writer.proofs.settling.use_blocks.Goals as goal
 
@@ -73,3 +74,23 @@ using-preserved g c =
       device = read_on g.D.BlockDevice inv.device c.head_before.ensures.device;
       quiet = quiet g.D.BlockDevice c.in_ok-block.ensures.faults ∙ inv.quiet;
     }
+
+pub returns-clause-others : goal.returns-clause-others
+returns-clause-others g c = others_drop _ _ c.using.index (blocks_back (g.D.BlockDevice.blocks c.args.dev.now) c.args.count c.args.head) (puts_others c.using.invariant.done)
+
+pub returns-in_err-block-clause-others : goal.returns-in_err-block-clause-others
+returns-in_err-block-clause-others g c =
+    let inv = c.using.invariant in
+    let d : Blocks = g.D.BlockDevice.blocks c.args.dev.now in
+    let count : ℕ = c.args.count in
+    let head : ℕ = c.args.head in
+    let index : ℕ = c.using.index in
+    let test = c.using-test.true in
+    let high = inv.high in
+    let here : c.using.block ≡ slice_index (blocks_back d count head) (index - 1) = inv.here (omega arith) in
+    let next : index - 1 + 1 ≡ index = omega arith in
+    let within = in_range_at d count head (index - 1) c.requires.chain (omega arith) in
+    let one = c.use_one.ensures in
+    others_drop _ _ (index - 1) (blocks_back d count head)
+    (puts_others (puts_here Used c.args.map.now c.using.map c.use_one.new.map d count head (index - 1) c.using.block (omega arith) here
+    (subst (λ n. Puts Used c.args.map.now c.using.map (drop n (blocks_back d count head))) (sym next) inv.done) one))

@@ -5,6 +5,7 @@ use Rattle.lfs_model.specs.Blocks.{Blocks}
 use Rattle.lfs_writer.specs.Extended.{end_of}
 use Rattle.lfs_writer.specs.Hand.{stored_bytes}
 use Rattle.lfs_writer.specs.Written.{IsGoing, bytes_over}
+use Rattle.lfs_writer.proofs.Owning.{list_from}
 use Rattle.lfs_writer.proofs.Called.{quiet, told_as, told_on, used_on, used_reads}
 use Rattle.lfs_writer.proofs.Flights.{length-base, part_fits}
 use Rattle.lfs_writer.proofs.Memories.{lengthened}
@@ -52,3 +53,8 @@ returns-clause-filled g c =
       size = omega arith;
       bytes = lengthened old (bytes_over (g.D.BlockDevice.blocks c.begin_over.new.dev) hand) _ stored.size (end_of hand.list) c.args.size all (omega arith) (ap (λ (x : Blocks). bytes_over x hand) read.same ∙ at.bytes) sum zeroed.at.bytes;
     }
+
+pub returns-clause-base : goal.returns-clause-base
+returns-clause-base g c =
+    let read = c.begin_over.ensures.device in
+    list_from _ _ _ _ _ _ _ _ read.geometry read.same c.in_ok-begun.ensures.base c.write_zeros.ensures.base

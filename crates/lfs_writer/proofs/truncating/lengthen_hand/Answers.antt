@@ -7,9 +7,11 @@ use Rattle.lfs_ctz.specs.Extended.{geometry_of, growing_of}
 use Rattle.lfs_writer.specs.Extended.{end_of}
 use Rattle.lfs_writer.specs.Written.{IsGoing, bytes_over, length_in}
 use Rattle.std.proofs.lemmas.Result.{err_from_is_err_and}
+use Rattle.lfs_writer.proofs.Owning.{owned_kept}
 use Rattle.lfs_writer.proofs.Called.{quiet, told_as, told_on, used_on}
 use Rattle.lfs_writer.proofs.Flights.{base_blocks-le, either_fits, length-hand, shaped}
 use Rattle.lfs_writer.proofs.Memories.{lengthened}
+use Rattle.lfs_writer.proofs.Spared.{KeepsUsed-trans}
 use Rattle.lfs_writer.proofs.truncating.lengthen_hand.Goals as goal
 
 pub turn_to-requires-clause-room : goal.turn_to-requires-clause-room
@@ -37,7 +39,7 @@ write_zeros-requires-clause-room g c =
     let longer = c.requires.longer in
     let turned = c.in_ok-turned.turned in
     let at = c.in_ok-turned.ensures.turned.size in
-    let over = c.in_ok-turned.ensures.over in
+    let over = c.in_ok-turned.ensures.over.over in
     let keeps = c.in_ok-turned.ensures.map in
     let most : max (length_in hand) c.args.size ≡ c.args.size = omega arith in
     let same : blocks_for now.block_size (max (length_in hand) c.args.size) ≡ blocks_for now.block_size c.args.size = ap (blocks_for now.block_size) most in
@@ -73,10 +75,16 @@ pub returns-clause-over : goal.returns-clause-over
 returns-clause-over g c =
     let hand = c.args.hand in
     let len : c.max-length.result ≡ length_in hand = (let s = c.size.ensures in let l = c.max-length.ensures in omega arith) in
-    let over = c.in_ok-turned.ensures.over in
-    let base = c.write_zeros.ensures.base in
+    let over = c.in_ok-turned.ensures.over.over in
+    let base = c.write_zeros.ensures.base.same in
     record {
-      same = λ e. base ∙ over.same (e ∙ sym len);
-      size = λ ne. ap (λ s. s.size) base ∙ over.size (λ e. ne (e ∙ len));
-      flying = λ ne. ap (λ s. s.in_flight) base ∙ over.flying (λ e. ne (e ∙ len));
+      over = record {
+        same = λ e. base ∙ over.same (e ∙ sym len);
+        size = λ ne. ap (λ s. s.size) base ∙ over.size (λ e. ne (e ∙ len));
+        flying = λ ne. ap (λ s. s.in_flight) base ∙ over.flying (λ e. ne (e ∙ len));
+      };
+      owned = owned_kept _ _ (g.D.BlockDevice.geometry c.args.dev.now) (g.D.BlockDevice.geometry c.turn_to.new.dev) _ _ _ _ _ c.turn_to.ensures.device.geometry c.write_zeros.ensures.map c.in_ok-turned.ensures.over.owned c.write_zeros.ensures.base;
     }
+
+pub returns-in_err-write_zeros-clause-map : goal.returns-in_err-write_zeros-clause-map
+returns-in_err-write_zeros-clause-map g c = KeepsUsed-trans c.in_ok-turned.ensures.map c.write_zeros.ensures.map

@@ -5,6 +5,8 @@ use Rattle.lfs_writer.specs.Contents.{Stands, bytes_in}
 use Rattle.lfs_writer.specs.Form.{Finished, truncated}
 use Rattle.lfs_writer.specs.Hand.{IsStored, stored_bytes}
 use Rattle.lfs_writer.specs.Written.{length_in}
+use Rattle.lfs_writer.specs.Owned.{AreOwned, blocks_held, blocks_in}
+use Rattle.lfs_writer.proofs.Owning.{owned_on, owned_right}
 use Rattle.lfs_writer.proofs.Called.{used_on}
 use Rattle.lfs_writer.proofs.truncating.shorten_hand.Goals as goal
 
@@ -35,5 +37,11 @@ returns-clause-truncated g c =
       stands = subst (λ (k : Geometry). Stands c.truncate_stored.new.map (g.D.BlockDevice.blocks c.truncate_stored.new.dev) k c.in_ok-cut.cut) is cut.stands;
       has = sym (ap (λ (k : Geometry). bytes_in (g.D.BlockDevice.blocks c.truncate_stored.new.dev) k.block_size c.in_ok-cut.cut) is) ∙ cut.has
           ∙ ap (λ (l : List ℕ). take c.args.size (zeros_to c.args.size l)) (ap (λ (k : Geometry). stored_bytes d k.block_size stored) is ∙ ended.bytes);
-      form = cut.form ∙ ap (λ k. truncated c.args.limit c.args.size (Finished k stored.in_flight)) ended.count ∙ ap (λ t. truncated c.args.limit c.args.size (Finished (length_in c.args.hand) t)) c.in_ok-stored.ensures.flying;
+      form = cut.form ∙ ap (λ k. truncated c.args.limit c.args.size (Finished k stored.in_flight)) ended.count ∙ ap (λ t. truncated c.args.limit c.args.size (Finished (length_in c.args.hand) t)) c.in_ok-stored.ensures.own.flying;
     }
+
+pub returns-clause-owned : goal.returns-clause-owned
+returns-clause-owned g c =
+    owned_right _ (owned_on c.truncate_stored.ensures.map c.in_ok-stored.ensures.own.owned
+    (subst (λ (k : Geometry). AreOwned c.truncate_stored.new.map (blocks_in (g.D.BlockDevice.blocks c.end_hand.new.dev) k.block_size c.in_ok-stored.stored)
+    (blocks_held (g.D.BlockDevice.blocks c.truncate_stored.new.dev) k.block_size c.in_ok-cut.cut)) c.end_hand.ensures.device.geometry c.in_ok-cut.ensures.owned))

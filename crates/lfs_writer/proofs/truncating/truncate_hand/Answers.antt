@@ -5,6 +5,7 @@ use Rattle.lfs_ctz.specs.Extended.{geometry_of, growing_of}
 use Rattle.lfs_writer.specs.Extended.{end_of}
 use Rattle.lfs_writer.specs.Form.{InHand}
 use Rattle.lfs_writer.specs.Written.{bytes_over, length_in}
+use Rattle.lfs_writer.proofs.Owning.{hand_owned, owned_right}
 use Rattle.lfs_writer.proofs.Flights.{length-hand, shaped}
 use Rattle.lfs_writer.proofs.Truncations.{lengthened_hand, resized_none, room_anew, room_on, room_shorter, truncated_ended, truncated_same}
 use Rattle.lfs_writer.proofs.truncating.truncate_hand.Goals as goal
@@ -46,7 +47,7 @@ pub returns-then-length-size-clause-truncated : goal.returns-then-length-size-cl
 returns-then-length-size-clause-truncated g c =
     let hand = c.args.hand in
     let wrote = c.in_ok-hand.ensures.lengthened in
-    let over = c.in_ok-hand.ensures.over in
+    let over = c.in_ok-hand.ensures.over.over in
     let len : c.max-length.result ≡ length_in hand = (let s = c.size.ensures in let l = c.max-length.ensures in omega arith) in
     let longer = c.if-length-size.true in
     let large = c.requires.large in
@@ -79,3 +80,7 @@ returns-clause-truncated g c =
       has = cut.has;
       form = cut.form ∙ truncated_ended c.args.limit c.args.size (end_of hand.list) hand.base.size hand.base.in_flight (omega arith);
     }
+
+pub returns-then-length-size-clause-owned : goal.returns-then-length-size-clause-owned
+returns-then-length-size-clause-owned g c =
+    hand_owned c.lengthen_hand.new.map (g.D.BlockDevice.blocks c.lengthen_hand.new.dev) (g.D.BlockDevice.geometry c.args.dev.now) c.in_ok-hand.hand _ c.in_ok-hand.ensures.lengthened.going (owned_right _ c.in_ok-hand.ensures.over.owned)

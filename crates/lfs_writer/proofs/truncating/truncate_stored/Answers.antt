@@ -3,6 +3,7 @@ use Rattle.lfs_device.specs.declared.geometry.Geometry.{Geometry}
 use Rattle.lfs_model.specs.Blocks.{Blocks}
 use Rattle.lfs_writer.specs.Form.{Finished, InHand, InMemory}
 use Rattle.lfs_writer.specs.Hand.{stored_bytes}
+use Rattle.lfs_writer.proofs.Owning.{hand_owned, owned_is}
 use Rattle.lfs_writer.proofs.Called.{used_reads}
 use Rattle.lfs_writer.proofs.Flights.{length-base}
 use Rattle.lfs_writer.proofs.Memories.{shortened_bytes}
@@ -43,7 +44,7 @@ pub returns-then-stored-size-clause-truncated : goal.returns-then-stored-size-cl
 returns-then-stored-size-clause-truncated g c =
     let stored = c.args.stored in
     let filled = c.in_ok-hand.ensures.filled in
-    let base = c.in_ok-hand.ensures.base in
+    let base = c.in_ok-hand.ensures.base.same in
     let hand = c.in_ok-hand.hand in
     record {
       stands = filled.going;
@@ -71,6 +72,10 @@ returns-clause-truncated g c =
     record {
       stands = ended.stored;
       has = ended.bytes ∙ shortened_bytes old c.args.size (omega arith);
-      form = ap (λ k. Finished k c.in_ok-cut.cut.in_flight) ended.count ∙ ap (Finished c.args.size) c.in_ok-cut.ensures.flying
+      form = ap (λ k. Finished k c.in_ok-cut.cut.in_flight) ended.count ∙ ap (Finished c.args.size) c.in_ok-cut.ensures.front.flying
           ∙ truncated_cut c.args.limit c.args.size (Finished stored.size stored.in_flight) (omega arith) c.if-size-limit.false;
     }
+
+pub returns-then-stored-size-clause-owned : goal.returns-then-stored-size-clause-owned
+returns-then-stored-size-clause-owned g c =
+    hand_owned c.fill_over.new.map (g.D.BlockDevice.blocks c.fill_over.new.dev) (g.D.BlockDevice.geometry c.args.dev.now) c.in_ok-hand.hand _ c.in_ok-hand.ensures.filled.going (owned_is _ c.in_ok-hand.ensures.base.blocks)

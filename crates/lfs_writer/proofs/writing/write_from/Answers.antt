@@ -4,6 +4,7 @@ use Rattle.lfs_model.specs.Session.{overwritten}
 use Rattle.lfs_ctz.specs.Extended.{geometry_of, growing_of}
 use Rattle.lfs_writer.specs.Extended.{end_of}
 use Rattle.lfs_writer.specs.Written.{IsGoing, bytes_over, length_in}
+use Rattle.lfs_writer.proofs.Owning.{list_then}
 use Rattle.lfs_writer.proofs.Called.{used_on}
 use Rattle.lfs_writer.proofs.Flights.{length-hand, part_fits, shaped, wrote_all}
 use Rattle.lfs_writer.proofs.writing.write_from.Goals as goal
@@ -40,3 +41,9 @@ returns-clause-written g c =
       bytes = wrote_all (bytes_over d hand) (bytes_over d hand) _ _ c.args.bytes.now (length_in hand) c.args.place (end_of hand.list) (end_of hand.list) _ long at refl refl
           (zeroed.at.bytes ∙ ap (λ n. overwritten (bytes_over d hand) (end_of hand.list) (replicate n 0)) gap) end wrote.bytes;
     }
+
+pub returns-in_err-write_on-clause-base : goal.returns-in_err-write_on-clause-base
+returns-in_err-write_on-clause-base g c = list_then _ _ _ _ _ _ _ _ c.write_zeros.ensures.device.geometry c.write_zeros.ensures.base c.write_on.ensures.base
+
+pub returns-clause-base : goal.returns-clause-base
+returns-clause-base g c = list_then _ _ _ _ _ _ _ _ c.write_zeros.ensures.device.geometry c.write_zeros.ensures.base c.write_on.ensures.base

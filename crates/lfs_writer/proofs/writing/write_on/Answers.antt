@@ -4,6 +4,7 @@ use Rattle.lfs_model.specs.Lists.{blocks_for}
 use Rattle.lfs_ctz.specs.Extended.{geometry_of, growing_of}
 use Rattle.lfs_writer.specs.Extended.{end_of}
 use Rattle.lfs_writer.specs.Roomy.{base_blocks}
+use Rattle.lfs_writer.proofs.Owning.{base_kept}
 use Rattle.lfs_writer.proofs.Called.{used_of}
 use Rattle.lfs_writer.proofs.Flights.{begun_flying, length-content, shaped}
 use Rattle.lfs_writer.proofs.Handed.{extended_bytes, extended_on}
@@ -42,3 +43,15 @@ returns-clause-written g c =
       size = more.sum;
       bytes = extended_bytes c.args.map.now c.extend.new.map d (g.D.BlockDevice.blocks c.extend.new.dev) hand.list c.extend.new.list hand.base hand.shared c.args.bytes.now begun.begun c.extend.ensures.device.spared more long;
     }
+
+pub returns-in_err-extend-clause-base : goal.returns-in_err-extend-clause-base
+returns-in_err-extend-clause-base g c =
+    let hand = c.args.hand.now in
+    base_kept c.args.map.now (g.D.BlockDevice.blocks c.args.dev.now) (g.D.BlockDevice.blocks c.extend.new.dev) (geometry_of hand.list) (g.D.BlockDevice.geometry c.args.dev.now) (growing_of hand.list) hand.base hand.shared
+    c.requires.begun.geometry c.requires.begun.begun c.extend.ensures.device.spared
+
+pub returns-clause-base : goal.returns-clause-base
+returns-clause-base g c =
+    let hand = c.args.hand.now in
+    base_kept c.args.map.now (g.D.BlockDevice.blocks c.args.dev.now) (g.D.BlockDevice.blocks c.extend.new.dev) (geometry_of hand.list) (g.D.BlockDevice.geometry c.args.dev.now) (growing_of hand.list) hand.base hand.shared
+    c.requires.begun.geometry c.requires.begun.begun c.extend.ensures.device.spared

@@ -6,6 +6,7 @@ use Rattle.lfs_model.specs.Session.{overwritten}
 use Rattle.lfs_ctz.specs.Extended.{geometry_of, growing_of}
 use Rattle.lfs_writer.specs.Extended.{end_of}
 use Rattle.lfs_writer.specs.Written.{HasBegun, IsGoing, IsZeroed, bytes_over}
+use Rattle.lfs_writer.proofs.Owning.{list_same, list_then}
 use Rattle.lfs_writer.proofs.Called.{not_read, quiet, told_as, told_on, used_on, used_reads}
 use Rattle.lfs_writer.proofs.Flights.{in_hand, more_zeros, part_fits, shaped, wrote_none}
 use Rattle.lfs_writer.proofs.Spared.{KeepsUsed-refl, KeepsUsed-trans}
@@ -24,7 +25,7 @@ zeroing-init g c =
         at = record { begun = begun; size = omega arith; bytes = wrote_none (bytes_over d hand) (end_of hand.list) long };
         going = λ some. absurd (omega arith);
       };
-      base = refl;
+      base = list_same _ _ _;
       map = KeepsUsed-refl c.args.map.now;
       device = used_reads g.D.BlockDevice c.args.map.now (not_read g.D.BlockDevice c.args.dev.now);
       quiet = refl;
@@ -46,7 +47,7 @@ write_on-requires-clause-room g c =
     let test = c.zeroing-test.true in
     let size = inv.zeroed.at.size in
     part_fits (g.D.BlockDevice.geometry c.args.dev.now) (g.D.BlockDevice.geometry c.zeroing.dev) c.zeroing.hand.base c.args.hand.now.base _ _ _ _
-    (end_of c.zeroing.hand.list + length (take n c.as_slice.result.now)) (end_of c.args.hand.now.list + c.args.count) inv.device.geometry inv.base (omega arith) inv.map.used inv.map.count c.requires.room
+    (end_of c.zeroing.hand.list + length (take n c.as_slice.result.now)) (end_of c.args.hand.now.list + c.args.count) inv.device.geometry inv.base.same (omega arith) inv.map.used inv.map.count c.requires.room
 
 pub returns-in_err-write_on-clause-device : goal.returns-in_err-write_on-clause-device
 returns-in_err-write_on-clause-device g c = used_on g.D.BlockDevice c.zeroing.invariant.map c.zeroing.invariant.device c.write_on.ensures.device
@@ -80,7 +81,7 @@ zeroing-preserved g c =
         };
         going = λ some. going;
       };
-      base = c.write_on.ensures.base ∙ inv.base;
+      base = list_then _ _ _ _ _ _ _ _ inv.device.geometry inv.base c.write_on.ensures.base;
       map = KeepsUsed-trans inv.map c.write_on.ensures.map;
       device = used_on g.D.BlockDevice inv.map inv.device c.write_on.ensures.device;
       quiet = quiet g.D.BlockDevice c.in_ok-write_on.ensures.faults ∙ inv.quiet;
@@ -98,3 +99,9 @@ returns-clause-zeroed g c =
     let all : c.zeroing.done ≡ c.args.count = (let few = inv.few in let test = c.zeroing-test.false in omega arith) in
     subst (λ n. IsZeroed c.zeroing.map (g.D.BlockDevice.blocks c.zeroing.dev) (g.D.BlockDevice.geometry c.args.dev.now) c.zeroing.hand n (end_of hand.list + n)
     (overwritten (bytes_over (g.D.BlockDevice.blocks c.args.dev.now) hand) (end_of hand.list) (replicate n 0))) all inv.zeroed
+
+pub returns-in_err-write_on-clause-base : goal.returns-in_err-write_on-clause-base
+returns-in_err-write_on-clause-base g c = list_then _ _ _ _ _ _ _ _ c.zeroing.invariant.device.geometry c.zeroing.invariant.base c.write_on.ensures.base
+
+pub returns-in_err-write_on-clause-map : goal.returns-in_err-write_on-clause-map
+returns-in_err-write_on-clause-map g c = KeepsUsed-trans c.zeroing.invariant.map c.write_on.ensures.map

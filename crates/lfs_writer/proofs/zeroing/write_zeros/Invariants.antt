@@ -5,6 +5,7 @@ use Rattle.lfs_writer.specs.Calls.{LeavesUsed}
 use Rattle.lfs_writer.specs.Extended.{end_of}
 use Rattle.lfs_writer.specs.Hand.{KeepsUsed}
 use Rattle.lfs_writer.specs.Written.{IsZeroed, bytes_over}
+use Rattle.lfs_writer.specs.Owned.{KeepsList}
 use Rattle.lfs_writer.proofs.zeroing.write_zeros.Given as goal
 
 abbrev pub invariant-zeroing : goal.invariant-zeroing
@@ -15,7 +16,7 @@ invariant-zeroing g l =
       few : l.done ≤ l.count;
       zeroed : IsZeroed l.map (shows.blocks l.dev) (shows.geometry l.fn.dev) l.hand l.done (end_of was.list + l.done)
           (overwritten (bytes_over (shows.blocks l.fn.dev) was) (end_of was.list) (replicate l.done 0));
-      base : l.hand.base ≡ was.base;
+      base : KeepsList (shows.geometry l.fn.dev).block_size (shows.blocks l.fn.dev) was.base (shows.blocks l.dev) l.hand.base;
       map : KeepsUsed l.fn.map l.map;
       device : LeavesUsed shows l.fn.map l.fn.dev l.dev;
       quiet : faults (shows.history l.dev) ≡ faults (shows.history l.fn.dev);

@@ -1,0 +1,119 @@
+-- Contents on a thread's device.
+use Rattle.std.proofs.Common.{ℕ, ◌≡◌, ◌<◌, ◌≤◌, ◌+◌, ◌^◌, max, List, length, Result, Ok, Err, sym, ap, subst, ◌∙◌}
+use Rattle.std.specs.Prelude.{IfOk}
+use Rattle.lfs_device.specs.declared.error.Error.{Error}
+use Rattle.lfs_device.specs.declared.device.BlockDevice.{Ghosts}
+use Rattle.lfs_device.specs.declared.geometry.Geometry.{Geometry}
+use Rattle.lfs_model.specs.Blocks.{Blocks, IsDivided}
+use Rattle.lfs_model.specs.BlockSets.{BlockSets, used_count}
+use Rattle.lfs_model.specs.Disk.{Disk}
+use Rattle.lfs_thread.specs.Beside.{IsDividedAs, Shows}
+use Rattle.lfs_thread.specs.Kept.{Kept}
+use Rattle.lfs_writer.specs.Contents.{HasContents, IsLarge, NeedsRoom, Stands, end_room, form_of, truncate_room, write_room}
+use Rattle.lfs_writer.specs.Form.{Form, form_size}
+use Rattle.lfs_writer.specs.Owned.{AreOwned, blocks_held}
+use Rattle.lfs_writer.specs.declared.contents.Contents.{Contents}
+use Rattle.lfs_files.specs.Standing.{CanFinish, CanTruncate, CanWrite, Holds, StandsIn, held_in}
+use Rattle.lfs_files.proofs.Geometries.{geometry_is}
+
+module _ {D : Type 0} (g : Ghosts D) (t : Kept) (device : D) (map : BlockSets) (shows : Shows g t device map)
+    (shape : IsDivided (g.geometry device).block_size (g.geometry device).block_count (g.blocks device)) where
+  pub blocks_here : g.blocks device ≡ t.disk.blocks
+  blocks_here = ap (λ (d : Disk). d.blocks) shows.disk
+
+  pub size_here : (g.geometry device).block_size ≡ t.disk.block_size
+  size_here = ap (λ (d : Disk). d.block_size) shows.disk
+
+  pub divided_here : IsDividedAs (g.geometry device) t.disk
+  divided_here = record { block_size = size_here; page = ap (λ (d : Disk). d.page) shows.disk; count = sym shape.count ∙ ap length blocks_here }
+
+  pub geometry_here : (x : Geometry) → IsDividedAs x t.disk → g.geometry device ≡ x
+  geometry_here x of_disk = geometry_is (g.geometry device) x (size_here ∙ sym of_disk.block_size) (divided_here.page ∙ sym of_disk.page) (divided_here.count ∙ sym of_disk.count)
+
+  pub stands_here : (contents : Contents) → StandsIn t contents → Stands map (g.blocks device) (g.geometry device) contents
+  stands_here contents is =
+      subst (λ (m : BlockSets). Stands m (g.blocks device) (g.geometry device) contents) (sym shows.map)
+      (subst (λ (d : Blocks). Stands t.map d (g.geometry device) contents) (sym blocks_here)
+      (subst (λ (x : Geometry). Stands t.map t.disk.blocks x contents) (sym (geometry_here is.geometry is.divided)) is.stands))
+
+  -- contents that a call left there
+  pub holds_here : (x : Geometry) (contents : Contents) (bytes : List ℕ) (form : Form) → x ≡ g.geometry device → HasContents map (g.blocks device) x contents bytes form → Holds t contents bytes form
+  holds_here x contents bytes form is has = record {
+    geometry = g.geometry device;
+    divided = divided_here;
+    has = subst (λ (y : Geometry). HasContents t.map t.disk.blocks y contents bytes form) is
+        (subst (λ (m : BlockSets). HasContents m t.disk.blocks x contents bytes form) shows.map
+        (subst (λ (d : Blocks). HasContents map d x contents bytes form) blocks_here has));
+  }
+
+  -- a write there
+  pub write_here : (contents : Contents) (limit place count : ℕ) → CanWrite t contents limit place count
+      → Stands map (g.blocks device) (g.geometry device) contents × (IsLarge limit (form_of contents) × (limit < (g.geometry device).block_size × (1 ≤ count × (place + count < 2 ^ 31
+      × (limit < max (form_size (form_of contents)) (place + count) → used_count map + write_room (g.geometry device).block_size place count (form_of contents) ≤ length map)))))
+  write_here contents limit place count can = (
+    stands_here contents can.stands,
+    (
+      can.large,
+      (
+        subst (λ n. limit < n) (sym size_here) can.short,
+        (
+          can.some,
+          (
+            can.small,
+            subst (λ (n : ℕ). limit < max (form_size (form_of contents)) (place + count) → used_count map + write_room n place count (form_of contents) ≤ length map) (sym size_here)
+                (subst (λ (m : BlockSets). limit < max (form_size (form_of contents)) (place + count) → used_count m + write_room t.disk.block_size place count (form_of contents) ≤ length m) (sym shows.map) can.room),
+          ),
+        ),
+      ),
+    ),
+  )
+
+  -- a truncation
+  pub truncate_here : (contents : Contents) (limit size : ℕ) → CanTruncate t contents limit size
+      → Stands map (g.blocks device) (g.geometry device) contents × (IsLarge limit (form_of contents) × (limit < (g.geometry device).block_size × (size < 2 ^ 31
+      × (NeedsRoom limit size (form_of contents) → used_count map + truncate_room (g.geometry device).block_size size (form_of contents) ≤ length map))))
+  truncate_here contents limit size can = (
+    stands_here contents can.stands,
+    (
+      can.large,
+      (
+        subst (λ n. limit < n) (sym size_here) can.short,
+        (
+          can.small,
+          subst (λ (n : ℕ). NeedsRoom limit size (form_of contents) → used_count map + truncate_room n size (form_of contents) ≤ length map) (sym size_here)
+              (subst (λ (m : BlockSets). NeedsRoom limit size (form_of contents) → used_count m + truncate_room t.disk.block_size size (form_of contents) ≤ length m) (sym shows.map) can.room),
+        ),
+      ),
+    ),
+  )
+
+  -- the end of a list in hand
+  pub finish_here : (contents : Contents) → CanFinish t contents
+      → Stands map (g.blocks device) (g.geometry device) contents × (used_count map + end_room (g.geometry device).block_size (form_of contents) ≤ length map)
+  finish_here contents can = (
+    stands_here contents can.stands,
+    subst (λ (n : ℕ). used_count map + end_room n (form_of contents) ≤ length map) (sym size_here)
+        (subst (λ (m : BlockSets). used_count m + end_room t.disk.block_size (form_of contents) ≤ length m) (sym shows.map) can.room),
+  )
+
+-- what a call answers, seen from the thread
+pub holds_after : {D : Type 0} (g : Ghosts D) (old new : Kept) (d e : D) (m n : BlockSets) → Shows g old d m → Shows g new e n → IsDivided (g.geometry d).block_size (g.geometry d).block_count (g.blocks d)
+    → IsDivided (g.geometry e).block_size (g.geometry e).block_count (g.blocks e) → g.geometry e ≡ g.geometry d → (bytes : Blocks → ℕ → List ℕ) (form : Form) (r : Result Contents Error)
+    → IfOk r (λ c. HasContents n (g.blocks e) (g.geometry d) c (bytes (g.blocks d) (g.geometry d).block_size) form) → IfOk r (λ c. Holds new c (bytes old.disk.blocks old.disk.block_size) form)
+holds_after g old new d e m n before after shape later geometry bytes form (Ok c) has =
+    subst (λ (x : Blocks). Holds new c (bytes x old.disk.block_size) form) (blocks_here g old d m before shape)
+    (subst (λ (k : ℕ). Holds new c (bytes (g.blocks d) k) form) (size_here g old d m before shape)
+    (holds_here g new e n after later (g.geometry d) c (bytes (g.blocks d) (g.geometry d).block_size) form (sym geometry) has))
+holds_after g old new d e m n before after shape later geometry bytes form (Err x) has = tt
+
+-- no used block comes into the lists
+pub owned_after : {D : Type 0} (g : Ghosts D) (old new : Kept) (d e : D) (m n : BlockSets) → Shows g old d m → Shows g new e n → IsDivided (g.geometry d).block_size (g.geometry d).block_count (g.blocks d)
+    → IsDivided (g.geometry e).block_size (g.geometry e).block_count (g.blocks e) → g.geometry e ≡ g.geometry d → (contents : Contents) (r : Result Contents Error)
+    → IfOk r (λ c. AreOwned n (blocks_held (g.blocks d) (g.geometry d).block_size contents) (blocks_held (g.blocks e) (g.geometry d).block_size c)) → IfOk r (λ c. AreOwned new.map (held_in old contents) (held_in new c))
+owned_after g old new d e m n before after shape later geometry contents (Ok c) owned =
+    subst (λ (s : BlockSets). AreOwned s (held_in old contents) (held_in new c)) after.map
+    (subst (λ (k : ℕ). AreOwned n (held_in old contents) (blocks_held new.disk.blocks k c)) (ap (λ (x : Geometry). x.block_size) (sym geometry) ∙ size_here g new e n after later)
+    (subst (λ (x : Blocks). AreOwned n (held_in old contents) (blocks_held x (g.geometry d).block_size c)) (blocks_here g new e n after later)
+    (subst (λ (k : ℕ). AreOwned n (blocks_held old.disk.blocks k contents) (blocks_held (g.blocks e) (g.geometry d).block_size c)) (size_here g old d m before shape)
+    (subst (λ (x : Blocks). AreOwned n (blocks_held x (g.geometry d).block_size contents) (blocks_held (g.blocks e) (g.geometry d).block_size c)) (blocks_here g old d m before shape) owned))))
+owned_after g old new d e m n before after shape later geometry contents (Err x) owned = tt

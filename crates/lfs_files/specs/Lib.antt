@@ -1,0 +1,3 @@
+pub mod Standing
+pub mod Settling
+pub mod Coming

@@ -1,0 +1,69 @@
+-- The contents of an open writer on a thread's device.
+use Rattle.std.specs.Prelude.{ℕ, ◌≡◌, ◌⊎◌, ◌≤◌, ◌<◌, ◌+◌, ◌^◌, max, List, length, Result, IfErr, IsErrOf}
+use Rattle.lfs_device.specs.declared.error.Error.{Error}
+use Rattle.lfs_device.specs.declared.error.Error.TheVariants.{Io, NoMemory}
+use Rattle.lfs_device.specs.declared.geometry.Geometry.{Geometry}
+use Rattle.lfs_model.specs.BlockSets.{used_count}
+use Rattle.lfs_model.specs.History.{AtWorst, LeavesOnly, faults}
+use Rattle.lfs_thread.specs.Beside.{IsDividedAs}
+use Rattle.lfs_thread.specs.Kept.{Kept}
+use Rattle.lfs_thread.specs.Steps.{HasShape}
+use Rattle.lfs_writer.specs.Contents.{HasContents, IsLarge, NeedsRoom, Stands, end_room, form_of, truncate_room, write_room}
+use Rattle.lfs_writer.specs.Form.{Form, form_size}
+use Rattle.lfs_writer.specs.Hand.{KeepsUsed, SparesUsed, SparesUsedPages}
+use Rattle.lfs_writer.specs.Owned.{blocks_held}
+use Rattle.lfs_writer.specs.declared.contents.Contents.{Contents}
+
+-- the contents stand on the disk, and the map has their blocks
+pub record StandsIn (t : Kept) (contents : Contents) : Type 0 where
+  pub geometry : Geometry
+  pub divided : IsDividedAs geometry t.disk
+  pub stands : Stands t.map t.disk.blocks geometry contents
+
+-- they stand so, with these bytes in that form
+pub record Holds (t : Kept) (contents : Contents) (bytes : List ℕ) (shape : Form) : Type 0 where
+  pub geometry : Geometry
+  pub divided : IsDividedAs geometry t.disk
+  pub has : HasContents t.map t.disk.blocks geometry contents bytes shape
+
+-- so many bytes, at least one, may be written there: past the limit there is room for what the form of the contents wants
+pub record CanWrite (t : Kept) (contents : Contents) (limit place count : ℕ) : Type 0 where
+  pub stands : StandsIn t contents
+  pub large : IsLarge limit (form_of contents)
+  pub short : limit < t.disk.block_size
+  pub some : 1 ≤ count
+  pub small : place + count < 2 ^ 31
+  pub room : limit < max (form_size (form_of contents)) (place + count) → used_count t.map + write_room t.disk.block_size place count (form_of contents) ≤ length t.map
+
+-- The pairs are the same. No used block changes, what was unprogrammed in it still is, it stays used, and a loss of power on
+-- the way leaves it as it was.
+pub record LeavesPairsAndUsed (old new : Kept) : Type 0 where
+  pub pairs : new.pairs ≡ old.pairs
+  pub shape : HasShape old.disk new.disk
+  pub spared : SparesUsed old.map old.disk.blocks new.disk.blocks
+  pub pages : SparesUsedPages old.map old.history new.history
+  pub at_worst : LeavesOnly AtWorst old.history new.history (SparesUsed old.map old.disk.blocks)
+  pub map : KeepsUsed old.map new.map
+
+-- `Io` comes with a fault of the device, and any other answer with none
+pub record TellsWork {X : Type 0} (old new : Kept) (result : Result X Error) : Type 0 where
+  pub errors : IfErr result (λ e. (e ≡ Io) ⊎ (e ≡ NoMemory))
+  pub fault : IsErrOf result Io → faults old.history < faults new.history
+  pub no_fault : ¬ IsErrOf result Io → faults new.history ≡ faults old.history
+
+-- they may be cut or filled up to that size: where it changes there is room for what their form wants
+pub record CanTruncate (t : Kept) (contents : Contents) (limit size : ℕ) : Type 0 where
+  pub stands : StandsIn t contents
+  pub large : IsLarge limit (form_of contents)
+  pub short : limit < t.disk.block_size
+  pub small : size < 2 ^ 31
+  pub room : NeedsRoom limit size (form_of contents) → used_count t.map + truncate_room t.disk.block_size size (form_of contents) ≤ length t.map
+
+-- the list in hand may be ended
+pub record CanFinish (t : Kept) (contents : Contents) : Type 0 where
+  pub stands : StandsIn t contents
+  pub room : used_count t.map + end_room t.disk.block_size (form_of contents) ≤ length t.map
+
+-- the blocks of the contents' lists
+abbrev pub held_in : Kept → Contents → List ℕ
+held_in t contents = blocks_held t.disk.blocks t.disk.block_size contents

@@ -195,14 +195,15 @@ pub empty_kept : (disk : Disk) (history : List Event) (hs : List Header) (sets :
 empty_kept disk history hs sets n count thread map =
     subst (λ z. WasKept disk history z sets) (sym thread.only) (kept disk history thread.first sets thread.root (subst (λ k. IsEmptyMap k sets) (sym count) map))
 
-pub empty_formatted : (disk : Disk) (history : List Event) (hs : List Header) (sets : BlockSets) (n : ℕ) → IsEmptyThread disk history hs → IsEmptyMap n sets → IsFormatted (seen disk history hs sets)
-empty_formatted disk history hs sets n thread map = record {
+pub empty_formatted : (disk : Disk) (history : List Event) (hs : List Header) (sets : BlockSets) (n : ℕ) → block_count disk ≡ n → IsEmptyThread disk history hs → IsEmptyMap n sets → IsFormatted (seen disk history hs sets)
+empty_formatted disk history hs sets n count thread map = record {
   fresh = thread.root.fresh;
   first = thread.root.first;
   second = thread.root.second;
   pairs = ap (pairs_on disk) thread.only ∙ pairs_are disk history thread.first thread.root;
   used = map.used;
   in_flight = map.in_flight;
+  size = map.size ∙ sym count;
 }
 
 pub shows_empty : (t : Kept) → IsFormatted t → ShowsEmptyRoot t

@@ -7,7 +7,7 @@ use Rattle.lfs_model.specs.History.{faults}
 use Rattle.lfs_thread.specs.Kept.{State}
 use Rattle.lfs_thread.specs.Steps.{IsOnlyRead}
 use Rattle.lfs_tree.specs.Reading.{IsReading}
-use Rattle.lfs_tree.proofs.ReadOnly.{only_read}
+use Rattle.lfs_tree.proofs.ReadOnly.{only_itself, only_read}
 
 -- calls that answered
 pub record HasRead (old new : State) : Type 0 where
@@ -59,7 +59,7 @@ lacks_memory {X = X} a b r e h = record {
   };
 }
 
-same_error : (X : Type 0) (e f : Error) → (let r : Result X Error = Err e in r) ≡ Err f → e ≡ f
+pub same_error : (X : Type 0) (e f : Error) → (let r : Result X Error = Err e in r) ≡ Err f → e ≡ f
 same_error X e f h = cc
 
 -- an error is passed on
@@ -74,3 +74,7 @@ passed {X = X} {Y = Y} a b r s e f is now same h = record {
     unwritten = λ k. record { disk = h.only.disk; reads = h.only.reads };
   };
 }
+
+-- no call at all
+pub begun : (a : State) → a.failed ≡ false → HasRead a a
+begun a works = record { only = only_itself a.kept; works = works; same = refl }

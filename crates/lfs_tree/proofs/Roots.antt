@@ -73,7 +73,7 @@ none : (xs : List Pair) (x : Pair) (ys : List Pair) → [] ≡ xs ++ x ∷ ys �
 none [] x ys h = cc
 none (z ∷ xs) x ys h = cc
 
-root_begins : (disk : Disk) (ps : List Pair) → IsAccepted disk ps → BeginsAt ps (root_of ps) (superblocks_before ps)
+pub root_begins : (disk : Disk) (ps : List Pair) → IsAccepted disk ps → BeginsAt ps (root_of ps) (superblocks_before ps)
 root_begins disk ps ok = go (directory_pairs ps) refl
   where
     go : (dirs : List Pair) → directory_pairs ps ≡ dirs → BeginsAt ps (root_of ps) (superblocks_before ps)

@@ -52,7 +52,8 @@ pub record IsEmptyMap (count : ℕ) (sets : BlockSets) : Type 0 where
   pub in_flight : AreInFlight sets []
 
 -- The disk is a fresh one: its thread is the pair of the blocks 0 and 1, which has the superblock alone. Block 0 holds it, in
--- a log of one commit at revision 1, and no log is left in block 1. These two blocks are used, and no block is in flight.
+-- a log of one commit at revision 1, and no log is left in block 1. These two blocks are used, and no block is in flight; the map
+-- has all blocks.
 pub record IsFormatted (t : Kept) : Type 0 where
   pub fresh : IsFresh t.disk
   pub first : Holds 1 (superblock_alone t.disk) (block_at t.disk 0)
@@ -60,6 +61,7 @@ pub record IsFormatted (t : Kept) : Type 0 where
   pub pairs : t.pairs ≡ fresh_pair t.disk ∷ []
   pub used : AreUsed t.map (two_of anchor)
   pub in_flight : AreInFlight t.map []
+  pub size : length t.map ≡ block_count t.disk
 
 -- An accepted image that may be written. It shows an empty root, and uses the blocks 0 and 1.
 pub record ShowsEmptyRoot (t : Kept) : Type 0 where

@@ -12,7 +12,7 @@ use lfs_thread::Thread;
 use std::alloc::{AllocError, Global};
 
 // So many zeros.
-fn zeros(alloc: Global, len: usize) -> Result<Vec<u8>, AllocError>
+pub(crate) fn zeros(alloc: Global, len: usize) -> Result<Vec<u8>, AllocError>
     ensures { IfOk result (λ bytes. length bytes.items ≡ len) }
 {
     let mut bytes = Vec::new(alloc);

@@ -1,31 +1,42 @@
-//! What stands in the directories of an accepted image, and how it is looked up and changed.
+//! What stands in the directories of an accepted image, and how it is looked up.
 #![tactic(auto)]
 
-mod changing;
-mod creating;
+mod attribute_at;
+mod by_path;
+mod bytes_at;
+mod carrying;
+mod carrying_attributes;
 mod directory;
-mod editing;
 mod entry;
 mod file_bytes;
+mod finding;
 mod formatting;
+mod image;
 mod items;
+mod list_at;
+mod mounted;
+mod path;
 mod paths;
-mod removing;
+mod profile;
+mod refusal;
+mod root;
+mod rooted;
 mod search;
-mod storing;
+mod tree;
 mod walking;
 
-pub use creating::create;
 pub use directory::{entries, items_of};
-pub use editing::{remove_attribute, set_attribute};
 pub use entry::{Contents, Entry};
 pub use file_bytes::contents_of;
+pub use finding::{Finding, ListItem, Node};
 pub use formatting::format;
 pub use items::{Item, Structure};
+pub use path::Path;
 pub use paths::{
     Found, Parent, Shown, find_directory, look_up, look_up_shown, moved_slot, number_of,
 };
-pub use removing::remove_file;
+pub use profile::is_writable;
+pub use refusal::{Refusal, refuse_if, refused};
 pub use search::{Sought, Spot, find_name, find_shown};
-pub use storing::set_struct;
+pub use tree::Tree;
 pub use walking::{TreeItem, walk};

@@ -3,3 +3,5 @@
 
 #[cfg(test)]
 mod formatting;
+#[cfg(test)]
+mod paths;

@@ -16,7 +16,9 @@ from_parts-requires-clause-kept g c =
 is_formatted : (g : _) (c : goal.After-from_parts g) → IsFormatted c.from_parts.result.kept
 is_formatted g c =
     subst IsFormatted (sym c.from_parts.ensures.kept)
-    (empty_formatted _ _ _ _ c.geometry-block_count.result.block_count c.in-Ok-write_thread.ensures.root c.in-Ok.ensures.map)
+    (empty_formatted _ _ _ _ c.geometry-block_count.result.block_count
+    ((g.met.D.BlockDevice.shape c.write_thread.new.device).count ∙ ap (λ k. k.block_count) (c.in-Ok-write_thread.ensures.device.geometry ∙ sym c.geometry-block_count.ensures))
+    c.in-Ok-write_thread.ensures.root c.in-Ok.ensures.map)
 
 pub returns-in-Ok-write_thread-clause-formatted : goal.returns-in-Ok-write_thread-clause-formatted
 returns-in-Ok-write_thread-clause-formatted g c = is_formatted g c

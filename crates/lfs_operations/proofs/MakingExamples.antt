@@ -1,0 +1,26 @@
+-- A directory of two pairs in front of another one, and a map of six blocks of which four are free.
+use Rattle.std.proofs.Common.{true, false, [], ◌∷◌, Some, refl, arith}
+use Rattle.lfs_model.specs.BlockSets.BlockState.{Free, InFlight, Used}
+use Rattle.lfs_model.specs.Slots.{no_gstate}
+use Rattle.lfs_model.specs.Thread.{Pair}
+use Rattle.lfs_operations.specs.Making.{HasRoomFor, IsLastFrom}
+
+abbrev goes_on : Pair
+goes_on = record { at = (0, 1); content = record { slots = []; tail = Some (record { hard = true; to = (2, 3) }); move = no_gstate } }
+
+abbrev ends : Pair
+ends = record { at = (2, 3); content = record { slots = []; tail = Some (record { hard = false; to = (4, 5) }); move = no_gstate } }
+
+abbrev behind : Pair
+behind = record { at = (4, 5); content = record { slots = []; tail = Some (record { hard = false; to = (6, 7) }); move = no_gstate } }
+
+-- the first directory's last pair is that of number 1
+last_of_first : IsLastFrom (goes_on ∷ ends ∷ behind ∷ []) 0 1
+last_of_first = record { below = omega arith; is = refl }
+
+-- and the second one's only pair is its last
+last_of_second : IsLastFrom (goes_on ∷ ends ∷ behind ∷ []) 2 2
+last_of_second = record { below = omega arith; is = refl }
+
+room : HasRoomFor 4 (Used ∷ Free ∷ Free ∷ InFlight ∷ Free ∷ Free ∷ [])
+room = omega arith

@@ -1,0 +1,281 @@
+-- A fresh pair is threaded behind the last one of a directory, and the sync bit set: what that comes to, and what a stop in it leaves.
+use Rattle.std.proofs.Common.{ℕ, ◌≡◌, ◌≢◌, ◌+◌, ◌<◌, ◌⊎◌, inl, inr, Bool, true, false, nat_eq, List, [], ◌∷◌, ◌++◌, length, Some, refl, sym, ap, ap₂, subst, ◌∙◌, ◌≤◌, arith, append_assoc, append-nil, flat_map}
+use Rattle.std.specs.Prelude.{All}
+use Rattle.std.specs.List.{IsDistinct}
+use Rattle.std.proofs.lemmas.Option.{same_Some}
+use Rattle.std.proofs.lemmas.List.Elements.{All-from_recursion, recursion_from_All}
+use Rattle.lfs_model.specs.Blocks.{Blocks, SameButThese}
+use Rattle.lfs_model.specs.BlockSets.{AreUsed}
+use Rattle.lfs_model.specs.Content.{content_at, holder, holder_at}
+use Rattle.lfs_model.specs.Disk.{Disk, block_at, block_count}
+use Rattle.lfs_model.specs.PowerLoss.{IsLeft, with_blocks}
+use Rattle.lfs_model.specs.Slots.{Content, FitsPair, Gstate, no_gstate, gstate_xor, same_pair}
+use Rattle.lfs_model.specs.Thread.{Pair, blocks_of, gstate_of, is_hard}
+use Rattle.lfs_model.specs.Tree.{Path, Tree}
+use Rattle.lfs_model.specs.View.{BeginsWith, superblock_entry, HaveSlots, IsAccepted, IsWritable, Leads, all_slots, entries_in, file_blocks, tree_in, used_blocks}
+use Rattle.lfs_model.proofs.Became.{fits_same}
+use Rattle.lfs_model.proofs.Beside.{IsStepBeside, beside_shape, last_site, other_entries, own_entries, threaded}
+use Rattle.lfs_model.proofs.Committed.{no_move_from}
+use Rattle.lfs_model.proofs.Counts.{each_right, count, count_append, count_here, once_from_distinct}
+use Rattle.lfs_model.proofs.Devices.{content_same}
+use Rattle.lfs_model.proofs.Global.{HasNoMove, gstate_assoc, gstate_cons, gstate_left, gstate_moved, gstate_right, sync_share, turned, turned_is}
+use Rattle.lfs_model.proofs.Moves.{shown_before, shown_behind}
+use Rattle.lfs_model.proofs.Pairs.{pair_itself, put_at}
+use Rattle.lfs_model.proofs.Sites.{Site, begin_of, dirs_at, thread_at, IsSite}
+use Rattle.lfs_model.proofs.StepsTaken.{IsPutBeside, IsTaken, beside_taken, taken_before, within_at}
+use Rattle.lfs_model.proofs.Superblocks.{pairs_behind}
+use Rattle.lfs_model.proofs.Writable.{flag}
+use Rattle.lfs_pair.specs.Split.{OutsideBothKeeps}
+use Rattle.lfs_thread.specs.Device.{four_of, two_of}
+use Rattle.lfs_thread.specs.Kept.{Kept}
+use Rattle.lfs_thread.specs.Steps.{HasShape, IsAsBefore, IsJoined, IsJoinedOn, IsLeftByJoin, StaysFirst, Writes, joined_pair, made_in_thread, pair_in, settled}
+use Rattle.lfs_operations.specs.Changing.{AreTwoFree, flying}
+use Rattle.lfs_operations.specs.Making.{threading}
+use Rattle.lfs_operations.specs.Ready.{IsReady}
+use Rattle.lfs_operations.proofs.MakingCounts.{count_pairs, used_count_now}
+use Rattle.lfs_operations.proofs.MakingPlaces.{at_is, fresh_distinct, fresh_range, pair_is, placed_still, same_four, shape_same, two_now}
+use Rattle.lfs_operations.proofs.Owning.{length_now, used_more}
+use Rattle.lfs_operations.proofs.Placing.{IsPlaced, all_apart, device, nothing_came}
+use Rattle.lfs_operations.proofs.Putting.{with_map}
+
+-- the pair of that number is the last of a directory
+pub record IsEnd (t : Kept) (last : ℕ) (chain before left after : List Pair) (x : Pair) : Type 0 where
+  pub there : t.pairs ≡ thread_at (last_site chain before left after) (x ∷ [])
+  pub place : last ≡ length chain + length (before ++ left)
+  pub site : IsSite (last_site chain before left after) (x ∷ [])
+
+-- it names the fresh pair, which has its tail
+abbrev pub naming_pair : Pair → ℕ × ℕ → Pair
+naming_pair x fresh = record { at = x.at; content = record { slots = x.content.slots; tail = Some (record { hard = false; to = fresh }); move = turned x.content.move } }
+
+abbrev pub fresh_pair : Pair → ℕ × ℕ → Pair
+fresh_pair x fresh = record { at = fresh; content = record { slots = []; tail = x.content.tail; move = no_gstate } }
+
+abbrev pub IsThreading : Disk → Disk → List Pair → List Pair → List Pair → List Pair → Pair → ℕ × ℕ → Type 0
+IsThreading disk new chain before left after x fresh =
+    IsStepBeside disk new chain before left after x [] (naming_pair x fresh) [] (fresh_pair x fresh) (fresh.0 ∷ fresh.1 ∷ []) [] x.content.slots [] [] []
+
+abbrev pub IsThreaded : Disk → List Pair → List Pair → List Pair → List Pair → Pair → ℕ × ℕ → Type 0
+IsThreaded disk chain before left after x fresh = IsPutBeside disk (last_site chain before left after) x (naming_pair x fresh) [] (fresh_pair x fresh) x.content.slots [] [] []
+
+-- so do the thread and the map say
+pub record HasThreaded (t : Kept) (chain before left after : List Pair) (x : Pair) (fresh : ℕ × ℕ) (new : Kept) : Type 0 where
+  pub step : IsThreading t.disk new.disk chain before left after x fresh
+  pub pairs : new.pairs ≡ thread_at (last_site chain before left after) (naming_pair x fresh ∷ fresh_pair x fresh ∷ [])
+  pub used : AreUsed new.map (used_blocks new.disk new.pairs)
+  pub map : new.map ≡ settled (flying t.map fresh) fresh
+  pub size : length new.map ≡ block_count new.disk
+
+have_at : (b : Bool) (xs : List Pair) (x : Pair) (ys : List Pair) → HaveSlots b (xs ++ x ∷ ys) → flag b xs ≡ true → x.content.slots ≢ []
+have_at b [] x ys h f = h.0 f
+have_at b (z ∷ xs) x ys h f = have_at (is_hard z.content.tail) xs x ys h.1 f
+
+module _ (t : Kept) (ready : IsReady t) (last : ℕ) (chain before left after : List Pair) (x : Pair) (e : IsEnd t last chain before left after x) (fresh : ℕ × ℕ) (two : AreTwoFree t.map fresh)
+    (made : made_in_thread t last (threading t last fresh) ≡ Some (naming_pair x fresh).content) where
+  abbrev w : Site
+  w = last_site chain before left after
+
+  abbrev held : Kept
+  held = with_map t (flying t.map fresh)
+
+  abbrev y : Pair
+  y = naming_pair x fresh
+
+  abbrev f : Pair
+  f = fresh_pair x fresh
+
+  abbrev ps : List Pair
+  ps = thread_at w (x ∷ [])
+
+  behind_is : joined_pair t last fresh ≡ f
+  behind_is = ap (λ (z : Pair). fresh_pair z fresh) (pair_is t last w x e.there e.place)
+
+  accepted_there : IsAccepted t.disk (thread_at w (x ∷ []))
+  accepted_there = subst (IsAccepted t.disk) e.there ready.accepted
+
+  writable_there : IsWritable t.disk (thread_at w (x ∷ []))
+  writable_there = subst (IsWritable t.disk) e.there ready.writable
+
+  pub settled_there : gstate_of (thread_at (last_site chain before left after) (x ∷ [])) ≡ no_gstate
+  settled_there = ap gstate_of (sym e.there) ∙ ready.settled
+
+  held_there : content_at t.disk x.at ≡ Some x.content
+  held_there = (each_right (λ (z : Pair). content_at t.disk z.at ≡ Some z.content) (before ++ left) (x ∷ after)
+      (each_right (λ (z : Pair). content_at t.disk z.at ≡ Some z.content) chain ((before ++ left) ++ (x ∷ after))
+      (recursion_from_All (λ (z : Pair). content_at t.disk z.at ≡ Some z.content) (thread_at w (x ∷ [])) accepted_there.thread.contents))).0
+
+  distinct : IsDistinct nat_eq (fresh.0 ∷ fresh.1 ∷ used_blocks t.disk (thread_at w (x ∷ [])))
+  distinct = fresh_distinct t last w x e.there e.place ready.used ready.accepted.owned_once fresh two
+
+  -- ---- the global state
+
+  turned_share : gstate_of (y ∷ f ∷ []) ≡ gstate_xor sync_share (gstate_of (x ∷ []))
+  turned_share =
+      gstate_cons y (f ∷ []) ∙ ap (gstate_xor (turned x.content.move)) (gstate_cons f [] ∙ gstate_left (gstate_of []))
+      ∙ ap (λ (z : Gstate). gstate_xor z (gstate_of [])) (sym (turned_is x.content.move)) ∙ gstate_assoc sync_share x.content.move (gstate_of []) ∙ ap (gstate_xor sync_share) (sym (gstate_cons x []))
+
+  pub state_now : gstate_of (thread_at (last_site chain before left after) (naming_pair x fresh ∷ fresh_pair x fresh ∷ [])) ≡ sync_share
+  state_now =
+      ap gstate_of (sym (append_assoc chain (before ++ left) (y ∷ f ∷ after))) ∙ gstate_moved sync_share (chain ++ (before ++ left)) (x ∷ []) (y ∷ f ∷ []) after turned_share
+      ∙ ap (λ z. gstate_xor sync_share (gstate_of z)) (append_assoc chain (before ++ left) (x ∷ after)) ∙ ap (gstate_xor sync_share) settled_there ∙ gstate_right sync_share
+
+  -- ---- the step
+
+  pub put_there : IsThreaded t.disk chain before left after x fresh
+  put_there = record {
+    writable = writable_there;
+    was = sym (append-nil x.content.slots);
+    is = refl;
+    cut = fits_same t.disk x (record { at = x.at; content = record { slots = x.content.slots ++ []; tail = x.content.tail; move = x.content.move } }) (append-nil x.content.slots) (within_at t.disk w x [] writable_there).pair;
+    fit = tt;
+    filled = λ hard none. have_at false (before ++ left) x after
+        (subst (HaveSlots false) (pairs_behind chain (dirs_at w (x ∷ [])) e.site.chain) writable_there.no_empty_pair) hard (sym (append-nil x.content.slots) ∙ none);
+    run = refl;
+    empty = refl;
+    tail = refl;
+  }
+
+  step_from : (disk : Disk) → IsPlaced t.disk disk x y (f ∷ []) (fresh.0 ∷ fresh.1 ∷ []) → IsThreading t.disk disk chain before left after x fresh
+  step_from disk placed = record {
+    accepted = accepted_there;
+    site = e.site;
+    no_move = no_move_from (thread_at w (x ∷ [])) settled_there;
+    still_none = subst HasNoMove (sym state_now) (record { kind = refl; id = refl; pair = refl });
+    device = device t.disk disk w x y (f ∷ []) (fresh.0 ∷ fresh.1 ∷ []) accepted_there distinct placed;
+    free = record {
+      distinct = distinct;
+      in_range = All-from_recursion (λ b. b < block_count t.disk) (fresh.0 ∷ fresh.1 ∷ []) (fresh_range t last w x e.there e.place ready.size fresh two);
+    };
+    shape = beside_shape x y f refl refl refl refl (λ h. h);
+    was = refl;
+    is = refl;
+    splice = record { front = λ k. refl; entries = tt; lists = tt; blocks = λ b. omega arith };
+  }
+
+  placed_from : (disk : Disk) → HasShape t.disk disk → OutsideBothKeeps (pair_in t last).at fresh t.disk.blocks disk.blocks → content_at disk x.at ≡ Some y.content → content_at disk fresh ≡ Some f.content
+      → StaysFirst t.disk (pair_in t last).at y.content disk → IsPlaced t.disk disk x y (f ∷ []) (fresh.0 ∷ fresh.1 ∷ [])
+  placed_from disk shape others here behind first = record {
+    geometry = shape_same t last w x e.there e.place shape;
+    same = same_four t last w x e.there e.place disk fresh others;
+    contents = (here, (behind, tt));
+    first = λ h b. subst (λ at. BeginsWith (holder_at disk at) superblock_entry) (at_is t last w x e.there e.place)
+        (first (subst (λ at. BeginsWith (holder_at t.disk at) superblock_entry) (sym (at_is t last w x e.there e.place)) b) (h.kind, h.name));
+  }
+
+  made_same : (c : Content) → made_in_thread t last (threading t last fresh) ≡ Some c → c ≡ y.content
+  made_same c m = same_Some c y.content (sym m ∙ made)
+
+  -- what is made takes no more than what the pair held
+  pub fits_now : (c : Content) → made_in_thread t last (threading t last fresh) ≡ Some c → FitsPair t.disk.block_size t.disk.page c
+  fits_now c m = subst (FitsPair t.disk.block_size t.disk.page) (sym (made_same c m)) (fits_same t.disk x y refl (within_at t.disk w x [] writable_there).pair)
+
+  -- only the blocks of the fresh pair may differ: the image shows the tree that it showed
+  pub left_beside : (blocks : Blocks) (tree : Tree) → SameButThese (two_of fresh) t.disk.blocks blocks → IsLeft (with_blocks blocks t.disk) (tree_in t.disk t.pairs) tree
+  left_beside blocks tree others =
+      let n = nothing_came t.disk (with_blocks blocks t.disk) w x e.site accepted_there (device t.disk (with_blocks blocks t.disk) w x x [] (fresh.0 ∷ fresh.1 ∷ []) accepted_there distinct placed) in
+      record {
+        pairs = thread_at w (x ∷ []);
+        accepted = n.accepted;
+        writable = record { pairs = writable_there.pairs; slots = writable_there.slots; no_empty_pair = writable_there.no_empty_pair };
+        tree = inl (n.shows ∙ ap (tree_in t.disk) (sym e.there));
+      }
+    where
+      -- a block that is used is the same
+      same_used : (b : ℕ) → 1 ≤ count b (blocks_of (x ∷ [])) → block_at (with_blocks blocks t.disk) b ≡ block_at t.disk b
+      same_used b some = others.others b (all_apart (fresh.0 ∷ fresh.1 ∷ []) b (
+          let n = once_from_distinct (fresh.0 ∷ fresh.1 ∷ used_blocks t.disk (thread_at w (x ∷ []))) distinct b in
+          let k = count_append b (blocks_of (thread_at w (x ∷ []))) (flat_map (λ s. file_blocks t.disk s.struct) (all_slots (thread_at w (x ∷ [])))) in
+          let i = count_pairs b w (x ∷ []) in
+          omega arith))
+
+      first_same : block_at (with_blocks blocks t.disk) x.at.0 ≡ block_at t.disk x.at.0
+      first_same = same_used x.at.0 (let h = count_here x.at.0 (x.at.1 ∷ []) in omega arith)
+
+      second_same : block_at (with_blocks blocks t.disk) x.at.1 ≡ block_at t.disk x.at.1
+      second_same = same_used x.at.1 (let h = count_here x.at.1 [] in omega arith)
+
+      placed : IsPlaced t.disk (with_blocks blocks t.disk) x x [] (fresh.0 ∷ fresh.1 ∷ [])
+      placed = record {
+        geometry = record { block_size = refl; page = refl; count = others.count };
+        same = λ b none. others.others b (all_apart (fresh.0 ∷ fresh.1 ∷ []) b (omega arith));
+        contents = (content_same t.disk (with_blocks blocks t.disk) x.at first_same second_same ∙ held_there, tt);
+        first = λ h b. subst (λ o. BeginsWith o superblock_entry) (sym (ap₂ holder first_same second_same)) b;
+      }
+
+  -- ---- it was done
+
+  pub has_threaded : (new : Kept) → IsJoined (with_map t (flying t.map fresh)) last fresh (threading t last fresh) new → Writes (four_of (pair_in t last).at fresh) (with_map t (flying t.map fresh)) new
+      → HasThreaded t chain before left after x fresh new
+  has_threaded new is writes =
+      let same = made_same is.content is.made in
+      let pairs : new.pairs ≡ thread_at w (y ∷ f ∷ [])
+      = is.pairs ∙ two_now t last w x e.there e.place (record { at = (pair_in t last).at; content = is.content }) (joined_pair t last fresh)
+      ∙ ap (λ (g : Pair). thread_at w (record { at = (pair_in t last).at; content = is.content } ∷ g ∷ [])) behind_is
+      ∙ ap (λ (c : Content). thread_at w (record { at = (pair_in t last).at; content = c } ∷ f ∷ [])) same
+      ∙ ap (λ (at : ℕ × ℕ). thread_at w (record { at = at; content = y.content } ∷ f ∷ [])) (at_is t last w x e.there e.place) in
+      let contents = recursion_from_All (λ (z : Pair). content_at new.disk z.at ≡ Some z.content) (thread_at w (y ∷ f ∷ []))
+      (subst (All (λ (z : Pair). content_at new.disk z.at ≡ Some z.content)) pairs is.thread.contents) in
+      let here = each_right (λ (z : Pair). content_at new.disk z.at ≡ Some z.content) (before ++ left) (y ∷ f ∷ after)
+      (each_right (λ (z : Pair). content_at new.disk z.at ≡ Some z.content) chain ((before ++ left) ++ (y ∷ f ∷ after)) contents) in
+      let shape : HasShape t.disk new.disk = record { block_size = writes.shape.block_size; page = writes.shape.page; count = writes.shape.count } in
+      let step = step_from new.disk (placed_from new.disk shape writes.others here.0 here.1.0 (subst (λ (c : Content). StaysFirst t.disk (pair_in t last).at c new.disk) same is.first)) in
+      record {
+        step = step;
+        pairs = pairs;
+        used = subst (λ z. AreUsed new.map (used_blocks new.disk z)) (sym pairs)
+            (subst (λ m. AreUsed m (used_blocks new.disk (thread_at w (y ∷ f ∷ [])))) (sym is.map)
+            (used_more t.map fresh two (used_blocks t.disk (thread_at w (x ∷ []))) (used_blocks new.disk (thread_at w (y ∷ f ∷ [])))
+            (λ b. used_count_now t.disk new.disk w x y (f ∷ []) x.content.slots [] [] step.no_move step.still_none step.device refl (sym (append-nil x.content.slots)) refl (λ b. refl) b)
+            (subst (λ z. AreUsed t.map (used_blocks t.disk z)) e.there ready.used)));
+        map = is.map;
+        size = ap length is.map ∙ length_now t.map fresh two ∙ ready.size ∙ sym shape.count;
+      }
+
+  -- ---- what it shows
+
+  module _ (P : Path) (a : ℕ × ℕ) (leads : Leads (thread_at (last_site chain before left after) (x ∷ [])) P a) (same : same_pair (begin_of (last_site chain before left after) (x ∷ [])) a ≡ true) where
+    pub sync_now : (gstate_of (thread_at (last_site chain before left after) (naming_pair x fresh ∷ ([] ++ fresh_pair x fresh ∷ [])))).sync ≡ true
+    sync_now = ap (λ (z : Gstate). z.sync) state_now
+
+    pub first_taken : (disk : Disk) → IsThreading t.disk disk chain before left after x fresh
+        → IsTaken t.disk (thread_at (last_site chain before left after) (x ∷ [])) disk (thread_at (last_site chain before left after) (naming_pair x fresh ∷ ([] ++ fresh_pair x fresh ∷ []))) (λ z. z) (λ d. d)
+    first_taken disk step = beside_taken t.disk disk chain before left after x y [] f x.content.slots [] [] [] put_there (fresh.0 ∷ fresh.1 ∷ []) [] (λ z. z) (λ d. d) step P a leads same
+        (threaded t.disk disk chain before left after x [] y [] f (fresh.0 ∷ fresh.1 ∷ []) x.content.slots [] step P a leads same sync_now)
+
+    -- the directory has the entries that it had
+    pub entries_still : (disk : Disk) → IsThreading t.disk disk chain before left after x fresh
+        → entries_in (thread_at (last_site chain before left after) (naming_pair x fresh ∷ ([] ++ fresh_pair x fresh ∷ []))) a ≡ entries_in (thread_at (last_site chain before left after) (x ∷ [])) a
+    entries_still disk step =
+        other_entries t.disk disk chain before left after x [] y [] f (fresh.0 ∷ fresh.1 ∷ []) [] x.content.slots [] [] [] step P a leads same a
+        ∙ put_at (entries_in (thread_at w (x ∷ []))) a (shown_before w x.content.slots ++ ([] ++ shown_behind w [])) a (pair_itself a)
+        ∙ sym (own_entries t.disk disk chain before left after x [] y [] f (fresh.0 ∷ fresh.1 ∷ []) [] x.content.slots [] [] [] step P a leads same)
+
+    -- a stop leaves the tree from before it
+    pub left_threading : (left_blocks : Blocks) (tree : Tree) → IsLeftByJoin (with_map t (flying t.map fresh)) last fresh (threading t last fresh) left_blocks
+        → IsLeft (with_blocks left_blocks t.disk) (tree_in t.disk t.pairs) tree
+    left_threading blocks tree is = go is.content
+      where
+        disk : Disk
+        disk = with_blocks blocks t.disk
+
+        shape : HasShape t.disk (with_blocks blocks t.disk)
+        shape = record { block_size = refl; page = refl; count = is.others.count }
+
+        go : IsAsBefore held last (with_blocks blocks t.disk) ⊎ IsJoinedOn held last fresh (threading t last fresh) (with_blocks blocks t.disk) → IsLeft (with_blocks blocks t.disk) (tree_in t.disk t.pairs) tree
+        go (inl b) =
+            let on = device t.disk (with_blocks blocks t.disk) w x x [] (fresh.0 ∷ fresh.1 ∷ []) accepted_there distinct
+            (placed_still t last w x e.there e.place (with_blocks blocks t.disk) fresh shape is.others (record { holds = b.holds; first = b.first })) in
+            let n = nothing_came t.disk (with_blocks blocks t.disk) w x e.site accepted_there on in
+            record {
+              pairs = thread_at w (x ∷ []);
+              accepted = n.accepted;
+              writable = record { pairs = writable_there.pairs; slots = writable_there.slots; no_empty_pair = writable_there.no_empty_pair };
+              tree = inl (n.shows ∙ ap (tree_in t.disk) (sym e.there));
+            }
+        go (inr j) =
+            let at = at_is t last w x e.there e.place in
+            let c = made_same j.content j.made in
+            let step = step_from (with_blocks blocks t.disk) (placed_from (with_blocks blocks t.disk) shape is.others (ap (content_at (with_blocks blocks t.disk)) (sym at) ∙ j.holds ∙ ap (λ (z : Content). Some z) c)
+            (j.behind ∙ ap (λ (z : Pair). Some z.content) behind_is) (subst (λ (z : Content). StaysFirst t.disk (pair_in t last).at z (with_blocks blocks t.disk)) c j.first)) in
+            subst (λ z. IsLeft (with_blocks blocks t.disk) (tree_in t.disk z) tree) (sym e.there)
+            (taken_before t.disk (thread_at w (x ∷ [])) (with_blocks blocks t.disk) (thread_at w (y ∷ ([] ++ f ∷ []))) (λ d. d) tree (first_taken (with_blocks blocks t.disk) step))

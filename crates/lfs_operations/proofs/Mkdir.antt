@@ -1,0 +1,350 @@
+-- A directory that comes, as two steps of the thread.
+use Rattle.std.proofs.Common.{ℕ, ◌≡◌, ◌+◌, ◌<◌, ◌≤◌, ◌^◌, ◌&&◌, ◌⊎◌, inl, inr, Bool, true, false, List, [], ◌∷◌, ◌++◌, length, Some, refl, sym, ap, ap₂, subst, ◌∙◌, arith, append_assoc, length-append, insert, slice_get}
+use Rattle.std.specs.Prelude.{All, nat_le}
+use Rattle.std.proofs.lemmas.Bool.{leb-true}
+use Rattle.std.proofs.lemmas.List.Elements.{recursion_from_All}
+use Rattle.lfs_device.specs.Bytes.{HasBytes}
+use Rattle.lfs_model.specs.Apply.{added}
+use Rattle.lfs_model.specs.Blocks.{Blocks, SameButThese}
+use Rattle.lfs_model.specs.BlockSets.{IsFree, IsInFlight}
+use Rattle.lfs_model.specs.BlockSets.BlockState.{Free}
+use Rattle.lfs_model.specs.Content.{content_at}
+use Rattle.lfs_model.specs.Disk.{Disk, block_count, entry_limit}
+use Rattle.lfs_model.specs.InDirectory.{Belongs}
+use Rattle.lfs_model.specs.Logged.{IsAddress}
+use Rattle.lfs_model.specs.Names.{Name, is_name, is_component}
+use Rattle.lfs_model.specs.Operations as ops
+use Rattle.lfs_model.specs.PowerLoss.{IsLeft as IsLeftOf, with_blocks}
+use Rattle.lfs_model.specs.Slots.{Content, FitsPair, Gstate, Slot, charge_of, no_gstate, gstate_xor, same_pair}
+use Rattle.lfs_model.specs.SlotEdits.{new_directory}
+use Rattle.lfs_model.specs.Thread.{Pair, blocks_of, gstate_of}
+use Rattle.lfs_model.specs.Tree.{DirectoryNode}
+use Rattle.lfs_model.specs.View.{FitsEntry, IsAccepted, IsWritable, Leads, entries_in, tree_in}
+use Rattle.lfs_model.proofs.Beside.{change, last_site}
+use Rattle.lfs_model.proofs.Changes.{chain_now}
+use Rattle.lfs_model.proofs.Chained.{InTwo, mkdir_in_two}
+use Rattle.lfs_model.proofs.Committed.{IsCompleted, no_move_from, recovered_from}
+use Rattle.lfs_model.proofs.Counts.{each_right}
+use Rattle.lfs_model.proofs.Global.{HasNoMove, gstate_assoc, gstate_cons, gstate_moved, gstate_self, sync_share, turned, turned_is}
+use Rattle.lfs_model.proofs.Halves.{entry_small}
+use Rattle.lfs_model.proofs.Moves.{place_at, insert_here}
+use Rattle.lfs_model.proofs.Names.{IsPlace}
+use Rattle.lfs_model.proofs.Profiles.{step_writable}
+use Rattle.lfs_model.proofs.Searches.{site, thread_is, is_site, same, number_is, place_of_belongs}
+use Rattle.lfs_model.proofs.Sites.{Site, begin_of, dirs_at, thread_at, IsSite}
+use Rattle.lfs_model.proofs.StepsTaken as taken
+use Rattle.lfs_model.proofs.Superblocks.{IsChain}
+use Rattle.lfs_thread.specs.Device.{four_of, two_of}
+use Rattle.lfs_thread.specs.Kept.{Kept}
+use Rattle.lfs_thread.specs.Steps.{CanJoin, IsJoined, IsLeftByJoin, Writes, pair_in, made_in_thread}
+use Rattle.lfs_operations.specs.Changing.{AreTwoFree, CanPut, HasTwoFree, IsLeftByPut, IsPut, flying}
+use Rattle.lfs_operations.specs.Making.{CanMake, FitsJoined, HasRoomFor, IsLastFrom, IsMade, naming, threading, with_directory}
+use Rattle.lfs_operations.proofs.MakingCounts.{freed, less_room, no_room}
+use Rattle.lfs_operations.proofs.MakingContents.{can_name, logged_there, named_made, threaded_made}
+use Rattle.lfs_operations.proofs.MakingEntered.{Enters, HasEntered, HasEntry, IsEntering, Stays, entered, left_entered}
+use Rattle.lfs_operations.proofs.MakingPlaces.{below, pair_is}
+use Rattle.lfs_operations.proofs.MakingRoutes.{IsRoute, route, site_behind}
+use Rattle.lfs_operations.proofs.MakingThreaded.{HasThreaded, entries_still, first_taken, fits_now, fresh_pair, has_threaded, left_beside, left_threading, naming_pair, put_there, settled_there, state_now, sync_now}
+use Rattle.lfs_operations.proofs.Owning.{none_comes_now, stay_taken}
+use Rattle.lfs_operations.proofs.Placing.{nothing_came}
+use Rattle.lfs_operations.proofs.Putting.{held, with_map}
+use Rattle.lfs_operations.proofs.Taking.{within}
+
+name_length : (name : Name) → is_name name ≡ true → length name ≤ 255
+name_length name h = leb-true (length name) 255 (and_second (is_component name) (nat_le (length name) 255) h)
+  where
+    and_second : (a b : Bool) → (a && b) ≡ true → b ≡ true
+    and_second true b e = e
+    and_second false b e = absurd (cc)
+
+-- what the pair at a site holds
+holds_at : (t : Kept) (index : ℕ) (w : Site) (p : Pair) → t.pairs ≡ thread_at w (p ∷ []) → index ≡ length w.chain + length (w.before ++ w.left) → IsAccepted t.disk t.pairs
+    → content_at t.disk (pair_in t index).at ≡ Some p.content
+holds_at t index w p there place ok =
+    ap (λ (z : Pair). content_at t.disk z.at) (pair_is t index w p there place)
+    ∙ (each_right (λ (x : Pair). content_at t.disk x.at ≡ Some x.content) (w.before ++ w.left) (p ∷ (w.right ++ w.after))
+    (each_right (λ (x : Pair). content_at t.disk x.at ≡ Some x.content) w.chain (dirs_at w (p ∷ []))
+    (recursion_from_All (λ (x : Pair). content_at t.disk x.at ≡ Some x.content) (thread_at w (p ∷ [])) (subst (λ z. All (λ (x : Pair). content_at t.disk x.at ≡ Some x.content) z) there ok.thread.contents)))).0
+
+module _ (t : Kept) (index id : ℕ) (name : Name) (can : CanMake t index id name) (last : ℕ) (is_last : IsLastFrom t.pairs index last) (fresh : ℕ × ℕ) (two : AreTwoFree t.map fresh)
+    (bytes : HasBytes t.disk.blocks) (many : block_count t.disk < 2 ^ 32) where
+  abbrev b : Belongs t.pairs can.first name index id
+  b = can.belongs
+
+  abbrev p : Pair
+  p = b.pair
+
+  abbrev u : Slot
+  u = new_directory name fresh
+
+  abbrev w : Site
+  w = site t.disk t.pairs can.path can.at can.ready.accepted can.leads can.first index p (b.later ++ b.rest) b.place can.begins
+
+  there : t.pairs ≡ thread_at w (p ∷ [])
+  there = thread_is t.disk t.pairs can.path can.at can.ready.accepted can.leads can.first index p (b.later ++ b.rest) b.place can.begins
+
+  placed : index ≡ length w.chain + length (w.before ++ w.left)
+  placed = number_is t.disk t.pairs can.path can.at can.ready.accepted can.leads can.first index p (b.later ++ b.rest) b.place can.begins
+
+  site_there : IsSite w (p ∷ [])
+  site_there = is_site t.disk t.pairs can.path can.at can.ready.accepted can.leads can.first index p (b.later ++ b.rest) b.place can.begins
+
+  pub way : IsRoute t last w p fresh b.left b.right can.path name
+  way = route t index last w p there placed site_there is_last fresh b.left b.right can.path name
+
+  abbrev x : Pair
+  x = way.x
+
+  abbrev y : Pair
+  y = naming_pair x fresh
+
+  abbrev f : Pair
+  f = fresh_pair x fresh
+
+  -- where the last pair stands
+  abbrev here : Site
+  here = last_site w.chain w.before way.left w.after
+
+  leads_here : Leads (thread_at here (x ∷ [])) can.path can.at
+  leads_here = subst (λ z. Leads z can.path can.at) way.end.there can.leads
+
+  same_first : same_pair (begin_of w (p ∷ [])) can.at ≡ true
+  same_first = same t.disk t.pairs can.path can.at can.ready.accepted can.leads can.first index p (b.later ++ b.rest) b.place can.begins
+
+  same_here : same_pair (begin_of here (x ∷ [])) can.at ≡ true
+  same_here = ap (λ z. same_pair z can.at) way.began ∙ same_first
+
+  -- ---- the fresh pair is threaded
+
+  address : IsAddress fresh
+  address = let s = can.ready.size in let g = within t.map fresh.0 Free two.first in let h = within t.map fresh.1 Free two.second in (omega arith, omega arith)
+
+  made : made_in_thread t last (threading t last fresh) ≡ Some y.content
+  made = threaded_made t last x (pair_is t last here x way.end.there way.end.place) (holds_at t last here x way.end.there way.end.place can.ready.accepted)
+      (logged_there t.disk (pair_in t last).at bytes) fresh address two.apart
+
+  pub can_thread : CanJoin (with_map t (flying t.map fresh)) last fresh (threading (with_map t (flying t.map fresh)) last fresh)
+  can_thread = record { below = below t last here x way.end.there way.end.place; content = y.content; made = made; next = refl; held = held t.map fresh two }
+
+  pub thread_fits : FitsJoined (with_map t (flying t.map fresh)) last fresh
+  thread_fits c m = fits_now t can.ready last w.chain w.before way.left w.after x way.end fresh two made c m
+
+  pub left_by_threading : (left : Blocks) → IsLeftByJoin (with_map t (flying t.map fresh)) last fresh (threading (with_map t (flying t.map fresh)) last fresh) left
+      → IsLeftOf (with_blocks left t.disk) (tree_in t.disk t.pairs) (with_directory t can.path name)
+  left_by_threading left is = left_threading t can.ready last w.chain w.before way.left w.after x way.end fresh two made can.path can.at leads_here same_here left (with_directory t can.path name) is
+
+  -- where there was no memory for the step
+  pub left_unthreaded : (new : Kept) → Writes (four_of (pair_in t last).at fresh) (with_map t (flying t.map fresh)) new → SameButThese (two_of fresh) t.disk.blocks new.disk.blocks
+      → IsLeftOf new.disk (tree_in t.disk t.pairs) (with_directory t can.path name)
+  left_unthreaded new writes others = subst (λ (d : Disk). IsLeftOf d (tree_in t.disk t.pairs) (with_directory t can.path name)) same_disk
+      (left_beside t can.ready last w.chain w.before way.left w.after x way.end fresh two made new.disk.blocks (with_directory t can.path name) others)
+    where
+      same_disk : with_blocks new.disk.blocks t.disk ≡ new.disk
+      same_disk = λ j. record { block_size = sym writes.shape.block_size j; page = sym writes.shape.page j; blocks = new.disk.blocks }
+
+  -- ---- the entry comes
+
+  abbrev pub IsThreadedNow : Kept → Type 0
+  IsThreadedNow m = HasThreaded t w.chain w.before way.left w.after x fresh m
+
+  pub threaded_now : (m : Kept) → IsJoined (with_map t (flying t.map fresh)) last fresh (threading t last fresh) m → Writes (four_of (pair_in t last).at fresh) (with_map t (flying t.map fresh)) m → IsThreadedNow m
+  threaded_now m is writes = has_threaded t can.ready last w.chain w.before way.left w.after x way.end fresh two made m is writes
+
+  pub room_left : (m : Kept) → IsThreadedNow m → (HasTwoFree m.map → ⊥) → ⊥
+  room_left m h none = no_room m.map none (subst (HasRoomFor 2) (sym h.map) (less_room 2 t.map fresh two can.room))
+
+  module _ (m : Kept) (h : IsThreadedNow m) (bytes_now : HasBytes m.disk.blocks) where
+    abbrev v : Site
+    v = site_behind w way.right f
+
+    first : taken.IsTaken t.disk (thread_at here (x ∷ [])) m.disk (thread_at here (y ∷ ([] ++ f ∷ []))) (λ z. z) (λ d. d)
+    first = first_taken t can.ready last w.chain w.before way.left w.after x way.end fresh two made can.path can.at leads_here same_here m.disk h.step
+
+    -- between the steps the tree is the one from before
+    pub left_between : IsLeftOf m.disk (tree_in t.disk t.pairs) (with_directory t can.path name)
+    left_between = subst (λ z. IsLeftOf m.disk (tree_in t.disk z) (with_directory t can.path name)) (sym way.end.there)
+        (taken.taken_before t.disk (thread_at here (x ∷ [])) m.disk (thread_at here (y ∷ ([] ++ f ∷ []))) (λ d. d) (with_directory t can.path name) first)
+
+    same_thread : thread_at here (y ∷ ([] ++ f ∷ [])) ≡ thread_at v (way.p2 ∷ [])
+    same_thread = ap (λ z. w.chain ++ z) way.dirs
+
+    there_now : m.pairs ≡ thread_at v (way.p2 ∷ [])
+    there_now = h.pairs ∙ same_thread
+
+    site_now : IsSite v (way.p2 ∷ [])
+    site_now = record {
+      chain = subst (IsChain w.chain) way.dirs
+          (chain_now t.disk m.disk w.chain (w.before ++ way.left) x [] y (f ∷ []) w.after ((fresh.0 ∷ fresh.1 ∷ []) ++ []) way.end.site.chain h.step.accepted
+          (change t.disk m.disk w.chain w.before way.left w.after x [] y [] f (fresh.0 ∷ fresh.1 ∷ []) [] x.content.slots [] [] [] h.step can.path can.at leads_here same_here));
+      ends = site_there.ends;
+      run = way.run;
+    }
+
+    accepted_now : IsAccepted m.disk m.pairs
+    accepted_now = subst (IsAccepted m.disk) (sym h.pairs) first.follows.accepted
+
+    writable_now : IsWritable m.disk m.pairs
+    writable_now = subst (IsWritable m.disk) (sym h.pairs) first.writable
+
+    state_is : gstate_of m.pairs ≡ sync_share
+    state_is = ap gstate_of h.pairs ∙ state_now t can.ready last w.chain w.before way.left w.after x way.end fresh two made
+
+    fits_there : FitsPair m.disk.block_size m.disk.page way.p2.content
+    fits_there = (taken.within_at m.disk v way.p2 [] (subst (IsWritable m.disk) there_now writable_now)).pair
+
+    was : way.p2.content.slots ≡ b.left ++ b.right
+    was = way.slots ∙ b.held
+
+    id_within : id ≤ length way.p2.content.slots
+    id_within = let e = ap length was in let l = length-append b.left b.right in let n = b.number in omega arith
+
+    pair_now : pair_in m index ≡ way.p2
+    pair_now = pair_is m index v way.p2 there_now placed
+
+    entry_fits : FitsEntry m.disk.block_size m.disk.page u
+    entry_fits = record {
+      charge = subst (λ (z : ℕ). charge_of z name [] ≤ entry_limit z m.disk.page) (sym h.step.device.geometry.block_size)
+          (subst (λ (z : ℕ). charge_of t.disk.block_size name [] ≤ entry_limit t.disk.block_size z) (sym h.step.device.geometry.page) can.fits);
+      inline = tt;
+    }
+
+    large_now : 1024 ≤ m.disk.block_size
+    large_now = subst (λ n. 1024 ≤ n) (sym h.step.device.geometry.block_size) can.ready.large
+
+    abbrev now : Content
+    now = record { slots = insert way.p2.content.slots id u; tail = way.p2.content.tail; move = turned way.p2.content.move }
+
+    abbrev one : Pair
+    one = record { at = way.p2.at; content = now }
+
+    made_now : made_in_thread m index (naming m index id name fresh) ≡ Some now
+    made_now = named_made m index way.p2 pair_now (holds_at m index v way.p2 there_now placed accepted_now) (logged_there m.disk (pair_in m index).at bytes_now)
+        id name fresh (name_length name can.is_name) address id_within fits_there
+
+    pub can_enter : CanPut m index (naming m index id name fresh)
+    can_enter = can_name m index way.p2 pair_now (holds_at m index v way.p2 there_now placed accepted_now) (logged_there m.disk (pair_in m index).at bytes_now)
+        id name fresh (name_length name can.is_name) address id_within fits_there (below m index v way.p2 there_now placed) (entry_small m.disk.block_size m.disk.page u large_now entry_fits)
+
+    -- the sync bit goes
+    turned_back : gstate_of (one ∷ []) ≡ gstate_xor sync_share (gstate_of (way.p2 ∷ []))
+    turned_back =
+        gstate_cons one [] ∙ ap (λ (z : Gstate). gstate_xor z (gstate_of [])) (sym (turned_is way.p2.content.move)) ∙ gstate_assoc sync_share way.p2.content.move (gstate_of [])
+        ∙ ap (gstate_xor sync_share) (sym (gstate_cons way.p2 []))
+
+    still : gstate_of (thread_at v (one ∷ [])) ≡ no_gstate
+    still =
+        ap gstate_of (sym (append_assoc v.chain (v.before ++ v.left) (one ∷ (v.right ++ v.after))))
+        ∙ gstate_moved sync_share (v.chain ++ (v.before ++ v.left)) (way.p2 ∷ []) (one ∷ []) (v.right ++ v.after) turned_back
+        ∙ ap (λ z. gstate_xor sync_share (gstate_of z)) (append_assoc v.chain (v.before ++ v.left) (way.p2 ∷ (v.right ++ v.after)))
+        ∙ ap (gstate_xor sync_share) (ap gstate_of (sym there_now) ∙ state_is) ∙ gstate_self sync_share
+
+    entering : IsEntering m index (naming m index id name fresh) v way.p2 b.left name fresh b.right
+    entering = record {
+      accepted = accepted_now;
+      writable = writable_now;
+      used = h.used;
+      size = h.size;
+      there = there_now;
+      place = placed;
+      site = site_now;
+      content = now;
+      made = made_now;
+      tail = refl;
+      none = subst HasNoMove (sym state_is) (record { kind = refl; id = refl; pair = refl });
+      still = still;
+      was = was;
+      now = ap₂ (λ (z : List Slot) (i : ℕ). insert z i u) was (sym b.number) ∙ insert_here b.left b.right u;
+      front = λ e. b.fronted;
+      entry = record { name = can.is_name; struct = tt };
+      fit = ((λ e. absurd (cc)), (λ e. entry_fits));
+    }
+
+    -- the pair stands where it stood
+    pub at_still : (pair_in m index).at ≡ (pair_in t index).at
+    at_still = ap (λ (z : Pair). z.at) pair_now ∙ way.at ∙ ap (λ (z : Pair). z.at) (sym (pair_is t index w p there placed))
+
+    -- ---- after it
+
+    place_there : IsPlace (entries_in (thread_at v (way.p2 ∷ [])) can.at) (place_at v b.left) name
+    place_there = subst (λ z. IsPlace z (place_at v b.left) name)
+        (ap (λ z. entries_in z can.at) way.end.there
+        ∙ sym (entries_still t can.ready last w.chain w.before way.left w.after x way.end fresh two made can.path can.at leads_here same_here m.disk h.step)
+        ∙ ap (λ z. entries_in z can.at) same_thread)
+        (place_of_belongs t.disk t.pairs can.path can.at can.ready.accepted can.leads can.first index id name (no_move_from t.pairs can.ready.settled) b can.begins)
+
+    sync : (gstate_of (thread_at here (y ∷ ([] ++ f ∷ [])))).sync ≡ true
+    sync = sync_now t can.ready last w.chain w.before way.left w.after x way.end fresh two made can.path can.at leads_here same_here
+
+    settled : gstate_of (thread_at here (x ∷ [])) ≡ no_gstate
+    settled = settled_there t can.ready last w.chain w.before way.left w.after x way.end fresh two made
+
+    both : (disk : Disk) (q : Pair) (more : List Pair) → Enters m v way.p2 b.left name fresh b.right disk q more
+        → InTwo t.disk (thread_at here (x ∷ [])) m.disk (thread_at v (way.p2 ∷ [])) disk (thread_at v (q ∷ more)) (λ z. z) (added (can.path ++ name ∷ []) (DirectoryNode [] []))
+    both disk q more e = mkdir_in_two t.disk m.disk disk w.chain w.before way.left w.after x [] y [] f (fresh.0 ∷ fresh.1 ∷ []) x.content.slots [] h.step can.path can.at leads_here same_here sync
+        v way.p2 q more (blocks_of more) b.left b.right u e.step same_thread can.path can.at
+        (subst (λ z. Leads z can.path can.at) same_thread (ap (λ d. d can.path) first.follows.leads ∙ leads_here))
+        (ap (λ z. same_pair z can.at) way.begins ∙ same_first) place_there refl
+        (recovered_from t.disk (thread_at here (x ∷ [])) h.step.accepted settled).reached
+
+    still_writable : (disk : Disk) (q : Pair) (more : List Pair) → Enters m v way.p2 b.left name fresh b.right disk q more → IsWritable disk (thread_at v (q ∷ more))
+    still_writable disk q more e = step_writable m.disk disk v way.p2 [] q more (blocks_of more) [] b.left [] (u ∷ []) b.right e.step e.put.writable
+        (taken.put_within m.disk v way.p2 q more b.left [] (u ∷ []) b.right e.put) (taken.put_filled m.disk v way.p2 q more b.left [] (u ∷ []) b.right e.put)
+
+    shows_now : (disk : Disk) (q : Pair) (more : List Pair) (e : Enters m v way.p2 b.left name fresh b.right disk q more) → tree_in disk (thread_at v (q ∷ more)) ≡ with_directory t can.path name
+    shows_now disk q more e = (both disk q more e).end.shows ∙ ap (λ z. added (can.path ++ name ∷ []) (DirectoryNode [] []) (tree_in t.disk z)) (sym way.end.there)
+
+    pub made_is : (new : Kept) → IsPut m index (naming m index id name fresh) new → IsMade t new can.path name
+    made_is new is = go (entered m index (naming m index id name fresh) v way.p2 b.left name fresh b.right entering new is)
+      where
+        go : HasEntered m v way.p2 b.left name fresh b.right new → IsMade t new can.path name
+        go e = record {
+          now = record {
+            ready = record {
+              accepted = subst (IsAccepted new.disk) (sym e.pairs) (both new.disk e.q e.more e.enters).end.accepted;
+              writable = subst (IsWritable new.disk) (sym e.pairs) (still_writable new.disk e.q e.more e.enters);
+              settled = ap gstate_of e.pairs ∙ e.enters.still;
+              used = e.used;
+              size = e.size;
+              large = subst (λ n. 1024 ≤ n) (sym e.enters.step.device.geometry.block_size) large_now;
+            };
+            shows = ap (tree_in new.disk) e.pairs ∙ shows_now new.disk e.q e.more e.enters;
+            stays = λ c taken_before. e.stays c (λ free. taken_before (was_free c free)) ∙ kept c taken_before;
+            none_comes = λ c flies. none_comes_now t.map fresh two c (subst (λ s. IsInFlight s c) h.map (e.none_comes c flies));
+          };
+          completed = λ s given tree is_path.
+              subst (λ z. IsCompleted t.disk z s (ops.Mkdir given) new.disk new.pairs) (sym way.end.there)
+              (subst (λ z. IsCompleted t.disk (thread_at here (x ∷ [])) s (ops.Mkdir given) new.disk z) (sym e.pairs)
+              (way.completed m.disk new.disk e.q e.more h.step (put_there t can.ready last w.chain w.before way.left w.after x way.end fresh two made) e.enters.step e.enters.put
+              can.at leads_here same_here place_there sync settled e.enters.still s given (tree ∙ ap (tree_in t.disk) way.end.there) is_path));
+        }
+          where
+            kept : (c : ℕ) → (IsFree t.map c → ⊥) → slice_get m.map c ≡ slice_get t.map c
+            kept c taken_before = ap (λ s. slice_get s c) h.map ∙ stay_taken t.map fresh two c taken_before
+
+            was_free : (c : ℕ) → IsFree m.map c → IsFree t.map c
+            was_free c free = freed t.map fresh two c (subst (λ s. IsFree s c) h.map free)
+
+    -- a stop leaves the tree from before it or from after it
+    pub left_by_entering : (left : Blocks) → IsLeftByPut m index (naming m index id name fresh) left → IsLeftOf (with_blocks left t.disk) (tree_in t.disk t.pairs) (with_directory t can.path name)
+    left_by_entering left is = subst (λ (d : Disk). IsLeftOf d (tree_in t.disk t.pairs) (with_directory t can.path name)) same_disk
+        (go (left_entered m index (naming m index id name fresh) v way.p2 b.left name fresh b.right entering left is))
+      where
+        same_disk : with_blocks left m.disk ≡ with_blocks left t.disk
+        same_disk = λ j. record { block_size = h.step.device.geometry.block_size j; page = h.step.device.geometry.page j; blocks = left }
+
+        go : Stays m index (naming m index id name fresh) v way.p2 b.left name fresh b.right entering (with_blocks left m.disk) ⊎ HasEntry m v way.p2 b.left name fresh b.right (with_blocks left m.disk)
+            → IsLeftOf (with_blocks left m.disk) (tree_in t.disk t.pairs) (with_directory t can.path name)
+        go (inl d) =
+            let n = nothing_came m.disk (with_blocks left m.disk) v way.p2 site_now (subst (IsAccepted m.disk) there_now accepted_now) d in
+            record {
+              pairs = thread_at v (way.p2 ∷ []);
+              accepted = n.accepted;
+              writable = (let k = subst (IsWritable m.disk) there_now writable_now in record { pairs = k.pairs; slots = k.slots; no_empty_pair = k.no_empty_pair });
+              tree = inl (n.shows ∙ ap (tree_in m.disk) (sym same_thread) ∙ first.follows.shows ∙ ap (tree_in t.disk) (sym way.end.there));
+            }
+        go (inr e) = record {
+          pairs = thread_at v (e.q ∷ e.more);
+          accepted = (both (with_blocks left m.disk) e.q e.more e.enters).end.accepted;
+          writable = still_writable (with_blocks left m.disk) e.q e.more e.enters;
+          tree = inr (shows_now (with_blocks left m.disk) e.q e.more e.enters);
+        }

@@ -1,0 +1,148 @@
+-- A set move ends: the slot that it hides goes.
+use Rattle.std.proofs.Common.{ℕ, ◌≡◌, ◌≢◌, ◌+◌, true, false, cond, nat_eq, ◌&&◌, List, [], ◌∷◌, ◌++◌, length, refl, sym, ap, ap₂, subst, ◌∙◌, arith, flat_map, append_assoc, append-nil, remove}
+use Rattle.std.specs.List.{IsDistinct}
+use Rattle.std.specs.Int.Bits.{xor_self}
+use Rattle.std.proofs.lemmas.List.Concat.{flat_map-append}
+use Rattle.std.proofs.lemmas.List.Elements.{recursion_from_All}
+use Rattle.lfs_model.specs.Disk.{Disk}
+use Rattle.lfs_model.specs.Slots.{Slot, Gstate, is_superblock, same_pair, gstate_xor}
+use Rattle.lfs_model.specs.SlotEdits.{with_slots}
+use Rattle.lfs_model.specs.Thread.{Pair, blocks_of, gstate_of, starts_with_superblock, unmoved}
+use Rattle.lfs_model.specs.View.{set_move, used_blocks, all_slots, IsAccepted, IsWritable}
+use Rattle.lfs_model.proofs.Became.{became_front, became_shape}
+use Rattle.lfs_model.proofs.Changes.{slots_files}
+use Rattle.lfs_model.proofs.Counts.{Each, each_append, each_left, each_right, each_weaker, count, count_append}
+use Rattle.lfs_model.proofs.Files.{HasSameFile}
+use Rattle.lfs_model.proofs.Global.{HasNoMove, gstate_cons, gstate_right}
+use Rattle.lfs_model.proofs.Listings.{flip_false}
+use Rattle.lfs_model.proofs.Moves.{remove_here}
+use Rattle.lfs_model.proofs.Pairs.{pair_back}
+use Rattle.lfs_model.proofs.Rests.{IsMoveEnd, move_ends, site_gstate_moved, unmoved_elsewhere}
+use Rattle.lfs_model.proofs.Searches.{avoids_front, avoids_behind}
+use Rattle.lfs_model.proofs.Sites.{Site, dirs_at, thread_at, IsSite}
+use Rattle.lfs_model.proofs.Splices.{slots_in, files_of, unmoved_in}
+use Rattle.lfs_model.proofs.StepsTaken.{IsTaken, IsPut, end_taken}
+use Rattle.lfs_model.proofs.Writable.{flag}
+use Rattle.lfs_operations.specs.Moving.{move_in, sync_in}
+use Rattle.lfs_operations.proofs.MovSet.{HasTurned}
+
+pub move_out : (g : Gstate) → gstate_xor (move_in g) g ≡ sync_in g
+move_out g = λ j. record { sync = g.sync; kind = xor_self g.kind j; id = xor_self g.id j; pair = (xor_self g.pair.0 j, xor_self g.pair.1 j) }
+
+-- The move hides the slot u of the pair at the site, which keeps another where a hard tail leads to it.
+pub record IsEnding (disk : Disk) (w : Site) (p : Pair) (l : List Slot) (u : Slot) (r : List Slot) : Type 0 where
+  pub accepted : IsAccepted disk (thread_at w (p ∷ []))
+  pub writable : IsWritable disk (thread_at w (p ∷ []))
+  pub site : IsSite w (p ∷ [])
+  pub kind : (gstate_of (thread_at w (p ∷ []))).kind ≡ set_move
+  pub pair : same_pair (gstate_of (thread_at w (p ∷ []))).pair p.at ≡ true
+  pub id : (gstate_of (thread_at w (p ∷ []))).id ≡ length l
+  pub held : p.content.slots ≡ l ++ u ∷ r
+  pub other : is_superblock u ≡ false
+  pub filled : flag false (w.before ++ w.left) ≡ true → l ++ r ≢ []
+
+module _ (disk : Disk) (w : Site) (p : Pair) (l : List Slot) (u : Slot) (r : List Slot) (k : IsEnding disk w p l u r) where
+  abbrev ps : List Pair
+  ps = thread_at w (p ∷ [])
+
+  abbrev g : Gstate
+  g = gstate_of ps
+
+  abbrev ahead : List Pair
+  ahead = w.before ++ w.left
+
+  abbrev back : List Pair
+  back = w.right ++ w.after
+
+  abbrev Far : Pair → Type 0
+  Far s = same_pair (gstate_of (thread_at w (p ∷ []))).pair s.at ≡ false
+
+  grouped : thread_at w (p ∷ []) ≡ (w.chain ++ ahead) ++ p ∷ back
+  grouped = sym (append_assoc w.chain ahead (p ∷ back))
+
+  distinct_there : IsDistinct nat_eq (blocks_of ((w.chain ++ ahead) ++ p ∷ back))
+  distinct_there = subst (λ z. IsDistinct nat_eq (blocks_of z)) grouped k.accepted.thread.distinct
+
+  flipped : (ss : List Pair) → Each (λ s. same_pair s.at (gstate_of (thread_at w (p ∷ []))).pair ≡ false) ss → Each Far ss
+  flipped ss h = each_weaker (λ s. same_pair s.at (gstate_of (thread_at w (p ∷ []))).pair ≡ false) Far (λ s e. flip_false s.at g.pair e) ss h
+
+  far_front : Each Far (w.chain ++ ahead)
+  far_front = flipped (w.chain ++ ahead) (avoids_front (w.chain ++ ahead) p back g.pair distinct_there (pair_back g.pair p.at k.pair))
+
+  far_back : Each Far back
+  far_back = flipped back (avoids_behind (w.chain ++ ahead) p back g.pair distinct_there (pair_back g.pair p.at k.pair))
+
+  hides : unmoved g p ≡ l ++ r
+  hides = ap₂ (λ k b. cond (nat_eq k 0x4ff && b) (remove p.content.slots g.id) p.content.slots) k.kind k.pair ∙ ap₂ (λ s i. remove s i) k.held k.id ∙ remove_here l r u
+
+  hidden_none : (ss : List Pair) → Each Far ss → flat_map (unmoved g) ss ≡ slots_in ss
+  hidden_none [] h = refl
+  hidden_none (s ∷ ss) h = ap₂ (λ x y. x ++ y) (unmoved_elsewhere g s h.0) (hidden_none ss h.1)
+
+  module _ (new : Disk) (q : Pair) (x : HasTurned disk w p (l ++ r) (gstate_xor (move_in (gstate_of (thread_at w (p ∷ [])))) p.content.move) new q []) where
+    abbrev qs : List Pair
+    qs = thread_at w (q ∷ [])
+
+    pub ended_state : gstate_of qs ≡ sync_in (gstate_of ps)
+    ended_state = site_gstate_moved (move_in g) w (p ∷ []) (q ∷ [])
+        (x.share ∙ ap (gstate_xor (move_in g)) (sym (gstate_cons p [] ∙ gstate_right p.content.move)))
+        ∙ move_out g
+
+    still_none : HasNoMove (gstate_of qs)
+    still_none = record { kind = ap (λ (z : Gstate). z.kind) ended_state; id = ap (λ (z : Gstate). z.id) ended_state; pair = ap (λ (z : Gstate). z.pair) ended_state }
+
+    front_kept : (l : List Slot) → (slots : List Slot) → slots ≡ l ++ u ∷ r → starts_with_superblock slots ≡ true → starts_with_superblock (l ++ r) ≡ true
+    front_kept [] slots e h = absurd (let z = sym h ∙ ap starts_with_superblock e ∙ k.other in cc)
+    front_kept (s ∷ l) slots e h = sym (ap starts_with_superblock e) ∙ h
+
+    pub end_step : IsMoveEnd disk new w p [] q [] l u r
+    end_step = record {
+      accepted = k.accepted;
+      site = k.site;
+      still_none = still_none;
+      device = x.device;
+      shape = became_shape disk p (with_slots (l ++ r) p) q [] x.at x.became (became_front disk p (with_slots (l ++ r) p) q [] x.is x.became (front_kept l p.content.slots k.held));
+      was = append-nil p.content.slots ∙ k.held;
+      is = x.is;
+      other = k.other;
+      hidden = append-nil (unmoved g p) ∙ hides;
+      elsewhere = each_append Far w.chain (ahead ++ back) (each_left Far w.chain ahead far_front) (each_append Far ahead back (each_right Far w.chain ahead far_front) far_back);
+    }
+
+    end_put : IsPut disk w p q [] l (u ∷ []) [] r
+    end_put = record { writable = k.writable; was = k.held; is = x.is; became = x.became; fit = tt; filled = k.filled }
+
+    pub ended : IsTaken disk (thread_at w (p ∷ [])) new (thread_at w (q ∷ [])) (λ t. t) (λ d. d)
+    ended = end_taken disk new w p q [] l u r (λ t. t) (λ d. d) end_put end_step
+        (move_ends disk new w p [] q [] l u r end_step (λ e. k.accepted.reached (sym (ap (λ (z : Gstate). z.sync) ended_state) ∙ e)))
+
+    -- ---- the blocks that the image uses
+
+    blocks_two : (xs ys : List Pair) (b : ℕ) → count b (blocks_of (xs ++ ys)) ≡ count b (blocks_of xs) + count b (blocks_of ys)
+    blocks_two xs ys b = ap (count b) (flat_map-append (λ (s : Pair). s.at.0 ∷ s.at.1 ∷ []) xs ys) ∙ count_append b (blocks_of xs) (blocks_of ys)
+
+    slots_three : (f : Pair → List Slot) (zs : List Pair) → flat_map f (thread_at w zs) ≡ flat_map f w.chain ++ (flat_map f ahead ++ (flat_map f zs ++ flat_map f back))
+    slots_three f zs = flat_map-append f w.chain (ahead ++ (zs ++ back)) ∙ ap (λ z. flat_map f w.chain ++ z) (flat_map-append f ahead (zs ++ back) ∙ ap (λ z. flat_map f ahead ++ z) (flat_map-append f zs back))
+
+    -- no file but those that were visible
+    visible_same : all_slots qs ≡ all_slots ps
+    visible_same = unmoved_in (gstate_of qs) still_none qs ∙ slots_three (λ s. s.content.slots) (q ∷ [])
+        ∙ ap₂ (λ a z. a ++ (slots_in ahead ++ z)) (sym (hidden_none w.chain (each_left Far w.chain ahead far_front)))
+        (ap₂ (λ a z. a ++ z) (x.is ∙ sym hides ∙ sym (append-nil (unmoved g p))) (sym (hidden_none back far_back)))
+        ∙ ap (λ z. flat_map (unmoved g) w.chain ++ (z ++ (flat_map (unmoved g) (p ∷ []) ++ flat_map (unmoved g) back))) (sym (hidden_none ahead (each_right Far w.chain ahead far_front)))
+        ∙ sym (slots_three (unmoved g) (p ∷ []))
+
+    pub ended_count : (b : ℕ) → count b (used_blocks new qs) ≡ count b (used_blocks disk ps)
+    ended_count b =
+        let a1 = count_append b (blocks_of qs) (files_of new (all_slots qs)) in
+        let a2 = count_append b (blocks_of ps) (files_of disk (all_slots ps)) in
+        let b1 = blocks_two w.chain (dirs_at w (q ∷ [])) b in
+        let b2 = blocks_two ahead (q ∷ [] ++ back) b in
+        let b3 = blocks_two (q ∷ []) back b in
+        let b4 = blocks_two w.chain (dirs_at w (p ∷ [])) b in
+        let b5 = blocks_two ahead (p ∷ [] ++ back) b in
+        let b6 = blocks_two (p ∷ []) back b in
+        let at = ap (λ (a : ℕ × ℕ). count b (a.0 ∷ a.1 ∷ [])) x.at in
+        let same = ap (count b) (slots_files disk new (all_slots ps) x.device.geometry (recursion_from_All (λ (s : Slot). HasSameFile disk new s.struct) (all_slots ps) x.device.files)) in
+        let f = ap (λ z. count b (files_of new z)) visible_same in
+        omega arith

@@ -1,0 +1,146 @@
+-- A set move ends where the slot that it hides is all that its pair holds: the pair goes with it, and the one in front of it takes over its tail.
+use Rattle.std.proofs.Common.{ℕ, ◌≡◌, ◌+◌, true, false, cond, nat_eq, ◌&&◌, List, [], ◌∷◌, ◌++◌, refl, sym, ap, ap₂, subst, ◌∙◌, arith, flat_map, append_assoc, remove}
+use Rattle.std.specs.List.{IsDistinct}
+use Rattle.std.proofs.lemmas.List.Concat.{flat_map-append}
+use Rattle.std.proofs.lemmas.List.Elements.{recursion_from_All}
+use Rattle.lfs_model.specs.Disk.{Disk}
+use Rattle.lfs_model.specs.Slots.{Slot, Gstate, is_superblock, same_pair}
+use Rattle.lfs_model.specs.Thread.{Pair, blocks_of, gstate_of, starts_with_superblock, unmoved}
+use Rattle.lfs_model.specs.View.{IsAccepted, IsWritable, all_slots, set_move, used_blocks}
+use Rattle.lfs_model.proofs.Changes.{slots_files}
+use Rattle.lfs_model.proofs.Counts.{Each, each_append, each_left, each_right, each_weaker, count, count_append}
+use Rattle.lfs_model.proofs.Files.{HasSameFile}
+use Rattle.lfs_model.proofs.Global.{HasNoMove}
+use Rattle.lfs_model.proofs.Listings.{flip_false}
+use Rattle.lfs_model.proofs.Pairs.{pair_back}
+use Rattle.lfs_model.proofs.Rests.{IsMoveEnd, move_ends, unmoved_elsewhere}
+use Rattle.lfs_model.proofs.Searches.{avoids_behind, avoids_front}
+use Rattle.lfs_model.proofs.Sites.{Site, dirs_at, thread_at, IsSite}
+use Rattle.lfs_model.proofs.Splices.{drop_shape, files_of, slots_in, unmoved_in, IsDevice}
+use Rattle.lfs_model.proofs.StepsTaken.{IsTaken, end_drop_taken}
+use Rattle.lfs_operations.specs.Moving.{sync_in}
+
+-- At the site stand p and o behind it, joined by a hard tail, and the move hides o's only slot u.
+pub record IsEndingWhole (disk : Disk) (w : Site) (p o : Pair) (u : Slot) : Type 0 where
+  pub accepted : IsAccepted disk (thread_at w (p ∷ o ∷ []))
+  pub writable : IsWritable disk (thread_at w (p ∷ o ∷ []))
+  pub site : IsSite w (p ∷ o ∷ [])
+  pub kind : (gstate_of (thread_at w (p ∷ o ∷ []))).kind ≡ set_move
+  pub pair : same_pair (gstate_of (thread_at w (p ∷ o ∷ []))).pair o.at ≡ true
+  pub id : (gstate_of (thread_at w (p ∷ o ∷ []))).id ≡ 0
+  pub held : o.content.slots ≡ u ∷ []
+  pub other : is_superblock u ≡ false
+
+-- q has p's slots and o's tail, and no move is set with it
+pub record HasTakenOver (disk : Disk) (w : Site) (p o : Pair) (new : Disk) (q : Pair) : Type 0 where
+  pub at : q.at ≡ p.at
+  pub slots : q.content.slots ≡ p.content.slots
+  pub tail : q.content.tail ≡ o.content.tail
+  pub state : gstate_of (thread_at w (q ∷ [])) ≡ sync_in (gstate_of (thread_at w (p ∷ o ∷ [])))
+  pub device : IsDevice disk new (thread_at w (p ∷ o ∷ [])) (thread_at w (q ∷ []))
+
+module _ (disk : Disk) (w : Site) (p o : Pair) (u : Slot) (k : IsEndingWhole disk w p o u) where
+  abbrev ps : List Pair
+  ps = thread_at w (p ∷ o ∷ [])
+
+  abbrev g : Gstate
+  g = gstate_of (thread_at w (p ∷ o ∷ []))
+
+  abbrev ahead : List Pair
+  ahead = w.before ++ w.left
+
+  abbrev back : List Pair
+  back = w.right ++ w.after
+
+  abbrev Far : Pair → Type 0
+  Far s = same_pair (gstate_of (thread_at w (p ∷ o ∷ []))).pair s.at ≡ false
+
+  grouped : thread_at w (p ∷ o ∷ []) ≡ ((w.chain ++ ahead) ++ p ∷ []) ++ o ∷ back
+  grouped = sym (append_assoc w.chain ahead (p ∷ o ∷ back)) ∙ sym (append_assoc (w.chain ++ ahead) (p ∷ []) (o ∷ back))
+
+  distinct_there : IsDistinct nat_eq (blocks_of (((w.chain ++ ahead) ++ p ∷ []) ++ o ∷ back))
+  distinct_there = subst (λ z. IsDistinct nat_eq (blocks_of z)) grouped k.accepted.thread.distinct
+
+  flipped : (ss : List Pair) → Each (λ s. same_pair s.at (gstate_of (thread_at w (p ∷ o ∷ []))).pair ≡ false) ss → Each Far ss
+  flipped ss h = each_weaker (λ s. same_pair s.at (gstate_of (thread_at w (p ∷ o ∷ []))).pair ≡ false) Far (λ s e. flip_false s.at g.pair e) ss h
+
+  far_front : Each Far ((w.chain ++ ahead) ++ p ∷ [])
+  far_front = flipped ((w.chain ++ ahead) ++ p ∷ []) (avoids_front ((w.chain ++ ahead) ++ p ∷ []) o back g.pair distinct_there (pair_back g.pair o.at k.pair))
+
+  far_ahead : Each Far (w.chain ++ ahead)
+  far_ahead = each_left Far (w.chain ++ ahead) (p ∷ []) far_front
+
+  far_p : Far p
+  far_p = (each_right Far (w.chain ++ ahead) (p ∷ []) far_front).0
+
+  far_back : Each Far back
+  far_back = flipped back (avoids_behind ((w.chain ++ ahead) ++ p ∷ []) o back g.pair distinct_there (pair_back g.pair o.at k.pair))
+
+  hides : unmoved g o ≡ []
+  hides = ap₂ (λ k b. cond (nat_eq k 0x4ff && b) (remove o.content.slots g.id) o.content.slots) k.kind k.pair ∙ ap₂ (λ s i. remove s i) k.held k.id
+
+  hidden_none : (ss : List Pair) → Each Far ss → flat_map (unmoved g) ss ≡ slots_in ss
+  hidden_none [] h = refl
+  hidden_none (s ∷ ss) h = ap₂ (λ x y. x ++ y) (unmoved_elsewhere g s h.0) (hidden_none ss h.1)
+
+  hidden_two : flat_map (unmoved g) (p ∷ o ∷ []) ≡ p.content.slots ++ []
+  hidden_two = ap₂ (λ x y. x ++ (y ++ [])) (unmoved_elsewhere g p far_p) hides
+
+  module _ (new : Disk) (q : Pair) (x : HasTakenOver disk w p o new q) where
+    abbrev qs : List Pair
+    qs = thread_at w (q ∷ [])
+
+    still_none : HasNoMove (gstate_of (thread_at w (q ∷ [])))
+    still_none = record { kind = ap (λ (z : Gstate). z.kind) x.state; id = ap (λ (z : Gstate). z.id) x.state; pair = ap (λ (z : Gstate). z.pair) x.state }
+
+    pub whole_step : IsMoveEnd disk new w p (o ∷ []) q [] p.content.slots u []
+    whole_step = record {
+      accepted = k.accepted;
+      site = k.site;
+      still_none = still_none;
+      device = x.device;
+      shape = drop_shape p o q x.at x.tail (λ e. ap starts_with_superblock x.slots ∙ e);
+      was = ap (λ z. p.content.slots ++ (z ++ [])) k.held;
+      is = ap (λ z. z ++ []) x.slots;
+      other = k.other;
+      hidden = hidden_two;
+      elsewhere = each_append Far w.chain (ahead ++ back) (each_left Far w.chain ahead far_ahead) (each_append Far ahead back (each_right Far w.chain ahead far_ahead) far_back);
+    }
+
+    pub whole_ended : IsTaken disk (thread_at w (p ∷ o ∷ [])) new (thread_at w (q ∷ [])) (λ t. t) (λ d. d)
+    whole_ended = end_drop_taken disk w p o q (record { writable = k.writable; tail = x.tail; slots = x.slots }) new p.content.slots u [] (λ t. t) (λ d. d) whole_step
+        (move_ends disk new w p (o ∷ []) q [] p.content.slots u [] whole_step (λ e. k.accepted.reached (sym (ap (λ (z : Gstate). z.sync) x.state) ∙ e)))
+
+    -- ---- the blocks that the image uses
+
+    blocks_two : (xs ys : List Pair) (b : ℕ) → count b (blocks_of (xs ++ ys)) ≡ count b (blocks_of xs) + count b (blocks_of ys)
+    blocks_two xs ys b = ap (count b) (flat_map-append (λ (s : Pair). s.at.0 ∷ s.at.1 ∷ []) xs ys) ∙ count_append b (blocks_of xs) (blocks_of ys)
+
+    slots_three : (f : Pair → List Slot) (zs : List Pair) → flat_map f (thread_at w zs) ≡ flat_map f w.chain ++ (flat_map f ahead ++ (flat_map f zs ++ flat_map f back))
+    slots_three f zs = flat_map-append f w.chain (ahead ++ (zs ++ back)) ∙ ap (λ z. flat_map f w.chain ++ z) (flat_map-append f ahead (zs ++ back) ∙ ap (λ z. flat_map f ahead ++ z) (flat_map-append f zs back))
+
+    -- no file but those that were visible
+    visible_same : all_slots (thread_at w (q ∷ [])) ≡ all_slots (thread_at w (p ∷ o ∷ []))
+    visible_same = unmoved_in (gstate_of (thread_at w (q ∷ []))) still_none (thread_at w (q ∷ [])) ∙ slots_three (λ s. s.content.slots) (q ∷ [])
+        ∙ ap₂ (λ a z. a ++ (slots_in ahead ++ z)) (sym (hidden_none w.chain (each_left Far w.chain ahead far_ahead)))
+        (ap₂ (λ a z. a ++ z) (ap (λ z. z ++ []) x.slots ∙ sym hidden_two) (sym (hidden_none back far_back)))
+        ∙ ap (λ z. flat_map (unmoved g) w.chain ++ (z ++ (flat_map (unmoved g) (p ∷ o ∷ []) ++ flat_map (unmoved g) back))) (sym (hidden_none ahead (each_right Far w.chain ahead far_ahead)))
+        ∙ sym (slots_three (unmoved g) (p ∷ o ∷ []))
+
+    -- those that it used, without the pair's
+    pub whole_count : (b : ℕ) → count b (used_blocks new (thread_at w (q ∷ []))) + count b (blocks_of (o ∷ [])) ≡ count b (used_blocks disk (thread_at w (p ∷ o ∷ [])))
+    whole_count b =
+        let a1 = count_append b (blocks_of (thread_at w (q ∷ []))) (files_of new (all_slots (thread_at w (q ∷ [])))) in
+        let a2 = count_append b (blocks_of (thread_at w (p ∷ o ∷ []))) (files_of disk (all_slots (thread_at w (p ∷ o ∷ [])))) in
+        let b1 = blocks_two w.chain (dirs_at w (q ∷ [])) b in
+        let b2 = blocks_two ahead (q ∷ [] ++ back) b in
+        let b3 = blocks_two (q ∷ []) back b in
+        let b4 = blocks_two w.chain (dirs_at w (p ∷ o ∷ [])) b in
+        let b5 = blocks_two ahead (p ∷ o ∷ [] ++ back) b in
+        let b6 = blocks_two (p ∷ []) (o ∷ back) b in
+        let b7 = blocks_two (o ∷ []) back b in
+        let at = ap (λ (a : ℕ × ℕ). count b (a.0 ∷ a.1 ∷ [])) x.at in
+        let same = ap (count b) (slots_files disk new (all_slots (thread_at w (p ∷ o ∷ []))) x.device.geometry
+        (recursion_from_All (λ (s : Slot). HasSameFile disk new s.struct) (all_slots (thread_at w (p ∷ o ∷ []))) x.device.files)) in
+        let f = ap (λ z. count b (files_of new z)) visible_same in
+        omega arith

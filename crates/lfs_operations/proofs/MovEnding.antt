@@ -1,0 +1,264 @@
+-- The end of a set move, as a step of the thread.
+use Rattle.std.proofs.Common.{ℕ, zero, suc, ◌≡◌, ◌≢◌, ◌-◌, ◌<◌, ◌⊎◌, inl, inr, true, false, take, List, [], ◌∷◌, Option, ◌++◌, length, Some, refl, sym, ap, ap₂, subst, ◌∙◌, arith, length-append, remove, get_or, slice_get, sum_by}
+use Rattle.std.specs.Option.{option_and_then}
+use Rattle.std.specs.Prelude.{All}
+use Rattle.std.proofs.lemmas.Nat.{xor_lt}
+use Rattle.std.proofs.lemmas.Option.{same_Some}
+use Rattle.std.proofs.lemmas.List.Elements.{recursion_from_All}
+use Rattle.std.proofs.lemmas.List.Sums.{sum_by-append, sum_by-cons}
+use Rattle.lfs_model.specs.Blocks.{Blocks}
+use Rattle.lfs_model.specs.Changes.{Delete, PutMove, changed_by}
+use Rattle.lfs_model.specs.Content.{RawContent, content_at, raw_at, completed}
+use Rattle.lfs_model.specs.Disk.{Disk}
+use Rattle.lfs_model.specs.History.{Event}
+use Rattle.lfs_model.specs.Logged.{IsAddress, IsMoveState}
+use Rattle.lfs_model.specs.PowerLoss.{IsLeft as IsLeftOf, Survives, with_blocks}
+use Rattle.lfs_model.specs.Slots.{Slot, FitsPair, Gstate, Tail, gstate_xor, same_pair, slot_size}
+use Rattle.lfs_model.specs.Thread.{Pair, gstate_of, next_of, superblocks_before}
+use Rattle.lfs_model.specs.View.{IsAccepted, IsWritable, FitsSlot, tree_in, used_blocks}
+use Rattle.lfs_model.proofs.Completed.{IsCompleted, complete_length, complete_remove, completed_parts, completed_from}
+use Rattle.lfs_model.proofs.Counts.{Each, each_right, count}
+use Rattle.lfs_model.proofs.Effects.{deletes, does_first, does_nothing, puts_move}
+use Rattle.lfs_model.proofs.Histories.{LeavesOnly-weaker}
+use Rattle.lfs_model.proofs.Indexes.{HasSite, site_of_number}
+use Rattle.lfs_model.proofs.Moves.{remove_here}
+use Rattle.lfs_model.proofs.Sites.{Site, dirs_at, thread_at}
+use Rattle.lfs_model.proofs.StepsTaken.{IsTaken}
+use Rattle.lfs_model.proofs.Superblocks.{pairs_behind}
+use Rattle.lfs_model.proofs.Writable.{flag}
+use Rattle.lfs_thread.specs.Device.{StopsLeave}
+use Rattle.lfs_thread.specs.Kept.{Kept}
+use Rattle.lfs_thread.specs.Steps.{CanChange, IsChanged, IsLeft, IsRefused, SlotsHaveFirst, made_in_thread, no_pair, pair_in, with_pair}
+use Rattle.lfs_operations.specs.Moving.{CanEnd, HasEnded, end_changes, is_led, move_in, share_without_move, sync_in}
+use Rattle.lfs_operations.proofs.Held.{CompletesTo, completes_to}
+use Rattle.lfs_operations.proofs.MovEnd.{IsEnding, ended, ended_count, ended_state}
+use Rattle.lfs_operations.proofs.MovSet.{HasTurned}
+use Rattle.lfs_operations.proofs.MovTurned.{ChangedOne, IsTurn, Stays, changed_one, content_with, left_alone}
+use Rattle.lfs_operations.proofs.Placing.{nothing_came}
+
+pub writable_same : (disk new : Disk) (ps : List Pair) → new.block_size ≡ disk.block_size → new.page ≡ disk.page → IsWritable disk ps → IsWritable new ps
+writable_same disk new ps e f h = record {
+  pairs = subst (λ (n : ℕ). All (λ p. FitsPair n new.page p.content) ps) (sym e) (subst (λ (n : ℕ). All (λ p. FitsPair disk.block_size n p.content) ps) (sym f) h.pairs);
+  slots = subst (λ (n : ℕ). All (λ p. All (FitsSlot n new.page) p.content.slots) ps) (sym e) (subst (λ (n : ℕ). All (λ p. All (FitsSlot disk.block_size n) p.content.slots) ps) (sym f) h.slots);
+  no_empty_pair = h.no_empty_pair;
+}
+
+pub get_from : (xs : List Pair) (i : ℕ) (p d : Pair) → slice_get xs i ≡ Some p → get_or xs i d ≡ p
+get_from [] i p d e = absurd (cc)
+get_from (x ∷ xs) zero p d e = same_Some x p e
+get_from (x ∷ xs) (suc i) p d e = get_from xs i p d e
+
+take_front : (xs ys : List Pair) (n : ℕ) → n ≡ length xs → take n (xs ++ ys) ≡ xs
+take_front [] ys n e = ap (λ k. take k ys) e
+take_front (x ∷ xs) ys n e = ap (λ k. take k (x ∷ (xs ++ ys))) e ∙ ap (λ z. x ∷ z) (take_front xs ys (length xs) refl)
+
+pub led_is : (w : Site) (p : Pair) (i : ℕ) → superblocks_before (thread_at w (p ∷ [])) ≡ length w.chain → length (w.chain ++ (w.before ++ w.left)) ≡ i → is_led (thread_at w (p ∷ [])) i ≡ flag false (w.before ++ w.left)
+led_is w p i chain number =
+    ap₂ (λ n z. flag false (take (i - n) z)) chain (pairs_behind w.chain (dirs_at w (p ∷ [])) chain)
+    ∙ ap (flag false) (take_front (w.before ++ w.left) (p ∷ [] ++ (w.right ++ w.after)) (i - length w.chain) (let l = length-append w.chain (w.before ++ w.left) in omega arith))
+
+module _ (t : Kept) (pair id : ℕ) (can : CanEnd t pair id) (address : IsAddress (share_without_move t pair).pair) where
+  abbrev h : HasSite t.pairs pair
+  h = site_of_number t.disk t.pairs pair can.accepted can.begins can.below
+
+  abbrev w : Site
+  w = h.site
+
+  abbrev p : Pair
+  p = h.pair
+
+  here : pair_in t pair ≡ p
+  here = get_from t.pairs pair p no_pair h.there
+
+  abbrev l : List Slot
+  l = can.stands.left
+
+  abbrev u : Slot
+  u = can.stands.slot
+
+  abbrev r : List Slot
+  r = can.stands.right
+
+  held : p.content.slots ≡ l ++ u ∷ r
+  held = ap (λ (z : Pair). z.content.slots) (sym here) ∙ can.stands.held
+
+  abbrev move : Gstate
+  move = share_without_move t pair
+
+  -- ---- what the changes make
+
+  at_site : (P : Pair → Type 0) → Each P t.pairs → P p
+  at_site P e = (each_right P (w.before ++ w.left) (p ∷ [] ++ (w.right ++ w.after)) (each_right P w.chain (dirs_at w (p ∷ [])) (subst (Each P) h.is e))).0
+
+  c : CompletesTo (raw_at t.disk (pair_in t pair).at) p.content
+  c = completes_to (raw_at t.disk (pair_in t pair).at) p.content (ap (λ (z : Pair). content_at t.disk z.at) here
+      ∙ at_site (λ x. content_at t.disk x.at ≡ Some x.content) (recursion_from_All (λ (x : Pair). content_at t.disk x.at ≡ Some x.content) t.pairs can.accepted.thread.contents))
+
+  fits_there : FitsPair t.disk.block_size t.disk.page p.content
+  fits_there = at_site (λ x. FitsPair t.disk.block_size t.disk.page x.content) (recursion_from_All (λ (x : Pair). FitsPair t.disk.block_size t.disk.page x.content) t.pairs can.writable.pairs)
+
+  within : id < length p.content.slots
+  within = let e = ap length held in let k = length-append l (u ∷ r) in let n = can.stands.number in omega arith
+
+  parts : IsCompleted c.raw p.content
+  parts = completed_parts c.raw p.content c.complete
+
+  share_is : IsMoveState p.content.move
+  share_is = subst IsMoveState (sym parts.move) (can.logged c.raw c.is).move
+
+  is_state : IsMoveState move
+  is_state =
+      let few = fits_there.count in
+      let m = within in
+      let own = ap (λ (z : Pair). z.content.move) here in
+      record {
+        kind = xor_lt 11 (gstate_of t.pairs).kind (pair_in t pair).content.move.kind (let e = can.kind in omega arith) (let k = share_is.kind in let e = ap (λ (z : Gstate). z.kind) own in omega arith);
+        id = xor_lt 10 (gstate_of t.pairs).id (pair_in t pair).content.move.id (let e = can.id_is in omega arith) (let k = share_is.id in let e = ap (λ (z : Gstate). z.id) own in omega arith);
+        pair = address;
+      }
+
+  abbrev raw_mid : RawContent
+  raw_mid = record c.raw { slots = remove c.raw.slots id }
+
+  abbrev raw_now : RawContent
+  raw_now = record c.raw { slots = remove c.raw.slots id; move = share_without_move t pair }
+
+  changed_now : changed_by c.raw (end_changes t pair id) ≡ Some raw_now
+  changed_now =
+      let few = fits_there.count in
+      let n = complete_length c.raw.slots p.content.slots parts.slots in
+      let m = within in
+      does_first (Delete id) (PutMove move ∷ []) c.raw raw_mid raw_now (deletes c.raw id (omega arith) (omega arith))
+      (does_first (PutMove move) [] raw_mid raw_now raw_now (puts_move raw_mid move is_state) (does_nothing raw_now))
+
+  slots_now : remove p.content.slots id ≡ l ++ r
+  slots_now = ap₂ (λ (z : List Slot) (i : ℕ). remove z i) held (sym can.stands.number) ∙ remove_here l r u
+
+  made : made_in_thread t pair (end_changes t pair id) ≡ Some (content_with p (l ++ r) move)
+  made =
+      ap (λ o. option_and_then completed (option_and_then (λ (x : RawContent). changed_by x (end_changes t pair id)) o)) c.is
+      ∙ ap (λ o. option_and_then completed o) changed_now
+      ∙ completed_from raw_now (remove p.content.slots id) (complete_remove c.raw.slots p.content.slots id parts.slots)
+      ∙ ap₂ (λ s (z : Option Tail). Some (record { slots = s; tail = z; move = move })) slots_now (sym parts.tail)
+
+  pub can_end : CanChange t pair (end_changes t pair id)
+  can_end = record {
+    below = can.below;
+    content = content_with p (l ++ r) move;
+    made = made;
+    next = ap (λ (z : Pair). next_of z.content.tail) (sym here);
+  }
+
+  -- what is left fits
+  still_fits : FitsPair t.disk.block_size t.disk.page (content_with p (l ++ r) move)
+  still_fits =
+      let f = fits_there in
+      let a = ap (sum_by slot_size) held in
+      let b = sum_by-append slot_size l (u ∷ r) in
+      let d = sum_by-cons slot_size u r in
+      let g = sum_by-append slot_size l r in
+      let i = ap length held in
+      let j = length-append l (u ∷ r) in
+      let k = length-append l r in
+      let s = f.size in
+      let n = f.count in
+      record { size = omega arith; count = omega arith }
+
+  pub end_not_refused : (new : Kept) → IsRefused t pair (end_changes t pair id) new → ⊥
+  end_not_refused new is = is.too_large (subst (FitsPair t.disk.block_size t.disk.page) (sym (same_Some is.content (content_with p (l ++ r) move) (sym is.made ∙ made))) still_fits)
+
+  -- ---- in the image
+
+  first_kept : (l : List Slot) → SlotsHaveFirst (l ++ u ∷ r) → SlotsHaveFirst (l ++ r)
+  first_kept [] e = absurd (let z = sym can.stands.entry ∙ e.0 in cc)
+  first_kept (s ∷ l) e = e
+
+  turn : IsTurn t pair (end_changes t pair id) w p (l ++ r) move
+  turn = record {
+    accepted = can.accepted;
+    there = h.is;
+    place = sym h.number ∙ length-append w.chain (w.before ++ w.left);
+    site = h.is_site;
+    made = made;
+    first = λ e. first_kept l (subst SlotsHaveFirst held (e.kind, e.name));
+  }
+
+  filled : flag false (w.before ++ w.left) ≡ true → l ++ r ≢ []
+  filled hard none =
+      let led = ap (λ z. is_led z pair) h.is ∙ led_is w p pair h.is_site.chain h.number ∙ hard in
+      let many = can.stays led in
+      let e = ap length can.stands.held in
+      let i = length-append l (u ∷ r) in
+      let j = ap length none in
+      let k = length-append l r in
+      absurd (omega arith)
+
+  ending : IsEnding t.disk w p l u r
+  ending = record {
+    accepted = subst (IsAccepted t.disk) h.is can.accepted;
+    writable = subst (IsWritable t.disk) h.is can.writable;
+    site = h.is_site;
+    kind = sym (ap (λ z. (gstate_of z).kind) h.is) ∙ can.kind;
+    pair = ap₂ (λ z (x : Pair). same_pair (gstate_of z).pair x.at) (sym h.is) (sym here) ∙ can.named;
+    id = sym (ap (λ z. (gstate_of z).id) h.is) ∙ can.id_is ∙ sym can.stands.number;
+    held = held;
+    other = can.stands.entry;
+    filled = filled;
+  }
+
+  abbrev end_share : Gstate
+  end_share = gstate_xor (move_in (gstate_of (thread_at w (p ∷ [])))) p.content.move
+
+  move_is : move ≡ end_share
+  move_is = ap₂ (λ z (x : Pair). gstate_xor (move_in (gstate_of z)) x.content.move) h.is here
+
+  -- the pair alone, with the other slots
+  abbrev pub q_of : Pair
+  q_of = record { at = p.at; content = content_with p (l ++ r) move }
+
+  pub turned_alone : (disk : Disk) → HasTurned t.disk w p (l ++ r) move disk q_of [] → IsTaken t.disk (thread_at w (p ∷ [])) disk (thread_at w (q_of ∷ [])) (λ t. t) (λ d. d)
+  turned_alone disk x = ended t.disk w p l u r ending disk q_of (subst (λ m. HasTurned t.disk w p (l ++ r) m disk q_of []) move_is x)
+
+  pub has_ended : (new : Kept) → IsChanged t pair (end_changes t pair id) new → HasEnded t pair id new
+  has_ended new is = go (changed_one t pair (end_changes t pair id) w p (l ++ r) move turn new is)
+    where
+      go : ChangedOne t pair w p (l ++ r) move new → HasEnded t pair id new
+      go x =
+          let taken = turned_alone new.disk x.turned in
+          let y = subst (λ m. HasTurned t.disk w p (l ++ r) m new.disk q_of []) move_is x.turned in
+          record {
+            taken = subst (λ z. IsTaken t.disk z new.disk new.pairs (λ t. t) (λ d. d)) (sym h.is) (subst (λ z. IsTaken t.disk (thread_at w (p ∷ [])) new.disk z (λ t. t) (λ d. d)) (sym x.pairs) taken);
+            state = ap gstate_of x.pairs ∙ ended_state t.disk w p l u r ending new.disk q_of y ∙ ap (λ z. sync_in (gstate_of z)) (sym h.is);
+            pairs = x.is ∙ ap (λ d. with_pair t pair d) (ap₂ (λ s (z : Pair). record { slots = s; tail = z.content.tail; move = move })
+                (sym slots_now ∙ ap (λ (z : Pair). remove z.content.slots id) (sym here)) (sym here));
+            map = x.map;
+            blocks = λ b. ap (λ z. count b (used_blocks new.disk z)) x.pairs ∙ ended_count t.disk w p l u r ending new.disk q_of y b ∙ ap (λ z. count b (used_blocks t.disk z)) (sym h.is);
+            shape = x.shape;
+          }
+
+  -- ---- at a stop
+
+  left_tree : (left : Blocks) → IsLeft t pair (end_changes t pair id) left → IsLeftOf (with_blocks left t.disk) (tree_in t.disk t.pairs) (tree_in t.disk t.pairs)
+  left_tree left is = go (left_alone t pair (end_changes t pair id) w p (l ++ r) move turn left is)
+    where
+      go : Stays t pair (end_changes t pair id) w p (l ++ r) move turn (with_blocks left t.disk) ⊎ HasTurned t.disk w p (l ++ r) move (with_blocks left t.disk) q_of []
+          → IsLeftOf (with_blocks left t.disk) (tree_in t.disk t.pairs) (tree_in t.disk t.pairs)
+      go (inl d) =
+          let f = nothing_came t.disk (with_blocks left t.disk) w p h.is_site (subst (IsAccepted t.disk) h.is can.accepted) d in
+          record {
+            pairs = thread_at w (p ∷ []);
+            accepted = f.accepted;
+            writable = writable_same t.disk (with_blocks left t.disk) (thread_at w (p ∷ [])) refl refl (subst (IsWritable t.disk) h.is can.writable);
+            tree = inl (f.shows ∙ ap (tree_in t.disk) (sym h.is));
+          }
+      go (inr x) =
+          let k = turned_alone (with_blocks left t.disk) x in
+          record {
+            pairs = thread_at w (q_of ∷ []);
+            accepted = k.follows.accepted;
+            writable = k.writable;
+            tree = inl (k.follows.shows ∙ ap (tree_in t.disk) (sym h.is));
+          }
+
+  pub end_survives : (new : List Event) → StopsLeave t.history new (IsLeft t pair (end_changes t pair id)) → Survives t.disk t.history new (tree_in t.disk t.pairs) (tree_in t.disk t.pairs)
+  end_survives new stops clean = LeavesOnly-weaker left_tree (stops clean)

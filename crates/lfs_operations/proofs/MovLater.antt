@@ -1,0 +1,259 @@
+-- A rename across pairs after the old slot was read.
+use Rattle.std.proofs.Common.{ℕ, ◌≡◌, ◌⊎◌, inl, inr, false, List, ◌∷◌, Result, Err, refl, sym, ap, subst, ◌∙◌, arith}
+use Rattle.std.specs.Prelude.{IfErr}
+use Rattle.lfs_device.specs.declared.error.Error.{Error}
+use Rattle.lfs_device.specs.declared.error.Error.TheVariants.{Io, NoMemory, NoSpace}
+use Rattle.lfs_model.specs.Changes.{Change}
+use Rattle.lfs_model.specs.Disk.{Disk}
+use Rattle.lfs_model.specs.History.{Event, faults}
+use Rattle.lfs_model.specs.Names.{Name}
+use Rattle.lfs_model.specs.PowerLoss.{Survives}
+use Rattle.lfs_model.specs.View.{tree_in}
+use Rattle.lfs_model.specs.Logged.{IsAddress}
+use Rattle.lfs_model.proofs.AfterStops.{survives_then}
+use Rattle.lfs_model.proofs.Histories.{AtWorst-read, LeavesOnly-reads, LeavesOnly-trans, OnlyReads-trans, StayUnprogrammed-reads, StayUnprogrammed-trans}
+use Rattle.lfs_thread.specs.Kept.{Kept, State}
+use Rattle.lfs_thread.specs.Steps.{HasTold, IsOnlyRead, pair_in}
+use Rattle.lfs_operations.specs.Changing.{CanPut, IsPut, IsTooLarge, HasTwoFree, has_failed}
+use Rattle.lfs_operations.specs.Editing.{CanEdit}
+use Rattle.lfs_operations.specs.Moving.{CanRenameAcross, CanReplaceAcross, EndsAfter, IsPutAndEnded, IsRenamedAcross, IsReplacedAcross, SurvivesBoth, TellsInSteps, WritesInTwo, moving_changes, replacing_changes, with_moved}
+use Rattle.lfs_operations.specs.Ready.{IsReady}
+use Rattle.lfs_operations.specs.RenamingSlots.{parts_at}
+use Rattle.lfs_operations.proofs.MovRename.{can_put_across, ends_across, renamed_across, shows_across, survives_across}
+use Rattle.lfs_operations.proofs.MovReplace.{can_put_onto, ends_onto, replaced_across, shows_onto, survives_onto}
+use Rattle.lfs_operations.proofs.MovTelling.{writes_first}
+use Rattle.lfs_operations.proofs.Putting.{read_is, with_history}
+use Rattle.lfs_operations.proofs.RenameRead.{read_survives, read_writes}
+
+-- ---- what is known before
+
+module _ (t : Kept) (h : List Event) where
+  abbrev later : Kept
+  later = with_history t h
+
+  pub ready_later : IsReady t → IsReady later
+  ready_later r = record { accepted = r.accepted; writable = r.writable; settled = r.settled; used = r.used; size = r.size; large = r.large }
+
+  abbrev edit_later : {pair id : ℕ} → CanEdit t pair id → CanEdit (with_history t h) pair id
+  edit_later c = record {
+    ready = ready_later c.ready;
+    path = c.path;
+    at = c.at;
+    leads = c.leads;
+    first = c.first;
+    begins = c.begins;
+    name = c.name;
+    stands = c.stands;
+    logged = c.logged;
+  }
+
+  abbrev pub across_later : {old_pair old_id new_pair new_id : ℕ} {name : Name} → CanRenameAcross t old_pair old_id new_pair new_id name → CanRenameAcross (with_history t h) old_pair old_id new_pair new_id name
+  across_later r = record {
+    old = edit_later r.old;
+    stays = r.stays;
+    path = r.path;
+    at = r.at;
+    leads = r.leads;
+    first = r.first;
+    begins = r.begins;
+    belongs = r.belongs;
+    logged = r.logged;
+    apart = r.apart;
+    not_beneath = r.not_beneath;
+    is_name = r.is_name;
+    fits = r.fits;
+  }
+
+  abbrev pub replace_later : {old_pair old_id new_pair new_id : ℕ} {name : Name} → CanReplaceAcross t old_pair old_id new_pair new_id name → CanReplaceAcross (with_history t h) old_pair old_id new_pair new_id name
+  replace_later r = record {
+    old = edit_later r.old;
+    stays = r.stays;
+    path = r.path;
+    at = r.at;
+    leads = r.leads;
+    first = r.first;
+    begins = r.begins;
+    target = r.target;
+    file = r.file;
+    logged = r.logged;
+    apart = r.apart;
+    not_beneath = r.not_beneath;
+    fits = r.fits;
+  }
+
+module _ (t mid : Kept) (only : IsOnlyRead t mid) (old_pair old_id new_pair new_id : ℕ) (name : Name) (rename : CanRenameAcross t old_pair old_id new_pair new_id name) (address : IsAddress (pair_in mid old_pair).at) where
+  abbrev later_t : Kept
+  later_t = with_history t mid.history
+
+  same : mid ≡ later_t
+  same = read_is t mid only
+
+  abbrev pub there : CanRenameAcross (with_history t mid.history) old_pair old_id new_pair new_id name
+  there = across_later t mid.history rename
+
+  there_address : IsAddress (pair_in later_t old_pair).at
+  there_address = subst (λ k. IsAddress (pair_in k old_pair).at) same address
+
+  pub parts_later : parts_at mid old_pair old_id ≡ parts_at t old_pair old_id
+  parts_later = ap (λ k. parts_at k old_pair old_id) same
+
+  pub changes_later : moving_changes mid old_pair old_id new_pair new_id name ≡ moving_changes t old_pair old_id new_pair new_id name
+  changes_later = ap (λ k. moving_changes k old_pair old_id new_pair new_id name) same
+
+  pub can_put_later : CanPut mid new_pair (moving_changes mid old_pair old_id new_pair new_id name)
+  can_put_later = subst (λ k. CanPut k new_pair (moving_changes k old_pair old_id new_pair new_id name)) (sym same) (can_put_across later_t old_pair old_id new_pair new_id name there there_address)
+
+  pub ends_later : (last : Kept) → IsPut mid new_pair (moving_changes mid old_pair old_id new_pair new_id name) last → EndsAfter mid old_pair old_id new_pair last
+  ends_later = subst (λ k. (last : Kept) → IsPut k new_pair (moving_changes k old_pair old_id new_pair new_id name) last → EndsAfter k old_pair old_id new_pair last) (sym same)
+      (ends_across later_t old_pair old_id new_pair new_id name there there_address)
+
+  -- ---- what comes of it
+
+  became_earlier : (new : Kept) → IsRenamedAcross later_t new rename.old.path rename.old.name rename.path name → IsRenamedAcross t new rename.old.path rename.old.name rename.path name
+  became_earlier new x = record { now = record { ready = x.now.ready; shows = x.now.shows; stays = x.now.stays; none_comes = x.now.none_comes }; completed = x.completed }
+
+  pub renamed_later : (new : Kept) → IsPutAndEnded mid old_pair old_id new_pair (moving_changes mid old_pair old_id new_pair new_id name) new → IsRenamedAcross t new rename.old.path rename.old.name rename.path name
+  renamed_later new is = became_earlier new (renamed_across later_t old_pair old_id new_pair new_id name there there_address new
+      (subst (λ k. IsPutAndEnded k old_pair old_id new_pair (moving_changes k old_pair old_id new_pair new_id name) new) same is))
+
+  pub survives_later : (new : Kept) → WritesInTwo mid old_pair new_pair new → SurvivesBoth mid new_pair (moving_changes mid old_pair old_id new_pair new_id name) new
+      → Survives t.disk t.history new.history (tree_in t.disk t.pairs) (with_moved t rename.old.path rename.old.name rename.path name)
+  survives_later new w both =
+      let after = with_moved t rename.old.path rename.old.name rename.path name in
+      let from = subst (λ k. SurvivesBoth k new_pair (moving_changes k old_pair old_id new_pair new_id name) new) same both in
+      survives_then t.disk t.history mid.history new.history (tree_in t.disk t.pairs) after only.reads w.writes.at_worst
+      (read_survives t mid.history only.reads rename.old.ready after)
+      (from (tree_in t.disk t.pairs) after (survives_across later_t old_pair old_id new_pair new_id name there there_address) (shows_across later_t old_pair old_id new_pair new_id name there there_address))
+
+-- ---- the same onto a file
+
+module _ (t mid : Kept) (only : IsOnlyRead t mid) (old_pair old_id new_pair new_id : ℕ) (name : Name) (rename : CanReplaceAcross t old_pair old_id new_pair new_id name) (address : IsAddress (pair_in mid old_pair).at) where
+  abbrev later_u : Kept
+  later_u = with_history t mid.history
+
+  same_u : mid ≡ later_u
+  same_u = read_is t mid only
+
+  abbrev pub onto_there : CanReplaceAcross (with_history t mid.history) old_pair old_id new_pair new_id name
+  onto_there = replace_later t mid.history rename
+
+  here_address : IsAddress (pair_in later_u old_pair).at
+  here_address = subst (λ k. IsAddress (pair_in k old_pair).at) same_u address
+
+  pub parts_onto_later : parts_at mid old_pair old_id ≡ parts_at t old_pair old_id
+  parts_onto_later = ap (λ k. parts_at k old_pair old_id) same_u
+
+  pub changes_onto_later : replacing_changes mid old_pair old_id new_pair new_id name ≡ replacing_changes t old_pair old_id new_pair new_id name
+  changes_onto_later = ap (λ k. replacing_changes k old_pair old_id new_pair new_id name) same_u
+
+  pub can_put_onto_later : CanPut mid new_pair (replacing_changes mid old_pair old_id new_pair new_id name)
+  can_put_onto_later = subst (λ k. CanPut k new_pair (replacing_changes k old_pair old_id new_pair new_id name)) (sym same_u) (can_put_onto later_u old_pair old_id new_pair new_id name onto_there here_address)
+
+  pub ends_onto_later : (last : Kept) → IsPut mid new_pair (replacing_changes mid old_pair old_id new_pair new_id name) last → EndsAfter mid old_pair old_id new_pair last
+  ends_onto_later = subst (λ k. (last : Kept) → IsPut k new_pair (replacing_changes k old_pair old_id new_pair new_id name) last → EndsAfter k old_pair old_id new_pair last) (sym same_u)
+      (ends_onto later_u old_pair old_id new_pair new_id name onto_there here_address)
+
+  -- ---- what comes of it
+
+  replaced_earlier : (new : Kept) → IsReplacedAcross later_u new rename.old.path rename.old.name rename.path name rename.target.stands.slot.struct → IsReplacedAcross t new rename.old.path rename.old.name rename.path name rename.target.stands.slot.struct
+  replaced_earlier new x = record { now = record { ready = x.now.ready; shows = x.now.shows; stays = x.now.stays; none_comes = x.now.none_comes }; completed = x.completed }
+
+  pub replaced_later : (new : Kept) → IsPutAndEnded mid old_pair old_id new_pair (replacing_changes mid old_pair old_id new_pair new_id name) new → IsReplacedAcross t new rename.old.path rename.old.name rename.path name rename.target.stands.slot.struct
+  replaced_later new is = replaced_earlier new (replaced_across later_u old_pair old_id new_pair new_id name onto_there here_address new
+      (subst (λ k. IsPutAndEnded k old_pair old_id new_pair (replacing_changes k old_pair old_id new_pair new_id name) new) same_u is))
+
+  pub survives_onto_later : (new : Kept) → WritesInTwo mid old_pair new_pair new → SurvivesBoth mid new_pair (replacing_changes mid old_pair old_id new_pair new_id name) new
+      → Survives t.disk t.history new.history (tree_in t.disk t.pairs) (with_moved t rename.old.path rename.old.name rename.path name)
+  survives_onto_later new w both =
+      let after = with_moved t rename.old.path rename.old.name rename.path name in
+      let from = subst (λ k. SurvivesBoth k new_pair (replacing_changes k old_pair old_id new_pair new_id name) new) same_u both in
+      survives_then t.disk t.history mid.history new.history (tree_in t.disk t.pairs) after only.reads w.writes.at_worst
+      (read_survives t mid.history only.reads rename.old.ready after)
+      (from (tree_in t.disk t.pairs) after (survives_onto later_u old_pair old_id new_pair new_id name onto_there here_address) (shows_onto later_u old_pair old_id new_pair new_id name onto_there here_address))
+
+-- ---- what it tells
+
+only_then : (a b c : Kept) → IsOnlyRead a b → IsOnlyRead b c → IsOnlyRead a c
+only_then a b c x y = record {
+  disk = y.disk ∙ x.disk;
+  reads = OnlyReads-trans x.reads y.reads (ap (λ (d : Disk). d.blocks) x.disk);
+  pairs = y.pairs ∙ x.pairs;
+  map = y.map ∙ x.map;
+}
+
+pub tells_after_read : {X : Type 0} (old mid new : State) (index : ℕ) (changes : List Change) (r : Result X Error) → IsOnlyRead old.kept mid.kept → faults mid.kept.history ≡ faults old.kept.history
+    → TellsInSteps mid new index changes r → TellsInSteps old new index changes r
+tells_after_read old mid new index changes r only same h = record {
+  failed = go h.failed;
+  errors = h.errors;
+  fault = λ io. (let k = h.fault io in omega (arith, k, same));
+  no_fault = λ other. h.no_fault other ∙ same;
+  unchanged = λ none. only_then old.kept mid.kept new.kept only (h.unchanged none);
+  no_space = λ none. subst (λ m. HasTwoFree m → ⊥) only.map (h.no_space none);
+  too_large = λ none. subst (λ k. IsTooLarge k index changes) (read_is old.kept mid.kept only) (h.too_large none);
+}
+  where
+    go : (new.failed ≡ has_failed r) ⊎ ((new.failed ≡ false) × IsOnlyRead mid.kept new.kept) → (new.failed ≡ has_failed r) ⊎ ((new.failed ≡ false) × IsOnlyRead old.kept new.kept)
+    go (inl e) = inl e
+    go (inr (e, o)) = inr (e, only_then old.kept mid.kept new.kept only o)
+
+-- the slot couldn't be read
+pub tells_unread : {X Y : Type 0} (old new : State) (index : ℕ) (changes : List Change) (e : Error) (result : Result X Error) (given : Result Y Error) → result ≡ Err e → given ≡ Err e
+    → new.failed ≡ false → IsOnlyRead old.kept new.kept → HasTold old.kept new.kept result → TellsInSteps old new index changes given
+tells_unread old new index changes e result given is same works only told = record {
+  failed = inr (works, only);
+  errors = subst (λ r. IfErr r (λ x. (x ≡ Io) ⊎ ((x ≡ NoMemory) ⊎ (x ≡ NoSpace)))) (sym same) (wider one);
+  fault = λ io. told.fault (is ∙ ap Err (same_err e Io given same io));
+  no_fault = λ other. told.no_fault (λ io. other (same ∙ ap Err (same_err e Io result is io)));
+  unchanged = λ none. only;
+  no_space = λ none. absurd (not_space one (same_err e NoSpace given same none));
+  too_large = λ none. absurd (not_space one (same_err e NoSpace given same none));
+}
+  where
+    one : (e ≡ Io) ⊎ (e ≡ NoMemory)
+    one = subst (λ r. IfErr r (λ x. (x ≡ Io) ⊎ (x ≡ NoMemory))) is told.errors
+
+    same_err : {A : Type 0} (a b : Error) (r : Result A Error) → r ≡ Err a → r ≡ Err b → a ≡ b
+    same_err a b r h k = cc
+
+    wider : (e ≡ Io) ⊎ (e ≡ NoMemory) → (e ≡ Io) ⊎ ((e ≡ NoMemory) ⊎ (e ≡ NoSpace))
+    wider (inl a) = inl a
+    wider (inr b) = inr (inl b)
+
+    not_space : (e ≡ Io) ⊎ (e ≡ NoMemory) → e ≡ NoSpace → ⊥
+    not_space (inl a) k = absurd (cc)
+    not_space (inr b) k = absurd (cc)
+
+-- no room for the changes
+pub tells_unmade : {Y : Type 0} (old new : State) (index : ℕ) (changes : List Change) (given : Result Y Error) → given ≡ Err NoMemory → new.failed ≡ false → IsOnlyRead old.kept new.kept
+    → faults new.kept.history ≡ faults old.kept.history → TellsInSteps old new index changes given
+tells_unmade old new index changes given same works only none = record {
+  failed = inr (works, only);
+  errors = subst (λ r. IfErr r (λ x. (x ≡ Io) ⊎ ((x ≡ NoMemory) ⊎ (x ≡ NoSpace)))) (sym same) (inr (inl refl));
+  fault = λ io. absurd (let z = sym same ∙ io in cc);
+  no_fault = λ other. none;
+  unchanged = λ e. only;
+  no_space = λ e. absurd (let z = sym same ∙ e in cc);
+  too_large = λ e. absurd (let z = sym same ∙ e in cc);
+}
+
+pub writes_after_read : (t mid new : Kept) (one other : ℕ) → IsOnlyRead t mid → WritesInTwo mid one other new → WritesInTwo t one other new
+writes_after_read t mid new one other only w =
+    let f = subst (λ k. WritesInTwo k one other new) (read_is t mid only) w in
+    earlier f
+  where
+    earlier : WritesInTwo (with_history t mid.history) one other new → WritesInTwo t one other new
+    earlier f = record {
+      fresh = f.fresh;
+      few = f.few;
+      free = f.free;
+      writes = record {
+        others = f.writes.others;
+        elsewhere = StayUnprogrammed-trans (StayUnprogrammed-reads ((pair_in t other).at.0 ∷ (pair_in t other).at.1 ∷ (pair_in t one).at.0 ∷ (pair_in t one).at.1 ∷ f.fresh) only.reads) f.writes.elsewhere;
+        shape = f.writes.shape;
+        at_worst = LeavesOnly-trans (LeavesOnly-reads AtWorst-read only.reads (record { count = refl; sizes = λ b. refl; others = λ b apart. refl })) f.writes.at_worst;
+      };
+    }
+
+pub writes_read : (t mid : Kept) (one other : ℕ) → IsOnlyRead t mid → WritesInTwo t one other mid
+writes_read t mid one other only = writes_first t mid one other (read_writes t mid only other)

@@ -1,0 +1,387 @@
+-- A rename across pairs, from where the entry stands and where its name belongs.
+use Rattle.std.proofs.Common.{nat_eq, ℕ, ◌≡◌, ◌+◌, ◌-◌, ◌<◌, ◌⊎◌, inl, inr, true, false, List, [], ◌∷◌, ◌++◌, length, None, Some, refl, sym, ap, ap₂, subst, ◌∙◌, arith, append_assoc, append-nil, length-append, insert, slice_get}
+use Rattle.std.specs.Option.{option_and_then}
+use Rattle.std.specs.List.{IsDistinct}
+use Rattle.std.proofs.lemmas.Nat.{xor_lt}
+use Rattle.std.proofs.lemmas.List.Sums.{sum_by-append}
+use Rattle.lfs_model.specs.Changes.{Change, PutMove, changed_by}
+use Rattle.lfs_model.specs.Content.{RawContent, RawSlot, complete_all, completed, raw_at}
+use Rattle.lfs_model.specs.Cut.{CanBeCut}
+use Rattle.lfs_model.specs.Disk.{Disk}
+use Rattle.lfs_model.specs.History.{Event}
+use Rattle.lfs_model.specs.InDirectory.{BeginsAt, Belongs, IsBehind}
+use Rattle.lfs_model.specs.Logged.{IsAddress, IsMoveState}
+use Rattle.lfs_model.specs.Names.{Name, is_name}
+use Rattle.lfs_model.specs.PowerLoss.{Survives}
+use Rattle.lfs_model.specs.Slots.{Slot, FitsPair, Gstate, gstate_xor, same_pair, slot_size}
+use Rattle.lfs_model.specs.Thread.{Pair, blocks_of, first_at, gstate_of, next_of, starts_with_superblock, superblocks_before}
+use Rattle.lfs_model.specs.Tree.{Path}
+use Rattle.lfs_model.specs.Apply.{renamed, rest_after}
+use Rattle.lfs_model.specs.View.{FitsEntry, IsAccepted, IsEntry, IsWritable, Leads, entries_in, tree_in}
+use Rattle.lfs_model.specs.SlotEdits.{slot_of_path}
+use Rattle.lfs_model.proofs.Changes.{Follows}
+use Rattle.lfs_model.proofs.Committed.{no_move_from}
+use Rattle.lfs_model.proofs.Completed.{IsCompleted, complete_insert, complete_length, completed_from, completed_parts}
+use Rattle.lfs_model.proofs.Counts.{Each, each_right}
+use Rattle.lfs_model.proofs.Effects.{does_first, puts_move}
+use Rattle.lfs_model.proofs.Halves.{content_cut, entry_small}
+use Rattle.lfs_model.proofs.Indexes.{nothing_there}
+use Rattle.lfs_model.proofs.Listings.{Ends}
+use Rattle.lfs_model.proofs.Moves.{insert_here, place_at}
+use Rattle.lfs_model.proofs.Names.{IsPlace}
+use Rattle.lfs_model.proofs.Pairs.{pair_back, pair_on}
+use Rattle.lfs_model.proofs.Paths.{last_is}
+use Rattle.lfs_model.proofs.Searches.{is_site, number_is, place_of_belongs, same, same_number, site, slot_of_stands, thread_is}
+use Rattle.lfs_model.proofs.Sites.{Site, begin_of, thread_at}
+use Rattle.lfs_model.proofs.StoredChanges.{logged_changed}
+use Rattle.lfs_model.proofs.Writable.{flag}
+use Rattle.lfs_pair.specs.Commit.{made_at}
+use Rattle.lfs_thread.specs.Device.{StopsLeave}
+use Rattle.lfs_thread.specs.Kept.{Kept}
+use Rattle.lfs_thread.specs.Steps.{SlotsHaveFirst, made_in_thread, pair_in}
+use Rattle.lfs_operations.specs.Changing.{CanPut, IsLeftByPut, IsPut}
+use Rattle.lfs_operations.specs.Editing.{CanEdit}
+use Rattle.lfs_operations.specs.Moving.{CanEnd, CanRenameAcross, EndsAfter, HasEnded, IsPutAndEnded, IsRenamedAcross, move_of, moving_changes, place_after, with_moved}
+use Rattle.lfs_operations.specs.Ready.{IsLoggedAt}
+use Rattle.lfs_operations.specs.RenamingSlots.{HasSlot, Parts, parts_at, parts_of, slot_changes}
+use Rattle.lfs_operations.proofs.Held.{CompletesTo, IsEntryIfOther, below, each_pair, fits_there, here, other_entries, raw_there}
+use Rattle.lfs_operations.proofs.MovSet.{HasTurned, IsSetting, chain_same, set_new, walk_by}
+use Rattle.lfs_operations.proofs.MovStep.{IsFirst, first_survives, first_turned, grown, mid_ends, mid_shows, rename_becomes, rename_completed, same_at}
+use Rattle.lfs_operations.proofs.MovTurned.{IsTurn, content_with}
+use Rattle.lfs_operations.proofs.RenameMade.{Leaves, is_slot, leaves_all, parts_are}
+use Rattle.lfs_operations.proofs.RenameSlots.{IsOf, name_length, slot_comes, slot_of_parts, with_slot}
+use Rattle.lfs_operations.proofs.Stepped.{ready_again}
+
+-- ---- the first pair of a directory
+
+-- no hard tail leads to it
+pub flag_ends : (before : List Pair) → Ends before → flag false before ≡ false
+flag_ends [] h = refl
+flag_ends (p ∷ []) h = h
+flag_ends (p ∷ q ∷ ps) h = flag_ends (q ∷ ps) h
+
+get_behind : (xs : List Pair) (p : Pair) (ys : List Pair) → slice_get (xs ++ p ∷ ys) (length xs) ≡ Some p
+get_behind [] p ys = refl
+get_behind (x ∷ xs) p ys = get_behind xs p ys
+
+-- no other stands in front of it there
+pub alone : (chain before left tail : List Pair) (p : Pair) (a : ℕ × ℕ) (first : ℕ) → IsDistinct nat_eq (blocks_of (chain ++ ((before ++ left) ++ p ∷ tail))) → same_pair (first_at (left ++ p ∷ [])) a ≡ true
+    → BeginsAt (chain ++ ((before ++ left) ++ p ∷ tail)) a first → first ≡ length chain + length (before ++ left) → left ≡ []
+alone chain before [] tail p a first distinct h b n = refl
+alone chain before (x ∷ left) tail p a first distinct h b n =
+    let ps = chain ++ ((before ++ x ∷ left) ++ p ∷ tail) in
+    let whole : chain ++ ((before ++ x ∷ left) ++ p ∷ tail) ≡ (chain ++ before) ++ x ∷ (left ++ p ∷ tail)
+    = ap (λ z. chain ++ z) (append_assoc before (x ∷ left) (p ∷ tail)) ∙ sym (append_assoc chain before (x ∷ (left ++ p ∷ tail))) in
+    let there = ap (λ z. slice_get z (length (chain ++ before))) whole ∙ get_behind (chain ++ before) x (left ++ p ∷ tail) in
+    let e = same_number (chain ++ ((before ++ x ∷ left) ++ p ∷ tail)) (length (chain ++ before)) first x b.pair distinct there b.there (pair_on x.at a b.pair.at h (pair_back b.pair.at a b.same)) in
+    let k = length-append chain before in
+    let m = length-append before (x ∷ left) in
+    absurd (omega arith)
+
+-- ---- what the changes make
+
+-- what the log says of the entry
+record Source (t : Kept) (pair id : ℕ) (u : Slot) : Type 0 where
+  raw : RawSlot
+  is : parts_at t pair id ≡ parts_of raw
+  of : IsOf raw u
+
+module _ (t : Kept) (old_pair old_id new_pair : ℕ) (can : CanEdit t old_pair old_id) (address : IsAddress (pair_in t old_pair).at)
+    (first : ℕ) (p : Pair) (rest : List Pair) (place : IsBehind t.pairs first new_pair p rest) (logged : IsLoggedAt t.disk (pair_in t new_pair).at) where
+  abbrev pub o : Pair
+  o = can.stands.pair
+
+  abbrev pub u : Slot
+  u = can.stands.stands.slot
+
+  here_o : pair_in t old_pair ≡ o
+  here_o = here t can.ready can.first old_pair o can.stands.rest can.stands.place
+
+  here_p : pair_in t new_pair ≡ p
+  here_p = here t can.ready first new_pair p rest place
+
+  source : Source t old_pair old_id u
+  source = record {
+    raw = _;
+    is = parts_are t old_pair old_id can.ready can.first o can.stands.rest can.stands.place can.logged can.name can.stands.stands;
+    of = is_slot t old_pair old_id can.ready can.first o can.stands.rest can.stands.place can.logged can.name can.stands.stands;
+  }
+
+  abbrev pub c : CompletesTo (raw_at t.disk (pair_in t new_pair).at) p.content
+  c = raw_there t can.ready first new_pair p rest place
+
+  parts : IsCompleted c.raw p.content
+  parts = completed_parts c.raw p.content c.complete
+
+  abbrev pub move : Gstate
+  move = gstate_xor (move_of (pair_in t old_pair).at old_id) (pair_in t new_pair).content.move
+
+  abbrev pub share : Gstate
+  share = gstate_xor (move_of o.at (length can.stands.stands.left)) p.content.move
+
+  pub move_is : move ≡ share
+  move_is = ap₂ (λ (x : Pair) (i : ℕ). gstate_xor (move_of x.at i) (pair_in t new_pair).content.move) here_o (sym can.stands.stands.number)
+      ∙ ap (λ (x : Pair). gstate_xor (move_of o.at (length can.stands.stands.left)) x.content.move) here_p
+
+  within : old_id < length o.content.slots
+  within = let h = ap length can.stands.stands.held in let k = length-append can.stands.stands.left (u ∷ can.stands.stands.right) in let n = can.stands.stands.number in omega arith
+
+  is_state : IsMoveState move
+  is_state =
+      let g = subst IsMoveState (sym parts.move ∙ ap (λ (x : Pair). x.content.move) (sym here_p)) (logged c.raw c.is).move in
+      let few = (fits_there t can.ready can.first old_pair o can.stands.rest can.stands.place).count in
+      let m = within in
+      record {
+        kind = xor_lt 11 0x4ff (pair_in t new_pair).content.move.kind (omega arith) g.kind;
+        id = xor_lt 10 old_id (pair_in t new_pair).content.move.id (omega arith) g.id;
+        pair = (xor_lt 32 (pair_in t old_pair).at.0 (pair_in t new_pair).content.move.pair.0 address.0 g.pair.0, xor_lt 32 (pair_in t old_pair).at.1 (pair_in t new_pair).content.move.pair.1 address.1 g.pair.1);
+      }
+
+  abbrev pub raw_mid : RawContent
+  raw_mid = record c.raw { move = move }
+
+  module _ (front : List Change) (a b : List Slot) (left : Leaves raw_mid front (a ++ b)) (fits_left : FitsPair t.disk.block_size t.disk.page (record p.content { slots = a ++ b }))
+      (at : ℕ) (number : length a ≡ at) (name : Name) (named : is_name name ≡ true) (fits : FitsEntry t.disk.block_size t.disk.page (record u { name = name })) where
+    abbrev pub changes : List Change
+    changes = PutMove move ∷ (front ++ slot_changes at name (parts_at t old_pair old_id))
+
+    abbrev pub moved : Slot
+    moved = record u { name = name }
+
+    abbrev raw_moved : RawSlot
+    raw_moved = slot_of_parts name (parts_of source.raw)
+
+    abbrev raw_now : RawContent
+    raw_now = with_slot left.left at raw_moved
+
+    length_left : length left.left.slots ≡ length (a ++ b)
+    length_left = sym (complete_length left.left.slots (a ++ b) left.are)
+
+    changed_now : changed_by c.raw changes ≡ Some raw_now
+    changed_now = does_first (PutMove move) (front ++ slot_changes at name (parts_at t old_pair old_id)) c.raw raw_mid raw_now (puts_move c.raw move is_state)
+        (left.does (slot_changes at name (parts_at t old_pair old_id)) raw_now
+        (ap (λ (z : Parts). changed_by left.left (slot_changes at name z)) source.is
+        ∙ slot_comes left.left at name (parts_of source.raw) (let n = fits_left.count in let k = length-append a b in omega arith)
+        (let k = length-append a b in let l = length_left in omega arith) (name_length name named) source.of.are))
+
+    made_raw : made_at t.disk (pair_in t new_pair).at changes ≡ Some raw_now
+    made_raw = ap (λ o. option_and_then (λ (x : RawContent). changed_by x changes) o) c.is ∙ changed_now
+
+    slots_now : complete_all raw_now.slots ≡ Some (a ++ moved ∷ b)
+    slots_now = complete_insert left.left.slots (a ++ b) at raw_moved moved left.are (source.of.complete name) ∙ ap (λ (i : ℕ). Some (insert (a ++ b) i moved)) (sym number) ∙ ap Some (insert_here a b moved)
+
+    now_complete : completed raw_now ≡ Some (content_with p (a ++ moved ∷ b) share)
+    now_complete =
+        completed_from raw_now (a ++ moved ∷ b) slots_now
+        ∙ ap₂ (λ t m. Some (record { slots = a ++ moved ∷ b; tail = t; move = m })) (left.tail ∙ sym parts.tail) (left.move ∙ move_is)
+
+    pub made : made_in_thread t new_pair changes ≡ Some (content_with p (a ++ moved ∷ b) share)
+    made = ap (λ o. option_and_then completed o) made_raw ∙ now_complete
+
+    cut : CanBeCut t.disk.block_size t.disk.page raw_now.slots
+    cut = content_cut t.disk.block_size t.disk.page raw_now (content_with p (a ++ moved ∷ b) share) a moved b (logged_changed c.raw changes raw_now (logged c.raw c.is) changed_now) now_complete refl
+        (entry_small t.disk.block_size t.disk.page moved can.ready.large fits)
+        (let f = fits_left.size in let k = sum_by-append slot_size a b in omega arith)
+        (let n = fits_left.count in let k = length-append a b in omega arith)
+
+    pub can_put : CanPut t new_pair changes
+    can_put = record {
+      can = record {
+        below = below t can.ready first new_pair p rest place;
+        content = content_with p (a ++ moved ∷ b) share;
+        made = made;
+        next = ap (λ (z : Pair). next_of z.content.tail) (sym here_p);
+      };
+      raw = raw_now;
+      made = made_raw;
+      cut = cut;
+    }
+
+-- ---- to a new name
+
+module _ (t : Kept) (old_pair old_id new_pair new_id : ℕ) (name : Name) (rename : CanRenameAcross t old_pair old_id new_pair new_id name) (address : IsAddress (pair_in t old_pair).at) where
+  abbrev can : CanEdit t old_pair old_id
+  can = rename.old
+
+  abbrev b : Belongs t.pairs rename.first name new_pair new_id
+  b = rename.belongs
+
+  abbrev p : Pair
+  p = b.pair
+
+  abbrev q : Pair
+  q = can.stands.pair
+
+  abbrev lo : List Slot
+  lo = can.stands.stands.left
+
+  abbrev ro : List Slot
+  ro = can.stands.stands.right
+
+  abbrev s : Slot
+  s = can.stands.stands.slot
+
+  abbrev v : Slot
+  v = record s { name = name }
+
+  abbrev wo : Site
+  wo = site t.disk t.pairs can.path can.at can.ready.accepted can.leads can.first old_pair q can.stands.rest can.stands.place can.begins
+
+  abbrev w : Site
+  w = site t.disk t.pairs rename.path rename.at can.ready.accepted rename.leads rename.first new_pair p (b.later ++ b.rest) b.place rename.begins
+
+  there_old : t.pairs ≡ thread_at wo (q ∷ [])
+  there_old = thread_is t.disk t.pairs can.path can.at can.ready.accepted can.leads can.first old_pair q can.stands.rest can.stands.place can.begins
+
+  there : t.pairs ≡ thread_at w (p ∷ [])
+  there = thread_is t.disk t.pairs rename.path rename.at can.ready.accepted rename.leads rename.first new_pair p (b.later ++ b.rest) b.place rename.begins
+
+  held_all : complete_all (raw_mid t old_pair old_id new_pair can address rename.first p (b.later ++ b.rest) b.place rename.logged).slots ≡ Some (b.left ++ b.right)
+  held_all = (completed_parts (c t old_pair old_id new_pair can address rename.first p (b.later ++ b.rest) b.place rename.logged).raw p.content (c t old_pair old_id new_pair can address rename.first p (b.later ++ b.rest) b.place rename.logged).complete).slots ∙ ap Some b.held
+
+  leaves : Leaves (raw_mid t old_pair old_id new_pair can address rename.first p (b.later ++ b.rest) b.place rename.logged) [] (b.left ++ b.right)
+  leaves = leaves_all (raw_mid t old_pair old_id new_pair can address rename.first p (b.later ++ b.rest) b.place rename.logged) (b.left ++ b.right) held_all
+
+  fits_left : FitsPair t.disk.block_size t.disk.page (record p.content { slots = b.left ++ b.right })
+  fits_left = subst (λ z. FitsPair t.disk.block_size t.disk.page (record p.content { slots = z })) b.held (fits_there t can.ready rename.first new_pair p (b.later ++ b.rest) b.place)
+
+  pub can_put_across : CanPut t new_pair (moving_changes t old_pair old_id new_pair new_id name)
+  can_put_across = can_put t old_pair old_id new_pair can address rename.first p (b.later ++ b.rest) b.place rename.logged [] b.left b.right leaves fits_left new_id b.number name rename.is_name rename.fits
+
+  pub has_slot_across : HasSlot t old_pair old_id
+  has_slot_across =
+      let e = ap (λ (z : Pair). length z.content.slots) (here t can.ready can.first old_pair q can.stands.rest can.stands.place) in
+      let h = ap length can.stands.stands.held in
+      let k = length-append lo (s ∷ ro) in
+      let n = can.stands.stands.number in
+      record { below = below t can.ready can.first old_pair q can.stands.rest can.stands.place; there = omega arith }
+
+  entry : IsEntry s
+  entry =
+      let here = each_pair t can.ready can.first old_pair q can.stands.rest can.stands.place (λ x. Each IsEntryIfOther x.content.slots) (other_entries t.disk t.pairs can.ready.accepted) in
+      (each_right IsEntryIfOther lo (s ∷ ro) (subst (Each IsEntryIfOther) can.stands.stands.held here)).0 can.stands.stands.entry
+
+  old_number : old_pair ≡ length wo.chain + length (wo.before ++ wo.left)
+  old_number = number_is t.disk t.pairs can.path can.at can.ready.accepted can.leads can.first old_pair q can.stands.rest can.stands.place can.begins
+
+  new_number : new_pair ≡ length w.chain + length (w.before ++ w.left)
+  new_number = number_is t.disk t.pairs rename.path rename.at can.ready.accepted rename.leads rename.first new_pair p (b.later ++ b.rest) b.place rename.begins
+
+  setting : IsSetting t.disk wo q lo s ro w p b.left [] v b.right
+  setting =
+      let old_site = is_site t.disk t.pairs can.path can.at can.ready.accepted can.leads can.first old_pair q can.stands.rest can.stands.place can.begins in
+      let new_site = is_site t.disk t.pairs rename.path rename.at can.ready.accepted rename.leads rename.first new_pair p (b.later ++ b.rest) b.place rename.begins in
+      record {
+        accepted = subst (IsAccepted t.disk) there can.ready.accepted;
+        writable = subst (IsWritable t.disk) there can.ready.writable;
+        settled = ap gstate_of (sym there) ∙ can.ready.settled;
+        site = new_site;
+        there = sym there_old ∙ there;
+        old_site = old_site;
+        held = can.stands.stands.held;
+        other = can.stands.stands.entry;
+        apart = λ e.
+            let chains = sym old_site.chain ∙ ap superblocks_before (sym there_old ∙ there) ∙ new_site.chain in
+            let m = old_number in
+            let n = new_number in
+            rename.apart (omega arith);
+        was = b.held;
+        front = λ e. b.fronted;
+        entry = record { name = rename.is_name; struct = entry.struct };
+        struct = refl;
+        fit = ((λ e. absurd (let z = sym can.stands.stands.entry ∙ e in cc)), (λ e. rename.fits));
+      }
+
+  first_kept : (l : List Slot) → (l ≡ [] → starts_with_superblock b.right ≡ false) → SlotsHaveFirst (l ++ b.right) → SlotsHaveFirst (l ++ v ∷ b.right)
+  first_kept [] f e = absurd (let z = sym (f refl) ∙ e.0 in cc)
+  first_kept (x ∷ l) f e = e
+
+  turn : IsTurn t new_pair (moving_changes t old_pair old_id new_pair new_id name) w p (b.left ++ v ∷ b.right) (gstate_xor (move_of q.at (length lo)) p.content.move)
+  turn = record {
+    accepted = can.ready.accepted;
+    there = there;
+    place = new_number;
+    site = setting.site;
+    made = made t old_pair old_id new_pair can address rename.first p (b.later ++ b.rest) b.place rename.logged [] b.left b.right leaves fits_left new_id b.number name rename.is_name rename.fits;
+    first = λ h. first_kept b.left (λ e. b.fronted) (subst SlotsHaveFirst b.held (h.kind, h.name));
+  }
+
+  same_begin : same_pair (begin_of wo (q ∷ [])) can.at ≡ true
+  same_begin = same t.disk t.pairs can.path can.at can.ready.accepted can.leads can.first old_pair q can.stands.rest can.stands.place can.begins
+
+  filled : flag false (wo.before ++ wo.left) ≡ true → 1 < length q.content.slots
+  filled hard = go rename.stays
+    where
+      go : (old_pair ≡ can.first) ⊎ (1 < length (pair_in t old_pair).content.slots) → 1 < length q.content.slots
+      go (inl e) =
+          let none_before = alone wo.chain wo.before wo.left (wo.right ++ wo.after) q can.at can.first (subst (λ z. IsDistinct nat_eq (blocks_of z)) there_old can.ready.accepted.thread.distinct) same_begin
+          (subst (λ z. BeginsAt z can.at can.first) there_old can.begins) (sym e ∙ old_number) in
+          let soft = ap (λ z. flag false (wo.before ++ z)) none_before ∙ ap (flag false) (append-nil wo.before) ∙ flag_ends wo.before setting.old_site.ends in
+          absurd (let z = sym hard ∙ soft in cc)
+      go (inr many) = subst (λ (z : Pair). 1 < length z.content.slots) (here t can.ready can.first old_pair q can.stands.rest can.stands.place) many
+
+  place : IsPlace (entries_in t.pairs rename.at) (place_at w b.left) name
+  place = place_of_belongs t.disk t.pairs rename.path rename.at can.ready.accepted rename.leads rename.first new_pair new_id name (no_move_from t.pairs can.ready.settled) b rename.begins
+
+  abbrev from : Path
+  from = can.path ++ can.name ∷ []
+
+  abbrev to : Path
+  to = rename.path ++ name ∷ []
+
+  follows : (disk : Disk) (x : Pair) (more : List Pair) → HasTurned t.disk w p (b.left ++ v ∷ b.right) (gstate_xor (move_of q.at (length lo)) p.content.move) disk x more
+      → Follows t.disk (thread_at w (p ∷ [])) disk (thread_at w (x ∷ more)) (renamed from to) (walk_by from to)
+  follows disk x more turned = subst (λ (n : Name). Follows t.disk (thread_at w (p ∷ [])) disk (thread_at w (x ∷ more)) (renamed (can.path ++ n ∷ []) to) (walk_by (can.path ++ n ∷ []) to)) can.stands.stands.named
+      (set_new t.disk wo q lo s ro w p b.left v b.right disk x more turned can.path can.at (subst (λ z. Leads z can.path can.at) there can.leads) same_begin
+      rename.path rename.at (subst (λ z. Leads z rename.path rename.at) there rename.leads)
+      (same t.disk t.pairs rename.path rename.at can.ready.accepted rename.leads rename.first new_pair p (b.later ++ b.rest) b.place rename.begins)
+      setting refl (ap (λ (n : Name). rest_after (can.path ++ n ∷ []) to) can.stands.stands.named ∙ rename.not_beneath)
+      (subst (λ z. IsPlace (entries_in z rename.at) (place_at w b.left) name) there place))
+
+  is_first : IsFirst t old_pair new_pair (moving_changes t old_pair old_id new_pair new_id name) wo q lo s ro w p b.left None v b.right from to name
+  is_first = record {
+    ready = can.ready;
+    turn = turn;
+    setting = setting;
+    chain = chain_same t.disk wo q lo s ro w p b.left [] v b.right setting;
+    old_place = old_number;
+    old_is = ap (λ (z : Pair). z.at) (here t can.ready can.first old_pair q can.stands.rest can.stands.place);
+    logged = subst (λ (z : Pair). IsLoggedAt t.disk z.at) (here t can.ready can.first old_pair q can.stands.rest can.stands.place) can.logged;
+    same_slot = refl;
+    follows = follows;
+    filled = filled;
+    from_slot = subst (λ z. slot_of_path z from ≡ Some s) there
+        (slot_of_stands t.disk t.pairs can.path can.at can.ready.accepted can.leads can.first old_pair old_id can.name (no_move_from t.pairs can.ready.settled) can.stands can.begins);
+    to_slot = subst (λ z. slot_of_path z to ≡ None) there (nothing_there t.disk t.pairs rename.path rename.at (place_at w b.left) name rename.leads place).0;
+    to_name = last_is rename.path name;
+    file = tt;
+  }
+
+  pub ends_across : (mid : Kept) → IsPut t new_pair (moving_changes t old_pair old_id new_pair new_id name) mid → EndsAfter t old_pair old_id new_pair mid
+  ends_across mid is =
+      let x = first_turned t old_pair new_pair (moving_changes t old_pair old_id new_pair new_id name) wo q lo s ro w p b.left None v b.right from to name is_first mid is in
+      record {
+        grown = grown t old_pair new_pair (moving_changes t old_pair old_id new_pair new_id name) wo q lo s ro w p b.left None v b.right from to name is_first mid x;
+        can = subst (λ i. CanEnd mid (place_after old_pair new_pair (length mid.pairs - length t.pairs)) i) can.stands.stands.number
+            (mid_ends t old_pair new_pair (moving_changes t old_pair old_id new_pair new_id name) wo q lo s ro w p b.left None v b.right from to name is_first mid x);
+        at = same_at t old_pair new_pair (moving_changes t old_pair old_id new_pair new_id name) wo q lo s ro w p b.left None v b.right from to name is_first mid x;
+      }
+
+  pub shows_across : (mid : Kept) → IsPut t new_pair (moving_changes t old_pair old_id new_pair new_id name) mid → tree_in mid.disk mid.pairs ≡ with_moved t can.path can.name rename.path name
+  shows_across mid is = mid_shows t old_pair new_pair (moving_changes t old_pair old_id new_pair new_id name) wo q lo s ro w p b.left None v b.right from to name is_first mid
+      (first_turned t old_pair new_pair (moving_changes t old_pair old_id new_pair new_id name) wo q lo s ro w p b.left None v b.right from to name is_first mid is)
+
+  pub survives_across : (calls : List Event) → StopsLeave t.history calls (IsLeftByPut t new_pair (moving_changes t old_pair old_id new_pair new_id name))
+      → Survives t.disk t.history calls (tree_in t.disk t.pairs) (with_moved t can.path can.name rename.path name)
+  survives_across calls stops = first_survives t old_pair new_pair (moving_changes t old_pair old_id new_pair new_id name) wo q lo s ro w p b.left None v b.right from to name is_first calls stops
+
+  pub renamed_across : (new : Kept) → IsPutAndEnded t old_pair old_id new_pair (moving_changes t old_pair old_id new_pair new_id name) new → IsRenamedAcross t new can.path can.name rename.path name
+  renamed_across new is =
+      let x = first_turned t old_pair new_pair (moving_changes t old_pair old_id new_pair new_id name) wo q lo s ro w p b.left None v b.right from to name is_first is.mid is.put in
+      let e = subst (λ i. HasEnded is.mid (place_after old_pair new_pair (length is.mid.pairs - length t.pairs)) i new) (sym can.stands.stands.number) is.ended in
+      record {
+        now = ready_again t new (with_moved t can.path can.name rename.path name)
+            (rename_becomes t old_pair new_pair (moving_changes t old_pair old_id new_pair new_id name) wo q lo s ro w p b.left None v b.right from to name is_first is.mid x new e);
+        completed = λ z given to_given tree given_is to_is.
+            rename_completed t old_pair new_pair (moving_changes t old_pair old_id new_pair new_id name) wo q lo s ro w p b.left None v b.right from to name is_first is.mid x new e z given to_given tree given_is to_is;
+      }

@@ -1,0 +1,336 @@
+-- A pair of an accepted image that is changed, or split, and gets any share of the global state.
+use Rattle.std.proofs.Common.{ℕ, zero, suc, ◌≡◌, ◌+◌, ◌<◌, ◌≤◌, ◌⊎◌, inl, inr, Bool, true, false, cond, eqb-true, nat_eq, List, [], ◌∷◌, ◌++◌, length, take, drop, Some, refl, sym, ap, ap₂, subst, ◌∙◌, arith, append_assoc, append-nil, length-append, get_or, set, insert, slice_get}
+use Rattle.std.specs.Prelude.{All}
+use Rattle.std.specs.List.{IsDistinct}
+use Rattle.std.proofs.lemmas.Option.{same_Some}
+use Rattle.std.proofs.lemmas.List.{take-append-drop}
+use Rattle.std.proofs.lemmas.List.Elements.{All-from_recursion, recursion_from_All}
+use Rattle.lfs_model.specs.Blocks.{Blocks}
+use Rattle.lfs_model.specs.BlockSets.{AreUsed, IsFree, IsInFlight}
+use Rattle.lfs_model.specs.Changes.{Change}
+use Rattle.lfs_model.specs.Content.{content_at, holder_at}
+use Rattle.lfs_model.specs.Disk.{Disk, block_at, block_count, SameGeometry}
+use Rattle.lfs_model.specs.PowerLoss.{with_blocks}
+use Rattle.lfs_model.specs.Slots.{Slot, Content, Gstate, FitsPair, gstate_xor}
+use Rattle.lfs_model.specs.SlotEdits.{with_slots}
+use Rattle.lfs_model.specs.Thread.{Pair, blocks_of, gstate_of}
+use Rattle.lfs_model.specs.View.{BeginsWith, superblock_entry, IsAccepted, used_blocks}
+use Rattle.lfs_model.proofs.Became.{fits_same}
+use Rattle.lfs_model.proofs.Counts.{Each, each_right, count, once_from_distinct, distinct_from_once}
+use Rattle.lfs_model.proofs.Global.{gstate_cons, gstate_left, gstate_right}
+use Rattle.lfs_model.proofs.Sites.{Site, thread_at, IsSite}
+use Rattle.lfs_model.proofs.Splices.{IsDevice}
+use Rattle.lfs_model.proofs.Unchanged.{HasFirst}
+use Rattle.lfs_pair.specs.Commit.{OutsideKeeps}
+use Rattle.lfs_pair.specs.Split.{OutsideBothKeeps}
+use Rattle.lfs_thread.specs.Kept.{Kept}
+use Rattle.lfs_thread.specs.Steps.{pair_in, no_pair, made_in_thread, with_pair, with_two, AreHalves, HasShape, IsAsBefore, IsChanged, IsLeft, IsWrittenAs, SlotsHaveFirst, front_pair, back_pair}
+use Rattle.lfs_operations.specs.Changing.{AreTwoFree, IsCutIn, IsLeftByPut, IsPut, IsTooLarge}
+use Rattle.lfs_operations.specs.Ready.{NoneComes, StayTaken}
+use Rattle.lfs_operations.proofs.Owning.{length_now, none_comes_now, stay_taken, used_more}
+use Rattle.lfs_operations.proofs.Placing.{IsPlaced, all_apart, device}
+use Rattle.lfs_operations.proofs.Splicing.{AreOn, cut_front, not_used}
+use Rattle.lfs_operations.proofs.Taking.{within}
+use Rattle.lfs_operations.proofs.MovSet.{HasTurned}
+use Rattle.lfs_model.specs.BlockSets.BlockState.{Free}
+
+-- ---- places in the thread
+
+set_at : (xs : List Pair) (p : Pair) (zs : List Pair) (q : Pair) → set (xs ++ p ∷ zs) (length xs) q ≡ xs ++ q ∷ zs
+set_at [] p zs q = refl
+set_at (x ∷ xs) p zs q = ap (λ z. x ∷ z) (set_at xs p zs q)
+
+get_at : (xs : List Pair) (p : Pair) (zs : List Pair) (d : Pair) → get_or (xs ++ p ∷ zs) (length xs) d ≡ p
+get_at [] p zs d = refl
+get_at (x ∷ xs) p zs d = get_at xs p zs d
+
+insert_at : (xs : List Pair) (q : Pair) (zs : List Pair) (f : Pair) → insert (xs ++ q ∷ zs) (length xs + 1) f ≡ xs ++ q ∷ f ∷ zs
+insert_at [] q zs f = refl
+insert_at (x ∷ xs) q zs f =
+    let e : suc (length xs) + 1 ≡ suc (length xs + 1) = omega arith in
+    ap (λ (n : ℕ). insert (x ∷ (xs ++ q ∷ zs)) n f) e ∙ ap (λ z. x ∷ z) (insert_at xs q zs f)
+
+-- ---- what is known before
+
+-- the pair's tail, with other slots and another share
+abbrev pub content_with : Pair → List Slot → Gstate → Content
+content_with p slots move = record { slots = slots; tail = p.content.tail; move = move }
+
+-- At the site stands the pair of that number, and the changes give it these slots and that share.
+pub record IsTurn (t : Kept) (index : ℕ) (changes : List Change) (w : Site) (p : Pair) (slots : List Slot) (move : Gstate) : Type 0 where
+  pub accepted : IsAccepted t.disk t.pairs
+  pub there : t.pairs ≡ thread_at w (p ∷ [])
+  pub place : index ≡ length w.chain + length (w.before ++ w.left)
+  pub site : IsSite w (p ∷ [])
+  pub made : made_in_thread t index changes ≡ Some (content_with p slots move)
+  pub first : HasFirst p.content.slots → SlotsHaveFirst slots
+
+-- the map knows each block that the image uses
+pub record IsMapped (t : Kept) : Type 0 where
+  pub apart : (b : ℕ) → IsFree t.map b → count b (used_blocks t.disk t.pairs) ≡ 0
+  pub size : length t.map ≡ block_count t.disk
+
+pub mapped : (t : Kept) → AreUsed t.map (used_blocks t.disk t.pairs) → length t.map ≡ block_count t.disk → IsMapped t
+mapped t used size = record { apart = λ b free. not_used t.map (used_blocks t.disk t.pairs) used b free; size = size }
+
+pub record TurnedOn (t : Kept) (w : Site) (p : Pair) (slots : List Slot) (move : Gstate) (disk : Disk) : Type 0 where
+  pub q : Pair
+  pub more : List Pair
+  pub turned : HasTurned t.disk w p slots move disk q more
+
+-- so do the thread and the map say
+pub record TurnedTo (t : Kept) (w : Site) (p : Pair) (slots : List Slot) (move : Gstate) (new : Kept) : Type 0 where
+  pub q : Pair
+  pub more : List Pair
+  pub turned : HasTurned t.disk w p slots move new.disk q more
+  pub pairs : new.pairs ≡ thread_at w (q ∷ more)
+  pub used : (owned : List ℕ) → AreUsed t.map owned → AreUsed new.map (blocks_of more ++ owned)
+  pub size : length new.map ≡ length t.map
+  pub shape : HasShape t.disk new.disk
+  pub stays : StayTaken t.map new.map
+  pub none_comes : NoneComes t.map new.map
+
+-- the pair alone, as what a change of it comes to
+pub record ChangedOne (t : Kept) (index : ℕ) (w : Site) (p : Pair) (slots : List Slot) (move : Gstate) (new : Kept) : Type 0 where
+  pub turned : HasTurned t.disk w p slots move new.disk (record { at = p.at; content = content_with p slots move }) []
+  pub pairs : new.pairs ≡ thread_at w (record { at = p.at; content = content_with p slots move } ∷ [])
+  pub is : new.pairs ≡ with_pair t index (content_with p slots move)
+  pub map : new.map ≡ t.map
+  pub shape : HasShape t.disk new.disk
+
+module _ (t : Kept) (index : ℕ) (changes : List Change) (w : Site) (p : Pair) (slots : List Slot) (move : Gstate) (k : IsTurn t index changes w p slots move) where
+  abbrev ps : List Pair
+  ps = thread_at w (p ∷ [])
+
+  abbrev ahead : List Pair
+  ahead = w.chain ++ (w.before ++ w.left)
+
+  abbrev behind : List Pair
+  behind = w.right ++ w.after
+
+  abbrev c : Content
+  c = content_with p slots move
+
+  pub accepted : IsAccepted t.disk ps
+  accepted = subst (IsAccepted t.disk) k.there k.accepted
+
+  grouped : (q : Pair) (more : List Pair) → thread_at w (q ∷ more) ≡ ahead ++ q ∷ (more ++ behind)
+  grouped q more = sym (append_assoc w.chain (w.before ++ w.left) (q ∷ (more ++ behind)))
+
+  place_is : index ≡ length ahead
+  place_is = k.place ∙ sym (length-append w.chain (w.before ++ w.left))
+
+  pub pair_is : pair_in t index ≡ p
+  pair_is = ap₂ (λ (z : List Pair) (i : ℕ). get_or z i no_pair) (k.there ∙ grouped p []) place_is ∙ get_at ahead p behind no_pair
+
+  at_is : (pair_in t index).at ≡ p.at
+  at_is = ap (λ (z : Pair). z.at) pair_is
+
+  one_now : (c : Content) → with_pair t index c ≡ thread_at w (record { at = p.at; content = c } ∷ [])
+  one_now c =
+      let q : Pair = record { at = p.at; content = c } in
+      ap (λ (z : Pair). set t.pairs index (record { at = z.at; content = c })) pair_is
+      ∙ ap₂ (λ (z : List Pair) (i : ℕ). set z i q) (k.there ∙ grouped p []) place_is ∙ set_at ahead p behind q ∙ sym (grouped q [])
+
+  two_now : (q f : Pair) → with_two t.pairs index q f ≡ thread_at w (q ∷ f ∷ [])
+  two_now q f =
+      ap₂ (λ (z : List Pair) (i : ℕ). insert (set z i q) (i + 1) f) (k.there ∙ grouped p []) place_is
+      ∙ ap (λ (z : List Pair). insert z (length ahead + 1) f) (set_at ahead p behind q) ∙ insert_at ahead q behind f ∙ sym (grouped q (f ∷ []))
+
+  front_has : (cut : ℕ) → 0 < cut → HasFirst p.content.slots → SlotsHaveFirst (take cut slots)
+  front_has cut some h = go cut some slots (k.first h)
+    where
+      go : (cut : ℕ) → 0 < cut → (slots : List Slot) → SlotsHaveFirst slots → SlotsHaveFirst (take cut slots)
+      go zero some slots e = absurd (omega arith)
+      go (suc cut) some [] e = e
+      go (suc cut) some (s ∷ slots) e = e
+
+  -- ---- on the disk
+
+  shape_same : {disk : Disk} → HasShape t.disk disk → SameGeometry t.disk disk
+  shape_same s = record { block_size = s.block_size; page = s.page; count = s.count }
+
+  same_two : (disk : Disk) → OutsideKeeps p.at t.disk.blocks disk.blocks → (b : ℕ) → count b (blocks_of (p ∷ [])) ≡ 0 → block_at disk b ≡ block_at t.disk b
+  same_two disk others b none = others.others b (all_apart (p.at.0 ∷ p.at.1 ∷ []) b none)
+
+  same_four : (disk : Disk) (fresh : ℕ × ℕ) → OutsideBothKeeps p.at fresh t.disk.blocks disk.blocks → (b : ℕ) → count b (fresh.0 ∷ fresh.1 ∷ blocks_of (p ∷ [])) ≡ 0 → block_at disk b ≡ block_at t.disk b
+  same_four disk fresh others b none = others.others b (all_apart (p.at.0 ∷ p.at.1 ∷ fresh.0 ∷ fresh.1 ∷ []) b (omega arith))
+
+  placed_one : (disk : Disk) (c : Content) → (HasFirst p.content.slots → SlotsHaveFirst c.slots) → IsWrittenAs t index c disk → IsPlaced t.disk disk p (record { at = p.at; content = c }) [] []
+  placed_one disk c first is = record {
+    geometry = shape_same is.shape;
+    same = same_two disk (subst (λ at. OutsideKeeps at t.disk.blocks disk.blocks) at_is is.others);
+    contents = (ap (content_at disk) (sym at_is) ∙ is.holds, tt);
+    first = λ h b. subst (λ at. BeginsWith (holder_at disk at) superblock_entry) at_is (is.first (subst (λ at. BeginsWith (holder_at t.disk at) superblock_entry) (sym at_is) b) (first h));
+  }
+
+  placed_still : (disk : Disk) (fresh : ℕ × ℕ) → HasShape t.disk disk → OutsideBothKeeps (pair_in t index).at fresh t.disk.blocks disk.blocks → IsAsBefore t index disk → IsPlaced t.disk disk p p [] (fresh.0 ∷ fresh.1 ∷ [])
+  placed_still disk fresh shape others is = record {
+    geometry = shape_same shape;
+    same = same_four disk fresh (subst (λ at. OutsideBothKeeps at fresh t.disk.blocks disk.blocks) at_is others);
+    contents = (subst (λ (z : Pair). content_at disk z.at ≡ Some z.content) pair_is is.holds, tt);
+    first = λ h b. subst (λ at. BeginsWith (holder_at disk at) superblock_entry) at_is (is.first (subst (λ at. BeginsWith (holder_at t.disk at) superblock_entry) (sym at_is) b));
+  }
+
+  placed_two : (disk : Disk) (fresh : ℕ × ℕ) (cut : ℕ) → 0 < cut → AreOn t index c disk fresh cut → IsPlaced t.disk disk p (cut_front p.at c cut fresh) (back_pair c cut fresh ∷ []) (fresh.0 ∷ fresh.1 ∷ [])
+  placed_two disk fresh cut some is = record {
+    geometry = shape_same is.shape;
+    same = same_four disk fresh (subst (λ at. OutsideBothKeeps at fresh t.disk.blocks disk.blocks) at_is is.others);
+    contents = (ap (content_at disk) (sym at_is) ∙ is.front, (is.back, tt));
+    first = λ h b. subst (λ at. BeginsWith (holder_at disk at) superblock_entry) at_is
+        (is.parts.first (subst (λ at. BeginsWith (holder_at t.disk at) superblock_entry) (sym at_is) b) (front_has cut some h));
+  }
+
+  -- ---- free blocks
+
+  free_apart : IsMapped t → (b : ℕ) → IsFree t.map b → count b (used_blocks t.disk ps) ≡ 0
+  free_apart m b free = ap (λ z. count b (used_blocks t.disk z)) (sym k.there) ∙ m.apart b free
+
+  all_distinct : IsMapped t → (fresh : ℕ × ℕ) → AreTwoFree t.map fresh → IsDistinct nat_eq (fresh.0 ∷ fresh.1 ∷ used_blocks t.disk ps)
+  all_distinct m fresh two = distinct_from_once (fresh.0 ∷ fresh.1 ∷ used_blocks t.disk ps) (λ b. go b (nat_eq b fresh.0) (nat_eq b fresh.1) refl refl)
+    where
+      go : (b : ℕ) (x y : Bool) → nat_eq b fresh.0 ≡ x → nat_eq b fresh.1 ≡ y → cond x 1 0 + (cond y 1 0 + count b (used_blocks t.disk ps)) ≤ 1
+      go b false false e f = let n = once_from_distinct (used_blocks t.disk ps) accepted.owned_once b in omega arith
+      go b true true e f = absurd (two.apart (sym (eqb-true b fresh.0 e) ∙ eqb-true b fresh.1 f))
+      go b true false e f = let n = free_apart m b (subst (IsFree t.map) (sym (eqb-true b fresh.0 e)) two.first) in omega arith
+      go b false true e f = let n = free_apart m b (subst (IsFree t.map) (sym (eqb-true b fresh.1 f)) two.second) in omega arith
+
+  fresh_range : IsMapped t → (fresh : ℕ × ℕ) → AreTwoFree t.map fresh → Each (λ b. b < block_count t.disk) (fresh.0 ∷ fresh.1 ∷ [])
+  fresh_range m fresh two = let e = m.size in let f = within t.map fresh.0 Free two.first in let g = within t.map fresh.1 Free two.second in (omega arith, (omega arith, tt))
+
+  -- ---- what it comes to
+
+  turned_one : (disk : Disk) → IsWrittenAs t index c disk → FitsPair t.disk.block_size t.disk.page c → HasTurned t.disk w p slots move disk (record { at = p.at; content = c }) []
+  turned_one disk is fits = record {
+    at = refl;
+    share = gstate_cons (record { at = p.at; content = c }) [] ∙ gstate_right move;
+    is = append-nil slots;
+    became = (refl, fits_same t.disk (record { at = p.at; content = c }) (with_slots slots p) refl fits);
+    device = device t.disk disk w p (record { at = p.at; content = c }) [] [] accepted accepted.owned_once (placed_one disk c k.first is);
+    free = record { distinct = accepted.owned_once; in_range = All-from_recursion (λ b. b < block_count t.disk) [] tt };
+    same = (placed_one disk c k.first is).same;
+  }
+
+  turned_two : IsMapped t → (disk : Disk) (fresh : ℕ × ℕ) (cut : ℕ) → AreTwoFree t.map fresh → (FitsPair t.disk.block_size t.disk.page c → ⊥) → AreOn t index c disk fresh cut
+      → HasTurned t.disk w p slots move disk (cut_front p.at c cut fresh) (back_pair c cut fresh ∷ [])
+  turned_two m disk fresh cut two large is = record {
+    at = refl;
+    share = gstate_cons front (back ∷ []) ∙ ap (gstate_xor move) (gstate_cons back [] ∙ gstate_left (gstate_of [])) ∙ gstate_right move;
+    is = ap (λ z. take cut slots ++ z) (append-nil (drop cut slots)) ∙ take-append-drop cut slots;
+    became = (refl, refl, (λ fits. large (fits_same t.disk (with_slots slots p) (record { at = p.at; content = c }) refl fits)), is.parts.front_fits, is.parts.back_fits);
+    device = device t.disk disk w p front (back ∷ []) (fresh.0 ∷ fresh.1 ∷ []) accepted (all_distinct m fresh two) (placed_two disk fresh cut (is.parts.inside large).0 is);
+    free = record {
+      distinct = all_distinct m fresh two;
+      in_range = All-from_recursion (λ b. b < block_count t.disk) (fresh.0 ∷ fresh.1 ∷ []) (fresh_range m fresh two);
+    };
+    same = (placed_two disk fresh cut (is.parts.inside large).0 is).same;
+  }
+    where
+      front : Pair
+      front = cut_front p.at (content_with p slots move) cut fresh
+
+      back : Pair
+      back = back_pair (content_with p slots move) cut fresh
+
+  made_same : (d : Content) → made_in_thread t index changes ≡ Some d → d ≡ c
+  made_same d m = same_Some d c (sym m ∙ k.made)
+
+  too_large : IsTooLarge t index changes → FitsPair t.disk.block_size t.disk.page c → ⊥
+  too_large large = subst (λ d. FitsPair t.disk.block_size t.disk.page d → ⊥) (made_same large.0 large.1.0) large.1.1
+
+  pub changed_one : (new : Kept) → IsChanged t index changes new → ChangedOne t index w p slots move new
+  changed_one new is =
+      let same = made_same is.content is.made in
+      record {
+        turned = turned_one new.disk (subst (λ d. IsWrittenAs t index d new.disk) same is.written) (subst (FitsPair t.disk.block_size t.disk.page) same is.fits);
+        pairs = is.pairs ∙ one_now is.content ∙ ap (λ d. thread_at w (record { at = p.at; content = d } ∷ [])) same;
+        is = is.pairs ∙ ap (λ d. with_pair t index d) same;
+        map = is.map;
+        shape = is.written.shape;
+      }
+
+  changed_turned : (new : Kept) → IsChanged t index changes new → TurnedTo t w p slots move new
+  changed_turned new is =
+      let x = changed_one new is in
+      record {
+        q = record { at = p.at; content = c };
+        more = [];
+        turned = x.turned;
+        pairs = x.pairs;
+        used = λ owned h. subst (λ m. AreUsed m owned) (sym is.map) h;
+        size = ap length is.map;
+        shape = is.written.shape;
+        stays = λ b taken. ap (λ m. slice_get m b) is.map;
+        none_comes = λ b flies. subst (λ m. IsInFlight m b) is.map flies;
+      }
+
+  cut_turned : IsMapped t → (new : Kept) (fresh : ℕ × ℕ) → IsTooLarge t index changes → IsCutIn t index fresh changes new → TurnedTo t w p slots move new
+  cut_turned m new fresh large is =
+      let same = made_same is.content is.made in
+      let there : new.pairs ≡ thread_at w (front_pair t index is.content is.cut fresh ∷ back_pair is.content is.cut fresh ∷ [])
+      = is.pairs ∙ two_now (front_pair t index is.content is.cut fresh) (back_pair is.content is.cut fresh) in
+      let held = recursion_from_All (λ (x : Pair). content_at new.disk x.at ≡ Some x.content) (thread_at w (front_pair t index is.content is.cut fresh ∷ back_pair is.content is.cut fresh ∷ []))
+      (subst (All (λ (x : Pair). content_at new.disk x.at ≡ Some x.content)) there is.thread.contents) in
+      let here = each_right (λ (x : Pair). content_at new.disk x.at ≡ Some x.content) (w.before ++ w.left) (front_pair t index is.content is.cut fresh ∷ back_pair is.content is.cut fresh ∷ [] ++ (w.right ++ w.after))
+      (each_right (λ (x : Pair). content_at new.disk x.at ≡ Some x.content) w.chain ((w.before ++ w.left) ++ (front_pair t index is.content is.cut fresh ∷ back_pair is.content is.cut fresh ∷ [] ++ (w.right ++ w.after))) held) in
+      let on = subst (λ d. AreOn t index d new.disk fresh is.cut) same (record { shape = is.shape; others = is.others; front = here.0; back = here.1.0; parts = is.parts }) in
+      let f = back_pair c is.cut fresh in
+      record {
+        q = cut_front p.at c is.cut fresh;
+        more = f ∷ [];
+        turned = turned_two m new.disk fresh is.cut is.free (too_large large) on;
+        pairs = there ∙ ap (λ d. thread_at w (front_pair t index d is.cut fresh ∷ back_pair d is.cut fresh ∷ [])) same
+            ∙ ap (λ at. thread_at w (cut_front at c is.cut fresh ∷ f ∷ [])) at_is;
+        used = λ owned h. subst (λ m. AreUsed m (fresh.0 ∷ fresh.1 ∷ owned)) (sym is.map) (used_more t.map fresh is.free owned (fresh.0 ∷ fresh.1 ∷ owned) (λ b. omega arith) h);
+        size = ap length is.map ∙ length_now t.map fresh is.free;
+        shape = is.shape;
+        stays = λ b taken. ap (λ m. slice_get m b) is.map ∙ stay_taken t.map fresh is.free b taken;
+        none_comes = λ b flies. none_comes_now t.map fresh is.free b (subst (λ m. IsInFlight m b) is.map flies);
+      }
+
+  pub put_turned : IsMapped t → (new : Kept) → IsPut t index changes new → TurnedTo t w p slots move new
+  put_turned m new (inl is) = changed_turned new is
+  put_turned m new (inr (large, (fresh, is))) = cut_turned m new fresh large is
+
+  -- ---- at a stop
+
+  abbrev pub Stays : Disk → Type 0
+  Stays disk = IsDevice t.disk disk (thread_at w (p ∷ [])) (thread_at w (p ∷ []))
+
+  shape_of : (left : Blocks) → length left ≡ length t.disk.blocks → HasShape t.disk (with_blocks left t.disk)
+  shape_of left e = record { block_size = refl; page = refl; count = e }
+
+  pub left_alone : (left : Blocks) → IsLeft t index changes left
+      → Stays (with_blocks left t.disk) ⊎ HasTurned t.disk w p slots move (with_blocks left t.disk) (record { at = p.at; content = content_with p slots move }) []
+  left_alone left is = go is.is
+    where
+      go : (is.content ≡ (pair_in t index).content) ⊎ ((made_in_thread t index changes ≡ Some is.content) × FitsPair t.disk.block_size t.disk.page is.content)
+          → Stays (with_blocks left t.disk) ⊎ HasTurned t.disk w p slots move (with_blocks left t.disk) (record { at = p.at; content = content_with p slots move }) []
+      go (inl e) =
+          let same = e ∙ ap (λ (z : Pair). z.content) pair_is in
+          inl (device t.disk (with_blocks left t.disk) w p p [] [] accepted accepted.owned_once
+          (placed_one (with_blocks left t.disk) p.content (λ h. (h.kind, h.name)) (subst (λ d. IsWrittenAs t index d (with_blocks left t.disk)) same is.written)))
+      go (inr (m, fits)) =
+          let same = made_same is.content m in
+          inr (turned_one (with_blocks left t.disk) (subst (λ d. IsWrittenAs t index d (with_blocks left t.disk)) same is.written) (subst (FitsPair t.disk.block_size t.disk.page) same fits))
+
+  alone_on : (disk : Disk) → Stays disk ⊎ HasTurned t.disk w p slots move disk (record { at = p.at; content = content_with p slots move }) [] → Stays disk ⊎ TurnedOn t w p slots move disk
+  alone_on disk (inl d) = inl d
+  alone_on disk (inr x) = inr (record { q = record { at = p.at; content = content_with p slots move }; more = []; turned = x })
+
+  pub left_put : IsMapped t → (left : Blocks) → IsLeftByPut t index changes left → Stays (with_blocks left t.disk) ⊎ TurnedOn t w p slots move (with_blocks left t.disk)
+  left_put m left (inl is) = alone_on (with_blocks left t.disk) (left_alone left is)
+  left_put m left (inr (large, (fresh, (two, is)))) = go is.content
+    where
+      go : IsAsBefore t index (with_blocks left t.disk) ⊎ AreHalves t index changes fresh (with_blocks left t.disk) → Stays (with_blocks left t.disk) ⊎ TurnedOn t w p slots move (with_blocks left t.disk)
+      go (inl b) = inl (device t.disk (with_blocks left t.disk) w p p [] (fresh.0 ∷ fresh.1 ∷ []) accepted (all_distinct m fresh two)
+          (placed_still (with_blocks left t.disk) fresh (shape_of left is.others.count) is.others b))
+      go (inr h) =
+          let same = made_same h.content h.made in
+          inr (record {
+            q = cut_front p.at (content_with p slots move) h.cut fresh;
+            more = back_pair (content_with p slots move) h.cut fresh ∷ [];
+            turned = turned_two m (with_blocks left t.disk) fresh h.cut two (too_large large)
+                (subst (λ d. AreOn t index d (with_blocks left t.disk) fresh h.cut) same
+                (record { shape = shape_of left is.others.count; others = is.others; front = h.front; back = h.back; parts = h.parts }));
+          })

@@ -1,0 +1,174 @@
+-- Which blocks an image uses after a commit: those that it used, and those of a pair that came.
+use Rattle.std.proofs.Common.{ℕ, ◌≡◌, ◌≢◌, ◌+◌, ◌≤◌, Bool, true, false, cond, eqb-true, eq-eqb, nat_eq, List, [], ◌∷◌, ◌++◌, length, Some, refl, sym, ap, subst, ◌∙◌, arith, append-nil, set, slice_get, length-set}
+use Rattle.std.specs.Prelude.{Contains, ◌↔◌}
+use Rattle.std.specs.List.{flat_map}
+use Rattle.std.proofs.lemmas.List.Elements.{recursion_from_All}
+use Rattle.std.proofs.lemmas.List.Concat.{flat_map-append}
+use Rattle.lfs_model.specs.Disk.{Disk}
+use Rattle.lfs_model.specs.BlockSets.{AreUsed, BlockSets, IsFree, IsInFlight, IsUsed}
+use Rattle.lfs_model.specs.BlockSets.BlockState.{Free, InFlight, Used}
+use Rattle.lfs_model.specs.Slots.{Slot, no_gstate}
+use Rattle.lfs_model.specs.Thread.{Pair, blocks_of, gstate_of}
+use Rattle.lfs_model.specs.View.{all_slots, file_blocks, used_blocks}
+use Rattle.lfs_model.proofs.BlockSets.{count-Contains, Contains-count, slice_get-set_same, slice_get-set_other}
+use Rattle.lfs_model.proofs.Changes.{SameFiles, slots_files}
+use Rattle.lfs_model.proofs.Committed.{IsCommit, no_move_from}
+use Rattle.lfs_model.proofs.Counts.{each_left, each_right, count, count_append}
+use Rattle.lfs_model.proofs.Files.{HasSameFile}
+use Rattle.lfs_model.proofs.Sites.{Site, thread_at}
+use Rattle.lfs_model.proofs.Splices.{files_of, slots_in, unmoved_in, count_files}
+use Rattle.lfs_thread.specs.Steps.{settled}
+use Rattle.lfs_operations.specs.Changing.{AreTwoFree, flying}
+use Rattle.lfs_operations.specs.Ready.{NoneComes, StayTaken}
+use Rattle.lfs_operations.proofs.Placing.{blocks_append}
+use Rattle.lfs_operations.proofs.Taking.{within}
+
+-- ---- counting
+
+slots_append : (xs ys : List Pair) → slots_in (xs ++ ys) ≡ slots_in xs ++ slots_in ys
+slots_append xs ys = flat_map-append (λ (p : Pair). p.content.slots) xs ys
+
+count_used : (b : ℕ) (disk : Disk) (ps : List Pair) → gstate_of ps ≡ no_gstate → count b (used_blocks disk ps) ≡ count b (blocks_of ps) + count b (files_of disk (slots_in ps))
+count_used b disk ps none = count_append b (blocks_of ps) (flat_map (λ s. file_blocks disk s.struct) (all_slots ps))
+    ∙ ap (λ z. count b (blocks_of ps) + count b (files_of disk z)) (unmoved_in (gstate_of ps) (no_move_from ps none) ps)
+
+-- the slots of a thread, by a site
+slots_at : (w : Site) (ps : List Pair) → slots_in (thread_at w ps) ≡ slots_in w.chain ++ (slots_in (w.before ++ w.left) ++ (slots_in ps ++ slots_in (w.right ++ w.after)))
+slots_at w ps = slots_append w.chain ((w.before ++ w.left) ++ (ps ++ (w.right ++ w.after)))
+    ∙ ap (λ z. slots_in w.chain ++ z) (slots_append (w.before ++ w.left) (ps ++ (w.right ++ w.after)) ∙ ap (λ z. slots_in (w.before ++ w.left) ++ z) (slots_append ps (w.right ++ w.after)))
+
+count_at : (b : ℕ) (disk : Disk) (w : Site) (ps : List Pair) (l mid r : List Slot) → slots_in ps ≡ l ++ (mid ++ r) → count b (files_of disk (slots_in (thread_at w ps)))
+    ≡ count b (files_of disk (slots_in w.chain)) + (count b (files_of disk (slots_in (w.before ++ w.left)))
+    + ((count b (files_of disk l) + (count b (files_of disk mid) + count b (files_of disk r))) + count b (files_of disk (slots_in (w.right ++ w.after)))))
+count_at b disk w ps l mid r e =
+    let f1 = slots_in w.chain in
+    let f2 = slots_in (w.before ++ w.left) in
+    let g = slots_in (w.right ++ w.after) in
+    let a = ap (λ z. count b (files_of disk z)) (slots_at w ps) in
+    let c = count_files b disk f1 (f2 ++ (slots_in ps ++ g)) in
+    let d = count_files b disk f2 (slots_in ps ++ g) in
+    let h = count_files b disk (slots_in ps) g in
+    let i = ap (λ z. count b (files_of disk z)) e in
+    let j = count_files b disk l (mid ++ r) in
+    let k = count_files b disk mid r in
+    omega arith
+
+count_pairs : (b : ℕ) (w : Site) (ps : List Pair) → count b (blocks_of (thread_at w ps))
+    ≡ count b (blocks_of w.chain) + (count b (blocks_of (w.before ++ w.left)) + (count b (blocks_of ps) + count b (blocks_of (w.right ++ w.after))))
+count_pairs b w ps =
+    let a = blocks_append w.chain ((w.before ++ w.left) ++ (ps ++ (w.right ++ w.after))) b in
+    let c = blocks_append (w.before ++ w.left) (ps ++ (w.right ++ w.after)) b in
+    let d = blocks_append ps (w.right ++ w.after) b in
+    omega arith
+
+module _ (disk new : Disk) (w : Site) (p q : Pair) (more : List Pair) (l olds news r : List Slot) (gone come : List ℕ) (c : IsCommit disk new w p q more come l olds news r)
+    (blocks : (b : ℕ) → count b (files_of new news) + count b gone ≡ count b come + count b (files_of disk olds)) where
+  abbrev ps : List Pair
+  ps = thread_at w (p ∷ [])
+
+  abbrev qs : List Pair
+  qs = thread_at w (q ∷ more)
+
+  was_one : slots_in (p ∷ []) ≡ l ++ (olds ++ r)
+  was_one = append-nil p.content.slots ∙ c.was
+
+  all_same : SameFiles disk new (slots_in w.chain ++ (slots_in (w.before ++ w.left) ++ ((l ++ (olds ++ r)) ++ slots_in (w.right ++ w.after))))
+  all_same = subst (SameFiles disk new)
+      (unmoved_in (gstate_of ps) (no_move_from ps c.settled) ps ∙ slots_at w (p ∷ []) ∙ ap (λ z. slots_in w.chain ++ (slots_in (w.before ++ w.left) ++ (z ++ slots_in (w.right ++ w.after)))) was_one)
+      (recursion_from_All (λ (s : Slot). HasSameFile disk new s.struct) (all_slots ps) c.device.files)
+
+  abbrev F : Slot → Type 0
+  F s = HasSameFile disk new s.struct
+
+  kept : (ss : List Slot) → SameFiles disk new ss → (b : ℕ) → count b (files_of new ss) ≡ count b (files_of disk ss)
+  kept ss h b = ap (count b) (slots_files disk new ss c.device.geometry h)
+
+  pub used_count_now : (b : ℕ) → count b (used_blocks new qs) + count b gone ≡ count b (blocks_of more) + count b (used_blocks disk ps) + count b come
+  used_count_now b =
+      let f1 = slots_in w.chain in
+      let f2 = slots_in (w.before ++ w.left) in
+      let g = slots_in (w.right ++ w.after) in
+      let h1 = each_left F f1 (f2 ++ ((l ++ (olds ++ r)) ++ g)) all_same in
+      let h2 = each_right F f1 (f2 ++ ((l ++ (olds ++ r)) ++ g)) all_same in
+      let h3 = each_left F f2 ((l ++ (olds ++ r)) ++ g) h2 in
+      let h4 = each_right F f2 ((l ++ (olds ++ r)) ++ g) h2 in
+      let h5 = each_left F (l ++ (olds ++ r)) g h4 in
+      let h6 = each_right F (l ++ (olds ++ r)) g h4 in
+      let e1 = kept f1 h1 b in
+      let e2 = kept f2 h3 b in
+      let e3 = kept g h6 b in
+      let e4 = kept l (each_left F l (olds ++ r) h5) b in
+      let e5 = kept r (each_right F olds r (each_right F l (olds ++ r) h5)) b in
+      let e6 = blocks b in
+      let a1 = count_used b new qs c.still in
+      let a2 = count_used b disk ps c.settled in
+      let b1 = count_at b new w (q ∷ more) l news r c.is in
+      let b2 = count_at b disk w (p ∷ []) l olds r was_one in
+      let d1 = count_pairs b w (q ∷ more) in
+      let d2 = count_pairs b w (p ∷ []) in
+      let at = ap (λ (a : ℕ × ℕ). count b (a.0 ∷ a.1 ∷ [])) c.at in
+      let k = count_append b (q.at.0 ∷ q.at.1 ∷ []) (blocks_of more) in
+      omega arith
+
+-- ---- the map
+
+-- where the image uses the same
+pub used_same : (sets : BlockSets) (us vs : List ℕ) → ((b : ℕ) → count b vs ≡ count b us) → AreUsed sets us → AreUsed sets vs
+used_same sets us vs same used b = (
+  (λ h. Contains-count vs b (let k = count-Contains us b ((used b).0 h) in let e = same b in omega arith)),
+  (λ h. (used b).1 (Contains-count us b (let k = count-Contains vs b h in let e = same b in omega arith))),
+)
+
+-- two blocks come
+module _ (sets : BlockSets) (fresh : ℕ × ℕ) (two : AreTwoFree sets fresh) where
+  abbrev now : BlockSets
+  now = settled (flying sets fresh) fresh
+
+  pub elsewhere : (b : ℕ) → b ≢ fresh.0 → b ≢ fresh.1 → slice_get now b ≡ slice_get sets b
+  elsewhere b e f =
+      slice_get-set_other (set (flying sets fresh) fresh.0 Used) fresh.1 b Used f
+      ∙ slice_get-set_other (flying sets fresh) fresh.0 b Used e
+      ∙ slice_get-set_other (set sets fresh.0 InFlight) fresh.1 b InFlight f
+      ∙ slice_get-set_other sets fresh.0 b InFlight e
+
+  pub length_now : length now ≡ length sets
+  length_now = length-set (set (flying sets fresh) fresh.0 Used) fresh.1 Used ∙ length-set (flying sets fresh) fresh.0 Used
+      ∙ length-set (set sets fresh.0 InFlight) fresh.1 InFlight ∙ length-set sets fresh.0 InFlight
+
+  second_used : slice_get now fresh.1 ≡ Some Used
+  second_used = slice_get-set_same (set (flying sets fresh) fresh.0 Used) fresh.1 Used
+      (let w = within sets fresh.1 Free two.second in let e = length-set (flying sets fresh) fresh.0 Used ∙ length-set (set sets fresh.0 InFlight) fresh.1 InFlight ∙ length-set sets fresh.0 InFlight in omega arith)
+
+  first_used : slice_get now fresh.0 ≡ Some Used
+  first_used = slice_get-set_other (set (flying sets fresh) fresh.0 Used) fresh.1 fresh.0 Used two.apart
+      ∙ slice_get-set_same (flying sets fresh) fresh.0 Used
+      (let w = within sets fresh.0 Free two.first in let e = length-set (set sets fresh.0 InFlight) fresh.1 InFlight ∙ length-set sets fresh.0 InFlight in omega arith)
+
+  pub stay_taken : StayTaken sets now
+  stay_taken b taken = elsewhere b (λ e. taken (subst (IsFree sets) (sym e) two.first)) (λ e. taken (subst (IsFree sets) (sym e) two.second))
+
+  pub none_comes_now : NoneComes sets now
+  none_comes_now b flies = go (nat_eq b fresh.0) (nat_eq b fresh.1) refl refl
+    where
+      used_there : slice_get now b ≡ Some Used → ⊥
+      used_there is = absurd (let wrong : Some Used ≡ Some InFlight = sym is ∙ flies in cc)
+
+      go : (x y : Bool) → nat_eq b fresh.0 ≡ x → nat_eq b fresh.1 ≡ y → IsInFlight sets b
+      go true y e f = absurd (used_there (ap (slice_get now) (eqb-true b fresh.0 e) ∙ first_used))
+      go false true e f = absurd (used_there (ap (slice_get now) (eqb-true b fresh.1 f) ∙ second_used))
+      go false false e f = sym (elsewhere b (λ k. absurd (let z = sym (eq-eqb b fresh.0 k) ∙ e in cc)) (λ k. absurd (let z = sym (eq-eqb b fresh.1 k) ∙ f in cc))) ∙ flies
+
+  pub used_more : (us vs : List ℕ) → ((b : ℕ) → count b vs ≡ count b (fresh.0 ∷ fresh.1 ∷ []) + count b us) → AreUsed sets us → AreUsed now vs
+  used_more us vs more used b = go (nat_eq b fresh.0) (nat_eq b fresh.1) refl refl (more b)
+    where
+      both : slice_get now b ≡ Some Used → 1 ≤ count b vs → IsUsed now b ↔ Contains vs b
+      both is some = ((λ h. Contains-count vs b some), (λ h. is))
+
+      go : (x y : Bool) → nat_eq b fresh.0 ≡ x → nat_eq b fresh.1 ≡ y → count b vs ≡ (cond x 1 0 + (cond y 1 0 + 0)) + count b us → IsUsed now b ↔ Contains vs b
+      go true y e f m = both (ap (slice_get now) (eqb-true b fresh.0 e) ∙ first_used) (omega arith)
+      go false true e f m = both (ap (slice_get now) (eqb-true b fresh.1 f) ∙ second_used) (omega arith)
+      go false false e f m =
+          let same = elsewhere b (λ k. absurd (let z = sym (eq-eqb b fresh.0 k) ∙ e in cc)) (λ k. absurd (let z = sym (eq-eqb b fresh.1 k) ∙ f in cc)) in (
+            (λ h. Contains-count vs b (let n = count-Contains us b ((used b).0 (sym same ∙ h)) in omega arith)),
+            (λ h. same ∙ (used b).1 (Contains-count us b (let n = count-Contains vs b h in omega arith))),
+          )

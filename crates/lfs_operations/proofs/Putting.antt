@@ -1,0 +1,215 @@
+-- A pair that is changed, or split into two free blocks.
+use Rattle.std.proofs.Common.{true, ℕ, ◌≡◌, ◌⊎◌, inl, inr, List, [], ◌∷◌, Result, Ok, Err, arith, refl, sym, ap, subst, ◌∙◌, set}
+use Rattle.std.specs.Prelude.{IfErr, is_err}
+use Rattle.lfs_device.specs.declared.error.Error.{Error}
+use Rattle.lfs_device.specs.declared.error.Error.TheVariants.{Io, NoMemory, NoSpace}
+use Rattle.lfs_model.specs.Blocks.{Blocks}
+use Rattle.lfs_model.specs.BlockSets.{BlockSets}
+use Rattle.lfs_model.specs.BlockSets.BlockState.{Free, InFlight}
+use Rattle.lfs_model.specs.Changes.{Change}
+use Rattle.lfs_model.specs.Disk.{Disk}
+use Rattle.lfs_model.specs.Slots.{Content}
+use Rattle.lfs_model.specs.History.{Event, OnlyReads, faults}
+use Rattle.lfs_model.proofs.BlockSets.{slice_get-set_same, slice_get-set_other}
+use Rattle.lfs_model.proofs.Histories.{LeavesOnly-weaker, LeavesOnly-trans, StayUnprogrammed-refl, StayUnprogrammed-trans, EachSince-until, EachSince-behind, began, OnlyReads-trans, StayUnprogrammed-reads, LeavesOnly-reads, AtWorst-read}
+use Rattle.lfs_thread.specs.Device.{StopsLeave, four_of}
+use Rattle.lfs_thread.specs.Kept.{Kept, State}
+use Rattle.lfs_thread.specs.Steps.{pair_in, AreHeld, AreHalves, ArePartsOf, CanBeSplit, IsLeft, HasTold, IsAsBefore, IsLeftBySplit, IsOnlyRead, IsSplit, Writes}
+use Rattle.lfs_operations.specs.Changing.{AreTwoFree, CanPut, IsCut, IsCutIn, IsLeftByPut, IsTooLarge, IsLeftByCut, TellsSpace, WritesIn, flying, Tells, has_failed}
+use Rattle.lfs_operations.proofs.Taking.{within}
+
+-- with other states of the blocks
+abbrev pub with_map : Kept → BlockSets → Kept
+with_map t sets = record t { map = sets }
+
+pub held : (sets : BlockSets) (fresh : ℕ × ℕ) → AreTwoFree sets fresh → AreHeld (flying sets fresh) fresh
+held sets fresh two = record {
+  apart = two.apart;
+  first = slice_get-set_other first_taken fresh.1 fresh.0 InFlight two.apart ∙ slice_get-set_same sets fresh.0 InFlight (within sets fresh.0 Free two.first);
+  second = slice_get-set_same first_taken fresh.1 InFlight
+      (within first_taken fresh.1 Free (slice_get-set_other sets fresh.0 fresh.1 InFlight (λ e. two.apart (sym e)) ∙ two.second));
+}
+  where
+    first_taken : BlockSets
+    first_taken = set sets fresh.0 InFlight
+
+pub can_split : (t : Kept) (index : ℕ) (fresh : ℕ × ℕ) (changes : List Change) → CanPut t index changes → AreTwoFree t.map fresh → CanBeSplit (with_map t (flying t.map fresh)) index fresh changes
+can_split t index fresh changes can two = record {
+  can = record { below = can.can.below; content = can.can.content; made = can.can.made; next = can.can.next };
+  held = held t.map fresh two;
+  raw = can.raw;
+  made = can.made;
+  cut = can.cut;
+}
+
+-- ---- what it comes to
+
+module _ (t : Kept) (index : ℕ) (fresh : ℕ × ℕ) (changes : List Change) (two : AreTwoFree t.map fresh) where
+  abbrev mid : Kept
+  mid = with_map t (flying t.map fresh)
+
+  parts_same : {content : Content} {cut : ℕ} {disk : Disk} → ArePartsOf mid index content cut fresh disk → ArePartsOf t index content cut fresh disk
+  parts_same p = record { front_fits = p.front_fits; back_fits = p.back_fits; inside = p.inside; first = p.first }
+
+  pub cut_in : (new : Kept) → IsSplit mid index fresh changes new → Writes (four_of (pair_in t index).at fresh) mid new → IsCutIn t index fresh changes new
+  cut_in new is writes = record {
+    free = two;
+    content = is.content;
+    made = is.made;
+    cut = is.cut;
+    parts = parts_same is.parts;
+    others = writes.others;
+    shape = writes.shape;
+    pairs = is.pairs;
+    thread = is.thread;
+    map = is.map;
+  }
+
+  pub left_by_cut : (left : Blocks) → IsLeftBySplit mid index fresh changes left → IsLeftByCut t index changes left
+  left_by_cut left l = (fresh, (two, record { others = l.others; content = go l.content }))
+    where
+      go : IsAsBefore mid index (record t.disk { blocks = left }) ⊎ AreHalves mid index changes fresh (record t.disk { blocks = left })
+          → IsAsBefore t index (record t.disk { blocks = left }) ⊎ AreHalves t index changes fresh (record t.disk { blocks = left })
+      go (inl b) = inl (record { holds = b.holds; first = b.first })
+      go (inr h) = inr (record { content = h.content; made = h.made; cut = h.cut; front = h.front; back = h.back; parts = parts_same h.parts })
+
+  pub stops_by_cut : (new : List Event) → StopsLeave t.history new (IsLeftBySplit mid index fresh changes) → StopsLeave t.history new (IsLeftByCut t index changes)
+  stops_by_cut new stops clean = LeavesOnly-weaker left_by_cut (stops clean)
+
+  pub writes_in : (new : Kept) → Writes (four_of (pair_in t index).at fresh) mid new → WritesIn t index new
+  writes_in new w = record {
+    fresh = fresh.0 ∷ fresh.1 ∷ [];
+    few = omega arith;
+    free = (two.first, (two.second, tt));
+    writes = record { others = w.others; elsewhere = w.elsewhere; shape = w.shape; at_worst = w.at_worst };
+  }
+
+-- ---- what it tells
+
+same_err : {A : Type 0} (a b : Error) (r : Result A Error) → r ≡ Err a → r ≡ Err b → a ≡ b
+same_err a b r h k = cc
+
+pub not_both : {A : Type 0} (r : Result A Error) (a : A) (e : Error) → r ≡ Ok a → r ≡ Err e → ⊥
+not_both r a e h k = absurd (cc)
+
+pub tells : {X Y : Type 0} (t new : Kept) (sets : BlockSets) (e : Error) (result : Result X Error) (given : Result Y Error) → result ≡ Err e → given ≡ Err e → HasTold (with_map t sets) new result → TellsSpace t new given
+tells t new sets e result given is same told = record {
+  errors = subst (λ r. IfErr r (λ x. (x ≡ Io) ⊎ ((x ≡ NoMemory) ⊎ (x ≡ NoSpace)))) (sym same) (widen is_one);
+  fault = λ io. told.fault (is ∙ ap Err (same_err e Io given same io));
+  no_fault = λ other. told.no_fault (λ io. other (same ∙ ap Err (same_err e Io result is io)));
+  unwritten = λ none. (let u = told.unwritten (is ∙ ap Err (same_err e NoMemory given same none)) in record { disk = u.disk; reads = u.reads });
+  unchanged = λ none. absurd (not_space is_one (same_err e NoSpace given same none));
+  no_space = λ none. absurd (not_space is_one (same_err e NoSpace given same none));
+}
+  where
+    is_one : (e ≡ Io) ⊎ (e ≡ NoMemory)
+    is_one = subst (λ r. IfErr r (λ x. (x ≡ Io) ⊎ (x ≡ NoMemory))) is told.errors
+
+    widen : (e ≡ Io) ⊎ (e ≡ NoMemory) → (e ≡ Io) ⊎ ((e ≡ NoMemory) ⊎ (e ≡ NoSpace))
+    widen (inl a) = inl a
+    widen (inr b) = inr (inl b)
+
+    not_space : (e ≡ Io) ⊎ (e ≡ NoMemory) → e ≡ NoSpace → ⊥
+    not_space (inl a) k = absurd (cc)
+    not_space (inr b) k = absurd (cc)
+
+-- ---- nothing was done
+
+pub writes_none : (t : Kept) (index : ℕ) → WritesIn t index t
+writes_none t index = record {
+  fresh = [];
+  few = omega arith;
+  free = tt;
+  writes = record {
+    others = record { count = refl; sizes = λ b. refl; others = λ b apart. refl };
+    elsewhere = StayUnprogrammed-refl ((pair_in t index).at.0 ∷ (pair_in t index).at.1 ∷ []) t.history;
+    shape = record { block_size = refl; page = refl; count = refl };
+    at_worst = began;
+  };
+}
+
+-- ---- after reads
+
+-- with a later history
+abbrev pub with_history : Kept → List Event → Kept
+with_history t h = record t { history = h }
+
+pub read_is : (t mid : Kept) → IsOnlyRead t mid → mid ≡ with_history t mid.history
+read_is t mid r = λ j. record { disk = r.disk j; history = mid.history; pairs = r.pairs j; map = r.map j }
+
+module _ (t : Kept) (h : List Event) (reads : OnlyReads t.disk.blocks t.history h) (index : ℕ) (changes : List Change) where
+  abbrev later : Kept
+  later = with_history t h
+
+  pub can_later : CanPut t index changes → CanPut later index changes
+  can_later k = record { can = record { below = k.can.below; content = k.can.content; made = k.can.made; next = k.can.next }; raw = k.raw; made = k.made; cut = k.cut }
+
+  parts_earlier : {content : Content} {cut : ℕ} {fresh : ℕ × ℕ} {disk : Disk} → ArePartsOf later index content cut fresh disk → ArePartsOf t index content cut fresh disk
+  parts_earlier p = record { front_fits = p.front_fits; back_fits = p.back_fits; inside = p.inside; first = p.first }
+
+  pub cut_later : (new : Kept) → IsCut later index changes new → IsCut t index changes new
+  cut_later new (fresh, is) = (
+    fresh,
+    record {
+      free = is.free;
+      content = is.content;
+      made = is.made;
+      cut = is.cut;
+      parts = parts_earlier is.parts;
+      others = is.others;
+      shape = is.shape;
+      pairs = is.pairs;
+      thread = is.thread;
+      map = is.map;
+    },
+  )
+
+  pub left_later : (left : Blocks) → IsLeftByCut later index changes left → IsLeftByCut t index changes left
+  left_later left (fresh, (two, l)) = (fresh, (two, record { others = l.others; content = go l.content }))
+    where
+      go : IsAsBefore later index (record t.disk { blocks = left }) ⊎ AreHalves later index changes fresh (record t.disk { blocks = left })
+          → IsAsBefore t index (record t.disk { blocks = left }) ⊎ AreHalves t index changes fresh (record t.disk { blocks = left })
+      go (inl b) = inl (record { holds = b.holds; first = b.first })
+      go (inr k) = inr (record { content = k.content; made = k.made; cut = k.cut; front = k.front; back = k.back; parts = parts_earlier k.parts })
+
+  pub tells_later : {X : Type 0} (new : Kept) (result : Result X Error) → faults h ≡ faults t.history → TellsSpace later new result → TellsSpace t new result
+  tells_later new result same told = record {
+    errors = told.errors;
+    fault = λ io. (let k = told.fault io in omega (arith, k, same));
+    no_fault = λ other. told.no_fault other ∙ same;
+    unwritten = λ none. (let u = told.unwritten none in record { disk = u.disk; reads = OnlyReads-trans reads u.reads refl });
+    unchanged = λ none. (let u = told.unchanged none in record { disk = u.disk; reads = OnlyReads-trans reads u.reads refl; pairs = u.pairs; map = u.map });
+    no_space = told.no_space;
+  }
+
+  pub writes_later : (new : Kept) → WritesIn later index new → WritesIn t index new
+  writes_later new w = record {
+    fresh = w.fresh;
+    few = w.few;
+    free = w.free;
+    writes = record {
+      others = w.writes.others;
+      elsewhere = StayUnprogrammed-trans (StayUnprogrammed-reads ((pair_in t index).at.0 ∷ (pair_in t index).at.1 ∷ w.fresh) reads) w.writes.elsewhere;
+      shape = w.writes.shape;
+      at_worst = LeavesOnly-trans (LeavesOnly-reads AtWorst-read reads (record { count = refl; sizes = λ b. refl; others = λ b apart. refl })) w.writes.at_worst;
+    };
+  }
+
+  pub stops_later : (new : Kept) → IsTooLarge t index changes → WritesIn later index new → StopsLeave t.history h (IsLeft t index changes) → StopsLeave h new.history (IsLeftByCut later index changes)
+      → StopsLeave t.history new.history (IsLeftByPut t index changes)
+  stops_later new large w first second clean =
+      LeavesOnly-trans (LeavesOnly-weaker (λ left l. inl l) (first (EachSince-until clean reads w.writes.at_worst)))
+      (LeavesOnly-weaker (λ left l. inr (large, left_later left l)) (second (EachSince-behind clean reads w.writes.at_worst)))
+
+-- ---- with whether the thread has failed
+
+failing : {Y : Type 0} (e : Error) (given : Result Y Error) → given ≡ Err e → (e ≡ Io) ⊎ (e ≡ NoMemory) → has_failed given ≡ true
+failing e given same (inl io) = ap has_failed (same ∙ ap Err io)
+failing e given same (inr memory) = ap has_failed (same ∙ ap Err memory)
+
+pub tells_state : {X Y : Type 0} (old new : State) (sets : BlockSets) (e : Error) (result : Result X Error) (given : Result Y Error) → result ≡ Err e → given ≡ Err e → new.failed ≡ is_err result
+    → HasTold (with_map old.kept sets) new.kept result → Tells old new given
+tells_state old new sets e result given is same failed told = record {
+  failed = failed ∙ ap is_err is ∙ sym (failing e given same (subst (λ r. IfErr r (λ x. (x ≡ Io) ⊎ (x ≡ NoMemory))) is told.errors));
+  tells = tells old.kept new.kept sets e result given is same told;
+}

@@ -1,0 +1,214 @@
+-- The end of a recovery: every pair was seen, and the sync bit is cleared.
+use Rattle.std.proofs.Common.{ℕ, suc, ◌≡◌, ◌+◌, ◌<◌, ◌≤◌, ◌⊎◌, ◌==◌, ◌&&◌, inl, inr, Bool, true, false, cond, List, [], ◌∷◌, ◌++◌, length, take, Option, Some, None, Result, Err, refl, sym, ap, ap₂, subst, subst₂, ◌∙◌, arith, append-nil}
+use Rattle.std.specs.Prelude.{All}
+use Rattle.std.proofs.lemmas.Option.{same_Some}
+use Rattle.std.proofs.lemmas.List.Elements.{All-from_recursion, recursion_from_All}
+use Rattle.lfs_device.specs.declared.error.Error.{Error}
+use Rattle.lfs_model.specs.Blocks.{Blocks}
+use Rattle.lfs_model.specs.BlockSets.{IsInFlight}
+use Rattle.lfs_model.specs.Disk.{SameGeometry, block_at}
+use Rattle.lfs_model.specs.History.{Event, faults}
+use Rattle.lfs_model.specs.Logged.{IsAddress}
+use Rattle.lfs_model.specs.PowerLoss.{IsLeft as IsLeftOf, Survives, with_blocks}
+use Rattle.lfs_model.specs.Layout.{onward}
+use Rattle.lfs_model.specs.Recovery.{IsRecovered}
+use Rattle.lfs_model.specs.Slots.{Gstate, Slot, no_gstate}
+use Rattle.lfs_model.specs.Thread.{Links, Listing, Pair, anchor, directory_pairs, gstate_of, is_hard, starts_with_superblock, superblocks_before}
+use Rattle.lfs_model.specs.View.{IsAccepted, IsReached, IsWritable, all_slots, directories_in, file_blocks, tree_in}
+use Rattle.lfs_model.proofs.AfterStops.{survives_then}
+use Rattle.lfs_model.proofs.Alike.{AreAlike, alike_itself}
+use Rattle.lfs_model.proofs.Changes.{SameFiles}
+use Rattle.lfs_model.proofs.Counts.{Each, each_always, each_weaker}
+use Rattle.lfs_model.proofs.Files.{HasSameFile}
+use Rattle.lfs_model.proofs.Global.{HasNoMove}
+use Rattle.lfs_model.proofs.Histories.{LeavesOnly-weaker}
+use Rattle.lfs_model.proofs.Layouts.{NoneGoes, none_where, rest_all}
+use Rattle.lfs_model.proofs.Moves.{AllReached}
+use Rattle.lfs_model.proofs.Recovering.{recovery_ends}
+use Rattle.lfs_model.proofs.Sites.{thread_at}
+use Rattle.lfs_model.proofs.StepsTaken.{IsTaken}
+use Rattle.lfs_model.proofs.Superblocks.{pairs_behind}
+use Rattle.lfs_thread.specs.Device.{StopsLeave}
+use Rattle.lfs_thread.specs.Kept.{Kept, State}
+use Rattle.lfs_thread.specs.Steps.{IsChanged, IsLeft, IsWrittenAs, with_pair}
+use Rattle.lfs_operations.specs.Recovering.{AreUnreached, AreUnreachedFrom, CanClearSync, CanSetState, HasRecovered, IsCleared, StaysOn, TellsOfSteps, setting, share_of}
+use Rattle.lfs_operations.specs.Removing.{TellsOfCalls}
+use Rattle.lfs_operations.proofs.Removed.{tells_again}
+use Rattle.lfs_operations.proofs.RecoverLoop.{EachBegins, IsAtDrop, IsAtEnd, all_where, begins_weaker, goes_to}
+use Rattle.lfs_operations.proofs.RecoverMap.{HasMap, files_stay, map_stays}
+use Rattle.lfs_operations.proofs.RecoverShares.{none_fits, set_content, set_made}
+use Rattle.lfs_operations.proofs.RecoverSteps.{CanClear, clear_alike, clear_left, clear_pairs, clear_state, clear_taken, device_on, h, y}
+use Rattle.lfs_operations.proofs.RecoverUnderWay.{IsUnderWay}
+
+-- ---- the sync bit
+
+fewer : (p : Pair) (ps : List Pair) → superblocks_before (p ∷ ps) < length (p ∷ ps)
+fewer p [] = omega arith
+fewer p (q ∷ ps) = go (length p.content.slots == 1 && is_hard p.content.tail && starts_with_superblock q.content.slots) (fewer q ps)
+  where
+    go : (b : Bool) → superblocks_before (q ∷ ps) < length (q ∷ ps) → cond b (1 + superblocks_before (q ∷ ps)) 0 < length (p ∷ q ∷ ps)
+    go true l = omega arith
+    go false l = omega arith
+
+some_pairs : (ps : List Pair) → Links (Some anchor) ps → superblocks_before ps < length ps
+some_pairs [] h = absurd (cc)
+some_pairs (p ∷ ps) h = fewer p ps
+
+pub none_is : (g : Gstate) → HasNoMove g → g.sync ≡ false → g ≡ no_gstate
+none_is g h s = ap (λ (b : Bool). record { sync = b; kind = g.kind; id = g.id; pair = g.pair }) s
+    ∙ ap (λ (k : ℕ). record { sync = false; kind = k; id = g.id; pair = g.pair }) h.kind
+    ∙ ap (λ (k : ℕ). record { sync = false; kind = 0; id = k; pair = g.pair }) h.id
+    ∙ ap (λ (k : ℕ × ℕ). record { sync = false; kind = 0; id = 0; pair = k }) h.pair
+
+module _ (t : Kept) (can : CanClearSync t) where
+  pub enough : superblocks_before t.pairs < length t.pairs
+  enough = some_pairs t.pairs can.accepted.thread.links
+
+  pub cleared_already : (gstate_of t.pairs).sync ≡ false → IsCleared t t
+  cleared_already s = record {
+    taken = record { follows = record { accepted = can.accepted; root = refl; shows = refl; leads = refl }; writable = can.writable };
+    alike = alike_itself t.pairs;
+    settled = none_is (gstate_of t.pairs) can.none s;
+    map = refl;
+    files = All-from_recursion (λ (s : Slot). HasSameFile t.disk t.disk s.struct) (all_slots t.pairs)
+        (each_always (λ (s : Slot). HasSameFile t.disk t.disk s.struct) (λ s. each_always (λ b. block_at t.disk b ≡ block_at t.disk b) (λ b. refl) (file_blocks t.disk s.struct)) (all_slots t.pairs));
+  }
+
+  module _ (index : ℕ) (is : index + 1 ≡ length t.pairs) where
+    can_clear : CanClear t index
+    can_clear = record {
+      accepted = can.accepted;
+      writable = can.writable;
+      none = can.none;
+      reached = can.reached;
+      behind = let e = enough in omega arith;
+      below = omega arith;
+    }
+
+    pub can_set_last : CanSetState t index no_gstate
+    can_set_last = record { accepted = can.accepted; writable = can.writable; below = omega arith; fields = none_fits }
+
+    pub cleared : (new : Kept) → IsAddress (share_of t index no_gstate).pair → IsChanged t index (setting t index no_gstate) new → IsCleared t new
+    cleared new address c =
+        let same = same_Some c.content (set_content t index no_gstate) (sym c.made ∙ set_made t index no_gstate can_set_last address) in
+        let written = subst (λ x. IsWrittenAs t index x new.disk) same c.written in
+        let pairs : new.pairs ≡ thread_at (h t index can_clear).site (y t index can_clear ∷ []) = c.pairs ∙ ap (with_pair t index) same ∙ clear_pairs t index can_clear in
+        record {
+          taken = subst₂ (λ a b. IsTaken t.disk a new.disk b (λ t. t) (λ d. d)) (sym (h t index can_clear).is) (sym pairs) (clear_taken t index can_clear new.disk written);
+          alike = subst (AreAlike t.pairs) (sym pairs) (clear_alike t index can_clear);
+          settled = ap gstate_of pairs ∙ clear_state t index can_clear;
+          map = c.map;
+          files = subst (λ z. All (λ s. HasSameFile t.disk new.disk s.struct) (all_slots z)) (sym (h t index can_clear).is) (device_on t index can_clear new.disk written).files;
+        }
+
+    pub clear_survives : (new : List Event) → IsAddress (share_of t index no_gstate).pair → StopsLeave t.history new (IsLeft t index (setting t index no_gstate))
+        → Survives t.disk t.history new (tree_in t.disk t.pairs) (tree_in t.disk t.pairs)
+    clear_survives new address stops clean = LeavesOnly-weaker (λ left x. clear_left t index can_clear can_set_last address left x) (stops clean)
+
+-- ---- all pairs were seen
+
+pub all_seen : (old now : Kept) (dropped : ℕ) → IsUnderWay old now dropped [] → IsAtEnd old.disk old.pairs now dropped (take (superblocks_before old.pairs) old.pairs) []
+all_seen old now dropped u = go (goes_to old.disk old.pairs now dropped (take (superblocks_before old.pairs) old.pairs) u.seen u.todo u.parts u.kept [] u.way)
+  where
+    go : IsAtEnd old.disk old.pairs now dropped (take (superblocks_before old.pairs) old.pairs) [] ⊎ IsAtDrop old.disk old.pairs now dropped (take (superblocks_before old.pairs) old.pairs) []
+        → IsAtEnd old.disk old.pairs now dropped (take (superblocks_before old.pairs) old.pairs) []
+    go (inl e) = e
+    go (inr d) = absurd (let l = ap length d.is in omega arith)
+
+module _ (old now : Kept) (dropped : ℕ) (u : IsUnderWay old now dropped []) where
+  e : IsAtEnd old.disk old.pairs now dropped (take (superblocks_before old.pairs) old.pairs) []
+  e = all_seen old now dropped u
+
+  abbrev C : List Pair
+  C = take (superblocks_before old.pairs) old.pairs
+
+  leads_now : (a : ℕ × ℕ) → IsReached old.pairs a → IsReached (C ++ (e.kept ++ [])) a
+  leads_now a (path, at, (l, s)) = (path, at, (ap (λ z. z path) e.way.is.taken.follows.leads ∙ l, s))
+
+  all_reached : AllReached (C ++ (e.kept ++ []))
+  all_reached = All-from_recursion (λ (d : Listing). IsReached (C ++ (e.kept ++ [])) d.at) (directories_in (C ++ (e.kept ++ [])))
+      (subst (Each (λ (d : Listing). IsReached (C ++ (e.kept ++ [])) d.at)) (rest_all (directories_in (C ++ (e.kept ++ []))))
+      (all_where (IsReached (C ++ (e.kept ++ []))) (gstate_of (C ++ (e.kept ++ []))) None (directory_pairs (C ++ (e.kept ++ [])))
+      (subst (EachBegins (IsReached (C ++ (e.kept ++ []))) None) (sym (pairs_behind C (e.kept ++ []) e.way.is.ready.is_chain))
+      (subst (EachBegins (IsReached (C ++ (e.kept ++ []))) None) (sym (append-nil e.kept))
+      (begins_weaker (IsReached old.pairs) (IsReached (C ++ (e.kept ++ []))) leads_now None e.kept e.way.begins)))))
+
+  pub can_end : CanClearSync now
+  can_end = record {
+    accepted = subst (IsAccepted now.disk) (sym e.way.there) e.way.is.ready.accepted;
+    writable = subst (IsWritable now.disk) (sym e.way.there) e.way.is.ready.writable;
+    none = subst (λ z. HasNoMove (gstate_of z)) (sym e.way.there) e.way.is.ready.no_move;
+    reached = subst AllReached (sym e.way.there) all_reached;
+  }
+
+  pub shows_now : tree_in now.disk now.pairs ≡ tree_in old.disk old.pairs
+  shows_now = ap (tree_in now.disk) e.way.there ∙ e.way.is.taken.follows.shows
+
+  pub ends : IsWritable old.disk old.pairs → 1024 ≤ old.disk.block_size → (new : Kept) → StaysOn now new → IsCleared now new → HasRecovered old new
+  ends fits large new on c = record {
+    gone = u.gone;
+    ready = record {
+      accepted = c.taken.follows.accepted;
+      writable = c.taken.writable;
+      settled = c.settled;
+      used = record { owned = m.owned; are = m.are; same = λ b. let s = m.same b in omega arith };
+      size = m.size;
+      large = let a = on.shape.block_size in let b = u.device.shape.block_size in omega arith;
+    };
+    lost = λ b. let l = u.lost b in let f = files_stay now new c.alike can_end.none still geometry files b in omega arith;
+    none_comes = λ b flies. u.none_comes b (subst (λ z. IsInFlight z b) c.map flies);
+    shows = c.taken.follows.shows ∙ shows_now;
+    completed = λ s tree. recovery_ends old.disk old.pairs now.disk C e.seen e.parts e.kept new.disk new.pairs (λ d. d) s e.way.is fits
+        (subst (λ z. IsTaken now.disk z new.disk new.pairs (λ t. t) (λ d. d)) e.way.there c.taken)
+        (subst (λ z. AreAlike z new.pairs) (e.way.there ∙ ap (λ z. C ++ z) (append-nil e.kept)) c.alike) c.settled tree;
+  }
+    where
+      still : HasNoMove (gstate_of new.pairs)
+      still = subst HasNoMove (sym c.settled) (record { kind = refl; id = refl; pair = refl })
+
+      geometry : SameGeometry now.disk new.disk
+      geometry = record { block_size = on.shape.block_size; page = on.shape.page; count = on.shape.count }
+
+      files : SameFiles now.disk new.disk (all_slots now.pairs)
+      files = recursion_from_All (λ (s : Slot). HasSameFile now.disk new.disk s.struct) (all_slots now.pairs) c.files
+
+      m : HasMap new u.gone
+      m = map_stays now new c.alike can_end.none still geometry files u.gone c.map u.map
+
+  -- a stop in the last step leaves the tree too
+  pub end_survives : (new : Kept) → StaysOn now new → Survives now.disk now.history new.history (tree_in now.disk now.pairs) (tree_in now.disk now.pairs)
+      → Survives old.disk old.history new.history (tree_in old.disk old.pairs) (tree_in old.disk old.pairs)
+  end_survives new on last = survives_then old.disk old.history now.history new.history (tree_in old.disk old.pairs) (tree_in old.disk old.pairs) u.device.calls on.calls u.survives
+      (λ clean. LeavesOnly-weaker (λ left x. subst (λ z. IsLeftOf z (tree_in old.disk old.pairs) (tree_in old.disk old.pairs)) (disk_is left)
+      (subst (λ z. IsLeftOf (with_blocks left now.disk) z z) shows_now x)) (last clean))
+    where
+      disk_is : (left : Blocks) → with_blocks left now.disk ≡ with_blocks left old.disk
+      disk_is left = ap₂ (λ (a b : ℕ). record { block_size = a; page = b; blocks = left }) u.device.shape.block_size u.device.shape.page
+
+-- ---- what the steps tell
+
+pub tells_steps : {X Y : Type 0} (old mid new : State) (e : Error) (result : Result X Error) (given : Result Y Error) → faults mid.kept.history ≡ faults old.kept.history → result ≡ Err e → given ≡ Err e → TellsOfCalls mid new result
+    → TellsOfSteps old new given
+tells_steps old mid new e result given quiet is same t =
+    let k = tells_again mid new e result given is same t.failed t.told in
+    record {
+      failed = k.failed;
+      errors = k.told.errors;
+      fault = λ io. let f = k.told.fault io in omega arith;
+      no_fault = λ other. k.told.no_fault other ∙ quiet;
+    }
+
+-- ---- where nothing is to be recovered
+
+told_none : (R : ℕ × ℕ → Type 0) (n : ℕ) (from : Option (ℕ × ℕ)) (xs : List Pair) (numbers : List ℕ) → NoneGoes (λ a. R a → ⊥) from xs → AreUnreachedFrom R n from xs numbers → numbers ≡ []
+told_none R n from [] numbers h told = told
+told_none R n from (x ∷ xs) numbers h (inl told) = told_none R (suc n) (onward from x) xs numbers h.1 told.1
+told_none R n from (x ∷ xs) numbers h (inr told) = absurd (h.0 told.1.1.0)
+
+pub none_told : (ps : List Pair) (numbers : List ℕ) → IsRecovered ps → AreUnreached ps numbers → numbers ≡ []
+none_told ps numbers h told = told_none (IsReached ps) (superblocks_before ps) None (directory_pairs ps) numbers
+    (none_where (λ a. IsReached ps a → ⊥) (gstate_of ps) None (directory_pairs ps) (λ a k. absurd (cc))
+    (subst (Each (λ (d : Listing). (IsReached ps d.at → ⊥) → ⊥)) (sym (rest_all (directories_in ps)))
+    (each_weaker (λ (d : Listing). IsReached ps d.at) (λ (d : Listing). (IsReached ps d.at → ⊥) → ⊥) (λ d k n. n k) (directories_in ps)
+    (recursion_from_All (λ (d : Listing). IsReached ps d.at) (directories_in ps) h.reached))))
+    told

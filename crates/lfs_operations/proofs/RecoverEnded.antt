@@ -1,0 +1,94 @@
+-- A set move that was ended: the map, and what is known of the thread.
+use Rattle.std.proofs.Common.{ℕ, ◌≡◌, ◌+◌, ◌-◌, true, false, List, [], ◌∷◌, length, refl, sym, ap, subst, subst₂, ◌∙◌, arith, length-append, remove}
+use Rattle.std.proofs.lemmas.Option.{same_Some}
+use Rattle.lfs_model.specs.BlockSets.{AreUsed, IsInFlight}
+use Rattle.lfs_model.specs.History.{Event}
+use Rattle.lfs_model.specs.Logged.{IsAddress}
+use Rattle.lfs_model.specs.PowerLoss.{Survives}
+use Rattle.lfs_model.specs.Slots.{Gstate}
+use Rattle.lfs_model.specs.Thread.{gstate_of}
+use Rattle.lfs_model.specs.View.{tree_in, used_blocks}
+use Rattle.lfs_model.proofs.Counts.{count, once_from_distinct}
+use Rattle.lfs_model.proofs.Global.{HasNoMove}
+use Rattle.lfs_model.proofs.Histories.{LeavesOnly-weaker}
+use Rattle.lfs_model.proofs.StepsTaken.{IsTaken}
+use Rattle.lfs_thread.specs.Device.{StopsLeave}
+use Rattle.lfs_thread.specs.Kept.{Kept}
+use Rattle.lfs_thread.specs.Steps.{IsChanged, IsDropped, IsLeft, IsWrittenAs, pair_in, with_pair, without_pair}
+use Rattle.lfs_operations.specs.Recovering.{CanEndMove, CanTakeOver, CanTakeSlot, HasEndedMove, IsAddressIfSome, IsMovedAt, is_alone_at, share_of, takes_share, taking, taking_over, target_of, unset}
+use Rattle.lfs_operations.proofs.Owning.{used_same}
+use Rattle.lfs_operations.proofs.RecoverGoes.{gone, gone_is, goes_is, goes_left, goes_pairs, goes_state, goes_taken, goes_used, next}
+use Rattle.lfs_operations.proofs.RecoverMap.{HasMap, map_frees, none_flies}
+use Rattle.lfs_operations.proofs.RecoverShares.{over_content, over_made, take_made, without_content}
+use Rattle.lfs_operations.proofs.RecoverStays.{h, stays_left, stays_pairs, stays_state, stays_taken, stays_used, unset_fits, unset_is}
+
+module _ (t : Kept) (can : CanEndMove t) (index : ℕ) (m : IsMovedAt t index) where
+  abbrev g : Gstate
+  g = unset (gstate_of t.pairs)
+
+  pub can_take : CanTakeSlot t index (gstate_of t.pairs).id g
+  can_take = record {
+    can = record { accepted = can.accepted; writable = can.writable; below = m.below; fields = unset_fits (gstate_of t.pairs) };
+    below = let a = ap length m.held in let b = length-append m.left (m.slot ∷ m.right) in let n = m.number in omega arith;
+  }
+
+  pub ended_stays : is_alone_at t index ≡ false → IsAddress (share_of t index g).pair → (new : Kept) → IsChanged t index (taking t index (gstate_of t.pairs).id g) new → HasEndedMove t new
+  ended_stays alone address new is =
+      let same = same_Some is.content (without_content t index (gstate_of t.pairs).id g) (sym is.made ∙ take_made t index (gstate_of t.pairs).id g can_take address) in
+      let written = subst (λ c. IsWrittenAs t index c new.disk) same is.written in
+      let pairs = is.pairs ∙ ap (with_pair t index) same ∙ stays_pairs t can index m in
+      record {
+        taken = subst₂ (λ a b. IsTaken t.disk a new.disk b (λ t. t) (λ d. d)) (sym (h t can index m).is) (sym pairs) (stays_taken t can index m can_take alone new.disk written);
+        none = subst HasNoMove (sym (ap gstate_of pairs ∙ stays_state t can index m)) (unset_is (gstate_of t.pairs));
+        used = subst (λ s. AreUsed s (used_blocks new.disk new.pairs)) (sym is.map)
+            (used_same t.map (used_blocks t.disk t.pairs) (used_blocks new.disk new.pairs) (λ b. ap (λ z. count b (used_blocks new.disk z)) pairs ∙ stays_used t can index m new.disk written b) can.used);
+        size = ap length is.map ∙ can.size ∙ sym is.written.shape.count;
+        none_comes = λ b flies. subst (λ s. IsInFlight s b) is.map flies;
+      }
+
+  pub survives_stays : is_alone_at t index ≡ false → IsAddress (share_of t index g).pair → (new : List Event) → StopsLeave t.history new (IsLeft t index (taking t index (gstate_of t.pairs).id g))
+      → Survives t.disk t.history new (tree_in t.disk t.pairs) (tree_in t.disk t.pairs)
+  survives_stays alone address new stops clean = LeavesOnly-weaker (λ left x. stays_left t can index m can_take alone address left x) (stops clean)
+
+  module _ (alone : is_alone_at t index ≡ true) where
+    pub can_over : CanTakeOver t (index - 1) index g
+    can_over = record { accepted = can.accepted; writable = can.writable; next = next t can index m alone; below = m.below; fields = unset_fits (gstate_of t.pairs) }
+
+    start : HasMap t []
+    start = record {
+      owned = used_blocks t.disk t.pairs;
+      are = can.used;
+      same = λ b. omega arith;
+      once = λ b. once_from_distinct (used_blocks t.disk t.pairs) can.accepted.owned_once b;
+      size = can.size;
+    }
+
+    pub ended_goes : IsAddress (takes_share t (index - 1) index g).pair → IsAddressIfSome (target_of (pair_in t index).content.tail) → (new : Kept) → IsDropped t (index - 1) (taking_over t (index - 1) index g) new → HasEndedMove t new
+    ended_goes address words new is =
+        let same = same_Some is.content (over_content t (index - 1) index g) (sym is.made ∙ over_made t (index - 1) index g can_over address words) in
+        let written = subst (λ c. IsWrittenAs t (index - 1) c new.disk) same is.written in
+        let pairs = is.pairs ∙ ap (λ c. remove (with_pair t (index - 1) c) (index - 1 + 1)) same ∙ goes_pairs t can index m alone in
+        let map_is : new.map ≡ without_pair t.map (gone t can index m alone).at = is.map ∙ ap (without_pair t.map) (gone_is t can index m alone) in
+        let owned = map_frees t new (gone t can index m alone) []
+        (λ b. let e = ap (λ z. count b (used_blocks new.disk z)) pairs in let u = goes_used t can index m alone new.disk written b in omega arith) [] map_is is.written.shape.count start in
+        record {
+          taken = subst₂ (λ a b. IsTaken t.disk a new.disk b (λ t. t) (λ d. d)) (sym (goes_is t can index m alone)) (sym pairs) (goes_taken t can index m alone new.disk written);
+          none = subst HasNoMove (sym (ap gstate_of pairs ∙ goes_state t can index m alone)) (unset_is (gstate_of t.pairs));
+          used = used_same new.map owned.owned (used_blocks new.disk new.pairs) (λ b. let s = owned.same b in omega arith) owned.are;
+          size = owned.size;
+          none_comes = none_flies t.map t.map new.map (gone t can index m alone).at map_is (λ b flies. flies);
+        }
+
+    pub survives_goes : IsAddress (takes_share t (index - 1) index g).pair → IsAddressIfSome (target_of (pair_in t index).content.tail) → (new : List Event)
+        → StopsLeave t.history new (IsLeft t (index - 1) (taking_over t (index - 1) index g)) → Survives t.disk t.history new (tree_in t.disk t.pairs) (tree_in t.disk t.pairs)
+    survives_goes address words new stops clean = LeavesOnly-weaker (λ left x. goes_left t can index m alone can_over address words left x) (stops clean)
+
+-- no move was set
+pub ended_already : (t : Kept) → CanEndMove t → HasNoMove (gstate_of t.pairs) → HasEndedMove t t
+ended_already t can none = record {
+  taken = record { follows = record { accepted = can.accepted; root = refl; shows = refl; leads = refl }; writable = can.writable };
+  none = none;
+  used = can.used;
+  size = can.size;
+  none_comes = λ b flies. flies;
+}

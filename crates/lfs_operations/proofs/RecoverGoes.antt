@@ -1,0 +1,296 @@
+-- A set move ends: the slot that it names goes with its pair, which has no other.
+use Rattle.std.proofs.Common.{ℕ, suc, zero, ◌≡◌, ◌+◌, ◌-◌, ◌<◌, ◌≤◌, ◌⊎◌, ◌==◌, ◌&&◌, inl, inr, Bool, true, false, cond, eqb-true, nat_eq, List, [], ◌∷◌, ◌++◌, length, take, Option, Some, None, refl, sym, ap, ap₂, subst, ◌∙◌, arith, append_assoc, append-nil, flat_map, length-append, remove}
+use Rattle.std.specs.Prelude.{nat_lt}
+use Rattle.std.specs.List.{IsDistinct}
+use Rattle.std.proofs.lemmas.Bool.{cases_lt}
+use Rattle.std.proofs.lemmas.Option.{same_Some}
+use Rattle.std.proofs.lemmas.List.Concat.{flat_map-append}
+use Rattle.std.proofs.lemmas.List.Elements.{recursion_from_All}
+use Rattle.lfs_model.specs.Blocks.{Blocks}
+use Rattle.lfs_model.specs.Disk.{Disk}
+use Rattle.lfs_model.specs.Logged.{IsAddress}
+use Rattle.lfs_model.specs.PowerLoss.{IsLeft as IsLeftOf, with_blocks}
+use Rattle.lfs_model.specs.Slots.{FitsPair, Gstate, Slot, Tail, same_pair}
+use Rattle.lfs_model.specs.Thread.{Pair, blocks_of, gstate_of, is_hard, superblocks_before, unmoved}
+use Rattle.lfs_model.specs.View.{HasSuperblock, IsAccepted, IsWritable, all_slots, file_blocks, tree_in, used_blocks}
+use Rattle.lfs_model.proofs.Changes.{SameFiles, slots_files}
+use Rattle.lfs_model.proofs.Counts.{Each, count, count_append, each_append, each_left, each_right}
+use Rattle.lfs_model.proofs.Files.{HasSameFile}
+use Rattle.lfs_model.proofs.Global.{HasNoMove}
+use Rattle.lfs_model.proofs.Indexes.{HasSite, site_of_number}
+use Rattle.lfs_model.proofs.Listings.{IsRun}
+use Rattle.lfs_model.proofs.MoveSets.{hidden_none}
+use Rattle.lfs_model.proofs.Moves.{AllReached}
+use Rattle.lfs_model.proofs.Pairs.{pair_back}
+use Rattle.lfs_model.proofs.Rests.{IsMoveEnd, move_ends, unmoved_elsewhere}
+use Rattle.lfs_model.proofs.Searches.{avoids_behind, avoids_front}
+use Rattle.lfs_model.proofs.Sites.{IsSite, Site, thread_at}
+use Rattle.lfs_model.proofs.Splices.{IsDevice, drop_shape, files_of, slots_in}
+use Rattle.lfs_model.proofs.StepsTaken.{IsTaken, end_drop_taken, taken_before}
+use Rattle.lfs_model.proofs.Superblocks.{IsChain}
+use Rattle.lfs_thread.specs.Kept.{Kept}
+use Rattle.lfs_thread.specs.Steps.{IsLeft, IsWrittenAs, made_in_thread, pair_in, with_pair}
+use Rattle.lfs_operations.specs.Recovering.{CanEndMove, CanTakeOver, IsAddressIfSome, IsMovedAt, goes_on_at, is_alone_at, takes_share, taking_over, target_of, unset}
+use Rattle.lfs_operations.proofs.Placing.{blocks_append}
+use Rattle.lfs_operations.proofs.RecoverMap.{count_used}
+use Rattle.lfs_operations.proofs.RecoverMoved.{heads}
+use Rattle.lfs_operations.proofs.RecoverPlaced.{IsAt, dropped_device, dropped_state, here_is, next_is, nothing_taken, placed_device, without_is}
+use Rattle.lfs_operations.proofs.RecoverShares.{over_content, over_made, taken_tail, with_tail}
+use Rattle.lfs_operations.proofs.RecoverStays.{flipped, unset_is}
+
+record AreAll (a b c : Bool) : Type 0 where
+  first : a ≡ true
+  second : b ≡ true
+  third : c ≡ true
+
+all_true : (a b c : Bool) → (a && (b && c)) ≡ true → AreAll a b c
+all_true true true true e = record { first = refl; second = refl; third = refl }
+all_true true true false e = absurd (cc)
+all_true true false c e = absurd (cc)
+all_true false b c e = absurd (cc)
+
+positive : (n : ℕ) → nat_lt 0 n ≡ true → 0 < n
+positive zero e = absurd (cc)
+positive (suc n) e = omega arith
+
+pub record HasNext (right : List Pair) : Type 0 where
+  pub next : Pair
+  pub rest : List Pair
+  pub is : right ≡ next ∷ rest
+
+run_next : (left : List Pair) (p : Pair) (right : List Pair) → IsRun (left ++ (p ∷ right)) → is_hard p.content.tail ≡ true → HasNext right
+run_next [] p [] h e = absurd (let z = sym h ∙ e in cc)
+run_next [] p (o ∷ right) h e = record { next = o; rest = right; is = refl }
+run_next (x ∷ []) p right h e = run_next [] p right h.1 e
+run_next (x ∷ y ∷ left) p right h e = run_next (y ∷ left) p right h.1 e
+
+only_one : (l : List Slot) (u : Slot) (r : List Slot) → length (l ++ u ∷ r) ≡ 1 → (l ≡ []) × (r ≡ [])
+only_one [] u [] e = (refl, refl)
+only_one [] u (s ∷ r) e = absurd (omega arith)
+only_one (s ∷ l) u r e = absurd (let k = length-append l (u ∷ r) in omega arith)
+
+module _ (t : Kept) (can : CanEndMove t) (behind : ℕ) (m : IsMovedAt t behind) (alone : is_alone_at t behind ≡ true) where
+  abbrev pub G : Gstate
+  G = gstate_of t.pairs
+
+  parts : AreAll (nat_lt 0 behind) (length (pair_in t behind).content.slots == 1) (goes_on_at t (behind - 1))
+  parts = all_true (nat_lt 0 behind) (length (pair_in t behind).content.slots == 1) (goes_on_at t (behind - 1)) alone
+
+  pub some : 0 < behind
+  some = positive behind parts.first
+
+  pub next : behind ≡ behind - 1 + 1
+  next = let s = some in omega arith
+
+  single : length (pair_in t behind).content.slots ≡ 1
+  single = eqb-true (length (pair_in t behind).content.slots) 1 parts.second
+
+  sides : (m.left ≡ []) × (m.right ≡ [])
+  sides = only_one m.left m.slot m.right (sym (ap length m.held) ∙ single)
+
+  slots_are : (pair_in t behind).content.slots ≡ m.slot ∷ []
+  slots_are = m.held ∙ ap₂ (λ l r. l ++ m.slot ∷ r) sides.0 sides.1
+
+  -- the pair isn't the root's first
+  later : superblocks_before t.pairs < behind
+  later = go (cases_lt (superblocks_before t.pairs) behind)
+    where
+      go : (superblocks_before t.pairs < behind) ⊎ (behind ≤ superblocks_before t.pairs) → superblocks_before t.pairs < behind
+      go (inl l) = l
+      go (inr l) = absurd (let k = (subst (HasSuperblock can.accepted.superblock.0) slots_are
+          (heads (λ p. HasSuperblock can.accepted.superblock.0 p.content.slots) (superblocks_before t.pairs + 1) t.pairs behind (omega arith) m.below
+          (recursion_from_All (λ (p : Pair). HasSuperblock can.accepted.superblock.0 p.content.slots) (take (superblocks_before t.pairs + 1) t.pairs) can.accepted.superblock.1.1))).0 in
+          let z = sym k ∙ m.other in cc)
+
+  pub h : HasSite t.pairs (behind - 1)
+  h = site_of_number t.disk t.pairs (behind - 1) can.accepted (let l = later in omega arith) (let l = m.below in omega arith)
+
+  abbrev pub front : List Pair
+  front = h.site.before ++ h.site.left
+
+  hard : is_hard h.pair.content.tail ≡ true
+  hard = ap (λ (z : Pair). is_hard z.content.tail) (sym (here_is t h.site.chain front h.pair (h.site.right ++ h.site.after) (behind - 1) (record { there = h.is; number = sym h.number ∙ length-append h.site.chain front }))) ∙ parts.third
+
+  pub on : HasNext h.site.right
+  on = run_next h.site.left h.pair h.site.right h.is_site.run hard
+
+  abbrev o : Pair
+  o = on.next
+
+  abbrev pub w : Site
+  w = record { chain = h.site.chain; before = h.site.before; left = h.site.left; right = on.rest; after = h.site.after }
+
+  abbrev pub back : List Pair
+  back = on.rest ++ h.site.after
+
+  old_is : t.pairs ≡ h.site.chain ++ (front ++ h.pair ∷ on.next ∷ back)
+  old_is = h.is ∙ ap (λ z. h.site.chain ++ (front ++ h.pair ∷ (z ++ h.site.after))) on.is
+
+  place : IsAt t h.site.chain front h.pair (on.next ∷ back) (behind - 1)
+  place = record { there = old_is; number = sym h.number ∙ length-append h.site.chain front }
+
+  here : pair_in t (behind - 1) ≡ h.pair
+  here = here_is t h.site.chain front h.pair (on.next ∷ back) (behind - 1) place
+
+  there : pair_in t behind ≡ on.next
+  there = ap (pair_in t) next ∙ next_is t h.site.chain front h.pair on.next back (behind - 1) place
+
+  abbrev pub gone : Pair
+  gone = on.next
+
+  o_slots : on.next.content.slots ≡ m.slot ∷ []
+  o_slots = ap (λ (z : Pair). z.content.slots) (sym there) ∙ slots_are
+
+  abbrev pub z : Pair
+  z = record { at = h.pair.at; content = with_tail h.pair.content on.next.content.tail (takes_share t (behind - 1) behind (unset (gstate_of t.pairs))) }
+
+  same_tail : (tail : Option Tail) → taken_tail (is_hard tail) tail ≡ tail
+  same_tail None = refl
+  same_tail (Some x) = refl
+
+  content_is : over_content t (behind - 1) behind (unset (gstate_of t.pairs)) ≡ z.content
+  content_is = ap₂ (λ (a b : Pair). with_tail a.content (taken_tail (is_hard a.content.tail && is_hard b.content.tail) b.content.tail) (takes_share t (behind - 1) behind (unset (gstate_of t.pairs)))) here there
+      ∙ ap (λ c. with_tail h.pair.content (taken_tail (c && is_hard on.next.content.tail) on.next.content.tail) (takes_share t (behind - 1) behind (unset (gstate_of t.pairs)))) hard
+      ∙ ap (λ tail. with_tail h.pair.content tail (takes_share t (behind - 1) behind (unset (gstate_of t.pairs)))) (same_tail on.next.content.tail)
+
+  accepted : IsAccepted t.disk (thread_at w (h.pair ∷ on.next ∷ []))
+  accepted = subst (IsAccepted t.disk) old_is can.accepted
+
+  writable : IsWritable t.disk (thread_at w (h.pair ∷ on.next ∷ []))
+  writable = subst (IsWritable t.disk) old_is can.writable
+
+  is_site : IsSite w (h.pair ∷ on.next ∷ [])
+  is_site = record {
+    chain = subst (λ r. IsChain h.site.chain (front ++ h.pair ∷ (r ++ h.site.after))) on.is h.is_site.chain;
+    ends = h.is_site.ends;
+    run = subst (λ r. IsRun (h.site.left ++ h.pair ∷ r)) on.is h.is_site.run;
+  }
+
+  pub goes_device : (disk : Disk) → IsWrittenAs t (behind - 1) (over_content t (behind - 1) behind (unset (gstate_of t.pairs))) disk → IsDevice t.disk disk (thread_at w (h.pair ∷ on.next ∷ [])) (thread_at w (z ∷ []))
+  goes_device disk is = dropped_device t h.site.chain front h.pair on.next back (behind - 1) place disk z.content refl accepted (subst (λ c. IsWrittenAs t (behind - 1) c disk) content_is is)
+
+  pub goes_state : gstate_of (thread_at w (z ∷ [])) ≡ unset (gstate_of t.pairs)
+  goes_state = dropped_state t h.site.chain front h.pair on.next back (behind - 1) place (unset (gstate_of t.pairs)) z (ap (λ (i : ℕ). takes_share t (behind - 1) i (unset (gstate_of t.pairs))) next)
+
+  pub goes_pairs : remove (with_pair t (behind - 1) (over_content t (behind - 1) behind (unset (gstate_of t.pairs)))) (behind - 1 + 1) ≡ thread_at w (z ∷ [])
+  goes_pairs = ap (λ c. remove (with_pair t (behind - 1) c) (behind - 1 + 1)) content_is ∙ without_is t h.site.chain front h.pair on.next back (behind - 1) place z.content
+
+  same_is : same_pair on.next.at G.pair ≡ true
+  same_is = subst (λ (x : Pair). same_pair x.at G.pair ≡ true) there m.same
+
+  abbrev Far : Pair → Type 0
+  Far s = same_pair (gstate_of t.pairs).pair s.at ≡ false
+
+  abbrev ahead : List Pair
+  ahead = (h.site.chain ++ front) ++ h.pair ∷ []
+
+  grouped : t.pairs ≡ ahead ++ on.next ∷ back
+  grouped = old_is ∙ sym (append_assoc h.site.chain front (h.pair ∷ on.next ∷ back)) ∙ sym (append_assoc (h.site.chain ++ front) (h.pair ∷ []) (on.next ∷ back))
+
+  distinct : IsDistinct nat_eq (blocks_of (ahead ++ on.next ∷ back))
+  distinct = subst (λ x. IsDistinct nat_eq (blocks_of x)) grouped can.accepted.thread.distinct
+
+  far_ahead : Each Far ahead
+  far_ahead = flipped G.pair ahead (avoids_front ahead on.next back G.pair distinct same_is)
+
+  far_front : Each Far (h.site.chain ++ front)
+  far_front = each_left Far (h.site.chain ++ front) (h.pair ∷ []) far_ahead
+
+  far_pair : Far h.pair
+  far_pair = (each_right Far (h.site.chain ++ front) (h.pair ∷ []) far_ahead).0
+
+  far_back : Each Far back
+  far_back = flipped G.pair back (avoids_behind ahead on.next back G.pair distinct same_is)
+
+  elsewhere : Each Far (h.site.chain ++ (front ++ back))
+  elsewhere = each_append Far h.site.chain (front ++ back) (each_left Far h.site.chain front far_front) (each_append Far front back (each_right Far h.site.chain front far_front) far_back)
+
+  hides : unmoved G on.next ≡ []
+  hides = ap₂ (λ k b. cond (nat_eq k 0x4ff && b) (remove on.next.content.slots G.id) on.next.content.slots) m.kind (pair_back on.next.at G.pair same_is)
+      ∙ ap₂ (λ (s : List Slot) (i : ℕ). remove s i) o_slots (sym m.number ∙ ap length sides.0)
+
+  shown : flat_map (unmoved G) (h.pair ∷ on.next ∷ []) ≡ h.pair.content.slots ++ []
+  shown = ap₂ (λ a b. a ++ (b ++ [])) (unmoved_elsewhere G h.pair far_pair) hides
+
+  step : (disk : Disk) → IsWrittenAs t (behind - 1) (over_content t (behind - 1) behind (unset (gstate_of t.pairs))) disk → IsMoveEnd t.disk disk w h.pair (on.next ∷ []) z [] h.pair.content.slots m.slot []
+  step disk is = record {
+    accepted = accepted;
+    site = is_site;
+    still_none = subst HasNoMove (sym goes_state) (unset_is (gstate_of t.pairs));
+    device = goes_device disk is;
+    shape = drop_shape h.pair on.next z refl refl (λ e. e);
+    was = ap (λ x. h.pair.content.slots ++ x) (append-nil on.next.content.slots ∙ o_slots);
+    is = refl;
+    other = m.other;
+    hidden = subst (λ x. flat_map (unmoved (gstate_of x)) (h.pair ∷ on.next ∷ []) ≡ h.pair.content.slots ++ []) old_is shown;
+    elsewhere = subst (λ x. Each (λ s. same_pair (gstate_of x).pair s.at ≡ false) (h.site.chain ++ (front ++ back))) old_is elsewhere;
+  }
+
+  pub goes_taken : (disk : Disk) → IsWrittenAs t (behind - 1) (over_content t (behind - 1) behind (unset (gstate_of t.pairs))) disk
+      → IsTaken t.disk (thread_at w (h.pair ∷ on.next ∷ [])) disk (thread_at w (z ∷ [])) (λ t. t) (λ d. d)
+  goes_taken disk is = end_drop_taken t.disk w h.pair on.next z (record { writable = writable; tail = refl; slots = refl }) disk h.pair.content.slots m.slot [] (λ t. t) (λ d. d) (step disk is)
+      (move_ends t.disk disk w h.pair (on.next ∷ []) z [] h.pair.content.slots m.slot [] (step disk is)
+      (λ off. subst AllReached old_is (can.accepted.reached (ap (λ (x : Gstate). x.sync) (sym goes_state) ∙ off))))
+
+  pub goes_is : t.pairs ≡ thread_at w (h.pair ∷ on.next ∷ [])
+  goes_is = old_is
+
+  -- a stop leaves the tree
+  pub goes_left : CanTakeOver t (behind - 1) behind (unset (gstate_of t.pairs)) → IsAddress (takes_share t (behind - 1) behind (unset (gstate_of t.pairs))).pair → IsAddressIfSome (target_of (pair_in t behind).content.tail)
+      → (left : Blocks) → IsLeft t (behind - 1) (taking_over t (behind - 1) behind (unset (gstate_of t.pairs))) left → IsLeftOf (with_blocks left t.disk) (tree_in t.disk t.pairs) (tree_in t.disk t.pairs)
+  goes_left over address words left is = subst (λ x. IsLeftOf (with_blocks left t.disk) (tree_in t.disk x) (tree_in t.disk x)) (sym old_is) (go is.is)
+    where
+      old : List Pair
+      old = thread_at w (h.pair ∷ on.next ∷ [])
+
+      go : (is.content ≡ (pair_in t (behind - 1)).content) ⊎ ((made_in_thread t (behind - 1) (taking_over t (behind - 1) behind (unset (gstate_of t.pairs))) ≡ Some is.content) × FitsPair t.disk.block_size t.disk.page is.content)
+          → IsLeftOf (with_blocks left t.disk) (tree_in t.disk old) (tree_in t.disk old)
+      go (inl e) =
+          let same : is.content ≡ h.pair.content = e ∙ ap (λ (x : Pair). x.content) here in
+          let still = placed_device t h.site.chain front h.pair (on.next ∷ back) (behind - 1) place (with_blocks left t.disk) h.pair.content refl accepted (subst (λ c. IsWrittenAs t (behind - 1) c (with_blocks left t.disk)) same is.written) in
+          taken_before t.disk old (with_blocks left t.disk) old (λ d. d) (tree_in t.disk old)
+          (nothing_taken t.disk (with_blocks left t.disk) h.site.chain front h.pair (on.next ∷ back) is_site.chain accepted writable still)
+      go (inr k) =
+          let same = same_Some is.content (over_content t (behind - 1) behind (unset (gstate_of t.pairs))) (sym k.0 ∙ over_made t (behind - 1) behind (unset (gstate_of t.pairs)) over address words) in
+          taken_before t.disk old (with_blocks left t.disk) (thread_at w (z ∷ [])) (λ d. d) (tree_in t.disk old)
+          (goes_taken (with_blocks left t.disk) (subst (λ c. IsWrittenAs t (behind - 1) c (with_blocks left t.disk)) same is.written))
+
+  -- ---- the blocks
+
+  all_were : all_slots t.pairs ≡ slots_in h.site.chain ++ (slots_in front ++ (h.pair.content.slots ++ slots_in back))
+  all_were = ap (flat_map (unmoved G)) old_is ∙ flat_map-append (unmoved G) h.site.chain (front ++ h.pair ∷ on.next ∷ back)
+      ∙ ap₂ (λ a b. a ++ b) (hidden_none G h.site.chain (each_left Far h.site.chain front far_front))
+      (flat_map-append (unmoved G) front (h.pair ∷ on.next ∷ back) ∙ ap₂ (λ a b. a ++ b) (hidden_none G front (each_right Far h.site.chain front far_front))
+      (ap₂ (λ a b. a ++ b) (unmoved_elsewhere G h.pair far_pair) (ap₂ (λ a b. a ++ b) hides (hidden_none G back far_back))))
+
+  all_are : slots_in (thread_at w (z ∷ [])) ≡ slots_in h.site.chain ++ (slots_in front ++ (h.pair.content.slots ++ slots_in back))
+  all_are = flat_map-append (λ (p : Pair). p.content.slots) h.site.chain (front ++ z ∷ back) ∙ ap (λ x. slots_in h.site.chain ++ x) (flat_map-append (λ (p : Pair). p.content.slots) front (z ∷ back))
+
+  blocks_are : (b : ℕ) → count b (blocks_of (thread_at w (z ∷ []))) + count b (blocks_of (on.next ∷ [])) ≡ count b (blocks_of (thread_at w (h.pair ∷ on.next ∷ [])))
+  blocks_are b =
+      let c1 = blocks_append h.site.chain (front ++ z ∷ back) b in
+      let c2 = blocks_append front (z ∷ back) b in
+      let c3 = blocks_append (z ∷ []) back b in
+      let d1 = blocks_append h.site.chain (front ++ h.pair ∷ on.next ∷ back) b in
+      let d2 = blocks_append front (h.pair ∷ on.next ∷ back) b in
+      let d3 = blocks_append (h.pair ∷ []) (on.next ∷ back) b in
+      let d4 = blocks_append (on.next ∷ []) back b in
+      let a : count b (blocks_of (z ∷ [])) ≡ count b (blocks_of (h.pair ∷ [])) = refl in
+      omega arith
+
+  -- the image uses the same blocks but the pair's
+  pub goes_used : (disk : Disk) → IsWrittenAs t (behind - 1) (over_content t (behind - 1) behind (unset (gstate_of t.pairs))) disk
+      → (b : ℕ) → count b (used_blocks disk (thread_at w (z ∷ []))) + (count b (blocks_of (gone ∷ [])) + count b []) ≡ count b (used_blocks t.disk t.pairs)
+  goes_used disk is b =
+      let dev = goes_device disk is in
+      let files : SameFiles t.disk disk (all_slots t.pairs) = subst (λ x. SameFiles t.disk disk (all_slots x)) (sym old_is) (recursion_from_All (λ (s : Slot). HasSameFile t.disk disk s.struct) (all_slots (thread_at w (h.pair ∷ on.next ∷ []))) dev.files) in
+      let u = count_used b disk (thread_at w (z ∷ [])) (subst HasNoMove (sym goes_state) (unset_is (gstate_of t.pairs))) in
+      let v = count_append b (blocks_of t.pairs) (flat_map (λ s. file_blocks t.disk s.struct) (all_slots t.pairs)) in
+      let f = ap (λ x. count b (files_of disk x)) (all_are ∙ sym all_were) ∙ ap (count b) (slots_files t.disk disk (all_slots t.pairs) dev.geometry files) in
+      let k = blocks_are b in
+      let e = ap (λ x. count b (blocks_of x)) old_is in
+      let n : count b [] ≡ 0 = refl in
+      omega arith
+
+  pub gone_is : (pair_in t (behind - 1 + 1)).at ≡ gone.at
+  gone_is = ap (λ (x : Pair). x.at) (next_is t h.site.chain front h.pair on.next back (behind - 1) place)

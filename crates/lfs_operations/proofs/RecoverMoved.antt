@@ -1,0 +1,144 @@
+-- The pair whose slot a set move names.
+use Rattle.std.proofs.Common.{ℕ, suc, zero, ◌≡◌, ◌+◌, ◌<◌, ◌≤◌, ◌⊎◌, ◌==◌, ◌&&◌, inl, inr, Bool, true, false, cond, eqb-true, length-append, List, [], ◌∷◌, ◌++◌, length, take, Option, Some, None, refl, sym, ap, subst, ◌∙◌, arith, get_or, slice_get}
+use Rattle.std.specs.Prelude.{IfNone, IfSome}
+use Rattle.std.specs.List.{AllByRecursion}
+use Rattle.std.proofs.lemmas.Bool.{cases_lt}
+use Rattle.std.proofs.lemmas.Option.{same_Some}
+use Rattle.std.proofs.lemmas.List.Elements.{recursion_from_All}
+use Rattle.lfs_model.specs.InDirectory.{BeginsAt}
+use Rattle.lfs_model.specs.Slots.{Gstate, Slot, is_superblock, same_pair}
+use Rattle.lfs_model.specs.Thread.{Pair, gstate_of, is_hard, starts_with_superblock, superblocks_before}
+use Rattle.lfs_model.specs.View.{HasSuperblock, IsAccepted, IsMove, IsOtherSlot, NamesSlot, no_move, set_move}
+use Rattle.lfs_model.proofs.Counts.{Each}
+use Rattle.lfs_model.proofs.Global.{HasNoMove}
+use Rattle.lfs_model.proofs.Pairs.{pair_back, pair_on}
+use Rattle.lfs_model.proofs.Searches.{same_number}
+use Rattle.lfs_model.proofs.Sites.{Among, among_from}
+use Rattle.lfs_thread.specs.Kept.{Kept}
+use Rattle.lfs_thread.specs.Steps.{no_pair, pair_in}
+use Rattle.lfs_operations.specs.Recovering.{IsMovedAt}
+
+-- ---- no move, or one that names a slot
+
+pub unset_none : (ps : List Pair) → IsMove ps (gstate_of ps) → ((gstate_of ps).kind ≡ set_move → ⊥) → HasNoMove (gstate_of ps)
+unset_none ps (inl h) n = record { kind = h.0; id = h.1; pair = h.2 }
+unset_none ps (inr h) n = absurd (n h.0)
+
+named : (ps : List Pair) → IsMove ps (gstate_of ps) → (gstate_of ps).kind ≡ set_move → NamesSlot ps (gstate_of ps).pair (gstate_of ps).id
+named ps (inl h) e = absurd (let k : no_move ≡ set_move = sym h.0 ∙ e in omega arith)
+named ps (inr h) e = h.1
+
+record IsSomewhere (ps : List Pair) (a : ℕ × ℕ) (id : ℕ) : Type 0 where
+  number : ℕ
+  pair : Pair
+  there : slice_get ps number ≡ Some pair
+  same : same_pair a pair.at ≡ true
+  slot : IsOtherSlot (slice_get pair.content.slots id)
+
+somewhere : (ps : List Pair) (a : ℕ × ℕ) (id : ℕ) → Among (λ p. (same_pair a p.at ≡ true) × IsOtherSlot (slice_get p.content.slots id)) ps → IsSomewhere ps a id
+somewhere [] a id h = absurd h
+somewhere (p ∷ ps) a id (inl h) = record { number = 0; pair = p; there = refl; same = h.0; slot = h.1 }
+somewhere (p ∷ ps) a id (inr h) = let s = somewhere ps a id h in record { number = suc s.number; pair = s.pair; there = s.there; same = s.same; slot = s.slot }
+
+record HasOther (slots : List Slot) (id : ℕ) : Type 0 where
+  left : List Slot
+  slot : Slot
+  right : List Slot
+  held : slots ≡ left ++ slot ∷ right
+  number : length left ≡ id
+  other : is_superblock slot ≡ false
+
+has_other : (slots : List Slot) (id : ℕ) → IsOtherSlot (slice_get slots id) → HasOther slots id
+has_other [] id h = absurd h
+has_other (s ∷ slots) zero h = record { left = []; slot = s; right = slots; held = refl; number = refl; other = h }
+has_other (s ∷ slots) (suc id) h =
+    let o = has_other slots id h in
+    record { left = s ∷ o.left; slot = o.slot; right = o.right; held = ap (λ z. s ∷ z) o.held; number = ap suc o.number; other = o.other }
+
+get_some : (ps : List Pair) (i : ℕ) (p : Pair) → slice_get ps i ≡ Some p → (i < length ps) × (get_or ps i no_pair ≡ p)
+get_some [] i p e = absurd (cc)
+get_some (x ∷ ps) zero p e = (omega arith, same_Some x p e)
+get_some (x ∷ ps) (suc i) p e = let r = get_some ps i p e in ((let l = r.0 in omega arith), r.1)
+
+pub moved_at : (t : Kept) (index : ℕ) → IsAccepted t.disk t.pairs → (gstate_of t.pairs).kind ≡ set_move → BeginsAt t.pairs (gstate_of t.pairs).pair index → IsMovedAt t index
+moved_at t index ok kind b =
+    let g = gstate_of t.pairs in
+    let s = somewhere t.pairs g.pair g.id (among_from (λ (p : Pair). (same_pair g.pair p.at ≡ true) × IsOtherSlot (slice_get p.content.slots g.id)) t.pairs (named t.pairs ok.move kind)) in
+    let n = same_number t.pairs index s.number b.pair s.pair ok.thread.distinct b.there s.there (pair_on b.pair.at g.pair s.pair.at b.same s.same) in
+    let same : b.pair ≡ s.pair = same_Some b.pair s.pair (sym b.there ∙ ap (slice_get t.pairs) n ∙ s.there) in
+    let here = get_some t.pairs index b.pair b.there in
+    let o = has_other (pair_in t index).content.slots g.id (subst (λ (p : Pair). IsOtherSlot (slice_get p.content.slots g.id)) (sym (here.1 ∙ same)) s.slot) in
+    record {
+      below = here.0;
+      kind = kind;
+      same = subst (λ (p : Pair). same_pair p.at g.pair ≡ true) (sym here.1) b.same;
+      left = o.left;
+      slot = o.slot;
+      right = o.right;
+      held = o.held;
+      number = o.number;
+      other = o.other;
+    }
+
+-- somewhere there is such a pair
+pub not_nowhere : (t : Kept) → IsAccepted t.disk t.pairs → (gstate_of t.pairs).kind ≡ set_move → AllByRecursion (λ p. same_pair p.at (gstate_of t.pairs).pair ≡ false) t.pairs → ⊥
+not_nowhere t ok kind none = go t.pairs none (among_from (λ (p : Pair). (same_pair g.pair p.at ≡ true) × IsOtherSlot (slice_get p.content.slots g.id)) t.pairs (named t.pairs ok.move kind))
+  where
+    g : Gstate
+    g = gstate_of t.pairs
+
+    go : (ps : List Pair) → AllByRecursion (λ p. same_pair p.at (gstate_of t.pairs).pair ≡ false) ps → Among (λ p. (same_pair (gstate_of t.pairs).pair p.at ≡ true) × IsOtherSlot (slice_get p.content.slots (gstate_of t.pairs).id)) ps → ⊥
+    go [] h a = a
+    go (p ∷ ps) h (inl a) = absurd (let k = sym h.0 ∙ pair_back (gstate_of t.pairs).pair p.at a.0 in cc)
+    go (p ∷ ps) h (inr a) = go ps h.1 a
+
+-- ---- it is one of a directory
+
+chain_step : (one hard first : Bool) (n i : ℕ) → suc i < cond (one && hard && first) (1 + n) 0 → i < n
+chain_step true true true n i l = omega arith
+chain_step true true false n i l = absurd (omega arith)
+chain_step true false first n i l = absurd (omega arith)
+chain_step false hard first n i l = absurd (omega arith)
+
+chain_one : (one hard first : Bool) (n i : ℕ) → i < cond (one && hard && first) (1 + n) 0 → one ≡ true
+chain_one true hard first n i l = refl
+chain_one false hard first n i l = absurd (omega arith)
+
+chain_single : (ps : List Pair) (i : ℕ) → i < superblocks_before ps → length (get_or ps i no_pair).content.slots ≡ 1
+chain_single [] i low = absurd (omega arith)
+chain_single (p ∷ []) i low = absurd (omega arith)
+chain_single (p ∷ q ∷ ps) zero low =
+    eqb-true (length p.content.slots) 1 (chain_one (length p.content.slots == 1) (is_hard p.content.tail) (starts_with_superblock q.content.slots) (superblocks_before (q ∷ ps)) 0 low)
+chain_single (p ∷ q ∷ ps) (suc i) low =
+    chain_single (q ∷ ps) i (chain_step (length p.content.slots == 1) (is_hard p.content.tail) (starts_with_superblock q.content.slots) (superblocks_before (q ∷ ps)) i low)
+
+pub heads : (P : Pair → Type 0) (n : ℕ) (ps : List Pair) (i : ℕ) → i < n → i < length ps → Each P (take n ps) → P (get_or ps i no_pair)
+heads P n [] i l low h = absurd (omega arith)
+heads P zero (p ∷ ps) i l low h = absurd (omega arith)
+heads P (suc n) (p ∷ ps) zero l low h = h.0
+heads P (suc n) (p ∷ ps) (suc i) l low h = heads P n ps i (omega arith) (omega arith) h.1
+
+pub in_directory : (t : Kept) (index : ℕ) → IsAccepted t.disk t.pairs → IsMovedAt t index → superblocks_before t.pairs ≤ index
+in_directory t index ok m = go (cases_lt index (superblocks_before t.pairs))
+  where
+    bytes : List ℕ
+    bytes = ok.superblock.0
+
+    wrong : (l : List Slot) → (pair_in t index).content.slots ≡ l ++ m.slot ∷ m.right → length (pair_in t index).content.slots ≡ 1 → HasSuperblock ok.superblock.0 (pair_in t index).content.slots → ⊥
+    wrong [] e one h = absurd (let k = (subst (HasSuperblock ok.superblock.0) e h).0 in let z = sym k ∙ m.other in cc)
+    wrong (s ∷ l) e one h = absurd (let a = ap length e in let b = length-append l (m.slot ∷ m.right) in omega arith)
+
+    go : (index < superblocks_before t.pairs) ⊎ (superblocks_before t.pairs ≤ index) → superblocks_before t.pairs ≤ index
+    go (inr h) = h
+    go (inl h) = absurd (wrong m.left m.held (chain_single t.pairs index h)
+        (heads (λ p. HasSuperblock ok.superblock.0 p.content.slots) (superblocks_before t.pairs + 1) t.pairs index (omega arith) m.below
+        (recursion_from_All (λ (p : Pair). HasSuperblock ok.superblock.0 p.content.slots) (take (superblocks_before t.pairs + 1) t.pairs) ok.superblock.1.1)))
+
+-- what the search for it found
+pub found_there : (t : Kept) (o : Option ℕ) → IsAccepted t.disk t.pairs → (gstate_of t.pairs).kind ≡ set_move → IfSome o (BeginsAt t.pairs (gstate_of t.pairs).pair) → IfSome o (IsMovedAt t)
+found_there t None ok kind h = h
+found_there t (Some index) ok kind h = moved_at t index ok kind h
+
+pub found_none : (t : Kept) (o : Option ℕ) → IsAccepted t.disk t.pairs → (gstate_of t.pairs).kind ≡ set_move → IfNone o (AllByRecursion (λ p. same_pair p.at (gstate_of t.pairs).pair ≡ false) t.pairs) → IfNone o (HasNoMove (gstate_of t.pairs))
+found_none t None ok kind h = absurd (not_nowhere t ok kind h)
+found_none t (Some index) ok kind h = h

@@ -1,0 +1,373 @@
+-- How far a recovery is, from its beginning to its end.
+use Rattle.std.proofs.Common.{ℕ, suc, zero, ◌≡◌, ◌≢◌, ◌+◌, ◌-◌, ◌<◌, ◌≤◌, ◌⊎◌, inl, inr, true, false, cond, nat_eq, eq-eqb, List, [], ◌∷◌, ◌++◌, length, take, drop, Option, Some, None, refl, sym, ap, ap₂, subst, ◌∙◌, arith, append_assoc, length-append, remove, slice_get}
+use Rattle.std.specs.Prelude.{is_some, slice_index_or}
+use Rattle.std.proofs.lemmas.Bool.{ne_eqb}
+use Rattle.std.proofs.lemmas.Option.{same_Some}
+use Rattle.std.proofs.lemmas.List.Elements.{recursion_from_All}
+use Rattle.lfs_model.specs.Blocks.{Blocks}
+use Rattle.lfs_model.specs.Disk.{Disk}
+use Rattle.lfs_model.specs.Layout.{begin_from, onward}
+use Rattle.lfs_model.specs.Logged.{IsAddress}
+use Rattle.lfs_model.specs.PowerLoss.{IsLeft as IsLeftOf, Survives, with_blocks}
+use Rattle.lfs_model.specs.Slots.{Gstate, Slot, no_gstate, same_pair}
+use Rattle.lfs_model.specs.Thread.{Pair, directory_pairs, first_at, gstate_of, superblocks_before}
+use Rattle.lfs_model.specs.View.{IsAccepted, IsReached, IsWritable, all_slots, tree_in, used_blocks}
+use Rattle.lfs_model.proofs.AfterStops.{survives_then}
+use Rattle.lfs_model.proofs.Changes.{SameFiles}
+use Rattle.lfs_model.proofs.Counts.{count, count_append, once_from_distinct}
+use Rattle.lfs_model.proofs.Files.{HasSameFile}
+use Rattle.lfs_model.proofs.Found.{HasDirectory, chain_of_thread, led_directory}
+use Rattle.lfs_model.proofs.Global.{HasNoMove}
+use Rattle.lfs_model.proofs.Histories.{EachSince-weaker, LeavesOnly-weaker, goes_on_by}
+use Rattle.lfs_model.proofs.Layouts.{joined_singles, onward_all}
+use Rattle.lfs_model.proofs.Listings.{Ends}
+use Rattle.lfs_model.proofs.Pairs.{pair_back, pair_itself, pair_on}
+use Rattle.lfs_model.proofs.Recovering.{recovery_begins}
+use Rattle.lfs_model.proofs.Searches.{same_number}
+use Rattle.lfs_model.proofs.Splices.{files_of, slots_in}
+use Rattle.lfs_model.proofs.Unthreaded.{IsReady, IsUnthreaded, same_parts}
+use Rattle.lfs_thread.specs.Device.{StopsLeave}
+use Rattle.lfs_thread.specs.Kept.{Kept}
+use Rattle.lfs_thread.specs.Steps.{IsDropped, IsLeft, IsWrittenAs, Writes, pair_in, with_pair, without_pair}
+use Rattle.lfs_operations.specs.Recovering.{AreUnreachedFrom, CanDropUnreached, CanTakeOver, FitsFields, IsAddressIfSome, StaysOn, state_with, takes_share, taking_over, target_of}
+use Rattle.lfs_operations.specs.Ready.{NoneComes}
+use Rattle.lfs_operations.proofs.RecoverLoop.{FirstsOnly, IsAtDrop, IsAtEnd, IsOnWay, all_but, drops, goes_to, ready, soft, stands, sync_set, unled}
+use Rattle.lfs_operations.proofs.RecoverMap.{HasMap, files_count, map_drops, none_flies}
+use Rattle.lfs_operations.proofs.RecoverPlaced.{IsAt, next_below, next_is, without_is}
+use Rattle.lfs_operations.proofs.RecoverShares.{over_content, over_made}
+use Rattle.lfs_operations.proofs.RecoverSteps.{IsUnled, over_left, over_on, state_now}
+
+-- ---- the device
+
+pub stays_itself : (t : Kept) → StaysOn t t
+stays_itself t = record { shape = record { block_size = refl; page = refl; count = refl }; calls = record { events = []; extends = refl; each = tt } }
+
+pub stays_then : (a b c : Kept) → StaysOn a b → StaysOn b c → StaysOn a c
+stays_then a b c h k = record {
+  shape = record { block_size = k.shape.block_size ∙ h.shape.block_size; page = k.shape.page ∙ h.shape.page; count = k.shape.count ∙ h.shape.count };
+  calls = goes_on_by h.calls k.calls;
+}
+
+pub stays_by : (bs : List ℕ) (a b : Kept) → Writes bs a b → StaysOn a b
+stays_by bs a b w = record { shape = w.shape; calls = EachSince-weaker (λ e k. tt) w.at_worst }
+
+-- ---- the beginning
+
+get_behind : (xs : List Pair) (p : Pair) (ys : List Pair) → slice_get (xs ++ p ∷ ys) (length xs) ≡ Some p
+get_behind [] p ys = refl
+get_behind (x ∷ xs) p ys = get_behind xs p ys
+
+ends_on : (from : Option (ℕ × ℕ)) (p : Pair) (ps : List Pair) → Ends (p ∷ ps) → onward_all from (p ∷ ps) ≡ None
+ends_on from p [] h = ap (λ b. cond b (Some (begin_from from p)) None) h
+ends_on from p (q ∷ ps) h = ends_on (onward from p) q ps h
+
+ends_none : (before : List Pair) → Ends before → onward_all None before ≡ None
+ends_none [] h = refl
+ends_none (p ∷ ps) h = ends_on None p ps h
+
+module _ (disk : Disk) (ps : List Pair) (ok : IsAccepted disk ps) where
+  abbrev chain : List Pair
+  chain = take (superblocks_before ps) ps
+
+  abbrev whole : ps ≡ take (superblocks_before ps) ps ++ directory_pairs ps
+  whole = (chain_of_thread ps).0
+
+  -- no path leads to a pair that a hard tail leads to
+  not_led : (xs : List Pair) (y : Pair) (ys : List Pair) → directory_pairs ps ≡ xs ++ y ∷ ys → is_some (onward_all None xs) ≡ true → IsReached ps y.at → ⊥
+  not_led xs y ys parts hard (path, a, (l, s)) =
+      let d : HasDirectory (directory_pairs ps) a = led_directory disk ps path a ok l in
+      let one : ps ≡ (chain ++ d.before) ++ d.first ∷ (d.run ++ d.after) = whole ∙ ap (λ z. chain ++ z) d.is ∙ sym (append_assoc chain d.before (d.first ∷ (d.run ++ d.after))) in
+      let two : ps ≡ (chain ++ xs) ++ y ∷ ys = whole ∙ ap (λ z. chain ++ z) parts ∙ sym (append_assoc chain xs (y ∷ ys)) in
+      let first = ap (λ z. slice_get z (length (chain ++ d.before))) one ∙ get_behind (chain ++ d.before) d.first (d.run ++ d.after) in
+      let second = ap (λ z. slice_get z (length (chain ++ xs))) two ∙ get_behind (chain ++ xs) y ys in
+      let n = same_number ps (length (chain ++ d.before)) (length (chain ++ xs)) d.first y ok.thread.distinct first second (pair_on d.first.at a y.at d.at (pair_back y.at a s)) in
+      let same = same_parts d.before d.first (d.run ++ d.after) xs y ys (let e = length-append chain d.before in let f = length-append chain xs in omega arith) (sym d.is ∙ parts) in
+      absurd (let none = ap (onward_all None) (sym same.front) ∙ ends_none d.before d.ends in let z = sym hard ∙ ap is_some none in cc)
+
+  firsts_from : (xs ys : List Pair) → directory_pairs ps ≡ xs ++ ys → FirstsOnly (IsReached ps) (onward_all None xs) ys
+  firsts_from xs [] parts = tt
+  firsts_from xs (y ∷ ys) parts = (
+    not_led xs y ys parts,
+    subst (λ z. FirstsOnly (IsReached ps) z ys) (end_at None xs) (firsts_from (xs ++ y ∷ []) ys (parts ∙ sym (append_assoc xs (y ∷ []) ys))),
+  )
+    where
+      end_at : (from : Option (ℕ × ℕ)) (xs : List Pair) → onward_all from (xs ++ y ∷ []) ≡ onward (onward_all from xs) y
+      end_at from [] = refl
+      end_at from (x ∷ xs) = end_at (onward from x) xs
+
+  root_reached : (x : Pair) (xs : List Pair) → directory_pairs ps ≡ x ∷ xs → IsReached ps x.at
+  root_reached x xs e = ([], first_at (directory_pairs ps), (refl, subst (λ z. same_pair x.at (first_at z) ≡ true) (sym e) (pair_itself x.at)))
+
+-- ---- on the way
+
+pub record IsUnderWay (old now : Kept) (dropped : ℕ) (numbers : List ℕ) : Type 0 where
+  pub seen : List Pair
+  pub todo : List Pair
+  pub parts : List (List Pair)
+  pub kept : List Pair
+  pub way : IsOnWay old.disk old.pairs now dropped (take (superblocks_before old.pairs) old.pairs) seen todo parts kept numbers
+  pub state : 0 < dropped → numbers ≡ [] → gstate_of now.pairs ≡ no_gstate
+  pub device : StaysOn old now
+  pub gone : List ℕ
+  pub map : HasMap now gone
+  pub lost : (b : ℕ) → count b gone + count b (files_of now.disk (slots_in now.pairs)) ≡ count b (files_of old.disk (slots_in old.pairs))
+  pub none_comes : NoneComes old.map now.map
+  pub survives : Survives old.disk old.history now.history (tree_in old.disk old.pairs) (tree_in old.disk old.pairs)
+
+pub begins : (t : Kept) (numbers : List ℕ) → CanDropUnreached t numbers → IsUnderWay t t 0 numbers
+begins t numbers can =
+    let ok = can.accepted in
+    let fits = can.writable in
+    let none = can.none in
+    let told = can.told in
+    let e = chain_of_thread t.pairs in
+    let count : superblocks_before t.pairs ≡ length (take (superblocks_before t.pairs) t.pairs) + 0 + 0 = let a = ap superblocks_before e.0 in let b = e.1 in omega arith in
+    record {
+      seen = [];
+      todo = directory_pairs t.pairs;
+      parts = [];
+      kept = [];
+      way = record {
+        is = recovery_begins t.disk t.pairs ok fits none;
+        there = e.0;
+        no_move = none;
+        told = subst (λ n. AreUnreachedFrom (IsReached t.pairs) n None (directory_pairs t.pairs) numbers) count told;
+        firsts = firsts_from t.disk t.pairs ok [] (directory_pairs t.pairs) refl;
+        filled = fits.no_empty_pair;
+        begins = tt;
+        goes_on = inl refl;
+        root = λ n x xs is. root_reached t.disk t.pairs ok x xs is;
+      };
+      state = λ some n. absurd (omega arith);
+      device = stays_itself t;
+      gone = [];
+      map = record {
+        owned = used_blocks t.disk t.pairs;
+        are = can.used;
+        same = λ b. omega arith;
+        once = λ b. once_from_distinct (used_blocks t.disk t.pairs) ok.owned_once b;
+        size = can.size;
+      };
+      lost = λ b. omega arith;
+      none_comes = λ b flies. flies;
+      survives = λ clean. record { events = []; extends = refl; each = tt };
+    }
+
+-- ---- the next pair that goes
+
+-- the pair at an index goes, which stands behind the one before it
+pub record IsNext (old now : Kept) (dropped number : ℕ) (rest : List ℕ) : Type 0 where
+  pub numbers : List ℕ
+  pub seen : List Pair
+  pub x : Pair
+  pub todo : List Pair
+  pub parts : List (List Pair)
+  pub kept : List Pair
+  pub way : IsOnWay old.disk old.pairs now dropped (take (superblocks_before old.pairs) old.pairs) seen (x ∷ todo) parts kept numbers
+  pub unreached : IsReached old.pairs (begin_from (onward_all None seen) x) → ⊥
+  pub more : AreUnreachedFrom (IsReached old.pairs) (suc (length (take (superblocks_before old.pairs) old.pairs) + length kept + dropped)) (onward (onward_all None seen) x) todo rest
+  pub front : List Pair
+  pub before : Pair
+  pub split : kept ≡ front ++ before ∷ []
+  pub number_is : number ≡ length (take (superblocks_before old.pairs) old.pairs) + length front + 1 + dropped
+
+record HasLast (xs : List Pair) : Type 0 where
+  front : List Pair
+  last : Pair
+  is : xs ≡ front ++ last ∷ []
+
+has_last : (x : Pair) (xs : List Pair) → HasLast (x ∷ xs)
+has_last x [] = record { front = []; last = x; is = refl }
+has_last x (y ∷ xs) = let l = has_last y xs in record { front = x ∷ l.front; last = l.last; is = ap (λ z. x ∷ z) l.is }
+
+pub next_goes : (old now : Kept) (dropped number : ℕ) (rest : List ℕ) → IsUnderWay old now dropped (number ∷ rest) → IsNext old now dropped number rest
+next_goes old now dropped number rest u = go (goes_to old.disk old.pairs now dropped (take (superblocks_before old.pairs) old.pairs) u.seen u.todo u.parts u.kept (number ∷ rest) u.way)
+  where
+    C : List Pair
+    C = take (superblocks_before old.pairs) old.pairs
+
+    head : {a b : ℕ} {us vs : List ℕ} → a ∷ us ≡ b ∷ vs → a ≡ b
+    head e = cc
+
+    tail : {a b : ℕ} {us vs : List ℕ} → a ∷ us ≡ b ∷ vs → vs ≡ us
+    tail e = cc
+
+    go : IsAtEnd old.disk old.pairs now dropped (take (superblocks_before old.pairs) old.pairs) (number ∷ rest) ⊎ IsAtDrop old.disk old.pairs now dropped (take (superblocks_before old.pairs) old.pairs) (number ∷ rest)
+        → IsNext old now dropped number rest
+    go (inl d) = absurd (let l = ap length d.none in omega arith)
+    go (inr d) = by d.kept refl
+      where
+        by : (ks : List Pair) → d.kept ≡ ks → IsNext old now dropped number rest
+        by [] e = absurd (d.unreached (d.way.root e d.x d.todo refl))
+        by (k ∷ ks) e =
+            let l = has_last k ks in
+            record {
+              numbers = number ∷ rest;
+              seen = d.seen;
+              x = d.x;
+              todo = d.todo;
+              parts = d.parts;
+              kept = d.kept;
+              way = d.way;
+              unreached = d.unreached;
+              more = subst (λ z. AreUnreachedFrom (IsReached old.pairs) (suc (length C + length d.kept + dropped)) (onward (onward_all None d.seen) d.x) d.todo z) (tail d.is) d.more;
+              front = l.front;
+              before = l.last;
+              split = e ∙ l.is;
+              number_is = let h = head d.is in let a = ap length (e ∙ l.is) in let b = length-append l.front (l.last ∷ []) in omega arith;
+            }
+
+-- the state that is wanted: none with the last one
+pub record IsWanted (now : Kept) (rest : List ℕ) (g : Gstate) : Type 0 where
+  pub last : rest ≡ [] → g ≡ no_gstate
+  pub other : rest ≢ [] → g ≡ gstate_of now.pairs
+
+module _ (old now : Kept) (dropped number : ℕ) (rest : List ℕ) (n : IsNext old now dropped number rest) (g : Gstate) (want : IsWanted now rest g) where
+  abbrev C : List Pair
+  C = take (superblocks_before old.pairs) old.pairs
+
+  abbrev at : ℕ
+  at = length C + length n.front
+
+  whole_is : now.pairs ≡ C ++ (n.front ++ n.before ∷ n.x ∷ n.todo)
+  whole_is = stands old.disk old.pairs now dropped C n.seen n.x n.todo n.parts n.kept n.numbers n.way n.unreached n.front n.before n.split
+
+  place : IsAt now C n.front n.before (n.x ∷ n.todo) at
+  place = record { there = whole_is; number = refl }
+
+  is_ready : IsReady now.disk C (n.front ++ n.before ∷ n.x ∷ n.todo)
+  is_ready = subst (IsReady now.disk C) (ap (λ z. z ++ n.x ∷ n.todo) n.split ∙ append_assoc n.front (n.before ∷ []) (n.x ∷ n.todo))
+      (ready old.disk old.pairs now dropped C n.seen n.x n.todo n.parts n.kept n.numbers n.way n.unreached n.front n.before n.split)
+
+  now_none : HasNoMove (gstate_of now.pairs)
+  now_none = subst (λ z. HasNoMove (gstate_of z)) (sym whole_is) is_ready.no_move
+
+  cases : (HasNoMove g) × (g.sync ≡ false → rest ≡ [])
+  cases = go rest refl
+    where
+      go : (r : List ℕ) → rest ≡ r → (HasNoMove g) × (g.sync ≡ false → rest ≡ [])
+      go [] e = (subst HasNoMove (sym (want.last e)) (record { kind = refl; id = refl; pair = refl }), λ off. e)
+      go (r ∷ rs) e =
+          let is = want.other (λ k. absurd (let l = ap length (sym e ∙ k) in omega arith)) in
+          (subst HasNoMove (sym is) now_none, λ off. absurd (sync_set old.disk old.pairs now dropped C n.seen n.x n.todo n.parts n.kept n.numbers n.way n.unreached n.front n.before n.split (ap (λ (z : Gstate). z.sync) (sym is) ∙ off)))
+
+  is_unled : IsUnled now g n.before n.x
+  is_unled = record {
+    none = cases.0;
+    soft = soft old.disk old.pairs now dropped C n.seen n.x n.todo n.parts n.kept n.numbers n.way n.unreached n.front n.before n.split;
+    unled = unled old.disk old.pairs now dropped C n.seen n.x n.todo n.parts n.kept n.numbers n.way n.unreached n.front n.before n.split;
+    reached = λ off. all_but old.disk old.pairs now dropped C n.seen n.x n.todo n.parts n.kept n.numbers n.way n.unreached n.front n.before n.split
+        (subst (λ z. AreUnreachedFrom (IsReached old.pairs) (suc (length C + length n.kept + dropped)) (onward (onward_all None n.seen) n.x) n.todo z) (cases.1 off) n.more);
+  }
+
+  fields : FitsFields g
+  fields = record { kind = let e = cases.0.kind in omega arith; id = let e = cases.0.id in omega arith }
+
+  pub can_take : (index behind : ℕ) → behind ≡ index + 1 → behind + dropped ≡ number → CanTakeOver now index behind g
+  can_take index behind next e = record {
+    accepted = subst (IsAccepted now.disk) (sym whole_is) is_ready.accepted;
+    writable = subst (IsWritable now.disk) (sym whole_is) is_ready.writable;
+    next = next;
+    below = let b = next_below now C n.front n.before n.x n.todo at place in let k = n.number_is in omega arith;
+    fields = fields;
+  }
+
+  -- the index of the pair in front
+  index_is : (index behind : ℕ) → behind ≡ index + 1 → behind + dropped ≡ number → index ≡ length C + length n.front
+  index_is index behind next e = let k = n.number_is in omega arith
+
+  module _ (index behind : ℕ) (next : behind ≡ index + 1) (e : behind + dropped ≡ number) where
+    here : IsAt now C n.front n.before (n.x ∷ n.todo) index
+    here = record { there = whole_is; number = index_is index behind next e }
+
+    shows : tree_in now.disk now.pairs ≡ tree_in old.disk old.pairs
+    shows = ap (tree_in now.disk) (n.way.there ∙ ap (λ z. C ++ (n.kept ++ z)) (sym (joined_singles (n.x ∷ n.todo)))) ∙ n.way.is.taken.follows.shows
+
+    disk_is : StaysOn old now → (left : Blocks) → with_blocks left now.disk ≡ with_blocks left old.disk
+    disk_is d left = ap₂ (λ (a b : ℕ). record { block_size = a; page = b; blocks = left }) d.shape.block_size d.shape.page
+
+    pub survives_on : (new : Kept) → IsUnderWay old now dropped (number ∷ rest) → IsAddress (takes_share now index behind g).pair → IsAddressIfSome (target_of (pair_in now behind).content.tail)
+        → StaysOn now new → StopsLeave now.history new.history (IsLeft now index (taking_over now index behind g))
+        → Survives old.disk old.history new.history (tree_in old.disk old.pairs) (tree_in old.disk old.pairs)
+    survives_on new u address words on stops =
+        survives_then old.disk old.history now.history new.history (tree_in old.disk old.pairs) (tree_in old.disk old.pairs) u.device.calls on.calls u.survives
+        (λ clean. LeavesOnly-weaker (λ left x. subst (λ z. IsLeftOf z (tree_in old.disk old.pairs) (tree_in old.disk old.pairs)) (disk_is u.device left)
+        (subst (λ z. IsLeftOf (with_blocks left now.disk) z z) shows
+        (over_left now C n.front n.before n.x n.todo index behind g here next is_ready is_unled (can_take index behind next e) address words left x))) (stops clean))
+
+    pub moves_on : (new : Kept) → IsUnderWay old now dropped (number ∷ rest) → IsAddress (takes_share now index behind g).pair → IsAddressIfSome (target_of (pair_in now behind).content.tail)
+        → IsDropped now index (taking_over now index behind g) new → StaysOn now new → StopsLeave now.history new.history (IsLeft now index (taking_over now index behind g))
+        → IsUnderWay old new (suc dropped) rest
+    moves_on new u address words is on stops =
+        let can = can_take index behind next e in
+        let same : is.content ≡ over_content now index behind g = same_Some is.content (over_content now index behind g) (sym is.made ∙ over_made now index behind g can address words) in
+        let written = subst (λ c. IsWrittenAs now index c new.disk) same is.written in
+        let q : Pair = record { at = n.before.at; content = over_content now index behind g } in
+        let apart = over_on now C n.front n.before n.x n.todo index behind g here next is_ready is_unled new.disk written in
+        let pairs : new.pairs ≡ C ++ (n.front ++ q ∷ n.todo) = is.pairs ∙ ap (λ c. remove (with_pair now index c) (index + 1)) same ∙ without_is now C n.front n.before n.x n.todo index here (over_content now index behind g) in
+        let were : now.pairs ≡ (C ++ n.front) ++ n.before ∷ n.x ∷ n.todo = whole_is ∙ sym (append_assoc C n.front (n.before ∷ n.x ∷ n.todo)) in
+        let are : new.pairs ≡ (C ++ n.front) ++ q ∷ n.todo = pairs ∙ sym (append_assoc C n.front (q ∷ n.todo)) in
+        let files : SameFiles now.disk new.disk (all_slots now.pairs) = subst (λ z. SameFiles now.disk new.disk (all_slots z)) (sym whole_is)
+        (recursion_from_All (λ (s : Slot). HasSameFile now.disk new.disk s.struct) (all_slots (C ++ (n.front ++ n.before ∷ n.x ∷ n.todo))) apart.device.files) in
+        let still : HasNoMove (gstate_of new.pairs) = subst (λ z. HasNoMove (gstate_of z)) (sym pairs) apart.no_move in
+        let map_is : new.map ≡ without_pair now.map n.x.at = is.map ∙ ap (λ (z : Pair). without_pair now.map z.at) (next_is now C n.front n.before n.x n.todo index here) in
+        record {
+          gone = u.gone ++ files_of now.disk n.x.content.slots;
+          map = map_drops now new (C ++ n.front) n.before n.x q n.todo were are refl apart.slots now_none still apart.device.geometry files u.gone map_is on.shape.count u.map;
+          lost = λ b.
+              let f = files_count now new (C ++ n.front) n.before n.x q n.todo were are refl apart.slots now_none still apart.device.geometry files b in
+              let a = count_append b u.gone (files_of now.disk n.x.content.slots) in
+              let l = u.lost b in
+              omega arith;
+          none_comes = none_flies old.map now.map new.map n.x.at map_is u.none_comes;
+          seen = n.seen ++ n.x ∷ [];
+          todo = n.todo;
+          parts = n.parts ++ [] ∷ [];
+          kept = n.front ++ q ∷ [];
+          way = drops old.disk old.pairs now dropped C n.seen n.x n.todo n.parts n.kept n.numbers n.way n.unreached n.front n.before n.split new q rest n.more
+              (subst (λ z. IsUnthreaded now.disk new.disk C n.front n.before n.x q z) (sym (joined_singles n.todo)) apart) pairs;
+          state = λ some none. ap gstate_of pairs ∙ state_now now C n.front n.before n.x n.todo index behind g here next is_ready is_unled ∙ want.last none;
+          device = stays_then old now new u.device on;
+          survives = survives_on new u address words on stops;
+        }
+
+-- ---- in the list of numbers
+
+drop_here : (n : ℕ) (xs : List ℕ) → n < length xs → drop n xs ≡ slice_index_or xs n 0 ∷ drop (suc n) xs
+drop_here n [] low = absurd (omega arith)
+drop_here zero (x ∷ xs) low = refl
+drop_here (suc n) (x ∷ xs) low = drop_here n xs (omega arith)
+
+pub drop_none : (n : ℕ) (xs : List ℕ) → drop n xs ≡ [] → length xs ≤ n
+drop_none zero [] e = omega arith
+drop_none zero (x ∷ xs) e = absurd (let l = ap length e in omega arith)
+drop_none (suc n) [] e = omega arith
+drop_none (suc n) (x ∷ xs) e = let l = drop_none n xs e in omega arith
+
+pub drop_all : (n : ℕ) (xs : List ℕ) → length xs ≤ n → drop n xs ≡ []
+drop_all zero [] l = refl
+drop_all zero (x ∷ xs) l = absurd (omega arith)
+drop_all (suc n) [] l = refl
+drop_all (suc n) (x ∷ xs) l = drop_all n xs (omega arith)
+
+pub way_at : (old now : Kept) (xs : List ℕ) (dropped : ℕ) → dropped < length xs → IsUnderWay old now dropped (drop dropped xs) → IsUnderWay old now dropped (slice_index_or xs dropped 0 ∷ drop (suc dropped) xs)
+way_at old now xs dropped low u = subst (IsUnderWay old now dropped) (drop_here dropped xs low) u
+
+pub next_at : (old now : Kept) (xs : List ℕ) (dropped : ℕ) → dropped < length xs → IsUnderWay old now dropped (drop dropped xs) → IsNext old now dropped (slice_index_or xs dropped 0) (drop (suc dropped) xs)
+next_at old now xs dropped low u = next_goes old now dropped (slice_index_or xs dropped 0) (drop (suc dropped) xs) (way_at old now xs dropped low u)
+
+-- how the number, the index and the one in front of it hang together
+pub record AreIndexes (number dropped : ℕ) : Type 0 where
+  pub enough : dropped ≤ number
+  pub some : 1 ≤ number - dropped
+  pub next : number - dropped ≡ number - dropped - 1 + 1
+  pub sum : number - dropped + dropped ≡ number
+
+pub indexes : (old now : Kept) (dropped number : ℕ) (rest : List ℕ) → IsNext old now dropped number rest → AreIndexes number dropped
+indexes old now dropped number rest n = let k = n.number_is in record { enough = omega arith; some = omega arith; next = omega arith; sum = omega arith }
+
+pub wanted : (now : Kept) (xs : List ℕ) (dropped : ℕ) (g : Gstate) → dropped < length xs → g ≡ state_with now (nat_eq (dropped + 1) (length xs)) → IsWanted now (drop (suc dropped) xs) g
+wanted now xs dropped g low is = record {
+  last = λ none. is ∙ ap (state_with now) (eq-eqb (dropped + 1) (length xs) (let l = drop_none (suc dropped) xs none in omega arith));
+  other = λ some. is ∙ ap (state_with now) (ne_eqb (dropped + 1) (length xs) (λ e. some (drop_all (suc dropped) xs (omega arith))));
+}

@@ -1,0 +1,70 @@
+-- A slot of a block, as it was read.
+use Rattle.std.proofs.Common.{ℕ, zero, suc, ◌≡◌, ◌<◌, List, [], ◌∷◌, length, map, Option, Some, None, refl, sym, ap, ◌∙◌, arith, get_or}
+use Rattle.std.proofs.lemmas.List.{length-map}
+use Rattle.std.specs.Prelude.{IsSome}
+use Rattle.std.specs.Option.{option_and_then, option_map}
+use Rattle.std.proofs.lemmas.Option.{same_Some}
+use Rattle.lfs_model.specs.Content.{RawContent, RawSlot, complete, complete_all, content_after_all, empty_slot, kind_named, no_content, slot_of_id, struct_typed}
+use Rattle.lfs_model.specs.Log.{log_entries}
+use Rattle.lfs_model.specs.Slots.{Content, Slot}
+use Rattle.lfs_model.proofs.Completed.{complete_length, complete_parts, completed_parts}
+use Rattle.lfs_tag.specs.ContentSeen.{attribute_seen, content_seen, part_seen, slot_seen}
+use Rattle.lfs_tag.specs.declared.content.Content as code
+use Rattle.lfs_tag.specs.declared.content.Part.{Part}
+use Rattle.lfs_tag.specs.declared.content.Slot as slots
+use Rattle.lfs_thread.specs.Lent.{IsBlockOf}
+
+at_id : {X : Type 0} (f : X → RawSlot) (xs : List X) (i : ℕ) (x : X) (d : RawSlot) → i < length xs → x ≡ get_or xs i x → get_or (map f xs) i d ≡ f x
+at_id f [] i x d l e = absurd (omega arith)
+at_id f (y ∷ xs) zero x d l e = ap f (sym e)
+at_id f (y ∷ xs) (suc i) x d l e = at_id f xs i x d (omega arith) e
+
+record IsComplete (s : RawSlot) : Type 0 where
+  slot : Slot
+  is : complete s ≡ Some slot
+
+complete_at_id : (xs : List RawSlot) (us : List Slot) (i : ℕ) → complete_all xs ≡ Some us → i < length xs → IsComplete (slot_of_id xs i)
+complete_at_id [] us i h l = absurd (omega arith)
+complete_at_id (x ∷ xs) us zero h l = let p = complete_parts x xs us h in record { slot = p.first; is = p.is_first }
+complete_at_id (x ∷ xs) us (suc i) h l = let p = complete_parts x xs us h in complete_at_id xs p.others i p.are_others (omega arith)
+
+has_parts : (s : slots.Slot) (u : Slot) → complete (slot_seen s) ≡ Some u → IsSome s.name × IsSome s.structure
+has_parts s u h = go s.name s.structure h
+  where
+    go : (n p : Option Part) → option_and_then (λ name. option_map (λ struct. record {
+      kind = kind_named name.0;
+      name = name.1;
+      struct = struct_typed struct.0 struct.1;
+      attributes = map attribute_seen s.attributes.items;
+    }) (option_map part_seen p)) (option_map part_seen n) ≡ Some u → IsSome n × IsSome p
+    go None p k = absurd (cc)
+    go (Some n) None k = absurd (cc)
+    go (Some n) (Some p) k = (refl, refl)
+
+module _ (block : List ℕ) (content : Content) (is : IsBlockOf block content) (id : ℕ) (below : id < length content.slots) (read : code.Content) (log : content_after_all no_content (log_entries block) ≡ Some (content_seen read)) where
+  same_raw : content_seen read ≡ is.raw
+  same_raw = same_Some (content_seen read) is.raw (sym log ∙ is.log)
+
+  slots_are : map slot_seen read.slots.items ≡ is.raw.slots
+  slots_are = ap (λ (r : RawContent). r.slots) same_raw
+
+  all : complete_all is.raw.slots ≡ Some content.slots
+  all = (completed_parts is.raw content is.complete).slots
+
+  pub read_below : id < length read.slots.items
+  read_below = let a = complete_length is.raw.slots content.slots all in let b = ap length slots_are in let c = length-map read.slots.items slot_seen in omega arith
+
+  module _ (slot : slots.Slot) (at : slot ≡ get_or read.slots.items id slot) where
+    pub there_read : slot_of_id is.raw.slots id ≡ slot_seen slot
+    there_read = ap (λ (z : List RawSlot). slot_of_id z id) (sym slots_are) ∙ at_id slot_seen read.slots.items id slot empty_slot read_below at
+
+    both : IsSome slot.name × IsSome slot.structure
+    both =
+        let k = complete_at_id is.raw.slots content.slots id all (let a = complete_length is.raw.slots content.slots all in omega arith) in
+        has_parts slot k.slot (ap complete (sym there_read) ∙ k.is)
+
+    pub is_named : IsSome slot.name
+    is_named = both.0
+
+    pub is_structured : IsSome slot.structure
+    is_structured = both.1

@@ -1,0 +1,142 @@
+-- The tree after a rename within one pair to a name that is new, which stands behind the old slot or in front of it.
+use Rattle.std.proofs.Common.{ℕ, suc, ◌≡◌, ◌≤◌, true, false, not, List, [], ◌∷◌, ◌++◌, length, Some, refl, sym, ap, subst, ◌∙◌, arith, append_assoc, length-append, get_or, slice_get, remove}
+use Rattle.std.specs.List.{insert}
+use Rattle.std.specs.declared.cmp.Ordering.TheVariants.{Less}
+use Rattle.std.proofs.lemmas.List.Elements.{filter-append}
+use Rattle.lfs_model.specs.Disk.{Disk}
+use Rattle.lfs_model.specs.Names.{Name, name_cmp}
+use Rattle.lfs_model.specs.Slots.{Slot, is_superblock, same_pair}
+use Rattle.lfs_model.specs.Thread.{Pair, blocks_of}
+use Rattle.lfs_model.specs.Tree.{Path}
+use Rattle.lfs_model.specs.View.{Leads, entries_in}
+use Rattle.lfs_model.specs.Apply.{renamed}
+use Rattle.lfs_model.specs.InDirectory.{entries_only, slots_in}
+use Rattle.lfs_model.proofs.Names.{IsPlace, greater}
+use Rattle.lfs_model.proofs.Sites.{Site, thread_at, begin_of}
+use Rattle.lfs_model.proofs.Moves.{place_at, shown_before, shown_behind, entry_only, get_here, remove_here, insert_here}
+use Rattle.lfs_model.proofs.Renames.{entry_moves, rename_walk}
+use Rattle.lfs_model.proofs.Indexes.{site_shows}
+use Rattle.lfs_model.proofs.Committed.{IsCommit, commit_step, recovered_from, no_move_from}
+use Rattle.lfs_model.proofs.Changes.{Follows}
+use Rattle.lfs_model.proofs.RenameSteps.{place_ahead, place_behind, sibling_apart}
+
+less_differs : (a b : Name) → name_cmp a b ≡ Less → b ≡ a → ⊥
+less_differs a b e same = absurd (let k : name_cmp a a ≡ Less = ap (name_cmp a) (sym same) ∙ e in let g = greater a a k in cc)
+
+-- the entry there isn't of that name
+behind_differs : (xs : List Slot) (u : Slot) (ys : List Slot) (n : ℕ) (name : Name) → length xs ≤ n → IsPlace (xs ++ u ∷ ys) (suc n) name → name ≡ u.name → ⊥
+behind_differs xs u ys n name le h = less_differs u.name name (subst (λ (s : Slot). name_cmp s.name name ≡ Less) (here xs u ys) (h.below (length xs) u (omega arith)))
+  where
+    here : (xs : List Slot) (u : Slot) (ys : List Slot) → get_or (xs ++ u ∷ ys) (length xs) u ≡ u
+    here [] u ys = refl
+    here (x ∷ xs) u ys = here xs u ys
+
+ahead_differs : (xs : List Slot) (u : Slot) (ys : List Slot) (n : ℕ) (name : Name) → n ≤ length xs → IsPlace (xs ++ u ∷ ys) n name → name ≡ u.name → ⊥
+ahead_differs xs u ys n name le h e = less_differs name u.name (subst (λ (s : Slot). name_cmp name s.name ≡ Less) (here xs u ys) (h.above (length xs) u le (omega (arith, length-append xs (u ∷ ys))))) (sym e)
+  where
+    here : (xs : List Slot) (u : Slot) (ys : List Slot) → get_or (xs ++ u ∷ ys) (length xs) u ≡ u
+    here [] u ys = refl
+    here (x ∷ xs) u ys = here xs u ys
+
+entries_of_both : (xs ys : List Slot) → entries_only (xs ++ ys) ≡ entries_only xs ++ entries_only ys
+entries_of_both xs ys = filter-append (λ (s : Slot). not (is_superblock s)) xs ys
+
+-- ---- behind the old slot
+
+module _ (disk new : Disk) (w : Site) (p q : Pair) (more : List Pair) (l : List Slot) (u : Slot) (passed r : List Slot) (name : Name)
+    (c : IsCommit disk new w p q more [] l (u ∷ passed) (passed ++ record u { name = name } ∷ []) r) (other : is_superblock u ≡ false)
+    (P : Path) (a : ℕ × ℕ) (leads : Leads (thread_at w (p ∷ [])) P a) (same : same_pair (begin_of w (p ∷ [])) a ≡ true)
+    (place : IsPlace (entries_in (thread_at w (p ∷ [])) a) (place_at w (l ++ u ∷ passed)) name) where
+  abbrev moved : Slot
+  moved = record u { name = name }
+
+  abbrev ahead : List Slot
+  ahead = shown_before w l
+
+  abbrev rest : List Slot
+  rest = entries_only passed ++ shown_behind w r
+
+  shows : entries_in (thread_at w (p ∷ [])) a ≡ shown_before w l ++ u ∷ (entries_only passed ++ shown_behind w r)
+  shows = site_shows disk w p l (u ∷ passed) r a c.accepted c.site (no_move_from (thread_at w (p ∷ [])) c.settled) same c.was
+      ∙ ap (λ z. ahead ++ (z ++ shown_behind w r)) (entries_of_both (u ∷ []) passed ∙ ap (λ z. z ++ entries_only passed) (entry_only u other))
+
+  at_old : slice_get (entries_in (thread_at w (p ∷ [])) a) (place_at w l) ≡ Some u
+  at_old = ap (λ z. slice_get z (place_at w l)) shows ∙ get_here ahead rest u
+
+  left_over : remove (entries_in (thread_at w (p ∷ [])) a) (place_at w l) ≡ shown_before w l ++ (entries_only passed ++ shown_behind w r)
+  left_over = ap (λ z. remove z (place_at w l)) shows ∙ remove_here ahead rest u
+
+  abbrev number : ℕ
+  number = length (shown_before w l ++ entries_only passed)
+
+  -- the place with the old slot in front of it
+  number_is : place_at w (l ++ u ∷ passed) ≡ suc (length (shown_before w l ++ entries_only passed))
+  number_is = ap length (ap entries_only (sym (append_assoc (slots_in w.left) l (u ∷ passed))) ∙ entries_of_both (slots_in w.left ++ l) (u ∷ passed)
+      ∙ ap (λ z. ahead ++ z) (entries_of_both (u ∷ []) passed ∙ ap (λ z. z ++ entries_only passed) (entry_only u other)))
+      ∙ omega (arith, length-append ahead (u ∷ entries_only passed), length-append ahead (entries_only passed))
+
+  place_there : IsPlace (shown_before w l ++ u ∷ (entries_only passed ++ shown_behind w r)) (suc (length (shown_before w l ++ entries_only passed))) name
+  place_there = subst (λ k. IsPlace (ahead ++ u ∷ rest) k name) number_is (subst (λ z. IsPlace z (place_at w (l ++ u ∷ passed)) name) shows place)
+
+  new_place : IsPlace (remove (entries_in (thread_at w (p ∷ [])) a) (place_at w l)) (length (shown_before w l ++ entries_only passed)) name
+  new_place = subst (λ z. IsPlace z number name) (sym left_over) (place_behind ahead u rest number name (omega (arith, length-append ahead (entries_only passed))) place_there)
+
+  shown_moved : shown_before w l ++ (entries_only (passed ++ record u { name = name } ∷ []) ++ shown_behind w r)
+      ≡ insert (remove (entries_in (thread_at w (p ∷ [])) a) (place_at w l)) (length (shown_before w l ++ entries_only passed)) (record u { name = name })
+  shown_moved = ap (λ z. ahead ++ (z ++ shown_behind w r)) (entries_of_both passed (moved ∷ []) ∙ ap (λ z. entries_only passed ++ z) (entry_only moved other))
+      ∙ ap (λ z. ahead ++ z) (append_assoc (entries_only passed) (moved ∷ []) (shown_behind w r)) ∙ sym (append_assoc ahead (entries_only passed) (moved ∷ shown_behind w r))
+      ∙ sym (insert_here (ahead ++ entries_only passed) (shown_behind w r) moved)
+      ∙ ap (λ z. insert z number moved) (append_assoc ahead (entries_only passed) (shown_behind w r) ∙ sym left_over)
+
+  abbrev differs : name ≡ u.name → ⊥
+  differs = behind_differs ahead u rest number name (omega (arith, length-append (shown_before w l) (entries_only passed))) place_there
+
+  pub behind_follows : Follows disk (thread_at w (p ∷ [])) new (thread_at w (q ∷ more)) (renamed (P ++ u.name ∷ []) (P ++ name ∷ [])) (rename_walk (P ++ u.name ∷ []) (P ++ name ∷ []))
+  behind_follows = entry_moves disk new w p [] q more (blocks_of more) [] l (u ∷ passed) (passed ++ moved ∷ []) r (commit_step disk new w p q more [] l (u ∷ passed) (passed ++ moved ∷ []) r c)
+      P a leads same (place_at w l) u at_old name number shown_moved (sibling_apart P u.name name differs) new_place (λ e. (recovered_from disk (thread_at w (p ∷ [])) c.accepted c.settled).reached)
+
+-- ---- in front of it
+
+module _ (disk new : Disk) (w : Site) (p q : Pair) (more : List Pair) (l : List Slot) (u : Slot) (passed r : List Slot) (name : Name)
+    (c : IsCommit disk new w p q more [] l (passed ++ u ∷ []) (record u { name = name } ∷ passed) r) (other : is_superblock u ≡ false)
+    (P : Path) (a : ℕ × ℕ) (leads : Leads (thread_at w (p ∷ [])) P a) (same : same_pair (begin_of w (p ∷ [])) a ≡ true)
+    (place : IsPlace (entries_in (thread_at w (p ∷ [])) a) (place_at w l) name) where
+  abbrev moved2 : Slot
+  moved2 = record u { name = name }
+
+  abbrev ahead2 : List Slot
+  ahead2 = shown_before w l ++ entries_only passed
+
+  shows2 : entries_in (thread_at w (p ∷ [])) a ≡ (shown_before w l ++ entries_only passed) ++ u ∷ shown_behind w r
+  shows2 = site_shows disk w p l (passed ++ u ∷ []) r a c.accepted c.site (no_move_from (thread_at w (p ∷ [])) c.settled) same c.was
+      ∙ ap (λ z. shown_before w l ++ (z ++ shown_behind w r)) (entries_of_both passed (u ∷ []) ∙ ap (λ z. entries_only passed ++ z) (entry_only u other))
+      ∙ ap (λ z. shown_before w l ++ z) (append_assoc (entries_only passed) (u ∷ []) (shown_behind w r)) ∙ sym (append_assoc (shown_before w l) (entries_only passed) (u ∷ shown_behind w r))
+
+  abbrev old_number : ℕ
+  old_number = length (shown_before w l ++ entries_only passed)
+
+  at_old2 : slice_get (entries_in (thread_at w (p ∷ [])) a) (length (shown_before w l ++ entries_only passed)) ≡ Some u
+  at_old2 = ap (λ z. slice_get z old_number) shows2 ∙ get_here ahead2 (shown_behind w r) u
+
+  left_over2 : remove (entries_in (thread_at w (p ∷ [])) a) (length (shown_before w l ++ entries_only passed)) ≡ (shown_before w l ++ entries_only passed) ++ shown_behind w r
+  left_over2 = ap (λ z. remove z old_number) shows2 ∙ remove_here ahead2 (shown_behind w r) u
+
+  few : place_at w l ≤ length (shown_before w l ++ entries_only passed)
+  few = omega (arith, length-append (shown_before w l) (entries_only passed))
+
+  place_there2 : IsPlace ((shown_before w l ++ entries_only passed) ++ u ∷ shown_behind w r) (place_at w l) name
+  place_there2 = subst (λ z. IsPlace z (place_at w l) name) shows2 place
+
+  new_place2 : IsPlace (remove (entries_in (thread_at w (p ∷ [])) a) (length (shown_before w l ++ entries_only passed))) (place_at w l) name
+  new_place2 = subst (λ z. IsPlace z (place_at w l) name) (sym left_over2) (place_ahead ahead2 u (shown_behind w r) (place_at w l) name few place_there2)
+
+  shown_moved2 : shown_before w l ++ (entries_only (record u { name = name } ∷ passed) ++ shown_behind w r)
+      ≡ insert (remove (entries_in (thread_at w (p ∷ [])) a) (length (shown_before w l ++ entries_only passed))) (place_at w l) (record u { name = name })
+  shown_moved2 = ap (λ z. shown_before w l ++ (z ++ shown_behind w r)) (entries_of_both (moved2 ∷ []) passed ∙ ap (λ z. z ++ entries_only passed) (entry_only moved2 other))
+      ∙ sym (insert_here (shown_before w l) (entries_only passed ++ shown_behind w r) moved2)
+      ∙ ap (λ z. insert z (place_at w l) moved2) (sym (append_assoc (shown_before w l) (entries_only passed) (shown_behind w r)) ∙ sym left_over2)
+
+  pub ahead_follows : Follows disk (thread_at w (p ∷ [])) new (thread_at w (q ∷ more)) (renamed (P ++ u.name ∷ []) (P ++ name ∷ [])) (rename_walk (P ++ u.name ∷ []) (P ++ name ∷ []))
+  ahead_follows = entry_moves disk new w p [] q more (blocks_of more) [] l (passed ++ u ∷ []) (moved2 ∷ passed) r (commit_step disk new w p q more [] l (passed ++ u ∷ []) (moved2 ∷ passed) r c)
+      P a leads same old_number u at_old2 name (place_at w l) shown_moved2 (sibling_apart P u.name name (ahead_differs ahead2 u (shown_behind w r) (place_at w l) name few place_there2)) new_place2
+      (λ e. (recovered_from disk (thread_at w (p ∷ [])) c.accepted c.settled).reached)

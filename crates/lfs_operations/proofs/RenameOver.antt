@@ -1,0 +1,530 @@
+-- An entry that takes the place of a directory while the sync bit turns, as a step of the thread.
+use Rattle.std.proofs.Common.{ℕ, ◌≡◌, ◌⊎◌, inl, inr, ◌+◌, ◌≤◌, true, false, List, [], ◌∷◌, ◌++◌, length, Some, refl, sym, ap, ap₂, subst, ◌∙◌, arith, append_assoc, append-nil, length-append, sum_by, set, insert}
+use Rattle.std.specs.Option.{option_and_then}
+use Rattle.std.proofs.lemmas.List.Elements.{recursion_from_All}
+use Rattle.std.proofs.lemmas.List.Sums.{sum_by-append, sum_by-cons}
+use Rattle.std.proofs.lemmas.Option.{same_Some}
+use Rattle.lfs_model.specs.Apply.{renamed}
+use Rattle.lfs_model.specs.Blocks.{Blocks}
+use Rattle.lfs_model.specs.Changes.{Change, Delete, PutMove, changed_by}
+use Rattle.lfs_model.specs.Content.{RawContent, RawSlot, complete_all, completed, content_at, holder_at, raw_at}
+use Rattle.lfs_model.specs.Disk.{Disk}
+use Rattle.lfs_model.specs.History.{Event}
+use Rattle.lfs_model.specs.InDirectory.{StandsAt}
+use Rattle.lfs_model.specs.Logged.{IsMoveState}
+use Rattle.lfs_model.specs.Names.{Name, is_name}
+use Rattle.lfs_model.specs.PowerLoss.{IsLeft as IsLeftOf, Survives, with_blocks}
+use Rattle.lfs_model.specs.SlotEdits.{with_slots}
+use Rattle.lfs_model.specs.Slots.{Content, FitsPair, Gstate, Slot, gstate_xor, no_gstate, same_pair, slot_size, struct_len}
+use Rattle.lfs_model.specs.Thread.{Pair, gstate_of, next_of, starts_with_superblock}
+use Rattle.lfs_model.specs.View.{BeginsWith, IsAccepted, IsEntry, IsWritable, Leads, all_slots, superblock_entry, tree_in}
+use Rattle.lfs_model.proofs.Became.{fits_same}
+use Rattle.lfs_model.proofs.Changes.{Follows, SameFiles}
+use Rattle.lfs_model.proofs.Committed.{no_move_from}
+use Rattle.lfs_model.proofs.Completed.{complete_insert, complete_length, completed_from, completed_parts}
+use Rattle.lfs_model.proofs.Counts.{Each, each_right}
+use Rattle.lfs_model.proofs.Effects.{does_first, puts_move}
+use Rattle.lfs_model.proofs.Files.{HasSameFile}
+use Rattle.lfs_model.proofs.Global.{HasNoMove, gstate_comm, gstate_cons, gstate_moved, gstate_right, sync_share, turned_is}
+use Rattle.lfs_model.proofs.Histories.{LeavesOnly-weaker}
+use Rattle.lfs_model.proofs.Moves.{IsStep, insert_here}
+use Rattle.lfs_model.proofs.OneCommit.{some_filled}
+use Rattle.lfs_model.proofs.Renames.{rename_walk}
+use Rattle.lfs_model.proofs.Searches.{is_site, number_is, same, site, thread_is}
+use Rattle.lfs_model.proofs.Sites.{Site, begin_of, thread_at}
+use Rattle.lfs_model.proofs.Splices.{IsDevice, stays_shape}
+use Rattle.lfs_model.proofs.StepsTaken.{IsTaken, commit_taken}
+use Rattle.lfs_model.proofs.Unchanged.{HasFirst}
+use Rattle.lfs_pair.specs.Commit.{OutsideKeeps}
+use Rattle.lfs_thread.specs.Device.{StopsLeave}
+use Rattle.lfs_thread.specs.Kept.{Kept}
+use Rattle.lfs_thread.specs.Steps.{CanChange, IsChanged, IsLeft, IsRefused, IsWrittenAs, SlotsHaveFirst, made_in_thread, pair_in, with_pair}
+use Rattle.lfs_operations.specs.Editing.{CanEdit}
+use Rattle.lfs_operations.specs.Renaming.{place_without, with_renamed}
+use Rattle.lfs_operations.specs.RenamingOver.{CanRenameOver, IsRenamedOver, rename_over_changes}
+use Rattle.lfs_operations.specs.RenamingSlots.{HasSlot, Parts, parts_of, slot_changes}
+use Rattle.lfs_operations.proofs.Held.{CompletesTo, IsEntryIfOther, below, each_pair, fits_there, here, other_entries, raw_there}
+use Rattle.lfs_operations.proofs.Placing.{IsPlaced as IsPlacedOn, all_apart, device, nothing_came}
+use Rattle.lfs_operations.proofs.RenameMade as made
+use Rattle.lfs_operations.proofs.RenameMade.{ComesAhead, ComesBehind, Leaves, behind_or_ahead, fits_without, leaves_then, leaves_without}
+use Rattle.lfs_operations.proofs.RenameOnto.{onto_ahead_follows, onto_behind_follows}
+use Rattle.lfs_operations.proofs.RenamePlaced.{IsPlaced, blocks_now, carries_ahead, carries_behind, entries_now, fit_now, lists_now, with_name}
+use Rattle.lfs_operations.proofs.RenameSlots.{IsOf, name_length, slot_comes, slot_of_parts, with_slot}
+use Rattle.lfs_operations.proofs.RenameWithin.{place_ahead_is, place_behind_is}
+
+-- what follows another slot
+record Follower (target : Slot) (tail : List Slot) (u : Slot) (behind : List Slot) (passed : List Slot) : Type 0 where
+  between : List Slot
+  are : passed ≡ target ∷ between
+  back : tail ≡ between ++ u ∷ behind
+
+follower : (target : Slot) (tail : List Slot) (u : Slot) (behind passed : List Slot) → (target ≡ u → ⊥) → target ∷ tail ≡ passed ++ u ∷ behind → Follower target tail u behind passed
+follower target tail u behind [] apart e = absurd (apart cc)
+follower target tail u behind (x ∷ passed) apart e = record { between = passed; are = ap (λ z. z ∷ passed) first; back = cc }
+  where
+    first : x ≡ target
+    first = cc
+
+-- ---- a share that turns the sync bit
+
+turned_small : (g : Gstate) → IsMoveState g → IsMoveState (gstate_xor g sync_share)
+turned_small g h = subst IsMoveState (sym (gstate_comm g sync_share ∙ turned_is g)) (record { kind = h.kind; id = h.id; pair = h.pair })
+
+-- ---- a slot comes into what is left
+
+module _ (c : RawContent) (front : List Change) (a b : List Slot) (left : Leaves c front (a ++ b)) (at : ℕ) (number : length a ≡ at) (few : length (a ++ b) ≤ 1000) (name : Name) (named : is_name name ≡ true)
+    (x : RawSlot) (u : Slot) (is : IsOf x u) where
+  abbrev raw_moved : RawSlot
+  raw_moved = slot_of_parts name (parts_of x)
+
+  comes_again : changed_by c (front ++ slot_changes at name (parts_of x)) ≡ Some (with_slot left.left at (slot_of_parts name (parts_of x)))
+  comes_again =
+      let l = complete_length left.left.slots (a ++ b) left.are in
+      let k = length-append a b in
+      left.does (slot_changes at name (parts_of x)) (with_slot left.left at raw_moved) (slot_comes left.left at name (parts_of x) (omega arith) (omega arith) (name_length name named) is.are)
+
+  are_again : complete_all (with_slot left.left at (slot_of_parts name (parts_of x))).slots ≡ Some (a ++ record u { name = name } ∷ b)
+  are_again = complete_insert left.left.slots (a ++ b) at raw_moved (record u { name = name }) left.are (is.complete name) ∙ ap (λ (i : ℕ). Some (insert (a ++ b) i (record u { name = name }))) (sym number)
+      ∙ ap Some (insert_here a b (record u { name = name }))
+
+module _ (t : Kept) (index id place : ℕ) (name : Name) (rename : CanRenameOver t index id place name) where
+  abbrev can : CanEdit t index id
+  can = rename.can
+
+  abbrev s : StandsAt can.stands.pair.content.slots can.name id
+  s = can.stands.stands
+
+  abbrev p : Pair
+  p = can.stands.pair
+
+  abbrev u : Slot
+  u = can.stands.stands.slot
+
+  abbrev target : Slot
+  target = rename.target.stands.slot
+
+  pub has_slot : HasSlot t index id
+  has_slot =
+      let e = ap (λ (z : Pair). length z.content.slots) (here t can.ready can.first index p can.stands.rest can.stands.place) in
+      let h = ap length s.held in
+      let k = length-append s.left (u ∷ s.right) in
+      let n = s.number in
+      record { below = below t can.ready can.first index p can.stands.rest can.stands.place; there = omega arith }
+
+  -- the target stands in the same pair
+  pair_same : can.stands.pair ≡ rename.target.pair
+  pair_same = sym (here t can.ready can.first index p can.stands.rest can.stands.place) ∙ here t can.ready can.first index rename.target.pair rename.target.rest rename.target.place
+
+  target_held : p.content.slots ≡ rename.target.stands.left ++ target ∷ rename.target.stands.right
+  target_held = ap (λ (z : Pair). z.content.slots) pair_same ∙ rename.target.stands.held
+
+  abbrev l2 : List Slot
+  l2 = rename.target.stands.left
+
+  abbrev r2 : List Slot
+  r2 = rename.target.stands.right
+
+  abbrev w : Site
+  w = site t.disk t.pairs can.path can.at can.ready.accepted can.leads can.first index p can.stands.rest can.stands.place can.begins
+
+  there : t.pairs ≡ thread_at w (p ∷ [])
+  there = thread_is t.disk t.pairs can.path can.at can.ready.accepted can.leads can.first index p can.stands.rest can.stands.place can.begins
+
+  leads_there : Leads (thread_at w (p ∷ [])) can.path can.at
+  leads_there = subst (λ z. Leads z can.path can.at) there can.leads
+
+  same_there : same_pair (begin_of w (p ∷ [])) can.at ≡ true
+  same_there = same t.disk t.pairs can.path can.at can.ready.accepted can.leads can.first index p can.stands.rest can.stands.place can.begins
+
+  fits_here : FitsPair t.disk.block_size t.disk.page p.content
+  fits_here = fits_there t can.ready can.first index p can.stands.rest can.stands.place
+
+  abbrev c : CompletesTo (raw_at t.disk (pair_in t index).at) p.content
+  c = raw_there t can.ready can.first index p can.stands.rest can.stands.place
+
+  differs : target.name ≡ u.name → ⊥
+  differs e = rename.differs (sym rename.target.stands.named ∙ e ∙ s.named)
+
+  -- the file has a name, so the entry may have it
+  named : is_name name ≡ true
+  named =
+      let all = each_pair t can.ready can.first index p can.stands.rest can.stands.place (λ x. Each IsEntryIfOther x.content.slots) (other_entries t.disk t.pairs can.ready.accepted) in
+      let e = (each_right IsEntryIfOther l2 (target ∷ r2) (subst (Each IsEntryIfOther) target_held all)).0 rename.target.stands.entry in
+      ap is_name (sym rename.target.stands.named) ∙ e.name
+
+  entry_again : IsEntry u → IsEntry (with_name u name)
+  entry_again e = record { name = named; struct = e.struct }
+
+  abbrev share : Gstate
+  share = gstate_xor (pair_in t index).content.move sync_share
+
+  -- ---- what the changes make
+
+  abbrev turned_raw : RawContent
+  turned_raw = record c.raw { move = share }
+
+  does_turn : (rest : List Change) (e : RawContent) → changed_by (record c.raw { move = share }) rest ≡ Some e → changed_by c.raw (PutMove share ∷ rest) ≡ Some e
+  does_turn rest e h = does_first (PutMove share) rest c.raw turned_raw e
+      (puts_move c.raw share (turned_small (pair_in t index).content.move
+      (subst IsMoveState (sym (completed_parts c.raw p.content c.complete).move ∙ ap (λ (z : Pair). z.content.move) (sym (here t can.ready can.first index p can.stands.rest can.stands.place))) (can.logged c.raw c.is).move))) h
+
+  abbrev IsLeftOver : List Slot → List Slot → Type 0
+  IsLeftOver x y = (s.left ++ s.right ≡ x ++ target ∷ y) × (length x ≡ place_without id place)
+
+  abbrev over_content : List Slot → List Slot → Content
+  over_content x y = record { slots = x ++ with_name u name ∷ y; tail = p.content.tail; move = share }
+
+  module _ (x y : List Slot) (over : IsLeftOver x y) where
+    fits_one : FitsPair t.disk.block_size t.disk.page (record p.content { slots = x ++ target ∷ y })
+    fits_one = subst (λ z. FitsPair t.disk.block_size t.disk.page (record p.content { slots = z })) over.0 (fits_without t.disk.block_size t.disk.page p.content s.left u s.right s.held fits_here)
+
+    fits_two : FitsPair t.disk.block_size t.disk.page (record p.content { slots = x ++ y })
+    fits_two = fits_without t.disk.block_size t.disk.page (record p.content { slots = x ++ target ∷ y }) x target y refl fits_one
+
+    left_one : Leaves turned_raw (Delete id ∷ []) (x ++ target ∷ y)
+    left_one = subst (Leaves turned_raw (Delete id ∷ [])) over.0
+        (leaves_without turned_raw s.left u s.right id (let few = fits_here.count in let i = made.within t index id can.ready can.first p can.stands.rest can.stands.place can.logged can.name s in omega arith) s.number
+        (made.all_slots t index id can.ready can.first p can.stands.rest can.stands.place can.logged can.name s ∙ ap Some s.held))
+
+    left_two : Leaves turned_raw (Delete id ∷ Delete (place_without id place) ∷ []) (x ++ y)
+    left_two = leaves_then turned_raw (Delete id ∷ []) (Delete (place_without id place) ∷ []) (x ++ target ∷ y) (x ++ y) left_one
+        (leaves_without left_one.left x target y (place_without id place) (let few = fits_one.count in let n = over.1 in let k = length-append x (target ∷ y) in omega arith) over.1 left_one.are)
+
+    is_raw_slot : IsOf (made.raw t index id can.ready can.first p can.stands.rest can.stands.place can.logged can.name s).here u
+    is_raw_slot = made.is_slot t index id can.ready can.first p can.stands.rest can.stands.place can.logged can.name s
+
+    abbrev raw_here : RawSlot
+    raw_here = (made.raw t index id can.ready can.first p can.stands.rest can.stands.place can.logged can.name s).here
+
+    abbrev raw_now : RawContent
+    raw_now = with_slot left_two.left (place_without id place) (slot_of_parts name (parts_of raw_here))
+
+    changed_now : changed_by c.raw (rename_over_changes t index id place name) ≡ Some raw_now
+    changed_now = ap (λ (z : Parts). changed_by c.raw (PutMove share ∷ Delete id ∷ Delete (place_without id place) ∷ slot_changes (place_without id place) name z))
+        (made.parts_are t index id can.ready can.first p can.stands.rest can.stands.place can.logged can.name s)
+        ∙ does_turn (Delete id ∷ Delete (place_without id place) ∷ slot_changes (place_without id place) name (parts_of raw_here)) raw_now
+        (comes_again turned_raw (Delete id ∷ Delete (place_without id place) ∷ []) x y left_two (place_without id place) over.1 fits_two.count name named raw_here u is_raw_slot)
+
+    over_made : made_in_thread t index (rename_over_changes t index id place name) ≡ Some (over_content x y)
+    over_made =
+        let parts = completed_parts c.raw p.content c.complete in
+        ap (λ o. option_and_then completed (option_and_then (λ (z : RawContent). changed_by z (rename_over_changes t index id place name)) o)) c.is
+        ∙ ap (λ o. option_and_then completed o) changed_now
+        ∙ completed_from raw_now (x ++ with_name u name ∷ y) (are_again turned_raw (Delete id ∷ Delete (place_without id place) ∷ []) x y left_two (place_without id place) over.1 fits_two.count name named raw_here u is_raw_slot)
+        ∙ ap₂ (λ a m. Some (record { slots = x ++ with_name u name ∷ y; tail = a; move = m })) (left_two.tail ∙ sym parts.tail) left_two.move
+
+    over_fits : FitsPair t.disk.block_size t.disk.page (over_content x y)
+    over_fits =
+        let n : length name ≡ length target.name = ap length (sym rename.target.stands.named) in
+        let b : struct_len target.struct ≡ 8 = ap struct_len rename.branch in
+        let a = ap (sum_by slot_size) s.held in
+        let a1 = sum_by-append slot_size s.left (u ∷ s.right) in
+        let a2 = sum_by-cons slot_size u s.right in
+        let e = ap (sum_by slot_size) over.0 in
+        let e1 = sum_by-append slot_size s.left s.right in
+        let e2 = sum_by-append slot_size x (target ∷ y) in
+        let e3 = sum_by-cons slot_size target y in
+        let f1 = sum_by-append slot_size x (with_name u name ∷ y) in
+        let f2 = sum_by-cons slot_size (with_name u name) y in
+        let less : slot_size (with_name u name) ≤ slot_size u + slot_size target = omega arith in
+        let g = ap length s.held in
+        let g1 = length-append s.left (u ∷ s.right) in
+        let h = ap length over.0 in
+        let h1 = length-append s.left s.right in
+        let h2 = length-append x (target ∷ y) in
+        let h3 = length-append x (with_name u name ∷ y) in
+        let size = fits_here.size in
+        let count = fits_here.count in
+        record { size = omega arith; count = omega arith }
+
+  -- ---- the slots that make way
+
+  record HasOver : Type 1 where
+    x : List Slot
+    y : List Slot
+    over : IsLeftOver x y
+    l : List Slot
+    olds : List Slot
+    news : List Slot
+    r : List Slot
+    placed : IsPlaced t index (rename_over_changes t index id place name) w p l olds news r (target ∷ []) u (with_name u name)
+    is_content : placed.content ≡ over_content x y
+    follows : (disk : Disk) (q : Pair) → IsStep t.disk disk w p [] q [] [] [] l olds news r → (gstate_of (thread_at w (q ∷ []))).sync ≡ true
+        → Follows t.disk (thread_at w (p ∷ [])) disk (thread_at w (q ∷ [])) (renamed (can.path ++ can.name ∷ []) (can.path ++ name ∷ [])) (rename_walk (can.path ++ can.name ∷ []) (can.path ++ name ∷ []))
+
+  abbrev FollowsAs : Disk → Pair → Name → Name → Type 0
+  FollowsAs disk q n m = Follows t.disk (thread_at w (p ∷ [])) disk (thread_at w (q ∷ [])) (renamed (can.path ++ n ∷ []) (can.path ++ m ∷ [])) (rename_walk (can.path ++ n ∷ []) (can.path ++ m ∷ []))
+
+  other_names : (disk : Disk) (q : Pair) → FollowsAs disk q u.name target.name → FollowsAs disk q can.name name
+  other_names disk q h = subst (λ (n : Name). FollowsAs disk q n name) s.named (subst (λ (n : Name). FollowsAs disk q u.name n) rename.target.stands.named h)
+
+  module _ (d : ComesBehind s.left u s.right l2 (target ∷ r2)) where
+    over_behind : IsLeftOver (s.left ++ d.passed) r2
+    over_behind = (
+      ap (λ z. s.left ++ z) d.back ∙ sym (append_assoc s.left d.passed (target ∷ r2)),
+      (let n = s.number in
+          let m = rename.target.stands.number in
+          let e = ap length d.front in
+          let f = length-append s.left (u ∷ d.passed) in
+          let g = length-append s.left d.passed in
+          let q = place_behind_is id place (omega arith) in
+          omega arith),
+    )
+
+    has_behind : HasOver
+    has_behind = record {
+      x = s.left ++ d.passed;
+      y = r2;
+      over = over_behind;
+      l = s.left;
+      olds = u ∷ (d.passed ++ target ∷ []);
+      news = d.passed ++ with_name u name ∷ [];
+      r = r2;
+      placed = record {
+        ready = can.ready;
+        there = there;
+        place = number_is t.disk t.pairs can.path can.at can.ready.accepted can.leads can.first index p can.stands.rest can.stands.place can.begins;
+        site = is_site t.disk t.pairs can.path can.at can.ready.accepted can.leads can.first index p can.stands.rest can.stands.place can.begins;
+        content = over_content (s.left ++ d.passed) r2;
+        made = over_made (s.left ++ d.passed) r2 over_behind;
+        tail = refl;
+        was = s.held ∙ ap (λ z. s.left ++ u ∷ z) (d.back ∙ sym (append_assoc d.passed (target ∷ []) r2));
+        now = append_assoc s.left d.passed (with_name u name ∷ r2) ∙ ap (λ z. s.left ++ z) (sym (append_assoc d.passed (with_name u name ∷ []) r2));
+        front = s.entry;
+        carries = carries_behind u name d.passed (target ∷ []);
+        entry = entry_again;
+        struct = refl;
+        other = s.entry;
+        fits = rename.fits;
+      };
+      is_content = refl;
+      follows = λ disk q k sync. other_names disk q (onto_behind_follows t.disk disk w p q [] [] s.left u d.passed target r2
+          (subst (λ (n : Name). IsStep t.disk disk w p [] q [] [] [] s.left (u ∷ (d.passed ++ target ∷ [])) (d.passed ++ with_name u n ∷ []) r2) (sym rename.target.stands.named) k)
+          (s.held ∙ ap (λ z. s.left ++ u ∷ z) (d.back ∙ sym (append_assoc d.passed (target ∷ []) r2))) s.entry rename.target.stands.entry (λ e. absurd (let z = sym sync ∙ e in cc)) differs can.path can.at leads_there same_there);
+    }
+
+  module _ (passed : List Slot) (front : s.left ≡ l2 ++ target ∷ passed) (back : r2 ≡ passed ++ u ∷ s.right) where
+    over_ahead : IsLeftOver l2 (passed ++ s.right)
+    over_ahead = (
+      ap (λ z. z ++ s.right) front ∙ append_assoc l2 (target ∷ passed) s.right,
+      (let n = s.number in
+          let m = rename.target.stands.number in
+          let e = ap length front in
+          let f = length-append l2 (target ∷ passed) in
+          let q = place_ahead_is id place (omega arith) in
+          omega arith),
+    )
+
+    has_ahead : HasOver
+    has_ahead = record {
+      x = l2;
+      y = passed ++ s.right;
+      over = over_ahead;
+      l = l2;
+      olds = target ∷ (passed ++ u ∷ []);
+      news = with_name u name ∷ passed;
+      r = s.right;
+      placed = record {
+        ready = can.ready;
+        there = there;
+        place = number_is t.disk t.pairs can.path can.at can.ready.accepted can.leads can.first index p can.stands.rest can.stands.place can.begins;
+        site = is_site t.disk t.pairs can.path can.at can.ready.accepted can.leads can.first index p can.stands.rest can.stands.place can.begins;
+        content = over_content l2 (passed ++ s.right);
+        made = over_made l2 (passed ++ s.right) over_ahead;
+        tail = refl;
+        was = target_held ∙ ap (λ z. l2 ++ target ∷ z) (back ∙ sym (append_assoc passed (u ∷ []) s.right));
+        now = refl;
+        front = rename.target.stands.entry;
+        carries = carries_ahead u name (target ∷ []) passed;
+        entry = entry_again;
+        struct = refl;
+        other = s.entry;
+        fits = rename.fits;
+      };
+      is_content = refl;
+      follows = λ disk q k sync. other_names disk q (onto_ahead_follows t.disk disk w p q [] [] l2 u passed target s.right
+          (subst (λ (n : Name). IsStep t.disk disk w p [] q [] [] [] l2 (target ∷ (passed ++ u ∷ [])) (with_name u n ∷ passed) s.right) (sym rename.target.stands.named) k)
+          (target_held ∙ ap (λ z. l2 ++ target ∷ z) (back ∙ sym (append_assoc passed (u ∷ []) s.right))) s.entry rename.target.stands.entry (λ e. absurd (let z = sym sync ∙ e in cc)) differs can.path can.at leads_there same_there);
+    }
+
+  has_over : HasOver
+  has_over = go (behind_or_ahead s.left u s.right l2 (target ∷ r2) (sym s.held ∙ target_held))
+    where
+      go : ComesBehind s.left u s.right l2 (target ∷ r2) ⊎ ComesAhead s.left u s.right l2 (target ∷ r2) → HasOver
+      go (inl d) = has_behind d
+      go (inr d) =
+          let f = follower target r2 u s.right d.passed (λ e. differs (ap (λ (z : Slot). z.name) e)) d.back in
+          has_ahead f.between (d.front ∙ ap (λ z. l2 ++ z) f.are) f.back
+
+  -- ---- the step
+
+  module _ (h : HasOver) where
+    abbrev k : IsPlaced t index (rename_over_changes t index id place name) w p h.l h.olds h.news h.r (target ∷ []) u (with_name u name)
+    k = h.placed
+
+    abbrev q : Pair
+    q = record { at = p.at; content = over_content h.x h.y }
+
+    kept : q.content.slots ≡ h.l ++ (h.news ++ h.r)
+    kept = ap (λ (z : Content). z.slots) (sym h.is_content) ∙ k.now
+
+    accepted : IsAccepted t.disk (thread_at w (p ∷ []))
+    accepted = subst (IsAccepted t.disk) there can.ready.accepted
+
+    settled : gstate_of (thread_at w (p ∷ [])) ≡ no_gstate
+    settled = ap gstate_of (sym there) ∙ can.ready.settled
+
+    pair_there : pair_in t index ≡ p
+    pair_there = here t can.ready can.first index p can.stands.rest can.stands.place
+
+    at_is : (pair_in t index).at ≡ p.at
+    at_is = ap (λ (z : Pair). z.at) pair_there
+
+    abbrev ahead : List Pair
+    ahead = w.chain ++ (w.before ++ w.left)
+
+    abbrev behind : List Pair
+    behind = w.right ++ w.after
+
+    grouped : (z : Pair) → thread_at w (z ∷ []) ≡ (w.chain ++ (w.before ++ w.left)) ++ z ∷ (w.right ++ w.after)
+    grouped z = sym (append_assoc w.chain (w.before ++ w.left) (z ∷ (w.right ++ w.after)))
+
+    gstate_now : gstate_of (thread_at w (q ∷ [])) ≡ sync_share
+    gstate_now =
+        let turn : gstate_of (q ∷ []) ≡ gstate_xor sync_share (gstate_of (p ∷ []))
+        = gstate_cons q [] ∙ gstate_right q.content.move ∙ ap (λ (z : Pair). gstate_xor z.content.move sync_share) pair_there ∙ gstate_comm p.content.move sync_share
+        ∙ ap (gstate_xor sync_share) (sym (gstate_cons p [] ∙ gstate_right p.content.move)) in
+        ap gstate_of (grouped q) ∙ gstate_moved sync_share ahead (p ∷ []) (q ∷ []) behind turn ∙ ap (λ z. gstate_xor sync_share (gstate_of z)) (sym (grouped p)) ∙ ap (gstate_xor sync_share) settled ∙ gstate_right sync_share
+
+    no_move_now : HasNoMove (gstate_of (thread_at w (q ∷ [])))
+    no_move_now = subst HasNoMove (sym gstate_now) (record { kind = refl; id = refl; pair = refl })
+
+    still_first : (olds news r l : List Slot) → starts_with_superblock (olds ++ r) ≡ false → SlotsHaveFirst (l ++ (olds ++ r)) → SlotsHaveFirst (l ++ (news ++ r))
+    still_first olds news r [] f e = absurd (let z = sym f ∙ e.0 in cc)
+    still_first olds news r (z ∷ l) f e = e
+
+    still_starts : (olds news r l : List Slot) → starts_with_superblock (olds ++ r) ≡ false → starts_with_superblock (l ++ (olds ++ r)) ≡ true → starts_with_superblock (l ++ (news ++ r)) ≡ true
+    still_starts olds news r [] f e = absurd (let z = sym f ∙ e in cc)
+    still_starts olds news r (z ∷ l) f e = e
+
+    still_has : HasFirst p.content.slots → SlotsHaveFirst q.content.slots
+    still_has first = subst SlotsHaveFirst (sym kept) (still_first h.olds h.news h.r h.l k.front (subst SlotsHaveFirst k.was (first.kind, first.name)))
+
+    placed_on : (disk : Disk) (d : Content) → (HasFirst p.content.slots → SlotsHaveFirst d.slots) → IsWrittenAs t index d disk → IsPlacedOn t.disk disk p (record { at = p.at; content = d }) [] []
+    placed_on disk d first is = record {
+      geometry = record { block_size = is.shape.block_size; page = is.shape.page; count = is.shape.count };
+      same = λ b none. (subst (λ at. OutsideKeeps at t.disk.blocks disk.blocks) at_is is.others).others b (all_apart (p.at.0 ∷ p.at.1 ∷ []) b none);
+      contents = (ap (content_at disk) (sym at_is) ∙ is.holds, tt);
+      first = λ z b. subst (λ at. BeginsWith (holder_at disk at) superblock_entry) at_is (is.first (subst (λ at. BeginsWith (holder_at t.disk at) superblock_entry) (sym at_is) b) (first z));
+    }
+
+    device_of : (disk : Disk) → IsWrittenAs t index (over_content h.x h.y) disk → IsDevice t.disk disk (thread_at w (p ∷ [])) (thread_at w (q ∷ []))
+    device_of disk is = device t.disk disk w p q [] [] accepted accepted.owned_once (placed_on disk (over_content h.x h.y) still_has is)
+
+    step : (disk : Disk) → IsWrittenAs t index (over_content h.x h.y) disk → IsStep t.disk disk w p [] q [] [] [] h.l h.olds h.news h.r
+    step disk is =
+        let on = device_of disk is in
+        let files = subst (λ z. SameFiles t.disk disk (all_slots z)) (sym there) (recursion_from_All (λ (x : Slot). HasSameFile t.disk disk x.struct) (all_slots (thread_at w (p ∷ []))) on.files) in
+        record {
+          accepted = accepted;
+          site = k.site;
+          no_move = no_move_from (thread_at w (p ∷ [])) settled;
+          still_none = no_move_now;
+          device = on;
+          free = record { distinct = accepted.owned_once; in_range = λ j d e. absurd (omega arith) };
+          shape = stays_shape p q refl refl (λ e. ap starts_with_superblock kept ∙ still_starts h.olds h.news h.r h.l k.front (sym (ap starts_with_superblock k.was) ∙ e));
+          was = append-nil p.content.slots ∙ k.was;
+          is = append-nil q.content.slots ∙ kept;
+          splice = record {
+            front = λ e. k.front;
+            entries = entries_now t index (rename_over_changes t index id place name) w p h.l h.olds h.news h.r (target ∷ []) u (with_name u name) k;
+            lists = lists_now t index (rename_over_changes t index id place name) w p h.l h.olds h.news h.r (target ∷ []) u (with_name u name) k disk on.geometry files;
+            blocks = λ b. let e = blocks_now t index (rename_over_changes t index id place name) w p h.l h.olds h.news h.r (target ∷ []) u (with_name u name) k disk on.geometry files b in omega arith;
+          };
+        }
+
+    taken : (disk : Disk) → IsWrittenAs t index (over_content h.x h.y) disk
+        → IsTaken t.disk (thread_at w (p ∷ [])) disk (thread_at w (q ∷ [])) (renamed (can.path ++ can.name ∷ []) (can.path ++ name ∷ [])) (rename_walk (can.path ++ can.name ∷ []) (can.path ++ name ∷ []))
+    taken disk is = commit_taken t.disk w p q [] h.l h.olds h.news h.r
+        (record {
+          writable = subst (IsWritable t.disk) there can.ready.writable;
+          was = k.was;
+          is = append-nil q.content.slots ∙ kept;
+          became = (refl, fits_same t.disk q (with_slots (h.l ++ (h.news ++ h.r)) p) (sym kept) (over_fits h.x h.y h.over));
+          fit = fit_now t index (rename_over_changes t index id place name) w p h.l h.olds h.news h.r (target ∷ []) u (with_name u name) k;
+          filled = λ e none. some_filled h.x h.y (with_name u name) (kept ∙ none);
+        })
+        disk [] [] (renamed (can.path ++ can.name ∷ []) (can.path ++ name ∷ [])) (rename_walk (can.path ++ can.name ∷ []) (can.path ++ name ∷ [])) (step disk is)
+        (h.follows disk q (step disk is) (ap (λ (g : Gstate). g.sync) gstate_now))
+
+    pair_now : with_pair t index (over_content h.x h.y) ≡ thread_at w (q ∷ [])
+    pair_now =
+        ap (λ (z : Pair). set t.pairs index (record { at = z.at; content = over_content h.x h.y })) pair_there
+        ∙ ap₂ (λ (z : List Pair) (i : ℕ). set z i q) (there ∙ grouped p) (k.place ∙ sym (length-append w.chain (w.before ++ w.left))) ∙ set_at ahead p behind q ∙ sym (grouped q)
+      where
+        set_at : (xs : List Pair) (x : Pair) (zs : List Pair) (y : Pair) → set (xs ++ x ∷ zs) (length xs) y ≡ xs ++ y ∷ zs
+        set_at [] x zs y = refl
+        set_at (z ∷ xs) x zs y = ap (λ a. z ∷ a) (set_at xs x zs y)
+
+  pub can_over : CanChange t index (rename_over_changes t index id place name)
+  can_over = record {
+    below = below t can.ready can.first index p can.stands.rest can.stands.place;
+    content = over_content has_over.x has_over.y;
+    made = over_made has_over.x has_over.y has_over.over;
+    next = ap (λ (z : Pair). next_of z.content.tail) (sym (here t can.ready can.first index p can.stands.rest can.stands.place));
+  }
+
+  same_made : (z : Content) → made_in_thread t index (rename_over_changes t index id place name) ≡ Some z → z ≡ over_content has_over.x has_over.y
+  same_made z m = same_Some z (over_content has_over.x has_over.y) (sym m ∙ over_made has_over.x has_over.y has_over.over)
+
+  pub over_not_refused : (new : Kept) → IsRefused t index (rename_over_changes t index id place name) new → ⊥
+  over_not_refused new is = is.too_large (subst (FitsPair t.disk.block_size t.disk.page) (sym (same_made is.content is.made)) (over_fits has_over.x has_over.y has_over.over))
+
+  pub renamed_over : (new : Kept) → IsChanged t index (rename_over_changes t index id place name) new → IsRenamedOver t new index rename.can.path rename.can.name name
+  renamed_over new is =
+      let e = same_made is.content is.made in
+      let written = subst (λ z. IsWrittenAs t index z new.disk) e is.written in
+      let pairs = is.pairs ∙ ap (with_pair t index) e in
+      let now = pairs ∙ pair_now has_over in
+      let done = taken has_over new.disk written in
+      record {
+        content = over_content has_over.x has_over.y;
+        written = written;
+        pairs = pairs;
+        thread = is.thread;
+        map = is.map;
+        gstate = ap gstate_of now ∙ gstate_now has_over;
+        taken = subst (λ z. IsTaken t.disk t.pairs new.disk z (renamed (can.path ++ can.name ∷ []) (can.path ++ name ∷ [])) (rename_walk (can.path ++ can.name ∷ []) (can.path ++ name ∷ []))) (sym now)
+            (subst (λ z. IsTaken t.disk z new.disk (thread_at w (q has_over ∷ [])) (renamed (can.path ++ can.name ∷ []) (can.path ++ name ∷ [])) (rename_walk (can.path ++ can.name ∷ []) (can.path ++ name ∷ []))) (sym there) done);
+      }
+
+  -- ---- at a stop
+
+  left_over : (left : Blocks) → IsLeft t index (rename_over_changes t index id place name) left → IsLeftOf (with_blocks left t.disk) (tree_in t.disk t.pairs) (with_renamed t can.path can.name name)
+  left_over left is = go is.is
+    where
+      go : (is.content ≡ (pair_in t index).content) ⊎ ((made_in_thread t index (rename_over_changes t index id place name) ≡ Some is.content) × FitsPair t.disk.block_size t.disk.page is.content)
+          → IsLeftOf (with_blocks left t.disk) (tree_in t.disk t.pairs) (with_renamed t can.path can.name name)
+      go (inl e) =
+          let same = e ∙ ap (λ (z : Pair). z.content) (here t can.ready can.first index p can.stands.rest can.stands.place) in
+          let ok = subst (IsAccepted t.disk) there can.ready.accepted in
+          let f = nothing_came t.disk (with_blocks left t.disk) w p has_over.placed.site ok
+          (device t.disk (with_blocks left t.disk) w p p [] [] ok ok.owned_once (placed_on has_over (with_blocks left t.disk) p.content (λ z. (z.kind, z.name)) (subst (λ z. IsWrittenAs t index z (with_blocks left t.disk)) same is.written))) in
+          record {
+            pairs = thread_at w (p ∷ []);
+            accepted = f.accepted;
+            writable = (let o = subst (IsWritable t.disk) there can.ready.writable in record { pairs = o.pairs; slots = o.slots; no_empty_pair = o.no_empty_pair });
+            tree = inl (f.shows ∙ ap (tree_in t.disk) (sym there));
+          }
+      go (inr m) =
+          let done = taken has_over (with_blocks left t.disk) (subst (λ z. IsWrittenAs t index z (with_blocks left t.disk)) (same_made is.content m.0) is.written) in
+          record {
+            pairs = thread_at w (q has_over ∷ []);
+            accepted = done.follows.accepted;
+            writable = done.writable;
+            tree = inr (done.follows.shows ∙ ap (λ z. renamed (can.path ++ can.name ∷ []) (can.path ++ name ∷ []) (tree_in t.disk z)) (sym there));
+          }
+
+  pub over_survives : (new : List Event) → StopsLeave t.history new (IsLeft t index (rename_over_changes t index id place name))
+      → Survives t.disk t.history new (tree_in t.disk t.pairs) (with_renamed t rename.can.path rename.can.name name)
+  over_survives new stops clean = LeavesOnly-weaker left_over (stops clean)

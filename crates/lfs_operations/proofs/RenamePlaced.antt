@@ -1,0 +1,164 @@
+-- Slots that make way for the same ones, of which one has another name, or for fewer.
+use Rattle.std.proofs.Common.{ℕ, ◌≡◌, ◌+◌, false, List, [], ◌∷◌, ◌++◌, length, Some, sym, ap, subst, ◌∙◌, arith, take, drop}
+use Rattle.std.specs.Prelude.{All}
+use Rattle.std.proofs.lemmas.List.{take-append-drop}
+use Rattle.std.proofs.lemmas.List.Elements.{recursion_from_All}
+use Rattle.lfs_model.specs.Changes.{Change}
+use Rattle.lfs_model.specs.Disk.{Disk, SameGeometry}
+use Rattle.lfs_model.specs.Slots.{Content, Slot, is_superblock}
+use Rattle.lfs_model.specs.Thread.{Pair, gstate_of, starts_with_superblock, superblocks_before}
+use Rattle.lfs_model.specs.View.{FitsEntry, FitsSlot, HasSuperblock, IsAccepted, IsEntry, IsListIfCtz, all_slots, file_blocks}
+use Rattle.lfs_model.proofs.Changes.{SameFiles, slots_files}
+use Rattle.lfs_model.proofs.Committed.{no_move_from}
+use Rattle.lfs_model.proofs.Counts.{Each, count, count_append, each_append, each_both, each_left, each_pieces, each_right, each_weaker}
+use Rattle.lfs_model.proofs.Files.{HasSameFile, is_list_same}
+use Rattle.lfs_model.proofs.Sites.{Site, IsSite, dirs_at, thread_at}
+use Rattle.lfs_model.proofs.Splices.{count_files, files_of, unmoved_in}
+use Rattle.lfs_thread.specs.Kept.{Kept}
+use Rattle.lfs_thread.specs.Steps.{made_in_thread}
+use Rattle.lfs_operations.specs.Ready.{IsReady}
+use Rattle.lfs_operations.proofs.Splicing.{IsSplicing}
+
+-- ---- what the others keep
+
+-- What holds of the old slots holds of the new ones. They name the same files but for those of the slots that are gone.
+pub record Carries (olds news gone : List Slot) (u moved : Slot) : Type 1 where
+  pub each : (P : Slot → Type 0) → (P u → P moved) → Each P olds → Each P news
+  pub of_old : (P : Slot → Type 0) → Each P olds → P u
+  pub files : (disk : Disk) (b : ℕ) → count b (files_of disk news) + count b (files_of disk gone) ≡ count b (files_of disk olds)
+
+-- the same struct
+abbrev pub with_name : Slot → List ℕ → Slot
+with_name u name = record u { name = name }
+
+pub carries_behind : (u : Slot) (name : List ℕ) (passed gone : List Slot) → Carries (u ∷ (passed ++ gone)) (passed ++ with_name u name ∷ []) gone u (with_name u name)
+carries_behind u name passed gone = record {
+  each = λ P f h. each_append P passed (with_name u name ∷ []) (each_left P passed gone h.1) (f h.0, tt);
+  of_old = λ P h. h.0;
+  files = λ disk b.
+      let a = count_files b disk passed (with_name u name ∷ []) in
+      let c = count_append b (file_blocks disk u.struct) (files_of disk []) in
+      let d = count_append b (file_blocks disk u.struct) (files_of disk (passed ++ gone)) in
+      let e = count_files b disk passed gone in
+      omega arith;
+}
+
+pub carries_ahead : (u : Slot) (name : List ℕ) (gone passed : List Slot) → Carries (gone ++ (passed ++ u ∷ [])) (with_name u name ∷ passed) gone u (with_name u name)
+carries_ahead u name gone passed = record {
+  each = λ P f h. let r = each_right P gone (passed ++ u ∷ []) h in (f (each_right P passed (u ∷ []) r).0, each_left P passed (u ∷ []) r);
+  of_old = λ P h. (each_right P passed (u ∷ []) (each_right P gone (passed ++ u ∷ []) h)).0;
+  files = λ disk b.
+      let a = count_files b disk gone (passed ++ u ∷ []) in
+      let c = count_files b disk passed (u ∷ []) in
+      let d = count_append b (file_blocks disk u.struct) (files_of disk []) in
+      let e = count_append b (file_blocks disk u.struct) (files_of disk passed) in
+      omega arith;
+}
+
+-- ---- entries
+
+-- slots from one on that isn't a superblock's are entries
+abbrev HasRests : List Slot → Type 0
+HasRests slots = (l xs : List Slot) → slots ≡ l ++ xs → starts_with_superblock xs ≡ false → Each IsEntry xs
+
+headed_rests : (bytes : List ℕ) (slots : List Slot) → HasSuperblock bytes slots → HasRests slots
+headed_rests bytes [] h l xs e f = absurd h
+headed_rests bytes (s ∷ slots) h [] xs e f = absurd (let z = sym f ∙ ap starts_with_superblock (sym e) ∙ h.0 in cc)
+headed_rests bytes (s ∷ slots) h (x ∷ l) xs e f = each_right IsEntry l xs (subst (Each IsEntry) (rest e) (recursion_from_All IsEntry slots h.2))
+  where
+    rest : {a b : Slot} {us vs : List Slot} → a ∷ us ≡ b ∷ vs → us ≡ vs
+    rest k = cc
+
+all_rests : (slots : List Slot) → All IsEntry slots → HasRests slots
+all_rests slots h l xs e f = each_right IsEntry l xs (subst (Each IsEntry) e (recursion_from_All IsEntry slots h))
+
+each_rests : (disk : Disk) (ps : List Pair) → IsAccepted disk ps → Each (λ p. HasRests p.content.slots) ps
+each_rests disk ps ok = subst (Each (λ p. HasRests p.content.slots)) (take-append-drop (superblocks_before ps + 1) ps)
+    (each_append (λ p. HasRests p.content.slots) (take (superblocks_before ps + 1) ps) (drop (superblocks_before ps + 1) ps)
+    (each_weaker (λ (p : Pair). HasSuperblock ok.superblock.0 p.content.slots) (λ (p : Pair). HasRests p.content.slots) (λ p h. headed_rests ok.superblock.0 p.content.slots h)
+    (take (superblocks_before ps + 1) ps) (recursion_from_All (λ (p : Pair). HasSuperblock ok.superblock.0 p.content.slots) (take (superblocks_before ps + 1) ps) ok.superblock.1.1))
+    (each_weaker (λ (p : Pair). All IsEntry p.content.slots) (λ (p : Pair). HasRests p.content.slots) (λ p h. all_rests p.content.slots h) (drop (superblocks_before ps + 1) ps)
+    (recursion_from_All (λ (p : Pair). All IsEntry p.content.slots) (drop (superblocks_before ps + 1) ps) ok.slots)))
+
+-- ---- the commit
+
+-- At the site stands the pair of that number, whose slots make way; what the changes make of it is known.
+pub record IsPlaced (t : Kept) (index : ℕ) (changes : List Change) (w : Site) (p : Pair) (l olds news r gone : List Slot) (u moved : Slot) : Type 1 where
+  pub ready : IsReady t
+  pub there : t.pairs ≡ thread_at w (p ∷ [])
+  pub place : index ≡ length w.chain + length (w.before ++ w.left)
+  pub site : IsSite w (p ∷ [])
+  pub content : Content
+  pub made : made_in_thread t index changes ≡ Some content
+  pub tail : content.tail ≡ p.content.tail
+  pub was : p.content.slots ≡ l ++ (olds ++ r)
+  pub now : content.slots ≡ l ++ (news ++ r)
+  pub front : starts_with_superblock (olds ++ r) ≡ false
+  pub carries : Carries olds news gone u moved
+  pub entry : IsEntry u → IsEntry moved
+  pub struct : moved.struct ≡ u.struct
+  pub other : is_superblock moved ≡ false
+  pub fits : FitsEntry t.disk.block_size t.disk.page moved
+
+module _ (t : Kept) (index : ℕ) (changes : List Change) (w : Site) (p : Pair) (l olds news r gone : List Slot) (u moved : Slot) (k : IsPlaced t index changes w p l olds news r gone u moved) where
+  -- of the pairs at the site
+  at_site : (P : Pair → Type 0) → Each P t.pairs → P p
+  at_site P h = (each_right P (w.before ++ w.left) (p ∷ [] ++ (w.right ++ w.after)) (each_right P w.chain (dirs_at w (p ∷ [])) (subst (Each P) k.there h))).0
+
+  of_slots : (P : Slot → Type 0) → Each P p.content.slots → Each P olds
+  of_slots P h = each_left P olds r (each_right P l (olds ++ r) (subst (Each P) k.was h))
+
+  -- what holds of all slots holds of those that make way
+  pub of_olds : (P : Slot → Type 0) → Each P (all_slots t.pairs) → Each P olds
+  of_olds P h =
+      let on = subst (Each P) (unmoved_in (gstate_of t.pairs) (no_move_from t.pairs k.ready.settled) t.pairs) h in
+      of_slots P (at_site (λ (x : Pair). Each P x.content.slots) (each_pieces P (λ (x : Pair). x.content.slots) t.pairs on))
+
+  entries_were : Each IsEntry olds
+  entries_were = each_left IsEntry olds r (at_site (λ (x : Pair). HasRests x.content.slots) (each_rests t.disk t.pairs k.ready.accepted) l (olds ++ r) k.was k.front)
+
+  fit_were : Each (FitsSlot t.disk.block_size t.disk.page) olds
+  fit_were = of_slots (FitsSlot t.disk.block_size t.disk.page) (recursion_from_All (FitsSlot t.disk.block_size t.disk.page) p.content.slots
+      (at_site (λ (x : Pair). All (FitsSlot t.disk.block_size t.disk.page) x.content.slots) (recursion_from_All (λ (x : Pair). All (FitsSlot t.disk.block_size t.disk.page) x.content.slots) t.pairs k.ready.writable.slots)))
+
+  pub entries_now : Each IsEntry news
+  entries_now = k.carries.each IsEntry k.entry entries_were
+
+  pub fit_now : Each (FitsSlot t.disk.block_size t.disk.page) news
+  fit_now = k.carries.each (FitsSlot t.disk.block_size t.disk.page) (λ f. ((λ e. absurd (let z = sym k.other ∙ e in cc)), (λ e. k.fits))) fit_were
+
+  pub lists_now : (disk : Disk) → SameGeometry t.disk disk → SameFiles t.disk disk (all_slots t.pairs) → Each (λ s. IsListIfCtz disk s.struct) news
+  lists_now disk geometry files = k.carries.each (λ (s : Slot). IsListIfCtz disk s.struct) (λ h. subst (IsListIfCtz disk) (sym k.struct) h)
+      (each_both (λ (s : Slot). HasSameFile t.disk disk s.struct) (λ (s : Slot). IsListIfCtz t.disk s.struct) (λ (s : Slot). IsListIfCtz disk s.struct) (λ s f h. is_list_same t.disk disk s.struct geometry f h) olds
+      (of_olds (λ (s : Slot). HasSameFile t.disk disk s.struct) files)
+      (of_olds (λ (s : Slot). IsListIfCtz t.disk s.struct) (recursion_from_All (λ (s : Slot). IsListIfCtz t.disk s.struct) (all_slots t.pairs) k.ready.accepted.lists)))
+
+  pub blocks_now : (disk : Disk) → SameGeometry t.disk disk → SameFiles t.disk disk (all_slots t.pairs) → (b : ℕ) → count b (files_of disk news) + count b (files_of t.disk gone) ≡ count b (files_of t.disk olds)
+  blocks_now disk geometry files b =
+      let same = of_olds (λ (s : Slot). HasSameFile t.disk disk s.struct) files in
+      let kept = k.carries.each (λ (s : Slot). HasSameFile t.disk disk s.struct) (λ h. subst (HasSameFile t.disk disk) (sym k.struct) h) same in
+      let e = ap (count b) (slots_files t.disk disk news geometry kept) in
+      let f = k.carries.files t.disk b in
+      omega arith
+
+  -- where the share of the global state stays
+  pub splicing : k.content.move ≡ p.content.move → IsSplicing t index changes w p l olds news r (files_of t.disk gone) []
+  splicing move = record {
+    ready = k.ready;
+    there = k.there;
+    place = k.place;
+    site = k.site;
+    content = k.content;
+    made = k.made;
+    tail = k.tail;
+    move = move;
+    was = k.was;
+    now = k.now;
+    front = λ e. k.front;
+    entries = entries_now;
+    fit = fit_now;
+    flying = tt;
+    apart = k.ready.accepted.owned_once;
+    lists = λ disk geometry files come. lists_now disk geometry files;
+    blocks = λ disk geometry files come b. let e = blocks_now disk geometry files b in omega arith;
+  }

@@ -1,0 +1,159 @@
+-- A pair that is changed or split after it was read.
+use Rattle.std.proofs.Common.{ℕ, ◌≡◌, ◌⊎◌, inl, inr, false, List, [], Result, Some, Err, refl, sym, ap, subst, ◌∙◌}
+use Rattle.std.specs.Prelude.{IfErr}
+use Rattle.lfs_device.specs.declared.error.Error.{Error}
+use Rattle.lfs_device.specs.declared.error.Error.TheVariants.{Io, NoMemory, NoSpace}
+use Rattle.lfs_model.specs.Blocks.{Blocks}
+use Rattle.lfs_model.specs.Changes.{Change}
+use Rattle.lfs_model.specs.Disk.{Disk}
+use Rattle.lfs_model.specs.History.{Event, OnlyReads, faults}
+use Rattle.lfs_model.specs.InDirectory.{IsBehind}
+use Rattle.lfs_model.specs.PowerLoss.{Survives, with_blocks}
+use Rattle.lfs_model.specs.Slots.{Content}
+use Rattle.lfs_model.specs.Thread.{Pair}
+use Rattle.lfs_model.specs.Tree.{Tree}
+use Rattle.lfs_model.specs.View.{tree_in}
+use Rattle.lfs_model.proofs.Histories.{LeavesOnly-weaker, LeavesOnly-trans, LeavesOnly-reads, EachSince-behind, Stops-read}
+use Rattle.lfs_thread.specs.Device.{StopsLeave}
+use Rattle.lfs_thread.specs.Kept.{Kept, State}
+use Rattle.lfs_thread.specs.Steps.{HasTold, IsChanged, IsOnlyRead, IsWrittenAs, pair_in}
+use Rattle.lfs_operations.specs.Changing.{CanPut, IsLeftByPut, IsPut, IsTooLarge, TellsPut, TellsSpace, WritesIn}
+use Rattle.lfs_operations.specs.Ready.{IsReady}
+use Rattle.lfs_operations.specs.Renaming.{TellsMove}
+use Rattle.lfs_operations.proofs.Held.{here, holds}
+use Rattle.lfs_operations.proofs.Putting.{cut_later, left_later, read_is, tells_later, with_history, writes_later, writes_none}
+
+-- ---- only read
+
+pub read_survives : (t : Kept) (h : List Event) → OnlyReads t.disk.blocks t.history h → IsReady t → (tree : Tree) → Survives t.disk t.history h (tree_in t.disk t.pairs) tree
+read_survives t h reads ready tree clean = LeavesOnly-reads Stops-read reads (record { pairs = t.pairs; accepted = ready.accepted; writable = ready.writable; tree = inl refl })
+
+pub read_writes : (t mid : Kept) → IsOnlyRead t mid → (index : ℕ) → WritesIn t index mid
+read_writes t mid only index = subst (λ (k : Kept). WritesIn t index k) (sym (read_is t mid only))
+    (writes_later t mid.history only.reads index [] (with_history t mid.history) (writes_none (with_history t mid.history) index))
+
+same_err : {A : Type 0} (a b : Error) (r : Result A Error) → r ≡ Err a → r ≡ Err b → a ≡ b
+same_err a b r h k = cc
+
+-- an error of a call that only reads, passed on
+pub tells_read : {X Y : Type 0} (t mid : Kept) (e : Error) (result : Result X Error) (given : Result Y Error) → result ≡ Err e → given ≡ Err e → HasTold t mid result → TellsSpace t mid given
+tells_read t mid e result given is same told = record {
+  errors = subst (λ r. IfErr r (λ x. (x ≡ Io) ⊎ ((x ≡ NoMemory) ⊎ (x ≡ NoSpace)))) (sym same) (widen is_one);
+  fault = λ io. told.fault (is ∙ ap Err (same_err e Io given same io));
+  no_fault = λ other. told.no_fault (λ io. other (same ∙ ap Err (same_err e Io result is io)));
+  unwritten = λ none. told.unwritten (is ∙ ap Err (same_err e NoMemory given same none));
+  unchanged = λ none. absurd (not_space is_one (same_err e NoSpace given same none));
+  no_space = λ none. absurd (not_space is_one (same_err e NoSpace given same none));
+}
+  where
+    is_one : (e ≡ Io) ⊎ (e ≡ NoMemory)
+    is_one = subst (λ r. IfErr r (λ x. (x ≡ Io) ⊎ (x ≡ NoMemory))) is told.errors
+
+    widen : (e ≡ Io) ⊎ (e ≡ NoMemory) → (e ≡ Io) ⊎ ((e ≡ NoMemory) ⊎ (e ≡ NoSpace))
+    widen (inl a) = inl a
+    widen (inr b) = inr (inl b)
+
+    not_space : (e ≡ Io) ⊎ (e ≡ NoMemory) → e ≡ NoSpace → ⊥
+    not_space (inl a) k = absurd (cc)
+    not_space (inr b) k = absurd (cc)
+
+-- it couldn't be read
+pub moves_unread : {X Y : Type 0} (old new : State) (index : ℕ) (changes : List Change) (e : Error) (result : Result X Error) (given : Result Y Error) → result ≡ Err e → given ≡ Err e
+    → new.failed ≡ false → IsOnlyRead old.kept new.kept → HasTold old.kept new.kept result → TellsMove old new index changes given
+moves_unread old new index changes e result given is same works only told =
+    let tells = tells_read old.kept new.kept e result given is same told in
+    record {
+      failed = inr (works, only);
+      tells = tells;
+      too_large = λ none. absurd (not_space (same_err e NoSpace given same none));
+    }
+  where
+    not_space : e ≡ NoSpace → ⊥
+    not_space k = go (subst (λ r. IfErr r (λ x. (x ≡ Io) ⊎ (x ≡ NoMemory))) is told.errors)
+      where
+        go : (e ≡ Io) ⊎ (e ≡ NoMemory) → ⊥
+        go (inl a) = absurd (cc)
+        go (inr b) = absurd (cc)
+
+-- memory was lacking after it was read
+pub moves_unmade : {Y : Type 0} (old new : State) (index : ℕ) (changes : List Change) (given : Result Y Error) → given ≡ Err NoMemory
+    → new.failed ≡ false → IsOnlyRead old.kept new.kept → faults new.kept.history ≡ faults old.kept.history → TellsMove old new index changes given
+moves_unmade old new index changes given is works only same = record {
+  failed = inr (works, only);
+  tells = record {
+    errors = subst (λ r. IfErr r (λ x. (x ≡ Io) ⊎ ((x ≡ NoMemory) ⊎ (x ≡ NoSpace)))) (sym is) (inr (inl refl));
+    fault = λ io. absurd (let z = sym is ∙ io in cc);
+    no_fault = λ other. same;
+    unwritten = λ none. record { disk = only.disk; reads = only.reads };
+    unchanged = λ none. only;
+    no_space = λ none. absurd (let z = sym is ∙ none in cc);
+  };
+  too_large = λ none. absurd (let z = sym is ∙ none in cc);
+}
+
+-- ---- changed or split then
+
+pub written_earlier : (t : Kept) (h : List Event) (index : ℕ) (content : Content) (disk : Disk) → IsWrittenAs (with_history t h) index content disk → IsWrittenAs t index content disk
+written_earlier t h index content disk w = record { holds = w.holds; others = w.others; shape = w.shape; first = w.first }
+
+module _ (t : Kept) (h : List Event) (reads : OnlyReads t.disk.blocks t.history h) (index : ℕ) (changes : List Change) where
+  pub changed_earlier : (new : Kept) → IsChanged (with_history t h) index changes new → IsChanged t index changes new
+  changed_earlier new is = record {
+    content = is.content;
+    made = is.made;
+    written = written_earlier t h index is.content new.disk is.written;
+    fits = is.fits;
+    pairs = is.pairs;
+    thread = is.thread;
+    map = is.map;
+  }
+
+  pub put_earlier : (new : Kept) → IsPut (with_history t h) index changes new → IsPut t index changes new
+  put_earlier new (inl is) = inl (changed_earlier new is)
+  put_earlier new (inr (large, is)) = inr (large, cut_later t h reads index changes new is)
+
+  left_earlier : (left : Blocks) → IsLeftByPut (with_history t h) index changes left → IsLeftByPut t index changes left
+  left_earlier left (inl is) = inl (record { content = is.content; is = is.is; written = written_earlier t h index is.content (with_blocks left t.disk) is.written })
+  left_earlier left (inr (large, is)) = inr (large, left_later t h reads index changes left is)
+
+-- the pair as it was, at a stop in a read
+still_there : (t : Kept) (index : ℕ) (changes : List Change) → IsReady t → (first : ℕ) (p : Pair) (rest : List Pair) → IsBehind t.pairs first index p rest → IsLeftByPut t index changes t.disk.blocks
+still_there t index changes ready first p rest place = inl (record {
+  content = (pair_in t index).content;
+  is = inl refl;
+  written = record {
+    holds = holds t ready first index p rest place ∙ ap (λ (z : Pair). Some z.content) (sym (here t ready first index p rest place));
+    others = record { count = refl; sizes = λ b. refl; others = λ b apart. refl };
+    shape = record { block_size = refl; page = refl; count = refl };
+    first = λ b k. b;
+  };
+})
+
+pub stops_after_read : (t mid new : Kept) (index : ℕ) (changes : List Change) → IsOnlyRead t mid → IsReady t → (first : ℕ) (p : Pair) (rest : List Pair) → IsBehind t.pairs first index p rest
+    → WritesIn mid index new → StopsLeave mid.history new.history (IsLeftByPut mid index changes) → StopsLeave t.history new.history (IsLeftByPut t index changes)
+stops_after_read t mid new index changes only ready first p rest place writes stops clean =
+    LeavesOnly-trans (LeavesOnly-reads Stops-read only.reads (still_there t index changes ready first p rest place))
+    (LeavesOnly-weaker (λ left l. left_earlier t mid.history only.reads index changes left (subst (λ (k : Kept). IsLeftByPut k index changes left) (read_is t mid only) l))
+    (stops (EachSince-behind clean only.reads writes.writes.at_worst)))
+
+pub put_after_read : (t mid new : Kept) (index : ℕ) (changes : List Change) → IsOnlyRead t mid → IsPut mid index changes new → IsPut t index changes new
+put_after_read t mid new index changes only is = put_earlier t mid.history only.reads index changes new (subst (λ (k : Kept). IsPut k index changes new) (read_is t mid only) is)
+
+pub writes_after_read : (t mid new : Kept) (index : ℕ) → IsOnlyRead t mid → WritesIn mid index new → WritesIn t index new
+writes_after_read t mid new index only w = writes_later t mid.history only.reads index [] new (subst (λ (k : Kept). WritesIn k index new) (read_is t mid only) w)
+
+pub can_after_read : (t mid : Kept) (index : ℕ) (changes : List Change) → IsOnlyRead t mid → CanPut t index changes → CanPut mid index changes
+can_after_read t mid index changes only can = subst (λ (k : Kept). CanPut k index changes) (sym (read_is t mid only)) (record {
+  can = record { below = can.can.below; content = can.can.content; made = can.can.made; next = can.can.next };
+  raw = can.raw;
+  made = can.made;
+  cut = can.cut;
+})
+
+pub moves_after_read : {X : Type 0} (old mid new : State) (index : ℕ) (changes : List Change) (result : Result X Error) → IsOnlyRead old.kept mid.kept → faults mid.kept.history ≡ faults old.kept.history
+    → TellsPut mid new index changes result → TellsMove old new index changes result
+moves_after_read old mid new index changes result only same told = record {
+  failed = inl told.tells.failed;
+  tells = tells_later old.kept mid.kept.history only.reads index changes new.kept result same (subst (λ (k : Kept). TellsSpace k new.kept result) (read_is old.kept mid.kept only) told.tells.tells);
+  too_large = λ none. subst (λ (k : Kept). IsTooLarge k index changes) (read_is old.kept mid.kept only) (told.too_large none);
+}

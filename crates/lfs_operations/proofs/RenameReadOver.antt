@@ -1,0 +1,132 @@
+-- A pair that is changed after it was read.
+use Rattle.std.proofs.Common.{ℕ, ◌≡◌, ◌⊎◌, inl, inr, false, Some, List, Result, Ok, Err, refl, sym, ap, subst, ◌∙◌, arith}
+use Rattle.std.specs.Prelude.{IfErr, is_err}
+use Rattle.lfs_device.specs.declared.error.Error.{Error}
+use Rattle.lfs_device.specs.declared.error.Error.TheVariants.{Io, NoMemory}
+use Rattle.lfs_model.specs.Blocks.{Blocks}
+use Rattle.lfs_model.specs.Changes.{Change}
+use Rattle.lfs_model.specs.History.{Event, OnlyReads, faults}
+use Rattle.lfs_model.specs.InDirectory.{IsBehind}
+use Rattle.lfs_model.specs.PowerLoss.{with_blocks}
+use Rattle.lfs_model.specs.Thread.{Pair}
+use Rattle.lfs_model.proofs.Histories.{AtWorst-read, EachSince-behind, LeavesOnly-reads, LeavesOnly-trans, LeavesOnly-weaker, OnlyReads-trans, StayUnprogrammed-reads, StayUnprogrammed-trans, Stops-read}
+use Rattle.lfs_thread.specs.Device.{StopsLeave}
+use Rattle.lfs_thread.specs.Kept.{Kept, State}
+use Rattle.lfs_thread.specs.Steps.{CanChange, HasTold, IsChanged, IsLeft, IsOnlyRead, IsRefused, Writes, pair_in}
+use Rattle.lfs_operations.specs.Ready.{IsReady}
+use Rattle.lfs_operations.specs.RenamingOver.{TellsOver}
+use Rattle.lfs_operations.proofs.Held.{here, holds}
+use Rattle.lfs_operations.proofs.Putting.{read_is, with_history}
+use Rattle.lfs_operations.proofs.RenameRead.{changed_earlier, written_earlier}
+
+pub changed_after_read : (t mid new : Kept) (index : ℕ) (changes : List Change) → IsOnlyRead t mid → IsChanged mid index changes new → IsChanged t index changes new
+changed_after_read t mid new index changes only is = changed_earlier t mid.history only.reads index changes new (subst (λ (k : Kept). IsChanged k index changes new) (read_is t mid only) is)
+
+pub can_change_after_read : (t mid : Kept) (index : ℕ) (changes : List Change) → IsOnlyRead t mid → CanChange t index changes → CanChange mid index changes
+can_change_after_read t mid index changes only can = subst (λ (k : Kept). CanChange k index changes) (sym (read_is t mid only)) (record { below = can.below; content = can.content; made = can.made; next = can.next })
+
+refused_earlier : (t : Kept) (h : List Event) (new : Kept) (index : ℕ) (changes : List Change) → OnlyReads t.disk.blocks t.history h → IsRefused (with_history t h) index changes new → IsRefused t index changes new
+refused_earlier t h new index changes reads is = record {
+  content = is.content;
+  made = is.made;
+  too_large = is.too_large;
+  only = record { disk = is.only.disk; reads = OnlyReads-trans reads is.only.reads refl; pairs = is.only.pairs; map = is.only.map };
+}
+
+pub refused_after_read : (t mid new : Kept) (index : ℕ) (changes : List Change) → IsOnlyRead t mid → IsRefused mid index changes new → IsRefused t index changes new
+refused_after_read t mid new index changes only is = refused_earlier t mid.history new index changes only.reads (subst (λ (k : Kept). IsRefused k index changes new) (read_is t mid only) is)
+
+writes_earlier : (t : Kept) (h : List Event) (new : Kept) (bs : List ℕ) → OnlyReads t.disk.blocks t.history h → Writes bs (with_history t h) new → Writes bs t new
+writes_earlier t h new bs reads w = record {
+  others = w.others;
+  elsewhere = StayUnprogrammed-trans (StayUnprogrammed-reads bs reads) w.elsewhere;
+  shape = w.shape;
+  at_worst = LeavesOnly-trans (LeavesOnly-reads AtWorst-read reads (record { count = refl; sizes = λ b. refl; others = λ b apart. refl })) w.at_worst;
+}
+
+pub blocks_after_read : (t mid new : Kept) (bs : List ℕ) → IsOnlyRead t mid → Writes bs mid new → Writes bs t new
+blocks_after_read t mid new bs only w = writes_earlier t mid.history new bs only.reads (subst (λ (k : Kept). Writes bs k new) (read_is t mid only) w)
+
+pub only_read_writes : (t mid : Kept) (bs : List ℕ) → IsOnlyRead t mid → Writes bs t mid
+only_read_writes t mid bs only = subst (λ (k : Kept). Writes bs t k) (sym (read_is t mid only)) (record {
+  others = record { count = refl; sizes = λ b. refl; others = λ b apart. refl };
+  elsewhere = StayUnprogrammed-reads bs only.reads;
+  shape = record { block_size = refl; page = refl; count = refl };
+  at_worst = LeavesOnly-reads AtWorst-read only.reads (record { count = refl; sizes = λ b. refl; others = λ b apart. refl });
+})
+
+pub change_stops_after_read : (t mid new : Kept) (index : ℕ) (changes : List Change) (bs : List ℕ) → IsOnlyRead t mid → IsReady t → (first : ℕ) (p : Pair) (rest : List Pair) → IsBehind t.pairs first index p rest
+    → Writes bs mid new → StopsLeave mid.history new.history (IsLeft mid index changes) → StopsLeave t.history new.history (IsLeft t index changes)
+change_stops_after_read t mid new index changes bs only ready first p rest place writes stops clean =
+    LeavesOnly-trans (LeavesOnly-reads Stops-read only.reads (record {
+      content = (pair_in t index).content;
+      is = inl refl;
+      written = record {
+        holds = holds t ready first index p rest place ∙ ap (λ (z : Pair). Some z.content) (sym (here t ready first index p rest place));
+        others = record { count = refl; sizes = λ b. refl; others = λ b apart. refl };
+        shape = record { block_size = refl; page = refl; count = refl };
+        first = λ b k. b;
+      };
+    })) (LeavesOnly-weaker (λ left l. earlier left (subst (λ (k : Kept). IsLeft k index changes left) (read_is t mid only) l)) (stops (EachSince-behind clean only.reads writes.at_worst)))
+  where
+    earlier : (left : Blocks) → IsLeft (with_history t mid.history) index changes left → IsLeft t index changes left
+    earlier left is = record { content = is.content; is = is.is; written = written_earlier t mid.history index is.content (with_blocks left t.disk) is.written }
+
+-- ---- what it tells
+
+same_err : {A : Type 0} (a b : Error) (r : Result A Error) → r ≡ Err a → r ≡ Err b → a ≡ b
+same_err a b r h k = cc
+
+-- an error passed on
+told_again : {X Y : Type 0} (t new : Kept) (e : Error) (result : Result X Error) (given : Result Y Error) → result ≡ Err e → given ≡ Err e → HasTold t new result → HasTold t new given
+told_again t new e result given is same told = record {
+  errors = subst (λ r. IfErr r (λ x. (x ≡ Io) ⊎ (x ≡ NoMemory))) (sym same) (subst (λ r. IfErr r (λ x. (x ≡ Io) ⊎ (x ≡ NoMemory))) is told.errors);
+  fault = λ io. told.fault (is ∙ ap Err (same_err e Io given same io));
+  no_fault = λ other. told.no_fault (λ io. other (same ∙ ap Err (same_err e Io result is io)));
+  unwritten = λ none. told.unwritten (is ∙ ap Err (same_err e NoMemory given same none));
+}
+
+pub over_unread : {X Y : Type 0} (old new : State) (e : Error) (result : Result X Error) (given : Result Y Error) → result ≡ Err e → given ≡ Err e → new.failed ≡ false → IsOnlyRead old.kept new.kept
+    → HasTold old.kept new.kept result → TellsOver old new given
+over_unread old new e result given is same works only told = record { failed = inr (works, only); told = told_again old.kept new.kept e result given is same told }
+
+pub over_unmade : {Y : Type 0} (old new : State) (given : Result Y Error) → given ≡ Err NoMemory → new.failed ≡ false → IsOnlyRead old.kept new.kept → faults new.kept.history ≡ faults old.kept.history → TellsOver old new given
+over_unmade old new given is works only same = record {
+  failed = inr (works, only);
+  told = record {
+    errors = subst (λ r. IfErr r (λ x. (x ≡ Io) ⊎ (x ≡ NoMemory))) (sym is) (inr refl);
+    fault = λ io. absurd (let z = sym is ∙ io in cc);
+    no_fault = λ other. same;
+    unwritten = λ none. record { disk = only.disk; reads = only.reads };
+  };
+}
+
+later : {X : Type 0} (t : Kept) (h : List Event) (new : Kept) (result : Result X Error) → OnlyReads t.disk.blocks t.history h → faults h ≡ faults t.history → HasTold (with_history t h) new result → HasTold t new result
+later t h new result reads same told = record {
+  errors = told.errors;
+  fault = λ io. (let k = told.fault io in omega (arith, k, same));
+  no_fault = λ other. told.no_fault other ∙ same;
+  unwritten = λ none. (let u = told.unwritten none in record { disk = u.disk; reads = OnlyReads-trans reads u.reads refl });
+}
+
+told_later : {X : Type 0} (t mid new : Kept) (result : Result X Error) → IsOnlyRead t mid → faults mid.history ≡ faults t.history → HasTold mid new result → HasTold t new result
+told_later t mid new result only same told = later t mid.history new result only.reads same (subst (λ (k : Kept). HasTold k new result) (read_is t mid only) told)
+
+pub over_failed : {X Y : Type 0} (old mid new : State) (e : Error) (result : Result X Error) (given : Result Y Error) → result ≡ Err e → given ≡ Err e → IsOnlyRead old.kept mid.kept
+    → faults mid.kept.history ≡ faults old.kept.history → new.failed ≡ is_err result → HasTold mid.kept new.kept result → TellsOver old new given
+over_failed old mid new e result given is same only faultless failed told = record {
+  failed = inl (failed ∙ ap is_err is ∙ sym (ap is_err same));
+  told = told_again old.kept new.kept e result given is same (told_later old.kept mid.kept new.kept result only faultless told);
+}
+
+pub over_done : {X Y : Type 0} (old mid new : State) (x : X) (y : Y) (result : Result X Error) (given : Result Y Error) → result ≡ Ok x → given ≡ Ok y → IsOnlyRead old.kept mid.kept
+    → faults mid.kept.history ≡ faults old.kept.history → new.failed ≡ is_err result → HasTold mid.kept new.kept result → TellsOver old new given
+over_done old mid new x y result given is same only faultless failed told = record {
+  failed = inl (failed ∙ ap is_err is ∙ sym (ap is_err same));
+  told = record {
+    errors = subst (λ r. IfErr r (λ x. (x ≡ Io) ⊎ (x ≡ NoMemory))) (sym same) tt;
+    fault = λ io. absurd (let z = sym same ∙ io in cc);
+    no_fault = λ other. (let k = told_later old.kept mid.kept new.kept result only faultless told in k.no_fault (λ io. let z = sym is ∙ io in absurd (cc)));
+    unwritten = λ none. absurd (let z = sym same ∙ none in cc);
+  };
+}

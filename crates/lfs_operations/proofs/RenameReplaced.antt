@@ -1,0 +1,297 @@
+-- A rename within one pair onto a file.
+use Rattle.std.proofs.Common.{ℕ, ◌≡◌, ◌⊎◌, inl, inr, true, List, [], ◌∷◌, ◌++◌, length, Some, refl, sym, ap, subst, ◌∙◌, arith, append_assoc, append-nil, length-append}
+use Rattle.lfs_model.specs.Apply.{renamed}
+use Rattle.lfs_model.specs.Changes.{Delete}
+use Rattle.lfs_model.specs.Content.{raw_at}
+use Rattle.lfs_model.specs.Disk.{Disk}
+use Rattle.lfs_model.specs.History.{Event}
+use Rattle.lfs_model.specs.InDirectory.{StandsAt}
+use Rattle.lfs_model.specs.Names.{Name, is_name}
+use Rattle.lfs_model.specs.PowerLoss.{Survives}
+use Rattle.lfs_model.specs.Slots.{FitsPair, Slot, same_pair}
+use Rattle.lfs_model.specs.Thread.{Pair, blocks_of}
+use Rattle.lfs_model.specs.View.{IsEntry, Leads, file_blocks, tree_in}
+use Rattle.lfs_model.proofs.Changes.{Follows}
+use Rattle.lfs_model.proofs.Committed.{IsCommit, commit_step, recovered_from}
+use Rattle.lfs_model.proofs.Counts.{Each, each_right}
+use Rattle.lfs_model.proofs.OneCommit.{some_filled}
+use Rattle.lfs_model.proofs.RenameOntoFile.{onto_file_ahead_completed, onto_file_behind_completed}
+use Rattle.lfs_model.proofs.Renames.{rename_walk}
+use Rattle.lfs_model.proofs.Searches.{is_site, number_is, same, site, thread_is}
+use Rattle.lfs_model.proofs.Sites.{Site, begin_of, thread_at}
+use Rattle.lfs_thread.specs.Device.{StopsLeave}
+use Rattle.lfs_thread.specs.Kept.{Kept}
+use Rattle.lfs_thread.specs.Steps.{pair_in}
+use Rattle.lfs_operations.specs.Changing.{CanPut, IsLeftByPut, IsPut}
+use Rattle.lfs_operations.specs.Editing.{CanEdit}
+use Rattle.lfs_operations.specs.Ready.{HasBecomeBut}
+use Rattle.lfs_operations.specs.Renaming.{CanRenameOnto, IsRenamedOnto, place_without, rename_onto_changes, with_renamed}
+use Rattle.lfs_operations.specs.RenamingSlots.{HasSlot}
+use Rattle.lfs_operations.proofs.Held.{CompletesTo, IsEntryIfOther, below, each_pair, fits_there, here, other_entries, raw_there}
+use Rattle.lfs_operations.proofs.RenameMade as made
+use Rattle.lfs_operations.proofs.RenameMade.{ComesAhead, ComesBehind, Leaves, behind_or_ahead, fits_without, leaves_then, leaves_without}
+use Rattle.lfs_operations.proofs.RenameOnto.{onto_ahead_follows, onto_behind_follows}
+use Rattle.lfs_operations.proofs.RenamePlaced.{carries_ahead, carries_behind, with_name}
+use Rattle.lfs_operations.proofs.RenameStepped.{IsMoving, moved_becomes, moved_completed, moved_survives}
+use Rattle.lfs_operations.proofs.RenameWithin.{place_ahead_is, place_behind_is}
+
+-- what follows another slot
+record Follower (target : Slot) (tail : List Slot) (u : Slot) (behind : List Slot) (passed : List Slot) : Type 0 where
+  between : List Slot
+  are : passed ≡ target ∷ between
+  back : tail ≡ between ++ u ∷ behind
+
+follower : (target : Slot) (tail : List Slot) (u : Slot) (behind passed : List Slot) → (target ≡ u → ⊥) → target ∷ tail ≡ passed ++ u ∷ behind → Follower target tail u behind passed
+follower target tail u behind [] apart e = absurd (apart cc)
+follower target tail u behind (x ∷ passed) apart e = record { between = passed; are = ap (λ z. z ∷ passed) first; back = cc }
+  where
+    first : x ≡ target
+    first = cc
+
+module _ (t : Kept) (index id place : ℕ) (name : Name) (rename : CanRenameOnto t index id place name) where
+  abbrev can : CanEdit t index id
+  can = rename.can
+
+  abbrev s : StandsAt can.stands.pair.content.slots can.name id
+  s = can.stands.stands
+
+  abbrev p : Pair
+  p = can.stands.pair
+
+  abbrev u : Slot
+  u = can.stands.stands.slot
+
+  abbrev target : Slot
+  target = rename.target.stands.slot
+
+  pub has_slot : HasSlot t index id
+  has_slot =
+      let e = ap (λ (z : Pair). length z.content.slots) (here t can.ready can.first index p can.stands.rest can.stands.place) in
+      let h = ap length s.held in
+      let k = length-append s.left (u ∷ s.right) in
+      let n = s.number in
+      record { below = below t can.ready can.first index p can.stands.rest can.stands.place; there = omega arith }
+
+  -- the target stands in the same pair
+  pair_same : can.stands.pair ≡ rename.target.pair
+  pair_same = sym (here t can.ready can.first index p can.stands.rest can.stands.place) ∙ here t can.ready can.first index rename.target.pair rename.target.rest rename.target.place
+
+  target_held : p.content.slots ≡ rename.target.stands.left ++ target ∷ rename.target.stands.right
+  target_held = ap (λ (z : Pair). z.content.slots) pair_same ∙ rename.target.stands.held
+
+  abbrev l2 : List Slot
+  l2 = rename.target.stands.left
+
+  abbrev r2 : List Slot
+  r2 = rename.target.stands.right
+
+  abbrev w : Site
+  w = site t.disk t.pairs can.path can.at can.ready.accepted can.leads can.first index p can.stands.rest can.stands.place can.begins
+
+  there : t.pairs ≡ thread_at w (p ∷ [])
+  there = thread_is t.disk t.pairs can.path can.at can.ready.accepted can.leads can.first index p can.stands.rest can.stands.place can.begins
+
+  leads_there : Leads (thread_at w (p ∷ [])) can.path can.at
+  leads_there = subst (λ z. Leads z can.path can.at) there can.leads
+
+  same_there : same_pair (begin_of w (p ∷ [])) can.at ≡ true
+  same_there = same t.disk t.pairs can.path can.at can.ready.accepted can.leads can.first index p can.stands.rest can.stands.place can.begins
+
+  fits_here : FitsPair t.disk.block_size t.disk.page p.content
+  fits_here = fits_there t can.ready can.first index p can.stands.rest can.stands.place
+
+  abbrev c : CompletesTo (raw_at t.disk (pair_in t index).at) p.content
+  c = raw_there t can.ready can.first index p can.stands.rest can.stands.place
+
+  differs : target.name ≡ u.name → ⊥
+  differs e = rename.differs (sym rename.target.stands.named ∙ e ∙ s.named)
+
+  -- the file has a name, so the entry may have it
+  named : is_name name ≡ true
+  named =
+      let all = each_pair t can.ready can.first index p can.stands.rest can.stands.place (λ x. Each IsEntryIfOther x.content.slots) (other_entries t.disk t.pairs can.ready.accepted) in
+      let e = (each_right IsEntryIfOther l2 (target ∷ r2) (subst (Each IsEntryIfOther) target_held all)).0 rename.target.stands.entry in
+      ap is_name (sym rename.target.stands.named) ∙ e.name
+
+  entry_again : IsEntry u → IsEntry (with_name u name)
+  entry_again e = record { name = named; struct = e.struct }
+
+  -- ---- the slots that are left without both
+
+  abbrev IsLeftOver : List Slot → List Slot → Type 0
+  IsLeftOver x y = (s.left ++ s.right ≡ x ++ target ∷ y) × (length x ≡ place_without id place)
+
+  module _ (x y : List Slot) (over : IsLeftOver x y) where
+    fits_one : FitsPair t.disk.block_size t.disk.page (record p.content { slots = x ++ target ∷ y })
+    fits_one = subst (λ z. FitsPair t.disk.block_size t.disk.page (record p.content { slots = z })) over.0 (fits_without t.disk.block_size t.disk.page p.content s.left u s.right s.held fits_here)
+
+    fits_over : FitsPair t.disk.block_size t.disk.page (record p.content { slots = x ++ y })
+    fits_over = fits_without t.disk.block_size t.disk.page (record p.content { slots = x ++ target ∷ y }) x target y refl fits_one
+
+    left_one : Leaves c.raw (Delete id ∷ []) (x ++ target ∷ y)
+    left_one = subst (Leaves c.raw (Delete id ∷ [])) over.0
+        (leaves_without c.raw s.left u s.right id (let few = fits_here.count in let i = made.within t index id can.ready can.first p can.stands.rest can.stands.place can.logged can.name s in omega arith) s.number
+        (made.all_slots t index id can.ready can.first p can.stands.rest can.stands.place can.logged can.name s ∙ ap Some s.held))
+
+    left_over : Leaves c.raw (Delete id ∷ Delete (place_without id place) ∷ []) (x ++ y)
+    left_over = leaves_then c.raw (Delete id ∷ []) (Delete (place_without id place) ∷ []) (x ++ target ∷ y) (x ++ y) left_one
+        (leaves_without left_one.left x target y (place_without id place) (let few = fits_one.count in let n = over.1 in let k = length-append x (target ∷ y) in omega arith) over.1 left_one.are)
+
+    can_put_over : CanPut t index (rename_onto_changes t index id place name)
+    can_put_over = made.can_put t index id can.ready can.first p can.stands.rest can.stands.place can.logged can.name s (Delete id ∷ Delete (place_without id place) ∷ []) x y left_over fits_over (place_without id place) over.1
+        name named rename.fits
+
+  -- ---- the target stands behind the old slot
+
+  module _ (d : ComesBehind s.left u s.right l2 (target ∷ r2)) where
+    over_behind : IsLeftOver (s.left ++ d.passed) r2
+    over_behind = (
+      ap (λ z. s.left ++ z) d.back ∙ sym (append_assoc s.left d.passed (target ∷ r2)),
+      (let n = s.number in
+          let m = rename.target.stands.number in
+          let e = ap length d.front in
+          let f = length-append s.left (u ∷ d.passed) in
+          let g = length-append s.left d.passed in
+          let q = place_behind_is id place (omega arith) in
+          omega arith),
+    )
+
+    now_behind : (s.left ++ d.passed) ++ with_name u name ∷ r2 ≡ s.left ++ ((d.passed ++ with_name u name ∷ []) ++ r2)
+    now_behind = append_assoc s.left d.passed (with_name u name ∷ r2) ∙ ap (λ z. s.left ++ z) (sym (append_assoc d.passed (with_name u name ∷ []) r2))
+
+    under_its_name : (disk : Disk) (q : Pair) (more : List Pair) → IsCommit t.disk disk w p q more [] s.left (u ∷ (d.passed ++ target ∷ [])) (d.passed ++ with_name u name ∷ []) r2
+        → IsCommit t.disk disk w p q more [] s.left (u ∷ (d.passed ++ target ∷ [])) (d.passed ++ with_name u target.name ∷ []) r2
+    under_its_name disk q more k = subst (λ (n : Name). IsCommit t.disk disk w p q more [] s.left (u ∷ (d.passed ++ target ∷ [])) (d.passed ++ with_name u n ∷ []) r2) (sym rename.target.stands.named) k
+
+    moving_behind : IsMoving t index (rename_onto_changes t index id place name) can.path can.name name (target ∷ [])
+    moving_behind = record {
+      w = w;
+      p = p;
+      l = s.left;
+      olds = u ∷ (d.passed ++ target ∷ []);
+      news = d.passed ++ with_name u name ∷ [];
+      r = r2;
+      u = u;
+      moved = with_name u name;
+      placed = record {
+        ready = can.ready;
+        there = there;
+        place = number_is t.disk t.pairs can.path can.at can.ready.accepted can.leads can.first index p can.stands.rest can.stands.place can.begins;
+        site = is_site t.disk t.pairs can.path can.at can.ready.accepted can.leads can.first index p can.stands.rest can.stands.place can.begins;
+        content = record { slots = (s.left ++ d.passed) ++ with_name u name ∷ r2; tail = p.content.tail; move = p.content.move };
+        made = made.made t index id can.ready can.first p can.stands.rest can.stands.place can.logged can.name s (Delete id ∷ Delete (place_without id place) ∷ []) (s.left ++ d.passed) r2
+            (left_over (s.left ++ d.passed) r2 over_behind) (fits_over (s.left ++ d.passed) r2 over_behind) (place_without id place) over_behind.1 name named rename.fits;
+        tail = refl;
+        was = s.held ∙ ap (λ z. s.left ++ u ∷ z) (d.back ∙ sym (append_assoc d.passed (target ∷ []) r2));
+        now = now_behind;
+        front = s.entry;
+        carries = carries_behind u name d.passed (target ∷ []);
+        entry = entry_again;
+        struct = refl;
+        other = s.entry;
+        fits = rename.fits;
+      };
+      move = refl;
+      filled = λ e. some_filled (s.left ++ d.passed) r2 (with_name u name) (now_behind ∙ e);
+      follows = λ disk q more k.
+          subst (λ (n : Name). Follows t.disk (thread_at w (p ∷ [])) disk (thread_at w (q ∷ more)) (renamed (can.path ++ n ∷ []) (can.path ++ name ∷ [])) (rename_walk (can.path ++ n ∷ []) (can.path ++ name ∷ []))) s.named
+          (subst (λ (n : Name). Follows t.disk (thread_at w (p ∷ [])) disk (thread_at w (q ∷ more)) (renamed (can.path ++ u.name ∷ []) (can.path ++ n ∷ [])) (rename_walk (can.path ++ u.name ∷ []) (can.path ++ n ∷ []))) rename.target.stands.named
+          (onto_behind_follows t.disk disk w p q more (blocks_of more) s.left u d.passed target r2
+          (commit_step t.disk disk w p q more [] s.left (u ∷ (d.passed ++ target ∷ [])) (d.passed ++ with_name u target.name ∷ []) r2 (under_its_name disk q more k)) k.was s.entry rename.target.stands.entry
+          (λ e. (rename.file, (recovered_from t.disk (thread_at w (p ∷ [])) k.accepted k.settled).reached)) differs can.path can.at leads_there same_there));
+      completed = λ disk q more k z given to_given tree given_is to_is.
+          onto_file_behind_completed t.disk disk w p q more s.left u d.passed target r2 (under_its_name disk q more k) s.entry rename.target.stands.entry rename.file differs can.path can.at leads_there same_there z given to_given tree
+          (given_is ∙ ap (λ n. can.path ++ n ∷ []) (sym s.named)) (to_is ∙ ap (λ n. can.path ++ n ∷ []) (sym rename.target.stands.named));
+    }
+
+  -- ---- or in front of it
+
+  module _ (passed : List Slot) (front : s.left ≡ l2 ++ target ∷ passed) (back : r2 ≡ passed ++ u ∷ s.right) where
+    over_ahead : IsLeftOver l2 (passed ++ s.right)
+    over_ahead = (
+      ap (λ z. z ++ s.right) front ∙ append_assoc l2 (target ∷ passed) s.right,
+      (let n = s.number in
+          let m = rename.target.stands.number in
+          let e = ap length front in
+          let f = length-append l2 (target ∷ passed) in
+          let q = place_ahead_is id place (omega arith) in
+          omega arith),
+    )
+
+    under_that_name : (disk : Disk) (q : Pair) (more : List Pair) → IsCommit t.disk disk w p q more [] l2 (target ∷ (passed ++ u ∷ [])) (with_name u name ∷ passed) s.right
+        → IsCommit t.disk disk w p q more [] l2 (target ∷ (passed ++ u ∷ [])) (with_name u target.name ∷ passed) s.right
+    under_that_name disk q more k = subst (λ (n : Name). IsCommit t.disk disk w p q more [] l2 (target ∷ (passed ++ u ∷ [])) (with_name u n ∷ passed) s.right) (sym rename.target.stands.named) k
+
+    moving_ahead : IsMoving t index (rename_onto_changes t index id place name) can.path can.name name (target ∷ [])
+    moving_ahead = record {
+      w = w;
+      p = p;
+      l = l2;
+      olds = target ∷ (passed ++ u ∷ []);
+      news = with_name u name ∷ passed;
+      r = s.right;
+      u = u;
+      moved = with_name u name;
+      placed = record {
+        ready = can.ready;
+        there = there;
+        place = number_is t.disk t.pairs can.path can.at can.ready.accepted can.leads can.first index p can.stands.rest can.stands.place can.begins;
+        site = is_site t.disk t.pairs can.path can.at can.ready.accepted can.leads can.first index p can.stands.rest can.stands.place can.begins;
+        content = record { slots = l2 ++ with_name u name ∷ (passed ++ s.right); tail = p.content.tail; move = p.content.move };
+        made = made.made t index id can.ready can.first p can.stands.rest can.stands.place can.logged can.name s (Delete id ∷ Delete (place_without id place) ∷ []) l2 (passed ++ s.right)
+            (left_over l2 (passed ++ s.right) over_ahead) (fits_over l2 (passed ++ s.right) over_ahead) (place_without id place) over_ahead.1 name named rename.fits;
+        tail = refl;
+        was = target_held ∙ ap (λ z. l2 ++ target ∷ z) (back ∙ sym (append_assoc passed (u ∷ []) s.right));
+        now = refl;
+        front = rename.target.stands.entry;
+        carries = carries_ahead u name (target ∷ []) passed;
+        entry = entry_again;
+        struct = refl;
+        other = s.entry;
+        fits = rename.fits;
+      };
+      move = refl;
+      filled = some_filled l2 (passed ++ s.right) (with_name u name);
+      follows = λ disk q more k.
+          subst (λ (n : Name). Follows t.disk (thread_at w (p ∷ [])) disk (thread_at w (q ∷ more)) (renamed (can.path ++ n ∷ []) (can.path ++ name ∷ [])) (rename_walk (can.path ++ n ∷ []) (can.path ++ name ∷ []))) s.named
+          (subst (λ (n : Name). Follows t.disk (thread_at w (p ∷ [])) disk (thread_at w (q ∷ more)) (renamed (can.path ++ u.name ∷ []) (can.path ++ n ∷ [])) (rename_walk (can.path ++ u.name ∷ []) (can.path ++ n ∷ []))) rename.target.stands.named
+          (onto_ahead_follows t.disk disk w p q more (blocks_of more) l2 u passed target s.right
+          (commit_step t.disk disk w p q more [] l2 (target ∷ (passed ++ u ∷ [])) (with_name u target.name ∷ passed) s.right (under_that_name disk q more k)) k.was s.entry rename.target.stands.entry
+          (λ e. (rename.file, (recovered_from t.disk (thread_at w (p ∷ [])) k.accepted k.settled).reached)) differs can.path can.at leads_there same_there));
+      completed = λ disk q more k z given to_given tree given_is to_is.
+          onto_file_ahead_completed t.disk disk w p q more l2 u passed target s.right (under_that_name disk q more k) s.entry rename.target.stands.entry rename.file differs can.path can.at leads_there same_there z given to_given tree
+          (given_is ∙ ap (λ n. can.path ++ n ∷ []) (sym s.named)) (to_is ∙ ap (λ n. can.path ++ n ∷ []) (sym rename.target.stands.named));
+    }
+
+  -- ---- either
+
+  two : ComesBehind s.left u s.right l2 (target ∷ r2) ⊎ ComesAhead s.left u s.right l2 (target ∷ r2)
+  two = behind_or_ahead s.left u s.right l2 (target ∷ r2) (sym s.held ∙ target_held)
+
+  ahead_of : (d : ComesAhead s.left u s.right l2 (target ∷ r2)) → Follower target r2 u s.right d.passed
+  ahead_of d = follower target r2 u s.right d.passed (λ e. differs (ap (λ (z : Slot). z.name) e)) d.back
+
+  pub can_put_replaced : CanPut t index (rename_onto_changes t index id place name)
+  can_put_replaced = go two
+    where
+      go : ComesBehind s.left u s.right l2 (target ∷ r2) ⊎ ComesAhead s.left u s.right l2 (target ∷ r2) → CanPut t index (rename_onto_changes t index id place name)
+      go (inl d) = can_put_over (s.left ++ d.passed) r2 (over_behind d)
+      go (inr d) = let f = ahead_of d in can_put_over l2 (f.between ++ s.right) (over_ahead f.between (d.front ∙ ap (λ z. l2 ++ z) f.are) f.back)
+
+  moving : IsMoving t index (rename_onto_changes t index id place name) can.path can.name name (target ∷ [])
+  moving = go two
+    where
+      go : ComesBehind s.left u s.right l2 (target ∷ r2) ⊎ ComesAhead s.left u s.right l2 (target ∷ r2) → IsMoving t index (rename_onto_changes t index id place name) can.path can.name name (target ∷ [])
+      go (inl d) = moving_behind d
+      go (inr d) = let f = ahead_of d in moving_ahead f.between (d.front ∙ ap (λ z. l2 ++ z) f.are) f.back
+
+  pub renamed_onto : (new : Kept) → IsPut t index (rename_onto_changes t index id place name) new → IsRenamedOnto t new rename.can.path rename.can.name name rename.target.stands.slot.struct
+  renamed_onto new is = record {
+    now = subst (λ z. HasBecomeBut t new (with_renamed t can.path can.name name) z []) (append-nil (file_blocks t.disk target.struct))
+        (moved_becomes t index (rename_onto_changes t index id place name) can.path can.name name (target ∷ []) moving new is);
+    completed = moved_completed t index (rename_onto_changes t index id place name) can.path can.name name (target ∷ []) moving new is;
+  }
+
+  pub onto_survives : (new : List Event) → StopsLeave t.history new (IsLeftByPut t index (rename_onto_changes t index id place name))
+      → Survives t.disk t.history new (tree_in t.disk t.pairs) (with_renamed t rename.can.path rename.can.name name)
+  onto_survives new stops = moved_survives t index (rename_onto_changes t index id place name) can.path can.name name (target ∷ []) moving new stops

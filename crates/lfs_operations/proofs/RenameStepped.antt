@@ -1,0 +1,68 @@
+-- A rename within one pair as a step of the thread, whatever makes way for whatever.
+use Rattle.std.proofs.Common.{ℕ, ◌≡◌, ◌≢◌, List, [], ◌∷◌, ◌++◌, sym, ap, subst, ◌∙◌}
+use Rattle.lfs_model.specs.Apply.{renamed}
+use Rattle.lfs_model.specs.Changes.{Change}
+use Rattle.lfs_model.specs.Disk.{Disk}
+use Rattle.lfs_model.specs.History.{Event}
+use Rattle.lfs_model.specs.Names.{Name}
+use Rattle.lfs_model.specs.Operations as ops
+use Rattle.lfs_model.specs.PowerLoss.{Survives}
+use Rattle.lfs_model.specs.Session.{Session}
+use Rattle.lfs_model.specs.Slots.{Slot}
+use Rattle.lfs_model.specs.Steps.{as_path}
+use Rattle.lfs_model.specs.Thread.{Pair}
+use Rattle.lfs_model.specs.Tree.{Path}
+use Rattle.lfs_model.specs.View.{tree_in}
+use Rattle.lfs_model.proofs.Changes.{Follows}
+use Rattle.lfs_model.proofs.Committed.{IsCommit, IsCompleted}
+use Rattle.lfs_model.proofs.Renames.{rename_walk}
+use Rattle.lfs_model.proofs.Sites.{Site, thread_at}
+use Rattle.lfs_model.proofs.Splices.{files_of}
+use Rattle.lfs_thread.specs.Device.{StopsLeave}
+use Rattle.lfs_thread.specs.Kept.{Kept}
+use Rattle.lfs_operations.specs.Changing.{IsLeftByPut, IsPut}
+use Rattle.lfs_operations.specs.Ready.{HasBecomeBut}
+use Rattle.lfs_operations.specs.Renaming.{IsRenameOf, with_renamed}
+use Rattle.lfs_operations.proofs.RenamePlaced.{IsPlaced, splicing}
+use Rattle.lfs_operations.proofs.Splicing.{IsSplicing}
+use Rattle.lfs_operations.proofs.Stepped.{HasStep, becomes, put_step, survives}
+
+-- The slots that make way, and those for which they do; each commit of them is a rename.
+pub record IsMoving (t : Kept) (index : ℕ) (changes : List Change) (path : Path) (from to : Name) (gone : List Slot) : Type 1 where
+  pub w : Site
+  pub p : Pair
+  pub l : List Slot
+  pub olds : List Slot
+  pub news : List Slot
+  pub r : List Slot
+  pub u : Slot
+  pub moved : Slot
+  pub placed : IsPlaced t index changes w p l olds news r gone u moved
+  pub move : placed.content.move ≡ p.content.move
+  pub filled : l ++ (news ++ r) ≢ []
+  pub follows : (disk : Disk) (q : Pair) (more : List Pair) → IsCommit t.disk disk w p q more [] l olds news r
+      → Follows t.disk (thread_at w (p ∷ [])) disk (thread_at w (q ∷ more)) (renamed (path ++ from ∷ []) (path ++ to ∷ [])) (rename_walk (path ++ from ∷ []) (path ++ to ∷ []))
+  pub completed : (disk : Disk) (q : Pair) (more : List Pair) → IsCommit t.disk disk w p q more [] l olds news r → (s : Session) (given to_given : List ℕ) → s.tree ≡ tree_in t.disk (thread_at w (p ∷ []))
+      → as_path given ≡ path ++ from ∷ [] → as_path to_given ≡ path ++ to ∷ [] → IsCompleted t.disk (thread_at w (p ∷ [])) s (ops.Rename given to_given) disk (thread_at w (q ∷ more))
+
+module _ (t : Kept) (index : ℕ) (changes : List Change) (path : Path) (from to : Name) (gone : List Slot) (m : IsMoving t index changes path from to gone) where
+  spliced : IsSplicing t index changes m.w m.p m.l m.olds m.news m.r (files_of t.disk gone) []
+  spliced = splicing t index changes m.w m.p m.l m.olds m.news m.r gone m.u m.moved m.placed m.move
+
+  stepped : (new : Kept) → IsPut t index changes new → HasStep t m.w m.p m.l m.olds m.news m.r (files_of t.disk gone) [] new
+  stepped new is = put_step t index changes m.w m.p m.l m.olds m.news m.r (files_of t.disk gone) [] spliced new is
+
+  pub moved_becomes : (new : Kept) → IsPut t index changes new → HasBecomeBut t new (with_renamed t path from to) (files_of t.disk gone) []
+  moved_becomes new is = becomes t index changes m.w m.p m.l m.olds m.news m.r (files_of t.disk gone) [] spliced (renamed (path ++ from ∷ []) (path ++ to ∷ []))
+      (λ disk q more c. (rename_walk (path ++ from ∷ []) (path ++ to ∷ []), m.follows disk q more c.commit)) (λ e. m.filled) new (stepped new is)
+
+  pub moved_completed : (new : Kept) → IsPut t index changes new → IsRenameOf t new path from to
+  moved_completed new is s given to_given tree given_is to_is =
+      let x = stepped new is in
+      subst (λ y. IsCompleted t.disk y s (ops.Rename given to_given) new.disk new.pairs) (sym m.placed.there)
+      (subst (λ y. IsCompleted t.disk (thread_at m.w (m.p ∷ [])) s (ops.Rename given to_given) new.disk y) (sym x.pairs)
+      (m.completed new.disk x.q x.more x.commit.commit s given to_given (tree ∙ ap (tree_in t.disk) m.placed.there) given_is to_is))
+
+  pub moved_survives : (new : List Event) → StopsLeave t.history new (IsLeftByPut t index changes) → Survives t.disk t.history new (tree_in t.disk t.pairs) (with_renamed t path from to)
+  moved_survives new stops = survives t index changes m.w m.p m.l m.olds m.news m.r (files_of t.disk gone) [] spliced (renamed (path ++ from ∷ []) (path ++ to ∷ []))
+      (λ disk q more c. (rename_walk (path ++ from ∷ []) (path ++ to ∷ []), m.follows disk q more c.commit)) (λ e. m.filled) new stops

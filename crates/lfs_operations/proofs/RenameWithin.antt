@@ -1,0 +1,259 @@
+-- A rename within one pair to a name that is new.
+use Rattle.std.proofs.Common.{ℕ, ◌≡◌, ◌⊎◌, inl, inr, ◌-◌, ◌<◌, ◌≤◌, true, cond, List, [], ◌∷◌, ◌++◌, length, Some, refl, sym, ap, subst, ◌∙◌, arith, append_assoc, append-nil, length-append}
+use Rattle.std.proofs.lemmas.Bool.{le-ltb, lt-ltb}
+use Rattle.lfs_model.specs.Apply.{renamed}
+use Rattle.lfs_model.specs.Changes.{Delete}
+use Rattle.lfs_model.specs.Content.{raw_at}
+use Rattle.lfs_model.specs.History.{Event}
+use Rattle.lfs_model.specs.InDirectory.{Belongs, StandsAt}
+use Rattle.lfs_model.specs.Names.{Name}
+use Rattle.lfs_model.specs.PowerLoss.{Survives}
+use Rattle.lfs_model.specs.Slots.{FitsPair, Slot, same_pair}
+use Rattle.lfs_model.specs.Thread.{Pair, starts_with_superblock}
+use Rattle.lfs_model.specs.View.{IsEntry, Leads, entries_in, tree_in}
+use Rattle.lfs_model.proofs.Changes.{Follows}
+use Rattle.lfs_model.proofs.Committed.{no_move_from}
+use Rattle.lfs_model.proofs.Moves.{place_at}
+use Rattle.lfs_model.proofs.Names.{IsPlace}
+use Rattle.lfs_model.proofs.OneCommit.{some_filled}
+use Rattle.lfs_model.proofs.RenameSteps.{renamed_ahead_completed, renamed_behind_completed}
+use Rattle.lfs_model.proofs.Renames.{rename_walk}
+use Rattle.lfs_model.proofs.Searches.{is_site, number_is, place_of_belongs, same, site, thread_is}
+use Rattle.lfs_model.proofs.Sites.{Site, begin_of, thread_at}
+use Rattle.lfs_thread.specs.Device.{StopsLeave}
+use Rattle.lfs_thread.specs.Kept.{Kept}
+use Rattle.lfs_thread.specs.Steps.{pair_in}
+use Rattle.lfs_operations.specs.Changing.{CanPut, IsLeftByPut, IsPut}
+use Rattle.lfs_operations.specs.Editing.{CanEdit}
+use Rattle.lfs_operations.specs.Renaming.{CanRename, IsRenamed, place_without, rename_changes, with_renamed}
+use Rattle.lfs_operations.specs.RenamingSlots.{HasSlot}
+use Rattle.lfs_operations.proofs.Held.{CompletesTo, below, fits_there, here, raw_there}
+use Rattle.lfs_operations.proofs.RenameMade as made
+use Rattle.lfs_operations.proofs.RenameMade.{ComesAhead, ComesBehind, Leaves, behind_or_ahead, fits_without, leaves_without}
+use Rattle.lfs_operations.proofs.RenameNames.{ahead_follows, behind_follows}
+use Rattle.lfs_operations.proofs.RenamePlaced.{Carries, carries_ahead, carries_behind, with_name}
+use Rattle.lfs_operations.proofs.RenameStepped.{IsMoving, moved_becomes, moved_completed, moved_survives}
+use Rattle.lfs_operations.proofs.Stepped.{ready_again}
+
+pub place_behind_is : (id place : ℕ) → id < place → place_without id place ≡ place - 1
+place_behind_is id place less = ap (λ b. cond b (place - 1) place) (lt-ltb id place less)
+
+pub place_ahead_is : (id place : ℕ) → place ≤ id → place_without id place ≡ place
+place_ahead_is id place le = ap (λ b. cond b (place - 1) place) (le-ltb id place le)
+
+module _ (t : Kept) (index id place : ℕ) (name : Name) (rename : CanRename t index id place name) where
+  abbrev can : CanEdit t index id
+  can = rename.can
+
+  abbrev b : Belongs t.pairs can.first name index place
+  b = rename.belongs
+
+  abbrev p : Pair
+  p = b.pair
+
+  abbrev u : Slot
+  u = can.stands.stands.slot
+
+  pub has_slot : HasSlot t index id
+  has_slot =
+      let e = ap (λ (z : Pair). length z.content.slots) (here t can.ready can.first index can.stands.pair can.stands.rest can.stands.place) in
+      let h = ap length can.stands.stands.held in
+      let k = length-append can.stands.stands.left (u ∷ can.stands.stands.right) in
+      let n = can.stands.stands.number in
+      record { below = below t can.ready can.first index can.stands.pair can.stands.rest can.stands.place; there = omega arith }
+
+  -- the old slot stands in that pair
+  pair_same : b.pair ≡ can.stands.pair
+  pair_same = sym (here t can.ready can.first index b.pair (b.later ++ b.rest) b.place) ∙ here t can.ready can.first index can.stands.pair can.stands.rest can.stands.place
+
+  abbrev s : StandsAt b.pair.content.slots can.name id
+  s = record {
+    left = can.stands.stands.left;
+    slot = can.stands.stands.slot;
+    right = can.stands.stands.right;
+    held = ap (λ (z : Pair). z.content.slots) pair_same ∙ can.stands.stands.held;
+    number = can.stands.stands.number;
+    entry = can.stands.stands.entry;
+    named = can.stands.stands.named;
+  }
+
+  abbrev w : Site
+  w = site t.disk t.pairs can.path can.at can.ready.accepted can.leads can.first index p (b.later ++ b.rest) b.place can.begins
+
+  there : t.pairs ≡ thread_at w (p ∷ [])
+  there = thread_is t.disk t.pairs can.path can.at can.ready.accepted can.leads can.first index p (b.later ++ b.rest) b.place can.begins
+
+  leads_there : Leads (thread_at w (p ∷ [])) can.path can.at
+  leads_there = subst (λ z. Leads z can.path can.at) there can.leads
+
+  same_there : same_pair (begin_of w (p ∷ [])) can.at ≡ true
+  same_there = same t.disk t.pairs can.path can.at can.ready.accepted can.leads can.first index p (b.later ++ b.rest) b.place can.begins
+
+  place_there : IsPlace (entries_in (thread_at w (p ∷ [])) can.at) (place_at w b.left) name
+  place_there = subst (λ z. IsPlace (entries_in z can.at) (place_at w b.left) name) there
+      (place_of_belongs t.disk t.pairs can.path can.at can.ready.accepted can.leads can.first index place name (no_move_from t.pairs can.ready.settled) b can.begins)
+
+  fits_here : FitsPair t.disk.block_size t.disk.page p.content
+  fits_here = fits_there t can.ready can.first index p (b.later ++ b.rest) b.place
+
+  abbrev c : CompletesTo (raw_at t.disk (pair_in t index).at) p.content
+  c = raw_there t can.ready can.first index p (b.later ++ b.rest) b.place
+
+  -- ---- the slots that are left are cut in two
+
+  abbrev IsLeftOver : List Slot → List Slot → Type 0
+  IsLeftOver x y = (s.left ++ s.right ≡ x ++ y) × (length x ≡ place_without id place)
+
+  module _ (x y : List Slot) (over : IsLeftOver x y) where
+    left_over : Leaves c.raw (Delete id ∷ []) (x ++ y)
+    left_over = subst (Leaves c.raw (Delete id ∷ [])) over.0
+        (leaves_without c.raw s.left u s.right id (let few = fits_here.count in let i = made.within t index id can.ready can.first p (b.later ++ b.rest) b.place can.logged can.name s in omega arith) s.number
+        (made.all_slots t index id can.ready can.first p (b.later ++ b.rest) b.place can.logged can.name s ∙ ap Some s.held))
+
+    fits_over : FitsPair t.disk.block_size t.disk.page (record p.content { slots = x ++ y })
+    fits_over = subst (λ z. FitsPair t.disk.block_size t.disk.page (record p.content { slots = z })) over.0 (fits_without t.disk.block_size t.disk.page p.content s.left u s.right s.held fits_here)
+
+    can_put_over : CanPut t index (rename_changes t index id place name)
+    can_put_over = made.can_put t index id can.ready can.first p (b.later ++ b.rest) b.place can.logged can.name s (Delete id ∷ []) x y left_over fits_over (place_without id place) over.1 name rename.is_name rename.fits
+
+  entry_again : IsEntry u → IsEntry (with_name u name)
+  entry_again e = record { name = rename.is_name; struct = e.struct }
+
+  -- ---- behind the old slot
+
+  module _ (d : ComesBehind s.left u s.right b.left b.right) where
+    abbrev x : List Slot
+    x = s.left ++ d.passed
+
+    over_behind : IsLeftOver (s.left ++ d.passed) b.right
+    over_behind = (
+      ap (λ z. s.left ++ z) d.back ∙ sym (append_assoc s.left d.passed b.right),
+      (let n = s.number in
+          let m = b.number in
+          let e = ap length d.front in
+          let f = length-append s.left (u ∷ d.passed) in
+          let g = length-append s.left d.passed in
+          let q = place_behind_is id place (omega arith) in
+          omega arith),
+    )
+
+    moving_behind : IsMoving t index (rename_changes t index id place name) can.path can.name name []
+    moving_behind = record {
+      w = w;
+      p = p;
+      l = s.left;
+      olds = u ∷ d.passed;
+      news = d.passed ++ with_name u name ∷ [];
+      r = b.right;
+      u = u;
+      moved = with_name u name;
+      placed = record {
+        ready = can.ready;
+        there = there;
+        place = number_is t.disk t.pairs can.path can.at can.ready.accepted can.leads can.first index p (b.later ++ b.rest) b.place can.begins;
+        site = is_site t.disk t.pairs can.path can.at can.ready.accepted can.leads can.first index p (b.later ++ b.rest) b.place can.begins;
+        content = record { slots = (s.left ++ d.passed) ++ with_name u name ∷ b.right; tail = p.content.tail; move = p.content.move };
+        made = made.made t index id can.ready can.first p (b.later ++ b.rest) b.place can.logged can.name s (Delete id ∷ []) x b.right (left_over x b.right over_behind) (fits_over x b.right over_behind)
+            (place_without id place) over_behind.1 name rename.is_name rename.fits;
+        tail = refl;
+        was = s.held ∙ ap (λ z. s.left ++ u ∷ z) d.back;
+        now = append_assoc s.left d.passed (with_name u name ∷ b.right) ∙ ap (λ z. s.left ++ z) (sym (append_assoc d.passed (with_name u name ∷ []) b.right));
+        front = s.entry;
+        carries = subst (λ z. Carries (u ∷ z) (d.passed ++ with_name u name ∷ []) [] u (with_name u name)) (append-nil d.passed) (carries_behind u name d.passed []);
+        entry = entry_again;
+        struct = refl;
+        other = s.entry;
+        fits = rename.fits;
+      };
+      move = refl;
+      filled = λ e. some_filled (s.left ++ d.passed) b.right (with_name u name)
+          (append_assoc s.left d.passed (with_name u name ∷ b.right) ∙ ap (λ z. s.left ++ z) (sym (append_assoc d.passed (with_name u name ∷ []) b.right)) ∙ e);
+      follows = λ disk q more k. subst (λ (n : Name). Follows t.disk (thread_at w (p ∷ [])) disk (thread_at w (q ∷ more)) (renamed (can.path ++ n ∷ []) (can.path ++ name ∷ [])) (rename_walk (can.path ++ n ∷ []) (can.path ++ name ∷ []))) s.named
+          (behind_follows t.disk disk w p q more s.left u d.passed b.right name k s.entry can.path can.at leads_there same_there place_now);
+      completed = λ disk q more k z given to_given tree given_is to_is.
+          renamed_behind_completed t.disk disk w p q more s.left u d.passed b.right name k s.entry can.path can.at leads_there same_there place_now z given to_given tree
+          (given_is ∙ ap (λ n. can.path ++ n ∷ []) (sym s.named)) to_is;
+    }
+      where
+        place_now : IsPlace (entries_in (thread_at w (p ∷ [])) can.at) (place_at w (s.left ++ u ∷ d.passed)) name
+        place_now = subst (λ z. IsPlace (entries_in (thread_at w (p ∷ [])) can.at) (place_at w z) name) d.front place_there
+
+  -- ---- in front of it
+
+  module _ (d : ComesAhead s.left u s.right b.left b.right) where
+    over_ahead : IsLeftOver b.left (d.passed ++ s.right)
+    over_ahead = (
+      ap (λ z. z ++ s.right) d.front ∙ append_assoc b.left d.passed s.right,
+      (let n = s.number in
+          let m = b.number in
+          let e = ap length d.front in
+          let f = length-append b.left d.passed in
+          let q = place_ahead_is id place (omega arith) in
+          omega arith),
+    )
+
+    moving_ahead : IsMoving t index (rename_changes t index id place name) can.path can.name name []
+    moving_ahead = record {
+      w = w;
+      p = p;
+      l = b.left;
+      olds = d.passed ++ u ∷ [];
+      news = with_name u name ∷ d.passed;
+      r = s.right;
+      u = u;
+      moved = with_name u name;
+      placed = record {
+        ready = can.ready;
+        there = there;
+        place = number_is t.disk t.pairs can.path can.at can.ready.accepted can.leads can.first index p (b.later ++ b.rest) b.place can.begins;
+        site = is_site t.disk t.pairs can.path can.at can.ready.accepted can.leads can.first index p (b.later ++ b.rest) b.place can.begins;
+        content = record { slots = b.left ++ with_name u name ∷ (d.passed ++ s.right); tail = p.content.tail; move = p.content.move };
+        made = made.made t index id can.ready can.first p (b.later ++ b.rest) b.place can.logged can.name s (Delete id ∷ []) b.left (d.passed ++ s.right) (left_over b.left (d.passed ++ s.right) over_ahead)
+            (fits_over b.left (d.passed ++ s.right) over_ahead) (place_without id place) over_ahead.1 name rename.is_name rename.fits;
+        tail = refl;
+        was = b.held ∙ ap (λ z. b.left ++ z) (d.back ∙ sym (append_assoc d.passed (u ∷ []) s.right));
+        now = refl;
+        front = ap starts_with_superblock (append_assoc d.passed (u ∷ []) s.right ∙ sym d.back) ∙ b.fronted;
+        carries = carries_ahead u name [] d.passed;
+        entry = entry_again;
+        struct = refl;
+        other = s.entry;
+        fits = rename.fits;
+      };
+      move = refl;
+      filled = some_filled b.left (d.passed ++ s.right) (with_name u name);
+      follows = λ disk q more k. subst (λ (n : Name). Follows t.disk (thread_at w (p ∷ [])) disk (thread_at w (q ∷ more)) (renamed (can.path ++ n ∷ []) (can.path ++ name ∷ [])) (rename_walk (can.path ++ n ∷ []) (can.path ++ name ∷ []))) s.named
+          (ahead_follows t.disk disk w p q more b.left u d.passed s.right name k s.entry can.path can.at leads_there same_there place_there);
+      completed = λ disk q more k z given to_given tree given_is to_is.
+          renamed_ahead_completed t.disk disk w p q more b.left u d.passed s.right name k s.entry can.path can.at leads_there same_there place_there z given to_given tree
+          (given_is ∙ ap (λ n. can.path ++ n ∷ []) (sym s.named)) to_is;
+    }
+
+  -- ---- either
+
+  two : ComesBehind s.left u s.right b.left b.right ⊎ ComesAhead s.left u s.right b.left b.right
+  two = behind_or_ahead s.left u s.right b.left b.right (sym s.held ∙ b.held)
+
+  pub can_put_renamed : CanPut t index (rename_changes t index id place name)
+  can_put_renamed = go two
+    where
+      go : ComesBehind s.left u s.right b.left b.right ⊎ ComesAhead s.left u s.right b.left b.right → CanPut t index (rename_changes t index id place name)
+      go (inl d) = can_put_over (s.left ++ d.passed) b.right (over_behind d)
+      go (inr d) = can_put_over b.left (d.passed ++ s.right) (over_ahead d)
+
+  moving : IsMoving t index (rename_changes t index id place name) can.path can.name name []
+  moving = go two
+    where
+      go : ComesBehind s.left u s.right b.left b.right ⊎ ComesAhead s.left u s.right b.left b.right → IsMoving t index (rename_changes t index id place name) can.path can.name name []
+      go (inl d) = moving_behind d
+      go (inr d) = moving_ahead d
+
+  pub renamed_within : (new : Kept) → IsPut t index (rename_changes t index id place name) new → IsRenamed t new rename.can.path rename.can.name name
+  renamed_within new is = record {
+    now = ready_again t new (with_renamed t can.path can.name name) (moved_becomes t index (rename_changes t index id place name) can.path can.name name [] moving new is);
+    completed = moved_completed t index (rename_changes t index id place name) can.path can.name name [] moving new is;
+  }
+
+  pub rename_survives : (new : List Event) → StopsLeave t.history new (IsLeftByPut t index (rename_changes t index id place name))
+      → Survives t.disk t.history new (tree_in t.disk t.pairs) (with_renamed t rename.can.path rename.can.name name)
+  rename_survives new stops = moved_survives t index (rename_changes t index id place name) can.path can.name name [] moving new stops

@@ -1,0 +1,171 @@
+-- Where the pair of an empty directory stands in the thread, from the entry that names it.
+use Rattle.std.proofs.Common.{ℕ, zero, suc, ◌≡◌, ◌+◌, ◌<◌, true, false, cond, slice_get, get_or, List, [], ◌∷◌, ◌++◌, length, Option, Some, None, refl, sym, ap, subst, ◌∙◌, arith, append_assoc, append-nil, length-append}
+use Rattle.std.specs.Option.{option_and_then}
+use Rattle.std.specs.Prelude.{is_some}
+use Rattle.std.proofs.lemmas.Option.{same_Some}
+use Rattle.lfs_model.specs.Disk.{Disk}
+use Rattle.lfs_model.specs.Layout.{begin_from, onward}
+use Rattle.lfs_model.specs.Slots.{Branch, Slot, same_pair}
+use Rattle.lfs_model.specs.Thread.{Pair, directory_pairs, first_at, gstate_of, is_hard, root_of}
+use Rattle.lfs_model.specs.Tree.{Path, branch_of, directory_at, directory_from, root_slot}
+use Rattle.lfs_model.specs.View.{IsAccepted, Leads, entries_in}
+use Rattle.lfs_model.proofs.Found.{HasDirectory, led_directory}
+use Rattle.lfs_model.proofs.Global.{HasNoMove}
+use Rattle.lfs_model.proofs.Indexes.{site_shows}
+use Rattle.lfs_model.proofs.Layouts.{onward_all, onward_some}
+use Rattle.lfs_model.proofs.Listings.{Ends, IsRun}
+use Rattle.lfs_model.proofs.Names.{found_at}
+use Rattle.lfs_model.proofs.Pairs.{pair_back, pair_on}
+use Rattle.lfs_model.proofs.Paths.{append_step}
+use Rattle.lfs_model.proofs.Searches.{same_number}
+use Rattle.lfs_model.proofs.Sites.{Site, dirs_at}
+use Rattle.lfs_model.proofs.Superblocks.{IsChain, pairs_behind}
+use Rattle.lfs_model.proofs.Uses.{accepted_sound}
+use Rattle.lfs_model.proofs.Walks.{leads_below}
+use Rattle.lfs_model.proofs.Writable.{flag}
+use Rattle.lfs_operations.proofs.RemovedWhole.{last_pair}
+
+-- ---- lists
+
+pub get_some : (xs : List Pair) (n : ℕ) (d : Pair) → n < length xs → slice_get xs n ≡ Some (get_or xs n d)
+get_some [] n d l = absurd (omega arith)
+get_some (x ∷ xs) zero d l = refl
+get_some (x ∷ xs) (suc n) d l = get_some xs n d (omega arith)
+
+get_behind : (xs : List Pair) (p : Pair) (ys : List Pair) → slice_get (xs ++ p ∷ ys) (length xs) ≡ Some p
+get_behind [] p ys = refl
+get_behind (x ∷ xs) p ys = get_behind xs p ys
+
+-- Where the pair p stands, beside two others of the same list that stand one behind the other.
+pub data WhereIs (xs : List Pair) (p : Pair) (ys front : List Pair) (x o : Pair) (back : List Pair) : Type 0 where
+  Ahead : (mid : List Pair) → ys ≡ mid ++ x ∷ o ∷ back → front ≡ xs ++ p ∷ mid → WhereIs xs p ys front x o back
+  Next : xs ≡ front → x ≡ p → ys ≡ o ∷ back → WhereIs xs p ys front x o back
+  Itself : p ≡ o → WhereIs xs p ys front x o back
+  Behind : (mid : List Pair) → xs ≡ front ++ x ∷ o ∷ mid → WhereIs xs p ys front x o back
+
+pub where_is : (xs : List Pair) (p : Pair) (ys front : List Pair) (x o : Pair) (back : List Pair) → xs ++ p ∷ ys ≡ front ++ x ∷ o ∷ back → WhereIs xs p ys front x o back
+where_is [] p ys [] x o back e = Next refl (let h : x ≡ p = cc in h) (let h : ys ≡ o ∷ back = cc in h)
+where_is [] p ys (f ∷ front) x o back e = Ahead front (let h : ys ≡ front ++ x ∷ o ∷ back = cc in h) (let h : f ≡ p = cc in ap (λ z. z ∷ front) h)
+where_is (a ∷ []) p ys [] x o back e = Itself (let h : p ≡ o = cc in h)
+where_is (a ∷ b ∷ xs) p ys [] x o back e =
+    let h : a ≡ x = cc in
+    let k : b ≡ o = cc in
+    Behind xs (ap (λ z. z ∷ b ∷ xs) h ∙ ap (λ z. x ∷ z ∷ xs) k)
+where_is (a ∷ xs) p ys (f ∷ front) x o back e =
+    let h : a ≡ f = cc in
+    let k : xs ++ p ∷ ys ≡ front ++ x ∷ o ∷ back = cc in
+    go (where_is xs p ys front x o back k) h
+  where
+    go : WhereIs xs p ys front x o back → a ≡ f → WhereIs (a ∷ xs) p ys (f ∷ front) x o back
+    go (Ahead mid e k) h = Ahead mid e (ap (λ z. f ∷ z) k ∙ ap (λ z. z ∷ (xs ++ p ∷ mid)) (sym h))
+    go (Next e i k) h = Next (ap (λ z. a ∷ z) e ∙ ap (λ z. z ∷ front) h) i k
+    go (Itself e) h = Itself e
+    go (Behind mid e) h = Behind mid (ap (λ z. a ∷ z) e ∙ ap (λ z. z ∷ (front ++ x ∷ o ∷ mid)) h)
+
+-- ---- hard tails
+
+pub soft_end : (from : Option (ℕ × ℕ)) (xs : List Pair) (x : Pair) → is_hard x.content.tail ≡ false → onward_all from (xs ++ x ∷ []) ≡ None
+soft_end from [] x e = ap (λ b. cond b (Some (begin_from from x)) None) e
+soft_end from (z ∷ xs) x e = soft_end (onward from z) xs x e
+
+pub flag_from : (from : Option (ℕ × ℕ)) (xs : List Pair) → is_some (onward_all from xs) ≡ flag (is_some from) xs
+flag_from from [] = refl
+flag_from from (x ∷ xs) = flag_from (onward from x) xs ∙ ap (λ b. flag b xs) (onward_some from x)
+
+ends_last : (xs : List Pair) (x : Pair) → Ends (xs ++ x ∷ []) → is_hard x.content.tail ≡ false
+ends_last [] x h = h
+ends_last (y ∷ []) x h = h
+ends_last (y ∷ z ∷ xs) x h = ends_last (z ∷ xs) x h
+
+alone_run : (p : Pair) (run : List Pair) → IsRun (p ∷ run) → is_hard p.content.tail ≡ false → run ≡ []
+alone_run p [] h e = refl
+alone_run p (q ∷ run) h e = absurd (let k = sym h.0 ∙ e in cc)
+
+-- ---- the directory that an entry names
+
+pub directory_led : (disk : Disk) (ps : List Pair) (P : Path) (a : ℕ × ℕ) (k : ℕ) (u : Slot) (d : ℕ × ℕ) → IsAccepted disk ps → Leads ps P a → slice_get (entries_in ps a) k ≡ Some u → u.struct ≡ Branch d
+    → Leads ps (P ++ u.name ∷ []) d
+directory_led disk ps P a k u d ok leads there branch =
+    let E = entries_in ps in
+    ap (directory_at (entries_in ps) (root_of ps)) (sym (append-nil (P ++ u.name ∷ [])) ∙ append_step P u.name [])
+    ∙ leads_below (entries_in ps) (root_slot (root_of ps)) P a leads u.name []
+    ∙ ap (option_and_then (λ z. directory_from (entries_in ps) z [])) (found_at (entries_in ps a) k u ((accepted_sound disk ps ok).tree.order P a leads) there)
+    ∙ ap branch_of branch
+
+path_some : (P : Path) (n : List ℕ) → [] ≡ P ++ n ∷ [] → ⊥
+path_some [] n e = absurd (cc)
+path_some (x ∷ P) n e = absurd (cc)
+
+-- Among the pairs of all directories, o is the only one of the directory at d, and a soft tail leads to it.
+pub record HasFront (dirs : List Pair) (d : ℕ × ℕ) : Type 0 where
+  pub front : List Pair
+  pub before : Pair
+  pub first : Pair
+  pub run : List Pair
+  pub after : List Pair
+  pub is : dirs ≡ front ++ before ∷ first ∷ (run ++ after)
+  pub soft : is_hard before.content.tail ≡ false
+  pub ends : Ends (front ++ before ∷ [])
+  pub is_run : IsRun (first ∷ run)
+  pub at : same_pair first.at d ≡ true
+
+pub has_front : (disk : Disk) (chain dirs : List Pair) (P : Path) (n : List ℕ) (d : ℕ × ℕ) → IsAccepted disk (chain ++ dirs) → IsChain chain dirs → Leads (chain ++ dirs) (P ++ n ∷ []) d → HasFront dirs d
+has_front disk chain dirs P n d ok is_chain led = by h.before refl
+  where
+    h : HasDirectory (directory_pairs (chain ++ dirs)) d
+    h = led_directory disk (chain ++ dirs) (P ++ n ∷ []) d ok led
+
+    dirs_are : dirs ≡ h.before ++ (h.first ∷ h.run ++ h.after)
+    dirs_are = sym (pairs_behind chain dirs is_chain) ∙ h.is
+
+    -- the root isn't named by an entry
+    not_root : h.before ≡ [] → ⊥
+    not_root e =
+        let root : root_of (chain ++ dirs) ≡ h.first.at = ap first_at (h.is ∙ ap (λ z. z ++ (h.first ∷ h.run ++ h.after)) e) in
+        path_some P n (ok.once [] (P ++ n ∷ []) (root_of (chain ++ dirs)) d refl led (subst (λ z. same_pair z d ≡ true) (sym root) h.at))
+
+    by : (before : List Pair) → h.before ≡ before → HasFront dirs d
+    by [] e = absurd (not_root e)
+    by (b ∷ bs) e =
+        let l = last_pair (b ∷ bs) (λ k. absurd (cc)) in
+        let whole : h.before ≡ l.front ++ l.last ∷ [] = e ∙ l.is in
+        record {
+          front = l.front;
+          before = l.last;
+          first = h.first;
+          run = h.run;
+          after = h.after;
+          is = dirs_are ∙ ap (λ z. z ++ (h.first ∷ h.run ++ h.after)) whole ∙ append_assoc l.front (l.last ∷ []) (h.first ∷ (h.run ++ h.after));
+          soft = ends_last l.front l.last (subst Ends whole h.ends);
+          ends = subst Ends whole h.ends;
+          is_run = h.is_run;
+          at = h.at;
+        }
+
+-- with no slots it shows nothing
+pub shows_nothing : (disk : Disk) (chain dirs : List Pair) (d : ℕ × ℕ) → IsAccepted disk (chain ++ dirs) → IsChain chain dirs → HasNoMove (gstate_of (chain ++ dirs)) → (h : HasFront dirs d) → is_hard h.first.content.tail ≡ false
+    → h.first.content.slots ≡ [] → entries_in (chain ++ dirs) d ≡ []
+shows_nothing disk chain dirs d ok is_chain none h soft empty =
+    let v : Site = record { chain = chain; before = h.front ++ h.before ∷ []; left = []; right = []; after = h.after } in
+    let alone = alone_run h.first h.run h.is_run soft in
+    let whole : dirs ≡ dirs_at (record { chain = chain; before = h.front ++ h.before ∷ []; left = []; right = []; after = h.after }) (h.first ∷ [])
+    = h.is ∙ ap (λ z. h.front ++ h.before ∷ h.first ∷ (z ++ h.after)) alone ∙ sym (append_assoc h.front (h.before ∷ []) (h.first ∷ h.after))
+    ∙ ap (λ z. z ++ h.first ∷ h.after) (sym (append-nil (h.front ++ h.before ∷ []))) in
+    ap (λ z. entries_in (chain ++ z) d) whole
+    ∙ site_shows disk v h.first [] [] [] d (subst (λ z. IsAccepted disk (chain ++ z)) whole ok)
+    (record { chain = subst (IsChain chain) whole is_chain; ends = h.ends; run = soft })
+    (subst (λ z. HasNoMove (gstate_of (chain ++ z))) whole none) h.at empty
+
+-- its number
+pub number_of_first : (disk : Disk) (chain dirs : List Pair) (d : ℕ × ℕ) (ok : IsAccepted disk (chain ++ dirs)) (h : HasFront dirs d) (n : ℕ) (o : Pair) → slice_get (chain ++ dirs) n ≡ Some o → same_pair o.at d ≡ true
+    → (n ≡ length (chain ++ h.front) + 1) × (h.first ≡ o)
+number_of_first disk chain dirs d ok h n o there at =
+    let ahead = chain ++ (h.front ++ h.before ∷ []) in
+    let whole : chain ++ dirs ≡ (chain ++ (h.front ++ h.before ∷ [])) ++ h.first ∷ (h.run ++ h.after)
+    = ap (λ z. chain ++ z) (h.is ∙ sym (append_assoc h.front (h.before ∷ []) (h.first ∷ (h.run ++ h.after)))) ∙ sym (append_assoc chain (h.front ++ h.before ∷ []) (h.first ∷ (h.run ++ h.after))) in
+    let first_there = ap (λ z. slice_get z (length ahead)) whole ∙ get_behind (chain ++ (h.front ++ h.before ∷ [])) h.first (h.run ++ h.after) in
+    let e : n ≡ length (chain ++ (h.front ++ h.before ∷ [])) = same_number (chain ++ dirs) n (length ahead) o h.first ok.thread.distinct there first_there (pair_on o.at d h.first.at at (pair_back h.first.at d h.at)) in
+    let a = length-append chain (h.front ++ h.before ∷ []) in
+    let b = length-append h.front (h.before ∷ []) in
+    let c = length-append chain h.front in
+    (omega arith, same_Some h.first o (sym first_there ∙ ap (slice_get (chain ++ dirs)) (sym e) ∙ there))

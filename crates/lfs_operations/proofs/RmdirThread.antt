@@ -1,0 +1,455 @@
+-- An empty directory that goes in two steps of the thread.
+use Rattle.std.proofs.Common.{ℕ, ◌≡◌, ◌≢◌, ◌⊎◌, inl, inr, ◌+◌, ◌-◌, ◌<◌, ◌≤◌, true, false, nat_eq, slice_get, set, List, [], ◌∷◌, ◌++◌, length, Some, None, refl, sym, ap, ap₂, subst, ◌∙◌, arith, append_assoc, append-nil, length-append}
+use Rattle.std.specs.List.{IsDistinct}
+use Rattle.std.proofs.lemmas.List.Elements.{recursion_from_All}
+use Rattle.lfs_model.specs.Apply.{removed, planted}
+use Rattle.lfs_model.specs.Blocks.{Blocks}
+use Rattle.lfs_model.specs.BlockSets.{AreUsed}
+use Rattle.lfs_model.specs.Content.{content_at, holder_at}
+use Rattle.lfs_model.specs.Disk.{Disk}
+use Rattle.lfs_model.specs.InDirectory.{BeginsAt}
+use Rattle.lfs_model.specs.Operations as ops
+use Rattle.lfs_model.specs.PowerLoss.{IsLeft as IsLeftOf, with_blocks}
+use Rattle.lfs_model.specs.SlotEdits.{with_slots}
+use Rattle.lfs_model.specs.Slots.{Content, FitsPair, Gstate, Slot, gstate_xor, no_gstate, same_pair}
+use Rattle.lfs_model.specs.Thread.{Pair, blocks_of, gstate_of, is_hard, starts_with_superblock}
+use Rattle.lfs_model.specs.View.{BeginsWith, IsAccepted, IsWritable, Leads, entries_in, superblock_entry, tree_in, used_blocks}
+use Rattle.lfs_model.proofs.Became.{fits_same}
+use Rattle.lfs_model.proofs.Committed.{IsCompleted, no_move_from}
+use Rattle.lfs_model.proofs.Counts.{Each, count, each_right, once_from_distinct}
+use Rattle.lfs_model.proofs.Global.{HasNoMove, gstate_comm, gstate_cons, gstate_moved, gstate_right, sync_share}
+use Rattle.lfs_model.proofs.Indexes.{site_shows}
+use Rattle.lfs_model.proofs.Moves.{IsStep, directory_goes, entry_only, get_here, place_at, shown_before, shown_behind}
+use Rattle.lfs_model.proofs.RmdirSteps.{IsGone, step_chain}
+use Rattle.lfs_model.proofs.Searches.{is_site, number_is, same, site, thread_is}
+use Rattle.lfs_model.proofs.Sites.{IsSite, Site, begin_of, dirs_at, run_changed, thread_at}
+use Rattle.lfs_model.proofs.Splices.{IsDevice, files_of, stays_shape}
+use Rattle.lfs_model.proofs.StepsTaken.{IsTaken, commit_taken}
+use Rattle.lfs_model.proofs.Unchanged.{HasFirst}
+use Rattle.lfs_model.proofs.Writable.{flag}
+use Rattle.lfs_pair.specs.Commit.{OutsideKeeps}
+use Rattle.lfs_thread.specs.Device.{two_of}
+use Rattle.lfs_thread.specs.Kept.{Kept}
+use Rattle.lfs_thread.specs.Steps.{IsWrittenAs, SlotsHaveFirst, no_pair, pair_in, without_pair}
+use Rattle.lfs_operations.specs.Dropping.{CanDropAt, HasDroppedBehind, IsLeftByDrop, SameInFlight, taken_over, with_tail_taken}
+use Rattle.lfs_operations.specs.Editing.{CanEdit}
+use Rattle.lfs_operations.specs.Removing.{goes_whole, without_file}
+use Rattle.lfs_operations.specs.Unlinking.{CanRemoveDirectory, IsDirectoryRemoved, IsLeftByUnlink, IsUnlinked, without_entry}
+use Rattle.lfs_operations.proofs.Dropped.{device_dropped, device_kept, dropped_count, flying_same, length_fewer, profile_same, used_fewer}
+use Rattle.lfs_operations.proofs.DroppedTails.{front_is, gone_is, gstate_is, no_move_state, without_is}
+use Rattle.lfs_operations.proofs.Placing.{IsPlaced, all_apart, device, nothing_came}
+use Rattle.lfs_operations.proofs.Removed.{alone, flag_ends, stays_there}
+use Rattle.lfs_operations.proofs.Rmdir.{HasPlace, Unlinks, over_soft, place_of, unlinked_count}
+use Rattle.lfs_operations.proofs.RmdirPlaces.{HasFront, directory_led, flag_from, get_some, has_front, number_of_first, shows_nothing}
+use Rattle.lfs_operations.proofs.Unlinked.{fits_gone, held_there, pair_there, slots_gone}
+
+get_at : (xs : List Pair) (p : Pair) (zs : List Pair) (n : ℕ) (q : Pair) → length xs ≡ n → set (xs ++ p ∷ zs) n q ≡ xs ++ q ∷ zs
+get_at [] p zs n q e = ap (λ (k : ℕ). set (p ∷ zs) k q) (sym e)
+get_at (x ∷ xs) p zs n q e = ap (λ (k : ℕ). set (x ∷ (xs ++ p ∷ zs)) k q) (sym e) ∙ ap (λ z. x ∷ z) (get_at xs p zs (length xs) q refl)
+
+module _ (t : Kept) (index id first gone : ℕ) (take : CanRemoveDirectory t index id first gone) (goes : goes_whole t index first ≡ false) where
+  abbrev can : CanEdit t index id
+  can = take.can
+
+  abbrev p : Pair
+  p = can.stands.pair
+
+  abbrev l : List Slot
+  l = can.stands.stands.left
+
+  abbrev r : List Slot
+  r = can.stands.stands.right
+
+  abbrev u : Slot
+  u = can.stands.stands.slot
+
+  abbrev o : Pair
+  o = pair_in t gone
+
+  abbrev w : Site
+  w = site t.disk t.pairs can.path can.at can.ready.accepted can.leads can.first index p can.stands.rest can.stands.place can.begins
+
+  there : t.pairs ≡ thread_at w (p ∷ [])
+  there = thread_is t.disk t.pairs can.path can.at can.ready.accepted can.leads can.first index p can.stands.rest can.stands.place can.begins
+
+  site_is : IsSite w (p ∷ [])
+  site_is = is_site t.disk t.pairs can.path can.at can.ready.accepted can.leads can.first index p can.stands.rest can.stands.place can.begins
+
+  number_there : index ≡ length w.chain + length (w.before ++ w.left)
+  number_there = number_is t.disk t.pairs can.path can.at can.ready.accepted can.leads can.first index p can.stands.rest can.stands.place can.begins
+
+  same_begin : same_pair (begin_of w (p ∷ [])) can.at ≡ true
+  same_begin = same t.disk t.pairs can.path can.at can.ready.accepted can.leads can.first index p can.stands.rest can.stands.place can.begins
+
+  accepted : IsAccepted t.disk (thread_at w (p ∷ []))
+  accepted = subst (IsAccepted t.disk) there can.ready.accepted
+
+  writable : IsWritable t.disk (thread_at w (p ∷ []))
+  writable = subst (IsWritable t.disk) there can.ready.writable
+
+  settled : gstate_of (thread_at w (p ∷ [])) ≡ no_gstate
+  settled = ap gstate_of (sym there) ∙ can.ready.settled
+
+  leads : Leads (thread_at w (p ∷ [])) can.path can.at
+  leads = subst (λ z. Leads z can.path can.at) there can.leads
+
+  held : p.content.slots ≡ l ++ u ∷ r
+  held = can.stands.stands.held
+
+  -- ---- the pair that goes
+
+  entry_there : slice_get (entries_in (thread_at w (p ∷ [])) can.at) (place_at w l) ≡ Some u
+  entry_there = ap (λ s. slice_get s (place_at w l)) (site_shows t.disk w p l (u ∷ []) r can.at accepted site_is (no_move_from (thread_at w (p ∷ [])) settled) same_begin held
+      ∙ ap (λ s. shown_before w l ++ (s ++ shown_behind w r)) (entry_only u can.stands.stands.entry)) ∙ get_here (shown_before w l) (shown_behind w r) u
+
+  led : Leads (thread_at w (p ∷ [])) (can.path ++ u.name ∷ []) take.to
+  led = directory_led t.disk (thread_at w (p ∷ [])) can.path can.at (place_at w l) u take.to accepted leads entry_there take.branch
+
+  front : HasFront (dirs_at w (p ∷ [])) take.to
+  front = has_front t.disk w.chain (dirs_at w (p ∷ [])) can.path u.name take.to accepted site_is.chain led
+
+  first_is : (gone ≡ length (w.chain ++ front.front) + 1) × (front.first ≡ o)
+  first_is = number_of_first t.disk w.chain (dirs_at w (p ∷ [])) take.to accepted front gone o
+      (subst (λ z. slice_get z gone ≡ Some o) there (get_some t.pairs gone no_pair take.below)) take.at
+
+  alone_first : is_hard front.first.content.tail ≡ false
+  alone_first = ap (λ (z : Pair). is_hard z.content.tail) first_is.1 ∙ take.alone
+
+  empty : entries_in (thread_at w (p ∷ [])) take.to ≡ []
+  empty = shows_nothing t.disk w.chain (dirs_at w (p ∷ [])) take.to accepted site_is.chain (no_move_from (thread_at w (p ∷ [])) settled) front alone_first
+      (ap (λ (z : Pair). z.content.slots) first_is.1 ∙ take.empty)
+
+  dirs_are : dirs_at w (p ∷ []) ≡ front.front ++ front.before ∷ o ∷ (front.run ++ front.after)
+  dirs_are = front.is ∙ ap (λ z. front.front ++ front.before ∷ z ∷ (front.run ++ front.after)) first_is.1
+
+  -- the pair of the entry stays filled where a hard tail leads to it
+  filled : flag false (w.before ++ w.left) ≡ true → l ++ ([] ++ r) ≢ []
+  filled hard none = go (stays_there t index id first take.can take.begins goes)
+    where
+      go : (index ≡ can.first) ⊎ (1 < length (pair_in t index).content.slots) → ⊥
+      go (inl e) =
+          let none_before = alone w.chain w.before w.left (w.right ++ w.after) p can.at can.first (subst (λ z. IsDistinct nat_eq (blocks_of z)) there can.ready.accepted.thread.distinct) same_begin
+          (subst (λ z. BeginsAt z can.at can.first) there can.begins) (sym e ∙ number_there) in
+          let soft = ap (λ z. flag false (w.before ++ z)) none_before ∙ ap (flag false) (append-nil w.before) ∙ flag_ends w.before site_is.ends in
+          absurd (let z = sym hard ∙ soft in cc)
+      go (inr many) =
+          let e = ap length (held_there t index id can) in
+          let i = length-append l (u ∷ r) in
+          let j = ap length none in
+          let k = length-append l r in
+          absurd (omega arith)
+
+  -- ---- the first step
+
+  abbrev c : Content
+  c = without_entry t index id
+
+  abbrev q : Pair
+  q = record { at = p.at; content = c }
+
+  at_is : (pair_in t index).at ≡ p.at
+  at_is = ap (λ (z : Pair). z.at) (pair_there t index id can)
+
+  kept : q.content.slots ≡ l ++ r
+  kept = slots_gone t index id can
+
+  tail_same : q.content.tail ≡ p.content.tail
+  tail_same = ap (λ (z : Pair). z.content.tail) (pair_there t index id can)
+
+  abbrev ahead : List Pair
+  ahead = w.chain ++ (w.before ++ w.left)
+
+  abbrev behind : List Pair
+  behind = w.right ++ w.after
+
+  grouped : (z : Pair) → thread_at w (z ∷ []) ≡ ahead ++ z ∷ behind
+  grouped z = sym (append_assoc w.chain (w.before ++ w.left) (z ∷ (w.right ++ w.after)))
+
+  number_ahead : length ahead ≡ index
+  number_ahead = length-append w.chain (w.before ++ w.left) ∙ sym number_there
+
+  gstate_middle : gstate_of (thread_at w (q ∷ [])) ≡ sync_share
+  gstate_middle =
+      let turned : gstate_of (q ∷ []) ≡ gstate_xor sync_share (gstate_of (p ∷ []))
+      = gstate_cons q [] ∙ gstate_right q.content.move ∙ ap (λ (z : Pair). gstate_xor z.content.move sync_share) (pair_there t index id can) ∙ gstate_comm p.content.move sync_share
+      ∙ ap (gstate_xor sync_share) (sym (gstate_cons p [] ∙ gstate_right p.content.move)) in
+      ap gstate_of (grouped q) ∙ gstate_moved sync_share ahead (p ∷ []) (q ∷ []) behind turned ∙ ap (λ z. gstate_xor sync_share (gstate_of z)) (sym (grouped p)) ∙ ap (gstate_xor sync_share) settled ∙ gstate_right sync_share
+
+  no_move_middle : HasNoMove (gstate_of (thread_at w (q ∷ [])))
+  no_move_middle = subst HasNoMove (sym gstate_middle) (record { kind = refl; id = refl; pair = refl })
+
+  -- the superblock stays in slot 0
+  still_has : HasFirst p.content.slots → SlotsHaveFirst q.content.slots
+  still_has h = subst SlotsHaveFirst (sym kept) (go l (λ e. can.stands.stands.entry) (subst SlotsHaveFirst held (h.kind, h.name)))
+    where
+      go : (l : List Slot) → (l ≡ [] → starts_with_superblock (u ∷ r) ≡ false) → SlotsHaveFirst (l ++ u ∷ r) → SlotsHaveFirst (l ++ r)
+      go [] f e = absurd (let z = sym (f refl) ∙ e.0 in cc)
+      go (s ∷ l) f e = e
+
+  placed : (disk : Disk) (d : Content) → (HasFirst p.content.slots → SlotsHaveFirst d.slots) → IsWrittenAs t index d disk → IsPlaced t.disk disk p (record { at = p.at; content = d }) [] []
+  placed disk d first h = record {
+    geometry = record { block_size = h.shape.block_size; page = h.shape.page; count = h.shape.count };
+    same = λ b none. (subst (λ at. OutsideKeeps at t.disk.blocks disk.blocks) at_is h.others).others b (all_apart (p.at.0 ∷ p.at.1 ∷ []) b none);
+    contents = (ap (content_at disk) (sym at_is) ∙ h.holds, tt);
+    first = λ k b. subst (λ at. BeginsWith (holder_at disk at) superblock_entry) at_is (h.first (subst (λ at. BeginsWith (holder_at t.disk at) superblock_entry) (sym at_is) b) (first k));
+  }
+
+  device_of : (disk : Disk) → IsWrittenAs t index c disk → IsDevice t.disk disk (thread_at w (p ∷ [])) (thread_at w (q ∷ []))
+  device_of disk h = device t.disk disk w p q [] [] accepted accepted.owned_once (placed disk c still_has h)
+
+  front_same : starts_with_superblock p.content.slots ≡ true → starts_with_superblock q.content.slots ≡ true
+  front_same e = ap starts_with_superblock kept ∙ go l (λ k. can.stands.stands.entry) (sym (ap starts_with_superblock held) ∙ e)
+    where
+      go : (l : List Slot) → (l ≡ [] → starts_with_superblock (u ∷ r) ≡ false) → starts_with_superblock (l ++ u ∷ r) ≡ true → starts_with_superblock (l ++ r) ≡ true
+      go [] f e = absurd (let z = sym (f refl) ∙ e in cc)
+      go (s ∷ l) f e = e
+
+  step : (disk : Disk) → IsWrittenAs t index c disk → IsStep t.disk disk w p [] q [] [] [] l (u ∷ []) [] r
+  step disk h = record {
+    accepted = accepted;
+    site = site_is;
+    no_move = no_move_from (thread_at w (p ∷ [])) settled;
+    still_none = no_move_middle;
+    device = device_of disk h;
+    free = record { distinct = accepted.owned_once; in_range = λ k d x. absurd (omega arith) };
+    shape = stays_shape p q refl tail_same front_same;
+    was = append-nil p.content.slots ∙ held;
+    is = append-nil q.content.slots ∙ kept;
+    splice = record { front = λ e. can.stands.stands.entry; entries = tt; lists = tt; blocks = λ b. omega arith };
+  }
+
+  first_taken : (disk : Disk) → IsWrittenAs t index c disk → IsTaken t.disk (thread_at w (p ∷ [])) disk (thread_at w (q ∷ [])) (removed (can.path ++ u.name ∷ [])) (planted (can.path ++ u.name ∷ []) (λ t. None))
+  first_taken disk h = commit_taken t.disk w p q [] l (u ∷ []) [] r
+      (record {
+        writable = writable;
+        was = held;
+        is = append-nil q.content.slots ∙ kept;
+        became = (tail_same, fits_same t.disk q (with_slots (l ++ ([] ++ r)) p) (sym kept) (fits_gone t index id can));
+        fit = tt;
+        filled = filled;
+      })
+      disk [] [] (removed (can.path ++ u.name ∷ [])) (planted (can.path ++ u.name ∷ []) (λ t. None)) (step disk h)
+      (directory_goes t.disk disk w p [] q [] [] [] l r u (step disk h) can.stands.stands.entry can.path can.at leads same_begin take.to take.branch empty (ap (λ (g : Gstate). g.sync) gstate_middle))
+
+  unlinks : (disk : Disk) → IsWrittenAs t index c disk → Unlinks t.disk disk w p q l r u can.path can.at take.to
+  unlinks disk h = record {
+    step = step disk h;
+    other = can.stands.stands.entry;
+    old_writable = writable;
+    writable = (first_taken disk h).writable;
+    leads = leads;
+    same = same_begin;
+    branch = take.branch;
+    empty = empty;
+    sync = ap (λ (g : Gstate). g.sync) gstate_middle;
+    settled = settled;
+    held = held;
+    kept = kept;
+    tail = tail_same;
+    some = λ e. filled (sym (flag_from None (w.before ++ w.left)) ∙ e);
+  }
+
+  place : (disk : Disk) → IsWrittenAs t index c disk → HasPlace t.disk disk w p q u can.path o (length front.front)
+  place disk h = place_of t.disk disk w p q l r u can.path can.at take.to (unlinks disk h) o take.at take.alone front.front front.before (front.run ++ front.after) dirs_are front.soft take.empty
+
+  -- ---- between the steps
+
+  module _ (m : Kept) (h : IsUnlinked t index id m) where
+    abbrev k : HasPlace t.disk m.disk w p q u can.path o (length front.front)
+    k = place m.disk h.written
+
+    abbrev first_part : List Pair
+    first_part = w.chain ++ k.front
+
+    pairs_middle : m.pairs ≡ thread_at w (q ∷ [])
+    pairs_middle = h.pairs
+        ∙ ap (λ (z : Pair). set t.pairs index (record { at = z.at; content = c })) (pair_there t index id can)
+        ∙ ap (λ (z : List Pair). set z index q) (there ∙ grouped p) ∙ get_at ahead p behind index q number_ahead ∙ sym (grouped q)
+
+    is_middle : m.pairs ≡ first_part ++ k.x ∷ o ∷ k.back
+    is_middle = pairs_middle ∙ ap (λ z. w.chain ++ z) k.there ∙ sym (append_assoc w.chain k.front (k.x ∷ o ∷ k.back))
+
+    number_middle : length first_part ≡ gone - 1
+    number_middle =
+        let a = length-append w.chain k.front in
+        let b = length-append w.chain front.front in
+        let n = k.number in
+        let f = first_is.0 in
+        omega arith
+
+    accepted_middle : IsAccepted m.disk (thread_at w (q ∷ []))
+    accepted_middle = (first_taken m.disk h.written).follows.accepted
+
+    accepted_parts : IsAccepted m.disk (first_part ++ k.x ∷ o ∷ k.back)
+    accepted_parts = subst (IsAccepted m.disk) (sym pairs_middle ∙ is_middle) accepted_middle
+
+    x_there : pair_in m (gone - 1) ≡ k.x
+    x_there = front_is m (gone - 1) first_part k.x o k.back is_middle number_middle
+
+    o_there : pair_in m (gone - 1 + 1) ≡ o
+    o_there = gone_is m (gone - 1) first_part k.x o k.back is_middle number_middle
+
+    pub can_drop_gone : CanDropAt m gone no_gstate
+    can_drop_gone = record {
+      above = let f = first_is.0 in omega arith;
+      below =
+          let e = ap length is_middle in
+          let a = length-append first_part (k.x ∷ o ∷ k.back) in
+          let n = number_middle in
+          let f = first_is.0 in
+          omega arith;
+      thread = h.thread;
+      fits = subst (λ (z : Pair). FitsPair m.disk.block_size m.disk.page z.content) (sym x_there)
+          (each_right (λ (z : Pair). FitsPair m.disk.block_size m.disk.page z.content) first_part (k.x ∷ o ∷ k.back)
+          (subst (Each (λ (z : Pair). FitsPair m.disk.block_size m.disk.page z.content)) (sym pairs_middle ∙ is_middle)
+          (recursion_from_All (λ (z : Pair). FitsPair m.disk.block_size m.disk.page z.content) (thread_at w (q ∷ [])) (first_taken m.disk h.written).writable.pairs))).0;
+      storable = no_move_state;
+    }
+
+    -- ---- the second step
+
+    abbrev d : Content
+    d = with_tail_taken m (gone - 1) no_gstate
+
+    abbrev y : Pair
+    y = record { at = k.x.at; content = d }
+
+    d_slots : d.slots ≡ k.x.content.slots
+    d_slots = ap (λ (z : Pair). z.content.slots) x_there
+
+    regrouped : w.chain ++ (k.front ++ y ∷ k.back) ≡ first_part ++ y ∷ k.back
+    regrouped = sym (append_assoc w.chain k.front (y ∷ k.back))
+
+    settled_end : gstate_of (w.chain ++ (k.front ++ y ∷ k.back)) ≡ no_gstate
+    settled_end = ap gstate_of regrouped ∙ gstate_is m (gone - 1) first_part k.x o k.back is_middle number_middle no_gstate y refl
+
+    device_end : (disk : Disk) → IsWrittenAs m (gone - 1) d disk → IsDevice m.disk disk (first_part ++ k.x ∷ o ∷ k.back) (first_part ++ y ∷ k.back)
+    device_end disk written = device_dropped m (gone - 1) first_part k.x o k.back is_middle number_middle accepted_parts disk d d_slots written
+
+    is_gone : (disk : Disk) → IsWrittenAs m (gone - 1) d disk → IsGone m.disk disk w.chain k.front k.x o y k.back
+    is_gone disk written = record {
+      device = subst (λ z. IsDevice m.disk disk z (w.chain ++ (k.front ++ y ∷ k.back))) (append_assoc w.chain k.front (k.x ∷ o ∷ k.back))
+          (subst (IsDevice m.disk disk (first_part ++ k.x ∷ o ∷ k.back)) (sym regrouped) (device_end disk written));
+      settled = settled_end;
+      soft = k.soft;
+      at = refl;
+      slots = d_slots;
+      tail = ap₂ (λ (a b : Pair). taken_over a.content.tail b.content.tail) x_there o_there ∙ over_soft k.x.content.tail o.content.tail k.soft;
+    }
+
+    end_taken : (disk : Disk) → IsWrittenAs m (gone - 1) d disk
+        → IsTaken t.disk (thread_at w (p ∷ [])) disk (w.chain ++ (k.front ++ y ∷ k.back)) (removed (can.path ++ u.name ∷ [])) (planted (can.path ++ u.name ∷ []) (λ t. None))
+    end_taken disk written = k.taken disk y (is_gone disk written)
+
+    turned : removed (can.path ++ u.name ∷ []) (tree_in t.disk (thread_at w (p ∷ []))) ≡ without_file t can.path can.name
+    turned = ap₂ (λ n z. removed (can.path ++ n ∷ []) (tree_in t.disk z)) can.stands.stands.named (sym there)
+
+    module _ (new : Kept) (g : HasDroppedBehind m (gone - 1) no_gstate new) where
+      pairs_end : new.pairs ≡ w.chain ++ (k.front ++ y ∷ k.back)
+      pairs_end = g.pairs ∙ without_is m (gone - 1) first_part k.x o k.back is_middle number_middle d ∙ sym regrouped
+
+      map_end : new.map ≡ without_pair t.map o.at
+      map_end = g.map ∙ ap₂ (λ s (z : Pair). without_pair s z.at) h.map o_there
+
+      end_used : (b : ℕ) → count b (used_blocks new.disk new.pairs) + count b (two_of o.at) ≡ count b (used_blocks t.disk t.pairs)
+      end_used b =
+          let e1 = unlinked_count t.disk m.disk ahead p q behind l r u take.to (subst (λ z. HasNoMove (gstate_of z)) (grouped p) (no_move_from (thread_at w (p ∷ [])) settled)) (subst (λ z. HasNoMove (gstate_of z)) (grouped q) no_move_middle)
+          (subst (λ z. IsDevice t.disk m.disk z (ahead ++ q ∷ behind)) (grouped p) (subst (IsDevice t.disk m.disk (thread_at w (p ∷ []))) (grouped q) (device_of m.disk h.written))) refl held kept take.branch b in
+          let e2 = dropped_count m.disk new.disk first_part k.x o y k.back (subst (λ z. HasNoMove (gstate_of z)) (sym pairs_middle ∙ is_middle) no_move_middle)
+          (subst (λ z. HasNoMove (gstate_of z)) regrouped (no_move_from (w.chain ++ (k.front ++ y ∷ k.back)) settled_end)) (device_end new.disk g.written) refl d_slots b in
+          let f1 = ap (λ z. count b (used_blocks new.disk z)) (pairs_end ∙ regrouped) in
+          let f2 = ap (λ z. count b (used_blocks m.disk z)) (sym (grouped q) ∙ sym pairs_middle ∙ is_middle) in
+          let f3 = ap (λ z. count b (used_blocks t.disk z)) (there ∙ grouped p) in
+          let f4 = ap (λ z. count b (files_of m.disk z)) take.empty in
+          omega arith
+
+      once : (b : ℕ) → count b (used_blocks t.disk t.pairs) ≤ 1
+      once b = once_from_distinct (used_blocks t.disk t.pairs) can.ready.accepted.owned_once b
+
+      pub directory_removed : IsDirectoryRemoved t new take.can.path take.can.name
+      directory_removed =
+          let f = end_taken new.disk g.written in
+          record {
+            now = record {
+              ready = record {
+                accepted = subst (IsAccepted new.disk) (sym pairs_end) f.follows.accepted;
+                writable = subst (IsWritable new.disk) (sym pairs_end) f.writable;
+                settled = g.gstate;
+                used = record {
+                  owned = used_blocks new.disk new.pairs;
+                  are = subst (λ s. AreUsed s (used_blocks new.disk new.pairs)) (sym map_end) (used_fewer t.map o.at (used_blocks t.disk t.pairs) (used_blocks new.disk new.pairs) can.ready.used once end_used);
+                  same = λ b. omega arith;
+                };
+                size = ap length map_end ∙ length_fewer t.map o.at (used_blocks t.disk t.pairs) (used_blocks new.disk new.pairs) can.ready.used once end_used ∙ can.ready.size
+                    ∙ sym h.written.shape.count ∙ sym g.written.shape.count;
+                large = subst (λ n. 1024 ≤ n) (sym (g.written.shape.block_size ∙ h.written.shape.block_size)) can.ready.large;
+              };
+              shows = ap (tree_in new.disk) pairs_end ∙ f.follows.shows ∙ turned;
+              flying = subst (SameInFlight t.map) (sym map_end) (flying_same t.map o.at (used_blocks t.disk t.pairs) (used_blocks new.disk new.pairs) can.ready.used once end_used);
+            };
+            completed = λ z given tree is_path. subst (λ s. IsCompleted t.disk s z (ops.Remove given) new.disk new.pairs) (sym there)
+                (subst (λ s. IsCompleted t.disk (thread_at w (p ∷ [])) z (ops.Remove given) new.disk s) (sym pairs_end)
+                (k.completed new.disk y (is_gone new.disk g.written) z given (tree ∙ ap (tree_in t.disk) there) (is_path ∙ ap (λ n. can.path ++ n ∷ []) (sym can.stands.stands.named))));
+          }
+
+    -- ---- at a stop in the second step
+
+    same_shape : (left : Blocks) → with_blocks left m.disk ≡ with_blocks left t.disk
+    same_shape left = λ j. record { block_size = h.written.shape.block_size j; page = h.written.shape.page j; blocks = left }
+
+    site_middle : IsSite w (q ∷ [])
+    site_middle = record {
+      chain = step_chain t.disk m.disk w p [] q [] [] [] l (u ∷ []) [] r (step m.disk h.written);
+      ends = site_is.ends;
+      run = run_changed w.left p w.right q w.right ((step m.disk h.written).shape.run w.right) site_is.run;
+    }
+
+    pub left_second : (left : Blocks) → IsLeftByDrop m (gone - 1) no_gstate left → IsLeftOf (with_blocks left t.disk) (tree_in t.disk t.pairs) (without_file t take.can.path take.can.name)
+    left_second left g = subst (λ z. IsLeftOf z (tree_in t.disk t.pairs) (without_file t can.path can.name)) (same_shape left) (go g.is)
+      where
+        go : (g.content ≡ (pair_in m (gone - 1)).content) ⊎ (g.content ≡ with_tail_taken m (gone - 1) no_gstate) → IsLeftOf (with_blocks left m.disk) (tree_in t.disk t.pairs) (without_file t can.path can.name)
+        go (inl e) =
+            let same = e ∙ ap (λ (z : Pair). z.content) x_there in
+            let on = device_kept m (gone - 1) first_part k.x o k.back is_middle number_middle accepted_parts (with_blocks left m.disk) k.x.content refl
+            (subst (λ z. IsWrittenAs m (gone - 1) z (with_blocks left m.disk)) same g.written) in
+            let f = nothing_came m.disk (with_blocks left m.disk) w q site_middle accepted_middle (subst (λ z. IsDevice m.disk (with_blocks left m.disk) z z) (sym is_middle ∙ pairs_middle) on) in
+            record {
+              pairs = thread_at w (q ∷ []);
+              accepted = f.accepted;
+              writable = profile_same m.disk (with_blocks left m.disk) (thread_at w (q ∷ [])) refl refl (first_taken m.disk h.written).writable;
+              tree = inr (f.shows ∙ (first_taken m.disk h.written).follows.shows ∙ turned);
+            }
+        go (inr e) =
+            let f = end_taken (with_blocks left m.disk) (subst (λ z. IsWrittenAs m (gone - 1) z (with_blocks left m.disk)) e g.written) in
+            record {
+              pairs = w.chain ++ (k.front ++ y ∷ k.back);
+              accepted = f.follows.accepted;
+              writable = f.writable;
+              tree = inr (f.follows.shows ∙ turned);
+            }
+
+  -- ---- at a stop in the first step
+
+  pub left_first : (left : Blocks) → IsLeftByUnlink t index id left → IsLeftOf (with_blocks left t.disk) (tree_in t.disk t.pairs) (without_file t take.can.path take.can.name)
+  left_first left g = go g.is
+    where
+      go : (g.content ≡ (pair_in t index).content) ⊎ (g.content ≡ without_entry t index id) → IsLeftOf (with_blocks left t.disk) (tree_in t.disk t.pairs) (without_file t can.path can.name)
+      go (inl e) =
+          let same = e ∙ ap (λ (z : Pair). z.content) (pair_there t index id can) in
+          let on = device t.disk (with_blocks left t.disk) w p p [] [] accepted accepted.owned_once
+          (placed (with_blocks left t.disk) p.content (λ h. (h.kind, h.name)) (subst (λ z. IsWrittenAs t index z (with_blocks left t.disk)) same g.written)) in
+          let f = nothing_came t.disk (with_blocks left t.disk) w p site_is accepted on in
+          record {
+            pairs = thread_at w (p ∷ []);
+            accepted = f.accepted;
+            writable = profile_same t.disk (with_blocks left t.disk) (thread_at w (p ∷ [])) refl refl writable;
+            tree = inl (f.shows ∙ ap (tree_in t.disk) (sym there));
+          }
+      go (inr e) =
+          let f = first_taken (with_blocks left t.disk) (subst (λ z. IsWrittenAs t index z (with_blocks left t.disk)) e g.written) in
+          record {
+            pairs = thread_at w (q ∷ []);
+            accepted = f.follows.accepted;
+            writable = f.writable;
+            tree = inr (f.follows.shows ∙ ap₂ (λ n z. removed (can.path ++ n ∷ []) (tree_in t.disk z)) can.stands.stands.named (sym there));
+          }

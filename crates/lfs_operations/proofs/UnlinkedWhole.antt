@@ -1,0 +1,478 @@
+-- An empty directory that goes in two steps of the thread, the first of which drops its entry's pair.
+use Rattle.std.proofs.Common.{ℕ, ◌≡◌, ◌⊎◌, inl, inr, ◌+◌, ◌-◌, ◌<◌, ◌≤◌, Bool, true, false, cond, slice_get, List, [], ◌∷◌, ◌++◌, length, Some, refl, sym, ap, ap₂, subst, ◌∙◌, arith, append_assoc, append-nil, length-append, None}
+use Rattle.std.specs.Prelude.{nat_lt}
+use Rattle.std.specs.Option.{option_and_then}
+use Rattle.std.proofs.lemmas.Bool.{ltb-false, ltb-true}
+use Rattle.std.proofs.lemmas.List.Elements.{recursion_from_All}
+use Rattle.lfs_model.specs.Apply.{removed, planted}
+use Rattle.lfs_model.specs.Blocks.{Blocks}
+use Rattle.lfs_model.specs.BlockSets.{AreUsed}
+use Rattle.lfs_model.specs.Disk.{Disk}
+use Rattle.lfs_model.specs.Operations as ops
+use Rattle.lfs_model.specs.PowerLoss.{IsLeft as IsLeftOf, with_blocks}
+use Rattle.lfs_model.specs.Slots.{Content, FitsPair, Gstate, Slot, no_gstate}
+use Rattle.lfs_model.specs.Thread.{Pair, gstate_of, is_hard, starts_with_superblock}
+use Rattle.lfs_model.specs.Tree.{branch_of}
+use Rattle.lfs_model.specs.View.{IsAccepted, IsWritable, Leads, entries_in, tree_in, used_blocks}
+use Rattle.lfs_model.proofs.Committed.{IsCompleted, no_move_from}
+use Rattle.lfs_model.proofs.Counts.{Each, count, each_right, once_from_distinct}
+use Rattle.lfs_model.proofs.Global.{HasNoMove, sync_share}
+use Rattle.lfs_model.proofs.Moves.{IsStep, directory_goes}
+use Rattle.lfs_model.proofs.RmdirSteps.{IsGone, step_chain}
+use Rattle.lfs_model.proofs.Searches.{slot_of_stands}
+use Rattle.lfs_model.proofs.Sites.{IsSite, Site, dirs_at, run_changed, thread_at}
+use Rattle.lfs_model.proofs.Splices.{IsDevice, drop_shape, files_of}
+use Rattle.lfs_model.proofs.StepsTaken.{IsTaken, drop_taken}
+use Rattle.lfs_thread.specs.Device.{two_of}
+use Rattle.lfs_thread.specs.Kept.{Kept}
+use Rattle.lfs_thread.specs.Steps.{IsWrittenAs, no_pair, pair_in, without_pair}
+use Rattle.lfs_operations.specs.Dropping.{CanDropAt, HasDroppedBehind, IsLeftByDrop, SameInFlight, taken_over, with_tail_taken}
+use Rattle.lfs_operations.specs.Editing.{CanEdit}
+use Rattle.lfs_operations.specs.Removing.{without_file}
+use Rattle.lfs_operations.specs.Unlinking.{CanRemoveDirectory, IsDirectoryRemoved, number_without}
+use Rattle.lfs_operations.proofs.Dropped.{device_dropped, device_kept, dropped_count, flying_same, length_fewer, profile_same, used_fewer}
+use Rattle.lfs_operations.proofs.DroppedTails.{front_is, gone_is, gstate_is, no_move_state, without_is}
+use Rattle.lfs_operations.proofs.Placing.{nothing_came}
+use Rattle.lfs_operations.proofs.RemovedWhole.{StandsWhole, over_hard}
+use Rattle.lfs_operations.proofs.Rmdir.{over_soft}
+use Rattle.lfs_operations.proofs.RmdirPlaces.{HasFront, get_some, has_front, number_of_first, shows_nothing}
+use Rattle.lfs_operations.proofs.RmdirWhole.{HasPlaceWhole, UnlinksWhole, place_whole}
+
+module _ (t : Kept) (index id first gone : ℕ) (take : CanRemoveDirectory t index id first gone) (s : StandsWhole t index id take.can) where
+  abbrev can : CanEdit t index id
+  can = take.can
+
+  abbrev e : Pair
+  e = can.stands.pair
+
+  abbrev u : Slot
+  u = can.stands.stands.slot
+
+  abbrev o : Pair
+  o = pair_in t gone
+
+  abbrev w : Site
+  w = s.w
+
+  abbrev x0 : Pair
+  x0 = s.x
+
+  abbrev old : List Pair
+  old = thread_at w (x0 ∷ e ∷ [])
+
+  accepted : IsAccepted t.disk old
+  accepted = subst (IsAccepted t.disk) s.there can.ready.accepted
+
+  writable : IsWritable t.disk old
+  writable = subst (IsWritable t.disk) s.there can.ready.writable
+
+  settled : gstate_of old ≡ no_gstate
+  settled = ap gstate_of (sym s.there) ∙ can.ready.settled
+
+  leads : Leads old can.path can.at
+  leads = subst (λ z. Leads z can.path can.at) s.there can.leads
+
+  -- ---- the pair that goes
+
+  led : Leads old (can.path ++ u.name ∷ []) take.to
+  led = subst (λ z. Leads z (can.path ++ u.name ∷ []) take.to) s.there
+      (subst (λ n. Leads t.pairs (can.path ++ n ∷ []) take.to) (sym can.stands.stands.named)
+      (ap (option_and_then (λ (f : Slot). branch_of f.struct)) (slot_of_stands t.disk t.pairs can.path can.at can.ready.accepted can.leads can.first index id can.name (no_move_from t.pairs can.ready.settled) can.stands can.begins)
+      ∙ ap branch_of take.branch))
+
+  front : HasFront (dirs_at w (x0 ∷ e ∷ [])) take.to
+  front = has_front t.disk w.chain (dirs_at w (x0 ∷ e ∷ [])) can.path u.name take.to accepted s.site.chain led
+
+  first_is : (gone ≡ length (w.chain ++ front.front) + 1) × (front.first ≡ o)
+  first_is = number_of_first t.disk w.chain (dirs_at w (x0 ∷ e ∷ [])) take.to accepted front gone o
+      (subst (λ z. slice_get z gone ≡ Some o) s.there (get_some t.pairs gone no_pair take.below)) take.at
+
+  empty : entries_in old take.to ≡ []
+  empty = shows_nothing t.disk w.chain (dirs_at w (x0 ∷ e ∷ [])) take.to accepted s.site.chain (no_move_from old settled) front
+      (ap (λ (z : Pair). is_hard z.content.tail) first_is.1 ∙ take.alone) (ap (λ (z : Pair). z.content.slots) first_is.1 ∙ take.empty)
+
+  dirs_are : dirs_at w (x0 ∷ e ∷ []) ≡ front.front ++ front.before ∷ o ∷ (front.run ++ front.after)
+  dirs_are = front.is ∙ ap (λ z. front.front ++ front.before ∷ z ∷ (front.run ++ front.after)) first_is.1
+
+  -- ---- the first step
+
+  abbrev ahead : List Pair
+  ahead = w.chain ++ (w.before ++ w.left)
+
+  abbrev behind : List Pair
+  behind = w.right ++ w.after
+
+  grouped : (ps : List Pair) → thread_at w ps ≡ ahead ++ (ps ++ behind)
+  grouped ps = sym (append_assoc w.chain (w.before ++ w.left) (ps ++ (w.right ++ w.after)))
+
+  is : t.pairs ≡ ahead ++ x0 ∷ e ∷ behind
+  is = s.there ∙ grouped (x0 ∷ e ∷ [])
+
+  number : length ahead ≡ index - 1
+  number = let n = s.number in omega arith
+
+  accepted_is : IsAccepted t.disk (ahead ++ x0 ∷ e ∷ behind)
+  accepted_is = subst (IsAccepted t.disk) is can.ready.accepted
+
+  x0_there : pair_in t (index - 1) ≡ x0
+  x0_there = front_is t (index - 1) ahead x0 e behind is number
+
+  e_there : pair_in t (index - 1 + 1) ≡ e
+  e_there = gone_is t (index - 1) ahead x0 e behind is number
+
+  pub can_drop_entry : CanDropAt t index sync_share
+  can_drop_entry = record {
+    above = let n = s.number in omega arith;
+    below =
+        let l = ap length is in
+        let a = length-append ahead (x0 ∷ e ∷ behind) in
+        let n = s.number in
+        omega arith;
+    thread = can.ready.accepted.thread;
+    fits = subst (λ (z : Pair). FitsPair t.disk.block_size t.disk.page z.content) (sym x0_there)
+        (each_right (λ (z : Pair). FitsPair t.disk.block_size t.disk.page z.content) ahead (x0 ∷ e ∷ behind)
+        (subst (Each (λ (z : Pair). FitsPair t.disk.block_size t.disk.page z.content)) is (recursion_from_All (λ (z : Pair). FitsPair t.disk.block_size t.disk.page z.content) t.pairs can.ready.writable.pairs))).0;
+    storable = record { kind = omega arith; id = omega arith; pair = (omega arith, omega arith) };
+  }
+
+  abbrev c : Content
+  c = with_tail_taken t (index - 1) sync_share
+
+  abbrev q : Pair
+  q = record { at = x0.at; content = c }
+
+  slots_same : c.slots ≡ x0.content.slots
+  slots_same = ap (λ (z : Pair). z.content.slots) x0_there
+
+  tail_same : q.content.tail ≡ e.content.tail
+  tail_same = ap₂ (λ (y z : Pair). taken_over y.content.tail z.content.tail) x0_there e_there ∙ over_hard x0.content.tail e.content.tail s.hard
+
+  gstate_middle : gstate_of (thread_at w (q ∷ [])) ≡ sync_share
+  gstate_middle = ap gstate_of (grouped (q ∷ [])) ∙ gstate_is t (index - 1) ahead x0 e behind is number sync_share q refl
+
+  no_move_middle : HasNoMove (gstate_of (thread_at w (q ∷ [])))
+  no_move_middle = subst HasNoMove (sym gstate_middle) (record { kind = refl; id = refl; pair = refl })
+
+  device_first : (disk : Disk) → IsWrittenAs t (index - 1) c disk → IsDevice t.disk disk (ahead ++ x0 ∷ e ∷ behind) (ahead ++ q ∷ behind)
+  device_first disk h = device_dropped t (index - 1) ahead x0 e behind is number accepted_is disk c slots_same h
+
+  step : (disk : Disk) → IsWrittenAs t (index - 1) c disk → IsStep t.disk disk w x0 (e ∷ []) q [] [] [] x0.content.slots (u ∷ []) [] []
+  step disk h = record {
+    accepted = accepted;
+    site = s.site;
+    no_move = no_move_from old settled;
+    still_none = no_move_middle;
+    device = subst (λ z. IsDevice t.disk disk z (thread_at w (q ∷ []))) (sym (grouped (x0 ∷ e ∷ []))) (subst (IsDevice t.disk disk (ahead ++ x0 ∷ e ∷ behind)) (sym (grouped (q ∷ []))) (device_first disk h));
+    free = record { distinct = accepted.owned_once; in_range = λ k d x. absurd (omega arith) };
+    shape = drop_shape x0 e q refl tail_same (λ k. ap starts_with_superblock slots_same ∙ k);
+    was = ap (λ z. x0.content.slots ++ (z ++ [])) s.held;
+    is = append-nil q.content.slots ∙ slots_same ∙ sym (append-nil x0.content.slots);
+    splice = record { front = λ k. can.stands.stands.entry; entries = tt; lists = tt; blocks = λ b. omega arith };
+  }
+
+  first_taken : (disk : Disk) → IsWrittenAs t (index - 1) c disk → IsTaken t.disk old disk (thread_at w (q ∷ [])) (removed (can.path ++ u.name ∷ [])) (planted (can.path ++ u.name ∷ []) (λ t. None))
+  first_taken disk h = drop_taken t.disk w x0 e q (record { writable = writable; tail = tail_same; slots = slots_same })
+      disk [] [] x0.content.slots (u ∷ []) [] [] (removed (can.path ++ u.name ∷ [])) (planted (can.path ++ u.name ∷ []) (λ t. None)) (step disk h)
+      (directory_goes t.disk disk w x0 (e ∷ []) q [] [] [] x0.content.slots [] u (step disk h) can.stands.stands.entry can.path can.at leads s.same take.to take.branch empty (ap (λ (g : Gstate). g.sync) gstate_middle))
+
+  unlinks : (disk : Disk) → IsWrittenAs t (index - 1) c disk → UnlinksWhole t.disk disk w x0 e q u can.path can.at take.to
+  unlinks disk h = record {
+    step = step disk h;
+    other = can.stands.stands.entry;
+    old_writable = writable;
+    writable = (first_taken disk h).writable;
+    leads = leads;
+    same = s.same;
+    branch = take.branch;
+    empty = empty;
+    sync = ap (λ (g : Gstate). g.sync) gstate_middle;
+    settled = settled;
+    held = s.held;
+    at = refl;
+    slots = slots_same;
+    tail = tail_same;
+    hard = s.hard;
+  }
+
+  place : (disk : Disk) → IsWrittenAs t (index - 1) c disk → HasPlaceWhole t.disk disk w x0 e q u can.path o (length front.front) front.before
+  place disk h = place_whole t.disk disk w x0 e q u can.path can.at take.to (unlinks disk h) o take.at take.alone front.front front.before (front.run ++ front.after) dirs_are front.soft take.empty
+
+  -- ---- between the steps
+
+  -- the number that the pair has then
+  abbrev now : ℕ
+  now = number_without index gone
+
+  module _ (m : Kept) (h : HasDroppedBehind t (index - 1) sync_share m) where
+    abbrev k : HasPlaceWhole t.disk m.disk w x0 e q u can.path o (length front.front) front.before
+    k = place m.disk h.written
+
+    abbrev first_part : List Pair
+    first_part = w.chain ++ k.front
+
+    pairs_middle : m.pairs ≡ thread_at w (q ∷ [])
+    pairs_middle = h.pairs ∙ without_is t (index - 1) ahead x0 e behind is number c ∙ sym (grouped (q ∷ []))
+
+    is_middle : m.pairs ≡ first_part ++ k.x ∷ o ∷ k.back
+    is_middle = pairs_middle ∙ ap (λ z. w.chain ++ z) k.there ∙ sym (append_assoc w.chain k.front (k.x ∷ o ∷ k.back))
+
+    -- it stands behind one pair fewer where it stood behind the entry's
+    number_now : length first_part + 1 ≡ number_without index gone
+    number_now = go k.number (nat_lt index gone) refl
+      where
+        go : ((length (w.before ++ w.left) + 1 < length front.front + 1) × (length k.front + 1 ≡ length front.front)) ⊎ ((length front.front + 1 < length (w.before ++ w.left) + 1) × (length k.front ≡ length front.front))
+            → (b : Bool) → nat_lt index gone ≡ b → length first_part + 1 ≡ cond b (gone - 1) gone
+        go (inl z) true l =
+            let a = length-append w.chain k.front in
+            let f = length-append w.chain front.front in
+            let g = first_is.0 in
+            let y = z.1 in
+            omega arith
+        go (inr z) true l =
+            let less : index < gone = ltb-true index gone l in
+            let f = length-append w.chain front.front in
+            let g = first_is.0 in
+            let i = s.number in
+            let j = length-append w.chain (w.before ++ w.left) in
+            let y = z.0 in
+            absurd (omega arith)
+        go (inl z) false l =
+            let no : gone ≤ index = ltb-false index gone l in
+            let f = length-append w.chain front.front in
+            let g = first_is.0 in
+            let i = s.number in
+            let j = length-append w.chain (w.before ++ w.left) in
+            let y = z.0 in
+            absurd (omega arith)
+        go (inr z) false l =
+            let a = length-append w.chain k.front in
+            let f = length-append w.chain front.front in
+            let g = first_is.0 in
+            let y = z.1 in
+            omega arith
+
+    number_middle : length first_part ≡ number_without index gone - 1
+    number_middle = let n = number_now in omega arith
+
+    accepted_middle : IsAccepted m.disk (thread_at w (q ∷ []))
+    accepted_middle = (first_taken m.disk h.written).follows.accepted
+
+    accepted_parts : IsAccepted m.disk (first_part ++ k.x ∷ o ∷ k.back)
+    accepted_parts = subst (IsAccepted m.disk) (sym pairs_middle ∙ is_middle) accepted_middle
+
+    x_there : pair_in m (now - 1) ≡ k.x
+    x_there = front_is m (now - 1) first_part k.x o k.back is_middle number_middle
+
+    o_there : pair_in m (now - 1 + 1) ≡ o
+    o_there = gone_is m (now - 1) first_part k.x o k.back is_middle number_middle
+
+    -- the pair that is written in the second step is where the one in front of it was, or where the one in front of the entry's was
+    pub written_then : ((pair_in m (now - 1)).at ≡ (pair_in t (gone - 1)).at) ⊎ ((pair_in m (now - 1)).at ≡ (pair_in t (index - 1)).at)
+    written_then = go k.was
+      where
+        is_old : t.pairs ≡ (w.chain ++ front.front) ++ front.before ∷ o ∷ (front.run ++ front.after)
+        is_old = s.there ∙ ap (λ z. w.chain ++ z) dirs_are ∙ sym (append_assoc w.chain front.front (front.before ∷ o ∷ (front.run ++ front.after)))
+
+        old_front : pair_in t (gone - 1) ≡ front.before
+        old_front = front_is t (gone - 1) (w.chain ++ front.front) front.before o (front.run ++ front.after) is_old (let g = first_is.0 in omega arith)
+
+        go : (k.x.at ≡ front.before.at) ⊎ (k.x.at ≡ x0.at) → ((pair_in m (now - 1)).at ≡ (pair_in t (gone - 1)).at) ⊎ ((pair_in m (now - 1)).at ≡ (pair_in t (index - 1)).at)
+        go (inl z) = inl (ap (λ (v : Pair). v.at) x_there ∙ z ∙ ap (λ (v : Pair). v.at) (sym old_front))
+        go (inr z) = inr (ap (λ (v : Pair). v.at) x_there ∙ z ∙ ap (λ (v : Pair). v.at) (sym x0_there))
+
+    pub can_drop_then : CanDropAt m now no_gstate
+    can_drop_then = record {
+      above = let n = number_now in omega arith;
+      below =
+          let e = ap length is_middle in
+          let a = length-append first_part (k.x ∷ o ∷ k.back) in
+          let n = number_now in
+          omega arith;
+      thread = h.thread;
+      fits = subst (λ (z : Pair). FitsPair m.disk.block_size m.disk.page z.content) (sym x_there)
+          (each_right (λ (z : Pair). FitsPair m.disk.block_size m.disk.page z.content) first_part (k.x ∷ o ∷ k.back)
+          (subst (Each (λ (z : Pair). FitsPair m.disk.block_size m.disk.page z.content)) (sym pairs_middle ∙ is_middle)
+          (recursion_from_All (λ (z : Pair). FitsPair m.disk.block_size m.disk.page z.content) (thread_at w (q ∷ [])) (first_taken m.disk h.written).writable.pairs))).0;
+      storable = no_move_state;
+    }
+
+    -- ---- the second step
+
+    abbrev d : Content
+    d = with_tail_taken m (now - 1) no_gstate
+
+    abbrev y : Pair
+    y = record { at = k.x.at; content = d }
+
+    d_slots : d.slots ≡ k.x.content.slots
+    d_slots = ap (λ (z : Pair). z.content.slots) x_there
+
+    regrouped : w.chain ++ (k.front ++ y ∷ k.back) ≡ first_part ++ y ∷ k.back
+    regrouped = sym (append_assoc w.chain k.front (y ∷ k.back))
+
+    settled_end : gstate_of (w.chain ++ (k.front ++ y ∷ k.back)) ≡ no_gstate
+    settled_end = ap gstate_of regrouped ∙ gstate_is m (now - 1) first_part k.x o k.back is_middle number_middle no_gstate y refl
+
+    device_end : (disk : Disk) → IsWrittenAs m (now - 1) d disk → IsDevice m.disk disk (first_part ++ k.x ∷ o ∷ k.back) (first_part ++ y ∷ k.back)
+    device_end disk written = device_dropped m (now - 1) first_part k.x o k.back is_middle number_middle accepted_parts disk d d_slots written
+
+    is_gone : (disk : Disk) → IsWrittenAs m (now - 1) d disk → IsGone m.disk disk w.chain k.front k.x o y k.back
+    is_gone disk written = record {
+      device = subst (λ z. IsDevice m.disk disk z (w.chain ++ (k.front ++ y ∷ k.back))) (append_assoc w.chain k.front (k.x ∷ o ∷ k.back))
+          (subst (IsDevice m.disk disk (first_part ++ k.x ∷ o ∷ k.back)) (sym regrouped) (device_end disk written));
+      settled = settled_end;
+      soft = k.soft;
+      at = refl;
+      slots = d_slots;
+      tail = ap₂ (λ (a b : Pair). taken_over a.content.tail b.content.tail) x_there o_there ∙ over_soft k.x.content.tail o.content.tail k.soft;
+    }
+
+    end_taken : (disk : Disk) → IsWrittenAs m (now - 1) d disk
+        → IsTaken t.disk (old) disk (w.chain ++ (k.front ++ y ∷ k.back)) (removed (can.path ++ u.name ∷ [])) (planted (can.path ++ u.name ∷ []) (λ t. None))
+    end_taken disk written = k.taken disk y (is_gone disk written)
+
+    turned : removed (can.path ++ u.name ∷ []) (tree_in t.disk (old)) ≡ without_file t can.path can.name
+    turned = ap₂ (λ n z. removed (can.path ++ n ∷ []) (tree_in t.disk z)) can.stands.stands.named (sym s.there)
+
+    module _ (new : Kept) (g : HasDroppedBehind m (now - 1) no_gstate new) where
+      pairs_end : new.pairs ≡ w.chain ++ (k.front ++ y ∷ k.back)
+      pairs_end = g.pairs ∙ without_is m (now - 1) first_part k.x o k.back is_middle number_middle d ∙ sym regrouped
+
+      map_middle : m.map ≡ without_pair t.map e.at
+      map_middle = h.map ∙ ap (λ (z : Pair). without_pair t.map z.at) e_there
+
+      map_end : new.map ≡ without_pair m.map o.at
+      map_end = g.map ∙ ap (λ (z : Pair). without_pair m.map z.at) o_there
+
+      middle_used : (b : ℕ) → count b (used_blocks m.disk m.pairs) + count b (two_of e.at) ≡ count b (used_blocks t.disk t.pairs)
+      middle_used b =
+          let e1 = dropped_count t.disk m.disk ahead x0 e q behind (subst (λ z. HasNoMove (gstate_of z)) (grouped (x0 ∷ e ∷ [])) (no_move_from old settled)) (subst (λ z. HasNoMove (gstate_of z)) (grouped (q ∷ [])) no_move_middle)
+          (device_first m.disk h.written) refl slots_same b in
+          let f1 = ap (λ z. count b (used_blocks m.disk z)) (pairs_middle ∙ grouped (q ∷ [])) in
+          let f2 = ap (λ z. count b (used_blocks t.disk z)) is in
+          let f3 = ap (λ z. count b (files_of t.disk z)) s.held in
+          let f4 : count b (files_of t.disk (u ∷ [])) ≡ 0 = ap (λ z. count b (files_of t.disk (record u { struct = z } ∷ []))) take.branch in
+          omega arith
+
+      end_used : (b : ℕ) → count b (used_blocks new.disk new.pairs) + count b (two_of o.at) ≡ count b (used_blocks m.disk m.pairs)
+      end_used b =
+          let e2 = dropped_count m.disk new.disk first_part k.x o y k.back (subst (λ z. HasNoMove (gstate_of z)) (sym pairs_middle ∙ is_middle) no_move_middle)
+          (subst (λ z. HasNoMove (gstate_of z)) regrouped (no_move_from (w.chain ++ (k.front ++ y ∷ k.back)) settled_end)) (device_end new.disk g.written) refl d_slots b in
+          let f1 = ap (λ z. count b (used_blocks new.disk z)) (pairs_end ∙ regrouped) in
+          let f2 = ap (λ z. count b (used_blocks m.disk z)) is_middle in
+          let f4 = ap (λ z. count b (files_of m.disk z)) take.empty in
+          omega arith
+
+      once : (b : ℕ) → count b (used_blocks t.disk t.pairs) ≤ 1
+      once b = once_from_distinct (used_blocks t.disk t.pairs) can.ready.accepted.owned_once b
+
+      once_middle : (b : ℕ) → count b (used_blocks m.disk m.pairs) ≤ 1
+      once_middle b = let k = once b in let l = middle_used b in omega arith
+
+      used_middle : AreUsed m.map (used_blocks m.disk m.pairs)
+      used_middle = subst (λ s. AreUsed s (used_blocks m.disk m.pairs)) (sym map_middle) (used_fewer t.map e.at (used_blocks t.disk t.pairs) (used_blocks m.disk m.pairs) can.ready.used once middle_used)
+
+      flying_middle : SameInFlight t.map m.map
+      flying_middle = subst (SameInFlight t.map) (sym map_middle) (flying_same t.map e.at (used_blocks t.disk t.pairs) (used_blocks m.disk m.pairs) can.ready.used once middle_used)
+
+      flying_end : SameInFlight m.map new.map
+      flying_end = subst (SameInFlight m.map) (sym map_end) (flying_same m.map o.at (used_blocks m.disk m.pairs) (used_blocks new.disk new.pairs) used_middle once_middle end_used)
+
+      pub whole_removed : IsDirectoryRemoved t new take.can.path take.can.name
+      whole_removed =
+          let f = end_taken new.disk g.written in
+          record {
+            now = record {
+              ready = record {
+                accepted = subst (IsAccepted new.disk) (sym pairs_end) f.follows.accepted;
+                writable = subst (IsWritable new.disk) (sym pairs_end) f.writable;
+                settled = g.gstate;
+                used = record {
+                  owned = used_blocks new.disk new.pairs;
+                  are = subst (λ s. AreUsed s (used_blocks new.disk new.pairs)) (sym map_end) (used_fewer m.map o.at (used_blocks m.disk m.pairs) (used_blocks new.disk new.pairs) used_middle once_middle end_used);
+                  same = λ b. omega arith;
+                };
+                size = ap length map_end ∙ length_fewer m.map o.at (used_blocks m.disk m.pairs) (used_blocks new.disk new.pairs) used_middle once_middle end_used
+                    ∙ ap length map_middle ∙ length_fewer t.map e.at (used_blocks t.disk t.pairs) (used_blocks m.disk m.pairs) can.ready.used once middle_used ∙ can.ready.size
+                    ∙ sym h.written.shape.count ∙ sym g.written.shape.count;
+                large = subst (λ n. 1024 ≤ n) (sym (g.written.shape.block_size ∙ h.written.shape.block_size)) can.ready.large;
+              };
+              shows = ap (tree_in new.disk) pairs_end ∙ f.follows.shows ∙ turned;
+              flying = λ b. ((λ f. (flying_middle b).0 ((flying_end b).0 f)), (λ f. (flying_end b).1 ((flying_middle b).1 f)));
+            };
+            completed = λ z given tree is_path. subst (λ s. IsCompleted t.disk s z (ops.Remove given) new.disk new.pairs) (sym s.there)
+                (subst (λ s. IsCompleted t.disk (old) z (ops.Remove given) new.disk s) (sym pairs_end)
+                (k.completed new.disk y (is_gone new.disk g.written) z given (tree ∙ ap (tree_in t.disk) s.there) (is_path ∙ ap (λ n. can.path ++ n ∷ []) (sym can.stands.stands.named))));
+          }
+
+    -- ---- at a stop in the second step
+
+    same_shape : (left : Blocks) → with_blocks left m.disk ≡ with_blocks left t.disk
+    same_shape left = λ j. record { block_size = h.written.shape.block_size j; page = h.written.shape.page j; blocks = left }
+
+    site_middle : IsSite w (q ∷ [])
+    site_middle = record {
+      chain = step_chain t.disk m.disk w x0 (e ∷ []) q [] [] [] x0.content.slots (u ∷ []) [] [] (step m.disk h.written);
+      ends = s.site.ends;
+      run = run_changed w.left x0 (e ∷ w.right) q w.right ((step m.disk h.written).shape.run w.right) s.site.run;
+    }
+
+    pub whole_second : (left : Blocks) → IsLeftByDrop m (now - 1) no_gstate left → IsLeftOf (with_blocks left t.disk) (tree_in t.disk t.pairs) (without_file t can.path can.name)
+    whole_second left g = subst (λ z. IsLeftOf z (tree_in t.disk t.pairs) (without_file t can.path can.name)) (same_shape left) (go g.is)
+      where
+        go : (g.content ≡ (pair_in m (now - 1)).content) ⊎ (g.content ≡ with_tail_taken m (now - 1) no_gstate) → IsLeftOf (with_blocks left m.disk) (tree_in t.disk t.pairs) (without_file t can.path can.name)
+        go (inl e) =
+            let same = e ∙ ap (λ (z : Pair). z.content) x_there in
+            let on = device_kept m (now - 1) first_part k.x o k.back is_middle number_middle accepted_parts (with_blocks left m.disk) k.x.content refl
+            (subst (λ z. IsWrittenAs m (now - 1) z (with_blocks left m.disk)) same g.written) in
+            let f = nothing_came m.disk (with_blocks left m.disk) w q site_middle accepted_middle (subst (λ z. IsDevice m.disk (with_blocks left m.disk) z z) (sym is_middle ∙ pairs_middle) on) in
+            record {
+              pairs = thread_at w (q ∷ []);
+              accepted = f.accepted;
+              writable = profile_same m.disk (with_blocks left m.disk) (thread_at w (q ∷ [])) refl refl (first_taken m.disk h.written).writable;
+              tree = inr (f.shows ∙ (first_taken m.disk h.written).follows.shows ∙ turned);
+            }
+        go (inr e) =
+            let f = end_taken (with_blocks left m.disk) (subst (λ z. IsWrittenAs m (now - 1) z (with_blocks left m.disk)) e g.written) in
+            record {
+              pairs = w.chain ++ (k.front ++ y ∷ k.back);
+              accepted = f.follows.accepted;
+              writable = f.writable;
+              tree = inr (f.follows.shows ∙ turned);
+            }
+
+  -- the same thread, as a place of the pair in front
+  abbrev before_it : Site
+  before_it = record { chain = w.chain; before = w.before; left = w.left; right = e ∷ w.right; after = w.after }
+
+  is_before : t.pairs ≡ thread_at before_it (x0 ∷ [])
+  is_before = s.there
+
+  site_before : IsSite before_it (x0 ∷ [])
+  site_before = record { chain = s.site.chain; ends = s.site.ends; run = s.site.run }
+
+  -- ---- at a stop in the first step
+
+  pub whole_first : (left : Blocks) → IsLeftByDrop t (index - 1) sync_share left → IsLeftOf (with_blocks left t.disk) (tree_in t.disk t.pairs) (without_file t can.path can.name)
+  whole_first left g = go g.is
+    where
+      go : (g.content ≡ (pair_in t (index - 1)).content) ⊎ (g.content ≡ with_tail_taken t (index - 1) sync_share) → IsLeftOf (with_blocks left t.disk) (tree_in t.disk t.pairs) (without_file t can.path can.name)
+      go (inl z) =
+          let same = z ∙ ap (λ (z : Pair). z.content) x0_there in
+          let on = device_kept t (index - 1) ahead x0 e behind is number accepted_is (with_blocks left t.disk) x0.content refl (subst (λ z. IsWrittenAs t (index - 1) z (with_blocks left t.disk)) same g.written) in
+          let f = nothing_came t.disk (with_blocks left t.disk) before_it x0 site_before (subst (IsAccepted t.disk) is_before can.ready.accepted)
+          (subst (λ z. IsDevice t.disk (with_blocks left t.disk) z z) (sym is ∙ is_before) on) in
+          record {
+            pairs = thread_at before_it (x0 ∷ []);
+            accepted = f.accepted;
+            writable = profile_same t.disk (with_blocks left t.disk) (thread_at before_it (x0 ∷ [])) refl refl (subst (IsWritable t.disk) is_before can.ready.writable);
+            tree = inl (f.shows ∙ ap (tree_in t.disk) (sym is_before));
+          }
+      go (inr z) =
+          let f = first_taken (with_blocks left t.disk) (subst (λ y. IsWrittenAs t (index - 1) y (with_blocks left t.disk)) z g.written) in
+          record {
+            pairs = thread_at w (q ∷ []);
+            accepted = f.follows.accepted;
+            writable = f.writable;
+            tree = inr (f.follows.shows ∙ ap₂ (λ n z. removed (can.path ++ n ∷ []) (tree_in t.disk z)) can.stands.stands.named (sym s.there));
+          }

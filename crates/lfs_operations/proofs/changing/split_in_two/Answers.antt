@@ -1,0 +1,48 @@
+use Rattle.std.proofs.Common.{ap, sym, subst, ◌∙◌, Err}
+use Rattle.std.proofs.lemmas.Result.{err_from_is_err_and}
+use Rattle.lfs_model.specs.Slots.{address_of}
+use Rattle.lfs_thread.specs.Device.{StopsLeave, four_of}
+use Rattle.lfs_thread.specs.Kept.{State}
+use Rattle.lfs_thread.specs.Steps.{CanBeSplit, HasTold, IsLeftBySplit, IsSplit, Writes, pair_in}
+use Rattle.lfs_pair.specs.ChangeSeen.{changes_seen}
+use Rattle.lfs_operations.specs.Changing.{WritesIn, flying}
+use Rattle.lfs_operations.proofs.Putting.{can_split, cut_in, stops_by_cut, writes_in, writes_none, tells_state}
+use Rattle.lfs_operations.proofs.changing.split_in_two.Goals as goal
+
+pub returns-in_default-clause-device : goal.returns-in_default-clause-device
+returns-in_default-clause-device g c =
+    subst (λ (t : State). WritesIn c.args.thread.now.kept c.args.index t.kept) (sym c.in_default.ensures.same) (writes_none c.args.thread.now.kept c.args.index)
+
+pub split-requires-clause-can : goal.split-requires-clause-can
+split-requires-clause-can g c =
+    subst (λ (t : State). CanBeSplit t.kept c.args.index (address_of c.in-Some.fresh) (changes_seen c.args.changes.now)) (sym c.in-Some.ensures.taken)
+    (can_split c.args.thread.now.kept c.args.index (address_of c.in-Some.fresh) (changes_seen c.args.changes.now) c.requires.can c.in-Some.ensures.were_free)
+
+pub returns-in_err-split-clause-errors : goal.returns-in_err-split-clause-errors
+returns-in_err-split-clause-errors g c =
+    let p = err_from_is_err_and c.from_residual.result c.from_residual.ensures.1 in
+    tells_state c.args.thread.now c.split.new.self (flying c.args.thread.now.kept.map (address_of c.in-Some.fresh)) p.0 c.split.result c.from_residual.result (c.in_err-split.was ∙ ap Err (sym p.2)) p.1 c.split.ensures.failed
+    (subst (λ (t : State). HasTold t.kept c.split.new.self.kept c.split.result) c.in-Some.ensures.taken c.split.ensures.errors)
+
+pub returns-in_err-split-clause-stops : goal.returns-in_err-split-clause-stops
+returns-in_err-split-clause-stops g c =
+    stops_by_cut c.args.thread.now.kept c.args.index (address_of c.in-Some.fresh) (changes_seen c.args.changes.now) c.in-Some.ensures.were_free c.split.new.self.kept.history
+    (subst (λ (t : State). StopsLeave t.kept.history c.split.new.self.kept.history (IsLeftBySplit t.kept c.args.index (address_of c.in-Some.fresh) (changes_seen c.args.changes.now))) c.in-Some.ensures.taken c.split.ensures.stops)
+
+pub returns-clause-stops : goal.returns-clause-stops
+returns-clause-stops g c =
+    stops_by_cut c.args.thread.now.kept c.args.index (address_of c.in-Some.fresh) (changes_seen c.args.changes.now) c.in-Some.ensures.were_free c.split.new.self.kept.history
+    (subst (λ (t : State). StopsLeave t.kept.history c.split.new.self.kept.history (IsLeftBySplit t.kept c.args.index (address_of c.in-Some.fresh) (changes_seen c.args.changes.now))) c.in-Some.ensures.taken c.split.ensures.stops)
+
+pub returns-clause-device : goal.returns-clause-device
+returns-clause-device g c =
+    writes_in c.args.thread.now.kept c.args.index (address_of c.in-Some.fresh) (changes_seen c.args.changes.now) c.in-Some.ensures.were_free c.split.new.self.kept
+    (subst (λ (t : State). Writes (four_of (pair_in t.kept c.args.index).at (address_of c.in-Some.fresh)) t.kept c.split.new.self.kept) c.in-Some.ensures.taken c.split.ensures.device)
+
+pub returns-clause-is_cut : goal.returns-clause-is_cut
+returns-clause-is_cut g c = (
+  address_of c.in-Some.fresh,
+  cut_in c.args.thread.now.kept c.args.index (address_of c.in-Some.fresh) (changes_seen c.args.changes.now) c.in-Some.ensures.were_free c.split.new.self.kept
+      (subst (λ (t : State). IsSplit t.kept c.args.index (address_of c.in-Some.fresh) (changes_seen c.args.changes.now) c.split.new.self.kept) c.in-Some.ensures.taken c.in_ok-split.ensures.done)
+      (subst (λ (t : State). Writes (four_of (pair_in t.kept c.args.index).at (address_of c.in-Some.fresh)) t.kept c.split.new.self.kept) c.in-Some.ensures.taken c.split.ensures.device),
+)

@@ -1,0 +1,67 @@
+use Rattle.std.proofs.Common.{ap, ap₂, sym, subst, ◌∙◌, ◌-◌, arith, Err}
+use Rattle.std.proofs.lemmas.Result.{err_from_is_err_and}
+use Rattle.lfs_pair.specs.ChangeSeen.{changes_seen}
+use Rattle.lfs_operations.specs.Moving.{CanEnd, TellsInSteps, place_after}
+use Rattle.lfs_operations.proofs.MovTelling.{not_io, survives_both, tells_of_end, writes_both, writes_first}
+use Rattle.lfs_thread.specs.Steps.{pair_in}
+use Rattle.lfs_operations.proofs.moving.put_and_end.Goals as goal
+
+pub returns-in_err-put-clause-device : goal.returns-in_err-put-clause-device
+returns-in_err-put-clause-device g c = writes_first c.args.thread.now.kept c.put.new.thread.kept c.args.old_pair c.args.new_pair c.put.ensures.device
+
+pub overflow_sub-fresh : goal.overflow_sub-fresh
+overflow_sub-fresh g c =
+    let ends = c.requires.ends c.put.new.thread.kept c.in_ok-put.ensures.is_put in
+    omega (arith, ends.grown, c.len-before.ensures, c.len.ensures)
+
+pub place_after-pair-requires : goal.place_after-pair-requires
+place_after-pair-requires g c =
+    let ends = c.requires.ends c.put.new.thread.kept c.in_ok-put.ensures.is_put in
+    let same = ap₂ (λ m n. place_after c.args.old_pair c.args.new_pair (m - n)) c.len.ensures c.len-before.ensures in
+    let below = ends.can.below in
+    let fits = c.len.type_inv in
+    omega (arith, same, below, fits, c.len.ensures)
+
+pub end_move-requires-clause-can : goal.end_move-requires-clause-can
+end_move-requires-clause-can g c =
+    let ends = c.requires.ends c.put.new.thread.kept c.in_ok-put.ensures.is_put in
+    subst (λ i. CanEnd c.put.new.thread.kept i c.args.old_id)
+    (sym (c.place_after-pair.ensures ∙ ap₂ (λ m n. place_after c.args.old_pair c.args.new_pair (m - n)) c.len.ensures c.len-before.ensures)) ends.can
+
+pub returns-in_err-end_move-clause-errors : goal.returns-in_err-end_move-clause-errors
+returns-in_err-end_move-clause-errors g c =
+    let from = c.from_residual-in_err-end_move in
+    let p = err_from_is_err_and from.result from.ensures.1 in
+    subst (λ r. TellsInSteps c.args.thread.now c.end_move.new.thread c.args.new_pair (changes_seen c.args.changes.now) r) (c.in_err-end_move.was ∙ ap Err (sym p.2) ∙ sym p.1)
+    (tells_of_end c.args.thread.now c.put.new.thread c.end_move.new.thread c.args.new_pair (changes_seen c.args.changes.now) c.end_move.result
+    (c.put.ensures.errors.tells.tells.no_fault (not_io c.put.result c.in_ok-put.field-0 c.in_ok-put.was)) c.end_move.ensures.errors)
+
+pub returns-in_err-end_move-clause-device : goal.returns-in_err-end_move-clause-device
+returns-in_err-end_move-clause-device g c =
+    let ends = c.requires.ends c.put.new.thread.kept c.in_ok-put.ensures.is_put in
+    let index = c.place_after-pair.ensures ∙ ap₂ (λ m n. place_after c.args.old_pair c.args.new_pair (m - n)) c.len.ensures c.len-before.ensures in
+    writes_both c.args.thread.now.kept c.put.new.thread.kept c.end_move.new.thread.kept c.args.old_pair c.args.new_pair c.place_after-pair.result
+    (ap (λ i. (pair_in c.put.new.thread.kept i).at) index ∙ ends.at) c.put.ensures.device c.end_move.ensures.device
+
+pub returns-in_err-end_move-clause-survives : goal.returns-in_err-end_move-clause-survives
+returns-in_err-end_move-clause-survives g c =
+    survives_both c.args.thread.now.kept c.put.new.thread.kept c.end_move.new.thread.kept c.args.new_pair (changes_seen c.args.changes.now) c.in_ok-put.ensures.is_put c.put.ensures.stops c.put.ensures.device
+    c.end_move.ensures.device.at_worst c.end_move.ensures.survives
+
+pub returns-clause-errors : goal.returns-clause-errors
+returns-clause-errors g c =
+    subst (λ r. TellsInSteps c.args.thread.now c.end_move.new.thread c.args.new_pair (changes_seen c.args.changes.now) r) c.in_ok-end_move.was
+    (tells_of_end c.args.thread.now c.put.new.thread c.end_move.new.thread c.args.new_pair (changes_seen c.args.changes.now) c.end_move.result
+    (c.put.ensures.errors.tells.tells.no_fault (not_io c.put.result c.in_ok-put.field-0 c.in_ok-put.was)) c.end_move.ensures.errors)
+
+pub returns-clause-device : goal.returns-clause-device
+returns-clause-device g c =
+    let ends = c.requires.ends c.put.new.thread.kept c.in_ok-put.ensures.is_put in
+    let index = c.place_after-pair.ensures ∙ ap₂ (λ m n. place_after c.args.old_pair c.args.new_pair (m - n)) c.len.ensures c.len-before.ensures in
+    writes_both c.args.thread.now.kept c.put.new.thread.kept c.end_move.new.thread.kept c.args.old_pair c.args.new_pair c.place_after-pair.result
+    (ap (λ i. (pair_in c.put.new.thread.kept i).at) index ∙ ends.at) c.put.ensures.device c.end_move.ensures.device
+
+pub returns-clause-survives : goal.returns-clause-survives
+returns-clause-survives g c =
+    survives_both c.args.thread.now.kept c.put.new.thread.kept c.end_move.new.thread.kept c.args.new_pair (changes_seen c.args.changes.now) c.in_ok-put.ensures.is_put c.put.ensures.stops c.put.ensures.device
+    c.end_move.ensures.device.at_worst c.end_move.ensures.survives

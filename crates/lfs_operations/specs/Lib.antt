@@ -1,0 +1,15 @@
+pub mod Ready
+pub mod Changing
+pub mod Creating
+pub mod Editing
+pub mod Storing
+pub mod Dropping
+pub mod Removing
+pub mod Moving
+pub mod Making
+pub mod RenamingSlots
+pub mod RenamingSeen
+pub mod Renaming
+pub mod Unlinking
+pub mod Recovering
+pub mod RenamingOver

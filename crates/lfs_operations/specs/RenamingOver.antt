@@ -1,0 +1,53 @@
+-- An entry that takes the place of a directory, while the sync bit turns: no path leads to the directory's pair then.
+use Rattle.std.specs.Prelude.{ℕ, ◌≡◌, ◌≢◌, ◌⊎◌, false, List, [], ◌∷◌, ◌++◌, Result, is_err}
+use Rattle.lfs_device.specs.declared.error.Error.{Error}
+use Rattle.lfs_model.specs.Apply.{renamed}
+use Rattle.lfs_model.specs.Changes.{Change, Delete, PutMove}
+use Rattle.lfs_model.specs.Content.{content_at}
+use Rattle.lfs_model.specs.Disk.{block_count}
+use Rattle.lfs_model.specs.InDirectory.{Stands}
+use Rattle.lfs_model.specs.Names.{Name}
+use Rattle.lfs_model.specs.Slots.{Branch, Content, gstate_xor}
+use Rattle.lfs_model.specs.Thread.{IsThread, gstate_of}
+use Rattle.lfs_model.specs.Tree.{Path}
+use Rattle.lfs_model.specs.View.{FitsEntry}
+use Rattle.lfs_model.proofs.Global.{sync_share}
+use Rattle.lfs_model.proofs.Renames.{rename_walk}
+use Rattle.lfs_model.proofs.StepsTaken.{IsTaken}
+use Rattle.lfs_thread.specs.Kept.{Kept, State}
+use Rattle.lfs_thread.specs.Steps.{HasTold, IsOnlyRead, IsWrittenAs, pair_in, with_pair}
+use Rattle.lfs_operations.specs.Editing.{CanEdit, slot_at}
+use Rattle.lfs_operations.specs.Renaming.{place_without}
+use Rattle.lfs_operations.specs.RenamingSlots.{parts_at, slot_changes}
+
+-- the pair's share turns the sync bit, both slots go, and the one comes at the other's place
+abbrev pub rename_over_changes : Kept → ℕ → ℕ → ℕ → Name → List Change
+rename_over_changes t pair id place name = PutMove (gstate_xor (pair_in t pair).content.move sync_share) ∷ Delete id ∷ Delete (place_without id place)
+    ∷ slot_changes (place_without id place) name (parts_at t pair id)
+
+-- The image may be changed. An entry stands at the id of the pair, and a directory of another name at a place of the same pair and
+-- directory. The entry may be written under that name.
+pub record CanRenameOver (t : Kept) (pair id place : ℕ) (name : Name) : Type 0 where
+  pub can : CanEdit t pair id
+  pub target : Stands t.pairs can.first name pair place
+  pub to : ℕ × ℕ
+  pub branch : target.stands.slot.struct ≡ Branch to
+  pub differs : name ≢ can.name
+  pub fits : FitsEntry t.disk.block_size t.disk.page (record (slot_at can) { name = name })
+
+-- The tree has the entry in the place of the directory, the image is accepted and in the writing profile, and the sync bit is set.
+-- Of the pairs one holds something else.
+pub record IsRenamedOver (old new : Kept) (pair : ℕ) (path : Path) (from to : Name) : Type 0 where
+  pub content : Content
+  pub written : IsWrittenAs old pair content new.disk
+  pub pairs : new.pairs ≡ with_pair old pair content
+  pub thread : IsThread (content_at new.disk) (block_count new.disk) new.pairs
+  pub map : new.map ≡ old.map
+  pub gstate : gstate_of new.pairs ≡ sync_share
+  pub taken : IsTaken old.disk old.pairs new.disk new.pairs (renamed (path ++ from ∷ []) (path ++ to ∷ [])) (rename_walk (path ++ from ∷ []) (path ++ to ∷ []))
+
+-- What a step tells that reads a slot first and takes no block: the thread has failed by an error, but where the slot couldn't be
+-- read it works on and is as it was.
+pub record TellsOver {X : Type 0} (old new : State) (result : Result X Error) : Type 0 where
+  pub failed : (new.failed ≡ is_err result) ⊎ ((new.failed ≡ false) × IsOnlyRead old.kept new.kept)
+  pub told : HasTold old.kept new.kept result

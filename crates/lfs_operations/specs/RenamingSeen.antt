@@ -1,0 +1,15 @@
+-- A copied slot, in the words of the definitions.
+use Rattle.std.specs.Prelude.{ℕ, List, map}
+use Rattle.lfs_operations.specs.RenamingSlots.{Parts}
+use Rattle.lfs_operations.specs.declared.renaming_copy.PartCopy.{PartCopy}
+use Rattle.lfs_operations.specs.declared.renaming_copy.AttributeCopy.{AttributeCopy}
+use Rattle.lfs_operations.specs.declared.renaming_copy.SlotCopy.{SlotCopy}
+
+abbrev pub part_copied : PartCopy → ℕ × List ℕ
+part_copied p = (p.kind, p.bytes.items)
+
+abbrev pub attribute_copied : AttributeCopy → ℕ × List ℕ
+attribute_copied a = (a.kind, a.bytes.items)
+
+abbrev pub copied : SlotCopy → Parts
+copied s = record { kind = s.name_kind; struct = part_copied s.structure; attributes = map attribute_copied s.attributes.items }

@@ -1,0 +1,50 @@
+-- A file that gets other contents.
+use Rattle.std.specs.Prelude.{ℕ, ◌≡◌, ◌+◌, true, nat_eq, List, [], ◌∷◌, ◌++◌, Some, None}
+use Rattle.std.specs.List.{AllByRecursion, IsDistinct}
+use Rattle.lfs_model.specs.Apply.{change_at}
+use Rattle.lfs_model.specs.BlockSets.{IsInFlight}
+use Rattle.lfs_model.specs.Content.{struct_typed}
+use Rattle.lfs_model.specs.Logged.{IsPart}
+use Rattle.lfs_model.specs.Names.{Name}
+use Rattle.lfs_model.specs.Operations as ops
+use Rattle.lfs_model.specs.Session.{Session, Writer, Writing, file_of}
+use Rattle.lfs_model.specs.SlotEdits.{Stores}
+use Rattle.lfs_model.specs.Steps.{with_bytes}
+use Rattle.lfs_model.specs.Tree.{Path, Tree, branch_of}
+use Rattle.lfs_model.specs.View.{IsListIfCtz, file_blocks, tree_in}
+use Rattle.lfs_model.proofs.Committed.{IsCompleted}
+use Rattle.lfs_model.proofs.Counts.{count}
+use Rattle.lfs_thread.specs.Kept.{Kept}
+use Rattle.lfs_operations.specs.Editing.{CanEdit, slot_at}
+use Rattle.lfs_operations.specs.Ready.{HasBecomeBut}
+
+-- A file stands there, and the struct says these bytes: inline, or as a list that stands on the disk. `come` are its blocks that
+-- the file's list hasn't; they are in flight. `gone` are those that only the file's list has.
+pub record CanStore (t : Kept) (pair id kind : ℕ) (bytes : List ℕ) : Type 0 where
+  pub can : CanEdit t pair id
+  pub file : branch_of (slot_at can).struct ≡ None
+  pub part : IsPart 2 (kind, bytes)
+  pub contents : List ℕ
+  pub stores : Stores t.disk contents (struct_typed kind bytes)
+  pub list : IsListIfCtz t.disk (struct_typed kind bytes)
+  pub gone : List ℕ
+  pub come : List ℕ
+  pub flying : AllByRecursion (IsInFlight t.map) come
+  pub apart : IsDistinct nat_eq come
+  pub blocks : (b : ℕ) → count b (file_blocks t.disk (struct_typed kind bytes)) + count b gone ≡ count b come + count b (file_blocks t.disk (slot_at can).struct)
+
+-- the tree with other contents there
+abbrev pub with_contents_at : Kept → Path → Name → List ℕ → Tree
+with_contents_at t path name contents = change_at (path ++ name ∷ []) (with_bytes contents) (tree_in t.disk t.pairs)
+
+abbrev pub IsWriterOf : Session → ℕ → Path → List ℕ → Writer → Type 0
+IsWriterOf s fd path contents writer = (file_of s.files fd ≡ Some (Writing writer)) × ((writer.dirty ≡ true) × ((writer.path ≡ path) × (writer.contents ≡ contents)))
+
+-- The tree has the file with those contents, and its slot stands where it should: so a sync or a close of a file that was
+-- written is completed.
+pub record IsStored (old new : Kept) (path : Path) (name : Name) (contents gone come : List ℕ) : Type 0 where
+  pub now : HasBecomeBut old new (with_contents_at old path name contents) gone come
+  pub synced : (s : Session) (fd : ℕ) (writer : Writer) → s.tree ≡ tree_in old.disk old.pairs → IsWriterOf s fd (path ++ name ∷ []) contents writer
+      → IsCompleted old.disk old.pairs s (ops.Sync fd) new.disk new.pairs
+  pub closed : (s : Session) (fd : ℕ) (writer : Writer) → s.tree ≡ tree_in old.disk old.pairs → IsWriterOf s fd (path ++ name ∷ []) contents writer
+      → IsCompleted old.disk old.pairs s (ops.Close fd) new.disk new.pairs

@@ -1,0 +1,83 @@
+-- An empty directory that goes: its entry with the sync bit set, and then its pair, with the sync bit cleared.
+use Rattle.std.specs.Prelude.{ℕ, ◌≡◌, ◌⊎◌, ◌<◌, true, false, List, [], ◌∷◌, ◌++◌, length, nat_lt, ◌-◌, if◌then◌else◌, Result, is_err, IfErr, IsErrOf}
+use Rattle.std.specs.List.{remove}
+use Rattle.lfs_device.specs.declared.error.Error.{Error}
+use Rattle.lfs_device.specs.declared.error.Error.TheVariants.{Io, NoMemory}
+use Rattle.lfs_model.specs.Blocks.{Blocks}
+use Rattle.lfs_model.specs.Changes.{Change, Delete, PutMove}
+use Rattle.lfs_model.specs.Content.{content_at}
+use Rattle.lfs_model.specs.Disk.{block_count}
+use Rattle.lfs_model.specs.History.{faults}
+use Rattle.lfs_model.specs.Names.{Name}
+use Rattle.lfs_model.specs.Operations as ops
+use Rattle.lfs_model.specs.Session.{Session}
+use Rattle.lfs_model.specs.Slots.{Branch, Content, gstate_xor, same_pair}
+use Rattle.lfs_model.specs.Steps.{as_path}
+use Rattle.lfs_model.specs.Thread.{IsThread, is_hard}
+use Rattle.lfs_model.specs.Tree.{Path}
+use Rattle.lfs_model.specs.View.{tree_in}
+use Rattle.lfs_model.proofs.Committed.{IsCompleted}
+use Rattle.lfs_model.proofs.Global.{sync_share}
+use Rattle.lfs_thread.specs.Kept.{Kept, State}
+use Rattle.lfs_thread.specs.Steps.{IsWrittenAs, pair_in, with_pair}
+use Rattle.lfs_operations.specs.Dropping.{HasShrunk}
+use Rattle.lfs_operations.specs.Editing.{CanEdit, slot_at}
+use Rattle.lfs_operations.specs.Removing.{without_file}
+
+-- ---- the entry goes
+
+-- what its pair holds without it; the pair's share turns the sync bit
+abbrev pub without_entry : Kept → ℕ → ℕ → Content
+without_entry t pair id = record {
+  slots = remove (pair_in t pair).content.slots id;
+  tail = (pair_in t pair).content.tail;
+  move = gstate_xor (pair_in t pair).content.move sync_share;
+}
+
+abbrev pub unlink_changes : Kept → ℕ → ℕ → List Change
+unlink_changes t pair id = Delete id ∷ PutMove (gstate_xor (pair_in t pair).content.move sync_share) ∷ []
+
+-- the pair holds that, and everything else is as it was
+pub record IsUnlinked (old : Kept) (pair id : ℕ) (new : Kept) : Type 0 where
+  pub written : IsWrittenAs old pair (without_entry old pair id) new.disk
+  pub pairs : new.pairs ≡ with_pair old pair (without_entry old pair id)
+  pub thread : IsThread (content_at new.disk) (block_count new.disk) new.pairs
+  pub map : new.map ≡ old.map
+
+-- a stop leaves the pair with what it held, or with what it holds then
+pub record IsLeftByUnlink (old : Kept) (pair id : ℕ) (left : Blocks) : Type 0 where
+  pub content : Content
+  pub is : (content ≡ (pair_in old pair).content) ⊎ (content ≡ without_entry old pair id)
+  pub written : IsWrittenAs old pair content (record old.disk { blocks = left })
+
+-- ---- the operation
+
+-- A directory's entry stands there, in the directory that begins with the pair of number `first`. The pair of number `gone` is the
+-- only one of the directory that goes, and has no slots.
+pub record CanRemoveDirectory (t : Kept) (pair id first gone : ℕ) : Type 0 where
+  pub can : CanEdit t pair id
+  pub begins : can.first ≡ first
+  pub to : ℕ × ℕ
+  pub branch : (slot_at can).struct ≡ Branch to
+  pub below : gone < length t.pairs
+  pub at : same_pair (pair_in t gone).at to ≡ true
+  pub empty : (pair_in t gone).content.slots ≡ []
+  pub alone : is_hard (pair_in t gone).content.tail ≡ false
+
+-- the number of a pair once the other one is gone
+abbrev pub number_without : ℕ → ℕ → ℕ
+number_without other pair = if nat_lt other pair then pair - 1 else pair
+
+-- The tree hasn't it, the other slots stand where they should, and its pair is gone: so a remove of its path is completed.
+pub record IsDirectoryRemoved (old new : Kept) (path : Path) (name : Name) : Type 0 where
+  pub now : HasShrunk old new (without_file old path name) []
+  pub completed : (s : Session) (given : List ℕ) → s.tree ≡ tree_in old.disk old.pairs → as_path given ≡ path ++ name ∷ []
+      → IsCompleted old.disk old.pairs s (ops.Remove given) new.disk new.pairs
+
+-- What several steps tell that take no block: `Io` comes with a fault of the device, and any other answer with none. The thread has
+-- failed by an error.
+pub record TellsOfSteps {X : Type 0} (old new : State) (result : Result X Error) : Type 0 where
+  pub failed : new.failed ≡ is_err result
+  pub errors : IfErr result (λ e. (e ≡ Io) ⊎ (e ≡ NoMemory))
+  pub fault : IsErrOf result Io → faults old.kept.history < faults new.kept.history
+  pub no_fault : ¬ IsErrOf result Io → faults new.kept.history ≡ faults old.kept.history

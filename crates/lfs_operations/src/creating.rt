@@ -1,0 +1,52 @@
+// Files that come into directories.
+
+ghost use Rattle.std.specs.Prelude.{◌≡◌, false, OnOk};
+ghost use Rattle.lfs_model.specs.PowerLoss.{Survives};
+ghost use Rattle.lfs_model.specs.View.{tree_in};
+ghost use Rattle.lfs_operations.specs.Changing.{TellsPut, WritesIn};
+ghost use Rattle.lfs_operations.specs.Creating.{CanCreate, IsCreated, file_changes, with_file};
+
+use crate::changing::put;
+use lfs_device::{BlockDevice, Error};
+use lfs_pair::Change;
+use lfs_tag::kinds::{FILE_NAME, INLINE_STRUCT};
+use lfs_thread::Thread;
+use std::alloc::Global;
+
+/// Makes an empty file, an entry with an inline struct of no bytes, at the id of the pair where its
+/// name belongs. Where the pair has no room for it, it is split into two free blocks (DESIGN.md of
+/// littlefs, "Metadata pairs").
+///
+/// `NoSpace` where it has none and fewer than two blocks are free: everything is as it was then.
+/// `Io` where a call of the device failed, and `NoMemory` where there is no room for the pair's
+/// slots and its block; the thread has failed then. At `NoMemory` nothing was written.
+pub fn create<D: BlockDevice>(
+    alloc: Global,
+    thread: &mut Thread<D>,
+    pair: usize,
+    id: u16,
+    name: &[u8],
+) -> Result<(), Error>
+    requires works { thread.old.failed ≡ false }
+    requires can { CanCreate thread.old.kept pair id name.now }
+    ensures created { OnOk result ((can : CanCreate thread.old.kept pair id name.now) → IsCreated thread.old.kept thread.new.kept can.path name.now) }
+    ensures errors { TellsPut thread.old thread.new pair (file_changes id name.now) result }
+    ensures device { WritesIn thread.old.kept pair thread.new.kept }
+    ensures survives { (can : CanCreate thread.old.kept pair id name.now) → Survives thread.old.kept.disk thread.old.kept.history thread.new.kept.history
+        (tree_in thread.old.kept.disk thread.old.kept.pairs) (with_file thread.old.kept can.path name.now) }
+{
+    let changes = [
+        Change::Create {
+            id,
+            kind: FILE_NAME,
+            name,
+        },
+        Change::Struct {
+            id,
+            kind: INLINE_STRUCT,
+            bytes: &[],
+        },
+    ];
+    put(alloc, thread, pair, &changes)?;
+    Ok(())
+}

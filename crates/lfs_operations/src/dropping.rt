@@ -1,0 +1,102 @@
+// Pairs that go from the thread.
+
+ghost use Rattle.std.specs.Prelude.{◌≡◌, ◌<◌, ◌-◌, Some, length, false, OnOk};
+ghost use Rattle.std.specs.Option.{option_map};
+ghost use Rattle.lfs_model.specs.Thread.{is_hard};
+ghost use Rattle.lfs_pair.specs.ChangeSeen.{change_seen, changes_seen};
+ghost use Rattle.lfs_tag.specs.ContentSeen.{tail_seen};
+ghost use Rattle.lfs_tag.specs.FieldsSeen.{move_seen};
+ghost use Rattle.lfs_thread.specs.Device.{StopsLeave, two_of};
+ghost use Rattle.lfs_thread.specs.Steps.{Writes, made_in_thread, pair_in, put_tail};
+ghost use Rattle.lfs_operations.specs.Dropping.{CanDropAt, HasDroppedBehind, IsLeftByDrop, share_taken, taken_over, taking_changes, with_tail_taken};
+ghost use Rattle.lfs_operations.specs.Removing.{TellsOfCalls};
+
+use lfs_device::{BlockDevice, Error};
+use lfs_pair::Change;
+use lfs_tag::{MoveState, Tail};
+use lfs_thread::{Thread, with_share};
+use std::alloc::Global;
+
+// Whether a tail is a hard one.
+fn leads_on(tail: Option<Tail>) -> bool
+    ensures { result ≡ is_hard (option_map tail_seen tail) }
+{
+    match tail {
+        None => false,
+        Some(tail) => tail.hard,
+    }
+}
+
+// The change by which a pair with the tail `front` takes over the tail `gone`.
+fn tail_over(front: Option<Tail>, gone: Option<Tail>) -> Change<'static>
+    ensures { change_seen result ≡ put_tail (taken_over (option_map tail_seen front) (option_map tail_seen gone)) }
+{
+    match gone {
+        None => Change::Tail {
+            hard: false,
+            pair: None,
+        },
+        Some(tail) => Change::Tail {
+            hard: leads_on(front) && tail.hard,
+            pair: Some(tail.pair),
+        },
+    }
+}
+
+// The share of the pair in front by which the global state is that one, once the pair is gone.
+fn share_over<D: BlockDevice>(thread: &Thread<D>, index: usize, state: &MoveState) -> MoveState
+    requires works { thread.now.failed ≡ false }
+    requires above { 0 < index }
+    requires below { index < length thread.now.kept.pairs }
+    ensures { move_seen result ≡ share_taken thread.now.kept (index - 1) (move_seen state.now) }
+{
+    let both = with_share(&thread.share(index - 1), &thread.share(index));
+    let turned = with_share(&thread.state(), state);
+    with_share(&both, &turned)
+}
+
+// The changes to the pair in front by which it takes over the tail and the share of a pair.
+fn taking<D: BlockDevice>(
+    thread: &Thread<D>,
+    index: usize,
+    state: &MoveState,
+) -> [Change<'static>; 2]
+    requires works { thread.now.failed ≡ false }
+    requires can { CanDropAt thread.now.kept index (move_seen state.now) }
+    ensures are { changes_seen result ≡ taking_changes thread.now.kept (index - 1) (move_seen state.now) }
+    ensures made { made_in_thread thread.now.kept (index - 1) (changes_seen result) ≡ Some (with_tail_taken thread.now.kept (index - 1) (move_seen state.now)) }
+{
+    // What a device holds are bytes, so what the logs say can be written again.
+    let _device = thread.device();
+    [
+        tail_over(thread.tail(index - 1), thread.tail(index)),
+        Change::Move {
+            state: share_over(thread, index, state),
+        },
+    ]
+}
+
+// Drops a pair from the thread in one commit, to the pair in front of it: that one takes over its
+// tail and its share of the global state, which is `state` then (DESIGN.md of littlefs, "The move
+// problem"). Its blocks are free afterwards.
+//
+// `Io` where a call of the device failed, and `NoMemory` where there is no room for the pair's
+// slots and its block; the thread has failed then. At `NoMemory` nothing was written.
+pub(crate) fn drop_at<D: BlockDevice>(
+    alloc: Global,
+    thread: &mut Thread<D>,
+    index: usize,
+    state: &MoveState,
+) -> Result<(), Error>
+    requires works { thread.old.failed ≡ false }
+    requires can { CanDropAt thread.old.kept index (move_seen state.now) }
+    ensures is_dropped { OnOk result (HasDroppedBehind thread.old.kept (index - 1) (move_seen state.now) thread.new.kept) }
+    ensures errors { TellsOfCalls thread.old thread.new result }
+    ensures device { Writes (two_of (pair_in thread.old.kept (index - 1)).at) thread.old.kept thread.new.kept }
+    ensures stops { StopsLeave thread.old.kept.history thread.new.kept.history (IsLeftByDrop thread.old.kept (index - 1) (move_seen state.now)) }
+{
+    let changes = taking(thread, index, state);
+    // The slots stay, and the tail and the share have room of their own, so it is done.
+    thread.drop_next(alloc, index - 1, &changes)?;
+    Ok(())
+}

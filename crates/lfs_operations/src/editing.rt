@@ -1,0 +1,72 @@
+// Entries whose attributes change.
+
+ghost use Rattle.std.specs.Prelude.{◌≡◌, ◌∷◌, [], false, OnOk};
+ghost use Rattle.lfs_model.specs.Changes.{PutAttribute};
+ghost use Rattle.lfs_model.specs.Content.{put_attribute, without_attribute};
+ghost use Rattle.lfs_model.specs.PowerLoss.{Survives};
+ghost use Rattle.lfs_model.specs.View.{tree_in};
+ghost use Rattle.lfs_thread.specs.Device.{two_of};
+ghost use Rattle.lfs_thread.specs.Steps.{Writes, pair_in};
+ghost use Rattle.lfs_operations.specs.Changing.{TellsPut, WritesIn};
+ghost use Rattle.lfs_operations.specs.Editing.{CanEdit, CanSetAttribute, HasRemovedAttribute, HasSetAttribute, with_attributes_at};
+ghost use Rattle.lfs_operations.specs.Removing.{TellsOfCalls};
+
+use crate::changing::put;
+use lfs_device::{BlockDevice, Error};
+use lfs_pair::Change;
+use lfs_thread::Thread;
+use std::alloc::Global;
+
+/// Gives the entry at the id of a pair an attribute of that type (SPEC.md of littlefs, "0x3xx
+/// LFS_TYPE_USERATTR"), in place of the one that it has, if it has it. Where the pair has no room
+/// for it, it is split into two free blocks. It has at most 1,022 bytes, and the entry with it takes
+/// at most half of what a pair holds.
+///
+/// Errors as those of [`create`](crate::create).
+pub fn set_attribute<D: BlockDevice>(
+    alloc: Global,
+    thread: &mut Thread<D>,
+    pair: usize,
+    id: u16,
+    kind: u8,
+    bytes: &[u8],
+) -> Result<(), Error>
+    requires works { thread.old.failed ≡ false }
+    requires can { CanSetAttribute thread.old.kept pair id kind bytes.now }
+    ensures is_set { OnOk result ((set : CanSetAttribute thread.old.kept pair id kind bytes.now) → HasSetAttribute thread.old.kept thread.new.kept set.can.path set.can.name kind bytes.now) }
+    ensures errors { TellsPut thread.old thread.new pair (PutAttribute id kind bytes.now ∷ []) result }
+    ensures device { WritesIn thread.old.kept pair thread.new.kept }
+    ensures survives { (set : CanSetAttribute thread.old.kept pair id kind bytes.now) → Survives thread.old.kept.disk thread.old.kept.history thread.new.kept.history
+        (tree_in thread.old.kept.disk thread.old.kept.pairs) (with_attributes_at thread.old.kept set.can.path set.can.name (put_attribute kind bytes.now)) }
+{
+    let changes = [Change::Attr {
+        id,
+        attr: kind,
+        bytes,
+    }];
+    put(alloc, thread, pair, &changes)?;
+    Ok(())
+}
+
+/// Takes the attribute of that type from the entry at the id of a pair, if it has it.
+///
+/// Errors as those of [`remove_file`](crate::remove_file).
+pub fn remove_attribute<D: BlockDevice>(
+    alloc: Global,
+    thread: &mut Thread<D>,
+    pair: usize,
+    id: u16,
+    kind: u8,
+) -> Result<(), Error>
+    requires works { thread.old.failed ≡ false }
+    requires can { CanEdit thread.old.kept pair id }
+    ensures is_removed { OnOk result ((can : CanEdit thread.old.kept pair id) → HasRemovedAttribute thread.old.kept thread.new.kept can.path can.name kind) }
+    ensures errors { TellsOfCalls thread.old thread.new result }
+    ensures device { Writes (two_of (pair_in thread.old.kept pair).at) thread.old.kept thread.new.kept }
+    ensures survives { (can : CanEdit thread.old.kept pair id) → Survives thread.old.kept.disk thread.old.kept.history thread.new.kept.history
+        (tree_in thread.old.kept.disk thread.old.kept.pairs) (with_attributes_at thread.old.kept can.path can.name (without_attribute kind)) }
+{
+    // What is left fits, so it is done.
+    thread.change(alloc, pair, &[Change::NoAttr { id, attr: kind }])?;
+    Ok(())
+}

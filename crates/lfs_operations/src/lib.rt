@@ -1,0 +1,26 @@
+//! What changes the tree of an accepted image, in steps that a loss of power can't tear.
+#![tactic(auto)]
+
+mod changing;
+mod creating;
+mod dropping;
+mod editing;
+mod making;
+mod moving;
+mod recovering;
+mod removing;
+mod renaming;
+mod renaming_copy;
+mod renaming_over;
+mod storing;
+mod unlinking;
+
+pub use creating::create;
+pub use editing::{remove_attribute, set_attribute};
+pub use making::make_directory;
+pub use moving::{rename_across, rename_onto_file_across};
+pub use recovering::{drop_unreached, end_move};
+pub use removing::remove_file;
+pub use renaming::{rename, rename_onto_file};
+pub use storing::set_struct;
+pub use unlinking::remove_directory;

@@ -1,0 +1,179 @@
+// Directories that come into others.
+
+ghost use Rattle.std.specs.Prelude.{◌≡◌, ◌<◌, ◌^◌, ℕ, false, is_err, length, Err, OnOk};
+ghost use Rattle.lfs_device.specs.Bytes.{HasBytes};
+ghost use Rattle.lfs_model.specs.Disk.{block_count};
+ghost use Rattle.lfs_model.specs.PowerLoss.{IsLeft, Survives};
+ghost use Rattle.lfs_model.specs.Slots.{address_of};
+ghost use Rattle.lfs_model.specs.View.{tree_in};
+ghost use Rattle.lfs_model.proofs.Global.{turned};
+ghost use Rattle.lfs_tag.specs.FieldsSeen.{move_seen};
+ghost use Rattle.lfs_thread.specs.Device.{StopsLeave, four_of, two_of};
+ghost use Rattle.lfs_thread.specs.Steps.{CanJoin, HasToldBeside, IsJoined, IsLeftByJoin, Writes, pair_in};
+ghost use Rattle.lfs_operations.specs.Changing.{CanPut, IsLeftByPut, IsPut, TellsPut, WritesIn};
+ghost use Rattle.lfs_operations.specs.Making.{CanMake, FitsJoined, IsLastFrom, IsMade, TellsOfSteps, WritesUpTo, entering, naming, threading, with_directory};
+
+use crate::changing::{put, take_two};
+use lfs_device::{BlockDevice, Error};
+use lfs_pair::Change;
+use lfs_tag::kinds::{DIRECTORY_NAME, DIRECTORY_STRUCT};
+use lfs_tag::{MoveState, pair_bytes};
+use lfs_thread::Thread;
+use std::alloc::Global;
+
+// What is known of any device, for the proof: its blocks hold bytes, and a block's number has 32 bits.
+fn know_device<D: BlockDevice>(thread: &Thread<D>)
+    ensures count { block_count thread.now.kept.disk < 2 ^ 32 }
+    ensures bytes { HasBytes thread.now.kept.disk.blocks }
+{
+    let _count = thread.device().geometry().block_count;
+}
+
+// The last of the pairs to which hard tails lead from one.
+fn last_from<D: BlockDevice>(thread: &Thread<D>, index: usize) -> usize
+    requires works { thread.now.failed ≡ false }
+    requires below { index < length thread.now.kept.pairs }
+    ensures { IsLastFrom thread.now.kept.pairs index result }
+{
+    let mut last = index;
+    while let Some(next) = thread.next(last) {
+        last = next;
+    }
+    last
+}
+
+// A share of the global state with the sync bit turned: so is the global state's.
+fn turned(share: &MoveState) -> MoveState
+    ensures { move_seen result ≡ turned (move_seen share.now) }
+{
+    MoveState {
+        sync: !share.sync,
+        kind: share.kind,
+        id: share.id,
+        pair: share.pair,
+    }
+}
+
+// Threads a fresh pair without slots behind the last one of a directory. No entry names it yet, so
+// the sync bit is set.
+fn thread_behind<D: BlockDevice>(
+    alloc: Global,
+    thread: &mut Thread<D>,
+    last: usize,
+    fresh: [u32; 2],
+) -> Result<(), Error>
+    requires works { thread.old.failed ≡ false }
+    requires can { CanJoin thread.old.kept last (address_of fresh) (threading thread.old.kept last (address_of fresh)) }
+    requires fits { FitsJoined thread.old.kept last (address_of fresh) }
+    ensures is_joined { OnOk result (IsJoined thread.old.kept last (address_of fresh) (threading thread.old.kept last (address_of fresh)) thread.new.kept) }
+    ensures failed { thread.new.failed ≡ is_err result }
+    ensures errors { HasToldBeside (two_of (address_of fresh)) thread.old.kept thread.new.kept result }
+    ensures device { Writes (four_of (pair_in thread.old.kept last).at (address_of fresh)) thread.old.kept thread.new.kept }
+    ensures stops { StopsLeave thread.old.kept.history thread.new.kept.history (IsLeftByJoin thread.old.kept last (address_of fresh) (threading thread.old.kept last (address_of fresh))) }
+{
+    let changes = [
+        Change::Tail {
+            hard: false,
+            pair: Some(fresh),
+        },
+        Change::Move {
+            state: turned(&thread.share(last)),
+        },
+    ];
+    // The pair has room of its own for both, so it is done.
+    thread.thread_in(alloc, last, fresh, &changes)?;
+    Ok(())
+}
+
+// Puts an entry into a pair, with the struct of a directory, and turns the sync bit.
+fn put_entry<'a, D: BlockDevice>(
+    alloc: Global,
+    thread: &mut Thread<D>,
+    pair: usize,
+    id: u16,
+    name: &'a [u8],
+    branch: &'a [u8],
+) -> Result<(), Error>
+    requires works { thread.old.failed ≡ false }
+    requires can { CanPut thread.old.kept pair (entering thread.old.kept pair id name.now branch.now) }
+    ensures is_put { OnOk result (IsPut thread.old.kept pair (entering thread.old.kept pair id name.now branch.now) thread.new.kept) }
+    ensures errors { TellsPut thread.old thread.new pair (entering thread.old.kept pair id name.now branch.now) result }
+    ensures device { WritesIn thread.old.kept pair thread.new.kept }
+    ensures stops { StopsLeave thread.old.kept.history thread.new.kept.history (IsLeftByPut thread.old.kept pair (entering thread.old.kept pair id name.now branch.now)) }
+{
+    let changes = [
+        Change::Create {
+            id,
+            kind: DIRECTORY_NAME,
+            name,
+        },
+        Change::Struct {
+            id,
+            kind: DIRECTORY_STRUCT,
+            bytes: branch,
+        },
+        Change::Move {
+            state: turned(&thread.share(pair)),
+        },
+    ];
+    put(alloc, thread, pair, &changes)?;
+    Ok(())
+}
+
+// Puts the entry of the directory that begins at an address into a pair, and clears the sync bit.
+fn name_directory<D: BlockDevice>(
+    alloc: Global,
+    thread: &mut Thread<D>,
+    pair: usize,
+    id: u16,
+    name: &[u8],
+    at: [u32; 2],
+) -> Result<(), Error>
+    requires works { thread.old.failed ≡ false }
+    requires can { CanPut thread.old.kept pair (naming thread.old.kept pair id name.now (address_of at)) }
+    ensures is_put { OnOk result (IsPut thread.old.kept pair (naming thread.old.kept pair id name.now (address_of at)) thread.new.kept) }
+    ensures errors { TellsPut thread.old thread.new pair (naming thread.old.kept pair id name.now (address_of at)) result }
+    ensures device { WritesIn thread.old.kept pair thread.new.kept }
+    ensures stops { StopsLeave thread.old.kept.history thread.new.kept.history (IsLeftByPut thread.old.kept pair (naming thread.old.kept pair id name.now (address_of at))) }
+{
+    let branch = pair_bytes(at);
+    put_entry(alloc, thread, pair, id, name, &branch)?;
+    Ok(())
+}
+
+/// Makes an empty directory, whose entry comes to the id of the pair where its name belongs. Its own
+/// pair is threaded first, behind the last one of the parent, with the sync bit set; then its entry
+/// comes, which clears the bit (DESIGN.md of littlefs, "The metadata tree"). Where the entry has no
+/// room in its pair, that one is split. Four blocks have to be free: two for the directory, and two
+/// for a split.
+///
+/// `Io` where a call of the device failed, and `NoMemory` where there is no room for a pair's slots
+/// and its block; the thread has failed then. The new pair may be threaded then and no entry name it,
+/// so that a recovery drops it.
+pub fn make_directory<D: BlockDevice>(
+    alloc: Global,
+    thread: &mut Thread<D>,
+    pair: usize,
+    id: u16,
+    name: &[u8],
+) -> Result<(), Error>
+    requires works { thread.old.failed ≡ false }
+    requires can { CanMake thread.old.kept pair id name.now }
+    ensures made { OnOk result ((can : CanMake thread.old.kept pair id name.now) → IsMade thread.old.kept thread.new.kept can.path name.now) }
+    ensures errors { TellsOfSteps thread.old thread.new result }
+    ensures device { WritesUpTo thread.old.kept pair thread.new.kept }
+    ensures stands { result ≡ Err Error.NoMemory → (can : CanMake thread.old.kept pair id name.now) → IsLeft thread.new.kept.disk
+        (tree_in thread.old.kept.disk thread.old.kept.pairs) (with_directory thread.old.kept can.path name.now) }
+    ensures survives { (can : CanMake thread.old.kept pair id name.now) → Survives thread.old.kept.disk thread.old.kept.history thread.new.kept.history
+        (tree_in thread.old.kept.disk thread.old.kept.pairs) (with_directory thread.old.kept can.path name.now) }
+{
+    let last = last_from(thread, pair);
+    know_device(thread);
+    let Some(fresh) = take_two(thread) else {
+        return Err(Error::NoSpace);
+    };
+    thread_behind(alloc, thread, last, fresh)?;
+    know_device(thread);
+    name_directory(alloc, thread, pair, id, name, fresh)?;
+    Ok(())
+}

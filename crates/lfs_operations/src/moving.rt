@@ -1,0 +1,226 @@
+// Slots that move from one pair into another.
+
+ghost use Rattle.std.specs.Prelude.{◌≡◌, ◌<◌, ◌^◌, ◌∷◌, false, length, IfOk, OnOk};
+ghost use Rattle.lfs_model.specs.Changes.{Delete, PutMove};
+ghost use Rattle.lfs_model.specs.Slots.{gstate_xor};
+ghost use Rattle.lfs_operations.specs.RenamingSeen.{copied};
+ghost use Rattle.lfs_operations.specs.RenamingSlots.{slot_changes};
+ghost use Rattle.lfs_model.specs.Logged.{IsAddress};
+ghost use Rattle.lfs_model.specs.PowerLoss.{Survives};
+ghost use Rattle.lfs_model.specs.View.{tree_in};
+ghost use Rattle.lfs_tag.specs.FieldsSeen.{move_seen};
+ghost use Rattle.lfs_thread.specs.Device.{two_of};
+ghost use Rattle.lfs_thread.specs.Kept.{Kept};
+ghost use Rattle.lfs_thread.specs.Steps.{Writes, pair_in};
+ghost use Rattle.lfs_pair.specs.ChangeSeen.{changes_seen};
+ghost use Rattle.lfs_operations.specs.Changing.{CanPut, IsPut};
+ghost use Rattle.lfs_operations.specs.Moving.{CanEnd, CanRenameAcross, CanReplaceAcross, EndsAfter, HasEnded, IsPutAndEnded, IsRenamedAcross, IsReplacedAcross, SurvivesBoth, TellsInSteps, WritesInTwo, move_of, moving_changes, place_after, replacing_changes, share_without_move, with_moved};
+ghost use Rattle.lfs_operations.specs.Removing.{TellsOfCalls};
+
+use crate::changing::put;
+use crate::renaming_copy::{SlotCopy, copy_at, push_slot};
+use lfs_device::{BlockDevice, Error};
+use lfs_pair::Change;
+use lfs_tag::MoveState;
+use lfs_tag::kinds::DELETE;
+use lfs_thread::{Thread, with_share};
+use std::alloc::{AllocError, Global};
+
+// A pair's share of the global state, without the move that is set.
+fn share_without_move<D: BlockDevice>(thread: &Thread<D>, pair: usize) -> MoveState
+    requires works { thread.now.failed ≡ false }
+    requires below { pair < length thread.now.kept.pairs }
+    ensures share { move_seen result ≡ share_without_move thread.now.kept pair }
+    ensures address { IsAddress (move_seen result).pair }
+{
+    let mut state = thread.state();
+    state.sync = false;
+    let share = thread.share(pair);
+    with_share(&state, &share)
+}
+
+// Takes the slot that a set move hides from its pair, which stays, and ends the move: the second step
+// of a rename across pairs, and the first of a recovery from one.
+pub(crate) fn end_move<D: BlockDevice>(
+    alloc: Global,
+    thread: &mut Thread<D>,
+    pair: usize,
+    id: u16,
+) -> Result<(), Error>
+    requires works { thread.old.failed ≡ false }
+    requires can { CanEnd thread.old.kept pair id }
+    ensures ended { OnOk result (HasEnded thread.old.kept pair id thread.new.kept) }
+    ensures errors { TellsOfCalls thread.old thread.new result }
+    ensures device { Writes (two_of (pair_in thread.old.kept pair).at) thread.old.kept thread.new.kept }
+    ensures survives { Survives thread.old.kept.disk thread.old.kept.history thread.new.kept.history
+        (tree_in thread.old.kept.disk thread.old.kept.pairs) (tree_in thread.old.kept.disk thread.old.kept.pairs) }
+{
+    let state = share_without_move(thread, pair);
+    // What is left fits, so it is done.
+    thread.change(
+        alloc,
+        pair,
+        &[Change::Delete { id }, Change::Move { state }],
+    )?;
+    Ok(())
+}
+
+// The number of a pair once so many came behind another.
+fn place_after(pair: usize, other: usize, fresh: usize) -> usize
+    requires { place_after pair other fresh < 2 ^ 64 }
+    ensures { result ≡ place_after pair other fresh }
+{
+    if pair < other { pair } else { pair + fresh }
+}
+
+// Puts changes that set a move into a pair, and ends the move then in another pair, where the slot
+// that it hides stands.
+fn put_and_end<D: BlockDevice>(
+    alloc: Global,
+    thread: &mut Thread<D>,
+    old_pair: usize,
+    old_id: u16,
+    new_pair: usize,
+    changes: &[Change<'_>],
+) -> Result<(), Error>
+    requires works { thread.old.failed ≡ false }
+    requires can { CanPut thread.old.kept new_pair (changes_seen changes.now) }
+    requires ends { (mid : Kept) → IsPut thread.old.kept new_pair (changes_seen changes.now) mid → EndsAfter thread.old.kept old_pair old_id new_pair mid }
+    ensures done { OnOk result (IsPutAndEnded thread.old.kept old_pair old_id new_pair (changes_seen changes.now) thread.new.kept) }
+    ensures errors { TellsInSteps thread.old thread.new new_pair (changes_seen changes.now) result }
+    ensures device { WritesInTwo thread.old.kept old_pair new_pair thread.new.kept }
+    ensures survives { SurvivesBoth thread.old.kept new_pair (changes_seen changes.now) thread.new.kept }
+{
+    let before = thread.len();
+    put(alloc, thread, new_pair, changes)?;
+    let fresh = thread.len() - before;
+    let pair = place_after(old_pair, new_pair, fresh);
+    end_move(alloc, thread, pair, old_id)?;
+    Ok(())
+}
+
+// A pair's share of the global state that sets a move, which hides a slot of another pair. None is set
+// before.
+fn share_with_move<D: BlockDevice>(
+    thread: &Thread<D>,
+    old_pair: usize,
+    old_id: u16,
+    new_pair: usize,
+) -> MoveState
+    requires works { thread.now.failed ≡ false }
+    requires old_below { old_pair < length thread.now.kept.pairs }
+    requires new_below { new_pair < length thread.now.kept.pairs }
+    ensures share { move_seen result ≡ gstate_xor (move_of (pair_in thread.now.kept old_pair).at old_id) (pair_in thread.now.kept new_pair).content.move }
+    ensures address { IsAddress (pair_in thread.now.kept old_pair).at }
+{
+    let pair = thread.address(old_pair);
+    let state = MoveState {
+        sync: false,
+        kind: DELETE,
+        id: old_id,
+        pair,
+    };
+    let share = thread.share(new_pair);
+    with_share(&state, &share)
+}
+
+// A share of the global state, and a copied slot that comes at an id.
+fn changes_of<'a>(
+    alloc: Global,
+    state: MoveState,
+    id: u16,
+    name: &'a [u8],
+    copy: &'a SlotCopy,
+) -> Result<Vec<Change<'a>>, AllocError>
+    ensures { IfOk result (λ changes. changes_seen changes.items ≡ PutMove (move_seen state) ∷ slot_changes id name.now (copied copy.now)) }
+{
+    let mut changes = Vec::new(alloc);
+    changes.push(Change::Move { state })?;
+    push_slot(&mut changes, id, name, copy)?;
+    Ok(changes)
+}
+
+/// Gives the entry at an id of a pair another name, which belongs at an id of another pair, in the
+/// same directory or another one: the entry stands there then, with its struct and its attributes.
+/// That takes two commits. The first puts a copy of the entry under its new name, and sets a move that
+/// names the old slot, which counts as gone from then on; the second takes the old slot away and ends
+/// the move (DESIGN.md of littlefs, "The move problem"). Where the new pair has no room, it is split
+/// into two free blocks; the old pair stays.
+///
+/// `NoSpace` where it has none and fewer than two blocks are free: everything is as it was then.
+/// `Io` where a call of the device failed, and `NoMemory` where there is no room for the pairs'
+/// slots, a copy of the entry and the pairs' blocks. The thread works on where the entry couldn't be
+/// read, and has failed else; the device may then stand between the two commits, where it shows the
+/// new tree.
+pub fn rename_across<D: BlockDevice>(
+    alloc: Global,
+    thread: &mut Thread<D>,
+    old_pair: usize,
+    old_id: u16,
+    new_pair: usize,
+    new_id: u16,
+    name: &[u8],
+) -> Result<(), Error>
+    requires works { thread.old.failed ≡ false }
+    requires can { CanRenameAcross thread.old.kept old_pair old_id new_pair new_id name.now }
+    ensures renamed { OnOk result ((rename : CanRenameAcross thread.old.kept old_pair old_id new_pair new_id name.now)
+        → IsRenamedAcross thread.old.kept thread.new.kept rename.old.path rename.old.name rename.path name.now) }
+    ensures errors { TellsInSteps thread.old thread.new new_pair (moving_changes thread.old.kept old_pair old_id new_pair new_id name.now) result }
+    ensures device { WritesInTwo thread.old.kept old_pair new_pair thread.new.kept }
+    ensures survives { (rename : CanRenameAcross thread.old.kept old_pair old_id new_pair new_id name.now) → Survives thread.old.kept.disk thread.old.kept.history thread.new.kept.history
+        (tree_in thread.old.kept.disk thread.old.kept.pairs) (with_moved thread.old.kept rename.old.path rename.old.name rename.path name.now) }
+{
+    let copy = copy_at(alloc, thread, old_pair, old_id)?;
+    let state = share_with_move(thread, old_pair, old_id, new_pair);
+    let changes = changes_of(alloc, state, new_id, name, &copy)?;
+    put_and_end(alloc, thread, old_pair, old_id, new_pair, &changes)?;
+    Ok(())
+}
+
+// A share of the global state, and a copied slot that comes in place of the one at an id.
+fn changes_onto<'a>(
+    alloc: Global,
+    state: MoveState,
+    id: u16,
+    name: &'a [u8],
+    copy: &'a SlotCopy,
+) -> Result<Vec<Change<'a>>, AllocError>
+    ensures { IfOk result (λ changes. changes_seen changes.items ≡ PutMove (move_seen state) ∷ Delete id ∷ slot_changes id name.now (copied copy.now)) }
+{
+    let mut changes = Vec::new(alloc);
+    changes.push(Change::Move { state })?;
+    changes.push(Change::Delete { id })?;
+    push_slot(&mut changes, id, name, copy)?;
+    Ok(changes)
+}
+
+/// Puts the entry at an id of a pair in the place of the file at an id of another pair, in the same
+/// directory or another one: the entry stands there then under the file's name, with its own struct
+/// and attributes. In other respects as [`rename_across`]. The map isn't told of the file's list,
+/// whose blocks stay used.
+///
+/// Errors as those of [`rename_across`].
+pub fn rename_onto_file_across<D: BlockDevice>(
+    alloc: Global,
+    thread: &mut Thread<D>,
+    old_pair: usize,
+    old_id: u16,
+    new_pair: usize,
+    new_id: u16,
+    name: &[u8],
+) -> Result<(), Error>
+    requires works { thread.old.failed ≡ false }
+    requires can { CanReplaceAcross thread.old.kept old_pair old_id new_pair new_id name.now }
+    ensures replaced { OnOk result ((rename : CanReplaceAcross thread.old.kept old_pair old_id new_pair new_id name.now)
+        → IsReplacedAcross thread.old.kept thread.new.kept rename.old.path rename.old.name rename.path name.now rename.target.stands.slot.struct) }
+    ensures errors { TellsInSteps thread.old thread.new new_pair (replacing_changes thread.old.kept old_pair old_id new_pair new_id name.now) result }
+    ensures device { WritesInTwo thread.old.kept old_pair new_pair thread.new.kept }
+    ensures survives { (rename : CanReplaceAcross thread.old.kept old_pair old_id new_pair new_id name.now) → Survives thread.old.kept.disk thread.old.kept.history thread.new.kept.history
+        (tree_in thread.old.kept.disk thread.old.kept.pairs) (with_moved thread.old.kept rename.old.path rename.old.name rename.path name.now) }
+{
+    let copy = copy_at(alloc, thread, old_pair, old_id)?;
+    let state = share_with_move(thread, old_pair, old_id, new_pair);
+    let changes = changes_onto(alloc, state, new_id, name, &copy)?;
+    put_and_end(alloc, thread, old_pair, old_id, new_pair, &changes)?;
+    Ok(())
+}

@@ -1,0 +1,308 @@
+// What a loss of power left in an image, and how it is ended.
+
+ghost use Rattle.std.specs.Prelude.{ℕ, ◌≡◌, ◌<◌, ◌+◌, ◌-◌, ◌&&◌, false, OnOk, length, if◌then◌else◌, IfNone, IfSome, Option};
+ghost use Rattle.std.specs.Option.{option_map};
+ghost use Rattle.lfs_model.specs.Logged.{IsAddress};
+ghost use Rattle.lfs_model.specs.PowerLoss.{Survives};
+ghost use Rattle.lfs_model.specs.Recovery.{IsRecovered};
+ghost use Rattle.lfs_model.specs.Slots.{Gstate, address_of, gstate_xor, no_gstate, same_pair};
+ghost use Rattle.lfs_model.specs.Thread.{gstate_of, is_hard};
+ghost use Rattle.lfs_model.specs.View.{IsAccepted, tree_in};
+ghost use Rattle.lfs_model.specs.InDirectory.{BeginsAt};
+ghost use Rattle.lfs_model.proofs.Global.{HasNoMove};
+ghost use Rattle.std.specs.List.{AllByRecursion};
+ghost use Rattle.lfs_tag.specs.ContentSeen.{tail_seen};
+ghost use Rattle.lfs_tag.specs.FieldsSeen.{move_seen};
+ghost use Rattle.lfs_thread.specs.Device.{StopsLeave, two_of};
+ghost use Rattle.lfs_thread.specs.Steps.{IsChanged, IsDropped, IsLeft, Writes, pair_in};
+ghost use Rattle.lfs_operations.specs.Recovering.{CanClearSync, CanDropUnreached, CanEndMove, CanSetState, CanTakeOver, CanTakeSlot, HasEndedMove, HasRecovered, IsAddressIfSome, IsCleared, IsMovedAt, StaysOn, TellsOfSteps, goes_on_at, is_alone_at, setting, share_of, state_with, taking, taking_over, takes_share, target_of, unset};
+ghost use Rattle.lfs_operations.specs.Removing.{TellsOfCalls};
+
+use lfs_device::{BlockDevice, Error};
+use lfs_pair::Change;
+use lfs_tag::kinds::DELETE;
+use lfs_tag::{MoveState, Tail};
+use lfs_thread::{Thread, with_share};
+use std::alloc::Global;
+
+// An address of two blocks, which are words of 32 bits.
+fn is_address(pair: [u32; 2]) -> [u32; 2]
+    ensures same { address_of result ≡ address_of pair }
+    ensures words { IsAddress (address_of pair) }
+{
+    [pair[0], pair[1]]
+}
+
+// The share of a pair by which the global state becomes that: it changes as the state does.
+fn share_for<D: BlockDevice>(thread: &Thread<D>, index: usize, wanted: &MoveState) -> MoveState
+    requires works { thread.now.failed ≡ false }
+    requires below { index < length thread.now.kept.pairs }
+    ensures { move_seen result ≡ share_of thread.now.kept index (move_seen wanted.now) }
+{
+    let change = with_share(wanted, &thread.state());
+    with_share(&change, &thread.share(index))
+}
+
+// A global state as it can be stored.
+fn storable(state: MoveState) -> MoveState
+    ensures same { move_seen result ≡ move_seen state }
+    ensures words { IsAddress (move_seen result).pair }
+{
+    let pair = is_address(state.pair);
+    MoveState {
+        sync: state.sync,
+        kind: state.kind,
+        id: state.id,
+        pair,
+    }
+}
+
+// Whether a pair's tail is a hard one.
+fn goes_on<D: BlockDevice>(thread: &Thread<D>, index: usize) -> bool
+    requires works { thread.now.failed ≡ false }
+    requires below { index < length thread.now.kept.pairs }
+    ensures { result ≡ goes_on_at thread.now.kept index }
+{
+    thread.next(index).is_some()
+}
+
+// Which pair a tail names.
+fn target(tail: Option<Tail>) -> Option<[u32; 2]>
+    ensures same { option_map address_of result ≡ target_of (option_map tail_seen tail) }
+    ensures words { IsAddressIfSome (option_map address_of result) }
+{
+    match tail {
+        None => None,
+        Some(tail) => Some(is_address(tail.pair)),
+    }
+}
+
+// Whether two pairs' tails are hard ones.
+fn both_go_on<D: BlockDevice>(thread: &Thread<D>, index: usize, behind: usize) -> bool
+    requires works { thread.now.failed ≡ false }
+    requires first { index < length thread.now.kept.pairs }
+    requires second { behind < length thread.now.kept.pairs }
+    ensures { result ≡ (goes_on_at thread.now.kept index && goes_on_at thread.now.kept behind) }
+{
+    goes_on(thread, index) && goes_on(thread, behind)
+}
+
+// Changes the share of a pair, so that the global state becomes that.
+fn set_state<D: BlockDevice>(
+    alloc: Global,
+    thread: &mut Thread<D>,
+    index: usize,
+    wanted: &MoveState,
+) -> Result<(), Error>
+    requires works { thread.old.failed ≡ false }
+    requires can { CanSetState thread.old.kept index (move_seen wanted.now) }
+    ensures is_set { OnOk result (IsChanged thread.old.kept index (setting thread.old.kept index (move_seen wanted.now)) thread.new.kept) }
+    ensures errors { TellsOfCalls thread.old thread.new result }
+    ensures words { IsAddress (share_of thread.old.kept index (move_seen wanted.now)).pair }
+    ensures device { Writes (two_of (pair_in thread.old.kept index).at) thread.old.kept thread.new.kept }
+    ensures stops { StopsLeave thread.old.kept.history thread.new.kept.history (IsLeft thread.old.kept index (setting thread.old.kept index (move_seen wanted.now))) }
+{
+    let state = storable(share_for(thread, index, wanted));
+    // It has the slots that it had, so it fits, and it is done.
+    thread.change(alloc, index, &[Change::Move { state }])?;
+    Ok(())
+}
+
+// Drops the pair behind one, so that the global state becomes that: the one in front takes over its
+// tail, as a hard one where both are, and its share.
+fn drop_behind<D: BlockDevice>(
+    alloc: Global,
+    thread: &mut Thread<D>,
+    index: usize,
+    behind: usize,
+    wanted: &MoveState,
+) -> Result<(), Error>
+    requires works { thread.old.failed ≡ false }
+    requires can { CanTakeOver thread.old.kept index behind (move_seen wanted.now) }
+    ensures is_dropped { OnOk result (IsDropped thread.old.kept index (taking_over thread.old.kept index behind (move_seen wanted.now)) thread.new.kept) }
+    ensures errors { TellsOfCalls thread.old thread.new result }
+    ensures words { IsAddress (takes_share thread.old.kept index behind (move_seen wanted.now)).pair × IsAddressIfSome (target_of (pair_in thread.old.kept behind).content.tail) }
+    ensures device { Writes (two_of (pair_in thread.old.kept index).at) thread.old.kept thread.new.kept }
+    ensures stops { StopsLeave thread.old.kept.history thread.new.kept.history (IsLeft thread.old.kept index (taking_over thread.old.kept index behind (move_seen wanted.now))) }
+{
+    let share = share_for(thread, index, wanted);
+    let state = storable(with_share(&share, &thread.share(behind)));
+    let hard = both_go_on(thread, index, behind);
+    let pair = target(thread.tail(behind));
+    // It has the slots that it had, so it fits, and it is done.
+    thread.drop_next(
+        alloc,
+        index,
+        &[Change::Tail { hard, pair }, Change::Move { state }],
+    )?;
+    Ok(())
+}
+
+// The global state that is wanted when a pair is dropped: none with the last one.
+fn state_after<D: BlockDevice>(thread: &Thread<D>, is_last: bool) -> MoveState
+    requires { thread.now.failed ≡ false }
+    ensures { move_seen result ≡ state_with thread.now.kept is_last }
+{
+    if is_last {
+        MoveState::none()
+    } else {
+        thread.state()
+    }
+}
+
+// Clears the sync bit, if it is set: a path leads to each directory.
+fn clear_sync<D: BlockDevice>(alloc: Global, thread: &mut Thread<D>) -> Result<(), Error>
+    requires works { thread.old.failed ≡ false }
+    requires can { CanClearSync thread.old.kept }
+    ensures nothing { gstate_of thread.old.kept.pairs ≡ no_gstate → thread.new.kept ≡ thread.old.kept }
+    ensures is_cleared { OnOk result (IsCleared thread.old.kept thread.new.kept) }
+    ensures errors { TellsOfCalls thread.old thread.new result }
+    ensures device { StaysOn thread.old.kept thread.new.kept }
+    ensures survives { Survives thread.old.kept.disk thread.old.kept.history thread.new.kept.history
+        (tree_in thread.old.kept.disk thread.old.kept.pairs) (tree_in thread.old.kept.disk thread.old.kept.pairs) }
+{
+    if thread.state().sync {
+        let last = thread.len() - 1;
+        set_state(alloc, thread, last, &MoveState::none())?;
+    }
+    Ok(())
+}
+
+/// Drops the pairs of directories that no path leads to, one commit each, to the pair in front of
+/// it. The last one also clears the sync bit; where there is none, a commit of its own does, if it
+/// is set (DESIGN.md of littlefs, "The move problem"). No move is set, and `unreached` has their
+/// numbers in the thread, in turn. Nothing is written where there is nothing to recover.
+///
+/// `Io` where a call of the device failed, and `NoMemory` where there is no room for a pair's slots
+/// and its block; the thread has failed then.
+pub fn drop_unreached<D: BlockDevice>(
+    alloc: Global,
+    thread: &mut Thread<D>,
+    unreached: &[usize],
+) -> Result<(), Error>
+    requires works { thread.old.failed ≡ false }
+    requires can { CanDropUnreached thread.old.kept unreached.now }
+    ensures nothing { IsRecovered thread.old.kept.pairs → thread.new.kept ≡ thread.old.kept }
+    ensures recovered { OnOk result (HasRecovered thread.old.kept thread.new.kept) }
+    ensures errors { TellsOfSteps thread.old thread.new result }
+    ensures device { StaysOn thread.old.kept thread.new.kept }
+    ensures survives { Survives thread.old.kept.disk thread.old.kept.history thread.new.kept.history
+        (tree_in thread.old.kept.disk thread.old.kept.pairs) (tree_in thread.old.kept.disk thread.old.kept.pairs) }
+{
+    for dropped in 0..unreached.len() {
+        let behind = unreached[dropped] - dropped;
+        let wanted = state_after(thread, dropped + 1 == unreached.len());
+        drop_behind(alloc, thread, behind - 1, behind, &wanted)?;
+    }
+    clear_sync(alloc, thread)?;
+    Ok(())
+}
+
+// Whether two addresses are of the same pair: in either order.
+fn is_same_pair(a: [u32; 2], b: [u32; 2]) -> bool
+    ensures { result ≡ same_pair (address_of a) (address_of b) }
+{
+    a[0] == b[0] && a[1] == b[1] || a[0] == b[1] && a[1] == b[0]
+}
+
+// The number of the pair at an address, of which the two blocks may come in either order.
+fn number_of<D: BlockDevice>(thread: &Thread<D>, at: [u32; 2]) -> Option<usize>
+    ensures there { IfSome result (BeginsAt thread.now.kept.pairs (address_of at)) }
+    ensures nowhere { IfNone result (AllByRecursion (λ p. same_pair p.at (address_of at) ≡ false) thread.now.kept.pairs) }
+{
+    for index in 0..thread.len() {
+        if is_same_pair(thread.address(index), at) {
+            return Some(index);
+        }
+    }
+    None
+}
+
+// The number of the pair whose slot a set move names. None where no move is set.
+fn moved_pair<D: BlockDevice>(thread: &Thread<D>, state: &MoveState) -> Option<usize>
+    requires accepted { IsAccepted thread.now.kept.disk thread.now.kept.pairs }
+    requires state { move_seen state.now ≡ gstate_of thread.now.kept.pairs }
+    ensures there { IfSome result (IsMovedAt thread.now.kept) }
+    ensures none { IfNone result (HasNoMove (gstate_of thread.now.kept.pairs)) }
+{
+    if state.kind != DELETE {
+        return None;
+    }
+    number_of(thread, state.pair)
+}
+
+// The global state without a move.
+fn without_move(state: &MoveState) -> MoveState
+    ensures { move_seen result ≡ unset (move_seen state.now) }
+{
+    MoveState {
+        sync: state.sync,
+        kind: 0,
+        id: 0,
+        pair: [0, 0],
+    }
+}
+
+// Whether a pair has one slot, and a hard tail leads to it.
+fn is_alone<D: BlockDevice>(thread: &Thread<D>, index: usize) -> bool
+    requires works { thread.now.failed ≡ false }
+    requires below { index < length thread.now.kept.pairs }
+    ensures { result ≡ is_alone_at thread.now.kept index }
+{
+    index > 0 && thread.slot_count(index) == 1 && goes_on(thread, index - 1)
+}
+
+// Takes the slot at the id from a pair, so that the global state becomes that.
+fn take_slot<D: BlockDevice>(
+    alloc: Global,
+    thread: &mut Thread<D>,
+    index: usize,
+    id: u16,
+    wanted: &MoveState,
+) -> Result<(), Error>
+    requires works { thread.old.failed ≡ false }
+    requires can { CanTakeSlot thread.old.kept index id (move_seen wanted.now) }
+    ensures is_taken { OnOk result (IsChanged thread.old.kept index (taking thread.old.kept index id (move_seen wanted.now)) thread.new.kept) }
+    ensures errors { TellsOfCalls thread.old thread.new result }
+    ensures words { IsAddress (share_of thread.old.kept index (move_seen wanted.now)).pair }
+    ensures device { Writes (two_of (pair_in thread.old.kept index).at) thread.old.kept thread.new.kept }
+    ensures stops { StopsLeave thread.old.kept.history thread.new.kept.history (IsLeft thread.old.kept index (taking thread.old.kept index id (move_seen wanted.now))) }
+{
+    let state = storable(share_for(thread, index, wanted));
+    // It has a slot less than it had, so it fits, and it is done.
+    thread.change(
+        alloc,
+        index,
+        &[Change::Delete { id }, Change::Move { state }],
+    )?;
+    Ok(())
+}
+
+/// Ends a set move, in one commit: the slot that it names goes. Where that slot is the only one of a
+/// pair that isn't the first of its directory, the pair is dropped (DESIGN.md of littlefs, "The move
+/// problem"). Nothing is written where no move is set.
+///
+/// `Io` where a call of the device failed, and `NoMemory` where there is no room for a pair's slots
+/// and its block; the thread has failed then.
+pub fn end_move<D: BlockDevice>(alloc: Global, thread: &mut Thread<D>) -> Result<(), Error>
+    requires works { thread.old.failed ≡ false }
+    requires can { CanEndMove thread.old.kept }
+    ensures nothing { HasNoMove (gstate_of thread.old.kept.pairs) → thread.new.kept ≡ thread.old.kept }
+    ensures ended { OnOk result (HasEndedMove thread.old.kept thread.new.kept) }
+    ensures errors { TellsOfSteps thread.old thread.new result }
+    ensures device { StaysOn thread.old.kept thread.new.kept }
+    ensures survives { Survives thread.old.kept.disk thread.old.kept.history thread.new.kept.history
+        (tree_in thread.old.kept.disk thread.old.kept.pairs) (tree_in thread.old.kept.disk thread.old.kept.pairs) }
+{
+    let state = thread.state();
+    let Some(index) = moved_pair(thread, &state) else {
+        return Ok(());
+    };
+    let wanted = without_move(&state);
+    if is_alone(thread, index) {
+        drop_behind(alloc, thread, index - 1, index, &wanted)?;
+    } else {
+        take_slot(alloc, thread, index, state.id, &wanted)?;
+    }
+    Ok(())
+}

@@ -1,0 +1,55 @@
+// Files that go from directories.
+
+ghost use Rattle.std.specs.Prelude.{◌≡◌, ◌<◌, length, false, OnOk};
+ghost use Rattle.lfs_model.specs.PowerLoss.{Survives};
+ghost use Rattle.lfs_model.specs.View.{tree_in};
+ghost use Rattle.lfs_thread.specs.Device.{two_of};
+ghost use Rattle.lfs_thread.specs.Steps.{Writes};
+ghost use Rattle.lfs_operations.specs.Editing.{slot_at};
+ghost use Rattle.lfs_operations.specs.Removing.{CanRemove, IsRemoved, TellsOfCalls, goes_whole, without_file, written_at};
+
+use crate::dropping::drop_at;
+use lfs_device::{BlockDevice, Error};
+use lfs_pair::Change;
+use lfs_tag::MoveState;
+use lfs_thread::Thread;
+use std::alloc::Global;
+
+// Whether a pair goes with its slot: it has no other, and isn't the first of its directory.
+pub(crate) fn goes_with_slot<D: BlockDevice>(thread: &Thread<D>, pair: usize, first: usize) -> bool
+    requires works { thread.now.failed ≡ false }
+    requires below { pair < length thread.now.kept.pairs }
+    ensures { result ≡ goes_whole thread.now.kept pair first }
+{
+    pair != first && thread.slot_count(pair) == 1
+}
+
+/// Takes the file at the id of a pair from its directory, which begins with the pair of number
+/// `first`. Where the pair has no other slot and isn't the first, it goes with it: the pair in front
+/// of it takes over its tail. The map isn't told of the file's list, whose blocks stay used.
+///
+/// `Io` where a call of the device failed, and `NoMemory` where there is no room for the pair's
+/// slots and its block; the thread has failed then. At `NoMemory` nothing was written.
+pub fn remove_file<D: BlockDevice>(
+    alloc: Global,
+    thread: &mut Thread<D>,
+    pair: usize,
+    id: u16,
+    first: usize,
+) -> Result<(), Error>
+    requires works { thread.old.failed ≡ false }
+    requires can { CanRemove thread.old.kept pair id first }
+    ensures is_removed { OnOk result ((take : CanRemove thread.old.kept pair id first) → IsRemoved thread.old.kept thread.new.kept take.can.path take.can.name (slot_at take.can).struct) }
+    ensures errors { TellsOfCalls thread.old thread.new result }
+    ensures device { Writes (two_of (written_at thread.old.kept pair first)) thread.old.kept thread.new.kept }
+    ensures survives { (take : CanRemove thread.old.kept pair id first) → Survives thread.old.kept.disk thread.old.kept.history thread.new.kept.history
+        (tree_in thread.old.kept.disk thread.old.kept.pairs) (without_file thread.old.kept take.can.path take.can.name) }
+{
+    if goes_with_slot(thread, pair, first) {
+        drop_at(alloc, thread, pair, &MoveState::none())?;
+        return Ok(());
+    }
+    // What is left fits, so it is done.
+    thread.change(alloc, pair, &[Change::Delete { id }])?;
+    Ok(())
+}

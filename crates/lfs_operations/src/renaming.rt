@@ -1,0 +1,120 @@
+// Entries that get another name in their directory, and stay in their pair.
+
+ghost use Rattle.std.specs.Prelude.{◌≡◌, ◌∷◌, IfOk, OnOk, false};
+ghost use Rattle.lfs_model.specs.Changes.{Delete};
+ghost use Rattle.lfs_model.specs.PowerLoss.{Survives};
+ghost use Rattle.lfs_model.specs.View.{tree_in};
+ghost use Rattle.lfs_pair.specs.ChangeSeen.{changes_seen};
+ghost use Rattle.lfs_operations.specs.Changing.{WritesIn};
+ghost use Rattle.lfs_operations.specs.Renaming.{CanRename, CanRenameOnto, IsRenamed, IsRenamedOnto, TellsMove, place_without, rename_changes, rename_onto_changes, with_renamed};
+ghost use Rattle.lfs_operations.specs.RenamingSeen.{copied};
+ghost use Rattle.lfs_operations.specs.RenamingSlots.{slot_changes};
+
+use crate::changing::put;
+use crate::renaming_copy::{SlotCopy, copy_at, push_slot};
+use lfs_device::{BlockDevice, Error};
+use lfs_pair::Change;
+use lfs_thread::Thread;
+use std::alloc::{AllocError, Global};
+
+// A place among slots of which the one at an id is gone.
+pub(crate) fn place_without(id: u16, place: u16) -> u16
+    ensures { result ≡ place_without id place }
+{
+    if id < place { place - 1 } else { place }
+}
+
+// The slot at an id goes, and its copy comes at a place.
+fn changes_of<'a>(
+    alloc: Global,
+    id: u16,
+    place: u16,
+    name: &'a [u8],
+    copy: &'a SlotCopy,
+) -> Result<Vec<Change<'a>>, AllocError>
+    ensures { IfOk result (λ changes. changes_seen changes.items ≡ Delete id ∷ slot_changes (place_without id place) name.now (copied copy.now)) }
+{
+    let mut changes = Vec::new(alloc);
+    changes.push(Change::Delete { id })?;
+    push_slot(&mut changes, place_without(id, place), name, copy)?;
+    Ok(changes)
+}
+
+/// Gives the entry at the id of a pair another name, which belongs in the same pair: the entry stands
+/// then where the name belongs, with its struct and its attributes. One commit takes it away and
+/// puts it back (DESIGN.md of littlefs, "The move problem"). `place` is the id at which the name
+/// belongs while the entry still stands. Where the pair has no room for it, it is split into two free
+/// blocks.
+///
+/// `NoSpace` where it has none and fewer than two blocks are free: everything is as it was then.
+/// `Io` where a call of the device failed, and `NoMemory` where there is no room for the pair's
+/// slots, a copy of the entry and the pair's block; nothing was written at `NoMemory`. By these two
+/// the thread has failed, unless the entry couldn't be read and copied: it is as it was then.
+pub fn rename<D: BlockDevice>(
+    alloc: Global,
+    thread: &mut Thread<D>,
+    pair: usize,
+    id: u16,
+    place: u16,
+    name: &[u8],
+) -> Result<(), Error>
+    requires works { thread.old.failed ≡ false }
+    requires can { CanRename thread.old.kept pair id place name.now }
+    ensures renamed { OnOk result ((rename : CanRename thread.old.kept pair id place name.now) → IsRenamed thread.old.kept thread.new.kept rename.can.path rename.can.name name.now) }
+    ensures errors { TellsMove thread.old thread.new pair (rename_changes thread.old.kept pair id place name.now) result }
+    ensures device { WritesIn thread.old.kept pair thread.new.kept }
+    ensures survives { (rename : CanRename thread.old.kept pair id place name.now) → Survives thread.old.kept.disk thread.old.kept.history thread.new.kept.history
+        (tree_in thread.old.kept.disk thread.old.kept.pairs) (with_renamed thread.old.kept rename.can.path rename.can.name name.now) }
+{
+    let copy = copy_at(alloc, thread, pair, id)?;
+    let changes = changes_of(alloc, id, place, name, &copy)?;
+    put(alloc, thread, pair, &changes)?;
+    Ok(())
+}
+
+// The slots at an id and a place go, and the copy of the first comes at the place.
+fn changes_onto<'a>(
+    alloc: Global,
+    id: u16,
+    place: u16,
+    name: &'a [u8],
+    copy: &'a SlotCopy,
+) -> Result<Vec<Change<'a>>, AllocError>
+    ensures { IfOk result (λ changes. changes_seen changes.items ≡ Delete id ∷ Delete (place_without id place) ∷ slot_changes (place_without id place) name.now (copied copy.now)) }
+{
+    let place = place_without(id, place);
+    let mut changes = Vec::new(alloc);
+    changes.push(Change::Delete { id })?;
+    changes.push(Change::Delete { id: place })?;
+    push_slot(&mut changes, place, name, copy)?;
+    Ok(changes)
+}
+
+/// Gives the entry at the id of a pair the name of a file of the same pair and directory, which goes:
+/// one commit takes both away and puts the entry in that file's place, with its struct and its
+/// attributes. `place` is the file's id. The map isn't told of the file's list, whose blocks stay
+/// used.
+///
+/// Errors as those of [`rename`].
+pub fn rename_onto_file<D: BlockDevice>(
+    alloc: Global,
+    thread: &mut Thread<D>,
+    pair: usize,
+    id: u16,
+    place: u16,
+    name: &[u8],
+) -> Result<(), Error>
+    requires works { thread.old.failed ≡ false }
+    requires can { CanRenameOnto thread.old.kept pair id place name.now }
+    ensures renamed { OnOk result ((rename : CanRenameOnto thread.old.kept pair id place name.now)
+        → IsRenamedOnto thread.old.kept thread.new.kept rename.can.path rename.can.name name.now rename.target.stands.slot.struct) }
+    ensures errors { TellsMove thread.old thread.new pair (rename_onto_changes thread.old.kept pair id place name.now) result }
+    ensures device { WritesIn thread.old.kept pair thread.new.kept }
+    ensures survives { (rename : CanRenameOnto thread.old.kept pair id place name.now) → Survives thread.old.kept.disk thread.old.kept.history thread.new.kept.history
+        (tree_in thread.old.kept.disk thread.old.kept.pairs) (with_renamed thread.old.kept rename.can.path rename.can.name name.now) }
+{
+    let copy = copy_at(alloc, thread, pair, id)?;
+    let changes = changes_onto(alloc, id, place, name, &copy)?;
+    put(alloc, thread, pair, &changes)?;
+    Ok(())
+}

@@ -1,0 +1,160 @@
+// Slots that are read to be written elsewhere.
+
+ghost use Rattle.std.specs.Prelude.{◌≡◌, ◌<◌, ◌++◌, Some, IfErr, IfOk, IsSome, OnOk, false, length, map};
+ghost use Rattle.lfs_model.specs.Changes.{Change as ModelChange};
+ghost use Rattle.lfs_model.specs.Content.{RawContent, content_after_all, no_content, slot_of_id};
+ghost use Rattle.lfs_model.specs.Log.{log_entries};
+ghost use Rattle.lfs_model.specs.Slots.{Content as ModelContent};
+ghost use Rattle.lfs_pair.specs.ChangeSeen.{changes_seen};
+ghost use Rattle.lfs_tag.specs.ContentSeen.{attribute_seen, part_seen, slot_seen};
+ghost use Rattle.lfs_thread.specs.Lent.{IsBlockOf};
+ghost use Rattle.lfs_thread.specs.Steps.{HasTold, IsOnlyRead, pair_in};
+ghost use Rattle.lfs_operations.specs.RenamingSlots.{HasSlot, attribute_changes, parts_at, parts_of, slot_changes};
+ghost use Rattle.lfs_operations.specs.RenamingSeen.{attribute_copied, copied, part_copied};
+
+use lfs_device::{BlockDevice, Error};
+use lfs_pair::Change;
+use lfs_tag::{Attribute, Content, Log, Part, Slot};
+use lfs_thread::Thread;
+use std::alloc::{AllocError, Global};
+
+// A struct's type and bytes.
+#[derive(Drop)]
+pub(crate) struct PartCopy {
+    kind: u16,
+    bytes: Vec<u8>,
+}
+
+// An attribute's type and bytes.
+#[derive(Drop)]
+pub(crate) struct AttributeCopy {
+    kind: u8,
+    bytes: Vec<u8>,
+}
+
+// What a slot holds but for its name, apart from the block in which it stands.
+#[derive(Drop)]
+pub(crate) struct SlotCopy {
+    name_kind: u16,
+    structure: PartCopy,
+    attributes: Vec<AttributeCopy>,
+}
+
+fn copy_part(alloc: Global, part: &Part<'_>) -> Result<PartCopy, AllocError>
+    ensures { IfOk result (λ copy. part_copied copy ≡ part_seen part.now) }
+{
+    let bytes = Vec::from_slice(alloc, part.bytes)?;
+    Ok(PartCopy {
+        kind: part.kind,
+        bytes,
+    })
+}
+
+fn copy_attribute(alloc: Global, attribute: &Attribute<'_>) -> Result<AttributeCopy, AllocError>
+    ensures { IfOk result (λ copy. attribute_copied copy ≡ attribute_seen attribute.now) }
+{
+    let bytes = Vec::from_slice(alloc, attribute.bytes)?;
+    Ok(AttributeCopy {
+        kind: attribute.kind,
+        bytes,
+    })
+}
+
+fn copy_attributes(
+    alloc: Global,
+    attributes: &[Attribute<'_>],
+) -> Result<Vec<AttributeCopy>, AllocError>
+    ensures { IfOk result (λ copies. map attribute_copied copies.items ≡ map attribute_seen attributes.now) }
+{
+    let mut copies = Vec::new(alloc);
+    for attribute in attributes {
+        let copy = copy_attribute(alloc, attribute)?;
+        copies.push(copy)?;
+    }
+    Ok(copies)
+}
+
+fn copy_slot(alloc: Global, slot: &Slot<'_>) -> Result<SlotCopy, AllocError>
+    requires named { IsSome slot.now.name }
+    requires structured { IsSome slot.now.structure }
+    ensures { IfOk result (λ copy. copied copy ≡ parts_of (slot_seen slot.now)) }
+{
+    let name_kind = slot.name.unwrap().kind;
+    let structure = copy_part(alloc, &slot.structure.unwrap())?;
+    let attributes = copy_attributes(alloc, &slot.attributes)?;
+    Ok(SlotCopy {
+        name_kind,
+        structure,
+        attributes,
+    })
+}
+
+// The slot at an id of the log in a block.
+fn copy_in(alloc: Global, block: &[u8], id: u16) -> Result<SlotCopy, Error>
+    requires { (content : ModelContent) × (IsBlockOf block.now content × (id < length content.slots)) }
+    ensures copied { (raw : RawContent) → content_after_all no_content (log_entries block.now) ≡ Some raw → IfOk result (λ copy. copied copy ≡ parts_of (slot_of_id raw.slots id)) }
+    ensures errors { IfErr result (λ e. e ≡ Error.NoMemory) }
+{
+    let content = Content::read(alloc, &Log::read(block))?;
+    let copy = copy_slot(alloc, &content.slots[usize::from(id)])?;
+    Ok(copy)
+}
+
+// The slot at an id of a pair. The thread works on after an error, too.
+pub(crate) fn copy_at<D: BlockDevice>(
+    alloc: Global,
+    thread: &mut Thread<D>,
+    pair: usize,
+    id: u16,
+) -> Result<SlotCopy, Error>
+    requires works { thread.old.failed ≡ false }
+    requires there { HasSlot thread.old.kept pair id }
+    ensures copied { IfOk result (λ copy. copied copy ≡ parts_at thread.old.kept pair id) }
+    ensures only { IsOnlyRead thread.old.kept thread.new.kept }
+    ensures works { thread.new.failed ≡ false }
+    ensures errors { HasTold thread.old.kept thread.new.kept result }
+{
+    thread.bring(pair)?;
+    let copy = copy_in(alloc, thread.lend(pair).unwrap(), id)?;
+    Ok(copy)
+}
+
+// Adds the changes that put a copied slot at an id, under that name.
+pub(crate) fn push_slot<'a>(
+    changes: &mut Vec<Change<'a>>,
+    id: u16,
+    name: &'a [u8],
+    copy: &'a SlotCopy,
+) -> Result<(), AllocError>
+    ensures { OnOk result (changes_seen changes.new.items ≡ changes_seen changes.old.items ++ slot_changes id name.now (copied copy.now)) }
+{
+    changes.push(Change::Create {
+        id,
+        kind: copy.name_kind,
+        name,
+    })?;
+    changes.push(Change::Struct {
+        id,
+        kind: copy.structure.kind,
+        bytes: &copy.structure.bytes,
+    })?;
+    push_attributes(changes, id, &copy.attributes)?;
+    Ok(())
+}
+
+fn push_attributes<'a>(
+    changes: &mut Vec<Change<'a>>,
+    id: u16,
+    attributes: &'a [AttributeCopy],
+) -> Result<(), AllocError>
+    ensures { OnOk result (changes_seen changes.new.items ≡ changes_seen changes.old.items ++ attribute_changes id (map attribute_copied attributes.now)) }
+{
+    for attribute in attributes {
+        changes.push(Change::Attr {
+            id,
+            attr: attribute.kind,
+            bytes: &attribute.bytes,
+        })?;
+    }
+    Ok(())
+}

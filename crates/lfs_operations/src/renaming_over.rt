@@ -1,0 +1,87 @@
+// Entries that take the place of a directory in their pair.
+
+ghost use Rattle.std.specs.Prelude.{◌≡◌, ◌∷◌, IfOk, OnOk, false};
+ghost use Rattle.lfs_model.specs.Changes.{Delete, PutMove};
+ghost use Rattle.lfs_model.specs.PowerLoss.{Survives};
+ghost use Rattle.lfs_model.specs.View.{tree_in};
+ghost use Rattle.lfs_model.proofs.Global.{sync_share};
+ghost use Rattle.lfs_tag.specs.FieldsSeen.{move_seen};
+ghost use Rattle.lfs_pair.specs.ChangeSeen.{changes_seen};
+ghost use Rattle.lfs_thread.specs.Device.{two_of};
+ghost use Rattle.lfs_thread.specs.Steps.{Writes, pair_in};
+ghost use Rattle.lfs_operations.specs.Renaming.{place_without, with_renamed};
+ghost use Rattle.lfs_operations.specs.RenamingOver.{CanRenameOver, IsRenamedOver, TellsOver};
+ghost use Rattle.lfs_operations.specs.RenamingSeen.{copied};
+ghost use Rattle.lfs_operations.specs.RenamingSlots.{slot_changes};
+
+use crate::renaming::place_without;
+use crate::renaming_copy::{SlotCopy, copy_at, push_slot};
+use lfs_device::{BlockDevice, Error};
+use lfs_pair::Change;
+use lfs_tag::MoveState;
+use lfs_thread::{Thread, with_share};
+use std::alloc::{AllocError, Global};
+
+// The share that turns the sync bit.
+fn sync_turned() -> MoveState
+    ensures { move_seen result ≡ sync_share }
+{
+    MoveState {
+        sync: true,
+        kind: 0,
+        id: 0,
+        pair: [0, 0],
+    }
+}
+
+// The share becomes that, the slots at an id and a place go, and the copy of the first comes at the
+// place.
+fn changes_over<'a>(
+    alloc: Global,
+    state: MoveState,
+    id: u16,
+    place: u16,
+    name: &'a [u8],
+    copy: &'a SlotCopy,
+) -> Result<Vec<Change<'a>>, AllocError>
+    ensures { IfOk result (λ changes. changes_seen changes.items ≡ PutMove (move_seen state) ∷ Delete id ∷ Delete (place_without id place) ∷ slot_changes (place_without id place) name.now (copied copy.now)) }
+{
+    let place = place_without(id, place);
+    let mut changes = Vec::new(alloc);
+    changes.push(Change::Move { state })?;
+    changes.push(Change::Delete { id })?;
+    changes.push(Change::Delete { id: place })?;
+    push_slot(&mut changes, place, name, copy)?;
+    Ok(changes)
+}
+
+// Gives the entry at the id of a pair the name of a directory of the same pair and directory, whose
+// own pair stays in the thread: no path leads to it then, so the sync bit is set with it (DESIGN.md
+// of littlefs, "The move problem"). `place` is the directory's id.
+//
+// `Io` where a call of the device failed, and `NoMemory` where there is no room for the pair's slots,
+// a copy of the entry and the pair's block; nothing was written at `NoMemory`. The thread has failed
+// then, unless the entry couldn't be read and copied: it is as it was then.
+pub(crate) fn rename_over<D: BlockDevice>(
+    alloc: Global,
+    thread: &mut Thread<D>,
+    pair: usize,
+    id: u16,
+    place: u16,
+    name: &[u8],
+) -> Result<(), Error>
+    requires works { thread.old.failed ≡ false }
+    requires can { CanRenameOver thread.old.kept pair id place name.now }
+    ensures renamed { OnOk result ((rename : CanRenameOver thread.old.kept pair id place name.now) → IsRenamedOver thread.old.kept thread.new.kept pair rename.can.path rename.can.name name.now) }
+    ensures errors { TellsOver thread.old thread.new result }
+    ensures device { Writes (two_of (pair_in thread.old.kept pair).at) thread.old.kept thread.new.kept }
+    ensures survives { (rename : CanRenameOver thread.old.kept pair id place name.now) → Survives thread.old.kept.disk thread.old.kept.history thread.new.kept.history
+        (tree_in thread.old.kept.disk thread.old.kept.pairs) (with_renamed thread.old.kept rename.can.path rename.can.name name.now) }
+{
+    let copy = copy_at(alloc, thread, pair, id)?;
+    let state = with_share(&thread.share(pair), &sync_turned());
+    let changes = changes_over(alloc, state, id, place, name, &copy)?;
+    // Two slots make way for one with the name of the one and the rest of the other, so it fits.
+    thread.change(alloc, pair, &changes)?;
+    Ok(())
+}

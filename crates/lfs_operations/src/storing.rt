@@ -1,0 +1,44 @@
+// Files that get other contents.
+
+ghost use Rattle.std.specs.Prelude.{◌≡◌, ◌∷◌, [], false, OnOk};
+ghost use Rattle.lfs_model.specs.Changes.{PutStruct};
+ghost use Rattle.lfs_model.specs.PowerLoss.{Survives};
+ghost use Rattle.lfs_model.specs.View.{tree_in};
+ghost use Rattle.lfs_operations.specs.Changing.{TellsPut, WritesIn};
+ghost use Rattle.lfs_operations.specs.Storing.{CanStore, IsStored, with_contents_at};
+
+use crate::changing::put;
+use lfs_device::{BlockDevice, Error};
+use lfs_pair::Change;
+use lfs_thread::Thread;
+use std::alloc::Global;
+
+/// Gives the file at the id of a pair another struct, of that type: its bytes themselves, or the
+/// head and the size of a list that stands on the device (SPEC.md of littlefs, "0x2xx
+/// LFS_TYPE_STRUCT"). Where the pair has no room for it, it is split into two free blocks.
+///
+/// The map isn't told of the lists: the blocks that come stay in flight, and those that only the old
+/// list has stay used.
+///
+/// Errors as those of [`create`](crate::create).
+pub fn set_struct<D: BlockDevice>(
+    alloc: Global,
+    thread: &mut Thread<D>,
+    pair: usize,
+    id: u16,
+    kind: u16,
+    bytes: &[u8],
+) -> Result<(), Error>
+    requires works { thread.old.failed ≡ false }
+    requires can { CanStore thread.old.kept pair id kind bytes.now }
+    ensures is_stored { OnOk result ((store : CanStore thread.old.kept pair id kind bytes.now)
+        → IsStored thread.old.kept thread.new.kept store.can.path store.can.name store.contents store.gone store.come) }
+    ensures errors { TellsPut thread.old thread.new pair (PutStruct id kind bytes.now ∷ []) result }
+    ensures device { WritesIn thread.old.kept pair thread.new.kept }
+    ensures survives { (store : CanStore thread.old.kept pair id kind bytes.now) → Survives thread.old.kept.disk thread.old.kept.history thread.new.kept.history
+        (tree_in thread.old.kept.disk thread.old.kept.pairs) (with_contents_at thread.old.kept store.can.path store.can.name store.contents) }
+{
+    let changes = [Change::Struct { id, kind, bytes }];
+    put(alloc, thread, pair, &changes)?;
+    Ok(())
+}

@@ -1,0 +1,139 @@
+// Directories that go from directories.
+
+ghost use Rattle.std.specs.Prelude.{◌≡◌, ◌-◌, true, false, OnOk};
+ghost use Rattle.lfs_model.specs.PowerLoss.{Survives};
+ghost use Rattle.lfs_model.specs.View.{tree_in};
+ghost use Rattle.lfs_model.proofs.Global.{sync_share};
+ghost use Rattle.lfs_tag.specs.FieldsSeen.{move_seen};
+ghost use Rattle.lfs_thread.specs.Device.{StopsLeave, four_of, two_of};
+ghost use Rattle.lfs_thread.specs.Steps.{Writes, pair_in};
+ghost use Rattle.lfs_operations.specs.Editing.{CanEdit};
+ghost use Rattle.lfs_operations.specs.Removing.{TellsOfCalls, goes_whole, without_file, written_at};
+ghost use Rattle.lfs_operations.specs.Unlinking.{CanRemoveDirectory, IsDirectoryRemoved, IsLeftByUnlink, IsUnlinked, TellsOfSteps, number_without};
+
+use crate::dropping::drop_at;
+use crate::removing::goes_with_slot;
+use lfs_device::{BlockDevice, Error};
+use lfs_pair::Change;
+use lfs_tag::MoveState;
+use lfs_thread::{Thread, with_share};
+use std::alloc::Global;
+
+// The share that turns the sync bit.
+fn sync_bit() -> MoveState
+    ensures { move_seen result ≡ sync_share }
+{
+    MoveState {
+        sync: true,
+        kind: 0,
+        id: 0,
+        pair: [0, 0],
+    }
+}
+
+// Takes the entry at the id of a pair, and turns the sync bit with it: a pair of the thread may be
+// reached from no directory then (DESIGN.md of littlefs, "The move problem").
+fn unlink<D: BlockDevice>(
+    alloc: Global,
+    thread: &mut Thread<D>,
+    pair: usize,
+    id: u16,
+) -> Result<(), Error>
+    requires works { thread.old.failed ≡ false }
+    requires can { CanEdit thread.old.kept pair id }
+    ensures is_unlinked { OnOk result (IsUnlinked thread.old.kept pair id thread.new.kept) }
+    ensures errors { TellsOfCalls thread.old thread.new result }
+    ensures device { Writes (two_of (pair_in thread.old.kept pair).at) thread.old.kept thread.new.kept }
+    ensures stops { StopsLeave thread.old.kept.history thread.new.kept.history (IsLeftByUnlink thread.old.kept pair id) }
+{
+    let state = with_share(&thread.share(pair), &sync_bit());
+    let changes = [Change::Delete { id }, Change::Move { state }];
+    // What is left fits, so it is done.
+    thread.change(alloc, pair, &changes)?;
+    Ok(())
+}
+
+// The number of a pair once the other one is gone.
+fn renumbered(other: usize, pair: usize) -> usize
+    ensures { result ≡ number_without other pair }
+{
+    if other < pair { pair - 1 } else { pair }
+}
+
+// Takes an empty directory whose entry's pair stays.
+fn remove_beside<D: BlockDevice>(
+    alloc: Global,
+    thread: &mut Thread<D>,
+    pair: usize,
+    id: u16,
+    first: usize,
+    gone: usize,
+) -> Result<(), Error>
+    requires works { thread.old.failed ≡ false }
+    requires can { CanRemoveDirectory thread.old.kept pair id first gone }
+    requires stays { goes_whole thread.old.kept pair first ≡ false }
+    ensures is_removed { OnOk result ((take : CanRemoveDirectory thread.old.kept pair id first gone) → IsDirectoryRemoved thread.old.kept thread.new.kept take.can.path take.can.name) }
+    ensures errors { TellsOfSteps thread.old thread.new result }
+    ensures device { Writes (four_of (written_at thread.old.kept pair first) (pair_in thread.old.kept (gone - 1)).at) thread.old.kept thread.new.kept }
+    ensures survives { (take : CanRemoveDirectory thread.old.kept pair id first gone) → Survives thread.old.kept.disk thread.old.kept.history thread.new.kept.history
+        (tree_in thread.old.kept.disk thread.old.kept.pairs) (without_file thread.old.kept take.can.path take.can.name) }
+{
+    unlink(alloc, thread, pair, id)?;
+    drop_at(alloc, thread, gone, &MoveState::none())?;
+    Ok(())
+}
+
+// Takes an empty directory with its entry's pair, which holds nothing else.
+fn remove_with_pair<D: BlockDevice>(
+    alloc: Global,
+    thread: &mut Thread<D>,
+    pair: usize,
+    id: u16,
+    first: usize,
+    gone: usize,
+) -> Result<(), Error>
+    requires works { thread.old.failed ≡ false }
+    requires can { CanRemoveDirectory thread.old.kept pair id first gone }
+    requires goes { goes_whole thread.old.kept pair first ≡ true }
+    ensures is_removed { OnOk result ((take : CanRemoveDirectory thread.old.kept pair id first gone) → IsDirectoryRemoved thread.old.kept thread.new.kept take.can.path take.can.name) }
+    ensures errors { TellsOfSteps thread.old thread.new result }
+    ensures device { Writes (four_of (written_at thread.old.kept pair first) (pair_in thread.old.kept (gone - 1)).at) thread.old.kept thread.new.kept }
+    ensures survives { (take : CanRemoveDirectory thread.old.kept pair id first gone) → Survives thread.old.kept.disk thread.old.kept.history thread.new.kept.history
+        (tree_in thread.old.kept.disk thread.old.kept.pairs) (without_file thread.old.kept take.can.path take.can.name) }
+{
+    drop_at(alloc, thread, pair, &sync_bit())?;
+    drop_at(alloc, thread, renumbered(pair, gone), &MoveState::none())?;
+    Ok(())
+}
+
+/// Takes the empty directory at the id of a pair from its directory, which begins with the pair of
+/// number `first`. Its own pair has number `gone` in the thread. The entry goes first, with the sync
+/// bit set: then no path leads to the pair, which goes next, with the sync bit cleared (DESIGN.md of
+/// littlefs, "The move problem"). Where the entry's pair has no other slot and isn't the first, it
+/// goes with the entry.
+///
+/// `Io` where a call of the device failed, and `NoMemory` where there is no room for a pair's slots
+/// and its block; the thread has failed then. The entry may be gone by then, and with it the
+/// directory.
+pub fn remove_directory<D: BlockDevice>(
+    alloc: Global,
+    thread: &mut Thread<D>,
+    pair: usize,
+    id: u16,
+    first: usize,
+    gone: usize,
+) -> Result<(), Error>
+    requires works { thread.old.failed ≡ false }
+    requires can { CanRemoveDirectory thread.old.kept pair id first gone }
+    ensures is_removed { OnOk result ((take : CanRemoveDirectory thread.old.kept pair id first gone) → IsDirectoryRemoved thread.old.kept thread.new.kept take.can.path take.can.name) }
+    ensures errors { TellsOfSteps thread.old thread.new result }
+    ensures device { Writes (four_of (written_at thread.old.kept pair first) (pair_in thread.old.kept (gone - 1)).at) thread.old.kept thread.new.kept }
+    ensures survives { (take : CanRemoveDirectory thread.old.kept pair id first gone) → Survives thread.old.kept.disk thread.old.kept.history thread.new.kept.history
+        (tree_in thread.old.kept.disk thread.old.kept.pairs) (without_file thread.old.kept take.can.path take.can.name) }
+{
+    if goes_with_slot(thread, pair, first) {
+        remove_with_pair(alloc, thread, pair, id, first, gone)
+    } else {
+        remove_beside(alloc, thread, pair, id, first, gone)
+    }
+}

@@ -1,0 +1,149 @@
+-- A file or a directory that comes to a path.
+use Rattle.std.proofs.Common.{ℕ, ◌≡◌, ◌≢◌, ◌≤◌, ◌∙◌, ◌++◌, true, false, List, [], ◌∷◌, refl, sym, ap, subst, arith}
+use Rattle.std.specs.List.{list_all}
+use Rattle.std.proofs.lemmas.Bool.{ltb-false}
+use Rattle.std.proofs.lemmas.Option.{same_Some}
+use Rattle.lfs_device.specs.Bytes.{HasBytes}
+use Rattle.lfs_model.specs.Apply.{added, last_name}
+use Rattle.lfs_model.specs.BlockSets.{BlockSets, IsInFlight}
+use Rattle.lfs_model.specs.BlockSets.BlockState.{Free, InFlight}
+use Rattle.lfs_model.specs.Disk.{entry_limit}
+use Rattle.lfs_model.specs.History.{Event, OnlyReads}
+use Rattle.lfs_model.specs.Names.{Name, is_component, is_name}
+use Rattle.lfs_model.specs.Operations as ops
+use Rattle.lfs_model.specs.Operations.{Flags}
+use Rattle.lfs_model.specs.Slots.{charge_of}
+use Rattle.lfs_model.specs.Steps.{as_path}
+use Rattle.lfs_model.specs.Tree.{Path, Tree, DirectoryNode, FileNode}
+use Rattle.lfs_model.specs.View.{tree_in}
+use Rattle.lfs_model.proofs.Paths.{last_is}
+use Rattle.lfs_operations.specs.Changing.{WritesIn}
+use Rattle.lfs_operations.specs.Creating.{CanCreate, IsCreated, with_file}
+use Rattle.lfs_operations.specs.Making.{CanMake, IsMade, WritesUpTo, with_directory}
+use Rattle.lfs_operations.specs.Ready.{IsReady, StayTaken}
+use Rattle.lfs_thread.specs.Kept.{Kept, State}
+use Rattle.lfs_tree.specs.Allowed.{CanAdd}
+use Rattle.lfs_tree.specs.Carrying.{Carries, IsAtRest, IsPlaceFor, IsVacant, SurvivesTo}
+use Rattle.lfs_tree.specs.Held.{seen_kept}
+use Rattle.lfs_tree.specs.declared.search.Spot.{Spot}
+use Rattle.lfs_tree.proofs.Carried.{apart_in, apart_up_to, behind_below, carried, with_history}
+use Rattle.lfs_tree.proofs.CarryLogged.{logged_there}
+use Rattle.lfs_tree.proofs.CarrySurvives.{survives_behind}
+use Rattle.lfs_tree.proofs.CarryRooms.{last_is_name, room_for}
+
+pub ready_to : (t : State) (root : ℕ) (h : List Event) → IsAtRest t root → 1024 ≤ t.kept.disk.block_size → IsReady (with_history t.kept h)
+ready_to t root h rests large = record {
+  accepted = rests.held.sound.accepted;
+  writable = rests.held.sound.fits refl;
+  settled = rests.settled;
+  used = rests.held.sound.used;
+  size = rests.held.sound.size;
+  large = large;
+}
+
+pub vacant_to : (t : Kept) (path : Path) (need : ℕ) → CanAdd (seen_kept t true false) path need → IsVacant (tree_in t.disk t.pairs) path
+vacant_to t path need can = record { parents = can.parents; nothing = can.nothing }
+
+pub stay_in_flight : (old new : BlockSets) → StayTaken old new → (b : ℕ) → IsInFlight old b → IsInFlight new b
+stay_in_flight old new stays b flies = stays b (λ free. let k : InFlight ≡ Free = same_Some InFlight Free (sym flies ∙ free) in absurd (cc)) ∙ flies
+
+module _ (t : State) (root : ℕ) (rests : IsAtRest t root) (path : Path) (components : list_all is_component path ≡ true) (large : 1024 ≤ t.kept.disk.block_size) (bytes : HasBytes t.kept.disk.blocks)
+    (need : ℕ) (can : CanAdd (seen_kept t.kept true false) path need) (name : Name) (spot : Spot) (place : IsPlaceFor t.kept.pairs path name spot) (h : List Event) where
+  name_is : last_name path ≡ name
+  name_is = ap last_name place.is ∙ last_is place.above name
+
+  has_some : path ≢ []
+  has_some e = none place.above (sym e ∙ place.is)
+    where
+      none : (xs : Path) → [] ≡ xs ++ name ∷ [] → ⊥
+      none [] k = absurd (cc)
+      none (x ∷ xs) k = absurd (cc)
+
+  named : is_name name ≡ true
+  named = subst (λ n. is_name n ≡ true) name_is (last_is_name path has_some components can.name)
+
+  fits : charge_of t.kept.disk.block_size name [] ≤ entry_limit t.kept.disk.block_size t.kept.disk.page
+  fits = subst (λ n. charge_of t.kept.disk.block_size n [] ≤ entry_limit t.kept.disk.block_size t.kept.disk.page) name_is (ltb-false _ _ can.fits)
+
+  pub can_create : CanCreate (with_history t.kept h) spot.pair spot.id name
+  can_create = record {
+    ready = ready_to t root h rests large;
+    path = place.above;
+    at = place.on.at;
+    leads = place.on.leads;
+    first = place.first;
+    begins = place.on.begins;
+    belongs = place.belongs;
+    is_name = named;
+    fits = record { charge = fits; inline = omega arith };
+    logged = logged_there t.kept.disk _ bytes;
+  }
+
+  pub can_make : 4 ≤ need → CanMake (with_history t.kept h) spot.pair spot.id name
+  can_make enough = record {
+    ready = ready_to t root h rests large;
+    path = place.above;
+    at = place.on.at;
+    leads = place.on.leads;
+    first = place.first;
+    begins = place.on.begins;
+    belongs = place.belongs;
+    is_name = named;
+    fits = fits;
+    room = let r = room_for t.kept need rests.held.sound can.room in omega (arith, r, enough);
+  }
+
+  pub created_at : (c : Kept) (given : List ℕ) (flags : Flags) → OnlyReads t.kept.disk.blocks t.kept.history h → WritesIn (with_history t.kept h) spot.pair c
+      → ((can : CanCreate (with_history t.kept h) spot.pair spot.id name) → IsCreated (with_history t.kept h) c can.path name) → as_path given ≡ path → Carries t.kept (ops.Open given flags) c
+  unfolding can_create
+  created_at c given flags reads writes gives e =
+      let is : IsCreated (with_history t.kept h) c place.above name = gives can_create in
+      carried t.kept h (ops.Open given flags) c
+      (record {
+        accepted = rests.held.sound.accepted;
+        writable = rests.held.sound.fits refl;
+        settled = rests.settled;
+        reads = reads;
+        ready = is.now.ready;
+        stay = stay_in_flight t.kept.map c.map is.now.stays;
+        none_comes = is.now.none_comes;
+        completed = λ files. is.completed (record { tree = tree_in t.kept.disk t.kept.pairs; files = files }) given flags refl (e ∙ place.is);
+        blocks = _;
+        writes = writes.writes;
+        apart = apart_in t.kept spot.pair writes.fresh (behind_below t.kept.pairs place.first spot.pair place.belongs.pair _ place.belongs.place) rests.held.sound.used writes.free;
+      }) refl refl
+
+  pub made_at : (c : Kept) (given : List ℕ) → OnlyReads t.kept.disk.blocks t.kept.history h → WritesUpTo (with_history t.kept h) spot.pair c
+      → ((can : CanMake (with_history t.kept h) spot.pair spot.id name) → IsMade (with_history t.kept h) c can.path name) → 4 ≤ need → as_path given ≡ path → Carries t.kept (ops.Mkdir given) c
+  unfolding can_make
+  made_at c given reads writes gives enough e =
+      let is : IsMade (with_history t.kept h) c place.above name = gives (can_make enough) in
+      carried t.kept h (ops.Mkdir given) c
+      (record {
+        accepted = rests.held.sound.accepted;
+        writable = rests.held.sound.fits refl;
+        settled = rests.settled;
+        reads = reads;
+        ready = is.now.ready;
+        stay = stay_in_flight t.kept.map c.map is.now.stays;
+        none_comes = is.now.none_comes;
+        completed = λ files. is.completed (record { tree = tree_in t.kept.disk t.kept.pairs; files = files }) given refl (e ∙ place.is);
+        blocks = _;
+        writes = writes.writes;
+        apart = apart_up_to t.kept spot.pair writes.last writes.fresh (behind_below t.kept.pairs place.first spot.pair place.belongs.pair _ place.belongs.place) writes.is_last.below rests.held.sound.used writes.free;
+      }) refl refl
+
+  abbrev before : Tree
+  before = tree_in t.kept.disk t.kept.pairs
+
+  pub created_survives : (c : Kept) → OnlyReads t.kept.disk.blocks t.kept.history h → WritesIn (with_history t.kept h) spot.pair c
+      → ((can : CanCreate (with_history t.kept h) spot.pair spot.id name) → SurvivesTo (with_history t.kept h) c (with_file (with_history t.kept h) can.path name)) → SurvivesTo t.kept c (added path (FileNode [] []) before)
+  unfolding can_create
+  created_survives c reads writes gives =
+      subst (λ p. SurvivesTo t.kept c (added p (FileNode [] []) before)) (sym place.is) (survives_behind t root rests h c _ (added (place.above ++ name ∷ []) (FileNode [] []) before) reads writes.writes (gives can_create))
+
+  pub made_survives : (c : Kept) → OnlyReads t.kept.disk.blocks t.kept.history h → WritesUpTo (with_history t.kept h) spot.pair c
+      → ((can : CanMake (with_history t.kept h) spot.pair spot.id name) → SurvivesTo (with_history t.kept h) c (with_directory (with_history t.kept h) can.path name)) → 4 ≤ need → SurvivesTo t.kept c (added path (DirectoryNode [] []) before)
+  unfolding can_make
+  made_survives c reads writes gives enough =
+      subst (λ p. SurvivesTo t.kept c (added p (DirectoryNode [] []) before)) (sym place.is) (survives_behind t root rests h c _ (added (place.above ++ name ∷ []) (DirectoryNode [] []) before) reads writes.writes (gives (can_make enough)))

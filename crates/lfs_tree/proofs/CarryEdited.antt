@@ -1,0 +1,180 @@
+-- An entry whose attributes change, at a path.
+use Rattle.std.proofs.Common.{ℕ, ◌≡◌, ◌<◌, ◌≤◌, ◌∙◌, ◌++◌, true, false, List, [], ◌∷◌, length, Some, None, refl, sym, ap, subst}
+use Rattle.std.specs.Prelude.{All, is_none}
+use Rattle.std.specs.Option.{option_map}
+use Rattle.std.proofs.lemmas.Bool.{ltb-false}
+use Rattle.std.proofs.lemmas.List.Elements.{recursion_from_All}
+use Rattle.lfs_device.specs.Bytes.{HasBytes}
+use Rattle.lfs_model.specs.Apply.{attributes_of, last_name}
+use Rattle.lfs_model.specs.Content.{put_attribute, without_attribute}
+use Rattle.lfs_model.specs.Disk.{entry_limit, inline_limit}
+use Rattle.lfs_model.specs.History.{Event, OnlyReads}
+use Rattle.lfs_model.specs.Names.{Name}
+use Rattle.lfs_model.specs.Operations as ops
+use Rattle.lfs_model.specs.Operations.{Operation}
+use Rattle.lfs_model.specs.Run.{is_recover, renames_to_itself}
+use Rattle.lfs_model.specs.SlotEdits.{slot_of_path}
+use Rattle.lfs_model.specs.Slots.{Attributes, Slot, Struct, Inline, Ctz, Branch, charge_of}
+use Rattle.lfs_model.specs.Steps.{as_path, is_root}
+use Rattle.lfs_model.specs.Thread.{Pair}
+use Rattle.lfs_model.specs.Tree.{Path, node_of}
+use Rattle.lfs_model.specs.View.{FitsSlot, HasInline, contents_in, entries_in, tree_in}
+use Rattle.lfs_model.proofs.Counts.{Each, each_right}
+use Rattle.lfs_model.proofs.Paths.{last_is}
+use Rattle.lfs_operations.specs.Editing.{CanEdit, CanSetAttribute, HasRemovedAttribute, HasSetAttribute, IsEdited, with_attributes_at}
+use Rattle.lfs_thread.specs.Kept.{Kept, State}
+use Rattle.lfs_thread.specs.Steps.{Writes}
+use Rattle.lfs_tree.specs.Allowed.{CanRemoveAttr, CanSetAttr}
+use Rattle.lfs_tree.specs.Carrying.{Carries, IsAtRest, SurvivesTo}
+use Rattle.lfs_tree.specs.CarryingSlots.{HasEntry, IsSlotFor, IsSlotIn, has_slot, with_attributes_changed}
+use Rattle.lfs_tree.specs.Held.{seen_kept}
+use Rattle.lfs_tree.specs.Paths.{LeadsTo, StandsOnPath}
+use Rattle.lfs_tree.specs.declared.paths.Found.{Found}
+use Rattle.lfs_tree.specs.declared.paths.Found.TheVariants as found
+use Rattle.lfs_tree.specs.declared.search.Spot.{Spot}
+use Rattle.lfs_tree.proofs.Carried.{IsApart, behind_below, carried, with_history}
+use Rattle.lfs_tree.proofs.CarryCreated.{ready_to, stay_in_flight}
+use Rattle.lfs_tree.proofs.CarryLogged.{logged_there}
+use Rattle.lfs_tree.proofs.CarrySurvives.{survives_behind}
+
+-- ---- what is found
+
+absent : (t : Kept) (path : Path) → HasEntry (tree_in t.disk t.pairs) path → slot_of_path t.pairs path ≡ None → ⊥
+absent t path v e =
+    let k = sym v.something ∙ ap (λ o. is_none (option_map (λ (f : Slot). node_of (contents_in t.disk) (entries_in t.pairs) f.attributes f.struct) o)) e in absurd (cc)
+
+pub slot_found : (t : Kept) (path : Path) (f : Found) → HasEntry (tree_in t.disk t.pairs) path → LeadsTo t path f → has_slot f ≡ true
+slot_found t path found.Root v l = let k = sym v.entry ∙ ap is_root l.there in absurd (cc)
+slot_found t path found.ParentIsFile v l = let k = sym v.parents ∙ l.parents in absurd (cc)
+slot_found t path found.ParentIsMissing v l = let k = sym v.parents ∙ l.parents in absurd (cc)
+slot_found t path (found.Nothing parent place) v l = absurd (absent t path v (ap (slot_of_path t.pairs) l.there.is ∙ l.there.there.nothing))
+slot_found t path (found.Directory parent slot first) v l = refl
+slot_found t path (found.File parent slot contents) v l = refl
+
+slot_is : (ps : List Pair) (path above : Path) (name : Name) (parent : ℕ) (slot spot : Spot) → path ≡ above ++ name ∷ [] → StandsOnPath ps above name parent slot → slot ≡ spot → IsSlotFor ps path spot
+slot_is ps path above name parent slot spot e s h = record { above = above; name = name; first = parent; is = e; stands = subst (StandsOnPath ps above name parent) h s }
+
+pub slot_for : (t : Kept) (path : Path) (f : Found) (spot : Spot) → LeadsTo t path f → IsSlotIn f spot → IsSlotFor t.pairs path spot
+slot_for t path found.Root spot l h = absurd h
+slot_for t path found.ParentIsFile spot l h = absurd h
+slot_for t path found.ParentIsMissing spot l h = absurd h
+slot_for t path (found.Nothing parent place) spot l h = absurd h
+slot_for t path (found.Directory parent slot first) spot l h = slot_is t.pairs path l.there.above l.there.name parent slot spot l.there.is l.there.there.0 h
+slot_for t path (found.File parent slot contents) spot l h = slot_is t.pairs path l.there.above l.there.name parent slot spot l.there.is l.there.there.0 h
+
+pub entry_to_set : (t : Kept) (path : Path) (kind : ℕ) (bytes : List ℕ) → CanSetAttr (seen_kept t true false) path kind bytes → HasEntry (tree_in t.disk t.pairs) path
+entry_to_set t path kind bytes can = record { entry = can.entry; parents = can.parents; something = can.something }
+
+pub entry_to_clear : (t : Kept) (path : Path) (kind : ℕ) → CanRemoveAttr (seen_kept t true false) path kind → HasEntry (tree_in t.disk t.pairs) path
+entry_to_clear t path kind can = record { entry = can.entry; parents = can.parents; something = can.something }
+
+-- ---- what may be changed
+
+module _ (t : State) (root : ℕ) (rests : IsAtRest t root) (path : Path) (large : 1024 ≤ t.kept.disk.block_size) (bytes : HasBytes t.kept.disk.blocks) (spot : Spot) (slot : IsSlotFor t.kept.pairs path spot)
+    (h : List Event) where
+  abbrev found_slot : Slot
+  found_slot = slot.stands.stands.stands.slot
+
+  pub can_edit : CanEdit (with_history t.kept h) spot.pair spot.id
+  can_edit = record {
+    ready = ready_to t root h rests large;
+    path = slot.above;
+    at = slot.stands.on.at;
+    leads = slot.stands.on.leads;
+    first = slot.first;
+    begins = slot.stands.on.begins;
+    name = slot.name;
+    stands = slot.stands.stands;
+    logged = logged_there t.kept.disk _ bytes;
+  }
+
+  attributes_are : attributes_of (tree_in t.kept.disk t.kept.pairs path) ≡ found_slot.attributes
+  attributes_are =
+      ap (λ o. attributes_of (option_map (λ (f : Slot). node_of (contents_in t.kept.disk) (entries_in t.kept.pairs) f.attributes f.struct) o)) (ap (slot_of_path t.kept.pairs) slot.is ∙ slot.stands.slot)
+      ∙ by_struct found_slot.attributes found_slot.struct
+    where
+      by_struct : (a : Attributes) (s : Struct) → attributes_of (Some (node_of (contents_in t.kept.disk) (entries_in t.kept.pairs) a s)) ≡ a
+      by_struct a (Inline xs) = refl
+      by_struct a (Ctz head size) = refl
+      by_struct a (Branch to) = refl
+
+  name_is : last_name path ≡ found_slot.name
+  name_is = ap last_name slot.is ∙ last_is slot.above slot.name ∙ sym slot.stands.stands.stands.named
+
+  abbrev Fit : Slot → Type 0
+  Fit s = FitsSlot t.kept.disk.block_size t.kept.disk.page s
+
+  inline_fits : HasInline (inline_limit t.kept.disk.block_size) found_slot.struct
+  inline_fits =
+      let place = slot.stands.stands.place in
+      let stands = slot.stands.stands.stands in
+      let pair = slot.stands.stands.pair in
+      let all = recursion_from_All (λ (p : Pair). All Fit p.content.slots) t.kept.pairs (rests.held.sound.fits refl).slots in
+      let one = (each_right (λ (p : Pair). All Fit p.content.slots) place.left (pair ∷ slot.stands.stands.rest)
+      (each_right (λ (p : Pair). All Fit p.content.slots) place.front (place.left ++ pair ∷ slot.stands.stands.rest) (subst (Each (λ (p : Pair). All Fit p.content.slots)) place.parts all))).0 in
+      let fit = (each_right Fit stands.left (stands.slot ∷ stands.right) (subst (Each Fit) stands.held (recursion_from_All Fit pair.content.slots one))).0 in
+      (fit.1 stands.entry).inline
+
+  pub can_set : (kind : ℕ) (given : List ℕ) → CanSetAttr (seen_kept t.kept true false) path kind given → CanSetAttribute (with_history t.kept h) spot.pair spot.id kind given
+  unfolding can_edit
+  can_set kind given can = record {
+    can = can_edit;
+    short = can.len;
+    fits = record {
+      charge = subst (λ n. charge_of t.kept.disk.block_size n (put_attribute kind given found_slot.attributes) ≤ entry_limit t.kept.disk.block_size t.kept.disk.page) name_is
+          (subst (λ a. charge_of t.kept.disk.block_size (last_name path) (put_attribute kind given a) ≤ entry_limit t.kept.disk.block_size t.kept.disk.page) attributes_are (ltb-false _ _ can.fits));
+      inline = inline_fits;
+    };
+  }
+
+  pub slot_below : spot.pair < length t.kept.pairs
+  slot_below = behind_below t.kept.pairs slot.first spot.pair slot.stands.stands.pair slot.stands.stands.rest slot.stands.stands.place
+
+  edited_at : (c : Kept) (f : Attributes → Attributes) (op : List ℕ → Operation) (given : List ℕ) (bs : List ℕ) → OnlyReads t.kept.disk.blocks t.kept.history h → Writes bs (with_history t.kept h) c → IsApart t.kept.map bs
+      → IsEdited (with_history t.kept h) c slot.above slot.name f op → as_path given ≡ path → renames_to_itself (op given) ≡ false → is_recover (op given) ≡ false → Carries t.kept (op given) c
+  edited_at c f op given bs reads writes apart is e other asks = carried t.kept h (op given) c
+      (record {
+        accepted = rests.held.sound.accepted;
+        writable = rests.held.sound.fits refl;
+        settled = rests.settled;
+        reads = reads;
+        ready = is.now.ready;
+        stay = stay_in_flight t.kept.map c.map is.now.stays;
+        none_comes = is.now.none_comes;
+        completed = λ files. is.completed (record { tree = tree_in t.kept.disk t.kept.pairs; files = files }) given refl (e ∙ slot.is);
+        blocks = bs;
+        writes = writes;
+        apart = apart;
+      }) other asks
+
+  pub set_at : (c : Kept) (kind : ℕ) (bytes_given given : List ℕ) (bs : List ℕ) → CanSetAttr (seen_kept t.kept true false) path kind bytes_given → OnlyReads t.kept.disk.blocks t.kept.history h → Writes bs (with_history t.kept h) c
+      → IsApart t.kept.map bs → ((set : CanSetAttribute (with_history t.kept h) spot.pair spot.id kind bytes_given) → HasSetAttribute (with_history t.kept h) c set.can.path set.can.name kind bytes_given)
+      → as_path given ≡ path → Carries t.kept (ops.SetAttr given kind bytes_given) c
+  unfolding can_set can_edit
+  set_at c kind bytes_given given bs can reads writes apart gives e =
+      let is : HasSetAttribute (with_history t.kept h) c slot.above slot.name kind bytes_given = gives (can_set kind bytes_given can) in
+      edited_at c (put_attribute kind bytes_given) (λ z. ops.SetAttr z kind bytes_given) given bs reads writes apart is e refl refl
+
+  pub cleared_at : (c : Kept) (kind : ℕ) (given : List ℕ) (bs : List ℕ) → OnlyReads t.kept.disk.blocks t.kept.history h → Writes bs (with_history t.kept h) c → IsApart t.kept.map bs
+      → ((can : CanEdit (with_history t.kept h) spot.pair spot.id) → HasRemovedAttribute (with_history t.kept h) c can.path can.name kind) → as_path given ≡ path → Carries t.kept (ops.RemoveAttr given kind) c
+  unfolding can_edit
+  cleared_at c kind given bs reads writes apart gives e =
+      let is : HasRemovedAttribute (with_history t.kept h) c slot.above slot.name kind = gives can_edit in
+      edited_at c (without_attribute kind) (λ z. ops.RemoveAttr z kind) given bs reads writes apart is e refl refl
+
+  edit_survives : (c : Kept) (f : Attributes → Attributes) (bs : List ℕ) → OnlyReads t.kept.disk.blocks t.kept.history h → Writes bs (with_history t.kept h) c
+      → SurvivesTo (with_history t.kept h) c (with_attributes_at t.kept slot.above slot.name f) → SurvivesTo t.kept c (with_attributes_changed path f (tree_in t.kept.disk t.kept.pairs))
+  edit_survives c f bs reads writes k =
+      subst (λ p. SurvivesTo t.kept c (with_attributes_changed p f (tree_in t.kept.disk t.kept.pairs))) (sym slot.is) (survives_behind t root rests h c bs (with_attributes_at t.kept slot.above slot.name f) reads writes k)
+
+  pub set_survives : (c : Kept) (kind : ℕ) (bytes_given : List ℕ) (bs : List ℕ) → CanSetAttr (seen_kept t.kept true false) path kind bytes_given → OnlyReads t.kept.disk.blocks t.kept.history h → Writes bs (with_history t.kept h) c
+      → ((set : CanSetAttribute (with_history t.kept h) spot.pair spot.id kind bytes_given) → SurvivesTo (with_history t.kept h) c (with_attributes_at (with_history t.kept h) set.can.path set.can.name (put_attribute kind bytes_given)))
+      → SurvivesTo t.kept c (with_attributes_changed path (put_attribute kind bytes_given) (tree_in t.kept.disk t.kept.pairs))
+  unfolding can_set can_edit
+  set_survives c kind bytes_given bs can reads writes gives = edit_survives c (put_attribute kind bytes_given) bs reads writes (gives (can_set kind bytes_given can))
+
+  pub cleared_survives : (c : Kept) (kind : ℕ) (bs : List ℕ) → OnlyReads t.kept.disk.blocks t.kept.history h → Writes bs (with_history t.kept h) c
+      → ((can : CanEdit (with_history t.kept h) spot.pair spot.id) → SurvivesTo (with_history t.kept h) c (with_attributes_at (with_history t.kept h) can.path can.name (without_attribute kind)))
+      → SurvivesTo t.kept c (with_attributes_changed path (without_attribute kind) (tree_in t.kept.disk t.kept.pairs))
+  unfolding can_edit
+  cleared_survives c kind bs reads writes gives = edit_survives c (without_attribute kind) bs reads writes (gives can_edit)

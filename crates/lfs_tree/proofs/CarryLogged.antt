@@ -1,0 +1,33 @@
+-- A device of bytes holds logs that can be written.
+use Rattle.std.proofs.Common.{ℕ, ◌≡◌, ◌<◌, ◌&&◌, not, Bool, true, false, cond, List, Option, Some, None, refl, subst}
+use Rattle.std.specs.Prelude.{slice_index}
+use Rattle.std.specs.Option.{option_and_then}
+use Rattle.lfs_device.specs.Bytes.{HasBytes}
+use Rattle.lfs_model.specs.Content.{content_after_all, has_commit, holder, holder_at, is_later, no_content}
+use Rattle.lfs_model.specs.Disk.{Disk, block_at}
+use Rattle.lfs_model.specs.Log.{log_entries, revision_of}
+use Rattle.lfs_model.specs.Logged.{IsLogged}
+use Rattle.lfs_model.proofs.Logged.{logged}
+use Rattle.lfs_operations.specs.Ready.{IsLoggedAt}
+
+abbrev AreSmall : List ℕ → Type 0
+AreSmall block = (i : ℕ) → slice_index block i < 256
+
+holder_small : (a b block : List ℕ) → AreSmall a → AreSmall b → holder a b ≡ Some block → AreSmall block
+holder_small a b block f g h = go (not (has_commit a)) (has_commit b) (has_commit b && is_later (revision_of a) (revision_of b)) h
+  where
+    same : (x y : List ℕ) → Some x ≡ Some y → AreSmall x → AreSmall y
+    same x y e s = let k : x ≡ y = cc in subst AreSmall k s
+
+    go : (x y z : Bool) → cond x (cond y (Some b) None) (cond z (Some b) (Some a)) ≡ Some block → AreSmall block
+    go true true z e = same b block e g
+    go true false z e = absurd (cc)
+    go false y true e = same b block e g
+    go false y false e = same a block e f
+
+pub logged_there : (disk : Disk) (at : ℕ × ℕ) → HasBytes disk.blocks → IsLoggedAt disk at
+logged_there disk at bytes raw is = go (holder_at disk at) refl is
+  where
+    go : (o : Option (List ℕ)) → holder_at disk at ≡ o → option_and_then (λ block. content_after_all no_content (log_entries block)) o ≡ Some raw → IsLogged raw
+    go None e h = absurd (cc)
+    go (Some block) e h = logged block raw (holder_small (block_at disk at.0) (block_at disk at.1) block (bytes at.0) (bytes at.1) e) h

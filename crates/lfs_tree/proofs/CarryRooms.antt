@@ -1,0 +1,79 @@
+-- What the checks of an operation have shown, as its steps ask for it.
+use Rattle.std.proofs.Common.{ℕ, ◌≡◌, ◌≢◌, ◌<◌, ◌≤◌, ◌∙◌, ◌&&◌, Bool, true, false, zero, suc, [], ◌∷◌, length, Some, nat_lt, refl, sym, ap₂, subst, arith, set, length-set}
+use Rattle.std.specs.Prelude.{slice_get}
+use Rattle.std.specs.List.{list_all}
+use Rattle.std.proofs.lemmas.Bool.{le-leb, ltb-false}
+use Rattle.std.proofs.lemmas.Option.{same_Some}
+use Rattle.lfs_model.specs.Apply.{last_name}
+use Rattle.lfs_model.specs.BlockSets.{BlockSets, IsFree, is_in_flight, is_used}
+use Rattle.lfs_model.specs.BlockSets.BlockState.{Free, InFlight}
+use Rattle.lfs_model.specs.Disk.{entry_limit}
+use Rattle.lfs_model.specs.Names.{Name, is_component, is_name}
+use Rattle.lfs_model.specs.Session.{is_long}
+use Rattle.lfs_model.specs.Slots.{charge_of}
+use Rattle.lfs_model.specs.Tree.{Path}
+use Rattle.lfs_model.proofs.BlockSets.{count_by-set, counts_from_none_free, slice_get-set_other, slice_get-set_same, used_count-AreUsed}
+use Rattle.lfs_operations.specs.Changing.{AreTwoFree, HasTwoFree}
+use Rattle.lfs_operations.specs.Making.{HasRoomFor}
+use Rattle.lfs_thread.specs.Kept.{Kept}
+use Rattle.lfs_tree.specs.Allowed.{HasRoom}
+use Rattle.lfs_tree.specs.Held.{seen_kept}
+use Rattle.lfs_tree.specs.Seen.{IsSound}
+
+-- ---- room
+
+pub room_for : (t : Kept) (need : ℕ) → IsSound (seen_kept t true false) → HasRoom (seen_kept t true false) need → HasRoomFor need t.map
+room_for t need sound room =
+    let e = used_count-AreUsed t.map _ sound.accepted.owned_once sound.used in
+    let l = sound.size in
+    omega (arith, room)
+
+within : (sets : BlockSets) (b : ℕ) → IsFree sets b → b < length sets
+within [] b e = absurd (cc)
+within (x ∷ sets) zero e = omega arith
+within (x ∷ sets) (suc b) e = let l = within sets b e in omega arith
+
+two_free : (sets : BlockSets) (a b : ℕ) → IsFree sets a → IsFree (set sets a InFlight) b → AreTwoFree sets (a, b)
+two_free sets a b first second = record { apart = apart; first = first; second = sym (slice_get-set_other sets a b InFlight (λ e. apart (sym e))) ∙ second }
+  where
+    apart : a ≢ b
+    apart e = let k = same_Some InFlight Free (sym (slice_get-set_same sets a InFlight (within sets a first)) ∙ subst (λ z. slice_get (set sets a InFlight) z ≡ Some Free) (sym e) second) in absurd (cc)
+
+-- where there is room for two, two are free
+pub no_room : (sets : BlockSets) → HasRoomFor 2 sets → (HasTwoFree sets → ⊥) → ⊥
+no_room sets room none = not_none (λ a free. go a free)
+  where
+    not_none : ((b : ℕ) → IsFree sets b → ⊥) → ⊥
+    not_none f = let e = counts_from_none_free sets f in absurd (omega (arith, room))
+
+    go : (a : ℕ) → IsFree sets a → ⊥
+    go a free =
+        let one : BlockSets = set sets a InFlight in
+        let u = count_by-set is_used sets a Free InFlight free in
+        let i = count_by-set is_in_flight sets a Free InFlight free in
+        let l = length-set sets a InFlight in
+        let e = counts_from_none_free one (λ b other. none ((a, b), two_free sets a b free other)) in
+        absurd (omega (arith, room))
+
+-- ---- names
+
+pub charge_fits : (t : Kept) (name : Name) → nat_lt (entry_limit t.disk.block_size t.disk.page) (charge_of t.disk.block_size name []) ≡ false → charge_of t.disk.block_size name [] ≤ entry_limit t.disk.block_size t.disk.page
+charge_fits t name e = ltb-false _ _ e
+
+last_component : (path : Path) → path ≢ [] → list_all is_component path ≡ true → is_component (last_name path) ≡ true
+last_component [] some all = absurd (some refl)
+last_component (n ∷ []) some all = first_holds (is_component n) true all
+  where
+    first_holds : (x y : Bool) → (x && y) ≡ true → x ≡ true
+    first_holds true y e = refl
+    first_holds false y e = absurd (cc)
+last_component (n ∷ m ∷ path) some all = last_component (m ∷ path) (λ e. absurd (cc)) (behind (is_component n) (list_all is_component (m ∷ path)) all)
+  where
+    behind : (x y : Bool) → (x && y) ≡ true → y ≡ true
+    behind true y e = e
+    behind false y e = absurd (cc)
+
+pub last_is_name : (path : Path) → path ≢ [] → list_all is_component path ≡ true → is_long path ≡ false → is_name (last_name path) ≡ true
+last_is_name path some all long =
+    let n = length (last_name path) in
+    ap₂ (λ x y. x && y) (last_component path some all) (le-leb n 255 (ltb-false 255 n long))

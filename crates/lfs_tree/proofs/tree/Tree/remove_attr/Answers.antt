@@ -1,0 +1,8 @@
+use Rattle.std.proofs.Common.{subst}
+use Rattle.lfs_tree.specs.Allowed.{CanRemoveAttr}
+use Rattle.lfs_tree.proofs.Asking.{seen_working}
+use Rattle.lfs_tree.proofs.tree.Tree.remove_attr.Goals as goal
+
+pub drop_attribute_at-requires-clause-can : goal.drop_attribute_at-requires-clause-can
+drop_attribute_at-requires-clause-can g c =
+    subst (λ s. CanRemoveAttr s c.args.path.now c.args.kind) (seen_working (g.D.BlockDevice) c.self.inside.image c.in-Mounted.thread c.self.inside.root c.self.inside.is_writable c.self.inside.has_failed c.args.self.now c.in-Mounted.is c.self.invariant c.self.view_is c.requires.works c.requires.writable) c.requires

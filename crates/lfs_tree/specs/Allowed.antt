@@ -1,0 +1,85 @@
+-- What an operation's checks have shown before it is carried out.
+use Rattle.std.specs.Prelude.{ℕ, ◌≡◌, ◌+◌, ◌≤◌, true, false, not, ◌&&◌, List, [], length, nat_lt, None, is_none, is_some}
+use Rattle.lfs_model.specs.Apply.{attributes_of, is_beneath, is_directory, is_file, last_name, names_of, same_path}
+use Rattle.lfs_model.specs.BlockSets.{in_flight_count}
+use Rattle.lfs_model.specs.Content.{attribute_of, put_attribute}
+use Rattle.lfs_model.specs.Disk.{block_count}
+use Rattle.lfs_model.specs.Session.{parent_fault, is_long, is_overcharged}
+use Rattle.lfs_model.specs.Steps.{is_root}
+use Rattle.lfs_model.specs.Slots.{no_gstate}
+use Rattle.lfs_model.specs.Thread.{gstate_of}
+use Rattle.lfs_model.specs.Tree.{Path}
+use Rattle.lfs_tree.specs.Seen.{Seen, around_of, tree_seen}
+
+-- so many blocks are free: neither the image's nor in flight
+abbrev pub HasRoom : Seen → ℕ → Type 0
+HasRoom t need = length (around_of t).used + in_flight_count t.map + need ≤ block_count t.disk
+
+-- nothing is at the path, and an entry may be made there that takes so many blocks
+pub record CanAdd (t : Seen) (path : Path) (need : ℕ) : Type 0 where
+  pub works : t.failed ≡ false
+  pub writable : t.writable ≡ true
+  pub settled : gstate_of t.pairs ≡ no_gstate
+  pub parents : parent_fault (tree_seen t) [] path ≡ None
+  pub name : is_long path ≡ false
+  pub nothing : is_some (tree_seen t path) ≡ false
+  pub fits : is_overcharged (around_of t) (last_name path) [] ≡ false
+  pub room : HasRoom t need
+
+-- a directory may be made there
+abbrev pub CanMake : Seen → Path → Type 0
+CanMake t path = CanAdd t path 4
+
+-- a file may be made there
+abbrev pub CanCreate : Seen → Path → Type 0
+CanCreate t path = CanAdd t path 2
+
+-- a file or a directory without entries stands there
+pub record CanRemove (t : Seen) (path : Path) : Type 0 where
+  pub works : t.failed ≡ false
+  pub writable : t.writable ≡ true
+  pub settled : gstate_of t.pairs ≡ no_gstate
+  pub entry : is_root path ≡ false
+  pub parents : parent_fault (tree_seen t) [] path ≡ None
+  pub something : is_none (tree_seen t path) ≡ false
+  pub empty : nat_lt 0 (length (names_of (tree_seen t path))) ≡ false
+
+-- an entry stands there that takes the attribute
+pub record CanSetAttr (t : Seen) (path : Path) (kind : ℕ) (bytes : List ℕ) : Type 0 where
+  pub works : t.failed ≡ false
+  pub writable : t.writable ≡ true
+  pub settled : gstate_of t.pairs ≡ no_gstate
+  pub entry : is_root path ≡ false
+  pub parents : parent_fault (tree_seen t) [] path ≡ None
+  pub something : is_none (tree_seen t path) ≡ false
+  pub len : length bytes ≤ 1022
+  pub fits : is_overcharged (around_of t) (last_name path) (put_attribute kind bytes (attributes_of (tree_seen t path))) ≡ false
+  pub room : HasRoom t 2
+
+-- an entry stands there that has the attribute
+pub record CanRemoveAttr (t : Seen) (path : Path) (kind : ℕ) : Type 0 where
+  pub works : t.failed ≡ false
+  pub writable : t.writable ≡ true
+  pub settled : gstate_of t.pairs ≡ no_gstate
+  pub entry : is_root path ≡ false
+  pub parents : parent_fault (tree_seen t) [] path ≡ None
+  pub something : is_none (tree_seen t path) ≡ false
+  pub there : is_none (attribute_of kind (attributes_of (tree_seen t path))) ≡ false
+
+-- what stands at the one path may stand at the other, in place of what is there
+pub record CanRename (t : Seen) (from to : Path) : Type 0 where
+  pub works : t.failed ≡ false
+  pub writable : t.writable ≡ true
+  pub settled : gstate_of t.pairs ≡ no_gstate
+  pub entry : is_root from ≡ false
+  pub target : is_root to ≡ false
+  pub apart : is_beneath from to ≡ false
+  pub parents : parent_fault (tree_seen t) [] from ≡ None
+  pub target_parents : parent_fault (tree_seen t) [] to ≡ None
+  pub name : is_long to ≡ false
+  pub something : is_none (tree_seen t from) ≡ false
+  pub directory : (not (same_path from to) && is_directory (tree_seen t from) && is_file (tree_seen t to)) ≡ false
+  pub file : (not (same_path from to) && is_file (tree_seen t from) && is_directory (tree_seen t to)) ≡ false
+  pub empty : (not (same_path from to) && nat_lt 0 (length (names_of (tree_seen t to)))) ≡ false
+  pub fits : (not (same_path from to) && is_overcharged (around_of t) (last_name to) (attributes_of (tree_seen t from))) ≡ false
+  pub room : HasRoom t 2

@@ -1,0 +1,29 @@
+// What is to be known of an image that was mounted.
+
+ghost use Rattle.std.specs.Prelude.{◌≡◌, ◌↔◌, IsTrue, IfOk, false};
+ghost use Rattle.lfs_model.specs.Thread.{superblocks_before};
+ghost use Rattle.lfs_model.specs.View.{IsAccepted, IsWritable};
+ghost use Rattle.lfs_tree.specs.Reading.{IsReading};
+
+use crate::profile::is_writable;
+use crate::root::find_root;
+use lfs_device::{BlockDevice, Error};
+use lfs_thread::Thread;
+use std::alloc::Global;
+
+// The number of the root directory's first pair, and whether the image is one of those that are
+// written.
+pub(crate) fn read_root<D: BlockDevice>(
+    alloc: Global,
+    thread: &mut Thread<D>,
+) -> Result<(usize, bool), Error>
+    requires works { thread.old.failed ≡ false }
+    requires accepted { IsAccepted thread.old.kept.disk thread.old.kept.pairs }
+    ensures root { IfOk result (λ r. r.0 ≡ superblocks_before thread.old.kept.pairs) }
+    ensures writable { IfOk result (λ r. IsTrue r.1 ↔ IsWritable thread.old.kept.disk thread.old.kept.pairs) }
+    ensures reading { IsReading thread.old thread.new result }
+{
+    let root = find_root(alloc, thread)?;
+    let is_writable = is_writable(alloc, thread, root)?;
+    Ok((root, is_writable))
+}

@@ -1,0 +1,416 @@
+// A mounted image, whose calls take paths.
+
+ghost use Rattle.std.specs.Prelude.{ℕ, ◌≡◌, ◌<◌, ◌==◌, ◌≤◌, ◌+◌, ◌^◌, List, length, map, take, drop, true, false, None, IfOk, IfErr, IfSome, OnErr, OnOk};
+ghost use Rattle.std.specs.List.{list_any};
+ghost use Rattle.std.specs.Option.{option_map};
+ghost use Rattle.lfs_model.specs.History.{OnlyReads, faults};
+ghost use Rattle.lfs_model.specs.Operations as ops;
+ghost use Rattle.lfs_model.specs.Apply.{attributes_of, bytes_at, is_directory};
+ghost use Rattle.lfs_model.specs.BlockSets.{in_flight_count};
+ghost use Rattle.lfs_model.specs.Content.{attribute_of};
+ghost use Rattle.lfs_model.specs.Operations.{Flags};
+ghost use Rattle.lfs_model.specs.Thread.{Pair};
+ghost use Rattle.lfs_model.specs.View.{IsAccepted};
+ghost use Rattle.lfs_model.specs.Disk.{block_count};
+ghost use Rattle.lfs_model.specs.Fresh.{IsFresh};
+ghost use Rattle.lfs_model.specs.Steps.{as_path, items_in};
+ghost use Rattle.lfs_model.specs.Thread.{anchor};
+ghost use Rattle.lfs_mount.specs.Device.{IsMountError};
+ghost use Rattle.lfs_tag.specs.FieldsSeen.{move_seen};
+ghost use Rattle.lfs_thread.specs.Device.{GivesBack, two_of};
+ghost use Rattle.lfs_thread.specs.Kept.{disk_on};
+ghost use Rattle.lfs_tree.specs.Allowed.{CanCreate, CanMake, CanRemove, CanRemoveAttr, CanRename, CanSetAttr};
+ghost use Rattle.lfs_tree.specs.Finds.{Finds, list_item_seen};
+ghost use Rattle.lfs_tree.specs.Formatting.{ComesBack};
+ghost use Rattle.lfs_tree.specs.Seen.{IsAsked, IsBroken, IsBrokenAsking, IsCarried, IsError, IsMountError as IsMountErrorOf, IsMountedTree, IsSound, around_of, tree_seen};
+
+use crate::attribute_at::attribute_at;
+use crate::by_path::find_at;
+use crate::bytes_at::bytes_at;
+use crate::finding::{Finding, ListItem};
+use crate::formatting::format;
+use crate::image::Image;
+use crate::list_at::list_at;
+use crate::mounted::read_root;
+use crate::path::Path;
+use crate::rooted::{create_file_at, drop_attribute_at, make_directory_at, put_attribute_at};
+use core::mem::replace_with;
+use lfs_device::{BlockDevice, Error, Geometry};
+use lfs_tag::MoveState;
+use std::alloc::Global;
+use std::marker::Model;
+
+/// A mounted image: what littlefs 2.0 allows, on a device.
+///
+/// After an error it has failed: it is only to be read anew then, by [`remount`](Tree::remount).
+#[derive(Drop)]
+pub struct Tree<D: BlockDevice> {
+    image: Image<D>,
+    // The number of the root directory's first pair.
+    root: usize,
+    is_writable: bool,
+    has_failed: bool,
+}
+
+impl<D: BlockDevice> Model for Tree<D> {
+    ghost use Rattle.lfs_tree.specs.Held.{IsHeld, seen_image};
+    ghost use Rattle.lfs_tree.specs.Seen.{Seen};
+
+    ghost Value = { Seen };
+
+    ghost view = { λ t. seen_image D.BlockDevice t.image t.is_writable t.has_failed };
+
+    ghost invariant = { λ t. IsHeld t.image t.root t.is_writable t.has_failed };
+}
+
+impl<D: BlockDevice> Tree<D> {
+    /// Reads the image of a device. Only reads are made.
+    ///
+    /// `Corrupt` exactly where no image is accepted there. `Io` where a read failed, and `NoMemory`
+    /// where memory isn't granted. The device comes back with an error.
+    pub fn mount(alloc: Global, device: D) -> Result<Tree<D>, (D, Error)>
+        ensures mounted { IfOk result (IsMountedTree (disk_on D.BlockDevice device) (D.history device)) }
+        ensures corrupt { IfErr result (λ e. e.1 ≡ Error.Corrupt → (ps : List Pair) → ¬ IsAccepted (disk_on D.BlockDevice device) ps) }
+        ensures errors { IfErr result (λ e. IsMountError e.1) }
+        ensures back { IfErr result (λ e. GivesBack D.BlockDevice device e.0 e.1) }
+    {
+        let mut thread = lfs_mount::mount(alloc, device)?;
+        match read_root(alloc, &mut thread) {
+            Ok((root, is_writable)) => Ok(Tree {
+                image: Image::Mounted(thread),
+                root,
+                is_writable,
+                has_failed: false,
+            }),
+            Err(error) => Err((thread.into_device(), error)),
+        }
+    }
+
+    /// Makes an empty file system on a device, as [`format`](crate::format) does. Its errors are those
+    /// of that call, and those of a mount.
+    pub fn format(alloc: Global, device: D) -> Result<Tree<D>, (D, Error)>
+        ensures works { IfOk result (λ t. (t.failed ≡ false) × (t.writable ≡ true)) }
+        ensures sound { IfOk result IsSound }
+        ensures fresh { IfOk result (λ t. (in_flight_count t.map ≡ 0) × IsFresh t.disk) }
+        ensures back { IfErr result (λ e. ComesBack D.BlockDevice (two_of anchor) device e.0 e.1) }
+    {
+        match format(alloc, device) {
+            Ok(thread) => Ok(Tree {
+                image: Image::Mounted(thread),
+                root: 0,
+                is_writable: true,
+                has_failed: false,
+            }),
+            Err(back) => Err(back),
+        }
+    }
+
+    /// Reads the device anew, after an error too. What was in flight no longer is.
+    ///
+    /// Errors as those of [`mount`](Tree::mount); it has failed then.
+    pub fn remount(&mut self, alloc: Global) -> Result<(), Error>
+        ensures mounted { OnOk result (IsMountedTree self.old.disk self.old.history self.new) }
+        ensures broken { OnErr result (IsBrokenAsking self.old self.new) }
+        ensures errors { IfErr result (IsMountErrorOf self.old self.new) }
+    {
+        replace_with(self, alloc, mounted_again)
+    }
+
+    /// The device, as the last call left it, after an error too.
+    pub fn device(&self) -> &D
+        ensures disk { disk_on D.BlockDevice result.now ≡ self.now.disk }
+        ensures history { D.history result.now ≡ self.now.history }
+    {
+        match &self.image {
+            Image::Mounted(thread) => thread.device(),
+            Image::Unmounted(device) => device,
+        }
+    }
+
+    /// The device, as the last call left it. It may be had from a tree that has failed, too.
+    pub fn into_device(self) -> D
+        ensures disk { disk_on D.BlockDevice result ≡ self.disk }
+        ensures history { D.history result ≡ self.history }
+    {
+        match self.image {
+            Image::Mounted(thread) => thread.into_device(),
+            Image::Unmounted(device) => device,
+        }
+    }
+
+    /// Whether a call failed.
+    pub fn has_failed(&self) -> bool
+        ensures { result ≡ self.now.failed }
+    {
+        self.has_failed
+    }
+
+    /// Whether the image is one of those that this library writes.
+    pub fn is_writable(&self) -> bool
+        ensures { result ≡ self.now.writable }
+    {
+        self.is_writable
+    }
+
+    /// The geometry of its device.
+    pub fn geometry(&self) -> Geometry
+        ensures block_size { result.block_size ≡ self.now.disk.block_size }
+        ensures page { result.page ≡ self.now.disk.page }
+        ensures block_count { result.block_count ≡ block_count self.now.disk }
+    {
+        self.device().geometry()
+    }
+
+    /// The session fails for want of memory of its own.
+    pub fn fail(&mut self)
+        ensures { self.new ≡ record self.old { failed = true } }
+    {
+        self.has_failed = true;
+    }
+
+    /// How many blocks the image uses.
+    pub fn used_count(&self) -> u32
+        requires { self.now.failed ≡ false }
+        ensures { result ≡ length (around_of self.now).used }
+    {
+        let Image::Mounted(thread) = &self.image else {
+            unreachable!()
+        };
+        thread.used_count()
+    }
+
+    /// Whether the image uses a block.
+    pub fn is_used(&self, block: u32) -> bool
+        requires works { self.now.failed ≡ false }
+        requires below { block < block_count self.now.disk }
+        ensures { result ≡ list_any (λ b. b == block) (around_of self.now).used }
+    {
+        let Image::Mounted(thread) = &self.image else {
+            unreachable!()
+        };
+        thread.is_used(block)
+    }
+
+    /// The global state (DESIGN.md of littlefs, "The move problem").
+    pub fn gstate(&self) -> MoveState
+        requires { self.now.failed ≡ false }
+        ensures { move_seen result ≡ (around_of self.now).gstate }
+    {
+        let Image::Mounted(thread) = &self.image else {
+            unreachable!()
+        };
+        thread.state()
+    }
+
+    /// What a path leads to.
+    ///
+    /// `Io` where a read failed, and `NoMemory` where memory isn't granted. It has failed then.
+    pub fn look_up(&mut self, alloc: Global, path: &Path<'_>) -> Result<Finding, Error>
+        requires { self.old.failed ≡ false }
+        ensures asked { OnOk result (IsAsked self.old self.new) }
+        ensures found { IfOk result (Finds (tree_seen self.old) path.now) }
+        ensures broken { OnErr result (IsBrokenAsking self.old self.new) }
+        ensures errors { IfErr result (IsError self.old self.new) }
+    {
+        let Image::Mounted(thread) = &mut self.image else {
+            unreachable!()
+        };
+        let found = find_at(alloc, thread, self.root, path);
+        self.has_failed = found.is_err();
+        found
+    }
+
+    /// The contents of a file, from a position on, so many bytes at most. None where no file stands.
+    ///
+    /// `Io` where a read failed, and `NoMemory` where memory isn't granted. It has failed then.
+    pub fn read_file(
+        &mut self,
+        alloc: Global,
+        path: &Path<'_>,
+        position: u32,
+        count: usize,
+    ) -> Result<Vec<u8>, Error>
+        requires { self.old.failed ≡ false }
+        ensures asked { OnOk result (IsAsked self.old self.new) }
+        ensures bytes { IfOk result (λ v. v.items ≡ take count (drop position (bytes_at (tree_seen self.old path.now)))) }
+        ensures end { IfOk result (λ v. position + length v.items < 2 ^ 32) }
+        ensures broken { OnErr result (IsBrokenAsking self.old self.new) }
+        ensures errors { IfErr result (IsError self.old self.new) }
+    {
+        let Image::Mounted(thread) = &mut self.image else {
+            unreachable!()
+        };
+        let bytes = bytes_at(alloc, thread, self.root, path, position, count);
+        self.has_failed = bytes.is_err();
+        bytes
+    }
+
+    /// An attribute of what stands at a path, which has at most 1,022 bytes. None where it isn't there.
+    ///
+    /// `Io` where a read failed, and `NoMemory` where memory isn't granted. It has failed then.
+    pub fn get_attr(
+        &mut self,
+        alloc: Global,
+        path: &Path<'_>,
+        kind: u8,
+    ) -> Result<Option<Vec<u8>>, Error>
+        requires { self.old.failed ≡ false }
+        ensures asked { OnOk result (IsAsked self.old self.new) }
+        ensures bytes { IfOk result (λ found. (option_map (λ v. v.items) found ≡ attribute_of kind (attributes_of (tree_seen self.old path.now))) × IfSome found (λ v. length v.items ≤ 1022)) }
+        ensures broken { OnErr result (IsBrokenAsking self.old self.new) }
+        ensures errors { IfErr result (IsError self.old self.new) }
+    {
+        let Image::Mounted(thread) = &mut self.image else {
+            unreachable!()
+        };
+        let found = attribute_at(alloc, thread, self.root, path, kind);
+        self.has_failed = found.is_err();
+        found
+    }
+
+    /// What stands in a directory, in name order.
+    ///
+    /// `Io` where a read failed, and `NoMemory` where memory isn't granted. It has failed then.
+    pub fn list(&mut self, alloc: Global, path: &Path<'_>) -> Result<Vec<ListItem>, Error>
+        requires works { self.old.failed ≡ false }
+        requires directory { is_directory (tree_seen self.old path.now) ≡ true }
+        ensures asked { OnOk result (IsAsked self.old self.new) }
+        ensures items { IfOk result (λ items. map list_item_seen items.items ≡ items_in (tree_seen self.old) path.now) }
+        ensures broken { OnErr result (IsBrokenAsking self.old self.new) }
+        ensures errors { IfErr result (IsError self.old self.new) }
+    {
+        let Image::Mounted(thread) = &mut self.image else {
+            unreachable!()
+        };
+        let items = list_at(alloc, thread, self.root, path);
+        self.has_failed = items.is_err();
+        items
+    }
+
+    /// Makes an empty directory where nothing is.
+    ///
+    /// `Io` where a call of the device failed, and `NoMemory` where memory isn't granted. It has failed
+    /// then.
+    pub fn mkdir(&mut self, alloc: Global, path: &Path<'_>) -> Result<(), Error>
+        requires { CanMake self.old path.now }
+        ensures done { OnOk result ((bytes : List ℕ) → as_path bytes ≡ path.now → IsCarried self.old (ops.Mkdir bytes) self.new) }
+        ensures broken { OnErr result (IsBroken self.old self.new) }
+        ensures errors { IfErr result (IsError self.old self.new) }
+    {
+        let Image::Mounted(thread) = &mut self.image else {
+            unreachable!()
+        };
+        match make_directory_at(alloc, thread, self.root, path) {
+            Ok(root) => {
+                self.root = root;
+                Ok(())
+            }
+            Err(error) => {
+                self.has_failed = true;
+                Err(error)
+            }
+        }
+    }
+
+    /// Makes an empty file where nothing is.
+    ///
+    /// `Io` where a call of the device failed, and `NoMemory` where memory isn't granted. It has failed
+    /// then.
+    pub fn create(&mut self, alloc: Global, path: &Path<'_>) -> Result<(), Error>
+        requires { CanCreate self.old path.now }
+        ensures done { OnOk result ((bytes : List ℕ) (flags : Flags) → as_path bytes ≡ path.now → flags.write ≡ true → IsCarried self.old (ops.Open bytes flags) self.new) }
+        ensures broken { OnErr result (IsBroken self.old self.new) }
+        ensures errors { IfErr result (IsError self.old self.new) }
+    {
+        let Image::Mounted(thread) = &mut self.image else {
+            unreachable!()
+        };
+        match create_file_at(alloc, thread, self.root, path) {
+            Ok(root) => {
+                self.root = root;
+                Ok(())
+            }
+            Err(error) => {
+                self.has_failed = true;
+                Err(error)
+            }
+        }
+    }
+
+    /// Gives an entry an attribute, in place of the one of that type that it has, if it has one.
+    ///
+    /// `Io` where a call of the device failed, and `NoMemory` where memory isn't granted. It has failed
+    /// then.
+    pub fn set_attr(
+        &mut self,
+        alloc: Global,
+        path: &Path<'_>,
+        kind: u8,
+        bytes: &[u8],
+    ) -> Result<(), Error>
+        requires { CanSetAttr self.old path.now kind bytes.now }
+        ensures done { OnOk result ((given : List ℕ) → as_path given ≡ path.now → IsCarried self.old (ops.SetAttr given kind bytes.now) self.new) }
+        ensures broken { OnErr result (IsBroken self.old self.new) }
+        ensures errors { IfErr result (IsError self.old self.new) }
+    {
+        let Image::Mounted(thread) = &mut self.image else {
+            unreachable!()
+        };
+        match put_attribute_at(alloc, thread, self.root, path, kind, bytes) {
+            Ok(root) => {
+                self.root = root;
+                Ok(())
+            }
+            Err(error) => {
+                self.has_failed = true;
+                Err(error)
+            }
+        }
+    }
+
+    /// Takes an attribute from an entry.
+    ///
+    /// `Io` where a call of the device failed, and `NoMemory` where memory isn't granted. It has failed
+    /// then.
+    pub fn remove_attr(&mut self, alloc: Global, path: &Path<'_>, kind: u8) -> Result<(), Error>
+        requires { CanRemoveAttr self.old path.now kind }
+        ensures done { OnOk result ((bytes : List ℕ) → as_path bytes ≡ path.now → IsCarried self.old (ops.RemoveAttr bytes kind) self.new) }
+        ensures broken { OnErr result (IsBroken self.old self.new) }
+        ensures errors { IfErr result (IsError self.old self.new) }
+    {
+        let Image::Mounted(thread) = &mut self.image else {
+            unreachable!()
+        };
+        match drop_attribute_at(alloc, thread, self.root, path, kind) {
+            Ok(root) => {
+                self.root = root;
+                Ok(())
+            }
+            Err(error) => {
+                self.has_failed = true;
+                Err(error)
+            }
+        }
+    }
+}
+
+// The same device, mounted again.
+fn mounted_again<D: BlockDevice>(tree: Tree<D>, alloc: Global) -> (Tree<D>, Result<(), Error>)
+    ensures mounted { OnOk result.1 (IsMountedTree tree.disk tree.history result.0) }
+    ensures broken { OnErr result.1 (IsBrokenAsking tree result.0) }
+    ensures errors { IfErr result.1 (IsMountErrorOf tree result.0) }
+{
+    let is_writable = tree.is_writable;
+    match Tree::mount(alloc, tree.into_device()) {
+        Ok(tree) => (tree, Ok(())),
+        Err((device, error)) => (
+            Tree {
+                image: Image::Unmounted(device),
+                root: 0,
+                is_writable,
+                has_failed: true,
+            },
+            Err(error),
+        ),
+    }
+}

@@ -1,0 +1,49 @@
+-- Refusals as errors.
+use Rattle.std.proofs.Common.{◌≡◌, true, Result, Ok, Err, refl, sym, ap, ◌∙◌}
+use Rattle.std.specs.Result.{IsErrAnd}
+use Rattle.lfs_device.specs.declared.error.Error.{Error}
+use Rattle.lfs_model.specs.Operations as ops
+use Rattle.lfs_model.specs.Operations.{Refusal}
+use Rattle.lfs_tree.specs.Refusals.{error_again, error_for, is_refusal, refusal_in}
+
+pub error_refuses : (r : Refusal) → is_refusal (error_for r) ≡ true
+error_refuses ops.NoEnt = refl
+error_refuses ops.BadFile = refl
+error_refuses ops.Busy = refl
+error_refuses ops.Exist = refl
+error_refuses ops.NotDir = refl
+error_refuses ops.IsDir = refl
+error_refuses ops.Invalid = refl
+error_refuses ops.TooBig = refl
+error_refuses ops.NoSpace = refl
+error_refuses ops.ReadOnly = refl
+error_refuses ops.NameTooLong = refl
+error_refuses ops.NotEmpty = refl
+error_refuses ops.NoAttr = refl
+error_refuses ops.Failed = refl
+error_refuses ops.EntryFull = refl
+
+pub refusal_again : (r : Refusal) → refusal_in (error_for r) ≡ r
+refusal_again ops.NoEnt = refl
+refusal_again ops.BadFile = refl
+refusal_again ops.Busy = refl
+refusal_again ops.Exist = refl
+refusal_again ops.NotDir = refl
+refusal_again ops.IsDir = refl
+refusal_again ops.Invalid = refl
+refusal_again ops.TooBig = refl
+refusal_again ops.NoSpace = refl
+refusal_again ops.ReadOnly = refl
+refusal_again ops.NameTooLong = refl
+refusal_again ops.NotEmpty = refl
+refusal_again ops.NoAttr = refl
+refusal_again ops.Failed = refl
+refusal_again ops.EntryFull = refl
+
+-- the exit of a `?` between the same errors
+pub given_on : {A : Type 0} (e : Error) (r : Result A Error) → IsErrAnd r (λ x. x ≡ e) → r ≡ Err e
+given_on e (Ok x) h = absurd h
+given_on e (Err x) h = ap (λ z. Err z) h
+
+pub passed_on : (r : Refusal) (e : Error) → refusal_in e ≡ r → is_refusal e ≡ true → e ≡ error_for r
+passed_on r e is refuses = sym (error_again e refuses) ∙ ap error_for is

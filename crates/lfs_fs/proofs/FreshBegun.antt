@@ -1,0 +1,21 @@
+-- A session over a fresh disk.
+use Rattle.std.proofs.Common.{◌≡◌, ◌∙◌, false, cond, List, [], ap, ap₂}
+use Rattle.lfs_model.specs.Content.{content_at}
+use Rattle.lfs_model.specs.Disk.{Disk, block_count}
+use Rattle.lfs_model.specs.Fresh.{IsFresh, empty_tree}
+use Rattle.lfs_model.specs.Session.{Files}
+use Rattle.lfs_model.specs.State.{HasFailed, Healthy, mounted}
+use Rattle.lfs_model.specs.Thread.{Pair}
+use Rattle.lfs_model.specs.Tree.{Tree}
+use Rattle.lfs_model.specs.View.{IsAccepted, tree_in}
+use Rattle.lfs_model.proofs.Fresh.{accepted, shows}
+use Rattle.lfs_model.proofs.Uniqueness.{one_thread}
+use Rattle.lfs_fs.specs.Held.{Held, moment_of, session_of}
+
+tree_is_empty : (disk : Disk) (ps : List Pair) → IsFresh disk → IsAccepted disk ps → tree_in disk ps ≡ empty_tree
+tree_is_empty disk ps fresh ok = ap (tree_in disk) (one_thread (content_at disk) (block_count disk) ps _ ok.thread (accepted disk fresh).thread) ∙ shows disk
+
+pub fresh_state : (h : Held) → h.tree.failed ≡ false → h.files ≡ [] → IsAccepted h.tree.disk h.tree.pairs → IsFresh h.tree.disk → (moment_of h).state ≡ Healthy (mounted empty_tree)
+fresh_state h works none ok fresh =
+    ap (λ b. cond b HasFailed (Healthy (session_of h))) works
+    ∙ ap₂ (λ (t : Tree) (f : Files). Healthy (record { tree = t; files = f })) (tree_is_empty h.tree.disk h.tree.pairs fresh ok) none

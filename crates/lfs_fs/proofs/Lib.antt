@@ -1,0 +1,14 @@
+pub mod Errors
+pub mod Failing
+pub mod Answered
+pub mod Checked
+pub mod Running
+pub mod Seeking
+pub mod OpenFiles
+pub mod SamePaths
+pub mod EntryChecks
+pub mod Questions
+pub mod Remounting
+pub mod ReaderReads
+pub mod Unsettled
+pub mod FreshBegun

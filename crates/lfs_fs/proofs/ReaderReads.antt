@@ -1,0 +1,78 @@
+-- What an open reader gives.
+use Rattle.std.proofs.Common.{ℕ, ◌≡◌, ◌+◌, ◌-◌, ◌<◌, ◌^◌, min, true, false, List, length, take, drop, Option, Some, None, is_none, Result, Ok, Err, refl, sym, ap, ap₂, subst, ◌∙◌, arith}
+use Rattle.std.proofs.lemmas.List.{length-take, length-drop}
+use Rattle.std.specs.Option.{option_map}
+use Rattle.lfs_model.specs.Apply.{bytes_at, is_file}
+use Rattle.lfs_model.specs.Operations as ops
+use Rattle.lfs_model.specs.Operations.{Operation, Reply}
+use Rattle.lfs_model.specs.Session.{Files, OpenFile, Reader, Reading, Writing, file_of, put_file, reader_of, refuse_if}
+use Rattle.lfs_model.specs.Steps.{moved_to, read_effect, size_of}
+use Rattle.lfs_model.specs.Tree.{Node, FileNode, DirectoryNode}
+use Rattle.lfs_tree.specs.Seen.{Seen, tree_seen, IsAsked}
+use Rattle.lfs_fs.specs.Held.{Held, IsReady, held_with, session_of, refused_by, Answers}
+use Rattle.lfs_device.specs.declared.error.Error.{Error}
+use Rattle.lfs_tree.specs.Refusals.{refusal_in}
+use Rattle.lfs_tree.specs.Seen.{IsBrokenAsking, IsError}
+use Rattle.lfs_fs.specs.Replies.{reply_in}
+use Rattle.lfs_fs.proofs.Failing.{asking_fails}
+use Rattle.lfs_fs.proofs.Answered.{error_answers, files_answers}
+use Rattle.lfs_fs.proofs.Questions.{works_by}
+
+reading_is : (f : Option OpenFile) (r : Reader) → Some r ≡ reader_of f → f ≡ Some (Reading r)
+reading_is None r e = absurd (cc)
+reading_is (Some (Reading q)) r e = ap or_else (sym e)
+  where
+    or_else : Option Reader → Option OpenFile
+    or_else None = Some (Reading q)
+    or_else (Some z) = Some (Reading z)
+reading_is (Some (Writing w)) r e = absurd (cc)
+
+pub no_reader : (h : Held) (fd count : ℕ) → false ≡ h.tree.failed → None ≡ reader_of (file_of h.files fd) → refused_by h (ops.Read fd count) ≡ Some ops.BadFile
+no_reader h fd count works e = works_by h (ops.Read fd count) (Some ops.BadFile) works (ap (λ z. refuse_if (is_none z) ops.BadFile) (sym e))
+
+pub a_reader : (h : Held) (fd count : ℕ) (r : Reader) → false ≡ h.tree.failed → Some r ≡ reader_of (file_of h.files fd) → refused_by h (ops.Read fd count) ≡ None
+a_reader h fd count r works e = works_by h (ops.Read fd count) None works (ap (λ z. refuse_if (is_none z) ops.BadFile) (sym e))
+
+pub read_answers : (old now : Held) (fd count : ℕ) (r : Reader) (tree : Seen) (files : Files) (bytes : List ℕ) (position : ℕ) → old ≡ now → (old.tree.failed ≡ false → IsReady old.tree) → false ≡ old.tree.failed → IsAsked old.tree tree →
+    Some r ≡ reader_of (file_of old.files fd) → bytes ≡ take count (drop r.position (bytes_at (tree_seen old.tree r.path))) → position ≡ r.position + length bytes →
+    files ≡ put_file old.files fd (option_map (moved_to position) (file_of old.files fd)) → Answers now (ops.Read fd count) (Ok (ops.Bytes bytes)) (held_with tree files)
+read_answers old now fd count r tree files bytes position same ready works asked is bytes_are at files_are =
+    files_answers old now (ops.Read fd count) tree files (ops.Bytes bytes) same ready asked (a_reader old fd count r works is) refl refl refl refl refl
+    (ap (read_effect (session_of old) fd count) (sym is) ∙ ap₂ (λ b f. (ops.Bytes b, record { tree = tree_seen old.tree; files = f })) (sym bytes_are) moved)
+  where
+    given : List ℕ
+    given = take count (drop r.position (bytes_at (tree_seen old.tree r.path)))
+
+    moved : put_file old.files fd (Some (Reading (record r { position = r.position + length given }))) ≡ files
+    moved = ap (λ n. put_file old.files fd (Some (Reading (record r { position = n })))) (ap (λ b. r.position + length b) (sym bytes_are) ∙ sym at)
+        ∙ ap (λ f. put_file old.files fd (option_map (moved_to position) f)) (sym (reading_is (file_of old.files fd) r is)) ∙ sym files_are
+
+-- ---- where it ends
+
+file_there : (n : Option Node) (size : ℕ) → size_of n ≡ Some size → (is_file n ≡ true) × (length (bytes_at n) ≡ size)
+file_there None size e = absurd (cc)
+file_there (Some (FileNode attributes bytes)) size e = (refl, ap or_else e)
+  where
+    or_else : Option ℕ → ℕ
+    or_else None = 0
+    or_else (Some z) = z
+file_there (Some (DirectoryNode attributes names)) size e = absurd (cc)
+
+pub is_there : (n : Option Node) (size : ℕ) → size_of n ≡ Some size → is_file n ≡ true
+is_there n size e = (file_there n size e).0
+
+pub ends_below : (n : Option Node) (size position count len : ℕ) (items : List ℕ) → size_of n ≡ Some size → size < 2 ^ 32 → position < 2 ^ 32 → len ≡ length items → items ≡ take count (drop position (bytes_at n)) →
+    position + len < 2 ^ 32
+ends_below n size position count len items e small at is are =
+    below (length items) (length (drop position (bytes_at n))) (length (bytes_at n)) refl (ap length are ∙ length-take count (drop position (bytes_at n))) (length-drop position (bytes_at n)) (file_there n size e).1
+  where
+    below : (l d m : ℕ) → length items ≡ l → l ≡ min count d → d ≡ m - position → m ≡ size → position + len < 2 ^ 32
+    below l d m w x y z = omega (arith, w, x, y, z, small, at, is)
+
+-- a call failed on the way
+pub read_fails : {B : Type 0} (old now : Held) (op : Operation) (reply : B → Reply) (e : Error) (tree : Seen) (r : Result B Error) → old ≡ now → false ≡ old.tree.failed → IsBrokenAsking old.tree tree → IsError old.tree tree e → r ≡ Err e →
+    Answers now op (reply_in reply r) (held_with tree old.files)
+read_fails old now op reply e tree r same works broken error is =
+    subst (λ z. Answers z op (reply_in reply r) (held_with tree old.files)) same
+    (subst (λ z. Answers old op (reply_in reply z) (held_with tree old.files)) (sym is)
+    (error_answers old op e (held_with tree old.files) (ops.Refused (refusal_in e)) error.errors (asking_fails e old op tree old.files (sym works) broken error)))

@@ -1,0 +1,66 @@
+-- Two paths are the same where their bytes are.
+use Rattle.std.proofs.Common.{ℕ, ◌≡◌, ◌==◌, Bool, true, false, not, cond, List, [], ◌∷◌, length, Option, Some, None, is_some, unwrap_or, refl, sym, ap, ◌∙◌, arith}
+use Rattle.std.specs.List.{slice_split, list_all, join_with_byte, onto_first}
+use Rattle.std.proofs.lemmas.Option.{same_Some}
+use Rattle.std.proofs.lemmas.Bool.{eqb-true, lt-ltb}
+use Rattle.std.proofs.lemmas.List.Splits.{join_with_byte-slice_split}
+use Rattle.lfs_model.specs.Names.{is_component, same_name, slash}
+use Rattle.lfs_model.specs.Apply.{same_path}
+use Rattle.lfs_model.specs.Operations.{path_of}
+use Rattle.lfs_model.specs.Steps.{as_path}
+use Rattle.lfs_model.specs.Tree.{Path}
+use Rattle.lfs_model.proofs.Paths.{Names, alike, unlike, names, path_itself, path_from_same}
+
+-- the bytes of a path
+spelling : Path → List ℕ
+spelling [] = slash ∷ []
+spelling (n ∷ p) = slash ∷ join_with_byte slash (n ∷ p)
+
+behind : (xs : List ℕ) → slash ∷ xs ≡ slash ∷ join_with_byte slash (slice_split (λ c. c == slash) xs)
+behind xs = ap (λ z. slash ∷ z) (sym (join_with_byte-slice_split slash xs))
+
+of_parts : (parts : Path) (x : ℕ) (xs : List ℕ) → slice_split (λ c. c == slash) (x ∷ xs) ≡ parts → slash ∷ x ∷ xs ≡ spelling parts
+unfolding spelling
+of_parts [] x xs e = go (x == slash) (slice_split (λ c. c == slash) xs) e
+  where
+    go : (b : Bool) (rest : Path) → cond b ([] ∷ rest) (onto_first x rest) ≡ [] → slash ∷ x ∷ xs ≡ spelling []
+    go true rest k = absurd (cc)
+    go false [] k = absurd (cc)
+    go false (q ∷ qs) k = absurd (cc)
+of_parts (n ∷ p) x xs e = behind (x ∷ xs) ∙ ap (λ z. slash ∷ join_with_byte slash z) e
+
+spelled : (xs : List ℕ) (p : Path) → path_of xs ≡ Some p → xs ≡ spelling p
+unfolding spelling
+spelled [] p e = absurd (cc)
+spelled (b ∷ []) p e = go (b == slash) refl e
+  where
+    go : (s : Bool) → (b == slash) ≡ s → cond (not s) None (Some []) ≡ Some p → b ∷ [] ≡ spelling p
+    go false h k = absurd (cc)
+    go true h k = ap (λ z. z ∷ []) (eqb-true b slash h) ∙ ap spelling (same_Some [] p k)
+spelled (b ∷ x ∷ xs) p e = go (b == slash) refl (list_all is_component parts) (sym path_is ∙ e)
+  where
+    parts : Path
+    parts = slice_split (λ c. c == slash) (x ∷ xs)
+
+    path_is : path_of (b ∷ x ∷ xs) ≡ cond (not (b == slash)) None (cond (list_all is_component parts) (Some parts) None)
+    path_is = ap (λ z. cond (not (b == slash)) None (cond z (cond (list_all is_component parts) (Some parts) None) (Some []))) (lt-ltb 0 (length (x ∷ xs)) (omega arith))
+
+    go : (s : Bool) → (b == slash) ≡ s → (l : Bool) → cond (not s) None (cond l (Some parts) None) ≡ Some p → b ∷ x ∷ xs ≡ spelling p
+    go false h l k = absurd (cc)
+    go true h false k = absurd (cc)
+    go true h true k = ap (λ z. z ∷ x ∷ xs) (eqb-true b slash h) ∙ of_parts parts x xs refl ∙ ap spelling (same_Some parts p k)
+
+held_by_some : (o : Option Path) → is_some o ≡ true → o ≡ Some (unwrap_or o [])
+held_by_some None e = absurd (cc)
+held_by_some (Some p) e = refl
+
+pub same_bytes : (xs ys : List ℕ) → is_some (path_of xs) ≡ true → is_some (path_of ys) ≡ true → same_name xs ys ≡ same_path (as_path ys) (as_path xs)
+same_bytes xs ys h k = go (names xs ys)
+  where
+    other : (xs ≡ ys → ⊥) → (b : Bool) → same_path (as_path ys) (as_path xs) ≡ b → b ≡ false
+    other ne false e = refl
+    other ne true e = absurd (ne (spelled xs (as_path xs) (held_by_some (path_of xs) h) ∙ ap spelling (sym (path_from_same (as_path ys) (as_path xs) e)) ∙ sym (spelled ys (as_path ys) (held_by_some (path_of ys) k))))
+
+    go : Names xs ys → same_name xs ys ≡ same_path (as_path ys) (as_path xs)
+    go (alike e s) = s ∙ sym (path_itself (as_path ys)) ∙ ap (λ z. same_path (as_path ys) (as_path z)) (sym e)
+    go (unlike n s) = s ∙ sym (other n (same_path (as_path ys) (as_path xs)) refl)

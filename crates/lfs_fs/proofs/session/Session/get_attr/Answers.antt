@@ -1,0 +1,13 @@
+use Rattle.std.proofs.Common.{ap, refl, sym}
+use Rattle.lfs_model.specs.Operations as ops
+use Rattle.lfs_fs.specs.Held.{held_with}
+use Rattle.lfs_fs.proofs.Answered.{checked_ready, question_call}
+use Rattle.lfs_fs.proofs.session.Session.get_attr.Goals as goal
+
+pub returns : goal.returns
+returns g c =
+    question_call (held_with c.self.inside.tree c.self.inside.files) _ (ops.GetAttr c.args.path.now c.args.kind) (λ v. ops.Bytes v.items) _ c.check_get_attr.result c.check_get_attr.new.tree c.self.view_is
+    c.self.invariant refl refl (λ x p. ap ops.Bytes (sym p)) c.check_get_attr.ensures
+
+pub invariant_of-self : goal.invariant_of-self
+invariant_of-self g c = checked_ready (held_with c.self.inside.tree c.self.inside.files) (ops.GetAttr c.args.path.now c.args.kind) _ c.check_get_attr.result c.check_get_attr.new.tree c.self.invariant c.check_get_attr.ensures

@@ -1,0 +1,99 @@
+-- What contracts see of a session, and how its calls answer.
+use Rattle.std.specs.Prelude.{ℕ, nat_le, length, is_none, is_some, ◌≡◌, ◌≢◌, ◌<◌, ◌⊎◌, Bool, true, false, if◌then◌else◌, List, [], Option, Some, None, Result, Ok, Err}
+use Rattle.lfs_device.specs.declared.error.Error.{Error}
+use Rattle.lfs_device.specs.declared.error.Error.TheVariants.{Io, NoMemory, Corrupt, Unsupported}
+use Rattle.lfs_model.specs.BlockSets.{in_flight_count}
+use Rattle.lfs_model.specs.History.{Event, OnlyReads, faults}
+use Rattle.lfs_model.specs.Disk.{Disk}
+use Rattle.lfs_model.specs.View.{IsAccepted}
+use Rattle.lfs_model.specs.Operations as ops
+use Rattle.lfs_model.specs.Operations.{Operation, Refusal, Reply, Failed, path_of}
+use Rattle.lfs_model.specs.Slots.{no_gstate}
+use Rattle.lfs_model.specs.Thread.{Pair, gstate_of}
+use Rattle.lfs_model.specs.Tree.{Tree}
+use Rattle.lfs_model.specs.Session.{Files, Session, readers}
+use Rattle.lfs_model.specs.State.{HasFailed, Healthy, is_remount}
+use Rattle.lfs_model.specs.Steps.{as_path, refusal_of}
+use Rattle.lfs_model.specs.Run.{Moment, Shows, IsTurn}
+use Rattle.lfs_model.specs.Failure.{Fails, IsCutShort}
+use Rattle.lfs_tree.specs.Refusals.{is_refusal, refusal_in}
+use Rattle.lfs_tree.specs.Seen.{Seen, tree_seen, around_of, IsSound, IsAsked, IsBrokenAsking, IsError}
+
+-- The tree and the open files.
+pub record Held : Type 0 where
+  pub tree : Seen
+  pub files : Files
+
+-- What a session keeps of a tree that works: it is the disk's, and no block is in flight.
+pub record IsReady (t : Seen) : Type 0 where
+  pub sound : IsSound t
+  pub no_flight : in_flight_count t.map ≡ 0
+
+abbrev pub held_with : Seen → Files → Held
+held_with tree files = record { tree = tree; files = files }
+
+abbrev pub session_of : Held → Session
+session_of h = record { tree = tree_seen h.tree; files = h.files }
+
+abbrev pub moment_of : Held → Moment
+moment_of h = record {
+  disk = h.tree.disk;
+  calls = h.tree.history;
+  state = if h.tree.failed then HasFailed else Healthy (session_of h);
+}
+
+-- What can't be done yet: to open a file for writing, and to change an image of which something is to be recovered.
+abbrev pub IsUnsupported : Disk → Operation → Type 0
+IsUnsupported disk (ops.Open path flags) = flags.write ≡ true
+IsUnsupported disk op = (ps : List Pair) × (IsAccepted disk ps × (gstate_of ps ≡ no_gstate → ⊥))
+
+-- The session fails in an operation by that error. Only a remount answers `Corrupt`, and then the disk isn't accepted;
+-- `Unsupported` says that the operation can't be done yet.
+pub record FailsBy (e : Error) (from : Moment) (op : Operation) (to : Moment) : Type 0 where
+  pub fails : Fails from op to
+  pub errors : (e ≡ Io) ⊎ ((e ≡ NoMemory) ⊎ (((e ≡ Corrupt) × (is_remount op ≡ true) × Shows from.disk None) ⊎ ((e ≡ Unsupported) × IsUnsupported from.disk op)))
+  pub fault : e ≡ Io → faults from.calls < faults to.calls
+  pub no_fault : e ≢ Io → faults to.calls ≡ faults from.calls
+
+-- The call is an operation's turn with that reply. Where an error takes the reply's place, the session has failed by it.
+abbrev pub Answers : Held → Operation → Result Reply Error → Held → Type 0
+Answers old op (Ok reply) new = IsTurn (moment_of old) op reply (moment_of new)
+Answers old op (Err e) new = FailsBy e (moment_of old) op (moment_of new)
+
+-- Some operations were carried out or refused, and in the next one the session failed by that error.
+pub record IsEndedBy (e : Error) (from : Moment) (operations : List Operation) (to : Moment) : Type 0 where
+  pub cut : IsCutShort from operations to
+  pub by : FailsBy e cut.at cut.next to
+
+-- the check that refuses an operation, that of a failed session first
+abbrev pub refused_by : Held → Operation → Option Refusal
+refused_by h op = if h.tree.failed then Some Failed else refusal_of (around_of h.tree) (session_of h) op
+
+-- what the checks leave where they end in that error: a refusal, or a call that failed
+abbrev pub EndsChecks : Bool → Held → Operation → Error → Seen → Type 0
+EndsChecks true h op e tree = IsAsked h.tree tree × (refused_by h op ≡ Some (refusal_in e))
+EndsChecks false h op e tree = IsBrokenAsking h.tree tree × (h.tree.failed ≡ false) × IsError h.tree tree e
+
+-- An operation's checks by reads alone: it passes, and then the value has P; or it is refused; or a read failed.
+abbrev pub Checks : {A : Type 0} → Held → Operation → (A → Type 0) → Result A Error → Seen → Type 0
+Checks h op P (Ok a) tree = IsAsked h.tree tree × (refused_by h op ≡ None) × P a
+Checks h op P (Err e) tree = EndsChecks (is_refusal e) h op e tree
+
+-- The same of checks that read nothing.
+abbrev pub ChecksKept : {A : Type 0} → Held → Operation → (A → Type 0) → Result A Error → Type 0
+ChecksKept h op P (Ok a) = (refused_by h op ≡ None) × P a
+ChecksKept h op P (Err e) = (is_refusal e ≡ true) × (refused_by h op ≡ Some (refusal_in e))
+
+-- a path that may be opened for reading
+pub record IsReadable (t : Tree) (files : Files) (bytes : List ℕ) : Type 0 where
+  pub given : is_some (path_of bytes) ≡ true
+  pub there : is_none (t (as_path bytes)) ≡ false
+  pub few : nat_le 16 (length (readers files)) ≡ false
+
+-- A session that a mount began: it works, has the tree of the disk, which was only read, and no open file.
+pub record IsBegun (disk : Disk) (history : List Event) (h : Held) : Type 0 where
+  pub works : h.tree.failed ≡ false
+  pub disk_is : h.tree.disk ≡ disk
+  pub accepted : IsAccepted disk h.tree.pairs
+  pub reads : OnlyReads disk.blocks history h.tree.history
+  pub no_files : h.files ≡ []

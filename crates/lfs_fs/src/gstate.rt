@@ -1,0 +1,30 @@
+// The global state, as it is answered.
+
+ghost use Rattle.std.specs.Prelude.{◌≡◌};
+ghost use Rattle.lfs_tag.specs.FieldsSeen.{move_seen};
+ghost use Rattle.lfs_fs.specs.GstateSeen.{gstate_reply, reply_of_gstate};
+
+use lfs_tag::MoveState;
+
+/// The global state (DESIGN.md of littlefs, "The move problem").
+#[derive(Clone, Copy, Debug, PartialEq, Eq)]
+pub struct Gstate {
+    /// A pair of the thread may be reached from no directory.
+    pub sync: bool,
+    /// The pair and the id of a slot that counts as deleted, since a move isn't ended.
+    pub moving: Option<([u32; 2], u16)>,
+}
+
+pub(crate) fn gstate_of(state: &MoveState) -> Gstate
+    ensures { gstate_reply result ≡ reply_of_gstate (move_seen state.now) }
+{
+    let moving = if state.kind == 0x4ff {
+        Some((state.pair, state.id))
+    } else {
+        None
+    };
+    Gstate {
+        sync: state.sync,
+        moving,
+    }
+}

@@ -1,0 +1,17 @@
+//! Sessions over a littlefs image: open files, the checks of each operation in order, and runs.
+#![tactic(auto)]
+
+mod checks;
+mod files;
+mod flags;
+mod gstate;
+mod owned_path;
+mod passing;
+mod reading;
+mod run;
+mod session;
+
+pub use flags::OpenFlags;
+pub use gstate::Gstate;
+pub use run::{Op, Reply};
+pub use session::{Session, format, mount};

@@ -1,0 +1,315 @@
+ghost use Rattle.lfs_model.specs.Operations as ops;
+ghost use Rattle.lfs_fs.specs.Replies.{reply_in};
+ghost use Rattle.std.specs.Prelude.{◌≡◌, false, true, List, map, IfOk, IfErr};
+ghost use Rattle.lfs_model.specs.Thread.{Pair};
+ghost use Rattle.lfs_model.specs.Fresh.{IsFresh, empty_tree};
+ghost use Rattle.lfs_model.specs.Headline.{IsTrue};
+ghost use Rattle.lfs_model.specs.State.{Healthy, mounted};
+ghost use Rattle.lfs_model.specs.Run.{AreTurns};
+ghost use Rattle.lfs_thread.specs.Device.{GivesBack, two_of};
+ghost use Rattle.lfs_thread.specs.Kept.{disk_on};
+ghost use Rattle.lfs_model.specs.Thread.{anchor};
+ghost use Rattle.lfs_model.specs.View.{IsAccepted};
+ghost use Rattle.lfs_tree.specs.Finds.{list_item_seen};
+ghost use Rattle.lfs_tree.specs.Formatting.{ComesBack};
+ghost use Rattle.lfs_fs.specs.GstateSeen.{gstate_reply};
+ghost use Rattle.lfs_fs.specs.Held.{Answers, IsBegun, IsEndedBy, moment_of};
+ghost use Rattle.lfs_fs.specs.FlagsSeen.{flags_seen};
+ghost use Rattle.lfs_fs.specs.OpSeen.{op_seen, performed, reply_seen};
+
+use crate::checks::{
+    check_get_attr, check_list, check_mkdir, check_open, check_open_reader, check_remove_attr,
+    check_seek, check_stat,
+};
+use crate::files::Files;
+use crate::flags::OpenFlags;
+use crate::gstate::{Gstate, gstate_of};
+use crate::reading::read_from;
+use crate::run::{Op, Reply, bytes, count, done, fd, gstate, items, stat, yes};
+use bitflags::Flags;
+use lfs_device::{BlockDevice, Error};
+use lfs_tree::{ListItem, Tree};
+use std::alloc::Global;
+use std::marker::Model;
+
+/// A session: a tree of files on a device, and the open files.
+#[derive(Drop)]
+pub struct Session<D: BlockDevice> {
+    tree: Tree<D>,
+    files: Files,
+}
+
+impl<D: BlockDevice> Model for Session<D> {
+    ghost use Rattle.std.specs.Prelude.{◌≡◌, false};
+    ghost use Rattle.lfs_fs.specs.Held.{Held, IsReady};
+
+    ghost Value = { Held };
+
+    ghost view = { λ s. record { tree = s.tree; files = s.files } };
+
+    ghost invariant = { λ s. s.tree.failed ≡ false → IsReady s.tree };
+}
+
+impl<D: BlockDevice> Session<D> {
+    /// A file's size, or None for a directory.
+    pub fn stat(&mut self, alloc: Global, path: &[u8]) -> Result<Option<u32>, Error>
+        ensures { Answers self.old (ops.Stat path.now) (reply_in ops.StatIs result) self.new }
+    {
+        check_stat(alloc, &mut self.tree, &self.files, path)
+    }
+
+    /// What stands in a directory, in name order.
+    pub fn list(&mut self, alloc: Global, path: &[u8]) -> Result<Vec<ListItem>, Error>
+        ensures { Answers self.old (ops.ListAll path.now) (reply_in (λ items. ops.Items (map list_item_seen items.items)) result) self.new }
+    {
+        let path = check_list(alloc, &mut self.tree, &self.files, path)?;
+        self.tree.list(alloc, &path)
+    }
+
+    /// The bytes of an entry's attribute.
+    pub fn get_attr(&mut self, alloc: Global, path: &[u8], kind: u8) -> Result<Vec<u8>, Error>
+        ensures { Answers self.old (ops.GetAttr path.now kind) (reply_in (λ v. ops.Bytes v.items) result) self.new }
+    {
+        check_get_attr(alloc, &mut self.tree, &self.files, path, kind)
+    }
+
+    /// The global state. Without a call of the device.
+    pub fn gstate(&self) -> Result<Gstate, Error>
+        ensures { Answers self.now ops.AskGstate (reply_in gstate_reply result) self.now }
+    {
+        if self.tree.has_failed() {
+            return Err(Error::Failed);
+        }
+        Ok(gstate_of(&self.tree.gstate()))
+    }
+
+    /// Whether the image uses a block. Without a call of the device.
+    pub fn is_used(&self, block: u32) -> Result<bool, Error>
+        ensures { Answers self.now (ops.IsUsed block) (reply_in ops.Yes result) self.now }
+    {
+        if self.tree.has_failed() {
+            return Err(Error::Failed);
+        }
+        if block >= self.tree.geometry().block_count {
+            return Err(Error::Invalid);
+        }
+        Ok(self.tree.is_used(block))
+    }
+
+    /// How many blocks the image uses. Without a call of the device.
+    pub fn used_count(&self) -> Result<u32, Error>
+        ensures { Answers self.now ops.UsedCount (reply_in ops.Count result) self.now }
+    {
+        if self.tree.has_failed() {
+            return Err(Error::Failed);
+        }
+        Ok(self.tree.used_count())
+    }
+
+    /// Makes an empty directory.
+    ///
+    /// Where something of the image is to be recovered it can't be done yet: the answer is
+    /// `Unsupported`, and the session has failed.
+    pub fn mkdir(&mut self, alloc: Global, path: &[u8]) -> Result<(), Error>
+        ensures { Answers self.old (ops.Mkdir path.now) (reply_in (λ _. ops.Done) result) self.new }
+    {
+        let path = check_mkdir(alloc, &mut self.tree, &self.files, path)?;
+        if !self.tree.gstate().is_none() {
+            self.tree.fail();
+            return Err(Error::Unsupported);
+        }
+        self.tree.mkdir(alloc, &path)
+    }
+
+    /// Takes an attribute from an entry. `Unsupported` as in [`mkdir`](Session::mkdir).
+    pub fn remove_attr(&mut self, alloc: Global, path: &[u8], kind: u8) -> Result<(), Error>
+        ensures { Answers self.old (ops.RemoveAttr path.now kind) (reply_in (λ _. ops.Done) result) self.new }
+    {
+        let path = check_remove_attr(alloc, &mut self.tree, &self.files, path, kind)?;
+        if !self.tree.gstate().is_none() {
+            self.tree.fail();
+            return Err(Error::Unsupported);
+        }
+        self.tree.remove_attr(alloc, &path, kind)
+    }
+
+    // Opens a file for reading.
+    fn open_reader(&mut self, alloc: Global, path: &[u8], flags: OpenFlags) -> Result<u32, Error>
+        requires { (flags_seen flags).write ≡ false }
+        ensures { Answers self.old (ops.Open path.now (flags_seen flags)) (reply_in ops.Opened result) self.new }
+    {
+        check_open_reader(alloc, &mut self.tree, &self.files, path, flags)?;
+        let answer = self.files.add_reader(alloc, path);
+        if answer.is_err() {
+            self.tree.fail();
+        }
+        answer
+    }
+
+    /// Opens a file for reading.
+    ///
+    /// Opening for writing can't be done yet: where the flags ask for it the answer is `Unsupported`,
+    /// and the session has failed.
+    pub fn open(&mut self, alloc: Global, path: &[u8], flags: OpenFlags) -> Result<u32, Error>
+        ensures { Answers self.old (ops.Open path.now (flags_seen flags)) (reply_in ops.Opened result) self.new }
+    {
+        if flags.contains(OpenFlags::WRITE) {
+            self.fail();
+            Err(Error::Unsupported)
+        } else {
+            self.open_reader(alloc, path, flags)
+        }
+    }
+
+    /// The bytes of an open file from its position on, so many at most; fewer where the file ends,
+    /// and none behind its end. The position moves on by as many.
+    pub fn read(&mut self, alloc: Global, fd: u32, count: u32) -> Result<Vec<u8>, Error>
+        ensures { Answers self.old (ops.Read fd count) (reply_in (λ v. ops.Bytes v.items) result) self.new }
+    {
+        if self.tree.has_failed() {
+            return Err(Error::Failed);
+        }
+        let Some(reader) = self.files.reader(fd) else {
+            return Err(Error::BadFile);
+        };
+        let bytes = read_from(
+            alloc,
+            &mut self.tree,
+            &reader.path.lend(),
+            reader.position,
+            count,
+        )?;
+        let position = reader.position + bytes.len() as u32;
+        self.files.seek(fd, position);
+        Ok(bytes)
+    }
+
+    /// Sets the position of an open file.
+    pub fn seek(&mut self, fd: u32, position: u32) -> Result<(), Error>
+        ensures { Answers self.old (ops.Seek fd position) (reply_in (λ _. ops.Done) result) self.new }
+    {
+        check_seek(&self.tree, &self.files, fd, position)?;
+        self.files.seek(fd, position);
+        Ok(())
+    }
+
+    /// Closes an open file. Its number is free then.
+    pub fn close(&mut self, fd: u32) -> Result<(), Error>
+        ensures { Answers self.old (ops.Close fd) (reply_in (λ _. ops.Done) result) self.new }
+    {
+        check_open(&self.tree, &self.files, fd)?;
+        self.files.close(fd);
+        Ok(())
+    }
+
+    /// Closes all files, and reads the device anew, after an error too. `Corrupt` where no image is
+    /// accepted there; then, and after `Io` and `NoMemory`, the session has failed.
+    pub fn remount(&mut self, alloc: Global) -> Result<(), Error>
+        ensures { Answers self.old ops.Remount (reply_in (λ _. ops.Done) result) self.new }
+    {
+        self.files.clear();
+        self.tree.remount(alloc)
+    }
+
+    /// The device, as the last call left it.
+    pub fn device(&self) -> &D
+        ensures disk { disk_on D.BlockDevice result.now ≡ self.now.tree.disk }
+        ensures history { D.history result.now ≡ self.now.tree.history }
+    {
+        self.tree.device()
+    }
+
+    /// Ends the session. Nothing is written.
+    pub fn unmount(self) -> D
+        ensures disk { disk_on D.BlockDevice result ≡ self.tree.disk }
+        ensures history { D.history result ≡ self.tree.history }
+    {
+        self.tree.into_device()
+    }
+
+    // One operation. A refusal is a reply; an error leaves a failed session.
+    fn perform(&mut self, alloc: Global, op: Op<'_>) -> Result<Reply, Error>
+        ensures { Answers self.old (op_seen op.entry) (performed result) self.new }
+    {
+        match op {
+            Op::Open(path, flags) => fd(self.open(alloc, path, flags)),
+            Op::Read(fd, count) => bytes(self.read(alloc, fd, count)),
+            Op::Seek(fd, position) => done(self.seek(fd, position)),
+            Op::Close(fd) => done(self.close(fd)),
+            Op::Mkdir(path) => done(self.mkdir(alloc, path)),
+            Op::List(path) => items(self.list(alloc, path)),
+            Op::Stat(path) => stat(self.stat(alloc, path)),
+            Op::GetAttr(path, kind) => bytes(self.get_attr(alloc, path, kind)),
+            Op::RemoveAttr(path, kind) => done(self.remove_attr(alloc, path, kind)),
+            Op::Gstate => gstate(self.gstate()),
+            Op::IsUsed(block) => yes(self.is_used(block)),
+            Op::UsedCount => count(self.used_count()),
+            Op::Remount => done(self.remount(alloc)),
+        }
+    }
+
+    fn fail(&mut self)
+        ensures { self.new ≡ record self.old { tree = record self.old.tree { failed = true } } }
+    {
+        self.tree.fail();
+    }
+
+    /// Carries out operations in turn, a reply for each; a refusal is a reply, too. Where an
+    /// operation meets an error, the operations before it were carried out, and the session has
+    /// failed.
+    pub fn run(&mut self, alloc: Global, ops: &[Op<'_>]) -> Result<Vec<Reply>, Error>
+        ensures turns { IfOk result (λ replies. AreTurns (moment_of self.old) (map op_seen ops.now) (map reply_seen replies.items) (moment_of self.new)) }
+        ensures headline { IfOk result (λ replies. IsFresh self.old.tree.disk → (moment_of self.old).state ≡ Healthy (mounted empty_tree) → IsTrue (moment_of self.new)) }
+        ensures stopped { IfErr result (λ e. IsEndedBy e (moment_of self.old) (map op_seen ops.now) (moment_of self.new)) }
+    {
+        let mut replies = Vec::new(alloc);
+        for op in ops {
+            if replies.reserve(1).is_err() {
+                self.fail();
+                return Err(Error::NoMemory);
+            }
+            match self.perform(alloc, *op) {
+                Ok(reply) => replies.push_reserved(reply),
+                Err(error) => return Err(error),
+            }
+        }
+        Ok(replies)
+    }
+}
+
+/// A session over the image of a device. Only reads are made.
+///
+/// `Corrupt` exactly where no image is accepted there. `Io` where a read failed, and `NoMemory`
+/// where memory isn't granted. The device comes back with an error.
+pub fn mount<D: BlockDevice>(alloc: Global, device: D) -> Result<Session<D>, (D, Error)>
+    ensures begun { IfOk result (IsBegun (disk_on D.BlockDevice device) (D.history device)) }
+    ensures corrupt { IfErr result (λ e. e.1 ≡ Error.Corrupt → (ps : List Pair) → IsAccepted (disk_on D.BlockDevice device) ps → ⊥) }
+    ensures back { IfErr result (λ e. GivesBack D.BlockDevice device e.0 e.1) }
+{
+    match Tree::mount(alloc, device) {
+        Ok(tree) => Ok(Session {
+            tree,
+            files: Files::none(alloc),
+        }),
+        Err(back) => Err(back),
+    }
+}
+
+/// Makes an empty file system on a device (SPEC.md of littlefs, "Superblock"), and begins a
+/// session over it.
+///
+/// `Io` where a call of the device failed, and `NoMemory` where memory isn't granted. The device
+/// comes back with an error.
+pub fn format<D: BlockDevice>(alloc: Global, device: D) -> Result<Session<D>, (D, Error)>
+    ensures fresh { IfOk result (λ s. IsFresh s.tree.disk) }
+    ensures state { IfOk result (λ s. (moment_of s).state ≡ Healthy (mounted empty_tree)) }
+    ensures back { IfErr result (λ e. ComesBack D.BlockDevice (two_of anchor) device e.0 e.1) }
+{
+    match Tree::format(alloc, device) {
+        Ok(tree) => Ok(Session {
+            tree,
+            files: Files::none(alloc),
+        }),
+        Err(back) => Err(back),
+    }
+}

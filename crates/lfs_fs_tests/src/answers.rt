@@ -1,0 +1,56 @@
+// What an operation is to answer.
+
+use lfs_device::Error;
+use lfs_fs::{Gstate, Op, Reply};
+use lfs_tree::ListItem;
+
+/// A name, and a file's size or None for a directory.
+pub type Item<'a> = (&'a [u8], Option<u32>);
+
+/// An expected reply.
+#[derive(Clone, Copy)]
+pub enum Answer<'a> {
+    Done,
+    Fd(u32),
+    Bytes(&'a [u8]),
+    Count(u32),
+    Items(&'a [Item<'a>]),
+    Stat(Option<u32>),
+    Gstate(Gstate),
+    Yes(bool),
+    Refused(Error),
+}
+
+/// An operation with its answer.
+pub type Row<'a> = (Op<'a>, Answer<'a>);
+
+fn are_items(items: &[ListItem], rows: &[Item<'_>]) -> bool {
+    if items.len() != rows.len() {
+        return false;
+    }
+    for (item, row) in items.iter().zip(rows) {
+        if item.name.as_slice() != row.0 || item.size != row.1 {
+            return false;
+        }
+    }
+    true
+}
+
+/// Whether a reply is the answer.
+pub fn is_answer(reply: &Reply, answer: Answer<'_>) -> bool {
+    match answer {
+        Answer::Done => matches!(reply, Reply::Done),
+        Answer::Fd(fd) => matches!(reply, Reply::Fd(found) if *found == fd),
+        Answer::Bytes(bytes) => {
+            matches!(reply, Reply::Bytes(found) if found.as_slice() == bytes)
+        }
+        Answer::Count(count) => matches!(reply, Reply::Count(found) if *found == count),
+        Answer::Items(rows) => {
+            matches!(reply, Reply::Items(items) if are_items(items.as_slice(), rows))
+        }
+        Answer::Stat(size) => matches!(reply, Reply::Stat(found) if *found == size),
+        Answer::Gstate(gstate) => matches!(reply, Reply::Gstate(found) if *found == gstate),
+        Answer::Yes(yes) => matches!(reply, Reply::Yes(found) if *found == yes),
+        Answer::Refused(error) => matches!(reply, Reply::Refused(found) if *found == error),
+    }
+}

@@ -1,0 +1,25 @@
+//! Tests of sessions: operations and their replies as rows.
+#![tactic(auto)]
+
+#[cfg(test)]
+mod agreeing;
+#[cfg(test)]
+mod answers;
+#[cfg(test)]
+mod begun;
+#[cfg(test)]
+mod directories;
+#[cfg(test)]
+mod failing;
+#[cfg(test)]
+mod files;
+#[cfg(test)]
+mod image;
+#[cfg(test)]
+mod images;
+#[cfg(test)]
+mod many;
+#[cfg(test)]
+mod played;
+#[cfg(test)]
+mod reads;

@@ -105,7 +105,7 @@ set_here : (xs : List Pair) (p : Pair) (zs : List Pair) (q : Pair) → set (xs +
 set_here [] p zs q = refl
 set_here (x ∷ xs) p zs q = ap (λ z. x ∷ z) (set_here xs p zs q)
 
-remove_next : (xs : List Pair) (q o : Pair) (zs : List Pair) → remove (xs ++ q ∷ o ∷ zs) (length xs + 1) ≡ xs ++ q ∷ zs
+pub remove_next : (xs : List Pair) (q o : Pair) (zs : List Pair) → remove (xs ++ q ∷ o ∷ zs) (length xs + 1) ≡ xs ++ q ∷ zs
 remove_next [] q o zs = refl
 remove_next (x ∷ xs) q o zs =
     let e : suc (length xs) + 1 ≡ suc (length xs + 1) = omega arith in

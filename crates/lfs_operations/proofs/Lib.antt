@@ -16,6 +16,7 @@ pub mod Dropped
 pub mod RemovedWhole
 pub mod MovPlaces
 pub mod MovSet
+pub mod MovFirsts
 pub mod MovEnd
 pub mod MovTurned
 pub mod MovAcross
@@ -62,9 +63,17 @@ pub mod RecoverEnd
 pub mod RecoverMap
 pub mod MovReplace
 pub mod MovEndWhole
+pub mod MovEndGoes
 pub mod RenameOver
 pub mod RenameReadOver
 pub mod RecoverMoved
 pub mod RecoverStays
 pub mod RecoverGoes
+pub mod RecoverBefore
+pub mod RecoverWrites
 pub mod RecoverEnded
+pub mod OntoGone
+pub mod OntoWithin
+pub mod OntoTelling
+pub mod OntoPieces
+pub mod OntoAcross

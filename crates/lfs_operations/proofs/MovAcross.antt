@@ -1,5 +1,5 @@
 -- A rename across pairs, of two steps: where the old pair stands between them, and what the operation comes to.
-use Rattle.std.proofs.Common.{ℕ, ◌≡◌, ◌≢◌, ◌+◌, ◌<◌, ◌⊎◌, inl, inr, Bool, true, false, List, [], ◌∷◌, ◌++◌, length, Option, Some, None, refl, sym, ap, subst, ◌∙◌, arith, append_assoc, length-append}
+use Rattle.std.proofs.Common.{ℕ, ◌≡◌, ◌+◌, ◌<◌, ◌⊎◌, inl, inr, Bool, true, false, List, [], ◌∷◌, ◌++◌, length, Option, Some, None, refl, sym, ap, subst, ◌∙◌, arith, append_assoc, length-append}
 use Rattle.std.specs.Prelude.{is_some}
 use Rattle.lfs_model.specs.Disk.{Disk}
 use Rattle.lfs_model.specs.Names.{Name}
@@ -12,7 +12,7 @@ use Rattle.lfs_model.specs.Operations as ops
 use Rattle.lfs_model.specs.Session.{Session}
 use Rattle.lfs_model.specs.Steps.{as_path}
 use Rattle.lfs_model.specs.View.{IsAccepted, IsWritable, tree_in}
-use Rattle.lfs_model.proofs.Alike.{AreAlike, alike_itself}
+use Rattle.lfs_model.proofs.Alike.{AreAlike}
 use Rattle.lfs_model.proofs.Became.{Became}
 use Rattle.lfs_model.proofs.Changes.{Follows}
 use Rattle.lfs_model.proofs.Committed.{IsCompleted}
@@ -22,7 +22,7 @@ use Rattle.lfs_model.specs.Layout.{onward}
 use Rattle.lfs_model.proofs.RenamedAcross.{IsRenameAcross, IsNoDirectory, across_completed, target_slots}
 use Rattle.lfs_model.proofs.Sites.{Site, thread_at}
 use Rattle.lfs_model.proofs.StepsTaken.{IsTaken}
-use Rattle.lfs_model.proofs.TwoPlaces.{two, from_old}
+use Rattle.lfs_model.proofs.TwoPlaces.{OldStays, two, from_old}
 use Rattle.lfs_model.proofs.Writable.{flag}
 use Rattle.lfs_operations.proofs.MovPlaces.{InTurn, ahead, behind}
 use Rattle.lfs_operations.proofs.MovSet.{HasTurned, IsSetting, turns}
@@ -52,7 +52,7 @@ pub record Arranged (disk : Disk) (wo : Site) (o : Pair) (w : Site) (p q : Pair)
   pub pre : List Pair
   pub post : List Pair
   pub mid_is : thread_at w (q ∷ more) ≡ w.chain ++ (pre ++ o ∷ post)
-  pub cut : (z : Pair) → two b front (z ∷ []) mid (q ∷ more) back ≡ pre ++ z ∷ post
+  pub cut : (zs : List Pair) → two b front zs mid (q ∷ more) back ≡ pre ++ (zs ++ post)
   pub number : ((length (wo.before ++ wo.left) < length (w.before ++ w.left)) × (length pre ≡ length (wo.before ++ wo.left)))
       ⊎ ((length (w.before ++ w.left) < length (wo.before ++ wo.left)) × (length pre ≡ length (wo.before ++ wo.left) + length more))
   pub from : is_some (from_old b front mid p) ≡ flag false (wo.before ++ wo.left)
@@ -72,7 +72,7 @@ arranged disk wo o w p d q more became (ahead mid e f) =
       pre = wo.before ++ wo.left;
       post = mid ++ (q ∷ more ++ back);
       mid_is = ap (λ z. w.chain ++ (z ++ (q ∷ more ++ back))) f ∙ ap (λ z. w.chain ++ z) (append_assoc front (o ∷ mid) (q ∷ more ++ back));
-      cut = λ z. refl;
+      cut = λ zs. refl;
       number = inl ((let g = ap length f in let h = length-append front (o ∷ mid) in omega arith), refl);
       from = flag_from None front;
       led = refl;
@@ -88,8 +88,8 @@ arranged disk wo o w p d q more became (behind mid e f) =
       old_is = ap (λ z. w.chain ++ (front ++ (p ∷ z))) e;
       pre = front ++ (q ∷ more ++ mid);
       post = back;
-      mid_is = ap (λ z. w.chain ++ (front ++ (q ∷ more ++ z))) e ∙ ap (λ z. w.chain ++ z) (cut_at front (q ∷ more) mid o back);
-      cut = λ z. cut_at front (q ∷ more) mid z back;
+      mid_is = ap (λ z. w.chain ++ (front ++ (q ∷ more ++ z))) e ∙ ap (λ z. w.chain ++ z) (cut_at front (q ∷ more) mid (o ∷ []) back);
+      cut = λ zs. cut_at front (q ∷ more) mid zs back;
       number = inr (
         (let g = ap length f in let h = length-append front (p ∷ mid) in omega arith),
         (let g = ap length f in let h = length-append front (p ∷ mid) in let i = length-append front (q ∷ more ++ mid) in let j = length-append (q ∷ more) mid in omega arith),
@@ -100,24 +100,24 @@ arranged disk wo o w p d q more became (behind mid e f) =
           ∙ sym (ap (flag false) f ∙ flag_append false front (p ∷ mid));
     }
   where
-    cut_at : (xs ys zs : List Pair) (z : Pair) (vs : List Pair) → xs ++ (ys ++ (zs ++ z ∷ vs)) ≡ (xs ++ (ys ++ zs)) ++ z ∷ vs
-    cut_at xs ys zs z vs = ap (λ k. xs ++ k) (sym (append_assoc ys zs (z ∷ vs))) ∙ sym (append_assoc xs (ys ++ zs) (z ∷ vs))
+    cut_at : (xs ys zs us vs : List Pair) → xs ++ (ys ++ (zs ++ (us ++ vs))) ≡ (xs ++ (ys ++ zs)) ++ (us ++ vs)
+    cut_at xs ys zs us vs = ap (λ k. xs ++ k) (sym (append_assoc ys zs (us ++ vs))) ∙ sym (append_assoc xs (ys ++ zs) (us ++ vs))
 
 module _ (disk middle new : Disk) (wo : Site) (o : Pair) (lo : List Slot) (u : Slot) (ro : List Slot) (w : Site) (p : Pair) (l : List Slot) (target : Option Slot) (v : Slot) (r : List Slot)
     (k : IsSetting disk wo o lo u ro w p l (target_slots target) v r) (q : Pair) (more : List Pair)
-    (x : HasTurned disk w p (l ++ v ∷ r) (gstate_xor (move_of o.at (length lo)) p.content.move) middle q more) where
+    (sync : Bool) (x : HasTurned disk w p (l ++ v ∷ r) (gstate_xor (move_of sync o.at (length lo)) p.content.move) middle q more) where
   abbrev pub arrangement : Arranged disk wo o w p q more
   arrangement = arranged disk wo o w p (with_slots (l ++ v ∷ r) p) q more x.became (turns disk wo o lo u ro w p l (target_slots target) v r k)
 
-  -- the whole operation, where the old pair stays, as o2
+  -- the whole operation; of the old pair os is left
   module _ (name : Name) (same_slot : v ≡ record u { name = name }) (old_path new_path : Path) (walk : Walk → Walk)
       (first : Follows disk (thread_at w (p ∷ [])) middle (thread_at w (q ∷ more)) (renamed old_path new_path) walk)
-      (o2 : Pair) (rs : List Pair) (rs_is : rs ≡ w.chain ++ (arrangement.pre ++ o2 ∷ arrangement.post)) (at : o2.at ≡ o.at) (left : o2.content.slots ≡ lo ++ ro)
+      (os rs : List Pair) (stays : OldStays (from_old arrangement.b arrangement.front arrangement.mid p) o (lo ++ ro) os)
+      (alike : AreAlike (w.chain ++ (arrangement.pre ++ (os ++ arrangement.post))) rs)
       (second : IsTaken middle (thread_at w (q ∷ more)) new rs (λ t. t) (λ d. d)) (state : gstate_of rs ≡ no_gstate)
-      (filled : flag false (wo.before ++ wo.left) ≡ true → lo ++ ro ≢ [])
       (from_slot : slot_of_path (thread_at w (p ∷ [])) old_path ≡ Some u) (to_slot : slot_of_path (thread_at w (p ∷ [])) new_path ≡ target) (to_name : last_name new_path ≡ name)
       (file : IsNoDirectory target) where
-    is_across : IsRenameAcross disk middle new (thread_at w (q ∷ more)) rs arrangement.b w.chain arrangement.front arrangement.mid arrangement.back o p q (o2 ∷ []) more lo u ro l target r old_path new_path name
+    is_across : IsRenameAcross disk middle new (thread_at w (q ∷ more)) rs arrangement.b w.chain arrangement.front arrangement.mid arrangement.back o p q os more lo u ro l target r old_path new_path name
     is_across = record {
       is_chain = sym (ap superblocks_before arrangement.old_is) ∙ k.site.chain;
       accepted = subst (IsAccepted disk) arrangement.old_is k.accepted;
@@ -133,9 +133,8 @@ module _ (disk middle new : Disk) (wo : Site) (o : Pair) (lo : List Slot) (u : S
       at = x.at;
       is = x.is ∙ ap (λ z. l ++ z ∷ r) same_slot;
       became = subst (λ z. Became disk p (with_slots (l ++ z ∷ r) p) q more) same_slot x.became;
-      stays = (at, left, (λ e. filled (sym arrangement.from ∙ e)));
-      alike = subst (λ z. AreAlike (w.chain ++ two arrangement.b arrangement.front (o2 ∷ []) arrangement.mid (q ∷ more) arrangement.back) z)
-          (ap (λ z. w.chain ++ z) (arrangement.cut o2) ∙ sym rs_is) (alike_itself (w.chain ++ two arrangement.b arrangement.front (o2 ∷ []) arrangement.mid (q ∷ more) arrangement.back));
+      stays = stays;
+      alike = subst (λ z. AreAlike (w.chain ++ z) rs) (sym (arrangement.cut os)) alike;
       from_slot = sym (ap (λ z. slot_of_path z old_path) arrangement.old_is) ∙ from_slot;
       to_slot = sym (ap (λ z. slot_of_path z new_path) arrangement.old_is) ∙ to_slot;
       to_name = to_name;
@@ -145,5 +144,5 @@ module _ (disk middle new : Disk) (wo : Site) (o : Pair) (lo : List Slot) (u : S
     pub completed : (s : Session) (old_bytes new_bytes : List ℕ) → s.tree ≡ tree_in disk (thread_at w (p ∷ [])) → as_path old_bytes ≡ old_path → as_path new_bytes ≡ new_path
         → IsCompleted disk (thread_at w (p ∷ [])) s (ops.Rename old_bytes new_bytes) new rs
     completed s old_bytes new_bytes tree old_as new_as = subst (λ z. IsCompleted disk z s (ops.Rename old_bytes new_bytes) new rs) (sym arrangement.old_is)
-        (across_completed disk middle new (thread_at w (q ∷ more)) rs arrangement.b w.chain arrangement.front arrangement.mid arrangement.back o p q (o2 ∷ []) more lo u ro l target r old_path new_path name is_across
+        (across_completed disk middle new (thread_at w (q ∷ more)) rs arrangement.b w.chain arrangement.front arrangement.mid arrangement.back o p q os more lo u ro l target r old_path new_path name is_across
         s old_bytes new_bytes (tree ∙ ap (tree_in disk) arrangement.old_is) old_as new_as)

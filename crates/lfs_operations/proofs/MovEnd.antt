@@ -8,7 +8,7 @@ use Rattle.lfs_model.specs.Disk.{Disk}
 use Rattle.lfs_model.specs.Slots.{Slot, Gstate, is_superblock, same_pair, gstate_xor}
 use Rattle.lfs_model.specs.SlotEdits.{with_slots}
 use Rattle.lfs_model.specs.Thread.{Pair, blocks_of, gstate_of, starts_with_superblock, unmoved}
-use Rattle.lfs_model.specs.View.{set_move, used_blocks, all_slots, IsAccepted, IsWritable}
+use Rattle.lfs_model.specs.View.{directories_in, set_move, used_blocks, all_slots, IsAccepted, IsWritable}
 use Rattle.lfs_model.proofs.Became.{became_front, became_shape}
 use Rattle.lfs_model.proofs.Changes.{slots_files}
 use Rattle.lfs_model.proofs.Counts.{Each, each_append, each_left, each_right, each_weaker, count, count_append}
@@ -25,6 +25,8 @@ use Rattle.lfs_model.proofs.StepsTaken.{IsTaken, IsPut, end_taken}
 use Rattle.lfs_model.proofs.Writable.{flag}
 use Rattle.lfs_operations.specs.Moving.{move_in, sync_in}
 use Rattle.lfs_operations.proofs.MovSet.{HasTurned}
+use Rattle.lfs_operations.proofs.MovFirsts.{end_firsts}
+use Rattle.lfs_model.proofs.MoveSets.{firsts}
 
 pub move_out : (g : Gstate) → gstate_xor (move_in g) g ≡ sync_in g
 move_out g = λ j. record { sync = g.sync; kind = xor_self g.kind j; id = xor_self g.id j; pair = (xor_self g.pair.0 j, xor_self g.pair.1 j) }
@@ -115,6 +117,10 @@ module _ (disk : Disk) (w : Site) (p : Pair) (l : List Slot) (u : Slot) (r : Lis
     pub ended : IsTaken disk (thread_at w (p ∷ [])) new (thread_at w (q ∷ [])) (λ t. t) (λ d. d)
     ended = end_taken disk new w p q [] l u r (λ t. t) (λ d. d) end_put end_step
         (move_ends disk new w p [] q [] l u r end_step (λ e. k.accepted.reached (sym (ap (λ (z : Gstate). z.sync) ended_state) ∙ e)))
+
+    -- the directories begin where they did
+    pub ended_firsts : firsts (directories_in qs) ≡ firsts (directories_in ps)
+    ended_firsts = end_firsts disk new w p [] q [] l u r end_step
 
     -- ---- the blocks that the image uses
 

@@ -6,7 +6,7 @@ use Rattle.std.proofs.lemmas.List.Elements.{recursion_from_All}
 use Rattle.lfs_model.specs.Disk.{Disk}
 use Rattle.lfs_model.specs.Slots.{Slot, Gstate, is_superblock, same_pair}
 use Rattle.lfs_model.specs.Thread.{Pair, blocks_of, gstate_of, starts_with_superblock, unmoved}
-use Rattle.lfs_model.specs.View.{IsAccepted, IsWritable, all_slots, set_move, used_blocks}
+use Rattle.lfs_model.specs.View.{IsAccepted, IsWritable, all_slots, directories_in, set_move, used_blocks}
 use Rattle.lfs_model.proofs.Changes.{slots_files}
 use Rattle.lfs_model.proofs.Counts.{Each, each_append, each_left, each_right, each_weaker, count, count_append}
 use Rattle.lfs_model.proofs.Files.{HasSameFile}
@@ -18,7 +18,9 @@ use Rattle.lfs_model.proofs.Searches.{avoids_behind, avoids_front}
 use Rattle.lfs_model.proofs.Sites.{Site, dirs_at, thread_at, IsSite}
 use Rattle.lfs_model.proofs.Splices.{drop_shape, files_of, slots_in, unmoved_in, IsDevice}
 use Rattle.lfs_model.proofs.StepsTaken.{IsTaken, end_drop_taken}
+use Rattle.lfs_model.proofs.MoveSets.{firsts}
 use Rattle.lfs_operations.specs.Moving.{sync_in}
+use Rattle.lfs_operations.proofs.MovFirsts.{end_firsts}
 
 -- At the site stand p and o behind it, joined by a hard tail, and the move hides o's only slot u.
 pub record IsEndingWhole (disk : Disk) (w : Site) (p o : Pair) (u : Slot) : Type 0 where
@@ -110,6 +112,10 @@ module _ (disk : Disk) (w : Site) (p o : Pair) (u : Slot) (k : IsEndingWhole dis
     pub whole_ended : IsTaken disk (thread_at w (p ∷ o ∷ [])) new (thread_at w (q ∷ [])) (λ t. t) (λ d. d)
     whole_ended = end_drop_taken disk w p o q (record { writable = k.writable; tail = x.tail; slots = x.slots }) new p.content.slots u [] (λ t. t) (λ d. d) whole_step
         (move_ends disk new w p (o ∷ []) q [] p.content.slots u [] whole_step (λ e. k.accepted.reached (sym (ap (λ (z : Gstate). z.sync) x.state) ∙ e)))
+
+    -- the directories begin where they did
+    pub whole_firsts : firsts (directories_in (thread_at w (q ∷ []))) ≡ firsts (directories_in (thread_at w (p ∷ o ∷ [])))
+    whole_firsts = end_firsts disk new w p (o ∷ []) q [] p.content.slots u [] whole_step
 
     -- ---- the blocks that the image uses
 

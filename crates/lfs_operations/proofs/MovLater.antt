@@ -1,5 +1,5 @@
 -- A rename across pairs after the old slot was read.
-use Rattle.std.proofs.Common.{ℕ, ◌≡◌, ◌⊎◌, inl, inr, false, List, ◌∷◌, Result, Err, refl, sym, ap, subst, ◌∙◌, arith}
+use Rattle.std.proofs.Common.{ℕ, ◌≡◌, ◌⊎◌, inl, inr, Bool, false, List, ◌∷◌, Result, Err, refl, sym, ap, subst, ◌∙◌, arith}
 use Rattle.std.specs.Prelude.{IfErr}
 use Rattle.lfs_device.specs.declared.error.Error.{Error}
 use Rattle.lfs_device.specs.declared.error.Error.TheVariants.{Io, NoMemory, NoSpace}
@@ -16,8 +16,9 @@ use Rattle.lfs_thread.specs.Kept.{Kept, State}
 use Rattle.lfs_thread.specs.Steps.{HasTold, IsOnlyRead, pair_in}
 use Rattle.lfs_operations.specs.Changing.{CanPut, IsPut, IsTooLarge, HasTwoFree, has_failed}
 use Rattle.lfs_operations.specs.Editing.{CanEdit}
-use Rattle.lfs_operations.specs.Moving.{CanRenameAcross, CanReplaceAcross, EndsAfter, IsPutAndEnded, IsRenamedAcross, IsReplacedAcross, SurvivesBoth, TellsInSteps, WritesInTwo, moving_changes, replacing_changes, with_moved}
+use Rattle.lfs_operations.specs.Moving.{CanPutOnto, CanRenameAcross, EndsAfter, IsPutAndEnded, IsRenamedAcross, IsReplacedAcross, SurvivesBoth, TellsInSteps, WritesInTwo, moving_changes, onto_changes, with_moved}
 use Rattle.lfs_operations.specs.Ready.{IsReady}
+use Rattle.lfs_operations.specs.Removing.{goes_whole}
 use Rattle.lfs_operations.specs.RenamingSlots.{parts_at}
 use Rattle.lfs_operations.proofs.MovRename.{can_put_across, ends_across, renamed_across, shows_across, survives_across}
 use Rattle.lfs_operations.proofs.MovReplace.{can_put_onto, ends_onto, replaced_across, shows_onto, survives_onto}
@@ -34,7 +35,7 @@ module _ (t : Kept) (h : List Event) where
   pub ready_later : IsReady t → IsReady later
   ready_later r = record { accepted = r.accepted; writable = r.writable; settled = r.settled; used = r.used; size = r.size; large = r.large }
 
-  abbrev edit_later : {pair id : ℕ} → CanEdit t pair id → CanEdit (with_history t h) pair id
+  abbrev pub edit_later : {pair id : ℕ} → CanEdit t pair id → CanEdit (with_history t h) pair id
   edit_later c = record {
     ready = ready_later c.ready;
     path = c.path;
@@ -47,14 +48,14 @@ module _ (t : Kept) (h : List Event) where
     logged = c.logged;
   }
 
-  abbrev pub across_later : {old_pair old_id new_pair new_id : ℕ} {name : Name} → CanRenameAcross t old_pair old_id new_pair new_id name → CanRenameAcross (with_history t h) old_pair old_id new_pair new_id name
+  abbrev pub across_later : {old_pair old_id first new_pair new_id : ℕ} {name : Name} → CanRenameAcross t old_pair old_id first new_pair new_id name → CanRenameAcross (with_history t h) old_pair old_id first new_pair new_id name
   across_later r = record {
     old = edit_later r.old;
-    stays = r.stays;
+    begins_old = r.begins_old;
     path = r.path;
     at = r.at;
     leads = r.leads;
-    first = r.first;
+    to_first = r.to_first;
     begins = r.begins;
     belongs = r.belongs;
     logged = r.logged;
@@ -64,14 +65,14 @@ module _ (t : Kept) (h : List Event) where
     fits = r.fits;
   }
 
-  abbrev pub replace_later : {old_pair old_id new_pair new_id : ℕ} {name : Name} → CanReplaceAcross t old_pair old_id new_pair new_id name → CanReplaceAcross (with_history t h) old_pair old_id new_pair new_id name
-  replace_later r = record {
+  abbrev pub onto_later : {sync : Bool} {old_pair old_id first new_pair new_id : ℕ} {name : Name} → CanPutOnto t sync old_pair old_id first new_pair new_id name → CanPutOnto (with_history t h) sync old_pair old_id first new_pair new_id name
+  onto_later r = record {
     old = edit_later r.old;
-    stays = r.stays;
+    begins_old = r.begins_old;
     path = r.path;
     at = r.at;
     leads = r.leads;
-    first = r.first;
+    to_first = r.to_first;
     begins = r.begins;
     target = r.target;
     file = r.file;
@@ -81,14 +82,14 @@ module _ (t : Kept) (h : List Event) where
     fits = r.fits;
   }
 
-module _ (t mid : Kept) (only : IsOnlyRead t mid) (old_pair old_id new_pair new_id : ℕ) (name : Name) (rename : CanRenameAcross t old_pair old_id new_pair new_id name) (address : IsAddress (pair_in mid old_pair).at) where
+module _ (t mid : Kept) (only : IsOnlyRead t mid) (old_pair old_id first new_pair new_id : ℕ) (name : Name) (rename : CanRenameAcross t old_pair old_id first new_pair new_id name) (address : IsAddress (pair_in mid old_pair).at) where
   abbrev later_t : Kept
   later_t = with_history t mid.history
 
   same : mid ≡ later_t
   same = read_is t mid only
 
-  abbrev pub there : CanRenameAcross (with_history t mid.history) old_pair old_id new_pair new_id name
+  abbrev pub there : CanRenameAcross (with_history t mid.history) old_pair old_id first new_pair new_id name
   there = across_later t mid.history rename
 
   there_address : IsAddress (pair_in later_t old_pair).at
@@ -101,41 +102,41 @@ module _ (t mid : Kept) (only : IsOnlyRead t mid) (old_pair old_id new_pair new_
   changes_later = ap (λ k. moving_changes k old_pair old_id new_pair new_id name) same
 
   pub can_put_later : CanPut mid new_pair (moving_changes mid old_pair old_id new_pair new_id name)
-  can_put_later = subst (λ k. CanPut k new_pair (moving_changes k old_pair old_id new_pair new_id name)) (sym same) (can_put_across later_t old_pair old_id new_pair new_id name there there_address)
+  can_put_later = subst (λ k. CanPut k new_pair (moving_changes k old_pair old_id new_pair new_id name)) (sym same) (can_put_across later_t old_pair old_id first new_pair new_id name there there_address)
 
-  pub ends_later : (last : Kept) → IsPut mid new_pair (moving_changes mid old_pair old_id new_pair new_id name) last → EndsAfter mid old_pair old_id new_pair last
-  ends_later = subst (λ k. (last : Kept) → IsPut k new_pair (moving_changes k old_pair old_id new_pair new_id name) last → EndsAfter k old_pair old_id new_pair last) (sym same)
-      (ends_across later_t old_pair old_id new_pair new_id name there there_address)
+  pub ends_later : (last : Kept) → IsPut mid new_pair (moving_changes mid old_pair old_id new_pair new_id name) last → EndsAfter mid old_pair old_id (goes_whole t old_pair first) new_pair last
+  ends_later = subst (λ k. (last : Kept) → IsPut k new_pair (moving_changes k old_pair old_id new_pair new_id name) last → EndsAfter k old_pair old_id (goes_whole t old_pair first) new_pair last) (sym same)
+      (ends_across later_t old_pair old_id first new_pair new_id name there there_address)
 
   -- ---- what comes of it
 
   became_earlier : (new : Kept) → IsRenamedAcross later_t new rename.old.path rename.old.name rename.path name → IsRenamedAcross t new rename.old.path rename.old.name rename.path name
-  became_earlier new x = record { now = record { ready = x.now.ready; shows = x.now.shows; stays = x.now.stays; none_comes = x.now.none_comes }; completed = x.completed }
+  became_earlier new x = record { now = record { ready = x.now.ready; shows = x.now.shows; flying = x.now.flying }; completed = x.completed }
 
-  pub renamed_later : (new : Kept) → IsPutAndEnded mid old_pair old_id new_pair (moving_changes mid old_pair old_id new_pair new_id name) new → IsRenamedAcross t new rename.old.path rename.old.name rename.path name
-  renamed_later new is = became_earlier new (renamed_across later_t old_pair old_id new_pair new_id name there there_address new
-      (subst (λ k. IsPutAndEnded k old_pair old_id new_pair (moving_changes k old_pair old_id new_pair new_id name) new) same is))
+  pub renamed_later : (new : Kept) → IsPutAndEnded mid old_pair old_id (goes_whole t old_pair first) new_pair (moving_changes mid old_pair old_id new_pair new_id name) new → IsRenamedAcross t new rename.old.path rename.old.name rename.path name
+  renamed_later new is = became_earlier new (renamed_across later_t old_pair old_id first new_pair new_id name there there_address new
+      (subst (λ k. IsPutAndEnded k old_pair old_id (goes_whole t old_pair first) new_pair (moving_changes k old_pair old_id new_pair new_id name) new) same is))
 
-  pub survives_later : (new : Kept) → WritesInTwo mid old_pair new_pair new → SurvivesBoth mid new_pair (moving_changes mid old_pair old_id new_pair new_id name) new
+  pub survives_later : (one : ℕ) (new : Kept) → WritesInTwo mid one new_pair new → SurvivesBoth mid new_pair (moving_changes mid old_pair old_id new_pair new_id name) new
       → Survives t.disk t.history new.history (tree_in t.disk t.pairs) (with_moved t rename.old.path rename.old.name rename.path name)
-  survives_later new w both =
+  survives_later one new w both =
       let after = with_moved t rename.old.path rename.old.name rename.path name in
       let from = subst (λ k. SurvivesBoth k new_pair (moving_changes k old_pair old_id new_pair new_id name) new) same both in
       survives_then t.disk t.history mid.history new.history (tree_in t.disk t.pairs) after only.reads w.writes.at_worst
       (read_survives t mid.history only.reads rename.old.ready after)
-      (from (tree_in t.disk t.pairs) after (survives_across later_t old_pair old_id new_pair new_id name there there_address) (shows_across later_t old_pair old_id new_pair new_id name there there_address))
+      (from (tree_in t.disk t.pairs) after (survives_across later_t old_pair old_id first new_pair new_id name there there_address) (shows_across later_t old_pair old_id first new_pair new_id name there there_address))
 
--- ---- the same onto a file
+-- ---- the same onto an entry
 
-module _ (t mid : Kept) (only : IsOnlyRead t mid) (old_pair old_id new_pair new_id : ℕ) (name : Name) (rename : CanReplaceAcross t old_pair old_id new_pair new_id name) (address : IsAddress (pair_in mid old_pair).at) where
+module _ (sync : Bool) (t mid : Kept) (only : IsOnlyRead t mid) (old_pair old_id first new_pair new_id : ℕ) (name : Name) (rename : CanPutOnto t sync old_pair old_id first new_pair new_id name) (address : IsAddress (pair_in mid old_pair).at) where
   abbrev later_u : Kept
   later_u = with_history t mid.history
 
   same_u : mid ≡ later_u
   same_u = read_is t mid only
 
-  abbrev pub onto_there : CanReplaceAcross (with_history t mid.history) old_pair old_id new_pair new_id name
-  onto_there = replace_later t mid.history rename
+  abbrev pub onto_there : CanPutOnto (with_history t mid.history) sync old_pair old_id first new_pair new_id name
+  onto_there = onto_later t mid.history rename
 
   here_address : IsAddress (pair_in later_u old_pair).at
   here_address = subst (λ k. IsAddress (pair_in k old_pair).at) same_u address
@@ -143,33 +144,33 @@ module _ (t mid : Kept) (only : IsOnlyRead t mid) (old_pair old_id new_pair new_
   pub parts_onto_later : parts_at mid old_pair old_id ≡ parts_at t old_pair old_id
   parts_onto_later = ap (λ k. parts_at k old_pair old_id) same_u
 
-  pub changes_onto_later : replacing_changes mid old_pair old_id new_pair new_id name ≡ replacing_changes t old_pair old_id new_pair new_id name
-  changes_onto_later = ap (λ k. replacing_changes k old_pair old_id new_pair new_id name) same_u
+  pub changes_onto_later : onto_changes sync mid old_pair old_id new_pair new_id name ≡ onto_changes sync t old_pair old_id new_pair new_id name
+  changes_onto_later = ap (λ k. onto_changes sync k old_pair old_id new_pair new_id name) same_u
 
-  pub can_put_onto_later : CanPut mid new_pair (replacing_changes mid old_pair old_id new_pair new_id name)
-  can_put_onto_later = subst (λ k. CanPut k new_pair (replacing_changes k old_pair old_id new_pair new_id name)) (sym same_u) (can_put_onto later_u old_pair old_id new_pair new_id name onto_there here_address)
+  pub can_put_onto_later : CanPut mid new_pair (onto_changes sync mid old_pair old_id new_pair new_id name)
+  can_put_onto_later = subst (λ k. CanPut k new_pair (onto_changes sync k old_pair old_id new_pair new_id name)) (sym same_u) (can_put_onto sync later_u old_pair old_id first new_pair new_id name onto_there here_address)
 
-  pub ends_onto_later : (last : Kept) → IsPut mid new_pair (replacing_changes mid old_pair old_id new_pair new_id name) last → EndsAfter mid old_pair old_id new_pair last
-  ends_onto_later = subst (λ k. (last : Kept) → IsPut k new_pair (replacing_changes k old_pair old_id new_pair new_id name) last → EndsAfter k old_pair old_id new_pair last) (sym same_u)
-      (ends_onto later_u old_pair old_id new_pair new_id name onto_there here_address)
+  pub ends_onto_later : (last : Kept) → IsPut mid new_pair (onto_changes sync mid old_pair old_id new_pair new_id name) last → EndsAfter mid old_pair old_id (goes_whole t old_pair first) new_pair last
+  ends_onto_later = subst (λ k. (last : Kept) → IsPut k new_pair (onto_changes sync k old_pair old_id new_pair new_id name) last → EndsAfter k old_pair old_id (goes_whole t old_pair first) new_pair last) (sym same_u)
+      (ends_onto sync later_u old_pair old_id first new_pair new_id name onto_there here_address)
 
   -- ---- what comes of it
 
   replaced_earlier : (new : Kept) → IsReplacedAcross later_u new rename.old.path rename.old.name rename.path name rename.target.stands.slot.struct → IsReplacedAcross t new rename.old.path rename.old.name rename.path name rename.target.stands.slot.struct
-  replaced_earlier new x = record { now = record { ready = x.now.ready; shows = x.now.shows; stays = x.now.stays; none_comes = x.now.none_comes }; completed = x.completed }
+  replaced_earlier new x = record { now = record { ready = x.now.ready; shows = x.now.shows; flying = x.now.flying }; once = x.once; completed = x.completed }
 
-  pub replaced_later : (new : Kept) → IsPutAndEnded mid old_pair old_id new_pair (replacing_changes mid old_pair old_id new_pair new_id name) new → IsReplacedAcross t new rename.old.path rename.old.name rename.path name rename.target.stands.slot.struct
-  replaced_later new is = replaced_earlier new (replaced_across later_u old_pair old_id new_pair new_id name onto_there here_address new
-      (subst (λ k. IsPutAndEnded k old_pair old_id new_pair (replacing_changes k old_pair old_id new_pair new_id name) new) same_u is))
+  pub replaced_later : sync ≡ false → (new : Kept) → IsPutAndEnded mid old_pair old_id (goes_whole t old_pair first) new_pair (onto_changes sync mid old_pair old_id new_pair new_id name) new → IsReplacedAcross t new rename.old.path rename.old.name rename.path name rename.target.stands.slot.struct
+  replaced_later plain new is = replaced_earlier new (replaced_across sync later_u old_pair old_id first new_pair new_id name onto_there here_address plain new
+      (subst (λ k. IsPutAndEnded k old_pair old_id (goes_whole t old_pair first) new_pair (onto_changes sync k old_pair old_id new_pair new_id name) new) same_u is))
 
-  pub survives_onto_later : (new : Kept) → WritesInTwo mid old_pair new_pair new → SurvivesBoth mid new_pair (replacing_changes mid old_pair old_id new_pair new_id name) new
+  pub survives_onto_later : (one : ℕ) (new : Kept) → WritesInTwo mid one new_pair new → SurvivesBoth mid new_pair (onto_changes sync mid old_pair old_id new_pair new_id name) new
       → Survives t.disk t.history new.history (tree_in t.disk t.pairs) (with_moved t rename.old.path rename.old.name rename.path name)
-  survives_onto_later new w both =
+  survives_onto_later one new w both =
       let after = with_moved t rename.old.path rename.old.name rename.path name in
-      let from = subst (λ k. SurvivesBoth k new_pair (replacing_changes k old_pair old_id new_pair new_id name) new) same_u both in
+      let from = subst (λ k. SurvivesBoth k new_pair (onto_changes sync k old_pair old_id new_pair new_id name) new) same_u both in
       survives_then t.disk t.history mid.history new.history (tree_in t.disk t.pairs) after only.reads w.writes.at_worst
       (read_survives t mid.history only.reads rename.old.ready after)
-      (from (tree_in t.disk t.pairs) after (survives_onto later_u old_pair old_id new_pair new_id name onto_there here_address) (shows_onto later_u old_pair old_id new_pair new_id name onto_there here_address))
+      (from (tree_in t.disk t.pairs) after (survives_onto sync later_u old_pair old_id first new_pair new_id name onto_there here_address) (shows_onto sync later_u old_pair old_id first new_pair new_id name onto_there here_address))
 
 -- ---- what it tells
 

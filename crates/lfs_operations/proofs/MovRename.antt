@@ -1,5 +1,5 @@
 -- A rename across pairs, from where the entry stands and where its name belongs.
-use Rattle.std.proofs.Common.{nat_eq, ℕ, ◌≡◌, ◌+◌, ◌-◌, ◌<◌, ◌⊎◌, inl, inr, true, false, List, [], ◌∷◌, ◌++◌, length, None, Some, refl, sym, ap, ap₂, subst, ◌∙◌, arith, append_assoc, append-nil, length-append, insert, slice_get}
+use Rattle.std.proofs.Common.{nat_eq, Bool, ℕ, ◌≡◌, ◌+◌, ◌-◌, ◌<◌, ◌⊎◌, inl, inr, true, false, List, [], ◌∷◌, ◌++◌, length, None, Some, refl, sym, ap, ap₂, subst, ◌∙◌, arith, append-nil, length-append, insert}
 use Rattle.std.specs.Option.{option_and_then}
 use Rattle.std.specs.List.{IsDistinct}
 use Rattle.std.proofs.lemmas.Nat.{xor_lt}
@@ -14,7 +14,7 @@ use Rattle.lfs_model.specs.Logged.{IsAddress, IsMoveState}
 use Rattle.lfs_model.specs.Names.{Name, is_name}
 use Rattle.lfs_model.specs.PowerLoss.{Survives}
 use Rattle.lfs_model.specs.Slots.{Slot, FitsPair, Gstate, gstate_xor, same_pair, slot_size}
-use Rattle.lfs_model.specs.Thread.{Pair, blocks_of, first_at, gstate_of, next_of, starts_with_superblock, superblocks_before}
+use Rattle.lfs_model.specs.Thread.{Pair, blocks_of, gstate_of, next_of, starts_with_superblock, superblocks_before}
 use Rattle.lfs_model.specs.Tree.{Path}
 use Rattle.lfs_model.specs.Apply.{renamed, rest_after}
 use Rattle.lfs_model.specs.View.{FitsEntry, IsAccepted, IsEntry, IsWritable, Leads, entries_in, tree_in}
@@ -26,12 +26,10 @@ use Rattle.lfs_model.proofs.Counts.{Each, each_right}
 use Rattle.lfs_model.proofs.Effects.{does_first, puts_move}
 use Rattle.lfs_model.proofs.Halves.{content_cut, entry_small}
 use Rattle.lfs_model.proofs.Indexes.{nothing_there}
-use Rattle.lfs_model.proofs.Listings.{Ends}
 use Rattle.lfs_model.proofs.Moves.{insert_here, place_at}
 use Rattle.lfs_model.proofs.Names.{IsPlace}
-use Rattle.lfs_model.proofs.Pairs.{pair_back, pair_on}
 use Rattle.lfs_model.proofs.Paths.{last_is}
-use Rattle.lfs_model.proofs.Searches.{is_site, number_is, place_of_belongs, same, same_number, site, slot_of_stands, thread_is}
+use Rattle.lfs_model.proofs.Searches.{is_site, number_is, place_of_belongs, same, site, slot_of_stands, thread_is}
 use Rattle.lfs_model.proofs.Sites.{Site, begin_of, thread_at}
 use Rattle.lfs_model.proofs.StoredChanges.{logged_changed}
 use Rattle.lfs_model.proofs.Writable.{flag}
@@ -43,40 +41,16 @@ use Rattle.lfs_operations.specs.Changing.{CanPut, IsLeftByPut, IsPut}
 use Rattle.lfs_operations.specs.Editing.{CanEdit}
 use Rattle.lfs_operations.specs.Moving.{CanEnd, CanRenameAcross, EndsAfter, HasEnded, IsPutAndEnded, IsRenamedAcross, move_of, moving_changes, place_after, with_moved}
 use Rattle.lfs_operations.specs.Ready.{IsLoggedAt}
+use Rattle.lfs_operations.specs.Removing.{goes_whole}
 use Rattle.lfs_operations.specs.RenamingSlots.{HasSlot, Parts, parts_at, parts_of, slot_changes}
 use Rattle.lfs_operations.proofs.Held.{CompletesTo, IsEntryIfOther, below, each_pair, fits_there, here, other_entries, raw_there}
 use Rattle.lfs_operations.proofs.MovSet.{HasTurned, IsSetting, chain_same, set_new, walk_by}
 use Rattle.lfs_operations.proofs.MovStep.{IsFirst, first_survives, first_turned, grown, mid_ends, mid_shows, rename_becomes, rename_completed, same_at}
 use Rattle.lfs_operations.proofs.MovTurned.{IsTurn, content_with}
+use Rattle.lfs_operations.proofs.Removed.{alone, flag_ends, stays_there}
+use Rattle.lfs_operations.proofs.RemovedWhole.{flag_whole, stands_whole}
 use Rattle.lfs_operations.proofs.RenameMade.{Leaves, is_slot, leaves_all, parts_are}
 use Rattle.lfs_operations.proofs.RenameSlots.{IsOf, name_length, slot_comes, slot_of_parts, with_slot}
-use Rattle.lfs_operations.proofs.Stepped.{ready_again}
-
--- ---- the first pair of a directory
-
--- no hard tail leads to it
-pub flag_ends : (before : List Pair) → Ends before → flag false before ≡ false
-flag_ends [] h = refl
-flag_ends (p ∷ []) h = h
-flag_ends (p ∷ q ∷ ps) h = flag_ends (q ∷ ps) h
-
-get_behind : (xs : List Pair) (p : Pair) (ys : List Pair) → slice_get (xs ++ p ∷ ys) (length xs) ≡ Some p
-get_behind [] p ys = refl
-get_behind (x ∷ xs) p ys = get_behind xs p ys
-
--- no other stands in front of it there
-pub alone : (chain before left tail : List Pair) (p : Pair) (a : ℕ × ℕ) (first : ℕ) → IsDistinct nat_eq (blocks_of (chain ++ ((before ++ left) ++ p ∷ tail))) → same_pair (first_at (left ++ p ∷ [])) a ≡ true
-    → BeginsAt (chain ++ ((before ++ left) ++ p ∷ tail)) a first → first ≡ length chain + length (before ++ left) → left ≡ []
-alone chain before [] tail p a first distinct h b n = refl
-alone chain before (x ∷ left) tail p a first distinct h b n =
-    let ps = chain ++ ((before ++ x ∷ left) ++ p ∷ tail) in
-    let whole : chain ++ ((before ++ x ∷ left) ++ p ∷ tail) ≡ (chain ++ before) ++ x ∷ (left ++ p ∷ tail)
-    = ap (λ z. chain ++ z) (append_assoc before (x ∷ left) (p ∷ tail)) ∙ sym (append_assoc chain before (x ∷ (left ++ p ∷ tail))) in
-    let there = ap (λ z. slice_get z (length (chain ++ before))) whole ∙ get_behind (chain ++ before) x (left ++ p ∷ tail) in
-    let e = same_number (chain ++ ((before ++ x ∷ left) ++ p ∷ tail)) (length (chain ++ before)) first x b.pair distinct there b.there (pair_on x.at a b.pair.at h (pair_back b.pair.at a b.same)) in
-    let k = length-append chain before in
-    let m = length-append before (x ∷ left) in
-    absurd (omega arith)
 
 -- ---- what the changes make
 
@@ -86,7 +60,7 @@ record Source (t : Kept) (pair id : ℕ) (u : Slot) : Type 0 where
   is : parts_at t pair id ≡ parts_of raw
   of : IsOf raw u
 
-module _ (t : Kept) (old_pair old_id new_pair : ℕ) (can : CanEdit t old_pair old_id) (address : IsAddress (pair_in t old_pair).at)
+module _ (sync : Bool) (t : Kept) (old_pair old_id new_pair : ℕ) (can : CanEdit t old_pair old_id) (address : IsAddress (pair_in t old_pair).at)
     (first : ℕ) (p : Pair) (rest : List Pair) (place : IsBehind t.pairs first new_pair p rest) (logged : IsLoggedAt t.disk (pair_in t new_pair).at) where
   abbrev pub o : Pair
   o = can.stands.pair
@@ -114,14 +88,14 @@ module _ (t : Kept) (old_pair old_id new_pair : ℕ) (can : CanEdit t old_pair o
   parts = completed_parts c.raw p.content c.complete
 
   abbrev pub move : Gstate
-  move = gstate_xor (move_of (pair_in t old_pair).at old_id) (pair_in t new_pair).content.move
+  move = gstate_xor (move_of sync (pair_in t old_pair).at old_id) (pair_in t new_pair).content.move
 
   abbrev pub share : Gstate
-  share = gstate_xor (move_of o.at (length can.stands.stands.left)) p.content.move
+  share = gstate_xor (move_of sync o.at (length can.stands.stands.left)) p.content.move
 
   pub move_is : move ≡ share
-  move_is = ap₂ (λ (x : Pair) (i : ℕ). gstate_xor (move_of x.at i) (pair_in t new_pair).content.move) here_o (sym can.stands.stands.number)
-      ∙ ap (λ (x : Pair). gstate_xor (move_of o.at (length can.stands.stands.left)) x.content.move) here_p
+  move_is = ap₂ (λ (x : Pair) (i : ℕ). gstate_xor (move_of sync x.at i) (pair_in t new_pair).content.move) here_o (sym can.stands.stands.number)
+      ∙ ap (λ (x : Pair). gstate_xor (move_of sync o.at (length can.stands.stands.left)) x.content.move) here_p
 
   within : old_id < length o.content.slots
   within = let h = ap length can.stands.stands.held in let k = length-append can.stands.stands.left (u ∷ can.stands.stands.right) in let n = can.stands.stands.number in omega arith
@@ -199,11 +173,14 @@ module _ (t : Kept) (old_pair old_id new_pair : ℕ) (can : CanEdit t old_pair o
 
 -- ---- to a new name
 
-module _ (t : Kept) (old_pair old_id new_pair new_id : ℕ) (name : Name) (rename : CanRenameAcross t old_pair old_id new_pair new_id name) (address : IsAddress (pair_in t old_pair).at) where
+module _ (t : Kept) (old_pair old_id first new_pair new_id : ℕ) (name : Name) (rename : CanRenameAcross t old_pair old_id first new_pair new_id name) (address : IsAddress (pair_in t old_pair).at) where
   abbrev can : CanEdit t old_pair old_id
   can = rename.old
 
-  abbrev b : Belongs t.pairs rename.first name new_pair new_id
+  abbrev goes : Bool
+  goes = goes_whole t old_pair first
+
+  abbrev b : Belongs t.pairs rename.to_first name new_pair new_id
   b = rename.belongs
 
   abbrev p : Pair
@@ -228,25 +205,25 @@ module _ (t : Kept) (old_pair old_id new_pair new_id : ℕ) (name : Name) (renam
   wo = site t.disk t.pairs can.path can.at can.ready.accepted can.leads can.first old_pair q can.stands.rest can.stands.place can.begins
 
   abbrev w : Site
-  w = site t.disk t.pairs rename.path rename.at can.ready.accepted rename.leads rename.first new_pair p (b.later ++ b.rest) b.place rename.begins
+  w = site t.disk t.pairs rename.path rename.at can.ready.accepted rename.leads rename.to_first new_pair p (b.later ++ b.rest) b.place rename.begins
 
   there_old : t.pairs ≡ thread_at wo (q ∷ [])
   there_old = thread_is t.disk t.pairs can.path can.at can.ready.accepted can.leads can.first old_pair q can.stands.rest can.stands.place can.begins
 
   there : t.pairs ≡ thread_at w (p ∷ [])
-  there = thread_is t.disk t.pairs rename.path rename.at can.ready.accepted rename.leads rename.first new_pair p (b.later ++ b.rest) b.place rename.begins
+  there = thread_is t.disk t.pairs rename.path rename.at can.ready.accepted rename.leads rename.to_first new_pair p (b.later ++ b.rest) b.place rename.begins
 
-  held_all : complete_all (raw_mid t old_pair old_id new_pair can address rename.first p (b.later ++ b.rest) b.place rename.logged).slots ≡ Some (b.left ++ b.right)
-  held_all = (completed_parts (c t old_pair old_id new_pair can address rename.first p (b.later ++ b.rest) b.place rename.logged).raw p.content (c t old_pair old_id new_pair can address rename.first p (b.later ++ b.rest) b.place rename.logged).complete).slots ∙ ap Some b.held
+  held_all : complete_all (raw_mid false t old_pair old_id new_pair can address rename.to_first p (b.later ++ b.rest) b.place rename.logged).slots ≡ Some (b.left ++ b.right)
+  held_all = (completed_parts (c false t old_pair old_id new_pair can address rename.to_first p (b.later ++ b.rest) b.place rename.logged).raw p.content (c false t old_pair old_id new_pair can address rename.to_first p (b.later ++ b.rest) b.place rename.logged).complete).slots ∙ ap Some b.held
 
-  leaves : Leaves (raw_mid t old_pair old_id new_pair can address rename.first p (b.later ++ b.rest) b.place rename.logged) [] (b.left ++ b.right)
-  leaves = leaves_all (raw_mid t old_pair old_id new_pair can address rename.first p (b.later ++ b.rest) b.place rename.logged) (b.left ++ b.right) held_all
+  leaves : Leaves (raw_mid false t old_pair old_id new_pair can address rename.to_first p (b.later ++ b.rest) b.place rename.logged) [] (b.left ++ b.right)
+  leaves = leaves_all (raw_mid false t old_pair old_id new_pair can address rename.to_first p (b.later ++ b.rest) b.place rename.logged) (b.left ++ b.right) held_all
 
   fits_left : FitsPair t.disk.block_size t.disk.page (record p.content { slots = b.left ++ b.right })
-  fits_left = subst (λ z. FitsPair t.disk.block_size t.disk.page (record p.content { slots = z })) b.held (fits_there t can.ready rename.first new_pair p (b.later ++ b.rest) b.place)
+  fits_left = subst (λ z. FitsPair t.disk.block_size t.disk.page (record p.content { slots = z })) b.held (fits_there t can.ready rename.to_first new_pair p (b.later ++ b.rest) b.place)
 
   pub can_put_across : CanPut t new_pair (moving_changes t old_pair old_id new_pair new_id name)
-  can_put_across = can_put t old_pair old_id new_pair can address rename.first p (b.later ++ b.rest) b.place rename.logged [] b.left b.right leaves fits_left new_id b.number name rename.is_name rename.fits
+  can_put_across = can_put false t old_pair old_id new_pair can address rename.to_first p (b.later ++ b.rest) b.place rename.logged [] b.left b.right leaves fits_left new_id b.number name rename.is_name rename.fits
 
   pub has_slot_across : HasSlot t old_pair old_id
   has_slot_across =
@@ -265,12 +242,12 @@ module _ (t : Kept) (old_pair old_id new_pair new_id : ℕ) (name : Name) (renam
   old_number = number_is t.disk t.pairs can.path can.at can.ready.accepted can.leads can.first old_pair q can.stands.rest can.stands.place can.begins
 
   new_number : new_pair ≡ length w.chain + length (w.before ++ w.left)
-  new_number = number_is t.disk t.pairs rename.path rename.at can.ready.accepted rename.leads rename.first new_pair p (b.later ++ b.rest) b.place rename.begins
+  new_number = number_is t.disk t.pairs rename.path rename.at can.ready.accepted rename.leads rename.to_first new_pair p (b.later ++ b.rest) b.place rename.begins
 
   setting : IsSetting t.disk wo q lo s ro w p b.left [] v b.right
   setting =
       let old_site = is_site t.disk t.pairs can.path can.at can.ready.accepted can.leads can.first old_pair q can.stands.rest can.stands.place can.begins in
-      let new_site = is_site t.disk t.pairs rename.path rename.at can.ready.accepted rename.leads rename.first new_pair p (b.later ++ b.rest) b.place rename.begins in
+      let new_site = is_site t.disk t.pairs rename.path rename.at can.ready.accepted rename.leads rename.to_first new_pair p (b.later ++ b.rest) b.place rename.begins in
       record {
         accepted = subst (IsAccepted t.disk) there can.ready.accepted;
         writable = subst (IsWritable t.disk) there can.ready.writable;
@@ -296,32 +273,39 @@ module _ (t : Kept) (old_pair old_id new_pair new_id : ℕ) (name : Name) (renam
   first_kept [] f e = absurd (let z = sym (f refl) ∙ e.0 in cc)
   first_kept (x ∷ l) f e = e
 
-  turn : IsTurn t new_pair (moving_changes t old_pair old_id new_pair new_id name) w p (b.left ++ v ∷ b.right) (gstate_xor (move_of q.at (length lo)) p.content.move)
+  turn : IsTurn t new_pair (moving_changes t old_pair old_id new_pair new_id name) w p (b.left ++ v ∷ b.right) (gstate_xor (move_of false q.at (length lo)) p.content.move)
   turn = record {
     accepted = can.ready.accepted;
     there = there;
     place = new_number;
     site = setting.site;
-    made = made t old_pair old_id new_pair can address rename.first p (b.later ++ b.rest) b.place rename.logged [] b.left b.right leaves fits_left new_id b.number name rename.is_name rename.fits;
+    made = made false t old_pair old_id new_pair can address rename.to_first p (b.later ++ b.rest) b.place rename.logged [] b.left b.right leaves fits_left new_id b.number name rename.is_name rename.fits;
     first = λ h. first_kept b.left (λ e. b.fronted) (subst SlotsHaveFirst b.held (h.kind, h.name));
   }
 
   same_begin : same_pair (begin_of wo (q ∷ [])) can.at ≡ true
   same_begin = same t.disk t.pairs can.path can.at can.ready.accepted can.leads can.first old_pair q can.stands.rest can.stands.place can.begins
 
-  filled : flag false (wo.before ++ wo.left) ≡ true → 1 < length q.content.slots
-  filled hard = go rename.stays
+  led_first : old_pair ≡ can.first → flag false (wo.before ++ wo.left) ≡ false
+  led_first e =
+      let none_before = alone wo.chain wo.before wo.left (wo.right ++ wo.after) q can.at can.first (subst (λ z. IsDistinct nat_eq (blocks_of z)) there_old can.ready.accepted.thread.distinct) same_begin
+      (subst (λ z. BeginsAt z can.at can.first) there_old can.begins) (sym e ∙ old_number) in
+      ap (λ z. flag false (wo.before ++ z)) none_before ∙ ap (flag false) (append-nil wo.before) ∙ flag_ends wo.before setting.old_site.ends
+
+  stays : goes ≡ false → flag false (wo.before ++ wo.left) ≡ true → 1 < length q.content.slots
+  stays remains hard = go (stays_there t old_pair old_id first can rename.begins_old remains)
     where
       go : (old_pair ≡ can.first) ⊎ (1 < length (pair_in t old_pair).content.slots) → 1 < length q.content.slots
-      go (inl e) =
-          let none_before = alone wo.chain wo.before wo.left (wo.right ++ wo.after) q can.at can.first (subst (λ z. IsDistinct nat_eq (blocks_of z)) there_old can.ready.accepted.thread.distinct) same_begin
-          (subst (λ z. BeginsAt z can.at can.first) there_old can.begins) (sym e ∙ old_number) in
-          let soft = ap (λ z. flag false (wo.before ++ z)) none_before ∙ ap (flag false) (append-nil wo.before) ∙ flag_ends wo.before setting.old_site.ends in
-          absurd (let z = sym hard ∙ soft in cc)
+      go (inl e) = absurd (let z = sym hard ∙ led_first e in cc)
       go (inr many) = subst (λ (z : Pair). 1 < length z.content.slots) (here t can.ready can.first old_pair q can.stands.rest can.stands.place) many
 
+  goes_alone : goes ≡ true → (flag false (wo.before ++ wo.left) ≡ true) × (length q.content.slots ≡ 1)
+  goes_alone whole =
+      let k = stands_whole t old_pair old_id first can rename.begins_old whole in
+      (flag_whole t old_pair old_id first can rename.begins_old whole, ap length k.held)
+
   place : IsPlace (entries_in t.pairs rename.at) (place_at w b.left) name
-  place = place_of_belongs t.disk t.pairs rename.path rename.at can.ready.accepted rename.leads rename.first new_pair new_id name (no_move_from t.pairs can.ready.settled) b rename.begins
+  place = place_of_belongs t.disk t.pairs rename.path rename.at can.ready.accepted rename.leads rename.to_first new_pair new_id name (no_move_from t.pairs can.ready.settled) b rename.begins
 
   abbrev from : Path
   from = can.path ++ can.name ∷ []
@@ -329,16 +313,16 @@ module _ (t : Kept) (old_pair old_id new_pair new_id : ℕ) (name : Name) (renam
   abbrev to : Path
   to = rename.path ++ name ∷ []
 
-  follows : (disk : Disk) (x : Pair) (more : List Pair) → HasTurned t.disk w p (b.left ++ v ∷ b.right) (gstate_xor (move_of q.at (length lo)) p.content.move) disk x more
+  follows : (disk : Disk) (x : Pair) (more : List Pair) → HasTurned t.disk w p (b.left ++ v ∷ b.right) (gstate_xor (move_of false q.at (length lo)) p.content.move) disk x more
       → Follows t.disk (thread_at w (p ∷ [])) disk (thread_at w (x ∷ more)) (renamed from to) (walk_by from to)
   follows disk x more turned = subst (λ (n : Name). Follows t.disk (thread_at w (p ∷ [])) disk (thread_at w (x ∷ more)) (renamed (can.path ++ n ∷ []) to) (walk_by (can.path ++ n ∷ []) to)) can.stands.stands.named
-      (set_new t.disk wo q lo s ro w p b.left v b.right disk x more turned can.path can.at (subst (λ z. Leads z can.path can.at) there can.leads) same_begin
+      (set_new t.disk wo q lo s ro w p b.left v b.right false disk x more turned can.path can.at (subst (λ z. Leads z can.path can.at) there can.leads) same_begin
       rename.path rename.at (subst (λ z. Leads z rename.path rename.at) there rename.leads)
-      (same t.disk t.pairs rename.path rename.at can.ready.accepted rename.leads rename.first new_pair p (b.later ++ b.rest) b.place rename.begins)
+      (same t.disk t.pairs rename.path rename.at can.ready.accepted rename.leads rename.to_first new_pair p (b.later ++ b.rest) b.place rename.begins)
       setting refl (ap (λ (n : Name). rest_after (can.path ++ n ∷ []) to) can.stands.stands.named ∙ rename.not_beneath)
       (subst (λ z. IsPlace (entries_in z rename.at) (place_at w b.left) name) there place))
 
-  is_first : IsFirst t old_pair new_pair (moving_changes t old_pair old_id new_pair new_id name) wo q lo s ro w p b.left None v b.right from to name
+  is_first : IsFirst t false old_pair goes new_pair (moving_changes t old_pair old_id new_pair new_id name) wo q lo s ro w p b.left None v b.right from to name
   is_first = record {
     ready = can.ready;
     turn = turn;
@@ -349,39 +333,40 @@ module _ (t : Kept) (old_pair old_id new_pair new_id : ℕ) (name : Name) (renam
     logged = subst (λ (z : Pair). IsLoggedAt t.disk z.at) (here t can.ready can.first old_pair q can.stands.rest can.stands.place) can.logged;
     same_slot = refl;
     follows = follows;
-    filled = filled;
+    stays = stays;
+    alone = goes_alone;
     from_slot = subst (λ z. slot_of_path z from ≡ Some s) there
         (slot_of_stands t.disk t.pairs can.path can.at can.ready.accepted can.leads can.first old_pair old_id can.name (no_move_from t.pairs can.ready.settled) can.stands can.begins);
     to_slot = subst (λ z. slot_of_path z to ≡ None) there (nothing_there t.disk t.pairs rename.path rename.at (place_at w b.left) name rename.leads place).0;
     to_name = last_is rename.path name;
-    file = tt;
+    file = λ e. tt;
   }
 
-  pub ends_across : (mid : Kept) → IsPut t new_pair (moving_changes t old_pair old_id new_pair new_id name) mid → EndsAfter t old_pair old_id new_pair mid
+  pub ends_across : (mid : Kept) → IsPut t new_pair (moving_changes t old_pair old_id new_pair new_id name) mid → EndsAfter t old_pair old_id goes new_pair mid
   ends_across mid is =
-      let x = first_turned t old_pair new_pair (moving_changes t old_pair old_id new_pair new_id name) wo q lo s ro w p b.left None v b.right from to name is_first mid is in
+      let x = first_turned t false old_pair goes new_pair (moving_changes t old_pair old_id new_pair new_id name) wo q lo s ro w p b.left None v b.right from to name is_first mid is in
       record {
-        grown = grown t old_pair new_pair (moving_changes t old_pair old_id new_pair new_id name) wo q lo s ro w p b.left None v b.right from to name is_first mid x;
-        can = subst (λ i. CanEnd mid (place_after old_pair new_pair (length mid.pairs - length t.pairs)) i) can.stands.stands.number
-            (mid_ends t old_pair new_pair (moving_changes t old_pair old_id new_pair new_id name) wo q lo s ro w p b.left None v b.right from to name is_first mid x);
-        at = same_at t old_pair new_pair (moving_changes t old_pair old_id new_pair new_id name) wo q lo s ro w p b.left None v b.right from to name is_first mid x;
+        apart = rename.apart;
+        grown = grown t false old_pair goes new_pair (moving_changes t old_pair old_id new_pair new_id name) wo q lo s ro w p b.left None v b.right from to name is_first mid x;
+        can = subst (λ i. CanEnd mid (place_after old_pair new_pair (length mid.pairs - length t.pairs)) i goes) can.stands.stands.number
+            (mid_ends t false old_pair goes new_pair (moving_changes t old_pair old_id new_pair new_id name) wo q lo s ro w p b.left None v b.right from to name is_first mid x);
+        at = same_at t false old_pair goes new_pair (moving_changes t old_pair old_id new_pair new_id name) wo q lo s ro w p b.left None v b.right from to name is_first mid x;
       }
 
   pub shows_across : (mid : Kept) → IsPut t new_pair (moving_changes t old_pair old_id new_pair new_id name) mid → tree_in mid.disk mid.pairs ≡ with_moved t can.path can.name rename.path name
-  shows_across mid is = mid_shows t old_pair new_pair (moving_changes t old_pair old_id new_pair new_id name) wo q lo s ro w p b.left None v b.right from to name is_first mid
-      (first_turned t old_pair new_pair (moving_changes t old_pair old_id new_pair new_id name) wo q lo s ro w p b.left None v b.right from to name is_first mid is)
+  shows_across mid is = mid_shows t false old_pair goes new_pair (moving_changes t old_pair old_id new_pair new_id name) wo q lo s ro w p b.left None v b.right from to name is_first mid
+      (first_turned t false old_pair goes new_pair (moving_changes t old_pair old_id new_pair new_id name) wo q lo s ro w p b.left None v b.right from to name is_first mid is)
 
   pub survives_across : (calls : List Event) → StopsLeave t.history calls (IsLeftByPut t new_pair (moving_changes t old_pair old_id new_pair new_id name))
       → Survives t.disk t.history calls (tree_in t.disk t.pairs) (with_moved t can.path can.name rename.path name)
-  survives_across calls stops = first_survives t old_pair new_pair (moving_changes t old_pair old_id new_pair new_id name) wo q lo s ro w p b.left None v b.right from to name is_first calls stops
+  survives_across calls stops = first_survives t false old_pair goes new_pair (moving_changes t old_pair old_id new_pair new_id name) wo q lo s ro w p b.left None v b.right from to name is_first calls stops
 
-  pub renamed_across : (new : Kept) → IsPutAndEnded t old_pair old_id new_pair (moving_changes t old_pair old_id new_pair new_id name) new → IsRenamedAcross t new can.path can.name rename.path name
+  pub renamed_across : (new : Kept) → IsPutAndEnded t old_pair old_id goes new_pair (moving_changes t old_pair old_id new_pair new_id name) new → IsRenamedAcross t new can.path can.name rename.path name
   renamed_across new is =
-      let x = first_turned t old_pair new_pair (moving_changes t old_pair old_id new_pair new_id name) wo q lo s ro w p b.left None v b.right from to name is_first is.mid is.put in
-      let e = subst (λ i. HasEnded is.mid (place_after old_pair new_pair (length is.mid.pairs - length t.pairs)) i new) (sym can.stands.stands.number) is.ended in
+      let x = first_turned t false old_pair goes new_pair (moving_changes t old_pair old_id new_pair new_id name) wo q lo s ro w p b.left None v b.right from to name is_first is.mid is.put in
+      let e = subst (λ i. HasEnded is.mid (place_after old_pair new_pair (length is.mid.pairs - length t.pairs)) i goes new) (sym can.stands.stands.number) is.ended in
       record {
-        now = ready_again t new (with_moved t can.path can.name rename.path name)
-            (rename_becomes t old_pair new_pair (moving_changes t old_pair old_id new_pair new_id name) wo q lo s ro w p b.left None v b.right from to name is_first is.mid x new e);
+        now = rename_becomes t false old_pair goes new_pair (moving_changes t old_pair old_id new_pair new_id name) wo q lo s ro w p b.left None v b.right from to name is_first is.mid x new e refl;
         completed = λ z given to_given tree given_is to_is.
-            rename_completed t old_pair new_pair (moving_changes t old_pair old_id new_pair new_id name) wo q lo s ro w p b.left None v b.right from to name is_first is.mid x new e z given to_given tree given_is to_is;
+            rename_completed t false old_pair goes new_pair (moving_changes t old_pair old_id new_pair new_id name) wo q lo s ro w p b.left None v b.right from to name is_first is.mid x new e refl z given to_given tree given_is to_is;
       }

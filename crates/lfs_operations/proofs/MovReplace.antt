@@ -1,5 +1,5 @@
 -- A rename across pairs onto a file, from where both stand.
-use Rattle.std.proofs.Common.{nat_eq, ℕ, ◌≡◌, ◌+◌, ◌-◌, ◌<◌, ◌⊎◌, inl, inr, true, false, List, [], ◌∷◌, ◌++◌, length, Some, refl, sym, ap, subst, ◌∙◌, arith, append-nil, length-append}
+use Rattle.std.proofs.Common.{nat_eq, Bool, ℕ, ◌≡◌, ◌+◌, ◌-◌, ◌<◌, ◌≤◌, ◌⊎◌, inl, inr, true, false, List, [], ◌∷◌, ◌++◌, length, Some, refl, sym, ap, subst, ◌∙◌, arith, append-nil, length-append}
 use Rattle.std.specs.List.{IsDistinct}
 use Rattle.lfs_model.specs.Changes.{Delete}
 use Rattle.lfs_model.specs.Content.{complete_all}
@@ -13,12 +13,12 @@ use Rattle.lfs_model.specs.Slots.{Slot, FitsPair, gstate_xor, same_pair}
 use Rattle.lfs_model.specs.Thread.{Pair, blocks_of, gstate_of, superblocks_before}
 use Rattle.lfs_model.specs.Tree.{Path}
 use Rattle.lfs_model.specs.Apply.{renamed, rest_after}
-use Rattle.lfs_model.specs.View.{file_blocks, IsAccepted, IsEntry, IsWritable, Leads, tree_in}
+use Rattle.lfs_model.specs.View.{file_blocks, IsAccepted, IsEntry, IsWritable, Leads, tree_in, used_blocks}
 use Rattle.lfs_model.specs.SlotEdits.{slot_of_path}
 use Rattle.lfs_model.proofs.Changes.{Follows}
 use Rattle.lfs_model.proofs.Committed.{no_move_from}
 use Rattle.lfs_model.proofs.Completed.{completed_parts}
-use Rattle.lfs_model.proofs.Counts.{Each, each_right}
+use Rattle.lfs_model.proofs.Counts.{Each, each_right, count}
 use Rattle.lfs_model.proofs.Paths.{last_is}
 use Rattle.lfs_model.proofs.Searches.{is_site, number_is, same, site, slot_of_stands, thread_is}
 use Rattle.lfs_model.proofs.Sites.{Site, begin_of, thread_at}
@@ -28,21 +28,66 @@ use Rattle.lfs_thread.specs.Kept.{Kept}
 use Rattle.lfs_thread.specs.Steps.{SlotsHaveFirst, pair_in}
 use Rattle.lfs_operations.specs.Changing.{CanPut, IsLeftByPut, IsPut}
 use Rattle.lfs_operations.specs.Editing.{CanEdit}
-use Rattle.lfs_operations.specs.Moving.{CanEnd, CanReplaceAcross, EndsAfter, HasEnded, IsPutAndEnded, IsReplacedAcross, move_of, replacing_changes, place_after, with_moved}
-use Rattle.lfs_operations.specs.Ready.{HasBecomeBut, IsLoggedAt}
+use Rattle.lfs_operations.specs.Moving.{CanEnd, CanPutOnto, CanReplaceAcross, CanReplaceDirectory, EndsAfter, HasEnded, IsPutAndEnded, IsReplacedAcross, move_of, onto_changes, place_after, with_moved}
+use Rattle.lfs_operations.specs.Dropping.{HasShrunk}
+use Rattle.lfs_operations.specs.Ready.{IsLoggedAt}
+use Rattle.lfs_operations.specs.Removing.{goes_whole}
 use Rattle.lfs_operations.specs.RenamingSlots.{HasSlot}
 use Rattle.lfs_operations.proofs.Held.{IsEntryIfOther, below, each_pair, fits_there, here, other_entries}
 use Rattle.lfs_operations.proofs.MovSet.{HasTurned, IsSetting, chain_same, set_onto, walk_by}
-use Rattle.lfs_operations.proofs.MovStep.{IsFirst, first_survives, first_turned, grown, mid_ends, mid_shows, rename_becomes, rename_completed, same_at}
+use Rattle.lfs_operations.proofs.MovStep.{IsFirst, first_survives, first_turned, grown, mid_ends, mid_shows, rename_becomes, rename_completed, rename_once, same_at}
 use Rattle.lfs_operations.proofs.MovTurned.{IsTurn}
+use Rattle.lfs_operations.proofs.Removed.{alone, flag_ends, stays_there}
+use Rattle.lfs_operations.proofs.RemovedWhole.{flag_whole, stands_whole}
 use Rattle.lfs_operations.proofs.RenameMade.{Leaves, fits_without, leaves_without}
-use Rattle.lfs_operations.proofs.MovRename.{alone, c, can_put, flag_ends, made, raw_mid}
+use Rattle.lfs_operations.proofs.MovRename.{c, can_put, made, raw_mid}
 
-module _ (t : Kept) (old_pair old_id new_pair new_id : ℕ) (name : Name) (rename : CanReplaceAcross t old_pair old_id new_pair new_id name) (address : IsAddress (pair_in t old_pair).at) where
+pub not_plain : {X : Type 0} → true ≡ false → X
+not_plain e = absurd (cc)
+
+abbrev pub onto_file : {t : Kept} {old_pair old_id first new_pair new_id : ℕ} {name : Name} → CanReplaceAcross t old_pair old_id first new_pair new_id name → CanPutOnto t false old_pair old_id first new_pair new_id name
+onto_file r = record {
+  old = r.old;
+  begins_old = r.begins_old;
+  path = r.path;
+  at = r.at;
+  leads = r.leads;
+  to_first = r.to_first;
+  begins = r.begins;
+  target = r.target;
+  file = λ e. r.file;
+  logged = r.logged;
+  apart = r.apart;
+  not_beneath = r.not_beneath;
+  fits = r.fits;
+}
+
+abbrev pub onto_directory : {t : Kept} {old_pair old_id first new_pair new_id : ℕ} {name : Name} {gone : ℕ} → CanReplaceDirectory t old_pair old_id first new_pair new_id name gone
+    → CanPutOnto t true old_pair old_id first new_pair new_id name
+onto_directory r = record {
+  old = r.old;
+  begins_old = r.begins_old;
+  path = r.path;
+  at = r.at;
+  leads = r.leads;
+  to_first = r.to_first;
+  begins = r.begins;
+  target = r.target;
+  file = not_plain;
+  logged = r.logged;
+  apart = r.apart;
+  not_beneath = r.not_beneath;
+  fits = r.fits;
+}
+
+module _ (sync : Bool) (t : Kept) (old_pair old_id first new_pair new_id : ℕ) (name : Name) (rename : CanPutOnto t sync old_pair old_id first new_pair new_id name) (address : IsAddress (pair_in t old_pair).at) where
   abbrev can : CanEdit t old_pair old_id
   can = rename.old
 
-  abbrev b : Stands t.pairs rename.first name new_pair new_id
+  abbrev goes : Bool
+  goes = goes_whole t old_pair first
+
+  abbrev b : Stands t.pairs rename.to_first name new_pair new_id
   b = rename.target
 
   abbrev p : Pair
@@ -77,40 +122,40 @@ module _ (t : Kept) (old_pair old_id new_pair new_id : ℕ) (name : Name) (renam
   wo = site t.disk t.pairs can.path can.at can.ready.accepted can.leads can.first old_pair q can.stands.rest can.stands.place can.begins
 
   abbrev w : Site
-  w = site t.disk t.pairs rename.path rename.at can.ready.accepted rename.leads rename.first new_pair p b.rest b.place rename.begins
+  w = site t.disk t.pairs rename.path rename.at can.ready.accepted rename.leads rename.to_first new_pair p b.rest b.place rename.begins
 
   there_old : t.pairs ≡ thread_at wo (q ∷ [])
   there_old = thread_is t.disk t.pairs can.path can.at can.ready.accepted can.leads can.first old_pair q can.stands.rest can.stands.place can.begins
 
   there : t.pairs ≡ thread_at w (p ∷ [])
-  there = thread_is t.disk t.pairs rename.path rename.at can.ready.accepted rename.leads rename.first new_pair p b.rest b.place rename.begins
+  there = thread_is t.disk t.pairs rename.path rename.at can.ready.accepted rename.leads rename.to_first new_pair p b.rest b.place rename.begins
 
-  held_all : complete_all (raw_mid t old_pair old_id new_pair can address rename.first p b.rest b.place rename.logged).slots ≡ Some (l ++ g ∷ r)
-  held_all = (completed_parts (c t old_pair old_id new_pair can address rename.first p b.rest b.place rename.logged).raw p.content (c t old_pair old_id new_pair can address rename.first p b.rest b.place rename.logged).complete).slots ∙ ap Some b.stands.held
+  held_all : complete_all (raw_mid sync t old_pair old_id new_pair can address rename.to_first p b.rest b.place rename.logged).slots ≡ Some (l ++ g ∷ r)
+  held_all = (completed_parts (c sync t old_pair old_id new_pair can address rename.to_first p b.rest b.place rename.logged).raw p.content (c sync t old_pair old_id new_pair can address rename.to_first p b.rest b.place rename.logged).complete).slots ∙ ap Some b.stands.held
 
   small : new_id < 0x3ff
   small =
-      let few = (fits_there t can.ready rename.first new_pair p b.rest b.place).count in
+      let few = (fits_there t can.ready rename.to_first new_pair p b.rest b.place).count in
       let h = ap length b.stands.held in
       let k = length-append l (g ∷ r) in
       let n = b.stands.number in
       omega arith
 
-  leaves : Leaves (raw_mid t old_pair old_id new_pair can address rename.first p b.rest b.place rename.logged) (Delete new_id ∷ []) (l ++ r)
-  leaves = leaves_without (raw_mid t old_pair old_id new_pair can address rename.first p b.rest b.place rename.logged) l g r new_id small b.stands.number held_all
+  leaves : Leaves (raw_mid sync t old_pair old_id new_pair can address rename.to_first p b.rest b.place rename.logged) (Delete new_id ∷ []) (l ++ r)
+  leaves = leaves_without (raw_mid sync t old_pair old_id new_pair can address rename.to_first p b.rest b.place rename.logged) l g r new_id small b.stands.number held_all
 
   fits_left : FitsPair t.disk.block_size t.disk.page (record p.content { slots = l ++ r })
-  fits_left = fits_without t.disk.block_size t.disk.page p.content l g r b.stands.held (fits_there t can.ready rename.first new_pair p b.rest b.place)
+  fits_left = fits_without t.disk.block_size t.disk.page p.content l g r b.stands.held (fits_there t can.ready rename.to_first new_pair p b.rest b.place)
 
   -- its name is the one that the entry gets
   is_named : is_name name ≡ true
   is_named =
-      let here = each_pair t can.ready rename.first new_pair p b.rest b.place (λ x. Each IsEntryIfOther x.content.slots) (other_entries t.disk t.pairs can.ready.accepted) in
+      let here = each_pair t can.ready rename.to_first new_pair p b.rest b.place (λ x. Each IsEntryIfOther x.content.slots) (other_entries t.disk t.pairs can.ready.accepted) in
       let entry = (each_right IsEntryIfOther l (g ∷ r) (subst (Each IsEntryIfOther) b.stands.held here)).0 b.stands.entry in
       ap is_name (sym b.stands.named) ∙ entry.name
 
-  pub can_put_onto : CanPut t new_pair (replacing_changes t old_pair old_id new_pair new_id name)
-  can_put_onto = can_put t old_pair old_id new_pair can address rename.first p b.rest b.place rename.logged (Delete new_id ∷ []) l r leaves fits_left new_id b.stands.number name is_named rename.fits
+  pub can_put_onto : CanPut t new_pair (onto_changes sync t old_pair old_id new_pair new_id name)
+  can_put_onto = can_put sync t old_pair old_id new_pair can address rename.to_first p b.rest b.place rename.logged (Delete new_id ∷ []) l r leaves fits_left new_id b.stands.number name is_named rename.fits
 
   pub has_slot_onto : HasSlot t old_pair old_id
   has_slot_onto =
@@ -129,12 +174,12 @@ module _ (t : Kept) (old_pair old_id new_pair new_id : ℕ) (name : Name) (renam
   old_number = number_is t.disk t.pairs can.path can.at can.ready.accepted can.leads can.first old_pair q can.stands.rest can.stands.place can.begins
 
   new_number : new_pair ≡ length w.chain + length (w.before ++ w.left)
-  new_number = number_is t.disk t.pairs rename.path rename.at can.ready.accepted rename.leads rename.first new_pair p b.rest b.place rename.begins
+  new_number = number_is t.disk t.pairs rename.path rename.at can.ready.accepted rename.leads rename.to_first new_pair p b.rest b.place rename.begins
 
   setting : IsSetting t.disk wo q lo s ro w p l (g ∷ []) v r
   setting =
       let old_site = is_site t.disk t.pairs can.path can.at can.ready.accepted can.leads can.first old_pair q can.stands.rest can.stands.place can.begins in
-      let new_site = is_site t.disk t.pairs rename.path rename.at can.ready.accepted rename.leads rename.first new_pair p b.rest b.place rename.begins in
+      let new_site = is_site t.disk t.pairs rename.path rename.at can.ready.accepted rename.leads rename.to_first new_pair p b.rest b.place rename.begins in
       record {
         accepted = subst (IsAccepted t.disk) there can.ready.accepted;
         writable = subst (IsWritable t.disk) there can.ready.writable;
@@ -160,29 +205,36 @@ module _ (t : Kept) (old_pair old_id new_pair new_id : ℕ) (name : Name) (renam
   first_kept [] e = absurd (let z = sym b.stands.entry ∙ e.0 in cc)
   first_kept (x ∷ l) e = e
 
-  turn : IsTurn t new_pair (replacing_changes t old_pair old_id new_pair new_id name) w p (l ++ v ∷ r) (gstate_xor (move_of q.at (length lo)) p.content.move)
+  turn : IsTurn t new_pair (onto_changes sync t old_pair old_id new_pair new_id name) w p (l ++ v ∷ r) (gstate_xor (move_of sync q.at (length lo)) p.content.move)
   turn = record {
     accepted = can.ready.accepted;
     there = there;
     place = new_number;
     site = setting.site;
-    made = made t old_pair old_id new_pair can address rename.first p b.rest b.place rename.logged (Delete new_id ∷ []) l r leaves fits_left new_id b.stands.number name is_named rename.fits;
+    made = made sync t old_pair old_id new_pair can address rename.to_first p b.rest b.place rename.logged (Delete new_id ∷ []) l r leaves fits_left new_id b.stands.number name is_named rename.fits;
     first = λ h. first_kept l (subst SlotsHaveFirst b.stands.held (h.kind, h.name));
   }
 
   same_begin : same_pair (begin_of wo (q ∷ [])) can.at ≡ true
   same_begin = same t.disk t.pairs can.path can.at can.ready.accepted can.leads can.first old_pair q can.stands.rest can.stands.place can.begins
 
-  filled : flag false (wo.before ++ wo.left) ≡ true → 1 < length q.content.slots
-  filled hard = go rename.stays
+  led_first : old_pair ≡ can.first → flag false (wo.before ++ wo.left) ≡ false
+  led_first e =
+      let none_before = alone wo.chain wo.before wo.left (wo.right ++ wo.after) q can.at can.first (subst (λ z. IsDistinct nat_eq (blocks_of z)) there_old can.ready.accepted.thread.distinct) same_begin
+      (subst (λ z. BeginsAt z can.at can.first) there_old can.begins) (sym e ∙ old_number) in
+      ap (λ z. flag false (wo.before ++ z)) none_before ∙ ap (flag false) (append-nil wo.before) ∙ flag_ends wo.before setting.old_site.ends
+
+  stays : goes ≡ false → flag false (wo.before ++ wo.left) ≡ true → 1 < length q.content.slots
+  stays remains hard = go (stays_there t old_pair old_id first can rename.begins_old remains)
     where
       go : (old_pair ≡ can.first) ⊎ (1 < length (pair_in t old_pair).content.slots) → 1 < length q.content.slots
-      go (inl e) =
-          let none_before = alone wo.chain wo.before wo.left (wo.right ++ wo.after) q can.at can.first (subst (λ z. IsDistinct nat_eq (blocks_of z)) there_old can.ready.accepted.thread.distinct) same_begin
-          (subst (λ z. BeginsAt z can.at can.first) there_old can.begins) (sym e ∙ old_number) in
-          let soft = ap (λ z. flag false (wo.before ++ z)) none_before ∙ ap (flag false) (append-nil wo.before) ∙ flag_ends wo.before setting.old_site.ends in
-          absurd (let z = sym hard ∙ soft in cc)
+      go (inl e) = absurd (let z = sym hard ∙ led_first e in cc)
       go (inr many) = subst (λ (z : Pair). 1 < length z.content.slots) (here t can.ready can.first old_pair q can.stands.rest can.stands.place) many
+
+  goes_alone : goes ≡ true → (flag false (wo.before ++ wo.left) ≡ true) × (length q.content.slots ≡ 1)
+  goes_alone whole =
+      let k = stands_whole t old_pair old_id first can rename.begins_old whole in
+      (flag_whole t old_pair old_id first can rename.begins_old whole, ap length k.held)
 
   abbrev from : Path
   from = can.path ++ can.name ∷ []
@@ -190,17 +242,17 @@ module _ (t : Kept) (old_pair old_id new_pair new_id : ℕ) (name : Name) (renam
   abbrev to : Path
   to = rename.path ++ name ∷ []
 
-  follows : (disk : Disk) (x : Pair) (more : List Pair) → HasTurned t.disk w p (l ++ v ∷ r) (gstate_xor (move_of q.at (length lo)) p.content.move) disk x more
+  follows : (disk : Disk) (x : Pair) (more : List Pair) → HasTurned t.disk w p (l ++ v ∷ r) (gstate_xor (move_of sync q.at (length lo)) p.content.move) disk x more
       → Follows t.disk (thread_at w (p ∷ [])) disk (thread_at w (x ∷ more)) (renamed from to) (walk_by from to)
   follows disk x more turned = subst (λ (n : Name). Follows t.disk (thread_at w (p ∷ [])) disk (thread_at w (x ∷ more)) (renamed (can.path ++ n ∷ []) to) (walk_by (can.path ++ n ∷ []) to)) can.stands.stands.named
-      (set_onto t.disk wo q lo s ro w p l v r disk x more turned can.path can.at (subst (λ z. Leads z can.path can.at) there can.leads) same_begin
+      (set_onto t.disk wo q lo s ro w p l v r sync disk x more turned can.path can.at (subst (λ z. Leads z can.path can.at) there can.leads) same_begin
       rename.path rename.at (subst (λ z. Leads z rename.path rename.at) there rename.leads)
-      (same t.disk t.pairs rename.path rename.at can.ready.accepted rename.leads rename.first new_pair p b.rest b.place rename.begins)
+      (same t.disk t.pairs rename.path rename.at can.ready.accepted rename.leads rename.to_first new_pair p b.rest b.place rename.begins)
       g b.stands.entry setting (ap (λ (n : Name). record s { name = n }) (sym b.stands.named))
       (ap (λ (n : Name). rest_after (can.path ++ n ∷ []) (rename.path ++ g.name ∷ [])) can.stands.stands.named
       ∙ ap (λ (n : Name). rest_after from (rename.path ++ n ∷ [])) b.stands.named ∙ rename.not_beneath) rename.file)
 
-  is_first : IsFirst t old_pair new_pair (replacing_changes t old_pair old_id new_pair new_id name) wo q lo s ro w p l (Some g) v r from to name
+  pub is_first : IsFirst t sync old_pair goes new_pair (onto_changes sync t old_pair old_id new_pair new_id name) wo q lo s ro w p l (Some g) v r from to name
   is_first = record {
     ready = can.ready;
     turn = turn;
@@ -211,40 +263,44 @@ module _ (t : Kept) (old_pair old_id new_pair new_id : ℕ) (name : Name) (renam
     logged = subst (λ (z : Pair). IsLoggedAt t.disk z.at) (here t can.ready can.first old_pair q can.stands.rest can.stands.place) can.logged;
     same_slot = refl;
     follows = follows;
-    filled = filled;
+    stays = stays;
+    alone = goes_alone;
     from_slot = subst (λ z. slot_of_path z from ≡ Some s) there
         (slot_of_stands t.disk t.pairs can.path can.at can.ready.accepted can.leads can.first old_pair old_id can.name (no_move_from t.pairs can.ready.settled) can.stands can.begins);
     to_slot = subst (λ z. slot_of_path z to ≡ Some g) there
-        (slot_of_stands t.disk t.pairs rename.path rename.at can.ready.accepted rename.leads rename.first new_pair new_id name (no_move_from t.pairs can.ready.settled) b rename.begins);
+        (slot_of_stands t.disk t.pairs rename.path rename.at can.ready.accepted rename.leads rename.to_first new_pair new_id name (no_move_from t.pairs can.ready.settled) b rename.begins);
     to_name = last_is rename.path name;
     file = rename.file;
   }
 
-  pub ends_onto : (mid : Kept) → IsPut t new_pair (replacing_changes t old_pair old_id new_pair new_id name) mid → EndsAfter t old_pair old_id new_pair mid
+  pub ends_onto : (mid : Kept) → IsPut t new_pair (onto_changes sync t old_pair old_id new_pair new_id name) mid → EndsAfter t old_pair old_id goes new_pair mid
   ends_onto mid is =
-      let x = first_turned t old_pair new_pair (replacing_changes t old_pair old_id new_pair new_id name) wo q lo s ro w p l (Some g) v r from to name is_first mid is in
+      let x = first_turned t sync old_pair goes new_pair (onto_changes sync t old_pair old_id new_pair new_id name) wo q lo s ro w p l (Some g) v r from to name is_first mid is in
       record {
-        grown = grown t old_pair new_pair (replacing_changes t old_pair old_id new_pair new_id name) wo q lo s ro w p l (Some g) v r from to name is_first mid x;
-        can = subst (λ i. CanEnd mid (place_after old_pair new_pair (length mid.pairs - length t.pairs)) i) can.stands.stands.number
-            (mid_ends t old_pair new_pair (replacing_changes t old_pair old_id new_pair new_id name) wo q lo s ro w p l (Some g) v r from to name is_first mid x);
-        at = same_at t old_pair new_pair (replacing_changes t old_pair old_id new_pair new_id name) wo q lo s ro w p l (Some g) v r from to name is_first mid x;
+        apart = rename.apart;
+        grown = grown t sync old_pair goes new_pair (onto_changes sync t old_pair old_id new_pair new_id name) wo q lo s ro w p l (Some g) v r from to name is_first mid x;
+        can = subst (λ i. CanEnd mid (place_after old_pair new_pair (length mid.pairs - length t.pairs)) i goes) can.stands.stands.number
+            (mid_ends t sync old_pair goes new_pair (onto_changes sync t old_pair old_id new_pair new_id name) wo q lo s ro w p l (Some g) v r from to name is_first mid x);
+        at = same_at t sync old_pair goes new_pair (onto_changes sync t old_pair old_id new_pair new_id name) wo q lo s ro w p l (Some g) v r from to name is_first mid x;
       }
 
-  pub shows_onto : (mid : Kept) → IsPut t new_pair (replacing_changes t old_pair old_id new_pair new_id name) mid → tree_in mid.disk mid.pairs ≡ with_moved t can.path can.name rename.path name
-  shows_onto mid is = mid_shows t old_pair new_pair (replacing_changes t old_pair old_id new_pair new_id name) wo q lo s ro w p l (Some g) v r from to name is_first mid
-      (first_turned t old_pair new_pair (replacing_changes t old_pair old_id new_pair new_id name) wo q lo s ro w p l (Some g) v r from to name is_first mid is)
+  pub shows_onto : (mid : Kept) → IsPut t new_pair (onto_changes sync t old_pair old_id new_pair new_id name) mid → tree_in mid.disk mid.pairs ≡ with_moved t can.path can.name rename.path name
+  shows_onto mid is = mid_shows t sync old_pair goes new_pair (onto_changes sync t old_pair old_id new_pair new_id name) wo q lo s ro w p l (Some g) v r from to name is_first mid
+      (first_turned t sync old_pair goes new_pair (onto_changes sync t old_pair old_id new_pair new_id name) wo q lo s ro w p l (Some g) v r from to name is_first mid is)
 
-  pub survives_onto : (calls : List Event) → StopsLeave t.history calls (IsLeftByPut t new_pair (replacing_changes t old_pair old_id new_pair new_id name))
+  pub survives_onto : (calls : List Event) → StopsLeave t.history calls (IsLeftByPut t new_pair (onto_changes sync t old_pair old_id new_pair new_id name))
       → Survives t.disk t.history calls (tree_in t.disk t.pairs) (with_moved t can.path can.name rename.path name)
-  survives_onto calls stops = first_survives t old_pair new_pair (replacing_changes t old_pair old_id new_pair new_id name) wo q lo s ro w p l (Some g) v r from to name is_first calls stops
+  survives_onto calls stops = first_survives t sync old_pair goes new_pair (onto_changes sync t old_pair old_id new_pair new_id name) wo q lo s ro w p l (Some g) v r from to name is_first calls stops
 
-  pub replaced_across : (new : Kept) → IsPutAndEnded t old_pair old_id new_pair (replacing_changes t old_pair old_id new_pair new_id name) new → IsReplacedAcross t new can.path can.name rename.path name g.struct
-  replaced_across new is =
-      let x = first_turned t old_pair new_pair (replacing_changes t old_pair old_id new_pair new_id name) wo q lo s ro w p l (Some g) v r from to name is_first is.mid is.put in
-      let e = subst (λ i. HasEnded is.mid (place_after old_pair new_pair (length is.mid.pairs - length t.pairs)) i new) (sym can.stands.stands.number) is.ended in
+  pub replaced_across : sync ≡ false → (new : Kept) → IsPutAndEnded t old_pair old_id goes new_pair (onto_changes sync t old_pair old_id new_pair new_id name) new → IsReplacedAcross t new can.path can.name rename.path name g.struct
+  replaced_across plain new is =
+      let x = first_turned t sync old_pair goes new_pair (onto_changes sync t old_pair old_id new_pair new_id name) wo q lo s ro w p l (Some g) v r from to name is_first is.mid is.put in
+      let e = subst (λ i. HasEnded is.mid (place_after old_pair new_pair (length is.mid.pairs - length t.pairs)) i goes new) (sym can.stands.stands.number) is.ended in
       record {
-        now = subst (λ (z : List ℕ). HasBecomeBut t new (with_moved t can.path can.name rename.path name) z []) (append-nil (file_blocks t.disk g.struct))
-            (rename_becomes t old_pair new_pair (replacing_changes t old_pair old_id new_pair new_id name) wo q lo s ro w p l (Some g) v r from to name is_first is.mid x new e);
+        now = subst (λ (z : List ℕ). HasShrunk t new (with_moved t can.path can.name rename.path name) z) (append-nil (file_blocks t.disk g.struct))
+            (rename_becomes t sync old_pair goes new_pair (onto_changes sync t old_pair old_id new_pair new_id name) wo q lo s ro w p l (Some g) v r from to name is_first is.mid x new e plain);
+        once = subst (λ (z : List ℕ). (b : ℕ) → count b (used_blocks new.disk new.pairs) + count b z ≤ 1) (append-nil (file_blocks t.disk g.struct))
+            (rename_once t sync old_pair goes new_pair (onto_changes sync t old_pair old_id new_pair new_id name) wo q lo s ro w p l (Some g) v r from to name is_first is.mid x new e);
         completed = λ z given to_given tree given_is to_is.
-            rename_completed t old_pair new_pair (replacing_changes t old_pair old_id new_pair new_id name) wo q lo s ro w p l (Some g) v r from to name is_first is.mid x new e z given to_given tree given_is to_is;
+            rename_completed t sync old_pair goes new_pair (onto_changes sync t old_pair old_id new_pair new_id name) wo q lo s ro w p l (Some g) v r from to name is_first is.mid x new e plain z given to_given tree given_is to_is;
       }

@@ -1,5 +1,5 @@
 -- The first step of a rename across pairs: the slot comes under its new name, and a set move hides the old one.
-use Rattle.std.proofs.Common.{ℕ, ◌≡◌, ◌≢◌, ◌+◌, inl, inr, true, false, cond, nat_eq, List, [], ◌∷◌, ◌++◌, length, None, refl, sym, ap, ap₂, subst, ◌∙◌, arith, flat_map, append_assoc, append-nil, remove, slice_get}
+use Rattle.std.proofs.Common.{ℕ, ◌≡◌, ◌≢◌, ◌+◌, inl, inr, Bool, true, false, cond, nat_eq, List, [], ◌∷◌, ◌++◌, length, None, refl, sym, ap, ap₂, subst, ◌∙◌, arith, flat_map, append_assoc, append-nil, remove, slice_get}
 use Rattle.std.specs.Prelude.{All}
 use Rattle.std.specs.List.{IsDistinct}
 use Rattle.std.proofs.lemmas.List.Elements.{recursion_from_All}
@@ -115,7 +115,7 @@ module _ (disk : Disk) (wo : Site) (o : Pair) (lo : List Slot) (u : Slot) (ro : 
   blocks_two : (xs ys : List Pair) (b : ℕ) → count b (blocks_of (xs ++ ys)) ≡ count b (blocks_of xs) + count b (blocks_of ys)
   blocks_two xs ys b = ap (count b) (flat_map-append (λ (s : Pair). s.at.0 ∷ s.at.1 ∷ []) xs ys) ∙ count_append b (blocks_of xs) (blocks_of ys)
 
-  module _ (new : Disk) (q : Pair) (more : List Pair) (x : HasTurned disk w p (l ++ v ∷ r) (gstate_xor (move_of o.at (length lo)) p.content.move) new q more) where
+  module _ (sync : Bool) (new : Disk) (q : Pair) (more : List Pair) (x : HasTurned disk w p (l ++ v ∷ r) (gstate_xor (move_of sync o.at (length lo)) p.content.move) new q more) where
     abbrev qs : List Pair
     qs = thread_at w (q ∷ more)
 
@@ -138,10 +138,10 @@ module _ (disk : Disk) (wo : Site) (o : Pair) (lo : List Slot) (u : Slot) (ro : 
 
     -- ---- the global state
 
-    pub state_is : gstate_of qs ≡ move_of o.at (length lo)
-    state_is = site_gstate_moved (move_of o.at (length lo)) w (p ∷ []) (q ∷ more)
-        (x.share ∙ ap (gstate_xor (move_of o.at (length lo))) (sym (gstate_cons p [] ∙ gstate_right p.content.move)))
-        ∙ ap (gstate_xor (move_of o.at (length lo))) k.settled ∙ gstate_right (move_of o.at (length lo))
+    pub state_is : gstate_of qs ≡ move_of sync o.at (length lo)
+    state_is = site_gstate_moved (move_of sync o.at (length lo)) w (p ∷ []) (q ∷ more)
+        (x.share ∙ ap (gstate_xor (move_of sync o.at (length lo))) (sym (gstate_cons p [] ∙ gstate_right p.content.move)))
+        ∙ ap (gstate_xor (move_of sync o.at (length lo))) k.settled ∙ gstate_right (move_of sync o.at (length lo))
 
     among : Among (λ s. (same_pair o.at s.at ≡ true) × IsOtherSlot (slice_get s.content.slots (length lo))) qs
     among = among_right N w.chain (dirs_at w (q ∷ more)) (go turns)
@@ -226,25 +226,25 @@ module _ (disk : Disk) (wo : Site) (o : Pair) (lo : List Slot) (u : Slot) (ro : 
     same_files : SameFiles disk new (all_slots ps)
     same_files = recursion_from_All (λ (s : Slot). HasSameFile disk new s.struct) (all_slots ps) x.device.files
 
-    hides : unmoved (move_of o.at (length lo)) o ≡ lo ++ ro
+    hides : unmoved (move_of sync o.at (length lo)) o ≡ lo ++ ro
     hides = ap (λ b. cond b (remove o.content.slots (length lo)) o.content.slots) (pair_itself o.at) ∙ ap (λ s. remove s (length lo)) k.held ∙ remove_here lo ro u
 
-    hidden_none : (ss : List Pair) → Each Far ss → flat_map (unmoved (move_of o.at (length lo))) ss ≡ slots_in ss
+    hidden_none : (ss : List Pair) → Each Far ss → flat_map (unmoved (move_of sync o.at (length lo))) ss ≡ slots_in ss
     hidden_none [] h = refl
-    hidden_none (s ∷ ss) h = ap₂ (λ x y. x ++ y) (unmoved_elsewhere (move_of o.at (length lo)) s h.0) (hidden_none ss h.1)
+    hidden_none (s ∷ ss) h = ap₂ (λ x y. x ++ y) (unmoved_elsewhere (move_of sync o.at (length lo)) s h.0) (hidden_none ss h.1)
 
     count_slots : (b : ℕ) (xs ys : List Pair) → count b (files_of new (slots_in (xs ++ ys))) ≡ count b (files_of new (slots_in xs)) + count b (files_of new (slots_in ys))
     count_slots b xs ys = ap (λ z. count b (files_of new z)) (flat_map-append (λ (s : Pair). s.content.slots) xs ys) ∙ count_files b new (slots_in xs) (slots_in ys)
 
     count_hidden : (b : ℕ) (xs ys : List Pair)
-        → count b (files_of new (flat_map (unmoved (move_of o.at (length lo))) (xs ++ ys))) ≡ count b (files_of new (flat_map (unmoved (move_of o.at (length lo))) xs)) + count b (files_of new (flat_map (unmoved (move_of o.at (length lo))) ys))
-    count_hidden b xs ys = ap (λ z. count b (files_of new z)) (flat_map-append (unmoved (move_of o.at (length lo))) xs ys)
-        ∙ count_files b new (flat_map (unmoved (move_of o.at (length lo))) xs) (flat_map (unmoved (move_of o.at (length lo))) ys)
+        → count b (files_of new (flat_map (unmoved (move_of sync o.at (length lo))) (xs ++ ys))) ≡ count b (files_of new (flat_map (unmoved (move_of sync o.at (length lo))) xs)) + count b (files_of new (flat_map (unmoved (move_of sync o.at (length lo))) ys))
+    count_hidden b xs ys = ap (λ z. count b (files_of new z)) (flat_map-append (unmoved (move_of sync o.at (length lo))) xs ys)
+        ∙ count_files b new (flat_map (unmoved (move_of sync o.at (length lo))) xs) (flat_map (unmoved (move_of sync o.at (length lo))) ys)
 
     pub set_count : (b : ℕ) → count b (used_blocks new qs) + count b (files_of disk olds) ≡ count b (blocks_of more) + count b (used_blocks disk ps)
     set_count b =
-        let D : Gstate = move_of o.at (length lo) in
-        let hid : List Pair → ℕ = λ z. count b (files_of new (flat_map (unmoved (move_of o.at (length lo))) z)) in
+        let D : Gstate = move_of sync o.at (length lo) in
+        let hid : List Pair → ℕ = λ z. count b (files_of new (flat_map (unmoved (move_of sync o.at (length lo))) z)) in
         let all : List Pair → ℕ = λ z. count b (files_of new (slots_in z)) in
         let a1 = count_append b (blocks_of qs) (files_of new (all_slots qs)) in
         let a2 = count_append b (blocks_of ps) (files_of disk (all_slots ps)) in
@@ -274,10 +274,10 @@ module _ (disk : Disk) (wo : Site) (o : Pair) (lo : List Slot) (u : Slot) (ro : 
         let p2 = count_files b new l (olds ++ r) in
         let p3 = count_files b new olds r in
         -- the same pairs, around the old slot
-        let t1 = ap (λ z. count b (files_of new (flat_map (unmoved (move_of o.at (length lo))) z))) dirs_same in
+        let t1 = ap (λ z. count b (files_of new (flat_map (unmoved (move_of sync o.at (length lo))) z))) dirs_same in
         let t2 = count_hidden b front_o (o ∷ back_o) in
         let t3 = count_hidden b (o ∷ []) back_o in
-        let o1 = ap (λ z. count b (files_of new z)) (append-nil (unmoved (move_of o.at (length lo)) o) ∙ hides) in
+        let o1 = ap (λ z. count b (files_of new z)) (append-nil (unmoved (move_of sync o.at (length lo)) o) ∙ hides) in
         let o2 = count_files b new lo ro in
         -- without the move
         let g1 = count_slots b w.chain (dirs_at w (p ∷ [])) in
@@ -296,21 +296,21 @@ module _ (disk : Disk) (wo : Site) (o : Pair) (lo : List Slot) (u : Slot) (ro : 
 -- ---- to a new name, and onto an entry
 
 module _ (disk : Disk) (wo : Site) (o : Pair) (lo : List Slot) (u : Slot) (ro : List Slot) (w : Site) (p : Pair) (l : List Slot) (v : Slot) (r : List Slot)
-    (new : Disk) (q : Pair) (more : List Pair) (x : HasTurned disk w p (l ++ v ∷ r) (gstate_xor (move_of o.at (length lo)) p.content.move) new q more)
+    (sync : Bool) (new : Disk) (q : Pair) (more : List Pair) (x : HasTurned disk w p (l ++ v ∷ r) (gstate_xor (move_of sync o.at (length lo)) p.content.move) new q more)
     (P : Path) (b : ℕ × ℕ) (leads : Leads (thread_at w (p ∷ [])) P b) (same_old : same_pair (begin_of wo (o ∷ [])) b ≡ true)
     (Q : Path) (a : ℕ × ℕ) (arrives : Leads (thread_at w (p ∷ [])) Q a) (same : same_pair (begin_of w (p ∷ [])) a ≡ true) where
   pub set_new : IsSetting disk wo o lo u ro w p l [] v r → v ≡ record u { name = v.name } → rest_after (P ++ u.name ∷ []) (Q ++ v.name ∷ []) ≡ None
       → IsPlace (entries_in (thread_at w (p ∷ [])) a) (place_at w l) v.name
       → Follows disk (thread_at w (p ∷ [])) new (thread_at w (q ∷ more)) (renamed (P ++ u.name ∷ []) (Q ++ v.name ∷ [])) (walk_by (P ++ u.name ∷ []) (Q ++ v.name ∷ []))
   set_new k same_slot off place =
-      let step = set_step disk wo o lo u ro w p l [] v r k new q more x in
+      let step = set_step disk wo o lo u ro w p l [] v r k sync new q more x in
       move_sets disk new wo o lo u ro w p [] q more (blocks_of more) l v r step P b leads same_old Q a arrives same same_slot off
       (hidden_place disk new wo o lo u ro w p q more (blocks_of more) l v r step P b leads same_old Q a arrives same v.name place)
       (λ e. (recovered_from disk (thread_at w (p ∷ [])) k.accepted k.settled).reached)
 
   pub set_onto : (target : Slot) → is_superblock target ≡ false → IsSetting disk wo o lo u ro w p l (target ∷ []) v r → v ≡ record u { name = target.name }
-      → rest_after (P ++ u.name ∷ []) (Q ++ target.name ∷ []) ≡ None → branch_of target.struct ≡ None
+      → rest_after (P ++ u.name ∷ []) (Q ++ target.name ∷ []) ≡ None → (sync ≡ false → branch_of target.struct ≡ None)
       → Follows disk (thread_at w (p ∷ [])) new (thread_at w (q ∷ more)) (renamed (P ++ u.name ∷ []) (Q ++ v.name ∷ [])) (walk_by (P ++ u.name ∷ []) (Q ++ v.name ∷ []))
   set_onto target entry k same_slot off file =
-      move_sets_onto disk new wo o lo u ro w p [] q more (blocks_of more) l target v r (set_step disk wo o lo u ro w p l (target ∷ []) v r k new q more x) entry P b leads same_old Q a arrives same same_slot off
-      (λ e. (file, (recovered_from disk (thread_at w (p ∷ [])) k.accepted k.settled).reached))
+      move_sets_onto disk new wo o lo u ro w p [] q more (blocks_of more) l target v r (set_step disk wo o lo u ro w p l (target ∷ []) v r k sync new q more x) entry P b leads same_old Q a arrives same same_slot off
+      (λ e. (file (ap (λ (g : Gstate). g.sync) (sym (state_is disk wo o lo u ro w p l (target ∷ []) v r k sync new q more x)) ∙ e), (recovered_from disk (thread_at w (p ∷ [])) k.accepted k.settled).reached))

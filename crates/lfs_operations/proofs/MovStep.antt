@@ -1,11 +1,12 @@
 -- The first step of a rename across pairs, as a step of the thread, and what the second one makes of it.
-use Rattle.std.proofs.Common.{ℕ, ◌≡◌, ◌≢◌, ◌+◌, ◌-◌, ◌<◌, ◌≤◌, ◌⊎◌, inl, inr, Bool, true, false, cond, take, List, [], ◌∷◌, ◌++◌, length, Option, Some, refl, sym, ap, ap₂, subst, ◌∙◌, arith, append_assoc, length-append, get_or, set, remove, slice_get}
-use Rattle.std.proofs.lemmas.Bool.{le-ltb, lt-ltb}
+use Rattle.std.proofs.Common.{ℕ, ◌≡◌, ◌≢◌, ◌+◌, ◌-◌, ◌<◌, ◌≤◌, ◌⊎◌, inl, inr, Bool, true, false, cond, take, List, [], ◌∷◌, ◌++◌, length, Option, Some, refl, sym, ap, ap₂, subst, ◌∙◌, arith, append_assoc, length-append, get_or, set, remove}
+use Rattle.std.proofs.lemmas.Bool.{cases_lt, le-ltb, lt-ltb}
 use Rattle.lfs_model.specs.Blocks.{Blocks}
-use Rattle.lfs_model.specs.BlockSets.{AreUsed, IsInFlight}
+use Rattle.lfs_model.specs.BlockSets.{AreUsed, IsFree}
+use Rattle.lfs_model.specs.BlockSets.BlockState.{Free, InFlight}
 use Rattle.lfs_model.specs.Changes.{Change}
 use Rattle.lfs_model.specs.Content.{content_after_all, holder, no_content, raw_at}
-use Rattle.lfs_model.specs.Disk.{Disk, block_at}
+use Rattle.lfs_model.specs.Disk.{block_count, Disk, block_at}
 use Rattle.lfs_model.specs.History.{Event}
 use Rattle.lfs_model.specs.Log.{log_entries}
 use Rattle.std.specs.Option.{option_and_then}
@@ -13,37 +14,42 @@ use Rattle.lfs_model.specs.Names.{Name}
 use Rattle.lfs_model.specs.PowerLoss.{IsLeft as IsLeftOf, Survives, with_blocks}
 use Rattle.lfs_model.specs.Slots.{Slot, Gstate, gstate_xor, no_gstate, same_pair}
 use Rattle.lfs_model.specs.SlotEdits.{slot_of_path}
-use Rattle.lfs_model.specs.Thread.{Pair, blocks_of, gstate_of, superblocks_before}
+use Rattle.lfs_model.specs.Thread.{Pair, blocks_of, gstate_of, is_hard, superblocks_before}
 use Rattle.lfs_model.specs.Tree.{Path, Tree}
 use Rattle.lfs_model.specs.Apply.{last_name, renamed}
 use Rattle.lfs_model.specs.Operations as ops
 use Rattle.lfs_model.specs.Session.{Session}
 use Rattle.lfs_model.specs.Steps.{as_path}
-use Rattle.lfs_model.specs.View.{IsAccepted, IsWritable, all_slots, file_blocks, tree_in, used_blocks}
+use Rattle.lfs_model.specs.View.{directories_in, IsAccepted, IsWritable, all_slots, file_blocks, tree_in, used_blocks}
 use Rattle.std.specs.List.{flat_map}
+use Rattle.lfs_model.proofs.Alike.{AreAlike}
 use Rattle.lfs_model.proofs.Changes.{Follows, rearranged_chain}
 use Rattle.lfs_model.proofs.Committed.{IsCompleted}
 use Rattle.lfs_model.proofs.Counts.{count, count_append, count_here, once_from_distinct}
 use Rattle.lfs_model.proofs.Histories.{LeavesOnly-weaker}
 use Rattle.lfs_model.proofs.Moves.{remove_here}
-use Rattle.lfs_model.proofs.MoveSets.{set_rearranged}
+use Rattle.lfs_model.proofs.MoveSets.{firsts, set_rearranged}
 use Rattle.lfs_model.proofs.Pairs.{pair_itself}
 use Rattle.lfs_model.proofs.RenamedAcross.{IsNoDirectory, target_slots}
-use Rattle.lfs_model.proofs.Sites.{Site, dirs_at, thread_at}
+use Rattle.lfs_model.proofs.Sites.{Among, Site, among_left, among_parts, among_right, dirs_at, thread_at}
 use Rattle.lfs_model.proofs.Splices.{files_of}
-use Rattle.lfs_model.proofs.StepsTaken.{IsTaken}
+use Rattle.lfs_model.proofs.StepsTaken.{IsTaken, taken_then}
 use Rattle.lfs_model.proofs.Superblocks.{IsChain, pairs_behind}
-use Rattle.lfs_model.proofs.TwoPlaces.{two}
+use Rattle.lfs_model.proofs.TwoPlaces.{OldStays, from_old, two}
 use Rattle.lfs_model.proofs.Writable.{flag}
-use Rattle.lfs_thread.specs.Device.{StopsLeave}
+use Rattle.lfs_thread.specs.Device.{StopsLeave, two_of}
 use Rattle.lfs_thread.specs.Kept.{Kept}
-use Rattle.lfs_thread.specs.Steps.{no_pair, pair_in}
+use Rattle.lfs_thread.specs.Steps.{HasShape, no_pair, pair_in, without_pair}
 use Rattle.lfs_operations.specs.Changing.{IsLeftByPut, IsPut}
-use Rattle.lfs_operations.specs.Moving.{CanEnd, HasEnded, content_without, is_led, move_of, place_after, sync_in}
-use Rattle.lfs_operations.specs.Ready.{HasBecomeBut, IsLoggedAt, IsReady}
+use Rattle.lfs_operations.specs.Dropping.{HasShrunk, SameInFlight}
+use Rattle.lfs_operations.specs.Moving.{CanEnd, HasEnded, blocks_ended, content_without, is_led, map_ended, move_of, pairs_ended, place_after, sync_in}
+use Rattle.lfs_operations.specs.Ready.{IsLoggedAt, IsReady}
+use Rattle.lfs_operations.proofs.Dropped.{flying_same, length_fewer, used_fewer}
 use Rattle.lfs_operations.proofs.MovAcross.{Arranged, arrangement, completed}
 use Rattle.lfs_operations.proofs.MovEnding.{writable_same}
+use Rattle.lfs_operations.proofs.MovFirsts.{set_firsts}
 use Rattle.lfs_operations.proofs.MovSet.{HasTurned, IsSetting, set_count, set_step, state_is, taken_by, walk_by}
+use Rattle.lfs_operations.proofs.Owning.{used_same}
 use Rattle.lfs_operations.proofs.MovTurned.{IsTurn, Stays, TurnedOn, TurnedTo, left_put, mapped, put_turned}
 use Rattle.lfs_operations.proofs.Placing.{blocks_append, nothing_came}
 
@@ -61,6 +67,21 @@ set_at : (xs : List Pair) (p : Pair) (zs : List Pair) (q : Pair) → set (xs ++ 
 set_at [] p zs q = refl
 set_at (x ∷ xs) p zs q = ap (λ z. x ∷ z) (set_at xs p zs q)
 
+remove_at : (xs : List Pair) (p : Pair) (zs : List Pair) → remove (xs ++ p ∷ zs) (length xs) ≡ xs ++ zs
+remove_at [] p zs = refl
+remove_at (x ∷ xs) p zs = ap (λ z. x ∷ z) (remove_at xs p zs)
+
+only_left : (l r : List Slot) (u : Slot) → length (l ++ u ∷ r) ≡ 1 → l ++ r ≡ []
+only_left [] [] u e = refl
+only_left [] (s ∷ r) u e = absurd (omega arith)
+only_left (s ∷ l) r u e = absurd (let k = length-append l (u ∷ r) in omega arith)
+
+blocks_alike : (xs ys : List Pair) → AreAlike xs ys → blocks_of ys ≡ blocks_of xs
+blocks_alike [] [] h = refl
+blocks_alike [] (y ∷ ys) h = absurd h
+blocks_alike (x ∷ xs) [] h = absurd h
+blocks_alike (x ∷ xs) (y ∷ ys) h = ap₂ (λ (at : ℕ × ℕ) (z : List ℕ). at.0 ∷ at.1 ∷ z) h.0 (blocks_alike xs ys h.2)
+
 led_at : (chain pre back : List Pair) (i : ℕ) → IsChain chain (pre ++ back) → i ≡ length chain + length pre → is_led (chain ++ (pre ++ back)) i ≡ flag false pre
 led_at chain pre back i is_chain number =
     ap₂ (λ n z. flag false (take (i - n) z)) is_chain (pairs_behind chain (pre ++ back) is_chain)
@@ -69,26 +90,27 @@ led_at chain pre back i is_chain number =
 -- ---- what is known before
 
 -- The changes put the slot v into the pair p at the site w, and set a move that hides u in the pair o at the site wo.
-pub record IsFirst (t : Kept) (old_pair new_pair : ℕ) (changes : List Change) (wo : Site) (o : Pair) (lo : List Slot) (u : Slot) (ro : List Slot) (w : Site) (p : Pair) (l : List Slot) (target : Option Slot) (v : Slot) (r : List Slot)
+pub record IsFirst (t : Kept) (sync : Bool) (old_pair : ℕ) (goes : Bool) (new_pair : ℕ) (changes : List Change) (wo : Site) (o : Pair) (lo : List Slot) (u : Slot) (ro : List Slot) (w : Site) (p : Pair) (l : List Slot) (target : Option Slot) (v : Slot) (r : List Slot)
     (old_path new_path : Path) (name : Name) : Type 0 where
   pub ready : IsReady t
-  pub turn : IsTurn t new_pair changes w p (l ++ v ∷ r) (gstate_xor (move_of o.at (length lo)) p.content.move)
+  pub turn : IsTurn t new_pair changes w p (l ++ v ∷ r) (gstate_xor (move_of sync o.at (length lo)) p.content.move)
   pub setting : IsSetting t.disk wo o lo u ro w p l (target_slots target) v r
   pub chain : wo.chain ≡ w.chain
   pub old_place : old_pair ≡ length wo.chain + length (wo.before ++ wo.left)
   pub old_is : (pair_in t old_pair).at ≡ o.at
   pub logged : IsLoggedAt t.disk o.at
   pub same_slot : v ≡ record u { name = name }
-  pub follows : (disk : Disk) (q : Pair) (more : List Pair) → HasTurned t.disk w p (l ++ v ∷ r) (gstate_xor (move_of o.at (length lo)) p.content.move) disk q more
+  pub follows : (disk : Disk) (q : Pair) (more : List Pair) → HasTurned t.disk w p (l ++ v ∷ r) (gstate_xor (move_of sync o.at (length lo)) p.content.move) disk q more
       → Follows t.disk (thread_at w (p ∷ [])) disk (thread_at w (q ∷ more)) (renamed old_path new_path) (walk_by old_path new_path)
-  pub filled : flag false (wo.before ++ wo.left) ≡ true → 1 < length o.content.slots
+  pub stays : goes ≡ false → flag false (wo.before ++ wo.left) ≡ true → 1 < length o.content.slots
+  pub alone : goes ≡ true → (flag false (wo.before ++ wo.left) ≡ true) × (length o.content.slots ≡ 1)
   pub from_slot : slot_of_path (thread_at w (p ∷ [])) old_path ≡ Some u
   pub to_slot : slot_of_path (thread_at w (p ∷ [])) new_path ≡ target
   pub to_name : last_name new_path ≡ name
-  pub file : IsNoDirectory target
+  pub file : sync ≡ false → IsNoDirectory target
 
-module _ (t : Kept) (old_pair new_pair : ℕ) (changes : List Change) (wo : Site) (o : Pair) (lo : List Slot) (u : Slot) (ro : List Slot) (w : Site) (p : Pair) (l : List Slot) (target : Option Slot) (v : Slot) (r : List Slot)
-    (old_path new_path : Path) (name : Name) (k : IsFirst t old_pair new_pair changes wo o lo u ro w p l target v r old_path new_path name) where
+module _ (t : Kept) (sync : Bool) (old_pair : ℕ) (goes : Bool) (new_pair : ℕ) (changes : List Change) (wo : Site) (o : Pair) (lo : List Slot) (u : Slot) (ro : List Slot) (w : Site) (p : Pair) (l : List Slot) (target : Option Slot) (v : Slot) (r : List Slot)
+    (old_path new_path : Path) (name : Name) (k : IsFirst t sync old_pair goes new_pair changes wo o lo u ro w p l target v r old_path new_path name) where
   abbrev ps : List Pair
   ps = thread_at w (p ∷ [])
 
@@ -96,14 +118,14 @@ module _ (t : Kept) (old_pair new_pair : ℕ) (changes : List Change) (wo : Site
   slots = l ++ v ∷ r
 
   abbrev move : Gstate
-  move = gstate_xor (move_of o.at (length lo)) p.content.move
+  move = gstate_xor (move_of sync o.at (length lo)) p.content.move
 
   abbrev pub after : Tree
   after = renamed old_path new_path (tree_in t.disk t.pairs)
 
   first_taken : (disk : Disk) (q : Pair) (more : List Pair) → HasTurned t.disk w p slots move disk q more
       → IsTaken t.disk (thread_at w (p ∷ [])) disk (thread_at w (q ∷ more)) (renamed old_path new_path) (walk_by old_path new_path)
-  first_taken disk q more x = taken_by t.disk wo o lo u ro w p l (target_slots target) v r k.setting disk q more x (renamed old_path new_path) (walk_by old_path new_path) (k.follows disk q more x)
+  first_taken disk q more x = taken_by t.disk wo o lo u ro w p l (target_slots target) v r k.setting sync disk q more x (renamed old_path new_path) (walk_by old_path new_path) (k.follows disk q more x)
 
   -- ---- at a stop in the first step
 
@@ -149,7 +171,7 @@ module _ (t : Kept) (old_pair new_pair : ℕ) (changes : List Change) (wo : Site
     qs = thread_at w (x.q ∷ x.more)
 
     abbrev pub arr : Arranged t.disk wo o w p x.q x.more
-    arr = arrangement t.disk mid.disk mid.disk wo o lo u ro w p l target v r k.setting x.q x.more x.turned
+    arr = arrangement t.disk mid.disk mid.disk wo o lo u ro w p l target v r k.setting x.q x.more sync x.turned
 
     taken : IsTaken t.disk (thread_at w (p ∷ [])) mid.disk (thread_at w (x.q ∷ x.more)) (renamed old_path new_path) (walk_by old_path new_path)
     taken = first_taken mid.disk x.q x.more x.turned
@@ -157,8 +179,8 @@ module _ (t : Kept) (old_pair new_pair : ℕ) (changes : List Change) (wo : Site
     pub mid_shows : tree_in mid.disk mid.pairs ≡ renamed old_path new_path (tree_in t.disk t.pairs)
     mid_shows = ap (tree_in mid.disk) x.pairs ∙ taken.follows.shows ∙ ap (λ z. renamed old_path new_path (tree_in t.disk z)) (sym k.turn.there)
 
-    mid_state : gstate_of mid.pairs ≡ move_of o.at (length lo)
-    mid_state = ap gstate_of x.pairs ∙ state_is t.disk wo o lo u ro w p l (target_slots target) v r k.setting mid.disk x.q x.more x.turned
+    mid_state : gstate_of mid.pairs ≡ move_of sync o.at (length lo)
+    mid_state = ap gstate_of x.pairs ∙ state_is t.disk wo o lo u ro w p l (target_slots target) v r k.setting sync mid.disk x.q x.more x.turned
 
     mid_is : mid.pairs ≡ w.chain ++ (arr.pre ++ o ∷ arr.post)
     mid_is = x.pairs ∙ arr.mid_is
@@ -166,7 +188,7 @@ module _ (t : Kept) (old_pair new_pair : ℕ) (changes : List Change) (wo : Site
     mid_chain : IsChain w.chain (arr.pre ++ o ∷ arr.post)
     mid_chain = ap superblocks_before (sym arr.mid_is)
         ∙ rearranged_chain t.disk mid.disk w.chain (w.before ++ w.left) p [] x.q x.more (w.right ++ w.after) (blocks_of x.more ++ []) k.setting.site.chain k.setting.accepted
-        (set_rearranged t.disk mid.disk wo o lo u ro w p [] x.q x.more (blocks_of x.more) l (target_slots target) v r (set_step t.disk wo o lo u ro w p l (target_slots target) v r k.setting mid.disk x.q x.more x.turned))
+        (set_rearranged t.disk mid.disk wo o lo u ro w p [] x.q x.more (blocks_of x.more) l (target_slots target) v r (set_step t.disk wo o lo u ro w p l (target_slots target) v r k.setting sync mid.disk x.q x.more x.turned))
 
     -- where the old pair stands
     many : length mid.pairs - length t.pairs ≡ length x.more
@@ -254,7 +276,10 @@ module _ (t : Kept) (old_pair new_pair : ℕ) (changes : List Change) (wo : Site
         (unwritten o.at.0 (let e = count_here o.at.0 (o.at.1 ∷ []) in omega arith))
         (unwritten o.at.1 (let e = count_here o.at.1 [] in let f = count_append o.at.1 (o.at.0 ∷ []) (o.at.1 ∷ []) in omega arith)))
 
-    pub mid_ends : CanEnd mid (place_after old_pair new_pair (length mid.pairs - length t.pairs)) (length lo)
+    led_same : is_led mid.pairs index ≡ flag false (wo.before ++ wo.left)
+    led_same = ap (λ z. is_led z index) mid_is ∙ led_at w.chain arr.pre (o ∷ arr.post) index mid_chain index_is ∙ arr.led
+
+    pub mid_ends : CanEnd mid (place_after old_pair new_pair (length mid.pairs - length t.pairs)) (length lo) goes
     mid_ends = record {
       accepted = subst (IsAccepted mid.disk) (sym x.pairs) taken.follows.accepted;
       writable = subst (IsWritable mid.disk) (sym x.pairs) taken.writable;
@@ -274,7 +299,8 @@ module _ (t : Kept) (old_pair new_pair : ℕ) (changes : List Change) (wo : Site
         entry = k.setting.other;
         named = refl;
       };
-      stays = λ led. subst (λ (z : Pair). 1 < length z.content.slots) (sym here) (k.filled (sym arr.led ∙ sym (led_at w.chain arr.pre (o ∷ arr.post) index mid_chain index_is) ∙ sym (ap (λ z. is_led z index) mid_is) ∙ led));
+      stays = λ stays led. subst (λ (z : Pair). 1 < length z.content.slots) (sym here) (k.stays stays (sym led_same ∙ led));
+      alone = λ goes. (let a = k.alone goes in (led_same ∙ a.0, ap (λ (z : Pair). length z.content.slots) here ∙ a.1));
     }
 
     pub same_at : (pair_in mid (place_after old_pair new_pair (length mid.pairs - length t.pairs))).at ≡ (pair_in t old_pair).at
@@ -282,58 +308,217 @@ module _ (t : Kept) (old_pair new_pair : ℕ) (changes : List Change) (wo : Site
 
     -- ---- after the second step
 
-    module _ (last : Kept) (e : HasEnded mid (place_after old_pair new_pair (length mid.pairs - length t.pairs)) (length lo) last) where
+    module _ (last : Kept) (e : HasEnded mid (place_after old_pair new_pair (length mid.pairs - length t.pairs)) (length lo) goes last) where
       abbrev o2 : Pair
       o2 = record { at = (pair_in mid index).at; content = content_without mid index (length lo) }
-
-      last_is : last.pairs ≡ w.chain ++ (arr.pre ++ o2 ∷ arr.post)
-      last_is = e.pairs ∙ ap₂ (λ (z : List Pair) (i : ℕ). set z i o2) grouped index_at ∙ set_at (w.chain ++ arr.pre) o arr.post o2 ∙ append_assoc w.chain arr.pre (o2 ∷ arr.post)
 
       slots_left : o2.content.slots ≡ lo ++ ro
       slots_left = ap (λ (z : Pair). remove z.content.slots (length lo)) here ∙ ap (λ z. remove z (length lo)) k.setting.held ∙ remove_here lo ro u
 
-      last_state : gstate_of last.pairs ≡ no_gstate
+      pub last_state : gstate_of last.pairs ≡ record no_gstate { sync = sync }
       last_state = e.state ∙ ap sync_in mid_state
 
-      filled : flag false (wo.before ++ wo.left) ≡ true → lo ++ ro ≢ []
-      filled hard none =
-          let m = k.filled hard in
+      settled_last : sync ≡ false → gstate_of last.pairs ≡ no_gstate
+      settled_last plain = last_state ∙ ap (λ b. record no_gstate { sync = b }) plain
+
+      filled : goes ≡ false → flag false (wo.before ++ wo.left) ≡ true → lo ++ ro ≢ []
+      filled stays hard none =
+          let m = k.stays stays hard in
           let a = ap length k.setting.held in
           let b = length-append lo (u ∷ ro) in
           let c = ap length none in
           let d = length-append lo ro in
           absurd (omega arith)
 
+      nothing_left : goes ≡ true → lo ++ ro ≡ []
+      nothing_left goes = only_left lo ro u (sym (ap length k.setting.held) ∙ (k.alone goes).1)
+
+      -- what is left of the old pair
+      pub record IsLeftOver : Type 0 where
+        pub os : List Pair
+        pub stays : OldStays (from_old arr.b arr.front arr.mid p) o (lo ++ ro) os
+        pub alike : AreAlike (w.chain ++ (arr.pre ++ (os ++ arr.post))) last.pairs
+
+      pub left_over : IsLeftOver
+      left_over = go goes refl
+        where
+          go : (b : Bool) → goes ≡ b → IsLeftOver
+          go false is = record {
+            os = o2 ∷ [];
+            stays = (ap (λ (z : Pair). z.at) here, slots_left, (λ from. filled is (sym arr.from ∙ from)));
+            alike = subst (λ z. AreAlike z last.pairs)
+                (ap₂ (λ (z : List Pair) (i : ℕ). set z i o2) grouped index_at ∙ set_at (w.chain ++ arr.pre) o arr.post o2 ∙ append_assoc w.chain arr.pre (o2 ∷ arr.post))
+                (subst (λ b. AreAlike (pairs_ended mid index (length lo) b) last.pairs) is e.alike);
+          }
+          go true is = record {
+            os = [];
+            stays = (arr.from ∙ (k.alone is).0, nothing_left is);
+            alike = subst (λ z. AreAlike z last.pairs)
+                (ap₂ (λ (z : List Pair) (i : ℕ). remove z i) grouped index_at ∙ remove_at (w.chain ++ arr.pre) o arr.post ∙ append_assoc w.chain arr.pre arr.post)
+                (subst (λ b. AreAlike (pairs_ended mid index (length lo) b) last.pairs) is e.alike);
+          }
+
+      -- each block of a pair was one of a pair, or was free
+      pub last_blocks : (b : ℕ) → 1 ≤ count b (blocks_of last.pairs) → (1 ≤ count b (blocks_of t.pairs)) ⊎ IsFree t.map b
+      last_blocks b some = go (cases_lt 0 (count b (blocks_of x.more)))
+        where
+          few : (os : List Pair) → OldStays (from_old arr.b arr.front arr.mid p) o (lo ++ ro) os → count b (blocks_of os) ≤ count b (blocks_of (o ∷ []))
+          few [] h = omega arith
+          few (y ∷ []) h = let e = ap (λ (at : ℕ × ℕ). count b (at.0 ∷ at.1 ∷ [])) h.0 in omega arith
+          few (y ∷ z ∷ os) h = absurd h
+
+          go : (0 < count b (blocks_of x.more)) ⊎ (count b (blocks_of x.more) ≤ 0) → (1 ≤ count b (blocks_of t.pairs)) ⊎ IsFree t.map b
+          go (inl l) = inr (x.fresh b l)
+          go (inr l) = inl (
+              let a1 = ap (count b) (blocks_alike (w.chain ++ (arr.pre ++ (left_over.os ++ arr.post))) last.pairs left_over.alike) in
+              let b1 = blocks_append w.chain (arr.pre ++ (left_over.os ++ arr.post)) b in
+              let b2 = blocks_append arr.pre (left_over.os ++ arr.post) b in
+              let b3 = blocks_append left_over.os arr.post b in
+              let f = few left_over.os left_over.stays in
+              let c0 = ap (λ z. count b (blocks_of z)) arr.mid_is in
+              let c1 = blocks_append w.chain (arr.pre ++ o ∷ arr.post) b in
+              let c2 = blocks_append arr.pre (o ∷ arr.post) b in
+              let c3 = blocks_append (o ∷ []) arr.post b in
+              let d1 = blocks_append w.chain (dirs_at w (x.q ∷ x.more)) b in
+              let d2 = blocks_append (w.before ++ w.left) (x.q ∷ x.more ++ (w.right ++ w.after)) b in
+              let d3 = blocks_append (x.q ∷ []) (x.more ++ (w.right ++ w.after)) b in
+              let d4 = blocks_append x.more (w.right ++ w.after) b in
+              let e1 = blocks_append w.chain (dirs_at w (p ∷ [])) b in
+              let e2 = blocks_append (w.before ++ w.left) (p ∷ [] ++ (w.right ++ w.after)) b in
+              let e3 = blocks_append (p ∷ []) (w.right ++ w.after) b in
+              let at = ap (λ (at : ℕ × ℕ). count b (at.0 ∷ at.1 ∷ [])) x.turned.at in
+              let t0 = ap (λ z. count b (blocks_of z)) k.turn.there in
+              omega arith)
+
       second : IsTaken mid.disk (thread_at w (x.q ∷ x.more)) last.disk last.pairs (λ t. t) (λ d. d)
       second = subst (λ z. IsTaken mid.disk z last.disk last.pairs (λ t. t) (λ d. d)) x.pairs e.taken
 
-      pub rename_completed : (s : Session) (old_bytes new_bytes : List ℕ) → s.tree ≡ tree_in t.disk t.pairs → as_path old_bytes ≡ old_path → as_path new_bytes ≡ new_path
-          → IsCompleted t.disk t.pairs s (ops.Rename old_bytes new_bytes) last.disk last.pairs
-      rename_completed s old_bytes new_bytes tree old_as new_as = subst (λ z. IsCompleted t.disk z s (ops.Rename old_bytes new_bytes) last.disk last.pairs) (sym k.turn.there)
-          (completed t.disk mid.disk last.disk wo o lo u ro w p l target v r k.setting x.q x.more x.turned name k.same_slot old_path new_path (walk_by old_path new_path) taken.follows
-          o2 last.pairs last_is (ap (λ (z : Pair). z.at) here) slots_left second last_state filled k.from_slot k.to_slot k.to_name k.file s old_bytes new_bytes (tree ∙ ap (tree_in t.disk) k.turn.there) old_as new_as)
+      -- both steps
+      pub last_taken : IsTaken t.disk t.pairs last.disk last.pairs (renamed old_path new_path) (walk_by old_path new_path)
+      last_taken = subst (λ z. IsTaken t.disk z last.disk last.pairs (renamed old_path new_path) (walk_by old_path new_path)) (sym k.turn.there)
+          (taken_then t.disk mid.disk last.disk (thread_at w (p ∷ [])) (thread_at w (x.q ∷ x.more)) last.pairs (renamed old_path new_path) (λ t. t) (walk_by old_path new_path) (λ d. d) taken second)
 
-      pub rename_becomes : HasBecomeBut t last (renamed old_path new_path (tree_in t.disk t.pairs)) (files_of t.disk (target_slots target)) []
-      rename_becomes = record {
+      pub last_firsts : firsts (directories_in last.pairs) ≡ firsts (directories_in t.pairs)
+      last_firsts = e.begins ∙ ap (λ z. firsts (directories_in z)) x.pairs
+          ∙ set_firsts t.disk mid.disk wo o lo u ro w p [] x.q x.more (blocks_of x.more) l (target_slots target) v r (set_step t.disk wo o lo u ro w p l (target_slots target) v r k.setting sync mid.disk x.q x.more x.turned)
+          ∙ ap (λ z. firsts (directories_in z)) (sym k.turn.there)
+
+      -- a pair stays that isn't one of the two, has no slots and ends its directory
+      pub last_kept : (z : Pair) → (p ≡ z → ⊥) → z.content.slots ≡ [] → is_hard z.content.tail ≡ false → Among (λ y. y ≡ z) t.pairs → Among (λ y. y ≡ z) last.pairs
+      last_kept z other none soft h = e.kept z none soft (subst (Among (λ y. y ≡ z)) (sym x.pairs)
+          (past (among_parts (λ y. y ≡ z) w.chain ((w.before ++ w.left) ++ (p ∷ (w.right ++ w.after))) (subst (Among (λ y. y ≡ z)) k.turn.there h))))
+        where
+          behind : Among (λ y. y ≡ z) (p ∷ (w.right ++ w.after)) → Among (λ y. y ≡ z) (thread_at w (x.q ∷ x.more))
+          behind (inl is) = absurd (other is)
+          behind (inr h) = among_right (λ y. y ≡ z) w.chain (dirs_at w (x.q ∷ x.more)) (among_right (λ y. y ≡ z) (w.before ++ w.left) (x.q ∷ x.more ++ (w.right ++ w.after)) (among_right (λ y. y ≡ z) (x.q ∷ x.more) (w.right ++ w.after) h))
+
+          within : Among (λ y. y ≡ z) (w.before ++ w.left) ⊎ Among (λ y. y ≡ z) (p ∷ (w.right ++ w.after)) → Among (λ y. y ≡ z) (thread_at w (x.q ∷ x.more))
+          within (inl h) = among_right (λ y. y ≡ z) w.chain (dirs_at w (x.q ∷ x.more)) (among_left (λ y. y ≡ z) (w.before ++ w.left) (x.q ∷ x.more ++ (w.right ++ w.after)) h)
+          within (inr h) = behind h
+
+          past : Among (λ y. y ≡ z) w.chain ⊎ Among (λ y. y ≡ z) ((w.before ++ w.left) ++ (p ∷ (w.right ++ w.after))) → Among (λ y. y ≡ z) (thread_at w (x.q ∷ x.more))
+          past (inl h) = among_left (λ y. y ≡ z) w.chain (dirs_at w (x.q ∷ x.more)) h
+          past (inr h) = within (among_parts (λ y. y ≡ z) (w.before ++ w.left) (p ∷ (w.right ++ w.after)) h)
+
+      pub last_shape : HasShape t.disk last.disk
+      last_shape = record { block_size = e.shape.block_size ∙ x.shape.block_size; page = e.shape.page ∙ x.shape.page; count = e.shape.count ∙ x.shape.count }
+
+      pub rename_completed : sync ≡ false → (s : Session) (old_bytes new_bytes : List ℕ) → s.tree ≡ tree_in t.disk t.pairs → as_path old_bytes ≡ old_path → as_path new_bytes ≡ new_path
+          → IsCompleted t.disk t.pairs s (ops.Rename old_bytes new_bytes) last.disk last.pairs
+      rename_completed plain s old_bytes new_bytes tree old_as new_as = subst (λ z. IsCompleted t.disk z s (ops.Rename old_bytes new_bytes) last.disk last.pairs) (sym k.turn.there)
+          (completed t.disk mid.disk last.disk wo o lo u ro w p l target v r k.setting x.q x.more sync x.turned name k.same_slot old_path new_path (walk_by old_path new_path) taken.follows
+          left_over.os last.pairs left_over.stays left_over.alike second (settled_last plain) k.from_slot k.to_slot k.to_name (k.file plain) s old_bytes new_bytes (tree ∙ ap (tree_in t.disk) k.turn.there) old_as new_as)
+
+      -- ---- the map
+
+      abbrev gone : List ℕ
+      gone = files_of t.disk (target_slots target)
+
+      abbrev kept : List ℕ
+      kept = used_blocks last.disk last.pairs ++ gone
+
+      before_last : (b : ℕ) → count b kept + count b (blocks_ended mid index goes) ≡ count b (blocks_of x.more ++ used_blocks t.disk t.pairs)
+      before_last b =
+          let a = e.blocks b in
+          let c = ap (λ z. count b (used_blocks mid.disk z)) x.pairs in
+          let d = set_count t.disk wo o lo u ro w p l (target_slots target) v r k.setting sync mid.disk x.q x.more x.turned b in
+          let f = ap (λ z. count b (used_blocks t.disk z)) k.turn.there in
+          let g = count_append b (blocks_of x.more) (used_blocks t.disk t.pairs) in
+          let h = count_append b (used_blocks last.disk last.pairs) (files_of t.disk (target_slots target)) in
+          omega arith
+
+      once_before : (b : ℕ) → count b (blocks_of x.more ++ used_blocks t.disk t.pairs) ≤ 1
+      once_before b =
+          let once = once_from_distinct ((blocks_of x.more ++ []) ++ used_blocks t.disk ps) x.turned.free.distinct b in
+          let c = count_append b (blocks_of x.more ++ []) (used_blocks t.disk ps) in
+          let d = count_append b (blocks_of x.more) [] in
+          let f = ap (λ z. count b (used_blocks t.disk z)) k.turn.there in
+          let g = count_append b (blocks_of x.more) (used_blocks t.disk t.pairs) in
+          omega arith
+
+      record IsMapOf : Type 0 where
+        used : AreUsed last.map (used_blocks last.disk last.pairs ++ files_of t.disk (target_slots target))
+        size : length last.map ≡ length mid.map
+        flying : SameInFlight mid.map last.map
+
+      map_is : IsMapOf
+      map_is = go goes refl
+        where
+          were : AreUsed mid.map (blocks_of x.more ++ used_blocks t.disk t.pairs)
+          were = x.used (used_blocks t.disk t.pairs) k.ready.used
+
+          go : (b : Bool) → goes ≡ b → IsMapOf
+          go false is =
+              let same : last.map ≡ mid.map = e.map ∙ ap (map_ended mid index) is in
+              record {
+                used = subst (λ m. AreUsed m kept) (sym same) (used_same mid.map (blocks_of x.more ++ used_blocks t.disk t.pairs) kept
+                    (λ b. let n = before_last b in let g = ap (λ z. count b (blocks_ended mid index z)) is in omega arith) were);
+                size = ap length same;
+                flying = subst (SameInFlight mid.map) (sym same) (λ b. ((λ h. h), (λ h. h)));
+              }
+          go true is =
+              let same : last.map ≡ without_pair mid.map (pair_in mid index).at = e.map ∙ ap (map_ended mid index) is in
+              let less : (b : ℕ) → count b kept + count b (two_of (pair_in mid index).at) ≡ count b (blocks_of x.more ++ used_blocks t.disk t.pairs)
+              = λ b. ap (λ z. count b kept + count b (blocks_ended mid index z)) (sym is) ∙ before_last b in
+              record {
+                used = subst (λ m. AreUsed m kept) (sym same) (used_fewer mid.map (pair_in mid index).at (blocks_of x.more ++ used_blocks t.disk t.pairs) kept were once_before less);
+                size = ap length same ∙ length_fewer mid.map (pair_in mid index).at (blocks_of x.more ++ used_blocks t.disk t.pairs) kept were once_before less;
+                flying = subst (SameInFlight mid.map) (sym same) (flying_same mid.map (pair_in mid index).at (blocks_of x.more ++ used_blocks t.disk t.pairs) kept were once_before less);
+              }
+
+      pub rename_once : (b : ℕ) → count b (used_blocks last.disk last.pairs) + count b (files_of t.disk (target_slots target)) ≤ 1
+      rename_once b =
+          let a = before_last b in
+          let c = once_before b in
+          let h = count_append b (used_blocks last.disk last.pairs) (files_of t.disk (target_slots target)) in
+          omega arith
+
+      pub last_used : AreUsed last.map (used_blocks last.disk last.pairs ++ files_of t.disk (target_slots target))
+      last_used = map_is.used
+
+      pub last_size : length last.map ≡ block_count last.disk
+      last_size = map_is.size ∙ x.size ∙ k.ready.size ∙ sym x.shape.count ∙ sym e.shape.count
+
+      pub last_flying : SameInFlight t.map last.map
+      last_flying b = (
+        (λ h. x.none_comes b ((map_is.flying b).0 h)),
+        (λ h. (map_is.flying b).1 (x.stays b (λ free. absurd (let z : Some InFlight ≡ Some Free = sym h ∙ free in cc)) ∙ h)),
+      )
+
+      pub rename_becomes : sync ≡ false → HasShrunk t last (renamed old_path new_path (tree_in t.disk t.pairs)) (files_of t.disk (target_slots target))
+      rename_becomes plain = record {
         ready = record {
           accepted = e.taken.follows.accepted;
           writable = e.taken.writable;
-          settled = last_state;
+          settled = settled_last plain;
           used = record {
-            owned = blocks_of x.more ++ used_blocks t.disk t.pairs;
-            are = subst (λ m. AreUsed m (blocks_of x.more ++ used_blocks t.disk t.pairs)) (sym e.map) (x.used (used_blocks t.disk t.pairs) k.ready.used);
-            same = λ b.
-                let a = e.blocks b in
-                let c = ap (λ z. count b (used_blocks mid.disk z)) x.pairs in
-                let d = set_count t.disk wo o lo u ro w p l (target_slots target) v r k.setting mid.disk x.q x.more x.turned b in
-                let f = ap (λ z. count b (used_blocks t.disk z)) k.turn.there in
-                let g = count_append b (blocks_of x.more) (used_blocks t.disk t.pairs) in
-                omega arith;
+            owned = used_blocks last.disk last.pairs ++ files_of t.disk (target_slots target);
+            are = last_used;
+            same = λ b. (let h = count_append b (used_blocks last.disk last.pairs) (files_of t.disk (target_slots target)) in omega arith);
           };
-          size = ap length e.map ∙ x.size ∙ k.ready.size ∙ sym x.shape.count ∙ sym e.shape.count;
+          size = last_size;
           large = subst (λ n. 1024 ≤ n) (sym (e.shape.block_size ∙ x.shape.block_size)) k.ready.large;
         };
         shows = e.taken.follows.shows ∙ mid_shows;
-        stays = λ b h. ap (λ m. slice_get m b) e.map ∙ x.stays b h;
-        none_comes = λ b h. x.none_comes b (subst (λ m. IsInFlight m b) e.map h);
+        flying = last_flying;
       }

@@ -6,7 +6,7 @@ use Rattle.std.proofs.lemmas.Option.{same_Some}
 use Rattle.std.proofs.lemmas.List.{take-append-drop}
 use Rattle.std.proofs.lemmas.List.Elements.{All-from_recursion, recursion_from_All}
 use Rattle.lfs_model.specs.Blocks.{Blocks}
-use Rattle.lfs_model.specs.BlockSets.{AreUsed, IsFree, IsInFlight}
+use Rattle.lfs_model.specs.BlockSets.{AreUsed, BlockSets, IsFree, IsInFlight}
 use Rattle.lfs_model.specs.Changes.{Change}
 use Rattle.lfs_model.specs.Content.{content_at, holder_at}
 use Rattle.lfs_model.specs.Disk.{Disk, block_at, block_count, SameGeometry}
@@ -50,6 +50,14 @@ insert_at (x ∷ xs) q zs f =
     let e : suc (length xs) + 1 ≡ suc (length xs + 1) = omega arith in
     ap (λ (n : ℕ). insert (x ∷ (xs ++ q ∷ zs)) n f) e ∙ ap (λ z. x ∷ z) (insert_at xs q zs f)
 
+of_fresh : (sets : BlockSets) (fresh : ℕ × ℕ) → AreTwoFree sets fresh → (b : ℕ) → 1 ≤ count b (fresh.0 ∷ fresh.1 ∷ []) → IsFree sets b
+of_fresh sets fresh two b some = go (nat_eq b fresh.0) (nat_eq b fresh.1) refl refl some
+  where
+    go : (x y : Bool) → nat_eq b fresh.0 ≡ x → nat_eq b fresh.1 ≡ y → 1 ≤ cond x 1 0 + (cond y 1 0 + 0) → IsFree sets b
+    go true y e f n = subst (IsFree sets) (sym (eqb-true b fresh.0 e)) two.first
+    go false true e f n = subst (IsFree sets) (sym (eqb-true b fresh.1 f)) two.second
+    go false false e f n = absurd (omega arith)
+
 -- ---- what is known before
 
 -- the pair's tail, with other slots and another share
@@ -89,6 +97,7 @@ pub record TurnedTo (t : Kept) (w : Site) (p : Pair) (slots : List Slot) (move :
   pub shape : HasShape t.disk new.disk
   pub stays : StayTaken t.map new.map
   pub none_comes : NoneComes t.map new.map
+  pub fresh : (b : ℕ) → 1 ≤ count b (blocks_of more) → IsFree t.map b
 
 -- the pair alone, as what a change of it comes to
 pub record ChangedOne (t : Kept) (index : ℕ) (w : Site) (p : Pair) (slots : List Slot) (move : Gstate) (new : Kept) : Type 0 where
@@ -262,6 +271,7 @@ module _ (t : Kept) (index : ℕ) (changes : List Change) (w : Site) (p : Pair) 
         shape = is.written.shape;
         stays = λ b taken. ap (λ m. slice_get m b) is.map;
         none_comes = λ b flies. subst (λ m. IsInFlight m b) is.map flies;
+        fresh = λ b some. absurd (omega arith);
       }
 
   cut_turned : IsMapped t → (new : Kept) (fresh : ℕ × ℕ) → IsTooLarge t index changes → IsCutIn t index fresh changes new → TurnedTo t w p slots move new
@@ -286,6 +296,7 @@ module _ (t : Kept) (index : ℕ) (changes : List Change) (w : Site) (p : Pair) 
         shape = is.shape;
         stays = λ b taken. ap (λ m. slice_get m b) is.map ∙ stay_taken t.map fresh is.free b taken;
         none_comes = λ b flies. none_comes_now t.map fresh is.free b (subst (λ m. IsInFlight m b) is.map flies);
+        fresh = λ b some. of_fresh t.map fresh is.free b some;
       }
 
   pub put_turned : IsMapped t → (new : Kept) → IsPut t index changes new → TurnedTo t w p slots move new

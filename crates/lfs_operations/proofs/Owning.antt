@@ -7,7 +7,7 @@ use Rattle.std.proofs.lemmas.List.Concat.{flat_map-append}
 use Rattle.lfs_model.specs.Disk.{Disk}
 use Rattle.lfs_model.specs.BlockSets.{AreUsed, BlockSets, IsFree, IsInFlight, IsUsed}
 use Rattle.lfs_model.specs.BlockSets.BlockState.{Free, InFlight, Used}
-use Rattle.lfs_model.specs.Slots.{Slot, no_gstate}
+use Rattle.lfs_model.specs.Slots.{Slot}
 use Rattle.lfs_model.specs.Thread.{Pair, blocks_of, gstate_of}
 use Rattle.lfs_model.specs.View.{all_slots, file_blocks, used_blocks}
 use Rattle.lfs_model.proofs.BlockSets.{count-Contains, Contains-count, slice_get-set_same, slice_get-set_other}
@@ -15,8 +15,9 @@ use Rattle.lfs_model.proofs.Changes.{SameFiles, slots_files}
 use Rattle.lfs_model.proofs.Committed.{IsCommit, no_move_from}
 use Rattle.lfs_model.proofs.Counts.{each_left, each_right, count, count_append}
 use Rattle.lfs_model.proofs.Files.{HasSameFile}
+use Rattle.lfs_model.proofs.Global.{HasNoMove}
 use Rattle.lfs_model.proofs.Sites.{Site, thread_at}
-use Rattle.lfs_model.proofs.Splices.{files_of, slots_in, unmoved_in, count_files}
+use Rattle.lfs_model.proofs.Splices.{IsDevice, files_of, slots_in, unmoved_in, count_files}
 use Rattle.lfs_thread.specs.Steps.{settled}
 use Rattle.lfs_operations.specs.Changing.{AreTwoFree, flying}
 use Rattle.lfs_operations.specs.Ready.{NoneComes, StayTaken}
@@ -28,9 +29,9 @@ use Rattle.lfs_operations.proofs.Taking.{within}
 slots_append : (xs ys : List Pair) → slots_in (xs ++ ys) ≡ slots_in xs ++ slots_in ys
 slots_append xs ys = flat_map-append (λ (p : Pair). p.content.slots) xs ys
 
-count_used : (b : ℕ) (disk : Disk) (ps : List Pair) → gstate_of ps ≡ no_gstate → count b (used_blocks disk ps) ≡ count b (blocks_of ps) + count b (files_of disk (slots_in ps))
+count_used : (b : ℕ) (disk : Disk) (ps : List Pair) → HasNoMove (gstate_of ps) → count b (used_blocks disk ps) ≡ count b (blocks_of ps) + count b (files_of disk (slots_in ps))
 count_used b disk ps none = count_append b (blocks_of ps) (flat_map (λ s. file_blocks disk s.struct) (all_slots ps))
-    ∙ ap (λ z. count b (blocks_of ps) + count b (files_of disk z)) (unmoved_in (gstate_of ps) (no_move_from ps none) ps)
+    ∙ ap (λ z. count b (blocks_of ps) + count b (files_of disk z)) (unmoved_in (gstate_of ps) none ps)
 
 -- the slots of a thread, by a site
 slots_at : (w : Site) (ps : List Pair) → slots_in (thread_at w ps) ≡ slots_in w.chain ++ (slots_in (w.before ++ w.left) ++ (slots_in ps ++ slots_in (w.right ++ w.after)))
@@ -53,7 +54,7 @@ count_at b disk w ps l mid r e =
     let k = count_files b disk mid r in
     omega arith
 
-count_pairs : (b : ℕ) (w : Site) (ps : List Pair) → count b (blocks_of (thread_at w ps))
+pub count_pairs : (b : ℕ) (w : Site) (ps : List Pair) → count b (blocks_of (thread_at w ps))
     ≡ count b (blocks_of w.chain) + (count b (blocks_of (w.before ++ w.left)) + (count b (blocks_of ps) + count b (blocks_of (w.right ++ w.after))))
 count_pairs b w ps =
     let a = blocks_append w.chain ((w.before ++ w.left) ++ (ps ++ (w.right ++ w.after))) b in
@@ -61,7 +62,16 @@ count_pairs b w ps =
     let d = blocks_append ps (w.right ++ w.after) b in
     omega arith
 
-module _ (disk new : Disk) (w : Site) (p q : Pair) (more : List Pair) (l olds news r : List Slot) (gone come : List ℕ) (c : IsCommit disk new w p q more come l olds news r)
+-- the pair p becomes q and more, with news where olds stood; no move is set
+pub record IsTurnOf (disk new : Disk) (w : Site) (p q : Pair) (more : List Pair) (l olds news r : List Slot) : Type 0 where
+  pub none : HasNoMove (gstate_of (thread_at w (p ∷ [])))
+  pub still : HasNoMove (gstate_of (thread_at w (q ∷ more)))
+  pub device : IsDevice disk new (thread_at w (p ∷ [])) (thread_at w (q ∷ more))
+  pub at : q.at ≡ p.at
+  pub was : p.content.slots ≡ l ++ (olds ++ r)
+  pub is : slots_in (q ∷ more) ≡ l ++ (news ++ r)
+
+module _ (disk new : Disk) (w : Site) (p q : Pair) (more : List Pair) (l olds news r : List Slot) (gone come : List ℕ) (c : IsTurnOf disk new w p q more l olds news r)
     (blocks : (b : ℕ) → count b (files_of new news) + count b gone ≡ count b come + count b (files_of disk olds)) where
   abbrev ps : List Pair
   ps = thread_at w (p ∷ [])
@@ -74,7 +84,7 @@ module _ (disk new : Disk) (w : Site) (p q : Pair) (more : List Pair) (l olds ne
 
   all_same : SameFiles disk new (slots_in w.chain ++ (slots_in (w.before ++ w.left) ++ ((l ++ (olds ++ r)) ++ slots_in (w.right ++ w.after))))
   all_same = subst (SameFiles disk new)
-      (unmoved_in (gstate_of ps) (no_move_from ps c.settled) ps ∙ slots_at w (p ∷ []) ∙ ap (λ z. slots_in w.chain ++ (slots_in (w.before ++ w.left) ++ (z ++ slots_in (w.right ++ w.after)))) was_one)
+      (unmoved_in (gstate_of ps) c.none ps ∙ slots_at w (p ∷ []) ∙ ap (λ z. slots_in w.chain ++ (slots_in (w.before ++ w.left) ++ (z ++ slots_in (w.right ++ w.after)))) was_one)
       (recursion_from_All (λ (s : Slot). HasSameFile disk new s.struct) (all_slots ps) c.device.files)
 
   abbrev F : Slot → Type 0
@@ -83,8 +93,8 @@ module _ (disk new : Disk) (w : Site) (p q : Pair) (more : List Pair) (l olds ne
   kept : (ss : List Slot) → SameFiles disk new ss → (b : ℕ) → count b (files_of new ss) ≡ count b (files_of disk ss)
   kept ss h b = ap (count b) (slots_files disk new ss c.device.geometry h)
 
-  pub used_count_now : (b : ℕ) → count b (used_blocks new qs) + count b gone ≡ count b (blocks_of more) + count b (used_blocks disk ps) + count b come
-  used_count_now b =
+  pub turned_count : (b : ℕ) → count b (used_blocks new qs) + count b gone ≡ count b (blocks_of more) + count b (used_blocks disk ps) + count b come
+  turned_count b =
       let f1 = slots_in w.chain in
       let f2 = slots_in (w.before ++ w.left) in
       let g = slots_in (w.right ++ w.after) in
@@ -101,7 +111,7 @@ module _ (disk new : Disk) (w : Site) (p q : Pair) (more : List Pair) (l olds ne
       let e5 = kept r (each_right F olds r (each_right F l (olds ++ r) h5)) b in
       let e6 = blocks b in
       let a1 = count_used b new qs c.still in
-      let a2 = count_used b disk ps c.settled in
+      let a2 = count_used b disk ps c.none in
       let b1 = count_at b new w (q ∷ more) l news r c.is in
       let b2 = count_at b disk w (p ∷ []) l olds r was_one in
       let d1 = count_pairs b w (q ∷ more) in
@@ -109,6 +119,19 @@ module _ (disk new : Disk) (w : Site) (p q : Pair) (more : List Pair) (l olds ne
       let at = ap (λ (a : ℕ × ℕ). count b (a.0 ∷ a.1 ∷ [])) c.at in
       let k = count_append b (q.at.0 ∷ q.at.1 ∷ []) (blocks_of more) in
       omega arith
+
+pub used_count_now : (disk new : Disk) (w : Site) (p q : Pair) (more : List Pair) (l olds news r : List Slot) (gone come : List ℕ) → IsCommit disk new w p q more come l olds news r
+    → ((b : ℕ) → count b (files_of new news) + count b gone ≡ count b come + count b (files_of disk olds))
+    → (b : ℕ) → count b (used_blocks new (thread_at w (q ∷ more))) + count b gone ≡ count b (blocks_of more) + count b (used_blocks disk (thread_at w (p ∷ []))) + count b come
+used_count_now disk new w p q more l olds news r gone come c blocks = turned_count disk new w p q more l olds news r gone come
+    (record {
+      none = no_move_from (thread_at w (p ∷ [])) c.settled;
+      still = no_move_from (thread_at w (q ∷ more)) c.still;
+      device = c.device;
+      at = c.at;
+      was = c.was;
+      is = c.is;
+    }) blocks
 
 -- ---- the map
 

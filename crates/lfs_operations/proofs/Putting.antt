@@ -63,6 +63,7 @@ module _ (t : Kept) (index : ℕ) (fresh : ℕ × ℕ) (changes : List Change) (
     pairs = is.pairs;
     thread = is.thread;
     map = is.map;
+    writes = record { others = writes.others; elsewhere = writes.elsewhere; shape = writes.shape; at_worst = writes.at_worst };
   }
 
   pub left_by_cut : (left : Blocks) → IsLeftBySplit mid index fresh changes left → IsLeftByCut t index changes left
@@ -147,6 +148,14 @@ module _ (t : Kept) (h : List Event) (reads : OnlyReads t.disk.blocks t.history 
   parts_earlier : {content : Content} {cut : ℕ} {fresh : ℕ × ℕ} {disk : Disk} → ArePartsOf later index content cut fresh disk → ArePartsOf t index content cut fresh disk
   parts_earlier p = record { front_fits = p.front_fits; back_fits = p.back_fits; inside = p.inside; first = p.first }
 
+  writes_behind : (bs : List ℕ) (new : Kept) → Writes bs later new → Writes bs t new
+  writes_behind bs new w = record {
+    others = w.others;
+    elsewhere = StayUnprogrammed-trans (StayUnprogrammed-reads bs reads) w.elsewhere;
+    shape = w.shape;
+    at_worst = LeavesOnly-trans (LeavesOnly-reads AtWorst-read reads (record { count = refl; sizes = λ b. refl; others = λ b apart. refl })) w.at_worst;
+  }
+
   pub cut_later : (new : Kept) → IsCut later index changes new → IsCut t index changes new
   cut_later new (fresh, is) = (
     fresh,
@@ -161,6 +170,7 @@ module _ (t : Kept) (h : List Event) (reads : OnlyReads t.disk.blocks t.history 
       pairs = is.pairs;
       thread = is.thread;
       map = is.map;
+      writes = writes_behind (four_of (pair_in t index).at fresh) new is.writes;
     },
   )
 
@@ -187,12 +197,7 @@ module _ (t : Kept) (h : List Event) (reads : OnlyReads t.disk.blocks t.history 
     fresh = w.fresh;
     few = w.few;
     free = w.free;
-    writes = record {
-      others = w.writes.others;
-      elsewhere = StayUnprogrammed-trans (StayUnprogrammed-reads ((pair_in t index).at.0 ∷ (pair_in t index).at.1 ∷ w.fresh) reads) w.writes.elsewhere;
-      shape = w.writes.shape;
-      at_worst = LeavesOnly-trans (LeavesOnly-reads AtWorst-read reads (record { count = refl; sizes = λ b. refl; others = λ b apart. refl })) w.writes.at_worst;
-    };
+    writes = writes_behind ((pair_in t index).at.0 ∷ (pair_in t index).at.1 ∷ w.fresh) new w.writes;
   }
 
   pub stops_later : (new : Kept) → IsTooLarge t index changes → WritesIn later index new → StopsLeave t.history h (IsLeft t index changes) → StopsLeave h new.history (IsLeftByCut later index changes)

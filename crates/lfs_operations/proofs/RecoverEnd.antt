@@ -5,7 +5,6 @@ use Rattle.std.proofs.lemmas.Option.{same_Some}
 use Rattle.std.proofs.lemmas.List.Elements.{All-from_recursion, recursion_from_All}
 use Rattle.lfs_device.specs.declared.error.Error.{Error}
 use Rattle.lfs_model.specs.Blocks.{Blocks}
-use Rattle.lfs_model.specs.BlockSets.{IsInFlight}
 use Rattle.lfs_model.specs.Disk.{SameGeometry, block_at}
 use Rattle.lfs_model.specs.History.{Event, faults}
 use Rattle.lfs_model.specs.Logged.{IsAddress}
@@ -31,14 +30,15 @@ use Rattle.lfs_model.proofs.Superblocks.{pairs_behind}
 use Rattle.lfs_thread.specs.Device.{StopsLeave}
 use Rattle.lfs_thread.specs.Kept.{Kept, State}
 use Rattle.lfs_thread.specs.Steps.{IsChanged, IsLeft, IsWrittenAs, with_pair}
-use Rattle.lfs_operations.specs.Recovering.{AreUnreached, AreUnreachedFrom, CanClearSync, CanSetState, HasRecovered, IsCleared, StaysOn, TellsOfSteps, setting, share_of}
+use Rattle.lfs_operations.specs.Recovering.{AreUnreached, AreUnreachedFrom, CanClearSync, CanSetState, HasRecovered, IsCleared, TellsOfSteps, setting, share_of}
+use Rattle.lfs_operations.specs.Dropping.{SameInFlight}
 use Rattle.lfs_operations.specs.Removing.{TellsOfCalls}
 use Rattle.lfs_operations.proofs.Removed.{tells_again}
 use Rattle.lfs_operations.proofs.RecoverLoop.{EachBegins, IsAtDrop, IsAtEnd, all_where, begins_weaker, goes_to}
 use Rattle.lfs_operations.proofs.RecoverMap.{HasMap, files_stay, map_stays}
 use Rattle.lfs_operations.proofs.RecoverShares.{none_fits, set_content, set_made}
 use Rattle.lfs_operations.proofs.RecoverSteps.{CanClear, clear_alike, clear_left, clear_pairs, clear_state, clear_taken, device_on, h, y}
-use Rattle.lfs_operations.proofs.RecoverUnderWay.{IsUnderWay}
+use Rattle.lfs_operations.proofs.RecoverUnderWay.{IsUnderWay, StaysOn}
 
 -- ---- the sync bit
 
@@ -156,7 +156,9 @@ module _ (old now : Kept) (dropped : ℕ) (u : IsUnderWay old now dropped []) wh
       large = let a = on.shape.block_size in let b = u.device.shape.block_size in omega arith;
     };
     lost = λ b. let l = u.lost b in let f = files_stay now new c.alike can_end.none still geometry files b in omega arith;
-    none_comes = λ b flies. u.none_comes b (subst (λ z. IsInFlight z b) c.map flies);
+    none_gone = u.none_gone;
+    once = λ b. let s = m.same b in let o = m.once b in omega arith;
+    flying = subst (SameInFlight old.map) (sym c.map) u.flying;
     shows = c.taken.follows.shows ∙ shows_now;
     completed = λ s tree. recovery_ends old.disk old.pairs now.disk C e.seen e.parts e.kept new.disk new.pairs (λ d. d) s e.way.is fits
         (subst (λ z. IsTaken now.disk z new.disk new.pairs (λ t. t) (λ d. d)) e.way.there c.taken)

@@ -1,12 +1,13 @@
 -- A set move that was ended: the map, and what is known of the thread.
 use Rattle.std.proofs.Common.{ℕ, ◌≡◌, ◌+◌, ◌-◌, true, false, List, [], ◌∷◌, length, refl, sym, ap, subst, subst₂, ◌∙◌, arith, length-append, remove}
 use Rattle.std.proofs.lemmas.Option.{same_Some}
-use Rattle.lfs_model.specs.BlockSets.{AreUsed, IsInFlight}
+use Rattle.lfs_model.specs.BlockSets.{AreUsed}
 use Rattle.lfs_model.specs.History.{Event}
 use Rattle.lfs_model.specs.Logged.{IsAddress}
 use Rattle.lfs_model.specs.PowerLoss.{Survives}
 use Rattle.lfs_model.specs.Slots.{Gstate}
-use Rattle.lfs_model.specs.Thread.{gstate_of}
+use Rattle.lfs_model.specs.SlotEdits.{without_moved}
+use Rattle.lfs_model.specs.Thread.{blocks_of, gstate_of, superblocks_before}
 use Rattle.lfs_model.specs.View.{tree_in, used_blocks}
 use Rattle.lfs_model.proofs.Counts.{count, once_from_distinct}
 use Rattle.lfs_model.proofs.Global.{HasNoMove}
@@ -17,10 +18,12 @@ use Rattle.lfs_thread.specs.Kept.{Kept}
 use Rattle.lfs_thread.specs.Steps.{IsChanged, IsDropped, IsLeft, IsWrittenAs, pair_in, with_pair, without_pair}
 use Rattle.lfs_operations.specs.Recovering.{CanEndMove, CanTakeOver, CanTakeSlot, HasEndedMove, IsAddressIfSome, IsMovedAt, is_alone_at, share_of, takes_share, taking, taking_over, target_of, unset}
 use Rattle.lfs_operations.proofs.Owning.{used_same}
-use Rattle.lfs_operations.proofs.RecoverGoes.{gone, gone_is, goes_is, goes_left, goes_pairs, goes_state, goes_taken, goes_used, next}
-use Rattle.lfs_operations.proofs.RecoverMap.{HasMap, map_frees, none_flies}
+use Rattle.lfs_operations.specs.Dropping.{SameInFlight}
+use Rattle.lfs_operations.proofs.RecoverBefore.{AreKin, go_alike, laid_out_gap, laid_out_kin}
+use Rattle.lfs_operations.proofs.RecoverGoes.{gone, gone_is, goes_ahead, goes_behind, goes_chain, goes_gap, goes_hidden, goes_is, goes_left, goes_low, goes_pairs, goes_split, goes_state, goes_taken, goes_used, next}
+use Rattle.lfs_operations.proofs.RecoverMap.{HasMap, frees_flies, map_frees}
 use Rattle.lfs_operations.proofs.RecoverShares.{over_content, over_made, take_made, without_content}
-use Rattle.lfs_operations.proofs.RecoverStays.{h, stays_left, stays_pairs, stays_state, stays_taken, stays_used, unset_fits, unset_is}
+use Rattle.lfs_operations.proofs.RecoverStays.{h, stays_chain, stays_kin, stays_left, stays_pairs, stays_state, stays_taken, stays_used, unset_fits, unset_is}
 
 module _ (t : Kept) (can : CanEndMove t) (index : ℕ) (m : IsMovedAt t index) where
   abbrev g : Gstate
@@ -37,13 +40,18 @@ module _ (t : Kept) (can : CanEndMove t) (index : ℕ) (m : IsMovedAt t index) w
       let same = same_Some is.content (without_content t index (gstate_of t.pairs).id g) (sym is.made ∙ take_made t index (gstate_of t.pairs).id g can_take address) in
       let written = subst (λ c. IsWrittenAs t index c new.disk) same is.written in
       let pairs = is.pairs ∙ ap (with_pair t index) same ∙ stays_pairs t can index m in
+      let taken = subst₂ (λ a b. IsTaken t.disk a new.disk b (λ t. t) (λ d. d)) (sym (h t can index m).is) (sym pairs) (stays_taken t can index m can_take alone new.disk written) in
+      let none = subst HasNoMove (sym (ap gstate_of pairs ∙ stays_state t can index m)) (unset_is (gstate_of t.pairs)) in
       record {
-        taken = subst₂ (λ a b. IsTaken t.disk a new.disk b (λ t. t) (λ d. d)) (sym (h t can index m).is) (sym pairs) (stays_taken t can index m can_take alone new.disk written);
-        none = subst HasNoMove (sym (ap gstate_of pairs ∙ stays_state t can index m)) (unset_is (gstate_of t.pairs));
+        taken = taken;
+        none = none;
         used = subst (λ s. AreUsed s (used_blocks new.disk new.pairs)) (sym is.map)
             (used_same t.map (used_blocks t.disk t.pairs) (used_blocks new.disk new.pairs) (λ b. ap (λ z. count b (used_blocks new.disk z)) pairs ∙ stays_used t can index m new.disk written b) can.used);
         size = ap length is.map ∙ can.size ∙ sym is.written.shape.count;
-        none_comes = λ b flies. subst (λ s. IsInFlight s b) is.map flies;
+        flying = subst (SameInFlight t.map) (sym is.map) (λ b. ((λ flies. flies), (λ flies. flies)));
+        leads_on = laid_out_kin t new (go_alike t new taken.follows is.written.shape) none
+            (ap superblocks_before pairs ∙ stays_chain t can index m new.disk written)
+            (subst (AreKin (without_moved t.pairs)) (sym pairs) (stays_kin t can index m));
       }
 
   pub survives_stays : is_alone_at t index ≡ false → IsAddress (share_of t index g).pair → (new : List Event) → StopsLeave t.history new (IsLeft t index (taking t index (gstate_of t.pairs).id g))
@@ -71,12 +79,19 @@ module _ (t : Kept) (can : CanEndMove t) (index : ℕ) (m : IsMovedAt t index) w
         let map_is : new.map ≡ without_pair t.map (gone t can index m alone).at = is.map ∙ ap (without_pair t.map) (gone_is t can index m alone) in
         let owned = map_frees t new (gone t can index m alone) []
         (λ b. let e = ap (λ z. count b (used_blocks new.disk z)) pairs in let u = goes_used t can index m alone new.disk written b in omega arith) [] map_is is.written.shape.count start in
+        let taken = subst₂ (λ a b. IsTaken t.disk a new.disk b (λ t. t) (λ d. d)) (sym (goes_is t can index m alone)) (sym pairs) (goes_taken t can index m alone new.disk written) in
+        let none = subst HasNoMove (sym (ap gstate_of pairs ∙ goes_state t can index m alone)) (unset_is (gstate_of t.pairs)) in
+        let used : (b : ℕ) → count b (used_blocks new.disk new.pairs) + (count b (blocks_of ((gone t can index m alone) ∷ [])) + count b []) ≡ count b (used_blocks t.disk t.pairs)
+        = λ b. ap (λ z. count b (used_blocks new.disk z) + (count b (blocks_of ((gone t can index m alone) ∷ [])) + count b [])) pairs ∙ goes_used t can index m alone new.disk written b in
+        let alike = go_alike t new taken.follows is.written.shape in
         record {
-          taken = subst₂ (λ a b. IsTaken t.disk a new.disk b (λ t. t) (λ d. d)) (sym (goes_is t can index m alone)) (sym pairs) (goes_taken t can index m alone new.disk written);
-          none = subst HasNoMove (sym (ap gstate_of pairs ∙ goes_state t can index m alone)) (unset_is (gstate_of t.pairs));
+          taken = taken;
+          none = none;
           used = used_same new.map owned.owned (used_blocks new.disk new.pairs) (λ b. let s = owned.same b in omega arith) owned.are;
           size = owned.size;
-          none_comes = none_flies t.map t.map new.map (gone t can index m alone).at map_is (λ b flies. flies);
+          flying = subst (SameInFlight t.map) (sym map_is) (frees_flies t new (gone t can index m alone) [] used [] start);
+          leads_on = laid_out_gap t new alike none (ap superblocks_before pairs ∙ goes_chain t can index m alone new.disk written)
+              _ _ _ _ _ _ _ (goes_hidden t can index m alone) (pairs ∙ goes_split t can index m alone) (goes_low t can index m alone) (goes_ahead t can index m alone) (goes_gap t can index m alone) (goes_behind t can index m alone);
         }
 
     pub survives_goes : IsAddress (takes_share t (index - 1) index g).pair → IsAddressIfSome (target_of (pair_in t index).content.tail) → (new : List Event)
@@ -90,5 +105,6 @@ ended_already t can none = record {
   none = none;
   used = can.used;
   size = can.size;
-  none_comes = λ b flies. flies;
+  flying = λ b. ((λ flies. flies), (λ flies. flies));
+  leads_on = λ s disk qs laid_out. laid_out;
 }

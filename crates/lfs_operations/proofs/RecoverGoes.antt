@@ -11,9 +11,10 @@ use Rattle.lfs_model.specs.Disk.{Disk}
 use Rattle.lfs_model.specs.Logged.{IsAddress}
 use Rattle.lfs_model.specs.PowerLoss.{IsLeft as IsLeftOf, with_blocks}
 use Rattle.lfs_model.specs.Slots.{FitsPair, Gstate, Slot, Tail, same_pair}
+use Rattle.lfs_model.specs.SlotEdits.{with_slots, without_moved}
 use Rattle.lfs_model.specs.Thread.{Pair, blocks_of, gstate_of, is_hard, superblocks_before, unmoved}
 use Rattle.lfs_model.specs.View.{HasSuperblock, IsAccepted, IsWritable, all_slots, file_blocks, tree_in, used_blocks}
-use Rattle.lfs_model.proofs.Changes.{SameFiles, slots_files}
+use Rattle.lfs_model.proofs.Changes.{SameFiles, chain_now, slots_files}
 use Rattle.lfs_model.proofs.Counts.{Each, count, count_append, each_append, each_left, each_right}
 use Rattle.lfs_model.proofs.Files.{HasSameFile}
 use Rattle.lfs_model.proofs.Global.{HasNoMove}
@@ -22,7 +23,7 @@ use Rattle.lfs_model.proofs.Listings.{IsRun}
 use Rattle.lfs_model.proofs.MoveSets.{hidden_none}
 use Rattle.lfs_model.proofs.Moves.{AllReached}
 use Rattle.lfs_model.proofs.Pairs.{pair_back}
-use Rattle.lfs_model.proofs.Rests.{IsMoveEnd, move_ends, unmoved_elsewhere}
+use Rattle.lfs_model.proofs.Rests.{IsMoveEnd, end_change, move_ends, unmoved_elsewhere}
 use Rattle.lfs_model.proofs.Searches.{avoids_behind, avoids_front}
 use Rattle.lfs_model.proofs.Sites.{IsSite, Site, thread_at}
 use Rattle.lfs_model.proofs.Splices.{IsDevice, drop_shape, files_of, slots_in}
@@ -32,6 +33,7 @@ use Rattle.lfs_thread.specs.Kept.{Kept}
 use Rattle.lfs_thread.specs.Steps.{IsLeft, IsWrittenAs, made_in_thread, pair_in, with_pair}
 use Rattle.lfs_operations.specs.Recovering.{CanEndMove, CanTakeOver, IsAddressIfSome, IsMovedAt, goes_on_at, is_alone_at, takes_share, taking_over, target_of, unset}
 use Rattle.lfs_operations.proofs.Placing.{blocks_append}
+use Rattle.lfs_operations.proofs.RecoverBefore.{AreKin, IsGap, hidden, hidden_append, hidden_far, hidden_length}
 use Rattle.lfs_operations.proofs.RecoverMap.{count_used}
 use Rattle.lfs_operations.proofs.RecoverMoved.{heads}
 use Rattle.lfs_operations.proofs.RecoverPlaced.{IsAt, dropped_device, dropped_state, here_is, next_is, nothing_taken, placed_device, without_is}
@@ -254,6 +256,31 @@ module _ (t : Kept) (can : CanEndMove t) (behind : ℕ) (m : IsMovedAt t behind)
           let same = same_Some is.content (over_content t (behind - 1) behind (unset (gstate_of t.pairs))) (sym k.0 ∙ over_made t (behind - 1) behind (unset (gstate_of t.pairs)) over address words) in
           taken_before t.disk old (with_blocks left t.disk) (thread_at w (z ∷ [])) (λ d. d) (tree_in t.disk old)
           (goes_taken (with_blocks left t.disk) (subst (λ c. IsWrittenAs t (behind - 1) c (with_blocks left t.disk)) same is.written))
+
+  -- ---- where slots stand
+
+  pub goes_hidden : without_moved t.pairs ≡ hidden G (h.site.chain ++ front) ++ with_slots (unmoved G h.pair) h.pair ∷ with_slots (unmoved G on.next) on.next ∷ hidden G back
+  goes_hidden = ap (λ x. hidden (gstate_of t.pairs) x) (old_is ∙ sym (append_assoc h.site.chain front (h.pair ∷ on.next ∷ back))) ∙ hidden_append G (h.site.chain ++ front) (h.pair ∷ on.next ∷ back)
+
+  pub goes_low : superblocks_before t.pairs ≤ length (hidden G (h.site.chain ++ front))
+  goes_low = let c = ap superblocks_before old_is ∙ is_site.chain in let l = hidden_length G (h.site.chain ++ front) in let k = length-append h.site.chain front in omega arith
+
+  pub goes_ahead : AreKin (hidden G (h.site.chain ++ front)) (h.site.chain ++ front)
+  goes_ahead = hidden_far G (h.site.chain ++ front) far_front
+
+  pub goes_behind : AreKin (hidden G back) back
+  goes_behind = hidden_far G back far_back
+
+  pub goes_gap : IsGap (with_slots (unmoved G h.pair) h.pair) (with_slots (unmoved G on.next) on.next) z
+  goes_gap = record { at = refl; slots = sym (unmoved_elsewhere G h.pair far_pair); led = hard; tail = refl; none = hides }
+
+  pub goes_split : thread_at w (z ∷ []) ≡ (h.site.chain ++ front) ++ z ∷ back
+  goes_split = sym (append_assoc h.site.chain front (z ∷ back))
+
+  pub goes_chain : (disk : Disk) → IsWrittenAs t (behind - 1) (over_content t (behind - 1) behind (unset (gstate_of t.pairs))) disk → superblocks_before (thread_at w (z ∷ [])) ≡ superblocks_before t.pairs
+  goes_chain disk is = chain_now t.disk disk w.chain (w.before ++ w.left) h.pair (on.next ∷ []) z [] (w.right ++ w.after) [] is_site.chain accepted
+      (end_change t.disk disk w h.pair (on.next ∷ []) z [] h.pair.content.slots m.slot [] (step disk is))
+      ∙ sym (ap superblocks_before old_is ∙ is_site.chain)
 
   -- ---- the blocks
 

@@ -1,11 +1,11 @@
 -- Which blocks the map has on the way: those of the image, and those of lists that only pairs had that are gone.
-use Rattle.std.proofs.Common.{ℕ, suc, zero, ◌≡◌, ◌≢◌, ◌+◌, ◌<◌, ◌≤◌, Bool, true, false, cond, nat_eq, eqb-true, List, [], ◌∷◌, ◌++◌, length, Some, refl, sym, ap, ap₂, subst, ◌∙◌, arith, set, slice_get, length-set}
+use Rattle.std.proofs.Common.{ℕ, ◌≡◌, ◌≢◌, ◌+◌, ◌<◌, ◌≤◌, Bool, true, false, cond, nat_eq, eqb-true, List, [], ◌∷◌, ◌++◌, length, Some, refl, sym, ap, ap₂, subst, ◌∙◌, arith, set, slice_get, length-set}
 use Rattle.std.specs.Prelude.{Contains, ◌↔◌}
 use Rattle.std.specs.List.{flat_map}
 use Rattle.std.proofs.lemmas.Bool.{eqb-false}
 use Rattle.std.proofs.lemmas.List.Concat.{flat_map-append}
-use Rattle.lfs_model.specs.BlockSets.{AreUsed, BlockSets, IsInFlight, IsUsed}
-use Rattle.lfs_model.specs.BlockSets.BlockState.{Free, InFlight, Used}
+use Rattle.lfs_model.specs.BlockSets.{AreUsed, IsUsed}
+use Rattle.lfs_model.specs.BlockSets.BlockState.{Free, Used}
 use Rattle.lfs_model.specs.Disk.{Disk, SameGeometry, block_count}
 use Rattle.lfs_model.specs.Slots.{Slot}
 use Rattle.lfs_model.specs.Thread.{Pair, blocks_of, gstate_of}
@@ -19,7 +19,8 @@ use Rattle.lfs_model.proofs.Global.{HasNoMove}
 use Rattle.lfs_model.proofs.Splices.{count_files, files_of, slots_in, unmoved_in}
 use Rattle.lfs_thread.specs.Kept.{Kept}
 use Rattle.lfs_thread.specs.Steps.{without_pair}
-use Rattle.lfs_operations.specs.Ready.{NoneComes}
+use Rattle.lfs_operations.specs.Dropping.{SameInFlight}
+use Rattle.lfs_operations.proofs.Dropped.{flying_same}
 use Rattle.lfs_operations.proofs.Placing.{blocks_append}
 use Rattle.lfs_operations.proofs.Taking.{within}
 
@@ -97,6 +98,15 @@ module _ (now new : Kept) (x : Pair) (lists : List ℕ)
             (λ has. there ∙ (h.are b).1 (Contains-count h.owned b (let k = count-Contains owned b has in let l = less b in omega arith))),
           )
 
+  -- none of them was in flight
+  pub frees_flies : (gone : List ℕ) → HasMap now gone → SameInFlight now.map (without_pair now.map x.at)
+  frees_flies gone h = flying_same now.map x.at h.owned (used_blocks new.disk new.pairs ++ (gone ++ lists)) h.are h.once
+      (λ b.
+      let c = count_append b (used_blocks new.disk new.pairs) (gone ++ lists) in
+      let d = count_append b gone lists in
+      let u = used_count b in let s = h.same b in
+      omega arith)
+
 -- ---- a pair goes
 
 module _ (now new : Kept) (front : List Pair) (before x q : Pair) (back : List Pair) (was : now.pairs ≡ front ++ before ∷ x ∷ back) (is : new.pairs ≡ front ++ q ∷ back)
@@ -134,7 +144,7 @@ module _ (now new : Kept) (front : List Pair) (before x q : Pair) (back : List P
       let c5 = count_files b now.disk x.content.slots (slots_in back) in
       omega arith
 
-  blocks_count : (b : ℕ) → count b (blocks_of new.pairs) + count b (blocks_of (x ∷ [])) ≡ count b (blocks_of now.pairs)
+  pub blocks_count : (b : ℕ) → count b (blocks_of new.pairs) + count b (blocks_of (x ∷ [])) ≡ count b (blocks_of now.pairs)
   blocks_count b =
       let e1 = ap (λ z. count b (blocks_of z)) is in
       let e2 = ap (λ z. count b (blocks_of z)) was in
@@ -151,6 +161,9 @@ module _ (now new : Kept) (front : List Pair) (before x q : Pair) (back : List P
       let f = files_count b in let k = blocks_count b in
       let u = count_used b new.disk new.pairs still in let v = count_used b now.disk now.pairs none in
       omega arith
+
+  pub map_flies : (gone : List ℕ) → HasMap now gone → SameInFlight now.map (without_pair now.map x.at)
+  map_flies gone h = frees_flies now new x (files_of now.disk x.content.slots) used_count gone h
 
   pub map_drops : (gone : List ℕ) → new.map ≡ without_pair now.map x.at → block_count new.disk ≡ block_count now.disk → HasMap now gone → HasMap new (gone ++ files_of now.disk x.content.slots)
   map_drops gone map_is blocks h = map_frees now new x (files_of now.disk x.content.slots) used_count gone map_is blocks h
@@ -188,15 +201,3 @@ module _ (now new : Kept) (alike : AreAlike now.pairs new.pairs) (none : HasNoMo
     once = h.once;
     size = ap length map_is ∙ h.size ∙ sym geometry.count;
   }
-
--- ---- blocks in flight
-
-flies_on : (sets : BlockSets) (a b : ℕ) → IsInFlight (set sets a Free) b → IsInFlight sets b
-flies_on [] a b h = h
-flies_on (s ∷ sets) zero zero h = absurd (let wrong : Some Free ≡ Some InFlight = h in cc)
-flies_on (s ∷ sets) zero (suc b) h = h
-flies_on (s ∷ sets) (suc a) zero h = h
-flies_on (s ∷ sets) (suc a) (suc b) h = flies_on sets a b h
-
-pub none_flies : (old now : BlockSets) (new : BlockSets) (at : ℕ × ℕ) → new ≡ without_pair now at → NoneComes old now → NoneComes old new
-none_flies old now new at is h b flies = h b (flies_on now at.0 b (flies_on (set now at.0 Free) at.1 b (subst (λ m. IsInFlight m b) is flies)))

@@ -11,9 +11,10 @@ use Rattle.lfs_model.specs.Disk.{Disk}
 use Rattle.lfs_model.specs.Logged.{IsAddress}
 use Rattle.lfs_model.specs.PowerLoss.{IsLeft as IsLeftOf, with_blocks}
 use Rattle.lfs_model.specs.Slots.{FitsPair, Gstate, Slot, same_pair}
-use Rattle.lfs_model.specs.Thread.{Pair, blocks_of, gstate_of, is_hard, starts_with_superblock, unmoved}
+use Rattle.lfs_model.specs.SlotEdits.{without_moved}
+use Rattle.lfs_model.specs.Thread.{Pair, blocks_of, gstate_of, is_hard, starts_with_superblock, superblocks_before, unmoved}
 use Rattle.lfs_model.specs.View.{FitsSlot, IsAccepted, IsWritable, all_slots, file_blocks, tree_in, used_blocks}
-use Rattle.lfs_model.proofs.Changes.{SameFiles, slots_files}
+use Rattle.lfs_model.proofs.Changes.{SameFiles, chain_now, slots_files}
 use Rattle.lfs_model.proofs.Counts.{Each, count, count_append, each_append, each_left, each_right, each_weaker}
 use Rattle.lfs_model.proofs.Files.{HasSameFile}
 use Rattle.lfs_model.proofs.Global.{HasNoMove}
@@ -22,7 +23,7 @@ use Rattle.lfs_model.proofs.MoveSets.{hidden_none}
 use Rattle.lfs_model.proofs.Moves.{AllReached, remove_here}
 use Rattle.lfs_model.proofs.Pairs.{pair_back}
 use Rattle.lfs_model.proofs.Profiles.{end_writable}
-use Rattle.lfs_model.proofs.Rests.{IsMoveEnd, move_ends}
+use Rattle.lfs_model.proofs.Rests.{IsMoveEnd, end_change, move_ends}
 use Rattle.lfs_model.proofs.Searches.{avoids_behind, avoids_front}
 use Rattle.lfs_model.proofs.Sites.{thread_at}
 use Rattle.lfs_model.proofs.Splices.{IsDevice, files_of, slots_in, stays_shape}
@@ -32,6 +33,7 @@ use Rattle.lfs_model.proofs.Writable.{flag}
 use Rattle.lfs_thread.specs.Kept.{Kept}
 use Rattle.lfs_thread.specs.Steps.{IsLeft, IsWrittenAs, SlotsHaveFirst, made_in_thread, pair_in, with_pair}
 use Rattle.lfs_operations.specs.Recovering.{CanEndMove, CanTakeSlot, FitsFields, IsMovedAt, goes_on_at, is_alone_at, share_of, taking, unset}
+use Rattle.lfs_operations.proofs.RecoverBefore.{AreKin, hidden, hidden_append, hidden_far, kin_append}
 use Rattle.lfs_operations.proofs.RecoverMap.{count_used}
 use Rattle.lfs_operations.proofs.RecoverMoved.{in_directory}
 use Rattle.lfs_operations.proofs.RecoverPlaced.{IsAt, here_is, nothing_taken, placed_by, placed_device, set_state_is, with_is}
@@ -214,6 +216,20 @@ module _ (t : Kept) (can : CanEndMove t) (index : ℕ) (m : IsMovedAt t index) w
           let same = same_Some is.content (without_content t index G.id (unset (gstate_of t.pairs))) (sym k.0 ∙ take_made t index G.id (unset (gstate_of t.pairs)) take address) in
           taken_before t.disk old (with_blocks left t.disk) (thread_at h.site (y ∷ [])) (λ d. d) (tree_in t.disk old)
           (stays_taken take alone (with_blocks left t.disk) (subst (λ c. IsWrittenAs t index c (with_blocks left t.disk)) same is.written))
+
+  -- ---- where slots stand
+
+  pub stays_kin : AreKin (without_moved t.pairs) (thread_at h.site (y ∷ []))
+  stays_kin = subst (λ x. AreKin x (thread_at h.site (y ∷ [])))
+      (sym (ap (λ x. hidden (gstate_of t.pairs) x) h.is ∙ hidden_append G h.site.chain (front ++ h.pair ∷ back) ∙ ap (λ x. hidden G h.site.chain ++ x) (hidden_append G front (h.pair ∷ back))))
+      (kin_append (hidden G h.site.chain) (hidden G front ++ hidden G (h.pair ∷ back)) h.site.chain (front ++ y ∷ back) (hidden_far G h.site.chain (each_left Far h.site.chain front far_front))
+      (kin_append (hidden G front) (hidden G (h.pair ∷ back)) front (y ∷ back) (hidden_far G front (each_right Far h.site.chain front far_front))
+      (record { at = refl; slots = sym hides; hard = refl }, hidden_far G back far_back)))
+
+  pub stays_chain : (disk : Disk) → IsWrittenAs t index (without_content t index G.id (unset (gstate_of t.pairs))) disk → superblocks_before (thread_at h.site (y ∷ [])) ≡ superblocks_before t.pairs
+  stays_chain disk is = chain_now t.disk disk h.site.chain front h.pair [] y [] back [] h.is_site.chain accepted
+      (end_change t.disk disk h.site h.pair [] y [] m.left m.slot m.right (step disk is))
+      ∙ sym (ap superblocks_before h.is ∙ h.is_site.chain)
 
   -- ---- the blocks
 

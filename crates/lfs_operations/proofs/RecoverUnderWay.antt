@@ -7,10 +7,11 @@ use Rattle.std.proofs.lemmas.List.Elements.{recursion_from_All}
 use Rattle.lfs_model.specs.Blocks.{Blocks}
 use Rattle.lfs_model.specs.Disk.{Disk}
 use Rattle.lfs_model.specs.Layout.{begin_from, onward}
+use Rattle.lfs_model.specs.History.{EachSince}
 use Rattle.lfs_model.specs.Logged.{IsAddress}
 use Rattle.lfs_model.specs.PowerLoss.{IsLeft as IsLeftOf, Survives, with_blocks}
 use Rattle.lfs_model.specs.Slots.{Gstate, Slot, no_gstate, same_pair}
-use Rattle.lfs_model.specs.Thread.{Pair, directory_pairs, first_at, gstate_of, superblocks_before}
+use Rattle.lfs_model.specs.Thread.{Pair, blocks_of, directory_pairs, first_at, gstate_of, superblocks_before}
 use Rattle.lfs_model.specs.View.{IsAccepted, IsReached, IsWritable, all_slots, tree_in, used_blocks}
 use Rattle.lfs_model.proofs.AfterStops.{survives_then}
 use Rattle.lfs_model.proofs.Changes.{SameFiles}
@@ -25,19 +26,27 @@ use Rattle.lfs_model.proofs.Pairs.{pair_back, pair_itself, pair_on}
 use Rattle.lfs_model.proofs.Recovering.{recovery_begins}
 use Rattle.lfs_model.proofs.Searches.{same_number}
 use Rattle.lfs_model.proofs.Splices.{files_of, slots_in}
+use Rattle.lfs_model.proofs.Superblocks.{pairs_behind}
 use Rattle.lfs_model.proofs.Unthreaded.{IsReady, IsUnthreaded, same_parts}
-use Rattle.lfs_thread.specs.Device.{StopsLeave}
+use Rattle.lfs_thread.specs.Device.{StopsLeave, two_of}
 use Rattle.lfs_thread.specs.Kept.{Kept}
-use Rattle.lfs_thread.specs.Steps.{IsDropped, IsLeft, IsWrittenAs, Writes, pair_in, with_pair, without_pair}
-use Rattle.lfs_operations.specs.Recovering.{AreUnreachedFrom, CanDropUnreached, CanTakeOver, FitsFields, IsAddressIfSome, StaysOn, state_with, takes_share, taking_over, target_of}
-use Rattle.lfs_operations.specs.Ready.{NoneComes}
+use Rattle.lfs_thread.specs.Steps.{HasShape, IsDropped, IsLeft, IsWrittenAs, Writes, pair_in, with_pair, without_pair}
+use Rattle.lfs_operations.specs.Recovering.{AreBare, AreUnreachedFrom, CanDropUnreached, CanTakeOver, FitsFields, IsAddressIfSome, state_with, takes_share, taking_over, target_of}
+use Rattle.lfs_operations.specs.Dropping.{SameInFlight}
 use Rattle.lfs_operations.proofs.RecoverLoop.{FirstsOnly, IsAtDrop, IsAtEnd, IsOnWay, all_but, drops, goes_to, ready, soft, stands, sync_set, unled}
-use Rattle.lfs_operations.proofs.RecoverMap.{HasMap, files_count, map_drops, none_flies}
+use Rattle.lfs_operations.proofs.RecoverMap.{HasMap, blocks_count, files_count, map_drops, map_flies}
 use Rattle.lfs_operations.proofs.RecoverPlaced.{IsAt, next_below, next_is, without_is}
 use Rattle.lfs_operations.proofs.RecoverShares.{over_content, over_made}
+use Rattle.lfs_operations.proofs.RecoverWrites.{two_fewer, writes_fewer, writes_none}
+use Rattle.lfs_operations.proofs.UnlinkedSteps.{writes_trans}
 use Rattle.lfs_operations.proofs.RecoverSteps.{IsUnled, over_left, over_on, state_now}
 
 -- ---- the device
+
+-- as many blocks and pages, of the same sizes; and the history goes on
+pub record StaysOn (old new : Kept) : Type 0 where
+  pub shape : HasShape old.disk new.disk
+  pub calls : EachSince (λ e. Unit {0}) old.history new.history
 
 pub stays_itself : (t : Kept) → StaysOn t t
 stays_itself t = record { shape = record { block_size = refl; page = refl; count = refl }; calls = record { events = []; extends = refl; each = tt } }
@@ -110,8 +119,11 @@ pub record IsUnderWay (old now : Kept) (dropped : ℕ) (numbers : List ℕ) : Ty
   pub device : StaysOn old now
   pub gone : List ℕ
   pub map : HasMap now gone
+  pub none_gone : AreBare (IsReached old.pairs) None (directory_pairs old.pairs) → gone ≡ []
   pub lost : (b : ℕ) → count b gone + count b (files_of now.disk (slots_in now.pairs)) ≡ count b (files_of old.disk (slots_in old.pairs))
-  pub none_comes : NoneComes old.map now.map
+  pub flying : SameInFlight old.map now.map
+  pub fewer : (b : ℕ) → count b (blocks_of now.pairs) ≤ count b (blocks_of old.pairs)
+  pub writes : Writes (blocks_of old.pairs) old now
   pub survives : Survives old.disk old.history now.history (tree_in old.disk old.pairs) (tree_in old.disk old.pairs)
 
 pub begins : (t : Kept) (numbers : List ℕ) → CanDropUnreached t numbers → IsUnderWay t t 0 numbers
@@ -141,6 +153,7 @@ begins t numbers can =
       state = λ some n. absurd (omega arith);
       device = stays_itself t;
       gone = [];
+      none_gone = λ bare. refl;
       map = record {
         owned = used_blocks t.disk t.pairs;
         are = can.used;
@@ -149,11 +162,17 @@ begins t numbers can =
         size = can.size;
       };
       lost = λ b. omega arith;
-      none_comes = λ b flies. flies;
+      flying = λ b. ((λ flies. flies), (λ flies. flies));
+      fewer = λ b. omega arith;
+      writes = writes_none (blocks_of t.pairs) t;
       survives = λ clean. record { events = []; extends = refl; each = tt };
     }
 
 -- ---- the next pair that goes
+
+bare_at : (R : ℕ × ℕ → Type 0) (from : Option (ℕ × ℕ)) (xs : List Pair) (x : Pair) (ys : List Pair) → AreBare R from (xs ++ x ∷ ys) → (R (begin_from (onward_all from xs) x) → ⊥) → x.content.slots ≡ []
+bare_at R from [] x ys h n = h.0 n
+bare_at R from (y ∷ xs) x ys h n = bare_at R (onward from y) xs x ys h.1 n
 
 -- the pair at an index goes, which stands behind the one before it
 pub record IsNext (old now : Kept) (dropped number : ℕ) (rest : List ℕ) : Type 0 where
@@ -295,10 +314,17 @@ module _ (old now : Kept) (dropped number : ℕ) (rest : List ℕ) (n : IsNext o
         (subst (λ z. IsLeftOf (with_blocks left now.disk) z z) shows
         (over_left now C n.front n.before n.x n.todo index behind g here next is_ready is_unled (can_take index behind next e) address words left x))) (stops clean))
 
+    pub writes_on : (new : Kept) → IsUnderWay old now dropped (number ∷ rest) → Writes (two_of (pair_in now index).at) now new → Writes (blocks_of old.pairs) old new
+    writes_on new u writes =
+        let can = can_take index behind next e in
+        let low : index < length now.pairs = let w = can.next in let z = can.below in omega arith in
+        writes_trans u.writes (writes_fewer _ (blocks_of old.pairs) (λ b. let f = u.fewer b in let l = two_fewer now.pairs index low b in omega arith) writes)
+
     pub moves_on : (new : Kept) → IsUnderWay old now dropped (number ∷ rest) → IsAddress (takes_share now index behind g).pair → IsAddressIfSome (target_of (pair_in now behind).content.tail)
-        → IsDropped now index (taking_over now index behind g) new → StaysOn now new → StopsLeave now.history new.history (IsLeft now index (taking_over now index behind g))
+        → IsDropped now index (taking_over now index behind g) new → Writes (two_of (pair_in now index).at) now new → StopsLeave now.history new.history (IsLeft now index (taking_over now index behind g))
         → IsUnderWay old new (suc dropped) rest
-    moves_on new u address words is on stops =
+    moves_on new u address words is writes stops =
+        let on = stays_by _ now new writes in
         let can = can_take index behind next e in
         let same : is.content ≡ over_content now index behind g = same_Some is.content (over_content now index behind g) (sym is.made ∙ over_made now index behind g can address words) in
         let written = subst (λ c. IsWrittenAs now index c new.disk) same is.written in
@@ -313,13 +339,20 @@ module _ (old now : Kept) (dropped number : ℕ) (rest : List ℕ) (n : IsNext o
         let map_is : new.map ≡ without_pair now.map n.x.at = is.map ∙ ap (λ (z : Pair). without_pair now.map z.at) (next_is now C n.front n.before n.x n.todo index here) in
         record {
           gone = u.gone ++ files_of now.disk n.x.content.slots;
+          none_gone = λ bare. ap₂ (λ gone slots. gone ++ files_of now.disk slots) (u.none_gone bare)
+              (bare_at (IsReached old.pairs) None n.seen n.x n.todo
+              (subst (AreBare (IsReached old.pairs) None) (ap directory_pairs n.way.is.are ∙ pairs_behind C (n.seen ++ n.x ∷ n.todo) n.way.is.was_chain) bare) n.unreached);
           map = map_drops now new (C ++ n.front) n.before n.x q n.todo were are refl apart.slots now_none still apart.device.geometry files u.gone map_is on.shape.count u.map;
           lost = λ b.
               let f = files_count now new (C ++ n.front) n.before n.x q n.todo were are refl apart.slots now_none still apart.device.geometry files b in
               let a = count_append b u.gone (files_of now.disk n.x.content.slots) in
               let l = u.lost b in
               omega arith;
-          none_comes = none_flies old.map now.map new.map n.x.at map_is u.none_comes;
+          flying = λ b.
+              let f : SameInFlight now.map new.map = subst (SameInFlight now.map) (sym map_is) (map_flies now new (C ++ n.front) n.before n.x q n.todo were are refl apart.slots now_none still apart.device.geometry files u.gone u.map) in
+              ((λ flies. (u.flying b).0 ((f b).0 flies)), (λ flies. (f b).1 ((u.flying b).1 flies)));
+          fewer = λ b. let f = u.fewer b in let k = blocks_count now new (C ++ n.front) n.before n.x q n.todo were are refl apart.slots now_none still apart.device.geometry files b in omega arith;
+          writes = writes_on new u writes;
           seen = n.seen ++ n.x ∷ [];
           todo = n.todo;
           parts = n.parts ++ [] ∷ [];

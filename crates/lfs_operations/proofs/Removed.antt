@@ -241,6 +241,7 @@ module _ (t : Kept) (index id first : ℕ) (take : CanRemove t index id first) (
             (subst (λ y. IsCompleted t.disk (thread_at w (p ∷ [])) z (ops.Remove given) new.disk y) (sym x.pairs)
             (remove_completed t.disk new.disk w p x.q x.more l r u x.commit.commit can.stands.stands.entry take.file can.path can.at led same_begin z given (tree ∙ ap (tree_in t.disk) there)
             (is_path ∙ ap (λ n. can.path ++ n ∷ []) (sym can.stands.stands.named)) filled));
+        once = λ b. let e = x.used.same b in let o = x.once b in omega arith;
       }
 
   pub remove_survives : (new : List Event) → StopsLeave t.history new (IsLeft t index (Delete id ∷ [])) → Survives t.disk t.history new (tree_in t.disk t.pairs) (without_file t take.can.path take.can.name)

@@ -28,6 +28,7 @@ use Rattle.lfs_model.proofs.Pairs.{pair_back, pair_on}
 use Rattle.lfs_model.proofs.Sites.{IsSite, Site, begin_of, dirs_at, thread_at}
 use Rattle.lfs_model.proofs.Splices.{IsDevice, files_of}
 use Rattle.lfs_model.proofs.Superblocks.{IsChain}
+use Rattle.lfs_model.proofs.Writable.{flag}
 use Rattle.lfs_thread.specs.Device.{StopsLeave, two_of}
 use Rattle.lfs_thread.specs.Kept.{Kept}
 use Rattle.lfs_thread.specs.Steps.{IsWrittenAs, pair_in, without_pair}
@@ -64,17 +65,21 @@ not_alone chain before left tail p a first distinct h b n none =
     let e = same_number (chain ++ ((before ++ left) ++ p ∷ tail)) (length (chain ++ (before ++ left))) first p b.pair distinct there b.there (pair_on p.at a b.pair.at begins (pair_back b.pair.at a b.same)) in
     n (sym (length-append chain (before ++ left)) ∙ e)
 
-run_hard : (left : List Pair) (x : Pair) (o : Pair) (right : List Pair) → IsRun (left ++ (x ∷ o ∷ right)) → is_hard x.content.tail ≡ true
+pub run_hard : (left : List Pair) (x : Pair) (o : Pair) (right : List Pair) → IsRun (left ++ (x ∷ o ∷ right)) → is_hard x.content.tail ≡ true
 run_hard [] x o right h = h.0
 run_hard (y ∷ []) x o right h = h.1.0
 run_hard (y ∷ z ∷ left) x o right h = run_hard (z ∷ left) x o right h.1
+
+flag_last : (xs : List Pair) (x : Pair) (b : Bool) → flag b (xs ++ x ∷ []) ≡ is_hard x.content.tail
+flag_last [] x b = refl
+flag_last (y ∷ xs) x b = flag_last xs x (is_hard y.content.tail)
 
 -- a hard tail takes over what comes
 pub over_hard : (f g : Option Tail) → is_hard f ≡ true → taken_over f g ≡ g
 over_hard f None h = refl
 over_hard f (Some t) h = ap (λ b. Some (record { hard = b && t.hard; to = t.to })) h
 
-only_slot : (l r : List Slot) (u : Slot) → length (l ++ u ∷ r) ≡ 1 → l ++ u ∷ r ≡ u ∷ []
+pub only_slot : (l r : List Slot) (u : Slot) → length (l ++ u ∷ r) ≡ 1 → l ++ u ∷ r ≡ u ∷ []
 only_slot [] [] u e = refl
 only_slot [] (s ∷ r) u e = absurd (omega arith)
 only_slot (s ∷ []) r u e = absurd (omega arith)
@@ -187,6 +192,10 @@ module _ (t : Kept) (index id first : ℕ) (can : CanEdit t index id) (begins : 
 
   same_now : same_pair (begin_of w (x ∷ o ∷ [])) can.at ≡ true
   same_now = subst (λ z. same_pair (first_at z) can.at ≡ true) (ap (λ z. z ++ o ∷ []) front.is ∙ append_assoc front.front (x ∷ []) (o ∷ [])) same_before
+
+  -- a hard tail leads to the pair
+  pub flag_whole : flag false (v.before ++ v.left) ≡ true
+  flag_whole = ap (λ z. flag false (v.before ++ z)) front.is ∙ ap (flag false) (sym (append_assoc v.before front.front (x ∷ []))) ∙ flag_last (v.before ++ front.front) x false ∙ hard
 
   pub stands_whole : StandsWhole t index id can
   stands_whole = record { w = w; x = x; there = there; site = site_now; number = place; hard = hard; same = same_now; held = held }
@@ -312,6 +321,11 @@ module _ (t : Kept) (index id first : ℕ) (can : CanEdit t index id) (begins : 
             (subst (λ y. IsCompleted t.disk (thread_at w (x ∷ o ∷ [])) z (ops.Remove given) new.disk y) (sym (pairs_now new h))
             (drop_completed t.disk new.disk w x o q u (drop_on new.disk h.written) file can.path can.at leads_now same_now z given (tree ∙ ap (tree_in t.disk) there)
             (is_path ∙ ap (λ n. can.path ++ n ∷ []) (sym can.stands.stands.named))));
+        once = λ b.
+            let e = count_append b (used_blocks new.disk new.pairs) (file_blocks t.disk u.struct) in
+            let n = now_used b in
+            let o = once b in
+            omega arith;
       }
 
     -- ---- at a stop

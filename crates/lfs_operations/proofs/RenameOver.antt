@@ -115,7 +115,7 @@ module _ (t : Kept) (index id place : ℕ) (name : Name) (rename : CanRenameOver
   pair_same : can.stands.pair ≡ rename.target.pair
   pair_same = sym (here t can.ready can.first index p can.stands.rest can.stands.place) ∙ here t can.ready can.first index rename.target.pair rename.target.rest rename.target.place
 
-  target_held : p.content.slots ≡ rename.target.stands.left ++ target ∷ rename.target.stands.right
+  pub target_held : p.content.slots ≡ rename.target.stands.left ++ target ∷ rename.target.stands.right
   target_held = ap (λ (z : Pair). z.content.slots) pair_same ∙ rename.target.stands.held
 
   abbrev l2 : List Slot
@@ -142,7 +142,7 @@ module _ (t : Kept) (index id place : ℕ) (name : Name) (rename : CanRenameOver
   abbrev c : CompletesTo (raw_at t.disk (pair_in t index).at) p.content
   c = raw_there t can.ready can.first index p can.stands.rest can.stands.place
 
-  differs : target.name ≡ u.name → ⊥
+  pub differs : target.name ≡ u.name → ⊥
   differs e = rename.differs (sym rename.target.stands.named ∙ e ∙ s.named)
 
   -- the file has a name, so the entry may have it
@@ -168,10 +168,10 @@ module _ (t : Kept) (index id place : ℕ) (name : Name) (rename : CanRenameOver
       (puts_move c.raw share (turned_small (pair_in t index).content.move
       (subst IsMoveState (sym (completed_parts c.raw p.content c.complete).move ∙ ap (λ (z : Pair). z.content.move) (sym (here t can.ready can.first index p can.stands.rest can.stands.place))) (can.logged c.raw c.is).move))) h
 
-  abbrev IsLeftOver : List Slot → List Slot → Type 0
+  abbrev pub IsLeftOver : List Slot → List Slot → Type 0
   IsLeftOver x y = (s.left ++ s.right ≡ x ++ target ∷ y) × (length x ≡ place_without id place)
 
-  abbrev over_content : List Slot → List Slot → Content
+  abbrev pub over_content : List Slot → List Slot → Content
   over_content x y = record { slots = x ++ with_name u name ∷ y; tail = p.content.tail; move = share }
 
   module _ (x y : List Slot) (over : IsLeftOver x y) where
@@ -213,7 +213,7 @@ module _ (t : Kept) (index id place : ℕ) (name : Name) (rename : CanRenameOver
         ∙ completed_from raw_now (x ++ with_name u name ∷ y) (are_again turned_raw (Delete id ∷ Delete (place_without id place) ∷ []) x y left_two (place_without id place) over.1 fits_two.count name named raw_here u is_raw_slot)
         ∙ ap₂ (λ a m. Some (record { slots = x ++ with_name u name ∷ y; tail = a; move = m })) (left_two.tail ∙ sym parts.tail) left_two.move
 
-    over_fits : FitsPair t.disk.block_size t.disk.page (over_content x y)
+    pub over_fits : FitsPair t.disk.block_size t.disk.page (over_content x y)
     over_fits =
         let n : length name ≡ length target.name = ap length (sym rename.target.stands.named) in
         let b : struct_len target.struct ≡ 8 = ap struct_len rename.branch in
@@ -239,17 +239,17 @@ module _ (t : Kept) (index id place : ℕ) (name : Name) (rename : CanRenameOver
 
   -- ---- the slots that make way
 
-  record HasOver : Type 1 where
-    x : List Slot
-    y : List Slot
-    over : IsLeftOver x y
-    l : List Slot
-    olds : List Slot
-    news : List Slot
-    r : List Slot
-    placed : IsPlaced t index (rename_over_changes t index id place name) w p l olds news r (target ∷ []) u (with_name u name)
-    is_content : placed.content ≡ over_content x y
-    follows : (disk : Disk) (q : Pair) → IsStep t.disk disk w p [] q [] [] [] l olds news r → (gstate_of (thread_at w (q ∷ []))).sync ≡ true
+  pub record HasOver : Type 1 where
+    pub x : List Slot
+    pub y : List Slot
+    pub over : IsLeftOver x y
+    pub l : List Slot
+    pub olds : List Slot
+    pub news : List Slot
+    pub r : List Slot
+    pub placed : IsPlaced t index (rename_over_changes t index id place name) w p l olds news r (target ∷ []) u (with_name u name)
+    pub is_content : placed.content ≡ over_content x y
+    pub follows : (disk : Disk) (q : Pair) → IsStep t.disk disk w p [] q [] [] [] l olds news r → (gstate_of (thread_at w (q ∷ []))).sync ≡ true
         → Follows t.disk (thread_at w (p ∷ [])) disk (thread_at w (q ∷ [])) (renamed (can.path ++ can.name ∷ []) (can.path ++ name ∷ [])) (rename_walk (can.path ++ can.name ∷ []) (can.path ++ name ∷ []))
 
   abbrev FollowsAs : Disk → Pair → Name → Name → Type 0
@@ -347,7 +347,7 @@ module _ (t : Kept) (index id place : ℕ) (name : Name) (rename : CanRenameOver
           (target_held ∙ ap (λ z. l2 ++ target ∷ z) (back ∙ sym (append_assoc passed (u ∷ []) s.right))) s.entry rename.target.stands.entry (λ e. absurd (let z = sym sync ∙ e in cc)) differs can.path can.at leads_there same_there);
     }
 
-  has_over : HasOver
+  pub has_over : HasOver
   has_over = go (behind_or_ahead s.left u s.right l2 (target ∷ r2) (sym s.held ∙ target_held))
     where
       go : ComesBehind s.left u s.right l2 (target ∷ r2) ⊎ ComesAhead s.left u s.right l2 (target ∷ r2) → HasOver
@@ -389,7 +389,7 @@ module _ (t : Kept) (index id place : ℕ) (name : Name) (rename : CanRenameOver
     grouped : (z : Pair) → thread_at w (z ∷ []) ≡ (w.chain ++ (w.before ++ w.left)) ++ z ∷ (w.right ++ w.after)
     grouped z = sym (append_assoc w.chain (w.before ++ w.left) (z ∷ (w.right ++ w.after)))
 
-    gstate_now : gstate_of (thread_at w (q ∷ [])) ≡ sync_share
+    pub gstate_now : gstate_of (thread_at w (q ∷ [])) ≡ sync_share
     gstate_now =
         let turn : gstate_of (q ∷ []) ≡ gstate_xor sync_share (gstate_of (p ∷ []))
         = gstate_cons q [] ∙ gstate_right q.content.move ∙ ap (λ (z : Pair). gstate_xor z.content.move sync_share) pair_there ∙ gstate_comm p.content.move sync_share
@@ -421,7 +421,7 @@ module _ (t : Kept) (index id place : ℕ) (name : Name) (rename : CanRenameOver
     device_of : (disk : Disk) → IsWrittenAs t index (over_content h.x h.y) disk → IsDevice t.disk disk (thread_at w (p ∷ [])) (thread_at w (q ∷ []))
     device_of disk is = device t.disk disk w p q [] [] accepted accepted.owned_once (placed_on disk (over_content h.x h.y) still_has is)
 
-    step : (disk : Disk) → IsWrittenAs t index (over_content h.x h.y) disk → IsStep t.disk disk w p [] q [] [] [] h.l h.olds h.news h.r
+    pub step : (disk : Disk) → IsWrittenAs t index (over_content h.x h.y) disk → IsStep t.disk disk w p [] q [] [] [] h.l h.olds h.news h.r
     step disk is =
         let on = device_of disk is in
         let files = subst (λ z. SameFiles t.disk disk (all_slots z)) (sym there) (recursion_from_All (λ (x : Slot). HasSameFile t.disk disk x.struct) (all_slots (thread_at w (p ∷ []))) on.files) in
@@ -443,7 +443,7 @@ module _ (t : Kept) (index id place : ℕ) (name : Name) (rename : CanRenameOver
           };
         }
 
-    taken : (disk : Disk) → IsWrittenAs t index (over_content h.x h.y) disk
+    pub taken : (disk : Disk) → IsWrittenAs t index (over_content h.x h.y) disk
         → IsTaken t.disk (thread_at w (p ∷ [])) disk (thread_at w (q ∷ [])) (renamed (can.path ++ can.name ∷ []) (can.path ++ name ∷ [])) (rename_walk (can.path ++ can.name ∷ []) (can.path ++ name ∷ []))
     taken disk is = commit_taken t.disk w p q [] h.l h.olds h.news h.r
         (record {
@@ -457,7 +457,7 @@ module _ (t : Kept) (index id place : ℕ) (name : Name) (rename : CanRenameOver
         disk [] [] (renamed (can.path ++ can.name ∷ []) (can.path ++ name ∷ [])) (rename_walk (can.path ++ can.name ∷ []) (can.path ++ name ∷ [])) (step disk is)
         (h.follows disk q (step disk is) (ap (λ (g : Gstate). g.sync) gstate_now))
 
-    pair_now : with_pair t index (over_content h.x h.y) ≡ thread_at w (q ∷ [])
+    pub pair_now : with_pair t index (over_content h.x h.y) ≡ thread_at w (q ∷ [])
     pair_now =
         ap (λ (z : Pair). set t.pairs index (record { at = z.at; content = over_content h.x h.y })) pair_there
         ∙ ap₂ (λ (z : List Pair) (i : ℕ). set z i q) (there ∙ grouped p) (k.place ∙ sym (length-append w.chain (w.before ++ w.left))) ∙ set_at ahead p behind q ∙ sym (grouped q)
@@ -474,13 +474,13 @@ module _ (t : Kept) (index id place : ℕ) (name : Name) (rename : CanRenameOver
     next = ap (λ (z : Pair). next_of z.content.tail) (sym (here t can.ready can.first index p can.stands.rest can.stands.place));
   }
 
-  same_made : (z : Content) → made_in_thread t index (rename_over_changes t index id place name) ≡ Some z → z ≡ over_content has_over.x has_over.y
+  pub same_made : (z : Content) → made_in_thread t index (rename_over_changes t index id place name) ≡ Some z → z ≡ over_content has_over.x has_over.y
   same_made z m = same_Some z (over_content has_over.x has_over.y) (sym m ∙ over_made has_over.x has_over.y has_over.over)
 
   pub over_not_refused : (new : Kept) → IsRefused t index (rename_over_changes t index id place name) new → ⊥
   over_not_refused new is = is.too_large (subst (FitsPair t.disk.block_size t.disk.page) (sym (same_made is.content is.made)) (over_fits has_over.x has_over.y has_over.over))
 
-  pub renamed_over : (new : Kept) → IsChanged t index (rename_over_changes t index id place name) new → IsRenamedOver t new index rename.can.path rename.can.name name
+  pub renamed_over : (new : Kept) → IsChanged t index (rename_over_changes t index id place name) new → IsRenamedOver t new index id place rename.can.path rename.can.name name
   renamed_over new is =
       let e = same_made is.content is.made in
       let written = subst (λ z. IsWrittenAs t index z new.disk) e is.written in
@@ -488,6 +488,7 @@ module _ (t : Kept) (index id place : ℕ) (name : Name) (rename : CanRenameOver
       let now = pairs ∙ pair_now has_over in
       let done = taken has_over new.disk written in
       record {
+        changed = is;
         content = over_content has_over.x has_over.y;
         written = written;
         pairs = pairs;

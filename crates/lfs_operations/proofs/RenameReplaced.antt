@@ -1,5 +1,5 @@
 -- A rename within one pair onto a file.
-use Rattle.std.proofs.Common.{ℕ, ◌≡◌, ◌⊎◌, inl, inr, true, List, [], ◌∷◌, ◌++◌, length, Some, refl, sym, ap, subst, ◌∙◌, arith, append_assoc, append-nil, length-append}
+use Rattle.std.proofs.Common.{ℕ, ◌≡◌, ◌≤◌, ◌+◌, ◌⊎◌, inl, inr, true, List, [], ◌∷◌, ◌++◌, length, Some, refl, sym, ap, subst, ◌∙◌, arith, append_assoc, append-nil, length-append}
 use Rattle.lfs_model.specs.Apply.{renamed}
 use Rattle.lfs_model.specs.Changes.{Delete}
 use Rattle.lfs_model.specs.Content.{raw_at}
@@ -10,10 +10,10 @@ use Rattle.lfs_model.specs.Names.{Name, is_name}
 use Rattle.lfs_model.specs.PowerLoss.{Survives}
 use Rattle.lfs_model.specs.Slots.{FitsPair, Slot, same_pair}
 use Rattle.lfs_model.specs.Thread.{Pair, blocks_of}
-use Rattle.lfs_model.specs.View.{IsEntry, Leads, file_blocks, tree_in}
+use Rattle.lfs_model.specs.View.{IsEntry, Leads, file_blocks, tree_in, used_blocks}
 use Rattle.lfs_model.proofs.Changes.{Follows}
 use Rattle.lfs_model.proofs.Committed.{IsCommit, commit_step, recovered_from}
-use Rattle.lfs_model.proofs.Counts.{Each, each_right}
+use Rattle.lfs_model.proofs.Counts.{Each, each_right, count}
 use Rattle.lfs_model.proofs.OneCommit.{some_filled}
 use Rattle.lfs_model.proofs.RenameOntoFile.{onto_file_ahead_completed, onto_file_behind_completed}
 use Rattle.lfs_model.proofs.Renames.{rename_walk}
@@ -32,7 +32,7 @@ use Rattle.lfs_operations.proofs.RenameMade as made
 use Rattle.lfs_operations.proofs.RenameMade.{ComesAhead, ComesBehind, Leaves, behind_or_ahead, fits_without, leaves_then, leaves_without}
 use Rattle.lfs_operations.proofs.RenameOnto.{onto_ahead_follows, onto_behind_follows}
 use Rattle.lfs_operations.proofs.RenamePlaced.{carries_ahead, carries_behind, with_name}
-use Rattle.lfs_operations.proofs.RenameStepped.{IsMoving, moved_becomes, moved_completed, moved_survives}
+use Rattle.lfs_operations.proofs.RenameStepped.{IsMoving, moved_becomes, moved_completed, moved_once, moved_survives}
 use Rattle.lfs_operations.proofs.RenameWithin.{place_ahead_is, place_behind_is}
 
 -- what follows another slot
@@ -289,6 +289,8 @@ module _ (t : Kept) (index id place : ℕ) (name : Name) (rename : CanRenameOnto
   renamed_onto new is = record {
     now = subst (λ z. HasBecomeBut t new (with_renamed t can.path can.name name) z []) (append-nil (file_blocks t.disk target.struct))
         (moved_becomes t index (rename_onto_changes t index id place name) can.path can.name name (target ∷ []) moving new is);
+    once = subst (λ (z : List ℕ). (b : ℕ) → count b (used_blocks new.disk new.pairs) + count b z ≤ 1) (append-nil (file_blocks t.disk target.struct))
+        (moved_once t index (rename_onto_changes t index id place name) can.path can.name name (target ∷ []) moving new is);
     completed = moved_completed t index (rename_onto_changes t index id place name) can.path can.name name (target ∷ []) moving new is;
   }
 

@@ -1,5 +1,5 @@
 -- A rename within one pair as a step of the thread, whatever makes way for whatever.
-use Rattle.std.proofs.Common.{ℕ, ◌≡◌, ◌≢◌, List, [], ◌∷◌, ◌++◌, sym, ap, subst, ◌∙◌}
+use Rattle.std.proofs.Common.{ℕ, ◌≡◌, ◌≢◌, ◌≤◌, ◌+◌, List, [], ◌∷◌, ◌++◌, sym, ap, subst, ◌∙◌, arith}
 use Rattle.lfs_model.specs.Apply.{renamed}
 use Rattle.lfs_model.specs.Changes.{Change}
 use Rattle.lfs_model.specs.Disk.{Disk}
@@ -12,7 +12,7 @@ use Rattle.lfs_model.specs.Slots.{Slot}
 use Rattle.lfs_model.specs.Steps.{as_path}
 use Rattle.lfs_model.specs.Thread.{Pair}
 use Rattle.lfs_model.specs.Tree.{Path}
-use Rattle.lfs_model.specs.View.{tree_in}
+use Rattle.lfs_model.specs.View.{tree_in, used_blocks}
 use Rattle.lfs_model.proofs.Changes.{Follows}
 use Rattle.lfs_model.proofs.Committed.{IsCommit, IsCompleted}
 use Rattle.lfs_model.proofs.Renames.{rename_walk}
@@ -22,6 +22,7 @@ use Rattle.lfs_thread.specs.Device.{StopsLeave}
 use Rattle.lfs_thread.specs.Kept.{Kept}
 use Rattle.lfs_operations.specs.Changing.{IsLeftByPut, IsPut}
 use Rattle.lfs_operations.specs.Ready.{HasBecomeBut}
+use Rattle.lfs_model.proofs.Counts.{count}
 use Rattle.lfs_operations.specs.Renaming.{IsRenameOf, with_renamed}
 use Rattle.lfs_operations.proofs.RenamePlaced.{IsPlaced, splicing}
 use Rattle.lfs_operations.proofs.Splicing.{IsSplicing}
@@ -55,6 +56,13 @@ module _ (t : Kept) (index : ℕ) (changes : List Change) (path : Path) (from to
   pub moved_becomes : (new : Kept) → IsPut t index changes new → HasBecomeBut t new (with_renamed t path from to) (files_of t.disk gone) []
   moved_becomes new is = becomes t index changes m.w m.p m.l m.olds m.news m.r (files_of t.disk gone) [] spliced (renamed (path ++ from ∷ []) (path ++ to ∷ []))
       (λ disk q more c. (rename_walk (path ++ from ∷ []) (path ++ to ∷ []), m.follows disk q more c.commit)) (λ e. m.filled) new (stepped new is)
+
+  pub moved_once : (new : Kept) → IsPut t index changes new → (b : ℕ) → count b (used_blocks new.disk new.pairs) + count b (files_of t.disk gone) ≤ 1
+  moved_once new is b =
+      let x = stepped new is in
+      let e = x.used.same b in
+      let o = x.once b in
+      omega arith
 
   pub moved_completed : (new : Kept) → IsPut t index changes new → IsRenameOf t new path from to
   moved_completed new is s given to_given tree given_is to_is =

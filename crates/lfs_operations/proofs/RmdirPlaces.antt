@@ -109,21 +109,10 @@ pub record HasFront (dirs : List Pair) (d : ℕ × ℕ) : Type 0 where
   pub is_run : IsRun (first ∷ run)
   pub at : same_pair first.at d ≡ true
 
-pub has_front : (disk : Disk) (chain dirs : List Pair) (P : Path) (n : List ℕ) (d : ℕ × ℕ) → IsAccepted disk (chain ++ dirs) → IsChain chain dirs → Leads (chain ++ dirs) (P ++ n ∷ []) d → HasFront dirs d
-has_front disk chain dirs P n d ok is_chain led = by h.before refl
+-- a directory that isn't the first of all has a pair in front of it
+pub front_of : (dirs : List Pair) (d : ℕ × ℕ) (h : HasDirectory dirs d) → (h.before ≡ [] → ⊥) → HasFront dirs d
+front_of dirs d h not_root = by h.before refl
   where
-    h : HasDirectory (directory_pairs (chain ++ dirs)) d
-    h = led_directory disk (chain ++ dirs) (P ++ n ∷ []) d ok led
-
-    dirs_are : dirs ≡ h.before ++ (h.first ∷ h.run ++ h.after)
-    dirs_are = sym (pairs_behind chain dirs is_chain) ∙ h.is
-
-    -- the root isn't named by an entry
-    not_root : h.before ≡ [] → ⊥
-    not_root e =
-        let root : root_of (chain ++ dirs) ≡ h.first.at = ap first_at (h.is ∙ ap (λ z. z ++ (h.first ∷ h.run ++ h.after)) e) in
-        path_some P n (ok.once [] (P ++ n ∷ []) (root_of (chain ++ dirs)) d refl led (subst (λ z. same_pair z d ≡ true) (sym root) h.at))
-
     by : (before : List Pair) → h.before ≡ before → HasFront dirs d
     by [] e = absurd (not_root e)
     by (b ∷ bs) e =
@@ -135,12 +124,22 @@ has_front disk chain dirs P n d ok is_chain led = by h.before refl
           first = h.first;
           run = h.run;
           after = h.after;
-          is = dirs_are ∙ ap (λ z. z ++ (h.first ∷ h.run ++ h.after)) whole ∙ append_assoc l.front (l.last ∷ []) (h.first ∷ (h.run ++ h.after));
+          is = h.is ∙ ap (λ z. z ++ (h.first ∷ h.run ++ h.after)) whole ∙ append_assoc l.front (l.last ∷ []) (h.first ∷ (h.run ++ h.after));
           soft = ends_last l.front l.last (subst Ends whole h.ends);
           ends = subst Ends whole h.ends;
           is_run = h.is_run;
           at = h.at;
         }
+
+-- the root isn't named by an entry
+pub not_the_root : (disk : Disk) (ps : List Pair) (P : Path) (n : List ℕ) (d : ℕ × ℕ) → IsAccepted disk ps → Leads ps (P ++ n ∷ []) d → same_pair (root_of ps) d ≡ true → ⊥
+not_the_root disk ps P n d ok led e = path_some P n (ok.once [] (P ++ n ∷ []) (root_of ps) d refl led e)
+
+pub has_front : (disk : Disk) (chain dirs : List Pair) (P : Path) (n : List ℕ) (d : ℕ × ℕ) → IsAccepted disk (chain ++ dirs) → IsChain chain dirs → Leads (chain ++ dirs) (P ++ n ∷ []) d → HasFront dirs d
+has_front disk chain dirs P n d ok is_chain led =
+    let h = led_directory disk (chain ++ dirs) (P ++ n ∷ []) d ok led in
+    subst (λ z. HasFront z d) (pairs_behind chain dirs is_chain) (front_of (directory_pairs (chain ++ dirs)) d h
+    (λ e. not_the_root disk (chain ++ dirs) P n d ok led (subst (λ z. same_pair z d ≡ true) (sym (ap first_at (h.is ∙ ap (λ z. z ++ (h.first ∷ h.run ++ h.after)) e))) h.at)))
 
 -- with no slots it shows nothing
 pub shows_nothing : (disk : Disk) (chain dirs : List Pair) (d : ℕ × ℕ) → IsAccepted disk (chain ++ dirs) → IsChain chain dirs → HasNoMove (gstate_of (chain ++ dirs)) → (h : HasFront dirs d) → is_hard h.first.content.tail ≡ false

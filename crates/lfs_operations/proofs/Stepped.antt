@@ -1,23 +1,25 @@
 -- What a change or a split comes to, and what a stop in it leaves, as a commit of the laws.
-use Rattle.std.proofs.Common.{ℕ, ◌≡◌, ◌≢◌, true, false, slice_get, ◌⊎◌, inl, inr, ◌≤◌, List, [], ◌∷◌, ◌++◌, length, Some, refl, sym, ap, subst, ◌∙◌, arith}
-use Rattle.std.specs.Prelude.{All}
+use Rattle.std.proofs.Common.{ℕ, ◌≡◌, ◌≢◌, true, false, slice_get, ◌⊎◌, inl, inr, ⊎_elim, ◌+◌, ◌<◌, ◌≤◌, List, [], ◌∷◌, ◌++◌, length, Some, refl, sym, ap, subst, ◌∙◌, arith}
+use Rattle.std.specs.Prelude.{All, Contains}
+use Rattle.std.proofs.lemmas.Bool.{cases_lt}
 use Rattle.std.proofs.lemmas.Option.{same_Some}
 use Rattle.std.proofs.lemmas.List.Elements.{recursion_from_All}
 use Rattle.lfs_model.specs.Blocks.{Blocks}
-use Rattle.lfs_model.specs.BlockSets.{AreUsed, IsInFlight}
+use Rattle.lfs_model.specs.BlockSets.{AreUsed, IsFree, IsInFlight}
 use Rattle.lfs_model.specs.Changes.{Change}
 use Rattle.lfs_model.specs.Content.{content_at}
 use Rattle.lfs_model.specs.Disk.{Disk, block_count}
 use Rattle.lfs_model.specs.PowerLoss.{IsLeft as IsLeftOf, Survives, with_blocks}
 use Rattle.lfs_model.specs.Slots.{Slot, Content, FitsPair}
-use Rattle.lfs_model.specs.Thread.{Pair, gstate_of}
+use Rattle.lfs_model.specs.Thread.{Pair, blocks_of, gstate_of}
 use Rattle.lfs_model.specs.Tree.{Tree}
 use Rattle.lfs_model.specs.View.{IsAccepted, IsWritable, FitsSlot, all_slots, tree_in, used_blocks}
+use Rattle.lfs_model.proofs.BlockSets.{Contains-count, count-Contains}
 use Rattle.lfs_model.proofs.Changes.{Follows, SameFiles}
 use Rattle.lfs_model.proofs.Files.{HasSameFile}
 use Rattle.lfs_model.proofs.Writable.{flag}
 use Rattle.lfs_model.proofs.Committed.{IsCommit, commit_writable}
-use Rattle.lfs_model.proofs.Counts.{count, each_right}
+use Rattle.lfs_model.proofs.Counts.{count, each_counted, each_right, once_from_distinct}
 use Rattle.lfs_model.proofs.Histories.{LeavesOnly-weaker}
 use Rattle.lfs_model.proofs.Laws.{Walk}
 use Rattle.lfs_model.proofs.Sites.{Site, thread_at}
@@ -28,7 +30,7 @@ use Rattle.lfs_thread.specs.Kept.{Kept}
 use Rattle.lfs_thread.specs.Steps.{pair_in, made_in_thread, front_pair, back_pair, AreHalves, HasShape, IsAsBefore, IsChanged, IsLeft, IsWrittenAs}
 use Rattle.lfs_operations.specs.Changing.{IsCutIn, IsLeftByPut, IsPut, IsTooLarge}
 use Rattle.lfs_operations.specs.Ready.{AreUsedBut, HasBecome, HasBecomeBut, NoneComes, StayTaken}
-use Rattle.lfs_operations.proofs.Owning.{length_now, none_comes_now, stay_taken, used_count_now, used_more, used_same}
+use Rattle.lfs_operations.proofs.Owning.{count_pairs, length_now, none_comes_now, stay_taken, used_count_now, used_more, used_same}
 use Rattle.lfs_operations.proofs.Placing.{device, nothing_came}
 use Rattle.lfs_operations.proofs.Splicing.{AreOn, Commits, IsSplicing, cut_front, accepted, at_is, commit_one, commit_two, fresh_distinct, one_now, pair_is, placed_one, placed_still, two_now}
 
@@ -45,6 +47,8 @@ pub record HasStep (t : Kept) (w : Site) (p : Pair) (l olds news r : List Slot) 
   pub commit : Commits t w p l olds news r come new.disk q more
   pub pairs : new.pairs ≡ thread_at w (q ∷ more)
   pub used : AreUsedBut new.map (used_blocks new.disk new.pairs) gone come
+  pub once : (b : ℕ) → count b used.owned ≤ 1
+  pub places : (b : ℕ) → Contains (blocks_of new.pairs) b → Contains (blocks_of t.pairs) b ⊎ IsFree t.map b
   pub size : length new.map ≡ block_count new.disk
   pub stays : StayTaken t.map new.map
   pub none_comes : NoneComes t.map new.map
@@ -69,6 +73,20 @@ module _ (t : Kept) (index : ℕ) (changes : List Change) (w : Site) (p : Pair) 
   files_at : {disk : Disk} {q : Pair} {more : List Pair} → IsCommit t.disk disk w p q more come l olds news r → SameFiles t.disk disk (all_slots t.pairs)
   files_at {disk = disk} c = subst (λ z. SameFiles t.disk disk (all_slots z)) (sym k.there) (recursion_from_All (λ (s : Slot). HasSameFile t.disk disk s.struct) (all_slots (thread_at w (p ∷ []))) c.device.files)
 
+  -- a block of the pairs was one before, or is one that came
+  place_of : (b : ℕ) (now : List Pair) (fresh : List ℕ) → count b (blocks_of now) ≡ count b (blocks_of (p ∷ [])) + count b fresh → Contains (blocks_of (thread_at w now)) b
+      → Contains (blocks_of t.pairs) b ⊎ (1 ≤ count b fresh)
+  place_of b now fresh e has = go (cases_lt 0 (count b fresh))
+    where
+      go : (0 < count b fresh) ⊎ (count b fresh ≤ 0) → Contains (blocks_of t.pairs) b ⊎ (1 ≤ count b fresh)
+      go (inl some) = inr some
+      go (inr none) =
+          let some = count-Contains (blocks_of (thread_at w now)) b has in
+          let c = count_pairs b w now in
+          let d = count_pairs b w (p ∷ []) in
+          let g = ap (λ z. count b (blocks_of z)) k.there in
+          inl (Contains-count (blocks_of t.pairs) b (omega arith))
+
   changed_step : (new : Kept) → IsChanged t index changes new → HasStep t w p l olds news r gone come new
   changed_step new is =
       let same = made_same is.content is.made in
@@ -89,6 +107,9 @@ module _ (t : Kept) (index : ℕ) (changes : List Change) (w : Site) (p : Pair) 
               let f = ap (λ z. count b (used_blocks new.disk z)) pairs in
               omega arith;
         };
+        once = λ b. once_from_distinct (used_blocks t.disk (thread_at w (p ∷ []))) (accepted t index changes w p l olds news r gone come k).owned_once b;
+        places = λ b has. ⊎_elim (λ was. inl was) (λ some. absurd (omega arith))
+            (place_of b (q ∷ []) [] (omega arith) (subst (λ (z : List Pair). Contains (blocks_of z) b) pairs has));
         size = ap length is.map ∙ k.ready.size ∙ sym is.written.shape.count;
         stays = λ b taken. ap (λ m. slice_get m b) is.map;
         none_comes = λ b flies. subst (λ m. IsInFlight m b) is.map flies;
@@ -124,6 +145,9 @@ module _ (t : Kept) (index : ℕ) (changes : List Change) (w : Site) (p : Pair) 
               let h = ap (λ z. count b (used_blocks new.disk z)) pairs in
               omega arith;
         };
+        once = λ b. once_from_distinct (fresh.0 ∷ fresh.1 ∷ used_blocks t.disk (thread_at w (p ∷ []))) (fresh_distinct t index changes w p l olds news r gone come k fresh is.free) b;
+        places = λ b has. ⊎_elim (λ was. inl was) (λ some. inr (each_counted (IsFree t.map) (fresh.0 ∷ fresh.1 ∷ []) (is.free.first, (is.free.second, tt)) b some))
+            (place_of b (q ∷ f ∷ []) (fresh.0 ∷ fresh.1 ∷ []) (omega arith) (subst (λ (z : List Pair). Contains (blocks_of z) b) pairs has));
         size = ap length is.map ∙ length_now t.map fresh is.free ∙ k.ready.size ∙ sym is.shape.count;
         stays = λ b taken. ap (λ m. slice_get m b) is.map ∙ stay_taken t.map fresh is.free b taken;
         none_comes = λ b flies. none_comes_now t.map fresh is.free b (subst (λ m. IsInFlight m b) is.map flies);

@@ -201,6 +201,8 @@ module _ (t : Kept) (index id kind : ℕ) (bytes : List ℕ) (store : CanStore t
         closed = λ z fd writer tree is. completed_there new x z (ops.Close fd)
             (close_completed t.disk new.disk w p x.q x.more store.come l r u v x.commit.commit other_slot can.path can.at led same_begin z (tree ∙ ap (tree_in t.disk) there_now) writer is.1.0
             (is.1.1.0 ∙ ap (λ n. can.path ++ n ∷ []) (sym can.stands.stands.named)) refl store.file (subst (λ b. Stores new.disk b v.struct) (sym is.1.1.1) (stores_now new.disk x.q x.more x.commit)) fd is.0);
+        once = λ b. let e = x.used.same b in let o = x.once b in omega arith;
+        places = x.places;
       }
 
   pub store_survives : (new : List Event) → StopsLeave t.history new (IsLeftByPut t index (PutStruct id kind bytes ∷ []))

@@ -56,7 +56,7 @@ pub writes_both : (a b : ℕ × ℕ) {old mid new : Kept} → Writes (two_of a) 
 writes_both a b first second = writes_trans (writes_first a b first) (writes_wider (four_of a b) (last_two a b) second)
 
 -- a change leaves each pair where it is
-at_kept : (xs : List Pair) (n k : ℕ) (c : Content) (d : Pair) → (get_or (set xs n (record { at = (get_or xs n d).at; content = c })) k d).at ≡ (get_or xs k d).at
+pub at_kept : (xs : List Pair) (n k : ℕ) (c : Content) (d : Pair) → (get_or (set xs n (record { at = (get_or xs n d).at; content = c })) k d).at ≡ (get_or xs k d).at
 at_kept [] n k c d = refl
 at_kept (x ∷ xs) zero zero c d = refl
 at_kept (x ∷ xs) zero (suc k) c d = refl

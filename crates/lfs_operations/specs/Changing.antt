@@ -15,6 +15,7 @@ use Rattle.lfs_model.specs.Thread.{IsThread}
 use Rattle.lfs_model.specs.Cut.{CanBeCut}
 use Rattle.lfs_pair.specs.Commit.{made_at}
 use Rattle.lfs_pair.specs.Split.{OutsideBothKeeps}
+use Rattle.lfs_thread.specs.Device.{four_of}
 use Rattle.lfs_thread.specs.Kept.{Kept, State}
 use Rattle.lfs_thread.specs.Steps.{pair_in, made_in_thread, CanChange, HasShape, IsChanged, IsLeft, IsLeftBySplit, IsOnlyRead, IsUnwritten, ArePartsOf, Writes, front_pair, back_pair, settled, with_two}
 
@@ -78,6 +79,7 @@ pub record IsCutIn (old : Kept) (index : ℕ) (fresh : ℕ × ℕ) (changes : Li
   pub pairs : new.pairs ≡ with_two old.pairs index (front_pair old index content cut fresh) (back_pair content cut fresh)
   pub thread : IsThread (content_at new.disk) (block_count new.disk) new.pairs
   pub map : new.map ≡ settled (flying old.map fresh) fresh
+  pub writes : Writes (four_of (pair_in old index).at fresh) old new
 
 abbrev pub IsCut : Kept → ℕ → List Change → Kept → Type 0
 IsCut old index changes new = (fresh : ℕ × ℕ) × IsCutIn old index fresh changes new

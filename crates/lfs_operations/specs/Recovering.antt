@@ -4,9 +4,9 @@ use Rattle.lfs_device.specs.declared.error.Error.{Error}
 use Rattle.lfs_device.specs.declared.error.Error.TheVariants.{Io, NoMemory}
 use Rattle.lfs_model.specs.BlockSets.{AreUsed}
 use Rattle.lfs_model.specs.Changes.{Change, Delete, PutMove, PutTail}
-use Rattle.lfs_model.specs.Disk.{block_count}
-use Rattle.lfs_model.specs.History.{EachSince, faults}
-use Rattle.lfs_model.specs.Layout.{begin_from, onward}
+use Rattle.lfs_model.specs.Disk.{Disk, block_count}
+use Rattle.lfs_model.specs.History.{faults}
+use Rattle.lfs_model.specs.Layout.{IsLaidOut, begin_from, onward}
 use Rattle.lfs_model.specs.Logged.{IsAddress}
 use Rattle.lfs_model.specs.Operations as ops
 use Rattle.lfs_model.specs.Recovery.{AreReached}
@@ -22,8 +22,9 @@ use Rattle.lfs_model.proofs.Global.{HasNoMove}
 use Rattle.lfs_model.proofs.Splices.{files_of, slots_in}
 use Rattle.lfs_model.proofs.StepsTaken.{IsTaken}
 use Rattle.lfs_thread.specs.Kept.{Kept, State}
-use Rattle.lfs_thread.specs.Steps.{HasShape, pair_in}
-use Rattle.lfs_operations.specs.Ready.{IsReadyBut, NoneComes}
+use Rattle.lfs_thread.specs.Steps.{pair_in}
+use Rattle.lfs_operations.specs.Dropping.{SameInFlight}
+use Rattle.lfs_operations.specs.Ready.{IsReadyBut}
 
 -- ---- the commits
 
@@ -112,11 +113,6 @@ pub record TellsOfSteps {X : Type 0} (old new : State) (result : Result X Error)
   pub fault : IsErrOf result Io → faults old.kept.history < faults new.kept.history
   pub no_fault : (IsErrOf result Io → ⊥) → faults new.kept.history ≡ faults old.kept.history
 
--- as many blocks and pages, of the same sizes; and the history goes on
-pub record StaysOn (old new : Kept) : Type 0 where
-  pub shape : HasShape old.disk new.disk
-  pub calls : EachSince (λ e. Unit {0}) old.history new.history
-
 -- the slots and the tree are as they were, and the global state is none
 pub record IsCleared (old new : Kept) : Type 0 where
   pub taken : IsTaken old.disk old.pairs new.disk new.pairs (λ t. t) (λ d. d)
@@ -125,13 +121,20 @@ pub record IsCleared (old new : Kept) : Type 0 where
   pub map : new.map ≡ old.map
   pub files : All (λ s. HasSameFile old.disk new.disk s.struct) (all_slots old.pairs)
 
+-- the pairs of directories that no path leads to have no slots; from is where the directory of the pair in front begins, if that goes on
+abbrev pub AreBare : (ℕ × ℕ → Type 0) → Option (ℕ × ℕ) → List Pair → Type 0
+AreBare R from [] = Unit {0}
+AreBare R from (x ∷ xs) = ((R (begin_from from x) → ⊥) → x.content.slots ≡ []) × AreBare R (onward from x) xs
+
 -- Nothing is left to recover, the tree is as it was, and the slots stand where they should: so a recovery is completed. The
--- blocks of the pairs that went are free. What is gone are the blocks of lists that only those pairs had.
+-- blocks of the pairs that went are free. What is gone are the blocks of lists that only those pairs had, each once.
 pub record HasRecovered (old new : Kept) : Type 0 where
   pub gone : List ℕ
   pub ready : IsReadyBut new gone []
   pub lost : (b : ℕ) → count b gone + count b (files_of new.disk (slots_in new.pairs)) ≡ count b (files_of old.disk (slots_in old.pairs))
-  pub none_comes : NoneComes old.map new.map
+  pub none_gone : AreBare (IsReached old.pairs) None (directory_pairs old.pairs) → gone ≡ []
+  pub once : (b : ℕ) → count b (used_blocks new.disk new.pairs) + count b gone ≤ 1
+  pub flying : SameInFlight old.map new.map
   pub shows : tree_in new.disk new.pairs ≡ tree_in old.disk old.pairs
   pub completed : (s : Session) → s.tree ≡ tree_in old.disk old.pairs → IsCompleted old.disk old.pairs s ops.Recover new.disk new.pairs
 
@@ -177,10 +180,15 @@ pub record CanEndMove (t : Kept) : Type 0 where
   pub used : AreUsed t.map (used_blocks t.disk t.pairs)
   pub size : length t.map ≡ block_count t.disk
 
+-- Where the slots of the new image stand after a recovery, those of the old one stand after one.
+abbrev pub RecoversTo : Kept → Kept → Type 0
+RecoversTo old new = (s : Session) (disk : Disk) (qs : List Pair) → IsLaidOut new.disk new.pairs s ops.Recover disk qs → IsLaidOut old.disk old.pairs s ops.Recover disk qs
+
 -- No move is set, and the image shows the same tree; so pairs may be dropped then. The map knows each of its blocks.
 pub record HasEndedMove (old new : Kept) : Type 0 where
   pub taken : IsTaken old.disk old.pairs new.disk new.pairs (λ t. t) (λ d. d)
   pub none : HasNoMove (gstate_of new.pairs)
   pub used : AreUsed new.map (used_blocks new.disk new.pairs)
   pub size : length new.map ≡ block_count new.disk
-  pub none_comes : NoneComes old.map new.map
+  pub flying : SameInFlight old.map new.map
+  pub leads_on : RecoversTo old new

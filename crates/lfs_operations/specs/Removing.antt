@@ -1,5 +1,5 @@
 -- A file that goes from a directory.
-use Rattle.std.specs.Prelude.{ℕ, ◌≡◌, ◌-◌, ◌==◌, ◌&&◌, if◌then◌else◌, Bool, not, List, [], ◌∷◌, ◌++◌, length, None, Result, is_err}
+use Rattle.std.specs.Prelude.{ℕ, ◌≡◌, ◌≤◌, ◌+◌, ◌-◌, ◌==◌, ◌&&◌, if◌then◌else◌, Bool, not, List, [], ◌∷◌, ◌++◌, length, None, Result, is_err}
 use Rattle.lfs_device.specs.declared.error.Error.{Error}
 use Rattle.lfs_model.specs.Apply.{removed}
 use Rattle.lfs_model.specs.Names.{Name}
@@ -8,8 +8,9 @@ use Rattle.lfs_model.specs.Session.{Session}
 use Rattle.lfs_model.specs.Slots.{Struct}
 use Rattle.lfs_model.specs.Steps.{as_path}
 use Rattle.lfs_model.specs.Tree.{Path, Tree, branch_of}
-use Rattle.lfs_model.specs.View.{file_blocks, tree_in}
+use Rattle.lfs_model.specs.View.{file_blocks, tree_in, used_blocks}
 use Rattle.lfs_model.proofs.Committed.{IsCompleted}
+use Rattle.lfs_model.proofs.Counts.{count}
 use Rattle.lfs_thread.specs.Kept.{Kept, State}
 use Rattle.lfs_thread.specs.Steps.{HasTold, pair_in}
 use Rattle.lfs_operations.specs.Editing.{CanEdit, slot_at}
@@ -33,11 +34,12 @@ abbrev pub without_file : Kept → Path → Name → Tree
 without_file t path name = removed (path ++ name ∷ []) (tree_in t.disk t.pairs)
 
 -- The tree hasn't it, and the other slots stand where they should: so a remove of its path is completed. The blocks of its list
--- are gone.
+-- are gone, each once, and none of them is the image's.
 pub record IsRemoved (old new : Kept) (path : Path) (name : Name) (struct : Struct) : Type 0 where
   pub now : HasShrunk old new (without_file old path name) (file_blocks old.disk struct)
   pub completed : (s : Session) (given : List ℕ) → s.tree ≡ tree_in old.disk old.pairs → as_path given ≡ path ++ name ∷ []
       → IsCompleted old.disk old.pairs s (ops.Remove given) new.disk new.pairs
+  pub once : (b : ℕ) → count b (used_blocks new.disk new.pairs) + count b (file_blocks old.disk struct) ≤ 1
 
 -- what a step tells that takes no block, and whether the thread has failed by it
 pub record TellsOfCalls {X : Type 0} (old new : State) (result : Result X Error) : Type 0 where

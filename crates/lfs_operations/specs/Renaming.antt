@@ -1,5 +1,5 @@
 -- An entry that gets another name in its directory, and stays in its pair.
-use Rattle.std.specs.Prelude.{ℕ, ◌≡◌, ◌≢◌, ◌⊎◌, ◌-◌, true, false, nat_lt, if◌then◌else◌, List, [], ◌∷◌, ◌++◌, None, Result, Err}
+use Rattle.std.specs.Prelude.{ℕ, ◌≡◌, ◌≢◌, ◌⊎◌, ◌≤◌, ◌+◌, ◌-◌, true, false, nat_lt, if◌then◌else◌, List, [], ◌∷◌, ◌++◌, None, Result, Err}
 use Rattle.lfs_device.specs.declared.error.Error.{Error}
 use Rattle.lfs_device.specs.declared.error.Error.TheVariants.{NoSpace}
 use Rattle.lfs_model.specs.Apply.{renamed}
@@ -11,8 +11,9 @@ use Rattle.lfs_model.specs.Session.{Session}
 use Rattle.lfs_model.specs.Slots.{Struct}
 use Rattle.lfs_model.specs.Steps.{as_path}
 use Rattle.lfs_model.specs.Tree.{Path, Tree, branch_of}
-use Rattle.lfs_model.specs.View.{FitsEntry, file_blocks, tree_in}
+use Rattle.lfs_model.specs.View.{FitsEntry, file_blocks, tree_in, used_blocks}
 use Rattle.lfs_model.proofs.Committed.{IsCompleted}
+use Rattle.lfs_model.proofs.Counts.{count}
 use Rattle.lfs_thread.specs.Kept.{Kept, State}
 use Rattle.lfs_thread.specs.Steps.{IsOnlyRead}
 use Rattle.lfs_operations.specs.Changing.{IsTooLarge, TellsSpace, has_failed}
@@ -63,9 +64,10 @@ pub record IsRenamed (old new : Kept) (path : Path) (from to : Name) : Type 0 wh
   pub completed : IsRenameOf old new path from to
 
 -- The tree has the entry in the place of the file: so a rename of its path onto that one's is completed. The blocks of the
--- file's list are gone.
+-- file's list are gone, each once, and none of them is the image's.
 pub record IsRenamedOnto (old new : Kept) (path : Path) (from to : Name) (struct : Struct) : Type 0 where
   pub now : HasBecomeBut old new (with_renamed old path from to) (file_blocks old.disk struct) []
+  pub once : (b : ℕ) → count b (used_blocks new.disk new.pairs) + count b (file_blocks old.disk struct) ≤ 1
   pub completed : IsRenameOf old new path from to
 
 -- What an operation tells that reads a slot before it changes or splits the pair: as `TellsPut`, but that the thread works on

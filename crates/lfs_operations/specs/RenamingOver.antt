@@ -1,23 +1,26 @@
 -- An entry that takes the place of a directory, while the sync bit turns: no path leads to the directory's pair then.
-use Rattle.std.specs.Prelude.{ℕ, ◌≡◌, ◌≢◌, ◌⊎◌, false, List, [], ◌∷◌, ◌++◌, Result, is_err}
+use Rattle.std.specs.Prelude.{ℕ, ◌≡◌, ◌≢◌, ◌⊎◌, ◌<◌, true, false, List, [], ◌∷◌, ◌++◌, length, Result, is_err, IfErr, IsErrOf}
 use Rattle.lfs_device.specs.declared.error.Error.{Error}
+use Rattle.lfs_device.specs.declared.error.Error.TheVariants.{Io, NoMemory}
 use Rattle.lfs_model.specs.Apply.{renamed}
 use Rattle.lfs_model.specs.Changes.{Change, Delete, PutMove}
 use Rattle.lfs_model.specs.Content.{content_at}
 use Rattle.lfs_model.specs.Disk.{block_count}
+use Rattle.lfs_model.specs.History.{faults}
 use Rattle.lfs_model.specs.InDirectory.{Stands}
 use Rattle.lfs_model.specs.Names.{Name}
-use Rattle.lfs_model.specs.Slots.{Branch, Content, gstate_xor}
-use Rattle.lfs_model.specs.Thread.{IsThread, gstate_of}
+use Rattle.lfs_model.specs.Slots.{Branch, Content, gstate_xor, same_pair}
+use Rattle.lfs_model.specs.Thread.{IsThread, gstate_of, is_hard}
 use Rattle.lfs_model.specs.Tree.{Path}
 use Rattle.lfs_model.specs.View.{FitsEntry}
 use Rattle.lfs_model.proofs.Global.{sync_share}
 use Rattle.lfs_model.proofs.Renames.{rename_walk}
 use Rattle.lfs_model.proofs.StepsTaken.{IsTaken}
 use Rattle.lfs_thread.specs.Kept.{Kept, State}
-use Rattle.lfs_thread.specs.Steps.{HasTold, IsOnlyRead, IsWrittenAs, pair_in, with_pair}
+use Rattle.lfs_thread.specs.Steps.{HasTold, IsChanged, IsOnlyRead, IsWrittenAs, pair_in, with_pair}
+use Rattle.lfs_operations.specs.Dropping.{HasShrunk}
 use Rattle.lfs_operations.specs.Editing.{CanEdit, slot_at}
-use Rattle.lfs_operations.specs.Renaming.{place_without}
+use Rattle.lfs_operations.specs.Renaming.{IsRenameOf, place_without, with_renamed}
 use Rattle.lfs_operations.specs.RenamingSlots.{parts_at, slot_changes}
 
 -- the pair's share turns the sync bit, both slots go, and the one comes at the other's place
@@ -37,7 +40,8 @@ pub record CanRenameOver (t : Kept) (pair id place : ℕ) (name : Name) : Type 0
 
 -- The tree has the entry in the place of the directory, the image is accepted and in the writing profile, and the sync bit is set.
 -- Of the pairs one holds something else.
-pub record IsRenamedOver (old new : Kept) (pair : ℕ) (path : Path) (from to : Name) : Type 0 where
+pub record IsRenamedOver (old new : Kept) (pair id place : ℕ) (path : Path) (from to : Name) : Type 0 where
+  pub changed : IsChanged old pair (rename_over_changes old pair id place to) new
   pub content : Content
   pub written : IsWrittenAs old pair content new.disk
   pub pairs : new.pairs ≡ with_pair old pair content
@@ -51,3 +55,26 @@ pub record IsRenamedOver (old new : Kept) (pair : ℕ) (path : Path) (from to : 
 pub record TellsOver {X : Type 0} (old new : State) (result : Result X Error) : Type 0 where
   pub failed : (new.failed ≡ is_err result) ⊎ ((new.failed ≡ false) × IsOnlyRead old.kept new.kept)
   pub told : HasTold old.kept new.kept result
+
+-- ---- the operation
+
+-- As with CanRenameOver. The pair of number `gone` is the only one of the directory that is replaced, and has no slots.
+pub record CanRenameOntoDirectory (t : Kept) (pair id place : ℕ) (name : Name) (gone : ℕ) : Type 0 where
+  pub over : CanRenameOver t pair id place name
+  pub below : gone < length t.pairs
+  pub at : same_pair (pair_in t gone).at over.to ≡ true
+  pub empty : (pair_in t gone).content.slots ≡ []
+  pub alone : is_hard (pair_in t gone).content.tail ≡ false
+
+-- The tree has the entry in the place of the directory, whose pair is gone: so a rename of its path onto that one's is completed.
+pub record IsRenamedOntoDirectory (old new : Kept) (path : Path) (from to : Name) : Type 0 where
+  pub now : HasShrunk old new (with_renamed old path from to) []
+  pub completed : IsRenameOf old new path from to
+
+-- What several steps tell that take no block, where the first one reads a slot: `Io` comes with a fault of the device, and any
+-- other answer with none. The thread has failed by an error, but where the slot couldn't be read it works on and is as it was.
+pub record TellsOverSteps {X : Type 0} (old new : State) (result : Result X Error) : Type 0 where
+  pub failed : (new.failed ≡ is_err result) ⊎ ((new.failed ≡ false) × IsOnlyRead old.kept new.kept)
+  pub errors : IfErr result (λ e. (e ≡ Io) ⊎ (e ≡ NoMemory))
+  pub fault : IsErrOf result Io → faults old.kept.history < faults new.kept.history
+  pub no_fault : ¬ IsErrOf result Io → faults new.kept.history ≡ faults old.kept.history

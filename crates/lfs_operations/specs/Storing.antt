@@ -1,8 +1,8 @@
 -- A file that gets other contents.
-use Rattle.std.specs.Prelude.{ℕ, ◌≡◌, ◌+◌, true, nat_eq, List, [], ◌∷◌, ◌++◌, Some, None}
+use Rattle.std.specs.Prelude.{ℕ, ◌≡◌, ◌⊎◌, ◌≤◌, ◌+◌, true, nat_eq, List, [], ◌∷◌, ◌++◌, Some, None, Contains}
 use Rattle.std.specs.List.{AllByRecursion, IsDistinct}
 use Rattle.lfs_model.specs.Apply.{change_at}
-use Rattle.lfs_model.specs.BlockSets.{IsInFlight}
+use Rattle.lfs_model.specs.BlockSets.{IsFree, IsInFlight}
 use Rattle.lfs_model.specs.Content.{struct_typed}
 use Rattle.lfs_model.specs.Logged.{IsPart}
 use Rattle.lfs_model.specs.Names.{Name}
@@ -10,8 +10,9 @@ use Rattle.lfs_model.specs.Operations as ops
 use Rattle.lfs_model.specs.Session.{Session, Writer, Writing, file_of}
 use Rattle.lfs_model.specs.SlotEdits.{Stores}
 use Rattle.lfs_model.specs.Steps.{with_bytes}
+use Rattle.lfs_model.specs.Thread.{blocks_of}
 use Rattle.lfs_model.specs.Tree.{Path, Tree, branch_of}
-use Rattle.lfs_model.specs.View.{IsListIfCtz, file_blocks, tree_in}
+use Rattle.lfs_model.specs.View.{IsListIfCtz, file_blocks, tree_in, used_blocks}
 use Rattle.lfs_model.proofs.Committed.{IsCompleted}
 use Rattle.lfs_model.proofs.Counts.{count}
 use Rattle.lfs_thread.specs.Kept.{Kept}
@@ -41,10 +42,13 @@ abbrev pub IsWriterOf : Session → ℕ → Path → List ℕ → Writer → Typ
 IsWriterOf s fd path contents writer = (file_of s.files fd ≡ Some (Writing writer)) × ((writer.dirty ≡ true) × ((writer.path ≡ path) × (writer.contents ≡ contents)))
 
 -- The tree has the file with those contents, and its slot stands where it should: so a sync or a close of a file that was
--- written is completed.
+-- written is completed. The blocks that are gone are so once, and none of them is the image's. A block of the pairs
+-- was one before, or free.
 pub record IsStored (old new : Kept) (path : Path) (name : Name) (contents gone come : List ℕ) : Type 0 where
   pub now : HasBecomeBut old new (with_contents_at old path name contents) gone come
   pub synced : (s : Session) (fd : ℕ) (writer : Writer) → s.tree ≡ tree_in old.disk old.pairs → IsWriterOf s fd (path ++ name ∷ []) contents writer
       → IsCompleted old.disk old.pairs s (ops.Sync fd) new.disk new.pairs
   pub closed : (s : Session) (fd : ℕ) (writer : Writer) → s.tree ≡ tree_in old.disk old.pairs → IsWriterOf s fd (path ++ name ∷ []) contents writer
       → IsCompleted old.disk old.pairs s (ops.Close fd) new.disk new.pairs
+  pub once : (b : ℕ) → count b (used_blocks new.disk new.pairs) + count b gone ≤ count b come + 1
+  pub places : (b : ℕ) → Contains (blocks_of new.pairs) b → Contains (blocks_of old.pairs) b ⊎ IsFree old.map b

@@ -1,12 +1,13 @@
 // Slots that move from one pair into another.
 
-ghost use Rattle.std.specs.Prelude.{◌≡◌, ◌<◌, ◌^◌, ◌∷◌, false, length, IfOk, OnOk};
+ghost use Rattle.std.specs.Prelude.{◌≡◌, ◌<◌, ◌-◌, ◌^◌, ◌∷◌, true, false, length, IfOk, OnOk};
 ghost use Rattle.lfs_model.specs.Changes.{Delete, PutMove};
 ghost use Rattle.lfs_model.specs.Slots.{gstate_xor};
 ghost use Rattle.lfs_operations.specs.RenamingSeen.{copied};
 ghost use Rattle.lfs_operations.specs.RenamingSlots.{slot_changes};
 ghost use Rattle.lfs_model.specs.Logged.{IsAddress};
 ghost use Rattle.lfs_model.specs.PowerLoss.{Survives};
+ghost use Rattle.lfs_model.specs.Thread.{gstate_of};
 ghost use Rattle.lfs_model.specs.View.{tree_in};
 ghost use Rattle.lfs_tag.specs.FieldsSeen.{move_seen};
 ghost use Rattle.lfs_thread.specs.Device.{two_of};
@@ -14,10 +15,13 @@ ghost use Rattle.lfs_thread.specs.Kept.{Kept};
 ghost use Rattle.lfs_thread.specs.Steps.{Writes, pair_in};
 ghost use Rattle.lfs_pair.specs.ChangeSeen.{changes_seen};
 ghost use Rattle.lfs_operations.specs.Changing.{CanPut, IsPut};
-ghost use Rattle.lfs_operations.specs.Moving.{CanEnd, CanRenameAcross, CanReplaceAcross, EndsAfter, HasEnded, IsPutAndEnded, IsRenamedAcross, IsReplacedAcross, SurvivesBoth, TellsInSteps, WritesInTwo, move_of, moving_changes, place_after, replacing_changes, share_without_move, with_moved};
+ghost use Rattle.lfs_operations.specs.Moving.{CanEnd, CanPutOnto, CanRenameAcross, CanReplaceAcross, CanReplaceDirectory, EndsAfter, HasEnded, IsMovedOnto, IsPutAndEnded, IsRenamedAcross, IsReplacedAcross, SurvivesBoth, TellsInSteps, WritesAmong, WritesInTwo, end_at, left_at, move_of, moving_changes, onto_changes, place_after, replacing_changes, share_without_move, sync_in, with_moved};
 ghost use Rattle.lfs_operations.specs.Removing.{TellsOfCalls};
 
 use crate::changing::put;
+use crate::dropping::drop_at;
+use crate::recovering::number_of;
+use crate::removing::goes_with_slot;
 use crate::renaming_copy::{SlotCopy, copy_at, push_slot};
 use lfs_device::{BlockDevice, Error};
 use lfs_pair::Change;
@@ -39,17 +43,16 @@ fn share_without_move<D: BlockDevice>(thread: &Thread<D>, pair: usize) -> MoveSt
     with_share(&state, &share)
 }
 
-// Takes the slot that a set move hides from its pair, which stays, and ends the move: the second step
-// of a rename across pairs, and the first of a recovery from one.
-pub(crate) fn end_move<D: BlockDevice>(
+// Takes the slot that a set move hides from its pair, which stays, and ends the move.
+fn end_in_place<D: BlockDevice>(
     alloc: Global,
     thread: &mut Thread<D>,
     pair: usize,
     id: u16,
 ) -> Result<(), Error>
     requires works { thread.old.failed ≡ false }
-    requires can { CanEnd thread.old.kept pair id }
-    ensures ended { OnOk result (HasEnded thread.old.kept pair id thread.new.kept) }
+    requires can { CanEnd thread.old.kept pair id false }
+    ensures ended { OnOk result (HasEnded thread.old.kept pair id false thread.new.kept) }
     ensures errors { TellsOfCalls thread.old thread.new result }
     ensures device { Writes (two_of (pair_in thread.old.kept pair).at) thread.old.kept thread.new.kept }
     ensures survives { Survives thread.old.kept.disk thread.old.kept.history thread.new.kept.history
@@ -63,6 +66,60 @@ pub(crate) fn end_move<D: BlockDevice>(
         &[Change::Delete { id }, Change::Move { state }],
     )?;
     Ok(())
+}
+
+// The global state without the move that is set.
+fn state_without_move<D: BlockDevice>(thread: &Thread<D>) -> MoveState
+    requires { thread.now.failed ≡ false }
+    ensures { move_seen result ≡ sync_in (gstate_of thread.now.kept.pairs) }
+{
+    let mut state = MoveState::none();
+    state.sync = thread.state().sync;
+    state
+}
+
+// Drops a pair whose only slot a set move hides, and ends the move.
+fn end_with_pair<D: BlockDevice>(
+    alloc: Global,
+    thread: &mut Thread<D>,
+    pair: usize,
+    id: u16,
+) -> Result<(), Error>
+    requires works { thread.old.failed ≡ false }
+    requires can { CanEnd thread.old.kept pair id true }
+    ensures ended { OnOk result (HasEnded thread.old.kept pair id true thread.new.kept) }
+    ensures errors { TellsOfCalls thread.old thread.new result }
+    ensures device { Writes (two_of (pair_in thread.old.kept (pair - 1)).at) thread.old.kept thread.new.kept }
+    ensures survives { Survives thread.old.kept.disk thread.old.kept.history thread.new.kept.history
+        (tree_in thread.old.kept.disk thread.old.kept.pairs) (tree_in thread.old.kept.disk thread.old.kept.pairs) }
+{
+    let state = state_without_move(thread);
+    drop_at(alloc, thread, pair, &state)?;
+    Ok(())
+}
+
+// Takes the slot that a set move hides from its pair, or with it where the pair goes, and ends the
+// move: the second step of a rename across pairs.
+pub(crate) fn end_move<D: BlockDevice>(
+    alloc: Global,
+    thread: &mut Thread<D>,
+    pair: usize,
+    id: u16,
+    goes: bool,
+) -> Result<(), Error>
+    requires works { thread.old.failed ≡ false }
+    requires can { CanEnd thread.old.kept pair id goes }
+    ensures ended { OnOk result (HasEnded thread.old.kept pair id goes thread.new.kept) }
+    ensures errors { TellsOfCalls thread.old thread.new result }
+    ensures device { Writes (two_of (pair_in thread.old.kept (end_at pair goes)).at) thread.old.kept thread.new.kept }
+    ensures survives { Survives thread.old.kept.disk thread.old.kept.history thread.new.kept.history
+        (tree_in thread.old.kept.disk thread.old.kept.pairs) (tree_in thread.old.kept.disk thread.old.kept.pairs) }
+{
+    if goes {
+        end_with_pair(alloc, thread, pair, id)
+    } else {
+        end_in_place(alloc, thread, pair, id)
+    }
 }
 
 // The number of a pair once so many came behind another.
@@ -80,42 +137,44 @@ fn put_and_end<D: BlockDevice>(
     thread: &mut Thread<D>,
     old_pair: usize,
     old_id: u16,
+    goes: bool,
     new_pair: usize,
     changes: &[Change<'_>],
 ) -> Result<(), Error>
     requires works { thread.old.failed ≡ false }
     requires can { CanPut thread.old.kept new_pair (changes_seen changes.now) }
-    requires ends { (mid : Kept) → IsPut thread.old.kept new_pair (changes_seen changes.now) mid → EndsAfter thread.old.kept old_pair old_id new_pair mid }
-    ensures done { OnOk result (IsPutAndEnded thread.old.kept old_pair old_id new_pair (changes_seen changes.now) thread.new.kept) }
+    requires ends { (mid : Kept) → IsPut thread.old.kept new_pair (changes_seen changes.now) mid → EndsAfter thread.old.kept old_pair old_id goes new_pair mid }
+    ensures done { OnOk result (IsPutAndEnded thread.old.kept old_pair old_id goes new_pair (changes_seen changes.now) thread.new.kept) }
     ensures errors { TellsInSteps thread.old thread.new new_pair (changes_seen changes.now) result }
-    ensures device { WritesInTwo thread.old.kept old_pair new_pair thread.new.kept }
+    ensures device { WritesInTwo thread.old.kept (end_at old_pair goes) new_pair thread.new.kept }
     ensures survives { SurvivesBoth thread.old.kept new_pair (changes_seen changes.now) thread.new.kept }
 {
     let before = thread.len();
     put(alloc, thread, new_pair, changes)?;
     let fresh = thread.len() - before;
     let pair = place_after(old_pair, new_pair, fresh);
-    end_move(alloc, thread, pair, old_id)?;
+    end_move(alloc, thread, pair, old_id, goes)?;
     Ok(())
 }
 
-// A pair's share of the global state that sets a move, which hides a slot of another pair. None is set
-// before.
+// A pair's share of the global state that sets a move, which hides a slot of another pair, and the
+// sync bit or not. None is set before.
 fn share_with_move<D: BlockDevice>(
     thread: &Thread<D>,
     old_pair: usize,
     old_id: u16,
     new_pair: usize,
+    sync: bool,
 ) -> MoveState
     requires works { thread.now.failed ≡ false }
     requires old_below { old_pair < length thread.now.kept.pairs }
     requires new_below { new_pair < length thread.now.kept.pairs }
-    ensures share { move_seen result ≡ gstate_xor (move_of (pair_in thread.now.kept old_pair).at old_id) (pair_in thread.now.kept new_pair).content.move }
+    ensures share { move_seen result ≡ gstate_xor (move_of sync (pair_in thread.now.kept old_pair).at old_id) (pair_in thread.now.kept new_pair).content.move }
     ensures address { IsAddress (pair_in thread.now.kept old_pair).at }
 {
     let pair = thread.address(old_pair);
     let state = MoveState {
-        sync: false,
+        sync,
         kind: DELETE,
         id: old_id,
         pair,
@@ -144,8 +203,9 @@ fn changes_of<'a>(
 /// same directory or another one: the entry stands there then, with its struct and its attributes.
 /// That takes two commits. The first puts a copy of the entry under its new name, and sets a move that
 /// names the old slot, which counts as gone from then on; the second takes the old slot away and ends
-/// the move (DESIGN.md of littlefs, "The move problem"). Where the new pair has no room, it is split
-/// into two free blocks; the old pair stays.
+/// the move (DESIGN.md of littlefs, "The move problem"). `first` is the number of the first pair of
+/// the entry's directory. Where the old pair has no other slot and isn't that one, it goes with the
+/// slot. Where the new pair has no room, it is split into two free blocks.
 ///
 /// `NoSpace` where it has none and fewer than two blocks are free: everything is as it was then.
 /// `Io` where a call of the device failed, and `NoMemory` where there is no room for the pairs'
@@ -157,23 +217,25 @@ pub fn rename_across<D: BlockDevice>(
     thread: &mut Thread<D>,
     old_pair: usize,
     old_id: u16,
+    first: usize,
     new_pair: usize,
     new_id: u16,
     name: &[u8],
 ) -> Result<(), Error>
     requires works { thread.old.failed ≡ false }
-    requires can { CanRenameAcross thread.old.kept old_pair old_id new_pair new_id name.now }
-    ensures renamed { OnOk result ((rename : CanRenameAcross thread.old.kept old_pair old_id new_pair new_id name.now)
+    requires can { CanRenameAcross thread.old.kept old_pair old_id first new_pair new_id name.now }
+    ensures renamed { OnOk result ((rename : CanRenameAcross thread.old.kept old_pair old_id first new_pair new_id name.now)
         → IsRenamedAcross thread.old.kept thread.new.kept rename.old.path rename.old.name rename.path name.now) }
     ensures errors { TellsInSteps thread.old thread.new new_pair (moving_changes thread.old.kept old_pair old_id new_pair new_id name.now) result }
-    ensures device { WritesInTwo thread.old.kept old_pair new_pair thread.new.kept }
-    ensures survives { (rename : CanRenameAcross thread.old.kept old_pair old_id new_pair new_id name.now) → Survives thread.old.kept.disk thread.old.kept.history thread.new.kept.history
+    ensures device { WritesInTwo thread.old.kept (left_at thread.old.kept old_pair first) new_pair thread.new.kept }
+    ensures survives { (rename : CanRenameAcross thread.old.kept old_pair old_id first new_pair new_id name.now) → Survives thread.old.kept.disk thread.old.kept.history thread.new.kept.history
         (tree_in thread.old.kept.disk thread.old.kept.pairs) (with_moved thread.old.kept rename.old.path rename.old.name rename.path name.now) }
 {
+    let goes = goes_with_slot(thread, old_pair, first);
     let copy = copy_at(alloc, thread, old_pair, old_id)?;
-    let state = share_with_move(thread, old_pair, old_id, new_pair);
+    let state = share_with_move(thread, old_pair, old_id, new_pair, false);
     let changes = changes_of(alloc, state, new_id, name, &copy)?;
-    put_and_end(alloc, thread, old_pair, old_id, new_pair, &changes)?;
+    put_and_end(alloc, thread, old_pair, old_id, goes, new_pair, &changes)?;
     Ok(())
 }
 
@@ -194,6 +256,35 @@ fn changes_onto<'a>(
     Ok(changes)
 }
 
+// Puts the entry at an id of a pair in the place of the one at an id of another pair, with the sync
+// bit set or not, as `rename_across` does.
+fn put_onto<D: BlockDevice>(
+    alloc: Global,
+    thread: &mut Thread<D>,
+    old_pair: usize,
+    old_id: u16,
+    first: usize,
+    new_pair: usize,
+    new_id: u16,
+    name: &[u8],
+    sync: bool,
+) -> Result<(), Error>
+    requires works { thread.old.failed ≡ false }
+    requires can { CanPutOnto thread.old.kept sync old_pair old_id first new_pair new_id name.now }
+    ensures moved { OnOk result (IsMovedOnto thread.old.kept sync old_pair old_id first new_pair new_id name.now thread.new.kept) }
+    ensures errors { TellsInSteps thread.old thread.new new_pair (onto_changes sync thread.old.kept old_pair old_id new_pair new_id name.now) result }
+    ensures device { WritesInTwo thread.old.kept (left_at thread.old.kept old_pair first) new_pair thread.new.kept }
+    ensures survives { (rename : CanPutOnto thread.old.kept sync old_pair old_id first new_pair new_id name.now) → Survives thread.old.kept.disk thread.old.kept.history thread.new.kept.history
+        (tree_in thread.old.kept.disk thread.old.kept.pairs) (with_moved thread.old.kept rename.old.path rename.old.name rename.path name.now) }
+{
+    let goes = goes_with_slot(thread, old_pair, first);
+    let copy = copy_at(alloc, thread, old_pair, old_id)?;
+    let state = share_with_move(thread, old_pair, old_id, new_pair, sync);
+    let changes = changes_onto(alloc, state, new_id, name, &copy)?;
+    put_and_end(alloc, thread, old_pair, old_id, goes, new_pair, &changes)?;
+    Ok(())
+}
+
 /// Puts the entry at an id of a pair in the place of the file at an id of another pair, in the same
 /// directory or another one: the entry stands there then under the file's name, with its own struct
 /// and attributes. In other respects as [`rename_across`]. The map isn't told of the file's list,
@@ -205,22 +296,58 @@ pub fn rename_onto_file_across<D: BlockDevice>(
     thread: &mut Thread<D>,
     old_pair: usize,
     old_id: u16,
+    first: usize,
     new_pair: usize,
     new_id: u16,
     name: &[u8],
 ) -> Result<(), Error>
     requires works { thread.old.failed ≡ false }
-    requires can { CanReplaceAcross thread.old.kept old_pair old_id new_pair new_id name.now }
-    ensures replaced { OnOk result ((rename : CanReplaceAcross thread.old.kept old_pair old_id new_pair new_id name.now)
+    requires can { CanReplaceAcross thread.old.kept old_pair old_id first new_pair new_id name.now }
+    ensures replaced { OnOk result ((rename : CanReplaceAcross thread.old.kept old_pair old_id first new_pair new_id name.now)
         → IsReplacedAcross thread.old.kept thread.new.kept rename.old.path rename.old.name rename.path name.now rename.target.stands.slot.struct) }
     ensures errors { TellsInSteps thread.old thread.new new_pair (replacing_changes thread.old.kept old_pair old_id new_pair new_id name.now) result }
-    ensures device { WritesInTwo thread.old.kept old_pair new_pair thread.new.kept }
-    ensures survives { (rename : CanReplaceAcross thread.old.kept old_pair old_id new_pair new_id name.now) → Survives thread.old.kept.disk thread.old.kept.history thread.new.kept.history
+    ensures device { WritesInTwo thread.old.kept (left_at thread.old.kept old_pair first) new_pair thread.new.kept }
+    ensures survives { (rename : CanReplaceAcross thread.old.kept old_pair old_id first new_pair new_id name.now) → Survives thread.old.kept.disk thread.old.kept.history thread.new.kept.history
         (tree_in thread.old.kept.disk thread.old.kept.pairs) (with_moved thread.old.kept rename.old.path rename.old.name rename.path name.now) }
 {
-    let copy = copy_at(alloc, thread, old_pair, old_id)?;
-    let state = share_with_move(thread, old_pair, old_id, new_pair);
-    let changes = changes_onto(alloc, state, new_id, name, &copy)?;
-    put_and_end(alloc, thread, old_pair, old_id, new_pair, &changes)?;
+    put_onto(
+        alloc, thread, old_pair, old_id, first, new_pair, new_id, name, false,
+    )
+}
+
+/// Puts the entry at an id of a pair in the place of the empty directory at an id of another pair, in
+/// the same directory or another one, whose own pair has number `gone` in the thread. As
+/// [`rename_onto_file_across`], but the sync bit is set with the move, and a third commit drops that
+/// pair, to which no path leads any more, and clears the bit.
+///
+/// Errors as those of [`rename_across`].
+pub fn rename_onto_directory_across<D: BlockDevice>(
+    alloc: Global,
+    thread: &mut Thread<D>,
+    old_pair: usize,
+    old_id: u16,
+    first: usize,
+    new_pair: usize,
+    new_id: u16,
+    name: &[u8],
+    gone: usize,
+) -> Result<(), Error>
+    requires works { thread.old.failed ≡ false }
+    requires can { CanReplaceDirectory thread.old.kept old_pair old_id first new_pair new_id name.now gone }
+    ensures renamed { OnOk result ((rename : CanReplaceDirectory thread.old.kept old_pair old_id first new_pair new_id name.now gone)
+        → IsRenamedAcross thread.old.kept thread.new.kept rename.old.path rename.old.name rename.path name.now) }
+    ensures errors { TellsInSteps thread.old thread.new new_pair (onto_changes true thread.old.kept old_pair old_id new_pair new_id name.now) result }
+    ensures device { WritesAmong thread.old.kept thread.new.kept }
+    ensures survives { (rename : CanReplaceDirectory thread.old.kept old_pair old_id first new_pair new_id name.now gone) → Survives thread.old.kept.disk thread.old.kept.history thread.new.kept.history
+        (tree_in thread.old.kept.disk thread.old.kept.pairs) (with_moved thread.old.kept rename.old.path rename.old.name rename.path name.now) }
+{
+    let at = thread.address(gone);
+    put_onto(
+        alloc, thread, old_pair, old_id, first, new_pair, new_id, name, true,
+    )?;
+    // Others may have come or gone in front of it.
+    if let Some(index) = number_of(thread, at) {
+        drop_at(alloc, thread, index, &MoveState::none())?;
+    }
     Ok(())
 }

@@ -6,7 +6,7 @@ ghost use Rattle.lfs_model.specs.Logged.{IsAddress};
 ghost use Rattle.lfs_model.specs.PowerLoss.{Survives};
 ghost use Rattle.lfs_model.specs.Recovery.{IsRecovered};
 ghost use Rattle.lfs_model.specs.Slots.{Gstate, address_of, gstate_xor, no_gstate, same_pair};
-ghost use Rattle.lfs_model.specs.Thread.{gstate_of, is_hard};
+ghost use Rattle.lfs_model.specs.Thread.{blocks_of, gstate_of, is_hard};
 ghost use Rattle.lfs_model.specs.View.{IsAccepted, tree_in};
 ghost use Rattle.lfs_model.specs.InDirectory.{BeginsAt};
 ghost use Rattle.lfs_model.proofs.Global.{HasNoMove};
@@ -15,7 +15,7 @@ ghost use Rattle.lfs_tag.specs.ContentSeen.{tail_seen};
 ghost use Rattle.lfs_tag.specs.FieldsSeen.{move_seen};
 ghost use Rattle.lfs_thread.specs.Device.{StopsLeave, two_of};
 ghost use Rattle.lfs_thread.specs.Steps.{IsChanged, IsDropped, IsLeft, Writes, pair_in};
-ghost use Rattle.lfs_operations.specs.Recovering.{CanClearSync, CanDropUnreached, CanEndMove, CanSetState, CanTakeOver, CanTakeSlot, HasEndedMove, HasRecovered, IsAddressIfSome, IsCleared, IsMovedAt, StaysOn, TellsOfSteps, goes_on_at, is_alone_at, setting, share_of, state_with, taking, taking_over, takes_share, target_of, unset};
+ghost use Rattle.lfs_operations.specs.Recovering.{CanClearSync, CanDropUnreached, CanEndMove, CanSetState, CanTakeOver, CanTakeSlot, HasEndedMove, HasRecovered, IsAddressIfSome, IsCleared, IsMovedAt, TellsOfSteps, goes_on_at, is_alone_at, setting, share_of, state_with, taking, taking_over, takes_share, target_of, unset};
 ghost use Rattle.lfs_operations.specs.Removing.{TellsOfCalls};
 
 use lfs_device::{BlockDevice, Error};
@@ -157,7 +157,7 @@ fn clear_sync<D: BlockDevice>(alloc: Global, thread: &mut Thread<D>) -> Result<(
     ensures nothing { gstate_of thread.old.kept.pairs ≡ no_gstate → thread.new.kept ≡ thread.old.kept }
     ensures is_cleared { OnOk result (IsCleared thread.old.kept thread.new.kept) }
     ensures errors { TellsOfCalls thread.old thread.new result }
-    ensures device { StaysOn thread.old.kept thread.new.kept }
+    ensures device { Writes (blocks_of thread.old.kept.pairs) thread.old.kept thread.new.kept }
     ensures survives { Survives thread.old.kept.disk thread.old.kept.history thread.new.kept.history
         (tree_in thread.old.kept.disk thread.old.kept.pairs) (tree_in thread.old.kept.disk thread.old.kept.pairs) }
 {
@@ -185,7 +185,7 @@ pub fn drop_unreached<D: BlockDevice>(
     ensures nothing { IsRecovered thread.old.kept.pairs → thread.new.kept ≡ thread.old.kept }
     ensures recovered { OnOk result (HasRecovered thread.old.kept thread.new.kept) }
     ensures errors { TellsOfSteps thread.old thread.new result }
-    ensures device { StaysOn thread.old.kept thread.new.kept }
+    ensures device { Writes (blocks_of thread.old.kept.pairs) thread.old.kept thread.new.kept }
     ensures survives { Survives thread.old.kept.disk thread.old.kept.history thread.new.kept.history
         (tree_in thread.old.kept.disk thread.old.kept.pairs) (tree_in thread.old.kept.disk thread.old.kept.pairs) }
 {
@@ -206,7 +206,7 @@ fn is_same_pair(a: [u32; 2], b: [u32; 2]) -> bool
 }
 
 // The number of the pair at an address, of which the two blocks may come in either order.
-fn number_of<D: BlockDevice>(thread: &Thread<D>, at: [u32; 2]) -> Option<usize>
+pub(crate) fn number_of<D: BlockDevice>(thread: &Thread<D>, at: [u32; 2]) -> Option<usize>
     ensures there { IfSome result (BeginsAt thread.now.kept.pairs (address_of at)) }
     ensures nowhere { IfNone result (AllByRecursion (λ p. same_pair p.at (address_of at) ≡ false) thread.now.kept.pairs) }
 {
@@ -290,7 +290,7 @@ pub fn end_move<D: BlockDevice>(alloc: Global, thread: &mut Thread<D>) -> Result
     ensures nothing { HasNoMove (gstate_of thread.old.kept.pairs) → thread.new.kept ≡ thread.old.kept }
     ensures ended { OnOk result (HasEndedMove thread.old.kept thread.new.kept) }
     ensures errors { TellsOfSteps thread.old thread.new result }
-    ensures device { StaysOn thread.old.kept thread.new.kept }
+    ensures device { Writes (blocks_of thread.old.kept.pairs) thread.old.kept thread.new.kept }
     ensures survives { Survives thread.old.kept.disk thread.old.kept.history thread.new.kept.history
         (tree_in thread.old.kept.disk thread.old.kept.pairs) (tree_in thread.old.kept.disk thread.old.kept.pairs) }
 {

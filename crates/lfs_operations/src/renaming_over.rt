@@ -1,19 +1,20 @@
 // Entries that take the place of a directory in their pair.
 
-ghost use Rattle.std.specs.Prelude.{◌≡◌, ◌∷◌, IfOk, OnOk, false};
+ghost use Rattle.std.specs.Prelude.{◌≡◌, ◌-◌, ◌∷◌, IfOk, OnOk, false};
 ghost use Rattle.lfs_model.specs.Changes.{Delete, PutMove};
 ghost use Rattle.lfs_model.specs.PowerLoss.{Survives};
 ghost use Rattle.lfs_model.specs.View.{tree_in};
 ghost use Rattle.lfs_model.proofs.Global.{sync_share};
 ghost use Rattle.lfs_tag.specs.FieldsSeen.{move_seen};
 ghost use Rattle.lfs_pair.specs.ChangeSeen.{changes_seen};
-ghost use Rattle.lfs_thread.specs.Device.{two_of};
+ghost use Rattle.lfs_thread.specs.Device.{four_of, two_of};
 ghost use Rattle.lfs_thread.specs.Steps.{Writes, pair_in};
 ghost use Rattle.lfs_operations.specs.Renaming.{place_without, with_renamed};
-ghost use Rattle.lfs_operations.specs.RenamingOver.{CanRenameOver, IsRenamedOver, TellsOver};
+ghost use Rattle.lfs_operations.specs.RenamingOver.{CanRenameOntoDirectory, CanRenameOver, IsRenamedOntoDirectory, IsRenamedOver, TellsOver, TellsOverSteps};
 ghost use Rattle.lfs_operations.specs.RenamingSeen.{copied};
 ghost use Rattle.lfs_operations.specs.RenamingSlots.{slot_changes};
 
+use crate::dropping::drop_at;
 use crate::renaming::place_without;
 use crate::renaming_copy::{SlotCopy, copy_at, push_slot};
 use lfs_device::{BlockDevice, Error};
@@ -72,7 +73,7 @@ pub(crate) fn rename_over<D: BlockDevice>(
 ) -> Result<(), Error>
     requires works { thread.old.failed ≡ false }
     requires can { CanRenameOver thread.old.kept pair id place name.now }
-    ensures renamed { OnOk result ((rename : CanRenameOver thread.old.kept pair id place name.now) → IsRenamedOver thread.old.kept thread.new.kept pair rename.can.path rename.can.name name.now) }
+    ensures renamed { OnOk result ((rename : CanRenameOver thread.old.kept pair id place name.now) → IsRenamedOver thread.old.kept thread.new.kept pair id place rename.can.path rename.can.name name.now) }
     ensures errors { TellsOver thread.old thread.new result }
     ensures device { Writes (two_of (pair_in thread.old.kept pair).at) thread.old.kept thread.new.kept }
     ensures survives { (rename : CanRenameOver thread.old.kept pair id place name.now) → Survives thread.old.kept.disk thread.old.kept.history thread.new.kept.history
@@ -83,5 +84,38 @@ pub(crate) fn rename_over<D: BlockDevice>(
     let changes = changes_over(alloc, state, id, place, name, &copy)?;
     // Two slots make way for one with the name of the one and the rest of the other, so it fits.
     thread.change(alloc, pair, &changes)?;
+    Ok(())
+}
+
+/// Puts the entry at the id of a pair in the place of an empty directory of the same pair and
+/// directory: the entry stands there then under the directory's name, with its own struct and
+/// attributes. `place` is the directory's id, and its own pair has number `gone` in the thread. The
+/// first commit sets the sync bit; the second drops that pair, to which no path leads any more, and
+/// clears the bit (DESIGN.md of littlefs, "The move problem").
+///
+/// `Io` where a call of the device failed, and `NoMemory` where there is no room for a pair's slots,
+/// a copy of the entry and a pair's block. The thread has failed then, unless the entry couldn't be
+/// read and copied: it is as it was then. The device may stand between the two commits, where it
+/// shows the new tree.
+pub fn rename_onto_directory<D: BlockDevice>(
+    alloc: Global,
+    thread: &mut Thread<D>,
+    pair: usize,
+    id: u16,
+    place: u16,
+    name: &[u8],
+    gone: usize,
+) -> Result<(), Error>
+    requires works { thread.old.failed ≡ false }
+    requires can { CanRenameOntoDirectory thread.old.kept pair id place name.now gone }
+    ensures renamed { OnOk result ((rename : CanRenameOntoDirectory thread.old.kept pair id place name.now gone)
+        → IsRenamedOntoDirectory thread.old.kept thread.new.kept rename.over.can.path rename.over.can.name name.now) }
+    ensures errors { TellsOverSteps thread.old thread.new result }
+    ensures device { Writes (four_of (pair_in thread.old.kept pair).at (pair_in thread.old.kept (gone - 1)).at) thread.old.kept thread.new.kept }
+    ensures survives { (rename : CanRenameOntoDirectory thread.old.kept pair id place name.now gone) → Survives thread.old.kept.disk thread.old.kept.history thread.new.kept.history
+        (tree_in thread.old.kept.disk thread.old.kept.pairs) (with_renamed thread.old.kept rename.over.can.path rename.over.can.name name.now) }
+{
+    rename_over(alloc, thread, pair, id, place, name)?;
+    drop_at(alloc, thread, gone, &MoveState::none())?;
     Ok(())
 }

@@ -1,13 +1,14 @@
-use Rattle.std.proofs.Common.{ap, ap₂, sym, subst, ◌∙◌, ◌-◌, arith, Err}
+use Rattle.std.proofs.Common.{ℕ, ap, ap₂, sym, subst, ◌∙◌, ◌-◌, arith, Err}
 use Rattle.std.proofs.lemmas.Result.{err_from_is_err_and}
 use Rattle.lfs_pair.specs.ChangeSeen.{changes_seen}
-use Rattle.lfs_operations.specs.Moving.{CanEnd, TellsInSteps, place_after}
-use Rattle.lfs_operations.proofs.MovTelling.{not_io, survives_both, tells_of_end, writes_both, writes_first}
-use Rattle.lfs_thread.specs.Steps.{pair_in}
+use Rattle.lfs_operations.specs.Moving.{CanEnd, TellsInSteps, end_at, place_after}
+use Rattle.lfs_operations.proofs.MovTelling.{not_io, survives_both, tells_of_end, writes_at_end, writes_first}
+use Rattle.lfs_thread.specs.Device.{two_of}
+use Rattle.lfs_thread.specs.Steps.{Writes, pair_in}
 use Rattle.lfs_operations.proofs.moving.put_and_end.Goals as goal
 
 pub returns-in_err-put-clause-device : goal.returns-in_err-put-clause-device
-returns-in_err-put-clause-device g c = writes_first c.args.thread.now.kept c.put.new.thread.kept c.args.old_pair c.args.new_pair c.put.ensures.device
+returns-in_err-put-clause-device g c = writes_first c.args.thread.now.kept c.put.new.thread.kept (end_at c.args.old_pair c.args.goes) c.args.new_pair c.put.ensures.device
 
 pub overflow_sub-fresh : goal.overflow_sub-fresh
 overflow_sub-fresh g c =
@@ -25,7 +26,7 @@ place_after-pair-requires g c =
 pub end_move-requires-clause-can : goal.end_move-requires-clause-can
 end_move-requires-clause-can g c =
     let ends = c.requires.ends c.put.new.thread.kept c.in_ok-put.ensures.is_put in
-    subst (λ i. CanEnd c.put.new.thread.kept i c.args.old_id)
+    subst (λ i. CanEnd c.put.new.thread.kept i c.args.old_id c.args.goes)
     (sym (c.place_after-pair.ensures ∙ ap₂ (λ m n. place_after c.args.old_pair c.args.new_pair (m - n)) c.len.ensures c.len-before.ensures)) ends.can
 
 pub returns-in_err-end_move-clause-errors : goal.returns-in_err-end_move-clause-errors
@@ -38,10 +39,10 @@ returns-in_err-end_move-clause-errors g c =
 
 pub returns-in_err-end_move-clause-device : goal.returns-in_err-end_move-clause-device
 returns-in_err-end_move-clause-device g c =
-    let ends = c.requires.ends c.put.new.thread.kept c.in_ok-put.ensures.is_put in
     let index = c.place_after-pair.ensures ∙ ap₂ (λ m n. place_after c.args.old_pair c.args.new_pair (m - n)) c.len.ensures c.len-before.ensures in
-    writes_both c.args.thread.now.kept c.put.new.thread.kept c.end_move.new.thread.kept c.args.old_pair c.args.new_pair c.place_after-pair.result
-    (ap (λ i. (pair_in c.put.new.thread.kept i).at) index ∙ ends.at) c.put.ensures.device c.end_move.ensures.device
+    writes_at_end c.args.thread.now.kept c.put.new.thread.kept c.end_move.new.thread.kept c.args.old_pair c.args.old_id c.args.goes c.args.new_pair (changes_seen c.args.changes.now) c.in_ok-put.ensures.is_put c.requires.can.can.below
+    (c.requires.ends c.put.new.thread.kept c.in_ok-put.ensures.is_put) c.put.ensures.device
+    (subst (λ (i : ℕ). Writes (two_of (pair_in c.put.new.thread.kept (end_at i c.args.goes)).at) c.put.new.thread.kept c.end_move.new.thread.kept) index c.end_move.ensures.device)
 
 pub returns-in_err-end_move-clause-survives : goal.returns-in_err-end_move-clause-survives
 returns-in_err-end_move-clause-survives g c =
@@ -56,10 +57,10 @@ returns-clause-errors g c =
 
 pub returns-clause-device : goal.returns-clause-device
 returns-clause-device g c =
-    let ends = c.requires.ends c.put.new.thread.kept c.in_ok-put.ensures.is_put in
     let index = c.place_after-pair.ensures ∙ ap₂ (λ m n. place_after c.args.old_pair c.args.new_pair (m - n)) c.len.ensures c.len-before.ensures in
-    writes_both c.args.thread.now.kept c.put.new.thread.kept c.end_move.new.thread.kept c.args.old_pair c.args.new_pair c.place_after-pair.result
-    (ap (λ i. (pair_in c.put.new.thread.kept i).at) index ∙ ends.at) c.put.ensures.device c.end_move.ensures.device
+    writes_at_end c.args.thread.now.kept c.put.new.thread.kept c.end_move.new.thread.kept c.args.old_pair c.args.old_id c.args.goes c.args.new_pair (changes_seen c.args.changes.now) c.in_ok-put.ensures.is_put c.requires.can.can.below
+    (c.requires.ends c.put.new.thread.kept c.in_ok-put.ensures.is_put) c.put.ensures.device
+    (subst (λ (i : ℕ). Writes (two_of (pair_in c.put.new.thread.kept (end_at i c.args.goes)).at) c.put.new.thread.kept c.end_move.new.thread.kept) index c.end_move.ensures.device)
 
 pub returns-clause-survives : goal.returns-clause-survives
 returns-clause-survives g c =

@@ -1,110 +1,22 @@
-use Rattle.std.proofs.Common.{ap, ap₂, sym, subst, ◌∙◌, ◌∷◌, Err}
-use Rattle.std.proofs.lemmas.Result.{err_from_is_err_and}
-use Rattle.lfs_device.specs.declared.error.Error.TheVariants as Error
-use Rattle.lfs_model.specs.Changes.{Delete, PutMove}
-use Rattle.lfs_pair.specs.ChangeSeen.{changes_seen}
-use Rattle.lfs_operations.specs.Changing.{CanPut, IsPut}
-use Rattle.lfs_operations.specs.Moving.{IsPutAndEnded, SurvivesBoth, TellsInSteps, replacing_changes, with_moved}
-use Rattle.lfs_operations.specs.RenamingSlots.{slot_changes}
-use Rattle.lfs_operations.proofs.MovLater.{can_put_onto_later, changes_onto_later, ends_onto_later, parts_onto_later, replaced_later, survives_onto_later, tells_after_read, tells_unmade, writes_after_read, writes_read}
-use Rattle.lfs_operations.proofs.Putting.{not_both}
-use Rattle.lfs_operations.proofs.RenameRead.{read_survives}
+use Rattle.std.proofs.Common.{false, refl, Result, Ok, Err}
+use Rattle.std.specs.Prelude.{OnOk}
+use Rattle.lfs_device.specs.declared.error.Error.{Error}
+use Rattle.lfs_operations.specs.Moving.{CanReplaceAcross, IsMovedOnto, IsReplacedAcross}
+use Rattle.lfs_operations.proofs.MovLater.{replaced_later}
+use Rattle.lfs_operations.proofs.MovReplace.{onto_file}
 use Rattle.lfs_operations.proofs.moving.rename_onto_file_across.Goals as goal
 
-pub returns-in_err-copy-clause-device : goal.returns-in_err-copy-clause-device
-returns-in_err-copy-clause-device g c = writes_read c.args.thread.now.kept c.copy_at.new.thread.kept c.args.old_pair c.args.new_pair c.copy_at.ensures.only
-
-pub returns-in_err-copy-clause-survives : goal.returns-in_err-copy-clause-survives
-returns-in_err-copy-clause-survives g c rename = read_survives c.args.thread.now.kept c.copy_at.new.thread.kept.history c.copy_at.ensures.only.reads rename.old.ready
-    (with_moved c.args.thread.now.kept rename.old.path rename.old.name rename.path c.args.name.now)
-
-pub returns-in_err-changes-clause-errors : goal.returns-in_err-changes-clause-errors
-returns-in_err-changes-clause-errors g c =
-    let from = c.from_residual-in_err-changes in
-    let p = err_from_is_err_and from.result from.ensures.1 in
-    tells_unmade c.args.thread.now c.copy_at.new.thread c.args.new_pair (replacing_changes c.args.thread.now.kept c.args.old_pair c.args.old_id c.args.new_pair c.args.new_id c.args.name.now) from.result (p.1 ∙ ap Err p.2)
-    c.copy_at.ensures.works c.copy_at.ensures.only (c.copy_at.ensures.errors.no_fault (λ io. not_both c.copy_at.result c.in_ok-copy.copy Error.Io c.in_ok-copy.was io))
-
-pub returns-in_err-changes-clause-device : goal.returns-in_err-changes-clause-device
-returns-in_err-changes-clause-device g c = writes_read c.args.thread.now.kept c.copy_at.new.thread.kept c.args.old_pair c.args.new_pair c.copy_at.ensures.only
-
-pub returns-in_err-changes-clause-survives : goal.returns-in_err-changes-clause-survives
-returns-in_err-changes-clause-survives g c rename = read_survives c.args.thread.now.kept c.copy_at.new.thread.kept.history c.copy_at.ensures.only.reads rename.old.ready
-    (with_moved c.args.thread.now.kept rename.old.path rename.old.name rename.path c.args.name.now)
-
-pub put_and_end-requires-clause-can : goal.put_and_end-requires-clause-can
-put_and_end-requires-clause-can g c =
-    let parts = parts_onto_later c.args.thread.now.kept c.copy_at.new.thread.kept c.copy_at.ensures.only c.args.old_pair c.args.old_id c.args.new_pair c.args.new_id c.args.name.now c.requires.can c.share_with_move-state.ensures.address in
-    let are = ap changes_seen c.deref.ensures.value ∙ c.in_ok-changes.ensures
-    ∙ ap₂ (λ m z. PutMove m ∷ Delete c.args.new_id ∷ slot_changes c.args.new_id c.args.name.now z) c.share_with_move-state.ensures.share (c.in_ok-copy.ensures.copied ∙ sym parts) in
-    subst (CanPut c.copy_at.new.thread.kept c.args.new_pair) (sym are)
-    (can_put_onto_later c.args.thread.now.kept c.copy_at.new.thread.kept c.copy_at.ensures.only c.args.old_pair c.args.old_id c.args.new_pair c.args.new_id c.args.name.now c.requires.can c.share_with_move-state.ensures.address)
-
-pub put_and_end-requires-clause-ends : goal.put_and_end-requires-clause-ends
-put_and_end-requires-clause-ends g c last is =
-    let parts = parts_onto_later c.args.thread.now.kept c.copy_at.new.thread.kept c.copy_at.ensures.only c.args.old_pair c.args.old_id c.args.new_pair c.args.new_id c.args.name.now c.requires.can c.share_with_move-state.ensures.address in
-    let are = ap changes_seen c.deref.ensures.value ∙ c.in_ok-changes.ensures
-    ∙ ap₂ (λ m z. PutMove m ∷ Delete c.args.new_id ∷ slot_changes c.args.new_id c.args.name.now z) c.share_with_move-state.ensures.share (c.in_ok-copy.ensures.copied ∙ sym parts) in
-    ends_onto_later c.args.thread.now.kept c.copy_at.new.thread.kept c.copy_at.ensures.only c.args.old_pair c.args.old_id c.args.new_pair c.args.new_id c.args.name.now c.requires.can c.share_with_move-state.ensures.address last
-    (subst (λ z. IsPut c.copy_at.new.thread.kept c.args.new_pair z last) are is)
-
-pub returns-in_err-put_and_end-clause-errors : goal.returns-in_err-put_and_end-clause-errors
-returns-in_err-put_and_end-clause-errors g c =
-    let from = c.from_residual-in_err-put_and_end in
-    let p = err_from_is_err_and from.result from.ensures.1 in
-    let parts = parts_onto_later c.args.thread.now.kept c.copy_at.new.thread.kept c.copy_at.ensures.only c.args.old_pair c.args.old_id c.args.new_pair c.args.new_id c.args.name.now c.requires.can c.share_with_move-state.ensures.address in
-    let same = changes_onto_later c.args.thread.now.kept c.copy_at.new.thread.kept c.copy_at.ensures.only c.args.old_pair c.args.old_id c.args.new_pair c.args.new_id c.args.name.now c.requires.can c.share_with_move-state.ensures.address in
-    let are = ap changes_seen c.deref.ensures.value ∙ c.in_ok-changes.ensures
-    ∙ ap₂ (λ m z. PutMove m ∷ Delete c.args.new_id ∷ slot_changes c.args.new_id c.args.name.now z) c.share_with_move-state.ensures.share (c.in_ok-copy.ensures.copied ∙ sym parts) ∙ same in
-    subst (λ r. TellsInSteps c.args.thread.now c.put_and_end.new.thread c.args.new_pair (replacing_changes c.args.thread.now.kept c.args.old_pair c.args.old_id c.args.new_pair c.args.new_id c.args.name.now) r)
-    (c.in_err-put_and_end.was ∙ ap Err (sym p.2) ∙ sym p.1)
-    (tells_after_read c.args.thread.now c.copy_at.new.thread c.put_and_end.new.thread c.args.new_pair (replacing_changes c.args.thread.now.kept c.args.old_pair c.args.old_id c.args.new_pair c.args.new_id c.args.name.now)
-    c.put_and_end.result c.copy_at.ensures.only (c.copy_at.ensures.errors.no_fault (λ io. not_both c.copy_at.result c.in_ok-copy.copy Error.Io c.in_ok-copy.was io))
-    (subst (λ z. TellsInSteps c.copy_at.new.thread c.put_and_end.new.thread c.args.new_pair z c.put_and_end.result) are c.put_and_end.ensures.errors))
-
-pub returns-in_err-put_and_end-clause-device : goal.returns-in_err-put_and_end-clause-device
-returns-in_err-put_and_end-clause-device g c =
-    writes_after_read c.args.thread.now.kept c.copy_at.new.thread.kept c.put_and_end.new.thread.kept c.args.old_pair c.args.new_pair c.copy_at.ensures.only c.put_and_end.ensures.device
-
-pub returns-in_err-put_and_end-clause-survives : goal.returns-in_err-put_and_end-clause-survives
-returns-in_err-put_and_end-clause-survives g c rename =
-    let parts = parts_onto_later c.args.thread.now.kept c.copy_at.new.thread.kept c.copy_at.ensures.only c.args.old_pair c.args.old_id c.args.new_pair c.args.new_id c.args.name.now rename c.share_with_move-state.ensures.address in
-    let are = ap changes_seen c.deref.ensures.value ∙ c.in_ok-changes.ensures
-    ∙ ap₂ (λ m z. PutMove m ∷ Delete c.args.new_id ∷ slot_changes c.args.new_id c.args.name.now z) c.share_with_move-state.ensures.share (c.in_ok-copy.ensures.copied ∙ sym parts) in
-    survives_onto_later c.args.thread.now.kept c.copy_at.new.thread.kept c.copy_at.ensures.only c.args.old_pair c.args.old_id c.args.new_pair c.args.new_id c.args.name.now rename c.share_with_move-state.ensures.address
-    c.put_and_end.new.thread.kept c.put_and_end.ensures.device
-    (subst (λ z. SurvivesBoth c.copy_at.new.thread.kept c.args.new_pair z c.put_and_end.new.thread.kept) are c.put_and_end.ensures.survives)
+pub put_onto-requires-clause-can : goal.put_onto-requires-clause-can
+put_onto-requires-clause-can g c = onto_file c.requires.can
 
 pub returns-clause-replaced : goal.returns-clause-replaced
-returns-clause-replaced g c rename =
-    let parts = parts_onto_later c.args.thread.now.kept c.copy_at.new.thread.kept c.copy_at.ensures.only c.args.old_pair c.args.old_id c.args.new_pair c.args.new_id c.args.name.now rename c.share_with_move-state.ensures.address in
-    let are = ap changes_seen c.deref.ensures.value ∙ c.in_ok-changes.ensures
-    ∙ ap₂ (λ m z. PutMove m ∷ Delete c.args.new_id ∷ slot_changes c.args.new_id c.args.name.now z) c.share_with_move-state.ensures.share (c.in_ok-copy.ensures.copied ∙ sym parts) in
-    replaced_later c.args.thread.now.kept c.copy_at.new.thread.kept c.copy_at.ensures.only c.args.old_pair c.args.old_id c.args.new_pair c.args.new_id c.args.name.now rename c.share_with_move-state.ensures.address
-    c.put_and_end.new.thread.kept
-    (subst (λ z. IsPutAndEnded c.copy_at.new.thread.kept c.args.old_pair c.args.old_id c.args.new_pair z c.put_and_end.new.thread.kept) are c.in_ok-put_and_end.ensures.done)
-
-pub returns-clause-errors : goal.returns-clause-errors
-returns-clause-errors g c =
-    let parts = parts_onto_later c.args.thread.now.kept c.copy_at.new.thread.kept c.copy_at.ensures.only c.args.old_pair c.args.old_id c.args.new_pair c.args.new_id c.args.name.now c.requires.can c.share_with_move-state.ensures.address in
-    let same = changes_onto_later c.args.thread.now.kept c.copy_at.new.thread.kept c.copy_at.ensures.only c.args.old_pair c.args.old_id c.args.new_pair c.args.new_id c.args.name.now c.requires.can c.share_with_move-state.ensures.address in
-    let are = ap changes_seen c.deref.ensures.value ∙ c.in_ok-changes.ensures
-    ∙ ap₂ (λ m z. PutMove m ∷ Delete c.args.new_id ∷ slot_changes c.args.new_id c.args.name.now z) c.share_with_move-state.ensures.share (c.in_ok-copy.ensures.copied ∙ sym parts) ∙ same in
-    subst (λ r. TellsInSteps c.args.thread.now c.put_and_end.new.thread c.args.new_pair (replacing_changes c.args.thread.now.kept c.args.old_pair c.args.old_id c.args.new_pair c.args.new_id c.args.name.now) r)
-    c.in_ok-put_and_end.was
-    (tells_after_read c.args.thread.now c.copy_at.new.thread c.put_and_end.new.thread c.args.new_pair (replacing_changes c.args.thread.now.kept c.args.old_pair c.args.old_id c.args.new_pair c.args.new_id c.args.name.now)
-    c.put_and_end.result c.copy_at.ensures.only (c.copy_at.ensures.errors.no_fault (λ io. not_both c.copy_at.result c.in_ok-copy.copy Error.Io c.in_ok-copy.was io))
-    (subst (λ z. TellsInSteps c.copy_at.new.thread c.put_and_end.new.thread c.args.new_pair z c.put_and_end.result) are c.put_and_end.ensures.errors))
-
-pub returns-clause-device : goal.returns-clause-device
-returns-clause-device g c =
-    writes_after_read c.args.thread.now.kept c.copy_at.new.thread.kept c.put_and_end.new.thread.kept c.args.old_pair c.args.new_pair c.copy_at.ensures.only c.put_and_end.ensures.device
+returns-clause-replaced g c = go c.put_onto.result c.put_onto.ensures.moved
+  where
+    go : (r : Result (Unit {0}) Error) → OnOk r (IsMovedOnto c.args.thread.now.kept false c.args.old_pair c.args.old_id c.args.first c.args.new_pair c.args.new_id c.args.name.now c.put_onto.new.thread.kept)
+        → OnOk r ((rename : CanReplaceAcross c.args.thread.now.kept c.args.old_pair c.args.old_id c.args.first c.args.new_pair c.args.new_id c.args.name.now)
+        → IsReplacedAcross c.args.thread.now.kept c.put_onto.new.thread.kept rename.old.path rename.old.name rename.path c.args.name.now rename.target.stands.slot.struct)
+    go (Ok x) h = λ rename. replaced_later false c.args.thread.now.kept h.from h.only c.args.old_pair c.args.old_id c.args.first c.args.new_pair c.args.new_id c.args.name.now (onto_file rename) h.address refl c.put_onto.new.thread.kept h.done
+    go (Err e) h = h
 
 pub returns-clause-survives : goal.returns-clause-survives
-returns-clause-survives g c rename =
-    let parts = parts_onto_later c.args.thread.now.kept c.copy_at.new.thread.kept c.copy_at.ensures.only c.args.old_pair c.args.old_id c.args.new_pair c.args.new_id c.args.name.now rename c.share_with_move-state.ensures.address in
-    let are = ap changes_seen c.deref.ensures.value ∙ c.in_ok-changes.ensures
-    ∙ ap₂ (λ m z. PutMove m ∷ Delete c.args.new_id ∷ slot_changes c.args.new_id c.args.name.now z) c.share_with_move-state.ensures.share (c.in_ok-copy.ensures.copied ∙ sym parts) in
-    survives_onto_later c.args.thread.now.kept c.copy_at.new.thread.kept c.copy_at.ensures.only c.args.old_pair c.args.old_id c.args.new_pair c.args.new_id c.args.name.now rename c.share_with_move-state.ensures.address
-    c.put_and_end.new.thread.kept c.put_and_end.ensures.device
-    (subst (λ z. SurvivesBoth c.copy_at.new.thread.kept c.args.new_pair z c.put_and_end.new.thread.kept) are c.put_and_end.ensures.survives)
+returns-clause-survives g c rename = c.put_onto.ensures.survives (onto_file rename)

@@ -5,7 +5,8 @@ use Rattle.lfs_thread.specs.Device.{StopsLeave}
 use Rattle.lfs_thread.specs.Steps.{IsChanged, IsLeft}
 use Rattle.lfs_operations.specs.Recovering.{setting, share_of}
 use Rattle.lfs_operations.proofs.RecoverEnd.{clear_survives, cleared, cleared_already, enough}
-use Rattle.lfs_operations.proofs.RecoverUnderWay.{stays_by, stays_itself}
+use Rattle.lfs_model.specs.Thread.{blocks_of}
+use Rattle.lfs_operations.proofs.RecoverWrites.{two_fewer, writes_fewer, writes_none}
 use Rattle.lfs_operations.proofs.recovering.clear_sync.Goals as goal
 
 pub returns-in_err-set_state-clause-survives : goal.returns-in_err-set_state-clause-survives
@@ -39,13 +40,19 @@ pub returns-else-state-clause-is_cleared : goal.returns-else-state-clause-is_cle
 returns-else-state-clause-is_cleared g c = cleared_already c.args.thread.now.kept c.requires.can (ap (λ (x : Gstate). x.sync) (sym c.state.ensures) ∙ c.if-state.false)
 
 pub returns-in_err-set_state-clause-device : goal.returns-in_err-set_state-clause-device
-returns-in_err-set_state-clause-device g c = stays_by _ c.args.thread.now.kept c.set_state.new.thread.kept c.set_state.ensures.device
+returns-in_err-set_state-clause-device g c =
+    let t = c.args.thread.now.kept in
+    let is : c.len-last.result - 1 + 1 ≡ length t.pairs = let e = enough t c.requires.can in let l = c.len-last.ensures in omega arith in
+    writes_fewer _ (blocks_of t.pairs) (two_fewer t.pairs (c.len-last.result - 1) (omega arith)) c.set_state.ensures.device
 
 pub returns-in_ok-set_state-clause-device : goal.returns-in_ok-set_state-clause-device
-returns-in_ok-set_state-clause-device g c = stays_by _ c.args.thread.now.kept c.set_state.new.thread.kept c.set_state.ensures.device
+returns-in_ok-set_state-clause-device g c =
+    let t = c.args.thread.now.kept in
+    let is : c.len-last.result - 1 + 1 ≡ length t.pairs = let e = enough t c.requires.can in let l = c.len-last.ensures in omega arith in
+    writes_fewer _ (blocks_of t.pairs) (two_fewer t.pairs (c.len-last.result - 1) (omega arith)) c.set_state.ensures.device
 
 pub returns-else-state-clause-device : goal.returns-else-state-clause-device
-returns-else-state-clause-device g c = stays_itself c.args.thread.now.kept
+returns-else-state-clause-device g c = writes_none (blocks_of c.args.thread.now.kept.pairs) c.args.thread.now.kept
 
 pub returns-in_err-set_state-clause-nothing : goal.returns-in_err-set_state-clause-nothing
 returns-in_err-set_state-clause-nothing g c none = absurd (let e = sym c.if-state.true ∙ ap (λ (x : Gstate). x.sync) (c.state.ensures ∙ none) in cc)

@@ -2,10 +2,12 @@ use Rattle.std.proofs.Common.{suc, ◌≡◌, ◌+◌, ◌-◌, ap, sym, subst, 
 use Rattle.std.specs.Prelude.{slice_index_or}
 use Rattle.std.proofs.lemmas.Result.{err_from_is_err_and}
 use Rattle.lfs_tag.specs.FieldsSeen.{move_seen}
-use Rattle.lfs_model.specs.Thread.{gstate_of}
+use Rattle.lfs_model.specs.Thread.{blocks_of, gstate_of}
 use Rattle.lfs_thread.specs.Kept.{Kept}
 use Rattle.lfs_operations.proofs.RecoverEnd.{can_end, end_survives, ends, none_told, tells_steps}
-use Rattle.lfs_operations.proofs.RecoverUnderWay.{IsUnderWay, begins, can_take, drop_all, indexes, moves_on, next_at, stays_by, stays_then, survives_on, wanted, way_at}
+use Rattle.lfs_operations.proofs.RecoverUnderWay.{IsUnderWay, begins, can_take, drop_all, indexes, moves_on, next_at, stays_by, survives_on, wanted, way_at, writes_on}
+use Rattle.lfs_operations.proofs.RecoverWrites.{writes_fewer}
+use Rattle.lfs_operations.proofs.UnlinkedSteps.{writes_trans}
 use Rattle.lfs_operations.proofs.recovering.drop_unreached.Goals as goal
 
 pub loop-dropped-init : goal.loop-dropped-init
@@ -46,8 +48,16 @@ returns-in_err-drop_behind-clause-errors g c =
     tells_steps c.args.thread.now c.loop-dropped.thread c.drop_behind.new.thread p.0 c.drop_behind.result c.from_residual.result c.loop-dropped.invariant.no_fault (c.in_err-drop_behind.was ∙ ap Err (sym p.2)) p.1 c.drop_behind.ensures.errors
 
 pub returns-in_err-drop_behind-clause-device : goal.returns-in_err-drop_behind-clause-device
-returns-in_err-drop_behind-clause-device g c = stays_then c.args.thread.now.kept c.loop-dropped.thread.kept c.drop_behind.new.thread.kept c.loop-dropped.invariant.way.device
-    (stays_by _ c.loop-dropped.thread.kept c.drop_behind.new.thread.kept c.drop_behind.ensures.device)
+returns-in_err-drop_behind-clause-device g c =
+    let old = c.args.thread.now.kept in
+    let now = c.loop-dropped.thread.kept in
+    let xs = c.args.unreached.now in
+    let d = c.loop-dropped.dropped in
+    let n = next_at old now xs d c.loop-dropped-test.true c.loop-dropped.invariant.way in
+    let i = indexes old now d (slice_index_or xs d 0) (drop (suc d) xs) n in
+    writes_on old now d (slice_index_or xs d 0) (drop (suc d) xs) n (move_seen c.state_after-wanted.result)
+    (wanted now xs d (move_seen c.state_after-wanted.result) c.loop-dropped-test.true c.state_after-wanted.ensures)
+    (slice_index_or xs d 0 - d - 1) (slice_index_or xs d 0 - d) i.next i.sum c.drop_behind.new.thread.kept (way_at old now xs d c.loop-dropped-test.true c.loop-dropped.invariant.way) c.drop_behind.ensures.device
 
 pub returns-in_err-drop_behind-clause-survives : goal.returns-in_err-drop_behind-clause-survives
 returns-in_err-drop_behind-clause-survives g c =
@@ -82,7 +92,7 @@ loop-dropped-preserved g c =
           (moves_on old now d (slice_index_or xs d 0) (drop (suc d) xs) n (move_seen c.state_after-wanted.result)
           (wanted now xs d (move_seen c.state_after-wanted.result) c.loop-dropped-test.true c.state_after-wanted.ensures)
           (slice_index_or xs d 0 - d - 1) (slice_index_or xs d 0 - d) i.next i.sum c.drop_behind.new.thread.kept (way_at old now xs d c.loop-dropped-test.true c.loop-dropped.invariant.way)
-          c.drop_behind.ensures.words.0 c.drop_behind.ensures.words.1 c.in_ok-drop_behind.ensures.is_dropped (stays_by _ now c.drop_behind.new.thread.kept c.drop_behind.ensures.device) c.drop_behind.ensures.stops);
+          c.drop_behind.ensures.words.0 c.drop_behind.ensures.words.1 c.in_ok-drop_behind.ensures.is_dropped c.drop_behind.ensures.device c.drop_behind.ensures.stops);
     }
 
 pub clear_sync-requires-clause-can : goal.clear_sync-requires-clause-can
@@ -97,31 +107,31 @@ returns-in_err-clear_sync-clause-errors g c =
     tells_steps c.args.thread.now c.loop-dropped.thread c.clear_sync.new.thread p.0 c.clear_sync.result c.from_residual-in_err-clear_sync.result c.loop-dropped.invariant.no_fault (c.in_err-clear_sync.was ∙ ap Err (sym p.2)) p.1 c.clear_sync.ensures.errors
 
 pub returns-in_err-clear_sync-clause-device : goal.returns-in_err-clear_sync-clause-device
-returns-in_err-clear_sync-clause-device g c = stays_then c.args.thread.now.kept c.loop-dropped.thread.kept c.clear_sync.new.thread.kept c.loop-dropped.invariant.way.device c.clear_sync.ensures.device
+returns-in_err-clear_sync-clause-device g c = writes_trans c.loop-dropped.invariant.way.writes (writes_fewer _ (blocks_of c.args.thread.now.kept.pairs) c.loop-dropped.invariant.way.fewer c.clear_sync.ensures.device)
 
 pub returns-clause-device : goal.returns-clause-device
-returns-clause-device g c = stays_then c.args.thread.now.kept c.loop-dropped.thread.kept c.clear_sync.new.thread.kept c.loop-dropped.invariant.way.device c.clear_sync.ensures.device
+returns-clause-device g c = writes_trans c.loop-dropped.invariant.way.writes (writes_fewer _ (blocks_of c.args.thread.now.kept.pairs) c.loop-dropped.invariant.way.fewer c.clear_sync.ensures.device)
 
 pub returns-in_err-clear_sync-clause-survives : goal.returns-in_err-clear_sync-clause-survives
 returns-in_err-clear_sync-clause-survives g c =
     let past = c.loop-dropped-test.false in
     end_survives c.args.thread.now.kept c.loop-dropped.thread.kept c.loop-dropped.dropped
     (subst (IsUnderWay c.args.thread.now.kept c.loop-dropped.thread.kept c.loop-dropped.dropped) (drop_all c.loop-dropped.dropped c.args.unreached.now (omega (arith, past))) c.loop-dropped.invariant.way)
-    c.clear_sync.new.thread.kept c.clear_sync.ensures.device c.clear_sync.ensures.survives
+    c.clear_sync.new.thread.kept (stays_by _ c.loop-dropped.thread.kept c.clear_sync.new.thread.kept c.clear_sync.ensures.device) c.clear_sync.ensures.survives
 
 pub returns-clause-recovered : goal.returns-clause-recovered
 returns-clause-recovered g c =
     let past = c.loop-dropped-test.false in
     ends c.args.thread.now.kept c.loop-dropped.thread.kept c.loop-dropped.dropped
     (subst (IsUnderWay c.args.thread.now.kept c.loop-dropped.thread.kept c.loop-dropped.dropped) (drop_all c.loop-dropped.dropped c.args.unreached.now (omega (arith, past))) c.loop-dropped.invariant.way)
-    c.requires.can.writable c.requires.can.large c.clear_sync.new.thread.kept c.clear_sync.ensures.device c.in_ok-clear_sync.ensures.is_cleared
+    c.requires.can.writable c.requires.can.large c.clear_sync.new.thread.kept (stays_by _ c.loop-dropped.thread.kept c.clear_sync.new.thread.kept c.clear_sync.ensures.device) c.in_ok-clear_sync.ensures.is_cleared
 
 pub returns-clause-survives : goal.returns-clause-survives
 returns-clause-survives g c =
     let past = c.loop-dropped-test.false in
     end_survives c.args.thread.now.kept c.loop-dropped.thread.kept c.loop-dropped.dropped
     (subst (IsUnderWay c.args.thread.now.kept c.loop-dropped.thread.kept c.loop-dropped.dropped) (drop_all c.loop-dropped.dropped c.args.unreached.now (omega (arith, past))) c.loop-dropped.invariant.way)
-    c.clear_sync.new.thread.kept c.clear_sync.ensures.device c.clear_sync.ensures.survives
+    c.clear_sync.new.thread.kept (stays_by _ c.loop-dropped.thread.kept c.clear_sync.new.thread.kept c.clear_sync.ensures.device) c.clear_sync.ensures.survives
 
 pub returns-in_err-drop_behind-clause-nothing : goal.returns-in_err-drop_behind-clause-nothing
 returns-in_err-drop_behind-clause-nothing g c recovered =

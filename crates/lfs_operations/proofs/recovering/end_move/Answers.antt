@@ -1,15 +1,15 @@
-use Rattle.std.proofs.Common.{ℕ, ◌≡◌, ◌-◌, ap, sym, subst, subst₂, ◌∙◌, Err, refl}
+use Rattle.std.proofs.Common.{ℕ, ◌≡◌, ◌-◌, ap, sym, subst, subst₂, ◌∙◌, Err, refl, arith}
 use Rattle.std.proofs.lemmas.Result.{err_from_is_err_and}
 use Rattle.lfs_model.specs.Logged.{IsAddress}
 use Rattle.lfs_model.specs.Slots.{Gstate}
-use Rattle.lfs_model.specs.Thread.{gstate_of}
+use Rattle.lfs_model.specs.Thread.{blocks_of, gstate_of}
 use Rattle.lfs_tag.specs.FieldsSeen.{move_seen}
 use Rattle.lfs_thread.specs.Device.{StopsLeave}
 use Rattle.lfs_thread.specs.Steps.{IsChanged, IsDropped, IsLeft}
 use Rattle.lfs_operations.specs.Recovering.{CanTakeSlot, share_of, takes_share, taking, taking_over, unset}
 use Rattle.lfs_operations.proofs.RecoverEnd.{tells_steps}
 use Rattle.lfs_operations.proofs.RecoverEnded.{can_take, ended_goes, ended_stays, survives_goes, survives_stays}
-use Rattle.lfs_operations.proofs.RecoverUnderWay.{stays_by}
+use Rattle.lfs_operations.proofs.RecoverWrites.{two_fewer, writes_fewer}
 use Rattle.lfs_operations.proofs.recovering.end_move.Goals as goal
 
 pub take_slot-requires-clause-can : goal.take_slot-requires-clause-can
@@ -32,11 +32,11 @@ returns-in_err-take_slot-clause-errors g c =
 
 pub returns-in_err-drop_behind-clause-device : goal.returns-in_err-drop_behind-clause-device
 returns-in_err-drop_behind-clause-device g c =
-    stays_by _ c.args.thread.now.kept c.drop_behind.new.thread.kept c.drop_behind.ensures.device
+    writes_fewer _ (blocks_of c.args.thread.now.kept.pairs) (two_fewer c.args.thread.now.kept.pairs (c.in-Some.index - 1) (let l = c.in-Some.ensures.there.below in omega arith)) c.drop_behind.ensures.device
 
 pub returns-in_err-take_slot-clause-device : goal.returns-in_err-take_slot-clause-device
 returns-in_err-take_slot-clause-device g c =
-    stays_by _ c.args.thread.now.kept c.take_slot.new.thread.kept c.take_slot.ensures.device
+    writes_fewer _ (blocks_of c.args.thread.now.kept.pairs) (two_fewer c.args.thread.now.kept.pairs c.in-Some.index c.in-Some.ensures.there.below) c.take_slot.ensures.device
 
 pub returns-in_err-drop_behind-clause-survives : goal.returns-in_err-drop_behind-clause-survives
 returns-in_err-drop_behind-clause-survives g c =
@@ -57,11 +57,11 @@ returns-in_err-take_slot-clause-survives g c =
 
 pub returns-in_ok-drop_behind-clause-device : goal.returns-in_ok-drop_behind-clause-device
 returns-in_ok-drop_behind-clause-device g c =
-    stays_by _ c.args.thread.now.kept c.drop_behind.new.thread.kept c.drop_behind.ensures.device
+    writes_fewer _ (blocks_of c.args.thread.now.kept.pairs) (two_fewer c.args.thread.now.kept.pairs (c.in-Some.index - 1) (let l = c.in-Some.ensures.there.below in omega arith)) c.drop_behind.ensures.device
 
 pub returns-in_ok-take_slot-clause-device : goal.returns-in_ok-take_slot-clause-device
 returns-in_ok-take_slot-clause-device g c =
-    stays_by _ c.args.thread.now.kept c.take_slot.new.thread.kept c.take_slot.ensures.device
+    writes_fewer _ (blocks_of c.args.thread.now.kept.pairs) (two_fewer c.args.thread.now.kept.pairs c.in-Some.index c.in-Some.ensures.there.below) c.take_slot.ensures.device
 
 pub returns-in_ok-drop_behind-clause-survives : goal.returns-in_ok-drop_behind-clause-survives
 returns-in_ok-drop_behind-clause-survives g c =

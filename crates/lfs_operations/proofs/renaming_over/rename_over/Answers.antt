@@ -72,7 +72,7 @@ returns-in_err-change-clause-survives g c rename =
 pub returns-clause-renamed : goal.returns-clause-renamed
 returns-clause-renamed g c rename = by c.in_ok-change.field-0 c.in_ok-change.was
   where
-    by : (o : Outcome) → c.change.result ≡ Ok o → IsRenamedOver c.args.thread.now.kept c.change.new.self.kept c.args.pair rename.can.path rename.can.name c.args.name.now
+    by : (o : Outcome) → c.change.result ≡ Ok o → IsRenamedOver c.args.thread.now.kept c.change.new.self.kept c.args.pair c.args.id c.args.place rename.can.path rename.can.name c.args.name.now
     by outcome.Done is =
         let state = c.with_share-state.ensures ∙ ap₂ gstate_xor c.share.ensures c.sync_turned.ensures ∙ ap (λ (k : Kept). gstate_xor (pair_in k c.args.pair).content.move sync_share) (read_is c.args.thread.now.kept c.copy_at.new.thread.kept c.copy_at.ensures.only) in
         let are = ap changes_seen c.deref.ensures.value ∙ c.in_ok-changes.ensures

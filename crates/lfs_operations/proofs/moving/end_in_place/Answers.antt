@@ -1,4 +1,4 @@
-use Rattle.std.proofs.Common.{ap, sym, subst, ◌∙◌, ◌≡◌, [], ◌∷◌, Ok, Err}
+use Rattle.std.proofs.Common.{false, ap, sym, subst, ◌∙◌, ◌≡◌, [], ◌∷◌, Ok, Err}
 use Rattle.std.proofs.lemmas.Result.{err_from_is_err_and}
 use Rattle.lfs_pair.specs.declared.committing.Outcome.{Outcome}
 use Rattle.lfs_pair.specs.declared.committing.Outcome.TheVariants as outcome
@@ -10,7 +10,7 @@ use Rattle.lfs_thread.specs.Steps.{CanChange, IsChanged, IsLeft, IsRefused}
 use Rattle.lfs_operations.specs.Moving.{HasEnded, share_without_move}
 use Rattle.lfs_operations.proofs.MovEnding.{can_end, end_not_refused, end_survives, has_ended}
 use Rattle.lfs_operations.proofs.Removed.{tells_again}
-use Rattle.lfs_operations.proofs.moving.end_move.Goals as goal
+use Rattle.lfs_operations.proofs.moving.end_in_place.Goals as goal
 
 pub change-requires-clause-can : goal.change-requires-clause-can
 change-requires-clause-can g c =
@@ -36,7 +36,7 @@ returns-clause-ended g c = by c.in_ok-change.field-0 c.in_ok-change.was
     address : IsAddress (share_without_move c.args.thread.now.kept c.args.pair).pair
     address = subst (λ (m : Gstate). IsAddress m.pair) c.share_without_move-state.ensures.share c.share_without_move-state.ensures.address
 
-    by : (o : Outcome) → c.change.result ≡ Ok o → HasEnded c.args.thread.now.kept c.args.pair c.args.id c.change.new.self.kept
+    by : (o : Outcome) → c.change.result ≡ Ok o → HasEnded c.args.thread.now.kept c.args.pair c.args.id false c.change.new.self.kept
     by outcome.Done is = has_ended c.args.thread.now.kept c.args.pair c.args.id c.requires.can address c.change.new.self.kept
         (subst (λ m. IsChanged c.args.thread.now.kept c.args.pair (Delete c.args.id ∷ PutMove m ∷ []) c.change.new.self.kept) c.share_without_move-state.ensures.share (c.change.ensures.done is))
     by outcome.Full is = absurd (end_not_refused c.args.thread.now.kept c.args.pair c.args.id c.requires.can address c.change.new.self.kept

@@ -1,0 +1,252 @@
+-- The end of a set move where the pair goes with the slot, as a step of the thread.
+use Rattle.std.proofs.Common.{ℕ, ◌≡◌, ◌≢◌, ◌⊎◌, inl, inr, ◌+◌, ◌-◌, true, false, List, [], ◌∷◌, ◌++◌, length, refl, sym, ap, ap₂, subst, ◌∙◌, arith, append_assoc, append-nil, length-append, remove}
+use Rattle.std.proofs.lemmas.List.Elements.{recursion_from_All}
+use Rattle.lfs_model.specs.Blocks.{Blocks}
+use Rattle.lfs_model.specs.Disk.{Disk}
+use Rattle.lfs_model.specs.History.{Event}
+use Rattle.lfs_model.specs.Logged.{IsMoveState}
+use Rattle.lfs_model.specs.PowerLoss.{IsLeft as IsLeftOf, Survives, with_blocks}
+use Rattle.lfs_model.specs.Slots.{Content, FitsPair, Gstate, Slot, same_pair}
+use Rattle.lfs_model.specs.Thread.{Pair, gstate_of, is_hard}
+use Rattle.lfs_model.specs.View.{IsAccepted, IsWritable, directories_in, tree_in, used_blocks}
+use Rattle.lfs_model.proofs.Alike.{AreAlike, alike_append, alike_itself}
+use Rattle.lfs_model.proofs.Counts.{Each, each_right, count}
+use Rattle.lfs_model.proofs.Histories.{LeavesOnly-weaker}
+use Rattle.lfs_model.proofs.Indexes.{HasSite, site_of_number}
+use Rattle.lfs_model.proofs.Listings.{IsRun}
+use Rattle.lfs_model.proofs.MoveSets.{firsts}
+use Rattle.lfs_model.proofs.Sites.{Among, IsSite, Site, among_left, among_parts, among_right, dirs_at, thread_at}
+use Rattle.lfs_model.proofs.Splices.{IsDevice}
+use Rattle.lfs_model.proofs.StepsTaken.{IsTaken}
+use Rattle.lfs_model.proofs.Superblocks.{IsChain}
+use Rattle.lfs_model.proofs.Writable.{flag}
+use Rattle.lfs_thread.specs.Device.{StopsLeave}
+use Rattle.lfs_thread.specs.Kept.{Kept}
+use Rattle.lfs_thread.specs.Steps.{IsWrittenAs, no_pair, pair_in, without_pair}
+use Rattle.lfs_operations.specs.Dropping.{CanDropAt, HasDroppedBehind, IsLeftByDrop, taken_over, with_tail_taken}
+use Rattle.lfs_operations.specs.Moving.{CanEnd, HasEnded, is_led, sync_in}
+use Rattle.lfs_operations.proofs.Dropped.{device_dropped, device_kept, profile_same}
+use Rattle.lfs_operations.proofs.DroppedTails.{front_is, gone_is, gstate_is, remove_next, without_is}
+use Rattle.lfs_operations.proofs.MovEnding.{get_from, led_is}
+use Rattle.lfs_operations.proofs.MovEndWhole.{HasTakenOver, IsEndingWhole, whole_count, whole_ended, whole_firsts}
+use Rattle.lfs_operations.proofs.Placing.{nothing_came}
+use Rattle.lfs_operations.proofs.Removed.{flag_ends}
+use Rattle.lfs_operations.proofs.RemovedWhole.{LastPair, last_pair, only_slot, over_hard, run_hard}
+
+sync_state : (g : Gstate) → IsMoveState (sync_in g)
+sync_state g = record { kind = omega arith; id = omega arith; pair = (omega arith, omega arith) }
+
+module _ (t : Kept) (index id : ℕ) (can : CanEnd t index id true) where
+  abbrev h : HasSite t.pairs index
+  h = site_of_number t.disk t.pairs index can.accepted can.begins can.below
+
+  abbrev v : Site
+  v = h.site
+
+  abbrev o : Pair
+  o = h.pair
+
+  abbrev u : Slot
+  u = can.stands.slot
+
+  here : pair_in t index ≡ o
+  here = get_from t.pairs index o no_pair h.there
+
+  held : o.content.slots ≡ u ∷ []
+  held =
+      let e = (can.alone refl).1 in
+      let k = ap length can.stands.held in
+      ap (λ (z : Pair). z.content.slots) (sym here) ∙ can.stands.held ∙ only_slot can.stands.left can.stands.right u (sym k ∙ e)
+
+  first : id ≡ 0
+  first =
+      let e = (can.alone refl).1 in
+      let k = ap length can.stands.held in
+      let l = length-append can.stands.left (u ∷ can.stands.right) in
+      let n = can.stands.number in
+      omega arith
+
+  -- ---- the pair in front
+
+  led : flag false (v.before ++ v.left) ≡ true
+  led = sym (ap (λ z. is_led z index) h.is ∙ led_is v o index h.is_site.chain h.number) ∙ (can.alone refl).0
+
+  some_left : v.left ≢ []
+  some_left none = absurd (let z = sym led ∙ ap (λ z. flag false (v.before ++ z)) none ∙ ap (flag false) (append-nil v.before) ∙ flag_ends v.before h.is_site.ends in cc)
+
+  front : LastPair v.left
+  front = last_pair v.left some_left
+
+  abbrev x : Pair
+  x = front.last
+
+  abbrev w : Site
+  w = record { chain = v.chain; before = v.before; left = front.front; right = v.right; after = v.after }
+
+  dirs_is : dirs_at v (o ∷ []) ≡ dirs_at w (x ∷ o ∷ [])
+  dirs_is =
+      let rest = v.right ++ v.after in
+      ap (λ z. (v.before ++ z) ++ o ∷ rest) front.is
+      ∙ append_assoc v.before (front.front ++ x ∷ []) (o ∷ rest)
+      ∙ ap (λ z. v.before ++ z) (append_assoc front.front (x ∷ []) (o ∷ rest))
+      ∙ sym (append_assoc v.before front.front (x ∷ o ∷ rest))
+
+  there : t.pairs ≡ thread_at w (x ∷ o ∷ [])
+  there = h.is ∙ ap (λ z. v.chain ++ z) dirs_is
+
+  abbrev ahead : List Pair
+  ahead = v.chain ++ (v.before ++ front.front)
+
+  abbrev back : List Pair
+  back = v.right ++ v.after
+
+  grouped : (ps : List Pair) → thread_at w ps ≡ ahead ++ (ps ++ back)
+  grouped ps = sym (append_assoc v.chain (v.before ++ front.front) (ps ++ (v.right ++ v.after)))
+
+  is : t.pairs ≡ ahead ++ x ∷ o ∷ back
+  is = there ∙ grouped (x ∷ o ∷ [])
+
+  place : length ahead + 1 ≡ index
+  place =
+      let a = length-append v.chain (v.before ++ front.front) in
+      let b = length-append v.before front.front in
+      let c = length-append v.before v.left in
+      let d = ap length front.is in
+      let e = length-append front.front (x ∷ []) in
+      let f = length-append v.chain (v.before ++ v.left) in
+      let n = h.number in
+      omega arith
+
+  number : length ahead ≡ index - 1
+  number = let e = place in omega arith
+
+  site_now : IsSite w (x ∷ o ∷ [])
+  site_now = record {
+    chain = subst (IsChain v.chain) dirs_is h.is_site.chain;
+    ends = h.is_site.ends;
+    run = subst IsRun (ap (λ z. z ++ o ∷ v.right) front.is ∙ append_assoc front.front (x ∷ []) (o ∷ v.right)) h.is_site.run;
+  }
+
+  hard : is_hard x.content.tail ≡ true
+  hard = run_hard front.front x o v.right site_now.run
+
+  front_there : pair_in t (index - 1) ≡ x
+  front_there = front_is t (index - 1) ahead x o back is number
+
+  gone_there : pair_in t (index - 1 + 1) ≡ o
+  gone_there = gone_is t (index - 1) ahead x o back is number
+
+  abbrev state : Gstate
+  state = sync_in (gstate_of t.pairs)
+
+  pub can_drop_moved : CanDropAt t index (sync_in (gstate_of t.pairs))
+  can_drop_moved = record {
+    above = let e = place in omega arith;
+    below = can.below;
+    thread = can.accepted.thread;
+    fits = subst (λ (z : Pair). FitsPair t.disk.block_size t.disk.page z.content) (sym front_there)
+        (each_right (λ (z : Pair). FitsPair t.disk.block_size t.disk.page z.content) ahead (x ∷ o ∷ back)
+        (subst (Each (λ (z : Pair). FitsPair t.disk.block_size t.disk.page z.content)) is (recursion_from_All (λ (z : Pair). FitsPair t.disk.block_size t.disk.page z.content) t.pairs can.writable.pairs))).0;
+    storable = sync_state (gstate_of t.pairs);
+  }
+
+  -- ---- what it leaves
+
+  abbrev c : Content
+  c = with_tail_taken t (index - 1) (sync_in (gstate_of t.pairs))
+
+  abbrev q : Pair
+  q = record { at = x.at; content = c }
+
+  slots_same : c.slots ≡ x.content.slots
+  slots_same = ap (λ (z : Pair). z.content.slots) front_there
+
+  ending : IsEndingWhole t.disk w x o u
+  ending = record {
+    accepted = subst (IsAccepted t.disk) there can.accepted;
+    writable = subst (IsWritable t.disk) there can.writable;
+    site = site_now;
+    kind = sym (ap (λ z. (gstate_of z).kind) there) ∙ can.kind;
+    pair = ap₂ (λ z (y : Pair). same_pair (gstate_of z).pair y.at) (sym there) (sym here) ∙ can.named;
+    id = sym (ap (λ z. (gstate_of z).id) there) ∙ can.id_is ∙ first;
+    held = held;
+    other = can.stands.entry;
+  }
+
+  over_on : (disk : Disk) → IsWrittenAs t (index - 1) c disk → HasTakenOver t.disk w x o disk q
+  over_on disk written = record {
+    at = refl;
+    slots = slots_same;
+    tail = ap₂ (λ (y z : Pair). taken_over y.content.tail z.content.tail) front_there gone_there ∙ over_hard x.content.tail o.content.tail hard;
+    state = ap gstate_of (grouped (q ∷ [])) ∙ gstate_is t (index - 1) ahead x o back is number (sync_in (gstate_of t.pairs)) q refl ∙ ap (λ z. sync_in (gstate_of z)) there;
+    device = subst (λ z. IsDevice t.disk disk z (thread_at w (q ∷ []))) (sym (grouped (x ∷ o ∷ [])))
+        (subst (IsDevice t.disk disk (ahead ++ x ∷ o ∷ back)) (sym (grouped (q ∷ []))) (device_dropped t (index - 1) ahead x o back is number (subst (IsAccepted t.disk) is can.accepted) disk c slots_same written));
+  }
+
+  goes_on : (disk : Disk) → IsWrittenAs t (index - 1) c disk → IsTaken t.disk (thread_at w (x ∷ o ∷ [])) disk (thread_at w (q ∷ [])) (λ t. t) (λ d. d)
+  goes_on disk written = whole_ended t.disk w x o u ending disk q (over_on disk written)
+
+  -- the others stay
+  still_there : (z : Pair) → z.content.slots ≡ [] → is_hard z.content.tail ≡ false → Among (λ y. y ≡ z) (ahead ++ x ∷ o ∷ back) → Among (λ y. y ≡ z) (ahead ++ q ∷ back)
+  still_there z none soft among = go (among_parts (λ y. y ≡ z) ahead (x ∷ o ∷ back) among)
+    where
+      behind : Among (λ y. y ≡ z) (x ∷ o ∷ back) → Among (λ y. y ≡ z) (q ∷ back)
+      behind (inl e) = absurd (let k = sym hard ∙ ap (λ (y : Pair). is_hard y.content.tail) e ∙ soft in cc)
+      behind (inr (inl e)) = absurd (let k = sym held ∙ ap (λ (y : Pair). y.content.slots) e ∙ none in cc)
+      behind (inr (inr a)) = inr a
+
+      go : Among (λ y. y ≡ z) ahead ⊎ Among (λ y. y ≡ z) (x ∷ o ∷ back) → Among (λ y. y ≡ z) (ahead ++ q ∷ back)
+      go (inl a) = among_left (λ y. y ≡ z) ahead (q ∷ back) a
+      go (inr a) = among_right (λ y. y ≡ z) ahead (q ∷ back) (behind a)
+
+  pub has_gone : (new : Kept) → HasDroppedBehind t (index - 1) (sync_in (gstate_of t.pairs)) new → HasEnded t index id true new
+  has_gone new d =
+      let pairs : new.pairs ≡ thread_at w (q ∷ []) = d.pairs ∙ without_is t (index - 1) ahead x o back is number c ∙ sym (grouped (q ∷ [])) in
+      let taken = goes_on new.disk d.written in
+      let left : remove t.pairs index ≡ ahead ++ x ∷ back = ap₂ (λ (z : List Pair) (i : ℕ). remove z i) is (sym place) ∙ remove_next ahead x o back in
+      record {
+        taken = subst (λ z. IsTaken t.disk z new.disk new.pairs (λ t. t) (λ d. d)) (sym there) (subst (λ z. IsTaken t.disk (thread_at w (x ∷ o ∷ [])) new.disk z (λ t. t) (λ d. d)) (sym pairs) taken);
+        state = d.gstate;
+        alike = subst (λ z. AreAlike z new.pairs) (sym left) (subst (AreAlike (ahead ++ x ∷ back)) (sym (pairs ∙ grouped (q ∷ [])))
+            (alike_append ahead (x ∷ back) ahead (q ∷ back) (alike_itself ahead) (refl, slots_same, alike_itself back)));
+        map = d.map ∙ ap (λ (i : ℕ). without_pair t.map (pair_in t i).at) (let e = place in omega arith);
+        blocks = λ b.
+            let e = whole_count t.disk w x o u ending new.disk q (over_on new.disk d.written) b in
+            let f = ap (λ z. count b (used_blocks new.disk z)) pairs in
+            let g = ap (λ z. count b (used_blocks t.disk z)) there in
+            let k = ap (λ (z : Pair). count b (z.at.0 ∷ z.at.1 ∷ [])) here in
+            omega arith;
+        shape = d.written.shape;
+        begins = ap (λ z. firsts (directories_in z)) pairs ∙ whole_firsts t.disk w x o u ending new.disk q (over_on new.disk d.written) ∙ ap (λ z. firsts (directories_in z)) (sym there);
+        kept = λ z none soft among. subst (Among (λ y. y ≡ z)) (sym (pairs ∙ grouped (q ∷ []))) (still_there z none soft (subst (Among (λ y. y ≡ z)) is among));
+      }
+
+  -- ---- at a stop
+
+  left_tree : (left : Blocks) → IsLeftByDrop t (index - 1) (sync_in (gstate_of t.pairs)) left → IsLeftOf (with_blocks left t.disk) (tree_in t.disk t.pairs) (tree_in t.disk t.pairs)
+  left_tree left l = go l.is
+    where
+      go : (l.content ≡ (pair_in t (index - 1)).content) ⊎ (l.content ≡ with_tail_taken t (index - 1) (sync_in (gstate_of t.pairs))) → IsLeftOf (with_blocks left t.disk) (tree_in t.disk t.pairs) (tree_in t.disk t.pairs)
+      go (inl e) =
+          let same = e ∙ ap (λ (z : Pair). z.content) front_there in
+          let d = device_kept t (index - 1) ahead x o back is number (subst (IsAccepted t.disk) is can.accepted) (with_blocks left t.disk) x.content refl
+          (subst (λ y. IsWrittenAs t (index - 1) y (with_blocks left t.disk)) same l.written) in
+          let on = subst (λ z. IsDevice t.disk (with_blocks left t.disk) z z) (sym is ∙ h.is) d in
+          let f = nothing_came t.disk (with_blocks left t.disk) v o h.is_site (subst (IsAccepted t.disk) h.is can.accepted) on in
+          record {
+            pairs = thread_at v (o ∷ []);
+            accepted = f.accepted;
+            writable = profile_same t.disk (with_blocks left t.disk) (thread_at v (o ∷ [])) refl refl (subst (IsWritable t.disk) h.is can.writable);
+            tree = inl (f.shows ∙ ap (tree_in t.disk) (sym h.is));
+          }
+      go (inr e) =
+          let k = goes_on (with_blocks left t.disk) (subst (λ y. IsWrittenAs t (index - 1) y (with_blocks left t.disk)) e l.written) in
+          record {
+            pairs = thread_at w (q ∷ []);
+            accepted = k.follows.accepted;
+            writable = k.writable;
+            tree = inl (k.follows.shows ∙ ap (tree_in t.disk) (sym there));
+          }
+
+  pub goes_survives : (new : List Event) → StopsLeave t.history new (IsLeftByDrop t (index - 1) (sync_in (gstate_of t.pairs))) → Survives t.disk t.history new (tree_in t.disk t.pairs) (tree_in t.disk t.pairs)
+  goes_survives new stops clean = LeavesOnly-weaker left_tree (stops clean)

@@ -1,0 +1,368 @@
+-- A rename onto an empty directory within a pair: where the directory's pair stands, and what the two steps come to.
+use Rattle.std.proofs.Common.{ℕ, ◌≡◌, ◌+◌, ◌-◌, Bool, true, false, nat_eq, slice_get, List, [], ◌∷◌, ◌++◌, length, Some, None, refl, sym, ap, subst, ◌∙◌, arith, append_assoc, append-nil, length-append}
+use Rattle.std.specs.List.{IsDistinct}
+use Rattle.std.specs.Prelude.{All}
+use Rattle.std.proofs.lemmas.List.Elements.{recursion_from_All}
+use Rattle.lfs_model.specs.Apply.{renamed, rest_after}
+use Rattle.lfs_model.specs.BlockSets.{AreUsed}
+use Rattle.lfs_model.specs.Blocks.{Blocks}
+use Rattle.lfs_model.specs.Names.{Name}
+use Rattle.lfs_model.specs.Operations as ops
+use Rattle.lfs_model.specs.PowerLoss.{IsLeft as IsLeftOf, with_blocks}
+use Rattle.lfs_model.specs.SlotEdits.{slot_of_path, with_slots}
+use Rattle.lfs_model.specs.Slots.{Slot, no_gstate, same_pair}
+use Rattle.lfs_model.specs.Thread.{Pair, blocks_of, gstate_of, is_hard, root_of, superblocks_before}
+use Rattle.lfs_model.specs.Tree.{Path, directory_at}
+use Rattle.lfs_model.specs.View.{IsAccepted, IsWritable, Leads, all_slots, directories_in, entries_in, tree_in, used_blocks}
+use Rattle.lfs_model.proofs.Alike.{AreAlike}
+use Rattle.lfs_model.proofs.Became.{fits_same}
+use Rattle.lfs_model.proofs.Changes.{Follows, SameFiles}
+use Rattle.lfs_model.proofs.Files.{HasSameFile}
+use Rattle.lfs_model.proofs.Committed.{IsCompleted, no_move_from}
+use Rattle.lfs_model.proofs.Counts.{Each, count, each_append, each_left, each_right}
+use Rattle.lfs_model.proofs.Layouts.{onward_all}
+use Rattle.lfs_model.proofs.Moves.{IsStep, entry_only, get_here, place_at, shown_before, shown_behind, step_each}
+use Rattle.lfs_model.proofs.Indexes.{site_shows}
+use Rattle.lfs_model.proofs.Paths.{last_is}
+use Rattle.lfs_model.proofs.RemovedDirectory.{before_gone}
+use Rattle.lfs_model.proofs.Renames.{rename_walk}
+use Rattle.lfs_model.proofs.RenamedWithinOnto.{IsRenameWithinOnto, within_onto_completed}
+use Rattle.lfs_model.proofs.RenameSteps.{sibling_apart}
+use Rattle.lfs_model.proofs.Replacing.{IsReplaced}
+use Rattle.lfs_model.proofs.RmdirSteps.{step_chain}
+use Rattle.lfs_model.proofs.Searches.{avoids_behind, avoids_front, is_site, same, site, slot_of_stands, thread_is}
+use Rattle.lfs_model.proofs.Sites.{IsSite, Site, begin_of, dirs_at, thread_at}
+use Rattle.lfs_model.proofs.Splices.{files_of}
+use Rattle.lfs_model.proofs.StepsTaken.{IsTaken}
+use Rattle.lfs_model.proofs.Superblocks.{IsChain}
+use Rattle.lfs_model.proofs.TwoPlaces.{two}
+use Rattle.lfs_thread.specs.Kept.{Kept}
+use Rattle.lfs_thread.specs.Steps.{IsChanged, IsWrittenAs, no_pair, pair_in, with_pair}
+use Rattle.lfs_operations.specs.Dropping.{HasDroppedBehind, IsLeftByDrop, SameInFlight}
+use Rattle.lfs_operations.specs.Editing.{CanEdit}
+use Rattle.lfs_operations.specs.Renaming.{with_renamed}
+use Rattle.lfs_operations.specs.RenamingOver.{CanRenameOntoDirectory, CanRenameOver, IsRenamedOntoDirectory, rename_over_changes}
+use Rattle.lfs_operations.proofs.OntoGone.{IsReplacing, alike_end, left_last, replaced_by, replaced_shrunk, taken_end}
+use Rattle.lfs_operations.proofs.Owning.{turned_count, used_same}
+use Rattle.lfs_operations.proofs.RenameOver.{HasOver, gstate_now, has_over, over_content, over_fits, pair_now, same_made, step, taken, target_held}
+use Rattle.lfs_operations.proofs.RenamePlaced.{blocks_now, with_name}
+use Rattle.lfs_operations.proofs.RmdirPlaces.{Ahead, Behind, HasFront, Itself, Next, WhereIs, directory_led, get_some, has_front, number_of_first, shows_nothing, soft_end, where_is}
+
+-- ---- places
+
+-- Once p is q, the pair o stands behind x. Of the thread with p and o somewhere, o's directory begins with it, and no other pair is there.
+pub record HasPlaceOver (w : Site) (p q o : Pair) (d : ℕ × ℕ) (n : ℕ) : Type 0 where
+  pub front : List Pair
+  pub x : Pair
+  pub back : List Pair
+  pub there : dirs_at w (q ∷ []) ≡ front ++ x ∷ o ∷ back
+  pub number : length front ≡ n
+  pub soft : is_hard x.content.tail ≡ false
+  pub b : Bool
+  pub one : List Pair
+  pub mid : List Pair
+  pub other : List Pair
+  pub were : thread_at w (p ∷ []) ≡ w.chain ++ two b one (p ∷ []) mid (o ∷ []) other
+  pub begins : onward_all None (before_gone b one mid p) ≡ None
+  pub apart : Each (λ z. same_pair z.at d ≡ false) (two b one (p ∷ []) mid [] other)
+  pub are : two b one (q ∷ []) mid [] other ≡ front ++ x ∷ back
+
+module _ (w : Site) (p q o : Pair) (d : ℕ × ℕ) (address : same_pair o.at d ≡ true) (distinct : IsDistinct nat_eq (blocks_of (thread_at w (p ∷ [])))) (tail : is_hard q.content.tail ≡ is_hard p.content.tail) where
+  abbrev in_front : List Pair
+  in_front = w.before ++ w.left
+
+  abbrev in_back : List Pair
+  in_back = w.right ++ w.after
+
+  -- the pairs but o aren't at its address
+  others_apart : (front back : List Pair) → thread_at w (p ∷ []) ≡ w.chain ++ (front ++ o ∷ back) → Each (λ z. same_pair z.at d ≡ false) front × Each (λ z. same_pair z.at d ≡ false) back
+  others_apart front back is =
+      let e = subst (λ z. IsDistinct nat_eq (blocks_of z)) (is ∙ sym (append_assoc w.chain front (o ∷ back))) distinct in
+      (each_right (λ (z : Pair). same_pair z.at d ≡ false) w.chain front (avoids_front (w.chain ++ front) o back d e address), avoids_behind (w.chain ++ front) o back d e address)
+
+  ahead_place : (mid : List Pair) (x : Pair) (back : List Pair) (n : ℕ) → in_back ≡ mid ++ x ∷ o ∷ back → length (in_front ++ p ∷ mid) ≡ n → is_hard x.content.tail ≡ false → HasPlaceOver w p q o d n
+  ahead_place mid x back n e k soft =
+      let whole : thread_at w (p ∷ []) ≡ w.chain ++ ((in_front ++ p ∷ (mid ++ x ∷ [])) ++ o ∷ back)
+      = ap (λ z. w.chain ++ (in_front ++ p ∷ z)) (e ∙ sym (append_assoc mid (x ∷ []) (o ∷ back))) ∙ ap (λ z. w.chain ++ z) (sym (append_assoc in_front (p ∷ (mid ++ x ∷ [])) (o ∷ back))) in
+      let a = others_apart (in_front ++ p ∷ (mid ++ x ∷ [])) back whole in
+      let f = each_left (λ (z : Pair). same_pair z.at d ≡ false) in_front (p ∷ (mid ++ x ∷ [])) a.0 in
+      let g = each_right (λ (z : Pair). same_pair z.at d ≡ false) in_front (p ∷ (mid ++ x ∷ [])) a.0 in
+      record {
+        front = in_front ++ q ∷ mid;
+        x = x;
+        back = back;
+        there = ap (λ z. in_front ++ q ∷ z) e ∙ sym (append_assoc in_front (q ∷ mid) (x ∷ o ∷ back));
+        number = let g = length-append in_front (q ∷ mid) in let h = length-append in_front (p ∷ mid) in omega arith;
+        soft = soft;
+        b = true;
+        one = in_front;
+        mid = mid ++ x ∷ [];
+        other = back;
+        were = ap (λ z. w.chain ++ (in_front ++ p ∷ z)) (e ∙ sym (append_assoc mid (x ∷ []) (o ∷ back)));
+        begins = ap (λ z. onward_all None z) (sym (append_assoc in_front (p ∷ mid) (x ∷ []))) ∙ soft_end None (in_front ++ p ∷ mid) x soft;
+        apart = each_append (λ (z : Pair). same_pair z.at d ≡ false) in_front (p ∷ ((mid ++ x ∷ []) ++ back)) f (g.0, each_append (λ (z : Pair). same_pair z.at d ≡ false) (mid ++ x ∷ []) back g.1 a.1);
+        are = ap (λ z. in_front ++ q ∷ z) (append_assoc mid (x ∷ []) back) ∙ sym (append_assoc in_front (q ∷ mid) (x ∷ back));
+      }
+
+  next_place : (back : List Pair) (n : ℕ) → in_back ≡ o ∷ back → length in_front ≡ n → is_hard p.content.tail ≡ false → HasPlaceOver w p q o d n
+  next_place back n e k soft =
+      let whole : thread_at w (p ∷ []) ≡ w.chain ++ ((in_front ++ p ∷ []) ++ o ∷ back) = ap (λ z. w.chain ++ (in_front ++ p ∷ z)) e ∙ ap (λ z. w.chain ++ z) (sym (append_assoc in_front (p ∷ []) (o ∷ back))) in
+      let a = others_apart (in_front ++ p ∷ []) back whole in
+      let f = each_left (λ (z : Pair). same_pair z.at d ≡ false) in_front (p ∷ []) a.0 in
+      let g = each_right (λ (z : Pair). same_pair z.at d ≡ false) in_front (p ∷ []) a.0 in
+      record {
+        front = in_front;
+        x = q;
+        back = back;
+        there = ap (λ z. in_front ++ q ∷ z) e;
+        number = k;
+        soft = tail ∙ soft;
+        b = true;
+        one = in_front;
+        mid = [];
+        other = back;
+        were = ap (λ z. w.chain ++ (in_front ++ p ∷ z)) e;
+        begins = soft_end None in_front p soft;
+        apart = each_append (λ (z : Pair). same_pair z.at d ≡ false) in_front (p ∷ back) f (g.0, a.1);
+        are = refl;
+      }
+
+  behind_place : (front : List Pair) (x : Pair) (mid : List Pair) → in_front ≡ front ++ x ∷ o ∷ mid → is_hard x.content.tail ≡ false → HasPlaceOver w p q o d (length front)
+  behind_place front x mid e soft =
+      let turned : dirs_at w (p ∷ []) ≡ (front ++ x ∷ []) ++ o ∷ (mid ++ p ∷ in_back) = ap (λ z. z ++ p ∷ in_back) e ∙ append_assoc front (x ∷ o ∷ mid) (p ∷ in_back) ∙ sym (append_assoc front (x ∷ []) (o ∷ (mid ++ p ∷ in_back))) in
+      let a = others_apart (front ++ x ∷ []) (mid ++ p ∷ in_back) (ap (λ z. w.chain ++ z) turned) in
+      record {
+        front = front;
+        x = x;
+        back = mid ++ q ∷ in_back;
+        there = ap (λ z. z ++ q ∷ in_back) e ∙ append_assoc front (x ∷ o ∷ mid) (q ∷ in_back);
+        number = refl;
+        soft = soft;
+        b = false;
+        one = front ++ x ∷ [];
+        mid = mid;
+        other = in_back;
+        were = ap (λ z. w.chain ++ z) turned;
+        begins = soft_end None front x soft;
+        apart = each_append (λ (z : Pair). same_pair z.at d ≡ false) (front ++ x ∷ []) (mid ++ p ∷ in_back) a.0 a.1;
+        are = append_assoc front (x ∷ []) (mid ++ q ∷ in_back);
+      }
+
+  pub place_over : (front : List Pair) (x : Pair) (back : List Pair) → dirs_at w (p ∷ []) ≡ front ++ x ∷ o ∷ back → is_hard x.content.tail ≡ false → (p ≡ o → ⊥) → HasPlaceOver w p q o d (length front)
+  place_over front x back e soft not_itself = by (where_is in_front p in_back front x o back e)
+    where
+      by : WhereIs in_front p in_back front x o back → HasPlaceOver w p q o d (length front)
+      by (Ahead mid h k) = ahead_place mid x back (length front) h (ap length (sym k)) soft
+      by (Next h i k) = next_place back (length front) k (ap length h) (ap (λ (z : Pair). is_hard z.content.tail) (sym i) ∙ soft)
+      by (Itself h) = absurd (not_itself h)
+      by (Behind mid h) = behind_place front x mid h soft
+
+-- ---- the two steps
+
+module _ (t : Kept) (index id place : ℕ) (name : Name) (gone : ℕ) (rename : CanRenameOntoDirectory t index id place name gone) (m : Kept) (r : IsChanged t index (rename_over_changes t index id place name) m) where
+  abbrev over : CanRenameOver t index id place name
+  over = rename.over
+
+  abbrev can : CanEdit t index id
+  can = over.can
+
+  abbrev p : Pair
+  p = can.stands.pair
+
+  abbrev u : Slot
+  u = can.stands.stands.slot
+
+  abbrev target : Slot
+  target = over.target.stands.slot
+
+  abbrev l2 : List Slot
+  l2 = over.target.stands.left
+
+  abbrev r2 : List Slot
+  r2 = over.target.stands.right
+
+  abbrev o : Pair
+  o = pair_in t gone
+
+  abbrev w : Site
+  w = site t.disk t.pairs can.path can.at can.ready.accepted can.leads can.first index p can.stands.rest can.stands.place can.begins
+
+  there : t.pairs ≡ thread_at w (p ∷ [])
+  there = thread_is t.disk t.pairs can.path can.at can.ready.accepted can.leads can.first index p can.stands.rest can.stands.place can.begins
+
+  site_is : IsSite w (p ∷ [])
+  site_is = is_site t.disk t.pairs can.path can.at can.ready.accepted can.leads can.first index p can.stands.rest can.stands.place can.begins
+
+  same_begin : same_pair (begin_of w (p ∷ [])) can.at ≡ true
+  same_begin = same t.disk t.pairs can.path can.at can.ready.accepted can.leads can.first index p can.stands.rest can.stands.place can.begins
+
+  accepted : IsAccepted t.disk (thread_at w (p ∷ []))
+  accepted = subst (IsAccepted t.disk) there can.ready.accepted
+
+  settled : gstate_of (thread_at w (p ∷ [])) ≡ no_gstate
+  settled = ap gstate_of (sym there) ∙ can.ready.settled
+
+  leads : Leads (thread_at w (p ∷ [])) can.path can.at
+  leads = subst (λ z. Leads z can.path can.at) there can.leads
+
+  abbrev from : Path
+  from = can.path ++ can.name ∷ []
+
+  abbrev to : Path
+  to = can.path ++ name ∷ []
+
+  apart : rest_after (can.path ++ can.name ∷ []) (can.path ++ name ∷ []) ≡ None
+  apart = sibling_apart can.path can.name name over.differs
+
+  -- ---- the pair that goes
+
+  held : p.content.slots ≡ l2 ++ target ∷ r2
+  held = target_held t index id place name over
+
+  entry_there : slice_get (entries_in (thread_at w (p ∷ [])) can.at) (place_at w l2) ≡ Some target
+  entry_there = ap (λ s. slice_get s (place_at w l2)) (site_shows t.disk w p l2 (target ∷ []) r2 can.at accepted site_is (no_move_from (thread_at w (p ∷ [])) settled) same_begin held
+      ∙ ap (λ s. shown_before w l2 ++ (s ++ shown_behind w r2)) (entry_only target over.target.stands.entry)) ∙ get_here (shown_before w l2) (shown_behind w r2) target
+
+  led : Leads (thread_at w (p ∷ [])) (can.path ++ target.name ∷ []) over.to
+  led = directory_led t.disk (thread_at w (p ∷ [])) can.path can.at (place_at w l2) target over.to accepted leads entry_there over.branch
+
+  front : HasFront (dirs_at w (p ∷ [])) over.to
+  front = has_front t.disk w.chain (dirs_at w (p ∷ [])) can.path target.name over.to accepted site_is.chain led
+
+  first_is : (gone ≡ length (w.chain ++ front.front) + 1) × (front.first ≡ o)
+  first_is = number_of_first t.disk w.chain (dirs_at w (p ∷ [])) over.to accepted front gone o
+      (subst (λ z. slice_get z gone ≡ Some o) there (get_some t.pairs gone no_pair rename.below)) rename.at
+
+  alone_first : is_hard front.first.content.tail ≡ false
+  alone_first = ap (λ (z : Pair). is_hard z.content.tail) first_is.1 ∙ rename.alone
+
+  empty : entries_in (thread_at w (p ∷ [])) over.to ≡ []
+  empty = shows_nothing t.disk w.chain (dirs_at w (p ∷ [])) over.to accepted site_is.chain (no_move_from (thread_at w (p ∷ [])) settled) front alone_first
+      (ap (λ (z : Pair). z.content.slots) first_is.1 ∙ rename.empty)
+
+  dirs_are : dirs_at w (p ∷ []) ≡ front.front ++ front.before ∷ o ∷ (front.run ++ front.after)
+  dirs_are = front.is ∙ ap (λ z. front.front ++ front.before ∷ z ∷ (front.run ++ front.after)) first_is.1
+
+  not_itself : p ≡ o → ⊥
+  not_itself e = no_slot l2 (sym held ∙ ap (λ (z : Pair). z.content.slots) e ∙ rename.empty)
+    where
+      no_slot : (xs : List Slot) → xs ++ target ∷ r2 ≡ [] → ⊥
+      no_slot [] k = absurd (cc)
+      no_slot (s ∷ xs) k = absurd (cc)
+
+  -- ---- the first step
+
+  abbrev h : HasOver t index id place name over
+  h = has_over t index id place name over
+
+  abbrev q : Pair
+  q = record { at = p.at; content = over_content t index id place name over h.x h.y }
+
+  written : IsWrittenAs t index (over_content t index id place name over h.x h.y) m.disk
+  written = subst (λ z. IsWrittenAs t index z m.disk) (same_made t index id place name over r.content r.made) r.written
+
+  pairs_now : m.pairs ≡ thread_at w (q ∷ [])
+  pairs_now = r.pairs ∙ ap (with_pair t index) (same_made t index id place name over r.content r.made) ∙ pair_now t index id place name over h
+
+  stepped : IsStep t.disk m.disk w p [] q [] [] [] h.l h.olds h.news h.r
+  stepped = step t index id place name over h m.disk written
+
+  taken_now : IsTaken t.disk t.pairs m.disk m.pairs (renamed (can.path ++ can.name ∷ []) (can.path ++ name ∷ [])) (rename_walk (can.path ++ can.name ∷ []) (can.path ++ name ∷ []))
+  taken_now = subst (λ z. IsTaken t.disk t.pairs m.disk z (renamed from to) (rename_walk from to)) (sym pairs_now)
+      (subst (λ z. IsTaken t.disk z m.disk (thread_at w (q ∷ [])) (renamed from to) (rename_walk from to)) (sym there) (taken t index id place name over h m.disk written))
+
+  placed : HasPlaceOver w p q o over.to (length front.front)
+  placed = place_over w p q o over.to rename.at accepted.thread.distinct refl front.front front.before (front.run ++ front.after) dirs_are front.soft not_itself
+
+  used_now : (b : ℕ) → count b (used_blocks m.disk m.pairs) ≡ count b (used_blocks t.disk t.pairs)
+  used_now b =
+      let files : SameFiles t.disk m.disk (all_slots t.pairs) = subst (λ z. SameFiles t.disk m.disk (all_slots z)) (sym there)
+      (recursion_from_All (λ (x : Slot). HasSameFile t.disk m.disk x.struct) (all_slots (thread_at w (p ∷ []))) stepped.device.files) in
+      let e = turned_count t.disk m.disk w p q [] h.l h.olds h.news h.r (files_of t.disk (target ∷ [])) [] (record {
+        none = stepped.no_move;
+        still = stepped.still_none;
+        device = stepped.device;
+        at = refl;
+        was = h.placed.was;
+        is = stepped.is;
+      }) (λ b. let n = blocks_now t index (rename_over_changes t index id place name) w p h.l h.olds h.news h.r (target ∷ []) u (with_name u name) h.placed m.disk stepped.device.geometry files b in omega arith) b in
+      let f = ap (λ z. count b (used_blocks m.disk z)) pairs_now in
+      let g = ap (λ z. count b (used_blocks t.disk z)) there in
+      let none : count b (files_of t.disk (target ∷ [])) ≡ 0 = ap (λ z. count b (files_of t.disk (record target { struct = z } ∷ []))) over.branch in
+      omega arith
+
+  pub replacing : IsReplacing t m (can.path ++ can.name ∷ []) (can.path ++ name ∷ []) over.to o gone
+  replacing = record {
+    ready = can.ready;
+    taken = taken_now;
+    state = ap gstate_of pairs_now ∙ gstate_now t index id place name over h;
+    chain = w.chain;
+    front = placed.front;
+    x = placed.x;
+    back = placed.back;
+    there = pairs_now ∙ ap (λ z. w.chain ++ z) placed.there;
+    is_chain = subst (IsChain w.chain) placed.there (step_chain t.disk m.disk w p [] q [] [] [] h.l h.olds h.news h.r stepped);
+    number = (let a = length-append w.chain placed.front in let b = length-append w.chain front.front in let n = placed.number in let f = first_is.0 in omega arith);
+    soft = placed.soft;
+    replaced = subst (λ z. IsReplaced (directory_at (entries_in z) (root_of z)) from to over.to) (sym there)
+        (subst (λ (n : Name). IsReplaced (directory_at (entries_in (thread_at w (p ∷ []))) (root_of (thread_at w (p ∷ [])))) from (can.path ++ n ∷ []) over.to) over.target.stands.named
+        (replaced_by t.disk (thread_at w (p ∷ [])) can.path can.at (place_at w l2) target over.to from accepted leads entry_there over.branch empty
+        (ap (λ (n : Name). rest_after from (can.path ++ n ∷ [])) over.target.stands.named ∙ apart)));
+    every = λ Q k. subst (λ z. All (λ y. Q y.at) (directories_in z)) (sym pairs_now)
+        (step_each t.disk m.disk w p [] q [] [] [] h.l h.olds h.news h.r stepped can.path can.at leads same_begin Q (subst (λ z. All (λ y. Q y.at) (directories_in z)) there k));
+    address = rename.at;
+    alone = rename.alone;
+    empty = rename.empty;
+    used = subst (λ s. AreUsed s (used_blocks m.disk m.pairs)) (sym r.map) (used_same t.map (used_blocks t.disk t.pairs) (used_blocks m.disk m.pairs) used_now can.ready.used);
+    size = ap length r.map ∙ can.ready.size ∙ sym r.written.shape.count;
+    flying = subst (SameInFlight t.map) (sym r.map) (λ b. ((λ k. k), (λ k. k)));
+    shape = r.written.shape;
+  }
+
+  -- ---- both
+
+  module _ (new : Kept) (g : HasDroppedBehind m (gone - 1) no_gstate new) where
+    ended : IsTaken t.disk t.pairs new.disk new.pairs (renamed (can.path ++ can.name ∷ []) (can.path ++ name ∷ [])) (rename_walk (can.path ++ can.name ∷ []) (can.path ++ name ∷ []))
+    ended = taken_end t m from to over.to o gone replacing new g
+
+    laid : IsRenameWithinOnto t.disk new.disk new.pairs placed.b w.chain placed.one placed.mid placed.other p o q [] can.stands.stands.left u can.stands.stands.right h.x target h.y over.to
+        (can.path ++ can.name ∷ []) (can.path ++ name ∷ []) name
+    unfolding replacing
+    laid = record {
+      is_chain = ap superblocks_before (sym placed.were) ∙ site_is.chain;
+      accepted = subst (IsAccepted t.disk) placed.were accepted;
+      writable = subst (IsWritable t.disk) placed.were (subst (IsWritable t.disk) there can.ready.writable);
+      settled = ap gstate_of (sym placed.were) ∙ settled;
+      still = g.gstate;
+      walk = rename_walk from to;
+      follows = subst (λ z. Follows t.disk z new.disk new.pairs (renamed from to) (rename_walk from to)) (there ∙ placed.were) ended.follows;
+      still_writable = ended.writable;
+      held = can.stands.stands.held;
+      left_over = h.over.0;
+      at = refl;
+      is = append-nil q.content.slots;
+      became = (refl, fits_same t.disk q (with_slots (h.x ++ record u { name = name } ∷ h.y) p) refl (over_fits t index id place name over h.x h.y h.over));
+      branch = over.branch;
+      alike_address = rename.at;
+      soft = rename.alone;
+      begins = placed.begins;
+      apart = placed.apart;
+      alike = subst (λ z. AreAlike (w.chain ++ z) new.pairs) (sym placed.are) (alike_end t m from to over.to o gone replacing new g);
+      from_slot = subst (λ z. slot_of_path z from ≡ Some u) (there ∙ placed.were)
+          (slot_of_stands t.disk t.pairs can.path can.at can.ready.accepted can.leads can.first index id can.name (no_move_from t.pairs can.ready.settled) can.stands can.begins);
+      to_slot = subst (λ z. slot_of_path z to ≡ Some target) (there ∙ placed.were)
+          (slot_of_stands t.disk t.pairs can.path can.at can.ready.accepted can.leads can.first index place name (no_move_from t.pairs can.ready.settled) over.target can.begins);
+      to_name = last_is can.path name;
+      not_beneath = apart;
+    }
+
+    pub renamed_onto_directory : IsRenamedOntoDirectory t new rename.over.can.path rename.over.can.name name
+    renamed_onto_directory = record {
+      now = replaced_shrunk t m from to over.to o gone replacing new g;
+      completed = λ s given to_given tree given_is to_is. subst (λ z. IsCompleted t.disk z s (ops.Rename given to_given) new.disk new.pairs) (sym (there ∙ placed.were))
+          (within_onto_completed t.disk new.disk new.pairs placed.b w.chain placed.one placed.mid placed.other p o q [] can.stands.stands.left u can.stands.stands.right h.x target h.y over.to from to name laid s given to_given
+          (tree ∙ ap (tree_in t.disk) (there ∙ placed.were)) given_is to_is);
+    }
+
+  pub left_within : (left : Blocks) → IsLeftByDrop m (gone - 1) no_gstate left → IsLeftOf (with_blocks left t.disk) (tree_in t.disk t.pairs) (with_renamed t rename.over.can.path rename.over.can.name name)
+  left_within left g = left_last t m from to over.to o gone replacing left g

@@ -8,12 +8,17 @@ use Rattle.lfs_model.specs.BlockSets.{BlockSets}
 use Rattle.lfs_model.specs.Disk.{Disk}
 use Rattle.lfs_model.specs.History.{Event}
 use Rattle.lfs_model.specs.Thread.{Pair, superblocks_before}
-use Rattle.lfs_thread.specs.Kept.{State}
+use Rattle.lfs_model.specs.Operations.{Operation}
+use Rattle.lfs_model.specs.PowerLoss.{Survives}
+use Rattle.lfs_model.specs.Tree.{Tree}
+use Rattle.lfs_model.specs.View.{tree_in}
+use Rattle.lfs_thread.specs.Kept.{Kept, State}
+use Rattle.lfs_tree.specs.Carrying.{Carries}
 use Rattle.lfs_tree.specs.Held.{IsHeld, IsRooted, seen_image, seen_kept}
 use Rattle.lfs_tree.specs.declared.image.Image.{Image}
 use Rattle.lfs_tree.specs.declared.image.Image.TheVariants as image
 use Rattle.lfs_tree.specs.Reading.{IsReading}
-use Rattle.lfs_tree.specs.Seen.{Seen, IsAsked, IsBrokenAsking, IsError}
+use Rattle.lfs_tree.specs.Seen.{Seen, IsAsked, IsBrokenAsking, IsCarried, IsError, tree_seen}
 use Rattle.lfs_tree.proofs.Mounting.{sound_read}
 use Rattle.lfs_tree.proofs.Reading.{same_error}
 
@@ -65,3 +70,15 @@ module _ {D : Type 0} (g : Ghosts D) (held : Image D) (thread : State) (root : �
   -- what works and may be written, is seen so
   pub seen_working : now.failed ≡ false → now.writable ≡ true → now ≡ seen_kept thread.kept true false
   seen_working e w = sym seen_mounted ∙ ap₂ (λ a b. seen_kept thread.kept a b) (ap (λ (s : Seen). s.writable) seen_mounted ∙ w) (ap (λ (s : Seen). s.failed) seen_mounted ∙ e)
+
+  -- an operation of the thread is one of what is seen
+  pub carried_working : now.failed ≡ false → now.writable ≡ true → (new : Kept) (op : Operation) → Carries thread.kept op new → IsCarried now op (seen_kept new writable failed)
+  carried_working e w new op c =
+      subst (λ a. IsCarried now op (seen_kept new a failed)) (sym (ap (λ (s : Seen). s.writable) seen_mounted ∙ w))
+      (subst (λ b. IsCarried now op (seen_kept new true b)) (sym (ap (λ (s : Seen). s.failed) seen_mounted ∙ e))
+      (subst (λ s. IsCarried s op (seen_kept new true false)) (sym (seen_working e w)) c))
+
+  -- and so is what a loss of power on its way leaves
+  pub survives_working : now.failed ≡ false → now.writable ≡ true → (new : List Event) (f : Tree → Tree) → Survives thread.kept.disk thread.kept.history new (tree_in thread.kept.disk thread.kept.pairs) (f (tree_in thread.kept.disk thread.kept.pairs)) →
+      Survives now.disk now.history new (tree_seen now) (f (tree_seen now))
+  survives_working e w new f k = subst (λ s. Survives s.disk s.history new (tree_seen s) (f (tree_seen s))) (sym (seen_working e w)) k

@@ -143,7 +143,7 @@ module _ (disk : Disk) (ps : List Pair) where
   finds_shown path x (contents.List head size) ok list e k h sized =
       finds_file (tree_in disk ps) path x.attributes (contents_in disk head size) size (ap node_shown e ∙ ap (λ (z : Struct). Some (node_of (contents_in disk) (entries_in ps) x.attributes z)) k) h (sized head size (subst (IsListIfCtz disk) k list))
 
-each_found : (Q : Slot → Type 0) (n : Name) (xs : List Slot) (u : Slot) → Each Q xs → entry_named n xs ≡ Some u → Q u
+pub each_found : (Q : Slot → Type 0) (n : Name) (xs : List Slot) (u : Slot) → Each Q xs → entry_named n xs ≡ Some u → Q u
 each_found Q n [] u h e = absurd (cc)
 each_found Q n (x ∷ xs) u h e = go (same_name n x.name) (each_found Q n xs u h.1) e
   where

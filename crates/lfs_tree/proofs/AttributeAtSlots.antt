@@ -34,7 +34,7 @@ attribute_kind s kind l =
     let m : (0x300 + kind) % 2 ^ 8 ≡ kind = omega (arith, l) in
     ap₂ (λ d m. cond (d == 0) (bytes_typed (0x300 + kind) s.name) (cond (d == 2) (bytes_typed (0x300 + kind) s.struct) (cond (d == 3) (attribute_of m s.attributes) None))) d m
 
-same_attributes : (s : RawSlot) (t : Slot) → complete s ≡ Some t → s.attributes ≡ t.attributes
+pub same_attributes : (s : RawSlot) (t : Slot) → complete s ≡ Some t → s.attributes ≡ t.attributes
 same_attributes s t e = go s.name s.struct e
   where
     go : (n p : Option (ℕ × List ℕ)) →
@@ -46,7 +46,7 @@ same_attributes s t e = go s.name s.struct e
 pub attribute_held : (s : RawSlot) (t : Slot) (kind : ℕ) → kind < 2 ^ 8 → complete s ≡ Some t → bytes_in (0x300 + kind) s ≡ attribute_of kind t.attributes
 attribute_held s t kind l e = attribute_kind s kind l ∙ ap (attribute_of kind) (same_attributes s t e)
 
-parts_of_id : (raw : List RawSlot) (id : ℕ) → HaveParts raw → HasParts (slot_of_id raw id)
+pub parts_of_id : (raw : List RawSlot) (id : ℕ) → HaveParts raw → HasParts (slot_of_id raw id)
 parts_of_id [] zero h = record { name = tt; struct = tt; attributes = tt }
 parts_of_id [] (suc id) h = record { name = tt; struct = tt; attributes = tt }
 parts_of_id (s ∷ raw) zero h = h.0

@@ -4,9 +4,9 @@ use Rattle.std.specs.List.{enumerate_from, flat_map}
 use Rattle.std.specs.Option.{option_and_then, option_map}
 use Rattle.std.proofs.lemmas.List.{length-take, length-drop}
 use Rattle.std.proofs.lemmas.Option.{same_Some}
-use Rattle.lfs_model.specs.Apply.{bytes_at}
+use Rattle.lfs_model.specs.Apply.{bytes_at, is_file}
 use Rattle.lfs_model.specs.Content.{RawSlot, complete, complete_all, kind_named, slot_of_id, struct_typed, inline_struct_type, directory_struct_type, pair_at}
-use Rattle.lfs_model.specs.Disk.{Disk}
+use Rattle.lfs_model.specs.Disk.{Disk, inline_limit}
 use Rattle.lfs_model.specs.InDirectory.{IsBehind, Stands}
 use Rattle.lfs_model.specs.Lists.{data_of, blocks_back, blocks_for}
 use Rattle.lfs_model.specs.Lookup.{bytes_in, bytes_typed}
@@ -18,8 +18,10 @@ use Rattle.lfs_model.specs.Tree.{Path, node_of}
 use Rattle.lfs_model.specs.Operations as ops
 use Rattle.lfs_model.specs.Session.{parent_fault}
 use Rattle.lfs_device.specs.declared.error.Error.{Error}
-use Rattle.std.specs.Prelude.{IfOk}
-use Rattle.lfs_model.specs.View.{IsAccepted, IsListIfCtz, Leads, contents_in, entries_in, tree_in}
+use Rattle.std.specs.Prelude.{All, IfOk}
+use Rattle.std.proofs.lemmas.List.Elements.{recursion_from_All}
+use Rattle.lfs_model.proofs.Counts.{Each, each_right}
+use Rattle.lfs_model.specs.View.{FitsSlot, HasInline, IsAccepted, IsListIfCtz, IsWritable, Leads, contents_in, entries_in, tree_in}
 use Rattle.lfs_model.proofs.Completed.{complete_parts}
 use Rattle.lfs_thread.specs.Kept.{Kept}
 use Rattle.lfs_thread.specs.Steps.{no_pair}
@@ -156,12 +158,34 @@ module _ (t : Kept) (path : Path) (ok : IsAccepted t.disk t.pairs) where
   no_file shown.ParentIsFile s e = refused_bytes ops.NotDir s.1
   no_file shown.ParentIsMissing s e = refused_bytes ops.NoEnt s.1
 
+-- no file is there where none is found
+module _ (t : Kept) (path : Path) where
+  pub not_file : (x : Shown) → ShowsAt t path x → file_shown x ≡ None → is_file (tree_in t.disk t.pairs path) ≡ false
+  not_file shown.Root s e = ap (λ p. is_file (tree_in t.disk t.pairs p)) s.1
+  not_file (shown.Directory slot first) s e = ap is_file (directory_at_path t.disk t.pairs path s.1.1.1.at s.1.1.1.leads).is
+  not_file (shown.File slot contents) s e = absurd (cc)
+  not_file shown.Nothing s e = ap is_file (nothing_at t.disk t.pairs path s.1.1)
+  not_file shown.ParentIsFile s e = ap is_file (nothing_at t.disk t.pairs path (refused_none t.disk t.pairs path [] ops.NotDir s.1))
+  not_file shown.ParentIsMissing s e = ap is_file (nothing_at t.disk t.pairs path (refused_none t.disk t.pairs path [] ops.NoEnt s.1))
+
+-- an entry of the writing profile has few bytes in its slot
+inline_within : (disk : Disk) (ps : List Pair) (first : ℕ) (name : Name) (index id : ℕ) (s : Stands ps first name index id) → IsWritable disk ps → HasInline (inline_limit disk.block_size) s.stands.slot.struct
+inline_within disk ps first name index id s fits =
+    let fit : Slot → Type 0 = FitsSlot disk.block_size disk.page in
+    let all = recursion_from_All (λ (p : Pair). All fit p.content.slots) ps fits.slots in
+    let one = (each_right (λ (p : Pair). All fit p.content.slots) s.place.left (s.pair ∷ s.rest)
+    (each_right (λ (p : Pair). All fit p.content.slots) s.place.front (s.place.left ++ s.pair ∷ s.rest) (subst (Each (λ (p : Pair). All fit p.content.slots)) s.place.parts all))).0 in
+    let here = (each_right fit s.stands.left (s.stands.slot ∷ s.stands.right) (subst (Each fit) s.stands.held (recursion_from_All fit s.pair.content.slots one))).0 in
+    (here.1 s.stands.entry).inline
+
 -- what is found of the file at a path
 pub record IsFileOf (t : Kept) (path : Path) (slot : Spot) (contents : Contents) : Type 0 where
   pub held : Slot
   pub file : IsFileAt t slot contents held
   pub bytes : bytes_shown t.disk held.struct ≡ bytes_at (tree_in t.disk t.pairs path)
   pub few : length (bytes_shown t.disk held.struct) < 2 ^ 31
+  pub at : slot_of_path t.pairs path ≡ Some held
+  pub inline : IsWritable t.disk t.pairs → HasInline (inline_limit t.disk.block_size) held.struct
 
 pub file_of_path : (t : Kept) (path : Path) (x : Shown) (slot : Spot) (contents : Contents) → IsAccepted t.disk t.pairs → ShowsAt t path x → file_shown x ≡ Some (slot, contents) → IsFileOf t path slot contents
 file_of_path t path x slot contents ok shows e =
@@ -172,6 +196,8 @@ file_of_path t path x slot contents ok shows e =
       file = file;
       bytes = bytes_of_slot t.disk t.pairs path s.stands.stands.slot s.slot;
       few = few_shown t.disk contents s.stands.stands.slot.struct k file.list;
+      at = s.slot;
+      inline = λ fits. inline_within t.disk t.pairs s.first s.name slot.pair slot.id s.stands fits;
     }
 
 -- the file is that of a thread that was only read since

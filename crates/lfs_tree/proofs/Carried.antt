@@ -40,7 +40,7 @@ read_is a b r =
 abbrev pub IsApart : BlockSets → List ℕ → Type 0
 IsApart sets bs = (b : ℕ) → IsInFlight sets b → All (λ c. c ≢ b) bs
 
-apart_state : (sets : BlockSets) (b c : ℕ) → IsInFlight sets b → IsUsed sets c → c ≢ b
+pub apart_state : (sets : BlockSets) (b c : ℕ) → IsInFlight sets b → IsUsed sets c → c ≢ b
 apart_state sets b c flies used e = let k : InFlight ≡ Used = same_Some InFlight Used (sym flies ∙ ap (slice_get sets) (sym e) ∙ used) in absurd (cc)
 
 apart_free : (sets : BlockSets) (b c : ℕ) → IsInFlight sets b → IsFree sets c → c ≢ b
@@ -49,7 +49,7 @@ apart_free sets b c flies free e = let k : InFlight ≡ Free = same_Some InFligh
 in_left : (xs ys : List ℕ) (b : ℕ) → Contains xs b → Contains (xs ++ ys) b
 in_left xs ys b h = let k = count-Contains xs b h in let e = count_append b xs ys in Contains-count (xs ++ ys) b (omega arith)
 
-pair_blocks : (ps : List Pair) (index : ℕ) → index < length ps → Contains (blocks_of ps) (slice_index_or ps index no_pair).at.0 × Contains (blocks_of ps) (slice_index_or ps index no_pair).at.1
+pub pair_blocks : (ps : List Pair) (index : ℕ) → index < length ps → Contains (blocks_of ps) (slice_index_or ps index no_pair).at.0 × Contains (blocks_of ps) (slice_index_or ps index no_pair).at.1
 pair_blocks [] index below = absurd (omega arith)
 pair_blocks (p ∷ ps) zero below = (Contains-head p.at.0 (p.at.1 ∷ blocks_of ps), Contains-tail p.at.0 p.at.1 (p.at.1 ∷ blocks_of ps) (Contains-head p.at.1 (blocks_of ps)))
 pair_blocks (p ∷ ps) (suc index) below =

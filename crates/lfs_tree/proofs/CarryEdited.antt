@@ -75,7 +75,7 @@ module _ (t : State) (root : ℕ) (rests : IsAtRest t root) (path : Path) (large
   abbrev found_slot : Slot
   found_slot = slot.stands.stands.stands.slot
 
-  pub can_edit : CanEdit (with_history t.kept h) spot.pair spot.id
+  unfoldable pub can_edit : CanEdit (with_history t.kept h) spot.pair spot.id
   can_edit = record {
     ready = ready_to t root h rests large;
     path = slot.above;
@@ -88,7 +88,7 @@ module _ (t : State) (root : ℕ) (rests : IsAtRest t root) (path : Path) (large
     logged = logged_there t.kept.disk _ bytes;
   }
 
-  attributes_are : attributes_of (tree_in t.kept.disk t.kept.pairs path) ≡ found_slot.attributes
+  pub attributes_are : attributes_of (tree_in t.kept.disk t.kept.pairs path) ≡ found_slot.attributes
   attributes_are =
       ap (λ o. attributes_of (option_map (λ (f : Slot). node_of (contents_in t.kept.disk) (entries_in t.kept.pairs) f.attributes f.struct) o)) (ap (slot_of_path t.kept.pairs) slot.is ∙ slot.stands.slot)
       ∙ by_struct found_slot.attributes found_slot.struct
@@ -104,7 +104,7 @@ module _ (t : State) (root : ℕ) (rests : IsAtRest t root) (path : Path) (large
   abbrev Fit : Slot → Type 0
   Fit s = FitsSlot t.kept.disk.block_size t.kept.disk.page s
 
-  inline_fits : HasInline (inline_limit t.kept.disk.block_size) found_slot.struct
+  pub inline_fits : HasInline (inline_limit t.kept.disk.block_size) found_slot.struct
   inline_fits =
       let place = slot.stands.stands.place in
       let stands = slot.stands.stands.stands in

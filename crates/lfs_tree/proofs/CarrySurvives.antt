@@ -1,14 +1,18 @@
 -- A loss of power in an operation on a path, behind calls that only read.
-use Rattle.std.proofs.Common.{ℕ, inl, List, refl}
-use Rattle.lfs_model.specs.History.{Event, OnlyReads}
-use Rattle.lfs_model.specs.PowerLoss.{Survives}
-use Rattle.lfs_model.specs.Tree.{Tree}
-use Rattle.lfs_model.specs.View.{tree_in}
+use Rattle.std.proofs.Common.{ℕ, ◌≡◌, inl, inr, false, if◌then◌else◌, Option, Some, None, List, [], ◌∷◌, ◌++◌, refl, sym, ap₂, subst}
+use Rattle.std.specs.Prelude.{is_none, is_some}
+use Rattle.lfs_model.specs.Apply.{added}
+use Rattle.lfs_model.specs.Disk.{Disk, SameGeometry}
+use Rattle.lfs_model.specs.History.{Event, EachEvent, EachSince, OnlyReads}
+use Rattle.lfs_model.specs.Operations.{Operation}
+use Rattle.lfs_model.specs.PowerLoss.{IsLeft, Survives, with_blocks}
+use Rattle.lfs_model.specs.Tree.{FileNode, Node, Path, Tree}
+use Rattle.lfs_model.specs.View.{IsAccepted, IsWritable, tree_in}
 use Rattle.lfs_model.proofs.AfterStops.{survives_then}
 use Rattle.lfs_model.proofs.Histories.{LeavesOnly-reads, Stops-read}
 use Rattle.lfs_thread.specs.Kept.{Kept, State}
 use Rattle.lfs_thread.specs.Steps.{Writes}
-use Rattle.lfs_tree.specs.Carrying.{IsAtRest, SurvivesTo}
+use Rattle.lfs_tree.specs.Carrying.{Carries, IsAtRest, SurvivesTo}
 use Rattle.lfs_tree.proofs.Carried.{with_history}
 
 pub survives_reading : (t : State) (root : ℕ) → IsAtRest t root → (h : List Event) → OnlyReads t.kept.disk.blocks t.kept.history h → (after : Tree) →
@@ -19,3 +23,34 @@ pub survives_behind : (t : State) (root : ℕ) → IsAtRest t root → (h : List
     SurvivesTo (with_history t.kept h) c after → SurvivesTo t.kept c after
 survives_behind t root rests h c bs after reads w k =
     survives_then t.kept.disk t.kept.history h c.history (tree_in t.kept.disk t.kept.pairs) after reads w.at_worst (survives_reading t root rests h reads after) k
+
+-- a stop in a call that only reads behind calls that left such a tree leaves it
+pub survives_left : {P : Event → Type 0} (t c : Kept) (h : List Event) (after : Tree) → SameGeometry t.disk c.disk → EachSince P t.history c.history → IsAccepted c.disk c.pairs → IsWritable c.disk c.pairs
+    → tree_in c.disk c.pairs ≡ after → OnlyReads c.disk.blocks c.history h → SurvivesTo t c after → Survives t.disk t.history h (tree_in t.disk t.pairs) after
+survives_left t c h after geometry since accepted fits shows reads k =
+    survives_then t.disk t.history c.history h (tree_in t.disk t.pairs) after since reads k
+    (λ clean. LeavesOnly-reads Stops-read reads (subst (λ disk. IsLeft disk (tree_in t.disk t.pairs) after) (sym (same_disk t.disk c.disk geometry))
+    (record { pairs = c.pairs; accepted = accepted; writable = fits; tree = inr shows })))
+  where
+    same_disk : (disk new : Disk) → SameGeometry disk new → with_blocks new.blocks disk ≡ new
+    same_disk disk new g = ap₂ (λ size page. record { block_size = size; page = page; blocks = new.blocks }) (sym g.block_size) (sym g.page)
+
+-- a stop in a call that only reads behind an operation that is carried out leaves its tree
+pub survives_ahead : (t c : Kept) (h : List Event) (op : Operation) (after : Tree) → Carries t op c → tree_in c.disk c.pairs ≡ after → OnlyReads c.disk.blocks c.history h →
+    SurvivesTo t c after → Survives t.disk t.history h (tree_in t.disk t.pairs) after
+survives_ahead t c h op after done shows reads k = survives_left t c h after done.geometry (some_since done.calls t.history c.history done.called) done.sound.accepted done.fits shows reads k
+  where
+    all_some : (events : List Event) → EachEvent (λ e. Unit {0}) events
+    all_some [] = tt
+    all_some (e ∷ older) = (tt, all_some older)
+
+    some_since : (events old new : List Event) → new ≡ events ++ old → EachSince (λ e. Unit {0}) old new
+    some_since events old new e = record { events = events; extends = e; each = all_some events }
+
+-- the tree with an empty file, where nothing was
+pub created_shows : (t : Tree) (p q : Path) → q ≡ p → is_some (t p) ≡ false → (if is_none (t q) then added q (FileNode [] []) t else t) ≡ added p (FileNode [] []) t
+created_shows t p q e nothing = subst (λ x. (if is_none (t x) then added x (FileNode [] []) t else t) ≡ added p (FileNode [] []) t) (sym e) (go (t p) nothing)
+  where
+    go : (o : Option Node) → is_some o ≡ false → (if is_none o then added p (FileNode [] []) t else t) ≡ added p (FileNode [] []) t
+    go None e = refl
+    go (Some n) e = absurd (cc)

@@ -10,6 +10,9 @@ pub mod ItemsShown
 pub mod Reading
 pub mod Directories
 pub mod Visits
+pub mod Reached
+pub mod Scanned
+pub mod Recovered
 pub mod Sizes
 pub mod Roots
 pub mod Formatted
@@ -24,6 +27,10 @@ pub mod CarryLogged
 pub mod CarryTold
 pub mod CarryCreated
 pub mod CarryEdited
+pub mod SameDirectory
+pub mod Shifted
+pub mod ShiftedSlots
+pub mod ShiftedFiles
 pub mod CarrySurvives
 pub mod AtPaths
 pub mod ListAtShort
@@ -33,3 +40,15 @@ pub mod UsedBlocks
 pub mod CarryRooted
 pub mod BytesAtSlots
 pub mod AttributeAtSlots
+pub mod EmptyDirectories
+pub mod CarryFreed
+pub mod CarryGone
+pub mod AttributesPut
+pub mod SlotsHave
+pub mod BesideImage
+pub mod BesideWritten
+pub mod OpenedFiles
+pub mod PutContents
+pub mod CommitContents
+pub mod SettledContents
+pub mod StoreContents

@@ -83,3 +83,8 @@ pub record CanRename (t : Seen) (from to : Path) : Type 0 where
   pub empty : (not (same_path from to) && nat_lt 0 (length (names_of (tree_seen t to)))) ≡ false
   pub fits : (not (same_path from to) && is_overcharged (around_of t) (last_name to) (attributes_of (tree_seen t from))) ≡ false
   pub room : HasRoom t 2
+
+-- the paths differ, and no directory is at the second
+pub record IsElsewhere (t : Seen) (from to : Path) : Type 0 where
+  pub apart : same_path from to ≡ false
+  pub file : is_directory (tree_seen t to) ≡ false

@@ -1,9 +1,9 @@
 -- An attribute that is found.
-use Rattle.std.specs.Prelude.{ℕ, ◌≡◌, ◌≤◌, Option, Some, None, IfSome, Vec, length}
-use Rattle.std.specs.Option.{option_map}
+use Rattle.std.specs.Prelude.{ℕ, ◌≡◌, ◌≤◌, ◌<◌, ◌^◌, ◌+◌, List, Option, Some, None, IfSome, Vec, length}
+use Rattle.std.specs.Option.{option_map, option_map_or}
 use Rattle.std.specs.declared.alloc.Global.{Global}
-use Rattle.lfs_model.specs.Content.{attribute_of}
-use Rattle.lfs_model.specs.Slots.{Attributes}
+use Rattle.lfs_model.specs.Content.{attribute_of, put_attribute}
+use Rattle.lfs_model.specs.Slots.{Attributes, attributes_size}
 use Rattle.lfs_tree.specs.declared.paths.Shown.{Shown}
 use Rattle.lfs_tree.specs.declared.paths.Shown.TheVariants as shown
 use Rattle.lfs_tree.specs.declared.search.Spot.{Spot}
@@ -20,3 +20,13 @@ abbrev pub slot_shown : Shown → Option Spot
 slot_shown (shown.File slot contents) = Some slot
 slot_shown (shown.Directory slot first) = Some slot
 slot_shown _ = None
+
+-- putting an attribute adds its size, and takes that of the one of its type
+abbrev pub TakesPlace : Attributes → Type 0
+TakesPlace attributes = (kind : ℕ) (bytes : List ℕ) → attributes_size (put_attribute kind bytes attributes) + option_map_or (λ b. 4 + length b) (attribute_of kind attributes) 0 ≡ attributes_size attributes + (4 + length bytes)
+
+-- so many bytes of a pair are the attributes'
+pub record IsAttributesSize (attributes : Attributes) (size : ℕ) : Type 0 where
+  pub is : size ≡ attributes_size attributes
+  pub small : size < 2 ^ 32
+  pub put : TakesPlace attributes

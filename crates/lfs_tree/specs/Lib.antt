@@ -17,7 +17,14 @@ pub mod Root
 pub mod Held
 pub mod Carrying
 pub mod CarryingSlots
+pub mod Shifting
 pub mod AtPath
 pub mod ListAt
 pub mod BytesAt
 pub mod AttributeAt
+pub mod Going
+pub mod OpenContents
+pub mod Opening
+pub mod Storing
+pub mod Unreached
+pub mod Recovering

@@ -7,6 +7,7 @@ use Rattle.lfs_model.specs.Disk.{Disk, SameGeometry, block_at, block_count}
 use Rattle.lfs_model.specs.History.{Event, OnlyReads, faults, unprogrammed}
 use Rattle.lfs_model.specs.Layout.{IsArranged}
 use Rattle.lfs_model.specs.Operations.{Operation}
+use Rattle.lfs_model.specs.PowerLoss.{Survives}
 use Rattle.lfs_model.specs.Recovery.{IsRecovered}
 use Rattle.lfs_model.specs.Run.{IsUntouched, is_recover, renames_to_itself}
 use Rattle.lfs_model.specs.Session.{Files, Surroundings}
@@ -88,6 +89,10 @@ pub record LeavesFlight (old new : Seen) : Type 0 where
   pub none_comes : (b : ℕ) → IsInFlight new.map b → IsInFlight old.map b
   pub bytes : (b : ℕ) → IsInFlight old.map b → block_at new.disk b ≡ block_at old.disk b
   pub unprogrammed_still : (b k : ℕ) → IsInFlight old.map b → unprogrammed old.history b k ≡ true → unprogrammed new.history b k ≡ true
+
+-- a loss of power on the way leaves the tree from before, or that one
+abbrev pub SurvivesAs : Seen → Seen → Tree → Type 0
+SurvivesAs old new after = Survives old.disk old.history new.history (tree_seen old) after
 
 -- the operation is carried out, whatever files are open
 pub record IsCarried (old : Seen) (op : Operation) (new : Seen) : Type 0 where

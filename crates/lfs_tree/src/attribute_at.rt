@@ -84,7 +84,7 @@ fn attribute_of_slot<D: BlockDevice>(
 }
 
 // The slot of a file or of a directory. The root has none.
-fn slot_of(shown: Shown) -> Option<Spot>
+pub(crate) fn slot_of(shown: Shown) -> Option<Spot>
     ensures { result ≡ slot_shown shown }
 {
     match shown {

@@ -64,7 +64,7 @@ fn copied_in_block(
 }
 
 // Some of the bytes that stand in a slot.
-fn inline_at<D: BlockDevice>(
+pub(crate) fn inline_at<D: BlockDevice>(
     alloc: Global,
     thread: &mut Thread<D>,
     slot: Spot,
@@ -127,7 +127,7 @@ fn contents_from<D: BlockDevice>(
 }
 
 // The slot of a file, and where its bytes stand.
-fn file_of(shown: Shown) -> Option<(Spot, Contents)>
+pub(crate) fn file_of(shown: Shown) -> Option<(Spot, Contents)>
     ensures { result ≡ file_shown shown }
 {
     match shown {

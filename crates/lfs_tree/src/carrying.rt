@@ -32,7 +32,7 @@ pub(crate) fn know_device<D: BlockDevice>(thread: &Thread<D>)
 }
 
 // The last of the names.
-fn last_of<'a>(names: &[&'a [u8]]) -> &'a [u8]
+pub(crate) fn last_of<'a>(names: &[&'a [u8]]) -> &'a [u8]
     ensures { result.now ≡ last_name (map (λ name. name.now) names.now) }
 {
     match names.split_last() {

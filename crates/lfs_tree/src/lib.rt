@@ -2,10 +2,13 @@
 #![tactic(auto)]
 
 mod attribute_at;
+mod attribute_sizes;
 mod by_path;
 mod bytes_at;
 mod carrying;
 mod carrying_attributes;
+mod carrying_removal;
+mod carrying_rename;
 mod directory;
 mod entry;
 mod file_bytes;
@@ -15,15 +18,20 @@ mod image;
 mod items;
 mod list_at;
 mod mounted;
+mod opening;
 mod path;
 mod paths;
 mod profile;
+mod recovering_lost;
 mod refusal;
 mod root;
 mod rooted;
 mod search;
+mod storing;
 mod tree;
+mod unreached;
 mod walking;
+mod writers;
 
 pub use directory::{entries, items_of};
 pub use entry::{Contents, Entry};

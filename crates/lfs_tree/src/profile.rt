@@ -141,7 +141,7 @@ fn fits_at<D: BlockDevice>(
 
 // Whether a pair goes on with the directory of the one in front of it. Those up to the root's first
 // one don't.
-fn follows_at<D: BlockDevice>(thread: &Thread<D>, root: usize, index: usize) -> bool
+pub(crate) fn follows_at<D: BlockDevice>(thread: &Thread<D>, root: usize, index: usize) -> bool
     requires works { thread.now.failed ≡ false }
     requires below { index < length thread.now.kept.pairs }
     ensures { result ≡ follows_at root thread.now.kept.pairs index }

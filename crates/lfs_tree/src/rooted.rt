@@ -1,15 +1,22 @@
 // Operations by path, and where the root directory begins behind them.
 
-ghost use Rattle.std.specs.Prelude.{ℕ, ◌≡◌, List, OnOk, IfOk, IfErr, false, true};
+ghost use Rattle.std.specs.Prelude.{ℕ, ◌≡◌, List, [], OnOk, IfOk, IfErr, false, true};
+ghost use Rattle.lfs_model.specs.Apply.{added, removed, renamed};
+ghost use Rattle.lfs_model.specs.Content.{put_attribute, without_attribute};
 ghost use Rattle.lfs_model.specs.Operations as ops;
 ghost use Rattle.lfs_model.specs.Operations.{Flags};
 ghost use Rattle.lfs_model.specs.Steps.{as_path};
-ghost use Rattle.lfs_tree.specs.Allowed.{CanCreate, CanMake, CanRemoveAttr, CanSetAttr};
-ghost use Rattle.lfs_tree.specs.Carrying.{Carries, HasCalled, IsAtRest, TellsError};
+ghost use Rattle.lfs_model.specs.Tree.{DirectoryNode, FileNode};
+ghost use Rattle.lfs_model.specs.View.{tree_in};
+ghost use Rattle.lfs_tree.specs.Allowed.{CanCreate, CanMake, CanRemove, CanRemoveAttr, CanRename, CanSetAttr, IsElsewhere};
+ghost use Rattle.lfs_tree.specs.Carrying.{Carries, HasCalled, IsAtRest, SurvivesTo, TellsError};
+ghost use Rattle.lfs_tree.specs.CarryingSlots.{with_attributes_changed};
 ghost use Rattle.lfs_tree.specs.Held.{IsRooted, seen_kept};
 
 use crate::carrying::{create_at, make_at};
 use crate::carrying_attributes::{remove_attr_at, set_attr_at};
+use crate::carrying_removal::remove_at;
+use crate::carrying_rename::rename_at;
 use crate::path::Path;
 use crate::root::find_root;
 use lfs_device::{BlockDevice, Error};
@@ -29,6 +36,7 @@ pub(crate) fn create_file_at<D: BlockDevice>(
     ensures rooted { IfOk result (λ root. IsRooted thread.new root true) }
     ensures called { HasCalled thread.old.kept thread.new.kept }
     ensures errors { IfErr result (TellsError thread.old.kept thread.new.kept) }
+    ensures survives { SurvivesTo thread.old.kept thread.new.kept (added path.now (FileNode [] []) (tree_in thread.old.kept.disk thread.old.kept.pairs)) }
 {
     path.know_bytes();
     create_at(alloc, thread, root, path)?;
@@ -49,6 +57,7 @@ pub(crate) fn make_directory_at<D: BlockDevice>(
     ensures rooted { IfOk result (λ root. IsRooted thread.new root true) }
     ensures called { HasCalled thread.old.kept thread.new.kept }
     ensures errors { IfErr result (TellsError thread.old.kept thread.new.kept) }
+    ensures survives { SurvivesTo thread.old.kept thread.new.kept (added path.now (DirectoryNode [] []) (tree_in thread.old.kept.disk thread.old.kept.pairs)) }
 {
     path.know_bytes();
     make_at(alloc, thread, root, path)?;
@@ -71,6 +80,7 @@ pub(crate) fn put_attribute_at<D: BlockDevice>(
     ensures rooted { IfOk result (λ root. IsRooted thread.new root true) }
     ensures called { HasCalled thread.old.kept thread.new.kept }
     ensures errors { IfErr result (TellsError thread.old.kept thread.new.kept) }
+    ensures survives { SurvivesTo thread.old.kept thread.new.kept (with_attributes_changed path.now (put_attribute kind bytes.now) (tree_in thread.old.kept.disk thread.old.kept.pairs)) }
 {
     path.know_bytes();
     set_attr_at(alloc, thread, root, path, kind, bytes)?;
@@ -92,9 +102,55 @@ pub(crate) fn drop_attribute_at<D: BlockDevice>(
     ensures rooted { IfOk result (λ root. IsRooted thread.new root true) }
     ensures called { HasCalled thread.old.kept thread.new.kept }
     ensures errors { IfErr result (TellsError thread.old.kept thread.new.kept) }
+    ensures survives { SurvivesTo thread.old.kept thread.new.kept (with_attributes_changed path.now (without_attribute kind) (tree_in thread.old.kept.disk thread.old.kept.pairs)) }
 {
     path.know_bytes();
     remove_attr_at(alloc, thread, root, path, kind)?;
+    let root = find_root(alloc, thread)?;
+    Ok(root)
+}
+
+// Takes a file, or a directory without entries. Answers the number of the root directory's first pair.
+pub(crate) fn remove_entry_at<D: BlockDevice>(
+    alloc: Global,
+    thread: &mut Thread<D>,
+    root: usize,
+    path: &Path<'_>,
+) -> Result<usize, Error>
+    requires rests { IsAtRest thread.old root }
+    requires can { CanRemove (seen_kept thread.old.kept true false) path.now }
+    ensures done { OnOk result ((bytes : List ℕ) → as_path bytes ≡ path.now → Carries thread.old.kept (ops.Remove bytes) thread.new.kept) }
+    ensures rooted { IfOk result (λ root. IsRooted thread.new root true) }
+    ensures called { HasCalled thread.old.kept thread.new.kept }
+    ensures errors { IfErr result (TellsError thread.old.kept thread.new.kept) }
+    ensures survives { SurvivesTo thread.old.kept thread.new.kept (removed path.now (tree_in thread.old.kept.disk thread.old.kept.pairs)) }
+{
+    path.know_bytes();
+    remove_at(alloc, thread, root, path)?;
+    let root = find_root(alloc, thread)?;
+    Ok(root)
+}
+
+// Gives an entry another path. Answers the number of the root directory's first pair.
+pub(crate) fn rename_entry_at<D: BlockDevice>(
+    alloc: Global,
+    thread: &mut Thread<D>,
+    root: usize,
+    from: &Path<'_>,
+    to: &Path<'_>,
+) -> Result<usize, Error>
+    requires rests { IsAtRest thread.old root }
+    requires can { CanRename (seen_kept thread.old.kept true false) from.now to.now }
+    requires elsewhere { IsElsewhere (seen_kept thread.old.kept true false) from.now to.now }
+    ensures done { OnOk result ((given to_given : List ℕ) → as_path given ≡ from.now → as_path to_given ≡ to.now → Carries thread.old.kept (ops.Rename given to_given) thread.new.kept) }
+    ensures rooted { IfOk result (λ root. IsRooted thread.new root true) }
+    ensures called { HasCalled thread.old.kept thread.new.kept }
+    ensures errors { IfErr result (TellsError thread.old.kept thread.new.kept) }
+    ensures survives { SurvivesTo thread.old.kept thread.new.kept (renamed from.now to.now (tree_in thread.old.kept.disk thread.old.kept.pairs)) }
+{
+    from.know_bytes();
+    to.know_bytes();
+    rename_at(alloc, thread, root, from, to)?;
     let root = find_root(alloc, thread)?;
     Ok(root)
 }

@@ -1,30 +1,35 @@
 // A mounted image, whose calls take paths.
 
-ghost use Rattle.std.specs.Prelude.{ℕ, ◌≡◌, ◌<◌, ◌==◌, ◌≤◌, ◌+◌, ◌^◌, List, length, map, take, drop, true, false, None, IfOk, IfErr, IfSome, OnErr, OnOk};
+ghost use Rattle.std.specs.Prelude.{ℕ, ◌≡◌, ◌<◌, ◌==◌, ◌≤◌, ◌+◌, ◌^◌, List, [], length, map, take, drop, true, false, None, IfOk, IfErr, IfSome, OnErr, OnOk};
 ghost use Rattle.std.specs.List.{list_any};
 ghost use Rattle.std.specs.Option.{option_map};
 ghost use Rattle.lfs_model.specs.History.{OnlyReads, faults};
 ghost use Rattle.lfs_model.specs.Operations as ops;
-ghost use Rattle.lfs_model.specs.Apply.{attributes_of, bytes_at, is_directory};
+ghost use Rattle.lfs_model.specs.Apply.{added, attributes_of, bytes_at, is_directory, removed, renamed};
 ghost use Rattle.lfs_model.specs.BlockSets.{in_flight_count};
-ghost use Rattle.lfs_model.specs.Content.{attribute_of};
+ghost use Rattle.lfs_model.specs.Content.{attribute_of, put_attribute, without_attribute};
 ghost use Rattle.lfs_model.specs.Operations.{Flags};
 ghost use Rattle.lfs_model.specs.Thread.{Pair};
 ghost use Rattle.lfs_model.specs.View.{IsAccepted};
-ghost use Rattle.lfs_model.specs.Disk.{block_count};
+ghost use Rattle.lfs_model.specs.Disk.{SameGeometry, block_count};
 ghost use Rattle.lfs_model.specs.Fresh.{IsFresh};
 ghost use Rattle.lfs_model.specs.Steps.{as_path, items_in};
 ghost use Rattle.lfs_model.specs.Thread.{anchor};
+ghost use Rattle.lfs_model.specs.Tree.{DirectoryNode, FileNode};
 ghost use Rattle.lfs_mount.specs.Device.{IsMountError};
 ghost use Rattle.lfs_tag.specs.FieldsSeen.{move_seen};
 ghost use Rattle.lfs_thread.specs.Device.{GivesBack, two_of};
 ghost use Rattle.lfs_thread.specs.Kept.{disk_on};
-ghost use Rattle.lfs_tree.specs.Allowed.{CanCreate, CanMake, CanRemove, CanRemoveAttr, CanRename, CanSetAttr};
+ghost use Rattle.lfs_tree.specs.Allowed.{CanCreate, CanMake, CanRemove, CanRemoveAttr, CanRename, CanSetAttr, IsElsewhere};
+ghost use Rattle.lfs_tree.specs.CarryingSlots.{with_attributes_changed};
+ghost use Rattle.lfs_tree.specs.AttributeAt.{IsAttributesSize};
 ghost use Rattle.lfs_tree.specs.Finds.{Finds, list_item_seen};
 ghost use Rattle.lfs_tree.specs.Formatting.{ComesBack};
-ghost use Rattle.lfs_tree.specs.Seen.{IsAsked, IsBroken, IsBrokenAsking, IsCarried, IsError, IsMountError as IsMountErrorOf, IsMountedTree, IsSound, around_of, tree_seen};
+ghost use Rattle.lfs_tree.specs.Recovering.{IsRecoverError};
+ghost use Rattle.lfs_tree.specs.Seen.{IsAsked, IsBroken, IsBrokenAsking, IsCarried, IsError, IsMountError as IsMountErrorOf, IsMountedTree, IsSound, SurvivesAs, around_of, tree_seen};
 
 use crate::attribute_at::attribute_at;
+use crate::attribute_sizes::attributes_size_at;
 use crate::by_path::find_at;
 use crate::bytes_at::bytes_at;
 use crate::finding::{Finding, ListItem};
@@ -33,7 +38,11 @@ use crate::image::Image;
 use crate::list_at::list_at;
 use crate::mounted::read_root;
 use crate::path::Path;
-use crate::rooted::{create_file_at, drop_attribute_at, make_directory_at, put_attribute_at};
+use crate::recovering_lost::recover_image;
+use crate::rooted::{
+    create_file_at, drop_attribute_at, make_directory_at, put_attribute_at, remove_entry_at,
+    rename_entry_at,
+};
 use core::mem::replace_with;
 use lfs_device::{BlockDevice, Error, Geometry};
 use lfs_tag::MoveState;
@@ -45,11 +54,11 @@ use std::marker::Model;
 /// After an error it has failed: it is only to be read anew then, by [`remount`](Tree::remount).
 #[derive(Drop)]
 pub struct Tree<D: BlockDevice> {
-    image: Image<D>,
+    pub(crate) image: Image<D>,
     // The number of the root directory's first pair.
-    root: usize,
-    is_writable: bool,
-    has_failed: bool,
+    pub(crate) root: usize,
+    pub(crate) is_writable: bool,
+    pub(crate) has_failed: bool,
 }
 
 impl<D: BlockDevice> Model for Tree<D> {
@@ -92,6 +101,7 @@ impl<D: BlockDevice> Tree<D> {
         ensures works { IfOk result (λ t. (t.failed ≡ false) × (t.writable ≡ true)) }
         ensures sound { IfOk result IsSound }
         ensures fresh { IfOk result (λ t. (in_flight_count t.map ≡ 0) × IsFresh t.disk) }
+        ensures geometry { IfOk result (λ t. SameGeometry (disk_on D.BlockDevice device) t.disk) }
         ensures back { IfErr result (λ e. ComesBack D.BlockDevice (two_of anchor) device e.0 e.1) }
     {
         match format(alloc, device) {
@@ -268,6 +278,25 @@ impl<D: BlockDevice> Tree<D> {
         found
     }
 
+    /// How many bytes of its pair the attributes of what stands at a path take: 4 each, and its own.
+    /// None where nothing stands there.
+    ///
+    /// `Io` where a read failed, and `NoMemory` where memory isn't granted. It has failed then.
+    pub fn attributes_size(&mut self, alloc: Global, path: &Path<'_>) -> Result<usize, Error>
+        requires { self.old.failed ≡ false }
+        ensures asked { OnOk result (IsAsked self.old self.new) }
+        ensures size { IfOk result (IsAttributesSize (attributes_of (tree_seen self.old path.now))) }
+        ensures broken { OnErr result (IsBrokenAsking self.old self.new) }
+        ensures errors { IfErr result (IsError self.old self.new) }
+    {
+        let Image::Mounted(thread) = &mut self.image else {
+            unreachable!()
+        };
+        let size = attributes_size_at(alloc, thread, self.root, path);
+        self.has_failed = size.is_err();
+        size
+    }
+
     /// What stands in a directory, in name order.
     ///
     /// `Io` where a read failed, and `NoMemory` where memory isn't granted. It has failed then.
@@ -296,6 +325,7 @@ impl<D: BlockDevice> Tree<D> {
         ensures done { OnOk result ((bytes : List ℕ) → as_path bytes ≡ path.now → IsCarried self.old (ops.Mkdir bytes) self.new) }
         ensures broken { OnErr result (IsBroken self.old self.new) }
         ensures errors { IfErr result (IsError self.old self.new) }
+        ensures survives { SurvivesAs self.old self.new (added path.now (DirectoryNode [] []) (tree_seen self.old)) }
     {
         let Image::Mounted(thread) = &mut self.image else {
             unreachable!()
@@ -321,11 +351,66 @@ impl<D: BlockDevice> Tree<D> {
         ensures done { OnOk result ((bytes : List ℕ) (flags : Flags) → as_path bytes ≡ path.now → flags.write ≡ true → IsCarried self.old (ops.Open bytes flags) self.new) }
         ensures broken { OnErr result (IsBroken self.old self.new) }
         ensures errors { IfErr result (IsError self.old self.new) }
+        ensures survives { SurvivesAs self.old self.new (added path.now (FileNode [] []) (tree_seen self.old)) }
     {
         let Image::Mounted(thread) = &mut self.image else {
             unreachable!()
         };
         match create_file_at(alloc, thread, self.root, path) {
+            Ok(root) => {
+                self.root = root;
+                Ok(())
+            }
+            Err(error) => {
+                self.has_failed = true;
+                Err(error)
+            }
+        }
+    }
+
+    /// Takes a file, or a directory without entries.
+    ///
+    /// `Io` where a call of the device failed, and `NoMemory` where memory isn't granted. It has failed
+    /// then.
+    pub fn remove(&mut self, alloc: Global, path: &Path<'_>) -> Result<(), Error>
+        requires { CanRemove self.old path.now }
+        ensures done { OnOk result ((bytes : List ℕ) → as_path bytes ≡ path.now → IsCarried self.old (ops.Remove bytes) self.new) }
+        ensures broken { OnErr result (IsBroken self.old self.new) }
+        ensures errors { IfErr result (IsError self.old self.new) }
+        ensures survives { SurvivesAs self.old self.new (removed path.now (tree_seen self.old)) }
+    {
+        let Image::Mounted(thread) = &mut self.image else {
+            unreachable!()
+        };
+        match remove_entry_at(alloc, thread, self.root, path) {
+            Ok(root) => {
+                self.root = root;
+                Ok(())
+            }
+            Err(error) => {
+                self.has_failed = true;
+                Err(error)
+            }
+        }
+    }
+
+    /// Gives an entry another path, at which nothing is or a file, which goes. What is beneath a directory
+    /// goes with it.
+    ///
+    /// `Io` where a call of the device failed, and `NoMemory` where memory isn't granted. It has failed
+    /// then.
+    pub fn rename(&mut self, alloc: Global, from: &Path<'_>, to: &Path<'_>) -> Result<(), Error>
+        requires can { CanRename self.old from.now to.now }
+        requires elsewhere { IsElsewhere self.old from.now to.now }
+        ensures done { OnOk result ((given to_given : List ℕ) → as_path given ≡ from.now → as_path to_given ≡ to.now → IsCarried self.old (ops.Rename given to_given) self.new) }
+        ensures broken { OnErr result (IsBroken self.old self.new) }
+        ensures errors { IfErr result (IsError self.old self.new) }
+        ensures survives { SurvivesAs self.old self.new (renamed from.now to.now (tree_seen self.old)) }
+    {
+        let Image::Mounted(thread) = &mut self.image else {
+            unreachable!()
+        };
+        match rename_entry_at(alloc, thread, self.root, from, to) {
             Ok(root) => {
                 self.root = root;
                 Ok(())
@@ -352,11 +437,44 @@ impl<D: BlockDevice> Tree<D> {
         ensures done { OnOk result ((given : List ℕ) → as_path given ≡ path.now → IsCarried self.old (ops.SetAttr given kind bytes.now) self.new) }
         ensures broken { OnErr result (IsBroken self.old self.new) }
         ensures errors { IfErr result (IsError self.old self.new) }
+        ensures survives { SurvivesAs self.old self.new (with_attributes_changed path.now (put_attribute kind bytes.now) (tree_seen self.old)) }
     {
         let Image::Mounted(thread) = &mut self.image else {
             unreachable!()
         };
         match put_attribute_at(alloc, thread, self.root, path, kind, bytes) {
+            Ok(root) => {
+                self.root = root;
+                Ok(())
+            }
+            Err(error) => {
+                self.has_failed = true;
+                Err(error)
+            }
+        }
+    }
+
+    /// Ends what a loss of power left in the image: a set move, and directories that no path leads to
+    /// (DESIGN.md of littlefs, "The move problem"). Nothing is written where nothing is left.
+    ///
+    /// `Io` where a call of the device failed, and `NoMemory` where memory isn't granted.
+    /// `Unsupported` where such a directory has slots, as littlefs leaves none: it can't be dropped
+    /// yet. It has failed then.
+    pub fn recover(&mut self, alloc: Global) -> Result<(), Error>
+        requires works { self.old.failed ≡ false }
+        requires writable { self.old.writable ≡ true }
+        ensures done { OnOk result (IsCarried self.old ops.Recover self.new) }
+        ensures broken { OnErr result (IsBroken self.old self.new) }
+        ensures errors { IfErr result (IsRecoverError self.old self.new) }
+        ensures survives { SurvivesAs self.old self.new (tree_seen self.old) }
+    {
+        if self.gstate().is_none() {
+            return Ok(());
+        }
+        let Image::Mounted(thread) = &mut self.image else {
+            unreachable!()
+        };
+        match recover_image(alloc, thread, self.root) {
             Ok(root) => {
                 self.root = root;
                 Ok(())
@@ -377,6 +495,7 @@ impl<D: BlockDevice> Tree<D> {
         ensures done { OnOk result ((bytes : List ℕ) → as_path bytes ≡ path.now → IsCarried self.old (ops.RemoveAttr bytes kind) self.new) }
         ensures broken { OnErr result (IsBroken self.old self.new) }
         ensures errors { IfErr result (IsError self.old self.new) }
+        ensures survives { SurvivesAs self.old self.new (with_attributes_changed path.now (without_attribute kind) (tree_seen self.old)) }
     {
         let Image::Mounted(thread) = &mut self.image else {
             unreachable!()

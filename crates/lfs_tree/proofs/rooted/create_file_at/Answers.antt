@@ -1,9 +1,14 @@
-use Rattle.std.proofs.Common.{◌∙◌, false, true, IfErr, refl, sym, ap, subst}
+use Rattle.std.proofs.Common.{[], ◌∙◌, false, true, IfErr, refl, sym, ap, subst}
 use Rattle.std.proofs.lemmas.Result.{err_from_is_err_and}
 use Rattle.lfs_model.specs.Operations as ops
+use Rattle.lfs_model.specs.Steps.{as_path}
+use Rattle.lfs_model.specs.View.{tree_in}
 use Rattle.lfs_model.specs.Thread.{superblocks_before}
 use Rattle.lfs_tree.specs.Carrying.{TellsError}
+use Rattle.lfs_tree.specs.Held.{seen_kept}
+use Rattle.lfs_tree.specs.Seen.{around_of}
 use Rattle.lfs_tree.proofs.CarryRooted.{any_flags, called_on, carried_read}
+use Rattle.lfs_tree.proofs.CarrySurvives.{created_shows, survives_ahead}
 use Rattle.lfs_tree.proofs.CarryTold.{tells_error, told_by_reading}
 use Rattle.lfs_tree.proofs.Mounting.{sound_read}
 use Rattle.lfs_tree.proofs.rooted.create_file_at.Goals as goal
@@ -34,3 +39,19 @@ returns-clause-rooted g c = record {
 
 pub returns-clause-called : goal.returns-clause-called
 returns-clause-called g c = called_on _ _ _ c.create_at.ensures.called c.find_root.ensures.reading.only
+
+pub returns-in_err-root-clause-survives : goal.returns-in_err-root-clause-survives
+returns-in_err-root-clause-survives g c =
+    let t = c.args.thread.now.kept in
+    let done = c.in_ok-create_at.ensures.done c.know_bytes.ensures.0 any_flags c.know_bytes.ensures.1 in
+    survives_ahead t c.create_at.new.thread.kept c.find_root.new.thread.kept.history _ _ done
+    (done.shows (around_of (seen_kept t true false)) [] ∙ created_shows (tree_in t.disk t.pairs) c.args.path.now (as_path c.know_bytes.ensures.0) c.know_bytes.ensures.1 c.requires.can.nothing)
+    c.find_root.ensures.reading.only.reads c.create_at.ensures.survives
+
+pub returns-clause-survives : goal.returns-clause-survives
+returns-clause-survives g c =
+    let t = c.args.thread.now.kept in
+    let done = c.in_ok-create_at.ensures.done c.know_bytes.ensures.0 any_flags c.know_bytes.ensures.1 in
+    survives_ahead t c.create_at.new.thread.kept c.find_root.new.thread.kept.history _ _ done
+    (done.shows (around_of (seen_kept t true false)) [] ∙ created_shows (tree_in t.disk t.pairs) c.args.path.now (as_path c.know_bytes.ensures.0) c.know_bytes.ensures.1 c.requires.can.nothing)
+    c.find_root.ensures.reading.only.reads c.create_at.ensures.survives

@@ -1,9 +1,15 @@
-use Rattle.std.proofs.Common.{◌∙◌, false, true, IfErr, refl, sym, ap, subst}
+use Rattle.std.proofs.Common.{[], ◌∙◌, false, true, IfErr, refl, sym, ap, subst}
 use Rattle.std.proofs.lemmas.Result.{err_from_is_err_and}
+use Rattle.lfs_model.specs.Content.{without_attribute}
 use Rattle.lfs_model.specs.Operations as ops
+use Rattle.lfs_model.specs.View.{tree_in}
 use Rattle.lfs_model.specs.Thread.{superblocks_before}
 use Rattle.lfs_tree.specs.Carrying.{TellsError}
+use Rattle.lfs_tree.specs.CarryingSlots.{with_attributes_changed}
+use Rattle.lfs_tree.specs.Held.{seen_kept}
+use Rattle.lfs_tree.specs.Seen.{around_of}
 use Rattle.lfs_tree.proofs.CarryRooted.{called_on, carried_read}
+use Rattle.lfs_tree.proofs.CarrySurvives.{survives_ahead}
 use Rattle.lfs_tree.proofs.CarryTold.{tells_error, told_by_reading}
 use Rattle.lfs_tree.proofs.Mounting.{sound_read}
 use Rattle.lfs_tree.proofs.rooted.drop_attribute_at.Goals as goal
@@ -31,3 +37,17 @@ returns-clause-rooted g c = record {
 
 pub returns-clause-called : goal.returns-clause-called
 returns-clause-called g c = called_on _ _ _ c.remove_attr_at.ensures.called c.find_root.ensures.reading.only
+
+pub returns-in_err-root-clause-survives : goal.returns-in_err-root-clause-survives
+returns-in_err-root-clause-survives g c =
+    let done = c.in_ok-remove_attr_at.ensures.done c.know_bytes.ensures.0 c.know_bytes.ensures.1 in
+    survives_ahead c.args.thread.now.kept c.remove_attr_at.new.thread.kept c.find_root.new.thread.kept.history _ _ done
+    (done.shows (around_of (seen_kept c.args.thread.now.kept true false)) [] ∙ ap (λ p. with_attributes_changed p (without_attribute c.args.kind) (tree_in c.args.thread.now.kept.disk c.args.thread.now.kept.pairs)) c.know_bytes.ensures.1)
+    c.find_root.ensures.reading.only.reads c.remove_attr_at.ensures.survives
+
+pub returns-clause-survives : goal.returns-clause-survives
+returns-clause-survives g c =
+    let done = c.in_ok-remove_attr_at.ensures.done c.know_bytes.ensures.0 c.know_bytes.ensures.1 in
+    survives_ahead c.args.thread.now.kept c.remove_attr_at.new.thread.kept c.find_root.new.thread.kept.history _ _ done
+    (done.shows (around_of (seen_kept c.args.thread.now.kept true false)) [] ∙ ap (λ p. with_attributes_changed p (without_attribute c.args.kind) (tree_in c.args.thread.now.kept.disk c.args.thread.now.kept.pairs)) c.know_bytes.ensures.1)
+    c.find_root.ensures.reading.only.reads c.remove_attr_at.ensures.survives

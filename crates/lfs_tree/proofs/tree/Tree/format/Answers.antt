@@ -9,3 +9,8 @@ returns-in-Ok-clause-sound g c = (fresh_tree c.in-Ok.thread c.in-Ok.ensures.work
 
 pub returns-in-Ok-clause-fresh : goal.returns-in-Ok-clause-fresh
 returns-in-Ok-clause-fresh g c = (fresh_tree c.in-Ok.thread c.in-Ok.ensures.works c.in-Ok.ensures.formatted c.in-Ok.ensures.shows).1
+
+pub returns-in-Ok-clause-geometry : goal.returns-in-Ok-clause-geometry
+returns-in-Ok-clause-geometry g c =
+    let s = c.in-Ok.ensures.writes.shape in
+    record { block_size = s.block_size; page = s.page; count = s.count }

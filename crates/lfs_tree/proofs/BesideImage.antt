@@ -1,0 +1,97 @@
+-- An image of which no used block changed.
+use Rattle.std.proofs.Common.{ℕ, ◌≡◌, ◌≤◌, ◌+◌, ◌∙◌, List, [], ◌∷◌, ◌++◌, length, length-append, take, Some, refl, sym, ap, subst, arith}
+use Rattle.std.specs.Prelude.{All, Contains}
+use Rattle.std.specs.List.{flat_map}
+use Rattle.std.proofs.lemmas.List.Elements.{All-from_recursion, recursion_from_All}
+use Rattle.lfs_model.specs.Content.{content_at, holder_at}
+use Rattle.lfs_model.specs.Disk.{Disk, SameGeometry, block_at}
+use Rattle.lfs_model.specs.Slots.{FitsPair, Slot}
+use Rattle.lfs_model.specs.Thread.{Pair, anchor, blocks_of, directory_pairs, superblocks_before, Links}
+use Rattle.lfs_model.specs.View.{BeginsWith, FitsSlot, IsAccepted, IsWritable, all_slots, file_blocks, superblock_entry, used_blocks}
+use Rattle.lfs_model.proofs.BlockSets.{Contains-count}
+use Rattle.lfs_model.proofs.Changes.{Follows, slots_files}
+use Rattle.lfs_model.proofs.Counts.{Each, count, count_append, count_here, each_from_counted, each_pieces}
+use Rattle.lfs_model.proofs.Devices.{content_same, first_same}
+use Rattle.lfs_model.proofs.Files.{HasSameFile}
+use Rattle.lfs_model.proofs.Found.{chain_of_thread}
+use Rattle.lfs_model.proofs.Splices.{IsDevice}
+use Rattle.lfs_model.proofs.Superblocks.{IsChain}
+use Rattle.lfs_model.proofs.Unchanged.{same_follows}
+use Rattle.lfs_tree.proofs.Directories.{within}
+use Rattle.lfs_tree.proofs.Roots.{root_begins}
+use Rattle.lfs_model.specs.Thread.{root_of}
+
+pub writable_on : (disk new : Disk) (ps : List Pair) → SameGeometry disk new → IsWritable disk ps → IsWritable new ps
+writable_on disk new ps g h = record {
+  pairs = subst (λ (n : ℕ). All (λ p. FitsPair n new.page p.content) ps) (sym g.block_size) (subst (λ (n : ℕ). All (λ p. FitsPair disk.block_size n p.content) ps) (sym g.page) h.pairs);
+  slots = subst (λ (n : ℕ). All (λ p. All (FitsSlot n new.page) p.content.slots) ps) (sym g.block_size) (subst (λ (n : ℕ). All (λ p. All (FitsSlot disk.block_size n) p.content.slots) ps) (sym g.page) h.slots);
+  no_empty_pair = h.no_empty_pair;
+}
+
+pub geometry_back : (disk new : Disk) → SameGeometry disk new → SameGeometry new disk
+geometry_back disk new g = record { block_size = sym g.block_size; page = sym g.page; count = sym g.count }
+
+-- pairs of which no block changed
+contents_still : (disk new : Disk) (ps : List Pair) → ((b : ℕ) → 1 ≤ count b (blocks_of ps) → block_at new b ≡ block_at disk b) → Each (λ (p : Pair). content_at disk p.at ≡ Some p.content) ps
+    → Each (λ (p : Pair). content_at new p.at ≡ Some p.content) ps
+contents_still disk new [] same was = tt
+contents_still disk new (p ∷ ps) same was = (
+  content_same disk new p.at
+      (same p.at.0 (let e = count_here p.at.0 (p.at.1 ∷ blocks_of ps) in omega arith))
+      (same p.at.1 (let e = count_here p.at.1 (blocks_of ps) in omega arith)) ∙ was.0,
+  contents_still disk new ps (λ b some. same b (omega arith)) was.1,
+)
+
+first_still : (disk new : Disk) (ps : List Pair) → Links (Some anchor) ps → ((b : ℕ) → 1 ≤ count b (blocks_of ps) → block_at new b ≡ block_at disk b) → BeginsWith (holder_at disk anchor) superblock_entry
+    → BeginsWith (holder_at new anchor) superblock_entry
+first_still disk new [] links same h = absurd (cc)
+first_still disk new (x ∷ xs) links same h =
+    let e : anchor ≡ x.at = let k = links.0 in cc in
+    first_same disk new
+    (subst (λ (at : ℕ × ℕ). block_at new at.0 ≡ block_at disk at.0) (sym e) (same x.at.0 (let k = count_here x.at.0 (x.at.1 ∷ blocks_of xs) in omega arith)))
+    (subst (λ (at : ℕ × ℕ). block_at new at.1 ≡ block_at disk at.1) (sym e) (same x.at.1 (let k = count_here x.at.1 (blocks_of xs) in omega arith))) h
+
+module _ (disk new : Disk) (ps : List Pair) (ok : IsAccepted disk ps) (geometry : SameGeometry disk new) (same : (b : ℕ) → Contains (used_blocks disk ps) b → block_at new b ≡ block_at disk b) where
+  counted : (b : ℕ) → count b (used_blocks disk ps) ≡ count b (blocks_of ps) + count b (flat_map (λ (s : Slot). file_blocks disk s.struct) (all_slots ps))
+  counted b = count_append b (blocks_of ps) (flat_map (λ (s : Slot). file_blocks disk s.struct) (all_slots ps))
+
+  pair_still : (b : ℕ) → 1 ≤ count b (blocks_of ps) → block_at new b ≡ block_at disk b
+  pair_still b some = same b (Contains-count (used_blocks disk ps) b (let e = counted b in omega arith))
+
+  pub files_still : Each (λ (s : Slot). HasSameFile disk new s.struct) (all_slots ps)
+  files_still = each_pieces (λ b. block_at new b ≡ block_at disk b) (λ (s : Slot). file_blocks disk s.struct) (all_slots ps)
+      (each_from_counted (λ b. block_at new b ≡ block_at disk b) (flat_map (λ (s : Slot). file_blocks disk s.struct) (all_slots ps))
+      (λ b some. same b (Contains-count (used_blocks disk ps) b (let e = counted b in omega arith))))
+
+  device_still : IsDevice disk new ps ps
+  device_still = record {
+    geometry = geometry;
+    contents = All-from_recursion (λ (p : Pair). content_at new p.at ≡ Some p.content) ps
+        (contents_still disk new ps pair_still (recursion_from_All (λ (p : Pair). content_at disk p.at ≡ Some p.content) ps ok.thread.contents));
+    first = first_still disk new ps ok.thread.links pair_still ok.first;
+    files = All-from_recursion (λ (s : Slot). HasSameFile disk new s.struct) (all_slots ps) files_still;
+  }
+
+  -- it is accepted as before, and shows the same tree
+  pub still_follows : Follows disk ps new ps (λ t. t) (λ d. d)
+  still_follows = go (directory_pairs ps) refl
+    where
+      chain : List Pair
+      chain = take (superblocks_before ps) ps
+
+      go : (behind : List Pair) → directory_pairs ps ≡ behind → Follows disk ps new ps (λ t. t) (λ d. d)
+      go [] e = absurd (
+          let c = chain_of_thread ps in
+          let w = within ps (root_of ps) (superblocks_before ps) (root_begins disk ps ok) in
+          let l = ap length (c.0 ∙ ap (λ z. take (superblocks_before ps) ps ++ z) e) in
+          let k : superblocks_before ps ≡ length (take (superblocks_before ps) ps) = ap superblocks_before c.0 ∙ c.1 in
+          let n = length-append (take (superblocks_before ps) ps) [] in
+          omega arith)
+      go (x ∷ rest) e =
+          let c = chain_of_thread ps in
+          let are : ps ≡ take (superblocks_before ps) ps ++ (x ∷ rest) = c.0 ∙ ap (λ z. take (superblocks_before ps) ps ++ z) e in
+          subst (λ z. Follows disk z new z (λ t. t) (λ d. d)) (sym are)
+          (same_follows disk new (take (superblocks_before ps) ps) x rest (subst (IsChain (take (superblocks_before ps) ps)) e c.1) (subst (IsAccepted disk) are ok) (subst (λ z. IsDevice disk new z z) are device_still))
+
+  pub used_still : used_blocks new ps ≡ used_blocks disk ps
+  used_still = ap (λ z. blocks_of ps ++ z) (slots_files disk new (all_slots ps) geometry files_still)

@@ -1,0 +1,184 @@
+-- Contents of a writer that are written beside an image.
+use Rattle.std.proofs.Common.{ℕ, ◌≡◌, ◌<◌, ◌≤◌, ◌+◌, ◌/◌, ◌∙◌, Bool, true, false, List, length, max, Option, Some, None, Result, Ok, Err, inl, refl, sym, ap, subst, arith}
+use Rattle.std.proofs.Math.Nat.{min-le_right}
+use Rattle.std.specs.Prelude.{Contains, IfErr, IfOk, OnErr, OnOk, is_err}
+use Rattle.lfs_device.specs.declared.error.Error.{Error}
+use Rattle.lfs_device.specs.declared.error.Error.TheVariants.{Io}
+use Rattle.lfs_model.specs.Apply.{is_file}
+use Rattle.lfs_model.specs.BlockSets.{AreUsed, used_count}
+use Rattle.lfs_model.specs.Disk.{SameGeometry, block_at, block_count, inline_limit}
+use Rattle.lfs_model.specs.Session.{Surroundings}
+use Rattle.lfs_model.specs.SlotEdits.{slot_of_path}
+use Rattle.lfs_model.specs.Slots.{Slot}
+use Rattle.lfs_model.specs.Thread.{Pair, gstate_of, superblocks_before}
+use Rattle.lfs_model.specs.Tree.{Path, Tree}
+use Rattle.lfs_model.specs.View.{IsAccepted, IsWritable, tree_in, used_blocks}
+use Rattle.lfs_model.specs.Blocks.{Blocks}
+use Rattle.lfs_model.specs.PowerLoss.{IsLeft, Survives, with_blocks}
+use Rattle.lfs_model.proofs.Changes.{Follows}
+use Rattle.lfs_model.proofs.Histories.{LeavesOnly-weaker, LeavesOnly-worst}
+use Rattle.lfs_writer.specs.Hand.{SparesUsed}
+use Rattle.lfs_model.proofs.Files.{HasSameFile, file_blocks_same}
+use Rattle.lfs_files.specs.Standing.{CanTruncate, CanWrite, Holds, LeavesPairsAndUsed, TellsWork, held_in}
+use Rattle.lfs_thread.specs.Kept.{Kept, State}
+use Rattle.lfs_tree.specs.Held.{IsRooted, seen_kept}
+use Rattle.lfs_tree.specs.OpenContents.{CanTruncateBeside, CanWriteBeside, IsOverFile, IsWrittenBeside, blocks_named, bytes_held, list_at}
+use Rattle.lfs_tree.specs.Seen.{IsBroken, IsError, IsSound}
+use Rattle.lfs_tree.proofs.BesideImage.{files_still, geometry_back, still_follows, used_still, writable_on}
+use Rattle.lfs_tree.proofs.Reading.{same_error}
+use Rattle.lfs_tree.proofs.SlotsHave.{slot_has}
+use Rattle.lfs_tree.proofs.UsedBlocks.{count_is}
+use Rattle.lfs_writer.specs.Contents.{IsLarge, NeedsRoom, bytes_in, form_of, truncate_room, write_room}
+use Rattle.lfs_writer.specs.Form.{Form, form_size}
+use Rattle.lfs_writer.specs.Owned.{AreOwned}
+use Rattle.lfs_writer.specs.declared.contents.Contents.{Contents}
+use Rattle.lfs_writer.proofs.Used.{used_back}
+
+-- the bytes and the form of contents that stand on a thread's device
+pub bytes_of_held : (t : Kept) (c : Contents) (bytes : List ℕ) (shape : Form) → Holds t c bytes shape → bytes_held t c ≡ bytes
+bytes_of_held t c bytes shape h = ap (λ (n : ℕ). bytes_in t.disk.blocks n c) (sym h.divided.block_size) ∙ h.has.has
+
+pub geometry_beside : (a b : Kept) → LeavesPairsAndUsed a b → SameGeometry a.disk b.disk
+geometry_beside a b l = record { block_size = l.shape.block_size; page = l.shape.page; count = l.shape.count }
+
+module _ (a b : Kept) (leaves : LeavesPairsAndUsed a b) (accepted : IsAccepted a.disk a.pairs) (used : AreUsed a.map (used_blocks a.disk a.pairs)) where
+  used_same : (x : ℕ) → Contains (used_blocks a.disk a.pairs) x → block_at b.disk x ≡ block_at a.disk x
+  used_same x has = leaves.spared.same x ((used x).1 has)
+
+  follows : Follows a.disk a.pairs b.disk a.pairs (λ t. t) (λ d. d)
+  follows = still_follows a.disk b.disk a.pairs accepted (geometry_beside a b leaves) used_same
+
+  pub accepted_beside : IsAccepted b.disk b.pairs
+  accepted_beside = subst (IsAccepted b.disk) (sym leaves.pairs) follows.accepted
+
+  pub tree_beside : tree_in b.disk b.pairs ≡ tree_in a.disk a.pairs
+  tree_beside = ap (tree_in b.disk) leaves.pairs ∙ follows.shows
+
+  pub used_blocks_beside : used_blocks b.disk b.pairs ≡ used_blocks a.disk a.pairs
+  used_blocks_beside = ap (used_blocks b.disk) leaves.pairs ∙ used_still a.disk b.disk a.pairs accepted (geometry_beside a b leaves) used_same
+
+  pub are_used_beside : AreUsed b.map (used_blocks b.disk b.pairs)
+  are_used_beside = subst (AreUsed b.map) (sym used_blocks_beside) (λ x. ((λ u. (used x).0 (used_back leaves.map x u)), (λ has. leaves.map.stays x ((used x).1 has))))
+
+  -- the file at a path has its list in the same blocks
+  pub list_beside : (path : Path) → list_at b path ≡ list_at a path
+  list_beside path = ap (λ (ps : List Pair). blocks_named b.disk (slot_of_path ps path)) leaves.pairs ∙ go (slot_of_path a.pairs path) refl
+    where
+      go : (o : Option Slot) → slot_of_path a.pairs path ≡ o → blocks_named b.disk o ≡ blocks_named a.disk o
+      go None e = refl
+      go (Some s) e = file_blocks_same a.disk b.disk s.struct (geometry_beside a b leaves)
+          (slot_has (λ (x : Slot). HasSameFile a.disk b.disk x.struct) a.disk a.pairs accepted (files_still a.disk b.disk a.pairs accepted (geometry_beside a b leaves) used_same) tt path s e)
+
+  -- what a call makes of contents is over the same file
+  pub over_beside : (path : Path) (contents c : Contents) (bytes : List ℕ) (shape : Form) → IsOverFile a path contents → Holds b c bytes shape → AreOwned b.map (held_in a contents) (held_in b c) → IsOverFile b path c
+  over_beside path contents c bytes shape over holds owned = record {
+    file = ap (λ (t : Tree). is_file (t path)) tree_beside ∙ over.file;
+    stands = record { geometry = holds.geometry; divided = holds.divided; stands = holds.has.stands };
+    owned = record {
+      each = λ x has is. subst (λ (bs : List ℕ). Contains bs x) (sym (list_beside path)) (over.owned.each x (owned.each x has is) (used_back leaves.map x is));
+    };
+  }
+
+sound_beside : (a b : Kept) (writable : Bool) → LeavesPairsAndUsed a b → IsSound (seen_kept a writable false) → IsSound (seen_kept b writable false)
+sound_beside a b writable leaves s = record {
+  accepted = accepted_beside a b leaves s.accepted s.used;
+  fits = λ e. subst (IsWritable b.disk) (sym leaves.pairs) (writable_on a.disk b.disk a.pairs (geometry_beside a b leaves) (s.fits e));
+  is_kept = λ w. s.is_kept (subst (IsWritable a.disk) leaves.pairs (writable_on b.disk a.disk b.pairs (geometry_back a.disk b.disk (geometry_beside a b leaves)) w));
+  used = are_used_beside a b leaves s.accepted s.used;
+  size = leaves.map.count ∙ s.size ∙ sym leaves.shape.count;
+}
+
+around_is : (writable : Bool) (block_size page count block_size_now page_now count_now : ℕ) (used used_now : List ℕ) (ps qs : List Pair) → block_size_now ≡ block_size → page_now ≡ page → count_now ≡ count → used_now ≡ used → qs ≡ ps
+    → (let x : Surroundings = record { writable = writable; block_size = block_size_now; page = page_now; block_count = count_now; used = used_now; gstate = gstate_of qs } in x)
+    ≡ record { writable = writable; block_size = block_size; page = page; block_count = count; used = used; gstate = gstate_of ps }
+around_is writable block_size page count block_size_now page_now count_now used used_now ps qs b p c u q = λ i. record { writable = writable; block_size = b i; page = p i; block_count = c i; used = u i; gstate = gstate_of (q i) }
+
+-- a disk of which no used block changed
+pub left_beside : (t : Kept) (blocks : Blocks) {after : Tree} → IsAccepted t.disk t.pairs → IsWritable t.disk t.pairs → AreUsed t.map (used_blocks t.disk t.pairs) → SparesUsed t.map t.disk.blocks blocks
+    → IsLeft (with_blocks blocks t.disk) (tree_in t.disk t.pairs) after
+left_beside t blocks accepted fits used spared =
+    let same : SameGeometry t.disk (with_blocks blocks t.disk) = record { block_size = refl; page = refl; count = spared.count } in
+    let f = still_follows t.disk (with_blocks blocks t.disk) t.pairs accepted same (λ x has. spared.same x ((used x).1 has)) in
+    record { pairs = t.pairs; accepted = f.accepted; writable = writable_on t.disk (with_blocks blocks t.disk) t.pairs same fits; tree = inl f.shows }
+
+-- the calls of a tree
+module _ (a b : State) (root : ℕ) (writable failed : Bool) (works : failed ≡ false) (h : failed ≡ false → IsRooted a root writable) (still : b.failed ≡ false) (leaves : LeavesPairsAndUsed a.kept b.kept) where
+  abbrev sound : IsSound (seen_kept a.kept writable false)
+  sound = (h works).sound
+
+  pub rooted_beside : IsRooted b root writable
+  rooted_beside = record { works = still; sound = sound_beside a.kept b.kept writable leaves sound; root_is = (h works).root_is ∙ ap superblocks_before (sym leaves.pairs) }
+
+  pub written_beside : (r : Result Contents Error) → TellsWork a.kept b.kept r → OnOk r (IsWrittenBeside (seen_kept a.kept writable failed) (seen_kept b.kept writable (is_err r)))
+  written_beside (Err e) t = tt
+  written_beside (Ok c) t =
+      let s = sound_beside a.kept b.kept writable leaves sound in
+      record {
+        works = refl;
+        sound = record { accepted = s.accepted; fits = s.fits; is_kept = s.is_kept; used = s.used; size = s.size };
+        writable = refl;
+        pairs = leaves.pairs;
+        shows = tree_beside a.kept b.kept leaves sound.accepted sound.used;
+        around = around_is writable _ _ _ _ _ _ _ _ a.kept.pairs b.kept.pairs leaves.shape.block_size leaves.shape.page leaves.shape.count (used_blocks_beside a.kept b.kept leaves sound.accepted sound.used) leaves.pairs;
+        geometry = geometry_beside a.kept b.kept leaves;
+        calls = leaves.at_worst.events;
+        called = leaves.at_worst.extends;
+        no_fault = t.no_fault (λ e. absurd (cc));
+      }
+
+  pub broken_beside : (r : Result Contents Error) → OnErr r (IsBroken (seen_kept a.kept writable failed) (seen_kept b.kept writable (is_err r)))
+  broken_beside (Ok c) = tt
+  broken_beside (Err e) = record { failed = refl; geometry = geometry_beside a.kept b.kept leaves; calls = leaves.at_worst.events; called = leaves.at_worst.extends }
+
+  pub told_beside : (r : Result Contents Error) → TellsWork a.kept b.kept r → IfErr r (IsError (seen_kept a.kept writable failed) (seen_kept b.kept writable (is_err r)))
+  told_beside (Ok c) t = tt
+  told_beside (Err e) t = record {
+    errors = t.errors;
+    fault = λ io. t.fault (ap Err io);
+    no_fault = λ other. t.no_fault (λ z. other (same_error Contents e Io z));
+  }
+
+  -- a loss of power on the way leaves the image as it was
+  pub survives_beside : writable ≡ true → Survives a.kept.disk a.kept.history b.kept.history (tree_in a.kept.disk a.kept.pairs) (tree_in a.kept.disk a.kept.pairs)
+  survives_beside may clean = LeavesOnly-weaker (λ blocks spared. left_beside a.kept blocks sound.accepted (sound.fits may) sound.used spared) (LeavesOnly-worst leaves.at_worst)
+
+  pub all_over : (path : Path) (contents : Contents) (bytes : List ℕ) (shape : Form) (r : Result Contents Error) → IsOverFile a.kept path contents → IfOk r (λ c. Holds b.kept c bytes shape)
+      → IfOk r (λ c. AreOwned b.kept.map (held_in a.kept contents) (held_in b.kept c)) → IfOk r (IsOverFile b.kept path)
+  all_over path contents bytes shape (Err e) over holds owned = tt
+  all_over path contents bytes shape (Ok c) over holds owned = over_beside a.kept b.kept leaves sound.accepted sound.used path contents c bytes shape over holds owned
+
+pub bytes_after : (t : Kept) (bytes : List ℕ) (shape : Form) (r : Result Contents Error) → IfOk r (λ c. Holds t c bytes shape) → IfOk r (λ c. bytes_held t c ≡ bytes)
+bytes_after t bytes shape (Ok c) h = bytes_of_held t c bytes shape h
+bytes_after t bytes shape (Err e) h = tt
+
+pub form_after : (t : Kept) (bytes : List ℕ) (shape : Form) (r : Result Contents Error) → IfOk r (λ c. Holds t c bytes shape) → IfOk r (λ c. form_of c ≡ shape)
+form_after t bytes shape (Ok c) h = h.has.form
+form_after t bytes shape (Err e) h = tt
+
+-- ---- what is asked for, on the thread
+
+limit_short : (block_size limit : ℕ) → 1024 ≤ block_size → limit ≡ inline_limit block_size → limit < block_size
+limit_short block_size limit large e = let m = min-le_right (block_size / 8) 1022 in omega arith
+
+module _ (t : Kept) (writable : Bool) (limit : ℕ) (sound : IsSound (seen_kept t writable false)) (large : 1024 ≤ t.disk.block_size) (is : limit ≡ inline_limit t.disk.block_size) where
+  room_is : (need : ℕ) → length (used_blocks t.disk t.pairs) + need ≤ block_count t.disk → used_count t.map + need ≤ length t.map
+  room_is need room = let e = count_is (seen_kept t writable false) sound in let s = sound.size in omega arith
+
+  pub can_write : (failed : Bool) (contents : Contents) (place count : ℕ) → CanWriteBeside (seen_kept t writable failed) contents place count → CanWrite t contents limit place count
+  can_write failed contents place count can = record {
+    stands = can.stands;
+    large = subst (λ (n : ℕ). IsLarge n (form_of contents)) (sym is) can.large;
+    short = limit_short t.disk.block_size limit large is;
+    some = can.some;
+    small = can.small;
+    room = λ past. room_is (write_room t.disk.block_size place count (form_of contents)) (can.room (subst (λ n. n < max (form_size (form_of contents)) (place + count)) is past));
+  }
+
+  pub can_truncate : (failed : Bool) (contents : Contents) (size : ℕ) → CanTruncateBeside (seen_kept t writable failed) contents size → CanTruncate t contents limit size
+  can_truncate failed contents size can = record {
+    stands = can.stands;
+    large = subst (λ (n : ℕ). IsLarge n (form_of contents)) (sym is) can.large;
+    short = limit_short t.disk.block_size limit large is;
+    small = can.small;
+    room = λ needs. room_is (truncate_room t.disk.block_size size (form_of contents)) (can.room (subst (λ (n : ℕ). NeedsRoom n size (form_of contents)) is needs));
+  }

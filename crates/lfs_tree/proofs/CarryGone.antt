@@ -1,0 +1,241 @@
+-- An entry that goes, at a path.
+use Rattle.std.proofs.Common.{ℕ, ◌≡◌, ◌≢◌, ◌≤◌, ◌-◌, ◌∙◌, ◌++◌, true, false, List, [], ◌∷◌, length, Some, None, ◌⊎◌, Result, Ok, Err, refl, sym, ap, subst, arith}
+use Rattle.std.specs.Prelude.{nat_lt, IfErr, is_err}
+use Rattle.std.specs.List.{AllByRecursion}
+use Rattle.std.specs.Option.{option_and_then}
+use Rattle.std.proofs.lemmas.Bool.{ltb-false}
+use Rattle.std.proofs.lemmas.List.{length-map}
+use Rattle.std.proofs.lemmas.List.Elements.{All-from_recursion}
+use Rattle.std.proofs.lemmas.Option.{same_Some}
+use Rattle.lfs_device.specs.Bytes.{HasBytes}
+use Rattle.lfs_device.specs.declared.error.Error.{Error}
+use Rattle.lfs_device.specs.declared.error.Error.TheVariants.{Io, NoMemory}
+use Rattle.lfs_files.specs.Settling.{IsReadBesideMap}
+use Rattle.lfs_files.specs.Standing.{TellsWork}
+use Rattle.lfs_model.specs.Apply.{names_of, removed}
+use Rattle.lfs_model.specs.BlockSets.{BlockSets, IsUsed}
+use Rattle.lfs_model.specs.Disk.{Disk}
+use Rattle.lfs_model.specs.History.{Event, OnlyReads}
+use Rattle.lfs_model.specs.Operations as ops
+use Rattle.lfs_model.specs.Slots.{Slot, Struct, Inline, Ctz, Branch}
+use Rattle.lfs_model.specs.Steps.{as_path}
+use Rattle.lfs_model.specs.Thread.{Pair}
+use Rattle.lfs_model.specs.Tree.{Path, branch_of}
+use Rattle.lfs_model.specs.View.{Leads, entries_in, tree_in, used_blocks}
+use Rattle.lfs_model.proofs.BlockSets.{Contains-count, count-Contains}
+use Rattle.lfs_model.proofs.Committed.{IsCompleted, no_move_from}
+use Rattle.lfs_model.proofs.Counts.{each_weaker}
+use Rattle.lfs_operations.specs.Dropping.{SameInFlight}
+use Rattle.lfs_operations.specs.Ready.{IsReady, IsReadyBut}
+use Rattle.lfs_operations.specs.Removing.{IsRemoved, TellsOfCalls, written_at}
+use Rattle.lfs_operations.specs.Unlinking.{CanRemoveDirectory, IsDirectoryRemoved, TellsOfSteps}
+use Rattle.lfs_thread.specs.Device.{four_of}
+use Rattle.lfs_thread.specs.Kept.{Kept, State}
+use Rattle.lfs_thread.specs.Steps.{Writes, pair_in}
+use Rattle.lfs_tree.specs.Allowed.{CanRemove}
+use Rattle.lfs_tree.specs.Carrying.{Carries, IsAtRest, SurvivesTo}
+use Rattle.lfs_tree.specs.CarryingSlots.{HasEntry, IsSlotFor, has_slot}
+use Rattle.lfs_tree.specs.Entry.{ShowsContents}
+use Rattle.lfs_tree.specs.Going.{CanGo, HasGone, IsEntryOn, WritesUsed}
+use Rattle.lfs_tree.specs.Held.{seen_kept}
+use Rattle.lfs_tree.specs.Paths.{LeadsTo, StandsOnPath}
+use Rattle.lfs_tree.specs.declared.entry.Contents.{Contents}
+use Rattle.lfs_tree.specs.declared.entry.Contents.TheVariants as contents
+use Rattle.lfs_tree.specs.declared.paths.Found.{Found}
+use Rattle.lfs_tree.specs.declared.paths.Found.TheVariants as found
+use Rattle.lfs_tree.specs.declared.search.Spot.{Spot}
+use Rattle.lfs_tree.proofs.AtPaths.{directory_at_path}
+use Rattle.lfs_tree.proofs.Carried.{IsApart, apart_state, behind_below, carried, pair_used, with_history}
+use Rattle.lfs_tree.proofs.CarryEdited.{can_edit, slot_found}
+use Rattle.lfs_tree.proofs.CarryFreed.{shape_geometry, written_used}
+use Rattle.lfs_tree.proofs.CarrySurvives.{survives_left}
+use Rattle.lfs_tree.proofs.CarryTold.{IsTold}
+use Rattle.lfs_tree.proofs.Directories.{within}
+use Rattle.lfs_tree.proofs.EmptyDirectories.{at_there, bare_there}
+
+-- ---- what is found
+
+pub entry_on : (t : Kept) (path : Path) (f : Found) → HasEntry (tree_in t.disk t.pairs) path → LeadsTo t path f → IsEntryOn t.pairs path f
+entry_on t path f v l = go f l (slot_found t path f v l)
+  where
+    go : (f : Found) → LeadsTo t path f → has_slot f ≡ true → IsEntryOn t.pairs path f
+    go found.Root l e = absurd (cc)
+    go found.ParentIsFile l e = absurd (cc)
+    go found.ParentIsMissing l e = absurd (cc)
+    go (found.Nothing parent place) l e = absurd (cc)
+    go (found.Directory parent slot first) l e = record { ends = l.there; has = e }
+    go (found.File parent slot contents) l e = record { ends = l.there; has = e }
+
+pub entry_to_remove : (t : Kept) (path : Path) → CanRemove (seen_kept t true false) path → HasEntry (tree_in t.disk t.pairs) path
+entry_to_remove t path can = record { entry = can.entry; parents = can.parents; something = can.something }
+
+file_branch : (c : Contents) (s : Struct) → ShowsContents c s → branch_of s ≡ None
+file_branch (contents.Inline len) s h = ap branch_of h.1.0
+file_branch (contents.List head size) s h = ap branch_of h
+
+pub branch_is : (s : Struct) (to : ℕ × ℕ) → branch_of s ≡ Some to → s ≡ Branch to
+branch_is (Inline bytes) to e = absurd (cc)
+branch_is (Ctz head size) to e = absurd (cc)
+branch_is (Branch at) to e = ap Branch (same_Some at to e)
+
+-- ---- what may go
+
+-- a directory without names has no entries
+pub none_entered : (t : Kept) (path : Path) → nat_lt 0 (length (names_of (tree_in t.disk t.pairs path))) ≡ false → (at : ℕ × ℕ) → Leads t.pairs path at → entries_in t.pairs at ≡ []
+none_entered t path bare at leads =
+    let d = directory_at_path t.disk t.pairs path at leads in
+    let none = ltb-false 0 (length (names_of (tree_in t.disk t.pairs path))) bare in
+    let e = ap (λ o. length (names_of o)) d.is in
+    let l = length-map (entries_in t.pairs at) (λ (s : Slot). s.name) in
+    empty (entries_in t.pairs at) (omega arith)
+  where
+    empty : (xs : List Slot) → length xs ≤ 0 → xs ≡ []
+    empty [] l = refl
+    empty (x ∷ xs) l = absurd (omega arith)
+
+module _ (t : State) (root : ℕ) (rests : IsAtRest t root) (path : Path) (large : 1024 ≤ t.kept.disk.block_size) (bytes : HasBytes t.kept.disk.blocks) (can : CanRemove (seen_kept t.kept true false) path) (h : List Event) where
+  no_entries : (at : ℕ × ℕ) → Leads t.kept.pairs path at → entries_in t.kept.pairs at ≡ []
+  no_entries at leads = none_entered t.kept path can.empty at leads
+
+  slot_on : (parent : ℕ) (slot : Spot) (ends_above : Path) (name : List ℕ) → path ≡ ends_above ++ name ∷ [] → StandsOnPath t.kept.pairs ends_above name parent slot → IsSlotFor t.kept.pairs path slot
+  slot_on parent slot above name is stands = record { above = above; name = name; first = parent; is = is; stands = stands }
+
+  pub can_go : (f : Found) → IsEntryOn t.kept.pairs path f → CanGo (with_history t.kept h) path f
+  unfolding can_edit slot_on
+  can_go found.Root on = absurd (let e = on.has in cc)
+  can_go found.ParentIsFile on = absurd (let e = on.has in cc)
+  can_go found.ParentIsMissing on = absurd (let e = on.has in cc)
+  can_go (found.Nothing parent place) on = absurd (let e = on.has in cc)
+  can_go (found.File parent slot contents) on =
+      let there = on.ends.there in
+      record {
+        take = record {
+          can = can_edit t root rests path large bytes slot (slot_on parent slot on.ends.above on.ends.name on.ends.is there.0) h;
+          file = file_branch contents there.0.stands.stands.slot.struct there.1;
+          begins = refl;
+        };
+        is = on.ends.is;
+        shows = there.1;
+      }
+  can_go (found.Directory parent slot first) on =
+      let there = on.ends.there in
+      let led : Leads t.kept.pairs (on.ends.above ++ on.ends.name ∷ []) there.1.at = there.1.leads in
+      let bare = bare_there t.kept.disk t.kept.pairs on.ends.above on.ends.name there.1.at first rests.held.sound.accepted (rests.held.sound.fits refl) (no_move_from t.kept.pairs rests.settled) there.1.leads there.1.begins
+      (no_entries there.1.at (subst (λ p. Leads t.kept.pairs p there.1.at) (sym on.ends.is) there.1.leads)) in
+      record {
+        take = record {
+          can = can_edit t root rests path large bytes slot (slot_on parent slot on.ends.above on.ends.name on.ends.is there.0) h;
+          begins = refl;
+          to = there.1.at;
+          branch = branch_is there.0.stands.stands.slot.struct there.1.at (sym (ap (option_and_then (λ (f : Slot). branch_of f.struct)) there.0.slot) ∙ there.1.leads);
+          below = within t.kept.pairs there.1.at first there.1.begins;
+          at = at_there t.kept.pairs there.1.at first there.1.begins;
+          empty = bare.empty;
+          alone = bare.alone;
+        };
+        is = on.ends.is;
+      }
+
+-- ---- what comes of it
+
+ready_from : (t : Kept) → IsReadyBut t [] [] → IsReady t
+ready_from t r = record {
+  accepted = r.accepted;
+  writable = r.writable;
+  settled = r.settled;
+  used = λ b. (
+    (λ h. Contains-count (used_blocks t.disk t.pairs) b (let k = count-Contains r.used.owned b ((r.used.are b).0 h) in let e = r.used.same b in omega arith)),
+    (λ h. (r.used.are b).1 (Contains-count r.used.owned b (let k = count-Contains (used_blocks t.disk t.pairs) b h in let e = r.used.same b in omega arith))),
+  );
+  size = r.size;
+  large = r.large;
+}
+
+pub directory_gone : (old new : Kept) (path above : Path) (name : List ℕ) → path ≡ above ++ name ∷ [] → IsDirectoryRemoved old new above name → HasGone old path new
+directory_gone old new path above name e is = record {
+  ready = ready_from new is.now.ready;
+  flying = is.now.flying;
+  completed = λ s given tree given_is. is.completed s given tree (given_is ∙ e);
+}
+
+-- a file, whose list is freed behind it
+pub file_gone : (old mid new : Kept) (path above : Path) (name : List ℕ) (struct : Struct) → path ≡ above ++ name ∷ [] → IsRemoved old mid above name struct → IsReadBesideMap mid new → IsReady new → SameInFlight mid.map new.map → HasGone old path new
+file_gone old mid new path above name struct e is only ready flying = record {
+  ready = ready;
+  flying = λ b. ((λ flies. (is.now.flying b).0 ((flying b).0 flies)), (λ flies. (flying b).1 ((is.now.flying b).1 flies)));
+  completed = λ s given tree given_is. subst (λ (d : Disk). IsCompleted old.disk old.pairs s (ops.Remove given) d new.pairs) (sym only.disk)
+      (subst (λ (ps : List Pair). IsCompleted old.disk old.pairs s (ops.Remove given) mid.disk ps) (sym only.pairs) (is.completed s given tree (given_is ∙ e)));
+}
+
+pub directory_writes : (old new : Kept) (pair id first gone : ℕ) → CanRemoveDirectory old pair id first gone → Writes (four_of (written_at old pair first) (pair_in old (gone - 1)).at) old new → WritesUsed old new
+directory_writes old new pair id first gone take w = record {
+  blocks = four_of (written_at old pair first) (pair_in old (gone - 1)).at;
+  used = (
+      let k = written_used old pair first (behind_below old.pairs take.can.first pair take.can.stands.pair take.can.stands.rest take.can.stands.place) take.can.ready.used in
+      let b = take.below in
+      let m = pair_used old (gone - 1) (omega arith) take.can.ready.used in
+      (k.0, (k.1, (m.0, (m.1, tt))))
+      );
+  writes = w;
+}
+
+apart_used : (sets : BlockSets) (bs : List ℕ) → AllByRecursion (IsUsed sets) bs → IsApart sets bs
+apart_used sets bs used b flies = All-from_recursion (λ c. c ≢ b) bs (each_weaker (IsUsed sets) (λ c. c ≢ b) (λ c is. apart_state sets b c flies is) bs used)
+
+module _ (t : State) (root : ℕ) (rests : IsAtRest t root) (path : Path) (h : List Event) (c : Kept) (reads : OnlyReads t.kept.disk.blocks t.kept.history h) (w : WritesUsed (with_history t.kept h) c) where
+  pub removed_at : (given : List ℕ) → HasGone (with_history t.kept h) path c → as_path given ≡ path → Carries t.kept (ops.Remove given) c
+  removed_at given g e = carried t.kept h (ops.Remove given) c
+      (record {
+        accepted = rests.held.sound.accepted;
+        writable = rests.held.sound.fits refl;
+        settled = rests.settled;
+        reads = reads;
+        ready = g.ready;
+        stay = λ b flies. (g.flying b).1 flies;
+        none_comes = λ b flies. (g.flying b).0 flies;
+        completed = λ files. g.completed (record { tree = tree_in t.kept.disk t.kept.pairs; files = files }) given refl e;
+        blocks = w.blocks;
+        writes = w.writes;
+        apart = apart_used t.kept.map w.blocks w.used;
+      }) refl refl
+
+-- ---- what it tells
+
+same_err : {X : Type 0} (a b : Error) (r : Result X Error) → r ≡ Err a → r ≡ Err b → a ≡ b
+same_err a b r h k = cc
+
+-- an error of one call that is passed on
+pub steps_from : {X Y : Type 0} (old new : State) (e : Error) (result : Result X Error) (given : Result Y Error) → result ≡ Err e → given ≡ Err e → TellsOfCalls old new result → TellsOfSteps old new given
+steps_from {X} {Y} old new e result given is same t = record {
+  failed = t.failed ∙ ap is_err is ∙ sym (ap is_err same);
+  errors = subst (λ (r : Result Y Error). IfErr r (λ x. (x ≡ Io) ⊎ (x ≡ NoMemory))) (sym same) (subst (λ (r : Result X Error). IfErr r (λ x. (x ≡ Io) ⊎ (x ≡ NoMemory))) is t.told.errors);
+  fault = λ io. t.told.fault (is ∙ ap Err (same_err e Io given same io));
+  no_fault = λ other. t.told.no_fault (λ io. other (same ∙ ap Err (same_err e Io result is io)));
+}
+
+-- a call that answered, and another
+pub steps_both : {X Y : Type 0} (old mid new : State) (x : X) (result : Result X Error) (given : Result Y Error) → result ≡ Ok x → TellsOfCalls old mid result → new.failed ≡ is_err given → TellsWork mid.kept new.kept given → TellsOfSteps old new given
+steps_both old mid new x result given is t failed w =
+    let same = t.told.no_fault (λ io. let z = sym is ∙ io in absurd (cc)) in
+    record {
+      failed = failed;
+      errors = w.errors;
+      fault = λ io. let k = w.fault io in omega (arith, k, same);
+      no_fault = λ other. w.no_fault other ∙ same;
+    }
+
+pub told_of_steps : {X : Type 0} (old new : State) (result : Result X Error) → TellsOfSteps old new result → IsTold old.kept.history new.kept.history result
+told_of_steps old new result t = record { errors = t.errors; fault = t.fault; no_fault = t.no_fault }
+
+-- ---- a loss of power on the way
+
+-- an entry of a path
+pub removal_survives : (old new : Kept) (path above : Path) (name : List ℕ) → path ≡ above ++ name ∷ [] → SurvivesTo old new (removed (above ++ name ∷ []) (tree_in old.disk old.pairs)) → SurvivesTo old new (removed path (tree_in old.disk old.pairs))
+removal_survives old new path above name e k = subst (λ p. SurvivesTo old new (removed p (tree_in old.disk old.pairs))) (sym e) k
+
+-- a file, whose list is freed behind it
+pub freeing_survives : (old mid new : Kept) (path above : Path) (name : List ℕ) (struct : Struct) (bs : List ℕ) → path ≡ above ++ name ∷ [] → Writes bs old mid → IsRemoved old mid above name struct → IsReadBesideMap mid new
+    → SurvivesTo old mid (removed (above ++ name ∷ []) (tree_in old.disk old.pairs)) → SurvivesTo old new (removed path (tree_in old.disk old.pairs))
+freeing_survives old mid new path above name struct bs e w is only k =
+    survives_left old mid new.history (removed path (tree_in old.disk old.pairs)) (shape_geometry old mid w.shape) w.at_worst is.now.ready.accepted is.now.ready.writable
+    (is.now.shows ∙ ap (λ p. removed p (tree_in old.disk old.pairs)) (sym e)) only.reads (removal_survives old mid path above name e k)

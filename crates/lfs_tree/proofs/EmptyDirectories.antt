@@ -1,0 +1,108 @@
+-- A directory without entries, but the root, has one pair without slots.
+use Rattle.std.proofs.Common.{ℕ, ◌≡◌, ◌<◌, ◌≤◌, ◌+◌, ◌-◌, ◌∙◌, zero, suc, Bool, true, false, cond, not, List, [], ◌∷◌, ◌++◌, length, drop, get_or, slice_get, None, Some, refl, sym, ap, subst, arith, flat_map}
+use Rattle.std.proofs.lemmas.List.{drop-drop}
+use Rattle.std.proofs.lemmas.Option.{get_or_from_slice_get, slice_get_within}
+use Rattle.std.proofs.Math.Seq.{drop-append_seam}
+use Rattle.lfs_model.specs.Disk.{Disk}
+use Rattle.lfs_model.specs.InDirectory.{BeginsAt, HaveNoSuperblock, entries_only, slots_in}
+use Rattle.lfs_model.specs.Names.{Name}
+use Rattle.lfs_model.specs.Slots.{Slot, is_superblock, same_pair}
+use Rattle.lfs_model.specs.Thread.{Pair, directory_pairs, first_at, gstate_of, is_hard, root_of, superblocks_before, visible}
+use Rattle.lfs_model.specs.Tree.{Path}
+use Rattle.lfs_model.specs.View.{HaveSlots, IsAccepted, IsWritable, Leads, entries_in}
+use Rattle.lfs_model.proofs.Counts.{Each}
+use Rattle.lfs_model.proofs.Found.{HasDirectory}
+use Rattle.lfs_model.proofs.Global.{HasNoMove}
+use Rattle.lfs_model.proofs.Layouts.{have_right}
+use Rattle.lfs_model.proofs.Listings.{IsRun}
+use Rattle.lfs_model.proofs.Searches.{IsDirectory, begins_directory, plain_behind}
+use Rattle.lfs_model.proofs.Splices as splices
+use Rattle.lfs_thread.specs.Steps.{no_pair}
+use Rattle.lfs_tree.specs.Listed.{joined_run}
+use Rattle.lfs_tree.proofs.Directories.{own_run, run_is}
+
+-- entries come of slots that aren't a superblock's
+none_first : (xs ys : List Slot) → Each (λ s. is_superblock s ≡ false) xs → entries_only (xs ++ ys) ≡ [] → (xs ≡ []) × (entries_only ys ≡ [])
+none_first [] ys plain e = (refl, e)
+none_first (x ∷ xs) ys plain e = absurd (let k = sym (ap (λ b. cond (not b) (x ∷ entries_only (xs ++ ys)) (entries_only (xs ++ ys))) plain.0) ∙ e in cc)
+
+path_some : (above : Path) (name : Name) → [] ≡ above ++ name ∷ [] → ⊥
+path_some [] name e = absurd (cc)
+path_some (x ∷ above) name e = absurd (cc)
+
+no_hard : (b : Bool) → (b ≡ true → ⊥) → b ≡ false
+no_hard true h = absurd (h refl)
+no_hard false h = refl
+
+-- the pair has no slots, and no hard tail
+pub record IsBare (p : Pair) : Type 0 where
+  pub empty : p.content.slots ≡ []
+  pub alone : is_hard p.content.tail ≡ false
+
+module _ (disk : Disk) (ps : List Pair) (above : Path) (name : Name) (a : ℕ × ℕ) (n : ℕ) (ok : IsAccepted disk ps) (fits : IsWritable disk ps) (none : HasNoMove (gstate_of ps))
+    (leads : Leads ps (above ++ name ∷ []) a) (b : BeginsAt ps a n) (empty : entries_in ps a ≡ []) where
+  begun : IsDirectory ps a n
+  begun = begins_directory disk ps (above ++ name ∷ []) a n ok leads b
+
+  abbrev d : HasDirectory (directory_pairs ps) a
+  d = begun.directory
+
+  -- the root isn't named by an entry
+  not_root : d.before ≡ [] → ⊥
+  not_root e =
+      let root : root_of ps ≡ d.first.at = ap first_at (d.is ∙ ap (λ z. z ++ (d.first ∷ d.run ++ d.after)) e) in
+      path_some above name (ok.once [] (above ++ name ∷ []) (root_of ps) a refl leads (subst (λ z. same_pair z a ≡ true) (sym root) d.at))
+
+  some_before : 1 ≤ length d.before
+  some_before = go d.before not_root
+    where
+      go : (xs : List Pair) → (xs ≡ [] → ⊥) → 1 ≤ length xs
+      go [] h = absurd (h refl)
+      go (x ∷ xs) h = omega arith
+
+  rest_here : drop n ps ≡ d.first ∷ d.run ++ d.after
+  rest_here = ap (λ k. drop k ps) begun.number ∙ sym (drop-drop (length d.before) (superblocks_before ps) ps) ∙ ap (drop (length d.before)) d.is ∙ drop-append_seam d.before (d.first ∷ d.run ++ d.after)
+
+  plain : HaveNoSuperblock (d.first ∷ d.run ++ d.after)
+  plain =
+      let number = begun.number in
+      let some = some_before in
+      let low : superblocks_before ps ≤ n - 1 = omega arith in
+      let next : n - 1 + 1 ≡ n = omega arith in
+      subst HaveNoSuperblock (ap (λ k. drop k ps) next ∙ rest_here) (plain_behind disk ps (n - 1) ok low)
+
+  shown : entries_only (d.first.content.slots ++ slots_in d.run) ≡ []
+  shown = sym (splices.visible_in (gstate_of ps) none (d.first ∷ d.run)) ∙ ap (flat_map (visible (gstate_of ps))) (sym (ap joined_run rest_here ∙ run_is d.first d.run d.after d.is_run))
+      ∙ own_run disk ps (above ++ name ∷ []) a n ok leads b ∙ empty
+
+  first_bare : (d.first.content.slots ≡ []) × (entries_only (slots_in d.run) ≡ [])
+  first_bare = none_first d.first.content.slots (slots_in d.run) plain.0 shown
+
+  have : HaveSlots (is_hard d.first.content.tail) (d.run ++ d.after)
+  have = (have_right None d.before (d.first ∷ d.run ++ d.after) (subst (HaveSlots false) d.is fits.no_empty_pair)).1
+
+  no_run : (run : List Pair) → d.run ≡ run → IsRun (d.first ∷ run) → HaveNoSuperblock (run ++ d.after) → entries_only (slots_in run) ≡ [] → HaveSlots (is_hard d.first.content.tail) (run ++ d.after) → is_hard d.first.content.tail ≡ false
+  no_run [] e is_run clean shows filled = is_run
+  no_run (q ∷ run) e is_run clean shows filled = absurd (filled.0 is_run.0 (none_first q.content.slots (slots_in run) clean.0 shows).0)
+
+  bare_first : IsBare d.first
+  bare_first = record { empty = first_bare.0; alone = no_run d.run refl d.is_run plain.1 first_bare.1 have }
+
+  first_there : slice_get ps n ≡ Some d.first
+  first_there = sym (get_dropped n ps) ∙ ap (λ z. slice_get z 0) rest_here
+    where
+      get_dropped : (n : ℕ) (xs : List Pair) → slice_get (drop n xs) 0 ≡ slice_get xs n
+      get_dropped zero xs = refl
+      get_dropped (suc n) [] = refl
+      get_dropped (suc n) (x ∷ xs) = get_dropped n xs
+
+  -- the pair of that number is the directory's only one
+  pub bare_there : IsBare (get_or ps n no_pair)
+  bare_there = subst IsBare (sym (get_or_from_slice_get ps n d.first no_pair first_there)) bare_first
+
+-- the pair of that number is at that address
+pub at_there : (ps : List Pair) (a : ℕ × ℕ) (n : ℕ) → BeginsAt ps a n → same_pair (get_or ps n no_pair).at a ≡ true
+at_there ps a n b = subst (λ (p : Pair). same_pair p.at a ≡ true) (sym (get_or_from_slice_get ps n b.pair no_pair b.there)) b.same
+
+pub begins_within : (ps : List Pair) (a : ℕ × ℕ) (n : ℕ) → BeginsAt ps a n → n < length ps
+begins_within ps a n b = slice_get_within ps n b.pair b.there

@@ -1,0 +1,370 @@
+-- A recovery over a thread, step by step.
+use Rattle.std.proofs.Common.{ℕ, zero, suc, ◌≡◌, ◌≢◌, ◌+◌, ◌≤◌, ◌<◌, ◌⊎◌, ◌∙◌, ◌==◌, inl, inr, Bool, true, false, not, eqb-true, List, [], ◌∷◌, ◌++◌, length, drop, take, get_or, Option, None, Result, Err, refl, sym, ap, ap₂, subst, subst₂, arith, append_assoc, flat_map, length-append}
+use Rattle.std.specs.Prelude.{All, IfErr}
+use Rattle.std.proofs.lemmas.List.Elements.{All-from_recursion}
+use Rattle.std.proofs.lemmas.Option.{same_Some}
+use Rattle.lfs_device.specs.declared.error.Error.{Error}
+use Rattle.lfs_device.specs.declared.error.Error.TheVariants.{Io, NoMemory, Unsupported}
+use Rattle.lfs_model.specs.BlockSets.{AreUsed, IsInFlight, IsUsed}
+use Rattle.lfs_model.specs.BlockSets.BlockState.{InFlight, Used}
+use Rattle.lfs_model.specs.Disk.{Disk}
+use Rattle.lfs_model.specs.History.{EachEvent, EachSince, Event, OnlyReads, faults}
+use Rattle.lfs_model.specs.Layout.{onward}
+use Rattle.lfs_model.specs.Operations as ops
+use Rattle.lfs_model.specs.PowerLoss.{IsLeft, Survives, with_blocks}
+use Rattle.lfs_model.specs.Session.{Files, Session}
+use Rattle.lfs_model.specs.Slots.{Gstate, Slot, no_gstate}
+use Rattle.lfs_model.specs.Written.{is_no_gstate}
+use Rattle.std.proofs.lemmas.Bool.{and_parts}
+use Rattle.lfs_device.specs.declared.device.BlockDevice.{Ghosts}
+use Rattle.lfs_tree.specs.declared.image.Image.{Image}
+use Rattle.lfs_tree.specs.declared.image.Image.TheVariants as image
+use Rattle.lfs_model.specs.Thread.{Pair, blocks_of, directory_pairs, gstate_of, superblocks_before}
+use Rattle.lfs_model.specs.Tree.{Tree}
+use Rattle.lfs_model.specs.View.{IsAccepted, IsReached, IsWritable, all_slots, file_blocks, tree_in, used_blocks}
+use Rattle.lfs_model.proofs.AfterStops.{survives_then}
+use Rattle.lfs_model.proofs.Arranged.{arranged_after, arranged_settled, recovered_stays}
+use Rattle.lfs_model.proofs.BlockSets.{Contains-count, count-Contains}
+use Rattle.lfs_model.proofs.Committed.{IsCompleted, recovered_from}
+use Rattle.lfs_model.proofs.Counts.{count, count_append}
+use Rattle.lfs_model.proofs.Found.{chain_of_thread}
+use Rattle.lfs_model.proofs.Histories.{LeavesOnly-reads, LeavesOnly-weaker, Stops-read, unprogrammed-reads}
+use Rattle.lfs_operations.specs.Dropping.{SameInFlight}
+use Rattle.lfs_operations.specs.Ready.{IsReady, IsReadyBut}
+use Rattle.lfs_operations.specs.Recovering.{AreBare, AreUnreached, AreUnreachedFrom, CanDropUnreached, CanEndMove, HasEndedMove, HasRecovered, TellsOfSteps}
+use Rattle.lfs_operations.proofs.RecoverWrites.{none_there}
+use Rattle.lfs_thread.specs.Kept.{Kept, State}
+use Rattle.lfs_thread.specs.Steps.{HasTold, IsOnlyRead, Writes, no_pair}
+use Rattle.lfs_tree.specs.Carrying.{Carries, HasCalled, SurvivesTo}
+use Rattle.lfs_tree.specs.Held.{IsHeld, IsRooted, seen_image, seen_kept}
+use Rattle.lfs_tree.specs.Recovering.{CanDropLost, HasDroppedLost, IsRecoverError, TellsRecoverError}
+use Rattle.lfs_tree.specs.Seen.{IsCarried, IsSound, LeavesFlight, Seen, tree_seen}
+use Rattle.lfs_tree.proofs.Carried.{read_is, with_history}
+
+-- ---- numbers of pairs
+
+pub none_long : (slots : List Slot) → length slots ≤ 0 → slots ≡ []
+none_long [] l = refl
+none_long (s ∷ slots) l = absurd (omega arith)
+
+numbers_from : (R : ℕ × ℕ → Type 0) (n : ℕ) (from : Option (ℕ × ℕ)) (xs : List Pair) (numbers : List ℕ) → AreUnreachedFrom R n from xs numbers → (j : ℕ) → j < length numbers → get_or numbers j 0 < n + length xs
+numbers_from R n from [] numbers h j low = absurd (let l = ap length h in omega arith)
+numbers_from R n from (x ∷ xs) numbers (inl h) j low = let k = numbers_from R (suc n) (onward from x) xs numbers h.1 j low in omega arith
+numbers_from R n from (x ∷ xs) numbers (inr h) j low =
+    subst (λ z. get_or z j 0 < n + length (x ∷ xs)) (sym h.1.0) (go j (subst (λ z. j < length z) h.1.0 low) (λ i l. numbers_from R (suc n) (onward from x) xs h.0 h.1.1.1 i l))
+  where
+    go : (j : ℕ) → j < length (n ∷ h.0) → ((i : ℕ) → i < length h.0 → get_or h.0 i 0 < suc n + length xs) → get_or (n ∷ h.0) j 0 < n + length (x ∷ xs)
+    go zero l next = omega arith
+    go (suc j) l next = let k = next j (omega arith) in omega arith
+
+pub numbers_below : (ps : List Pair) (numbers : List ℕ) → AreUnreached ps numbers → (j : ℕ) → j < length numbers → get_or numbers j 0 < length ps
+numbers_below ps numbers h j low =
+    let k = numbers_from (IsReached ps) (superblocks_before ps) None (directory_pairs ps) numbers h j low in
+    let c = chain_of_thread ps in
+    let a = ap superblocks_before c.0 ∙ c.1 in
+    let b = ap length c.0 ∙ length-append (take (superblocks_before ps) ps) (directory_pairs ps) in
+    omega arith
+
+cut : (n : ℕ) (ps : List Pair) (x : Pair) (xs : List Pair) → drop n ps ≡ x ∷ xs → (get_or ps n no_pair ≡ x) × (drop (suc n) ps ≡ xs)
+cut zero [] x xs e = absurd (cc)
+cut zero (p ∷ ps) x xs e = (cc, cc)
+cut (suc n) [] x xs e = absurd (cc)
+cut (suc n) (p ∷ ps) x xs e = cut n ps x xs e
+
+bare_from : (R : ℕ × ℕ → Type 0) (ps : List Pair) (n : ℕ) (from : Option (ℕ × ℕ)) (xs : List Pair) (numbers : List ℕ) → drop n ps ≡ xs → AreUnreachedFrom R n from xs numbers
+    → ((j : ℕ) → j < length numbers → (get_or ps (get_or numbers j 0) no_pair).content.slots ≡ []) → AreBare R from xs
+bare_from R ps n from [] numbers e h none = tt
+bare_from R ps n from (x ∷ xs) numbers e (inl h) none = ((λ not. absurd (not h.0)), bare_from R ps (suc n) (onward from x) xs numbers (cut n ps x xs e).1 h.1 none)
+bare_from R ps n from (x ∷ xs) numbers e (inr h) none =
+    let all = subst (λ z. (j : ℕ) → j < length z → (get_or ps (get_or z j 0) no_pair).content.slots ≡ []) h.1.0 none in (
+      (λ not. ap (λ (p : Pair). p.content.slots) (sym (cut n ps x xs e).0) ∙ all 0 (omega arith)),
+      bare_from R ps (suc n) (onward from x) xs h.0 (cut n ps x xs e).1 h.1.1.1 (λ j l. all (suc j) (omega arith)),
+    )
+
+pub all_bare : (ps : List Pair) (numbers : List ℕ) → AreUnreached ps numbers → ((j : ℕ) → j < length numbers → (get_or ps (get_or numbers j 0) no_pair).content.slots ≡ []) → AreBare (IsReached ps) None (directory_pairs ps)
+all_bare ps numbers h none = bare_from (IsReached ps) ps (superblocks_before ps) None (directory_pairs ps) numbers refl h none
+
+-- ---- blocks in flight
+
+apart_pairs : (t : Kept) → AreUsed t.map (used_blocks t.disk t.pairs) → (b : ℕ) → IsInFlight t.map b → All (λ c. c ≢ b) (blocks_of t.pairs)
+apart_pairs t used b flies = All-from_recursion (λ c. c ≢ b) (blocks_of t.pairs) (none_there b (blocks_of t.pairs) (go (count b (blocks_of t.pairs)) refl))
+  where
+    go : (n : ℕ) → count b (blocks_of t.pairs) ≡ n → n ≡ 0
+    go zero e = refl
+    go (suc n) e =
+        let k = count_append b (blocks_of t.pairs) (flat_map (λ s. file_blocks t.disk s.struct) (all_slots t.pairs)) in
+        let here : IsUsed t.map b = (used b).1 (Contains-count (used_blocks t.disk t.pairs) b (omega arith)) in
+        let wrong : InFlight ≡ Used = same_Some InFlight Used (sym flies ∙ here) in
+        absurd (cc)
+
+leaves_same : (a c : Kept) → AreUsed a.map (used_blocks a.disk a.pairs) → SameInFlight a.map c.map → Writes (blocks_of a.pairs) a c → LeavesFlight (seen_kept a true false) (seen_kept c true false)
+leaves_same a c used same w = record {
+  stay = λ b flies. (same b).1 flies;
+  none_comes = λ b flies. (same b).0 flies;
+  bytes = λ b flies. w.others.others b (apart_pairs a used b flies);
+  unprogrammed_still = λ b k flies was. w.elsewhere.stays b k (apart_pairs a used b flies) was;
+}
+
+leaves_then : (a b c : Seen) → LeavesFlight a b → LeavesFlight b c → LeavesFlight a c
+leaves_then a b c f g = record {
+  stay = λ x flies. g.stay x (f.stay x flies);
+  none_comes = λ x flies. f.none_comes x (g.none_comes x flies);
+  bytes = λ x flies. g.bytes x (f.stay x flies) ∙ f.bytes x flies;
+  unprogrammed_still = λ x k flies was. g.unprogrammed_still x k (f.stay x flies) (f.unprogrammed_still x k flies was);
+}
+
+leaves_reading : (t : Kept) (h : List Event) → OnlyReads t.disk.blocks t.history h → LeavesFlight (seen_kept t true false) (seen_kept (with_history t h) true false)
+leaves_reading t h reads = record {
+  stay = λ b flies. flies;
+  none_comes = λ b flies. flies;
+  bytes = λ b flies. refl;
+  unprogrammed_still = λ b k flies was. unprogrammed-reads b k reads ∙ was;
+}
+
+-- ---- directories are dropped
+
+pub can_drop : (t m : Kept) (numbers : List ℕ) → CanDropLost t → 1024 ≤ t.disk.block_size → IsOnlyRead t m → AreUnreached t.pairs numbers → CanDropUnreached m numbers
+can_drop t m numbers can large r told = subst (λ z. CanDropUnreached z numbers) (sym (read_is t m r)) (record {
+  accepted = can.accepted;
+  writable = can.writable;
+  used = can.used;
+  size = can.size;
+  large = large;
+  none = can.none;
+  told = told;
+})
+
+ready_from : (t : Kept) → IsReadyBut t [] [] → IsReady t
+ready_from t r = record {
+  accepted = r.accepted;
+  writable = r.writable;
+  settled = r.settled;
+  used = λ b. (
+    (λ h. Contains-count (used_blocks t.disk t.pairs) b (let k = count-Contains r.used.owned b ((r.used.are b).0 h) in let e = r.used.same b in omega arith)),
+    (λ h. (r.used.are b).1 (Contains-count r.used.owned b (let k = count-Contains (used_blocks t.disk t.pairs) b h in let e = r.used.same b in omega arith))),
+  );
+  size = r.size;
+  large = r.large;
+}
+
+dropped_behind : (t : Kept) (h : List Event) (d : Kept) → CanDropLost t → OnlyReads t.disk.blocks t.history h → AreBare (IsReached t.pairs) None (directory_pairs t.pairs)
+    → HasRecovered (with_history t h) d → Writes (blocks_of t.pairs) (with_history t h) d → HasDroppedLost t d
+dropped_behind t h d can reads bare r w = record {
+  ready = ready_from d (subst (λ gone. IsReadyBut d gone []) (r.none_gone bare) r.ready);
+  shows = r.shows;
+  completed = r.completed;
+  flight = leaves_then (seen_kept t true false) (seen_kept (with_history t h) true false) (seen_kept d true false) (leaves_reading t h reads) (leaves_same (with_history t h) d can.used r.flying w);
+}
+
+pub dropped : (t m d : Kept) → CanDropLost t → IsOnlyRead t m → AreBare (IsReached m.pairs) None (directory_pairs m.pairs) → HasRecovered m d → Writes (blocks_of m.pairs) m d → HasDroppedLost t d
+dropped t m d can r bare done w =
+    let is = read_is t m r in
+    dropped_behind t m.history d can r.reads (subst (λ (ps : List Pair). AreBare (IsReached ps) None (directory_pairs ps)) r.pairs bare)
+    (subst (λ z. HasRecovered z d) is done) (subst (λ (z : Kept). Writes (blocks_of z.pairs) z d) is w)
+
+-- ---- a stop
+
+all_some : (events : List Event) → EachEvent (λ e. Unit {0}) events
+all_some [] = tt
+all_some (e ∷ older) = (tt, all_some older)
+
+some_since : (events old new : List Event) → new ≡ events ++ old → EachSince (λ e. Unit {0}) old new
+some_since events old new e = record { events = events; extends = e; each = all_some events }
+
+reading_survives : (t : Kept) (h : List Event) → IsAccepted t.disk t.pairs → IsWritable t.disk t.pairs → OnlyReads t.disk.blocks t.history h → Survives t.disk t.history h (tree_in t.disk t.pairs) (tree_in t.disk t.pairs)
+reading_survives t h ok fits reads clean = LeavesOnly-reads Stops-read reads (record { pairs = t.pairs; accepted = ok; writable = fits; tree = inl refl })
+
+pub read_survives : (t m : Kept) → CanDropLost t → IsOnlyRead t m → SurvivesTo t m (tree_in t.disk t.pairs)
+read_survives t m can r = reading_survives t m.history can.accepted can.writable r.reads
+
+pub drop_survives : (t m d : Kept) → CanDropLost t → IsOnlyRead t m → Writes (blocks_of m.pairs) m d → Survives m.disk m.history d.history (tree_in m.disk m.pairs) (tree_in m.disk m.pairs) → SurvivesTo t d (tree_in t.disk t.pairs)
+drop_survives t m d can r w k =
+    survives_then t.disk t.history m.history d.history (tree_in t.disk t.pairs) (tree_in t.disk t.pairs) r.reads w.at_worst (read_survives t m can r)
+    (subst₂ (λ (disk : Disk) (ps : List Pair). Survives disk m.history d.history (tree_in disk ps) (tree_in disk ps)) r.disk r.pairs k)
+
+-- behind the end of a set move
+pub end_survives : (a b : Kept) (h : List Event) → Writes (blocks_of a.pairs) a b → tree_in b.disk b.pairs ≡ tree_in a.disk a.pairs → (calls : List Event) → h ≡ calls ++ b.history
+    → Survives a.disk a.history b.history (tree_in a.disk a.pairs) (tree_in a.disk a.pairs) → Survives b.disk b.history h (tree_in b.disk b.pairs) (tree_in b.disk b.pairs)
+    → Survives a.disk a.history h (tree_in a.disk a.pairs) (tree_in a.disk a.pairs)
+end_survives a b h w shows calls called first second =
+    survives_then a.disk a.history b.history h (tree_in a.disk a.pairs) (tree_in a.disk a.pairs) w.at_worst (some_since calls b.history h called) first
+    (λ clean. LeavesOnly-weaker (λ left x. subst (λ z. IsLeft z (tree_in a.disk a.pairs) (tree_in a.disk a.pairs))
+    (ap₂ (λ (size page : ℕ). record { block_size = size; page = page; blocks = left }) w.shape.block_size w.shape.page)
+    (subst (λ z. IsLeft (with_blocks left b.disk) z z) shows x)) (second clean))
+
+-- ---- calls
+
+pub called_writing : (a b : Kept) (bs : List ℕ) → Writes bs a b → HasCalled a b
+called_writing a b bs w = record {
+  geometry = record { block_size = w.shape.block_size; page = w.shape.page; count = w.shape.count };
+  calls = w.at_worst.events;
+  called = w.at_worst.extends;
+}
+
+pub called_then : (a b c : Kept) → HasCalled a b → HasCalled b c → HasCalled a c
+called_then a b c f g = record {
+  geometry = record {
+    block_size = g.geometry.block_size ∙ f.geometry.block_size;
+    page = g.geometry.page ∙ f.geometry.page;
+    count = g.geometry.count ∙ f.geometry.count;
+  };
+  calls = g.calls ++ f.calls;
+  called = g.called ∙ ap (λ z. g.calls ++ z) f.called ∙ sym (append_assoc g.calls f.calls a.history);
+}
+
+-- ---- the whole
+
+pub can_end : (t : State) (root : ℕ) → IsRooted t root true → CanEndMove t.kept
+can_end t root r = record { accepted = r.sound.accepted; writable = r.sound.fits refl; used = r.sound.used; size = r.sound.size }
+
+pub can_drop_then : (a b : Kept) → HasEndedMove a b → CanDropLost b
+can_drop_then a b e = record { accepted = e.taken.follows.accepted; writable = e.taken.writable; used = e.used; size = e.size; none = e.none }
+
+pub recovered_whole : (t : State) (root : ℕ) (b c : Kept) → IsRooted t root true → (gstate_of t.kept.pairs ≡ no_gstate → ⊥) → HasEndedMove t.kept b → Writes (blocks_of t.kept.pairs) t.kept b → HasDroppedLost b c → HasCalled b c
+    → Carries t.kept ops.Recover c
+recovered_whole t root b c rooted left e w d called =
+    let a = t.kept in
+    let all = called_then a b c (called_writing a b (blocks_of a.pairs) w) called in
+    let completed : (files : Files) → IsCompleted b.disk b.pairs (record { tree = tree_in a.disk a.pairs; files = files }) ops.Recover c.disk c.pairs
+    = λ files. d.completed (record { tree = tree_in a.disk a.pairs; files = files }) (sym e.taken.follows.shows) in
+    record {
+      works = refl;
+      sound = record { accepted = d.ready.accepted; fits = λ z. d.ready.writable; is_kept = λ z. refl; used = d.ready.used; size = d.ready.size };
+      writable = refl;
+      geometry = all.geometry;
+      calls = all.calls;
+      called = all.called;
+      fits = d.ready.writable;
+      recovered = (completed []).recovered;
+      shows = λ around files. (completed files).tree around;
+      arranged = λ files.
+          let s : Session = record { tree = tree_in a.disk a.pairs; files = files } in
+          let k = completed files in
+          arranged_after a.disk c.disk c.disk a.pairs c.pairs c.pairs s ops.Recover all.geometry k.accepted k.recovered (e.leads_on s c.disk c.pairs k.laid_out) (recovered_stays c.disk c.pairs s k.accepted d.ready.writable d.ready.settled);
+      itself = λ z. absurd (cc);
+      nothing_left = λ z done. absurd (left done.gstate);
+      flight = leaves_then (seen_kept a true false) (seen_kept b true false) (seen_kept c true false) (leaves_same a b rooted.sound.used e.flying w) d.flight;
+    }
+
+-- ---- what it tells
+
+pub tells_reading : {X : Type 0} (t m : Kept) (r : Result X Error) (e : Error) → r ≡ Err e → HasTold t m r → TellsRecoverError t m e
+tells_reading {X} t m r e is told = record {
+  errors = go (subst (λ (z : Result X Error). IfErr z (λ f. (f ≡ Io) ⊎ (f ≡ NoMemory))) is told.errors);
+  fault = λ io. told.fault (is ∙ ap Err io);
+  no_fault = λ other. told.no_fault (λ io. other (same e Io (sym is ∙ io)));
+}
+  where
+    go : (e ≡ Io) ⊎ (e ≡ NoMemory) → (e ≡ Io) ⊎ ((e ≡ NoMemory) ⊎ (e ≡ Unsupported))
+    go (inl x) = inl x
+    go (inr x) = inr (inl x)
+
+    same : (e f : Error) → (let r : Result X Error = Err e in r) ≡ Err f → e ≡ f
+    same e f h = cc
+
+pub tells_steps : {X : Type 0} (t : Kept) (m d : State) (r : Result X Error) (e : Error) → faults m.kept.history ≡ faults t.history → r ≡ Err e → TellsOfSteps m d r → TellsRecoverError t d.kept e
+tells_steps {X} t m d r e quiet is told = record {
+  errors = go (subst (λ (z : Result X Error). IfErr z (λ f. (f ≡ Io) ⊎ (f ≡ NoMemory))) is told.errors);
+  fault = λ io. let k = told.fault (is ∙ ap Err io) in omega (arith, k, quiet);
+  no_fault = λ other. told.no_fault (λ io. other (same e Io (sym is ∙ io))) ∙ quiet;
+}
+  where
+    go : (e ≡ Io) ⊎ (e ≡ NoMemory) → (e ≡ Io) ⊎ ((e ≡ NoMemory) ⊎ (e ≡ Unsupported))
+    go (inl x) = inl x
+    go (inr x) = inr (inl x)
+
+    same : (e f : Error) → (let r : Result X Error = Err e in r) ≡ Err f → e ≡ f
+    same e f h = cc
+
+pub tells_then : (a b c : Kept) (e : Error) → faults b.history ≡ faults a.history → TellsRecoverError b c e → TellsRecoverError a c e
+tells_then a b c e quiet t = record { errors = t.errors; fault = λ io. let k = t.fault io in omega (arith, k, quiet); no_fault = λ other. t.no_fault other ∙ quiet }
+
+pub no_list_yet : (t m : Kept) → faults m.history ≡ faults t.history → TellsRecoverError t m Unsupported
+no_list_yet t m quiet = record { errors = inr (inr refl); fault = λ io. absurd (cc); no_fault = λ other. quiet }
+
+-- ---- behind it
+
+recovered_on : (a b : Kept) (h : List Event) → (gstate_of a.pairs ≡ no_gstate → ⊥) → OnlyReads b.disk.blocks b.history h → Carries a ops.Recover b → Carries a ops.Recover (with_history b h)
+recovered_on a b h left reads k = record {
+  works = k.works;
+  sound = record { accepted = k.sound.accepted; fits = k.sound.fits; is_kept = k.sound.is_kept; used = k.sound.used; size = k.sound.size };
+  writable = k.writable;
+  geometry = k.geometry;
+  calls = reads.events ++ k.calls;
+  called = reads.extends ∙ ap (λ z. reads.events ++ z) k.called ∙ sym (append_assoc reads.events k.calls a.history);
+  fits = k.fits;
+  recovered = k.recovered;
+  shows = k.shows;
+  arranged = k.arranged;
+  itself = λ e. absurd (cc);
+  nothing_left = λ e done. absurd (left done.gstate);
+  flight = record {
+    stay = k.flight.stay;
+    none_comes = k.flight.none_comes;
+    bytes = k.flight.bytes;
+    unprogrammed_still = λ i j f u. unprogrammed-reads i j reads ∙ k.flight.unprogrammed_still i j f u;
+  };
+}
+
+pub recovered_read : (a b c : Kept) → (gstate_of a.pairs ≡ no_gstate → ⊥) → IsOnlyRead b c → Carries a ops.Recover b → Carries a ops.Recover c
+recovered_read a b c left r k = subst (λ z. Carries a ops.Recover z) (sym (read_is b c r)) (recovered_on a b c.history left r.reads k)
+
+-- ---- where nothing is left to recover
+
+pub recovered_already : (t : Seen) → t.failed ≡ false → t.writable ≡ true → IsSound t → gstate_of t.pairs ≡ no_gstate → IsCarried t ops.Recover t
+recovered_already t works writable sound settled = record {
+  works = works;
+  sound = sound;
+  writable = writable;
+  geometry = record { block_size = refl; page = refl; count = refl };
+  calls = [];
+  called = refl;
+  fits = sound.fits writable;
+  recovered = recovered_from t.disk t.pairs sound.accepted settled;
+  shows = λ around files. refl;
+  arranged = λ files.
+      let s : Session = record { tree = tree_seen t; files = files } in
+      arranged_settled t.disk t.pairs s ops.Recover t.disk t.pairs sound.accepted (sound.fits writable) settled (recovered_stays t.disk t.pairs s sound.accepted (sound.fits writable) settled);
+  itself = λ e. absurd (cc);
+  nothing_left = λ e done. (refl, (refl, refl));
+  flight = record { stay = λ b f. f; none_comes = λ b f. f; bytes = λ b f. refl; unprogrammed_still = λ b k f u. u };
+}
+
+pub none_survives : (t : Seen) (after : Tree) → Survives t.disk t.history t.history (tree_seen t) after
+none_survives t after clean = record { events = []; extends = refl; each = tt }
+
+-- an error of the thread is one of what is seen
+pub recover_error : (t : Kept) (c : Kept) (e : Error) → (gstate_of t.pairs ≡ no_gstate → ⊥) → TellsRecoverError t c e → IsRecoverError (seen_kept t true false) (seen_kept c true true) e
+recover_error t c e left told = record { errors = go told.errors; fault = told.fault; no_fault = told.no_fault }
+  where
+    go : (e ≡ Io) ⊎ ((e ≡ NoMemory) ⊎ (e ≡ Unsupported)) → (e ≡ Io) ⊎ ((e ≡ NoMemory) ⊎ ((e ≡ Unsupported) × (gstate_of t.pairs ≡ no_gstate → ⊥)))
+    go (inl x) = inl x
+    go (inr (inl x)) = inr (inl x)
+    go (inr (inr x)) = inr (inr (x, left))
+
+-- a state in which nothing is set
+pub nothing_set : (g : Gstate) → is_no_gstate g ≡ true → g ≡ no_gstate
+nothing_set g z = go g.sync refl
+  where
+    go : (sync : Bool) → g.sync ≡ sync → g ≡ no_gstate
+    go true e = absurd (let s = (and_parts (not g.sync) _ z).0 in cc)
+    go false e =
+        let k = and_parts (not g.sync) _ z in
+        let i = and_parts (g.kind == 0) _ k.1 in
+        let p = and_parts (g.id == 0) _ i.1 in
+        let q = and_parts (g.pair.0 == 0) (g.pair.1 == 0) p.1 in
+        let kind = eqb-true g.kind 0 i.0 in
+        let id = eqb-true g.id 0 p.0 in
+        let pair : g.pair ≡ (0, 0) = ap₂ (λ x y. (x, y)) (eqb-true g.pair.0 0 q.0) (eqb-true g.pair.1 0 q.1) in
+        ap (λ s. record g { sync = s }) e ∙ ap (λ k. record g { sync = false; kind = k }) kind
+        ∙ ap₂ (λ i p. record { sync = false; kind = 0; id = i; pair = p }) id pair
+
+pub something_set : (g : Gstate) → is_no_gstate g ≡ false → g ≡ no_gstate → ⊥
+something_set g e is = let k = sym e ∙ ap is_no_gstate is in absurd (cc)
+
+-- what works is sound
+pub held_sound : {D : Type 0} (g : Ghosts D) (held : Image D) (root : ℕ) (writable failed : Bool) (now : Seen) → IsHeld held root writable failed → seen_image g held writable failed ≡ now → now.failed ≡ false → IsSound now
+held_sound g (image.Mounted thread) root writable failed now kept view works =
+    let s = (kept (ap (λ (s : Seen). s.failed) view ∙ works)).sound in
+    subst IsSound view (record { accepted = s.accepted; fits = s.fits; is_kept = s.is_kept; used = s.used; size = s.size })
+held_sound g (image.Unmounted device) root writable failed now kept view works = absurd (let z = sym kept ∙ ap (λ (s : Seen). s.failed) view ∙ works in cc)

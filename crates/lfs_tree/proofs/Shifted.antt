@@ -1,0 +1,179 @@
+-- An entry that gets another path: what is found for it, and what may be done.
+use Rattle.std.proofs.Common.{ℕ, ◌≡◌, ◌≤◌, ◌∙◌, ◌&&◌, ◌++◌, not, Bool, true, false, List, [], ◌∷◌, Option, Some, None, Result, refl, sym, ap, ap₂, subst}
+use Rattle.std.specs.Prelude.{is_some}
+use Rattle.std.specs.List.{list_all}
+use Rattle.std.proofs.lemmas.Bool.{ltb-false}
+use Rattle.lfs_device.specs.Bytes.{HasBytes}
+use Rattle.lfs_device.specs.declared.error.Error.{Error}
+use Rattle.lfs_model.specs.Apply.{is_beneath, is_directory, last_name, rest_after, same_path}
+use Rattle.lfs_model.specs.Disk.{entry_limit}
+use Rattle.lfs_model.specs.History.{Event, OnlyReads}
+use Rattle.lfs_model.specs.InDirectory.{Belongs, Stands}
+use Rattle.lfs_model.specs.Names.{Name, is_component, is_name}
+use Rattle.lfs_model.specs.Operations as ops
+use Rattle.lfs_model.specs.Slots.{charge_of}
+use Rattle.lfs_model.specs.Steps.{as_path, is_root}
+use Rattle.lfs_model.specs.Thread.{Pair, gstate_of, superblocks_before}
+use Rattle.lfs_model.specs.Tree.{Path}
+use Rattle.lfs_model.specs.View.{FitsEntry, Leads, tree_in}
+use Rattle.lfs_model.proofs.Paths.{last_is}
+use Rattle.lfs_thread.specs.Kept.{Kept, State}
+use Rattle.lfs_thread.specs.Steps.{IsOnlyRead}
+use Rattle.lfs_tree.specs.Allowed.{CanRename}
+use Rattle.lfs_tree.specs.Carrying.{Carries, IsAtRest}
+use Rattle.lfs_tree.specs.CarryingSlots.{HasEntry}
+use Rattle.lfs_tree.specs.Held.{seen_kept}
+use Rattle.lfs_tree.specs.Paths.{BeginsOnPath, LeadsTo, StandsOnPath}
+use Rattle.lfs_tree.specs.Shifting.{CanShift, CanShiftFound, CanShiftOnto, CanShiftTo, HasShifted, IsSource, IsSourceIn, IsTarget, TellsOfWork, WritesApart}
+use Rattle.lfs_tree.specs.declared.carrying_rename.Source.{Source}
+use Rattle.lfs_tree.specs.declared.entry.Contents.{Contents}
+use Rattle.lfs_tree.specs.declared.paths.Found.{Found}
+use Rattle.lfs_tree.specs.declared.paths.Found.TheVariants as found
+use Rattle.lfs_tree.specs.declared.search.Spot.{Spot}
+use Rattle.lfs_tree.proofs.AtPaths.{directory_at_path}
+use Rattle.lfs_tree.proofs.Carried.{carried, read_is, with_history}
+use Rattle.lfs_tree.proofs.CarryEdited.{attributes_are, can_edit, inline_fits}
+use Rattle.lfs_tree.proofs.CarryLogged.{logged_there}
+use Rattle.lfs_tree.proofs.CarryRooms.{last_is_name, room_for}
+use Rattle.lfs_tree.proofs.CarryTold.{IsTold}
+use Rattle.lfs_tree.proofs.Mounting.{sound_read}
+
+-- ---- what is found
+
+source_is : (ps : List Pair) (path above : Path) (name : Name) (parent : ℕ) (slot : Spot) (source : Source) → path ≡ above ++ name ∷ [] → StandsOnPath ps above name parent slot → source ≡ record { slot = slot; first = parent } → IsSource ps path source
+source_is ps path above name parent slot source e s h =
+    subst (IsSource ps path) (sym h) (record { slot = record { above = above; name = name; first = parent; is = e; stands = s }; first_is = refl })
+
+pub source_for : (t : Kept) (path : Path) (f : Found) (source : Source) → LeadsTo t path f → IsSourceIn f source → IsSource t.pairs path source
+source_for t path found.Root source l h = absurd h
+source_for t path found.ParentIsFile source l h = absurd h
+source_for t path found.ParentIsMissing source l h = absurd h
+source_for t path (found.Nothing parent place) source l h = absurd h
+source_for t path (found.Directory parent slot first) source l h = source_is t.pairs path l.there.above l.there.name parent slot source l.there.is l.there.there.0 h
+source_for t path (found.File parent slot contents) source l h = source_is t.pairs path l.there.above l.there.name parent slot source l.there.is l.there.there.0 h
+
+-- ---- what may be done
+
+pub entry_to_rename : (t : Kept) (from to : Path) → CanRename (seen_kept t true false) from to → HasEntry (tree_in t.disk t.pairs) from
+entry_to_rename t from to can = record { entry = can.entry; parents = can.parents; something = can.something }
+
+-- what isn't beneath it, and is another path, doesn't begin with it
+pub goes_elsewhere : (from to : Path) → is_beneath from to ≡ false → same_path from to ≡ false → rest_after from to ≡ None
+goes_elsewhere from to apart other = none (rest_after from to) (sym (ap (λ b. is_some (rest_after from to) && not b) other) ∙ apart)
+  where
+    none : (o : Option Path) → (is_some o && true) ≡ false → o ≡ None
+    none None e = refl
+    none (Some x) e = absurd (cc)
+
+-- a check on another path
+checked_apart : (same b : Bool) → same ≡ false → (not same && b) ≡ false → b ≡ false
+checked_apart true b e f = absurd (cc)
+checked_apart false b e f = f
+
+module _ (t : State) (root : ℕ) (rests : IsAtRest t root) (from to : Path) (components : list_all is_component to ≡ true) (large : 1024 ≤ t.kept.disk.block_size) (bytes : HasBytes t.kept.disk.blocks)
+    (can : CanRename (seen_kept t.kept true false) from to) (other : same_path from to ≡ false) (source : Source) (is : IsSource t.kept.pairs from source) (h : List Event) where
+  pub elsewhere : rest_after from to ≡ None
+  elsewhere = goes_elsewhere from to can.apart other
+
+  named : is_name (last_name to) ≡ true
+  named = last_is_name to (λ e. let k = sym can.target ∙ ap is_root e in absurd (cc)) components can.name
+
+  pub fits_there : FitsEntry t.kept.disk.block_size t.kept.disk.page (record is.slot.stands.stands.stands.slot { name = last_name to })
+  fits_there = record {
+    charge = subst (λ a. charge_of t.kept.disk.block_size (last_name to) a ≤ entry_limit t.kept.disk.block_size t.kept.disk.page) (attributes_are t root rests from large bytes source.slot is.slot h)
+        (ltb-false _ _ (checked_apart (same_path from to) _ other can.fits));
+    inline = inline_fits t root rests from large bytes source.slot is.slot h;
+  }
+
+  can_shift : (above : Path) (first : ℕ) (name : Name) → name ≡ last_name to → to ≡ above ++ name ∷ [] → BeginsOnPath t.kept.pairs above first → CanShift (with_history t.kept h) from to source name
+  unfolding can_edit
+  can_shift above first name same e on = record {
+    old = can_edit t root rests from large bytes source.slot is.slot h;
+    old_is = is.slot.is;
+    old_first = is.first_is;
+    above = above;
+    is = e;
+    first = first;
+    on = on;
+    not_beneath = elsewhere;
+    is_name = subst (λ n. is_name n ≡ true) (sym same) named;
+    fits = subst (λ n. FitsEntry t.kept.disk.block_size t.kept.disk.page (record is.slot.stands.stands.stands.slot { name = n })) (sym same) fits_there;
+    logged = λ at. logged_there t.kept.disk at bytes;
+    room = room_for t.kept 2 rests.held.sound can.room;
+  }
+
+  pub shift_to : (parent : ℕ) (place : Spot) (name : Name) → IsTarget t.kept to (found.Nothing parent place) name → CanShiftTo (with_history t.kept h) from to source place name
+  unfolding can_shift
+  shift_to parent place name target =
+      let there = target.leads.there in
+      let same : name ≡ there.name = target.named ∙ ap last_name there.is ∙ last_is there.above there.name in
+      record {
+        can = can_shift there.above parent name target.named (there.is ∙ ap (λ n. there.above ++ n ∷ []) (sym same)) there.there.on;
+        belongs = subst (λ n. Belongs t.kept.pairs parent n place.pair place.id) (sym same) there.there.belongs;
+      }
+
+  pub shift_onto : (parent : ℕ) (slot : Spot) (contents : Contents) (name : Name) → IsTarget t.kept to (found.File parent slot contents) name → CanShiftOnto (with_history t.kept h) from to source slot contents name
+  unfolding can_shift
+  shift_onto parent slot contents name target =
+      let there = target.leads.there in
+      let same : last_name to ≡ there.name = ap last_name there.is ∙ last_is there.above there.name in
+      subst (λ n. CanShiftOnto (with_history t.kept h) from to source slot contents n) (sym (target.named ∙ same))
+      (record { can = can_shift there.above parent there.name (sym same) there.is there.there.0.on; target = there.there.0.stands; shows = there.there.1 })
+
+  pub shift_found : is_directory (tree_in t.kept.disk t.kept.pairs to) ≡ false → (f : Found) (name : Name) → IsTarget t.kept to f name → CanShiftFound (with_history t.kept h) from to source f name
+  shift_found file found.Root name target = let k = sym can.target ∙ ap is_root target.leads.there in absurd (cc)
+  shift_found file found.ParentIsFile name target = let k = sym can.target_parents ∙ target.leads.parents in absurd (cc)
+  shift_found file found.ParentIsMissing name target = let k = sym can.target_parents ∙ target.leads.parents in absurd (cc)
+  shift_found file (found.Nothing parent place) name target = shift_to parent place name target
+  shift_found file (found.File parent slot contents) name target = shift_onto parent slot contents name target
+  shift_found file (found.Directory parent slot first) name target =
+      let there = target.leads.there in
+      let on = there.there.1 in
+      let d = directory_at_path t.kept.disk t.kept.pairs to on.at (subst (λ p. Leads t.kept.pairs p on.at) (sym there.is) on.leads) in
+      absurd (let k = sym file ∙ ap is_directory d.is in cc)
+
+-- ---- what comes of it
+
+module _ (t : State) (root : ℕ) (rests : IsAtRest t root) (from to : Path) (other : same_path from to ≡ false) (h : List Event) (c : Kept) (reads : OnlyReads t.kept.disk.blocks t.kept.history h) (w : WritesApart (with_history t.kept h) c) where
+  pub shifted_at : (given to_given : List ℕ) → HasShifted (with_history t.kept h) from to c → as_path given ≡ from → as_path to_given ≡ to → Carries t.kept (ops.Rename given to_given) c
+  shifted_at given to_given is e f = carried t.kept h (ops.Rename given to_given) c
+      (record {
+        accepted = rests.held.sound.accepted;
+        writable = rests.held.sound.fits refl;
+        settled = rests.settled;
+        reads = reads;
+        ready = is.ready;
+        stay = λ b flies. (is.flying b).1 flies;
+        none_comes = λ b flies. (is.flying b).0 flies;
+        completed = λ files. is.completed (record { tree = tree_in t.kept.disk t.kept.pairs; files = files }) given to_given refl e f;
+        blocks = w.blocks;
+        writes = w.writes;
+        apart = w.apart;
+      }) (ap₂ same_path e f ∙ other) refl
+
+pub rests_still : (t mid : State) (root : ℕ) → IsAtRest t root → IsOnlyRead t.kept mid.kept → mid.failed ≡ false → IsAtRest mid root
+rests_still t mid root rests only works = record {
+  held = record {
+    works = works;
+    sound = sound_read t.kept mid.kept true false false only rests.held.sound;
+    root_is = rests.held.root_is ∙ ap superblocks_before (sym only.pairs);
+  };
+  settled = ap gstate_of only.pairs ∙ rests.settled;
+}
+
+pub told_of_work : {X : Type 0} (old new : State) (result : Result X Error) → TellsOfWork old new result → IsTold old.kept.history new.kept.history result
+told_of_work old new result t = record { errors = t.errors; fault = t.fault; no_fault = t.no_fault }
+
+leads_back : (t : Kept) (h : List Event) (path : Path) (f : Found) → LeadsTo (with_history t h) path f → LeadsTo t path f
+leads_back t h path found.Root l = record { parents = l.parents; there = l.there }
+leads_back t h path found.ParentIsFile l = record { parents = l.parents; there = l.there }
+leads_back t h path found.ParentIsMissing l = record { parents = l.parents; there = l.there }
+leads_back t h path (found.Nothing parent place) l = record { parents = l.parents; there = l.there }
+leads_back t h path (found.Directory parent slot first) l = record { parents = l.parents; there = l.there }
+leads_back t h path (found.File parent slot contents) l = record { parents = l.parents; there = l.there }
+
+-- what is found behind calls that only read
+pub target_back : (a b : Kept) (path : Path) (f : Found) (name : Name) → IsOnlyRead a b → IsTarget b path f name → IsTarget a path f name
+target_back a b path f name only target =
+    let k = subst (λ z. IsTarget z path f name) (read_is a b only) target in
+    record { leads = leads_back a b.history path f k.leads; named = k.named }

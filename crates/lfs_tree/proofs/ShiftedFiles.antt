@@ -1,0 +1,215 @@
+-- An entry that takes the place of a file: what the operations on slots ask for, and what they come to.
+use Rattle.std.proofs.Common.{ℕ, ◌≡◌, ◌≢◌, ◌⊎◌, ◌<◌, ◌∙◌, ◌++◌, false, [], ◌∷◌, length, append-nil, Some, None, Result, Ok, Err, refl, sym, ap, ap₂, subst, arith}
+use Rattle.std.specs.Prelude.{IfErr, OnOk, is_err}
+use Rattle.lfs_device.specs.declared.error.Error.{Error}
+use Rattle.lfs_device.specs.declared.error.Error.TheVariants.{Io, NoMemory}
+use Rattle.lfs_files.specs.Settling.{IsReadBesideMap}
+use Rattle.lfs_files.specs.Standing.{TellsWork}
+use Rattle.lfs_model.specs.Apply.{renamed, rest_after}
+use Rattle.lfs_model.specs.InDirectory.{IsBehind, Stands}
+use Rattle.lfs_model.specs.Names.{Name}
+use Rattle.lfs_model.specs.Operations as ops
+use Rattle.lfs_model.specs.Slots.{Struct}
+use Rattle.lfs_model.specs.Tree.{Path, branch_of}
+use Rattle.lfs_model.specs.View.{tree_in}
+use Rattle.lfs_model.proofs.Committed.{IsCompleted}
+use Rattle.lfs_model.proofs.Paths.{rest_itself}
+use Rattle.lfs_operations.specs.Changing.{WritesIn}
+use Rattle.lfs_operations.specs.Dropping.{SameInFlight}
+use Rattle.lfs_operations.specs.Editing.{CanEdit}
+use Rattle.lfs_operations.specs.Moving.{CanReplaceAcross, IsReplacedAcross, WritesInTwo, left_at, with_moved}
+use Rattle.lfs_operations.specs.Ready.{IsReady}
+use Rattle.lfs_operations.specs.Renaming.{CanRenameOnto, IsRenamedOnto, with_renamed}
+use Rattle.lfs_thread.specs.Kept.{Kept, State}
+use Rattle.lfs_tree.specs.Carrying.{SurvivesTo}
+use Rattle.lfs_tree.specs.Entry.{ShowsContents}
+use Rattle.lfs_tree.specs.Shifting.{CanShift, CanShiftOnto, HasShifted, HasShiftedOnto, TellsOfWork, WritesApart}
+use Rattle.lfs_tree.specs.declared.carrying_rename.Source.{Source}
+use Rattle.lfs_tree.specs.declared.entry.Contents.{Contents}
+use Rattle.lfs_tree.specs.declared.entry.Contents.TheVariants as shown
+use Rattle.lfs_tree.specs.declared.search.Spot.{Spot}
+use Rattle.lfs_tree.proofs.Carried.{behind_below}
+use Rattle.lfs_tree.proofs.CarryCreated.{stay_in_flight}
+use Rattle.lfs_tree.proofs.CarryFreed.{can_free, shape_geometry, writes_then}
+use Rattle.lfs_tree.proofs.CarrySurvives.{survives_left}
+use Rattle.lfs_tree.proofs.SameDirectory.{same_above, same_first}
+use Rattle.lfs_tree.proofs.ShiftedSlots.{across_written, apart_across, file_beside, shows_at, survives_at, within_written}
+
+-- what stands there, seen in the directory of another number
+record IsFileAt (t : Kept) (first index id : ℕ) (name : Name) (contents : Contents) : Type 0 where
+  target : Stands t.pairs first name index id
+  shows : ShowsContents contents target.stands.slot.struct
+
+file_branch : (c : Contents) (s : Struct) → ShowsContents c s → branch_of s ≡ None
+file_branch (shown.Inline len) s h = ap branch_of h.1.0
+file_branch (shown.List head size) s h = ap branch_of h
+
+module _ (t : Kept) (from to : Path) (source : Source) (slot : Spot) (contents : Contents) (name : Name) (can : CanShiftOnto t from to source slot contents name) where
+  abbrev shift : CanShift t from to source name
+  shift = can.can
+
+  -- the file's slot, as one that may be edited
+  target_edit : CanEdit t slot.pair slot.id
+  target_edit = record {
+    ready = shift.old.ready;
+    path = shift.above;
+    at = shift.on.at;
+    leads = shift.on.leads;
+    first = shift.first;
+    begins = shift.on.begins;
+    name = name;
+    stands = can.target;
+    logged = shift.logged _;
+  }
+
+  one_place : source.slot.pair ≡ slot.pair → shift.first ≡ shift.old.first
+  one_place e = same_first t.disk t.pairs shift.above shift.old.path shift.on.at shift.old.at shift.first shift.old.first slot.pair can.target.pair shift.old.stands.pair can.target.rest shift.old.stands.rest
+      shift.old.ready.accepted shift.on.leads shift.on.begins shift.old.leads shift.old.begins can.target.place
+      (subst (λ i. IsBehind t.pairs shift.old.first i shift.old.stands.pair shift.old.stands.rest) e shift.old.stands.place)
+
+  one_above : source.slot.pair ≡ slot.pair → shift.above ≡ shift.old.path
+  one_above e = same_above t.disk t.pairs shift.above shift.old.path shift.on.at shift.old.at shift.first shift.old.first shift.old.ready.accepted shift.on.leads shift.on.begins shift.old.leads shift.old.begins (one_place e)
+
+  target_path : source.slot.pair ≡ slot.pair → to ≡ shift.old.path ++ name ∷ []
+  target_path e = shift.is ∙ ap (λ p. p ++ name ∷ []) (one_above e)
+
+  file_here : source.slot.pair ≡ slot.pair → IsFileAt t shift.old.first source.slot.pair slot.id name contents
+  file_here e =
+      subst (λ i. IsFileAt t shift.old.first i slot.id name contents) (sym e)
+      (subst (λ f. IsFileAt t f slot.pair slot.id name contents) (one_place e) (record { target = can.target; shows = can.shows }))
+
+  other_name : source.slot.pair ≡ slot.pair → name ≢ shift.old.name
+  other_name e same =
+      let k : rest_after from from ≡ None = subst (λ p. rest_after from p ≡ None) (target_path e ∙ ap (λ n. shift.old.path ++ n ∷ []) same ∙ sym shift.old_is) shift.not_beneath in
+      let l : rest_after from from ≡ Some [] = ap (rest_after from) (sym (append-nil from)) ∙ rest_itself from [] in
+      absurd (let z = sym k ∙ l in cc)
+
+  pub replace_within : source.slot.pair ≡ slot.pair → CanRenameOnto t source.slot.pair source.slot.id slot.id name
+  replace_within e =
+      let there = file_here e in
+      record {
+        can = shift.old;
+        target = there.target;
+        file = file_branch contents there.target.stands.slot.struct there.shows;
+        differs = other_name e;
+        fits = shift.fits;
+      }
+
+  within_edit : source.slot.pair ≡ slot.pair → CanEdit t source.slot.pair slot.id
+  within_edit e = record {
+    ready = shift.old.ready;
+    path = shift.old.path;
+    at = shift.old.at;
+    leads = shift.old.leads;
+    first = shift.old.first;
+    begins = shift.old.begins;
+    name = name;
+    stands = (file_here e).target;
+    logged = shift.logged _;
+  }
+
+  pub onto_survives_within : (new : Kept) → source.slot.pair ≡ slot.pair → ((rename : CanRenameOnto t source.slot.pair source.slot.id slot.id name) → SurvivesTo t new (with_renamed t rename.can.path rename.can.name name)) → SurvivesTo t new (renamed from to (tree_in t.disk t.pairs))
+  unfolding replace_within
+  onto_survives_within new e gives = survives_at t new from to _ _ shift.old_is (target_path e) (gives (replace_within e))
+
+  pub onto_within : (new : Kept) → source.slot.pair ≡ slot.pair → WritesIn t source.slot.pair new
+      → ((rename : CanRenameOnto t source.slot.pair source.slot.id slot.id name) → IsRenamedOnto t new rename.can.path rename.can.name name rename.target.stands.slot.struct) → HasShiftedOnto t from to contents new
+  unfolding replace_within within_edit
+  onto_within new e w gives =
+      let there = file_here e in
+      let edit = within_edit e in
+      let is : IsRenamedOnto t new shift.old.path shift.old.name name there.target.stands.slot.struct = gives (replace_within e) in
+      record {
+        free = can_free t new source.slot.pair slot.id edit contents there.shows (shape_geometry t new w.writes.shape)
+            (file_beside t new source.slot.pair slot.id edit _ w.writes (within_written t from to source name new shift w)) is.now.ready is.once;
+        shows = shows_at t new from to _ _ shift.old_is (target_path e) is.now.shows;
+        flying = λ b. (is.now.none_comes b, stay_in_flight t.map new.map is.now.stays b);
+        completed = λ s given to_given tree f k. is.completed s given to_given tree (f ∙ shift.old_is) (k ∙ target_path e);
+      }
+
+  -- ---- in another pair
+
+  pub replace_apart : source.slot.pair ≢ slot.pair → CanReplaceAcross t source.slot.pair source.slot.id source.first slot.pair slot.id name
+  replace_apart ne = record {
+    old = shift.old;
+    begins_old = shift.old_first;
+    path = shift.above;
+    at = shift.on.at;
+    leads = shift.on.leads;
+    to_first = shift.first;
+    begins = shift.on.begins;
+    target = can.target;
+    file = file_branch contents can.target.stands.slot.struct can.shows;
+    logged = shift.logged _;
+    apart = ne;
+    not_beneath = ap₂ rest_after (sym shift.old_is) (sym shift.is) ∙ shift.not_beneath;
+    fits = shift.fits;
+  }
+
+  pub onto_survives_apart : (new : Kept) → source.slot.pair ≢ slot.pair → ((rename : CanReplaceAcross t source.slot.pair source.slot.id source.first slot.pair slot.id name) → SurvivesTo t new (with_moved t rename.old.path rename.old.name rename.path name))
+      → SurvivesTo t new (renamed from to (tree_in t.disk t.pairs))
+  unfolding replace_apart
+  onto_survives_apart new ne gives = survives_at t new from to _ _ shift.old_is shift.is (gives (replace_apart ne))
+
+  below_target : slot.pair < length t.pairs
+  below_target = behind_below t.pairs shift.first slot.pair can.target.pair can.target.rest can.target.place
+
+  pub onto_apart : (new : Kept) → source.slot.pair ≢ slot.pair → WritesInTwo t (left_at t source.slot.pair source.first) slot.pair new
+      → ((rename : CanReplaceAcross t source.slot.pair source.slot.id source.first slot.pair slot.id name) → IsReplacedAcross t new rename.old.path rename.old.name rename.path name rename.target.stands.slot.struct) → HasShiftedOnto t from to contents new
+  unfolding replace_apart target_edit
+  onto_apart new ne w gives =
+      let is : IsReplacedAcross t new shift.old.path shift.old.name shift.above name can.target.stands.slot.struct = gives (replace_apart ne) in
+      record {
+        free = can_free t new slot.pair slot.id target_edit contents can.shows (shape_geometry t new w.writes.shape)
+            (file_beside t new slot.pair slot.id target_edit _ w.writes (across_written t from to source name slot.pair new shift below_target w)) is.now.ready is.once;
+        shows = shows_at t new from to _ _ shift.old_is shift.is is.now.shows;
+        flying = is.now.flying;
+        completed = λ s given to_given tree f k. is.completed s given to_given tree (f ∙ shift.old_is) (k ∙ shift.is);
+      }
+
+  pub onto_writes_apart : (new : Kept) → WritesInTwo t (left_at t source.slot.pair source.first) slot.pair new → WritesApart t new
+  onto_writes_apart new w = apart_across t from to source name slot.pair new shift below_target w
+
+-- ---- the file's list is freed behind it
+
+pub onto_done : (t mid new : Kept) (from to : Path) (contents : Contents) → HasShiftedOnto t from to contents mid → IsReadBesideMap mid new → IsReady new → SameInFlight mid.map new.map → HasShifted t from to new
+onto_done t mid new from to contents is only ready flying = record {
+  ready = ready;
+  flying = λ b. ((λ h. (is.flying b).0 ((flying b).0 h)), (λ h. (flying b).1 ((is.flying b).1 h)));
+  completed = λ s given to_given tree f k.
+      subst (λ ps. IsCompleted t.disk t.pairs s (ops.Rename given to_given) new.disk ps) (sym only.pairs)
+      (subst (λ disk. IsCompleted t.disk t.pairs s (ops.Rename given to_given) disk mid.pairs) (sym only.disk) (is.completed s given to_given tree f k));
+}
+
+pub apart_then : (t mid new : Kept) → WritesApart t mid → IsReadBesideMap mid new → WritesApart t new
+apart_then t mid new w only = record { blocks = w.blocks; writes = writes_then t mid new w.blocks w.writes only; apart = w.apart }
+
+pub told_then : {X Y : Type 0} (old mid new : State) (x : X) (result : Result X Error) (given : Result Y Error) → result ≡ Ok x → TellsOfWork old mid result → new.failed ≡ is_err given → TellsWork mid.kept new.kept given → TellsOfWork old new given
+told_then {X} {Y} old mid new x result given is t failed w =
+    let same = t.no_fault (λ io. let z = sym is ∙ io in absurd (cc)) in
+    record {
+      works = works given failed;
+      errors = w.errors;
+      fault = λ io. let k = w.fault io in omega (arith, k, same);
+      no_fault = λ other. w.no_fault other ∙ same;
+    }
+  where
+    works : (r : Result Y Error) → new.failed ≡ is_err r → OnOk r (new.failed ≡ false)
+    works (Ok y) e = e
+    works (Err e) f = tt
+
+pub told_of : {X Y : Type 0} (old new : State) (e : Error) (result : Result X Error) (given : Result Y Error) → result ≡ Err e → given ≡ Err e → TellsOfWork old new result → TellsOfWork old new given
+told_of {X} {Y} old new e result given is same t = record {
+  works = subst (λ (r : Result Y Error). OnOk r (new.failed ≡ false)) (sym same) tt;
+  errors = subst (λ (r : Result Y Error). IfErr r (λ x. (x ≡ Io) ⊎ (x ≡ NoMemory))) (sym same) (subst (λ (r : Result X Error). IfErr r (λ x. (x ≡ Io) ⊎ (x ≡ NoMemory))) is t.errors);
+  fault = λ io. t.fault (is ∙ ap Err (error_is e Io given same io));
+  no_fault = λ other. t.no_fault (λ io. other (same ∙ ap Err (error_is e Io result is io)));
+}
+  where
+    error_is : {Z : Type 0} (a b : Error) (r : Result Z Error) → r ≡ Err a → r ≡ Err b → a ≡ b
+    error_is a b r h k = cc
+
+pub onto_survives : (t mid new : Kept) (from to : Path) (contents : Contents) → WritesApart t mid → HasShiftedOnto t from to contents mid → IsReadBesideMap mid new → SurvivesTo t mid (renamed from to (tree_in t.disk t.pairs))
+    → SurvivesTo t new (renamed from to (tree_in t.disk t.pairs))
+onto_survives t mid new from to contents w is only k =
+    survives_left t mid new.history (renamed from to (tree_in t.disk t.pairs)) (shape_geometry t mid w.writes.shape) w.writes.at_worst is.free.ready.accepted is.free.ready.writable is.shows only.reads k

@@ -1,0 +1,243 @@
+-- An entry that gets another path: what the operations on slots ask for, and what they come to.
+use Rattle.std.proofs.Common.{ℕ, ◌≡◌, ◌≢◌, ◌⊎◌, inl, inr, ◌<◌, ◌≤◌, ◌∙◌, ◌++◌, Bool, true, false, List, [], ◌∷◌, length, append-nil, Some, None, Result, Ok, Err, refl, sym, ap, ap₂, subst, arith}
+use Rattle.std.specs.Prelude.{IfErr, OnOk, slice_get}
+use Rattle.std.specs.List.{AllByRecursion}
+use Rattle.std.proofs.lemmas.List.Elements.{All-from_recursion}
+use Rattle.std.proofs.lemmas.Option.{same_Some}
+use Rattle.lfs_device.specs.declared.error.Error.{Error}
+use Rattle.lfs_device.specs.declared.error.Error.TheVariants.{Io, NoMemory, NoSpace}
+use Rattle.lfs_model.specs.Apply.{renamed, rest_after}
+use Rattle.lfs_model.specs.BlockSets.{IsFree, IsInFlight, IsUsed}
+use Rattle.lfs_model.specs.BlockSets.BlockState.{Free, Used}
+use Rattle.lfs_model.specs.Changes.{Change}
+use Rattle.lfs_model.specs.Disk.{block_at}
+use Rattle.lfs_model.specs.InDirectory.{Belongs, IsBehind, Stands}
+use Rattle.lfs_model.specs.Names.{Name}
+use Rattle.lfs_model.specs.Slots.{Slot, Struct}
+use Rattle.lfs_model.specs.Thread.{blocks_of}
+use Rattle.lfs_model.specs.Tree.{Path, branch_of}
+use Rattle.lfs_model.specs.View.{all_slots, file_blocks, tree_in, used_blocks}
+use Rattle.lfs_model.proofs.BlockSets.{Contains-count, count-Contains}
+use Rattle.lfs_model.proofs.Counts.{Each, count, count_append, each_from_counted, each_weaker}
+use Rattle.lfs_model.proofs.Files.{HasSameFile}
+use Rattle.lfs_model.proofs.Paths.{rest_itself}
+use Rattle.lfs_model.proofs.Splices.{files_of}
+use Rattle.lfs_operations.specs.Changing.{HasTwoFree, WritesIn, has_failed}
+use Rattle.lfs_operations.specs.Editing.{CanEdit, slot_at}
+use Rattle.lfs_operations.specs.Making.{HasRoomFor}
+use Rattle.lfs_operations.specs.Moving.{CanRenameAcross, CanReplaceAcross, IsRenamedAcross, IsReplacedAcross, TellsInSteps, WritesInTwo, end_at, left_at, with_moved}
+use Rattle.lfs_operations.specs.Ready.{IsReady, IsReadyBut}
+use Rattle.lfs_operations.specs.Removing.{goes_whole}
+use Rattle.lfs_operations.specs.Renaming.{CanRename, CanRenameOnto, IsRenamed, IsRenamedOnto, TellsMove, with_renamed}
+use Rattle.lfs_thread.specs.Kept.{Kept, State}
+use Rattle.lfs_thread.specs.Steps.{Writes, pair_in}
+use Rattle.lfs_tree.specs.Carrying.{SurvivesTo}
+use Rattle.lfs_tree.specs.Entry.{ShowsContents}
+use Rattle.lfs_tree.specs.Shifting.{CanShift, CanShiftOnto, CanShiftTo, HasShifted, HasShiftedOnto, TellsOfWork, WritesApart}
+use Rattle.lfs_tree.specs.declared.carrying_rename.Source.{Source}
+use Rattle.lfs_tree.specs.declared.entry.Contents.{Contents}
+use Rattle.lfs_tree.specs.declared.entry.Contents.TheVariants as shown
+use Rattle.lfs_tree.specs.declared.search.Spot.{Spot}
+use Rattle.lfs_tree.proofs.Carried.{apart_in, apart_up_to, behind_below, pair_blocks}
+use Rattle.lfs_tree.proofs.CarryCreated.{stay_in_flight}
+use Rattle.lfs_tree.proofs.CarryFreed.{among_files, apart_from_pairs, can_free, each_here, shape_geometry}
+use Rattle.lfs_tree.proofs.CarryRooms.{no_room}
+use Rattle.lfs_tree.proofs.SameDirectory.{same_above, same_first}
+
+-- ---- what is told
+
+pub if_done : {X P Q : Type 0} (r : Result X Error) → OnOk r P → (P → Q) → OnOk r Q
+if_done (Ok x) h f = f h
+if_done (Err e) h f = tt
+
+-- there was room, so NoSpace doesn't come
+told_errors : {X : Type 0} (old : Kept) (r : Result X Error) → HasRoomFor 2 old.map → ((r ≡ Err NoSpace) → (HasTwoFree old.map → ⊥)) → IfErr r (λ e. (e ≡ Io) ⊎ ((e ≡ NoMemory) ⊎ (e ≡ NoSpace))) → IfErr r (λ e. (e ≡ Io) ⊎ (e ≡ NoMemory))
+told_errors old (Ok x) room none h = tt
+told_errors old (Err e) room none (inl io) = inl io
+told_errors old (Err e) room none (inr (inl memory)) = inr memory
+told_errors old (Err e) room none (inr (inr space)) = absurd (no_room old.map room (none (ap Err space)))
+
+works_on : {X : Type 0} (new : State) (P : Type 0) (r : Result X Error) → (new.failed ≡ has_failed r) ⊎ ((new.failed ≡ false) × P) → OnOk r (new.failed ≡ false)
+works_on new P (Ok x) (inl h) = h
+works_on new P (Ok x) (inr h) = h.0
+works_on new P (Err e) h = tt
+
+pub told_within : {X : Type 0} (old new : State) (index : ℕ) (changes : List Change) (r : Result X Error) → HasRoomFor 2 old.kept.map → TellsMove old new index changes r → TellsOfWork old new r
+told_within old new index changes r room t = record {
+  works = works_on new _ r t.failed;
+  errors = told_errors old.kept r room t.tells.no_space t.tells.errors;
+  fault = t.tells.fault;
+  no_fault = t.tells.no_fault;
+}
+
+pub told_across : {X : Type 0} (old new : State) (index : ℕ) (changes : List Change) (r : Result X Error) → HasRoomFor 2 old.kept.map → TellsInSteps old new index changes r → TellsOfWork old new r
+told_across old new index changes r room t = record {
+  works = works_on new _ r t.failed;
+  errors = told_errors old.kept r room t.no_space t.errors;
+  fault = t.fault;
+  no_fault = t.no_fault;
+}
+
+-- ---- which blocks are written
+
+pub apart_within : (t : Kept) (from to : Path) (source : Source) (name : Name) (new : Kept) → CanShift t from to source name → WritesIn t source.slot.pair new → WritesApart t new
+apart_within t from to source name new can w = record {
+  blocks = _;
+  writes = w.writes;
+  apart = apart_in t source.slot.pair w.fresh (behind_below t.pairs can.old.first source.slot.pair can.old.stands.pair can.old.stands.rest can.old.stands.place) can.old.ready.used w.free;
+}
+
+-- a pair's two blocks
+in_pair : (t : Kept) (index : ℕ) → index < length t.pairs → (1 ≤ count (pair_in t index).at.0 (blocks_of t.pairs)) × (1 ≤ count (pair_in t index).at.1 (blocks_of t.pairs))
+in_pair t index below =
+    let k = pair_blocks t.pairs index below in (count-Contains (blocks_of t.pairs) (pair_in t index).at.0 k.0, count-Contains (blocks_of t.pairs) (pair_in t index).at.1 k.1)
+
+-- a pair's, or free
+abbrev pub IsBeside : Kept → ℕ → Type 0
+IsBeside t c = (1 ≤ count c (blocks_of t.pairs)) ⊎ IsFree t.map c
+
+all_free : (t : Kept) (fresh : List ℕ) → AllByRecursion (IsFree t.map) fresh → Each (IsBeside t) fresh
+all_free t fresh h = each_weaker (IsFree t.map) (IsBeside t) (λ c f. inr f) fresh h
+
+source_below : (t : Kept) (from to : Path) (source : Source) (name : Name) → CanShift t from to source name → source.slot.pair < length t.pairs
+source_below t from to source name can = behind_below t.pairs can.old.first source.slot.pair can.old.stands.pair can.old.stands.rest can.old.stands.place
+
+pub within_written : (t : Kept) (from to : Path) (source : Source) (name : Name) (new : Kept) → CanShift t from to source name → (w : WritesIn t source.slot.pair new)
+    → Each (IsBeside t) ((pair_in t source.slot.pair).at.0 ∷ (pair_in t source.slot.pair).at.1 ∷ w.fresh)
+within_written t from to source name new can w = let k = in_pair t source.slot.pair (source_below t from to source name can) in (inl k.0, (inl k.1, all_free t w.fresh w.free))
+
+-- the pair that the second step writes
+left_below : (t : Kept) (index first : ℕ) → index < length t.pairs → left_at t index first < length t.pairs
+left_below t index first below = go (goes_whole t index first)
+  where
+    go : (b : Bool) → end_at index b < length t.pairs
+    go true = omega arith
+    go false = below
+
+pub across_written : (t : Kept) (from to : Path) (source : Source) (name : Name) (other : ℕ) (new : Kept) → CanShift t from to source name → other < length t.pairs → (w : WritesInTwo t (left_at t source.slot.pair source.first) other new)
+    → (let one = left_at t source.slot.pair source.first in Each (IsBeside t) ((pair_in t other).at.0 ∷ (pair_in t other).at.1 ∷ (pair_in t one).at.0 ∷ (pair_in t one).at.1 ∷ w.fresh))
+across_written t from to source name other new can below w =
+    let k = in_pair t other below in
+    let l = in_pair t (left_at t source.slot.pair source.first) (left_below t source.slot.pair source.first (source_below t from to source name can)) in
+    (inl k.0, (inl k.1, (inl l.0, (inl l.1, all_free t w.fresh w.free))))
+
+pub apart_across : (t : Kept) (from to : Path) (source : Source) (name : Name) (other : ℕ) (new : Kept) → CanShift t from to source name → other < length t.pairs → WritesInTwo t (left_at t source.slot.pair source.first) other new → WritesApart t new
+apart_across t from to source name other new can below w = record {
+  blocks = _;
+  writes = w.writes;
+  apart = apart_up_to t other (left_at t source.slot.pair source.first) w.fresh below (left_below t source.slot.pair source.first (source_below t from to source name can)) can.old.ready.used w.free;
+}
+
+-- none of them is a file's
+file_used : (t : Kept) (index id : ℕ) (can : CanEdit t index id) (b : ℕ) → 1 ≤ count b (file_blocks t.disk (slot_at can).struct) → IsUsed t.map b
+file_used t index id can b some =
+    let l = each_here (λ (s : Slot). count b (file_blocks t.disk s.struct) ≤ count b (files_of t.disk (all_slots t.pairs))) t index id can (among_files b t.disk (all_slots t.pairs)) in
+    let e = count_append b (blocks_of t.pairs) (files_of t.disk (all_slots t.pairs)) in
+    (can.ready.used b).1 (Contains-count (used_blocks t.disk t.pairs) b (omega (arith, l, e, some)))
+
+pub file_beside : (t new : Kept) (index id : ℕ) (can : CanEdit t index id) (bs : List ℕ) → Writes bs t new → Each (IsBeside t) bs → HasSameFile t.disk new.disk (slot_at can).struct
+file_beside t new index id can bs w beside = each_from_counted (λ b. block_at new.disk b ≡ block_at t.disk b) (file_blocks t.disk (slot_at can).struct)
+    (λ b some. w.others.others b (All-from_recursion (λ c. c ≢ b) bs (each_weaker (IsBeside t) (λ c. c ≢ b) (other b some) bs beside)))
+  where
+    other : (b : ℕ) → 1 ≤ count b (file_blocks t.disk (slot_at can).struct) → (c : ℕ) → IsBeside t c → c ≢ b
+    other b some c (inl has) e = let k = ap (λ z. count z (blocks_of t.pairs)) e in let n = apart_from_pairs t index id can b some in absurd (omega (arith, k, n, has))
+    other b some c (inr free) e = let k : Used ≡ Free = same_Some Used Free (sym (file_used t index id can b some) ∙ ap (slice_get t.map) (sym e) ∙ free) in absurd (cc)
+
+-- nothing is gone
+none_gone : (t : Kept) → IsReadyBut t [] [] → IsReady t
+none_gone t r = record {
+  accepted = r.accepted;
+  writable = r.writable;
+  settled = r.settled;
+  used = λ b. (
+    (λ h. Contains-count (used_blocks t.disk t.pairs) b (let k = count-Contains r.used.owned b ((r.used.are b).0 h) in let e = r.used.same b in omega (arith, k, e))),
+    (λ h. (r.used.are b).1 (Contains-count r.used.owned b (let k = count-Contains (used_blocks t.disk t.pairs) b h in let e = r.used.same b in omega (arith, k, e)))),
+  );
+  size = r.size;
+  large = r.large;
+}
+
+-- ---- paths
+
+pub survives_at : (t new : Kept) (from to p q : Path) → from ≡ p → to ≡ q → SurvivesTo t new (renamed p q (tree_in t.disk t.pairs)) → SurvivesTo t new (renamed from to (tree_in t.disk t.pairs))
+survives_at t new from to p q e f k =
+    subst (λ z. SurvivesTo t new (renamed z to (tree_in t.disk t.pairs))) (sym e) (subst (λ z. SurvivesTo t new (renamed p z (tree_in t.disk t.pairs))) (sym f) k)
+
+pub shows_at : (t new : Kept) (from to p q : Path) → from ≡ p → to ≡ q → tree_in new.disk new.pairs ≡ renamed p q (tree_in t.disk t.pairs) → tree_in new.disk new.pairs ≡ renamed from to (tree_in t.disk t.pairs)
+shows_at t new from to p q e f k = k ∙ ap₂ (λ a b. renamed a b (tree_in t.disk t.pairs)) (sym e) (sym f)
+
+-- ---- a name that isn't there
+
+module _ (t : Kept) (from to : Path) (source : Source) (place : Spot) (name : Name) (can : CanShiftTo t from to source place name) where
+  abbrev shift : CanShift t from to source name
+  shift = can.can
+
+  one_directory : source.slot.pair ≡ place.pair → shift.first ≡ shift.old.first
+  one_directory e = same_first t.disk t.pairs shift.above shift.old.path shift.on.at shift.old.at shift.first shift.old.first place.pair can.belongs.pair shift.old.stands.pair _ shift.old.stands.rest
+      shift.old.ready.accepted shift.on.leads shift.on.begins shift.old.leads shift.old.begins can.belongs.place
+      (subst (λ i. IsBehind t.pairs shift.old.first i shift.old.stands.pair shift.old.stands.rest) e shift.old.stands.place)
+
+  pub rename_within : source.slot.pair ≡ place.pair → CanRename t source.slot.pair source.slot.id place.id name
+  rename_within e = record {
+    can = shift.old;
+    belongs = subst (λ i. Belongs t.pairs shift.old.first name i place.id) (sym e) (subst (λ f. Belongs t.pairs f name place.pair place.id) (one_directory e) can.belongs);
+    is_name = shift.is_name;
+    fits = shift.fits;
+  }
+
+  path_is : source.slot.pair ≡ place.pair → to ≡ shift.old.path ++ name ∷ []
+  path_is e = shift.is ∙ ap (λ p. p ++ name ∷ [])
+      (same_above t.disk t.pairs shift.above shift.old.path shift.on.at shift.old.at shift.first shift.old.first shift.old.ready.accepted shift.on.leads shift.on.begins shift.old.leads shift.old.begins (one_directory e))
+
+  pub survives_within : (new : Kept) → source.slot.pair ≡ place.pair → ((rename : CanRename t source.slot.pair source.slot.id place.id name) → SurvivesTo t new (with_renamed t rename.can.path rename.can.name name)) → SurvivesTo t new (renamed from to (tree_in t.disk t.pairs))
+  unfolding rename_within
+  survives_within new e gives = survives_at t new from to _ _ shift.old_is (path_is e) (gives (rename_within e))
+
+  pub shifted_within : (new : Kept) → source.slot.pair ≡ place.pair → ((rename : CanRename t source.slot.pair source.slot.id place.id name) → IsRenamed t new rename.can.path rename.can.name name) → HasShifted t from to new
+  unfolding rename_within
+  shifted_within new e gives =
+      let is : IsRenamed t new shift.old.path shift.old.name name = gives (rename_within e) in
+      record {
+        ready = is.now.ready;
+        flying = λ b. (is.now.none_comes b, stay_in_flight t.map new.map is.now.stays b);
+        completed = λ s given to_given tree f k. is.completed s given to_given tree (f ∙ shift.old_is) (k ∙ path_is e);
+      }
+
+  -- ---- in another pair
+
+  pub rename_apart : source.slot.pair ≢ place.pair → CanRenameAcross t source.slot.pair source.slot.id source.first place.pair place.id name
+  rename_apart ne = record {
+    old = shift.old;
+    begins_old = shift.old_first;
+    path = shift.above;
+    at = shift.on.at;
+    leads = shift.on.leads;
+    to_first = shift.first;
+    begins = shift.on.begins;
+    belongs = can.belongs;
+    logged = shift.logged _;
+    apart = ne;
+    not_beneath = ap₂ rest_after (sym shift.old_is) (sym shift.is) ∙ shift.not_beneath;
+    is_name = shift.is_name;
+    fits = shift.fits;
+  }
+
+  pub survives_apart : (new : Kept) → source.slot.pair ≢ place.pair → ((rename : CanRenameAcross t source.slot.pair source.slot.id source.first place.pair place.id name) → SurvivesTo t new (with_moved t rename.old.path rename.old.name rename.path name))
+      → SurvivesTo t new (renamed from to (tree_in t.disk t.pairs))
+  unfolding rename_apart
+  survives_apart new ne gives = survives_at t new from to _ _ shift.old_is shift.is (gives (rename_apart ne))
+
+  pub shifted_apart : (new : Kept) → source.slot.pair ≢ place.pair → ((rename : CanRenameAcross t source.slot.pair source.slot.id source.first place.pair place.id name) → IsRenamedAcross t new rename.old.path rename.old.name rename.path name)
+      → HasShifted t from to new
+  unfolding rename_apart
+  shifted_apart new ne gives =
+      let is : IsRenamedAcross t new shift.old.path shift.old.name shift.above name = gives (rename_apart ne) in
+      record {
+        ready = none_gone new is.now.ready;
+        flying = is.now.flying;
+        completed = λ s given to_given tree f k. is.completed s given to_given tree (f ∙ shift.old_is) (k ∙ shift.is);
+      }
+
+  pub writes_apart : (new : Kept) → WritesInTwo t (left_at t source.slot.pair source.first) place.pair new → WritesApart t new
+  writes_apart new w = apart_across t from to source name place.pair new shift
+      (behind_below t.pairs shift.first place.pair can.belongs.pair _ can.belongs.place) w

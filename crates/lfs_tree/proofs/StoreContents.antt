@@ -1,0 +1,200 @@
+-- Contents of a writer that are ended and committed, behind one another.
+use Rattle.std.proofs.Common.{ℕ, ◌≡◌, ◌≤◌, ◌+◌, ◌∙◌, Bool, true, false, List, [], ◌∷◌, ◌++◌, length, Result, Ok, Err, refl, sym, ap, subst, arith, append_assoc}
+use Rattle.std.specs.Prelude.{IfErr, OnOk}
+use Rattle.lfs_device.specs.declared.error.Error.{Error}
+use Rattle.lfs_model.specs.Apply.{change_at}
+use Rattle.lfs_model.specs.Blocks.{Blocks}
+use Rattle.lfs_model.specs.BlockSets.{used_count}
+use Rattle.lfs_model.specs.Disk.{Disk, block_count, inline_limit}
+use Rattle.lfs_model.specs.History.{EachEvent, EachSince, Event, OnlyReads, faults}
+use Rattle.lfs_model.specs.Layout.{IsLaidOut}
+use Rattle.lfs_model.specs.Operations as ops
+use Rattle.lfs_model.specs.Operations.{Operation}
+use Rattle.lfs_model.specs.PowerLoss.{IsLeft, Survives, with_blocks}
+use Rattle.lfs_model.specs.Session.{Session, ctz_blocks}
+use Rattle.lfs_model.specs.Steps.{with_bytes}
+use Rattle.lfs_model.specs.Thread.{Pair, gstate_of}
+use Rattle.lfs_model.specs.Tree.{Path, Tree}
+use Rattle.lfs_model.specs.View.{IsAccepted, tree_in, used_blocks}
+use Rattle.lfs_model.proofs.AfterStops.{survives_then}
+use Rattle.lfs_model.proofs.Arranged.{arranged_after, recovered_stays}
+use Rattle.lfs_model.proofs.Committed.{recovered_from}
+use Rattle.lfs_model.proofs.Histories.{LeavesOnly-weaker, LeavesOnly-worst}
+use Rattle.lfs_files.specs.Standing.{CanFinish, Holds, LeavesPairsAndUsed, held_in}
+use Rattle.lfs_thread.specs.Kept.{Kept, State}
+use Rattle.lfs_thread.specs.Steps.{IsOnlyRead}
+use Rattle.lfs_tree.specs.Carrying.{HasCalled, IsAtRest, SurvivesTo, TellsError}
+use Rattle.lfs_device.specs.declared.device.BlockDevice.{Ghosts}
+use Rattle.lfs_tree.specs.Held.{IsHeld, seen_image, seen_kept}
+use Rattle.lfs_tree.specs.declared.image.Image.{Image}
+use Rattle.lfs_tree.specs.declared.image.Image.TheVariants as image
+use Rattle.lfs_tree.proofs.Asking.{seen_mounted, seen_working}
+use Rattle.lfs_tree.specs.OpenContents.{CanStoreAt, IsArrangedBy, IsSettleable, IsStoredAt, bytes_held, kept_of}
+use Rattle.lfs_tree.specs.Seen.{IsSound, Seen, tree_seen}
+use Rattle.lfs_tree.specs.Storing.{CanCommit, HasCommitted, HasStored, IsFinished, IsLaidBy}
+use Rattle.lfs_tree.proofs.BesideWritten.{accepted_beside, bytes_of_held, geometry_beside, left_beside, over_beside, rooted_beside, tree_beside}
+use Rattle.lfs_tree.proofs.Carried.{read_is, with_history}
+use Rattle.lfs_tree.proofs.UsedBlocks.{count_is}
+use Rattle.lfs_writer.specs.Contents.{bytes_in, end_room, finished, form_of}
+use Rattle.lfs_writer.specs.Form as form
+use Rattle.lfs_writer.specs.Form.{Form}
+use Rattle.lfs_writer.specs.Owned.{AreOwned}
+use Rattle.lfs_writer.specs.declared.contents.Contents.{Contents}
+
+-- ---- calls, one after another
+
+pub each_any : (events : List Event) → EachEvent (λ e. Unit {0}) events
+each_any [] = tt
+each_any (e ∷ events) = (tt, each_any events)
+
+pub called_beside_image : (a b : Kept) → LeavesPairsAndUsed a b → HasCalled a b
+called_beside_image a b l = record { geometry = geometry_beside a b l; calls = l.at_worst.events; called = l.at_worst.extends }
+
+pub called_then : (a b c : Kept) → HasCalled a b → HasCalled b c → HasCalled a c
+called_then a b c k m = record {
+  geometry = record { block_size = m.geometry.block_size ∙ k.geometry.block_size; page = m.geometry.page ∙ k.geometry.page; count = m.geometry.count ∙ k.geometry.count };
+  calls = m.calls ++ k.calls;
+  called = m.called ∙ ap (λ z. m.calls ++ z) k.called ∙ sym (append_assoc m.calls k.calls a.history);
+}
+
+pub errors_then : {X : Type 0} (a b c : Kept) (r : Result X Error) → faults b.history ≡ faults a.history → IfErr r (TellsError b c) → IfErr r (TellsError a c)
+errors_then a b c (Ok x) same t = tt
+errors_then a b c (Err e) same t = record {
+  errors = t.errors;
+  fault = λ io. (let k = t.fault io in omega (arith, k, same));
+  no_fault = λ other. t.no_fault other ∙ same;
+}
+
+-- ---- what is asked for
+
+room_on : (t : Kept) → IsSound (seen_kept t true false) → (need : ℕ) → length (used_blocks t.disk t.pairs) + need ≤ block_count t.disk → used_count t.map + need ≤ length t.map
+room_on t sound need room = let e = count_is (seen_kept t true false) sound in let s = sound.size in omega arith
+
+finished_form : (limit : ℕ) (f : Form) → IsSettleable limit f → IsFinished limit (finished f)
+finished_form limit (form.InMemory size) h = h
+finished_form limit (form.Finished size flying) h = h
+finished_form limit (form.InHand stop base flying) h = h
+
+module _ (t : State) (root : ℕ) (rests : IsAtRest t root) (path : Path) (contents : Contents) (can : CanStoreAt (seen_kept t.kept true false) path contents) where
+  abbrev sound : IsSound (seen_kept t.kept true false)
+  sound = rests.held.sound
+
+  pub can_finish : CanFinish t.kept contents
+  can_finish = record { stands = can.over.stands; room = room_on t.kept sound (end_room t.kept.disk.block_size (form_of contents)) can.end }
+
+  -- the list in hand was ended
+  module _ (b : State) (still : b.failed ≡ false) (leaves : LeavesPairsAndUsed t.kept b.kept) where
+    pub rests_beside : IsAtRest b root
+    rests_beside = record { held = rooted_beside t b root true false refl (λ e. rests.held) still leaves; settled = ap gstate_of leaves.pairs ∙ rests.settled }
+
+    pub survives_beside : (after : Tree) → SurvivesTo t.kept b.kept after
+    survives_beside after clean = LeavesOnly-weaker (λ blocks spared. left_beside t.kept blocks sound.accepted (sound.fits refl) sound.used spared) (LeavesOnly-worst leaves.at_worst)
+
+    module _ (c : Contents) (holds : Holds b.kept c (bytes_in t.kept.disk.blocks t.kept.disk.block_size contents) (finished (form_of contents))) (owned : AreOwned b.kept.map (held_in t.kept contents) (held_in b.kept c)) where
+      bytes_same : bytes_held b.kept c ≡ bytes_held t.kept contents
+      bytes_same = bytes_of_held b.kept c (bytes_in t.kept.disk.blocks t.kept.disk.block_size contents) (finished (form_of contents)) holds
+
+      pub can_commit : CanCommit b.kept path c
+      can_commit = record {
+        over = over_beside t.kept b.kept leaves sound.accepted sound.used path contents c _ _ can.over holds owned;
+        finished = subst (λ (f : Form). IsFinished (inline_limit b.kept.disk.block_size) f) (sym holds.has.form)
+            (subst (λ (n : ℕ). IsFinished (inline_limit n) (finished (form_of contents))) (sym leaves.shape.block_size) (finished_form (inline_limit t.kept.disk.block_size) (form_of contents) can.form));
+        room = (let l : ctz_blocks b.kept.disk.block_size (length (bytes_held b.kept c)) ≡ ctz_blocks t.kept.disk.block_size (length (bytes_held t.kept contents))
+            = ap (λ n. ctz_blocks n (length (bytes_held b.kept c))) leaves.shape.block_size ∙ ap (λ z. ctz_blocks t.kept.disk.block_size (length z)) bytes_same in
+            let r = can.room in
+            let k : length (used_blocks t.kept.disk t.kept.pairs) + (ctz_blocks t.kept.disk.block_size (length (bytes_held t.kept contents)) + 2) ≤ block_count t.kept.disk = omega arith in
+            let m = room_on t.kept sound (ctz_blocks t.kept.disk.block_size (length (bytes_held t.kept contents)) + 2) k in
+            let u = leaves.map.used in
+            let n = leaves.map.count in
+            omega arith);
+      }
+
+      abbrev turn : Tree
+      turn = change_at path (with_bytes (bytes_held t.kept contents)) (tree_in t.kept.disk t.kept.pairs)
+
+      tree_same : tree_in b.kept.disk b.kept.pairs ≡ tree_in t.kept.disk t.kept.pairs
+      tree_same = tree_beside t.kept b.kept leaves sound.accepted sound.used
+
+      turn_same : change_at path (with_bytes (bytes_held b.kept c)) (tree_in b.kept.disk b.kept.pairs) ≡ change_at path (with_bytes (bytes_held t.kept contents)) (tree_in t.kept.disk t.kept.pairs)
+      turn_same = ap (λ (x : Tree). change_at path (with_bytes (bytes_held b.kept c)) x) tree_same ∙ ap (λ z. change_at path (with_bytes z) (tree_in t.kept.disk t.kept.pairs)) bytes_same
+
+      -- seen from before the end of the list
+      arranged_before : (new : Kept) (op : ℕ → Operation) → IsLaidBy b.kept path (bytes_held b.kept c) op new → IsArrangedBy (seen_kept t.kept true false) path (bytes_held t.kept contents) op (seen_kept new true false)
+      arranged_before new op laid files fd writer wr =
+          let s : Session = record { tree = tree_in t.kept.disk t.kept.pairs; files = files } in
+          let stays = recovered_stays t.kept.disk t.kept.pairs (record { tree = tree_in t.kept.disk t.kept.pairs; files = files }) sound.accepted (sound.fits refl) rests.settled in
+          arranged_after t.kept.disk b.kept.disk new.disk t.kept.pairs t.kept.pairs new.pairs (record { tree = tree_in t.kept.disk t.kept.pairs; files = files }) (op fd)
+          (geometry_beside t.kept b.kept leaves) (subst (IsAccepted b.kept.disk) leaves.pairs (accepted_beside t.kept b.kept leaves sound.accepted sound.used)) (recovered_from t.kept.disk t.kept.pairs sound.accepted rests.settled)
+          (record { drafts = stays.drafts; parts = stays.parts; front = stays.front; fresh = stays.fresh; back = stays.back; edits = stays.edits; stand = stays.stand; joined = stays.joined; is = stays.is })
+          (subst (λ (ps : List Pair). IsLaidOut b.kept.disk ps (record { tree = tree_in t.kept.disk t.kept.pairs; files = files }) (op fd) new.disk new.pairs) leaves.pairs
+          (subst (λ (x : Tree). IsLaidOut b.kept.disk b.kept.pairs (record { tree = x; files = files }) (op fd) new.disk new.pairs) tree_same
+          (laid files fd writer (wr.0, (wr.1.0, (wr.1.1.0, wr.1.1.1 ∙ sym bytes_same))))))
+
+      stored_before : (new : Kept) → HasCalled t.kept new → HasCommitted b.kept path (bytes_held b.kept c) new → HasStored t.kept path (bytes_held t.kept contents) new
+      stored_before new called k = record {
+        works = refl;
+        sound = k.sound;
+        writable = refl;
+        geometry = called.geometry;
+        calls = called.calls;
+        called = called.called;
+        fits = k.fits;
+        recovered = recovered_from new.disk new.pairs k.sound.accepted k.settled;
+        shows = k.shows ∙ turn_same;
+        synced = arranged_before new ops.Sync k.synced;
+        closed = arranged_before new ops.Close k.closed;
+        none_in_flight = k.none_in_flight;
+      }
+
+      pub all_stored : (new : Kept) (r : Result (Unit {0}) Error) → HasCalled t.kept new → OnOk r (HasCommitted b.kept path (bytes_held b.kept c) new) → OnOk r (HasStored t.kept path (bytes_held t.kept contents) new)
+      all_stored new (Ok u) called k = stored_before new called k
+      all_stored new (Err e) called k = tt
+
+      pub survives_then_commit : (new : Kept) → HasCalled b.kept new → SurvivesTo b.kept new (change_at path (with_bytes (bytes_held b.kept c)) (tree_in b.kept.disk b.kept.pairs))
+          → SurvivesTo t.kept new (change_at path (with_bytes (bytes_held t.kept contents)) (tree_in t.kept.disk t.kept.pairs))
+      survives_then_commit new called k =
+          let second : EachSince (λ e. Unit {0}) b.kept.history new.history = record { events = called.calls; extends = called.called; each = each_any called.calls } in
+          let after = change_at path (with_bytes (bytes_held t.kept contents)) (tree_in t.kept.disk t.kept.pairs) in
+          let same : (blocks : Blocks) → with_blocks blocks b.kept.disk ≡ with_blocks blocks t.kept.disk = λ blocks. λ i. record { block_size = leaves.shape.block_size i; page = leaves.shape.page i; blocks = blocks } in
+          survives_then t.kept.disk t.kept.history b.kept.history new.history (tree_in t.kept.disk t.kept.pairs) after leaves.at_worst second (survives_beside after)
+          (λ clean. LeavesOnly-weaker (λ blocks left.
+          subst (λ (d : Disk). IsLeft d (tree_in t.kept.disk t.kept.pairs) (change_at path (with_bytes (bytes_held t.kept contents)) (tree_in t.kept.disk t.kept.pairs))) (same blocks)
+          (subst (λ (x : Tree). IsLeft (with_blocks blocks b.kept.disk) x (change_at path (with_bytes (bytes_held t.kept contents)) (tree_in t.kept.disk t.kept.pairs))) tree_same
+          (subst (λ (x : Tree). IsLeft (with_blocks blocks b.kept.disk) (tree_in b.kept.disk b.kept.pairs) x) turn_same left))) (k clean))
+
+-- ---- and calls behind it that only read
+
+stored_on : (a b : Kept) (path : Path) (bytes : List ℕ) (h : List Event) → OnlyReads b.disk.blocks b.history h → HasStored a path bytes b → HasStored a path bytes (with_history b h)
+stored_on a b path bytes h reads k = record {
+  works = k.works;
+  sound = record { accepted = k.sound.accepted; fits = k.sound.fits; is_kept = k.sound.is_kept; used = k.sound.used; size = k.sound.size };
+  writable = k.writable;
+  geometry = k.geometry;
+  calls = reads.events ++ k.calls;
+  called = reads.extends ∙ ap (λ z. reads.events ++ z) k.called ∙ sym (append_assoc reads.events k.calls a.history);
+  fits = k.fits;
+  recovered = k.recovered;
+  shows = k.shows;
+  synced = k.synced;
+  closed = k.closed;
+  none_in_flight = k.none_in_flight;
+}
+
+pub stored_read : (a b c : Kept) (path : Path) (bytes : List ℕ) → IsOnlyRead b c → HasStored a path bytes b → HasStored a path bytes c
+stored_read a b c path bytes r k = subst (λ z. HasStored a path bytes z) (sym (read_is b c r)) (stored_on a b path bytes c.history r.reads k)
+
+-- ---- seen from a tree
+
+module _ {D : Type 0} (g : Ghosts D) (held : Image D) (thread : State) (root : ℕ) (writable failed : Bool) (now : Seen)
+    (is : held ≡ image.Mounted thread) (kept : IsHeld held root writable failed) (view : seen_image g held writable failed ≡ now) (works : now.failed ≡ false) (may : now.writable ≡ true) (path : Path) (contents : Contents) where
+  pub stored_working : (new : Kept) → HasStored thread.kept path (bytes_held thread.kept contents) new → IsStoredAt now path (bytes_held (kept_of now) contents) (seen_kept new writable failed)
+  stored_working new k =
+      let seen = seen_mounted g held thread root writable failed now is kept view in
+      subst (λ a. IsStoredAt now path (bytes_held (kept_of now) contents) (seen_kept new a failed)) (sym (ap (λ (s : Seen). s.writable) seen ∙ may))
+      (subst (λ b. IsStoredAt now path (bytes_held (kept_of now) contents) (seen_kept new true b)) (sym (ap (λ (s : Seen). s.failed) seen ∙ works))
+      (subst (λ (s : Seen). IsStoredAt s path (bytes_held (kept_of s) contents) (seen_kept new true false)) (sym (seen_working g held thread root writable failed now is kept view works may)) k))
+
+  pub survives_stored : (new : List Event) → Survives thread.kept.disk thread.kept.history new (tree_in thread.kept.disk thread.kept.pairs) (change_at path (with_bytes (bytes_held thread.kept contents)) (tree_in thread.kept.disk thread.kept.pairs))
+      → Survives now.disk now.history new (tree_seen now) (change_at path (with_bytes (bytes_held (kept_of now) contents)) (tree_seen now))
+  survives_stored new k =
+      subst (λ (s : Seen). Survives s.disk s.history new (tree_seen s) (change_at path (with_bytes (bytes_held (kept_of s) contents)) (tree_seen s))) (sym (seen_working g held thread root writable failed now is kept view works may)) k

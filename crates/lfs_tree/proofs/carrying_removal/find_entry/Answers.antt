@@ -1,0 +1,14 @@
+use Rattle.std.proofs.Common.{ap, map, subst, ◌∙◌}
+use Rattle.lfs_tree.specs.Paths.{LeadsTo}
+use Rattle.lfs_tree.proofs.CarryGone.{entry_on}
+use Rattle.lfs_tree.proofs.RootPairs.{root_leads}
+use Rattle.lfs_tree.proofs.carrying_removal.find_entry.Goals as goal
+
+pub look_up-requires-clause-root : goal.look_up-requires-clause-root
+look_up-requires-clause-root g c = root_leads c.args.thread.now.kept.disk c.args.thread.now.kept.pairs c.args.root c.requires.rests.held.sound.accepted c.requires.rests.held.root_is
+
+pub returns-clause-entry : goal.returns-clause-entry
+returns-clause-entry g c =
+    let t = c.args.thread.now.kept in
+    entry_on t c.args.path.now c.in_ok-found.found c.requires.there
+    (subst (λ p. LeadsTo t p c.in_ok-found.found) (ap (map (λ name. name.now)) c.deref.ensures.value ∙ c.in_ok-names.ensures) c.in_ok-found.ensures.answer)

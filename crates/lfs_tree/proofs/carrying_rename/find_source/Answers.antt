@@ -1,0 +1,21 @@
+use Rattle.std.proofs.Common.{ap, map, subst, ◌∙◌}
+use Rattle.lfs_tree.specs.Paths.{LeadsTo}
+use Rattle.lfs_tree.proofs.CarryEdited.{slot_found}
+use Rattle.lfs_tree.proofs.RootPairs.{root_leads}
+use Rattle.lfs_tree.proofs.Shifted.{source_for}
+use Rattle.lfs_tree.proofs.carrying_rename.find_source.Goals as goal
+
+pub look_up-requires-clause-root : goal.look_up-requires-clause-root
+look_up-requires-clause-root g c = root_leads c.args.thread.now.kept.disk c.args.thread.now.kept.pairs c.args.root c.requires.rests.held.sound.accepted c.requires.rests.held.root_is
+
+pub source_in-requires : goal.source_in-requires
+source_in-requires g c =
+    let t = c.args.thread.now.kept in
+    slot_found t c.args.path.now c.in_ok-found.found c.requires.there
+    (subst (λ p. LeadsTo t p c.in_ok-found.found) (ap (map (λ name. name.now)) c.deref.ensures.value ∙ c.in_ok-names.ensures) c.in_ok-found.ensures.answer)
+
+pub returns-clause-source : goal.returns-clause-source
+returns-clause-source g c =
+    let t = c.args.thread.now.kept in
+    source_for t c.args.path.now c.in_ok-found.found c.source_in.result
+    (subst (λ p. LeadsTo t p c.in_ok-found.found) (ap (map (λ name. name.now)) c.deref.ensures.value ∙ c.in_ok-names.ensures) c.in_ok-found.ensures.answer) c.source_in.ensures

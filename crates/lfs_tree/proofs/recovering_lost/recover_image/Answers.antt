@@ -1,0 +1,48 @@
+use Rattle.std.proofs.Common.{[], ◌∙◌, false, true, IfErr, sym, ap, subst}
+use Rattle.std.proofs.lemmas.Result.{err_from_is_err_and}
+use Rattle.lfs_model.specs.Operations as ops
+use Rattle.lfs_model.specs.Thread.{superblocks_before}
+use Rattle.lfs_tree.specs.Held.{seen_kept}
+use Rattle.lfs_tree.specs.Recovering.{TellsRecoverError}
+use Rattle.lfs_tree.specs.Seen.{around_of}
+use Rattle.lfs_tree.proofs.CarryRooted.{called_on}
+use Rattle.lfs_tree.proofs.CarrySurvives.{survives_ahead}
+use Rattle.lfs_tree.proofs.Mounting.{sound_read}
+use Rattle.lfs_tree.proofs.Recovered.{recovered_read, tells_reading, tells_then}
+use Rattle.lfs_tree.proofs.recovering_lost.recover_image.Goals as goal
+
+pub returns-in_err-root-clause-called : goal.returns-in_err-root-clause-called
+returns-in_err-root-clause-called g c = called_on _ _ _ c.recover_at.ensures.called c.find_root.ensures.reading.only
+
+pub returns-in_err-root-clause-errors : goal.returns-in_err-root-clause-errors
+returns-in_err-root-clause-errors g c =
+    let p = err_from_is_err_and c.from_residual-in_err-root.result c.from_residual-in_err-root.ensures.1 in
+    subst (λ r. IfErr r (TellsRecoverError c.args.thread.now.kept c.find_root.new.thread.kept)) (sym p.1)
+    (subst (λ x. TellsRecoverError c.args.thread.now.kept c.find_root.new.thread.kept x) (sym p.2)
+    (tells_then c.args.thread.now.kept c.recover_at.new.thread.kept c.find_root.new.thread.kept _ c.in_ok-recover_at.ensures.no_fault
+    (tells_reading c.recover_at.new.thread.kept c.find_root.new.thread.kept c.find_root.result _ c.in_err-root.was c.find_root.ensures.reading.told)))
+
+pub returns-clause-done : goal.returns-clause-done
+returns-clause-done g c = recovered_read _ _ _ c.requires.left c.find_root.ensures.reading.only c.in_ok-recover_at.ensures.done
+
+pub returns-clause-rooted : goal.returns-clause-rooted
+returns-clause-rooted g c = record {
+  works = c.find_root.ensures.reading.works;
+  sound = sound_read c.recover_at.new.thread.kept c.find_root.new.thread.kept true false false c.find_root.ensures.reading.only c.in_ok-recover_at.ensures.done.sound;
+  root_is = c.in_ok-root.ensures.root ∙ ap superblocks_before (sym c.find_root.ensures.reading.only.pairs);
+}
+
+pub returns-clause-called : goal.returns-clause-called
+returns-clause-called g c = called_on _ _ _ c.recover_at.ensures.called c.find_root.ensures.reading.only
+
+pub returns-in_err-root-clause-survives : goal.returns-in_err-root-clause-survives
+returns-in_err-root-clause-survives g c =
+    let done = c.in_ok-recover_at.ensures.done in
+    survives_ahead c.args.thread.now.kept c.recover_at.new.thread.kept c.find_root.new.thread.kept.history ops.Recover _ done
+    (done.shows (around_of (seen_kept c.args.thread.now.kept true false)) []) c.find_root.ensures.reading.only.reads c.recover_at.ensures.survives
+
+pub returns-clause-survives : goal.returns-clause-survives
+returns-clause-survives g c =
+    let done = c.in_ok-recover_at.ensures.done in
+    survives_ahead c.args.thread.now.kept c.recover_at.new.thread.kept c.find_root.new.thread.kept.history ops.Recover _ done
+    (done.shows (around_of (seen_kept c.args.thread.now.kept true false)) []) c.find_root.ensures.reading.only.reads c.recover_at.ensures.survives

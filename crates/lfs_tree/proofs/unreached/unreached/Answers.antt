@@ -1,0 +1,12 @@
+use Rattle.std.proofs.Common.{ap, arith, length}
+use Rattle.lfs_model.specs.View.{}
+use Rattle.lfs_tree.proofs.Roots.{root_begins}
+use Rattle.lfs_tree.proofs.Directories.{within}
+use Rattle.lfs_tree.proofs.unreached.unreached.Goals as goal
+
+pub unmarked-requires-clause-few : goal.unmarked-requires-clause-few
+unmarked-requires-clause-few g c =
+    let l = within c.args.thread.now.kept.pairs _ _ (root_begins c.args.thread.now.kept.disk c.args.thread.now.kept.pairs c.requires.accepted) in
+    let e = c.requires.root in
+    let s = ap length c.mark_reached.ensures.reading.only.pairs in
+    omega (arith, l, e, s)

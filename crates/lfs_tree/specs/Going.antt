@@ -1,0 +1,86 @@
+-- An entry that goes from its directory.
+use Rattle.std.specs.Prelude.{ℕ, ◌≡◌, ◌≤◌, ◌+◌, true, false, List, [], ◌∷◌, ◌++◌}
+use Rattle.std.specs.List.{AllByRecursion}
+use Rattle.lfs_files.specs.Settling.{blocks_in_list}
+use Rattle.lfs_model.specs.BlockSets.{IsUsed}
+use Rattle.lfs_model.specs.Operations as ops
+use Rattle.lfs_model.specs.Session.{Session}
+use Rattle.lfs_model.specs.Steps.{as_path}
+use Rattle.lfs_model.specs.Thread.{Pair}
+use Rattle.lfs_model.specs.Tree.{Path}
+use Rattle.lfs_model.specs.View.{tree_in, used_blocks}
+use Rattle.lfs_model.proofs.Committed.{IsCompleted}
+use Rattle.lfs_model.proofs.Counts.{count}
+use Rattle.lfs_operations.specs.Dropping.{SameInFlight}
+use Rattle.lfs_operations.specs.Editing.{slot_at}
+use Rattle.lfs_operations.specs.Ready.{IsReady, IsReadyBut}
+use Rattle.lfs_operations.specs.Removing.{CanRemove}
+use Rattle.lfs_operations.specs.Unlinking.{CanRemoveDirectory}
+use Rattle.lfs_thread.specs.Kept.{Kept}
+use Rattle.lfs_thread.specs.Steps.{Writes}
+use Rattle.lfs_tree.specs.CarryingSlots.{has_slot}
+use Rattle.lfs_tree.specs.Entry.{ShowsContents}
+use Rattle.lfs_tree.specs.Paths.{EndsIn}
+use Rattle.lfs_tree.specs.declared.entry.Contents.{Contents}
+use Rattle.lfs_tree.specs.declared.entry.Contents.TheVariants as contents
+use Rattle.lfs_tree.specs.declared.paths.Found.{Found}
+use Rattle.lfs_tree.specs.declared.paths.Found.TheVariants as found
+use Rattle.lfs_tree.specs.declared.search.Spot.{Spot}
+use Rattle.lfs_writer.specs.Based.{IsBase}
+use Rattle.lfs_writer.specs.declared.stored.Stored.{Stored}
+
+-- an entry is found for the path
+pub record IsEntryOn (ps : List Pair) (path : Path) (found : Found) : Type 0 where
+  pub ends : EndsIn ps path found
+  pub has : has_slot found ≡ true
+
+-- ---- the list of a file
+
+abbrev pub no_list : Stored
+no_list = record { head = 0; size = 0; in_flight = false }
+
+-- where the contents stand in the file's slot there is none
+abbrev pub list_shown : Contents → Stored
+list_shown (contents.Inline len) = no_list
+list_shown (contents.List head size) = record { head = head; size = size; in_flight = false }
+
+-- The image hasn't the file of these contents any more; the blocks of its list are still used.
+pub record CanFree (t : Kept) (contents : Contents) : Type 0 where
+  pub gone : List ℕ
+  pub ready : IsReadyBut t gone []
+  pub once : (b : ℕ) → count b (used_blocks t.disk t.pairs) + count b gone ≤ 1
+  pub list : IsBase t.disk.blocks t.disk.block_size (list_shown contents).head (list_shown contents).size
+  pub are : blocks_in_list t (list_shown contents) ≡ gone
+
+-- ---- what may go
+
+-- the file at the path, in the directory that begins with the pair of number `parent`
+pub record CanTake (t : Kept) (path : Path) (parent : ℕ) (slot : Spot) (contents : Contents) : Type 0 where
+  pub take : CanRemove t slot.pair slot.id parent
+  pub is : path ≡ take.can.path ++ take.can.name ∷ []
+  pub shows : ShowsContents contents (slot_at take.can).struct
+
+-- the directory at the path, which has no entries
+pub record CanTakeDirectory (t : Kept) (path : Path) (parent : ℕ) (slot : Spot) (first : ℕ) : Type 0 where
+  pub take : CanRemoveDirectory t slot.pair slot.id parent first
+  pub is : path ≡ take.can.path ++ take.can.name ∷ []
+
+abbrev pub CanGo : Kept → Path → Found → Type 0
+CanGo t path (found.File parent slot contents) = CanTake t path parent slot contents
+CanGo t path (found.Directory parent slot first) = CanTakeDirectory t path parent slot first
+CanGo t path _ = ⊥
+
+-- ---- what comes of it
+
+-- The tree hasn't it, the other slots stand where they should, and its blocks are free: so a remove of its path is completed.
+pub record HasGone (old : Kept) (path : Path) (new : Kept) : Type 0 where
+  pub ready : IsReady new
+  pub flying : SameInFlight old.map new.map
+  pub completed : (s : Session) (given : List ℕ) → s.tree ≡ tree_in old.disk old.pairs → as_path given ≡ path
+      → IsCompleted old.disk old.pairs s (ops.Remove given) new.disk new.pairs
+
+-- no block is written but some that are used
+pub record WritesUsed (old new : Kept) : Type 0 where
+  pub blocks : List ℕ
+  pub used : AllByRecursion (IsUsed old.map) blocks
+  pub writes : Writes blocks old new

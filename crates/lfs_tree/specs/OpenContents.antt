@@ -1,0 +1,135 @@
+-- The contents of a file that is open for writing, beside the image.
+use Rattle.std.specs.Prelude.{ℕ, ◌≡◌, ◌+◌, ◌^◌, ◌<◌, ◌≤◌, ◌⊎◌, true, false, max, List, [], ◌++◌, length, Option, Some, None}
+use Rattle.lfs_model.specs.Apply.{change_at, is_file}
+use Rattle.lfs_model.specs.BlockSets.{in_flight_count}
+use Rattle.lfs_model.specs.Disk.{Disk, SameGeometry, block_count, inline_limit}
+use Rattle.lfs_model.specs.History.{Event, faults}
+use Rattle.lfs_model.specs.Layout.{IsArranged}
+use Rattle.lfs_model.specs.Operations as ops
+use Rattle.lfs_model.specs.Operations.{Operation}
+use Rattle.lfs_model.specs.Recovery.{IsRecovered}
+use Rattle.lfs_model.specs.Session.{Files, Writer, ctz_blocks}
+use Rattle.lfs_model.specs.SlotEdits.{slot_of_path}
+use Rattle.lfs_model.specs.Slots.{Slot, no_gstate}
+use Rattle.lfs_model.specs.Steps.{with_bytes}
+use Rattle.lfs_model.specs.Thread.{gstate_of}
+use Rattle.lfs_model.specs.Tree.{Path}
+use Rattle.lfs_model.specs.View.{IsWritable, file_blocks, tree_in}
+use Rattle.lfs_files.specs.Standing.{StandsIn, held_in}
+use Rattle.lfs_operations.specs.Storing.{IsWriterOf}
+use Rattle.lfs_thread.specs.Kept.{Kept}
+use Rattle.lfs_tree.specs.Seen.{Seen, IsSound, around_of, tree_seen}
+use Rattle.lfs_writer.specs.Contents.{IsLarge, NeedsRoom, bytes_in, end_room, form_of, truncate_room, write_room}
+use Rattle.lfs_writer.specs.Form as form
+use Rattle.lfs_writer.specs.Form.{Form, form_size}
+use Rattle.lfs_writer.specs.Owned.{AreOwned}
+use Rattle.lfs_writer.specs.declared.contents.Contents.{Contents}
+
+abbrev pub kept_of : Seen → Kept
+kept_of t = record { disk = t.disk; history = t.history; pairs = t.pairs; map = t.map }
+
+-- the blocks of the list that a slot names
+abbrev pub blocks_named : Disk → Option Slot → List ℕ
+blocks_named disk None = []
+blocks_named disk (Some s) = file_blocks disk s.struct
+
+-- the blocks of the list of the file at a path
+abbrev pub list_at : Kept → Path → List ℕ
+list_at t path = blocks_named t.disk (slot_of_path t.pairs path)
+
+-- the bytes of a writer's contents
+abbrev pub bytes_held : Kept → Contents → List ℕ
+bytes_held t contents = bytes_in t.disk.blocks t.disk.block_size contents
+
+-- These are the contents of an open writer over the file at the path: they stand on the disk, and what blocks of theirs are used
+-- are the file's.
+pub record IsOverFile (t : Kept) (path : Path) (contents : Contents) : Type 0 where
+  pub file : is_file (tree_in t.disk t.pairs path) ≡ true
+  pub stands : StandsIn t contents
+  pub owned : AreOwned t.map (list_at t path) (held_in t contents)
+
+abbrev pub IsOver : Seen → Path → Contents → Type 0
+IsOver t path contents = IsOverFile (kept_of t) path contents
+
+-- ---- what is asked for
+
+-- nothing is in flight, and a file stands there
+pub record CanOpen (t : Seen) (path : Path) : Type 0 where
+  pub works : t.failed ≡ false
+  pub writable : t.writable ≡ true
+  pub idle : in_flight_count t.map ≡ 0
+  pub file : is_file (tree_seen t path) ≡ true
+
+-- So many bytes, at least one, may be written there. Past the inline limit there is room for what that wants in flight.
+pub record CanWriteBeside (t : Seen) (contents : Contents) (place count : ℕ) : Type 0 where
+  pub works : t.failed ≡ false
+  pub stands : StandsIn (kept_of t) contents
+  pub large : IsLarge (inline_limit t.disk.block_size) (form_of contents)
+  pub some : 1 ≤ count
+  pub small : place + count < 2 ^ 31
+  pub room : inline_limit t.disk.block_size < max (form_size (form_of contents)) (place + count)
+      → length (around_of t).used + write_room t.disk.block_size place count (form_of contents) ≤ block_count t.disk
+
+-- They may be cut or filled up to that size. Where blocks are wanted, there is room for them.
+pub record CanTruncateBeside (t : Seen) (contents : Contents) (size : ℕ) : Type 0 where
+  pub works : t.failed ≡ false
+  pub stands : StandsIn (kept_of t) contents
+  pub large : IsLarge (inline_limit t.disk.block_size) (form_of contents)
+  pub small : size < 2 ^ 31
+  pub room : NeedsRoom (inline_limit t.disk.block_size) size (form_of contents)
+      → length (around_of t).used + truncate_room t.disk.block_size size (form_of contents) ≤ block_count t.disk
+
+-- contents are in memory exactly where they are at most the limit
+abbrev pub IsSettleable : ℕ → Form → Type 0
+IsSettleable limit (form.InMemory size) = size ≤ limit
+IsSettleable limit (form.Finished size flying) = limit < size
+IsSettleable limit (form.InHand stop base flying) = limit < max stop base
+
+-- The file at the path may get these contents: there is room for what is still to be written of them, and then for two blocks.
+pub record CanStoreAt (t : Seen) (path : Path) (contents : Contents) : Type 0 where
+  pub works : t.failed ≡ false
+  pub writable : t.writable ≡ true
+  pub settled : gstate_of t.pairs ≡ no_gstate
+  pub over : IsOver t path contents
+  pub form : IsSettleable (inline_limit t.disk.block_size) (form_of contents)
+  pub end : length (around_of t).used + end_room t.disk.block_size (form_of contents) ≤ block_count t.disk
+  pub room : length (around_of t).used + ctz_blocks t.disk.block_size (length (bytes_held (kept_of t) contents)) + 2 ≤ block_count t.disk
+
+-- ---- what comes of it
+
+-- contents of so many bytes as they are opened: in memory where they stand in the file's entry, else as its list
+abbrev pub IsOpenedForm : ℕ → ℕ → Form → Type 0
+IsOpenedForm block_size size shape = ((shape ≡ form.InMemory size) × (size ≤ inline_limit block_size)) ⊎ (shape ≡ form.Finished size false)
+
+-- Only blocks were written that the image doesn't use: it shows what it showed, in the same pairs.
+pub record IsWrittenBeside (old new : Seen) : Type 0 where
+  pub works : new.failed ≡ false
+  pub sound : IsSound new
+  pub writable : new.writable ≡ old.writable
+  pub pairs : new.pairs ≡ old.pairs
+  pub shows : tree_seen new ≡ tree_seen old
+  pub around : around_of new ≡ around_of old
+  pub geometry : SameGeometry old.disk new.disk
+  pub calls : List Event
+  pub called : new.history ≡ calls ++ old.history
+  pub no_fault : faults new.history ≡ faults old.history
+
+-- where slots stand is what the operation on such a writer wants
+abbrev pub IsArrangedBy : Seen → Path → List ℕ → (ℕ → Operation) → Seen → Type 0
+IsArrangedBy old path bytes op new = (files : Files) (fd : ℕ) (writer : Writer) → IsWriterOf (record { tree = tree_seen old; files = files }) fd path bytes writer
+    → IsArranged old.disk old.pairs (record { tree = tree_seen old; files = files }) (op fd) new.disk new.pairs
+
+-- The file at the path has these bytes, and nothing is in flight any more.
+pub record IsStoredAt (old : Seen) (path : Path) (bytes : List ℕ) (new : Seen) : Type 0 where
+  pub works : new.failed ≡ false
+  pub sound : IsSound new
+  pub writable : new.writable ≡ true
+  pub geometry : SameGeometry old.disk new.disk
+  pub calls : List Event
+  pub called : new.history ≡ calls ++ old.history
+  pub fits : IsWritable new.disk new.pairs
+  pub recovered : IsRecovered new.pairs
+  pub shows : tree_seen new ≡ change_at path (with_bytes bytes) (tree_seen old)
+  pub synced : IsArrangedBy old path bytes ops.Sync new
+  pub closed : IsArrangedBy old path bytes ops.Close new
+  pub none_in_flight : in_flight_count new.map ≡ 0

@@ -1,0 +1,113 @@
+-- An entry that gets another name, or comes into another directory.
+use Rattle.std.specs.Prelude.{ℕ, ◌≡◌, ◌≢◌, ◌⊎◌, ◌<◌, true, false, List, [], ◌∷◌, ◌++◌, All, None, Result, IfErr, IsErrOf, OnOk}
+use Rattle.lfs_device.specs.declared.error.Error.{Error}
+use Rattle.lfs_device.specs.declared.error.Error.TheVariants.{Io, NoMemory}
+use Rattle.lfs_model.specs.Apply.{last_name, renamed, rest_after}
+use Rattle.lfs_model.specs.BlockSets.{IsInFlight}
+use Rattle.lfs_model.specs.History.{faults}
+use Rattle.lfs_model.specs.InDirectory.{Belongs, Stands}
+use Rattle.lfs_model.specs.Names.{Name, is_name}
+use Rattle.lfs_model.specs.Operations as ops
+use Rattle.lfs_model.specs.Session.{Session}
+use Rattle.lfs_model.specs.Steps.{as_path}
+use Rattle.lfs_model.specs.Thread.{Pair}
+use Rattle.lfs_model.specs.Tree.{Path}
+use Rattle.lfs_model.specs.View.{FitsEntry, tree_in, used_blocks}
+use Rattle.lfs_model.proofs.Committed.{IsCompleted}
+use Rattle.lfs_model.proofs.Counts.{count}
+use Rattle.lfs_operations.specs.Dropping.{SameInFlight}
+use Rattle.lfs_operations.specs.Editing.{CanEdit, slot_at}
+use Rattle.lfs_operations.specs.Making.{HasRoomFor}
+use Rattle.lfs_operations.specs.Ready.{IsLoggedAt, IsReady, IsReadyBut}
+use Rattle.lfs_thread.specs.Kept.{Kept, State}
+use Rattle.lfs_thread.specs.Steps.{Writes, pair_in}
+use Rattle.lfs_tree.specs.CarryingSlots.{IsSlotFor}
+use Rattle.lfs_tree.specs.Entry.{ShowsContents}
+use Rattle.lfs_tree.specs.Going.{CanFree}
+use Rattle.lfs_tree.specs.Paths.{BeginsOnPath, LeadsTo}
+use Rattle.lfs_tree.specs.declared.carrying_rename.Source.{Source}
+use Rattle.lfs_tree.specs.declared.entry.Contents.{Contents}
+use Rattle.lfs_tree.specs.declared.paths.Found.{Found}
+use Rattle.lfs_tree.specs.declared.paths.Found.TheVariants as found
+use Rattle.lfs_tree.specs.declared.search.Spot.{Spot}
+
+-- ---- what may be renamed
+
+abbrev pub IsSourceIn : Found → Source → Type 0
+IsSourceIn (found.Directory parent slot first) source = source ≡ record { slot = slot; first = parent }
+IsSourceIn (found.File parent slot contents) source = source ≡ record { slot = slot; first = parent }
+IsSourceIn _ source = ⊥
+
+-- the path's slot stands there, in the directory that begins with the pair of that number
+pub record IsSource (ps : List Pair) (path : Path) (source : Source) : Type 0 where
+  pub slot : IsSlotFor ps path source.slot
+  pub first_is : slot.first ≡ source.first
+
+-- what a look-up finds at the path, and its last name
+pub record IsTarget (t : Kept) (path : Path) (target : Found) (name : Name) : Type 0 where
+  pub leads : LeadsTo t path target
+  pub named : name ≡ last_name path
+
+-- The image may be changed, and two blocks are free. The entry at the one path stands in the slot; it may be written under the name,
+-- as which it is to be at the other path, which isn't beneath it.
+pub record CanShift (t : Kept) (from to : Path) (source : Source) (name : Name) : Type 0 where
+  pub old : CanEdit t source.slot.pair source.slot.id
+  pub old_is : from ≡ old.path ++ old.name ∷ []
+  pub old_first : old.first ≡ source.first
+  pub above : Path
+  pub is : to ≡ above ++ name ∷ []
+  pub first : ℕ
+  pub on : BeginsOnPath t.pairs above first
+  pub not_beneath : rest_after from to ≡ None
+  pub is_name : is_name name ≡ true
+  pub fits : FitsEntry t.disk.block_size t.disk.page (record (slot_at old) { name = name })
+  pub logged : (at : ℕ × ℕ) → IsLoggedAt t.disk at
+  pub room : HasRoomFor 2 t.map
+
+-- nothing is at the other path, and the name belongs there
+pub record CanShiftTo (t : Kept) (from to : Path) (source : Source) (place : Spot) (name : Name) : Type 0 where
+  pub can : CanShift t from to source name
+  pub belongs : Belongs t.pairs can.first name place.pair place.id
+
+-- a file with these contents is at the other path
+pub record CanShiftOnto (t : Kept) (from to : Path) (source : Source) (slot : Spot) (contents : Contents) (name : Name) : Type 0 where
+  pub can : CanShift t from to source name
+  pub target : Stands t.pairs can.first name slot.pair slot.id
+  pub shows : ShowsContents contents target.stands.slot.struct
+
+-- nothing is found at the other path, or a file
+abbrev pub CanShiftFound : Kept → Path → Path → Source → Found → Name → Type 0
+CanShiftFound t from to source (found.Nothing parent place) name = CanShiftTo t from to source place name
+CanShiftFound t from to source (found.File parent slot contents) name = CanShiftOnto t from to source slot contents name
+CanShiftFound t from to source _ name = ⊥
+
+-- ---- what comes of it
+
+-- The tree has the entry at the other path, the other slots stand where they should, and the blocks are the image's again: so a
+-- rename of the one path to the other is completed.
+pub record HasShifted (old : Kept) (from to : Path) (new : Kept) : Type 0 where
+  pub ready : IsReady new
+  pub flying : SameInFlight old.map new.map
+  pub completed : (s : Session) (given to_given : List ℕ) → s.tree ≡ tree_in old.disk old.pairs → as_path given ≡ from → as_path to_given ≡ to
+      → IsCompleted old.disk old.pairs s (ops.Rename given to_given) new.disk new.pairs
+
+-- The same, but that the blocks of the list that the replaced file had are still used.
+pub record HasShiftedOnto (old : Kept) (from to : Path) (contents : Contents) (new : Kept) : Type 0 where
+  pub free : CanFree new contents
+  pub shows : tree_in new.disk new.pairs ≡ renamed from to (tree_in old.disk old.pairs)
+  pub flying : SameInFlight old.map new.map
+  pub completed : (s : Session) (given to_given : List ℕ) → s.tree ≡ tree_in old.disk old.pairs → as_path given ≡ from → as_path to_given ≡ to
+      → IsCompleted old.disk old.pairs s (ops.Rename given to_given) new.disk new.pairs
+
+-- no block that is in flight is written
+pub record WritesApart (old new : Kept) : Type 0 where
+  pub blocks : List ℕ
+  pub writes : Writes blocks old new
+  pub apart : (b : ℕ) → IsInFlight old.map b → All (λ c. c ≢ b) blocks
+
+-- `Io` comes with a fault of the device, and any other answer with none; where there is no error the thread works
+pub record TellsOfWork {X : Type 0} (old new : State) (result : Result X Error) : Type 0 where
+  pub works : OnOk result (new.failed ≡ false)
+  pub errors : IfErr result (λ e. (e ≡ Io) ⊎ (e ≡ NoMemory))
+  pub fault : IsErrOf result Io → faults old.kept.history < faults new.kept.history
+  pub no_fault : ¬ IsErrOf result Io → faults new.kept.history ≡ faults old.kept.history

@@ -1,0 +1,155 @@
+// Entries at paths that go, in a thread of which nothing is to be recovered.
+
+ghost use Rattle.std.specs.Prelude.{ℕ, ◌≡◌, List, true, false, is_err, OnOk, IfOk, IfErr};
+ghost use Rattle.lfs_files.specs.Settling.{IsReadBesideMap};
+ghost use Rattle.lfs_files.specs.Standing.{TellsWork};
+ghost use Rattle.lfs_model.specs.Apply.{removed};
+ghost use Rattle.lfs_model.specs.History.{faults};
+ghost use Rattle.lfs_model.specs.Operations as ops;
+ghost use Rattle.lfs_model.specs.Steps.{as_path};
+ghost use Rattle.lfs_model.specs.Tree.{Path as TreePath};
+ghost use Rattle.lfs_model.specs.View.{tree_in};
+ghost use Rattle.lfs_operations.specs.Dropping.{SameInFlight};
+ghost use Rattle.lfs_operations.specs.Ready.{IsReady};
+ghost use Rattle.lfs_operations.specs.Unlinking.{TellsOfSteps};
+ghost use Rattle.lfs_tree.specs.Allowed.{CanRemove};
+ghost use Rattle.lfs_tree.specs.Carrying.{Carries, HasCalled, IsAtRest, SurvivesTo, TellsError};
+ghost use Rattle.lfs_tree.specs.CarryingSlots.{HasEntry};
+ghost use Rattle.lfs_tree.specs.Going.{CanFree, CanGo, CanTake, HasGone, IsEntryOn, WritesUsed};
+ghost use Rattle.lfs_tree.specs.Held.{seen_kept};
+ghost use Rattle.lfs_tree.specs.Reading.{IsReading};
+
+use crate::carrying::know_device;
+use crate::entry::Contents;
+use crate::path::Path;
+use crate::paths::{Found, look_up};
+use crate::search::Spot;
+use lfs_device::{BlockDevice, Error};
+use lfs_files::{settle_file, settled_map_is_exact};
+use lfs_operations::{remove_directory, remove_file};
+use lfs_thread::Thread;
+use lfs_writer::Stored;
+use std::alloc::Global;
+
+// The entry at a path.
+fn find_entry<D: BlockDevice>(
+    alloc: Global,
+    thread: &mut Thread<D>,
+    root: usize,
+    path: &Path<'_>,
+) -> Result<Found, Error>
+    requires rests { IsAtRest thread.old root }
+    requires there { HasEntry (tree_in thread.old.kept.disk thread.old.kept.pairs) path.now }
+    ensures entry { IfOk result (IsEntryOn thread.old.kept.pairs path.now) }
+    ensures reading { IsReading thread.old thread.new result }
+{
+    let names = path.names(alloc)?;
+    let found = look_up(thread, root, &names)?;
+    Ok(found)
+}
+
+// Frees the blocks of a file's list in the map, once no pair names it. Nothing is written.
+//
+// `Io` where a read failed, and `NoMemory` where memory isn't granted; the thread has failed then.
+pub(crate) fn free_list<D: BlockDevice>(
+    alloc: Global,
+    thread: &mut Thread<D>,
+    contents: Contents,
+) -> Result<(), Error>
+    requires works { thread.old.failed ≡ false }
+    requires can { CanFree thread.old.kept contents }
+    ensures ready { OnOk result (IsReady thread.new.kept) }
+    ensures flying { OnOk result (SameInFlight thread.old.kept.map thread.new.kept.map) }
+    ensures only { IsReadBesideMap thread.old.kept thread.new.kept }
+    ensures failed { thread.new.failed ≡ is_err result }
+    ensures tells { TellsWork thread.old.kept thread.new.kept result }
+{
+    settled_map_is_exact();
+    match contents {
+        Contents::Inline { .. } => Ok(()),
+        Contents::List { head, size } => {
+            let list = Stored {
+                head,
+                size,
+                in_flight: false,
+            };
+            let nothing = Stored {
+                head: 0,
+                size: 0,
+                in_flight: false,
+            };
+            settle_file(alloc, thread, list, nothing)
+        }
+    }
+}
+
+// Takes the file in a slot of the directory that begins with the pair of number `parent`.
+fn take_file<D: BlockDevice>(
+    alloc: Global,
+    thread: &mut Thread<D>,
+    parent: usize,
+    slot: Spot,
+    contents: Contents,
+) -> Result<(), Error>
+    requires works { thread.old.failed ≡ false }
+    requires can { (path : TreePath) × CanTake thread.old.kept path parent slot contents }
+    ensures gone { OnOk result ((path : TreePath) → CanTake thread.old.kept path parent slot contents → HasGone thread.old.kept path thread.new.kept) }
+    ensures errors { TellsOfSteps thread.old thread.new result }
+    ensures device { WritesUsed thread.old.kept thread.new.kept }
+    ensures survives { (path : TreePath) → CanTake thread.old.kept path parent slot contents → SurvivesTo thread.old.kept thread.new.kept (removed path (tree_in thread.old.kept.disk thread.old.kept.pairs)) }
+{
+    remove_file(alloc, thread, slot.pair, slot.id, parent)?;
+    free_list(alloc, thread, contents)
+}
+
+// Takes what was found, a file or a directory without entries.
+fn take_found<D: BlockDevice>(
+    alloc: Global,
+    thread: &mut Thread<D>,
+    found: Found,
+) -> Result<(), Error>
+    requires works { thread.old.failed ≡ false }
+    requires can { (path : TreePath) × CanGo thread.old.kept path found }
+    ensures gone { OnOk result ((path : TreePath) → CanGo thread.old.kept path found → HasGone thread.old.kept path thread.new.kept) }
+    ensures errors { TellsOfSteps thread.old thread.new result }
+    ensures device { WritesUsed thread.old.kept thread.new.kept }
+    ensures survives { (path : TreePath) → CanGo thread.old.kept path found → SurvivesTo thread.old.kept thread.new.kept (removed path (tree_in thread.old.kept.disk thread.old.kept.pairs)) }
+{
+    match found {
+        Found::File {
+            parent,
+            slot,
+            contents,
+        } => take_file(alloc, thread, parent, slot, contents),
+        Found::Directory {
+            parent,
+            slot,
+            first,
+        } => remove_directory(alloc, thread, slot.pair, slot.id, parent, first),
+        _ => unreachable!(),
+    }
+}
+
+// Takes a file, or a directory without entries. Nothing is to be recovered.
+//
+// `Io` where a call of the device failed, and `NoMemory` where memory isn't granted.
+pub(crate) fn remove_at<D: BlockDevice>(
+    alloc: Global,
+    thread: &mut Thread<D>,
+    root: usize,
+    path: &Path<'_>,
+) -> Result<(), Error>
+    requires rests { IsAtRest thread.old root }
+    requires can { CanRemove (seen_kept thread.old.kept true false) path.now }
+    ensures done { OnOk result ((bytes : List ℕ) → as_path bytes ≡ path.now → Carries thread.old.kept (ops.Remove bytes) thread.new.kept) }
+    ensures works { OnOk result (thread.new.failed ≡ false) }
+    ensures called { HasCalled thread.old.kept thread.new.kept }
+    ensures no_fault { OnOk result (faults thread.new.kept.history ≡ faults thread.old.kept.history) }
+    ensures errors { IfErr result (TellsError thread.old.kept thread.new.kept) }
+    ensures survives { SurvivesTo thread.old.kept thread.new.kept (removed path.now (tree_in thread.old.kept.disk thread.old.kept.pairs)) }
+{
+    know_device(thread);
+    let found = find_entry(alloc, thread, root, path)?;
+    take_found(alloc, thread, found)?;
+    Ok(())
+}

@@ -1,0 +1,220 @@
+// Entries at paths that get another one, in a thread of which nothing is to be recovered.
+
+ghost use Rattle.std.specs.Prelude.{ℕ, ◌≡◌, ◌≢◌, List, false, true, OnOk, IfOk, IfErr};
+ghost use Rattle.lfs_model.specs.Apply.{renamed};
+ghost use Rattle.lfs_model.specs.History.{faults};
+ghost use Rattle.lfs_model.specs.Operations as ops;
+ghost use Rattle.lfs_model.specs.Steps.{as_path};
+ghost use Rattle.lfs_model.specs.Tree.{Path};
+ghost use Rattle.lfs_model.specs.View.{tree_in};
+ghost use Rattle.lfs_tree.specs.Allowed.{CanRename, IsElsewhere};
+ghost use Rattle.lfs_tree.specs.Carrying.{Carries, HasCalled, IsAtRest, SurvivesTo, TellsError};
+ghost use Rattle.lfs_tree.specs.CarryingSlots.{HasEntry, has_slot};
+ghost use Rattle.lfs_tree.specs.Held.{seen_kept};
+ghost use Rattle.lfs_tree.specs.Reading.{IsReading};
+ghost use Rattle.lfs_tree.specs.Shifting.{CanShiftFound, CanShiftOnto, CanShiftTo, HasShifted, HasShiftedOnto, IsSource, IsSourceIn, IsTarget, TellsOfWork, WritesApart};
+
+use crate::carrying::{know_device, last_of};
+use crate::carrying_removal::free_list;
+use crate::entry::Contents;
+use crate::path::Path;
+use crate::paths::{Found, look_up};
+use crate::search::Spot;
+use lfs_device::{BlockDevice, Error};
+use lfs_operations::{rename, rename_across, rename_onto_file, rename_onto_file_across};
+use lfs_thread::Thread;
+use std::alloc::Global;
+
+// An entry's slot, and the number of the first pair of its directory.
+#[derive(Clone, Copy, Drop)]
+pub(crate) struct Source {
+    pub(crate) slot: Spot,
+    pub(crate) first: usize,
+}
+
+// The slot of an entry that is found.
+fn source_in(found: Found) -> Source
+    requires { has_slot found ≡ true }
+    ensures { IsSourceIn found result }
+{
+    match found {
+        Found::Directory { parent, slot, .. } | Found::File { parent, slot, .. } => Source {
+            slot,
+            first: parent,
+        },
+        _ => unreachable!(),
+    }
+}
+
+// The slot of the entry at a path.
+fn find_source<D: BlockDevice>(
+    alloc: Global,
+    thread: &mut Thread<D>,
+    root: usize,
+    path: &Path<'_>,
+) -> Result<Source, Error>
+    requires rests { IsAtRest thread.old root }
+    requires there { HasEntry (tree_in thread.old.kept.disk thread.old.kept.pairs) path.now }
+    ensures source { IfOk result (IsSource thread.old.kept.pairs path.now) }
+    ensures reading { IsReading thread.old thread.new result }
+{
+    let names = path.names(alloc)?;
+    let found = look_up(thread, root, &names)?;
+    Ok(source_in(found))
+}
+
+// What is found at a path, and the path's last name.
+#[derive(Drop)]
+struct Target<'a> {
+    found: Found,
+    name: &'a [u8],
+}
+
+// What is at the path that an entry is to get.
+fn find_target<'a, D: BlockDevice>(
+    alloc: Global,
+    thread: &mut Thread<D>,
+    root: usize,
+    path: &Path<'a>,
+) -> Result<Target<'a>, Error>
+    requires { IsAtRest thread.old root }
+    ensures target { IfOk result (λ target. IsTarget thread.old.kept path.now target.found target.name.now) }
+    ensures reading { IsReading thread.old thread.new result }
+{
+    let names = path.names(alloc)?;
+    let found = look_up(thread, root, &names)?;
+    Ok(Target {
+        found,
+        name: last_of(&names),
+    })
+}
+
+// Gives an entry a name that isn't there, and belongs at the place.
+fn move_to<D: BlockDevice>(
+    alloc: Global,
+    thread: &mut Thread<D>,
+    source: Source,
+    place: Spot,
+    name: &[u8],
+) -> Result<(), Error>
+    requires works { thread.old.failed ≡ false }
+    requires can { (from to : Path) × CanShiftTo thread.old.kept from to source place name.now }
+    ensures shifted { OnOk result ((from to : Path) → CanShiftTo thread.old.kept from to source place name.now → HasShifted thread.old.kept from to thread.new.kept) }
+    ensures errors { TellsOfWork thread.old thread.new result }
+    ensures device { WritesApart thread.old.kept thread.new.kept }
+    ensures survives { (from to : Path) → CanShiftTo thread.old.kept from to source place name.now → SurvivesTo thread.old.kept thread.new.kept (renamed from to (tree_in thread.old.kept.disk thread.old.kept.pairs)) }
+{
+    let Source { slot, first } = source;
+    if slot.pair == place.pair {
+        rename(alloc, thread, slot.pair, slot.id, place.id, name)
+    } else {
+        rename_across(
+            alloc, thread, slot.pair, slot.id, first, place.pair, place.id, name,
+        )
+    }
+}
+
+// Puts an entry in the place of a file, whose list is left in the map.
+fn replace_file<D: BlockDevice>(
+    alloc: Global,
+    thread: &mut Thread<D>,
+    source: Source,
+    slot: Spot,
+    _contents: Contents,
+    name: &[u8],
+) -> Result<(), Error>
+    requires works { thread.old.failed ≡ false }
+    requires can { (from to : Path) × CanShiftOnto thread.old.kept from to source slot _contents name.now }
+    ensures shifted { OnOk result ((from to : Path) → CanShiftOnto thread.old.kept from to source slot _contents name.now → HasShiftedOnto thread.old.kept from to _contents thread.new.kept) }
+    ensures errors { TellsOfWork thread.old thread.new result }
+    ensures device { WritesApart thread.old.kept thread.new.kept }
+    ensures survives { (from to : Path) → CanShiftOnto thread.old.kept from to source slot _contents name.now → SurvivesTo thread.old.kept thread.new.kept (renamed from to (tree_in thread.old.kept.disk thread.old.kept.pairs)) }
+{
+    let from = source.slot;
+    if from.pair == slot.pair {
+        rename_onto_file(alloc, thread, from.pair, from.id, slot.id, name)
+    } else {
+        rename_onto_file_across(
+            alloc,
+            thread,
+            from.pair,
+            from.id,
+            source.first,
+            slot.pair,
+            slot.id,
+            name,
+        )
+    }
+}
+
+// Puts an entry in the place of a file.
+fn move_onto_file<D: BlockDevice>(
+    alloc: Global,
+    thread: &mut Thread<D>,
+    source: Source,
+    slot: Spot,
+    contents: Contents,
+    name: &[u8],
+) -> Result<(), Error>
+    requires works { thread.old.failed ≡ false }
+    requires can { (from to : Path) × CanShiftOnto thread.old.kept from to source slot contents name.now }
+    ensures shifted { OnOk result ((from to : Path) → CanShiftOnto thread.old.kept from to source slot contents name.now → HasShifted thread.old.kept from to thread.new.kept) }
+    ensures errors { TellsOfWork thread.old thread.new result }
+    ensures device { WritesApart thread.old.kept thread.new.kept }
+    ensures survives { (from to : Path) → CanShiftOnto thread.old.kept from to source slot contents name.now → SurvivesTo thread.old.kept thread.new.kept (renamed from to (tree_in thread.old.kept.disk thread.old.kept.pairs)) }
+{
+    replace_file(alloc, thread, source, slot, contents, name)?;
+    free_list(alloc, thread, contents)
+}
+
+// Gives an entry the path at which that was found.
+fn move_found<D: BlockDevice>(
+    alloc: Global,
+    thread: &mut Thread<D>,
+    source: Source,
+    found: Found,
+    name: &[u8],
+) -> Result<(), Error>
+    requires works { thread.old.failed ≡ false }
+    requires can { (from to : Path) × CanShiftFound thread.old.kept from to source found name.now }
+    ensures shifted { OnOk result ((from to : Path) → CanShiftFound thread.old.kept from to source found name.now → HasShifted thread.old.kept from to thread.new.kept) }
+    ensures errors { TellsOfWork thread.old thread.new result }
+    ensures device { WritesApart thread.old.kept thread.new.kept }
+    ensures survives { (from to : Path) → CanShiftFound thread.old.kept from to source found name.now → SurvivesTo thread.old.kept thread.new.kept (renamed from to (tree_in thread.old.kept.disk thread.old.kept.pairs)) }
+{
+    match found {
+        Found::Nothing { place, .. } => move_to(alloc, thread, source, place, name),
+        Found::File { slot, contents, .. } => {
+            move_onto_file(alloc, thread, source, slot, contents, name)
+        }
+        _ => unreachable!(),
+    }
+}
+
+// Gives an entry another path, at which no directory is. Nothing is to be recovered.
+//
+// `Io` where a call of the device failed, and `NoMemory` where memory isn't granted.
+pub(crate) fn rename_at<D: BlockDevice>(
+    alloc: Global,
+    thread: &mut Thread<D>,
+    root: usize,
+    from: &Path<'_>,
+    to: &Path<'_>,
+) -> Result<(), Error>
+    requires rests { IsAtRest thread.old root }
+    requires can { CanRename (seen_kept thread.old.kept true false) from.now to.now }
+    requires elsewhere { IsElsewhere (seen_kept thread.old.kept true false) from.now to.now }
+    ensures done { OnOk result ((given to_given : List ℕ) → as_path given ≡ from.now → as_path to_given ≡ to.now → Carries thread.old.kept (ops.Rename given to_given) thread.new.kept) }
+    ensures works { OnOk result (thread.new.failed ≡ false) }
+    ensures called { HasCalled thread.old.kept thread.new.kept }
+    ensures no_fault { OnOk result (faults thread.new.kept.history ≡ faults thread.old.kept.history) }
+    ensures errors { IfErr result (TellsError thread.old.kept thread.new.kept) }
+    ensures survives { SurvivesTo thread.old.kept thread.new.kept (renamed from.now to.now (tree_in thread.old.kept.disk thread.old.kept.pairs)) }
+{
+    to.know_names();
+    know_device(thread);
+    let source = find_source(alloc, thread, root, from)?;
+    let target = find_target(alloc, thread, root, to)?;
+    move_found(alloc, thread, source, target.found, target.name)?;
+    Ok(())
+}

@@ -1,0 +1,117 @@
+// The contents of files that are opened for writing.
+
+ghost use Rattle.std.specs.Prelude.{◌≡◌, [], false, length, true, IfErr, IfOk};
+ghost use Rattle.lfs_model.specs.Apply.{bytes_at, is_file};
+ghost use Rattle.lfs_model.specs.BlockSets.{in_flight_count};
+ghost use Rattle.lfs_model.specs.Slots.{Inline, Slot};
+ghost use Rattle.lfs_model.specs.View.{tree_in};
+ghost use Rattle.lfs_thread.specs.Beside.{IsDividedAs};
+ghost use Rattle.lfs_tree.specs.Held.{IsRooted};
+ghost use Rattle.lfs_tree.specs.OpenContents.{IsOpenedForm, IsOverFile, bytes_held};
+ghost use Rattle.lfs_tree.specs.Opening.{CanBeOpened, IsOpened, opened_form};
+ghost use Rattle.lfs_tree.specs.Reading.{IsReading};
+ghost use Rattle.lfs_tree.specs.declared.entry.Contents.TheVariants as entry_contents;
+ghost use Rattle.lfs_tree.specs.declared.search.Spot.{Spot as SpotSeen};
+ghost use Rattle.lfs_writer.specs.Contents.{IsIdle, form_of};
+ghost use Rattle.lfs_writer.specs.Form as form;
+
+use crate::by_path::shown_at;
+use crate::bytes_at::{file_of, inline_at};
+use crate::entry;
+use crate::path::Path;
+use crate::search::Spot;
+use lfs_device::{BlockDevice, Error, Geometry};
+use lfs_thread::Thread;
+use lfs_writer::{Contents, Stored, in_memory};
+use std::alloc::Global;
+
+// How the device of a thread is divided.
+fn geometry_of<D: BlockDevice>(thread: &Thread<D>) -> Geometry
+    ensures { IsDividedAs result thread.now.kept.disk }
+{
+    thread.device().geometry()
+}
+
+// Contents in memory, of a slot that has so many bytes.
+fn inline_opened<D: BlockDevice>(
+    alloc: Global,
+    thread: &mut Thread<D>,
+    slot: Spot,
+    len: usize,
+) -> Result<Contents, Error>
+    requires works { thread.old.failed ≡ false }
+    requires can { (held : Slot) × CanBeOpened thread.old.kept slot (entry_contents.Inline len) held }
+    ensures opened { (held : Slot) → CanBeOpened thread.old.kept slot (entry_contents.Inline len) held → IfOk result (IsOpened thread.new.kept held.struct (opened_form (entry_contents.Inline len))) }
+    ensures reading { IsReading thread.old thread.new result }
+{
+    let geometry = geometry_of(thread);
+    let bytes = inline_at(alloc, thread, slot, 0, len)?;
+    in_memory(alloc, geometry, &bytes)
+}
+
+// Contents in a finished list, of a slot that names it.
+fn list_opened<D: BlockDevice>(thread: &Thread<D>, head: u32, size: u32) -> Contents
+    ensures { (slot : SpotSeen) (held : Slot) → CanBeOpened thread.now.kept slot (entry_contents.List head size) held → IsOpened thread.now.kept held.struct (opened_form (entry_contents.List head size)) result }
+{
+    // Its blocks are of that size, for the proof.
+    let _geometry = geometry_of(thread);
+    Contents::Finished(Stored {
+        head,
+        size,
+        in_flight: false,
+    })
+}
+
+// Contents of a file, whose slot stands there.
+fn opened_from<D: BlockDevice>(
+    alloc: Global,
+    thread: &mut Thread<D>,
+    slot: Spot,
+    contents: entry::Contents,
+) -> Result<Contents, Error>
+    requires works { thread.old.failed ≡ false }
+    requires can { (held : Slot) × CanBeOpened thread.old.kept slot contents held }
+    ensures opened { (held : Slot) → CanBeOpened thread.old.kept slot contents held → IfOk result (IsOpened thread.new.kept held.struct (opened_form contents)) }
+    ensures reading { IsReading thread.old thread.new result }
+{
+    match contents {
+        entry::Contents::Inline { len } => inline_opened(alloc, thread, slot, len),
+        entry::Contents::List { head, size } => Ok(list_opened(thread, head, size)),
+    }
+}
+
+// The contents of the file at a path: in memory where they stand in its entry, else its list.
+pub(crate) fn open_at<D: BlockDevice>(
+    alloc: Global,
+    thread: &mut Thread<D>,
+    root: usize,
+    path: &Path<'_>,
+) -> Result<Contents, Error>
+    requires held { IsRooted thread.old root true }
+    requires idle { in_flight_count thread.old.kept.map ≡ 0 }
+    requires file { is_file (tree_in thread.old.kept.disk thread.old.kept.pairs path.now) ≡ true }
+    ensures over { IfOk result (IsOverFile thread.new.kept path.now) }
+    ensures bytes { IfOk result (λ c. bytes_held thread.new.kept c ≡ bytes_at (tree_in thread.old.kept.disk thread.old.kept.pairs path.now)) }
+    ensures form { IfOk result (λ c. IsOpenedForm thread.old.kept.disk.block_size (length (bytes_at (tree_in thread.old.kept.disk thread.old.kept.pairs path.now))) (form_of c)) }
+    ensures reading { IsReading thread.old thread.new result }
+{
+    let shown = shown_at(alloc, thread, root, path)?;
+    let Some((slot, contents)) = file_of(shown) else {
+        unreachable!()
+    };
+    // By its sizes a list has as many bytes as its entry says.
+    let _device = thread.device();
+    opened_from(alloc, thread, slot, contents)
+}
+
+// Contents of no bytes.
+pub(crate) fn no_contents<D: BlockDevice>(
+    alloc: Global,
+    thread: &Thread<D>,
+) -> Result<Contents, Error>
+    requires { IsIdle thread.now.kept.map thread.now.kept.disk.blocks }
+    ensures opened { IfOk result (IsOpened thread.now.kept (Inline []) (form.InMemory 0)) }
+    ensures errors { IfErr result (λ e. e ≡ Error.NoMemory) }
+{
+    in_memory(alloc, geometry_of(thread), &[])
+}

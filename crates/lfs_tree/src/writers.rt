@@ -1,0 +1,148 @@
+// The contents of files that are open for writing.
+
+ghost use Rattle.std.specs.Prelude.{◌≡◌, [], false, true, length, take, IfErr, IfOk, OnErr, OnOk};
+ghost use Rattle.lfs_model.specs.Apply.{bytes_at, change_at, is_file};
+ghost use Rattle.lfs_model.specs.BlockSets.{in_flight_count};
+ghost use Rattle.lfs_model.specs.Disk.{inline_limit};
+ghost use Rattle.lfs_model.specs.Session.{overwritten, zeros_to};
+ghost use Rattle.lfs_model.specs.Steps.{with_bytes};
+ghost use Rattle.lfs_model.specs.Tree.{Path as ModelPath};
+ghost use Rattle.lfs_tree.specs.OpenContents.{CanOpen, CanStoreAt, CanTruncateBeside, CanWriteBeside, IsOpenedForm, IsOver, IsStoredAt, IsWrittenBeside, bytes_held, kept_of};
+ghost use Rattle.lfs_tree.specs.Seen.{IsAsked, IsBroken, IsBrokenAsking, IsError, SurvivesAs, tree_seen};
+ghost use Rattle.lfs_writer.specs.Contents.{form_of};
+ghost use Rattle.lfs_writer.specs.Form as form;
+ghost use Rattle.lfs_writer.specs.Form.{truncated, written};
+
+use crate::image::Image;
+use crate::opening::{no_contents, open_at};
+use crate::path::Path;
+use crate::storing::store_file_at;
+use crate::tree::Tree;
+use lfs_device::{BlockDevice, Error};
+use lfs_files::{truncate_file, write_file};
+use lfs_writer::Contents;
+use std::alloc::Global;
+
+impl<D: BlockDevice> Tree<D> {
+    /// The contents of a file for a writer that opens it: in memory where they stand in its entry, else its list.
+    ///
+    /// `Io` where a read failed, and `NoMemory` where memory isn't granted. It has failed then.
+    pub fn contents(&mut self, alloc: Global, path: &Path<'_>) -> Result<Contents, Error>
+        requires { CanOpen self.old path.now }
+        ensures asked { OnOk result (IsAsked self.old self.new) }
+        ensures over { IfOk result (IsOver self.new path.now) }
+        ensures bytes { IfOk result (λ c. bytes_held (kept_of self.new) c ≡ bytes_at (tree_seen self.old path.now)) }
+        ensures form { IfOk result (λ c. IsOpenedForm self.old.disk.block_size (length (bytes_at (tree_seen self.old path.now))) (form_of c)) }
+        ensures broken { OnErr result (IsBrokenAsking self.old self.new) }
+        ensures errors { IfErr result (IsError self.old self.new) }
+    {
+        let Image::Mounted(thread) = &mut self.image else {
+            unreachable!()
+        };
+        let contents = open_at(alloc, thread, self.root, path);
+        self.has_failed = contents.is_err();
+        contents
+    }
+
+    /// Contents of no bytes, for a writer that opens a file to write it anew.
+    ///
+    /// `NoMemory` where memory isn't granted. It has failed then.
+    pub fn empty_contents(&mut self, alloc: Global) -> Result<Contents, Error>
+        requires works { self.old.failed ≡ false }
+        requires idle { in_flight_count self.old.map ≡ 0 }
+        ensures same { OnOk result (self.new ≡ self.old) }
+        ensures over { (path : ModelPath) → is_file (tree_seen self.old path) ≡ true → IfOk result (IsOver self.new path) }
+        ensures bytes { IfOk result (λ c. bytes_held (kept_of self.new) c ≡ []) }
+        ensures form { IfOk result (λ c. form_of c ≡ form.InMemory 0) }
+        ensures broken { OnErr result (IsBrokenAsking self.old self.new) }
+        ensures errors { IfErr result (IsError self.old self.new) }
+    {
+        let Image::Mounted(thread) = &mut self.image else {
+            unreachable!()
+        };
+        let contents = no_contents(alloc, thread);
+        self.has_failed = contents.is_err();
+        contents
+    }
+
+    /// Writes bytes, at least one, at a place of a writer's contents; zeros fill a gap before it. The image stays as it is.
+    ///
+    /// The contents are gone after an error: `Io` where a call of the device failed, and `NoMemory` where memory isn't
+    /// granted. The tree has failed then.
+    pub fn write(
+        &mut self,
+        alloc: Global,
+        contents: Contents,
+        place: u32,
+        bytes: &[u8],
+    ) -> Result<Contents, Error>
+        requires { CanWriteBeside self.old contents place (length bytes.now) }
+        ensures over { (path : ModelPath) → IsOver self.old path contents → IfOk result (IsOver self.new path) }
+        ensures bytes { IfOk result (λ c. bytes_held (kept_of self.new) c ≡ overwritten (bytes_held (kept_of self.old) contents) place bytes.now) }
+        ensures form { IfOk result (λ c. form_of c ≡ written (inline_limit self.old.disk.block_size) place (length bytes.now) (form_of contents)) }
+        ensures beside { OnOk result (IsWrittenBeside self.old self.new) }
+        ensures broken { OnErr result (IsBroken self.old self.new) }
+        ensures errors { IfErr result (IsError self.old self.new) }
+        ensures survives { self.old.writable ≡ true → SurvivesAs self.old self.new (tree_seen self.old) }
+    {
+        let limit = self.geometry().inline_limit();
+        let Image::Mounted(thread) = &mut self.image else {
+            unreachable!()
+        };
+        let written = write_file(alloc, thread, contents, limit, place, bytes);
+        self.has_failed = written.is_err();
+        written
+    }
+
+    /// Cuts a writer's contents to a size, or fills them up to it with zeros. The image stays as it is.
+    ///
+    /// Errors as those of [`write`](Tree::write).
+    pub fn truncate(
+        &mut self,
+        alloc: Global,
+        contents: Contents,
+        size: u32,
+    ) -> Result<Contents, Error>
+        requires { CanTruncateBeside self.old contents size }
+        ensures over { (path : ModelPath) → IsOver self.old path contents → IfOk result (IsOver self.new path) }
+        ensures bytes { IfOk result (λ c. bytes_held (kept_of self.new) c ≡ take size (zeros_to size (bytes_held (kept_of self.old) contents))) }
+        ensures form { IfOk result (λ c. form_of c ≡ truncated (inline_limit self.old.disk.block_size) size (form_of contents)) }
+        ensures beside { OnOk result (IsWrittenBeside self.old self.new) }
+        ensures broken { OnErr result (IsBroken self.old self.new) }
+        ensures errors { IfErr result (IsError self.old self.new) }
+        ensures survives { self.old.writable ≡ true → SurvivesAs self.old self.new (tree_seen self.old) }
+    {
+        let limit = self.geometry().inline_limit();
+        let Image::Mounted(thread) = &mut self.image else {
+            unreachable!()
+        };
+        let truncated = truncate_file(alloc, thread, contents, limit, size);
+        self.has_failed = truncated.is_err();
+        truncated
+    }
+
+    /// Commits a writer's contents: the file has them then, and no block is in flight any more.
+    ///
+    /// Errors as those of [`write`](Tree::write).
+    pub fn store(&mut self, alloc: Global, path: &Path<'_>, contents: Contents) -> Result<(), Error>
+        requires { CanStoreAt self.old path.now contents }
+        ensures stored { OnOk result (IsStoredAt self.old path.now (bytes_held (kept_of self.old) contents) self.new) }
+        ensures broken { OnErr result (IsBroken self.old self.new) }
+        ensures errors { IfErr result (IsError self.old self.new) }
+        ensures survives { SurvivesAs self.old self.new (change_at path.now (with_bytes (bytes_held (kept_of self.old) contents)) (tree_seen self.old)) }
+    {
+        let Image::Mounted(thread) = &mut self.image else {
+            unreachable!()
+        };
+        match store_file_at(alloc, thread, self.root, path, contents) {
+            Ok(root) => {
+                self.root = root;
+                Ok(())
+            }
+            Err(error) => {
+                self.has_failed = true;
+                Err(error)
+            }
+        }
+    }
+}

@@ -1,5 +1,5 @@
 -- From an operation's checks, and what the tree does, to its turn.
-use Rattle.std.proofs.Common.{inl, inr, ℕ, ◌≡◌, Bool, true, false, cond, List, [], ◌++◌, Some, None, Result, Ok, Err, refl, sym, ap, ap₂, subst, ◌∙◌, append_assoc, arith, ◌<◌, nat_le}
+use Rattle.std.proofs.Common.{◌∷◌, length, Option, inl, inr, ℕ, ◌≡◌, Bool, true, false, cond, List, [], ◌++◌, Some, None, Result, Ok, Err, refl, sym, ap, ap₂, subst, ◌∙◌, append_assoc, arith, ◌<◌, nat_le}
 use Rattle.std.proofs.lemmas.Bool.Decides.{nat_tests}
 use Rattle.std.proofs.lemmas.Option.{same_Some}
 use Rattle.lfs_model.specs.History.{Event}
@@ -10,10 +10,10 @@ use Rattle.lfs_model.specs.Steps.{as_path, refusal_of, effect_of}
 use Rattle.lfs_model.specs.State.{Healthy, is_remount}
 use Rattle.lfs_model.specs.Recovery.{recovers}
 use Rattle.lfs_model.specs.Run.{IsTurn, only_asks, creates_nothing, fills, needs_no_call, lays_out}
-use Rattle.lfs_model.proofs.TurnsMade.{IsOver, refused_turn, completed_turn, asked_turn, failed_turn}
-use Rattle.std.specs.Prelude.{◌⊎◌, OnOk, OnErr, IfOk, IfErr, is_err, is_none, not, if◌then◌else◌}
+use Rattle.lfs_model.proofs.TurnsMade.{IsOver, idle_turn, refused_turn, completed_turn, asked_turn, failed_turn}
+use Rattle.std.specs.Prelude.{◌⊎◌, ◌||◌, OnOk, OnErr, IfOk, IfErr, is_err, is_none, is_some, not, if◌then◌else◌}
 use Rattle.lfs_model.specs.Tree.{FileNode}
-use Rattle.lfs_model.specs.Apply.{added as add_file, bytes_at}
+use Rattle.lfs_model.specs.Apply.{added as add_file, bytes_at, is_file}
 use Rattle.lfs_device.specs.declared.error.Error.{Error}
 use Rattle.lfs_device.specs.declared.error.Error.TheVariants.{Io, NoMemory}
 use Rattle.lfs_model.specs.Headline.{is_question}
@@ -21,9 +21,17 @@ use Rattle.lfs_model.proofs.Turns.{not_remount}
 use Rattle.lfs_tree.specs.Refusals.{is_refusal, refusal_in}
 use Rattle.lfs_fs.specs.Replies.{reply_in}
 use Rattle.lfs_tree.specs.Seen.{Seen, tree_seen, around_of, IsSound, IsAsked, IsBroken, IsError, IsCarried}
-use Rattle.lfs_model.specs.BlockSets.{IsInFlight, in_flight_count}
+use Rattle.lfs_model.specs.BlockSets.{IsInFlight}
 use Rattle.lfs_model.proofs.BlockCounts.{few_flying, in_flight-freed}
-use Rattle.lfs_fs.specs.Held.{Held, IsReady, held_with, session_of, moment_of, refused_by, EndsChecks, Checks, FailsBy, Answers}
+use Rattle.lfs_fs.specs.FileSeen.{OpenFiles, bytes_of, files_seen, has_unsaved, reader_seen, writer_seen, writers_in}
+use Rattle.lfs_fs.specs.declared.files.OpenFile.TheVariants as file
+use Rattle.lfs_model.specs.Slots.{no_gstate}
+use Rattle.lfs_model.specs.Thread.{gstate_of}
+use Rattle.lfs_model.specs.Tree.{Path}
+use Rattle.lfs_fs.specs.declared.files.Writer.{Writer}
+use Rattle.lfs_fs.specs.declared.files.Unsaved.{Unsaved}
+use Rattle.std.specs.List.{AllByRecursion, list_any}
+use Rattle.lfs_fs.specs.Held.{Held, IsReady, IsUnsavedIn, IsWritten, held_of, held_with, session_of, moment_of, refused_by, EndsChecks, Checks, FailsBy, Answers}
 use Rattle.lfs_fs.proofs.Failing.{reads_write_nothing, nothing_written, failed_moment, healthy_moment, asking_fails, broken_fails, memory_fails}
 
 -- the tree, further on by some calls
@@ -43,7 +51,7 @@ is_over t files sound = record {
 
 -- ---- a refusal
 
-pub refused_answer : (old : Held) (op : Operation) (refusal : Refusal) (tree : Seen) → (old.tree.failed ≡ false → IsReady old.tree) → is_remount op ≡ false →
+pub refused_answer : (old : Held) (op : Operation) (refusal : Refusal) (tree : Seen) → (old.tree.failed ≡ false → IsSound old.tree) → is_remount op ≡ false →
     IsAsked old.tree tree → refused_by old op ≡ Some refusal → IsTurn (moment_of old) op (ops.Refused refusal) (moment_of (held_with tree old.files))
 unfolding later
 refused_answer old op refusal tree sound other asked e = go old.tree.failed refl
@@ -60,7 +68,7 @@ refused_answer old op refusal tree sound other asked e = go old.tree.failed refl
         subst (λ t. IsTurn (moment_of old) op (ops.Refused refusal) (moment_of (held_with t old.files))) (sym (asked_later old.tree tree asked))
         (subst (λ m. IsTurn m op (ops.Refused refusal) (moment_of new)) (sym (healthy_moment old f))
         (subst (λ m. IsTurn (record { disk = old.tree.disk; calls = old.tree.history; state = Healthy (session_of old) }) op (ops.Refused refusal) m) (sym (healthy_moment new f))
-        (refused_turn old.tree.disk old.tree.pairs (session_of old) (around_of old.tree) op refusal asked.reads.events old.tree.history (is_over old.tree old.files (sound f).sound) other is)))
+        (refused_turn old.tree.disk old.tree.pairs (session_of old) (around_of old.tree) op refusal asked.reads.events old.tree.history (is_over old.tree old.files (sound f)) other is)))
 
 -- ---- an accepted operation
 
@@ -74,8 +82,25 @@ not_failed h op e = go h.tree.failed refl
 pub not_refused : (h : Held) (op : Operation) → refused_by h op ≡ None → refusal_of (around_of h.tree) (session_of h) op ≡ None
 not_refused h op e = sym (ap (λ b. cond b (Some Failed) (refusal_of (around_of h.tree) (session_of h) op)) (not_failed h op e)) ∙ e
 
+-- by reads alone, where there is nothing to do
+pub idle_answer : (old : Held) (op : Operation) (tree : Seen) (files : Files) → (old.tree.failed ≡ false → IsSound old.tree) → (asked : IsAsked old.tree tree) → refused_by old op ≡ None →
+    is_remount op ≡ false → (effect_of (around_of old.tree) (session_of old) op).1 ≡ record { tree = tree_seen old.tree; files = files } →
+    recovers op ≡ false → lays_out (session_of old) op ≡ false → (needs_no_call (session_of old) op ≡ true → asked.reads.events ≡ []) →
+    IsTurn (moment_of old) op (effect_of (around_of old.tree) (session_of old) op).0 (moment_of (held_with tree files))
+unfolding later
+idle_answer old op tree files sound asked e other same none still silent =
+    let works = not_failed old op e in
+    let events = asked.reads.events in
+    let to = healthy_moment (held_with (later old.tree events) files) works
+    ∙ ap (λ (s : Session). record { disk = old.tree.disk; calls = events ++ old.tree.history; state = Healthy s }) (sym same) in
+    subst (λ t. IsTurn (moment_of old) op (effect_of (around_of old.tree) (session_of old) op).0 (moment_of (held_with t files))) (sym (asked_later old.tree tree asked))
+    (subst (λ m. IsTurn m op (effect_of (around_of old.tree) (session_of old) op).0 (moment_of (held_with (later old.tree events) files))) (sym (healthy_moment old works))
+    (subst (λ m. IsTurn (record { disk = old.tree.disk; calls = old.tree.history; state = Healthy (session_of old) }) op (effect_of (around_of old.tree) (session_of old) op).0 m) (sym to)
+    (idle_turn old.tree.disk old.tree.pairs (session_of old) (around_of old.tree) op events old.tree.history (is_over old.tree old.files (sound works)) (not_refused old op e) other
+    (ap (λ (s : Session). s.tree) same) none still (reads_write_nothing old.tree.disk.blocks events asked.reads.each) silent)))
+
 -- by reads alone
-pub asked_answer : (old : Held) (op : Operation) (tree : Seen) (files : Files) → (old.tree.failed ≡ false → IsReady old.tree) → (asked : IsAsked old.tree tree) → refused_by old op ≡ None →
+pub asked_answer : (old : Held) (op : Operation) (tree : Seen) (files : Files) → (old.tree.failed ≡ false → IsSound old.tree) → (asked : IsAsked old.tree tree) → refused_by old op ≡ None →
     is_remount op ≡ false → only_asks (session_of old) op ≡ true → (effect_of (around_of old.tree) (session_of old) op).1 ≡ record { tree = tree_seen old.tree; files = files } →
     recovers op ≡ false → lays_out (session_of old) op ≡ false → (needs_no_call (session_of old) op ≡ true → asked.reads.events ≡ []) →
     IsTurn (moment_of old) op (effect_of (around_of old.tree) (session_of old) op).0 (moment_of (held_with tree files))
@@ -88,11 +113,11 @@ asked_answer old op tree files sound asked e other asks same none still silent =
     subst (λ t. IsTurn (moment_of old) op (effect_of (around_of old.tree) (session_of old) op).0 (moment_of (held_with t files))) (sym (asked_later old.tree tree asked))
     (subst (λ m. IsTurn m op (effect_of (around_of old.tree) (session_of old) op).0 (moment_of (held_with (later old.tree events) files))) (sym (healthy_moment old works))
     (subst (λ m. IsTurn (record { disk = old.tree.disk; calls = old.tree.history; state = Healthy (session_of old) }) op (effect_of (around_of old.tree) (session_of old) op).0 m) (sym to)
-    (asked_turn old.tree.disk old.tree.pairs (session_of old) (around_of old.tree) op events old.tree.history (is_over old.tree old.files (sound works).sound) (not_refused old op e) other asks
+    (asked_turn old.tree.disk old.tree.pairs (session_of old) (around_of old.tree) op events old.tree.history (is_over old.tree old.files (sound works)) (not_refused old op e) other asks
     (ap (λ (s : Session). s.tree) same) none still (reads_write_nothing old.tree.disk.blocks events asked.reads.each) silent)))
 
 -- the tree carries it out
-pub carried_answer : (old : Held) (op : Operation) (mid new : Seen) (files : Files) → (old.tree.failed ≡ false → IsReady old.tree) → IsAsked old.tree mid → refused_by old op ≡ None →
+pub carried_answer : (old : Held) (op : Operation) (mid new : Seen) (files : Files) → (old.tree.failed ≡ false → IsSound old.tree) → IsAsked old.tree mid → refused_by old op ≡ None →
     IsCarried mid op new → is_remount op ≡ false → only_asks (session_of old) op ≡ false → fills op ≡ false → creates_nothing (session_of old) op ≡ false → needs_no_call (session_of old) op ≡ false →
     (effect_of (around_of old.tree) (session_of old) op).1.files ≡ files →
     IsTurn (moment_of old) op (effect_of (around_of old.tree) (session_of old) op).0 (moment_of (held_with new files))
@@ -107,7 +132,7 @@ carried_answer old op mid new files sound asked e carried other asks fill create
     let writes = reads_write_nothing old.tree.disk.blocks events asked.reads.each in
     subst (λ m. IsTurn m op (effect_of (around_of old.tree) (session_of old) op).0 (moment_of (held_with new files))) (sym (healthy_moment old works))
     (subst (λ m. IsTurn (record { disk = old.tree.disk; calls = old.tree.history; state = Healthy (session_of old) }) op (effect_of (around_of old.tree) (session_of old) op).0 m) (sym to)
-    (completed_turn old.tree.disk old.tree.pairs (session_of old) (around_of old.tree) op new.disk new.pairs (c.calls ++ events) old.tree.history (is_over old.tree old.files (sound works).sound) (not_refused old op e)
+    (completed_turn old.tree.disk old.tree.pairs (session_of old) (around_of old.tree) op new.disk new.pairs (c.calls ++ events) old.tree.history (is_over old.tree old.files (sound works)) (not_refused old op e)
     (record {
       geometry = c.geometry;
       other = other;
@@ -123,7 +148,7 @@ carried_answer old op mid new files sound asked e carried other asks fill create
 -- ---- calls
 
 -- checks that ended in an error
-pub ended : (old : Held) (op : Operation) (e : Error) (tree : Seen) → (old.tree.failed ≡ false → IsReady old.tree) → is_remount op ≡ false → EndsChecks (is_refusal e) old op e tree →
+pub ended : (old : Held) (op : Operation) (e : Error) (tree : Seen) → (old.tree.failed ≡ false → IsSound old.tree) → is_remount op ≡ false → EndsChecks (is_refusal e) old op e tree →
     Answers old op (cond (is_refusal e) (Ok (ops.Refused (refusal_in e))) (Err e)) (held_with tree old.files)
 ended old op e tree sound other h = go (is_refusal e) h
   where
@@ -132,7 +157,7 @@ ended old op e tree sound other h = go (is_refusal e) h
     go false k = asking_fails e old op tree old.files k.1 k.0 k.2
 
 -- the same of a call that gives the error on
-pub ended_call : {B : Type 0} (old now : Held) (op : Operation) (reply : B → Reply) (e : Error) (tree : Seen) (r : Result B Error) → old ≡ now → (old.tree.failed ≡ false → IsReady old.tree) →
+pub ended_call : {B : Type 0} (old now : Held) (op : Operation) (reply : B → Reply) (e : Error) (tree : Seen) (r : Result B Error) → old ≡ now → (old.tree.failed ≡ false → IsSound old.tree) →
     is_remount op ≡ false → EndsChecks (is_refusal e) old op e tree → r ≡ Err e → Answers now op (reply_in reply r) (held_with tree old.files)
 ended_call old now op reply e tree r same sound other h is =
     subst (λ z. Answers z op (reply_in reply r) (held_with tree old.files)) same
@@ -177,7 +202,7 @@ question_lays_nothing s ops.UsedCount e = refl
 question_lays_nothing s _ e = absurd (cc)
 
 -- a question that reads alone answer
-pub question_answers : {A : Type 0} (old : Held) (op : Operation) (reply : A → Reply) (P : A → Type 0) (checked : Result A Error) (tree : Seen) → (old.tree.failed ≡ false → IsReady old.tree) →
+pub question_answers : {A : Type 0} (old : Held) (op : Operation) (reply : A → Reply) (P : A → Type 0) (checked : Result A Error) (tree : Seen) → (old.tree.failed ≡ false → IsSound old.tree) →
     is_question op ≡ true → needs_no_call (session_of old) op ≡ false → ((x : A) → P x → reply x ≡ (effect_of (around_of old.tree) (session_of old) op).0) →
     Checks old op P checked tree → Answers old op (reply_in reply checked) (held_with tree old.files)
 question_answers old op reply P (Err e) tree sound asks silent answer h = ended old op e tree sound (not_remount op asks) h
@@ -185,35 +210,86 @@ question_answers old op reply P (Ok x) tree sound asks silent answer h =
     subst (λ r. IsTurn (moment_of old) op r (moment_of (held_with tree old.files))) (sym (answer x h.2))
     (asked_answer old op tree old.files sound h.0 h.1 (not_remount op asks) (question_only_asks (session_of old) op asks) (question_keeps (around_of old.tree) (session_of old) op asks) (question_recovers_nothing op asks) (question_lays_nothing (session_of old) op asks) (λ k. absurd (let l = sym silent ∙ k in cc)))
 
-pub asked_ready : (old new : Seen) → (old.failed ≡ false → IsReady old) → IsAsked old new → new.failed ≡ false → IsReady new
-asked_ready old new ready asked f =
-    subst IsReady (sym asked.same) (again (ready (sym (ap (λ (t : Seen). t.failed) asked.same) ∙ f)))
+pub sound_later : (old new : Seen) → IsSound old → IsAsked old new → IsSound new
+sound_later old new h asked =
+    subst IsSound (sym asked.same) (again h)
   where
-    again : IsReady old → IsReady (record old { history = new.history })
+    again : IsSound old → IsSound (record old { history = new.history })
+    again h = record { accepted = h.accepted; fits = h.fits; is_kept = h.is_kept; used = h.used; size = h.size }
+
+unsaved_later : (t : Seen) (history : List Event) (w : Writer) (u : Option Unsaved) → IsUnsavedIn t w u → IsUnsavedIn (record t { history = history }) w u
+unsaved_later t history w None h = tt
+unsaved_later t history w (Some u) h = record {
+  over = record {
+    file = h.over.file;
+    stands = record { geometry = h.over.stands.geometry; divided = h.over.stands.divided; stands = h.over.stands.stands };
+    owned = h.over.owned;
+  };
+  kept = h.kept;
+  form = h.form;
+  room = h.room;
+}
+
+written_later : (t : Seen) (history : List Event) (ws : List Writer) → AllByRecursion (IsWritten t) ws → AllByRecursion (IsWritten (record t { history = history })) ws
+written_later t history [] h = h
+written_later t history (w ∷ ws) h = (record { writable = h.0.writable; settled = h.0.settled; there = h.0.there; size = same w.unsaved (h.0.size); changed = unsaved_later t history w w.unsaved h.0.changed }, written_later t history ws h.1)
+  where
+    same : (u : Option Unsaved) → length (bytes_of t w.path u) ≡ w.size → length (bytes_of (record t { history = history }) w.path u) ≡ w.size
+    same None e = e
+    same (Some u) e = e
+
+pub ready_later : (old new : Seen) (files : OpenFiles) → IsReady old files → IsAsked old new → IsReady new files
+ready_later old new files h asked =
+    subst (λ t. IsReady t files) (sym asked.same) (again h)
+  where
+    again : IsReady old files → IsReady (record old { history = new.history }) files
     again h = record {
       sound = record { accepted = h.sound.accepted; fits = h.sound.fits; is_kept = h.sound.is_kept; used = h.sound.used; size = h.sound.size };
-      no_flight = h.no_flight;
+      one = h.one;
+      idle = h.idle;
+      written = written_later old new.history (writers_in files) h.written;
     }
 
+pub asked_ready : (old new : Seen) (files : OpenFiles) → (old.failed ≡ false → IsReady old files) → IsAsked old new → new.failed ≡ false → IsReady new files
+asked_ready old new files ready asked f = ready_later old new files (ready (sym (ap (λ (t : Seen). t.failed) asked.same) ∙ f)) asked
+
+pub sound_by : (t : Seen) (files : OpenFiles) → (t.failed ≡ false → IsReady t files) → t.failed ≡ false → IsSound t
+sound_by t files ready f = (ready f).sound
+
 -- the checks leave a tree that is ready, or a broken one
-pub checked_ready : {A : Type 0} (old : Held) (op : Operation) (P : A → Type 0) (r : Result A Error) (tree : Seen) → (old.tree.failed ≡ false → IsReady old.tree) → Checks old op P r tree →
-    tree.failed ≡ false → IsReady tree
-checked_ready old op P (Ok x) tree ready h f = asked_ready old.tree tree ready h.0 f
-checked_ready old op P (Err e) tree ready h f = go (is_refusal e) h
+pub checked_ready : {A : Type 0} (t : Seen) (files : OpenFiles) (op : Operation) (P : A → Type 0) (r : Result A Error) (tree : Seen) → (t.failed ≡ false → IsReady t files) → Checks (held_of t files) op P r tree →
+    tree.failed ≡ false → IsReady tree files
+checked_ready t files op P (Ok x) tree ready h f = asked_ready t tree files ready h.0 f
+checked_ready t files op P (Err e) tree ready h f = go (is_refusal e) h
   where
-    go : (b : Bool) → EndsChecks b old op e tree → IsReady tree
-    go true k = asked_ready old.tree tree ready k.0 f
+    go : (b : Bool) → EndsChecks b (held_of t files) op e tree → IsReady tree files
+    go true k = asked_ready t tree files ready k.0 f
     go false k = absurd (let l = sym k.0.failed ∙ f in cc)
 
--- the operation leaves no block in flight
-pub carried_ready : (old new : Seen) (op : Operation) → in_flight_count old.map ≡ 0 → IsCarried old op new → IsReady new
-carried_ready old new op none carried = record {
-  sound = carried.sound;
-  no_flight = let k = few_flying [] new.map (λ b h. absurd (never b (carried.flight.none_comes b h))) in omega (arith, k);
-}
+-- ---- the open files over a tree that was only asked
+
+-- a session that failed has no files
+pub with_files : (old : Held) (op : Operation) (r : Result Reply Error) (tree : Seen) (f g : Files) → (tree.failed ≡ false → f ≡ g) → Answers old op r (held_with tree f) → Answers old op r (held_with tree g)
+with_files old op r tree f g same h = go tree.failed refl
   where
-    never : (b : ℕ) → IsInFlight old.map b → ⊥
-    never b h = let k = in_flight-freed old.map b h in absurd (omega (arith, k, none))
+    moved : (r : Result Reply Error) → moment_of (held_with tree f) ≡ moment_of (held_with tree g) → Answers old op r (held_with tree f) → Answers old op r (held_with tree g)
+    moved (Ok reply) e k = subst (λ m. IsTurn (moment_of old) op reply m) e k
+    moved (Err x) e k = subst (λ m. FailsBy x (moment_of old) op m) e k
+
+    go : (b : Bool) → tree.failed ≡ b → Answers old op r (held_with tree g)
+    go false e = subst (λ z. Answers old op r (held_with tree z)) (same e) h
+    go true e = moved r (failed_moment (held_with tree f) e ∙ sym (failed_moment (held_with tree g) e)) h
+
+pub files_asked : (old : Held) (op : Operation) (r : Result Reply Error) (t tree : Seen) (files : OpenFiles) → (tree.failed ≡ false → IsAsked t tree) → Answers old op r (held_with tree (files_seen t files)) → Answers old op r (held_of tree files)
+files_asked old op r t tree files asked h = with_files old op r tree (files_seen t files) (files_seen tree files) (λ e. sym (ap (λ z. files_seen z files) (asked e).same)) h
+
+pub asked_by_checks : {A : Type 0} (t : Seen) (files : OpenFiles) (op : Operation) (P : A → Type 0) (r : Result A Error) (tree : Seen) → Checks (held_of t files) op P r tree → tree.failed ≡ false → IsAsked t tree
+asked_by_checks t files op P (Ok x) tree h f = h.0
+asked_by_checks t files op P (Err e) tree h f = go (is_refusal e) h
+  where
+    go : (b : Bool) → EndsChecks b (held_of t files) op e tree → IsAsked t tree
+    go true k = k.0
+    go false k = absurd (let l = sym k.0.failed ∙ f in cc)
 
 pub no_refusal_io : (e : Error) → (e ≡ Io) ⊎ (e ≡ NoMemory) → is_refusal e ≡ false
 no_refusal_io e (inl h) = ap is_refusal h
@@ -225,7 +301,7 @@ pub error_answers : (old : Held) (op : Operation) (e : Error) (new : Held) (repl
 error_answers old op e new reply is fails = subst (λ b. Answers old op (cond b (Ok reply) (Err e)) new) (sym (no_refusal_io e is)) fails
 
 -- an operation that the tree carries out once no check refuses it
-pub done_answers : (K : Type 0) (old now : Held) (op : Operation) (mid new : Seen) (r : Result (Unit {0}) Error) → old ≡ now → (old.tree.failed ≡ false → IsReady old.tree) → IsAsked old.tree mid → refused_by old op ≡ None →
+pub done_answers : (K : Type 0) (old now : Held) (op : Operation) (mid new : Seen) (r : Result (Unit {0}) Error) → old ≡ now → (old.tree.failed ≡ false → IsSound old.tree) → IsAsked old.tree mid → refused_by old op ≡ None →
     is_remount op ≡ false → only_asks (session_of old) op ≡ false → fills op ≡ false → creates_nothing (session_of old) op ≡ false → needs_no_call (session_of old) op ≡ false →
     (effect_of (around_of old.tree) (session_of old) op).0 ≡ ops.Done → (effect_of (around_of old.tree) (session_of old) op).1.files ≡ old.files →
     OnOk r K → (K → IsCarried mid op new) → OnErr r (IsBroken mid new) → IfErr r (IsError mid new) → Answers now op (reply_in (λ u. ops.Done) r) (held_with new old.files)
@@ -240,13 +316,13 @@ done_answers K old now op mid new r is sound asked e other asks fill creates sil
 
 -- a question's call
 pub question_call : {A : Type 0} (old now : Held) (op : Operation) (reply : A → Reply) (P : A → Type 0) (checked : Result A Error) (tree : Seen) → old ≡ now →
-    (old.tree.failed ≡ false → IsReady old.tree) → is_question op ≡ true → needs_no_call (session_of old) op ≡ false → ((x : A) → P x → reply x ≡ (effect_of (around_of old.tree) (session_of old) op).0) →
+    (old.tree.failed ≡ false → IsSound old.tree) → is_question op ≡ true → needs_no_call (session_of old) op ≡ false → ((x : A) → P x → reply x ≡ (effect_of (around_of old.tree) (session_of old) op).0) →
     Checks old op P checked tree → Answers now op (reply_in reply checked) (held_with tree old.files)
 question_call old now op reply P checked tree same sound asks silent answer h =
     subst (λ z. Answers z op (reply_in reply checked) (held_with tree old.files)) same (question_answers old op reply P checked tree sound asks silent answer h)
 
 -- an operation by reads alone that changes the open files
-pub files_answers : (old now : Held) (op : Operation) (tree : Seen) (files : Files) (reply : Reply) → old ≡ now → (old.tree.failed ≡ false → IsReady old.tree) → IsAsked old.tree tree → refused_by old op ≡ None →
+pub files_answers : (old now : Held) (op : Operation) (tree : Seen) (files : Files) (reply : Reply) → old ≡ now → (old.tree.failed ≡ false → IsSound old.tree) → IsAsked old.tree tree → refused_by old op ≡ None →
     is_remount op ≡ false → only_asks (session_of old) op ≡ true → recovers op ≡ false → lays_out (session_of old) op ≡ false → needs_no_call (session_of old) op ≡ false →
     effect_of (around_of old.tree) (session_of old) op ≡ (reply, record { tree = tree_seen old.tree; files = files }) → Answers now op (Ok reply) (held_with tree files)
 files_answers old now op tree files reply same sound asked e other asks none still silent is =
@@ -258,7 +334,7 @@ abbrev pub nothing_asked : (t : Seen) → IsAsked t t
 nothing_asked t = record { same = refl; failed = λ e. refl; reads = record { events = []; extends = refl; each = tt }; no_fault = refl }
 
 -- a refusal without a call
-pub ended_kept : {B : Type 0} (old now : Held) (op : Operation) (reply : B → Reply) (e : Error) (r : Result B Error) → old ≡ now → (old.tree.failed ≡ false → IsReady old.tree) →
+pub ended_kept : {B : Type 0} (old now : Held) (op : Operation) (reply : B → Reply) (e : Error) (r : Result B Error) → old ≡ now → (old.tree.failed ≡ false → IsSound old.tree) →
     is_remount op ≡ false → (is_refusal e ≡ true) × (refused_by old op ≡ Some (refusal_in e)) → r ≡ Err e → Answers now op (reply_in reply r) now
 ended_kept old now op reply e r same sound other h is =
     subst (λ z. Answers z op (reply_in reply r) z) same
@@ -266,13 +342,13 @@ ended_kept old now op reply e r same sound other h is =
     (ended old op e old.tree sound other (subst (λ b. EndsChecks b old op e old.tree) (sym h.0) (nothing_asked old.tree, h.1))))
 
 -- an operation without a call that changes the open files
-pub files_kept : (old now : Held) (op : Operation) (files : Files) (reply : Reply) → old ≡ now → (old.tree.failed ≡ false → IsReady old.tree) → refused_by old op ≡ None →
+pub files_kept : (old now : Held) (op : Operation) (files : Files) (reply : Reply) → old ≡ now → (old.tree.failed ≡ false → IsSound old.tree) → refused_by old op ≡ None →
     is_remount op ≡ false → only_asks (session_of old) op ≡ true → recovers op ≡ false → lays_out (session_of old) op ≡ false → needs_no_call (session_of old) op ≡ false →
     effect_of (around_of old.tree) (session_of old) op ≡ (reply, record { tree = tree_seen old.tree; files = files }) → Answers now op (Ok reply) (held_with old.tree files)
 files_kept old now op files reply same sound e = files_answers old now op old.tree files reply same sound (nothing_asked old.tree) e
 
 -- a file opened for reading
-pub reader_answers : (old now : Held) (bytes : List ℕ) (flags : Flags) (tree : Seen) (files : Files) (r : Result ℕ Error) → old ≡ now → (old.tree.failed ≡ false → IsReady old.tree) → flags.write ≡ false →
+pub reader_answers : (old now : Held) (bytes : List ℕ) (flags : Flags) (tree : Seen) (files : Files) (r : Result ℕ Error) → old ≡ now → (old.tree.failed ≡ false → IsSound old.tree) → flags.write ≡ false →
     IsAsked old.tree tree → refused_by old (ops.Open bytes flags) ≡ None → is_none (tree_seen old.tree (as_path bytes)) ≡ false →
     false ≡ is_err r → IfOk r (λ fd. fd ≡ free_number old.files) → OnOk r (files ≡ put_file old.files (free_number old.files) (Some (Reading (record { path = as_path bytes; position = 0 })))) →
     Answers now (ops.Open bytes flags) (reply_in ops.Opened r) (held_with tree files)
@@ -301,9 +377,83 @@ reader_fails old now bytes flags tree left files (Err x) same asked e ok error i
 pub few_readers : (n : ℕ) → nat_le 16 n ≡ false → n < 16
 few_readers n e = grind (arith, nat_tests)
 
+-- an operation that makes no call and leaves the tree
+pub kept_answer : (old now : Held) (op : Operation) (files : Files) (reply : Reply) → old ≡ now → (old.tree.failed ≡ false → IsSound old.tree) → refused_by old op ≡ None →
+    is_remount op ≡ false → recovers op ≡ false → lays_out (session_of old) op ≡ false →
+    effect_of (around_of old.tree) (session_of old) op ≡ (reply, record { tree = tree_seen old.tree; files = files }) → Answers now op (Ok reply) (held_with old.tree files)
+kept_answer old now op files reply same sound e other none still is =
+    let works = not_failed old op e in
+    let to = healthy_moment (held_with old.tree files) works
+    ∙ ap (λ (s : Session). record { disk = old.tree.disk; calls = old.tree.history; state = Healthy s }) (sym (ap (λ (z : Reply × Session). z.1) is)) in
+    subst (λ z. Answers z op (Ok reply) (held_with old.tree files)) same
+    (subst (λ r. IsTurn (moment_of old) op r (moment_of (held_with old.tree files))) (ap (λ (z : Reply × Session). z.0) is)
+    (subst (λ m. IsTurn m op (effect_of (around_of old.tree) (session_of old) op).0 (moment_of (held_with old.tree files))) (sym (healthy_moment old works))
+    (subst (λ m. IsTurn (record { disk = old.tree.disk; calls = old.tree.history; state = Healthy (session_of old) }) op (effect_of (around_of old.tree) (session_of old) op).0 m) (sym to)
+    (idle_turn old.tree.disk old.tree.pairs (session_of old) (around_of old.tree) op [] old.tree.history (is_over old.tree old.files (sound works)) (not_refused old op e) other
+    (ap (λ (z : Reply × Session). z.1.tree) is) none still (refl, refl) (λ k. refl)))))
+
+-- ---- files while the tree changes
+
+-- the files of the writers are there as before
+abbrev pub KeepsWriters : Seen → Seen → List Writer → Type 0
+KeepsWriters t s ws = AllByRecursion (λ w. (is_file (tree_seen s w.path) ≡ true) × (bytes_at (tree_seen s w.path) ≡ bytes_at (tree_seen t w.path))) ws
+
+-- every file is
+abbrev pub KeepsFiles : Seen → Seen → Type 0
+KeepsFiles t s = (p : Path) → is_file (tree_seen t p) ≡ true → (is_file (tree_seen s p) ≡ true) × (bytes_at (tree_seen s p) ≡ bytes_at (tree_seen t p))
+
+unsaved_none : (u : Option Unsaved) (b : Bool) → (is_some u || b) ≡ false → (u ≡ None) × (b ≡ false)
+unsaved_none None b e = (refl, e)
+unsaved_none (Some u) b e = absurd (cc)
+
+pub keeps_writers : (t s : Seen) (ws : List Writer) → KeepsFiles t s → AllByRecursion (IsWritten t) ws → KeepsWriters t s ws
+keeps_writers t s [] keeps h = tt
+keeps_writers t s (w ∷ ws) keeps h = (keeps w.path h.0.there, keeps_writers t s ws keeps h.1)
+
+pub kept_files : (t s : Seen) (files : OpenFiles) → has_unsaved files ≡ false → KeepsWriters t s (writers_in files) → files_seen t files ≡ files_seen s files
+kept_files t s [] e k = refl
+kept_files t s (None ∷ fs) e k = ap (λ z. None ∷ z) (kept_files t s fs e k)
+kept_files t s (Some (file.Reading r) ∷ fs) e k = ap (λ z. Some (Reading (reader_seen r)) ∷ z) (kept_files t s fs e k)
+kept_files t s (Some (file.Writing w) ∷ fs) e k =
+    let u = unsaved_none w.unsaved (has_unsaved fs) e in
+    ap₂ (λ x z. Some (Writing x) ∷ z) (one w.unsaved u.0) (kept_files t s fs u.1 k.1)
+  where
+    one : (u : Option Unsaved) → w.unsaved ≡ None → writer_seen t w ≡ writer_seen s w
+    one u n = rw n (ap (λ (bytes : List ℕ). record { path = w.path; contents = bytes; position = w.position; append = w.appends; dirty = false; turned = false; last_end = None }) (sym k.0.1))
+
+written_still : (t s : Seen) (ws : List Writer) → list_any (λ w. is_some w.unsaved) ws ≡ false → s.writable ≡ true → gstate_of s.pairs ≡ no_gstate → KeepsWriters t s ws →
+    AllByRecursion (IsWritten t) ws → AllByRecursion (IsWritten s) ws
+written_still t s [] e writable settled k h = tt
+written_still t s (w ∷ ws) e writable settled k h =
+    let u = unsaved_none w.unsaved (list_any (λ w. is_some w.unsaved) ws) e in
+    (record { writable = writable; settled = settled; there = k.0.0; size = same u.0; changed = subst (IsUnsavedIn s w) (sym u.0) tt }, written_still t s ws u.1 writable settled k.1 h.1)
+  where
+    same : w.unsaved ≡ None → length (bytes_of s w.path w.unsaved) ≡ w.size
+    same n = ap (λ z. length (bytes_of s w.path z)) n ∙ ap (λ bs. length bs) k.0.1 ∙ sym (ap (λ z. length (bytes_of t w.path z)) n) ∙ h.0.size
+
+-- an operation leaves a session ready without a changed writer
+pub carried_ready : (old new : Seen) (files : OpenFiles) (op : Operation) → IsReady old files → has_unsaved files ≡ false → KeepsWriters old new (writers_in files) → IsCarried old op new → IsReady new files
+carried_ready old new files op ready e keeps carried = record {
+  sound = carried.sound;
+  one = ready.one;
+  idle = λ h. let k = few_flying [] new.map (λ b h. absurd (never b (carried.flight.none_comes b h))) in omega (arith, k);
+  written = written_still old new (writers_in files) e carried.writable carried.recovered.gstate keeps ready.written;
+}
+  where
+    never : (b : ℕ) → IsInFlight old.map b → ⊥
+    never b h = let k = in_flight-freed old.map b h in let none = ready.idle e in absurd (omega (arith, k, none))
+
 -- what an operation leaves once no check refuses it
-pub done_ready : (K : Type 0) (old : Held) (op : Operation) (mid new : Seen) (r : Result (Unit {0}) Error) → (old.tree.failed ≡ false → IsReady old.tree) → IsAsked old.tree mid → refused_by old op ≡ None →
-    OnOk r K → (K → IsCarried mid op new) → OnErr r (IsBroken mid new) → new.failed ≡ false → IsReady new
-done_ready K old op mid new (Ok u) ready asked e k carried broken works =
-    carried_ready mid new op (ap (λ (t : Seen). in_flight_count t.map) asked.same ∙ (ready (not_failed old op e)).no_flight) (carried k)
-done_ready K old op mid new (Err x) ready asked e k carried broken works = absurd (let l = sym broken.failed ∙ works in cc)
+pub done_ready : (K : Type 0) (old mid new : Seen) (files : OpenFiles) (op : Operation) (r : Result (Unit {0}) Error) → (old.failed ≡ false → IsReady old files) → IsAsked old mid → refused_by (held_of old files) op ≡ None →
+    has_unsaved files ≡ false → (IsCarried mid op new → KeepsFiles mid new) → OnOk r K → (K → IsCarried mid op new) → OnErr r (IsBroken mid new) → new.failed ≡ false → IsReady new files
+done_ready K old mid new files op (Ok u) ready asked e saved keeps k carried broken works =
+    let now = ready_later old mid files (ready (not_failed (held_of old files) op e)) asked in
+    carried_ready mid new files op now saved (keeps_writers mid new (writers_in files) (keeps (carried k)) now.written) (carried k)
+done_ready K old mid new files op (Err x) ready asked e saved keeps k carried broken works = absurd (let l = sym broken.failed ∙ works in cc)
+
+pub done_files : (K : Type 0) (old mid new : Seen) (files : OpenFiles) (op : Operation) (r : Result (Unit {0}) Error) → (old.failed ≡ false → IsReady old files) → IsAsked old mid → refused_by (held_of old files) op ≡ None →
+    has_unsaved files ≡ false → (IsCarried mid op new → KeepsFiles mid new) → OnOk r K → (K → IsCarried mid op new) → OnErr r (IsBroken mid new) → new.failed ≡ false → files_seen old files ≡ files_seen new files
+done_files K old mid new files op (Ok u) ready asked e saved keeps k carried broken works =
+    let now = ready_later old mid files (ready (not_failed (held_of old files) op e)) asked in
+    sym (ap (λ z. files_seen z files) asked.same) ∙ kept_files mid new files saved (keeps_writers mid new (writers_in files) (keeps (carried k)) now.written)
+done_files K old mid new files op (Err x) ready asked e saved keeps k carried broken works = absurd (let l = sym broken.failed ∙ works in cc)

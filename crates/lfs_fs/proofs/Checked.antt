@@ -20,7 +20,7 @@ use Rattle.lfs_tree.specs.Seen.{Seen, tree_seen, around_of, IsAsked, IsBrokenAsk
 use Rattle.lfs_tree.specs.Allowed.{CanMake}
 use Rattle.lfs_model.specs.BlockSets.{in_flight_count}
 use Rattle.lfs_tree.specs.Finds.{Finds, is_absent, is_directory_node, size_in}
-use Rattle.lfs_fs.specs.Held.{Held, IsReady, IsReadable, refused_by, EndsChecks, Checks}
+use Rattle.lfs_fs.specs.Held.{Held, IsReadable, refused_by, EndsChecks, Checks}
 use Rattle.lfs_tree.specs.declared.finding.Finding.{Finding}
 use Rattle.lfs_fs.proofs.Answered.{not_failed, not_refused, no_refusal_io}
 use Rattle.lfs_fs.proofs.Errors.{error_refuses, refusal_again}
@@ -46,7 +46,7 @@ both e es = ap₂ (λ x xs. x ∷ xs) e es
 pub when : {a : Option Refusal} {b c : Bool} (error : Refusal) → a ≡ refuse_if b error → b ≡ c → a ≡ refuse_if c error
 when error e f = e ∙ ap (λ b. refuse_if b error) f
 
-there : {A : Type 0} → (o : Option A) → is_some o ≡ not (is_none o)
+pub there : {A : Type 0} → (o : Option A) → is_some o ≡ not (is_none o)
 there None = refl
 there (Some x) = refl
 
@@ -106,7 +106,7 @@ pub negated : (b : Bool) → not b ≡ false → b ≡ true
 negated true e = refl
 negated false e = absurd (cc)
 
-room_left : (n m k f l : ℕ) → f ≡ 0 → nat_lt n (m + k + l) ≡ false → m + f + l ≤ n
+pub room_left : (n m k f l : ℕ) → f ≡ 0 → nat_lt n (m + k + l) ≡ false → m + f + l ≤ n
 room_left n m k f l none e = grind (arith, nat_tests)
 
 mkdir_passed : (h : Held) (bytes : List ℕ) → gstate_of h.tree.pairs ≡ no_gstate → in_flight_count h.tree.map ≡ 0 → refused_by h (ops.Mkdir bytes) ≡ None → CanMake h.tree (as_path bytes)
@@ -130,9 +130,9 @@ mkdir_passed h bytes settled flight e =
     }
 
 -- the directory can be made at the path that the checks let pass
-pub mkdir_can : (h : Held) (bytes : List ℕ) (path : Path) (tree : Seen) → gstate_of tree.pairs ≡ no_gstate → (h.tree.failed ≡ false → IsReady h.tree) → Checks h (ops.Mkdir bytes) (λ p. p ≡ as_path bytes) (Ok path) tree → CanMake tree path
+pub mkdir_can : (h : Held) (bytes : List ℕ) (path : Path) (tree : Seen) → gstate_of tree.pairs ≡ no_gstate → (h.tree.failed ≡ false → in_flight_count h.tree.map ≡ 0) → Checks h (ops.Mkdir bytes) (λ p. p ≡ as_path bytes) (Ok path) tree → CanMake tree path
 mkdir_can h bytes path tree settled ready c =
-    let can = mkdir_passed h bytes (ap (λ (t : Seen). gstate_of t.pairs) (sym c.0.same) ∙ settled) (ready (not_failed h (ops.Mkdir bytes) c.1)).no_flight c.1 in
+    let can = mkdir_passed h bytes (ap (λ (t : Seen). gstate_of t.pairs) (sym c.0.same) ∙ settled) (ready (not_failed h (ops.Mkdir bytes) c.1)) c.1 in
     subst (λ t. CanMake t path) (sym c.0.same) (subst (λ z. CanMake (record h.tree { history = tree.history }) z) (sym c.2)
     (record { works = can.works; writable = can.writable; settled = can.settled; parents = can.parents; name = can.name; nothing = can.nothing; fits = can.fits; room = can.room }))
 

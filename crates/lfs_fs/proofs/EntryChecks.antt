@@ -167,7 +167,7 @@ remove_attr_checked items h bytes kind p found mid tree attribute absent none a 
     lists : (found.fault ∷ a ∷ b ∷ []) ≡ (found.fault ∷ refuse_if (is_absent found.node) ops.NoEnt ∷ refuse_if (is_none (attribute_of kind (attributes_of (tree_seen h.tree p)))) ops.NoAttr ∷ [])
     lists = both refl (both (when ops.NoEnt a_is absent_is) (both (when ops.NoAttr b_is (missing items attribute _ none (attr ∙ ap (λ (t : Seen). attribute_of kind (attributes_of (tree_seen t p))) same) none_is)) refl))
 
-good_root : (o : Option Path) → bad_entry o ≡ false → is_root (unwrap_or o []) ≡ false
+pub good_root : (o : Option Path) → bad_entry o ≡ false → is_root (unwrap_or o []) ≡ false
 good_root None e = absurd (cc)
 good_root (Some p) e = e
 

@@ -18,8 +18,9 @@ use Rattle.lfs_model.proofs.Turns.{not_remount}
 use Rattle.lfs_tree.specs.Finds.{list_item_seen}
 use Rattle.lfs_tree.specs.declared.finding.ListItem.{ListItem}
 use Rattle.lfs_tree.specs.Refusals.{refusal_in}
-use Rattle.lfs_tree.specs.Seen.{Seen, tree_seen, around_of, IsAsked, IsBrokenAsking, IsError}
+use Rattle.lfs_tree.specs.Seen.{Seen, IsSound, tree_seen, around_of, IsAsked, IsBrokenAsking, IsError}
 use Rattle.lfs_fs.specs.Replies.{reply_in}
+use Rattle.lfs_fs.specs.FileSeen.{OpenFiles}
 use Rattle.lfs_fs.specs.Held.{Held, IsReady, held_with, session_of, moment_of, refused_by, Answers}
 use Rattle.lfs_fs.proofs.Failing.{asking_fails}
 use Rattle.lfs_fs.proofs.Answered.{refused_answer, asked_answer, nothing_asked, asked_ready, not_failed, error_answers, question_answers, question_only_asks, question_keeps, question_recovers_nothing, question_lays_nothing}
@@ -32,12 +33,12 @@ failed_by h op e = ap (λ b. cond b (Some Failed) (refusal_of (around_of h.tree)
 pub works_by : (h : Held) (op : Operation) (r : Option ops.Refusal) → false ≡ h.tree.failed → refusal_of (around_of h.tree) (session_of h) op ≡ r → refused_by h op ≡ r
 works_by h op r e is = ap (λ b. cond b (Some Failed) (refusal_of (around_of h.tree) (session_of h) op)) (sym e) ∙ is
 
-pub refused_kept : (old now : Held) (op : Operation) (e : Error) → old ≡ now → (old.tree.failed ≡ false → IsReady old.tree) → is_remount op ≡ false → refused_by old op ≡ Some (refusal_in e) →
+pub refused_kept : (old now : Held) (op : Operation) (e : Error) → old ≡ now → (old.tree.failed ≡ false → IsSound old.tree) → is_remount op ≡ false → refused_by old op ≡ Some (refusal_in e) →
     Answers now op (Ok (ops.Refused (refusal_in e))) now
 refused_kept old now op e same ready other is =
     subst (λ z. Answers z op (Ok (ops.Refused (refusal_in e))) z) same (refused_answer old op (refusal_in e) old.tree ready other (nothing_asked old.tree) is)
 
-pub question_kept : (old now : Held) (op : Operation) (reply : Reply) → old ≡ now → (old.tree.failed ≡ false → IsReady old.tree) → is_question op ≡ true → refused_by old op ≡ None →
+pub question_kept : (old now : Held) (op : Operation) (reply : Reply) → old ≡ now → (old.tree.failed ≡ false → IsSound old.tree) → is_question op ≡ true → refused_by old op ≡ None →
     reply ≡ (effect_of (around_of old.tree) (session_of old) op).0 → Answers now op (Ok reply) now
 question_kept old now op reply same ready asks e is =
     subst (λ z. Answers z op (Ok reply) z) same
@@ -85,7 +86,7 @@ error_either a b c (Ok x) h k = tt
 error_either a b c (Err e) h k = error_twice a b c e h k
 
 -- a question that is answered by one more call
-pub asked_done : {A : Type 0} (old now : Held) (op : Operation) (reply : A → Reply) (mid new : Seen) (r : Result A Error) → old ≡ now → (old.tree.failed ≡ false → IsReady old.tree) → IsAsked old.tree mid → refused_by old op ≡ None →
+pub asked_done : {A : Type 0} (old now : Held) (op : Operation) (reply : A → Reply) (mid new : Seen) (r : Result A Error) → old ≡ now → (old.tree.failed ≡ false → IsSound old.tree) → IsAsked old.tree mid → refused_by old op ≡ None →
     is_question op ≡ true → needs_no_call (session_of old) op ≡ false → OnOk r (IsAsked mid new) → IfOk r (λ x. reply x ≡ (effect_of (around_of old.tree) (session_of old) op).0) →
     OnErr r (IsBrokenAsking mid new) → IfErr r (IsError mid new) → Answers now op (reply_in reply r) (held_with new old.files)
 asked_done {A} old now op reply mid new r same ready asked e asks silent ok is broken errors =
@@ -99,10 +100,18 @@ asked_done {A} old now op reply mid new r same ready asked e asks silent ok is b
         error_answers old op x (held_with new old.files) (ops.Refused (refusal_in x)) errors.errors
         (asking_fails x old op new old.files (not_failed old op e) (broken_twice old.tree mid new asked broken) (error_twice old.tree mid new x asked errors))
 
-pub asked_done_ready : {A : Type 0} (old mid new : Seen) (r : Result A Error) → (old.failed ≡ false → IsReady old) → IsAsked old mid → OnOk r (IsAsked mid new) → OnErr r (IsBrokenAsking mid new) →
-    new.failed ≡ false → IsReady new
-asked_done_ready old mid new (Ok x) ready asked ok broken works = asked_ready old new ready (asked_twice old mid new asked ok) works
-asked_done_ready old mid new (Err x) ready asked ok broken works = absurd (let l = sym broken.failed ∙ works in cc)
+pub asked_done_ready : {A : Type 0} (old mid new : Seen) (files : OpenFiles) (r : Result A Error) → (old.failed ≡ false → IsReady old files) → IsAsked old mid → OnOk r (IsAsked mid new) → OnErr r (IsBrokenAsking mid new) →
+    new.failed ≡ false → IsReady new files
+asked_done_ready old mid new files (Ok x) ready asked ok broken works = asked_ready old new files ready (asked_twice old mid new asked ok) works
+asked_done_ready old mid new files (Err x) ready asked ok broken works = absurd (let l = sym broken.failed ∙ works in cc)
+
+pub asked_by_both : {A : Type 0} (old mid new : Seen) (r : Result A Error) → IsAsked old mid → OnOk r (IsAsked mid new) → OnErr r (IsBrokenAsking mid new) → new.failed ≡ false → IsAsked old new
+asked_by_both old mid new (Ok x) asked ok broken works = asked_twice old mid new asked ok
+asked_by_both old mid new (Err x) asked ok broken works = absurd (let l = sym broken.failed ∙ works in cc)
+
+pub asked_unless : {A : Type 0} (old new : Seen) (r : Result A Error) → OnOk r (IsAsked old new) → OnErr r (IsBrokenAsking old new) → new.failed ≡ false → IsAsked old new
+asked_unless old new (Ok x) ok broken works = ok
+asked_unless old new (Err x) ok broken works = absurd (let l = sym broken.failed ∙ works in cc)
 
 -- what a list names
 pub list_items : {A : Type 0} (f : A → List ListItem) (old : Held) (bytes : List ℕ) (p : Path) (mid : Seen) (r : Result A Error) → IsAsked old.tree mid → p ≡ as_path bytes →

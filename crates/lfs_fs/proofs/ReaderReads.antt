@@ -8,8 +8,8 @@ use Rattle.lfs_model.specs.Operations.{Operation, Reply}
 use Rattle.lfs_model.specs.Session.{Files, OpenFile, Reader, Reading, Writing, file_of, put_file, reader_of, refuse_if}
 use Rattle.lfs_model.specs.Steps.{moved_to, read_effect, size_of}
 use Rattle.lfs_model.specs.Tree.{Node, FileNode, DirectoryNode}
-use Rattle.lfs_tree.specs.Seen.{Seen, tree_seen, IsAsked}
-use Rattle.lfs_fs.specs.Held.{Held, IsReady, held_with, session_of, refused_by, Answers}
+use Rattle.lfs_tree.specs.Seen.{Seen, IsSound, tree_seen, IsAsked}
+use Rattle.lfs_fs.specs.Held.{Held, held_with, session_of, refused_by, Answers}
 use Rattle.lfs_device.specs.declared.error.Error.{Error}
 use Rattle.lfs_tree.specs.Refusals.{refusal_in}
 use Rattle.lfs_tree.specs.Seen.{IsBrokenAsking, IsError}
@@ -33,7 +33,7 @@ no_reader h fd count works e = works_by h (ops.Read fd count) (Some ops.BadFile)
 pub a_reader : (h : Held) (fd count : ℕ) (r : Reader) → false ≡ h.tree.failed → Some r ≡ reader_of (file_of h.files fd) → refused_by h (ops.Read fd count) ≡ None
 a_reader h fd count r works e = works_by h (ops.Read fd count) None works (ap (λ z. refuse_if (is_none z) ops.BadFile) (sym e))
 
-pub read_answers : (old now : Held) (fd count : ℕ) (r : Reader) (tree : Seen) (files : Files) (bytes : List ℕ) (position : ℕ) → old ≡ now → (old.tree.failed ≡ false → IsReady old.tree) → false ≡ old.tree.failed → IsAsked old.tree tree →
+pub read_answers : (old now : Held) (fd count : ℕ) (r : Reader) (tree : Seen) (files : Files) (bytes : List ℕ) (position : ℕ) → old ≡ now → (old.tree.failed ≡ false → IsSound old.tree) → false ≡ old.tree.failed → IsAsked old.tree tree →
     Some r ≡ reader_of (file_of old.files fd) → bytes ≡ take count (drop r.position (bytes_at (tree_seen old.tree r.path))) → position ≡ r.position + length bytes →
     files ≡ put_file old.files fd (option_map (moved_to position) (file_of old.files fd)) → Answers now (ops.Read fd count) (Ok (ops.Bytes bytes)) (held_with tree files)
 read_answers old now fd count r tree files bytes position same ready works asked is bytes_are at files_are =

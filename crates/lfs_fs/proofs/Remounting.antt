@@ -1,14 +1,16 @@
 -- Files closed, and a device read anew.
-use Rattle.std.proofs.Common.{◌≡◌, inl, inr, true, false, cond, List, [], ◌++◌, Option, Some, None, is_some, Result, Ok, Err, ℕ, refl, sym, ap, ap₂, subst, ◌∙◌}
+use Rattle.std.proofs.Common.{arith, ◌≡◌, inl, inr, true, false, cond, set, is_none, List, [], ◌++◌, Option, Some, None, is_some, Result, Ok, Err, ℕ, refl, sym, ap, ap₂, subst, ◌∙◌}
 use Rattle.std.specs.Prelude.{◌⊎◌, OnOk, OnErr, IfErr}
 use Rattle.lfs_device.specs.declared.error.Error.{Error}
 use Rattle.lfs_device.specs.declared.error.Error.TheVariants.{Io, NoMemory, Corrupt, Unsupported}
 use Rattle.lfs_model.specs.Disk.{Disk, SameGeometry}
 use Rattle.lfs_model.specs.History.{Event}
 use Rattle.lfs_model.specs.Operations as ops
-use Rattle.lfs_model.specs.Session.{Files, OpenFile, Reading, Writing, file_of, put_file, reader_of}
+use Rattle.lfs_model.specs.Session.{Files}
 use Rattle.lfs_model.specs.State.{Healthy, Surrounds, mounted}
-use Rattle.lfs_model.specs.Steps.{committed}
+use Rattle.lfs_model.specs.Steps.{committed, with_bytes}
+use Rattle.lfs_model.specs.Apply.{change_at}
+use Rattle.std.specs.Option.{option_map}
 use Rattle.lfs_model.specs.Thread.{Pair}
 use Rattle.lfs_model.specs.Tree.{Tree}
 use Rattle.lfs_model.specs.View.{IsAccepted, tree_in}
@@ -17,29 +19,46 @@ use Rattle.lfs_model.proofs.TurnsMade.{remounted_turn}
 use Rattle.lfs_tree.specs.Refusals.{is_refusal, refusal_in}
 use Rattle.lfs_tree.specs.Seen.{Seen, tree_seen, around_of, IsBrokenAsking, IsMountError, IsMountedTree}
 use Rattle.lfs_fs.specs.Replies.{reply_in}
-use Rattle.lfs_fs.specs.Held.{Held, IsReady, held_with, moment_of, refused_by, FailsBy, Answers, IsUnsupported}
+use Rattle.lfs_fs.specs.FileSeen.{OpenFiles, bytes_of, entry_of, is_unsaved_entry, file_seen, files_seen}
+use Rattle.lfs_fs.specs.declared.files.OpenFile as kept
+use Rattle.lfs_fs.specs.declared.files.OpenFile.TheVariants as file
+use Rattle.lfs_fs.specs.declared.files.Unsaved.{Unsaved}
+use Rattle.lfs_fs.specs.Held.{Held, IsReady, held_of, held_with, moment_of, refused_by, FailsBy, Answers, IsUnsupported}
+use Rattle.lfs_fs.proofs.OpenFiles.{file_is, is_saved, ready_closed, saved_is, set_is}
 use Rattle.lfs_fs.proofs.Failing.{reads_write_nothing, failed_moment, healthy_moment}
-use Rattle.lfs_fs.proofs.Answered.{asked_answer, is_over, nothing_asked}
+use Rattle.lfs_fs.proofs.Answered.{is_over, kept_answer, sound_by}
 
--- ---- a reader is closed
+-- ---- a file is closed of which nothing is to be saved
 
-no_tree_change : (f : Option OpenFile) (t : Tree) → is_some (reader_of f) ≡ true → committed f t ≡ t
-no_tree_change None t e = absurd (cc)
-no_tree_change (Some (Reading r)) t e = refl
-no_tree_change (Some (Writing w)) t e = absurd (cc)
+not_some : (u : Option Unsaved) → is_none u ≡ true → is_some u ≡ false
+not_some None e = refl
+not_some (Some u) e = absurd (cc)
 
-not_dirty : (f : Option OpenFile) → is_some (reader_of f) ≡ true → is_dirty f ≡ false
-not_dirty None e = absurd (cc)
-not_dirty (Some (Reading r)) e = refl
-not_dirty (Some (Writing w)) e = absurd (cc)
+pub no_tree_change : (t : Seen) (f : Option kept.OpenFile) (tree : Tree) → is_saved f ≡ true → committed (option_map (file_seen t) f) tree ≡ tree
+no_tree_change t None tree e = refl
+no_tree_change t (Some (file.Reading r)) tree e = refl
+no_tree_change t (Some (file.Writing w)) tree e = ap (λ b. cond b (change_at w.path (with_bytes (bytes_of t w.path w.unsaved)) tree) tree) (not_some w.unsaved e)
 
-pub closed : (old now : Held) (fd : ℕ) (files : Files) → old ≡ now → (old.tree.failed ≡ false → IsReady old.tree) → refused_by old (ops.Close fd) ≡ None → is_some (reader_of (file_of old.files fd)) ≡ true →
-    files ≡ put_file old.files fd None → Answers now (ops.Close fd) (Ok ops.Done) (held_with old.tree files)
-closed old now fd files same ready e reader is =
-    subst (λ z. Answers z (ops.Close fd) (Ok ops.Done) (held_with old.tree files)) same
-    (asked_answer old (ops.Close fd) old.tree files ready (nothing_asked old.tree) e refl reader
-    (ap₂ (λ t f. record { tree = t; files = f }) (no_tree_change (file_of old.files fd) (tree_seen old.tree) reader) (sym is))
-    refl (not_dirty (file_of old.files fd) reader) (λ k. refl))
+pub not_dirty : (t : Seen) (f : Option kept.OpenFile) → is_saved f ≡ true → is_dirty (option_map (file_seen t) f) ≡ false
+not_dirty t None e = refl
+not_dirty t (Some (file.Reading r)) e = refl
+not_dirty t (Some (file.Writing w)) e = not_some w.unsaved e
+
+-- no call is made
+pub closed : (t : Seen) (fs : OpenFiles) (now : Held) (fd : ℕ) → held_of t fs ≡ now → (t.failed ≡ false → IsReady t fs) → refused_by (held_of t fs) (ops.Close fd) ≡ None → is_some (entry_of fs fd) ≡ true → is_saved (entry_of fs fd) ≡ true →
+    Answers now (ops.Close fd) (Ok ops.Done) (held_of t (set fs fd None))
+closed t fs now fd same ready e there nothing =
+    kept_answer (held_of t fs) now (ops.Close fd) (files_seen t (set fs fd None)) ops.Done same (sound_by t fs ready) e refl refl
+    (ap is_dirty (file_is t fs fd) ∙ not_dirty t (entry_of fs fd) nothing)
+    (ap₂ (λ t f. (ops.Done, record { tree = t; files = f })) (ap (λ f. committed f (tree_seen t)) (file_is t fs fd) ∙ no_tree_change t (entry_of fs fd) (tree_seen t) nothing) (sym (set_is t fs fd None there)))
+
+pub closed_answers : (t : Seen) (fs gs : OpenFiles) (now : Held) (fd : ℕ) → held_of t fs ≡ now → (t.failed ≡ false → IsReady t fs) → refused_by (held_of t fs) (ops.Close fd) ≡ None → is_some (entry_of fs fd) ≡ true →
+    false ≡ is_unsaved_entry (entry_of fs fd) → gs ≡ set fs fd None → Answers now (ops.Close fd) (Ok ops.Done) (held_of t gs)
+closed_answers t fs gs now fd same ready e there saved is =
+    subst (λ z. Answers now (ops.Close fd) (Ok ops.Done) (held_of t z)) (sym is) (closed t fs now fd same ready e there (saved_is (entry_of fs fd) (sym saved)))
+
+pub closed_ready : (t : Seen) (fs gs : OpenFiles) (fd : ℕ) → false ≡ is_unsaved_entry (entry_of fs fd) → (t.failed ≡ false → IsReady t fs) → gs ≡ set fs fd None → t.failed ≡ false → IsReady t gs
+closed_ready t fs gs fd saved ready is works = subst (IsReady t) (sym is) (ready_closed t fs fd (saved_is (entry_of fs fd) (sym saved)) (ready works))
 
 -- ---- a remount
 
@@ -68,7 +87,7 @@ remount_fails e old new files broken error = record {
     writes = reads_write_nothing old.tree.disk.blocks broken.reads.events broken.reads.each
 
     widened : (e ≡ Io) ⊎ ((e ≡ NoMemory) ⊎ ((e ≡ Corrupt) × ((ps : List Pair) → IsAccepted old.tree.disk ps → ⊥))) →
-        (e ≡ Io) ⊎ ((e ≡ NoMemory) ⊎ (((e ≡ Corrupt) × (true ≡ true) × ((ps : List Pair) → IsAccepted old.tree.disk ps → ⊥)) ⊎ ((e ≡ Unsupported) × IsUnsupported old.tree.disk ops.Remount)))
+        (e ≡ Io) ⊎ ((e ≡ NoMemory) ⊎ (((e ≡ Corrupt) × (true ≡ true) × ((ps : List Pair) → IsAccepted old.tree.disk ps → ⊥)) ⊎ ((e ≡ Unsupported) × IsUnsupported (moment_of old) ops.Remount)))
     widened (inl h) = inl h
     widened (inr (inl h)) = inr (inl h)
     widened (inr (inr h)) = inr (inr (inl (h.0, refl, h.1)))
@@ -85,18 +104,18 @@ remount_turns old new m =
     to = healthy_moment (held_with new []) m.works
         ∙ ap₂ (λ (d : Disk) (h : List Event). record { disk = d; calls = h; state = Healthy (mounted (tree_in d new.pairs)) }) m.disk_is m.reads.extends
 
-pub remount_answers : (old now : Held) (new : Seen) (files : Files) (r : Result (Unit {0}) Error) → old ≡ now → files ≡ [] → OnOk r (IsMountedTree old.tree.disk old.tree.history new) → OnErr r (IsBrokenAsking old.tree new) →
-    IfErr r (IsMountError old.tree new) → Answers now ops.Remount (reply_in (λ u. ops.Done) r) (held_with new files)
+pub remount_answers : (old now : Held) (new : Seen) (files : OpenFiles) (r : Result (Unit {0}) Error) → old ≡ now → files ≡ [] → OnOk r (IsMountedTree old.tree.disk old.tree.history new) → OnErr r (IsBrokenAsking old.tree new) →
+    IfErr r (IsMountError old.tree new) → Answers now ops.Remount (reply_in (λ u. ops.Done) r) (held_of new files)
 remount_answers old now new files (Ok u) same none ok broken errors =
-    subst (λ z. IsTurn (moment_of z) ops.Remount ops.Done (moment_of (held_with new files))) same
-    (subst (λ f. IsTurn (moment_of old) ops.Remount ops.Done (moment_of (held_with new f))) (sym none) (remount_turns old new ok))
+    subst (λ z. IsTurn (moment_of z) ops.Remount ops.Done (moment_of (held_of new files))) same
+    (subst (λ f. IsTurn (moment_of old) ops.Remount ops.Done (moment_of (held_of new f))) (sym none) (remount_turns old new ok))
 remount_answers old now new files (Err e) same none ok broken errors =
-    subst (λ z. Answers z ops.Remount (cond (is_refusal e) (Ok (ops.Refused (refusal_in e))) (Err e)) (held_with new files)) same
-    (subst (λ b. Answers old ops.Remount (cond b (Ok (ops.Refused (refusal_in e))) (Err e)) (held_with new files)) (sym (no_refusal e errors.errors)) (remount_fails e old new files broken errors))
+    subst (λ z. Answers z ops.Remount (cond (is_refusal e) (Ok (ops.Refused (refusal_in e))) (Err e)) (held_of new files)) same
+    (subst (λ b. Answers old ops.Remount (cond b (Ok (ops.Refused (refusal_in e))) (Err e)) (held_of new files)) (sym (no_refusal e errors.errors)) (remount_fails e old new (files_seen new files) broken errors))
 
-pub mounted_ready : (disk : Disk) (history : List Event) (new : Seen) → IsMountedTree disk history new → IsReady new
-mounted_ready disk history new m = record { sound = m.sound; no_flight = m.none_in_flight }
+pub mounted_ready : (disk : Disk) (history : List Event) (new : Seen) → IsMountedTree disk history new → IsReady new []
+mounted_ready disk history new m = record { sound = m.sound; one = omega arith; idle = λ e. m.none_in_flight; written = tt }
 
-pub remount_ready : (old new : Seen) (r : Result (Unit {0}) Error) → OnOk r (IsMountedTree old.disk old.history new) → OnErr r (IsBrokenAsking old new) → new.failed ≡ false → IsReady new
-remount_ready old new (Ok u) ok broken works = mounted_ready old.disk old.history new ok
-remount_ready old new (Err e) ok broken works = absurd (let l = sym broken.failed ∙ works in cc)
+pub remount_ready : (old new : Seen) (files : OpenFiles) (r : Result (Unit {0}) Error) → files ≡ [] → OnOk r (IsMountedTree old.disk old.history new) → OnErr r (IsBrokenAsking old new) → new.failed ≡ false → IsReady new files
+remount_ready old new files (Ok u) none ok broken works = subst (IsReady new) (sym none) (mounted_ready old.disk old.history new ok)
+remount_ready old new files (Err e) none ok broken works = absurd (let l = sym broken.failed ∙ works in cc)

@@ -1,5 +1,5 @@
 -- What contracts see of a session, and how its calls answer.
-use Rattle.std.specs.Prelude.{ℕ, nat_le, length, is_none, is_some, ◌≡◌, ◌≢◌, ◌<◌, ◌⊎◌, Bool, true, false, if◌then◌else◌, List, [], Option, Some, None, Result, Ok, Err}
+use Rattle.std.specs.Prelude.{ℕ, ◌+◌, ◌≤◌, nat_le, length, is_none, is_some, ◌≡◌, ◌≢◌, ◌<◌, ◌⊎◌, Bool, true, false, not, ◌&&◌, if◌then◌else◌, List, [], Option, Some, None, Result, Ok, Err}
 use Rattle.lfs_device.specs.declared.error.Error.{Error}
 use Rattle.lfs_device.specs.declared.error.Error.TheVariants.{Io, NoMemory, Corrupt, Unsupported}
 use Rattle.lfs_model.specs.BlockSets.{in_flight_count}
@@ -12,9 +12,20 @@ use Rattle.lfs_model.specs.Slots.{no_gstate}
 use Rattle.lfs_model.specs.Thread.{Pair, gstate_of}
 use Rattle.lfs_model.specs.Tree.{Tree}
 use Rattle.lfs_model.specs.Session.{Files, Session, readers}
-use Rattle.lfs_model.specs.State.{HasFailed, Healthy, is_remount}
-use Rattle.lfs_model.specs.Steps.{as_path, refusal_of}
-use Rattle.lfs_model.specs.Run.{Moment, Shows, IsTurn}
+use Rattle.lfs_fs.specs.FileSeen.{OpenFiles, bytes_of, files_seen, has_unsaved, held_for, writer_seen, writers_in}
+use Rattle.lfs_fs.specs.declared.files.Writer.{Writer}
+use Rattle.std.specs.List.{AllByRecursion, list_any}
+use Rattle.lfs_model.specs.State.{State, HasFailed, Healthy, is_remount}
+use Rattle.lfs_model.specs.Steps.{as_path, refusal_of, size_of}
+use Rattle.lfs_model.specs.Disk.{block_count, inline_limit}
+use Rattle.lfs_tree.specs.OpenContents.{IsOver, IsSettleable}
+use Rattle.lfs_writer.specs.Contents.{form_of}
+use Rattle.lfs_writer.specs.Form.{IsKept}
+use Rattle.lfs_fs.specs.declared.checks.Opening.{Opening}
+use Rattle.lfs_fs.specs.declared.files.Unsaved.{Unsaved}
+use Rattle.lfs_model.specs.Apply.{is_directory, is_file, same_path}
+use Rattle.lfs_model.specs.Recovery.{recovers}
+use Rattle.lfs_model.specs.Run.{Moment, Shows, IsTurn, is_dirty}
 use Rattle.lfs_model.specs.Failure.{Fails, IsCutShort}
 use Rattle.lfs_tree.specs.Refusals.{is_refusal, refusal_in}
 use Rattle.lfs_tree.specs.Seen.{Seen, tree_seen, around_of, IsSound, IsAsked, IsBrokenAsking, IsError}
@@ -24,13 +35,38 @@ pub record Held : Type 0 where
   pub tree : Seen
   pub files : Files
 
--- What a session keeps of a tree that works: it is the disk's, and no block is in flight.
-pub record IsReady (t : Seen) : Type 0 where
-  pub sound : IsSound t
-  pub no_flight : in_flight_count t.map ≡ 0
-
 abbrev pub held_with : Seen → Files → Held
 held_with tree files = record { tree = tree; files = files }
+
+abbrev pub held_of : Seen → OpenFiles → Held
+held_of tree files = held_with tree (files_seen tree files)
+
+-- Contents that were changed are those of the file's writer, in a form that fits what is said of it. They can be saved, and there
+-- is room for what the writer holds.
+pub record IsChanged (t : Seen) (w : Writer) (u : Unsaved) : Type 0 where
+  pub over : IsOver t w.path u.contents
+  pub kept : IsKept t.disk.block_size (form_of u.contents) (writer_seen t w)
+  pub form : IsSettleable (inline_limit t.disk.block_size) (form_of u.contents)
+  pub room : length (around_of t).used + held_for t.disk.block_size u.has_turned w.size ≤ block_count t.disk
+
+abbrev pub IsUnsavedIn : Seen → Writer → Option Unsaved → Type 0
+IsUnsavedIn t w None = Unit {0}
+IsUnsavedIn t w (Some u) = IsChanged t w u
+
+-- The image of a file that is open for writing is at rest, and the file is in the tree.
+pub record IsWritten (t : Seen) (w : Writer) : Type 0 where
+  pub writable : t.writable ≡ true
+  pub settled : gstate_of t.pairs ≡ no_gstate
+  pub there : is_file (tree_seen t w.path) ≡ true
+  pub size : length (bytes_of t w.path w.unsaved) ≡ w.size
+  pub changed : IsUnsavedIn t w w.unsaved
+
+-- What a session keeps of a tree that works: it is the disk's, and blocks are in flight only where a writer changed something.
+pub record IsReady (t : Seen) (files : OpenFiles) : Type 0 where
+  pub sound : IsSound t
+  pub one : length (writers_in files) ≤ 1
+  pub idle : has_unsaved files ≡ false → in_flight_count t.map ≡ 0
+  pub written : AllByRecursion (IsWritten t) (writers_in files)
 
 abbrev pub session_of : Held → Session
 session_of h = record { tree = tree_seen h.tree; files = h.files }
@@ -42,16 +78,38 @@ moment_of h = record {
   state = if h.tree.failed then HasFailed else Healthy (session_of h);
 }
 
--- What can't be done yet: to open a file for writing, and to change an image of which something is to be recovered.
-abbrev pub IsUnsupported : Disk → Operation → Type 0
-IsUnsupported disk (ops.Open path flags) = flags.write ≡ true
-IsUnsupported disk op = (ps : List Pair) × (IsAccepted disk ps × (gstate_of ps ≡ no_gstate → ⊥))
+-- something of the image is to be recovered
+pub record IsUnsettled (disk : Disk) : Type 0 where
+  pub pairs : List Pair
+  pub accepted : IsAccepted disk pairs
+  pub some : gstate_of pairs ≡ no_gstate → ⊥
+
+-- a file is open of which something isn't in the tree
+pub record IsUnsaved (state : State) : Type 0 where
+  pub session : Session
+  pub is : state ≡ Healthy session
+  pub dirty : list_any is_dirty session.files ≡ true
+
+abbrev pub replaces_directory : Session → Operation → Bool
+replaces_directory s (ops.Rename old new) = not (same_path (as_path old) (as_path new)) && is_directory (s.tree (as_path new))
+replaces_directory s op = false
+
+-- a rename would take the place of a directory
+pub record IsOntoDirectory (state : State) (op : Operation) : Type 0 where
+  pub session : Session
+  pub is : state ≡ Healthy session
+  pub onto : replaces_directory session op ≡ true
+
+-- What can't be done yet: to change an image of which something is to be recovered, or while a changed file isn't saved, and to put
+-- an entry in the place of a directory.
+abbrev pub IsUnsupported : Moment → Operation → Type 0
+IsUnsupported at op = IsUnsettled at.disk ⊎ (((recovers op ≡ true) × IsUnsaved at.state) ⊎ IsOntoDirectory at.state op)
 
 -- The session fails in an operation by that error. Only a remount answers `Corrupt`, and then the disk isn't accepted;
 -- `Unsupported` says that the operation can't be done yet.
 pub record FailsBy (e : Error) (from : Moment) (op : Operation) (to : Moment) : Type 0 where
   pub fails : Fails from op to
-  pub errors : (e ≡ Io) ⊎ ((e ≡ NoMemory) ⊎ (((e ≡ Corrupt) × (is_remount op ≡ true) × Shows from.disk None) ⊎ ((e ≡ Unsupported) × IsUnsupported from.disk op)))
+  pub errors : (e ≡ Io) ⊎ ((e ≡ NoMemory) ⊎ (((e ≡ Corrupt) × (is_remount op ≡ true) × Shows from.disk None) ⊎ ((e ≡ Unsupported) × IsUnsupported from op)))
   pub fault : e ≡ Io → faults from.calls < faults to.calls
   pub no_fault : e ≢ Io → faults to.calls ≡ faults from.calls
 
@@ -89,6 +147,11 @@ pub record IsReadable (t : Tree) (files : Files) (bytes : List ℕ) : Type 0 whe
   pub given : is_some (path_of bytes) ≡ true
   pub there : is_none (t (as_path bytes)) ≡ false
   pub few : nat_le 16 (length (readers files)) ≡ false
+
+-- what is found where a file may be opened for writing
+pub record IsOpening (t : Tree) (bytes : List ℕ) (found : Opening) : Type 0 where
+  pub path : found.path ≡ as_path bytes
+  pub size : size_of (t found.path) ≡ found.size
 
 -- A session that a mount began: it works, has the tree of the disk, which was only read, and no open file.
 pub record IsBegun (disk : Disk) (history : List Event) (h : Held) : Type 0 where

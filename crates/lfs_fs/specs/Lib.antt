@@ -5,3 +5,6 @@ pub mod FlagsSeen
 pub mod GstateSeen
 pub mod EntryPaths
 pub mod OpSeen
+pub mod Replacing
+pub mod RenamePaths
+pub mod Changing

@@ -15,16 +15,23 @@ use Rattle.lfs_fs.specs.declared.run.Reply.TheVariants as reply
 abbrev pub op_seen : Op → Operation
 op_seen (op.Open path flags) = ops.Open path.now (flags_seen flags)
 op_seen (op.Read fd count) = ops.Read fd count
+op_seen (op.Write fd bytes) = ops.Write fd bytes.now
 op_seen (op.Seek fd position) = ops.Seek fd position
+op_seen (op.Truncate fd size) = ops.Truncate fd size
+op_seen (op.Sync fd) = ops.Sync fd
 op_seen (op.Close fd) = ops.Close fd
 op_seen (op.Mkdir path) = ops.Mkdir path.now
 op_seen (op.List path) = ops.ListAll path.now
 op_seen (op.Stat path) = ops.Stat path.now
 op_seen (op.GetAttr path kind) = ops.GetAttr path.now kind
+op_seen (op.Remove path) = ops.Remove path.now
+op_seen (op.Rename from to) = ops.Rename from.now to.now
+op_seen (op.SetAttr path kind value) = ops.SetAttr path.now kind value.now
 op_seen (op.RemoveAttr path kind) = ops.RemoveAttr path.now kind
 op_seen op.Gstate = ops.AskGstate
 op_seen (op.IsUsed block) = ops.IsUsed block
 op_seen op.UsedCount = ops.UsedCount
+op_seen op.Recover = ops.Recover
 op_seen op.Remount = ops.Remount
 
 abbrev pub reply_seen : Reply → ops.Reply

@@ -1,6 +1,7 @@
 //! Sessions over a littlefs image: open files, the checks of each operation in order, and runs.
 #![tactic(auto)]
 
+mod changing;
 mod checks;
 mod files;
 mod flags;
@@ -8,6 +9,7 @@ mod gstate;
 mod owned_path;
 mod passing;
 mod reading;
+mod renaming;
 mod run;
 mod session;
 

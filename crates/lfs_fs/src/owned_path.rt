@@ -1,11 +1,12 @@
 // Paths that are kept.
 
-ghost use Rattle.std.specs.Prelude.{◌≡◌, true, IfOk, IfErr, is_some};
+ghost use Rattle.std.specs.Prelude.{◌≡◌, false, true, IfOk, IfErr, is_some};
 ghost use Rattle.lfs_model.specs.Operations.{path_of};
-ghost use Rattle.lfs_model.specs.Steps.{as_path};
-ghost use Rattle.lfs_model.specs.Apply.{same_path};
+ghost use Rattle.lfs_model.specs.Steps.{as_path, bad_entry};
+ghost use Rattle.lfs_model.specs.Apply.{rest_after, same_path};
 ghost use Rattle.lfs_model.specs.Names.{same_name};
 
+use crate::renaming::is_within;
 use lfs_device::Error;
 use lfs_tree::Path;
 use std::alloc::Global;
@@ -57,9 +58,17 @@ impl OwnedPath {
     {
         is_same(self.bytes.as_slice(), bytes)
     }
+
+    // Whether it is the path of these bytes, an entry's, or lies beneath it.
+    pub(crate) fn is_within(&self, bytes: &[u8]) -> bool
+        requires { bad_entry (path_of bytes.now) ≡ false }
+        ensures { result ≡ is_some (rest_after (as_path bytes.now) self.now) }
+    {
+        is_within(bytes, self.bytes.as_slice())
+    }
 }
 
-fn is_same(bytes: &[u8], other: &[u8]) -> bool
+pub(crate) fn is_same(bytes: &[u8], other: &[u8]) -> bool
     ensures { result ≡ same_name bytes.now other.now }
 {
     bytes == other

@@ -1,6 +1,6 @@
 // Checks in order: the first that refuses decides.
 
-ghost use Rattle.std.specs.Prelude.{◌≡◌};
+ghost use Rattle.std.specs.Prelude.{◌≡◌, ◌&&◌};
 ghost use Rattle.lfs_model.specs.Session.{first_of};
 ghost use Rattle.lfs_fs.specs.Replies.{passed_with};
 
@@ -27,4 +27,11 @@ pub(crate) fn passed<T: Drop>(checks: &[Option<Refusal>], value: T) -> Result<T,
         Some(refusal) => Err(refusal.error()),
         None => Ok(value),
     }
+}
+
+// Whether both hold.
+pub(crate) fn both(first: bool, second: bool) -> bool
+    ensures { result ≡ (first && second) }
+{
+    first && second
 }

@@ -18,16 +18,23 @@ use lfs_tree::ListItem;
 pub enum Op<'a> {
     Open(&'a [u8], OpenFlags),
     Read(u32, u32),
+    Write(u32, &'a [u8]),
     Seek(u32, u32),
+    Truncate(u32, u32),
+    Sync(u32),
     Close(u32),
     Mkdir(&'a [u8]),
     List(&'a [u8]),
     Stat(&'a [u8]),
     GetAttr(&'a [u8], u8),
+    Remove(&'a [u8]),
+    Rename(&'a [u8], &'a [u8]),
+    SetAttr(&'a [u8], u8, &'a [u8]),
     RemoveAttr(&'a [u8], u8),
     Gstate,
     IsUsed(u32),
     UsedCount,
+    Recover,
     Remount,
 }
 

@@ -1,6 +1,7 @@
 ghost use Rattle.lfs_model.specs.Operations as ops;
 ghost use Rattle.lfs_fs.specs.Replies.{reply_in};
 ghost use Rattle.std.specs.Prelude.{◌≡◌, false, true, List, map, IfOk, IfErr};
+ghost use Rattle.lfs_model.specs.Disk.{SameGeometry};
 ghost use Rattle.lfs_model.specs.Thread.{Pair};
 ghost use Rattle.lfs_model.specs.Fresh.{IsFresh, empty_tree};
 ghost use Rattle.lfs_model.specs.Headline.{IsTrue};
@@ -17,14 +18,18 @@ ghost use Rattle.lfs_fs.specs.Held.{Answers, IsBegun, IsEndedBy, moment_of};
 ghost use Rattle.lfs_fs.specs.FlagsSeen.{flags_seen};
 ghost use Rattle.lfs_fs.specs.OpSeen.{op_seen, performed, reply_seen};
 
+use crate::changing::{begin_new, begin_there, save, truncate_by, write_by};
 use crate::checks::{
-    check_get_attr, check_list, check_mkdir, check_open, check_open_reader, check_remove_attr,
-    check_seek, check_stat,
+    check_get_attr, check_list, check_mkdir, check_open, check_open_reader, check_open_writer,
+    check_remove, check_remove_attr, check_seek, check_set_attr, check_stat, check_sync,
+    check_truncate, check_write, is_held_up,
 };
-use crate::files::Files;
+use crate::files::{Files, OpenFile};
 use crate::flags::OpenFlags;
 use crate::gstate::{Gstate, gstate_of};
+use crate::owned_path::OwnedPath;
 use crate::reading::read_from;
+use crate::renaming::check_rename;
 use crate::run::{Op, Reply, bytes, count, done, fd, gstate, items, stat, yes};
 use bitflags::Flags;
 use lfs_device::{BlockDevice, Error};
@@ -41,13 +46,13 @@ pub struct Session<D: BlockDevice> {
 
 impl<D: BlockDevice> Model for Session<D> {
     ghost use Rattle.std.specs.Prelude.{◌≡◌, false};
-    ghost use Rattle.lfs_fs.specs.Held.{Held, IsReady};
+    ghost use Rattle.lfs_fs.specs.Held.{Held, IsReady, held_of};
 
     ghost Value = { Held };
 
-    ghost view = { λ s. record { tree = s.tree; files = s.files } };
+    ghost view = { λ s. held_of s.tree s.files };
 
-    ghost invariant = { λ s. s.tree.failed ≡ false → IsReady s.tree };
+    ghost invariant = { λ s. s.tree.failed ≡ false → IsReady s.tree s.files };
 }
 
 impl<D: BlockDevice> Session<D> {
@@ -114,11 +119,65 @@ impl<D: BlockDevice> Session<D> {
         ensures { Answers self.old (ops.Mkdir path.now) (reply_in (λ _. ops.Done) result) self.new }
     {
         let path = check_mkdir(alloc, &mut self.tree, &self.files, path)?;
-        if !self.tree.gstate().is_none() {
+        if is_held_up(&self.tree, &self.files) {
             self.tree.fail();
             return Err(Error::Unsupported);
         }
         self.tree.mkdir(alloc, &path)
+    }
+
+    /// Takes a file, or a directory without entries. `Unsupported` as in [`mkdir`](Session::mkdir).
+    pub fn remove(&mut self, alloc: Global, path: &[u8]) -> Result<(), Error>
+        ensures { Answers self.old (ops.Remove path.now) (reply_in (λ _. ops.Done) result) self.new }
+    {
+        let path = check_remove(alloc, &mut self.tree, &self.files, path)?;
+        if is_held_up(&self.tree, &self.files) {
+            self.tree.fail();
+            return Err(Error::Unsupported);
+        }
+        self.tree.remove(alloc, &path)
+    }
+
+    /// Gives an entry another path, in place of a file at it, if there is one. What is beneath a
+    /// directory goes with it. A path to itself: nothing is done.
+    ///
+    /// `Unsupported` as in [`mkdir`](Session::mkdir), and where a directory without entries is at the
+    /// new path.
+    pub fn rename(&mut self, alloc: Global, from: &[u8], to: &[u8]) -> Result<(), Error>
+        ensures { Answers self.old (ops.Rename from.now to.now) (reply_in (λ _. ops.Done) result) self.new }
+    {
+        let renaming = check_rename(alloc, &mut self.tree, &self.files, from, to)?;
+        if renaming.is_same {
+            return Ok(());
+        }
+        if is_held_up(&self.tree, &self.files) {
+            self.tree.fail();
+            return Err(Error::Unsupported);
+        }
+        if renaming.is_onto_directory {
+            self.tree.fail();
+            return Err(Error::Unsupported);
+        }
+        self.tree.rename(alloc, &renaming.from, &renaming.to)
+    }
+
+    /// Gives an entry an attribute, in place of the one of that type that it has, if it has one.
+    /// `Unsupported` as in [`mkdir`](Session::mkdir).
+    pub fn set_attr(
+        &mut self,
+        alloc: Global,
+        path: &[u8],
+        kind: u8,
+        value: &[u8],
+    ) -> Result<(), Error>
+        ensures { Answers self.old (ops.SetAttr path.now kind value.now) (reply_in (λ _. ops.Done) result) self.new }
+    {
+        let path = check_set_attr(alloc, &mut self.tree, &self.files, path, kind, value)?;
+        if is_held_up(&self.tree, &self.files) {
+            self.tree.fail();
+            return Err(Error::Unsupported);
+        }
+        self.tree.set_attr(alloc, &path, kind, value)
     }
 
     /// Takes an attribute from an entry. `Unsupported` as in [`mkdir`](Session::mkdir).
@@ -126,11 +185,33 @@ impl<D: BlockDevice> Session<D> {
         ensures { Answers self.old (ops.RemoveAttr path.now kind) (reply_in (λ _. ops.Done) result) self.new }
     {
         let path = check_remove_attr(alloc, &mut self.tree, &self.files, path, kind)?;
-        if !self.tree.gstate().is_none() {
+        if is_held_up(&self.tree, &self.files) {
             self.tree.fail();
             return Err(Error::Unsupported);
         }
         self.tree.remove_attr(alloc, &path, kind)
+    }
+
+    /// Ends what a loss of power left in the image: a set move, and directories that no path leads
+    /// to. The tree stays; nothing is written where nothing is left.
+    ///
+    /// `ReadOnly` where the image isn't one of those that this library writes. `Unsupported`, and the
+    /// session has failed, where it can't be done yet: a directory that no path leads to has slots, as
+    /// littlefs leaves none, or a changed file isn't saved.
+    pub fn recover(&mut self, alloc: Global) -> Result<(), Error>
+        ensures { Answers self.old ops.Recover (reply_in (λ _. ops.Done) result) self.new }
+    {
+        if self.tree.has_failed() {
+            return Err(Error::Failed);
+        }
+        if !self.tree.is_writable() {
+            return Err(Error::ReadOnly);
+        }
+        if self.files.has_unsaved() {
+            self.tree.fail();
+            return Err(Error::Unsupported);
+        }
+        self.tree.recover(alloc)
     }
 
     // Opens a file for reading.
@@ -146,19 +227,96 @@ impl<D: BlockDevice> Session<D> {
         answer
     }
 
-    /// Opens a file for reading.
+    // Opens a file for writing.
+    fn open_writer(&mut self, alloc: Global, path: &[u8], flags: OpenFlags) -> Result<u32, Error>
+        requires { (flags_seen flags).write ≡ true }
+        ensures { Answers self.old (ops.Open path.now (flags_seen flags)) (reply_in ops.Opened result) self.new }
+    {
+        let found = check_open_writer(alloc, &mut self.tree, &self.files, path, flags)?;
+        if is_held_up(&self.tree, &self.files) {
+            self.tree.fail();
+            return Err(Error::Unsupported);
+        }
+        let Ok(owned) = OwnedPath::of(alloc, path) else {
+            self.tree.fail();
+            return Err(Error::NoMemory);
+        };
+        let Ok(number) = self.files.make_room() else {
+            self.tree.fail();
+            return Err(Error::NoMemory);
+        };
+        let writer = match found.size {
+            Some(size) => begin_there(alloc, &mut self.tree, owned, size, flags)?,
+            None => begin_new(alloc, &mut self.tree, owned, flags)?,
+        };
+        self.files.put_back(number, writer);
+        Ok(number)
+    }
+
+    /// Opens a file, for reading or for writing. One file at most is open for writing, and 16 for
+    /// reading.
     ///
-    /// Opening for writing can't be done yet: where the flags ask for it the answer is `Unsupported`,
-    /// and the session has failed.
+    /// Opening for writing can't be done yet where something of the image is to be recovered: the
+    /// answer is `Unsupported` then, and the session has failed.
     pub fn open(&mut self, alloc: Global, path: &[u8], flags: OpenFlags) -> Result<u32, Error>
         ensures { Answers self.old (ops.Open path.now (flags_seen flags)) (reply_in ops.Opened result) self.new }
     {
         if flags.contains(OpenFlags::WRITE) {
-            self.fail();
-            Err(Error::Unsupported)
+            self.open_writer(alloc, path, flags)
         } else {
             self.open_reader(alloc, path, flags)
         }
+    }
+
+    /// Writes bytes at the position of a file that is open for writing, or at its end where it
+    /// appends, and says how many; zeros fill a gap. The position is behind them then. They are in
+    /// the tree once the file is synced or closed.
+    pub fn write(&mut self, alloc: Global, fd: u32, bytes: &[u8]) -> Result<u32, Error>
+        ensures { Answers self.old (ops.Write fd bytes.now) (reply_in ops.Count result) self.new }
+    {
+        check_write(&self.tree, &self.files, fd, bytes)?;
+        if bytes.is_empty() {
+            return Ok(0);
+        }
+        let Some(OpenFile::Writing(writer)) = self.files.take(fd) else {
+            unreachable!()
+        };
+        let writer = write_by(alloc, &mut self.tree, writer, bytes)?;
+        self.files.put_back(fd, writer);
+        Ok(bytes.len() as u32)
+    }
+
+    /// Gives a file that is open for writing that many bytes: it is cut, or zeros fill it up. The
+    /// position stays.
+    pub fn truncate(&mut self, alloc: Global, fd: u32, size: u32) -> Result<(), Error>
+        ensures { Answers self.old (ops.Truncate fd size) (reply_in (λ _. ops.Done) result) self.new }
+    {
+        check_truncate(&self.tree, &self.files, fd, size)?;
+        if self.files.has_size(fd, size) {
+            return Ok(());
+        }
+        let Some(OpenFile::Writing(writer)) = self.files.take(fd) else {
+            unreachable!()
+        };
+        let writer = truncate_by(alloc, &mut self.tree, writer, size)?;
+        self.files.put_back(fd, writer);
+        Ok(())
+    }
+
+    /// Brings what was written to an open file into the tree. Nothing is to be done for other files.
+    pub fn sync(&mut self, alloc: Global, fd: u32) -> Result<(), Error>
+        ensures { Answers self.old (ops.Sync fd) (reply_in (λ _. ops.Done) result) self.new }
+    {
+        check_sync(&self.tree, &self.files, fd)?;
+        if !self.files.is_unsaved_at(fd) {
+            return Ok(());
+        }
+        let Some(OpenFile::Writing(writer)) = self.files.take(fd) else {
+            unreachable!()
+        };
+        let writer = save(alloc, &mut self.tree, writer)?;
+        self.files.put_back(fd, writer);
+        Ok(())
     }
 
     /// The bytes of an open file from its position on, so many at most; fewer where the file ends,
@@ -193,12 +351,19 @@ impl<D: BlockDevice> Session<D> {
         Ok(())
     }
 
-    /// Closes an open file. Its number is free then.
-    pub fn close(&mut self, fd: u32) -> Result<(), Error>
+    /// Closes an open file, and brings what was written to it into the tree. Its number is free then.
+    pub fn close(&mut self, alloc: Global, fd: u32) -> Result<(), Error>
         ensures { Answers self.old (ops.Close fd) (reply_in (λ _. ops.Done) result) self.new }
     {
         check_open(&self.tree, &self.files, fd)?;
-        self.files.close(fd);
+        if !self.files.is_unsaved_at(fd) {
+            self.files.close(fd);
+            return Ok(());
+        }
+        let Some(OpenFile::Writing(writer)) = self.files.take(fd) else {
+            unreachable!()
+        };
+        save(alloc, &mut self.tree, writer)?;
         Ok(())
     }
 
@@ -235,15 +400,22 @@ impl<D: BlockDevice> Session<D> {
             Op::Open(path, flags) => fd(self.open(alloc, path, flags)),
             Op::Read(fd, count) => bytes(self.read(alloc, fd, count)),
             Op::Seek(fd, position) => done(self.seek(fd, position)),
-            Op::Close(fd) => done(self.close(fd)),
+            Op::Write(fd, bytes) => count(self.write(alloc, fd, bytes)),
+            Op::Truncate(fd, size) => done(self.truncate(alloc, fd, size)),
+            Op::Sync(fd) => done(self.sync(alloc, fd)),
+            Op::Close(fd) => done(self.close(alloc, fd)),
             Op::Mkdir(path) => done(self.mkdir(alloc, path)),
             Op::List(path) => items(self.list(alloc, path)),
             Op::Stat(path) => stat(self.stat(alloc, path)),
             Op::GetAttr(path, kind) => bytes(self.get_attr(alloc, path, kind)),
+            Op::Remove(path) => done(self.remove(alloc, path)),
+            Op::Rename(from, to) => done(self.rename(alloc, from, to)),
+            Op::SetAttr(path, kind, value) => done(self.set_attr(alloc, path, kind, value)),
             Op::RemoveAttr(path, kind) => done(self.remove_attr(alloc, path, kind)),
             Op::Gstate => gstate(self.gstate()),
             Op::IsUsed(block) => yes(self.is_used(block)),
             Op::UsedCount => count(self.used_count()),
+            Op::Recover => done(self.recover(alloc)),
             Op::Remount => done(self.remount(alloc)),
         }
     }
@@ -303,6 +475,7 @@ pub fn mount<D: BlockDevice>(alloc: Global, device: D) -> Result<Session<D>, (D,
 pub fn format<D: BlockDevice>(alloc: Global, device: D) -> Result<Session<D>, (D, Error)>
     ensures fresh { IfOk result (λ s. IsFresh s.tree.disk) }
     ensures state { IfOk result (λ s. (moment_of s).state ≡ Healthy (mounted empty_tree)) }
+    ensures geometry { IfOk result (λ s. SameGeometry (disk_on D.BlockDevice device) s.tree.disk) }
     ensures back { IfErr result (λ e. ComesBack D.BlockDevice (two_of anchor) device e.0 e.1) }
 {
     match Tree::format(alloc, device) {

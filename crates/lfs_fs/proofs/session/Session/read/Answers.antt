@@ -1,36 +1,47 @@
-use Rattle.std.proofs.Common.{◌∙◌, ◌+◌, take, drop, refl, ap, arith}
+use Rattle.std.proofs.Common.{◌∙◌, ◌+◌, take, drop, refl, sym, ap, arith}
+use Rattle.std.specs.Option.{option_map}
 use Rattle.lfs_device.specs.declared.error.Error.TheVariants as error
 use Rattle.lfs_model.specs.Operations as ops
-use Rattle.lfs_fs.specs.FileSeen.{reader_seen}
-use Rattle.lfs_fs.specs.Held.{held_with}
+use Rattle.lfs_model.specs.Session.{file_of, put_file}
+use Rattle.lfs_model.specs.Steps.{moved_to}
+use Rattle.lfs_fs.specs.FileSeen.{entry_of, files_seen, reader_seen}
+use Rattle.lfs_fs.specs.Held.{held_of}
+use Rattle.lfs_fs.specs.Replies.{reply_in}
 use Rattle.lfs_model.specs.Apply.{bytes_at}
 use Rattle.lfs_tree.specs.Seen.{tree_seen}
-use Rattle.lfs_fs.proofs.Answered.{asked_ready}
+use Rattle.lfs_fs.proofs.Answered.{asked_ready, files_asked, sound_by}
 use Rattle.lfs_fs.proofs.Errors.{given_on}
+use Rattle.lfs_fs.proofs.Moving.{moved_ready}
+use Rattle.lfs_fs.proofs.OpenFiles.{moved_is, none_reader, reader_there, some_reader}
 use Rattle.lfs_fs.proofs.Questions.{failed_by, refused_kept}
 use Rattle.lfs_fs.proofs.ReaderReads.{no_reader, read_answers, read_fails}
 use Rattle.lfs_fs.proofs.session.Session.read.Goals as goal
 
 pub returns-then-has_failed : goal.returns-then-has_failed
 returns-then-has_failed g c =
-    refused_kept (held_with c.self.inside.tree c.self.inside.files) _ (ops.Read c.args.fd c.args.count) error.Failed c.self.view_is c.self.invariant refl (failed_by (held_with c.self.inside.tree c.self.inside.files) (ops.Read c.args.fd c.args.count) c.if-has_failed.ensures)
+    refused_kept (held_of c.self.inside.tree c.self.inside.files) _ (ops.Read c.args.fd c.args.count) error.Failed c.self.view_is (sound_by c.self.inside.tree c.self.inside.files c.self.invariant) refl (failed_by (held_of c.self.inside.tree c.self.inside.files) (ops.Read c.args.fd c.args.count) c.if-has_failed.ensures)
 
 pub returns-in_default : goal.returns-in_default
 returns-in_default g c =
-    refused_kept (held_with c.self.inside.tree c.self.inside.files) _ (ops.Read c.args.fd c.args.count) error.BadFile c.self.view_is c.self.invariant refl
-    (no_reader (held_with c.self.inside.tree c.self.inside.files) c.args.fd c.args.count c.if-has_failed.ensures c.in_default.ensures)
+    refused_kept (held_of c.self.inside.tree c.self.inside.files) _ (ops.Read c.args.fd c.args.count) error.BadFile c.self.view_is (sound_by c.self.inside.tree c.self.inside.files c.self.invariant) refl
+    (no_reader (held_of c.self.inside.tree c.self.inside.files) c.args.fd c.args.count c.if-has_failed.ensures (none_reader c.self.inside.tree c.self.inside.files c.args.fd c.in_default.ensures))
 
 pub returns-in_err-bytes : goal.returns-in_err-bytes
 returns-in_err-bytes g c =
-    read_fails (held_with c.self.inside.tree c.self.inside.files) _ (ops.Read c.args.fd c.args.count) (λ v. ops.Bytes v.items) _ c.read_from.new.tree c.from_residual.result c.self.view_is c.if-has_failed.ensures c.in_err-bytes.ensures.broken c.in_err-bytes.ensures.errors
-    (given_on _ c.from_residual.result c.from_residual.ensures.1)
+    files_asked c.args.self.now (ops.Read c.args.fd c.args.count) (reply_in (λ v. ops.Bytes v.items) c.from_residual.result) c.self.inside.tree c.read_from.new.tree c.self.inside.files (λ works. absurd (let k = sym c.in_err-bytes.ensures.broken.failed ∙ works in cc))
+    (read_fails (held_of c.self.inside.tree c.self.inside.files) _ (ops.Read c.args.fd c.args.count) (λ v. ops.Bytes v.items) _ c.read_from.new.tree c.from_residual.result c.self.view_is c.if-has_failed.ensures c.in_err-bytes.ensures.broken c.in_err-bytes.ensures.errors
+    (given_on _ c.from_residual.result c.from_residual.ensures.1))
 
 pub invariant_of-self-2 : goal.invariant_of-self-2
-invariant_of-self-2 g c = asked_ready c.self.inside.tree c.read_from.new.tree c.self.invariant c.in_ok-bytes.ensures.asked
+invariant_of-self-2 g c =
+    moved_ready c.read_from.new.tree c.self.inside.files c.seek.new.self c.args.fd (c.in-Some.reader.now.position + c.len.result)
+    (asked_ready c.self.inside.tree c.read_from.new.tree c.self.inside.files c.self.invariant c.in_ok-bytes.ensures.asked) c.seek.ensures
 
 pub returns : goal.returns
 returns g c =
-    read_answers (held_with c.self.inside.tree c.self.inside.files) _ c.args.fd c.args.count (reader_seen c.in-Some.reader.now) c.read_from.new.tree c.seek.new.self c.in_ok-bytes.bytes.items (c.in-Some.reader.now.position + c.len.result)
-    c.self.view_is c.self.invariant c.if-has_failed.ensures c.in_ok-bytes.ensures.asked c.in-Some.ensures
+    read_answers (held_of c.self.inside.tree c.self.inside.files) _ c.args.fd c.args.count (reader_seen c.in-Some.reader.now) c.read_from.new.tree (files_seen c.read_from.new.tree c.seek.new.self) c.in_ok-bytes.bytes.items (c.in-Some.reader.now.position + c.len.result)
+    c.self.view_is (sound_by c.self.inside.tree c.self.inside.files c.self.invariant) c.if-has_failed.ensures c.in_ok-bytes.ensures.asked (some_reader c.self.inside.tree c.self.inside.files c.args.fd c.in-Some.reader.now c.in-Some.ensures)
     (c.in_ok-bytes.ensures.bytes ∙ ap (λ p. take c.args.count (drop c.in-Some.reader.now.position (bytes_at (tree_seen c.self.inside.tree p)))) c.lend.ensures)
-    (omega (arith, c.len.ensures, c.in_ok-bytes.bytes.ok.0)) c.seek.ensures
+    (omega (arith, c.len.ensures, c.in_ok-bytes.bytes.ok.0))
+    (ap (files_seen c.read_from.new.tree) c.seek.ensures ∙ moved_is c.read_from.new.tree c.self.inside.files c.args.fd (c.in-Some.reader.now.position + c.len.result) (reader_there (entry_of c.self.inside.files c.args.fd) c.in-Some.reader.now c.in-Some.ensures)
+    ∙ ap (λ z. put_file (files_seen z c.self.inside.files) c.args.fd (option_map (moved_to (c.in-Some.reader.now.position + c.len.result)) (file_of (files_seen z c.self.inside.files) c.args.fd))) c.in_ok-bytes.ensures.asked.same)

@@ -1,0 +1,141 @@
+-- Writers that are opened.
+use Rattle.std.proofs.Common.{ℕ, ◌≡◌, ◌+◌, ◌*◌, ◌≤◌, Bool, true, false, cond, List, [], ◌∷◌, length, nat_lt, ◌&&◌, Option, Some, None, refl, sym, ap, ap₂, subst, ◌∙◌, arith}
+use Rattle.std.proofs.lemmas.Bool.{le-leb, lt-ltb}
+use Rattle.lfs_model.specs.Apply.{bytes_at, is_file}
+use Rattle.lfs_model.specs.Disk.{block_count, inline_limit}
+use Rattle.lfs_model.specs.Lists.{blocks_for}
+use Rattle.lfs_model.specs.Operations.{Flags}
+use Rattle.lfs_model.specs.Session as session
+use Rattle.lfs_model.specs.Session.{opened_writer}
+use Rattle.lfs_model.specs.Steps.{size_of}
+use Rattle.lfs_model.specs.Tree.{Node, FileNode, DirectoryNode, Path}
+use Rattle.lfs_tree.specs.OpenContents.{IsOver, IsSettleable, bytes_held, kept_of}
+use Rattle.lfs_tree.specs.Seen.{Seen, around_of, tree_seen}
+use Rattle.lfs_writer.specs.Contents.{form_of}
+use Rattle.lfs_writer.specs.Form as shape_of
+use Rattle.lfs_writer.specs.Form.{IsKept}
+use Rattle.lfs_writer.specs.declared.contents.Contents.{Contents}
+use Rattle.lfs_fs.specs.Changing.{CanBegin, IsBegunAs}
+use Rattle.lfs_fs.specs.FileSeen.{held_for}
+use Rattle.lfs_model.proofs.Paths.{path_itself}
+use Rattle.lfs_model.specs.Apply.{added, change_at, last_name, parent_of, with_name, with_names}
+use Rattle.lfs_model.specs.Operations as ops
+use Rattle.lfs_model.specs.Steps.{as_path}
+use Rattle.lfs_model.specs.Tree.{Tree}
+use Rattle.lfs_tree.specs.Allowed.{CanCreate}
+use Rattle.lfs_tree.specs.Seen.{IsCarried}
+use Rattle.std.specs.Prelude.{is_none, is_some, if◌then◌else◌}
+
+file_there : (n : Option Node) (size : ℕ) → size_of n ≡ Some size → (is_file n ≡ true) × (length (bytes_at n) ≡ size)
+file_there None size e = absurd (cc)
+file_there (Some (FileNode attributes bytes)) size e = (refl, ap or_else e)
+  where
+    or_else : Option ℕ → ℕ
+    or_else None = 0
+    or_else (Some z) = z
+file_there (Some (DirectoryNode attributes names)) size e = absurd (cc)
+
+pub is_file_there : (t : Seen) (path : Path) (size : ℕ) (truncates : Bool) → CanBegin t path size truncates → is_file (tree_seen t path) ≡ true
+is_file_there t path size truncates can = (file_there (tree_seen t path) size can.there).0
+
+no_elements : (xs : List ℕ) → nat_lt 0 (length xs) ≡ false → xs ≡ []
+no_elements [] e = refl
+no_elements (x ∷ xs) e = absurd (let k = sym (lt-ltb 0 (length (x ∷ xs)) (omega arith)) ∙ e in cc)
+
+-- one with the bytes of the file
+pub begun_clean : (t : Seen) (path : Path) (size : ℕ) (flags : Flags) → CanBegin t path size flags.truncate → (flags.truncate && nat_lt 0 size) ≡ false →
+    IsBegunAs t (opened_writer path flags (bytes_at (tree_seen t path))) (record { path = path; position = 0; size = size; appends = flags.append; unsaved = None })
+begun_clean t path size flags can none = record {
+  seen = seen flags.truncate none;
+  written = record { writable = can.writable; settled = can.settled; there = file.0; size = file.1; changed = tt };
+}
+  where
+    file : (is_file (tree_seen t path) ≡ true) × (length (bytes_at (tree_seen t path)) ≡ size)
+    file = file_there (tree_seen t path) size can.there
+
+    made : List ℕ → Bool → session.Writer
+    made xs dirty = record { path = path; contents = xs; position = 0; append = flags.append; dirty = dirty; turned = false; last_end = None }
+
+    seen : (b : Bool) → (b && nat_lt 0 size) ≡ false → made (bytes_at (tree_seen t path)) false ≡ made (cond b [] (bytes_at (tree_seen t path))) (b && nat_lt 0 (length (bytes_at (tree_seen t path))))
+    seen false e = refl
+    seen true e =
+        let few = ap (nat_lt 0) file.1 ∙ e in
+        ap₂ made (no_elements (bytes_at (tree_seen t path)) few) (sym few)
+
+-- one without bytes, where the file has some
+pub begun_anew : (t : Seen) (path : Path) (size : ℕ) (flags : Flags) (c : Contents) → CanBegin t path size flags.truncate → flags.truncate ≡ true → 1 ≤ size → IsOver t path c → bytes_held (kept_of t) c ≡ [] → form_of c ≡ shape_of.InMemory 0 →
+    IsBegunAs t (opened_writer path flags (bytes_at (tree_seen t path))) (record { path = path; position = 0; size = 0; appends = flags.append; unsaved = Some (record { contents = c; has_turned = false; last_end = None }) })
+begun_anew t path size flags c can truncates some over none shape = record {
+  seen = seen;
+  written = record {
+    writable = can.writable;
+    settled = can.settled;
+    there = file.0;
+    size = ap (λ xs. length xs) none;
+    changed = record {
+      over = over;
+      kept = subst (λ f. IsKept t.disk.block_size f (made (bytes_held (kept_of t) c) true)) (sym shape) kept;
+      form = subst (IsSettleable (inline_limit t.disk.block_size)) (sym shape) (omega arith);
+      room = subst (λ n. length (around_of t).used + n ≤ block_count t.disk) (sym two) (can.room truncates some);
+    };
+  };
+}
+  where
+    file : (is_file (tree_seen t path) ≡ true) × (length (bytes_at (tree_seen t path)) ≡ size)
+    file = file_there (tree_seen t path) size can.there
+
+    made : List ℕ → Bool → session.Writer
+    made xs dirty = record { path = path; contents = xs; position = 0; append = flags.append; dirty = dirty; turned = false; last_end = None }
+
+    small : 0 ≤ inline_limit t.disk.block_size
+    small = omega arith
+
+    kept : IsKept t.disk.block_size (shape_of.InMemory 0) (made (bytes_held (kept_of t) c) true)
+    kept = record { size = sym (ap (λ xs. length xs) none); fits = small }
+
+    two : held_for t.disk.block_size false 0 ≡ 2
+    two = ap (λ z. 2 + 1 * cond z 0 (blocks_for t.disk.block_size 0)) (le-leb 0 (inline_limit t.disk.block_size) (omega arith))
+
+    seen : made (bytes_held (kept_of t) c) true ≡ made (cond flags.truncate [] (bytes_at (tree_seen t path))) (flags.truncate && nat_lt 0 (length (bytes_at (tree_seen t path))))
+    seen =
+        ap (λ xs. made xs true) none
+        ∙ ap (λ b. made [] b) (sym (lt-ltb 0 (length (bytes_at (tree_seen t path))) (omega (arith, file.1, some))))
+        ∙ sym (ap (λ z. made (cond z [] (bytes_at (tree_seen t path))) (z && nat_lt 0 (length (bytes_at (tree_seen t path))))) truncates)
+
+-- a file that is made is empty
+made_node : (t new : Seen) (bytes : List ℕ) (flags : Flags) (path : Path) → as_path bytes ≡ path → CanCreate t path → IsCarried t (ops.Open bytes flags) new → tree_seen new path ≡ Some (FileNode [] [])
+made_node t new bytes flags path is can carried =
+    ap (λ (z : Tree). z path) (carried.shows (around_of t) [] ∙ ap (λ p. if is_none (tree_seen t p) then added p (FileNode [] []) (tree_seen t) else tree_seen t) is)
+    ∙ ap (λ b. (if b then added path (FileNode [] []) (tree_seen t) else tree_seen t) path) (nothing (tree_seen t path) can.nothing)
+    ∙ ap (λ b. if b then Some (FileNode [] []) else change_at (parent_of path) (with_names (with_name (last_name path))) (tree_seen t) path) (path_itself path)
+  where
+    nothing : (n : Option Node) → is_some n ≡ false → is_none n ≡ true
+    nothing None e = refl
+    nothing (Some n) e = absurd (cc)
+
+none_dirty : (b : Bool) → false ≡ (b && nat_lt 0 0)
+none_dirty true = refl
+none_dirty false = refl
+
+no_bytes : (b : Bool) (xs : List ℕ) → xs ≡ [] → xs ≡ (if b then [] else [])
+no_bytes true xs e = e
+no_bytes false xs e = e
+
+pub begun_made : (t new : Seen) (bytes : List ℕ) (given : Flags) (path : Path) (flags : Flags) (appends : Bool) → as_path bytes ≡ path → CanCreate t path → IsCarried t (ops.Open bytes given) new → appends ≡ flags.append →
+    IsBegunAs new (opened_writer path flags []) (record { path = path; position = 0; size = 0; appends = appends; unsaved = None })
+begun_made t new bytes given path flags appends is can carried appends_is = record {
+  seen = ap₂ (λ xs b. made xs b false) (ap bytes_at node) appends_is ∙ ap₂ (λ xs d. made xs flags.append d) (no_bytes flags.truncate [] refl) (none_dirty flags.truncate);
+  written = record {
+    writable = carried.writable;
+    settled = carried.recovered.gstate;
+    there = ap is_file node;
+    size = ap (λ n. length (bytes_at n)) node;
+    changed = tt;
+  };
+}
+  where
+    node : tree_seen new path ≡ Some (FileNode [] [])
+    node = made_node t new bytes given path is can carried
+
+    made : List ℕ → Bool → Bool → session.Writer
+    made xs append dirty = record { path = path; contents = xs; position = 0; append = append; dirty = dirty; turned = false; last_end = None }

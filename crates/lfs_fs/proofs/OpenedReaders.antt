@@ -1,0 +1,31 @@
+-- A file that is opened for reading.
+use Rattle.std.proofs.Common.{ℕ, ◌≡◌, false, List, Some, None, Result, Ok, Err, sym, ap, ap₂, subst, ◌∙◌}
+use Rattle.std.specs.Prelude.{IfOk, OnOk, is_err, is_none}
+use Rattle.lfs_device.specs.declared.error.Error.{Error}
+use Rattle.lfs_model.specs.Operations as ops
+use Rattle.lfs_model.specs.Operations.{Flags}
+use Rattle.lfs_model.specs.Session.{Reading, put_file}
+use Rattle.lfs_model.specs.Steps.{as_path}
+use Rattle.lfs_model.specs.Tree.{Path}
+use Rattle.lfs_tree.specs.Seen.{Seen, IsAsked, tree_seen}
+use Rattle.lfs_fs.specs.FileSeen.{OpenFiles, files_seen, free_entry, put_entry}
+use Rattle.lfs_fs.specs.Held.{Answers, Held, IsReady, held_of, refused_by}
+use Rattle.lfs_fs.specs.Replies.{reply_in}
+use Rattle.lfs_fs.specs.declared.files.OpenFile.TheVariants as file
+use Rattle.lfs_fs.proofs.Answered.{asked_ready, reader_answers, sound_by}
+use Rattle.lfs_fs.proofs.OpenFiles.{free_is, put_is, ready_put}
+
+pub reader_opened : (t mid : Seen) (fs gs : OpenFiles) (now : Held) (bytes : List ℕ) (flags : Flags) (r : Result ℕ Error) → held_of t fs ≡ now → (t.failed ≡ false → IsReady t fs) → flags.write ≡ false →
+    IsAsked t mid → refused_by (held_of t fs) (ops.Open bytes flags) ≡ None → is_none (tree_seen t (as_path bytes)) ≡ false →
+    false ≡ is_err r → IfOk r (λ fd. fd ≡ free_entry fs) → OnOk r (gs ≡ put_entry fs (free_entry fs) (Some (file.Reading (record { path = as_path bytes; position = 0 })))) →
+    Answers now (ops.Open bytes flags) (reply_in ops.Opened r) (held_of mid gs)
+reader_opened t mid fs gs now bytes flags (Err e) same ready write asked e' there ok number added = absurd (cc)
+reader_opened t mid fs gs now bytes flags (Ok fd) same ready write asked e there ok number added =
+    reader_answers (held_of t fs) now bytes flags mid (files_seen mid gs) (Ok fd) same (sound_by t fs ready) write asked e there ok (number ∙ free_is t fs)
+    (ap (files_seen mid) added ∙ put_is mid fs (free_entry fs) (Some (file.Reading (record { path = as_path bytes; position = 0 })))
+    ∙ ap₂ (λ files n. put_file files n (Some (Reading (record { path = as_path bytes; position = 0 })))) (ap (λ z. files_seen z fs) asked.same) (free_is t fs))
+
+pub reader_ready : (t mid : Seen) (fs gs : OpenFiles) (path : Path) (r : Result ℕ Error) → (t.failed ≡ false → IsReady t fs) → IsAsked t mid → false ≡ is_err r →
+    OnOk r (gs ≡ put_entry fs (free_entry fs) (Some (file.Reading (record { path = path; position = 0 })))) → mid.failed ≡ false → IsReady mid gs
+reader_ready t mid fs gs path (Err e) ready asked ok added works = absurd (cc)
+reader_ready t mid fs gs path (Ok fd) ready asked ok added works = subst (IsReady mid) (sym added) (ready_put mid fs _ (asked_ready t mid fs ready asked works))

@@ -1,0 +1,369 @@
+-- A file that is opened for writing.
+use Rattle.std.proofs.Common.{ℕ, zero, suc, ◌≡◌, ◌∙◌, ◌+◌, ◌<◌, ◌≤◌, ◌||◌, ◌&&◌, Bool, true, false, not, nat_le, nat_lt, List, [], ◌∷◌, ◌++◌, length, set, Option, Some, None, Result, Ok, Err, refl, sym, ap, ap₂, subst, arith}
+use Rattle.std.specs.Prelude.{if◌then◌else◌, is_none, is_some}
+use Rattle.std.specs.List.{AllByRecursion, list_any}
+use Rattle.std.proofs.lemmas.Bool.{lt-ltb, ltb-true}
+use Rattle.std.proofs.lemmas.Bool.Decides.{nat_tests}
+use Rattle.lfs_device.specs.declared.error.Error.{Error}
+use Rattle.lfs_device.specs.declared.error.Error.TheVariants.{NoMemory}
+use Rattle.lfs_model.specs.Apply.{added, bytes_at, is_directory, last_name, same_path}
+use Rattle.lfs_model.specs.BlockSets.{in_flight_count}
+use Rattle.lfs_model.specs.Disk.{SameGeometry, block_count}
+use Rattle.lfs_model.specs.History.{Event}
+use Rattle.lfs_model.specs.Operations as ops
+use Rattle.lfs_model.specs.Operations.{Flags, path_of}
+use Rattle.lfs_model.specs.Run.{IsTurn}
+use Rattle.lfs_model.specs.Session.{Files, Session, Reading, Writing, free_number, held, is_long, is_open_at, is_overcharged, lacks, opened_writer, overfills, parent_fault, put_file, readers, writers}
+use Rattle.lfs_model.specs.Slots.{no_gstate}
+use Rattle.lfs_model.specs.State.{Healthy}
+use Rattle.lfs_model.specs.Steps.{as_path, effect_of, size_of}
+use Rattle.lfs_model.specs.Thread.{gstate_of}
+use Rattle.lfs_model.specs.Tree.{DirectoryNode, FileNode, Node, Path}
+use Rattle.lfs_model.proofs.Committed.{recovered_from}
+use Rattle.lfs_model.proofs.TurnsMade.{completed_turn}
+use Rattle.lfs_tree.specs.Allowed.{CanCreate}
+use Rattle.lfs_tree.specs.Refusals.{refusal_in}
+use Rattle.lfs_tree.specs.Seen.{IsAsked, IsBroken, IsBrokenAsking, IsCarried, IsError, IsSound, Seen, around_of, tree_seen}
+use Rattle.lfs_fs.specs.Changing.{CanBegin, IsBegunAs}
+use Rattle.lfs_fs.specs.FileSeen.{OpenFiles, entry_of, files_seen, free_entry, has_unsaved, put_entry, writer_in, writer_seen, writers_in}
+use Rattle.lfs_fs.specs.Held.{Answers, Held, IsReady, IsWritten, held_of, held_with, moment_of, refused_by, session_of}
+use Rattle.lfs_fs.specs.Replies.{reply_in}
+use Rattle.lfs_fs.specs.declared.files.OpenFile.{OpenFile}
+use Rattle.lfs_fs.specs.declared.files.OpenFile.TheVariants as file
+use Rattle.lfs_fs.specs.declared.files.Writer.{Writer}
+use Rattle.lfs_fs.proofs.Answered.{KeepsWriters, carried_answer, carried_ready, error_answers, is_over, kept_files, not_failed, not_refused, ready_later, sound_by}
+use Rattle.lfs_fs.proofs.Checked.{negated, neither, there, unrefused}
+use Rattle.lfs_fs.proofs.Failing.{broken_fails, healthy_moment, memory_fails}
+use Rattle.lfs_fs.proofs.OpenFiles.{count_put, free_at_most, free_is, only, put_is, writer_count}
+use Rattle.lfs_fs.proofs.WriterOpens.{writes_anew}
+use Rattle.lfs_fs.proofs.WriterTurns.{there_arranged}
+
+-- ---- what no check refuses
+
+pub record IsPassed (h : Held) (bytes : List ℕ) (p : Path) (flags : Flags) : Type 0 where
+  pub works : h.tree.failed ≡ false
+  pub writable : h.tree.writable ≡ true
+  pub given : is_some (path_of bytes) ≡ true
+  pub parents : parent_fault (tree_seen h.tree) [] p ≡ None
+  pub name : (is_none (tree_seen h.tree p) && flags.create && is_long p) ≡ false
+  pub creates : (is_none (tree_seen h.tree p) && not flags.create) ≡ false
+  pub directory : is_directory (tree_seen h.tree p) ≡ false
+  pub few : nat_lt 0 (length (writers h.files)) ≡ false
+  pub fits : (is_none (tree_seen h.tree p) && is_overcharged (around_of h.tree) (last_name p) []) ≡ false
+  pub room : (is_none (tree_seen h.tree p) && lacks (around_of h.tree) h.files 2) ≡ false
+  pub anew : (flags.truncate && overfills (around_of h.tree) (opened_writer p flags (bytes_at (tree_seen h.tree p)))) ≡ false
+
+both_false : (a b : Bool) → (a || b) ≡ false → (a ≡ false) × (b ≡ false)
+both_false true b e = absurd (cc)
+both_false false b e = (refl, e)
+
+pub open_passed : (h : Held) (bytes : List ℕ) (flags : Flags) → flags.write ≡ true → refused_by h (ops.Open bytes flags) ≡ None → IsPassed h bytes (as_path bytes) flags
+open_passed h bytes flags write e =
+    let a = neither _ _ (not_refused h (ops.Open bytes flags) e) in
+    let b = neither _ _ a.1 in
+    let c = neither _ _ b.1 in
+    let d = neither _ _ c.1 in
+    let i = neither _ _ d.1 in
+    let j = neither _ _ i.1 in
+    let k = neither _ _ j.1 in
+    let l = neither _ _ k.1 in
+    let m = neither _ _ l.1 in
+    let n = neither _ _ m.1 in
+    let o = neither _ _ n.1 in
+    record {
+      works = not_failed h (ops.Open bytes flags) e;
+      writable = negated h.tree.writable (sym (ap (λ w. w && not h.tree.writable) write) ∙ unrefused _ _ a.0);
+      given = there (path_of bytes) ∙ ap not (both_false (is_none (path_of bytes)) _ (unrefused _ _ b.0)).0;
+      parents = c.0;
+      name = unrefused _ _ d.0;
+      creates = unrefused _ _ i.0;
+      directory = unrefused _ _ k.0;
+      few = (both_false (nat_lt 0 (length (writers h.files))) _ (sym (ap (λ w. if w then nat_lt 0 (length (writers h.files)) || is_open_at (same_path (as_path bytes)) h.files
+          else list_any (λ x. same_path (as_path bytes) x.path) (writers h.files) || nat_le 16 (length (readers h.files))) write) ∙ unrefused _ _ l.0)).0;
+      fits = unrefused _ _ m.0;
+      room = unrefused _ _ n.0;
+      anew = unrefused _ _ o.0;
+    }
+
+not_less : (n m : ℕ) → nat_lt n m ≡ false → m ≤ n
+not_less n m e = grind (arith, nat_tests)
+
+room_left : (n m k f l : ℕ) → f ≡ 0 → nat_lt n (m + k + l) ≡ false → m + f + l ≤ n
+room_left n m k f l none e = grind (arith, nat_tests)
+
+room_anew : (h : Held) (p : Path) (flags : Flags) (size : ℕ) → size_of (tree_seen h.tree p) ≡ Some size →
+    (flags.truncate && overfills (around_of h.tree) (opened_writer p flags (bytes_at (tree_seen h.tree p)))) ≡ false → flags.truncate ≡ true → 1 ≤ size → length (around_of h.tree).used + 2 ≤ block_count h.tree.disk
+room_anew h p flags size sizes fits truncates some =
+    not_less (block_count h.tree.disk) (length (around_of h.tree).used + 2)
+    (sym (ap₂ (λ t s. t && nat_lt (block_count h.tree.disk) (length (around_of h.tree).used + (if s then 2 else 0))) truncates (lt-ltb 0 size (omega (arith, some))))
+    ∙ writes_anew h p flags (Some size) (nat_lt (block_count h.tree.disk) (length (around_of h.tree).used + (if nat_lt 0 size then 2 else 0))) sizes refl ∙ fits)
+
+pub can_begin : (t mid : Seen) (fs : OpenFiles) (bytes : List ℕ) (flags : Flags) (p : Path) (size : ℕ) → (t.failed ≡ false → IsReady t fs) → IsAsked t mid → refused_by (held_of t fs) (ops.Open bytes flags) ≡ None →
+    flags.write ≡ true → gstate_of mid.pairs ≡ no_gstate → has_unsaved fs ≡ false → p ≡ as_path bytes → size_of (tree_seen t p) ≡ Some size → CanBegin mid p size flags.truncate
+can_begin t mid fs bytes flags p size ready asked e write settled saved is sizes =
+    subst (λ z. CanBegin z p size flags.truncate) (sym asked.same)
+    (subst (λ q. CanBegin (record t { history = mid.history }) q size flags.truncate) (sym is) (record {
+      works = passed.works;
+      writable = passed.writable;
+      settled = sym (ap (λ (z : Seen). gstate_of z.pairs) asked.same) ∙ settled;
+      idle = (ready passed.works).idle saved;
+      there = sized;
+      room = room_anew (held_of t fs) (as_path bytes) flags size sized passed.anew;
+    }))
+  where
+    passed : IsPassed (held_of t fs) bytes (as_path bytes) flags
+    passed = open_passed (held_of t fs) bytes flags write e
+
+    sized : size_of (tree_seen t (as_path bytes)) ≡ Some size
+    sized = sym (ap (λ q. size_of (tree_seen t q)) is) ∙ sizes
+
+no_node : (n : Option Node) → size_of n ≡ None → is_directory n ≡ false → n ≡ None
+no_node None e d = refl
+no_node (Some (FileNode attributes bytes)) e d = absurd (cc)
+no_node (Some (DirectoryNode attributes names)) e d = absurd (cc)
+
+pub can_create : (t mid : Seen) (fs : OpenFiles) (bytes : List ℕ) (flags : Flags) (p : Path) → (t.failed ≡ false → IsReady t fs) → IsAsked t mid → refused_by (held_of t fs) (ops.Open bytes flags) ≡ None →
+    flags.write ≡ true → gstate_of mid.pairs ≡ no_gstate → has_unsaved fs ≡ false → p ≡ as_path bytes → size_of (tree_seen t p) ≡ None → CanCreate mid p
+can_create t mid fs bytes flags p ready asked e write settled saved is sizes =
+    subst (λ z. CanCreate z p) (sym asked.same)
+    (subst (λ q. CanCreate (record t { history = mid.history }) q) (sym is) (record {
+      works = passed.works;
+      writable = passed.writable;
+      settled = sym (ap (λ (z : Seen). gstate_of z.pairs) asked.same) ∙ settled;
+      parents = passed.parents;
+      name = sym (ap₂ (λ x c. x && c && is_long (as_path bytes)) absent creates) ∙ passed.name;
+      nothing = ap is_some none;
+      fits = sym (ap (λ x. x && is_overcharged (around_of t) (last_name (as_path bytes)) []) absent) ∙ passed.fits;
+      room = room_left (block_count t.disk) (length (around_of t).used) (held t.disk.block_size (files_seen t fs)) (in_flight_count t.map) 2 ((ready passed.works).idle saved)
+          (sym (ap (λ x. x && lacks (around_of t) (files_seen t fs) 2) absent) ∙ passed.room);
+    }))
+  where
+    passed : IsPassed (held_of t fs) bytes (as_path bytes) flags
+    passed = open_passed (held_of t fs) bytes flags write e
+
+    none : tree_seen t (as_path bytes) ≡ None
+    none = no_node (tree_seen t (as_path bytes)) (sym (ap (λ q. size_of (tree_seen t q)) is) ∙ sizes) passed.directory
+
+    absent : is_none (tree_seen t (as_path bytes)) ≡ true
+    absent = ap is_none none
+
+    creates : flags.create ≡ true
+    creates = negated flags.create (sym (ap (λ x. x && not flags.create) absent) ∙ passed.creates)
+
+nothing_left : {A : Type 0} (xs : List A) → length xs ≤ 0 → xs ≡ []
+nothing_left [] h = refl
+nothing_left (x ∷ xs) h = absurd (omega (arith, h))
+
+pub no_writer : (t : Seen) (fs : OpenFiles) (bytes : List ℕ) (flags : Flags) → flags.write ≡ true → refused_by (held_of t fs) (ops.Open bytes flags) ≡ None → writers_in fs ≡ []
+no_writer t fs bytes flags write e =
+    nothing_left (writers_in fs) (not_less 0 (length (writers_in fs)) (ap (nat_lt 0) (sym (writer_count t fs)) ∙ (open_passed (held_of t fs) bytes flags write e).few))
+
+-- ---- room for one more file
+
+set_length : (fs : OpenFiles) (n : ℕ) (x : Option OpenFile) → length (set fs n x) ≡ length fs
+set_length [] n x = refl
+set_length (f ∷ fs) zero x = refl
+set_length (f ∷ fs) (suc n) x = ap suc (set_length fs n x)
+
+behind_length : (fs : OpenFiles) (x : Option OpenFile) → length (fs ++ x ∷ []) ≡ 1 + length fs
+behind_length [] x = refl
+behind_length (f ∷ fs) x = let k = behind_length fs x in omega (arith, k)
+
+set_there : (fs : OpenFiles) (n : ℕ) (x : Option OpenFile) → n < length fs → entry_of (set fs n x) n ≡ x
+set_there [] n x lt = absurd (omega (arith, lt))
+set_there (f ∷ fs) zero x lt = refl
+set_there (f ∷ fs) (suc n) x lt = set_there fs n x (omega (arith, lt))
+
+set_twice : (fs : OpenFiles) (n : ℕ) (x y : Option OpenFile) → set (set fs n x) n y ≡ set fs n y
+set_twice [] n x y = refl
+set_twice (f ∷ fs) zero x y = refl
+set_twice (f ∷ fs) (suc n) x y = ap (λ gs. f ∷ gs) (set_twice fs n x y)
+
+one_more : (n : ℕ) → 1 + n ≡ suc n
+one_more n = omega arith
+
+one_back : (n m : ℕ) → nat_lt (1 + n) (suc m) ≡ false → nat_lt n m ≡ false
+one_back n m e = grind (arith, nat_tests)
+
+set_behind : (fs : OpenFiles) (x y : Option OpenFile) → nat_lt (free_entry fs) (length fs) ≡ false → set (fs ++ x ∷ []) (free_entry fs) y ≡ fs ++ y ∷ []
+set_behind [] x y e = refl
+set_behind (None ∷ fs) x y e = absurd (let k = sym (lt-ltb 0 (length (None ∷ fs)) (omega arith)) ∙ e in cc)
+set_behind (Some f ∷ fs) x y e =
+    ap (λ n. set (Some f ∷ fs ++ x ∷ []) n y) (one_more (free_entry fs))
+    ∙ ap (λ gs. Some f ∷ gs) (set_behind fs x y (one_back (free_entry fs) (length fs) e))
+
+room_inside : (fs : OpenFiles) → free_entry fs < length (put_entry fs (free_entry fs) None)
+room_inside fs = go (nat_lt (free_entry fs) (length fs)) refl
+  where
+    go : (b : Bool) → nat_lt (free_entry fs) (length fs) ≡ b → free_entry fs < length (put_entry fs (free_entry fs) None)
+    go true e = rw e (let k = ltb-true (free_entry fs) (length fs) e in let l = set_length fs (free_entry fs) None in omega (arith, k, l))
+    go false e = rw e (let k = free_at_most fs in let l = behind_length fs None in omega (arith, k, l))
+
+room_filled : (fs : OpenFiles) (y : Option OpenFile) → set (put_entry fs (free_entry fs) None) (free_entry fs) y ≡ put_entry fs (free_entry fs) y
+room_filled fs y = go (nat_lt (free_entry fs) (length fs)) refl
+  where
+    go : (b : Bool) → nat_lt (free_entry fs) (length fs) ≡ b → set (put_entry fs (free_entry fs) None) (free_entry fs) y ≡ put_entry fs (free_entry fs) y
+    go true e = rw e (set_twice fs (free_entry fs) None y)
+    go false e = rw e (set_behind fs None y e)
+
+-- what there is once room is made
+pub record HasRoomFor (fs gs : OpenFiles) (n : ℕ) : Type 0 where
+  pub inside : n < length gs
+  pub free : entry_of gs n ≡ None
+  pub none : writers_in gs ≡ []
+  pub filled : (w : Writer) → set gs n (Some (file.Writing w)) ≡ put_entry fs (free_entry fs) (Some (file.Writing w))
+  pub alone : (w : Writer) → writers_in (put_entry fs (free_entry fs) (Some (file.Writing w))) ≡ w ∷ []
+
+pub room_made : (fs gs : OpenFiles) (n : ℕ) → writers_in fs ≡ [] → n ≡ free_entry fs → gs ≡ put_entry fs (free_entry fs) None → HasRoomFor fs gs n
+room_made fs gs n none number is =
+    subst (λ m. HasRoomFor fs gs m) (sym number) (subst (λ xs. HasRoomFor fs xs (free_entry fs)) (sym is) (record {
+      inside = room_inside fs;
+      free = sym (ap (λ xs. entry_of xs (free_entry fs)) (room_filled fs None)) ∙ set_there (put_entry fs (free_entry fs) None) (free_entry fs) None (room_inside fs);
+      none = nothing_left (writers_in (put_entry fs (free_entry fs) None)) (let k = count_put writer_in fs (free_entry fs) None in let l = ap (λ ws. length ws) none in omega (arith, k, l));
+      filled = λ w. room_filled fs (Some (file.Writing w));
+      alone = λ w. (only (put_entry fs (free_entry fs) (Some (file.Writing w))) (free_entry fs) w
+          (sym (ap (λ xs. entry_of xs (free_entry fs)) (room_filled fs (Some (file.Writing w)))) ∙ set_there (put_entry fs (free_entry fs) None) (free_entry fs) (Some (file.Writing w)) (room_inside fs))
+          (let k = count_put writer_in fs (free_entry fs) (Some (file.Writing w)) in let l = ap (λ ws. length ws) none in omega (arith, k, l))).writers;
+    }))
+
+-- ---- the session once the writer is open
+
+ready_with : (t : Seen) (fs gs : OpenFiles) (w : Writer) → writers_in fs ≡ [] → writers_in gs ≡ w ∷ [] → IsReady t fs → IsWritten t w → IsReady t gs
+ready_with t fs gs w none alone h written = record {
+  sound = h.sound;
+  one = subst (λ ws. length ws ≤ 1) (sym alone) (omega arith);
+  idle = λ e. h.idle (ap (list_any (λ w. is_some w.unsaved)) none);
+  written = subst (AllByRecursion (IsWritten t)) (sym alone) (written, tt);
+}
+
+none_saved : (fs : OpenFiles) → writers_in fs ≡ [] → has_unsaved fs ≡ false
+none_saved fs none = ap (list_any (λ w. is_some w.unsaved)) none
+
+keeps_none : (t s : Seen) (fs : OpenFiles) → writers_in fs ≡ [] → KeepsWriters t s (writers_in fs)
+keeps_none t s fs none = subst (λ ws. KeepsWriters t s ws) (sym none) tt
+
+-- what either way of opening comes to: the session is ready but for the writer, which is as the definitions have it
+pub record IsOpenedBy (t : Seen) (fs : OpenFiles) (bytes : List ℕ) (flags : Flags) (new : Seen) (w : Writer) : Type 0 where
+  pub ready : IsReady new fs
+  pub begun : IsBegunAs new (opened_writer (as_path bytes) flags (bytes_at (tree_seen t (as_path bytes)))) w
+  pub turn : (files : Files) → (effect_of (around_of t) (session_of (held_of t fs)) (ops.Open bytes flags)).1.files ≡ files →
+      IsTurn (moment_of (held_of t fs)) (ops.Open bytes flags) (effect_of (around_of t) (session_of (held_of t fs)) (ops.Open bytes flags)).0 (moment_of (held_with new files))
+
+later : Seen → List Event → Seen
+later t events = record t { history = events ++ t.history }
+
+asked_later : (old new : Seen) (asked : IsAsked old new) → new ≡ later old asked.reads.events
+unfolding later
+asked_later old new asked = asked.same ∙ ap (λ history. record old { history = history }) asked.reads.extends
+
+-- a file that is there
+there_turn : (old : Held) (bytes : List ℕ) (flags : Flags) (mid : Seen) (files : Files) (n : Node) → (old.tree.failed ≡ false → IsSound old.tree) → old.tree.writable ≡ true → IsAsked old.tree mid →
+    refused_by old (ops.Open bytes flags) ≡ None → flags.write ≡ true → gstate_of old.tree.pairs ≡ no_gstate → tree_seen old.tree (as_path bytes) ≡ Some n →
+    (effect_of (around_of old.tree) (session_of old) (ops.Open bytes flags)).1.files ≡ files →
+    IsTurn (moment_of old) (ops.Open bytes flags) (effect_of (around_of old.tree) (session_of old) (ops.Open bytes flags)).0 (moment_of (held_with mid files))
+unfolding later
+there_turn old bytes flags mid files n sound writable asked e write settled node opened =
+    let op = ops.Open bytes flags in
+    let works = not_failed old op e in
+    let good = sound works in
+    let events = asked.reads.events in
+    let kept : tree_seen old.tree ≡ (if is_none (tree_seen old.tree (as_path bytes)) then added (as_path bytes) (FileNode [] []) (tree_seen old.tree) else tree_seen old.tree) =
+    sym (ap (λ o. if is_none o then added (as_path bytes) (FileNode [] []) (tree_seen old.tree) else tree_seen old.tree) node) in
+    let is : record { tree = tree_seen old.tree; files = files } ≡ (effect_of (around_of old.tree) (session_of old) op).1 = ap₂ (λ t f. record { tree = t; files = f }) kept (sym opened) in
+    let to = healthy_moment (held_with (later old.tree events) files) works
+    ∙ ap (λ (s : Session). record { disk = old.tree.disk; calls = events ++ old.tree.history; state = Healthy s }) is in
+    subst (λ t. IsTurn (moment_of old) op (effect_of (around_of old.tree) (session_of old) op).0 (moment_of (held_with t files))) (sym (asked_later old.tree mid asked))
+    (subst (λ m. IsTurn m op (effect_of (around_of old.tree) (session_of old) op).0 (moment_of (held_with (later old.tree events) files))) (sym (healthy_moment old works))
+    (subst (λ m. IsTurn (record { disk = old.tree.disk; calls = old.tree.history; state = Healthy (session_of old) }) op (effect_of (around_of old.tree) (session_of old) op).0 m) (sym to)
+    (completed_turn old.tree.disk old.tree.pairs (session_of old) (around_of old.tree) op old.tree.disk old.tree.pairs events old.tree.history (is_over old.tree old.files good) (not_refused old op e)
+    (record {
+      geometry = record { block_size = refl; page = refl; count = refl };
+      other = refl;
+      asks = ap not write;
+      fills = refl;
+      opens = λ h f. refl;
+      silent = λ h. absurd (cc);
+      itself = λ h. absurd (cc);
+      nothing_left = λ h k. absurd (cc);
+    })
+    (record {
+      accepted = good.accepted;
+      writable = good.fits writable;
+      recovered = recovered_from old.tree.disk old.tree.pairs good.accepted settled;
+      tree = λ around. kept;
+      arranged = there_arranged old.tree.disk old.tree.pairs (session_of old) bytes flags n good.accepted (good.fits writable) settled node;
+    }))))
+
+file_node : (n : Option Node) (size : ℕ) → size_of n ≡ Some size → (m : Node) × (n ≡ Some m)
+file_node None size e = absurd (cc)
+file_node (Some m) size e = (m, refl)
+
+pub opened_there : (t mid new : Seen) (fs : OpenFiles) (bytes : List ℕ) (flags : Flags) (w : Writer) (p : Path) (size : ℕ) → (t.failed ≡ false → IsReady t fs) → IsAsked t mid →
+    refused_by (held_of t fs) (ops.Open bytes flags) ≡ None → flags.write ≡ true → gstate_of mid.pairs ≡ no_gstate → p ≡ as_path bytes → size_of (tree_seen t p) ≡ Some size →
+    new ≡ mid → IsBegunAs new (opened_writer p flags (bytes_at (tree_seen mid p))) w → IsOpenedBy t fs bytes flags new w
+opened_there t mid new fs bytes flags w p size ready asked e write settled is sizes same begun =
+    let passed = open_passed (held_of t fs) bytes flags write e in
+    let node = file_node (tree_seen t (as_path bytes)) size (sym (ap (λ q. size_of (tree_seen t q)) is) ∙ sizes) in
+    subst (λ z. IsOpenedBy t fs bytes flags z w) (sym same) (record {
+      ready = ready_later t mid fs (ready passed.works) asked;
+      begun = subst (λ (z : Seen). IsBegunAs mid (opened_writer (as_path bytes) flags (bytes_at (tree_seen z (as_path bytes)))) w) asked.same
+          (subst (λ q. IsBegunAs mid (opened_writer q flags (bytes_at (tree_seen mid q))) w) is (subst (λ z. IsBegunAs z (opened_writer p flags (bytes_at (tree_seen mid p))) w) same begun));
+      turn = λ files opened. there_turn (held_of t fs) bytes flags mid files node.0 (sound_by t fs ready) passed.writable asked e write
+          (sym (ap (λ (z : Seen). gstate_of z.pairs) asked.same) ∙ settled) node.1 opened;
+    })
+
+pub opened_new : (t mid new : Seen) (fs : OpenFiles) (bytes : List ℕ) (flags : Flags) (w : Writer) (p : Path) → (t.failed ≡ false → IsReady t fs) → IsAsked t mid →
+    refused_by (held_of t fs) (ops.Open bytes flags) ≡ None → flags.write ≡ true → p ≡ as_path bytes → size_of (tree_seen t p) ≡ None →
+    IsCarried mid (ops.Open bytes flags) new → IsBegunAs new (opened_writer p flags []) w → IsOpenedBy t fs bytes flags new w
+opened_new t mid new fs bytes flags w p ready asked e write is sizes carried begun =
+    let passed = open_passed (held_of t fs) bytes flags write e in
+    let node : tree_seen t (as_path bytes) ≡ None = no_node (tree_seen t (as_path bytes)) (sym (ap (λ q. size_of (tree_seen t q)) is) ∙ sizes) passed.directory in
+    let none = no_writer t fs bytes flags write e in
+    record {
+      ready = carried_ready mid new fs (ops.Open bytes flags) (ready_later t mid fs (ready passed.works) asked) (none_saved fs none) (keeps_none mid new fs none) carried;
+      begun = subst (λ n. IsBegunAs new (opened_writer (as_path bytes) flags (bytes_at n)) w) (sym node) (subst (λ q. IsBegunAs new (opened_writer q flags []) w) is begun);
+      turn = λ files opened. carried_answer (held_of t fs) (ops.Open bytes flags) mid new files (sound_by t fs ready) asked e carried refl (ap not write) refl (ap is_some node) refl opened;
+    }
+
+-- ---- answers
+
+pub writer_ready : (t new : Seen) (fs gs : OpenFiles) (bytes : List ℕ) (flags : Flags) (w : Writer) → IsOpenedBy t fs bytes flags new w → writers_in fs ≡ [] → writers_in (put_entry fs (free_entry fs) (Some (file.Writing w))) ≡ w ∷ [] →
+    gs ≡ put_entry fs (free_entry fs) (Some (file.Writing w)) → IsReady new gs
+writer_ready t new fs gs bytes flags w opened none alone is = ready_with new fs gs w none (ap (λ xs. writers_in xs) is ∙ alone) opened.ready opened.begun.written
+
+pub writer_opened : (t new : Seen) (fs gs : OpenFiles) (now : Held) (bytes : List ℕ) (flags : Flags) (w : Writer) (n : ℕ) → held_of t fs ≡ now → IsOpenedBy t fs bytes flags new w → flags.write ≡ true → writers_in fs ≡ [] →
+    n ≡ free_entry fs → gs ≡ put_entry fs (free_entry fs) (Some (file.Writing w)) → Answers now (ops.Open bytes flags) (Ok (ops.Opened n)) (held_of new gs)
+writer_opened t new fs gs now bytes flags w n same opened write none number is =
+    subst (λ z. Answers z (ops.Open bytes flags) (Ok (ops.Opened n)) (held_of new gs)) same
+    (subst (λ m. IsTurn (moment_of (held_of t fs)) (ops.Open bytes flags) (ops.Opened m) (moment_of (held_of new gs))) (sym (number ∙ free_is t fs))
+    (opened.turn (files_seen new gs) (sym brought)))
+  where
+    brought : files_seen new gs ≡ put_file (files_seen t fs) (free_number (files_seen t fs)) (Some (if flags.write then Writing (opened_writer (as_path bytes) flags (bytes_at (tree_seen t (as_path bytes)))) else Reading (record { path = as_path bytes; position = 0 })))
+    brought = ap (files_seen new) is ∙ put_is new fs (free_entry fs) (Some (file.Writing w))
+        ∙ ap₂ (λ files m. put_file files m (Some (Writing (writer_seen new w)))) (sym (kept_files t new fs (none_saved fs none) (keeps_none t new fs none))) (free_is t fs)
+        ∙ ap (λ x. put_file (files_seen t fs) (free_number (files_seen t fs)) (Some (Writing x))) opened.begun.seen
+        ∙ ap (λ b. put_file (files_seen t fs) (free_number (files_seen t fs)) (Some (if b then Writing (opened_writer (as_path bytes) flags (bytes_at (tree_seen t (as_path bytes)))) else Reading (record { path = as_path bytes; position = 0 })))) (sym write)
+
+pub broken_by_reads : (t s : Seen) → IsBrokenAsking t s → IsBroken t s
+broken_by_reads t s b = record {
+  failed = b.failed;
+  geometry = subst (λ d. SameGeometry t.disk d) (sym b.disk) (record { block_size = refl; page = refl; count = refl });
+  calls = b.reads.events;
+  called = b.reads.extends;
+}
+
+pub writer_breaks : (t mid new : Seen) (fs gs : OpenFiles) (now : Held) (bytes : List ℕ) (flags : Flags) (e : Error) (r : Result ℕ Error) → held_of t fs ≡ now → IsAsked t mid → refused_by (held_of t fs) (ops.Open bytes flags) ≡ None →
+    flags.write ≡ true → IsBroken mid new → IsError mid new e → r ≡ Err e → Answers now (ops.Open bytes flags) (reply_in ops.Opened r) (held_of new gs)
+writer_breaks t mid new fs gs now bytes flags e r same asked passed write broken error is =
+    subst (λ z. Answers z (ops.Open bytes flags) (reply_in ops.Opened r) (held_of new gs)) same
+    (subst (λ z. Answers (held_of t fs) (ops.Open bytes flags) (reply_in ops.Opened z) (held_of new gs)) (sym is)
+    (error_answers (held_of t fs) (ops.Open bytes flags) e (held_of new gs) (ops.Refused (refusal_in e)) error.errors
+    (broken_fails e (held_of t fs) (ops.Open bytes flags) mid new (files_seen new gs) (not_failed (held_of t fs) (ops.Open bytes flags) passed) refl (ap not write) asked broken error)))
+
+-- no memory is found for it
+pub writer_lacks_memory : (t mid left : Seen) (fs gs : OpenFiles) (now : Held) (bytes : List ℕ) (flags : Flags) → held_of t fs ≡ now → IsAsked t mid → refused_by (held_of t fs) (ops.Open bytes flags) ≡ None →
+    left ≡ record mid { failed = true } → Answers now (ops.Open bytes flags) (Err NoMemory) (held_of left gs)
+writer_lacks_memory t mid left fs gs now bytes flags same asked passed is =
+    subst (λ z. Answers z (ops.Open bytes flags) (Err NoMemory) (held_of left gs)) same
+    (subst (λ z. Answers (held_of t fs) (ops.Open bytes flags) (Err NoMemory) (held_of z gs)) (sym is)
+    (memory_fails (held_of t fs) (ops.Open bytes flags) mid (files_seen (record mid { failed = true }) gs) (not_failed (held_of t fs) (ops.Open bytes flags) passed) asked))

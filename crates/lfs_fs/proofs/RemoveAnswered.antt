@@ -1,0 +1,64 @@
+-- What a remove leaves of the open files.
+use Rattle.std.proofs.Common.{ℕ, ◌≡◌, ◌||◌, Bool, true, false, cond, List, [], ◌∷◌, Some, None, Result, Ok, Err, is_some, refl, sym, ap, subst, ◌∙◌}
+use Rattle.std.specs.Prelude.{OnErr, OnOk}
+use Rattle.std.specs.List.{AllByRecursion}
+use Rattle.lfs_device.specs.declared.error.Error.{Error}
+use Rattle.lfs_model.specs.Apply.{is_file, bytes_at, last_name, parent_of, removed, same_path, with_names, without_name}
+use Rattle.lfs_model.specs.Operations as ops
+use Rattle.lfs_model.specs.Session.{is_open_at}
+use Rattle.lfs_model.specs.Steps.{as_path}
+use Rattle.lfs_model.specs.Tree.{Path, Tree}
+use Rattle.lfs_tree.specs.Seen.{Seen, IsAsked, IsBroken, IsCarried, around_of, tree_seen}
+use Rattle.lfs_fs.specs.FileSeen.{OpenFiles, files_seen, has_unsaved, writers_in}
+use Rattle.lfs_fs.specs.Held.{IsReady, IsWritten, held_of, refused_by}
+use Rattle.lfs_fs.specs.declared.files.OpenFile.TheVariants as file
+use Rattle.lfs_fs.specs.declared.files.Writer.{Writer}
+use Rattle.lfs_fs.proofs.Answered.{KeepsWriters, carried_ready, kept_files, not_failed, ready_later}
+use Rattle.lfs_fs.proofs.RemoveChecks.{remove_not_open}
+use Rattle.lfs_fs.proofs.Staying.{SameFile, changed_same, named}
+
+-- ---- the writers' files
+
+or_false : (a b : Bool) → (a || b) ≡ false → (a ≡ false) × (b ≡ false)
+or_false true b e = absurd (cc)
+or_false false b e = (refl, e)
+
+not_some : {A : Type 0} (b : Bool) (x : A) → is_some (cond b (Some x) None) ≡ false → b ≡ false
+not_some true x e = absurd (cc)
+not_some false x e = refl
+
+-- where no file is open at a path, no writer is
+not_at : (t : Seen) (files : OpenFiles) (p : Path) → is_open_at (same_path p) (files_seen t files) ≡ false → AllByRecursion (λ w. same_path p w.path ≡ false) (writers_in files)
+not_at t [] p e = tt
+not_at t (None ∷ fs) p e = not_at t fs p e
+not_at t (Some (file.Reading r) ∷ fs) p e = not_at t fs p (or_false _ _ e).1
+not_at t (Some (file.Writing w) ∷ fs) p e = let k = or_false _ _ e in (not_some _ _ k.0, not_at t fs p k.1)
+
+-- every other file stays
+removed_same : (p q : Path) (t : Tree) → same_path p q ≡ false → SameFile (t q) (removed p t q)
+removed_same p q t other e = rw other (changed_same (with_names (without_name (last_name p))) (parent_of p) q t (named (without_name (last_name p))) e)
+
+writers_stay : (t s : Seen) (p : Path) (ws : List Writer) → tree_seen s ≡ removed p (tree_seen t) → AllByRecursion (IsWritten t) ws → AllByRecursion (λ w. same_path p w.path ≡ false) ws → KeepsWriters t s ws
+writers_stay t s p [] e written apart = tt
+writers_stay t s p (w ∷ ws) e written apart =
+    (subst (λ (z : Tree). (is_file (z w.path) ≡ true) × (bytes_at (z w.path) ≡ bytes_at (tree_seen t w.path))) (sym e) (removed_same p w.path (tree_seen t) apart.0 written.0.there), writers_stay t s p ws e written.1 apart.1)
+
+pub remove_keeps : (old t s : Seen) (files : OpenFiles) (bytes : List ℕ) → refused_by (held_of old files) (ops.Remove bytes) ≡ None → IsReady t files → IsCarried t (ops.Remove bytes) s → KeepsWriters t s (writers_in files)
+remove_keeps old t s files bytes e ready carried =
+    writers_stay t s (as_path bytes) (writers_in files) (carried.shows (around_of t) []) ready.written (not_at old files (as_path bytes) (remove_not_open (held_of old files) bytes e))
+
+-- ---- what it leaves once no check refuses it
+
+pub removed_ready : (K : Type 0) (old mid new : Seen) (files : OpenFiles) (bytes : List ℕ) (r : Result (Unit {0}) Error) → (old.failed ≡ false → IsReady old files) → IsAsked old mid → refused_by (held_of old files) (ops.Remove bytes) ≡ None →
+    has_unsaved files ≡ false → OnOk r K → (K → IsCarried mid (ops.Remove bytes) new) → OnErr r (IsBroken mid new) → new.failed ≡ false → IsReady new files
+removed_ready K old mid new files bytes (Ok u) ready asked e saved k carried broken works =
+    let now = ready_later old mid files (ready (not_failed (held_of old files) (ops.Remove bytes) e)) asked in
+    carried_ready mid new files (ops.Remove bytes) now saved (remove_keeps old mid new files bytes e now (carried k)) (carried k)
+removed_ready K old mid new files bytes (Err x) ready asked e saved k carried broken works = absurd (let l = sym broken.failed ∙ works in cc)
+
+pub removed_files : (K : Type 0) (old mid new : Seen) (files : OpenFiles) (bytes : List ℕ) (r : Result (Unit {0}) Error) → (old.failed ≡ false → IsReady old files) → IsAsked old mid → refused_by (held_of old files) (ops.Remove bytes) ≡ None →
+    has_unsaved files ≡ false → OnOk r K → (K → IsCarried mid (ops.Remove bytes) new) → OnErr r (IsBroken mid new) → new.failed ≡ false → files_seen old files ≡ files_seen new files
+removed_files K old mid new files bytes (Ok u) ready asked e saved k carried broken works =
+    let now = ready_later old mid files (ready (not_failed (held_of old files) (ops.Remove bytes) e)) asked in
+    sym (ap (λ z. files_seen z files) asked.same) ∙ kept_files mid new files saved (remove_keeps old mid new files bytes e now (carried k))
+removed_files K old mid new files bytes (Err x) ready asked e saved k carried broken works = absurd (let l = sym broken.failed ∙ works in cc)

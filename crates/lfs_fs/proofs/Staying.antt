@@ -1,0 +1,61 @@
+-- Files that stay while something else changes.
+use Rattle.std.proofs.Common.{is_some, ◌≡◌, Bool, true, false, cond, ℕ, List, [], Option, Some, None, refl, sym, ap, subst, ◌∙◌}
+use Rattle.std.specs.Option.{option_map}
+use Rattle.lfs_model.specs.Apply.{added, attributes_of, bytes_at, change_at, is_file, last_name, parent_of, same_path, with_attributes, with_name, with_names}
+use Rattle.lfs_model.specs.Content.{put_attribute, without_attribute}
+use Rattle.lfs_model.specs.Operations as ops
+use Rattle.lfs_model.specs.Steps.{as_path}
+use Rattle.lfs_model.specs.Tree.{Node, FileNode, DirectoryNode, Path, Tree}
+use Rattle.lfs_model.proofs.Paths.{path_from_same}
+use Rattle.lfs_tree.specs.Seen.{Seen, IsCarried, around_of, tree_seen}
+use Rattle.lfs_fs.proofs.Answered.{KeepsFiles}
+
+-- a file's node is one with the same bytes
+abbrev pub SameFile : Option Node → Option Node → Type 0
+SameFile n m = is_file n ≡ true → (is_file m ≡ true) × (bytes_at m ≡ bytes_at n)
+
+pub changed_same : (change : Node → Node) (p q : Path) (t : Tree) → ((n : Node) → SameFile (Some n) (Some (change n))) → SameFile (t q) (change_at p change t q)
+changed_same change p q t keeps = go (same_path p q) (t q)
+  where
+    go : (b : Bool) (n : Option Node) → SameFile n (cond b (option_map change n) n)
+    go false n e = (e, refl)
+    go true None e = absurd (cc)
+    go true (Some n) e = keeps n e
+
+pub named : (change : List _ → List _) (n : Node) → SameFile (Some n) (Some (with_names change n))
+named change (FileNode attributes bytes) e = (refl, refl)
+named change (DirectoryNode attributes names) e = absurd (cc)
+
+attributed : (f : Node → _) (n : Node) → SameFile (Some n) (Some (with_attributes (f n) n))
+attributed f (FileNode attributes bytes) e = (refl, refl)
+attributed f (DirectoryNode attributes names) e = absurd (cc)
+
+-- where something comes, there was nothing
+pub added_same : (p q : Path) (node : Node) (t : Tree) → is_some (t p) ≡ false → SameFile (t q) (added p node t q)
+added_same p q node t nothing e = go (same_path p q) refl
+  where
+    below : (is_file (change_at (parent_of p) (with_names (with_name (last_name p))) t q) ≡ true) × (bytes_at (change_at (parent_of p) (with_names (with_name (last_name p))) t q) ≡ bytes_at (t q))
+    below = changed_same (with_names (with_name (last_name p))) (parent_of p) q t (named (with_name (last_name p))) e
+
+    none : (n : Option Node) → is_some n ≡ false → is_file n ≡ true → ⊥
+    none None a b = absurd (cc)
+    none (Some n) a b = absurd (cc)
+
+    go : (b : Bool) → same_path p q ≡ b → (is_file (added p node t q) ≡ true) × (bytes_at (added p node t q) ≡ bytes_at (t q))
+    go false s = rw s below
+    go true s = absurd (none (t p) nothing (ap (λ z. is_file (t z)) (path_from_same p q s) ∙ e))
+
+pub mkdir_keeps : (t s : Seen) (bytes : List ℕ) (path : Path) → path ≡ as_path bytes → is_some (tree_seen t path) ≡ false → IsCarried t (ops.Mkdir bytes) s → KeepsFiles t s
+mkdir_keeps t s bytes path is nothing carried q e =
+    subst (λ (z : Tree). SameFile (tree_seen t q) (z q)) (sym (carried.shows (around_of t) []))
+    (added_same (as_path bytes) q (DirectoryNode [] []) (tree_seen t) (ap (λ p. is_some (tree_seen t p)) (sym is) ∙ nothing)) e
+
+pub remove_attr_keeps : (t s : Seen) (bytes : List ℕ) (kind : ℕ) → IsCarried t (ops.RemoveAttr bytes kind) s → KeepsFiles t s
+remove_attr_keeps t s bytes kind carried q e =
+    subst (λ (z : Tree). SameFile (tree_seen t q) (z q)) (sym (carried.shows (around_of t) []))
+    (changed_same (λ n. with_attributes (without_attribute kind (attributes_of (Some n))) n) (as_path bytes) q (tree_seen t) (attributed (λ n. without_attribute kind (attributes_of (Some n))))) e
+
+pub set_attr_keeps : (t s : Seen) (bytes : List ℕ) (kind : ℕ) (value : List ℕ) → IsCarried t (ops.SetAttr bytes kind value) s → KeepsFiles t s
+set_attr_keeps t s bytes kind value carried q e =
+    subst (λ (z : Tree). SameFile (tree_seen t q) (z q)) (sym (carried.shows (around_of t) []))
+    (changed_same (λ n. with_attributes (put_attribute kind value (attributes_of (Some n))) n) (as_path bytes) q (tree_seen t) (attributed (λ n. put_attribute kind value (attributes_of (Some n))))) e

@@ -1,0 +1,194 @@
+-- A truncation of an open writer, and its turn.
+use Rattle.std.proofs.Common.{ℕ, zero, suc, ◌≡◌, ◌<◌, ◌&&◌, ◌||◌, ◌++◌, Bool, true, false, not, cond, List, [], ◌∷◌, length, length-set, set, nat_lt, Option, Some, None, Ok, is_some, refl, sym, ap, ap₂, subst, ◌∙◌, arith}
+use Rattle.std.specs.Prelude.{◌==◌}
+use Rattle.std.specs.List.{AllByRecursion, list_any}
+use Rattle.std.specs.Option.{option_map}
+use Rattle.std.proofs.lemmas.Bool.{eq-eqb, lt-ltb, ltb-false}
+use Rattle.std.proofs.lemmas.List.{map-set}
+use Rattle.lfs_model.specs.Disk.{file_limit}
+use Rattle.lfs_model.specs.Operations as ops
+use Rattle.lfs_model.specs.Operations.{Operation, Reply}
+use Rattle.lfs_model.specs.Run.{IsTurn}
+use Rattle.lfs_model.specs.Session as session
+use Rattle.lfs_model.specs.Session.{Files, Session, Surroundings, Writing, after_truncate, file_of, first_of, held_by, overfills, put_file, refuse_if, writer_of}
+use Rattle.lfs_model.specs.State.{Healthy}
+use Rattle.lfs_model.specs.Steps.{effect_of}
+use Rattle.lfs_model.specs.Tree.{Tree}
+use Rattle.lfs_model.specs.View.{View}
+use Rattle.lfs_model.proofs.Committed.{recovered_from}
+use Rattle.lfs_model.proofs.TurnsMade.{filled_turn}
+use Rattle.lfs_tree.specs.OpenContents.{IsWrittenBeside}
+use Rattle.lfs_tree.specs.Seen.{Seen, around_of, tree_seen}
+use Rattle.lfs_fs.specs.Changing.{CanTruncate, IsWriterAs}
+use Rattle.lfs_fs.specs.FileSeen.{OpenFiles, bytes_of, entry_of, file_seen, files_seen, reader_seen, writer_in, writer_seen, writers_in}
+use Rattle.lfs_fs.specs.Held.{Answers, Held, IsReady, IsWritten, held_of, moment_of, refused_by, session_of}
+use Rattle.lfs_fs.specs.declared.files.OpenFile.{OpenFile}
+use Rattle.lfs_fs.specs.declared.files.OpenFile.TheVariants as file
+use Rattle.lfs_fs.specs.declared.files.Writer.{Writer}
+use Rattle.lfs_fs.proofs.Answered.{is_over, kept_answer, not_failed, not_refused, sound_by}
+use Rattle.lfs_fs.proofs.Checked.{neither, unrefused}
+use Rattle.lfs_fs.proofs.Failing.{healthy_moment}
+use Rattle.lfs_fs.proofs.OpenFiles.{IsOnly, inside_is, only, set_is}
+use Rattle.lfs_fs.proofs.WriterChecks.{the_writer, written_at}
+
+-- ---- what no check refuses
+
+module _ (t : Seen) (fs : OpenFiles) (fd size : ℕ) (w : Writer) (e : entry_of fs fd ≡ Some (file.Writing w)) (accepted : refused_by (held_of t fs) (ops.Truncate fd size) ≡ None) where
+  pub is_writer : Some w ≡ writer_in (entry_of fs fd)
+  is_writer = sym (ap writer_in e)
+
+  pub works_now : t.failed ≡ false
+  works_now = not_failed (held_of t fs) (ops.Truncate fd size) accepted
+
+  seen_there : writer_of (file_of (files_seen t fs) fd) ≡ Some (writer_seen t w)
+  seen_there = the_writer t fs fd (Some w) is_writer
+
+  checks_are : refused_by (held_of t fs) (ops.Truncate fd size)
+      ≡ first_of (refuse_if (nat_lt file_limit size) ops.TooBig ∷ refuse_if (not (size == length (bytes_of t w.path w.unsaved)) && overfills (around_of t) (after_truncate (writer_seen t w) size)) ops.NoSpace ∷ [])
+  checks_are = rw (works_now, seen_there) refl
+
+  small_enough : nat_lt file_limit size ≡ false
+  small_enough = unrefused _ ops.TooBig (neither _ _ (sym checks_are ∙ accepted)).0
+
+  has_room : (not (size == length (bytes_of t w.path w.unsaved)) && overfills (around_of t) (after_truncate (writer_seen t w) size)) ≡ false
+  has_room = unrefused _ ops.NoSpace (neither _ _ (neither _ _ (sym checks_are ∙ accepted)).1).0
+
+  module _ (ready : IsReady t fs) where
+    pub alone : IsOnly fs fd w
+    alone = only fs fd w e ready.one
+
+    written_now : IsWritten t w
+    written_now = written_at t fs fd w ready.written is_writer
+
+    pub can_now : (size == w.size) ≡ false → CanTruncate t w size
+    can_now other = record {
+      can = record {
+        works = works_now;
+        written = written_now;
+        idle = λ saved. ready.idle (ap (list_any (λ v. is_some v.unsaved)) alone.writers ∙ ap (λ b. b || false) saved);
+      };
+      other = λ same. absurd (let k = sym other ∙ eq-eqb size w.size same in cc);
+      small = (let l = ltb-false file_limit size small_enough in omega (arith, l));
+      room = ltb-false _ _ (left (size == length (bytes_of t w.path w.unsaved)) _ (ap (λ n. size == n) written_now.size ∙ other) has_room);
+    }
+      where
+        left : (a b : Bool) → a ≡ false → (not a && b) ≡ false → b ≡ false
+        left true b k h = absurd (cc)
+        left false b k h = h
+
+-- ---- the same size
+
+pub set_same : (fs : OpenFiles) (fd : ℕ) (x : OpenFile) → entry_of fs fd ≡ Some x → set fs fd (Some x) ≡ fs
+set_same [] fd x e = absurd (cc)
+set_same (f ∷ fs) zero x e = ap (λ z. z ∷ fs) (sym e)
+set_same (f ∷ fs) (suc fd) x e = ap (λ z. f ∷ z) (set_same fs fd x e)
+
+unchanged : (v : session.Writer) (size : ℕ) → (size == length v.contents) ≡ true → after_truncate v size ≡ v
+unchanged v size e = rw e refl
+
+pub same_size : (t : Seen) (fs : OpenFiles) (fd size : ℕ) (now : Held) (w : Writer) → held_of t fs ≡ now → (t.failed ≡ false → IsReady t fs) → refused_by (held_of t fs) (ops.Truncate fd size) ≡ None → entry_of fs fd ≡ Some (file.Writing w) →
+    (size == w.size) ≡ true → Answers now (ops.Truncate fd size) (Ok ops.Done) now
+same_size t fs fd size now w same ready accepted e is =
+    subst (λ z. Answers now (ops.Truncate fd size) (Ok ops.Done) z) same
+    (kept_answer (held_of t fs) now (ops.Truncate fd size) (files_seen t fs) ops.Done same (sound_by t fs ready) accepted refl refl refl
+    (ap (λ f. (ops.Done, record { tree = tree_seen t; files = f })) stays))
+  where
+    long : (size == length (bytes_of t w.path w.unsaved)) ≡ true
+    long = ap (λ n. size == n) (written_at t fs fd w (ready (not_failed (held_of t fs) (ops.Truncate fd size) accepted)).written (sym (ap writer_in e))).size ∙ is
+
+    stays : put_file (files_seen t fs) fd (option_map (λ v. Writing (after_truncate v size)) (writer_of (file_of (files_seen t fs) fd))) ≡ files_seen t fs
+    stays =
+        ap (λ o. put_file (files_seen t fs) fd (option_map (λ v. Writing (after_truncate v size)) o)) (the_writer t fs fd (Some w) (sym (ap writer_in e)))
+        ∙ ap (λ v. put_file (files_seen t fs) fd (Some (Writing v))) (unchanged (writer_seen t w) size long)
+        ∙ sym (set_is t fs fd (Some (file.Writing w)) (ap is_some e)) ∙ ap (files_seen t) (set_same fs fd (file.Writing w) e)
+
+-- ---- another size
+
+-- the other files are readers
+no_writers : (t s : Seen) (fs : OpenFiles) → writers_in fs ≡ [] → files_seen t fs ≡ files_seen s fs
+no_writers t s [] e = refl
+no_writers t s (None ∷ fs) e = ap (λ z. None ∷ z) (no_writers t s fs e)
+no_writers t s (Some (file.Reading r) ∷ fs) e = ap (λ z. Some (session.Reading (reader_seen r)) ∷ z) (no_writers t s fs e)
+no_writers t s (Some (file.Writing w) ∷ fs) e = absurd (cc)
+
+set_twice : {A : Type 0} (xs : List A) (n : ℕ) (x y : A) → set (set xs n x) n y ≡ set xs n y
+set_twice [] n x y = refl
+set_twice (z ∷ xs) zero x y = refl
+set_twice (z ∷ xs) (suc n) x y = ap (λ zs. z ∷ zs) (set_twice xs n x y)
+
+set_in_files : (t : Seen) (fs : OpenFiles) (fd : ℕ) (entry : Option OpenFile) → files_seen t (set fs fd entry) ≡ set (files_seen t fs) fd (option_map (file_seen t) entry)
+set_in_files t fs fd entry = map-set (option_map (file_seen t)) fs fd entry
+
+-- a writer in place of the only one
+pub other_tree : (t s : Seen) (fs : OpenFiles) (fd : ℕ) (w v : Writer) → IsOnly fs fd w → files_seen s (set fs fd (Some (file.Writing v))) ≡ set (files_seen t fs) fd (Some (Writing (writer_seen s v)))
+other_tree t s fs fd w v alone =
+    set_in_files s fs fd (Some (file.Writing v)) ∙ sym (set_twice (files_seen s fs) fd None (Some (Writing (writer_seen s v))))
+    ∙ ap (λ z. set z fd (Some (Writing (writer_seen s v)))) (sym (set_in_files s fs fd None) ∙ no_writers s t (set fs fd None) alone.without ∙ set_in_files t fs fd None)
+    ∙ set_twice (files_seen t fs) fd None (Some (Writing (writer_seen s v)))
+
+pub inside_put : (t : Seen) (fs : OpenFiles) (fd : ℕ) (x : session.OpenFile) → is_some (entry_of fs fd) ≡ true → put_file (files_seen t fs) fd (Some x) ≡ set (files_seen t fs) fd (Some x)
+inside_put t fs fd x e = ap (λ b. cond b (set (files_seen t fs) fd (Some x)) (files_seen t fs ++ Some x ∷ [])) (seen_inside fs fd e)
+  where
+    seen_inside : (fs : OpenFiles) (fd : ℕ) → is_some (entry_of fs fd) ≡ true → nat_lt fd (length (files_seen t fs)) ≡ true
+    seen_inside fs fd e = lt-ltb fd (length (files_seen t fs)) (subst (λ n. fd < n) (sym (mapped fs)) (inside_is fs fd e))
+      where
+        mapped : (fs : OpenFiles) → length (files_seen t fs) ≡ length fs
+        mapped [] = refl
+        mapped (f ∷ fs) = ap suc (mapped fs)
+
+pub other_size : (t new : Seen) (fs : OpenFiles) (fd size : ℕ) (now : Held) (w v : Writer) → held_of t fs ≡ now → (t.failed ≡ false → IsReady t fs) → refused_by (held_of t fs) (ops.Truncate fd size) ≡ None → entry_of fs fd ≡ Some (file.Writing w) →
+    IsWriterAs new (after_truncate (writer_seen t w) size) v → IsWrittenBeside t new → IsTurn (moment_of now) (ops.Truncate fd size) ops.Done (moment_of (held_of new (set fs fd (Some (file.Writing v)))))
+other_size t new fs fd size now w v same ready accepted e made b =
+    subst (λ z. IsTurn (moment_of z) op ops.Done (moment_of (held_of new later))) same
+    (subst (λ m. IsTurn m op ops.Done (moment_of (held_of new later))) (sym (healthy_moment (held_of t fs) works))
+    (subst (λ m. IsTurn (record { disk = t.disk; calls = t.history; state = Healthy (session_of (held_of t fs)) }) op ops.Done m) (sym to)
+    (filled_turn t.disk t.pairs (session_of (held_of t fs)) (around_of t) op new.disk new.pairs b.calls t.history (is_over t (files_seen t fs) (ready works).sound) (not_refused (held_of t fs) op accepted) refl b.geometry
+    b.sound.accepted b.pairs (ap₂ (λ (z : Tree) (a : Surroundings). let k : View = record { tree = z; gstate = a.gstate; used = a.used } in k) b.shows b.around) (recovered_from new.disk new.pairs b.sound.accepted made.written.settled)
+    (λ h. b.sound.fits made.written.writable))))
+  where
+    op : Operation
+    op = ops.Truncate fd size
+
+    later : OpenFiles
+    later = set fs fd (Some (file.Writing v))
+
+    works : t.failed ≡ false
+    works = not_failed (held_of t fs) op accepted
+
+    files : files_seen new later ≡ put_file (files_seen t fs) fd (option_map (λ u. Writing (after_truncate u size)) (writer_of (file_of (files_seen t fs) fd)))
+    files =
+        other_tree t new fs fd w v (only fs fd w e (ready works).one) ∙ ap (λ x. set (files_seen t fs) fd (Some (Writing x))) made.seen
+        ∙ sym (inside_put t fs fd (Writing (after_truncate (writer_seen t w) size)) (ap is_some e))
+        ∙ sym (ap (λ o. put_file (files_seen t fs) fd (option_map (λ u. Writing (after_truncate u size)) o)) (the_writer t fs fd (Some w) (sym (ap writer_in e))))
+
+    to : moment_of (held_of new later) ≡ record { disk = new.disk; calls = b.calls ++ t.history; state = Healthy (effect_of (around_of t) (session_of (held_of t fs)) op).1 }
+    to = healthy_moment (held_of new later) b.works ∙ ap₂ (λ calls (s : Session). record { disk = new.disk; calls = calls; state = Healthy s }) b.called (ap₂ (λ z f. record { tree = z; files = f }) b.shows files)
+
+-- what the session keeps
+pub ready_with : (t new : Seen) (fs : OpenFiles) (fd : ℕ) (w v : Writer) (is : session.Writer) → IsOnly fs fd w → IsWriterAs new is v → IsWrittenBeside t new → IsReady new (set fs fd (Some (file.Writing v)))
+ready_with t new fs fd w v is alone made b = record {
+  sound = b.sound;
+  one = (let k = ap (λ ws. length ws) (alone.with_other v) in omega (arith, k));
+  idle = λ saved. absurd (let k = sym saved ∙ ap (list_any (λ u. is_some u.unsaved)) (alone.with_other v) ∙ ap (λ c. c || false) made.changed in cc);
+  written = subst (AllByRecursion (IsWritten new)) (sym (alone.with_other v)) (made.written, tt);
+}
+
+-- nothing is open under a number that was let go
+pub let_go : (fs : OpenFiles) (fd : ℕ) → entry_of (set fs fd None) fd ≡ None
+let_go [] fd = refl
+let_go (f ∷ fs) zero = refl
+let_go (f ∷ fs) (suc fd) = let_go fs fd
+
+pub length_left : (fs : OpenFiles) (fd : ℕ) → is_some (entry_of fs fd) ≡ true → fd < length (set fs fd None)
+length_left fs fd e = let k = inside_is fs fd e in let l = length-set fs fd None in omega (arith, k, l)
+
+pub put_again : (fs gs hs : OpenFiles) (fd : ℕ) (v : Writer) → gs ≡ set fs fd None → hs ≡ set gs fd (Some (file.Writing v)) → hs ≡ set fs fd (Some (file.Writing v))
+put_again fs gs hs fd v e f = f ∙ ap (λ xs. set xs fd (Some (file.Writing v))) e ∙ set_twice fs fd None (Some (file.Writing v))
+
+pub some_writer : (fs : OpenFiles) (fd : ℕ) → is_some (writer_in (entry_of fs fd)) ≡ true → (w : Writer) × (entry_of fs fd ≡ Some (file.Writing w))
+some_writer fs fd h = go (entry_of fs fd) h
+  where
+    go : (o : Option OpenFile) → is_some (writer_in o) ≡ true → (w : Writer) × (o ≡ Some (file.Writing w))
+    go None k = absurd (cc)
+    go (Some (file.Reading r)) k = absurd (cc)
+    go (Some (file.Writing w)) k = (w, refl)

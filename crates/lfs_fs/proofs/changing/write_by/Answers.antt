@@ -1,0 +1,24 @@
+use Rattle.std.proofs.Common.{◌∙◌, ap, sym}
+use Rattle.std.specs.Prelude.{OnErr}
+use Rattle.lfs_tree.specs.Seen.{IsBroken}
+use Rattle.lfs_fs.proofs.Writing.{beside_later, broken_after, can_write, has_written}
+use Rattle.lfs_fs.proofs.changing.write_by.Goals as goal
+
+pub write-requires : goal.write-requires
+write-requires g c =
+    let k = c.in_ok-contents.ensures in
+    can_write c.args.tree.now c.contents_of.new.tree c.args.writer c.args.bytes.now c.place-place.result c.in_ok-contents.contents _ c.requires k.asked c.place-place.ensures k.over c.lend.ensures k.form
+    c.held_blocks_are_room.ensures.large c.held_blocks_are_room.ensures.write
+
+pub returns-in_err-contents-2-clause-broken : goal.returns-in_err-contents-2-clause-broken
+returns-in_err-contents-2-clause-broken g c = broken_after c.args.tree.now c.contents_of.new.tree c.write.new.self c.from_residual-in_err-contents-2.result c.in_ok-contents.ensures.asked c.in_err-contents-2.ensures.broken
+
+pub returns-clause-written : goal.returns-clause-written
+returns-clause-written g c =
+    let k = c.in_ok-contents.ensures in
+    let l = c.in_ok-contents-2.ensures in
+    has_written c.args.tree.now c.contents_of.new.tree c.write.new.self c.args.writer c.args.bytes.now c.place-place.result c.min.result _ c.has_turned_at-has_turned.result c.in_ok-contents.contents c.in_ok-contents-2.contents _
+    c.requires k.asked c.place-place.ensures k.over c.lend.ensures k.form k.bytes c.forms_keep_step.ensures.written l.beside l.over l.bytes l.form c.min.ensures c.has_turned_at-has_turned.ensures c.max.ensures
+
+pub returns-clause-beside : goal.returns-clause-beside
+returns-clause-beside g c = beside_later c.args.tree.now c.contents_of.new.tree c.write.new.self c.in_ok-contents.ensures.asked c.in_ok-contents-2.ensures.beside

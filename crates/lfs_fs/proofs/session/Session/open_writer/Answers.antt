@@ -1,0 +1,101 @@
+use Rattle.std.proofs.Common.{◌≡◌, ◌<◌, ◌∙◌, [], sym, refl, ap, subst, set, length, Some, None}
+use Rattle.lfs_model.specs.Operations as ops
+use Rattle.lfs_model.specs.Steps.{size_of}
+use Rattle.lfs_tree.specs.Seen.{tree_seen}
+use Rattle.lfs_fs.specs.FlagsSeen.{flags_seen}
+use Rattle.lfs_fs.specs.FileSeen.{entry_of, writers_in}
+use Rattle.lfs_fs.specs.declared.files.OpenFile.TheVariants as file
+use Rattle.lfs_fs.specs.Replies.{reply_in}
+use Rattle.lfs_fs.specs.Held.{held_of}
+use Rattle.lfs_fs.proofs.Answered.{asked_by_checks, checked_ready, ended_call, files_asked, sound_by}
+use Rattle.lfs_fs.proofs.Errors.{given_on}
+use Rattle.lfs_fs.proofs.OpenedWriters.{IsOpenedBy, broken_by_reads, can_begin, can_create, no_writer, opened_new, opened_there, room_made, writer_breaks, writer_opened, writer_ready}
+use Rattle.lfs_fs.proofs.Unsettled.{held_up_answers}
+use Rattle.lfs_fs.proofs.session.Session.open_writer.Goals as goal
+use Rattle.lfs_fs.proofs.session.Session.open_writer.Goals.{in-Some+in_ok-writer-in-Some, in-None+in_ok-writer-in-None}
+
+pub invariant_of-self : goal.invariant_of-self
+invariant_of-self g c = checked_ready c.self.inside.tree c.self.inside.files (ops.Open c.args.path.now (flags_seen c.args.flags)) _ c.check_open_writer.result c.check_open_writer.new.tree c.self.invariant c.check_open_writer.ensures
+
+pub returns-in_err-found : goal.returns-in_err-found
+returns-in_err-found g c =
+    files_asked c.args.self.now (ops.Open c.args.path.now (flags_seen c.args.flags)) (reply_in ops.Opened c.from_residual.result) c.self.inside.tree c.check_open_writer.new.tree c.self.inside.files (asked_by_checks c.self.inside.tree c.self.inside.files (ops.Open c.args.path.now (flags_seen c.args.flags)) _ c.check_open_writer.result c.check_open_writer.new.tree c.check_open_writer.ensures)
+    (ended_call (held_of c.self.inside.tree c.self.inside.files) _ (ops.Open c.args.path.now (flags_seen c.args.flags)) ops.Opened _ c.check_open_writer.new.tree c.from_residual.result c.self.view_is (sound_by c.self.inside.tree c.self.inside.files c.self.invariant) refl c.in_err-found.ensures
+    (given_on _ c.from_residual.result c.from_residual.ensures.1))
+
+pub returns-then-is_held_up : goal.returns-then-is_held_up
+returns-then-is_held_up g c =
+    let h = c.in_ok-found.ensures in
+    held_up_answers c.self.inside.tree c.check_open_writer.new.tree c.fail.new.self c.self.inside.files _ (ops.Open c.args.path.now (flags_seen c.args.flags)) c.self.view_is c.self.invariant h.0 h.1 (c.is_held_up.ensures.unsupported (ops.Open c.args.path.now (flags_seen c.args.flags)) c.requires c.if-is_held_up.true) c.fail.ensures
+
+pub make_room-requires : goal.make_room-requires
+make_room-requires g c = no_writer c.self.inside.tree c.self.inside.files c.args.path.now (flags_seen c.args.flags) c.requires c.in_ok-found.ensures.1
+
+pub begin_there-requires : goal.begin_there-requires
+begin_there-requires g c =
+    let h = c.in_ok-found.ensures in
+    can_begin c.self.inside.tree c.check_open_writer.new.tree c.self.inside.files c.args.path.now (flags_seen c.args.flags) c.in-Ok.owned c.in-Some.size c.self.invariant h.0 h.1 c.requires (c.is_held_up.ensures.settled c.if-is_held_up.false) (c.is_held_up.ensures.saved c.if-is_held_up.false) c.in-Ok.ensures.path (ap (λ p. size_of (tree_seen c.self.inside.tree p)) (c.in-Ok.ensures.path ∙ sym h.2.path) ∙ h.2.size ∙ c.in-Some.is)
+
+pub returns-in_err-writer-in-Some : goal.returns-in_err-writer-in-Some
+returns-in_err-writer-in-Some g c =
+    let h = c.in_ok-found.ensures in
+    writer_breaks c.self.inside.tree c.check_open_writer.new.tree c.begin_there.new.tree c.self.inside.files _ _ c.args.path.now (flags_seen c.args.flags) _ c.from_residual-in_err-writer-in-Some.result c.self.view_is h.0 h.1 c.requires (broken_by_reads _ _ c.in_err-writer-in-Some.ensures.broken) c.in_err-writer-in-Some.ensures.errors
+    (given_on _ c.from_residual-in_err-writer-in-Some.result c.from_residual-in_err-writer-in-Some.ensures.1)
+
+pub begin_new-requires : goal.begin_new-requires
+begin_new-requires g c =
+    let h = c.in_ok-found.ensures in
+    can_create c.self.inside.tree c.check_open_writer.new.tree c.self.inside.files c.args.path.now (flags_seen c.args.flags) c.in-Ok.owned c.self.invariant h.0 h.1 c.requires (c.is_held_up.ensures.settled c.if-is_held_up.false) (c.is_held_up.ensures.saved c.if-is_held_up.false) c.in-Ok.ensures.path (ap (λ p. size_of (tree_seen c.self.inside.tree p)) (c.in-Ok.ensures.path ∙ sym h.2.path) ∙ h.2.size ∙ c.in-None.is)
+
+pub returns-in_err-writer-in-None : goal.returns-in_err-writer-in-None
+returns-in_err-writer-in-None g c =
+    let h = c.in_ok-found.ensures in
+    writer_breaks c.self.inside.tree c.check_open_writer.new.tree c.begin_new.new.tree c.self.inside.files _ _ c.args.path.now (flags_seen c.args.flags) _ c.from_residual-in_err-writer-in-None.result c.self.view_is h.0 h.1 c.requires c.in_err-writer-in-None.ensures.broken c.in_err-writer-in-None.ensures.errors
+    (given_on _ c.from_residual-in_err-writer-in-None.result c.from_residual-in_err-writer-in-None.ensures.1)
+
+pub put_back-requires-clause-inside : goal.put_back-requires-clause-inside
+put_back-requires-clause-inside g c =
+    let stay : c.match-found.self-inside.files ≡ c.make_room.new.self = elim c.match-found.branch [ in-Some+in_ok-writer-in-Some w ↦ ap (λ i. i.files) w.self-inside-is | in-None+in_ok-writer-in-None w ↦ ap (λ i. i.files) w.self-inside-is ] in
+    subst (λ xs. c.in-Ok-make_room.number < length xs) (sym stay) (room_made c.self.inside.files c.make_room.new.self c.in-Ok-make_room.number (no_writer c.self.inside.tree c.self.inside.files c.args.path.now (flags_seen c.args.flags) c.requires c.in_ok-found.ensures.1) c.in-Ok-make_room.ensures.number c.in-Ok-make_room.ensures.room).inside
+
+pub put_back-requires-clause-free : goal.put_back-requires-clause-free
+put_back-requires-clause-free g c =
+    let stay : c.match-found.self-inside.files ≡ c.make_room.new.self = elim c.match-found.branch [ in-Some+in_ok-writer-in-Some w ↦ ap (λ i. i.files) w.self-inside-is | in-None+in_ok-writer-in-None w ↦ ap (λ i. i.files) w.self-inside-is ] in
+    subst (λ xs. entry_of xs c.in-Ok-make_room.number ≡ None) (sym stay) (room_made c.self.inside.files c.make_room.new.self c.in-Ok-make_room.number (no_writer c.self.inside.tree c.self.inside.files c.args.path.now (flags_seen c.args.flags) c.requires c.in_ok-found.ensures.1) c.in-Ok-make_room.ensures.number c.in-Ok-make_room.ensures.room).free
+
+pub put_back-requires-clause-none : goal.put_back-requires-clause-none
+put_back-requires-clause-none g c =
+    let stay : c.match-found.self-inside.files ≡ c.make_room.new.self = elim c.match-found.branch [ in-Some+in_ok-writer-in-Some w ↦ ap (λ i. i.files) w.self-inside-is | in-None+in_ok-writer-in-None w ↦ ap (λ i. i.files) w.self-inside-is ] in
+    subst (λ xs. writers_in xs ≡ []) (sym stay) (room_made c.self.inside.files c.make_room.new.self c.in-Ok-make_room.number (no_writer c.self.inside.tree c.self.inside.files c.args.path.now (flags_seen c.args.flags) c.requires c.in_ok-found.ensures.1) c.in-Ok-make_room.ensures.number c.in-Ok-make_room.ensures.room).none
+
+pub invariant_of-self-2 : goal.invariant_of-self-2
+invariant_of-self-2 g c = λ works.
+    let stay : c.match-found.self-inside.files ≡ c.make_room.new.self = elim c.match-found.branch [ in-Some+in_ok-writer-in-Some w ↦ ap (λ i. i.files) w.self-inside-is | in-None+in_ok-writer-in-None w ↦ ap (λ i. i.files) w.self-inside-is ] in
+    let h = c.in_ok-found.ensures in
+    let opened : IsOpenedBy c.self.inside.tree c.self.inside.files c.args.path.now (flags_seen c.args.flags) c.match-found.self-inside.tree c.match-found.writer = elim c.match-found.branch [
+      | in-Some+in_ok-writer-in-Some w ↦ subst (λ i. IsOpenedBy c.self.inside.tree c.self.inside.files c.args.path.now (flags_seen c.args.flags) i.tree c.match-found.writer) (sym w.self-inside-is) (subst (λ x. IsOpenedBy c.self.inside.tree c.self.inside.files c.args.path.now (flags_seen c.args.flags) w.begin_there.new.tree x) (sym w.writer-is)
+          (opened_there c.self.inside.tree c.check_open_writer.new.tree w.begin_there.new.tree c.self.inside.files c.args.path.now (flags_seen c.args.flags) _ c.in-Ok.owned w.in-Some.size c.self.invariant h.0 h.1 c.requires (c.is_held_up.ensures.settled c.if-is_held_up.false) c.in-Ok.ensures.path (ap (λ p. size_of (tree_seen c.self.inside.tree p)) (c.in-Ok.ensures.path ∙ sym h.2.path) ∙ h.2.size ∙ w.in-Some.is)
+          w.in_ok-writer-in-Some.ensures.same w.in_ok-writer-in-Some.ensures.begun))
+      | in-None+in_ok-writer-in-None w ↦ subst (λ i. IsOpenedBy c.self.inside.tree c.self.inside.files c.args.path.now (flags_seen c.args.flags) i.tree c.match-found.writer) (sym w.self-inside-is) (subst (λ x. IsOpenedBy c.self.inside.tree c.self.inside.files c.args.path.now (flags_seen c.args.flags) w.begin_new.new.tree x) (sym w.writer-is)
+          (opened_new c.self.inside.tree c.check_open_writer.new.tree w.begin_new.new.tree c.self.inside.files c.args.path.now (flags_seen c.args.flags) _ c.in-Ok.owned c.self.invariant h.0 h.1 c.requires c.in-Ok.ensures.path (ap (λ p. size_of (tree_seen c.self.inside.tree p)) (c.in-Ok.ensures.path ∙ sym h.2.path) ∙ h.2.size ∙ w.in-None.is)
+          (w.in_ok-writer-in-None.ensures.made c.args.path.now (flags_seen c.args.flags) (sym c.in-Ok.ensures.path) c.requires) w.in_ok-writer-in-None.ensures.begun))
+    ] in
+    let room = (room_made c.self.inside.files c.make_room.new.self c.in-Ok-make_room.number (no_writer c.self.inside.tree c.self.inside.files c.args.path.now (flags_seen c.args.flags) c.requires c.in_ok-found.ensures.1) c.in-Ok-make_room.ensures.number c.in-Ok-make_room.ensures.room) in
+    writer_ready c.self.inside.tree c.match-found.self-inside.tree c.self.inside.files c.put_back.new.self c.args.path.now (flags_seen c.args.flags) c.match-found.writer opened (no_writer c.self.inside.tree c.self.inside.files c.args.path.now (flags_seen c.args.flags) c.requires c.in_ok-found.ensures.1) (room.alone c.match-found.writer)
+    (c.put_back.ensures ∙ ap (λ xs. set xs c.in-Ok-make_room.number (Some (file.Writing c.match-found.writer))) stay ∙ room.filled c.match-found.writer)
+
+pub returns : goal.returns
+returns g c =
+    let stay : c.match-found.self-inside.files ≡ c.make_room.new.self = elim c.match-found.branch [ in-Some+in_ok-writer-in-Some w ↦ ap (λ i. i.files) w.self-inside-is | in-None+in_ok-writer-in-None w ↦ ap (λ i. i.files) w.self-inside-is ] in
+    let h = c.in_ok-found.ensures in
+    let opened : IsOpenedBy c.self.inside.tree c.self.inside.files c.args.path.now (flags_seen c.args.flags) c.match-found.self-inside.tree c.match-found.writer = elim c.match-found.branch [
+      | in-Some+in_ok-writer-in-Some w ↦ subst (λ i. IsOpenedBy c.self.inside.tree c.self.inside.files c.args.path.now (flags_seen c.args.flags) i.tree c.match-found.writer) (sym w.self-inside-is) (subst (λ x. IsOpenedBy c.self.inside.tree c.self.inside.files c.args.path.now (flags_seen c.args.flags) w.begin_there.new.tree x) (sym w.writer-is)
+          (opened_there c.self.inside.tree c.check_open_writer.new.tree w.begin_there.new.tree c.self.inside.files c.args.path.now (flags_seen c.args.flags) _ c.in-Ok.owned w.in-Some.size c.self.invariant h.0 h.1 c.requires (c.is_held_up.ensures.settled c.if-is_held_up.false) c.in-Ok.ensures.path (ap (λ p. size_of (tree_seen c.self.inside.tree p)) (c.in-Ok.ensures.path ∙ sym h.2.path) ∙ h.2.size ∙ w.in-Some.is)
+          w.in_ok-writer-in-Some.ensures.same w.in_ok-writer-in-Some.ensures.begun))
+      | in-None+in_ok-writer-in-None w ↦ subst (λ i. IsOpenedBy c.self.inside.tree c.self.inside.files c.args.path.now (flags_seen c.args.flags) i.tree c.match-found.writer) (sym w.self-inside-is) (subst (λ x. IsOpenedBy c.self.inside.tree c.self.inside.files c.args.path.now (flags_seen c.args.flags) w.begin_new.new.tree x) (sym w.writer-is)
+          (opened_new c.self.inside.tree c.check_open_writer.new.tree w.begin_new.new.tree c.self.inside.files c.args.path.now (flags_seen c.args.flags) _ c.in-Ok.owned c.self.invariant h.0 h.1 c.requires c.in-Ok.ensures.path (ap (λ p. size_of (tree_seen c.self.inside.tree p)) (c.in-Ok.ensures.path ∙ sym h.2.path) ∙ h.2.size ∙ w.in-None.is)
+          (w.in_ok-writer-in-None.ensures.made c.args.path.now (flags_seen c.args.flags) (sym c.in-Ok.ensures.path) c.requires) w.in_ok-writer-in-None.ensures.begun))
+    ] in
+    let room = (room_made c.self.inside.files c.make_room.new.self c.in-Ok-make_room.number (no_writer c.self.inside.tree c.self.inside.files c.args.path.now (flags_seen c.args.flags) c.requires c.in_ok-found.ensures.1) c.in-Ok-make_room.ensures.number c.in-Ok-make_room.ensures.room) in
+    writer_opened c.self.inside.tree c.match-found.self-inside.tree c.self.inside.files c.put_back.new.self _ c.args.path.now (flags_seen c.args.flags) c.match-found.writer c.in-Ok-make_room.number c.self.view_is opened c.requires (no_writer c.self.inside.tree c.self.inside.files c.args.path.now (flags_seen c.args.flags) c.requires c.in_ok-found.ensures.1) c.in-Ok-make_room.ensures.number
+    (c.put_back.ensures ∙ ap (λ xs. set xs c.in-Ok-make_room.number (Some (file.Writing c.match-found.writer))) stay ∙ room.filled c.match-found.writer)

@@ -1,4 +1,2 @@
-pub mod Files
-pub mod Root
-pub mod Refusals
+pub mod Carried
 pub mod Made

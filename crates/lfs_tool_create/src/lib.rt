@@ -1,10 +1,8 @@
 //! The half of mklittlefs that makes images: a tree of files in, an image out.
 #![tactic(auto)]
 
-mod checks;
-mod image;
+mod carrying;
 mod making;
-mod root;
 mod sizes;
 
 pub use making::create;

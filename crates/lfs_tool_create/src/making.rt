@@ -1,12 +1,11 @@
-ghost use Rattle.std.specs.Prelude.{◌≡◌, ◌≢◌, ◌*◌, IfErr, IfOk, IsErrOf, OnOk, map, true};
-ghost use Rattle.lfs_tool_create.specs.Files.{file_of};
-ghost use Rattle.lfs_tool_create.specs.Root.{ArePages, image_of};
-ghost use Rattle.lfs_tool_create.specs.Made.{AreRefused, AreTaken, HasFault, HasRefusal, IsBegun, IsCreated};
+ghost use Rattle.std.specs.Prelude.{◌≡◌, ◌≢◌, IfErr, IfOk, IsErrOf, OnOk, true};
+ghost use Rattle.lfs_fs.specs.Held.{moment_of};
+ghost use Rattle.lfs_tool_create.specs.Made.{AreLeft, Begins, HasFault, HasRefusal, IsBegun, IsCreated, IsRefused};
 ghost use Rattle.lfs_tool_source.specs.Entries.{AreAll};
 
-use crate::checks::check;
-use crate::image::image_of;
-use lfs_device::{Error, Geometry};
+use crate::carrying::carry_over;
+use lfs_device::{Error, Geometry, RamDevice};
+use lfs_fs::{Session, format};
 use lfs_tool::{ToolError, Watched, write_bytes};
 use lfs_tool_source::{Entry, Source, SourceError, read_tree};
 use std::alloc::Global;
@@ -27,30 +26,40 @@ fn read_source<S: Source>(alloc: Global, source: &mut S) -> Result<Vec<Entry>, T
     }
 }
 
-// The image of these entries.
-fn make(alloc: Global, geometry: &Geometry, entries: &[Entry]) -> Result<Vec<u8>, Error>
-    ensures ok { IfOk result (λ v. AreTaken geometry.now entries.now
-        × ((pages : _) × (ArePages geometry.now.block_size geometry.now.page geometry.now.block_count (map file_of entries.now) pages
-        × (v.items ≡ image_of geometry.now.block_size geometry.now.block_count pages)))) }
-    ensures err { IfErr result (AreRefused geometry.now entries.now) }
+// A session over an empty image in memory.
+fn begin(alloc: Global, geometry: Geometry) -> Result<Session<RamDevice>, Error>
+    ensures begins { IfOk result (λ s. Begins geometry (moment_of s)) }
+    ensures err { IfErr result (λ e. e ≡ Error.NoMemory) }
 {
-    check(geometry, entries)?;
-    image_of(alloc, geometry, entries)
+    let device = RamDevice::blank(alloc, geometry)?;
+    match format(alloc, device) {
+        Ok(session) => Ok(session),
+        // The device has met no fault, so memory ran out.
+        Err((_device, error)) => Err(error),
+    }
 }
 
-/// Writes an image of a geometry that holds the files of a source; what they don't fill is 0xff. All of
-/// the source is read first, and nothing is written where anything is refused.
-///
-/// So far a source of files alone is taken, which stand in the image's first pair with their bytes: at
-/// most 999, none longer than an eighth of a block or 1022 bytes.
+// The image that holds these entries.
+fn make(alloc: Global, geometry: Geometry, entries: &[Entry]) -> Result<Vec<u8>, Error>
+    ensures ok { IfOk result (λ v. AreLeft geometry entries.now v.items) }
+    ensures err { IfErr result (λ e. e ≢ Error.NoMemory → IsRefused geometry entries.now e) }
+{
+    let mut session = begin(alloc, geometry)?;
+    carry_over(alloc, &mut session, entries)?;
+    Ok(session.unmount().to_bytes())
+}
+
+/// Writes an image of a geometry that holds what a source has. All of the source is read first. It is
+/// carried over into an empty file system, depth first and in name order: a folder is made, a file is
+/// opened to create it, its bytes are written at once, and it is closed. Nothing is written where one
+/// of these operations is refused.
 ///
 /// # Errors
 /// - `Input` where the source couldn't be read, or a name in a folder of it is given twice or can't stand
 ///   in a path.
-/// - `Fs(Unsupported)` where the source has a folder, a longer file or more files, or where the first
-///   pair doesn't hold them.
-/// - `Fs(NameTooLong)` where a name has more than 255 bytes, `Fs(NoSpace)` where there is a file and
-///   fewer than four blocks: whichever the first file in name order meets.
+/// - `Fs(error)` where an operation is refused, with its refusal: so `Fs(NoSpace)` where too few blocks
+///   are free, `Fs(NameTooLong)` where a name has more than 255 bytes, and `Fs(TooBig)` where a file has
+///   more than 2147483647.
 /// - `Fs(NoMemory)` where a growth was refused.
 /// - `Output` where the writer failed. What was written is then a beginning of the image.
 pub fn create<S: Source, W: Write>(
@@ -73,7 +82,7 @@ pub fn create<S: Source, W: Write>(
     ensures kept_at_errors { IfErr result (λ e. e ≢ ToolError.Input → S.has_failed source.new ≡ S.has_failed source.old) }
 {
     let entries = read_source(alloc, source)?;
-    match make(alloc, &geometry, entries.as_slice()) {
+    match make(alloc, geometry, entries.as_slice()) {
         Ok(image) => write_bytes(out, image.as_slice()),
         Err(error) => Err(ToolError::Fs(error)),
     }

@@ -2,6 +2,7 @@
 
 use crate::shown::{error_shown, shown};
 use crate::sources::{Items, source_of};
+use crate::unpacking::unpacked;
 use lfs_device::{Error, Geometry};
 use lfs_tool::{ToolError, Watched};
 use lfs_tool_create::{create, geometry_for};
@@ -11,8 +12,6 @@ use std::test::Fail;
 const NAME_TOO_LONG: &str = "error: NameTooLong (36)\n";
 
 const NO_SPACE: &str = "error: NoSpace (28)\n";
-
-const UNSUPPORTED: &str = "error: Unsupported (202)\n";
 
 // What is written of a source, and how it ended.
 fn written(
@@ -36,23 +35,32 @@ fn made(alloc: Global, items: Items<'_>, geometry: Geometry) -> Result<Vec<u8>, 
     }
 }
 
+// A file, and a folder with an empty one.
+const FOLDER: Items<'static> = &[(b"/d/x", Some(b"")), (b"/d", None), (b"/a", Some(b"hello"))];
+
 // Sources, how many blocks of 4,096 bytes with pages of 256 there are, and what comes of it.
-const SOURCES: [(Items<'static>, u32, &str); 8] = [
+const SOURCES: [(Items<'static>, u32, &str); 13] = [
     (&[], 2, ""),
     (&[(b"/a", Some(b"hello"))], 16, "f 5 /a\n"),
     (&[(b"/a", Some(&[7; 512]))], 16, "f 512 /a\n"),
-    (&[(b"/a", Some(&[7; 513]))], 16, UNSUPPORTED),
-    (&[(b"/d", None)], 16, UNSUPPORTED),
+    (&[(b"/a", Some(&[7; 513]))], 16, "f 513 /a\n"),
+    (FOLDER, 16, "f 5 /a\nd 0 /d\nf 0 /d/x\n"),
+    (
+        &[(b"/d", None), (b"/d/b", Some(&[7; 10000]))],
+        16,
+        "d 0 /d\nf 10000 /d/b\n",
+    ),
     (&[(b"/a", Some(b""))], 2, NO_SPACE),
     (&[(b"/a", Some(b""))], 3, NO_SPACE),
+    (&[(b"/d", None)], 5, NO_SPACE),
+    (&[(b"/d", None)], 6, "d 0 /d\n"),
+    // a list of 14 blocks beside the first two, and two more until it is closed
+    (&[(b"/a", Some(&[7; 57000]))], 18, "f 57000 /a\n"),
+    (&[(b"/a", Some(&[7; 57000]))], 17, NO_SPACE),
     // all of the source is read before anything is refused
     (
-        &[
-            (b"/d", None),
-            (b"/a", Some(&[7; 513])),
-            (b"/d/..", Some(b"")),
-        ],
-        16,
+        &[(b"/d", None), (b"/a", Some(b"")), (b"/d/..", Some(b""))],
+        2,
         "error: input\n",
     ),
 ];
@@ -105,7 +113,7 @@ fn a_name_has_256_bytes(rt: HostRuntime) -> Result<(), Fail> {
 
 // Beside 40 bytes of the superblock, six files of 8 and a name of 1 beside their bytes: a pair with
 // blocks of 1,024 bytes and pages of 128 holds 857.
-fn made_of_six(alloc: Global, last: &[u8]) -> Result<Vec<u8>, Error> {
+fn made_of_six(alloc: Global, last: &[u8], blocks: u32) -> Result<Vec<u8>, Error> {
     let bytes = Some([0; 128].as_slice());
     let items = [
         (b"/a".as_slice(), bytes),
@@ -115,18 +123,33 @@ fn made_of_six(alloc: Global, last: &[u8]) -> Result<Vec<u8>, Error> {
         (b"/e", bytes),
         (b"/f", Some(last)),
     ];
-    let lines = made(alloc, &items, Geometry::new(1024, 128, 4)?)?;
+    let lines = made(alloc, &items, Geometry::new(1024, 128, blocks)?)?;
     Ok(lines)
 }
 
-const SIX: &str = "f 128 /a\nf 128 /b\nf 128 /c\nf 128 /d\nf 128 /e\nf 123 /f\n";
+const FULL: &str = "f 128 /a\nf 128 /b\nf 128 /c\nf 128 /d\nf 128 /e\nf 123 /f\n";
+
+const SPLIT: &str = "f 128 /a\nf 128 /b\nf 128 /c\nf 128 /d\nf 128 /e\nf 124 /f\n";
 
 #[test]
-fn a_pair_has_a_capacity(rt: HostRuntime) -> Result<(), Fail> {
-    let held = made_of_six(rt.alloc(), &[0; 123])?;
-    assert!(rt; held.as_slice() == SIX.as_bytes());
-    let refused = made_of_six(rt.alloc(), &[0; 124])?;
-    assert!(rt; refused.as_slice() == UNSUPPORTED.as_bytes());
+fn a_full_pair_is_split(rt: HostRuntime) -> Result<(), Fail> {
+    let full = made_of_six(rt.alloc(), &[0; 123], 4)?;
+    assert!(rt; full.as_slice() == FULL.as_bytes());
+    let split = made_of_six(rt.alloc(), &[0; 124], 4)?;
+    assert!(rt; split.as_slice() == SPLIT.as_bytes());
+    Ok(())
+}
+
+// Whether an image of the folder, unpacked, gives the folder again.
+fn comes_back(alloc: Global) -> Result<bool, Error> {
+    let (_, image) = written(alloc, FOLDER, Geometry::new(4096, 256, 16)?)?;
+    let text = unpacked(alloc, image.as_slice())?;
+    Ok(text.as_slice() == b"f /a hello\nd /d\nf /d/x \n".as_slice())
+}
+
+#[test]
+fn a_folder_comes_back(rt: HostRuntime) -> Result<(), Fail> {
+    assert!(rt; comes_back(rt.alloc())?);
     Ok(())
 }
 

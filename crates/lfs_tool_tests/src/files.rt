@@ -53,14 +53,15 @@ const RUNS: [Run; 11] = [
         err: "",
         image: Image::New(4096),
     },
-    // what refuses leaves the old image
+    // a folder in the folder
     Run {
         words: &["-c", "runs", "runs/image"],
-        status: 1,
+        status: 0,
         out: "",
-        err: "error: Unsupported (202)\n",
-        image: Image::Old,
+        err: "",
+        image: Image::New(65536),
     },
+    // what refuses leaves the old image
     Run {
         words: &[
             "-c",

@@ -101,8 +101,9 @@ fn is_made<S: Source>(alloc: Global, source: &mut S) -> bool {
 #[test]
 fn an_image_is_made(rt: HostRuntime) -> Result<(), Fail> {
     let items = [
-        (b"/a".as_slice(), Some(b"1".as_slice())),
-        (b"/b", Some(b"2")),
+        (b"/a".as_slice(), Some([7; 600].as_slice())),
+        (b"/d", None),
+        (b"/d/b", Some(b"2")),
     ];
     let Ok(mut source) = source_of(rt.alloc(), &items) else {
         return Ok(());

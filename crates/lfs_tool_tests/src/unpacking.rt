@@ -65,7 +65,7 @@ fn push_done(text: &mut Vec<u8>, done: &Done) -> Result<(), AllocError> {
 }
 
 // What was done, a line for each action, and behind it the line of an error.
-fn unpacked(alloc: Global, image: &[u8]) -> Result<Vec<u8>, AllocError> {
+pub(crate) fn unpacked(alloc: Global, image: &[u8]) -> Result<Vec<u8>, AllocError> {
     let mut target = MemoryTarget {
         done: Vec::new(alloc),
     };

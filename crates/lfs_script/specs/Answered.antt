@@ -1,0 +1,14 @@
+-- What a session's operation is answered in a script.
+use Rattle.std.specs.Prelude.{[], ◌∷◌}
+use Rattle.lfs_model.specs.Operations.{Operation}
+use Rattle.lfs_model.specs.Run.{Moment, AreTurns}
+use Rattle.lfs_fs.specs.Held.{IsEndedBy}
+use Rattle.lfs_fs.specs.OpSeen.{reply_seen}
+use Rattle.lfs_script_lines.specs.declared.answer.Answer.{Answer}
+use Rattle.lfs_script_lines.specs.declared.answer.Answer.TheVariants.{Reply, Error}
+
+-- It is a turn of the definitions with that reply, or the session has failed in it by that error.
+abbrev pub IsAnswered : Moment → Operation → Answer → Moment → Type 0
+IsAnswered from op (Reply r) to = AreTurns from (op ∷ []) (reply_seen r ∷ []) to
+IsAnswered from op (Error e) to = IsEndedBy e from (op ∷ []) to
+IsAnswered from op _ to = ⊥

@@ -1,0 +1,83 @@
+// A device that counts the calls that fail.
+
+ghost use Rattle.std.specs.Prelude.{◌≡◌, ◌-◌, ◌^◌, min};
+ghost use Rattle.lfs_model.specs.History.{faults};
+
+use lfs_device::{BlockDevice, Error, Geometry};
+
+/// A device, with the count of its calls that failed. It saturates.
+#[derive(Drop)]
+pub struct Counted<D: BlockDevice> {
+    inner: D,
+    failed: u64,
+    ghost counted: { failed ≡ min (faults (D.history inner)) (2 ^ 64 - 1) },
+}
+
+impl<D: BlockDevice> Counted<D> {
+    pub fn new(inner: D) -> Counted<D>
+        requires { faults (D.history inner) ≡ 0 }
+        ensures { result.inner ≡ inner }
+    {
+        Counted { inner, failed: 0 }
+    }
+
+    /// The device below.
+    pub fn inner(&self) -> &D
+        ensures { result.now ≡ self.now.inner }
+    {
+        &self.inner
+    }
+
+    pub fn into_inner(self) -> D
+        ensures { result ≡ self.inner }
+    {
+        self.inner
+    }
+
+    /// How many of its calls failed.
+    pub fn failed_calls(&self) -> u64
+        ensures { result ≡ min (faults (D.history self.now.inner)) (2 ^ 64 - 1) }
+    {
+        self.failed
+    }
+}
+
+impl<D: BlockDevice> BlockDevice for Counted<D> {
+    ghost geometry = { λ d. D.geometry d.inner };
+
+    ghost blocks = { λ d. D.blocks d.inner };
+
+    ghost history = { λ d. D.history d.inner };
+
+    ghost shape = { λ d. D.shape d.inner };
+
+    ghost bytes = { λ d. D.bytes d.inner };
+
+    fn geometry(&self) -> Geometry {
+        self.inner.geometry()
+    }
+
+    fn read(&mut self, block: u32, off: u32, buf: &mut [u8]) -> Result<(), Error> {
+        let outcome = self.inner.read(block, off, buf);
+        if outcome.is_err() {
+            self.failed = self.failed.saturating_add(1);
+        }
+        outcome
+    }
+
+    fn prog(&mut self, block: u32, off: u32, bytes: &[u8]) -> Result<(), Error> {
+        let outcome = self.inner.prog(block, off, bytes);
+        if outcome.is_err() {
+            self.failed = self.failed.saturating_add(1);
+        }
+        outcome
+    }
+
+    fn erase(&mut self, block: u32) -> Result<(), Error> {
+        let outcome = self.inner.erase(block);
+        if outcome.is_err() {
+            self.failed = self.failed.saturating_add(1);
+        }
+        outcome
+    }
+}

@@ -1,0 +1,58 @@
+// What a session answers to a script's operations.
+
+ghost use Rattle.lfs_fs.specs.Held.{moment_of};
+ghost use Rattle.lfs_fs.specs.OpSeen.{op_seen};
+ghost use Rattle.lfs_script.specs.Answered.{IsAnswered};
+
+use lfs_device::BlockDevice;
+use lfs_fs::{Op, Session};
+use lfs_script_lines::{Answer, Operation};
+use std::alloc::Global;
+
+// The session's own operation.
+fn op_of(operation: &Operation) -> Op<'_> {
+    match operation {
+        Operation::Open(path, flags) => Op::Open(path, *flags),
+        Operation::Read(fd, count) => Op::Read(*fd, *count),
+        Operation::Write(fd, bytes) => Op::Write(*fd, bytes),
+        Operation::Seek(fd, position) => Op::Seek(*fd, *position),
+        Operation::Truncate(fd, size) => Op::Truncate(*fd, *size),
+        Operation::Sync(fd) => Op::Sync(*fd),
+        Operation::Close(fd) => Op::Close(*fd),
+        Operation::Mkdir(path) => Op::Mkdir(path),
+        Operation::Remove(path) => Op::Remove(path),
+        Operation::Rename(old, new) => Op::Rename(old, new),
+        Operation::List(path) => Op::List(path),
+        Operation::Stat(path) => Op::Stat(path),
+        Operation::GetAttr(path, kind) => Op::GetAttr(path, *kind),
+        Operation::SetAttr(path, kind, bytes) => Op::SetAttr(path, *kind, bytes),
+        Operation::RemoveAttr(path, kind) => Op::RemoveAttr(path, *kind),
+        Operation::Gstate => Op::Gstate,
+        Operation::IsUsed(block) => Op::IsUsed(*block),
+        Operation::UsedCount => Op::UsedCount,
+        Operation::Recover => Op::Recover,
+        Operation::Remount => Op::Remount,
+    }
+}
+
+// Carries out an operation of the session's own.
+fn perform_op<D: BlockDevice>(alloc: Global, session: &mut Session<D>, op: Op<'_>) -> Answer
+    ensures { IsAnswered (moment_of session.old) (op_seen op.entry) result (moment_of session.new) }
+{
+    match session.run(alloc, &[op]) {
+        Ok(mut replies) => match replies.pop() {
+            Some(reply) => Answer::Reply(reply),
+            None => unreachable!(),
+        },
+        Err(error) => Answer::Error(error),
+    }
+}
+
+/// Carries out an operation.
+pub fn perform<D: BlockDevice>(
+    alloc: Global,
+    session: &mut Session<D>,
+    operation: &Operation,
+) -> Answer {
+    perform_op(alloc, session, op_of(operation))
+}

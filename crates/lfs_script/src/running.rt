@@ -1,0 +1,74 @@
+// Scripts, read and carried out line by line.
+
+use crate::script::Script;
+use lfs_script_lines::{LineError, push_answer, read_line};
+use std::alloc::AllocError;
+use std::io::{BufRead, Write};
+use std::rt::Files;
+
+/// How a script ended.
+#[derive(Clone, Copy, Debug, PartialEq, Eq)]
+pub enum End {
+    /// With its last line.
+    Done,
+    /// At a line that is no command: its number, from 1 on.
+    Line(u64),
+    /// Where a growth was refused.
+    NoMemory,
+    /// Where its lines could not be read.
+    Input,
+    /// Where an answer could not be written.
+    Output,
+}
+
+// Prints what a line answers, if it is a command.
+fn answer_line<R: Files + AllocGlobal, W: Write>(
+    rt: &R,
+    script: &mut Script<'_, R>,
+    line: &[u8],
+    number: u64,
+    out: &mut W,
+) -> Result<(), End> {
+    let command = match read_line(rt.alloc(), line) {
+        Ok(Some(command)) => command,
+        Ok(None) => return Ok(()),
+        Err(LineError::Words) => return Err(End::Line(number)),
+        Err(LineError::NoMemory) => return Err(End::NoMemory),
+    };
+    let answer = script.carry_out(&command);
+    let mut text = Vec::new(rt.alloc());
+    if push_answer(&mut text, &answer).is_err() || text.push(b'\n').is_err() {
+        return Err(End::NoMemory);
+    }
+    out.write_all(&text).map_err(|_| End::Output)
+}
+
+// A line without its end.
+fn without_end(line: &[u8]) -> &[u8] {
+    match line.split_last() {
+        Some((b'\n', rest)) => rest,
+        _ => line,
+    }
+}
+
+/// Carries out the lines that a reader has, and prints their answers.
+pub fn run<R: Files + AllocGlobal, I: BufRead, W: Write>(
+    rt: &R,
+    input: &mut I,
+    out: &mut W,
+) -> End {
+    let mut script = Script::new(rt);
+    let mut line = Vec::new(rt.alloc());
+    for number in 1..u64::MAX {
+        line.clear();
+        match input.read_until(b'\n', &mut line) {
+            Ok(0) => return End::Done,
+            Ok(_) => {}
+            Err(_) => return End::Input,
+        }
+        if let Err(end) = answer_line(rt, &mut script, without_end(&line), number, out) {
+            return end;
+        }
+    }
+    End::Done
+}

@@ -1,0 +1,140 @@
+// What a script's commands do to the device in hand.
+
+use crate::hand::{Device, Hand, NO_FAULT, calls_of, told};
+use crate::images::{blank, device_of, read_file, write_file};
+use crate::performing::perform;
+use lfs_device::{Erased, Error, Fault, RamDevice};
+use lfs_fs::{Reply, Session, format, mount};
+use lfs_script_lines::{Answer, Command, Operation};
+use std::mem;
+use std::rt::Files;
+
+/// A script on its way.
+#[derive(Drop)]
+pub struct Script<'a, R: Files> {
+    rt: &'a R,
+    hand: Hand,
+}
+
+impl<'a, R: Files + AllocGlobal> Script<'a, R> {
+    /// A script at its beginning.
+    pub fn new(rt: &'a R) -> Script<'a, R> {
+        Script {
+            rt,
+            hand: Hand::Nothing,
+        }
+    }
+
+    // Takes a session in hand, or the device that came back.
+    fn begin(&mut self, begun: Result<Session<Device>, (Device, Error)>) -> Answer {
+        match begun {
+            Ok(session) => {
+                self.hand = Hand::Session(session);
+                Answer::Reply(Reply::Done)
+            }
+            Err((device, error)) => {
+                self.hand = Hand::Device(device);
+                Answer::Error(error)
+            }
+        }
+    }
+
+    fn format(&mut self, device: Result<RamDevice, Error>, erased: Erased) -> Answer {
+        match device {
+            Ok(device) => {
+                let device = told(device.erased_as(erased), NO_FAULT);
+                self.begin(format(self.rt.alloc(), device))
+            }
+            Err(error) => Answer::Error(error),
+        }
+    }
+
+    fn open_image(&mut self, file: &[u8], block_size: u32, page: u32, erased: Erased) -> Answer {
+        let Some(bytes) = read_file(self.rt, file) else {
+            return Answer::Input;
+        };
+        match device_of(bytes, block_size, page) {
+            Ok(device) => {
+                let device = told(device.erased_as(erased), NO_FAULT);
+                self.begin(mount(self.rt.alloc(), device))
+            }
+            Err(error) => Answer::Error(error),
+        }
+    }
+
+    fn unmount(&mut self) -> Answer {
+        match mem::replace(&mut self.hand, Hand::Nothing) {
+            Hand::Session(session) => {
+                self.hand = Hand::Device(session.unmount());
+                Answer::Reply(Reply::Done)
+            }
+            hand => {
+                self.hand = hand;
+                Answer::Nothing
+            }
+        }
+    }
+
+    fn mount(&mut self, fault: Fault) -> Answer {
+        match mem::replace(&mut self.hand, Hand::Nothing).into_device() {
+            Some(device) => {
+                let device = told(device.into_inner().into_inner(), fault);
+                self.begin(mount(self.rt.alloc(), device))
+            }
+            None => Answer::Nothing,
+        }
+    }
+
+    fn save(&self, file: &[u8]) -> Answer {
+        match self.hand.device() {
+            Some(device) => {
+                if write_file(self.rt, file, device.inner().inner().bytes()) {
+                    Answer::Reply(Reply::Done)
+                } else {
+                    Answer::Output
+                }
+            }
+            None => Answer::Nothing,
+        }
+    }
+
+    fn calls(&self) -> Answer {
+        match self.hand.device() {
+            Some(device) => Answer::Calls(calls_of(device)),
+            None => Answer::Nothing,
+        }
+    }
+
+    fn operate(&mut self, operation: &Operation) -> Answer {
+        match &mut self.hand {
+            Hand::Session(session) => perform(self.rt.alloc(), session, operation),
+            _ => Answer::Nothing,
+        }
+    }
+
+    /// Carries out a command.
+    pub fn carry_out(&mut self, command: &Command) -> Answer {
+        match command {
+            Command::Fresh {
+                block_size,
+                page,
+                block_count,
+                erased,
+            } => {
+                let device = blank(self.rt.alloc(), *block_size, *page, *block_count);
+                self.format(device, *erased)
+            }
+            Command::Image {
+                block_size,
+                page,
+                file,
+                erased,
+            } => self.open_image(file, *block_size, *page, *erased),
+            Command::Unmount => self.unmount(),
+            Command::Mount(fault) => self.mount(*fault),
+            Command::Save(file) => self.save(file),
+            Command::Calls => self.calls(),
+            Command::Perform(operation) => self.operate(operation),
+        }
+    }
+}

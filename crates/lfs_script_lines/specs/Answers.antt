@@ -1,0 +1,96 @@
+-- The lines that show answers.
+use Rattle.std.specs.Prelude.{ℕ, ◌++◌, List, Option, Some, None, Bool, true, false, codes, length, slice_index}
+use Rattle.std.specs.List.{flat_map}
+use Rattle.std.specs.Fmt.{decimal}
+use Rattle.lfs_device.specs.Error.{number_of}
+use Rattle.lfs_device.specs.declared.error.Error.{Error}
+use Rattle.lfs_device.specs.declared.error.Error.TheVariants.{NoEnt, Io, BadFile, NoMemory, Busy, Exist, NotDir, IsDir, Invalid, TooBig, NoSpace, ReadOnly, NameTooLong, NotEmpty, NoAttr, Corrupt, Failed, EntryFull, Unsupported}
+use Rattle.lfs_tree.specs.declared.finding.ListItem.{ListItem}
+use Rattle.lfs_fs.specs.declared.gstate.Gstate.{Gstate}
+use Rattle.lfs_fs.specs.declared.run.Reply.{Reply}
+use Rattle.lfs_fs.specs.declared.run.Reply.TheVariants as reply
+use Rattle.lfs_script_lines.specs.declared.answer.Answer.{Answer}
+use Rattle.lfs_script_lines.specs.declared.answer.Answer.TheVariants as answer
+use Rattle.lfs_script_lines.specs.declared.answer.Calls.{Calls}
+use Rattle.lfs_script_lines.specs.Words.{written}
+
+abbrev pub name_of : Error → List ℕ
+name_of NoEnt = codes "NoEnt"
+name_of Io = codes "Io"
+name_of BadFile = codes "BadFile"
+name_of NoMemory = codes "NoMemory"
+name_of Busy = codes "Busy"
+name_of Exist = codes "Exist"
+name_of NotDir = codes "NotDir"
+name_of IsDir = codes "IsDir"
+name_of Invalid = codes "Invalid"
+name_of TooBig = codes "TooBig"
+name_of NoSpace = codes "NoSpace"
+name_of ReadOnly = codes "ReadOnly"
+name_of NameTooLong = codes "NameTooLong"
+name_of NotEmpty = codes "NotEmpty"
+name_of NoAttr = codes "NoAttr"
+name_of Corrupt = codes "Corrupt"
+name_of Failed = codes "Failed"
+name_of EntryFull = codes "EntryFull"
+name_of Unsupported = codes "Unsupported"
+
+abbrev pub number_text : ℕ → List ℕ
+number_text n = codes " " ++ decimal n
+
+abbrev pub error_text : Error → List ℕ
+error_text e = codes " " ++ name_of e ++ number_text (number_of e)
+
+-- the kind and the size of an entry; a directory has size 0
+abbrev pub entry_text : Option ℕ → List ℕ
+entry_text (Some size) = codes " f:" ++ decimal size ++ codes ":"
+entry_text None = codes " d:0:"
+
+abbrev pub item_text : ListItem → List ℕ
+item_text item = entry_text item.size ++ written item.name.items
+
+abbrev pub items_text : List ListItem → List ℕ
+items_text items = codes "items" ++ number_text (length items) ++ flat_map item_text items
+
+abbrev pub stat_text : Option ℕ → List ℕ
+stat_text (Some size) = codes "stat f" ++ number_text size
+stat_text None = codes "stat d 0"
+
+-- the pair and the id of a moved slot
+abbrev pub moving_text : Option (List ℕ × ℕ) → List ℕ
+moving_text (Some slot) = number_text (slice_index slot.0 0) ++ number_text (slice_index slot.0 1) ++ number_text slot.1
+moving_text None = codes " none"
+
+abbrev pub flag_text : Bool → List ℕ
+flag_text true = codes "1"
+flag_text false = codes "0"
+
+abbrev pub gstate_text : Gstate → List ℕ
+gstate_text g = codes "gstate " ++ flag_text g.sync ++ moving_text g.moving
+
+abbrev pub yes_text : Bool → List ℕ
+yes_text true = codes "yes"
+yes_text false = codes "no"
+
+abbrev pub reply_text : Reply → List ℕ
+reply_text reply.Done = codes "done"
+reply_text (reply.Fd fd) = codes "fd" ++ number_text fd
+reply_text (reply.Bytes bytes) = codes "bytes " ++ written bytes.items
+reply_text (reply.Count count) = codes "count" ++ number_text count
+reply_text (reply.Items items) = items_text items.items
+reply_text (reply.Stat size) = stat_text size
+reply_text (reply.Gstate gstate) = gstate_text gstate
+reply_text (reply.Yes is) = yes_text is
+reply_text (reply.Refused error) = codes "refused" ++ error_text error
+
+abbrev pub calls_text : Calls → List ℕ
+calls_text c = codes "calls" ++ number_text c.reads ++ number_text c.programs ++ number_text c.erases ++ number_text c.faults
+
+-- the line, without its end
+abbrev pub answer_text : Answer → List ℕ
+answer_text (answer.Reply r) = reply_text r
+answer_text (answer.Error e) = codes "error" ++ error_text e
+answer_text answer.Nothing = codes "error none"
+answer_text answer.Input = codes "error input"
+answer_text answer.Output = codes "error output"
+answer_text (answer.Calls c) = calls_text c

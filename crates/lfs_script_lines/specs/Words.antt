@@ -1,0 +1,73 @@
+-- Words for bytes.
+use Rattle.std.specs.Prelude.{ℕ, ◌+◌, ◌*◌, ◌-◌, ◌/◌, ◌%◌, ◌<◌, ◌==◌, Bool, true, not, ◌&&◌, nat_le, if◌then◌else◌, List, [], ◌∷◌, Option, Some, None, option_map, All}
+use Rattle.std.specs.List.{flat_map}
+use Rattle.std.specs.Str.{bytes_eq}
+use Rattle.lfs_model.specs.Listing.{hex_digit}
+use Rattle.lfs_script_lines.specs.declared.words.Part.{Part}
+use Rattle.lfs_script_lines.specs.declared.words.Part.TheVariants.{Text, Backslash, Mark, Digit}
+use Rattle.lfs_script_lines.specs.declared.words.Step.{Step}
+use Rattle.lfs_script_lines.specs.declared.words.Step.TheVariants.{To, Byte, Never}
+
+abbrev pub AreBytes : List ℕ → Type 0
+AreBytes bytes = All (λ b. b < 256) bytes
+
+-- the bytes from `!` to `~` stand for themselves, but not the backslash
+abbrev pub is_plain : ℕ → Bool
+is_plain b = nat_le 0x21 b && (nat_le b 0x7e && not (b == 0x5c))
+
+-- ---- written
+
+-- a byte as it is written: itself, or `\x` and two digits; a star always so
+abbrev pub shown : ℕ → List ℕ
+shown b = if is_plain b && not (b == 0x2a) then b ∷ [] else 0x5c ∷ 0x78 ∷ hex_digit (b / 16) ∷ hex_digit (b % 16) ∷ []
+
+-- the word for bytes; for none it is `\e`
+abbrev pub written : List ℕ → List ℕ
+written [] = 0x5c ∷ 0x65 ∷ []
+written (b ∷ bytes) = flat_map shown (b ∷ bytes)
+
+-- ---- read
+
+-- the value of a hexadecimal digit
+abbrev pub hex_value : ℕ → Option ℕ
+hex_value c =
+    if nat_le 0x30 c && nat_le c 0x39 then Some (c - 0x30)
+    else if nat_le 0x61 c && nat_le c 0x66 then Some (c - 0x61 + 10)
+    else if nat_le 0x41 c && nat_le c 0x46 then Some (c - 0x41 + 10)
+    else None
+
+-- the byte of two digits
+abbrev pub byte_of : Option ℕ → Option ℕ → Step
+byte_of (Some high) (Some low) = Byte (high * 16 + low)
+byte_of _ _ = Never
+
+-- what comes of a byte behind such a part of a word
+abbrev pub advance : Part → ℕ → Step
+advance Text b = if b == 0x5c then To Backslash else if is_plain b then Byte b else Never
+advance Backslash b = if b == 0x78 then To Mark else Never
+advance Mark b = To (Digit b)
+advance (Digit first) b = byte_of (hex_value first) (hex_value b)
+
+-- what comes of a part, or behind a byte
+abbrev pub followed : Step → (Part → Option (List ℕ)) → Option (List ℕ)
+followed (To part) rest = rest part
+followed (Byte b) rest = option_map (λ bytes. b ∷ bytes) (rest Text)
+followed Never rest = None
+
+-- the bytes that text stands for, where a part of it was before
+abbrev pub spelled : Part → List ℕ → Option (List ℕ)
+spelled Text [] = Some []
+spelled _ [] = None
+spelled part (b ∷ word) = followed (advance part b) (λ p. spelled p word)
+
+abbrev pub text_bytes : List ℕ → Option (List ℕ)
+text_bytes word = spelled Text word
+
+-- the bytes that a word without a repetition stands for
+abbrev pub word_bytes : List ℕ → Option (List ℕ)
+word_bytes word = if bytes_eq word (0x5c ∷ 0x65 ∷ []) then Some [] else text_bytes word
+
+-- a line without a command: it is empty, or a comment
+abbrev pub is_silent : List ℕ → Bool
+is_silent [] = true
+is_silent (b ∷ line) = b == 0x23

@@ -1,0 +1,189 @@
+// The lines that scripts print.
+
+ghost use Rattle.std.specs.Prelude.{◌≡◌, ◌++◌, OnOk};
+ghost use Rattle.lfs_script_lines.specs.Answers.{answer_text, calls_text, error_text, entry_text, gstate_text, item_text, items_text, moving_text, name_of, number_text, reply_text, stat_text};
+
+use crate::answer::{Answer, Calls};
+use crate::written::push_word;
+use lfs_device::Error;
+use lfs_fs::{Gstate, Reply};
+use lfs_tree::ListItem;
+use std::alloc::AllocError;
+use std::io::Write;
+
+fn name_of(error: Error) -> &'static [u8]
+    ensures { result.now ≡ name_of error }
+{
+    match error {
+        Error::NoEnt => b"NoEnt",
+        Error::Io => b"Io",
+        Error::BadFile => b"BadFile",
+        Error::NoMemory => b"NoMemory",
+        Error::Busy => b"Busy",
+        Error::Exist => b"Exist",
+        Error::NotDir => b"NotDir",
+        Error::IsDir => b"IsDir",
+        Error::Invalid => b"Invalid",
+        Error::TooBig => b"TooBig",
+        Error::NoSpace => b"NoSpace",
+        Error::ReadOnly => b"ReadOnly",
+        Error::NameTooLong => b"NameTooLong",
+        Error::NotEmpty => b"NotEmpty",
+        Error::NoAttr => b"NoAttr",
+        Error::Corrupt => b"Corrupt",
+        Error::Failed => b"Failed",
+        Error::EntryFull => b"EntryFull",
+        Error::Unsupported => b"Unsupported",
+    }
+}
+
+// Adds a space and a number.
+fn push_number(text: &mut Vec<u8>, number: u64) -> Result<(), AllocError>
+    ensures { OnOk result (text.new.items ≡ text.old.items ++ number_text number) }
+{
+    if write!(text, " {}", number).is_err() {
+        return Err(AllocError);
+    }
+    Ok(())
+}
+
+// Adds an error's name and number.
+fn push_error(text: &mut Vec<u8>, error: Error) -> Result<(), AllocError>
+    ensures { OnOk result (text.new.items ≡ text.old.items ++ error_text error) }
+{
+    text.push(b' ')?;
+    text.extend_from_slice(name_of(error))?;
+    push_number(text, u64::from(error.number()))
+}
+
+// Adds the kind and the size of an entry.
+fn push_entry(text: &mut Vec<u8>, size: Option<u32>) -> Result<(), AllocError>
+    ensures { OnOk result (text.new.items ≡ text.old.items ++ entry_text size) }
+{
+    match size {
+        Some(size) => {
+            if write!(text, " f:{}:", size).is_err() {
+                return Err(AllocError);
+            }
+        }
+        None => text.extend_from_slice(b" d:0:")?,
+    }
+    Ok(())
+}
+
+fn push_item(text: &mut Vec<u8>, item: &ListItem) -> Result<(), AllocError>
+    ensures { OnOk result (text.new.items ≡ text.old.items ++ item_text item.now) }
+{
+    push_entry(text, item.size)?;
+    push_word(text, &item.name)
+}
+
+fn push_items(text: &mut Vec<u8>, items: &[ListItem]) -> Result<(), AllocError>
+    ensures { OnOk result (text.new.items ≡ text.old.items ++ items_text items.now) }
+{
+    text.extend_from_slice(b"items")?;
+    push_number(text, items.len() as u64)?;
+    for item in items {
+        push_item(text, item)?;
+    }
+    Ok(())
+}
+
+fn push_stat(text: &mut Vec<u8>, size: Option<u32>) -> Result<(), AllocError>
+    ensures { OnOk result (text.new.items ≡ text.old.items ++ stat_text size) }
+{
+    match size {
+        Some(size) => {
+            text.extend_from_slice(b"stat f")?;
+            push_number(text, u64::from(size))?;
+        }
+        None => text.extend_from_slice(b"stat d 0")?,
+    }
+    Ok(())
+}
+
+// Adds the pair and the id of a moved slot.
+fn push_moving(text: &mut Vec<u8>, moving: &Option<([u32; 2], u16)>) -> Result<(), AllocError>
+    ensures { OnOk result (text.new.items ≡ text.old.items ++ moving_text moving.now) }
+{
+    match moving {
+        Some(slot) => {
+            let pair = slot.0;
+            push_number(text, u64::from(pair[0]))?;
+            push_number(text, u64::from(pair[1]))?;
+            push_number(text, u64::from(slot.1))?;
+        }
+        None => text.extend_from_slice(b" none")?,
+    }
+    Ok(())
+}
+
+fn push_gstate(text: &mut Vec<u8>, gstate: &Gstate) -> Result<(), AllocError>
+    ensures { OnOk result (text.new.items ≡ text.old.items ++ gstate_text gstate.now) }
+{
+    let sync = if gstate.sync {
+        b"gstate 1"
+    } else {
+        b"gstate 0"
+    };
+    text.extend_from_slice(sync)?;
+    push_moving(text, &gstate.moving)
+}
+
+fn push_reply(text: &mut Vec<u8>, reply: &Reply) -> Result<(), AllocError>
+    ensures { OnOk result (text.new.items ≡ text.old.items ++ reply_text reply.now) }
+{
+    match reply {
+        Reply::Done => text.extend_from_slice(b"done")?,
+        Reply::Fd(fd) => {
+            text.extend_from_slice(b"fd")?;
+            push_number(text, u64::from(*fd))?;
+        }
+        Reply::Bytes(bytes) => {
+            text.extend_from_slice(b"bytes ")?;
+            push_word(text, bytes)?;
+        }
+        Reply::Count(count) => {
+            text.extend_from_slice(b"count")?;
+            push_number(text, u64::from(*count))?;
+        }
+        Reply::Items(items) => push_items(text, items)?,
+        Reply::Stat(size) => push_stat(text, *size)?,
+        Reply::Gstate(gstate) => push_gstate(text, gstate)?,
+        Reply::Yes(true) => text.extend_from_slice(b"yes")?,
+        Reply::Yes(false) => text.extend_from_slice(b"no")?,
+        Reply::Refused(error) => {
+            text.extend_from_slice(b"refused")?;
+            push_error(text, *error)?;
+        }
+    }
+    Ok(())
+}
+
+fn push_calls(text: &mut Vec<u8>, calls: Calls) -> Result<(), AllocError>
+    ensures { OnOk result (text.new.items ≡ text.old.items ++ calls_text calls) }
+{
+    text.extend_from_slice(b"calls")?;
+    push_number(text, calls.reads)?;
+    push_number(text, calls.programs)?;
+    push_number(text, calls.erases)?;
+    push_number(text, calls.faults)
+}
+
+/// Adds the line that shows an answer, without its end.
+pub fn push_answer(text: &mut Vec<u8>, answer: &Answer) -> Result<(), AllocError>
+    ensures { OnOk result (text.new.items ≡ text.old.items ++ answer_text answer.now) }
+{
+    match answer {
+        Answer::Reply(reply) => push_reply(text, reply)?,
+        Answer::Error(error) => {
+            text.extend_from_slice(b"error")?;
+            push_error(text, *error)?;
+        }
+        Answer::Nothing => text.extend_from_slice(b"error none")?,
+        Answer::Input => text.extend_from_slice(b"error input")?,
+        Answer::Output => text.extend_from_slice(b"error output")?,
+        Answer::Calls(calls) => push_calls(text, *calls)?,
+    }
+    Ok(())
+}

@@ -1,0 +1,62 @@
+// What a line asks for.
+
+use lfs_device::{Erased, Fault};
+use lfs_fs::OpenFlags;
+
+/// What a line of a script asks for. Sizes are in bytes, and nothing is checked against a device yet.
+#[derive(Drop)]
+pub enum Command {
+    /// A blank device, made an empty file system.
+    Fresh {
+        block_size: u32,
+        page: u32,
+        block_count: u32,
+        /// What its erases leave.
+        erased: Erased,
+    },
+    /// A device with the bytes of a file, mounted.
+    Image {
+        block_size: u32,
+        page: u32,
+        /// The file's path.
+        file: Vec<u8>,
+        /// What its erases leave.
+        erased: Erased,
+    },
+    /// The end of the session.
+    Unmount,
+    /// A session over the device in hand, one of whose calls is to fail.
+    Mount(Fault),
+    /// The device's bytes, into the file at a path.
+    Save(Vec<u8>),
+    /// How many calls the device had.
+    Calls,
+    /// An operation of the session.
+    Perform(Operation),
+}
+
+/// An operation of a session, as a script gives it. Paths, contents and names are bytes.
+#[derive(Drop)]
+pub enum Operation {
+    Open(Vec<u8>, OpenFlags),
+    Read(u32, u32),
+    Write(u32, Vec<u8>),
+    Seek(u32, u32),
+    Truncate(u32, u32),
+    Sync(u32),
+    Close(u32),
+    Mkdir(Vec<u8>),
+    Remove(Vec<u8>),
+    /// The old path and the new one.
+    Rename(Vec<u8>, Vec<u8>),
+    List(Vec<u8>),
+    Stat(Vec<u8>),
+    GetAttr(Vec<u8>, u8),
+    SetAttr(Vec<u8>, u8, Vec<u8>),
+    RemoveAttr(Vec<u8>, u8),
+    Gstate,
+    IsUsed(u32),
+    UsedCount,
+    Recover,
+    Remount,
+}

@@ -1,0 +1,17 @@
+//! Scripts: operations on a file system as text, one a line, and what they answer.
+#![tactic(auto)]
+
+mod answer;
+mod answered;
+mod command;
+mod lines;
+mod numbers;
+mod words;
+mod written;
+
+pub use answer::{Answer, Calls};
+pub use answered::push_answer;
+pub use command::{Command, Operation};
+pub use lines::{LineError, read_line};
+pub use words::read_word;
+pub use written::push_word;

@@ -1,6 +1,6 @@
 ghost use Rattle.std.specs.Prelude.{◌≡◌, ◌≤◌, ◌<◌, ℕ, ◌+◌, ◌%◌, List, ◌∷◌, length, slice_range, is_err, IfErr, OnOk, OnErr};
 ghost use Rattle.lfs_model.specs.Blocks.{Blocks, IsDivided, SameBut, SameOutside, block_in, programmed};
-ghost use Rattle.lfs_model.specs.History.{Event, event, AllUnprogrammed};
+ghost use Rattle.lfs_model.specs.History.{Event, event, AllUnprogrammed, IsNewest};
 ghost use Rattle.lfs_model.specs.History.Call.{Read, Program, Erase};
 ghost use Rattle.lfs_device.specs.declared.geometry.Geometry.{Geometry};
 ghost use Rattle.lfs_device.specs.Bytes.{HasBytes};
@@ -71,4 +71,7 @@ pub trait BlockDevice {
 
     /// What a block holds are bytes: numbers below 256.
     ghost bytes: { (d : Self) → HasBytes (blocks d) };
+
+    /// The newest call, if there was one, left the blocks as they are.
+    ghost newest: { (d : Self) → IsNewest (history d) (blocks d) };
 }

@@ -1,6 +1,6 @@
 ghost use Rattle.std.specs.Prelude.{◌≡◌, ◌≤◌, ◌<◌, ◌+◌, ◌-◌, ◌%◌, ◌^◌, ℕ, true, false, min, [], ◌∷◌, length, slice_range, is_err, IfSome, IfErr, OnOk, OnErr, Some};
 ghost use Rattle.lfs_model.specs.Blocks.{SameBut, SameOutside, block_in, programmed};
-ghost use Rattle.lfs_model.specs.History.{event, reads, programs, erases, faults, unprogrammed, AllUnprogrammed};
+ghost use Rattle.lfs_model.specs.History.{event, reads, programs, erases, faults, unprogrammed, AllUnprogrammed, IsNewest};
 ghost use Rattle.lfs_model.specs.History.Call.{Read, Program, Erase};
 ghost use Rattle.lfs_device.specs.Fault.{calls_of, due, due_if, due_failed, undue_faults};
 ghost use Rattle.lfs_device.specs.Carried.{NoFault, CarriedOut, stored};
@@ -58,6 +58,7 @@ pub struct FaultDevice<D: BlockDevice> {
     ghost reads_counted: { read_calls ≡ min (reads trace.events) (2 ^ 64 - 1) },
     ghost programs_counted: { program_calls ≡ min (programs trace.events) (2 ^ 64 - 1) },
     ghost erases_counted: { erase_calls ≡ min (erases trace.events) (2 ^ 64 - 1) },
+    ghost newest: { IsNewest trace.events (D.blocks inner) },
     ghost below: { (block byte : ℕ) → unprogrammed trace.events block byte ≡ true → unprogrammed (D.history inner) block byte ≡ true },
 }
 
@@ -182,6 +183,8 @@ impl<D: BlockDevice> BlockDevice for FaultDevice<D> {
     ghost shape = { λ d. D.shape d.inner };
 
     ghost bytes = { λ d. D.bytes d.inner };
+
+    ghost newest = { λ d. d.newest };
 
     fn geometry(&self) -> Geometry {
         self.inner.geometry()

@@ -1,6 +1,6 @@
 ghost use Rattle.std.specs.Prelude.{◌≡◌, ◌≤◌, ◌<◌, ◌+◌, ◌*◌, ◌%◌, [], ◌∷◌, false, length, replicate, slice_range, IsOk, IfOk, IfErr, OnErr, MatchResult};
 ghost use Rattle.lfs_model.specs.Blocks.{SameBut, block_in, cut, overwritten, programmed};
-ghost use Rattle.lfs_model.specs.History.{event, faults, AllUnprogrammed};
+ghost use Rattle.lfs_model.specs.History.{event, faults, AllUnprogrammed, IsNewest};
 ghost use Rattle.lfs_model.specs.History.Call.{Read, Program, Erase};
 ghost use Rattle.lfs_device.specs.Bytes.{AreBytes};
 ghost use Rattle.lfs_device.specs.Erased.{erased_block, erased_bytes};
@@ -27,6 +27,7 @@ pub struct RamDevice {
     ghost are_bytes: { AreBytes bytes.items },
     ghost size: { length bytes.items ≡ geometry.block_size * geometry.block_count },
     pub ghost no_fault: { faults trace.events ≡ 0 },
+    ghost newest: { IsNewest trace.events (cut geometry.block_size geometry.block_count bytes.items) },
 }
 
 impl RamDevice {
@@ -153,6 +154,8 @@ impl BlockDevice for RamDevice {
     ghost shape = { λ d. IsDivided-cut d.geometry.block_size d.geometry.block_count d.bytes.items d.size };
 
     ghost bytes = { λ d. HasBytes-cut d.geometry.block_size d.geometry.block_count d.bytes.items d.are_bytes };
+
+    ghost newest = { λ d. d.newest };
 
     fn geometry(&self) -> Geometry {
         self.geometry

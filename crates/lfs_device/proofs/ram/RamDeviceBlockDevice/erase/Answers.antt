@@ -4,6 +4,7 @@ use Rattle.lfs_model.proofs.Cuts.{IsDivided-cut}
 use Rattle.lfs_device.specs.Erased.{erased_bytes, erased_disk}
 use Rattle.lfs_device.specs.RamDevice.{blocks_of}
 use Rattle.lfs_device.proofs.Erasures.{cut-erased, SameBut-erased, block_in-erased}
+use Rattle.lfs_device.proofs.Newest.{newest_call}
 use Rattle.lfs_device.proofs.ram.RamDeviceBlockDevice.erase.Goals as goal
 
 -- the blocks after the erase
@@ -26,3 +27,10 @@ returns-clause-others c =
 
 pub returns-clause-history : goal.returns-clause-history
 returns-clause-history c = rw (after c) c.told_by-trace.ensures
+
+pub invariant_of-self-clause-newest : goal.invariant_of-self-clause-newest
+invariant_of-self-clause-newest c =
+    let d = c.args.self.now in
+    newest_call _ _ _ _ _ _ _ c.told_by-trace.ensures
+    (ap (cut d.geometry.block_size d.geometry.block_count) (c.erase_at.ensures.erased ∙ ap (λ at. erased_bytes d.erased d.bytes.items at d.geometry.block_size) c.position-start.ensures)
+    ∙ cut-erased d.erased d.geometry.block_size d.geometry.block_count d.bytes.items c.args.block d.size c.requires)

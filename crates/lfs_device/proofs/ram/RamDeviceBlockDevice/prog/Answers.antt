@@ -2,6 +2,7 @@ use Rattle.std.proofs.Common.{length, ◌∙◌, ap, arith}
 use Rattle.lfs_model.specs.Blocks.{Blocks, overwritten, cut}
 use Rattle.lfs_model.proofs.Cuts.{IsDivided-cut, cut-overwritten, size_fits}
 use Rattle.lfs_model.proofs.Overwrites.{length-overwritten, SameBut-programmed}
+use Rattle.lfs_device.proofs.Newest.{newest_call}
 use Rattle.lfs_device.proofs.ram.RamDeviceBlockDevice.prog.Goals as goal
 
 pub invariant_of-self-clause-size : goal.invariant_of-self-clause-size
@@ -25,3 +26,10 @@ returns-clause-others c =
 
 pub returns-clause-history : goal.returns-clause-history
 returns-clause-history c = rw (returns-clause-bytes c) c.told_by-trace.ensures
+
+pub invariant_of-self-clause-newest : goal.invariant_of-self-clause-newest
+invariant_of-self-clause-newest c =
+    let d = c.args.self.now in
+    newest_call _ _ _ _ _ _ _ c.told_by-trace.ensures
+    (ap (cut d.geometry.block_size d.geometry.block_count) (c.overwrite.ensures ∙ ap (λ at. overwritten d.bytes.items at c.args.bytes.now) c.position-start.ensures)
+    ∙ cut-overwritten d.geometry.block_size d.geometry.block_count d.bytes.items c.args.block c.args.off c.args.bytes.now d.size c.requires.in_device c.requires.in_block)

@@ -19,7 +19,7 @@ use Rattle.lfs_model.proofs.Moves.{IsStep, place_at}
 use Rattle.lfs_model.proofs.Beside.{last_site, IsStepBeside, directory_comes_beside, threaded}
 use Rattle.lfs_model.proofs.Alike.{AreAlike, alike_itself, alike_append}
 use Rattle.lfs_model.proofs.Committed.{IsCompleted, recovered_from}
-use Rattle.lfs_model.proofs.MadeDirectory.{Cut, IsMkdir, mkdir_completed}
+use Rattle.lfs_model.proofs.MadeDirectory.{Cut, IsMkdir, mkdir_completed, none_there}
 use Rattle.lfs_model.proofs.Changes.{Follows}
 use Rattle.lfs_model.proofs.Became.{Became}
 use Rattle.lfs_model.proofs.Profiles.{step_writable}
@@ -57,6 +57,7 @@ module _ (disk new : Disk) (chain before left after : List Pair) (p q : Pair) (m
     walk = _;
     follows = taken.follows;
     still_writable = taken.writable;
+    absent = none_there disk (thread_at (last_site chain before left after) (p ∷ [])) P a (place_at (last_site chain before left after) l) name leads place;
     was = put.was;
     at = step.shape.at;
     is = put.is;
@@ -167,6 +168,8 @@ module _ (disk middle new : Disk) (chain before front mid after : List Pair) (x 
     walk = both.walk_on;
     follows = subst (λ z. Follows disk z new (thread_at (record { chain = chain; before = before; left = front; right = mid ++ y ∷ []; after = f ∷ after }) (q ∷ more)) (added (P ++ name ∷ []) (DirectoryNode [] [])) both.walk_on) were both.end;
     still_writable = second;
+    absent = ap (λ z. tree_in disk z (P ++ name ∷ [])) (sym were) ∙ sym (ap (λ t. t (P ++ name ∷ [])) both.between.shows)
+        ∙ none_there middle (thread_at there (p ∷ [])) P a (place_at there l) name leads2 place;
     was = put2.was;
     at = step2.shape.at;
     is = put2.is;

@@ -10,6 +10,8 @@ use Rattle.lfs_model.specs.Operations as ops
 use Rattle.lfs_model.specs.Session.{Session}
 use Rattle.lfs_model.specs.PowerLoss.{IsLeft}
 use Rattle.lfs_model.specs.Layout.{begin_from, onward}
+use Rattle.lfs_model.proofs.Changes.{follows_itself}
+use Rattle.lfs_model.proofs.LeftFiles.{ends_same}
 use Rattle.lfs_model.proofs.Counts.{Each}
 use Rattle.lfs_model.proofs.Global.{HasNoMove, unmoved_all}
 use Rattle.lfs_model.proofs.Superblocks.{IsChain}
@@ -117,7 +119,7 @@ module _ (disk : Disk) (ps : List Pair) (now : Disk) (chain seen : List Pair) (p
         alike = subst (λ z. AreAlike z (front ++ q ∷ [])) (sym (joined_append parts ([] ∷ []) ∙ append-nil (joined_parts parts)))
             (alike_last (joined_parts parts) front before q c.at c.slots (subst (AreAlike (joined_parts parts)) is r.alike));
         wait = subst (λ z. AllWait ps z todo waits) (sym (onward_end None seen p)) r.wait.1;
-        taken = taken_then disk now new ps (chain ++ (kept ++ o ∷ joined_parts waits)) (chain ++ ((front ++ q ∷ []) ++ joined_parts waits)) (λ t. t) (λ t. t) (λ d. d) (λ d. d) r.taken
+        taken = taken_then disk now new ps (chain ++ (kept ++ o ∷ joined_parts waits)) (chain ++ ((front ++ q ∷ []) ++ joined_parts waits)) (λ t. t) (λ t. t) (λ d. d) (λ d. d) (ends_same (λ t. t)) r.taken
             (subst₂ (λ y z. IsTaken now (chain ++ y) new (chain ++ z) (λ t. t) (λ d. d)) (sym here) there u.taken);
         ready = subst (IsReady new chain) there u.ready;
       }
@@ -125,7 +127,7 @@ module _ (disk : Disk) (ps : List Pair) (now : Disk) (chain seen : List Pair) (p
 -- ---- its ends
 
 nothing_done : (disk : Disk) (ps : List Pair) → IsAccepted disk ps → IsWritable disk ps → IsTaken disk ps disk ps (λ t. t) (λ d. d)
-nothing_done disk ps ok fits = record { follows = record { accepted = ok; root = refl; shows = refl; leads = refl }; writable = fits }
+nothing_done disk ps ok fits = record { follows = follows_itself disk ps ok; writable = fits }
 
 -- where no move is set, all pairs wait as they are
 pub recovery_begins : (disk : Disk) (ps : List Pair) → IsAccepted disk ps → IsWritable disk ps → HasNoMove (gstate_of ps)
@@ -162,7 +164,7 @@ pub recovery_ends : (disk : Disk) (ps : List Pair) (now : Disk) (chain seen : Li
     → IsRecovering disk ps now chain seen [] parts [] kept → IsWritable disk ps → IsTaken now (chain ++ (kept ++ [])) new rs (λ t. t) walk → AreAlike (chain ++ kept) rs → gstate_of rs ≡ no_gstate
     → s.tree ≡ tree_in disk ps → IsCompleted disk ps s ops.Recover new rs
 recovery_ends disk ps now chain seen parts kept new rs walk s r fits last alike settled tree =
-    let t = taken_then disk now new ps (chain ++ (kept ++ [])) rs (λ t. t) (λ t. t) (λ d. d) walk r.taken last in
+    let t = taken_then disk now new ps (chain ++ (kept ++ [])) rs (λ t. t) (λ t. t) (λ d. d) walk (ends_same (λ t. t)) r.taken last in
     let are : ps ≡ chain ++ seen = r.are ∙ ap (λ z. chain ++ z) (append-nil seen) in
     let count : superblocks_before ps ≡ length chain = ap superblocks_before r.are ∙ r.was_chain in
     recover_completed disk ps new rs (singles chain ++ parts) s (λ d. walk d) fits t.follows t.writable settled

@@ -21,6 +21,7 @@ use Rattle.lfs_model.proofs.Laws.{Walk}
 use Rattle.lfs_model.proofs.Changes.{Follows}
 use Rattle.lfs_model.proofs.Sites.{any_from}
 use Rattle.lfs_model.proofs.Layouts.{onward_all, NoneGoes, none_goes_left, none_goes_right, none_where, rest_all}
+use Rattle.lfs_model.proofs.KeptStructs.{structs_left, renaming_leaves}
 use Rattle.lfs_model.proofs.Committed.{IsCompleted, recovered_from, nothing_moved}
 use Rattle.lfs_model.proofs.Alike.{AreAlike, stood_alike, Stood, stand_apart}
 use Rattle.lfs_model.proofs.TwoPlaces.{two, splice_old}
@@ -201,4 +202,5 @@ module _ (disk new : Disk) (rs : List Pair) (b : Bool) (chain front mid back : L
     recovered = recovered_from new rs c.follows.accepted c.still;
     tree = λ around. c.follows.shows ∙ sym (ap (λ z. renamed (as_path old_bytes) (as_path new_bytes) z) tree ∙ ap₂ (λ x y. renamed x y (tree_in disk ps)) old_is new_is);
     laid_out = within_onto_laid_out;
+    structs = structs_left disk ps new rs (renamed old_path new_path) c.walk s op c.follows (renaming_leaves (tree_in disk ps) s old_bytes new_bytes old_path new_path old_is new_is);
   }

@@ -10,6 +10,7 @@ use Rattle.lfs_model.specs.Tree.{Path, Tree, directory_at}
 use Rattle.lfs_model.specs.Apply.{rest_after, planted, renamed}
 use Rattle.lfs_model.specs.View.{IsReached, directories_in, entries_in, tree_in}
 use Rattle.lfs_model.specs.PowerLoss.{IsLeft}
+use Rattle.lfs_model.proofs.LeftFiles.{ends_same}
 use Rattle.lfs_model.proofs.Paths.{Rest, beyond, aside, rest, rest_itself}
 use Rattle.lfs_model.proofs.Pairs.{pair_back, pair_on}
 use Rattle.lfs_model.proofs.Edits.{planted_off, planted_on}
@@ -86,7 +87,7 @@ module _ (disk middle new : Disk) (ps : List Pair) (old_path new_path : Path) (d
       go z (inr e) = inr (pair_on z d o.at e (pair_back o.at d address))
 
   pub replacing_taken : IsTaken disk ps new (chain ++ (front ++ y ∷ back)) (renamed old_path new_path) (rename_walk old_path new_path)
-  replacing_taken = taken_then disk middle new ps qs (chain ++ (front ++ y ∷ back)) (renamed old_path new_path) (λ t. t) (rename_walk old_path new_path) (λ z. z) first
+  replacing_taken = taken_then disk middle new ps qs (chain ++ (front ++ y ∷ back)) (renamed old_path new_path) (λ t. t) (rename_walk old_path new_path) (λ z. z) (ends_same (renamed old_path new_path)) first
       (unthread middle new chain front x o y back ready (record {
         device = gone.device;
         no_move = no_move_from (chain ++ (front ++ y ∷ back)) gone.settled;

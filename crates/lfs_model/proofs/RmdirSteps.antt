@@ -16,6 +16,7 @@ use Rattle.lfs_model.specs.Steps.{as_path}
 use Rattle.lfs_model.specs.SlotEdits.{with_slots, slot_of_path}
 use Rattle.lfs_model.specs.Layout.{begin_from, onward}
 use Rattle.lfs_model.specs.PowerLoss.{IsLeft}
+use Rattle.lfs_model.proofs.LeftFiles.{ends_same}
 use Rattle.lfs_model.proofs.Counts.{Each, each_append, each_left, each_right, each_weaker}
 use Rattle.lfs_model.proofs.Pairs.{pair_back, pair_on}
 use Rattle.lfs_model.proofs.Global.{HasNoMove}
@@ -110,7 +111,7 @@ module _ (disk middle new : Disk) (w : Site) (p : Pair) (mids : List Pair) (q : 
       })
 
   pub rmdir_taken : IsTaken disk (thread_at w (p ∷ mids)) new (w.chain ++ (front ++ y ∷ back)) (removed (P ++ u.name ∷ [])) (planted (P ++ u.name ∷ []) (λ t. None))
-  rmdir_taken = taken_then disk middle new ps (thread_at w (q ∷ [])) (w.chain ++ (front ++ y ∷ back)) (removed (P ++ u.name ∷ [])) (λ t. t) (planted (P ++ u.name ∷ []) (λ t. None)) (λ z. z) first
+  rmdir_taken = taken_then disk middle new ps (thread_at w (q ∷ [])) (w.chain ++ (front ++ y ∷ back)) (removed (P ++ u.name ∷ [])) (λ t. t) (planted (P ++ u.name ∷ []) (λ t. None)) (λ z. z) (ends_same (removed (P ++ u.name ∷ []))) first
       (subst (λ z. IsTaken middle z new (w.chain ++ (front ++ y ∷ back)) (λ t. t) (λ z. z)) (sym thread_is) second.taken)
 
   pub rmdir_named : slot_of_path (thread_at w (p ∷ mids)) (P ++ u.name ∷ []) ≡ Some u

@@ -24,6 +24,7 @@ use Rattle.lfs_model.proofs.Rests.{IsMoveEnd}
 use Rattle.lfs_model.proofs.Writable.{IsWithin}
 use Rattle.lfs_model.proofs.Became.{Became, became_within, became_filled, fits_same, cut_some}
 use Rattle.lfs_model.proofs.Writable.{flag}
+use Rattle.lfs_model.proofs.LeftFiles.{Parts}
 use Rattle.lfs_model.proofs.MadeDirectory.{Cut, follows_then}
 use Rattle.lfs_model.proofs.Profiles.{step_writable, drop_writable, beside_writable, set_writable, end_writable}
 
@@ -35,8 +36,8 @@ pub record IsTaken (disk : Disk) (ps : List Pair) (new : Disk) (qs : List Pair) 
   pub writable : IsWritable new qs
 
 -- one after another
-pub taken_then : (a b c : Disk) (ps qs rs : List Pair) (f g : Tree → Tree) (v w : Walk → Walk) → IsTaken a ps b qs f v → IsTaken b qs c rs g w → IsTaken a ps c rs (λ t. g (f t)) (λ d. w (v d))
-taken_then a b c ps qs rs f g v w first second = record { follows = follows_then a b c ps qs rs f g v w first.follows second.follows; writable = second.writable }
+pub taken_then : (a b c : Disk) (ps qs rs : List Pair) (f g : Tree → Tree) (v w : Walk → Walk) → Parts f g → IsTaken a ps b qs f v → IsTaken b qs c rs g w → IsTaken a ps c rs (λ t. g (f t)) (λ d. w (v d))
+taken_then a b c ps qs rs f g v w parts first second = record { follows = follows_then a b c ps qs rs f g v w parts first.follows second.follows; writable = second.writable }
 
 -- the tree is still the one from before, or already the one from after it
 pub taken_before : (disk : Disk) (ps : List Pair) (new : Disk) (qs : List Pair) (walk : Walk → Walk) (after : Tree) → IsTaken disk ps new qs (λ t. t) walk → IsLeft new (tree_in disk ps) after

@@ -9,6 +9,8 @@ use Rattle.lfs_model.specs.Slots.{Slot, gstate_xor}
 use Rattle.lfs_model.specs.Thread.{Pair, blocks_of, gstate_of, starts_with_superblock, superblocks_before, unmoved}
 use Rattle.lfs_model.specs.View.{HasSuperblock, IsListIfCtz, IsAccepted, all_slots, used_blocks}
 use Rattle.lfs_model.proofs.Counts.{Each, each_always, each_both, each_right, count}
+use Rattle.lfs_model.specs.SlotEdits.{slot_of_path}
+use Rattle.lfs_model.proofs.LeftFiles.{stays_same}
 use Rattle.lfs_model.proofs.Changes.{Follows, SameFiles, rearranged_follows, owned_same}
 use Rattle.lfs_model.proofs.Files.{HasSameFile, is_list_same}
 use Rattle.lfs_model.proofs.Global.{gstate_append, gstate_cons}
@@ -85,4 +87,9 @@ module _ (disk new : Disk) (chain : List Pair) (p : Pair) (rest : List Pair) (is
             (each_both (λ s. HasSameFile disk new s.struct) (λ s. IsListIfCtz disk s.struct) (λ s. IsListIfCtz new s.struct) (λ s. is_list_same disk new s.struct device_same.geometry) (all_slots same_pairs)
             files_same (recursion_from_All (λ (s : Slot). IsListIfCtz disk s.struct) (all_slots same_pairs) ok.lists));
       })
-      (λ t. t) (λ d. d) (record { shows = refl; leads = refl; sound = accepted_sound disk same_pairs ok }) ok.branches ok.reached
+      (λ t. t) (λ d. d) (record {
+        shows = refl;
+        leads = refl;
+        sound = accepted_sound disk same_pairs ok;
+        stays = λ q l. stays_same (slot_of_path same_pairs q) (slot_of_path same_pairs q) refl;
+      }) ok.branches ok.reached

@@ -105,3 +105,7 @@ LeavesOnly stops old new P = EachSince (λ e. (disk : Blocks) → stops e disk �
 abbrev pub amended : List Event → Blocks → Bool → List Event
 amended [] after failed = []
 amended (e ∷ older) after failed = event e.call e.before after failed ∷ older
+
+-- the newest call left these blocks
+abbrev pub IsNewest : List Event → Blocks → Type 0
+IsNewest history blocks = (e : Event) (older : List Event) → history ≡ e ∷ older → e.after ≡ blocks

@@ -32,6 +32,7 @@ pub mod Recovery
 pub mod SlotEdits
 pub mod Layout
 pub mod Discipline
+pub mod Keeping
 pub mod InDirectory
 pub mod Run
 pub mod Failure

@@ -5,9 +5,10 @@ ghost use Rattle.lfs_model.specs.Blocks.{Blocks};
 ghost use Rattle.lfs_model.specs.History.{Read, event};
 ghost use Rattle.lfs_model.specs.Fresh.{empty_tree};
 ghost use Rattle.lfs_model.specs.Operations as ops;
-ghost use Rattle.lfs_model.specs.Run.{Moment};
+ghost use Rattle.lfs_model.specs.Operations.{Operation, Reply};
+ghost use Rattle.lfs_model.specs.Run.{Agrees, IsTurn, Moment};
 ghost use Rattle.lfs_model.specs.Failure.{Fails, IsCutShort};
-ghost use Rattle.lfs_model.specs.PowerLoss.{Withstands, IsRestored, IsSafe};
+ghost use Rattle.lfs_model.specs.PowerLoss.{SurvivesStops, Withstands, IsRestored, IsSafe};
 ghost use Rattle.lfs_model.specs.Outages.{IsCutShortWithstood, IsStoppedSince, LosesPower, LosesPowerInTurn};
 ghost use Rattle.lfs_model.specs.Examples.{small_image, appended_image};
 ghost use Rattle.lfs_model.specs.RunExamples.{fresh_moment, failed_moment, no_disk, some_reads};
@@ -40,4 +41,9 @@ pub fn power_is_lost_in_turn()
     ensures not_all { LosesPower small_image no_disk → ⊥ }
     ensures in_a_read { (blocks : Blocks) → IsStoppedSince [] (event (Read 0 0 4) blocks blocks false ∷ []) blocks }
     ensures not_in_none { (blocks : Blocks) → IsStoppedSince [] [] blocks → ⊥ }
+{}
+
+/// What stands at the end of a turn is what the definitions have there, so a turn that survives stops withstands them.
+pub fn surviving_turns_withstand()
+    ensures { (from to : Moment) (op : Operation) (reply : Reply) → Agrees from.disk from.state → IsTurn from op reply to → SurvivesStops from op to → Withstands from op to }
 {}

@@ -1,6 +1,7 @@
 // What operations make of slots, and of the pairs in which they stand.
 
-ghost use Rattle.std.specs.Prelude.{◌≡◌, true, false, List, [], ◌∷◌, ◌++◌, filter, replicate, None, codes};
+ghost use Rattle.std.specs.Prelude.{◌≡◌, true, false, List, [], ◌∷◌, ◌++◌, filter, replicate, Some, None, codes};
+ghost use Rattle.lfs_model.specs.Disk.{Disk};
 ghost use Rattle.lfs_model.specs.Slots.{Inline, Ctz};
 ghost use Rattle.lfs_model.specs.Thread.{Pair};
 ghost use Rattle.lfs_model.specs.Operations as ops;
@@ -10,10 +11,11 @@ ghost use Rattle.lfs_model.specs.Recovery.{recovers};
 ghost use Rattle.lfs_model.specs.SlotEdits.{new_file, new_directory, Stores, Edits};
 ghost use Rattle.lfs_model.specs.Layout.{removed_directories, Stands};
 ghost use Rattle.lfs_model.specs.Discipline.{is_kept, looks_up};
+ghost use Rattle.lfs_model.specs.Keeping.{concerns, stores_at, struct_at, KeepsStructs};
 ghost use Rattle.lfs_model.specs.Run.{only_asks, fills, needs_no_call, renames_to_itself, lays_out};
 ghost use Rattle.lfs_model.specs.Sessions.{for_new, for_read};
 ghost use Rattle.lfs_model.specs.Examples.{small_disk, small_image, large_image};
-ghost use Rattle.lfs_model.specs.RunExamples.{pair_with, directories_with, two_directories, root_with, heavy_file, each_operation, reading_at, writing_at};
+ghost use Rattle.lfs_model.specs.RunExamples.{pair_with, directories_with, two_directories, root_with, heavy_file, listed_file, each_operation, reading_at, writing_at};
 
 /// Which operations recover first, which change where slots stand, and which leave the disk alone.
 pub fn operations_are_told_apart()
@@ -88,4 +90,26 @@ pub fn replaced_directory_goes()
     ensures file { removed_directories two_directories (ops.Remove (codes "/d/a")) ≡ [] }
     ensures replaced { removed_directories two_directories (ops.Rename (codes "/e") (codes "/d")) ≡ (4, 5) ∷ [] }
     ensures itself { removed_directories two_directories (ops.Rename (codes "/d") (codes "/d")) ≡ [] }
+{}
+
+/// Which files an operation is about.
+pub fn operations_concern_files()
+    ensures beneath { concerns (ops.Remove (codes "/d")) (codes "d" ∷ codes "a" ∷ []) ≡ true }
+    ensures onto { concerns (ops.Rename (codes "/a") (codes "/b")) (codes "b" ∷ []) ≡ true }
+    ensures beside { concerns (ops.Rename (codes "/d/a") (codes "/d/b")) (codes "d" ∷ codes "z" ∷ []) ≡ false }
+    ensures none { filter (λ op. concerns op (codes "b" ∷ [])) each_operation ≡ ops.Remove (codes "/b") ∷ ops.Rename (codes "/a") (codes "/b") ∷ [] }
+
+    // A sync and a close are about the file that is open, and no other operation stores one.
+    ensures stored { filter (λ op. stores_at (writing_at (codes "b" ∷ []) true []) op (codes "b" ∷ [])) each_operation ≡ ops.Sync 0 ∷ ops.Close 0 ∷ [] }
+    ensures elsewhere { stores_at (writing_at (codes "b" ∷ []) true []) (ops.Sync 0) (codes "a" ∷ []) ≡ false }
+    ensures not_open { stores_at (writing_at (codes "b" ∷ []) true []) (ops.Sync 1) (codes "b" ∷ []) ≡ false }
+{}
+
+/// Files that an operation isn't about keep their structs, and not only their bytes.
+pub fn structs_are_kept()
+    ensures committed { (disk : Disk) → KeepsStructs disk (root_with (codes "a") []) (writing_at (codes "a" ∷ []) true (codes "hi")) (ops.Sync 0) (root_with (codes "a") (codes "hi")) }
+    ensures changed { (disk : Disk) → KeepsStructs disk (root_with (codes "a") []) (mounted empty_tree) (ops.Mkdir (codes "/d")) (root_with (codes "a") (codes "hi")) → ⊥ }
+    ensures other_list { (disk : Disk) → KeepsStructs disk (directories_with [] (listed_file (codes "a") 8 8189 ∷ [])) (mounted empty_tree) (ops.Remove (codes "/d/z"))
+        (directories_with [] (listed_file (codes "a") 9 8189 ∷ [])) → ⊥ }
+    ensures same_list { struct_at (directories_with [] (listed_file (codes "a") 8 8189 ∷ [])) (codes "d" ∷ codes "a" ∷ []) ≡ Some (Ctz 8 8189) }
 {}

@@ -1,0 +1,101 @@
+-- Files that an operation isn't about keep their structs.
+use Rattle.std.proofs.Common.{ℕ, ◌≡◌, Bool, true, false, ◌||◌, List, [], Option, Some, None, refl, sym, ap, ◌∙◌}
+use Rattle.std.specs.Prelude.{is_some}
+use Rattle.std.specs.Option.{option_map}
+use Rattle.lfs_model.specs.Disk.{Disk}
+use Rattle.lfs_model.specs.Slots.{Slot, Struct, Inline, Ctz, Branch, Attributes}
+use Rattle.lfs_model.specs.Thread.{Pair}
+use Rattle.lfs_model.specs.Tree.{Path, Node, Tree, branch_of, node_of}
+use Rattle.lfs_model.specs.View.{contents_in, entries_in, tree_in}
+use Rattle.lfs_model.specs.Apply.{same_path, rest_after, is_file, added, removed, renamed, change_at}
+use Rattle.lfs_model.specs.Operations as ops
+use Rattle.lfs_model.specs.Operations.{Operation}
+use Rattle.lfs_model.specs.Session.{Session, Writing, Writer, file_of}
+use Rattle.lfs_model.specs.Steps.{as_path, with_bytes}
+use Rattle.lfs_model.specs.SlotEdits.{slot_of_path}
+use Rattle.lfs_model.specs.Keeping.{concerns, is_open_at, stores_at, struct_at, KeepsStructs}
+use Rattle.lfs_model.proofs.Paths.{Paths, path_alike, path_unlike, paths}
+use Rattle.lfs_model.proofs.Trees.{not_before}
+use Rattle.lfs_model.proofs.Laws.{Walk}
+use Rattle.lfs_model.proofs.LeftFiles.{LeavesBytes, StaysFile, added_leaves, removed_leaves, renamed_leaves, change_leaves}
+use Rattle.lfs_model.proofs.Changes.{Follows}
+
+-- what the change makes of a tree leaves the bytes of the files that the operation isn't about
+abbrev pub LeavesFiles : Tree → Session → Operation → (Tree → Tree) → Type 0
+LeavesFiles t s op change = (q : Path) → is_file (t q) ≡ true → concerns op q ≡ false → stores_at s op q ≡ false → LeavesBytes change q
+
+-- where a tree shows a file there is a file's slot
+pub struct_stays : (disk : Disk) (ps qs : List Pair) (q : Path) → is_file (tree_in disk ps q) ≡ true → StaysFile (slot_of_path ps q) (slot_of_path qs q) → struct_at qs q ≡ struct_at ps q
+struct_stays disk ps qs q file stays = go (slot_of_path ps q) refl file
+  where
+    none : (attributes : Attributes) (t : Struct) → is_file (Some (node_of (contents_in disk) (entries_in ps) attributes t)) ≡ true → branch_of t ≡ None
+    none attributes (Inline bytes) e = refl
+    none attributes (Ctz head size) e = refl
+    none attributes (Branch to) e = absurd (cc)
+
+    go : (o : Option Slot) → slot_of_path ps q ≡ o → is_file (option_map (λ (u : Slot). node_of (contents_in disk) (entries_in ps) u.attributes u.struct) o) ≡ true → struct_at qs q ≡ struct_at ps q
+    go None e h = absurd (cc)
+    go (Some u) e h =
+        let k = stays u e (none u.attributes u.struct h) in
+        ap (option_map (λ (z : Slot). z.struct)) k.1.0 ∙ ap Some k.1.1 ∙ sym (ap (option_map (λ (z : Slot). z.struct)) e)
+
+pub structs_left : (disk : Disk) (ps : List Pair) (new : Disk) (qs : List Pair) (change : Tree → Tree) (walk : Walk → Walk) (s : Session) (op : Operation) →
+    Follows disk ps new qs change walk → LeavesFiles (tree_in disk ps) s op change → KeepsStructs disk ps s op qs
+structs_left disk ps new qs change walk s op follows leaves q file off elsewhere = struct_stays disk ps qs q file (follows.stays q (leaves q file off elsewhere))
+
+-- ---- the operations
+
+none_left : {A : Type 0} (o : Option A) → is_some o ≡ false → o ≡ None
+none_left None e = refl
+none_left (Some x) e = absurd (cc)
+
+neither : (a b : Bool) → (a || b) ≡ false → (a ≡ false) × (b ≡ false)
+neither true b e = absurd (cc)
+neither false b e = (refl, e)
+
+-- an entry comes where none was
+pub creation_leaves : (t : Tree) (s : Session) (op : Operation) (p : Path) (node : Node) → t p ≡ None → LeavesFiles t s op (added p node)
+creation_leaves t s op p node absent q file off elsewhere = go (paths p q)
+  where
+    go : Paths p q → LeavesBytes (added p node) q
+    go (path_alike e f) = absurd (let k = sym (ap (λ z. is_file (t z)) (sym e) ∙ ap is_file absent) ∙ file in cc)
+    go (path_unlike n f) = added_leaves p node q f
+
+pub removal_leaves : (t : Tree) (s : Session) (path : List ℕ) (p : Path) → as_path path ≡ p → LeavesFiles t s (ops.Remove path) (removed p)
+removal_leaves t s path p is q file off elsewhere = removed_leaves p q (not_before p q (none_left (rest_after p q) (ap (λ z. is_some (rest_after z q)) (sym is) ∙ off)))
+
+pub renaming_leaves : (t : Tree) (s : Session) (old_bytes new_bytes : List ℕ) (old new : Path) → as_path old_bytes ≡ old → as_path new_bytes ≡ new →
+    LeavesFiles t s (ops.Rename old_bytes new_bytes) (renamed old new)
+renaming_leaves t s old_bytes new_bytes old new old_is new_is q file off elsewhere =
+    let both = neither (is_some (rest_after (as_path old_bytes) q)) (is_some (rest_after (as_path new_bytes) q)) off in
+    renamed_leaves old new q (none_left (rest_after old q) (ap (λ z. is_some (rest_after z q)) (sym old_is) ∙ both.0))
+    (none_left (rest_after new q) (ap (λ z. is_some (rest_after z q)) (sym new_is) ∙ both.1))
+
+-- a writer's contents come into its own slot
+pub storing_leaves : (s : Session) (fd : ℕ) (writer : Writer) (p : Path) (bytes : List ℕ) → file_of s.files fd ≡ Some (Writing writer) → writer.path ≡ p →
+    (q : Path) → is_open_at (file_of s.files fd) q ≡ false → LeavesBytes (change_at p (with_bytes bytes)) q
+storing_leaves s fd writer p bytes opened is q elsewhere =
+    change_leaves p (with_bytes bytes) q (ap (λ z. same_path z q) (sym is) ∙ ap (λ o. is_open_at o q) (sym opened) ∙ elsewhere)
+
+-- with no open file nothing is stored
+pub none_stored : (t : Tree) (op : Operation) (q : Path) → stores_at (record { tree = t; files = [] }) op q ≡ false
+none_stored t (ops.Open path flags) q = refl
+none_stored t (ops.Read fd count) q = refl
+none_stored t (ops.Write fd bytes) q = refl
+none_stored t (ops.Seek fd position) q = refl
+none_stored t (ops.Truncate fd size) q = refl
+none_stored t (ops.Sync fd) q = refl
+none_stored t (ops.Close fd) q = refl
+none_stored t (ops.Mkdir path) q = refl
+none_stored t (ops.Remove path) q = refl
+none_stored t (ops.Rename old new) q = refl
+none_stored t (ops.ListAll path) q = refl
+none_stored t (ops.Stat path) q = refl
+none_stored t (ops.GetAttr path kind) q = refl
+none_stored t (ops.SetAttr path kind bytes) q = refl
+none_stored t (ops.RemoveAttr path kind) q = refl
+none_stored t ops.AskGstate q = refl
+none_stored t (ops.IsUsed block) q = refl
+none_stored t ops.UsedCount q = refl
+none_stored t ops.Recover q = refl
+none_stored t ops.Remount q = refl

@@ -56,6 +56,7 @@ pub mod MovRename
 pub mod MovLater
 pub mod RecoverShares
 pub mod RecoverPlaced
+pub mod RecoverLists
 pub mod RecoverLoop
 pub mod RecoverSteps
 pub mod RecoverUnderWay
@@ -75,5 +76,6 @@ pub mod RecoverEnded
 pub mod OntoGone
 pub mod OntoWithin
 pub mod OntoTelling
+pub mod OntoWritten
 pub mod OntoPieces
 pub mod OntoAcross

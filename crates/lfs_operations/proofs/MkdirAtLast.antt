@@ -19,7 +19,7 @@ use Rattle.lfs_model.proofs.Moves.{IsStep, place_at}
 use Rattle.lfs_model.proofs.Beside.{last_site, IsStepBeside, threaded}
 use Rattle.lfs_model.proofs.Alike.{AreAlike, alike_itself}
 use Rattle.lfs_model.proofs.Committed.{IsCompleted, recovered_from}
-use Rattle.lfs_model.proofs.MadeDirectory.{Cut, IsMkdir, mkdir_completed}
+use Rattle.lfs_model.proofs.MadeDirectory.{Cut, IsMkdir, mkdir_completed, none_there}
 use Rattle.lfs_model.proofs.Became.{Became}
 use Rattle.lfs_model.proofs.Profiles.{step_writable}
 use Rattle.lfs_model.proofs.Chained.{InTwo, mkdir_in_two}
@@ -83,6 +83,7 @@ module _ (disk middle new : Disk) (chain before left after : List Pair) (x y f :
     walk = both.walk_on;
     follows = both.end;
     still_writable = second;
+    absent = sym (ap (λ t. t (P ++ name ∷ [])) both.between.shows) ∙ none_there middle (thread_at there (y ∷ [])) P a (place_at there l) name leads2 place;
     was = sym same_slots ∙ put2.was;
     at = step2.shape.at ∙ step.shape.at;
     is = put2.is;

@@ -1,8 +1,8 @@
 -- The first step of a rename across pairs, as a step of the thread, and what the second one makes of it.
 use Rattle.std.proofs.Common.{ℕ, ◌≡◌, ◌≢◌, ◌+◌, ◌-◌, ◌<◌, ◌≤◌, ◌⊎◌, inl, inr, Bool, true, false, cond, take, List, [], ◌∷◌, ◌++◌, length, Option, Some, refl, sym, ap, ap₂, subst, ◌∙◌, arith, append_assoc, length-append, get_or, set, remove}
-use Rattle.std.proofs.lemmas.Bool.{cases_lt, le-ltb, lt-ltb}
+use Rattle.std.proofs.lemmas.Bool.{le-ltb, lt-ltb}
 use Rattle.lfs_model.specs.Blocks.{Blocks}
-use Rattle.lfs_model.specs.BlockSets.{AreUsed, IsFree}
+use Rattle.lfs_model.specs.BlockSets.{AreUsed}
 use Rattle.lfs_model.specs.BlockSets.BlockState.{Free, InFlight}
 use Rattle.lfs_model.specs.Changes.{Change}
 use Rattle.lfs_model.specs.Content.{content_after_all, holder, no_content, raw_at}
@@ -23,6 +23,7 @@ use Rattle.lfs_model.specs.Steps.{as_path}
 use Rattle.lfs_model.specs.View.{directories_in, IsAccepted, IsWritable, all_slots, file_blocks, tree_in, used_blocks}
 use Rattle.std.specs.List.{flat_map}
 use Rattle.lfs_model.proofs.Alike.{AreAlike}
+use Rattle.lfs_model.proofs.LeftFiles.{ends_same}
 use Rattle.lfs_model.proofs.Changes.{Follows, rearranged_chain}
 use Rattle.lfs_model.proofs.Committed.{IsCompleted}
 use Rattle.lfs_model.proofs.Counts.{count, count_append, count_here, once_from_distinct}
@@ -76,7 +77,7 @@ only_left [] [] u e = refl
 only_left [] (s ∷ r) u e = absurd (omega arith)
 only_left (s ∷ l) r u e = absurd (let k = length-append l (u ∷ r) in omega arith)
 
-blocks_alike : (xs ys : List Pair) → AreAlike xs ys → blocks_of ys ≡ blocks_of xs
+pub blocks_alike : (xs ys : List Pair) → AreAlike xs ys → blocks_of ys ≡ blocks_of xs
 blocks_alike [] [] h = refl
 blocks_alike [] (y ∷ ys) h = absurd h
 blocks_alike (x ∷ xs) [] h = absurd h
@@ -358,45 +359,13 @@ module _ (t : Kept) (sync : Bool) (old_pair : ℕ) (goes : Bool) (new_pair : ℕ
                 (subst (λ b. AreAlike (pairs_ended mid index (length lo) b) last.pairs) is e.alike);
           }
 
-      -- each block of a pair was one of a pair, or was free
-      pub last_blocks : (b : ℕ) → 1 ≤ count b (blocks_of last.pairs) → (1 ≤ count b (blocks_of t.pairs)) ⊎ IsFree t.map b
-      last_blocks b some = go (cases_lt 0 (count b (blocks_of x.more)))
-        where
-          few : (os : List Pair) → OldStays (from_old arr.b arr.front arr.mid p) o (lo ++ ro) os → count b (blocks_of os) ≤ count b (blocks_of (o ∷ []))
-          few [] h = omega arith
-          few (y ∷ []) h = let e = ap (λ (at : ℕ × ℕ). count b (at.0 ∷ at.1 ∷ [])) h.0 in omega arith
-          few (y ∷ z ∷ os) h = absurd h
-
-          go : (0 < count b (blocks_of x.more)) ⊎ (count b (blocks_of x.more) ≤ 0) → (1 ≤ count b (blocks_of t.pairs)) ⊎ IsFree t.map b
-          go (inl l) = inr (x.fresh b l)
-          go (inr l) = inl (
-              let a1 = ap (count b) (blocks_alike (w.chain ++ (arr.pre ++ (left_over.os ++ arr.post))) last.pairs left_over.alike) in
-              let b1 = blocks_append w.chain (arr.pre ++ (left_over.os ++ arr.post)) b in
-              let b2 = blocks_append arr.pre (left_over.os ++ arr.post) b in
-              let b3 = blocks_append left_over.os arr.post b in
-              let f = few left_over.os left_over.stays in
-              let c0 = ap (λ z. count b (blocks_of z)) arr.mid_is in
-              let c1 = blocks_append w.chain (arr.pre ++ o ∷ arr.post) b in
-              let c2 = blocks_append arr.pre (o ∷ arr.post) b in
-              let c3 = blocks_append (o ∷ []) arr.post b in
-              let d1 = blocks_append w.chain (dirs_at w (x.q ∷ x.more)) b in
-              let d2 = blocks_append (w.before ++ w.left) (x.q ∷ x.more ++ (w.right ++ w.after)) b in
-              let d3 = blocks_append (x.q ∷ []) (x.more ++ (w.right ++ w.after)) b in
-              let d4 = blocks_append x.more (w.right ++ w.after) b in
-              let e1 = blocks_append w.chain (dirs_at w (p ∷ [])) b in
-              let e2 = blocks_append (w.before ++ w.left) (p ∷ [] ++ (w.right ++ w.after)) b in
-              let e3 = blocks_append (p ∷ []) (w.right ++ w.after) b in
-              let at = ap (λ (at : ℕ × ℕ). count b (at.0 ∷ at.1 ∷ [])) x.turned.at in
-              let t0 = ap (λ z. count b (blocks_of z)) k.turn.there in
-              omega arith)
-
       second : IsTaken mid.disk (thread_at w (x.q ∷ x.more)) last.disk last.pairs (λ t. t) (λ d. d)
       second = subst (λ z. IsTaken mid.disk z last.disk last.pairs (λ t. t) (λ d. d)) x.pairs e.taken
 
       -- both steps
       pub last_taken : IsTaken t.disk t.pairs last.disk last.pairs (renamed old_path new_path) (walk_by old_path new_path)
       last_taken = subst (λ z. IsTaken t.disk z last.disk last.pairs (renamed old_path new_path) (walk_by old_path new_path)) (sym k.turn.there)
-          (taken_then t.disk mid.disk last.disk (thread_at w (p ∷ [])) (thread_at w (x.q ∷ x.more)) last.pairs (renamed old_path new_path) (λ t. t) (walk_by old_path new_path) (λ d. d) taken second)
+          (taken_then t.disk mid.disk last.disk (thread_at w (p ∷ [])) (thread_at w (x.q ∷ x.more)) last.pairs (renamed old_path new_path) (λ t. t) (walk_by old_path new_path) (λ d. d) (ends_same (renamed old_path new_path)) taken second)
 
       pub last_firsts : firsts (directories_in last.pairs) ≡ firsts (directories_in t.pairs)
       last_firsts = e.begins ∙ ap (λ z. firsts (directories_in z)) x.pairs

@@ -1,11 +1,10 @@
 -- A rename across pairs onto an empty directory: where the directory's pair stands after the move, and what the last step comes to.
-use Rattle.std.proofs.Common.{ℕ, zero, suc, ◌≡◌, ◌≢◌, ◌≤◌, ◌<◌, ◌⊎◌, inl, inr, ◌+◌, ◌-◌, Bool, true, false, cond, nat_eq, slice_get, take, List, [], ◌∷◌, ◌++◌, length, map, Some, None, sym, ap, ap₂, subst, ◌∙◌, arith, append_assoc, append-nil}
+use Rattle.std.proofs.Common.{ℕ, zero, suc, ◌≡◌, ◌≢◌, ◌<◌, ◌⊎◌, inl, inr, ◌+◌, ◌-◌, Bool, true, false, cond, nat_eq, slice_get, take, List, [], ◌∷◌, ◌++◌, length, map, Some, None, sym, ap, ap₂, subst, ◌∙◌, arith, append_assoc, append-nil}
 use Rattle.std.specs.List.{AllByRecursion, IsDistinct}
 use Rattle.std.specs.Prelude.{Any}
 use Rattle.std.proofs.lemmas.List.Elements.{recursion_from_All}
 use Rattle.std.proofs.lemmas.Option.{same_Some}
 use Rattle.lfs_model.specs.Apply.{last_name, renamed, rest_after, same_path}
-use Rattle.lfs_model.specs.BlockSets.{IsFree}
 use Rattle.lfs_model.specs.Blocks.{Blocks}
 use Rattle.lfs_model.specs.Changes.{Change}
 use Rattle.lfs_model.specs.InDirectory.{BeginsAt, Stands}
@@ -52,7 +51,7 @@ use Rattle.lfs_operations.specs.Moving.{CanReplaceDirectory, HasEnded, IsMovedOn
 use Rattle.lfs_operations.specs.Removing.{goes_whole}
 use Rattle.lfs_operations.proofs.Held.{below, fits_there}
 use Rattle.lfs_operations.proofs.MovReplace.{is_first, onto_directory}
-use Rattle.lfs_operations.proofs.MovStep.{IsFirst, IsLeftOver, arr, first_turned, last_blocks, last_firsts, last_flying, last_kept, last_shape, last_size, last_state, last_taken, last_used, left_over}
+use Rattle.lfs_operations.proofs.MovStep.{IsFirst, IsLeftOver, arr, first_turned, last_firsts, last_flying, last_kept, last_shape, last_size, last_state, last_taken, last_used, left_over}
 use Rattle.lfs_operations.proofs.MovTurned.{TurnedTo}
 use Rattle.lfs_operations.proofs.MovAcross.{Arranged}
 use Rattle.lfs_operations.proofs.OntoGone.{IsReplacing, alike_end, can_drop_replaced, left_last, replaced_by, replaced_shrunk, taken_end}
@@ -447,9 +446,6 @@ module _ (t : Kept) (old_pair old_id first new_pair new_id : ℕ) (name : Name) 
       go (y ∷ ys) h (inl k) = absurd (let z = sym h.0 ∙ ap (λ (z : Pair). same_pair z.at o.at) k ∙ pair_itself o.at in cc)
       go (y ∷ ys) h (inr k) = go ys h.1 k
 
-  pub blocks_across : (b : ℕ) → 1 ≤ count b (blocks_of m.pairs) → (1 ≤ count b (blocks_of t.pairs)) ⊎ IsFree t.map b
-  blocks_across b some = last_blocks t true old_pair goes new_pair changes wo q0 lo s ro w p l (Some g) v r from to name first_step is.mid x m e b some
-
 -- ---- after the slot was read
 
 module _ (t : Kept) (old_pair old_id first new_pair new_id : ℕ) (name : Name) (gone : ℕ) (rename : CanReplaceDirectory t old_pair old_id first new_pair new_id name gone)
@@ -487,9 +483,6 @@ module _ (t : Kept) (old_pair old_id first new_pair new_id : ℕ) (name : Name) 
 
   pub not_nowhere_later : AllByRecursion (λ z. same_pair z.at (pair_in t gone).at ≡ false) m.pairs → ⊥
   not_nowhere_later = not_nowhere later old_pair old_id first new_pair new_id name gone there_later address_later m done_later
-
-  pub blocks_later : (b : ℕ) → 1 ≤ count b (blocks_of m.pairs) → (1 ≤ count b (blocks_of t.pairs)) ⊎ IsFree t.map b
-  blocks_later b some = blocks_across later old_pair old_id first new_pair new_id name gone there_later address_later m done_later b some
 
   module _ (n : ℕ) (at : BeginsAt m.pairs (pair_in t gone).at n) where
     pub can_drop_later : CanDropAt m n no_gstate

@@ -1,16 +1,11 @@
 -- What the steps of a rename onto a directory tell, write and leave, one after the other.
-use Rattle.std.proofs.Common.{ℕ, zero, suc, ◌≡◌, ◌≢◌, ◌≤◌, ◌-◌, ◌<◌, ◌⊎◌, inl, inr, Bool, true, false, List, [], ◌∷◌, length, arith, Result, Ok, sym, ap, subst, ◌∙◌, get_or}
-use Rattle.std.specs.Prelude.{Contains}
-use Rattle.std.proofs.lemmas.List.Elements.{All-from_recursion, recursion_from_All}
+use Rattle.std.proofs.Common.{ℕ, ◌≡◌, ◌-◌, ◌<◌, ◌⊎◌, inl, inr, Bool, true, false, List, length, arith, Result, Ok, sym, ap, subst, ◌∙◌, get_or}
 use Rattle.lfs_device.specs.declared.error.Error.{Error}
 use Rattle.lfs_model.specs.Blocks.{Blocks}
-use Rattle.lfs_model.specs.BlockSets.{IsFree}
 use Rattle.lfs_model.specs.History.{faults}
-use Rattle.lfs_model.proofs.BlockSets.{Contains-count}
-use Rattle.lfs_model.proofs.Counts.{count, count_append, count_here, each_weaker}
 use Rattle.lfs_model.specs.PowerLoss.{IsLeft as IsLeftOf, Survives, with_blocks}
 use Rattle.lfs_model.specs.Slots.{no_gstate}
-use Rattle.lfs_model.specs.Thread.{Pair, blocks_of}
+use Rattle.lfs_model.specs.Thread.{Pair}
 use Rattle.lfs_model.specs.Tree.{Tree}
 use Rattle.lfs_model.proofs.AfterStops.{survives_then}
 use Rattle.lfs_model.proofs.Histories.{LeavesOnly-weaker}
@@ -20,10 +15,10 @@ use Rattle.lfs_thread.specs.Kept.{Kept, State}
 use Rattle.lfs_thread.specs.Steps.{IsChanged, IsOnlyRead, Writes, no_pair, pair_in}
 use Rattle.lfs_operations.specs.Dropping.{IsLeftByDrop}
 use Rattle.lfs_operations.specs.Changing.{has_failed}
-use Rattle.lfs_operations.specs.Moving.{TellsInSteps, WritesAmong, WritesInTwo, end_at, left_at}
+use Rattle.lfs_operations.specs.Moving.{TellsInSteps, WritesInTwo, end_at, left_at}
 use Rattle.lfs_operations.specs.Removing.{TellsOfCalls, goes_whole}
 use Rattle.lfs_operations.specs.RenamingOver.{TellsOver, TellsOverSteps}
-use Rattle.lfs_operations.proofs.UnlinkedSteps.{at_kept, writes_both, writes_trans, writes_wider}
+use Rattle.lfs_operations.proofs.UnlinkedSteps.{at_kept, writes_both}
 
 pub over_from : {X : Type 0} (old new : State) (result : Result X Error) → TellsOver old new result → TellsOverSteps old new result
 over_from old new result h = record { failed = h.failed; errors = h.told.errors; fault = h.told.fault; no_fault = h.told.no_fault }
@@ -58,60 +53,6 @@ works_after old new index changes r x h is = go h.failed
     go : (new.failed ≡ has_failed r) ⊎ ((new.failed ≡ false) × IsOnlyRead old.kept new.kept) → new.failed ≡ false
     go (inl e) = e ∙ ap has_failed is
     go (inr e) = e.0
-
-there_counted : (xs : List Pair) (i : ℕ) (d : Pair) → i < length xs → (b : ℕ) → 1 ≤ count b (two_of (get_or xs i d).at) → 1 ≤ count b (blocks_of xs)
-there_counted [] i d l b h = absurd (omega arith)
-there_counted (x ∷ xs) zero d l b h = let e = count_append b (x.at.0 ∷ x.at.1 ∷ []) (blocks_of xs) in omega arith
-there_counted (x ∷ xs) (suc i) d l b h = let k = there_counted xs i d (omega arith) b h in let e = count_append b (x.at.0 ∷ x.at.1 ∷ []) (blocks_of xs) in omega arith
-
-abbrev OfPairs : Kept → ℕ → Type 0
-OfPairs t b = Contains (blocks_of t.pairs) b ⊎ IsFree t.map b
-
-of_pair : (t : Kept) (i : ℕ) → i < length t.pairs → OfPairs t (pair_in t i).at.0 × OfPairs t (pair_in t i).at.1
-of_pair t i l =
-    let at = (pair_in t i).at in
-    let a = count_here at.0 (at.1 ∷ []) in
-    let c = count_here at.1 [] in
-    let d = count_append at.1 (at.0 ∷ []) (at.1 ∷ []) in (
-      inl (Contains-count (blocks_of t.pairs) at.0 (there_counted t.pairs i no_pair l at.0 (omega arith))),
-      inl (Contains-count (blocks_of t.pairs) at.1 (there_counted t.pairs i no_pair l at.1 (omega arith))),
-    )
-
-pub writes_one : (t m : Kept) (one other : ℕ) → one < length t.pairs → other < length t.pairs → WritesInTwo t one other m → WritesAmong t m
-writes_one t m one other l k w =
-    let a = of_pair t other k in
-    let c = of_pair t one l in
-    record {
-      blocks = (pair_in t other).at.0 ∷ (pair_in t other).at.1 ∷ (pair_in t one).at.0 ∷ (pair_in t one).at.1 ∷ w.fresh;
-      each = (a.0, (a.1, (c.0, (c.1, each_weaker (IsFree t.map) (OfPairs t) (λ b f. inr f) w.fresh w.free))));
-      writes = w.writes;
-    }
-
--- and a pair of the thread then
-pub writes_last : (t m new : Kept) (one other n : ℕ) → one < length t.pairs → other < length t.pairs → n < length m.pairs → ((b : ℕ) → 1 ≤ count b (blocks_of m.pairs) → (1 ≤ count b (blocks_of t.pairs)) ⊎ IsFree t.map b)
-    → WritesInTwo t one other m → Writes (two_of (pair_in m n).at) m new → WritesAmong t new
-unfolding writes_one
-writes_last t m new one other n l k below of first second =
-    let w = writes_one t m one other l k first in
-    let at = (pair_in m n).at in
-    let a = count_here at.0 (at.1 ∷ []) in
-    let c = count_here at.1 [] in
-    let d = count_append at.1 (at.0 ∷ []) (at.1 ∷ []) in
-    let bs = at.0 ∷ at.1 ∷ w.blocks in
-    record {
-      blocks = bs;
-      each = (
-        one_of at.0 (of at.0 (there_counted m.pairs n no_pair below at.0 (omega arith))),
-        (one_of at.1 (of at.1 (there_counted m.pairs n no_pair below at.1 (omega arith))), w.each),
-      );
-      writes = writes_trans
-          (writes_wider bs (λ b h. (let z = recursion_from_All (λ c. c ≢ b) bs h in All-from_recursion (λ c. c ≢ b) w.blocks z.1.1)) w.writes)
-          (writes_wider bs (λ b h. (let z = recursion_from_All (λ c. c ≢ b) bs h in All-from_recursion (λ c. c ≢ b) (two_of at) (z.0, (z.1.0, tt)))) second);
-    }
-  where
-    one_of : (b : ℕ) → (1 ≤ count b (blocks_of t.pairs)) ⊎ IsFree t.map b → OfPairs t b
-    one_of b (inl h) = inl (Contains-count (blocks_of t.pairs) b h)
-    one_of b (inr h) = inr h
 
 pub left_below : (t : Kept) (pair first : ℕ) → pair < length t.pairs → left_at t pair first < length t.pairs
 left_below t pair first l = go (goes_whole t pair first)

@@ -12,12 +12,12 @@ use Rattle.lfs_model.specs.PowerLoss.{IsLeft as IsLeftOf, Survives, with_blocks}
 use Rattle.lfs_model.specs.Layout.{onward}
 use Rattle.lfs_model.specs.Recovery.{IsRecovered}
 use Rattle.lfs_model.specs.Slots.{Gstate, Slot, no_gstate}
-use Rattle.lfs_model.specs.Thread.{Links, Listing, Pair, anchor, directory_pairs, gstate_of, is_hard, starts_with_superblock, superblocks_before}
+use Rattle.lfs_model.specs.Thread.{Links, Listing, Pair, anchor, blocks_of, directory_pairs, gstate_of, is_hard, starts_with_superblock, superblocks_before}
 use Rattle.lfs_model.specs.View.{IsAccepted, IsReached, IsWritable, all_slots, directories_in, file_blocks, tree_in}
 use Rattle.lfs_model.proofs.AfterStops.{survives_then}
 use Rattle.lfs_model.proofs.Alike.{AreAlike, alike_itself}
-use Rattle.lfs_model.proofs.Changes.{SameFiles}
-use Rattle.lfs_model.proofs.Counts.{Each, each_always, each_weaker}
+use Rattle.lfs_model.proofs.Changes.{SameFiles, follows_itself}
+use Rattle.lfs_model.proofs.Counts.{Each, count, each_always, each_weaker}
 use Rattle.lfs_model.proofs.Files.{HasSameFile}
 use Rattle.lfs_model.proofs.Global.{HasNoMove}
 use Rattle.lfs_model.proofs.Histories.{LeavesOnly-weaker}
@@ -29,13 +29,14 @@ use Rattle.lfs_model.proofs.StepsTaken.{IsTaken}
 use Rattle.lfs_model.proofs.Superblocks.{pairs_behind}
 use Rattle.lfs_thread.specs.Device.{StopsLeave}
 use Rattle.lfs_thread.specs.Kept.{Kept, State}
-use Rattle.lfs_thread.specs.Steps.{IsChanged, IsLeft, IsWrittenAs, with_pair}
-use Rattle.lfs_operations.specs.Recovering.{AreUnreached, AreUnreachedFrom, CanClearSync, CanSetState, HasRecovered, IsCleared, TellsOfSteps, setting, share_of}
+use Rattle.lfs_thread.specs.Steps.{IsChanged, IsLeft, IsWrittenAs, Writes, with_pair}
+use Rattle.lfs_operations.specs.Recovering.{AreUnreached, AreUnreachedFrom, CanClearSync, CanSetState, HasRecovered, IsCleared, TellsOfSteps, list_blocks_at, setting, share_of, slots_at}
 use Rattle.lfs_operations.specs.Dropping.{SameInFlight}
 use Rattle.lfs_operations.specs.Removing.{TellsOfCalls}
 use Rattle.lfs_operations.proofs.Removed.{tells_again}
+use Rattle.lfs_operations.proofs.RecoverLists.{each_at, files_kept, told_once}
 use Rattle.lfs_operations.proofs.RecoverLoop.{EachBegins, IsAtDrop, IsAtEnd, all_where, begins_weaker, goes_to}
-use Rattle.lfs_operations.proofs.RecoverMap.{HasMap, files_stay, map_stays}
+use Rattle.lfs_operations.proofs.RecoverMap.{HasMap, alike_blocks, files_stay, map_stays}
 use Rattle.lfs_operations.proofs.RecoverShares.{none_fits, set_content, set_made}
 use Rattle.lfs_operations.proofs.RecoverSteps.{CanClear, clear_alike, clear_left, clear_pairs, clear_state, clear_taken, device_on, h, y}
 use Rattle.lfs_operations.proofs.RecoverUnderWay.{IsUnderWay, StaysOn}
@@ -66,7 +67,7 @@ module _ (t : Kept) (can : CanClearSync t) where
 
   pub cleared_already : (gstate_of t.pairs).sync ≡ false → IsCleared t t
   cleared_already s = record {
-    taken = record { follows = record { accepted = can.accepted; root = refl; shows = refl; leads = refl }; writable = can.writable };
+    taken = record { follows = follows_itself t.disk t.pairs can.accepted; writable = can.writable };
     alike = alike_itself t.pairs;
     settled = none_is (gstate_of t.pairs) can.none s;
     map = refl;
@@ -144,20 +145,21 @@ module _ (old now : Kept) (dropped : ℕ) (u : IsUnderWay old now dropped []) wh
   pub shows_now : tree_in now.disk now.pairs ≡ tree_in old.disk old.pairs
   shows_now = ap (tree_in now.disk) e.way.there ∙ e.way.is.taken.follows.shows
 
-  pub ends : IsWritable old.disk old.pairs → 1024 ≤ old.disk.block_size → (new : Kept) → StaysOn now new → IsCleared now new → HasRecovered old new
-  ends fits large new on c = record {
-    gone = u.gone;
+  pub ends : IsWritable old.disk old.pairs → 1024 ≤ old.disk.block_size → (new : Kept) (numbers : List ℕ) → AreUnreached old.pairs numbers → Writes (blocks_of old.pairs) old new → StaysOn now new → IsCleared now new → HasRecovered old numbers new
+  ends fits large new numbers told writes on c = record {
     ready = record {
       accepted = c.taken.follows.accepted;
       writable = c.taken.writable;
       settled = c.settled;
-      used = record { owned = m.owned; are = m.are; same = λ b. let s = m.same b in omega arith };
+      used = record { owned = m.owned; are = m.are; same = λ b. let s = m.same b in let g = ap (count b) all_gone in omega arith };
       size = m.size;
       large = let a = on.shape.block_size in let b = u.device.shape.block_size in omega arith;
     };
-    lost = λ b. let l = u.lost b in let f = files_stay now new c.alike can_end.none still geometry files b in omega arith;
-    none_gone = u.none_gone;
-    once = λ b. let s = m.same b in let o = m.once b in omega arith;
+    stand = All-from_recursion (λ (s : Slot). HasSameFile old.disk new.disk s.struct) (slots_at old.pairs numbers)
+        (each_at (λ (s : Slot). HasSameFile old.disk new.disk s.struct) old.pairs numbers (files_kept old new u.was e.way.no_move writes));
+    lost = λ b. let l = u.lost b in let f = files_stay now new c.alike can_end.none still geometry files b in let g = ap (count b) all_gone in omega arith;
+    once = λ b. let s = m.same b in let o = m.once b in let g = ap (count b) all_gone in omega arith;
+    fewer = λ b. let l = u.fewer b in let k = ap (λ z. count b z) (alike_blocks now.pairs new.pairs c.alike) in omega arith;
     flying = subst (SameInFlight old.map) (sym c.map) u.flying;
     shows = c.taken.follows.shows ∙ shows_now;
     completed = λ s tree. recovery_ends old.disk old.pairs now.disk C e.seen e.parts e.kept new.disk new.pairs (λ d. d) s e.way.is fits
@@ -165,6 +167,10 @@ module _ (old now : Kept) (dropped : ℕ) (u : IsUnderWay old now dropped []) wh
         (subst (λ z. AreAlike z new.pairs) (e.way.there ∙ ap (λ z. C ++ z) (append-nil e.kept)) c.alike) c.settled tree;
   }
     where
+      all_gone : u.gone ≡ list_blocks_at old numbers
+      all_gone = u.gone_are
+          ∙ ap (list_blocks_at old) (told_once (IsReached old.pairs) (superblocks_before old.pairs) None (directory_pairs old.pairs) u.took numbers (subst (AreUnreached old.pairs) (append-nil u.took) u.told) told)
+
       still : HasNoMove (gstate_of new.pairs)
       still = subst HasNoMove (sym c.settled) (record { kind = refl; id = refl; pair = refl })
 

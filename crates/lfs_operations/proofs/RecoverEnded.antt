@@ -1,5 +1,5 @@
 -- A set move that was ended: the map, and what is known of the thread.
-use Rattle.std.proofs.Common.{ℕ, ◌≡◌, ◌+◌, ◌-◌, true, false, List, [], ◌∷◌, length, refl, sym, ap, subst, subst₂, ◌∙◌, arith, length-append, remove}
+use Rattle.std.proofs.Common.{ℕ, ◌≡◌, ◌+◌, ◌-◌, true, false, List, [], ◌∷◌, length, sym, ap, subst, subst₂, ◌∙◌, arith, length-append, remove}
 use Rattle.std.proofs.lemmas.Option.{same_Some}
 use Rattle.lfs_model.specs.BlockSets.{AreUsed}
 use Rattle.lfs_model.specs.History.{Event}
@@ -12,6 +12,7 @@ use Rattle.lfs_model.specs.View.{tree_in, used_blocks}
 use Rattle.lfs_model.proofs.Counts.{count, once_from_distinct}
 use Rattle.lfs_model.proofs.Global.{HasNoMove}
 use Rattle.lfs_model.proofs.Histories.{LeavesOnly-weaker}
+use Rattle.lfs_model.proofs.Changes.{follows_itself}
 use Rattle.lfs_model.proofs.StepsTaken.{IsTaken}
 use Rattle.lfs_thread.specs.Device.{StopsLeave}
 use Rattle.lfs_thread.specs.Kept.{Kept}
@@ -48,6 +49,7 @@ module _ (t : Kept) (can : CanEndMove t) (index : ℕ) (m : IsMovedAt t index) w
         used = subst (λ s. AreUsed s (used_blocks new.disk new.pairs)) (sym is.map)
             (used_same t.map (used_blocks t.disk t.pairs) (used_blocks new.disk new.pairs) (λ b. ap (λ z. count b (used_blocks new.disk z)) pairs ∙ stays_used t can index m new.disk written b) can.used);
         size = ap length is.map ∙ can.size ∙ sym is.written.shape.count;
+        fewer = λ b. let e = ap (λ z. count b (used_blocks new.disk z)) pairs in let u = stays_used t can index m new.disk written b in omega arith;
         flying = subst (SameInFlight t.map) (sym is.map) (λ b. ((λ flies. flies), (λ flies. flies)));
         leads_on = laid_out_kin t new (go_alike t new taken.follows is.written.shape) none
             (ap superblocks_before pairs ∙ stays_chain t can index m new.disk written)
@@ -89,6 +91,7 @@ module _ (t : Kept) (can : CanEndMove t) (index : ℕ) (m : IsMovedAt t index) w
           none = none;
           used = used_same new.map owned.owned (used_blocks new.disk new.pairs) (λ b. let s = owned.same b in omega arith) owned.are;
           size = owned.size;
+          fewer = λ b. let u = used b in omega arith;
           flying = subst (SameInFlight t.map) (sym map_is) (frees_flies t new (gone t can index m alone) [] used [] start);
           leads_on = laid_out_gap t new alike none (ap superblocks_before pairs ∙ goes_chain t can index m alone new.disk written)
               _ _ _ _ _ _ _ (goes_hidden t can index m alone) (pairs ∙ goes_split t can index m alone) (goes_low t can index m alone) (goes_ahead t can index m alone) (goes_gap t can index m alone) (goes_behind t can index m alone);
@@ -101,10 +104,11 @@ module _ (t : Kept) (can : CanEndMove t) (index : ℕ) (m : IsMovedAt t index) w
 -- no move was set
 pub ended_already : (t : Kept) → CanEndMove t → HasNoMove (gstate_of t.pairs) → HasEndedMove t t
 ended_already t can none = record {
-  taken = record { follows = record { accepted = can.accepted; root = refl; shows = refl; leads = refl }; writable = can.writable };
+  taken = record { follows = follows_itself t.disk t.pairs can.accepted; writable = can.writable };
   none = none;
   used = can.used;
   size = can.size;
+  fewer = λ b. omega arith;
   flying = λ b. ((λ flies. flies), (λ flies. flies));
   leads_on = λ s disk qs laid_out. laid_out;
 }

@@ -104,6 +104,7 @@ last_soft from (x ∷ xs) p h = last_soft (next_of x.content.tail) xs p h.1
 pub record IsOnWay (disk : Disk) (ps : List Pair) (t : Kept) (dropped : ℕ) (chain seen todo : List Pair) (parts : List (List Pair)) (kept : List Pair) (numbers : List ℕ) : Type 0 where
   pub is : IsRecovering disk ps t.disk chain seen todo parts (singles todo) kept
   pub there : t.pairs ≡ chain ++ (kept ++ todo)
+  pub counted : length seen ≡ length kept + dropped
   pub no_move : HasNoMove (gstate_of ps)
   pub told : AreUnreachedFrom (IsReached ps) (length chain + length kept + dropped) (onward_all None seen) todo numbers
   pub firsts : FirstsOnly (IsReached ps) (onward_all None seen) todo
@@ -146,6 +147,7 @@ module _ (disk : Disk) (ps : List Pair) (t : Kept) (dropped : ℕ) (chain seen :
   keeps reached more = record {
     is = recovery_keeps disk ps t.disk chain seen x todo parts (singles todo) kept x w.is reached (λ s n. w.filled.0 s (sym (unmoved_all (gstate_of ps) w.no_move x) ∙ n));
     there = w.there ∙ ap (λ z. chain ++ z) (sym (append_assoc kept (x ∷ []) todo));
+    counted = let c = w.counted in let l = length-append seen (x ∷ []) in let k = length-append kept (x ∷ []) in omega arith;
     no_move = w.no_move;
     told = subst₂ (λ n z. AreUnreachedFrom (IsReached ps) n z todo numbers) (let l = length-append kept (x ∷ []) in omega arith) (sym e) more;
     firsts = now_firsts;
@@ -301,6 +303,9 @@ module _ (disk : Disk) (ps : List Pair) (t : Kept) (dropped : ℕ) (chain seen :
       drops = record {
         is = recovery_drops disk ps t.disk chain seen x todo parts (singles todo) kept new.disk front before x q split w.is unreached c;
         there = now ∙ ap (λ z. chain ++ z) (sym (append_assoc front (q ∷ []) todo));
+        counted =
+            let c = w.counted in let a = length-append seen (x ∷ []) in let l = length-append front (q ∷ []) in let m = length-append front (before ∷ []) in let k = ap length split in
+            omega arith;
         no_move = w.no_move;
         told = subst₂ (λ n z. AreUnreachedFrom (IsReached ps) n z todo rest)
             (let l = length-append front (q ∷ []) in let m = length-append front (before ∷ []) in let k = ap length split in omega arith) (sym e) more;

@@ -170,7 +170,7 @@ module _ (now new : Kept) (front : List Pair) (before x q : Pair) (back : List P
 
 -- ---- the same addresses and slots
 
-alike_blocks : (xs ys : List Pair) → AreAlike xs ys → blocks_of ys ≡ blocks_of xs
+pub alike_blocks : (xs ys : List Pair) → AreAlike xs ys → blocks_of ys ≡ blocks_of xs
 alike_blocks [] [] h = refl
 alike_blocks [] (y ∷ ys) h = absurd h
 alike_blocks (x ∷ xs) [] h = absurd h

@@ -26,13 +26,13 @@ use Rattle.lfs_model.proofs.Pairs.{pair_back, pair_itself, pair_on}
 use Rattle.lfs_model.proofs.Recovering.{recovery_begins}
 use Rattle.lfs_model.proofs.Searches.{same_number}
 use Rattle.lfs_model.proofs.Splices.{files_of, slots_in}
-use Rattle.lfs_model.proofs.Superblocks.{pairs_behind}
 use Rattle.lfs_model.proofs.Unthreaded.{IsReady, IsUnthreaded, same_parts}
 use Rattle.lfs_thread.specs.Device.{StopsLeave, two_of}
 use Rattle.lfs_thread.specs.Kept.{Kept}
-use Rattle.lfs_thread.specs.Steps.{HasShape, IsDropped, IsLeft, IsWrittenAs, Writes, pair_in, with_pair, without_pair}
-use Rattle.lfs_operations.specs.Recovering.{AreBare, AreUnreachedFrom, CanDropUnreached, CanTakeOver, FitsFields, IsAddressIfSome, state_with, takes_share, taking_over, target_of}
+use Rattle.lfs_thread.specs.Steps.{HasShape, IsDropped, IsLeft, IsWrittenAs, Writes, no_pair, pair_in, with_pair, without_pair}
+use Rattle.lfs_operations.specs.Recovering.{AreUnreached, AreUnreachedFrom, CanDropUnreached, CanTakeOver, FitsFields, IsAddressIfSome, list_blocks_at, state_with, takes_share, taking_over, target_of}
 use Rattle.lfs_operations.specs.Dropping.{SameInFlight}
+use Rattle.lfs_operations.proofs.RecoverLists.{lists_kept, lists_more, numbered}
 use Rattle.lfs_operations.proofs.RecoverLoop.{FirstsOnly, IsAtDrop, IsAtEnd, IsOnWay, all_but, drops, goes_to, ready, soft, stands, sync_set, unled}
 use Rattle.lfs_operations.proofs.RecoverMap.{HasMap, blocks_count, files_count, map_drops, map_flies}
 use Rattle.lfs_operations.proofs.RecoverPlaced.{IsAt, next_below, next_is, without_is}
@@ -119,7 +119,10 @@ pub record IsUnderWay (old now : Kept) (dropped : ℕ) (numbers : List ℕ) : Ty
   pub device : StaysOn old now
   pub gone : List ℕ
   pub map : HasMap now gone
-  pub none_gone : AreBare (IsReached old.pairs) None (directory_pairs old.pairs) → gone ≡ []
+  pub was : IsAccepted old.disk old.pairs
+  pub took : List ℕ
+  pub told : AreUnreached old.pairs (took ++ numbers)
+  pub gone_are : gone ≡ list_blocks_at old took
   pub lost : (b : ℕ) → count b gone + count b (files_of now.disk (slots_in now.pairs)) ≡ count b (files_of old.disk (slots_in old.pairs))
   pub flying : SameInFlight old.map now.map
   pub fewer : (b : ℕ) → count b (blocks_of now.pairs) ≤ count b (blocks_of old.pairs)
@@ -142,6 +145,7 @@ begins t numbers can =
       way = record {
         is = recovery_begins t.disk t.pairs ok fits none;
         there = e.0;
+        counted = refl;
         no_move = none;
         told = subst (λ n. AreUnreachedFrom (IsReached t.pairs) n None (directory_pairs t.pairs) numbers) count told;
         firsts = firsts_from t.disk t.pairs ok [] (directory_pairs t.pairs) refl;
@@ -153,7 +157,10 @@ begins t numbers can =
       state = λ some n. absurd (omega arith);
       device = stays_itself t;
       gone = [];
-      none_gone = λ bare. refl;
+      was = ok;
+      took = [];
+      told = told;
+      gone_are = refl;
       map = record {
         owned = used_blocks t.disk t.pairs;
         are = can.used;
@@ -169,10 +176,6 @@ begins t numbers can =
     }
 
 -- ---- the next pair that goes
-
-bare_at : (R : ℕ × ℕ → Type 0) (from : Option (ℕ × ℕ)) (xs : List Pair) (x : Pair) (ys : List Pair) → AreBare R from (xs ++ x ∷ ys) → (R (begin_from (onward_all from xs) x) → ⊥) → x.content.slots ≡ []
-bare_at R from [] x ys h n = h.0 n
-bare_at R from (y ∷ xs) x ys h n = bare_at R (onward from y) xs x ys h.1 n
 
 -- the pair at an index goes, which stands behind the one before it
 pub record IsNext (old now : Kept) (dropped number : ℕ) (rest : List ℕ) : Type 0 where
@@ -305,6 +308,10 @@ module _ (old now : Kept) (dropped number : ℕ) (rest : List ℕ) (n : IsNext o
     disk_is : StaysOn old now → (left : Blocks) → with_blocks left now.disk ≡ with_blocks left old.disk
     disk_is d left = ap₂ (λ (a b : ℕ). record { block_size = a; page = b; blocks = left }) d.shape.block_size d.shape.page
 
+    number_there : slice_index_or old.pairs number no_pair ≡ n.x
+    number_there = numbered old.pairs C n.seen n.x n.todo number n.way.is.are
+        (let k = n.number_is in let c = n.way.counted in let a = ap length n.split in let b = length-append n.front (n.before ∷ []) in omega arith)
+
     pub survives_on : (new : Kept) → IsUnderWay old now dropped (number ∷ rest) → IsAddress (takes_share now index behind g).pair → IsAddressIfSome (target_of (pair_in now behind).content.tail)
         → StaysOn now new → StopsLeave now.history new.history (IsLeft now index (taking_over now index behind g))
         → Survives old.disk old.history new.history (tree_in old.disk old.pairs) (tree_in old.disk old.pairs)
@@ -339,9 +346,10 @@ module _ (old now : Kept) (dropped number : ℕ) (rest : List ℕ) (n : IsNext o
         let map_is : new.map ≡ without_pair now.map n.x.at = is.map ∙ ap (λ (z : Pair). without_pair now.map z.at) (next_is now C n.front n.before n.x n.todo index here) in
         record {
           gone = u.gone ++ files_of now.disk n.x.content.slots;
-          none_gone = λ bare. ap₂ (λ gone slots. gone ++ files_of now.disk slots) (u.none_gone bare)
-              (bare_at (IsReached old.pairs) None n.seen n.x n.todo
-              (subst (AreBare (IsReached old.pairs) None) (ap directory_pairs n.way.is.are ∙ pairs_behind C (n.seen ++ n.x ∷ n.todo) n.way.is.was_chain) bare) n.unreached);
+          was = u.was;
+          took = u.took ++ number ∷ [];
+          told = subst (AreUnreached old.pairs) (sym (append_assoc u.took (number ∷ []) rest)) u.told;
+          gone_are = ap₂ (λ a b. a ++ b) u.gone_are (lists_kept old now C n.seen n.x n.todo n.way.is.are u.was n.way.no_move u.writes) ∙ sym (lists_more old u.took number n.x number_there);
           map = map_drops now new (C ++ n.front) n.before n.x q n.todo were are refl apart.slots now_none still apart.device.geometry files u.gone map_is on.shape.count u.map;
           lost = λ b.
               let f = files_count now new (C ++ n.front) n.before n.x q n.todo were are refl apart.slots now_none still apart.device.geometry files b in

@@ -1,5 +1,5 @@
 -- What comes of a pair that is changed, or split where what the changes make doesn't fit.
-use Rattle.std.specs.Prelude.{ℕ, ◌≡◌, ◌≢◌, ◌⊎◌, ◌<◌, Bool, true, false, List, ◌∷◌, Some, slice_set, Result, Ok, Err, IfErr, IsErrOf, ◌≤◌, length}
+use Rattle.std.specs.Prelude.{Contains, ℕ, ◌≡◌, ◌≢◌, ◌⊎◌, ◌<◌, Bool, true, false, List, ◌∷◌, ◌++◌, Some, slice_set, Result, Ok, Err, IfErr, IsErrOf, ◌≤◌, length}
 use Rattle.std.specs.List.{AllByRecursion}
 use Rattle.lfs_device.specs.declared.error.Error.{Error}
 use Rattle.lfs_device.specs.declared.error.Error.TheVariants.{Io, NoMemory, NoSpace}
@@ -11,7 +11,7 @@ use Rattle.lfs_model.specs.Content.{RawContent, content_at}
 use Rattle.lfs_model.specs.Disk.{block_count}
 use Rattle.lfs_model.specs.History.{faults}
 use Rattle.lfs_model.specs.Slots.{Content, FitsPair}
-use Rattle.lfs_model.specs.Thread.{IsThread}
+use Rattle.lfs_model.specs.Thread.{IsThread, blocks_of}
 use Rattle.lfs_model.specs.Cut.{CanBeCut}
 use Rattle.lfs_pair.specs.Commit.{made_at}
 use Rattle.lfs_pair.specs.Split.{OutsideBothKeeps}
@@ -57,6 +57,18 @@ pub record WritesIn (old : Kept) (index : ℕ) (new : Kept) : Type 0 where
   pub few : length fresh ≤ 2
   pub free : AllByRecursion (IsFree old.map) fresh
   pub writes : Writes ((pair_in old index).at.0 ∷ (pair_in old index).at.1 ∷ fresh) old new
+
+-- Only blocks of pairs changed, and at most two blocks that were free.
+pub record WritesInPairs (old new : Kept) : Type 0 where
+  pub fresh : List ℕ
+  pub few : length fresh ≤ 2
+  pub free : AllByRecursion (IsFree old.map) fresh
+  pub writes : Writes (blocks_of old.pairs ++ fresh) old new
+
+-- The same, and no other block comes to the pairs.
+pub record WritesWithin (old new : Kept) : Type 0 where
+  pub written : WritesInPairs old new
+  pub within : (b : ℕ) → Contains (blocks_of new.pairs) b → Contains (blocks_of old.pairs ++ written.fresh) b
 
 -- ---- a pair is changed or split
 

@@ -29,7 +29,7 @@ use Rattle.lfs_model.proofs.Writable.{flag}
 use Rattle.lfs_thread.specs.Kept.{Kept, State}
 use Rattle.lfs_thread.specs.Device.{StopsLeave, two_of}
 use Rattle.lfs_thread.specs.Steps.{HasShape, IsOnlyRead, Writes, pair_in, with_pair, without_pair}
-use Rattle.lfs_operations.specs.Changing.{HasTwoFree, IsLeftByPut, IsPut, IsTooLarge, has_failed}
+use Rattle.lfs_operations.specs.Changing.{HasTwoFree, IsLeftByPut, IsPut, IsTooLarge, WritesWithin, has_failed}
 use Rattle.lfs_operations.specs.Editing.{CanEdit, slot_at}
 use Rattle.lfs_operations.specs.Dropping.{HasShrunk}
 use Rattle.lfs_operations.specs.Ready.{IsLoggedAt}
@@ -125,11 +125,12 @@ pub record EndsAfter (old : Kept) (old_pair old_id : ℕ) (goes : Bool) (new_pai
   pub can : CanEnd mid (place_after old_pair new_pair (length mid.pairs - length old.pairs)) old_id goes
   pub at : (pair_in mid (place_after old_pair new_pair (length mid.pairs - length old.pairs))).at ≡ (pair_in old old_pair).at
 
--- the changes were put into the new pair, and then the move ended
+-- The changes were put into the new pair, and then the move ended. No block comes to the pairs but two at most that were free.
 pub record IsPutAndEnded (old : Kept) (old_pair old_id : ℕ) (goes : Bool) (new_pair : ℕ) (changes : List Change) (new : Kept) : Type 0 where
   pub mid : Kept
   pub put : IsPut old new_pair changes mid
   pub ended : HasEnded mid (place_after old_pair new_pair (length mid.pairs - length old.pairs)) old_id goes new
+  pub blocks : WritesWithin old new
 
 -- the pair that the second step writes: the old one, or the one in front of it where that goes with its slot
 abbrev pub left_at : Kept → ℕ → ℕ → ℕ

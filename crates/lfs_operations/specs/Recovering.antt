@@ -1,5 +1,6 @@
 -- How a recovery ends what a loss of power left.
-use Rattle.std.specs.Prelude.{ℕ, suc, ◌≡◌, ◌⊎◌, ◌<◌, ◌≤◌, ◌+◌, ◌-◌, ◌^◌, ◌&&◌, ◌==◌, ◌++◌, nat_lt, if◌then◌else◌, Bool, true, false, List, [], ◌∷◌, length, Option, Some, None, Result, IfErr, IsErrOf, is_err, All}
+use Rattle.std.specs.Prelude.{ℕ, suc, ◌≡◌, ◌⊎◌, ◌<◌, ◌≤◌, ◌+◌, ◌-◌, ◌^◌, ◌&&◌, ◌==◌, ◌++◌, nat_lt, if◌then◌else◌, Bool, true, false, List, [], ◌∷◌, length, slice_index_or, Option, Some, None, Result, IfErr, IsErrOf, is_err, All}
+use Rattle.std.specs.List.{flat_map}
 use Rattle.lfs_device.specs.declared.error.Error.{Error}
 use Rattle.lfs_device.specs.declared.error.Error.TheVariants.{Io, NoMemory}
 use Rattle.lfs_model.specs.BlockSets.{AreUsed}
@@ -12,7 +13,7 @@ use Rattle.lfs_model.specs.Operations as ops
 use Rattle.lfs_model.specs.Recovery.{AreReached}
 use Rattle.lfs_model.specs.Session.{Session}
 use Rattle.lfs_model.specs.Slots.{Gstate, Slot, Tail, gstate_xor, is_superblock, no_gstate, same_pair}
-use Rattle.lfs_model.specs.Thread.{Pair, directory_pairs, gstate_of, is_hard, next_of, superblocks_before}
+use Rattle.lfs_model.specs.Thread.{Pair, blocks_of, directory_pairs, gstate_of, is_hard, next_of, superblocks_before}
 use Rattle.lfs_model.specs.View.{IsAccepted, IsReached, IsWritable, all_slots, set_move, tree_in, used_blocks}
 use Rattle.lfs_model.proofs.Alike.{AreAlike}
 use Rattle.lfs_model.proofs.Committed.{IsCompleted}
@@ -22,7 +23,7 @@ use Rattle.lfs_model.proofs.Global.{HasNoMove}
 use Rattle.lfs_model.proofs.Splices.{files_of, slots_in}
 use Rattle.lfs_model.proofs.StepsTaken.{IsTaken}
 use Rattle.lfs_thread.specs.Kept.{Kept, State}
-use Rattle.lfs_thread.specs.Steps.{pair_in}
+use Rattle.lfs_thread.specs.Steps.{no_pair, pair_in}
 use Rattle.lfs_operations.specs.Dropping.{SameInFlight}
 use Rattle.lfs_operations.specs.Ready.{IsReadyBut}
 
@@ -121,19 +122,23 @@ pub record IsCleared (old new : Kept) : Type 0 where
   pub map : new.map ≡ old.map
   pub files : All (λ s. HasSameFile old.disk new.disk s.struct) (all_slots old.pairs)
 
--- the pairs of directories that no path leads to have no slots; from is where the directory of the pair in front begins, if that goes on
-abbrev pub AreBare : (ℕ × ℕ → Type 0) → Option (ℕ × ℕ) → List Pair → Type 0
-AreBare R from [] = Unit {0}
-AreBare R from (x ∷ xs) = ((R (begin_from from x) → ⊥) → x.content.slots ≡ []) × AreBare R (onward from x) xs
+-- the slots of the pairs of these numbers, in turn
+abbrev pub slots_at : List Pair → List ℕ → List Slot
+slots_at ps numbers = flat_map (λ n. (slice_index_or ps n no_pair).content.slots) numbers
 
--- Nothing is left to recover, the tree is as it was, and the slots stand where they should: so a recovery is completed. The
--- blocks of the pairs that went are free. What is gone are the blocks of lists that only those pairs had, each once.
-pub record HasRecovered (old new : Kept) : Type 0 where
-  pub gone : List ℕ
-  pub ready : IsReadyBut new gone []
-  pub lost : (b : ℕ) → count b gone + count b (files_of new.disk (slots_in new.pairs)) ≡ count b (files_of old.disk (slots_in old.pairs))
-  pub none_gone : AreBare (IsReached old.pairs) None (directory_pairs old.pairs) → gone ≡ []
-  pub once : (b : ℕ) → count b (used_blocks new.disk new.pairs) + count b gone ≤ 1
+-- the blocks of the lists that these slots name
+abbrev pub list_blocks_at : Kept → List ℕ → List ℕ
+list_blocks_at t numbers = files_of t.disk (slots_at t.pairs numbers)
+
+-- Nothing is left to recover, the tree is as it was, and the slots stand where they should: so a recovery is completed. The pairs
+-- of these numbers went, their blocks are free, and no pair came. The lists of their slots stand as they did, and have blocks that
+-- no other list has; these are still used.
+pub record HasRecovered (old : Kept) (numbers : List ℕ) (new : Kept) : Type 0 where
+  pub ready : IsReadyBut new (list_blocks_at old numbers) []
+  pub stand : All (λ s. HasSameFile old.disk new.disk s.struct) (slots_at old.pairs numbers)
+  pub lost : (b : ℕ) → count b (list_blocks_at old numbers) + count b (files_of new.disk (slots_in new.pairs)) ≡ count b (files_of old.disk (slots_in old.pairs))
+  pub once : (b : ℕ) → count b (used_blocks new.disk new.pairs) + count b (list_blocks_at old numbers) ≤ 1
+  pub fewer : (b : ℕ) → count b (blocks_of new.pairs) ≤ count b (blocks_of old.pairs)
   pub flying : SameInFlight old.map new.map
   pub shows : tree_in new.disk new.pairs ≡ tree_in old.disk old.pairs
   pub completed : (s : Session) → s.tree ≡ tree_in old.disk old.pairs → IsCompleted old.disk old.pairs s ops.Recover new.disk new.pairs
@@ -184,11 +189,13 @@ pub record CanEndMove (t : Kept) : Type 0 where
 abbrev pub RecoversTo : Kept → Kept → Type 0
 RecoversTo old new = (s : Session) (disk : Disk) (qs : List Pair) → IsLaidOut new.disk new.pairs s ops.Recover disk qs → IsLaidOut old.disk old.pairs s ops.Recover disk qs
 
--- No move is set, and the image shows the same tree; so pairs may be dropped then. The map knows each of its blocks.
+-- No move is set, and the image shows the same tree; so pairs may be dropped then. The map knows each of its blocks, of which
+-- none came.
 pub record HasEndedMove (old new : Kept) : Type 0 where
   pub taken : IsTaken old.disk old.pairs new.disk new.pairs (λ t. t) (λ d. d)
   pub none : HasNoMove (gstate_of new.pairs)
   pub used : AreUsed new.map (used_blocks new.disk new.pairs)
   pub size : length new.map ≡ block_count new.disk
+  pub fewer : (b : ℕ) → count b (used_blocks new.disk new.pairs) ≤ count b (used_blocks old.disk old.pairs)
   pub flying : SameInFlight old.map new.map
   pub leads_on : RecoversTo old new

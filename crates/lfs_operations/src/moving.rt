@@ -14,8 +14,8 @@ ghost use Rattle.lfs_thread.specs.Device.{two_of};
 ghost use Rattle.lfs_thread.specs.Kept.{Kept};
 ghost use Rattle.lfs_thread.specs.Steps.{Writes, pair_in};
 ghost use Rattle.lfs_pair.specs.ChangeSeen.{changes_seen};
-ghost use Rattle.lfs_operations.specs.Changing.{CanPut, IsPut};
-ghost use Rattle.lfs_operations.specs.Moving.{CanEnd, CanPutOnto, CanRenameAcross, CanReplaceAcross, CanReplaceDirectory, EndsAfter, HasEnded, IsMovedOnto, IsPutAndEnded, IsRenamedAcross, IsReplacedAcross, SurvivesBoth, TellsInSteps, WritesAmong, WritesInTwo, end_at, left_at, move_of, moving_changes, onto_changes, place_after, replacing_changes, share_without_move, sync_in, with_moved};
+ghost use Rattle.lfs_operations.specs.Changing.{CanPut, IsPut, WritesInPairs};
+ghost use Rattle.lfs_operations.specs.Moving.{CanEnd, CanPutOnto, CanRenameAcross, CanReplaceAcross, CanReplaceDirectory, EndsAfter, HasEnded, IsMovedOnto, IsPutAndEnded, IsRenamedAcross, IsReplacedAcross, SurvivesBoth, TellsInSteps, WritesInTwo, end_at, left_at, move_of, moving_changes, onto_changes, place_after, replacing_changes, share_without_move, sync_in, with_moved};
 ghost use Rattle.lfs_operations.specs.Removing.{TellsOfCalls};
 
 use crate::changing::put;
@@ -337,7 +337,7 @@ pub fn rename_onto_directory_across<D: BlockDevice>(
     ensures renamed { OnOk result ((rename : CanReplaceDirectory thread.old.kept old_pair old_id first new_pair new_id name.now gone)
         → IsRenamedAcross thread.old.kept thread.new.kept rename.old.path rename.old.name rename.path name.now) }
     ensures errors { TellsInSteps thread.old thread.new new_pair (onto_changes true thread.old.kept old_pair old_id new_pair new_id name.now) result }
-    ensures device { WritesAmong thread.old.kept thread.new.kept }
+    ensures device { WritesInPairs thread.old.kept thread.new.kept }
     ensures survives { (rename : CanReplaceDirectory thread.old.kept old_pair old_id first new_pair new_id name.now gone) → Survives thread.old.kept.disk thread.old.kept.history thread.new.kept.history
         (tree_in thread.old.kept.disk thread.old.kept.pairs) (with_moved thread.old.kept rename.old.path rename.old.name rename.path name.now) }
 {

@@ -171,7 +171,8 @@ fn clear_sync<D: BlockDevice>(alloc: Global, thread: &mut Thread<D>) -> Result<(
 /// Drops the pairs of directories that no path leads to, one commit each, to the pair in front of
 /// it. The last one also clears the sync bit; where there is none, a commit of its own does, if it
 /// is set (DESIGN.md of littlefs, "The move problem"). No move is set, and `unreached` has their
-/// numbers in the thread, in turn. Nothing is written where there is nothing to recover.
+/// numbers in the thread, in turn. Nothing is written where there is nothing to recover. The blocks
+/// of the lists that the slots of those pairs name stay used: they are the caller's to free.
 ///
 /// `Io` where a call of the device failed, and `NoMemory` where there is no room for a pair's slots
 /// and its block; the thread has failed then.
@@ -183,7 +184,7 @@ pub fn drop_unreached<D: BlockDevice>(
     requires works { thread.old.failed ≡ false }
     requires can { CanDropUnreached thread.old.kept unreached.now }
     ensures nothing { IsRecovered thread.old.kept.pairs → thread.new.kept ≡ thread.old.kept }
-    ensures recovered { OnOk result (HasRecovered thread.old.kept thread.new.kept) }
+    ensures recovered { OnOk result (HasRecovered thread.old.kept unreached.now thread.new.kept) }
     ensures errors { TellsOfSteps thread.old thread.new result }
     ensures device { Writes (blocks_of thread.old.kept.pairs) thread.old.kept thread.new.kept }
     ensures survives { Survives thread.old.kept.disk thread.old.kept.history thread.new.kept.history

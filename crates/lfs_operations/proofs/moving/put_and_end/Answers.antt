@@ -1,8 +1,9 @@
-use Rattle.std.proofs.Common.{ℕ, ap, ap₂, sym, subst, ◌∙◌, ◌-◌, arith, Err}
+use Rattle.std.proofs.Common.{ℕ, ap, ap₂, length, sym, subst, ◌∙◌, ◌-◌, arith, Err}
 use Rattle.std.proofs.lemmas.Result.{err_from_is_err_and}
 use Rattle.lfs_pair.specs.ChangeSeen.{changes_seen}
-use Rattle.lfs_operations.specs.Moving.{CanEnd, TellsInSteps, end_at, place_after}
+use Rattle.lfs_operations.specs.Moving.{CanEnd, HasEnded, TellsInSteps, end_at, place_after}
 use Rattle.lfs_operations.proofs.MovTelling.{not_io, survives_both, tells_of_end, writes_at_end, writes_first}
+use Rattle.lfs_operations.proofs.OntoWritten.{end_within, put_within}
 use Rattle.lfs_thread.specs.Device.{two_of}
 use Rattle.lfs_thread.specs.Steps.{Writes, pair_in}
 use Rattle.lfs_operations.proofs.moving.put_and_end.Goals as goal
@@ -48,6 +49,22 @@ pub returns-in_err-end_move-clause-survives : goal.returns-in_err-end_move-claus
 returns-in_err-end_move-clause-survives g c =
     survives_both c.args.thread.now.kept c.put.new.thread.kept c.end_move.new.thread.kept c.args.new_pair (changes_seen c.args.changes.now) c.in_ok-put.ensures.is_put c.put.ensures.stops c.put.ensures.device
     c.end_move.ensures.device.at_worst c.end_move.ensures.survives
+
+pub returns-clause-done : goal.returns-clause-done
+returns-clause-done g c =
+    let index = c.place_after-pair.ensures ∙ ap₂ (λ m n. place_after c.args.old_pair c.args.new_pair (m - n)) c.len.ensures c.len-before.ensures in
+    let mid = c.put.new.thread.kept in
+    let new = c.end_move.new.thread.kept in
+    let ends = c.requires.ends mid c.in_ok-put.ensures.is_put in
+    let ended = subst (λ (i : ℕ). HasEnded mid i c.args.old_id c.args.goes new) index c.in_ok-end_move.ensures.ended in
+    record {
+      mid = mid;
+      put = c.in_ok-put.ensures.is_put;
+      ended = ended;
+      blocks = end_within c.args.thread.now.kept mid new (place_after c.args.old_pair c.args.new_pair (length mid.pairs - length c.args.thread.now.kept.pairs)) c.args.old_id c.args.goes
+          (put_within c.args.thread.now.kept mid c.args.new_pair (changes_seen c.args.changes.now) c.requires.can.can.below c.in_ok-put.ensures.is_put c.put.ensures.device) ends.can.below ended
+          (subst (λ (i : ℕ). Writes (two_of (pair_in mid (end_at i c.args.goes)).at) mid new) index c.end_move.ensures.device);
+    }
 
 pub returns-clause-errors : goal.returns-clause-errors
 returns-clause-errors g c =

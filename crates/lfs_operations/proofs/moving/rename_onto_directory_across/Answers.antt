@@ -10,8 +10,9 @@ use Rattle.lfs_operations.specs.Dropping.{CanDropAt, HasDroppedBehind, IsLeftByD
 use Rattle.lfs_operations.specs.Moving.{TellsInSteps, left_at, onto_changes, with_moved}
 use Rattle.lfs_operations.proofs.MovReplace.{onto_directory}
 use Rattle.lfs_operations.proofs.MovTelling.{not_io, tells_of_end}
-use Rattle.lfs_operations.proofs.OntoAcross.{blocks_later, can_drop_later, left_directory, new_below, not_nowhere_later, old_below, renamed_directory}
-use Rattle.lfs_operations.proofs.OntoTelling.{across_survives, left_below, works_after, writes_last, writes_one}
+use Rattle.lfs_operations.proofs.OntoAcross.{can_drop_later, left_directory, new_below, not_nowhere_later, old_below, renamed_directory}
+use Rattle.lfs_operations.proofs.OntoTelling.{across_survives, left_below, works_after}
+use Rattle.lfs_operations.proofs.OntoWritten.{writes_last, writes_one}
 use Rattle.lfs_operations.proofs.moving.rename_onto_directory_across.Goals as goal
 
 pub put_onto-requires-clause-can : goal.put_onto-requires-clause-can
@@ -39,9 +40,9 @@ returns-in_err-drop_at-clause-errors g c =
 
 pub returns-in_err-drop_at-clause-device : goal.returns-in_err-drop_at-clause-device
 returns-in_err-drop_at-clause-device g c =
-    writes_last c.args.thread.now.kept c.put_onto.new.thread.kept c.drop_at.new.thread.kept (left_at c.args.thread.now.kept c.args.old_pair c.args.first) c.args.new_pair (c.in-Some.index - 1) (left_below c.args.thread.now.kept c.args.old_pair c.args.first (old_below c.args.thread.now.kept c.args.old_pair c.args.old_id c.args.first c.args.new_pair c.args.new_id c.args.name.now c.args.gone c.requires.can)) (new_below c.args.thread.now.kept c.args.old_pair c.args.old_id c.args.first c.args.new_pair c.args.new_id c.args.name.now c.args.gone c.requires.can)
+    writes_last c.args.thread.now.kept c.put_onto.new.thread.kept c.drop_at.new.thread.kept true c.args.old_pair c.args.old_id c.args.first c.args.new_pair c.args.new_id c.args.name.now (c.in-Some.index - 1) c.in_ok-put_onto.ensures.moved
     (let k = (can_drop_later c.args.thread.now.kept c.args.old_pair c.args.old_id c.args.first c.args.new_pair c.args.new_id c.args.name.now c.args.gone c.requires.can c.put_onto.new.thread.kept c.in_ok-put_onto.ensures.moved c.in-Some.index (subst (λ at. BeginsAt c.put_onto.new.thread.kept.pairs at c.in-Some.index) c.address-at.ensures c.in-Some.ensures.there)).below in omega arith)
-    (blocks_later c.args.thread.now.kept c.args.old_pair c.args.old_id c.args.first c.args.new_pair c.args.new_id c.args.name.now c.args.gone c.requires.can c.put_onto.new.thread.kept c.in_ok-put_onto.ensures.moved) c.put_onto.ensures.device c.drop_at.ensures.device
+    c.drop_at.ensures.device
 
 pub returns-in_err-drop_at-clause-survives : goal.returns-in_err-drop_at-clause-survives
 returns-in_err-drop_at-clause-survives g c rename =
@@ -62,9 +63,9 @@ returns-in_ok-drop_at-clause-errors g c = subst (λ z. TellsInSteps c.args.threa
 
 pub returns-in_ok-drop_at-clause-device : goal.returns-in_ok-drop_at-clause-device
 returns-in_ok-drop_at-clause-device g c =
-    writes_last c.args.thread.now.kept c.put_onto.new.thread.kept c.drop_at.new.thread.kept (left_at c.args.thread.now.kept c.args.old_pair c.args.first) c.args.new_pair (c.in-Some.index - 1) (left_below c.args.thread.now.kept c.args.old_pair c.args.first (old_below c.args.thread.now.kept c.args.old_pair c.args.old_id c.args.first c.args.new_pair c.args.new_id c.args.name.now c.args.gone c.requires.can)) (new_below c.args.thread.now.kept c.args.old_pair c.args.old_id c.args.first c.args.new_pair c.args.new_id c.args.name.now c.args.gone c.requires.can)
+    writes_last c.args.thread.now.kept c.put_onto.new.thread.kept c.drop_at.new.thread.kept true c.args.old_pair c.args.old_id c.args.first c.args.new_pair c.args.new_id c.args.name.now (c.in-Some.index - 1) c.in_ok-put_onto.ensures.moved
     (let k = (can_drop_later c.args.thread.now.kept c.args.old_pair c.args.old_id c.args.first c.args.new_pair c.args.new_id c.args.name.now c.args.gone c.requires.can c.put_onto.new.thread.kept c.in_ok-put_onto.ensures.moved c.in-Some.index (subst (λ at. BeginsAt c.put_onto.new.thread.kept.pairs at c.in-Some.index) c.address-at.ensures c.in-Some.ensures.there)).below in omega arith)
-    (blocks_later c.args.thread.now.kept c.args.old_pair c.args.old_id c.args.first c.args.new_pair c.args.new_id c.args.name.now c.args.gone c.requires.can c.put_onto.new.thread.kept c.in_ok-put_onto.ensures.moved) c.put_onto.ensures.device c.drop_at.ensures.device
+    c.drop_at.ensures.device
 
 pub returns-in_ok-drop_at-clause-survives : goal.returns-in_ok-drop_at-clause-survives
 returns-in_ok-drop_at-clause-survives g c rename =

@@ -124,7 +124,8 @@ returns-clause-recovered g c =
     let past = c.loop-dropped-test.false in
     ends c.args.thread.now.kept c.loop-dropped.thread.kept c.loop-dropped.dropped
     (subst (IsUnderWay c.args.thread.now.kept c.loop-dropped.thread.kept c.loop-dropped.dropped) (drop_all c.loop-dropped.dropped c.args.unreached.now (omega (arith, past))) c.loop-dropped.invariant.way)
-    c.requires.can.writable c.requires.can.large c.clear_sync.new.thread.kept (stays_by _ c.loop-dropped.thread.kept c.clear_sync.new.thread.kept c.clear_sync.ensures.device) c.in_ok-clear_sync.ensures.is_cleared
+    c.requires.can.writable c.requires.can.large c.clear_sync.new.thread.kept c.args.unreached.now c.requires.can.told
+    (writes_trans c.loop-dropped.invariant.way.writes (writes_fewer _ (blocks_of c.args.thread.now.kept.pairs) c.loop-dropped.invariant.way.fewer c.clear_sync.ensures.device)) (stays_by _ c.loop-dropped.thread.kept c.clear_sync.new.thread.kept c.clear_sync.ensures.device) c.in_ok-clear_sync.ensures.is_cleared
 
 pub returns-clause-survives : goal.returns-clause-survives
 returns-clause-survives g c =

@@ -1,29 +1,36 @@
 -- An operation that is carried out, by what its steps say.
-use Rattle.std.proofs.Common.{ℕ, zero, suc, ◌≡◌, ◌≢◌, ◌<◌, ◌∙◌, false, List, [], ◌∷◌, ◌++◌, length, refl, sym, ap, append_assoc, length-append, slice_index_or, arith}
+use Rattle.std.proofs.Common.{ℕ, zero, suc, ◌≡◌, ◌≢◌, ◌⊎◌, inl, inr, ◌<◌, ◌∙◌, true, false, List, [], ◌∷◌, ◌++◌, length, refl, sym, ap, subst, append_assoc, length-append, slice_index_or, arith}
 use Rattle.std.specs.Prelude.{All, Contains, slice_get}
 use Rattle.std.specs.List.{AllByRecursion}
 use Rattle.std.proofs.lemmas.List.Elements.{All-from_recursion}
 use Rattle.std.proofs.lemmas.Option.{same_Some}
+use Rattle.lfs_model.specs.Apply.{is_file}
 use Rattle.lfs_model.specs.BlockSets.{AreUsed, BlockSets, IsFree, IsInFlight, IsUsed}
 use Rattle.lfs_model.specs.BlockSets.BlockState.{Free, InFlight, Used}
 use Rattle.lfs_model.specs.Disk.{Disk}
 use Rattle.lfs_model.specs.History.{Event, OnlyReads}
 use Rattle.lfs_model.specs.InDirectory.{IsBehind}
+use Rattle.lfs_model.specs.Keeping.{struct_at}
 use Rattle.lfs_model.specs.Operations.{Operation}
 use Rattle.lfs_model.specs.Run.{is_recover, renames_to_itself}
 use Rattle.lfs_model.specs.Session.{Files}
 use Rattle.lfs_model.specs.Slots.{no_gstate}
 use Rattle.lfs_model.specs.Thread.{Pair, blocks_of, gstate_of}
+use Rattle.lfs_model.specs.Tree.{Path}
 use Rattle.lfs_model.specs.View.{IsAccepted, IsWritable, tree_in, used_blocks}
 use Rattle.lfs_model.proofs.Arranged.{arranged_settled}
 use Rattle.lfs_model.proofs.BlockSets.{Contains-head, Contains-tail, Contains-count, count-Contains}
 use Rattle.lfs_model.proofs.Committed.{IsCompleted, recovered_from}
-use Rattle.lfs_model.proofs.Counts.{count_append, each_weaker}
+use Rattle.lfs_model.proofs.Counts.{count_append, each_from_counted, each_weaker}
 use Rattle.lfs_model.proofs.Histories.{unprogrammed-reads}
+use Rattle.lfs_model.proofs.KeptStructs.{none_stored}
+use Rattle.lfs_operations.specs.Moving.{WritesAmong}
 use Rattle.lfs_operations.specs.Ready.{IsReady}
 use Rattle.lfs_thread.specs.Kept.{Kept}
 use Rattle.lfs_thread.specs.Steps.{IsOnlyRead, Writes, no_pair, pair_in}
 use Rattle.lfs_tree.specs.Carrying.{Carries}
+use Rattle.lfs_tree.specs.KeepsFiles.{KeepsFile, list_at}
+use Rattle.lfs_tree.proofs.KeptFiles.{keeps_by, list_used, no_pairs}
 
 -- the same thread, after other calls
 abbrev pub with_history : Kept → List Event → Kept
@@ -37,10 +44,11 @@ read_is a b r =
 
 -- ---- blocks that an operation may write
 
-abbrev pub IsApart : BlockSets → List ℕ → Type 0
-IsApart sets bs = (b : ℕ) → IsInFlight sets b → All (λ c. c ≢ b) bs
+-- a pair's, or free
+abbrev pub IsPairsOrFree : Kept → ℕ → Type 0
+IsPairsOrFree t b = Contains (blocks_of t.pairs) b ⊎ IsFree t.map b
 
-pub apart_state : (sets : BlockSets) (b c : ℕ) → IsInFlight sets b → IsUsed sets c → c ≢ b
+apart_state : (sets : BlockSets) (b c : ℕ) → IsInFlight sets b → IsUsed sets c → c ≢ b
 apart_state sets b c flies used e = let k : InFlight ≡ Used = same_Some InFlight Used (sym flies ∙ ap (slice_get sets) (sym e) ∙ used) in absurd (cc)
 
 apart_free : (sets : BlockSets) (b c : ℕ) → IsInFlight sets b → IsFree sets c → c ≢ b
@@ -65,32 +73,41 @@ pair_used t index below used =
     ((used p.at.0).1 (in_left (blocks_of t.pairs) _ p.at.0 k.0), (used p.at.1).1 (in_left (blocks_of t.pairs) _ p.at.1 k.1))
 
 -- those of a pair, and some that are free
-pub apart_in : (t : Kept) (index : ℕ) (fresh : List ℕ) → index < length t.pairs → AreUsed t.map (used_blocks t.disk t.pairs) → AllByRecursion (IsFree t.map) fresh
-    → IsApart t.map ((pair_in t index).at.0 ∷ (pair_in t index).at.1 ∷ fresh)
-apart_in t index fresh below used free b flies =
-    let k = pair_used t index below used in
-    All-from_recursion (λ c. c ≢ b) ((pair_in t index).at.0 ∷ (pair_in t index).at.1 ∷ fresh)
-    (apart_state t.map b _ flies k.0, (apart_state t.map b _ flies k.1, each_weaker (IsFree t.map) (λ c. c ≢ b) (λ c f. apart_free t.map b c flies f) fresh free))
+pub among_one : (t : Kept) (index : ℕ) (fresh : List ℕ) → index < length t.pairs → AllByRecursion (IsFree t.map) fresh → AllByRecursion (IsPairsOrFree t) ((pair_in t index).at.0 ∷ (pair_in t index).at.1 ∷ fresh)
+among_one t index fresh below free = let k = pair_blocks t.pairs index below in (inl k.0, (inl k.1, each_weaker (IsFree t.map) (IsPairsOrFree t) (λ c f. inr f) fresh free))
 
 -- those of two pairs, and some that are free
-pub apart_up_to : (t : Kept) (index last : ℕ) (fresh : List ℕ) → index < length t.pairs → last < length t.pairs → AreUsed t.map (used_blocks t.disk t.pairs) → AllByRecursion (IsFree t.map) fresh
-    → IsApart t.map ((pair_in t index).at.0 ∷ (pair_in t index).at.1 ∷ (pair_in t last).at.0 ∷ (pair_in t last).at.1 ∷ fresh)
-apart_up_to t index last fresh below within used free b flies =
-    let k = pair_used t index below used in
-    let l = pair_used t last within used in
-    All-from_recursion (λ c. c ≢ b) ((pair_in t index).at.0 ∷ (pair_in t index).at.1 ∷ (pair_in t last).at.0 ∷ (pair_in t last).at.1 ∷ fresh) (
-      apart_state t.map b _ flies k.0,
-      (
-        apart_state t.map b _ flies k.1,
-        (
-          apart_state t.map b _ flies l.0,
-          (
-            apart_state t.map b _ flies l.1,
-            each_weaker (IsFree t.map) (λ c. c ≢ b) (λ c f. apart_free t.map b c flies f) fresh free,
-          ),
-        ),
-      ),
-    )
+pub among_two : (t : Kept) (index last : ℕ) (fresh : List ℕ) → index < length t.pairs → last < length t.pairs → AllByRecursion (IsFree t.map) fresh
+    → AllByRecursion (IsPairsOrFree t) ((pair_in t index).at.0 ∷ (pair_in t index).at.1 ∷ (pair_in t last).at.0 ∷ (pair_in t last).at.1 ∷ fresh)
+among_two t index last fresh below within free = let k = pair_blocks t.pairs index below in (inl k.0, (inl k.1, among_one t last fresh within free))
+
+-- no block that is in flight is one of them
+apart_flying : (t : Kept) (bs : List ℕ) → AreUsed t.map (used_blocks t.disk t.pairs) → AllByRecursion (IsPairsOrFree t) bs → (b : ℕ) → IsInFlight t.map b → All (λ c. c ≢ b) bs
+apart_flying t bs used each b flies = All-from_recursion (λ c. c ≢ b) bs (each_weaker (IsPairsOrFree t) (λ c. c ≢ b) other bs each)
+  where
+    other : (c : ℕ) → IsPairsOrFree t c → c ≢ b
+    other c (inl h) = apart_state t.map b c flies ((used c).1 (in_left (blocks_of t.pairs) _ c h))
+    other c (inr free) = apart_free t.map b c flies free
+
+-- nor one of a file's list
+pub apart_listed : (t : Kept) (bs : List ℕ) → IsAccepted t.disk t.pairs → AreUsed t.map (used_blocks t.disk t.pairs) → AllByRecursion (IsPairsOrFree t) bs → (path : Path) (b : ℕ) → Contains (list_at t path) b → All (λ c. c ≢ b) bs
+apart_listed t bs accepted used each path b has = All-from_recursion (λ c. c ≢ b) bs (each_weaker (IsPairsOrFree t) (λ c. c ≢ b) other bs each)
+  where
+    other : (c : ℕ) → IsPairsOrFree t c → c ≢ b
+    other c (inl h) e = no_pairs t path accepted b has (subst (Contains (blocks_of t.pairs)) e h)
+    other c (inr free) e =
+        let is = list_used t path accepted used b has in
+        let k : Free ≡ Used = same_Some Free Used (sym (subst (IsFree t.map) e free) ∙ is) in
+        absurd (cc)
+
+-- the files of an image stay where such blocks are written and their structs are as they were
+pub keeps_writing : (a c : Kept) (bs : List ℕ) → IsAccepted a.disk a.pairs → AreUsed a.map (used_blocks a.disk a.pairs) → AllByRecursion (IsPairsOrFree a) bs → Writes bs a c
+    → (path : Path) → is_file (tree_in a.disk a.pairs path) ≡ true → struct_at c.pairs path ≡ struct_at a.pairs path → KeepsFile a c path
+keeps_writing a c bs accepted used each w path file same =
+    keeps_by a c path file same (record { block_size = w.shape.block_size; page = w.shape.page; count = w.shape.count }) (λ b has. w.others.others b (apart_listed a bs accepted used each path b has))
+
+pub all_pairs : (t : Kept) → AllByRecursion (IsPairsOrFree t) (blocks_of t.pairs)
+all_pairs t = each_from_counted (IsPairsOrFree t) (blocks_of t.pairs) (λ b some. inl (Contains-count (blocks_of t.pairs) b some))
 
 -- a pair of a directory is one of the thread
 pub behind_below : (ps : List Pair) (first index : ℕ) (pair : Pair) (rest : List Pair) → IsBehind ps first index pair rest → index < length ps
@@ -103,9 +120,10 @@ behind_below ps first index pair rest h =
 
 -- ---- what is carried out
 
--- What an operation comes to that is completed by calls that write these blocks, behind others that only read.
+-- What an operation comes to that is completed by calls that write blocks of pairs and free ones, behind others that only read.
 pub record IsWorked (a : Kept) (h : List Event) (op : Operation) (c : Kept) : Type 0 where
   pub accepted : IsAccepted a.disk a.pairs
+  pub used : AreUsed a.map (used_blocks a.disk a.pairs)
   pub writable : IsWritable a.disk a.pairs
   pub settled : gstate_of a.pairs ≡ no_gstate
   pub reads : OnlyReads a.disk.blocks a.history h
@@ -113,18 +131,16 @@ pub record IsWorked (a : Kept) (h : List Event) (op : Operation) (c : Kept) : Ty
   pub stay : (b : ℕ) → IsInFlight a.map b → IsInFlight c.map b
   pub none_comes : (b : ℕ) → IsInFlight c.map b → IsInFlight a.map b
   pub completed : (files : Files) → IsCompleted a.disk a.pairs (record { tree = tree_in a.disk a.pairs; files = files }) op c.disk c.pairs
-  pub blocks : List ℕ
-  pub writes : Writes blocks (with_history a h) c
-  pub apart : IsApart a.map blocks
+  pub writes : WritesAmong (with_history a h) c
 
 pub carried : (a : Kept) (h : List Event) (op : Operation) (c : Kept) → IsWorked a h op c → renames_to_itself op ≡ false → is_recover op ≡ false → Carries a op c
 carried a h op c w other asks = record {
   works = refl;
   sound = record { accepted = w.ready.accepted; fits = λ e. w.ready.writable; is_kept = λ k. refl; used = w.ready.used; size = w.ready.size };
   writable = refl;
-  geometry = record { block_size = w.writes.shape.block_size; page = w.writes.shape.page; count = w.writes.shape.count };
-  calls = w.writes.at_worst.events ++ w.reads.events;
-  called = w.writes.at_worst.extends ∙ ap (λ z. w.writes.at_worst.events ++ z) w.reads.extends ∙ sym (append_assoc w.writes.at_worst.events w.reads.events a.history);
+  geometry = record { block_size = wrote.shape.block_size; page = wrote.shape.page; count = wrote.shape.count };
+  calls = wrote.at_worst.events ++ w.reads.events;
+  called = wrote.at_worst.extends ∙ ap (λ z. wrote.at_worst.events ++ z) w.reads.extends ∙ sym (append_assoc wrote.at_worst.events w.reads.events a.history);
   fits = w.ready.writable;
   recovered = recovered_from c.disk c.pairs w.ready.accepted w.ready.settled;
   shows = λ around files. (w.completed files).tree around;
@@ -134,7 +150,13 @@ carried a h op c w other asks = record {
   flight = record {
     stay = w.stay;
     none_comes = w.none_comes;
-    bytes = λ b flies. w.writes.others.others b (w.apart b flies);
-    unprogrammed_still = λ b k flies was. w.writes.elsewhere.stays b k (w.apart b flies) (unprogrammed-reads b k w.reads ∙ was);
+    bytes = λ b flies. wrote.others.others b (apart_flying a w.writes.blocks w.used w.writes.each b flies);
+    unprogrammed_still = λ b k flies was. wrote.elsewhere.stays b k (apart_flying a w.writes.blocks w.used w.writes.each b flies) (unprogrammed-reads b k w.reads ∙ was);
   };
+  keeps = λ path file away.
+      let k = keeps_writing (with_history a h) c w.writes.blocks w.accepted w.used w.writes.each wrote path file ((w.completed []).structs path file away (none_stored (tree_in a.disk a.pairs) op path)) in
+      record { file = k.file; list = k.list; bytes = k.bytes };
 }
+  where
+    wrote : Writes w.writes.blocks (with_history a h) c
+    wrote = w.writes.writes

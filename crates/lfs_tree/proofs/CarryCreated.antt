@@ -26,7 +26,7 @@ use Rattle.lfs_tree.specs.Allowed.{CanAdd}
 use Rattle.lfs_tree.specs.Carrying.{Carries, IsAtRest, IsPlaceFor, IsVacant, SurvivesTo}
 use Rattle.lfs_tree.specs.Held.{seen_kept}
 use Rattle.lfs_tree.specs.declared.search.Spot.{Spot}
-use Rattle.lfs_tree.proofs.Carried.{apart_in, apart_up_to, behind_below, carried, with_history}
+use Rattle.lfs_tree.proofs.Carried.{among_one, among_two, behind_below, carried, with_history}
 use Rattle.lfs_tree.proofs.CarryLogged.{logged_there}
 use Rattle.lfs_tree.proofs.CarrySurvives.{survives_behind}
 use Rattle.lfs_tree.proofs.CarryRooms.{last_is_name, room_for}
@@ -101,6 +101,7 @@ module _ (t : State) (root : ℕ) (rests : IsAtRest t root) (path : Path) (compo
       carried t.kept h (ops.Open given flags) c
       (record {
         accepted = rests.held.sound.accepted;
+        used = rests.held.sound.used;
         writable = rests.held.sound.fits refl;
         settled = rests.settled;
         reads = reads;
@@ -108,9 +109,11 @@ module _ (t : State) (root : ℕ) (rests : IsAtRest t root) (path : Path) (compo
         stay = stay_in_flight t.kept.map c.map is.now.stays;
         none_comes = is.now.none_comes;
         completed = λ files. is.completed (record { tree = tree_in t.kept.disk t.kept.pairs; files = files }) given flags refl (e ∙ place.is);
-        blocks = _;
-        writes = writes.writes;
-        apart = apart_in t.kept spot.pair writes.fresh (behind_below t.kept.pairs place.first spot.pair place.belongs.pair _ place.belongs.place) rests.held.sound.used writes.free;
+        writes = record {
+          blocks = _;
+          each = among_one t.kept spot.pair writes.fresh (behind_below t.kept.pairs place.first spot.pair place.belongs.pair _ place.belongs.place) writes.free;
+          writes = writes.writes;
+        };
       }) refl refl
 
   pub made_at : (c : Kept) (given : List ℕ) → OnlyReads t.kept.disk.blocks t.kept.history h → WritesUpTo (with_history t.kept h) spot.pair c
@@ -121,6 +124,7 @@ module _ (t : State) (root : ℕ) (rests : IsAtRest t root) (path : Path) (compo
       carried t.kept h (ops.Mkdir given) c
       (record {
         accepted = rests.held.sound.accepted;
+        used = rests.held.sound.used;
         writable = rests.held.sound.fits refl;
         settled = rests.settled;
         reads = reads;
@@ -128,9 +132,11 @@ module _ (t : State) (root : ℕ) (rests : IsAtRest t root) (path : Path) (compo
         stay = stay_in_flight t.kept.map c.map is.now.stays;
         none_comes = is.now.none_comes;
         completed = λ files. is.completed (record { tree = tree_in t.kept.disk t.kept.pairs; files = files }) given refl (e ∙ place.is);
-        blocks = _;
-        writes = writes.writes;
-        apart = apart_up_to t.kept spot.pair writes.last writes.fresh (behind_below t.kept.pairs place.first spot.pair place.belongs.pair _ place.belongs.place) writes.is_last.below rests.held.sound.used writes.free;
+        writes = record {
+          blocks = _;
+          each = among_two t.kept spot.pair writes.last writes.fresh (behind_below t.kept.pairs place.first spot.pair place.belongs.pair _ place.belongs.place) writes.is_last.below writes.free;
+          writes = writes.writes;
+        };
       }) refl refl
 
   abbrev before : Tree

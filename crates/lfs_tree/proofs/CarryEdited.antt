@@ -1,6 +1,7 @@
 -- An entry whose attributes change, at a path.
 use Rattle.std.proofs.Common.{ℕ, ◌≡◌, ◌<◌, ◌≤◌, ◌∙◌, ◌++◌, true, false, List, [], ◌∷◌, length, Some, None, refl, sym, ap, subst}
 use Rattle.std.specs.Prelude.{All, is_none}
+use Rattle.std.specs.List.{AllByRecursion}
 use Rattle.std.specs.Option.{option_map}
 use Rattle.std.proofs.lemmas.Bool.{ltb-false}
 use Rattle.std.proofs.lemmas.List.Elements.{recursion_from_All}
@@ -32,7 +33,7 @@ use Rattle.lfs_tree.specs.Paths.{LeadsTo, StandsOnPath}
 use Rattle.lfs_tree.specs.declared.paths.Found.{Found}
 use Rattle.lfs_tree.specs.declared.paths.Found.TheVariants as found
 use Rattle.lfs_tree.specs.declared.search.Spot.{Spot}
-use Rattle.lfs_tree.proofs.Carried.{IsApart, behind_below, carried, with_history}
+use Rattle.lfs_tree.proofs.Carried.{IsPairsOrFree, behind_below, carried, with_history}
 use Rattle.lfs_tree.proofs.CarryCreated.{ready_to, stay_in_flight}
 use Rattle.lfs_tree.proofs.CarryLogged.{logged_there}
 use Rattle.lfs_tree.proofs.CarrySurvives.{survives_behind}
@@ -130,11 +131,12 @@ module _ (t : State) (root : ℕ) (rests : IsAtRest t root) (path : Path) (large
   pub slot_below : spot.pair < length t.kept.pairs
   slot_below = behind_below t.kept.pairs slot.first spot.pair slot.stands.stands.pair slot.stands.stands.rest slot.stands.stands.place
 
-  edited_at : (c : Kept) (f : Attributes → Attributes) (op : List ℕ → Operation) (given : List ℕ) (bs : List ℕ) → OnlyReads t.kept.disk.blocks t.kept.history h → Writes bs (with_history t.kept h) c → IsApart t.kept.map bs
+  edited_at : (c : Kept) (f : Attributes → Attributes) (op : List ℕ → Operation) (given : List ℕ) (bs : List ℕ) → OnlyReads t.kept.disk.blocks t.kept.history h → Writes bs (with_history t.kept h) c → AllByRecursion (IsPairsOrFree t.kept) bs
       → IsEdited (with_history t.kept h) c slot.above slot.name f op → as_path given ≡ path → renames_to_itself (op given) ≡ false → is_recover (op given) ≡ false → Carries t.kept (op given) c
-  edited_at c f op given bs reads writes apart is e other asks = carried t.kept h (op given) c
+  edited_at c f op given bs reads writes among is e other asks = carried t.kept h (op given) c
       (record {
         accepted = rests.held.sound.accepted;
+        used = rests.held.sound.used;
         writable = rests.held.sound.fits refl;
         settled = rests.settled;
         reads = reads;
@@ -142,25 +144,23 @@ module _ (t : State) (root : ℕ) (rests : IsAtRest t root) (path : Path) (large
         stay = stay_in_flight t.kept.map c.map is.now.stays;
         none_comes = is.now.none_comes;
         completed = λ files. is.completed (record { tree = tree_in t.kept.disk t.kept.pairs; files = files }) given refl (e ∙ slot.is);
-        blocks = bs;
-        writes = writes;
-        apart = apart;
+        writes = record { blocks = bs; each = among; writes = writes };
       }) other asks
 
   pub set_at : (c : Kept) (kind : ℕ) (bytes_given given : List ℕ) (bs : List ℕ) → CanSetAttr (seen_kept t.kept true false) path kind bytes_given → OnlyReads t.kept.disk.blocks t.kept.history h → Writes bs (with_history t.kept h) c
-      → IsApart t.kept.map bs → ((set : CanSetAttribute (with_history t.kept h) spot.pair spot.id kind bytes_given) → HasSetAttribute (with_history t.kept h) c set.can.path set.can.name kind bytes_given)
+      → AllByRecursion (IsPairsOrFree t.kept) bs → ((set : CanSetAttribute (with_history t.kept h) spot.pair spot.id kind bytes_given) → HasSetAttribute (with_history t.kept h) c set.can.path set.can.name kind bytes_given)
       → as_path given ≡ path → Carries t.kept (ops.SetAttr given kind bytes_given) c
   unfolding can_set can_edit
-  set_at c kind bytes_given given bs can reads writes apart gives e =
+  set_at c kind bytes_given given bs can reads writes among gives e =
       let is : HasSetAttribute (with_history t.kept h) c slot.above slot.name kind bytes_given = gives (can_set kind bytes_given can) in
-      edited_at c (put_attribute kind bytes_given) (λ z. ops.SetAttr z kind bytes_given) given bs reads writes apart is e refl refl
+      edited_at c (put_attribute kind bytes_given) (λ z. ops.SetAttr z kind bytes_given) given bs reads writes among is e refl refl
 
-  pub cleared_at : (c : Kept) (kind : ℕ) (given : List ℕ) (bs : List ℕ) → OnlyReads t.kept.disk.blocks t.kept.history h → Writes bs (with_history t.kept h) c → IsApart t.kept.map bs
+  pub cleared_at : (c : Kept) (kind : ℕ) (given : List ℕ) (bs : List ℕ) → OnlyReads t.kept.disk.blocks t.kept.history h → Writes bs (with_history t.kept h) c → AllByRecursion (IsPairsOrFree t.kept) bs
       → ((can : CanEdit (with_history t.kept h) spot.pair spot.id) → HasRemovedAttribute (with_history t.kept h) c can.path can.name kind) → as_path given ≡ path → Carries t.kept (ops.RemoveAttr given kind) c
   unfolding can_edit
-  cleared_at c kind given bs reads writes apart gives e =
+  cleared_at c kind given bs reads writes among gives e =
       let is : HasRemovedAttribute (with_history t.kept h) c slot.above slot.name kind = gives can_edit in
-      edited_at c (without_attribute kind) (λ z. ops.RemoveAttr z kind) given bs reads writes apart is e refl refl
+      edited_at c (without_attribute kind) (λ z. ops.RemoveAttr z kind) given bs reads writes among is e refl refl
 
   edit_survives : (c : Kept) (f : Attributes → Attributes) (bs : List ℕ) → OnlyReads t.kept.disk.blocks t.kept.history h → Writes bs (with_history t.kept h) c
       → SurvivesTo (with_history t.kept h) c (with_attributes_at t.kept slot.above slot.name f) → SurvivesTo t.kept c (with_attributes_changed path f (tree_in t.kept.disk t.kept.pairs))

@@ -26,11 +26,13 @@ use Rattle.lfs_operations.specs.Removing.{goes_whole, written_at}
 use Rattle.lfs_thread.specs.Device.{two_of}
 use Rattle.lfs_thread.specs.Kept.{Kept}
 use Rattle.lfs_thread.specs.Steps.{HasShape, Writes, pair_in}
+use Rattle.lfs_operations.specs.Moving.{WritesAmong}
 use Rattle.lfs_tree.specs.Entry.{ShowsContents}
-use Rattle.lfs_tree.specs.Going.{CanFree, WritesUsed, list_shown, no_list}
+use Rattle.lfs_tree.specs.Going.{CanFree, list_shown, no_list}
 use Rattle.lfs_tree.specs.declared.entry.Contents.{Contents}
 use Rattle.lfs_tree.specs.declared.entry.Contents.TheVariants as shown
-use Rattle.lfs_tree.proofs.Carried.{behind_below, pair_blocks, pair_used}
+use Rattle.lfs_tree.proofs.Carried.{behind_below, pair_blocks}
+use Rattle.lfs_tree.proofs.KeptFiles.{among_files}
 use Rattle.lfs_writer.specs.Based.{IsBase}
 use Rattle.lfs_writer.specs.Settled.{IsSettled}
 
@@ -45,18 +47,6 @@ each_here P t index id can h =
     let here = (each_right (λ (p : Pair). Each P p.content.slots) place.left (can.stands.pair ∷ can.stands.rest)
     (each_right (λ (p : Pair). Each P p.content.slots) place.front (place.left ++ can.stands.pair ∷ can.stands.rest) pieces)).0 in
     (each_right P stands.left (stands.slot ∷ stands.right) (subst (Each P) stands.held here)).0
-
--- each of them is one of the image's files
-pub among_files : (b : ℕ) (disk : Disk) (slots : List Slot) → Each (λ (s : Slot). count b (file_blocks disk s.struct) ≤ count b (files_of disk slots)) slots
-among_files b disk [] = tt
-among_files b disk (s ∷ slots) =
-    let e = count_append b (file_blocks disk s.struct) (files_of disk slots) in
-    (omega arith, weaker slots (among_files b disk slots))
-  where
-    weaker : (xs : List Slot) → Each (λ (x : Slot). count b (file_blocks disk x.struct) ≤ count b (files_of disk slots)) xs
-        → Each (λ (x : Slot). count b (file_blocks disk x.struct) ≤ count b (files_of disk (s ∷ slots))) xs
-    weaker [] h = tt
-    weaker (x ∷ xs) h = (let l = h.0 in let e = count_append b (file_blocks disk s.struct) (files_of disk slots) in omega arith, weaker xs h.1)
 
 module _ (t : Kept) (index id : ℕ) (can : CanEdit t index id) where
   abbrev struct : Struct
@@ -75,15 +65,6 @@ module _ (t : Kept) (index id : ℕ) (can : CanEdit t index id) where
 
 -- ---- which blocks are written
 
-used_of : (t : Kept) (at other : ℕ × ℕ) (b : Bool) → IsUsed t.map at.0 × IsUsed t.map at.1 → IsUsed t.map other.0 × IsUsed t.map other.1 → IsUsed t.map (cond b at other).0 × IsUsed t.map (cond b at other).1
-used_of t at other true h k = h
-used_of t at other false h k = k
-
--- those of a pair, and of one in front of it
-pub written_used : (t : Kept) (index first : ℕ) → index < length t.pairs → AreUsed t.map (used_blocks t.disk t.pairs) → IsUsed t.map (written_at t index first).0 × IsUsed t.map (written_at t index first).1
-written_used t index first below used =
-    used_of t (pair_in t (index - 1)).at (pair_in t index).at (goes_whole t index first) (pair_used t (index - 1) (omega arith) used) (pair_used t index below used)
-
 counted_of : (bs : List ℕ) (at other : ℕ × ℕ) (b : Bool) → (1 ≤ count at.0 bs) × (1 ≤ count at.1 bs) → (1 ≤ count other.0 bs) × (1 ≤ count other.1 bs) → (1 ≤ count (cond b at other).0 bs) × (1 ≤ count (cond b at other).1 bs)
 counted_of bs at other true h k = h
 counted_of bs at other false h k = k
@@ -96,6 +77,12 @@ in_pairs t index first below =
     (count-Contains (blocks_of t.pairs) (pair_in t (index - 1)).at.0 a.0, count-Contains (blocks_of t.pairs) (pair_in t (index - 1)).at.1 a.1)
     (count-Contains (blocks_of t.pairs) (pair_in t index).at.0 b.0, count-Contains (blocks_of t.pairs) (pair_in t index).at.1 b.1)
 
+-- those of a pair, and of one in front of it
+pub written_pairs : (t : Kept) (index first : ℕ) → index < length t.pairs → Contains (blocks_of t.pairs) (written_at t index first).0 × Contains (blocks_of t.pairs) (written_at t index first).1
+written_pairs t index first below =
+    let k = in_pairs t index first below in
+    (Contains-count (blocks_of t.pairs) (written_at t index first).0 k.0, Contains-count (blocks_of t.pairs) (written_at t index first).1 k.1)
+
 -- calls that only read, behind those that write
 pub writes_then : (a b c : Kept) (bs : List ℕ) → Writes bs a b → IsReadBesideMap b c → Writes bs a c
 writes_then a b c bs w r = record {
@@ -105,16 +92,16 @@ writes_then a b c bs w r = record {
   at_worst = LeavesOnly-trans w.at_worst (LeavesOnly-reads AtWorst-read r.reads w.others);
 }
 
-not_both : (sets : BlockSets) (b : ℕ) → IsUsed sets b → IsInFlight sets b → ⊥
+pub not_both : (sets : BlockSets) (b : ℕ) → IsUsed sets b → IsInFlight sets b → ⊥
 not_both sets b is flies = let k : Used ≡ InFlight = same_Some Used InFlight (sym is ∙ flies) in absurd (cc)
 
-not_free : (sets : BlockSets) (b : ℕ) → slice_get sets b ≡ Some Free → IsInFlight sets b → ⊥
+pub not_free : (sets : BlockSets) (b : ℕ) → slice_get sets b ≡ Some Free → IsInFlight sets b → ⊥
 not_free sets b is flies = let k : Free ≡ InFlight = same_Some Free InFlight (sym is ∙ flies) in absurd (cc)
 
-pub file_writes : (old new : Kept) (index id first : ℕ) (can : CanEdit old index id) → Writes (two_of (written_at old index first)) old new → WritesUsed old new
+pub file_writes : (old new : Kept) (index id first : ℕ) (can : CanEdit old index id) → Writes (two_of (written_at old index first)) old new → WritesAmong old new
 file_writes old new index id first can w = record {
   blocks = two_of (written_at old index first);
-  used = (let k = written_used old index first (behind_below old.pairs can.first index can.stands.pair can.stands.rest can.stands.place) can.ready.used in (k.0, (k.1, tt)));
+  each = (let k = written_pairs old index first (behind_below old.pairs can.first index can.stands.pair can.stands.rest can.stands.place) in (inl k.0, (inl k.1, tt)));
   writes = w;
 }
 

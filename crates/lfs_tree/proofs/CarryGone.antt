@@ -1,11 +1,9 @@
 -- An entry that goes, at a path.
-use Rattle.std.proofs.Common.{ℕ, ◌≡◌, ◌≢◌, ◌≤◌, ◌-◌, ◌∙◌, ◌++◌, true, false, List, [], ◌∷◌, length, Some, None, ◌⊎◌, Result, Ok, Err, refl, sym, ap, subst, arith}
+use Rattle.std.proofs.Common.{ℕ, ◌≡◌, ◌≤◌, ◌-◌, ◌∙◌, ◌++◌, true, false, List, [], ◌∷◌, length, Some, None, ◌⊎◌, inl, Result, Ok, Err, refl, sym, ap, subst, arith}
 use Rattle.std.specs.Prelude.{nat_lt, IfErr, is_err}
-use Rattle.std.specs.List.{AllByRecursion}
 use Rattle.std.specs.Option.{option_and_then}
 use Rattle.std.proofs.lemmas.Bool.{ltb-false}
 use Rattle.std.proofs.lemmas.List.{length-map}
-use Rattle.std.proofs.lemmas.List.Elements.{All-from_recursion}
 use Rattle.std.proofs.lemmas.Option.{same_Some}
 use Rattle.lfs_device.specs.Bytes.{HasBytes}
 use Rattle.lfs_device.specs.declared.error.Error.{Error}
@@ -13,7 +11,6 @@ use Rattle.lfs_device.specs.declared.error.Error.TheVariants.{Io, NoMemory}
 use Rattle.lfs_files.specs.Settling.{IsReadBesideMap}
 use Rattle.lfs_files.specs.Standing.{TellsWork}
 use Rattle.lfs_model.specs.Apply.{names_of, removed}
-use Rattle.lfs_model.specs.BlockSets.{BlockSets, IsUsed}
 use Rattle.lfs_model.specs.Disk.{Disk}
 use Rattle.lfs_model.specs.History.{Event, OnlyReads}
 use Rattle.lfs_model.specs.Operations as ops
@@ -24,7 +21,6 @@ use Rattle.lfs_model.specs.Tree.{Path, branch_of}
 use Rattle.lfs_model.specs.View.{Leads, entries_in, tree_in, used_blocks}
 use Rattle.lfs_model.proofs.BlockSets.{Contains-count, count-Contains}
 use Rattle.lfs_model.proofs.Committed.{IsCompleted, no_move_from}
-use Rattle.lfs_model.proofs.Counts.{each_weaker}
 use Rattle.lfs_operations.specs.Dropping.{SameInFlight}
 use Rattle.lfs_operations.specs.Ready.{IsReady, IsReadyBut}
 use Rattle.lfs_operations.specs.Removing.{IsRemoved, TellsOfCalls, written_at}
@@ -32,11 +28,12 @@ use Rattle.lfs_operations.specs.Unlinking.{CanRemoveDirectory, IsDirectoryRemove
 use Rattle.lfs_thread.specs.Device.{four_of}
 use Rattle.lfs_thread.specs.Kept.{Kept, State}
 use Rattle.lfs_thread.specs.Steps.{Writes, pair_in}
+use Rattle.lfs_operations.specs.Moving.{WritesAmong}
 use Rattle.lfs_tree.specs.Allowed.{CanRemove}
 use Rattle.lfs_tree.specs.Carrying.{Carries, IsAtRest, SurvivesTo}
 use Rattle.lfs_tree.specs.CarryingSlots.{HasEntry, IsSlotFor, has_slot}
 use Rattle.lfs_tree.specs.Entry.{ShowsContents}
-use Rattle.lfs_tree.specs.Going.{CanGo, HasGone, IsEntryOn, WritesUsed}
+use Rattle.lfs_tree.specs.Going.{CanGo, HasGone, IsEntryOn}
 use Rattle.lfs_tree.specs.Held.{seen_kept}
 use Rattle.lfs_tree.specs.Paths.{LeadsTo, StandsOnPath}
 use Rattle.lfs_tree.specs.declared.entry.Contents.{Contents}
@@ -45,9 +42,9 @@ use Rattle.lfs_tree.specs.declared.paths.Found.{Found}
 use Rattle.lfs_tree.specs.declared.paths.Found.TheVariants as found
 use Rattle.lfs_tree.specs.declared.search.Spot.{Spot}
 use Rattle.lfs_tree.proofs.AtPaths.{directory_at_path}
-use Rattle.lfs_tree.proofs.Carried.{IsApart, apart_state, behind_below, carried, pair_used, with_history}
+use Rattle.lfs_tree.proofs.Carried.{among_one, behind_below, carried, with_history}
 use Rattle.lfs_tree.proofs.CarryEdited.{can_edit, slot_found}
-use Rattle.lfs_tree.proofs.CarryFreed.{shape_geometry, written_used}
+use Rattle.lfs_tree.proofs.CarryFreed.{shape_geometry, written_pairs}
 use Rattle.lfs_tree.proofs.CarrySurvives.{survives_left}
 use Rattle.lfs_tree.proofs.CarryTold.{IsTold}
 use Rattle.lfs_tree.proofs.Directories.{within}
@@ -167,26 +164,23 @@ file_gone old mid new path above name struct e is only ready flying = record {
       (subst (λ (ps : List Pair). IsCompleted old.disk old.pairs s (ops.Remove given) mid.disk ps) (sym only.pairs) (is.completed s given tree (given_is ∙ e)));
 }
 
-pub directory_writes : (old new : Kept) (pair id first gone : ℕ) → CanRemoveDirectory old pair id first gone → Writes (four_of (written_at old pair first) (pair_in old (gone - 1)).at) old new → WritesUsed old new
+pub directory_writes : (old new : Kept) (pair id first gone : ℕ) → CanRemoveDirectory old pair id first gone → Writes (four_of (written_at old pair first) (pair_in old (gone - 1)).at) old new → WritesAmong old new
 directory_writes old new pair id first gone take w = record {
   blocks = four_of (written_at old pair first) (pair_in old (gone - 1)).at;
-  used = (
-      let k = written_used old pair first (behind_below old.pairs take.can.first pair take.can.stands.pair take.can.stands.rest take.can.stands.place) take.can.ready.used in
+  each = (
+      let k = written_pairs old pair first (behind_below old.pairs take.can.first pair take.can.stands.pair take.can.stands.rest take.can.stands.place) in
       let b = take.below in
-      let m = pair_used old (gone - 1) (omega arith) take.can.ready.used in
-      (k.0, (k.1, (m.0, (m.1, tt))))
+      (inl k.0, (inl k.1, among_one old (gone - 1) [] (omega arith) tt))
       );
   writes = w;
 }
 
-apart_used : (sets : BlockSets) (bs : List ℕ) → AllByRecursion (IsUsed sets) bs → IsApart sets bs
-apart_used sets bs used b flies = All-from_recursion (λ c. c ≢ b) bs (each_weaker (IsUsed sets) (λ c. c ≢ b) (λ c is. apart_state sets b c flies is) bs used)
-
-module _ (t : State) (root : ℕ) (rests : IsAtRest t root) (path : Path) (h : List Event) (c : Kept) (reads : OnlyReads t.kept.disk.blocks t.kept.history h) (w : WritesUsed (with_history t.kept h) c) where
+module _ (t : State) (root : ℕ) (rests : IsAtRest t root) (path : Path) (h : List Event) (c : Kept) (reads : OnlyReads t.kept.disk.blocks t.kept.history h) (w : WritesAmong (with_history t.kept h) c) where
   pub removed_at : (given : List ℕ) → HasGone (with_history t.kept h) path c → as_path given ≡ path → Carries t.kept (ops.Remove given) c
   removed_at given g e = carried t.kept h (ops.Remove given) c
       (record {
         accepted = rests.held.sound.accepted;
+        used = rests.held.sound.used;
         writable = rests.held.sound.fits refl;
         settled = rests.settled;
         reads = reads;
@@ -194,9 +188,7 @@ module _ (t : State) (root : ℕ) (rests : IsAtRest t root) (path : Path) (h : L
         stay = λ b flies. (g.flying b).1 flies;
         none_comes = λ b flies. (g.flying b).0 flies;
         completed = λ files. g.completed (record { tree = tree_in t.kept.disk t.kept.pairs; files = files }) given refl e;
-        blocks = w.blocks;
-        writes = w.writes;
-        apart = apart_used t.kept.map w.blocks w.used;
+        writes = w;
       }) refl refl
 
 -- ---- what it tells

@@ -30,6 +30,7 @@ carried_on a b op h reads apart other k = record {
     bytes = k.flight.bytes;
     unprogrammed_still = λ i j f u. unprogrammed-reads i j reads ∙ k.flight.unprogrammed_still i j f u;
   };
+  keeps = λ path file away. let keeps = k.keeps path file away in record { file = keeps.file; list = keeps.list; bytes = keeps.bytes };
 }
 
 pub carried_read : (a b c : Kept) (op : Operation) → IsOnlyRead b c → renames_to_itself op ≡ false → is_recover op ≡ false → Carries a op b → Carries a op c

@@ -13,6 +13,8 @@ pub mod Visits
 pub mod Reached
 pub mod Scanned
 pub mod Recovered
+pub mod RecoveredTwice
+pub mod RecoveredFirst
 pub mod Sizes
 pub mod Roots
 pub mod Formatted
@@ -30,10 +32,13 @@ pub mod CarryEdited
 pub mod SameDirectory
 pub mod Shifted
 pub mod ShiftedSlots
+pub mod ShiftedPlaces
 pub mod ShiftedFiles
+pub mod ShiftedDirectories
 pub mod CarrySurvives
 pub mod AtPaths
 pub mod ListAtShort
+pub mod LostLists
 pub mod ListAtItems
 pub mod Asking
 pub mod UsedBlocks
@@ -45,6 +50,7 @@ pub mod CarryFreed
 pub mod CarryGone
 pub mod AttributesPut
 pub mod SlotsHave
+pub mod KeptFiles
 pub mod BesideImage
 pub mod BesideWritten
 pub mod OpenedFiles
@@ -52,3 +58,7 @@ pub mod PutContents
 pub mod CommitContents
 pub mod SettledContents
 pub mod StoreContents
+pub mod ContentsStay
+pub mod WritersStay
+pub mod TakenBlocks
+pub mod TakenEdits

@@ -1,19 +1,22 @@
 -- A recovery over a thread, step by step.
-use Rattle.std.proofs.Common.{ℕ, zero, suc, ◌≡◌, ◌≢◌, ◌+◌, ◌≤◌, ◌<◌, ◌⊎◌, ◌∙◌, ◌==◌, inl, inr, Bool, true, false, not, eqb-true, List, [], ◌∷◌, ◌++◌, length, drop, take, get_or, Option, None, Result, Err, refl, sym, ap, ap₂, subst, subst₂, arith, append_assoc, flat_map, length-append}
+use Rattle.std.proofs.Common.{ℕ, zero, suc, ◌≡◌, ◌≢◌, ◌+◌, ◌≤◌, ◌<◌, ◌⊎◌, ◌∙◌, ◌==◌, inl, inr, Bool, true, false, not, eqb-true, List, [], ◌∷◌, ◌++◌, length, take, get_or, Option, None, Result, Err, refl, sym, ap, ap₂, subst, subst₂, arith, append_assoc, flat_map, length-append}
 use Rattle.std.specs.Prelude.{All, IfErr}
 use Rattle.std.proofs.lemmas.List.Elements.{All-from_recursion}
 use Rattle.std.proofs.lemmas.Option.{same_Some}
 use Rattle.lfs_device.specs.declared.error.Error.{Error}
-use Rattle.lfs_device.specs.declared.error.Error.TheVariants.{Io, NoMemory, Unsupported}
+use Rattle.lfs_device.specs.declared.error.Error.TheVariants.{Io, NoMemory}
+use Rattle.lfs_files.specs.Settling.{IsReadBesideMap}
+use Rattle.lfs_files.specs.Standing.{TellsWork}
 use Rattle.lfs_model.specs.BlockSets.{AreUsed, IsInFlight, IsUsed}
 use Rattle.lfs_model.specs.BlockSets.BlockState.{InFlight, Used}
 use Rattle.lfs_model.specs.Disk.{Disk}
 use Rattle.lfs_model.specs.History.{EachEvent, EachSince, Event, OnlyReads, faults}
+use Rattle.lfs_model.specs.Keeping.{struct_at}
 use Rattle.lfs_model.specs.Layout.{onward}
 use Rattle.lfs_model.specs.Operations as ops
 use Rattle.lfs_model.specs.PowerLoss.{IsLeft, Survives, with_blocks}
 use Rattle.lfs_model.specs.Session.{Files, Session}
-use Rattle.lfs_model.specs.Slots.{Gstate, Slot, no_gstate}
+use Rattle.lfs_model.specs.Slots.{Gstate, no_gstate}
 use Rattle.lfs_model.specs.Written.{is_no_gstate}
 use Rattle.std.proofs.lemmas.Bool.{and_parts}
 use Rattle.lfs_device.specs.declared.device.BlockDevice.{Ghosts}
@@ -24,28 +27,30 @@ use Rattle.lfs_model.specs.Tree.{Tree}
 use Rattle.lfs_model.specs.View.{IsAccepted, IsReached, IsWritable, all_slots, file_blocks, tree_in, used_blocks}
 use Rattle.lfs_model.proofs.AfterStops.{survives_then}
 use Rattle.lfs_model.proofs.Arranged.{arranged_after, arranged_settled, recovered_stays}
-use Rattle.lfs_model.proofs.BlockSets.{Contains-count, count-Contains}
-use Rattle.lfs_model.proofs.Committed.{IsCompleted, recovered_from}
+use Rattle.lfs_model.proofs.BlockSets.{Contains-count}
+use Rattle.lfs_model.proofs.Committed.{IsCompleted, no_move_from, recovered_from}
 use Rattle.lfs_model.proofs.Counts.{count, count_append}
 use Rattle.lfs_model.proofs.Found.{chain_of_thread}
+use Rattle.lfs_model.proofs.KeptStructs.{struct_stays}
+use Rattle.lfs_model.proofs.LeftFiles.{same_leaves}
+use Rattle.lfs_model.proofs.Global.{HasNoMove}
 use Rattle.lfs_model.proofs.Histories.{LeavesOnly-reads, LeavesOnly-weaker, Stops-read, unprogrammed-reads}
 use Rattle.lfs_operations.specs.Dropping.{SameInFlight}
-use Rattle.lfs_operations.specs.Ready.{IsReady, IsReadyBut}
-use Rattle.lfs_operations.specs.Recovering.{AreBare, AreUnreached, AreUnreachedFrom, CanDropUnreached, CanEndMove, HasEndedMove, HasRecovered, TellsOfSteps}
+use Rattle.lfs_operations.specs.Ready.{IsReady}
+use Rattle.lfs_operations.specs.Recovering.{AreUnreached, AreUnreachedFrom, CanDropUnreached, CanEndMove, HasEndedMove, HasRecovered, TellsOfSteps}
+use Rattle.lfs_operations.proofs.RecoverMap.{count_used}
 use Rattle.lfs_operations.proofs.RecoverWrites.{none_there}
 use Rattle.lfs_thread.specs.Kept.{Kept, State}
-use Rattle.lfs_thread.specs.Steps.{HasTold, IsOnlyRead, Writes, no_pair}
-use Rattle.lfs_tree.specs.Carrying.{Carries, HasCalled, SurvivesTo}
+use Rattle.lfs_thread.specs.Steps.{HasTold, IsOnlyRead, Writes}
+use Rattle.lfs_tree.specs.Carrying.{Carries, HasCalled, SurvivesTo, TellsError}
 use Rattle.lfs_tree.specs.Held.{IsHeld, IsRooted, seen_image, seen_kept}
-use Rattle.lfs_tree.specs.Recovering.{CanDropLost, HasDroppedLost, IsRecoverError, TellsRecoverError}
-use Rattle.lfs_tree.specs.Seen.{IsCarried, IsSound, LeavesFlight, Seen, tree_seen}
-use Rattle.lfs_tree.proofs.Carried.{read_is, with_history}
+use Rattle.lfs_tree.specs.Recovering.{CanDropLost, HasDroppedLost}
+use Rattle.lfs_tree.specs.Seen.{IsCarried, IsSound, LeavesFlight, Seen, kept_of, tree_seen}
+use Rattle.lfs_tree.proofs.Carried.{all_pairs, keeps_writing, read_is, with_history}
+use Rattle.lfs_tree.proofs.CarryFreed.{writes_then}
+use Rattle.lfs_tree.proofs.KeptFiles.{keeps_same, keeps_then}
 
 -- ---- numbers of pairs
-
-pub none_long : (slots : List Slot) → length slots ≤ 0 → slots ≡ []
-none_long [] l = refl
-none_long (s ∷ slots) l = absurd (omega arith)
 
 numbers_from : (R : ℕ × ℕ → Type 0) (n : ℕ) (from : Option (ℕ × ℕ)) (xs : List Pair) (numbers : List ℕ) → AreUnreachedFrom R n from xs numbers → (j : ℕ) → j < length numbers → get_or numbers j 0 < n + length xs
 numbers_from R n from [] numbers h j low = absurd (let l = ap length h in omega arith)
@@ -64,25 +69,6 @@ numbers_below ps numbers h j low =
     let a = ap superblocks_before c.0 ∙ c.1 in
     let b = ap length c.0 ∙ length-append (take (superblocks_before ps) ps) (directory_pairs ps) in
     omega arith
-
-cut : (n : ℕ) (ps : List Pair) (x : Pair) (xs : List Pair) → drop n ps ≡ x ∷ xs → (get_or ps n no_pair ≡ x) × (drop (suc n) ps ≡ xs)
-cut zero [] x xs e = absurd (cc)
-cut zero (p ∷ ps) x xs e = (cc, cc)
-cut (suc n) [] x xs e = absurd (cc)
-cut (suc n) (p ∷ ps) x xs e = cut n ps x xs e
-
-bare_from : (R : ℕ × ℕ → Type 0) (ps : List Pair) (n : ℕ) (from : Option (ℕ × ℕ)) (xs : List Pair) (numbers : List ℕ) → drop n ps ≡ xs → AreUnreachedFrom R n from xs numbers
-    → ((j : ℕ) → j < length numbers → (get_or ps (get_or numbers j 0) no_pair).content.slots ≡ []) → AreBare R from xs
-bare_from R ps n from [] numbers e h none = tt
-bare_from R ps n from (x ∷ xs) numbers e (inl h) none = ((λ not. absurd (not h.0)), bare_from R ps (suc n) (onward from x) xs numbers (cut n ps x xs e).1 h.1 none)
-bare_from R ps n from (x ∷ xs) numbers e (inr h) none =
-    let all = subst (λ z. (j : ℕ) → j < length z → (get_or ps (get_or z j 0) no_pair).content.slots ≡ []) h.1.0 none in (
-      (λ not. ap (λ (p : Pair). p.content.slots) (sym (cut n ps x xs e).0) ∙ all 0 (omega arith)),
-      bare_from R ps (suc n) (onward from x) xs h.0 (cut n ps x xs e).1 h.1.1.1 (λ j l. all (suc j) (omega arith)),
-    )
-
-pub all_bare : (ps : List Pair) (numbers : List ℕ) → AreUnreached ps numbers → ((j : ℕ) → j < length numbers → (get_or ps (get_or numbers j 0) no_pair).content.slots ≡ []) → AreBare (IsReached ps) None (directory_pairs ps)
-all_bare ps numbers h none = bare_from (IsReached ps) ps (superblocks_before ps) None (directory_pairs ps) numbers refl h none
 
 -- ---- blocks in flight
 
@@ -105,7 +91,7 @@ leaves_same a c used same w = record {
   unprogrammed_still = λ b k flies was. w.elsewhere.stays b k (apart_pairs a used b flies) was;
 }
 
-leaves_then : (a b c : Seen) → LeavesFlight a b → LeavesFlight b c → LeavesFlight a c
+pub leaves_then : (a b c : Seen) → LeavesFlight a b → LeavesFlight b c → LeavesFlight a c
 leaves_then a b c f g = record {
   stay = λ x flies. g.stay x (f.stay x flies);
   none_comes = λ x flies. f.none_comes x (g.none_comes x flies);
@@ -134,33 +120,36 @@ can_drop t m numbers can large r told = subst (λ z. CanDropUnreached z numbers)
   told = told;
 })
 
-ready_from : (t : Kept) → IsReadyBut t [] [] → IsReady t
-ready_from t r = record {
-  accepted = r.accepted;
-  writable = r.writable;
-  settled = r.settled;
-  used = λ b. (
-    (λ h. Contains-count (used_blocks t.disk t.pairs) b (let k = count-Contains r.used.owned b ((r.used.are b).0 h) in let e = r.used.same b in omega arith)),
-    (λ h. (r.used.are b).1 (Contains-count r.used.owned b (let k = count-Contains (used_blocks t.disk t.pairs) b h in let e = r.used.same b in omega arith))),
-  );
-  size = r.size;
-  large = r.large;
+-- the lists are freed behind the drop
+pub freed : (old mid new : Kept) (numbers : List ℕ) → IsAccepted old.disk old.pairs → AreUsed old.map (used_blocks old.disk old.pairs) → HasNoMove (gstate_of old.pairs) → HasRecovered old numbers mid → Writes (blocks_of old.pairs) old mid → IsReadBesideMap mid new → IsReady new → SameInFlight mid.map new.map
+    → HasDroppedLost old new
+freed old mid new numbers accepted used none r w only ready flying = record {
+  ready = ready;
+  shows = ap₂ (λ (disk : Disk) (ps : List Pair). tree_in disk ps) only.disk only.pairs ∙ r.shows;
+  completed = λ s tree. subst₂ (λ (disk : Disk) (ps : List Pair). IsCompleted old.disk old.pairs s ops.Recover disk ps) (sym only.disk) (sym only.pairs) (r.completed s tree);
+  fewer = λ b.
+      let e = ap₂ (λ (disk : Disk) (ps : List Pair). count b (used_blocks disk ps)) only.disk only.pairs in
+      let u = count_used b mid.disk mid.pairs (no_move_from mid.pairs r.ready.settled) in
+      let v = count_used b old.disk old.pairs none in
+      let k = r.fewer b in let l = r.lost b in
+      omega arith;
+  keeps = λ path file. keeps_writing old new (blocks_of old.pairs) accepted used (all_pairs old) (writes_then old mid new (blocks_of old.pairs) w only) path file
+      (ap (λ (ps : List Pair). struct_at ps path) only.pairs ∙ (r.completed (record { tree = tree_in old.disk old.pairs; files = [] }) refl).structs path file refl refl);
+  flight = leaves_same old new used (λ b. ((λ flies. (r.flying b).0 ((flying b).0 flies)), (λ flies. (flying b).1 ((r.flying b).1 flies)))) (writes_then old mid new (blocks_of old.pairs) w only);
 }
 
-dropped_behind : (t : Kept) (h : List Event) (d : Kept) → CanDropLost t → OnlyReads t.disk.blocks t.history h → AreBare (IsReached t.pairs) None (directory_pairs t.pairs)
-    → HasRecovered (with_history t h) d → Writes (blocks_of t.pairs) (with_history t h) d → HasDroppedLost t d
-dropped_behind t h d can reads bare r w = record {
-  ready = ready_from d (subst (λ gone. IsReadyBut d gone []) (r.none_gone bare) r.ready);
-  shows = r.shows;
-  completed = r.completed;
-  flight = leaves_then (seen_kept t true false) (seen_kept (with_history t h) true false) (seen_kept d true false) (leaves_reading t h reads) (leaves_same (with_history t h) d can.used r.flying w);
+dropped_behind : (t : Kept) (h : List Event) (d : Kept) → OnlyReads t.disk.blocks t.history h → HasDroppedLost (with_history t h) d → HasDroppedLost t d
+dropped_behind t h d reads k = record {
+  ready = k.ready;
+  shows = k.shows;
+  completed = k.completed;
+  fewer = k.fewer;
+  keeps = λ path file. let keeps = k.keeps path file in record { file = keeps.file; list = keeps.list; bytes = keeps.bytes };
+  flight = leaves_then (seen_kept t true false) (seen_kept (with_history t h) true false) (seen_kept d true false) (leaves_reading t h reads) k.flight;
 }
 
-pub dropped : (t m d : Kept) → CanDropLost t → IsOnlyRead t m → AreBare (IsReached m.pairs) None (directory_pairs m.pairs) → HasRecovered m d → Writes (blocks_of m.pairs) m d → HasDroppedLost t d
-dropped t m d can r bare done w =
-    let is = read_is t m r in
-    dropped_behind t m.history d can r.reads (subst (λ (ps : List Pair). AreBare (IsReached ps) None (directory_pairs ps)) r.pairs bare)
-    (subst (λ z. HasRecovered z d) is done) (subst (λ (z : Kept). Writes (blocks_of z.pairs) z d) is w)
+pub dropped : (t m d : Kept) → IsOnlyRead t m → HasDroppedLost m d → HasDroppedLost t d
+dropped t m d r k = dropped_behind t m.history d r.reads (subst (λ z. HasDroppedLost z d) (read_is t m r) k)
 
 -- ---- a stop
 
@@ -168,10 +157,10 @@ all_some : (events : List Event) → EachEvent (λ e. Unit {0}) events
 all_some [] = tt
 all_some (e ∷ older) = (tt, all_some older)
 
-some_since : (events old new : List Event) → new ≡ events ++ old → EachSince (λ e. Unit {0}) old new
+pub some_since : (events old new : List Event) → new ≡ events ++ old → EachSince (λ e. Unit {0}) old new
 some_since events old new e = record { events = events; extends = e; each = all_some events }
 
-reading_survives : (t : Kept) (h : List Event) → IsAccepted t.disk t.pairs → IsWritable t.disk t.pairs → OnlyReads t.disk.blocks t.history h → Survives t.disk t.history h (tree_in t.disk t.pairs) (tree_in t.disk t.pairs)
+pub reading_survives : (t : Kept) (h : List Event) → IsAccepted t.disk t.pairs → IsWritable t.disk t.pairs → OnlyReads t.disk.blocks t.history h → Survives t.disk t.history h (tree_in t.disk t.pairs) (tree_in t.disk t.pairs)
 reading_survives t h ok fits reads clean = LeavesOnly-reads Stops-read reads (record { pairs = t.pairs; accepted = ok; writable = fits; tree = inl refl })
 
 pub read_survives : (t m : Kept) → CanDropLost t → IsOnlyRead t m → SurvivesTo t m (tree_in t.disk t.pairs)
@@ -244,43 +233,44 @@ recovered_whole t root b c rooted left e w d called =
       itself = λ z. absurd (cc);
       nothing_left = λ z done. absurd (left done.gstate);
       flight = leaves_then (seen_kept a true false) (seen_kept b true false) (seen_kept c true false) (leaves_same a b rooted.sound.used e.flying w) d.flight;
+      keeps = λ path file away.
+          let first = keeps_writing a b (blocks_of a.pairs) rooted.sound.accepted rooted.sound.used (all_pairs a) w path file (struct_stays a.disk a.pairs b.pairs path file (e.taken.follows.stays path (same_leaves path))) in
+          let k = keeps_then a b c path first (d.keeps path first.file) in
+          record { file = k.file; list = k.list; bytes = k.bytes };
     }
 
 -- ---- what it tells
 
-pub tells_reading : {X : Type 0} (t m : Kept) (r : Result X Error) (e : Error) → r ≡ Err e → HasTold t m r → TellsRecoverError t m e
+same_error : {X : Type 0} (e f : Error) → (let r : Result X Error = Err e in r) ≡ Err f → e ≡ f
+same_error e f h = cc
+
+pub tells_reading : {X : Type 0} (t m : Kept) (r : Result X Error) (e : Error) → r ≡ Err e → HasTold t m r → TellsError t m e
 tells_reading {X} t m r e is told = record {
-  errors = go (subst (λ (z : Result X Error). IfErr z (λ f. (f ≡ Io) ⊎ (f ≡ NoMemory))) is told.errors);
+  errors = subst (λ (z : Result X Error). IfErr z (λ f. (f ≡ Io) ⊎ (f ≡ NoMemory))) is told.errors;
   fault = λ io. told.fault (is ∙ ap Err io);
-  no_fault = λ other. told.no_fault (λ io. other (same e Io (sym is ∙ io)));
+  no_fault = λ other. told.no_fault (λ io. other (same_error e Io (sym is ∙ io)));
 }
-  where
-    go : (e ≡ Io) ⊎ (e ≡ NoMemory) → (e ≡ Io) ⊎ ((e ≡ NoMemory) ⊎ (e ≡ Unsupported))
-    go (inl x) = inl x
-    go (inr x) = inr (inl x)
 
-    same : (e f : Error) → (let r : Result X Error = Err e in r) ≡ Err f → e ≡ f
-    same e f h = cc
-
-pub tells_steps : {X : Type 0} (t : Kept) (m d : State) (r : Result X Error) (e : Error) → faults m.kept.history ≡ faults t.history → r ≡ Err e → TellsOfSteps m d r → TellsRecoverError t d.kept e
-tells_steps {X} t m d r e quiet is told = record {
-  errors = go (subst (λ (z : Result X Error). IfErr z (λ f. (f ≡ Io) ⊎ (f ≡ NoMemory))) is told.errors);
-  fault = λ io. let k = told.fault (is ∙ ap Err io) in omega (arith, k, quiet);
-  no_fault = λ other. told.no_fault (λ io. other (same e Io (sym is ∙ io))) ∙ quiet;
+pub tells_steps : {X : Type 0} (m d : State) (r : Result X Error) (e : Error) → r ≡ Err e → TellsOfSteps m d r → TellsError m.kept d.kept e
+tells_steps {X} m d r e is told = record {
+  errors = subst (λ (z : Result X Error). IfErr z (λ f. (f ≡ Io) ⊎ (f ≡ NoMemory))) is told.errors;
+  fault = λ io. told.fault (is ∙ ap Err io);
+  no_fault = λ other. told.no_fault (λ io. other (same_error e Io (sym is ∙ io)));
 }
-  where
-    go : (e ≡ Io) ⊎ (e ≡ NoMemory) → (e ≡ Io) ⊎ ((e ≡ NoMemory) ⊎ (e ≡ Unsupported))
-    go (inl x) = inl x
-    go (inr x) = inr (inl x)
 
-    same : (e f : Error) → (let r : Result X Error = Err e in r) ≡ Err f → e ≡ f
-    same e f h = cc
+pub tells_work : {X : Type 0} (m d : Kept) (r : Result X Error) (e : Error) → r ≡ Err e → TellsWork m d r → TellsError m d e
+tells_work {X} m d r e is told = record {
+  errors = subst (λ (z : Result X Error). IfErr z (λ f. (f ≡ Io) ⊎ (f ≡ NoMemory))) is told.errors;
+  fault = λ io. told.fault (is ∙ ap Err io);
+  no_fault = λ other. told.no_fault (λ io. other (same_error e Io (sym is ∙ io)));
+}
 
-pub tells_then : (a b c : Kept) (e : Error) → faults b.history ≡ faults a.history → TellsRecoverError b c e → TellsRecoverError a c e
+pub tells_then : (a b c : Kept) (e : Error) → faults b.history ≡ faults a.history → TellsError b c e → TellsError a c e
 tells_then a b c e quiet t = record { errors = t.errors; fault = λ io. let k = t.fault io in omega (arith, k, quiet); no_fault = λ other. t.no_fault other ∙ quiet }
 
-pub no_list_yet : (t m : Kept) → faults m.history ≡ faults t.history → TellsRecoverError t m Unsupported
-no_list_yet t m quiet = record { errors = inr (inr refl); fault = λ io. absurd (cc); no_fault = λ other. quiet }
+-- an error is passed on
+pub tells_given : {Y : Type 0} (a c : Kept) (given : Result Y Error) (e f : Error) → given ≡ Err f → f ≡ e → TellsError a c e → IfErr given (TellsError a c)
+tells_given {Y = Y} a c given e f is same t = subst (λ (r : Result Y Error). IfErr r (TellsError a c)) (sym is) (subst (TellsError a c) (sym same) t)
 
 -- ---- behind it
 
@@ -304,6 +294,7 @@ recovered_on a b h left reads k = record {
     bytes = k.flight.bytes;
     unprogrammed_still = λ i j f u. unprogrammed-reads i j reads ∙ k.flight.unprogrammed_still i j f u;
   };
+  keeps = λ path file away. let keeps = k.keeps path file away in record { file = keeps.file; list = keeps.list; bytes = keeps.bytes };
 }
 
 pub recovered_read : (a b c : Kept) → (gstate_of a.pairs ≡ no_gstate → ⊥) → IsOnlyRead b c → Carries a ops.Recover b → Carries a ops.Recover c
@@ -328,19 +319,11 @@ recovered_already t works writable sound settled = record {
   itself = λ e. absurd (cc);
   nothing_left = λ e done. (refl, (refl, refl));
   flight = record { stay = λ b f. f; none_comes = λ b f. f; bytes = λ b f. refl; unprogrammed_still = λ b k f u. u };
+  keeps = λ path file away. keeps_same (kept_of t) path file;
 }
 
 pub none_survives : (t : Seen) (after : Tree) → Survives t.disk t.history t.history (tree_seen t) after
 none_survives t after clean = record { events = []; extends = refl; each = tt }
-
--- an error of the thread is one of what is seen
-pub recover_error : (t : Kept) (c : Kept) (e : Error) → (gstate_of t.pairs ≡ no_gstate → ⊥) → TellsRecoverError t c e → IsRecoverError (seen_kept t true false) (seen_kept c true true) e
-recover_error t c e left told = record { errors = go told.errors; fault = told.fault; no_fault = told.no_fault }
-  where
-    go : (e ≡ Io) ⊎ ((e ≡ NoMemory) ⊎ (e ≡ Unsupported)) → (e ≡ Io) ⊎ ((e ≡ NoMemory) ⊎ ((e ≡ Unsupported) × (gstate_of t.pairs ≡ no_gstate → ⊥)))
-    go (inl x) = inl x
-    go (inr (inl x)) = inr (inl x)
-    go (inr (inr x)) = inr (inr (x, left))
 
 -- a state in which nothing is set
 pub nothing_set : (g : Gstate) → is_no_gstate g ≡ true → g ≡ no_gstate

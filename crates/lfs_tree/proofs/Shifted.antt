@@ -2,40 +2,45 @@
 use Rattle.std.proofs.Common.{ℕ, ◌≡◌, ◌≤◌, ◌∙◌, ◌&&◌, ◌++◌, not, Bool, true, false, List, [], ◌∷◌, Option, Some, None, Result, refl, sym, ap, ap₂, subst}
 use Rattle.std.specs.Prelude.{is_some}
 use Rattle.std.specs.List.{list_all}
+use Rattle.std.specs.Option.{option_and_then}
 use Rattle.std.proofs.lemmas.Bool.{ltb-false}
 use Rattle.lfs_device.specs.Bytes.{HasBytes}
 use Rattle.lfs_device.specs.declared.error.Error.{Error}
-use Rattle.lfs_model.specs.Apply.{is_beneath, is_directory, last_name, rest_after, same_path}
+use Rattle.lfs_model.specs.Apply.{is_beneath, last_name, rest_after, same_path}
 use Rattle.lfs_model.specs.Disk.{entry_limit}
 use Rattle.lfs_model.specs.History.{Event, OnlyReads}
-use Rattle.lfs_model.specs.InDirectory.{Belongs, Stands}
+use Rattle.lfs_model.specs.InDirectory.{Belongs}
 use Rattle.lfs_model.specs.Names.{Name, is_component, is_name}
 use Rattle.lfs_model.specs.Operations as ops
-use Rattle.lfs_model.specs.Slots.{charge_of}
+use Rattle.lfs_model.specs.Slots.{Slot, charge_of}
 use Rattle.lfs_model.specs.Steps.{as_path, is_root}
 use Rattle.lfs_model.specs.Thread.{Pair, gstate_of, superblocks_before}
-use Rattle.lfs_model.specs.Tree.{Path}
+use Rattle.lfs_model.specs.Tree.{Path, branch_of}
 use Rattle.lfs_model.specs.View.{FitsEntry, Leads, tree_in}
+use Rattle.lfs_model.proofs.Committed.{no_move_from}
 use Rattle.lfs_model.proofs.Paths.{last_is}
 use Rattle.lfs_thread.specs.Kept.{Kept, State}
 use Rattle.lfs_thread.specs.Steps.{IsOnlyRead}
+use Rattle.lfs_operations.specs.Moving.{WritesAmong}
 use Rattle.lfs_tree.specs.Allowed.{CanRename}
 use Rattle.lfs_tree.specs.Carrying.{Carries, IsAtRest}
 use Rattle.lfs_tree.specs.CarryingSlots.{HasEntry}
 use Rattle.lfs_tree.specs.Held.{seen_kept}
 use Rattle.lfs_tree.specs.Paths.{BeginsOnPath, LeadsTo, StandsOnPath}
-use Rattle.lfs_tree.specs.Shifting.{CanShift, CanShiftFound, CanShiftOnto, CanShiftTo, HasShifted, IsSource, IsSourceIn, IsTarget, TellsOfWork, WritesApart}
+use Rattle.lfs_tree.specs.Shifting.{CanShift, CanShiftFound, CanShiftOnto, CanShiftOver, CanShiftTo, HasShifted, IsSource, IsSourceIn, IsTarget, TellsOfWork}
 use Rattle.lfs_tree.specs.declared.carrying_rename.Source.{Source}
 use Rattle.lfs_tree.specs.declared.entry.Contents.{Contents}
 use Rattle.lfs_tree.specs.declared.paths.Found.{Found}
 use Rattle.lfs_tree.specs.declared.paths.Found.TheVariants as found
 use Rattle.lfs_tree.specs.declared.search.Spot.{Spot}
-use Rattle.lfs_tree.proofs.AtPaths.{directory_at_path}
 use Rattle.lfs_tree.proofs.Carried.{carried, read_is, with_history}
 use Rattle.lfs_tree.proofs.CarryEdited.{attributes_are, can_edit, inline_fits}
+use Rattle.lfs_tree.proofs.CarryGone.{branch_is, none_entered}
 use Rattle.lfs_tree.proofs.CarryLogged.{logged_there}
 use Rattle.lfs_tree.proofs.CarryRooms.{last_is_name, room_for}
 use Rattle.lfs_tree.proofs.CarryTold.{IsTold}
+use Rattle.lfs_tree.proofs.Directories.{within}
+use Rattle.lfs_tree.proofs.EmptyDirectories.{at_there, bare_there}
 use Rattle.lfs_tree.proofs.Mounting.{sound_read}
 
 -- ---- what is found
@@ -120,25 +125,43 @@ module _ (t : State) (root : ℕ) (rests : IsAtRest t root) (from to : Path) (co
       subst (λ n. CanShiftOnto (with_history t.kept h) from to source slot contents n) (sym (target.named ∙ same))
       (record { can = can_shift there.above parent there.name (sym same) there.is there.there.0.on; target = there.there.0.stands; shows = there.there.1 })
 
-  pub shift_found : is_directory (tree_in t.kept.disk t.kept.pairs to) ≡ false → (f : Found) (name : Name) → IsTarget t.kept to f name → CanShiftFound (with_history t.kept h) from to source f name
-  shift_found file found.Root name target = let k = sym can.target ∙ ap is_root target.leads.there in absurd (cc)
-  shift_found file found.ParentIsFile name target = let k = sym can.target_parents ∙ target.leads.parents in absurd (cc)
-  shift_found file found.ParentIsMissing name target = let k = sym can.target_parents ∙ target.leads.parents in absurd (cc)
-  shift_found file (found.Nothing parent place) name target = shift_to parent place name target
-  shift_found file (found.File parent slot contents) name target = shift_onto parent slot contents name target
-  shift_found file (found.Directory parent slot first) name target =
+  pub shift_over : (parent : ℕ) (slot : Spot) (first : ℕ) (name : Name) → IsTarget t.kept to (found.Directory parent slot first) name → CanShiftOver (with_history t.kept h) from to source slot first name
+  unfolding can_shift
+  shift_over parent slot first name target =
       let there = target.leads.there in
+      let stood = there.there.0 in
       let on = there.there.1 in
-      let d = directory_at_path t.kept.disk t.kept.pairs to on.at (subst (λ p. Leads t.kept.pairs p on.at) (sym there.is) on.leads) in
-      absurd (let k = sym file ∙ ap is_directory d.is in cc)
+      let same : last_name to ≡ there.name = ap last_name there.is ∙ last_is there.above there.name in
+      let none = none_entered t.kept to (checked_apart (same_path from to) _ other can.empty) on.at (subst (λ p. Leads t.kept.pairs p on.at) (sym there.is) on.leads) in
+      let bare = bare_there t.kept.disk t.kept.pairs there.above there.name on.at first rests.held.sound.accepted (rests.held.sound.fits refl) (no_move_from t.kept.pairs rests.settled) on.leads on.begins none in
+      subst (λ n. CanShiftOver (with_history t.kept h) from to source slot first n) (sym (target.named ∙ same))
+      (record {
+        can = can_shift there.above parent there.name (sym same) there.is stood.on;
+        target = stood.stands;
+        at = on.at;
+        branch = branch_is stood.stands.stands.slot.struct on.at (sym (ap (option_and_then (λ (s : Slot). branch_of s.struct)) stood.slot) ∙ on.leads);
+        below = within t.kept.pairs on.at first on.begins;
+        there = at_there t.kept.pairs on.at first on.begins;
+        empty = bare.empty;
+        alone = bare.alone;
+      })
+
+  pub shift_found : (f : Found) (name : Name) → IsTarget t.kept to f name → CanShiftFound (with_history t.kept h) from to source f name
+  shift_found found.Root name target = let k = sym can.target ∙ ap is_root target.leads.there in absurd (cc)
+  shift_found found.ParentIsFile name target = let k = sym can.target_parents ∙ target.leads.parents in absurd (cc)
+  shift_found found.ParentIsMissing name target = let k = sym can.target_parents ∙ target.leads.parents in absurd (cc)
+  shift_found (found.Nothing parent place) name target = shift_to parent place name target
+  shift_found (found.File parent slot contents) name target = shift_onto parent slot contents name target
+  shift_found (found.Directory parent slot first) name target = shift_over parent slot first name target
 
 -- ---- what comes of it
 
-module _ (t : State) (root : ℕ) (rests : IsAtRest t root) (from to : Path) (other : same_path from to ≡ false) (h : List Event) (c : Kept) (reads : OnlyReads t.kept.disk.blocks t.kept.history h) (w : WritesApart (with_history t.kept h) c) where
+module _ (t : State) (root : ℕ) (rests : IsAtRest t root) (from to : Path) (other : same_path from to ≡ false) (h : List Event) (c : Kept) (reads : OnlyReads t.kept.disk.blocks t.kept.history h) (w : WritesAmong (with_history t.kept h) c) where
   pub shifted_at : (given to_given : List ℕ) → HasShifted (with_history t.kept h) from to c → as_path given ≡ from → as_path to_given ≡ to → Carries t.kept (ops.Rename given to_given) c
   shifted_at given to_given is e f = carried t.kept h (ops.Rename given to_given) c
       (record {
         accepted = rests.held.sound.accepted;
+        used = rests.held.sound.used;
         writable = rests.held.sound.fits refl;
         settled = rests.settled;
         reads = reads;
@@ -146,9 +169,7 @@ module _ (t : State) (root : ℕ) (rests : IsAtRest t root) (from to : Path) (ot
         stay = λ b flies. (is.flying b).1 flies;
         none_comes = λ b flies. (is.flying b).0 flies;
         completed = λ files. is.completed (record { tree = tree_in t.kept.disk t.kept.pairs; files = files }) given to_given refl e f;
-        blocks = w.blocks;
-        writes = w.writes;
-        apart = w.apart;
+        writes = w;
       }) (ap₂ same_path e f ∙ other) refl
 
 pub rests_still : (t mid : State) (root : ℕ) → IsAtRest t root → IsOnlyRead t.kept mid.kept → mid.failed ≡ false → IsAtRest mid root

@@ -1,29 +1,28 @@
 -- An entry that takes the place of a file: what the operations on slots ask for, and what they come to.
-use Rattle.std.proofs.Common.{ℕ, ◌≡◌, ◌≢◌, ◌⊎◌, ◌<◌, ◌∙◌, ◌++◌, false, [], ◌∷◌, length, append-nil, Some, None, Result, Ok, Err, refl, sym, ap, ap₂, subst, arith}
+use Rattle.std.proofs.Common.{ℕ, ◌≡◌, ◌≢◌, ◌⊎◌, ◌<◌, ◌∙◌, ◌++◌, false, [], ◌∷◌, length, None, Result, Ok, Err, sym, ap, ap₂, subst, arith}
 use Rattle.std.specs.Prelude.{IfErr, OnOk, is_err}
 use Rattle.lfs_device.specs.declared.error.Error.{Error}
 use Rattle.lfs_device.specs.declared.error.Error.TheVariants.{Io, NoMemory}
 use Rattle.lfs_files.specs.Settling.{IsReadBesideMap}
 use Rattle.lfs_files.specs.Standing.{TellsWork}
 use Rattle.lfs_model.specs.Apply.{renamed, rest_after}
-use Rattle.lfs_model.specs.InDirectory.{IsBehind, Stands}
+use Rattle.lfs_model.specs.InDirectory.{Stands}
 use Rattle.lfs_model.specs.Names.{Name}
 use Rattle.lfs_model.specs.Operations as ops
 use Rattle.lfs_model.specs.Slots.{Struct}
 use Rattle.lfs_model.specs.Tree.{Path, branch_of}
 use Rattle.lfs_model.specs.View.{tree_in}
 use Rattle.lfs_model.proofs.Committed.{IsCompleted}
-use Rattle.lfs_model.proofs.Paths.{rest_itself}
 use Rattle.lfs_operations.specs.Changing.{WritesIn}
 use Rattle.lfs_operations.specs.Dropping.{SameInFlight}
 use Rattle.lfs_operations.specs.Editing.{CanEdit}
-use Rattle.lfs_operations.specs.Moving.{CanReplaceAcross, IsReplacedAcross, WritesInTwo, left_at, with_moved}
+use Rattle.lfs_operations.specs.Moving.{CanReplaceAcross, IsReplacedAcross, WritesInTwo, left_at, with_moved, WritesAmong}
 use Rattle.lfs_operations.specs.Ready.{IsReady}
 use Rattle.lfs_operations.specs.Renaming.{CanRenameOnto, IsRenamedOnto, with_renamed}
 use Rattle.lfs_thread.specs.Kept.{Kept, State}
 use Rattle.lfs_tree.specs.Carrying.{SurvivesTo}
 use Rattle.lfs_tree.specs.Entry.{ShowsContents}
-use Rattle.lfs_tree.specs.Shifting.{CanShift, CanShiftOnto, HasShifted, HasShiftedOnto, TellsOfWork, WritesApart}
+use Rattle.lfs_tree.specs.Shifting.{CanShift, CanShiftOnto, HasShifted, HasShiftedOnto, TellsOfWork}
 use Rattle.lfs_tree.specs.declared.carrying_rename.Source.{Source}
 use Rattle.lfs_tree.specs.declared.entry.Contents.{Contents}
 use Rattle.lfs_tree.specs.declared.entry.Contents.TheVariants as shown
@@ -32,7 +31,7 @@ use Rattle.lfs_tree.proofs.Carried.{behind_below}
 use Rattle.lfs_tree.proofs.CarryCreated.{stay_in_flight}
 use Rattle.lfs_tree.proofs.CarryFreed.{can_free, shape_geometry, writes_then}
 use Rattle.lfs_tree.proofs.CarrySurvives.{survives_left}
-use Rattle.lfs_tree.proofs.SameDirectory.{same_above, same_first}
+use Rattle.lfs_tree.proofs.ShiftedPlaces.{one_place, other_name, target_path}
 use Rattle.lfs_tree.proofs.ShiftedSlots.{across_written, apart_across, file_beside, shows_at, survives_at, within_written}
 
 -- what stands there, seen in the directory of another number
@@ -62,27 +61,13 @@ module _ (t : Kept) (from to : Path) (source : Source) (slot : Spot) (contents :
     logged = shift.logged _;
   }
 
-  one_place : source.slot.pair ≡ slot.pair → shift.first ≡ shift.old.first
-  one_place e = same_first t.disk t.pairs shift.above shift.old.path shift.on.at shift.old.at shift.first shift.old.first slot.pair can.target.pair shift.old.stands.pair can.target.rest shift.old.stands.rest
-      shift.old.ready.accepted shift.on.leads shift.on.begins shift.old.leads shift.old.begins can.target.place
-      (subst (λ i. IsBehind t.pairs shift.old.first i shift.old.stands.pair shift.old.stands.rest) e shift.old.stands.place)
-
-  one_above : source.slot.pair ≡ slot.pair → shift.above ≡ shift.old.path
-  one_above e = same_above t.disk t.pairs shift.above shift.old.path shift.on.at shift.old.at shift.first shift.old.first shift.old.ready.accepted shift.on.leads shift.on.begins shift.old.leads shift.old.begins (one_place e)
-
-  target_path : source.slot.pair ≡ slot.pair → to ≡ shift.old.path ++ name ∷ []
-  target_path e = shift.is ∙ ap (λ p. p ++ name ∷ []) (one_above e)
+  path_here : source.slot.pair ≡ slot.pair → to ≡ shift.old.path ++ name ∷ []
+  path_here = target_path t from to source slot name shift can.target
 
   file_here : source.slot.pair ≡ slot.pair → IsFileAt t shift.old.first source.slot.pair slot.id name contents
   file_here e =
       subst (λ i. IsFileAt t shift.old.first i slot.id name contents) (sym e)
-      (subst (λ f. IsFileAt t f slot.pair slot.id name contents) (one_place e) (record { target = can.target; shows = can.shows }))
-
-  other_name : source.slot.pair ≡ slot.pair → name ≢ shift.old.name
-  other_name e same =
-      let k : rest_after from from ≡ None = subst (λ p. rest_after from p ≡ None) (target_path e ∙ ap (λ n. shift.old.path ++ n ∷ []) same ∙ sym shift.old_is) shift.not_beneath in
-      let l : rest_after from from ≡ Some [] = ap (rest_after from) (sym (append-nil from)) ∙ rest_itself from [] in
-      absurd (let z = sym k ∙ l in cc)
+      (subst (λ f. IsFileAt t f slot.pair slot.id name contents) (one_place t from to source slot name shift can.target e) (record { target = can.target; shows = can.shows }))
 
   pub replace_within : source.slot.pair ≡ slot.pair → CanRenameOnto t source.slot.pair source.slot.id slot.id name
   replace_within e =
@@ -91,7 +76,7 @@ module _ (t : Kept) (from to : Path) (source : Source) (slot : Spot) (contents :
         can = shift.old;
         target = there.target;
         file = file_branch contents there.target.stands.slot.struct there.shows;
-        differs = other_name e;
+        differs = other_name t from to source slot name shift can.target e;
         fits = shift.fits;
       }
 
@@ -110,7 +95,7 @@ module _ (t : Kept) (from to : Path) (source : Source) (slot : Spot) (contents :
 
   pub onto_survives_within : (new : Kept) → source.slot.pair ≡ slot.pair → ((rename : CanRenameOnto t source.slot.pair source.slot.id slot.id name) → SurvivesTo t new (with_renamed t rename.can.path rename.can.name name)) → SurvivesTo t new (renamed from to (tree_in t.disk t.pairs))
   unfolding replace_within
-  onto_survives_within new e gives = survives_at t new from to _ _ shift.old_is (target_path e) (gives (replace_within e))
+  onto_survives_within new e gives = survives_at t new from to _ _ shift.old_is (path_here e) (gives (replace_within e))
 
   pub onto_within : (new : Kept) → source.slot.pair ≡ slot.pair → WritesIn t source.slot.pair new
       → ((rename : CanRenameOnto t source.slot.pair source.slot.id slot.id name) → IsRenamedOnto t new rename.can.path rename.can.name name rename.target.stands.slot.struct) → HasShiftedOnto t from to contents new
@@ -122,9 +107,9 @@ module _ (t : Kept) (from to : Path) (source : Source) (slot : Spot) (contents :
       record {
         free = can_free t new source.slot.pair slot.id edit contents there.shows (shape_geometry t new w.writes.shape)
             (file_beside t new source.slot.pair slot.id edit _ w.writes (within_written t from to source name new shift w)) is.now.ready is.once;
-        shows = shows_at t new from to _ _ shift.old_is (target_path e) is.now.shows;
+        shows = shows_at t new from to _ _ shift.old_is (path_here e) is.now.shows;
         flying = λ b. (is.now.none_comes b, stay_in_flight t.map new.map is.now.stays b);
-        completed = λ s given to_given tree f k. is.completed s given to_given tree (f ∙ shift.old_is) (k ∙ target_path e);
+        completed = λ s given to_given tree f k. is.completed s given to_given tree (f ∙ shift.old_is) (k ∙ path_here e);
       }
 
   -- ---- in another pair
@@ -167,7 +152,7 @@ module _ (t : Kept) (from to : Path) (source : Source) (slot : Spot) (contents :
         completed = λ s given to_given tree f k. is.completed s given to_given tree (f ∙ shift.old_is) (k ∙ shift.is);
       }
 
-  pub onto_writes_apart : (new : Kept) → WritesInTwo t (left_at t source.slot.pair source.first) slot.pair new → WritesApart t new
+  pub onto_writes_apart : (new : Kept) → WritesInTwo t (left_at t source.slot.pair source.first) slot.pair new → WritesAmong t new
   onto_writes_apart new w = apart_across t from to source name slot.pair new shift below_target w
 
 -- ---- the file's list is freed behind it
@@ -181,8 +166,8 @@ onto_done t mid new from to contents is only ready flying = record {
       (subst (λ disk. IsCompleted t.disk t.pairs s (ops.Rename given to_given) disk mid.pairs) (sym only.disk) (is.completed s given to_given tree f k));
 }
 
-pub apart_then : (t mid new : Kept) → WritesApart t mid → IsReadBesideMap mid new → WritesApart t new
-apart_then t mid new w only = record { blocks = w.blocks; writes = writes_then t mid new w.blocks w.writes only; apart = w.apart }
+pub apart_then : (t mid new : Kept) → WritesAmong t mid → IsReadBesideMap mid new → WritesAmong t new
+apart_then t mid new w only = record { blocks = w.blocks; writes = writes_then t mid new w.blocks w.writes only; each = w.each }
 
 pub told_then : {X Y : Type 0} (old mid new : State) (x : X) (result : Result X Error) (given : Result Y Error) → result ≡ Ok x → TellsOfWork old mid result → new.failed ≡ is_err given → TellsWork mid.kept new.kept given → TellsOfWork old new given
 told_then {X} {Y} old mid new x result given is t failed w =
@@ -209,7 +194,7 @@ told_of {X} {Y} old new e result given is same t = record {
     error_is : {Z : Type 0} (a b : Error) (r : Result Z Error) → r ≡ Err a → r ≡ Err b → a ≡ b
     error_is a b r h k = cc
 
-pub onto_survives : (t mid new : Kept) (from to : Path) (contents : Contents) → WritesApart t mid → HasShiftedOnto t from to contents mid → IsReadBesideMap mid new → SurvivesTo t mid (renamed from to (tree_in t.disk t.pairs))
+pub onto_survives : (t mid new : Kept) (from to : Path) (contents : Contents) → WritesAmong t mid → HasShiftedOnto t from to contents mid → IsReadBesideMap mid new → SurvivesTo t mid (renamed from to (tree_in t.disk t.pairs))
     → SurvivesTo t new (renamed from to (tree_in t.disk t.pairs))
 onto_survives t mid new from to contents w is only k =
     survives_left t mid new.history (renamed from to (tree_in t.disk t.pairs)) (shape_geometry t mid w.writes.shape) w.writes.at_worst is.free.ready.accepted is.free.ready.writable is.shows only.reads k

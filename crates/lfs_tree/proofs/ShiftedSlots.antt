@@ -1,5 +1,5 @@
 -- An entry that gets another path: what the operations on slots ask for, and what they come to.
-use Rattle.std.proofs.Common.{ℕ, ◌≡◌, ◌≢◌, ◌⊎◌, inl, inr, ◌<◌, ◌≤◌, ◌∙◌, ◌++◌, Bool, true, false, List, [], ◌∷◌, length, append-nil, Some, None, Result, Ok, Err, refl, sym, ap, ap₂, subst, arith}
+use Rattle.std.proofs.Common.{ℕ, ◌≡◌, ◌≢◌, ◌⊎◌, inl, inr, ◌<◌, ◌≤◌, ◌∙◌, ◌++◌, Bool, true, false, List, [], ◌∷◌, length, Result, Ok, Err, sym, ap, ap₂, subst, arith}
 use Rattle.std.specs.Prelude.{IfErr, OnOk, slice_get}
 use Rattle.std.specs.List.{AllByRecursion}
 use Rattle.std.proofs.lemmas.List.Elements.{All-from_recursion}
@@ -7,40 +7,37 @@ use Rattle.std.proofs.lemmas.Option.{same_Some}
 use Rattle.lfs_device.specs.declared.error.Error.{Error}
 use Rattle.lfs_device.specs.declared.error.Error.TheVariants.{Io, NoMemory, NoSpace}
 use Rattle.lfs_model.specs.Apply.{renamed, rest_after}
-use Rattle.lfs_model.specs.BlockSets.{IsFree, IsInFlight, IsUsed}
+use Rattle.lfs_model.specs.BlockSets.{IsFree, IsUsed}
 use Rattle.lfs_model.specs.BlockSets.BlockState.{Free, Used}
 use Rattle.lfs_model.specs.Changes.{Change}
 use Rattle.lfs_model.specs.Disk.{block_at}
-use Rattle.lfs_model.specs.InDirectory.{Belongs, IsBehind, Stands}
+use Rattle.lfs_model.specs.InDirectory.{Belongs, IsBehind}
 use Rattle.lfs_model.specs.Names.{Name}
-use Rattle.lfs_model.specs.Slots.{Slot, Struct}
+use Rattle.lfs_model.specs.Slots.{Slot}
 use Rattle.lfs_model.specs.Thread.{blocks_of}
-use Rattle.lfs_model.specs.Tree.{Path, branch_of}
+use Rattle.lfs_model.specs.Tree.{Path}
 use Rattle.lfs_model.specs.View.{all_slots, file_blocks, tree_in, used_blocks}
 use Rattle.lfs_model.proofs.BlockSets.{Contains-count, count-Contains}
 use Rattle.lfs_model.proofs.Counts.{Each, count, count_append, each_from_counted, each_weaker}
 use Rattle.lfs_model.proofs.Files.{HasSameFile}
-use Rattle.lfs_model.proofs.Paths.{rest_itself}
 use Rattle.lfs_model.proofs.Splices.{files_of}
 use Rattle.lfs_operations.specs.Changing.{HasTwoFree, WritesIn, has_failed}
 use Rattle.lfs_operations.specs.Editing.{CanEdit, slot_at}
 use Rattle.lfs_operations.specs.Making.{HasRoomFor}
-use Rattle.lfs_operations.specs.Moving.{CanRenameAcross, CanReplaceAcross, IsRenamedAcross, IsReplacedAcross, TellsInSteps, WritesInTwo, end_at, left_at, with_moved}
+use Rattle.lfs_operations.specs.Moving.{CanRenameAcross, IsRenamedAcross, TellsInSteps, WritesInTwo, end_at, left_at, with_moved, WritesAmong}
 use Rattle.lfs_operations.specs.Ready.{IsReady, IsReadyBut}
 use Rattle.lfs_operations.specs.Removing.{goes_whole}
-use Rattle.lfs_operations.specs.Renaming.{CanRename, CanRenameOnto, IsRenamed, IsRenamedOnto, TellsMove, with_renamed}
+use Rattle.lfs_operations.specs.Renaming.{CanRename, IsRenamed, TellsMove, with_renamed}
 use Rattle.lfs_thread.specs.Kept.{Kept, State}
 use Rattle.lfs_thread.specs.Steps.{Writes, pair_in}
 use Rattle.lfs_tree.specs.Carrying.{SurvivesTo}
-use Rattle.lfs_tree.specs.Entry.{ShowsContents}
-use Rattle.lfs_tree.specs.Shifting.{CanShift, CanShiftOnto, CanShiftTo, HasShifted, HasShiftedOnto, TellsOfWork, WritesApart}
+use Rattle.lfs_tree.specs.Shifting.{CanShift, CanShiftTo, HasShifted, TellsOfWork}
 use Rattle.lfs_tree.specs.declared.carrying_rename.Source.{Source}
-use Rattle.lfs_tree.specs.declared.entry.Contents.{Contents}
-use Rattle.lfs_tree.specs.declared.entry.Contents.TheVariants as shown
 use Rattle.lfs_tree.specs.declared.search.Spot.{Spot}
-use Rattle.lfs_tree.proofs.Carried.{apart_in, apart_up_to, behind_below, pair_blocks}
+use Rattle.lfs_tree.proofs.Carried.{among_one, among_two, behind_below, pair_blocks}
 use Rattle.lfs_tree.proofs.CarryCreated.{stay_in_flight}
-use Rattle.lfs_tree.proofs.CarryFreed.{among_files, apart_from_pairs, can_free, each_here, shape_geometry}
+use Rattle.lfs_tree.proofs.KeptFiles.{among_files}
+use Rattle.lfs_tree.proofs.CarryFreed.{apart_from_pairs, each_here}
 use Rattle.lfs_tree.proofs.CarryRooms.{no_room}
 use Rattle.lfs_tree.proofs.SameDirectory.{same_above, same_first}
 
@@ -80,11 +77,11 @@ told_across old new index changes r room t = record {
 
 -- ---- which blocks are written
 
-pub apart_within : (t : Kept) (from to : Path) (source : Source) (name : Name) (new : Kept) → CanShift t from to source name → WritesIn t source.slot.pair new → WritesApart t new
+pub apart_within : (t : Kept) (from to : Path) (source : Source) (name : Name) (new : Kept) → CanShift t from to source name → WritesIn t source.slot.pair new → WritesAmong t new
 apart_within t from to source name new can w = record {
   blocks = _;
   writes = w.writes;
-  apart = apart_in t source.slot.pair w.fresh (behind_below t.pairs can.old.first source.slot.pair can.old.stands.pair can.old.stands.rest can.old.stands.place) can.old.ready.used w.free;
+  each = among_one t source.slot.pair w.fresh (behind_below t.pairs can.old.first source.slot.pair can.old.stands.pair can.old.stands.rest can.old.stands.place) w.free;
 }
 
 -- a pair's two blocks
@@ -121,11 +118,11 @@ across_written t from to source name other new can below w =
     let l = in_pair t (left_at t source.slot.pair source.first) (left_below t source.slot.pair source.first (source_below t from to source name can)) in
     (inl k.0, (inl k.1, (inl l.0, (inl l.1, all_free t w.fresh w.free))))
 
-pub apart_across : (t : Kept) (from to : Path) (source : Source) (name : Name) (other : ℕ) (new : Kept) → CanShift t from to source name → other < length t.pairs → WritesInTwo t (left_at t source.slot.pair source.first) other new → WritesApart t new
+pub apart_across : (t : Kept) (from to : Path) (source : Source) (name : Name) (other : ℕ) (new : Kept) → CanShift t from to source name → other < length t.pairs → WritesInTwo t (left_at t source.slot.pair source.first) other new → WritesAmong t new
 apart_across t from to source name other new can below w = record {
   blocks = _;
   writes = w.writes;
-  apart = apart_up_to t other (left_at t source.slot.pair source.first) w.fresh below (left_below t source.slot.pair source.first (source_below t from to source name can)) can.old.ready.used w.free;
+  each = among_two t other (left_at t source.slot.pair source.first) w.fresh below (left_below t source.slot.pair source.first (source_below t from to source name can)) w.free;
 }
 
 -- none of them is a file's
@@ -144,7 +141,7 @@ file_beside t new index id can bs w beside = each_from_counted (λ b. block_at n
     other b some c (inr free) e = let k : Used ≡ Free = same_Some Used Free (sym (file_used t index id can b some) ∙ ap (slice_get t.map) (sym e) ∙ free) in absurd (cc)
 
 -- nothing is gone
-none_gone : (t : Kept) → IsReadyBut t [] [] → IsReady t
+pub none_gone : (t : Kept) → IsReadyBut t [] [] → IsReady t
 none_gone t r = record {
   accepted = r.accepted;
   writable = r.writable;
@@ -238,6 +235,6 @@ module _ (t : Kept) (from to : Path) (source : Source) (place : Spot) (name : Na
         completed = λ s given to_given tree f k. is.completed s given to_given tree (f ∙ shift.old_is) (k ∙ shift.is);
       }
 
-  pub writes_apart : (new : Kept) → WritesInTwo t (left_at t source.slot.pair source.first) place.pair new → WritesApart t new
+  pub writes_apart : (new : Kept) → WritesInTwo t (left_at t source.slot.pair source.first) place.pair new → WritesAmong t new
   writes_apart new w = apart_across t from to source name place.pair new shift
       (behind_below t.pairs shift.first place.pair can.belongs.pair _ can.belongs.place) w

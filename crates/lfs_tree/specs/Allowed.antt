@@ -6,8 +6,6 @@ use Rattle.lfs_model.specs.Content.{attribute_of, put_attribute}
 use Rattle.lfs_model.specs.Disk.{block_count}
 use Rattle.lfs_model.specs.Session.{parent_fault, is_long, is_overcharged}
 use Rattle.lfs_model.specs.Steps.{is_root}
-use Rattle.lfs_model.specs.Slots.{no_gstate}
-use Rattle.lfs_model.specs.Thread.{gstate_of}
 use Rattle.lfs_model.specs.Tree.{Path}
 use Rattle.lfs_tree.specs.Seen.{Seen, around_of, tree_seen}
 
@@ -19,7 +17,6 @@ HasRoom t need = length (around_of t).used + in_flight_count t.map + need ≤ bl
 pub record CanAdd (t : Seen) (path : Path) (need : ℕ) : Type 0 where
   pub works : t.failed ≡ false
   pub writable : t.writable ≡ true
-  pub settled : gstate_of t.pairs ≡ no_gstate
   pub parents : parent_fault (tree_seen t) [] path ≡ None
   pub name : is_long path ≡ false
   pub nothing : is_some (tree_seen t path) ≡ false
@@ -38,7 +35,6 @@ CanCreate t path = CanAdd t path 2
 pub record CanRemove (t : Seen) (path : Path) : Type 0 where
   pub works : t.failed ≡ false
   pub writable : t.writable ≡ true
-  pub settled : gstate_of t.pairs ≡ no_gstate
   pub entry : is_root path ≡ false
   pub parents : parent_fault (tree_seen t) [] path ≡ None
   pub something : is_none (tree_seen t path) ≡ false
@@ -48,7 +44,6 @@ pub record CanRemove (t : Seen) (path : Path) : Type 0 where
 pub record CanSetAttr (t : Seen) (path : Path) (kind : ℕ) (bytes : List ℕ) : Type 0 where
   pub works : t.failed ≡ false
   pub writable : t.writable ≡ true
-  pub settled : gstate_of t.pairs ≡ no_gstate
   pub entry : is_root path ≡ false
   pub parents : parent_fault (tree_seen t) [] path ≡ None
   pub something : is_none (tree_seen t path) ≡ false
@@ -60,7 +55,6 @@ pub record CanSetAttr (t : Seen) (path : Path) (kind : ℕ) (bytes : List ℕ) :
 pub record CanRemoveAttr (t : Seen) (path : Path) (kind : ℕ) : Type 0 where
   pub works : t.failed ≡ false
   pub writable : t.writable ≡ true
-  pub settled : gstate_of t.pairs ≡ no_gstate
   pub entry : is_root path ≡ false
   pub parents : parent_fault (tree_seen t) [] path ≡ None
   pub something : is_none (tree_seen t path) ≡ false
@@ -70,7 +64,6 @@ pub record CanRemoveAttr (t : Seen) (path : Path) (kind : ℕ) : Type 0 where
 pub record CanRename (t : Seen) (from to : Path) : Type 0 where
   pub works : t.failed ≡ false
   pub writable : t.writable ≡ true
-  pub settled : gstate_of t.pairs ≡ no_gstate
   pub entry : is_root from ≡ false
   pub target : is_root to ≡ false
   pub apart : is_beneath from to ≡ false
@@ -83,8 +76,3 @@ pub record CanRename (t : Seen) (from to : Path) : Type 0 where
   pub empty : (not (same_path from to) && nat_lt 0 (length (names_of (tree_seen t to)))) ≡ false
   pub fits : (not (same_path from to) && is_overcharged (around_of t) (last_name to) (attributes_of (tree_seen t from))) ≡ false
   pub room : HasRoom t 2
-
--- the paths differ, and no directory is at the second
-pub record IsElsewhere (t : Seen) (from to : Path) : Type 0 where
-  pub apart : same_path from to ≡ false
-  pub file : is_directory (tree_seen t to) ≡ false

@@ -1,8 +1,6 @@
 -- An entry that goes from its directory.
 use Rattle.std.specs.Prelude.{ℕ, ◌≡◌, ◌≤◌, ◌+◌, true, false, List, [], ◌∷◌, ◌++◌}
-use Rattle.std.specs.List.{AllByRecursion}
 use Rattle.lfs_files.specs.Settling.{blocks_in_list}
-use Rattle.lfs_model.specs.BlockSets.{IsUsed}
 use Rattle.lfs_model.specs.Operations as ops
 use Rattle.lfs_model.specs.Session.{Session}
 use Rattle.lfs_model.specs.Steps.{as_path}
@@ -17,7 +15,6 @@ use Rattle.lfs_operations.specs.Ready.{IsReady, IsReadyBut}
 use Rattle.lfs_operations.specs.Removing.{CanRemove}
 use Rattle.lfs_operations.specs.Unlinking.{CanRemoveDirectory}
 use Rattle.lfs_thread.specs.Kept.{Kept}
-use Rattle.lfs_thread.specs.Steps.{Writes}
 use Rattle.lfs_tree.specs.CarryingSlots.{has_slot}
 use Rattle.lfs_tree.specs.Entry.{ShowsContents}
 use Rattle.lfs_tree.specs.Paths.{EndsIn}
@@ -78,9 +75,3 @@ pub record HasGone (old : Kept) (path : Path) (new : Kept) : Type 0 where
   pub flying : SameInFlight old.map new.map
   pub completed : (s : Session) (given : List ℕ) → s.tree ≡ tree_in old.disk old.pairs → as_path given ≡ path
       → IsCompleted old.disk old.pairs s (ops.Remove given) new.disk new.pairs
-
--- no block is written but some that are used
-pub record WritesUsed (old new : Kept) : Type 0 where
-  pub blocks : List ℕ
-  pub used : AllByRecursion (IsUsed old.map) blocks
-  pub writes : Writes blocks old new

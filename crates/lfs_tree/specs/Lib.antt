@@ -9,6 +9,7 @@ pub mod Walk
 pub mod Formatting
 pub mod Profile
 pub mod Refusals
+pub mod KeepsFiles
 pub mod Seen
 pub mod Allowed
 pub mod Finds
@@ -20,6 +21,7 @@ pub mod CarryingSlots
 pub mod Shifting
 pub mod AtPath
 pub mod ListAt
+pub mod LostLists
 pub mod BytesAt
 pub mod AttributeAt
 pub mod Going

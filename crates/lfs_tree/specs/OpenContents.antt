@@ -1,41 +1,30 @@
 -- The contents of a file that is open for writing, beside the image.
-use Rattle.std.specs.Prelude.{ℕ, ◌≡◌, ◌+◌, ◌^◌, ◌<◌, ◌≤◌, ◌⊎◌, true, false, max, List, [], ◌++◌, length, Option, Some, None}
+use Rattle.std.specs.Prelude.{ℕ, ◌≡◌, ◌+◌, ◌^◌, ◌<◌, ◌≤◌, ◌⊎◌, true, false, max, List, ◌++◌, length}
 use Rattle.lfs_model.specs.Apply.{change_at, is_file}
 use Rattle.lfs_model.specs.BlockSets.{in_flight_count}
-use Rattle.lfs_model.specs.Disk.{Disk, SameGeometry, block_count, inline_limit}
+use Rattle.lfs_model.specs.Disk.{SameGeometry, block_count, inline_limit}
 use Rattle.lfs_model.specs.History.{Event, faults}
 use Rattle.lfs_model.specs.Layout.{IsArranged}
 use Rattle.lfs_model.specs.Operations as ops
 use Rattle.lfs_model.specs.Operations.{Operation}
 use Rattle.lfs_model.specs.Recovery.{IsRecovered}
 use Rattle.lfs_model.specs.Session.{Files, Writer, ctz_blocks}
-use Rattle.lfs_model.specs.SlotEdits.{slot_of_path}
-use Rattle.lfs_model.specs.Slots.{Slot, no_gstate}
+use Rattle.lfs_model.specs.Slots.{no_gstate}
 use Rattle.lfs_model.specs.Steps.{with_bytes}
 use Rattle.lfs_model.specs.Thread.{gstate_of}
 use Rattle.lfs_model.specs.Tree.{Path}
-use Rattle.lfs_model.specs.View.{IsWritable, file_blocks, tree_in}
+use Rattle.lfs_model.specs.View.{IsWritable, tree_in}
 use Rattle.lfs_files.specs.Standing.{StandsIn, held_in}
 use Rattle.lfs_operations.specs.Storing.{IsWriterOf}
 use Rattle.lfs_thread.specs.Kept.{Kept}
+pub use Rattle.lfs_tree.specs.KeepsFiles.{blocks_named, list_at}
+pub use Rattle.lfs_tree.specs.Seen.{kept_of}
 use Rattle.lfs_tree.specs.Seen.{Seen, IsSound, around_of, tree_seen}
 use Rattle.lfs_writer.specs.Contents.{IsLarge, NeedsRoom, bytes_in, end_room, form_of, truncate_room, write_room}
 use Rattle.lfs_writer.specs.Form as form
 use Rattle.lfs_writer.specs.Form.{Form, form_size}
 use Rattle.lfs_writer.specs.Owned.{AreOwned}
 use Rattle.lfs_writer.specs.declared.contents.Contents.{Contents}
-
-abbrev pub kept_of : Seen → Kept
-kept_of t = record { disk = t.disk; history = t.history; pairs = t.pairs; map = t.map }
-
--- the blocks of the list that a slot names
-abbrev pub blocks_named : Disk → Option Slot → List ℕ
-blocks_named disk None = []
-blocks_named disk (Some s) = file_blocks disk s.struct
-
--- the blocks of the list of the file at a path
-abbrev pub list_at : Kept → Path → List ℕ
-list_at t path = blocks_named t.disk (slot_of_path t.pairs path)
 
 -- the bytes of a writer's contents
 abbrev pub bytes_held : Kept → Contents → List ℕ

@@ -1,21 +1,24 @@
 -- What a recovery comes to over a thread.
-use Rattle.std.specs.Prelude.{◌≡◌, ◌≢◌, ◌⊎◌, ◌<◌, true, false, length}
-use Rattle.lfs_device.specs.declared.error.Error.{Error}
-use Rattle.lfs_device.specs.declared.error.Error.TheVariants.{Io, NoMemory, Unsupported}
+use Rattle.std.specs.Prelude.{ℕ, ◌≡◌, ◌≤◌, true, false, length}
+use Rattle.lfs_model.specs.Apply.{is_file}
 use Rattle.lfs_model.specs.BlockSets.{AreUsed}
 use Rattle.lfs_model.specs.Disk.{block_count}
 use Rattle.lfs_model.specs.History.{faults}
 use Rattle.lfs_model.specs.Operations as ops
 use Rattle.lfs_model.specs.Session.{Session}
-use Rattle.lfs_model.specs.Slots.{no_gstate}
 use Rattle.lfs_model.specs.Thread.{gstate_of}
+use Rattle.lfs_model.specs.Tree.{Path}
 use Rattle.lfs_model.specs.View.{IsAccepted, IsWritable, tree_in, used_blocks}
 use Rattle.lfs_model.proofs.Committed.{IsCompleted}
+use Rattle.lfs_model.proofs.Counts.{count}
 use Rattle.lfs_model.proofs.Global.{HasNoMove}
 use Rattle.lfs_operations.specs.Ready.{IsReady}
+use Rattle.lfs_operations.specs.Recovering.{RecoversTo}
 use Rattle.lfs_thread.specs.Kept.{Kept}
+use Rattle.lfs_tree.specs.Carrying.{Carries}
 use Rattle.lfs_tree.specs.Held.{seen_kept}
-use Rattle.lfs_tree.specs.Seen.{LeavesFlight, Seen}
+use Rattle.lfs_tree.specs.KeepsFiles.{KeepsFile}
+use Rattle.lfs_tree.specs.Seen.{LeavesFlight}
 
 -- The image is accepted and may be written, and no move is set; the map knows each of its blocks.
 pub record CanDropLost (t : Kept) : Type 0 where
@@ -25,22 +28,19 @@ pub record CanDropLost (t : Kept) : Type 0 where
   pub size : length t.map ≡ block_count t.disk
   pub none : HasNoMove (gstate_of t.pairs)
 
--- nothing is left to recover, and the tree is as it was
+-- Nothing is left to recover, the tree and the files' lists are as they were, and no block has come into use.
 pub record HasDroppedLost (old new : Kept) : Type 0 where
   pub ready : IsReady new
   pub shows : tree_in new.disk new.pairs ≡ tree_in old.disk old.pairs
   pub completed : (s : Session) → s.tree ≡ tree_in old.disk old.pairs → IsCompleted old.disk old.pairs s ops.Recover new.disk new.pairs
+  pub fewer : (b : ℕ) → count b (used_blocks new.disk new.pairs) ≤ count b (used_blocks old.disk old.pairs)
+  pub keeps : (path : Path) → is_file (tree_in old.disk old.pairs path) ≡ true → KeepsFile old new path
   pub flight : LeavesFlight (seen_kept old true false) (seen_kept new true false)
 
--- `Io` comes with a fault of the device, and any other answer with none
-pub record TellsRecoverError (old new : Kept) (e : Error) : Type 0 where
-  pub errors : (e ≡ Io) ⊎ ((e ≡ NoMemory) ⊎ (e ≡ Unsupported))
-  pub fault : e ≡ Io → faults old.history < faults new.history
-  pub no_fault : e ≢ Io → faults new.history ≡ faults old.history
-
--- The same of a tree. What can't be done yet is to drop a directory with slots, which only a disk has of which something is to be
--- recovered.
-pub record IsRecoverError (old new : Seen) (e : Error) : Type 0 where
-  pub errors : (e ≡ Io) ⊎ ((e ≡ NoMemory) ⊎ ((e ≡ Unsupported) × (gstate_of old.pairs ≡ no_gstate → ⊥)))
-  pub fault : e ≡ Io → faults old.history < faults new.history
-  pub no_fault : e ≢ Io → faults new.history ≡ faults old.history
+-- What a loss of power left is ended, if it left anything, without a fault of the device. Where slots stand behind a further
+-- recovery they stand behind one of the old image, and no more blocks are used: so an operation on the new image is one on the old.
+pub record HasSettled (old new : Kept) : Type 0 where
+  pub carries : Carries old ops.Recover new
+  pub leads_on : RecoversTo old new
+  pub room : length (used_blocks new.disk new.pairs) ≤ length (used_blocks old.disk old.pairs)
+  pub no_fault : faults new.history ≡ faults old.history

@@ -1,26 +1,25 @@
 -- An entry that gets another name, or comes into another directory.
-use Rattle.std.specs.Prelude.{ℕ, ◌≡◌, ◌≢◌, ◌⊎◌, ◌<◌, true, false, List, [], ◌∷◌, ◌++◌, All, None, Result, IfErr, IsErrOf, OnOk}
+use Rattle.std.specs.Prelude.{ℕ, ◌≡◌, ◌⊎◌, ◌<◌, true, false, List, [], ◌∷◌, ◌++◌, length, None, Result, IfErr, IsErrOf, OnOk}
 use Rattle.lfs_device.specs.declared.error.Error.{Error}
 use Rattle.lfs_device.specs.declared.error.Error.TheVariants.{Io, NoMemory}
 use Rattle.lfs_model.specs.Apply.{last_name, renamed, rest_after}
-use Rattle.lfs_model.specs.BlockSets.{IsInFlight}
 use Rattle.lfs_model.specs.History.{faults}
 use Rattle.lfs_model.specs.InDirectory.{Belongs, Stands}
 use Rattle.lfs_model.specs.Names.{Name, is_name}
 use Rattle.lfs_model.specs.Operations as ops
 use Rattle.lfs_model.specs.Session.{Session}
+use Rattle.lfs_model.specs.Slots.{Branch, same_pair}
 use Rattle.lfs_model.specs.Steps.{as_path}
-use Rattle.lfs_model.specs.Thread.{Pair}
+use Rattle.lfs_model.specs.Thread.{Pair, is_hard}
 use Rattle.lfs_model.specs.Tree.{Path}
-use Rattle.lfs_model.specs.View.{FitsEntry, tree_in, used_blocks}
+use Rattle.lfs_model.specs.View.{FitsEntry, tree_in}
 use Rattle.lfs_model.proofs.Committed.{IsCompleted}
-use Rattle.lfs_model.proofs.Counts.{count}
 use Rattle.lfs_operations.specs.Dropping.{SameInFlight}
 use Rattle.lfs_operations.specs.Editing.{CanEdit, slot_at}
 use Rattle.lfs_operations.specs.Making.{HasRoomFor}
-use Rattle.lfs_operations.specs.Ready.{IsLoggedAt, IsReady, IsReadyBut}
+use Rattle.lfs_operations.specs.Ready.{IsLoggedAt, IsReady}
 use Rattle.lfs_thread.specs.Kept.{Kept, State}
-use Rattle.lfs_thread.specs.Steps.{Writes, pair_in}
+use Rattle.lfs_thread.specs.Steps.{pair_in}
 use Rattle.lfs_tree.specs.CarryingSlots.{IsSlotFor}
 use Rattle.lfs_tree.specs.Entry.{ShowsContents}
 use Rattle.lfs_tree.specs.Going.{CanFree}
@@ -75,10 +74,22 @@ pub record CanShiftOnto (t : Kept) (from to : Path) (source : Source) (slot : Sp
   pub target : Stands t.pairs can.first name slot.pair slot.id
   pub shows : ShowsContents contents target.stands.slot.struct
 
--- nothing is found at the other path, or a file
+-- a directory without entries is at the other path; its only pair is the one of number `gone`
+pub record CanShiftOver (t : Kept) (from to : Path) (source : Source) (slot : Spot) (gone : ℕ) (name : Name) : Type 0 where
+  pub can : CanShift t from to source name
+  pub target : Stands t.pairs can.first name slot.pair slot.id
+  pub at : ℕ × ℕ
+  pub branch : target.stands.slot.struct ≡ Branch at
+  pub below : gone < length t.pairs
+  pub there : same_pair (pair_in t gone).at at ≡ true
+  pub empty : (pair_in t gone).content.slots ≡ []
+  pub alone : is_hard (pair_in t gone).content.tail ≡ false
+
+-- nothing is found at the other path, a file, or a directory without entries
 abbrev pub CanShiftFound : Kept → Path → Path → Source → Found → Name → Type 0
 CanShiftFound t from to source (found.Nothing parent place) name = CanShiftTo t from to source place name
 CanShiftFound t from to source (found.File parent slot contents) name = CanShiftOnto t from to source slot contents name
+CanShiftFound t from to source (found.Directory parent slot first) name = CanShiftOver t from to source slot first name
 CanShiftFound t from to source _ name = ⊥
 
 -- ---- what comes of it
@@ -98,12 +109,6 @@ pub record HasShiftedOnto (old : Kept) (from to : Path) (contents : Contents) (n
   pub flying : SameInFlight old.map new.map
   pub completed : (s : Session) (given to_given : List ℕ) → s.tree ≡ tree_in old.disk old.pairs → as_path given ≡ from → as_path to_given ≡ to
       → IsCompleted old.disk old.pairs s (ops.Rename given to_given) new.disk new.pairs
-
--- no block that is in flight is written
-pub record WritesApart (old new : Kept) : Type 0 where
-  pub blocks : List ℕ
-  pub writes : Writes blocks old new
-  pub apart : (b : ℕ) → IsInFlight old.map b → All (λ c. c ≢ b) blocks
 
 -- `Io` comes with a fault of the device, and any other answer with none; where there is no error the thread works
 pub record TellsOfWork {X : Type 0} (old new : State) (result : Result X Error) : Type 0 where

@@ -12,10 +12,11 @@ ghost use Rattle.lfs_model.specs.View.{tree_in};
 ghost use Rattle.lfs_operations.specs.Dropping.{SameInFlight};
 ghost use Rattle.lfs_operations.specs.Ready.{IsReady};
 ghost use Rattle.lfs_operations.specs.Unlinking.{TellsOfSteps};
+ghost use Rattle.lfs_operations.specs.Moving.{WritesAmong};
 ghost use Rattle.lfs_tree.specs.Allowed.{CanRemove};
 ghost use Rattle.lfs_tree.specs.Carrying.{Carries, HasCalled, IsAtRest, SurvivesTo, TellsError};
 ghost use Rattle.lfs_tree.specs.CarryingSlots.{HasEntry};
-ghost use Rattle.lfs_tree.specs.Going.{CanFree, CanGo, CanTake, HasGone, IsEntryOn, WritesUsed};
+ghost use Rattle.lfs_tree.specs.Going.{CanFree, CanGo, CanTake, HasGone, IsEntryOn};
 ghost use Rattle.lfs_tree.specs.Held.{seen_kept};
 ghost use Rattle.lfs_tree.specs.Reading.{IsReading};
 
@@ -95,7 +96,7 @@ fn take_file<D: BlockDevice>(
     requires can { (path : TreePath) × CanTake thread.old.kept path parent slot contents }
     ensures gone { OnOk result ((path : TreePath) → CanTake thread.old.kept path parent slot contents → HasGone thread.old.kept path thread.new.kept) }
     ensures errors { TellsOfSteps thread.old thread.new result }
-    ensures device { WritesUsed thread.old.kept thread.new.kept }
+    ensures device { WritesAmong thread.old.kept thread.new.kept }
     ensures survives { (path : TreePath) → CanTake thread.old.kept path parent slot contents → SurvivesTo thread.old.kept thread.new.kept (removed path (tree_in thread.old.kept.disk thread.old.kept.pairs)) }
 {
     remove_file(alloc, thread, slot.pair, slot.id, parent)?;
@@ -112,7 +113,7 @@ fn take_found<D: BlockDevice>(
     requires can { (path : TreePath) × CanGo thread.old.kept path found }
     ensures gone { OnOk result ((path : TreePath) → CanGo thread.old.kept path found → HasGone thread.old.kept path thread.new.kept) }
     ensures errors { TellsOfSteps thread.old thread.new result }
-    ensures device { WritesUsed thread.old.kept thread.new.kept }
+    ensures device { WritesAmong thread.old.kept thread.new.kept }
     ensures survives { (path : TreePath) → CanGo thread.old.kept path found → SurvivesTo thread.old.kept thread.new.kept (removed path (tree_in thread.old.kept.disk thread.old.kept.pairs)) }
 {
     match found {

@@ -1,18 +1,19 @@
 // Entries at paths that get another one, in a thread of which nothing is to be recovered.
 
 ghost use Rattle.std.specs.Prelude.{ℕ, ◌≡◌, ◌≢◌, List, false, true, OnOk, IfOk, IfErr};
-ghost use Rattle.lfs_model.specs.Apply.{renamed};
+ghost use Rattle.lfs_model.specs.Apply.{renamed, same_path};
 ghost use Rattle.lfs_model.specs.History.{faults};
 ghost use Rattle.lfs_model.specs.Operations as ops;
 ghost use Rattle.lfs_model.specs.Steps.{as_path};
 ghost use Rattle.lfs_model.specs.Tree.{Path};
 ghost use Rattle.lfs_model.specs.View.{tree_in};
-ghost use Rattle.lfs_tree.specs.Allowed.{CanRename, IsElsewhere};
+ghost use Rattle.lfs_operations.specs.Moving.{WritesAmong};
+ghost use Rattle.lfs_tree.specs.Allowed.{CanRename};
 ghost use Rattle.lfs_tree.specs.Carrying.{Carries, HasCalled, IsAtRest, SurvivesTo, TellsError};
 ghost use Rattle.lfs_tree.specs.CarryingSlots.{HasEntry, has_slot};
 ghost use Rattle.lfs_tree.specs.Held.{seen_kept};
 ghost use Rattle.lfs_tree.specs.Reading.{IsReading};
-ghost use Rattle.lfs_tree.specs.Shifting.{CanShiftFound, CanShiftOnto, CanShiftTo, HasShifted, HasShiftedOnto, IsSource, IsSourceIn, IsTarget, TellsOfWork, WritesApart};
+ghost use Rattle.lfs_tree.specs.Shifting.{CanShiftFound, CanShiftOnto, CanShiftOver, CanShiftTo, HasShifted, HasShiftedOnto, IsSource, IsSourceIn, IsTarget, TellsOfWork};
 
 use crate::carrying::{know_device, last_of};
 use crate::carrying_removal::free_list;
@@ -21,7 +22,10 @@ use crate::path::Path;
 use crate::paths::{Found, look_up};
 use crate::search::Spot;
 use lfs_device::{BlockDevice, Error};
-use lfs_operations::{rename, rename_across, rename_onto_file, rename_onto_file_across};
+use lfs_operations::{
+    rename, rename_across, rename_onto_directory, rename_onto_directory_across, rename_onto_file,
+    rename_onto_file_across,
+};
 use lfs_thread::Thread;
 use std::alloc::Global;
 
@@ -101,7 +105,7 @@ fn move_to<D: BlockDevice>(
     requires can { (from to : Path) × CanShiftTo thread.old.kept from to source place name.now }
     ensures shifted { OnOk result ((from to : Path) → CanShiftTo thread.old.kept from to source place name.now → HasShifted thread.old.kept from to thread.new.kept) }
     ensures errors { TellsOfWork thread.old thread.new result }
-    ensures device { WritesApart thread.old.kept thread.new.kept }
+    ensures device { WritesAmong thread.old.kept thread.new.kept }
     ensures survives { (from to : Path) → CanShiftTo thread.old.kept from to source place name.now → SurvivesTo thread.old.kept thread.new.kept (renamed from to (tree_in thread.old.kept.disk thread.old.kept.pairs)) }
 {
     let Source { slot, first } = source;
@@ -127,7 +131,7 @@ fn replace_file<D: BlockDevice>(
     requires can { (from to : Path) × CanShiftOnto thread.old.kept from to source slot _contents name.now }
     ensures shifted { OnOk result ((from to : Path) → CanShiftOnto thread.old.kept from to source slot _contents name.now → HasShiftedOnto thread.old.kept from to _contents thread.new.kept) }
     ensures errors { TellsOfWork thread.old thread.new result }
-    ensures device { WritesApart thread.old.kept thread.new.kept }
+    ensures device { WritesAmong thread.old.kept thread.new.kept }
     ensures survives { (from to : Path) → CanShiftOnto thread.old.kept from to source slot _contents name.now → SurvivesTo thread.old.kept thread.new.kept (renamed from to (tree_in thread.old.kept.disk thread.old.kept.pairs)) }
 {
     let from = source.slot;
@@ -160,11 +164,45 @@ fn move_onto_file<D: BlockDevice>(
     requires can { (from to : Path) × CanShiftOnto thread.old.kept from to source slot contents name.now }
     ensures shifted { OnOk result ((from to : Path) → CanShiftOnto thread.old.kept from to source slot contents name.now → HasShifted thread.old.kept from to thread.new.kept) }
     ensures errors { TellsOfWork thread.old thread.new result }
-    ensures device { WritesApart thread.old.kept thread.new.kept }
+    ensures device { WritesAmong thread.old.kept thread.new.kept }
     ensures survives { (from to : Path) → CanShiftOnto thread.old.kept from to source slot contents name.now → SurvivesTo thread.old.kept thread.new.kept (renamed from to (tree_in thread.old.kept.disk thread.old.kept.pairs)) }
 {
     replace_file(alloc, thread, source, slot, contents, name)?;
     free_list(alloc, thread, contents)
+}
+
+// Puts an entry in the place of a directory without entries, whose own pair has number `gone`.
+fn move_onto_directory<D: BlockDevice>(
+    alloc: Global,
+    thread: &mut Thread<D>,
+    source: Source,
+    slot: Spot,
+    gone: usize,
+    name: &[u8],
+) -> Result<(), Error>
+    requires works { thread.old.failed ≡ false }
+    requires can { (from to : Path) × CanShiftOver thread.old.kept from to source slot gone name.now }
+    ensures shifted { OnOk result ((from to : Path) → CanShiftOver thread.old.kept from to source slot gone name.now → HasShifted thread.old.kept from to thread.new.kept) }
+    ensures errors { TellsOfWork thread.old thread.new result }
+    ensures device { WritesAmong thread.old.kept thread.new.kept }
+    ensures survives { (from to : Path) → CanShiftOver thread.old.kept from to source slot gone name.now → SurvivesTo thread.old.kept thread.new.kept (renamed from to (tree_in thread.old.kept.disk thread.old.kept.pairs)) }
+{
+    let from = source.slot;
+    if from.pair == slot.pair {
+        rename_onto_directory(alloc, thread, from.pair, from.id, slot.id, name, gone)
+    } else {
+        rename_onto_directory_across(
+            alloc,
+            thread,
+            from.pair,
+            from.id,
+            source.first,
+            slot.pair,
+            slot.id,
+            name,
+            gone,
+        )
+    }
 }
 
 // Gives an entry the path at which that was found.
@@ -179,7 +217,7 @@ fn move_found<D: BlockDevice>(
     requires can { (from to : Path) × CanShiftFound thread.old.kept from to source found name.now }
     ensures shifted { OnOk result ((from to : Path) → CanShiftFound thread.old.kept from to source found name.now → HasShifted thread.old.kept from to thread.new.kept) }
     ensures errors { TellsOfWork thread.old thread.new result }
-    ensures device { WritesApart thread.old.kept thread.new.kept }
+    ensures device { WritesAmong thread.old.kept thread.new.kept }
     ensures survives { (from to : Path) → CanShiftFound thread.old.kept from to source found name.now → SurvivesTo thread.old.kept thread.new.kept (renamed from to (tree_in thread.old.kept.disk thread.old.kept.pairs)) }
 {
     match found {
@@ -187,11 +225,15 @@ fn move_found<D: BlockDevice>(
         Found::File { slot, contents, .. } => {
             move_onto_file(alloc, thread, source, slot, contents, name)
         }
+        Found::Directory { slot, first, .. } => {
+            move_onto_directory(alloc, thread, source, slot, first, name)
+        }
         _ => unreachable!(),
     }
 }
 
-// Gives an entry another path, at which no directory is. Nothing is to be recovered.
+// Gives an entry another path, at which nothing is, a file, or a directory without entries. Nothing
+// is to be recovered.
 //
 // `Io` where a call of the device failed, and `NoMemory` where memory isn't granted.
 pub(crate) fn rename_at<D: BlockDevice>(
@@ -203,7 +245,7 @@ pub(crate) fn rename_at<D: BlockDevice>(
 ) -> Result<(), Error>
     requires rests { IsAtRest thread.old root }
     requires can { CanRename (seen_kept thread.old.kept true false) from.now to.now }
-    requires elsewhere { IsElsewhere (seen_kept thread.old.kept true false) from.now to.now }
+    requires apart { same_path from.now to.now ≡ false }
     ensures done { OnOk result ((given to_given : List ℕ) → as_path given ≡ from.now → as_path to_given ≡ to.now → Carries thread.old.kept (ops.Rename given to_given) thread.new.kept) }
     ensures works { OnOk result (thread.new.failed ≡ false) }
     ensures called { HasCalled thread.old.kept thread.new.kept }

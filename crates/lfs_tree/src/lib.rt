@@ -9,6 +9,7 @@ mod carrying;
 mod carrying_attributes;
 mod carrying_removal;
 mod carrying_rename;
+mod changing;
 mod directory;
 mod entry;
 mod file_bytes;
@@ -16,7 +17,9 @@ mod finding;
 mod formatting;
 mod image;
 mod items;
+mod laws;
 mod list_at;
+mod lost_lists;
 mod mounted;
 mod opening;
 mod path;
@@ -39,6 +42,7 @@ pub use file_bytes::contents_of;
 pub use finding::{Finding, ListItem, Node};
 pub use formatting::format;
 pub use items::{Item, Structure};
+pub use laws::{carried_takes_few, contents_stay};
 pub use path::Path;
 pub use paths::{
     Found, Parent, Shown, find_directory, look_up, look_up_shown, moved_slot, number_of,

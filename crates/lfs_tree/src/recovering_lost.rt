@@ -1,38 +1,27 @@
 // How what a loss of power left of an image is ended.
 
-ghost use Rattle.std.specs.Prelude.{◌≡◌, None, false, true, IfErr, IfOk, OnOk, length};
+ghost use Rattle.std.specs.Prelude.{◌≡◌, false, true, IfErr, IfOk, OnOk, length};
 ghost use Rattle.lfs_model.specs.History.{faults};
-ghost use Rattle.lfs_model.specs.Operations as ops;
 ghost use Rattle.lfs_model.specs.Slots.{no_gstate};
-ghost use Rattle.lfs_model.specs.Thread.{directory_pairs, gstate_of};
-ghost use Rattle.lfs_model.specs.View.{IsAccepted, IsReached, tree_in};
-ghost use Rattle.lfs_operations.specs.Recovering.{AreBare, AreUnreached};
-ghost use Rattle.lfs_tree.specs.Carrying.{Carries, HasCalled, SurvivesTo};
+ghost use Rattle.lfs_model.specs.Thread.{blocks_of, gstate_of};
+ghost use Rattle.lfs_model.specs.View.{IsAccepted, tree_in};
+ghost use Rattle.lfs_operations.specs.Recovering.{AreUnreached, CanDropUnreached, slots_at};
+ghost use Rattle.lfs_thread.specs.Steps.{Writes};
+ghost use Rattle.lfs_tree.specs.Carrying.{HasCalled, IsAtRest, SurvivesTo, TellsError};
 ghost use Rattle.lfs_tree.specs.Held.{IsRooted};
+ghost use Rattle.lfs_tree.specs.LostLists.{lists_named};
 ghost use Rattle.lfs_tree.specs.Reading.{IsReading};
-ghost use Rattle.lfs_tree.specs.Recovering.{CanDropLost, HasDroppedLost, TellsRecoverError};
+ghost use Rattle.lfs_tree.specs.Recovering.{CanDropLost, HasDroppedLost, HasSettled};
 
 use crate::carrying::know_device;
+use crate::lost_lists::{free_lists, lists_of_pairs};
 use crate::root::find_root;
 use crate::unreached::unreached;
 use lfs_device::{BlockDevice, Error};
 use lfs_operations::{drop_unreached, end_move};
 use lfs_thread::Thread;
+use lfs_writer::Stored;
 use std::alloc::Global;
-
-// Whether one of these pairs, which no path leads to, has slots.
-fn have_slots<D: BlockDevice>(thread: &Thread<D>, numbers: &[usize]) -> bool
-    requires works { thread.now.failed ≡ false }
-    requires unreached { AreUnreached thread.now.kept.pairs numbers.now }
-    ensures { result ≡ false → AreBare (IsReached thread.now.kept.pairs) None (directory_pairs thread.now.kept.pairs) }
-{
-    for number in numbers {
-        if thread.slot_count(*number) > 0 {
-            return true;
-        }
-    }
-    false
-}
 
 // The numbers of the pairs of directories that no path leads to.
 fn find_lost<D: BlockDevice>(alloc: Global, thread: &mut Thread<D>) -> Result<Vec<usize>, Error>
@@ -45,10 +34,34 @@ fn find_lost<D: BlockDevice>(alloc: Global, thread: &mut Thread<D>) -> Result<Ve
     unreached(alloc, thread, root)
 }
 
-// Drops the directories that no path leads to. No move is set.
+// Drops the pairs of these numbers, which no path leads to, and frees the lists that their slots
+// name. No move is set.
 //
-// `Io` where a call of the device failed, and `NoMemory` where memory isn't granted. `Unsupported`
-// where such a directory has slots, which littlefs leaves nowhere.
+// `Io` where a call of the device failed, and `NoMemory` where memory isn't granted.
+fn drop_with_lists<D: BlockDevice>(
+    alloc: Global,
+    thread: &mut Thread<D>,
+    numbers: &[usize],
+    lists: &[Stored],
+) -> Result<(), Error>
+    requires works { thread.old.failed ≡ false }
+    requires can { CanDropUnreached thread.old.kept numbers.now }
+    requires lists { lists.now ≡ lists_named (slots_at thread.old.kept.pairs numbers.now) }
+    ensures dropped { OnOk result (HasDroppedLost thread.old.kept thread.new.kept) }
+    ensures works { OnOk result (thread.new.failed ≡ false) }
+    ensures no_fault { OnOk result (faults thread.new.kept.history ≡ faults thread.old.kept.history) }
+    ensures errors { IfErr result (TellsError thread.old.kept thread.new.kept) }
+    ensures device { Writes (blocks_of thread.old.kept.pairs) thread.old.kept thread.new.kept }
+    ensures survives { SurvivesTo thread.old.kept thread.new.kept (tree_in thread.old.kept.disk thread.old.kept.pairs) }
+{
+    drop_unreached(alloc, thread, numbers)?;
+    free_lists(alloc, thread, lists)?;
+    Ok(())
+}
+
+// Drops the directories that no path leads to, with their files. No move is set.
+//
+// Errors as those of `drop_with_lists`.
 fn drop_lost<D: BlockDevice>(alloc: Global, thread: &mut Thread<D>) -> Result<(), Error>
     requires works { thread.old.failed ≡ false }
     requires can { CanDropLost thread.old.kept }
@@ -56,15 +69,14 @@ fn drop_lost<D: BlockDevice>(alloc: Global, thread: &mut Thread<D>) -> Result<()
     ensures works { OnOk result (thread.new.failed ≡ false) }
     ensures called { HasCalled thread.old.kept thread.new.kept }
     ensures no_fault { OnOk result (faults thread.new.kept.history ≡ faults thread.old.kept.history) }
-    ensures errors { IfErr result (TellsRecoverError thread.old.kept thread.new.kept) }
+    ensures errors { IfErr result (TellsError thread.old.kept thread.new.kept) }
     ensures survives { SurvivesTo thread.old.kept thread.new.kept (tree_in thread.old.kept.disk thread.old.kept.pairs) }
 {
     know_device(thread);
     let numbers = find_lost(alloc, thread)?;
-    if have_slots(thread, &numbers) {
-        return Err(Error::Unsupported);
-    }
-    drop_unreached(alloc, thread, &numbers)?;
+    // They are known before anything is written.
+    let lists = lists_of_pairs(alloc, thread, &numbers)?;
+    drop_with_lists(alloc, thread, &numbers, &lists)?;
     Ok(())
 }
 
@@ -78,11 +90,10 @@ fn recover_at<D: BlockDevice>(
 ) -> Result<(), Error>
     requires rooted { IsRooted thread.old root true }
     requires left { gstate_of thread.old.kept.pairs ≡ no_gstate → ⊥ }
-    ensures done { OnOk result (Carries thread.old.kept ops.Recover thread.new.kept) }
+    ensures done { OnOk result (HasSettled thread.old.kept thread.new.kept) }
     ensures works { OnOk result (thread.new.failed ≡ false) }
     ensures called { HasCalled thread.old.kept thread.new.kept }
-    ensures no_fault { OnOk result (faults thread.new.kept.history ≡ faults thread.old.kept.history) }
-    ensures errors { IfErr result (TellsRecoverError thread.old.kept thread.new.kept) }
+    ensures errors { IfErr result (TellsError thread.old.kept thread.new.kept) }
     ensures survives { SurvivesTo thread.old.kept thread.new.kept (tree_in thread.old.kept.disk thread.old.kept.pairs) }
 {
     end_move(alloc, thread)?;
@@ -98,13 +109,33 @@ pub(crate) fn recover_image<D: BlockDevice>(
 ) -> Result<usize, Error>
     requires rooted { IsRooted thread.old root true }
     requires left { gstate_of thread.old.kept.pairs ≡ no_gstate → ⊥ }
-    ensures done { OnOk result (Carries thread.old.kept ops.Recover thread.new.kept) }
+    ensures done { OnOk result (HasSettled thread.old.kept thread.new.kept) }
     ensures rooted { IfOk result (λ root. IsRooted thread.new root true) }
     ensures called { HasCalled thread.old.kept thread.new.kept }
-    ensures errors { IfErr result (TellsRecoverError thread.old.kept thread.new.kept) }
+    ensures errors { IfErr result (TellsError thread.old.kept thread.new.kept) }
     ensures survives { SurvivesTo thread.old.kept thread.new.kept (tree_in thread.old.kept.disk thread.old.kept.pairs) }
 {
     recover_at(alloc, thread, root)?;
     let root = find_root(alloc, thread)?;
     Ok(root)
+}
+
+// Ends what a loss of power left, if it left anything. Nothing is called where it didn't. Answers the
+// number of the root directory's first pair.
+pub(crate) fn recover_first<D: BlockDevice>(
+    alloc: Global,
+    thread: &mut Thread<D>,
+    root: usize,
+) -> Result<usize, Error>
+    requires { IsRooted thread.old root true }
+    ensures done { OnOk result (HasSettled thread.old.kept thread.new.kept) }
+    ensures rests { IfOk result (λ root. IsAtRest thread.new root) }
+    ensures called { HasCalled thread.old.kept thread.new.kept }
+    ensures errors { IfErr result (TellsError thread.old.kept thread.new.kept) }
+    ensures survives { SurvivesTo thread.old.kept thread.new.kept (tree_in thread.old.kept.disk thread.old.kept.pairs) }
+{
+    if thread.state().is_none() {
+        return Ok(root);
+    }
+    recover_image(alloc, thread, root)
 }

@@ -1,14 +1,14 @@
-// Operations by path, and where the root directory begins behind them.
+// Operations by path where nothing is to be recovered, and where the root directory begins behind them.
 
 ghost use Rattle.std.specs.Prelude.{ℕ, ◌≡◌, List, [], OnOk, IfOk, IfErr, false, true};
-ghost use Rattle.lfs_model.specs.Apply.{added, removed, renamed};
+ghost use Rattle.lfs_model.specs.Apply.{added, removed, renamed, same_path};
 ghost use Rattle.lfs_model.specs.Content.{put_attribute, without_attribute};
 ghost use Rattle.lfs_model.specs.Operations as ops;
 ghost use Rattle.lfs_model.specs.Operations.{Flags};
 ghost use Rattle.lfs_model.specs.Steps.{as_path};
 ghost use Rattle.lfs_model.specs.Tree.{DirectoryNode, FileNode};
 ghost use Rattle.lfs_model.specs.View.{tree_in};
-ghost use Rattle.lfs_tree.specs.Allowed.{CanCreate, CanMake, CanRemove, CanRemoveAttr, CanRename, CanSetAttr, IsElsewhere};
+ghost use Rattle.lfs_tree.specs.Allowed.{CanCreate, CanMake, CanRemove, CanRemoveAttr, CanRename, CanSetAttr};
 ghost use Rattle.lfs_tree.specs.Carrying.{Carries, HasCalled, IsAtRest, SurvivesTo, TellsError};
 ghost use Rattle.lfs_tree.specs.CarryingSlots.{with_attributes_changed};
 ghost use Rattle.lfs_tree.specs.Held.{IsRooted, seen_kept};
@@ -141,7 +141,7 @@ pub(crate) fn rename_entry_at<D: BlockDevice>(
 ) -> Result<usize, Error>
     requires rests { IsAtRest thread.old root }
     requires can { CanRename (seen_kept thread.old.kept true false) from.now to.now }
-    requires elsewhere { IsElsewhere (seen_kept thread.old.kept true false) from.now to.now }
+    requires apart { same_path from.now to.now ≡ false }
     ensures done { OnOk result ((given to_given : List ℕ) → as_path given ≡ from.now → as_path to_given ≡ to.now → Carries thread.old.kept (ops.Rename given to_given) thread.new.kept) }
     ensures rooted { IfOk result (λ root. IsRooted thread.new root true) }
     ensures called { HasCalled thread.old.kept thread.new.kept }

@@ -5,7 +5,7 @@ ghost use Rattle.std.specs.List.{list_any};
 ghost use Rattle.std.specs.Option.{option_map};
 ghost use Rattle.lfs_model.specs.History.{OnlyReads, faults};
 ghost use Rattle.lfs_model.specs.Operations as ops;
-ghost use Rattle.lfs_model.specs.Apply.{added, attributes_of, bytes_at, is_directory, removed, renamed};
+ghost use Rattle.lfs_model.specs.Apply.{added, attributes_of, bytes_at, is_directory, removed, renamed, same_path};
 ghost use Rattle.lfs_model.specs.BlockSets.{in_flight_count};
 ghost use Rattle.lfs_model.specs.Content.{attribute_of, put_attribute, without_attribute};
 ghost use Rattle.lfs_model.specs.Operations.{Flags};
@@ -20,18 +20,20 @@ ghost use Rattle.lfs_mount.specs.Device.{IsMountError};
 ghost use Rattle.lfs_tag.specs.FieldsSeen.{move_seen};
 ghost use Rattle.lfs_thread.specs.Device.{GivesBack, two_of};
 ghost use Rattle.lfs_thread.specs.Kept.{disk_on};
-ghost use Rattle.lfs_tree.specs.Allowed.{CanCreate, CanMake, CanRemove, CanRemoveAttr, CanRename, CanSetAttr, IsElsewhere};
+ghost use Rattle.lfs_tree.specs.Allowed.{CanCreate, CanMake, CanRemove, CanRemoveAttr, CanRename, CanSetAttr};
 ghost use Rattle.lfs_tree.specs.CarryingSlots.{with_attributes_changed};
 ghost use Rattle.lfs_tree.specs.AttributeAt.{IsAttributesSize};
 ghost use Rattle.lfs_tree.specs.Finds.{Finds, list_item_seen};
 ghost use Rattle.lfs_tree.specs.Formatting.{ComesBack};
-ghost use Rattle.lfs_tree.specs.Recovering.{IsRecoverError};
 ghost use Rattle.lfs_tree.specs.Seen.{IsAsked, IsBroken, IsBrokenAsking, IsCarried, IsError, IsMountError as IsMountErrorOf, IsMountedTree, IsSound, SurvivesAs, around_of, tree_seen};
 
 use crate::attribute_at::attribute_at;
 use crate::attribute_sizes::attributes_size_at;
 use crate::by_path::find_at;
 use crate::bytes_at::bytes_at;
+use crate::changing::{
+    create_file, give_attribute, make_directory, remove_entry, rename_entry, take_attribute,
+};
 use crate::finding::{Finding, ListItem};
 use crate::formatting::format;
 use crate::image::Image;
@@ -39,10 +41,6 @@ use crate::list_at::list_at;
 use crate::mounted::read_root;
 use crate::path::Path;
 use crate::recovering_lost::recover_image;
-use crate::rooted::{
-    create_file_at, drop_attribute_at, make_directory_at, put_attribute_at, remove_entry_at,
-    rename_entry_at,
-};
 use core::mem::replace_with;
 use lfs_device::{BlockDevice, Error, Geometry};
 use lfs_tag::MoveState;
@@ -318,8 +316,8 @@ impl<D: BlockDevice> Tree<D> {
 
     /// Makes an empty directory where nothing is.
     ///
-    /// `Io` where a call of the device failed, and `NoMemory` where memory isn't granted. It has failed
-    /// then.
+    /// What a loss of power left is ended first. `Io` where a call of the device failed, and `NoMemory`
+    /// where memory isn't granted. It has failed then.
     pub fn mkdir(&mut self, alloc: Global, path: &Path<'_>) -> Result<(), Error>
         requires { CanMake self.old path.now }
         ensures done { OnOk result ((bytes : List ℕ) → as_path bytes ≡ path.now → IsCarried self.old (ops.Mkdir bytes) self.new) }
@@ -330,7 +328,7 @@ impl<D: BlockDevice> Tree<D> {
         let Image::Mounted(thread) = &mut self.image else {
             unreachable!()
         };
-        match make_directory_at(alloc, thread, self.root, path) {
+        match make_directory(alloc, thread, self.root, path) {
             Ok(root) => {
                 self.root = root;
                 Ok(())
@@ -344,8 +342,8 @@ impl<D: BlockDevice> Tree<D> {
 
     /// Makes an empty file where nothing is.
     ///
-    /// `Io` where a call of the device failed, and `NoMemory` where memory isn't granted. It has failed
-    /// then.
+    /// What a loss of power left is ended first. `Io` where a call of the device failed, and `NoMemory`
+    /// where memory isn't granted. It has failed then.
     pub fn create(&mut self, alloc: Global, path: &Path<'_>) -> Result<(), Error>
         requires { CanCreate self.old path.now }
         ensures done { OnOk result ((bytes : List ℕ) (flags : Flags) → as_path bytes ≡ path.now → flags.write ≡ true → IsCarried self.old (ops.Open bytes flags) self.new) }
@@ -356,7 +354,7 @@ impl<D: BlockDevice> Tree<D> {
         let Image::Mounted(thread) = &mut self.image else {
             unreachable!()
         };
-        match create_file_at(alloc, thread, self.root, path) {
+        match create_file(alloc, thread, self.root, path) {
             Ok(root) => {
                 self.root = root;
                 Ok(())
@@ -370,8 +368,8 @@ impl<D: BlockDevice> Tree<D> {
 
     /// Takes a file, or a directory without entries.
     ///
-    /// `Io` where a call of the device failed, and `NoMemory` where memory isn't granted. It has failed
-    /// then.
+    /// What a loss of power left is ended first. `Io` where a call of the device failed, and `NoMemory`
+    /// where memory isn't granted. It has failed then.
     pub fn remove(&mut self, alloc: Global, path: &Path<'_>) -> Result<(), Error>
         requires { CanRemove self.old path.now }
         ensures done { OnOk result ((bytes : List ℕ) → as_path bytes ≡ path.now → IsCarried self.old (ops.Remove bytes) self.new) }
@@ -382,7 +380,7 @@ impl<D: BlockDevice> Tree<D> {
         let Image::Mounted(thread) = &mut self.image else {
             unreachable!()
         };
-        match remove_entry_at(alloc, thread, self.root, path) {
+        match remove_entry(alloc, thread, self.root, path) {
             Ok(root) => {
                 self.root = root;
                 Ok(())
@@ -394,14 +392,14 @@ impl<D: BlockDevice> Tree<D> {
         }
     }
 
-    /// Gives an entry another path, at which nothing is or a file, which goes. What is beneath a directory
-    /// goes with it.
+    /// Gives an entry another path, at which nothing is, a file, or an empty directory, which goes. What is
+    /// beneath a directory goes with it.
     ///
-    /// `Io` where a call of the device failed, and `NoMemory` where memory isn't granted. It has failed
-    /// then.
+    /// What a loss of power left is ended first. `Io` where a call of the device failed, and `NoMemory`
+    /// where memory isn't granted. It has failed then.
     pub fn rename(&mut self, alloc: Global, from: &Path<'_>, to: &Path<'_>) -> Result<(), Error>
         requires can { CanRename self.old from.now to.now }
-        requires elsewhere { IsElsewhere self.old from.now to.now }
+        requires apart { same_path from.now to.now ≡ false }
         ensures done { OnOk result ((given to_given : List ℕ) → as_path given ≡ from.now → as_path to_given ≡ to.now → IsCarried self.old (ops.Rename given to_given) self.new) }
         ensures broken { OnErr result (IsBroken self.old self.new) }
         ensures errors { IfErr result (IsError self.old self.new) }
@@ -410,7 +408,7 @@ impl<D: BlockDevice> Tree<D> {
         let Image::Mounted(thread) = &mut self.image else {
             unreachable!()
         };
-        match rename_entry_at(alloc, thread, self.root, from, to) {
+        match rename_entry(alloc, thread, self.root, from, to) {
             Ok(root) => {
                 self.root = root;
                 Ok(())
@@ -424,8 +422,8 @@ impl<D: BlockDevice> Tree<D> {
 
     /// Gives an entry an attribute, in place of the one of that type that it has, if it has one.
     ///
-    /// `Io` where a call of the device failed, and `NoMemory` where memory isn't granted. It has failed
-    /// then.
+    /// What a loss of power left is ended first. `Io` where a call of the device failed, and `NoMemory`
+    /// where memory isn't granted. It has failed then.
     pub fn set_attr(
         &mut self,
         alloc: Global,
@@ -442,7 +440,7 @@ impl<D: BlockDevice> Tree<D> {
         let Image::Mounted(thread) = &mut self.image else {
             unreachable!()
         };
-        match put_attribute_at(alloc, thread, self.root, path, kind, bytes) {
+        match give_attribute(alloc, thread, self.root, path, kind, bytes) {
             Ok(root) => {
                 self.root = root;
                 Ok(())
@@ -455,17 +453,17 @@ impl<D: BlockDevice> Tree<D> {
     }
 
     /// Ends what a loss of power left in the image: a set move, and directories that no path leads to
-    /// (DESIGN.md of littlefs, "The move problem"). Nothing is written where nothing is left.
+    /// (DESIGN.md of littlefs, "The move problem"). What is in those goes with them, and the blocks of
+    /// its files are free. Nothing is written where nothing is left.
     ///
-    /// `Io` where a call of the device failed, and `NoMemory` where memory isn't granted.
-    /// `Unsupported` where such a directory has slots, as littlefs leaves none: it can't be dropped
-    /// yet. It has failed then.
+    /// `Io` where a call of the device failed, and `NoMemory` where memory isn't granted. It has failed
+    /// then.
     pub fn recover(&mut self, alloc: Global) -> Result<(), Error>
         requires works { self.old.failed ≡ false }
         requires writable { self.old.writable ≡ true }
         ensures done { OnOk result (IsCarried self.old ops.Recover self.new) }
         ensures broken { OnErr result (IsBroken self.old self.new) }
-        ensures errors { IfErr result (IsRecoverError self.old self.new) }
+        ensures errors { IfErr result (IsError self.old self.new) }
         ensures survives { SurvivesAs self.old self.new (tree_seen self.old) }
     {
         if self.gstate().is_none() {
@@ -488,8 +486,8 @@ impl<D: BlockDevice> Tree<D> {
 
     /// Takes an attribute from an entry.
     ///
-    /// `Io` where a call of the device failed, and `NoMemory` where memory isn't granted. It has failed
-    /// then.
+    /// What a loss of power left is ended first. `Io` where a call of the device failed, and `NoMemory`
+    /// where memory isn't granted. It has failed then.
     pub fn remove_attr(&mut self, alloc: Global, path: &Path<'_>, kind: u8) -> Result<(), Error>
         requires { CanRemoveAttr self.old path.now kind }
         ensures done { OnOk result ((bytes : List ℕ) → as_path bytes ≡ path.now → IsCarried self.old (ops.RemoveAttr bytes kind) self.new) }
@@ -500,7 +498,7 @@ impl<D: BlockDevice> Tree<D> {
         let Image::Mounted(thread) = &mut self.image else {
             unreachable!()
         };
-        match drop_attribute_at(alloc, thread, self.root, path, kind) {
+        match take_attribute(alloc, thread, self.root, path, kind) {
             Ok(root) => {
                 self.root = root;
                 Ok(())

@@ -6,7 +6,7 @@ use Rattle.lfs_operations.specs.Editing.{CanEdit, HasRemovedAttribute, with_attr
 use Rattle.lfs_thread.specs.Device.{two_of}
 use Rattle.lfs_thread.specs.Steps.{Writes, pair_in}
 use Rattle.lfs_tree.specs.Carrying.{SurvivesTo, TellsError}
-use Rattle.lfs_tree.proofs.Carried.{apart_in, read_is}
+use Rattle.lfs_tree.proofs.Carried.{among_one, read_is}
 use Rattle.lfs_tree.proofs.CarryEdited.{can_edit, cleared_at, cleared_survives, slot_below}
 use Rattle.lfs_tree.proofs.CarrySurvives.{survives_reading}
 use Rattle.lfs_tree.proofs.CarryTold.{called_by_writing, tells_error, told_by_reading}
@@ -54,7 +54,7 @@ returns-clause-done g c given e =
     let is = subst (λ k. (can : CanEdit k s.pair s.id) → HasRemovedAttribute k new can.path can.name c.args.kind) (read_is t.kept mid only) c.in_ok-remove_attribute.ensures.is_removed in
     let below = slot_below t c.args.root c.requires.rests c.args.path.now c.know_device.ensures.large c.know_device.ensures.bytes s slot mid.history in
     cleared_at t c.args.root c.requires.rests c.args.path.now c.know_device.ensures.large c.know_device.ensures.bytes s slot mid.history new c.args.kind given (two_of (pair_in t.kept s.pair).at) only.reads w
-    (apart_in t.kept s.pair [] below c.requires.rests.held.sound.used tt) is e
+    (among_one t.kept s.pair [] below tt) is e
 
 pub returns-clause-called : goal.returns-clause-called
 returns-clause-called g c =

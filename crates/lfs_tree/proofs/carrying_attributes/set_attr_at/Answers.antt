@@ -7,7 +7,7 @@ use Rattle.lfs_operations.specs.Editing.{CanSetAttribute, HasSetAttribute, with_
 use Rattle.lfs_operations.specs.Making.{HasRoomFor}
 use Rattle.lfs_thread.specs.Kept.{Kept}
 use Rattle.lfs_tree.specs.Carrying.{SurvivesTo, TellsError}
-use Rattle.lfs_tree.proofs.Carried.{apart_in, read_is}
+use Rattle.lfs_tree.proofs.Carried.{among_one, read_is}
 use Rattle.lfs_tree.proofs.CarryEdited.{can_set, set_at, set_survives, slot_below}
 use Rattle.lfs_tree.proofs.CarryRooms.{room_for}
 use Rattle.lfs_tree.proofs.CarrySurvives.{survives_reading}
@@ -57,7 +57,7 @@ returns-clause-done g c given e =
     let is = subst (λ k. (set : CanSetAttribute k s.pair s.id c.args.kind c.args.bytes.now) → HasSetAttribute k new set.can.path set.can.name c.args.kind c.args.bytes.now) (read_is t.kept mid only) c.in_ok-set_attribute.ensures.is_set in
     let below = slot_below t c.args.root c.requires.rests c.args.path.now c.know_device.ensures.large c.know_device.ensures.bytes s slot mid.history in
     set_at t c.args.root c.requires.rests c.args.path.now c.know_device.ensures.large c.know_device.ensures.bytes s slot mid.history new c.args.kind c.args.bytes.now given _ c.requires.can only.reads w.writes
-    (apart_in t.kept s.pair w.fresh below c.requires.rests.held.sound.used w.free) is e
+    (among_one t.kept s.pair w.fresh below w.free) is e
 
 pub returns-clause-called : goal.returns-clause-called
 returns-clause-called g c =

@@ -3,8 +3,9 @@ use Rattle.std.specs.Prelude.{IfErr}
 use Rattle.std.proofs.lemmas.Result.{err_from_is_err_and}
 use Rattle.lfs_model.specs.Apply.{removed}
 use Rattle.lfs_model.specs.View.{tree_in}
+use Rattle.lfs_operations.specs.Moving.{WritesAmong}
 use Rattle.lfs_tree.specs.Carrying.{SurvivesTo, TellsError}
-use Rattle.lfs_tree.specs.Going.{CanGo, HasGone, WritesUsed}
+use Rattle.lfs_tree.specs.Going.{CanGo, HasGone}
 use Rattle.lfs_tree.proofs.Carried.{read_is}
 use Rattle.lfs_tree.proofs.CarryGone.{can_go, entry_to_remove, removed_at, told_of_steps}
 use Rattle.lfs_tree.proofs.CarrySurvives.{survives_behind, survives_reading}
@@ -29,7 +30,7 @@ returns-in_err-take_found-clause-called g c =
     let t = c.args.thread.now in
     let mid = c.find_entry.new.thread.kept in
     let only = c.find_entry.ensures.reading.only in
-    let w = subst (λ k. WritesUsed k c.take_found.new.thread.kept) (read_is t.kept mid only) c.take_found.ensures.device in
+    let w = subst (λ k. WritesAmong k c.take_found.new.thread.kept) (read_is t.kept mid only) c.take_found.ensures.device in
     called_by_writing t.kept mid.history c.take_found.new.thread.kept w.blocks only.reads w.writes
 
 pub returns-in_err-take_found-clause-errors : goal.returns-in_err-take_found-clause-errors
@@ -50,7 +51,7 @@ returns-clause-done g c given e =
     let mid = c.find_entry.new.thread.kept in
     let new = c.take_found.new.thread.kept in
     let only = c.find_entry.ensures.reading.only in
-    let w = subst (λ k. WritesUsed k new) (read_is t.kept mid only) c.take_found.ensures.device in
+    let w = subst (λ k. WritesAmong k new) (read_is t.kept mid only) c.take_found.ensures.device in
     let can = can_go t c.args.root c.requires.rests c.args.path.now c.know_device.ensures.large c.know_device.ensures.bytes c.requires.can mid.history c.in_ok-found.found c.in_ok-found.ensures.entry in
     let gone = subst (λ k. CanGo k c.args.path.now c.in_ok-found.found → HasGone k c.args.path.now new) (read_is t.kept mid only) (c.in_ok-take_found.ensures.gone c.args.path.now) in
     removed_at t c.args.root c.requires.rests c.args.path.now mid.history new only.reads w given (gone can) e
@@ -60,7 +61,7 @@ returns-clause-called g c =
     let t = c.args.thread.now in
     let mid = c.find_entry.new.thread.kept in
     let only = c.find_entry.ensures.reading.only in
-    let w = subst (λ k. WritesUsed k c.take_found.new.thread.kept) (read_is t.kept mid only) c.take_found.ensures.device in
+    let w = subst (λ k. WritesAmong k c.take_found.new.thread.kept) (read_is t.kept mid only) c.take_found.ensures.device in
     called_by_writing t.kept mid.history c.take_found.new.thread.kept w.blocks only.reads w.writes
 
 pub returns-clause-no_fault : goal.returns-clause-no_fault
@@ -77,7 +78,7 @@ returns-in_err-take_found-clause-survives g c =
     let mid = c.find_entry.new.thread.kept in
     let new = c.take_found.new.thread.kept in
     let only = c.find_entry.ensures.reading.only in
-    let w = subst (λ k. WritesUsed k new) (read_is t.kept mid only) c.take_found.ensures.device in
+    let w = subst (λ k. WritesAmong k new) (read_is t.kept mid only) c.take_found.ensures.device in
     let can = can_go t c.args.root c.requires.rests c.args.path.now c.know_device.ensures.large c.know_device.ensures.bytes c.requires.can mid.history c.in_ok-found.found c.in_ok-found.ensures.entry in
     let k = subst (λ k. CanGo k c.args.path.now c.in_ok-found.found → SurvivesTo k new (removed c.args.path.now (tree_in k.disk k.pairs))) (read_is t.kept mid only) (c.take_found.ensures.survives c.args.path.now) in
     survives_behind t c.args.root c.requires.rests mid.history new w.blocks _ only.reads w.writes (k can)
@@ -88,7 +89,7 @@ returns-clause-survives g c =
     let mid = c.find_entry.new.thread.kept in
     let new = c.take_found.new.thread.kept in
     let only = c.find_entry.ensures.reading.only in
-    let w = subst (λ k. WritesUsed k new) (read_is t.kept mid only) c.take_found.ensures.device in
+    let w = subst (λ k. WritesAmong k new) (read_is t.kept mid only) c.take_found.ensures.device in
     let can = can_go t c.args.root c.requires.rests c.args.path.now c.know_device.ensures.large c.know_device.ensures.bytes c.requires.can mid.history c.in_ok-found.found c.in_ok-found.ensures.entry in
     let k = subst (λ k. CanGo k c.args.path.now c.in_ok-found.found → SurvivesTo k new (removed c.args.path.now (tree_in k.disk k.pairs))) (read_is t.kept mid only) (c.take_found.ensures.survives c.args.path.now) in
     survives_behind t c.args.root c.requires.rests mid.history new w.blocks _ only.reads w.writes (k can)

@@ -16,3 +16,10 @@ returns-in-File-clause-shifted g c =
 
 pub returns-in-File-clause-survives : goal.returns-in-File-clause-survives
 returns-in-File-clause-survives g c from to can = c.move_onto_file.ensures.survives from to (subst (λ f. CanShiftFound c.args.thread.now.kept from to c.args.source f c.args.name.now) c.in-File.is can)
+
+pub returns-in-Directory-clause-shifted : goal.returns-in-Directory-clause-shifted
+returns-in-Directory-clause-shifted g c =
+    if_done c.move_onto_directory.result c.move_onto_directory.ensures.shifted (λ gives from to can. gives from to (subst (λ f. CanShiftFound c.args.thread.now.kept from to c.args.source f c.args.name.now) c.in-Directory.is can))
+
+pub returns-in-Directory-clause-survives : goal.returns-in-Directory-clause-survives
+returns-in-Directory-clause-survives g c from to can = c.move_onto_directory.ensures.survives from to (subst (λ f. CanShiftFound c.args.thread.now.kept from to c.args.source f c.args.name.now) c.in-Directory.is can)

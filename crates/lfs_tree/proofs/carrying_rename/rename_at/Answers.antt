@@ -3,8 +3,9 @@ use Rattle.std.specs.Prelude.{IfErr}
 use Rattle.std.proofs.lemmas.Result.{err_from_is_err_and}
 use Rattle.lfs_model.specs.Apply.{renamed}
 use Rattle.lfs_model.specs.View.{tree_in}
+use Rattle.lfs_operations.specs.Moving.{WritesAmong}
 use Rattle.lfs_tree.specs.Carrying.{SurvivesTo, TellsError}
-use Rattle.lfs_tree.specs.Shifting.{CanShiftFound, HasShifted, WritesApart}
+use Rattle.lfs_tree.specs.Shifting.{CanShiftFound, HasShifted}
 use Rattle.lfs_tree.proofs.Carried.{read_is}
 use Rattle.lfs_tree.proofs.CarrySurvives.{survives_behind, survives_reading}
 use Rattle.lfs_tree.proofs.CarryTold.{called_by_reading, called_by_writing, tells_error}
@@ -25,7 +26,7 @@ move_found-requires-clause-can g c =
     let one = c.find_source.new.thread in
     let mid = c.find_target.new.thread in
     let read = both t one mid (answered t one c.find_source.result c.in_ok-source.source c.in_ok-source.was c.find_source.ensures.reading) (answered one mid c.find_target.result c.in_ok-target.target c.in_ok-target.was c.find_target.ensures.reading) in
-    let can = shift_found t c.args.root c.requires.rests c.args.from.now c.args.to.now c.know_names.ensures c.know_device.ensures.large c.know_device.ensures.bytes c.requires.can c.requires.elsewhere.apart c.in_ok-source.source c.in_ok-source.ensures.source mid.kept.history c.requires.elsewhere.file
+    let can = shift_found t c.args.root c.requires.rests c.args.from.now c.args.to.now c.know_names.ensures c.know_device.ensures.large c.know_device.ensures.bytes c.requires.can c.requires.apart c.in_ok-source.source c.in_ok-source.ensures.source mid.kept.history
     c.in_ok-target.target.found c.in_ok-target.target.name.now (target_back t.kept one.kept c.args.to.now c.in_ok-target.target.found c.in_ok-target.target.name.now c.find_source.ensures.reading.only c.in_ok-target.ensures.target) in
     (c.args.from.now, c.args.to.now, subst (λ k. CanShiftFound k c.args.from.now c.args.to.now c.in_ok-source.source c.in_ok-target.target.found c.in_ok-target.target.name.now) (sym (read_is t.kept mid.kept read.only)) can)
 
@@ -40,7 +41,7 @@ returns-in_err-move_found-clause-called g c =
     let mid = c.find_target.new.thread in
     let new = c.move_found.new.thread in
     let read = both t one mid (answered t one c.find_source.result c.in_ok-source.source c.in_ok-source.was c.find_source.ensures.reading) (answered one mid c.find_target.result c.in_ok-target.target c.in_ok-target.was c.find_target.ensures.reading) in
-    let w = subst (λ k. WritesApart k new.kept) (read_is t.kept mid.kept read.only) c.move_found.ensures.device in
+    let w = subst (λ k. WritesAmong k new.kept) (read_is t.kept mid.kept read.only) c.move_found.ensures.device in
     called_by_writing t.kept mid.kept.history new.kept w.blocks read.only.reads w.writes
 
 pub returns-in_err-move_found-clause-errors : goal.returns-in_err-move_found-clause-errors
@@ -62,12 +63,12 @@ returns-clause-done g c given to_given e f =
     let mid = c.find_target.new.thread in
     let new = c.move_found.new.thread in
     let read = both t one mid (answered t one c.find_source.result c.in_ok-source.source c.in_ok-source.was c.find_source.ensures.reading) (answered one mid c.find_target.result c.in_ok-target.target c.in_ok-target.was c.find_target.ensures.reading) in
-    let w = subst (λ k. WritesApart k new.kept) (read_is t.kept mid.kept read.only) c.move_found.ensures.device in
-    let can = shift_found t c.args.root c.requires.rests c.args.from.now c.args.to.now c.know_names.ensures c.know_device.ensures.large c.know_device.ensures.bytes c.requires.can c.requires.elsewhere.apart c.in_ok-source.source c.in_ok-source.ensures.source mid.kept.history c.requires.elsewhere.file
+    let w = subst (λ k. WritesAmong k new.kept) (read_is t.kept mid.kept read.only) c.move_found.ensures.device in
+    let can = shift_found t c.args.root c.requires.rests c.args.from.now c.args.to.now c.know_names.ensures c.know_device.ensures.large c.know_device.ensures.bytes c.requires.can c.requires.apart c.in_ok-source.source c.in_ok-source.ensures.source mid.kept.history
     c.in_ok-target.target.found c.in_ok-target.target.name.now (target_back t.kept one.kept c.args.to.now c.in_ok-target.target.found c.in_ok-target.target.name.now c.find_source.ensures.reading.only c.in_ok-target.ensures.target) in
     let is = subst (λ k. CanShiftFound k c.args.from.now c.args.to.now c.in_ok-source.source c.in_ok-target.target.found c.in_ok-target.target.name.now → HasShifted k c.args.from.now c.args.to.now new.kept) (read_is t.kept mid.kept read.only)
     (c.in_ok-move_found.ensures.shifted c.args.from.now c.args.to.now) in
-    shifted_at t c.args.root c.requires.rests c.args.from.now c.args.to.now c.requires.elsewhere.apart mid.kept.history new.kept read.only.reads w given to_given (is can) e f
+    shifted_at t c.args.root c.requires.rests c.args.from.now c.args.to.now c.requires.apart mid.kept.history new.kept read.only.reads w given to_given (is can) e f
 
 pub returns-clause-called : goal.returns-clause-called
 returns-clause-called g c =
@@ -76,7 +77,7 @@ returns-clause-called g c =
     let mid = c.find_target.new.thread in
     let new = c.move_found.new.thread in
     let read = both t one mid (answered t one c.find_source.result c.in_ok-source.source c.in_ok-source.was c.find_source.ensures.reading) (answered one mid c.find_target.result c.in_ok-target.target c.in_ok-target.was c.find_target.ensures.reading) in
-    let w = subst (λ k. WritesApart k new.kept) (read_is t.kept mid.kept read.only) c.move_found.ensures.device in
+    let w = subst (λ k. WritesAmong k new.kept) (read_is t.kept mid.kept read.only) c.move_found.ensures.device in
     called_by_writing t.kept mid.kept.history new.kept w.blocks read.only.reads w.writes
 
 pub returns-clause-no_fault : goal.returns-clause-no_fault
@@ -102,8 +103,8 @@ returns-in_err-move_found-clause-survives g c =
     let mid = c.find_target.new.thread in
     let new = c.move_found.new.thread in
     let read = both t one mid (answered t one c.find_source.result c.in_ok-source.source c.in_ok-source.was c.find_source.ensures.reading) (answered one mid c.find_target.result c.in_ok-target.target c.in_ok-target.was c.find_target.ensures.reading) in
-    let w = subst (λ k. WritesApart k new.kept) (read_is t.kept mid.kept read.only) c.move_found.ensures.device in
-    let can = shift_found t c.args.root c.requires.rests c.args.from.now c.args.to.now c.know_names.ensures c.know_device.ensures.large c.know_device.ensures.bytes c.requires.can c.requires.elsewhere.apart c.in_ok-source.source c.in_ok-source.ensures.source mid.kept.history c.requires.elsewhere.file
+    let w = subst (λ k. WritesAmong k new.kept) (read_is t.kept mid.kept read.only) c.move_found.ensures.device in
+    let can = shift_found t c.args.root c.requires.rests c.args.from.now c.args.to.now c.know_names.ensures c.know_device.ensures.large c.know_device.ensures.bytes c.requires.can c.requires.apart c.in_ok-source.source c.in_ok-source.ensures.source mid.kept.history
     c.in_ok-target.target.found c.in_ok-target.target.name.now (target_back t.kept one.kept c.args.to.now c.in_ok-target.target.found c.in_ok-target.target.name.now c.find_source.ensures.reading.only c.in_ok-target.ensures.target) in
     let k = subst (λ k. CanShiftFound k c.args.from.now c.args.to.now c.in_ok-source.source c.in_ok-target.target.found c.in_ok-target.target.name.now → SurvivesTo k new.kept (renamed c.args.from.now c.args.to.now (tree_in k.disk k.pairs))) (read_is t.kept mid.kept read.only)
     (c.move_found.ensures.survives c.args.from.now c.args.to.now) in
@@ -116,8 +117,8 @@ returns-clause-survives g c =
     let mid = c.find_target.new.thread in
     let new = c.move_found.new.thread in
     let read = both t one mid (answered t one c.find_source.result c.in_ok-source.source c.in_ok-source.was c.find_source.ensures.reading) (answered one mid c.find_target.result c.in_ok-target.target c.in_ok-target.was c.find_target.ensures.reading) in
-    let w = subst (λ k. WritesApart k new.kept) (read_is t.kept mid.kept read.only) c.move_found.ensures.device in
-    let can = shift_found t c.args.root c.requires.rests c.args.from.now c.args.to.now c.know_names.ensures c.know_device.ensures.large c.know_device.ensures.bytes c.requires.can c.requires.elsewhere.apart c.in_ok-source.source c.in_ok-source.ensures.source mid.kept.history c.requires.elsewhere.file
+    let w = subst (λ k. WritesAmong k new.kept) (read_is t.kept mid.kept read.only) c.move_found.ensures.device in
+    let can = shift_found t c.args.root c.requires.rests c.args.from.now c.args.to.now c.know_names.ensures c.know_device.ensures.large c.know_device.ensures.bytes c.requires.can c.requires.apart c.in_ok-source.source c.in_ok-source.ensures.source mid.kept.history
     c.in_ok-target.target.found c.in_ok-target.target.name.now (target_back t.kept one.kept c.args.to.now c.in_ok-target.target.found c.in_ok-target.target.name.now c.find_source.ensures.reading.only c.in_ok-target.ensures.target) in
     let k = subst (λ k. CanShiftFound k c.args.from.now c.args.to.now c.in_ok-source.source c.in_ok-target.target.found c.in_ok-target.target.name.now → SurvivesTo k new.kept (renamed c.args.from.now c.args.to.now (tree_in k.disk k.pairs))) (read_is t.kept mid.kept read.only)
     (c.move_found.ensures.survives c.args.from.now c.args.to.now) in

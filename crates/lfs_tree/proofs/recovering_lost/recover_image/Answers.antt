@@ -3,12 +3,14 @@ use Rattle.std.proofs.lemmas.Result.{err_from_is_err_and}
 use Rattle.lfs_model.specs.Operations as ops
 use Rattle.lfs_model.specs.Thread.{superblocks_before}
 use Rattle.lfs_tree.specs.Held.{seen_kept}
-use Rattle.lfs_tree.specs.Recovering.{TellsRecoverError}
+use Rattle.lfs_tree.specs.Carrying.{TellsError}
 use Rattle.lfs_tree.specs.Seen.{around_of}
 use Rattle.lfs_tree.proofs.CarryRooted.{called_on}
 use Rattle.lfs_tree.proofs.CarrySurvives.{survives_ahead}
 use Rattle.lfs_tree.proofs.Mounting.{sound_read}
-use Rattle.lfs_tree.proofs.Recovered.{recovered_read, tells_reading, tells_then}
+use Rattle.lfs_tree.proofs.Reading.{answered}
+use Rattle.lfs_tree.proofs.Recovered.{tells_reading, tells_then}
+use Rattle.lfs_tree.proofs.RecoveredFirst.{settled_read}
 use Rattle.lfs_tree.proofs.recovering_lost.recover_image.Goals as goal
 
 pub returns-in_err-root-clause-called : goal.returns-in_err-root-clause-called
@@ -17,18 +19,18 @@ returns-in_err-root-clause-called g c = called_on _ _ _ c.recover_at.ensures.cal
 pub returns-in_err-root-clause-errors : goal.returns-in_err-root-clause-errors
 returns-in_err-root-clause-errors g c =
     let p = err_from_is_err_and c.from_residual-in_err-root.result c.from_residual-in_err-root.ensures.1 in
-    subst (λ r. IfErr r (TellsRecoverError c.args.thread.now.kept c.find_root.new.thread.kept)) (sym p.1)
-    (subst (λ x. TellsRecoverError c.args.thread.now.kept c.find_root.new.thread.kept x) (sym p.2)
-    (tells_then c.args.thread.now.kept c.recover_at.new.thread.kept c.find_root.new.thread.kept _ c.in_ok-recover_at.ensures.no_fault
+    subst (λ r. IfErr r (TellsError c.args.thread.now.kept c.find_root.new.thread.kept)) (sym p.1)
+    (subst (λ x. TellsError c.args.thread.now.kept c.find_root.new.thread.kept x) (sym p.2)
+    (tells_then c.args.thread.now.kept c.recover_at.new.thread.kept c.find_root.new.thread.kept _ c.in_ok-recover_at.ensures.done.no_fault
     (tells_reading c.recover_at.new.thread.kept c.find_root.new.thread.kept c.find_root.result _ c.in_err-root.was c.find_root.ensures.reading.told)))
 
 pub returns-clause-done : goal.returns-clause-done
-returns-clause-done g c = recovered_read _ _ _ c.requires.left c.find_root.ensures.reading.only c.in_ok-recover_at.ensures.done
+returns-clause-done g c = settled_read _ _ _ c.requires.left c.find_root.ensures.reading.only (answered _ _ c.find_root.result c.in_ok-root.root c.in_ok-root.was c.find_root.ensures.reading).same c.in_ok-recover_at.ensures.done
 
 pub returns-clause-rooted : goal.returns-clause-rooted
 returns-clause-rooted g c = record {
   works = c.find_root.ensures.reading.works;
-  sound = sound_read c.recover_at.new.thread.kept c.find_root.new.thread.kept true false false c.find_root.ensures.reading.only c.in_ok-recover_at.ensures.done.sound;
+  sound = sound_read c.recover_at.new.thread.kept c.find_root.new.thread.kept true false false c.find_root.ensures.reading.only c.in_ok-recover_at.ensures.done.carries.sound;
   root_is = c.in_ok-root.ensures.root ∙ ap superblocks_before (sym c.find_root.ensures.reading.only.pairs);
 }
 
@@ -37,12 +39,12 @@ returns-clause-called g c = called_on _ _ _ c.recover_at.ensures.called c.find_r
 
 pub returns-in_err-root-clause-survives : goal.returns-in_err-root-clause-survives
 returns-in_err-root-clause-survives g c =
-    let done = c.in_ok-recover_at.ensures.done in
+    let done = c.in_ok-recover_at.ensures.done.carries in
     survives_ahead c.args.thread.now.kept c.recover_at.new.thread.kept c.find_root.new.thread.kept.history ops.Recover _ done
     (done.shows (around_of (seen_kept c.args.thread.now.kept true false)) []) c.find_root.ensures.reading.only.reads c.recover_at.ensures.survives
 
 pub returns-clause-survives : goal.returns-clause-survives
 returns-clause-survives g c =
-    let done = c.in_ok-recover_at.ensures.done in
+    let done = c.in_ok-recover_at.ensures.done.carries in
     survives_ahead c.args.thread.now.kept c.recover_at.new.thread.kept c.find_root.new.thread.kept.history ops.Recover _ done
     (done.shows (around_of (seen_kept c.args.thread.now.kept true false)) []) c.find_root.ensures.reading.only.reads c.recover_at.ensures.survives

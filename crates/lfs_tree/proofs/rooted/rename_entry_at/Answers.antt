@@ -25,7 +25,7 @@ returns-in_err-root-clause-errors g c =
     (tells_error c.args.thread.now.kept c.find_root.new.thread.kept _ c.find_root.result _ c.in_ok-rename_at.ensures.no_fault told c.in_err-root.was))
 
 pub returns-clause-done : goal.returns-clause-done
-returns-clause-done g c given to_given e f = carried_read _ _ _ (ops.Rename given to_given) c.find_root.ensures.reading.only (ap₂ same_path e f ∙ c.requires.elsewhere.apart) refl (c.in_ok-rename_at.ensures.done given to_given e f)
+returns-clause-done g c given to_given e f = carried_read _ _ _ (ops.Rename given to_given) c.find_root.ensures.reading.only (ap₂ same_path e f ∙ c.requires.apart) refl (c.in_ok-rename_at.ensures.done given to_given e f)
 
 pub returns-clause-rooted : goal.returns-clause-rooted
 returns-clause-rooted g c = record {

@@ -6,15 +6,15 @@ use Rattle.lfs_tree.specs.Allowed.{CanCreate}
 use Rattle.lfs_tree.proofs.Asking.{carried_working, seen_working, survives_working}
 use Rattle.lfs_tree.proofs.tree.Tree.create.Goals as goal
 
-pub create_file_at-requires-clause-can : goal.create_file_at-requires-clause-can
-create_file_at-requires-clause-can g c =
+pub create_file-requires-clause-can : goal.create_file-requires-clause-can
+create_file-requires-clause-can g c =
     subst (λ s. CanCreate s c.args.path.now) (seen_working (g.D.BlockDevice) c.self.inside.image c.in-Mounted.thread c.self.inside.root c.self.inside.is_writable c.self.inside.has_failed c.args.self.now c.in-Mounted.is c.self.invariant c.self.view_is c.requires.works c.requires.writable) c.requires
 
 pub returns-in-Ok-clause-done : goal.returns-in-Ok-clause-done
-returns-in-Ok-clause-done g c = λ bytes flags e w. carried_working (g.D.BlockDevice) c.self.inside.image c.in-Mounted.thread c.self.inside.root c.self.inside.is_writable c.self.inside.has_failed c.args.self.now c.in-Mounted.is c.self.invariant c.self.view_is c.requires.works c.requires.writable c.create_file_at.new.thread.kept (ops.Open bytes flags) (c.in-Ok.ensures.done bytes flags e)
+returns-in-Ok-clause-done g c = λ bytes flags e w. carried_working (g.D.BlockDevice) c.self.inside.image c.in-Mounted.thread c.self.inside.root c.self.inside.is_writable c.self.inside.has_failed c.args.self.now c.in-Mounted.is c.self.invariant c.self.view_is c.requires.works c.requires.writable c.create_file.new.thread.kept (ops.Open bytes flags) (c.in-Ok.ensures.done bytes flags e)
 
 pub returns-in-Ok-clause-survives : goal.returns-in-Ok-clause-survives
-returns-in-Ok-clause-survives g c = survives_working (g.D.BlockDevice) c.self.inside.image c.in-Mounted.thread c.self.inside.root c.self.inside.is_writable c.self.inside.has_failed c.args.self.now c.in-Mounted.is c.self.invariant c.self.view_is c.requires.works c.requires.writable c.create_file_at.new.thread.kept.history (λ t. added c.args.path.now (FileNode [] []) t) c.create_file_at.ensures.survives
+returns-in-Ok-clause-survives g c = survives_working (g.D.BlockDevice) c.self.inside.image c.in-Mounted.thread c.self.inside.root c.self.inside.is_writable c.self.inside.has_failed c.args.self.now c.in-Mounted.is c.self.invariant c.self.view_is c.requires.works c.requires.writable c.create_file.new.thread.kept.history (λ t. added c.args.path.now (FileNode [] []) t) c.create_file.ensures.survives
 
 pub returns-in-Err-clause-survives : goal.returns-in-Err-clause-survives
-returns-in-Err-clause-survives g c = survives_working (g.D.BlockDevice) c.self.inside.image c.in-Mounted.thread c.self.inside.root c.self.inside.is_writable c.self.inside.has_failed c.args.self.now c.in-Mounted.is c.self.invariant c.self.view_is c.requires.works c.requires.writable c.create_file_at.new.thread.kept.history (λ t. added c.args.path.now (FileNode [] []) t) c.create_file_at.ensures.survives
+returns-in-Err-clause-survives g c = survives_working (g.D.BlockDevice) c.self.inside.image c.in-Mounted.thread c.self.inside.root c.self.inside.is_writable c.self.inside.has_failed c.args.self.now c.in-Mounted.is c.self.invariant c.self.view_is c.requires.works c.requires.writable c.create_file.new.thread.kept.history (λ t. added c.args.path.now (FileNode [] []) t) c.create_file.ensures.survives

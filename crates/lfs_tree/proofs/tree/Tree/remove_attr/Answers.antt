@@ -6,15 +6,15 @@ use Rattle.lfs_tree.specs.CarryingSlots.{with_attributes_changed}
 use Rattle.lfs_tree.proofs.Asking.{carried_working, seen_working, survives_working}
 use Rattle.lfs_tree.proofs.tree.Tree.remove_attr.Goals as goal
 
-pub drop_attribute_at-requires-clause-can : goal.drop_attribute_at-requires-clause-can
-drop_attribute_at-requires-clause-can g c =
+pub take_attribute-requires-clause-can : goal.take_attribute-requires-clause-can
+take_attribute-requires-clause-can g c =
     subst (λ s. CanRemoveAttr s c.args.path.now c.args.kind) (seen_working (g.D.BlockDevice) c.self.inside.image c.in-Mounted.thread c.self.inside.root c.self.inside.is_writable c.self.inside.has_failed c.args.self.now c.in-Mounted.is c.self.invariant c.self.view_is c.requires.works c.requires.writable) c.requires
 
 pub returns-in-Ok-clause-done : goal.returns-in-Ok-clause-done
-returns-in-Ok-clause-done g c = λ bytes e. carried_working (g.D.BlockDevice) c.self.inside.image c.in-Mounted.thread c.self.inside.root c.self.inside.is_writable c.self.inside.has_failed c.args.self.now c.in-Mounted.is c.self.invariant c.self.view_is c.requires.works c.requires.writable c.drop_attribute_at.new.thread.kept (ops.RemoveAttr bytes c.args.kind) (c.in-Ok.ensures.done bytes e)
+returns-in-Ok-clause-done g c = λ bytes e. carried_working (g.D.BlockDevice) c.self.inside.image c.in-Mounted.thread c.self.inside.root c.self.inside.is_writable c.self.inside.has_failed c.args.self.now c.in-Mounted.is c.self.invariant c.self.view_is c.requires.works c.requires.writable c.take_attribute.new.thread.kept (ops.RemoveAttr bytes c.args.kind) (c.in-Ok.ensures.done bytes e)
 
 pub returns-in-Ok-clause-survives : goal.returns-in-Ok-clause-survives
-returns-in-Ok-clause-survives g c = survives_working (g.D.BlockDevice) c.self.inside.image c.in-Mounted.thread c.self.inside.root c.self.inside.is_writable c.self.inside.has_failed c.args.self.now c.in-Mounted.is c.self.invariant c.self.view_is c.requires.works c.requires.writable c.drop_attribute_at.new.thread.kept.history (λ t. with_attributes_changed c.args.path.now (without_attribute c.args.kind) t) c.drop_attribute_at.ensures.survives
+returns-in-Ok-clause-survives g c = survives_working (g.D.BlockDevice) c.self.inside.image c.in-Mounted.thread c.self.inside.root c.self.inside.is_writable c.self.inside.has_failed c.args.self.now c.in-Mounted.is c.self.invariant c.self.view_is c.requires.works c.requires.writable c.take_attribute.new.thread.kept.history (λ t. with_attributes_changed c.args.path.now (without_attribute c.args.kind) t) c.take_attribute.ensures.survives
 
 pub returns-in-Err-clause-survives : goal.returns-in-Err-clause-survives
-returns-in-Err-clause-survives g c = survives_working (g.D.BlockDevice) c.self.inside.image c.in-Mounted.thread c.self.inside.root c.self.inside.is_writable c.self.inside.has_failed c.args.self.now c.in-Mounted.is c.self.invariant c.self.view_is c.requires.works c.requires.writable c.drop_attribute_at.new.thread.kept.history (λ t. with_attributes_changed c.args.path.now (without_attribute c.args.kind) t) c.drop_attribute_at.ensures.survives
+returns-in-Err-clause-survives g c = survives_working (g.D.BlockDevice) c.self.inside.image c.in-Mounted.thread c.self.inside.root c.self.inside.is_writable c.self.inside.has_failed c.args.self.now c.in-Mounted.is c.self.invariant c.self.view_is c.requires.works c.requires.writable c.take_attribute.new.thread.kept.history (λ t. with_attributes_changed c.args.path.now (without_attribute c.args.kind) t) c.take_attribute.ensures.survives

@@ -1,0 +1,140 @@
+-- The contents of an open writer where only other blocks change.
+use Rattle.std.proofs.Common.{ℕ, ◌≡◌, ◌≢◌, ⊎_elim, inl, inr, List, ◌++◌, drop, length, take, slice_get, sym, ap, ◌∙◌, subst}
+use Rattle.std.specs.Prelude.{All, Contains}
+use Rattle.std.proofs.lemmas.List.Elements.{All-from_recursion, Contains-append_left, Contains-append_right}
+use Rattle.lfs_model.specs.Blocks.{Blocks, block_in}
+use Rattle.lfs_model.specs.BlockSets.{BlockSets, IsFree, IsInFlight}
+use Rattle.lfs_model.specs.Lists.{blocks_for}
+use Rattle.lfs_model.proofs.BlockSets.{Contains-count, count-Contains}
+use Rattle.lfs_model.proofs.Counts.{each_counted, each_from_counted}
+use Rattle.lfs_model.proofs.Files.{Same, back_same, bytes_same, list_same}
+use Rattle.lfs_model.proofs.Counts.{Each}
+use Rattle.std.proofs.lemmas.List.Elements.{recursion_from_All}
+use Rattle.lfs_ctz.specs.Growing.{Growing, IsStill, content_of, kept_of, pending_of, size_of}
+use Rattle.lfs_ctz.proofs.Stands.{still}
+use Rattle.lfs_writer.specs.Apart.{IsApart}
+use Rattle.lfs_writer.specs.Based.{IsBase, list_blocks}
+use Rattle.lfs_writer.specs.Hand.{IsHand, IsStored, hand_bytes, stored_bytes}
+use Rattle.lfs_writer.specs.declared.stored.Stored.{Stored}
+
+-- what holds of each member
+pub each_of : (P : ℕ → Type 0) (bs : List ℕ) → ((b : ℕ) → Contains bs b → P b) → Each P bs
+each_of P bs has = each_from_counted P bs (λ b some. has b (Contains-count bs b some))
+
+pub of_each : (P : ℕ → Type 0) (bs : List ℕ) → Each P bs → (b : ℕ) → Contains bs b → P b
+of_each P bs each b has = each_counted P bs each b (count-Contains bs b has)
+
+pub all_of : (P : ℕ → Type 0) (bs : List ℕ) → ((b : ℕ) → Contains bs b → P b) → All P bs
+all_of P bs has = All-from_recursion P bs (each_of P bs has)
+
+pub of_all : (P : ℕ → Type 0) (bs : List ℕ) → All P bs → (b : ℕ) → Contains bs b → P b
+of_all P bs all b has = of_each P bs (recursion_from_All P bs all) b has
+
+-- These blocks are as they were, on the disk and in the map, and no block comes into flight.
+pub record StayAs (map : BlockSets) (d : Blocks) (bs : List ℕ) (later : BlockSets) (e : Blocks) : Type 0 where
+  pub size : length later ≡ length map
+  pub count : length e ≡ length d
+  pub same : (b : ℕ) → Contains bs b → block_in e b ≡ block_in d b
+  pub states : (b : ℕ) → Contains bs b → slice_get later b ≡ slice_get map b
+  pub none_comes : (b : ℕ) → IsInFlight later b → IsInFlight map b
+
+stay_left : (map later : BlockSets) (d e : Blocks) (xs ys : List ℕ) → StayAs map d (xs ++ ys) later e → StayAs map d xs later e
+stay_left map later d e xs ys s = record {
+  size = s.size;
+  count = s.count;
+  same = λ b has. s.same b (Contains-append_left xs ys b has);
+  states = λ b has. s.states b (Contains-append_left xs ys b has);
+  none_comes = s.none_comes;
+}
+
+stay_right : (map later : BlockSets) (d e : Blocks) (xs ys : List ℕ) → StayAs map d (xs ++ ys) later e → StayAs map d ys later e
+stay_right map later d e xs ys s = record {
+  size = s.size;
+  count = s.count;
+  same = λ b has. s.same b (Contains-append_right xs ys b has);
+  states = λ b has. s.states b (Contains-append_right xs ys b has);
+  none_comes = s.none_comes;
+}
+
+not_free : (map later : BlockSets) (b : ℕ) → slice_get later b ≡ slice_get map b → ¬ (IsFree map b) → ¬ (IsFree later b)
+not_free map later b same was free = was (sym same ∙ free)
+
+-- ---- a list
+
+module _ (map later : BlockSets) (d e : Blocks) (block_size : ℕ) (s : Stored) (stay : StayAs map d (list_blocks d block_size s.head s.size) later e) where
+  each_same : Same d e (list_blocks d block_size s.head s.size)
+  each_same = each_of (λ b. block_in e b ≡ block_in d b) (list_blocks d block_size s.head s.size) stay.same
+
+  pub list_stays : list_blocks e block_size s.head s.size ≡ list_blocks d block_size s.head s.size
+  list_stays = back_same d e (blocks_for block_size s.size) s.head each_same
+
+  pub base_stays : IsBase d block_size s.head s.size → IsBase e block_size s.head s.size
+  base_stays base = ⊎_elim (λ none. inl none) (λ list. inr (list_same d e block_size s.head s.size stay.count each_same list)) base
+
+  pub bytes_stay : stored_bytes e block_size s ≡ stored_bytes d block_size s
+  bytes_stay = bytes_same d e block_size s.head s.size each_same
+
+  pub stored_stays : IsStored map d block_size s → IsStored later e block_size s
+  stored_stays is = record {
+    base = base_stays is.base;
+    count = stay.size ∙ is.count ∙ sym stay.count;
+    marked = subst (All (λ b. ¬ (IsFree later b))) (sym list_stays)
+        (all_of (λ b. ¬ (IsFree later b)) (list_blocks d block_size s.head s.size) (λ b has. not_free map later b (stay.states b has) (of_all (λ x. ¬ (IsFree map x)) (list_blocks d block_size s.head s.size) is.marked b has)));
+    flying = λ b flies. let k = is.flying b (stay.none_comes b flies) in (k.0, subst (λ (bs : List ℕ). Contains bs b) (sym list_stays) k.1);
+  }
+
+-- ---- a list in hand, over its base
+
+module _ (map later : BlockSets) (d e : Blocks) (block_size : ℕ) (g : Growing) (base : Stored) (shared : ℕ) (hand : IsHand map d block_size g base shared)
+    (stay : StayAs map d (kept_of d g ++ list_blocks d block_size base.head base.size) later e) where
+  abbrev own : List ℕ
+  own = kept_of d g
+
+  abbrev bb : List ℕ
+  bb = list_blocks d block_size base.head base.size
+
+  stay_own : StayAs map d (kept_of d g) later e
+  stay_own = stay_left map later d e (kept_of d g) (list_blocks d block_size base.head base.size) stay
+
+  stay_base : StayAs map d (list_blocks d block_size base.head base.size) later e
+  stay_base = stay_right map later d e (kept_of d g) (list_blocks d block_size base.head base.size) stay
+
+  pub hand_still : IsStill d e g
+  hand_still = still d e stay.count g (subst (All (λ b. block_in e b ≡ block_in d b)) (sym hand.own) (all_of (λ b. block_in e b ≡ block_in d b) own stay_own.same)) hand.begun.growing
+
+  pub base_list : list_blocks e block_size base.head base.size ≡ list_blocks d block_size base.head base.size
+  base_list = list_stays map later d e block_size base stay_base
+
+  pub hand_stays : IsHand later e block_size g base shared
+  hand_stays = record {
+    begun = record {
+      growing = hand_still.growing;
+      marked = record {
+        count = stay.size ∙ hand.begun.marked.count ∙ sym stay.count;
+        kept = subst (All (λ b. ¬ (IsFree later b))) (sym hand_still.kept)
+            (all_of (λ b. ¬ (IsFree later b)) own (λ b has. not_free map later b (stay_own.states b has) (of_all (λ x. ¬ (IsFree map x)) own hand.begun.marked.kept b has)));
+        pending = all_of (IsInFlight later) (pending_of g) (λ b has. stay_own.states b (Contains-append_right _ (pending_of g) b has) ∙ of_all (IsInFlight map) (pending_of g) hand.begun.marked.pending b has);
+      };
+      list = base_stays map later d e block_size base stay_base hand.begun.list;
+      apart = subst (All (IsApart later (pending_of g))) (sym base_list)
+          (all_of (IsApart later (pending_of g)) bb (λ b has. let k = of_all (IsApart map (pending_of g)) bb hand.begun.apart b has in (not_free map later b (stay_base.states b has) k.0, k.1)));
+      few = hand.begun.few;
+      front = ap (take shared) hand_still.kept ∙ hand.begun.front ∙ ap (take shared) (sym base_list);
+      behind = subst (λ (l : List ℕ). All (λ b. All (λ c. c ≢ b) l) (drop shared (kept_of e g))) (sym base_list)
+          (subst (λ (l : List ℕ). All (λ b. All (λ c. c ≢ b) bb) (drop shared l)) (sym hand_still.kept) hand.begun.behind);
+      taken = λ b has used.
+          let was : Contains own b = subst (λ (l : List ℕ). Contains l b) hand_still.kept has in
+          subst (λ (l : List ℕ). Contains l b) (sym base_list) (hand.begun.taken b was (sym (stay_own.states b was) ∙ used));
+      flying = λ b flies. ⊎_elim
+          (λ has. inl (subst (λ (l : List ℕ). Contains l b) (sym hand_still.kept) has))
+          (λ both. inr (both.0, subst (λ (l : List ℕ). Contains l b) (sym base_list) both.1))
+          (hand.begun.flying b (stay.none_comes b flies));
+    };
+    own = hand_still.blocks ∙ hand.own ∙ sym hand_still.kept;
+    many = ap length hand_still.kept ∙ hand.many;
+    listed = hand.listed;
+  }
+
+  pub hand_bytes_stay : hand_bytes e block_size g base ≡ hand_bytes d block_size g base
+  hand_bytes_stay = ap (λ (l : List ℕ). l ++ drop (size_of block_size g) (stored_bytes e block_size base)) hand_still.content
+      ∙ ap (λ (l : List ℕ). content_of d g ++ drop (size_of block_size g) l) (bytes_stay map later d e block_size base stay_base)

@@ -1,0 +1,231 @@
+-- The lists of slots that go with their pairs: which they are, and how their blocks are freed.
+use Rattle.std.proofs.Common.{ℕ, zero, suc, ◌≡◌, ◌≢◌, ◌⊎◌, inl, inr, ◌<◌, ◌≤◌, ◌+◌, ◌∙◌, List, [], ◌∷◌, ◌++◌, length, Option, Some, None, refl, sym, ap, ap₂, subst, arith, add-one, append-nil, drop, drop-cons, take}
+use Rattle.std.proofs.Math.Seq.{take-suc}
+use Rattle.std.proofs.lemmas.List.Concat.{flat_map-append}
+use Rattle.std.specs.List.{AllByRecursion}
+use Rattle.std.specs.Option.{option_and_then, option_map}
+use Rattle.std.specs.Prelude.{Contains, ◌↔◌, slice_index_or}
+use Rattle.std.proofs.lemmas.Bool.{cases_lt}
+use Rattle.std.proofs.lemmas.List.Elements.{All-from_recursion, recursion_from_All}
+use Rattle.std.proofs.lemmas.Option.{same_Some}
+use Rattle.lfs_files.specs.Settling.{CanSettle, IsReadBesideMap, IsSettledIn, blocks_in_list}
+use Rattle.lfs_model.specs.BlockSets.{AreUsed, BlockSets, IsInFlight}
+use Rattle.lfs_model.specs.Content.{RawSlot, complete, complete_all, kind_named, struct_typed}
+use Rattle.lfs_model.specs.Disk.{Disk, SameGeometry}
+use Rattle.lfs_model.specs.History.{Event}
+use Rattle.lfs_model.proofs.Histories.{OnlyReads-trans}
+use Rattle.lfs_model.specs.Slots.{Slot, Struct, Inline, Ctz, Branch}
+use Rattle.lfs_model.specs.Thread.{Pair, blocks_of, gstate_of}
+use Rattle.lfs_model.specs.View.{IsAccepted, IsListIfCtz, all_slots, file_blocks, used_blocks}
+use Rattle.lfs_model.proofs.BlockSets.{Contains-count, count-Contains}
+use Rattle.lfs_model.proofs.Completed.{complete_parts}
+use Rattle.lfs_model.proofs.Counts.{Each, count, count_append, each_append, each_both, each_from_counted}
+use Rattle.lfs_model.proofs.Changes.{SameFiles, slots_files}
+use Rattle.lfs_model.proofs.Files.{HasSameFile, is_list_same}
+use Rattle.lfs_model.proofs.Global.{HasNoMove}
+use Rattle.lfs_model.proofs.Splices.{files_of, unmoved_in}
+use Rattle.lfs_operations.specs.Dropping.{SameInFlight}
+use Rattle.lfs_operations.specs.Ready.{IsReady, IsReadyBut}
+use Rattle.lfs_operations.specs.Recovering.{HasRecovered, list_blocks_at, slots_at}
+use Rattle.lfs_operations.proofs.RecoverLists.{each_at}
+use Rattle.lfs_thread.specs.Kept.{Kept}
+use Rattle.lfs_thread.specs.Steps.{no_pair}
+use Rattle.lfs_tree.specs.Going.{no_list}
+use Rattle.lfs_tree.specs.LostLists.{CanFreeLists, blocks_in_lists, list_named, list_typed, lists_named, lists_typed}
+use Rattle.lfs_tree.proofs.CarryFreed.{beside_is, not_both, not_free, with_map}
+use Rattle.lfs_writer.specs.Based.{IsBase}
+use Rattle.lfs_writer.specs.Settled.{IsSettled}
+use Rattle.lfs_writer.specs.declared.stored.Stored.{Stored}
+
+-- ---- which lists
+
+typed_first : (s : RawSlot) (t : Slot) → complete s ≡ Some t → list_typed s.struct ≡ list_named t.struct
+typed_first s t e = go s.name s.struct refl refl
+  where
+    given : ℕ × List ℕ → ℕ × List ℕ → Slot
+    given name struct = record { kind = kind_named name.0; name = name.1; struct = struct_typed struct.0 struct.1; attributes = s.attributes }
+
+    made : Option (ℕ × List ℕ) → Option (ℕ × List ℕ) → Option Slot
+    made name struct = option_and_then (λ n. option_map (λ k. given n k) struct) name
+
+    go : (name struct : Option (ℕ × List ℕ)) → s.name ≡ name → s.struct ≡ struct → list_typed s.struct ≡ list_named t.struct
+    go None struct n k = absurd (let z = sym (ap₂ made n k) ∙ e in cc)
+    go (Some name) None n k = absurd (let z = sym (ap₂ made n k) ∙ e in cc)
+    go (Some name) (Some struct) n k = ap list_typed k ∙ ap (λ (u : Slot). list_named u.struct) (same_Some (given name struct) t (sym (ap₂ made n k) ∙ e))
+
+pub typed_complete : (raw : List RawSlot) (all : List Slot) → complete_all raw ≡ Some all → lists_typed raw ≡ lists_named all
+typed_complete [] all h = ap lists_named (same_Some [] all h)
+typed_complete (x ∷ xs) all h =
+    let p = complete_parts x xs all h in
+    ap₂ (λ a b. a ++ b) (typed_first x p.first p.is_first) (typed_complete xs p.others p.are_others) ∙ ap lists_named (sym p.all_are)
+
+-- of the pairs of one number more
+pub named_more : (ps : List Pair) (numbers : List ℕ) (i : ℕ) → i < length numbers
+    → lists_named (slots_at ps (take i numbers)) ++ lists_named (slice_index_or ps (slice_index_or numbers i 0) no_pair).content.slots ≡ lists_named (slots_at ps (take (i + 1) numbers))
+named_more ps numbers i low =
+    let n = slice_index_or numbers i 0 in
+    ap (λ z. lists_named (slots_at ps (take i numbers)) ++ lists_named z) (sym (append-nil (slice_index_or ps n no_pair).content.slots))
+    ∙ sym (flat_map-append (λ (s : Slot). list_named s.struct) (slots_at ps (take i numbers)) (slots_at ps (n ∷ [])))
+    ∙ ap lists_named (sym (flat_map-append (λ k. (slice_index_or ps k no_pair).content.slots) (take i numbers) (n ∷ [])))
+    ∙ ap (λ z. lists_named (slots_at ps z)) (sym (rw add-one (take-suc numbers i 0 low)))
+
+-- ---- their blocks
+
+pub blocks_named : (t : Kept) (slots : List Slot) → blocks_in_lists t (lists_named slots) ≡ files_of t.disk slots
+blocks_named t [] = refl
+blocks_named t (s ∷ slots) = go s.struct (blocks_named t slots)
+  where
+    go : (x : Struct) → blocks_in_lists t (lists_named slots) ≡ files_of t.disk slots → blocks_in_lists t (list_named x ++ lists_named slots) ≡ file_blocks t.disk x ++ files_of t.disk slots
+    go (Inline bytes) rest = rest
+    go (Branch to) rest = rest
+    go (Ctz head size) rest = ap (λ z. file_blocks t.disk (Ctz head size) ++ z) rest
+
+pub stand_named : (t : Kept) (slots : List Slot) → Each (λ (s : Slot). IsListIfCtz t.disk s.struct) slots → AllByRecursion (λ (list : Stored). IsBase t.disk.blocks t.disk.block_size list.head list.size) (lists_named slots)
+stand_named t [] h = tt
+stand_named t (s ∷ slots) h = each_append (λ (list : Stored). IsBase t.disk.blocks t.disk.block_size list.head list.size) (list_named s.struct) (lists_named slots) (go s.struct h.0) (stand_named t slots h.1)
+  where
+    go : (x : Struct) → IsListIfCtz t.disk x → AllByRecursion (λ (list : Stored). IsBase t.disk.blocks t.disk.block_size list.head list.size) (list_named x)
+    go (Inline bytes) k = tt
+    go (Branch to) k = tt
+    go (Ctz head size) k = (inr k, tt)
+
+-- ---- what the dropped pairs named
+
+module _ (old : Kept) (numbers : List ℕ) (new : Kept) (ok : IsAccepted old.disk old.pairs) (none : HasNoMove (gstate_of old.pairs)) (geometry : SameGeometry old.disk new.disk) (r : HasRecovered old numbers new) where
+  abbrev slots : List Slot
+  slots = slots_at old.pairs numbers
+
+  same : SameFiles old.disk new.disk (slots_at old.pairs numbers)
+  same = recursion_from_All (λ (s : Slot). HasSameFile old.disk new.disk s.struct) slots r.stand
+
+  blocks_are : blocks_in_lists new (lists_named (slots_at old.pairs numbers)) ≡ list_blocks_at old numbers
+  blocks_are = blocks_named new slots ∙ slots_files old.disk new.disk slots geometry same
+
+  stood : Each (λ (s : Slot). IsListIfCtz old.disk s.struct) (slots_at old.pairs numbers)
+  stood = each_at (λ (s : Slot). IsListIfCtz old.disk s.struct) old.pairs numbers
+      (subst (Each (λ (s : Slot). IsListIfCtz old.disk s.struct)) (unmoved_in (gstate_of old.pairs) none old.pairs) (recursion_from_All (λ (s : Slot). IsListIfCtz old.disk s.struct) (all_slots old.pairs) ok.lists))
+
+  stand : Each (λ (s : Slot). IsListIfCtz new.disk s.struct) (slots_at old.pairs numbers)
+  stand = each_both (λ (s : Slot). HasSameFile old.disk new.disk s.struct) (λ (s : Slot). IsListIfCtz old.disk s.struct) (λ (s : Slot). IsListIfCtz new.disk s.struct)
+      (λ s h k. is_list_same old.disk new.disk s.struct geometry h k) slots same stood
+
+  can_free : CanFreeLists new (lists_named (slots_at old.pairs numbers))
+  can_free = record {
+    ready = subst (λ z. IsReadyBut new z []) (sym blocks_are) r.ready;
+    once = λ b. let e = ap (count b) blocks_are in let o = r.once b in omega arith;
+    stand = stand_named new slots stand;
+  }
+
+  pub can_free_lists : (lists : List Stored) → lists ≡ lists_named (slots_at old.pairs numbers) → CanFreeLists new lists
+  can_free_lists lists are = subst (CanFreeLists new) (sym are) can_free
+
+-- ---- which are left
+
+pub besides_then : (a b c : Kept) → IsReadBesideMap a b → IsReadBesideMap b c → IsReadBesideMap a c
+besides_then a b c r s = record {
+  disk = s.disk ∙ r.disk;
+  reads = OnlyReads-trans r.reads s.reads (ap (λ (d : Disk). d.blocks) r.disk);
+  pairs = s.pairs ∙ r.pairs;
+}
+
+pub first_left : (lists : List Stored) (i : ℕ) (d : Stored) → i < length lists → drop i lists ≡ slice_index_or lists i d ∷ drop (i + 1) lists
+first_left lists i d low = rw add-one (drop-cons lists i d low)
+
+pub none_left : (lists : List Stored) (i : ℕ) → length lists ≤ i → drop i lists ≡ []
+none_left [] zero l = refl
+none_left [] (suc i) l = refl
+none_left (x ∷ lists) zero l = absurd (omega arith)
+none_left (x ∷ lists) (suc i) l = none_left lists i (omega arith)
+
+pub all_freed : (t : Kept) (lists : List Stored) → lists ≡ [] → CanFreeLists t lists → IsReady t
+all_freed t lists none can = go (subst (CanFreeLists t) none can)
+  where
+    go : CanFreeLists t [] → IsReady t
+    go h = record {
+      accepted = h.ready.accepted;
+      writable = h.ready.writable;
+      settled = h.ready.settled;
+      used = λ b. (
+        (λ k. Contains-count (used_blocks t.disk t.pairs) b (let n = count-Contains h.ready.used.owned b ((h.ready.used.are b).0 k) in let e = h.ready.used.same b in omega arith)),
+        (λ k. (h.ready.used.are b).1 (Contains-count h.ready.used.owned b (let n = count-Contains (used_blocks t.disk t.pairs) b k in let e = h.ready.used.same b in omega arith))),
+      );
+      size = h.ready.size;
+      large = h.ready.large;
+    }
+
+-- ---- the first list is freed
+
+abbrev pub IsExact : Type 0
+IsExact = (sets later : BlockSets) (owned used before now gone come : List ℕ) → AreUsed sets owned → ((b : ℕ) → count b owned ≤ 1) → ((b : ℕ) → count b owned + count b come ≡ count b used + count b gone)
+    → ((b : ℕ) → count b now + count b gone ≡ count b come + count b before) → ((b : ℕ) → Contains now b → Contains used b) → IsSettled sets later before now → AreUsed later used
+
+module _ (t : Kept) (list : Stored) (rest : List Stored) (can : CanFreeLists t (list ∷ rest)) where
+  both : (b : ℕ) → count b (blocks_in_lists t (list ∷ rest)) ≡ count b (blocks_in_list t list) + count b (blocks_in_lists t rest)
+  both b = count_append b (blocks_in_list t list) (blocks_in_lists t rest)
+
+  pub can_settle_first : CanSettle t list no_list
+  can_settle_first = record {
+    was = can.stand.0;
+    list = inl refl;
+    size = can.ready.size;
+    apart = λ b has lists.
+        let a = count-Contains (blocks_of t.pairs) b has in
+        let l = count-Contains (blocks_in_list t list) b (subst (λ z. Contains z b) (append-nil (blocks_in_list t list)) lists) in
+        let e = count_append b (blocks_of t.pairs) (files_of t.disk (all_slots t.pairs)) in
+        let k = both b in
+        let o = can.once b in
+        absurd (omega arith);
+  }
+
+  module _ (history : List Event) (map : BlockSets) (settled : IsSettledIn t list no_list (with_map t history map)) (law : IsExact) where
+    used_now : AreUsed map (used_blocks t.disk t.pairs ++ blocks_in_lists t rest)
+    used_now = law t.map map can.ready.used.owned (used_blocks t.disk t.pairs ++ blocks_in_lists t rest) (blocks_in_list t list) (blocks_in_list t no_list) (blocks_in_list t list) []
+        can.ready.used.are (λ b. let e = can.ready.used.same b in let o = can.once b in omega arith)
+        (λ b. let e = can.ready.used.same b in let k = both b in let c = count_append b (used_blocks t.disk t.pairs) (blocks_in_lists t rest) in omega arith)
+        (λ b. omega arith) (λ b h. let k = count-Contains [] b h in absurd (omega arith)) settled
+
+    rest_here : CanFreeLists (with_map t history map) rest
+    rest_here = record {
+      ready = record {
+        accepted = can.ready.accepted;
+        writable = can.ready.writable;
+        settled = can.ready.settled;
+        used = record {
+          owned = used_blocks t.disk t.pairs ++ blocks_in_lists t rest;
+          are = used_now;
+          same = λ b. let c = count_append b (used_blocks t.disk t.pairs) (blocks_in_lists t rest) in omega arith;
+        };
+        size = settled.count ∙ can.ready.size;
+        large = can.ready.large;
+      };
+      once = λ b. let k = both b in let o = can.once b in omega arith;
+      stand = can.stand.1;
+    }
+
+    none_there : (b : ℕ) (xs : List ℕ) → count b xs ≤ 0 → Each (λ x. x ≢ b) xs
+    none_there b xs never = each_from_counted (λ x. x ≢ b) xs (λ x some e. let k = ap (λ z. count z xs) e in absurd (omega arith))
+
+    -- a block of the list was used, and is free
+    flying_here : SameInFlight t.map map
+    flying_here b = go (cases_lt 0 (count b (blocks_in_list t list)))
+      where
+        go : (0 < count b (blocks_in_list t list)) ⊎ (count b (blocks_in_list t list) ≤ 0) → IsInFlight map b ↔ IsInFlight t.map b
+        go (inl some) =
+            let e = can.ready.used.same b in
+            let k = both b in
+            let was = (can.ready.used.are b).1 (Contains-count can.ready.used.owned b (omega arith)) in
+            let free = settled.freed b (Contains-count (blocks_in_list t list) b some) (All-from_recursion (λ x. x ≢ b) [] tt) in
+            ((λ flies. absurd (not_free map b free flies)), (λ flies. absurd (not_both t.map b was flies)))
+        go (inr never) =
+            let same = settled.others b (All-from_recursion (λ x. x ≢ b) (blocks_in_list t list) (none_there b (blocks_in_list t list) never)) (All-from_recursion (λ x. x ≢ b) [] tt) in
+            ((λ flies. sym same ∙ flies), (λ flies. same ∙ flies))
+
+  module _ (new : Kept) (only : IsReadBesideMap t new) (settled : IsSettledIn t list no_list new) (law : IsExact) where
+    here : IsSettledIn t list no_list (with_map t new.history new.map)
+    here = settled
+
+    pub rest_left : CanFreeLists new rest
+    rest_left = subst (λ z. CanFreeLists z rest) (sym (beside_is t new only)) (rest_here new.history new.map here law)
+
+    pub first_flying : SameInFlight t.map new.map
+    first_flying = flying_here new.history new.map here law

@@ -1,0 +1,274 @@
+-- An operation behind a recovery is one on the image from before it.
+use Rattle.std.proofs.Common.{ℕ, suc, ◌≡◌, ◌+◌, ◌≤◌, ◌⊎◌, ◌∙◌, ◌&&◌, inl, inr, true, false, not, cond, List, [], ◌∷◌, length, Option, Some, None, Result, Ok, Err, refl, sym, ap, ap₂, subst, arith}
+use Rattle.std.proofs.lemmas.List.Sums.{sum_by-cons}
+use Rattle.std.proofs.lemmas.Option.{same_Some}
+use Rattle.std.specs.Prelude.{IfErr, is_none, is_some, nat_lt}
+use Rattle.lfs_device.specs.declared.error.Error.{Error}
+use Rattle.lfs_model.specs.Apply.{attributes_of, is_directory, is_file, last_name, names_of, same_path}
+use Rattle.lfs_model.specs.Blocks.{Blocks}
+use Rattle.lfs_model.specs.Content.{attribute_of, put_attribute}
+use Rattle.lfs_model.specs.Names.{Name}
+use Rattle.lfs_model.specs.Steps.{effect_of}
+use Rattle.lfs_tree.proofs.RecoveredTwice.{recovers_through}
+use Rattle.lfs_model.specs.BlockSets.{BlockSets, BlockState, IsInFlight, in_flight_count, is_in_flight}
+use Rattle.lfs_model.specs.BlockSets.BlockState.{Free, InFlight, Used}
+use Rattle.lfs_model.specs.Disk.{Disk, SameGeometry, entry_limit}
+use Rattle.lfs_model.specs.History.{faults}
+use Rattle.lfs_model.specs.Layout.{Goes, IsArranged, IsLaidOut}
+use Rattle.lfs_model.specs.Operations as ops
+use Rattle.lfs_model.specs.Operations.{Operation}
+use Rattle.lfs_model.specs.PowerLoss.{IsLeft, with_blocks}
+use Rattle.lfs_model.specs.Run.{is_recover, renames_to_itself}
+use Rattle.lfs_model.specs.Session.{Session, is_overcharged, parent_fault}
+use Rattle.lfs_model.specs.Slots.{Attributes, charge_of, no_gstate}
+use Rattle.lfs_model.specs.Thread.{Pair, gstate_of, superblocks_before}
+use Rattle.lfs_model.specs.Tree.{Path, Tree}
+use Rattle.lfs_model.specs.View.{tree_in, used_blocks}
+use Rattle.lfs_model.proofs.AfterStops.{survives_then}
+use Rattle.lfs_model.proofs.BlockCounts.{few_used}
+use Rattle.lfs_model.proofs.BlockSets.{Contains-count, count-Contains, used_count-AreUsed}
+use Rattle.lfs_model.proofs.Counts.{count}
+use Rattle.lfs_model.proofs.Histories.{LeavesOnly-weaker}
+use Rattle.lfs_operations.specs.Recovering.{HasEndedMove, RecoversTo}
+use Rattle.lfs_operations.proofs.RecoverBefore.{AreKin, stand_kin}
+use Rattle.lfs_thread.specs.Kept.{Kept, State}
+use Rattle.lfs_thread.specs.Steps.{IsOnlyRead}
+use Rattle.lfs_tree.specs.Allowed.{CanAdd, CanRemove, CanRemoveAttr, CanRename, CanSetAttr, HasRoom}
+use Rattle.lfs_tree.specs.Carrying.{Carries, HasCalled, SurvivesTo, TellsError}
+use Rattle.lfs_tree.specs.Held.{IsRooted, seen_kept}
+use Rattle.lfs_tree.specs.Recovering.{HasDroppedLost, HasSettled}
+use Rattle.lfs_tree.specs.Seen.{IsSound, around_of, kept_of}
+use Rattle.lfs_tree.proofs.KeptFiles.{keeps_then}
+use Rattle.lfs_tree.proofs.Recovered.{called_then, leaves_then, recovered_already, recovered_read, some_since}
+
+-- ---- the recovery
+
+-- no more blocks are used
+fewer_used : (c : Kept) (used : List ℕ) → IsSound (seen_kept c true false) → ((b : ℕ) → count b (used_blocks c.disk c.pairs) ≤ count b used) → length (used_blocks c.disk c.pairs) ≤ length used
+fewer_used c used sound fewer =
+    let e = used_count-AreUsed c.map (used_blocks c.disk c.pairs) sound.accepted.owned_once sound.used in
+    let f = few_used used c.map (λ b is. Contains-count used b (let k = count-Contains (used_blocks c.disk c.pairs) b ((sound.used b).0 is) in let l = fewer b in omega arith)) in
+    omega arith
+
+pub settled_whole : (a b c : Kept) → HasEndedMove a b → HasDroppedLost b c → Carries a ops.Recover c → faults c.history ≡ faults a.history → HasSettled a c
+settled_whole a b c e d carries no_fault =
+    let now : Session = record { tree = tree_in b.disk b.pairs; files = [] } in
+    let done = d.completed now refl in
+    record {
+      carries = carries;
+      leads_on = λ s disk qs h. e.leads_on s disk qs (recovers_through b.disk b.pairs now c.disk c.pairs s disk qs done.laid_out d.ready.accepted d.ready.writable d.ready.settled h);
+      room = fewer_used c (used_blocks a.disk a.pairs) carries.sound (λ k. let x = d.fewer k in let y = e.fewer k in omega arith);
+      no_fault = no_fault;
+    }
+
+pub settled_read : (a b c : Kept) → (gstate_of a.pairs ≡ no_gstate → ⊥) → IsOnlyRead b c → faults c.history ≡ faults b.history → HasSettled a b → HasSettled a c
+settled_read a b c left r quiet f = record {
+  carries = recovered_read a b c left r f.carries;
+  leads_on = subst (λ (ps : List Pair). (s : Session) (disk : Disk) (qs : List Pair) → IsLaidOut c.disk ps s ops.Recover disk qs → IsLaidOut a.disk a.pairs s ops.Recover disk qs) (sym r.pairs)
+      (subst (λ (d : Disk). (s : Session) (disk : Disk) (qs : List Pair) → IsLaidOut d b.pairs s ops.Recover disk qs → IsLaidOut a.disk a.pairs s ops.Recover disk qs) (sym r.disk) f.leads_on);
+  room = subst (λ (ps : List Pair). length (used_blocks c.disk ps) ≤ length (used_blocks a.disk a.pairs)) (sym r.pairs) (subst (λ (d : Disk). length (used_blocks d b.pairs) ≤ length (used_blocks a.disk a.pairs)) (sym r.disk) f.room);
+  no_fault = quiet ∙ f.no_fault;
+}
+
+-- nothing was left
+pub settled_already : (t : State) (root : ℕ) → IsRooted t root true → gstate_of t.kept.pairs ≡ no_gstate → HasSettled t.kept t.kept
+settled_already t root r e = record {
+  carries = recovered_already (seen_kept t.kept true false) refl refl r.sound e;
+  leads_on = λ s disk qs h. h;
+  room = omega arith;
+  no_fault = refl;
+}
+
+-- ---- an operation behind it
+
+kin_itself : (ps : List Pair) → AreKin ps ps
+kin_itself [] = tt
+kin_itself (p ∷ ps) = (record { at = refl; slots = refl; hard = refl }, kin_itself ps)
+
+arranged_through : (a b c : Kept) (s : Session) (op : Operation) → SameGeometry a.disk b.disk → RecoversTo a b → IsArranged b.disk b.pairs s op c.disk c.pairs → IsArranged a.disk a.pairs s op c.disk c.pairs
+arranged_through a b c s op g leads k = record {
+  middle = k.middle;
+  between = k.between;
+  accepted = k.accepted;
+  recovered = k.recovered;
+  recovery = leads s k.middle k.between k.recovery;
+  operation = record {
+    drafts = k.operation.drafts;
+    parts = k.operation.parts;
+    front = k.operation.front;
+    fresh = k.operation.fresh;
+    back = k.operation.back;
+    edits = k.operation.edits;
+    stand = stand_kin a.disk b.disk (Goes k.between op) (Goes k.between op) (record { block_size = g.block_size; page = g.page; there = λ x y. y; back = λ x y. y })
+        (superblocks_before k.between) None k.operation.drafts k.operation.drafts k.operation.parts (kin_itself k.operation.drafts) k.operation.stand;
+    joined = k.operation.joined;
+    is = k.operation.is;
+  };
+}
+
+flying_cons : (state : BlockState) (sets : BlockSets) → in_flight_count (state ∷ sets) ≡ cond (is_in_flight state) 1 0 + in_flight_count sets
+flying_cons state sets = sum_by-cons (λ x. cond (is_in_flight x) 1 0) state sets
+
+flying_here : (x : BlockState) (o : Option BlockState) → (Some x ≡ Some InFlight → o ≡ Some InFlight) → cond (is_in_flight x) 1 0 ≤ cond (is_some o) 1 0
+flying_here Free o h = omega arith
+flying_here Used o h = omega arith
+flying_here InFlight o h = let e = ap is_some (h refl) in subst (λ z. 1 ≤ cond z 1 0) (sym e) (omega arith)
+
+both_fly : (x y : BlockState) → (Some x ≡ Some InFlight → Some y ≡ Some InFlight) → cond (is_in_flight x) 1 0 ≤ cond (is_in_flight y) 1 0
+both_fly Free y h = omega arith
+both_fly Used y h = omega arith
+both_fly InFlight y h = let e = same_Some y InFlight (h refl) in subst (λ z. 1 ≤ cond (is_in_flight z) 1 0) (sym e) (omega arith)
+
+-- none more is in flight
+fewer_flying : (xs ys : BlockSets) → ((b : ℕ) → IsInFlight xs b → IsInFlight ys b) → in_flight_count xs ≤ in_flight_count ys
+fewer_flying [] ys h = omega arith
+fewer_flying (x ∷ xs) [] h =
+    let k = fewer_flying xs [] (λ b f. h (suc b) f) in
+    let e = flying_cons x xs in
+    let n = flying_here x None (h 0) in
+    omega arith
+fewer_flying (x ∷ xs) (y ∷ ys) h =
+    let k = fewer_flying xs ys (λ b f. h (suc b) f) in
+    let e = flying_cons x xs in
+    let f = flying_cons y ys in
+    let n = both_fly x y (h 0) in
+    omega arith
+
+-- the tree from before is one of both
+pub survives_before : (a c : Kept) (after : Tree) → SurvivesTo a c (tree_in a.disk a.pairs) → SurvivesTo a c after
+survives_before a c after k clean = LeavesOnly-weaker (λ left x. record { pairs = x.pairs; accepted = x.accepted; writable = x.writable; tree = go left x.pairs x.tree }) (k clean)
+  where
+    go : (left : Blocks) (ps : List Pair) → (tree_in (with_blocks left a.disk) ps ≡ tree_in a.disk a.pairs) ⊎ (tree_in (with_blocks left a.disk) ps ≡ tree_in a.disk a.pairs)
+        → (tree_in (with_blocks left a.disk) ps ≡ tree_in a.disk a.pairs) ⊎ (tree_in (with_blocks left a.disk) ps ≡ after)
+    go left ps (inl e) = inl e
+    go left ps (inr e) = inl e
+
+called_by : (a b : Kept) (op : Operation) → Carries a op b → HasCalled a b
+called_by a b op k = record { geometry = k.geometry; calls = k.calls; called = k.called }
+
+module _ (a b : Kept) (f : HasSettled a b) where
+  tree_is : tree_in b.disk b.pairs ≡ tree_in a.disk a.pairs
+  tree_is = f.carries.shows (around_of (seen_kept a true false)) []
+
+  pub called_after : (c : Kept) → HasCalled b c → HasCalled a c
+  called_after c k = called_then a b c (called_by a b ops.Recover f.carries) k
+
+  pub carried_after : (c : Kept) (op : Operation) → renames_to_itself op ≡ false → is_recover op ≡ false → Carries b op c → Carries a op c
+  carried_after c op apart other k =
+      let all = called_after c (called_by b c op k) in
+      record {
+        works = k.works;
+        sound = k.sound;
+        writable = k.writable;
+        geometry = all.geometry;
+        calls = all.calls;
+        called = all.called;
+        fits = k.fits;
+        recovered = k.recovered;
+        shows = λ around files. subst (λ t. tree_in c.disk c.pairs ≡ (effect_of around (record { tree = t; files = files }) op).1.tree) tree_is (k.shows around files);
+        arranged = λ files. arranged_through a b c (record { tree = tree_in a.disk a.pairs; files = files }) op f.carries.geometry f.leads_on
+            (subst (λ t. IsArranged b.disk b.pairs (record { tree = t; files = files }) op c.disk c.pairs) tree_is (k.arranged files));
+        itself = λ e. absurd (cc (apart, e));
+        nothing_left = λ e. absurd (cc (other, e));
+        flight = leaves_then (seen_kept a true false) (seen_kept b true false) (seen_kept c true false) f.carries.flight k.flight;
+        keeps = λ path file away. let first = f.carries.keeps path file refl in keeps_then (kept_of (seen_kept a true false)) (kept_of (seen_kept b true false)) (kept_of (seen_kept c true false)) path first (k.keeps path first.file away);
+      }
+
+  -- ---- a stop
+
+  left_on : (blocks : Blocks) → with_blocks blocks b.disk ≡ with_blocks blocks a.disk
+  left_on blocks = ap₂ (λ (size page : ℕ). record { block_size = size; page = page; blocks = blocks }) f.carries.geometry.block_size f.carries.geometry.page
+
+  pub survives_after : (c : Kept) (change : Tree → Tree) → HasCalled b c → SurvivesTo a b (tree_in a.disk a.pairs) → SurvivesTo b c (change (tree_in b.disk b.pairs)) → SurvivesTo a c (change (tree_in a.disk a.pairs))
+  survives_after c change called first second =
+      survives_then a.disk a.history b.history c.history (tree_in a.disk a.pairs) (change (tree_in a.disk a.pairs)) (some_since f.carries.calls a.history b.history f.carries.called) (some_since called.calls b.history c.history called.called)
+      (survives_before a b (change (tree_in a.disk a.pairs)) first)
+      (λ clean. LeavesOnly-weaker (λ left x. subst (λ d. IsLeft d (tree_in a.disk a.pairs) (change (tree_in a.disk a.pairs))) (left_on left) (subst (λ t. IsLeft (with_blocks left b.disk) t (change t)) tree_is x)) (second clean))
+
+  -- ---- what its checks have shown
+
+  charge_is : (name : Name) (attributes : Attributes) → is_overcharged (around_of (seen_kept b true false)) name attributes ≡ is_overcharged (around_of (seen_kept a true false)) name attributes
+  charge_is name attributes = ap₂ (λ (size page : ℕ). nat_lt (entry_limit size page) (charge_of size name attributes)) f.carries.geometry.block_size f.carries.geometry.page
+
+  room_is : (need : ℕ) → HasRoom (seen_kept a true false) need → HasRoom (seen_kept b true false) need
+  room_is need room =
+      let few = fewer_flying b.map a.map f.carries.flight.none_comes in
+      let used = f.room in
+      let count = f.carries.geometry.count in
+      omega (arith, room)
+
+  pub add_after : (path : Path) (need : ℕ) → CanAdd (seen_kept a true false) path need → CanAdd (seen_kept b true false) path need
+  add_after path need can = record {
+    works = refl;
+    writable = refl;
+    parents = subst (λ t. parent_fault t [] path ≡ None) (sym tree_is) can.parents;
+    name = can.name;
+    nothing = subst (λ (t : Tree). is_some (t path) ≡ false) (sym tree_is) can.nothing;
+    fits = charge_is (last_name path) [] ∙ can.fits;
+    room = room_is need can.room;
+  }
+
+  pub remove_after : (path : Path) → CanRemove (seen_kept a true false) path → CanRemove (seen_kept b true false) path
+  remove_after path can = record {
+    works = refl;
+    writable = refl;
+    entry = can.entry;
+    parents = subst (λ t. parent_fault t [] path ≡ None) (sym tree_is) can.parents;
+    something = subst (λ (t : Tree). is_none (t path) ≡ false) (sym tree_is) can.something;
+    empty = subst (λ (t : Tree). nat_lt 0 (length (names_of (t path))) ≡ false) (sym tree_is) can.empty;
+  }
+
+  pub set_attr_after : (path : Path) (kind : ℕ) (bytes : List ℕ) → CanSetAttr (seen_kept a true false) path kind bytes → CanSetAttr (seen_kept b true false) path kind bytes
+  set_attr_after path kind bytes can = record {
+    works = refl;
+    writable = refl;
+    entry = can.entry;
+    parents = subst (λ t. parent_fault t [] path ≡ None) (sym tree_is) can.parents;
+    something = subst (λ (t : Tree). is_none (t path) ≡ false) (sym tree_is) can.something;
+    len = can.len;
+    fits = subst (λ (t : Tree). is_overcharged (around_of (seen_kept b true false)) (last_name path) (put_attribute kind bytes (attributes_of (t path))) ≡ false) (sym tree_is)
+        (charge_is (last_name path) (put_attribute kind bytes (attributes_of (tree_in a.disk a.pairs path))) ∙ can.fits);
+    room = room_is 2 can.room;
+  }
+
+  pub remove_attr_after : (path : Path) (kind : ℕ) → CanRemoveAttr (seen_kept a true false) path kind → CanRemoveAttr (seen_kept b true false) path kind
+  remove_attr_after path kind can = record {
+    works = refl;
+    writable = refl;
+    entry = can.entry;
+    parents = subst (λ t. parent_fault t [] path ≡ None) (sym tree_is) can.parents;
+    something = subst (λ (t : Tree). is_none (t path) ≡ false) (sym tree_is) can.something;
+    there = subst (λ (t : Tree). is_none (attribute_of kind (attributes_of (t path))) ≡ false) (sym tree_is) can.there;
+  }
+
+  pub rename_after : (from to : Path) → CanRename (seen_kept a true false) from to → CanRename (seen_kept b true false) from to
+  rename_after from to can = record {
+    works = refl;
+    writable = refl;
+    entry = can.entry;
+    target = can.target;
+    apart = can.apart;
+    parents = subst (λ t. parent_fault t [] from ≡ None) (sym tree_is) can.parents;
+    target_parents = subst (λ t. parent_fault t [] to ≡ None) (sym tree_is) can.target_parents;
+    name = can.name;
+    something = subst (λ (t : Tree). is_none (t from) ≡ false) (sym tree_is) can.something;
+    directory = subst (λ (t : Tree). (not (same_path from to) && is_directory (t from) && is_file (t to)) ≡ false) (sym tree_is) can.directory;
+    file = subst (λ (t : Tree). (not (same_path from to) && is_file (t from) && is_directory (t to)) ≡ false) (sym tree_is) can.file;
+    empty = subst (λ (t : Tree). (not (same_path from to) && nat_lt 0 (length (names_of (t to)))) ≡ false) (sym tree_is) can.empty;
+    fits = subst (λ (t : Tree). (not (same_path from to) && is_overcharged (around_of (seen_kept b true false)) (last_name to) (attributes_of (t from))) ≡ false) (sym tree_is)
+        (ap (λ x. not (same_path from to) && x) (charge_is (last_name to) (attributes_of (tree_in a.disk a.pairs from))) ∙ can.fits);
+    room = room_is 2 can.room;
+  }
+
+  -- ---- what it tells
+
+  told_after : (c : Kept) (e : Error) → TellsError b c e → TellsError a c e
+  told_after c e told = record {
+    errors = told.errors;
+    fault = λ io. let k = told.fault io in let same = f.no_fault in omega (arith, k, same);
+    no_fault = λ other. told.no_fault other ∙ f.no_fault;
+  }
+
+  pub errors_after : (c : Kept) (r : Result ℕ Error) → IfErr r (TellsError b c) → IfErr r (TellsError a c)
+  errors_after c (Ok x) told = tt
+  errors_after c (Err e) told = told_after c e told

@@ -1,0 +1,131 @@
+-- An entry that takes the place of a directory without entries: what the operations on slots ask for, and what they come to.
+use Rattle.std.proofs.Common.{ℕ, ◌≡◌, ◌≢◌, ◌⊎◌, inl, inr, ◌-◌, ◌∙◌, ◌++◌, false, [], ◌∷◌, Result, Ok, Err, sym, ap₂, subst, arith}
+use Rattle.std.specs.Prelude.{OnOk, is_err}
+use Rattle.lfs_device.specs.declared.error.Error.{Error}
+use Rattle.lfs_model.specs.Apply.{renamed, rest_after}
+use Rattle.lfs_model.specs.InDirectory.{Stands}
+use Rattle.lfs_model.specs.Names.{Name}
+use Rattle.lfs_model.specs.Slots.{Branch}
+use Rattle.lfs_model.specs.Tree.{Path}
+use Rattle.lfs_model.specs.View.{tree_in}
+use Rattle.lfs_operations.specs.Moving.{CanReplaceDirectory, IsRenamedAcross, WritesAmong, with_moved}
+use Rattle.lfs_operations.specs.Renaming.{with_renamed}
+use Rattle.lfs_operations.specs.RenamingOver.{CanRenameOntoDirectory, IsRenamedOntoDirectory, TellsOverSteps}
+use Rattle.lfs_thread.specs.Device.{four_of}
+use Rattle.lfs_thread.specs.Kept.{Kept, State}
+use Rattle.lfs_thread.specs.Steps.{IsOnlyRead, Writes, pair_in}
+use Rattle.lfs_tree.specs.Carrying.{SurvivesTo}
+use Rattle.lfs_tree.specs.Shifting.{CanShift, CanShiftOver, HasShifted, TellsOfWork}
+use Rattle.lfs_tree.specs.declared.carrying_rename.Source.{Source}
+use Rattle.lfs_tree.specs.declared.search.Spot.{Spot}
+use Rattle.lfs_tree.proofs.Carried.{among_two, behind_below}
+use Rattle.lfs_tree.proofs.ShiftedPlaces.{one_place, other_name, target_path}
+use Rattle.lfs_tree.proofs.ShiftedSlots.{none_gone, survives_at}
+
+-- what stands there, seen in the directory of another number
+record IsDirectoryAt (t : Kept) (first index id : ℕ) (name : Name) (at : ℕ × ℕ) : Type 0 where
+  target : Stands t.pairs first name index id
+  branch : target.stands.slot.struct ≡ Branch at
+
+module _ (t : Kept) (from to : Path) (source : Source) (slot : Spot) (gone : ℕ) (name : Name) (can : CanShiftOver t from to source slot gone name) where
+  abbrev shift : CanShift t from to source name
+  shift = can.can
+
+  path_here : source.slot.pair ≡ slot.pair → to ≡ shift.old.path ++ name ∷ []
+  path_here = target_path t from to source slot name shift can.target
+
+  directory_here : source.slot.pair ≡ slot.pair → IsDirectoryAt t shift.old.first source.slot.pair slot.id name can.at
+  directory_here e =
+      subst (λ i. IsDirectoryAt t shift.old.first i slot.id name can.at) (sym e)
+      (subst (λ f. IsDirectoryAt t f slot.pair slot.id name can.at) (one_place t from to source slot name shift can.target e) (record { target = can.target; branch = can.branch }))
+
+  pub over_within : source.slot.pair ≡ slot.pair → CanRenameOntoDirectory t source.slot.pair source.slot.id slot.id name gone
+  over_within e =
+      let there = directory_here e in
+      record {
+        over = record {
+          can = shift.old;
+          target = there.target;
+          to = can.at;
+          branch = there.branch;
+          differs = other_name t from to source slot name shift can.target e;
+          fits = shift.fits;
+        };
+        below = can.below;
+        at = can.there;
+        empty = can.empty;
+        alone = can.alone;
+      }
+
+  pub over_survives_within : (new : Kept) → source.slot.pair ≡ slot.pair → ((rename : CanRenameOntoDirectory t source.slot.pair source.slot.id slot.id name gone) → SurvivesTo t new (with_renamed t rename.over.can.path rename.over.can.name name))
+      → SurvivesTo t new (renamed from to (tree_in t.disk t.pairs))
+  unfolding over_within
+  over_survives_within new e gives = survives_at t new from to _ _ shift.old_is (path_here e) (gives (over_within e))
+
+  pub over_done_within : (new : Kept) → source.slot.pair ≡ slot.pair
+      → ((rename : CanRenameOntoDirectory t source.slot.pair source.slot.id slot.id name gone) → IsRenamedOntoDirectory t new rename.over.can.path rename.over.can.name name) → HasShifted t from to new
+  unfolding over_within
+  over_done_within new e gives =
+      let is : IsRenamedOntoDirectory t new shift.old.path shift.old.name name = gives (over_within e) in
+      record {
+        ready = none_gone new is.now.ready;
+        flying = is.now.flying;
+        completed = λ s given to_given tree f k. is.completed s given to_given tree (f ∙ shift.old_is) (k ∙ path_here e);
+      }
+
+  pub over_writes_within : (new : Kept) → Writes (four_of (pair_in t source.slot.pair).at (pair_in t (gone - 1)).at) t new → WritesAmong t new
+  over_writes_within new w = record {
+    blocks = four_of (pair_in t source.slot.pair).at (pair_in t (gone - 1)).at;
+    writes = w;
+    each = among_two t source.slot.pair (gone - 1) [] (behind_below t.pairs shift.old.first source.slot.pair shift.old.stands.pair shift.old.stands.rest shift.old.stands.place) (let b = can.below in omega (arith, b)) tt;
+  }
+
+  -- ---- in another pair
+
+  pub over_apart : source.slot.pair ≢ slot.pair → CanReplaceDirectory t source.slot.pair source.slot.id source.first slot.pair slot.id name gone
+  over_apart ne = record {
+    old = shift.old;
+    begins_old = shift.old_first;
+    path = shift.above;
+    at = shift.on.at;
+    leads = shift.on.leads;
+    to_first = shift.first;
+    begins = shift.on.begins;
+    target = can.target;
+    to = can.at;
+    branch = can.branch;
+    below = can.below;
+    alike = can.there;
+    empty = can.empty;
+    alone = can.alone;
+    logged = shift.logged _;
+    apart = ne;
+    not_beneath = ap₂ rest_after (sym shift.old_is) (sym shift.is) ∙ shift.not_beneath;
+    fits = shift.fits;
+  }
+
+  pub over_survives_apart : (new : Kept) → source.slot.pair ≢ slot.pair → ((rename : CanReplaceDirectory t source.slot.pair source.slot.id source.first slot.pair slot.id name gone) → SurvivesTo t new (with_moved t rename.old.path rename.old.name rename.path name))
+      → SurvivesTo t new (renamed from to (tree_in t.disk t.pairs))
+  unfolding over_apart
+  over_survives_apart new ne gives = survives_at t new from to _ _ shift.old_is shift.is (gives (over_apart ne))
+
+  pub over_done_apart : (new : Kept) → source.slot.pair ≢ slot.pair
+      → ((rename : CanReplaceDirectory t source.slot.pair source.slot.id source.first slot.pair slot.id name gone) → IsRenamedAcross t new rename.old.path rename.old.name rename.path name) → HasShifted t from to new
+  unfolding over_apart
+  over_done_apart new ne gives =
+      let is : IsRenamedAcross t new shift.old.path shift.old.name shift.above name = gives (over_apart ne) in
+      record {
+        ready = none_gone new is.now.ready;
+        flying = is.now.flying;
+        completed = λ s given to_given tree f k. is.completed s given to_given tree (f ∙ shift.old_is) (k ∙ shift.is);
+      }
+
+-- ---- what is told
+
+pub told_over : {X : Type 0} (old new : State) (r : Result X Error) → TellsOverSteps old new r → TellsOfWork old new r
+told_over {X} old new r t = record { works = works r t.failed; errors = t.errors; fault = t.fault; no_fault = t.no_fault }
+  where
+    works : (r : Result X Error) → (new.failed ≡ is_err r) ⊎ ((new.failed ≡ false) × IsOnlyRead old.kept new.kept) → OnOk r (new.failed ≡ false)
+    works (Ok x) (inl h) = h
+    works (Ok x) (inr h) = h.0
+    works (Err e) h = tt

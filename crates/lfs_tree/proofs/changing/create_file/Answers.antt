@@ -1,0 +1,25 @@
+use Rattle.std.proofs.Common.{[], refl}
+use Rattle.lfs_model.specs.Apply.{added}
+use Rattle.lfs_model.specs.Operations as ops
+use Rattle.lfs_model.specs.Tree.{FileNode}
+use Rattle.lfs_tree.proofs.CarryFreed.{ok_then}
+use Rattle.lfs_tree.proofs.RecoveredFirst.{add_after, called_after, carried_after, errors_after, survives_after, survives_before}
+use Rattle.lfs_tree.proofs.changing.create_file.Goals as goal
+
+pub returns-in_err-root-clause-survives : goal.returns-in_err-root-clause-survives
+returns-in_err-root-clause-survives g c = survives_before c.args.thread.now.kept c.recover_first.new.thread.kept _ c.recover_first.ensures.survives
+
+pub create_file_at-requires-clause-can : goal.create_file_at-requires-clause-can
+create_file_at-requires-clause-can g c = add_after c.args.thread.now.kept c.recover_first.new.thread.kept c.in_ok-root.ensures.done c.args.path.now 2 c.requires.can
+
+pub returns-clause-done : goal.returns-clause-done
+returns-clause-done g c = ok_then c.create_file_at.result _ _ (λ h bytes flags e. carried_after c.args.thread.now.kept c.recover_first.new.thread.kept c.in_ok-root.ensures.done c.create_file_at.new.thread.kept (ops.Open bytes flags) refl refl (h bytes flags e)) c.create_file_at.ensures.done
+
+pub returns-clause-called : goal.returns-clause-called
+returns-clause-called g c = called_after c.args.thread.now.kept c.recover_first.new.thread.kept c.in_ok-root.ensures.done c.create_file_at.new.thread.kept c.create_file_at.ensures.called
+
+pub returns-clause-errors : goal.returns-clause-errors
+returns-clause-errors g c = errors_after c.args.thread.now.kept c.recover_first.new.thread.kept c.in_ok-root.ensures.done c.create_file_at.new.thread.kept c.create_file_at.result c.create_file_at.ensures.errors
+
+pub returns-clause-survives : goal.returns-clause-survives
+returns-clause-survives g c = survives_after c.args.thread.now.kept c.recover_first.new.thread.kept c.in_ok-root.ensures.done c.create_file_at.new.thread.kept (λ t. added c.args.path.now (FileNode [] []) t) c.create_file_at.ensures.called c.recover_first.ensures.survives c.create_file_at.ensures.survives

@@ -1,0 +1,25 @@
+use Rattle.std.proofs.Common.{refl}
+use Rattle.lfs_model.specs.Content.{without_attribute}
+use Rattle.lfs_model.specs.Operations as ops
+use Rattle.lfs_tree.specs.CarryingSlots.{with_attributes_changed}
+use Rattle.lfs_tree.proofs.CarryFreed.{ok_then}
+use Rattle.lfs_tree.proofs.RecoveredFirst.{called_after, carried_after, errors_after, remove_attr_after, survives_after, survives_before}
+use Rattle.lfs_tree.proofs.changing.take_attribute.Goals as goal
+
+pub returns-in_err-root-clause-survives : goal.returns-in_err-root-clause-survives
+returns-in_err-root-clause-survives g c = survives_before c.args.thread.now.kept c.recover_first.new.thread.kept _ c.recover_first.ensures.survives
+
+pub drop_attribute_at-requires-clause-can : goal.drop_attribute_at-requires-clause-can
+drop_attribute_at-requires-clause-can g c = remove_attr_after c.args.thread.now.kept c.recover_first.new.thread.kept c.in_ok-root.ensures.done c.args.path.now c.args.kind c.requires.can
+
+pub returns-clause-done : goal.returns-clause-done
+returns-clause-done g c = ok_then c.drop_attribute_at.result _ _ (λ h bytes e. carried_after c.args.thread.now.kept c.recover_first.new.thread.kept c.in_ok-root.ensures.done c.drop_attribute_at.new.thread.kept (ops.RemoveAttr bytes c.args.kind) refl refl (h bytes e)) c.drop_attribute_at.ensures.done
+
+pub returns-clause-called : goal.returns-clause-called
+returns-clause-called g c = called_after c.args.thread.now.kept c.recover_first.new.thread.kept c.in_ok-root.ensures.done c.drop_attribute_at.new.thread.kept c.drop_attribute_at.ensures.called
+
+pub returns-clause-errors : goal.returns-clause-errors
+returns-clause-errors g c = errors_after c.args.thread.now.kept c.recover_first.new.thread.kept c.in_ok-root.ensures.done c.drop_attribute_at.new.thread.kept c.drop_attribute_at.result c.drop_attribute_at.ensures.errors
+
+pub returns-clause-survives : goal.returns-clause-survives
+returns-clause-survives g c = survives_after c.args.thread.now.kept c.recover_first.new.thread.kept c.in_ok-root.ensures.done c.drop_attribute_at.new.thread.kept (λ t. with_attributes_changed c.args.path.now (without_attribute c.args.kind) t) c.drop_attribute_at.ensures.called c.recover_first.ensures.survives c.drop_attribute_at.ensures.survives

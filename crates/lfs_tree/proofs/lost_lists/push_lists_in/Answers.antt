@@ -1,0 +1,24 @@
+use Rattle.std.proofs.Common.{◌∙◌, ◌++◌, map, sym, ap, subst, arith}
+use Rattle.std.proofs.lemmas.Option.{same_Some}
+use Rattle.lfs_model.specs.Log.{log_entries}
+use Rattle.lfs_model.specs.Content.{RawContent, content_after_all, no_content}
+use Rattle.lfs_model.specs.Logged.{HaveParts}
+use Rattle.lfs_model.proofs.Logged.{logged}
+use Rattle.lfs_model.proofs.Completed.{completed_parts}
+use Rattle.lfs_tag.specs.ContentSeen.{content_seen, slot_seen}
+use Rattle.lfs_tree.specs.LostLists.{lists_typed}
+use Rattle.lfs_tree.proofs.LostLists.{typed_complete}
+use Rattle.lfs_tree.proofs.lost_lists.push_lists_in.Goals as goal
+
+pub push_lists-requires : goal.push_lists-requires
+push_lists-requires c =
+    let read = sym (ap (λ b. content_after_all no_content (log_entries b)) c.read.ensures) ∙ c.in_ok-content.ensures.content in
+    let sound = logged c.args.block.now (content_seen c.in_ok-content.content) (λ i. omega (arith, c.type_inv.block i)) read in
+    subst HaveParts (sym (ap (map slot_seen) c.deref.ensures.value)) sound.slots
+
+pub returns-clause-lists : goal.returns-clause-lists
+returns-clause-lists c content is =
+    let read = sym (ap (λ b. content_after_all no_content (log_entries b)) c.read.ensures) ∙ c.in_ok-content.ensures.content in
+    let same = ap (λ (r : RawContent). r.slots) (same_Some (content_seen c.in_ok-content.content) is.raw (sym read ∙ is.log)) in
+    c.in_ok-push_lists.ensures
+    ∙ ap (λ z. c.args.lists.now.items ++ z) (ap (λ z. lists_typed (map slot_seen z)) c.deref.ensures.value ∙ ap lists_typed same ∙ typed_complete is.raw.slots content.slots (completed_parts is.raw content is.complete).slots)

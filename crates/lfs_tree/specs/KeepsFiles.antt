@@ -1,0 +1,34 @@
+-- What an operation leaves of a file at a path that it doesn't concern.
+use Rattle.std.specs.Prelude.{ℕ, ◌≡◌, true, List, [], Option, Some, None, Contains}
+use Rattle.lfs_model.specs.Apply.{is_file}
+use Rattle.lfs_model.specs.Disk.{Disk, block_at}
+use Rattle.lfs_model.specs.Operations as ops
+use Rattle.lfs_model.specs.Operations.{Operation}
+use Rattle.lfs_model.specs.SlotEdits.{slot_of_path}
+use Rattle.lfs_model.specs.Slots.{Slot}
+use Rattle.lfs_model.specs.Tree.{Path}
+use Rattle.lfs_model.specs.View.{file_blocks, tree_in}
+use Rattle.lfs_thread.specs.Kept.{Kept}
+
+-- so many blocks an operation may take: a pair is cut for an entry that comes, and a directory has a pair of its own
+abbrev pub taken_by : Operation → ℕ
+taken_by (ops.Mkdir path) = 4
+taken_by (ops.Open path flags) = 2
+taken_by (ops.Rename from to) = 2
+taken_by (ops.SetAttr path kind bytes) = 2
+taken_by _ = 0
+
+-- the blocks of the list that a slot names
+abbrev pub blocks_named : Disk → Option Slot → List ℕ
+blocks_named disk None = []
+blocks_named disk (Some s) = file_blocks disk s.struct
+
+-- the blocks of the list of the file at a path
+abbrev pub list_at : Kept → Path → List ℕ
+list_at t path = blocks_named t.disk (slot_of_path t.pairs path)
+
+-- a file is at the path still, and its list is in the same blocks, which hold what they held
+pub record KeepsFile (old new : Kept) (path : Path) : Type 0 where
+  pub file : is_file (tree_in new.disk new.pairs path) ≡ true
+  pub list : list_at new path ≡ list_at old path
+  pub bytes : (b : ℕ) → Contains (list_at old path) b → block_at new.disk b ≡ block_at old.disk b

@@ -1,0 +1,41 @@
+-- The skip lists that slots name, whose blocks are freed where the slots are gone.
+use Rattle.std.specs.Prelude.{ℕ, ◌≤◌, ◌+◌, false, List, [], ◌∷◌, Option, Some, None}
+use Rattle.std.specs.List.{AllByRecursion, flat_map}
+use Rattle.lfs_files.specs.Settling.{blocks_in_list}
+use Rattle.lfs_model.specs.Content.{RawSlot, struct_typed}
+use Rattle.lfs_model.specs.Slots.{Slot, Struct, Inline, Ctz, Branch}
+use Rattle.lfs_model.specs.View.{used_blocks}
+use Rattle.lfs_model.proofs.Counts.{count}
+use Rattle.lfs_operations.specs.Ready.{IsReadyBut}
+use Rattle.lfs_thread.specs.Kept.{Kept}
+use Rattle.lfs_writer.specs.Based.{IsBase}
+use Rattle.lfs_writer.specs.declared.stored.Stored.{Stored}
+
+-- ---- which lists
+
+abbrev pub list_named : Struct → List Stored
+list_named (Ctz head size) = record { head = head; size = size; in_flight = false } ∷ []
+list_named (Inline bytes) = []
+list_named (Branch to) = []
+
+abbrev pub lists_named : List Slot → List Stored
+lists_named slots = flat_map (λ s. list_named s.struct) slots
+
+-- of a log's slot, whose struct is a type and bytes
+abbrev pub list_typed : Option (ℕ × List ℕ) → List Stored
+list_typed None = []
+list_typed (Some struct) = list_named (struct_typed struct.0 struct.1)
+
+abbrev pub lists_typed : List RawSlot → List Stored
+lists_typed slots = flat_map (λ s. list_typed s.struct) slots
+
+-- ---- their blocks
+
+abbrev pub blocks_in_lists : Kept → List Stored → List ℕ
+blocks_in_lists t lists = flat_map (blocks_in_list t) lists
+
+-- The image hasn't the files of these lists any more; the lists stand on the disk, and their blocks are still used.
+pub record CanFreeLists (t : Kept) (lists : List Stored) : Type 0 where
+  pub ready : IsReadyBut t (blocks_in_lists t lists) []
+  pub once : (b : ℕ) → count b (used_blocks t.disk t.pairs) + count b (blocks_in_lists t lists) ≤ 1
+  pub stand : AllByRecursion (λ list. IsBase t.disk.blocks t.disk.block_size list.head list.size) lists

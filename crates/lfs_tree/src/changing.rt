@@ -1,0 +1,143 @@
+// Operations by path on an image of which something may be to be recovered: that comes first.
+
+ghost use Rattle.std.specs.Prelude.{ℕ, ◌≡◌, List, [], OnOk, IfOk, IfErr, false, true};
+ghost use Rattle.lfs_model.specs.Apply.{added, removed, renamed, same_path};
+ghost use Rattle.lfs_model.specs.Content.{put_attribute, without_attribute};
+ghost use Rattle.lfs_model.specs.Operations as ops;
+ghost use Rattle.lfs_model.specs.Operations.{Flags};
+ghost use Rattle.lfs_model.specs.Steps.{as_path};
+ghost use Rattle.lfs_model.specs.Tree.{DirectoryNode, FileNode};
+ghost use Rattle.lfs_model.specs.View.{tree_in};
+ghost use Rattle.lfs_tree.specs.Allowed.{CanCreate, CanMake, CanRemove, CanRemoveAttr, CanRename, CanSetAttr};
+ghost use Rattle.lfs_tree.specs.Carrying.{Carries, HasCalled, SurvivesTo, TellsError};
+ghost use Rattle.lfs_tree.specs.CarryingSlots.{with_attributes_changed};
+ghost use Rattle.lfs_tree.specs.Held.{IsRooted, seen_kept};
+
+use crate::path::Path;
+use crate::recovering_lost::recover_first;
+use crate::rooted::{
+    create_file_at, drop_attribute_at, make_directory_at, put_attribute_at, remove_entry_at,
+    rename_entry_at,
+};
+use lfs_device::{BlockDevice, Error};
+use lfs_thread::Thread;
+use std::alloc::Global;
+
+// Makes an empty file where nothing is. Answers the number of the root directory's first pair.
+pub(crate) fn create_file<D: BlockDevice>(
+    alloc: Global,
+    thread: &mut Thread<D>,
+    root: usize,
+    path: &Path<'_>,
+) -> Result<usize, Error>
+    requires rooted { IsRooted thread.old root true }
+    requires can { CanCreate (seen_kept thread.old.kept true false) path.now }
+    ensures done { OnOk result ((bytes : List ℕ) (flags : Flags) → as_path bytes ≡ path.now → Carries thread.old.kept (ops.Open bytes flags) thread.new.kept) }
+    ensures rooted { IfOk result (λ root. IsRooted thread.new root true) }
+    ensures called { HasCalled thread.old.kept thread.new.kept }
+    ensures errors { IfErr result (TellsError thread.old.kept thread.new.kept) }
+    ensures survives { SurvivesTo thread.old.kept thread.new.kept (added path.now (FileNode [] []) (tree_in thread.old.kept.disk thread.old.kept.pairs)) }
+{
+    let root = recover_first(alloc, thread, root)?;
+    create_file_at(alloc, thread, root, path)
+}
+
+// Makes an empty directory where nothing is. Answers the number of the root directory's first pair.
+pub(crate) fn make_directory<D: BlockDevice>(
+    alloc: Global,
+    thread: &mut Thread<D>,
+    root: usize,
+    path: &Path<'_>,
+) -> Result<usize, Error>
+    requires rooted { IsRooted thread.old root true }
+    requires can { CanMake (seen_kept thread.old.kept true false) path.now }
+    ensures done { OnOk result ((bytes : List ℕ) → as_path bytes ≡ path.now → Carries thread.old.kept (ops.Mkdir bytes) thread.new.kept) }
+    ensures rooted { IfOk result (λ root. IsRooted thread.new root true) }
+    ensures called { HasCalled thread.old.kept thread.new.kept }
+    ensures errors { IfErr result (TellsError thread.old.kept thread.new.kept) }
+    ensures survives { SurvivesTo thread.old.kept thread.new.kept (added path.now (DirectoryNode [] []) (tree_in thread.old.kept.disk thread.old.kept.pairs)) }
+{
+    let root = recover_first(alloc, thread, root)?;
+    make_directory_at(alloc, thread, root, path)
+}
+
+// Gives an entry an attribute. Answers the number of the root directory's first pair.
+pub(crate) fn give_attribute<D: BlockDevice>(
+    alloc: Global,
+    thread: &mut Thread<D>,
+    root: usize,
+    path: &Path<'_>,
+    kind: u8,
+    bytes: &[u8],
+) -> Result<usize, Error>
+    requires rooted { IsRooted thread.old root true }
+    requires can { CanSetAttr (seen_kept thread.old.kept true false) path.now kind bytes.now }
+    ensures done { OnOk result ((given : List ℕ) → as_path given ≡ path.now → Carries thread.old.kept (ops.SetAttr given kind bytes.now) thread.new.kept) }
+    ensures rooted { IfOk result (λ root. IsRooted thread.new root true) }
+    ensures called { HasCalled thread.old.kept thread.new.kept }
+    ensures errors { IfErr result (TellsError thread.old.kept thread.new.kept) }
+    ensures survives { SurvivesTo thread.old.kept thread.new.kept (with_attributes_changed path.now (put_attribute kind bytes.now) (tree_in thread.old.kept.disk thread.old.kept.pairs)) }
+{
+    let root = recover_first(alloc, thread, root)?;
+    put_attribute_at(alloc, thread, root, path, kind, bytes)
+}
+
+// Takes an attribute from an entry. Answers the number of the root directory's first pair.
+pub(crate) fn take_attribute<D: BlockDevice>(
+    alloc: Global,
+    thread: &mut Thread<D>,
+    root: usize,
+    path: &Path<'_>,
+    kind: u8,
+) -> Result<usize, Error>
+    requires rooted { IsRooted thread.old root true }
+    requires can { CanRemoveAttr (seen_kept thread.old.kept true false) path.now kind }
+    ensures done { OnOk result ((bytes : List ℕ) → as_path bytes ≡ path.now → Carries thread.old.kept (ops.RemoveAttr bytes kind) thread.new.kept) }
+    ensures rooted { IfOk result (λ root. IsRooted thread.new root true) }
+    ensures called { HasCalled thread.old.kept thread.new.kept }
+    ensures errors { IfErr result (TellsError thread.old.kept thread.new.kept) }
+    ensures survives { SurvivesTo thread.old.kept thread.new.kept (with_attributes_changed path.now (without_attribute kind) (tree_in thread.old.kept.disk thread.old.kept.pairs)) }
+{
+    let root = recover_first(alloc, thread, root)?;
+    drop_attribute_at(alloc, thread, root, path, kind)
+}
+
+// Takes a file, or a directory without entries. Answers the number of the root directory's first pair.
+pub(crate) fn remove_entry<D: BlockDevice>(
+    alloc: Global,
+    thread: &mut Thread<D>,
+    root: usize,
+    path: &Path<'_>,
+) -> Result<usize, Error>
+    requires rooted { IsRooted thread.old root true }
+    requires can { CanRemove (seen_kept thread.old.kept true false) path.now }
+    ensures done { OnOk result ((bytes : List ℕ) → as_path bytes ≡ path.now → Carries thread.old.kept (ops.Remove bytes) thread.new.kept) }
+    ensures rooted { IfOk result (λ root. IsRooted thread.new root true) }
+    ensures called { HasCalled thread.old.kept thread.new.kept }
+    ensures errors { IfErr result (TellsError thread.old.kept thread.new.kept) }
+    ensures survives { SurvivesTo thread.old.kept thread.new.kept (removed path.now (tree_in thread.old.kept.disk thread.old.kept.pairs)) }
+{
+    let root = recover_first(alloc, thread, root)?;
+    remove_entry_at(alloc, thread, root, path)
+}
+
+// Gives an entry another path. Answers the number of the root directory's first pair.
+pub(crate) fn rename_entry<D: BlockDevice>(
+    alloc: Global,
+    thread: &mut Thread<D>,
+    root: usize,
+    from: &Path<'_>,
+    to: &Path<'_>,
+) -> Result<usize, Error>
+    requires rooted { IsRooted thread.old root true }
+    requires can { CanRename (seen_kept thread.old.kept true false) from.now to.now }
+    requires apart { same_path from.now to.now ≡ false }
+    ensures done { OnOk result ((given to_given : List ℕ) → as_path given ≡ from.now → as_path to_given ≡ to.now → Carries thread.old.kept (ops.Rename given to_given) thread.new.kept) }
+    ensures rooted { IfOk result (λ root. IsRooted thread.new root true) }
+    ensures called { HasCalled thread.old.kept thread.new.kept }
+    ensures errors { IfErr result (TellsError thread.old.kept thread.new.kept) }
+    ensures survives { SurvivesTo thread.old.kept thread.new.kept (renamed from.now to.now (tree_in thread.old.kept.disk thread.old.kept.pairs)) }
+{
+    let root = recover_first(alloc, thread, root)?;
+    rename_entry_at(alloc, thread, root, from, to)
+}

@@ -1,0 +1,27 @@
+// What an operation leaves beside what it changes.
+
+ghost use Rattle.std.specs.Prelude.{◌≡◌, ◌≤◌, ◌+◌, false, length, true};
+ghost use Rattle.lfs_model.specs.BlockSets.{in_flight_count};
+ghost use Rattle.lfs_model.specs.Keeping.{concerns};
+ghost use Rattle.lfs_model.specs.Operations.{Operation};
+ghost use Rattle.lfs_model.specs.Tree.{Path};
+ghost use Rattle.lfs_tree.specs.KeepsFiles.{taken_by};
+ghost use Rattle.lfs_tree.specs.OpenContents.{IsOver, bytes_held};
+ghost use Rattle.lfs_tree.specs.Seen.{IsCarried, IsSound, Seen, around_of, kept_of};
+ghost use Rattle.lfs_writer.specs.Contents.{form_of};
+ghost use Rattle.lfs_writer.specs.Form.{form_blocks};
+ghost use Rattle.lfs_writer.specs.declared.contents.Contents.{Contents};
+
+/// The contents of a file that is open for writing stay as they are in an operation that doesn't
+/// concern its path, also what isn't in the tree yet. No blocks but theirs are in flight.
+pub fn contents_stay()
+    ensures over { (old new : Seen) (op : Operation) (path : Path) (contents : Contents) → IsOver old path contents → IsSound old → IsCarried old op new → concerns op path ≡ false → IsOver new path contents }
+    ensures bytes { (old new : Seen) (op : Operation) (path : Path) (contents : Contents) → IsOver old path contents → IsSound old → IsCarried old op new → concerns op path ≡ false
+        → bytes_held (kept_of new) contents ≡ bytes_held (kept_of old) contents }
+    ensures flying { (t : Seen) (path : Path) (contents : Contents) → IsOver t path contents → in_flight_count t.map ≤ form_blocks t.disk.block_size (form_of contents) }
+{}
+
+/// An operation takes few blocks more than the image has.
+pub fn carried_takes_few()
+    ensures { (old new : Seen) (op : Operation) → IsSound old → old.writable ≡ true → IsCarried old op new → length (around_of new).used ≤ length (around_of old).used + taken_by op }
+{}

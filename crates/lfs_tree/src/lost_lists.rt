@@ -1,0 +1,131 @@
+// The skip lists of slots that go with their pairs.
+
+ghost use Rattle.std.specs.Prelude.{◌≡◌, ◌++◌, ◌<◌, IfErr, IfOk, OnOk, false, is_err, length, map};
+ghost use Rattle.std.specs.Option.{option_to_list};
+ghost use Rattle.lfs_files.specs.Settling.{IsReadBesideMap};
+ghost use Rattle.lfs_files.specs.Standing.{TellsWork};
+ghost use Rattle.lfs_model.specs.Logged.{HasParts, HaveParts};
+ghost use Rattle.lfs_model.specs.Slots.{Content as ModelContent};
+ghost use Rattle.lfs_operations.specs.Dropping.{SameInFlight};
+ghost use Rattle.lfs_operations.specs.Ready.{IsReady};
+ghost use Rattle.lfs_operations.specs.Recovering.{AreUnreached, slots_at};
+ghost use Rattle.lfs_tag.specs.ContentSeen.{slot_seen};
+ghost use Rattle.lfs_thread.specs.Lent.{IsBlockOf};
+ghost use Rattle.lfs_thread.specs.Steps.{pair_in};
+ghost use Rattle.lfs_tree.specs.LostLists.{CanFreeLists, list_typed, lists_named, lists_typed};
+ghost use Rattle.lfs_tree.specs.Reading.{IsReading};
+ghost use Rattle.lfs_tree.specs.Search.{HoldsContent};
+
+use crate::entry::{Contents, Entry, entry_of};
+use lfs_device::{BlockDevice, Error};
+use lfs_files::{settle_file, settled_map_is_exact};
+use lfs_tag::{Content, Log, Slot};
+use lfs_thread::Thread;
+use lfs_writer::Stored;
+use std::alloc::{AllocError, Global};
+
+// The list that a slot names, if it names one.
+fn list_of(slot: &Slot<'_>) -> Option<Stored>
+    requires { HasParts (slot_seen slot.now) }
+    ensures { option_to_list result ≡ list_typed (slot_seen slot.now).struct }
+{
+    let Some(structure) = slot.structure else {
+        return None;
+    };
+    match entry_of(&structure) {
+        Entry::File(Contents::List { head, size }) => Some(Stored {
+            head,
+            size,
+            in_flight: false,
+        }),
+        _ => None,
+    }
+}
+
+// Adds the lists that slots name.
+fn push_lists(lists: &mut Vec<Stored>, slots: &[Slot<'_>]) -> Result<(), AllocError>
+    requires { HaveParts (map slot_seen slots.now) }
+    ensures { OnOk result (lists.new.items ≡ lists.old.items ++ lists_typed (map slot_seen slots.now)) }
+{
+    for slot in slots {
+        if let Some(list) = list_of(slot) {
+            lists.push(list)?;
+        }
+    }
+    Ok(())
+}
+
+// Adds those that the slots of a block's log name.
+fn push_lists_in(alloc: Global, lists: &mut Vec<Stored>, block: &[u8]) -> Result<(), Error>
+    requires { HoldsContent block.now }
+    ensures lists { (content : ModelContent) → IsBlockOf block.now content → OnOk result (lists.new.items ≡ lists.old.items ++ lists_named content.slots) }
+    ensures errors { IfErr result (λ e. e ≡ Error.NoMemory) }
+{
+    let content = Content::read(alloc, &Log::read(block))?;
+    push_lists(lists, &content.slots)?;
+    Ok(())
+}
+
+// Adds those that the slots of a pair name.
+fn push_lists_at<D: BlockDevice>(
+    alloc: Global,
+    thread: &mut Thread<D>,
+    lists: &mut Vec<Stored>,
+    index: usize,
+) -> Result<(), Error>
+    requires works { thread.old.failed ≡ false }
+    requires below { index < length thread.old.kept.pairs }
+    ensures lists { OnOk result (lists.new.items ≡ lists.old.items ++ lists_named (pair_in thread.old.kept index).content.slots) }
+    ensures reading { IsReading thread.old thread.new result }
+{
+    thread.bring(index)?;
+    push_lists_in(alloc, lists, thread.lend(index).unwrap())
+}
+
+// The lists that the slots of these pairs name, which no path leads to.
+//
+// `Io` where a read failed, and `NoMemory` where memory isn't granted.
+pub(crate) fn lists_of_pairs<D: BlockDevice>(
+    alloc: Global,
+    thread: &mut Thread<D>,
+    numbers: &[usize],
+) -> Result<Vec<Stored>, Error>
+    requires works { thread.old.failed ≡ false }
+    requires unreached { AreUnreached thread.old.kept.pairs numbers.now }
+    ensures lists { IfOk result (λ lists. lists.items ≡ lists_named (slots_at thread.old.kept.pairs numbers.now)) }
+    ensures reading { IsReading thread.old thread.new result }
+{
+    let mut lists = Vec::new(alloc);
+    for number in numbers {
+        push_lists_at(alloc, thread, &mut lists, *number)?;
+    }
+    Ok(lists)
+}
+
+// Frees the blocks of lists in the map, once no pair names them. Nothing is written.
+//
+// `Io` where a read failed, and `NoMemory` where memory isn't granted; the thread has failed then.
+pub(crate) fn free_lists<D: BlockDevice>(
+    alloc: Global,
+    thread: &mut Thread<D>,
+    lists: &[Stored],
+) -> Result<(), Error>
+    requires works { thread.old.failed ≡ false }
+    requires can { CanFreeLists thread.old.kept lists.now }
+    ensures ready { OnOk result (IsReady thread.new.kept) }
+    ensures flying { OnOk result (SameInFlight thread.old.kept.map thread.new.kept.map) }
+    ensures only { IsReadBesideMap thread.old.kept thread.new.kept }
+    ensures failed { thread.new.failed ≡ is_err result }
+    ensures tells { TellsWork thread.old.kept thread.new.kept result }
+{
+    settled_map_is_exact();
+    let nothing = Stored {
+        head: 0,
+        size: 0,
+        in_flight: false,
+    };
+    for list in lists {
+        settle_file(alloc, thread, *list, nothing)?;
+    }
+    Ok(())
+}

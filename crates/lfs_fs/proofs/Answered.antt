@@ -25,6 +25,8 @@ use Rattle.lfs_model.specs.BlockSets.{IsInFlight}
 use Rattle.lfs_model.proofs.BlockCounts.{few_flying, in_flight-freed}
 use Rattle.lfs_fs.specs.FileSeen.{OpenFiles, bytes_of, files_seen, has_unsaved, reader_seen, writer_seen, writers_in}
 use Rattle.lfs_fs.specs.declared.files.OpenFile.TheVariants as file
+use Rattle.lfs_model.specs.Keeping.{concerns}
+use Rattle.lfs_fs.specs.Staying.{AreLeft, FilesStay, KeepsWriters, SparesWriters}
 use Rattle.lfs_model.specs.Slots.{no_gstate}
 use Rattle.lfs_model.specs.Thread.{gstate_of}
 use Rattle.lfs_model.specs.Tree.{Path}
@@ -394,10 +396,6 @@ kept_answer old now op files reply same sound e other none still is =
 
 -- ---- files while the tree changes
 
--- the files of the writers are there as before
-abbrev pub KeepsWriters : Seen → Seen → List Writer → Type 0
-KeepsWriters t s ws = AllByRecursion (λ w. (is_file (tree_seen s w.path) ≡ true) × (bytes_at (tree_seen s w.path) ≡ bytes_at (tree_seen t w.path))) ws
-
 -- every file is
 abbrev pub KeepsFiles : Seen → Seen → Type 0
 KeepsFiles t s = (p : Path) → is_file (tree_seen t p) ≡ true → (is_file (tree_seen s p) ≡ true) × (bytes_at (tree_seen s p) ≡ bytes_at (tree_seen t p))
@@ -443,17 +441,25 @@ carried_ready old new files op ready e keeps carried = record {
     never : (b : ℕ) → IsInFlight old.map b → ⊥
     never b h = let k = in_flight-freed old.map b h in let none = ready.idle e in absurd (omega (arith, k, none))
 
--- what an operation leaves once no check refuses it
-pub done_ready : (K : Type 0) (old mid new : Seen) (files : OpenFiles) (op : Operation) (r : Result (Unit {0}) Error) → (old.failed ≡ false → IsReady old files) → IsAsked old mid → refused_by (held_of old files) op ≡ None →
-    has_unsaved files ≡ false → (IsCarried mid op new → KeepsFiles mid new) → OnOk r K → (K → IsCarried mid op new) → OnErr r (IsBroken mid new) → new.failed ≡ false → IsReady new files
-done_ready K old mid new files op (Ok u) ready asked e saved keeps k carried broken works =
-    let now = ready_later old mid files (ready (not_failed (held_of old files) op e)) asked in
-    carried_ready mid new files op now saved (keeps_writers mid new (writers_in files) (keeps (carried k)) now.written) (carried k)
-done_ready K old mid new files op (Err x) ready asked e saved keeps k carried broken works = absurd (let l = sym broken.failed ∙ works in cc)
+-- what an operation spares, it does later
+spares_later : (old new : Seen) (op : Operation) (files : OpenFiles) → IsAsked old new → SparesWriters old op files → SparesWriters new op files
+spares_later old new op files asked h =
+    subst (λ t. SparesWriters t op files) (sym asked.same) (again h)
+  where
+    again : SparesWriters old op files → SparesWriters (record old { history = new.history }) op files
+    again h = record { apart = h.apart; room = h.room }
 
-pub done_files : (K : Type 0) (old mid new : Seen) (files : OpenFiles) (op : Operation) (r : Result (Unit {0}) Error) → (old.failed ≡ false → IsReady old files) → IsAsked old mid → refused_by (held_of old files) op ≡ None →
-    has_unsaved files ≡ false → (IsCarried mid op new → KeepsFiles mid new) → OnOk r K → (K → IsCarried mid op new) → OnErr r (IsBroken mid new) → new.failed ≡ false → files_seen old files ≡ files_seen new files
-done_files K old mid new files op (Ok u) ready asked e saved keeps k carried broken works =
-    let now = ready_later old mid files (ready (not_failed (held_of old files) op e)) asked in
-    sym (ap (λ z. files_seen z files) asked.same) ∙ kept_files mid new files saved (keeps_writers mid new (writers_in files) (keeps (carried k)) now.written)
-done_files K old mid new files op (Err x) ready asked e saved keeps k carried broken works = absurd (let l = sym broken.failed ∙ works in cc)
+-- what an operation leaves once no check refuses it
+pub done_left : (K : Type 0) (old mid new : Seen) (files : OpenFiles) (op : Operation) (r : Result (Unit {0}) Error) → FilesStay → (old.failed ≡ false → IsReady old files) → IsAsked old mid → refused_by (held_of old files) op ≡ None →
+    (IsReady old files → SparesWriters old op files) → (IsReady mid files → IsCarried mid op new → KeepsWriters mid new (writers_in files)) → OnOk r K → (K → IsCarried mid op new) → OnErr r (IsBroken mid new) → new.failed ≡ false → AreLeft old new files
+done_left K old mid new files op (Ok u) stay ready asked e spares keeps k carried broken works =
+    let was = ready (not_failed (held_of old files) op e) in
+    let now = ready_later old mid files was asked in
+    let left = stay mid new op files now (spares_later old mid op files asked (spares was)) (keeps now (carried k)) (carried k) in
+    record { ready = left.ready; same = sym (ap (λ z. files_seen z files) asked.same) ∙ left.same }
+done_left K old mid new files op (Err x) stay ready asked e spares keeps k carried broken works = absurd (let l = sym broken.failed ∙ works in cc)
+
+-- it is about no writer's file
+pub none_concerned : (op : Operation) → ((p : Path) → concerns op p ≡ false) → (ws : List Writer) → AllByRecursion (λ w. concerns op w.path ≡ false) ws
+none_concerned op h [] = tt
+none_concerned op h (w ∷ ws) = (h w.path, none_concerned op h ws)

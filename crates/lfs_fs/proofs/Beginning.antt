@@ -5,25 +5,27 @@ use Rattle.lfs_model.specs.Apply.{bytes_at, is_file}
 use Rattle.lfs_model.specs.Disk.{block_count, inline_limit}
 use Rattle.lfs_model.specs.Lists.{blocks_for}
 use Rattle.lfs_model.specs.Operations.{Flags}
+use Rattle.lfs_model.specs.Slots.{no_gstate}
+use Rattle.lfs_model.specs.Thread.{gstate_of}
 use Rattle.lfs_model.specs.Session as session
 use Rattle.lfs_model.specs.Session.{opened_writer}
 use Rattle.lfs_model.specs.Steps.{size_of}
 use Rattle.lfs_model.specs.Tree.{Node, FileNode, DirectoryNode, Path}
 use Rattle.lfs_tree.specs.OpenContents.{IsOver, IsSettleable, bytes_held, kept_of}
-use Rattle.lfs_tree.specs.Seen.{Seen, around_of, tree_seen}
+use Rattle.lfs_tree.specs.Seen.{IsCarried, Seen, around_of, tree_seen}
 use Rattle.lfs_writer.specs.Contents.{form_of}
 use Rattle.lfs_writer.specs.Form as shape_of
 use Rattle.lfs_writer.specs.Form.{IsKept}
 use Rattle.lfs_writer.specs.declared.contents.Contents.{Contents}
 use Rattle.lfs_fs.specs.Changing.{CanBegin, IsBegunAs}
 use Rattle.lfs_fs.specs.FileSeen.{held_for}
+use Rattle.lfs_fs.specs.declared.files.Writer.{Writer}
 use Rattle.lfs_model.proofs.Paths.{path_itself}
 use Rattle.lfs_model.specs.Apply.{added, change_at, last_name, parent_of, with_name, with_names}
 use Rattle.lfs_model.specs.Operations as ops
 use Rattle.lfs_model.specs.Steps.{as_path}
 use Rattle.lfs_model.specs.Tree.{Tree}
 use Rattle.lfs_tree.specs.Allowed.{CanCreate}
-use Rattle.lfs_tree.specs.Seen.{IsCarried}
 use Rattle.std.specs.Prelude.{is_none, is_some, if◌then◌else◌}
 
 file_there : (n : Option Node) (size : ℕ) → size_of n ≡ Some size → (is_file n ≡ true) × (length (bytes_at n) ≡ size)
@@ -38,12 +40,28 @@ file_there (Some (DirectoryNode attributes names)) size e = absurd (cc)
 pub is_file_there : (t : Seen) (path : Path) (size : ℕ) (truncates : Bool) → CanBegin t path size truncates → is_file (tree_seen t path) ≡ true
 is_file_there t path size truncates can = (file_there (tree_seen t path) size can.there).0
 
+-- The file is there in an image of which nothing is to be recovered, with room for two blocks where it is to be written anew.
+pub record IsAtRest (t : Seen) (path : Path) (size : ℕ) (truncates : Bool) : Type 0 where
+  pub writable : t.writable ≡ true
+  pub settled : gstate_of t.pairs ≡ no_gstate
+  pub there : size_of (tree_seen t path) ≡ Some size
+  pub room : truncates ≡ true → 1 ≤ size → length (around_of t).used + 2 ≤ block_count t.disk
+
+-- so it is once the image is recovered, which takes no block
+pub at_rest : (t new : Seen) (path : Path) (size : ℕ) (truncates : Bool) → CanBegin t path size truncates → IsCarried t ops.Recover new → length (around_of new).used ≤ length (around_of t).used + 0 → IsAtRest new path size truncates
+at_rest t new path size truncates can carried few = record {
+  writable = carried.writable;
+  settled = carried.recovered.gstate;
+  there = ap (λ (z : Tree). size_of (z path)) (carried.shows (around_of t) []) ∙ can.there;
+  room = λ e some. let k = can.room e some in let g = carried.geometry.count in omega (arith, k, few, g);
+}
+
 no_elements : (xs : List ℕ) → nat_lt 0 (length xs) ≡ false → xs ≡ []
 no_elements [] e = refl
 no_elements (x ∷ xs) e = absurd (let k = sym (lt-ltb 0 (length (x ∷ xs)) (omega arith)) ∙ e in cc)
 
 -- one with the bytes of the file
-pub begun_clean : (t : Seen) (path : Path) (size : ℕ) (flags : Flags) → CanBegin t path size flags.truncate → (flags.truncate && nat_lt 0 size) ≡ false →
+pub begun_clean : (t : Seen) (path : Path) (size : ℕ) (flags : Flags) → IsAtRest t path size flags.truncate → (flags.truncate && nat_lt 0 size) ≡ false →
     IsBegunAs t (opened_writer path flags (bytes_at (tree_seen t path))) (record { path = path; position = 0; size = size; appends = flags.append; unsaved = None })
 begun_clean t path size flags can none = record {
   seen = seen flags.truncate none;
@@ -63,7 +81,7 @@ begun_clean t path size flags can none = record {
         ap₂ made (no_elements (bytes_at (tree_seen t path)) few) (sym few)
 
 -- one without bytes, where the file has some
-pub begun_anew : (t : Seen) (path : Path) (size : ℕ) (flags : Flags) (c : Contents) → CanBegin t path size flags.truncate → flags.truncate ≡ true → 1 ≤ size → IsOver t path c → bytes_held (kept_of t) c ≡ [] → form_of c ≡ shape_of.InMemory 0 →
+pub begun_anew : (t : Seen) (path : Path) (size : ℕ) (flags : Flags) (c : Contents) → IsAtRest t path size flags.truncate → flags.truncate ≡ true → 1 ≤ size → IsOver t path c → bytes_held (kept_of t) c ≡ [] → form_of c ≡ shape_of.InMemory 0 →
     IsBegunAs t (opened_writer path flags (bytes_at (tree_seen t path))) (record { path = path; position = 0; size = 0; appends = flags.append; unsaved = Some (record { contents = c; has_turned = false; last_end = None }) })
 begun_anew t path size flags c can truncates some over none shape = record {
   seen = seen;
@@ -101,6 +119,27 @@ begun_anew t path size flags c can truncates some over none shape = record {
         ap (λ xs. made xs true) none
         ∙ ap (λ b. made [] b) (sym (lt-ltb 0 (length (bytes_at (tree_seen t path))) (omega (arith, file.1, some))))
         ∙ sym (ap (λ z. made (cond z [] (bytes_at (tree_seen t path))) (z && nat_lt 0 (length (bytes_at (tree_seen t path))))) truncates)
+
+-- ---- once the image is recovered
+
+pub begun_as_is : (t new : Seen) (path : Path) (size : ℕ) (flags : Flags) (appends : Bool) → CanBegin t path size flags.truncate → IsCarried t ops.Recover new → length (around_of new).used ≤ length (around_of t).used + 0 →
+    (flags.truncate && nat_lt 0 size) ≡ false → appends ≡ flags.append →
+    IsBegunAs new (opened_writer path flags (bytes_at (tree_seen t path))) (record { path = path; position = 0; size = size; appends = appends; unsaved = None })
+begun_as_is t new path size flags appends can carried few none are =
+    subst (λ (z : Tree). IsBegunAs new (opened_writer path flags (bytes_at (z path))) (record { path = path; position = 0; size = size; appends = appends; unsaved = None })) (carried.shows (around_of t) [])
+    (subst (λ b. IsBegunAs new (opened_writer path flags (bytes_at (tree_seen new path))) (record { path = path; position = 0; size = size; appends = b; unsaved = None })) (sym are)
+    (begun_clean new path size flags (at_rest t new path size flags.truncate can carried few) none))
+
+pub begun_empty : (t new : Seen) (path : Path) (size : ℕ) (flags : Flags) (appends : Bool) (c : Contents) → CanBegin t path size flags.truncate → IsCarried t ops.Recover new → length (around_of new).used ≤ length (around_of t).used + 0 →
+    flags.truncate ≡ true → 1 ≤ size → appends ≡ flags.append → IsOver new path c → bytes_held (kept_of new) c ≡ bytes_held (kept_of t) c → bytes_held (kept_of t) c ≡ [] → form_of c ≡ shape_of.InMemory 0 →
+    IsBegunAs new (opened_writer path flags (bytes_at (tree_seen t path))) (record { path = path; position = 0; size = 0; appends = appends; unsaved = Some (record { contents = c; has_turned = false; last_end = None }) })
+begun_empty t new path size flags appends c can carried few truncates some are over same none shape =
+    subst (λ (z : Tree). IsBegunAs new (opened_writer path flags (bytes_at (z path))) (begun appends)) (carried.shows (around_of t) [])
+    (subst (λ b. IsBegunAs new (opened_writer path flags (bytes_at (tree_seen new path))) (begun b)) (sym are)
+    (begun_anew new path size flags c (at_rest t new path size flags.truncate can carried few) truncates some over (same ∙ none) shape))
+  where
+    begun : Bool → Writer
+    begun b = record { path = path; position = 0; size = 0; appends = b; unsaved = Some (record { contents = c; has_turned = false; last_end = None }) }
 
 -- a file that is made is empty
 made_node : (t new : Seen) (bytes : List ℕ) (flags : Flags) (path : Path) → as_path bytes ≡ path → CanCreate t path → IsCarried t (ops.Open bytes flags) new → tree_seen new path ≡ Some (FileNode [] [])

@@ -5,13 +5,11 @@ use Rattle.std.specs.List.{list_any}
 use Rattle.std.specs.Option.{option_or}
 use Rattle.std.proofs.lemmas.Bool.Decides.{nat_tests}
 use Rattle.lfs_model.specs.Disk.{block_count}
-use Rattle.lfs_model.specs.Slots.{no_gstate}
-use Rattle.lfs_model.specs.Thread.{gstate_of}
 use Rattle.lfs_model.specs.Tree.{Path}
 use Rattle.lfs_model.specs.Apply.{last_name, same_path}
 use Rattle.lfs_model.specs.Operations as ops
 use Rattle.lfs_model.specs.Operations.{Operation, Refusal, Flags, path_of}
-use Rattle.lfs_model.specs.Session.{is_allowed, readers, writers, first_of, refuse_if, is_overcharged, lacks, held}
+use Rattle.lfs_model.specs.Session.{is_allowed, is_long, parent_fault, readers, writers, first_of, refuse_if, is_overcharged, lacks, held}
 use Rattle.lfs_model.specs.Steps.{as_path, size_of}
 use Rattle.lfs_device.specs.declared.error.Error.{Error}
 use Rattle.lfs_tree.specs.Refusals.{error_for}
@@ -106,35 +104,45 @@ pub negated : (b : Bool) → not b ≡ false → b ≡ true
 negated true e = refl
 negated false e = absurd (cc)
 
-pub room_left : (n m k f l : ℕ) → f ≡ 0 → nat_lt n (m + k + l) ≡ false → m + f + l ≤ n
-room_left n m k f l none e = grind (arith, nat_tests)
+pub room_left : (n m k f l : ℕ) → f ≤ k → nat_lt n (m + k + l) ≡ false → m + f + l ≤ n
+room_left n m k f l few e = grind (arith, nat_tests)
 
-mkdir_passed : (h : Held) (bytes : List ℕ) → gstate_of h.tree.pairs ≡ no_gstate → in_flight_count h.tree.map ≡ 0 → refused_by h (ops.Mkdir bytes) ≡ None → CanMake h.tree (as_path bytes)
-mkdir_passed h bytes settled flight e =
+-- there is room beside what is held back
+pub mkdir_space : (h : Held) (bytes : List ℕ) → refused_by h (ops.Mkdir bytes) ≡ None → lacks (around_of h.tree) h.files 4 ≡ false
+mkdir_space h bytes e =
+    let a = neither (refuse_if (not h.tree.writable) ops.ReadOnly) _ (not_refused h (ops.Mkdir bytes) e) in
+    let b = neither (refuse_if (is_none (path_of bytes)) ops.Invalid) _ a.1 in
+    let c = neither (parent_fault (tree_seen h.tree) [] (as_path bytes)) _ b.1 in
+    let d = neither (refuse_if (is_long (as_path bytes)) ops.NameTooLong) _ c.1 in
+    let i = neither (refuse_if (is_some (tree_seen h.tree (as_path bytes))) ops.Exist) _ d.1 in
+    let j = neither (refuse_if (is_overcharged (around_of h.tree) (last_name (as_path bytes)) []) ops.EntryFull) _ i.1 in
+    let k = neither (refuse_if (lacks (around_of h.tree) h.files 4) ops.NoSpace) None j.1 in
+    unrefused (lacks (around_of h.tree) h.files 4) ops.NoSpace k.0
+
+mkdir_passed : (h : Held) (bytes : List ℕ) → in_flight_count h.tree.map ≤ held h.tree.disk.block_size h.files → refused_by h (ops.Mkdir bytes) ≡ None → CanMake h.tree (as_path bytes)
+mkdir_passed h bytes flight e =
     let a = neither _ _ (not_refused h (ops.Mkdir bytes) e) in
     let b = neither _ _ a.1 in
     let c = neither _ _ b.1 in
     let d = neither _ _ c.1 in
     let i = neither _ _ d.1 in
     let j = neither _ _ i.1 in
-    let k = neither _ _ j.1 in
     record {
       works = not_failed h (ops.Mkdir bytes) e;
       writable = negated h.tree.writable (unrefused _ _ a.0);
-      settled = settled;
       parents = c.0;
       name = unrefused _ _ d.0;
       nothing = unrefused _ _ i.0;
       fits = unrefused _ _ j.0;
-      room = room_left (block_count h.tree.disk) (length (around_of h.tree).used) (held h.tree.disk.block_size h.files) (in_flight_count h.tree.map) 4 flight (unrefused _ _ k.0);
+      room = room_left (block_count h.tree.disk) (length (around_of h.tree).used) (held h.tree.disk.block_size h.files) (in_flight_count h.tree.map) 4 flight (mkdir_space h bytes e);
     }
 
 -- the directory can be made at the path that the checks let pass
-pub mkdir_can : (h : Held) (bytes : List ℕ) (path : Path) (tree : Seen) → gstate_of tree.pairs ≡ no_gstate → (h.tree.failed ≡ false → in_flight_count h.tree.map ≡ 0) → Checks h (ops.Mkdir bytes) (λ p. p ≡ as_path bytes) (Ok path) tree → CanMake tree path
-mkdir_can h bytes path tree settled ready c =
-    let can = mkdir_passed h bytes (ap (λ (t : Seen). gstate_of t.pairs) (sym c.0.same) ∙ settled) (ready (not_failed h (ops.Mkdir bytes) c.1)) c.1 in
+pub mkdir_can : (h : Held) (bytes : List ℕ) (path : Path) (tree : Seen) → (h.tree.failed ≡ false → in_flight_count h.tree.map ≤ held h.tree.disk.block_size h.files) → Checks h (ops.Mkdir bytes) (λ p. p ≡ as_path bytes) (Ok path) tree → CanMake tree path
+mkdir_can h bytes path tree ready c =
+    let can = mkdir_passed h bytes (ready (not_failed h (ops.Mkdir bytes) c.1)) c.1 in
     subst (λ t. CanMake t path) (sym c.0.same) (subst (λ z. CanMake (record h.tree { history = tree.history }) z) (sym c.2)
-    (record { works = can.works; writable = can.writable; settled = can.settled; parents = can.parents; name = can.name; nothing = can.nothing; fits = can.fits; room = can.room }))
+    (record { works = can.works; writable = can.writable; parents = can.parents; name = can.name; nothing = can.nothing; fits = can.fits; room = can.room }))
 
 -- ---- an open for reading
 

@@ -13,8 +13,6 @@ use Rattle.lfs_model.specs.Session.{first_of, refuse_if}
 use Rattle.lfs_model.specs.Steps.{as_path, bad_entry, is_root}
 use Rattle.lfs_model.specs.Tree.{Path}
 use Rattle.lfs_tree.specs.Allowed.{CanRemoveAttr}
-use Rattle.lfs_model.specs.Slots.{no_gstate}
-use Rattle.lfs_model.specs.Thread.{gstate_of}
 use Rattle.lfs_tree.specs.Finds.{Finds, is_absent, is_directory_node, is_file_node}
 use Rattle.lfs_tree.specs.Seen.{Seen, tree_seen, IsAsked}
 use Rattle.lfs_tree.specs.declared.finding.Finding.{Finding}
@@ -171,8 +169,8 @@ pub good_root : (o : Option Path) → bad_entry o ≡ false → is_root (unwrap_
 good_root None e = absurd (cc)
 good_root (Some p) e = e
 
-pub remove_attr_can : (h : Held) (bytes : List ℕ) (kind : ℕ) (path : Path) (tree : Seen) → gstate_of tree.pairs ≡ no_gstate → Checks h (ops.RemoveAttr bytes kind) (λ p. p ≡ as_path bytes) (Ok path) tree → CanRemoveAttr tree path kind
-remove_attr_can h bytes kind path tree settled c =
+pub remove_attr_can : (h : Held) (bytes : List ℕ) (kind : ℕ) (path : Path) (tree : Seen) → Checks h (ops.RemoveAttr bytes kind) (λ p. p ≡ as_path bytes) (Ok path) tree → CanRemoveAttr tree path kind
+remove_attr_can h bytes kind path tree c =
     let e = c.1 in
     let a = neither _ _ (not_refused h (ops.RemoveAttr bytes kind) e) in
     let b = neither _ _ a.1 in
@@ -182,7 +180,6 @@ remove_attr_can h bytes kind path tree settled c =
     subst (λ t. CanRemoveAttr t path kind) (sym c.0.same) (subst (λ z. CanRemoveAttr (record h.tree { history = tree.history }) z kind) (sym c.2) (record {
       works = not_failed h (ops.RemoveAttr bytes kind) e;
       writable = negated h.tree.writable (unrefused _ _ a.0);
-      settled = ap (λ (t : Seen). gstate_of t.pairs) (sym c.0.same) ∙ settled;
       entry = good_root (path_of bytes) (unrefused _ _ b.0);
       parents = d.0;
       something = unrefused _ _ i.0;

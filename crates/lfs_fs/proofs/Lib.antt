@@ -3,15 +3,17 @@ pub mod Failing
 pub mod Answered
 pub mod Checked
 pub mod Running
+pub mod Withstanding
 pub mod OpenFiles
 pub mod SamePaths
 pub mod EntryChecks
 pub mod Questions
 pub mod Remounting
 pub mod ReaderReads
-pub mod Unsettled
 pub mod FreshBegun
 pub mod Staying
+pub mod FilesStay
+pub mod FilesBeside
 pub mod OpenedReaders
 pub mod Moving
 pub mod RemoveChecks
@@ -30,3 +32,5 @@ pub mod WrittenTurns
 pub mod RecoverAnswered
 pub mod SavedTurns
 pub mod OpenedWriters
+pub mod Stopping
+pub mod StoppedCalls

@@ -1,5 +1,5 @@
 -- A file that is opened for writing.
-use Rattle.std.proofs.Common.{ℕ, zero, suc, ◌≡◌, ◌∙◌, ◌+◌, ◌<◌, ◌≤◌, ◌||◌, ◌&&◌, Bool, true, false, not, nat_le, nat_lt, List, [], ◌∷◌, ◌++◌, length, set, Option, Some, None, Result, Ok, Err, refl, sym, ap, ap₂, subst, arith}
+use Rattle.std.proofs.Common.{append_assoc, ℕ, zero, suc, ◌≡◌, ◌∙◌, ◌+◌, ◌<◌, ◌≤◌, ◌||◌, ◌&&◌, Bool, true, false, not, nat_le, nat_lt, List, [], ◌∷◌, ◌++◌, length, set, Option, Some, None, Result, Ok, Err, refl, sym, ap, ap₂, subst, arith}
 use Rattle.std.specs.Prelude.{if◌then◌else◌, is_none, is_some}
 use Rattle.std.specs.List.{AllByRecursion, list_any}
 use Rattle.std.proofs.lemmas.Bool.{lt-ltb, ltb-true}
@@ -8,30 +8,29 @@ use Rattle.lfs_device.specs.declared.error.Error.{Error}
 use Rattle.lfs_device.specs.declared.error.Error.TheVariants.{NoMemory}
 use Rattle.lfs_model.specs.Apply.{added, bytes_at, is_directory, last_name, same_path}
 use Rattle.lfs_model.specs.BlockSets.{in_flight_count}
-use Rattle.lfs_model.specs.Disk.{SameGeometry, block_count}
+use Rattle.lfs_model.specs.Disk.{block_count}
 use Rattle.lfs_model.specs.History.{Event}
 use Rattle.lfs_model.specs.Operations as ops
 use Rattle.lfs_model.specs.Operations.{Flags, path_of}
 use Rattle.lfs_model.specs.Run.{IsTurn}
 use Rattle.lfs_model.specs.Session.{Files, Session, Reading, Writing, free_number, held, is_long, is_open_at, is_overcharged, lacks, opened_writer, overfills, parent_fault, put_file, readers, writers}
-use Rattle.lfs_model.specs.Slots.{no_gstate}
 use Rattle.lfs_model.specs.State.{Healthy}
 use Rattle.lfs_model.specs.Steps.{as_path, effect_of, size_of}
-use Rattle.lfs_model.specs.Thread.{gstate_of}
 use Rattle.lfs_model.specs.Tree.{DirectoryNode, FileNode, Node, Path}
 use Rattle.lfs_model.proofs.Committed.{recovered_from}
 use Rattle.lfs_model.proofs.TurnsMade.{completed_turn}
 use Rattle.lfs_tree.specs.Allowed.{CanCreate}
 use Rattle.lfs_tree.specs.Refusals.{refusal_in}
-use Rattle.lfs_tree.specs.Seen.{IsAsked, IsBroken, IsBrokenAsking, IsCarried, IsError, IsSound, Seen, around_of, tree_seen}
+use Rattle.lfs_tree.specs.Seen.{IsAsked, IsBroken, IsCarried, IsError, IsSound, Seen, around_of, tree_seen}
 use Rattle.lfs_fs.specs.Changing.{CanBegin, IsBegunAs}
 use Rattle.lfs_fs.specs.FileSeen.{OpenFiles, entry_of, files_seen, free_entry, has_unsaved, put_entry, writer_in, writer_seen, writers_in}
 use Rattle.lfs_fs.specs.Held.{Answers, Held, IsReady, IsWritten, held_of, held_with, moment_of, refused_by, session_of}
 use Rattle.lfs_fs.specs.Replies.{reply_in}
+use Rattle.lfs_fs.specs.Staying.{KeepsWriters}
 use Rattle.lfs_fs.specs.declared.files.OpenFile.{OpenFile}
 use Rattle.lfs_fs.specs.declared.files.OpenFile.TheVariants as file
 use Rattle.lfs_fs.specs.declared.files.Writer.{Writer}
-use Rattle.lfs_fs.proofs.Answered.{KeepsWriters, carried_answer, carried_ready, error_answers, is_over, kept_files, not_failed, not_refused, ready_later, sound_by}
+use Rattle.lfs_fs.proofs.Answered.{carried_answer, carried_ready, error_answers, is_over, kept_files, not_failed, not_refused, ready_later, sound_by}
 use Rattle.lfs_fs.proofs.Checked.{negated, neither, there, unrefused}
 use Rattle.lfs_fs.proofs.Failing.{broken_fails, healthy_moment, memory_fails}
 use Rattle.lfs_fs.proofs.OpenFiles.{count_put, free_at_most, free_is, only, put_is, writer_count}
@@ -98,21 +97,35 @@ room_anew h p flags size sizes fits truncates some =
     (sym (ap₂ (λ t s. t && nat_lt (block_count h.tree.disk) (length (around_of h.tree).used + (if s then 2 else 0))) truncates (lt-ltb 0 size (omega (arith, some))))
     ∙ writes_anew h p flags (Some size) (nat_lt (block_count h.tree.disk) (length (around_of h.tree).used + (if nat_lt 0 size then 2 else 0))) sizes refl ∙ fits)
 
+nothing_left : {A : Type 0} (xs : List A) → length xs ≤ 0 → xs ≡ []
+nothing_left [] h = refl
+nothing_left (x ∷ xs) h = absurd (omega (arith, h))
+
+pub no_writer : (t : Seen) (fs : OpenFiles) (bytes : List ℕ) (flags : Flags) → flags.write ≡ true → refused_by (held_of t fs) (ops.Open bytes flags) ≡ None → writers_in fs ≡ []
+no_writer t fs bytes flags write e =
+    nothing_left (writers_in fs) (not_less 0 (length (writers_in fs)) (ap (nat_lt 0) (sym (writer_count t fs)) ∙ (open_passed (held_of t fs) bytes flags write e).few))
+
+none_saved : (fs : OpenFiles) → writers_in fs ≡ [] → has_unsaved fs ≡ false
+none_saved fs none = ap (list_any (λ w. is_some w.unsaved)) none
+
 pub can_begin : (t mid : Seen) (fs : OpenFiles) (bytes : List ℕ) (flags : Flags) (p : Path) (size : ℕ) → (t.failed ≡ false → IsReady t fs) → IsAsked t mid → refused_by (held_of t fs) (ops.Open bytes flags) ≡ None →
-    flags.write ≡ true → gstate_of mid.pairs ≡ no_gstate → has_unsaved fs ≡ false → p ≡ as_path bytes → size_of (tree_seen t p) ≡ Some size → CanBegin mid p size flags.truncate
-can_begin t mid fs bytes flags p size ready asked e write settled saved is sizes =
+    flags.write ≡ true → p ≡ as_path bytes → size_of (tree_seen t p) ≡ Some size → CanBegin mid p size flags.truncate
+can_begin t mid fs bytes flags p size ready asked e write is sizes =
     subst (λ z. CanBegin z p size flags.truncate) (sym asked.same)
     (subst (λ q. CanBegin (record t { history = mid.history }) q size flags.truncate) (sym is) (record {
       works = passed.works;
       writable = passed.writable;
-      settled = sym (ap (λ (z : Seen). gstate_of z.pairs) asked.same) ∙ settled;
-      idle = (ready passed.works).idle saved;
+      sound = record { accepted = now.sound.accepted; fits = now.sound.fits; is_kept = now.sound.is_kept; used = now.sound.used; size = now.sound.size };
+      idle = now.idle (none_saved fs (no_writer t fs bytes flags write e));
       there = sized;
       room = room_anew (held_of t fs) (as_path bytes) flags size sized passed.anew;
     }))
   where
     passed : IsPassed (held_of t fs) bytes (as_path bytes) flags
     passed = open_passed (held_of t fs) bytes flags write e
+
+    now : IsReady t fs
+    now = ready passed.works
 
     sized : size_of (tree_seen t (as_path bytes)) ≡ Some size
     sized = sym (ap (λ q. size_of (tree_seen t q)) is) ∙ sizes
@@ -123,18 +136,17 @@ no_node (Some (FileNode attributes bytes)) e d = absurd (cc)
 no_node (Some (DirectoryNode attributes names)) e d = absurd (cc)
 
 pub can_create : (t mid : Seen) (fs : OpenFiles) (bytes : List ℕ) (flags : Flags) (p : Path) → (t.failed ≡ false → IsReady t fs) → IsAsked t mid → refused_by (held_of t fs) (ops.Open bytes flags) ≡ None →
-    flags.write ≡ true → gstate_of mid.pairs ≡ no_gstate → has_unsaved fs ≡ false → p ≡ as_path bytes → size_of (tree_seen t p) ≡ None → CanCreate mid p
-can_create t mid fs bytes flags p ready asked e write settled saved is sizes =
+    flags.write ≡ true → p ≡ as_path bytes → size_of (tree_seen t p) ≡ None → CanCreate mid p
+can_create t mid fs bytes flags p ready asked e write is sizes =
     subst (λ z. CanCreate z p) (sym asked.same)
     (subst (λ q. CanCreate (record t { history = mid.history }) q) (sym is) (record {
       works = passed.works;
       writable = passed.writable;
-      settled = sym (ap (λ (z : Seen). gstate_of z.pairs) asked.same) ∙ settled;
       parents = passed.parents;
       name = sym (ap₂ (λ x c. x && c && is_long (as_path bytes)) absent creates) ∙ passed.name;
       nothing = ap is_some none;
       fits = sym (ap (λ x. x && is_overcharged (around_of t) (last_name (as_path bytes)) []) absent) ∙ passed.fits;
-      room = room_left (block_count t.disk) (length (around_of t).used) (held t.disk.block_size (files_seen t fs)) (in_flight_count t.map) 2 ((ready passed.works).idle saved)
+      room = room_left (block_count t.disk) (length (around_of t).used) (held t.disk.block_size (files_seen t fs)) (in_flight_count t.map) 2 ((ready passed.works).idle (none_saved fs (no_writer t fs bytes flags write e)))
           (sym (ap (λ x. x && lacks (around_of t) (files_seen t fs) 2) absent) ∙ passed.room);
     }))
   where
@@ -149,14 +161,6 @@ can_create t mid fs bytes flags p ready asked e write settled saved is sizes =
 
     creates : flags.create ≡ true
     creates = negated flags.create (sym (ap (λ x. x && not flags.create) absent) ∙ passed.creates)
-
-nothing_left : {A : Type 0} (xs : List A) → length xs ≤ 0 → xs ≡ []
-nothing_left [] h = refl
-nothing_left (x ∷ xs) h = absurd (omega (arith, h))
-
-pub no_writer : (t : Seen) (fs : OpenFiles) (bytes : List ℕ) (flags : Flags) → flags.write ≡ true → refused_by (held_of t fs) (ops.Open bytes flags) ≡ None → writers_in fs ≡ []
-no_writer t fs bytes flags write e =
-    nothing_left (writers_in fs) (not_less 0 (length (writers_in fs)) (ap (nat_lt 0) (sym (writer_count t fs)) ∙ (open_passed (held_of t fs) bytes flags write e).few))
 
 -- ---- room for one more file
 
@@ -236,9 +240,6 @@ ready_with t fs gs w none alone h written = record {
   written = subst (AllByRecursion (IsWritten t)) (sym alone) (written, tt);
 }
 
-none_saved : (fs : OpenFiles) → writers_in fs ≡ [] → has_unsaved fs ≡ false
-none_saved fs none = ap (list_any (λ w. is_some w.unsaved)) none
-
 keeps_none : (t s : Seen) (fs : OpenFiles) → writers_in fs ≡ [] → KeepsWriters t s (writers_in fs)
 keeps_none t s fs none = subst (λ ws. KeepsWriters t s ws) (sym none) tt
 
@@ -256,61 +257,61 @@ asked_later : (old new : Seen) (asked : IsAsked old new) → new ≡ later old a
 unfolding later
 asked_later old new asked = asked.same ∙ ap (λ history. record old { history = history }) asked.reads.extends
 
--- a file that is there
-there_turn : (old : Held) (bytes : List ℕ) (flags : Flags) (mid : Seen) (files : Files) (n : Node) → (old.tree.failed ≡ false → IsSound old.tree) → old.tree.writable ≡ true → IsAsked old.tree mid →
-    refused_by old (ops.Open bytes flags) ≡ None → flags.write ≡ true → gstate_of old.tree.pairs ≡ no_gstate → tree_seen old.tree (as_path bytes) ≡ Some n →
+-- a file that is there, once the image is recovered
+there_turn : (old : Held) (bytes : List ℕ) (flags : Flags) (mid new : Seen) (files : Files) (n : Node) → (old.tree.failed ≡ false → IsSound old.tree) → IsAsked old.tree mid →
+    refused_by old (ops.Open bytes flags) ≡ None → flags.write ≡ true → tree_seen old.tree (as_path bytes) ≡ Some n → IsCarried mid ops.Recover new →
     (effect_of (around_of old.tree) (session_of old) (ops.Open bytes flags)).1.files ≡ files →
-    IsTurn (moment_of old) (ops.Open bytes flags) (effect_of (around_of old.tree) (session_of old) (ops.Open bytes flags)).0 (moment_of (held_with mid files))
+    IsTurn (moment_of old) (ops.Open bytes flags) (effect_of (around_of old.tree) (session_of old) (ops.Open bytes flags)).0 (moment_of (held_with new files))
 unfolding later
-there_turn old bytes flags mid files n sound writable asked e write settled node opened =
+there_turn old bytes flags mid new files n sound asked e write node carried opened =
     let op = ops.Open bytes flags in
     let works = not_failed old op e in
     let good = sound works in
     let events = asked.reads.events in
+    let c = subst (λ t. IsCarried t ops.Recover new) (asked_later old.tree mid asked) carried in
     let kept : tree_seen old.tree ≡ (if is_none (tree_seen old.tree (as_path bytes)) then added (as_path bytes) (FileNode [] []) (tree_seen old.tree) else tree_seen old.tree) =
     sym (ap (λ o. if is_none o then added (as_path bytes) (FileNode [] []) (tree_seen old.tree) else tree_seen old.tree) node) in
-    let is : record { tree = tree_seen old.tree; files = files } ≡ (effect_of (around_of old.tree) (session_of old) op).1 = ap₂ (λ t f. record { tree = t; files = f }) kept (sym opened) in
-    let to = healthy_moment (held_with (later old.tree events) files) works
-    ∙ ap (λ (s : Session). record { disk = old.tree.disk; calls = events ++ old.tree.history; state = Healthy s }) is in
-    subst (λ t. IsTurn (moment_of old) op (effect_of (around_of old.tree) (session_of old) op).0 (moment_of (held_with t files))) (sym (asked_later old.tree mid asked))
-    (subst (λ m. IsTurn m op (effect_of (around_of old.tree) (session_of old) op).0 (moment_of (held_with (later old.tree events) files))) (sym (healthy_moment old works))
+    let is : record { tree = tree_seen new; files = files } ≡ (effect_of (around_of old.tree) (session_of old) op).1 = ap₂ (λ t f. record { tree = t; files = f }) (c.shows (around_of old.tree) old.files ∙ kept) (sym opened) in
+    let to = healthy_moment (held_with new files) c.works
+    ∙ ap₂ (λ (calls : List Event) (s : Session). record { disk = new.disk; calls = calls; state = Healthy s }) (c.called ∙ sym (append_assoc c.calls events old.tree.history)) is in
+    subst (λ m. IsTurn m op (effect_of (around_of old.tree) (session_of old) op).0 (moment_of (held_with new files))) (sym (healthy_moment old works))
     (subst (λ m. IsTurn (record { disk = old.tree.disk; calls = old.tree.history; state = Healthy (session_of old) }) op (effect_of (around_of old.tree) (session_of old) op).0 m) (sym to)
-    (completed_turn old.tree.disk old.tree.pairs (session_of old) (around_of old.tree) op old.tree.disk old.tree.pairs events old.tree.history (is_over old.tree old.files good) (not_refused old op e)
+    (completed_turn old.tree.disk old.tree.pairs (session_of old) (around_of old.tree) op new.disk new.pairs (c.calls ++ events) old.tree.history (is_over old.tree old.files good) (not_refused old op e)
     (record {
-      geometry = record { block_size = refl; page = refl; count = refl };
+      geometry = c.geometry;
       other = refl;
       asks = ap not write;
       fills = refl;
-      opens = λ h f. refl;
+      opens = λ h f. (c.nothing_left refl (recovered_from old.tree.disk old.tree.pairs good.accepted f)).0;
       silent = λ h. absurd (cc);
       itself = λ h. absurd (cc);
       nothing_left = λ h k. absurd (cc);
     })
     (record {
-      accepted = good.accepted;
-      writable = good.fits writable;
-      recovered = recovered_from old.tree.disk old.tree.pairs good.accepted settled;
-      tree = λ around. kept;
-      arranged = there_arranged old.tree.disk old.tree.pairs (session_of old) bytes flags n good.accepted (good.fits writable) settled node;
-    }))))
+      accepted = c.sound.accepted;
+      writable = c.fits;
+      recovered = c.recovered;
+      tree = λ around. c.shows around old.files ∙ kept;
+      arranged = there_arranged old.tree.disk new.disk old.tree.pairs new.pairs (session_of old) bytes flags n node (c.arranged old.files);
+    })))
 
 file_node : (n : Option Node) (size : ℕ) → size_of n ≡ Some size → (m : Node) × (n ≡ Some m)
 file_node None size e = absurd (cc)
 file_node (Some m) size e = (m, refl)
 
 pub opened_there : (t mid new : Seen) (fs : OpenFiles) (bytes : List ℕ) (flags : Flags) (w : Writer) (p : Path) (size : ℕ) → (t.failed ≡ false → IsReady t fs) → IsAsked t mid →
-    refused_by (held_of t fs) (ops.Open bytes flags) ≡ None → flags.write ≡ true → gstate_of mid.pairs ≡ no_gstate → p ≡ as_path bytes → size_of (tree_seen t p) ≡ Some size →
-    new ≡ mid → IsBegunAs new (opened_writer p flags (bytes_at (tree_seen mid p))) w → IsOpenedBy t fs bytes flags new w
-opened_there t mid new fs bytes flags w p size ready asked e write settled is sizes same begun =
+    refused_by (held_of t fs) (ops.Open bytes flags) ≡ None → flags.write ≡ true → p ≡ as_path bytes → size_of (tree_seen t p) ≡ Some size →
+    IsCarried mid ops.Recover new → IsBegunAs new (opened_writer p flags (bytes_at (tree_seen mid p))) w → IsOpenedBy t fs bytes flags new w
+opened_there t mid new fs bytes flags w p size ready asked e write is sizes carried begun =
     let passed = open_passed (held_of t fs) bytes flags write e in
     let node = file_node (tree_seen t (as_path bytes)) size (sym (ap (λ q. size_of (tree_seen t q)) is) ∙ sizes) in
-    subst (λ z. IsOpenedBy t fs bytes flags z w) (sym same) (record {
-      ready = ready_later t mid fs (ready passed.works) asked;
-      begun = subst (λ (z : Seen). IsBegunAs mid (opened_writer (as_path bytes) flags (bytes_at (tree_seen z (as_path bytes)))) w) asked.same
-          (subst (λ q. IsBegunAs mid (opened_writer q flags (bytes_at (tree_seen mid q))) w) is (subst (λ z. IsBegunAs z (opened_writer p flags (bytes_at (tree_seen mid p))) w) same begun));
-      turn = λ files opened. there_turn (held_of t fs) bytes flags mid files node.0 (sound_by t fs ready) passed.writable asked e write
-          (sym (ap (λ (z : Seen). gstate_of z.pairs) asked.same) ∙ settled) node.1 opened;
-    })
+    let none = no_writer t fs bytes flags write e in
+    record {
+      ready = carried_ready mid new fs ops.Recover (ready_later t mid fs (ready passed.works) asked) (none_saved fs none) (keeps_none mid new fs none) carried;
+      begun = subst (λ (z : Seen). IsBegunAs new (opened_writer (as_path bytes) flags (bytes_at (tree_seen z (as_path bytes)))) w) asked.same
+          (subst (λ q. IsBegunAs new (opened_writer q flags (bytes_at (tree_seen mid q))) w) is begun);
+      turn = λ files opened. there_turn (held_of t fs) bytes flags mid new files node.0 (sound_by t fs ready) asked e write node.1 carried opened;
+    }
 
 pub opened_new : (t mid new : Seen) (fs : OpenFiles) (bytes : List ℕ) (flags : Flags) (w : Writer) (p : Path) → (t.failed ≡ false → IsReady t fs) → IsAsked t mid →
     refused_by (held_of t fs) (ops.Open bytes flags) ≡ None → flags.write ≡ true → p ≡ as_path bytes → size_of (tree_seen t p) ≡ None →
@@ -343,14 +344,6 @@ writer_opened t new fs gs now bytes flags w n same opened write none number is =
         ∙ ap₂ (λ files m. put_file files m (Some (Writing (writer_seen new w)))) (sym (kept_files t new fs (none_saved fs none) (keeps_none t new fs none))) (free_is t fs)
         ∙ ap (λ x. put_file (files_seen t fs) (free_number (files_seen t fs)) (Some (Writing x))) opened.begun.seen
         ∙ ap (λ b. put_file (files_seen t fs) (free_number (files_seen t fs)) (Some (if b then Writing (opened_writer (as_path bytes) flags (bytes_at (tree_seen t (as_path bytes)))) else Reading (record { path = as_path bytes; position = 0 })))) (sym write)
-
-pub broken_by_reads : (t s : Seen) → IsBrokenAsking t s → IsBroken t s
-broken_by_reads t s b = record {
-  failed = b.failed;
-  geometry = subst (λ d. SameGeometry t.disk d) (sym b.disk) (record { block_size = refl; page = refl; count = refl });
-  calls = b.reads.events;
-  called = b.reads.extends;
-}
 
 pub writer_breaks : (t mid new : Seen) (fs gs : OpenFiles) (now : Held) (bytes : List ℕ) (flags : Flags) (e : Error) (r : Result ℕ Error) → held_of t fs ≡ now → IsAsked t mid → refused_by (held_of t fs) (ops.Open bytes flags) ≡ None →
     flags.write ≡ true → IsBroken mid new → IsError mid new e → r ≡ Err e → Answers now (ops.Open bytes flags) (reply_in ops.Opened r) (held_of new gs)

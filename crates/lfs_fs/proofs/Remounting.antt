@@ -2,7 +2,7 @@
 use Rattle.std.proofs.Common.{arith, ◌≡◌, inl, inr, true, false, cond, set, is_none, List, [], ◌++◌, Option, Some, None, is_some, Result, Ok, Err, ℕ, refl, sym, ap, ap₂, subst, ◌∙◌}
 use Rattle.std.specs.Prelude.{◌⊎◌, OnOk, OnErr, IfErr}
 use Rattle.lfs_device.specs.declared.error.Error.{Error}
-use Rattle.lfs_device.specs.declared.error.Error.TheVariants.{Io, NoMemory, Corrupt, Unsupported}
+use Rattle.lfs_device.specs.declared.error.Error.TheVariants.{Io, NoMemory, Corrupt}
 use Rattle.lfs_model.specs.Disk.{Disk, SameGeometry}
 use Rattle.lfs_model.specs.History.{Event}
 use Rattle.lfs_model.specs.Operations as ops
@@ -23,7 +23,7 @@ use Rattle.lfs_fs.specs.FileSeen.{OpenFiles, bytes_of, entry_of, is_unsaved_entr
 use Rattle.lfs_fs.specs.declared.files.OpenFile as kept
 use Rattle.lfs_fs.specs.declared.files.OpenFile.TheVariants as file
 use Rattle.lfs_fs.specs.declared.files.Unsaved.{Unsaved}
-use Rattle.lfs_fs.specs.Held.{Held, IsReady, held_of, held_with, moment_of, refused_by, FailsBy, Answers, IsUnsupported}
+use Rattle.lfs_fs.specs.Held.{Held, IsReady, held_of, held_with, moment_of, refused_by, FailsBy, Answers}
 use Rattle.lfs_fs.proofs.OpenFiles.{file_is, is_saved, ready_closed, saved_is, set_is}
 use Rattle.lfs_fs.proofs.Failing.{reads_write_nothing, failed_moment, healthy_moment}
 use Rattle.lfs_fs.proofs.Answered.{is_over, kept_answer, sound_by}
@@ -87,10 +87,10 @@ remount_fails e old new files broken error = record {
     writes = reads_write_nothing old.tree.disk.blocks broken.reads.events broken.reads.each
 
     widened : (e ≡ Io) ⊎ ((e ≡ NoMemory) ⊎ ((e ≡ Corrupt) × ((ps : List Pair) → IsAccepted old.tree.disk ps → ⊥))) →
-        (e ≡ Io) ⊎ ((e ≡ NoMemory) ⊎ (((e ≡ Corrupt) × (true ≡ true) × ((ps : List Pair) → IsAccepted old.tree.disk ps → ⊥)) ⊎ ((e ≡ Unsupported) × IsUnsupported (moment_of old) ops.Remount)))
+        (e ≡ Io) ⊎ ((e ≡ NoMemory) ⊎ ((e ≡ Corrupt) × (true ≡ true) × ((ps : List Pair) → IsAccepted old.tree.disk ps → ⊥)))
     widened (inl h) = inl h
     widened (inr (inl h)) = inr (inl h)
-    widened (inr (inr h)) = inr (inr (inl (h.0, refl, h.1)))
+    widened (inr (inr h)) = inr (inr (h.0, refl, h.1))
 
 remount_turns : (old : Held) (new : Seen) → IsMountedTree old.tree.disk old.tree.history new → IsTurn (moment_of old) ops.Remount ops.Done (moment_of (held_with new []))
 remount_turns old new m =

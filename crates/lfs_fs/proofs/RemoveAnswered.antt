@@ -1,31 +1,27 @@
 -- What a remove leaves of the open files.
-use Rattle.std.proofs.Common.{ℕ, ◌≡◌, ◌||◌, Bool, true, false, cond, List, [], ◌∷◌, Some, None, Result, Ok, Err, is_some, refl, sym, ap, subst, ◌∙◌}
+use Rattle.std.proofs.Common.{inl, nat_lt, length, arith, ℕ, ◌≡◌, true, false, List, [], ◌∷◌, Some, None, Result, is_some, refl, sym, ap, subst}
 use Rattle.std.specs.Prelude.{OnErr, OnOk}
 use Rattle.std.specs.List.{AllByRecursion}
+use Rattle.std.proofs.lemmas.Bool.{ltb-false}
 use Rattle.lfs_device.specs.declared.error.Error.{Error}
-use Rattle.lfs_model.specs.Apply.{is_file, bytes_at, last_name, parent_of, removed, same_path, with_names, without_name}
+use Rattle.lfs_model.specs.Apply.{names_of, is_file, bytes_at, last_name, parent_of, removed, same_path, with_names, without_name}
 use Rattle.lfs_model.specs.Operations as ops
 use Rattle.lfs_model.specs.Session.{is_open_at}
 use Rattle.lfs_model.specs.Steps.{as_path}
 use Rattle.lfs_model.specs.Tree.{Path, Tree}
 use Rattle.lfs_tree.specs.Seen.{Seen, IsAsked, IsBroken, IsCarried, around_of, tree_seen}
-use Rattle.lfs_fs.specs.FileSeen.{OpenFiles, files_seen, has_unsaved, writers_in}
+use Rattle.lfs_fs.specs.FileSeen.{OpenFiles, files_seen, writers_in}
 use Rattle.lfs_fs.specs.Held.{IsReady, IsWritten, held_of, refused_by}
+use Rattle.lfs_model.specs.Keeping.{concerns}
+use Rattle.lfs_fs.specs.Staying.{AreLeft, FilesStay, KeepsWriters, SparesWriters}
 use Rattle.lfs_fs.specs.declared.files.OpenFile.TheVariants as file
 use Rattle.lfs_fs.specs.declared.files.Writer.{Writer}
-use Rattle.lfs_fs.proofs.Answered.{KeepsWriters, carried_ready, kept_files, not_failed, ready_later}
-use Rattle.lfs_fs.proofs.RemoveChecks.{remove_not_open}
+use Rattle.lfs_fs.proofs.Answered.{done_left}
+use Rattle.lfs_fs.proofs.FilesBeside.{beside, not_some, or_false}
+use Rattle.lfs_fs.proofs.RemoveChecks.{remove_bare, remove_not_open}
 use Rattle.lfs_fs.proofs.Staying.{SameFile, changed_same, named}
 
 -- ---- the writers' files
-
-or_false : (a b : Bool) → (a || b) ≡ false → (a ≡ false) × (b ≡ false)
-or_false true b e = absurd (cc)
-or_false false b e = (refl, e)
-
-not_some : {A : Type 0} (b : Bool) (x : A) → is_some (cond b (Some x) None) ≡ false → b ≡ false
-not_some true x e = absurd (cc)
-not_some false x e = refl
 
 -- where no file is open at a path, no writer is
 not_at : (t : Seen) (files : OpenFiles) (p : Path) → is_open_at (same_path p) (files_seen t files) ≡ false → AllByRecursion (λ w. same_path p w.path ≡ false) (writers_in files)
@@ -47,18 +43,23 @@ pub remove_keeps : (old t s : Seen) (files : OpenFiles) (bytes : List ℕ) → r
 remove_keeps old t s files bytes e ready carried =
     writers_stay t s (as_path bytes) (writers_in files) (carried.shows (around_of t) []) ready.written (not_at old files (as_path bytes) (remove_not_open (held_of old files) bytes e))
 
+-- the remove is about none of them
+off : (t : Seen) (bytes : List ℕ) → length (names_of (tree_seen t (as_path bytes))) ≡ 0 → (ws : List Writer) → AllByRecursion (IsWritten t) ws → AllByRecursion (λ w. same_path (as_path bytes) w.path ≡ false) ws →
+    AllByRecursion (λ w. concerns (ops.Remove bytes) w.path ≡ false) ws
+off t bytes bare [] written apart = tt
+off t bytes bare (w ∷ ws) written apart = (ap is_some (beside t (as_path bytes) w.path bare written.0.there apart.0), off t bytes bare ws written.1 apart.1)
+
+none_in : (n : ℕ) → nat_lt 0 n ≡ false → n ≡ 0
+none_in n e = let k = ltb-false 0 n e in omega (arith, k)
+
+remove_spares : (t : Seen) (files : OpenFiles) (bytes : List ℕ) → refused_by (held_of t files) (ops.Remove bytes) ≡ None → IsReady t files → SparesWriters t (ops.Remove bytes) files
+remove_spares t files bytes e ready = record {
+  apart = off t bytes (none_in _ (remove_bare (held_of t files) bytes e)) (writers_in files) ready.written (not_at t files (as_path bytes) (remove_not_open (held_of t files) bytes e));
+  room = inl refl;
+}
+
 -- ---- what it leaves once no check refuses it
 
-pub removed_ready : (K : Type 0) (old mid new : Seen) (files : OpenFiles) (bytes : List ℕ) (r : Result (Unit {0}) Error) → (old.failed ≡ false → IsReady old files) → IsAsked old mid → refused_by (held_of old files) (ops.Remove bytes) ≡ None →
-    has_unsaved files ≡ false → OnOk r K → (K → IsCarried mid (ops.Remove bytes) new) → OnErr r (IsBroken mid new) → new.failed ≡ false → IsReady new files
-removed_ready K old mid new files bytes (Ok u) ready asked e saved k carried broken works =
-    let now = ready_later old mid files (ready (not_failed (held_of old files) (ops.Remove bytes) e)) asked in
-    carried_ready mid new files (ops.Remove bytes) now saved (remove_keeps old mid new files bytes e now (carried k)) (carried k)
-removed_ready K old mid new files bytes (Err x) ready asked e saved k carried broken works = absurd (let l = sym broken.failed ∙ works in cc)
-
-pub removed_files : (K : Type 0) (old mid new : Seen) (files : OpenFiles) (bytes : List ℕ) (r : Result (Unit {0}) Error) → (old.failed ≡ false → IsReady old files) → IsAsked old mid → refused_by (held_of old files) (ops.Remove bytes) ≡ None →
-    has_unsaved files ≡ false → OnOk r K → (K → IsCarried mid (ops.Remove bytes) new) → OnErr r (IsBroken mid new) → new.failed ≡ false → files_seen old files ≡ files_seen new files
-removed_files K old mid new files bytes (Ok u) ready asked e saved k carried broken works =
-    let now = ready_later old mid files (ready (not_failed (held_of old files) (ops.Remove bytes) e)) asked in
-    sym (ap (λ z. files_seen z files) asked.same) ∙ kept_files mid new files saved (remove_keeps old mid new files bytes e now (carried k))
-removed_files K old mid new files bytes (Err x) ready asked e saved k carried broken works = absurd (let l = sym broken.failed ∙ works in cc)
+pub removed_left : (K : Type 0) (old mid new : Seen) (files : OpenFiles) (bytes : List ℕ) (r : Result (Unit {0}) Error) → FilesStay → (old.failed ≡ false → IsReady old files) → IsAsked old mid → refused_by (held_of old files) (ops.Remove bytes) ≡ None →
+    OnOk r K → (K → IsCarried mid (ops.Remove bytes) new) → OnErr r (IsBroken mid new) → new.failed ≡ false → AreLeft old new files
+removed_left K old mid new files bytes r stay ready asked e = done_left K old mid new files (ops.Remove bytes) r stay ready asked e (remove_spares old files bytes e) (remove_keeps old mid new files bytes e)

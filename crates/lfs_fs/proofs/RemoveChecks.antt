@@ -5,9 +5,7 @@ use Rattle.lfs_model.specs.Apply.{names_of, same_path}
 use Rattle.lfs_model.specs.Operations as ops
 use Rattle.lfs_model.specs.Operations.{Refusal, path_of}
 use Rattle.lfs_model.specs.Session.{first_of, is_open_at, refuse_if, parent_fault}
-use Rattle.lfs_model.specs.Slots.{no_gstate}
 use Rattle.lfs_model.specs.Steps.{as_path, is_root, bad_entry}
-use Rattle.lfs_model.specs.Thread.{gstate_of}
 use Rattle.lfs_model.specs.Tree.{Path}
 use Rattle.lfs_tree.specs.Allowed.{CanRemove}
 use Rattle.lfs_tree.specs.Finds.{Finds, has_entries_in, is_absent}
@@ -39,8 +37,8 @@ remove_checked h bytes p found tree absent filled busy a b d r works writable is
     lists : (found.fault ∷ a ∷ b ∷ d ∷ []) ≡ (found.fault ∷ refuse_if (is_absent found.node) ops.NoEnt ∷ refuse_if (has_entries_in found.node) ops.NotEmpty ∷ refuse_if (is_open_at (same_path p) h.files) ops.Busy ∷ [])
     lists = both refl (both (when ops.NoEnt a_is absent_is) (both (when ops.NotEmpty b_is filled_is) (both (when ops.Busy d_is (busy_is ∙ ap (λ o. is_open_at (same_path (unwrap_or o [])) h.files) given)) refl)))
 
-pub remove_can : (h : Held) (bytes : List ℕ) (path : Path) (tree : Seen) → gstate_of tree.pairs ≡ no_gstate → Checks h (ops.Remove bytes) (λ p. p ≡ as_path bytes) (Ok path) tree → CanRemove tree path
-remove_can h bytes path tree settled c =
+pub remove_can : (h : Held) (bytes : List ℕ) (path : Path) (tree : Seen) → Checks h (ops.Remove bytes) (λ p. p ≡ as_path bytes) (Ok path) tree → CanRemove tree path
+remove_can h bytes path tree c =
     let e = c.1 in
     let a = neither _ _ (not_refused h (ops.Remove bytes) e) in
     let b = neither _ _ a.1 in
@@ -50,7 +48,6 @@ remove_can h bytes path tree settled c =
     subst (λ t. CanRemove t path) (sym c.0.same) (subst (λ z. CanRemove (record h.tree { history = tree.history }) z) (sym c.2) (record {
       works = not_failed h (ops.Remove bytes) e;
       writable = negated h.tree.writable (unrefused _ _ a.0);
-      settled = ap (λ (t : Seen). gstate_of t.pairs) (sym c.0.same) ∙ settled;
       entry = good_root (path_of bytes) (unrefused _ _ b.0);
       parents = d.0;
       something = unrefused _ _ i.0;
@@ -67,3 +64,13 @@ remove_not_open h bytes e =
     let j = neither (refuse_if (nat_lt 0 (length (names_of (tree_seen h.tree (as_path bytes))))) ops.NotEmpty) _ i.1 in
     let k = neither (refuse_if (is_open_at (same_path (as_path bytes)) h.files) ops.Busy) None j.1 in
     unrefused (is_open_at (same_path (as_path bytes)) h.files) ops.Busy k.0
+
+-- nothing is in what is there
+pub remove_bare : (h : Held) (bytes : List ℕ) → refused_by h (ops.Remove bytes) ≡ None → nat_lt 0 (length (names_of (tree_seen h.tree (as_path bytes)))) ≡ false
+remove_bare h bytes e =
+    let a = neither (refuse_if (not h.tree.writable) ops.ReadOnly) _ (not_refused h (ops.Remove bytes) e) in
+    let b = neither (refuse_if (bad_entry (path_of bytes)) ops.Invalid) _ a.1 in
+    let d = neither (parent_fault (tree_seen h.tree) [] (as_path bytes)) _ b.1 in
+    let i = neither (refuse_if (is_none (tree_seen h.tree (as_path bytes))) ops.NoEnt) _ d.1 in
+    let j = neither (refuse_if (nat_lt 0 (length (names_of (tree_seen h.tree (as_path bytes))))) ops.NotEmpty) _ i.1 in
+    unrefused (nat_lt 0 (length (names_of (tree_seen h.tree (as_path bytes))))) ops.NotEmpty j.0

@@ -1,15 +1,14 @@
 -- Checks of a rename.
-use Rattle.std.proofs.Common.{ℕ, ◌≡◌, ◌&&◌, ◌||◌, Bool, true, false, not, List, [], ◌∷◌, length, nat_lt, Option, Some, None, Result, Ok, is_some, unwrap_or, refl, sym, ap, ap₂, subst, ◌∙◌, arith}
+use Rattle.std.proofs.Common.{◌≤◌, ℕ, ◌≡◌, ◌&&◌, ◌||◌, Bool, true, false, not, List, [], ◌∷◌, length, nat_lt, Option, Some, None, Result, unwrap_or, refl, sym, ap, ap₂, subst, ◌∙◌}
 use Rattle.lfs_device.specs.declared.error.Error.{Error}
-use Rattle.lfs_model.specs.Apply.{attributes_of, is_beneath, is_directory, last_name, names_of, same_path}
+use Rattle.lfs_model.specs.Apply.{attributes_of, is_beneath, last_name, names_of, same_path}
 use Rattle.lfs_model.specs.BlockSets.{in_flight_count}
 use Rattle.lfs_model.specs.Disk.{block_count}
 use Rattle.lfs_model.specs.Operations as ops
 use Rattle.lfs_model.specs.Operations.{Refusal, path_of}
 use Rattle.lfs_model.specs.Session.{first_of, held, is_open_at, is_overcharged, lacks, refuse_if}
-use Rattle.lfs_model.specs.Slots.{Attributes, attributes_size, no_gstate}
-use Rattle.lfs_model.specs.Steps.{as_path, bad_entry, is_root}
-use Rattle.lfs_model.specs.Thread.{gstate_of}
+use Rattle.lfs_model.specs.Slots.{Attributes, attributes_size}
+use Rattle.lfs_model.specs.Steps.{as_path, is_root}
 use Rattle.lfs_model.specs.Tree.{Path}
 use Rattle.lfs_tree.specs.Allowed.{CanRename}
 use Rattle.lfs_tree.specs.AttributeAt.{IsAttributesSize}
@@ -62,11 +61,11 @@ pub rename_checked : (h : Held) (old new : List ℕ) (p q : Path) (entry target 
     busy ≡ is_open_at (is_in_the_way (as_path old) (as_path new)) h.files → f ≡ refuse_if busy ops.Busy →
     other ≡ length (last_name q) → ((name : List ℕ) (attributes : Attributes) → length name ≡ other → attributes_size attributes ≡ size → over ≡ is_overcharged (around_of tree) name attributes) → four ≡ (not same && over) → i ≡ refuse_if four ops.EntryFull →
     lack ≡ lacks (around_of tree) h.files 2 → j ≡ refuse_if lack ops.NoSpace →
-    IsRenaming (tree_seen h.tree) old new x →
-    r ≡ passed_with (first_of (entry.fault ∷ target.fault ∷ a ∷ b ∷ c ∷ d ∷ e ∷ f ∷ i ∷ j ∷ [])) x → Checks h (ops.Rename old new) (IsRenaming (tree_seen h.tree) old new) r tree
+    IsRenaming old new x →
+    r ≡ passed_with (first_of (entry.fault ∷ target.fault ∷ a ∷ b ∷ c ∷ d ∷ e ∷ f ∷ i ∷ j ∷ [])) x → Checks h (ops.Rename old new) (IsRenaming old new) r tree
 rename_checked h old new p q entry target mid later tree size len other same absent one two three over four lack busy a b c d e f i j r x
     works writable is are apart first second asked found sought sized same_is len_is a_is absent_is b_is one_is c_is two_is d_is three_is e_is busy_is f_is other_is over_is four_is i_is lack_is j_is x_is r_is =
-    decided h (ops.Rename old new) (IsRenaming (tree_seen h.tree) old new) x _ tree r asked
+    decided h (ops.Rename old new) (IsRenaming old new) x _ tree r asked
     (rename_refused h old new p q entry target (sym works) (sym writable) from to (root_false old p is) (root_false new q are) (ap₂ is_beneath (sym from_path) (sym to_path) ∙ apart) found
     (subst (λ (t : Seen). Finds (tree_seen t) q target) first.same sought) ∙ ap first_of (sym lists))
     (λ none. x_is) r_is
@@ -108,8 +107,9 @@ rename_checked h old new p q entry target mid later tree size len other same abs
 -- ---- what no check refuses
 
 record HasPassed (h : Held) (old new : List ℕ) : Type 0 where
-  can : gstate_of h.tree.pairs ≡ no_gstate → in_flight_count h.tree.map ≡ 0 → CanRename h.tree (as_path old) (as_path new)
+  can : in_flight_count h.tree.map ≤ held h.tree.disk.block_size h.files → CanRename h.tree (as_path old) (as_path new)
   closed : is_open_at (is_in_the_way (as_path old) (as_path new)) h.files ≡ false
+  space : lacks (around_of h.tree) h.files 2 ≡ false
   bare : (not (same_path (as_path old) (as_path new)) && nat_lt 0 (length (names_of (tree_seen h.tree (as_path new))))) ≡ false
 
 pub none_of_three : (a b c : Bool) → (a || b || c) ≡ false → (a ≡ false) × (b ≡ false) × (c ≡ false)
@@ -142,10 +142,9 @@ passed h old new e =
     let fits = unrefused _ ops.EntryFull m.0 in
     let some = unrefused _ ops.NoSpace n.0 in
     record {
-      can = λ settled idle. record {
+      can = λ idle. record {
         works = not_failed h (ops.Rename old new) e;
         writable = writable;
-        settled = settled;
         entry = good_root (path_of old) three.0;
         target = good_root (path_of new) three.1;
         apart = three.2;
@@ -160,8 +159,12 @@ passed h old new e =
         room = room_left (block_count h.tree.disk) (length (around_of h.tree).used) (held h.tree.disk.block_size h.files) (in_flight_count h.tree.map) 2 idle some;
       };
       closed = closed;
+      space = some;
       bare = bare;
     }
+
+pub rename_space : (h : Held) (old new : List ℕ) → refused_by h (ops.Rename old new) ≡ None → lacks (around_of h.tree) h.files 2 ≡ false
+rename_space h old new e = (passed h old new e).space
 
 pub rename_closed : (h : Held) (old new : List ℕ) → refused_by h (ops.Rename old new) ≡ None → is_open_at (is_in_the_way (as_path old) (as_path new)) h.files ≡ false
 rename_closed h old new e = (passed h old new e).closed
@@ -169,14 +172,13 @@ rename_closed h old new e = (passed h old new e).closed
 pub rename_bare : (h : Held) (old new : List ℕ) → refused_by h (ops.Rename old new) ≡ None → (not (same_path (as_path old) (as_path new)) && nat_lt 0 (length (names_of (tree_seen h.tree (as_path new))))) ≡ false
 rename_bare h old new e = (passed h old new e).bare
 
-pub rename_can : (h : Held) (old new : List ℕ) (from to : Path) (tree : Seen) → gstate_of tree.pairs ≡ no_gstate → (h.tree.failed ≡ false → in_flight_count h.tree.map ≡ 0) → IsAsked h.tree tree → refused_by h (ops.Rename old new) ≡ None → from ≡ as_path old → to ≡ as_path new → CanRename tree from to
-rename_can h old new from to tree settled idle asked e is are =
-    let can = (passed h old new e).can (ap (λ (t : Seen). gstate_of t.pairs) (sym asked.same) ∙ settled) (idle (not_failed h (ops.Rename old new) e)) in
+pub rename_can : (h : Held) (old new : List ℕ) (from to : Path) (tree : Seen) → (h.tree.failed ≡ false → in_flight_count h.tree.map ≤ held h.tree.disk.block_size h.files) → IsAsked h.tree tree → refused_by h (ops.Rename old new) ≡ None → from ≡ as_path old → to ≡ as_path new → CanRename tree from to
+rename_can h old new from to tree idle asked e is are =
+    let can = (passed h old new e).can (idle (not_failed h (ops.Rename old new) e)) in
     subst (λ z. CanRename tree z to) (sym is) (subst (λ z. CanRename tree (as_path old) z) (sym are)
     (subst (λ t. CanRename t (as_path old) (as_path new)) (sym asked.same) (record {
       works = can.works;
       writable = can.writable;
-      settled = can.settled;
       entry = can.entry;
       target = can.target;
       apart = can.apart;
@@ -191,17 +193,12 @@ rename_can h old new from to tree settled idle asked e is are =
       room = can.room;
     })))
 
-pub renaming_is : (t : Seen) (old new : List ℕ) (p q : Path) (target : Finding) (mid : Seen) (x : Renaming) → Some p ≡ entry_path old → Some q ≡ entry_path new → IsAsked t mid → Finds (tree_seen mid) q target → x.from ≡ p → x.to ≡ q →
-    x.is_same ≡ same_path (as_path old) (as_path new) → x.is_onto_directory ≡ is_directory_node target.node → IsRenaming (tree_seen t) old new x
-renaming_is t old new p q target mid x is are asked found from to same onto =
-    let p_is = ap (λ o. unwrap_or o []) (is_entry old p is).0 in
-    let q_is = ap (λ o. unwrap_or o []) (is_entry new q are).0 in
-    record {
-      from = from ∙ sym p_is;
-      to = to ∙ sym q_is;
-      same = same;
-      onto = onto ∙ sym found.directories ∙ ap₂ (λ (z : Seen) y. is_directory (tree_seen z y)) asked.same (sym q_is);
-    }
+pub renaming_is : (old new : List ℕ) (p q : Path) (x : Renaming) → Some p ≡ entry_path old → Some q ≡ entry_path new → x.from ≡ p → x.to ≡ q → x.is_same ≡ same_path (as_path old) (as_path new) → IsRenaming old new x
+renaming_is old new p q x is are from to same = record {
+  from = from ∙ sym (ap (λ o. unwrap_or o []) (is_entry old p is).0);
+  to = to ∙ sym (ap (λ o. unwrap_or o []) (is_entry new q are).0);
+  same = same;
+}
 
 pub three_of : (r inner a b c d e : Bool) → r ≡ (a && inner) → inner ≡ (b && c) → b ≡ d → c ≡ e → r ≡ (a && d && e)
 three_of r inner a b c d e h k l m = h ∙ ap (λ z. a && z) (k ∙ ap₂ (λ y z. y && z) l m) ∙ grouped a d e

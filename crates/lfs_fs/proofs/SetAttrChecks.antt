@@ -1,5 +1,5 @@
 -- Checks of an attribute that is set.
-use Rattle.std.proofs.Common.{ℕ, ◌≡◌, ◌+◌, ◌<◌, ◌^◌, Bool, true, false, List, [], ◌∷◌, length, nat_lt, Option, Some, None, Result, Ok, Vec, Global, unwrap_or, refl, sym, ap, subst, ◌∙◌, arith}
+use Rattle.std.proofs.Common.{is_none, not, ◌≤◌, ℕ, ◌≡◌, ◌+◌, ◌<◌, ◌^◌, Bool, true, false, List, [], ◌∷◌, length, nat_lt, Option, Some, None, Result, Ok, Vec, Global, unwrap_or, refl, sym, ap, subst, ◌∙◌, arith}
 use Rattle.std.specs.Option.{option_map, option_map_or}
 use Rattle.std.proofs.lemmas.Bool.{ltb-false}
 use Rattle.lfs_device.specs.declared.error.Error.{Error}
@@ -9,10 +9,9 @@ use Rattle.lfs_model.specs.Content.{attribute_of, put_attribute}
 use Rattle.lfs_model.specs.Disk.{block_count}
 use Rattle.lfs_model.specs.Operations as ops
 use Rattle.lfs_model.specs.Operations.{Refusal, path_of}
-use Rattle.lfs_model.specs.Session.{first_of, held, is_overcharged, lacks, refuse_if}
-use Rattle.lfs_model.specs.Slots.{Attributes, attributes_size, no_gstate}
-use Rattle.lfs_model.specs.Steps.{as_path, is_root}
-use Rattle.lfs_model.specs.Thread.{gstate_of}
+use Rattle.lfs_model.specs.Session.{first_of, held, is_overcharged, lacks, parent_fault, refuse_if}
+use Rattle.lfs_model.specs.Slots.{Attributes, attributes_size}
+use Rattle.lfs_model.specs.Steps.{as_path, bad_entry, is_root}
 use Rattle.lfs_model.specs.Tree.{Path}
 use Rattle.lfs_tree.specs.Allowed.{CanSetAttr}
 use Rattle.lfs_tree.specs.AttributeAt.{IsAttributesSize}
@@ -88,9 +87,21 @@ set_attr_checked h bytes kind value p found mid later tree replaced size n len a
         (both (when ops.EntryFull d_is (over_is (last_name p) (put_attribute kind value (attributes_of (tree_seen h.tree p))) (sym len_is) put ∙ ap (λ around. is_overcharged around (last_name p) (put_attribute kind value (attributes_of (tree_seen h.tree p)))) same))
         (both (when ops.NoSpace e_is (lack_is ∙ ap (λ around. lacks around h.files 2) same)) refl))))
 
-pub set_attr_can : (h : Held) (bytes : List ℕ) (kind : ℕ) (value : List ℕ) (path : Path) (tree : Seen) → gstate_of tree.pairs ≡ no_gstate → (h.tree.failed ≡ false → in_flight_count h.tree.map ≡ 0)
+-- there is room beside what is held back
+pub set_attr_space : (h : Held) (bytes : List ℕ) (kind : ℕ) (value : List ℕ) → refused_by h (ops.SetAttr bytes kind value) ≡ None → lacks (around_of h.tree) h.files 2 ≡ false
+set_attr_space h bytes kind value e =
+    let a = neither (refuse_if (not h.tree.writable) ops.ReadOnly) _ (not_refused h (ops.SetAttr bytes kind value) e) in
+    let b = neither (refuse_if (bad_entry (path_of bytes)) ops.Invalid) _ a.1 in
+    let d = neither (parent_fault (tree_seen h.tree) [] (as_path bytes)) _ b.1 in
+    let i = neither (refuse_if (is_none (tree_seen h.tree (as_path bytes))) ops.NoEnt) _ d.1 in
+    let j = neither (refuse_if (nat_lt 1022 (length value)) ops.TooBig) _ i.1 in
+    let k = neither (refuse_if (is_overcharged (around_of h.tree) (last_name (as_path bytes)) (put_attribute kind value (attributes_of (tree_seen h.tree (as_path bytes))))) ops.EntryFull) _ j.1 in
+    let l = neither (refuse_if (lacks (around_of h.tree) h.files 2) ops.NoSpace) None k.1 in
+    unrefused (lacks (around_of h.tree) h.files 2) ops.NoSpace l.0
+
+pub set_attr_can : (h : Held) (bytes : List ℕ) (kind : ℕ) (value : List ℕ) (path : Path) (tree : Seen) → (h.tree.failed ≡ false → in_flight_count h.tree.map ≤ held h.tree.disk.block_size h.files)
     → Checks h (ops.SetAttr bytes kind value) (λ p. p ≡ as_path bytes) (Ok path) tree → CanSetAttr tree path kind value
-set_attr_can h bytes kind value path tree settled idle c =
+set_attr_can h bytes kind value path tree idle c =
     let e = c.1 in
     let a = neither _ _ (not_refused h (ops.SetAttr bytes kind value) e) in
     let b = neither _ _ a.1 in
@@ -98,16 +109,14 @@ set_attr_can h bytes kind value path tree settled idle c =
     let i = neither _ _ d.1 in
     let j = neither _ _ i.1 in
     let k = neither _ _ j.1 in
-    let l = neither _ _ k.1 in
     let works = not_failed h (ops.SetAttr bytes kind value) e in
     subst (λ t. CanSetAttr t path kind value) (sym c.0.same) (subst (λ z. CanSetAttr (record h.tree { history = tree.history }) z kind value) (sym c.2) (record {
       works = works;
       writable = negated h.tree.writable (unrefused _ _ a.0);
-      settled = ap (λ (t : Seen). gstate_of t.pairs) (sym c.0.same) ∙ settled;
       entry = good_root (path_of bytes) (unrefused _ _ b.0);
       parents = d.0;
       something = unrefused _ _ i.0;
       len = ltb-false _ _ (unrefused _ _ j.0);
       fits = unrefused _ _ k.0;
-      room = room_left (block_count h.tree.disk) (length (around_of h.tree).used) (held h.tree.disk.block_size h.files) (in_flight_count h.tree.map) 2 (idle works) (unrefused _ _ l.0);
+      room = room_left (block_count h.tree.disk) (length (around_of h.tree).used) (held h.tree.disk.block_size h.files) (in_flight_count h.tree.map) 2 (idle works) (set_attr_space h bytes kind value e);
     }))

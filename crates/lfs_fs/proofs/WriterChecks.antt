@@ -1,8 +1,7 @@
 -- The checks of a writer's calls.
-use Rattle.std.proofs.Common.{ℕ, zero, suc, if◌then◌else◌, ◌≡◌, ◌+◌, ◌<◌, ◌≤◌, Bool, true, false, not, cond, max, min, List, [], ◌∷◌, Option, Some, None, length, take, nat_lt, ◌&&◌, ◌||◌, is_some, refl, sym, ap, ap₂, subst, ◌∙◌, arith}
+use Rattle.std.proofs.Common.{ℕ, zero, suc, if◌then◌else◌, ◌≡◌, ◌+◌, ◌<◌, ◌≤◌, Bool, true, false, not, max, min, List, [], ◌∷◌, Option, Some, None, length, take, nat_lt, ◌&&◌, ◌||◌, is_some, refl, sym, ap, ap₂, subst, ◌∙◌, arith}
 use Rattle.std.specs.Prelude.{◌==◌}
 use Rattle.std.proofs.lemmas.Bool.{eq-eqb, eqb-true, ne_eqb, ltb-true, lt-ltb}
-use Rattle.std.proofs.lemmas.Bool.Decides.{nat_tests}
 use Rattle.std.proofs.lemmas.Option.{same_Some}
 use Rattle.std.specs.List.{AllByRecursion}
 use Rattle.std.specs.Option.{option_map}
@@ -12,7 +11,7 @@ use Rattle.lfs_model.specs.Session as session
 use Rattle.lfs_model.specs.Session.{after_truncate, after_write, file_of, first_of, held_by, overfills, overwritten, zeros_to, refuse_if, turns, write_place, writer_of}
 use Rattle.lfs_tree.specs.Seen.{Seen, around_of}
 use Rattle.lfs_fs.specs.FileSeen.{OpenFiles, bytes_of, end_in, entry_of, files_seen, held_for, turned_in, writer_in, writer_seen, writers_in}
-use Rattle.lfs_fs.specs.Held.{IsReady, IsWritten, held_of, refused_by}
+use Rattle.lfs_fs.specs.Held.{IsWritten, held_of, refused_by}
 use Rattle.lfs_fs.specs.declared.files.OpenFile.{OpenFile}
 use Rattle.lfs_fs.specs.declared.files.OpenFile.TheVariants as file
 use Rattle.lfs_fs.specs.declared.files.Writer.{Writer}

@@ -1,10 +1,10 @@
 -- The checks of an open for writing.
-use Rattle.std.proofs.Common.{ℕ, zero, suc, ◌≡◌, ◌+◌, ◌*◌, ◌≤◌, Bool, true, false, not, cond, List, [], ◌∷◌, Option, Some, None, Result, Ok, Err, length, nat_lt, nat_le, ◌&&◌, ◌||◌, unwrap_or, is_some, is_none, refl, sym, ap, ap₂, subst, ◌∙◌, arith}
+use Rattle.std.proofs.Common.{ℕ, ◌≡◌, ◌+◌, ◌*◌, Bool, true, false, not, List, [], ◌∷◌, Option, Some, None, Result, length, nat_lt, nat_le, ◌&&◌, ◌||◌, unwrap_or, is_none, refl, sym, ap, ap₂, ◌∙◌, arith}
 use Rattle.std.specs.Prelude.{if◌then◌else◌}
 use Rattle.std.proofs.lemmas.Bool.{le-leb}
 use Rattle.lfs_model.specs.Disk.{block_count, inline_limit}
 use Rattle.lfs_model.specs.Lists.{blocks_for}
-use Rattle.lfs_model.specs.Apply.{bytes_at, is_directory, last_name, same_path}
+use Rattle.lfs_model.specs.Apply.{bytes_at, last_name, same_path}
 use Rattle.lfs_model.specs.Operations as ops
 use Rattle.lfs_model.specs.Operations.{Flags, Refusal, path_of}
 use Rattle.lfs_model.specs.Session.{first_of, is_allowed, is_long, is_open_at, is_overcharged, lacks, opened_writer, overfills, refuse_if, writers}

@@ -1,22 +1,21 @@
 -- Writers whose contents are changed.
-use Rattle.std.proofs.Common.{ℕ, suc, ◌*◌, ◌≡◌, ◌≢◌, ◌+◌, ◌-◌, ◌<◌, ◌≤◌, inl, inr, Bool, true, false, not, cond, max, min, List, [], ◌∷◌, ◌++◌, length, take, drop, replicate, Option, Some, None, Result, Ok, Err, is_some, refl, sym, ap, ap₂, subst, ◌∙◌, arith, length-append, length-drop, append_assoc}
+use Rattle.std.proofs.Common.{ℕ, ◌*◌, ◌≡◌, ◌+◌, ◌-◌, ◌<◌, ◌≤◌, inl, inr, Bool, true, false, cond, max, min, List, [], ◌∷◌, ◌++◌, length, take, drop, replicate, Option, Some, None, Result, Ok, Err, is_some, refl, sym, ap, ap₂, subst, ◌∙◌, arith, length-append, length-drop, append_assoc}
 use Rattle.lfs_device.specs.declared.error.Error.{Error}
 use Rattle.std.specs.Prelude.{OnErr, ◌||◌, ◌==◌, nat_le, nat_lt, if◌then◌else◌}
-use Rattle.std.proofs.lemmas.Bool.{eqb-true, leb-true, leb-false, ne_eqb}
+use Rattle.std.proofs.lemmas.Bool.{eqb-true, leb-false, ne_eqb}
 use Rattle.std.proofs.lemmas.List.{length-take, length-replicate}
 use Rattle.lfs_model.specs.Apply.{bytes_at, change_at, is_file}
 use Rattle.lfs_model.specs.Steps.{with_bytes}
 use Rattle.lfs_model.proofs.Paths.{path_itself}
 use Rattle.std.specs.Option.{option_map}
 use Rattle.lfs_model.specs.Disk.{SameGeometry, block_count, inline_limit}
-use Rattle.lfs_model.specs.History.{Event}
 use Rattle.lfs_model.specs.Session as session
 use Rattle.lfs_model.specs.Session.{after_sync, ctz_blocks, after_truncate, after_write, held_by, overwritten, turns, write_place, zeros_to}
 use Rattle.lfs_model.specs.Slots.{no_gstate}
 use Rattle.lfs_model.specs.Thread.{gstate_of}
 use Rattle.lfs_model.specs.Tree.{Node, FileNode, DirectoryNode, Path, Tree}
-use Rattle.lfs_tree.specs.OpenContents.{CanStoreAt, IsStoredAt, CanTruncateBeside, CanWriteBeside, IsOpenedForm, IsOver, IsSettleable, IsWrittenBeside, bytes_held, kept_of}
-use Rattle.lfs_tree.specs.Seen.{Seen, IsAsked, IsBroken, IsBrokenAsking, IsError, around_of, tree_seen}
+use Rattle.lfs_tree.specs.OpenContents.{CanStoreAt, IsStoredAt, CanTruncateBeside, CanWriteBeside, IsOver, IsSettleable, IsWrittenBeside, bytes_held, kept_of}
+use Rattle.lfs_tree.specs.Seen.{Seen, IsAsked, IsBroken, around_of, tree_seen}
 use Rattle.lfs_writer.specs.Contents.{IsLarge, end_room, NeedsRoom, form_of, truncate_room, write_room}
 use Rattle.lfs_writer.specs.Form as shape_of
 use Rattle.lfs_writer.specs.Form.{Fits, Form, IsKept, form_size, grown, shortened, truncated, written}

@@ -5,12 +5,10 @@ use Rattle.lfs_model.specs.BlockSets.{in_flight_count}
 use Rattle.lfs_model.specs.Disk.{block_count}
 use Rattle.lfs_model.specs.Session as session
 use Rattle.lfs_model.specs.Session.{after_truncate, after_write, held_by, write_place}
-use Rattle.lfs_model.specs.Slots.{no_gstate}
 use Rattle.lfs_model.specs.Steps.{size_of}
-use Rattle.lfs_model.specs.Thread.{gstate_of}
 use Rattle.lfs_model.specs.Tree.{Path}
 use Rattle.lfs_tree.specs.OpenContents.{IsOpenedForm, IsOver}
-use Rattle.lfs_tree.specs.Seen.{Seen, around_of, tree_seen}
+use Rattle.lfs_tree.specs.Seen.{IsSound, Seen, around_of, tree_seen}
 use Rattle.lfs_writer.specs.Contents.{form_of}
 use Rattle.lfs_writer.specs.Form.{Form}
 use Rattle.lfs_fs.specs.FileSeen.{writer_seen}
@@ -75,7 +73,7 @@ pub record IsSavedAs (t : Seen) (is : session.Writer) (w : Writer) : Type 0 wher
 pub record CanBegin (t : Seen) (path : Path) (size : ℕ) (truncates : Bool) : Type 0 where
   pub works : t.failed ≡ false
   pub writable : t.writable ≡ true
-  pub settled : gstate_of t.pairs ≡ no_gstate
+  pub sound : IsSound t
   pub idle : in_flight_count t.map ≡ 0
   pub there : size_of (tree_seen t path) ≡ Some size
   -- room for two blocks, where something is to be written anew

@@ -1,21 +1,20 @@
 -- What contracts see of a session, and how its calls answer.
-use Rattle.std.specs.Prelude.{ℕ, ◌+◌, ◌≤◌, nat_le, length, is_none, is_some, ◌≡◌, ◌≢◌, ◌<◌, ◌⊎◌, Bool, true, false, not, ◌&&◌, if◌then◌else◌, List, [], Option, Some, None, Result, Ok, Err}
+use Rattle.std.specs.Prelude.{ℕ, ◌+◌, ◌≤◌, nat_le, length, is_none, is_some, ◌≡◌, ◌≢◌, ◌<◌, ◌⊎◌, Bool, true, false, if◌then◌else◌, List, [], Option, Some, None, Result, Ok, Err}
 use Rattle.lfs_device.specs.declared.error.Error.{Error}
-use Rattle.lfs_device.specs.declared.error.Error.TheVariants.{Io, NoMemory, Corrupt, Unsupported}
+use Rattle.lfs_device.specs.declared.error.Error.TheVariants.{Io, NoMemory, Corrupt}
 use Rattle.lfs_model.specs.BlockSets.{in_flight_count}
 use Rattle.lfs_model.specs.History.{Event, OnlyReads, faults}
 use Rattle.lfs_model.specs.Disk.{Disk}
 use Rattle.lfs_model.specs.View.{IsAccepted}
-use Rattle.lfs_model.specs.Operations as ops
 use Rattle.lfs_model.specs.Operations.{Operation, Refusal, Reply, Failed, path_of}
 use Rattle.lfs_model.specs.Slots.{no_gstate}
-use Rattle.lfs_model.specs.Thread.{Pair, gstate_of}
+use Rattle.lfs_model.specs.Thread.{gstate_of}
 use Rattle.lfs_model.specs.Tree.{Tree}
 use Rattle.lfs_model.specs.Session.{Files, Session, readers}
 use Rattle.lfs_fs.specs.FileSeen.{OpenFiles, bytes_of, files_seen, has_unsaved, held_for, writer_seen, writers_in}
 use Rattle.lfs_fs.specs.declared.files.Writer.{Writer}
-use Rattle.std.specs.List.{AllByRecursion, list_any}
-use Rattle.lfs_model.specs.State.{State, HasFailed, Healthy, is_remount}
+use Rattle.std.specs.List.{AllByRecursion}
+use Rattle.lfs_model.specs.State.{HasFailed, Healthy, is_remount}
 use Rattle.lfs_model.specs.Steps.{as_path, refusal_of, size_of}
 use Rattle.lfs_model.specs.Disk.{block_count, inline_limit}
 use Rattle.lfs_tree.specs.OpenContents.{IsOver, IsSettleable}
@@ -23,10 +22,11 @@ use Rattle.lfs_writer.specs.Contents.{form_of}
 use Rattle.lfs_writer.specs.Form.{IsKept}
 use Rattle.lfs_fs.specs.declared.checks.Opening.{Opening}
 use Rattle.lfs_fs.specs.declared.files.Unsaved.{Unsaved}
-use Rattle.lfs_model.specs.Apply.{is_directory, is_file, same_path}
-use Rattle.lfs_model.specs.Recovery.{recovers}
-use Rattle.lfs_model.specs.Run.{Moment, Shows, IsTurn, is_dirty}
+use Rattle.lfs_model.specs.Apply.{is_file}
+use Rattle.lfs_model.specs.Run.{Moment, Shows, IsTurn}
 use Rattle.lfs_model.specs.Failure.{Fails, IsCutShort}
+use Rattle.lfs_model.specs.Outages.{AreWithstood}
+use Rattle.lfs_model.specs.PowerLoss.{SurvivesStops}
 use Rattle.lfs_tree.specs.Refusals.{is_refusal, refusal_in}
 use Rattle.lfs_tree.specs.Seen.{Seen, tree_seen, around_of, IsSound, IsAsked, IsBrokenAsking, IsError}
 
@@ -78,38 +78,10 @@ moment_of h = record {
   state = if h.tree.failed then HasFailed else Healthy (session_of h);
 }
 
--- something of the image is to be recovered
-pub record IsUnsettled (disk : Disk) : Type 0 where
-  pub pairs : List Pair
-  pub accepted : IsAccepted disk pairs
-  pub some : gstate_of pairs ≡ no_gstate → ⊥
-
--- a file is open of which something isn't in the tree
-pub record IsUnsaved (state : State) : Type 0 where
-  pub session : Session
-  pub is : state ≡ Healthy session
-  pub dirty : list_any is_dirty session.files ≡ true
-
-abbrev pub replaces_directory : Session → Operation → Bool
-replaces_directory s (ops.Rename old new) = not (same_path (as_path old) (as_path new)) && is_directory (s.tree (as_path new))
-replaces_directory s op = false
-
--- a rename would take the place of a directory
-pub record IsOntoDirectory (state : State) (op : Operation) : Type 0 where
-  pub session : Session
-  pub is : state ≡ Healthy session
-  pub onto : replaces_directory session op ≡ true
-
--- What can't be done yet: to change an image of which something is to be recovered, or while a changed file isn't saved, and to put
--- an entry in the place of a directory.
-abbrev pub IsUnsupported : Moment → Operation → Type 0
-IsUnsupported at op = IsUnsettled at.disk ⊎ (((recovers op ≡ true) × IsUnsaved at.state) ⊎ IsOntoDirectory at.state op)
-
--- The session fails in an operation by that error. Only a remount answers `Corrupt`, and then the disk isn't accepted;
--- `Unsupported` says that the operation can't be done yet.
+-- The session fails in an operation by that error. Only a remount answers `Corrupt`, and then the disk isn't accepted.
 pub record FailsBy (e : Error) (from : Moment) (op : Operation) (to : Moment) : Type 0 where
   pub fails : Fails from op to
-  pub errors : (e ≡ Io) ⊎ ((e ≡ NoMemory) ⊎ (((e ≡ Corrupt) × (is_remount op ≡ true) × Shows from.disk None) ⊎ ((e ≡ Unsupported) × IsUnsupported from op)))
+  pub errors : (e ≡ Io) ⊎ ((e ≡ NoMemory) ⊎ ((e ≡ Corrupt) × (is_remount op ≡ true) × Shows from.disk None))
   pub fault : e ≡ Io → faults from.calls < faults to.calls
   pub no_fault : e ≢ Io → faults to.calls ≡ faults from.calls
 
@@ -118,10 +90,13 @@ abbrev pub Answers : Held → Operation → Result Reply Error → Held → Type
 Answers old op (Ok reply) new = IsTurn (moment_of old) op reply (moment_of new)
 Answers old op (Err e) new = FailsBy e (moment_of old) op (moment_of new)
 
--- Some operations were carried out or refused, and in the next one the session failed by that error.
+-- Some operations were carried out or refused, and withstood stops; in the next one the session failed by that error, and it
+-- survives stops, too.
 pub record IsEndedBy (e : Error) (from : Moment) (operations : List Operation) (to : Moment) : Type 0 where
   pub cut : IsCutShort from operations to
   pub by : FailsBy e cut.at cut.next to
+  pub withstood : AreWithstood from cut.done cut.replies cut.at
+  pub survives : SurvivesStops cut.at cut.next to
 
 -- the check that refuses an operation, that of a failed session first
 abbrev pub refused_by : Held → Operation → Option Refusal

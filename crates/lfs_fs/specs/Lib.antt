@@ -8,3 +8,4 @@ pub mod OpSeen
 pub mod Replacing
 pub mod RenamePaths
 pub mod Changing
+pub mod Staying

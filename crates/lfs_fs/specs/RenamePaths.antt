@@ -1,9 +1,9 @@
 -- The two paths of a rename.
 use Rattle.std.specs.Prelude.{ℕ, ◌≡◌, ◌==◌, ◌&&◌, ◌||◌, Bool, true, false, List, [], ◌∷◌, is_some}
-use Rattle.lfs_model.specs.Apply.{is_directory, rest_after, same_path}
+use Rattle.lfs_model.specs.Apply.{rest_after, same_path}
 use Rattle.lfs_model.specs.Names.{slash}
 use Rattle.lfs_model.specs.Steps.{as_path}
-use Rattle.lfs_model.specs.Tree.{Path, Tree}
+use Rattle.lfs_model.specs.Tree.{Path}
 use Rattle.lfs_fs.specs.declared.renaming.Renaming.{Renaming}
 
 -- the second bytes begin with the first, and end there or go on with a slash
@@ -17,9 +17,8 @@ goes_on (a ∷ xs) (b ∷ ys) = (a == b) && goes_on xs ys
 abbrev pub is_in_the_way : Path → Path → Path → Bool
 is_in_the_way from to p = is_some (rest_after from p) || same_path to p
 
--- the paths of these bytes, whether they are the same, and whether a directory is at the second
-pub record IsRenaming (t : Tree) (old new : List ℕ) (r : Renaming) : Type 0 where
+-- the paths of these bytes, and whether they are the same
+pub record IsRenaming (old new : List ℕ) (r : Renaming) : Type 0 where
   pub from : r.from ≡ as_path old
   pub to : r.to ≡ as_path new
   pub same : r.is_same ≡ same_path (as_path old) (as_path new)
-  pub onto : r.is_onto_directory ≡ is_directory (t (as_path new))

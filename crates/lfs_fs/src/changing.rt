@@ -3,15 +3,16 @@
 ghost use Rattle.std.specs.Prelude.{ℕ, List, [], true, ◌≡◌, length, IfErr, IfOk, OnErr, OnOk};
 ghost use Rattle.lfs_model.specs.Session.{opened_writer, after_sync, after_truncate, after_write};
 ghost use Rattle.lfs_tree.specs.OpenContents.{IsOver, IsStoredAt, IsWrittenBeside, bytes_held, kept_of};
-ghost use Rattle.lfs_tree.specs.Seen.{tree_seen, IsAsked, IsBroken, IsCarried, IsBrokenAsking, IsError};
+ghost use Rattle.lfs_tree.specs.Seen.{tree_seen, IsAsked, IsBroken, IsCarried, IsBrokenAsking, IsError, IsSound, SurvivesAs};
 ghost use Rattle.lfs_writer.specs.Contents.{form_of};
 ghost use Rattle.lfs_fs.specs.Changing.{CanBegin, IsBegunAs, CanSave, CanTruncate, CanWrite, HasContents, IsFormOf, IsSavedAs, IsWriterAs};
 ghost use Rattle.lfs_fs.specs.FileSeen.{bytes_of, writer_seen};
 ghost use Rattle.lfs_fs.specs.FlagsSeen.{flags_seen};
-ghost use Rattle.lfs_model.specs.Apply.{bytes_at};
+ghost use Rattle.lfs_model.specs.Apply.{added, bytes_at, change_at};
 ghost use Rattle.lfs_model.specs.Operations as ops;
 ghost use Rattle.lfs_model.specs.Operations.{Flags};
-ghost use Rattle.lfs_model.specs.Steps.{as_path};
+ghost use Rattle.lfs_model.specs.Steps.{as_path, with_bytes};
+ghost use Rattle.lfs_model.specs.Tree.{FileNode};
 ghost use Rattle.lfs_tree.specs.Allowed.{CanCreate};
 
 use crate::files::{Unsaved, Writer};
@@ -19,7 +20,7 @@ use crate::flags::OpenFlags;
 use crate::owned_path::OwnedPath;
 use bitflags::Flags;
 use lfs_device::{BlockDevice, Error};
-use lfs_tree::{Path, Tree};
+use lfs_tree::{Path, Tree, carried_takes_few, contents_stay};
 use lfs_writer::{Contents, forms_keep_step, held_blocks_are_room};
 use std::alloc::Global;
 
@@ -56,6 +57,7 @@ pub(crate) fn write_by<D: BlockDevice>(
     ensures beside { OnOk result (IsWrittenBeside tree.old tree.new) }
     ensures broken { OnErr result (IsBroken tree.old tree.new) }
     ensures errors { IfErr result (IsError tree.old tree.new) }
+    ensures survives { IsSound tree.old → SurvivesAs tree.old tree.new (tree_seen tree.old) }
 {
     forms_keep_step();
     held_blocks_are_room();
@@ -96,6 +98,7 @@ pub(crate) fn truncate_by<D: BlockDevice>(
     ensures beside { OnOk result (IsWrittenBeside tree.old tree.new) }
     ensures broken { OnErr result (IsBroken tree.old tree.new) }
     ensures errors { IfErr result (IsError tree.old tree.new) }
+    ensures survives { IsSound tree.old → SurvivesAs tree.old tree.new (tree_seen tree.old) }
 {
     forms_keep_step();
     held_blocks_are_room();
@@ -134,6 +137,7 @@ pub(crate) fn save<D: BlockDevice>(
     ensures saved { IfOk result (IsSavedAs tree.new (after_sync (writer_seen tree.old writer))) }
     ensures broken { OnErr result (IsBroken tree.old tree.new) }
     ensures errors { IfErr result (IsError tree.old tree.new) }
+    ensures survives { SurvivesAs tree.old tree.new (change_at writer.path (with_bytes (bytes_of tree.old writer.path writer.unsaved)) (tree_seen tree.old)) }
 {
     held_blocks_are_room();
     let Writer {
@@ -156,7 +160,7 @@ pub(crate) fn save<D: BlockDevice>(
     })
 }
 
-// A writer of a file that is there, from its beginning on.
+// A writer of a file that is there, from its beginning on. What is left to recover is ended first.
 pub(crate) fn begin_there<D: BlockDevice>(
     alloc: Global,
     tree: &mut Tree<D>,
@@ -165,14 +169,18 @@ pub(crate) fn begin_there<D: BlockDevice>(
     flags: OpenFlags,
 ) -> Result<Writer, Error>
     requires { CanBegin tree.old path size (flags_seen flags).truncate }
-    ensures same { OnOk result (tree.new ≡ tree.old) }
+    ensures recovered { OnOk result (IsCarried tree.old ops.Recover tree.new) }
     ensures begun { IfOk result (IsBegunAs tree.new (opened_writer path (flags_seen flags) (bytes_at (tree_seen tree.old path)))) }
-    ensures broken { OnErr result (IsBrokenAsking tree.old tree.new) }
+    ensures broken { OnErr result (IsBroken tree.old tree.new) }
     ensures errors { IfErr result (IsError tree.old tree.new) }
+    ensures survives { SurvivesAs tree.old tree.new (tree_seen tree.old) }
 {
+    carried_takes_few();
+    contents_stay();
     let appends = flags.contains(OpenFlags::APPEND);
     if flags.contains(OpenFlags::TRUNCATE) && size > 0 {
         let contents = tree.empty_contents(alloc)?;
+        tree.recover(alloc)?;
         return Ok(Writer {
             path,
             position: 0,
@@ -185,6 +193,7 @@ pub(crate) fn begin_there<D: BlockDevice>(
             }),
         });
     }
+    tree.recover(alloc)?;
     Ok(Writer {
         path,
         position: 0,
@@ -206,6 +215,7 @@ pub(crate) fn begin_new<D: BlockDevice>(
     ensures begun { IfOk result (IsBegunAs tree.new (opened_writer path (flags_seen flags) [])) }
     ensures broken { OnErr result (IsBroken tree.old tree.new) }
     ensures errors { IfErr result (IsError tree.old tree.new) }
+    ensures survives { SurvivesAs tree.old tree.new (added path (FileNode [] []) (tree_seen tree.old)) }
 {
     tree.create(alloc, &path.lend())?;
     Ok(Writer {

@@ -4,16 +4,13 @@ ghost use Rattle.std.specs.Prelude.{if◌then◌else◌, nat_lt, ◌+◌, ◌≡
 ghost use Rattle.lfs_model.specs.Operations as ops;
 ghost use Rattle.lfs_model.specs.Session.{is_overcharged};
 ghost use Rattle.lfs_model.specs.Disk.{block_count};
-ghost use Rattle.lfs_fs.specs.FileSeen.{entry_of, files_seen, has_unsaved, held_by_all, held_for, writer_in};
-ghost use Rattle.lfs_model.specs.Recovery.{recovers};
-ghost use Rattle.lfs_model.specs.Slots.{no_gstate};
-ghost use Rattle.lfs_model.specs.Thread.{gstate_of};
+ghost use Rattle.lfs_fs.specs.FileSeen.{entry_of, files_seen, held_by_all, held_for, writer_in};
 ghost use Rattle.lfs_model.specs.Steps.{as_path, size_of};
 ghost use Rattle.lfs_fs.specs.FlagsSeen.{flags_seen};
 ghost use Rattle.lfs_model.specs.Apply.{attributes_of, is_directory};
 ghost use Rattle.lfs_model.specs.Content.{attribute_of};
 ghost use Rattle.lfs_fs.specs.EntryPaths.{entry_path};
-ghost use Rattle.lfs_fs.specs.Held.{Checks, ChecksKept, IsOpening, IsReadable, IsReady, IsUnsupported, held_of, moment_of};
+ghost use Rattle.lfs_fs.specs.Held.{Checks, ChecksKept, IsOpening, IsReadable, IsReady, held_of};
 ghost use Rattle.lfs_tree.specs.Seen.{around_of, tree_seen};
 ghost use Rattle.lfs_model.specs.Slots.{Attributes, attributes_size};
 ghost use Rattle.lfs_fs.specs.Replacing.{CanReplace, replaced_size};
@@ -59,17 +56,6 @@ pub(crate) fn lacks<D: BlockDevice>(tree: &Tree<D>, files: &Files, need: u32) ->
 {
     let held = files.held(tree.geometry());
     (tree.geometry().block_count as u64) < tree.used_count() as u64 + held + need as u64
-}
-
-// Whether something is to be recovered or saved before the image is changed, which can't be done
-// yet.
-pub(crate) fn is_held_up<D: BlockDevice>(tree: &Tree<D>, files: &Files) -> bool
-    requires { tree.now.failed ≡ false }
-    ensures unsupported { (op : ops.Operation) → recovers op ≡ true → result ≡ true → IsReady tree.now files.now → IsUnsupported (moment_of (held_of tree.now files.now)) op }
-    ensures settled { result ≡ false → gstate_of tree.now.pairs ≡ no_gstate }
-    ensures saved { result ≡ false → has_unsaved files.now ≡ false }
-{
-    files.has_unsaved() || !tree.gstate().is_none()
 }
 
 // A file's size, or None for a directory.

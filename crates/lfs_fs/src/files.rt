@@ -9,7 +9,7 @@ ghost use Rattle.lfs_model.specs.Session.{is_open_at, turns};
 ghost use Rattle.lfs_model.specs.Steps.{as_path, bad_entry};
 ghost use Rattle.lfs_fs.specs.RenamePaths.{is_in_the_way};
 ghost use Rattle.lfs_tree.specs.Seen.{Seen};
-ghost use Rattle.lfs_fs.specs.FileSeen.{end_in, entry_of, files_seen, is_entry_at, is_unsaved_entry, free_entry, has_unsaved, held_by_all, held_by_size, held_for, moved_entry, put_entry, reader_in, readers_in, turned_in, writer_in, writers_in};
+ghost use Rattle.lfs_fs.specs.FileSeen.{end_in, entry_of, files_seen, is_entry_at, is_unsaved_entry, free_entry, held_by_all, held_by_size, held_for, moved_entry, put_entry, reader_in, readers_in, turned_in, writer_in, writers_in};
 
 use crate::owned_path::OwnedPath;
 use lfs_ctz::blocks_for;
@@ -160,13 +160,6 @@ impl Files {
         ensures few { result < 2 ^ 34 }
     {
         held_among(&self.entries, geometry)
-    }
-
-    // Whether a writer has changes that aren't in the tree.
-    pub(crate) fn has_unsaved(&self) -> bool
-        ensures { result ≡ has_unsaved self.now }
-    {
-        has_unsaved(&self.entries)
     }
 
     // Whether a writer of that path is in the way of a reader, or there are as many readers as may
@@ -398,17 +391,6 @@ pub(crate) fn held_for(geometry: Geometry, has_turned: bool, size: u32) -> u64
     } else {
         2 + blocks
     }
-}
-
-fn has_unsaved(entries: &[Option<OpenFile>]) -> bool
-    ensures { result ≡ has_unsaved entries.now }
-{
-    for entry in entries {
-        if is_unsaved(entry) {
-            return true;
-        }
-    }
-    false
 }
 
 fn is_unsaved(entry: &Option<OpenFile>) -> bool

@@ -6,6 +6,7 @@ mod checks;
 mod files;
 mod flags;
 mod gstate;
+mod left_open;
 mod owned_path;
 mod passing;
 mod reading;

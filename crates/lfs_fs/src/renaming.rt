@@ -5,7 +5,6 @@ ghost use Rattle.lfs_model.specs.Apply.{is_beneath, rest_after, same_path};
 ghost use Rattle.lfs_model.specs.Operations as ops;
 ghost use Rattle.lfs_model.specs.Operations.{path_of};
 ghost use Rattle.lfs_model.specs.Steps.{as_path, bad_entry};
-ghost use Rattle.lfs_tree.specs.Seen.{tree_seen};
 ghost use Rattle.lfs_fs.specs.Held.{Checks, IsReady, held_of};
 ghost use Rattle.lfs_fs.specs.RenamePaths.{IsRenaming, goes_on};
 
@@ -67,8 +66,6 @@ pub(crate) struct Renaming<'a> {
     pub(crate) to: Path<'a>,
     // Whether both paths are the same.
     pub(crate) is_same: bool,
-    // Whether a directory is at the new path.
-    pub(crate) is_onto_directory: bool,
 }
 
 // The paths of a rename.
@@ -80,7 +77,7 @@ pub(crate) fn check_rename<'a, D: BlockDevice>(
     new: &'a [u8],
 ) -> Result<Renaming<'a>, Error>
     requires { tree.old.failed ≡ false → IsReady tree.old files.now }
-    ensures { Checks (held_of tree.old files.now) (ops.Rename old.now new.now) (IsRenaming (tree_seen tree.old) old.now new.now) result tree.new }
+    ensures { Checks (held_of tree.old files.now) (ops.Rename old.now new.now) (IsRenaming old.now new.now) result tree.new }
 {
     if tree.has_failed() {
         return Err(Error::Failed);
@@ -129,11 +126,5 @@ pub(crate) fn check_rename<'a, D: BlockDevice>(
         ),
         refuse_if(lacks(tree, files, 2), Error::NoSpace),
     ];
-    let renaming = Renaming {
-        from,
-        to,
-        is_same,
-        is_onto_directory: replaces.is_directory(),
-    };
-    passed(&checks, renaming)
+    passed(&checks, Renaming { from, to, is_same })
 }

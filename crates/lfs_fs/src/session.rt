@@ -6,7 +6,9 @@ ghost use Rattle.lfs_model.specs.Thread.{Pair};
 ghost use Rattle.lfs_model.specs.Fresh.{IsFresh, empty_tree};
 ghost use Rattle.lfs_model.specs.Headline.{IsTrue};
 ghost use Rattle.lfs_model.specs.State.{Healthy, mounted};
-ghost use Rattle.lfs_model.specs.Run.{AreTurns};
+ghost use Rattle.lfs_model.specs.Run.{Agrees, AreTurns};
+ghost use Rattle.lfs_model.specs.Outages.{AreWithstood};
+ghost use Rattle.lfs_model.specs.PowerLoss.{SurvivesStops};
 ghost use Rattle.lfs_thread.specs.Device.{GivesBack, two_of};
 ghost use Rattle.lfs_thread.specs.Kept.{disk_on};
 ghost use Rattle.lfs_model.specs.Thread.{anchor};
@@ -22,11 +24,12 @@ use crate::changing::{begin_new, begin_there, save, truncate_by, write_by};
 use crate::checks::{
     check_get_attr, check_list, check_mkdir, check_open, check_open_reader, check_open_writer,
     check_remove, check_remove_attr, check_seek, check_set_attr, check_stat, check_sync,
-    check_truncate, check_write, is_held_up,
+    check_truncate, check_write,
 };
 use crate::files::{Files, OpenFile};
 use crate::flags::OpenFlags;
 use crate::gstate::{Gstate, gstate_of};
+use crate::left_open::open_files_stay;
 use crate::owned_path::OwnedPath;
 use crate::reading::read_from;
 use crate::renaming::check_rename;
@@ -58,14 +61,16 @@ impl<D: BlockDevice> Model for Session<D> {
 impl<D: BlockDevice> Session<D> {
     /// A file's size, or None for a directory.
     pub fn stat(&mut self, alloc: Global, path: &[u8]) -> Result<Option<u32>, Error>
-        ensures { Answers self.old (ops.Stat path.now) (reply_in ops.StatIs result) self.new }
+        ensures answers { Answers self.old (ops.Stat path.now) (reply_in ops.StatIs result) self.new }
+        ensures survives { SurvivesStops (moment_of self.old) (ops.Stat path.now) (moment_of self.new) }
     {
         check_stat(alloc, &mut self.tree, &self.files, path)
     }
 
     /// What stands in a directory, in name order.
     pub fn list(&mut self, alloc: Global, path: &[u8]) -> Result<Vec<ListItem>, Error>
-        ensures { Answers self.old (ops.ListAll path.now) (reply_in (λ items. ops.Items (map list_item_seen items.items)) result) self.new }
+        ensures answers { Answers self.old (ops.ListAll path.now) (reply_in (λ items. ops.Items (map list_item_seen items.items)) result) self.new }
+        ensures survives { SurvivesStops (moment_of self.old) (ops.ListAll path.now) (moment_of self.new) }
     {
         let path = check_list(alloc, &mut self.tree, &self.files, path)?;
         self.tree.list(alloc, &path)
@@ -73,7 +78,8 @@ impl<D: BlockDevice> Session<D> {
 
     /// The bytes of an entry's attribute.
     pub fn get_attr(&mut self, alloc: Global, path: &[u8], kind: u8) -> Result<Vec<u8>, Error>
-        ensures { Answers self.old (ops.GetAttr path.now kind) (reply_in (λ v. ops.Bytes v.items) result) self.new }
+        ensures answers { Answers self.old (ops.GetAttr path.now kind) (reply_in (λ v. ops.Bytes v.items) result) self.new }
+        ensures survives { SurvivesStops (moment_of self.old) (ops.GetAttr path.now kind) (moment_of self.new) }
     {
         check_get_attr(alloc, &mut self.tree, &self.files, path, kind)
     }
@@ -111,58 +117,44 @@ impl<D: BlockDevice> Session<D> {
         Ok(self.tree.used_count())
     }
 
-    /// Makes an empty directory.
-    ///
-    /// Where something of the image is to be recovered it can't be done yet: the answer is
-    /// `Unsupported`, and the session has failed.
+    /// Makes an empty directory. What a loss of power left in the image is ended first, as by
+    /// [`recover`](Session::recover).
     pub fn mkdir(&mut self, alloc: Global, path: &[u8]) -> Result<(), Error>
-        ensures { Answers self.old (ops.Mkdir path.now) (reply_in (λ _. ops.Done) result) self.new }
+        ensures answers { Answers self.old (ops.Mkdir path.now) (reply_in (λ _. ops.Done) result) self.new }
+        ensures survives { SurvivesStops (moment_of self.old) (ops.Mkdir path.now) (moment_of self.new) }
     {
+        open_files_stay();
         let path = check_mkdir(alloc, &mut self.tree, &self.files, path)?;
-        if is_held_up(&self.tree, &self.files) {
-            self.tree.fail();
-            return Err(Error::Unsupported);
-        }
         self.tree.mkdir(alloc, &path)
     }
 
-    /// Takes a file, or a directory without entries. `Unsupported` as in [`mkdir`](Session::mkdir).
+    /// Takes a file, or a directory without entries. What a loss of power left is ended first.
     pub fn remove(&mut self, alloc: Global, path: &[u8]) -> Result<(), Error>
-        ensures { Answers self.old (ops.Remove path.now) (reply_in (λ _. ops.Done) result) self.new }
+        ensures answers { Answers self.old (ops.Remove path.now) (reply_in (λ _. ops.Done) result) self.new }
+        ensures survives { SurvivesStops (moment_of self.old) (ops.Remove path.now) (moment_of self.new) }
     {
+        open_files_stay();
         let path = check_remove(alloc, &mut self.tree, &self.files, path)?;
-        if is_held_up(&self.tree, &self.files) {
-            self.tree.fail();
-            return Err(Error::Unsupported);
-        }
         self.tree.remove(alloc, &path)
     }
 
-    /// Gives an entry another path, in place of a file at it, if there is one. What is beneath a
-    /// directory goes with it. A path to itself: nothing is done.
-    ///
-    /// `Unsupported` as in [`mkdir`](Session::mkdir), and where a directory without entries is at the
-    /// new path.
+    /// Gives an entry another path, in place of a file, or of a directory without entries, at it, if
+    /// there is one. What is beneath a directory goes with it, and what a loss of power left is ended
+    /// first. A path to itself: nothing is done.
     pub fn rename(&mut self, alloc: Global, from: &[u8], to: &[u8]) -> Result<(), Error>
-        ensures { Answers self.old (ops.Rename from.now to.now) (reply_in (λ _. ops.Done) result) self.new }
+        ensures answers { Answers self.old (ops.Rename from.now to.now) (reply_in (λ _. ops.Done) result) self.new }
+        ensures survives { SurvivesStops (moment_of self.old) (ops.Rename from.now to.now) (moment_of self.new) }
     {
+        open_files_stay();
         let renaming = check_rename(alloc, &mut self.tree, &self.files, from, to)?;
         if renaming.is_same {
             return Ok(());
         }
-        if is_held_up(&self.tree, &self.files) {
-            self.tree.fail();
-            return Err(Error::Unsupported);
-        }
-        if renaming.is_onto_directory {
-            self.tree.fail();
-            return Err(Error::Unsupported);
-        }
         self.tree.rename(alloc, &renaming.from, &renaming.to)
     }
 
-    /// Gives an entry an attribute, in place of the one of that type that it has, if it has one.
-    /// `Unsupported` as in [`mkdir`](Session::mkdir).
+    /// Gives an entry an attribute, in place of the one of that type that it has, if it has one. What
+    /// a loss of power left is ended first.
     pub fn set_attr(
         &mut self,
         alloc: Global,
@@ -170,46 +162,38 @@ impl<D: BlockDevice> Session<D> {
         kind: u8,
         value: &[u8],
     ) -> Result<(), Error>
-        ensures { Answers self.old (ops.SetAttr path.now kind value.now) (reply_in (λ _. ops.Done) result) self.new }
+        ensures answers { Answers self.old (ops.SetAttr path.now kind value.now) (reply_in (λ _. ops.Done) result) self.new }
+        ensures survives { SurvivesStops (moment_of self.old) (ops.SetAttr path.now kind value.now) (moment_of self.new) }
     {
+        open_files_stay();
         let path = check_set_attr(alloc, &mut self.tree, &self.files, path, kind, value)?;
-        if is_held_up(&self.tree, &self.files) {
-            self.tree.fail();
-            return Err(Error::Unsupported);
-        }
         self.tree.set_attr(alloc, &path, kind, value)
     }
 
-    /// Takes an attribute from an entry. `Unsupported` as in [`mkdir`](Session::mkdir).
+    /// Takes an attribute from an entry. What a loss of power left is ended first.
     pub fn remove_attr(&mut self, alloc: Global, path: &[u8], kind: u8) -> Result<(), Error>
-        ensures { Answers self.old (ops.RemoveAttr path.now kind) (reply_in (λ _. ops.Done) result) self.new }
+        ensures answers { Answers self.old (ops.RemoveAttr path.now kind) (reply_in (λ _. ops.Done) result) self.new }
+        ensures survives { SurvivesStops (moment_of self.old) (ops.RemoveAttr path.now kind) (moment_of self.new) }
     {
+        open_files_stay();
         let path = check_remove_attr(alloc, &mut self.tree, &self.files, path, kind)?;
-        if is_held_up(&self.tree, &self.files) {
-            self.tree.fail();
-            return Err(Error::Unsupported);
-        }
         self.tree.remove_attr(alloc, &path, kind)
     }
 
     /// Ends what a loss of power left in the image: a set move, and directories that no path leads
     /// to. The tree stays; nothing is written where nothing is left.
     ///
-    /// `ReadOnly` where the image isn't one of those that this library writes. `Unsupported`, and the
-    /// session has failed, where it can't be done yet: a directory that no path leads to has slots, as
-    /// littlefs leaves none, or a changed file isn't saved.
+    /// `ReadOnly` where the image isn't one of those that this library writes.
     pub fn recover(&mut self, alloc: Global) -> Result<(), Error>
-        ensures { Answers self.old ops.Recover (reply_in (λ _. ops.Done) result) self.new }
+        ensures answers { Answers self.old ops.Recover (reply_in (λ _. ops.Done) result) self.new }
+        ensures survives { SurvivesStops (moment_of self.old) ops.Recover (moment_of self.new) }
     {
+        open_files_stay();
         if self.tree.has_failed() {
             return Err(Error::Failed);
         }
         if !self.tree.is_writable() {
             return Err(Error::ReadOnly);
-        }
-        if self.files.has_unsaved() {
-            self.tree.fail();
-            return Err(Error::Unsupported);
         }
         self.tree.recover(alloc)
     }
@@ -217,7 +201,8 @@ impl<D: BlockDevice> Session<D> {
     // Opens a file for reading.
     fn open_reader(&mut self, alloc: Global, path: &[u8], flags: OpenFlags) -> Result<u32, Error>
         requires { (flags_seen flags).write ≡ false }
-        ensures { Answers self.old (ops.Open path.now (flags_seen flags)) (reply_in ops.Opened result) self.new }
+        ensures answers { Answers self.old (ops.Open path.now (flags_seen flags)) (reply_in ops.Opened result) self.new }
+        ensures survives { SurvivesStops (moment_of self.old) (ops.Open path.now (flags_seen flags)) (moment_of self.new) }
     {
         check_open_reader(alloc, &mut self.tree, &self.files, path, flags)?;
         let answer = self.files.add_reader(alloc, path);
@@ -230,13 +215,10 @@ impl<D: BlockDevice> Session<D> {
     // Opens a file for writing.
     fn open_writer(&mut self, alloc: Global, path: &[u8], flags: OpenFlags) -> Result<u32, Error>
         requires { (flags_seen flags).write ≡ true }
-        ensures { Answers self.old (ops.Open path.now (flags_seen flags)) (reply_in ops.Opened result) self.new }
+        ensures answers { Answers self.old (ops.Open path.now (flags_seen flags)) (reply_in ops.Opened result) self.new }
+        ensures survives { SurvivesStops (moment_of self.old) (ops.Open path.now (flags_seen flags)) (moment_of self.new) }
     {
         let found = check_open_writer(alloc, &mut self.tree, &self.files, path, flags)?;
-        if is_held_up(&self.tree, &self.files) {
-            self.tree.fail();
-            return Err(Error::Unsupported);
-        }
         let Ok(owned) = OwnedPath::of(alloc, path) else {
             self.tree.fail();
             return Err(Error::NoMemory);
@@ -254,12 +236,10 @@ impl<D: BlockDevice> Session<D> {
     }
 
     /// Opens a file, for reading or for writing. One file at most is open for writing, and 16 for
-    /// reading.
-    ///
-    /// Opening for writing can't be done yet where something of the image is to be recovered: the
-    /// answer is `Unsupported` then, and the session has failed.
+    /// reading. Where it is opened for writing, what a loss of power left in the image is ended first.
     pub fn open(&mut self, alloc: Global, path: &[u8], flags: OpenFlags) -> Result<u32, Error>
-        ensures { Answers self.old (ops.Open path.now (flags_seen flags)) (reply_in ops.Opened result) self.new }
+        ensures answers { Answers self.old (ops.Open path.now (flags_seen flags)) (reply_in ops.Opened result) self.new }
+        ensures survives { SurvivesStops (moment_of self.old) (ops.Open path.now (flags_seen flags)) (moment_of self.new) }
     {
         if flags.contains(OpenFlags::WRITE) {
             self.open_writer(alloc, path, flags)
@@ -272,7 +252,8 @@ impl<D: BlockDevice> Session<D> {
     /// appends, and says how many; zeros fill a gap. The position is behind them then. They are in
     /// the tree once the file is synced or closed.
     pub fn write(&mut self, alloc: Global, fd: u32, bytes: &[u8]) -> Result<u32, Error>
-        ensures { Answers self.old (ops.Write fd bytes.now) (reply_in ops.Count result) self.new }
+        ensures answers { Answers self.old (ops.Write fd bytes.now) (reply_in ops.Count result) self.new }
+        ensures survives { SurvivesStops (moment_of self.old) (ops.Write fd bytes.now) (moment_of self.new) }
     {
         check_write(&self.tree, &self.files, fd, bytes)?;
         if bytes.is_empty() {
@@ -289,7 +270,8 @@ impl<D: BlockDevice> Session<D> {
     /// Gives a file that is open for writing that many bytes: it is cut, or zeros fill it up. The
     /// position stays.
     pub fn truncate(&mut self, alloc: Global, fd: u32, size: u32) -> Result<(), Error>
-        ensures { Answers self.old (ops.Truncate fd size) (reply_in (λ _. ops.Done) result) self.new }
+        ensures answers { Answers self.old (ops.Truncate fd size) (reply_in (λ _. ops.Done) result) self.new }
+        ensures survives { SurvivesStops (moment_of self.old) (ops.Truncate fd size) (moment_of self.new) }
     {
         check_truncate(&self.tree, &self.files, fd, size)?;
         if self.files.has_size(fd, size) {
@@ -305,7 +287,8 @@ impl<D: BlockDevice> Session<D> {
 
     /// Brings what was written to an open file into the tree. Nothing is to be done for other files.
     pub fn sync(&mut self, alloc: Global, fd: u32) -> Result<(), Error>
-        ensures { Answers self.old (ops.Sync fd) (reply_in (λ _. ops.Done) result) self.new }
+        ensures answers { Answers self.old (ops.Sync fd) (reply_in (λ _. ops.Done) result) self.new }
+        ensures survives { SurvivesStops (moment_of self.old) (ops.Sync fd) (moment_of self.new) }
     {
         check_sync(&self.tree, &self.files, fd)?;
         if !self.files.is_unsaved_at(fd) {
@@ -322,7 +305,8 @@ impl<D: BlockDevice> Session<D> {
     /// The bytes of an open file from its position on, so many at most; fewer where the file ends,
     /// and none behind its end. The position moves on by as many.
     pub fn read(&mut self, alloc: Global, fd: u32, count: u32) -> Result<Vec<u8>, Error>
-        ensures { Answers self.old (ops.Read fd count) (reply_in (λ v. ops.Bytes v.items) result) self.new }
+        ensures answers { Answers self.old (ops.Read fd count) (reply_in (λ v. ops.Bytes v.items) result) self.new }
+        ensures survives { SurvivesStops (moment_of self.old) (ops.Read fd count) (moment_of self.new) }
     {
         if self.tree.has_failed() {
             return Err(Error::Failed);
@@ -344,7 +328,8 @@ impl<D: BlockDevice> Session<D> {
 
     /// Sets the position of an open file.
     pub fn seek(&mut self, fd: u32, position: u32) -> Result<(), Error>
-        ensures { Answers self.old (ops.Seek fd position) (reply_in (λ _. ops.Done) result) self.new }
+        ensures answers { Answers self.old (ops.Seek fd position) (reply_in (λ _. ops.Done) result) self.new }
+        ensures survives { SurvivesStops (moment_of self.old) (ops.Seek fd position) (moment_of self.new) }
     {
         check_seek(&self.tree, &self.files, fd, position)?;
         self.files.seek(fd, position);
@@ -353,7 +338,8 @@ impl<D: BlockDevice> Session<D> {
 
     /// Closes an open file, and brings what was written to it into the tree. Its number is free then.
     pub fn close(&mut self, alloc: Global, fd: u32) -> Result<(), Error>
-        ensures { Answers self.old (ops.Close fd) (reply_in (λ _. ops.Done) result) self.new }
+        ensures answers { Answers self.old (ops.Close fd) (reply_in (λ _. ops.Done) result) self.new }
+        ensures survives { SurvivesStops (moment_of self.old) (ops.Close fd) (moment_of self.new) }
     {
         check_open(&self.tree, &self.files, fd)?;
         if !self.files.is_unsaved_at(fd) {
@@ -370,7 +356,8 @@ impl<D: BlockDevice> Session<D> {
     /// Closes all files, and reads the device anew, after an error too. `Corrupt` where no image is
     /// accepted there; then, and after `Io` and `NoMemory`, the session has failed.
     pub fn remount(&mut self, alloc: Global) -> Result<(), Error>
-        ensures { Answers self.old ops.Remount (reply_in (λ _. ops.Done) result) self.new }
+        ensures answers { Answers self.old ops.Remount (reply_in (λ _. ops.Done) result) self.new }
+        ensures survives { SurvivesStops (moment_of self.old) ops.Remount (moment_of self.new) }
     {
         self.files.clear();
         self.tree.remount(alloc)
@@ -394,7 +381,8 @@ impl<D: BlockDevice> Session<D> {
 
     // One operation. A refusal is a reply; an error leaves a failed session.
     fn perform(&mut self, alloc: Global, op: Op<'_>) -> Result<Reply, Error>
-        ensures { Answers self.old (op_seen op.entry) (performed result) self.new }
+        ensures answers { Answers self.old (op_seen op.entry) (performed result) self.new }
+        ensures survives { SurvivesStops (moment_of self.old) (op_seen op.entry) (moment_of self.new) }
     {
         match op {
             Op::Open(path, flags) => fd(self.open(alloc, path, flags)),
@@ -426,14 +414,23 @@ impl<D: BlockDevice> Session<D> {
         self.tree.fail();
     }
 
+    // Nothing is done: the session has the tree of its disk.
+    fn agrees(&self)
+        ensures { Agrees self.now.tree.disk (moment_of self.now).state }
+    {
+        let _tree = &self.tree;
+    }
+
     /// Carries out operations in turn, a reply for each; a refusal is a reply, too. Where an
     /// operation meets an error, the operations before it were carried out, and the session has
     /// failed.
     pub fn run(&mut self, alloc: Global, ops: &[Op<'_>]) -> Result<Vec<Reply>, Error>
         ensures turns { IfOk result (λ replies. AreTurns (moment_of self.old) (map op_seen ops.now) (map reply_seen replies.items) (moment_of self.new)) }
+        ensures withstood { IfOk result (λ replies. AreWithstood (moment_of self.old) (map op_seen ops.now) (map reply_seen replies.items) (moment_of self.new)) }
         ensures headline { IfOk result (λ replies. IsFresh self.old.tree.disk → (moment_of self.old).state ≡ Healthy (mounted empty_tree) → IsTrue (moment_of self.new)) }
-        ensures stopped { IfErr result (λ e. IsEndedBy e (moment_of self.old) (map op_seen ops.now) (moment_of self.new)) }
+        ensures ended { IfErr result (λ e. IsEndedBy e (moment_of self.old) (map op_seen ops.now) (moment_of self.new)) }
     {
+        self.agrees();
         let mut replies = Vec::new(alloc);
         for op in ops {
             if replies.reserve(1).is_err() {

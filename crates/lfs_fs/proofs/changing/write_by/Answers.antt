@@ -1,7 +1,6 @@
-use Rattle.std.proofs.Common.{◌∙◌, ap, sym}
-use Rattle.std.specs.Prelude.{OnErr}
-use Rattle.lfs_tree.specs.Seen.{IsBroken}
 use Rattle.lfs_fs.proofs.Writing.{beside_later, broken_after, can_write, has_written}
+use Rattle.lfs_fs.proofs.Stopping.{nothing_yet, then_reads}
+use Rattle.lfs_fs.proofs.StoppedCalls.{beside_left}
 use Rattle.lfs_fs.proofs.changing.write_by.Goals as goal
 
 pub write-requires : goal.write-requires
@@ -22,3 +21,14 @@ returns-clause-written g c =
 
 pub returns-clause-beside : goal.returns-clause-beside
 returns-clause-beside g c = beside_later c.args.tree.now c.contents_of.new.tree c.write.new.self c.in_ok-contents.ensures.asked c.in_ok-contents-2.ensures.beside
+
+pub returns-in_err-contents-clause-survives : goal.returns-in_err-contents-clause-survives
+returns-in_err-contents-clause-survives g c sound = then_reads c.args.tree.now c.args.tree.now c.contents_of.new.tree.history _ (nothing_yet c.args.tree.now sound c.requires.can.written.writable) c.in_err-contents.ensures.broken.reads
+
+pub returns-in_err-contents-2-clause-survives : goal.returns-in_err-contents-2-clause-survives
+returns-in_err-contents-2-clause-survives g c sound =
+    beside_left c.args.tree.now c.contents_of.new.tree c.write.new.self c.in_err-contents-2.ensures.broken.calls sound c.requires.can.written.writable c.in_ok-contents.ensures.asked c.in_err-contents-2.ensures.broken.called c.write.ensures.survives
+
+pub returns-clause-survives : goal.returns-clause-survives
+returns-clause-survives g c sound =
+    beside_left c.args.tree.now c.contents_of.new.tree c.write.new.self c.in_ok-contents-2.ensures.beside.calls sound c.requires.can.written.writable c.in_ok-contents.ensures.asked c.in_ok-contents-2.ensures.beside.called c.write.ensures.survives

@@ -1,7 +1,6 @@
-use Rattle.std.proofs.Common.{◌∙◌, ◌||◌, nat_lt, length, unwrap_or, ap, refl, sym}
-use Rattle.lfs_model.specs.Apply.{same_path}
+use Rattle.std.proofs.Common.{◌∙◌, ap, sym}
 use Rattle.lfs_model.specs.Operations as ops
-use Rattle.lfs_model.specs.Session.{is_open_at, lacks}
+use Rattle.lfs_model.specs.Session.{lacks}
 use Rattle.lfs_tree.specs.Seen.{around_of}
 use Rattle.lfs_fs.specs.FileSeen.{files_seen}
 use Rattle.lfs_fs.specs.FlagsSeen.{flags_seen}

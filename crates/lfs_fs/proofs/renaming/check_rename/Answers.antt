@@ -27,7 +27,7 @@ returns g c =
     (c.are_both-5.ensures ∙ ap (λ z. not c.is_same_path-is_same.result && z) c.has_entries.ensures) c.refuse_if-5.ensures (c.is_in_the_way.ensures c.args.tree.now) c.refuse_if-6.ensures
     c.name_len-2.ensures.len c.is_overcharged_with.ensures c.are_both-6.ensures c.refuse_if-7.ensures
     (c.lacks.ensures ∙ lacks_is c.attributes_size.new.self c.args.files.now 2 (ready_later _ _ c.args.files.now (c.requires (sym c.if-has_failed.ensures)) asked) ∙ ap (λ z. lacks (around_of c.attributes_size.new.self) (files_seen z c.args.files.now) 2) asked.same) c.refuse_if-8.ensures
-    (renaming_is c.args.tree.now c.args.old.now c.args.new.now c.in-Some.from c.in-Some-parse_entry.to c.in_ok-target.target c.look_up.new.self _ c.in-Some.ensures c.in-Some-parse_entry.ensures one c.in_ok-target.ensures.found refl refl c.is_same_path-is_same.ensures c.is_directory-3.ensures)
+    (renaming_is c.args.old.now c.args.new.now c.in-Some.from c.in-Some-parse_entry.to _ c.in-Some.ensures c.in-Some-parse_entry.ensures refl refl c.is_same_path-is_same.ensures)
     c.passed.ensures
 
 pub returns-in_err-entry : goal.returns-in_err-entry

@@ -1,7 +1,7 @@
-use Rattle.std.proofs.Common.{◌≡◌, ◌<◌, ◌≤◌, ◌+◌, None, Some, [], length, ap, arith, subst, sym}
-use Rattle.lfs_fs.specs.FileSeen.{entry_of, picked, reader_in, writer_in, writers_in}
+use Rattle.std.proofs.Common.{◌≡◌, ◌<◌, ◌≤◌, Some, [], length, ap, arith, subst, sym}
+use Rattle.lfs_fs.specs.FileSeen.{picked, reader_in, writer_in, writers_in}
 use Rattle.lfs_fs.specs.declared.files.OpenFile.TheVariants as file
-use Rattle.lfs_fs.proofs.OpenFiles.{count_set, few_set, one_of}
+use Rattle.lfs_fs.proofs.OpenFiles.{count_set, few_set}
 use Rattle.lfs_fs.proofs.files.Files.put_back.Goals as goal
 
 pub invariant_of-self : goal.invariant_of-self

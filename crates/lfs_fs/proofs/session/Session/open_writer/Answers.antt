@@ -6,27 +6,24 @@ use Rattle.lfs_fs.specs.FlagsSeen.{flags_seen}
 use Rattle.lfs_fs.specs.FileSeen.{entry_of, writers_in}
 use Rattle.lfs_fs.specs.declared.files.OpenFile.TheVariants as file
 use Rattle.lfs_fs.specs.Replies.{reply_in}
-use Rattle.lfs_fs.specs.Held.{held_of}
+use Rattle.lfs_fs.specs.Held.{held_of, held_with, moment_of}
 use Rattle.lfs_fs.proofs.Answered.{asked_by_checks, checked_ready, ended_call, files_asked, sound_by}
 use Rattle.lfs_fs.proofs.Errors.{given_on}
-use Rattle.lfs_fs.proofs.OpenedWriters.{IsOpenedBy, broken_by_reads, can_begin, can_create, no_writer, opened_new, opened_there, room_made, writer_breaks, writer_opened, writer_ready}
-use Rattle.lfs_fs.proofs.Unsettled.{held_up_answers}
+use Rattle.lfs_fs.proofs.OpenedWriters.{IsOpenedBy, can_begin, can_create, no_writer, opened_new, opened_there, room_made, writer_breaks, writer_opened, writer_ready}
+use Rattle.lfs_model.specs.PowerLoss.{SurvivesStops}
+use Rattle.lfs_fs.proofs.Stopping.{only_read, reads_failing, reads_of_ended}
+use Rattle.lfs_fs.proofs.StoppedCalls.{created_left, opened_left, opening_keeps}
 use Rattle.lfs_fs.proofs.session.Session.open_writer.Goals as goal
 use Rattle.lfs_fs.proofs.session.Session.open_writer.Goals.{in-Some+in_ok-writer-in-Some, in-None+in_ok-writer-in-None}
 
 pub invariant_of-self : goal.invariant_of-self
 invariant_of-self g c = checked_ready c.self.inside.tree c.self.inside.files (ops.Open c.args.path.now (flags_seen c.args.flags)) _ c.check_open_writer.result c.check_open_writer.new.tree c.self.invariant c.check_open_writer.ensures
 
-pub returns-in_err-found : goal.returns-in_err-found
-returns-in_err-found g c =
+pub returns-in_err-found-clause-answers : goal.returns-in_err-found-clause-answers
+returns-in_err-found-clause-answers g c =
     files_asked c.args.self.now (ops.Open c.args.path.now (flags_seen c.args.flags)) (reply_in ops.Opened c.from_residual.result) c.self.inside.tree c.check_open_writer.new.tree c.self.inside.files (asked_by_checks c.self.inside.tree c.self.inside.files (ops.Open c.args.path.now (flags_seen c.args.flags)) _ c.check_open_writer.result c.check_open_writer.new.tree c.check_open_writer.ensures)
     (ended_call (held_of c.self.inside.tree c.self.inside.files) _ (ops.Open c.args.path.now (flags_seen c.args.flags)) ops.Opened _ c.check_open_writer.new.tree c.from_residual.result c.self.view_is (sound_by c.self.inside.tree c.self.inside.files c.self.invariant) refl c.in_err-found.ensures
     (given_on _ c.from_residual.result c.from_residual.ensures.1))
-
-pub returns-then-is_held_up : goal.returns-then-is_held_up
-returns-then-is_held_up g c =
-    let h = c.in_ok-found.ensures in
-    held_up_answers c.self.inside.tree c.check_open_writer.new.tree c.fail.new.self c.self.inside.files _ (ops.Open c.args.path.now (flags_seen c.args.flags)) c.self.view_is c.self.invariant h.0 h.1 (c.is_held_up.ensures.unsupported (ops.Open c.args.path.now (flags_seen c.args.flags)) c.requires c.if-is_held_up.true) c.fail.ensures
 
 pub make_room-requires : goal.make_room-requires
 make_room-requires g c = no_writer c.self.inside.tree c.self.inside.files c.args.path.now (flags_seen c.args.flags) c.requires c.in_ok-found.ensures.1
@@ -34,21 +31,21 @@ make_room-requires g c = no_writer c.self.inside.tree c.self.inside.files c.args
 pub begin_there-requires : goal.begin_there-requires
 begin_there-requires g c =
     let h = c.in_ok-found.ensures in
-    can_begin c.self.inside.tree c.check_open_writer.new.tree c.self.inside.files c.args.path.now (flags_seen c.args.flags) c.in-Ok.owned c.in-Some.size c.self.invariant h.0 h.1 c.requires (c.is_held_up.ensures.settled c.if-is_held_up.false) (c.is_held_up.ensures.saved c.if-is_held_up.false) c.in-Ok.ensures.path (ap (λ p. size_of (tree_seen c.self.inside.tree p)) (c.in-Ok.ensures.path ∙ sym h.2.path) ∙ h.2.size ∙ c.in-Some.is)
+    can_begin c.self.inside.tree c.check_open_writer.new.tree c.self.inside.files c.args.path.now (flags_seen c.args.flags) c.in-Ok.owned c.in-Some.size c.self.invariant h.0 h.1 c.requires c.in-Ok.ensures.path (ap (λ p. size_of (tree_seen c.self.inside.tree p)) (c.in-Ok.ensures.path ∙ sym h.2.path) ∙ h.2.size ∙ c.in-Some.is)
 
-pub returns-in_err-writer-in-Some : goal.returns-in_err-writer-in-Some
-returns-in_err-writer-in-Some g c =
+pub returns-in_err-writer-in-Some-clause-answers : goal.returns-in_err-writer-in-Some-clause-answers
+returns-in_err-writer-in-Some-clause-answers g c =
     let h = c.in_ok-found.ensures in
-    writer_breaks c.self.inside.tree c.check_open_writer.new.tree c.begin_there.new.tree c.self.inside.files _ _ c.args.path.now (flags_seen c.args.flags) _ c.from_residual-in_err-writer-in-Some.result c.self.view_is h.0 h.1 c.requires (broken_by_reads _ _ c.in_err-writer-in-Some.ensures.broken) c.in_err-writer-in-Some.ensures.errors
+    writer_breaks c.self.inside.tree c.check_open_writer.new.tree c.begin_there.new.tree c.self.inside.files _ _ c.args.path.now (flags_seen c.args.flags) _ c.from_residual-in_err-writer-in-Some.result c.self.view_is h.0 h.1 c.requires c.in_err-writer-in-Some.ensures.broken c.in_err-writer-in-Some.ensures.errors
     (given_on _ c.from_residual-in_err-writer-in-Some.result c.from_residual-in_err-writer-in-Some.ensures.1)
 
 pub begin_new-requires : goal.begin_new-requires
 begin_new-requires g c =
     let h = c.in_ok-found.ensures in
-    can_create c.self.inside.tree c.check_open_writer.new.tree c.self.inside.files c.args.path.now (flags_seen c.args.flags) c.in-Ok.owned c.self.invariant h.0 h.1 c.requires (c.is_held_up.ensures.settled c.if-is_held_up.false) (c.is_held_up.ensures.saved c.if-is_held_up.false) c.in-Ok.ensures.path (ap (λ p. size_of (tree_seen c.self.inside.tree p)) (c.in-Ok.ensures.path ∙ sym h.2.path) ∙ h.2.size ∙ c.in-None.is)
+    can_create c.self.inside.tree c.check_open_writer.new.tree c.self.inside.files c.args.path.now (flags_seen c.args.flags) c.in-Ok.owned c.self.invariant h.0 h.1 c.requires c.in-Ok.ensures.path (ap (λ p. size_of (tree_seen c.self.inside.tree p)) (c.in-Ok.ensures.path ∙ sym h.2.path) ∙ h.2.size ∙ c.in-None.is)
 
-pub returns-in_err-writer-in-None : goal.returns-in_err-writer-in-None
-returns-in_err-writer-in-None g c =
+pub returns-in_err-writer-in-None-clause-answers : goal.returns-in_err-writer-in-None-clause-answers
+returns-in_err-writer-in-None-clause-answers g c =
     let h = c.in_ok-found.ensures in
     writer_breaks c.self.inside.tree c.check_open_writer.new.tree c.begin_new.new.tree c.self.inside.files _ _ c.args.path.now (flags_seen c.args.flags) _ c.from_residual-in_err-writer-in-None.result c.self.view_is h.0 h.1 c.requires c.in_err-writer-in-None.ensures.broken c.in_err-writer-in-None.ensures.errors
     (given_on _ c.from_residual-in_err-writer-in-None.result c.from_residual-in_err-writer-in-None.ensures.1)
@@ -74,8 +71,8 @@ invariant_of-self-2 g c = λ works.
     let h = c.in_ok-found.ensures in
     let opened : IsOpenedBy c.self.inside.tree c.self.inside.files c.args.path.now (flags_seen c.args.flags) c.match-found.self-inside.tree c.match-found.writer = elim c.match-found.branch [
       | in-Some+in_ok-writer-in-Some w ↦ subst (λ i. IsOpenedBy c.self.inside.tree c.self.inside.files c.args.path.now (flags_seen c.args.flags) i.tree c.match-found.writer) (sym w.self-inside-is) (subst (λ x. IsOpenedBy c.self.inside.tree c.self.inside.files c.args.path.now (flags_seen c.args.flags) w.begin_there.new.tree x) (sym w.writer-is)
-          (opened_there c.self.inside.tree c.check_open_writer.new.tree w.begin_there.new.tree c.self.inside.files c.args.path.now (flags_seen c.args.flags) _ c.in-Ok.owned w.in-Some.size c.self.invariant h.0 h.1 c.requires (c.is_held_up.ensures.settled c.if-is_held_up.false) c.in-Ok.ensures.path (ap (λ p. size_of (tree_seen c.self.inside.tree p)) (c.in-Ok.ensures.path ∙ sym h.2.path) ∙ h.2.size ∙ w.in-Some.is)
-          w.in_ok-writer-in-Some.ensures.same w.in_ok-writer-in-Some.ensures.begun))
+          (opened_there c.self.inside.tree c.check_open_writer.new.tree w.begin_there.new.tree c.self.inside.files c.args.path.now (flags_seen c.args.flags) _ c.in-Ok.owned w.in-Some.size c.self.invariant h.0 h.1 c.requires c.in-Ok.ensures.path (ap (λ p. size_of (tree_seen c.self.inside.tree p)) (c.in-Ok.ensures.path ∙ sym h.2.path) ∙ h.2.size ∙ w.in-Some.is)
+          w.in_ok-writer-in-Some.ensures.recovered w.in_ok-writer-in-Some.ensures.begun))
       | in-None+in_ok-writer-in-None w ↦ subst (λ i. IsOpenedBy c.self.inside.tree c.self.inside.files c.args.path.now (flags_seen c.args.flags) i.tree c.match-found.writer) (sym w.self-inside-is) (subst (λ x. IsOpenedBy c.self.inside.tree c.self.inside.files c.args.path.now (flags_seen c.args.flags) w.begin_new.new.tree x) (sym w.writer-is)
           (opened_new c.self.inside.tree c.check_open_writer.new.tree w.begin_new.new.tree c.self.inside.files c.args.path.now (flags_seen c.args.flags) _ c.in-Ok.owned c.self.invariant h.0 h.1 c.requires c.in-Ok.ensures.path (ap (λ p. size_of (tree_seen c.self.inside.tree p)) (c.in-Ok.ensures.path ∙ sym h.2.path) ∙ h.2.size ∙ w.in-None.is)
           (w.in_ok-writer-in-None.ensures.made c.args.path.now (flags_seen c.args.flags) (sym c.in-Ok.ensures.path) c.requires) w.in_ok-writer-in-None.ensures.begun))
@@ -84,14 +81,14 @@ invariant_of-self-2 g c = λ works.
     writer_ready c.self.inside.tree c.match-found.self-inside.tree c.self.inside.files c.put_back.new.self c.args.path.now (flags_seen c.args.flags) c.match-found.writer opened (no_writer c.self.inside.tree c.self.inside.files c.args.path.now (flags_seen c.args.flags) c.requires c.in_ok-found.ensures.1) (room.alone c.match-found.writer)
     (c.put_back.ensures ∙ ap (λ xs. set xs c.in-Ok-make_room.number (Some (file.Writing c.match-found.writer))) stay ∙ room.filled c.match-found.writer)
 
-pub returns : goal.returns
-returns g c =
+pub returns-clause-answers : goal.returns-clause-answers
+returns-clause-answers g c =
     let stay : c.match-found.self-inside.files ≡ c.make_room.new.self = elim c.match-found.branch [ in-Some+in_ok-writer-in-Some w ↦ ap (λ i. i.files) w.self-inside-is | in-None+in_ok-writer-in-None w ↦ ap (λ i. i.files) w.self-inside-is ] in
     let h = c.in_ok-found.ensures in
     let opened : IsOpenedBy c.self.inside.tree c.self.inside.files c.args.path.now (flags_seen c.args.flags) c.match-found.self-inside.tree c.match-found.writer = elim c.match-found.branch [
       | in-Some+in_ok-writer-in-Some w ↦ subst (λ i. IsOpenedBy c.self.inside.tree c.self.inside.files c.args.path.now (flags_seen c.args.flags) i.tree c.match-found.writer) (sym w.self-inside-is) (subst (λ x. IsOpenedBy c.self.inside.tree c.self.inside.files c.args.path.now (flags_seen c.args.flags) w.begin_there.new.tree x) (sym w.writer-is)
-          (opened_there c.self.inside.tree c.check_open_writer.new.tree w.begin_there.new.tree c.self.inside.files c.args.path.now (flags_seen c.args.flags) _ c.in-Ok.owned w.in-Some.size c.self.invariant h.0 h.1 c.requires (c.is_held_up.ensures.settled c.if-is_held_up.false) c.in-Ok.ensures.path (ap (λ p. size_of (tree_seen c.self.inside.tree p)) (c.in-Ok.ensures.path ∙ sym h.2.path) ∙ h.2.size ∙ w.in-Some.is)
-          w.in_ok-writer-in-Some.ensures.same w.in_ok-writer-in-Some.ensures.begun))
+          (opened_there c.self.inside.tree c.check_open_writer.new.tree w.begin_there.new.tree c.self.inside.files c.args.path.now (flags_seen c.args.flags) _ c.in-Ok.owned w.in-Some.size c.self.invariant h.0 h.1 c.requires c.in-Ok.ensures.path (ap (λ p. size_of (tree_seen c.self.inside.tree p)) (c.in-Ok.ensures.path ∙ sym h.2.path) ∙ h.2.size ∙ w.in-Some.is)
+          w.in_ok-writer-in-Some.ensures.recovered w.in_ok-writer-in-Some.ensures.begun))
       | in-None+in_ok-writer-in-None w ↦ subst (λ i. IsOpenedBy c.self.inside.tree c.self.inside.files c.args.path.now (flags_seen c.args.flags) i.tree c.match-found.writer) (sym w.self-inside-is) (subst (λ x. IsOpenedBy c.self.inside.tree c.self.inside.files c.args.path.now (flags_seen c.args.flags) w.begin_new.new.tree x) (sym w.writer-is)
           (opened_new c.self.inside.tree c.check_open_writer.new.tree w.begin_new.new.tree c.self.inside.files c.args.path.now (flags_seen c.args.flags) _ c.in-Ok.owned c.self.invariant h.0 h.1 c.requires c.in-Ok.ensures.path (ap (λ p. size_of (tree_seen c.self.inside.tree p)) (c.in-Ok.ensures.path ∙ sym h.2.path) ∙ h.2.size ∙ w.in-None.is)
           (w.in_ok-writer-in-None.ensures.made c.args.path.now (flags_seen c.args.flags) (sym c.in-Ok.ensures.path) c.requires) w.in_ok-writer-in-None.ensures.begun))
@@ -99,3 +96,45 @@ returns g c =
     let room = (room_made c.self.inside.files c.make_room.new.self c.in-Ok-make_room.number (no_writer c.self.inside.tree c.self.inside.files c.args.path.now (flags_seen c.args.flags) c.requires c.in_ok-found.ensures.1) c.in-Ok-make_room.ensures.number c.in-Ok-make_room.ensures.room) in
     writer_opened c.self.inside.tree c.match-found.self-inside.tree c.self.inside.files c.put_back.new.self _ c.args.path.now (flags_seen c.args.flags) c.match-found.writer c.in-Ok-make_room.number c.self.view_is opened c.requires (no_writer c.self.inside.tree c.self.inside.files c.args.path.now (flags_seen c.args.flags) c.requires c.in_ok-found.ensures.1) c.in-Ok-make_room.ensures.number
     (c.put_back.ensures ∙ ap (λ xs. set xs c.in-Ok-make_room.number (Some (file.Writing c.match-found.writer))) stay ∙ room.filled c.match-found.writer)
+
+-- where power is lost
+pub returns-in_err-found-clause-survives : goal.returns-in_err-found-clause-survives
+returns-in_err-found-clause-survives g c =
+    only_read (held_of c.self.inside.tree c.self.inside.files) _ (ops.Open c.args.path.now (flags_seen c.args.flags)) c.check_open_writer.new.tree c.self.view_is (sound_by c.self.inside.tree c.self.inside.files c.self.invariant) (reads_of_ended (held_of c.self.inside.tree c.self.inside.files) (ops.Open c.args.path.now (flags_seen c.args.flags)) _ c.check_open_writer.new.tree c.in_err-found.ensures)
+
+pub returns-in_default-clause-survives : goal.returns-in_default-clause-survives
+returns-in_default-clause-survives g c =
+    only_read (held_of c.self.inside.tree c.self.inside.files) _ (ops.Open c.args.path.now (flags_seen c.args.flags)) c.fail.new.self c.self.view_is (sound_by c.self.inside.tree c.self.inside.files c.self.invariant) (reads_failing c.self.inside.tree c.check_open_writer.new.tree c.fail.new.self c.fail.ensures c.in_ok-found.ensures.0.reads)
+
+pub returns-in_default-make_room-clause-survives : goal.returns-in_default-make_room-clause-survives
+returns-in_default-make_room-clause-survives g c =
+    only_read (held_of c.self.inside.tree c.self.inside.files) _ (ops.Open c.args.path.now (flags_seen c.args.flags)) c.fail-in_default-make_room.new.self c.self.view_is (sound_by c.self.inside.tree c.self.inside.files c.self.invariant) (reads_failing c.self.inside.tree c.check_open_writer.new.tree c.fail-in_default-make_room.new.self c.fail-in_default-make_room.ensures c.in_ok-found.ensures.0.reads)
+
+pub returns-in_err-writer-in-Some-clause-survives : goal.returns-in_err-writer-in-Some-clause-survives
+returns-in_err-writer-in-Some-clause-survives g c =
+    let h = c.in_ok-found.ensures in
+    opened_left c.self.inside.tree c.check_open_writer.new.tree c.begin_there.new.tree c.self.inside.files _ c.args.path.now (flags_seen c.args.flags) c.in-Ok.owned _ c.self.view_is c.self.invariant
+    (opening_keeps c.self.inside.tree c.check_open_writer.new.tree c.self.inside.files c.args.path.now (flags_seen c.args.flags) c.self.invariant h.0 h.1 c.requires) h.1 c.in-Ok.ensures.path (ap (λ p. size_of (tree_seen c.self.inside.tree p)) (c.in-Ok.ensures.path ∙ sym h.2.path) ∙ h.2.size ∙ c.in-Some.is)
+    (c.in_err-writer-in-Some.ensures.broken.calls, c.in_err-writer-in-Some.ensures.broken.called) c.begin_there.ensures.survives
+
+pub returns-in_err-writer-in-None-clause-survives : goal.returns-in_err-writer-in-None-clause-survives
+returns-in_err-writer-in-None-clause-survives g c =
+    let h = c.in_ok-found.ensures in
+    created_left c.self.inside.tree c.check_open_writer.new.tree c.begin_new.new.tree c.self.inside.files _ c.args.path.now (flags_seen c.args.flags) c.in-Ok.owned c.self.view_is c.self.invariant
+    (opening_keeps c.self.inside.tree c.check_open_writer.new.tree c.self.inside.files c.args.path.now (flags_seen c.args.flags) c.self.invariant h.0 h.1 c.requires) h.1 c.requires c.in-Ok.ensures.path (ap (λ p. size_of (tree_seen c.self.inside.tree p)) (c.in-Ok.ensures.path ∙ sym h.2.path) ∙ h.2.size ∙ c.in-None.is)
+    (c.in_err-writer-in-None.ensures.broken.calls, c.in_err-writer-in-None.ensures.broken.called) c.begin_new.ensures.survives
+
+pub returns-clause-survives : goal.returns-clause-survives
+returns-clause-survives g c =
+    let h = c.in_ok-found.ensures in
+    elim c.match-found.branch [
+      | in-Some+in_ok-writer-in-Some w ↦ subst (λ i. SurvivesStops (moment_of c.args.self.now) (ops.Open c.args.path.now (flags_seen c.args.flags)) (moment_of (held_with i.tree []))) (sym w.self-inside-is)
+          (opened_left c.self.inside.tree c.check_open_writer.new.tree w.begin_there.new.tree c.self.inside.files _ c.args.path.now (flags_seen c.args.flags) c.in-Ok.owned _ c.self.view_is c.self.invariant
+          (opening_keeps c.self.inside.tree c.check_open_writer.new.tree c.self.inside.files c.args.path.now (flags_seen c.args.flags) c.self.invariant h.0 h.1 c.requires) h.1 c.in-Ok.ensures.path (ap (λ p. size_of (tree_seen c.self.inside.tree p)) (c.in-Ok.ensures.path ∙ sym h.2.path) ∙ h.2.size ∙ w.in-Some.is)
+          (w.in_ok-writer-in-Some.ensures.recovered.calls, w.in_ok-writer-in-Some.ensures.recovered.called) w.begin_there.ensures.survives)
+      | in-None+in_ok-writer-in-None w ↦ subst (λ i. SurvivesStops (moment_of c.args.self.now) (ops.Open c.args.path.now (flags_seen c.args.flags)) (moment_of (held_with i.tree []))) (sym w.self-inside-is)
+          (let made = w.in_ok-writer-in-None.ensures.made c.args.path.now (flags_seen c.args.flags) (sym c.in-Ok.ensures.path) c.requires in
+          created_left c.self.inside.tree c.check_open_writer.new.tree w.begin_new.new.tree c.self.inside.files _ c.args.path.now (flags_seen c.args.flags) c.in-Ok.owned c.self.view_is c.self.invariant
+          (opening_keeps c.self.inside.tree c.check_open_writer.new.tree c.self.inside.files c.args.path.now (flags_seen c.args.flags) c.self.invariant h.0 h.1 c.requires) h.1 c.requires c.in-Ok.ensures.path (ap (λ p. size_of (tree_seen c.self.inside.tree p)) (c.in-Ok.ensures.path ∙ sym h.2.path) ∙ h.2.size ∙ w.in-None.is)
+          (made.calls, made.called) w.begin_new.ensures.survives)
+    ]

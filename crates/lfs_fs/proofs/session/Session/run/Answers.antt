@@ -1,22 +1,33 @@
-use Rattle.std.proofs.Common.{rules, arith}
+use Rattle.std.proofs.Common.{rules, arith, get_or}
+use Rattle.lfs_model.proofs.AfterStops.{withstood_turns}
 use Rattle.lfs_model.proofs.Turns.{fresh_turns}
 use Rattle.lfs_fs.specs.Held.{moment_of}
+use Rattle.lfs_fs.specs.OpSeen.{op_seen}
 use Rattle.lfs_fs.proofs.Failing.{memory_fails_now}
-use Rattle.lfs_fs.proofs.Running.{first_op, run_further, run_ended, run_cut}
+use Rattle.lfs_fs.proofs.Running.{first_op}
+use Rattle.lfs_fs.proofs.Stopping.{failing_survives}
+use Rattle.lfs_fs.proofs.Withstanding.{run_further, run_ended, run_cut}
 use Rattle.lfs_fs.proofs.session.Session.run.Goals as goal
 
 pub loop-op-preserved : goal.loop-op-preserved
 loop-op-preserved g c =
-    run_further c.args.ops.now c.loop-op.op-index _ c.loop-op.replies.items c.push_reserved.new.self.items c.in-Ok.reply _ _ _ c.loop-op-test.true c.loop-op.invariant c.in-Ok.ensures (search rules)
+    run_further c.args.ops.now c.loop-op.op-index _ c.loop-op.replies.items c.push_reserved.new.self.items c.in-Ok.reply _ _ _ c.loop-op-test.true c.agrees.ensures c.loop-op.invariant c.in-Ok.ensures.answers c.perform.ensures.survives (search rules)
 
-pub returns-in-Err-clause-stopped : goal.returns-in-Err-clause-stopped
-returns-in-Err-clause-stopped g c = run_cut _ c.args.ops.now c.loop-op.op-index _ c.loop-op.replies.items _ _ _ c.loop-op-test.true c.loop-op.invariant c.in-Err.ensures
+pub returns-in-Err-clause-ended : goal.returns-in-Err-clause-ended
+returns-in-Err-clause-ended g c = run_cut _ c.args.ops.now c.loop-op.op-index _ c.loop-op.replies.items _ _ _ c.loop-op-test.true c.loop-op.invariant c.in-Err.ensures.answers c.perform.ensures.survives
 
-pub returns-then-is_err-clause-stopped : goal.returns-then-is_err-clause-stopped
-returns-then-is_err-clause-stopped g c =
+pub returns-then-is_err-clause-ended : goal.returns-then-is_err-clause-ended
+returns-then-is_err-clause-ended g c =
     run_cut _ c.args.ops.now c.loop-op.op-index (first_op c.args.ops.now c.loop-op.op-index c.loop-op-test.true) c.loop-op.replies.items _ _ _ c.loop-op-test.true c.loop-op.invariant (memory_fails_now c.loop-op.self c.fail.new.self _ c.fail.ensures)
+    (failing_survives c.loop-op.self c.fail.new.self (op_seen (get_or c.args.ops.now c.loop-op.op-index (first_op c.args.ops.now c.loop-op.op-index c.loop-op-test.true))) c.fail.ensures)
+
+pub returns-clause-withstood : goal.returns-clause-withstood
+returns-clause-withstood g c = run_ended c.args.ops.now c.loop-op.op-index c.loop-op.replies.items _ _ (omega arith) c.loop-op.invariant
+
+pub returns-clause-turns : goal.returns-clause-turns
+returns-clause-turns g c = withstood_turns _ _ _ _ (run_ended c.args.ops.now c.loop-op.op-index c.loop-op.replies.items (moment_of c.args.self.now) (moment_of c.loop-op.self) (omega arith) c.loop-op.invariant)
 
 pub returns-clause-headline : goal.returns-clause-headline
 returns-clause-headline g c fresh state =
     fresh_turns _ _ (moment_of c.args.self.now) (moment_of c.loop-op.self) fresh state
-    (run_ended c.args.ops.now c.loop-op.op-index c.loop-op.replies.items _ _ (omega arith) c.loop-op.invariant)
+    (withstood_turns _ _ _ _ (run_ended c.args.ops.now c.loop-op.op-index c.loop-op.replies.items _ _ (omega arith) c.loop-op.invariant))

@@ -3,19 +3,20 @@ use Rattle.lfs_model.specs.Operations as ops
 use Rattle.lfs_model.specs.Run.{IsTurn}
 use Rattle.lfs_fs.specs.FileSeen.{entry_of, writers_in}
 use Rattle.lfs_fs.specs.Held.{IsReady, held_of, moment_of}
-use Rattle.lfs_fs.proofs.Answered.{ended_kept, sound_by}
+use Rattle.lfs_fs.proofs.Answered.{ended_kept, sound_by, not_failed}
 use Rattle.lfs_fs.proofs.Errors.{given_on}
 use Rattle.lfs_fs.proofs.Truncating.{length_left, let_go, put_again, ready_with, some_writer}
 use Rattle.lfs_fs.proofs.WrittenTurns.{alone, can_now, few_bytes, nothing_put, some_put}
+use Rattle.lfs_fs.proofs.Stopping.{kept_call, tree_changed}
 use Rattle.lfs_fs.proofs.session.Session.write.Goals as goal
 
-pub returns-in_err-check_write : goal.returns-in_err-check_write
-returns-in_err-check_write g c =
+pub returns-in_err-check_write-clause-answers : goal.returns-in_err-check_write-clause-answers
+returns-in_err-check_write-clause-answers g c =
     ended_kept (held_of c.self.inside.tree c.self.inside.files) _ (ops.Write c.args.fd c.args.bytes.now) (λ x. ops.Count x) _ c.from_residual.result c.self.view_is (sound_by c.self.inside.tree c.self.inside.files c.self.invariant) refl c.in_err-check_write.ensures
     (given_on _ c.from_residual.result c.from_residual.ensures.1)
 
-pub returns-then-is_empty : goal.returns-then-is_empty
-returns-then-is_empty g c =
+pub returns-then-is_empty-clause-answers : goal.returns-then-is_empty-clause-answers
+returns-then-is_empty-clause-answers g c =
     let h = c.in_ok-check_write.ensures in
     let w = some_writer c.self.inside.files c.args.fd h.1 in
     nothing_put c.self.inside.tree c.self.inside.files c.args.fd c.args.bytes.now _ w.0 c.self.view_is c.self.invariant h.0 w.1 (sym c.is_empty.ensures ∙ c.if-is_empty.true)
@@ -51,9 +52,28 @@ invariant_of-self-2 g c f =
     subst (IsReady c.write_by.new.tree) (sym (put_again c.self.inside.files c.take.new.self c.put_back.new.self c.args.fd c.in_ok-writer.writer c.take.ensures.left c.put_back.ensures))
     (ready_with c.self.inside.tree c.write_by.new.tree c.self.inside.files c.args.fd c.in-Some-Writing.writer c.in_ok-writer.writer _ all c.in_ok-writer.ensures.written c.in_ok-writer.ensures.beside)
 
-pub returns : goal.returns
-returns g c =
+pub returns-clause-answers : goal.returns-clause-answers
+returns-clause-answers g c =
     let e = sym c.take.ensures.file ∙ c.in-Some-Writing.is ∙ ap Some c.in-Some-Writing.field-0-is in
     subst (λ xs. IsTurn (moment_of c.args.self.now) (ops.Write c.args.fd c.args.bytes.now) (ops.Count (length c.args.bytes.now)) (moment_of (held_of c.write_by.new.tree xs)))
     (sym (put_again c.self.inside.files c.take.new.self c.put_back.new.self c.args.fd c.in_ok-writer.writer c.take.ensures.left c.put_back.ensures))
     (some_put c.self.inside.tree c.write_by.new.tree c.self.inside.files c.args.fd c.args.bytes.now _ c.in-Some-Writing.writer c.in_ok-writer.writer c.self.view_is c.self.invariant c.in_ok-check_write.ensures.0 e c.in_ok-writer.ensures.written c.in_ok-writer.ensures.beside)
+
+-- where power is lost
+pub returns-in_err-check_write-clause-survives : goal.returns-in_err-check_write-clause-survives
+returns-in_err-check_write-clause-survives g c =
+    kept_call (held_of c.self.inside.tree c.self.inside.files) _ (ops.Write c.args.fd c.args.bytes.now) c.self.view_is (sound_by c.self.inside.tree c.self.inside.files c.self.invariant)
+
+pub returns-then-is_empty-clause-survives : goal.returns-then-is_empty-clause-survives
+returns-then-is_empty-clause-survives g c =
+    kept_call (held_of c.self.inside.tree c.self.inside.files) _ (ops.Write c.args.fd c.args.bytes.now) c.self.view_is (sound_by c.self.inside.tree c.self.inside.files c.self.invariant)
+
+pub returns-in_err-writer-clause-survives : goal.returns-in_err-writer-clause-survives
+returns-in_err-writer-clause-survives g c =
+    tree_changed (held_of c.self.inside.tree c.self.inside.files) _ (ops.Write c.args.fd c.args.bytes.now) c.write_by.new.tree _ c.self.view_is (sound_by c.self.inside.tree c.self.inside.files c.self.invariant) c.in_ok-check_write.ensures.0
+    (c.write_by.ensures.survives (sound_by c.self.inside.tree c.self.inside.files c.self.invariant (not_failed (held_of c.self.inside.tree c.self.inside.files) (ops.Write c.args.fd c.args.bytes.now) c.in_ok-check_write.ensures.0))) refl
+
+pub returns-clause-survives : goal.returns-clause-survives
+returns-clause-survives g c =
+    tree_changed (held_of c.self.inside.tree c.self.inside.files) _ (ops.Write c.args.fd c.args.bytes.now) c.write_by.new.tree _ c.self.view_is (sound_by c.self.inside.tree c.self.inside.files c.self.invariant) c.in_ok-check_write.ensures.0
+    (c.write_by.ensures.survives (sound_by c.self.inside.tree c.self.inside.files c.self.invariant (not_failed (held_of c.self.inside.tree c.self.inside.files) (ops.Write c.args.fd c.args.bytes.now) c.in_ok-check_write.ensures.0))) refl

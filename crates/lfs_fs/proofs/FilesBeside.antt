@@ -1,0 +1,52 @@
+-- Files beside a path at which nothing has names.
+use Rattle.std.proofs.Common.{ℕ, ◌≡◌, ◌||◌, ◌++◌, ◌∙◌, Bool, true, false, cond, List, [], ◌∷◌, length, map, Option, Some, None, is_some, refl, sym, ap, arith, append-nil}
+use Rattle.std.specs.Option.{option_and_then, option_map}
+use Rattle.lfs_model.specs.Apply.{is_file, names_of, rest_after, same_path}
+use Rattle.lfs_model.specs.Slots.{Slot, Struct, Inline, Ctz, Branch}
+use Rattle.lfs_model.specs.Tree.{Entries, Path, branch_of, node_of, root_slot, slot_at, tree_from}
+use Rattle.lfs_model.specs.Thread.{root_of}
+use Rattle.lfs_model.specs.View.{contents_in, entries_in}
+use Rattle.lfs_model.proofs.Paths.{path_itself, rest_from}
+use Rattle.lfs_model.proofs.Walks.{IsLeaf, leaf_walk, walk_append}
+use Rattle.lfs_tree.specs.Seen.{Seen, tree_seen}
+
+-- ---- nothing is beneath what has no names
+
+module _ (c : ℕ → ℕ → List ℕ) (E : Entries) where
+  leaf : (u : Slot) (attributes : List (ℕ × List ℕ)) (s : Struct) → u.struct ≡ s → length (names_of (Some (node_of c E attributes s))) ≡ 0 → IsLeaf E u
+  leaf u attributes (Inline bytes) e l x b = absurd (let k = sym (ap branch_of e) ∙ b in cc)
+  leaf u attributes (Ctz head size) e l x b = absurd (let k = sym (ap branch_of e) ∙ b in cc)
+  leaf u attributes (Branch to) e l x b = let k : Some to ≡ Some x = sym (ap branch_of e) ∙ b in bare (E to) (E x) (ap E (let i : to ≡ x = cc in i)) l
+    where
+      bare : (xs ys : List Slot) → xs ≡ ys → length (map (λ (s : Slot). s.name) xs) ≡ 0 → ys ≡ []
+      bare [] ys e l = sym e
+      bare (x ∷ xs) ys e l = absurd (omega arith)
+
+  pub bare_beneath : (s : Slot) (P : Path) (m : List ℕ) (r : Path) → length (names_of (tree_from c E s P)) ≡ 0 → tree_from c E s (P ++ m ∷ r) ≡ None
+  bare_beneath s P m r l = ap (option_map (λ u. node_of c E u.attributes u.struct)) (walk_append E s P (m ∷ r) ∙ go (slot_at E s P) l)
+    where
+      go : (o : Option Slot) → length (names_of (option_map (λ (u : Slot). node_of c E u.attributes u.struct) o)) ≡ 0 → option_and_then (λ u. slot_at E u (m ∷ r)) o ≡ None
+      go None h = refl
+      go (Some u) h = leaf_walk E u (leaf u u.attributes u.struct refl h) m r
+
+pub or_false : (a b : Bool) → (a || b) ≡ false → (a ≡ false) × (b ≡ false)
+or_false true b e = absurd (cc)
+or_false false b e = (refl, e)
+
+pub not_some : {A : Type 0} (b : Bool) (x : A) → is_some (cond b (Some x) None) ≡ false → b ≡ false
+not_some true x e = absurd (cc)
+not_some false x e = refl
+
+pub none_there : {A : Type 0} (o : Option A) → is_some o ≡ false → o ≡ None
+none_there None e = refl
+none_there (Some x) e = absurd (cc)
+
+-- a file that is there isn't beneath the path
+pub beside : (t : Seen) (q x : Path) → length (names_of (tree_seen t q)) ≡ 0 → is_file (tree_seen t x) ≡ true → same_path q x ≡ false → rest_after q x ≡ None
+beside t q x bare there apart = go (rest_after q x) refl
+  where
+    go : (o : Option Path) → rest_after q x ≡ o → o ≡ None
+    go None e = refl
+    go (Some []) e = absurd (let k = sym apart ∙ ap (same_path q) (rest_from q x [] e ∙ append-nil q) ∙ path_itself q in cc)
+    go (Some (m ∷ r)) e =
+        absurd (let k = sym there ∙ ap (λ y. is_file (tree_seen t y)) (rest_from q x (m ∷ r) e) ∙ ap is_file (bare_beneath (contents_in t.disk) (entries_in t.pairs) (root_slot (root_of t.pairs)) q m r bare) in cc)

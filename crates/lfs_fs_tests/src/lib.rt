@@ -18,6 +18,10 @@ mod image;
 #[cfg(test)]
 mod images;
 #[cfg(test)]
+mod kept;
+#[cfg(test)]
+mod long;
+#[cfg(test)]
 mod many;
 #[cfg(test)]
 mod played;

@@ -1,12 +1,12 @@
 // How often the device is read.
 
-use crate::answers::Answer::{Done, Items, Stat as StatIs};
+use crate::answers::Answer::{Done, Fd, Items, Stat as StatIs};
 use crate::answers::Row;
 use crate::begun::{Start, device_of, formatted, mounted};
 use crate::played::wrong_at_once;
 use lfs_device::{Error, FaultDevice, RamDevice, Which};
-use lfs_fs::Op::{List, Mkdir, Remount, Stat};
-use lfs_fs::Session;
+use lfs_fs::Op::{List, Mkdir, Open, Remount, Stat};
+use lfs_fs::{OpenFlags, Session};
 use std::alloc::Global;
 use std::test::Fail;
 
@@ -62,5 +62,24 @@ fn too_many(alloc: Global) -> Result<Option<usize>, Error> {
 #[test]
 fn pairs_are_read_once(rt: HostRuntime) -> Result<(), Fail> {
     assert_eq!(rt; too_many(rt.alloc()), Ok(None));
+    Ok(())
+}
+
+// How many reads a new file takes in the last of 40 directories: fewer than there are pairs.
+fn reads_of_new_file(alloc: Global) -> Result<Option<u64>, Error> {
+    let mut session = counted(alloc, Start::Fresh(1024, 128, 256))?;
+    for tens in b'1'..b'5' {
+        for ones in b'0'..=b'9' {
+            session.mkdir(alloc, &[b'/', tens, ones])?;
+        }
+    }
+    let new = OpenFlags::WRITE | OpenFlags::CREATE;
+    reads_of(alloc, &mut session, &[(Open(b"/49/f", new), Fd(0))])
+}
+
+#[test]
+fn a_new_file_reads_few_pairs(rt: HostRuntime) -> Result<(), Fail> {
+    let reads = reads_of_new_file(rt.alloc())?;
+    assert!(rt; reads.is_some_and(|reads| reads <= 30), "{reads:?}");
     Ok(())
 }

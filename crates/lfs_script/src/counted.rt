@@ -53,6 +53,8 @@ impl<D: BlockDevice> BlockDevice for Counted<D> {
 
     ghost bytes = { λ d. D.bytes d.inner };
 
+    ghost newest = { λ d. D.newest d.inner };
+
     fn geometry(&self) -> Geometry {
         self.inner.geometry()
     }

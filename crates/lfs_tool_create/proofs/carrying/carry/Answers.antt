@@ -11,4 +11,4 @@ pub returns-in-None : goal.returns-in-None
 returns-in-None c =
     subst (λ operations. Carries (moment_of c.args.session.now) operations c.mkdir.result (moment_of c.mkdir.new.self))
     (ap₂ (λ (path : List ℕ) (bytes : Option _). operations_for path (node_by (items_by bytes))) c.deref-in-None.ensures.value (sym c.in-None.is))
-    (carries_one c.args.session.now c.mkdir.new.self (ops.Mkdir c.deref-in-None.result.now) ops.Done c.mkdir.result refl c.mkdir.ensures)
+    (carries_one c.args.session.now c.mkdir.new.self (ops.Mkdir c.deref-in-None.result.now) ops.Done c.mkdir.result refl c.mkdir.ensures.answers)

@@ -4,7 +4,7 @@ use Rattle.std.proofs.lemmas.Bool.{cases_lt}
 use Rattle.std.specs.Int.{w32, trailing_zeros}
 use Rattle.std.proofs.lemmas.List.{get_or_at, get_or_append_left}
 use Rattle.lfs_model.specs.Blocks.{Blocks, block_in}
-use Rattle.lfs_model.specs.Lists.{word_at, pointers_of, blocks_back, blocks_for, IsChain, IsList}
+use Rattle.lfs_model.specs.SkipLists.{word_at, pointers_of, blocks_back, blocks_for, AreListBlocks, IsList}
 
 pub length_back : (d : Blocks) (n head : ℕ) → length (blocks_back d n head) ≡ n
 length_back d zero head = refl
@@ -22,17 +22,17 @@ pub pointers_of-pos : (i : ℕ) → 0 < i → pointers_of i ≡ trailing_zeros w
 pointers_of-pos zero some = absurd (omega arith)
 pointers_of-pos (suc i) some = refl
 
-pub chain_of_list : {d : Blocks} {block_size head size : ℕ} → IsList d block_size head size → IsChain d (blocks_for block_size size) head
+pub chain_of_list : {d : Blocks} {block_size head size : ℕ} → IsList d block_size head size → AreListBlocks d (blocks_for block_size size) head
 chain_of_list l = record { in_range = l.in_range; distinct = l.distinct; pointers = l.pointers }
 
 -- each of them is a block of the disk
-pub in_range_at : (d : Blocks) (n head i : ℕ) → IsChain d n head → i < n → slice_index (blocks_back d n head) i < length d
+pub in_range_at : (d : Blocks) (n head i : ℕ) → AreListBlocks d n head → i < n → slice_index (blocks_back d n head) i < length d
 in_range_at d n head i chain lt =
     let l = length_back d n head in
     chain.in_range i 0 (omega arith)
 
 -- pointer k of the block at a place names the one so far before it
-pub pointer_at : (d : Blocks) (last head at k : ℕ) → IsChain d (last + 1) head → 0 < at → at ≤ last → k ≤ trailing_zeros w32 at
+pub pointer_at : (d : Blocks) (last head at k : ℕ) → AreListBlocks d (last + 1) head → 0 < at → at ≤ last → k ≤ trailing_zeros w32 at
     → (block : ℕ) → block ≡ slice_index (blocks_back d (last + 1) head) at → word_at (block_in d block) (4 * k) ≡ slice_index (blocks_back d (last + 1) head) (at - 2 ^ k)
 pointer_at d last head at k chain some le few block is =
     let many = pointers_of-pos at some in

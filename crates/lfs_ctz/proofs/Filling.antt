@@ -5,7 +5,7 @@ use Rattle.std.specs.List.{IsDistinct}
 use Rattle.std.proofs.lemmas.List.{append-nil, take_at, take_all, take-take, drop-append-le, drop-take, length-take-le}
 use Rattle.std.proofs.Math.Seq.{take-append-add}
 use Rattle.lfs_model.specs.Blocks.{Blocks, IsDivided, SameBut, block_in, overwritten}
-use Rattle.lfs_model.specs.Lists.{pointers_of, capacity_of, bytes_before, blocks_back, blocks_for, IsChain, data_of}
+use Rattle.lfs_model.specs.SkipLists.{pointers_of, capacity_of, bytes_before, blocks_back, blocks_for, AreListBlocks, data_of}
 use Rattle.lfs_model.proofs.Files.{data_same}
 use Rattle.lfs_ctz.specs.Finished.{IsEnd}
 use Rattle.lfs_ctz.specs.Growing.{joined, IsHanded, IsShared}
@@ -15,7 +15,7 @@ use Rattle.lfs_ctz.proofs.Joined.{joined-append, length-joined}
 use Rattle.lfs_ctz.proofs.Sizes.{capacity_of-pos, blocks_for-above, blocks_for-within}
 
 -- no blocks are a chain
-pub none_chain : (d : Blocks) (head : ℕ) → IsChain d 0 head
+pub none_chain : (d : Blocks) (head : ℕ) → AreListBlocks d 0 head
 unfolding IsDistinct
 none_chain d head = record {
   in_range = λ k x l. absurd (omega arith);
@@ -68,17 +68,17 @@ joined_back d full head block back =
     ∙ ap (λ k. joined d (blocks_back d full head) ++ data_of d (k, block)) (let len = length_back d full head in omega arith)
 
 -- the full blocks hold what they have room for
-pub length-full : (d : Blocks) (block_size count full head : ℕ) → 1024 ≤ block_size → IsDivided block_size count d → IsChain d full head → length (joined d (blocks_back d full head)) ≡ bytes_before block_size full
+pub length-full : (d : Blocks) (block_size count full head : ℕ) → 1024 ≤ block_size → IsDivided block_size count d → AreListBlocks d full head → length (joined d (blocks_back d full head)) ≡ bytes_before block_size full
 length-full d block_size count full head large shape chain =
     let all = length-joined d block_size 0 (blocks_back d full head) large (λ k x l. shape.sizes (get_or (blocks_back d full head) k x) (let lt = chain.in_range k x l in omega (arith, lt, shape.count))) in
     let len = length_back d full head in
     omega (arith, all, ap (bytes_before block_size) (let s : 0 + length (blocks_back d full head) ≡ full = omega arith in s))
 
 -- a list of so many blocks
-at_end : (d : Blocks) (block_size head size n : ℕ) (content : List ℕ) → 1 ≤ size → size < 2 ^ 31 → blocks_for block_size size ≡ n → IsChain d n head → take size (joined d (blocks_back d n head)) ≡ content
+at_end : (d : Blocks) (block_size head size n : ℕ) (content : List ℕ) → 1 ≤ size → size < 2 ^ 31 → blocks_for block_size size ≡ n → AreListBlocks d n head → take size (joined d (blocks_back d n head)) ≡ content
     → IsEnd d block_size head size content (blocks_back d n head)
 at_end d block_size head size n content low high count chain is =
-    let whole : IsChain d (blocks_for block_size size) head = subst (λ k. IsChain d k head) (sym count) chain in
+    let whole : AreListBlocks d (blocks_for block_size size) head = subst (λ k. AreListBlocks d k head) (sym count) chain in
     record {
       list = record { size_low = low; size_high = high; in_range = whole.in_range; distinct = whole.distinct; pointers = whole.pointers };
       bytes = ap (λ k. take size (joined d (blocks_back d k head))) count ∙ is;
@@ -86,7 +86,7 @@ at_end d block_size head size n content low high count chain is =
     }
 
 -- with nothing behind the full blocks
-pub end_closed : (d : Blocks) (block_size count full head size : ℕ) → 1024 ≤ block_size → IsDivided block_size count d → IsChain d full head → 1 ≤ size → size < 2 ^ 31 → size ≡ bytes_before block_size full
+pub end_closed : (d : Blocks) (block_size count full head size : ℕ) → 1024 ≤ block_size → IsDivided block_size count d → AreListBlocks d full head → 1 ≤ size → size < 2 ^ 31 → size ≡ bytes_before block_size full
     → IsEnd d block_size head size (joined d (blocks_back d full head)) (blocks_back d full head)
 end_closed d block_size count zero head size large shape chain low high is = absurd (omega arith)
 end_closed d block_size count (suc full) head size large shape chain low high is =
@@ -97,7 +97,7 @@ end_closed d block_size count (suc full) head size large shape chain low high is
     (take_all size (joined d (blocks_back d (suc full) head)) (omega (arith, length-full d block_size count (suc full) head large shape chain)))
 
 -- with a block behind them that begins with the rest
-pub end_open : (d e : Blocks) (block_size count full head block size : ℕ) (rest : List ℕ) → 1024 ≤ block_size → IsDivided block_size count d → IsChain d full head → IsChain e (full + 1) block
+pub end_open : (d e : Blocks) (block_size count full head block size : ℕ) (rest : List ℕ) → 1024 ≤ block_size → IsDivided block_size count d → AreListBlocks d full head → AreListBlocks e (full + 1) block
     → joined e (blocks_back e (full + 1) block) ≡ joined d (blocks_back d full head) ++ data_of e (full, block) → take (length rest) (data_of e (full, block)) ≡ rest
     → 1 ≤ length rest → length rest ≤ capacity_of block_size full → size < 2 ^ 31 → size ≡ bytes_before block_size full + length rest
     → IsEnd e block_size block size (joined d (blocks_back d full head) ++ rest) (blocks_back e (full + 1) block)
@@ -113,7 +113,7 @@ end_open d e block_size count full head block size rest large shape chain more b
     ∙ ap (λ (l : List ℕ). joined d (blocks_back d full head) ++ l) begins)
 
 -- the ends of a list that grows
-pub closed_end : (d : Blocks) (block_size count full head size : ℕ) (rest : List ℕ) → 1024 ≤ block_size → IsDivided block_size count d → IsChain d full head → rest ≡ []
+pub closed_end : (d : Blocks) (block_size count full head size : ℕ) (rest : List ℕ) → 1024 ≤ block_size → IsDivided block_size count d → AreListBlocks d full head → rest ≡ []
     → 1 ≤ size → size < 2 ^ 31 → size ≡ bytes_before block_size full + length rest → IsEnd d block_size head size (joined d (blocks_back d full head) ++ rest) (blocks_back d full head ++ [])
 closed_end d block_size count full head size rest large shape chain none low high is =
     let end = end_closed d block_size count full head size large shape chain low high (omega (arith, is, ap length none)) in
@@ -123,15 +123,15 @@ closed_end d block_size count full head size rest large shape chain none low hig
       blocks = end.blocks ∙ sym (append-nil (blocks_back d full head));
     }
 
-pub shared_end : (d : Blocks) (block_size count full head block size : ℕ) (rest : List ℕ) → 1024 ≤ block_size → IsDivided block_size count d → IsChain d full head → IsShared d full head rest block
+pub shared_end : (d : Blocks) (block_size count full head block size : ℕ) (rest : List ℕ) → 1024 ≤ block_size → IsDivided block_size count d → AreListBlocks d full head → IsShared d full head rest block
     → length rest ≤ capacity_of block_size full → size < 2 ^ 31 → size ≡ bytes_before block_size full + length rest
     → IsEnd d block_size block size (joined d (blocks_back d full head) ++ rest) (blocks_back d full head ++ block ∷ [])
 shared_end d block_size count full head block size rest large shape chain shared short high is =
     let end = end_open d d block_size count full head block size rest large shape chain shared.chain (joined_back d full head block shared.back) shared.begins shared.some short high is in
     record { list = end.list; bytes = end.bytes; blocks = end.blocks ∙ shared.back }
 
-pub handed_end : (d e : Blocks) (block_size count full head block size : ℕ) (rest : List ℕ) → 1024 ≤ block_size → IsDivided block_size count d → IsChain d full head → IsHanded d full head rest block
-    → IsChain e (full + 1) block → blocks_back e (full + 1) block ≡ blocks_back d full head ++ block ∷ [] → SameBut block d e → take (length rest) (data_of e (full, block)) ≡ rest
+pub handed_end : (d e : Blocks) (block_size count full head block size : ℕ) (rest : List ℕ) → 1024 ≤ block_size → IsDivided block_size count d → AreListBlocks d full head → IsHanded d full head rest block
+    → AreListBlocks e (full + 1) block → blocks_back e (full + 1) block ≡ blocks_back d full head ++ block ∷ [] → SameBut block d e → take (length rest) (data_of e (full, block)) ≡ rest
     → length rest ≤ capacity_of block_size full → size < 2 ^ 31 → size ≡ bytes_before block_size full + length rest
     → IsEnd e block_size block size (joined d (blocks_back d full head) ++ rest) (blocks_back d full head ++ block ∷ [])
 handed_end d e block_size count full head block size rest large shape chain handed more back same begins short high is =

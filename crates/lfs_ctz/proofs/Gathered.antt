@@ -4,7 +4,7 @@ use Rattle.std.proofs.lemmas.List.{drop_at, drop-drop, length-take-le}
 use Rattle.std.proofs.lemmas.Slice.{drop-put_mid}
 use Rattle.std.proofs.Math.Seq.{take-add}
 use Rattle.lfs_model.specs.Blocks.{Blocks, IsDivided, block_in}
-use Rattle.lfs_model.specs.Lists.{word_at, pointers_of, bytes_before, blocks_back, blocks_for, IsList, IsPlace, bytes_of}
+use Rattle.lfs_model.specs.SkipLists.{word_at, pointers_of, bytes_before, blocks_back, blocks_for, IsList, IsBytePlace, bytes_of}
 use Rattle.lfs_ctz.proofs.Sizes.{placed, place_before, place-lt, pointers_of-le}
 use Rattle.lfs_ctz.proofs.Chains.{chain_of_list, in_range_at}
 use Rattle.lfs_ctz.proofs.Parts.{part_of_bytes}
@@ -28,7 +28,7 @@ drop-filled buf block start n off len room fits le =
 
 -- the part that holds the byte before `left`
 pub record IsPart (block_size pos left n i off : ℕ) : Type 0 where
-  pub place : IsPlace block_size (pos + left - 1) i off
+  pub place : IsBytePlace block_size (pos + left - 1) i off
   pub size : n ≡ min left (off + 1 - 4 * pointers_of i)
 
 module _ (d : Blocks) (block_size count head size : ℕ) (large : 1024 ≤ block_size) (shape : IsDivided block_size count d) where
@@ -74,7 +74,7 @@ module _ (d : Blocks) (block_size count head size : ℕ) (large : 1024 ≤ block
         ∙ ap (λ (l : List ℕ). l ++ rest) (slices_joined bytes from (pos + left) (pos + len) (omega arith) (omega arith))
 
     -- the block of the byte before the part
-    pub index_before : (j end : ℕ) → 1 ≤ left - n → IsPlace block_size (pos + (left - n) - 1) j end → i ≡ suc j
+    pub index_before : (j end : ℕ) → 1 ≤ left - n → IsBytePlace block_size (pos + (left - n) - 1) j end → i ≡ suc j
     index_before j end more there =
         let low = part.place.from in
         let at = part.place.at in
@@ -82,7 +82,7 @@ module _ (d : Blocks) (block_size count head size : ℕ) (large : 1024 ≤ block
         let few = pointers_of-le i in
         place_before block_size (pos + (left - n) - 1) i j end large there (omega arith)
 
-    pub block_before : IsList d block_size head size → block ≡ slice_index bs i → 1 ≤ left - n → (j end : ℕ) → IsPlace block_size (pos + (left - n) - 1) j end
+    pub block_before : IsList d block_size head size → block ≡ slice_index bs i → 1 ≤ left - n → (j end : ℕ) → IsBytePlace block_size (pos + (left - n) - 1) j end
         → word_at (block_in d block) 0 ≡ slice_index bs j
     block_before ok is more j end there =
         let next = index_before j end more there in
@@ -132,11 +132,11 @@ module _ {d : Blocks} {block_size count size pos len left n i off block : ℕ} {
       ap (drop len) turn.is ∙ drop-filled buf (block_in d block) (left - n) n (off + 1 - n) len (omega arith) (omega arith) (omega arith)
 
   pub turn_before : (head : ℕ) → IsList d block_size head size → block ≡ slice_index (blocks_back d (blocks_for block_size size) head) i → 1 ≤ left - n
-      → (j end : ℕ) → IsPlace block_size (pos + (left - n) - 1) j end → word_at (block_in d block) 0 ≡ slice_index (blocks_back d (blocks_for block_size size) head) j
+      → (j end : ℕ) → IsBytePlace block_size (pos + (left - n) - 1) j end → word_at (block_in d block) 0 ≡ slice_index (blocks_back d (blocks_for block_size size) head) j
   turn_before head ok is more = block_before d block_size count head size turn.large turn.shape pos len left n i off block turn.part turn.some turn.le turn.within ok is more
 
   pub turn_in_range : (head : ℕ) → IsList d block_size head size → block ≡ slice_index (blocks_back d (blocks_for block_size size) head) i → 1 ≤ left - n → word_at (block_in d block) 0 < count
   turn_in_range head ok is more = before_in_range d block_size count head size turn.large turn.shape pos len left n i off block turn.part turn.some turn.le turn.within ok is more
 
-  pub turn_index : 1 ≤ left - n → (j end : ℕ) → IsPlace block_size (pos + (left - n) - 1) j end → i ≡ suc j
+  pub turn_index : 1 ≤ left - n → (j end : ℕ) → IsBytePlace block_size (pos + (left - n) - 1) j end → i ≡ suc j
   turn_index more j end there = index_before d block_size count 0 size turn.large turn.shape pos len left n i off block turn.part turn.some turn.le turn.within j end more there

@@ -2,7 +2,7 @@
 use Rattle.std.proofs.Common.{ℕ, ◌≡◌, ◌≤◌, ◌+◌, ◌-◌, sym, ap, subst, ◌∙◌, arith}
 use Rattle.lfs_device.specs.declared.geometry.Geometry.{Geometry}
 use Rattle.lfs_model.specs.Blocks.{Blocks, IsDivided}
-use Rattle.lfs_model.specs.Lists.{IsChain, IsList, blocks_for}
+use Rattle.lfs_model.specs.SkipLists.{AreListBlocks, IsList, blocks_for}
 use Rattle.lfs_ctz.proofs.Sizes.{blocks_for-last}
 use Rattle.lfs_ctz.proofs.Chains.{chain_of_list}
 
@@ -13,8 +13,8 @@ last_is block_size size n large some is =
     omega (arith, last.1.0)
 
 -- a list is a chain from its last block
-pub chain : (d : Blocks) (block_size head size n : ℕ) → 1024 ≤ block_size → n ≡ blocks_for block_size size → IsList d block_size head size → IsChain d (n - 1 + 1) head
-chain d block_size head size n large is ok = subst (λ k. IsChain d k head) (sym (last_is block_size size n large ok.size_low is)) (chain_of_list ok)
+pub chain : (d : Blocks) (block_size head size n : ℕ) → 1024 ≤ block_size → n ≡ blocks_for block_size size → IsList d block_size head size → AreListBlocks d (n - 1 + 1) head
+chain d block_size head size n large is ok = subst (λ k. AreListBlocks d k head) (sym (last_is block_size size n large ok.size_low is)) (chain_of_list ok)
 
 -- a list, or blocks, by the geometry that the device gave
 pub sized : (d : Blocks) (head size : ℕ) (geometry made : Geometry) → made ≡ geometry → IsList d geometry.block_size head size → IsList d made.block_size head size

@@ -8,7 +8,7 @@ use Rattle.std.proofs.lemmas.List.{get_or_at, get_or_append_left}
 use Rattle.std.proofs.lemmas.List.Elements.{recursion_from_All}
 use Rattle.std.proofs.lemmas.Map.Keys.{IsDistinct-from_apart, apart_from_distinct}
 use Rattle.lfs_model.specs.Blocks.{Blocks, SameBut, block_in}
-use Rattle.lfs_model.specs.Lists.{word_at, pointers_of, blocks_back, IsChain}
+use Rattle.lfs_model.specs.SkipLists.{word_at, pointers_of, blocks_back, AreListBlocks}
 use Rattle.lfs_model.proofs.Files.{Same, back_same}
 use Rattle.lfs_ctz.proofs.Chains.{length_back, head_of_back, pointers_of-pos}
 
@@ -33,7 +33,7 @@ back_grown d e (suc n) head block same first =
     ∙ ap (λ b. blocks_back e (suc n) b ++ block ∷ []) to
     ∙ ap (λ bs. bs ++ block ∷ []) (back_same d e (suc n) head same)
 
-module _ (d e : Blocks) (n head block : ℕ) (chain : IsChain d n head) (few : n < 2 ^ 32) (same : SameBut block d e) (lt : block < length d) (apart : All (λ c. c ≢ block) (blocks_back d n head))
+module _ (d e : Blocks) (n head block : ℕ) (chain : AreListBlocks d n head) (few : n < 2 ^ 32) (same : SameBut block d e) (lt : block < length d) (apart : All (λ c. c ≢ block) (blocks_back d n head))
     (points : (k : ℕ) → k < pointers_of n → word_at (block_in e block) (4 * k) ≡ slice_index (blocks_back d n head) (n - 2 ^ k)) where
   abbrev bs : List ℕ
   bs = blocks_back d n head
@@ -87,7 +87,7 @@ module _ (d e : Blocks) (n head block : ℕ) (chain : IsChain d n head) (few : n
       ∙ ap (λ m. slice_index (bs ++ block ∷ []) (m - 2 ^ k)) (sym here))
       (cases_lt i n)
 
-  pub chain_grown : IsChain e (n + 1) block
+  pub chain_grown : AreListBlocks e (n + 1) block
   chain_grown = record {
     in_range = subst (λ xs. All (λ b. b < length e) xs) (sym grown_back) in_range_all;
     distinct = subst (IsDistinct nat_eq) (sym grown_back) distinct_all;

@@ -3,7 +3,7 @@ use Rattle.std.proofs.Common.{ℕ, zero, suc, ◌≡◌, ◌+◌, ◌*◌, ◌<�
 use Rattle.std.specs.List.{enumerate_from}
 use Rattle.std.proofs.lemmas.List.{take_more}
 use Rattle.lfs_model.specs.Blocks.{Blocks, block_in}
-use Rattle.lfs_model.specs.Lists.{pointers_of, capacity_of, bytes_before, blocks_back, data_of}
+use Rattle.lfs_model.specs.SkipLists.{pointers_of, capacity_of, bytes_before, blocks_back, data_of}
 use Rattle.lfs_ctz.proofs.Sizes.{pointers_of-le}
 use Rattle.lfs_ctz.proofs.Chains.{length_back, back-pointer0}
 use Rattle.lfs_ctz.proofs.Parts.{AllSized}

@@ -4,8 +4,8 @@ use Rattle.std.proofs.lemmas.Bool.{cases_lt}
 use Rattle.std.proofs.lemmas.List.{append-nil, take_at, drop_all, drop-take, take-append-le, take-append-drop, take-take, length-replicate, length-take-le}
 use Rattle.std.proofs.Math.Seq.{take-append-add}
 use Rattle.lfs_model.specs.Blocks.{overwritten}
-use Rattle.lfs_model.specs.Lists.{pointers_of}
-use Rattle.lfs_model.specs.Session.{overwritten as with_bytes}
+use Rattle.lfs_model.specs.SkipLists.{pointers_of}
+use Rattle.lfs_model.specs.Writers.{written_into as with_bytes}
 
 -- behind no full block the rest stands where the buffer begins
 pub rest_at : (items : List ℕ) (full filled : ℕ) → full ≡ 0 → take (filled - 4 * pointers_of full) (drop (4 * pointers_of full) items) ≡ take filled items

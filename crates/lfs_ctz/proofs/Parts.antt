@@ -4,7 +4,7 @@ use Rattle.std.specs.Prelude.{All}
 use Rattle.std.specs.List.{enumerate_from}
 use Rattle.std.proofs.lemmas.List.{take-append-le, drop-append-le, drop_at, drop-drop, take-take, drop-take}
 use Rattle.lfs_model.specs.Blocks.{Blocks, IsDivided, block_in}
-use Rattle.lfs_model.specs.Lists.{pointers_of, capacity_of, bytes_before, blocks_back, blocks_for, IsChain, data_of, bytes_of}
+use Rattle.lfs_model.specs.SkipLists.{pointers_of, capacity_of, bytes_before, blocks_back, blocks_for, AreListBlocks, data_of, bytes_of}
 use Rattle.lfs_ctz.proofs.Sizes.{pointers_of-le, bytes_before-more}
 use Rattle.lfs_ctz.proofs.Chains.{length_back}
 
@@ -50,7 +50,7 @@ module _ (d : Blocks) (block_size : ℕ) (large : 1024 ≤ block_size) where
       (omega (arith, ap (bytes_before block_size) (add-one start)))
 
   -- so are the file's bytes from one of a block on
-  module _ (head size : ℕ) (count : ℕ) (shape : IsDivided block_size count d) (chain : IsChain d (blocks_for block_size size) head) where
+  module _ (head size : ℕ) (count : ℕ) (shape : IsDivided block_size count d) (chain : AreListBlocks d (blocks_for block_size size) head) where
     all_sized : AllSized d block_size (blocks_back d (blocks_for block_size size) head)
     all_sized k x l =
         let lt = chain.in_range k x l in

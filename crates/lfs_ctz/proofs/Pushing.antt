@@ -9,7 +9,7 @@ use Rattle.std.proofs.lemmas.Map.Keys.{apart_from_distinct}
 use Rattle.lfs_model.specs.Blocks.{Blocks}
 use Rattle.lfs_model.specs.History.{Event, StayUnprogrammed}
 use Rattle.lfs_model.proofs.Histories.{StayUnprogrammed-trans, StayUnprogrammed-wider}
-use Rattle.lfs_model.specs.Lists.{capacity_of, blocks_back, blocks_for}
+use Rattle.lfs_model.specs.SkipLists.{capacity_of, blocks_back, blocks_for}
 use Rattle.lfs_ctz.specs.declared.rest.Rest.{Rest}
 use Rattle.lfs_ctz.specs.declared.rest.Rest.TheVariants.{Closed, Shared, Handed, Held}
 use Rattle.lfs_ctz.specs.Growing.{Growing, pending_in, last_in, is_held, is_held_in, pending_of, kept_of, blocks_of, size_of, needed_of, next_of, IsRest, IsGrowing}

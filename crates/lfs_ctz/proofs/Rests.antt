@@ -1,7 +1,7 @@
 -- The bytes of an extender that do not fill a block.
 use Rattle.std.proofs.Common.{ℕ, ◌≡◌, ◌+◌, ◌-◌, ◌*◌, length, drop, arith, length-drop}
 use Rattle.std.proofs.lemmas.List.{length-take-le}
-use Rattle.lfs_model.specs.Lists.{pointers_of, bytes_before}
+use Rattle.lfs_model.specs.SkipLists.{pointers_of, bytes_before}
 use Rattle.lfs_ctz.specs.declared.extender.Extender.{Extender}
 use Rattle.lfs_ctz.specs.Extended.{growing_of}
 use Rattle.lfs_ctz.specs.Growing.{IsShort}

@@ -7,7 +7,7 @@ use Rattle.std.proofs.Math.Seq.{take-append-add}
 use Rattle.std.proofs.lemmas.List.{append-nil, take_at, take_more, drop_more, take-take, take-append-le, take-append-drop, get_or-take, length-take-le}
 use Rattle.std.proofs.lemmas.Map.Keys.{IsDistinct-from_apart, apart_from_distinct}
 use Rattle.lfs_model.specs.Blocks.{Blocks, IsDivided, block_in}
-use Rattle.lfs_model.specs.Lists.{word_at, pointers_of, bytes_before, blocks_back, blocks_for, IsChain, IsList, IsPlace, data_of, bytes_of}
+use Rattle.lfs_model.specs.SkipLists.{word_at, pointers_of, bytes_before, blocks_back, blocks_for, AreListBlocks, IsList, IsBytePlace, data_of, bytes_of}
 use Rattle.lfs_ctz.specs.Finished.{IsEnd}
 use Rattle.lfs_ctz.specs.Growing.{joined, IsShared}
 use Rattle.lfs_ctz.proofs.Sizes.{pointers_of-le, blocks_for-place, place-lt}
@@ -22,7 +22,7 @@ record IsChainOf (d : Blocks) (n : ℕ) (bs : List ℕ) : Type 0 where
   distinct : IsDistinct nat_eq bs
   pointers : (i k : ℕ) → i < n → k < pointers_of i → word_at (block_in d (slice_index bs i)) (4 * k) ≡ slice_index bs (i - 2 ^ k)
 
-chain_of : (d : Blocks) (n head : ℕ) (bs : List ℕ) → blocks_back d n head ≡ bs → IsChainOf d n bs → IsChain d n head
+chain_of : (d : Blocks) (n head : ℕ) (bs : List ℕ) → blocks_back d n head ≡ bs → IsChainOf d n bs → AreListBlocks d n head
 chain_of d n head bs is parts =
     let whole : IsChainOf d n (blocks_back d n head) = subst (IsChainOf d n) (sym is) parts in
     record { in_range = whole.in_range; distinct = whole.distinct; pointers = whole.pointers }
@@ -31,7 +31,7 @@ apart_as : (x y v w : ℕ) → v ≡ x → w ≡ y → nat_eq x y ≡ false → 
 apart_as x y v w e f apart = ap (λ k. nat_eq k w) e ∙ ap (nat_eq x) f ∙ apart
 
 -- the blocks up to one of a chain's are a chain
-pub chain_prefix : (d : Blocks) (n head m : ℕ) → m < n → IsChain d n head → IsChain d (m + 1) (slice_index (blocks_back d n head) m)
+pub chain_prefix : (d : Blocks) (n head m : ℕ) → m < n → AreListBlocks d n head → AreListBlocks d (m + 1) (slice_index (blocks_back d n head) m)
 chain_prefix d n head m lt chain =
     let bs : List ℕ = blocks_back d n head in
     let len = length_back d n head in
@@ -48,7 +48,7 @@ chain_prefix d n head m lt chain =
     chain_of d (m + 1) (slice_index bs m) (take (m + 1) bs) (back_prefix d n head m lt) parts
 
 module _ (d : Blocks) (block_size count head size keep i off block : ℕ) (large : 1024 ≤ block_size) (shape : IsDivided block_size count d) (list : IsList d block_size head size) (some : 1 ≤ keep) (within : keep ≤ size)
-    (place : IsPlace block_size (keep - 1) i off) (is : block ≡ slice_index (blocks_back d (blocks_for block_size size) head) i) where
+    (place : IsBytePlace block_size (keep - 1) i off) (is : block ≡ slice_index (blocks_back d (blocks_for block_size size) head) i) where
   abbrev bs : List ℕ
   bs = blocks_back d (blocks_for block_size size) head
 
@@ -68,8 +68,8 @@ module _ (d : Blocks) (block_size count head size keep i off block : ℕ) (large
   pub front_back : blocks_back d (i + 1) block ≡ take (i + 1) bs
   front_back = ap (blocks_back d (i + 1)) is ∙ back_prefix d (blocks_for block_size size) head i low
 
-  pub front_chain : IsChain d (i + 1) block
-  front_chain = subst (IsChain d (i + 1)) (sym is) (chain_prefix d (blocks_for block_size size) head i low (chain_of_list list))
+  pub front_chain : AreListBlocks d (i + 1) block
+  front_chain = subst (AreListBlocks d (i + 1)) (sym is) (chain_prefix d (blocks_for block_size size) head i low (chain_of_list list))
 
   joined_split : (m : ℕ) → m ≤ blocks_for block_size size → (joined d bs ≡ joined d (take m bs) ++ joined_from d m (drop m bs)) × (length (joined d (take m bs)) ≡ bytes_before block_size m)
   joined_split m le =
@@ -85,7 +85,7 @@ module _ (d : Blocks) (block_size count head size keep i off block : ℕ) (large
   pub front_end : keep < 2 ^ 31 → IsEnd d block_size block keep (take keep (bytes_of d block_size head size)) (take (blocks_for block_size keep) bs)
   front_end few =
       let split = joined_split (i + 1) (let l = low in omega arith) in
-      let whole : IsChain d (blocks_for block_size keep) block = subst (λ k. IsChain d k block) (sym few_blocks) front_chain in
+      let whole : AreListBlocks d (blocks_for block_size keep) block = subst (λ k. AreListBlocks d k block) (sym few_blocks) front_chain in
       let below = place.below in
       let own : blocks_back d (blocks_for block_size keep) block ≡ take (i + 1) bs = ap (λ k. blocks_back d k block) few_blocks ∙ front_back in
       record {
@@ -131,18 +131,18 @@ module _ (d : Blocks) (block_size count head size keep i off block : ℕ) (large
         ∙ back_prefix d (blocks_for block_size size) head m (omega arith)
         ∙ ap (λ k. take k bs) (add-one m ∙ sym e)
 
-    before_chain_at : (m : ℕ) → i ≡ m → IsChain d i before
-    before_chain_at zero e = subst (λ k. IsChain d k before) (sym e) (none_chain d before)
+    before_chain_at : (m : ℕ) → i ≡ m → AreListBlocks d i before
+    before_chain_at zero e = subst (λ k. AreListBlocks d k before) (sym e) (none_chain d before)
     before_chain_at (suc m) e =
         let l = low in
         let to : before ≡ slice_index bs m =
         named (omega arith) ∙ ap (λ b. word_at (block_in d b) 0) (is ∙ ap (slice_index bs) e) ∙ back-pointer0 d (blocks_for block_size size) head m (omega arith) in
-        subst (λ k. IsChain d k before) (add-one m ∙ sym e) (subst (IsChain d (m + 1)) (sym to) (chain_prefix d (blocks_for block_size size) head m (omega arith) (chain_of_list list)))
+        subst (λ k. AreListBlocks d k before) (add-one m ∙ sym e) (subst (AreListBlocks d (m + 1)) (sym to) (chain_prefix d (blocks_for block_size size) head m (omega arith) (chain_of_list list)))
 
     pub before_front : blocks_back d i before ≡ take i bs
     before_front = before_back i refl
 
-    pub before_chain : IsChain d i before
+    pub before_chain : AreListBlocks d i before
     before_chain = before_chain_at i refl
 
     last_more : blocks_back d i before ++ block ∷ [] ≡ take (i + 1) bs

@@ -7,7 +7,7 @@ use Rattle.std.proofs.lemmas.Nat.{mul-le, mod_below, div-mul-add}
 use Rattle.std.proofs.lemmas.Bool.{cases_lt}
 use lib.Count.{ones, ones_step, ones-le, count_trailing_zeros, trailing_le}
 use Rattle.lfs_ctz.proofs.Zeros.{zeros_even, zeros_odd}
-use Rattle.lfs_model.specs.Lists.{pointers_of, capacity_of, bytes_before, IsPlace, blocks_from, blocks_for}
+use Rattle.lfs_model.specs.SkipLists.{pointers_of, capacity_of, bytes_before, IsBytePlace, blocks_from, blocks_for}
 
 -- ---- the ones of a number and of the next one differ by its zeros behind
 
@@ -56,7 +56,7 @@ bytes_before-suc block_size (suc n) le h =
 
 module _ (block_size pos : ℕ) (large : 1024 ≤ block_size) where
   place_at : (i : ℕ) → i < 2 ^ 32 → bytes_before block_size i ≤ pos → pos < (block_size - 8) * i + block_size + 4 * ones i
-      → (4 * ones i ≤ pos - (block_size - 8) * i) × IsPlace block_size pos i (pos - (block_size - 8) * i - 4 * ones i)
+      → (4 * ones i ≤ pos - (block_size - 8) * i) × IsBytePlace block_size pos i (pos - (block_size - 8) * i - 4 * ones i)
   place_at zero h from below =
       let none = ones-le 0 0 (omega arith) in
       (omega arith, record { from = omega arith; below = omega arith; at = omega arith })
@@ -72,7 +72,7 @@ module _ (block_size pos : ℕ) (large : 1024 ≤ block_size) where
   index_by guess = (pos - 4 * (ones (guess - 1) + 2)) / (block_size - 8)
 
   abbrev pub IsPlaceBy : ℕ → Type 0
-  IsPlaceBy i = (4 * ones i ≤ pos - (block_size - 8) * i) × IsPlace block_size pos i (pos - (block_size - 8) * i - 4 * ones i)
+  IsPlaceBy i = (4 * ones i ≤ pos - (block_size - 8) * i) × IsBytePlace block_size pos i (pos - (block_size - 8) * i - 4 * ones i)
 
   place_is : (i j : ℕ) → j ≡ i → i < 2 ^ 32 → bytes_before block_size i ≤ pos → pos < (block_size - 8) * i + block_size + 4 * ones i → IsPlaceBy j
   place_is i j e h from below = subst IsPlaceBy (sym e) (place_at i h from below)
@@ -169,19 +169,19 @@ blocks_from-last block_size n total large above within (suc steps) i (suc rest) 
     (cases_lt i n)
 
 -- the byte before the end stands in the last block
-pub blocks_for-place : (block_size size index offset : ℕ) → 1024 ≤ block_size → 1 ≤ size → IsPlace block_size (size - 1) index offset → blocks_for block_size size ≡ index + 1
+pub blocks_for-place : (block_size size index offset : ℕ) → 1024 ≤ block_size → 1 ≤ size → IsBytePlace block_size (size - 1) index offset → blocks_for block_size size ≡ index + 1
 blocks_for-place block_size size index offset large some is =
     let counted = blocks_from-last block_size index size large (omega arith) (omega arith) size 0 size (omega arith) (omega arith) (omega arith) in
     omega arith
 
 -- a list has fewer blocks than bytes
-pub place-le : (block_size pos index offset : ℕ) → 1024 ≤ block_size → IsPlace block_size pos index offset → 892 * index ≤ pos
+pub place-le : (block_size pos index offset : ℕ) → 1024 ≤ block_size → IsBytePlace block_size pos index offset → 892 * index ≤ pos
 place-le block_size pos index offset large is = let k = bytes_before-least block_size index large in omega arith
 
 -- ---- places in order
 
 -- each byte has a place
-pub placed : (block_size pos : ℕ) → 1024 ≤ block_size → (i : ℕ) × ((off : ℕ) × IsPlace block_size pos i off)
+pub placed : (block_size pos : ℕ) → 1024 ≤ block_size → (i : ℕ) × ((off : ℕ) × IsBytePlace block_size pos i off)
 placed block_size zero large = (0, (0, record { from = omega arith; below = omega arith; at = omega arith }))
 placed block_size (suc pos) large =
     let before = placed block_size pos large in
@@ -195,20 +195,20 @@ placed block_size (suc pos) large =
     (cases_lt (suc pos) (bytes_before block_size i + capacity_of block_size i))
 
 -- a later byte is in the same block or a later one
-pub place-mono : (block_size p q i j off end : ℕ) → IsPlace block_size p i off → IsPlace block_size q j end → p ≤ q → i ≤ j
+pub place-mono : (block_size p q i j off end : ℕ) → IsBytePlace block_size p i off → IsBytePlace block_size q j end → p ≤ q → i ≤ j
 place-mono block_size p q i j off end is there le = ⊎_elim
     (λ less. let more = bytes_before-more block_size (suc j) i (omega arith) in let low = is.from in let high = there.below in absurd (omega arith))
     (λ ge. ge)
     (cases_lt j i)
 
-pub place_unique : (block_size p i j off end : ℕ) → IsPlace block_size p i off → IsPlace block_size p j end → i ≡ j
+pub place_unique : (block_size p i j off end : ℕ) → IsBytePlace block_size p i off → IsBytePlace block_size p j end → i ≡ j
 place_unique block_size p i j off end is there =
     let a = place-mono block_size p p i j off end is there (omega arith) in
     let b = place-mono block_size p p j i end off there is (omega arith) in
     omega arith
 
 -- the last byte before a block stands in the block before it
-pub place_before : (block_size p i j off : ℕ) → 1024 ≤ block_size → IsPlace block_size p j off → suc p ≡ bytes_before block_size i → i ≡ suc j
+pub place_before : (block_size p i j off : ℕ) → 1024 ≤ block_size → IsBytePlace block_size p j off → suc p ≡ bytes_before block_size i → i ≡ suc j
 place_before block_size p i j off large is e =
     let low = is.from in
     let high = is.below in
@@ -229,7 +229,7 @@ blocks_for-last block_size size large some =
     let high = last.1.1.below in
     (last.0, (blocks_for-place block_size size last.0 last.1.0 large some last.1.1 ∙ add-one last.0, (omega arith, omega arith)))
 
-pub place-lt : (block_size size p i off : ℕ) → 1024 ≤ block_size → IsPlace block_size p i off → p < size → i < blocks_for block_size size
+pub place-lt : (block_size size p i off : ℕ) → 1024 ≤ block_size → IsBytePlace block_size p i off → p < size → i < blocks_for block_size size
 place-lt block_size size p i off large is lt =
     let last = placed block_size (size - 1) large in
     let count = blocks_for-place block_size size last.0 last.1.0 large (omega arith) last.1.1 in

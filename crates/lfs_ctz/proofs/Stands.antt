@@ -6,7 +6,7 @@ use Rattle.lfs_device.specs.declared.geometry.Geometry.{Geometry}
 use Rattle.lfs_model.proofs.Counts.{each_left, each_right}
 use Rattle.lfs_model.proofs.Files.{Same, back_same, data_same}
 use Rattle.lfs_model.specs.Blocks.{Blocks, IsDivided, block_in}
-use Rattle.lfs_model.specs.Lists.{IsChain, bytes_before, blocks_back, pointers_of, word_at}
+use Rattle.lfs_model.specs.SkipLists.{AreListBlocks, bytes_before, blocks_back, pointers_of, word_at}
 use Rattle.lfs_ctz.specs.declared.extender.Extender.{Extender}
 use Rattle.lfs_ctz.specs.declared.rest.Rest.{Rest}
 use Rattle.lfs_ctz.specs.declared.rest.Rest.TheVariants.{Closed, Shared, Handed, Held}
@@ -16,7 +16,7 @@ use Rattle.lfs_ctz.proofs.Chains.{length_back}
 use Rattle.lfs_ctz.proofs.Filling.{length-full, none_chain}
 use Rattle.lfs_ctz.proofs.Rests.{rest_of}
 
-pub chain_same : (d e : Blocks) (n head : ℕ) → length e ≡ length d → Same d e (blocks_back d n head) → IsChain d n head → IsChain e n head
+pub chain_same : (d e : Blocks) (n head : ℕ) → length e ≡ length d → Same d e (blocks_back d n head) → AreListBlocks d n head → AreListBlocks e n head
 chain_same d e n head l h ok = record {
   in_range = subst (λ bs. All (λ b. b < length e) bs) (sym back) (subst (λ (limit : ℕ). All (λ b. b < limit) (blocks_back d n head)) (sym l) ok.in_range);
   distinct = rw back ok.distinct;
@@ -106,8 +106,8 @@ module _ (divided : Geometry) (e : Extender) (bytes : List ℕ) (size : ℕ) (ge
     stays = λ later count same. still d later count (growing_of e) (subst (All (λ b. block_in later b ≡ block_in d b)) (sym blocks) same) growing;
   }
 
-  chained : (d : Blocks) → IsChain d e.full e.head
-  chained d = subst (λ k. IsChain d k e.head) (sym none) (none_chain d e.head)
+  chained : (d : Blocks) → AreListBlocks d e.full e.head
+  chained d = subst (λ k. AreListBlocks d k e.head) (sym none) (none_chain d e.head)
 
   pub grown_held : e.stand ≡ Held → (d : Blocks) → IsGrown divided d e bytes size [] []
   grown_held is d =

@@ -14,7 +14,7 @@ use Rattle.std.proofs.lemmas.List.Folds.{Any-from_list_any}
 use Rattle.std.proofs.lemmas.Map.Steps.{length-le_from_distinct_below}
 use Rattle.std.proofs.lemmas.Map.Keys.{IsDistinct-from_apart, apart_from_distinct}
 use Rattle.lfs_model.specs.Blocks.{Blocks, block_in}
-use Rattle.lfs_model.specs.Lists.{word_at, pointers_of, blocks_back, IsChain}
+use Rattle.lfs_model.specs.SkipLists.{word_at, pointers_of, blocks_back, AreListBlocks}
 use Rattle.lfs_ctz.specs.Right.{IsNamed, IsNoted}
 use Rattle.lfs_ctz.proofs.Back.{power_below}
 use lib.Count.{count_trailing_zeros}
@@ -161,7 +161,7 @@ module _ (d : Blocks) (last head first count index block : ℕ) (words new : Lis
   }
 
 pub chain_of_walk : (d : Blocks) (last head first : ℕ) (words : List ℕ) → last < 2 ^ 32 → IsChecked d last head first (length d) 0 words → slice_index (blocks_back d (last + 1) head) 0 ≡ first → first < length d
-    → IsNamed words first 0 last → IsChain d (last + 1) head
+    → IsNamed words first 0 last → AreListBlocks d (last + 1) head
 chain_of_walk d last head first words low checked is lt named = record {
   in_range = λ k x l.
       let len = length_back d (last + 1) head in
@@ -185,7 +185,7 @@ chain_of_walk d last head first words low checked is lt named = record {
         (cases_lt 0 (suc i - 2 ^ k))
 
 -- and what it would have found in a list
-pub named_of_chain : (d : Blocks) (last head first count index : ℕ) (words : List ℕ) → last < 2 ^ 32 → IsChecked d last head first count index words → IsChain d (last + 1) head → index ≤ last
+pub named_of_chain : (d : Blocks) (last head first count index : ℕ) (words : List ℕ) → last < 2 ^ 32 → IsChecked d last head first count index words → AreListBlocks d (last + 1) head → index ≤ last
     → (block : ℕ) → block ≡ slice_index (blocks_back d (last + 1) head) index → IsNamed words block index last
 named_of_chain d last head first count index words low checked chain within block is k fits le =
     let power = one-le-pow k 2 (omega arith) in
@@ -195,7 +195,7 @@ named_of_chain d last head first count index words low checked chain within bloc
     checked.noted (index + 2 ^ k) k (omega arith) (omega arith) (omega arith) (omega arith) ∙ chain.pointers (index + 2 ^ k) k (omega arith) (omega arith) ∙ ap (slice_index (blocks_back d (last + 1) head)) back ∙ sym is
 
 -- a list has at most as many blocks as the disk
-pub chain_fits : (d : Blocks) (n head : ℕ) → IsChain d n head → n ≤ length d
+pub chain_fits : (d : Blocks) (n head : ℕ) → AreListBlocks d n head → n ≤ length d
 chain_fits d n head chain =
     let len = length_back d n head in
     let le = length-le_from_distinct_below (blocks_back d n head) (length d) chain.distinct (λ q there.

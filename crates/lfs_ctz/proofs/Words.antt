@@ -8,7 +8,7 @@ use Rattle.lfs_model.specs.Blocks.{Blocks, block_in, overwritten, programmed}
 use Rattle.std.proofs.lemmas.Slice.{drop-put_mid, between_is}
 use Rattle.std.proofs.lemmas.Nat.{from_le_bytes-to_le_bytes_4}
 use Rattle.byteorder.specs.Endian.{little_bytes}
-use Rattle.lfs_model.specs.Lists.{word_at}
+use Rattle.lfs_model.specs.SkipLists.{word_at}
 
 -- bytes with a word over four of them
 abbrev pub with_word : List ℕ → ℕ → ℕ → List ℕ

@@ -2,7 +2,7 @@
 use Rattle.std.specs.Prelude.{ℕ, ◌≡◌, ◌-◌, ◌*◌, List, length, take, drop, All}
 use Rattle.lfs_device.specs.declared.geometry.Geometry.{Geometry}
 use Rattle.lfs_model.specs.Blocks.{Blocks, block_in}
-use Rattle.lfs_model.specs.Lists.{pointers_of}
+use Rattle.lfs_model.specs.SkipLists.{pointers_of}
 use Rattle.lfs_ctz.specs.Growing.{Growing, IsGrowing, IsShort, IsStill, blocks_of, content_of, kept_of, size_of}
 use Rattle.lfs_ctz.specs.declared.extender.Extender.{Extender}
 

@@ -1,6 +1,6 @@
 -- How the numbers of an extender hang together.
 use Rattle.std.specs.Prelude.{ℕ, ◌≡◌, ◌≤◌, ◌<◌, ◌+◌, ◌-◌, ◌*◌, ◌^◌}
-use Rattle.lfs_model.specs.Lists.{pointers_of, bytes_before}
+use Rattle.lfs_model.specs.SkipLists.{pointers_of, bytes_before}
 
 -- a block is filled so far, pointers first, behind so many full ones, and size bytes are in all of them
 pub record IsFilled (block_size full filled size : ℕ) : Type 0 where

@@ -2,7 +2,7 @@
 use Rattle.std.specs.Prelude.{ℕ, Bool, true, false, ◌≡◌, ◌≢◌, ◌≤◌, ◌<◌, ◌+◌, ◌-◌, ◌*◌, List, [], ◌∷◌, ◌++◌, length, take, drop, slice_index, All}
 use Rattle.std.specs.List.{flat_map, enumerate_from}
 use Rattle.lfs_model.specs.Blocks.{Blocks, block_in}
-use Rattle.lfs_model.specs.Lists.{pointers_of, bytes_before, capacity_of, blocks_back, blocks_for, IsChain, data_of}
+use Rattle.lfs_model.specs.SkipLists.{pointers_of, bytes_before, capacity_of, blocks_back, blocks_for, AreListBlocks, data_of}
 use Rattle.lfs_ctz.specs.declared.rest.Rest.{Rest}
 use Rattle.lfs_ctz.specs.declared.rest.Rest.TheVariants.{Closed, Shared, Handed, Held}
 
@@ -76,7 +76,7 @@ pub record IsHanded (disk : Blocks) (full head : ℕ) (rest : List ℕ) (b : ℕ
 -- the rest is the beginning of a block that stands behind the full ones
 pub record IsShared (disk : Blocks) (full head : ℕ) (rest : List ℕ) (b : ℕ) : Type 0 where
   pub some : 1 ≤ length rest
-  pub chain : IsChain disk (full + 1) b
+  pub chain : AreListBlocks disk (full + 1) b
   pub back : blocks_back disk (full + 1) b ≡ blocks_back disk full head ++ b ∷ []
   pub begins : take (length rest) (drop (4 * pointers_of full) (block_in disk b)) ≡ rest
 
@@ -88,7 +88,7 @@ IsRest disk full head rest Held = full ≡ 0
 
 -- the disk holds the list's full blocks as they are
 pub record IsGrowing (disk : Blocks) (g : Growing) : Type 0 where
-  pub chain : IsChain disk g.full g.head
+  pub chain : AreListBlocks disk g.full g.head
   pub stand : IsRest disk g.full g.head g.rest g.stand
 
 -- the block that takes the next bytes, and how many of those handed in are used then

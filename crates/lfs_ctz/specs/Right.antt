@@ -2,7 +2,7 @@
 use Rattle.std.specs.Prelude.{ℕ, ◌≡◌, ◌≤◌, ◌<◌, ◌-◌, ◌*◌, ◌^◌, List}
 use Rattle.std.specs.Int.{w32, trailing_zeros}
 use Rattle.lfs_model.specs.Blocks.{Blocks, block_in}
-use Rattle.lfs_model.specs.Lists.{pointers_of, word_at}
+use Rattle.lfs_model.specs.SkipLists.{pointers_of, word_at}
 
 -- Each block behind this one that has a pointer to its place names it. At each power of two there are the words of the last block that has such a pointer.
 abbrev pub IsNamed : List ℕ → ℕ → ℕ → ℕ → Type 0

@@ -4,7 +4,7 @@ ghost use Rattle.lfs_ctz.specs.Appended.{IsAppended};
 ghost use Rattle.lfs_ctz.specs.Counts.{Writes};
 ghost use Rattle.lfs_device.specs.Calls.{ChangesBlock, ReadsOnly, TellsFaults};
 ghost use Rattle.lfs_model.specs.Blocks.{block_in};
-ghost use Rattle.lfs_model.specs.Lists.{IsChain, blocks_back, pointers_of, word_at};
+ghost use Rattle.lfs_model.specs.SkipLists.{AreListBlocks, blocks_back, pointers_of, word_at};
 
 use crate::read::pointer;
 use byteorder::{ByteOrder, LittleEndian};
@@ -26,7 +26,7 @@ fn put_pointers<D: BlockDevice>(
     index: u32,
     buf: &mut [u8],
 ) -> Result<(), Error>
-    requires chain { IsChain (D.blocks dev.old) index head }
+    requires chain { AreListBlocks (D.blocks dev.old) index head }
     requires room { 1024 ≤ length buf.old }
     ensures pointers { OnOk result ((k : ℕ) → k < pointers_of index → word_at buf.new (4 * k) ≡ slice_index (blocks_back (D.blocks dev.old) index head) (index - 2 ^ k)) }
     ensures rest { drop (4 * pointers_of index) buf.new ≡ drop (4 * pointers_of index) buf.old }
@@ -56,7 +56,7 @@ pub(crate) fn write_block<D: BlockDevice>(
     buf: &mut [u8],
     end: u32,
 ) -> Result<(), Error>
-    requires chain { IsChain (D.blocks dev.old) index head }
+    requires chain { AreListBlocks (D.blocks dev.old) index head }
     requires in_device { block < (D.geometry dev.old).block_count }
     requires apart { All (λ c. c ≢ block) (blocks_back (D.blocks dev.old) index head) }
     requires size { length buf.old ≡ (D.geometry dev.old).block_size }

@@ -6,8 +6,8 @@ ghost use Rattle.lfs_ctz.specs.Filled.{IsFilled};
 ghost use Rattle.lfs_ctz.specs.Finished.{IsEnd};
 ghost use Rattle.lfs_device.specs.Calls.{ChangesBlock, ChangesOnly, ReadsOnly, TellsFaults};
 ghost use Rattle.lfs_model.specs.Blocks.{Blocks, block_in, overwritten};
-ghost use Rattle.lfs_model.specs.Session.{overwritten as with_bytes};
-ghost use Rattle.lfs_model.specs.Lists.{IsChain, IsList, blocks_back, blocks_for, bytes_of, pointers_of};
+ghost use Rattle.lfs_model.specs.Writers.{written_into as with_bytes};
+ghost use Rattle.lfs_model.specs.SkipLists.{AreListBlocks, IsList, blocks_back, blocks_for, bytes_of, pointers_of};
 
 use crate::block::write_block;
 use crate::read::{find, head_before, pointers, read_part};
@@ -233,7 +233,7 @@ impl Extender {
         bytes: &[u8],
         block: u32,
     ) -> Result<usize, Error>
-        requires chain { IsChain (D.blocks dev.old) (growing_of self.old).full (growing_of self.old).head }
+        requires chain { AreListBlocks (D.blocks dev.old) (growing_of self.old).full (growing_of self.old).head }
         requires in_device { block < (D.geometry dev.old).block_count }
         requires apart { All (λ c. c ≢ block) (blocks_back (D.blocks dev.old) (growing_of self.old).full (growing_of self.old).head) }
         requires geometry { D.geometry dev.old ≡ geometry_of self.old }
@@ -316,7 +316,7 @@ impl Extender {
 
     // Fills up the block that is begun to whole pages, and writes it.
     fn write_last<D: BlockDevice>(&mut self, dev: &mut D, block: u32) -> Result<(), Error>
-        requires chain { IsChain (D.blocks dev.old) (growing_of self.old).full (growing_of self.old).head }
+        requires chain { AreListBlocks (D.blocks dev.old) (growing_of self.old).full (growing_of self.old).head }
         requires in_device { block < (D.geometry dev.old).block_count }
         requires apart { All (λ c. c ≢ block) (blocks_back (D.blocks dev.old) (growing_of self.old).full (growing_of self.old).head) }
         requires geometry { D.geometry dev.old ≡ geometry_of self.old }

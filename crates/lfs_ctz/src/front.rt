@@ -2,7 +2,7 @@ ghost use Rattle.std.specs.Prelude.{◌≡◌, ◌≤◌, ◌<◌, ◌+◌, ◌*
 ghost use Rattle.lfs_ctz.specs.Finished.{IsEnd};
 ghost use Rattle.lfs_device.specs.Calls.{ReadsOnly, TellsFaults};
 ghost use Rattle.lfs_model.specs.History.{reads};
-ghost use Rattle.lfs_model.specs.Lists.{IsList, blocks_back, blocks_for, bytes_of};
+ghost use Rattle.lfs_model.specs.SkipLists.{IsList, blocks_back, blocks_for, bytes_of};
 
 use crate::read::find;
 use crate::{blocks_for, place};

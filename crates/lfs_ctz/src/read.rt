@@ -2,7 +2,7 @@ ghost use Rattle.std.specs.Prelude.{◌≡◌, ◌≤◌, ◌<◌, ◌+◌, ◌*
 ghost use Rattle.lfs_model.specs.Blocks.{block_in};
 ghost use Rattle.lfs_device.specs.Calls.{ReadsOnly, TellsFaults};
 ghost use Rattle.lfs_model.specs.History.{reads};
-ghost use Rattle.lfs_model.specs.Lists.{IsChain, IsList, IsPlace, blocks_back, blocks_for, bytes_of, pointers_of, word_at};
+ghost use Rattle.lfs_model.specs.SkipLists.{AreListBlocks, IsList, IsBytePlace, blocks_back, blocks_for, bytes_of, pointers_of, word_at};
 
 use crate::{blocks_for, place};
 use byteorder::{ByteOrder, LittleEndian};
@@ -36,9 +36,9 @@ pub(crate) fn find<D: BlockDevice>(
     index: u32,
 ) -> Result<u32, Error>
     requires { index ≤ last }
-    ensures found { IsChain (D.blocks dev.old) (last + 1) head → IfOk result (λ b. b ≡ slice_index (blocks_back (D.blocks dev.old) (last + 1) head) index) }
+    ensures found { AreListBlocks (D.blocks dev.old) (last + 1) head → IfOk result (λ b. b ≡ slice_index (blocks_back (D.blocks dev.old) (last + 1) head) index) }
     ensures in_range { IfOk result (λ b. b < (D.geometry dev.old).block_count) }
-    ensures corrupt { IsErrOf result Error.Corrupt → ¬ IsChain (D.blocks dev.old) (last + 1) head }
+    ensures corrupt { IsErrOf result Error.Corrupt → ¬ AreListBlocks (D.blocks dev.old) (last + 1) head }
     ensures device { ReadsOnly D.BlockDevice dev.old dev.new }
     ensures faults { TellsFaults D.BlockDevice dev.old dev.new result }
     ensures errors { IfErr result (λ e. (e ≡ Error.Io) ⊎ (e ≡ Error.Corrupt)) }
@@ -152,8 +152,8 @@ pub fn read_at<D: BlockDevice>(
     ensures errors { IfErr result (λ e. (e ≡ Error.Io) ⊎ (e ≡ Error.Corrupt)) }
     // Steps to the last block by the logarithm of the list's length, and two reads for each block.
     ensures few { (m first last off end : ℕ) → blocks_for (D.geometry dev.old).block_size size ≤ 2 ^ m
-        → IsPlace (D.geometry dev.old).block_size pos first off
-        → IsPlace (D.geometry dev.old).block_size (pos + min (length buf.old) (size - pos) - 1) last end
+        → IsBytePlace (D.geometry dev.old).block_size pos first off
+        → IsBytePlace (D.geometry dev.old).block_size (pos + min (length buf.old) (size - pos) - 1) last end
         → OnOk result (reads (D.history dev.new) ≤ reads (D.history dev.old) + 2 * m + 2 * (last - first) + 1) }
 {
     let block_size = dev.geometry().block_size;

@@ -1,5 +1,5 @@
 ghost use Rattle.std.specs.Prelude.{◌≡◌, ◌≤◌};
-ghost use Rattle.lfs_model.specs.Lists.{IsPlace, blocks_for};
+ghost use Rattle.lfs_model.specs.SkipLists.{IsBytePlace, blocks_for};
 
 /// The least number of blocks of a list that hold `size` bytes, 0 for none.
 ///
@@ -21,7 +21,7 @@ pub fn blocks_for(block_size: u32, size: u32) -> u32
 /// The block size is at least 1,024 bytes. The formula is the one of DESIGN.md of littlefs.
 pub fn place(block_size: u32, pos: u32) -> (u32, u32)
     requires { 1024 ≤ block_size }
-    ensures { IsPlace block_size pos result.0 result.1 }
+    ensures { IsBytePlace block_size pos result.0 result.1 }
 {
     // A block has two pointers on average.
     let mean = block_size - 8;

@@ -2,7 +2,7 @@ ghost use Rattle.std.specs.Prelude.{◌≡◌, ◌≤◌, ◌<◌, ◌+◌, ◌*
 ghost use Rattle.std.specs.List.{FoldsTo};
 ghost use Rattle.lfs_model.specs.Blocks.{block_in};
 ghost use Rattle.lfs_device.specs.Calls.{ReadsOnly, TellsFaults};
-ghost use Rattle.lfs_model.specs.Lists.{IsList, blocks_back, blocks_for, word_at};
+ghost use Rattle.lfs_model.specs.SkipLists.{IsList, blocks_back, blocks_for, word_at};
 ghost use Rattle.lfs_ctz.specs.Right.{IsNamed, IsNoted};
 ghost use Rattle.lfs_model.specs.History.{reads};
 

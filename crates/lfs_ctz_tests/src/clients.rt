@@ -2,8 +2,8 @@
 
 ghost use Rattle.std.specs.Prelude.{◌≡◌, ◌⊎◌, ◌≤◌, ◌<◌, ◌+◌, ◌^◌, take, length, IfErr, IfOk};
 ghost use Rattle.lfs_device.specs.Calls.{ReadsOnly, TellsFaults};
-ghost use Rattle.lfs_model.specs.Lists.{IsList, bytes_of};
-ghost use Rattle.lfs_model.specs.Session.{overwritten as with_bytes};
+ghost use Rattle.lfs_model.specs.SkipLists.{IsList, bytes_of};
+ghost use Rattle.lfs_model.specs.Writers.{written_into as with_bytes};
 
 use lfs_ctz::{Extender, cut, read_at};
 use lfs_device::{BlockDevice, Error, Geometry};

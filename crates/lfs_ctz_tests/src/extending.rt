@@ -1,4 +1,4 @@
-ghost use Rattle.lfs_model.specs.Lists.{IsList};
+ghost use Rattle.lfs_model.specs.SkipLists.{IsList};
 
 use crate::by_hand::image;
 use crate::lists::{List, blank, changed, content, extend, holds, write};

@@ -2,7 +2,7 @@
 
 ghost use Rattle.std.specs.Prelude.{◌≡◌, ◌≤◌, ◌<◌, ◌+◌, ◌-◌, ◌^◌, All, length, OnOk, IfOk};
 ghost use Rattle.std.specs.List.{range_with_len};
-ghost use Rattle.lfs_model.specs.Lists.{IsList, blocks_back, blocks_for};
+ghost use Rattle.lfs_model.specs.SkipLists.{IsList, blocks_back, blocks_for};
 ghost use Rattle.lfs_ctz.specs.Extended.{geometry_of, growing_of};
 ghost use Rattle.lfs_ctz.specs.Growing.{size_of};
 ghost use Rattle.lfs_ctz_tests.specs.Below.{IsBelow, IsOwn};

@@ -6,9 +6,9 @@ use Rattle.std.proofs.lemmas.Option.{slice_get-get_or}
 use Rattle.lfs_model.specs.BlockSets.{BlockState, BlockSets, IsFree, IsInFlight, IsUsed}
 use Rattle.lfs_model.specs.BlockSets.BlockState.{Free, InFlight, Used}
 use Rattle.lfs_model.specs.Disk.{inline_limit}
-use Rattle.lfs_model.specs.Lists.{IsList, bytes_of}
+use Rattle.lfs_model.specs.SkipLists.{IsList, bytes_of}
 use Rattle.lfs_model.specs.Slots.{Struct, Ctz, Inline}
-use Rattle.lfs_model.specs.View.{file_blocks}
+use Rattle.lfs_model.specs.Shown.{file_blocks}
 use Rattle.lfs_model.proofs.BlockSets.{Contains-count, count-Contains}
 use Rattle.lfs_model.proofs.Counts.{count, each_from_counted, once_from_distinct}
 use Rattle.lfs_thread.specs.Kept.{Kept}

@@ -4,7 +4,8 @@ use Rattle.std.specs.List.{AllByRecursion, IsDistinct}
 use Rattle.lfs_model.specs.BlockSets.{IsInFlight}
 use Rattle.lfs_model.specs.SlotEdits.{Stores}
 use Rattle.lfs_model.specs.Slots.{Struct}
-use Rattle.lfs_model.specs.View.{IsListIfCtz, file_blocks}
+use Rattle.lfs_model.specs.View.{IsListIfCtz}
+use Rattle.lfs_model.specs.Shown.{file_blocks}
 use Rattle.lfs_model.proofs.Counts.{count}
 use Rattle.lfs_thread.specs.Kept.{Kept}
 

@@ -9,7 +9,7 @@ ghost use Rattle.lfs_model.proofs.Counts.{count};
 ghost use Rattle.lfs_model.specs.BlockSets.{AreUsed, BlockSets};
 ghost use Rattle.lfs_model.specs.Disk.{inline_limit};
 ghost use Rattle.lfs_model.specs.Slots.{Struct, Ctz, Inline};
-ghost use Rattle.lfs_model.specs.View.{file_blocks};
+ghost use Rattle.lfs_model.specs.Shown.{file_blocks};
 ghost use Rattle.lfs_thread.specs.Kept.{Kept};
 ghost use Rattle.lfs_writer.specs.Form.{Form};
 ghost use Rattle.lfs_writer.specs.Owned.{AreOwned};

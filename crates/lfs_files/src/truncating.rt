@@ -2,7 +2,7 @@
 
 ghost use Rattle.std.specs.Prelude.{◌≡◌, false, take, IfOk};
 ghost use Rattle.lfs_files.specs.Standing.{CanTruncate, Holds, LeavesPairsAndUsed, TellsWork, held_in};
-ghost use Rattle.lfs_model.specs.Session.{zeros_to};
+ghost use Rattle.lfs_model.specs.Writers.{zeros_to};
 ghost use Rattle.lfs_writer.specs.Contents.{bytes_in, form_of};
 ghost use Rattle.lfs_writer.specs.Owned.{AreOwned};
 ghost use Rattle.lfs_writer.specs.Form.{truncated};

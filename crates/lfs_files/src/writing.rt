@@ -2,7 +2,7 @@
 
 ghost use Rattle.std.specs.Prelude.{◌≡◌, false, length, IfOk};
 ghost use Rattle.lfs_files.specs.Standing.{CanWrite, Holds, LeavesPairsAndUsed, TellsWork, held_in};
-ghost use Rattle.lfs_model.specs.Session.{overwritten};
+ghost use Rattle.lfs_model.specs.Writers.{written_into};
 ghost use Rattle.lfs_writer.specs.Contents.{bytes_in, form_of};
 ghost use Rattle.lfs_writer.specs.Owned.{AreOwned};
 ghost use Rattle.lfs_writer.specs.Form.{written};
@@ -28,7 +28,7 @@ pub fn write_file<D: BlockDevice>(
 ) -> Result<Contents, Error>
     requires works { thread.old.failed ≡ false }
     requires can { CanWrite thread.old.kept contents limit place (length bytes.now) }
-    ensures written { IfOk result (λ c. Holds thread.new.kept c (overwritten (bytes_in thread.old.kept.disk.blocks thread.old.kept.disk.block_size contents) place bytes.now)
+    ensures written { IfOk result (λ c. Holds thread.new.kept c (written_into (bytes_in thread.old.kept.disk.blocks thread.old.kept.disk.block_size contents) place bytes.now)
         (written limit place (length bytes.now) (form_of contents))) }
     ensures owned { IfOk result (λ c. AreOwned thread.new.kept.map (held_in thread.old.kept contents) (held_in thread.new.kept c)) }
     ensures works { thread.new.failed ≡ false }

@@ -5,15 +5,17 @@ use Rattle.std.proofs.lemmas.Option.{same_Some}
 use Rattle.lfs_model.specs.History.{Event}
 use Rattle.lfs_model.specs.Operations as ops
 use Rattle.lfs_model.specs.Operations.{Operation, Reply, Refusal, Flags, Failed}
-use Rattle.lfs_model.specs.Session.{Files, Session, Surroundings, Reading, Writing, free_number, put_file, opened_writer}
-use Rattle.lfs_model.specs.Steps.{as_path, refusal_of, effect_of}
+use Rattle.lfs_model.specs.Session.{Files, Session, Surroundings, Reading, Writing, free_number, put_file}
+use Rattle.lfs_model.specs.Writers.{opened_writer}
+use Rattle.lfs_model.specs.Refusals.{as_path, refusal_of}
+use Rattle.lfs_model.specs.Effects.{effect_of}
 use Rattle.lfs_model.specs.State.{Healthy, is_remount}
 use Rattle.lfs_model.specs.Recovery.{recovers}
 use Rattle.lfs_model.specs.Run.{IsTurn, only_asks, creates_nothing, fills, needs_no_call, lays_out}
 use Rattle.lfs_model.proofs.TurnsMade.{IsOver, idle_turn, refused_turn, completed_turn, asked_turn, failed_turn}
 use Rattle.std.specs.Prelude.{◌⊎◌, ◌||◌, OnOk, OnErr, IfOk, IfErr, is_err, is_none, is_some, not, if◌then◌else◌}
 use Rattle.lfs_model.specs.Tree.{FileNode}
-use Rattle.lfs_model.specs.Apply.{added as add_file, bytes_at, is_file}
+use Rattle.lfs_model.specs.TreeEdits.{added as add_file, bytes_at, is_file}
 use Rattle.lfs_device.specs.declared.error.Error.{Error}
 use Rattle.lfs_device.specs.declared.error.Error.TheVariants.{Io, NoMemory}
 use Rattle.lfs_model.specs.Headline.{is_question}
@@ -25,7 +27,7 @@ use Rattle.lfs_model.specs.BlockSets.{IsInFlight}
 use Rattle.lfs_model.proofs.BlockCounts.{few_flying, in_flight-freed}
 use Rattle.lfs_fs.specs.FileSeen.{OpenFiles, bytes_of, files_seen, has_unsaved, reader_seen, writer_seen, writers_in}
 use Rattle.lfs_fs.specs.declared.files.OpenFile.TheVariants as file
-use Rattle.lfs_model.specs.Keeping.{concerns}
+use Rattle.lfs_model.specs.Keeping.{takes_or_moves}
 use Rattle.lfs_fs.specs.Staying.{AreLeft, FilesStay, KeepsWriters, SparesWriters}
 use Rattle.lfs_model.specs.Slots.{no_gstate}
 use Rattle.lfs_model.specs.Thread.{gstate_of}
@@ -460,6 +462,6 @@ done_left K old mid new files op (Ok u) stay ready asked e spares keeps k carrie
 done_left K old mid new files op (Err x) stay ready asked e spares keeps k carried broken works = absurd (let l = sym broken.failed ∙ works in cc)
 
 -- it is about no writer's file
-pub none_concerned : (op : Operation) → ((p : Path) → concerns op p ≡ false) → (ws : List Writer) → AllByRecursion (λ w. concerns op w.path ≡ false) ws
+pub none_concerned : (op : Operation) → ((p : Path) → takes_or_moves op p ≡ false) → (ws : List Writer) → AllByRecursion (λ w. takes_or_moves op w.path ≡ false) ws
 none_concerned op h [] = tt
 none_concerned op h (w ∷ ws) = (h w.path, none_concerned op h ws)

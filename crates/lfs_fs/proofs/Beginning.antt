@@ -1,15 +1,15 @@
 -- Writers that are opened.
 use Rattle.std.proofs.Common.{ℕ, ◌≡◌, ◌+◌, ◌*◌, ◌≤◌, Bool, true, false, cond, List, [], ◌∷◌, length, nat_lt, ◌&&◌, Option, Some, None, refl, sym, ap, ap₂, subst, ◌∙◌, arith}
 use Rattle.std.proofs.lemmas.Bool.{le-leb, lt-ltb}
-use Rattle.lfs_model.specs.Apply.{bytes_at, is_file}
+use Rattle.lfs_model.specs.TreeEdits.{bytes_at, is_file}
 use Rattle.lfs_model.specs.Disk.{block_count, inline_limit}
-use Rattle.lfs_model.specs.Lists.{blocks_for}
+use Rattle.lfs_model.specs.SkipLists.{blocks_for}
 use Rattle.lfs_model.specs.Operations.{Flags}
 use Rattle.lfs_model.specs.Slots.{no_gstate}
 use Rattle.lfs_model.specs.Thread.{gstate_of}
 use Rattle.lfs_model.specs.Session as session
-use Rattle.lfs_model.specs.Session.{opened_writer}
-use Rattle.lfs_model.specs.Steps.{size_of}
+use Rattle.lfs_model.specs.Writers.{opened_writer}
+use Rattle.lfs_model.specs.Effects.{size_of}
 use Rattle.lfs_model.specs.Tree.{Node, FileNode, DirectoryNode, Path}
 use Rattle.lfs_tree.specs.OpenContents.{IsOver, IsSettleable, bytes_held, kept_of}
 use Rattle.lfs_tree.specs.Seen.{IsCarried, Seen, around_of, tree_seen}
@@ -21,9 +21,9 @@ use Rattle.lfs_fs.specs.Changing.{CanBegin, IsBegunAs}
 use Rattle.lfs_fs.specs.FileSeen.{held_for}
 use Rattle.lfs_fs.specs.declared.files.Writer.{Writer}
 use Rattle.lfs_model.proofs.Paths.{path_itself}
-use Rattle.lfs_model.specs.Apply.{added, change_at, last_name, parent_of, with_name, with_names}
+use Rattle.lfs_model.specs.TreeEdits.{added, change_at, last_name, parent_of, with_name, with_names}
 use Rattle.lfs_model.specs.Operations as ops
-use Rattle.lfs_model.specs.Steps.{as_path}
+use Rattle.lfs_model.specs.Refusals.{as_path}
 use Rattle.lfs_model.specs.Tree.{Tree}
 use Rattle.lfs_tree.specs.Allowed.{CanCreate}
 use Rattle.std.specs.Prelude.{is_none, is_some, if◌then◌else◌}

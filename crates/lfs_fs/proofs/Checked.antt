@@ -6,11 +6,12 @@ use Rattle.std.specs.Option.{option_or}
 use Rattle.std.proofs.lemmas.Bool.Decides.{nat_tests}
 use Rattle.lfs_model.specs.Disk.{block_count}
 use Rattle.lfs_model.specs.Tree.{Path}
-use Rattle.lfs_model.specs.Apply.{last_name, same_path}
+use Rattle.lfs_model.specs.TreeEdits.{last_name, same_path}
 use Rattle.lfs_model.specs.Operations as ops
 use Rattle.lfs_model.specs.Operations.{Operation, Refusal, Flags, path_of}
 use Rattle.lfs_model.specs.Session.{is_allowed, is_long, parent_fault, readers, writers, first_of, refuse_if, is_overcharged, lacks, held}
-use Rattle.lfs_model.specs.Steps.{as_path, size_of}
+use Rattle.lfs_model.specs.Refusals.{as_path}
+use Rattle.lfs_model.specs.Effects.{size_of}
 use Rattle.lfs_device.specs.declared.error.Error.{Error}
 use Rattle.lfs_tree.specs.Refusals.{error_for}
 use Rattle.lfs_fs.specs.Replies.{passed_with}

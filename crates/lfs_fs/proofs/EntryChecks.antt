@@ -5,12 +5,12 @@ use Rattle.std.specs.List.{onto_first, slice_split, list_all}
 use Rattle.std.proofs.lemmas.Bool.{lt-ltb}
 use Rattle.lfs_device.specs.declared.error.Error.{Error}
 use Rattle.lfs_model.specs.Names.{is_component, slash}
-use Rattle.lfs_model.specs.Apply.{attributes_of, is_directory}
+use Rattle.lfs_model.specs.TreeEdits.{attributes_of, is_directory}
 use Rattle.lfs_model.specs.Content.{attribute_of}
 use Rattle.lfs_model.specs.Operations as ops
 use Rattle.lfs_model.specs.Operations.{Operation, Refusal, path_of}
 use Rattle.lfs_model.specs.Session.{first_of, refuse_if}
-use Rattle.lfs_model.specs.Steps.{as_path, bad_entry, is_root}
+use Rattle.lfs_model.specs.Refusals.{as_path, bad_entry, is_root}
 use Rattle.lfs_model.specs.Tree.{Path}
 use Rattle.lfs_tree.specs.Allowed.{CanRemoveAttr}
 use Rattle.lfs_tree.specs.Finds.{Finds, is_absent, is_directory_node, is_file_node}

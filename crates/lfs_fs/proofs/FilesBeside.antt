@@ -1,11 +1,11 @@
 -- Files beside a path at which nothing has names.
 use Rattle.std.proofs.Common.{ℕ, ◌≡◌, ◌||◌, ◌++◌, ◌∙◌, Bool, true, false, cond, List, [], ◌∷◌, length, map, Option, Some, None, is_some, refl, sym, ap, arith, append-nil}
 use Rattle.std.specs.Option.{option_and_then, option_map}
-use Rattle.lfs_model.specs.Apply.{is_file, names_of, rest_after, same_path}
+use Rattle.lfs_model.specs.TreeEdits.{is_file, names_of, rest_after, same_path}
 use Rattle.lfs_model.specs.Slots.{Slot, Struct, Inline, Ctz, Branch}
 use Rattle.lfs_model.specs.Tree.{Entries, Path, branch_of, node_of, root_slot, slot_at, tree_from}
 use Rattle.lfs_model.specs.Thread.{root_of}
-use Rattle.lfs_model.specs.View.{contents_in, entries_in}
+use Rattle.lfs_model.specs.Shown.{contents_in, entries_in}
 use Rattle.lfs_model.proofs.Paths.{path_itself, rest_from}
 use Rattle.lfs_model.proofs.Walks.{IsLeaf, leaf_walk, walk_append}
 use Rattle.lfs_tree.specs.Seen.{Seen, tree_seen}

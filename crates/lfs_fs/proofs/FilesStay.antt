@@ -2,7 +2,7 @@
 use Rattle.std.proofs.Common.{ℕ, ◌≡◌, ◌+◌, ◌-◌, ◌≤◌, ◌⊎◌, ◌∙◌, inl, inr, Bool, true, false, List, [], ◌∷◌, length, Option, Some, None, is_none, is_some, refl, sym, ap, ap₂, subst, arith}
 use Rattle.std.specs.Prelude.{◌||◌, if◌then◌else◌, sum_by}
 use Rattle.std.specs.List.{AllByRecursion, list_any}
-use Rattle.lfs_model.specs.Apply.{bytes_at, is_file}
+use Rattle.lfs_model.specs.TreeEdits.{bytes_at, is_file}
 use Rattle.lfs_model.specs.BlockSets.{IsInFlight, in_flight_count}
 use Rattle.lfs_model.specs.Disk.{block_count, inline_limit}
 use Rattle.lfs_model.specs.Operations.{Operation}
@@ -17,7 +17,7 @@ use Rattle.lfs_writer.specs.Form.{Form, IsKept, form_blocks}
 use Rattle.lfs_writer.specs.declared.contents.Contents.{Contents}
 use Rattle.lfs_fs.specs.FileSeen.{OpenFiles, bytes_of, end_in, files_seen, has_unsaved, held_by_all, held_by_size, held_for, reader_seen, turned_in, writer_seen, writers_in}
 use Rattle.lfs_fs.specs.Held.{IsChanged, IsReady, IsUnsavedIn, IsWritten}
-use Rattle.lfs_model.specs.Keeping.{concerns}
+use Rattle.lfs_model.specs.Keeping.{takes_or_moves}
 use Rattle.lfs_tree.specs.KeepsFiles.{taken_by}
 use Rattle.lfs_fs.specs.Staying.{AreLeft, KeepsWriters, SparesWriters}
 use Rattle.lfs_fs.specs.declared.files.OpenFile.TheVariants as file
@@ -38,15 +38,15 @@ the_first a b c n h = omega arith
 
 -- ---- a writer
 
-module _ (over : (old new : Seen) (op : Operation) (path : Path) (c : Contents) → IsOver old path c → IsSound old → IsCarried old op new → concerns op path ≡ false → IsOver new path c)
-    (bytes : (old new : Seen) (op : Operation) (path : Path) (c : Contents) → IsOver old path c → IsSound old → IsCarried old op new → concerns op path ≡ false → bytes_held (kept_of new) c ≡ bytes_held (kept_of old) c)
+module _ (over : (old new : Seen) (op : Operation) (path : Path) (c : Contents) → IsOver old path c → IsSound old → IsCarried old op new → takes_or_moves op path ≡ false → IsOver new path c)
+    (bytes : (old new : Seen) (op : Operation) (path : Path) (c : Contents) → IsOver old path c → IsSound old → IsCarried old op new → takes_or_moves op path ≡ false → bytes_held (kept_of new) c ≡ bytes_held (kept_of old) c)
     (few : (old new : Seen) (op : Operation) → IsSound old → old.writable ≡ true → IsCarried old op new → length (around_of new).used ≤ length (around_of old).used + taken_by op)
     (old new : Seen) (op : Operation) (sound : IsSound old) (carried : IsCarried old op new) where
-  same_bytes : (w : Writer) (u : Option Unsaved) → IsUnsavedIn old w u → concerns op w.path ≡ false → bytes_at (tree_seen new w.path) ≡ bytes_at (tree_seen old w.path) → bytes_of new w.path u ≡ bytes_of old w.path u
+  same_bytes : (w : Writer) (u : Option Unsaved) → IsUnsavedIn old w u → takes_or_moves op w.path ≡ false → bytes_at (tree_seen new w.path) ≡ bytes_at (tree_seen old w.path) → bytes_of new w.path u ≡ bytes_of old w.path u
   same_bytes w None h off stays = stays
   same_bytes w (Some u) h off stays = bytes old new op w.path u.contents h.over sound carried off
 
-  same_writer : (w : Writer) → IsWritten old w → concerns op w.path ≡ false → bytes_at (tree_seen new w.path) ≡ bytes_at (tree_seen old w.path) → writer_seen new w ≡ writer_seen old w
+  same_writer : (w : Writer) → IsWritten old w → takes_or_moves op w.path ≡ false → bytes_at (tree_seen new w.path) ≡ bytes_at (tree_seen old w.path) → writer_seen new w ≡ writer_seen old w
   same_writer w h off stays = ap make (same_bytes w w.unsaved h.changed off stays)
     where
       make : List ℕ → session.Writer
@@ -63,7 +63,7 @@ module _ (over : (old new : Seen) (op : Operation) (path : Path) (c : Contents) 
       go (inr r) = room_enough _ (length (around_of old).used) (taken_by op) _ _ (block_count old.disk) (few old new op sound writable carried)
           (subst (λ n. length (around_of old).used + n + taken_by op ≤ block_count old.disk) (ap (λ o. if is_none o then 0 else held_for old.disk.block_size (turned_in o) w.size) is) r) carried.geometry.count
 
-  still_changed : (w : Writer) (u : Unsaved) → IsWritten old w → w.unsaved ≡ Some u → concerns op w.path ≡ false → bytes_at (tree_seen new w.path) ≡ bytes_at (tree_seen old w.path) → IsChanged old w u → HasRoom w → IsChanged new w u
+  still_changed : (w : Writer) (u : Unsaved) → IsWritten old w → w.unsaved ≡ Some u → takes_or_moves op w.path ≡ false → bytes_at (tree_seen new w.path) ≡ bytes_at (tree_seen old w.path) → IsChanged old w u → HasRoom w → IsChanged new w u
   still_changed w u h is off stays c room = record {
     over = over old new op w.path u.contents c.over sound carried off;
     kept = subst (λ n. IsKept n (form_of u.contents) (writer_seen new w)) (sym carried.geometry.block_size) (subst (IsKept old.disk.block_size (form_of u.contents)) (sym (same_writer w h off stays)) c.kept);
@@ -71,7 +71,7 @@ module _ (over : (old new : Seen) (op : Operation) (path : Path) (c : Contents) 
     room = still_fits w u h.writable is c room;
   }
 
-  still_written : (w : Writer) → IsWritten old w → concerns op w.path ≡ false → (is_file (tree_seen new w.path) ≡ true) × (bytes_at (tree_seen new w.path) ≡ bytes_at (tree_seen old w.path)) → HasRoom w → IsWritten new w
+  still_written : (w : Writer) → IsWritten old w → takes_or_moves op w.path ≡ false → (is_file (tree_seen new w.path) ≡ true) × (bytes_at (tree_seen new w.path) ≡ bytes_at (tree_seen old w.path)) → HasRoom w → IsWritten new w
   still_written w h off keeps room = record {
     writable = carried.writable;
     settled = carried.recovered.gstate;
@@ -86,7 +86,7 @@ module _ (over : (old new : Seen) (op : Operation) (path : Path) (c : Contents) 
 
   -- ---- all files
 
-  still_all : (ws : List Writer) → length ws ≤ 1 → AllByRecursion (IsWritten old) ws → AllByRecursion (λ w. concerns op w.path ≡ false) ws → KeepsWriters old new ws →
+  still_all : (ws : List Writer) → length ws ≤ 1 → AllByRecursion (IsWritten old) ws → AllByRecursion (λ w. takes_or_moves op w.path ≡ false) ws → KeepsWriters old new ws →
       (taken_by op ≡ 0) ⊎ (length (around_of old).used + sum_by (held_by_size old.disk.block_size) ws + taken_by op ≤ block_count old.disk) → AllByRecursion (IsWritten new) ws
   still_all [] one h off keeps room = tt
   still_all (w ∷ []) one h off keeps room = (still_written w h.0 off.0 keeps.0 (go room), tt)
@@ -96,7 +96,7 @@ module _ (over : (old new : Seen) (op : Operation) (path : Path) (c : Contents) 
       go (inr r) = inr (the_first _ _ _ _ r)
   still_all (w ∷ v ∷ ws) one h off keeps room = absurd (omega (arith, one))
 
-  same_files : (fs : OpenFiles) → AllByRecursion (IsWritten old) (writers_in fs) → AllByRecursion (λ w. concerns op w.path ≡ false) (writers_in fs) → KeepsWriters old new (writers_in fs) → files_seen old fs ≡ files_seen new fs
+  same_files : (fs : OpenFiles) → AllByRecursion (IsWritten old) (writers_in fs) → AllByRecursion (λ w. takes_or_moves op w.path ≡ false) (writers_in fs) → KeepsWriters old new (writers_in fs) → files_seen old fs ≡ files_seen new fs
   same_files [] h off keeps = refl
   same_files (None ∷ fs) h off keeps = ap (λ z. None ∷ z) (same_files fs h off keeps)
   same_files (Some (file.Reading r) ∷ fs) h off keeps = ap (λ z. Some (Reading (reader_seen r)) ∷ z) (same_files fs h off keeps)

@@ -7,7 +7,8 @@ use Rattle.lfs_model.specs.Session.{Files}
 use Rattle.lfs_model.specs.State.{HasFailed, Healthy, mounted}
 use Rattle.lfs_model.specs.Thread.{Pair}
 use Rattle.lfs_model.specs.Tree.{Tree}
-use Rattle.lfs_model.specs.View.{IsAccepted, tree_in}
+use Rattle.lfs_model.specs.View.{IsAccepted}
+use Rattle.lfs_model.specs.Shown.{tree_in}
 use Rattle.lfs_model.proofs.Fresh.{accepted, shows}
 use Rattle.lfs_model.proofs.Uniqueness.{one_thread}
 use Rattle.lfs_fs.specs.Held.{Held, moment_of, session_of}

@@ -12,11 +12,12 @@ use Rattle.lfs_writer.specs.Form.{Fits, Form, IsKept}
 use Rattle.std.proofs.lemmas.Bool.Decides.{nat_tests}
 use Rattle.std.proofs.lemmas.List.{map-set, map-append}
 use Rattle.std.proofs.lemmas.Option.{slice_get-map}
-use Rattle.lfs_model.specs.Apply.{same_path}
+use Rattle.lfs_model.specs.TreeEdits.{same_path}
 use Rattle.lfs_model.specs.Tree.{Path}
 use Rattle.lfs_model.specs.Session as session
 use Rattle.lfs_model.specs.Session.{is_open_at, Files, Reading, file_of, free_number, held, held_by, put_file, reader_of, readers, writers, ctz_blocks}
-use Rattle.lfs_model.specs.Steps.{as_path, moved_to}
+use Rattle.lfs_model.specs.Refusals.{as_path}
+use Rattle.lfs_model.specs.Effects.{moved_to}
 use Rattle.lfs_model.specs.Operations.{path_of}
 use Rattle.lfs_model.specs.Disk.{block_count}
 use Rattle.lfs_model.specs.Session.{lacks}

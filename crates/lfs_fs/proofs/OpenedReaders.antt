@@ -5,7 +5,7 @@ use Rattle.lfs_device.specs.declared.error.Error.{Error}
 use Rattle.lfs_model.specs.Operations as ops
 use Rattle.lfs_model.specs.Operations.{Flags}
 use Rattle.lfs_model.specs.Session.{Reading, put_file}
-use Rattle.lfs_model.specs.Steps.{as_path}
+use Rattle.lfs_model.specs.Refusals.{as_path}
 use Rattle.lfs_model.specs.Tree.{Path}
 use Rattle.lfs_tree.specs.Seen.{Seen, IsAsked, tree_seen}
 use Rattle.lfs_fs.specs.FileSeen.{OpenFiles, files_seen, free_entry, put_entry}

@@ -6,16 +6,18 @@ use Rattle.std.proofs.lemmas.Bool.{lt-ltb, ltb-true}
 use Rattle.std.proofs.lemmas.Bool.Decides.{nat_tests}
 use Rattle.lfs_device.specs.declared.error.Error.{Error}
 use Rattle.lfs_device.specs.declared.error.Error.TheVariants.{NoMemory}
-use Rattle.lfs_model.specs.Apply.{added, bytes_at, is_directory, last_name, same_path}
+use Rattle.lfs_model.specs.TreeEdits.{added, bytes_at, is_directory, last_name, same_path}
 use Rattle.lfs_model.specs.BlockSets.{in_flight_count}
 use Rattle.lfs_model.specs.Disk.{block_count}
 use Rattle.lfs_model.specs.History.{Event}
 use Rattle.lfs_model.specs.Operations as ops
 use Rattle.lfs_model.specs.Operations.{Flags, path_of}
 use Rattle.lfs_model.specs.Run.{IsTurn}
-use Rattle.lfs_model.specs.Session.{Files, Session, Reading, Writing, free_number, held, is_long, is_open_at, is_overcharged, lacks, opened_writer, overfills, parent_fault, put_file, readers, writers}
+use Rattle.lfs_model.specs.Session.{Files, Session, Reading, Writing, free_number, held, is_long, is_open_at, is_overcharged, lacks, overfills, parent_fault, put_file, readers, writers}
+use Rattle.lfs_model.specs.Writers.{opened_writer}
 use Rattle.lfs_model.specs.State.{Healthy}
-use Rattle.lfs_model.specs.Steps.{as_path, effect_of, size_of}
+use Rattle.lfs_model.specs.Refusals.{as_path}
+use Rattle.lfs_model.specs.Effects.{effect_of, size_of}
 use Rattle.lfs_model.specs.Tree.{DirectoryNode, FileNode, Node, Path}
 use Rattle.lfs_model.proofs.Committed.{recovered_from}
 use Rattle.lfs_model.proofs.TurnsMade.{completed_turn}

@@ -5,10 +5,10 @@ use Rattle.std.specs.Cmp.Lexicographic.{pointwise}
 use Rattle.std.proofs.lemmas.Slice.Eq.{starts_is}
 use Rattle.std.proofs.lemmas.Bool.{and_parts, lt-ltb, ltb-true, ltb-false}
 use Rattle.std.proofs.lemmas.Bool.Decides.{Decides-eqb}
-use Rattle.lfs_model.specs.Apply.{rest_after}
+use Rattle.lfs_model.specs.TreeEdits.{rest_after}
 use Rattle.lfs_model.specs.Names.{Name, is_component, same_name, slash}
 use Rattle.lfs_model.specs.Operations.{path_of}
-use Rattle.lfs_model.specs.Steps.{as_path, bad_entry}
+use Rattle.lfs_model.specs.Refusals.{as_path, bad_entry}
 use Rattle.lfs_model.specs.Tree.{Path}
 use Rattle.lfs_model.proofs.Paths.{Names, alike, unlike, names, same_itself, unlike_test}
 use Rattle.lfs_fs.specs.RenamePaths.{goes_on}

@@ -5,9 +5,10 @@ use Rattle.lfs_device.specs.declared.error.Error.{Error}
 use Rattle.lfs_model.specs.History.{faults}
 use Rattle.lfs_model.specs.Operations as ops
 use Rattle.lfs_model.specs.Operations.{Operation, Reply, Failed}
-use Rattle.lfs_model.specs.Steps.{as_path, effect_of, items_in, refusal_of}
+use Rattle.lfs_model.specs.Refusals.{as_path, refusal_of}
+use Rattle.lfs_model.specs.Effects.{effect_of, items_in}
 use Rattle.std.proofs.lemmas.Bool.{le-leb, leb-true}
-use Rattle.lfs_model.specs.Apply.{is_directory}
+use Rattle.lfs_model.specs.TreeEdits.{is_directory}
 use Rattle.lfs_model.specs.Session.{refuse_if}
 use Rattle.lfs_model.specs.Tree.{Path}
 use Rattle.lfs_model.specs.State.{is_remount}

@@ -2,11 +2,11 @@
 use Rattle.std.proofs.Common.{ℕ, ◌≡◌, ◌+◌, ◌-◌, ◌<◌, ◌^◌, min, true, false, List, length, take, drop, Option, Some, None, is_none, Result, Ok, Err, refl, sym, ap, ap₂, subst, ◌∙◌, arith}
 use Rattle.std.proofs.lemmas.List.{length-take, length-drop}
 use Rattle.std.specs.Option.{option_map}
-use Rattle.lfs_model.specs.Apply.{bytes_at, is_file}
+use Rattle.lfs_model.specs.TreeEdits.{bytes_at, is_file}
 use Rattle.lfs_model.specs.Operations as ops
 use Rattle.lfs_model.specs.Operations.{Operation, Reply}
 use Rattle.lfs_model.specs.Session.{Files, OpenFile, Reader, Reading, Writing, file_of, put_file, reader_of, refuse_if}
-use Rattle.lfs_model.specs.Steps.{moved_to, read_effect, size_of}
+use Rattle.lfs_model.specs.Effects.{moved_to, read_effect, size_of}
 use Rattle.lfs_model.specs.Tree.{Node, FileNode, DirectoryNode}
 use Rattle.lfs_tree.specs.Seen.{Seen, IsSound, tree_seen, IsAsked}
 use Rattle.lfs_fs.specs.Held.{Held, held_with, session_of, refused_by, Answers}

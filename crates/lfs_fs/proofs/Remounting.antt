@@ -8,12 +8,13 @@ use Rattle.lfs_model.specs.History.{Event}
 use Rattle.lfs_model.specs.Operations as ops
 use Rattle.lfs_model.specs.Session.{Files}
 use Rattle.lfs_model.specs.State.{Healthy, Surrounds, mounted}
-use Rattle.lfs_model.specs.Steps.{committed, with_bytes}
-use Rattle.lfs_model.specs.Apply.{change_at}
+use Rattle.lfs_model.specs.Effects.{committed, with_bytes}
+use Rattle.lfs_model.specs.TreeEdits.{change_at}
 use Rattle.std.specs.Option.{option_map}
 use Rattle.lfs_model.specs.Thread.{Pair}
 use Rattle.lfs_model.specs.Tree.{Tree}
-use Rattle.lfs_model.specs.View.{IsAccepted, tree_in}
+use Rattle.lfs_model.specs.View.{IsAccepted}
+use Rattle.lfs_model.specs.Shown.{tree_in}
 use Rattle.lfs_model.specs.Run.{Moment, IsTurn, NoWrites, is_dirty}
 use Rattle.lfs_model.proofs.TurnsMade.{remounted_turn}
 use Rattle.lfs_tree.specs.Refusals.{is_refusal, refusal_in}

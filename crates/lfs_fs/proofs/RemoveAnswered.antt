@@ -4,15 +4,15 @@ use Rattle.std.specs.Prelude.{OnErr, OnOk}
 use Rattle.std.specs.List.{AllByRecursion}
 use Rattle.std.proofs.lemmas.Bool.{ltb-false}
 use Rattle.lfs_device.specs.declared.error.Error.{Error}
-use Rattle.lfs_model.specs.Apply.{names_of, is_file, bytes_at, last_name, parent_of, removed, same_path, with_names, without_name}
+use Rattle.lfs_model.specs.TreeEdits.{names_of, is_file, bytes_at, last_name, parent_of, removed, same_path, with_names, without_name}
 use Rattle.lfs_model.specs.Operations as ops
 use Rattle.lfs_model.specs.Session.{is_open_at}
-use Rattle.lfs_model.specs.Steps.{as_path}
+use Rattle.lfs_model.specs.Refusals.{as_path}
 use Rattle.lfs_model.specs.Tree.{Path, Tree}
 use Rattle.lfs_tree.specs.Seen.{Seen, IsAsked, IsBroken, IsCarried, around_of, tree_seen}
 use Rattle.lfs_fs.specs.FileSeen.{OpenFiles, files_seen, writers_in}
 use Rattle.lfs_fs.specs.Held.{IsReady, IsWritten, held_of, refused_by}
-use Rattle.lfs_model.specs.Keeping.{concerns}
+use Rattle.lfs_model.specs.Keeping.{takes_or_moves}
 use Rattle.lfs_fs.specs.Staying.{AreLeft, FilesStay, KeepsWriters, SparesWriters}
 use Rattle.lfs_fs.specs.declared.files.OpenFile.TheVariants as file
 use Rattle.lfs_fs.specs.declared.files.Writer.{Writer}
@@ -45,7 +45,7 @@ remove_keeps old t s files bytes e ready carried =
 
 -- the remove is about none of them
 off : (t : Seen) (bytes : List ℕ) → length (names_of (tree_seen t (as_path bytes))) ≡ 0 → (ws : List Writer) → AllByRecursion (IsWritten t) ws → AllByRecursion (λ w. same_path (as_path bytes) w.path ≡ false) ws →
-    AllByRecursion (λ w. concerns (ops.Remove bytes) w.path ≡ false) ws
+    AllByRecursion (λ w. takes_or_moves (ops.Remove bytes) w.path ≡ false) ws
 off t bytes bare [] written apart = tt
 off t bytes bare (w ∷ ws) written apart = (ap is_some (beside t (as_path bytes) w.path bare written.0.there apart.0), off t bytes bare ws written.1 apart.1)
 

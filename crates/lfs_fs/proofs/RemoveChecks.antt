@@ -1,11 +1,11 @@
 -- Checks of a remove.
 use Rattle.std.proofs.Common.{ℕ, ◌≡◌, Bool, true, false, List, [], ◌∷◌, length, nat_lt, Option, Some, None, Result, Ok, unwrap_or, is_none, refl, sym, ap, subst, ◌∙◌, not}
 use Rattle.lfs_device.specs.declared.error.Error.{Error}
-use Rattle.lfs_model.specs.Apply.{names_of, same_path}
+use Rattle.lfs_model.specs.TreeEdits.{names_of, same_path}
 use Rattle.lfs_model.specs.Operations as ops
 use Rattle.lfs_model.specs.Operations.{Refusal, path_of}
 use Rattle.lfs_model.specs.Session.{first_of, is_open_at, refuse_if, parent_fault}
-use Rattle.lfs_model.specs.Steps.{as_path, is_root, bad_entry}
+use Rattle.lfs_model.specs.Refusals.{as_path, is_root, bad_entry}
 use Rattle.lfs_model.specs.Tree.{Path}
 use Rattle.lfs_tree.specs.Allowed.{CanRemove}
 use Rattle.lfs_tree.specs.Finds.{Finds, has_entries_in, is_absent}

@@ -4,17 +4,17 @@ use Rattle.std.specs.Prelude.{OnErr, OnOk}
 use Rattle.std.specs.List.{AllByRecursion}
 use Rattle.std.proofs.lemmas.Bool.{ltb-false}
 use Rattle.lfs_device.specs.declared.error.Error.{Error}
-use Rattle.lfs_model.specs.Apply.{bytes_at, change_at, is_file, last_name, names_of, parent_of, planted, renamed, rest_after, same_path, with_name, with_names, without_name}
+use Rattle.lfs_model.specs.TreeEdits.{bytes_at, change_at, is_file, last_name, names_of, parent_of, planted, renamed, rest_after, same_path, with_name, with_names, without_name}
 use Rattle.lfs_model.specs.Operations as ops
 use Rattle.lfs_model.specs.Session.{is_open_at}
-use Rattle.lfs_model.specs.Steps.{as_path}
+use Rattle.lfs_model.specs.Refusals.{as_path}
 use Rattle.lfs_model.specs.Tree.{Path, Tree}
 use Rattle.lfs_model.specs.Run.{IsTurn}
 use Rattle.lfs_tree.specs.Seen.{Seen, IsAsked, IsBroken, IsCarried, around_of, tree_seen}
 use Rattle.lfs_fs.specs.FileSeen.{OpenFiles, files_seen, writers_in}
 use Rattle.lfs_fs.specs.Held.{Answers, Held, IsReady, IsWritten, held_of, held_with, moment_of, refused_by}
 use Rattle.lfs_fs.specs.RenamePaths.{is_in_the_way}
-use Rattle.lfs_model.specs.Keeping.{concerns}
+use Rattle.lfs_model.specs.Keeping.{takes_or_moves}
 use Rattle.lfs_fs.specs.Staying.{AreLeft, FilesStay, KeepsWriters, SparesWriters}
 use Rattle.lfs_fs.specs.declared.files.OpenFile.TheVariants as file
 use Rattle.lfs_fs.specs.declared.files.Writer.{Writer}
@@ -67,7 +67,7 @@ rename_keeps old t s files a b asked e other ready carried =
 
 -- the rename is about none of them
 off_both : (t : Seen) (a b : List ℕ) → length (names_of (tree_seen t (as_path b))) ≡ 0 → (ws : List Writer) → AllByRecursion (IsWritten t) ws → AllByRecursion (λ w. is_in_the_way (as_path a) (as_path b) w.path ≡ false) ws →
-    AllByRecursion (λ w. concerns (ops.Rename a b) w.path ≡ false) ws
+    AllByRecursion (λ w. takes_or_moves (ops.Rename a b) w.path ≡ false) ws
 off_both t a b bare [] written apart = tt
 off_both t a b bare (w ∷ ws) written apart =
     let k = or_false _ _ apart.0 in

@@ -1,14 +1,14 @@
 -- Checks of a rename.
 use Rattle.std.proofs.Common.{◌≤◌, ℕ, ◌≡◌, ◌&&◌, ◌||◌, Bool, true, false, not, List, [], ◌∷◌, length, nat_lt, Option, Some, None, Result, unwrap_or, refl, sym, ap, ap₂, subst, ◌∙◌}
 use Rattle.lfs_device.specs.declared.error.Error.{Error}
-use Rattle.lfs_model.specs.Apply.{attributes_of, is_beneath, last_name, names_of, same_path}
+use Rattle.lfs_model.specs.TreeEdits.{attributes_of, is_beneath, last_name, names_of, same_path}
 use Rattle.lfs_model.specs.BlockSets.{in_flight_count}
 use Rattle.lfs_model.specs.Disk.{block_count}
 use Rattle.lfs_model.specs.Operations as ops
 use Rattle.lfs_model.specs.Operations.{Refusal, path_of}
 use Rattle.lfs_model.specs.Session.{first_of, held, is_open_at, is_overcharged, lacks, refuse_if}
 use Rattle.lfs_model.specs.Slots.{Attributes, attributes_size}
-use Rattle.lfs_model.specs.Steps.{as_path, is_root}
+use Rattle.lfs_model.specs.Refusals.{as_path, is_root}
 use Rattle.lfs_model.specs.Tree.{Path}
 use Rattle.lfs_tree.specs.Allowed.{CanRename}
 use Rattle.lfs_tree.specs.AttributeAt.{IsAttributesSize}

@@ -4,16 +4,17 @@ use Rattle.std.specs.List.{AllByRecursion, list_any}
 use Rattle.std.specs.Option.{option_flatten, option_map}
 use Rattle.std.proofs.lemmas.List.{length-map, length-set, map-set, set-set}
 use Rattle.lfs_device.specs.declared.error.Error.{Error}
-use Rattle.lfs_model.specs.Apply.{change_at}
+use Rattle.lfs_model.specs.TreeEdits.{change_at}
 use Rattle.lfs_model.specs.History.{Event}
 use Rattle.lfs_model.specs.Layout.{IsArranged}
 use Rattle.lfs_model.specs.Operations as ops
 use Rattle.lfs_model.specs.Operations.{Operation}
 use Rattle.lfs_model.specs.Run.{IsTurn, creates_nothing, fills, is_dirty, is_recover, needs_no_call, only_asks, renames_to_itself}
 use Rattle.lfs_model.specs.Session as session
-use Rattle.lfs_model.specs.Session.{Files, Session, Surroundings, Reading, Writing, after_sync, file_of, put_file, reader_of}
+use Rattle.lfs_model.specs.Session.{Files, Session, Surroundings, Reading, Writing, file_of, put_file, reader_of}
+use Rattle.lfs_model.specs.Writers.{after_sync}
 use Rattle.lfs_model.specs.State.{Healthy, is_remount}
-use Rattle.lfs_model.specs.Steps.{cleaned, committed, effect_of, with_bytes}
+use Rattle.lfs_model.specs.Effects.{cleaned, committed, effect_of, with_bytes}
 use Rattle.lfs_model.specs.Tree.{Path}
 use Rattle.lfs_model.proofs.BlockSets.{slice_get-set_same}
 use Rattle.lfs_model.proofs.TurnsMade.{completed_turn}

@@ -3,7 +3,7 @@ use Rattle.std.proofs.Common.{is_none, not, ◌≤◌, ℕ, ◌≡◌, ◌+◌, 
 use Rattle.std.specs.Option.{option_map, option_map_or}
 use Rattle.std.proofs.lemmas.Bool.{ltb-false}
 use Rattle.lfs_device.specs.declared.error.Error.{Error}
-use Rattle.lfs_model.specs.Apply.{attributes_of, last_name}
+use Rattle.lfs_model.specs.TreeEdits.{attributes_of, last_name}
 use Rattle.lfs_model.specs.BlockSets.{in_flight_count}
 use Rattle.lfs_model.specs.Content.{attribute_of, put_attribute}
 use Rattle.lfs_model.specs.Disk.{block_count}
@@ -11,7 +11,7 @@ use Rattle.lfs_model.specs.Operations as ops
 use Rattle.lfs_model.specs.Operations.{Refusal, path_of}
 use Rattle.lfs_model.specs.Session.{first_of, held, is_overcharged, lacks, parent_fault, refuse_if}
 use Rattle.lfs_model.specs.Slots.{Attributes, attributes_size}
-use Rattle.lfs_model.specs.Steps.{as_path, bad_entry, is_root}
+use Rattle.lfs_model.specs.Refusals.{as_path, bad_entry, is_root}
 use Rattle.lfs_model.specs.Tree.{Path}
 use Rattle.lfs_tree.specs.Allowed.{CanSetAttr}
 use Rattle.lfs_tree.specs.AttributeAt.{IsAttributesSize}

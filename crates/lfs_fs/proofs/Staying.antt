@@ -1,10 +1,10 @@
 -- Files that stay while something else changes.
 use Rattle.std.proofs.Common.{inl, inr, Result, is_some, ◌≡◌, Bool, true, false, cond, ℕ, List, [], Option, Some, None, refl, sym, ap, subst, ◌∙◌}
 use Rattle.std.specs.Option.{option_map}
-use Rattle.lfs_model.specs.Apply.{added, attributes_of, bytes_at, change_at, is_file, last_name, parent_of, same_path, with_attributes, with_name, with_names}
+use Rattle.lfs_model.specs.TreeEdits.{added, attributes_of, bytes_at, change_at, is_file, last_name, parent_of, same_path, with_attributes, with_name, with_names}
 use Rattle.lfs_model.specs.Content.{put_attribute, without_attribute}
 use Rattle.lfs_model.specs.Operations as ops
-use Rattle.lfs_model.specs.Steps.{as_path}
+use Rattle.lfs_model.specs.Refusals.{as_path}
 use Rattle.lfs_model.specs.Tree.{Node, FileNode, DirectoryNode, Path, Tree}
 use Rattle.lfs_model.proofs.Paths.{path_from_same}
 use Rattle.std.specs.Prelude.{OnErr, OnOk}

@@ -11,9 +11,10 @@ use Rattle.lfs_model.specs.PowerLoss.{IsLeft, Survives, SurvivesStops, with_bloc
 use Rattle.lfs_model.specs.Run.{Moment}
 use Rattle.lfs_model.specs.Session.{Session}
 use Rattle.lfs_model.specs.State.{HasFailed, Healthy, State}
-use Rattle.lfs_model.specs.Steps.{applied, effect_of, reply_or}
+use Rattle.lfs_model.specs.Effects.{applied, effect_of, reply_or}
 use Rattle.lfs_model.specs.Tree.{Tree}
-use Rattle.lfs_model.specs.View.{IsWritable, tree_in}
+use Rattle.lfs_model.specs.Profile.{IsWritable}
+use Rattle.lfs_model.specs.Shown.{tree_in}
 use Rattle.lfs_model.proofs.AfterStops.{survives_then, survives_weaker}
 use Rattle.lfs_model.proofs.Histories.{LeavesOnly-reads, LeavesOnly-weaker, Stops-read, began}
 use Rattle.lfs_model.proofs.Uniqueness.{one_thread}

@@ -10,9 +10,10 @@ use Rattle.lfs_model.specs.Operations as ops
 use Rattle.lfs_model.specs.Operations.{Operation, Reply}
 use Rattle.lfs_model.specs.Run.{IsTurn}
 use Rattle.lfs_model.specs.Session as session
-use Rattle.lfs_model.specs.Session.{Files, Session, Surroundings, Writing, after_truncate, file_of, first_of, held_by, overfills, put_file, refuse_if, writer_of}
+use Rattle.lfs_model.specs.Session.{Files, Session, Surroundings, Writing, file_of, first_of, held_by, overfills, put_file, refuse_if, writer_of}
+use Rattle.lfs_model.specs.Writers.{after_truncate}
 use Rattle.lfs_model.specs.State.{Healthy}
-use Rattle.lfs_model.specs.Steps.{effect_of}
+use Rattle.lfs_model.specs.Effects.{effect_of}
 use Rattle.lfs_model.specs.Tree.{Tree}
 use Rattle.lfs_model.specs.View.{View}
 use Rattle.lfs_model.proofs.Committed.{recovered_from}

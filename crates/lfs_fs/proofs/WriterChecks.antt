@@ -8,7 +8,8 @@ use Rattle.std.specs.Option.{option_map}
 use Rattle.lfs_model.specs.Disk.{block_count, file_limit}
 use Rattle.lfs_model.specs.Operations as ops
 use Rattle.lfs_model.specs.Session as session
-use Rattle.lfs_model.specs.Session.{after_truncate, after_write, file_of, first_of, held_by, overfills, overwritten, zeros_to, refuse_if, turns, write_place, writer_of}
+use Rattle.lfs_model.specs.Writers.{after_truncate, after_write, written_into, zeros_to, turns, write_place}
+use Rattle.lfs_model.specs.Session.{file_of, first_of, held_by, overfills, refuse_if, writer_of}
 use Rattle.lfs_tree.specs.Seen.{Seen, around_of}
 use Rattle.lfs_fs.specs.FileSeen.{OpenFiles, bytes_of, end_in, entry_of, files_seen, held_for, turned_in, writer_in, writer_seen, writers_in}
 use Rattle.lfs_fs.specs.Held.{IsWritten, held_of, refused_by}
@@ -82,7 +83,7 @@ write_fits t fs fd bytes w place begin size turned full works written is some on
     p_is = place_is t w place written at
 
     after : after_write (writer_seen t w) bytes ≡ record (writer_seen t w) {
-      contents = overwritten (bytes_of t w.path w.unsaved) (write_place (writer_seen t w)) bytes;
+      contents = written_into (bytes_of t w.path w.unsaved) (write_place (writer_seen t w)) bytes;
       position = write_place (writer_seen t w) + length bytes;
       dirty = true;
       turned = turned_in w.unsaved || turns (end_in w.unsaved) (min (write_place (writer_seen t w)) (length (bytes_of t w.path w.unsaved)));
@@ -93,7 +94,7 @@ write_fits t fs fd bytes w place begin size turned full works written is some on
     turn : (turned_in w.unsaved || turns (end_in w.unsaved) (min (write_place (writer_seen t w)) (length (bytes_of t w.path w.unsaved)))) ≡ turned
     turn = ap₂ (λ p n. turned_in w.unsaved || turns (end_in w.unsaved) (min p n)) (sym p_is) written.size ∙ ap (λ b. turned_in w.unsaved || turns (end_in w.unsaved) b) (sym begin_is) ∙ sym turned_is
 
-    long : length (overwritten (bytes_of t w.path w.unsaved) (write_place (writer_seen t w)) bytes) ≡ size
+    long : length (written_into (bytes_of t w.path w.unsaved) (write_place (writer_seen t w)) bytes) ≡ size
     long = length-written (bytes_of t w.path w.unsaved) (write_place (writer_seen t w)) bytes ∙ ap₂ (λ m p. max m (p + length bytes)) written.size (sym p_is) ∙ sym size_is
 
     left : (b : Bool) → first_of (refuse_if false ops.TooBig ∷ refuse_if b ops.NoSpace ∷ []) ≡ refuse_if b ops.NoSpace

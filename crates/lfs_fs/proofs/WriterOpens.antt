@@ -3,12 +3,14 @@ use Rattle.std.proofs.Common.{ℕ, ◌≡◌, ◌+◌, ◌*◌, Bool, true, fals
 use Rattle.std.specs.Prelude.{if◌then◌else◌}
 use Rattle.std.proofs.lemmas.Bool.{le-leb}
 use Rattle.lfs_model.specs.Disk.{block_count, inline_limit}
-use Rattle.lfs_model.specs.Lists.{blocks_for}
-use Rattle.lfs_model.specs.Apply.{bytes_at, last_name, same_path}
+use Rattle.lfs_model.specs.SkipLists.{blocks_for}
+use Rattle.lfs_model.specs.TreeEdits.{bytes_at, last_name, same_path}
 use Rattle.lfs_model.specs.Operations as ops
 use Rattle.lfs_model.specs.Operations.{Flags, Refusal, path_of}
-use Rattle.lfs_model.specs.Session.{first_of, is_allowed, is_long, is_open_at, is_overcharged, lacks, opened_writer, overfills, refuse_if, writers}
-use Rattle.lfs_model.specs.Steps.{as_path, size_of}
+use Rattle.lfs_model.specs.Session.{first_of, is_allowed, is_long, is_open_at, is_overcharged, lacks, overfills, refuse_if, writers}
+use Rattle.lfs_model.specs.Writers.{opened_writer}
+use Rattle.lfs_model.specs.Refusals.{as_path}
+use Rattle.lfs_model.specs.Effects.{size_of}
 use Rattle.lfs_model.specs.Tree.{Node, FileNode, DirectoryNode, Path}
 use Rattle.lfs_device.specs.declared.error.Error.{Error}
 use Rattle.lfs_tree.specs.Finds.{Finds, is_absent, is_directory_node, size_in}

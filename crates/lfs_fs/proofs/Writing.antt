@@ -4,13 +4,14 @@ use Rattle.lfs_device.specs.declared.error.Error.{Error}
 use Rattle.std.specs.Prelude.{OnErr, ◌||◌, ◌==◌, nat_le, nat_lt, if◌then◌else◌}
 use Rattle.std.proofs.lemmas.Bool.{eqb-true, leb-false, ne_eqb}
 use Rattle.std.proofs.lemmas.List.{length-take, length-replicate}
-use Rattle.lfs_model.specs.Apply.{bytes_at, change_at, is_file}
-use Rattle.lfs_model.specs.Steps.{with_bytes}
+use Rattle.lfs_model.specs.TreeEdits.{bytes_at, change_at, is_file}
+use Rattle.lfs_model.specs.Effects.{with_bytes}
 use Rattle.lfs_model.proofs.Paths.{path_itself}
 use Rattle.std.specs.Option.{option_map}
 use Rattle.lfs_model.specs.Disk.{SameGeometry, block_count, inline_limit}
 use Rattle.lfs_model.specs.Session as session
-use Rattle.lfs_model.specs.Session.{after_sync, ctz_blocks, after_truncate, after_write, held_by, overwritten, turns, write_place, zeros_to}
+use Rattle.lfs_model.specs.Writers.{after_sync, after_truncate, after_write, written_into, turns, write_place, zeros_to}
+use Rattle.lfs_model.specs.Session.{ctz_blocks, held_by}
 use Rattle.lfs_model.specs.Slots.{no_gstate}
 use Rattle.lfs_model.specs.Thread.{gstate_of}
 use Rattle.lfs_model.specs.Tree.{Node, FileNode, DirectoryNode, Path, Tree}
@@ -32,7 +33,7 @@ use Rattle.lfs_fs.proofs.OpenFiles.{held_one}
 length-zeros_to : (n : ℕ) (bytes : List ℕ) → length (zeros_to n bytes) ≡ max n (length bytes)
 length-zeros_to n bytes = omega (arith, length-append bytes (replicate (n - length bytes) 0), length-replicate {A = ℕ} (n - length bytes) 0)
 
-pub length-written : (old : List ℕ) (at : ℕ) (bytes : List ℕ) → length (overwritten old at bytes) ≡ max (length old) (at + length bytes)
+pub length-written : (old : List ℕ) (at : ℕ) (bytes : List ℕ) → length (written_into old at bytes) ≡ max (length old) (at + length bytes)
 length-written old at bytes =
     let front : length (take at (zeros_to at old)) ≡ at = omega (arith, length-take at (zeros_to at old), length-zeros_to at old) in
     omega (arith, front, length-append (take at (zeros_to at old) ++ bytes) (drop (at + length bytes) old), length-append (take at (zeros_to at old)) bytes, length-drop (at + length bytes) old)
@@ -43,7 +44,7 @@ length-cut old size = omega (arith, length-take size (zeros_to size old), length
 -- ---- what a call makes of a writer
 
 pub after_write_is : (w : session.Writer) (bytes : List ℕ) → 1 ≤ length bytes → after_write w bytes ≡ record w {
-  contents = overwritten w.contents (write_place w) bytes;
+  contents = written_into w.contents (write_place w) bytes;
   position = write_place w + length bytes;
   dirty = true;
   turned = w.turned || turns w.last_end (min (write_place w) (length w.contents));
@@ -201,7 +202,7 @@ as_writer old new path position size appends turned end c v b writable settled t
 -- the one that wrote bytes
 pub wrote : (old new : Seen) (w : Writer) (bytes : List ℕ) (place end size : ℕ) (turned : Bool) (c : Contents) → IsWrittenBeside old new → IsWritten old w → 1 ≤ length bytes → HasRoomFor old (after_write (writer_seen old w) bytes) →
     place ≡ write_place (writer_seen old w) → end ≡ place + length bytes → size ≡ max w.size end → turned ≡ (turned_in w.unsaved || turns (end_in w.unsaved) (min place w.size)) →
-    IsOver new w.path c → bytes_held (kept_of new) c ≡ overwritten (bytes_of old w.path w.unsaved) place bytes → IsKept old.disk.block_size (form_of c) (after_write (writer_seen old w) bytes) →
+    IsOver new w.path c → bytes_held (kept_of new) c ≡ written_into (bytes_of old w.path w.unsaved) place bytes → IsKept old.disk.block_size (form_of c) (after_write (writer_seen old w) bytes) →
     IsSettleable (inline_limit old.disk.block_size) (form_of c) →
     IsWriterAs new (after_write (writer_seen old w) bytes) (record { path = w.path; position = end; size = size; appends = w.appends; unsaved = Some (record { contents = c; has_turned = turned; last_end = Some end }) })
 wrote old new w bytes place end size turned c b opened some room at stop long turns_is over are kept settle =
@@ -217,9 +218,9 @@ wrote old new w bytes place end size turned c b opened some room at stop long tu
 
     seen : make (bytes_held (kept_of new) c) end turned ≡ after_write (writer_seen old w) bytes
     seen =
-        ap (λ xs. make xs end turned) (are ∙ ap (λ p. overwritten (bytes_of old w.path w.unsaved) p bytes) at)
-        ∙ ap (λ e. make (overwritten (bytes_of old w.path w.unsaved) place' bytes) e turned) (stop ∙ ap (λ p. p + length bytes) at)
-        ∙ ap (λ z. make (overwritten (bytes_of old w.path w.unsaved) place' bytes) (place' + length bytes) z)
+        ap (λ xs. make xs end turned) (are ∙ ap (λ p. written_into (bytes_of old w.path w.unsaved) p bytes) at)
+        ∙ ap (λ e. make (written_into (bytes_of old w.path w.unsaved) place' bytes) e turned) (stop ∙ ap (λ p. p + length bytes) at)
+        ∙ ap (λ z. make (written_into (bytes_of old w.path w.unsaved) place' bytes) (place' + length bytes) z)
         (turns_is ∙ ap₂ (λ p n. turned_in w.unsaved || turns (end_in w.unsaved) (min p n)) at (sym opened.size))
         ∙ sym (after_write_is (writer_seen old w) bytes some)
 
@@ -297,14 +298,14 @@ can_write old mid w bytes place c path can asked at over same shape large write 
 pub has_written : (old mid new : Seen) (w : Writer) (bytes : List ℕ) (place begin size : ℕ) (turned : Bool) (c d : Contents) (path : Path) → CanWrite old w bytes → IsAsked old mid →
     place ≡ (if w.appends then w.size else w.position) → IsOver mid path c → path ≡ w.path → IsFormOf old.disk.block_size w.unsaved (length (bytes_of old path w.unsaved)) (form_of c) →
     bytes_held (kept_of mid) c ≡ bytes_of old path w.unsaved → WrittenLaw → IsWrittenBeside mid new → ((p : Path) → IsOver mid p c → IsOver new p d) →
-    bytes_held (kept_of new) d ≡ overwritten (bytes_held (kept_of mid) c) place bytes → form_of d ≡ written (inline_limit mid.disk.block_size) place (length bytes) (form_of c) →
+    bytes_held (kept_of new) d ≡ written_into (bytes_held (kept_of mid) c) place bytes → form_of d ≡ written (inline_limit mid.disk.block_size) place (length bytes) (form_of c) →
     begin ≡ min place w.size → turned ≡ (turned_in w.unsaved || turns (end_in w.unsaved) begin) → size ≡ max w.size (place + length bytes) →
     IsWriterAs new (after_write (writer_seen old w) bytes) (record { path = w.path; position = place + length bytes; size = size; appends = w.appends; unsaved = Some (record { contents = d; has_turned = turned; last_end = Some (place + length bytes) }) })
 has_written old mid new w bytes place begin size turned c d path can asked at over same shape had law beside overs wrote_is form_is begin_is turned_is size_is =
     wrote old new w bytes place (place + length bytes) size turned d (beside_later old mid new asked beside) can.can.written can.some can.room is refl size_is
     (turned_is ∙ ap (λ b. turned_in w.unsaved || turns (end_in w.unsaved) b) begin_is)
     (subst (λ p. IsOver new p d) same (overs path over))
-    (wrote_is ∙ ap (λ xs. overwritten xs place bytes) (had ∙ ap (λ p. bytes_of old p w.unsaved) same))
+    (wrote_is ∙ ap (λ xs. written_into xs place bytes) (had ∙ ap (λ p. bytes_of old p w.unsaved) same))
     kept (subst (IsSettleable (inline_limit old.disk.block_size)) (sym form_at)
     (settle_written (inline_limit old.disk.block_size) (write_place (writer_seen old w)) (length bytes) (form_of c) (after_write (writer_seen old w) bytes) written_kept.fits))
   where

@@ -8,9 +8,10 @@ use Rattle.lfs_model.specs.Disk.{file_limit}
 use Rattle.lfs_model.specs.Operations as ops
 use Rattle.lfs_model.specs.Operations.{Operation}
 use Rattle.lfs_model.specs.Run.{IsTurn}
-use Rattle.lfs_model.specs.Session.{Session, Surroundings, Writing, after_write, file_of, first_of, overfills, put_file, refuse_if, write_place, writer_of}
+use Rattle.lfs_model.specs.Session.{Session, Surroundings, Writing, file_of, first_of, overfills, put_file, refuse_if, writer_of}
+use Rattle.lfs_model.specs.Writers.{after_write, write_place}
 use Rattle.lfs_model.specs.State.{Healthy}
-use Rattle.lfs_model.specs.Steps.{effect_of}
+use Rattle.lfs_model.specs.Effects.{effect_of}
 use Rattle.lfs_model.specs.Tree.{Tree}
 use Rattle.lfs_model.specs.View.{View}
 use Rattle.lfs_model.proofs.Committed.{recovered_from}

@@ -1,11 +1,12 @@
 -- What calls of a writer ask of the tree, and what comes of them.
 use Rattle.std.specs.Prelude.{ℕ, ◌≡◌, ◌+◌, ◌^◌, ◌≤◌, ◌<◌, Bool, true, false, List, length, Option, Some, None, is_some}
-use Rattle.lfs_model.specs.Apply.{is_file}
+use Rattle.lfs_model.specs.TreeEdits.{is_file}
 use Rattle.lfs_model.specs.BlockSets.{in_flight_count}
 use Rattle.lfs_model.specs.Disk.{block_count}
 use Rattle.lfs_model.specs.Session as session
-use Rattle.lfs_model.specs.Session.{after_truncate, after_write, held_by, write_place}
-use Rattle.lfs_model.specs.Steps.{size_of}
+use Rattle.lfs_model.specs.Writers.{after_truncate, after_write, write_place}
+use Rattle.lfs_model.specs.Session.{held_by}
+use Rattle.lfs_model.specs.Effects.{size_of}
 use Rattle.lfs_model.specs.Tree.{Path}
 use Rattle.lfs_tree.specs.OpenContents.{IsOpenedForm, IsOver}
 use Rattle.lfs_tree.specs.Seen.{IsSound, Seen, around_of, tree_seen}

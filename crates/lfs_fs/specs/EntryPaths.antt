@@ -1,7 +1,7 @@
 -- Paths of entries.
 use Rattle.std.specs.Prelude.{ℕ, if◌then◌else◌, List, Option, None}
 use Rattle.lfs_model.specs.Operations.{path_of}
-use Rattle.lfs_model.specs.Steps.{bad_entry}
+use Rattle.lfs_model.specs.Refusals.{bad_entry}
 use Rattle.lfs_model.specs.Tree.{Path}
 
 -- the path of these bytes, if it is well formed and isn't the root's

@@ -2,7 +2,7 @@
 use Rattle.std.specs.Prelude.{ℕ, ◌+◌, ◌*◌, Bool, false, if◌then◌else◌, List, [], ◌∷◌, ◌++◌, length, map, nat_lt, Option, Some, None, is_none, is_some, slice_get, slice_set, sum_by}
 use Rattle.std.specs.List.{list_any, position_or_len}
 use Rattle.std.specs.Option.{option_flatten, option_map}
-use Rattle.lfs_model.specs.Apply.{bytes_at}
+use Rattle.lfs_model.specs.TreeEdits.{bytes_at}
 use Rattle.lfs_model.specs.Session as session
 use Rattle.lfs_model.specs.Session.{ctz_blocks}
 use Rattle.lfs_model.specs.Disk.{Disk}

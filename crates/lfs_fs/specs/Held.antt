@@ -15,14 +15,15 @@ use Rattle.lfs_fs.specs.FileSeen.{OpenFiles, bytes_of, files_seen, has_unsaved, 
 use Rattle.lfs_fs.specs.declared.files.Writer.{Writer}
 use Rattle.std.specs.List.{AllByRecursion}
 use Rattle.lfs_model.specs.State.{HasFailed, Healthy, is_remount}
-use Rattle.lfs_model.specs.Steps.{as_path, refusal_of, size_of}
+use Rattle.lfs_model.specs.Refusals.{as_path, refusal_of}
+use Rattle.lfs_model.specs.Effects.{size_of}
 use Rattle.lfs_model.specs.Disk.{block_count, inline_limit}
 use Rattle.lfs_tree.specs.OpenContents.{IsOver, IsSettleable}
 use Rattle.lfs_writer.specs.Contents.{form_of}
 use Rattle.lfs_writer.specs.Form.{IsKept}
 use Rattle.lfs_fs.specs.declared.checks.Opening.{Opening}
 use Rattle.lfs_fs.specs.declared.files.Unsaved.{Unsaved}
-use Rattle.lfs_model.specs.Apply.{is_file}
+use Rattle.lfs_model.specs.TreeEdits.{is_file}
 use Rattle.lfs_model.specs.Run.{Moment, Shows, IsTurn}
 use Rattle.lfs_model.specs.Failure.{Fails, IsCutShort}
 use Rattle.lfs_model.specs.Outages.{AreWithstood}

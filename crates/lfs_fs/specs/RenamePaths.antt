@@ -1,8 +1,8 @@
 -- The two paths of a rename.
 use Rattle.std.specs.Prelude.{ℕ, ◌≡◌, ◌==◌, ◌&&◌, ◌||◌, Bool, true, false, List, [], ◌∷◌, is_some}
-use Rattle.lfs_model.specs.Apply.{rest_after, same_path}
+use Rattle.lfs_model.specs.TreeEdits.{rest_after, same_path}
 use Rattle.lfs_model.specs.Names.{slash}
-use Rattle.lfs_model.specs.Steps.{as_path}
+use Rattle.lfs_model.specs.Refusals.{as_path}
 use Rattle.lfs_model.specs.Tree.{Path}
 use Rattle.lfs_fs.specs.declared.renaming.Renaming.{Renaming}
 

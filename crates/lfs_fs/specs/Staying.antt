@@ -1,20 +1,20 @@
 -- What an operation of the tree leaves of the open files.
 use Rattle.std.specs.Prelude.{◌≡◌, ◌⊎◌, ◌+◌, ◌≤◌, true, false, List, length}
 use Rattle.std.specs.List.{AllByRecursion}
-use Rattle.lfs_model.specs.Apply.{bytes_at, is_file}
+use Rattle.lfs_model.specs.TreeEdits.{bytes_at, is_file}
 use Rattle.lfs_model.specs.Disk.{block_count}
 use Rattle.lfs_model.specs.Operations.{Operation}
 use Rattle.lfs_model.specs.Session.{held}
 use Rattle.lfs_tree.specs.Seen.{IsCarried, Seen, around_of, tree_seen}
 use Rattle.lfs_fs.specs.FileSeen.{OpenFiles, files_seen, writers_in}
 use Rattle.lfs_fs.specs.Held.{IsReady}
-use Rattle.lfs_model.specs.Keeping.{concerns}
+use Rattle.lfs_model.specs.Keeping.{takes_or_moves}
 use Rattle.lfs_tree.specs.KeepsFiles.{taken_by}
 use Rattle.lfs_fs.specs.declared.files.Writer.{Writer}
 
 -- the operation is about no file that is open for writing, and there is room for the blocks that it takes
 pub record SparesWriters (t : Seen) (op : Operation) (files : OpenFiles) : Type 0 where
-  pub apart : AllByRecursion (λ w. concerns op w.path ≡ false) (writers_in files)
+  pub apart : AllByRecursion (λ w. takes_or_moves op w.path ≡ false) (writers_in files)
   pub room : (taken_by op ≡ 0) ⊎ (length (around_of t).used + held t.disk.block_size (files_seen t files) + taken_by op ≤ block_count t.disk)
 
 -- the files of the writers are there as before

@@ -1,17 +1,18 @@
 // What calls of a writer do.
 
 ghost use Rattle.std.specs.Prelude.{ℕ, List, [], true, ◌≡◌, length, IfErr, IfOk, OnErr, OnOk};
-ghost use Rattle.lfs_model.specs.Session.{opened_writer, after_sync, after_truncate, after_write};
+ghost use Rattle.lfs_model.specs.Writers.{opened_writer, after_sync, after_truncate, after_write};
 ghost use Rattle.lfs_tree.specs.OpenContents.{IsOver, IsStoredAt, IsWrittenBeside, bytes_held, kept_of};
 ghost use Rattle.lfs_tree.specs.Seen.{tree_seen, IsAsked, IsBroken, IsCarried, IsBrokenAsking, IsError, IsSound, SurvivesAs};
 ghost use Rattle.lfs_writer.specs.Contents.{form_of};
 ghost use Rattle.lfs_fs.specs.Changing.{CanBegin, IsBegunAs, CanSave, CanTruncate, CanWrite, HasContents, IsFormOf, IsSavedAs, IsWriterAs};
 ghost use Rattle.lfs_fs.specs.FileSeen.{bytes_of, writer_seen};
 ghost use Rattle.lfs_fs.specs.FlagsSeen.{flags_seen};
-ghost use Rattle.lfs_model.specs.Apply.{added, bytes_at, change_at};
+ghost use Rattle.lfs_model.specs.TreeEdits.{added, bytes_at, change_at};
 ghost use Rattle.lfs_model.specs.Operations as ops;
 ghost use Rattle.lfs_model.specs.Operations.{Flags};
-ghost use Rattle.lfs_model.specs.Steps.{as_path, with_bytes};
+ghost use Rattle.lfs_model.specs.Refusals.{as_path};
+ghost use Rattle.lfs_model.specs.Effects.{with_bytes};
 ghost use Rattle.lfs_model.specs.Tree.{FileNode};
 ghost use Rattle.lfs_tree.specs.Allowed.{CanCreate};
 

@@ -3,10 +3,11 @@
 ghost use Rattle.std.specs.Prelude.{◌==◌, ℕ, if◌then◌else◌, nat_lt, ◌≡◌, ◌<◌, ◌≤◌, ◌^◌, ◌||◌, [], ◌∷◌, false, nat_le, length, None, Some, IfOk, IfErr, OnOk, OnErr, true, is_none, is_some, slice_get, slice_set, vec_len};
 ghost use Rattle.std.specs.List.{list_any};
 ghost use Rattle.std.specs.Option.{option_flatten, option_map};
-ghost use Rattle.lfs_model.specs.Apply.{same_path};
+ghost use Rattle.lfs_model.specs.TreeEdits.{same_path};
 ghost use Rattle.lfs_model.specs.Operations.{path_of};
-ghost use Rattle.lfs_model.specs.Session.{is_open_at, turns};
-ghost use Rattle.lfs_model.specs.Steps.{as_path, bad_entry};
+ghost use Rattle.lfs_model.specs.Session.{is_open_at};
+ghost use Rattle.lfs_model.specs.Writers.{turns};
+ghost use Rattle.lfs_model.specs.Refusals.{as_path, bad_entry};
 ghost use Rattle.lfs_fs.specs.RenamePaths.{is_in_the_way};
 ghost use Rattle.lfs_tree.specs.Seen.{Seen};
 ghost use Rattle.lfs_fs.specs.FileSeen.{end_in, entry_of, files_seen, is_entry_at, is_unsaved_entry, free_entry, held_by_all, held_by_size, held_for, moved_entry, put_entry, reader_in, readers_in, turned_in, writer_in, writers_in};

@@ -2,8 +2,8 @@
 
 ghost use Rattle.std.specs.Prelude.{◌≡◌, false, true, IfOk, IfErr, is_some};
 ghost use Rattle.lfs_model.specs.Operations.{path_of};
-ghost use Rattle.lfs_model.specs.Steps.{as_path, bad_entry};
-ghost use Rattle.lfs_model.specs.Apply.{rest_after, same_path};
+ghost use Rattle.lfs_model.specs.Refusals.{as_path, bad_entry};
+ghost use Rattle.lfs_model.specs.TreeEdits.{rest_after, same_path};
 ghost use Rattle.lfs_model.specs.Names.{same_name};
 
 use crate::renaming::is_within;
@@ -21,7 +21,7 @@ pub(crate) struct OwnedPath {
 impl Model for OwnedPath {
     ghost use Rattle.std.specs.Prelude.{◌≡◌, true, is_some};
     ghost use Rattle.lfs_model.specs.Operations.{path_of};
-    ghost use Rattle.lfs_model.specs.Steps.{as_path};
+    ghost use Rattle.lfs_model.specs.Refusals.{as_path};
     ghost use Rattle.lfs_model.specs.Tree.{Path};
 
     ghost Value = { Path };

@@ -1,7 +1,7 @@
 // What an open reader gives.
 
 ghost use Rattle.std.specs.Prelude.{◌≡◌, ◌+◌, ◌<◌, ◌^◌, drop, false, take, IfErr, IfOk, OnErr, OnOk, vec_len};
-ghost use Rattle.lfs_model.specs.Apply.{bytes_at};
+ghost use Rattle.lfs_model.specs.TreeEdits.{bytes_at};
 ghost use Rattle.lfs_tree.specs.Seen.{IsAsked, IsBrokenAsking, IsError, tree_seen};
 
 use lfs_device::{BlockDevice, Error};

@@ -1,10 +1,10 @@
 // The paths and the checks of a rename.
 
 ghost use Rattle.std.specs.Prelude.{◌≡◌, ◌&&◌, false, is_some, true};
-ghost use Rattle.lfs_model.specs.Apply.{is_beneath, rest_after, same_path};
+ghost use Rattle.lfs_model.specs.TreeEdits.{is_beneath, rest_after, same_path};
 ghost use Rattle.lfs_model.specs.Operations as ops;
 ghost use Rattle.lfs_model.specs.Operations.{path_of};
-ghost use Rattle.lfs_model.specs.Steps.{as_path, bad_entry};
+ghost use Rattle.lfs_model.specs.Refusals.{as_path, bad_entry};
 ghost use Rattle.lfs_fs.specs.Held.{Checks, IsReady, held_of};
 ghost use Rattle.lfs_fs.specs.RenamePaths.{IsRenaming, goes_on};
 

@@ -55,10 +55,7 @@ pub enum Reply {
 fn is_refusal(error: Error) -> bool
     ensures { result ≡ is_refusal error }
 {
-    !matches!(
-        error,
-        Error::Io | Error::NoMemory | Error::Corrupt | Error::Unsupported
-    )
+    !matches!(error, Error::Io | Error::NoMemory | Error::Corrupt)
 }
 
 fn refused(error: Error) -> Result<Reply, Error>

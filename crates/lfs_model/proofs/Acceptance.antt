@@ -16,8 +16,9 @@ use Rattle.lfs_model.specs.Slots.{Slot, Kind, File, Directory, Superblock, Struc
 use Rattle.lfs_model.specs.Content.{content_at, holder_at}
 use Rattle.lfs_model.specs.Thread.{Pair, anchor, Links, blocks_of, gstate_of, root_of}
 use Rattle.lfs_model.specs.Tree.{Path, root_slot, branch_of, slot_at, directory_at, names_at}
-use Rattle.lfs_model.specs.View.{first_name, IsAccepted, Leads, IsReached, BeginsWith, IsSuperblockStruct, HasSuperblock, IsEntry, Suits, IsListIfCtz, IsMove, NamesSlot, IsOtherSlot, superblock_entry, superblock_pairs, other_pairs, directories_in, entries_in, all_slots, used_blocks}
-use Rattle.lfs_model.specs.Apply.{same_path}
+use Rattle.lfs_model.specs.View.{first_name, IsAccepted, BeginsWith, IsSuperblockStruct, HasSuperblock, IsEntry, Suits, IsListIfCtz, IsMove, NamesSlot, IsOtherSlot, superblock_entry, superblock_pairs, other_pairs}
+use Rattle.lfs_model.specs.Shown.{Leads, IsReached, directories_in, entries_in, all_slots, used_blocks}
+use Rattle.lfs_model.specs.TreeEdits.{same_path}
 use Rattle.lfs_model.proofs.Paths.{name_from_same, path_from_same}
 use Rattle.lfs_model.proofs.Outlines.{Outline, outline, is_outlined, outlined, found_in, found_holds}
 

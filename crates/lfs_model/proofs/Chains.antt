@@ -5,7 +5,7 @@ use Rattle.std.proofs.lemmas.Bool.{ltb-false}
 use Rattle.std.proofs.lemmas.Bool.Decides.{nat_tests}
 use Rattle.std.proofs.lemmas.Option.{cond_some}
 use Rattle.std.proofs.lemmas.List.{length-take, length-drop}
-use Rattle.lfs_model.specs.Tag.{size_of, carried}
+use Rattle.lfs_model.specs.Tag.{data_size, carried}
 use Rattle.lfs_model.specs.Log.{LogEntry, tag_at, entry_at, past, is_checksum, closes, Commit, Chain, with_entry, with_commit, commit_within, commit_at, or_none, chain_within, chain_at, IsCommit, IsChain}
 
 -- where a commit ends, and what its last tag carries
@@ -17,9 +17,9 @@ stop c = (c.end, c.last)
 pub record Lies (block : List ℕ) (at before : ℕ) (e : LogEntry) : Type 0 where
   pub tag : e.tag ≡ tag_at block at before
   pub valid : e.tag < 2 ^ 31
-  pub size : length e.bytes ≡ size_of e.tag
+  pub size : length e.bytes ≡ data_size e.tag
   pub within : at + 4 + length e.bytes ≤ length block
-  pub bytes : e.bytes ≡ take (size_of e.tag) (drop (at + 4) block)
+  pub bytes : e.bytes ≡ take (data_size e.tag) (drop (at + 4) block)
 
 chosen : (a b c : Bool) (x e : LogEntry) → cond (a || (b || c)) None (Some x) ≡ Some e → (a ≡ false) × (b ≡ false) × (c ≡ false) × (x ≡ e)
 chosen true b c x e h = absurd cc
@@ -31,11 +31,11 @@ pub lies : (block : List ℕ) (at before : ℕ) (e : LogEntry) → entry_at bloc
 unfolding entry_at
 lies block at before e h =
     let t = tag_at block at before in
-    let x : LogEntry = record { tag = t; bytes = take (size_of t) (drop (at + 4) block) } in
-    let c = chosen (ltb (length block) (at + 4)) (leb (2 ^ 31) t) (ltb (length block) (at + 4 + size_of t)) x e h in
+    let x : LogEntry = record { tag = t; bytes = take (data_size t) (drop (at + 4) block) } in
+    let c = chosen (ltb (length block) (at + 4)) (leb (2 ^ 31) t) (ltb (length block) (at + 4 + data_size t)) x e h in
     let first : at + 4 ≤ length block = ltb-false _ _ c.0 in
-    let last : at + 4 + size_of t ≤ length block = ltb-false _ _ c.2 in
-    let size : length x.bytes ≡ size_of t = omega (arith, length-take (size_of t) (drop (at + 4) block), length-drop (at + 4) block) in
+    let last : at + 4 + data_size t ≤ length block = ltb-false _ _ c.2 in
+    let size : length x.bytes ≡ data_size t = omega (arith, length-take (data_size t) (drop (at + 4) block), length-drop (at + 4) block) in
     let here : Lies block at before x = record {
       tag = refl;
       valid = grind (arith, nat_tests, c.1);

@@ -3,8 +3,9 @@ use Rattle.std.specs.Prelude.{ℕ, ◌≡◌, true, false, List, [], ◌∷◌, 
 use Rattle.std.proofs.Common.{refl, replicate}
 use Rattle.lfs_model.specs.Slots.{no_gstate}
 use Rattle.lfs_model.specs.Log.{LogEntry}
-use Rattle.lfs_model.specs.Content.{RawSlot, RawContent, no_content, file_name_type, superblock_name_type, inline_struct_type, content_after_all}
-use Rattle.lfs_model.specs.Written.{entries_of}
+use Rattle.lfs_model.specs.Content.{RawSlot, RawContent, no_content, content_after_all}
+use Rattle.lfs_model.specs.EntryTypes.{file_name_type, superblock_name_type, inline_struct_type}
+use Rattle.lfs_model.specs.WrittenContent.{written_entries}
 use Rattle.lfs_model.specs.Changes.{Change, Create, Delete, PutStruct, PutAttribute, PutTail, PutMove, entries_of_changes, changed_by}
 
 abbrev empty_file : ℕ → List ℕ → List Change
@@ -48,5 +49,5 @@ pub none_again : changed_by going (PutTail true None ∷ PutMove no_gstate ∷ [
 none_again = refl
 
 -- written anew, it reads back
-pub reads_back : content_after_all no_content (entries_of going) ≡ Some going
+pub reads_back : content_after_all no_content (written_entries going) ≡ Some going
 reads_back = refl

@@ -10,9 +10,10 @@ use Rattle.byteorder.specs.Endian.{little_number}
 use Rattle.lfs_model.specs.Tag.{tag_with, kind_of, len_of, class_of}
 use Rattle.lfs_model.specs.Disk.{pair_capacity, slot_limit}
 use Rattle.lfs_model.specs.Slots.{Slot, Inline, Ctz, Branch, struct_len, attributes_size, slot_size, content_size, Content, FitsPair}
-use Rattle.lfs_model.specs.Content.{RawSlot, RawContent, complete, complete_all, completed, kind_named, struct_typed, pair_at, is_in_table, removes, has_any_length, has_eight_bytes, has_no_bytes, move_state_type, create_type, delete_type, inline_struct_type, directory_struct_type, file_name_type, directory_name_type}
-use Rattle.lfs_model.specs.Written.{raw_slot_size, raw_size, part_size, FitsRaw}
-use Rattle.lfs_model.specs.Logged.{IsPart, IsPartIfSome, HasParts, HaveParts, IsLogged}
+use Rattle.lfs_model.specs.Content.{RawSlot, RawContent, complete, complete_all, completed, kind_named, struct_typed}
+use Rattle.lfs_model.specs.EntryTypes.{pair_at, is_in_table, removes, has_any_length, has_eight_bytes, has_no_bytes, move_state_type, create_type, delete_type, inline_struct_type, directory_struct_type, file_name_type, directory_name_type}
+use Rattle.lfs_model.specs.WrittenContent.{raw_slot_size, raw_size, part_size, FitsRaw}
+use Rattle.lfs_model.specs.LoggedContent.{IsPart, IsPartIfSome, HasParts, HaveParts, IsLogged}
 use Rattle.lfs_model.proofs.WrittenAnew.{kind_of-tag_with, len_of-tag_with}
 
 -- ---- lists of slots

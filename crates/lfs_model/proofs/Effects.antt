@@ -10,9 +10,10 @@ use Rattle.std.proofs.Math.Seq.{set-append_seam, get_or-append_seam}
 use Rattle.lfs_model.specs.Tag.{tag_with, kind_of, id_of, len_of, class_of}
 use Rattle.lfs_model.specs.Log.{LogEntry}
 use Rattle.lfs_model.specs.Slots.{Gstate}
-use Rattle.lfs_model.specs.Content.{RawSlot, RawContent, content_after, content_after_all, slots_after, changed, up_to, empty_slot, slot_of_id, is_in_table, has_any_length, has_eight_bytes, has_no_bytes, move_state_type, has_its_id, put_attribute, without_attribute, removes, no_id, create_type, delete_type, tail_with}
-use Rattle.lfs_model.specs.Written.{entry_with, attribute_type}
-use Rattle.lfs_model.specs.Logged.{IsPart, IsAddress, IsMoveState}
+use Rattle.lfs_model.specs.Content.{RawSlot, RawContent, content_after, content_after_all, slots_after, changed, up_to, empty_slot, slot_of_id, put_attribute, without_attribute}
+use Rattle.lfs_model.specs.EntryTypes.{is_in_table, has_any_length, has_eight_bytes, has_no_bytes, move_state_type, has_its_id, removes, no_id, create_type, delete_type, tail_with}
+use Rattle.lfs_model.specs.WrittenContent.{entry_with, attribute_type}
+use Rattle.lfs_model.specs.LoggedContent.{IsPart, IsAddress, IsMoveState}
 use Rattle.lfs_model.specs.Changes.{Change, Create, Delete, PutStruct, PutAttribute, RemoveAttribute, PutTail, PutMove, entries_of_change, entries_of_changes, is_storable, changed_by}
 use Rattle.lfs_model.proofs.WrittenAnew.{kind_of-tag_with, id_of-tag_with, len_of-tag_with, then, pair_at-pair_bytes, gstate_at-move_bytes}
 

@@ -5,10 +5,11 @@ use Rattle.lfs_model.specs.Disk.{Disk}
 use Rattle.lfs_model.specs.Slots.{Slot, File, Directory, Inline, Ctz, Branch, Tail, Gstate}
 use Rattle.lfs_model.specs.Thread.{Pair, gstate_of, root_of}
 use Rattle.lfs_model.specs.Tree.{Path, Node, root_slot, node_of}
-use Rattle.lfs_model.specs.View.{HasView, view_in, entries_in, contents_in, tree_in, used_blocks}
-use Rattle.lfs_model.specs.Apply.{same_path}
+use Rattle.lfs_model.specs.View.{HasView, view_in}
+use Rattle.lfs_model.specs.Shown.{entries_in, contents_in, tree_in, used_blocks}
+use Rattle.lfs_model.specs.TreeEdits.{same_path}
 use Rattle.lfs_model.specs.Fresh.{superblock_slot}
-use Rattle.lfs_model.specs.Examples.{tree_with, view_with}
+use Rattle.lfs_model.specs.examples.Images.{tree_with, view_with}
 use Rattle.lfs_model.proofs.Outlines.{Outline, found_in, outlined}
 use Rattle.lfs_model.proofs.Acceptance.{IsImage, image_is_accepted, image_is_outlined, outline_in}
 

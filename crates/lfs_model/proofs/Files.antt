@@ -6,8 +6,9 @@ use Rattle.std.proofs.lemmas.List.Elements.{All-from_recursion}
 use Rattle.lfs_model.specs.Blocks.{Blocks, block_in}
 use Rattle.lfs_model.specs.Disk.{Disk, block_at, SameGeometry}
 use Rattle.lfs_model.specs.Slots.{Struct, Inline, Ctz, Branch}
-use Rattle.lfs_model.specs.Lists.{word_at, pointers_of, blocks_for, blocks_back, IsList, data_of, bytes_of}
-use Rattle.lfs_model.specs.View.{contents_in, file_blocks, IsListIfCtz}
+use Rattle.lfs_model.specs.SkipLists.{word_at, pointers_of, blocks_for, blocks_back, IsList, data_of, bytes_of}
+use Rattle.lfs_model.specs.Shown.{contents_in, file_blocks}
+use Rattle.lfs_model.specs.View.{IsListIfCtz}
 use Rattle.lfs_model.proofs.Counts.{Each, each_left, each_right}
 
 abbrev pub Same : Blocks → Blocks → List ℕ → Type 0

@@ -6,9 +6,10 @@ use Rattle.std.proofs.lemmas.Bool.{ne_eqb}
 use Rattle.std.proofs.lemmas.Option.{same_Some}
 use Rattle.lfs_model.specs.Slots.{Slot, Kind, Content, File, Directory, Superblock, is_superblock_kind}
 use Rattle.lfs_model.specs.Tag.{tag_with, kind_of, len_of}
-use Rattle.lfs_model.specs.Logged.{IsPart, IsPartIfSome, HasParts, HaveParts}
-use Rattle.lfs_model.specs.Content.{RawSlot, RawContent, complete, complete_all, completed, kind_named, struct_typed, is_in_table, has_any_length, has_eight_bytes, has_no_bytes, removes, file_name_type, directory_name_type, superblock_name_type, inline_struct_type, directory_struct_type, ctz_struct_type, soft_tail_type, hard_tail_type, create_type, delete_type, move_state_type}
-use Rattle.lfs_model.specs.Written.{entries_of, entries_of_slots, entry_with, tail_entries, move_entries}
+use Rattle.lfs_model.specs.LoggedContent.{IsPart, IsPartIfSome, HasParts, HaveParts}
+use Rattle.lfs_model.specs.Content.{RawSlot, RawContent, complete, complete_all, completed, kind_named, struct_typed}
+use Rattle.lfs_model.specs.EntryTypes.{is_in_table, has_any_length, has_eight_bytes, has_no_bytes, removes, file_name_type, directory_name_type, superblock_name_type, inline_struct_type, directory_struct_type, ctz_struct_type, soft_tail_type, hard_tail_type, create_type, delete_type, move_state_type}
+use Rattle.lfs_model.specs.WrittenContent.{written_entries, entries_of_slots, entry_with, tail_entries, move_entries}
 use Rattle.lfs_model.specs.Thread.{starts_with_superblock}
 use Rattle.lfs_model.specs.View.{superblock_entry}
 use Rattle.lfs_model.proofs.Completed.{complete_parts, completed_parts}
@@ -110,10 +111,10 @@ same_first : (x y : Slot) (xs ys : List Slot) → x ∷ xs ≡ y ∷ ys → x �
 same_first x y xs ys k = cc
 
 -- a complete content that is written anew begins with the name in slot 0
-pub named_anew : (raw : RawContent) (c : Content) (t : Slot) → HaveParts raw.slots → completed raw ≡ Some c → slice_get c.slots 0 ≡ Some t → slice_get (entries_of raw) 0 ≡ Some (entry_with (type_of t.kind) 0 t.name)
+pub named_anew : (raw : RawContent) (c : Content) (t : Slot) → HaveParts raw.slots → completed raw ≡ Some c → slice_get c.slots 0 ≡ Some t → slice_get (written_entries raw) 0 ≡ Some (entry_with (type_of t.kind) 0 t.name)
 named_anew raw c t have h at = go raw.slots refl c.slots refl
   where
-    go : (slots : List RawSlot) → raw.slots ≡ slots → (all : List Slot) → c.slots ≡ all → slice_get (entries_of raw) 0 ≡ Some (entry_with (type_of t.kind) 0 t.name)
+    go : (slots : List RawSlot) → raw.slots ≡ slots → (all : List Slot) → c.slots ≡ all → slice_get (written_entries raw) 0 ≡ Some (entry_with (type_of t.kind) 0 t.name)
     go slots e [] f = let none : List Slot = [] in absurd (let k : slice_get none 0 ≡ Some t = ap (λ (z : List Slot). slice_get z 0) (sym f) ∙ at in cc)
     go [] e (u ∷ us) f = absurd (let k : complete_all [] ≡ Some (u ∷ us) = ap complete_all (sym e) ∙ (completed_parts raw c h).slots ∙ ap Some f in cc)
     go (s ∷ slots) e (u ∷ us) f =
@@ -125,7 +126,7 @@ named_anew raw c t have h at = go raw.slots refl c.slots refl
 
 -- with the superblock in slot 0, it begins with the superblock's entry
 pub superblock_anew : (raw : RawContent) (c : Content) → HaveParts raw.slots → completed raw ≡ Some c → starts_with_superblock c.slots ≡ true → option_map (λ s. s.name) (slice_get c.slots 0) ≡ Some (codes "littlefs")
-    → slice_get (entries_of raw) 0 ≡ Some superblock_entry
+    → slice_get (written_entries raw) 0 ≡ Some superblock_entry
 superblock_anew raw c have h first name = go c.slots refl
   where
     kind_is : (k : Kind) → is_superblock_kind k ≡ true → k ≡ Superblock
@@ -133,7 +134,7 @@ superblock_anew raw c have h first name = go c.slots refl
     kind_is Directory e = absurd (cc)
     kind_is Superblock e = refl
 
-    go : (all : List Slot) → c.slots ≡ all → slice_get (entries_of raw) 0 ≡ Some superblock_entry
+    go : (all : List Slot) → c.slots ≡ all → slice_get (written_entries raw) 0 ≡ Some superblock_entry
     go [] f = absurd (let k : starts_with_superblock [] ≡ true = ap starts_with_superblock (sym f) ∙ first in cc)
     go (t ∷ ts) f =
         let kind : t.kind ≡ Superblock = kind_is t.kind (ap starts_with_superblock (sym f) ∙ first) in

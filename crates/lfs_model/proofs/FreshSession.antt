@@ -6,15 +6,17 @@ use Rattle.lfs_model.specs.Content.{content_at}
 use Rattle.lfs_model.specs.Slots.{no_gstate}
 use Rattle.lfs_model.specs.Thread.{Pair, Links, anchor, blocks_of}
 use Rattle.lfs_model.specs.Tree.{Tree}
-use Rattle.lfs_model.specs.View.{IsAccepted, IsInProfile, tree_in}
+use Rattle.lfs_model.specs.View.{IsAccepted}
+use Rattle.lfs_model.specs.Profile.{IsInProfile}
+use Rattle.lfs_model.specs.Shown.{tree_in}
 use Rattle.lfs_model.specs.Fresh.{fresh_pair, empty_tree}
 use Rattle.lfs_model.specs.Operations.{Operation}
 use Rattle.lfs_model.specs.Session.{Session, Surroundings}
 use Rattle.lfs_model.specs.State.{Surrounds, State, HasFailed, Healthy, mounted}
-use Rattle.lfs_model.specs.Steps.{applied}
+use Rattle.lfs_model.specs.Effects.{applied}
 use Rattle.lfs_model.specs.PowerLoss.{IsLeft, IsAtWork, Withstands}
-use Rattle.lfs_model.specs.Examples.{small_image, appended_image}
-use Rattle.lfs_model.specs.RunExamples.{fresh_moment, no_disk}
+use Rattle.lfs_model.specs.examples.Images.{small_image, appended_image}
+use Rattle.lfs_model.specs.examples.Runs.{fresh_moment, no_disk}
 use Rattle.lfs_model.proofs.Uniqueness.{one_thread}
 use Rattle.lfs_model.proofs.Fresh.{accepted, writable, shows}
 use Rattle.lfs_model.proofs.Example.{fresh}

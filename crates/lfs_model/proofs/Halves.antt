@@ -7,10 +7,10 @@ use Rattle.std.proofs.lemmas.List.Sums.{sum_by-cons, sum_by-append, sum_by-take-
 use Rattle.lfs_model.specs.Disk.{pair_capacity, entry_limit, inline_limit, slot_limit}
 use Rattle.lfs_model.specs.Slots.{Slot, Struct, Inline, Ctz, Branch, slot_size, struct_len, attributes_size, Content, FitsPair}
 use Rattle.lfs_model.specs.Content.{RawSlot, RawContent, completed, complete, complete_all}
-use Rattle.lfs_model.specs.Written.{raw_slot_size, FitsRaw}
-use Rattle.lfs_model.specs.Logged.{HasParts, HaveParts, IsLogged}
+use Rattle.lfs_model.specs.WrittenContent.{raw_slot_size, FitsRaw}
+use Rattle.lfs_model.specs.LoggedContent.{HasParts, HaveParts, IsLogged}
 use Rattle.lfs_model.specs.Cut.{FitSlots, IsCut, CanBeCut}
-use Rattle.lfs_model.specs.View.{FitsEntry, HasInline}
+use Rattle.lfs_model.specs.Profile.{FitsEntry, HasInline}
 use Rattle.lfs_model.proofs.Completed.{complete_parts, completed_parts, complete_cons, complete_length, slot_size_is, slots_size_is, fits_pair}
 
 -- ---- slots of any log

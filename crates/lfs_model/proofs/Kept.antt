@@ -5,12 +5,15 @@ use Rattle.lfs_model.specs.Disk.{Disk, block_count}
 use Rattle.lfs_model.specs.Content.{content_at}
 use Rattle.lfs_model.specs.Thread.{Pair}
 use Rattle.lfs_model.specs.Tree.{Tree}
-use Rattle.lfs_model.specs.View.{IsAccepted, IsWritable, tree_in}
+use Rattle.lfs_model.specs.View.{IsAccepted}
+use Rattle.lfs_model.specs.Profile.{IsWritable}
+use Rattle.lfs_model.specs.Shown.{tree_in}
 use Rattle.lfs_model.specs.History.{Event}
 use Rattle.lfs_model.specs.Operations as ops
 use Rattle.lfs_model.specs.Operations.{Operation, Reply, Refusal}
 use Rattle.lfs_model.specs.Session.{Session, Surroundings}
-use Rattle.lfs_model.specs.Steps.{applied, refusal_of, effect_of, reply_or}
+use Rattle.lfs_model.specs.Effects.{applied, effect_of, reply_or}
+use Rattle.lfs_model.specs.Refusals.{refusal_of}
 use Rattle.lfs_model.specs.State.{State, HasFailed, Healthy, is_remount, remounted, answered_in, mounted}
 use Rattle.lfs_model.specs.Fresh.{fresh_pair, empty_tree}
 use Rattle.lfs_model.specs.Recovery.{IsRecovered}

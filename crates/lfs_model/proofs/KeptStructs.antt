@@ -6,14 +6,15 @@ use Rattle.lfs_model.specs.Disk.{Disk}
 use Rattle.lfs_model.specs.Slots.{Slot, Struct, Inline, Ctz, Branch, Attributes}
 use Rattle.lfs_model.specs.Thread.{Pair}
 use Rattle.lfs_model.specs.Tree.{Path, Node, Tree, branch_of, node_of}
-use Rattle.lfs_model.specs.View.{contents_in, entries_in, tree_in}
-use Rattle.lfs_model.specs.Apply.{same_path, rest_after, is_file, added, removed, renamed, change_at}
+use Rattle.lfs_model.specs.Shown.{contents_in, entries_in, tree_in}
+use Rattle.lfs_model.specs.TreeEdits.{same_path, rest_after, is_file, added, removed, renamed, change_at}
 use Rattle.lfs_model.specs.Operations as ops
 use Rattle.lfs_model.specs.Operations.{Operation}
 use Rattle.lfs_model.specs.Session.{Session, Writing, Writer, file_of}
-use Rattle.lfs_model.specs.Steps.{as_path, with_bytes}
+use Rattle.lfs_model.specs.Refusals.{as_path}
+use Rattle.lfs_model.specs.Effects.{with_bytes}
 use Rattle.lfs_model.specs.SlotEdits.{slot_of_path}
-use Rattle.lfs_model.specs.Keeping.{concerns, is_open_at, stores_at, struct_at, KeepsStructs}
+use Rattle.lfs_model.specs.Keeping.{takes_or_moves, is_at_path, stores_at, struct_at, KeepsStructs}
 use Rattle.lfs_model.proofs.Paths.{Paths, path_alike, path_unlike, paths}
 use Rattle.lfs_model.proofs.Trees.{not_before}
 use Rattle.lfs_model.proofs.Laws.{Walk}
@@ -22,7 +23,7 @@ use Rattle.lfs_model.proofs.Changes.{Follows}
 
 -- what the change makes of a tree leaves the bytes of the files that the operation isn't about
 abbrev pub LeavesFiles : Tree → Session → Operation → (Tree → Tree) → Type 0
-LeavesFiles t s op change = (q : Path) → is_file (t q) ≡ true → concerns op q ≡ false → stores_at s op q ≡ false → LeavesBytes change q
+LeavesFiles t s op change = (q : Path) → is_file (t q) ≡ true → takes_or_moves op q ≡ false → stores_at s op q ≡ false → LeavesBytes change q
 
 -- where a tree shows a file there is a file's slot
 pub struct_stays : (disk : Disk) (ps qs : List Pair) (q : Path) → is_file (tree_in disk ps q) ≡ true → StaysFile (slot_of_path ps q) (slot_of_path qs q) → struct_at qs q ≡ struct_at ps q
@@ -73,9 +74,9 @@ renaming_leaves t s old_bytes new_bytes old new old_is new_is q file off elsewhe
 
 -- a writer's contents come into its own slot
 pub storing_leaves : (s : Session) (fd : ℕ) (writer : Writer) (p : Path) (bytes : List ℕ) → file_of s.files fd ≡ Some (Writing writer) → writer.path ≡ p →
-    (q : Path) → is_open_at (file_of s.files fd) q ≡ false → LeavesBytes (change_at p (with_bytes bytes)) q
+    (q : Path) → is_at_path (file_of s.files fd) q ≡ false → LeavesBytes (change_at p (with_bytes bytes)) q
 storing_leaves s fd writer p bytes opened is q elsewhere =
-    change_leaves p (with_bytes bytes) q (ap (λ z. same_path z q) (sym is) ∙ ap (λ o. is_open_at o q) (sym opened) ∙ elsewhere)
+    change_leaves p (with_bytes bytes) q (ap (λ z. same_path z q) (sym is) ∙ ap (λ o. is_at_path o q) (sym opened) ∙ elsewhere)
 
 -- with no open file nothing is stored
 pub none_stored : (t : Tree) (op : Operation) (q : Path) → stores_at (record { tree = t; files = [] }) op q ≡ false

@@ -4,8 +4,8 @@ use Rattle.std.proofs.lemmas.List.{append_cancel_right}
 use Rattle.lfs_model.specs.Names.{Name}
 use Rattle.lfs_model.specs.Slots.{Slot, Struct, Inline, Ctz, Branch, Attributes}
 use Rattle.lfs_model.specs.Tree.{Path, Entries, Node, FileNode, Tree, branch_of, root_slot, slot_at, node_of, tree_of}
-use Rattle.lfs_model.specs.Apply.{same_path, rest_after, change_at, with_names, with_name, without_name, with_attributes, attributes_of, added, removed, renamed, planted, parent_of, last_name}
-use Rattle.lfs_model.specs.Steps.{with_bytes}
+use Rattle.lfs_model.specs.TreeEdits.{same_path, rest_after, change_at, with_names, with_name, without_name, with_attributes, attributes_of, added, removed, renamed, planted, parent_of, last_name}
+use Rattle.lfs_model.specs.Effects.{with_bytes}
 use Rattle.lfs_model.proofs.Paths.{path_itself, rest_itself}
 use Rattle.lfs_model.proofs.Edits.{planted_off, planted_on, not_same}
 use Rattle.lfs_model.proofs.Trees.{set_off, change_off, change_on, renamed_is}

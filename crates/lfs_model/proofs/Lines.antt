@@ -3,7 +3,7 @@ use Rattle.std.specs.Prelude.{◌≡◌, List, [], ◌∷◌, ◌++◌, Option, 
 use Rattle.std.proofs.Common.{refl, arith}
 use Rattle.std.proofs.lemmas.Fmt.{decimal_digit}
 use Rattle.lfs_model.specs.Tree.{Path, Node, FileNode, DirectoryNode, Tree}
-use Rattle.lfs_model.specs.Apply.{same_path}
+use Rattle.lfs_model.specs.TreeEdits.{same_path}
 use Rattle.lfs_model.specs.Operations as ops
 use Rattle.lfs_model.specs.Operations.{Operation}
 use Rattle.lfs_model.specs.Listing.{Entry, IsWalkOf, lines_of, IsListing, MakeDirectory, PutFile, IsUnpacking, new_file_flags, IsCarryingOver}

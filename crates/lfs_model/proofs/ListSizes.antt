@@ -6,7 +6,7 @@ use Rattle.std.proofs.lemmas.Bool.{ne_eqb}
 use Rattle.std.proofs.lemmas.List.{get_or_at, length-take-le}
 use lib.Count.{trailing_le}
 use Rattle.lfs_model.specs.Blocks.{Blocks, IsDivided, block_in}
-use Rattle.lfs_model.specs.Lists.{word_at, pointers_of, capacity_of, bytes_before, blocks_from, blocks_for, blocks_back, IsList, data_of, bytes_of}
+use Rattle.lfs_model.specs.SkipLists.{word_at, pointers_of, capacity_of, bytes_before, blocks_from, blocks_for, blocks_back, IsList, data_of, bytes_of}
 use Rattle.lfs_model.proofs.Files.{length_back}
 
 -- ---- blocks

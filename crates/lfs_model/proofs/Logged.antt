@@ -7,13 +7,14 @@ use Rattle.std.specs.Option.{option_and_then, option_map}
 use Rattle.std.proofs.lemmas.Option.{same_Some}
 use Rattle.std.proofs.lemmas.Bool.{cases_lt, ne_eqb, eqb-false, ltb-false, ltb-true}
 use Rattle.byteorder.specs.Endian.{little_number}
-use Rattle.lfs_model.specs.Tag.{tag_with, kind_of, id_of, len_of, class_of, chunk_of, size_of}
+use Rattle.lfs_model.specs.Tag.{tag_with, kind_of, id_of, len_of, class_of, chunk_of, data_size}
 use Rattle.lfs_model.specs.Log.{LogEntry, entry_at, past, IsCommit, IsChain, chain_of, log_entries}
 use Rattle.lfs_model.specs.Slots.{Attributes}
-use Rattle.lfs_model.specs.Content.{RawSlot, RawContent, content_after, content_after_all, slots_after, changed, up_to, empty_slot, slot_of_id, is_in_table, has_its_id, put_attribute, without_attribute, with_attribute, removes, create_type, delete_type, no_content, pair_at, tail_of, gstate_at, hard_tail_type, typed}
+use Rattle.lfs_model.specs.Content.{RawSlot, RawContent, content_after, content_after_all, slots_after, changed, up_to, empty_slot, slot_of_id, put_attribute, without_attribute, with_attribute, no_content, typed}
+use Rattle.lfs_model.specs.EntryTypes.{is_in_table, has_its_id, removes, create_type, delete_type, pair_at, tail_of, gstate_at, hard_tail_type}
 use Rattle.lfs_model.proofs.Chains.{lies, chain_sound}
 use Rattle.lfs_model.proofs.WrittenAnew.{kind_of-tag_with, len_of-tag_with}
-use Rattle.lfs_model.specs.Logged.{IsPart, Ascend, HasParts, HaveParts, IsLogged, IsStored, AreStored, IsAddress, IsTailIfSome, IsMoveState, is_null}
+use Rattle.lfs_model.specs.LoggedContent.{IsPart, Ascend, HasParts, HaveParts, IsLogged, IsStored, AreStored, IsAddress, IsTailIfSome, IsMoveState, is_null}
 
 -- ---- attributes
 
@@ -203,7 +204,7 @@ byte_of_part block n at i h = elim (cases_lt i n) [
 stored_entry : (block : List ℕ) (at before : ℕ) (e : LogEntry) → ((i : ℕ) → slice_index block i < 256) → entry_at block at before ≡ Some e → IsStored e
 stored_entry block at before e h is =
     let l = lies block at before e is in
-    record { size = l.size; bytes = λ _ i. rw l.bytes (byte_of_part block (size_of e.tag) (at + 4) i h) }
+    record { size = l.size; bytes = λ _ i. rw l.bytes (byte_of_part block (data_size e.tag) (at + 4) i h) }
 
 stored_commit : (block : List ℕ) (start at before : ℕ) (es : List LogEntry) (end last : ℕ) → ((i : ℕ) → slice_index block i < 256) → IsCommit block start at before es end last → AreStored es
 stored_commit block start at before [] end last h c = absurd c

@@ -5,11 +5,13 @@ use Rattle.lfs_model.specs.Names.{Name}
 use Rattle.lfs_model.specs.Slots.{Slot, no_gstate, same_pair, FitsPair}
 use Rattle.lfs_model.specs.Thread.{Pair, first_at, gstate_of, superblocks_before}
 use Rattle.lfs_model.specs.Tree.{Path, Tree, DirectoryNode, directory_from}
-use Rattle.lfs_model.specs.View.{IsAccepted, IsWritable, Leads, entries_in, tree_in}
-use Rattle.lfs_model.specs.Apply.{added, planted}
+use Rattle.lfs_model.specs.View.{IsAccepted}
+use Rattle.lfs_model.specs.Profile.{IsWritable}
+use Rattle.lfs_model.specs.Shown.{Leads, entries_in, tree_in}
+use Rattle.lfs_model.specs.TreeEdits.{added, planted}
 use Rattle.lfs_model.specs.Operations as ops
 use Rattle.lfs_model.specs.Session.{Session}
-use Rattle.lfs_model.specs.Steps.{as_path}
+use Rattle.lfs_model.specs.Refusals.{as_path}
 use Rattle.lfs_model.specs.SlotEdits.{with_slots, new_directory}
 use Rattle.lfs_model.specs.Layout.{Fits}
 use Rattle.lfs_model.specs.PowerLoss.{IsLeft}

@@ -8,18 +8,19 @@ use Rattle.lfs_model.specs.Log.{chain_of, chain_within, commit_within, entry_at,
 use Rattle.lfs_model.specs.Content.{content_at, holder_at}
 use Rattle.lfs_model.specs.Slots.{Slot, no_gstate}
 use Rattle.lfs_model.specs.Thread.{Pair, anchor}
-use Rattle.lfs_model.specs.View.{BeginsWith, superblock_entry, used_blocks}
+use Rattle.lfs_model.specs.View.{BeginsWith, superblock_entry}
+use Rattle.lfs_model.specs.Shown.{used_blocks}
 use Rattle.lfs_model.specs.Fresh.{IsFresh, fresh_pair, superblock_slot}
 use Rattle.lfs_model.specs.SlotEdits.{new_file}
 use Rattle.lfs_model.specs.Operations as ops
 use Rattle.lfs_model.specs.Session.{Session, Surroundings}
 use Rattle.lfs_model.specs.State.{mounted}
 use Rattle.lfs_model.specs.Fresh.{empty_tree}
-use Rattle.lfs_model.specs.Steps.{effect_of}
+use Rattle.lfs_model.specs.Effects.{effect_of}
 use Rattle.lfs_model.specs.Run.{IsTurn}
-use Rattle.lfs_model.specs.Sessions.{for_new}
-use Rattle.lfs_model.specs.Examples.{large_image}
-use Rattle.lfs_model.specs.RunExamples.{large_moment, large_appended, opened_moment}
+use Rattle.lfs_model.specs.examples.Sessions.{for_new}
+use Rattle.lfs_model.specs.examples.Images.{large_image}
+use Rattle.lfs_model.specs.examples.Runs.{large_moment, large_appended, opened_moment}
 use Rattle.lfs_model.proofs.Files.{HasSameFile}
 use Rattle.lfs_model.proofs.Sites.{Site}
 use Rattle.lfs_model.proofs.Fresh.{accepted, shows, writable}

@@ -6,7 +6,7 @@ use Rattle.std.proofs.lemmas.Option.{same_Some}
 use Rattle.lfs_model.specs.Disk.{Disk}
 use Rattle.lfs_model.specs.Slots.{Slot, same_pair}
 use Rattle.lfs_model.specs.Thread.{Pair, is_hard}
-use Rattle.lfs_model.specs.View.{HaveSlots}
+use Rattle.lfs_model.specs.Profile.{HaveSlots}
 use Rattle.lfs_model.specs.SlotEdits.{with_slots}
 use Rattle.lfs_model.specs.Layout.{Fits, begin_from, onward}
 use Rattle.lfs_model.proofs.Counts.{Each, each_left, each_right}

@@ -5,7 +5,9 @@ use Rattle.lfs_model.specs.Disk.{Disk}
 use Rattle.lfs_model.specs.Slots.{no_gstate}
 use Rattle.lfs_model.specs.Thread.{Pair, gstate_of, unmoved, superblocks_before, directory_pairs}
 use Rattle.lfs_model.specs.Tree.{Tree}
-use Rattle.lfs_model.specs.View.{IsAccepted, IsReached, IsWritable, tree_in}
+use Rattle.lfs_model.specs.View.{IsAccepted}
+use Rattle.lfs_model.specs.Shown.{IsReached, tree_in}
+use Rattle.lfs_model.specs.Profile.{IsWritable}
 use Rattle.lfs_model.specs.Operations as ops
 use Rattle.lfs_model.specs.Session.{Session}
 use Rattle.lfs_model.specs.PowerLoss.{IsLeft}

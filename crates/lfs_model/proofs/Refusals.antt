@@ -12,11 +12,13 @@ use Rattle.lfs_model.specs.Disk.{Disk, block_count, block_at}
 use Rattle.lfs_model.specs.Names.{Name, name_cmp, is_less, is_name}
 use Rattle.lfs_model.specs.Slots.{Content, Slot, Kind, File, Directory, Superblock, Struct, Inline, Ctz, Branch, Gstate, same_pair}
 use Rattle.lfs_model.specs.Content.{content_at, has_commit}
-use Rattle.lfs_model.specs.Thread.{Pair, anchor, Links, next_of, blocks_of, gstate_of, root_of, Listing}
+use Rattle.lfs_model.specs.Thread.{Pair, anchor, Links, next_of, blocks_of, gstate_of, root_of, ThreadDirectory}
 use Rattle.lfs_model.specs.Tree.{Path, root_slot, names_at}
-use Rattle.lfs_model.specs.Apply.{same_path}
-use Rattle.lfs_model.specs.View.{IsAccepted, IsWritable, FitsSlot, Leads, IsReached, IsMove, NamesSlot, IsOtherSlot, IsEntry, Suits, HasSuperblock, IsSuperblockStruct, superblock_pairs, other_pairs, directories_in, entries_in, used_blocks, all_slots, IsListIfCtz}
-use Rattle.lfs_model.specs.Examples.{IsRefused, IsReadOnly}
+use Rattle.lfs_model.specs.TreeEdits.{same_path}
+use Rattle.lfs_model.specs.View.{IsAccepted, IsMove, NamesSlot, IsOtherSlot, IsEntry, Suits, HasSuperblock, IsSuperblockStruct, superblock_pairs, other_pairs, IsListIfCtz}
+use Rattle.lfs_model.specs.Profile.{IsWritable, FitsSlot}
+use Rattle.lfs_model.specs.Shown.{Leads, IsReached, directories_in, entries_in, used_blocks, all_slots}
+use Rattle.lfs_model.specs.examples.Images.{IsRefused, IsReadOnly}
 use Rattle.lfs_model.proofs.Acceptance.{are_apart, apart_from, all_to, rise, begins, led, on_branches, outline_in, is_move, names_slot, is_other, is_entry, suits, is_inline, has_superblock, is_struct}
 use Rattle.lfs_model.proofs.Outlines.{is_outlined}
 use Rattle.lfs_model.proofs.Paths.{path_itself, same_itself}
@@ -118,7 +120,7 @@ fails_once disk ps path other at to leads second same apart a =
 
 -- no path leads to a directory, and the sync bit is clear
 pub fails_reached : (disk : Disk) (ps : List Pair) (k : ℕ) → (gstate_of ps).sync ≡ false → is_outlined k (entries_in ps) (root_slot (root_of ps)) ≡ true →
-    (i : ℕ) (d : Listing) → slice_get (directories_in ps) i ≡ Some d → on_branches (λ path at. not (same_pair d.at at)) (outline_in k ps) ≡ true → IsAccepted disk ps → ⊥
+    (i : ℕ) (d : ThreadDirectory) → slice_get (directories_in ps) i ≡ Some d → on_branches (λ path at. not (same_pair d.at at)) (outline_in k ps) ≡ true → IsAccepted disk ps → ⊥
 fails_reached disk ps k clear whole i d is none a =
     let within = slice_get_within (directories_in ps) i d is in
     let here : get_or (directories_in ps) i d ≡ d = get_or_from_slice_get (directories_in ps) i d d is in

@@ -9,11 +9,11 @@ use Rattle.lfs_model.specs.Names.{Name, name_cmp}
 use Rattle.lfs_model.specs.Slots.{Slot, is_superblock, same_pair}
 use Rattle.lfs_model.specs.Thread.{Pair, blocks_of}
 use Rattle.lfs_model.specs.Tree.{Path}
-use Rattle.lfs_model.specs.View.{Leads, entries_in, tree_in}
-use Rattle.lfs_model.specs.Apply.{rest_after}
+use Rattle.lfs_model.specs.Shown.{Leads, entries_in, tree_in}
+use Rattle.lfs_model.specs.TreeEdits.{rest_after}
 use Rattle.lfs_model.specs.Operations as ops
 use Rattle.lfs_model.specs.Session.{Session}
-use Rattle.lfs_model.specs.Steps.{as_path}
+use Rattle.lfs_model.specs.Refusals.{as_path}
 use Rattle.lfs_model.specs.InDirectory.{entries_only, slots_in}
 use Rattle.lfs_model.proofs.Edits.{not_after}
 use Rattle.lfs_model.proofs.Paths.{last_is}

@@ -5,14 +5,16 @@ use Rattle.std.proofs.lemmas.List.Elements.{recursion_from_All}
 use Rattle.std.proofs.lemmas.Option.{same_Some}
 use Rattle.lfs_model.specs.Disk.{Disk}
 use Rattle.lfs_model.specs.Slots.{Slot, Struct, Inline, Ctz, Branch, no_gstate, same_pair}
-use Rattle.lfs_model.specs.Thread.{Pair, gstate_of, is_hard, superblocks_before, directory_pairs, Listing}
+use Rattle.lfs_model.specs.Thread.{Pair, gstate_of, is_hard, superblocks_before, directory_pairs, ThreadDirectory}
 use Rattle.lfs_model.specs.Tree.{Path, branch_of}
-use Rattle.lfs_model.specs.View.{IsAccepted, IsReached, IsWritable, directories_in, tree_in}
+use Rattle.lfs_model.specs.View.{IsAccepted}
+use Rattle.lfs_model.specs.Shown.{IsReached, directories_in, tree_in}
+use Rattle.lfs_model.specs.Profile.{IsWritable}
 use Rattle.lfs_model.specs.Names.{Name}
-use Rattle.lfs_model.specs.Apply.{last_name, renamed, rest_after, same_path}
+use Rattle.lfs_model.specs.TreeEdits.{last_name, renamed, rest_after, same_path}
 use Rattle.lfs_model.specs.Operations as ops
 use Rattle.lfs_model.specs.Session.{Session}
-use Rattle.lfs_model.specs.Steps.{as_path}
+use Rattle.lfs_model.specs.Refusals.{as_path}
 use Rattle.lfs_model.specs.SlotEdits.{with_slots, slot_of_path, IsSpliced, Clears}
 use Rattle.lfs_model.specs.Layout.{Goes, directory_of, removed_directories, begin_from, onward, IsLaidOut}
 use Rattle.lfs_model.proofs.Counts.{Each, each_append, each_left, each_right, each_weaker}
@@ -98,9 +100,9 @@ module _ (disk new : Disk) (rs : List Pair) (b : Bool) (chain front mid back : L
   all_reached : NoneGoes (λ x. IsReached ps x → ⊥) None (two b front (p ∷ []) mid (o ∷ []) back)
   all_reached = subst (NoneGoes (λ x. IsReached ps x → ⊥) None) (pairs_behind chain (two b front (p ∷ []) mid (o ∷ []) back) c.is_chain)
       (none_where (λ x. IsReached ps x → ⊥) (gstate_of ps) None (directory_pairs ps) (λ x f. absurd (cc))
-      (subst (Each (λ (x : Listing). (IsReached ps x.at → ⊥) → ⊥)) (sym (rest_all (directories_in ps)))
-      (each_weaker (λ (x : Listing). IsReached ps x.at) (λ (x : Listing). (IsReached ps x.at → ⊥) → ⊥) (λ x h n. n h) (directories_in ps)
-      (recursion_from_All (λ (x : Listing). IsReached ps x.at) (directories_in ps) (recovered_from disk ps c.accepted c.settled).reached))))
+      (subst (Each (λ (x : ThreadDirectory). (IsReached ps x.at → ⊥) → ⊥)) (sym (rest_all (directories_in ps)))
+      (each_weaker (λ (x : ThreadDirectory). IsReached ps x.at) (λ (x : ThreadDirectory). (IsReached ps x.at → ⊥) → ⊥) (λ x h n. n h) (directories_in ps)
+      (recursion_from_All (λ (x : ThreadDirectory). IsReached ps x.at) (directories_in ps) (recovered_from disk ps c.accepted c.settled).reached))))
 
   none_of : (from : Option (ℕ × ℕ)) (xs : List Pair) → NoneGoes (λ x. IsReached ps x → ⊥) from xs → ((x : ℕ × ℕ) → from ≡ Some x → same_pair x d ≡ true → ⊥) → Each (λ x. same_pair x.at d ≡ false) xs →
       NoneGoes Goes_ from xs

@@ -5,10 +5,10 @@ use Rattle.std.proofs.lemmas.List.Elements.{All-from_recursion, recursion_from_A
 use Rattle.std.proofs.lemmas.Option.{same_Some}
 use Rattle.lfs_model.specs.Disk.{Disk}
 use Rattle.lfs_model.specs.Slots.{same_pair}
-use Rattle.lfs_model.specs.Thread.{Pair, Listing, is_hard, root_of}
+use Rattle.lfs_model.specs.Thread.{Pair, ThreadDirectory, is_hard, root_of}
 use Rattle.lfs_model.specs.Tree.{Path, Tree, directory_at}
-use Rattle.lfs_model.specs.Apply.{rest_after, planted, renamed}
-use Rattle.lfs_model.specs.View.{IsReached, directories_in, entries_in, tree_in}
+use Rattle.lfs_model.specs.TreeEdits.{rest_after, planted, renamed}
+use Rattle.lfs_model.specs.Shown.{IsReached, directories_in, entries_in, tree_in}
 use Rattle.lfs_model.specs.PowerLoss.{IsLeft}
 use Rattle.lfs_model.proofs.LeftFiles.{ends_same}
 use Rattle.lfs_model.proofs.Paths.{Rest, beyond, aside, rest, rest_itself}
@@ -78,9 +78,9 @@ module _ (disk middle new : Disk) (ps : List Pair) (old_path new_path : Path) (d
   replacing_between before = taken_after disk ps middle qs (renamed old_path new_path) (rename_walk old_path new_path) before first
 
   but_o : AllReachedBut (chain ++ (front ++ x ∷ o ∷ back)) o.at
-  but_o = every (λ z. IsReached qs z ⊎ (same_pair z o.at ≡ true)) (All-from_recursion (λ (z : Listing). IsReached qs z.at ⊎ (same_pair z.at o.at ≡ true)) (directories_in ps)
-      (each_weaker (λ (z : Listing). IsReached ps z.at) (λ (z : Listing). IsReached qs z.at ⊎ (same_pair z.at o.at ≡ true)) (λ z h. go z.at (replaced_reached (directory_at (entries_in ps) (root_of ps)) old_path new_path d replaced z.at h))
-      (directories_in ps) (recursion_from_All (λ (z : Listing). IsReached ps z.at) (directories_in ps) reached)))
+  but_o = every (λ z. IsReached qs z ⊎ (same_pair z o.at ≡ true)) (All-from_recursion (λ (z : ThreadDirectory). IsReached qs z.at ⊎ (same_pair z.at o.at ≡ true)) (directories_in ps)
+      (each_weaker (λ (z : ThreadDirectory). IsReached ps z.at) (λ (z : ThreadDirectory). IsReached qs z.at ⊎ (same_pair z.at o.at ≡ true)) (λ z h. go z.at (replaced_reached (directory_at (entries_in ps) (root_of ps)) old_path new_path d replaced z.at h))
+      (directories_in ps) (recursion_from_All (λ (z : ThreadDirectory). IsReached ps z.at) (directories_in ps) reached)))
     where
       go : (z : ℕ × ℕ) → IsLedTo (rename_walk old_path new_path (directory_at (entries_in ps) (root_of ps))) z ⊎ (same_pair z d ≡ true) → IsReached qs z ⊎ (same_pair z o.at ≡ true)
       go z (inl (path, at, (k, s))) = inl (path, at, (ap (λ walk. walk path) first.follows.leads ∙ k, s))

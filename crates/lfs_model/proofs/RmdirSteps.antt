@@ -6,13 +6,15 @@ use Rattle.std.proofs.Common.{nat_eq}
 use Rattle.std.proofs.lemmas.List.Elements.{All-from_recursion, recursion_from_All}
 use Rattle.lfs_model.specs.Disk.{Disk}
 use Rattle.lfs_model.specs.Slots.{Slot, Tail, Branch, no_gstate, is_superblock, same_pair}
-use Rattle.lfs_model.specs.Thread.{Pair, Listing, blocks_of, gstate_of, is_hard, superblocks_before}
+use Rattle.lfs_model.specs.Thread.{Pair, ThreadDirectory, blocks_of, gstate_of, is_hard, superblocks_before}
 use Rattle.lfs_model.specs.Tree.{Path, Tree}
-use Rattle.lfs_model.specs.View.{IsAccepted, IsReached, IsWritable, FitsSlot, HaveSlots, Leads, directories_in, entries_in, tree_in}
-use Rattle.lfs_model.specs.Apply.{removed, planted}
+use Rattle.lfs_model.specs.View.{IsAccepted}
+use Rattle.lfs_model.specs.Shown.{IsReached, Leads, directories_in, entries_in, tree_in}
+use Rattle.lfs_model.specs.Profile.{IsWritable, FitsSlot, HaveSlots}
+use Rattle.lfs_model.specs.TreeEdits.{removed, planted}
 use Rattle.lfs_model.specs.Operations as ops
 use Rattle.lfs_model.specs.Session.{Session}
-use Rattle.lfs_model.specs.Steps.{as_path}
+use Rattle.lfs_model.specs.Refusals.{as_path}
 use Rattle.lfs_model.specs.SlotEdits.{with_slots, slot_of_path}
 use Rattle.lfs_model.specs.Layout.{begin_from, onward}
 use Rattle.lfs_model.specs.PowerLoss.{IsLeft}
@@ -82,11 +84,11 @@ module _ (disk middle new : Disk) (w : Site) (p : Pair) (mids : List Pair) (q : 
 
   but_o : AllReachedBut (thread_at w (q ∷ [])) o.at
   but_o = All-from_recursion (λ z. IsReached (thread_at w (q ∷ [])) z.at ⊎ (same_pair z.at o.at ≡ true)) (directories_in (thread_at w (q ∷ [])))
-      (each_weaker (λ (z : Listing). IsReached (thread_at w (q ∷ [])) z.at ⊎ (same_pair z.at d ≡ true)) (λ (z : Listing). IsReached (thread_at w (q ∷ [])) z.at ⊎ (same_pair z.at o.at ≡ true)) (λ z k. go z k) (directories_in (thread_at w (q ∷ [])))
-      (recursion_from_All (λ (z : Listing). IsReached (thread_at w (q ∷ [])) z.at ⊎ (same_pair z.at d ≡ true)) (directories_in (thread_at w (q ∷ [])))
+      (each_weaker (λ (z : ThreadDirectory). IsReached (thread_at w (q ∷ [])) z.at ⊎ (same_pair z.at d ≡ true)) (λ (z : ThreadDirectory). IsReached (thread_at w (q ∷ [])) z.at ⊎ (same_pair z.at o.at ≡ true)) (λ z k. go z k) (directories_in (thread_at w (q ∷ [])))
+      (recursion_from_All (λ (z : ThreadDirectory). IsReached (thread_at w (q ∷ [])) z.at ⊎ (same_pair z.at d ≡ true)) (directories_in (thread_at w (q ∷ [])))
       (directory_goes_reached disk middle w p mids q [] [] [] l r u step other P a leads same d branch empty sync (recovered_from disk (thread_at w (p ∷ mids)) step.accepted settled).reached)))
     where
-      go : (z : Listing) → IsReached (thread_at w (q ∷ [])) z.at ⊎ (same_pair z.at d ≡ true) → IsReached (thread_at w (q ∷ [])) z.at ⊎ (same_pair z.at o.at ≡ true)
+      go : (z : ThreadDirectory) → IsReached (thread_at w (q ∷ [])) z.at ⊎ (same_pair z.at d ≡ true) → IsReached (thread_at w (q ∷ [])) z.at ⊎ (same_pair z.at o.at ≡ true)
       go z (inl k) = inl k
       go z (inr k) = inr (pair_on z.at d o.at k (pair_back o.at d address))
 

@@ -12,7 +12,8 @@ use Rattle.lfs_model.specs.Names.{Name, name_cmp}
 use Rattle.lfs_model.specs.Slots.{Slot, is_superblock, same_pair}
 use Rattle.lfs_model.specs.Thread.{Pair, is_hard, blocks_of, gstate_of, superblocks_before, directory_pairs}
 use Rattle.lfs_model.specs.Tree.{Path}
-use Rattle.lfs_model.specs.View.{IsAccepted, IsEntry, Leads, entries_in}
+use Rattle.lfs_model.specs.View.{IsAccepted, IsEntry}
+use Rattle.lfs_model.specs.Shown.{Leads, entries_in}
 use Rattle.lfs_model.specs.SlotEdits.{slot_of_path}
 use Rattle.lfs_model.specs.Discipline.{run_of, pairs_at, pairs_of_path}
 use Rattle.lfs_model.specs.InDirectory.{entries_only, slots_in, BeginsAbove, HaveNoSuperblock, IsJoined, run_length, Runs, last_is_joined, IsBehind, BeginsAt, Stands, Belongs}

@@ -4,7 +4,7 @@ use Rattle.std.specs.Prelude.{slice_index, nat_lt, nat_le}
 use Rattle.std.specs.List.{list_all}
 use Rattle.std.proofs.lemmas.Bool.{and_parts, and_from, cases_lt}
 use Rattle.lfs_model.specs.Blocks.{Blocks, block_in}
-use Rattle.lfs_model.specs.Lists.{word_at, pointers_of, blocks_for, blocks_back, IsList}
+use Rattle.lfs_model.specs.SkipLists.{word_at, pointers_of, blocks_for, blocks_back, IsList}
 use Rattle.lfs_model.proofs.Acceptance.{all_from, all_to, are_apart, distinct_from, apart_from}
 
 -- the test passes below a number

@@ -8,7 +8,7 @@ use Rattle.lfs_model.specs.Blocks.{Blocks, SameButThese, block_in}
 use Rattle.lfs_model.specs.Disk.{Disk, block_at}
 use Rattle.lfs_model.specs.Log.{log_entries}
 use Rattle.lfs_model.specs.Content.{holder, holder_at, raw_at, content_at, content_after_all, no_content}
-use Rattle.lfs_model.specs.Lists.{word_at, blocks_for, blocks_back, IsChain, IsList, bytes_of}
+use Rattle.lfs_model.specs.SkipLists.{word_at, blocks_for, blocks_back, AreListBlocks, IsList, bytes_of}
 use Rattle.lfs_model.proofs.Devices.{content_same}
 use Rattle.lfs_model.proofs.Files.{Same, back_same, length_back, list_same, bytes_same}
 
@@ -59,7 +59,7 @@ pub same_apart : (own : List ℕ) {bs : List ℕ} (old new : Blocks) → AreApar
 same_apart own old new apart same = recursion_from_All (λ b. block_in new b ≡ block_in old b) own (λ k x l. same.others (get_or own k x) (apart k x l))
 
 -- the first blocks of a list that grows
-pub chain_same : (old new : Blocks) (count head : ℕ) → length new ≡ length old → Same old new (blocks_back old count head) → IsChain old count head → IsChain new count head
+pub chain_same : (old new : Blocks) (count head : ℕ) → length new ≡ length old → Same old new (blocks_back old count head) → AreListBlocks old count head → AreListBlocks new count head
 chain_same old new count head l h ok = record {
   in_range = subst (λ bs. All (λ b. b < length new) bs) (sym back) (subst (λ n. All (λ b. b < n) (blocks_back old count head)) (sym l) ok.in_range);
   distinct = rw back ok.distinct;
@@ -75,7 +75,7 @@ module _ (old new : Blocks) (bs : List ℕ) (same : SameButThese bs old new) whe
   pub back-stays : (count head : ℕ) → AreApart (blocks_back old count head) bs → blocks_back new count head ≡ blocks_back old count head
   back-stays count head apart = back_same old new count head (same_apart (blocks_back old count head) old new apart same)
 
-  pub chain-stays : (count head : ℕ) → AreApart (blocks_back old count head) bs → IsChain old count head → IsChain new count head
+  pub chain-stays : (count head : ℕ) → AreApart (blocks_back old count head) bs → AreListBlocks old count head → AreListBlocks new count head
   chain-stays count head apart ok = chain_same old new count head same.count (same_apart (blocks_back old count head) old new apart same) ok
 
   pub list-stays : (block_size head size : ℕ) → AreApart (blocks_back old (blocks_for block_size size) head) bs → IsList old block_size head size → IsList new block_size head size

@@ -6,7 +6,8 @@ use Rattle.lfs_model.specs.Disk.{Disk}
 use Rattle.lfs_model.specs.Slots.{Slot, Tail, same_pair, FitsPair}
 use Rattle.lfs_model.specs.Thread.{Pair, is_hard}
 use Rattle.lfs_model.specs.Tree.{Path, Tree}
-use Rattle.lfs_model.specs.View.{IsWritable, FitsSlot, HaveSlots, Leads, tree_in}
+use Rattle.lfs_model.specs.Profile.{IsWritable, FitsSlot, HaveSlots}
+use Rattle.lfs_model.specs.Shown.{Leads, tree_in}
 use Rattle.lfs_model.specs.SlotEdits.{with_slots}
 use Rattle.lfs_model.specs.Layout.{Fits}
 use Rattle.lfs_model.specs.PowerLoss.{IsLeft}

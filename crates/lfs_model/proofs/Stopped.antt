@@ -7,7 +7,7 @@ use Rattle.lfs_model.specs.Crc.{crc_of, next_bits}
 use Rattle.lfs_model.specs.Log.{log_of, chain_of, chain_within, commit_within, entry_at, closes}
 use Rattle.lfs_model.specs.History.{Call, Read, Program, Erase, event}
 use Rattle.lfs_model.specs.Stops.{stops_in, Stops}
-use Rattle.lfs_model.specs.Examples.{small_commit}
+use Rattle.lfs_model.specs.examples.Images.{small_commit}
 
 same_but_nothing : (b : ℕ) (blocks : Blocks) → SameBut b blocks blocks
 same_but_nothing b blocks = record { count = refl; size = refl; others = λ other d. refl }

@@ -4,9 +4,10 @@ use Rattle.std.specs.Prelude.{slice_index, nat_le, nat_lt}
 use Rattle.std.specs.List.{list_all}
 use Rattle.std.proofs.lemmas.Bool.{and_parts, ne_eqb, leb-true, ltb-true}
 use Rattle.lfs_model.specs.Tag.{tag_with, class_of, len_of}
-use Rattle.lfs_model.specs.Content.{RawContent, removes, no_id, content_after_all, create_type, delete_type, move_state_type}
-use Rattle.lfs_model.specs.Written.{entry_with, attribute_type, pair_bytes, move_bytes, tail_type, named_pair}
-use Rattle.lfs_model.specs.Logged.{IsStored, AreStored, IsLogged}
+use Rattle.lfs_model.specs.Content.{RawContent, content_after_all}
+use Rattle.lfs_model.specs.EntryTypes.{removes, no_id, create_type, delete_type, move_state_type}
+use Rattle.lfs_model.specs.WrittenContent.{entry_with, attribute_type, pair_bytes, move_bytes, tail_type, named_pair}
+use Rattle.lfs_model.specs.LoggedContent.{IsStored, AreStored, IsLogged}
 use Rattle.lfs_model.specs.Changes.{Change, Create, Delete, PutStruct, PutAttribute, RemoveAttribute, PutTail, PutMove, entries_of_change, entries_of_changes, is_storable, is_name_kind, is_struct_kind, is_data, changed_by}
 use Rattle.lfs_model.proofs.WrittenAnew.{len_of-tag_with}
 use Rattle.lfs_model.proofs.Logged.{stored_append, logged_after_all}

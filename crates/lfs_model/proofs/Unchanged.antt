@@ -7,7 +7,8 @@ use Rattle.std.proofs.lemmas.List.Concat.{flat_map-append}
 use Rattle.lfs_model.specs.Disk.{Disk, block_count}
 use Rattle.lfs_model.specs.Slots.{Slot, gstate_xor}
 use Rattle.lfs_model.specs.Thread.{Pair, blocks_of, gstate_of, starts_with_superblock, superblocks_before, unmoved}
-use Rattle.lfs_model.specs.View.{HasSuperblock, IsListIfCtz, IsAccepted, all_slots, used_blocks}
+use Rattle.lfs_model.specs.View.{HasSuperblock, IsListIfCtz, IsAccepted}
+use Rattle.lfs_model.specs.Shown.{all_slots, used_blocks}
 use Rattle.lfs_model.proofs.Counts.{Each, each_always, each_both, each_right, count}
 use Rattle.lfs_model.specs.SlotEdits.{slot_of_path}
 use Rattle.lfs_model.proofs.LeftFiles.{stays_same}

@@ -9,9 +9,10 @@ use Rattle.lfs_model.specs.Run.{Agrees, IsTurn, Moment, is_refusal}
 use Rattle.lfs_model.specs.Session.{Session, Surroundings}
 use Rattle.lfs_model.specs.Slots.{Gstate}
 use Rattle.lfs_model.specs.State.{Healthy, State, Surrounds, answered_in, is_remount, remounted}
-use Rattle.lfs_model.specs.Steps.{applied}
+use Rattle.lfs_model.specs.Effects.{applied}
 use Rattle.lfs_model.specs.Thread.{Pair}
-use Rattle.lfs_model.specs.View.{IsAccepted, tree_in}
+use Rattle.lfs_model.specs.View.{IsAccepted}
+use Rattle.lfs_model.specs.Shown.{tree_in}
 use Rattle.lfs_model.proofs.AfterStops.{left_after, left_before, withstood_turns}
 use Rattle.lfs_model.proofs.Kept.{one_tree}
 use Rattle.lfs_model.proofs.Turns.{turns_agree}

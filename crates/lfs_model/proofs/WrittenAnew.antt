@@ -10,9 +10,10 @@ use Rattle.byteorder.specs.Numbers.{little_number-reads_back}
 use Rattle.lfs_model.specs.Tag.{tag_with, kind_of, id_of, len_of, class_of, chunk_of}
 use Rattle.lfs_model.specs.Log.{LogEntry}
 use Rattle.lfs_model.specs.Slots.{Attributes, Tail, Gstate, no_gstate}
-use Rattle.lfs_model.specs.Content.{RawSlot, RawContent, content_after, content_after_all, slots_after, is_in_table, has_its_id, put_attribute, no_id, create_type, delete_type, removes, pair_at, tail_with, gstate_at, gstate_with, no_content, move_state_type}
-use Rattle.lfs_model.specs.Written.{entry_with, part_entries, attribute_entries, entries_of_slot, entries_of_slots, pair_bytes, tail_entries, move_word, move_bytes, move_entries, is_no_gstate, entries_of}
-use Rattle.lfs_model.specs.Logged.{IsPart, IsPartIfSome, Ascend, HasParts, HaveParts, HaveNames, IsAddress, IsTailIfSome, IsMoveState, IsSound}
+use Rattle.lfs_model.specs.Content.{RawSlot, RawContent, content_after, content_after_all, slots_after, put_attribute, no_content}
+use Rattle.lfs_model.specs.EntryTypes.{is_in_table, has_its_id, no_id, create_type, delete_type, removes, pair_at, tail_with, gstate_at, gstate_with, move_state_type}
+use Rattle.lfs_model.specs.WrittenContent.{entry_with, part_entries, attribute_entries, entries_of_slot, entries_of_slots, pair_bytes, tail_entries, move_word, move_bytes, move_entries, is_no_gstate, written_entries}
+use Rattle.lfs_model.specs.LoggedContent.{IsPart, IsPartIfSome, Ascend, HasParts, HaveParts, HaveNames, IsAddress, IsTailIfSome, IsMoveState, IsSound}
 
 -- ---- the fields of a tag
 
@@ -277,7 +278,7 @@ move_written c g none h = go (is_no_gstate g) refl
 
 -- ---- the whole
 
-pub entries_of-reads : (c : RawContent) → IsSound c → content_after_all no_content (entries_of c) ≡ Some c
+pub entries_of-reads : (c : RawContent) → IsSound c → content_after_all no_content (written_entries c) ≡ Some c
 entries_of-reads c h =
     then no_content (record { slots = c.slots; tail = c.tail; move = no_gstate }) (entries_of_slots 0 c.slots ++ tail_entries c.tail) (move_entries c.move) _
     (then no_content (record { slots = c.slots; tail = None; move = no_gstate }) (entries_of_slots 0 c.slots) (tail_entries c.tail) _

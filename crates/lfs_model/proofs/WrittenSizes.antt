@@ -5,7 +5,7 @@ use Rattle.std.proofs.lemmas.List.Sums.{sum_by-append, sum_by-cons}
 use Rattle.lfs_model.specs.Slots.{Attributes, Tail, Gstate, attributes_size}
 use Rattle.lfs_model.specs.Log.{LogEntry}
 use Rattle.lfs_model.specs.Content.{RawSlot, RawContent}
-use Rattle.lfs_model.specs.Written.{entry_with, attribute_type, part_entries, attribute_entries, entries_of_slot, entries_of_slots, tail_entries, move_entry, move_entries, is_no_gstate, entries_of, part_size, raw_slot_size, raw_size}
+use Rattle.lfs_model.specs.WrittenContent.{entry_with, attribute_type, part_entries, attribute_entries, entries_of_slot, entries_of_slots, tail_entries, move_entry, move_entries, is_no_gstate, written_entries, part_size, raw_slot_size, raw_size}
 
 abbrev entry_size : LogEntry → ℕ
 entry_size e = 4 + length e.bytes
@@ -52,7 +52,7 @@ move_size_written g = go (is_no_gstate g)
     go false = omega arith
 
 -- the slots' bytes, a tail and a move state
-pub written_size : (c : RawContent) → sum_by (λ (e : LogEntry). 4 + length e.bytes) (entries_of c) ≤ raw_size c + 28
+pub written_size : (c : RawContent) → sum_by (λ (e : LogEntry). 4 + length e.bytes) (written_entries c) ≤ raw_size c + 28
 written_size c =
     let all = sum_by-append entry_size (entries_of_slots 0 c.slots ++ tail_entries c.tail) (move_entries c.move) in
     let front = sum_by-append entry_size (entries_of_slots 0 c.slots) (tail_entries c.tail) in

@@ -4,7 +4,7 @@ use Rattle.std.specs.Prelude.{nat_lt, nat_le}
 use Rattle.std.proofs.lemmas.List.{replicate-append-replicate}
 use Rattle.byteorder.specs.Endian.{big_number}
 use Rattle.lfs_model.specs.Blocks.{Blocks, block_in, overwritten, programmed}
-use Rattle.lfs_model.specs.Tag.{size_of}
+use Rattle.lfs_model.specs.Tag.{data_size}
 use Rattle.lfs_model.specs.Log.{Chain, entry_at, chain_of}
 use Rattle.lfs_model.specs.Content.{has_commit}
 use Rattle.lfs_model.proofs.Chains.{chain_none, commit_none}
@@ -18,9 +18,9 @@ or_none false no_room some = refl
 no_entry : (block : List ℕ) → big_number 4 (drop 4 block) ≡ 0 → entry_at block 4 0xffffffff ≡ None
 unfolding entry_at
 no_entry block zero =
-    ap (λ n. cond (nat_lt (length block) 8 || (nat_le (2 ^ 31) (bit_xor n 0xffffffff) || nat_lt (length block) (8 + size_of (bit_xor n 0xffffffff)))) None
-    (Some (record { tag = bit_xor n 0xffffffff; bytes = take (size_of (bit_xor n 0xffffffff)) (drop 8 block) }))) zero
-    ∙ or_none (nat_lt (length block) 8) (nat_lt (length block) (8 + size_of 0xffffffff)) (Some (record { tag = 0xffffffff; bytes = take (size_of 0xffffffff) (drop 8 block) }))
+    ap (λ n. cond (nat_lt (length block) 8 || (nat_le (2 ^ 31) (bit_xor n 0xffffffff) || nat_lt (length block) (8 + data_size (bit_xor n 0xffffffff)))) None
+    (Some (record { tag = bit_xor n 0xffffffff; bytes = take (data_size (bit_xor n 0xffffffff)) (drop 8 block) }))) zero
+    ∙ or_none (nat_lt (length block) 8) (nat_lt (length block) (8 + data_size 0xffffffff)) (Some (record { tag = 0xffffffff; bytes = take (data_size 0xffffffff) (drop 8 block) }))
 
 no_commit : (block : List ℕ) → big_number 4 (drop 4 block) ≡ 0 → has_commit block ≡ false
 unfolding chain_of

@@ -3,10 +3,11 @@ use Rattle.std.specs.Prelude.{ℕ, ◌+◌, ◌^◌, ◌&&◌, nat_le, nat_lt, i
 use Rattle.std.specs.List.{flat_map, list_all}
 use Rattle.std.specs.Option.{option_and_then}
 use Rattle.lfs_model.specs.Slots.{Gstate, Content}
-use Rattle.lfs_model.specs.Tag.{tag_with}
+use Rattle.lfs_model.specs.Tag.{tag_with, data_limit, removal_length}
 use Rattle.lfs_model.specs.Log.{LogEntry}
-use Rattle.lfs_model.specs.Content.{RawContent, create_type, delete_type, no_id, content_after_all, completed}
-use Rattle.lfs_model.specs.Written.{entry_with, attribute_type, tail_entry, move_entry, named_pair}
+use Rattle.lfs_model.specs.Content.{RawContent, content_after_all, completed}
+use Rattle.lfs_model.specs.EntryTypes.{create_type, delete_type, no_id}
+use Rattle.lfs_model.specs.WrittenContent.{entry_with, attribute_type, tail_entry, move_entry, named_pair}
 
 -- kind is the type of a name or of a struct, attribute the type of an attribute from 0 on
 pub data Change : Type 0 where
@@ -25,7 +26,7 @@ entries_of_change (Create id kind name) = entry_with create_type id [] ∷ entry
 entries_of_change (Delete id) = entry_with delete_type id [] ∷ []
 entries_of_change (PutStruct id kind bytes) = entry_with kind id bytes ∷ []
 entries_of_change (PutAttribute id attribute bytes) = entry_with (attribute_type + attribute) id bytes ∷ []
-entries_of_change (RemoveAttribute id attribute) = record { tag = tag_with (attribute_type + attribute) id 0x3ff; bytes = [] } ∷ []
+entries_of_change (RemoveAttribute id attribute) = record { tag = tag_with (attribute_type + attribute) id removal_length; bytes = [] } ∷ []
 entries_of_change (PutTail hard pair) = tail_entry hard pair ∷ []
 entries_of_change (PutMove state) = move_entry state ∷ []
 
@@ -38,7 +39,7 @@ abbrev pub is_pair : ℕ × ℕ → Bool
 is_pair pair = nat_lt pair.0 (2 ^ 32) && nat_lt pair.1 (2 ^ 32)
 
 abbrev pub is_data : List ℕ → Bool
-is_data bytes = nat_le (length bytes) 1022
+is_data bytes = nat_le (length bytes) data_limit
 
 -- the type is a name's (class 0) or a struct's (class 2)
 abbrev pub is_name_kind : ℕ → Bool

@@ -2,7 +2,7 @@
 use Rattle.std.specs.Prelude.{ℕ, ◌≤◌, List, length, take, drop, sum_by}
 use Rattle.lfs_model.specs.Disk.{pair_capacity, slot_limit}
 use Rattle.lfs_model.specs.Content.{RawSlot}
-use Rattle.lfs_model.specs.Written.{raw_slot_size}
+use Rattle.lfs_model.specs.WrittenContent.{raw_slot_size}
 
 -- a pair that is written may have these slots
 pub record FitSlots (block_size page : ℕ) (slots : List RawSlot) : Type 0 where

@@ -2,6 +2,7 @@
 use Rattle.std.specs.Prelude.{ℕ, ◌≡◌, ◌-◌, ◌/◌, ◌%◌, min, List, length}
 use Rattle.lfs_model.specs.Blocks.{Blocks, block_in, cut}
 use Rattle.lfs_model.specs.Geometry.{IsGeometry}
+use Rattle.lfs_model.specs.Tag.{data_limit}
 
 pub record Disk : Type 0 where
   pub block_size : ℕ
@@ -31,7 +32,7 @@ disk_of block_size page bytes = record { block_size = block_size; page = page; b
 
 -- The largest file that is kept in its entry.
 abbrev pub inline_limit : ℕ → ℕ
-inline_limit block_size = min (block_size / 8) 1022
+inline_limit block_size = min (block_size / 8) data_limit
 
 -- What the slots of a pair that is written may take: a block without revision (4), tail (12), move state (16),
 -- checksum (8) and the padding to a page (page - 1).
@@ -46,3 +47,7 @@ slot_limit = 1000
 
 abbrev pub file_limit : ℕ
 file_limit = 2147483647
+
+-- the most bytes of an attribute
+abbrev pub attribute_limit : ℕ
+attribute_limit = 1022

@@ -3,16 +3,17 @@ use Rattle.std.specs.Prelude.{ℕ, ◌≡◌, List, [], ◌∷◌, Some, None, c
 use Rattle.std.specs.List.{flat_map}
 use Rattle.byteorder.specs.Endian.{little_bytes}
 use Rattle.lfs_model.specs.Geometry.{IsGeometry}
-use Rattle.lfs_model.specs.Disk.{Disk, block_count, file_limit}
+use Rattle.lfs_model.specs.Disk.{Disk, block_count, file_limit, attribute_limit}
 use Rattle.lfs_model.specs.Slots.{Slot, Superblock, Inline, Content, no_gstate}
 use Rattle.lfs_model.specs.Content.{content_at, holder_at}
 use Rattle.lfs_model.specs.Thread.{Pair, anchor}
 use Rattle.lfs_model.specs.Tree.{Tree, DirectoryNode}
 use Rattle.lfs_model.specs.View.{BeginsWith, superblock_entry}
+use Rattle.lfs_model.specs.Names.{name_limit}
 
 -- version 2.0, block size, block count, and the limits of names, files and attributes
 abbrev pub superblock_bytes : ℕ → ℕ → List ℕ
-superblock_bytes block_size blocks = flat_map (little_bytes 4) (0x00020000 ∷ block_size ∷ blocks ∷ 255 ∷ file_limit ∷ 1022 ∷ [])
+superblock_bytes block_size blocks = flat_map (little_bytes 4) (0x00020000 ∷ block_size ∷ blocks ∷ name_limit ∷ file_limit ∷ attribute_limit ∷ [])
 
 abbrev pub superblock_slot : ℕ → ℕ → Slot
 superblock_slot block_size blocks = record { kind = Superblock; name = codes "littlefs"; struct = Inline (superblock_bytes block_size blocks); attributes = [] }

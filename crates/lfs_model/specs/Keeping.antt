@@ -5,28 +5,28 @@ use Rattle.lfs_model.specs.Disk.{Disk}
 use Rattle.lfs_model.specs.Slots.{Struct}
 use Rattle.lfs_model.specs.Thread.{Pair}
 use Rattle.lfs_model.specs.Tree.{Path}
-use Rattle.lfs_model.specs.View.{tree_in}
-use Rattle.lfs_model.specs.Apply.{same_path, rest_after, is_file}
+use Rattle.lfs_model.specs.Shown.{tree_in}
+use Rattle.lfs_model.specs.TreeEdits.{same_path, rest_after, is_file}
 use Rattle.lfs_model.specs.Operations as ops
 use Rattle.lfs_model.specs.Operations.{Operation}
 use Rattle.lfs_model.specs.Session.{Session, OpenFile, path_of_file, file_of}
-use Rattle.lfs_model.specs.Steps.{as_path}
+use Rattle.lfs_model.specs.Refusals.{as_path}
 use Rattle.lfs_model.specs.SlotEdits.{slot_of_path}
 
 -- it takes away or moves what stands at that path, or something above it
-abbrev pub concerns : Operation → Path → Bool
-concerns (ops.Remove path) q = is_some (rest_after (as_path path) q)
-concerns (ops.Rename old new) q = is_some (rest_after (as_path old) q) || is_some (rest_after (as_path new) q)
-concerns _ q = false
+abbrev pub takes_or_moves : Operation → Path → Bool
+takes_or_moves (ops.Remove path) q = is_some (rest_after (as_path path) q)
+takes_or_moves (ops.Rename old new) q = is_some (rest_after (as_path old) q) || is_some (rest_after (as_path new) q)
+takes_or_moves _ q = false
 
-abbrev pub is_open_at : Option OpenFile → Path → Bool
-is_open_at None q = false
-is_open_at (Some file) q = same_path (path_of_file file) q
+abbrev pub is_at_path : Option OpenFile → Path → Bool
+is_at_path None q = false
+is_at_path (Some file) q = same_path (path_of_file file) q
 
 -- it may store an open file's contents at that path
 abbrev pub stores_at : Session → Operation → Path → Bool
-stores_at s (ops.Sync fd) q = is_open_at (file_of s.files fd) q
-stores_at s (ops.Close fd) q = is_open_at (file_of s.files fd) q
+stores_at s (ops.Sync fd) q = is_at_path (file_of s.files fd) q
+stores_at s (ops.Close fd) q = is_at_path (file_of s.files fd) q
 stores_at s _ q = false
 
 -- the struct of the slot at a path
@@ -35,4 +35,4 @@ struct_at ps path = option_map (λ u. u.struct) (slot_of_path ps path)
 
 -- Every file that it isn't about has the struct that it had; qs are the pairs after it.
 abbrev pub KeepsStructs : Disk → List Pair → Session → Operation → List Pair → Type 0
-KeepsStructs disk ps s op qs = (q : Path) → is_file (tree_in disk ps q) ≡ true → concerns op q ≡ false → stores_at s op q ≡ false → struct_at qs q ≡ struct_at ps q
+KeepsStructs disk ps s op qs = (q : Path) → is_file (tree_in disk ps q) ≡ true → takes_or_moves op q ≡ false → stores_at s op q ≡ false → struct_at qs q ≡ struct_at ps q

@@ -3,7 +3,7 @@ use Rattle.std.specs.Prelude.{ℕ, ◌+◌, ◌/◌, ◌%◌, ◌≡◌, Bool, t
 use Rattle.std.specs.List.{flat_map}
 use Rattle.std.specs.Fmt.{decimal}
 use Rattle.lfs_model.specs.Tree.{Path, Node, FileNode, DirectoryNode, Tree}
-use Rattle.lfs_model.specs.Apply.{names_of}
+use Rattle.lfs_model.specs.TreeEdits.{names_of}
 use Rattle.lfs_model.specs.Operations as ops
 use Rattle.lfs_model.specs.Operations.{Operation, Flags, path_bytes}
 

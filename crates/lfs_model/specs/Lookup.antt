@@ -2,7 +2,8 @@
 use Rattle.std.specs.Prelude.{ℕ, ◌≡◌, ◌<◌, ◌≤◌, ◌/◌, ◌%◌, ◌^◌, ◌==◌, ◌&&◌, not, if◌then◌else◌, Bool, true, false, List, length, Option, Some, None}
 use Rattle.std.specs.Option.{option_and_then, option_map_or}
 use Rattle.lfs_model.specs.Names.{Name, name_cmp, same_name, is_less}
-use Rattle.lfs_model.specs.Content.{RawSlot, slot_of_id, attribute_of, superblock_name_type}
+use Rattle.lfs_model.specs.Content.{RawSlot, slot_of_id, attribute_of}
+use Rattle.lfs_model.specs.EntryTypes.{superblock_name_type}
 
 -- the bytes of a name or a struct, where it has that type
 abbrev pub bytes_typed : ℕ → Option (ℕ × List ℕ) → Option (List ℕ)
@@ -16,8 +17,8 @@ bytes_in type s =
     else (if type / 2 ^ 8 == 2 then bytes_typed type s.struct
     else (if type / 2 ^ 8 == 3 then attribute_of (type % 2 ^ 8) s.attributes else None))
 
-abbrev pub bytes_at : List RawSlot → ℕ → ℕ → Option (List ℕ)
-bytes_at slots type id = bytes_in type (slot_of_id slots id)
+abbrev pub typed_bytes_at : List RawSlot → ℕ → ℕ → Option (List ℕ)
+typed_bytes_at slots type id = bytes_in type (slot_of_id slots id)
 
 -- ---- names
 

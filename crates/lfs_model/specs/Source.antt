@@ -17,8 +17,8 @@ pub record Source : Type 0 where
 abbrev pub path_in : List ℕ → Name → List ℕ
 path_in folder name = folder ++ slash ∷ name
 
-abbrev pub names_of : List (Name × Bool) → List Name
-names_of given = map (λ g. g.0) given
+abbrev pub given_names : List (Name × Bool) → List Name
+given_names given = map (λ g. g.0) given
 
 -- ---- faults
 
@@ -47,18 +47,18 @@ file_at s path (name ∷ rest) = None
 
 -- what names lead to from a folder
 abbrev pub standing : Source → List ℕ → Path → Option Standing
-standing s folder [] = Some (AFolder (names_of (s.names folder)))
+standing s folder [] = Some (AFolder (given_names (s.names folder)))
 standing s folder (name ∷ rest) =
     option_and_then (λ is_folder. if is_folder then standing s (path_in folder name) rest else file_at s (path_in folder name) rest) (kind_given name (s.names folder))
 
 -- A tree has this at a path. It has a folder's names in order.
-abbrev pub Shows : Option Standing → Option Node → Type 0
-Shows None None = Unit {0}
-Shows (Some (AFile bytes)) (Some (FileNode attributes shown)) = (attributes ≡ []) × (shown ≡ bytes)
-Shows (Some (AFolder names)) (Some (DirectoryNode attributes shown)) =
+abbrev pub IsNodeOf : Option Standing → Option Node → Type 0
+IsNodeOf None None = Unit {0}
+IsNodeOf (Some (AFile bytes)) (Some (FileNode attributes shown)) = (attributes ≡ []) × (shown ≡ bytes)
+IsNodeOf (Some (AFolder names)) (Some (DirectoryNode attributes shown)) =
     (attributes ≡ []) × IsPermutation names shown × AllPairs (λ a b. name_cmp a b ≡ Less) shown
-Shows _ _ = ⊥
+IsNodeOf _ _ = ⊥
 
 -- the tree that a source makes
 abbrev pub IsTreeOf : Source → Tree → Type 0
-IsTreeOf s tree = (path : Path) → Shows (standing s [] path) (tree path)
+IsTreeOf s tree = (path : Path) → IsNodeOf (standing s [] path) (tree path)

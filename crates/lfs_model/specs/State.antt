@@ -3,11 +3,12 @@ use Rattle.std.specs.Prelude.{◌≡◌, Bool, true, false, if◌then◌else◌,
 use Rattle.lfs_model.specs.Disk.{Disk, block_count}
 use Rattle.lfs_model.specs.Thread.{Pair, gstate_of}
 use Rattle.lfs_model.specs.Tree.{Tree}
-use Rattle.lfs_model.specs.View.{used_blocks, IsWritable}
+use Rattle.lfs_model.specs.Shown.{used_blocks}
+use Rattle.lfs_model.specs.Profile.{IsWritable}
 use Rattle.lfs_model.specs.Operations as ops
 use Rattle.lfs_model.specs.Operations.{Operation, Reply, Failed}
 use Rattle.lfs_model.specs.Session.{Session, Surroundings}
-use Rattle.lfs_model.specs.Steps.{applied}
+use Rattle.lfs_model.specs.Effects.{applied}
 
 -- what an operation takes from an accepted disk with these pairs
 pub record Surrounds (disk : Disk) (ps : List Pair) (around : Surroundings) : Type 0 where

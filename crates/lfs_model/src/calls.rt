@@ -3,7 +3,7 @@
 ghost use Rattle.std.specs.Prelude.{◌≡◌, ℕ, true, false, List, [], ◌∷◌, map};
 ghost use Rattle.lfs_model.specs.Blocks.{Blocks, block_in};
 ghost use Rattle.lfs_model.specs.History.{Event, Erase, event, reads, programs, erases, faults, unprogrammed, AllUnprogrammed, StayUnprogrammed, EachSince, OnlyReads, AtWorst, LeavesOnly};
-ghost use Rattle.lfs_model.specs.HistoryExamples.{first_blocks, erased_blocks, last_blocks, after_erase, after_program, after_read};
+ghost use Rattle.lfs_model.specs.examples.Histories.{first_blocks, erased_blocks, last_blocks, after_erase, after_program, after_read};
 
 /// How many reads, programs, erases and faults there were.
 pub fn calls_are_counted()

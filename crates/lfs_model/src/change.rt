@@ -3,11 +3,12 @@
 ghost use Rattle.std.specs.Prelude.{◌≡◌, ℕ, false, true, List, [], ◌∷◌, ◌++◌, map, replicate, Some, None, codes};
 ghost use Rattle.lfs_model.specs.Slots.{Slot, FitsPair, no_gstate};
 ghost use Rattle.lfs_model.specs.Log.{LogEntry};
-ghost use Rattle.lfs_model.specs.Content.{RawSlot, RawContent, no_content, file_name_type, superblock_name_type, inline_struct_type, content_after_all};
-ghost use Rattle.lfs_model.specs.Written.{entries_of};
-ghost use Rattle.lfs_model.specs.Logged.{IsSound};
+ghost use Rattle.lfs_model.specs.Content.{RawSlot, RawContent, no_content, content_after_all};
+ghost use Rattle.lfs_model.specs.EntryTypes.{file_name_type, superblock_name_type, inline_struct_type};
+ghost use Rattle.lfs_model.specs.WrittenContent.{written_entries};
+ghost use Rattle.lfs_model.specs.LoggedContent.{IsSound};
 ghost use Rattle.lfs_model.specs.Changes.{Create, Delete, PutStruct, PutAttribute, RemoveAttribute, PutTail, PutMove, entries_of_changes, changed_by};
-ghost use Rattle.lfs_model.specs.Examples.{raw_root, raw_file, raw_content, shifting_changes};
+ghost use Rattle.lfs_model.specs.examples.Images.{raw_root, raw_file, raw_content, shifting_changes};
 
 /// Changes do what their entries do, in turn.
 pub fn changes_are_made()
@@ -26,7 +27,7 @@ pub fn changes_are_made()
         ≡ Some no_content }
 
     // What a compacted block is written from reads back.
-    ensures written { (c : RawContent) → IsSound c → content_after_all no_content (entries_of c) ≡ Some c }
+    ensures written { (c : RawContent) → IsSound c → content_after_all no_content (written_entries c) ≡ Some c }
 {}
 
 /// Such a content can be written anew.

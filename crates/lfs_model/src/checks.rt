@@ -6,7 +6,7 @@ ghost use Rattle.lfs_model.specs.Operations as ops;
 ghost use Rattle.lfs_model.specs.Operations.{NoEnt, BadFile, Exist, NotDir, IsDir, Invalid, NoSpace, ReadOnly, NameTooLong, NotEmpty, NoAttr, EntryFull};
 ghost use Rattle.lfs_model.specs.State.{mounted};
 ghost use Rattle.lfs_model.specs.Fresh.{empty_tree};
-ghost use Rattle.lfs_model.specs.Sessions.{around, replies, fresh_replies, each_at, for_read, for_write, for_new};
+ghost use Rattle.lfs_model.specs.examples.Sessions.{around, replies, fresh_replies, each_at, for_read, for_write, for_new};
 
 /// A disk outside the writing profile is read, and each changing call is refused before anything else is looked at.
 pub fn read_only_is_checked_first()

@@ -3,11 +3,12 @@
 ghost use Rattle.std.specs.Prelude.{◌≡◌, ℕ, ◌<◌, ◌^◌, true, false, List, [], ◌∷◌, ◌++◌, Some, None, codes};
 ghost use Rattle.lfs_model.specs.Tag.{IsValid, tag_with, kind_of, id_of, len_of};
 ghost use Rattle.lfs_model.specs.Slots.{Gstate, no_gstate, gstate_xor};
-ghost use Rattle.lfs_model.specs.Content.{RawSlot, RawContent, no_content, empty_slot, content_after_all, gstate_with, create_type, delete_type, file_name_type, superblock_name_type, inline_struct_type, directory_struct_type, ctz_struct_type, soft_tail_type, hard_tail_type, move_state_type, no_id};
-ghost use Rattle.lfs_model.specs.Lookup.{IsFound, IsPlace, bytes_at};
-ghost use Rattle.lfs_model.specs.Examples.{raw_root, raw_file};
-ghost use Rattle.lfs_model.specs.Written.{entry_with, tail_entry};
-ghost use Rattle.lfs_model.specs.Stored.{file_entries, move_word_entry};
+ghost use Rattle.lfs_model.specs.Content.{RawSlot, RawContent, no_content, empty_slot, content_after_all};
+ghost use Rattle.lfs_model.specs.EntryTypes.{gstate_with, create_type, delete_type, file_name_type, superblock_name_type, inline_struct_type, directory_struct_type, ctz_struct_type, soft_tail_type, hard_tail_type, move_state_type, no_id};
+ghost use Rattle.lfs_model.specs.Lookup.{IsFound, IsPlace, typed_bytes_at};
+ghost use Rattle.lfs_model.specs.examples.Images.{raw_root, raw_file};
+ghost use Rattle.lfs_model.specs.WrittenContent.{entry_with, tail_entry};
+ghost use Rattle.lfs_model.specs.BlockBytes.{file_entries, move_word_entry};
 
 /// A tag is its type, its id and its length.
 pub fn tag_is_its_fields()
@@ -99,13 +100,13 @@ pub fn name_has_its_place()
 
 /// What slots hold of a type for an id.
 pub fn slot_holds_its_bytes()
-    ensures name { bytes_at (raw_root ∷ raw_file (codes "b") ∷ []) file_name_type 1 ≡ Some (codes "b") }
-    ensures structure { bytes_at (raw_root ∷ raw_file (codes "b") ∷ []) inline_struct_type 1 ≡ Some [] }
-    ensures attribute { bytes_at (record (raw_file (codes "b")) { attributes = (0x41, codes "x") ∷ [] } ∷ []) 0x341 0
+    ensures name { typed_bytes_at (raw_root ∷ raw_file (codes "b") ∷ []) file_name_type 1 ≡ Some (codes "b") }
+    ensures structure { typed_bytes_at (raw_root ∷ raw_file (codes "b") ∷ []) inline_struct_type 1 ≡ Some [] }
+    ensures attribute { typed_bytes_at (record (raw_file (codes "b")) { attributes = (0x41, codes "x") ∷ [] } ∷ []) 0x341 0
         ≡ Some (codes "x") }
-    ensures no_attribute { bytes_at (record (raw_file (codes "b")) { attributes = (0x41, codes "x") ∷ [] } ∷ []) 0x342 0 ≡ None }
-    ensures other_name { bytes_at (raw_root ∷ []) file_name_type 0 ≡ None }
-    ensures other_struct { bytes_at (raw_file (codes "b") ∷ []) ctz_struct_type 0 ≡ None }
-    ensures absent { bytes_at (raw_root ∷ []) file_name_type 1 ≡ None }
-    ensures splice { bytes_at (raw_root ∷ []) create_type 0 ≡ None }
+    ensures no_attribute { typed_bytes_at (record (raw_file (codes "b")) { attributes = (0x41, codes "x") ∷ [] } ∷ []) 0x342 0 ≡ None }
+    ensures other_name { typed_bytes_at (raw_root ∷ []) file_name_type 0 ≡ None }
+    ensures other_struct { typed_bytes_at (raw_file (codes "b") ∷ []) ctz_struct_type 0 ≡ None }
+    ensures absent { typed_bytes_at (raw_root ∷ []) file_name_type 1 ≡ None }
+    ensures splice { typed_bytes_at (raw_root ∷ []) create_type 0 ≡ None }
 {}

@@ -6,12 +6,14 @@ ghost use Rattle.lfs_model.specs.Disk.{Disk};
 ghost use Rattle.lfs_model.specs.Slots.{no_gstate};
 ghost use Rattle.lfs_model.specs.Thread.{gstate_of};
 ghost use Rattle.lfs_model.specs.Tree.{FileNode, DirectoryNode};
-ghost use Rattle.lfs_model.specs.Apply.{added};
-ghost use Rattle.lfs_model.specs.View.{HasView, IsAccepted, IsWritable, tree_in, used_blocks};
+ghost use Rattle.lfs_model.specs.TreeEdits.{added};
+ghost use Rattle.lfs_model.specs.View.{HasView, IsAccepted};
+ghost use Rattle.lfs_model.specs.Profile.{IsWritable};
+ghost use Rattle.lfs_model.specs.Shown.{tree_in, used_blocks};
 ghost use Rattle.lfs_model.specs.Fresh.{IsFresh, fresh_pair, empty_tree};
-ghost use Rattle.lfs_model.specs.Written.{tail_entry};
-ghost use Rattle.lfs_model.specs.Stored.{unwritten, filled, file_entries, long_file_entries, directory_entries, move_word_entry, superblock_entries, checksum_entry, metadata_block};
-ghost use Rattle.lfs_model.specs.Examples.{view_with, IsRefused, IsReadOnly, small_image, large_image, shifting_block, shifting_image, zeroed_image, appended_image, large_disk, root_block, pair_block, superblock_with, other_root, image_with};
+ghost use Rattle.lfs_model.specs.WrittenContent.{tail_entry};
+ghost use Rattle.lfs_model.specs.BlockBytes.{unwritten, filled, file_entries, long_file_entries, directory_entries, move_word_entry, superblock_entries, checksum_entry, metadata_block};
+ghost use Rattle.lfs_model.specs.examples.Images.{view_with, IsRefused, IsReadOnly, small_image, large_image, shifting_block, shifting_image, zeroed_image, appended_image, large_disk, root_block, pair_block, superblock_with, other_root, image_with};
 
 /// A fresh image is accepted and may be written. It shows the empty root, and uses the first two blocks.
 pub fn fresh_image_is_accepted()

@@ -2,9 +2,9 @@
 
 ghost use Rattle.std.specs.Prelude.{◌≡◌, ℕ, List, [], ◌∷◌, ◌++◌, map, replicate};
 ghost use Rattle.byteorder.specs.Endian.{little_bytes};
-ghost use Rattle.lfs_model.specs.Lists.{IsPlace, IsList, blocks_for, blocks_back, bytes_of, pointers_of, capacity_of};
+ghost use Rattle.lfs_model.specs.SkipLists.{IsBytePlace, IsList, blocks_for, blocks_back, bytes_of, pointers_of, capacity_of};
 ghost use Rattle.lfs_model.specs.Session.{ctz_blocks};
-ghost use Rattle.lfs_model.specs.Examples.{three_blocks, three_blocks_with, round_blocks};
+ghost use Rattle.lfs_model.specs.examples.Images.{three_blocks, three_blocks_with, round_blocks};
 
 /// How many blocks a list of some bytes has, and how many bytes each block holds behind its pointers.
 pub fn list_has_its_blocks()
@@ -14,7 +14,7 @@ pub fn list_has_its_blocks()
     ensures capacities { map (capacity_of 1024) (0 ∷ 1 ∷ 2 ∷ 3 ∷ 4 ∷ []) ≡ 1024 ∷ 1020 ∷ 1016 ∷ 1020 ∷ 1012 ∷ [] }
 
     // Where the file's bytes 1023, 1024, 2043, 2044 and 4080 stand: in which block, at which offset.
-    ensures places { IsPlace 1024 1023 0 1023 × IsPlace 1024 1024 1 4 × IsPlace 1024 2043 1 1023 × IsPlace 1024 2044 2 8 × IsPlace 1024 4080 4 12 }
+    ensures places { IsBytePlace 1024 1023 0 1023 × IsBytePlace 1024 1024 1 4 × IsBytePlace 1024 2043 1 1023 × IsBytePlace 1024 2044 2 8 × IsBytePlace 1024 4080 4 12 }
 
     // A file of at most an eighth of a block has no list.
     ensures inline { map (ctz_blocks 1024) (128 ∷ 129 ∷ []) ≡ 0 ∷ 1 ∷ [] }

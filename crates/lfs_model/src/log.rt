@@ -4,10 +4,11 @@ ghost use Rattle.std.specs.Prelude.{◌≡◌, ℕ, ◌+◌, ◌≤◌, ◌<◌,
 ghost use Rattle.byteorder.specs.Endian.{little_bytes};
 ghost use Rattle.lfs_model.specs.Crc.{IsChecksum, crc_of};
 ghost use Rattle.lfs_model.specs.Log.{LogEntry, IsChainOf, chain_of, revision_of};
-ghost use Rattle.lfs_model.specs.Content.{has_commit, is_later, holder, create_type, no_id};
-ghost use Rattle.lfs_model.specs.Written.{entry_with};
-ghost use Rattle.lfs_model.specs.Stored.{unwritten, metadata_block, checksum_entry};
-ghost use Rattle.lfs_model.specs.Examples.{IsRefused, small_block, small_disk, turned_block, shifting_block};
+ghost use Rattle.lfs_model.specs.Content.{has_commit, is_later, holder};
+ghost use Rattle.lfs_model.specs.EntryTypes.{create_type, no_id};
+ghost use Rattle.lfs_model.specs.WrittenContent.{entry_with};
+ghost use Rattle.lfs_model.specs.BlockBytes.{unwritten, metadata_block, checksum_entry};
+ghost use Rattle.lfs_model.specs.examples.Images.{IsRefused, small_block, small_disk, turned_block, shifting_block};
 
 /// The checksum that is computed is the remainder of the polynomials, and no other number of 32 bits is.
 pub fn checksum_is_remainder()

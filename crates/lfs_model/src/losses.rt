@@ -10,8 +10,8 @@ ghost use Rattle.lfs_model.specs.Run.{Agrees, IsTurn, Moment};
 ghost use Rattle.lfs_model.specs.Failure.{Fails, IsCutShort};
 ghost use Rattle.lfs_model.specs.PowerLoss.{SurvivesStops, Withstands, IsRestored, IsSafe};
 ghost use Rattle.lfs_model.specs.Outages.{IsCutShortWithstood, IsStoppedSince, LosesPower, LosesPowerInTurn};
-ghost use Rattle.lfs_model.specs.Examples.{small_image, appended_image};
-ghost use Rattle.lfs_model.specs.RunExamples.{fresh_moment, failed_moment, no_disk, some_reads};
+ghost use Rattle.lfs_model.specs.examples.Images.{small_image, appended_image};
+ghost use Rattle.lfs_model.specs.examples.Runs.{fresh_moment, failed_moment, no_disk, some_reads};
 
 /// A run ends where its session fails; what came before it was carried out.
 pub fn error_ends_a_run()

@@ -3,12 +3,12 @@
 ghost use Rattle.std.specs.Prelude.{◌≡◌, true, false, List, [], ◌∷◌, ◌++◌, Some, replicate, codes};
 ghost use Rattle.lfs_model.specs.Slots.{no_gstate};
 ghost use Rattle.lfs_model.specs.Tree.{FileNode, DirectoryNode};
-ghost use Rattle.lfs_model.specs.Content.{create_type, file_name_type, directory_name_type, superblock_name_type, directory_struct_type, inline_struct_type};
+ghost use Rattle.lfs_model.specs.EntryTypes.{create_type, file_name_type, directory_name_type, superblock_name_type, directory_struct_type, inline_struct_type};
 ghost use Rattle.lfs_model.specs.View.{HasView, superblock_entry};
 ghost use Rattle.lfs_model.specs.Fresh.{superblock_bytes};
-ghost use Rattle.lfs_model.specs.Written.{entry_with, pair_bytes, tail_entry};
-ghost use Rattle.lfs_model.specs.Stored.{file_entries, directory_entries, move_word_entry};
-ghost use Rattle.lfs_model.specs.Examples.{view_with, IsRefused, IsReadOnly, root_block, pair_block, image_with};
+ghost use Rattle.lfs_model.specs.WrittenContent.{entry_with, pair_bytes, tail_entry};
+ghost use Rattle.lfs_model.specs.BlockBytes.{file_entries, directory_entries, move_word_entry};
+ghost use Rattle.lfs_model.specs.examples.Images.{view_with, IsRefused, IsReadOnly, root_block, pair_block, image_with};
 
 /// What each pair has of the global state is joined: here two sync bits come to none.
 pub fn shares_are_joined()

@@ -2,9 +2,9 @@
 
 ghost use Rattle.std.specs.Prelude.{true, false, List, [], ◌∷◌, ◌++◌, Some, replicate, codes};
 ghost use Rattle.byteorder.specs.Endian.{little_bytes};
-ghost use Rattle.lfs_model.specs.Written.{tail_entry};
-ghost use Rattle.lfs_model.specs.Stored.{unwritten, filled, file_entries, long_file_entries, directory_entries, move_word_entry};
-ghost use Rattle.lfs_model.specs.Examples.{IsRefused, root_block, pair_block, image_with, resized, superblock_with, other_root};
+ghost use Rattle.lfs_model.specs.WrittenContent.{tail_entry};
+ghost use Rattle.lfs_model.specs.BlockBytes.{unwritten, filled, file_entries, long_file_entries, directory_entries, move_word_entry};
+ghost use Rattle.lfs_model.specs.examples.Images.{IsRefused, root_block, pair_block, image_with, resized, superblock_with, other_root};
 
 /// The thread has to end, within the disk, and no block may stand in it twice.
 pub fn bad_thread_is_refused()

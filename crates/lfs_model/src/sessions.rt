@@ -5,7 +5,7 @@ ghost use Rattle.lfs_model.specs.Operations as ops;
 ghost use Rattle.lfs_model.specs.Operations.{NoEnt, BadFile, Busy, Exist, NotDir, IsDir, Invalid, TooBig, NoSpace, NameTooLong, NotEmpty, NoAttr, EntryFull, Failed};
 ghost use Rattle.lfs_model.specs.State.{State, HasFailed, Healthy, mounted, answered};
 ghost use Rattle.lfs_model.specs.Fresh.{empty_tree};
-ghost use Rattle.lfs_model.specs.Sessions.{around, fresh_replies, each_at, no_flags, for_read, for_write, for_new};
+ghost use Rattle.lfs_model.specs.examples.Sessions.{around, fresh_replies, each_at, no_flags, for_read, for_write, for_new};
 
 /// Paths that are refused, and names of the greatest length.
 pub fn paths_are_checked()

@@ -5,15 +5,16 @@ ghost use Rattle.std.specs.List.{insert};
 ghost use Rattle.std.specs.Option.{option_map};
 ghost use Rattle.lfs_model.specs.Blocks.{Blocks, IsDivided, SameButThese};
 ghost use Rattle.lfs_model.specs.BlockSets.{BlockSets, IsInFlight, IsUsed, in_flight_count, used_count};
-ghost use Rattle.lfs_model.specs.Content.{RawSlot, RawContent, completed, content_at, file_name_type, directory_name_type, superblock_name_type};
+ghost use Rattle.lfs_model.specs.Content.{RawSlot, RawContent, completed, content_at};
+ghost use Rattle.lfs_model.specs.EntryTypes.{file_name_type, directory_name_type, superblock_name_type};
 ghost use Rattle.lfs_model.specs.Cut.{CanBeCut, IsCut};
 ghost use Rattle.lfs_model.specs.Discipline.{pairs_of_path};
 ghost use Rattle.lfs_model.specs.Disk.{Disk, pair_capacity, entry_limit, slot_limit};
 ghost use Rattle.lfs_model.specs.FailedCalls.{FailAsStopped, IsLeftByNewest, HasFailedWith};
 ghost use Rattle.lfs_model.specs.History.{Event, EachSince, faults};
 ghost use Rattle.lfs_model.specs.InDirectory.{BeginsAt, Stands, Belongs, run_length};
-ghost use Rattle.lfs_model.specs.Lists.{blocks_for, blocks_back, IsList, bytes_of};
-ghost use Rattle.lfs_model.specs.Logged.{IsPart, HaveParts, IsLogged};
+ghost use Rattle.lfs_model.specs.SkipLists.{blocks_for, blocks_back, IsList, bytes_of};
+ghost use Rattle.lfs_model.specs.LoggedContent.{IsPart, HaveParts, IsLogged};
 ghost use Rattle.lfs_model.specs.Names.{Name};
 ghost use Rattle.lfs_model.specs.PowerLoss.{IsLeft, Survives, with_blocks};
 ghost use Rattle.lfs_model.specs.SlotEdits.{slot_of_path};
@@ -21,8 +22,10 @@ ghost use Rattle.lfs_model.specs.Slots.{Slot, Content, FitsPair, no_gstate, same
 ghost use Rattle.lfs_model.specs.Stops.{Stops, ErasesCleanly};
 ghost use Rattle.lfs_model.specs.Thread.{Pair, gstate_of, starts_with_superblock};
 ghost use Rattle.lfs_model.specs.Tree.{Path, Tree};
-ghost use Rattle.lfs_model.specs.View.{FitsEntry, IsAccepted, Leads, superblock_entry};
-ghost use Rattle.lfs_model.specs.Written.{raw_slot_size, entries_of};
+ghost use Rattle.lfs_model.specs.Profile.{FitsEntry};
+ghost use Rattle.lfs_model.specs.View.{IsAccepted, superblock_entry};
+ghost use Rattle.lfs_model.specs.Shown.{Leads};
+ghost use Rattle.lfs_model.specs.WrittenContent.{raw_slot_size, written_entries};
 
 /// Where all slots but one fit a pair, and that one takes at most half of it, they can be cut into two parts that fit.
 pub fn full_pair_can_be_cut()
@@ -46,7 +49,7 @@ pub fn full_pair_can_be_cut()
 pub fn superblock_is_written_first()
     ensures types { (kind : ℕ) (bytes : List ℕ) → IsPart 0 (kind, bytes) → (kind ≡ file_name_type) ⊎ ((kind ≡ directory_name_type) ⊎ (kind ≡ superblock_name_type)) }
     ensures first { (raw : RawContent) (c : Content) → HaveParts raw.slots → completed raw ≡ Some c → starts_with_superblock c.slots ≡ true
-        → option_map (λ (s : Slot). s.name) (slice_get c.slots 0) ≡ Some (codes "littlefs") → slice_get (entries_of raw) 0 ≡ Some superblock_entry }
+        → option_map (λ (s : Slot). s.name) (slice_get c.slots 0) ≡ Some (codes "littlefs") → slice_get (written_entries raw) 0 ≡ Some superblock_entry }
 {}
 
 /// After a failed call the device holds what a stop leaves, where failed calls leave what stops in them may.

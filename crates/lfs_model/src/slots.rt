@@ -9,13 +9,13 @@ ghost use Rattle.lfs_model.specs.State.{mounted};
 ghost use Rattle.lfs_model.specs.Fresh.{empty_tree};
 ghost use Rattle.lfs_model.specs.Recovery.{recovers};
 ghost use Rattle.lfs_model.specs.SlotEdits.{new_file, new_directory, Stores, Edits};
-ghost use Rattle.lfs_model.specs.Layout.{removed_directories, Stands};
+ghost use Rattle.lfs_model.specs.Layout.{removed_directories, StandFor};
 ghost use Rattle.lfs_model.specs.Discipline.{is_kept, looks_up};
-ghost use Rattle.lfs_model.specs.Keeping.{concerns, stores_at, struct_at, KeepsStructs};
+ghost use Rattle.lfs_model.specs.Keeping.{takes_or_moves, stores_at, struct_at, KeepsStructs};
 ghost use Rattle.lfs_model.specs.Run.{only_asks, fills, needs_no_call, renames_to_itself, lays_out};
-ghost use Rattle.lfs_model.specs.Sessions.{for_new, for_read};
-ghost use Rattle.lfs_model.specs.Examples.{small_disk, small_image, large_image};
-ghost use Rattle.lfs_model.specs.RunExamples.{pair_with, directories_with, two_directories, root_with, heavy_file, listed_file, each_operation, reading_at, writing_at};
+ghost use Rattle.lfs_model.specs.examples.Sessions.{for_new, for_read};
+ghost use Rattle.lfs_model.specs.examples.Images.{small_disk, small_image, large_image};
+ghost use Rattle.lfs_model.specs.examples.Runs.{pair_with, directories_with, two_directories, root_with, heavy_file, listed_file, each_operation, reading_at, writing_at};
 
 /// Which operations recover first, which change where slots stand, and which leave the disk alone.
 pub fn operations_are_told_apart()
@@ -76,12 +76,12 @@ pub fn bytes_are_stored()
 
 /// A pair is cut where its slots don't fit, and dropped where it has none and isn't the first.
 pub fn pairs_are_cut_and_dropped()
-    ensures cut { Stands small_image true ⊥ (pair_with (2, 3) (heavy_file (codes "a") ∷ heavy_file (codes "b") ∷ []) None)
+    ensures cut { StandFor small_image true ⊥ (pair_with (2, 3) (heavy_file (codes "a") ∷ heavy_file (codes "b") ∷ []) None)
         (pair_with (2, 3) (heavy_file (codes "a") ∷ []) None ∷ pair_with (4, 5) (heavy_file (codes "b") ∷ []) None ∷ []) }
-    ensures not_whole { (q : Pair) → Stands small_image true ⊥ (pair_with (2, 3) (heavy_file (codes "a") ∷ heavy_file (codes "b") ∷ []) None) (q ∷ []) → ⊥ }
-    ensures dropped { Stands small_image false ⊥ (pair_with (2, 3) [] None) [] }
-    ensures not_kept { (q : Pair) → Stands small_image false ⊥ (pair_with (2, 3) [] None) (q ∷ []) → ⊥ }
-    ensures first_stays { Stands small_image true ⊥ (pair_with (2, 3) [] None) [] → ⊥ }
+    ensures not_whole { (q : Pair) → StandFor small_image true ⊥ (pair_with (2, 3) (heavy_file (codes "a") ∷ heavy_file (codes "b") ∷ []) None) (q ∷ []) → ⊥ }
+    ensures dropped { StandFor small_image false ⊥ (pair_with (2, 3) [] None) [] }
+    ensures not_kept { (q : Pair) → StandFor small_image false ⊥ (pair_with (2, 3) [] None) (q ∷ []) → ⊥ }
+    ensures first_stays { StandFor small_image true ⊥ (pair_with (2, 3) [] None) [] → ⊥ }
 {}
 
 /// A directory goes where it is removed, or where a rename replaces it.
@@ -94,10 +94,10 @@ pub fn replaced_directory_goes()
 
 /// Which files an operation is about.
 pub fn operations_concern_files()
-    ensures beneath { concerns (ops.Remove (codes "/d")) (codes "d" ∷ codes "a" ∷ []) ≡ true }
-    ensures onto { concerns (ops.Rename (codes "/a") (codes "/b")) (codes "b" ∷ []) ≡ true }
-    ensures beside { concerns (ops.Rename (codes "/d/a") (codes "/d/b")) (codes "d" ∷ codes "z" ∷ []) ≡ false }
-    ensures none { filter (λ op. concerns op (codes "b" ∷ [])) each_operation ≡ ops.Remove (codes "/b") ∷ ops.Rename (codes "/a") (codes "/b") ∷ [] }
+    ensures beneath { takes_or_moves (ops.Remove (codes "/d")) (codes "d" ∷ codes "a" ∷ []) ≡ true }
+    ensures onto { takes_or_moves (ops.Rename (codes "/a") (codes "/b")) (codes "b" ∷ []) ≡ true }
+    ensures beside { takes_or_moves (ops.Rename (codes "/d/a") (codes "/d/b")) (codes "d" ∷ codes "z" ∷ []) ≡ false }
+    ensures none { filter (λ op. takes_or_moves op (codes "b" ∷ [])) each_operation ≡ ops.Remove (codes "/b") ∷ ops.Rename (codes "/a") (codes "/b") ∷ [] }
 
     // A sync and a close are about the file that is open, and no other operation stores one.
     ensures stored { filter (λ op. stores_at (writing_at (codes "b" ∷ []) true []) op (codes "b" ∷ [])) each_operation ≡ ops.Sync 0 ∷ ops.Close 0 ∷ [] }

@@ -4,8 +4,8 @@ ghost use Rattle.std.specs.Prelude.{◌≡◌, List, [], ◌∷◌, map, Some, N
 ghost use Rattle.lfs_model.specs.Tree.{FileNode, DirectoryNode};
 ghost use Rattle.lfs_model.specs.Fresh.{empty_tree};
 ghost use Rattle.lfs_model.specs.Source.{AreBad, AFile, AFolder, standing, IsTreeOf};
-ghost use Rattle.lfs_model.specs.SourceExamples.{one_file, endless};
-ghost use Rattle.lfs_model.specs.Examples.{tree_with};
+ghost use Rattle.lfs_model.specs.examples.Sources.{one_file, endless};
+ghost use Rattle.lfs_model.specs.examples.Images.{tree_with};
 
 /// A source makes the tree that has what its folders name, and no other.
 pub fn source_makes_its_tree()

@@ -5,8 +5,8 @@ ghost use Rattle.lfs_model.specs.Blocks.{Blocks, block_in, programmed};
 ghost use Rattle.lfs_model.specs.History.{Call, Program, Erase, event};
 ghost use Rattle.lfs_model.specs.Stops.{stops_in, Stops, ErasesCleanly};
 ghost use Rattle.lfs_model.specs.PowerLoss.{FailsAsStopped};
-ghost use Rattle.lfs_model.specs.Stored.{unwritten, filled};
-ghost use Rattle.lfs_model.specs.Examples.{small_commit, appended_commit, small_block};
+ghost use Rattle.lfs_model.specs.BlockBytes.{unwritten, filled};
+ghost use Rattle.lfs_model.specs.examples.Images.{small_commit, appended_commit, small_block};
 
 /// A stop may leave the disk before the call, or what the whole call makes, or a torn commit that isn't one.
 pub fn stop_leaves_old_or_new()

@@ -6,10 +6,10 @@ ghost use Rattle.lfs_model.specs.Names.{Name};
 ghost use Rattle.lfs_model.specs.Slots.{Attributes};
 ghost use Rattle.lfs_model.specs.Thread.{Pair};
 ghost use Rattle.lfs_model.specs.Tree.{Path, Node, FileNode, DirectoryNode, Tree};
-ghost use Rattle.lfs_model.specs.View.{tree_in};
+ghost use Rattle.lfs_model.specs.Shown.{tree_in};
 ghost use Rattle.lfs_model.specs.Operations as ops;
 ghost use Rattle.lfs_model.specs.Listing.{Entry, IsWalkOf, lines_of, IsListing, MakeDirectory, PutFile, IsUnpacking, new_file_flags, IsCarryingOver};
-ghost use Rattle.lfs_model.specs.Examples.{tree_with, small_nodes};
+ghost use Rattle.lfs_model.specs.examples.Images.{tree_with, small_nodes};
 
 /// Whatever the pairs, what they show is a tree: each node stands in a directory that has its name, and each name of a
 /// directory has a node.

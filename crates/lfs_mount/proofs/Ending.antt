@@ -7,10 +7,11 @@ use Rattle.std.proofs.lemmas.List.Elements.{All-from_recursion, recursion_from_A
 use Rattle.lfs_model.specs.BlockSets.{BlockSets}
 use Rattle.lfs_model.specs.Content.{content_at}
 use Rattle.lfs_model.specs.Disk.{Disk, block_count}
-use Rattle.lfs_model.specs.Lists.{IsList}
+use Rattle.lfs_model.specs.SkipLists.{IsList}
 use Rattle.lfs_model.specs.Slots.{Slot, Gstate}
 use Rattle.lfs_model.specs.Thread.{Pair, IsThread, blocks_of, gstate_of, unmoved, visible}
-use Rattle.lfs_model.specs.View.{IsEntry, IsHeaded, HasStruct, IsListIfCtz, IsMove, IsAccepted, file_blocks, all_slots, used_blocks, directories_in}
+use Rattle.lfs_model.specs.View.{IsEntry, IsHeaded, HasStruct, IsListIfCtz, IsMove, IsAccepted}
+use Rattle.lfs_model.specs.Shown.{file_blocks, all_slots, used_blocks, directories_in}
 use Rattle.lfs_model.proofs.Counts.{Each, each_append, each_weaker, count, count_append, once_from_distinct, distinct_from_once}
 use Rattle.lfs_model.proofs.Superblocks.{IsChain, pairs_behind, Mark, StructMark, HoldSlots, superblock_rule, slots_rule}
 use Rattle.lfs_mount.specs.Reaching.{Graph}

@@ -4,7 +4,8 @@ use Rattle.std.specs.Str.{bytes_eq}
 use Rattle.std.proofs.lemmas.Bool.{and_parts, and_from}
 use Rattle.std.proofs.lemmas.Option.{same_Some}
 use Rattle.std.proofs.lemmas.Slice.Eq.{bytes_eq-Decides}
-use Rattle.lfs_model.specs.Content.{RawSlot, complete, complete_all, kind_named, struct_typed, file_name_type, directory_name_type, inline_struct_type, directory_struct_type, superblock_at}
+use Rattle.lfs_model.specs.Content.{RawSlot, complete, complete_all, kind_named, struct_typed}
+use Rattle.lfs_model.specs.EntryTypes.{file_name_type, directory_name_type, inline_struct_type, directory_struct_type, superblock_at}
 use Rattle.lfs_model.specs.Disk.{Disk, block_count}
 use Rattle.lfs_model.specs.Slots.{Slot, File, Directory, Superblock, Struct, Inline, Ctz, Branch, is_superblock, is_superblock_kind}
 use Rattle.lfs_model.specs.Thread.{starts_with_superblock}

@@ -14,8 +14,8 @@ use Rattle.lfs_model.specs.Disk.{Disk, block_count}
 use Rattle.lfs_model.specs.Content.{content_at}
 use Rattle.lfs_model.specs.History.{Event}
 use Rattle.lfs_model.specs.Slots.{Gstate}
-use Rattle.lfs_model.specs.Thread.{IsThread, Listing, Pair, blocks_of, directories_of, gstate_of, is_hard, joined, starts_with_superblock, superblocks_before, visible}
-use Rattle.lfs_model.specs.View.{directories_in}
+use Rattle.lfs_model.specs.Thread.{IsThread, ThreadDirectory, Pair, blocks_of, directories_of, gstate_of, is_hard, joined, starts_with_superblock, superblocks_before, visible}
+use Rattle.lfs_model.specs.Shown.{directories_in}
 use Rattle.lfs_model.proofs.BlockSets.{Contains-count, count-Contains}
 use Rattle.lfs_model.proofs.Counts.{Each}
 use Rattle.lfs_model.proofs.Superblocks.{pairs_behind}
@@ -76,7 +76,7 @@ begins_listed g (p ∷ q ∷ qs) = go (is_hard p.content.tail) (directories_of g
     more : List (ℕ × ℕ)
     more = begins_of (not (is_hard q.content.tail)) qs
 
-    go : (hard : Bool) (ds : List Listing) → firsts_of ds ≡ q.at ∷ more → firsts_of (joined p.at hard (visible g p) ds) ≡ p.at ∷ begins_of (not hard) (q ∷ qs)
+    go : (hard : Bool) (ds : List ThreadDirectory) → firsts_of ds ≡ q.at ∷ more → firsts_of (joined p.at hard (visible g p) ds) ≡ p.at ∷ begins_of (not hard) (q ∷ qs)
     go hard [] e = absurd (cc)
     go true (d ∷ ds) e = ap (λ (xs : List (ℕ × ℕ)). p.at ∷ drop 1 xs) e
     go false (d ∷ ds) e = ap (λ (xs : List (ℕ × ℕ)). p.at ∷ xs) e

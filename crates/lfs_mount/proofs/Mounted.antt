@@ -11,7 +11,8 @@ use Rattle.lfs_model.specs.Disk.{Disk, block_count}
 use Rattle.lfs_model.specs.History.{Event, OnlyReads, faults}
 use Rattle.lfs_model.specs.Slots.{Gstate}
 use Rattle.lfs_model.specs.Thread.{IsThread, Pair, blocks_of, gstate_of}
-use Rattle.lfs_model.specs.View.{IsAccepted, file_blocks, all_slots, used_blocks}
+use Rattle.lfs_model.specs.View.{IsAccepted}
+use Rattle.lfs_model.specs.Shown.{file_blocks, all_slots, used_blocks}
 use Rattle.lfs_model.proofs.BlockSets.{Contains-count, Contains-tail}
 use Rattle.lfs_model.proofs.Counts.{count_here}
 use Rattle.lfs_model.proofs.Histories.{OnlyReads-trans}

@@ -6,7 +6,8 @@ use Rattle.lfs_model.specs.Disk.{Disk, block_count}
 use Rattle.lfs_model.specs.History.{Event}
 use Rattle.lfs_model.specs.Slots.{Gstate}
 use Rattle.lfs_model.specs.Thread.{IsThread, Pair, gstate_of}
-use Rattle.lfs_model.specs.View.{IsAccepted, IsMove, used_blocks}
+use Rattle.lfs_model.specs.View.{IsAccepted, IsMove}
+use Rattle.lfs_model.specs.Shown.{used_blocks}
 use Rattle.lfs_model.proofs.Uniqueness.{one_thread}
 use Rattle.lfs_thread.specs.Kept.{Header, pairs_on}
 use Rattle.lfs_mount.specs.Accepted.{HasImage, HasOnly, IsRight}

@@ -7,7 +7,7 @@ use Rattle.lfs_model.specs.Log.{log_entries}
 use Rattle.lfs_model.specs.Names.{Name}
 use Rattle.lfs_model.specs.BlockSets.{BlockSets}
 use Rattle.lfs_model.specs.Content.{RawSlot, RawContent, complete_all, completed, content_after_all, no_content, raw_at}
-use Rattle.lfs_model.specs.Logged.{HaveParts}
+use Rattle.lfs_model.specs.LoggedContent.{HaveParts}
 use Rattle.lfs_model.specs.Slots.{Slot, Gstate, is_superblock}
 use Rattle.lfs_model.specs.Thread.{Pair, starts_with_superblock, unmoved, visible}
 use Rattle.lfs_model.specs.View.{IsEntry}

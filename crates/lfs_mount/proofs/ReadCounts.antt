@@ -8,7 +8,7 @@ use Rattle.lfs_model.specs.BlockSets.{BlockSets, is_used, used_count}
 use Rattle.lfs_model.specs.BlockSets.BlockState.{Free, Used}
 use Rattle.lfs_model.specs.Content.{RawContent}
 use Rattle.lfs_model.specs.Disk.{Disk}
-use Rattle.lfs_model.specs.Lists.{blocks_back, blocks_for}
+use Rattle.lfs_model.specs.SkipLists.{blocks_back, blocks_for}
 use Rattle.lfs_model.specs.Names.{Name}
 use Rattle.lfs_model.proofs.BlockSets.{count_by-set}
 use Rattle.lfs_model.proofs.Files.{length_back}

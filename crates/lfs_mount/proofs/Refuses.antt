@@ -8,10 +8,11 @@ use Rattle.std.proofs.lemmas.List.Concat.{flat_map-append}
 use Rattle.std.proofs.lemmas.List.Elements.{All-from_recursion, recursion_from_All}
 use Rattle.lfs_model.specs.BlockSets.{BlockSets}
 use Rattle.lfs_model.specs.Disk.{Disk, block_count}
-use Rattle.lfs_model.specs.Lists.{IsList, blocks_back, blocks_for}
+use Rattle.lfs_model.specs.SkipLists.{IsList, blocks_back, blocks_for}
 use Rattle.lfs_model.specs.Slots.{Slot, Struct, Inline, Ctz, Branch, Gstate, is_superblock, same_pair}
 use Rattle.lfs_model.specs.Thread.{Pair, blocks_of, gstate_of, unmoved, visible}
-use Rattle.lfs_model.specs.View.{IsEntry, IsHeaded, HasStruct, IsListIfCtz, IsMove, IsOtherSlot, IsAccepted, file_blocks, all_slots, used_blocks}
+use Rattle.lfs_model.specs.View.{IsEntry, IsHeaded, HasStruct, IsListIfCtz, IsMove, IsOtherSlot, IsAccepted}
+use Rattle.lfs_model.specs.Shown.{file_blocks, all_slots, used_blocks}
 use Rattle.lfs_model.proofs.Counts.{Each, each_append, each_left, each_right, count, count_append, each_counted, each_from_counted, once_from_distinct, distinct_from_once}
 use Rattle.lfs_model.proofs.Listings.{blocks_avoid}
 use Rattle.lfs_model.proofs.Pairs.{pair_back, pair_on}

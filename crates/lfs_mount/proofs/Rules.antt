@@ -29,7 +29,7 @@ use Rattle.lfs_model.specs.Disk.{block_count}
 use Rattle.lfs_model.specs.Content.{content_at}
 use Rattle.lfs_model.specs.Slots.{Tail}
 use Rattle.lfs_model.specs.Thread.{anchor, next_of, Links, IsThread, gstate_of, superblocks_before, directory_pairs, directories_of}
-use Rattle.lfs_model.specs.View.{directories_in}
+use Rattle.lfs_model.specs.Shown.{directories_in}
 use Rattle.lfs_model.proofs.Listings.{Ends}
 use Rattle.lfs_mount.specs.Places.{Draws}
 use Rattle.lfs_mount.specs.Directories.{Shows}

@@ -5,7 +5,7 @@ use Rattle.std.proofs.lemmas.Option.{same_Some}
 use Rattle.std.proofs.lemmas.List.{length-map}
 use Rattle.lfs_model.specs.Names.{Name, is_name}
 use Rattle.lfs_model.specs.Slots.{Slot, Gstate}
-use Rattle.lfs_model.specs.Thread.{Pair, Listing, is_hard, visible, joined, directories_of}
+use Rattle.lfs_model.specs.Thread.{Pair, ThreadDirectory, is_hard, visible, joined, directories_of}
 use Rattle.lfs_model.proofs.Counts.{Each}
 use Rattle.lfs_model.proofs.Listings.{Ends}
 use Rattle.lfs_mount.specs.Reaching.{Vertex, Graph}
@@ -37,7 +37,7 @@ vertices firsts known (p ∷ ps) =
 abbrev pub entries_of : Shown → Bool × List Entry
 entries_of p = (p.0, map entry_of p.1)
 
-abbrev pub AreDrawn : List Listing → List (List Slot) → Graph → Type 0
+abbrev pub AreDrawn : List ThreadDirectory → List (List Slot) → Graph → Type 0
 AreDrawn ds [] [] = Unit {0}
 AreDrawn ds [] (v ∷ vs) = ⊥
 AreDrawn ds (s ∷ ss) [] = ⊥
@@ -45,7 +45,7 @@ AreDrawn ds (s ∷ ss) (v ∷ vs) = IsDrawn ds s v × AreDrawn ds ss vs
 
 -- ---- the same directories from either end
 
-abbrev slots_in : List Listing → List (List Slot)
+abbrev slots_in : List ThreadDirectory → List (List Slot)
 slots_in ds = map (λ d. d.slots) ds
 
 abbrev in_front : List Slot → List (List Slot) → List (List Slot)
@@ -56,13 +56,13 @@ nothing_in_front : (ss : List (List Slot)) → in_front [] ss ≡ ss
 nothing_in_front [] = refl
 nothing_in_front (s ∷ ss) = refl
 
-never_empty : (at : ℕ × ℕ) (hard : Bool) (slots : List Slot) (ds : List Listing) → joined at hard slots ds ≡ [] → ⊥
+never_empty : (at : ℕ × ℕ) (hard : Bool) (slots : List Slot) (ds : List ThreadDirectory) → joined at hard slots ds ≡ [] → ⊥
 never_empty at hard slots [] e = absurd (cc)
 never_empty at true slots (d ∷ ds) e = absurd (cc)
 never_empty at false slots (d ∷ ds) e = absurd (cc)
 
 -- one pair more in front of directories
-one_joined : (at : ℕ × ℕ) (hard : Bool) (slots hand : List Slot) (rest : List Shown) (ds : List Listing) → (ds ≡ [] → ⊥)
+one_joined : (at : ℕ × ℕ) (hard : Bool) (slots hand : List Slot) (rest : List Shown) (ds : List ThreadDirectory) → (ds ≡ [] → ⊥)
     → ((more : List Slot) → runs more rest ≡ in_front more (slots_in ds))
     → cond hard (runs (hand ++ slots) rest) ((hand ++ slots) ∷ runs [] rest) ≡ in_front hand (slots_in (joined at hard slots ds))
 one_joined at hard slots hand rest [] some next = absurd (some refl)
@@ -84,7 +84,7 @@ directories_from_front g ps ends = runs_in_front g ps [] ends ∙ nothing_in_fro
 abbrev pub Named : Shown → Type 0
 Named p = All (λ s. is_name s.name ≡ true) p.1
 
-pub runs_drawn : (ds : List Listing) (ps : List Shown) (hand : List Slot) (known : Name × Vertex) → Each Named ps → IsKnown ds hand known
+pub runs_drawn : (ds : List ThreadDirectory) (ps : List Shown) (hand : List Slot) (known : Name × Vertex) → Each Named ps → IsKnown ds hand known
     → AreDrawn ds (runs hand ps) (vertices (firsts_of ds) known (map entries_of ps))
 runs_drawn ds [] hand known named h = tt
 runs_drawn ds ((true, slots) ∷ ps) hand known named h =
@@ -94,22 +94,22 @@ runs_drawn ds ((false, slots) ∷ ps) hand known named h =
 
 -- ---- the graph
 
-drawn_len : (ds : List Listing) (ss : List (List Slot)) (graph : Graph) → AreDrawn ds ss graph → length graph ≡ length ss
+drawn_len : (ds : List ThreadDirectory) (ss : List (List Slot)) (graph : Graph) → AreDrawn ds ss graph → length graph ≡ length ss
 drawn_len ds [] [] h = refl
 drawn_len ds [] (v ∷ vs) h = absurd h
 drawn_len ds (s ∷ ss) [] h = absurd h
 drawn_len ds (s ∷ ss) (v ∷ vs) h = ap (λ n. suc n) (drawn_len ds ss vs h.1)
 
-drawn_at : (ds es : List Listing) (graph : Graph) → AreDrawn ds (slots_in es) graph → (i : ℕ) (d : Listing) (v : Vertex) → slice_get es i ≡ Some d → slice_get graph i ≡ Some v → IsDrawn ds d.slots v
+drawn_at : (ds es : List ThreadDirectory) (graph : Graph) → AreDrawn ds (slots_in es) graph → (i : ℕ) (d : ThreadDirectory) (v : Vertex) → slice_get es i ≡ Some d → slice_get graph i ≡ Some v → IsDrawn ds d.slots v
 drawn_at ds [] graph h i d v e f = absurd (cc)
 drawn_at ds (x ∷ es) [] h i d v e f = absurd h
 drawn_at ds (x ∷ es) (w ∷ vs) h zero d v e f =
-    subst (IsDrawn ds d.slots) (same_Some w v f) (subst (λ (y : Listing). IsDrawn ds y.slots w) (same_Some x d e) h.0)
+    subst (IsDrawn ds d.slots) (same_Some w v f) (subst (λ (y : ThreadDirectory). IsDrawn ds y.slots w) (same_Some x d e) h.0)
 drawn_at ds (x ∷ es) (w ∷ vs) h (suc i) d v e f = drawn_at ds es vs h.1 i d v e f
 
-pub draws_from : (ds : List Listing) (graph : Graph) → AreDrawn ds (map (λ d. d.slots) ds) graph → Draws ds graph
+pub draws_from : (ds : List ThreadDirectory) (graph : Graph) → AreDrawn ds (map (λ d. d.slots) ds) graph → Draws ds graph
 draws_from ds graph h = record {
-  len = drawn_len ds (slots_in ds) graph h ∙ length-map ds (λ (d : Listing). d.slots);
+  len = drawn_len ds (slots_in ds) graph h ∙ length-map ds (λ (d : ThreadDirectory). d.slots);
   each = drawn_at ds ds graph h;
 }
 

@@ -7,8 +7,9 @@ use Rattle.std.proofs.lemmas.Option.{same_Some}
 use Rattle.lfs_model.specs.Names.{Name, is_name}
 use Rattle.lfs_model.specs.Tag.{tag_with, kind_of, len_of, class_of}
 use Rattle.lfs_model.specs.Slots.{Slot, File, Directory, Superblock}
-use Rattle.lfs_model.specs.Content.{is_in_table, removes, has_any_length, has_no_bytes, has_eight_bytes, superblock_name_type, create_type, delete_type, soft_tail_type, hard_tail_type, move_state_type, RawSlot, complete, complete_all, kind_named, struct_typed, pair_at, file_name_type, directory_name_type, inline_struct_type, ctz_struct_type, directory_struct_type}
-use Rattle.lfs_model.specs.Logged.{IsPart, IsPartIfSome, HasParts, HaveParts}
+use Rattle.lfs_model.specs.EntryTypes.{is_in_table, removes, has_any_length, has_no_bytes, has_eight_bytes, superblock_name_type, create_type, delete_type, soft_tail_type, hard_tail_type, move_state_type, pair_at, file_name_type, directory_name_type, inline_struct_type, ctz_struct_type, directory_struct_type}
+use Rattle.lfs_model.specs.Content.{RawSlot, complete, complete_all, kind_named, struct_typed}
+use Rattle.lfs_model.specs.LoggedContent.{IsPart, IsPartIfSome, HasParts, HaveParts}
 use Rattle.lfs_model.specs.View.{IsEntry, Suits}
 use Rattle.lfs_model.proofs.WrittenAnew.{kind_of-tag_with, len_of-tag_with}
 use Rattle.lfs_model.proofs.Completed.{AreComplete, complete_parts, complete_cons}

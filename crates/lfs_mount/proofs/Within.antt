@@ -9,8 +9,8 @@ use Rattle.lfs_model.specs.Content.{RawSlot}
 use Rattle.lfs_model.specs.Disk.{Disk, block_count}
 use Rattle.lfs_model.specs.Names.{Name, name_cmp, is_less}
 use Rattle.lfs_model.specs.Slots.{Slot, Gstate, same_pair}
-use Rattle.lfs_model.specs.Thread.{Pair, Listing, joined, is_hard, visible, gstate_of, directory_pairs, directories_of}
-use Rattle.lfs_model.specs.View.{directories_in}
+use Rattle.lfs_model.specs.Thread.{Pair, ThreadDirectory, joined, is_hard, visible, gstate_of, directory_pairs, directories_of}
+use Rattle.lfs_model.specs.Shown.{directories_in}
 use Rattle.lfs_model.proofs.Counts.{Each, each_append}
 use Rattle.lfs_model.proofs.Superblocks.{pairs_behind}
 use Rattle.lfs_mount.specs.Reaching.{Vertex, Graph}
@@ -80,7 +80,7 @@ each_within : (n : ℕ) (ds : List Directory) → Each (Below_all n) (graph_of d
 each_within n [] h = tt
 each_within n (d ∷ ds) h = (All-from_recursion (λ b. b < n) d.branches.items h.0, each_within n ds h.1)
 
-some_joined : (at : ℕ × ℕ) (hard : Bool) (slots : List Slot) (ds : List Listing) → 0 < length (joined at hard slots ds)
+some_joined : (at : ℕ × ℕ) (hard : Bool) (slots : List Slot) (ds : List ThreadDirectory) → 0 < length (joined at hard slots ds)
 some_joined at hard slots [] = omega arith
 some_joined at true slots (d ∷ ds) = omega arith
 some_joined at false slots (d ∷ ds) = omega arith
@@ -93,7 +93,7 @@ module _ (disk : Disk) (sets : BlockSets) (firsts : List (ℕ × ℕ)) (ms : Lis
   same_length : (length ds ≡ length (directories_in ps)) × (length firsts ≡ length (directories_in ps))
   same_length = (
     sym (length-map ds vertex_of) ∙ (known_drawn disk sets firsts ms sync known.0 known.1 known.2 (graph_of ds) end known.3 passes).draws.len,
-    ap length known.3.places ∙ length-map (directories_in ps) (λ (d : Listing). d.at),
+    ap length known.3.places ∙ length-map (directories_in ps) (λ (d : ThreadDirectory). d.at),
   )
 
   pub some_directory : 0 < length ds

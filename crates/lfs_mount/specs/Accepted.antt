@@ -3,7 +3,8 @@ use Rattle.std.specs.Prelude.{ℕ, ◌≡◌, false, List, [], ◌∷◌, ◌++�
 use Rattle.lfs_model.specs.BlockSets.{AreInFlight, AreUsed, BlockSets}
 use Rattle.lfs_model.specs.Disk.{Disk, block_count}
 use Rattle.lfs_model.specs.Thread.{Pair, gstate_of}
-use Rattle.lfs_model.specs.View.{IsAccepted, IsMove, used_blocks}
+use Rattle.lfs_model.specs.View.{IsAccepted, IsMove}
+use Rattle.lfs_model.specs.Shown.{used_blocks}
 use Rattle.lfs_model.specs.History.{Event, OnlyReads, faults}
 use Rattle.lfs_thread.specs.Kept.{Header, State, pairs_on}
 use Rattle.lfs_mount.specs.Checked.{HasHead}

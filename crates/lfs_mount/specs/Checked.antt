@@ -6,7 +6,8 @@ use Rattle.lfs_model.specs.Content.{holder_at, content_at}
 use Rattle.lfs_model.specs.Disk.{Disk, block_count}
 use Rattle.lfs_model.specs.Slots.{Slot, is_superblock}
 use Rattle.lfs_model.specs.Thread.{Pair, anchor, IsThread, blocks_of, gstate_of, superblocks_before}
-use Rattle.lfs_model.specs.View.{HasStruct, BeginsWith, superblock_entry, IsSuperblockStruct, first_name, directories_in}
+use Rattle.lfs_model.specs.View.{HasStruct, BeginsWith, superblock_entry, IsSuperblockStruct, first_name}
+use Rattle.lfs_model.specs.Shown.{directories_in}
 use Rattle.lfs_mount.specs.Entries.{firsts_of}
 use Rattle.lfs_mount.specs.Marking.{Owns}
 use Rattle.lfs_mount.specs.Described.{AreMembers}

@@ -3,8 +3,9 @@ use Rattle.std.specs.Prelude.{ℕ, suc, ◌==◌, ◌&&◌, true, false, if◌th
 use Rattle.std.specs.Option.{option_and_then, option_map}
 use Rattle.lfs_model.specs.Names.{Name, name_cmp, is_less, is_name}
 use Rattle.lfs_model.specs.Slots.{Slot, Struct, Inline, Ctz, Branch, same_pair}
-use Rattle.lfs_model.specs.Content.{RawSlot, file_name_type, directory_name_type, inline_struct_type, ctz_struct_type, directory_struct_type, pair_at}
-use Rattle.lfs_model.specs.Thread.{Listing}
+use Rattle.lfs_model.specs.Content.{RawSlot}
+use Rattle.lfs_model.specs.EntryTypes.{file_name_type, directory_name_type, inline_struct_type, ctz_struct_type, directory_struct_type, pair_at}
+use Rattle.lfs_model.specs.Thread.{ThreadDirectory}
 use Rattle.lfs_mount.specs.Reaching.{Vertex}
 
 -- what an entry of a directory stands for, without a file's bytes
@@ -44,7 +45,7 @@ abbrev pub place_of : List (ℕ × ℕ) → ℕ × ℕ → Option ℕ
 place_of [] at = None
 place_of (a ∷ firsts) at = if same_pair a at then Some 0 else option_map (λ i. suc i) (place_of firsts at)
 
-abbrev pub firsts_of : List Listing → List (ℕ × ℕ)
+abbrev pub firsts_of : List ThreadDirectory → List (ℕ × ℕ)
 firsts_of ds = map (λ d. d.at) ds
 
 -- ---- one entry more

@@ -3,7 +3,8 @@ use Rattle.std.specs.Prelude.{ℕ, ◌≡◌, ◌==◌, ◌&&◌, ◌||◌, not,
 use Rattle.std.specs.Option.{option_and_then, option_map}
 use Rattle.std.specs.Str.{bytes_eq}
 use Rattle.lfs_model.specs.Blocks.{Blocks, block_in}
-use Rattle.lfs_model.specs.Content.{RawSlot, content_after_all, content_at, directory_name_type, file_name_type, inline_struct_type, no_content, superblock_at}
+use Rattle.lfs_model.specs.Content.{RawSlot, content_after_all, content_at, no_content}
+use Rattle.lfs_model.specs.EntryTypes.{directory_name_type, file_name_type, inline_struct_type, superblock_at}
 use Rattle.lfs_model.specs.Disk.{Disk, block_at, block_count}
 use Rattle.lfs_model.specs.History.{Event}
 use Rattle.lfs_model.specs.Log.{log_entries}

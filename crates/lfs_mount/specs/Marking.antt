@@ -4,7 +4,7 @@ use Rattle.std.specs.List.{IsDistinct, filter_map, flat_map}
 use Rattle.std.specs.Option.{option_and_then}
 use Rattle.lfs_model.specs.Disk.{Disk}
 use Rattle.lfs_model.specs.Content.{RawSlot}
-use Rattle.lfs_model.specs.Lists.{IsList, blocks_back, blocks_for}
+use Rattle.lfs_model.specs.SkipLists.{IsList, blocks_back, blocks_for}
 use Rattle.lfs_mount.specs.Entries.{Entry, InSlot, InList, Below, entry_in}
 use Rattle.lfs_model.specs.BlockSets.{BlockSets, IsFree}
 use Rattle.lfs_model.specs.BlockSets.BlockState.{Used}

@@ -3,7 +3,7 @@ use Rattle.std.specs.Prelude.{ℕ, ◌+◌, ◌*◌, List, [], sum_by}
 use Rattle.std.specs.Option.{option_and_then, option_map_or}
 use Rattle.lfs_model.specs.Content.{content_after_all, no_content}
 use Rattle.lfs_model.specs.Disk.{Disk, block_at}
-use Rattle.lfs_model.specs.Lists.{blocks_for}
+use Rattle.lfs_model.specs.SkipLists.{blocks_for}
 use Rattle.lfs_model.specs.Log.{log_entries}
 use Rattle.lfs_mount.specs.Marking.{lists_in}
 use Rattle.lfs_mount.specs.Taken.{kept_of}

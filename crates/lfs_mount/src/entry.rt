@@ -2,7 +2,7 @@
 
 ghost use Rattle.std.specs.Prelude.{◌≡◌, ◌+◌, ◌==◌, length, Some, None, if◌then◌else◌, drop};
 ghost use Rattle.std.specs.Option.{option_map};
-ghost use Rattle.lfs_model.specs.Content.{ctz_struct_type, directory_name_type, directory_struct_type, file_name_type};
+ghost use Rattle.lfs_model.specs.EntryTypes.{ctz_struct_type, directory_name_type, directory_struct_type, file_name_type};
 ghost use Rattle.lfs_tag.specs.ContentSeen.{part_seen, slot_seen};
 ghost use Rattle.lfs_mount.specs.Entries.{entry_in, stand_in, InList, Below};
 ghost use Rattle.lfs_mount.specs.EntrySeen.{entry_seen, target_seen};

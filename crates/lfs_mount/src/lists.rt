@@ -7,7 +7,7 @@ ghost use Rattle.lfs_device.specs.Calls.{ReadsOnly, TellsFaults};
 ghost use Rattle.lfs_model.specs.BlockSets.{BlockSets, IsFree};
 ghost use Rattle.lfs_model.specs.BlockSets.BlockState.{Used};
 ghost use Rattle.lfs_model.specs.History.{reads};
-ghost use Rattle.lfs_model.specs.Lists.{blocks_for};
+ghost use Rattle.lfs_model.specs.SkipLists.{blocks_for};
 ghost use Rattle.lfs_thread.specs.Kept.{disk_on};
 ghost use Rattle.lfs_mount.specs.Entries.{entry_in};
 ghost use Rattle.lfs_mount.specs.ListsSeen.{lists_seen};

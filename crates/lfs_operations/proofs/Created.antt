@@ -3,25 +3,26 @@ use Rattle.std.proofs.Common.{ℕ, ◌≡◌, ◌≤◌, ◌&&◌, Bool, true, f
 use Rattle.std.specs.Prelude.{nat_le}
 use Rattle.std.specs.Option.{option_and_then}
 use Rattle.std.proofs.lemmas.Bool.{ne_eqb, leb-true}
-use Rattle.lfs_model.specs.Apply.{added}
+use Rattle.lfs_model.specs.TreeEdits.{added}
 use Rattle.lfs_model.specs.Changes.{changed_by}
-use Rattle.lfs_model.specs.Content.{RawContent, raw_at, completed, file_name_type, inline_struct_type}
+use Rattle.lfs_model.specs.Content.{RawContent, raw_at, completed}
+use Rattle.lfs_model.specs.EntryTypes.{file_name_type, inline_struct_type}
 use Rattle.lfs_model.specs.Cut.{CanBeCut}
 use Rattle.lfs_model.specs.Disk.{Disk}
 use Rattle.lfs_model.specs.History.{Event}
 use Rattle.lfs_model.specs.InDirectory.{Belongs}
-use Rattle.lfs_model.specs.Logged.{IsPart}
+use Rattle.lfs_model.specs.LoggedContent.{IsPart}
 use Rattle.lfs_model.specs.Names.{Name, is_name, is_component}
 use Rattle.lfs_model.specs.Operations as ops
 use Rattle.lfs_model.specs.Operations.{Flags}
 use Rattle.lfs_model.specs.PowerLoss.{Survives}
 use Rattle.lfs_model.specs.Slots.{Slot, Content, same_pair}
 use Rattle.lfs_model.specs.SlotEdits.{new_file}
-use Rattle.lfs_model.specs.Steps.{as_path}
+use Rattle.lfs_model.specs.Refusals.{as_path}
 use Rattle.lfs_model.specs.Thread.{Pair, blocks_of, next_of}
 use Rattle.lfs_model.specs.Session.{Session}
 use Rattle.lfs_model.specs.Tree.{Tree, FileNode}
-use Rattle.lfs_model.specs.View.{Leads, entries_in, tree_in}
+use Rattle.lfs_model.specs.Shown.{Leads, entries_in, tree_in}
 use Rattle.lfs_model.proofs.Changes.{Follows}
 use Rattle.lfs_model.proofs.Committed.{IsCompleted, no_move_from, recovered_from, commit_step}
 use Rattle.lfs_model.proofs.Completed.{complete_insert, complete_length, completed_parts, completed_from}

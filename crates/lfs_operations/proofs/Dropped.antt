@@ -11,7 +11,9 @@ use Rattle.lfs_model.specs.Content.{content_at, holder_at}
 use Rattle.lfs_model.specs.Disk.{Disk}
 use Rattle.lfs_model.specs.Slots.{Content, FitsPair, Slot}
 use Rattle.lfs_model.specs.Thread.{Pair, blocks_of, gstate_of}
-use Rattle.lfs_model.specs.View.{BeginsWith, FitsSlot, IsAccepted, IsWritable, all_slots, file_blocks, superblock_entry, used_blocks}
+use Rattle.lfs_model.specs.View.{BeginsWith, IsAccepted, superblock_entry}
+use Rattle.lfs_model.specs.Profile.{FitsSlot, IsWritable}
+use Rattle.lfs_model.specs.Shown.{all_slots, file_blocks, used_blocks}
 use Rattle.lfs_model.proofs.BlockSets.{Contains-count, count-Contains, slice_get-set_other, slice_get-set_same}
 use Rattle.lfs_model.proofs.Changes.{SameFiles, slots_files}
 use Rattle.lfs_model.proofs.Counts.{count, count_append, count_here, each_append, each_left, each_right}

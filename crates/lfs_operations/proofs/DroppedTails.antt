@@ -10,7 +10,7 @@ use Rattle.lfs_model.specs.Changes.{PutMove, PutTail, changed_by}
 use Rattle.lfs_model.specs.Content.{RawContent, completed, content_after_all, content_at, has_commit, holder, holder_at, is_later, no_content, raw_at}
 use Rattle.lfs_model.specs.Disk.{Disk, block_at}
 use Rattle.lfs_model.specs.Log.{log_entries, revision_of}
-use Rattle.lfs_model.specs.Logged.{IsLogged, IsMoveState, IsTailIfSome}
+use Rattle.lfs_model.specs.LoggedContent.{IsLogged, IsMoveState, IsTailIfSome}
 use Rattle.lfs_model.specs.Slots.{Content, FitsPair, Gstate, Tail, gstate_xor, no_gstate}
 use Rattle.lfs_model.specs.Thread.{Pair, gstate_of, next_of}
 use Rattle.lfs_model.proofs.Completed.{completed_from, completed_parts}

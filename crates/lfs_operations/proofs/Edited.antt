@@ -3,7 +3,7 @@ use Rattle.std.proofs.Common.{ℕ, ◌≡◌, ◌^◌, ◌<◌, ◌≤◌, true,
 use Rattle.std.specs.Prelude.{All}
 use Rattle.lfs_model.specs.Names.{Name}
 use Rattle.std.proofs.lemmas.List.Elements.{recursion_from_All}
-use Rattle.lfs_model.specs.Apply.{attributes_of, change_at, with_attributes}
+use Rattle.lfs_model.specs.TreeEdits.{attributes_of, change_at, with_attributes}
 use Rattle.lfs_model.specs.Changes.{Change, PutAttribute, RemoveAttribute}
 use Rattle.lfs_model.specs.Content.{RawSlot, put_attribute, without_attribute}
 use Rattle.lfs_model.specs.Disk.{Disk}
@@ -12,11 +12,13 @@ use Rattle.lfs_model.specs.Operations as ops
 use Rattle.lfs_model.specs.Operations.{Operation}
 use Rattle.lfs_model.specs.PowerLoss.{Survives}
 use Rattle.lfs_model.specs.Session.{Session}
-use Rattle.lfs_model.specs.Steps.{as_path}
+use Rattle.lfs_model.specs.Refusals.{as_path}
 use Rattle.lfs_model.specs.Slots.{Attributes, Slot, is_superblock, same_pair, slot_size}
 use Rattle.lfs_model.specs.Thread.{Pair, blocks_of}
 use Rattle.lfs_model.specs.Tree.{Tree}
-use Rattle.lfs_model.specs.View.{IsEntry, IsListIfCtz, FitsEntry, FitsSlot, Leads, all_slots, tree_in}
+use Rattle.lfs_model.specs.View.{IsEntry, IsListIfCtz}
+use Rattle.lfs_model.specs.Profile.{FitsEntry, FitsSlot}
+use Rattle.lfs_model.specs.Shown.{Leads, all_slots, tree_in}
 use Rattle.lfs_model.proofs.Changes.{Follows}
 use Rattle.lfs_model.proofs.Committed.{IsCompleted, recovered_from, commit_step}
 use Rattle.lfs_model.proofs.Counts.{Each, each_right, count}

@@ -5,15 +5,16 @@ use Rattle.std.specs.Option.{option_and_then}
 use Rattle.std.proofs.lemmas.Bool.{and_parts, ne_eqb}
 use Rattle.lfs_device.specs.Bytes.{HasBytes}
 use Rattle.lfs_model.specs.Changes.{PutMove, PutTail, changed_by}
-use Rattle.lfs_model.specs.Content.{RawContent, raw_at, content_at, content_after_all, completed, complete, has_commit, holder, holder_at, is_later, no_content, tail_with, directory_name_type, directory_struct_type}
+use Rattle.lfs_model.specs.Content.{RawContent, raw_at, content_at, content_after_all, completed, complete, has_commit, holder, holder_at, is_later, no_content}
+use Rattle.lfs_model.specs.EntryTypes.{tail_with, directory_name_type, directory_struct_type}
 use Rattle.lfs_model.specs.Disk.{Disk, block_at, entry_limit}
 use Rattle.lfs_model.specs.Log.{log_entries, revision_of}
-use Rattle.lfs_model.specs.Logged.{IsAddress, IsLogged, IsMoveState, IsPart}
+use Rattle.lfs_model.specs.LoggedContent.{IsAddress, IsLogged, IsMoveState, IsPart}
 use Rattle.lfs_model.specs.Names.{Name}
 use Rattle.lfs_model.specs.Slots.{Content, FitsPair, Gstate, Tail, null_address, slot_size}
 use Rattle.lfs_model.specs.SlotEdits.{new_directory}
 use Rattle.lfs_model.specs.Thread.{Pair, next_of}
-use Rattle.lfs_model.specs.Written.{pair_bytes}
+use Rattle.lfs_model.specs.WrittenContent.{pair_bytes}
 use Rattle.lfs_model.proofs.Completed.{IsCompleted, complete_insert, complete_length, completed_parts, completed_from}
 use Rattle.lfs_model.proofs.Effects.{creates_with_struct, does_first, puts_move, puts_tail, slot_with}
 use Rattle.lfs_model.proofs.Global.{turned}

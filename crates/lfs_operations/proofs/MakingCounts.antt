@@ -8,7 +8,7 @@ use Rattle.lfs_model.specs.BlockSets.BlockState.{Free, InFlight, Used}
 use Rattle.lfs_model.specs.Disk.{Disk}
 use Rattle.lfs_model.specs.Slots.{Slot}
 use Rattle.lfs_model.specs.Thread.{Pair, blocks_of, gstate_of}
-use Rattle.lfs_model.specs.View.{all_slots, file_blocks, used_blocks}
+use Rattle.lfs_model.specs.Shown.{all_slots, file_blocks, used_blocks}
 use Rattle.lfs_model.proofs.BlockSets.{count_by-set, counts_from_none_free, slice_get-set_same, slice_get-set_other}
 use Rattle.lfs_model.proofs.Changes.{SameFiles, slots_files}
 use Rattle.lfs_model.proofs.Counts.{each_left, each_right, count, count_append}

@@ -15,7 +15,9 @@ use Rattle.lfs_model.specs.PowerLoss.{with_blocks}
 use Rattle.lfs_model.specs.Slots.{Slot, Content, FitsPair, no_gstate, gstate_xor}
 use Rattle.lfs_model.specs.SlotEdits.{with_slots, new_directory}
 use Rattle.lfs_model.specs.Thread.{Pair, blocks_of, gstate_of, starts_with_superblock}
-use Rattle.lfs_model.specs.View.{BeginsWith, superblock_entry, IsAccepted, IsEntry, IsWritable, FitsSlot, used_blocks}
+use Rattle.lfs_model.specs.View.{BeginsWith, superblock_entry, IsAccepted, IsEntry}
+use Rattle.lfs_model.specs.Profile.{IsWritable, FitsSlot}
+use Rattle.lfs_model.specs.Shown.{used_blocks}
 use Rattle.lfs_model.proofs.Became.{Became, became_front, became_shape, fits_same}
 use Rattle.lfs_model.proofs.Committed.{no_move_from}
 use Rattle.lfs_model.proofs.Counts.{Each, each_right, count}

@@ -7,7 +7,8 @@ use Rattle.lfs_model.specs.Content.{content_at, holder_at}
 use Rattle.lfs_model.specs.Disk.{Disk, block_at, block_count, SameGeometry}
 use Rattle.lfs_model.specs.Slots.{Content}
 use Rattle.lfs_model.specs.Thread.{Pair, blocks_of}
-use Rattle.lfs_model.specs.View.{BeginsWith, superblock_entry, used_blocks}
+use Rattle.lfs_model.specs.View.{BeginsWith, superblock_entry}
+use Rattle.lfs_model.specs.Shown.{used_blocks}
 use Rattle.lfs_model.proofs.Counts.{Each, count, once_from_distinct, distinct_from_once}
 use Rattle.lfs_model.proofs.Sites.{Site, thread_at}
 use Rattle.lfs_model.proofs.Unchanged.{HasFirst}

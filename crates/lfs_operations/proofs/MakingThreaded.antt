@@ -12,7 +12,9 @@ use Rattle.lfs_model.specs.PowerLoss.{IsLeft, with_blocks}
 use Rattle.lfs_model.specs.Slots.{Content, FitsPair, Gstate, no_gstate, gstate_xor, same_pair}
 use Rattle.lfs_model.specs.Thread.{Pair, blocks_of, gstate_of, is_hard}
 use Rattle.lfs_model.specs.Tree.{Path, Tree}
-use Rattle.lfs_model.specs.View.{BeginsWith, superblock_entry, HaveSlots, IsAccepted, IsWritable, Leads, all_slots, entries_in, file_blocks, tree_in, used_blocks}
+use Rattle.lfs_model.specs.View.{BeginsWith, superblock_entry, IsAccepted}
+use Rattle.lfs_model.specs.Profile.{HaveSlots, IsWritable}
+use Rattle.lfs_model.specs.Shown.{Leads, all_slots, entries_in, file_blocks, tree_in, used_blocks}
 use Rattle.lfs_model.proofs.Became.{fits_same}
 use Rattle.lfs_model.proofs.Beside.{IsStepBeside, beside_shape, last_site, other_entries, own_entries, threaded}
 use Rattle.lfs_model.proofs.Committed.{no_move_from}

@@ -4,14 +4,14 @@ use Rattle.std.specs.Prelude.{All, nat_le}
 use Rattle.std.proofs.lemmas.Bool.{leb-true}
 use Rattle.std.proofs.lemmas.List.Elements.{recursion_from_All}
 use Rattle.lfs_device.specs.Bytes.{HasBytes}
-use Rattle.lfs_model.specs.Apply.{added}
+use Rattle.lfs_model.specs.TreeEdits.{added}
 use Rattle.lfs_model.specs.Blocks.{Blocks, SameButThese}
 use Rattle.lfs_model.specs.BlockSets.{IsFree, IsInFlight}
 use Rattle.lfs_model.specs.BlockSets.BlockState.{Free}
 use Rattle.lfs_model.specs.Content.{content_at}
 use Rattle.lfs_model.specs.Disk.{Disk, block_count, entry_limit}
 use Rattle.lfs_model.specs.InDirectory.{Belongs}
-use Rattle.lfs_model.specs.Logged.{IsAddress}
+use Rattle.lfs_model.specs.LoggedContent.{IsAddress}
 use Rattle.lfs_model.specs.Names.{Name, is_name, is_component}
 use Rattle.lfs_model.specs.Operations as ops
 use Rattle.lfs_model.specs.PowerLoss.{IsLeft as IsLeftOf, with_blocks}
@@ -19,7 +19,9 @@ use Rattle.lfs_model.specs.Slots.{Content, FitsPair, Gstate, Slot, charge_of, no
 use Rattle.lfs_model.specs.SlotEdits.{new_directory}
 use Rattle.lfs_model.specs.Thread.{Pair, blocks_of, gstate_of}
 use Rattle.lfs_model.specs.Tree.{DirectoryNode}
-use Rattle.lfs_model.specs.View.{FitsEntry, IsAccepted, IsWritable, Leads, entries_in, tree_in}
+use Rattle.lfs_model.specs.Profile.{FitsEntry, IsWritable}
+use Rattle.lfs_model.specs.View.{IsAccepted}
+use Rattle.lfs_model.specs.Shown.{Leads, entries_in, tree_in}
 use Rattle.lfs_model.proofs.Beside.{change, last_site}
 use Rattle.lfs_model.proofs.Changes.{chain_now}
 use Rattle.lfs_model.proofs.Chained.{InTwo, mkdir_in_two}

@@ -6,11 +6,12 @@ use Rattle.lfs_model.specs.Names.{Name}
 use Rattle.lfs_model.specs.Slots.{Slot, no_gstate, same_pair, FitsPair}
 use Rattle.lfs_model.specs.Thread.{Pair, first_at, gstate_of}
 use Rattle.lfs_model.specs.Tree.{Path, DirectoryNode}
-use Rattle.lfs_model.specs.View.{IsWritable, Leads, entries_in, tree_in}
-use Rattle.lfs_model.specs.Apply.{added}
+use Rattle.lfs_model.specs.Profile.{IsWritable}
+use Rattle.lfs_model.specs.Shown.{Leads, entries_in, tree_in}
+use Rattle.lfs_model.specs.TreeEdits.{added}
 use Rattle.lfs_model.specs.Operations as ops
 use Rattle.lfs_model.specs.Session.{Session}
-use Rattle.lfs_model.specs.Steps.{as_path}
+use Rattle.lfs_model.specs.Refusals.{as_path}
 use Rattle.lfs_model.specs.SlotEdits.{with_slots, new_directory}
 use Rattle.lfs_model.specs.Layout.{Fits}
 use Rattle.lfs_model.proofs.Names.{IsPlace}

@@ -7,11 +7,13 @@ use Rattle.lfs_model.specs.Slots.{Slot, gstate_xor, no_gstate}
 use Rattle.lfs_model.specs.SlotEdits.{with_slots, slot_of_path}
 use Rattle.lfs_model.specs.Thread.{Pair, gstate_of, is_hard, superblocks_before}
 use Rattle.lfs_model.specs.Tree.{Path}
-use Rattle.lfs_model.specs.Apply.{last_name, renamed}
+use Rattle.lfs_model.specs.TreeEdits.{last_name, renamed}
 use Rattle.lfs_model.specs.Operations as ops
 use Rattle.lfs_model.specs.Session.{Session}
-use Rattle.lfs_model.specs.Steps.{as_path}
-use Rattle.lfs_model.specs.View.{IsAccepted, IsWritable, tree_in}
+use Rattle.lfs_model.specs.Refusals.{as_path}
+use Rattle.lfs_model.specs.View.{IsAccepted}
+use Rattle.lfs_model.specs.Profile.{IsWritable}
+use Rattle.lfs_model.specs.Shown.{tree_in}
 use Rattle.lfs_model.proofs.Alike.{AreAlike}
 use Rattle.lfs_model.proofs.Became.{Became}
 use Rattle.lfs_model.proofs.Changes.{Follows}

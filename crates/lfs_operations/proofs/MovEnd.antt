@@ -8,7 +8,10 @@ use Rattle.lfs_model.specs.Disk.{Disk}
 use Rattle.lfs_model.specs.Slots.{Slot, Gstate, is_superblock, same_pair, gstate_xor}
 use Rattle.lfs_model.specs.SlotEdits.{with_slots}
 use Rattle.lfs_model.specs.Thread.{Pair, blocks_of, gstate_of, starts_with_superblock, unmoved}
-use Rattle.lfs_model.specs.View.{directories_in, set_move, used_blocks, all_slots, IsAccepted, IsWritable}
+use Rattle.lfs_model.specs.Shown.{directories_in, used_blocks, all_slots}
+use Rattle.lfs_model.specs.Slots.{set_move}
+use Rattle.lfs_model.specs.View.{IsAccepted}
+use Rattle.lfs_model.specs.Profile.{IsWritable}
 use Rattle.lfs_model.proofs.Became.{became_front, became_shape}
 use Rattle.lfs_model.proofs.Changes.{slots_files}
 use Rattle.lfs_model.proofs.Counts.{Each, each_append, each_left, each_right, each_weaker, count, count_append}

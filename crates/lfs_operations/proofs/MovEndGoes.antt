@@ -4,11 +4,13 @@ use Rattle.std.proofs.lemmas.List.Elements.{recursion_from_All}
 use Rattle.lfs_model.specs.Blocks.{Blocks}
 use Rattle.lfs_model.specs.Disk.{Disk}
 use Rattle.lfs_model.specs.History.{Event}
-use Rattle.lfs_model.specs.Logged.{IsMoveState}
+use Rattle.lfs_model.specs.LoggedContent.{IsMoveState}
 use Rattle.lfs_model.specs.PowerLoss.{IsLeft as IsLeftOf, Survives, with_blocks}
 use Rattle.lfs_model.specs.Slots.{Content, FitsPair, Gstate, Slot, same_pair}
 use Rattle.lfs_model.specs.Thread.{Pair, gstate_of, is_hard}
-use Rattle.lfs_model.specs.View.{IsAccepted, IsWritable, directories_in, tree_in, used_blocks}
+use Rattle.lfs_model.specs.View.{IsAccepted}
+use Rattle.lfs_model.specs.Profile.{IsWritable}
+use Rattle.lfs_model.specs.Shown.{directories_in, tree_in, used_blocks}
 use Rattle.lfs_model.proofs.Alike.{AreAlike, alike_append, alike_itself}
 use Rattle.lfs_model.proofs.Counts.{Each, each_right, count}
 use Rattle.lfs_model.proofs.Histories.{LeavesOnly-weaker}

@@ -6,7 +6,10 @@ use Rattle.std.proofs.lemmas.List.Elements.{recursion_from_All}
 use Rattle.lfs_model.specs.Disk.{Disk}
 use Rattle.lfs_model.specs.Slots.{Slot, Gstate, is_superblock, same_pair}
 use Rattle.lfs_model.specs.Thread.{Pair, blocks_of, gstate_of, starts_with_superblock, unmoved}
-use Rattle.lfs_model.specs.View.{IsAccepted, IsWritable, all_slots, directories_in, set_move, used_blocks}
+use Rattle.lfs_model.specs.View.{IsAccepted}
+use Rattle.lfs_model.specs.Profile.{IsWritable}
+use Rattle.lfs_model.specs.Shown.{all_slots, directories_in, used_blocks}
+use Rattle.lfs_model.specs.Slots.{set_move}
 use Rattle.lfs_model.proofs.Changes.{slots_files}
 use Rattle.lfs_model.proofs.Counts.{Each, each_append, each_left, each_right, each_weaker, count, count_append}
 use Rattle.lfs_model.proofs.Files.{HasSameFile}

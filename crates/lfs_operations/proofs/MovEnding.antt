@@ -11,11 +11,13 @@ use Rattle.lfs_model.specs.Changes.{Delete, PutMove, changed_by}
 use Rattle.lfs_model.specs.Content.{RawContent, content_at, raw_at, completed}
 use Rattle.lfs_model.specs.Disk.{Disk}
 use Rattle.lfs_model.specs.History.{Event}
-use Rattle.lfs_model.specs.Logged.{IsAddress, IsMoveState}
+use Rattle.lfs_model.specs.LoggedContent.{IsAddress, IsMoveState}
 use Rattle.lfs_model.specs.PowerLoss.{IsLeft as IsLeftOf, Survives, with_blocks}
 use Rattle.lfs_model.specs.Slots.{Slot, FitsPair, Gstate, Tail, gstate_xor, same_pair, slot_size}
 use Rattle.lfs_model.specs.Thread.{Pair, gstate_of, next_of, superblocks_before}
-use Rattle.lfs_model.specs.View.{IsAccepted, IsWritable, FitsSlot, directories_in, tree_in, used_blocks}
+use Rattle.lfs_model.specs.View.{IsAccepted}
+use Rattle.lfs_model.specs.Profile.{IsWritable, FitsSlot}
+use Rattle.lfs_model.specs.Shown.{directories_in, tree_in, used_blocks}
 use Rattle.lfs_model.proofs.Alike.{AreAlike, alike_itself}
 use Rattle.lfs_model.proofs.Completed.{IsCompleted, complete_length, complete_remove, completed_parts, completed_from}
 use Rattle.lfs_model.proofs.Counts.{Each, each_right, count}

@@ -3,7 +3,7 @@ use Rattle.std.proofs.Common.{ℕ, ◌≡◌, List, [], ◌∷◌, ◌++◌, ref
 use Rattle.lfs_model.specs.Disk.{Disk}
 use Rattle.lfs_model.specs.Slots.{Gstate, Slot}
 use Rattle.lfs_model.specs.Thread.{Pair, directories_of, gstate_of, visible}
-use Rattle.lfs_model.specs.View.{directories_in}
+use Rattle.lfs_model.specs.Shown.{directories_in}
 use Rattle.lfs_model.proofs.Changes.{chain_now, rearranged_chain}
 use Rattle.lfs_model.proofs.Counts.{each_always}
 use Rattle.lfs_model.proofs.Listings.{IsRun, SameVisible}

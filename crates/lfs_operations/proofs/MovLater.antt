@@ -8,8 +8,8 @@ use Rattle.lfs_model.specs.Disk.{Disk}
 use Rattle.lfs_model.specs.History.{Event, faults}
 use Rattle.lfs_model.specs.Names.{Name}
 use Rattle.lfs_model.specs.PowerLoss.{Survives}
-use Rattle.lfs_model.specs.View.{tree_in}
-use Rattle.lfs_model.specs.Logged.{IsAddress}
+use Rattle.lfs_model.specs.Shown.{tree_in}
+use Rattle.lfs_model.specs.LoggedContent.{IsAddress}
 use Rattle.lfs_model.proofs.AfterStops.{survives_then}
 use Rattle.lfs_model.proofs.Histories.{AtWorst-read, LeavesOnly-reads, LeavesOnly-trans, OnlyReads-trans, StayUnprogrammed-reads, StayUnprogrammed-trans}
 use Rattle.lfs_thread.specs.Kept.{Kept, State}

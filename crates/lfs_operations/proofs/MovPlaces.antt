@@ -6,7 +6,7 @@ use Rattle.lfs_model.specs.Names.{Name, name_cmp}
 use Rattle.lfs_model.specs.Slots.{Slot, Gstate, is_superblock, same_pair}
 use Rattle.lfs_model.specs.Thread.{Pair, gstate_of, unmoved, visible, directories_of, entries_of}
 use Rattle.lfs_model.specs.Tree.{Path, Entries}
-use Rattle.lfs_model.specs.View.{directories_in, entries_in, Leads}
+use Rattle.lfs_model.specs.Shown.{directories_in, entries_in, Leads}
 use Rattle.lfs_model.proofs.Counts.{Each, each_append, each_left, each_right, each_weaker, each_always, each_pieces, each_joined}
 use Rattle.lfs_model.proofs.Global.{unmoved_all}
 use Rattle.lfs_model.proofs.Indexes.{place_between, site_shows}

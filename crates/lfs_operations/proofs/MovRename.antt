@@ -10,14 +10,16 @@ use Rattle.lfs_model.specs.Cut.{CanBeCut}
 use Rattle.lfs_model.specs.Disk.{Disk}
 use Rattle.lfs_model.specs.History.{Event}
 use Rattle.lfs_model.specs.InDirectory.{BeginsAt, Belongs, IsBehind}
-use Rattle.lfs_model.specs.Logged.{IsAddress, IsMoveState}
+use Rattle.lfs_model.specs.LoggedContent.{IsAddress, IsMoveState}
 use Rattle.lfs_model.specs.Names.{Name, is_name}
 use Rattle.lfs_model.specs.PowerLoss.{Survives}
 use Rattle.lfs_model.specs.Slots.{Slot, FitsPair, Gstate, gstate_xor, same_pair, slot_size}
 use Rattle.lfs_model.specs.Thread.{Pair, blocks_of, gstate_of, next_of, starts_with_superblock, superblocks_before}
 use Rattle.lfs_model.specs.Tree.{Path}
-use Rattle.lfs_model.specs.Apply.{renamed, rest_after}
-use Rattle.lfs_model.specs.View.{FitsEntry, IsAccepted, IsEntry, IsWritable, Leads, entries_in, tree_in}
+use Rattle.lfs_model.specs.TreeEdits.{renamed, rest_after}
+use Rattle.lfs_model.specs.Profile.{FitsEntry, IsWritable}
+use Rattle.lfs_model.specs.View.{IsAccepted, IsEntry}
+use Rattle.lfs_model.specs.Shown.{Leads, entries_in, tree_in}
 use Rattle.lfs_model.specs.SlotEdits.{slot_of_path}
 use Rattle.lfs_model.proofs.Changes.{Follows}
 use Rattle.lfs_model.proofs.Committed.{no_move_from}

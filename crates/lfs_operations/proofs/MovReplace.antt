@@ -6,14 +6,16 @@ use Rattle.lfs_model.specs.Content.{complete_all}
 use Rattle.lfs_model.specs.Disk.{Disk}
 use Rattle.lfs_model.specs.History.{Event}
 use Rattle.lfs_model.specs.InDirectory.{BeginsAt, Stands}
-use Rattle.lfs_model.specs.Logged.{IsAddress}
+use Rattle.lfs_model.specs.LoggedContent.{IsAddress}
 use Rattle.lfs_model.specs.Names.{Name, is_name}
 use Rattle.lfs_model.specs.PowerLoss.{Survives}
 use Rattle.lfs_model.specs.Slots.{Slot, FitsPair, gstate_xor, same_pair}
 use Rattle.lfs_model.specs.Thread.{Pair, blocks_of, gstate_of, superblocks_before}
 use Rattle.lfs_model.specs.Tree.{Path}
-use Rattle.lfs_model.specs.Apply.{renamed, rest_after}
-use Rattle.lfs_model.specs.View.{file_blocks, IsAccepted, IsEntry, IsWritable, Leads, tree_in, used_blocks}
+use Rattle.lfs_model.specs.TreeEdits.{renamed, rest_after}
+use Rattle.lfs_model.specs.Shown.{file_blocks, Leads, tree_in, used_blocks}
+use Rattle.lfs_model.specs.View.{IsAccepted, IsEntry}
+use Rattle.lfs_model.specs.Profile.{IsWritable}
 use Rattle.lfs_model.specs.SlotEdits.{slot_of_path}
 use Rattle.lfs_model.proofs.Changes.{Follows}
 use Rattle.lfs_model.proofs.Committed.{no_move_from}

@@ -9,8 +9,10 @@ use Rattle.lfs_model.specs.Slots.{Slot, Gstate, is_superblock, same_pair, no_gst
 use Rattle.lfs_model.specs.SlotEdits.{with_slots}
 use Rattle.lfs_model.specs.Thread.{Pair, blocks_of, gstate_of, starts_with_superblock, superblocks_before, unmoved}
 use Rattle.lfs_model.specs.Tree.{Path, Tree, branch_of}
-use Rattle.lfs_model.specs.Apply.{rest_after, planted, renamed}
-use Rattle.lfs_model.specs.View.{entries_in, Leads, used_blocks, file_blocks, IsEntry, IsMove, IsOtherSlot, IsAccepted, IsWritable, FitsSlot, all_slots}
+use Rattle.lfs_model.specs.TreeEdits.{rest_after, planted, renamed}
+use Rattle.lfs_model.specs.Shown.{entries_in, Leads, used_blocks, file_blocks, all_slots}
+use Rattle.lfs_model.specs.View.{IsEntry, IsMove, IsOtherSlot, IsAccepted}
+use Rattle.lfs_model.specs.Profile.{IsWritable, FitsSlot}
 use Rattle.lfs_model.proofs.Became.{Became, became_front, became_shape}
 use Rattle.lfs_model.proofs.Changes.{Follows, SameFiles, slots_files}
 use Rattle.lfs_model.proofs.Committed.{no_move_from, recovered_from}

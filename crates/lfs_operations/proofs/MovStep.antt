@@ -16,11 +16,13 @@ use Rattle.lfs_model.specs.Slots.{Slot, Gstate, gstate_xor, no_gstate, same_pair
 use Rattle.lfs_model.specs.SlotEdits.{slot_of_path}
 use Rattle.lfs_model.specs.Thread.{Pair, blocks_of, gstate_of, is_hard, superblocks_before}
 use Rattle.lfs_model.specs.Tree.{Path, Tree}
-use Rattle.lfs_model.specs.Apply.{last_name, renamed}
+use Rattle.lfs_model.specs.TreeEdits.{last_name, renamed}
 use Rattle.lfs_model.specs.Operations as ops
 use Rattle.lfs_model.specs.Session.{Session}
-use Rattle.lfs_model.specs.Steps.{as_path}
-use Rattle.lfs_model.specs.View.{directories_in, IsAccepted, IsWritable, all_slots, file_blocks, tree_in, used_blocks}
+use Rattle.lfs_model.specs.Refusals.{as_path}
+use Rattle.lfs_model.specs.Shown.{directories_in, all_slots, file_blocks, tree_in, used_blocks}
+use Rattle.lfs_model.specs.View.{IsAccepted}
+use Rattle.lfs_model.specs.Profile.{IsWritable}
 use Rattle.std.specs.List.{flat_map}
 use Rattle.lfs_model.proofs.Alike.{AreAlike}
 use Rattle.lfs_model.proofs.LeftFiles.{ends_same}

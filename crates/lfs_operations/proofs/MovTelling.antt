@@ -11,7 +11,7 @@ use Rattle.lfs_model.specs.History.{Event, EachSince, faults}
 use Rattle.lfs_model.specs.Blocks.{Blocks}
 use Rattle.lfs_model.specs.PowerLoss.{IsLeft as IsLeftOf, Survives, with_blocks}
 use Rattle.lfs_model.specs.Thread.{Pair, directory_pairs, superblocks_before}
-use Rattle.lfs_model.specs.View.{tree_in}
+use Rattle.lfs_model.specs.Shown.{tree_in}
 use Rattle.lfs_model.proofs.AfterStops.{survives_then}
 use Rattle.lfs_model.proofs.Histories.{LeavesOnly-trans, LeavesOnly-weaker, StayUnprogrammed-trans, StayUnprogrammed-wider}
 use Rattle.lfs_model.proofs.Overwrites.{SameButThese-trans, SameButThese-wider}

@@ -14,7 +14,8 @@ use Rattle.lfs_model.specs.PowerLoss.{with_blocks}
 use Rattle.lfs_model.specs.Slots.{Slot, Content, Gstate, FitsPair, gstate_xor}
 use Rattle.lfs_model.specs.SlotEdits.{with_slots}
 use Rattle.lfs_model.specs.Thread.{Pair, blocks_of, gstate_of}
-use Rattle.lfs_model.specs.View.{BeginsWith, superblock_entry, IsAccepted, used_blocks}
+use Rattle.lfs_model.specs.View.{BeginsWith, superblock_entry, IsAccepted}
+use Rattle.lfs_model.specs.Shown.{used_blocks}
 use Rattle.lfs_model.proofs.Became.{fits_same}
 use Rattle.lfs_model.proofs.Counts.{Each, each_right, count, once_from_distinct, distinct_from_once}
 use Rattle.lfs_model.proofs.Global.{gstate_cons, gstate_left, gstate_right}

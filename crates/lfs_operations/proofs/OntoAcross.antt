@@ -4,21 +4,23 @@ use Rattle.std.specs.List.{AllByRecursion, IsDistinct}
 use Rattle.std.specs.Prelude.{Any}
 use Rattle.std.proofs.lemmas.List.Elements.{recursion_from_All}
 use Rattle.std.proofs.lemmas.Option.{same_Some}
-use Rattle.lfs_model.specs.Apply.{last_name, renamed, rest_after, same_path}
+use Rattle.lfs_model.specs.TreeEdits.{last_name, renamed, rest_after, same_path}
 use Rattle.lfs_model.specs.Blocks.{Blocks}
 use Rattle.lfs_model.specs.Changes.{Change}
 use Rattle.lfs_model.specs.InDirectory.{BeginsAt, Stands}
 use Rattle.lfs_model.specs.Layout.{Fits, Goes, directory_of, removed_directories}
-use Rattle.lfs_model.specs.Logged.{IsAddress}
+use Rattle.lfs_model.specs.LoggedContent.{IsAddress}
 use Rattle.lfs_model.specs.Names.{Name}
 use Rattle.lfs_model.specs.Operations as ops
 use Rattle.lfs_model.specs.PowerLoss.{IsLeft as IsLeftOf, with_blocks}
 use Rattle.lfs_model.specs.SlotEdits.{slot_of_path, with_slots}
 use Rattle.lfs_model.specs.Slots.{Branch, Ctz, Inline, Slot, Struct, gstate_xor, no_gstate, same_pair}
-use Rattle.lfs_model.specs.Steps.{as_path}
-use Rattle.lfs_model.specs.Thread.{Begins, Listing, Pair, anchor, blocks_of, directory_pairs, first_at, gstate_of, is_hard, root_of, superblocks_before}
+use Rattle.lfs_model.specs.Refusals.{as_path}
+use Rattle.lfs_model.specs.Thread.{Begins, ThreadDirectory, Pair, anchor, blocks_of, directory_pairs, first_at, gstate_of, is_hard, root_of, superblocks_before}
 use Rattle.lfs_model.specs.Tree.{Path, branch_of, directory_at}
-use Rattle.lfs_model.specs.View.{HaveSlots, IsAccepted, IsReached, IsWritable, Leads, directories_in, entries_in, tree_in, used_blocks}
+use Rattle.lfs_model.specs.Profile.{HaveSlots, IsWritable}
+use Rattle.lfs_model.specs.View.{IsAccepted}
+use Rattle.lfs_model.specs.Shown.{IsReached, Leads, directories_in, entries_in, tree_in, used_blocks}
 use Rattle.lfs_model.proofs.Alike.{AreAlike, Stood}
 use Rattle.lfs_model.proofs.Changes.{Follows}
 use Rattle.lfs_model.proofs.Committed.{IsCompleted, no_move_from, recovered_from}
@@ -383,9 +385,9 @@ module _ (t : Kept) (old_pair old_id first new_pair new_id : ℕ) (name : Name) 
       unreached : NoneGoes (λ z. IsReached ps z → ⊥) None (two a.b a.front (q0 ∷ []) a.mid (p ∷ []) a.back)
       unreached = subst (NoneGoes (λ z. IsReached ps z → ⊥) None) (pairs_behind w.chain (two a.b a.front (q0 ∷ []) a.mid (p ∷ []) a.back) two_chain)
           (none_where (λ z. IsReached ps z → ⊥) (gstate_of ps) None (directory_pairs ps) (λ z f. absurd (cc))
-          (subst (Each (λ (z : Listing). (IsReached ps z.at → ⊥) → ⊥)) (sym (rest_all (directories_in ps)))
-          (each_weaker (λ (z : Listing). IsReached ps z.at) (λ (z : Listing). (IsReached ps z.at → ⊥) → ⊥) (λ z h n. n h) (directories_in ps)
-          (recursion_from_All (λ (z : Listing). IsReached ps z.at) (directories_in ps) (recovered_from t.disk ps (subst (IsAccepted t.disk) were can.ready.accepted) (ap gstate_of (sym were) ∙ can.ready.settled)).reached))))
+          (subst (Each (λ (z : ThreadDirectory). (IsReached ps z.at → ⊥) → ⊥)) (sym (rest_all (directories_in ps)))
+          (each_weaker (λ (z : ThreadDirectory). IsReached ps z.at) (λ (z : ThreadDirectory). (IsReached ps z.at → ⊥) → ⊥) (λ z h n. n h) (directories_in ps)
+          (recursion_from_All (λ (z : ThreadDirectory). IsReached ps z.at) (directories_in ps) (recovered_from t.disk ps (subst (IsAccepted t.disk) were can.ready.accepted) (ap gstate_of (sym were) ∙ can.ready.settled)).reached))))
 
       writable : IsWritable t.disk ps
       writable = subst (IsWritable t.disk) were can.ready.writable

@@ -4,7 +4,7 @@ use Rattle.std.specs.Option.{option_and_then}
 use Rattle.std.specs.Prelude.{All}
 use Rattle.std.proofs.lemmas.Option.{same_Some}
 use Rattle.std.proofs.lemmas.List.Elements.{recursion_from_All}
-use Rattle.lfs_model.specs.Apply.{renamed, rest_after}
+use Rattle.lfs_model.specs.TreeEdits.{renamed, rest_after}
 use Rattle.lfs_model.specs.Blocks.{Blocks}
 use Rattle.lfs_model.specs.BlockSets.{AreUsed}
 use Rattle.lfs_model.specs.Disk.{Disk, block_count}
@@ -12,7 +12,9 @@ use Rattle.lfs_model.specs.PowerLoss.{IsLeft as IsLeftOf, with_blocks}
 use Rattle.lfs_model.specs.Slots.{Branch, Content, FitsPair, Slot, no_gstate, same_pair}
 use Rattle.lfs_model.specs.Thread.{Pair, gstate_of, is_hard, root_of, superblocks_before}
 use Rattle.lfs_model.specs.Tree.{Path, branch_of, directory_at, directory_from, root_slot}
-use Rattle.lfs_model.specs.View.{IsAccepted, IsWritable, Leads, directories_in, entries_in, tree_in, used_blocks}
+use Rattle.lfs_model.specs.View.{IsAccepted}
+use Rattle.lfs_model.specs.Profile.{IsWritable}
+use Rattle.lfs_model.specs.Shown.{Leads, directories_in, entries_in, tree_in, used_blocks}
 use Rattle.lfs_model.proofs.Alike.{AreAlike, alike_append, alike_itself}
 use Rattle.lfs_model.proofs.Committed.{no_move_from, recovered_from}
 use Rattle.lfs_model.proofs.Counts.{Each, count, each_right, once_from_distinct}

@@ -9,7 +9,7 @@ use Rattle.lfs_model.specs.BlockSets.{AreUsed, BlockSets, IsFree, IsInFlight, Is
 use Rattle.lfs_model.specs.BlockSets.BlockState.{Free, InFlight, Used}
 use Rattle.lfs_model.specs.Slots.{Slot}
 use Rattle.lfs_model.specs.Thread.{Pair, blocks_of, gstate_of}
-use Rattle.lfs_model.specs.View.{all_slots, file_blocks, used_blocks}
+use Rattle.lfs_model.specs.Shown.{all_slots, file_blocks, used_blocks}
 use Rattle.lfs_model.proofs.BlockSets.{count-Contains, Contains-count, slice_get-set_same, slice_get-set_other}
 use Rattle.lfs_model.proofs.Changes.{SameFiles, slots_files}
 use Rattle.lfs_model.proofs.Committed.{IsCommit, no_move_from}

@@ -8,7 +8,8 @@ use Rattle.lfs_model.specs.Disk.{Disk, block_at, SameGeometry}
 use Rattle.lfs_model.specs.Slots.{Slot}
 use Rattle.lfs_model.specs.Content.{content_at, holder_at}
 use Rattle.lfs_model.specs.Thread.{Pair, anchor, Links, blocks_of}
-use Rattle.lfs_model.specs.View.{BeginsWith, superblock_entry, IsAccepted, all_slots, used_blocks, file_blocks}
+use Rattle.lfs_model.specs.View.{BeginsWith, superblock_entry, IsAccepted}
+use Rattle.lfs_model.specs.Shown.{all_slots, used_blocks, file_blocks}
 use Rattle.lfs_model.proofs.Counts.{Each, count, count_append, once_from_distinct, each_from_counted}
 use Rattle.lfs_model.proofs.Sites.{Site, thread_at, IsSite}
 use Rattle.lfs_model.proofs.Splices.{IsDevice}

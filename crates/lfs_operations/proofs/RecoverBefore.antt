@@ -2,12 +2,12 @@
 use Rattle.std.proofs.Common.{ℕ, zero, suc, ◌≡◌, ◌≤◌, inl, inr, Bool, true, false, cond, List, [], ◌∷◌, ◌++◌, map, length, Option, Some, None, refl, sym, ap, ap₂, subst, ◌∙◌, arith}
 use Rattle.std.specs.Prelude.{is_none}
 use Rattle.lfs_model.specs.Disk.{Disk}
-use Rattle.lfs_model.specs.Layout.{AllStand, Fits, Goes, Stands, begin_from, onward}
+use Rattle.lfs_model.specs.Layout.{AllStand, Fits, Goes, StandFor, begin_from, onward}
 use Rattle.lfs_model.specs.Operations as ops
 use Rattle.lfs_model.specs.SlotEdits.{with_slots, without_moved}
 use Rattle.lfs_model.specs.Slots.{FitsPair, Gstate, same_pair}
 use Rattle.lfs_model.specs.Thread.{Pair, gstate_of, is_hard, superblocks_before, unmoved}
-use Rattle.lfs_model.specs.View.{IsReached}
+use Rattle.lfs_model.specs.Shown.{IsReached}
 use Rattle.lfs_model.proofs.Became.{fits_same}
 use Rattle.lfs_model.proofs.Changes.{Follows}
 use Rattle.lfs_model.proofs.Counts.{Each}
@@ -66,14 +66,14 @@ module _ (disk other : Disk) (G H : ℕ × ℕ → Type 0) (alike : GoAlike disk
   fits_from : (d e : Pair) → e.content.slots ≡ d.content.slots → Fits disk d → Fits other e
   fits_from d e slots h = fits_off e (fits_same disk d e slots h)
 
-  stands_kin : (first : Bool) (g h : Type 0) (d e : Pair) (now : List Pair) → (h → g) → (g → h) → e.at ≡ d.at → e.content.slots ≡ d.content.slots → Stands other first h e now → Stands disk first g d now
+  stands_kin : (first : Bool) (g h : Type 0) (d e : Pair) (now : List Pair) → (h → g) → (g → h) → e.at ≡ d.at → e.content.slots ≡ d.content.slots → StandFor other first h e now → StandFor disk first g d now
   stands_kin first g h d e [] f b at slots (inl goes) = inl (f goes)
   stands_kin first g h d e [] f b at slots (inr k) = inr (k.0, sym slots ∙ k.1)
   stands_kin first g h d e (q ∷ []) f b at slots s = (s.0 ∙ at, s.1 ∙ slots, fits_kin d e slots s.2, (λ x. s.3 (b x)), λ n none. s.4 n (slots ∙ none))
   stands_kin first g h d e (q ∷ r ∷ []) f b at slots s = (s.0 ∙ at, s.1 ∙ slots, (λ x. s.2 (fits_from d e slots x)), fits_on q s.3, fits_on r s.4, λ x. s.5 (b x))
   stands_kin first g h d e (q ∷ r ∷ t ∷ now) f b at slots s = absurd s
 
-  here_kin : (from : Option (ℕ × ℕ)) (d e : Pair) (now : List Pair) → e.at ≡ d.at → e.content.slots ≡ d.content.slots → Stands other (is_none from) (H (begin_from from e)) e now → Stands disk (is_none from) (G (begin_from from d)) d now
+  here_kin : (from : Option (ℕ × ℕ)) (d e : Pair) (now : List Pair) → e.at ≡ d.at → e.content.slots ≡ d.content.slots → StandFor other (is_none from) (H (begin_from from e)) e now → StandFor disk (is_none from) (G (begin_from from d)) d now
   here_kin from d e now at slots s = stands_kin (is_none from) (G (begin_from from d)) (H (begin_from from e)) d e now
       (λ x. subst G (begin_kin from d e at) (alike.there (begin_from from e) x)) (λ x. alike.back (begin_from from e) (subst G (sym (begin_kin from d e at)) x)) at slots s
 

@@ -7,13 +7,15 @@ use Rattle.lfs_device.specs.declared.error.Error.{Error}
 use Rattle.lfs_model.specs.Blocks.{Blocks}
 use Rattle.lfs_model.specs.Disk.{SameGeometry, block_at}
 use Rattle.lfs_model.specs.History.{Event, faults}
-use Rattle.lfs_model.specs.Logged.{IsAddress}
+use Rattle.lfs_model.specs.LoggedContent.{IsAddress}
 use Rattle.lfs_model.specs.PowerLoss.{IsLeft as IsLeftOf, Survives, with_blocks}
 use Rattle.lfs_model.specs.Layout.{onward}
 use Rattle.lfs_model.specs.Recovery.{IsRecovered}
 use Rattle.lfs_model.specs.Slots.{Gstate, Slot, no_gstate}
-use Rattle.lfs_model.specs.Thread.{Links, Listing, Pair, anchor, blocks_of, directory_pairs, gstate_of, is_hard, starts_with_superblock, superblocks_before}
-use Rattle.lfs_model.specs.View.{IsAccepted, IsReached, IsWritable, all_slots, directories_in, file_blocks, tree_in}
+use Rattle.lfs_model.specs.Thread.{Links, ThreadDirectory, Pair, anchor, blocks_of, directory_pairs, gstate_of, is_hard, starts_with_superblock, superblocks_before}
+use Rattle.lfs_model.specs.View.{IsAccepted}
+use Rattle.lfs_model.specs.Shown.{IsReached, all_slots, directories_in, file_blocks, tree_in}
+use Rattle.lfs_model.specs.Profile.{IsWritable}
 use Rattle.lfs_model.proofs.AfterStops.{survives_then}
 use Rattle.lfs_model.proofs.Alike.{AreAlike, alike_itself}
 use Rattle.lfs_model.proofs.Changes.{SameFiles, follows_itself}
@@ -127,8 +129,8 @@ module _ (old now : Kept) (dropped : ℕ) (u : IsUnderWay old now dropped []) wh
   leads_now a (path, at, (l, s)) = (path, at, (ap (λ z. z path) e.way.is.taken.follows.leads ∙ l, s))
 
   all_reached : AllReached (C ++ (e.kept ++ []))
-  all_reached = All-from_recursion (λ (d : Listing). IsReached (C ++ (e.kept ++ [])) d.at) (directories_in (C ++ (e.kept ++ [])))
-      (subst (Each (λ (d : Listing). IsReached (C ++ (e.kept ++ [])) d.at)) (rest_all (directories_in (C ++ (e.kept ++ []))))
+  all_reached = All-from_recursion (λ (d : ThreadDirectory). IsReached (C ++ (e.kept ++ [])) d.at) (directories_in (C ++ (e.kept ++ [])))
+      (subst (Each (λ (d : ThreadDirectory). IsReached (C ++ (e.kept ++ [])) d.at)) (rest_all (directories_in (C ++ (e.kept ++ []))))
       (all_where (IsReached (C ++ (e.kept ++ []))) (gstate_of (C ++ (e.kept ++ []))) None (directory_pairs (C ++ (e.kept ++ [])))
       (subst (EachBegins (IsReached (C ++ (e.kept ++ []))) None) (sym (pairs_behind C (e.kept ++ []) e.way.is.ready.is_chain))
       (subst (EachBegins (IsReached (C ++ (e.kept ++ []))) None) (sym (append-nil e.kept))
@@ -216,7 +218,7 @@ told_none R n from (x ∷ xs) numbers h (inr told) = absurd (h.0 told.1.1.0)
 pub none_told : (ps : List Pair) (numbers : List ℕ) → IsRecovered ps → AreUnreached ps numbers → numbers ≡ []
 none_told ps numbers h told = told_none (IsReached ps) (superblocks_before ps) None (directory_pairs ps) numbers
     (none_where (λ a. IsReached ps a → ⊥) (gstate_of ps) None (directory_pairs ps) (λ a k. absurd (cc))
-    (subst (Each (λ (d : Listing). (IsReached ps d.at → ⊥) → ⊥)) (sym (rest_all (directories_in ps)))
-    (each_weaker (λ (d : Listing). IsReached ps d.at) (λ (d : Listing). (IsReached ps d.at → ⊥) → ⊥) (λ d k n. n k) (directories_in ps)
-    (recursion_from_All (λ (d : Listing). IsReached ps d.at) (directories_in ps) h.reached))))
+    (subst (Each (λ (d : ThreadDirectory). (IsReached ps d.at → ⊥) → ⊥)) (sym (rest_all (directories_in ps)))
+    (each_weaker (λ (d : ThreadDirectory). IsReached ps d.at) (λ (d : ThreadDirectory). (IsReached ps d.at → ⊥) → ⊥) (λ d k n. n k) (directories_in ps)
+    (recursion_from_All (λ (d : ThreadDirectory). IsReached ps d.at) (directories_in ps) h.reached))))
     told

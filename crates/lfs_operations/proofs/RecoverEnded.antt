@@ -3,12 +3,12 @@ use Rattle.std.proofs.Common.{ℕ, ◌≡◌, ◌+◌, ◌-◌, true, false, Lis
 use Rattle.std.proofs.lemmas.Option.{same_Some}
 use Rattle.lfs_model.specs.BlockSets.{AreUsed}
 use Rattle.lfs_model.specs.History.{Event}
-use Rattle.lfs_model.specs.Logged.{IsAddress}
+use Rattle.lfs_model.specs.LoggedContent.{IsAddress}
 use Rattle.lfs_model.specs.PowerLoss.{Survives}
 use Rattle.lfs_model.specs.Slots.{Gstate}
 use Rattle.lfs_model.specs.SlotEdits.{without_moved}
 use Rattle.lfs_model.specs.Thread.{blocks_of, gstate_of, superblocks_before}
-use Rattle.lfs_model.specs.View.{tree_in, used_blocks}
+use Rattle.lfs_model.specs.Shown.{tree_in, used_blocks}
 use Rattle.lfs_model.proofs.Counts.{count, once_from_distinct}
 use Rattle.lfs_model.proofs.Global.{HasNoMove}
 use Rattle.lfs_model.proofs.Histories.{LeavesOnly-weaker}

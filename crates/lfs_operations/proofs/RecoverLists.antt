@@ -7,7 +7,8 @@ use Rattle.lfs_model.specs.Disk.{SameGeometry, block_at}
 use Rattle.lfs_model.specs.Layout.{onward}
 use Rattle.lfs_model.specs.Slots.{Slot}
 use Rattle.lfs_model.specs.Thread.{Pair, blocks_of, gstate_of}
-use Rattle.lfs_model.specs.View.{IsAccepted, file_blocks, used_blocks}
+use Rattle.lfs_model.specs.View.{IsAccepted}
+use Rattle.lfs_model.specs.Shown.{file_blocks, used_blocks}
 use Rattle.lfs_model.proofs.Changes.{SameFiles, slots_files}
 use Rattle.lfs_model.proofs.Counts.{Each, count, count_append, each_always, each_from_counted, each_joined, each_left, each_pieces, each_right, once_from_distinct}
 use Rattle.lfs_model.proofs.Files.{HasSameFile}

@@ -6,9 +6,10 @@ use Rattle.std.proofs.lemmas.List.Elements.{All-from_recursion, recursion_from_A
 use Rattle.lfs_model.specs.Disk.{Disk}
 use Rattle.lfs_model.specs.Layout.{begin_from, onward}
 use Rattle.lfs_model.specs.Slots.{Gstate, Slot, Tail, same_pair}
-use Rattle.lfs_model.specs.Thread.{Links, Listing, Pair, anchor, directories_of, directory_pairs, gstate_of, is_hard, joined, next_of, visible}
+use Rattle.lfs_model.specs.Thread.{Links, ThreadDirectory, Pair, anchor, directories_of, directory_pairs, gstate_of, is_hard, joined, next_of, visible}
 use Rattle.lfs_model.specs.Tree.{Path}
-use Rattle.lfs_model.specs.View.{HaveSlots, IsReached, Leads, directories_in}
+use Rattle.lfs_model.specs.Profile.{HaveSlots}
+use Rattle.lfs_model.specs.Shown.{IsReached, Leads, directories_in}
 use Rattle.lfs_model.proofs.Counts.{Each, each_weaker}
 use Rattle.lfs_model.proofs.Drops.{softened}
 use Rattle.lfs_model.proofs.Global.{HasNoMove, unmoved_all}
@@ -65,28 +66,28 @@ hard_onward from p e = ap (λ b. cond b (Some (begin_from from p)) None) e
 
 -- ---- what holds of where each pair's directory begins holds of each directory
 
-joined_each : (Q : ℕ × ℕ → Type 0) (at : ℕ × ℕ) (b : Bool) (slots : List Slot) (ds : List Listing) → Q at → Each (λ (d : Listing). Q d.at) (rest_of b ds) → Each (λ (d : Listing). Q d.at) (joined at b slots ds)
+joined_each : (Q : ℕ × ℕ → Type 0) (at : ℕ × ℕ) (b : Bool) (slots : List Slot) (ds : List ThreadDirectory) → Q at → Each (λ (d : ThreadDirectory). Q d.at) (rest_of b ds) → Each (λ (d : ThreadDirectory). Q d.at) (joined at b slots ds)
 joined_each Q at true slots [] h k = (h, tt)
 joined_each Q at false slots [] h k = (h, tt)
 joined_each Q at true slots (d ∷ ds) h k = (h, k)
 joined_each Q at false slots (d ∷ ds) h k = (h, k)
 
-joined_rest : (Q : ℕ × ℕ → Type 0) (at : ℕ × ℕ) (b : Bool) (slots : List Slot) (ds : List Listing) → Each (λ (d : Listing). Q d.at) (rest_of b ds) → Each (λ (d : Listing). Q d.at) (rest_of true (joined at b slots ds))
+joined_rest : (Q : ℕ × ℕ → Type 0) (at : ℕ × ℕ) (b : Bool) (slots : List Slot) (ds : List ThreadDirectory) → Each (λ (d : ThreadDirectory). Q d.at) (rest_of b ds) → Each (λ (d : ThreadDirectory). Q d.at) (rest_of true (joined at b slots ds))
 joined_rest Q at true slots [] k = tt
 joined_rest Q at false slots [] k = tt
 joined_rest Q at true slots (d ∷ ds) k = k
 joined_rest Q at false slots (d ∷ ds) k = k
 
-pub all_where : (Q : ℕ × ℕ → Type 0) (g : Gstate) (from : Option (ℕ × ℕ)) (ps : List Pair) → EachBegins Q from ps → Each (λ (d : Listing). Q d.at) (rest_of (is_some from) (directories_of g ps))
+pub all_where : (Q : ℕ × ℕ → Type 0) (g : Gstate) (from : Option (ℕ × ℕ)) (ps : List Pair) → EachBegins Q from ps → Each (λ (d : ThreadDirectory). Q d.at) (rest_of (is_some from) (directories_of g ps))
 all_where Q g from [] h = none (is_some from)
   where
-    none : (b : Bool) → Each (λ (d : Listing). Q d.at) (rest_of b [])
+    none : (b : Bool) → Each (λ (d : ThreadDirectory). Q d.at) (rest_of b [])
     none true = tt
     none false = tt
-all_where Q g from (p ∷ ps) h = go from h.0 (subst (λ b. Each (λ (d : Listing). Q d.at) (rest_of b (directories_of g ps))) (onward_some from p) (all_where Q g (onward from p) ps h.1))
+all_where Q g from (p ∷ ps) h = go from h.0 (subst (λ b. Each (λ (d : ThreadDirectory). Q d.at) (rest_of b (directories_of g ps))) (onward_some from p) (all_where Q g (onward from p) ps h.1))
   where
-    go : (from : Option (ℕ × ℕ)) → Q (begin_from from p) → Each (λ (d : Listing). Q d.at) (rest_of (is_hard p.content.tail) (directories_of g ps)) → Each (λ (d : Listing). Q d.at) (rest_of (is_some from) (directories_of g (p ∷ ps)))
-    go None k behind = subst (Each (λ (d : Listing). Q d.at)) (sym (rest_all (directories_of g (p ∷ ps)))) (joined_each Q p.at (is_hard p.content.tail) (visible g p) (directories_of g ps) k behind)
+    go : (from : Option (ℕ × ℕ)) → Q (begin_from from p) → Each (λ (d : ThreadDirectory). Q d.at) (rest_of (is_hard p.content.tail) (directories_of g ps)) → Each (λ (d : ThreadDirectory). Q d.at) (rest_of (is_some from) (directories_of g (p ∷ ps)))
+    go None k behind = subst (Each (λ (d : ThreadDirectory). Q d.at)) (sym (rest_all (directories_of g (p ∷ ps)))) (joined_each Q p.at (is_hard p.content.tail) (visible g p) (directories_of g ps) k behind)
     go (Some a) k behind = joined_rest Q p.at (is_hard p.content.tail) (visible g p) (directories_of g ps) behind
 
 -- the thread's last pair has no tail
@@ -237,9 +238,9 @@ module _ (disk : Disk) (ps : List Pair) (t : Kept) (dropped : ℕ) (chain seen :
 
         none : NoneGoes Goes None (directory_pairs (chain ++ (kept ++ x ∷ todo)))
         none = none_where Goes (gstate_of cur) None (directory_pairs (chain ++ (kept ++ x ∷ todo))) (λ a k. absurd (cc))
-            (subst (Each (λ (d : Listing). Goes d.at → ⊥)) (sym (rest_all (directories_in cur)))
-            (each_weaker (λ (d : Listing). IsReached (chain ++ (kept ++ x ∷ todo)) d.at) (λ (d : Listing). Goes d.at → ⊥) (λ d h k. k h) (directories_in cur)
-            (recursion_from_All (λ (d : Listing). IsReached (chain ++ (kept ++ x ∷ todo)) d.at) (directories_in cur) all)))
+            (subst (Each (λ (d : ThreadDirectory). Goes d.at → ⊥)) (sym (rest_all (directories_in cur)))
+            (each_weaker (λ (d : ThreadDirectory). IsReached (chain ++ (kept ++ x ∷ todo)) d.at) (λ (d : ThreadDirectory). Goes d.at → ⊥) (λ d h k. k h) (directories_in cur)
+            (recursion_from_All (λ (d : ThreadDirectory). IsReached (chain ++ (kept ++ x ∷ todo)) d.at) (directories_in cur) all)))
 
     -- where it is the last one, every other directory is reached
     pub all_but : AreUnreachedFrom (IsReached ps) (suc (length chain + length kept + dropped)) (onward f x) todo [] → (is_hard x.content.tail ≡ false) × AllReachedBut t.pairs x.at
@@ -285,8 +286,8 @@ module _ (disk : Disk) (ps : List Pair) (t : Kept) (dropped : ℕ) (chain seen :
         )
 
         every : AllReachedBut (chain ++ (kept ++ x ∷ todo)) x.at
-        every = All-from_recursion (λ (d : Listing). Q d.at) (directories_in cur)
-            (subst (Each (λ (d : Listing). Q d.at)) (rest_all (directories_in cur))
+        every = All-from_recursion (λ (d : ThreadDirectory). Q d.at) (directories_in cur)
+            (subst (Each (λ (d : ThreadDirectory). Q d.at)) (rest_all (directories_in cur))
             (all_where Q (gstate_of cur) None (directory_pairs cur) (subst (EachBegins Q None) (sym (pairs_behind chain (kept ++ x ∷ todo) ready.is_chain)) begun)))
 
     -- the step that drops it

@@ -8,7 +8,8 @@ use Rattle.std.proofs.lemmas.List.Elements.{recursion_from_All}
 use Rattle.lfs_model.specs.InDirectory.{BeginsAt}
 use Rattle.lfs_model.specs.Slots.{Gstate, Slot, is_superblock, same_pair}
 use Rattle.lfs_model.specs.Thread.{Pair, gstate_of, is_hard, starts_with_superblock, superblocks_before}
-use Rattle.lfs_model.specs.View.{HasSuperblock, IsAccepted, IsMove, IsOtherSlot, NamesSlot, no_move, set_move}
+use Rattle.lfs_model.specs.View.{HasSuperblock, IsAccepted, IsMove, IsOtherSlot, NamesSlot}
+use Rattle.lfs_model.specs.Slots.{no_move, set_move}
 use Rattle.lfs_model.proofs.Counts.{Each}
 use Rattle.lfs_model.proofs.Global.{HasNoMove}
 use Rattle.lfs_model.proofs.Pairs.{pair_back, pair_on}

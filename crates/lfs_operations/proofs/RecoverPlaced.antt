@@ -6,7 +6,8 @@ use Rattle.lfs_model.specs.Disk.{Disk}
 use Rattle.lfs_model.specs.Content.{content_at, holder_at}
 use Rattle.lfs_model.specs.Slots.{Content, FitsPair, Gstate, gstate_xor}
 use Rattle.lfs_model.specs.Thread.{Pair, gstate_of}
-use Rattle.lfs_model.specs.View.{BeginsWith, FitsSlot, IsAccepted, IsWritable, superblock_entry}
+use Rattle.lfs_model.specs.View.{BeginsWith, IsAccepted, superblock_entry}
+use Rattle.lfs_model.specs.Profile.{FitsSlot, IsWritable}
 use Rattle.lfs_model.proofs.Changes.{Follows}
 use Rattle.lfs_model.proofs.Counts.{each_append, each_left, each_right}
 use Rattle.lfs_model.proofs.Global.{gstate_assoc, gstate_cons, gstate_moved, gstate_right, gstate_self}

@@ -5,10 +5,11 @@ use Rattle.std.proofs.lemmas.Nat.{xor_lt}
 use Rattle.std.proofs.lemmas.Option.{same_Some}
 use Rattle.std.proofs.lemmas.List.Elements.{recursion_from_All}
 use Rattle.lfs_model.specs.Changes.{Change, Delete, PutMove, PutTail, changed_by}
-use Rattle.lfs_model.specs.Content.{RawContent, RawSlot, completed, content_after, content_after_all, content_at, gstate_at, hard_tail_type, has_its_id, holder_at, is_in_table, no_content, pair_at, raw_at, slots_after, tail_of, tail_with}
+use Rattle.lfs_model.specs.Content.{RawContent, RawSlot, completed, content_after, content_after_all, content_at, holder_at, no_content, raw_at, slots_after}
+use Rattle.lfs_model.specs.EntryTypes.{gstate_at, hard_tail_type, has_its_id, is_in_table, pair_at, tail_of, tail_with}
 use Rattle.lfs_model.specs.Disk.{Disk}
 use Rattle.lfs_model.specs.Log.{LogEntry, log_entries}
-use Rattle.lfs_model.specs.Logged.{IsAddress, IsMoveState, is_null}
+use Rattle.lfs_model.specs.LoggedContent.{IsAddress, IsMoveState, is_null}
 use Rattle.lfs_model.specs.Slots.{Content, FitsPair, Gstate, Tail, gstate_xor, no_gstate}
 use Rattle.lfs_model.specs.Tag.{class_of, kind_of}
 use Rattle.lfs_model.specs.Thread.{Pair, gstate_of, next_of, unmoved}

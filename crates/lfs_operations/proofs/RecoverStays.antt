@@ -8,12 +8,14 @@ use Rattle.std.proofs.lemmas.List.Concat.{flat_map-append}
 use Rattle.std.proofs.lemmas.List.Elements.{All-from_recursion, recursion_from_All}
 use Rattle.lfs_model.specs.Blocks.{Blocks}
 use Rattle.lfs_model.specs.Disk.{Disk}
-use Rattle.lfs_model.specs.Logged.{IsAddress}
+use Rattle.lfs_model.specs.LoggedContent.{IsAddress}
 use Rattle.lfs_model.specs.PowerLoss.{IsLeft as IsLeftOf, with_blocks}
 use Rattle.lfs_model.specs.Slots.{FitsPair, Gstate, Slot, same_pair}
 use Rattle.lfs_model.specs.SlotEdits.{without_moved}
 use Rattle.lfs_model.specs.Thread.{Pair, blocks_of, gstate_of, is_hard, starts_with_superblock, superblocks_before, unmoved}
-use Rattle.lfs_model.specs.View.{FitsSlot, IsAccepted, IsWritable, all_slots, file_blocks, tree_in, used_blocks}
+use Rattle.lfs_model.specs.Profile.{FitsSlot, IsWritable}
+use Rattle.lfs_model.specs.View.{IsAccepted}
+use Rattle.lfs_model.specs.Shown.{all_slots, file_blocks, tree_in, used_blocks}
 use Rattle.lfs_model.proofs.Changes.{SameFiles, chain_now, slots_files}
 use Rattle.lfs_model.proofs.Counts.{Each, count, count_append, each_append, each_left, each_right, each_weaker}
 use Rattle.lfs_model.proofs.Files.{HasSameFile}

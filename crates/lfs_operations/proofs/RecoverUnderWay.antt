@@ -8,11 +8,13 @@ use Rattle.lfs_model.specs.Blocks.{Blocks}
 use Rattle.lfs_model.specs.Disk.{Disk}
 use Rattle.lfs_model.specs.Layout.{begin_from, onward}
 use Rattle.lfs_model.specs.History.{EachSince}
-use Rattle.lfs_model.specs.Logged.{IsAddress}
+use Rattle.lfs_model.specs.LoggedContent.{IsAddress}
 use Rattle.lfs_model.specs.PowerLoss.{IsLeft as IsLeftOf, Survives, with_blocks}
 use Rattle.lfs_model.specs.Slots.{Gstate, Slot, no_gstate, same_pair}
 use Rattle.lfs_model.specs.Thread.{Pair, blocks_of, directory_pairs, first_at, gstate_of, superblocks_before}
-use Rattle.lfs_model.specs.View.{IsAccepted, IsReached, IsWritable, all_slots, tree_in, used_blocks}
+use Rattle.lfs_model.specs.View.{IsAccepted}
+use Rattle.lfs_model.specs.Shown.{IsReached, all_slots, tree_in, used_blocks}
+use Rattle.lfs_model.specs.Profile.{IsWritable}
 use Rattle.lfs_model.proofs.AfterStops.{survives_then}
 use Rattle.lfs_model.proofs.Changes.{SameFiles}
 use Rattle.lfs_model.proofs.Counts.{count, count_append, once_from_distinct}

@@ -7,7 +7,7 @@ use Rattle.std.specs.Option.{option_and_then}
 use Rattle.std.proofs.lemmas.Bool.{eqb-false}
 use Rattle.std.proofs.lemmas.Option.{same_Some}
 use Rattle.std.proofs.lemmas.List.Sums.{sum_by-append, sum_by-cons}
-use Rattle.lfs_model.specs.Apply.{removed}
+use Rattle.lfs_model.specs.TreeEdits.{removed}
 use Rattle.lfs_model.specs.BlockSets.BlockState.{Free, InFlight}
 use Rattle.lfs_model.specs.Changes.{Delete, changed_by}
 use Rattle.lfs_model.specs.Content.{RawContent, completed, raw_at}
@@ -18,7 +18,7 @@ use Rattle.lfs_model.specs.PowerLoss.{Survives}
 use Rattle.lfs_model.specs.Slots.{Content, FitsPair, Slot, same_pair, slot_size}
 use Rattle.lfs_model.specs.Thread.{Pair, blocks_of, first_at, next_of}
 use Rattle.lfs_model.specs.Tree.{Tree}
-use Rattle.lfs_model.specs.View.{Leads, file_blocks, tree_in}
+use Rattle.lfs_model.specs.Shown.{Leads, file_blocks, tree_in}
 use Rattle.lfs_model.specs.Names.{Name}
 use Rattle.lfs_model.proofs.Changes.{Follows}
 use Rattle.lfs_model.proofs.Committed.{IsCompleted, commit_step, recovered_from}

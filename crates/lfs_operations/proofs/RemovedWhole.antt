@@ -3,7 +3,7 @@ use Rattle.std.proofs.Common.{ℕ, ◌≡◌, ◌≢◌, ◌⊎◌, inl, inr, �
 use Rattle.std.specs.List.{IsDistinct}
 use Rattle.std.proofs.lemmas.Bool.{eqb-false}
 use Rattle.std.proofs.lemmas.List.Elements.{recursion_from_All}
-use Rattle.lfs_model.specs.Apply.{removed}
+use Rattle.lfs_model.specs.TreeEdits.{removed}
 use Rattle.lfs_model.specs.Blocks.{Blocks}
 use Rattle.lfs_model.specs.BlockSets.{AreUsed}
 use Rattle.lfs_model.specs.Disk.{Disk}
@@ -14,7 +14,9 @@ use Rattle.lfs_model.specs.PowerLoss.{IsLeft as IsLeftOf, Survives, with_blocks}
 use Rattle.lfs_model.specs.Slots.{Content, FitsPair, Slot, Tail, no_gstate, same_pair}
 use Rattle.lfs_model.specs.Thread.{Pair, blocks_of, first_at, gstate_of, is_hard}
 use Rattle.lfs_model.specs.Tree.{Tree, branch_of}
-use Rattle.lfs_model.specs.View.{IsAccepted, IsWritable, Leads, file_blocks, tree_in, used_blocks}
+use Rattle.lfs_model.specs.View.{IsAccepted}
+use Rattle.lfs_model.specs.Profile.{IsWritable}
+use Rattle.lfs_model.specs.Shown.{Leads, file_blocks, tree_in, used_blocks}
 use Rattle.lfs_model.proofs.Changes.{Follows}
 use Rattle.lfs_model.proofs.Committed.{IsCompleted, no_move_from, recovered_from}
 use Rattle.lfs_model.proofs.Counts.{Each, each_right, count, count_append, once_from_distinct}

@@ -7,11 +7,11 @@ use Rattle.lfs_model.specs.Changes.{Change, changed_by}
 use Rattle.lfs_model.specs.Content.{RawContent, RawSlot, complete_all, completed, no_content, raw_at, slot_of_id}
 use Rattle.lfs_model.specs.Cut.{CanBeCut}
 use Rattle.lfs_model.specs.InDirectory.{IsBehind, StandsAt}
-use Rattle.lfs_model.specs.Logged.{HasParts, HaveParts}
+use Rattle.lfs_model.specs.LoggedContent.{HasParts, HaveParts}
 use Rattle.lfs_model.specs.Names.{Name, is_name}
 use Rattle.lfs_model.specs.Slots.{Content, FitsPair, Slot, slot_size}
 use Rattle.lfs_model.specs.Thread.{Pair, next_of}
-use Rattle.lfs_model.specs.View.{FitsEntry}
+use Rattle.lfs_model.specs.Profile.{FitsEntry}
 use Rattle.lfs_model.proofs.Completed.{complete_insert, complete_length, complete_remove, completed_from, completed_parts}
 use Rattle.lfs_model.proofs.Effects.{deletes, does_first}
 use Rattle.lfs_model.proofs.Halves.{content_cut, entry_small}

@@ -8,8 +8,8 @@ use Rattle.lfs_model.specs.Names.{Name, name_cmp}
 use Rattle.lfs_model.specs.Slots.{Slot, is_superblock, same_pair}
 use Rattle.lfs_model.specs.Thread.{Pair, blocks_of}
 use Rattle.lfs_model.specs.Tree.{Path}
-use Rattle.lfs_model.specs.View.{Leads, entries_in}
-use Rattle.lfs_model.specs.Apply.{renamed}
+use Rattle.lfs_model.specs.Shown.{Leads, entries_in}
+use Rattle.lfs_model.specs.TreeEdits.{renamed}
 use Rattle.lfs_model.specs.InDirectory.{entries_only, slots_in}
 use Rattle.lfs_model.proofs.Names.{IsPlace, greater}
 use Rattle.lfs_model.proofs.Sites.{Site, thread_at, begin_of}

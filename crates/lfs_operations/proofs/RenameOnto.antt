@@ -6,8 +6,8 @@ use Rattle.lfs_model.specs.Disk.{Disk}
 use Rattle.lfs_model.specs.Slots.{Slot, is_superblock, same_pair}
 use Rattle.lfs_model.specs.Thread.{Pair, gstate_of}
 use Rattle.lfs_model.specs.Tree.{Path, branch_of}
-use Rattle.lfs_model.specs.View.{Leads, entries_in}
-use Rattle.lfs_model.specs.Apply.{renamed}
+use Rattle.lfs_model.specs.Shown.{Leads, entries_in}
+use Rattle.lfs_model.specs.TreeEdits.{renamed}
 use Rattle.lfs_model.specs.InDirectory.{entries_only}
 use Rattle.lfs_model.proofs.Changes.{Follows}
 use Rattle.lfs_model.proofs.Sites.{Site, thread_at, begin_of}

@@ -4,20 +4,22 @@ use Rattle.std.specs.Option.{option_and_then}
 use Rattle.std.proofs.lemmas.List.Elements.{recursion_from_All}
 use Rattle.std.proofs.lemmas.List.Sums.{sum_by-append, sum_by-cons}
 use Rattle.std.proofs.lemmas.Option.{same_Some}
-use Rattle.lfs_model.specs.Apply.{renamed}
+use Rattle.lfs_model.specs.TreeEdits.{renamed}
 use Rattle.lfs_model.specs.Blocks.{Blocks}
 use Rattle.lfs_model.specs.Changes.{Change, Delete, PutMove, changed_by}
 use Rattle.lfs_model.specs.Content.{RawContent, RawSlot, complete_all, completed, content_at, holder_at, raw_at}
 use Rattle.lfs_model.specs.Disk.{Disk}
 use Rattle.lfs_model.specs.History.{Event}
 use Rattle.lfs_model.specs.InDirectory.{StandsAt}
-use Rattle.lfs_model.specs.Logged.{IsMoveState}
+use Rattle.lfs_model.specs.LoggedContent.{IsMoveState}
 use Rattle.lfs_model.specs.Names.{Name, is_name}
 use Rattle.lfs_model.specs.PowerLoss.{IsLeft as IsLeftOf, Survives, with_blocks}
 use Rattle.lfs_model.specs.SlotEdits.{with_slots}
 use Rattle.lfs_model.specs.Slots.{Content, FitsPair, Gstate, Slot, gstate_xor, no_gstate, same_pair, slot_size, struct_len}
 use Rattle.lfs_model.specs.Thread.{Pair, gstate_of, next_of, starts_with_superblock}
-use Rattle.lfs_model.specs.View.{BeginsWith, IsAccepted, IsEntry, IsWritable, Leads, all_slots, superblock_entry, tree_in}
+use Rattle.lfs_model.specs.View.{BeginsWith, IsAccepted, IsEntry, superblock_entry}
+use Rattle.lfs_model.specs.Profile.{IsWritable}
+use Rattle.lfs_model.specs.Shown.{Leads, all_slots, tree_in}
 use Rattle.lfs_model.proofs.Became.{fits_same}
 use Rattle.lfs_model.proofs.Changes.{Follows, SameFiles}
 use Rattle.lfs_model.proofs.Committed.{no_move_from}

@@ -7,7 +7,9 @@ use Rattle.lfs_model.specs.Changes.{Change}
 use Rattle.lfs_model.specs.Disk.{Disk, SameGeometry}
 use Rattle.lfs_model.specs.Slots.{Content, Slot, is_superblock}
 use Rattle.lfs_model.specs.Thread.{Pair, gstate_of, starts_with_superblock, superblocks_before}
-use Rattle.lfs_model.specs.View.{FitsEntry, FitsSlot, HasSuperblock, IsAccepted, IsEntry, IsListIfCtz, all_slots, file_blocks}
+use Rattle.lfs_model.specs.Profile.{FitsEntry, FitsSlot}
+use Rattle.lfs_model.specs.View.{HasSuperblock, IsAccepted, IsEntry, IsListIfCtz}
+use Rattle.lfs_model.specs.Shown.{all_slots, file_blocks}
 use Rattle.lfs_model.proofs.Changes.{SameFiles, slots_files}
 use Rattle.lfs_model.proofs.Committed.{no_move_from}
 use Rattle.lfs_model.proofs.Counts.{Each, count, count_append, each_append, each_both, each_left, each_pieces, each_right, each_weaker}

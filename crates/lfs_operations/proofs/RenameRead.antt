@@ -12,7 +12,7 @@ use Rattle.lfs_model.specs.PowerLoss.{Survives, with_blocks}
 use Rattle.lfs_model.specs.Slots.{Content}
 use Rattle.lfs_model.specs.Thread.{Pair}
 use Rattle.lfs_model.specs.Tree.{Tree}
-use Rattle.lfs_model.specs.View.{tree_in}
+use Rattle.lfs_model.specs.Shown.{tree_in}
 use Rattle.lfs_model.proofs.Histories.{LeavesOnly-weaker, LeavesOnly-trans, LeavesOnly-reads, EachSince-behind, Stops-read}
 use Rattle.lfs_thread.specs.Device.{StopsLeave}
 use Rattle.lfs_thread.specs.Kept.{Kept, State}

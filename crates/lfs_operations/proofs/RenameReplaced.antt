@@ -1,6 +1,6 @@
 -- A rename within one pair onto a file.
 use Rattle.std.proofs.Common.{ℕ, ◌≡◌, ◌≤◌, ◌+◌, ◌⊎◌, inl, inr, true, List, [], ◌∷◌, ◌++◌, length, Some, refl, sym, ap, subst, ◌∙◌, arith, append_assoc, append-nil, length-append}
-use Rattle.lfs_model.specs.Apply.{renamed}
+use Rattle.lfs_model.specs.TreeEdits.{renamed}
 use Rattle.lfs_model.specs.Changes.{Delete}
 use Rattle.lfs_model.specs.Content.{raw_at}
 use Rattle.lfs_model.specs.Disk.{Disk}
@@ -10,7 +10,8 @@ use Rattle.lfs_model.specs.Names.{Name, is_name}
 use Rattle.lfs_model.specs.PowerLoss.{Survives}
 use Rattle.lfs_model.specs.Slots.{FitsPair, Slot, same_pair}
 use Rattle.lfs_model.specs.Thread.{Pair, blocks_of}
-use Rattle.lfs_model.specs.View.{IsEntry, Leads, file_blocks, tree_in, used_blocks}
+use Rattle.lfs_model.specs.View.{IsEntry}
+use Rattle.lfs_model.specs.Shown.{Leads, file_blocks, tree_in, used_blocks}
 use Rattle.lfs_model.proofs.Changes.{Follows}
 use Rattle.lfs_model.proofs.Committed.{IsCommit, commit_step, recovered_from}
 use Rattle.lfs_model.proofs.Counts.{Each, each_right, count}

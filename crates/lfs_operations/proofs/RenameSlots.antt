@@ -7,8 +7,9 @@ use Rattle.std.proofs.lemmas.List.{length-take-le}
 use Rattle.std.proofs.lemmas.Option.{same_Some}
 use Rattle.std.proofs.Math.Seq.{get_or-append_seam}
 use Rattle.lfs_model.specs.Changes.{PutAttribute, changed_by}
-use Rattle.lfs_model.specs.Content.{RawSlot, RawContent, complete, changed, empty_slot, kind_named, put_attribute, slot_of_id, struct_typed, file_name_type, directory_name_type}
-use Rattle.lfs_model.specs.Logged.{Ascend, HasParts, IsPart, IsPartIfSome}
+use Rattle.lfs_model.specs.Content.{RawSlot, RawContent, complete, changed, empty_slot, kind_named, put_attribute, slot_of_id, struct_typed}
+use Rattle.lfs_model.specs.EntryTypes.{file_name_type, directory_name_type}
+use Rattle.lfs_model.specs.LoggedContent.{Ascend, HasParts, IsPart, IsPartIfSome}
 use Rattle.lfs_model.specs.Names.{Name, is_name, is_component}
 use Rattle.lfs_model.specs.Slots.{Attributes, Slot, File, Directory, Superblock, is_superblock, is_superblock_kind}
 use Rattle.lfs_model.proofs.Counts.{Each, each_append, each_weaker}

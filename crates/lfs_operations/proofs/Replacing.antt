@@ -11,7 +11,9 @@ use Rattle.lfs_model.specs.Disk.{Disk, SameGeometry, block_at}
 use Rattle.lfs_model.specs.InDirectory.{Stands}
 use Rattle.lfs_model.specs.Slots.{Slot, Content, FitsPair, is_superblock, same_pair, slot_size}
 use Rattle.lfs_model.specs.Thread.{Pair, gstate_of, next_of}
-use Rattle.lfs_model.specs.View.{IsEntry, IsListIfCtz, FitsEntry, Leads, all_slots, file_blocks, used_blocks}
+use Rattle.lfs_model.specs.View.{IsEntry, IsListIfCtz}
+use Rattle.lfs_model.specs.Profile.{FitsEntry}
+use Rattle.lfs_model.specs.Shown.{Leads, all_slots, file_blocks, used_blocks}
 use Rattle.lfs_model.proofs.Committed.{no_move_from}
 use Rattle.lfs_model.proofs.Completed.{complete_set, completed_parts, completed_from}
 use Rattle.lfs_model.proofs.Counts.{Each, each_pieces, each_right, count, count_append}

@@ -3,16 +3,18 @@ use Rattle.std.proofs.Common.{ℕ, ◌≡◌, ◌≢◌, ◌&&◌, true, false, 
 use Rattle.std.specs.Prelude.{is_some}
 use Rattle.std.specs.List.{IsDistinct}
 use Rattle.std.proofs.lemmas.List.Elements.{recursion_from_All}
-use Rattle.lfs_model.specs.Apply.{planted, removed}
+use Rattle.lfs_model.specs.TreeEdits.{planted, removed}
 use Rattle.lfs_model.specs.Disk.{Disk}
 use Rattle.lfs_model.specs.Operations as ops
 use Rattle.lfs_model.specs.Session.{Session}
 use Rattle.lfs_model.specs.SlotEdits.{slot_of_path}
 use Rattle.lfs_model.specs.Slots.{Branch, Slot, Tail, is_superblock, no_gstate, same_pair}
-use Rattle.lfs_model.specs.Steps.{as_path}
+use Rattle.lfs_model.specs.Refusals.{as_path}
 use Rattle.lfs_model.specs.Thread.{Pair, blocks_of, gstate_of, is_hard, superblocks_before}
 use Rattle.lfs_model.specs.Tree.{Path}
-use Rattle.lfs_model.specs.View.{IsAccepted, IsWritable, Leads, all_slots, entries_in, tree_in, used_blocks}
+use Rattle.lfs_model.specs.View.{IsAccepted}
+use Rattle.lfs_model.specs.Profile.{IsWritable}
+use Rattle.lfs_model.specs.Shown.{Leads, all_slots, entries_in, tree_in, used_blocks}
 use Rattle.lfs_model.proofs.Alike.{alike_itself}
 use Rattle.lfs_model.proofs.Changes.{Follows, SameFiles, slots_files}
 use Rattle.lfs_model.proofs.Committed.{IsCompleted}

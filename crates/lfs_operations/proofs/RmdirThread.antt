@@ -2,7 +2,7 @@
 use Rattle.std.proofs.Common.{ℕ, ◌≡◌, ◌≢◌, ◌⊎◌, inl, inr, ◌+◌, ◌-◌, ◌<◌, ◌≤◌, true, false, nat_eq, slice_get, set, List, [], ◌∷◌, ◌++◌, length, Some, None, refl, sym, ap, ap₂, subst, ◌∙◌, arith, append_assoc, append-nil, length-append}
 use Rattle.std.specs.List.{IsDistinct}
 use Rattle.std.proofs.lemmas.List.Elements.{recursion_from_All}
-use Rattle.lfs_model.specs.Apply.{removed, planted}
+use Rattle.lfs_model.specs.TreeEdits.{removed, planted}
 use Rattle.lfs_model.specs.Blocks.{Blocks}
 use Rattle.lfs_model.specs.BlockSets.{AreUsed}
 use Rattle.lfs_model.specs.Content.{content_at, holder_at}
@@ -13,7 +13,9 @@ use Rattle.lfs_model.specs.PowerLoss.{IsLeft as IsLeftOf, with_blocks}
 use Rattle.lfs_model.specs.SlotEdits.{with_slots}
 use Rattle.lfs_model.specs.Slots.{Content, FitsPair, Gstate, Slot, gstate_xor, no_gstate, same_pair}
 use Rattle.lfs_model.specs.Thread.{Pair, blocks_of, gstate_of, is_hard, starts_with_superblock}
-use Rattle.lfs_model.specs.View.{BeginsWith, IsAccepted, IsWritable, Leads, entries_in, superblock_entry, tree_in, used_blocks}
+use Rattle.lfs_model.specs.View.{BeginsWith, IsAccepted, superblock_entry}
+use Rattle.lfs_model.specs.Profile.{IsWritable}
+use Rattle.lfs_model.specs.Shown.{Leads, entries_in, tree_in, used_blocks}
 use Rattle.lfs_model.proofs.Became.{fits_same}
 use Rattle.lfs_model.proofs.Committed.{IsCompleted, no_move_from}
 use Rattle.lfs_model.proofs.Counts.{Each, count, each_right, once_from_distinct}

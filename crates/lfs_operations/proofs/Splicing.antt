@@ -11,7 +11,9 @@ use Rattle.lfs_model.specs.Slots.{Slot, Content, FitsPair, no_gstate, gstate_xor
 use Rattle.lfs_model.specs.Content.{content_at, holder_at}
 use Rattle.lfs_model.specs.SlotEdits.{with_slots}
 use Rattle.lfs_model.specs.Thread.{Pair, blocks_of, gstate_of, starts_with_superblock}
-use Rattle.lfs_model.specs.View.{file_blocks, BeginsWith, superblock_entry, IsAccepted, IsWritable, IsEntry, IsListIfCtz, FitsSlot, all_slots, used_blocks}
+use Rattle.lfs_model.specs.Shown.{file_blocks, all_slots, used_blocks}
+use Rattle.lfs_model.specs.View.{BeginsWith, superblock_entry, IsAccepted, IsEntry, IsListIfCtz}
+use Rattle.lfs_model.specs.Profile.{IsWritable, FitsSlot}
 use Rattle.lfs_model.proofs.Became.{Became, fits_same}
 use Rattle.lfs_model.proofs.BlockSets.{Contains-count}
 use Rattle.lfs_model.proofs.Changes.{SameFiles}

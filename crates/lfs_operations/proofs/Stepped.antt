@@ -13,7 +13,9 @@ use Rattle.lfs_model.specs.PowerLoss.{IsLeft as IsLeftOf, Survives, with_blocks}
 use Rattle.lfs_model.specs.Slots.{Slot, Content, FitsPair}
 use Rattle.lfs_model.specs.Thread.{Pair, blocks_of, gstate_of}
 use Rattle.lfs_model.specs.Tree.{Tree}
-use Rattle.lfs_model.specs.View.{IsAccepted, IsWritable, FitsSlot, all_slots, tree_in, used_blocks}
+use Rattle.lfs_model.specs.View.{IsAccepted}
+use Rattle.lfs_model.specs.Profile.{IsWritable, FitsSlot}
+use Rattle.lfs_model.specs.Shown.{all_slots, tree_in, used_blocks}
 use Rattle.lfs_model.proofs.BlockSets.{Contains-count, count-Contains}
 use Rattle.lfs_model.proofs.Changes.{Follows, SameFiles}
 use Rattle.lfs_model.proofs.Files.{HasSameFile}

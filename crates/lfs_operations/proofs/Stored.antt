@@ -4,7 +4,7 @@ use Rattle.std.specs.Prelude.{All}
 use Rattle.std.specs.List.{IsDistinct}
 use Rattle.std.proofs.lemmas.Bool.{cases_lt}
 use Rattle.std.proofs.lemmas.List.Elements.{recursion_from_All}
-use Rattle.lfs_model.specs.Apply.{change_at}
+use Rattle.lfs_model.specs.TreeEdits.{change_at}
 use Rattle.lfs_model.specs.Names.{Name}
 use Rattle.lfs_model.specs.BlockSets.{IsInFlight}
 use Rattle.lfs_model.specs.BlockSets.BlockState.{InFlight, Used}
@@ -18,10 +18,12 @@ use Rattle.lfs_model.specs.PowerLoss.{Survives}
 use Rattle.lfs_model.specs.Session.{Session}
 use Rattle.lfs_model.specs.SlotEdits.{Stores}
 use Rattle.lfs_model.specs.Slots.{Slot, Struct, Inline, Ctz, Branch, Kind, File, Directory, Superblock, Attributes, is_superblock, same_pair}
-use Rattle.lfs_model.specs.Steps.{with_bytes}
+use Rattle.lfs_model.specs.Effects.{with_bytes}
 use Rattle.lfs_model.specs.Thread.{Pair, blocks_of}
 use Rattle.lfs_model.specs.Tree.{Entries, FileNode, Tree, branch_of, node_of}
-use Rattle.lfs_model.specs.View.{FitsEntry, FitsSlot, HasInline, IsEntry, Leads, Suits, all_slots, contents_in, entries_in, file_blocks, tree_in, used_blocks}
+use Rattle.lfs_model.specs.Profile.{FitsEntry, FitsSlot, HasInline}
+use Rattle.lfs_model.specs.View.{IsEntry, Suits}
+use Rattle.lfs_model.specs.Shown.{Leads, all_slots, contents_in, entries_in, file_blocks, tree_in, used_blocks}
 use Rattle.lfs_model.proofs.BlockSets.{Contains-count}
 use Rattle.lfs_model.proofs.Changes.{Follows}
 use Rattle.lfs_model.proofs.Committed.{IsCompleted, commit_step, recovered_from}

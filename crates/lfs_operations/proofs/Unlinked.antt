@@ -6,7 +6,7 @@ use Rattle.std.proofs.lemmas.List.Sums.{sum_by-append, sum_by-cons}
 use Rattle.lfs_model.specs.Blocks.{Blocks}
 use Rattle.lfs_model.specs.Changes.{Delete, PutMove, changed_by}
 use Rattle.lfs_model.specs.Content.{RawContent, completed, raw_at}
-use Rattle.lfs_model.specs.Logged.{IsMoveState}
+use Rattle.lfs_model.specs.LoggedContent.{IsMoveState}
 use Rattle.lfs_model.specs.Slots.{FitsPair, Gstate, Slot, gstate_xor, slot_size}
 use Rattle.lfs_model.specs.Thread.{Pair}
 use Rattle.lfs_model.proofs.Completed.{complete_length, complete_remove, completed_from, completed_parts}

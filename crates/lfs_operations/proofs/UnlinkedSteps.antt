@@ -7,7 +7,7 @@ use Rattle.lfs_model.specs.History.{Event, faults}
 use Rattle.lfs_model.specs.PowerLoss.{Survives}
 use Rattle.lfs_model.specs.Slots.{Content, no_gstate}
 use Rattle.lfs_model.specs.Thread.{Pair}
-use Rattle.lfs_model.specs.View.{tree_in}
+use Rattle.lfs_model.specs.Shown.{tree_in}
 use Rattle.lfs_model.proofs.Histories.{EachSince-behind, EachSince-until, LeavesOnly-trans, LeavesOnly-weaker, StayUnprogrammed-trans, StayUnprogrammed-wider}
 use Rattle.lfs_model.proofs.Overwrites.{SameButThese-trans, SameButThese-wider}
 use Rattle.lfs_thread.specs.Device.{StopsLeave, four_of, two_of}

@@ -4,7 +4,7 @@ use Rattle.std.specs.Prelude.{nat_lt}
 use Rattle.std.specs.Option.{option_and_then}
 use Rattle.std.proofs.lemmas.Bool.{ltb-false, ltb-true}
 use Rattle.std.proofs.lemmas.List.Elements.{recursion_from_All}
-use Rattle.lfs_model.specs.Apply.{removed, planted}
+use Rattle.lfs_model.specs.TreeEdits.{removed, planted}
 use Rattle.lfs_model.specs.Blocks.{Blocks}
 use Rattle.lfs_model.specs.BlockSets.{AreUsed}
 use Rattle.lfs_model.specs.Disk.{Disk}
@@ -13,7 +13,9 @@ use Rattle.lfs_model.specs.PowerLoss.{IsLeft as IsLeftOf, with_blocks}
 use Rattle.lfs_model.specs.Slots.{Content, FitsPair, Gstate, Slot, no_gstate}
 use Rattle.lfs_model.specs.Thread.{Pair, gstate_of, is_hard, starts_with_superblock}
 use Rattle.lfs_model.specs.Tree.{branch_of}
-use Rattle.lfs_model.specs.View.{IsAccepted, IsWritable, Leads, entries_in, tree_in, used_blocks}
+use Rattle.lfs_model.specs.View.{IsAccepted}
+use Rattle.lfs_model.specs.Profile.{IsWritable}
+use Rattle.lfs_model.specs.Shown.{Leads, entries_in, tree_in, used_blocks}
 use Rattle.lfs_model.proofs.Committed.{IsCompleted, no_move_from}
 use Rattle.lfs_model.proofs.Counts.{Each, count, each_right, once_from_distinct}
 use Rattle.lfs_model.proofs.Global.{HasNoMove, sync_share}

@@ -1,17 +1,18 @@
 -- An empty file that comes into a directory.
 use Rattle.std.specs.Prelude.{ℕ, ◌≡◌, true, List, [], ◌∷◌, ◌++◌}
-use Rattle.lfs_model.specs.Apply.{added}
+use Rattle.lfs_model.specs.TreeEdits.{added}
 use Rattle.lfs_model.specs.Changes.{Change, Create, PutStruct}
-use Rattle.lfs_model.specs.Content.{file_name_type, inline_struct_type}
+use Rattle.lfs_model.specs.EntryTypes.{file_name_type, inline_struct_type}
 use Rattle.lfs_model.specs.InDirectory.{BeginsAt, Belongs}
 use Rattle.lfs_model.specs.Names.{Name, is_name}
 use Rattle.lfs_model.specs.Operations as ops
 use Rattle.lfs_model.specs.Operations.{Flags}
 use Rattle.lfs_model.specs.Session.{Session}
 use Rattle.lfs_model.specs.SlotEdits.{new_file}
-use Rattle.lfs_model.specs.Steps.{as_path}
+use Rattle.lfs_model.specs.Refusals.{as_path}
 use Rattle.lfs_model.specs.Tree.{Path, Tree, FileNode}
-use Rattle.lfs_model.specs.View.{FitsEntry, Leads, tree_in}
+use Rattle.lfs_model.specs.Profile.{FitsEntry}
+use Rattle.lfs_model.specs.Shown.{Leads, tree_in}
 use Rattle.lfs_model.proofs.Committed.{IsCompleted}
 use Rattle.lfs_thread.specs.Kept.{Kept}
 use Rattle.lfs_thread.specs.Steps.{pair_in}

@@ -6,11 +6,11 @@ use Rattle.lfs_model.specs.BlockSets.{BlockSets, IsInFlight}
 use Rattle.lfs_model.specs.Changes.{Change, PutMove}
 use Rattle.lfs_model.specs.Content.{content_at}
 use Rattle.lfs_model.specs.Disk.{block_count}
-use Rattle.lfs_model.specs.Logged.{IsMoveState}
+use Rattle.lfs_model.specs.LoggedContent.{IsMoveState}
 use Rattle.lfs_model.specs.Slots.{Content, FitsPair, Gstate, Tail, gstate_xor}
 use Rattle.lfs_model.specs.Thread.{IsThread, gstate_of, is_hard}
 use Rattle.lfs_model.specs.Tree.{Tree}
-use Rattle.lfs_model.specs.View.{tree_in}
+use Rattle.lfs_model.specs.Shown.{tree_in}
 use Rattle.lfs_thread.specs.Kept.{Kept}
 use Rattle.lfs_thread.specs.Steps.{IsWrittenAs, pair_in, put_tail, with_pair, without_pair}
 use Rattle.lfs_operations.specs.Ready.{IsReadyBut}

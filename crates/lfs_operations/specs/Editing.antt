@@ -1,6 +1,6 @@
 -- An entry whose attributes change.
 use Rattle.std.specs.Prelude.{ℕ, ◌≡◌, ◌≤◌, length, List, [], ◌∷◌, ◌++◌, Some}
-use Rattle.lfs_model.specs.Apply.{attributes_of, change_at, with_attributes}
+use Rattle.lfs_model.specs.TreeEdits.{attributes_of, change_at, with_attributes}
 use Rattle.lfs_model.specs.Content.{put_attribute, without_attribute}
 use Rattle.lfs_model.specs.InDirectory.{BeginsAt, Stands}
 use Rattle.lfs_model.specs.Names.{Name}
@@ -8,9 +8,10 @@ use Rattle.lfs_model.specs.Operations as ops
 use Rattle.lfs_model.specs.Operations.{Operation}
 use Rattle.lfs_model.specs.Session.{Session}
 use Rattle.lfs_model.specs.Slots.{Attributes, Slot}
-use Rattle.lfs_model.specs.Steps.{as_path}
+use Rattle.lfs_model.specs.Refusals.{as_path}
 use Rattle.lfs_model.specs.Tree.{Path, Tree}
-use Rattle.lfs_model.specs.View.{FitsEntry, Leads, tree_in}
+use Rattle.lfs_model.specs.Profile.{FitsEntry}
+use Rattle.lfs_model.specs.Shown.{Leads, tree_in}
 use Rattle.lfs_model.proofs.Committed.{IsCompleted}
 use Rattle.lfs_thread.specs.Kept.{Kept}
 use Rattle.lfs_thread.specs.Steps.{pair_in}

@@ -3,10 +3,10 @@ use Rattle.std.specs.Prelude.{ℕ, ◌≡◌, ◌<◌, ◌≤◌, ◌+◌, ◌�
 use Rattle.std.specs.List.{AllByRecursion}
 use Rattle.lfs_device.specs.declared.error.Error.{Error}
 use Rattle.lfs_device.specs.declared.error.Error.TheVariants.{Io, NoMemory}
-use Rattle.lfs_model.specs.Apply.{added}
+use Rattle.lfs_model.specs.TreeEdits.{added}
 use Rattle.lfs_model.specs.BlockSets.{BlockSets, IsFree, used_count, in_flight_count}
 use Rattle.lfs_model.specs.Changes.{Change, Create, PutMove, PutStruct, PutTail}
-use Rattle.lfs_model.specs.Content.{directory_name_type, directory_struct_type}
+use Rattle.lfs_model.specs.EntryTypes.{directory_name_type, directory_struct_type}
 use Rattle.lfs_model.specs.Disk.{entry_limit}
 use Rattle.lfs_model.specs.History.{faults}
 use Rattle.lfs_model.specs.InDirectory.{BeginsAt, Belongs, run_length}
@@ -14,11 +14,11 @@ use Rattle.lfs_model.specs.Names.{Name, is_name}
 use Rattle.lfs_model.specs.Operations as ops
 use Rattle.lfs_model.specs.Session.{Session}
 use Rattle.lfs_model.specs.Slots.{Content, FitsPair, charge_of}
-use Rattle.lfs_model.specs.Steps.{as_path}
+use Rattle.lfs_model.specs.Refusals.{as_path}
 use Rattle.lfs_model.specs.Thread.{Pair}
 use Rattle.lfs_model.specs.Tree.{Path, Tree, DirectoryNode}
-use Rattle.lfs_model.specs.View.{Leads, tree_in}
-use Rattle.lfs_model.specs.Written.{pair_bytes}
+use Rattle.lfs_model.specs.Shown.{Leads, tree_in}
+use Rattle.lfs_model.specs.WrittenContent.{pair_bytes}
 use Rattle.lfs_model.proofs.Committed.{IsCompleted}
 use Rattle.lfs_model.proofs.Global.{turned}
 use Rattle.lfs_thread.specs.Kept.{Kept, State}

@@ -8,18 +8,21 @@ use Rattle.lfs_model.specs.BlockSets.{BlockSets, IsFree}
 use Rattle.lfs_model.specs.History.{Event, faults}
 use Rattle.lfs_model.specs.PowerLoss.{Survives}
 use Rattle.lfs_model.specs.Tree.{Path, Tree, branch_of}
-use Rattle.lfs_model.specs.Apply.{renamed, rest_after}
+use Rattle.lfs_model.specs.TreeEdits.{renamed, rest_after}
 use Rattle.lfs_model.specs.Operations as ops
 use Rattle.lfs_model.specs.Session.{Session}
-use Rattle.lfs_model.specs.Steps.{as_path}
+use Rattle.lfs_model.specs.Refusals.{as_path}
 use Rattle.lfs_model.proofs.Committed.{IsCompleted}
 use Rattle.lfs_model.specs.Changes.{Change, Delete, PutMove}
 use Rattle.lfs_model.specs.InDirectory.{BeginsAt, Belongs, Stands, StandsAt}
-use Rattle.lfs_model.specs.Logged.{IsAddress}
+use Rattle.lfs_model.specs.LoggedContent.{IsAddress}
 use Rattle.lfs_model.specs.Names.{Name, is_name}
 use Rattle.lfs_model.specs.Slots.{Branch, Content, Gstate, Struct, no_gstate, gstate_xor, same_pair}
 use Rattle.lfs_model.specs.Thread.{Pair, blocks_of, directory_pairs, gstate_of, is_hard, superblocks_before}
-use Rattle.lfs_model.specs.View.{FitsEntry, directories_in, file_blocks, IsAccepted, IsWritable, Leads, set_move, tree_in, used_blocks}
+use Rattle.lfs_model.specs.Profile.{FitsEntry, IsWritable}
+use Rattle.lfs_model.specs.Shown.{directories_in, file_blocks, Leads, tree_in, used_blocks}
+use Rattle.lfs_model.specs.View.{IsAccepted}
+use Rattle.lfs_model.specs.Slots.{set_move}
 use Rattle.lfs_model.proofs.Alike.{AreAlike}
 use Rattle.lfs_model.proofs.Counts.{count}
 use Rattle.lfs_model.proofs.MoveSets.{firsts}

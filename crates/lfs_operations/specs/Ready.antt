@@ -3,10 +3,12 @@ use Rattle.std.specs.Prelude.{ℕ, ◌≡◌, ◌≤◌, ◌+◌, List, length, 
 use Rattle.lfs_model.specs.BlockSets.{AreUsed, BlockSets, IsFree, IsInFlight}
 use Rattle.lfs_model.specs.Content.{RawContent, raw_at}
 use Rattle.lfs_model.specs.Disk.{Disk, block_count}
-use Rattle.lfs_model.specs.Logged.{IsLogged}
+use Rattle.lfs_model.specs.LoggedContent.{IsLogged}
 use Rattle.lfs_model.specs.Slots.{no_gstate}
 use Rattle.lfs_model.specs.Thread.{gstate_of}
-use Rattle.lfs_model.specs.View.{IsAccepted, IsWritable, tree_in, used_blocks}
+use Rattle.lfs_model.specs.View.{IsAccepted}
+use Rattle.lfs_model.specs.Profile.{IsWritable}
+use Rattle.lfs_model.specs.Shown.{tree_in, used_blocks}
 use Rattle.lfs_model.specs.Tree.{Tree}
 use Rattle.lfs_model.proofs.Counts.{count}
 use Rattle.lfs_thread.specs.Kept.{Kept}

@@ -8,13 +8,16 @@ use Rattle.lfs_model.specs.Changes.{Change, Delete, PutMove, PutTail}
 use Rattle.lfs_model.specs.Disk.{Disk, block_count}
 use Rattle.lfs_model.specs.History.{faults}
 use Rattle.lfs_model.specs.Layout.{IsLaidOut, begin_from, onward}
-use Rattle.lfs_model.specs.Logged.{IsAddress}
+use Rattle.lfs_model.specs.LoggedContent.{IsAddress}
 use Rattle.lfs_model.specs.Operations as ops
 use Rattle.lfs_model.specs.Recovery.{AreReached}
 use Rattle.lfs_model.specs.Session.{Session}
 use Rattle.lfs_model.specs.Slots.{Gstate, Slot, Tail, gstate_xor, is_superblock, no_gstate, same_pair}
 use Rattle.lfs_model.specs.Thread.{Pair, blocks_of, directory_pairs, gstate_of, is_hard, next_of, superblocks_before}
-use Rattle.lfs_model.specs.View.{IsAccepted, IsReached, IsWritable, all_slots, set_move, tree_in, used_blocks}
+use Rattle.lfs_model.specs.View.{IsAccepted}
+use Rattle.lfs_model.specs.Shown.{IsReached, all_slots, tree_in, used_blocks}
+use Rattle.lfs_model.specs.Profile.{IsWritable}
+use Rattle.lfs_model.specs.Slots.{set_move}
 use Rattle.lfs_model.proofs.Alike.{AreAlike}
 use Rattle.lfs_model.proofs.Committed.{IsCompleted}
 use Rattle.lfs_model.proofs.Counts.{count}

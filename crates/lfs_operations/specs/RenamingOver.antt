@@ -2,7 +2,7 @@
 use Rattle.std.specs.Prelude.{ℕ, ◌≡◌, ◌≢◌, ◌⊎◌, ◌<◌, true, false, List, [], ◌∷◌, ◌++◌, length, Result, is_err, IfErr, IsErrOf}
 use Rattle.lfs_device.specs.declared.error.Error.{Error}
 use Rattle.lfs_device.specs.declared.error.Error.TheVariants.{Io, NoMemory}
-use Rattle.lfs_model.specs.Apply.{renamed}
+use Rattle.lfs_model.specs.TreeEdits.{renamed}
 use Rattle.lfs_model.specs.Changes.{Change, Delete, PutMove}
 use Rattle.lfs_model.specs.Content.{content_at}
 use Rattle.lfs_model.specs.Disk.{block_count}
@@ -12,7 +12,7 @@ use Rattle.lfs_model.specs.Names.{Name}
 use Rattle.lfs_model.specs.Slots.{Branch, Content, gstate_xor, same_pair}
 use Rattle.lfs_model.specs.Thread.{IsThread, gstate_of, is_hard}
 use Rattle.lfs_model.specs.Tree.{Path}
-use Rattle.lfs_model.specs.View.{FitsEntry}
+use Rattle.lfs_model.specs.Profile.{FitsEntry}
 use Rattle.lfs_model.proofs.Global.{sync_share}
 use Rattle.lfs_model.proofs.Renames.{rename_walk}
 use Rattle.lfs_model.proofs.StepsTaken.{IsTaken}

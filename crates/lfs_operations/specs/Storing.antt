@@ -1,18 +1,19 @@
 -- A file that gets other contents.
 use Rattle.std.specs.Prelude.{ℕ, ◌≡◌, ◌⊎◌, ◌≤◌, ◌+◌, true, nat_eq, List, [], ◌∷◌, ◌++◌, Some, None, Contains}
 use Rattle.std.specs.List.{AllByRecursion, IsDistinct}
-use Rattle.lfs_model.specs.Apply.{change_at}
+use Rattle.lfs_model.specs.TreeEdits.{change_at}
 use Rattle.lfs_model.specs.BlockSets.{IsFree, IsInFlight}
 use Rattle.lfs_model.specs.Content.{struct_typed}
-use Rattle.lfs_model.specs.Logged.{IsPart}
+use Rattle.lfs_model.specs.LoggedContent.{IsPart}
 use Rattle.lfs_model.specs.Names.{Name}
 use Rattle.lfs_model.specs.Operations as ops
 use Rattle.lfs_model.specs.Session.{Session, Writer, Writing, file_of}
 use Rattle.lfs_model.specs.SlotEdits.{Stores}
-use Rattle.lfs_model.specs.Steps.{with_bytes}
+use Rattle.lfs_model.specs.Effects.{with_bytes}
 use Rattle.lfs_model.specs.Thread.{blocks_of}
 use Rattle.lfs_model.specs.Tree.{Path, Tree, branch_of}
-use Rattle.lfs_model.specs.View.{IsListIfCtz, file_blocks, tree_in, used_blocks}
+use Rattle.lfs_model.specs.View.{IsListIfCtz}
+use Rattle.lfs_model.specs.Shown.{file_blocks, tree_in, used_blocks}
 use Rattle.lfs_model.proofs.Committed.{IsCompleted}
 use Rattle.lfs_model.proofs.Counts.{count}
 use Rattle.lfs_thread.specs.Kept.{Kept}

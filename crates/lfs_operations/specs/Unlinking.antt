@@ -12,10 +12,10 @@ use Rattle.lfs_model.specs.Names.{Name}
 use Rattle.lfs_model.specs.Operations as ops
 use Rattle.lfs_model.specs.Session.{Session}
 use Rattle.lfs_model.specs.Slots.{Branch, Content, gstate_xor, same_pair}
-use Rattle.lfs_model.specs.Steps.{as_path}
+use Rattle.lfs_model.specs.Refusals.{as_path}
 use Rattle.lfs_model.specs.Thread.{IsThread, is_hard}
 use Rattle.lfs_model.specs.Tree.{Path}
-use Rattle.lfs_model.specs.View.{tree_in}
+use Rattle.lfs_model.specs.Shown.{tree_in}
 use Rattle.lfs_model.proofs.Committed.{IsCompleted}
 use Rattle.lfs_model.proofs.Global.{sync_share}
 use Rattle.lfs_thread.specs.Kept.{Kept, State}

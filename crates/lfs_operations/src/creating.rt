@@ -2,7 +2,7 @@
 
 ghost use Rattle.std.specs.Prelude.{◌≡◌, false, OnOk};
 ghost use Rattle.lfs_model.specs.PowerLoss.{Survives};
-ghost use Rattle.lfs_model.specs.View.{tree_in};
+ghost use Rattle.lfs_model.specs.Shown.{tree_in};
 ghost use Rattle.lfs_operations.specs.Changing.{TellsPut, WritesIn};
 ghost use Rattle.lfs_operations.specs.Creating.{CanCreate, IsCreated, file_changes, with_file};
 

@@ -4,7 +4,7 @@ ghost use Rattle.std.specs.Prelude.{◌≡◌, ◌∷◌, [], false, OnOk};
 ghost use Rattle.lfs_model.specs.Changes.{PutAttribute};
 ghost use Rattle.lfs_model.specs.Content.{put_attribute, without_attribute};
 ghost use Rattle.lfs_model.specs.PowerLoss.{Survives};
-ghost use Rattle.lfs_model.specs.View.{tree_in};
+ghost use Rattle.lfs_model.specs.Shown.{tree_in};
 ghost use Rattle.lfs_thread.specs.Device.{two_of};
 ghost use Rattle.lfs_thread.specs.Steps.{Writes, pair_in};
 ghost use Rattle.lfs_operations.specs.Changing.{TellsPut, WritesIn};

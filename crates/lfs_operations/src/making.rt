@@ -5,7 +5,7 @@ ghost use Rattle.lfs_device.specs.Bytes.{HasBytes};
 ghost use Rattle.lfs_model.specs.Disk.{block_count};
 ghost use Rattle.lfs_model.specs.PowerLoss.{IsLeft, Survives};
 ghost use Rattle.lfs_model.specs.Slots.{address_of};
-ghost use Rattle.lfs_model.specs.View.{tree_in};
+ghost use Rattle.lfs_model.specs.Shown.{tree_in};
 ghost use Rattle.lfs_model.proofs.Global.{turned};
 ghost use Rattle.lfs_tag.specs.FieldsSeen.{move_seen};
 ghost use Rattle.lfs_thread.specs.Device.{StopsLeave, four_of, two_of};

@@ -2,12 +2,13 @@
 
 ghost use Rattle.std.specs.Prelude.{ℕ, ◌≡◌, ◌<◌, ◌+◌, ◌-◌, ◌&&◌, false, OnOk, length, if◌then◌else◌, IfNone, IfSome, Option};
 ghost use Rattle.std.specs.Option.{option_map};
-ghost use Rattle.lfs_model.specs.Logged.{IsAddress};
+ghost use Rattle.lfs_model.specs.LoggedContent.{IsAddress};
 ghost use Rattle.lfs_model.specs.PowerLoss.{Survives};
 ghost use Rattle.lfs_model.specs.Recovery.{IsRecovered};
 ghost use Rattle.lfs_model.specs.Slots.{Gstate, address_of, gstate_xor, no_gstate, same_pair};
 ghost use Rattle.lfs_model.specs.Thread.{blocks_of, gstate_of, is_hard};
-ghost use Rattle.lfs_model.specs.View.{IsAccepted, tree_in};
+ghost use Rattle.lfs_model.specs.View.{IsAccepted};
+ghost use Rattle.lfs_model.specs.Shown.{tree_in};
 ghost use Rattle.lfs_model.specs.InDirectory.{BeginsAt};
 ghost use Rattle.lfs_model.proofs.Global.{HasNoMove};
 ghost use Rattle.std.specs.List.{AllByRecursion};

@@ -2,7 +2,7 @@
 
 ghost use Rattle.std.specs.Prelude.{◌≡◌, ◌<◌, length, false, OnOk};
 ghost use Rattle.lfs_model.specs.PowerLoss.{Survives};
-ghost use Rattle.lfs_model.specs.View.{tree_in};
+ghost use Rattle.lfs_model.specs.Shown.{tree_in};
 ghost use Rattle.lfs_thread.specs.Device.{two_of};
 ghost use Rattle.lfs_thread.specs.Steps.{Writes};
 ghost use Rattle.lfs_operations.specs.Editing.{slot_at};

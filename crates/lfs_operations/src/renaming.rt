@@ -3,7 +3,7 @@
 ghost use Rattle.std.specs.Prelude.{◌≡◌, ◌∷◌, IfOk, OnOk, false};
 ghost use Rattle.lfs_model.specs.Changes.{Delete};
 ghost use Rattle.lfs_model.specs.PowerLoss.{Survives};
-ghost use Rattle.lfs_model.specs.View.{tree_in};
+ghost use Rattle.lfs_model.specs.Shown.{tree_in};
 ghost use Rattle.lfs_pair.specs.ChangeSeen.{changes_seen};
 ghost use Rattle.lfs_operations.specs.Changing.{WritesIn};
 ghost use Rattle.lfs_operations.specs.Renaming.{CanRename, CanRenameOnto, IsRenamed, IsRenamedOnto, TellsMove, place_without, rename_changes, rename_onto_changes, with_renamed};

@@ -4,8 +4,8 @@ use Rattle.lfs_model.specs.Blocks.{Blocks, block_in, SameBut}
 use Rattle.lfs_model.specs.Geometry.{IsGeometry}
 use Rattle.lfs_model.specs.Content.{RawContent, no_content}
 use Rattle.lfs_model.specs.Commit.{entries_size, page_end}
-use Rattle.lfs_model.specs.Written.{FitsRaw, entries_of}
-use Rattle.lfs_model.specs.Logged.{HaveNames, IsLogged, IsSound}
+use Rattle.lfs_model.specs.WrittenContent.{FitsRaw, written_entries}
+use Rattle.lfs_model.specs.LoggedContent.{HaveNames, IsLogged, IsSound}
 use Rattle.lfs_model.specs.History.{Event, event, Erase, EachSince, LeavesOnly}
 use Rattle.lfs_model.specs.Stops.{LeftByErase, ErasesCleanly, Stops}
 use Rattle.lfs_model.proofs.Appended.{appended_content}
@@ -20,12 +20,12 @@ use Rattle.lfs_pair.proofs.Committed.{Gets-has_commit}
 
 -- the commit, in a buffer of a block
 abbrev pub anew : (size page revision : ℕ) → RawContent → Building
-anew size page revision c = record { page = page; room = size; previous = 0xffffffff; revision = Some revision; entries = entries_of c }
+anew size page revision c = record { page = page; room = size; previous = 0xffffffff; revision = Some revision; entries = written_entries c }
 
-pub is_anew : {b started : Building} {size page revision room paged previous : ℕ} (c : RawContent) → b ≡ with_entries (entries_of c) started
+pub is_anew : {b started : Building} {size page revision room paged previous : ℕ} (c : RawContent) → b ≡ with_entries (written_entries c) started
     → started ≡ record { page = paged; room = room; previous = previous; revision = Some revision; entries = [] } → room ≡ size → paged ≡ page → previous ≡ 0xffffffff → b ≡ anew size page revision c
 is_anew {size = size} {page = page} {revision = revision} {room = room} {paged = paged} {previous = previous} c pushed start long pages before =
-    pushed ∙ ap (with_entries (entries_of c)) (start
+    pushed ∙ ap (with_entries (written_entries c)) (start
     ∙ ap (λ n. record { page = paged; room = n; previous = previous; revision = Some revision; entries = [] }) long
     ∙ ap (λ n. record { page = n; room = size; previous = previous; revision = Some revision; entries = [] }) pages
     ∙ ap (λ n. record { page = page; room = size; previous = n; revision = Some revision; entries = [] }) before)
@@ -34,7 +34,7 @@ is_anew {size = size} {page = page} {revision = revision} {room = room} {paged =
 
 anew_ends : (size page count revision : ℕ) (c : RawContent) → IsGeometry size page count → FitsRaw size page c → padded_end (anew size page revision c) ≤ size
 anew_ends size page count revision c valid fits =
-    let end = page_end-below page (4 + entries_size (entries_of c)) (page_positive page valid.power) in
+    let end = page_end-below page (4 + entries_size (written_entries c)) (page_positive page valid.power) in
     omega (arith, end, written_size c, fits.size, valid.pages, valid.no_smaller)
 
 pub anew_room : {b : Building} {size page count revision : ℕ} {c : RawContent} → b ≡ anew size page revision c → IsGeometry size page count → FitsRaw size page c → padded_end b ≤ b.room
@@ -56,7 +56,7 @@ anew_holds {c = c} {old = old} new is sound gets =
     record {
       has_commit = Gets-has_commit got;
       revision_is = got.revision;
-      content = appended_content new [] (entries_of c) got.checksum no_content c got.commits got.class refl (entries_of-reads c sound);
+      content = appended_content new [] (written_entries c) got.checksum no_content c got.commits got.class refl (entries_of-reads c sound);
       checksum = got.checksum;
       class = got.class;
       commits = got.commits;
@@ -96,5 +96,5 @@ leaves_anew {revision = revision} {block = block} {c = c} {old = old} {mid = mid
 pub nothing_more : (n : ℕ) → 0 + n ≡ n
 nothing_more n = omega arith
 
-pub anew_end : {b : Building} {size page revision : ℕ} (c : RawContent) (end : ℕ) → end ≡ 0 + padded_end b → b ≡ anew size page revision c → end ≡ page_end page (4 + entries_size (entries_of c))
-anew_end {page = page} c end is built = is ∙ ap (λ (d : Building). 0 + padded_end d) built ∙ nothing_more (page_end page (4 + entries_size (entries_of c)))
+pub anew_end : {b : Building} {size page revision : ℕ} (c : RawContent) (end : ℕ) → end ≡ 0 + padded_end b → b ≡ anew size page revision c → end ≡ page_end page (4 + entries_size (written_entries c))
+anew_end {page = page} c end is built = is ∙ ap (λ (d : Building). 0 + padded_end d) built ∙ nothing_more (page_end page (4 + entries_size (written_entries c)))

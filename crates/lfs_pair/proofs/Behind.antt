@@ -8,7 +8,7 @@ use Rattle.lfs_device.specs.Shown.{disk_of}
 use Rattle.lfs_model.specs.Blocks.{Blocks}
 use Rattle.lfs_model.specs.Disk.{Disk}
 use Rattle.lfs_model.specs.Slots.{FitsPair}
-use Rattle.lfs_model.specs.Written.{FitsRaw}
+use Rattle.lfs_model.specs.WrittenContent.{FitsRaw}
 use Rattle.lfs_model.specs.History.{Event, EachSince, OnlyReads}
 use Rattle.lfs_model.specs.Changes.{Change}
 use Rattle.lfs_model.proofs.Histories.{EachSince-behind, erases-reads, programs-reads}
@@ -20,7 +20,7 @@ use Rattle.lfs_pair.specs.Split.{Splits}
 use Rattle.lfs_pair.proofs.Calls.{reads_none, reads_trans}
 use Rattle.lfs_pair.proofs.Changed.{some_same}
 use Rattle.lfs_model.proofs.Completed.{fits_raw}
-use Rattle.lfs_model.specs.Logged.{IsLogged}
+use Rattle.lfs_model.specs.LoggedContent.{IsLogged}
 use Rattle.lfs_model.specs.Content.{RawContent, completed}
 
 -- a commit, where its disk is known by another name

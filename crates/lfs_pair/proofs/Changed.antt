@@ -7,8 +7,8 @@ use Rattle.lfs_model.specs.Blocks.{Blocks, SameBut, block_in}
 use Rattle.lfs_model.specs.Disk.{Disk, block_at}
 use Rattle.lfs_model.specs.Log.{LogEntry, chain_of, revision_of, log_entries}
 use Rattle.lfs_model.specs.View.{BeginsWith}
-use Rattle.lfs_model.specs.Written.{FitsRaw, entries_of}
-use Rattle.lfs_model.specs.Logged.{IsLogged}
+use Rattle.lfs_model.specs.WrittenContent.{FitsRaw, written_entries}
+use Rattle.lfs_model.specs.LoggedContent.{IsLogged}
 use Rattle.std.proofs.lemmas.List.Concat.{flat_map-append}
 use Rattle.lfs_pair.proofs.Holders.{holder_is}
 use Rattle.lfs_model.specs.Content.{RawContent, has_commit, holder_at, raw_at, content_after_all, no_content, completed}
@@ -94,10 +94,10 @@ gets_first b old left e none gets h =
     ∙ first_of (flat_map (λ c. c) (earlier b.revision old)) (flat_map (λ c. c) ((b.entries ++ gets.checksum ∷ []) ∷ [])) e
     (ap (λ r. slice_get (flat_map (λ c. c) (earlier r old)) 0) none ∙ h)
 
-holds_first : (revision : ℕ) (c : RawContent) (block : List ℕ) (e : LogEntry) → Holds revision c block → slice_get (entries_of c) 0 ≡ Some e → slice_get (log_entries block) 0 ≡ Some e
+holds_first : (revision : ℕ) (c : RawContent) (block : List ℕ) (e : LogEntry) → Holds revision c block → slice_get (written_entries c) 0 ≡ Some e → slice_get (log_entries block) 0 ≡ Some e
 holds_first revision c block e holds h =
     ap (λ (cs : List (List LogEntry)). slice_get (flat_map (λ c. c) cs) 0) holds.commits
-    ∙ first_of (entries_of c ++ holds.checksum ∷ []) [] e (first_of (entries_of c) (holds.checksum ∷ []) e h)
+    ∙ first_of (written_entries c ++ holds.checksum ∷ []) [] e (first_of (written_entries c) (holds.checksum ∷ []) e h)
 
 -- an append in progress
 pub record IsAppending (disk : Disk) (at : ℕ × ℕ) (active other : ℕ) (held new : RawContent) (b : Building) : Type 0 where

@@ -5,7 +5,7 @@ use Rattle.std.proofs.lemmas.List.{length-map, length-take-le}
 use Rattle.std.proofs.lemmas.List.Sums.{sum_by-cons, sum_by-take-drop, sum_by-take-le}
 use Rattle.lfs_model.specs.Disk.{pair_capacity, slot_limit}
 use Rattle.lfs_model.specs.Content.{RawSlot}
-use Rattle.lfs_model.specs.Written.{raw_slot_size}
+use Rattle.lfs_model.specs.WrittenContent.{raw_slot_size}
 use Rattle.lfs_pair.specs.Cut.{FitSlots, IsCut, CanBeCut, IsMiddle}
 
 -- a longer front is no smaller

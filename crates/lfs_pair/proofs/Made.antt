@@ -2,7 +2,7 @@
 use Rattle.std.proofs.Common.{◌≡◌, Bool, true, false, cond, List, Some, None}
 use Rattle.std.specs.Prelude.{is_some}
 use Rattle.std.specs.List.{list_all}
-use Rattle.lfs_model.specs.Logged.{IsLogged}
+use Rattle.lfs_model.specs.LoggedContent.{IsLogged}
 use Rattle.lfs_model.specs.Content.{RawContent, content_after_all}
 use Rattle.lfs_model.specs.Changes.{Change, entries_of_changes, is_storable, changed_by}
 use Rattle.lfs_model.proofs.StoredChanges.{logged_changed}

@@ -11,8 +11,8 @@ use Rattle.lfs_model.specs.History.{EachSince, Event, OnlyReads, programs}
 use Rattle.lfs_model.specs.Slots.{null_address}
 use Rattle.lfs_model.specs.Content.{RawSlot, RawContent, holder_at, raw_at}
 use Rattle.lfs_model.specs.Log.{LogEntry}
-use Rattle.lfs_model.specs.Logged.{HaveNames, HaveParts, IsLogged}
-use Rattle.lfs_model.specs.Written.{FitsRaw, raw_slot_size}
+use Rattle.lfs_model.specs.LoggedContent.{HaveNames, HaveParts, IsLogged}
+use Rattle.lfs_model.specs.WrittenContent.{FitsRaw, raw_slot_size}
 use Rattle.lfs_model.specs.Changes.{Change}
 use Rattle.lfs_model.proofs.Histories.{EachSince-until}
 use Rattle.lfs_model.proofs.Logged.{nothing_logged}

@@ -5,8 +5,8 @@ use Rattle.std.proofs.lemmas.List.{append-nil, map-append, length-map, length-ta
 use Rattle.std.proofs.lemmas.List.Concat.{flat_map-append}
 use Rattle.lfs_model.specs.Log.{LogEntry}
 use Rattle.lfs_model.specs.Content.{RawSlot}
-use Rattle.lfs_model.specs.Logged.{Ascend, HasParts, HaveParts}
-use Rattle.lfs_model.specs.Written.{attribute_entries, attribute_type, entry_with, entries_of_slot, entries_of_slots}
+use Rattle.lfs_model.specs.LoggedContent.{Ascend, HasParts, HaveParts}
+use Rattle.lfs_model.specs.WrittenContent.{attribute_entries, attribute_type, entry_with, entries_of_slot, entries_of_slots}
 use Rattle.lfs_tag.specs.Builder.{Building}
 use Rattle.lfs_tag.specs.declared.content.Attribute.{Attribute}
 use Rattle.lfs_tag.specs.ContentSeen.{attribute_seen}

@@ -2,8 +2,9 @@
 use Rattle.std.proofs.Common.{ℕ, ◌≡◌, ◌^◌, Bool, true, false, Option, Some, refl, ap, ◌∙◌}
 use Rattle.std.proofs.lemmas.Bool.{and_parts, ltb-true}
 use Rattle.std.specs.Prelude.{[], ◌∷◌, nat_lt}
-use Rattle.lfs_model.specs.Content.{RawContent, content_after_all, tail_with, pair_at}
-use Rattle.lfs_model.specs.Written.{tail_entry, named_pair, pair_bytes}
+use Rattle.lfs_model.specs.Content.{RawContent, content_after_all}
+use Rattle.lfs_model.specs.EntryTypes.{tail_with, pair_at}
+use Rattle.lfs_model.specs.WrittenContent.{tail_entry, named_pair, pair_bytes}
 use Rattle.lfs_model.specs.Changes.{PutTail, entries_of_change, is_storable}
 use Rattle.lfs_model.proofs.WrittenAnew.{pair_at-pair_bytes}
 

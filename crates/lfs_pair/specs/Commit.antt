@@ -10,13 +10,13 @@ use Rattle.lfs_model.specs.Blocks.{Blocks, SameBut, SameButThese, block_in}
 use Rattle.lfs_model.specs.Disk.{Disk, block_at, block_count}
 use Rattle.lfs_model.specs.History.{Event, StayUnprogrammed, erases, programs}
 use Rattle.lfs_model.specs.Log.{LogEntry, chain_of, log_entries, revision_of}
-use Rattle.lfs_model.specs.Logged.{HaveNames, IsLogged}
+use Rattle.lfs_model.specs.LoggedContent.{HaveNames, IsLogged}
 use Rattle.lfs_model.specs.Slots.{Content, FitsPair}
 use Rattle.lfs_model.specs.Content.{RawContent, completed, has_commit, holder_at, raw_at, content_after_all, no_content}
 use Rattle.lfs_model.specs.View.{BeginsWith}
 use Rattle.lfs_model.specs.Changes.{Change, changed_by, entries_of_changes}
 use Rattle.lfs_model.specs.Commit.{entries_size, page_end}
-use Rattle.lfs_model.specs.Written.{FitsRaw, entries_of}
+use Rattle.lfs_model.specs.WrittenContent.{FitsRaw, written_entries}
 use Rattle.lfs_model.specs.Tag.{class_of}
 use Rattle.lfs_pair.specs.Writing.{Holds}
 use Rattle.lfs_pair.specs.declared.pair.Pair.{Pair}
@@ -25,7 +25,7 @@ use Rattle.lfs_pair.specs.Pair.{IsPair, active_at, address_in}
 -- what is written anew begins with that entry
 abbrev pub BeginsAnew : Option RawContent → LogEntry → Type 0
 BeginsAnew None e = ⊥
-BeginsAnew (Some c) e = slice_get (entries_of c) 0 ≡ Some e
+BeginsAnew (Some c) e = slice_get (written_entries c) 0 ≡ Some e
 
 -- the log that holds begins as it did, where that content written anew begins so too
 abbrev pub KeepsFirst : Disk → ℕ × ℕ → Option RawContent → Disk → Type 0
@@ -105,7 +105,7 @@ pub record IsAppended (page : ℕ) (was : Pair) (changes : List Change) (old new
 pub record IsCompacted (page : ℕ) (was : Pair) (c : RawContent) (old new : Blocks) (before after : List Event) (pair : Pair) : Type 0 where
   pub active : pair.active ≢ was.active
   pub anew : Holds ((was.revision + 1) % 2 ^ 32) c (block_in new pair.active)
-  pub end : pair.end ≡ page_end page (4 + entries_size (entries_of c))
+  pub end : pair.end ≡ page_end page (4 + entries_size (written_entries c))
   pub erases : erases after ≡ erases before + 1
   pub programs : programs after ≡ programs before + 1
   pub kept : block_in new was.active ≡ block_in old was.active

@@ -1,7 +1,7 @@
 -- Where slots are cut into two parts, each for a pair of its own.
 use Rattle.std.specs.Prelude.{ℕ, ◌*◌, ◌<◌, ◌≤◌, List, take, sum_by}
 use Rattle.lfs_model.specs.Content.{RawSlot}
-use Rattle.lfs_model.specs.Written.{raw_slot_size}
+use Rattle.lfs_model.specs.WrittenContent.{raw_slot_size}
 use Rattle.lfs_model.specs.Cut.{IsCut}
 pub use Rattle.lfs_model.specs.Cut.{FitSlots, IsCut, CanBeCut}
 

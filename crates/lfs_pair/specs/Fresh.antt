@@ -5,10 +5,10 @@ use Rattle.lfs_device.specs.declared.error.Error.TheVariants.{Io, NoMemory}
 use Rattle.lfs_model.specs.Blocks.{Blocks, block_in}
 use Rattle.lfs_model.specs.Disk.{Disk, block_at}
 use Rattle.lfs_model.specs.History.{Call, Read, Program, Erase, EachSince, Event, erases, programs}
-use Rattle.lfs_model.specs.Logged.{HaveNames}
+use Rattle.lfs_model.specs.LoggedContent.{HaveNames}
 use Rattle.lfs_model.specs.Content.{RawContent, has_commit, no_content}
 use Rattle.lfs_model.specs.Changes.{Change, changed_by}
-use Rattle.lfs_model.specs.Written.{FitsRaw}
+use Rattle.lfs_model.specs.WrittenContent.{FitsRaw}
 use Rattle.lfs_pair.specs.declared.pair.Pair.{Pair}
 use Rattle.lfs_pair.specs.Writing.{Holds}
 use Rattle.lfs_pair.specs.Commit.{IsAddressOn, NowHolds}

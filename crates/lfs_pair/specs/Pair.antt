@@ -6,7 +6,7 @@ use Rattle.lfs_model.specs.History.{Event, AllUnprogrammed}
 use Rattle.lfs_model.specs.Log.{chain_of, revision_of, log_entries}
 use Rattle.lfs_model.specs.Slots.{address_of}
 use Rattle.lfs_model.specs.Content.{RawContent, has_commit, is_later, content_after_all, no_content, raw_at, completed}
-use Rattle.lfs_model.specs.Logged.{IsLogged}
+use Rattle.lfs_model.specs.LoggedContent.{IsLogged}
 use Rattle.lfs_tag.specs.ContentSeen.{tail_seen}
 use Rattle.lfs_tag.specs.FieldsSeen.{move_seen}
 use Rattle.lfs_pair.specs.declared.pair.Pair.{Pair}

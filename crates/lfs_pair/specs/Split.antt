@@ -5,9 +5,9 @@ use Rattle.lfs_model.specs.Disk.{Disk, block_at}
 use Rattle.lfs_model.specs.History.{Event, StayUnprogrammed, erases}
 use Rattle.lfs_model.specs.Slots.{no_gstate}
 use Rattle.lfs_model.specs.Content.{RawContent, has_commit, raw_at}
-use Rattle.lfs_model.specs.Logged.{IsLogged}
+use Rattle.lfs_model.specs.LoggedContent.{IsLogged}
 use Rattle.lfs_model.specs.Changes.{Change}
-use Rattle.lfs_model.specs.Written.{FitsRaw}
+use Rattle.lfs_model.specs.WrittenContent.{FitsRaw}
 use Rattle.lfs_pair.specs.Fresh.{ClearsLogs}
 use Rattle.lfs_pair.specs.declared.pair.Pair.{Pair}
 use Rattle.lfs_pair.specs.Pair.{address_in}

@@ -4,7 +4,7 @@ use Rattle.lfs_model.specs.Blocks.{Blocks, block_in, SameBut}
 use Rattle.lfs_model.specs.Tag.{class_of}
 use Rattle.lfs_model.specs.Log.{LogEntry, chain_of, revision_of, log_entries}
 use Rattle.lfs_model.specs.Content.{RawContent, has_commit, content_after_all, no_content}
-use Rattle.lfs_model.specs.Written.{entries_of}
+use Rattle.lfs_model.specs.WrittenContent.{written_entries}
 use Rattle.lfs_model.specs.Stops.{SameLog, HasNoLog}
 use Rattle.lfs_tag.specs.Builder.{Building, earlier}
 
@@ -30,7 +30,7 @@ pub record Holds (revision : ℕ) (c : RawContent) (block : List ℕ) : Type 0 w
   pub content : content_after_all no_content (log_entries block) ≡ Some c
   pub checksum : LogEntry
   pub class : class_of checksum.tag ≡ 5
-  pub commits : (chain_of block).commits ≡ (entries_of c ++ checksum ∷ []) ∷ []
+  pub commits : (chain_of block).commits ≡ (written_entries c ++ checksum ∷ []) ∷ []
 
 -- a stop while a block is erased and a content is written into it leaves its old log, or none, or the content
 abbrev pub LeftByWriting : ℕ → RawContent → List ℕ → List ℕ → Type 0

@@ -4,8 +4,9 @@ ghost use Rattle.std.specs.Prelude.{◌≡◌, ◌<◌, ◌≤◌, ◌^◌, ◌+
 ghost use Rattle.std.specs.List.{list_all};
 ghost use Rattle.std.specs.Option.{option_map};
 ghost use Rattle.lfs_model.specs.Slots.{address_of};
-ghost use Rattle.lfs_model.specs.Content.{content_after, content_after_all, tail_with as tail_with_pair};
-ghost use Rattle.lfs_model.specs.Written.{entry_with, named_pair};
+ghost use Rattle.lfs_model.specs.Content.{content_after, content_after_all};
+ghost use Rattle.lfs_model.specs.EntryTypes.{tail_with as tail_with_pair};
+ghost use Rattle.lfs_model.specs.WrittenContent.{entry_with, named_pair};
 ghost use Rattle.lfs_model.specs.Changes.{entries_of_change, entries_of_changes, is_storable, RemoveAttribute};
 ghost use Rattle.lfs_tag.specs.ContentSeen.{content_seen, tail_seen};
 ghost use Rattle.lfs_tag.specs.ContentGives.{Gives};

@@ -4,8 +4,8 @@ ghost use Rattle.std.specs.Prelude.{◌≡◌, ◌≢◌, ◌+◌, ◌/◌, ◌<
 ghost use Rattle.std.specs.List.{list_all};
 ghost use Rattle.std.specs.Option.{option_map};
 ghost use Rattle.lfs_model.specs.Slots.{address_of};
-ghost use Rattle.lfs_model.specs.Logged.{Ascend, HasParts, HaveParts, IsLogged, IsMoveState, IsPartIfSome};
-ghost use Rattle.lfs_model.specs.Written.{part_entries, attribute_entries, entries_of_slot, entries_of_slots, tail_entries, tail_entry, move_entry, move_entries, entries_of, entry_with};
+ghost use Rattle.lfs_model.specs.LoggedContent.{Ascend, HasParts, HaveParts, IsLogged, IsMoveState, IsPartIfSome};
+ghost use Rattle.lfs_model.specs.WrittenContent.{part_entries, attribute_entries, entries_of_slot, entries_of_slots, tail_entries, tail_entry, move_entry, move_entries, written_entries, entry_with};
 ghost use Rattle.lfs_model.specs.Changes.{entries_of_change, entries_of_changes, is_storable, RemoveAttribute};
 ghost use Rattle.lfs_tag.specs.ContentSeen.{part_seen, attribute_seen, slot_seen, tail_seen, content_seen};
 ghost use Rattle.lfs_tag.specs.FieldsSeen.{move_seen};
@@ -166,7 +166,7 @@ fn push_move_if_any(builder: &mut CommitBuilder<'_>, state: &MoveState)
 pub(crate) fn push_content(builder: &mut CommitBuilder<'_>, content: &Content<'_>)
     requires logged { IsLogged (content_seen content.now) }
     requires few { length (content_seen content.now).slots < 0x3ff }
-    ensures { builder.new ≡ with_entries (entries_of (content_seen content.now)) builder.old }
+    ensures { builder.new ≡ with_entries (written_entries (content_seen content.now)) builder.old }
 {
     push_slots(builder, &content.slots);
     push_tail_if_some(builder, &content.tail);

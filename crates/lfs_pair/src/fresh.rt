@@ -6,9 +6,9 @@ ghost use Rattle.lfs_device.specs.Calls.{ChangesBlock, ChangesOnly, TellsFaults}
 ghost use Rattle.lfs_model.specs.Blocks.{block_in};
 ghost use Rattle.lfs_model.specs.History.{erases};
 ghost use Rattle.lfs_model.specs.Content.{has_commit};
-ghost use Rattle.lfs_model.specs.Logged.{HaveNames, IsLogged};
+ghost use Rattle.lfs_model.specs.LoggedContent.{HaveNames, IsLogged};
 ghost use Rattle.lfs_model.specs.Slots.{address_of};
-ghost use Rattle.lfs_model.specs.Written.{FitsRaw};
+ghost use Rattle.lfs_model.specs.WrittenContent.{FitsRaw};
 ghost use Rattle.lfs_tag.specs.ContentSeen.{content_seen};
 ghost use Rattle.lfs_pair.specs.ChangeSeen.{changes_seen};
 ghost use Rattle.lfs_pair.specs.Commit.{IsAddressOn, NowHolds, blocks_of};

@@ -2,7 +2,7 @@
 
 ghost use Rattle.std.specs.Prelude.{◌≡◌, true, is_some, IfOk, IfErr, Some, length, None};
 ghost use Rattle.lfs_model.specs.Content.{no_content};
-ghost use Rattle.lfs_model.specs.Logged.{IsLogged};
+ghost use Rattle.lfs_model.specs.LoggedContent.{IsLogged};
 ghost use Rattle.lfs_tag.specs.ContentSeen.{content_seen};
 ghost use Rattle.lfs_pair.specs.ChangeSeen.{changes_seen};
 ghost use Rattle.lfs_pair.specs.Commit.{made_of, made_in};

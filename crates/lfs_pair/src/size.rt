@@ -4,7 +4,7 @@ ghost use Rattle.std.specs.Prelude.{◌≡◌, ℕ, ◌+◌, ◌-◌, ◌^◌, �
 ghost use Rattle.std.specs.Option.{option_map};
 ghost use Rattle.lfs_model.specs.Disk.{pair_capacity};
 ghost use Rattle.lfs_model.specs.Slots.{attributes_size};
-ghost use Rattle.lfs_model.specs.Written.{part_size, raw_slot_size, raw_size, FitsRaw};
+ghost use Rattle.lfs_model.specs.WrittenContent.{part_size, raw_slot_size, raw_size, FitsRaw};
 ghost use Rattle.lfs_tag.specs.ContentSeen.{part_seen, attribute_seen, slot_seen, content_seen};
 
 use lfs_device::Geometry;

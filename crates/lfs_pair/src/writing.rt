@@ -6,10 +6,10 @@ ghost use Rattle.lfs_device.specs.Calls.{ChangesBlock, ReadsOnly, TellsFaults};
 ghost use Rattle.lfs_model.specs.Blocks.{block_in};
 ghost use Rattle.lfs_model.specs.History.{AllUnprogrammed, EachSince, LeavesOnly, erases, programs};
 ghost use Rattle.lfs_model.specs.Log.{chain_of};
-ghost use Rattle.lfs_model.specs.Logged.{HaveNames, IsLogged};
+ghost use Rattle.lfs_model.specs.LoggedContent.{HaveNames, IsLogged};
 ghost use Rattle.lfs_model.specs.Commit.{entries_size, next_at, page_end};
 ghost use Rattle.lfs_model.specs.Stops.{ErasesCleanly, Stops};
-ghost use Rattle.lfs_model.specs.Written.{FitsRaw, entries_of};
+ghost use Rattle.lfs_model.specs.WrittenContent.{FitsRaw, written_entries};
 ghost use Rattle.lfs_tag.specs.Builder.{GoesTo, padded_end};
 ghost use Rattle.lfs_tag.specs.ContentSeen.{content_seen};
 ghost use Rattle.lfs_pair.specs.Writing.{Gets, Holds, LeftByCommit, LeftByWriting, LeftInBlock};
@@ -100,7 +100,7 @@ pub(crate) fn write_anew<D: BlockDevice>(
     requires names { HaveNames (content_seen content.now).slots }
     requires fits { FitsRaw (D.geometry dev.old).block_size (D.geometry dev.old).page (content_seen content.now) }
 
-    ensures size { IfOk result (λ written. written.end ≡ page_end (D.geometry dev.old).page (4 + entries_size (entries_of (content_seen content.now)))) }
+    ensures size { IfOk result (λ written. written.end ≡ page_end (D.geometry dev.old).page (4 + entries_size (written_entries (content_seen content.now)))) }
     ensures holds { OnOk result (Holds revision (content_seen content.now) (block_in (D.blocks dev.new) block)) }
     ensures end { IfOk result (λ written. written.end ≡ (chain_of (block_in (D.blocks dev.new) block)).end) }
     ensures last { IfOk result (λ written. written.last ≡ (chain_of (block_in (D.blocks dev.new) block)).last) }

@@ -6,7 +6,7 @@ use Rattle.lfs_model.specs.Log.{log_entries}
 use Rattle.lfs_model.specs.Changes.{Change, entries_of_changes, is_storable}
 use Rattle.lfs_pair.specs.Commit.{made_of, made_in}
 use Rattle.lfs_model.specs.Content.{RawSlot, RawContent, content_after_all, no_content}
-use Rattle.lfs_model.specs.Logged.{HaveNames}
+use Rattle.lfs_model.specs.LoggedContent.{HaveNames}
 
 pub names_more : (xs : List RawSlot) (x : RawSlot) → HaveNames xs → is_some x.name ≡ true → HaveNames (xs ++ x ∷ [])
 names_more [] x h n = (n, tt)

@@ -4,8 +4,8 @@ use Rattle.lfs_model.specs.Disk.{Disk, block_count}
 use Rattle.lfs_model.specs.History.{Event}
 use Rattle.lfs_model.specs.Content.{RawContent, no_content}
 use Rattle.lfs_model.specs.Changes.{Change, changed_by}
-use Rattle.lfs_model.specs.Logged.{HaveNames}
-use Rattle.lfs_model.specs.Written.{raw_size}
+use Rattle.lfs_model.specs.LoggedContent.{HaveNames}
+use Rattle.lfs_model.specs.WrittenContent.{raw_size}
 use Rattle.lfs_pair.specs.declared.pair.Pair.{Pair}
 use Rattle.lfs_pair.specs.Commit.{IsAddressOn, NowHolds}
 use Rattle.lfs_pair.specs.Cut.{IsCut}

@@ -3,8 +3,9 @@ use Rattle.std.proofs.Common.{ℕ, ◌≡◌, ◌<◌, ◌==◌, ◌&&◌, false
 use Rattle.std.proofs.lemmas.Bool.{ne_eqb}
 use Rattle.std.proofs.lemmas.Option.{same_Some}
 use Rattle.lfs_model.specs.Changes.{PutTail, changed_by}
-use Rattle.lfs_model.specs.Content.{RawContent, tail_with}
-use Rattle.lfs_model.specs.Logged.{is_null}
+use Rattle.lfs_model.specs.Content.{RawContent}
+use Rattle.lfs_model.specs.EntryTypes.{tail_with}
+use Rattle.lfs_model.specs.LoggedContent.{is_null}
 use Rattle.lfs_model.specs.Slots.{null_address}
 use Rattle.lfs_model.proofs.Effects.{does_first, does_nothing, puts_tail}
 use Rattle.lfs_pair.specs.Commit.{made_of}

@@ -2,7 +2,7 @@
 use Rattle.std.specs.Prelude.{ℕ, ◌≡◌, List, Some}
 use Rattle.lfs_model.specs.Disk.{Disk}
 use Rattle.lfs_model.specs.History.{Event}
-use Rattle.lfs_model.specs.Logged.{HaveNames}
+use Rattle.lfs_model.specs.LoggedContent.{HaveNames}
 use Rattle.lfs_model.specs.Content.{RawContent}
 use Rattle.lfs_model.specs.Changes.{Change}
 use Rattle.lfs_pair.specs.declared.pair.Pair.{Pair}

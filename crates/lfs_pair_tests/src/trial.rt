@@ -5,7 +5,7 @@ ghost use Rattle.std.specs.List.{list_all};
 ghost use Rattle.lfs_device.specs.Shown.{disk_of};
 ghost use Rattle.lfs_model.specs.Slots.{address_of};
 ghost use Rattle.lfs_model.specs.Changes.{is_storable};
-ghost use Rattle.lfs_model.specs.Logged.{HaveNames};
+ghost use Rattle.lfs_model.specs.LoggedContent.{HaveNames};
 ghost use Rattle.lfs_tag.specs.ContentSeen.{slot_seen};
 ghost use Rattle.lfs_pair.specs.ChangeSeen.{changes_seen};
 ghost use Rattle.lfs_pair_tests.specs.Kept.{CanMake, IsKept};

@@ -4,7 +4,7 @@ use Rattle.std.specs.List.{flat_map}
 use Rattle.std.specs.Fmt.{decimal}
 use Rattle.lfs_device.specs.Error.{number_of}
 use Rattle.lfs_device.specs.declared.error.Error.{Error}
-use Rattle.lfs_device.specs.declared.error.Error.TheVariants.{NoEnt, Io, BadFile, NoMemory, Busy, Exist, NotDir, IsDir, Invalid, TooBig, NoSpace, ReadOnly, NameTooLong, NotEmpty, NoAttr, Corrupt, Failed, EntryFull, Unsupported}
+use Rattle.lfs_device.specs.declared.error.Error.TheVariants.{NoEnt, Io, BadFile, NoMemory, Busy, Exist, NotDir, IsDir, Invalid, TooBig, NoSpace, ReadOnly, NameTooLong, NotEmpty, NoAttr, Corrupt, Failed, EntryFull}
 use Rattle.lfs_tree.specs.declared.finding.ListItem.{ListItem}
 use Rattle.lfs_fs.specs.declared.gstate.Gstate.{Gstate}
 use Rattle.lfs_fs.specs.declared.run.Reply.{Reply}
@@ -33,7 +33,6 @@ name_of NoAttr = codes "NoAttr"
 name_of Corrupt = codes "Corrupt"
 name_of Failed = codes "Failed"
 name_of EntryFull = codes "EntryFull"
-name_of Unsupported = codes "Unsupported"
 
 abbrev pub number_text : ℕ → List ℕ
 number_text n = codes " " ++ decimal n

@@ -33,7 +33,6 @@ fn name_of(error: Error) -> &'static [u8]
         Error::Corrupt => b"Corrupt",
         Error::Failed => b"Failed",
         Error::EntryFull => b"EntryFull",
-        Error::Unsupported => b"Unsupported",
     }
 }
 

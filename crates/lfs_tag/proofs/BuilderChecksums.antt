@@ -5,10 +5,10 @@ use Rattle.std.proofs.lemmas.Bool.Decides.{nat_tests}
 use Rattle.std.proofs.lemmas.Nat.{xor_shr}
 use Rattle.byteorder.specs.Endian.{big_number}
 use Rattle.byteorder.specs.Numbers.{big_from-take}
-use Rattle.lfs_model.specs.Tag.{IsValid, kind_of, len_of, class_of, chunk_of, size_of, carried, tag_with}
+use Rattle.lfs_model.specs.Tag.{IsValid, kind_of, len_of, class_of, chunk_of, data_size, carried, tag_with}
 use Rattle.lfs_model.specs.Log.{LogEntry, tag_at, entry_at}
 use Rattle.lfs_model.specs.Geometry.{is_page}
-use Rattle.lfs_model.specs.Content.{no_id}
+use Rattle.lfs_model.specs.EntryTypes.{no_id}
 use Rattle.lfs_model.specs.Commit.{next_at, checksum_type}
 use Rattle.lfs_tag.specs.Builder.{Building, checksum_start, padded_end}
 use Rattle.lfs_tag.proofs.BuilderCommits.{IsChecksumKind, class_of_kind}
@@ -106,7 +106,7 @@ nothing_follows block end size (Some bytes) are small is =
     rw (number, carried_is (checksum_type (Some bytes)) size (kind_cases (Some bytes)) small)
     (top_of tag (big_number 4 bytes) (checksum_type (Some bytes) % 2) (valid_is (checksum_type (Some bytes)) size (kind_cases (Some bytes)) small) (turns bytes are)) in
     let invalid : leb (2 ^ 31) (tag_at block end (carried tag)) ≡ true = grind (arith, nat_tests, high) in
-    rw invalid (either (ltb (length block) (end + 4)) (ltb (length block) (end + 4 + size_of (tag_at block end (carried tag)))) _)
+    rw invalid (either (ltb (length block) (end + 4)) (ltb (length block) (end + 4 + data_size (tag_at block end (carried tag)))) _)
   where
     told : (t : Bool) → cond t None (Some (take 4 (drop end block))) ≡ Some bytes → take 4 (drop end block) ≡ bytes
     told true h = absurd (cc)

@@ -8,7 +8,7 @@ use Rattle.std.proofs.Math.Seq.{take-append_seam, drop-append_seam}
 use Rattle.byteorder.specs.Endian.{big_number, big_bytes, little_number, little_bytes}
 use Rattle.byteorder.specs.Numbers.{big_number-reads_back, little_number-reads_back}
 use Rattle.lfs_model.specs.Crc.{crc_of}
-use Rattle.lfs_model.specs.Tag.{IsValid, kind_of, len_of, class_of, size_of, carried}
+use Rattle.lfs_model.specs.Tag.{IsValid, kind_of, len_of, class_of, data_size, carried}
 use Rattle.lfs_model.specs.Log.{LogEntry, entry_at, past, is_checksum, closes, IsCommit}
 use Rattle.lfs_model.specs.Commit.{stored, entries_size}
 use Rattle.lfs_tag.specs.BuilderKeeps.{last_tag, AreStorable}
@@ -20,7 +20,7 @@ tag_back : (tag before : ℕ) → tag ≡ bit_xor (bit_xor tag before) before
 tag_back tag before = sym (xor_assoc tag before before ∙ ap (bit_xor tag) (xor_self before) ∙ xor_zero_r tag)
 
 -- an entry is read where its tag and its bytes lie
-entry_read : (block rest : List ℕ) (at before : ℕ) (e : LogEntry) → IsValid e.tag → length e.bytes ≡ size_of e.tag → bit_xor e.tag before < 2 ^ 32
+entry_read : (block rest : List ℕ) (at before : ℕ) (e : LogEntry) → IsValid e.tag → length e.bytes ≡ data_size e.tag → bit_xor e.tag before < 2 ^ 32
     → drop at block ≡ big_bytes 4 (bit_xor e.tag before) ++ (e.bytes ++ rest) → entry_at block at before ≡ Some e
 entry_read block rest at before e valid size fits here =
     let long : length (drop at block) ≡ 4 + (length e.bytes + length rest) = ap length here ∙ omega (arith, length-append e.bytes rest) in
@@ -30,7 +30,7 @@ entry_read block rest at before e valid size fits here =
       valid = valid;
       size = size;
       within = omega (arith, long, length-drop at block);
-      bytes = sym (ap (take (size_of e.tag)) behind ∙ ap (λ (n : ℕ). take n (e.bytes ++ rest)) (sym size) ∙ take-append_seam e.bytes rest);
+      bytes = sym (ap (take (data_size e.tag)) behind ∙ ap (λ (n : ℕ). take n (e.bytes ++ rest)) (sym size) ∙ take-append_seam e.bytes rest);
     })
 
 -- one entry in front of a commit
@@ -79,7 +79,7 @@ closing block front rest pad start at tag before sum kind valid fits small size 
     let e : LogEntry = record { tag = tag; bytes = little_bytes 4 sum ++ pad } in
     let stored_tag = big_bytes 4 (bit_xor tag before) in
     let behind : drop at block ≡ stored_tag ++ (e.bytes ++ rest) = ap (λ (n : ℕ). drop n block) place ∙ sym (drop-drop (length front) start block) ∙ ap (drop (length front)) here ∙ drop-append_seam front (stored_tag ++ (e.bytes ++ rest)) in
-    let bytes_size : length e.bytes ≡ size_of tag = grind (arith, nat_tests, size, most) in
+    let bytes_size : length e.bytes ≡ data_size tag = grind (arith, nat_tests, size, most) in
     let read : entry_at block at before ≡ Some e = entry_read block rest at before e valid bytes_size fits behind in
     let sum_class : is_checksum e ≡ true = rw (class_of_kind tag kind) refl in
     let low : leb 4 (len_of tag) ≡ true = grind (arith, nat_tests, size) in

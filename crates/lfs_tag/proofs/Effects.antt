@@ -7,7 +7,8 @@ use Rattle.std.proofs.lemmas.Option.{cond_some, same_Some}
 use Rattle.std.proofs.lemmas.List.{get_or_past}
 use Rattle.lfs_model.specs.Tag.{kind_of, id_of, class_of}
 use Rattle.lfs_model.specs.Log.{LogEntry}
-use Rattle.lfs_model.specs.Content.{RawSlot, RawContent, empty_slot, slot_of_id, changed, up_to, typed, with_attribute, is_in_table, has_its_id, removes, create_type, delete_type, slots_after, content_after}
+use Rattle.lfs_model.specs.Content.{RawSlot, RawContent, empty_slot, slot_of_id, changed, up_to, typed, with_attribute, slots_after, content_after}
+use Rattle.lfs_model.specs.EntryTypes.{is_in_table, has_its_id, removes, create_type, delete_type}
 
 -- the slots before an entry and behind it
 pub data Effect (s t : List RawSlot) (e : LogEntry) : Type 0 where

@@ -6,7 +6,7 @@ use Rattle.std.proofs.lemmas.Nat.{xor_shr}
 use Rattle.std.proofs.lemmas.List.{drop-append-le, take-append-le, length-drop}
 use Rattle.byteorder.specs.Endian.{big_number}
 use Rattle.byteorder.specs.Numbers.{big_from-append}
-use Rattle.lfs_model.specs.Tag.{size_of}
+use Rattle.lfs_model.specs.Tag.{data_size}
 use Rattle.lfs_model.specs.Log.{LogEntry, with_commit, tag_at, entry_at, past, closes, IsCommit, IsChain, commit_at, chain_at, chain_of}
 use Rattle.lfs_model.proofs.Chains.{Lies, lies, commit_none, commit_space, commit_complete, chain_on, chain_none, chain_sound}
 
@@ -15,7 +15,7 @@ unfolding entry_at
 from_lies block at before e l =
     let inside : ltb (length block) (at + 4) ≡ false = le-ltb _ _ (omega (arith, l.within)) in
     let valid : leb (2 ^ 31) (tag_at block at before) ≡ false = grind (arith, nat_tests, l.tag, l.valid) in
-    let whole : ltb (length block) (at + 4 + size_of (tag_at block at before)) ≡ false = le-ltb _ _ (rw (← l.tag) (omega (arith, l.within, l.size))) in
+    let whole : ltb (length block) (at + 4 + data_size (tag_at block at before)) ≡ false = le-ltb _ _ (rw (← l.tag) (omega (arith, l.within, l.size))) in
     rw (inside, valid, whole, ← l.tag, ← l.bytes) refl
 
 tag_of_front : (front x : List ℕ) (at before : ℕ) → at + 4 ≤ length front → tag_at (front ++ x) at before ≡ tag_at front at before
@@ -36,7 +36,7 @@ lies_on front x at before e l = record {
   valid = l.valid;
   size = l.size;
   within = omega (arith, l.within, length-append front x);
-  bytes = l.bytes ∙ sym (part_of_front front x (size_of e.tag) (at + 4) (omega (arith, l.within, l.size)));
+  bytes = l.bytes ∙ sym (part_of_front front x (data_size e.tag) (at + 4) (omega (arith, l.within, l.size)));
 }
 
 pub lies_within : (front x : List ℕ) (at before : ℕ) (e : LogEntry) → past at e ≤ length front → Lies (front ++ x) at before e → Lies front at before e
@@ -45,7 +45,7 @@ lies_within front x at before e le l = record {
   valid = l.valid;
   size = l.size;
   within = le;
-  bytes = l.bytes ∙ part_of_front front x (size_of e.tag) (at + 4) (omega (arith, le, l.size));
+  bytes = l.bytes ∙ part_of_front front x (data_size e.tag) (at + 4) (omega (arith, le, l.size));
 }
 
 -- an entry within the front, whatever follows the front
@@ -131,8 +131,8 @@ unfolding entry_at
 erased_none block start at before lt erased =
     let high : bit_xor 0xffffffff before / 2 ^ 31 ≡ 1 = xor_shr 0xffffffff before 31 ∙ (let e : before / 2 ^ 31 ≡ 0 = omega arith in rw e refl) in
     let invalid : leb (2 ^ 31) (tag_at block at before) ≡ true = rw erased (grind (arith, nat_tests, high)) in
-    commit_none block start at before (rw invalid (either (ltb (length block) (at + 4)) (Some (record { tag = tag_at block at before; bytes = take (size_of (tag_at block at before)) (drop (at + 4) block) }))))
+    commit_none block start at before (rw invalid (either (ltb (length block) (at + 4)) (Some (record { tag = tag_at block at before; bytes = take (data_size (tag_at block at before)) (drop (at + 4) block) }))))
   where
-    either : (b : Bool) (o : Option LogEntry) → cond (b || (true || ltb (length block) (at + 4 + size_of (tag_at block at before)))) None o ≡ None
+    either : (b : Bool) (o : Option LogEntry) → cond (b || (true || ltb (length block) (at + 4 + data_size (tag_at block at before)))) None o ≡ None
     either true o = refl
     either false o = refl

@@ -10,7 +10,8 @@ use Rattle.std.proofs.lemmas.List.{map-append, map-set, length-map, get_or_past}
 use Rattle.lfs_model.specs.Tag.{kind_of, id_of, class_of}
 use Rattle.lfs_model.specs.Log.{LogEntry, log_entries, chain_of}
 use Rattle.lfs_model.specs.Names.{Name, name_cmp, same_name, is_same, is_less}
-use Rattle.lfs_model.specs.Content.{RawSlot, RawContent, empty_slot, slot_of_id, changed, up_to, typed, with_attribute, create_type, superblock_name_type, content_after, content_after_all, no_content}
+use Rattle.lfs_model.specs.Content.{RawSlot, RawContent, empty_slot, slot_of_id, changed, up_to, typed, with_attribute, content_after, content_after_all, no_content}
+use Rattle.lfs_model.specs.EntryTypes.{create_type, superblock_name_type}
 use Rattle.lfs_model.specs.Lookup.{entry_name, is_named, is_behind, IsFound, IsPlace}
 use Rattle.lfs_tag.specs.Find.{rank_of, entry_rank, ranks_up_to, ranks_after, ranks_after_all, is_wanted, is_skipped, is_first, first_from}
 use Rattle.lfs_tag.proofs.Effects.{Effect, rests, names, creates, deletes, structures, attributes, effect}

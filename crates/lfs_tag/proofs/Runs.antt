@@ -6,9 +6,9 @@ use Rattle.std.proofs.lemmas.Nat.{xor_mod}
 use Rattle.std.proofs.lemmas.Bool.Decides.{nat_tests}
 use Rattle.std.proofs.lemmas.List.{length-append}
 use Rattle.byteorder.specs.Endian.{big_number}
-use Rattle.lfs_model.specs.Tag.{class_of, chunk_of, size_of, carried}
+use Rattle.lfs_model.specs.Tag.{class_of, chunk_of, data_size, carried}
 use Rattle.std.specs.List.{flat_map}
-use Rattle.lfs_model.specs.Log.{LogEntry, entry_at, past, is_checksum, IsCommit, IsChain, chain_of, log_entries, IsRun, run_within, run_of}
+use Rattle.lfs_model.specs.Log.{LogEntry, entry_at, past, is_checksum, IsCommit, IsChain, chain_of, log_entries, IsRun, run_within, entries_between}
 use Rattle.lfs_model.proofs.Checksums.{xor_cancel}
 use Rattle.lfs_model.specs.Content.{has_commit}
 use Rattle.lfs_model.proofs.Chains.{lies, commit_space, chain_sound}
@@ -31,13 +31,13 @@ run_fuel (suc n) (suc m) block at before end p q =
     step : ℕ → Option LogEntry → List LogEntry
     step k o = cond (ltb at end) (option_map_or (λ e. e ∷ run_within k block (past at e) (carried e.tag) end) o []) []
 
-run_more : (block : List ℕ) (at before end : ℕ) → run_of block at before end ≡ run_within (suc (end - at)) block at before end
+run_more : (block : List ℕ) (at before end : ℕ) → entries_between block at before end ≡ run_within (suc (end - at)) block at before end
 run_more block at before end = run_fuel (end - at) (suc (end - at)) block at before end (omega arith) (omega arith)
 
-pub run_past : (block : List ℕ) (at before end : ℕ) → end ≤ at → run_of block at before end ≡ []
+pub run_past : (block : List ℕ) (at before end : ℕ) → end ≤ at → entries_between block at before end ≡ []
 run_past block at before end le = run_zero (end - at) block at before end le
 
-pub run_none : (block : List ℕ) (at before end : ℕ) → entry_at block at before ≡ None → run_of block at before end ≡ []
+pub run_none : (block : List ℕ) (at before end : ℕ) → entry_at block at before ≡ None → entries_between block at before end ≡ []
 unfolding run_within
 run_none block at before end is = run_more block at before end ∙ rw is (either (ltb at end))
   where
@@ -46,7 +46,7 @@ run_none block at before end is = run_more block at before end ∙ rw is (either
     either false = refl
 
 pub run_on : (block : List ℕ) (at before end : ℕ) (e : LogEntry) → at < end → entry_at block at before ≡ Some e
-    → run_of block at before end ≡ e ∷ run_of block (past at e) (carried e.tag) end
+    → entries_between block at before end ≡ e ∷ entries_between block (past at e) (carried e.tag) end
 unfolding run_within
 run_on block at before end e lt is =
     let inside : ltb at end ≡ true = grind (arith, nat_tests) in
@@ -58,15 +58,15 @@ run_space block at before [] end last h = omega (arith, h.0)
 run_space block at before (e ∷ es) end last h = omega (arith, run_space block (past at e) (carried e.tag) es end last h.1)
 
 -- the one run from a place to another
-pub run_is : (block : List ℕ) (at before : ℕ) (es : List LogEntry) (end last : ℕ) → IsRun block at before es end last → run_of block at before end ≡ es
+pub run_is : (block : List ℕ) (at before : ℕ) (es : List LogEntry) (end last : ℕ) → IsRun block at before es end last → entries_between block at before end ≡ es
 run_is block at before [] end last h = run_past block at before end (omega (arith, h.0))
 run_is block at before (e ∷ es) end last h =
     let after = run_space block (past at e) (carried e.tag) es end last h.1 in
     run_on block at before end e (omega (arith, after)) h.0 ∙ ap (λ (es : List LogEntry). e ∷ es) (run_is block (past at e) (carried e.tag) es end last h.1)
 
 -- what is left after the first entry
-pub run_rest : (block : List ℕ) (at before end last : ℕ) (e : LogEntry) → at < end → entry_at block at before ≡ Some e → IsRun block at before (run_of block at before end) end last
-    → IsRun block (past at e) (carried e.tag) (run_of block (past at e) (carried e.tag) end) end last
+pub run_rest : (block : List ℕ) (at before end last : ℕ) (e : LogEntry) → at < end → entry_at block at before ≡ Some e → IsRun block at before (entries_between block at before end) end last
+    → IsRun block (past at e) (carried e.tag) (entries_between block (past at e) (carried e.tag) end) end last
 run_rest block at before end last e lt is run = let whole = run_on block at before end e lt is in let r = rw whole at run in r.1
 
 -- ---- from the back
@@ -105,11 +105,11 @@ carried_mod tag lt = by_class (eqb (class_of tag) 5)
 
 -- the last entry, by what the code knows: where the run ends and what its last tag carries
 pub record Back (block : List ℕ) (at before : ℕ) (es : List LogEntry) (end last : ℕ) : Type 0 where
-  pub room : 4 + size_of (last % 2 ^ 31) ≤ end
+  pub room : 4 + data_size (last % 2 ^ 31) ≤ end
   pub within : end ≤ length block
-  pub ahead : at + 4 + size_of (last % 2 ^ 31) ≤ end
-  pub run : (start : ℕ) → start + 4 + size_of (last % 2 ^ 31) ≡ end → IsRun block at before (run_of block at before start) start (bit_xor (big_number 4 (drop start block)) (last % 2 ^ 31))
-  pub list : (start : ℕ) → start + 4 + size_of (last % 2 ^ 31) ≡ end → es ≡ run_of block at before start ++ record { tag = last % 2 ^ 31; bytes = slice_range block (start + 4) end } ∷ []
+  pub ahead : at + 4 + data_size (last % 2 ^ 31) ≤ end
+  pub run : (start : ℕ) → start + 4 + data_size (last % 2 ^ 31) ≡ end → IsRun block at before (entries_between block at before start) start (bit_xor (big_number 4 (drop start block)) (last % 2 ^ 31))
+  pub list : (start : ℕ) → start + 4 + data_size (last % 2 ^ 31) ≡ end → es ≡ entries_between block at before start ++ record { tag = last % 2 ^ 31; bytes = slice_range block (start + 4) end } ∷ []
 
 -- the tag before, from the stored one and this one
 before_is : (stored carry tag : ℕ) → tag ≡ bit_xor stored carry → carry ≡ bit_xor stored tag
@@ -121,12 +121,12 @@ back block at before es end last h lt =
     let e = r.entry in
     let l = lies block r.mid r.carry e r.is in
     let tag : last % 2 ^ 31 ≡ e.tag = ap (λ (t : ℕ). t % 2 ^ 31) r.last_is ∙ carried_mod e.tag l.valid in
-    let size : size_of (last % 2 ^ 31) ≡ length e.bytes = ap size_of tag ∙ sym l.size in
+    let size : data_size (last % 2 ^ 31) ≡ length e.bytes = ap data_size tag ∙ sym l.size in
     let after = run_space block at before r.front r.mid r.carry r.run in
-    let mid_of : (start : ℕ) → start + 4 + size_of (last % 2 ^ 31) ≡ end → start ≡ r.mid = λ start is. omega (arith, size, r.end_is, is) in
+    let mid_of : (start : ℕ) → start + 4 + data_size (last % 2 ^ 31) ≡ end → start ≡ r.mid = λ start is. omega (arith, size, r.end_is, is) in
     let carry_of : r.carry ≡ bit_xor (big_number 4 (drop r.mid block)) (last % 2 ^ 31) = rw tag (before_is (big_number 4 (drop r.mid block)) r.carry e.tag l.tag) in
     let front_is = run_is block at before r.front r.mid r.carry r.run in
-    let len : end - (r.mid + 4) ≡ size_of e.tag = omega (arith, l.size, r.end_is) in
+    let len : end - (r.mid + 4) ≡ data_size e.tag = omega (arith, l.size, r.end_is) in
     let entry_is : e ≡ record { tag = last % 2 ^ 31; bytes = slice_range block (r.mid + 4) end } = rw (tag, len, ← l.bytes) refl in
     record {
       room = omega (arith, size, r.end_is);
@@ -163,7 +163,7 @@ pub all_run : (block : List ℕ) → IsRun block 4 0xffffffff (log_entries block
 unfolding chain_of
 all_run block = chain_run block 0 4 0xffffffff (chain_of block).commits (chain_of block).end (chain_of block).last (chain_sound (length block - 4) block 0 4 0xffffffff)
 
-pub all_is : (block : List ℕ) → run_of block 4 0xffffffff (chain_of block).end ≡ log_entries block
+pub all_is : (block : List ℕ) → entries_between block 4 0xffffffff (chain_of block).end ≡ log_entries block
 all_is block = run_is block 4 0xffffffff (log_entries block) (chain_of block).end (chain_of block).last (all_run block)
 
 -- each entry takes four bytes and more

@@ -9,7 +9,8 @@ use Rattle.std.proofs.lemmas.List.Edits.{get_or-insert_below, get_or-insert_at, 
 use Rattle.lfs_model.specs.Slots.{Attributes}
 use Rattle.lfs_model.specs.Tag.{kind_of, id_of, class_of, chunk_of}
 use Rattle.lfs_model.specs.Log.{LogEntry, log_entries}
-use Rattle.lfs_model.specs.Content.{RawSlot, RawContent, empty_slot, slot_of_id, changed, up_to, typed, with_attribute, put_attribute, without_attribute, attribute_of, removes, create_type, content_after, content_after_all, no_content}
+use Rattle.lfs_model.specs.Content.{RawSlot, RawContent, empty_slot, slot_of_id, changed, up_to, typed, with_attribute, put_attribute, without_attribute, attribute_of, content_after, content_after_all, no_content}
+use Rattle.lfs_model.specs.EntryTypes.{removes, create_type}
 use Rattle.lfs_model.specs.Lookup.{bytes_typed, bytes_in}
 use Rattle.lfs_tag.specs.Search.{Verdict, Holds, Was, is_about, verdict_of, settled, found, looks, looks_after}
 use Rattle.lfs_tag.proofs.Effects.{Effect, rests, names, creates, deletes, structures, attributes, effect}

@@ -7,7 +7,8 @@ use Rattle.std.proofs.lemmas.Option.{same_Some}
 use Rattle.lfs_model.specs.Tag.{kind_of, id_of, class_of}
 use Rattle.lfs_model.specs.Log.{LogEntry, log_entries}
 use Rattle.lfs_model.specs.Slots.{Slot, Content}
-use Rattle.lfs_model.specs.Content.{RawSlot, RawContent, empty_slot, slot_of_id, changed, up_to, typed, with_attribute, is_in_table, has_its_id, create_type, delete_type, slots_after, content_after, content_after_all, no_content, tail_of, gstate_at, kind_named, struct_typed, complete_all, completed}
+use Rattle.lfs_model.specs.Content.{RawSlot, RawContent, empty_slot, slot_of_id, changed, up_to, typed, with_attribute, slots_after, content_after, content_after_all, no_content, kind_named, struct_typed, complete_all, completed}
+use Rattle.lfs_model.specs.EntryTypes.{is_in_table, has_its_id, create_type, delete_type, tail_of, gstate_at}
 use Rattle.lfs_tag.specs.declared.summary.Mark.{Mark}
 use Rattle.lfs_tag.specs.Summary.{mark_of, mark_of_id, marked, marks_up_to, no_mark, is_whole, marks_after, Outline, outline_of, outline_after, outline_after_all, no_outline}
 use Rattle.lfs_tag.proofs.Places.{map-insert, map-remove}

@@ -3,7 +3,7 @@ use Rattle.std.specs.Prelude.{◌≡◌, ◌<◌, ◌≤◌, ℕ, ◌+◌, ◌-�
 use Rattle.lfs_model.specs.Tag.{class_of, tag_with, carried}
 use Rattle.lfs_model.specs.Log.{LogEntry, chain_of, revision_of}
 use Rattle.lfs_model.specs.Commit.{entries_size, page_end, next_at, checksum_type}
-use Rattle.lfs_model.specs.Content.{no_id}
+use Rattle.lfs_model.specs.EntryTypes.{no_id}
 use Rattle.lfs_model.specs.Blocks.{overwritten}
 
 -- The entries so far, for a buffer of `room` bytes. `previous` is what the last tag before the commit carries. A block's

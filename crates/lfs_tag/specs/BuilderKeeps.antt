@@ -1,7 +1,7 @@
 -- A commit's bytes before its checksum, and what a builder keeps of them.
 use Rattle.std.specs.Prelude.{◌≡◌, ◌<◌, ◌≤◌, ℕ, ◌^◌, ◌-◌, true, false, List, [], ◌∷◌, ◌++◌, length, take, min, bit_xor, Option, Some, None, IfSome}
 use Rattle.byteorder.specs.Endian.{little_bytes}
-use Rattle.lfs_model.specs.Tag.{IsValid, size_of, carried}
+use Rattle.lfs_model.specs.Tag.{IsValid, data_size, carried}
 use Rattle.lfs_model.specs.Log.{LogEntry, is_checksum}
 use Rattle.lfs_model.specs.Commit.{stored}
 use Rattle.lfs_model.specs.Geometry.{is_page}
@@ -24,7 +24,7 @@ front_of b = revision_bytes b.revision ++ stored b.previous b.entries
 pub record IsStorable (before : ℕ) (e : LogEntry) : Type 0 where
   pub valid : IsValid e.tag
   pub other : is_checksum e ≡ false
-  pub size : length e.bytes ≡ size_of e.tag
+  pub size : length e.bytes ≡ data_size e.tag
   pub fits : bit_xor e.tag before < 2 ^ 32
 
 abbrev pub AreStorable : ℕ → List LogEntry → Type 0

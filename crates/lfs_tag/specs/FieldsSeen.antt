@@ -1,6 +1,6 @@
 -- The fields of the code, in the words of the definitions.
 use Rattle.lfs_model.specs.Slots.{Gstate, address_of}
-use Rattle.lfs_model.specs.Content.{SuperblockFields}
+use Rattle.lfs_model.specs.EntryTypes.{SuperblockFields}
 use Rattle.lfs_tag.specs.declared.fields.Superblock.{Superblock}
 use Rattle.lfs_tag.specs.declared.fields.MoveState.{MoveState}
 

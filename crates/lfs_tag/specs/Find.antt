@@ -7,7 +7,8 @@ use Rattle.std.specs.declared.cmp.Ordering.TheVariants.{Less, Equal, Greater}
 use Rattle.lfs_model.specs.Tag.{kind_of, id_of, class_of}
 use Rattle.lfs_model.specs.Log.{LogEntry}
 use Rattle.lfs_model.specs.Names.{Name, name_cmp}
-use Rattle.lfs_model.specs.Content.{RawSlot, create_type, superblock_name_type}
+use Rattle.lfs_model.specs.Content.{RawSlot}
+use Rattle.lfs_model.specs.EntryTypes.{create_type, superblock_name_type}
 use Rattle.lfs_model.specs.Lookup.{entry_name}
 
 -- how a wanted name stands to a slot's; none where the slot has no name that is looked up

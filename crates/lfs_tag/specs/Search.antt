@@ -2,7 +2,8 @@
 use Rattle.std.specs.Prelude.{ℕ, ◌+◌, ◌-◌, ◌/◌, ◌^◌, ◌==◌, ◌&&◌, ◌||◌, not, nat_lt, nat_le, if◌then◌else◌, Bool, List, [], ◌∷◌, Option, None}
 use Rattle.lfs_model.specs.Tag.{kind_of, id_of, class_of}
 use Rattle.lfs_model.specs.Log.{LogEntry}
-use Rattle.lfs_model.specs.Content.{create_type, removes, typed}
+use Rattle.lfs_model.specs.EntryTypes.{create_type, removes}
+use Rattle.lfs_model.specs.Content.{typed}
 
 -- What an entry says of an id behind it: what is held for it, its type and its bytes, or which id it was before the entry.
 pub data Verdict : Type 0 where

@@ -6,7 +6,8 @@ use Rattle.lfs_model.specs.Slots.{Gstate, no_gstate}
 use Rattle.lfs_model.specs.Slots as slots
 use Rattle.lfs_model.specs.Tag.{kind_of, id_of, class_of}
 use Rattle.lfs_model.specs.Log.{LogEntry, log_entries}
-use Rattle.lfs_model.specs.Content.{RawSlot, RawContent, create_type, delete_type, is_in_table, has_its_id, tail_of, gstate_at, content_after_all, no_content, completed}
+use Rattle.lfs_model.specs.Content.{RawSlot, RawContent, content_after_all, no_content, completed}
+use Rattle.lfs_model.specs.EntryTypes.{create_type, delete_type, is_in_table, has_its_id, tail_of, gstate_at}
 use Rattle.lfs_tag.specs.ContentSeen.{tail_seen}
 use Rattle.lfs_tag.specs.FieldsSeen.{move_seen}
 use Rattle.lfs_tag.specs.declared.summary.Mark.{Mark}

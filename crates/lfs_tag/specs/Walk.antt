@@ -1,10 +1,10 @@
 -- What is left of a walk over a log's entries.
 use Rattle.std.specs.Prelude.{List}
 use Rattle.lfs_tag.specs.declared.entries.Entries.TheInside.{Inside}
-use Rattle.lfs_model.specs.Log.{LogEntry, IsRun, run_of}
+use Rattle.lfs_model.specs.Log.{LogEntry, IsRun, entries_between}
 
 abbrev pub left : Inside → List LogEntry
-left s = run_of s.block.now s.at s.before s.end
+left s = entries_between s.block.now s.at s.before s.end
 
 pub record IsLeft (s : Inside) : Type 0 where
   pub run : IsRun s.block.now s.at s.before (left s) s.end s.last

@@ -4,9 +4,9 @@ ghost use Rattle.std.specs.Prelude.{◌≡◌, ℕ, IfSome, slice_index, ◌≢�
 ghost use Rattle.byteorder.specs.Endian.{big_bytes, little_bytes};
 ghost use Rattle.lfs_model.specs.Crc.{crc_of};
 ghost use Rattle.lfs_model.specs.Log.{LogEntry};
-ghost use Rattle.lfs_model.specs.Tag.{IsValid, class_of, size_of, tag_with, carried};
+ghost use Rattle.lfs_model.specs.Tag.{IsValid, class_of, data_size, tag_with, carried};
 ghost use Rattle.lfs_model.specs.Geometry.{is_page};
-ghost use Rattle.lfs_model.specs.Content.{no_id};
+ghost use Rattle.lfs_model.specs.EntryTypes.{no_id};
 ghost use Rattle.lfs_model.specs.Blocks.{overwritten};
 ghost use Rattle.lfs_model.specs.Commit.{checksum_type};
 ghost use Rattle.lfs_tag.specs.Builder.{with_entry, padded_end, checksum_tag as checksum_entry_tag, AreCommitted};
@@ -151,7 +151,7 @@ impl<'a> CommitBuilder<'a> {
     pub fn push(&mut self, tag: Tag, bytes: &[u8])
         requires valid { IsValid tag }
         requires other { class_of tag ≢ 5 }
-        requires bytes { length bytes.now ≡ size_of tag }
+        requires bytes { length bytes.now ≡ data_size tag }
         ensures { let entry : LogEntry = record { tag = tag; bytes = bytes.now } in
             self.new ≡ with_entry entry self.old }
     {

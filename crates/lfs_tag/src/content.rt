@@ -2,9 +2,10 @@
 
 ghost use Rattle.std.specs.Prelude.{◌≡◌, ℕ, ◌+◌, ◌≤◌, ◌<◌, ◌++◌, List, [], ◌∷◌, length, map, OnOk, IfOk, IsTrue, replicate, remove, insert, slice_set, vec_len, is_some, filter, not, ◌==◌, Some, None};
 ghost use Rattle.std.specs.Option.{option_map};
-ghost use Rattle.lfs_model.specs.Tag.{kind_of, size_of};
+ghost use Rattle.lfs_model.specs.Tag.{kind_of, data_size};
 ghost use Rattle.lfs_model.specs.Log.{LogEntry, log_entries};
-ghost use Rattle.lfs_model.specs.Content.{is_in_table, has_its_id, put_attribute, without_attribute, with_attribute, empty_slot, slot_of_id, changed, up_to, typed, tail_of, slots_after, content_after, content_after_all, no_content};
+ghost use Rattle.lfs_model.specs.EntryTypes.{is_in_table, has_its_id, tail_of};
+ghost use Rattle.lfs_model.specs.Content.{put_attribute, without_attribute, with_attribute, empty_slot, slot_of_id, changed, up_to, typed, slots_after, content_after, content_after_all, no_content};
 ghost use Rattle.lfs_tag.specs.Seen.{seen};
 ghost use Rattle.lfs_tag.specs.FieldsSeen.{move_seen};
 ghost use Rattle.lfs_tag.specs.ContentSeen.{part_seen, attribute_seen, slot_seen, tail_seen, content_seen, first_not_below};

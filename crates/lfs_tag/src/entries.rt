@@ -2,7 +2,7 @@
 
 ghost use Rattle.std.specs.Prelude.{◌≡◌, ◌+◌, ◌%◌, ◌^◌, ◌≤◌, ◌<◌, List, length, drop, slice_range, bit_xor};
 ghost use Rattle.byteorder.specs.Endian.{big_number};
-ghost use Rattle.lfs_model.specs.Tag.{size_of};
+ghost use Rattle.lfs_model.specs.Tag.{data_size};
 ghost use Rattle.std.specs.Iterator.{YieldsFirstBy, YieldsLastBy, item_count};
 ghost use Rattle.lfs_model.specs.Log.{chain_of, log_entries};
 ghost use Rattle.lfs_tag.specs.Seen.{seen};
@@ -91,9 +91,9 @@ impl<'a> Iterator for Entries<'a> {
 
 // The entry that ends at `end` and whose tag carries `last`: where it begins, and what the tag before it carries.
 fn entry_before(block: &[u8], end: usize, last: Tag) -> (usize, Tag, Entry<'_>)
-    requires room { 4 + size_of (last % 2 ^ 31) ≤ end }
+    requires room { 4 + data_size (last % 2 ^ 31) ≤ end }
     requires within { end ≤ length block.now }
-    ensures start { result.0 + 4 + size_of (last % 2 ^ 31) ≡ end }
+    ensures start { result.0 + 4 + data_size (last % 2 ^ 31) ≡ end }
     ensures before { result.1 ≡ bit_xor (big_number 4 (drop result.0 block.now)) (last % 2 ^ 31) }
     ensures tag { result.2.tag ≡ last % 2 ^ 31 }
     ensures bytes { result.2.bytes.now ≡ slice_range block.now (result.0 + 4) end }

@@ -4,8 +4,9 @@ ghost use Rattle.std.specs.Prelude.{◌≡◌, ◌^◌, ◌<◌, slice_index};
 ghost use Rattle.std.specs.List.{flat_map};
 ghost use Rattle.byteorder.specs.Endian.{little_bytes};
 ghost use Rattle.lfs_model.specs.Slots.{Ctz, address_of};
-ghost use Rattle.lfs_model.specs.Content.{pair_at, gstate_at, superblock_at, struct_typed, ctz_struct_type};
-ghost use Rattle.lfs_model.specs.Written.{pair_bytes, move_bytes, fields_bytes};
+ghost use Rattle.lfs_model.specs.EntryTypes.{pair_at, gstate_at, superblock_at, ctz_struct_type};
+ghost use Rattle.lfs_model.specs.Content.{struct_typed};
+ghost use Rattle.lfs_model.specs.WrittenContent.{pair_bytes, move_bytes, fields_bytes};
 ghost use Rattle.lfs_tag.specs.FieldsSeen.{superblock_seen, move_seen};
 
 use crate::fields::{MoveState, Superblock};

@@ -5,8 +5,9 @@ ghost use Rattle.byteorder.specs.Endian.{little_number};
 ghost use Rattle.lfs_model.specs.Disk.{file_limit};
 ghost use Rattle.lfs_model.specs.Fresh.{superblock_bytes};
 ghost use Rattle.lfs_model.specs.Slots.{Ctz, address_of, no_gstate};
-ghost use Rattle.lfs_model.specs.Content.{pair_at, gstate_at, superblock_at, struct_typed, ctz_struct_type};
-ghost use Rattle.lfs_model.specs.Written.{fields_bytes, is_no_gstate};
+ghost use Rattle.lfs_model.specs.EntryTypes.{pair_at, gstate_at, superblock_at, ctz_struct_type};
+ghost use Rattle.lfs_model.specs.Content.{struct_typed};
+ghost use Rattle.lfs_model.specs.WrittenContent.{fields_bytes, is_no_gstate};
 ghost use Rattle.lfs_tag.specs.FieldsSeen.{superblock_seen, move_seen};
 
 use byteorder::{ByteOrder, LittleEndian};

@@ -2,7 +2,7 @@
 
 ghost use Rattle.std.specs.Prelude.{◌≡◌, ℕ, ◌+◌, ◌≤◌, ◌<◌, ◌^◌, ◌↔◌, List, length, IsTrue, IfSome};
 ghost use Rattle.std.specs.Option.{option_map};
-ghost use Rattle.lfs_model.specs.Tag.{size_of};
+ghost use Rattle.lfs_model.specs.Tag.{data_size};
 ghost use Rattle.lfs_model.specs.Log.{entry_at, closes, commit_at, chain_of, revision_of, log_entries, past, IsChainOf, LogEntry};
 ghost use Rattle.lfs_model.specs.Content.{has_commit};
 ghost use Rattle.lfs_tag.specs.Seen.{seen};

@@ -4,7 +4,7 @@ ghost use Rattle.std.specs.Prelude.{◌≡◌, ℕ, ◌+◌, ◌-◌, ◌≤◌,
 ghost use Rattle.std.specs.Option.{option_copied, option_map};
 ghost use Rattle.lfs_model.specs.Log.{log_entries};
 ghost use Rattle.lfs_model.specs.Content.{RawContent, content_after_all, no_content, slot_of_id};
-ghost use Rattle.lfs_model.specs.Lookup.{bytes_at, bytes_typed};
+ghost use Rattle.lfs_model.specs.Lookup.{typed_bytes_at, bytes_typed};
 ghost use Rattle.lfs_tag.specs.ContentSeen.{part_seen};
 ghost use Rattle.lfs_tag.specs.Search.{splice_verdict, verdict_of, found, looks};
 ghost use Rattle.lfs_tag.specs.VerdictSeen.{verdict_seen};
@@ -113,7 +113,7 @@ fn bytes_typed<'a>(part: Option<Part<'a>>, kind: u16) -> Option<&'a [u8]>
 /// struct, so of another type than these have there is none. Ticks `steps` for each entry that it
 /// looks at, of which there are no more than the log has.
 pub fn get<'a>(log: &Log<'a>, kind: u16, id: u16, steps: &mut Steps) -> Option<&'a [u8]>
-    ensures held { (c : RawContent) → content_after_all no_content (log_entries log.now) ≡ Some c → option_copied result ≡ bytes_at c.slots kind id }
+    ensures held { (c : RawContent) → content_after_all no_content (log_entries log.now) ≡ Some c → option_copied result ≡ typed_bytes_at c.slots kind id }
     ensures steps { steps.new ≡ min (steps.old + looks (reverse (log_entries log.now)) kind id) (2 ^ 64 - 1) }
     ensures bound { steps.new ≤ steps.old + length (log_entries log.now) }
 {

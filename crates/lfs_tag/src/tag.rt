@@ -1,8 +1,8 @@
 // Tags.
 
 ghost use Rattle.std.specs.Prelude.{◌≡◌, ◌<◌, ◌^◌, ◌%◌, ◌↔◌, IsTrue, bit_xor};
-ghost use Rattle.lfs_model.specs.Tag.{IsValid, kind_of, id_of, len_of, class_of, chunk_of, size_of, tag_with, carried};
-ghost use Rattle.lfs_model.specs.Content.{removes};
+ghost use Rattle.lfs_model.specs.Tag.{IsValid, kind_of, id_of, len_of, class_of, chunk_of, data_size, tag_with, carried};
+ghost use Rattle.lfs_model.specs.EntryTypes.{removes};
 
 use std::marker::Model;
 
@@ -130,7 +130,7 @@ impl Tag {
 
     /// How many bytes follow the tag.
     pub fn size(self) -> usize
-        ensures { result ≡ size_of self }
+        ensures { result ≡ data_size self }
     {
         if self.removes() {
             0

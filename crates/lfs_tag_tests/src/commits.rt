@@ -1,7 +1,7 @@
 // Commits, byte for byte.
 
 ghost use Rattle.std.specs.Prelude.{◌≡◌, ◌≢◌, length};
-ghost use Rattle.lfs_model.specs.Tag.{IsValid, class_of, size_of};
+ghost use Rattle.lfs_model.specs.Tag.{IsValid, class_of, data_size};
 
 use crate::blocks::{fresh, shifting};
 use lfs_device::Error;
@@ -77,7 +77,7 @@ fn create(block: &mut [u8], name: &[u8; 1], next: [u8; 4])
 fn append(block: &mut [u8], tag: Tag, bytes: &[u8])
     requires valid { IsValid tag }
     requires other { class_of tag ≢ 5 }
-    requires bytes { length bytes.now ≡ size_of tag }
+    requires bytes { length bytes.now ≡ data_size tag }
     ensures { length block.new ≡ length block.old }
 {
     let log = Log::read(block);

@@ -1,5 +1,5 @@
 ghost use Rattle.std.specs.Prelude.{◌≡◌, length, OnOk};
-ghost use Rattle.lfs_model.specs.Lists.{IsList};
+ghost use Rattle.lfs_model.specs.SkipLists.{IsList};
 
 use lfs_alloc::BlockMap;
 use lfs_ctz::walk;

@@ -14,10 +14,11 @@ use Rattle.lfs_model.specs.BlockSets.{BlockSets, IsUsed}
 use Rattle.lfs_model.specs.Disk.{Disk, block_count}
 use Rattle.lfs_model.specs.History.{Event}
 use Rattle.lfs_model.specs.Slots.{Content, Tail, no_gstate, null_address}
-use Rattle.lfs_model.specs.Logged.{IsAddress, IsTailIfSome, is_null}
+use Rattle.lfs_model.specs.LoggedContent.{IsAddress, IsTailIfSome, is_null}
 use Rattle.lfs_model.specs.Changes.{Change, PutTail, changed_by}
 use Rattle.lfs_model.proofs.Effects.{does_first, does_nothing, ends_tail, puts_tail}
-use Rattle.lfs_model.specs.Content.{no_content, tail_with, raw_at, completed}
+use Rattle.lfs_model.specs.Content.{no_content, raw_at, completed}
+use Rattle.lfs_model.specs.EntryTypes.{tail_with}
 use Rattle.lfs_model.specs.Thread.{Pair, anchor, Links, next_of, blocks_of}
 use Rattle.lfs_model.proofs.Counts.{count, once_from_distinct}
 use Rattle.lfs_pair.specs.Pair.{address_in}

@@ -13,7 +13,7 @@ use Rattle.lfs_device.specs.Shown.{disk_of}
 use Rattle.lfs_model.specs.Disk.{Disk}
 use Rattle.lfs_model.specs.History.{Event}
 use Rattle.lfs_model.specs.Slots.{Slot, Content, FitsPair, Gstate, Tail, no_gstate}
-use Rattle.lfs_model.specs.Logged.{HaveParts, IsLogged}
+use Rattle.lfs_model.specs.LoggedContent.{HaveParts, IsLogged}
 use Rattle.lfs_model.proofs.Logged.{nothing_logged}
 use Rattle.lfs_model.specs.View.{BeginsWith, superblock_entry}
 use Rattle.lfs_model.specs.Changes.{Change}

@@ -3,7 +3,7 @@ ghost use Rattle.std.specs.Option.{option_map};
 ghost use Rattle.lfs_model.specs.Content.{content_at, holder_at};
 ghost use Rattle.lfs_model.specs.BlockSets.{AreInFlight, AreUsed, IsFree, IsInFlight, IsUsed, used_count};
 ghost use Rattle.lfs_model.specs.BlockSets.BlockState.{Free, InFlight};
-ghost use Rattle.lfs_model.specs.Lists.{IsList, bytes_of};
+ghost use Rattle.lfs_model.specs.SkipLists.{IsList, bytes_of};
 ghost use Rattle.lfs_model.specs.History.{OnlyReads, faults, reads};
 ghost use Rattle.lfs_model.specs.Slots.{address_of};
 ghost use Rattle.lfs_model.specs.Thread.{IsThread, Pair as ThreadPair, blocks_of, gstate_of, is_hard};

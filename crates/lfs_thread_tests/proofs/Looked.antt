@@ -9,7 +9,7 @@ use Rattle.lfs_model.specs.Content.{RawSlot, RawContent, completed, content_afte
 use Rattle.lfs_model.specs.Changes.{Change}
 use Rattle.lfs_model.specs.Cut.{CanBeCut, FitSlots}
 use Rattle.lfs_model.specs.Thread.{next_of}
-use Rattle.lfs_model.specs.Written.{FitsRaw}
+use Rattle.lfs_model.specs.WrittenContent.{FitsRaw}
 use Rattle.lfs_model.proofs.Completed.{completed_parts}
 use Rattle.lfs_tag.specs.ContentSeen.{slot_seen}
 use Rattle.lfs_tag.specs.declared.content.Slot.{Slot}

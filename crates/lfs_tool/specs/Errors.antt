@@ -4,7 +4,7 @@ use Rattle.std.specs.Fmt.{decimal}
 use Rattle.lfs_model.specs.Listing.{newline}
 use Rattle.lfs_device.specs.Error.{number_of}
 use Rattle.lfs_device.specs.declared.error.Error.{Error}
-use Rattle.lfs_device.specs.declared.error.Error.TheVariants.{NoEnt, Io, BadFile, NoMemory, Busy, Exist, NotDir, IsDir, Invalid, TooBig, NoSpace, ReadOnly, NameTooLong, NotEmpty, NoAttr, Corrupt, Failed, EntryFull, Unsupported}
+use Rattle.lfs_device.specs.declared.error.Error.TheVariants.{NoEnt, Io, BadFile, NoMemory, Busy, Exist, NotDir, IsDir, Invalid, TooBig, NoSpace, ReadOnly, NameTooLong, NotEmpty, NoAttr, Corrupt, Failed, EntryFull}
 use Rattle.lfs_tool.specs.declared.errors.ToolError.{ToolError}
 use Rattle.lfs_tool.specs.declared.errors.ToolError.TheVariants.{Fs, Input, Output}
 
@@ -27,7 +27,6 @@ name_of NoAttr = codes "NoAttr"
 name_of Corrupt = codes "Corrupt"
 name_of Failed = codes "Failed"
 name_of EntryFull = codes "EntryFull"
-name_of Unsupported = codes "Unsupported"
 
 -- `error: <name> (<number>)`
 abbrev pub error_line : Error → List ℕ

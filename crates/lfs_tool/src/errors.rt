@@ -52,7 +52,6 @@ fn line_of(error: Error) -> &'static str
         Error::Corrupt => "error: Corrupt (84)\n",
         Error::Failed => "error: Failed (200)\n",
         Error::EntryFull => "error: EntryFull (201)\n",
-        Error::Unsupported => "error: Unsupported (202)\n",
     }
 }
 

@@ -5,11 +5,11 @@ use Rattle.std.proofs.lemmas.List.Elements.{recursion_from_All}
 use Rattle.std.specs.declared.cmp.Ordering.TheVariants.{Less}
 use Rattle.lfs_model.specs.Names.{Name, is_component, name_cmp}
 use Rattle.lfs_model.specs.Tree.{Path, FileNode, DirectoryNode, Tree}
-use Rattle.lfs_model.specs.Apply.{added, with_name, with_names}
+use Rattle.lfs_model.specs.TreeEdits.{added, with_name, with_names}
 use Rattle.lfs_model.specs.Fresh.{empty_tree}
 use Rattle.lfs_model.specs.Operations.{path_bytes}
-use Rattle.lfs_model.specs.Source.{AFile, AFolder, IsTreeOf, Shows, Source, Standing, file_at, kind_given, names_of, path_in, standing}
-use Rattle.lfs_model.specs.Steps.{as_path}
+use Rattle.lfs_model.specs.Source.{AFile, AFolder, IsTreeOf, IsNodeOf, Source, Standing, file_at, kind_given, given_names, path_in, standing}
+use Rattle.lfs_model.specs.Refusals.{as_path}
 use Rattle.lfs_model.proofs.Counts.{Each, each_append, each_both, each_weaker}
 use Rattle.lfs_model.proofs.Paths.{append_step, cancel, not_longer}
 use Rattle.lfs_tool_source.specs.InMemory.{items_by}
@@ -69,22 +69,22 @@ beneath s path rest is_folder = cond is_folder (standing s path rest) (file_at s
 
 -- what stands at a name of a folder and beneath it
 abbrev ShowsName : Source → Path → Tree → Name × Bool → Type 0
-ShowsName s f new g = (rest : Path) → Shows (beneath s (path_in (path_bytes f) g.0) rest g.1) (new (f ++ g.0 ∷ rest))
+ShowsName s f new g = (rest : Path) → IsNodeOf (beneath s (path_in (path_bytes f) g.0) rest g.1) (new (f ++ g.0 ∷ rest))
 
 -- the folder has these names, and nothing else stands in it
 record IsWhole (s : Source) (f : Path) (within : List (Name × Bool)) (new : Tree) : Type 0 where
-  folder : new f ≡ Some (DirectoryNode [] (names_of within))
+  folder : new f ≡ Some (DirectoryNode [] (given_names within))
   below : Each (ShowsName s f new) within
   nothing : (m : Name) (rest : Path) → Each (λ g. m ≡ g.0 → ⊥) within → new (f ++ m ∷ rest) ≡ None
 
-whole_shows : (s : Source) (f : Path) (within : List (Name × Bool)) (new : Tree) → AreWithin (Some s) (path_bytes f) within → IsWhole s f within new → (rest : Path) → Shows (standing s (path_bytes f) rest) (new (f ++ rest))
-whole_shows s f within new w h [] = subst (Shows (Some (AFolder (names_of (s.names (path_bytes f)))))) (sym (ap new (append-nil f) ∙ h.folder))
+whole_shows : (s : Source) (f : Path) (within : List (Name × Bool)) (new : Tree) → AreWithin (Some s) (path_bytes f) within → IsWhole s f within new → (rest : Path) → IsNodeOf (standing s (path_bytes f) rest) (new (f ++ rest))
+whole_shows s f within new w h [] = subst (IsNodeOf (Some (AFolder (given_names (s.names (path_bytes f)))))) (sym (ap new (append-nil f) ∙ h.folder))
     (refl, IsPermutation-map (λ (g : Name × Bool). g.0) (s.names (path_bytes f)) within w.names, w.order.rise)
 whole_shows s f within new w h (m ∷ rest) =
-    subst (λ k. Shows (option_and_then (beneath s (path_in (path_bytes f) m) rest) k) (new (f ++ m ∷ rest))) (sym (kind_moved (s.names (path_bytes f)) within w.names (rising_from (names_of within) w.order.rise) m)) (go (kind_given m within) refl)
+    subst (λ k. IsNodeOf (option_and_then (beneath s (path_in (path_bytes f) m) rest) k) (new (f ++ m ∷ rest))) (sym (kind_moved (s.names (path_bytes f)) within w.names (rising_from (given_names within) w.order.rise) m)) (go (kind_given m within) refl)
   where
-    go : (o : Option Bool) → kind_given m within ≡ o → Shows (option_and_then (beneath s (path_in (path_bytes f) m) rest) o) (new (f ++ m ∷ rest))
-    go None e = subst (Shows None) (sym (h.nothing m rest (none_given m within e))) tt
+    go : (o : Option Bool) → kind_given m within ≡ o → IsNodeOf (option_and_then (beneath s (path_in (path_bytes f) m) rest) o) (new (f ++ m ∷ rest))
+    go None e = subst (IsNodeOf None) (sym (h.nothing m rest (none_given m within e))) tt
     go (Some k) e = each_given (ShowsName s f new) m within k e h.below rest
 
 -- ---- what comes into a folder
@@ -93,20 +93,20 @@ whole_shows s f within new w h (m ∷ rest) =
 record IsBegun (s : Source) (f : Path) (ns : List Name) (gs : List (Name × Bool)) (es : List Entry) (t : Tree) : Type 0 where
   read : AreRead (Some s) (places_in (path_bytes f) gs) es
   folder : t f ≡ Some (DirectoryNode [] ns)
-  rising : Rising (ns ++ names_of gs)
+  rising : Rising (ns ++ given_names gs)
   path : AreComponents f
   components : Each (λ g. is_component g.0 ≡ true) gs
   empty : Each (λ g. (rest : Path) → t (f ++ g.0 ∷ rest) ≡ None) gs
 
 record HasGrown (s : Source) (f : Path) (ns : List Name) (gs : List (Name × Bool)) (es : List Entry) (t : Tree) : Type 0 where
-  folder : tree_after es t f ≡ Some (DirectoryNode [] (ns ++ names_of gs))
+  folder : tree_after es t f ≡ Some (DirectoryNode [] (ns ++ given_names gs))
   below : Each (ShowsName s f (tree_after es t)) gs
   others : (q : Path) → (q ≡ f → ⊥) → Each (λ g. (rest : Path) → q ≡ f ++ g.0 ∷ rest → ⊥) gs → tree_after es t q ≡ t q
   new : AreNew es t
 
 -- What comes at a path and beneath it.
 record HasCome (s : Source) (p : Path) (is_folder : Bool) (es : List Entry) (t : Tree) : Type 0 where
-  below : (rest : Path) → Shows (beneath s (path_bytes p) rest is_folder) (tree_after es t (p ++ rest))
+  below : (rest : Path) → IsNodeOf (beneath s (path_bytes p) rest is_folder) (tree_after es t (p ++ rest))
   others : (q : Path) → ((rest : Path) → q ≡ p ++ rest → ⊥) → tree_after es t q ≡ t q
   new : AreNew es t
 
@@ -114,9 +114,9 @@ abbrev Grows : ℕ → Type 0
 Grows n = (s : Source) (f : Path) (ns : List Name) (gs : List (Name × Bool)) (es : List Entry) (t : Tree) → length es ≤ n → IsBegun s f ns gs es t → HasGrown s f ns gs es t
 
 a_file : (s : Source) (p : Path) (bytes : List ℕ) (t : Tree) → bytes ≡ s.bytes (path_bytes p) → t p ≡ Some (FileNode [] bytes) → ((m : Name) (rest : Path) → t (p ++ m ∷ rest) ≡ None)
-    → (rest : Path) → Shows (file_at s (path_bytes p) rest) (t (p ++ rest))
-a_file s p bytes t is there none [] = subst (Shows (Some (AFile (s.bytes (path_bytes p))))) (sym (ap t (append-nil p) ∙ there)) (refl, is)
-a_file s p bytes t is there none (m ∷ rest) = subst (Shows None) (sym (none m rest)) tt
+    → (rest : Path) → IsNodeOf (file_at s (path_bytes p) rest) (t (p ++ rest))
+a_file s p bytes t is there none [] = subst (IsNodeOf (Some (AFile (s.bytes (path_bytes p))))) (sym (ap t (append-nil p) ∙ there)) (refl, is)
+a_file s p bytes t is there none (m ∷ rest) = subst (IsNodeOf None) (sym (none m rest)) tt
 
 come : (n : ℕ) → Grows n → (s : Source) (p : Path) (is_folder : Bool) (o : Option (List ℕ)) (within : List (Name × Bool)) (es : List Entry) (t : Tree) → length es ≤ n → Holds (Some s) (path_bytes p) is_folder o within
     → AreRead (Some s) (places_in (path_bytes p) within) es → AreComponents p → t p ≡ Some (node_by o) → ((m : Name) (rest : Path) → t (p ++ m ∷ rest) ≡ None) → HasCome s p is_folder es t
@@ -128,9 +128,9 @@ come n ih s p true None within es t few holds read path there none =
     let k = ih s p [] within es t few (record {
       read = read;
       folder = there;
-      rising = rising_from (names_of within) holds.order.rise;
+      rising = rising_from (given_names within) holds.order.rise;
       path = path;
-      components = each_names (λ m. is_component m ≡ true) within (recursion_from_All (λ m. is_component m ≡ true) (names_of within) holds.order.components);
+      components = each_names (λ m. is_component m ≡ true) within (recursion_from_All (λ m. is_component m ≡ true) (given_names within) holds.order.components);
       empty = each_none within;
     }) in
     record {
@@ -188,7 +188,7 @@ module _ (n : ℕ) (ih : Grows n) (s : Source) (f : Path) (ns : List Name) (g : 
 
   above : one f ≡ Some (DirectoryNode [] (ns ++ g.0 ∷ []))
   above = ap (λ (u : Tree). u f) one_is ∙ added_above f g.0 (node_by (items_by e.bytes)) t ∙ ap (option_map (with_names (with_name g.0))) b.folder
-      ∙ ap (λ xs. Some (DirectoryNode [] xs)) (name_at_end g.0 ns (before_it ns g.0 (names_of gs) b.rising))
+      ∙ ap (λ xs. Some (DirectoryNode [] xs)) (name_at_end g.0 ns (before_it ns g.0 (given_names gs) b.rising))
 
   aside : (q : Path) → (q ≡ f → ⊥) → (q ≡ p → ⊥) → one q ≡ t q
   aside q x y = ap (λ (u : Tree). u q) one_is ∙ added_aside f g.0 (node_by (items_by e.bytes)) t q x y
@@ -211,7 +211,7 @@ module _ (n : ℕ) (ih : Grows n) (s : Source) (f : Path) (ns : List Name) (g : 
 
   apart : Each (λ (h : Name × Bool). g.0 ≡ h.0 → ⊥) gs
   apart = each_weaker (λ (h : Name × Bool). name_cmp g.0 h.0 ≡ Less) (λ (h : Name × Bool). g.0 ≡ h.0 → ⊥) (λ h less. less_unlike g.0 h.0 less) gs
-      (each_names (λ m. name_cmp g.0 m ≡ Less) gs (rising_right ns (g.0 ∷ names_of gs) b.rising).0)
+      (each_names (λ m. name_cmp g.0 m ≡ Less) gs (rising_right ns (g.0 ∷ given_names gs) b.rising).0)
 
   off : (h : Name × Bool) → (g.0 ≡ h.0 → ⊥) → (rest r : Path) → f ++ h.0 ∷ rest ≡ f ++ g.0 ∷ r → ⊥
   off h other rest r x = other (let y = cancel f (h.0 ∷ rest) (g.0 ∷ r) x in cc)
@@ -224,7 +224,7 @@ module _ (n : ℕ) (ih : Grows n) (s : Source) (f : Path) (ns : List Name) (g : 
   goes_on = ih s f (ns ++ g.0 ∷ []) gs k.back two back_few (record {
     read = k.second;
     folder = comes.others f (λ r x. not_longer f g.0 r (x ∙ append_step f g.0 r)) ∙ above;
-    rising = subst Rising (sym (append_assoc ns (g.0 ∷ []) (names_of gs))) b.rising;
+    rising = subst Rising (sym (append_assoc ns (g.0 ∷ []) (given_names gs))) b.rising;
     path = b.path;
     components = b.components.1;
     empty = still_none;
@@ -234,13 +234,13 @@ module _ (n : ℕ) (ih : Grows n) (s : Source) (f : Path) (ns : List Name) (g : 
   whole = ap (λ xs. tree_after xs one) k.joined ∙ tree_append k.front k.back one
 
   here : ShowsName s f (tree_after k.back two) g
-  here rest = subst (λ x. Shows (beneath s x rest g.1) (tree_after k.back two (f ++ g.0 ∷ rest))) (sym spelled_path)
-      (subst (Shows (beneath s (path_bytes p) rest g.1)) (sym (goes_on.others (f ++ g.0 ∷ rest) (λ x. not_longer f g.0 rest (sym x))
+  here rest = subst (λ x. IsNodeOf (beneath s x rest g.1) (tree_after k.back two (f ++ g.0 ∷ rest))) (sym spelled_path)
+      (subst (IsNodeOf (beneath s (path_bytes p) rest g.1)) (sym (goes_on.others (f ++ g.0 ∷ rest) (λ x. not_longer f g.0 rest (sym x))
       (each_weaker (λ (h : Name × Bool). g.0 ≡ h.0 → ⊥) (λ (h : Name × Bool). (r : Path) → f ++ g.0 ∷ rest ≡ f ++ h.0 ∷ r → ⊥) (λ h other r x. off h other r rest (sym x)) gs apart) ∙ ap two (sym (append_step f g.0 rest)))) (comes.below rest))
 
   more_grows : HasGrown s f ns (g ∷ gs) (e ∷ es) t
   more_grows = record {
-    folder = ap (λ (u : Tree). u f) whole ∙ goes_on.folder ∙ ap (λ xs. Some (DirectoryNode [] xs)) (append_assoc ns (g.0 ∷ []) (names_of gs));
+    folder = ap (λ (u : Tree). u f) whole ∙ goes_on.folder ∙ ap (λ xs. Some (DirectoryNode [] xs)) (append_assoc ns (g.0 ∷ []) (given_names gs));
     below = subst (λ (u : Tree). Each (ShowsName s f u) (g ∷ gs)) (sym whole) (here, goes_on.below);
     others = λ q away off. ap (λ (u : Tree). u q) whole ∙ goes_on.others q away off.1 ∙ comes.others q (λ r x. off.0 r (x ∙ append_step f g.0 r)) ∙ aside q away (λ x. off.0 [] x);
     new = (ap t at ∙ b.empty.0 [], subst (λ xs. AreNew xs one) (sym k.joined) (new_append k.front k.back one comes.new goes_on.new));
@@ -265,9 +265,9 @@ carried_tree s es (top, (w, read)) =
     let h = grows (length es) s [] [] top es empty_tree (omega arith) (record {
       read = read;
       folder = refl;
-      rising = rising_from (names_of top) w.order.rise;
+      rising = rising_from (given_names top) w.order.rise;
       path = tt;
-      components = each_names (λ m. is_component m ≡ true) top (recursion_from_All (λ m. is_component m ≡ true) (names_of top) w.order.components);
+      components = each_names (λ m. is_component m ≡ true) top (recursion_from_All (λ m. is_component m ≡ true) (given_names top) w.order.components);
       empty = each_none top;
     }) in
     record {

@@ -19,7 +19,9 @@ use Rattle.lfs_model.specs.Run.{AreTurns, Moment}
 use Rattle.lfs_model.specs.Session.{Session}
 use Rattle.lfs_model.specs.Source.{IsTreeOf, Source}
 use Rattle.lfs_model.specs.State.{HasFailed, Healthy, State, mounted}
-use Rattle.lfs_model.specs.View.{IsAccepted, IsWritable, tree_in}
+use Rattle.lfs_model.specs.View.{IsAccepted}
+use Rattle.lfs_model.specs.Profile.{IsWritable}
+use Rattle.lfs_model.specs.Shown.{tree_in}
 use Rattle.lfs_model.proofs.Cuts.{length-cut}
 use Rattle.lfs_model.proofs.Kept.{fresh_defined, fresh_settled, fresh_true}
 use Rattle.lfs_model.proofs.Uniqueness.{one_thread}

@@ -7,8 +7,8 @@ use Rattle.std.proofs.lemmas.List.Elements.{All-contains, All-contains_itself, A
 use Rattle.std.proofs.lemmas.List.Sorted.{Contains-permutation, IsPermutation-sym}
 use Rattle.std.proofs.lemmas.Option.{same_Some}
 use Rattle.lfs_model.specs.Names.{Name, name_cmp, same_name, is_less}
-use Rattle.lfs_model.specs.Apply.{with_name}
-use Rattle.lfs_model.specs.Source.{kind_given, names_of}
+use Rattle.lfs_model.specs.TreeEdits.{with_name}
+use Rattle.lfs_model.specs.Source.{kind_given, given_names}
 use Rattle.lfs_model.proofs.Counts.{Each, each_both, each_right}
 use Rattle.lfs_model.proofs.Names.{greater}
 use Rattle.lfs_model.proofs.Paths.{Names, alike, unlike, names, name_itself, same_itself, unlike_test}
@@ -43,7 +43,7 @@ name_at_end n (m ∷ ns) h = ap (λ b. cond b (n ∷ m ∷ ns) (m ∷ with_name 
 pub less_unlike : (a b : Name) → name_cmp a b ≡ Less → a ≡ b → ⊥
 less_unlike a b h e = let f = sym h ∙ ap (name_cmp a) (sym e) ∙ name_itself a in cc
 
-pub each_names : (P : Name → Type 0) (gs : List (Name × Bool)) → Each P (names_of gs) → Each (λ g. P g.0) gs
+pub each_names : (P : Name → Type 0) (gs : List (Name × Bool)) → Each P (given_names gs) → Each (λ g. P g.0) gs
 each_names P [] h = tt
 each_names P (g ∷ gs) h = (h.0, each_names P gs h.1)
 
@@ -74,7 +74,7 @@ none_given m (g ∷ gs) e = go (names m g.0) (none_given m gs)
     go (alike is same) next = absurd (let f = sym (kind_first m g gs same) ∙ e in cc)
     go (unlike apart other) next = (apart, next (sym (kind_past m g gs other) ∙ e))
 
-pub each_found : (gs : List (Name × Bool)) → Rising (names_of gs) → Each (λ g. kind_given g.0 gs ≡ Some g.1) gs
+pub each_found : (gs : List (Name × Bool)) → Rising (given_names gs) → Each (λ g. kind_given g.0 gs ≡ Some g.1) gs
 each_found [] h = tt
 each_found (g ∷ gs) h = (
   kind_first g.0 g gs (same_itself g.0),
@@ -83,7 +83,7 @@ each_found (g ∷ gs) h = (
 )
 
 -- names that come once have their kinds in any order
-pub kind_moved : (xs ys : List (Name × Bool)) → IsPermutation xs ys → Rising (names_of ys) → (m : Name) → kind_given m xs ≡ kind_given m ys
+pub kind_moved : (xs ys : List (Name × Bool)) → IsPermutation xs ys → Rising (given_names ys) → (m : Name) → kind_given m xs ≡ kind_given m ys
 kind_moved xs ys moved rising m = go (kind_given m xs) refl
   where
     itself : (zs : List (Name × Bool)) (k : Bool) → kind_given m zs ≡ Some k → Contains zs (m, k)

@@ -6,10 +6,10 @@ use Rattle.std.proofs.lemmas.Bool.{and_from}
 use Rattle.std.proofs.lemmas.Grind.{flat_map-append}
 use Rattle.lfs_model.specs.Names.{Name, is_component, slash}
 use Rattle.lfs_model.specs.Tree.{Path, Node, Tree}
-use Rattle.lfs_model.specs.Apply.{added, last_name, parent_of, same_path, with_name, with_names}
+use Rattle.lfs_model.specs.TreeEdits.{added, last_name, parent_of, same_path, with_name, with_names}
 use Rattle.lfs_model.specs.Operations.{path_bytes}
 use Rattle.lfs_model.specs.Source.{path_in}
-use Rattle.lfs_model.specs.Steps.{as_path}
+use Rattle.lfs_model.specs.Refusals.{as_path}
 use Rattle.lfs_model.proofs.Counts.{Each}
 use Rattle.lfs_model.proofs.Paths.{Paths, path_alike, path_unlike, paths, path_itself, not_longer, parent_is, last_is}
 use Rattle.lfs_model.proofs.Spelled.{spelled}

@@ -2,12 +2,14 @@
 use Rattle.std.proofs.Common.{ℕ, ◌≡◌, ◌∙◌, ◌+◌, ◌++◌, Bool, true, false, cond, List, [], ◌∷◌, length, Option, Some, None, drop, is_none, refl, sym, ap, ap₂, subst, append-nil, flat_map, option_map}
 use Rattle.std.proofs.Math.Seq.{drop-nil}
 use Rattle.std.proofs.lemmas.Option.{same_Some}
-use Rattle.lfs_model.specs.Apply.{added, bytes_at, change_at, same_path}
+use Rattle.lfs_model.specs.TreeEdits.{added, bytes_at, change_at, same_path}
 use Rattle.lfs_model.specs.Listing.{new_file_flags, operations_for}
 use Rattle.lfs_model.specs.Operations as ops
 use Rattle.lfs_model.specs.Operations.{Operation, Refusal, Reply}
-use Rattle.lfs_model.specs.Session.{Files, Session, Surroundings, Writer, Writing, after_write, free_number, opened_writer}
-use Rattle.lfs_model.specs.Steps.{applied, as_path, committed, effect_of, refusal_of, reply_or, with_bytes}
+use Rattle.lfs_model.specs.Session.{Files, Session, Surroundings, Writer, Writing, free_number}
+use Rattle.lfs_model.specs.Writers.{after_write, opened_writer}
+use Rattle.lfs_model.specs.Effects.{applied, committed, effect_of, reply_or, with_bytes}
+use Rattle.lfs_model.specs.Refusals.{as_path, refusal_of}
 use Rattle.lfs_model.specs.State.{Healthy, State, answered_in}
 use Rattle.lfs_model.specs.Tree.{Path, FileNode, DirectoryNode, Tree}
 use Rattle.lfs_model.specs.Run.{AreTurns, IsTurn, Moment, is_refusal}

@@ -5,13 +5,13 @@ use Rattle.std.specs.List.Sorted.{IsPermutation}
 use Rattle.std.specs.declared.cmp.Ordering.TheVariants.{Less}
 use Rattle.std.proofs.lemmas.List.Elements.{All-contains, All-contains_itself, All-from_recursion, recursion_from_All}
 use Rattle.std.proofs.lemmas.List.Sorted.{Contains-permutation, IsPermutation-map, IsPermutation-sym}
-use Rattle.lfs_model.specs.Apply as apply
+use Rattle.lfs_model.specs.TreeEdits as apply
 use Rattle.lfs_model.specs.Fresh.{empty_tree}
 use Rattle.lfs_model.specs.Listing as listing
 use Rattle.lfs_model.specs.Listing.{IsCarryingOver, IsWalk, operations_for, paths_in}
 use Rattle.lfs_model.specs.Names.{Name, name_cmp}
 use Rattle.lfs_model.specs.Operations.{Operation, path_bytes}
-use Rattle.lfs_model.specs.Source.{AFile, AFolder, IsTreeOf, Shows, Source, kind_given, names_of, path_in, standing}
+use Rattle.lfs_model.specs.Source.{AFile, AFolder, IsTreeOf, IsNodeOf, Source, kind_given, given_names, path_in, standing}
 use Rattle.lfs_model.specs.Tree.{Path, Node, FileNode, DirectoryNode, Tree}
 use Rattle.lfs_model.proofs.Counts.{Each, each_weaker}
 use Rattle.lfs_model.proofs.Names.{greater}
@@ -91,7 +91,7 @@ stand_append s (q ∷ qs) rs [] os h k = absurd h
 stand_append s (q ∷ qs) rs (p ∷ ps) os h k = (h.0, stand_append s qs rs ps os h.1 k)
 
 below_stand : (s : Source) (q : Path) (folder : List ℕ) (given : List (Name × Bool)) → path_bytes q ≡ folder → ((rest : Path) → standing s [] (q ++ rest) ≡ standing s folder rest)
-    → Each (λ g. kind_given g.0 (s.names folder) ≡ Some g.1) given → AllStand s (map (λ n. q ++ n ∷ []) (names_of given)) (places_in folder given)
+    → Each (λ g. kind_given g.0 (s.names folder) ≡ Some g.1) given → AllStand s (map (λ n. q ++ n ∷ []) (given_names given)) (places_in folder given)
 below_stand s q folder [] at leads kinds = tt
 below_stand s q folder (g ∷ given) at leads kinds = (
   record {
@@ -103,7 +103,7 @@ below_stand s q folder (g ∷ given) at leads kinds = (
 
 kinds_within : (s : Source) (folder : List ℕ) (within : List (Name × Bool)) → AreWithin (Some s) folder within → Each (λ g. kind_given g.0 (s.names folder) ≡ Some g.1) within
 kinds_within s folder within w =
-    let rising = rising_from (names_of within) w.order.rise in
+    let rising = rising_from (given_names within) w.order.rise in
     each_weaker (λ (g : Name × Bool). kind_given g.0 within ≡ Some g.1) (λ (g : Name × Bool). kind_given g.0 (s.names folder) ≡ Some g.1)
     (λ g e. kind_moved (s.names folder) within w.names rising g.0 ∙ e) within (each_found within rising)
 
@@ -122,7 +122,7 @@ record IsMet (s : Source) (tree : Tree) (q : Path) (p : Place) (o : Option (List
   below : AllStand s (paths_in tree q) (places_in p.0 within)
 
 met_file : (s : Source) (tree : Tree) (q : Path) (folder : List ℕ) (bytes : List ℕ) (within : List (Name × Bool)) (o : Option Node) → tree q ≡ o → path_bytes q ≡ folder → bytes ≡ s.bytes folder → within ≡ []
-    → Shows (Some (AFile (s.bytes folder))) o → IsMet s tree q (folder, false) (Some bytes) within
+    → IsNodeOf (Some (AFile (s.bytes folder))) o → IsMet s tree q (folder, false) (Some bytes) within
 met_file s tree q folder bytes within None e at is none h = absurd h
 met_file s tree q folder bytes within (Some (FileNode attributes shown)) e at is none h = record {
   node = FileNode attributes shown;
@@ -133,14 +133,14 @@ met_file s tree q folder bytes within (Some (FileNode attributes shown)) e at is
 met_file s tree q folder bytes within (Some (DirectoryNode attributes shown)) e at is none h = absurd h
 
 met_folder : (s : Source) (tree : Tree) (q : Path) (folder : List ℕ) (within : List (Name × Bool)) (o : Option Node) → tree q ≡ o → path_bytes q ≡ folder → ((rest : Path) → standing s [] (q ++ rest) ≡ standing s folder rest)
-    → AreWithin (Some s) folder within → Shows (Some (AFolder (names_of (s.names folder)))) o → IsMet s tree q (folder, true) None within
+    → AreWithin (Some s) folder within → IsNodeOf (Some (AFolder (given_names (s.names folder)))) o → IsMet s tree q (folder, true) None within
 met_folder s tree q folder within None e at leads w h = absurd h
 met_folder s tree q folder within (Some (FileNode attributes shown)) e at leads w h = absurd h
 met_folder s tree q folder within (Some (DirectoryNode attributes shown)) e at leads w h =
-    let moved : IsPermutation (names_of (s.names folder)) (names_of within) = IsPermutation-map (λ (g : Name × Bool). g.0) (s.names folder) within w.names in
-    let same : shown ≡ names_of within = same_rising shown (names_of within) (rising_from shown h.2) (rising_from (names_of within) w.order.rise)
-    (λ m a. among_moved (names_of (s.names folder)) (names_of within) moved m (among_moved shown (names_of (s.names folder)) (IsPermutation-sym (names_of (s.names folder)) shown h.1) m a))
-    (λ m a. among_moved (names_of (s.names folder)) shown h.1 m (among_moved (names_of within) (names_of (s.names folder)) (IsPermutation-sym (names_of (s.names folder)) (names_of within) moved) m a)) in
+    let moved : IsPermutation (given_names (s.names folder)) (given_names within) = IsPermutation-map (λ (g : Name × Bool). g.0) (s.names folder) within w.names in
+    let same : shown ≡ given_names within = same_rising shown (given_names within) (rising_from shown h.2) (rising_from (given_names within) w.order.rise)
+    (λ m a. among_moved (given_names (s.names folder)) (given_names within) moved m (among_moved shown (given_names (s.names folder)) (IsPermutation-sym (given_names (s.names folder)) shown h.1) m a))
+    (λ m a. among_moved (given_names (s.names folder)) shown h.1 m (among_moved (given_names within) (given_names (s.names folder)) (IsPermutation-sym (given_names (s.names folder)) (given_names within) moved) m a)) in
     record {
       node = DirectoryNode attributes shown;
       there = e;
@@ -153,9 +153,9 @@ met : (s : Source) (tree : Tree) (q : Path) (folder : List ℕ) (k : Bool) (o : 
     → IsMet s tree q (folder, k) o within
 met s tree q folder false None within shows stands holds = absurd holds
 met s tree q folder false (Some bytes) within shows stands holds =
-    met_file s tree q folder bytes within (tree q) refl stands.bytes holds.0 holds.1 (subst (λ x. Shows x (tree q)) (ap (standing s []) (sym (append-nil q)) ∙ stands.leads []) (shows q))
+    met_file s tree q folder bytes within (tree q) refl stands.bytes holds.0 holds.1 (subst (λ x. IsNodeOf x (tree q)) (ap (standing s []) (sym (append-nil q)) ∙ stands.leads []) (shows q))
 met s tree q folder true None within shows stands holds =
-    met_folder s tree q folder within (tree q) refl stands.bytes stands.leads holds (subst (λ x. Shows x (tree q)) (ap (standing s []) (sym (append-nil q)) ∙ stands.leads []) (shows q))
+    met_folder s tree q folder within (tree q) refl stands.bytes stands.leads holds (subst (λ x. IsNodeOf x (tree q)) (ap (standing s []) (sym (append-nil q)) ∙ stands.leads []) (shows q))
 met s tree q folder true (Some bytes) within shows stands holds = absurd holds
 
 walked : (s : Source) (tree : Tree) → IsTreeOf s tree → (es : List Entry) (qs : List Path) (ps : List Place) → AllStand s qs ps → AreRead (Some s) ps es → IsWalked tree qs es

@@ -10,7 +10,7 @@ use Rattle.std.proofs.lemmas.List.Kept.{AllPairs-cons}
 use Rattle.std.proofs.lemmas.List.Sums.{sum_by-cons}
 use Rattle.std.proofs.lemmas.List.Sorted.{IsPermutation-map, sum_by-IsPermutation}
 use Rattle.lfs_model.specs.Names.{Name, name_cmp, same_name, is_component, is_less}
-use Rattle.lfs_model.specs.Source.{AreBad, Source, names_of, times}
+use Rattle.lfs_model.specs.Source.{AreBad, Source, given_names, times}
 use Rattle.lfs_tool_source.specs.Shown.{listed}
 use Rattle.lfs_model.proofs.Counts.{Each, each_weaker}
 use Rattle.lfs_model.proofs.Paths.{name_from_equal, same_itself}
@@ -125,13 +125,13 @@ bad_before : (xs ys : List Listed) → IsPermutation xs ys → AreBad (map name_
 bad_before xs ys h (inl b) = inl (b.0, b.1, omega (arith, b.2, same_times xs ys b.0 h))
 bad_before xs ys h (inr b) = inr (b.0, omega (arith, b.1, same_times xs ys b.0 h))
 
-pub names_given : (xs : List Listed) → names_of (map listed xs) ≡ map name_in xs
+pub names_given : (xs : List Listed) → given_names (map listed xs) ≡ map name_in xs
 names_given [] = refl
 names_given (x ∷ xs) = ap (λ ns. x.name.items ∷ ns) (names_given xs)
 
 -- what is bad once it is sorted was bad as it was given
 pub bad_given : (known : Option Source) (folder : List ℕ) (xs ys zs : List Listed) → IfSome known (λ s. map listed xs ≡ s.names folder) → IsPermutation xs ys → zs ≡ ys → AreBad (map name_in zs)
-    → IfSome known (λ s. AreBad (names_of (s.names folder)))
+    → IfSome known (λ s. AreBad (given_names (s.names folder)))
 bad_given None folder xs ys zs e h same b = tt
 bad_given (Some s) folder xs ys zs e h same b =
-    subst (λ g. AreBad (names_of g)) e (subst AreBad (sym (names_given xs)) (bad_before xs ys h (subst (λ v. AreBad (map name_in v)) same b)))
+    subst (λ g. AreBad (given_names g)) e (subst AreBad (sym (names_given xs)) (bad_before xs ys h (subst (λ v. AreBad (map name_in v)) same b)))

@@ -6,7 +6,7 @@ use Rattle.std.proofs.lemmas.List.{map-append, reverse-append, reverse-reverse}
 use Rattle.std.proofs.lemmas.List.Elements.{All-contains_itself, recursion_from_All}
 use Rattle.std.proofs.lemmas.List.Sorted.{All-permutation, IsPermutation-map}
 use Rattle.lfs_model.specs.Names.{Name}
-use Rattle.lfs_model.specs.Source.{AreBad, Source, names_of, path_in}
+use Rattle.lfs_model.specs.Source.{AreBad, Source, given_names, path_in}
 use Rattle.lfs_model.proofs.Counts.{Each, each_append, each_left, each_right}
 use Rattle.lfs_tool_source.specs.Shown.{Rests, listed}
 use Rattle.lfs_tool_source.specs.InMemory.{items_by}
@@ -128,17 +128,17 @@ folders_on (Some s) front p places bytes within h holds after =
 
 -- ---- faults
 
-pub bad_top : (known : Option Source) → IfSome known (λ s. AreBad (names_of (s.names []))) → IfSome known HasBadNames
+pub bad_top : (known : Option Source) → IfSome known (λ s. AreBad (given_names (s.names []))) → IfSome known HasBadNames
 bad_top None h = tt
 bad_top (Some s) h = ([], (([], refl), h))
 
-pub bad_below : (known now : Option Source) (front : List Place) (p : Place) → AreFolders known (front ++ p ∷ []) → Rests known now → p.1 ≡ true → IfSome now (λ s. AreBad (names_of (s.names p.0)))
+pub bad_below : (known now : Option Source) (front : List Place) (p : Place) → AreFolders known (front ++ p ∷ []) → Rests known now → p.1 ≡ true → IfSome now (λ s. AreBad (given_names (s.names p.0)))
     → IfSome known HasBadNames
 bad_below None now front p h x is bad = tt
 bad_below (Some s) None front p h x is bad = absurd x
 bad_below (Some s) (Some t) front p h x is bad =
     let here = each_right (LeadsHere s) front (p ∷ []) h in
-    (p.0, (here.0 is, subst (λ u. AreBad (names_of (u.names p.0))) x bad))
+    (p.0, (here.0 is, subst (λ u. AreBad (given_names (u.names p.0))) x bad))
 
 pub either : (P Q R S : Type 0) → (P → R) → (Q → S) → P ⊎ Q → R ⊎ S
 either P Q R S f g (inl p) = inl (f p)

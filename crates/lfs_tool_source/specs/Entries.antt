@@ -3,7 +3,7 @@ use Rattle.std.specs.Prelude.{◌≡◌, ◌++◌, ◌&&◌, ℕ, Bool, true, fa
 use Rattle.std.specs.List.Sorted.{IsPermutation}
 use Rattle.std.specs.declared.cmp.Ordering.TheVariants.{Less}
 use Rattle.lfs_model.specs.Names.{Name, name_cmp, is_component, is_less}
-use Rattle.lfs_model.specs.Source.{AreBad, Source, names_of, path_in}
+use Rattle.lfs_model.specs.Source.{AreBad, Source, given_names, path_in}
 use Rattle.lfs_tool_source.specs.Shown.{is_folder}
 use Rattle.lfs_tool_source.specs.InMemory.{items_by}
 use Rattle.lfs_tool_source.specs.declared.source.Listed.{Listed}
@@ -31,7 +31,7 @@ pub record AreInOrder (names : List Name) : Type 0 where
 -- These names, each with whether it is a folder's, are in order, and all that stands in a folder of what the source
 -- is known to show.
 pub record AreWithin (known : Option Source) (folder : List ℕ) (given : List (Name × Bool)) : Type 0 where
-  pub order : AreInOrder (names_of given)
+  pub order : AreInOrder (given_names given)
   pub names : IfSome known (λ s. IsPermutation (s.names folder) given)
 
 -- ---- entries
@@ -79,4 +79,4 @@ IsFolder s folder = (names : List Name) × LeadsTo s [] names folder
 
 -- a folder in it has names that can't stand in one
 abbrev pub HasBadNames : Source → Type 0
-HasBadNames s = (folder : List ℕ) × (IsFolder s folder × AreBad (names_of (s.names folder)))
+HasBadNames s = (folder : List ℕ) × (IsFolder s folder × AreBad (given_names (s.names folder)))

@@ -1,5 +1,5 @@
 ghost use Rattle.std.specs.Prelude.{◌≡◌, ◌++◌, ◌∷◌, ◌⊎◌, [], IfOk, IfSome, IsErrOf, OnOk, map, reverse, true};
-ghost use Rattle.lfs_model.specs.Source.{AreBad, names_of, path_in};
+ghost use Rattle.lfs_model.specs.Source.{AreBad, given_names, path_in};
 ghost use Rattle.lfs_tool_source.specs.Shown.{Rests, is_folder, listed};
 ghost use Rattle.lfs_tool_source.specs.InMemory.{items_by};
 ghost use Rattle.lfs_tool_source.specs.Entries.{AreAll, AreWithin, HasBadNames, Holds, place_of, places_in};
@@ -46,7 +46,7 @@ fn names_within<S: Source>(
     ensures shown { Rests (S.shown source.old) (S.shown source.new) }
     ensures kept { OnOk result (S.has_failed source.new ≡ S.has_failed source.old) }
     ensures fault { IsErrOf result SourceError.Fault
-        → (S.has_failed source.new ≡ true) ⊎ IfSome (S.shown source.old) (λ s. AreBad (names_of (s.names folder.now))) }
+        → (S.has_failed source.new ≡ true) ⊎ IfSome (S.shown source.old) (λ s. AreBad (given_names (s.names folder.now))) }
     ensures no_memory { IsErrOf result SourceError.NoMemory → S.has_failed source.new ≡ S.has_failed source.old }
 {
     let mut names = source.list(alloc, folder)?;
@@ -93,7 +93,7 @@ fn look_into<S: Source>(
     ensures shown { Rests (S.shown source.old) (S.shown source.new) }
     ensures kept { OnOk result (S.has_failed source.new ≡ S.has_failed source.old) }
     ensures fault { IsErrOf result SourceError.Fault
-        → (S.has_failed source.new ≡ true) ⊎ IfSome (S.shown source.old) (λ s. AreBad (names_of (s.names folder.now))) }
+        → (S.has_failed source.new ≡ true) ⊎ IfSome (S.shown source.old) (λ s. AreBad (given_names (s.names folder.now))) }
     ensures no_memory { IsErrOf result SourceError.NoMemory → S.has_failed source.new ≡ S.has_failed source.old }
 {
     let mut names = names_within(alloc, source, folder)?;
@@ -114,7 +114,7 @@ fn read_one<S: Source>(
     ensures shown { Rests (S.shown source.old) (S.shown source.new) }
     ensures kept { OnOk result (S.has_failed source.new ≡ S.has_failed source.old) }
     ensures fault { IsErrOf result SourceError.Fault
-        → (S.has_failed source.new ≡ true) ⊎ ((is_folder one.now.kind ≡ true) × IfSome (S.shown source.old) (λ s. AreBad (names_of (s.names one.now.path.items)))) }
+        → (S.has_failed source.new ≡ true) ⊎ ((is_folder one.now.kind ≡ true) × IfSome (S.shown source.old) (λ s. AreBad (given_names (s.names one.now.path.items)))) }
     ensures no_memory { IsErrOf result SourceError.NoMemory → S.has_failed source.new ≡ S.has_failed source.old }
 {
     match one.kind {

@@ -4,17 +4,18 @@ use Rattle.std.specs.Prelude.{IfOk, is_none}
 use Rattle.std.specs.Option.{option_and_then, option_map, option_or}
 use Rattle.std.proofs.lemmas.List.{length-map}
 use Rattle.std.proofs.lemmas.Option.{same_Some}
-use Rattle.lfs_model.specs.Apply.{is_directory, is_file, names_of}
+use Rattle.lfs_model.specs.TreeEdits.{is_directory, is_file, names_of}
 use Rattle.lfs_model.specs.Disk.{Disk}
 use Rattle.lfs_model.specs.Names.{Name}
 use Rattle.lfs_model.specs.Operations as ops
 use Rattle.lfs_model.specs.Session.{directory_fault, parent_fault}
 use Rattle.lfs_model.specs.SlotEdits.{slot_of_path}
 use Rattle.lfs_model.specs.Slots.{Attributes, Slot, Struct, Inline, Ctz, Branch}
-use Rattle.lfs_model.specs.Steps.{size_of}
+use Rattle.lfs_model.specs.Effects.{size_of}
 use Rattle.lfs_model.specs.Thread.{Pair, root_of}
 use Rattle.lfs_model.specs.Tree.{Path, Tree, Node, FileNode, DirectoryNode, branch_of, entry_named, names_at, node_of, root_slot, slot_at}
-use Rattle.lfs_model.specs.View.{IsAccepted, IsListIfCtz, Leads, all_slots, contents_in, entries_in, tree_in}
+use Rattle.lfs_model.specs.View.{IsAccepted, IsListIfCtz}
+use Rattle.lfs_model.specs.Shown.{Leads, all_slots, contents_in, entries_in, tree_in}
 use Rattle.lfs_device.specs.declared.error.Error.{Error}
 use Rattle.lfs_thread.specs.Kept.{Kept, disk_on}
 use Rattle.lfs_device.specs.declared.device.BlockDevice.{Ghosts}

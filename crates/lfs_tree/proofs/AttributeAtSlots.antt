@@ -4,17 +4,17 @@ use Rattle.std.specs.Prelude.{IfOk, IfSome, find}
 use Rattle.std.specs.Option.{option_and_then, option_copied, option_map}
 use Rattle.std.proofs.lemmas.Option.{same_Some}
 use Rattle.lfs_device.specs.declared.error.Error.{Error}
-use Rattle.lfs_model.specs.Apply.{attributes_of}
+use Rattle.lfs_model.specs.TreeEdits.{attributes_of}
 use Rattle.lfs_model.specs.Content.{RawSlot, attribute_of, complete, kind_named, slot_of_id, struct_typed}
 use Rattle.lfs_model.specs.Disk.{Disk}
-use Rattle.lfs_model.specs.Logged.{Ascend, HasParts, HaveParts}
+use Rattle.lfs_model.specs.LoggedContent.{Ascend, HasParts, HaveParts}
 use Rattle.lfs_model.specs.Lookup.{bytes_in, bytes_typed}
 use Rattle.lfs_model.specs.Operations as ops
 use Rattle.lfs_model.specs.Slots.{Attributes, Slot, Struct, Inline, Ctz, Branch}
 use Rattle.lfs_model.specs.SlotEdits.{slot_of_path}
 use Rattle.lfs_model.specs.Thread.{Pair}
 use Rattle.lfs_model.specs.Tree.{Path, node_of}
-use Rattle.lfs_model.specs.View.{contents_in, entries_in, tree_in}
+use Rattle.lfs_model.specs.Shown.{contents_in, entries_in, tree_in}
 use Rattle.lfs_thread.specs.Kept.{Kept}
 use Rattle.lfs_tree.specs.AtPath.{ShowsAt}
 use Rattle.lfs_tree.specs.AttributeAt.{IsAttribute, IsShort, slot_shown}

@@ -5,7 +5,7 @@ use Rattle.std.specs.Option.{option_map, option_map_or}
 use Rattle.std.proofs.lemmas.Bool.{eqb-false, ltb-true}
 use Rattle.std.proofs.lemmas.List.Sums.{sum_by-cons}
 use Rattle.lfs_model.specs.Content.{attribute_of, put_attribute}
-use Rattle.lfs_model.specs.Logged.{Ascend}
+use Rattle.lfs_model.specs.LoggedContent.{Ascend}
 use Rattle.lfs_model.specs.Slots.{Attributes, attributes_size}
 use Rattle.lfs_tag.specs.ContentSeen.{attribute_seen}
 use Rattle.lfs_tag.specs.declared.content.Attribute.{Attribute}

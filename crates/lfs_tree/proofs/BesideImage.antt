@@ -7,7 +7,9 @@ use Rattle.lfs_model.specs.Content.{content_at, holder_at}
 use Rattle.lfs_model.specs.Disk.{Disk, SameGeometry, block_at}
 use Rattle.lfs_model.specs.Slots.{FitsPair, Slot}
 use Rattle.lfs_model.specs.Thread.{Pair, anchor, blocks_of, directory_pairs, superblocks_before, Links}
-use Rattle.lfs_model.specs.View.{BeginsWith, FitsSlot, IsAccepted, IsWritable, all_slots, file_blocks, superblock_entry, used_blocks}
+use Rattle.lfs_model.specs.View.{BeginsWith, IsAccepted, superblock_entry}
+use Rattle.lfs_model.specs.Profile.{FitsSlot, IsWritable}
+use Rattle.lfs_model.specs.Shown.{all_slots, file_blocks, used_blocks}
 use Rattle.lfs_model.proofs.BlockSets.{Contains-count}
 use Rattle.lfs_model.proofs.Changes.{Follows, slots_files}
 use Rattle.lfs_model.proofs.Counts.{Each, count, count_append, count_here, each_from_counted, each_pieces}

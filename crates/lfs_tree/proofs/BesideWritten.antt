@@ -4,7 +4,7 @@ use Rattle.std.proofs.Math.Nat.{min-le_right}
 use Rattle.std.specs.Prelude.{Contains, IfErr, IfOk, OnErr, OnOk, is_err}
 use Rattle.lfs_device.specs.declared.error.Error.{Error}
 use Rattle.lfs_device.specs.declared.error.Error.TheVariants.{Io}
-use Rattle.lfs_model.specs.Apply.{is_file}
+use Rattle.lfs_model.specs.TreeEdits.{is_file}
 use Rattle.lfs_model.specs.BlockSets.{AreUsed, used_count}
 use Rattle.lfs_model.specs.Disk.{SameGeometry, block_at, block_count, inline_limit}
 use Rattle.lfs_model.specs.Session.{Surroundings}
@@ -12,7 +12,9 @@ use Rattle.lfs_model.specs.SlotEdits.{slot_of_path}
 use Rattle.lfs_model.specs.Slots.{Slot}
 use Rattle.lfs_model.specs.Thread.{Pair, gstate_of, superblocks_before}
 use Rattle.lfs_model.specs.Tree.{Path, Tree}
-use Rattle.lfs_model.specs.View.{IsAccepted, IsWritable, tree_in, used_blocks}
+use Rattle.lfs_model.specs.View.{IsAccepted}
+use Rattle.lfs_model.specs.Profile.{IsWritable}
+use Rattle.lfs_model.specs.Shown.{tree_in, used_blocks}
 use Rattle.lfs_model.specs.Blocks.{Blocks}
 use Rattle.lfs_model.specs.PowerLoss.{IsLeft, Survives, with_blocks}
 use Rattle.lfs_model.proofs.Changes.{Follows}

@@ -4,11 +4,12 @@ use Rattle.std.specs.List.{enumerate_from, flat_map}
 use Rattle.std.specs.Option.{option_and_then, option_map}
 use Rattle.std.proofs.lemmas.List.{length-take, length-drop}
 use Rattle.std.proofs.lemmas.Option.{same_Some}
-use Rattle.lfs_model.specs.Apply.{bytes_at, is_file}
-use Rattle.lfs_model.specs.Content.{RawSlot, complete, complete_all, kind_named, slot_of_id, struct_typed, inline_struct_type, directory_struct_type, pair_at}
+use Rattle.lfs_model.specs.TreeEdits.{bytes_at, is_file}
+use Rattle.lfs_model.specs.Content.{RawSlot, complete, complete_all, kind_named, slot_of_id, struct_typed}
+use Rattle.lfs_model.specs.EntryTypes.{inline_struct_type, directory_struct_type, pair_at}
 use Rattle.lfs_model.specs.Disk.{Disk, inline_limit}
 use Rattle.lfs_model.specs.InDirectory.{IsBehind, Stands}
-use Rattle.lfs_model.specs.Lists.{data_of, blocks_back, blocks_for}
+use Rattle.lfs_model.specs.SkipLists.{data_of, blocks_back, blocks_for}
 use Rattle.lfs_model.specs.Lookup.{bytes_in, bytes_typed}
 use Rattle.lfs_model.specs.Names.{Name}
 use Rattle.lfs_model.specs.Slots.{Slot, Struct, Inline, Ctz, Branch}
@@ -21,7 +22,9 @@ use Rattle.lfs_device.specs.declared.error.Error.{Error}
 use Rattle.std.specs.Prelude.{All, IfOk}
 use Rattle.std.proofs.lemmas.List.Elements.{recursion_from_All}
 use Rattle.lfs_model.proofs.Counts.{Each, each_right}
-use Rattle.lfs_model.specs.View.{FitsSlot, HasInline, IsAccepted, IsListIfCtz, IsWritable, Leads, contents_in, entries_in, tree_in}
+use Rattle.lfs_model.specs.Profile.{FitsSlot, HasInline, IsWritable}
+use Rattle.lfs_model.specs.View.{IsAccepted, IsListIfCtz}
+use Rattle.lfs_model.specs.Shown.{Leads, contents_in, entries_in, tree_in}
 use Rattle.lfs_model.proofs.Completed.{complete_parts}
 use Rattle.lfs_thread.specs.Kept.{Kept}
 use Rattle.lfs_thread.specs.Steps.{no_pair}

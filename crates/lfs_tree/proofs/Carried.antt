@@ -4,7 +4,7 @@ use Rattle.std.specs.Prelude.{All, Contains, slice_get}
 use Rattle.std.specs.List.{AllByRecursion}
 use Rattle.std.proofs.lemmas.List.Elements.{All-from_recursion}
 use Rattle.std.proofs.lemmas.Option.{same_Some}
-use Rattle.lfs_model.specs.Apply.{is_file}
+use Rattle.lfs_model.specs.TreeEdits.{is_file}
 use Rattle.lfs_model.specs.BlockSets.{AreUsed, BlockSets, IsFree, IsInFlight, IsUsed}
 use Rattle.lfs_model.specs.BlockSets.BlockState.{Free, InFlight, Used}
 use Rattle.lfs_model.specs.Disk.{Disk}
@@ -17,7 +17,9 @@ use Rattle.lfs_model.specs.Session.{Files}
 use Rattle.lfs_model.specs.Slots.{no_gstate}
 use Rattle.lfs_model.specs.Thread.{Pair, blocks_of, gstate_of}
 use Rattle.lfs_model.specs.Tree.{Path}
-use Rattle.lfs_model.specs.View.{IsAccepted, IsWritable, tree_in, used_blocks}
+use Rattle.lfs_model.specs.View.{IsAccepted}
+use Rattle.lfs_model.specs.Profile.{IsWritable}
+use Rattle.lfs_model.specs.Shown.{tree_in, used_blocks}
 use Rattle.lfs_model.proofs.Arranged.{arranged_settled}
 use Rattle.lfs_model.proofs.BlockSets.{Contains-head, Contains-tail, Contains-count, count-Contains}
 use Rattle.lfs_model.proofs.Committed.{IsCompleted, recovered_from}

@@ -4,7 +4,7 @@ use Rattle.std.specs.List.{list_all}
 use Rattle.std.proofs.lemmas.Bool.{ltb-false}
 use Rattle.std.proofs.lemmas.Option.{same_Some}
 use Rattle.lfs_device.specs.Bytes.{HasBytes}
-use Rattle.lfs_model.specs.Apply.{added, last_name}
+use Rattle.lfs_model.specs.TreeEdits.{added, last_name}
 use Rattle.lfs_model.specs.BlockSets.{BlockSets, IsInFlight}
 use Rattle.lfs_model.specs.BlockSets.BlockState.{Free, InFlight}
 use Rattle.lfs_model.specs.Disk.{entry_limit}
@@ -13,9 +13,9 @@ use Rattle.lfs_model.specs.Names.{Name, is_component, is_name}
 use Rattle.lfs_model.specs.Operations as ops
 use Rattle.lfs_model.specs.Operations.{Flags}
 use Rattle.lfs_model.specs.Slots.{charge_of}
-use Rattle.lfs_model.specs.Steps.{as_path}
+use Rattle.lfs_model.specs.Refusals.{as_path}
 use Rattle.lfs_model.specs.Tree.{Path, Tree, DirectoryNode, FileNode}
-use Rattle.lfs_model.specs.View.{tree_in}
+use Rattle.lfs_model.specs.Shown.{tree_in}
 use Rattle.lfs_model.proofs.Paths.{last_is}
 use Rattle.lfs_operations.specs.Changing.{WritesIn}
 use Rattle.lfs_operations.specs.Creating.{CanCreate, IsCreated, with_file}

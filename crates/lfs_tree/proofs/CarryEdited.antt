@@ -6,7 +6,7 @@ use Rattle.std.specs.Option.{option_map}
 use Rattle.std.proofs.lemmas.Bool.{ltb-false}
 use Rattle.std.proofs.lemmas.List.Elements.{recursion_from_All}
 use Rattle.lfs_device.specs.Bytes.{HasBytes}
-use Rattle.lfs_model.specs.Apply.{attributes_of, last_name}
+use Rattle.lfs_model.specs.TreeEdits.{attributes_of, last_name}
 use Rattle.lfs_model.specs.Content.{put_attribute, without_attribute}
 use Rattle.lfs_model.specs.Disk.{entry_limit, inline_limit}
 use Rattle.lfs_model.specs.History.{Event, OnlyReads}
@@ -16,10 +16,11 @@ use Rattle.lfs_model.specs.Operations.{Operation}
 use Rattle.lfs_model.specs.Run.{is_recover, renames_to_itself}
 use Rattle.lfs_model.specs.SlotEdits.{slot_of_path}
 use Rattle.lfs_model.specs.Slots.{Attributes, Slot, Struct, Inline, Ctz, Branch, charge_of}
-use Rattle.lfs_model.specs.Steps.{as_path, is_root}
+use Rattle.lfs_model.specs.Refusals.{as_path, is_root}
 use Rattle.lfs_model.specs.Thread.{Pair}
 use Rattle.lfs_model.specs.Tree.{Path, node_of}
-use Rattle.lfs_model.specs.View.{FitsSlot, HasInline, contents_in, entries_in, tree_in}
+use Rattle.lfs_model.specs.Profile.{FitsSlot, HasInline}
+use Rattle.lfs_model.specs.Shown.{contents_in, entries_in, tree_in}
 use Rattle.lfs_model.proofs.Counts.{Each, each_right}
 use Rattle.lfs_model.proofs.Paths.{last_is}
 use Rattle.lfs_operations.specs.Editing.{CanEdit, CanSetAttribute, HasRemovedAttribute, HasSetAttribute, IsEdited, with_attributes_at}

@@ -12,7 +12,8 @@ use Rattle.lfs_model.specs.Disk.{Disk, SameGeometry, block_at}
 use Rattle.lfs_model.specs.History.{Event}
 use Rattle.lfs_model.specs.Slots.{Slot, Struct}
 use Rattle.lfs_model.specs.Thread.{Pair, blocks_of, gstate_of}
-use Rattle.lfs_model.specs.View.{IsListIfCtz, all_slots, file_blocks, used_blocks}
+use Rattle.lfs_model.specs.View.{IsListIfCtz}
+use Rattle.lfs_model.specs.Shown.{all_slots, file_blocks, used_blocks}
 use Rattle.lfs_model.proofs.BlockSets.{Contains-count, count-Contains}
 use Rattle.lfs_model.proofs.Committed.{no_move_from}
 use Rattle.lfs_model.proofs.Counts.{Each, count, count_append, each_from_counted, each_pieces, each_right, once_from_distinct}

@@ -6,7 +6,7 @@ use Rattle.lfs_device.specs.Bytes.{HasBytes}
 use Rattle.lfs_model.specs.Content.{content_after_all, has_commit, holder, holder_at, is_later, no_content}
 use Rattle.lfs_model.specs.Disk.{Disk, block_at}
 use Rattle.lfs_model.specs.Log.{log_entries, revision_of}
-use Rattle.lfs_model.specs.Logged.{IsLogged}
+use Rattle.lfs_model.specs.LoggedContent.{IsLogged}
 use Rattle.lfs_model.proofs.Logged.{logged}
 use Rattle.lfs_operations.specs.Ready.{IsLoggedAt}
 

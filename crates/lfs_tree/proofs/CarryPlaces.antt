@@ -2,13 +2,13 @@
 use Rattle.std.proofs.Common.{◌≡◌, ◌∙◌, true, List, [], ◌∷◌, ◌++◌, map, Some, refl, sym, ap, subst}
 use Rattle.std.specs.Prelude.{is_some}
 use Rattle.std.specs.Option.{option_map}
-use Rattle.lfs_model.specs.Apply.{last_name}
+use Rattle.lfs_model.specs.TreeEdits.{last_name}
 use Rattle.lfs_model.specs.InDirectory.{Belongs}
 use Rattle.lfs_model.specs.Names.{Name}
 use Rattle.lfs_model.specs.SlotEdits.{slot_of_path}
 use Rattle.lfs_model.specs.Slots.{Slot}
 use Rattle.lfs_model.specs.Tree.{Path, node_of}
-use Rattle.lfs_model.specs.View.{contents_in, entries_in, tree_in}
+use Rattle.lfs_model.specs.Shown.{contents_in, entries_in, tree_in}
 use Rattle.lfs_model.proofs.Paths.{last_is}
 use Rattle.lfs_thread.specs.Kept.{Kept}
 use Rattle.lfs_tree.proofs.Descended.{names_are}

@@ -4,7 +4,7 @@ use Rattle.std.specs.Prelude.{slice_get}
 use Rattle.std.specs.List.{list_all}
 use Rattle.std.proofs.lemmas.Bool.{le-leb, ltb-false}
 use Rattle.std.proofs.lemmas.Option.{same_Some}
-use Rattle.lfs_model.specs.Apply.{last_name}
+use Rattle.lfs_model.specs.TreeEdits.{last_name}
 use Rattle.lfs_model.specs.BlockSets.{BlockSets, IsFree, is_in_flight, is_used}
 use Rattle.lfs_model.specs.BlockSets.BlockState.{Free, InFlight}
 use Rattle.lfs_model.specs.Disk.{entry_limit}

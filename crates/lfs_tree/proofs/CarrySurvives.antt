@@ -1,13 +1,15 @@
 -- A loss of power in an operation on a path, behind calls that only read.
 use Rattle.std.proofs.Common.{ℕ, ◌≡◌, inl, inr, false, if◌then◌else◌, Option, Some, None, List, [], ◌∷◌, ◌++◌, refl, sym, ap₂, subst}
 use Rattle.std.specs.Prelude.{is_none, is_some}
-use Rattle.lfs_model.specs.Apply.{added}
+use Rattle.lfs_model.specs.TreeEdits.{added}
 use Rattle.lfs_model.specs.Disk.{Disk, SameGeometry}
 use Rattle.lfs_model.specs.History.{Event, EachEvent, EachSince, OnlyReads}
 use Rattle.lfs_model.specs.Operations.{Operation}
 use Rattle.lfs_model.specs.PowerLoss.{IsLeft, Survives, with_blocks}
 use Rattle.lfs_model.specs.Tree.{FileNode, Node, Path, Tree}
-use Rattle.lfs_model.specs.View.{IsAccepted, IsWritable, tree_in}
+use Rattle.lfs_model.specs.View.{IsAccepted}
+use Rattle.lfs_model.specs.Profile.{IsWritable}
+use Rattle.lfs_model.specs.Shown.{tree_in}
 use Rattle.lfs_model.proofs.AfterStops.{survives_then}
 use Rattle.lfs_model.proofs.Histories.{LeavesOnly-reads, Stops-read}
 use Rattle.lfs_thread.specs.Kept.{Kept, State}

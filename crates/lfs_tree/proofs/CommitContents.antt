@@ -6,13 +6,14 @@ use Rattle.std.proofs.lemmas.List.Elements.{All-contains, All-from_recursion, re
 use Rattle.lfs_model.specs.BlockSets.{AreUsed, IsFree, IsInFlight, IsUsed, in_flight_count}
 use Rattle.lfs_model.specs.Disk.{Disk, inline_limit}
 use Rattle.lfs_model.specs.History.{Event}
-use Rattle.lfs_model.specs.Lists.{blocks_for, bytes_of}
+use Rattle.lfs_model.specs.SkipLists.{blocks_for, bytes_of}
 use Rattle.lfs_model.specs.Session.{ctz_blocks}
 use Rattle.lfs_model.specs.SlotEdits.{slot_of_path}
 use Rattle.lfs_model.specs.Slots.{Slot, Struct, Inline, Ctz, Branch}
 use Rattle.lfs_model.specs.Thread.{blocks_of}
 use Rattle.lfs_model.specs.Tree.{Path}
-use Rattle.lfs_model.specs.View.{IsAccepted, IsListIfCtz, all_slots, file_blocks, used_blocks}
+use Rattle.lfs_model.specs.View.{IsAccepted, IsListIfCtz}
+use Rattle.lfs_model.specs.Shown.{all_slots, file_blocks, used_blocks}
 use Rattle.lfs_model.proofs.BlockCounts.{few_flying}
 use Rattle.lfs_model.proofs.BlockSets.{Contains-count, count-Contains}
 use Rattle.lfs_model.proofs.Counts.{Each, count, count_append, each_from_counted, each_pieces, once_from_distinct}

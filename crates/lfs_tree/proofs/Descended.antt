@@ -15,7 +15,8 @@ use Rattle.lfs_model.specs.SlotEdits.{slot_of_path}
 use Rattle.lfs_model.specs.Slots.{Slot, Struct, Inline, Ctz, Branch}
 use Rattle.lfs_model.specs.Thread.{gstate_of}
 use Rattle.lfs_model.specs.Tree.{Path, Tree, branch_of, node_of}
-use Rattle.lfs_model.specs.View.{IsAccepted, Leads, contents_in, entries_in, tree_in}
+use Rattle.lfs_model.specs.View.{IsAccepted}
+use Rattle.lfs_model.specs.Shown.{Leads, contents_in, entries_in, tree_in}
 use Rattle.lfs_thread.specs.Kept.{Kept}
 use Rattle.lfs_thread.specs.Steps.{IsOnlyRead}
 use Rattle.lfs_tree.specs.Paths.{BeginsOnPath, Descends, Enters, IsHiding, IsShownAt, IsThere, LeadsTo, ShowsTo}

@@ -9,7 +9,8 @@ use Rattle.lfs_model.specs.Disk.{Disk}
 use Rattle.lfs_model.specs.Slots.{Gstate, same_pair}
 use Rattle.lfs_model.specs.Thread.{Pair, blocks_of, directories_of, directory_pairs, entries_of, gstate_of, is_hard, superblocks_before, visible}
 use Rattle.lfs_model.specs.Tree.{Path}
-use Rattle.lfs_model.specs.View.{IsAccepted, Leads, entries_in}
+use Rattle.lfs_model.specs.View.{IsAccepted}
+use Rattle.lfs_model.specs.Shown.{Leads, entries_in}
 use Rattle.lfs_model.specs.InDirectory.{BeginsAt}
 use Rattle.lfs_model.proofs.Counts.{Each}
 use Rattle.lfs_model.proofs.Pairs.{pair_back, pair_on}

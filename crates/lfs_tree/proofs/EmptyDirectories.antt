@@ -9,7 +9,9 @@ use Rattle.lfs_model.specs.Names.{Name}
 use Rattle.lfs_model.specs.Slots.{Slot, is_superblock, same_pair}
 use Rattle.lfs_model.specs.Thread.{Pair, directory_pairs, first_at, gstate_of, is_hard, root_of, superblocks_before, visible}
 use Rattle.lfs_model.specs.Tree.{Path}
-use Rattle.lfs_model.specs.View.{HaveSlots, IsAccepted, IsWritable, Leads, entries_in}
+use Rattle.lfs_model.specs.Profile.{HaveSlots, IsWritable}
+use Rattle.lfs_model.specs.View.{IsAccepted}
+use Rattle.lfs_model.specs.Shown.{Leads, entries_in}
 use Rattle.lfs_model.proofs.Counts.{Each}
 use Rattle.lfs_model.proofs.Found.{HasDirectory}
 use Rattle.lfs_model.proofs.Global.{HasNoMove}

@@ -11,7 +11,8 @@ use Rattle.lfs_model.specs.SlotEdits.{slot_of_path}
 use Rattle.lfs_model.specs.Slots.{Slot, Branch, same_pair, no_gstate}
 use Rattle.lfs_model.specs.Thread.{Pair, directory_pairs}
 use Rattle.lfs_model.specs.Tree.{Path, branch_of, node_of}
-use Rattle.lfs_model.specs.View.{IsAccepted, Leads, contents_in, entries_in, tree_in}
+use Rattle.lfs_model.specs.View.{IsAccepted}
+use Rattle.lfs_model.specs.Shown.{Leads, contents_in, entries_in, tree_in}
 use Rattle.lfs_model.proofs.Committed.{no_move_from}
 use Rattle.lfs_model.proofs.Counts.{each_right}
 use Rattle.lfs_model.proofs.Found.{chain_of_thread, led_directory}

@@ -22,8 +22,9 @@ use Rattle.lfs_model.specs.History.{Event}
 use Rattle.lfs_model.specs.Log.{revision_of}
 use Rattle.lfs_model.specs.Slots.{no_gstate}
 use Rattle.lfs_model.specs.Thread.{Links, anchor, blocks_of}
-use Rattle.lfs_model.specs.View.{BeginsWith, IsAccepted, IsWritable, superblock_entry, view_in}
-use Rattle.lfs_model.specs.Written.{entries_of}
+use Rattle.lfs_model.specs.View.{BeginsWith, IsAccepted, superblock_entry, view_in}
+use Rattle.lfs_model.specs.Profile.{IsWritable}
+use Rattle.lfs_model.specs.WrittenContent.{written_entries}
 use Rattle.lfs_model.proofs.Histories.{began}
 use Rattle.lfs_model.proofs.Fresh.{accepted, shows, writable}
 use Rattle.lfs_model.proofs.BlockSets.{Contains-cons, Contains-head, Contains-tail}
@@ -127,7 +128,7 @@ module _ (disk : Disk) (before history : List Event) (h : Header) (g : IsGeometr
   begins =
       subst (λ o. BeginsWith o superblock_entry) (sym (holder_first (block_at disk 0) (block_at disk 1) is.anew.has_commit is.cleared))
       (ap (λ commits. slice_get (flat_map (λ c. c) commits) 0) is.anew.commits
-      ∙ ap (λ c. slice_get (flat_map (λ c. c) ((entries_of c ++ is.anew.checksum ∷ []) ∷ [])) 0) new_is)
+      ∙ ap (λ c. slice_get (flat_map (λ c. c) ((written_entries c ++ is.anew.checksum ∷ []) ∷ [])) 0) new_is)
 
   is_root : IsEmptyRoot disk history h
   is_root = record {

@@ -3,7 +3,7 @@ use Rattle.std.proofs.Common.{ℕ, zero, suc, ◌≡◌, ◌<◌, ◌≤◌, ◌
 use Rattle.std.proofs.lemmas.Option.{same_Some}
 use Rattle.lfs_model.specs.Slots.{Slot, is_superblock}
 use Rattle.lfs_model.specs.Content.{RawSlot, complete_all}
-use Rattle.lfs_model.specs.Logged.{HasParts, HaveParts}
+use Rattle.lfs_model.specs.LoggedContent.{HasParts, HaveParts}
 use Rattle.lfs_model.proofs.Completed.{complete_parts, complete_remove}
 use Rattle.lfs_tree.specs.Items.{Shape, listed, shape_of, shapes_in, shown_among, shown_of, without}
 

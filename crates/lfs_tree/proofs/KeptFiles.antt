@@ -2,7 +2,7 @@
 use Rattle.std.proofs.Common.{ℕ, ◌≡◌, ◌≤◌, ◌∙◌, true, List, [], ◌∷◌, Option, Some, None, refl, sym, ap, subst, arith}
 use Rattle.std.specs.Prelude.{Contains}
 use Rattle.std.specs.Option.{option_map}
-use Rattle.lfs_model.specs.Apply.{is_file}
+use Rattle.lfs_model.specs.TreeEdits.{is_file}
 use Rattle.lfs_model.specs.BlockSets.{AreUsed, IsUsed}
 use Rattle.lfs_model.specs.Disk.{Disk, SameGeometry, block_at}
 use Rattle.lfs_model.specs.Keeping.{struct_at}
@@ -10,7 +10,8 @@ use Rattle.lfs_model.specs.SlotEdits.{slot_of_path}
 use Rattle.lfs_model.specs.Slots.{Slot, Struct, Inline, Ctz, Branch, Attributes}
 use Rattle.lfs_model.specs.Thread.{blocks_of}
 use Rattle.lfs_model.specs.Tree.{Path, node_of}
-use Rattle.lfs_model.specs.View.{IsAccepted, all_slots, contents_in, entries_in, file_blocks, tree_in, used_blocks}
+use Rattle.lfs_model.specs.View.{IsAccepted}
+use Rattle.lfs_model.specs.Shown.{all_slots, contents_in, entries_in, file_blocks, tree_in, used_blocks}
 use Rattle.lfs_model.proofs.BlockSets.{Contains-count, count-Contains}
 use Rattle.lfs_model.proofs.Counts.{Each, count, count_append, each_from_counted, once_from_distinct}
 use Rattle.lfs_model.proofs.Files.{file_blocks_same}

@@ -2,10 +2,10 @@
 use Rattle.std.proofs.Common.{ℕ, ◌≡◌, ◌+◌, ◌==◌, ◌≤◌, ◌<◌, Bool, true, false, not, if◌then◌else◌, List, [], ◌∷◌, length, nat_lt, Option, Some, None, is_some, unwrap_or, refl, sym, ap, ◌∙◌, arith}
 use Rattle.std.specs.List.{list_all, onto_first, slice_split}
 use Rattle.std.proofs.lemmas.Bool.{lt-ltb}
-use Rattle.lfs_model.specs.Apply.{last_name}
+use Rattle.lfs_model.specs.TreeEdits.{last_name}
 use Rattle.lfs_model.specs.Names.{Name, is_component, slash}
 use Rattle.lfs_model.specs.Operations.{path_of}
-use Rattle.lfs_model.specs.Steps.{as_path, is_root}
+use Rattle.lfs_model.specs.Refusals.{as_path, is_root}
 use Rattle.lfs_tree.specs.NameLengths.{behind_slash}
 
 abbrev parts_of : List ℕ → List Name

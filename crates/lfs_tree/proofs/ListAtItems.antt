@@ -3,15 +3,16 @@ use Rattle.std.proofs.Common.{ℕ, suc, slice_get, ◌≡◌, ◌∙◌, true, L
 use Rattle.std.proofs.lemmas.List.Elements.{recursion_from_All}
 use Rattle.lfs_device.specs.Bytes.{HasBytes}
 use Rattle.lfs_device.specs.declared.device.BlockDevice.{Ghosts}
-use Rattle.lfs_model.specs.Apply.{is_directory, names_of}
+use Rattle.lfs_model.specs.TreeEdits.{is_directory, names_of}
 use Rattle.lfs_model.specs.Disk.{Disk}
 use Rattle.lfs_model.specs.Operations as ops
 use Rattle.lfs_model.specs.SlotEdits.{slot_of_path}
 use Rattle.lfs_model.specs.Slots.{Slot, Struct, Inline, Ctz, Branch}
-use Rattle.lfs_model.specs.Steps.{items_in, size_of}
+use Rattle.lfs_model.specs.Effects.{items_in, size_of}
 use Rattle.lfs_model.specs.Thread.{Pair}
 use Rattle.lfs_model.specs.Tree.{Path, node_of}
-use Rattle.lfs_model.specs.View.{IsAccepted, IsListIfCtz, Leads, all_slots, contents_in, entries_in, tree_in}
+use Rattle.lfs_model.specs.View.{IsAccepted, IsListIfCtz}
+use Rattle.lfs_model.specs.Shown.{Leads, all_slots, contents_in, entries_in, tree_in}
 use Rattle.lfs_model.proofs.Counts.{Each, each_both}
 use Rattle.lfs_model.proofs.OneCommit.{slot_there}
 use Rattle.lfs_thread.specs.Kept.{Kept, disk_on}

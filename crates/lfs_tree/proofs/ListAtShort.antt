@@ -3,14 +3,16 @@ use Rattle.std.proofs.Common.{ℕ, zero, suc, ◌≡◌, ◌<◌, ◌==◌, ◌&
 use Rattle.std.specs.List.{remove}
 use Rattle.std.proofs.lemmas.Option.{same_Some}
 use Rattle.std.proofs.lemmas.List.Elements.{recursion_from_All}
-use Rattle.lfs_model.specs.Content.{RawContent, RawSlot, complete, complete_all, completed, content_after_all, content_at, directory_struct_type, has_commit, holder, holder_at, inline_struct_type, is_later, kind_named, no_content, pair_at, struct_typed}
+use Rattle.lfs_model.specs.Content.{RawContent, RawSlot, complete, complete_all, completed, content_after_all, content_at, has_commit, holder, holder_at, is_later, kind_named, no_content, struct_typed}
+use Rattle.lfs_model.specs.EntryTypes.{directory_struct_type, inline_struct_type, pair_at}
 use Rattle.lfs_model.specs.Disk.{Disk, block_at}
 use Rattle.lfs_model.specs.Log.{log_entries, revision_of}
-use Rattle.lfs_model.specs.Logged.{HasParts, HaveParts, IsPartIfSome}
+use Rattle.lfs_model.specs.LoggedContent.{HasParts, HaveParts, IsPartIfSome}
 use Rattle.lfs_model.specs.Slots.{Gstate, Slot, Inline, Ctz, Branch, same_pair}
 use Rattle.lfs_model.specs.Thread.{Pair, gstate_of, unmoved}
 use Rattle.lfs_model.specs.Tree.{Path}
-use Rattle.lfs_model.specs.View.{IsAccepted, Leads, entries_in}
+use Rattle.lfs_model.specs.View.{IsAccepted}
+use Rattle.lfs_model.specs.Shown.{Leads, entries_in}
 use Rattle.lfs_model.proofs.Completed.{complete_parts, completed_parts}
 use Rattle.lfs_model.proofs.Counts.{Each, each_joined, each_weaker}
 use Rattle.lfs_model.proofs.Logged.{logged}

@@ -16,7 +16,8 @@ use Rattle.lfs_model.specs.History.{Event}
 use Rattle.lfs_model.proofs.Histories.{OnlyReads-trans}
 use Rattle.lfs_model.specs.Slots.{Slot, Struct, Inline, Ctz, Branch}
 use Rattle.lfs_model.specs.Thread.{Pair, blocks_of, gstate_of}
-use Rattle.lfs_model.specs.View.{IsAccepted, IsListIfCtz, all_slots, file_blocks, used_blocks}
+use Rattle.lfs_model.specs.View.{IsAccepted, IsListIfCtz}
+use Rattle.lfs_model.specs.Shown.{all_slots, file_blocks, used_blocks}
 use Rattle.lfs_model.proofs.BlockSets.{Contains-count, count-Contains}
 use Rattle.lfs_model.proofs.Completed.{complete_parts}
 use Rattle.lfs_model.proofs.Counts.{Each, count, count_append, each_append, each_both, each_from_counted}

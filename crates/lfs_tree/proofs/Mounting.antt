@@ -9,7 +9,9 @@ use Rattle.lfs_model.specs.BlockSets.{AreInFlight, AreUsed, BlockSets, in_flight
 use Rattle.lfs_model.specs.Disk.{Disk, block_count}
 use Rattle.lfs_model.specs.History.{Event, OnlyReads, faults}
 use Rattle.lfs_model.specs.Thread.{Pair, superblocks_before}
-use Rattle.lfs_model.specs.View.{IsAccepted, IsWritable, View, used_blocks}
+use Rattle.lfs_model.specs.View.{IsAccepted, View}
+use Rattle.lfs_model.specs.Profile.{IsWritable}
+use Rattle.lfs_model.specs.Shown.{used_blocks}
 use Rattle.lfs_model.proofs.BlockSets.{in_flight_count-AreInFlight}
 use Rattle.lfs_model.proofs.Histories.{OnlyReads-trans}
 use Rattle.lfs_model.specs.Fresh.{IsFresh}

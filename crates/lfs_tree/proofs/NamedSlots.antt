@@ -10,9 +10,10 @@ use Rattle.std.proofs.lemmas.Option.{same_Some}
 use Rattle.std.proofs.lemmas.Cmp.{nat_list_cmp_total}
 use Rattle.lfs_model.specs.Names.{Name, name_cmp, same_name, is_same, is_less}
 use Rattle.lfs_model.specs.Slots.{Slot, Content, is_superblock, is_superblock_kind}
-use Rattle.lfs_model.specs.Content.{RawSlot, RawContent, completed, complete, complete_all, slot_of_id, kind_named, struct_typed, file_name_type, directory_name_type, superblock_name_type}
+use Rattle.lfs_model.specs.Content.{RawSlot, RawContent, completed, complete, complete_all, slot_of_id, kind_named, struct_typed}
+use Rattle.lfs_model.specs.EntryTypes.{file_name_type, directory_name_type, superblock_name_type}
 use Rattle.lfs_model.specs.Thread.{starts_with_superblock}
-use Rattle.lfs_model.specs.Logged.{IsPart, IsPartIfSome, HasParts, HaveParts, IsLogged}
+use Rattle.lfs_model.specs.LoggedContent.{IsPart, IsPartIfSome, HasParts, HaveParts, IsLogged}
 use Rattle.lfs_model.specs.Lookup.{entry_name, is_named, is_behind, IsFound, IsPlace}
 use Rattle.lfs_model.proofs.Completed.{complete_parts, completed_parts}
 use Rattle.lfs_model.proofs.Paths.{name_from_same, same_itself}

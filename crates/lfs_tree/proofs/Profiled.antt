@@ -6,7 +6,8 @@ use Rattle.lfs_model.specs.Content.{RawSlot, complete, complete_all}
 use Rattle.lfs_model.specs.Disk.{Disk}
 use Rattle.lfs_model.specs.Slots.{Directory, File, FitsPair, Inline, Kind, Slot, Superblock, is_superblock_kind}
 use Rattle.lfs_model.specs.Thread.{Pair, is_hard, superblocks_before}
-use Rattle.lfs_model.specs.View.{FitsSlot, HasSuperblock, HaveSlots, IsAccepted, IsEntry, IsWritable, Suits}
+use Rattle.lfs_model.specs.Profile.{FitsSlot, HaveSlots, IsWritable}
+use Rattle.lfs_model.specs.View.{HasSuperblock, IsAccepted, IsEntry, Suits}
 use Rattle.lfs_model.proofs.Completed.{complete_length, complete_parts}
 use Rattle.lfs_thread.specs.Steps.{no_pair}
 use Rattle.lfs_tree.specs.Profile.{IsPairWritable, IsShaped, follows_at}

@@ -6,17 +6,19 @@ use Rattle.lfs_ctz.specs.Extended.{growing_of}
 use Rattle.lfs_ctz.specs.Growing.{IsHeld}
 use Rattle.lfs_ctz.specs.declared.extender.Extender.{Extender}
 use Rattle.lfs_device.specs.declared.error.Error.{Error}
-use Rattle.lfs_model.specs.Apply.{is_file}
+use Rattle.lfs_model.specs.TreeEdits.{is_file}
 use Rattle.lfs_model.specs.Changes.{PutStruct}
-use Rattle.lfs_model.specs.Content.{ctz_struct_type, inline_struct_type, struct_typed}
+use Rattle.lfs_model.specs.EntryTypes.{ctz_struct_type, inline_struct_type}
+use Rattle.lfs_model.specs.Content.{struct_typed}
 use Rattle.lfs_model.specs.Disk.{inline_limit}
-use Rattle.lfs_model.specs.Logged.{IsPart}
+use Rattle.lfs_model.specs.LoggedContent.{IsPart}
 use Rattle.lfs_model.specs.Operations as ops
 use Rattle.lfs_model.specs.SlotEdits.{Stores, slot_of_path}
 use Rattle.lfs_model.specs.Slots.{Struct, Inline}
 use Rattle.lfs_model.specs.Tree.{Path, branch_of}
-use Rattle.lfs_model.specs.View.{IsListIfCtz, file_blocks, tree_in}
-use Rattle.lfs_model.specs.Written.{pair_bytes}
+use Rattle.lfs_model.specs.View.{IsListIfCtz}
+use Rattle.lfs_model.specs.Shown.{file_blocks, tree_in}
+use Rattle.lfs_model.specs.WrittenContent.{pair_bytes}
 use Rattle.lfs_model.proofs.Counts.{count}
 use Rattle.lfs_model.proofs.WrittenAnew.{kind_of-tag_with, len_of-tag_with}
 use Rattle.lfs_files.specs.Standing.{StandsIn, TellsWork}

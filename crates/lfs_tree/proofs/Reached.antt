@@ -12,7 +12,8 @@ use Rattle.lfs_model.specs.SlotEdits.{slot_of_path}
 use Rattle.lfs_model.specs.Slots.{Slot, Struct, Inline, Ctz, Branch, same_pair}
 use Rattle.lfs_model.specs.Thread.{Pair, blocks_of, root_of, superblocks_before}
 use Rattle.lfs_model.specs.Tree.{Entries, Path, branch_of, directory_from, entry_named, root_slot, slot_at}
-use Rattle.lfs_model.specs.View.{IsAccepted, Leads, entries_in}
+use Rattle.lfs_model.specs.View.{IsAccepted}
+use Rattle.lfs_model.specs.Shown.{Leads, entries_in}
 use Rattle.lfs_model.proofs.BlockSets.{slice_get-set_other, slice_get-set_same}
 use Rattle.lfs_model.proofs.Counts.{Each, each_right}
 use Rattle.lfs_model.proofs.OneCommit.{slot_there}

@@ -17,14 +17,16 @@ use Rattle.lfs_model.specs.Operations as ops
 use Rattle.lfs_model.specs.PowerLoss.{IsLeft, Survives, with_blocks}
 use Rattle.lfs_model.specs.Session.{Files, Session}
 use Rattle.lfs_model.specs.Slots.{Gstate, no_gstate}
-use Rattle.lfs_model.specs.Written.{is_no_gstate}
+use Rattle.lfs_model.specs.WrittenContent.{is_no_gstate}
 use Rattle.std.proofs.lemmas.Bool.{and_parts}
 use Rattle.lfs_device.specs.declared.device.BlockDevice.{Ghosts}
 use Rattle.lfs_tree.specs.declared.image.Image.{Image}
 use Rattle.lfs_tree.specs.declared.image.Image.TheVariants as image
 use Rattle.lfs_model.specs.Thread.{Pair, blocks_of, directory_pairs, gstate_of, superblocks_before}
 use Rattle.lfs_model.specs.Tree.{Tree}
-use Rattle.lfs_model.specs.View.{IsAccepted, IsReached, IsWritable, all_slots, file_blocks, tree_in, used_blocks}
+use Rattle.lfs_model.specs.View.{IsAccepted}
+use Rattle.lfs_model.specs.Shown.{IsReached, all_slots, file_blocks, tree_in, used_blocks}
+use Rattle.lfs_model.specs.Profile.{IsWritable}
 use Rattle.lfs_model.proofs.AfterStops.{survives_then}
 use Rattle.lfs_model.proofs.Arranged.{arranged_after, arranged_settled, recovered_stays}
 use Rattle.lfs_model.proofs.BlockSets.{Contains-count}

@@ -4,11 +4,11 @@ use Rattle.std.proofs.lemmas.List.Sums.{sum_by-cons}
 use Rattle.std.proofs.lemmas.Option.{same_Some}
 use Rattle.std.specs.Prelude.{IfErr, is_none, is_some, nat_lt}
 use Rattle.lfs_device.specs.declared.error.Error.{Error}
-use Rattle.lfs_model.specs.Apply.{attributes_of, is_directory, is_file, last_name, names_of, same_path}
+use Rattle.lfs_model.specs.TreeEdits.{attributes_of, is_directory, is_file, last_name, names_of, same_path}
 use Rattle.lfs_model.specs.Blocks.{Blocks}
 use Rattle.lfs_model.specs.Content.{attribute_of, put_attribute}
 use Rattle.lfs_model.specs.Names.{Name}
-use Rattle.lfs_model.specs.Steps.{effect_of}
+use Rattle.lfs_model.specs.Effects.{effect_of}
 use Rattle.lfs_tree.proofs.RecoveredTwice.{recovers_through}
 use Rattle.lfs_model.specs.BlockSets.{BlockSets, BlockState, IsInFlight, in_flight_count, is_in_flight}
 use Rattle.lfs_model.specs.BlockSets.BlockState.{Free, InFlight, Used}
@@ -23,7 +23,7 @@ use Rattle.lfs_model.specs.Session.{Session, is_overcharged, parent_fault}
 use Rattle.lfs_model.specs.Slots.{Attributes, charge_of, no_gstate}
 use Rattle.lfs_model.specs.Thread.{Pair, gstate_of, superblocks_before}
 use Rattle.lfs_model.specs.Tree.{Path, Tree}
-use Rattle.lfs_model.specs.View.{tree_in, used_blocks}
+use Rattle.lfs_model.specs.Shown.{tree_in, used_blocks}
 use Rattle.lfs_model.proofs.AfterStops.{survives_then}
 use Rattle.lfs_model.proofs.BlockCounts.{few_used}
 use Rattle.lfs_model.proofs.BlockSets.{Contains-count, count-Contains, used_count-AreUsed}

@@ -8,7 +8,8 @@ use Rattle.lfs_model.specs.Operations as ops
 use Rattle.lfs_model.specs.Session.{Session}
 use Rattle.lfs_model.specs.Slots.{no_gstate}
 use Rattle.lfs_model.specs.Thread.{Pair, directory_pairs, gstate_of, superblocks_before}
-use Rattle.lfs_model.specs.View.{HaveSlots, IsAccepted, IsWritable}
+use Rattle.lfs_model.specs.Profile.{HaveSlots, IsWritable}
+use Rattle.lfs_model.specs.View.{IsAccepted}
 use Rattle.lfs_model.proofs.Alike.{AreAlike, stood_alike}
 use Rattle.lfs_model.proofs.Committed.{none_goes, nothing_moved, recovered_from}
 use Rattle.lfs_model.proofs.Counts.{Each, each_left, each_right}

@@ -6,7 +6,8 @@ use Rattle.lfs_model.specs.Disk.{Disk}
 use Rattle.lfs_model.specs.Slots.{Slot, Gstate, is_superblock, same_pair}
 use Rattle.lfs_model.specs.Thread.{Pair, directory_pairs, first_at, gstate_of, is_hard, root_of, starts_with_superblock, superblocks_before, visible}
 use Rattle.lfs_model.specs.InDirectory.{BeginsAt}
-use Rattle.lfs_model.specs.View.{IsAccepted, HasSuperblock, entries_in, superblock_pairs}
+use Rattle.lfs_model.specs.View.{IsAccepted, HasSuperblock, superblock_pairs}
+use Rattle.lfs_model.specs.Shown.{entries_in}
 use Rattle.lfs_model.proofs.Counts.{Each}
 use Rattle.lfs_model.proofs.Found.{led_directory}
 use Rattle.lfs_model.proofs.Pairs.{pair_itself}

@@ -7,7 +7,8 @@ use Rattle.lfs_model.specs.InDirectory.{BeginsAt, IsBehind, IsJoined}
 use Rattle.lfs_model.specs.Slots.{same_pair}
 use Rattle.lfs_model.specs.Thread.{Pair, is_hard, superblocks_before}
 use Rattle.lfs_model.specs.Tree.{Path}
-use Rattle.lfs_model.specs.View.{IsAccepted, Leads}
+use Rattle.lfs_model.specs.View.{IsAccepted}
+use Rattle.lfs_model.specs.Shown.{Leads}
 use Rattle.lfs_model.proofs.Counts.{Each}
 use Rattle.lfs_model.proofs.Found.{chain_of_thread}
 use Rattle.lfs_model.proofs.Listings.{Ends}

@@ -6,7 +6,7 @@ use Rattle.std.proofs.lemmas.Option.{same_Some}
 use Rattle.std.proofs.Math.Seq.{drop-cons}
 use Rattle.lfs_model.specs.Layout.{begin_from, onward}
 use Rattle.lfs_model.specs.Thread.{Pair, is_hard, superblocks_before}
-use Rattle.lfs_model.specs.View.{IsReached}
+use Rattle.lfs_model.specs.Shown.{IsReached}
 use Rattle.lfs_model.proofs.Layouts.{onward_some}
 use Rattle.lfs_operations.specs.Recovering.{AreUnreached, AreUnreachedFrom}
 use Rattle.lfs_thread.specs.Steps.{no_pair}

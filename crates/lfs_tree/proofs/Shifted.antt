@@ -6,17 +6,18 @@ use Rattle.std.specs.Option.{option_and_then}
 use Rattle.std.proofs.lemmas.Bool.{ltb-false}
 use Rattle.lfs_device.specs.Bytes.{HasBytes}
 use Rattle.lfs_device.specs.declared.error.Error.{Error}
-use Rattle.lfs_model.specs.Apply.{is_beneath, last_name, rest_after, same_path}
+use Rattle.lfs_model.specs.TreeEdits.{is_beneath, last_name, rest_after, same_path}
 use Rattle.lfs_model.specs.Disk.{entry_limit}
 use Rattle.lfs_model.specs.History.{Event, OnlyReads}
 use Rattle.lfs_model.specs.InDirectory.{Belongs}
 use Rattle.lfs_model.specs.Names.{Name, is_component, is_name}
 use Rattle.lfs_model.specs.Operations as ops
 use Rattle.lfs_model.specs.Slots.{Slot, charge_of}
-use Rattle.lfs_model.specs.Steps.{as_path, is_root}
+use Rattle.lfs_model.specs.Refusals.{as_path, is_root}
 use Rattle.lfs_model.specs.Thread.{Pair, gstate_of, superblocks_before}
 use Rattle.lfs_model.specs.Tree.{Path, branch_of}
-use Rattle.lfs_model.specs.View.{FitsEntry, Leads, tree_in}
+use Rattle.lfs_model.specs.Profile.{FitsEntry}
+use Rattle.lfs_model.specs.Shown.{Leads, tree_in}
 use Rattle.lfs_model.proofs.Committed.{no_move_from}
 use Rattle.lfs_model.proofs.Paths.{last_is}
 use Rattle.lfs_thread.specs.Kept.{Kept, State}

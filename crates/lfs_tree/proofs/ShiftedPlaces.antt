@@ -1,6 +1,6 @@
 -- An entry that takes the place of another one, whose slot is of the same pair.
 use Rattle.std.proofs.Common.{◌≡◌, ◌≢◌, ◌∙◌, ◌++◌, [], ◌∷◌, append-nil, Some, None, sym, ap, subst}
-use Rattle.lfs_model.specs.Apply.{rest_after}
+use Rattle.lfs_model.specs.TreeEdits.{rest_after}
 use Rattle.lfs_model.specs.InDirectory.{IsBehind, Stands}
 use Rattle.lfs_model.specs.Names.{Name}
 use Rattle.lfs_model.specs.Tree.{Path}

@@ -10,7 +10,8 @@ use Rattle.lfs_model.specs.SlotEdits.{slot_of_path}
 use Rattle.lfs_model.specs.Slots.{Slot, Gstate, is_superblock, same_pair}
 use Rattle.lfs_model.specs.Thread.{Pair, gstate_of, visible, blocks_of, directories_of, directory_pairs, entries_of, root_of, superblocks_before}
 use Rattle.lfs_model.specs.Tree.{Path, entry_named, root_slot}
-use Rattle.lfs_model.specs.View.{IsAccepted, Leads, entries_in}
+use Rattle.lfs_model.specs.View.{IsAccepted}
+use Rattle.lfs_model.specs.Shown.{Leads, entries_in}
 use Rattle.lfs_model.proofs.Counts.{Each, each_append}
 use Rattle.lfs_model.proofs.Listings.{listing, IsRun, run_directories, Apart, distinct_apart, distinct_right, entries_own}
 use Rattle.lfs_model.proofs.OneCommit.{slot_there}

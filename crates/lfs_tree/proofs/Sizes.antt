@@ -12,7 +12,8 @@ use Rattle.lfs_model.specs.Thread.{Pair, root_of}
 use Rattle.lfs_model.specs.Tree.{Path, Entries, branch_of, directory_from, entry_named, root_slot, slot_at}
 use Rattle.lfs_model.specs.InDirectory.{BeginsAt}
 use Rattle.lfs_model.specs.SlotEdits.{slot_of_path}
-use Rattle.lfs_model.specs.View.{IsAccepted, Leads, entries_in}
+use Rattle.lfs_model.specs.View.{IsAccepted}
+use Rattle.lfs_model.specs.Shown.{Leads, entries_in}
 use Rattle.lfs_model.proofs.Counts.{Each, each_weaker}
 use Rattle.lfs_model.proofs.Pairs.{pair_back, pair_on}
 use Rattle.lfs_model.proofs.Paths.{append_step}

@@ -8,7 +8,8 @@ use Rattle.lfs_model.specs.SlotEdits.{slot_of_path}
 use Rattle.lfs_model.specs.Slots.{Slot, Struct, Inline, Ctz, Branch}
 use Rattle.lfs_model.specs.Thread.{Pair, root_of}
 use Rattle.lfs_model.specs.Tree.{Path, branch_of, child_of, entry_named, root_slot, slot_at}
-use Rattle.lfs_model.specs.View.{IsAccepted, Leads, all_slots, entries_in}
+use Rattle.lfs_model.specs.View.{IsAccepted}
+use Rattle.lfs_model.specs.Shown.{Leads, all_slots, entries_in}
 use Rattle.lfs_model.proofs.Counts.{Each}
 use Rattle.lfs_model.proofs.Walks.{walk_on}
 use Rattle.lfs_tree.proofs.AtPaths.{each_found}

@@ -4,12 +4,12 @@ use Rattle.std.specs.Prelude.{is_none, sum_by}
 use Rattle.std.proofs.lemmas.List.{length-map}
 use Rattle.std.proofs.lemmas.List.Sums.{sum_by-append, sum_by-cons}
 use Rattle.lfs_model.specs.Disk.{Disk}
-use Rattle.lfs_model.specs.Layout.{AllStand, Fits, Stands, begin_from, onward}
-use Rattle.lfs_model.specs.Lists.{blocks_for}
+use Rattle.lfs_model.specs.Layout.{AllStand, Fits, StandFor, begin_from, onward}
+use Rattle.lfs_model.specs.SkipLists.{blocks_for}
 use Rattle.lfs_model.specs.SlotEdits.{with_slots, without_moved}
 use Rattle.lfs_model.specs.Slots.{Gstate, Slot, Struct, Inline, Ctz, Branch, slot_size}
 use Rattle.lfs_model.specs.Thread.{Pair, blocks_of, gstate_of, unmoved}
-use Rattle.lfs_model.specs.View.{all_slots, file_blocks, used_blocks}
+use Rattle.lfs_model.specs.Shown.{all_slots, file_blocks, used_blocks}
 use Rattle.lfs_model.proofs.Counts.{Each, each_append}
 use Rattle.lfs_model.proofs.Files.{length_back}
 use Rattle.lfs_model.proofs.Splices.{files_of}
@@ -135,7 +135,7 @@ module _ (disk : Disk) where
   some_fit k (x ∷ xs) ys h f = inl (h.0, some_fit k xs ys h.1 f)
 
   -- what stands for a pair
-  stands_few : (first : Bool) (goes : Type 0) (d : Pair) (now : List Pair) → Stands disk first goes d now → (total size now ≤ 2 + lists_in size d.content.slots) ⊎ ((Fits disk d → ⊥) × (total size now ≤ 4 + lists_in size d.content.slots))
+  stands_few : (first : Bool) (goes : Type 0) (d : Pair) (now : List Pair) → StandFor disk first goes d now → (total size now ≤ 2 + lists_in size d.content.slots) ⊎ ((Fits disk d → ⊥) × (total size now ≤ 4 + lists_in size d.content.slots))
   stands_few first goes d [] h = inl (omega arith)
   stands_few first goes d (q ∷ []) h = inl (let e = ap (lists_in size) h.1 in omega arith)
   stands_few first goes d (q ∷ f ∷ []) h = inr (
@@ -148,7 +148,7 @@ module _ (disk : Disk) where
   )
   stands_few first goes d (q ∷ f ∷ g ∷ ps) h = absurd h
 
-  stands_fit : (first : Bool) (goes : Type 0) (d : Pair) (now : List Pair) → Stands disk first goes d now → Each (Fits disk) now
+  stands_fit : (first : Bool) (goes : Type 0) (d : Pair) (now : List Pair) → StandFor disk first goes d now → Each (Fits disk) now
   stands_fit first goes d [] h = tt
   stands_fit first goes d (q ∷ []) h = (record { size = (let e = ap (sum_by slot_size) h.1 in let f = h.2.size in omega arith); count = (let e = ap length h.1 in let f = h.2.count in omega arith) }, tt)
   stands_fit first goes d (q ∷ f ∷ []) h = (h.3, (h.4, tt))
@@ -157,7 +157,7 @@ module _ (disk : Disk) where
   pub total_append : (xs ys : List Pair) → total size (xs ++ ys) ≡ total size xs + total size ys
   total_append xs ys = let e = length-append xs ys in let f = lists_append size xs ys in omega arith
 
-  step_few : (first : Bool) (goes : Type 0) (d : Pair) (now : List Pair) (ds : List Pair) (rest : List Pair) (k : ℕ) → Stands disk first goes d now → FitBut k (d ∷ ds)
+  step_few : (first : Bool) (goes : Type 0) (d : Pair) (now : List Pair) (ds : List Pair) (rest : List Pair) (k : ℕ) → StandFor disk first goes d now → FitBut k (d ∷ ds)
       → ((j : ℕ) → FitBut j ds → total size rest ≤ total size ds + 2 * j) → total size (now ++ rest) ≤ total size (d ∷ ds) + 2 * k
   step_few first goes d now ds rest k h (inl fits) next =
       let e = total_append now rest in

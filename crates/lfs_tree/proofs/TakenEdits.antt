@@ -3,7 +3,7 @@ use Rattle.std.proofs.Common.{ℕ, ◌≡◌, ◌≤◌, ◌+◌, ◌*◌, ◌�
 use Rattle.std.specs.Prelude.{sum_by}
 use Rattle.std.proofs.lemmas.List.Elements.{recursion_from_All}
 use Rattle.std.proofs.lemmas.List.Sums.{sum_by-append, sum_by-cons}
-use Rattle.lfs_model.specs.Apply.{last_name}
+use Rattle.lfs_model.specs.TreeEdits.{last_name}
 use Rattle.lfs_model.specs.Content.{put_attribute, without_attribute}
 use Rattle.lfs_model.specs.Disk.{Disk}
 use Rattle.lfs_model.specs.Layout.{Fits, Goes, IsArranged, IsLaidOut}
@@ -13,7 +13,7 @@ use Rattle.lfs_model.specs.Operations.{Operation, Flags}
 use Rattle.lfs_model.specs.Session.{Session}
 use Rattle.lfs_model.specs.SlotEdits.{Clears, Creates, Edits, IsSpliced, Makes, Moves, Replaces, new_directory, new_file, slot_of_path, with_slots, without_moved}
 use Rattle.lfs_model.specs.Slots.{FitsPair, Slot, slot_size}
-use Rattle.lfs_model.specs.Steps.{as_path}
+use Rattle.lfs_model.specs.Refusals.{as_path}
 use Rattle.lfs_model.specs.Thread.{Pair, gstate_of, superblocks_before}
 use Rattle.lfs_model.specs.Tree.{Node, Path, Tree}
 use Rattle.lfs_model.proofs.Counts.{Each, each_append, each_left, each_right}

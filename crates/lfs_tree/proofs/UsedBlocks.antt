@@ -4,7 +4,7 @@ use Rattle.std.specs.Prelude.{◌↔◌, Contains, IsTrue}
 use Rattle.std.specs.List.{list_any}
 use Rattle.std.proofs.lemmas.Bool.{eqb-false}
 use Rattle.lfs_model.specs.BlockSets.{AreUsed, BlockSets, IsUsed, used_count}
-use Rattle.lfs_model.specs.View.{used_blocks}
+use Rattle.lfs_model.specs.Shown.{used_blocks}
 use Rattle.lfs_model.proofs.BlockSets.{Contains-cons, Contains-head, Contains-tail, used_count-AreUsed}
 use Rattle.lfs_tree.specs.Seen.{Seen, IsSound}
 

@@ -8,11 +8,12 @@ use Rattle.lfs_model.specs.Names.{Name, slash}
 use Rattle.lfs_model.specs.Slots.{Slot, Struct, Inline, Ctz, Branch, is_superblock}
 use Rattle.lfs_model.specs.Thread.{Pair, gstate_of, is_hard, root_of, unmoved, visible}
 use Rattle.lfs_model.specs.Tree.{Path, Entries, branch_of, node_of, root_slot}
-use Rattle.lfs_model.specs.Apply.{names_of}
+use Rattle.lfs_model.specs.TreeEdits.{names_of}
 use Rattle.lfs_model.specs.Operations.{path_bytes}
 use Rattle.lfs_model.specs.Listing.{Entry, IsWalk, IsWalkOf, paths_in}
 use Rattle.lfs_model.specs.SlotEdits.{slot_of_path}
-use Rattle.lfs_model.specs.View.{IsAccepted, IsListIfCtz, Leads, all_slots, contents_in, entries_in, tree_in}
+use Rattle.lfs_model.specs.View.{IsAccepted, IsListIfCtz}
+use Rattle.lfs_model.specs.Shown.{Leads, all_slots, contents_in, entries_in, tree_in}
 use Rattle.lfs_model.proofs.Counts.{Each, each_append, each_filter, each_joined, each_pieces, each_weaker}
 use Rattle.lfs_model.proofs.OneCommit.{slot_there}
 use Rattle.lfs_tree.specs.Items.{shape_of}

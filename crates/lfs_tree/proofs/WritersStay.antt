@@ -11,8 +11,8 @@ use Rattle.lfs_model.specs.Blocks.{Blocks, block_in}
 use Rattle.lfs_model.specs.BlockSets.{BlockSets, BlockState, IsFree, IsInFlight, IsUsed, in_flight_count}
 use Rattle.lfs_model.specs.BlockSets.BlockState.{Free, InFlight, Used}
 use Rattle.lfs_model.specs.Disk.{SameGeometry}
-use Rattle.lfs_model.specs.Keeping.{concerns}
-use Rattle.lfs_model.specs.Lists.{blocks_back, blocks_for}
+use Rattle.lfs_model.specs.Keeping.{takes_or_moves}
+use Rattle.lfs_model.specs.SkipLists.{blocks_back, blocks_for}
 use Rattle.lfs_model.specs.Operations.{Operation}
 use Rattle.lfs_model.specs.Tree.{Path}
 use Rattle.lfs_model.proofs.BlockCounts.{few_flying}
@@ -174,7 +174,7 @@ module _ (old new : Seen) (path : Path) (c : Contents) (over : IsOver old path c
   pub bytes_held_stay : bytes_held (kept_of new) c ≡ bytes_held (kept_of old) c
   bytes_held_stay = ap (λ n. bytes_in new.disk.blocks n c) (geometry.block_size ∙ sym over.stands.divided.block_size) ∙ still.1.1 ∙ ap (λ n. bytes_in old.disk.blocks n c) over.stands.divided.block_size
 
-pub contents_stay : (old new : Seen) (op : Operation) (path : Path) (c : Contents) → IsOver old path c → IsSound old → IsCarried old op new → concerns op path ≡ false
+pub contents_stay : (old new : Seen) (op : Operation) (path : Path) (c : Contents) → IsOver old path c → IsSound old → IsCarried old op new → takes_or_moves op path ≡ false
     → IsOver new path c × (bytes_held (kept_of new) c ≡ bytes_held (kept_of old) c)
 contents_stay old new op path c over sound k away =
     let keeps = k.keeps path over.file away in

@@ -1,11 +1,11 @@
 -- What an operation's checks have shown before it is carried out.
 use Rattle.std.specs.Prelude.{ℕ, ◌≡◌, ◌+◌, ◌≤◌, true, false, not, ◌&&◌, List, [], length, nat_lt, None, is_none, is_some}
-use Rattle.lfs_model.specs.Apply.{attributes_of, is_beneath, is_directory, is_file, last_name, names_of, same_path}
+use Rattle.lfs_model.specs.TreeEdits.{attributes_of, is_beneath, is_directory, is_file, last_name, names_of, same_path}
 use Rattle.lfs_model.specs.BlockSets.{in_flight_count}
 use Rattle.lfs_model.specs.Content.{attribute_of, put_attribute}
 use Rattle.lfs_model.specs.Disk.{block_count}
 use Rattle.lfs_model.specs.Session.{parent_fault, is_long, is_overcharged}
-use Rattle.lfs_model.specs.Steps.{is_root}
+use Rattle.lfs_model.specs.Refusals.{is_root}
 use Rattle.lfs_model.specs.Tree.{Path}
 use Rattle.lfs_tree.specs.Seen.{Seen, around_of, tree_seen}
 

@@ -11,7 +11,7 @@ use Rattle.lfs_model.specs.Session.{parent_fault}
 use Rattle.lfs_model.specs.Slots.{no_gstate}
 use Rattle.lfs_model.specs.Thread.{Pair, gstate_of}
 use Rattle.lfs_model.specs.Tree.{Path, Tree}
-use Rattle.lfs_model.specs.View.{tree_in}
+use Rattle.lfs_model.specs.Shown.{tree_in}
 use Rattle.lfs_thread.specs.Kept.{Kept, State}
 use Rattle.lfs_tree.specs.Held.{IsRooted, seen_kept}
 use Rattle.lfs_tree.specs.Paths.{BeginsOnPath}

@@ -1,10 +1,10 @@
 -- The slot of an entry whose attributes change.
 use Rattle.std.specs.Prelude.{ℕ, ◌≡◌, Bool, true, false, List, [], ◌∷◌, ◌++◌, Some, None, is_none}
-use Rattle.lfs_model.specs.Apply.{attributes_of, change_at, with_attributes}
+use Rattle.lfs_model.specs.TreeEdits.{attributes_of, change_at, with_attributes}
 use Rattle.lfs_model.specs.Names.{Name}
 use Rattle.lfs_model.specs.Session.{parent_fault}
 use Rattle.lfs_model.specs.Slots.{Attributes}
-use Rattle.lfs_model.specs.Steps.{is_root}
+use Rattle.lfs_model.specs.Refusals.{is_root}
 use Rattle.lfs_model.specs.Thread.{Pair}
 use Rattle.lfs_model.specs.Tree.{Path, Tree}
 use Rattle.lfs_tree.specs.Paths.{StandsOnPath}

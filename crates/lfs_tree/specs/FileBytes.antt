@@ -2,7 +2,7 @@
 use Rattle.std.specs.Prelude.{ℕ, List, []}
 use Rattle.lfs_model.specs.Disk.{Disk}
 use Rattle.lfs_model.specs.Slots.{Struct, Inline, Ctz, Branch}
-use Rattle.lfs_model.specs.View.{contents_in}
+use Rattle.lfs_model.specs.Shown.{contents_in}
 
 -- what a struct says that a file's bytes are
 abbrev pub bytes_shown : Disk → Struct → List ℕ

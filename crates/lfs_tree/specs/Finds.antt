@@ -1,9 +1,9 @@
 -- What a look-up finds, and what a list names.
 use Rattle.std.specs.Prelude.{ℕ, ◌≡◌, [], nat_lt, Bool, true, false, length, Option, Some, None, is_none}
-use Rattle.lfs_model.specs.Apply.{is_directory, is_file, names_of}
+use Rattle.lfs_model.specs.TreeEdits.{is_directory, is_file, names_of}
 use Rattle.lfs_model.specs.Operations as ops
 use Rattle.lfs_model.specs.Session.{parent_fault}
-use Rattle.lfs_model.specs.Steps.{size_of}
+use Rattle.lfs_model.specs.Effects.{size_of}
 use Rattle.lfs_model.specs.Tree.{Path, Tree}
 use Rattle.lfs_tree.specs.declared.finding.Finding.{Finding}
 use Rattle.lfs_tree.specs.declared.finding.ListItem.{ListItem}

@@ -6,13 +6,15 @@ use Rattle.lfs_device.specs.declared.error.Error.TheVariants.{Io, NoMemory}
 use Rattle.lfs_device.specs.Calls.{ChangesOnly}
 use Rattle.lfs_model.specs.BlockSets.{AreInFlight, AreUsed, BlockSets}
 use Rattle.lfs_model.specs.Changes.{Change, Create, PutStruct}
-use Rattle.lfs_model.specs.Content.{RawContent, has_commit, inline_struct_type, superblock_name_type}
+use Rattle.lfs_model.specs.Content.{RawContent, has_commit}
+use Rattle.lfs_model.specs.EntryTypes.{inline_struct_type, superblock_name_type}
 use Rattle.lfs_model.specs.Disk.{Disk, block_at, block_count}
 use Rattle.lfs_model.specs.Fresh.{IsFresh, empty_tree, fresh_pair, superblock_bytes}
 use Rattle.lfs_model.specs.History.{Event, erases, faults}
 use Rattle.lfs_model.specs.Slots.{no_gstate}
 use Rattle.lfs_model.specs.Thread.{anchor}
-use Rattle.lfs_model.specs.View.{IsAccepted, IsWritable, view_in}
+use Rattle.lfs_model.specs.View.{IsAccepted, view_in}
+use Rattle.lfs_model.specs.Profile.{IsWritable}
 use Rattle.lfs_pair.specs.Pair.{address_in}
 use Rattle.lfs_pair.specs.Writing.{Holds}
 use Rattle.lfs_thread.specs.Device.{two_of}

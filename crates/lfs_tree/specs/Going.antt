@@ -3,10 +3,10 @@ use Rattle.std.specs.Prelude.{ℕ, ◌≡◌, ◌≤◌, ◌+◌, true, false, L
 use Rattle.lfs_files.specs.Settling.{blocks_in_list}
 use Rattle.lfs_model.specs.Operations as ops
 use Rattle.lfs_model.specs.Session.{Session}
-use Rattle.lfs_model.specs.Steps.{as_path}
+use Rattle.lfs_model.specs.Refusals.{as_path}
 use Rattle.lfs_model.specs.Thread.{Pair}
 use Rattle.lfs_model.specs.Tree.{Path}
-use Rattle.lfs_model.specs.View.{tree_in, used_blocks}
+use Rattle.lfs_model.specs.Shown.{tree_in, used_blocks}
 use Rattle.lfs_model.proofs.Committed.{IsCompleted}
 use Rattle.lfs_model.proofs.Counts.{count}
 use Rattle.lfs_operations.specs.Dropping.{SameInFlight}

@@ -1,13 +1,13 @@
 -- What an operation leaves of a file at a path that it doesn't concern.
 use Rattle.std.specs.Prelude.{ℕ, ◌≡◌, true, List, [], Option, Some, None, Contains}
-use Rattle.lfs_model.specs.Apply.{is_file}
+use Rattle.lfs_model.specs.TreeEdits.{is_file}
 use Rattle.lfs_model.specs.Disk.{Disk, block_at}
 use Rattle.lfs_model.specs.Operations as ops
 use Rattle.lfs_model.specs.Operations.{Operation}
 use Rattle.lfs_model.specs.SlotEdits.{slot_of_path}
 use Rattle.lfs_model.specs.Slots.{Slot}
 use Rattle.lfs_model.specs.Tree.{Path}
-use Rattle.lfs_model.specs.View.{file_blocks, tree_in}
+use Rattle.lfs_model.specs.Shown.{file_blocks, tree_in}
 use Rattle.lfs_thread.specs.Kept.{Kept}
 
 -- so many blocks an operation may take: a pair is cut for an entry that comes, and a directory has a pair of its own

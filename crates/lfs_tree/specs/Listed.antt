@@ -5,7 +5,9 @@ use Rattle.lfs_model.specs.Disk.{Disk}
 use Rattle.lfs_model.specs.Slots.{Gstate, same_pair}
 use Rattle.lfs_model.specs.Thread.{Pair, gstate_of, is_hard, visible}
 use Rattle.lfs_model.specs.Tree.{Path}
-use Rattle.lfs_model.specs.View.{IsAccepted, Leads, entries_in, set_move}
+use Rattle.lfs_model.specs.View.{IsAccepted}
+use Rattle.lfs_model.specs.Shown.{Leads, entries_in}
+use Rattle.lfs_model.specs.Slots.{set_move}
 use Rattle.lfs_model.specs.InDirectory.{BeginsAt}
 use Rattle.lfs_tree.specs.Items.{Shape, shape_of}
 

@@ -4,7 +4,7 @@ use Rattle.std.specs.List.{AllByRecursion, flat_map}
 use Rattle.lfs_files.specs.Settling.{blocks_in_list}
 use Rattle.lfs_model.specs.Content.{RawSlot, struct_typed}
 use Rattle.lfs_model.specs.Slots.{Slot, Struct, Inline, Ctz, Branch}
-use Rattle.lfs_model.specs.View.{used_blocks}
+use Rattle.lfs_model.specs.Shown.{used_blocks}
 use Rattle.lfs_model.proofs.Counts.{count}
 use Rattle.lfs_operations.specs.Ready.{IsReadyBut}
 use Rattle.lfs_thread.specs.Kept.{Kept}

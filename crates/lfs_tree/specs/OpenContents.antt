@@ -1,6 +1,6 @@
 -- The contents of a file that is open for writing, beside the image.
 use Rattle.std.specs.Prelude.{ℕ, ◌≡◌, ◌+◌, ◌^◌, ◌<◌, ◌≤◌, ◌⊎◌, true, false, max, List, ◌++◌, length}
-use Rattle.lfs_model.specs.Apply.{change_at, is_file}
+use Rattle.lfs_model.specs.TreeEdits.{change_at, is_file}
 use Rattle.lfs_model.specs.BlockSets.{in_flight_count}
 use Rattle.lfs_model.specs.Disk.{SameGeometry, block_count, inline_limit}
 use Rattle.lfs_model.specs.History.{Event, faults}
@@ -10,10 +10,11 @@ use Rattle.lfs_model.specs.Operations.{Operation}
 use Rattle.lfs_model.specs.Recovery.{IsRecovered}
 use Rattle.lfs_model.specs.Session.{Files, Writer, ctz_blocks}
 use Rattle.lfs_model.specs.Slots.{no_gstate}
-use Rattle.lfs_model.specs.Steps.{with_bytes}
+use Rattle.lfs_model.specs.Effects.{with_bytes}
 use Rattle.lfs_model.specs.Thread.{gstate_of}
 use Rattle.lfs_model.specs.Tree.{Path}
-use Rattle.lfs_model.specs.View.{IsWritable, tree_in}
+use Rattle.lfs_model.specs.Profile.{IsWritable}
+use Rattle.lfs_model.specs.Shown.{tree_in}
 use Rattle.lfs_files.specs.Standing.{StandsIn, held_in}
 use Rattle.lfs_operations.specs.Storing.{IsWriterOf}
 use Rattle.lfs_thread.specs.Kept.{Kept}

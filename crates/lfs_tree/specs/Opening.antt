@@ -2,7 +2,7 @@
 use Rattle.std.specs.Prelude.{All, false}
 use Rattle.lfs_model.specs.BlockSets.{IsFree}
 use Rattle.lfs_model.specs.Slots.{Slot, Struct}
-use Rattle.lfs_model.specs.View.{file_blocks}
+use Rattle.lfs_model.specs.Shown.{file_blocks}
 use Rattle.lfs_files.specs.Standing.{Holds, held_in}
 use Rattle.lfs_thread.specs.Kept.{Kept}
 use Rattle.lfs_tree.specs.BytesAt.{IsFileAt}

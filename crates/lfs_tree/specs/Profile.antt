@@ -2,7 +2,7 @@
 use Rattle.std.specs.Prelude.{ℕ, ◌≡◌, ◌≢◌, ◌-◌, ◌&&◌, nat_lt, Bool, true, List, [], length, slice_index_or, All}
 use Rattle.lfs_model.specs.Slots.{Content, FitsPair, Inline, Slot, is_superblock}
 use Rattle.lfs_model.specs.Thread.{Pair, is_hard}
-use Rattle.lfs_model.specs.View.{FitsSlot}
+use Rattle.lfs_model.specs.Profile.{FitsSlot}
 use Rattle.lfs_thread.specs.Steps.{no_pair}
 
 -- a superblock's slot has a struct of 24 bytes, as in each accepted image

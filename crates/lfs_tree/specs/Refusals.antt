@@ -9,7 +9,6 @@ abbrev pub is_refusal : Error → Bool
 is_refusal error.Io = false
 is_refusal error.NoMemory = false
 is_refusal error.Corrupt = false
-is_refusal error.Unsupported = false
 is_refusal _ = true
 
 -- the refusal that an error is; what isn't one comes to any
@@ -66,4 +65,3 @@ error_again error.EntryFull h = refl
 error_again error.Io h = absurd (Prim.cc)
 error_again error.NoMemory h = absurd (Prim.cc)
 error_again error.Corrupt h = absurd (Prim.cc)
-error_again error.Unsupported h = absurd (Prim.cc)

@@ -2,21 +2,23 @@
 use Rattle.std.specs.Prelude.{ℕ, ◌≡◌, ◌≢◌, ◌⊎◌, ◌<◌, Bool, true, false, List, ◌++◌, length}
 use Rattle.lfs_device.specs.declared.error.Error.{Error}
 use Rattle.lfs_device.specs.declared.error.Error.TheVariants.{Io, NoMemory, Corrupt}
-use Rattle.lfs_model.specs.Apply.{is_file}
+use Rattle.lfs_model.specs.TreeEdits.{is_file}
 use Rattle.lfs_model.specs.BlockSets.{AreUsed, BlockSets, IsInFlight, in_flight_count}
 use Rattle.lfs_model.specs.Disk.{Disk, SameGeometry, block_at, block_count}
 use Rattle.lfs_model.specs.History.{Event, OnlyReads, faults, unprogrammed}
-use Rattle.lfs_model.specs.Keeping.{concerns}
+use Rattle.lfs_model.specs.Keeping.{takes_or_moves}
 use Rattle.lfs_model.specs.Layout.{IsArranged}
 use Rattle.lfs_model.specs.Operations.{Operation}
 use Rattle.lfs_model.specs.PowerLoss.{Survives}
 use Rattle.lfs_model.specs.Recovery.{IsRecovered}
 use Rattle.lfs_model.specs.Run.{IsUntouched, is_recover, renames_to_itself}
 use Rattle.lfs_model.specs.Session.{Files, Surroundings}
-use Rattle.lfs_model.specs.Steps.{effect_of}
+use Rattle.lfs_model.specs.Effects.{effect_of}
 use Rattle.lfs_model.specs.Thread.{Pair, gstate_of}
 use Rattle.lfs_model.specs.Tree.{Path, Tree}
-use Rattle.lfs_model.specs.View.{IsAccepted, IsWritable, tree_in, used_blocks}
+use Rattle.lfs_model.specs.View.{IsAccepted}
+use Rattle.lfs_model.specs.Profile.{IsWritable}
+use Rattle.lfs_model.specs.Shown.{tree_in, used_blocks}
 use Rattle.lfs_thread.specs.Kept.{Kept}
 use Rattle.lfs_tree.specs.KeepsFiles.{KeepsFile}
 
@@ -116,7 +118,7 @@ pub record IsCarried (old : Seen) (op : Operation) (new : Seen) : Type 0 where
   pub itself : renames_to_itself op ≡ true → IsUntouched old.disk calls new.disk
   pub nothing_left : is_recover op ≡ true → IsRecovered old.pairs → IsUntouched old.disk calls new.disk
   pub flight : LeavesFlight old new
-  pub keeps : (path : Path) → is_file (tree_seen old path) ≡ true → concerns op path ≡ false → KeepsFile (kept_of old) (kept_of new) path
+  pub keeps : (path : Path) → is_file (tree_seen old path) ≡ true → takes_or_moves op path ≡ false → KeepsFile (kept_of old) (kept_of new) path
 
 -- The image of a disk that was only read, without a fault: it works, and no block is in flight.
 pub record IsMountedTree (disk : Disk) (history : List Event) (t : Seen) : Type 0 where

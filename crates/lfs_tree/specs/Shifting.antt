@@ -2,17 +2,18 @@
 use Rattle.std.specs.Prelude.{ℕ, ◌≡◌, ◌⊎◌, ◌<◌, true, false, List, [], ◌∷◌, ◌++◌, length, None, Result, IfErr, IsErrOf, OnOk}
 use Rattle.lfs_device.specs.declared.error.Error.{Error}
 use Rattle.lfs_device.specs.declared.error.Error.TheVariants.{Io, NoMemory}
-use Rattle.lfs_model.specs.Apply.{last_name, renamed, rest_after}
+use Rattle.lfs_model.specs.TreeEdits.{last_name, renamed, rest_after}
 use Rattle.lfs_model.specs.History.{faults}
 use Rattle.lfs_model.specs.InDirectory.{Belongs, Stands}
 use Rattle.lfs_model.specs.Names.{Name, is_name}
 use Rattle.lfs_model.specs.Operations as ops
 use Rattle.lfs_model.specs.Session.{Session}
 use Rattle.lfs_model.specs.Slots.{Branch, same_pair}
-use Rattle.lfs_model.specs.Steps.{as_path}
+use Rattle.lfs_model.specs.Refusals.{as_path}
 use Rattle.lfs_model.specs.Thread.{Pair, is_hard}
 use Rattle.lfs_model.specs.Tree.{Path}
-use Rattle.lfs_model.specs.View.{FitsEntry, tree_in}
+use Rattle.lfs_model.specs.Profile.{FitsEntry}
+use Rattle.lfs_model.specs.Shown.{tree_in}
 use Rattle.lfs_model.proofs.Committed.{IsCompleted}
 use Rattle.lfs_operations.specs.Dropping.{SameInFlight}
 use Rattle.lfs_operations.specs.Editing.{CanEdit, slot_at}

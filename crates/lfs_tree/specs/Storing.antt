@@ -1,6 +1,6 @@
 -- A file that gets the contents of a writer.
 use Rattle.std.specs.Prelude.{ℕ, ◌≡◌, ◌+◌, ◌≤◌, Bool, true, false, List, [], ◌<◌, length, None}
-use Rattle.lfs_model.specs.Apply.{change_at}
+use Rattle.lfs_model.specs.TreeEdits.{change_at}
 use Rattle.lfs_model.specs.BlockSets.{in_flight_count, used_count}
 use Rattle.lfs_model.specs.Disk.{inline_limit}
 use Rattle.lfs_model.specs.Layout.{IsLaidOut}
@@ -8,10 +8,11 @@ use Rattle.lfs_model.specs.Operations as ops
 use Rattle.lfs_model.specs.Operations.{Operation}
 use Rattle.lfs_model.specs.Session.{Files, Writer, ctz_blocks}
 use Rattle.lfs_model.specs.Slots.{Struct, Inline, Ctz, Branch, no_gstate}
-use Rattle.lfs_model.specs.Steps.{with_bytes}
+use Rattle.lfs_model.specs.Effects.{with_bytes}
 use Rattle.lfs_model.specs.Thread.{Pair, gstate_of}
 use Rattle.lfs_model.specs.Tree.{Path, branch_of}
-use Rattle.lfs_model.specs.View.{IsWritable, tree_in}
+use Rattle.lfs_model.specs.Profile.{IsWritable}
+use Rattle.lfs_model.specs.Shown.{tree_in}
 use Rattle.lfs_files.specs.Coming.{CanCome}
 use Rattle.lfs_files.specs.Standing.{StandsIn}
 use Rattle.lfs_operations.specs.Editing.{CanEdit, slot_at}

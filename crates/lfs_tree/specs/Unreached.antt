@@ -4,7 +4,7 @@ use Rattle.std.specs.List.{AllByRecursion}
 use Rattle.lfs_model.specs.InDirectory.{BeginsAt}
 use Rattle.lfs_model.specs.Slots.{Struct, Inline, Ctz, Branch}
 use Rattle.lfs_model.specs.Thread.{Pair}
-use Rattle.lfs_model.specs.View.{IsReached}
+use Rattle.lfs_model.specs.Shown.{IsReached}
 use Rattle.lfs_model.proofs.Sites.{Among}
 use Rattle.lfs_tree.specs.Items.{Shape}
 use Rattle.lfs_tree.specs.Walk.{BeginsIfBranch}

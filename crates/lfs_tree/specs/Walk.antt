@@ -1,7 +1,7 @@
 -- All that stands beneath the root, as it is found.
 use Rattle.std.specs.Prelude.{ℕ, ◌≡◌, List, [], ◌∷◌, ◌++◌, map, reverse, Some}
 use Rattle.lfs_model.specs.Disk.{Disk}
-use Rattle.lfs_model.specs.Lists.{IsList}
+use Rattle.lfs_model.specs.SkipLists.{IsList}
 use Rattle.lfs_model.specs.Names.{Name, slash}
 use Rattle.lfs_model.specs.Slots.{Struct, Inline, Ctz, Branch, Attributes}
 use Rattle.lfs_model.specs.Thread.{Pair}
@@ -9,7 +9,7 @@ use Rattle.lfs_model.specs.Tree.{Node, FileNode, DirectoryNode}
 use Rattle.lfs_model.specs.Operations.{path_bytes}
 use Rattle.lfs_model.specs.Listing.{Entry, IsWalkOf}
 use Rattle.lfs_model.specs.InDirectory.{BeginsAt}
-use Rattle.lfs_model.specs.View.{contents_in, tree_in}
+use Rattle.lfs_model.specs.Shown.{contents_in, tree_in}
 use Rattle.lfs_tree.specs.declared.walking.TreeItem.{TreeItem}
 use Rattle.lfs_tree.specs.Items.{Shape, structure_seen}
 use Rattle.lfs_tree.specs.Listed.{shapes_from}

@@ -1,12 +1,13 @@
 // How much of its pair the attributes of what stands at a path take.
 
 ghost use Rattle.std.specs.Prelude.{◌≡◌, ◌<◌, IfErr, IfOk, Some, false, length, map, slice_get};
-ghost use Rattle.lfs_model.specs.Apply.{attributes_of};
+ghost use Rattle.lfs_model.specs.TreeEdits.{attributes_of};
 ghost use Rattle.lfs_model.specs.Content.{slot_of_id};
-ghost use Rattle.lfs_model.specs.Logged.{Ascend, HaveParts};
+ghost use Rattle.lfs_model.specs.LoggedContent.{Ascend, HaveParts};
 ghost use Rattle.lfs_model.specs.Slots.{Content as ModelContent, Slot as ModelSlot, attributes_size};
 ghost use Rattle.lfs_model.specs.Thread.{superblocks_before};
-ghost use Rattle.lfs_model.specs.View.{IsAccepted, tree_in};
+ghost use Rattle.lfs_model.specs.View.{IsAccepted};
+ghost use Rattle.lfs_model.specs.Shown.{tree_in};
 ghost use Rattle.lfs_tag.specs.ContentSeen.{attribute_seen, slot_seen};
 ghost use Rattle.lfs_thread.specs.Lent.{IsBlockOf};
 ghost use Rattle.lfs_tree.specs.AttributeAt.{IsAttributesSize};

@@ -2,7 +2,8 @@
 
 ghost use Rattle.std.specs.Prelude.{◌≡◌, ◌<◌, IfOk, None, false, length};
 ghost use Rattle.lfs_model.specs.Thread.{superblocks_before};
-ghost use Rattle.lfs_model.specs.View.{IsAccepted, tree_in};
+ghost use Rattle.lfs_model.specs.View.{IsAccepted};
+ghost use Rattle.lfs_model.specs.Shown.{tree_in};
 ghost use Rattle.lfs_tree.specs.AtPath.{IsInEntry, ShowsAt, directory_found, has_entries_from, size_shown};
 ghost use Rattle.lfs_tree.specs.Finds.{Finds};
 ghost use Rattle.lfs_tree.specs.declared.finding.Node.TheVariants.{File, Nothing};

@@ -2,11 +2,12 @@
 
 ghost use Rattle.std.specs.Prelude.{◌≡◌, ◌<◌, ◌+◌, ◌^◌, List, ℕ, IfOk, IfErr, Some, drop, false, length, slice_get, take};
 ghost use Rattle.std.specs.Option.{option_copied};
-ghost use Rattle.lfs_model.specs.Apply.{bytes_at};
-ghost use Rattle.lfs_model.specs.Lists.{IsList};
+ghost use Rattle.lfs_model.specs.TreeEdits.{bytes_at};
+ghost use Rattle.lfs_model.specs.SkipLists.{IsList};
 ghost use Rattle.lfs_model.specs.Slots.{Content as ModelContent, Inline, Slot};
 ghost use Rattle.lfs_model.specs.Thread.{superblocks_before};
-ghost use Rattle.lfs_model.specs.View.{IsAccepted, contents_in, tree_in};
+ghost use Rattle.lfs_model.specs.View.{IsAccepted};
+ghost use Rattle.lfs_model.specs.Shown.{contents_in, tree_in};
 ghost use Rattle.lfs_thread.specs.Lent.{IsBlockOf};
 ghost use Rattle.lfs_tree.specs.BytesAt.{IsFileAt, IsSlotAt, file_shown};
 ghost use Rattle.lfs_tree.specs.FileBytes.{bytes_shown};

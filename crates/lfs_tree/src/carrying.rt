@@ -3,13 +3,13 @@
 ghost use Rattle.std.specs.Prelude.{ℕ, ◌≡◌, ◌≤◌, List, [], map, true, false, OnOk, IfOk, IfErr};
 ghost use Rattle.std.specs.List.{list_all};
 ghost use Rattle.lfs_device.specs.Bytes.{HasBytes};
-ghost use Rattle.lfs_model.specs.Apply.{added, last_name};
+ghost use Rattle.lfs_model.specs.TreeEdits.{added, last_name};
 ghost use Rattle.lfs_model.specs.History.{faults};
 ghost use Rattle.lfs_model.specs.Operations as ops;
 ghost use Rattle.lfs_model.specs.Operations.{Flags};
-ghost use Rattle.lfs_model.specs.Steps.{as_path};
+ghost use Rattle.lfs_model.specs.Refusals.{as_path};
 ghost use Rattle.lfs_model.specs.Tree.{DirectoryNode, FileNode};
-ghost use Rattle.lfs_model.specs.View.{tree_in};
+ghost use Rattle.lfs_model.specs.Shown.{tree_in};
 ghost use Rattle.lfs_tree.specs.Allowed.{CanCreate, CanMake};
 ghost use Rattle.lfs_tree.specs.Carrying.{Carries, HasCalled, IsAtRest, IsPlaceFor, IsPlaceIn, IsVacant, SurvivesTo, TellsError, is_place};
 ghost use Rattle.lfs_tree.specs.Held.{seen_kept};

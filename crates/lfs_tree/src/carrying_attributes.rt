@@ -4,8 +4,8 @@ ghost use Rattle.std.specs.Prelude.{ℕ, ◌≡◌, List, true, false, OnOk, IfO
 ghost use Rattle.lfs_model.specs.Content.{put_attribute, without_attribute};
 ghost use Rattle.lfs_model.specs.History.{faults};
 ghost use Rattle.lfs_model.specs.Operations as ops;
-ghost use Rattle.lfs_model.specs.Steps.{as_path};
-ghost use Rattle.lfs_model.specs.View.{tree_in};
+ghost use Rattle.lfs_model.specs.Refusals.{as_path};
+ghost use Rattle.lfs_model.specs.Shown.{tree_in};
 ghost use Rattle.lfs_tree.specs.Allowed.{CanRemoveAttr, CanSetAttr};
 ghost use Rattle.lfs_tree.specs.Carrying.{Carries, HasCalled, IsAtRest, SurvivesTo, TellsError};
 ghost use Rattle.lfs_tree.specs.CarryingSlots.{HasEntry, IsSlotFor, IsSlotIn, has_slot, with_attributes_changed};

@@ -3,12 +3,12 @@
 ghost use Rattle.std.specs.Prelude.{ℕ, ◌≡◌, List, true, false, is_err, OnOk, IfOk, IfErr};
 ghost use Rattle.lfs_files.specs.Settling.{IsReadBesideMap};
 ghost use Rattle.lfs_files.specs.Standing.{TellsWork};
-ghost use Rattle.lfs_model.specs.Apply.{removed};
+ghost use Rattle.lfs_model.specs.TreeEdits.{removed};
 ghost use Rattle.lfs_model.specs.History.{faults};
 ghost use Rattle.lfs_model.specs.Operations as ops;
-ghost use Rattle.lfs_model.specs.Steps.{as_path};
+ghost use Rattle.lfs_model.specs.Refusals.{as_path};
 ghost use Rattle.lfs_model.specs.Tree.{Path as TreePath};
-ghost use Rattle.lfs_model.specs.View.{tree_in};
+ghost use Rattle.lfs_model.specs.Shown.{tree_in};
 ghost use Rattle.lfs_operations.specs.Dropping.{SameInFlight};
 ghost use Rattle.lfs_operations.specs.Ready.{IsReady};
 ghost use Rattle.lfs_operations.specs.Unlinking.{TellsOfSteps};

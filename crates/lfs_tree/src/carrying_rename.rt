@@ -1,12 +1,12 @@
 // Entries at paths that get another one, in a thread of which nothing is to be recovered.
 
 ghost use Rattle.std.specs.Prelude.{ℕ, ◌≡◌, ◌≢◌, List, false, true, OnOk, IfOk, IfErr};
-ghost use Rattle.lfs_model.specs.Apply.{renamed, same_path};
+ghost use Rattle.lfs_model.specs.TreeEdits.{renamed, same_path};
 ghost use Rattle.lfs_model.specs.History.{faults};
 ghost use Rattle.lfs_model.specs.Operations as ops;
-ghost use Rattle.lfs_model.specs.Steps.{as_path};
+ghost use Rattle.lfs_model.specs.Refusals.{as_path};
 ghost use Rattle.lfs_model.specs.Tree.{Path};
-ghost use Rattle.lfs_model.specs.View.{tree_in};
+ghost use Rattle.lfs_model.specs.Shown.{tree_in};
 ghost use Rattle.lfs_operations.specs.Moving.{WritesAmong};
 ghost use Rattle.lfs_tree.specs.Allowed.{CanRename};
 ghost use Rattle.lfs_tree.specs.Carrying.{Carries, HasCalled, IsAtRest, SurvivesTo, TellsError};

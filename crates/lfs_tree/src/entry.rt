@@ -2,7 +2,7 @@
 
 ghost use Rattle.std.specs.Prelude.{◌≡◌, length};
 ghost use Rattle.lfs_model.specs.Content.{struct_typed};
-ghost use Rattle.lfs_model.specs.Logged.{IsPart};
+ghost use Rattle.lfs_model.specs.LoggedContent.{IsPart};
 ghost use Rattle.lfs_tag.specs.ContentSeen.{part_seen};
 ghost use Rattle.lfs_tree.specs.Entry.{Shows};
 

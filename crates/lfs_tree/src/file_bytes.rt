@@ -1,7 +1,8 @@
 // The bytes of a file.
 
 ghost use Rattle.std.specs.Prelude.{◌≡◌, IfOk, OnOk, false, length};
-ghost use Rattle.lfs_model.specs.View.{IsListIfCtz, contents_in};
+ghost use Rattle.lfs_model.specs.View.{IsListIfCtz};
+ghost use Rattle.lfs_model.specs.Shown.{contents_in};
 ghost use Rattle.lfs_tree.specs.FileBytes.{bytes_shown};
 ghost use Rattle.lfs_tree.specs.Items.{structure_seen};
 ghost use Rattle.lfs_tree.specs.Reading.{IsReading};

@@ -4,7 +4,7 @@ ghost use Rattle.std.specs.Prelude.{◌≡◌, ◌++◌, IfOk, IfErr, OnOk, map}
 ghost use Rattle.std.specs.Option.{option_map};
 ghost use Rattle.lfs_model.specs.Slots.{Content as ModelContent};
 ghost use Rattle.lfs_model.specs.Content.{struct_typed};
-ghost use Rattle.lfs_model.specs.Logged.{HasParts, HaveParts, IsPart};
+ghost use Rattle.lfs_model.specs.LoggedContent.{HasParts, HaveParts, IsPart};
 ghost use Rattle.lfs_thread.specs.Lent.{IsBlockOf};
 ghost use Rattle.lfs_tag.specs.ContentSeen.{part_seen, slot_seen};
 ghost use Rattle.lfs_tree.specs.Items.{item_seen, items_seen, listed, shapes_in, shown_among, shown_raw, structure_seen, without};

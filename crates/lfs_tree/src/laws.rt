@@ -2,7 +2,7 @@
 
 ghost use Rattle.std.specs.Prelude.{◌≡◌, ◌≤◌, ◌+◌, false, length, true};
 ghost use Rattle.lfs_model.specs.BlockSets.{in_flight_count};
-ghost use Rattle.lfs_model.specs.Keeping.{concerns};
+ghost use Rattle.lfs_model.specs.Keeping.{takes_or_moves};
 ghost use Rattle.lfs_model.specs.Operations.{Operation};
 ghost use Rattle.lfs_model.specs.Tree.{Path};
 ghost use Rattle.lfs_tree.specs.KeepsFiles.{taken_by};
@@ -15,8 +15,8 @@ ghost use Rattle.lfs_writer.specs.declared.contents.Contents.{Contents};
 /// The contents of a file that is open for writing stay as they are in an operation that doesn't
 /// concern its path, also what isn't in the tree yet. No blocks but theirs are in flight.
 pub fn contents_stay()
-    ensures over { (old new : Seen) (op : Operation) (path : Path) (contents : Contents) → IsOver old path contents → IsSound old → IsCarried old op new → concerns op path ≡ false → IsOver new path contents }
-    ensures bytes { (old new : Seen) (op : Operation) (path : Path) (contents : Contents) → IsOver old path contents → IsSound old → IsCarried old op new → concerns op path ≡ false
+    ensures over { (old new : Seen) (op : Operation) (path : Path) (contents : Contents) → IsOver old path contents → IsSound old → IsCarried old op new → takes_or_moves op path ≡ false → IsOver new path contents }
+    ensures bytes { (old new : Seen) (op : Operation) (path : Path) (contents : Contents) → IsOver old path contents → IsSound old → IsCarried old op new → takes_or_moves op path ≡ false
         → bytes_held (kept_of new) contents ≡ bytes_held (kept_of old) contents }
     ensures flying { (t : Seen) (path : Path) (contents : Contents) → IsOver t path contents → in_flight_count t.map ≤ form_blocks t.disk.block_size (form_of contents) }
 {}

@@ -1,10 +1,11 @@
 // What stands in the directory at a path, by name and size.
 
 ghost use Rattle.std.specs.Prelude.{◌≡◌, IfOk, false, map, true};
-ghost use Rattle.lfs_model.specs.Apply.{is_directory};
-ghost use Rattle.lfs_model.specs.Steps.{items_in};
+ghost use Rattle.lfs_model.specs.TreeEdits.{is_directory};
+ghost use Rattle.lfs_model.specs.Effects.{items_in};
 ghost use Rattle.lfs_model.specs.Thread.{superblocks_before};
-ghost use Rattle.lfs_model.specs.View.{IsAccepted, tree_in};
+ghost use Rattle.lfs_model.specs.View.{IsAccepted};
+ghost use Rattle.lfs_model.specs.Shown.{tree_in};
 ghost use Rattle.lfs_tree.specs.Finds.{list_item_seen};
 ghost use Rattle.lfs_tree.specs.Items.{item_seen, items_seen, structure_seen};
 ghost use Rattle.lfs_tree.specs.ListAt.{AreShort, IsShort, item_listed, size_listed};

@@ -4,7 +4,7 @@ ghost use Rattle.std.specs.Prelude.{◌≡◌, ◌++◌, ◌<◌, IfErr, IfOk, O
 ghost use Rattle.std.specs.Option.{option_to_list};
 ghost use Rattle.lfs_files.specs.Settling.{IsReadBesideMap};
 ghost use Rattle.lfs_files.specs.Standing.{TellsWork};
-ghost use Rattle.lfs_model.specs.Logged.{HasParts, HaveParts};
+ghost use Rattle.lfs_model.specs.LoggedContent.{HasParts, HaveParts};
 ghost use Rattle.lfs_model.specs.Slots.{Content as ModelContent};
 ghost use Rattle.lfs_operations.specs.Dropping.{SameInFlight};
 ghost use Rattle.lfs_operations.specs.Ready.{IsReady};

@@ -1,10 +1,10 @@
 // The contents of files that are opened for writing.
 
 ghost use Rattle.std.specs.Prelude.{◌≡◌, [], false, length, true, IfErr, IfOk};
-ghost use Rattle.lfs_model.specs.Apply.{bytes_at, is_file};
+ghost use Rattle.lfs_model.specs.TreeEdits.{bytes_at, is_file};
 ghost use Rattle.lfs_model.specs.BlockSets.{in_flight_count};
 ghost use Rattle.lfs_model.specs.Slots.{Inline, Slot};
-ghost use Rattle.lfs_model.specs.View.{tree_in};
+ghost use Rattle.lfs_model.specs.Shown.{tree_in};
 ghost use Rattle.lfs_thread.specs.Beside.{IsDividedAs};
 ghost use Rattle.lfs_tree.specs.Held.{IsRooted};
 ghost use Rattle.lfs_tree.specs.OpenContents.{IsOpenedForm, IsOverFile, bytes_held};

@@ -2,10 +2,10 @@
 
 ghost use Rattle.std.specs.Prelude.{ℕ, List, true, ◌≡◌, ◌<◌, ◌≤◌, ◌^◌, ◌==◌, ◌||◌, IfOk, not, length, map, is_some};
 ghost use Rattle.std.specs.List.{list_all, slice_split};
-ghost use Rattle.lfs_model.specs.Apply.{last_name};
+ghost use Rattle.lfs_model.specs.TreeEdits.{last_name};
 ghost use Rattle.lfs_model.specs.Names.{is_component, same_name, slash};
 ghost use Rattle.lfs_model.specs.Operations.{path_of};
-ghost use Rattle.lfs_model.specs.Steps.{as_path, is_root};
+ghost use Rattle.lfs_model.specs.Refusals.{as_path, is_root};
 ghost use Rattle.lfs_tree.specs.NameLengths.{behind_slash};
 
 use std::alloc::{AllocError, Global};
@@ -75,7 +75,7 @@ pub struct Path<'a> {
 impl<'a> Model for Path<'a> {
     ghost use Rattle.std.specs.Prelude.{◌≡◌, true, is_some};
     ghost use Rattle.lfs_model.specs.Operations.{path_of};
-    ghost use Rattle.lfs_model.specs.Steps.{as_path};
+    ghost use Rattle.lfs_model.specs.Refusals.{as_path};
     ghost use Rattle.lfs_model.specs.Tree.{Path};
 
     ghost Value = { Path };

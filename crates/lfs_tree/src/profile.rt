@@ -1,11 +1,13 @@
 // Whether an image keeps within what is written.
 
 ghost use Rattle.std.specs.Prelude.{ℕ, List, ◌≡◌, ◌↔◌, ◌-◌, ◌<◌, ◌^◌, IsTrue, All, IfOk, IfErr, Some, false, length, map, min, true};
-ghost use Rattle.lfs_model.specs.Content.{complete, complete_all, struct_typed, superblock_at};
+ghost use Rattle.lfs_model.specs.Content.{complete, complete_all, struct_typed};
+ghost use Rattle.lfs_model.specs.EntryTypes.{superblock_at};
 ghost use Rattle.lfs_model.specs.Disk.{file_limit};
 ghost use Rattle.lfs_model.specs.Slots.{Content as ModelContent, File, Slot as ModelSlot, attributes_size};
 ghost use Rattle.lfs_model.specs.Thread.{superblocks_before};
-ghost use Rattle.lfs_model.specs.View.{FitsEntry, FitsSlot, IsAccepted, IsWritable};
+ghost use Rattle.lfs_model.specs.Profile.{FitsEntry, FitsSlot, IsWritable};
+ghost use Rattle.lfs_model.specs.View.{IsAccepted};
 ghost use Rattle.lfs_tag.specs.ContentSeen.{attribute_seen, slot_seen};
 ghost use Rattle.lfs_thread.specs.Lent.{IsBlockOf};
 ghost use Rattle.lfs_thread.specs.Steps.{pair_in};

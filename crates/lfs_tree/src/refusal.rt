@@ -8,7 +8,7 @@ use lfs_device::Error;
 use std::marker::Model;
 
 /// Why an operation isn't carried out, where everything is as it was: an error that isn't `Io`,
-/// `NoMemory`, `Corrupt` or `Unsupported`. To a contract it is the definition's refusal.
+/// `NoMemory` or `Corrupt`. To a contract it is the definition's refusal.
 #[derive(Clone, Copy)]
 pub struct Refusal {
     error: Error,

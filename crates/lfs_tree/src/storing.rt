@@ -2,10 +2,10 @@
 
 ghost use Rattle.std.specs.Prelude.{◌≡◌, ◌∷◌, [], false, true, IfErr, IfOk, OnOk};
 ghost use Rattle.lfs_files.specs.Standing.{TellsWork};
-ghost use Rattle.lfs_model.specs.Apply.{change_at, is_file};
+ghost use Rattle.lfs_model.specs.TreeEdits.{change_at, is_file};
 ghost use Rattle.lfs_model.specs.History.{faults};
-ghost use Rattle.lfs_model.specs.Steps.{with_bytes};
-ghost use Rattle.lfs_model.specs.View.{tree_in};
+ghost use Rattle.lfs_model.specs.Effects.{with_bytes};
+ghost use Rattle.lfs_model.specs.Shown.{tree_in};
 ghost use Rattle.lfs_operations.specs.Changing.{WritesIn};
 ghost use Rattle.lfs_operations.specs.Storing.{IsStored, with_contents_at};
 ghost use Rattle.lfs_tree.specs.Carrying.{HasCalled, IsAtRest, SurvivesTo, TellsError};

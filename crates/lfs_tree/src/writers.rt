@@ -1,11 +1,11 @@
 // The contents of files that are open for writing.
 
 ghost use Rattle.std.specs.Prelude.{◌≡◌, [], false, true, length, take, IfErr, IfOk, OnErr, OnOk};
-ghost use Rattle.lfs_model.specs.Apply.{bytes_at, change_at, is_file};
+ghost use Rattle.lfs_model.specs.TreeEdits.{bytes_at, change_at, is_file};
 ghost use Rattle.lfs_model.specs.BlockSets.{in_flight_count};
 ghost use Rattle.lfs_model.specs.Disk.{inline_limit};
-ghost use Rattle.lfs_model.specs.Session.{overwritten, zeros_to};
-ghost use Rattle.lfs_model.specs.Steps.{with_bytes};
+ghost use Rattle.lfs_model.specs.Writers.{written_into, zeros_to};
+ghost use Rattle.lfs_model.specs.Effects.{with_bytes};
 ghost use Rattle.lfs_model.specs.Tree.{Path as ModelPath};
 ghost use Rattle.lfs_tree.specs.OpenContents.{CanOpen, CanStoreAt, CanTruncateBeside, CanWriteBeside, IsOpenedForm, IsOver, IsStoredAt, IsWrittenBeside, bytes_held, kept_of};
 ghost use Rattle.lfs_tree.specs.Seen.{IsAsked, IsBroken, IsBrokenAsking, IsError, SurvivesAs, tree_seen};
@@ -78,7 +78,7 @@ impl<D: BlockDevice> Tree<D> {
     ) -> Result<Contents, Error>
         requires { CanWriteBeside self.old contents place (length bytes.now) }
         ensures over { (path : ModelPath) → IsOver self.old path contents → IfOk result (IsOver self.new path) }
-        ensures bytes { IfOk result (λ c. bytes_held (kept_of self.new) c ≡ overwritten (bytes_held (kept_of self.old) contents) place bytes.now) }
+        ensures bytes { IfOk result (λ c. bytes_held (kept_of self.new) c ≡ written_into (bytes_held (kept_of self.old) contents) place bytes.now) }
         ensures form { IfOk result (λ c. form_of c ≡ written (inline_limit self.old.disk.block_size) place (length bytes.now) (form_of contents)) }
         ensures beside { OnOk result (IsWrittenBeside self.old self.new) }
         ensures broken { OnErr result (IsBroken self.old self.new) }

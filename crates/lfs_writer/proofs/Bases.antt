@@ -5,7 +5,7 @@ use Rattle.std.specs.List.{enumerate_from}
 use Rattle.std.proofs.lemmas.List.Elements.{recursion_from_All}
 use Rattle.lfs_model.specs.Blocks.{Blocks, block_in}
 use Rattle.lfs_model.specs.BlockSets.{BlockSets}
-use Rattle.lfs_model.specs.Lists.{word_at, blocks_for, IsList, data_of, bytes_of}
+use Rattle.lfs_model.specs.SkipLists.{word_at, blocks_for, IsList, data_of, bytes_of}
 use Rattle.lfs_model.proofs.Files.{Same, back_same, data_same, length_back}
 use Rattle.lfs_writer.specs.Apart.{IsApart, Spares}
 use Rattle.lfs_writer.specs.Based.{list_blocks}

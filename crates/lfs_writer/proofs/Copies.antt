@@ -7,7 +7,7 @@ use Rattle.lfs_device.specs.declared.error.Error.{Error}
 use Rattle.lfs_device.specs.declared.geometry.Geometry.{Geometry}
 use Rattle.lfs_model.specs.Blocks.{Blocks}
 use Rattle.lfs_model.specs.BlockSets.{BlockSets}
-use Rattle.lfs_model.specs.Lists.{IsList, blocks_back, blocks_for, bytes_of, data_of}
+use Rattle.lfs_model.specs.SkipLists.{IsList, blocks_back, blocks_for, bytes_of, data_of}
 use Rattle.lfs_ctz.specs.Growing.{Growing, size_of}
 use Rattle.lfs_writer.specs.Apart.{Grows, IsApart, Spares}
 use Rattle.lfs_writer.specs.Based.{IsBase, list_blocks}

@@ -5,7 +5,7 @@ use Rattle.std.proofs.lemmas.List.{take-take, length-take}
 use Rattle.std.proofs.lemmas.List.Elements.{All-contains, All-contains_itself, All-take}
 use Rattle.lfs_model.specs.Blocks.{Blocks, SameButThese}
 use Rattle.lfs_model.specs.BlockSets.{BlockSets, IsFree, IsInFlight}
-use Rattle.lfs_model.specs.Lists.{IsList}
+use Rattle.lfs_model.specs.SkipLists.{IsList}
 use Rattle.lfs_writer.specs.Apart.{IsApart}
 use Rattle.lfs_writer.specs.Based.{IsBase, list_blocks}
 use Rattle.lfs_writer.specs.Hand.{IsStored}

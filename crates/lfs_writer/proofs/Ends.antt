@@ -8,7 +8,7 @@ use Rattle.lfs_device.specs.declared.geometry.Geometry.{Geometry}
 use Rattle.lfs_model.specs.Blocks.{Blocks, SameButThese}
 use Rattle.lfs_model.specs.BlockSets.{BlockSets, IsFree, IsInFlight}
 use Rattle.lfs_model.specs.BlockSets.BlockState.{Free, Used}
-use Rattle.lfs_model.specs.Lists.{blocks_for, IsChain, IsList}
+use Rattle.lfs_model.specs.SkipLists.{blocks_for, AreListBlocks, IsList}
 use Rattle.lfs_ctz.specs.Growing.{Growing, blocks_of, kept_of, pending_of}
 use Rattle.lfs_writer.specs.Based.{IsBase, list_blocks}
 use Rattle.lfs_writer.specs.Hand.{IsHand, IsStored, KeepsUsed}
@@ -100,15 +100,15 @@ used_kept a b c bs keeps released = record {
   stays = λ k used. released.stays k (keeps.states k (λ free. let both : Some Free ≡ Some Used = sym free ∙ used in cc) ∙ used);
 }
 
-pub none_chain : (d : Blocks) (head : ℕ) → IsChain d 0 head
+pub none_chain : (d : Blocks) (head : ℕ) → AreListBlocks d 0 head
 unfolding IsDistinct
 none_chain d head = record { in_range = λ k x l. absurd (omega (arith, l)); distinct = tt; pointers = λ i k l less. absurd (omega (arith, l)) }
 
 -- a base's blocks, from the head back
-pub base_chain : (d : Blocks) (geometry now : Geometry) (head size n : ℕ) → now ≡ geometry → n ≡ blocks_for now.block_size size → IsBase d geometry.block_size head size → IsChain d n head
-base_chain d geometry now head size n same is (inl none) = subst (λ k. IsChain d k head) (sym (is ∙ ap (blocks_for now.block_size) none)) (none_chain d head)
+pub base_chain : (d : Blocks) (geometry now : Geometry) (head size n : ℕ) → now ≡ geometry → n ≡ blocks_for now.block_size size → IsBase d geometry.block_size head size → AreListBlocks d n head
+base_chain d geometry now head size n same is (inl none) = subst (λ k. AreListBlocks d k head) (sym (is ∙ ap (blocks_for now.block_size) none)) (none_chain d head)
 base_chain d geometry now head size n same is (inr list) =
-    subst (λ k. IsChain d k head) (sym (is ∙ ap (λ (k : Geometry). blocks_for k.block_size size) same)) (record { in_range = list.in_range; distinct = list.distinct; pointers = list.pointers })
+    subst (λ k. AreListBlocks d k head) (sym (is ∙ ap (λ (k : Geometry). blocks_for k.block_size size) same)) (record { in_range = list.in_range; distinct = list.distinct; pointers = list.pointers })
 
 -- a base stays while the list's last block is written
 pub base_end : (map : BlockSets) (e f : Blocks) (geometry device : Geometry) (h : Growing) (base : Stored) (shared : ℕ) → device ≡ geometry → IsHand map e geometry.block_size h base shared → SameButThese (pending_of h) e f

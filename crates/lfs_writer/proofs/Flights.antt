@@ -9,9 +9,9 @@ use Rattle.lfs_model.specs.Blocks.{Blocks, IsDivided}
 use Rattle.lfs_model.specs.Blocks.{overwritten as in_block}
 use Rattle.lfs_model.proofs.Overwrites.{overwritten_next, overwritten_none}
 use Rattle.lfs_model.specs.BlockSets.{BlockSets, in_flight_count}
-use Rattle.lfs_model.specs.Session.{overwritten, zeros_to}
+use Rattle.lfs_model.specs.Writers.{written_into, zeros_to}
 use Rattle.lfs_device.specs.declared.geometry.Geometry.{Geometry}
-use Rattle.lfs_model.specs.Lists.{blocks_back, blocks_for, bytes_of}
+use Rattle.lfs_model.specs.SkipLists.{blocks_back, blocks_for, bytes_of}
 use Rattle.lfs_ctz.specs.Growing.{Growing, IsGrowing, blocks_of, content_of, is_held, joined, kept_of, pending_of, size_of}
 use Rattle.lfs_writer.specs.Apart.{Grows, IsMarked, Spares}
 use Rattle.lfs_writer.specs.Based.{IsBase, list_blocks}
@@ -38,7 +38,7 @@ length-content d block_size count g large shape growing =
     omega (arith, length-append (joined d (blocks_back d g.full g.head)) g.rest, length-back_data d block_size count g.full g.head large shape growing.chain.in_range)
 
 -- bytes at the end of those in hand are written over what the base has there
-pub written_on : (content base bytes : List ℕ) (end : ℕ) → length content ≡ end → (content ++ bytes) ++ drop (end + length bytes) base ≡ overwritten (content ++ drop end base) end bytes
+pub written_on : (content base bytes : List ℕ) (end : ℕ) → length content ≡ end → (content ++ bytes) ++ drop (end + length bytes) base ≡ written_into (content ++ drop end base) end bytes
 written_on content base bytes end is =
     let old : List ℕ = content ++ drop end base in
     let long : end ≤ length old = omega (arith, length-append content (drop end base)) in
@@ -87,7 +87,7 @@ hand_on map later d e geometry now g h base shared same begun spared keeps grown
 
 pub wrote : (map : BlockSets) (d e : Blocks) (geometry now : Geometry) (g h : Growing) (base : Stored) (shared : ℕ) (bytes : List ℕ) → now ≡ geometry → IsBegun map d geometry.block_size g base shared → Spares map (pending_of g) d e
     → content_of e h ≡ content_of d g ++ bytes → size_of now.block_size h ≡ size_of geometry.block_size g + length bytes → length (content_of d g) ≡ size_of geometry.block_size g
-    → hand_bytes e now.block_size h base ≡ overwritten (hand_bytes d geometry.block_size g base) (size_of geometry.block_size g) bytes
+    → hand_bytes e now.block_size h base ≡ written_into (hand_bytes d geometry.block_size g base) (size_of geometry.block_size g) bytes
 wrote map d e geometry now g h base shared bytes same begun spared content sum long =
     let end : ℕ = size_of geometry.block_size g in
     let old : List ℕ = bytes_of d geometry.block_size base.head base.size in
@@ -121,31 +121,31 @@ two_fit geometry now s used all most end size same is low high room =
 pub zeros_not : (old : List ℕ) (at : ℕ) → at ≤ length old → zeros_to at old ≡ old
 zeros_not old at le = ap (λ n. old ++ replicate n 0) (let z : at - length old ≡ 0 = omega arith in z) ∙ append-nil old
 
-pub as_block : (old : List ℕ) (at : ℕ) (bytes : List ℕ) → at ≤ length old → overwritten old at bytes ≡ in_block old at bytes
+pub as_block : (old : List ℕ) (at : ℕ) (bytes : List ℕ) → at ≤ length old → written_into old at bytes ≡ in_block old at bytes
 as_block old at bytes le = ap (λ (l : List ℕ). take at l ++ bytes ++ drop (at + length bytes) old) (zeros_not old at le)
 
 length-written : (old : List ℕ) (at : ℕ) (bytes : List ℕ) → at ≤ length old → at + length bytes ≤ length (in_block old at bytes)
 length-written old at bytes le = omega (arith, length-append (take at old ++ bytes) (drop (at + length bytes) old), length-append (take at old) bytes, length-take-le at old le)
 
-pub wrote_none : (old : List ℕ) (at : ℕ) → at ≤ length old → old ≡ overwritten old at []
+pub wrote_none : (old : List ℕ) (at : ℕ) → at ≤ length old → old ≡ written_into old at []
 wrote_none old at le = sym (as_block old at [] le ∙ overwritten_none old at)
 
-pub wrote_more : (old : List ℕ) (at : ℕ) (first second : List ℕ) → at ≤ length old → overwritten (overwritten old at first) (at + length first) second ≡ overwritten old at (first ++ second)
+pub wrote_more : (old : List ℕ) (at : ℕ) (first second : List ℕ) → at ≤ length old → written_into (written_into old at first) (at + length first) second ≡ written_into old at (first ++ second)
 wrote_more old at first second le =
-    ap (λ (l : List ℕ). overwritten l (at + length first) second) (as_block old at first le)
+    ap (λ (l : List ℕ). written_into l (at + length first) second) (as_block old at first le)
     ∙ as_block (in_block old at first) (at + length first) second (length-written old at first le)
     ∙ overwritten_next old at first second le
     ∙ sym (as_block old at (first ++ second) le)
 
 -- more zeros
-pub more_zeros : (old now new part : List ℕ) (at size done n : ℕ) → at ≤ length old → now ≡ overwritten old at (replicate done 0) → size ≡ at + done → part ≡ replicate n 0 → new ≡ overwritten now size part → new ≡ overwritten old at (replicate (done + n) 0)
+pub more_zeros : (old now new part : List ℕ) (at size done n : ℕ) → at ≤ length old → now ≡ written_into old at (replicate done 0) → size ≡ at + done → part ≡ replicate n 0 → new ≡ written_into now size part → new ≡ written_into old at (replicate (done + n) 0)
 more_zeros old now new part at size done n le so_far is zeros written =
     written
-    ∙ ap (λ (l : List ℕ). overwritten l size part) so_far
-    ∙ ap (λ k. overwritten (overwritten old at (replicate done 0)) k part) (is ∙ ap (λ k. at + k) (sym (length-replicate done 0)))
+    ∙ ap (λ (l : List ℕ). written_into l size part) so_far
+    ∙ ap (λ k. written_into (written_into old at (replicate done 0)) k part) (is ∙ ap (λ k. at + k) (sym (length-replicate done 0)))
     ∙ wrote_more old at (replicate done 0) part le
-    ∙ ap (λ (l : List ℕ). overwritten old at (replicate done 0 ++ l)) zeros
-    ∙ ap (overwritten old at) (replicate-append-replicate done n 0)
+    ∙ ap (λ (l : List ℕ). written_into old at (replicate done 0 ++ l)) zeros
+    ∙ ap (written_into old at) (replicate-append-replicate done n 0)
 
 -- the bytes in hand are among the contents
 pub in_hand : (d : Blocks) (block_size count : ℕ) (g : Growing) (base : Stored) → 1024 ≤ block_size → IsDivided block_size count d → IsGrowing d g → size_of block_size g ≤ length (hand_bytes d block_size g base)
@@ -180,7 +180,7 @@ length-hand d block_size count g base large shape growing based =
     )
 
 -- bytes at the end or behind it
-pub at_end : (old bytes : List ℕ) (place : ℕ) → length old ≤ place → overwritten old place bytes ≡ zeros_to place old ++ bytes
+pub at_end : (old bytes : List ℕ) (place : ℕ) → length old ≤ place → written_into old place bytes ≡ zeros_to place old ++ bytes
 at_end old bytes place le =
     let zeros : List ℕ = zeros_to place old in
     let long : length zeros ≡ place = omega (arith, length-append old (replicate (place - length old) 0), length-replicate {A = ℕ} (place - length old) 0) in
@@ -189,29 +189,29 @@ at_end old bytes place le =
     ∙ append-nil (zeros ++ bytes)
 
 -- zeros up to a place, and bytes there
-pub wrote_past : (old bytes : List ℕ) (len place : ℕ) → length old ≡ len → len ≤ place → overwritten (overwritten old len (replicate (place - len) 0)) place bytes ≡ overwritten old place bytes
+pub wrote_past : (old bytes : List ℕ) (len place : ℕ) → length old ≡ len → len ≤ place → written_into (written_into old len (replicate (place - len) 0)) place bytes ≡ written_into old place bytes
 wrote_past old bytes len place is le =
     let gap : List ℕ = replicate (place - len) 0 in
     let mid : List ℕ = old ++ gap in
-    let first : overwritten old len gap ≡ mid = at_end old gap len (omega arith) ∙ ap (λ (l : List ℕ). l ++ gap) (zeros_not old len (omega arith)) in
+    let first : written_into old len gap ≡ mid = at_end old gap len (omega arith) ∙ ap (λ (l : List ℕ). l ++ gap) (zeros_not old len (omega arith)) in
     let long : length mid ≡ place = omega (arith, length-append old gap, length-replicate {A = ℕ} (place - len) 0) in
-    ap (λ (l : List ℕ). overwritten l place bytes) first
+    ap (λ (l : List ℕ). written_into l place bytes) first
     ∙ at_end mid bytes place (omega arith)
     ∙ ap (λ (l : List ℕ). l ++ bytes) (zeros_not mid place (omega arith))
     ∙ ap (λ n. old ++ replicate (place - n) 0 ++ bytes) (sym is)
     ∙ sym (at_end old bytes place (omega arith))
 
 -- a write at a place, over zeros up to it where there is a gap
-pub wrote_gap : (old bytes : List ℕ) (len place begin : ℕ) → length old ≡ len → begin ≡ min place len → overwritten (overwritten old begin (replicate (place - begin) 0)) place bytes ≡ overwritten old place bytes
+pub wrote_gap : (old bytes : List ℕ) (len place begin : ℕ) → length old ≡ len → begin ≡ min place len → written_into (written_into old begin (replicate (place - begin) 0)) place bytes ≡ written_into old place bytes
 wrote_gap old bytes len place begin is at = ⊎_elim
     (λ less. let e : begin ≡ len = omega arith in
-    ap (λ n. overwritten (overwritten old n (replicate (place - n) 0)) place bytes) e ∙ wrote_past old bytes len place is (omega arith))
+    ap (λ n. written_into (written_into old n (replicate (place - n) 0)) place bytes) e ∙ wrote_past old bytes len place is (omega arith))
     (λ ge.
     let e : begin ≡ place = omega arith in
     let z : place - place ≡ 0 = omega arith in
-    ap (λ n. overwritten (overwritten old n (replicate (place - n) 0)) place bytes) e
-    ∙ ap (λ n. overwritten (overwritten old place (replicate n 0)) place bytes) z
-    ∙ ap (λ (l : List ℕ). overwritten l place bytes) (sym (wrote_none old place (omega arith))))
+    ap (λ n. written_into (written_into old n (replicate (place - n) 0)) place bytes) e
+    ∙ ap (λ n. written_into (written_into old place (replicate n 0)) place bytes) z
+    ∙ ap (λ (l : List ℕ). written_into l place bytes) (sym (wrote_none old place (omega arith))))
     (cases_lt len place)
 
 -- there is room for one list more over the base as it is, or for two
@@ -223,11 +223,11 @@ either_fits geometry now s t used was all was_all end begin len last size same i
     (λ ne. let room = anew ne in two_fit geometry now s used all (max len last) size len same (grows ne) (omega arith) (omega arith) (omega arith))
     (cases_eq end begin)
 
-pub wrote_all : (old turned zeroed new bytes : List ℕ) (len place begin at end : ℕ) → length old ≡ len → begin ≡ min place len → turned ≡ old → at ≡ begin → zeroed ≡ overwritten turned at (replicate (place - begin) 0) → end ≡ place
-    → new ≡ overwritten zeroed end bytes → new ≡ overwritten old place bytes
+pub wrote_all : (old turned zeroed new bytes : List ℕ) (len place begin at end : ℕ) → length old ≡ len → begin ≡ min place len → turned ≡ old → at ≡ begin → zeroed ≡ written_into turned at (replicate (place - begin) 0) → end ≡ place
+    → new ≡ written_into zeroed end bytes → new ≡ written_into old place bytes
 wrote_all old turned zeroed new bytes len place begin at end is from same here zeros there written =
     let gap : List ℕ = replicate (place - begin) 0 in
     written
-    ∙ ap (λ n. overwritten zeroed n bytes) there
-    ∙ ap (λ (x : List ℕ). overwritten x place bytes) (zeros ∙ ap (λ n. overwritten turned n gap) here ∙ ap (λ (x : List ℕ). overwritten x begin gap) same)
+    ∙ ap (λ n. written_into zeroed n bytes) there
+    ∙ ap (λ (x : List ℕ). written_into x place bytes) (zeros ∙ ap (λ n. written_into turned n gap) here ∙ ap (λ (x : List ℕ). written_into x begin gap) same)
     ∙ wrote_gap old bytes len place begin is from

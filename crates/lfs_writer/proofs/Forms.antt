@@ -4,8 +4,9 @@ use Rattle.std.specs.Prelude.{nat_le, nat_lt, ◌==◌, ◌||◌}
 use Rattle.std.proofs.lemmas.Bool.{or_left, or_right, eqb-true, eqb-false, leb-true, leb-false, ltb-true, ltb-false, ne_eqb, eq-eqb, cases_eq, lt-leb, le-leb}
 use Rattle.std.proofs.lemmas.List.{length-take, length-replicate}
 use Rattle.lfs_model.specs.Disk.{inline_limit}
-use Rattle.lfs_model.specs.Lists.{blocks_for}
-use Rattle.lfs_model.specs.Session.{Writer, after_write, after_truncate, after_sync, ctz_blocks, held_by, opened_writer, overwritten, turns, write_place, zeros_to}
+use Rattle.lfs_model.specs.SkipLists.{blocks_for}
+use Rattle.lfs_model.specs.Session.{Writer, ctz_blocks, held_by}
+use Rattle.lfs_model.specs.Writers.{after_write, after_truncate, after_sync, opened_writer, written_into, turns, write_place, zeros_to}
 use Rattle.lfs_model.specs.Operations.{Flags}
 use Rattle.lfs_model.specs.Tree.{Path}
 use Rattle.lfs_writer.specs.Form.{Form, InMemory, Finished, InHand, form_size, form_blocks, grown, shortened, written, truncated, synced, IsKept}
@@ -14,7 +15,7 @@ use Rattle.lfs_model.proofs.ListSizes.{blocks_for-more}
 length-zeros_to : (n : ℕ) (bytes : List ℕ) → length (zeros_to n bytes) ≡ max n (length bytes)
 length-zeros_to n bytes = omega (arith, length-append bytes (replicate (n - length bytes) 0), length-replicate {A = ℕ} (n - length bytes) 0)
 
-pub length-written : (old : List ℕ) (at : ℕ) (bytes : List ℕ) → length (overwritten old at bytes) ≡ max (length old) (at + length bytes)
+pub length-written : (old : List ℕ) (at : ℕ) (bytes : List ℕ) → length (written_into old at bytes) ≡ max (length old) (at + length bytes)
 length-written old at bytes =
     let front : length (take at (zeros_to at old)) ≡ at = omega (arith, length-take at (zeros_to at old), length-zeros_to at old) in
     omega (arith, front, length-append (take at (zeros_to at old) ++ bytes) (drop (at + length bytes) old), length-append (take at (zeros_to at old)) bytes, length-drop (at + length bytes) old)

@@ -3,7 +3,7 @@ use Rattle.std.proofs.Common.{ℕ, ◌≡◌, ◌+◌, ◌++◌, List, length, s
 use Rattle.lfs_device.specs.declared.geometry.Geometry.{Geometry}
 use Rattle.lfs_model.specs.Blocks.{Blocks}
 use Rattle.lfs_model.specs.BlockSets.{BlockSets}
-use Rattle.lfs_model.specs.Session.{overwritten}
+use Rattle.lfs_model.specs.Writers.{written_into}
 use Rattle.lfs_ctz.specs.Extended.{geometry_of, growing_of}
 use Rattle.lfs_ctz.specs.Growing.{content_of, pending_of}
 use Rattle.lfs_ctz.specs.declared.extender.Extender.{Extender}
@@ -31,6 +31,6 @@ module _ (map later : BlockSets) (d e : Blocks) (list longer : Extender) (base :
 -- bytes at its end are written over what the base has there
 pub extended_bytes : (map later : BlockSets) (d e : Blocks) (list longer : Extender) (base : Stored) (shared : ℕ) (bytes : List ℕ) → IsBegun map d (geometry_of list).block_size (growing_of list) base shared → Spares map (pending_of (growing_of list)) d e
     → IsExtended map d list (bytes_in_hand d list ++ bytes) (end_of list + length bytes) later e longer → length (content_of d (growing_of list)) ≡ end_of list
-    → bytes_over e (record { list = longer; base = base; shared = shared }) ≡ overwritten (bytes_over d (record { list = list; base = base; shared = shared })) (end_of list) bytes
+    → bytes_over e (record { list = longer; base = base; shared = shared }) ≡ written_into (bytes_over d (record { list = list; base = base; shared = shared })) (end_of list) bytes
 extended_bytes map later d e list longer base shared bytes begun spared more long =
     wrote map d e (geometry_of list) (geometry_of longer) (growing_of list) (growing_of longer) base shared bytes more.geometry begun spared more.content more.sum long

@@ -10,7 +10,7 @@ use Rattle.std.proofs.lemmas.Map.Keys.{apart_from_distinct}
 use Rattle.lfs_model.specs.Blocks.{Blocks}
 use Rattle.lfs_model.specs.BlockSets.{BlockSets, IsFree}
 use Rattle.lfs_model.specs.BlockSets.BlockState.{Free, Used}
-use Rattle.lfs_model.specs.Lists.{blocks_for}
+use Rattle.lfs_model.specs.SkipLists.{blocks_for}
 use Rattle.lfs_ctz.specs.Growing.{Growing, IsGrowing, blocks_of, is_held, kept_of, pending_of, size_of}
 use Rattle.lfs_ctz.specs.Growing.{pending_in}
 use Rattle.lfs_ctz.specs.declared.rest.Rest.{Rest}

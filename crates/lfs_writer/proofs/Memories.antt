@@ -3,13 +3,13 @@ use Rattle.std.proofs.Common.{ℕ, ◌≢◌, ap₂, refl, subst, inl, ◌≡◌
 use Rattle.std.proofs.lemmas.Bool.{cases_lt}
 use Rattle.std.proofs.lemmas.List.{append-nil, take_all, drop_all, length-replicate, length-take-le, replicate-append-replicate, take_at, take-append-le, take-take}
 use Rattle.lfs_model.specs.Blocks.{overwritten as in_block}
-use Rattle.lfs_model.specs.Session.{overwritten, zeros_to}
+use Rattle.lfs_model.specs.Writers.{written_into, zeros_to}
 use Rattle.lfs_device.specs.declared.geometry.Geometry.{Geometry}
 use Rattle.std.proofs.Math.Seq.{take-add}
 use Rattle.std.specs.Prelude.{All, Contains, slice_range}
 use Rattle.lfs_model.specs.Blocks.{Blocks}
 use Rattle.lfs_model.specs.BlockSets.{BlockSets, IsFree, IsInFlight}
-use Rattle.lfs_model.specs.Lists.{IsChain, IsList, blocks_back, blocks_for, bytes_before, bytes_of}
+use Rattle.lfs_model.specs.SkipLists.{AreListBlocks, IsList, blocks_back, blocks_for, bytes_before, bytes_of}
 use Rattle.lfs_ctz.specs.Extended.{geometry_of, growing_of}
 use Rattle.lfs_ctz.specs.Growing.{Growing, IsGrowing, IsHeld, IsRest, content_of, is_held_in, joined, kept_of, pending_in, pending_of, size_of}
 use Rattle.lfs_ctz.specs.declared.extender.Extender.{Extender}
@@ -45,7 +45,7 @@ front_zeros at size old le = ⊎_elim
     (cases_lt at (length old))
 
 -- bytes over contents that were filled up to hold them
-pub filled : (old now new bytes : List ℕ) (at size : ℕ) → size ≡ max (length old) (at + length bytes) → now ≡ take size (zeros_to size old) → new ≡ in_block now at bytes → new ≡ overwritten old at bytes
+pub filled : (old now new bytes : List ℕ) (at size : ℕ) → size ≡ max (length old) (at + length bytes) → now ≡ take size (zeros_to size old) → new ≡ in_block now at bytes → new ≡ written_into old at bytes
 filled old now new bytes at size is grown wrote =
     let all : List ℕ = zeros_to size old in
     let whole : now ≡ all = grown ∙ take_all size all (omega (arith, long_zeros size old)) in
@@ -59,17 +59,17 @@ filled old now new bytes at size is grown wrote =
     (cases_lt (length old) (at + length bytes))
 
 -- what stands behind a place doesn't matter where the bytes reach the end
-pub wrote_cut : (old bytes : List ℕ) (place keep : ℕ) → keep ≡ min place (length old) → length old ≤ place + length bytes → overwritten (take keep old) place bytes ≡ overwritten old place bytes
+pub wrote_cut : (old bytes : List ℕ) (place keep : ℕ) → keep ≡ min place (length old) → length old ≤ place + length bytes → written_into (take keep old) place bytes ≡ written_into old place bytes
 wrote_cut old bytes place keep is behind = ⊎_elim
     (λ less.
     let e : keep ≡ place = omega arith in
     let cut : List ℕ = take place old in
     let long : length cut ≡ place = length-take-le place old (omega arith) in
-    ap (λ n. overwritten (take n old) place bytes) e
+    ap (λ n. written_into (take n old) place bytes) e
     ∙ at_end cut bytes place (omega arith)
     ∙ ap (λ (l : List ℕ). l ++ bytes) (zeros_not cut place (omega arith))
     ∙ sym (as_block old place bytes (omega arith) ∙ ap (λ (l : List ℕ). cut ++ bytes ++ l) (drop_all (place + length bytes) old (omega arith)) ∙ append-nil (cut ++ bytes)))
-    (λ ge. ap (λ (l : List ℕ). overwritten l place bytes) (take_all keep old (omega arith)))
+    (λ ge. ap (λ (l : List ℕ). written_into l place bytes) (take_all keep old (omega arith)))
     (cases_lt place (length old))
 
 -- room for a list is room for its first bytes, over no base
@@ -82,12 +82,12 @@ no_base_fits geometry now s used was all was_all size most same none le is count
     omega arith
 
 -- zeros behind the end
-pub lengthened : (old zeroed new : List ℕ) (len at size : ℕ) → length old ≡ len → len ≤ size → zeroed ≡ old → at ≡ len → new ≡ overwritten zeroed at (replicate (size - len) 0) → new ≡ take size (zeros_to size old)
+pub lengthened : (old zeroed new : List ℕ) (len at size : ℕ) → length old ≡ len → len ≤ size → zeroed ≡ old → at ≡ len → new ≡ written_into zeroed at (replicate (size - len) 0) → new ≡ take size (zeros_to size old)
 lengthened old zeroed new len at size is le same here wrote =
     let gap : List ℕ = replicate (size - len) 0 in
     let end : List ℕ = zeros_to size old in
     let sum : len ≡ length old = sym is in
-    wrote ∙ ap (λ (l : List ℕ). overwritten l at gap) same ∙ ap (λ n. overwritten old n gap) here ∙ at_end old gap len (omega arith) ∙ ap (λ (l : List ℕ). l ++ gap) (zeros_not old len (omega arith))
+    wrote ∙ ap (λ (l : List ℕ). written_into l at gap) same ∙ ap (λ n. written_into old n gap) here ∙ at_end old gap len (omega arith) ∙ ap (λ (l : List ℕ). l ++ gap) (zeros_not old len (omega arith))
     ∙ ap (λ n. old ++ replicate (size - n) 0) sum ∙ sym (take_all size end (omega (arith, long_zeros size old)))
 
 -- the first bytes, where there are as many
@@ -99,7 +99,7 @@ pub held_size : (e : Extender) → IsHeld (growing_of e) → end_of e ≡ length
 held_size e held = omega (arith, ap (bytes_before (geometry_of e).block_size) held.none)
 
 -- more of them are loaded
-pub loaded : (bytes old part : List ℕ) (pos n : ℕ) → old ≡ take pos bytes → pos + n ≤ length bytes → part ≡ take n (drop pos bytes) → overwritten old pos part ≡ take (pos + n) bytes
+pub loaded : (bytes old part : List ℕ) (pos n : ℕ) → old ≡ take pos bytes → pos + n ≤ length bytes → part ≡ take n (drop pos bytes) → written_into old pos part ≡ take (pos + n) bytes
 loaded bytes old part pos n is le read =
     let long : length old ≡ pos = omega (arith, ap length is, length-take-le pos bytes (omega arith)) in
     at_end old part pos (omega arith) ∙ ap (λ (l : List ℕ). l ++ part) (zeros_not old pos (omega arith)) ∙ ap₂ (λ (a b : List ℕ). a ++ b) is read ∙ sym (take-add pos n bytes)
@@ -131,7 +131,7 @@ held_pending g held = pending_held g.stand held.held
 
 pub held_growing : (disk : Blocks) (g : Growing) → IsHeld g → IsGrowing disk g
 held_growing disk g held = record {
-  chain = subst (λ n. IsChain disk n g.head) (sym held.none) (none_chain disk g.head);
+  chain = subst (λ n. AreListBlocks disk n g.head) (sym held.none) (none_chain disk g.head);
   stand = never g.stand g.full held.held held.none disk g.head g.rest;
 }
 

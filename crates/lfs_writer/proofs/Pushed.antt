@@ -8,7 +8,7 @@ use Rattle.lfs_model.specs.Blocks.{Blocks, SameButThese}
 use Rattle.lfs_model.specs.BlockSets.{BlockSets, IsFree, IsInFlight, in_flight_count}
 use Rattle.lfs_model.specs.BlockSets.BlockState.{Free, InFlight}
 use Rattle.lfs_model.specs.History.{Event, AtWorst, LeavesOnly, StayUnprogrammed}
-use Rattle.lfs_model.specs.Lists.{blocks_back}
+use Rattle.lfs_model.specs.SkipLists.{blocks_back}
 use Rattle.lfs_model.proofs.Histories.{EachSince-weaker}
 use Rattle.lfs_model.proofs.Files.{length_back}
 use Rattle.lfs_device.specs.Calls.{ChangesOnly}

@@ -9,7 +9,7 @@ use Rattle.std.proofs.lemmas.Option.{slice_get-get_or}
 use Rattle.lfs_model.specs.Blocks.{Blocks, block_in}
 use Rattle.lfs_model.specs.BlockSets.{BlockState, BlockSets, IsInFlight, IsUsed, is_used, used_count}
 use Rattle.lfs_model.specs.BlockSets.BlockState.{Free, InFlight, Used}
-use Rattle.lfs_model.specs.Lists.{IsChain, blocks_back, word_at}
+use Rattle.lfs_model.specs.SkipLists.{AreListBlocks, blocks_back, word_at}
 use Rattle.lfs_model.proofs.BlockSets.{slice_get-set_same, slice_get-set_other}
 use Rattle.lfs_writer.specs.Released.{Releases}
 use Rattle.lfs_model.proofs.Files.{length_back}
@@ -74,22 +74,22 @@ drop_here d count head index lt =
     ∙ ap (λ n. slice_index (blocks_back d count head) index ∷ drop n (blocks_back d count head)) (sym (add-one index))
 
 -- its pointer 0 names the one before it
-pub before_in : (d : Blocks) (count head index block : ℕ) → IsChain d count head → 0 < index → index < count → block ≡ slice_index (blocks_back d count head) index
+pub before_in : (d : Blocks) (count head index block : ℕ) → AreListBlocks d count head → 0 < index → index < count → block ≡ slice_index (blocks_back d count head) index
     → word_at (block_in d block) 0 ≡ slice_index (blocks_back d count head) (index - 1)
 before_in d count head zero block chain some lt is = absurd (omega arith)
 before_in d count head (suc i) block chain some lt is = ap (λ b. word_at (block_in d b) 0) is ∙ chain.pointers (suc i) 0 lt (omega arith)
 
-pub in_range_at : (d : Blocks) (count head index : ℕ) → IsChain d count head → index < count → slice_index (blocks_back d count head) index < length d
+pub in_range_at : (d : Blocks) (count head index : ℕ) → AreListBlocks d count head → index < count → slice_index (blocks_back d count head) index < length d
 in_range_at d count head index chain lt = chain.in_range index 0 (omega (arith, length_back d count head))
 
 -- the block that was read before one
-pub next_is : (d e : Blocks) (count head index block word : ℕ) → e ≡ d → IsChain d count head → 0 < index → index < count → block ≡ slice_index (blocks_back d count head) index
+pub next_is : (d e : Blocks) (count head index block word : ℕ) → e ≡ d → AreListBlocks d count head → 0 < index → index < count → block ≡ slice_index (blocks_back d count head) index
     → word ≡ word_at (block_in e block) 0 → word ≡ slice_index (blocks_back d count head) (index - 1)
 next_is d e count head index block word same chain some lt is read =
     read ∙ ap (λ (b : Blocks). word_at (block_in b block) 0) same ∙ before_in d count head index block chain some lt is
 
 -- it is on the device
-pub next_there : (d e : Blocks) (count head index block n : ℕ) → e ≡ d → IsChain d count head → index < count → block ≡ slice_index (blocks_back d count head) index → n ≡ length d
+pub next_there : (d e : Blocks) (count head index block n : ℕ) → e ≡ d → AreListBlocks d count head → index < count → block ≡ slice_index (blocks_back d count head) index → n ≡ length d
     → 0 < index → n ≤ word_at (block_in e block) 0 → ⊥
 next_there d e count head index block n same chain lt is all some out =
     let next = next_is d e count head index block (word_at (block_in e block) 0) same chain some lt is refl in

@@ -3,8 +3,9 @@ use Rattle.std.proofs.Common.{ℕ, ◌≡◌, ◌+◌, ◌*◌, ◌<◌, ◌≤�
 use Rattle.std.specs.Prelude.{◌==◌}
 use Rattle.std.proofs.lemmas.Bool.{cases_lt}
 use Rattle.lfs_model.specs.Disk.{inline_limit}
-use Rattle.lfs_model.specs.Lists.{blocks_for}
-use Rattle.lfs_model.specs.Session.{Writer, after_truncate, after_write, held_by, write_place}
+use Rattle.lfs_model.specs.SkipLists.{blocks_for}
+use Rattle.lfs_model.specs.Session.{Writer, held_by}
+use Rattle.lfs_model.specs.Writers.{after_truncate, after_write, write_place}
 use Rattle.lfs_writer.specs.Form.{Form, InMemory, Finished, InHand, form_size, grown, IsKept}
 use Rattle.lfs_writer.specs.Contents.{IsLarge, NeedsRoom, end_room, truncate_room, write_room}
 use Rattle.lfs_writer.proofs.Forms.{kept_truncated, kept_written, room_ended, room_grown, room_turned, written_many}

@@ -4,8 +4,8 @@ use Rattle.std.specs.Prelude.{nat_le, nat_lt, ◌==◌}
 use Rattle.std.proofs.lemmas.Bool.{cases_eq, cases_lt, eq-eqb, ne_eqb, le-leb, lt-leb, lt-ltb, le-ltb}
 use Rattle.std.proofs.lemmas.List.{append-nil, length-replicate, length-take-le, take_all}
 use Rattle.std.proofs.Common.{length-append}
-use Rattle.lfs_model.specs.Lists.{blocks_for}
-use Rattle.lfs_model.specs.Session.{overwritten, zeros_to}
+use Rattle.lfs_model.specs.SkipLists.{blocks_for}
+use Rattle.lfs_model.specs.Writers.{written_into, zeros_to}
 use Rattle.lfs_writer.specs.Contents.{truncate_room}
 use Rattle.lfs_writer.specs.Form.{Form, InMemory, Finished, InHand, form_size, grown, shortened, truncated}
 use Rattle.lfs_writer.proofs.Flights.{at_end, zeros_not}
@@ -20,11 +20,11 @@ pub length-resized : (size : ℕ) (old : List ℕ) → length (take size (zeros_
 length-resized size old = length-take-le size (zeros_to size old) (omega (arith, filled_to size old))
 
 -- the first bytes, and zeros up to the size
-pub resized : (old : List ℕ) (keep size : ℕ) → keep ≡ min (length old) size → overwritten (take keep old) size [] ≡ take size (zeros_to size old)
+pub resized : (old : List ℕ) (keep size : ℕ) → keep ≡ min (length old) size → written_into (take keep old) size [] ≡ take size (zeros_to size old)
 resized old keep size is =
     let cut : List ℕ = take keep old in
     let long : length cut ≡ keep = length-take-le keep old (omega arith) in
-    let front : overwritten cut size [] ≡ zeros_to size cut = at_end cut [] size (omega arith) ∙ append-nil (zeros_to size cut) in
+    let front : written_into cut size [] ≡ zeros_to size cut = at_end cut [] size (omega arith) ∙ append-nil (zeros_to size cut) in
     front ∙ ⊎_elim
     (λ less.
     ap (zeros_to size) (take_all keep old (omega arith)) ∙ sym (take_all size (zeros_to size old) (omega (arith, filled_to size old))))

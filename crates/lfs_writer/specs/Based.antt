@@ -3,7 +3,7 @@ use Rattle.std.specs.Prelude.{ℕ, ◌≡◌, ◌⊎◌, All, List}
 use Rattle.lfs_model.specs.Blocks.{Blocks}
 use Rattle.lfs_model.specs.BlockSets.{BlockSets}
 use Rattle.lfs_writer.specs.Apart.{IsApart}
-use Rattle.lfs_model.specs.Lists.{IsList, blocks_back, blocks_for}
+use Rattle.lfs_model.specs.SkipLists.{IsList, blocks_back, blocks_for}
 
 abbrev pub IsBase : Blocks → ℕ → ℕ → ℕ → Type 0
 IsBase disk block_size head size = (size ≡ 0) ⊎ IsList disk block_size head size

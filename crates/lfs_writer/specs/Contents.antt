@@ -2,7 +2,7 @@
 use Rattle.std.specs.Prelude.{ℕ, ◌≡◌, ◌≢◌, ◌≤◌, ◌<◌, ◌+◌, ◌*◌, true, min, max, ◌==◌, nat_lt, if◌then◌else◌, List, length}
 use Rattle.lfs_model.specs.Blocks.{Blocks}
 use Rattle.lfs_model.specs.BlockSets.{BlockSets, IsInFlight}
-use Rattle.lfs_model.specs.Lists.{blocks_for}
+use Rattle.lfs_model.specs.SkipLists.{blocks_for}
 use Rattle.lfs_device.specs.declared.geometry.Geometry.{Geometry}
 use Rattle.lfs_ctz.specs.Extended.{geometry_of, growing_of}
 use Rattle.lfs_ctz.specs.Growing.{IsHeld}

@@ -3,7 +3,7 @@ use Rattle.std.specs.Prelude.{ℕ, ◌≡◌, ◌≢◌, ◌≤◌, ◌++◌, �
 use Rattle.lfs_model.specs.Blocks.{Blocks, block_in}
 use Rattle.lfs_model.specs.BlockSets.{BlockSets, IsFree, IsInFlight, IsUsed, used_count}
 use Rattle.lfs_model.specs.History.{Event, unprogrammed}
-use Rattle.lfs_model.specs.Lists.{blocks_for, bytes_of}
+use Rattle.lfs_model.specs.SkipLists.{blocks_for, bytes_of}
 use Rattle.lfs_ctz.specs.Growing.{Growing, IsGrowing, blocks_of, content_of, is_held, kept_of, pending_of, size_of}
 use Rattle.lfs_writer.specs.Apart.{IsApart, IsMarked}
 use Rattle.lfs_writer.specs.Based.{IsBase, list_blocks}

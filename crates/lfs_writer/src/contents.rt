@@ -4,8 +4,8 @@ ghost use Rattle.std.specs.Prelude.{◌≡◌, ◌≤◌, ◌<◌, ◌+◌, ◌^
 ghost use Rattle.lfs_device.specs.Calls.{TellsFaults};
 ghost use Rattle.lfs_model.specs.Blocks.{Blocks};
 ghost use Rattle.lfs_model.specs.BlockSets.{BlockSets, used_count};
-ghost use Rattle.lfs_model.specs.Lists.{blocks_for};
-ghost use Rattle.lfs_model.specs.Session.{overwritten};
+ghost use Rattle.lfs_model.specs.SkipLists.{blocks_for};
+ghost use Rattle.lfs_model.specs.Writers.{written_into};
 ghost use Rattle.lfs_writer.specs.Calls.{LeavesUsed};
 ghost use Rattle.lfs_writer.specs.Contents.{HasContents, IsIdle, IsLarge, IsQuiet, Stands, bytes_in, form_of, held_bytes, write_room};
 ghost use Rattle.lfs_writer.specs.Form as form;
@@ -67,7 +67,7 @@ fn write_held<D: BlockDevice>(
     requires small { place + length bytes.now < 2 ^ 31 }
     requires room { limit < max (length (held_bytes list)) (place + length bytes.now) → used_count map.old + blocks_for (D.geometry dev.old).block_size (place + length bytes.now) ≤ length map.old }
     ensures written { IfOk result (λ c. HasContents map.new (D.blocks dev.new) (D.geometry dev.old) c
-        (overwritten (held_bytes list) place bytes.now) (written limit place (length bytes.now) (form.InMemory (length (held_bytes list))))) }
+        (written_into (held_bytes list) place bytes.now) (written limit place (length bytes.now) (form.InMemory (length (held_bytes list))))) }
     ensures owned { IfOk result (λ c. AreOwned map.new (blocks_held (D.blocks dev.old) (D.geometry dev.old).block_size (Contents.InMemory list)) (blocks_held (D.blocks dev.new) (D.geometry dev.old).block_size c)) }
     ensures map { KeepsUsed map.old map.new }
     ensures device { LeavesUsed D.BlockDevice map.old dev.old dev.new }
@@ -98,7 +98,7 @@ fn write_over<D: BlockDevice>(
     requires small { place + length bytes.now < 2 ^ 31 }
     requires room { used_count map.old + blocks_for (D.geometry dev.old).block_size (place + length bytes.now) + base_blocks (D.geometry dev.old).block_size stored ≤ length map.old }
     ensures written { IfOk result (λ h. HasWritten map.new (D.blocks dev.new) (D.geometry dev.old) h (place + length bytes.now)
-        (overwritten (stored_bytes (D.blocks dev.old) (D.geometry dev.old).block_size stored) place bytes.now)) }
+        (written_into (stored_bytes (D.blocks dev.old) (D.geometry dev.old).block_size stored) place bytes.now)) }
     ensures base { IfOk result (λ h. KeepsList (D.geometry dev.old).block_size (D.blocks dev.old) stored (D.blocks dev.new) h.base) }
     ensures map { KeepsUsed map.old map.new }
     ensures device { LeavesUsed D.BlockDevice map.old dev.old dev.new }
@@ -128,7 +128,7 @@ fn write_stored<D: BlockDevice>(
     requires small { place + length bytes.now < 2 ^ 31 }
     requires room { limit < max stored.size (place + length bytes.now) → used_count map.old + blocks_for (D.geometry dev.old).block_size (place + length bytes.now) + base_blocks (D.geometry dev.old).block_size stored ≤ length map.old }
     ensures written { IfOk result (λ c. HasContents map.new (D.blocks dev.new) (D.geometry dev.old) c
-        (overwritten (stored_bytes (D.blocks dev.old) (D.geometry dev.old).block_size stored) place bytes.now) (written limit place (length bytes.now) (form.Finished stored.size stored.in_flight))) }
+        (written_into (stored_bytes (D.blocks dev.old) (D.geometry dev.old).block_size stored) place bytes.now) (written limit place (length bytes.now) (form.Finished stored.size stored.in_flight))) }
     ensures owned { IfOk result (λ c. AreOwned map.new (blocks_held (D.blocks dev.old) (D.geometry dev.old).block_size (Contents.Finished stored)) (blocks_held (D.blocks dev.new) (D.geometry dev.old).block_size c)) }
     ensures map { KeepsUsed map.old map.new }
     ensures device { LeavesUsed D.BlockDevice map.old dev.old dev.new }
@@ -161,7 +161,7 @@ fn write_hand<D: BlockDevice>(
     requires small { place + length bytes.now < 2 ^ 31 }
     requires room { used_count map.old + write_room (D.geometry dev.old).block_size place (length bytes.now) (form_of (Contents.InHand hand)) ≤ length map.old }
     ensures written { IfOk result (λ c. HasContents map.new (D.blocks dev.new) (D.geometry dev.old) c
-        (overwritten (bytes_over (D.blocks dev.old) hand) place bytes.now) (written limit place (length bytes.now) (form_of (Contents.InHand hand)))) }
+        (written_into (bytes_over (D.blocks dev.old) hand) place bytes.now) (written limit place (length bytes.now) (form_of (Contents.InHand hand)))) }
     ensures owned { IfOk result (λ c. AreOwned map.new (blocks_held (D.blocks dev.old) (D.geometry dev.old).block_size (Contents.InHand hand)) (blocks_held (D.blocks dev.new) (D.geometry dev.old).block_size c)) }
     ensures map { KeepsUsed map.old map.new }
     ensures device { LeavesUsed D.BlockDevice map.old dev.old dev.new }
@@ -193,7 +193,7 @@ pub fn write_contents<D: BlockDevice>(
     requires small { place + length bytes.now < 2 ^ 31 }
     requires room { limit < max (form_size (form_of contents)) (place + length bytes.now) → used_count map.old + write_room (D.geometry dev.old).block_size place (length bytes.now) (form_of contents) ≤ length map.old }
     ensures written { IfOk result (λ c. HasContents map.new (D.blocks dev.new) (D.geometry dev.old) c
-        (overwritten (bytes_in (D.blocks dev.old) (D.geometry dev.old).block_size contents) place bytes.now) (written limit place (length bytes.now) (form_of contents))) }
+        (written_into (bytes_in (D.blocks dev.old) (D.geometry dev.old).block_size contents) place bytes.now) (written limit place (length bytes.now) (form_of contents))) }
     ensures owned { IfOk result (λ c. AreOwned map.new (blocks_held (D.blocks dev.old) (D.geometry dev.old).block_size contents) (blocks_held (D.blocks dev.new) (D.geometry dev.old).block_size c)) }
     ensures map { KeepsUsed map.old map.new }
     ensures device { LeavesUsed D.BlockDevice map.old dev.old dev.new }

@@ -3,7 +3,7 @@
 ghost use Rattle.std.specs.Prelude.{◌≡◌, ◌≤◌, ◌+◌, ◌++◌, ◌⊎◌, length, max, drop, OnOk, IfErr};
 ghost use Rattle.lfs_device.specs.Calls.{TellsFaults};
 ghost use Rattle.lfs_model.specs.BlockSets.{in_flight_count, used_count};
-ghost use Rattle.lfs_model.specs.Lists.{blocks_for, bytes_of};
+ghost use Rattle.lfs_model.specs.SkipLists.{blocks_for, bytes_of};
 ghost use Rattle.lfs_ctz.specs.Extended.{geometry_of, growing_of};
 ghost use Rattle.lfs_ctz.specs.Growing.{IsGrowing, kept_of, pending_of};
 ghost use Rattle.lfs_writer.specs.Apart.{IsMarked};

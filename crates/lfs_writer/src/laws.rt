@@ -4,7 +4,8 @@
 ghost use Rattle.std.specs.Prelude.{◌≤◌, ◌<◌, ◌+◌, ◌-◌, ℕ, false, max, List, ◌∷◌, length};
 ghost use Rattle.lfs_model.specs.Disk.{inline_limit};
 ghost use Rattle.lfs_model.specs.Operations.{Flags};
-ghost use Rattle.lfs_model.specs.Session.{Writer, after_sync, after_truncate, after_write, held_by, opened_writer, write_place};
+ghost use Rattle.lfs_model.specs.Session.{Writer, held_by};
+ghost use Rattle.lfs_model.specs.Writers.{after_sync, after_truncate, after_write, opened_writer, write_place};
 ghost use Rattle.lfs_model.specs.Tree.{Path};
 ghost use Rattle.lfs_writer.specs.Contents.{IsLarge, NeedsRoom, end_room, truncate_room, write_room};
 ghost use Rattle.lfs_writer.specs.Form.{Form, InMemory, Finished, IsKept, form_blocks, form_size, synced, truncated, written};

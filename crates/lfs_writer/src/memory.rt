@@ -4,8 +4,8 @@ ghost use Rattle.std.specs.Prelude.{◌≡◌, ◌≤◌, ◌<◌, ◌+◌, ◌^
 ghost use Rattle.lfs_device.specs.Calls.{ReadsOnly, TellsFaults};
 ghost use Rattle.lfs_model.specs.Blocks.{Blocks};
 ghost use Rattle.lfs_model.specs.BlockSets.{BlockSets, used_count};
-ghost use Rattle.lfs_model.specs.Lists.{blocks_for};
-ghost use Rattle.lfs_model.specs.Session.{overwritten};
+ghost use Rattle.lfs_model.specs.SkipLists.{blocks_for};
+ghost use Rattle.lfs_model.specs.Writers.{written_into};
 ghost use Rattle.lfs_device.specs.declared.geometry.Geometry.{Geometry};
 ghost use Rattle.lfs_ctz.specs.Growing.{IsHeld};
 ghost use Rattle.lfs_writer.specs.Based.{IsBase};
@@ -89,7 +89,7 @@ pub(crate) fn write_out<D: BlockDevice>(
     requires behind { length (held_bytes list) ≤ place + length bytes.now }
     requires small { place + length bytes.now < 2 ^ 31 }
     requires room { used_count map.old + blocks_for (D.geometry dev.old).block_size (place + length bytes.now) ≤ length map.old }
-    ensures written { IfOk result (λ h. HasWritten map.new (D.blocks dev.new) (D.geometry dev.old) h (place + length bytes.now) (overwritten (held_bytes list) place bytes.now)) }
+    ensures written { IfOk result (λ h. HasWritten map.new (D.blocks dev.new) (D.geometry dev.old) h (place + length bytes.now) (written_into (held_bytes list) place bytes.now)) }
     ensures base { IfOk result (λ h. (h.base.size ≡ 0) × (h.base.in_flight ≡ false)) }
     ensures map { KeepsUsed map.old map.new }
     ensures device { LeavesUsed D.BlockDevice map.old dev.old dev.new }

@@ -2,7 +2,7 @@
 
 ghost use Rattle.std.specs.Prelude.{◌≡◌, ◌≤◌, ◌<◌, ◌∷◌, [], length, drop, OnOk, IfErr};
 ghost use Rattle.lfs_device.specs.Calls.{ReadsOnly, TellsFaults};
-ghost use Rattle.lfs_model.specs.Lists.{IsChain, blocks_back};
+ghost use Rattle.lfs_model.specs.SkipLists.{AreListBlocks, blocks_back};
 ghost use Rattle.lfs_writer.specs.Hand.{KeepsUsed};
 ghost use Rattle.lfs_writer.specs.Released.{Releases};
 
@@ -31,7 +31,7 @@ pub(crate) fn release_from<D: BlockDevice>(
     count: u32,
     from: u32,
 ) -> Result<(), Error>
-    requires chain { IsChain (D.blocks dev.old) count head }
+    requires chain { AreListBlocks (D.blocks dev.old) count head }
     requires map { length map.old ≡ length (D.blocks dev.old) }
     requires within { from ≤ count }
     ensures released { OnOk result (Releases map.old map.new (drop from (blocks_back (D.blocks dev.old) count head))) }

@@ -3,7 +3,7 @@
 ghost use Rattle.std.specs.Prelude.{◌≡◌, ◌<◌, ◌∷◌, ◌++◌, [], length, OnOk, IfErr};
 ghost use Rattle.lfs_device.specs.Calls.{ReadsOnly, TellsFaults};
 ghost use Rattle.lfs_model.specs.BlockSets.{Free, Used};
-ghost use Rattle.lfs_model.specs.Lists.{IsChain, blocks_back};
+ghost use Rattle.lfs_model.specs.SkipLists.{AreListBlocks, blocks_back};
 ghost use Rattle.lfs_writer.specs.Based.{IsBase, list_blocks};
 ghost use Rattle.lfs_writer.specs.Settled.{IsSettled, KeepsOthers, Puts};
 
@@ -31,7 +31,7 @@ fn free_blocks<D: BlockDevice>(
     head: u32,
     count: u32,
 ) -> Result<(), Error>
-    requires chain { IsChain (D.blocks dev.old) count head }
+    requires chain { AreListBlocks (D.blocks dev.old) count head }
     requires map { length map.old ≡ length (D.blocks dev.old) }
     ensures freed { OnOk result (Puts Free map.old map.new (blocks_back (D.blocks dev.old) count head)) }
     ensures others { KeepsOthers map.old map.new (blocks_back (D.blocks dev.old) count head) }
@@ -56,7 +56,7 @@ fn use_blocks<D: BlockDevice>(
     head: u32,
     count: u32,
 ) -> Result<(), Error>
-    requires chain { IsChain (D.blocks dev.old) count head }
+    requires chain { AreListBlocks (D.blocks dev.old) count head }
     requires map { length map.old ≡ length (D.blocks dev.old) }
     ensures used { OnOk result (Puts Used map.old map.new (blocks_back (D.blocks dev.old) count head)) }
     ensures others { KeepsOthers map.old map.new (blocks_back (D.blocks dev.old) count head) }

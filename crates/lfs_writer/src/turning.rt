@@ -3,8 +3,8 @@
 ghost use Rattle.std.specs.Prelude.{◌≡◌, ◌≢◌, ◌≤◌, ◌<◌, ◌+◌, ◌*◌, ◌^◌, ◌⊎◌, length, max, min, OnOk, IfOk, IfErr};
 ghost use Rattle.lfs_device.specs.Calls.{TellsFaults};
 ghost use Rattle.lfs_model.specs.BlockSets.{used_count};
-ghost use Rattle.lfs_model.specs.Lists.{blocks_for};
-ghost use Rattle.lfs_model.specs.Session.{overwritten};
+ghost use Rattle.lfs_model.specs.SkipLists.{blocks_for};
+ghost use Rattle.lfs_model.specs.Writers.{written_into};
 ghost use Rattle.lfs_writer.specs.Calls.{LeavesUsed};
 ghost use Rattle.lfs_writer.specs.Extended.{end_of};
 ghost use Rattle.lfs_writer.specs.Hand.{KeepsUsed};
@@ -70,7 +70,7 @@ pub(crate) fn write_turned<D: BlockDevice>(
     requires anew { end_of hand.list ≢ min place (length_in hand) →
         used_count map.old + 2 * blocks_for (D.geometry dev.old).block_size (max (length_in hand) (place + length bytes.now)) ≤ length map.old }
     ensures written { IfOk result (λ h. HasWritten map.new (D.blocks dev.new) (D.geometry dev.old) h (place + length bytes.now)
-        (overwritten (bytes_over (D.blocks dev.old) hand) place bytes.now)) }
+        (written_into (bytes_over (D.blocks dev.old) hand) place bytes.now)) }
     ensures over { IfOk result (TurnsOver map.new (D.geometry dev.old).block_size (D.blocks dev.old) hand (min place (length_in hand)) (D.blocks dev.new)) }
     ensures map { KeepsUsed map.old map.new }
     ensures device { LeavesUsed D.BlockDevice map.old dev.old dev.new }

@@ -3,8 +3,8 @@
 ghost use Rattle.std.specs.Prelude.{◌≡◌, ◌≤◌, ◌<◌, ◌+◌, ◌^◌, ◌⊎◌, length, min, OnOk, IfErr};
 ghost use Rattle.lfs_device.specs.Calls.{TellsFaults};
 ghost use Rattle.lfs_model.specs.BlockSets.{used_count};
-ghost use Rattle.lfs_model.specs.Lists.{blocks_for};
-ghost use Rattle.lfs_model.specs.Session.{overwritten};
+ghost use Rattle.lfs_model.specs.SkipLists.{blocks_for};
+ghost use Rattle.lfs_model.specs.Writers.{written_into};
 ghost use Rattle.lfs_writer.specs.Calls.{LeavesUsed};
 ghost use Rattle.lfs_writer.specs.Extended.{end_of};
 ghost use Rattle.lfs_writer.specs.Hand.{KeepsUsed};
@@ -47,7 +47,7 @@ pub(crate) fn write_on<D: BlockDevice>(
     requires room { used_count map.old + blocks_for (D.geometry dev.old).block_size (end_of hand.old.list + length bytes.now)
         + base_blocks (D.geometry dev.old).block_size hand.old.base ≤ length map.old }
     ensures written { OnOk result (HasWritten map.new (D.blocks dev.new) (D.geometry dev.old) hand.new (end_of hand.old.list + length bytes.now)
-        (overwritten (bytes_over (D.blocks dev.old) hand.old) (end_of hand.old.list) bytes.now)) }
+        (written_into (bytes_over (D.blocks dev.old) hand.old) (end_of hand.old.list) bytes.now)) }
     ensures base { KeepsList (D.geometry dev.old).block_size (D.blocks dev.old) hand.old.base (D.blocks dev.new) hand.new.base }
     ensures map { KeepsUsed map.old map.new }
     ensures device { LeavesUsed D.BlockDevice map.old dev.old dev.new }
@@ -77,7 +77,7 @@ pub(crate) fn write_from<D: BlockDevice>(
     requires small { place + length bytes.now < 2 ^ 31 }
     requires room { used_count map.old + blocks_for (D.geometry dev.old).block_size (place + length bytes.now) + base_blocks (D.geometry dev.old).block_size hand.old.base ≤ length map.old }
     ensures written { OnOk result (HasWritten map.new (D.blocks dev.new) (D.geometry dev.old) hand.new (place + length bytes.now)
-        (overwritten (bytes_over (D.blocks dev.old) hand.old) place bytes.now)) }
+        (written_into (bytes_over (D.blocks dev.old) hand.old) place bytes.now)) }
     ensures base { KeepsList (D.geometry dev.old).block_size (D.blocks dev.old) hand.old.base (D.blocks dev.new) hand.new.base }
     ensures map { KeepsUsed map.old map.new }
     ensures device { LeavesUsed D.BlockDevice map.old dev.old dev.new }

@@ -3,8 +3,8 @@
 ghost use Rattle.std.specs.Prelude.{◌≡◌, ◌≤◌, ◌<◌, ◌+◌, ◌^◌, ◌⊎◌, length, replicate, OnOk, IfErr};
 ghost use Rattle.lfs_device.specs.Calls.{TellsFaults};
 ghost use Rattle.lfs_model.specs.BlockSets.{used_count};
-ghost use Rattle.lfs_model.specs.Lists.{blocks_for};
-ghost use Rattle.lfs_model.specs.Session.{overwritten};
+ghost use Rattle.lfs_model.specs.SkipLists.{blocks_for};
+ghost use Rattle.lfs_model.specs.Writers.{written_into};
 ghost use Rattle.lfs_writer.specs.Calls.{LeavesUsed};
 ghost use Rattle.lfs_writer.specs.Extended.{end_of};
 ghost use Rattle.lfs_writer.specs.Hand.{KeepsUsed};
@@ -33,7 +33,7 @@ pub(crate) fn write_zeros<D: BlockDevice>(
     requires room { used_count map.old + blocks_for (D.geometry dev.old).block_size (end_of hand.old.list + count)
         + base_blocks (D.geometry dev.old).block_size hand.old.base ≤ length map.old }
     ensures zeroed { OnOk result (IsZeroed map.new (D.blocks dev.new) (D.geometry dev.old) hand.new count (end_of hand.old.list + count)
-        (overwritten (bytes_over (D.blocks dev.old) hand.old) (end_of hand.old.list) (replicate count 0))) }
+        (written_into (bytes_over (D.blocks dev.old) hand.old) (end_of hand.old.list) (replicate count 0))) }
     ensures base { KeepsList (D.geometry dev.old).block_size (D.blocks dev.old) hand.old.base (D.blocks dev.new) hand.new.base }
     ensures map { KeepsUsed map.old map.new }
     ensures device { LeavesUsed D.BlockDevice map.old dev.old dev.new }

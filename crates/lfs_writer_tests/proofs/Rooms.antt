@@ -1,7 +1,7 @@
 -- Room for two lists is room for each call.
 use Rattle.std.proofs.Common.{ℕ, ◌+◌, ◌*◌, ◌≤◌, Bool, true, false, if◌then◌else◌, max, min, arith}
 use Rattle.std.specs.Prelude.{nat_lt, ◌==◌}
-use Rattle.lfs_model.specs.Lists.{blocks_for}
+use Rattle.lfs_model.specs.SkipLists.{blocks_for}
 use Rattle.lfs_model.proofs.ListSizes.{blocks_for-more}
 use Rattle.lfs_writer.specs.Contents.{end_room, truncate_room, write_room}
 use Rattle.lfs_writer.specs.Form.{Form, InMemory, Finished, InHand, form_size}

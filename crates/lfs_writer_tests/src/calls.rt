@@ -2,7 +2,7 @@
 
 ghost use Rattle.std.specs.Prelude.{◌≡◌, ◌≤◌, ◌<◌, ◌+◌, ◌*◌, ◌^◌, true, max, length, IfOk};
 ghost use Rattle.lfs_model.specs.BlockSets.{used_count};
-ghost use Rattle.lfs_model.specs.Lists.{blocks_for};
+ghost use Rattle.lfs_model.specs.SkipLists.{blocks_for};
 ghost use Rattle.lfs_writer.specs.Contents.{IsLarge, Stands, form_of};
 ghost use Rattle.lfs_writer.specs.Form.{form_size};
 

@@ -8,7 +8,7 @@ use Rattle.lfs_ctz.proofs.Called.{not_read, read_on, quiet}
 use Rattle.lfs_ctz.proofs.Sizes.{pointers_of-le}
 use Rattle.lfs_device.specs.declared.geometry.Geometry.{Geometry}
 use Rattle.lfs_model.specs.Blocks.{Blocks, block_in}
-use Rattle.lfs_model.specs.Lists.{IsChain, blocks_back, pointers_of, word_at}
+use Rattle.lfs_model.specs.SkipLists.{AreListBlocks, blocks_back, pointers_of, word_at}
 use Rattle.lfs_ctz.proofs.Chains.{head_of_back, in_range_at, pointers_of-pos}
 use Rattle.lfs_ctz.proofs.Words.{with_word, word_at-with_word, word_at-with_word_above, drop-with_word}
 use Rattle.lfs_ctz.proofs.Zeros.{zeros32_before}
@@ -21,7 +21,7 @@ head_is d n head some =
     sym (subst (λ k. slice_index (blocks_back d k head) (n - 1) ≡ head) e (head_of_back d (n - 1) head))
 
 -- each further pointer is found where the one before it leads
-next_pointer : (d : Blocks) (n head k to : ℕ) → IsChain d n head → 0 < n → n < 2 ^ 32 → k < trailing_zeros w32 n → to ≡ slice_index (blocks_back d n head) (n - 2 ^ k)
+next_pointer : (d : Blocks) (n head k to : ℕ) → AreListBlocks d n head → 0 < n → n < 2 ^ 32 → k < trailing_zeros w32 n → to ≡ slice_index (blocks_back d n head) (n - 2 ^ k)
     → word_at (block_in d to) (4 * k) ≡ slice_index (blocks_back d n head) (n - 2 ^ (k + 1))
 next_pointer d n head k to chain some low less is =
     let zeros = zeros32_before n k some low less in

@@ -1,7 +1,7 @@
 use Rattle.std.proofs.Common.{ℕ, ◌≡◌, ◌<◌, ◌+◌, ◌-◌, ◌*◌, ◌^◌, length, drop, slice_index}
 use Rattle.lfs_device.specs.Calls.{ReadsOnly}
 use Rattle.lfs_model.specs.History.{faults}
-use Rattle.lfs_model.specs.Lists.{blocks_back, pointers_of, word_at}
+use Rattle.lfs_model.specs.SkipLists.{blocks_back, pointers_of, word_at}
 use Rattle.lfs_ctz.proofs.block.put_pointers.Given as goal
 
 abbrev pub invariant-loop-k : goal.invariant-loop-k

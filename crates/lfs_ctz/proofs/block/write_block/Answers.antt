@@ -3,7 +3,7 @@ use Rattle.lfs_model.proofs.Overwrites.{SameBut-trans}
 use Rattle.lfs_model.proofs.Histories.{erases-reads, programs-reads}
 use Rattle.lfs_model.specs.Blocks.{Blocks, SameBut, block_in}
 use Rattle.lfs_model.specs.History.{erases, programs}
-use Rattle.lfs_model.specs.Lists.{blocks_back, pointers_of, word_at}
+use Rattle.lfs_model.specs.SkipLists.{blocks_back, pointers_of, word_at}
 use Rattle.lfs_ctz.proofs.Grown.{chain_grown, grown_back}
 use Rattle.lfs_ctz.proofs.Called.{changes_on, erase_once, only_read, program_once}
 use Rattle.lfs_ctz.proofs.Words.{block_in-written, word_at-written, data-written}

@@ -2,7 +2,7 @@ use Rattle.std.proofs.Common.{ℕ, ◌≡◌, ◌≤◌, ◌+◌, ◌-◌, take,
 use Rattle.std.proofs.lemmas.Result.{err_from_is_err_and}
 use Rattle.lfs_device.specs.declared.geometry.Geometry.{Geometry}
 use Rattle.lfs_model.specs.Blocks.{Blocks, IsDivided}
-use Rattle.lfs_model.specs.Lists.{IsChain, IsList, IsPlace, blocks_back, blocks_for, bytes_of}
+use Rattle.lfs_model.specs.SkipLists.{AreListBlocks, IsList, IsBytePlace, blocks_back, blocks_for, bytes_of}
 use Rattle.lfs_ctz.specs.Finished.{IsEnd}
 use Rattle.lfs_ctz.proofs.Geometries.{chain, last_is, shaped, sized}
 use Rattle.lfs_ctz.proofs.Resumed.{front_end}
@@ -22,7 +22,7 @@ find-requires g c =
     omega (arith, lt, c.blocks_for.ensures)
 
 front_of : (d : Blocks) (geometry made : Geometry) (head size keep n i off block : ℕ) → made ≡ geometry → n ≡ blocks_for made.block_size size → IsDivided geometry.block_size geometry.block_count d → 1 ≤ keep → keep ≤ size
-    → IsPlace made.block_size (keep - 1) i off → (IsChain d (n - 1 + 1) head → block ≡ slice_index (blocks_back d (n - 1 + 1) head) i) → IsList d geometry.block_size head size
+    → IsBytePlace made.block_size (keep - 1) i off → (AreListBlocks d (n - 1 + 1) head → block ≡ slice_index (blocks_back d (n - 1 + 1) head) i) → IsList d geometry.block_size head size
     → IsEnd d geometry.block_size block keep (take keep (bytes_of d geometry.block_size head size)) (take (blocks_for geometry.block_size keep) (blocks_back d (blocks_for geometry.block_size size) head))
 front_of d geometry made head size keep n i off block e is shape some within place found list =
     let large = made.valid.no_smaller in

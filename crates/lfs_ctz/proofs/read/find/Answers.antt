@@ -5,7 +5,7 @@ use Rattle.lfs_ctz.proofs.Called.{not_read, read_on, quiet}
 use lib.Pow.{pow_mono}
 use Rattle.std.proofs.Common.{slice_index}
 use Rattle.lfs_model.specs.Blocks.{Blocks, block_in}
-use Rattle.lfs_model.specs.Lists.{word_at, blocks_back}
+use Rattle.lfs_model.specs.SkipLists.{word_at, blocks_back}
 use Rattle.lfs_ctz.proofs.Back.{FewSteps, no_steps, step_back, few_steps}
 use Rattle.lfs_ctz.proofs.Chains.{head_of_back, pointer_at}
 use Rattle.lfs_ctz.proofs.read.find.Goals as goal

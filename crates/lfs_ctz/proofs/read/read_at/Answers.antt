@@ -4,7 +4,7 @@ use Rattle.std.proofs.lemmas.List.{take_at}
 use Rattle.std.proofs.lemmas.Result.{err_from_is_err_and}
 use Rattle.lfs_device.specs.declared.geometry.Geometry.{Geometry}
 use Rattle.lfs_model.specs.Blocks.{Blocks, IsDivided, block_in}
-use Rattle.lfs_model.specs.Lists.{IsPlace, pointers_of, blocks_for, blocks_back, bytes_of, word_at}
+use Rattle.lfs_model.specs.SkipLists.{IsBytePlace, pointers_of, blocks_for, blocks_back, bytes_of, word_at}
 use Rattle.lfs_ctz.proofs.Sizes.{blocks_for-last, place-lt, place_unique, place-mono}
 use Rattle.lfs_ctz.proofs.Gathered.{IsPart, IsTurn, filled, turn_bytes, turn_rest, turn_before, turn_in_range, turn_index}
 use Rattle.lfs_ctz.proofs.Geometries.{last_is, chain, sized, shaped}
@@ -67,7 +67,7 @@ pub returns-in_err-read_part-clause-device : goal.returns-in_err-read_part-claus
 returns-in_err-read_part-clause-device g c = read_on g.D.BlockDevice c.blocks-2.invariant.device c.read_part.ensures.device
 
 -- what is read at an iteration
-is_part : (block_size pos left n i off k : ℕ) → IsPlace block_size (pos + left - 1) i off → k ≡ pointers_of i → n ≡ min left (off + 1 - 4 * k) → IsPart block_size pos left n i off
+is_part : (block_size pos left n i off k : ℕ) → IsBytePlace block_size (pos + left - 1) i off → k ≡ pointers_of i → n ≡ min left (off + 1 - 4 * k) → IsPart block_size pos left n i off
 is_part block_size pos left n i off k there many is = record { place = there; size = is ∙ ap (λ p. min left (off + 1 - 4 * p)) many }
 
 is_filled : (d same : Blocks) (new buf : List ℕ) (start n off block : ℕ) → same ≡ d → new ≡ take start buf ++ (take n (drop off (block_in same block)) ++ drop (start + n) buf) → new ≡ filled buf start n off (block_in d block)
@@ -82,7 +82,7 @@ all_there bytes new rest pos left len none size is =
 
 -- what an iteration knows, as a turn
 turn_of : (d same : Blocks) (geometry made : Geometry) (size pos len left n i off k block : ℕ) (buf new old : List ℕ)
-    → made ≡ geometry → IsDivided geometry.block_size geometry.block_count d → IsPlace made.block_size (pos + left - 1) i off → k ≡ pointers_of i → n ≡ min left (off + 1 - 4 * k)
+    → made ≡ geometry → IsDivided geometry.block_size geometry.block_count d → IsBytePlace made.block_size (pos + left - 1) i off → k ≡ pointers_of i → n ≡ min left (off + 1 - 4 * k)
     → 1 ≤ left → left ≤ len → len ≡ min (length old) (size - pos) → pos < size → length buf ≡ length old → block < geometry.block_count → same ≡ d
     → new ≡ take (left - n) buf ++ (take n (drop (off + 1 - n) (block_in same block)) ++ drop (left - n + n) buf)
     → IsTurn d made.block_size geometry.block_count size pos len left n i off block buf new
@@ -128,8 +128,8 @@ pub returns-then-left-eq0-clause-device : goal.returns-then-left-eq0-clause-devi
 returns-then-left-eq0-clause-device g c = read_on g.D.BlockDevice c.blocks-2.invariant.device c.read_part.ensures.device
 
 -- a place by the geometry of the device
-placed_by : (geometry made : Geometry) (pos i off : ℕ) → made ≡ geometry → IsPlace geometry.block_size pos i off → IsPlace made.block_size pos i off
-placed_by geometry made pos i off e is = subst (λ (k : Geometry). IsPlace k.block_size pos i off) (sym e) is
+placed_by : (geometry made : Geometry) (pos i off : ℕ) → made ≡ geometry → IsBytePlace geometry.block_size pos i off → IsBytePlace made.block_size pos i off
+placed_by geometry made pos i off e is = subst (λ (k : Geometry). IsBytePlace k.block_size pos i off) (sym e) is
 
 pub returns-then-left-eq0-clause-few : goal.returns-then-left-eq0-clause-few
 returns-then-left-eq0-clause-few g c m first last off end le is there =

@@ -4,7 +4,7 @@ use Rattle.std.proofs.lemmas.Slice.{drop-append-drop}
 use Rattle.std.specs.Int.{w32, from_le_bytes}
 use Rattle.lfs_device.specs.declared.geometry.Geometry.{Geometry}
 use Rattle.lfs_model.specs.Blocks.{Blocks, block_in}
-use Rattle.lfs_model.specs.Lists.{pointers_of, word_at}
+use Rattle.lfs_model.specs.SkipLists.{pointers_of, word_at}
 use Rattle.lfs_ctz.specs.Right.{IsNoted}
 use Rattle.lfs_ctz.proofs.Chains.{pointers_of-pos}
 use Rattle.lfs_ctz.proofs.Sizes.{pointers_of-le}

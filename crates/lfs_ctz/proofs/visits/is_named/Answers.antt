@@ -3,7 +3,7 @@ use Rattle.std.proofs.lemmas.Bool.{cases_lt}
 use Rattle.std.proofs.Math.Nat.{pow-suc}
 use Rattle.std.proofs.Common.{add-one}
 use lib.Pow.{pow_mono}
-use Rattle.lfs_model.specs.Lists.{word_at}
+use Rattle.lfs_model.specs.SkipLists.{word_at}
 use Rattle.lfs_ctz.proofs.visits.is_named.Goals as goal
 
 pub returns-then-word-block-clause-no : goal.returns-then-word-block-clause-no

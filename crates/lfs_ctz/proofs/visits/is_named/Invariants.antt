@@ -1,5 +1,5 @@
 use Rattle.std.proofs.Common.{ℕ, ◌≡◌, ◌<◌, ◌*◌}
-use Rattle.lfs_model.specs.Lists.{word_at}
+use Rattle.lfs_model.specs.SkipLists.{word_at}
 use Rattle.lfs_ctz.proofs.visits.is_named.Given as goal
 
 abbrev pub invariant-loop-k : goal.invariant-loop-k

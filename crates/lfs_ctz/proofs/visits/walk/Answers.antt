@@ -7,7 +7,7 @@ use Rattle.std.proofs.lemmas.Result.{err_from_is_err_and}
 use Rattle.std.proofs.lemmas.List.{drop_all}
 use Rattle.lfs_device.specs.declared.geometry.Geometry.{Geometry}
 use Rattle.lfs_model.specs.Blocks.{Blocks, IsDivided, block_in}
-use Rattle.lfs_model.specs.Lists.{IsChain, IsList, blocks_for, blocks_back, word_at}
+use Rattle.lfs_model.specs.SkipLists.{AreListBlocks, IsList, blocks_for, blocks_back, word_at}
 use Rattle.lfs_ctz.proofs.Sizes.{blocks_for-last}
 use Rattle.lfs_ctz.proofs.Chains.{head_of_back, length_back, in_range_at, back-pointer0}
 use Rattle.lfs_ctz.proofs.Geometries.{chain, sized, count_by}
@@ -57,7 +57,7 @@ loop-index-init g c =
 -- in a list a checked block is right
 module _ (d : Blocks) (geometry made : Geometry) (head size n index block : ℕ) (e : made ≡ geometry) (n_is : n ≡ blocks_for made.block_size size) (shape : IsDivided geometry.block_size geometry.block_count d)
     (fits : n - 1 < made.block_count) (some : 0 < index) (le : index ≤ n - 1) (is : block ≡ slice_index (blocks_back d (n - 1 + 1) head) index) (listed : IsList d geometry.block_size head size) where
-  as_chain : IsChain d (n - 1 + 1) head
+  as_chain : AreListBlocks d (n - 1 + 1) head
   as_chain = chain d made.block_size head size n made.valid.no_smaller n_is (sized d head size geometry made e listed)
 
   few : n - 1 + 1 ≤ 2 ^ 32
@@ -77,7 +77,7 @@ list_of_walk d head size n first geometry made e n_is shape low high fits words 
     let many = made.valid.no_more in
     let walked = chain_of_walk d (n - 1) head first words (omega arith) (subst (λ k. IsChecked d (n - 1) head first k 0 words) (sym shape.count) checked) is (omega (arith, lt, shape.count)) named in
     let count : n - 1 + 1 ≡ blocks_for geometry.block_size size = count_by geometry made size n e low n_is in
-    let whole : IsChain d (blocks_for geometry.block_size size) head = subst (λ k. IsChain d k head) count walked in
+    let whole : AreListBlocks d (blocks_for geometry.block_size size) head = subst (λ k. AreListBlocks d k head) count walked in
     record { size_low = low; size_high = high; in_range = whole.in_range; distinct = whole.distinct; pointers = whole.pointers }
 
 pub returns-in_err-before-clause-corrupt : goal.returns-in_err-before-clause-corrupt

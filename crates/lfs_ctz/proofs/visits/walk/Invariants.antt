@@ -2,7 +2,7 @@ use Rattle.std.proofs.Common.{ℕ, ◌<◌, ◌*◌, ◌^◌, length, ◌≡◌,
 use Rattle.std.specs.List.{FoldsTo}
 use Rattle.lfs_device.specs.Calls.{ReadsOnly}
 use Rattle.lfs_model.specs.History.{faults, reads}
-use Rattle.lfs_model.specs.Lists.{blocks_back}
+use Rattle.lfs_model.specs.SkipLists.{blocks_back}
 use Rattle.lfs_ctz.proofs.Walked.{IsChecked}
 use Rattle.lfs_ctz.proofs.visits.walk.Given as goal
 

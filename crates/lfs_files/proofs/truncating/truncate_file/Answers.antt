@@ -1,5 +1,5 @@
 use Rattle.std.proofs.Common.{rules, ap, take, ◌∙◌}
-use Rattle.lfs_model.specs.Session.{zeros_to}
+use Rattle.lfs_model.specs.Writers.{zeros_to}
 use Rattle.lfs_thread.specs.Kept.{disk_on}
 use Rattle.lfs_writer.specs.Contents.{bytes_in, form_of}
 use Rattle.lfs_writer.specs.Form.{truncated}

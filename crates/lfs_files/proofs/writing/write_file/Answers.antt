@@ -1,5 +1,5 @@
 use Rattle.std.proofs.Common.{rules, ap, length, ◌∙◌}
-use Rattle.lfs_model.specs.Session.{overwritten}
+use Rattle.lfs_model.specs.Writers.{written_into}
 use Rattle.lfs_thread.specs.Kept.{disk_on}
 use Rattle.lfs_writer.specs.Contents.{bytes_in, form_of}
 use Rattle.lfs_writer.specs.Form.{written}
@@ -22,7 +22,7 @@ returns-clause-written g c =
     (record { disk = ap (disk_on g.D.BlockDevice) run.shows ∙ ran.before.disk; history = ap g.D.BlockDevice.history run.shows ∙ ran.before.history; map = run.shows_map ∙ ran.before.map })
     (record { disk = ap (disk_on g.D.BlockDevice) run.leaves ∙ ran.after.disk; history = ap g.D.BlockDevice.history run.leaves ∙ ran.after.history; map = run.leaves_map ∙ ran.after.map })
     (g.met.D.BlockDevice.shape run.shown.now) (g.met.D.BlockDevice.shape run.left.now) (search rules)
-    (λ d n. overwritten (bytes_in d n c.args.contents) c.args.place c.args.bytes.now) (written c.args.limit c.args.place (length c.args.bytes.now) (form_of c.args.contents)) c.in_ok-written.written
+    (λ d n. written_into (bytes_in d n c.args.contents) c.args.place c.args.bytes.now) (written c.args.limit c.args.place (length c.args.bytes.now) (form_of c.args.contents)) c.in_ok-written.written
     (search rules)
 
 pub returns-clause-owned : goal.returns-clause-owned

@@ -1,5 +1,5 @@
 use Rattle.std.proofs.Common.{◌∙◌, [], sym, subst, true, refl}
-use Rattle.lfs_model.specs.Apply.{added}
+use Rattle.lfs_model.specs.TreeEdits.{added}
 use Rattle.lfs_model.specs.Tree.{FileNode}
 use Rattle.lfs_tree.specs.Seen.{SurvivesAs, tree_seen}
 use Rattle.lfs_fs.specs.FlagsSeen.{flags_seen}

@@ -1,5 +1,5 @@
 use Rattle.std.proofs.Common.{◌∙◌, ap, arith, subst, sym}
-use Rattle.lfs_model.specs.Apply.{attributes_of}
+use Rattle.lfs_model.specs.TreeEdits.{attributes_of}
 use Rattle.lfs_model.specs.Operations as ops
 use Rattle.lfs_model.specs.Session.{lacks}
 use Rattle.lfs_tree.specs.AttributeAt.{IsAttributesSize}

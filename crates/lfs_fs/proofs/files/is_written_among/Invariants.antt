@@ -1,7 +1,7 @@
 use Rattle.std.proofs.Common.{◌≡◌, drop}
 use Rattle.std.specs.List.{list_any}
-use Rattle.lfs_model.specs.Apply.{same_path}
-use Rattle.lfs_model.specs.Steps.{as_path}
+use Rattle.lfs_model.specs.TreeEdits.{same_path}
+use Rattle.lfs_model.specs.Refusals.{as_path}
 use Rattle.lfs_fs.specs.FileSeen.{writers_in}
 use Rattle.lfs_fs.proofs.files.is_written_among.Given as goal
 

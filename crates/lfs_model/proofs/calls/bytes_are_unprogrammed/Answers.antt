@@ -3,7 +3,7 @@ use Rattle.std.specs.Prelude.{All}
 use Rattle.std.proofs.lemmas.List.Elements.{All-from_recursion}
 use Rattle.std.proofs.lemmas.Bool.Decides.{nat_tests}
 use Rattle.lfs_model.specs.History.{unprogrammed}
-use Rattle.lfs_model.specs.HistoryExamples.{after_erase, after_read}
+use Rattle.lfs_model.specs.examples.Histories.{after_erase, after_read}
 use Rattle.lfs_model.proofs.calls.bytes_are_unprogrammed.Goals as goal
 
 from_there : (k : ℕ) → 2 ≤ k → k < 4 → unprogrammed after_read 0 k ≡ true

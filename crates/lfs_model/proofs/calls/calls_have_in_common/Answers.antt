@@ -1,6 +1,6 @@
 use Rattle.std.proofs.Common.{◌≡◌, false, [], ◌∷◌, refl, sym, ◌∙◌, subst, append-nil}
 use Rattle.lfs_model.specs.History.{EachEvent, IsReadOf}
-use Rattle.lfs_model.specs.HistoryExamples.{last_blocks, programming, reading, after_erase, after_program}
+use Rattle.lfs_model.specs.examples.Histories.{last_blocks, programming, reading, after_erase, after_program}
 use Rattle.std.proofs.lemmas.List.{append_cancel_right}
 use Rattle.lfs_model.proofs.calls.calls_have_in_common.Goals as goal
 

@@ -2,7 +2,7 @@ use Rattle.std.proofs.Common.{◌≡◌, [], ◌∷◌, refl, sym, ap, ◌∙◌
 use Rattle.std.specs.Prelude.{slice_index}
 use Rattle.lfs_model.specs.Blocks.{Blocks, block_in}
 use Rattle.lfs_model.specs.History.{EachEvent, AtWorst}
-use Rattle.lfs_model.specs.HistoryExamples.{first_blocks, after_read}
+use Rattle.lfs_model.specs.examples.Histories.{first_blocks, after_read}
 use Rattle.lfs_model.proofs.calls.stop_leaves_other_blocks.Goals as goal
 
 pub returns-clause-block_1 : goal.returns-clause-block_1

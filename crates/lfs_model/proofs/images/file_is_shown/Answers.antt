@@ -6,9 +6,9 @@ use Rattle.lfs_model.specs.Slots.{no_gstate}
 use Rattle.lfs_model.specs.Fresh.{superblock_bytes}
 use Rattle.lfs_model.proofs.Skips.{list_from}
 use Rattle.lfs_model.proofs.Examples.{image_shows, pair, file, long_file, large_superblock}
-use Rattle.lfs_model.specs.Examples.{small_image, appended_image}
-use Rattle.lfs_model.specs.View.{tree_in}
-use Rattle.lfs_model.specs.Apply.{added}
+use Rattle.lfs_model.specs.examples.Images.{small_image, appended_image}
+use Rattle.lfs_model.specs.Shown.{tree_in}
+use Rattle.lfs_model.specs.TreeEdits.{added}
 use Rattle.lfs_model.specs.Tree.{FileNode}
 use Rattle.lfs_model.specs.Fresh.{empty_tree}
 use Rattle.lfs_model.proofs.Fresh.{shows}

@@ -5,9 +5,9 @@ use Rattle.lfs_model.specs.Crc.{crc_of, next_bits}
 use Rattle.lfs_model.specs.Log.{chain_of, chain_within, commit_within, entry_at, closes}
 use Rattle.lfs_model.specs.Slots.{Slot, Inline, no_gstate}
 use Rattle.lfs_model.specs.Thread.{Pair}
-use Rattle.lfs_model.specs.View.{FitsSlot}
+use Rattle.lfs_model.specs.Profile.{FitsSlot}
 use Rattle.lfs_model.specs.Fresh.{superblock_bytes}
-use Rattle.lfs_model.specs.Examples.{superblock_with}
+use Rattle.lfs_model.specs.examples.Images.{superblock_with}
 use Rattle.lfs_model.proofs.Examples.{image_shows, pair, file, large_superblock}
 use Rattle.lfs_model.proofs.Refusals.{read_only_with, fails_slot}
 use Rattle.lfs_model.proofs.images.other_profile_is_read_only.Goals as goal

@@ -1,5 +1,5 @@
 use Rattle.std.proofs.Common.{◌≡◌, false, refl}
-use Rattle.lfs_model.specs.Examples.{three_blocks, three_blocks_with, round_blocks}
+use Rattle.lfs_model.specs.examples.Images.{three_blocks, three_blocks_with, round_blocks}
 use Rattle.lfs_model.proofs.Skips.{is_list, list_from, list_to}
 use Rattle.lfs_model.proofs.lists.list_is_read.Goals as goal
 

@@ -2,7 +2,7 @@ use Rattle.std.proofs.Common.{ℕ, ◌≡◌, ◌<◌, Bool, true, false, List, 
 use Rattle.std.specs.Prelude.{nat_lt}
 use Rattle.lfs_model.specs.Crc.{crc_of, next_bits}
 use Rattle.lfs_model.specs.Log.{chain_of, chain_within, commit_within, entry_at, closes}
-use Rattle.lfs_model.specs.Examples.{small_block, small_disk, turned_block}
+use Rattle.lfs_model.specs.examples.Images.{small_block, small_disk, turned_block}
 use Rattle.lfs_model.proofs.Skips.{all_below, below_from}
 use Rattle.lfs_model.proofs.Refusals.{no_commit}
 use Rattle.lfs_model.proofs.log.altered_commit_ends_log.Goals as goal

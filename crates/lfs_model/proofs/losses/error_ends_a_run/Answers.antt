@@ -1,7 +1,7 @@
 use Rattle.std.proofs.Common.{[], ◌∷◌, None, refl, sym, ◌∙◌, append-nil}
 use Rattle.std.specs.Prelude.{codes}
 use Rattle.lfs_model.specs.Operations as ops
-use Rattle.lfs_model.specs.RunExamples.{fresh_moment, failed_moment}
+use Rattle.lfs_model.specs.examples.Runs.{fresh_moment, failed_moment}
 use Rattle.lfs_model.specs.Failure.{IsCutShort}
 use Rattle.lfs_model.specs.State.{HasFailed, Healthy, mounted}
 use Rattle.lfs_model.specs.Fresh.{empty_tree}

@@ -7,8 +7,8 @@ use Rattle.lfs_model.specs.Fresh.{empty_tree}
 use Rattle.lfs_model.specs.Operations as ops
 use Rattle.lfs_model.specs.State.{Healthy, mounted}
 use Rattle.lfs_model.specs.Outages.{LosesPower}
-use Rattle.lfs_model.specs.Examples.{small_image}
-use Rattle.lfs_model.specs.RunExamples.{fresh_moment, no_disk}
+use Rattle.lfs_model.specs.examples.Images.{small_image}
+use Rattle.lfs_model.specs.examples.Runs.{fresh_moment, no_disk}
 use Rattle.lfs_model.proofs.Fresh.{shows}
 use Rattle.lfs_model.proofs.AfterStops.{outage_leaves}
 use Rattle.lfs_model.proofs.FreshSession.{pairs, are_accepted, in_profile, around, surrounds, none_accepted, withstood}

@@ -4,7 +4,7 @@ use Rattle.lfs_model.specs.Tree.{Tree}
 use Rattle.lfs_model.specs.Operations as ops
 use Rattle.lfs_model.specs.Fresh.{empty_tree}
 use Rattle.lfs_model.specs.State.{Healthy, mounted}
-use Rattle.lfs_model.specs.Examples.{small_image}
+use Rattle.lfs_model.specs.examples.Images.{small_image}
 use Rattle.lfs_model.proofs.Fresh.{shows, writable}
 use Rattle.lfs_model.proofs.Example.{fresh}
 use Rattle.lfs_model.proofs.AfterStops.{left_is_safe}

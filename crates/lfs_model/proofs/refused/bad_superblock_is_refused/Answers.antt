@@ -3,7 +3,7 @@ use Rattle.lfs_model.specs.Crc.{crc_of, next_bits}
 use Rattle.lfs_model.specs.Log.{chain_of, chain_within, commit_within, entry_at, closes}
 use Rattle.lfs_model.specs.Slots.{no_gstate, Inline}
 use Rattle.lfs_model.specs.Fresh.{superblock_bytes}
-use Rattle.lfs_model.specs.Examples.{superblock_with}
+use Rattle.lfs_model.specs.examples.Images.{superblock_with}
 use Rattle.lfs_model.proofs.Examples.{pair, large_superblock}
 use Rattle.lfs_model.proofs.Refusals.{no_first, refused_with, fails_superblock}
 use Rattle.lfs_model.proofs.refused.bad_superblock_is_refused.Goals as goal

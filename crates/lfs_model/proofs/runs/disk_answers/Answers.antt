@@ -1,13 +1,13 @@
 use Rattle.std.proofs.Common.{◌≡◌, sym, ap, ◌∙◌}
 use Rattle.std.specs.Prelude.{codes}
-use Rattle.lfs_model.specs.View.{tree_in}
+use Rattle.lfs_model.specs.Shown.{tree_in}
 use Rattle.lfs_model.specs.Fresh.{empty_tree}
 use Rattle.lfs_model.specs.Operations as ops
 use Rattle.lfs_model.specs.Session.{Session, reader_of, file_of}
 use Rattle.lfs_model.specs.State.{State, HasFailed, Healthy, mounted}
-use Rattle.lfs_model.specs.Steps.{applied}
+use Rattle.lfs_model.specs.Effects.{applied}
 use Rattle.lfs_model.specs.Headline.{read_from}
-use Rattle.lfs_model.specs.Examples.{small_image}
+use Rattle.lfs_model.specs.examples.Images.{small_image}
 use Rattle.lfs_model.proofs.Fresh.{shows}
 use Rattle.lfs_model.proofs.FreshSession.{pairs, are_accepted, tree_is_empty, around, surrounds}
 use Rattle.lfs_model.proofs.runs.disk_answers.Goals as goal

@@ -7,8 +7,8 @@ use Rattle.lfs_model.specs.Fresh.{superblock_slot}
 use Rattle.lfs_model.specs.Session.{file_of}
 use Rattle.lfs_model.specs.SlotEdits.{new_file, new_directory, Replaces, Stores, Commits}
 use Rattle.lfs_model.specs.Layout.{slots_of}
-use Rattle.lfs_model.specs.Examples.{large_image}
-use Rattle.lfs_model.specs.RunExamples.{directories_with, two_directories, root_with, heavy_file, writing_at}
+use Rattle.lfs_model.specs.examples.Images.{large_image}
+use Rattle.lfs_model.specs.examples.Runs.{directories_with, two_directories, root_with, heavy_file, writing_at}
 use Rattle.lfs_model.proofs.Sites.{Among}
 use Rattle.lfs_model.proofs.Spliced.{comes}
 use Rattle.lfs_model.proofs.slots.entries_are_replaced.Goals as goal

@@ -1,8 +1,8 @@
 use Rattle.std.proofs.Common.{◌≤◌, [], ◌∷◌, None, refl, arith}
 use Rattle.std.specs.Prelude.{codes}
 use Rattle.lfs_model.specs.Layout.{Fits}
-use Rattle.lfs_model.specs.Examples.{small_image}
-use Rattle.lfs_model.specs.RunExamples.{pair_with, heavy_file}
+use Rattle.lfs_model.specs.examples.Images.{small_image}
+use Rattle.lfs_model.specs.examples.Runs.{pair_with, heavy_file}
 use Rattle.lfs_model.proofs.slots.pairs_are_cut_and_dropped.Goals as goal
 
 too_much : Fits small_image (pair_with (2, 3) (heavy_file (codes "a") ∷ heavy_file (codes "b") ∷ []) None) → ⊥

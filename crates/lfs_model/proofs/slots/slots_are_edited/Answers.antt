@@ -5,7 +5,7 @@ use Rattle.lfs_model.specs.Slots.{Slot, Struct, Inline}
 use Rattle.lfs_model.specs.Fresh.{superblock_slot}
 use Rattle.lfs_model.specs.SlotEdits.{new_file, new_directory, Moves}
 use Rattle.lfs_model.specs.Layout.{slots_of}
-use Rattle.lfs_model.specs.RunExamples.{directories_with, root_with}
+use Rattle.lfs_model.specs.examples.Runs.{directories_with, root_with}
 use Rattle.lfs_model.proofs.Sites.{Among}
 use Rattle.lfs_model.proofs.Spliced.{comes}
 use Rattle.lfs_model.proofs.slots.slots_are_edited.Goals as goal

@@ -4,12 +4,12 @@ use Rattle.lfs_model.specs.Disk.{Disk}
 use Rattle.lfs_model.specs.Names.{same_name}
 use Rattle.lfs_model.specs.Slots.{Slot, Struct, Inline, Ctz}
 use Rattle.lfs_model.specs.Tree.{Path, slot_at}
-use Rattle.lfs_model.specs.Apply.{same_path}
-use Rattle.lfs_model.specs.View.{entries_in}
+use Rattle.lfs_model.specs.TreeEdits.{same_path}
+use Rattle.lfs_model.specs.Shown.{entries_in}
 use Rattle.lfs_model.specs.Operations as ops
 use Rattle.lfs_model.specs.SlotEdits.{new_file}
 use Rattle.lfs_model.specs.Keeping.{struct_at, KeepsStructs}
-use Rattle.lfs_model.specs.RunExamples.{root_with, writing_at}
+use Rattle.lfs_model.specs.examples.Runs.{root_with, writing_at}
 use Rattle.lfs_model.proofs.Paths.{Names, alike, unlike, names, same_itself}
 use Rattle.lfs_model.proofs.slots.structs_are_kept.Goals as goal
 

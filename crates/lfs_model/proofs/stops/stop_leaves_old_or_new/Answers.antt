@@ -3,8 +3,8 @@ use Rattle.std.specs.Prelude.{ℕ, take}
 use Rattle.std.proofs.lemmas.List.{get_or-set_other}
 use Rattle.lfs_model.specs.Crc.{crc_of, next_bits}
 use Rattle.lfs_model.specs.Log.{log_of, chain_of, chain_within, commit_within, entry_at, closes}
-use Rattle.lfs_model.specs.Stored.{unwritten}
-use Rattle.lfs_model.specs.Examples.{small_commit, appended_commit}
+use Rattle.lfs_model.specs.BlockBytes.{unwritten}
+use Rattle.lfs_model.specs.examples.Images.{small_commit, appended_commit}
 use Rattle.lfs_model.proofs.Stopped.{stops_before, stops_whole}
 use Rattle.lfs_model.proofs.stops.stop_leaves_old_or_new.Goals as goal
 

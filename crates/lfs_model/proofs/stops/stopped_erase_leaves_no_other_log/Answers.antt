@@ -4,8 +4,8 @@ use Rattle.lfs_model.specs.History.{Erase, event}
 use Rattle.lfs_model.specs.Crc.{crc_of, next_bits}
 use Rattle.lfs_model.specs.Log.{BlockLog, chain_of, chain_within, commit_within, entry_at, closes}
 use Rattle.lfs_model.specs.Stops.{Stops, LeftByErase}
-use Rattle.lfs_model.specs.Stored.{unwritten, filled}
-use Rattle.lfs_model.specs.Examples.{small_block, small_commit, appended_commit}
+use Rattle.lfs_model.specs.BlockBytes.{unwritten, filled}
+use Rattle.lfs_model.specs.examples.Images.{small_block, small_commit, appended_commit}
 use Rattle.lfs_model.proofs.stops.stopped_erase_leaves_no_other_log.Goals as goal
 
 abbrev commits_in : Option BlockLog → ℕ

@@ -3,7 +3,7 @@ use Rattle.std.specs.Prelude.{List, codes}
 use Rattle.std.proofs.lemmas.Fmt.{decimal_digit}
 use Rattle.lfs_model.specs.Tree.{FileNode, DirectoryNode}
 use Rattle.lfs_model.specs.Listing.{Entry, IsWalkOf, paths_in}
-use Rattle.lfs_model.specs.Examples.{tree_with, small_nodes}
+use Rattle.lfs_model.specs.examples.Images.{tree_with, small_nodes}
 use Rattle.lfs_model.proofs.Walked.{same_walk}
 use Rattle.lfs_model.proofs.tree.tree_is_listed.Goals as goal
 

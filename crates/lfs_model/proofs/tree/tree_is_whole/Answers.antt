@@ -1,7 +1,7 @@
 use Rattle.std.proofs.Common.{refl}
 use Rattle.lfs_model.specs.Tree.{root_slot, names_at}
 use Rattle.lfs_model.specs.Thread.{root_of}
-use Rattle.lfs_model.specs.View.{contents_in, entries_in}
+use Rattle.lfs_model.specs.Shown.{contents_in, entries_in}
 use Rattle.lfs_model.proofs.Parents.{parent_has_name, name_has_node}
 use Rattle.lfs_model.proofs.tree.tree_is_whole.Goals as goal
 

@@ -4,7 +4,7 @@ use Rattle.lfs_device.specs.declared.error.Error.TheVariants as Error
 use Rattle.lfs_model.specs.Disk.{Disk}
 use Rattle.lfs_model.specs.PowerLoss.{IsLeft}
 use Rattle.lfs_model.specs.Slots.{address_of}
-use Rattle.lfs_model.specs.View.{tree_in}
+use Rattle.lfs_model.specs.Shown.{tree_in}
 use Rattle.lfs_thread.specs.Device.{StopsLeave, four_of, two_of}
 use Rattle.lfs_thread.specs.Kept.{State}
 use Rattle.lfs_thread.specs.Steps.{CanJoin, HasToldBeside, IsJoined, IsLeftByJoin, Writes, pair_in}

@@ -1,7 +1,7 @@
 use Rattle.std.proofs.Common.{ap, sym, subst, ◌∙◌, Err}
 use Rattle.std.proofs.lemmas.Result.{err_from_is_err_and}
 use Rattle.lfs_model.specs.Slots.{address_of}
-use Rattle.lfs_model.specs.Written.{pair_bytes}
+use Rattle.lfs_model.specs.WrittenContent.{pair_bytes}
 use Rattle.lfs_thread.specs.Device.{StopsLeave}
 use Rattle.lfs_operations.specs.Changing.{IsLeftByPut, IsPut, TellsPut}
 use Rattle.lfs_operations.specs.Making.{entering}

@@ -1,7 +1,7 @@
 use Rattle.std.proofs.Common.{ap, sym, subst, ◌∙◌, ◌∷◌, [], Err}
 use Rattle.std.proofs.lemmas.Result.{err_from_is_err_and}
 use Rattle.lfs_model.specs.Changes.{Create, PutMove, PutStruct}
-use Rattle.lfs_model.specs.Content.{directory_name_type, directory_struct_type}
+use Rattle.lfs_model.specs.EntryTypes.{directory_name_type, directory_struct_type}
 use Rattle.lfs_model.specs.Slots.{Gstate}
 use Rattle.lfs_model.proofs.Global.{turned}
 use Rattle.lfs_tag.specs.FieldsSeen.{move_seen}

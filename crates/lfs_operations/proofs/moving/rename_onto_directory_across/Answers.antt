@@ -4,7 +4,7 @@ use Rattle.std.proofs.lemmas.Result.{err_from_is_err_and}
 use Rattle.lfs_model.specs.InDirectory.{BeginsAt}
 use Rattle.lfs_model.specs.Slots.{Gstate, same_pair}
 use Rattle.lfs_model.specs.Thread.{Pair}
-use Rattle.lfs_model.specs.View.{tree_in}
+use Rattle.lfs_model.specs.Shown.{tree_in}
 use Rattle.lfs_thread.specs.Device.{StopsLeave}
 use Rattle.lfs_operations.specs.Dropping.{CanDropAt, HasDroppedBehind, IsLeftByDrop}
 use Rattle.lfs_operations.specs.Moving.{TellsInSteps, left_at, onto_changes, with_moved}

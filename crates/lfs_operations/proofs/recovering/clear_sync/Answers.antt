@@ -1,5 +1,5 @@
 use Rattle.std.proofs.Common.{◌≡◌, ◌+◌, ◌-◌, ap, sym, subst, ◌∙◌, length, arith}
-use Rattle.lfs_model.specs.Logged.{IsAddress}
+use Rattle.lfs_model.specs.LoggedContent.{IsAddress}
 use Rattle.lfs_model.specs.Slots.{Gstate}
 use Rattle.lfs_thread.specs.Device.{StopsLeave}
 use Rattle.lfs_thread.specs.Steps.{IsChanged, IsLeft}

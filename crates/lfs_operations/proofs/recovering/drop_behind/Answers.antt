@@ -2,7 +2,7 @@ use Rattle.std.proofs.Common.{ℕ, ◌≡◌, ap, ap₂, sym, subst, ◌∙◌, 
 use Rattle.std.specs.Option.{option_map}
 use Rattle.std.proofs.lemmas.Result.{err_from_is_err_and}
 use Rattle.lfs_model.specs.Changes.{Change, PutMove, PutTail}
-use Rattle.lfs_model.specs.Logged.{IsAddress}
+use Rattle.lfs_model.specs.LoggedContent.{IsAddress}
 use Rattle.lfs_model.specs.Slots.{Gstate, address_of, gstate_xor}
 use Rattle.lfs_tag.specs.FieldsSeen.{move_seen}
 use Rattle.lfs_pair.specs.declared.committing.Outcome.{Outcome}

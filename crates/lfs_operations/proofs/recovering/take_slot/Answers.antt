@@ -1,7 +1,7 @@
 use Rattle.std.proofs.Common.{◌≡◌, ap, sym, subst, ◌∙◌, Ok, Err, ◌∷◌, []}
 use Rattle.std.proofs.lemmas.Result.{err_from_is_err_and}
 use Rattle.lfs_model.specs.Changes.{Delete, PutMove}
-use Rattle.lfs_model.specs.Logged.{IsAddress}
+use Rattle.lfs_model.specs.LoggedContent.{IsAddress}
 use Rattle.lfs_model.specs.Slots.{Gstate}
 use Rattle.lfs_tag.specs.FieldsSeen.{move_seen}
 use Rattle.lfs_pair.specs.declared.committing.Outcome.{Outcome}

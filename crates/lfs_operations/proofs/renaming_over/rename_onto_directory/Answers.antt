@@ -1,7 +1,7 @@
 use Rattle.std.proofs.Common.{ap, sym, subst, ◌∙◌, ◌∷◌, [], ◌++◌, ◌-◌, Err}
 use Rattle.std.proofs.lemmas.Result.{err_from_is_err_and}
 use Rattle.lfs_model.specs.Slots.{Gstate}
-use Rattle.lfs_model.specs.View.{tree_in}
+use Rattle.lfs_model.specs.Shown.{tree_in}
 use Rattle.lfs_thread.specs.Device.{StopsLeave, two_of}
 use Rattle.lfs_thread.specs.Steps.{pair_in}
 use Rattle.lfs_operations.specs.Dropping.{CanDropAt, HasDroppedBehind, IsLeftByDrop}

@@ -19,7 +19,7 @@ use Rattle.std.specs.Prelude.{is_some}
 use Rattle.lfs_model.specs.Content.{completed}
 use Rattle.lfs_pair.specs.Commit.{NowHolds, KeepsFirst, LeftWith}
 use Rattle.lfs_pair.specs.ChangeSeen.{changes_seen}
-use Rattle.lfs_model.specs.Logged.{IsLogged}
+use Rattle.lfs_model.specs.LoggedContent.{IsLogged}
 use Rattle.lfs_pair.proofs.Calls.{only_block}
 use Rattle.lfs_pair.proofs.Changed.{is_appending, appended, appended_first, active_among, active_below, now_holds, left_by_append, ends_in_block, made_is, some_same, gets_revision}
 use Rattle.lfs_pair.proofs.committing.append.Goals as goal

@@ -8,7 +8,7 @@ use Rattle.std.proofs.Common.{◌∙◌, rules, Ok, Some, sym, ap, subst}
 use Rattle.lfs_device.specs.Shown.{disk_of}
 use Rattle.lfs_model.specs.History.{EachSince, LeavesOnly}
 use Rattle.lfs_model.specs.Stops.{ErasesCleanly, Stops}
-use Rattle.lfs_model.specs.Written.{FitsRaw}
+use Rattle.lfs_model.specs.WrittenContent.{FitsRaw}
 use Rattle.lfs_model.proofs.Histories.{LeavesOnly-weaker}
 use Rattle.lfs_tag.specs.ContentSeen.{content_seen}
 use Rattle.lfs_pair.specs.Pair.{address_in}

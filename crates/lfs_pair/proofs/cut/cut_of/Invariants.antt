@@ -1,5 +1,5 @@
 use Rattle.std.proofs.Common.{◌≡◌, map, take, sum_by}
-use Rattle.lfs_model.specs.Written.{raw_slot_size}
+use Rattle.lfs_model.specs.WrittenContent.{raw_slot_size}
 use Rattle.lfs_tag.specs.ContentSeen.{slot_seen}
 use Rattle.lfs_pair.proofs.Cutting.{Fronts}
 use Rattle.lfs_pair.proofs.cut.cut_of.Given as goal

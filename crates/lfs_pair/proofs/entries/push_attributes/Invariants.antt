@@ -1,5 +1,5 @@
 use Rattle.std.proofs.Common.{◌≡◌, take, map}
-use Rattle.lfs_model.specs.Written.{attribute_entries}
+use Rattle.lfs_model.specs.WrittenContent.{attribute_entries}
 use Rattle.lfs_tag.specs.ContentSeen.{attribute_seen}
 use Rattle.lfs_pair.specs.Writing.{with_entries}
 use Rattle.lfs_pair.proofs.entries.push_attributes.Given as goal

@@ -1,6 +1,6 @@
 use Rattle.std.proofs.Common.{◌∙◌, ap, [], ◌∷◌}
-use Rattle.lfs_model.specs.Content.{move_state_type, no_id}
-use Rattle.lfs_model.specs.Written.{entry_with}
+use Rattle.lfs_model.specs.EntryTypes.{move_state_type, no_id}
+use Rattle.lfs_model.specs.WrittenContent.{entry_with}
 use Rattle.lfs_pair.specs.Writing.{with_entries}
 use Rattle.lfs_pair.proofs.entries.push_move.Goals as goal
 

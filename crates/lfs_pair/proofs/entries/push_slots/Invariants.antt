@@ -1,5 +1,5 @@
 use Rattle.std.proofs.Common.{◌≡◌, take, map}
-use Rattle.lfs_model.specs.Written.{entries_of_slots}
+use Rattle.lfs_model.specs.WrittenContent.{entries_of_slots}
 use Rattle.lfs_tag.specs.ContentSeen.{slot_seen}
 use Rattle.lfs_pair.specs.Writing.{with_entries}
 use Rattle.lfs_pair.proofs.entries.push_slots.Given as goal

@@ -1,5 +1,5 @@
 use Rattle.std.proofs.Common.{◌≡◌, ◌-◌, ◌^◌, take, map, min, sum_by}
-use Rattle.lfs_model.specs.Written.{raw_slot_size}
+use Rattle.lfs_model.specs.WrittenContent.{raw_slot_size}
 use Rattle.lfs_tag.specs.ContentSeen.{slot_seen}
 use Rattle.lfs_pair.proofs.size.slots_size.Given as goal
 

@@ -1,7 +1,7 @@
 use Rattle.std.proofs.Common.{ap, ◌∙◌, sym, subst, map}
 use Rattle.lfs_tag.specs.ContentSeen.{content_seen, slot_seen}
 use Rattle.lfs_model.specs.Log.{log_entries}
-use Rattle.lfs_model.specs.Logged.{HaveNames}
+use Rattle.lfs_model.specs.LoggedContent.{HaveNames}
 use Rattle.lfs_model.specs.Content.{content_after_all, no_content}
 use Rattle.lfs_pair.specs.ChangeSeen.{changes_seen}
 use Rattle.lfs_pair_tests.proofs.Named.{made_by, true_from, ok_same}

@@ -1,5 +1,5 @@
 use Rattle.std.proofs.Common.{sym, subst, ap, ◌∙◌, get_or, is_some}
-use Rattle.lfs_model.specs.Logged.{HaveNames}
+use Rattle.lfs_model.specs.LoggedContent.{HaveNames}
 use Rattle.lfs_tag.specs.ContentSeen.{slot_seen, part_seen}
 use Rattle.lfs_tag.specs.declared.content.Slot.{Slot}
 use Rattle.lfs_pair.proofs.Applied.{mapped_front}

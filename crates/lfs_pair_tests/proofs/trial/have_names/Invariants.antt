@@ -1,5 +1,5 @@
 use Rattle.std.proofs.Common.{take, map}
-use Rattle.lfs_model.specs.Logged.{HaveNames}
+use Rattle.lfs_model.specs.LoggedContent.{HaveNames}
 use Rattle.lfs_tag.specs.ContentSeen.{slot_seen}
 use Rattle.lfs_pair_tests.proofs.trial.have_names.Given as goal
 

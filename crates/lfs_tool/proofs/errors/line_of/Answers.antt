@@ -73,7 +73,3 @@ returns-in-Failed c = rw c.in-Failed.is refl
 pub returns-in-EntryFull : goal.returns-in-EntryFull
 unfolding digits
 returns-in-EntryFull c = rw c.in-EntryFull.is refl
-
-pub returns-in-Unsupported : goal.returns-in-Unsupported
-unfolding digits
-returns-in-Unsupported c = rw c.in-Unsupported.is refl

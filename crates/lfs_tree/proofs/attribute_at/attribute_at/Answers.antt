@@ -1,8 +1,8 @@
 use Rattle.std.proofs.Common.{◌≡◌, ◌<◌, ◌∙◌, List, Some, ap, length, slice_get, slice_index_or, subst, sym}
-use Rattle.lfs_model.specs.Apply.{attributes_of}
+use Rattle.lfs_model.specs.TreeEdits.{attributes_of}
 use Rattle.lfs_model.specs.Content.{attribute_of}
 use Rattle.lfs_model.specs.Thread.{Pair}
-use Rattle.lfs_model.specs.View.{tree_in}
+use Rattle.lfs_model.specs.Shown.{tree_in}
 use Rattle.lfs_thread.specs.Steps.{no_pair}
 use Rattle.lfs_tree.proofs.AttributeAtSlots.{attribute_then, no_slot, slot_for}
 use Rattle.lfs_tree.proofs.Reading.{answered, further}

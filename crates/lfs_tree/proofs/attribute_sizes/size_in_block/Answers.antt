@@ -2,7 +2,7 @@ use Rattle.std.proofs.Common.{◌∙◌, List, map, sym, ap, subst, arith}
 use Rattle.std.proofs.lemmas.Option.{same_Some}
 use Rattle.lfs_model.specs.Log.{log_entries}
 use Rattle.lfs_model.specs.Content.{RawContent, RawSlot, content_after_all, no_content, slot_of_id}
-use Rattle.lfs_model.specs.Logged.{Ascend, HaveParts}
+use Rattle.lfs_model.specs.LoggedContent.{Ascend, HaveParts}
 use Rattle.lfs_model.specs.Slots.{attributes_size}
 use Rattle.lfs_model.proofs.Logged.{logged}
 use Rattle.lfs_model.proofs.Completed.{completed_parts}

@@ -1,5 +1,5 @@
 use Rattle.std.proofs.Common.{map, subst, sym}
-use Rattle.lfs_model.specs.Logged.{Ascend}
+use Rattle.lfs_model.specs.LoggedContent.{Ascend}
 use Rattle.lfs_tag.specs.ContentSeen.{attribute_seen, slot_seen}
 use Rattle.lfs_tree.proofs.ItemsShown.{parts_at}
 use Rattle.lfs_tree.proofs.attribute_sizes.size_in_slot.Goals as goal

@@ -3,7 +3,7 @@ use Rattle.lfs_tree.specs.declared.finding.Node.TheVariants.{Nothing}
 use Rattle.lfs_model.specs.Operations as ops
 use Rattle.lfs_model.specs.Session.{parent_fault}
 use Rattle.lfs_model.specs.Tree.{Path}
-use Rattle.lfs_model.specs.View.{tree_in}
+use Rattle.lfs_model.specs.Shown.{tree_in}
 use Rattle.lfs_tree.specs.AtPath.{ShowsAt}
 use Rattle.lfs_tree.specs.Paths.{BeginsOnPath}
 use Rattle.lfs_tree.proofs.AtPaths.{begun_within, file_at, found_begun, refused_at, sized_on}

@@ -1,6 +1,6 @@
 use Rattle.std.proofs.Common.{ap, drop, sym, take, ◌∙◌}
-use Rattle.lfs_model.specs.Apply.{bytes_at}
-use Rattle.lfs_model.specs.View.{tree_in}
+use Rattle.lfs_model.specs.TreeEdits.{bytes_at}
+use Rattle.lfs_model.specs.Shown.{tree_in}
 use Rattle.lfs_tree.specs.FileBytes.{bytes_shown}
 use Rattle.lfs_tree.proofs.BytesAtSlots.{ends_within, file_of_path, file_since, no_file, none_of, of_path}
 use Rattle.lfs_tree.proofs.Reading.{answered, further}

@@ -1,5 +1,5 @@
 use Rattle.std.proofs.Common.{ap, map, subst, ◌∙◌}
-use Rattle.lfs_model.specs.Apply.{last_name}
+use Rattle.lfs_model.specs.TreeEdits.{last_name}
 use Rattle.lfs_tree.specs.Paths.{LeadsTo}
 use Rattle.lfs_tree.proofs.CarryPlaces.{place_for}
 use Rattle.lfs_tree.proofs.RootPairs.{root_leads}

@@ -1,5 +1,5 @@
 use Rattle.std.proofs.Common.{refl}
-use Rattle.lfs_model.specs.Apply.{removed}
+use Rattle.lfs_model.specs.TreeEdits.{removed}
 use Rattle.lfs_model.specs.Operations as ops
 use Rattle.lfs_tree.proofs.CarryFreed.{ok_then}
 use Rattle.lfs_tree.proofs.RecoveredFirst.{called_after, carried_after, errors_after, remove_after, survives_after, survives_before}

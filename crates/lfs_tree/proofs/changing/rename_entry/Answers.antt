@@ -1,5 +1,5 @@
 use Rattle.std.proofs.Common.{◌∙◌, refl, ap₂}
-use Rattle.lfs_model.specs.Apply.{renamed, same_path}
+use Rattle.lfs_model.specs.TreeEdits.{renamed, same_path}
 use Rattle.lfs_model.specs.Operations as ops
 use Rattle.lfs_tree.proofs.CarryFreed.{ok_then}
 use Rattle.lfs_tree.proofs.RecoveredFirst.{called_after, carried_after, errors_after, rename_after, survives_after, survives_before}

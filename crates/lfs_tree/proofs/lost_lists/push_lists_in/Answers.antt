@@ -2,7 +2,7 @@ use Rattle.std.proofs.Common.{◌∙◌, ◌++◌, map, sym, ap, subst, arith}
 use Rattle.std.proofs.lemmas.Option.{same_Some}
 use Rattle.lfs_model.specs.Log.{log_entries}
 use Rattle.lfs_model.specs.Content.{RawContent, content_after_all, no_content}
-use Rattle.lfs_model.specs.Logged.{HaveParts}
+use Rattle.lfs_model.specs.LoggedContent.{HaveParts}
 use Rattle.lfs_model.proofs.Logged.{logged}
 use Rattle.lfs_model.proofs.Completed.{completed_parts}
 use Rattle.lfs_tag.specs.ContentSeen.{content_seen, slot_seen}

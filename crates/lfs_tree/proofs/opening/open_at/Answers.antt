@@ -1,7 +1,7 @@
 use Rattle.std.proofs.Common.{◌≡◌, ◌∙◌, length, refl, sym, subst}
 use Rattle.std.specs.Prelude.{IfOk}
-use Rattle.lfs_model.specs.Apply.{bytes_at}
-use Rattle.lfs_model.specs.View.{tree_in}
+use Rattle.lfs_model.specs.TreeEdits.{bytes_at}
+use Rattle.lfs_model.specs.Shown.{tree_in}
 use Rattle.lfs_thread.specs.Kept.{Kept}
 use Rattle.lfs_tree.specs.OpenContents.{IsOpenedForm, IsOverFile, bytes_held}
 use Rattle.lfs_tree.specs.Opening.{CanBeOpened, IsOpened, opened_form}

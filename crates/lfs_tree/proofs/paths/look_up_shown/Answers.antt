@@ -4,7 +4,7 @@ use Rattle.lfs_tree.specs.Paths.{Descends}
 use Rattle.lfs_tree.proofs.ReadOnly.{only_read, told_behind}
 use Rattle.lfs_tree.proofs.Descended.{hiding_same, names_are, sum_is, showed_in, few_same}
 use Rattle.lfs_model.specs.Session.{parent_fault}
-use Rattle.lfs_model.specs.View.{tree_in}
+use Rattle.lfs_model.specs.Shown.{tree_in}
 use Rattle.lfs_tree.proofs.paths.look_up_shown.Goals as goal
 
 pub returns-in_err-parent-clause-few : goal.returns-in_err-parent-clause-few

@@ -1,7 +1,7 @@
 use Rattle.std.proofs.Common.{ℕ, List, ◌≡◌, ◌<◌, Some, All, map, slice_index_or}
 use Rattle.lfs_model.specs.Content.{complete_all}
 use Rattle.lfs_model.specs.Slots.{Slot}
-use Rattle.lfs_model.specs.View.{FitsSlot}
+use Rattle.lfs_model.specs.Profile.{FitsSlot}
 use Rattle.lfs_tag.specs.ContentSeen.{slot_seen}
 use Rattle.lfs_tree.specs.Profile.{IsShaped}
 use Rattle.lfs_tree.proofs.profile.fit_all.Given as goal

@@ -1,8 +1,8 @@
 use Rattle.std.proofs.Common.{[], ◌∙◌, false, true, IfErr, refl, sym, ap, subst}
 use Rattle.std.proofs.lemmas.Result.{err_from_is_err_and}
 use Rattle.lfs_model.specs.Operations as ops
-use Rattle.lfs_model.specs.Steps.{as_path}
-use Rattle.lfs_model.specs.View.{tree_in}
+use Rattle.lfs_model.specs.Refusals.{as_path}
+use Rattle.lfs_model.specs.Shown.{tree_in}
 use Rattle.lfs_model.specs.Thread.{superblocks_before}
 use Rattle.lfs_tree.specs.Carrying.{TellsError}
 use Rattle.lfs_tree.specs.Held.{seen_kept}

@@ -1,9 +1,9 @@
 use Rattle.std.proofs.Common.{[], ◌∙◌, false, true, IfErr, refl, sym, ap, subst}
 use Rattle.std.proofs.lemmas.Result.{err_from_is_err_and}
-use Rattle.lfs_model.specs.Apply.{added}
+use Rattle.lfs_model.specs.TreeEdits.{added}
 use Rattle.lfs_model.specs.Operations as ops
 use Rattle.lfs_model.specs.Tree.{DirectoryNode}
-use Rattle.lfs_model.specs.View.{tree_in}
+use Rattle.lfs_model.specs.Shown.{tree_in}
 use Rattle.lfs_model.specs.Thread.{superblocks_before}
 use Rattle.lfs_tree.specs.Carrying.{TellsError}
 use Rattle.lfs_tree.specs.Held.{seen_kept}

@@ -2,7 +2,7 @@ use Rattle.std.proofs.Common.{[], ◌∙◌, false, true, IfErr, refl, sym, ap, 
 use Rattle.std.proofs.lemmas.Result.{err_from_is_err_and}
 use Rattle.lfs_model.specs.Content.{put_attribute}
 use Rattle.lfs_model.specs.Operations as ops
-use Rattle.lfs_model.specs.View.{tree_in}
+use Rattle.lfs_model.specs.Shown.{tree_in}
 use Rattle.lfs_model.specs.Thread.{superblocks_before}
 use Rattle.lfs_tree.specs.Carrying.{TellsError}
 use Rattle.lfs_tree.specs.CarryingSlots.{with_attributes_changed}

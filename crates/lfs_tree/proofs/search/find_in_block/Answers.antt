@@ -1,6 +1,6 @@
 use Rattle.std.proofs.Common.{ℕ, List, length, sym, ap, ◌∙◌, subst, arith}
 use Rattle.lfs_model.specs.Log.{log_entries}
-use Rattle.lfs_model.specs.Logged.{IsPart}
+use Rattle.lfs_model.specs.LoggedContent.{IsPart}
 use Rattle.lfs_model.specs.Content.{content_after_all, no_content, struct_typed}
 use Rattle.lfs_model.proofs.Logged.{logged}
 use Rattle.lfs_tree.specs.Entry.{Shows}

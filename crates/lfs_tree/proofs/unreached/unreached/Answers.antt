@@ -1,5 +1,4 @@
 use Rattle.std.proofs.Common.{ap, arith, length}
-use Rattle.lfs_model.specs.View.{}
 use Rattle.lfs_tree.proofs.Roots.{root_begins}
 use Rattle.lfs_tree.proofs.Directories.{within}
 use Rattle.lfs_tree.proofs.unreached.unreached.Goals as goal

@@ -3,7 +3,7 @@ use Rattle.lfs_tree.specs.Listed.{shapes_from}
 use Rattle.std.proofs.lemmas.List.{map-append}
 use Rattle.std.proofs.lemmas.Result.{err_from_is_err_and}
 use Rattle.lfs_model.specs.Thread.{Pair}
-use Rattle.lfs_model.specs.View.{entries_in}
+use Rattle.lfs_model.specs.Shown.{entries_in}
 use Rattle.lfs_tree.specs.Items.{structure_seen}
 use Rattle.lfs_tree.specs.Walk.{ArePushed, BeginsIfBranch, Place, found_seen, founds_seen, places_beneath}
 use Rattle.lfs_tree.proofs.Reading.{answered, both, further, lacks_memory, passed}

@@ -1,5 +1,5 @@
 use Rattle.std.proofs.Common.{length}
-use Rattle.lfs_model.specs.View.{entries_in}
+use Rattle.lfs_model.specs.Shown.{entries_in}
 use Rattle.lfs_tree.specs.Walk.{founds_seen}
 use Rattle.lfs_tree.proofs.Reading.{HasRead}
 use Rattle.lfs_tree.proofs.Sizes.{load}

@@ -2,7 +2,7 @@ use Rattle.std.proofs.Common.{List, ℕ, ap, ◌∙◌, subst}
 use Rattle.std.proofs.lemmas.Result.{err_from_is_err_and}
 use Rattle.lfs_device.specs.declared.geometry.Geometry.{Geometry}
 use Rattle.lfs_model.specs.Blocks.{Blocks}
-use Rattle.lfs_model.specs.Session.{overwritten}
+use Rattle.lfs_model.specs.Writers.{written_into}
 use Rattle.lfs_writer.specs.Written.{IsGoing, bytes_over}
 use Rattle.lfs_writer.proofs.Owning.{list_from}
 use Rattle.lfs_writer.proofs.Called.{quiet, told_as, told_on, used_on, used_reads}
@@ -32,7 +32,7 @@ returns-clause-written g c =
     record {
       going = subst (λ (k : Geometry). IsGoing c.write_from.new.map (g.D.BlockDevice.blocks c.write_from.new.dev) k c.write_from.new.hand) read.geometry wrote.going;
       size = wrote.size;
-      bytes = wrote.bytes ∙ ap (λ (x : Blocks). overwritten (bytes_over x hand) c.args.place c.args.bytes.now) read.same ∙ ap (λ (l : List ℕ). overwritten l c.args.place c.args.bytes.now) at.bytes;
+      bytes = wrote.bytes ∙ ap (λ (x : Blocks). written_into (bytes_over x hand) c.args.place c.args.bytes.now) read.same ∙ ap (λ (l : List ℕ). written_into l c.args.place c.args.bytes.now) at.bytes;
     }
 
 pub returns-clause-base : goal.returns-clause-base

@@ -2,7 +2,7 @@ use Rattle.std.proofs.Common.{ℕ, ◌≡◌, ◌+◌, List, length, max, sym, a
 use Rattle.std.proofs.lemmas.List.{take_all}
 use Rattle.lfs_device.specs.declared.geometry.Geometry.{Geometry}
 use Rattle.lfs_model.specs.Blocks.{Blocks}
-use Rattle.lfs_model.specs.Session.{overwritten}
+use Rattle.lfs_model.specs.Writers.{written_into}
 use Rattle.lfs_writer.specs.Contents.{held_bytes}
 use Rattle.lfs_writer.specs.Form.{InMemory, Finished}
 use Rattle.lfs_writer.specs.Hand.{stored_bytes}
@@ -29,7 +29,7 @@ returns-then-size-limit-clause-written g c =
     let test = c.if-size-limit.true in
     let all = length-base d geometry.block_size geometry.block_count stored.head stored.size geometry.valid.no_smaller (g.met.D.BlockDevice.shape c.args.dev.now) c.requires.stored.base in
     let kept : held_bytes c.in_ok-list.list ≡ old = c.in_ok-list.ensures.bytes ∙ take_all stored.size old (omega arith) in
-    let has : held_bytes c.put.new.self ≡ overwritten old c.args.place c.args.bytes.now = c.put.ensures.rest ∙ ap (λ (l : List ℕ). overwritten l c.args.place c.args.bytes.now) kept in
+    let has : held_bytes c.put.new.self ≡ written_into old c.args.place c.args.bytes.now = c.put.ensures.rest ∙ ap (λ (l : List ℕ). written_into l c.args.place c.args.bytes.now) kept in
     let long : length (held_bytes c.put.new.self) ≡ max stored.size (c.args.place + n) = ap length has ∙ length-written old c.args.place c.args.bytes.now ∙ ap (λ k. max k (c.args.place + n)) all in
     record {
       stands = record {

@@ -1,6 +1,6 @@
 use Rattle.std.proofs.Common.{◌≡◌, ◌≤◌, ◌++◌, ◌-◌, drop, max}
 use Rattle.lfs_model.specs.History.{faults}
-use Rattle.lfs_model.specs.Lists.{bytes_of}
+use Rattle.lfs_model.specs.SkipLists.{bytes_of}
 use Rattle.lfs_ctz.specs.Extended.{geometry_of, growing_of}
 use Rattle.lfs_ctz.specs.Growing.{IsGrowing, content_of, pending_of, size_of}
 use Rattle.lfs_writer.specs.Apart.{Grows, IsMarked}

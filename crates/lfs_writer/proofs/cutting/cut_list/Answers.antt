@@ -2,7 +2,7 @@ use Rattle.std.proofs.Common.{ℕ, [], ◌≡◌, take, refl, sym, ap, ◌∙◌
 use Rattle.std.specs.Prelude.{Contains, List}
 use Rattle.lfs_device.specs.declared.geometry.Geometry.{Geometry}
 use Rattle.lfs_model.specs.Blocks.{Blocks}
-use Rattle.lfs_model.specs.Lists.{blocks_for, bytes_of}
+use Rattle.lfs_model.specs.SkipLists.{blocks_for, bytes_of}
 use Rattle.lfs_model.proofs.ListSizes.{blocks_for-more}
 use Rattle.lfs_model.proofs.Overwrites.{SameButThese-refl}
 use Rattle.lfs_writer.specs.Based.{list_blocks}

@@ -1,7 +1,7 @@
 use Rattle.std.proofs.Common.{ℕ, ◌≡◌, List, length, min, sym, ap, ◌∙◌, arith}
 use Rattle.std.proofs.lemmas.List.{length-take-le}
 use Rattle.lfs_model.specs.Blocks.{Blocks}
-use Rattle.lfs_model.specs.Session.{overwritten}
+use Rattle.lfs_model.specs.Writers.{written_into}
 use Rattle.lfs_writer.specs.Contents.{held_bytes}
 use Rattle.lfs_writer.proofs.Memories.{held_size, wrote_cut}
 use Rattle.lfs_writer.proofs.memory.write_out.Goals as goal
@@ -39,5 +39,5 @@ returns-clause-written g c =
     record {
       going = wrote.going;
       size = wrote.size;
-      bytes = wrote.bytes ∙ ap (λ (l : List ℕ). overwritten l c.args.place c.args.bytes.now) (at ∙ c.cut.ensures.rest) ∙ wrote_cut (held_bytes c.args.list) c.args.bytes.now c.args.place c.min-keep.result keep c.requires.behind;
+      bytes = wrote.bytes ∙ ap (λ (l : List ℕ). written_into l c.args.place c.args.bytes.now) (at ∙ c.cut.ensures.rest) ∙ wrote_cut (held_bytes c.args.list) c.args.bytes.now c.args.place c.min-keep.result keep c.requires.behind;
     }

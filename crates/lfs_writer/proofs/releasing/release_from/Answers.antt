@@ -4,7 +4,7 @@ use Rattle.std.proofs.lemmas.Result.{err_from_is_err_and}
 use Rattle.lfs_device.specs.declared.error.Error.{Error}
 use Rattle.lfs_device.specs.declared.geometry.Geometry.{Geometry}
 use Rattle.lfs_model.specs.Blocks.{Blocks}
-use Rattle.lfs_model.specs.Lists.{blocks_back}
+use Rattle.lfs_model.specs.SkipLists.{blocks_back}
 use Rattle.lfs_model.proofs.Files.{length_back}
 use Rattle.lfs_model.proofs.ListSizes.{head_of_back}
 use Rattle.lfs_writer.proofs.Called.{not_read, quiet, read_on, told_as, told_on}

@@ -1,7 +1,7 @@
 use Rattle.std.proofs.Common.{◌≡◌, ◌≤◌, ◌<◌, ◌-◌, drop, slice_index}
 use Rattle.lfs_device.specs.Calls.{ReadsOnly}
 use Rattle.lfs_model.specs.History.{faults}
-use Rattle.lfs_model.specs.Lists.{blocks_back}
+use Rattle.lfs_model.specs.SkipLists.{blocks_back}
 use Rattle.lfs_writer.specs.Released.{Releases}
 use Rattle.lfs_writer.proofs.releasing.release_from.Given as goal
 

@@ -2,7 +2,7 @@ use Rattle.std.proofs.Common.{◌≡◌, sym, ap, ◌∙◌, subst}
 use Rattle.lfs_device.specs.declared.geometry.Geometry.{Geometry}
 use Rattle.lfs_model.specs.Blocks.{Blocks}
 use Rattle.lfs_model.specs.BlockSets.BlockState.{Free, Used}
-use Rattle.lfs_model.specs.Lists.{IsChain, blocks_back, blocks_for}
+use Rattle.lfs_model.specs.SkipLists.{AreListBlocks, blocks_back, blocks_for}
 use Rattle.lfs_writer.specs.Settled.{KeepsOthers, Puts}
 use Rattle.lfs_writer.proofs.Called.{read_on}
 use Rattle.lfs_writer.proofs.Ends.{base_chain}
@@ -15,7 +15,7 @@ free_blocks-requires-clause-chain g c = base_chain _ _ _ _ _ _ c.geometry-block_
 
 pub use_blocks-requires-clause-chain : goal.use_blocks-requires-clause-chain
 use_blocks-requires-clause-chain g c =
-    subst (λ (d : Blocks). IsChain d c.blocks_for-kept.result c.args.stored.head) (sym c.free_blocks.ensures.device.same)
+    subst (λ (d : Blocks). AreListBlocks d c.blocks_for-kept.result c.args.stored.head) (sym c.free_blocks.ensures.device.same)
     (base_chain (g.D.BlockDevice.blocks c.args.dev.now) _ _ c.args.stored.head c.args.stored.size c.blocks_for-kept.result c.geometry-block_size.ensures c.blocks_for-kept.ensures c.requires.stored)
 
 pub returns-in_err-use_blocks-clause-device : goal.returns-in_err-use_blocks-clause-device

@@ -2,7 +2,7 @@ use Rattle.std.proofs.Common.{◌≡◌, ◌≤◌, ◌<◌, ◌-◌, drop, slic
 use Rattle.lfs_device.specs.Calls.{ReadsOnly}
 use Rattle.lfs_model.specs.BlockSets.BlockState.{Used}
 use Rattle.lfs_model.specs.History.{faults}
-use Rattle.lfs_model.specs.Lists.{blocks_back}
+use Rattle.lfs_model.specs.SkipLists.{blocks_back}
 use Rattle.lfs_writer.specs.Settled.{Puts}
 use Rattle.lfs_writer.proofs.settling.use_blocks.Given as goal
 

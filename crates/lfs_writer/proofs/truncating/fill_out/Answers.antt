@@ -1,7 +1,7 @@
 use Rattle.std.proofs.Common.{◌≡◌, ◌+◌, ◌-◌, length, replicate, refl, ap, ◌∙◌, arith}
 use Rattle.lfs_device.specs.declared.geometry.Geometry.{Geometry}
 use Rattle.lfs_model.specs.Blocks.{Blocks}
-use Rattle.lfs_model.specs.Session.{overwritten}
+use Rattle.lfs_model.specs.Writers.{written_into}
 use Rattle.lfs_writer.specs.Contents.{held_bytes}
 use Rattle.lfs_writer.specs.Extended.{end_of}
 use Rattle.lfs_writer.specs.Written.{bytes_over}
@@ -47,5 +47,5 @@ returns-clause-filled g c =
       going = zeroed.going (omega arith);
       size = omega arith;
       bytes = lengthened old (bytes_over d hand) _ (length old) (end_of hand.list) c.args.size refl (omega arith) at.bytes sum
-          (zeroed.at.bytes ∙ ap (λ n. overwritten (bytes_over d hand) (end_of hand.list) (replicate n 0)) gap);
+          (zeroed.at.bytes ∙ ap (λ n. written_into (bytes_over d hand) (end_of hand.list) (replicate n 0)) gap);
     }

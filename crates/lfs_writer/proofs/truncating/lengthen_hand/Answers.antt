@@ -1,7 +1,7 @@
 use Rattle.std.proofs.Common.{◌≡◌, ◌+◌, ◌-◌, max, sym, ap, ◌∙◌, subst, arith}
 use Rattle.lfs_device.specs.declared.geometry.Geometry.{Geometry}
 use Rattle.lfs_model.specs.Blocks.{Blocks}
-use Rattle.lfs_model.specs.Lists.{blocks_for}
+use Rattle.lfs_model.specs.SkipLists.{blocks_for}
 use Rattle.lfs_model.proofs.ListSizes.{blocks_for-more}
 use Rattle.lfs_ctz.specs.Extended.{geometry_of, growing_of}
 use Rattle.lfs_writer.specs.Extended.{end_of}

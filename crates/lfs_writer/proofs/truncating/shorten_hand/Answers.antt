@@ -1,6 +1,6 @@
 use Rattle.std.proofs.Common.{ℕ, List, take, sym, ap, ◌∙◌, subst, arith}
 use Rattle.lfs_device.specs.declared.geometry.Geometry.{Geometry}
-use Rattle.lfs_model.specs.Session.{zeros_to}
+use Rattle.lfs_model.specs.Writers.{zeros_to}
 use Rattle.lfs_writer.specs.Contents.{Stands, bytes_in}
 use Rattle.lfs_writer.specs.Form.{Finished, truncated}
 use Rattle.lfs_writer.specs.Hand.{IsStored, stored_bytes}

@@ -1,7 +1,7 @@
 use Rattle.std.proofs.Common.{ℕ, ◌≡◌, List, [], length, min, sym, ap, ◌∙◌, arith}
 use Rattle.lfs_device.specs.declared.geometry.Geometry.{Geometry}
 use Rattle.lfs_model.specs.Blocks.{Blocks}
-use Rattle.lfs_model.specs.Session.{overwritten}
+use Rattle.lfs_model.specs.Writers.{written_into}
 use Rattle.lfs_writer.specs.Hand.{stored_bytes}
 use Rattle.lfs_writer.proofs.Flights.{length-base}
 use Rattle.lfs_writer.proofs.Truncations.{resized}
@@ -23,4 +23,4 @@ returns-clause-bytes g c =
     let old : List ℕ = stored_bytes d now.block_size stored in
     let all = length-base d now.block_size now.block_count stored.head stored.size now.valid.no_smaller (g.met.D.BlockDevice.shape c.args.dev.now) c.requires.stored.base in
     let keep : c.min.result ≡ min (length old) c.args.size = (let low = c.min.ensures in omega arith) in
-    c.put.ensures.rest ∙ ap (λ (l : List ℕ). overwritten l c.args.size []) c.in_ok-list.ensures.bytes ∙ resized old c.min.result c.args.size keep
+    c.put.ensures.rest ∙ ap (λ (l : List ℕ). written_into l c.args.size []) c.in_ok-list.ensures.bytes ∙ resized old c.min.result c.args.size keep

@@ -1,7 +1,7 @@
 use Rattle.std.proofs.Common.{ℕ, ◌≡◌, List, [], length, min, sym, ap, ◌∙◌, arith}
 use Rattle.lfs_device.specs.declared.geometry.Geometry.{Geometry}
 use Rattle.lfs_model.specs.Blocks.{Blocks}
-use Rattle.lfs_model.specs.Session.{overwritten}
+use Rattle.lfs_model.specs.Writers.{written_into}
 use Rattle.lfs_writer.specs.Contents.{held_bytes}
 use Rattle.lfs_writer.specs.Form.{InHand, InMemory}
 use Rattle.lfs_writer.proofs.Memories.{held_size}
@@ -31,7 +31,7 @@ returns-clause-truncated g c =
     let size = c.size.ensures in
     let low = c.min.ensures in
     let keep : c.min.result ≡ min (length old) c.args.size = omega arith in
-    let has = c.put.ensures.rest ∙ ap (λ (l : List ℕ). overwritten l c.args.size []) c.cut.ensures.rest ∙ resized old c.min.result c.args.size keep in
+    let has = c.put.ensures.rest ∙ ap (λ (l : List ℕ). written_into l c.args.size []) c.cut.ensures.rest ∙ resized old c.min.result c.args.size keep in
     record {
       stands = record {
         idle = quiet.idle;

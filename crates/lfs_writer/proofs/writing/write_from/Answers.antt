@@ -1,6 +1,6 @@
 use Rattle.std.proofs.Common.{◌≡◌, ◌+◌, ◌-◌, length, refl, ap, ◌∙◌, subst, arith, replicate}
 use Rattle.lfs_device.specs.declared.geometry.Geometry.{Geometry}
-use Rattle.lfs_model.specs.Session.{overwritten}
+use Rattle.lfs_model.specs.Writers.{written_into}
 use Rattle.lfs_ctz.specs.Extended.{geometry_of, growing_of}
 use Rattle.lfs_writer.specs.Extended.{end_of}
 use Rattle.lfs_writer.specs.Written.{IsGoing, bytes_over, length_in}
@@ -39,7 +39,7 @@ returns-clause-written g c =
       going = subst (λ (k : Geometry). IsGoing c.write_on.new.map (g.D.BlockDevice.blocks c.write_on.new.dev) k c.write_on.new.hand) c.write_zeros.ensures.device.geometry wrote.going;
       size = (let sum = wrote.size in omega arith);
       bytes = wrote_all (bytes_over d hand) (bytes_over d hand) _ _ c.args.bytes.now (length_in hand) c.args.place (end_of hand.list) (end_of hand.list) _ long at refl refl
-          (zeroed.at.bytes ∙ ap (λ n. overwritten (bytes_over d hand) (end_of hand.list) (replicate n 0)) gap) end wrote.bytes;
+          (zeroed.at.bytes ∙ ap (λ n. written_into (bytes_over d hand) (end_of hand.list) (replicate n 0)) gap) end wrote.bytes;
     }
 
 pub returns-in_err-write_on-clause-base : goal.returns-in_err-write_on-clause-base

@@ -1,6 +1,6 @@
 use Rattle.std.proofs.Common.{◌+◌, length, sym, ap, ◌∙◌, arith}
 use Rattle.lfs_device.specs.declared.geometry.Geometry.{Geometry}
-use Rattle.lfs_model.specs.Lists.{blocks_for}
+use Rattle.lfs_model.specs.SkipLists.{blocks_for}
 use Rattle.lfs_ctz.specs.Extended.{geometry_of, growing_of}
 use Rattle.lfs_writer.specs.Extended.{end_of}
 use Rattle.lfs_writer.specs.Roomy.{base_blocks}

@@ -2,7 +2,7 @@ use Rattle.std.proofs.Common.{ℕ, ◌≡◌, ◌+◌, ◌≤◌, length, take, 
 use Rattle.std.proofs.lemmas.List.{take-replicate, length-replicate}
 use Rattle.std.proofs.lemmas.Result.{err_from_is_err_and}
 use Rattle.lfs_device.specs.declared.geometry.Geometry.{Geometry}
-use Rattle.lfs_model.specs.Session.{overwritten}
+use Rattle.lfs_model.specs.Writers.{written_into}
 use Rattle.lfs_ctz.specs.Extended.{geometry_of, growing_of}
 use Rattle.lfs_writer.specs.Extended.{end_of}
 use Rattle.lfs_writer.specs.Written.{HasBegun, IsGoing, IsZeroed, bytes_over}
@@ -98,7 +98,7 @@ returns-clause-zeroed g c =
     let hand = c.args.hand.now in
     let all : c.zeroing.done ≡ c.args.count = (let few = inv.few in let test = c.zeroing-test.false in omega arith) in
     subst (λ n. IsZeroed c.zeroing.map (g.D.BlockDevice.blocks c.zeroing.dev) (g.D.BlockDevice.geometry c.args.dev.now) c.zeroing.hand n (end_of hand.list + n)
-    (overwritten (bytes_over (g.D.BlockDevice.blocks c.args.dev.now) hand) (end_of hand.list) (replicate n 0))) all inv.zeroed
+    (written_into (bytes_over (g.D.BlockDevice.blocks c.args.dev.now) hand) (end_of hand.list) (replicate n 0))) all inv.zeroed
 
 pub returns-in_err-write_on-clause-base : goal.returns-in_err-write_on-clause-base
 returns-in_err-write_on-clause-base g c = list_then _ _ _ _ _ _ _ _ c.zeroing.invariant.device.geometry c.zeroing.invariant.base c.write_on.ensures.base

@@ -1,6 +1,6 @@
 use Rattle.std.proofs.Common.{◌≡◌, ◌≤◌, ◌+◌, ◌-◌, replicate}
 use Rattle.lfs_model.specs.History.{faults}
-use Rattle.lfs_model.specs.Session.{overwritten}
+use Rattle.lfs_model.specs.Writers.{written_into}
 use Rattle.lfs_writer.specs.Calls.{LeavesUsed}
 use Rattle.lfs_writer.specs.Extended.{end_of}
 use Rattle.lfs_writer.specs.Hand.{KeepsUsed}
@@ -15,7 +15,7 @@ invariant-zeroing g l =
     record {
       few : l.done ≤ l.count;
       zeroed : IsZeroed l.map (shows.blocks l.dev) (shows.geometry l.fn.dev) l.hand l.done (end_of was.list + l.done)
-          (overwritten (bytes_over (shows.blocks l.fn.dev) was) (end_of was.list) (replicate l.done 0));
+          (written_into (bytes_over (shows.blocks l.fn.dev) was) (end_of was.list) (replicate l.done 0));
       base : KeepsList (shows.geometry l.fn.dev).block_size (shows.blocks l.fn.dev) was.base (shows.blocks l.dev) l.hand.base;
       map : KeepsUsed l.fn.map l.map;
       device : LeavesUsed shows l.fn.map l.fn.dev l.dev;

@@ -1,5 +1,5 @@
 use Rattle.std.proofs.Common.{ap, arith}
-use Rattle.lfs_model.specs.Lists.{blocks_for}
+use Rattle.lfs_model.specs.SkipLists.{blocks_for}
 use Rattle.lfs_writer.specs.Contents.{form_of}
 use Rattle.lfs_writer_tests.proofs.Rooms.{room_for_end}
 use Rattle.lfs_writer_tests.proofs.calls.end.Goals as goal

@@ -1,5 +1,5 @@
 use Rattle.std.proofs.Common.{◌≡◌, max, ap, arith}
-use Rattle.lfs_model.specs.Lists.{blocks_for}
+use Rattle.lfs_model.specs.SkipLists.{blocks_for}
 use Rattle.lfs_writer.specs.Contents.{form_of}
 use Rattle.lfs_writer.specs.Form.{form_size}
 use Rattle.lfs_writer_tests.proofs.Rooms.{room_for_size}

@@ -3,7 +3,7 @@ use Rattle.std.specs.Vec.{with_items}
 use Rattle.std.proofs.lemmas.List.{length-take-le, append-nil}
 use Rattle.lfs_device.specs.declared.geometry.Geometry.{Geometry}
 use Rattle.lfs_model.specs.Blocks.{Blocks, block_in, overwritten}
-use Rattle.lfs_model.specs.Lists.{pointers_of, bytes_before, blocks_back}
+use Rattle.lfs_model.specs.SkipLists.{pointers_of, bytes_before, blocks_back}
 use Rattle.lfs_ctz.specs.declared.extender.Extender.{Extender}
 use Rattle.lfs_ctz.specs.Extended.{geometry_of, growing_of}
 use Rattle.lfs_ctz.specs.Growing.{joined}

@@ -3,7 +3,7 @@ use Rattle.std.proofs.Common.{ap, true, false, ◌≢◌, ℕ, ◌≡◌, ◌≤
 use Rattle.lfs_model.specs.History.{Event}
 use Rattle.lfs_device.specs.declared.geometry.Geometry.{Geometry}
 use Rattle.lfs_model.specs.Blocks.{Blocks, IsDivided, SameBut}
-use Rattle.lfs_model.specs.Lists.{bytes_before, blocks_back, IsChain, data_of}
+use Rattle.lfs_model.specs.SkipLists.{bytes_before, blocks_back, AreListBlocks, data_of}
 use Rattle.lfs_ctz.specs.declared.extender.Extender.{Extender}
 use Rattle.lfs_ctz.specs.declared.rest.Rest.TheVariants.{Closed, Shared, Handed, Held}
 use Rattle.lfs_ctz.specs.Extended.{geometry_of, growing_of}
@@ -31,7 +31,7 @@ module _ (d : Blocks) (e : Extender) (geometry : Geometry) (same : geometry ≡ 
       subst (λ t. IsEnd d e.geometry.block_size b e.size (content_of d (growing_of e)) (blocks_back d e.full e.head ++ last_in t)) (sym is)
       (shared_end d e.geometry.block_size geometry.block_count e.full e.head b e.size (growing_of e).rest e.geometry.valid.no_smaller divided held.chain (rw is at held.stand) (let r = (rest_of e).0 in omega arith) e.in_step.fits (rest_of e).1)
 
-  in_handed : (new : Blocks) (b : ℕ) → e.stand ≡ Handed b → IsChain new (e.full + 1) b → blocks_back new (e.full + 1) b ≡ blocks_back d e.full e.head ++ b ∷ [] → SameBut b d new
+  in_handed : (new : Blocks) (b : ℕ) → e.stand ≡ Handed b → AreListBlocks new (e.full + 1) b → blocks_back new (e.full + 1) b ≡ blocks_back d e.full e.head ++ b ∷ [] → SameBut b d new
       → take (length (growing_of e).rest) (data_of new (e.full, b)) ≡ (growing_of e).rest → IsEnd new e.geometry.block_size b e.size (content_of d (growing_of e)) (blocks_of d (growing_of e))
   in_handed new b is more back but begins =
       subst (λ t. IsEnd new e.geometry.block_size b e.size (content_of d (growing_of e)) (blocks_back d e.full e.head ++ last_in t)) (sym is)

@@ -1,6 +1,6 @@
 use Rattle.std.proofs.Common.{ℕ, ◌+◌, ◌<◌, ◌≤◌, length, arith}
 use Rattle.lfs_ctz.proofs.Sizes.{bytes_before-least, blocks_for-above}
-use Rattle.lfs_model.specs.Lists.{bytes_before}
+use Rattle.lfs_model.specs.SkipLists.{bytes_before}
 use Rattle.lfs_ctz.specs.declared.rest.Rest.{Rest}
 use Rattle.lfs_ctz.specs.declared.rest.Rest.TheVariants.{Closed, Shared, Handed, Held}
 use Rattle.lfs_ctz.specs.Extended.{growing_of}

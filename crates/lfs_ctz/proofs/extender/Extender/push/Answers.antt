@@ -10,7 +10,7 @@ use Rattle.lfs_ctz.proofs.Rests.{rest_of}
 use Rattle.lfs_ctz.proofs.Stands.{is_grown}
 use Rattle.lfs_device.specs.declared.geometry.Geometry.{Geometry}
 use Rattle.lfs_model.specs.Blocks.{Blocks}
-use Rattle.lfs_model.specs.Lists.{capacity_of, blocks_back}
+use Rattle.lfs_model.specs.SkipLists.{capacity_of, blocks_back}
 use Rattle.lfs_ctz.specs.Extended.{geometry_of, growing_of}
 use Rattle.lfs_ctz.specs.Growing.{Growing, content_of, kept_of, pending_of, pending_in, next_of, size_of, needed_of}
 use Rattle.lfs_ctz.specs.declared.extender.Extender.{Extender}

@@ -1,6 +1,6 @@
 use Rattle.std.proofs.Common.{refl, ℕ, ◌≡◌, ◌+◌, ◌-◌, ◌≤◌, List, length, max, take, replicate, sym, ap, ◌∙◌, arith}
 use Rattle.lfs_model.specs.Blocks.{overwritten}
-use Rattle.lfs_model.specs.Session.{overwritten as with_bytes}
+use Rattle.lfs_model.specs.Writers.{written_into as with_bytes}
 use Rattle.lfs_ctz.specs.declared.extender.Extender.{Extender}
 use Rattle.lfs_ctz.specs.Extended.{growing_of}
 use Rattle.lfs_ctz.proofs.Memories.{put_bytes, rest_at}

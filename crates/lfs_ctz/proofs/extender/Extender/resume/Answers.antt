@@ -5,7 +5,7 @@ use Rattle.std.proofs.lemmas.Result.{err_from_is_err_and}
 use Rattle.lfs_device.specs.declared.error.Error.{Error}
 use Rattle.lfs_device.specs.declared.geometry.Geometry.{Geometry}
 use Rattle.lfs_model.specs.Blocks.{Blocks, IsDivided, block_in}
-use Rattle.lfs_model.specs.Lists.{IsChain, IsList, IsPlace, pointers_of, bytes_before, blocks_back, blocks_for, bytes_of, word_at}
+use Rattle.lfs_model.specs.SkipLists.{AreListBlocks, IsList, IsBytePlace, pointers_of, bytes_before, blocks_back, blocks_for, bytes_of, word_at}
 use Rattle.lfs_ctz.specs.Growing.{joined, IsShared}
 use Rattle.lfs_ctz.proofs.Sizes.{blocks_for-last, place-lt, pointers_of-le, place-le}
 use Rattle.lfs_ctz.proofs.Chains.{chain_of_list, in_range_at, back-pointer0}
@@ -49,21 +49,21 @@ overflow_add-index g c =
 
 -- the block that was found
 found_at : (d : Blocks) (geometry made : Geometry) (head size n i block : ℕ) → made ≡ geometry → n ≡ blocks_for made.block_size size → IsList d geometry.block_size head size
-    → (IsChain d (n - 1 + 1) head → block ≡ slice_index (blocks_back d (n - 1 + 1) head) i) → block ≡ slice_index (blocks_back d (blocks_for made.block_size size) head) i
+    → (AreListBlocks d (n - 1 + 1) head → block ≡ slice_index (blocks_back d (n - 1 + 1) head) i) → block ≡ slice_index (blocks_back d (blocks_for made.block_size size) head) i
 found_at d geometry made head size n i block e is list found =
     found (chain d made.block_size head size n made.valid.no_smaller is (sized d head size geometry made e list))
     ∙ ap (λ k. slice_index (blocks_back d k head) i) (last_is made.block_size size n made.valid.no_smaller list.size_low is)
 
 -- a front that ends with a block
 record IsFull (d : Blocks) (geometry made : Geometry) (head size keep i block : ℕ) : Type 0 where
-  chain_is : IsChain d (i + 1) block
+  chain_is : AreListBlocks d (i + 1) block
   content : joined d (blocks_back d (i + 1) block) ++ [] ≡ take keep (bytes_of d geometry.block_size head size)
   blocks_are : blocks_back d (i + 1) block ++ [] ≡ take (blocks_for geometry.block_size keep) (blocks_back d (blocks_for geometry.block_size size) head)
   kept : blocks_back d (i + 1) block ++ [] ≡ take (i + 1) (blocks_back d (blocks_for geometry.block_size size) head)
   sum : keep ≡ bytes_before made.block_size (i + 1)
 
 is_full : (d : Blocks) (geometry made : Geometry) (head size keep n i off block : ℕ) → made ≡ geometry → n ≡ blocks_for made.block_size size → IsDivided geometry.block_size geometry.block_count d
-    → IsList d geometry.block_size head size → 1 ≤ keep → keep ≤ size → IsPlace made.block_size (keep - 1) i off → (IsChain d (n - 1 + 1) head → block ≡ slice_index (blocks_back d (n - 1 + 1) head) i)
+    → IsList d geometry.block_size head size → 1 ≤ keep → keep ≤ size → IsBytePlace made.block_size (keep - 1) i off → (AreListBlocks d (n - 1 + 1) head → block ≡ slice_index (blocks_back d (n - 1 + 1) head) i)
     → off + 1 ≡ made.block_size → IsFull d geometry made head size keep i block
 is_full d geometry made head size keep n i off block e is shape list some within place found ends =
     let here = found_at d geometry made head size n i block e is list found in
@@ -82,7 +82,7 @@ is_full d geometry made head size keep n i off block e is shape list some within
 
 -- a front that ends in one
 record IsOpen (d : Blocks) (geometry made : Geometry) (head size keep i off block before : ℕ) (rest : List ℕ) : Type 0 where
-  chain_is : IsChain d i before
+  chain_is : AreListBlocks d i before
   shared : IsShared d i before rest block
   kept : blocks_back d i before ++ [] ≡ take i (blocks_back d (blocks_for geometry.block_size size) head)
   content : joined d (blocks_back d i before) ++ rest ≡ take keep (bytes_of d geometry.block_size head size)
@@ -90,8 +90,8 @@ record IsOpen (d : Blocks) (geometry made : Geometry) (head size keep i off bloc
   sum : keep ≡ bytes_before made.block_size i + length rest
 
 is_open : (d : Blocks) (geometry made : Geometry) (head size keep n i off block before : ℕ) (rest : List ℕ) → made ≡ geometry → n ≡ blocks_for made.block_size size
-    → IsDivided geometry.block_size geometry.block_count d → IsList d geometry.block_size head size → 1 ≤ keep → keep ≤ size → IsPlace made.block_size (keep - 1) i off
-    → (IsChain d (n - 1 + 1) head → block ≡ slice_index (blocks_back d (n - 1 + 1) head) i) → off + 1 < made.block_size → (0 < i → before ≡ word_at (block_in d block) 0)
+    → IsDivided geometry.block_size geometry.block_count d → IsList d geometry.block_size head size → 1 ≤ keep → keep ≤ size → IsBytePlace made.block_size (keep - 1) i off
+    → (AreListBlocks d (n - 1 + 1) head → block ≡ slice_index (blocks_back d (n - 1 + 1) head) i) → off + 1 < made.block_size → (0 < i → before ≡ word_at (block_in d block) 0)
     → rest ≡ take (off + 1 - 4 * pointers_of i) (drop (4 * pointers_of i) (block_in d block)) → IsOpen d geometry made head size keep i off block before rest
 is_open d geometry made head size keep n i off block before rest e is shape list some within place found short named rest_is =
     let here = found_at d geometry made head size n i block e is list found in
@@ -110,7 +110,7 @@ is_open d geometry made head size keep n i off block before rest e is shape list
     }
 
 -- the block does not end the front
-short_of : (block_size keep i off : ℕ) → 1024 ≤ block_size → IsPlace block_size (keep - 1) i off → (off + 1 ≡ block_size → ⊥) → off + 1 < block_size
+short_of : (block_size keep i off : ℕ) → 1024 ≤ block_size → IsBytePlace block_size (keep - 1) i off → (off + 1 ≡ block_size → ⊥) → off + 1 < block_size
 short_of block_size keep i off large place other =
     let at = place.at in
     let from = place.from in
@@ -120,7 +120,7 @@ short_of block_size keep i off large place other =
 
 -- the block that its pointer 0 names is there
 before_there : (d : Blocks) (geometry made : Geometry) (head size keep n i off block : ℕ) → made ≡ geometry → n ≡ blocks_for made.block_size size → IsDivided geometry.block_size geometry.block_count d
-    → IsList d geometry.block_size head size → 1 ≤ keep → keep ≤ size → IsPlace made.block_size (keep - 1) i off → (IsChain d (n - 1 + 1) head → block ≡ slice_index (blocks_back d (n - 1 + 1) head) i)
+    → IsList d geometry.block_size head size → 1 ≤ keep → keep ≤ size → IsBytePlace made.block_size (keep - 1) i off → (AreListBlocks d (n - 1 + 1) head → block ≡ slice_index (blocks_back d (n - 1 + 1) head) i)
     → 0 < i → word_at (block_in d block) 0 < geometry.block_count
 before_there d geometry made head size keep n i off block e is shape list some within place found more =
     let here = found_at d geometry made head size n i block e is list found in

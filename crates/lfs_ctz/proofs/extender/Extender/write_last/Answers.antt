@@ -1,7 +1,7 @@
 use Rattle.std.proofs.Common.{ℕ, ◌≤◌, ◌-◌, ◌*◌, List, take, drop, sym, ap, ◌∙◌, arith, length-drop, replicate, rules}
 use Rattle.std.proofs.lemmas.List.{length-take-le, length-replicate, take-take}
 use Rattle.lfs_model.specs.Blocks.{block_in}
-use Rattle.lfs_model.specs.Lists.{pointers_of}
+use Rattle.lfs_model.specs.SkipLists.{pointers_of}
 use Rattle.lfs_ctz.proofs.Filling.{rest_kept}
 use Rattle.lfs_ctz.proofs.extender.Extender.write_last.Goals as goal
 

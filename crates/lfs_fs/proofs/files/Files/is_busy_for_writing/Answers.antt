@@ -1,8 +1,8 @@
 use Rattle.std.proofs.Common.{◌∙◌, ap, sym}
 use Rattle.std.specs.Prelude.{◌||◌}
-use Rattle.lfs_model.specs.Apply.{same_path}
+use Rattle.lfs_model.specs.TreeEdits.{same_path}
 use Rattle.lfs_model.specs.Session.{is_open_at}
-use Rattle.lfs_model.specs.Steps.{as_path}
+use Rattle.lfs_model.specs.Refusals.{as_path}
 use Rattle.lfs_fs.specs.FileSeen.{files_seen}
 use Rattle.lfs_fs.proofs.files.Files.is_busy_for_writing.Goals as goal
 

@@ -1,7 +1,7 @@
 use Rattle.std.proofs.Common.{◌∙◌, ap}
 use Rattle.std.specs.List.{list_any}
 use Rattle.lfs_model.specs.Session.{is_open_at}
-use Rattle.lfs_model.specs.Steps.{as_path}
+use Rattle.lfs_model.specs.Refusals.{as_path}
 use Rattle.lfs_fs.specs.FileSeen.{files_seen, is_entry_at}
 use Rattle.lfs_fs.specs.RenamePaths.{is_in_the_way}
 use Rattle.lfs_fs.proofs.OpenFiles.{open_at_is}

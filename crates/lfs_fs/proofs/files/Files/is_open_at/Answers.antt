@@ -1,8 +1,8 @@
 use Rattle.std.proofs.Common.{◌∙◌, ap}
 use Rattle.std.specs.List.{list_any}
-use Rattle.lfs_model.specs.Apply.{same_path}
+use Rattle.lfs_model.specs.TreeEdits.{same_path}
 use Rattle.lfs_model.specs.Session.{is_open_at}
-use Rattle.lfs_model.specs.Steps.{as_path}
+use Rattle.lfs_model.specs.Refusals.{as_path}
 use Rattle.lfs_fs.specs.FileSeen.{files_seen, is_entry_at}
 use Rattle.lfs_fs.proofs.OpenFiles.{open_at_is}
 use Rattle.lfs_fs.proofs.files.Files.is_open_at.Goals as goal

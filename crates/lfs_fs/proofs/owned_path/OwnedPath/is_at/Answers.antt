@@ -1,7 +1,7 @@
 use Rattle.std.proofs.Common.{◌∙◌, ap}
-use Rattle.lfs_model.specs.Apply.{same_path}
+use Rattle.lfs_model.specs.TreeEdits.{same_path}
 use Rattle.lfs_model.specs.Names.{same_name}
-use Rattle.lfs_model.specs.Steps.{as_path}
+use Rattle.lfs_model.specs.Refusals.{as_path}
 use Rattle.lfs_fs.proofs.SamePaths.{same_bytes}
 use Rattle.lfs_fs.proofs.owned_path.OwnedPath.is_at.Goals as goal
 

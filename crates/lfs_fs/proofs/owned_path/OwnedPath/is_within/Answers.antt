@@ -1,7 +1,7 @@
 use Rattle.std.proofs.Common.{◌∙◌, ap, is_some, subst, sym, true, ◌≡◌}
-use Rattle.lfs_model.specs.Apply.{rest_after}
+use Rattle.lfs_model.specs.TreeEdits.{rest_after}
 use Rattle.lfs_model.specs.Operations.{path_of}
-use Rattle.lfs_model.specs.Steps.{as_path}
+use Rattle.lfs_model.specs.Refusals.{as_path}
 use Rattle.lfs_fs.proofs.owned_path.OwnedPath.is_within.Goals as goal
 
 pub is_within-requires-clause-given : goal.is_within-requires-clause-given

@@ -7,7 +7,7 @@ use Rattle.lfs_fs.proofs.Answered.{asked_by_checks, checked_ready, done_answers,
 use Rattle.lfs_fs.proofs.Checked.{mkdir_can}
 use Rattle.lfs_fs.proofs.Errors.{given_on}
 use Rattle.lfs_fs.proofs.Staying.{mkdir_left}
-use Rattle.lfs_model.specs.Apply.{added}
+use Rattle.lfs_model.specs.TreeEdits.{added}
 use Rattle.lfs_model.specs.Tree.{DirectoryNode}
 use Rattle.lfs_tree.specs.Seen.{tree_seen}
 use Rattle.lfs_fs.proofs.Stopping.{asked_changed, called_by, only_read, reads_of_ended}

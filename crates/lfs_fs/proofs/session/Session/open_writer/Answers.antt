@@ -1,6 +1,6 @@
 use Rattle.std.proofs.Common.{◌≡◌, ◌<◌, ◌∙◌, [], sym, refl, ap, subst, set, length, Some, None}
 use Rattle.lfs_model.specs.Operations as ops
-use Rattle.lfs_model.specs.Steps.{size_of}
+use Rattle.lfs_model.specs.Effects.{size_of}
 use Rattle.lfs_tree.specs.Seen.{tree_seen}
 use Rattle.lfs_fs.specs.FlagsSeen.{flags_seen}
 use Rattle.lfs_fs.specs.FileSeen.{entry_of, writers_in}

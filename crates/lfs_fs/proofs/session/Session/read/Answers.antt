@@ -3,11 +3,11 @@ use Rattle.std.specs.Option.{option_map}
 use Rattle.lfs_device.specs.declared.error.Error.TheVariants as error
 use Rattle.lfs_model.specs.Operations as ops
 use Rattle.lfs_model.specs.Session.{file_of, put_file}
-use Rattle.lfs_model.specs.Steps.{moved_to}
+use Rattle.lfs_model.specs.Effects.{moved_to}
 use Rattle.lfs_fs.specs.FileSeen.{entry_of, files_seen, reader_seen}
 use Rattle.lfs_fs.specs.Held.{held_of}
 use Rattle.lfs_fs.specs.Replies.{reply_in}
-use Rattle.lfs_model.specs.Apply.{bytes_at}
+use Rattle.lfs_model.specs.TreeEdits.{bytes_at}
 use Rattle.lfs_tree.specs.Seen.{tree_seen}
 use Rattle.lfs_fs.proofs.Answered.{asked_ready, files_asked, sound_by}
 use Rattle.lfs_fs.proofs.Errors.{given_on}

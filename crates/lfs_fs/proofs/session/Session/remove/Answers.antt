@@ -7,7 +7,7 @@ use Rattle.lfs_fs.proofs.Answered.{asked_by_checks, checked_ready, done_answers,
 use Rattle.lfs_fs.proofs.Errors.{given_on}
 use Rattle.lfs_fs.proofs.RemoveAnswered.{removed_left}
 use Rattle.lfs_fs.proofs.RemoveChecks.{remove_can}
-use Rattle.lfs_model.specs.Apply.{removed}
+use Rattle.lfs_model.specs.TreeEdits.{removed}
 use Rattle.lfs_tree.specs.Seen.{tree_seen}
 use Rattle.lfs_fs.proofs.Stopping.{asked_changed, called_by, only_read, reads_of_ended}
 use Rattle.lfs_fs.proofs.session.Session.remove.Goals as goal

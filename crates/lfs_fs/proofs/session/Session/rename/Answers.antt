@@ -1,5 +1,5 @@
 use Rattle.std.proofs.Common.{◌∙◌, ap₂, refl, sym, ap}
-use Rattle.lfs_model.specs.Apply.{same_path, renamed}
+use Rattle.lfs_model.specs.TreeEdits.{same_path, renamed}
 use Rattle.lfs_model.specs.Operations as ops
 use Rattle.lfs_fs.specs.FileSeen.{files_seen}
 use Rattle.lfs_fs.specs.Replies.{reply_in}
@@ -8,7 +8,7 @@ use Rattle.lfs_fs.proofs.Answered.{asked_by_checks, checked_ready, done_answers,
 use Rattle.lfs_fs.proofs.Errors.{given_on}
 use Rattle.lfs_fs.proofs.RenameAnswered.{renamed_left, same_answers}
 use Rattle.lfs_fs.proofs.RenameChecks.{rename_can}
-use Rattle.lfs_model.specs.Steps.{as_path}
+use Rattle.lfs_model.specs.Refusals.{as_path}
 use Rattle.lfs_tree.specs.Seen.{tree_seen}
 use Rattle.lfs_fs.proofs.Stopping.{asked_changed, called_by, only_read, reads_of_ended}
 use Rattle.lfs_fs.proofs.session.Session.rename.Goals as goal

@@ -1,6 +1,6 @@
 use Rattle.std.proofs.Common.{◌≡◌, ℕ, ◌+◌, ◌-◌, ap, ◌∙◌, arith}
 use Rattle.lfs_model.specs.Tag.{tag_with}
-use Rattle.lfs_model.specs.Content.{no_id}
+use Rattle.lfs_model.specs.EntryTypes.{no_id}
 use Rattle.lfs_model.specs.Commit.{checksum_type}
 use Rattle.lfs_tag.specs.Builder.{checksum_start, padded_end}
 use Rattle.lfs_tag.proofs.BuilderChecksums.{padded}

@@ -1,5 +1,5 @@
 use Rattle.std.proofs.Common.{◌∙◌, ap, arith, sym}
-use Rattle.lfs_model.specs.Steps.{is_root}
+use Rattle.lfs_model.specs.Refusals.{is_root}
 use Rattle.lfs_tree.proofs.LastNames.{long_root}
 use Rattle.lfs_tree.proofs.path.Path.is_root.Goals as goal
 

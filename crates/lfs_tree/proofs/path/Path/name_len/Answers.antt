@@ -1,5 +1,5 @@
 use Rattle.std.proofs.Common.{◌∙◌, ap, length}
-use Rattle.lfs_model.specs.Apply.{last_name}
+use Rattle.lfs_model.specs.TreeEdits.{last_name}
 use Rattle.lfs_tree.proofs.LastNames.{last_name_len}
 use Rattle.lfs_tree.proofs.path.Path.name_len.Goals as goal
 

@@ -1,5 +1,5 @@
 use Rattle.std.proofs.Common.{[], subst}
-use Rattle.lfs_model.specs.Apply.{added}
+use Rattle.lfs_model.specs.TreeEdits.{added}
 use Rattle.lfs_model.specs.Operations as ops
 use Rattle.lfs_model.specs.Tree.{FileNode}
 use Rattle.lfs_tree.specs.Allowed.{CanCreate}

@@ -1,5 +1,5 @@
 use Rattle.std.proofs.Common.{◌≡◌, ◌∙◌, ap, sym, subst, true}
-use Rattle.lfs_model.specs.Apply.{is_file}
+use Rattle.lfs_model.specs.TreeEdits.{is_file}
 use Rattle.lfs_model.specs.BlockSets.{in_flight_count}
 use Rattle.lfs_tree.specs.Seen.{Seen, tree_seen}
 use Rattle.lfs_tree.proofs.Asking.{rooted_mounted, seen_mounted, works_mounted}

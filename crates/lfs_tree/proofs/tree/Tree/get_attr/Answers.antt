@@ -1,6 +1,6 @@
 use Rattle.std.proofs.Common.{◌∙◌, ap, sym}
-use Rattle.lfs_model.specs.Apply.{attributes_of}
-use Rattle.lfs_model.specs.View.{tree_in}
+use Rattle.lfs_model.specs.TreeEdits.{attributes_of}
+use Rattle.lfs_model.specs.Shown.{tree_in}
 use Rattle.lfs_tree.specs.Seen.{Seen, tree_seen}
 use Rattle.lfs_tree.proofs.Asking.{rooted, rooted_mounted, seen_mounted, works_mounted}
 use Rattle.lfs_tree.proofs.AttributeAtSlots.{attribute_given, attribute_then}

@@ -1,6 +1,6 @@
 use Rattle.std.proofs.Common.{◌∙◌, ◌==◌, ap}
 use Rattle.std.specs.List.{list_any}
-use Rattle.lfs_model.specs.View.{used_blocks}
+use Rattle.lfs_model.specs.Shown.{used_blocks}
 use Rattle.lfs_tree.specs.Seen.{Seen}
 use Rattle.lfs_tree.proofs.Asking.{rooted_mounted, seen_mounted, works_mounted}
 use Rattle.lfs_tree.proofs.UsedBlocks.{used_is}

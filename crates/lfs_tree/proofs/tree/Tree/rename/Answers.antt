@@ -1,5 +1,5 @@
 use Rattle.std.proofs.Common.{subst}
-use Rattle.lfs_model.specs.Apply.{renamed}
+use Rattle.lfs_model.specs.TreeEdits.{renamed}
 use Rattle.lfs_model.specs.Operations as ops
 use Rattle.lfs_tree.specs.Allowed.{CanRename}
 use Rattle.lfs_tree.proofs.Asking.{carried_working, seen_working, survives_working}

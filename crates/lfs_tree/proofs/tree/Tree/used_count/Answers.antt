@@ -1,5 +1,5 @@
 use Rattle.std.proofs.Common.{◌∙◌, ap, false, length}
-use Rattle.lfs_model.specs.View.{used_blocks}
+use Rattle.lfs_model.specs.Shown.{used_blocks}
 use Rattle.lfs_tree.specs.Held.{seen_kept}
 use Rattle.lfs_tree.specs.Seen.{Seen}
 use Rattle.lfs_tree.proofs.Asking.{rooted_mounted, seen_mounted, works_mounted}

@@ -3,7 +3,7 @@ use Rattle.std.specs.Prelude.{ℕ, true, false, List, [], ◌∷◌, map, replic
 use Rattle.lfs_model.specs.Slots.{no_gstate}
 use Rattle.lfs_model.specs.Operations.{Operation, Reply, Flags}
 use Rattle.lfs_model.specs.Session.{Session, Surroundings}
-use Rattle.lfs_model.specs.Steps.{applied}
+use Rattle.lfs_model.specs.Effects.{applied}
 use Rattle.lfs_model.specs.State.{mounted}
 use Rattle.lfs_model.specs.Fresh.{empty_tree}
 

@@ -1,14 +1,15 @@
 -- What a log comes to, and which contents a block can hold.
 use Rattle.std.specs.Prelude.{ℕ, ◌≡◌, ◌+◌, ◌/◌, ◌^◌, ◌<◌, ◌≤◌, ◌==◌, ◌&&◌, Bool, true, false, List, [], ◌∷◌, length, slice_index, Option, Some, None, is_some}
-use Rattle.lfs_model.specs.Tag.{tag_with, size_of, class_of}
+use Rattle.lfs_model.specs.Tag.{tag_with, data_size, class_of, removal_length}
 use Rattle.lfs_model.specs.Log.{LogEntry}
 use Rattle.lfs_model.specs.Slots.{Attributes, Tail, Gstate, null_address}
-use Rattle.lfs_model.specs.Content.{RawSlot, RawContent, is_in_table}
+use Rattle.lfs_model.specs.Content.{RawSlot, RawContent}
+use Rattle.lfs_model.specs.EntryTypes.{is_in_table, no_id}
 
 -- a type of that class, with bytes of its length
 pub record IsPart (class : ℕ) (part : ℕ × List ℕ) : Type 0 where
   pub of_class : part.0 / 2 ^ 8 ≡ class
-  pub short : length part.1 < 0x3ff
+  pub short : length part.1 < removal_length
   pub in_table : is_in_table (tag_with part.0 0 (length part.1)) ≡ true
 
 abbrev pub IsPartIfSome : ℕ → Option (ℕ × List ℕ) → Type 0
@@ -18,7 +19,7 @@ IsPartIfSome class (Some part) = IsPart class part
 -- attributes by ascending type, from a type on
 abbrev pub Ascend : ℕ → Attributes → Type 0
 Ascend low [] = Unit {0}
-Ascend low (a ∷ others) = (low ≤ a.0) × (a.0 < 2 ^ 8) × (length a.1 < 0x3ff) × Ascend (a.0 + 1) others
+Ascend low (a ∷ others) = (low ≤ a.0) × (a.0 < 2 ^ 8) × (length a.1 < removal_length) × Ascend (a.0 + 1) others
 
 -- a slot of any log
 pub record HasParts (s : RawSlot) : Type 0 where
@@ -59,11 +60,11 @@ pub record IsLogged (c : RawContent) : Type 0 where
 pub record IsSound (c : RawContent) : Type 0 where
   pub logged : IsLogged c
   pub names : HaveNames c.slots
-  pub few : length c.slots < 0x3ff
+  pub few : length c.slots < no_id
 
 -- an entry as it stands in a block: as many bytes as its tag says, and in a tail or a move state each below 256
 pub record IsStored (e : LogEntry) : Type 0 where
-  pub size : length e.bytes ≡ size_of e.tag
+  pub size : length e.bytes ≡ data_size e.tag
   pub bytes : 6 ≤ class_of e.tag → (i : ℕ) → slice_index e.bytes i < 256
 
 abbrev pub AreStored : List LogEntry → Type 0

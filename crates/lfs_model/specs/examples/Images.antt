@@ -7,16 +7,18 @@ use Rattle.lfs_model.specs.Blocks.{Blocks}
 use Rattle.lfs_model.specs.Disk.{Disk, file_limit}
 use Rattle.lfs_model.specs.Slots.{Gstate, no_gstate}
 use Rattle.lfs_model.specs.Log.{LogEntry}
-use Rattle.lfs_model.specs.Content.{RawSlot, RawContent, file_name_type, superblock_name_type, inline_struct_type}
+use Rattle.lfs_model.specs.Content.{RawSlot, RawContent}
+use Rattle.lfs_model.specs.EntryTypes.{file_name_type, superblock_name_type, inline_struct_type}
 use Rattle.lfs_model.specs.Thread.{Pair}
 use Rattle.lfs_model.specs.Tree.{Path, Node, FileNode, DirectoryNode, Tree}
-use Rattle.lfs_model.specs.Apply.{same_path}
-use Rattle.lfs_model.specs.View.{View, IsAccepted, IsWritable, superblock_entry}
-use Rattle.lfs_model.specs.Written.{entry_with}
+use Rattle.lfs_model.specs.TreeEdits.{same_path}
+use Rattle.lfs_model.specs.View.{View, IsAccepted, superblock_entry}
+use Rattle.lfs_model.specs.Profile.{IsWritable}
+use Rattle.lfs_model.specs.WrittenContent.{entry_with}
 use Rattle.lfs_model.specs.Changes.{Change, Create, Delete, PutStruct, PutAttribute}
 use Rattle.lfs_model.specs.Names.{Name}
 use Rattle.lfs_model.specs.Fresh.{superblock_bytes}
-use Rattle.lfs_model.specs.Stored.{unwritten, filled, superblock_entries, checksum_entry, metadata_block}
+use Rattle.lfs_model.specs.BlockBytes.{unwritten, filled, superblock_entries, checksum_entry, metadata_block}
 
 -- the tree with these nodes and no others
 abbrev pub tree_with : List (Path × Node) → Tree

@@ -4,8 +4,8 @@ use Rattle.byteorder.specs.Endian.{little_bytes}
 use Rattle.lfs_model.specs.Log.{LogEntry}
 use Rattle.lfs_model.specs.Commit.{stored}
 use Rattle.lfs_model.specs.Names.{Name}
-use Rattle.lfs_model.specs.Content.{file_name_type, directory_name_type, directory_struct_type, inline_struct_type, ctz_struct_type, move_state_type, no_id}
-use Rattle.lfs_model.specs.Written.{entry_with, pair_bytes}
+use Rattle.lfs_model.specs.EntryTypes.{file_name_type, directory_name_type, directory_struct_type, inline_struct_type, ctz_struct_type, move_state_type, no_id}
+use Rattle.lfs_model.specs.WrittenContent.{entry_with, pair_bytes}
 use Rattle.lfs_model.specs.View.{superblock_entry}
 use Rattle.lfs_model.specs.Fresh.{superblock_bytes}
 

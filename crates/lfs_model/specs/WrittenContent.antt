@@ -6,7 +6,8 @@ use Rattle.lfs_model.specs.Disk.{pair_capacity, slot_limit}
 use Rattle.lfs_model.specs.Slots.{Attributes, Tail, Gstate, attributes_size, null_address}
 use Rattle.lfs_model.specs.Tag.{tag_with}
 use Rattle.lfs_model.specs.Log.{LogEntry}
-use Rattle.lfs_model.specs.Content.{RawSlot, RawContent, SuperblockFields, soft_tail_type, hard_tail_type, move_state_type, no_id}
+use Rattle.lfs_model.specs.Content.{RawSlot, RawContent}
+use Rattle.lfs_model.specs.EntryTypes.{SuperblockFields, soft_tail_type, hard_tail_type, move_state_type, no_id}
 
 -- ---- fields
 
@@ -77,8 +78,8 @@ move_entries g = if is_no_gstate g then [] else move_entry g ∷ []
 
 -- Each slot's name, struct and attributes by ascending type, then the tail where there is one, then the move state where
 -- it isn't zero.
-abbrev pub entries_of : RawContent → List LogEntry
-entries_of c = entries_of_slots 0 c.slots ++ tail_entries c.tail ++ move_entries c.move
+abbrev pub written_entries : RawContent → List LogEntry
+written_entries c = entries_of_slots 0 c.slots ++ tail_entries c.tail ++ move_entries c.move
 
 -- ---- sizes
 

@@ -1,0 +1,112 @@
+-- The types of entries, and the fields of their bytes.
+use Rattle.std.specs.Prelude.{ℕ, ◌-◌, ◌/◌, ◌%◌, ◌^◌, ◌==◌, ◌&&◌, ◌||◌, not, nat_le, if◌then◌else◌, Bool, true, List, length, drop, Option, Some, None}
+use Rattle.byteorder.specs.Endian.{little_number}
+use Rattle.lfs_model.specs.Tag.{kind_of, id_of, len_of, class_of, removal_length}
+use Rattle.lfs_model.specs.Log.{LogEntry}
+use Rattle.lfs_model.specs.Slots.{Tail, Gstate, null_address}
+
+-- ---- types
+
+abbrev pub file_name_type : ℕ
+file_name_type = 0x001
+
+abbrev pub directory_name_type : ℕ
+directory_name_type = 0x002
+
+abbrev pub superblock_name_type : ℕ
+superblock_name_type = 0x0ff
+
+abbrev pub directory_struct_type : ℕ
+directory_struct_type = 0x200
+
+abbrev pub inline_struct_type : ℕ
+inline_struct_type = 0x201
+
+abbrev pub ctz_struct_type : ℕ
+ctz_struct_type = 0x202
+
+abbrev pub create_type : ℕ
+create_type = 0x401
+
+abbrev pub delete_type : ℕ
+delete_type = 0x4ff
+
+abbrev pub soft_tail_type : ℕ
+soft_tail_type = 0x600
+
+abbrev pub hard_tail_type : ℕ
+hard_tail_type = 0x601
+
+abbrev pub move_state_type : ℕ
+move_state_type = 0x7ff
+
+-- the length that removes an attribute stands nowhere else
+abbrev pub removes : ℕ → Bool
+removes tag = len_of tag == removal_length
+
+abbrev pub no_id : ℕ
+no_id = 0x3ff
+
+-- a user attribute, a name or an inline struct: of any length
+abbrev pub has_any_length : ℕ → Bool
+has_any_length tag =
+    class_of tag == 3 || (kind_of tag == file_name_type || (kind_of tag == directory_name_type || kind_of tag == inline_struct_type))
+
+-- a superblock's name, a list's struct, or what names a pair: of 8 bytes
+abbrev pub has_eight_bytes : ℕ → Bool
+has_eight_bytes tag =
+    kind_of tag == superblock_name_type
+    || (kind_of tag == directory_struct_type || (kind_of tag == ctz_struct_type || (kind_of tag == soft_tail_type || kind_of tag == hard_tail_type)))
+
+abbrev pub has_no_bytes : ℕ → Bool
+has_no_bytes tag = kind_of tag == create_type || kind_of tag == delete_type
+
+-- the type is one that an entry may have, beside a checksum's, with its length
+abbrev pub is_in_table : ℕ → Bool
+is_in_table tag =
+    if removes tag then class_of tag == 3
+    else (if has_any_length tag then true
+    else (if has_eight_bytes tag then len_of tag == 8
+    else (if has_no_bytes tag then len_of tag == 0
+    else kind_of tag == move_state_type && len_of tag == 12)))
+
+-- an entry about a slot has an id; the ids of others are ignored
+abbrev pub has_its_id : ℕ → Bool
+has_its_id tag = nat_le 5 (class_of tag) || not (id_of tag == no_id)
+
+-- ---- fields
+
+abbrev pub pair_at : List ℕ → ℕ × ℕ
+pair_at bytes = (little_number 4 bytes, little_number 4 (drop 4 bytes))
+
+abbrev pub tail_with : Bool → ℕ × ℕ → Option Tail
+tail_with hard to = if to.0 == null_address && to.1 == null_address then None else Some (record { hard = hard; to = to })
+
+abbrev pub tail_of : LogEntry → Option Tail
+tail_of e = tail_with (kind_of e.tag == hard_tail_type) (pair_at e.bytes)
+
+-- the sync bit, the move type and the move id of the first word
+abbrev pub gstate_with : ℕ → ℕ × ℕ → Gstate
+gstate_with word pair = record { sync = nat_le (2 ^ 31) word; kind = word / 2 ^ 20 % 2 ^ 11; id = word / 2 ^ 10 % 2 ^ 10; pair = pair }
+
+abbrev pub gstate_at : List ℕ → Gstate
+gstate_at bytes = gstate_with (little_number 4 bytes) (pair_at (drop 4 bytes))
+
+-- the superblock's struct; the limits are those of a name, a file and an attribute, in bytes
+pub record SuperblockFields : Type 0 where
+  pub version : ℕ
+  pub block_size : ℕ
+  pub block_count : ℕ
+  pub name_max : ℕ
+  pub file_max : ℕ
+  pub attr_max : ℕ
+
+abbrev pub superblock_at : List ℕ → SuperblockFields
+superblock_at bytes = record {
+  version = little_number 4 bytes;
+  block_size = little_number 4 (drop 4 bytes);
+  block_count = little_number 4 (drop 8 bytes);
+  name_max = little_number 4 (drop 12 bytes);
+  file_max = little_number 4 (drop 16 bytes);
+  attr_max = little_number 4 (drop 20 bytes);
+}

@@ -82,6 +82,8 @@ impl<D: BlockDevice> BlockDevice for Watched<D> {
 
     ghost bytes = { λ d. D.bytes d.inner };
 
+    ghost newest = { λ d. D.newest d.inner };
+
     fn geometry(&self) -> Geometry {
         self.inner.geometry()
     }

@@ -1,4 +1,4 @@
--- What an operation leaves of a file at a path that it doesn't concern.
+-- What an operation leaves of a file that it neither takes away nor moves.
 use Rattle.std.specs.Prelude.{ℕ, ◌≡◌, true, List, [], Option, Some, None, Contains}
 use Rattle.lfs_model.specs.TreeEdits.{is_file}
 use Rattle.lfs_model.specs.Disk.{Disk, block_at}
@@ -10,7 +10,7 @@ use Rattle.lfs_model.specs.Tree.{Path}
 use Rattle.lfs_model.specs.Shown.{file_blocks, tree_in}
 use Rattle.lfs_thread.specs.Kept.{Kept}
 
--- so many blocks an operation may take: a pair is cut for an entry that comes, and a directory has a pair of its own
+-- so many blocks an operation that the tree carries out may take: a pair is cut for an entry that comes, and a directory has a pair of its own
 abbrev pub taken_by : Operation → ℕ
 taken_by (ops.Mkdir path) = 4
 taken_by (ops.Open path flags) = 2

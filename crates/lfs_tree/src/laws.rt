@@ -12,8 +12,9 @@ ghost use Rattle.lfs_writer.specs.Contents.{form_of};
 ghost use Rattle.lfs_writer.specs.Form.{form_blocks};
 ghost use Rattle.lfs_writer.specs.declared.contents.Contents.{Contents};
 
-/// The contents of a file that is open for writing stay as they are in an operation that doesn't
-/// concern its path, also what isn't in the tree yet. No blocks but theirs are in flight.
+/// The contents of a file that is open for writing stay as they are in an operation that neither
+/// takes it away nor moves it, also what isn't in the tree yet. No more blocks are in flight than
+/// contents in their form have.
 pub fn contents_stay()
     ensures over { (old new : Seen) (op : Operation) (path : Path) (contents : Contents) → IsOver old path contents → IsSound old → IsCarried old op new → takes_or_moves op path ≡ false → IsOver new path contents }
     ensures bytes { (old new : Seen) (op : Operation) (path : Path) (contents : Contents) → IsOver old path contents → IsSound old → IsCarried old op new → takes_or_moves op path ≡ false
@@ -21,7 +22,7 @@ pub fn contents_stay()
     ensures flying { (t : Seen) (path : Path) (contents : Contents) → IsOver t path contents → in_flight_count t.map ≤ form_blocks t.disk.block_size (form_of contents) }
 {}
 
-/// An operation takes few blocks more than the image has.
+/// An operation that the tree carries out takes few blocks more than the image has.
 pub fn carried_takes_few()
     ensures { (old new : Seen) (op : Operation) → IsSound old → old.writable ≡ true → IsCarried old op new → length (around_of new).used ≤ length (around_of old).used + taken_by op }
 {}

@@ -3,6 +3,7 @@ pub mod BlockSets
 pub mod Cache
 pub mod Geometry
 pub mod History
+pub mod Obeyed
 pub mod Disk
 pub mod Names
 pub mod Crc
@@ -45,6 +46,7 @@ pub mod Headline
 pub mod Stops
 pub mod PowerLoss
 pub mod FailedCalls
+pub mod Standing
 pub mod Outages
 pub mod Listing
 pub mod Source

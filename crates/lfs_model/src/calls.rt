@@ -3,7 +3,8 @@
 ghost use Rattle.std.specs.Prelude.{◌≡◌, ℕ, true, false, List, [], ◌∷◌, map};
 ghost use Rattle.lfs_model.specs.Blocks.{Blocks, block_in};
 ghost use Rattle.lfs_model.specs.History.{Event, Erase, event, reads, programs, erases, faults, unprogrammed, AllUnprogrammed, StayUnprogrammed, EachSince, OnlyReads, AtWorst, LeavesOnly};
-ghost use Rattle.lfs_model.specs.examples.Histories.{first_blocks, erased_blocks, last_blocks, after_erase, after_program, after_read};
+ghost use Rattle.lfs_model.specs.Obeyed.{AreObeyed};
+ghost use Rattle.lfs_model.specs.examples.Histories.{first_blocks, erased_blocks, last_blocks, after_erase, after_program, after_read, forgetting, straying};
 
 /// How many reads, programs, erases and faults there were.
 pub fn calls_are_counted()
@@ -34,4 +35,11 @@ pub fn calls_have_in_common()
 pub fn stop_leaves_other_blocks()
     ensures block_1 { LeavesOnly AtWorst [] after_read (λ (blocks : Blocks). block_in blocks 1 ≡ 5 ∷ 6 ∷ 7 ∷ 8 ∷ []) }
     ensures block_0 { LeavesOnly AtWorst [] after_read (λ (blocks : Blocks). block_in blocks 0 ≡ 9 ∷ 9 ∷ 0xff ∷ 0xff ∷ []) → ⊥ }
+{}
+
+/// Each call that didn't fail was obeyed.
+pub fn calls_are_obeyed()
+    ensures obeyed { AreObeyed after_read }
+    ensures not_programmed { AreObeyed (forgetting ∷ []) → ⊥ }
+    ensures another_block { AreObeyed (straying ∷ []) → ⊥ }
 {}

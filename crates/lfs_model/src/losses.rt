@@ -1,14 +1,20 @@
 // Where an error ends a run, and where power is lost.
 
-ghost use Rattle.std.specs.Prelude.{◌≡◌, ℕ, false, List, [], ◌∷◌, ◌++◌, Some, None, codes};
+ghost use Rattle.std.specs.Prelude.{◌≡◌, ◌≢◌, ℕ, false, List, [], ◌∷◌, ◌++◌, Some, None, codes};
 ghost use Rattle.lfs_model.specs.Blocks.{Blocks};
-ghost use Rattle.lfs_model.specs.History.{Read, event};
+ghost use Rattle.lfs_model.specs.History.{Event, Read, event, EachSince, IsNewest};
+ghost use Rattle.lfs_model.specs.Disk.{Disk};
+ghost use Rattle.lfs_model.specs.FailedCalls.{FailAsStopped};
 ghost use Rattle.lfs_model.specs.Fresh.{empty_tree};
+ghost use Rattle.lfs_model.specs.Obeyed.{AreObeyed};
 ghost use Rattle.lfs_model.specs.Operations as ops;
 ghost use Rattle.lfs_model.specs.Operations.{Operation, Reply};
 ghost use Rattle.lfs_model.specs.Run.{Agrees, IsTurn, Moment};
 ghost use Rattle.lfs_model.specs.Failure.{Fails, IsCutShort};
-ghost use Rattle.lfs_model.specs.PowerLoss.{SurvivesStops, Withstands, IsRestored, IsSafe};
+ghost use Rattle.lfs_model.specs.PowerLoss.{IsLeft, Survives, SurvivesStops, Withstands, IsRestored, IsSafe, with_blocks};
+ghost use Rattle.lfs_model.specs.Standing.{IsOneDevice};
+ghost use Rattle.lfs_model.specs.Stops.{ErasesCleanly};
+ghost use Rattle.lfs_model.specs.Tree.{Tree};
 ghost use Rattle.lfs_model.specs.Outages.{IsCutShortWithstood, IsStoppedSince, LosesPower, LosesPowerInTurn};
 ghost use Rattle.lfs_model.specs.examples.Images.{small_image, appended_image};
 ghost use Rattle.lfs_model.specs.examples.Runs.{fresh_moment, failed_moment, no_disk, some_reads};
@@ -46,4 +52,18 @@ pub fn power_is_lost_in_turn()
 /// What stands at the end of a turn is what the definitions have there, so a turn that survives stops withstands them.
 pub fn surviving_turns_withstand()
     ensures { (from to : Moment) (op : Operation) (reply : Reply) → Agrees from.disk from.state → IsTurn from op reply to → SurvivesStops from op to → Withstands from op to }
+{}
+
+/// What a device that obeys holds behind its last call is among what stops leave, also where an error ended the operation.
+pub fn stops_tell_what_stands()
+    ensures left { (disk : Disk) (old new : List Event) (first last : Blocks) (before after : Tree) → old ≢ [] → IsNewest old first → IsNewest new last → AreObeyed new
+        → Survives disk old new before after → EachSince ErasesCleanly old new → FailAsStopped old new
+        → IsLeft (with_blocks first disk) before after → IsLeft (with_blocks last disk) before after }
+    ensures called { (from to : Moment) → from.calls ≢ [] → IsNewest from.calls from.disk.blocks → IsNewest to.calls to.disk.blocks → AreObeyed to.calls
+        → to.disk ≡ with_blocks to.disk.blocks from.disk → IsOneDevice from to }
+    ensures withstands { (from to : Moment) (op : Operation) → Agrees from.disk from.state → IsOneDevice from to → SurvivesStops from op to → Withstands from op to }
+
+    // A device that isn't called stays as it is.
+    ensures silent { IsOneDevice fresh_moment failed_moment }
+    ensures lost { IsOneDevice fresh_moment (record fresh_moment { disk = no_disk }) → ⊥ }
 {}

@@ -1,8 +1,9 @@
 // What the stop of a device leaves.
 
-ghost use Rattle.std.specs.Prelude.{◌≡◌, ℕ, ◌+◌, ◌≤◌, ◌<◌, List, [], ◌∷◌, ◌++◌, length, take, true, false};
+ghost use Rattle.std.specs.Prelude.{◌≡◌, ℕ, ◌+◌, ◌≤◌, ◌<◌, List, [], ◌∷◌, ◌++◌, length, take, true, false, Contains};
 ghost use Rattle.lfs_model.specs.Blocks.{Blocks, block_in, programmed};
-ghost use Rattle.lfs_model.specs.History.{Call, Program, Erase, event};
+ghost use Rattle.lfs_model.specs.History.{Call, Program, Erase, Event, event};
+ghost use Rattle.lfs_model.specs.Obeyed.{AreObeyed};
 ghost use Rattle.lfs_model.specs.Stops.{stops_in, Stops, ErasesCleanly};
 ghost use Rattle.lfs_model.specs.PowerLoss.{FailsAsStopped};
 ghost use Rattle.lfs_model.specs.BlockBytes.{unwritten, filled};
@@ -31,4 +32,9 @@ pub fn stopped_erase_leaves_no_other_log()
     // A call that fails may leave what a stop in it leaves, or more.
     ensures as_stopped { FailsAsStopped (event (Erase 0) (small_block ∷ []) (unwritten 1024 ∷ []) true) }
     ensures not_stopped { FailsAsStopped (event (Erase 0) (small_block ∷ []) (filled 1024 (small_commit ++ appended_commit) ∷ []) true) → ⊥ }
+{}
+
+/// A call that was obeyed left what a stop in it may leave.
+pub fn obeyed_call_leaves_what_a_stop_may()
+    ensures { (history : List Event) (e : Event) → AreObeyed history → Contains history e → e.failed ≡ false → ErasesCleanly e → Stops e e.after }
 {}

@@ -1,7 +1,8 @@
 -- One more call of a device with a fault.
 use Rattle.std.proofs.Common.{◌≡◌, ◌+◌, ℕ, Bool, true, false, not, ◌&&◌, ◌||◌, ◌==◌, nat_le, nat_lt, length, cond, Option, Some, None, List, ◌∷◌, refl, sym, ◌∙◌, ap}
-use Rattle.std.specs.Prelude.{is_some}
+use Rattle.std.specs.Prelude.{is_some, is_err, OnOk, Result, Ok, Err}
 use Rattle.lfs_device.specs.declared.device.BlockDevice.{Ghosts}
+use Rattle.lfs_device.specs.declared.error.Error.{Error}
 use Rattle.lfs_device.specs.declared.fault.Extent.{Extent}
 use Rattle.lfs_device.specs.declared.fault.Extent.TheVariants.{Nothing, FirstBytes, Whole}
 use Rattle.lfs_device.specs.declared.fault.Fault.{Fault}
@@ -58,3 +59,8 @@ below-call {call} {failed} {older = older} old new is below keeps b k was =
     more (Read at off len) x y of here = of here
     more (Program at off bytes) x y of here = both (not (b == at && nat_le off k && nat_lt k (off + length bytes))) x y of here
     more (Erase at) x y of here = either (b == at) (not failed) x y of here
+
+-- what a call did that succeeded
+pub done_at_ok : {A : Type 0} (result : Result (Unit {0}) Error) → OnOk result A → is_err result ≡ false → A
+done_at_ok (Ok u) done ok = done
+done_at_ok (Err e) done ok = absurd (cc)

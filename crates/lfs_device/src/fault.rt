@@ -2,6 +2,7 @@ ghost use Rattle.std.specs.Prelude.{◌≡◌, ◌≤◌, ◌<◌, ◌+◌, ◌-
 ghost use Rattle.lfs_model.specs.Blocks.{SameBut, SameOutside, block_in, programmed};
 ghost use Rattle.lfs_model.specs.History.{event, reads, programs, erases, faults, unprogrammed, AllUnprogrammed, IsNewest};
 ghost use Rattle.lfs_model.specs.History.Call.{Read, Program, Erase};
+ghost use Rattle.lfs_model.specs.Obeyed.{AreObeyed};
 ghost use Rattle.lfs_device.specs.Fault.{calls_of, due, due_if, due_failed, undue_faults};
 ghost use Rattle.lfs_device.specs.Carried.{NoFault, CarriedOut, stored};
 
@@ -59,6 +60,7 @@ pub struct FaultDevice<D: BlockDevice> {
     ghost programs_counted: { program_calls ≡ min (programs trace.events) (2 ^ 64 - 1) },
     ghost erases_counted: { erase_calls ≡ min (erases trace.events) (2 ^ 64 - 1) },
     ghost newest: { IsNewest trace.events (D.blocks inner) },
+    ghost obeyed: { AreObeyed trace.events },
     ghost below: { (block byte : ℕ) → unprogrammed trace.events block byte ≡ true → unprogrammed (D.history inner) block byte ≡ true },
 }
 
@@ -185,6 +187,8 @@ impl<D: BlockDevice> BlockDevice for FaultDevice<D> {
     ghost bytes = { λ d. D.bytes d.inner };
 
     ghost newest = { λ d. d.newest };
+
+    ghost obeyed = { λ d. d.obeyed };
 
     fn geometry(&self) -> Geometry {
         self.inner.geometry()

@@ -2,6 +2,7 @@ ghost use Rattle.std.specs.Prelude.{◌≡◌, ◌≤◌, ◌<◌, ◌+◌, ◌*
 ghost use Rattle.lfs_model.specs.Blocks.{SameBut, block_in, cut, overwritten, programmed};
 ghost use Rattle.lfs_model.specs.History.{event, faults, AllUnprogrammed, IsNewest};
 ghost use Rattle.lfs_model.specs.History.Call.{Read, Program, Erase};
+ghost use Rattle.lfs_model.specs.Obeyed.{AreObeyed};
 ghost use Rattle.lfs_device.specs.Bytes.{AreBytes};
 ghost use Rattle.lfs_device.specs.Erased.{erased_block, erased_bytes};
 
@@ -28,6 +29,7 @@ pub struct RamDevice {
     ghost size: { length bytes.items ≡ geometry.block_size * geometry.block_count },
     pub ghost no_fault: { faults trace.events ≡ 0 },
     ghost newest: { IsNewest trace.events (cut geometry.block_size geometry.block_count bytes.items) },
+    ghost obeyed: { AreObeyed trace.events },
 }
 
 impl RamDevice {
@@ -156,6 +158,8 @@ impl BlockDevice for RamDevice {
     ghost bytes = { λ d. HasBytes-cut d.geometry.block_size d.geometry.block_count d.bytes.items d.are_bytes };
 
     ghost newest = { λ d. d.newest };
+
+    ghost obeyed = { λ d. d.obeyed };
 
     fn geometry(&self) -> Geometry {
         self.geometry

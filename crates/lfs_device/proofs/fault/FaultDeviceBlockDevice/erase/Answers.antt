@@ -1,6 +1,7 @@
 use Rattle.std.proofs.Common.{rules, ◌≡◌, ◌∷◌, is_err}
 use Rattle.lfs_model.specs.History.{event}
 use Rattle.lfs_model.specs.History.Call.{Erase}
+use Rattle.lfs_model.proofs.Obeyed.{obeyed_erase, obeyed_next}
 use Rattle.lfs_device.specs.Fault.{due}
 use Rattle.lfs_device.specs.Carried.{CarriedOut}
 use Rattle.lfs_device.proofs.Faults.{due_failed-call, below-call}
@@ -19,3 +20,6 @@ invariant_of-self-clause-due_failed g c = due_failed-call g.D.BlockDevice c.args
 
 pub invariant_of-self-clause-below : goal.invariant_of-self-clause-below
 invariant_of-self-clause-below g c = below-call (g.D.BlockDevice.history c.args.self.now.inner) (g.D.BlockDevice.history c.carry_out_erase-outcome.new.device) (newest g c) c.args.self.now.below (c.carry_out_erase-outcome.ensures.keeps)
+
+pub invariant_of-self-clause-obeyed : goal.invariant_of-self-clause-obeyed
+invariant_of-self-clause-obeyed g c = obeyed_next (newest g c) (obeyed_erase _ _ _ _ c.carry_out_erase-outcome.ensures.others) c.args.self.now.obeyed

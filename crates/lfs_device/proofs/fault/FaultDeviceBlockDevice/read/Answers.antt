@@ -2,6 +2,7 @@ use Rattle.std.proofs.Common.{rules, ◌≡◌, ◌∙◌, ◌∷◌, length, is
 use Rattle.lfs_model.specs.History.{event}
 use Rattle.lfs_model.specs.History.Call.{Read}
 use Rattle.lfs_model.proofs.Histories.{unprogrammed-reads}
+use Rattle.lfs_model.proofs.Obeyed.{obeyed_read, obeyed_next}
 use Rattle.lfs_device.specs.Fault.{due}
 use Rattle.lfs_device.specs.Carried.{CarriedOut}
 use Rattle.lfs_device.proofs.Faults.{due_failed-call, below-call}
@@ -20,3 +21,6 @@ invariant_of-self-clause-due_failed g c = due_failed-call g.D.BlockDevice c.args
 
 pub invariant_of-self-clause-below : goal.invariant_of-self-clause-below
 invariant_of-self-clause-below g c = below-call (g.D.BlockDevice.history c.args.self.now.inner) (g.D.BlockDevice.history c.carry_out_read-outcome.new.device) (newest g c) c.args.self.now.below (λ b k was. unprogrammed-reads b k c.carry_out_read-outcome.ensures.device.reads ∙ was)
+
+pub invariant_of-self-clause-obeyed : goal.invariant_of-self-clause-obeyed
+invariant_of-self-clause-obeyed g c = obeyed_next (newest g c) (obeyed_read _ _ _ _ _ _ c.carry_out_read-outcome.ensures.device.same) c.args.self.now.obeyed

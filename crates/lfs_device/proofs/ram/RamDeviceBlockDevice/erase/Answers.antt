@@ -1,6 +1,7 @@
 use Rattle.std.proofs.Common.{◌≡◌, ◌∙◌, ap}
 use Rattle.lfs_model.specs.Blocks.{cut}
 use Rattle.lfs_model.proofs.Cuts.{IsDivided-cut}
+use Rattle.lfs_model.proofs.Obeyed.{obeyed_erase, obeyed_next}
 use Rattle.lfs_device.specs.Erased.{erased_bytes, erased_disk}
 use Rattle.lfs_device.specs.RamDevice.{blocks_of}
 use Rattle.lfs_device.proofs.Erasures.{cut-erased, SameBut-erased, block_in-erased}
@@ -34,3 +35,9 @@ invariant_of-self-clause-newest c =
     newest_call _ _ _ _ _ _ _ c.told_by-trace.ensures
     (ap (cut d.geometry.block_size d.geometry.block_count) (c.erase_at.ensures.erased ∙ ap (λ at. erased_bytes d.erased d.bytes.items at d.geometry.block_size) c.position-start.ensures)
     ∙ cut-erased d.erased d.geometry.block_size d.geometry.block_count d.bytes.items c.args.block d.size c.requires)
+
+pub invariant_of-self-clause-obeyed : goal.invariant_of-self-clause-obeyed
+invariant_of-self-clause-obeyed c =
+    let d = c.args.self.now in
+    let shape = IsDivided-cut d.geometry.block_size d.geometry.block_count d.bytes.items d.size in
+    obeyed_next c.told_by-trace.ensures (obeyed_erase _ _ _ _ (SameBut-erased d.erased d.geometry.block_size d.geometry.block_count (blocks_of d) c.args.block shape c.requires)) d.obeyed

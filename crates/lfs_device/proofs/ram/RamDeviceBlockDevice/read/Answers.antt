@@ -1,6 +1,7 @@
-use Rattle.std.proofs.Common.{◌+◌, List, ℕ, length, ◌∙◌, ap}
+use Rattle.std.proofs.Common.{◌+◌, List, ℕ, length, ◌∙◌, refl, ap}
 use Rattle.std.specs.Prelude.{slice_range}
 use Rattle.lfs_model.proofs.Cuts.{slice_range-block_in}
+use Rattle.lfs_model.proofs.Obeyed.{obeyed_read, obeyed_next}
 use Rattle.lfs_device.proofs.ram.RamDeviceBlockDevice.read.Goals as goal
 
 pub returns-clause-bytes : goal.returns-clause-bytes
@@ -11,3 +12,6 @@ returns-clause-bytes c =
     ∙ ap (λ (b : List ℕ). slice_range b c.position-start.result (c.position-start.result + n)) c.deref.ensures.value
     ∙ ap (λ at. slice_range d.bytes.items at (at + n)) c.position-start.ensures
     ∙ slice_range-block_in d.geometry.block_size d.geometry.block_count d.bytes.items c.args.block c.args.off n c.requires.in_device c.requires.in_block
+
+pub invariant_of-self-clause-obeyed : goal.invariant_of-self-clause-obeyed
+invariant_of-self-clause-obeyed c = obeyed_next c.told_by-self.ensures (obeyed_read _ _ _ _ _ _ refl) c.args.self.now.obeyed

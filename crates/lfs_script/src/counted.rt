@@ -55,6 +55,8 @@ impl<D: BlockDevice> BlockDevice for Counted<D> {
 
     ghost newest = { λ d. D.newest d.inner };
 
+    ghost obeyed = { λ d. D.obeyed d.inner };
+
     fn geometry(&self) -> Geometry {
         self.inner.geometry()
     }

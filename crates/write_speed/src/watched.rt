@@ -84,6 +84,8 @@ impl<D: BlockDevice> BlockDevice for Watched<D> {
 
     ghost newest = { λ d. D.newest d.inner };
 
+    ghost obeyed = { λ d. D.obeyed d.inner };
+
     fn geometry(&self) -> Geometry {
         self.inner.geometry()
     }

@@ -1,6 +1,6 @@
 // A pair read from the device.
 
-ghost use Rattle.std.specs.Prelude.{◌≡◌, ◌≢◌, ◌+◌, ◌≤◌, ◌<◌, ◌⊎◌, true, IfOk, IfErr, IsOk, None, Some};
+ghost use Rattle.std.specs.Prelude.{◌≡◌, ◌≢◌, ◌+◌, ◌≤◌, ◌<◌, ◌⊎◌, true, IfOk, IfErr, IsOk, None, OnOk, Some};
 ghost use Rattle.lfs_device.specs.Shown.{disk_of};
 ghost use Rattle.lfs_device.specs.Calls.{ReadsOnly, TellsFaults};
 ghost use Rattle.lfs_model.specs.History.{reads};
@@ -10,7 +10,7 @@ ghost use Rattle.lfs_model.specs.Content.{raw_at, content_after_all, no_content,
 ghost use Rattle.lfs_pair.specs.Pair.{Describes, Fetches};
 
 use crate::pair::Pair;
-use crate::reading::{Head, head_of};
+use crate::reading::Head;
 use lfs_device::{BlockDevice, Error, read_block};
 use lfs_tag::{ContentError, Log, Summary, is_later};
 use std::alloc::Global;
@@ -54,12 +54,12 @@ fn described(
 
 /// Reads a pair: which of its blocks holds, where that block's log ends, and what it comes to but
 /// for the slots (SPEC.md of littlefs, "Metadata pairs"). That the two blocks differ and are in
-/// the device is the caller's condition. It takes memory for one block and two bytes a slot, so a
-/// third read is needed where the second block holds; no checksum is computed twice.
+/// the device is the caller's condition. Each block is read once, and no checksum is computed
+/// twice. It takes memory for both blocks and two bytes a slot.
 ///
 /// Answers `Corrupt` exactly where neither block has a commit, or the log of the block that holds
-/// is malformed; `Io` where a read failed, and `NoMemory` where there is no room for a block and
-/// its slots. Nothing is written.
+/// is malformed; `Io` where a read failed, and `NoMemory` where there is no room for the blocks and
+/// the slots. Nothing is written.
 pub fn fetch<D: BlockDevice>(alloc: Global, dev: &mut D, blocks: [u32; 2]) -> Result<Pair, Error>
     requires apart { (address_of blocks).0 ≢ (address_of blocks).1 }
     requires first { (address_of blocks).0 < (D.geometry dev.old).block_count }
@@ -69,10 +69,12 @@ pub fn fetch<D: BlockDevice>(alloc: Global, dev: &mut D, blocks: [u32; 2]) -> Re
     ensures errors { IfErr result (λ e. (e ≡ Error.Corrupt) ⊎ (e ≡ Error.NoMemory) ⊎ (e ≡ Error.Io)) }
     ensures faults { TellsFaults D.BlockDevice dev.old dev.new result }
     ensures device { ReadsOnly D.BlockDevice dev.old dev.new }
-    ensures reads { reads (D.history dev.new) ≤ reads (D.history dev.old) + 3 }
+    ensures reads { reads (D.history dev.new) ≤ reads (D.history dev.old) + 2 }
+    ensures both { OnOk result (reads (D.history dev.new) ≡ reads (D.history dev.old) + 2) }
 {
-    let second = head_of(alloc, dev, blocks[1])?;
+    let second_bytes = read_block(alloc, dev, blocks[1])?;
     let bytes = read_block(alloc, dev, blocks[0])?;
+    let second = Head::of(&second_bytes);
     let first = Head::of(&bytes);
     if first.has_commit && !(second.has_commit && is_later(first.revision, second.revision)) {
         return described(alloc, blocks, blocks[0], first, &bytes);
@@ -80,6 +82,5 @@ pub fn fetch<D: BlockDevice>(alloc: Global, dev: &mut D, blocks: [u32; 2]) -> Re
     if !second.has_commit {
         return Err(Error::Corrupt);
     }
-    let bytes = read_block(alloc, dev, blocks[1])?;
-    described(alloc, blocks, blocks[1], second, &bytes)
+    described(alloc, blocks, blocks[1], second, &second_bytes)
 }

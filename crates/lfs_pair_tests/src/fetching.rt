@@ -70,7 +70,7 @@ fn faulty(alloc: Global, nth: u64) -> Result<(Option<Error>, u64, u32), Error> {
 
 #[test]
 fn each_read_that_fails_is_io(rt: HostRuntime) -> Result<(), Fail> {
-    for nth in 1..4u64 {
+    for nth in 1..3u64 {
         assert_eq!(rt; faulty(rt.alloc(), nth), Ok((Some(Error::Io), nth, 1)));
     }
     Ok(())

@@ -2,16 +2,13 @@ use Rattle.lfs_pair.proofs.Calls.{reads_trans}
 use Rattle.lfs_pair.proofs.fetching.fetch.Goals as goal
 
 pub returns-in_err-bytes-clause-device : goal.returns-in_err-bytes-clause-device
-returns-in_err-bytes-clause-device g c = reads_trans c.in_ok-second.ensures.device c.in_err-bytes.ensures.device
+returns-in_err-bytes-clause-device g c = reads_trans c.in_ok-second_bytes.ensures.device c.in_err-bytes.ensures.device
 
 pub returns-then-not-is_later-clause-device : goal.returns-then-not-is_later-clause-device
-returns-then-not-is_later-clause-device g c = reads_trans c.in_ok-second.ensures.device c.in_ok-bytes.ensures.device
+returns-then-not-is_later-clause-device g c = reads_trans c.in_ok-second_bytes.ensures.device c.in_ok-bytes.ensures.device
 
 pub returns-then-not-second-clause-device : goal.returns-then-not-second-clause-device
-returns-then-not-second-clause-device g c = reads_trans c.in_ok-second.ensures.device c.in_ok-bytes.ensures.device
-
-pub returns-in_err-bytes-2-clause-device : goal.returns-in_err-bytes-2-clause-device
-returns-in_err-bytes-2-clause-device g c = reads_trans (reads_trans c.in_ok-second.ensures.device c.in_ok-bytes.ensures.device) c.in_err-bytes-2.ensures.device
+returns-then-not-second-clause-device g c = reads_trans c.in_ok-second_bytes.ensures.device c.in_ok-bytes.ensures.device
 
 pub returns-clause-device : goal.returns-clause-device
-returns-clause-device g c = reads_trans (reads_trans c.in_ok-second.ensures.device c.in_ok-bytes.ensures.device) c.in_ok-bytes-2.ensures.device
+returns-clause-device g c = reads_trans c.in_ok-second_bytes.ensures.device c.in_ok-bytes.ensures.device

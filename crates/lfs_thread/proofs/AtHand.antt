@@ -70,3 +70,13 @@ filled_there blocks cache now b (Ok u) filled =
     let found : Option (List ℕ) = Some x in
     let is : IsSome found = search rules in
     subst IsSome (sym (ap (λ z. cached z b) filled ∙ cached-put_first_same cache b x)) is
+
+-- what is brought to hand is as the device has it
+pub filled_front : (blocks : Blocks) (cache now : CachedBlocks) (b at : ℕ) (r : Result (Unit {0}) Error) → b ≡ at → IsCurrent blocks cache
+    → OnOk r (now ≡ put_first cache b (unwrap_or (cached cache b) (block_in blocks b))) → OnOk r (now ≡ put_first cache at (block_in blocks at))
+filled_front blocks cache now b at (Err e) same current filled = tt
+filled_front blocks cache now b at (Ok u) same current filled = filled ∙ ap (put_first cache b) (there (cached cache b) refl) ∙ ap (λ k. put_first cache k (block_in blocks k)) same
+  where
+    there : (o : Option (List ℕ)) → cached cache b ≡ o → unwrap_or o (block_in blocks b) ≡ block_in blocks b
+    there None e = refl
+    there (Some x) e = current b x e

@@ -1,6 +1,6 @@
 // A thread read from a device.
 
-ghost use Rattle.std.specs.Prelude.{◌≡◌, ◌⊎◌, ℕ, [], length, replicate, IfErr, IfOk, List, OnOk, slice_set};
+ghost use Rattle.std.specs.Prelude.{◌≡◌, ◌⊎◌, ◌+◌, ◌*◌, ℕ, [], length, replicate, IfErr, IfOk, List, OnOk, slice_set};
 ghost use Rattle.std.specs.Option.{option_map};
 ghost use Rattle.lfs_model.specs.Slots.{address_of};
 ghost use Rattle.lfs_tag.specs.ContentSeen.{tail_seen};
@@ -8,6 +8,7 @@ ghost use Rattle.lfs_device.specs.Calls.{ReadsOnly, TellsFaults};
 ghost use Rattle.lfs_model.specs.BlockSets.{AreInFlight, AreUsed};
 ghost use Rattle.lfs_model.specs.BlockSets.BlockState.{Free, Used};
 ghost use Rattle.lfs_model.specs.Content.{content_at};
+ghost use Rattle.lfs_model.specs.History.{reads};
 ghost use Rattle.lfs_model.specs.Thread.{IsThread, Pair as ThreadPair, blocks_of, next_of};
 ghost use Rattle.lfs_pair.specs.Pair.{address_in};
 ghost use Rattle.lfs_thread.specs.Begun.{CanStand};
@@ -35,6 +36,7 @@ pub(crate) fn read_pairs<D: BlockDevice>(
     ensures device { ReadsOnly D.BlockDevice device.old device.new }
     ensures errors { IfErr result (λ e. (e ≡ Error.Corrupt) ⊎ ((e ≡ Error.Io) ⊎ (e ≡ Error.NoMemory))) }
     ensures faults { TellsFaults D.BlockDevice device.old device.new result }
+    ensures few { OnOk result (reads (D.history device.new) ≡ reads (D.history device.old) + 2 * length pairs.new.items) }
 {
     let block_count = device.geometry().block_count;
     let mut next = Some([0, 1]);
@@ -79,6 +81,7 @@ fn read_pair<D: BlockDevice>(
     ensures device { ReadsOnly D.BlockDevice device.old device.new }
     ensures errors { IfErr result (λ e. (e ≡ Error.Corrupt) ⊎ ((e ≡ Error.Io) ⊎ (e ≡ Error.NoMemory))) }
     ensures faults { TellsFaults D.BlockDevice device.old device.new result }
+    ensures few { OnOk result (reads (D.history device.new) ≡ reads (D.history device.old) + 2) }
 {
     let [first, second] = at;
     let block_count = device.geometry().block_count;

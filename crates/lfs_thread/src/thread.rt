@@ -1,4 +1,4 @@
-ghost use Rattle.std.specs.Prelude.{ℕ, ◌+◌, ◌≤◌, if◌then◌else◌, None, Some, List, Contains, ◌↔◌, IfOk, ◌≡◌, IsTrue, true, OnErr, ◌⊎◌, ◌<◌, length, false, is_err, [], replicate, slice_set, IfErr, IfNone, IfSome, IsSome, OnOk, option_copied, ◌-◌, min, take, drop, slice_range};
+ghost use Rattle.std.specs.Prelude.{ℕ, ◌+◌, ◌*◌, ◌≤◌, if◌then◌else◌, None, Some, List, Contains, ◌↔◌, IfOk, ◌≡◌, IsTrue, true, OnErr, ◌⊎◌, ◌<◌, length, false, is_err, [], replicate, slice_set, IfErr, IfNone, IfSome, IsSome, OnOk, option_copied, ◌-◌, min, take, drop, slice_range};
 ghost use Rattle.std.specs.Option.{option_map};
 ghost use Rattle.lfs_model.specs.Content.{content_at, holder_at};
 ghost use Rattle.lfs_model.specs.BlockSets.{AreInFlight, AreUsed, IsFree, IsInFlight, IsUsed, used_count};
@@ -13,7 +13,7 @@ ghost use Rattle.lfs_pair.specs.ChangeSeen.{changes_seen};
 ghost use Rattle.lfs_thread.specs.Beside.{CanRun, HasRun, IsDividedAs, LeavesPairs, Runs, Shows};
 ghost use Rattle.lfs_thread.specs.Device.{GivesBack, StopsLeave, four_of, two_of};
 ghost use Rattle.lfs_thread.specs.Kept.{IsCurrent, IsKeptOn, WasKeptOn, disk_on, seen_on};
-ghost use Rattle.lfs_thread.specs.Lent.{IsBlockOf, at_hand};
+ghost use Rattle.lfs_thread.specs.Lent.{IsBlockOf, at_hand, brought};
 ghost use Rattle.lfs_thread.specs.Steps.{CanBeSplit, CanChange, CanDrop, CanJoin, HasTold, HasToldBeside, IsBeside, IsJoined, IsLeftByJoin, IsChanged, IsDropped, IsLeft, IsLeftBySplit, IsOnlyRead, IsRefused, IsSplit, Writes, pair_in};
 
 use crate::committing::commit_to;
@@ -80,6 +80,8 @@ impl<D: BlockDevice> Thread<D> {
         ensures corrupt { IfErr result (λ e. e.1 ≡ Error.Corrupt → (ps : List ThreadPair) → ¬ IsThread (content_at (disk_on D.BlockDevice device)) (D.geometry device).block_count ps) }
         ensures errors { IfErr result (λ e. (e.1 ≡ Error.Corrupt) ⊎ ((e.1 ≡ Error.Io) ⊎ (e.1 ≡ Error.NoMemory))) }
         ensures back { IfErr result (λ e. GivesBack D.BlockDevice device e.0 e.1) }
+        // Each block of a pair is read once.
+        ensures few { IfOk result (λ t. reads t.kept.history ≡ reads (D.history device) + 2 * length t.kept.pairs) }
     {
         let block_count = device.geometry().block_count;
         let mut pairs = Vec::new(alloc);
@@ -233,6 +235,8 @@ impl<D: BlockDevice> Thread<D> {
         ensures few { reads self.new.kept.history ≤ reads self.old.kept.history + 1 }
         ensures works { self.new.failed ≡ false }
         ensures errors { HasTold self.old.kept self.new.kept result }
+        // The eight that were brought last stay at hand.
+        ensures recent { OnOk result (self.new.cache ≡ brought self.old index) }
     {
         let block = self.pairs[index].active;
         self.cache.fill(&mut self.device, block)

@@ -15,6 +15,7 @@ loop-init g c = record {
   device = record { same = refl; geometry = refl; reads = began };
   no_fault = refl;
   count = ap length c.requires.none;
+  few = let none = ap length c.requires.none in omega (arith, none);
 }
 
 pub returns-in-None-clause-kept : goal.returns-in-None-clause-kept
@@ -62,6 +63,7 @@ loop-preserved g c =
         reads = then_reads c.loop.invariant.device.reads c.loop.invariant.device.same read.device.reads;
       };
       no_fault = no_fault ∙ c.loop.invariant.no_fault;
+      few = (let before = c.loop.invariant.few in let two = read.few in let more = ap length c.in_ok-push-in-Some.ensures.items ∙ length-append c.loop.pairs.items (c.in_ok-pair-in-Some.pair ∷ []) in omega (arith, before, two, more));
       count = ap length c.in_ok-push-in-Some.ensures.items ∙ length-append c.loop.pairs.items (c.in_ok-pair-in-Some.pair ∷ []) ∙ ap (λ n. n + 1) c.loop.invariant.count;
     }
 

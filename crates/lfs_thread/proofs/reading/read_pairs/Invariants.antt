@@ -1,8 +1,8 @@
-use Rattle.std.proofs.Common.{◌≡◌, length}
+use Rattle.std.proofs.Common.{◌≡◌, ◌+◌, ◌*◌, length}
 use Rattle.std.specs.Option.{option_map}
 use Rattle.lfs_device.specs.Shown.{disk_of}
 use Rattle.lfs_device.specs.Calls.{ReadsOnly}
-use Rattle.lfs_model.specs.History.{faults}
+use Rattle.lfs_model.specs.History.{faults, reads}
 use Rattle.lfs_model.specs.Slots.{address_of}
 use Rattle.lfs_thread.specs.Begun.{IsBegun}
 use Rattle.lfs_thread.proofs.reading.read_pairs.Given as goal
@@ -13,4 +13,5 @@ invariant-loop g l = record {
   device : ReadsOnly g.D.BlockDevice l.fn.device l.device;
   no_fault : faults (g.D.BlockDevice.history l.device) ≡ faults (g.D.BlockDevice.history l.fn.device);
   count : length l.pairs.items ≡ l.counter;
+  few : reads (g.D.BlockDevice.history l.device) ≡ reads (g.D.BlockDevice.history l.fn.device) + 2 * length l.pairs.items;
 }

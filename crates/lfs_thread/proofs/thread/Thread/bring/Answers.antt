@@ -1,10 +1,10 @@
-use Rattle.std.proofs.Common.{ap, ap₂, sym, subst, ◌∙◌, ◌<◌, ◌≤◌, ◌+◌, length}
+use Rattle.std.proofs.Common.{ap, ap₂, sym, subst, ◌∙◌, ◌≡◌, ◌<◌, ◌≤◌, ◌+◌, length}
 use Rattle.std.specs.Prelude.{IsSome, OnOk}
 use Rattle.lfs_device.specs.Shown.{disk_of}
 use Rattle.lfs_model.specs.Cache.{cached}
 use Rattle.lfs_thread.specs.Kept.{IsCurrent, IsKept, State, disk_on, seen_on}
-use Rattle.lfs_thread.specs.Lent.{at_hand}
-use Rattle.lfs_thread.proofs.AtHand.{current_filled, filled_there}
+use Rattle.lfs_thread.specs.Lent.{at_hand, brought}
+use Rattle.lfs_thread.proofs.AtHand.{current_filled, filled_front, filled_there}
 use Rattle.lfs_thread.proofs.Changing.{at_there, kept_read}
 use Rattle.lfs_model.specs.History.{reads}
 use Rattle.lfs_thread.specs.Steps.{HasTold}
@@ -63,3 +63,14 @@ returns-clause-errors g c =
     let e = c.fill.ensures in
     subst (λ (v : State). HasTold v.kept (seen_on g.D.BlockDevice c.fill.new.device c.self.inside.pairs.items c.self.inside.map) c.fill.result) c.self.view_is
     (told_from g.D.BlockDevice c.self.inside.device c.fill.new.device c.self.inside.pairs.items c.self.inside.pairs.items c.self.inside.map c.self.inside.map c.fill.result (record { errors = e.errors; faults = e.faults; unwritten = λ no. e.device }))
+
+pub returns-clause-recent : goal.returns-clause-recent
+returns-clause-recent g c =
+    let works = ap (λ (v : State). v.failed) c.self.view_is ∙ c.requires.works in
+    let below = subst (λ (v : State). c.args.index < length v.kept.pairs) (sym c.self.view_is) c.requires.below in
+    let disk = disk_on g.D.BlockDevice c.self.inside.device in
+    let a = at_there disk c.self.inside.pairs.items c.args.index c.index.result.now below c.index.ensures in
+    let kept = (c.self.invariant works).0 in
+    let at = active_is disk (g.D.BlockDevice.history c.self.inside.device) c.self.inside.pairs.items c.self.inside.map c.args.index c.index.result.now a kept in
+    subst (λ (v : State). OnOk c.fill.result (c.fill.new.self ≡ brought v c.args.index)) c.self.view_is
+    (filled_front (g.D.BlockDevice.blocks c.self.inside.device) c.self.inside.cache c.fill.new.self c.index.result.now.active _ c.fill.result at (c.self.invariant works).1 c.fill.ensures.filled)

@@ -31,3 +31,4 @@ pub mod KnownMoves
 pub mod KnownThread
 pub mod Mounts
 pub mod Mounted
+pub mod MountReads

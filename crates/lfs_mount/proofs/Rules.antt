@@ -154,7 +154,7 @@ pub record IsTaken (disk : Disk) (firsts : List (ℕ × ℕ)) (g : Gstate) (firs
   pub lists : MarksLists disk sets (lists_of (visible g p)) marked
   pub moved : IsMovedEntry (moved_in g p) p.content.slots
 
-kept_parts : (m : Member) (raws kept : List RawSlot) → kept_of m raws ≡ Some kept → (mid : List RawSlot) × ((unmoved_of m.moved raws ≡ Some mid) × (behind_superblock m.has_superblock mid ≡ Some kept))
+pub kept_parts : (m : Member) (raws kept : List RawSlot) → kept_of m raws ≡ Some kept → (mid : List RawSlot) × ((unmoved_of m.moved raws ≡ Some mid) × (behind_superblock m.has_superblock mid ≡ Some kept))
 kept_parts m raws kept e = go (unmoved_of m.moved raws) refl e
   where
     go : (o : Option (List RawSlot)) → unmoved_of m.moved raws ≡ o → option_and_then (behind_superblock m.has_superblock) o ≡ Some kept

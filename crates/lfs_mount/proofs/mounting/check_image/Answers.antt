@@ -1,13 +1,18 @@
-use Rattle.std.proofs.Common.{◌≡◌, Err, ◌^◌, ◌<◌, sym, ap, ap₂, subst, arith}
+use Rattle.std.proofs.Common.{◌≡◌, ◌≤◌, ◌+◌, Err, List, true, ◌^◌, ◌<◌, sym, ap, ap₂, subst, subst₂, arith}
+use Rattle.std.specs.Prelude.{sum_by}
 use Rattle.std.proofs.lemmas.Result.{err_from_is_err_and}
 use Rattle.lfs_device.specs.Shown.{disk_of}
 use Rattle.lfs_model.specs.Disk.{Disk, block_count}
+use Rattle.lfs_model.specs.History.{reads}
 use Rattle.lfs_model.specs.Slots.{Gstate}
 use Rattle.lfs_tag.specs.FieldsSeen.{move_seen}
-use Rattle.lfs_thread.specs.Kept.{disk_on, pairs_on}
-use Rattle.lfs_mount.specs.Members.{AreDirectories}
+use Rattle.lfs_thread.specs.Kept.{Header, disk_on, pairs_on}
+use Rattle.lfs_mount.specs.Accepted.{HasImage}
+use Rattle.lfs_mount.specs.Members.{AreDirectories, members_in}
+use Rattle.lfs_mount.specs.Reads.{pair_reads}
 use Rattle.lfs_mount.proofs.KnownMoves.{directories_within}
 use Rattle.lfs_mount.proofs.KnownThread.{directories_are}
+use Rattle.lfs_mount.proofs.MountReads.{directories_read}
 use Rattle.lfs_mount.proofs.Mounts.{has_image, move_refuses, none_accepted, pairs_refuse}
 use Rattle.lfs_mount.proofs.Told.{same_error, then_reads}
 use Rattle.lfs_mount.proofs.mounting.check_image.Goals as goal
@@ -71,3 +76,17 @@ returns-clause-image g c =
 
 pub returns-clause-device : goal.returns-clause-device
 returns-clause-device g c = then_reads c.in_ok-count.ensures.device c.in_ok-check_directories.ensures.device
+
+pub returns-clause-few : goal.returns-clause-few
+unfolding returns-clause-image
+returns-clause-few g c = λ m le.
+    let disk : Disk = disk_on g.D.BlockDevice c.args.device.now in
+    let history = g.D.BlockDevice.history c.args.device.now in
+    let state : Gstate = move_seen c.args.state.now in
+    let image : HasImage disk c.args.pairs.now c.args.map.now c.check_directories.new.map = returns-clause-image g c in
+    let read = c.in_ok-count.ensures.device in
+    let first = c.in_ok-count.ensures.reads in
+    let rest = subst₂ (λ (d : Disk) (hs : List Header). reads (g.D.BlockDevice.history c.check_directories.new.device) ≤ reads (g.D.BlockDevice.history c.count_superblocks.new.dev) + sum_by (pair_reads d m) (members_in state true hs))
+    (ap₂ disk_of read.geometry read.same) c.pairs_from-directories.ensures (c.in_ok-check_directories.ensures.few m le) in
+    let most = directories_read disk history c.args.pairs.now c.args.map.now state c.in_ok-count.count c.requires c.in_ok-count.ensures.head (g.met.D.BlockDevice.bytes c.args.device.now) image.accepted m in
+    omega (arith, first, rest, most)

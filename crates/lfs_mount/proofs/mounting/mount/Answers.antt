@@ -1,9 +1,12 @@
-use Rattle.std.proofs.Common.{sym, ap, subst, ◌∙◌}
+use Rattle.std.proofs.Common.{arith, ◌≡◌, ◌≤◌, ◌+◌, sym, ap, subst, ◌∙◌}
 use Rattle.lfs_model.specs.Blocks.{Blocks}
-use Rattle.lfs_model.specs.History.{OnlyReads, faults}
-use Rattle.lfs_model.specs.Disk.{Disk}
+use Rattle.lfs_model.specs.History.{OnlyReads, faults, reads}
+use Rattle.lfs_model.specs.Disk.{Disk, block_count}
+use Rattle.lfs_model.proofs.Histories.{reads-since}
 use Rattle.lfs_tag.specs.FieldsSeen.{move_seen}
 use Rattle.lfs_thread.specs.Kept.{IsCurrent, Kept, disk_on}
+use Rattle.lfs_mount.specs.Reads.{mount_reads}
+use Rattle.lfs_mount.proofs.MountReads.{mount_few, some_pair}
 use Rattle.lfs_mount.proofs.Mounted.{disk_now, given_back, is_mounted, kept_again, ok_tells, read_is}
 use Rattle.lfs_mount.proofs.mounting.mount.Goals as goal
 
@@ -52,3 +55,32 @@ returns-in-Err-clause-back g c =
     (subst (λ (k : Kept). OnlyReads old.blocks (g.D.BlockDevice.history c.args.device) k.history) (sym parts.ensures.same) read.only.1)
     (ap (λ (k : Kept). faults k.history) parts.ensures.same ∙ read.only.2)
     c.in-Err.ensures.device c.in-Err.ensures.errors.faults
+
+pub returns-in-Ok-clause-called : goal.returns-in-Ok-clause-called
+returns-in-Ok-clause-called g c =
+    let read = c.in_ok-thread.ensures in
+    let parts = c.into_parts-parts in
+    let some = some_pair c.in_ok-thread.thread.kept.pairs read.thread.links in
+    let first = read.few in
+    let begun = ap (λ (k : Kept). reads k.history) parts.ensures.same in
+    let later = reads-since c.in-Ok.ensures.device.reads in
+    let end = ap (λ (k : Kept). reads k.history) c.from_parts.ensures.kept in
+    omega (arith, some, first, begun, later, end)
+
+pub returns-in-Ok-clause-few : goal.returns-in-Ok-clause-few
+returns-in-Ok-clause-few g c = λ m le.
+    let read = c.in_ok-thread.ensures in
+    let parts = c.into_parts-parts in
+    let old : Disk = disk_on g.D.BlockDevice c.args.device in
+    let disk : Disk = disk_on g.D.BlockDevice parts.result.device in
+    let from : disk ≡ old = ap (λ (k : Kept). k.disk) parts.ensures.same ∙ read.only.0 in
+    let size = parts.ensures.kept.size in
+    let count = ap block_count from in
+    let shape = (g.met.D.BlockDevice.shape c.args.device).count in
+    let kept = c.from_parts.ensures.kept in
+    let checked = c.in-Ok.ensures.few m (omega (arith, le, size, count, shape)) in
+    subst (λ h. reads h ≤ reads (g.D.BlockDevice.history c.args.device) + mount_reads old m c.from_parts.result.kept.pairs) (sym (ap (λ (k : Kept). k.history) kept))
+    (mount_few old disk (disk_on g.D.BlockDevice c.check_image.new.device) m parts.result.pairs.items c.deref.result.now c.in_ok-thread.thread.kept.pairs c.from_parts.result.kept.pairs
+    (reads (g.D.BlockDevice.history c.args.device)) (reads (g.D.BlockDevice.history parts.result.device)) (reads (g.D.BlockDevice.history c.check_image.new.device))
+    from (disk_now c.in-Ok.ensures.device) c.deref.ensures.value (ap (λ (k : Kept). k.pairs) parts.ensures.same) (ap (λ (k : Kept). k.pairs) kept)
+    (ap (λ (k : Kept). reads k.history) parts.ensures.same ∙ read.few) checked)

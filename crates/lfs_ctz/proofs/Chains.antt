@@ -4,7 +4,7 @@ use Rattle.std.proofs.lemmas.Bool.{cases_lt}
 use Rattle.std.specs.Int.{w32, trailing_zeros}
 use Rattle.std.proofs.lemmas.List.{get_or_at, get_or_append_left}
 use Rattle.lfs_model.specs.Blocks.{Blocks, block_in}
-use Rattle.lfs_model.specs.SkipLists.{word_at, pointers_of, blocks_back, blocks_for, AreListBlocks, IsList}
+use Rattle.lfs_model.specs.SkipLists.{word_at, pointers_of, blocks_back, AreListBlocks}
 
 pub length_back : (d : Blocks) (n head : ℕ) → length (blocks_back d n head) ≡ n
 length_back d zero head = refl
@@ -21,9 +21,6 @@ head_of_back d (suc n) head =
 pub pointers_of-pos : (i : ℕ) → 0 < i → pointers_of i ≡ trailing_zeros w32 i + 1
 pointers_of-pos zero some = absurd (omega arith)
 pointers_of-pos (suc i) some = refl
-
-pub chain_of_list : {d : Blocks} {block_size head size : ℕ} → IsList d block_size head size → AreListBlocks d (blocks_for block_size size) head
-chain_of_list l = record { in_range = l.in_range; distinct = l.distinct; pointers = l.pointers }
 
 -- each of them is a block of the disk
 pub in_range_at : (d : Blocks) (n head i : ℕ) → AreListBlocks d n head → i < n → slice_index (blocks_back d n head) i < length d

@@ -80,7 +80,7 @@ at_end : (d : Blocks) (block_size head size n : ℕ) (content : List ℕ) → 1 
 at_end d block_size head size n content low high count chain is =
     let whole : AreListBlocks d (blocks_for block_size size) head = subst (λ k. AreListBlocks d k head) (sym count) chain in
     record {
-      list = record { size_low = low; size_high = high; in_range = whole.in_range; distinct = whole.distinct; pointers = whole.pointers };
+      list = record { size_low = low; size_high = high; blocks = whole };
       bytes = ap (λ k. take size (joined d (blocks_back d k head))) count ∙ is;
       blocks = ap (λ k. blocks_back d k head) count;
     }

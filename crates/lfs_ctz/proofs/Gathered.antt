@@ -6,7 +6,7 @@ use Rattle.std.proofs.Math.Seq.{take-add}
 use Rattle.lfs_model.specs.Blocks.{Blocks, IsDivided, block_in}
 use Rattle.lfs_model.specs.SkipLists.{word_at, pointers_of, bytes_before, blocks_back, blocks_for, IsList, IsBytePlace, bytes_of}
 use Rattle.lfs_ctz.proofs.Sizes.{placed, place_before, place-lt, pointers_of-le}
-use Rattle.lfs_ctz.proofs.Chains.{chain_of_list, in_range_at}
+use Rattle.lfs_ctz.proofs.Chains.{in_range_at}
 use Rattle.lfs_ctz.proofs.Parts.{part_of_bytes}
 
 slices_joined : (xs : List ℕ) (a b c : ℕ) → a ≤ b → b ≤ c → slice_range xs a b ++ slice_range xs b c ≡ slice_range xs a c
@@ -68,7 +68,7 @@ module _ (d : Blocks) (block_size count head size : ℕ) (large : 1024 ≤ block
         ∙ ap (λ (l : List ℕ). l ++ (slice_range bytes (pos + left) (pos + len) ++ rest))
         (ap (λ k. take n (drop k (block_in d block))) (sym there)
         ∙ ap (λ b. take n (drop (4 * pointers_of i + (from - bytes_before block_size i)) (block_in d b))) is
-        ∙ sym (part_of_bytes d block_size large head size count shape (chain_of_list ok) i from n index_low (omega arith) (omega arith) (omega arith))
+        ∙ sym (part_of_bytes d block_size large head size count shape ok.blocks i from n index_low (omega arith) (omega arith) (omega arith))
         ∙ ap (slice_range bytes from) end)
         ∙ sym (append_assoc (slice_range bytes from (pos + left)) (slice_range bytes (pos + left) (pos + len)) rest)
         ∙ ap (λ (l : List ℕ). l ++ rest) (slices_joined bytes from (pos + left) (pos + len) (omega arith) (omega arith))
@@ -88,7 +88,7 @@ module _ (d : Blocks) (block_size count head size : ℕ) (large : 1024 ≤ block
         let next = index_before j end more there in
         let back : i - 2 ^ 0 ≡ j = omega arith in
         let some_pointers : 0 < pointers_of i = subst (λ k. 0 < pointers_of k) (sym next) (omega arith) in
-        ap (λ b. word_at (block_in d b) 0) is ∙ ok.pointers i 0 index_low some_pointers ∙ ap (slice_index bs) back
+        ap (λ b. word_at (block_in d b) 0) is ∙ ok.blocks.pointers i 0 index_low some_pointers ∙ ap (slice_index bs) back
 
     pub before_in_range : IsList d block_size head size → block ≡ slice_index bs i → 1 ≤ left - n → word_at (block_in d block) 0 < count
     before_in_range ok is more =
@@ -96,7 +96,7 @@ module _ (d : Blocks) (block_size count head size : ℕ) (large : 1024 ≤ block
         let next = index_before there.0 there.1.0 more there.1.1 in
         let low = index_low in
         let e = block_before ok is more there.0 there.1.0 there.1.1 in
-        let lt = in_range_at d (blocks_for block_size size) head there.0 (chain_of_list ok) (omega arith) in
+        let lt = in_range_at d (blocks_for block_size size) head there.0 ok.blocks (omega arith) in
         omega (arith, e, lt, shape.count)
 
 -- a turn: a part comes to the front of what the buffer holds

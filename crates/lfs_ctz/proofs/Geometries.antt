@@ -4,7 +4,6 @@ use Rattle.lfs_device.specs.declared.geometry.Geometry.{Geometry}
 use Rattle.lfs_model.specs.Blocks.{Blocks, IsDivided}
 use Rattle.lfs_model.specs.SkipLists.{AreListBlocks, IsList, blocks_for}
 use Rattle.lfs_ctz.proofs.Sizes.{blocks_for-last}
-use Rattle.lfs_ctz.proofs.Chains.{chain_of_list}
 
 -- the last index and one more is the number of blocks
 pub last_is : (block_size size n : ℕ) → 1024 ≤ block_size → 1 ≤ size → n ≡ blocks_for block_size size → n - 1 + 1 ≡ blocks_for block_size size
@@ -14,7 +13,7 @@ last_is block_size size n large some is =
 
 -- a list is a chain from its last block
 pub chain : (d : Blocks) (block_size head size n : ℕ) → 1024 ≤ block_size → n ≡ blocks_for block_size size → IsList d block_size head size → AreListBlocks d (n - 1 + 1) head
-chain d block_size head size n large is ok = subst (λ k. AreListBlocks d k head) (sym (last_is block_size size n large ok.size_low is)) (chain_of_list ok)
+chain d block_size head size n large is ok = subst (λ k. AreListBlocks d k head) (sym (last_is block_size size n large ok.size_low is)) ok.blocks
 
 -- a list, or blocks, by the geometry that the device gave
 pub sized : (d : Blocks) (head size : ℕ) (geometry made : Geometry) → made ≡ geometry → IsList d geometry.block_size head size → IsList d made.block_size head size

@@ -11,7 +11,7 @@ use Rattle.lfs_model.specs.SkipLists.{word_at, pointers_of, bytes_before, blocks
 use Rattle.lfs_ctz.specs.Finished.{IsEnd}
 use Rattle.lfs_ctz.specs.Growing.{joined, IsShared}
 use Rattle.lfs_ctz.proofs.Sizes.{pointers_of-le, blocks_for-place, place-lt}
-use Rattle.lfs_ctz.proofs.Chains.{length_back, chain_of_list, back-pointer0}
+use Rattle.lfs_ctz.proofs.Chains.{length_back, back-pointer0}
 use Rattle.lfs_ctz.proofs.Filling.{none_chain}
 use Rattle.lfs_ctz.proofs.Joined.{joined_from, joined-append, length-joined, back_prefix}
 use Rattle.lfs_ctz.proofs.Parts.{AllSized}
@@ -62,14 +62,14 @@ module _ (d : Blocks) (block_size count head size keep i off block : ℕ) (large
   few_blocks = blocks_for-place block_size keep i off large some place
 
   sized : AllSized d block_size bs
-  sized k x l = shape.sizes (get_or bs k x) (let lt = list.in_range k x l in omega (arith, lt, shape.count))
+  sized k x l = shape.sizes (get_or bs k x) (let lt = list.blocks.in_range k x l in omega (arith, lt, shape.count))
 
   -- the front's blocks
   pub front_back : blocks_back d (i + 1) block ≡ take (i + 1) bs
   front_back = ap (blocks_back d (i + 1)) is ∙ back_prefix d (blocks_for block_size size) head i low
 
   pub front_chain : AreListBlocks d (i + 1) block
-  front_chain = subst (AreListBlocks d (i + 1)) (sym is) (chain_prefix d (blocks_for block_size size) head i low (chain_of_list list))
+  front_chain = subst (AreListBlocks d (i + 1)) (sym is) (chain_prefix d (blocks_for block_size size) head i low list.blocks)
 
   joined_split : (m : ℕ) → m ≤ blocks_for block_size size → (joined d bs ≡ joined d (take m bs) ++ joined_from d m (drop m bs)) × (length (joined d (take m bs)) ≡ bytes_before block_size m)
   joined_split m le =
@@ -89,7 +89,7 @@ module _ (d : Blocks) (block_size count head size keep i off block : ℕ) (large
       let below = place.below in
       let own : blocks_back d (blocks_for block_size keep) block ≡ take (i + 1) bs = ap (λ k. blocks_back d k block) few_blocks ∙ front_back in
       record {
-        list = record { size_low = some; size_high = few; in_range = whole.in_range; distinct = whole.distinct; pointers = whole.pointers };
+        list = record { size_low = some; size_high = few; blocks = whole };
         bytes = ap (λ (l : List ℕ). take keep (joined d l)) own
             ∙ sym (take-take keep size (joined d bs) within ∙ ap (take keep) split.0
             ∙ take-append-le keep (joined d (take (i + 1) bs)) (joined_from d (i + 1) (drop (i + 1) bs)) (omega (arith, split.1, ap (bytes_before block_size) (add-one i))));
@@ -137,7 +137,7 @@ module _ (d : Blocks) (block_size count head size keep i off block : ℕ) (large
         let l = low in
         let to : before ≡ slice_index bs m =
         named (omega arith) ∙ ap (λ b. word_at (block_in d b) 0) (is ∙ ap (slice_index bs) e) ∙ back-pointer0 d (blocks_for block_size size) head m (omega arith) in
-        subst (λ k. AreListBlocks d k before) (add-one m ∙ sym e) (subst (AreListBlocks d (m + 1)) (sym to) (chain_prefix d (blocks_for block_size size) head m (omega arith) (chain_of_list list)))
+        subst (λ k. AreListBlocks d k before) (add-one m ∙ sym e) (subst (AreListBlocks d (m + 1)) (sym to) (chain_prefix d (blocks_for block_size size) head m (omega arith) list.blocks))
 
     pub before_front : blocks_back d i before ≡ take i bs
     before_front = before_back i refl
@@ -156,7 +156,7 @@ module _ (d : Blocks) (block_size count head size keep i off block : ℕ) (large
     -- the bytes in it that are kept
     module _ (rest : List ℕ) (rest_is : rest ≡ take (off + 1 - p) (drop p (block_in d block))) where
       block_long : length (block_in d block) ≡ block_size
-      block_long = shape.sizes block (let len = length_back d (blocks_for block_size size) head in let lt = list.in_range i 0 (let l = low in omega arith) in omega (arith, lt, is, shape.count))
+      block_long = shape.sizes block (let len = length_back d (blocks_for block_size size) head in let lt = list.blocks.in_range i 0 (let l = low in omega arith) in omega (arith, lt, is, shape.count))
 
       pub rest_long : (length rest ≡ off + 1 - p) × (1 ≤ off + 1 - p) × (keep ≡ bytes_before block_size i + (off + 1 - p))
       rest_long =

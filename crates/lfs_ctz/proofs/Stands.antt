@@ -4,7 +4,7 @@ use Rattle.std.specs.Prelude.{All}
 use Rattle.std.proofs.lemmas.List.Elements.{All-from_recursion, recursion_from_All}
 use Rattle.lfs_device.specs.declared.geometry.Geometry.{Geometry}
 use Rattle.lfs_model.proofs.Counts.{each_left, each_right}
-use Rattle.lfs_model.proofs.Files.{Same, back_same, data_same}
+use Rattle.lfs_model.proofs.Files.{Same, back_same, chain_same, data_same}
 use Rattle.lfs_model.specs.Blocks.{Blocks, IsDivided, block_in}
 use Rattle.lfs_model.specs.SkipLists.{AreListBlocks, bytes_before, blocks_back, pointers_of, word_at}
 use Rattle.lfs_ctz.specs.declared.extender.Extender.{Extender}
@@ -12,21 +12,8 @@ use Rattle.lfs_ctz.specs.declared.rest.Rest.{Rest}
 use Rattle.lfs_ctz.specs.declared.rest.Rest.TheVariants.{Closed, Shared, Handed, Held}
 use Rattle.lfs_ctz.specs.Extended.{IsGrown, geometry_of, growing_of}
 use Rattle.lfs_ctz.specs.Growing.{Growing, IsGrowing, IsRest, IsStill, blocks_of, content_of, is_held_in, joined, kept_of, last_in, pending_in, size_of}
-use Rattle.lfs_ctz.proofs.Chains.{length_back}
 use Rattle.lfs_ctz.proofs.Filling.{length-full, none_chain}
 use Rattle.lfs_ctz.proofs.Rests.{rest_of}
-
-pub chain_same : (d e : Blocks) (n head : ℕ) → length e ≡ length d → Same d e (blocks_back d n head) → AreListBlocks d n head → AreListBlocks e n head
-chain_same d e n head l h ok = record {
-  in_range = subst (λ bs. All (λ b. b < length e) bs) (sym back) (subst (λ (limit : ℕ). All (λ b. b < limit) (blocks_back d n head)) (sym l) ok.in_range);
-  distinct = rw back ok.distinct;
-  pointers = λ i k m j. ap (λ bs. word_at (block_in e (slice_index bs i)) (4 * k)) back
-      ∙ ap (λ z. word_at z (4 * k)) (All-from_recursion (λ b. block_in e b ≡ block_in d b) (blocks_back d n head) h i 0 (let n = length_back d n head in omega arith))
-      ∙ ok.pointers i k m j ∙ ap (λ bs. slice_index bs (i - 2 ^ k)) (sym back);
-}
-  where
-    back : blocks_back e n head ≡ blocks_back d n head
-    back = back_same d e n head h
 
 module _ (d later : Blocks) (count : length later ≡ length d) where
   abbrev IsSame : ℕ → Type 0

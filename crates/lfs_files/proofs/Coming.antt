@@ -36,7 +36,7 @@ module _ (t : Kept) (s : Stored) (was : List ℕ) (stored : IsStored t.map t.dis
       let both = came b was (blocks_in_list t s) some in
       let has = Contains-count (blocks_in_list t s) b both.1 in
       flying_else t.map b
-      (let within = All-contains (λ x. x < length t.disk.blocks) (blocks_in_list t s) b list.in_range has in omega (arith, stored.count, within))
+      (let within = All-contains (λ x. x < length t.disk.blocks) (blocks_in_list t s) b list.blocks.in_range has in omega (arith, stored.count, within))
       (All-contains (λ x. IsFree t.map x → ⊥) (blocks_in_list t s) b stored.marked has)
       (λ used. absurd (let k = count-Contains was b (owned.each b has used) in let z = both.0 in omega arith))
 
@@ -46,7 +46,7 @@ pub list_comes : (t : Kept) (s : Stored) (bytes : List ℕ) (form : Form) (was :
 list_comes t s bytes form was holds size large owned distinct =
     let stored : IsStored t.map t.disk.blocks t.disk.block_size s = subst (λ (n : ℕ). IsStored t.map t.disk.blocks n s) holds.divided.block_size holds.has.stands in
     let list : IsList t.disk.blocks t.disk.block_size s.head s.size = ⊎_elim (λ none. absurd (omega arith)) (λ is. is) stored.base in
-    let once = once_from_distinct (blocks_in_list t s) list.distinct in
+    let once = once_from_distinct (blocks_in_list t s) list.blocks.distinct in
     let once_was = once_from_distinct (file_blocks t.disk was) distinct in
     record {
       stores = (size, ap (λ (n : ℕ). bytes_of t.disk.blocks n s.head s.size) (sym holds.divided.block_size) ∙ holds.has.has, large);

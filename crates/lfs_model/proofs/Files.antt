@@ -6,7 +6,7 @@ use Rattle.std.proofs.lemmas.List.Elements.{All-from_recursion}
 use Rattle.lfs_model.specs.Blocks.{Blocks, block_in}
 use Rattle.lfs_model.specs.Disk.{Disk, block_at, SameGeometry}
 use Rattle.lfs_model.specs.Slots.{Struct, Inline, Ctz, Branch}
-use Rattle.lfs_model.specs.SkipLists.{word_at, pointers_of, blocks_for, blocks_back, IsList, data_of, bytes_of}
+use Rattle.lfs_model.specs.SkipLists.{word_at, pointers_of, blocks_for, blocks_back, AreListBlocks, IsList, data_of, bytes_of}
 use Rattle.lfs_model.specs.Shown.{contents_in, file_blocks}
 use Rattle.lfs_model.specs.View.{IsListIfCtz}
 use Rattle.lfs_model.proofs.Counts.{Each, each_left, each_right}
@@ -27,20 +27,26 @@ length_back d zero head = refl
 length_back d (suc zero) head = refl
 length_back d (suc (suc n)) head = length-append (blocks_back d (suc n) (word_at (block_in d head) 0)) (head ∷ []) ∙ ap (λ z. z + 1) (length_back d (suc n) (word_at (block_in d head) 0)) ∙ omega arith
 
+-- the first blocks of a list that grows
+pub chain_same : (d e : Blocks) (count head : ℕ) → length e ≡ length d → Same d e (blocks_back d count head) → AreListBlocks d count head → AreListBlocks e count head
+chain_same d e count head l h ok = record {
+  in_range = subst (λ bs. All (λ b. b < length e) bs) (sym back) (subst (λ n. All (λ b. b < n) (blocks_back d count head)) (sym l) ok.in_range);
+  distinct = rw back ok.distinct;
+  pointers = λ i k m j. ap (λ bs. word_at (block_in e (slice_index bs i)) (4 * k)) back
+      ∙ ap (λ z. word_at z (4 * k)) (All-from_recursion (λ b. block_in e b ≡ block_in d b) (blocks_back d count head) h i 0 (let n = length_back d count head in omega arith))
+      ∙ ok.pointers i k m j ∙ ap (λ bs. slice_index bs (i - 2 ^ k)) (sym back);
+}
+  where
+    back : blocks_back e count head ≡ blocks_back d count head
+    back = back_same d e count head h
+
 pub list_same : (d e : Blocks) (block_size head size : ℕ) → length e ≡ length d → Same d e (blocks_back d (blocks_for block_size size) head) →
     IsList d block_size head size → IsList e block_size head size
 list_same d e block_size head size l h ok = record {
   size_low = ok.size_low;
   size_high = ok.size_high;
-  in_range = subst (λ bs. All (λ b. b < length e) bs) (sym back) (subst (λ n. All (λ b. b < n) (blocks_back d (blocks_for block_size size) head)) (sym l) ok.in_range);
-  distinct = rw back ok.distinct;
-  pointers = λ i k m j. ap (λ bs. word_at (block_in e (slice_index bs i)) (4 * k)) back
-      ∙ ap (λ z. word_at z (4 * k)) (All-from_recursion (λ b. block_in e b ≡ block_in d b) (blocks_back d (blocks_for block_size size) head) h i 0 (let n = length_back d (blocks_for block_size size) head in omega arith))
-      ∙ ok.pointers i k m j ∙ ap (λ bs. slice_index bs (i - 2 ^ k)) (sym back);
+  blocks = chain_same d e (blocks_for block_size size) head l h ok.blocks;
 }
-  where
-    back : blocks_back e (blocks_for block_size size) head ≡ blocks_back d (blocks_for block_size size) head
-    back = back_same d e (blocks_for block_size size) head h
 
 pub data_same : (d e : Blocks) (n : ℕ) (bs : List ℕ) → Same d e bs → flat_map (data_of e) (enumerate_from n bs) ≡ flat_map (data_of d) (enumerate_from n bs)
 data_same d e n [] h = refl

@@ -92,4 +92,4 @@ length-back_data d block_size block_count count head large shape in_range =
 pub length-bytes_of : (d : Blocks) (block_size block_count head size : ℕ) → 1024 ≤ block_size → IsDivided block_size block_count d → IsList d block_size head size → length (bytes_of d block_size head size) ≡ size
 length-bytes_of d block_size block_count head size large shape list =
     length-take-le size (flat_map (data_of d) (enumerate_from 0 (blocks_back d (blocks_for block_size size) head)))
-    (omega (arith, length-back_data d block_size block_count (blocks_for block_size size) head large shape list.in_range, blocks_for-enough block_size size large))
+    (omega (arith, length-back_data d block_size block_count (blocks_for block_size size) head large shape list.blocks.in_range, blocks_for-enough block_size size large))

@@ -43,11 +43,13 @@ list_from disk block_size head size e =
     record {
       size_low = leb-true 1 size one.0;
       size_high = ltb-true size (2 ^ 31) two.0;
-      in_range = all_from (λ b. nat_lt b (length disk)) (λ b. b < length disk) (λ b. ltb-true b (length disk)) bs three.0;
-      distinct = distinct_from bs four.0;
-      pointers = λ i k l m.
-          let here = below_from (λ i. all_below (points disk bs i) (pointers_of i)) n four.1 i l in
-          eqb-true (word_at (block_in disk (slice_index bs i)) (4 * k)) (slice_index bs (i - 2 ^ k)) (below_from (points disk bs i) (pointers_of i) here k m);
+      blocks = record {
+        in_range = all_from (λ b. nat_lt b (length disk)) (λ b. b < length disk) (λ b. ltb-true b (length disk)) bs three.0;
+        distinct = distinct_from bs four.0;
+        pointers = λ i k l m.
+            let here = below_from (λ i. all_below (points disk bs i) (pointers_of i)) n four.1 i l in
+            eqb-true (word_at (block_in disk (slice_index bs i)) (4 * k)) (slice_index bs (i - 2 ^ k)) (below_from (points disk bs i) (pointers_of i) here k m);
+      };
     }
 
 below_to : (p : ℕ → Bool) (n : ℕ) → ((i : ℕ) → i < n → p i ≡ true) → all_below p n ≡ true
@@ -59,7 +61,7 @@ list_to disk block_size head size h =
     let n = blocks_for block_size size in
     let bs = blocks_back disk n head in
     and_from _ _ (le-leb 1 size h.size_low) (and_from _ _ (lt-ltb size (2 ^ 31) h.size_high)
-    (and_from _ _ (all_to (λ b. nat_lt b (length disk)) (λ b. b < length disk) (λ b. lt-ltb b (length disk)) bs h.in_range)
-    (and_from _ _ (apart_from bs h.distinct)
+    (and_from _ _ (all_to (λ b. nat_lt b (length disk)) (λ b. b < length disk) (λ b. lt-ltb b (length disk)) bs h.blocks.in_range)
+    (and_from _ _ (apart_from bs h.blocks.distinct)
     (below_to (λ i. all_below (points disk bs i) (pointers_of i)) n
-    (λ i l. below_to (points disk bs i) (pointers_of i) (λ k m. eq-eqb (word_at (block_in disk (slice_index bs i)) (4 * k)) (slice_index bs (i - 2 ^ k)) (h.pointers i k l m)))))))
+    (λ i l. below_to (points disk bs i) (pointers_of i) (λ k m. eq-eqb (word_at (block_in disk (slice_index bs i)) (4 * k)) (slice_index bs (i - 2 ^ k)) (h.blocks.pointers i k l m)))))))

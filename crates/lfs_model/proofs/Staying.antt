@@ -1,16 +1,15 @@
 -- What a disk has at an address, and a file's list, where none of their blocks changed.
 use Rattle.std.specs.Prelude.{All}
-use Rattle.std.proofs.Common.{ℕ, ◌≡◌, ◌≢◌, ◌*◌, ◌-◌, ◌<◌, ◌^◌, List, get_or, length, sym, ap, ap₂, ◌∙◌, subst, arith}
-use Rattle.std.specs.Prelude.{slice_index}
+use Rattle.std.proofs.Common.{ℕ, ◌≡◌, ◌≢◌, List, get_or, ap, ap₂}
 use Rattle.std.specs.Option.{option_and_then}
-use Rattle.std.proofs.lemmas.List.Elements.{recursion_from_All, All-from_recursion}
+use Rattle.std.proofs.lemmas.List.Elements.{recursion_from_All}
 use Rattle.lfs_model.specs.Blocks.{Blocks, SameButThese, block_in}
 use Rattle.lfs_model.specs.Disk.{Disk, block_at}
 use Rattle.lfs_model.specs.Log.{log_entries}
 use Rattle.lfs_model.specs.Content.{holder, holder_at, raw_at, content_at, content_after_all, no_content}
-use Rattle.lfs_model.specs.SkipLists.{word_at, blocks_for, blocks_back, AreListBlocks, IsList, bytes_of}
+use Rattle.lfs_model.specs.SkipLists.{blocks_for, blocks_back, AreListBlocks, IsList, bytes_of}
 use Rattle.lfs_model.proofs.Devices.{content_same}
-use Rattle.lfs_model.proofs.Files.{Same, back_same, length_back, list_same, bytes_same}
+use Rattle.lfs_model.proofs.Files.{Same, back_same, chain_same, list_same, bytes_same}
 
 -- ---- at an address
 
@@ -57,19 +56,6 @@ AreApart own bs = All (λ c. All (λ b. b ≢ c) bs) own
 
 pub same_apart : (own : List ℕ) {bs : List ℕ} (old new : Blocks) → AreApart own bs → SameButThese bs old new → Same old new own
 same_apart own old new apart same = recursion_from_All (λ b. block_in new b ≡ block_in old b) own (λ k x l. same.others (get_or own k x) (apart k x l))
-
--- the first blocks of a list that grows
-pub chain_same : (old new : Blocks) (count head : ℕ) → length new ≡ length old → Same old new (blocks_back old count head) → AreListBlocks old count head → AreListBlocks new count head
-chain_same old new count head l h ok = record {
-  in_range = subst (λ bs. All (λ b. b < length new) bs) (sym back) (subst (λ n. All (λ b. b < n) (blocks_back old count head)) (sym l) ok.in_range);
-  distinct = rw back ok.distinct;
-  pointers = λ i k m j. ap (λ bs. word_at (block_in new (slice_index bs i)) (4 * k)) back
-      ∙ ap (λ z. word_at z (4 * k)) (All-from_recursion (λ b. block_in new b ≡ block_in old b) (blocks_back old count head) h i 0 (let n = length_back old count head in omega arith))
-      ∙ ok.pointers i k m j ∙ ap (λ bs. slice_index bs (i - 2 ^ k)) (sym back);
-}
-  where
-    back : blocks_back new count head ≡ blocks_back old count head
-    back = back_same old new count head h
 
 module _ (old new : Blocks) (bs : List ℕ) (same : SameButThese bs old new) where
   pub back-stays : (count head : ℕ) → AreApart (blocks_back old count head) bs → blocks_back new count head ≡ blocks_back old count head

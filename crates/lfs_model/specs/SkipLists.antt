@@ -50,15 +50,11 @@ pub record AreListBlocks (disk : Blocks) (count head : ℕ) : Type 0 where
   pub pointers : (i k : ℕ) → i < count → k < pointers_of i →
       word_at (block_in disk (slice_index (blocks_back disk count head) i)) (4 * k) ≡ slice_index (blocks_back disk count head) (i - 2 ^ k)
 
+-- a file of so many bytes, whose last block is the head
 pub record IsList (disk : Blocks) (block_size head size : ℕ) : Type 0 where
   pub size_low : 1 ≤ size
   pub size_high : size < 2 ^ 31
-  pub in_range : All (λ b. b < length disk) (blocks_back disk (blocks_for block_size size) head)
-  pub distinct : IsDistinct nat_eq (blocks_back disk (blocks_for block_size size) head)
-  -- pointer k of block i names block i - 2^k
-  pub pointers : (i k : ℕ) → i < blocks_for block_size size → k < pointers_of i →
-      word_at (block_in disk (slice_index (blocks_back disk (blocks_for block_size size) head) i)) (4 * k)
-      ≡ slice_index (blocks_back disk (blocks_for block_size size) head) (i - 2 ^ k)
+  pub blocks : AreListBlocks disk (blocks_for block_size size) head
 
 -- the data part of block i
 abbrev pub data_of : Blocks → ℕ × ℕ → List ℕ

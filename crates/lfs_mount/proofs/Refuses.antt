@@ -146,7 +146,7 @@ in_range disk n [] e h = tt
 in_range disk n (l ∷ ls) e h =
     let P : ℕ → Type 0 = λ b. b < n in
     let back : List ℕ = blocks_back disk.blocks (blocks_for disk.block_size l.1) l.0 in
-    let there : Each P back = recursion_from_All P back (λ k d lt. let r = h.0.in_range k d lt in omega arith) in
+    let there : Each P back = recursion_from_All P back (λ k d lt. let r = h.0.blocks.in_range k d lt in omega arith) in
     each_append P (marked_of disk l) (flat_map (marked_of disk) ls)
     (each_from_counted P (reverse back) (λ b le. each_counted P back there b (let same = count-reverse b back in omega arith)))
     (in_range disk n ls e h.1)

@@ -46,7 +46,7 @@ none_distinct = tt
 
 pub distinct_list : (disk : Disk) (s : Struct) → IsListIfCtz disk s → IsDistinct nat_eq (file_blocks disk s)
 distinct_list disk (Inline bytes) ok = none_distinct
-distinct_list disk (Ctz head size) ok = ok.distinct
+distinct_list disk (Ctz head size) ok = ok.blocks.distinct
 distinct_list disk (Branch to) ok = none_distinct
 
 -- a slot's list, by what it says

@@ -96,7 +96,7 @@ state_of sets b below taken = go (get_or sets b Free) (slice_get-get_or sets b F
 
 base_below : (d : Blocks) (block_size : ℕ) (s : Stored) → IsBase d block_size s.head s.size → (b : ℕ) → Contains (list_blocks d block_size s.head s.size) b → b < length d
 base_below d block_size s (inl none) b has = absurd (let k : Contains [] b = subst (λ n. Contains (list_blocks d block_size s.head n) b) none has in omega (arith, k.1))
-base_below d block_size s (inr list) b has = of_all (λ x. x < length d) (list_blocks d block_size s.head s.size) list.in_range b has
+base_below d block_size s (inr list) b has = of_all (λ x. x < length d) (list_blocks d block_size s.head s.size) list.blocks.in_range b has
 
 own_state : (map : BlockSets) (d : Blocks) (block_size : ℕ) (g : Growing) (base : Stored) (shared : ℕ) → IsHand map d block_size g base shared → (b : ℕ) → Contains (blocks_kept d g) b → IsUsed map b ⊎ IsInFlight map b
 own_state map d block_size g base shared hand b has = ⊎_elim

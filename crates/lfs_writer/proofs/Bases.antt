@@ -6,7 +6,7 @@ use Rattle.std.proofs.lemmas.List.Elements.{recursion_from_All}
 use Rattle.lfs_model.specs.Blocks.{Blocks, block_in}
 use Rattle.lfs_model.specs.BlockSets.{BlockSets}
 use Rattle.lfs_model.specs.SkipLists.{word_at, blocks_for, IsList, data_of, bytes_of}
-use Rattle.lfs_model.proofs.Files.{Same, back_same, data_same, length_back}
+use Rattle.lfs_model.proofs.Files.{Same, back_same, data_same, list_same}
 use Rattle.lfs_writer.specs.Apart.{IsApart, Spares}
 use Rattle.lfs_writer.specs.Based.{list_blocks}
 
@@ -18,15 +18,7 @@ module _ (map : BlockSets) (pending : List ℕ) (d e : Blocks) (block_size head 
   blocks_stay = back_same d e (blocks_for block_size size) head same
 
   pub list_stays : IsList d block_size head size → IsList e block_size head size
-  list_stays ok = record {
-    size_low = ok.size_low;
-    size_high = ok.size_high;
-    in_range = subst (λ bs. All (λ b. b < length e) bs) (sym blocks_stay) (subst (λ n. All (λ b. b < n) (list_blocks d block_size head size)) (sym spares.count) ok.in_range);
-    distinct = rw blocks_stay ok.distinct;
-    pointers = λ i k m j. ap (λ bs. word_at (block_in e (slice_index bs i)) (4 * k)) blocks_stay
-        ∙ ap (λ z. word_at z (4 * k)) (spares.same (slice_index (list_blocks d block_size head size) i) (apart i 0 (let n = length_back d (blocks_for block_size size) head in omega arith)))
-        ∙ ok.pointers i k m j ∙ ap (λ bs. slice_index bs (i - 2 ^ k)) (sym blocks_stay);
-  }
+  list_stays = list_same d e block_size head size spares.count same
 
   pub bytes_stay : bytes_of e block_size head size ≡ bytes_of d block_size head size
   bytes_stay = ap (λ bs. take size (flat_map (data_of e) (enumerate_from 0 bs))) blocks_stay ∙ ap (take size) (data_same d e 0 (list_blocks d block_size head size) same)

@@ -30,7 +30,7 @@ none_distinct = tt
 
 pub base_distinct : (d : Blocks) (block_size head size : ℕ) → IsBase d block_size head size → IsDistinct nat_eq (list_blocks d block_size head size)
 base_distinct d block_size head size (inl none) = subst (λ n. IsDistinct nat_eq (list_blocks d block_size head n)) (sym none) none_distinct
-base_distinct d block_size head size (inr list) = list.distinct
+base_distinct d block_size head size (inr list) = list.blocks.distinct
 
 -- a new list's blocks stay in flight
 pub still_apart : (shared : ℕ) (kept bb : List ℕ) (x : ℕ) (in_flight : Bool) → IsDistinct nat_eq bb → take shared kept ≡ take shared bb → All (λ b. All (λ c. c ≢ b) bb) (drop shared kept)
@@ -108,7 +108,7 @@ none_chain d head = record { in_range = λ k x l. absurd (omega (arith, l)); dis
 pub base_chain : (d : Blocks) (geometry now : Geometry) (head size n : ℕ) → now ≡ geometry → n ≡ blocks_for now.block_size size → IsBase d geometry.block_size head size → AreListBlocks d n head
 base_chain d geometry now head size n same is (inl none) = subst (λ k. AreListBlocks d k head) (sym (is ∙ ap (blocks_for now.block_size) none)) (none_chain d head)
 base_chain d geometry now head size n same is (inr list) =
-    subst (λ k. AreListBlocks d k head) (sym (is ∙ ap (λ (k : Geometry). blocks_for k.block_size size) same)) (record { in_range = list.in_range; distinct = list.distinct; pointers = list.pointers })
+    subst (λ k. AreListBlocks d k head) (sym (is ∙ ap (λ (k : Geometry). blocks_for k.block_size size) same)) list.blocks
 
 -- a base stays while the list's last block is written
 pub base_end : (map : BlockSets) (e f : Blocks) (geometry device : Geometry) (h : Growing) (base : Stored) (shared : ℕ) → device ≡ geometry → IsHand map e geometry.block_size h base shared → SameButThese (pending_of h) e f

@@ -78,7 +78,7 @@ list_of_walk d head size n first geometry made e n_is shape low high fits words 
     let walked = chain_of_walk d (n - 1) head first words (omega arith) (subst (λ k. IsChecked d (n - 1) head first k 0 words) (sym shape.count) checked) is (omega (arith, lt, shape.count)) named in
     let count : n - 1 + 1 ≡ blocks_for geometry.block_size size = count_by geometry made size n e low n_is in
     let whole : AreListBlocks d (blocks_for geometry.block_size size) head = subst (λ k. AreListBlocks d k head) count walked in
-    record { size_low = low; size_high = high; in_range = whole.in_range; distinct = whole.distinct; pointers = whole.pointers }
+    record { size_low = low; size_high = high; blocks = whole }
 
 pub returns-in_err-before-clause-corrupt : goal.returns-in_err-before-clause-corrupt
 returns-in_err-before-clause-corrupt g c =

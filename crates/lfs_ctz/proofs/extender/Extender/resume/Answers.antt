@@ -8,7 +8,7 @@ use Rattle.lfs_model.specs.Blocks.{Blocks, IsDivided, block_in}
 use Rattle.lfs_model.specs.SkipLists.{AreListBlocks, IsList, IsBytePlace, pointers_of, bytes_before, blocks_back, blocks_for, bytes_of, word_at}
 use Rattle.lfs_ctz.specs.Growing.{joined, IsShared}
 use Rattle.lfs_ctz.proofs.Sizes.{blocks_for-last, place-lt, pointers_of-le, place-le}
-use Rattle.lfs_ctz.proofs.Chains.{chain_of_list, in_range_at, back-pointer0}
+use Rattle.lfs_ctz.proofs.Chains.{in_range_at, back-pointer0}
 use Rattle.lfs_ctz.proofs.Geometries.{last_is, chain, sized, shaped}
 use Rattle.lfs_ctz.proofs.Called.{read_on}
 use Rattle.lfs_ctz.proofs.Stands.{is_grown}
@@ -130,7 +130,7 @@ before_there d geometry made head size keep n i off block e is shape list some w
     let bs : List ℕ = blocks_back d (blocks_for made.block_size size) head in
     let to : word_at (block_in d block) 0 ≡ slice_index bs (i - 1) =
     ap (λ b. word_at (block_in d b) 0) (here ∙ ap (slice_index bs) (sym next)) ∙ back-pointer0 d (blocks_for made.block_size size) head (i - 1) (omega arith) in
-    let lt = in_range_at d (blocks_for made.block_size size) head (i - 1) (chain_of_list same) (omega arith) in
+    let lt = in_range_at d (blocks_for made.block_size size) head (i - 1) same.blocks (omega arith) in
     omega (arith, lt, to, shape.count)
 
 -- what the buffer holds of the block then

@@ -10,7 +10,7 @@ use Rattle.lfs_model.specs.Slots.{Slot, is_superblock, same_pair}
 use Rattle.lfs_model.specs.Thread.{Pair, blocks_of}
 use Rattle.lfs_model.specs.Tree.{Path}
 use Rattle.lfs_model.specs.Shown.{Leads, entries_in, tree_in}
-use Rattle.lfs_model.specs.TreeEdits.{rest_after}
+use Rattle.lfs_model.specs.TreeEdits.{renamed, rest_after}
 use Rattle.lfs_model.specs.Operations as ops
 use Rattle.lfs_model.specs.Session.{Session}
 use Rattle.lfs_model.specs.Refusals.{as_path}
@@ -20,7 +20,8 @@ use Rattle.lfs_model.proofs.Paths.{last_is}
 use Rattle.lfs_model.proofs.Names.{IsPlace, greater}
 use Rattle.lfs_model.proofs.Sites.{Site, thread_at, begin_of}
 use Rattle.lfs_model.proofs.Moves.{place_at, shown_before, shown_behind, entry_only, get_here, remove_here, insert_here}
-use Rattle.lfs_model.proofs.Renames.{entry_moves}
+use Rattle.lfs_model.proofs.Changes.{Follows}
+use Rattle.lfs_model.proofs.Renames.{entry_moves, rename_walk}
 use Rattle.lfs_model.proofs.OneCommit.{slot_there}
 use Rattle.lfs_model.proofs.Indexes.{site_shows, nothing_there}
 use Rattle.lfs_model.proofs.Committed.{IsCompleted, IsCommit, commit_step, recovered_from, no_move_from}
@@ -95,8 +96,7 @@ entries_of_both xs ys = filter-append (λ (s : Slot). not (is_superblock s)) xs 
 module _ (disk new : Disk) (w : Site) (p q : Pair) (more : List Pair) (l : List Slot) (u : Slot) (passed r : List Slot) (name : Name)
     (c : IsCommit disk new w p q more [] l (u ∷ passed) (passed ++ record u { name = name } ∷ []) r) (other : is_superblock u ≡ false)
     (P : Path) (a : ℕ × ℕ) (leads : Leads (thread_at w (p ∷ [])) P a) (same : same_pair (begin_of w (p ∷ [])) a ≡ true)
-    (place : IsPlace (entries_in (thread_at w (p ∷ [])) a) (place_at w (l ++ u ∷ passed)) name)
-    (s : Session) (old_bytes new_bytes : List ℕ) (tree : s.tree ≡ tree_in disk (thread_at w (p ∷ []))) (old_is : as_path old_bytes ≡ P ++ u.name ∷ []) (new_is : as_path new_bytes ≡ P ++ name ∷ []) where
+    (place : IsPlace (entries_in (thread_at w (p ∷ [])) a) (place_at w (l ++ u ∷ passed)) name) where
   abbrev moved : Slot
   moved = record u { name = name }
 
@@ -141,22 +141,25 @@ module _ (disk new : Disk) (w : Site) (p q : Pair) (more : List Pair) (l : List 
   abbrev differs : name ≡ u.name → ⊥
   differs = behind_differs ahead u rest number name (omega (arith, length-append (shown_before w l) (entries_only passed))) place_there
 
-  pub renamed_behind_completed : IsCompleted disk (thread_at w (p ∷ [])) s (ops.Rename old_bytes new_bytes) new (thread_at w (q ∷ more))
-  renamed_behind_completed = within_completed disk new w p q more l (u ∷ passed) (passed ++ moved ∷ []) r c l u (passed ++ r) (l ++ passed) None r name
+  pub behind_follows : Follows disk (thread_at w (p ∷ [])) new (thread_at w (q ∷ more)) (renamed (P ++ u.name ∷ []) (P ++ name ∷ [])) (rename_walk (P ++ u.name ∷ []) (P ++ name ∷ []))
+  behind_follows = entry_moves disk new w p [] q more (blocks_of more) [] l (u ∷ passed) (passed ++ moved ∷ []) r (commit_step disk new w p q more [] l (u ∷ passed) (passed ++ moved ∷ []) r c)
+      P a leads same (place_at w l) u at_old name number shown_moved (sibling_apart P u.name name differs) new_place (λ e. (recovered_from disk (thread_at w (p ∷ [])) c.accepted c.settled).reached)
+
+  pub renamed_behind_completed : (s : Session) (old_bytes new_bytes : List ℕ) → s.tree ≡ tree_in disk (thread_at w (p ∷ [])) → as_path old_bytes ≡ P ++ u.name ∷ [] → as_path new_bytes ≡ P ++ name ∷ []
+      → IsCompleted disk (thread_at w (p ∷ [])) s (ops.Rename old_bytes new_bytes) new (thread_at w (q ∷ more))
+  renamed_behind_completed s old_bytes new_bytes tree old_is new_is = within_completed disk new w p q more l (u ∷ passed) (passed ++ moved ∷ []) r c l u (passed ++ r) (l ++ passed) None r name
       c.was (sym (append_assoc l passed r)) (ap (λ z. l ++ z) (append_assoc passed (moved ∷ []) r) ∙ sym (append_assoc l passed (moved ∷ r)))
       s old_bytes new_bytes (P ++ u.name ∷ []) (P ++ name ∷ []) tree old_is new_is (last_is P name)
       (slot_there disk (thread_at w (p ∷ [])) P a (place_at w l) u c.accepted leads at_old)
       (nothing_there disk (thread_at w (p ∷ [])) P a (place_at w (l ++ u ∷ passed)) name leads place).0 tt
-      _ (entry_moves disk new w p [] q more (blocks_of more) [] l (u ∷ passed) (passed ++ moved ∷ []) r (commit_step disk new w p q more [] l (u ∷ passed) (passed ++ moved ∷ []) r c)
-      P a leads same (place_at w l) u at_old name number shown_moved (sibling_apart P u.name name differs) new_place (λ e. (recovered_from disk (thread_at w (p ∷ [])) c.accepted c.settled).reached))
+      _ behind_follows
 
 -- ---- in front of it
 
 module _ (disk new : Disk) (w : Site) (p q : Pair) (more : List Pair) (l : List Slot) (u : Slot) (passed r : List Slot) (name : Name)
     (c : IsCommit disk new w p q more [] l (passed ++ u ∷ []) (record u { name = name } ∷ passed) r) (other : is_superblock u ≡ false)
     (P : Path) (a : ℕ × ℕ) (leads : Leads (thread_at w (p ∷ [])) P a) (same : same_pair (begin_of w (p ∷ [])) a ≡ true)
-    (place : IsPlace (entries_in (thread_at w (p ∷ [])) a) (place_at w l) name)
-    (s : Session) (old_bytes new_bytes : List ℕ) (tree : s.tree ≡ tree_in disk (thread_at w (p ∷ []))) (old_is : as_path old_bytes ≡ P ++ u.name ∷ []) (new_is : as_path new_bytes ≡ P ++ name ∷ []) where
+    (place : IsPlace (entries_in (thread_at w (p ∷ [])) a) (place_at w l) name) where
   abbrev moved2 : Slot
   moved2 = record u { name = name }
 
@@ -192,12 +195,16 @@ module _ (disk new : Disk) (w : Site) (p q : Pair) (more : List Pair) (l : List 
       ∙ sym (insert_here (shown_before w l) (entries_only passed ++ shown_behind w r) moved2)
       ∙ ap (λ z. insert z (place_at w l) moved2) (sym (append_assoc (shown_before w l) (entries_only passed) (shown_behind w r)) ∙ sym left_over2)
 
-  pub renamed_ahead_completed : IsCompleted disk (thread_at w (p ∷ [])) s (ops.Rename old_bytes new_bytes) new (thread_at w (q ∷ more))
-  renamed_ahead_completed = within_completed disk new w p q more l (passed ++ u ∷ []) (moved2 ∷ passed) r c (l ++ passed) u r l None (passed ++ r) name
+  pub ahead_follows : Follows disk (thread_at w (p ∷ [])) new (thread_at w (q ∷ more)) (renamed (P ++ u.name ∷ []) (P ++ name ∷ [])) (rename_walk (P ++ u.name ∷ []) (P ++ name ∷ []))
+  ahead_follows = entry_moves disk new w p [] q more (blocks_of more) [] l (passed ++ u ∷ []) (moved2 ∷ passed) r (commit_step disk new w p q more [] l (passed ++ u ∷ []) (moved2 ∷ passed) r c)
+      P a leads same old_number u at_old2 name (place_at w l) shown_moved2 (sibling_apart P u.name name (ahead_differs ahead2 u (shown_behind w r) (place_at w l) name few place_there2)) new_place2
+      (λ e. (recovered_from disk (thread_at w (p ∷ [])) c.accepted c.settled).reached)
+
+  pub renamed_ahead_completed : (s : Session) (old_bytes new_bytes : List ℕ) → s.tree ≡ tree_in disk (thread_at w (p ∷ [])) → as_path old_bytes ≡ P ++ u.name ∷ [] → as_path new_bytes ≡ P ++ name ∷ []
+      → IsCompleted disk (thread_at w (p ∷ [])) s (ops.Rename old_bytes new_bytes) new (thread_at w (q ∷ more))
+  renamed_ahead_completed s old_bytes new_bytes tree old_is new_is = within_completed disk new w p q more l (passed ++ u ∷ []) (moved2 ∷ passed) r c (l ++ passed) u r l None (passed ++ r) name
       (c.was ∙ ap (λ z. l ++ z) (append_assoc passed (u ∷ []) r) ∙ sym (append_assoc l passed (u ∷ r))) (append_assoc l passed r) refl
       s old_bytes new_bytes (P ++ u.name ∷ []) (P ++ name ∷ []) tree old_is new_is (last_is P name)
       (slot_there disk (thread_at w (p ∷ [])) P a old_number u c.accepted leads at_old2)
       (nothing_there disk (thread_at w (p ∷ [])) P a (place_at w l) name leads place).0 tt
-      _ (entry_moves disk new w p [] q more (blocks_of more) [] l (passed ++ u ∷ []) (moved2 ∷ passed) r (commit_step disk new w p q more [] l (passed ++ u ∷ []) (moved2 ∷ passed) r c)
-      P a leads same old_number u at_old2 name (place_at w l) shown_moved2 (sibling_apart P u.name name (ahead_differs ahead2 u (shown_behind w r) (place_at w l) name few place_there2)) new_place2
-      (λ e. (recovered_from disk (thread_at w (p ∷ [])) c.accepted c.settled).reached))
+      _ ahead_follows

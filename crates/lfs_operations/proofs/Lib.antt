@@ -38,16 +38,18 @@ pub mod RenameSlots
 pub mod RenameRead
 pub mod RenameMade
 pub mod RenamePlaced
-pub mod RenameNames
 pub mod RenameOnto
 pub mod RenameStepped
+pub mod RenameNames
 pub mod RenameWithin
 pub mod RenameCopied
+pub mod RenameTarget
 pub mod RenameReplaced
 pub mod Unlinked
 pub mod RmdirPlaces
 pub mod Rmdir
 mod DroppedRows
+pub mod RmdirEnd
 pub mod RmdirThread
 pub mod RmdirWhole
 pub mod UnlinkedWhole

@@ -28,7 +28,7 @@ use Rattle.lfs_model.proofs.TwoPlaces.{OldStays, two, from_old}
 use Rattle.lfs_model.proofs.Writable.{flag}
 use Rattle.lfs_operations.proofs.MovPlaces.{InTurn, ahead, behind}
 use Rattle.lfs_operations.proofs.MovSet.{HasTurned, IsSetting, turns}
-use Rattle.lfs_operations.specs.Moving.{move_of}
+use Rattle.lfs_operations.specs.MoveEnds.{move_of}
 
 flag_from : (from : Option (ℕ × ℕ)) (xs : List Pair) → is_some (onward_all from xs) ≡ flag (is_some from) xs
 flag_from from [] = refl

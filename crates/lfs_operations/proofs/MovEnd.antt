@@ -26,7 +26,7 @@ use Rattle.lfs_model.proofs.Sites.{Site, dirs_at, thread_at, IsSite}
 use Rattle.lfs_model.proofs.Splices.{slots_in, files_of, unmoved_in}
 use Rattle.lfs_model.proofs.StepsTaken.{IsTaken, IsPut, end_taken}
 use Rattle.lfs_model.proofs.Writable.{flag}
-use Rattle.lfs_operations.specs.Moving.{move_in, sync_in}
+use Rattle.lfs_operations.specs.MoveEnds.{move_in, sync_in}
 use Rattle.lfs_operations.proofs.MovSet.{HasTurned}
 use Rattle.lfs_operations.proofs.MovFirsts.{end_firsts}
 use Rattle.lfs_model.proofs.MoveSets.{firsts}

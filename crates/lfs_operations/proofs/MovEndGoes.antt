@@ -26,7 +26,7 @@ use Rattle.lfs_thread.specs.Device.{StopsLeave}
 use Rattle.lfs_thread.specs.Kept.{Kept}
 use Rattle.lfs_thread.specs.Steps.{IsWrittenAs, no_pair, pair_in, without_pair}
 use Rattle.lfs_operations.specs.Dropping.{CanDropAt, HasDroppedBehind, IsLeftByDrop, taken_over, with_tail_taken}
-use Rattle.lfs_operations.specs.Moving.{CanEnd, HasEnded, is_led, sync_in}
+use Rattle.lfs_operations.specs.MoveEnds.{CanEnd, HasEnded, is_led, sync_in}
 use Rattle.lfs_operations.proofs.Dropped.{device_dropped, device_kept, profile_same}
 use Rattle.lfs_operations.proofs.DroppedTails.{front_is, gone_is, gstate_is, remove_next, without_is}
 use Rattle.lfs_operations.proofs.MovEnding.{get_from, led_is}

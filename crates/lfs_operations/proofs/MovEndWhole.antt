@@ -22,7 +22,7 @@ use Rattle.lfs_model.proofs.Sites.{Site, dirs_at, thread_at, IsSite}
 use Rattle.lfs_model.proofs.Splices.{drop_shape, files_of, slots_in, unmoved_in, IsDevice}
 use Rattle.lfs_model.proofs.StepsTaken.{IsTaken, end_drop_taken}
 use Rattle.lfs_model.proofs.MoveSets.{firsts}
-use Rattle.lfs_operations.specs.Moving.{sync_in}
+use Rattle.lfs_operations.specs.MoveEnds.{sync_in}
 use Rattle.lfs_operations.proofs.MovFirsts.{end_firsts}
 
 -- At the site stand p and o behind it, joined by a hard tail, and the move hides o's only slot u.

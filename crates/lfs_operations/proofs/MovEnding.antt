@@ -33,7 +33,7 @@ use Rattle.lfs_model.proofs.Writable.{flag}
 use Rattle.lfs_thread.specs.Device.{StopsLeave}
 use Rattle.lfs_thread.specs.Kept.{Kept}
 use Rattle.lfs_thread.specs.Steps.{CanChange, IsChanged, IsLeft, IsRefused, SlotsHaveFirst, made_in_thread, no_pair, pair_in, with_pair}
-use Rattle.lfs_operations.specs.Moving.{CanEnd, HasEnded, content_without, end_changes, is_led, move_in, share_without_move, sync_in}
+use Rattle.lfs_operations.specs.MoveEnds.{CanEnd, HasEnded, content_without, end_changes, is_led, move_in, share_without_move, sync_in}
 use Rattle.lfs_operations.proofs.Held.{CompletesTo, completes_to}
 use Rattle.lfs_operations.proofs.MovEnd.{IsEnding, ended, ended_count, ended_firsts, ended_state}
 use Rattle.lfs_operations.proofs.MovSet.{HasTurned}

@@ -16,7 +16,9 @@ use Rattle.lfs_thread.specs.Kept.{Kept, State}
 use Rattle.lfs_thread.specs.Steps.{HasTold, IsOnlyRead, pair_in}
 use Rattle.lfs_operations.specs.Changing.{CanPut, IsPut, IsTooLarge, HasTwoFree, has_failed}
 use Rattle.lfs_operations.specs.Editing.{CanEdit}
-use Rattle.lfs_operations.specs.Moving.{CanPutOnto, CanRenameAcross, EndsAfter, IsPutAndEnded, IsRenamedAcross, IsReplacedAcross, SurvivesBoth, TellsInSteps, WritesInTwo, moving_changes, onto_changes, with_moved}
+use Rattle.lfs_operations.specs.MovingSteps.{EndsAfter, IsPutAndEnded, SurvivesBoth, TellsInSteps, WritesInTwo}
+use Rattle.lfs_operations.specs.MovingAcross.{CanRenameAcross, IsRenamedAcross, moving_changes, with_moved}
+use Rattle.lfs_operations.specs.MovingOnto.{CanPutOnto, IsReplacedAcross, onto_changes}
 use Rattle.lfs_operations.specs.Ready.{IsReady}
 use Rattle.lfs_operations.specs.Removing.{goes_whole}
 use Rattle.lfs_operations.specs.RenamingSlots.{parts_at}

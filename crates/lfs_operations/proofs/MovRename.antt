@@ -41,7 +41,9 @@ use Rattle.lfs_thread.specs.Kept.{Kept}
 use Rattle.lfs_thread.specs.Steps.{SlotsHaveFirst, made_in_thread, pair_in}
 use Rattle.lfs_operations.specs.Changing.{CanPut, IsLeftByPut, IsPut}
 use Rattle.lfs_operations.specs.Editing.{CanEdit}
-use Rattle.lfs_operations.specs.Moving.{CanEnd, CanRenameAcross, EndsAfter, HasEnded, IsPutAndEnded, IsRenamedAcross, move_of, moving_changes, place_after, with_moved}
+use Rattle.lfs_operations.specs.MoveEnds.{CanEnd, HasEnded, move_of}
+use Rattle.lfs_operations.specs.MovingSteps.{EndsAfter, IsPutAndEnded, place_after}
+use Rattle.lfs_operations.specs.MovingAcross.{CanRenameAcross, IsRenamedAcross, moving_changes, with_moved}
 use Rattle.lfs_operations.specs.Ready.{IsLoggedAt}
 use Rattle.lfs_operations.specs.Removing.{goes_whole}
 use Rattle.lfs_operations.specs.RenamingSlots.{HasSlot, Parts, parts_at, parts_of, slot_changes}

@@ -30,7 +30,10 @@ use Rattle.lfs_thread.specs.Kept.{Kept}
 use Rattle.lfs_thread.specs.Steps.{SlotsHaveFirst, pair_in}
 use Rattle.lfs_operations.specs.Changing.{CanPut, IsLeftByPut, IsPut}
 use Rattle.lfs_operations.specs.Editing.{CanEdit}
-use Rattle.lfs_operations.specs.Moving.{CanEnd, CanPutOnto, CanReplaceAcross, CanReplaceDirectory, EndsAfter, HasEnded, IsPutAndEnded, IsReplacedAcross, move_of, onto_changes, place_after, with_moved}
+use Rattle.lfs_operations.specs.MoveEnds.{CanEnd, HasEnded, move_of}
+use Rattle.lfs_operations.specs.MovingSteps.{EndsAfter, IsPutAndEnded, place_after}
+use Rattle.lfs_operations.specs.MovingAcross.{with_moved}
+use Rattle.lfs_operations.specs.MovingOnto.{CanPutOnto, CanReplaceAcross, CanReplaceDirectory, IsReplacedAcross, onto_changes}
 use Rattle.lfs_operations.specs.Dropping.{HasShrunk}
 use Rattle.lfs_operations.specs.Ready.{IsLoggedAt}
 use Rattle.lfs_operations.specs.Removing.{goes_whole}

@@ -31,7 +31,7 @@ use Rattle.lfs_model.proofs.Searches.{avoids_front, avoids_behind}
 use Rattle.lfs_model.proofs.Sites.{Site, dirs_at, thread_at, IsSite, begin_of, Among, any_from, among_right, among_left}
 use Rattle.lfs_model.proofs.Splices.{slots_in, files_of, count_files, unmoved_in, IsDevice, AreFree}
 use Rattle.lfs_model.proofs.StepsTaken.{IsTaken, IsPut, set_taken}
-use Rattle.lfs_operations.specs.Moving.{move_of}
+use Rattle.lfs_operations.specs.MoveEnds.{move_of}
 use Rattle.lfs_operations.proofs.MovPlaces.{SameParts, same_parts, InTurn, ahead, behind, in_turn, hidden_place}
 
 abbrev pub walk_by : Path → Path → Walk → Walk

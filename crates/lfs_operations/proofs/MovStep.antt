@@ -45,7 +45,8 @@ use Rattle.lfs_thread.specs.Kept.{Kept}
 use Rattle.lfs_thread.specs.Steps.{HasShape, no_pair, pair_in, without_pair}
 use Rattle.lfs_operations.specs.Changing.{IsLeftByPut, IsPut}
 use Rattle.lfs_operations.specs.Dropping.{HasShrunk, SameInFlight}
-use Rattle.lfs_operations.specs.Moving.{CanEnd, HasEnded, blocks_ended, content_without, is_led, map_ended, move_of, pairs_ended, place_after, sync_in}
+use Rattle.lfs_operations.specs.MoveEnds.{CanEnd, HasEnded, blocks_ended, content_without, is_led, map_ended, move_of, pairs_ended, sync_in}
+use Rattle.lfs_operations.specs.MovingSteps.{place_after}
 use Rattle.lfs_operations.specs.Ready.{IsLoggedAt, IsReady}
 use Rattle.lfs_operations.proofs.Dropped.{flying_same, length_fewer, used_fewer}
 use Rattle.lfs_operations.proofs.MovAcross.{Arranged, arrangement, completed}

@@ -20,7 +20,8 @@ use Rattle.lfs_thread.specs.Device.{StopsLeave, four_of, two_of}
 use Rattle.lfs_thread.specs.Kept.{Kept, State}
 use Rattle.lfs_thread.specs.Steps.{HasShape, IsChanged, Writes, back_pair, front_pair, no_pair, pair_in}
 use Rattle.lfs_operations.specs.Changing.{AreTwoFree, IsCutIn, IsLeftByPut, IsPut, TellsPut, WritesIn, has_failed}
-use Rattle.lfs_operations.specs.Moving.{EndsAfter, SurvivesBoth, TellsInSteps, WritesInTwo, end_at, is_led, place_after}
+use Rattle.lfs_operations.specs.MoveEnds.{end_at, is_led}
+use Rattle.lfs_operations.specs.MovingSteps.{EndsAfter, SurvivesBoth, TellsInSteps, WritesInTwo, place_after}
 use Rattle.lfs_operations.specs.Removing.{TellsOfCalls}
 
 pub tells_of_put : {X : Type 0} (old new : State) (index : ℕ) (changes : List Change) (r : Result X Error) → TellsPut old new index changes r → TellsInSteps old new index changes r

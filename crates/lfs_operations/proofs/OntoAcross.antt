@@ -49,7 +49,10 @@ use Rattle.lfs_thread.specs.Kept.{Kept}
 use Rattle.lfs_thread.specs.Steps.{no_pair, pair_in}
 use Rattle.lfs_operations.specs.Dropping.{CanDropAt, HasDroppedBehind, IsLeftByDrop}
 use Rattle.lfs_operations.specs.Editing.{CanEdit}
-use Rattle.lfs_operations.specs.Moving.{CanReplaceDirectory, HasEnded, IsMovedOnto, IsPutAndEnded, IsRenamedAcross, move_of, onto_changes, place_after, with_moved}
+use Rattle.lfs_operations.specs.MoveEnds.{HasEnded, move_of}
+use Rattle.lfs_operations.specs.MovingSteps.{IsPutAndEnded, place_after}
+use Rattle.lfs_operations.specs.MovingAcross.{IsRenamedAcross, with_moved}
+use Rattle.lfs_operations.specs.MovingOnto.{CanReplaceDirectory, IsMovedOnto, onto_changes}
 use Rattle.lfs_operations.specs.Removing.{goes_whole}
 use Rattle.lfs_operations.proofs.Held.{below, fits_there}
 use Rattle.lfs_operations.proofs.MovReplace.{is_first, onto_directory}

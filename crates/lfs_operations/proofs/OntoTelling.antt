@@ -15,7 +15,8 @@ use Rattle.lfs_thread.specs.Kept.{Kept, State}
 use Rattle.lfs_thread.specs.Steps.{IsChanged, IsOnlyRead, Writes, no_pair, pair_in}
 use Rattle.lfs_operations.specs.Dropping.{IsLeftByDrop}
 use Rattle.lfs_operations.specs.Changing.{has_failed}
-use Rattle.lfs_operations.specs.Moving.{TellsInSteps, WritesInTwo, end_at, left_at}
+use Rattle.lfs_operations.specs.MoveEnds.{end_at}
+use Rattle.lfs_operations.specs.MovingSteps.{TellsInSteps, WritesInTwo, left_at}
 use Rattle.lfs_operations.specs.Removing.{TellsOfCalls, goes_whole}
 use Rattle.lfs_operations.specs.RenamingOver.{TellsOver, TellsOverSteps}
 use Rattle.lfs_operations.proofs.UnlinkedSteps.{at_kept, writes_both}

@@ -14,7 +14,9 @@ use Rattle.lfs_thread.specs.Device.{four_of, two_of}
 use Rattle.lfs_thread.specs.Kept.{Kept}
 use Rattle.lfs_thread.specs.Steps.{IsOnlyRead, Writes, back_pair, front_pair, no_pair, pair_in}
 use Rattle.lfs_operations.specs.Changing.{IsPut, WritesInPairs, WritesIn, WritesWithin}
-use Rattle.lfs_operations.specs.Moving.{HasEnded, IsMovedOnto, WritesAmong, WritesInTwo, content_without, end_at, pairs_ended}
+use Rattle.lfs_operations.specs.MoveEnds.{HasEnded, content_without, end_at, pairs_ended}
+use Rattle.lfs_operations.specs.MovingSteps.{WritesAmong, WritesInTwo}
+use Rattle.lfs_operations.specs.MovingOnto.{IsMovedOnto}
 use Rattle.lfs_operations.proofs.MovStep.{blocks_alike}
 use Rattle.lfs_operations.proofs.Putting.{read_is, with_history}
 use Rattle.lfs_operations.proofs.UnlinkedSteps.{writes_trans, writes_wider}

@@ -16,7 +16,7 @@ use Rattle.lfs_model.proofs.Layouts.{joined_parts}
 use Rattle.lfs_model.proofs.Rests.{unmoved_elsewhere}
 use Rattle.lfs_thread.specs.Kept.{Kept}
 use Rattle.lfs_thread.specs.Steps.{HasShape}
-use Rattle.lfs_operations.specs.Recovering.{RecoversTo}
+use Rattle.lfs_operations.specs.EndingMove.{RecoversTo}
 
 -- ---- pairs of the same addresses and slots, which hard tails join alike
 

@@ -32,7 +32,8 @@ use Rattle.lfs_model.proofs.Superblocks.{pairs_behind}
 use Rattle.lfs_thread.specs.Device.{StopsLeave}
 use Rattle.lfs_thread.specs.Kept.{Kept, State}
 use Rattle.lfs_thread.specs.Steps.{IsChanged, IsLeft, IsWrittenAs, Writes, with_pair}
-use Rattle.lfs_operations.specs.Recovering.{AreUnreached, AreUnreachedFrom, CanClearSync, CanSetState, HasRecovered, IsCleared, TellsOfSteps, list_blocks_at, setting, share_of, slots_at}
+use Rattle.lfs_operations.specs.Sharing.{CanSetState, setting, share_of}
+use Rattle.lfs_operations.specs.Recovering.{AreUnreached, AreUnreachedFrom, CanClearSync, HasRecovered, IsCleared, TellsOfSteps, list_blocks_at, slots_at}
 use Rattle.lfs_operations.specs.Dropping.{SameInFlight}
 use Rattle.lfs_operations.specs.Removing.{TellsOfCalls}
 use Rattle.lfs_operations.proofs.Removed.{tells_again}

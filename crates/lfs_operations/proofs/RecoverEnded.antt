@@ -17,7 +17,8 @@ use Rattle.lfs_model.proofs.StepsTaken.{IsTaken}
 use Rattle.lfs_thread.specs.Device.{StopsLeave}
 use Rattle.lfs_thread.specs.Kept.{Kept}
 use Rattle.lfs_thread.specs.Steps.{IsChanged, IsDropped, IsLeft, IsWrittenAs, pair_in, with_pair, without_pair}
-use Rattle.lfs_operations.specs.Recovering.{CanEndMove, CanTakeOver, CanTakeSlot, HasEndedMove, IsAddressIfSome, IsMovedAt, is_alone_at, share_of, takes_share, taking, taking_over, target_of, unset}
+use Rattle.lfs_operations.specs.Sharing.{CanTakeOver, IsAddressIfSome, share_of, takes_share, taking_over, target_of}
+use Rattle.lfs_operations.specs.EndingMove.{CanEndMove, CanTakeSlot, HasEndedMove, IsMovedAt, is_alone_at, taking, unset}
 use Rattle.lfs_operations.proofs.Owning.{used_same}
 use Rattle.lfs_operations.specs.Dropping.{SameInFlight}
 use Rattle.lfs_operations.proofs.RecoverBefore.{AreKin, go_alike, laid_out_gap, laid_out_kin}

@@ -33,7 +33,8 @@ use Rattle.lfs_model.proofs.StepsTaken.{IsTaken, end_drop_taken, taken_before}
 use Rattle.lfs_model.proofs.Superblocks.{IsChain}
 use Rattle.lfs_thread.specs.Kept.{Kept}
 use Rattle.lfs_thread.specs.Steps.{IsLeft, IsWrittenAs, made_in_thread, pair_in, with_pair}
-use Rattle.lfs_operations.specs.Recovering.{CanEndMove, CanTakeOver, IsAddressIfSome, IsMovedAt, goes_on_at, is_alone_at, takes_share, taking_over, target_of, unset}
+use Rattle.lfs_operations.specs.Sharing.{CanTakeOver, IsAddressIfSome, goes_on_at, takes_share, taking_over, target_of}
+use Rattle.lfs_operations.specs.EndingMove.{CanEndMove, IsMovedAt, is_alone_at, unset}
 use Rattle.lfs_operations.proofs.Placing.{blocks_append}
 use Rattle.lfs_operations.proofs.RecoverBefore.{AreKin, IsGap, hidden, hidden_append, hidden_far, hidden_length}
 use Rattle.lfs_operations.proofs.RecoverMap.{count_used}

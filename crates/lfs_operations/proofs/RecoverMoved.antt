@@ -17,7 +17,7 @@ use Rattle.lfs_model.proofs.Searches.{same_number}
 use Rattle.lfs_model.proofs.Sites.{Among, among_from}
 use Rattle.lfs_thread.specs.Kept.{Kept}
 use Rattle.lfs_thread.specs.Steps.{no_pair, pair_in}
-use Rattle.lfs_operations.specs.Recovering.{IsMovedAt}
+use Rattle.lfs_operations.specs.EndingMove.{IsMovedAt}
 
 -- ---- no move, or one that names a slot
 

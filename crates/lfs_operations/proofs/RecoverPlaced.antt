@@ -19,7 +19,7 @@ use Rattle.lfs_model.proofs.Unchanged.{HasFirst, same_follows}
 use Rattle.lfs_pair.specs.Commit.{OutsideKeeps}
 use Rattle.lfs_thread.specs.Kept.{Kept}
 use Rattle.lfs_thread.specs.Steps.{IsWrittenAs, SlotsHaveFirst, no_pair, pair_in, with_pair}
-use Rattle.lfs_operations.specs.Recovering.{share_of, takes_share}
+use Rattle.lfs_operations.specs.Sharing.{share_of, takes_share}
 use Rattle.lfs_operations.proofs.Placing.{all_apart, device}
 
 -- ---- places in a thread

@@ -22,7 +22,8 @@ use Rattle.lfs_model.proofs.Pairs.{pair_itself}
 use Rattle.lfs_model.proofs.RecoveredImage.{fits_unmoved}
 use Rattle.lfs_thread.specs.Kept.{Kept}
 use Rattle.lfs_thread.specs.Steps.{CanChange, CanDrop, IsRefused, made_in_thread, no_pair, pair_in}
-use Rattle.lfs_operations.specs.Recovering.{CanSetState, CanTakeOver, CanTakeSlot, FitsFields, IsAddressIfSome, goes_on_at, setting, share_of, takes_share, taking, taking_over, target_of}
+use Rattle.lfs_operations.specs.Sharing.{CanSetState, CanTakeOver, FitsFields, IsAddressIfSome, goes_on_at, setting, share_of, takes_share, taking_over, target_of}
+use Rattle.lfs_operations.specs.EndingMove.{CanTakeSlot, taking}
 use Rattle.lfs_operations.proofs.Held.{completes_to}
 
 -- ---- what a log can come to

@@ -34,7 +34,8 @@ use Rattle.lfs_model.proofs.Unchanged.{HasFirst}
 use Rattle.lfs_model.proofs.Writable.{flag}
 use Rattle.lfs_thread.specs.Kept.{Kept}
 use Rattle.lfs_thread.specs.Steps.{IsLeft, IsWrittenAs, SlotsHaveFirst, made_in_thread, pair_in, with_pair}
-use Rattle.lfs_operations.specs.Recovering.{CanEndMove, CanTakeSlot, FitsFields, IsMovedAt, goes_on_at, is_alone_at, share_of, taking, unset}
+use Rattle.lfs_operations.specs.Sharing.{FitsFields, goes_on_at, share_of}
+use Rattle.lfs_operations.specs.EndingMove.{CanEndMove, CanTakeSlot, IsMovedAt, is_alone_at, taking, unset}
 use Rattle.lfs_operations.proofs.RecoverBefore.{AreKin, hidden, hidden_append, hidden_far, kin_append}
 use Rattle.lfs_operations.proofs.RecoverMap.{count_used}
 use Rattle.lfs_operations.proofs.RecoverMoved.{in_directory}

@@ -24,7 +24,7 @@ use Rattle.lfs_model.proofs.StepsTaken.{IsTaken, taken_before, within_at, within
 use Rattle.lfs_model.proofs.Unthreaded.{IsReady, IsUnthreaded, Unthreads, unthread}
 use Rattle.lfs_thread.specs.Kept.{Kept}
 use Rattle.lfs_thread.specs.Steps.{IsLeft, IsWrittenAs, made_in_thread, pair_in, with_pair}
-use Rattle.lfs_operations.specs.Recovering.{CanSetState, CanTakeOver, IsAddressIfSome, setting, share_of, takes_share, taking_over, target_of}
+use Rattle.lfs_operations.specs.Sharing.{CanSetState, CanTakeOver, IsAddressIfSome, setting, share_of, takes_share, taking_over, target_of}
 use Rattle.lfs_operations.proofs.RecoverPlaced.{IsAt, dropped_device, dropped_state, here_is, next_is, nothing_taken, placed_device, set_state_is, with_is}
 use Rattle.lfs_operations.proofs.RecoverShares.{over_content, over_made, set_content, set_made, taken_tail, with_move}
 

@@ -32,7 +32,8 @@ use Rattle.lfs_model.proofs.Unthreaded.{IsReady, IsUnthreaded, same_parts}
 use Rattle.lfs_thread.specs.Device.{StopsLeave, two_of}
 use Rattle.lfs_thread.specs.Kept.{Kept}
 use Rattle.lfs_thread.specs.Steps.{HasShape, IsDropped, IsLeft, IsWrittenAs, Writes, no_pair, pair_in, with_pair, without_pair}
-use Rattle.lfs_operations.specs.Recovering.{AreUnreached, AreUnreachedFrom, CanDropUnreached, CanTakeOver, FitsFields, IsAddressIfSome, list_blocks_at, state_with, takes_share, taking_over, target_of}
+use Rattle.lfs_operations.specs.Sharing.{CanTakeOver, FitsFields, IsAddressIfSome, takes_share, taking_over, target_of}
+use Rattle.lfs_operations.specs.Recovering.{AreUnreached, AreUnreachedFrom, CanDropUnreached, list_blocks_at, state_with}
 use Rattle.lfs_operations.specs.Dropping.{SameInFlight}
 use Rattle.lfs_operations.proofs.RecoverLists.{lists_kept, lists_more, numbered}
 use Rattle.lfs_operations.proofs.RecoverLoop.{FirstsOnly, IsAtDrop, IsAtEnd, IsOnWay, all_but, drops, goes_to, ready, soft, stands, sync_set, unled}

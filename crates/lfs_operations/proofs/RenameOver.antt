@@ -24,7 +24,6 @@ use Rattle.lfs_model.proofs.Became.{fits_same}
 use Rattle.lfs_model.proofs.Changes.{Follows, SameFiles}
 use Rattle.lfs_model.proofs.Committed.{no_move_from}
 use Rattle.lfs_model.proofs.Completed.{complete_insert, complete_length, completed_from, completed_parts}
-use Rattle.lfs_model.proofs.Counts.{Each, each_right}
 use Rattle.lfs_model.proofs.Effects.{does_first, puts_move}
 use Rattle.lfs_model.proofs.Files.{HasSameFile}
 use Rattle.lfs_model.proofs.Global.{HasNoMove, gstate_comm, gstate_cons, gstate_moved, gstate_right, sync_share, turned_is}
@@ -32,7 +31,7 @@ use Rattle.lfs_model.proofs.Histories.{LeavesOnly-weaker}
 use Rattle.lfs_model.proofs.Moves.{IsStep, insert_here}
 use Rattle.lfs_model.proofs.OneCommit.{some_filled}
 use Rattle.lfs_model.proofs.Renames.{rename_walk}
-use Rattle.lfs_model.proofs.Searches.{is_site, number_is, same, site, thread_is}
+use Rattle.lfs_model.proofs.Searches.{is_site, number_is, same, site}
 use Rattle.lfs_model.proofs.Sites.{Site, begin_of, thread_at}
 use Rattle.lfs_model.proofs.Splices.{IsDevice, stays_shape}
 use Rattle.lfs_model.proofs.StepsTaken.{IsTaken, commit_taken}
@@ -45,27 +44,15 @@ use Rattle.lfs_operations.specs.Editing.{CanEdit}
 use Rattle.lfs_operations.specs.Renaming.{place_without, with_renamed}
 use Rattle.lfs_operations.specs.RenamingOver.{CanRenameOver, IsRenamedOver, rename_over_changes}
 use Rattle.lfs_operations.specs.RenamingSlots.{HasSlot, Parts, parts_of, slot_changes}
-use Rattle.lfs_operations.proofs.Held.{CompletesTo, IsEntryIfOther, below, each_pair, fits_there, here, other_entries, raw_there}
+use Rattle.lfs_operations.proofs.Held.{CompletesTo, below, here, raw_there}
 use Rattle.lfs_operations.proofs.Placing.{IsPlaced as IsPlacedOn, all_apart, device, nothing_came}
 use Rattle.lfs_operations.proofs.RenameMade as made
-use Rattle.lfs_operations.proofs.RenameMade.{ComesAhead, ComesBehind, Leaves, behind_or_ahead, fits_without, leaves_then, leaves_without}
+use Rattle.lfs_operations.proofs.RenameMade.{ComesAhead, ComesBehind, Leaves, behind_or_ahead}
 use Rattle.lfs_operations.proofs.RenameOnto.{onto_ahead_follows, onto_behind_follows}
 use Rattle.lfs_operations.proofs.RenamePlaced.{IsPlaced, blocks_now, carries_ahead, carries_behind, entries_now, fit_now, lists_now, with_name}
 use Rattle.lfs_operations.proofs.RenameSlots.{IsOf, name_length, slot_comes, slot_of_parts, with_slot}
-use Rattle.lfs_operations.proofs.RenameWithin.{place_ahead_is, place_behind_is}
-
--- what follows another slot
-record Follower (target : Slot) (tail : List Slot) (u : Slot) (behind : List Slot) (passed : List Slot) : Type 0 where
-  between : List Slot
-  are : passed ≡ target ∷ between
-  back : tail ≡ between ++ u ∷ behind
-
-follower : (target : Slot) (tail : List Slot) (u : Slot) (behind passed : List Slot) → (target ≡ u → ⊥) → target ∷ tail ≡ passed ++ u ∷ behind → Follower target tail u behind passed
-follower target tail u behind [] apart e = absurd (apart cc)
-follower target tail u behind (x ∷ passed) apart e = record { between = passed; are = ap (λ z. z ∷ passed) first; back = cc }
-  where
-    first : x ≡ target
-    first = cc
+use Rattle.lfs_operations.proofs.RenameTarget as both
+use Rattle.lfs_operations.proofs.RenameTarget.{follower}
 
 -- ---- a share that turns the sync bit
 
@@ -106,19 +93,10 @@ module _ (t : Kept) (index id place : ℕ) (name : Name) (rename : CanRenameOver
   target = rename.target.stands.slot
 
   pub has_slot : HasSlot t index id
-  has_slot =
-      let e = ap (λ (z : Pair). length z.content.slots) (here t can.ready can.first index p can.stands.rest can.stands.place) in
-      let h = ap length s.held in
-      let k = length-append s.left (u ∷ s.right) in
-      let n = s.number in
-      record { below = below t can.ready can.first index p can.stands.rest can.stands.place; there = omega arith }
-
-  -- the target stands in the same pair
-  pair_same : can.stands.pair ≡ rename.target.pair
-  pair_same = sym (here t can.ready can.first index p can.stands.rest can.stands.place) ∙ here t can.ready can.first index rename.target.pair rename.target.rest rename.target.place
+  has_slot = both.has_slot t index id place name can rename.target rename.differs
 
   pub target_held : p.content.slots ≡ rename.target.stands.left ++ target ∷ rename.target.stands.right
-  target_held = ap (λ (z : Pair). z.content.slots) pair_same ∙ rename.target.stands.held
+  target_held = both.target_held t index id place name can rename.target rename.differs
 
   abbrev l2 : List Slot
   l2 = rename.target.stands.left
@@ -130,32 +108,28 @@ module _ (t : Kept) (index id place : ℕ) (name : Name) (rename : CanRenameOver
   w = site t.disk t.pairs can.path can.at can.ready.accepted can.leads can.first index p can.stands.rest can.stands.place can.begins
 
   there : t.pairs ≡ thread_at w (p ∷ [])
-  there = thread_is t.disk t.pairs can.path can.at can.ready.accepted can.leads can.first index p can.stands.rest can.stands.place can.begins
+  there = both.there t index id place name can rename.target rename.differs
 
   leads_there : Leads (thread_at w (p ∷ [])) can.path can.at
-  leads_there = subst (λ z. Leads z can.path can.at) there can.leads
+  leads_there = both.leads_there t index id place name can rename.target rename.differs
 
   same_there : same_pair (begin_of w (p ∷ [])) can.at ≡ true
-  same_there = same t.disk t.pairs can.path can.at can.ready.accepted can.leads can.first index p can.stands.rest can.stands.place can.begins
+  same_there = both.same_there t index id place name can rename.target rename.differs
 
   fits_here : FitsPair t.disk.block_size t.disk.page p.content
-  fits_here = fits_there t can.ready can.first index p can.stands.rest can.stands.place
+  fits_here = both.fits_here t index id place name can rename.target rename.differs
 
   abbrev c : CompletesTo (raw_at t.disk (pair_in t index).at) p.content
   c = raw_there t can.ready can.first index p can.stands.rest can.stands.place
 
   pub differs : target.name ≡ u.name → ⊥
-  differs e = rename.differs (sym rename.target.stands.named ∙ e ∙ s.named)
+  differs = both.differs t index id place name can rename.target rename.differs
 
-  -- the file has a name, so the entry may have it
   named : is_name name ≡ true
-  named =
-      let all = each_pair t can.ready can.first index p can.stands.rest can.stands.place (λ x. Each IsEntryIfOther x.content.slots) (other_entries t.disk t.pairs can.ready.accepted) in
-      let e = (each_right IsEntryIfOther l2 (target ∷ r2) (subst (Each IsEntryIfOther) target_held all)).0 rename.target.stands.entry in
-      ap is_name (sym rename.target.stands.named) ∙ e.name
+  named = both.named t index id place name can rename.target rename.differs
 
   entry_again : IsEntry u → IsEntry (with_name u name)
-  entry_again e = record { name = named; struct = e.struct }
+  entry_again = both.entry_again t index id place name can rename.target rename.differs
 
   abbrev share : Gstate
   share = gstate_xor (pair_in t index).content.move sync_share
@@ -171,26 +145,18 @@ module _ (t : Kept) (index id place : ℕ) (name : Name) (rename : CanRenameOver
       (subst IsMoveState (sym (completed_parts c.raw p.content c.complete).move ∙ ap (λ (z : Pair). z.content.move) (sym (here t can.ready can.first index p can.stands.rest can.stands.place))) (can.logged c.raw c.is).move))) h
 
   abbrev pub IsLeftOver : List Slot → List Slot → Type 0
-  IsLeftOver x y = (s.left ++ s.right ≡ x ++ target ∷ y) × (length x ≡ place_without id place)
+  IsLeftOver = both.IsLeftOver t index id place name can rename.target rename.differs
 
   abbrev pub over_content : List Slot → List Slot → Content
   over_content x y = record { slots = x ++ with_name u name ∷ y; tail = p.content.tail; move = share }
 
   module _ (x y : List Slot) (over : IsLeftOver x y) where
-    fits_one : FitsPair t.disk.block_size t.disk.page (record p.content { slots = x ++ target ∷ y })
-    fits_one = subst (λ z. FitsPair t.disk.block_size t.disk.page (record p.content { slots = z })) over.0 (fits_without t.disk.block_size t.disk.page p.content s.left u s.right s.held fits_here)
-
     fits_two : FitsPair t.disk.block_size t.disk.page (record p.content { slots = x ++ y })
-    fits_two = fits_without t.disk.block_size t.disk.page (record p.content { slots = x ++ target ∷ y }) x target y refl fits_one
-
-    left_one : Leaves turned_raw (Delete id ∷ []) (x ++ target ∷ y)
-    left_one = subst (Leaves turned_raw (Delete id ∷ [])) over.0
-        (leaves_without turned_raw s.left u s.right id (let few = fits_here.count in let i = made.within t index id can.ready can.first p can.stands.rest can.stands.place can.logged can.name s in omega arith) s.number
-        (made.all_slots t index id can.ready can.first p can.stands.rest can.stands.place can.logged can.name s ∙ ap Some s.held))
+    fits_two = both.fits_both t index id place name can rename.target rename.differs x y over
 
     left_two : Leaves turned_raw (Delete id ∷ Delete (place_without id place) ∷ []) (x ++ y)
-    left_two = leaves_then turned_raw (Delete id ∷ []) (Delete (place_without id place) ∷ []) (x ++ target ∷ y) (x ++ y) left_one
-        (leaves_without left_one.left x target y (place_without id place) (let few = fits_one.count in let n = over.1 in let k = length-append x (target ∷ y) in omega arith) over.1 left_one.are)
+    left_two = both.left_both t index id place name can rename.target rename.differs x y over turned_raw
+        (made.all_slots t index id can.ready can.first p can.stands.rest can.stands.place can.logged can.name s)
 
     is_raw_slot : IsOf (made.raw t index id can.ready can.first p can.stands.rest can.stands.place can.logged can.name s).here u
     is_raw_slot = made.is_slot t index id can.ready can.first p can.stands.rest can.stands.place can.logged can.name s
@@ -262,16 +228,7 @@ module _ (t : Kept) (index id place : ℕ) (name : Name) (rename : CanRenameOver
 
   module _ (d : ComesBehind s.left u s.right l2 (target ∷ r2)) where
     over_behind : IsLeftOver (s.left ++ d.passed) r2
-    over_behind = (
-      ap (λ z. s.left ++ z) d.back ∙ sym (append_assoc s.left d.passed (target ∷ r2)),
-      (let n = s.number in
-          let m = rename.target.stands.number in
-          let e = ap length d.front in
-          let f = length-append s.left (u ∷ d.passed) in
-          let g = length-append s.left d.passed in
-          let q = place_behind_is id place (omega arith) in
-          omega arith),
-    )
+    over_behind = both.over_behind t index id place name can rename.target rename.differs d
 
     has_behind : HasOver
     has_behind = record {
@@ -307,15 +264,7 @@ module _ (t : Kept) (index id place : ℕ) (name : Name) (rename : CanRenameOver
 
   module _ (passed : List Slot) (front : s.left ≡ l2 ++ target ∷ passed) (back : r2 ≡ passed ++ u ∷ s.right) where
     over_ahead : IsLeftOver l2 (passed ++ s.right)
-    over_ahead = (
-      ap (λ z. z ++ s.right) front ∙ append_assoc l2 (target ∷ passed) s.right,
-      (let n = s.number in
-          let m = rename.target.stands.number in
-          let e = ap length front in
-          let f = length-append l2 (target ∷ passed) in
-          let q = place_ahead_is id place (omega arith) in
-          omega arith),
-    )
+    over_ahead = both.over_ahead t index id place name can rename.target rename.differs passed front
 
     has_ahead : HasOver
     has_ahead = record {

@@ -1,5 +1,5 @@
 -- A rename within one pair onto a file.
-use Rattle.std.proofs.Common.{ℕ, ◌≡◌, ◌≤◌, ◌+◌, ◌⊎◌, inl, inr, true, List, [], ◌∷◌, ◌++◌, length, Some, refl, sym, ap, subst, ◌∙◌, arith, append_assoc, append-nil, length-append}
+use Rattle.std.proofs.Common.{ℕ, ◌≡◌, ◌≤◌, ◌+◌, ◌⊎◌, inl, inr, true, List, [], ◌∷◌, ◌++◌, refl, sym, ap, subst, ◌∙◌, append_assoc, append-nil}
 use Rattle.lfs_model.specs.TreeEdits.{renamed}
 use Rattle.lfs_model.specs.Changes.{Delete}
 use Rattle.lfs_model.specs.Content.{raw_at}
@@ -14,11 +14,11 @@ use Rattle.lfs_model.specs.View.{IsEntry}
 use Rattle.lfs_model.specs.Shown.{Leads, file_blocks, tree_in, used_blocks}
 use Rattle.lfs_model.proofs.Changes.{Follows}
 use Rattle.lfs_model.proofs.Committed.{IsCommit, commit_step, recovered_from}
-use Rattle.lfs_model.proofs.Counts.{Each, each_right, count}
+use Rattle.lfs_model.proofs.Counts.{count}
 use Rattle.lfs_model.proofs.OneCommit.{some_filled}
 use Rattle.lfs_model.proofs.RenameOntoFile.{onto_file_ahead_completed, onto_file_behind_completed}
 use Rattle.lfs_model.proofs.Renames.{rename_walk}
-use Rattle.lfs_model.proofs.Searches.{is_site, number_is, same, site, thread_is}
+use Rattle.lfs_model.proofs.Searches.{is_site, number_is, site}
 use Rattle.lfs_model.proofs.Sites.{Site, begin_of, thread_at}
 use Rattle.lfs_thread.specs.Device.{StopsLeave}
 use Rattle.lfs_thread.specs.Kept.{Kept}
@@ -28,26 +28,14 @@ use Rattle.lfs_operations.specs.Editing.{CanEdit}
 use Rattle.lfs_operations.specs.Ready.{HasBecomeBut}
 use Rattle.lfs_operations.specs.Renaming.{CanRenameOnto, IsRenamedOnto, place_without, rename_onto_changes, with_renamed}
 use Rattle.lfs_operations.specs.RenamingSlots.{HasSlot}
-use Rattle.lfs_operations.proofs.Held.{CompletesTo, IsEntryIfOther, below, each_pair, fits_there, here, other_entries, raw_there}
+use Rattle.lfs_operations.proofs.Held.{CompletesTo, raw_there}
 use Rattle.lfs_operations.proofs.RenameMade as made
-use Rattle.lfs_operations.proofs.RenameMade.{ComesAhead, ComesBehind, Leaves, behind_or_ahead, fits_without, leaves_then, leaves_without}
+use Rattle.lfs_operations.proofs.RenameMade.{ComesAhead, ComesBehind, Leaves, behind_or_ahead}
 use Rattle.lfs_operations.proofs.RenameOnto.{onto_ahead_follows, onto_behind_follows}
 use Rattle.lfs_operations.proofs.RenamePlaced.{carries_ahead, carries_behind, with_name}
 use Rattle.lfs_operations.proofs.RenameStepped.{IsMoving, moved_becomes, moved_completed, moved_once, moved_survives}
-use Rattle.lfs_operations.proofs.RenameWithin.{place_ahead_is, place_behind_is}
-
--- what follows another slot
-record Follower (target : Slot) (tail : List Slot) (u : Slot) (behind : List Slot) (passed : List Slot) : Type 0 where
-  between : List Slot
-  are : passed ≡ target ∷ between
-  back : tail ≡ between ++ u ∷ behind
-
-follower : (target : Slot) (tail : List Slot) (u : Slot) (behind passed : List Slot) → (target ≡ u → ⊥) → target ∷ tail ≡ passed ++ u ∷ behind → Follower target tail u behind passed
-follower target tail u behind [] apart e = absurd (apart cc)
-follower target tail u behind (x ∷ passed) apart e = record { between = passed; are = ap (λ z. z ∷ passed) first; back = cc }
-  where
-    first : x ≡ target
-    first = cc
+use Rattle.lfs_operations.proofs.RenameTarget as both
+use Rattle.lfs_operations.proofs.RenameTarget.{Follower, follower}
 
 module _ (t : Kept) (index id place : ℕ) (name : Name) (rename : CanRenameOnto t index id place name) where
   abbrev can : CanEdit t index id
@@ -66,19 +54,10 @@ module _ (t : Kept) (index id place : ℕ) (name : Name) (rename : CanRenameOnto
   target = rename.target.stands.slot
 
   pub has_slot : HasSlot t index id
-  has_slot =
-      let e = ap (λ (z : Pair). length z.content.slots) (here t can.ready can.first index p can.stands.rest can.stands.place) in
-      let h = ap length s.held in
-      let k = length-append s.left (u ∷ s.right) in
-      let n = s.number in
-      record { below = below t can.ready can.first index p can.stands.rest can.stands.place; there = omega arith }
-
-  -- the target stands in the same pair
-  pair_same : can.stands.pair ≡ rename.target.pair
-  pair_same = sym (here t can.ready can.first index p can.stands.rest can.stands.place) ∙ here t can.ready can.first index rename.target.pair rename.target.rest rename.target.place
+  has_slot = both.has_slot t index id place name can rename.target rename.differs
 
   target_held : p.content.slots ≡ rename.target.stands.left ++ target ∷ rename.target.stands.right
-  target_held = ap (λ (z : Pair). z.content.slots) pair_same ∙ rename.target.stands.held
+  target_held = both.target_held t index id place name can rename.target rename.differs
 
   abbrev l2 : List Slot
   l2 = rename.target.stands.left
@@ -90,53 +69,38 @@ module _ (t : Kept) (index id place : ℕ) (name : Name) (rename : CanRenameOnto
   w = site t.disk t.pairs can.path can.at can.ready.accepted can.leads can.first index p can.stands.rest can.stands.place can.begins
 
   there : t.pairs ≡ thread_at w (p ∷ [])
-  there = thread_is t.disk t.pairs can.path can.at can.ready.accepted can.leads can.first index p can.stands.rest can.stands.place can.begins
+  there = both.there t index id place name can rename.target rename.differs
 
   leads_there : Leads (thread_at w (p ∷ [])) can.path can.at
-  leads_there = subst (λ z. Leads z can.path can.at) there can.leads
+  leads_there = both.leads_there t index id place name can rename.target rename.differs
 
   same_there : same_pair (begin_of w (p ∷ [])) can.at ≡ true
-  same_there = same t.disk t.pairs can.path can.at can.ready.accepted can.leads can.first index p can.stands.rest can.stands.place can.begins
-
-  fits_here : FitsPair t.disk.block_size t.disk.page p.content
-  fits_here = fits_there t can.ready can.first index p can.stands.rest can.stands.place
+  same_there = both.same_there t index id place name can rename.target rename.differs
 
   abbrev c : CompletesTo (raw_at t.disk (pair_in t index).at) p.content
   c = raw_there t can.ready can.first index p can.stands.rest can.stands.place
 
   differs : target.name ≡ u.name → ⊥
-  differs e = rename.differs (sym rename.target.stands.named ∙ e ∙ s.named)
+  differs = both.differs t index id place name can rename.target rename.differs
 
-  -- the file has a name, so the entry may have it
   named : is_name name ≡ true
-  named =
-      let all = each_pair t can.ready can.first index p can.stands.rest can.stands.place (λ x. Each IsEntryIfOther x.content.slots) (other_entries t.disk t.pairs can.ready.accepted) in
-      let e = (each_right IsEntryIfOther l2 (target ∷ r2) (subst (Each IsEntryIfOther) target_held all)).0 rename.target.stands.entry in
-      ap is_name (sym rename.target.stands.named) ∙ e.name
+  named = both.named t index id place name can rename.target rename.differs
 
   entry_again : IsEntry u → IsEntry (with_name u name)
-  entry_again e = record { name = named; struct = e.struct }
+  entry_again = both.entry_again t index id place name can rename.target rename.differs
 
   -- ---- the slots that are left without both
 
   abbrev IsLeftOver : List Slot → List Slot → Type 0
-  IsLeftOver x y = (s.left ++ s.right ≡ x ++ target ∷ y) × (length x ≡ place_without id place)
+  IsLeftOver = both.IsLeftOver t index id place name can rename.target rename.differs
 
   module _ (x y : List Slot) (over : IsLeftOver x y) where
-    fits_one : FitsPair t.disk.block_size t.disk.page (record p.content { slots = x ++ target ∷ y })
-    fits_one = subst (λ z. FitsPair t.disk.block_size t.disk.page (record p.content { slots = z })) over.0 (fits_without t.disk.block_size t.disk.page p.content s.left u s.right s.held fits_here)
-
     fits_over : FitsPair t.disk.block_size t.disk.page (record p.content { slots = x ++ y })
-    fits_over = fits_without t.disk.block_size t.disk.page (record p.content { slots = x ++ target ∷ y }) x target y refl fits_one
-
-    left_one : Leaves c.raw (Delete id ∷ []) (x ++ target ∷ y)
-    left_one = subst (Leaves c.raw (Delete id ∷ [])) over.0
-        (leaves_without c.raw s.left u s.right id (let few = fits_here.count in let i = made.within t index id can.ready can.first p can.stands.rest can.stands.place can.logged can.name s in omega arith) s.number
-        (made.all_slots t index id can.ready can.first p can.stands.rest can.stands.place can.logged can.name s ∙ ap Some s.held))
+    fits_over = both.fits_both t index id place name can rename.target rename.differs x y over
 
     left_over : Leaves c.raw (Delete id ∷ Delete (place_without id place) ∷ []) (x ++ y)
-    left_over = leaves_then c.raw (Delete id ∷ []) (Delete (place_without id place) ∷ []) (x ++ target ∷ y) (x ++ y) left_one
-        (leaves_without left_one.left x target y (place_without id place) (let few = fits_one.count in let n = over.1 in let k = length-append x (target ∷ y) in omega arith) over.1 left_one.are)
+    left_over = both.left_both t index id place name can rename.target rename.differs x y over c.raw
+        (made.all_slots t index id can.ready can.first p can.stands.rest can.stands.place can.logged can.name s)
 
     can_put_over : CanPut t index (rename_onto_changes t index id place name)
     can_put_over = made.can_put t index id can.ready can.first p can.stands.rest can.stands.place can.logged can.name s (Delete id ∷ Delete (place_without id place) ∷ []) x y left_over fits_over (place_without id place) over.1
@@ -146,16 +110,7 @@ module _ (t : Kept) (index id place : ℕ) (name : Name) (rename : CanRenameOnto
 
   module _ (d : ComesBehind s.left u s.right l2 (target ∷ r2)) where
     over_behind : IsLeftOver (s.left ++ d.passed) r2
-    over_behind = (
-      ap (λ z. s.left ++ z) d.back ∙ sym (append_assoc s.left d.passed (target ∷ r2)),
-      (let n = s.number in
-          let m = rename.target.stands.number in
-          let e = ap length d.front in
-          let f = length-append s.left (u ∷ d.passed) in
-          let g = length-append s.left d.passed in
-          let q = place_behind_is id place (omega arith) in
-          omega arith),
-    )
+    over_behind = both.over_behind t index id place name can rename.target rename.differs d
 
     now_behind : (s.left ++ d.passed) ++ with_name u name ∷ r2 ≡ s.left ++ ((d.passed ++ with_name u name ∷ []) ++ r2)
     now_behind = append_assoc s.left d.passed (with_name u name ∷ r2) ∙ ap (λ z. s.left ++ z) (sym (append_assoc d.passed (with_name u name ∷ []) r2))
@@ -209,15 +164,7 @@ module _ (t : Kept) (index id place : ℕ) (name : Name) (rename : CanRenameOnto
 
   module _ (passed : List Slot) (front : s.left ≡ l2 ++ target ∷ passed) (back : r2 ≡ passed ++ u ∷ s.right) where
     over_ahead : IsLeftOver l2 (passed ++ s.right)
-    over_ahead = (
-      ap (λ z. z ++ s.right) front ∙ append_assoc l2 (target ∷ passed) s.right,
-      (let n = s.number in
-          let m = rename.target.stands.number in
-          let e = ap length front in
-          let f = length-append l2 (target ∷ passed) in
-          let q = place_ahead_is id place (omega arith) in
-          omega arith),
-    )
+    over_ahead = both.over_ahead t index id place name can rename.target rename.differs passed front
 
     under_that_name : (disk : Disk) (q : Pair) (more : List Pair) → IsCommit t.disk disk w p q more [] l2 (target ∷ (passed ++ u ∷ [])) (with_name u name ∷ passed) s.right
         → IsCommit t.disk disk w p q more [] l2 (target ∷ (passed ++ u ∷ [])) (with_name u target.name ∷ passed) s.right

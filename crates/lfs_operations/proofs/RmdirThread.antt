@@ -1,7 +1,6 @@
 -- An empty directory that goes in two steps of the thread.
 use Rattle.std.proofs.Common.{ℕ, ◌≡◌, ◌≢◌, ◌⊎◌, inl, inr, ◌+◌, ◌-◌, ◌<◌, ◌≤◌, true, false, nat_eq, slice_get, set, List, [], ◌∷◌, ◌++◌, length, Some, None, refl, sym, ap, ap₂, subst, ◌∙◌, arith, append_assoc, append-nil, length-append}
 use Rattle.std.specs.List.{IsDistinct}
-use Rattle.std.proofs.lemmas.List.Elements.{recursion_from_All}
 use Rattle.lfs_model.specs.TreeEdits.{removed, planted}
 use Rattle.lfs_model.specs.Blocks.{Blocks}
 use Rattle.lfs_model.specs.BlockSets.{AreUsed}
@@ -11,14 +10,14 @@ use Rattle.lfs_model.specs.InDirectory.{BeginsAt}
 use Rattle.lfs_model.specs.Operations as ops
 use Rattle.lfs_model.specs.PowerLoss.{IsLeft as IsLeftOf, with_blocks}
 use Rattle.lfs_model.specs.SlotEdits.{with_slots}
-use Rattle.lfs_model.specs.Slots.{Content, FitsPair, Gstate, Slot, gstate_xor, no_gstate, same_pair}
+use Rattle.lfs_model.specs.Slots.{Content, Gstate, Slot, gstate_xor, no_gstate, same_pair}
 use Rattle.lfs_model.specs.Thread.{Pair, blocks_of, gstate_of, is_hard, starts_with_superblock}
 use Rattle.lfs_model.specs.View.{BeginsWith, IsAccepted, superblock_entry}
 use Rattle.lfs_model.specs.Profile.{IsWritable}
 use Rattle.lfs_model.specs.Shown.{Leads, entries_in, tree_in, used_blocks}
 use Rattle.lfs_model.proofs.Became.{fits_same}
 use Rattle.lfs_model.proofs.Committed.{IsCompleted, no_move_from}
-use Rattle.lfs_model.proofs.Counts.{Each, count, each_right, once_from_distinct}
+use Rattle.lfs_model.proofs.Counts.{count, once_from_distinct}
 use Rattle.lfs_model.proofs.Global.{HasNoMove, gstate_comm, gstate_cons, gstate_moved, gstate_right, sync_share}
 use Rattle.lfs_model.proofs.Indexes.{site_shows}
 use Rattle.lfs_model.proofs.Moves.{IsStep, directory_goes, entry_only, get_here, place_at, shown_before, shown_behind}
@@ -33,15 +32,16 @@ use Rattle.lfs_pair.specs.Commit.{OutsideKeeps}
 use Rattle.lfs_thread.specs.Device.{two_of}
 use Rattle.lfs_thread.specs.Kept.{Kept}
 use Rattle.lfs_thread.specs.Steps.{IsWrittenAs, SlotsHaveFirst, no_pair, pair_in, without_pair}
-use Rattle.lfs_operations.specs.Dropping.{CanDropAt, HasDroppedBehind, IsLeftByDrop, SameInFlight, taken_over, with_tail_taken}
+use Rattle.lfs_operations.specs.Dropping.{CanDropAt, HasDroppedBehind, IsLeftByDrop, SameInFlight, with_tail_taken}
 use Rattle.lfs_operations.specs.Editing.{CanEdit}
 use Rattle.lfs_operations.specs.Removing.{goes_whole, without_file}
 use Rattle.lfs_operations.specs.Unlinking.{CanRemoveDirectory, IsDirectoryRemoved, IsLeftByUnlink, IsUnlinked, without_entry}
-use Rattle.lfs_operations.proofs.Dropped.{device_dropped, device_kept, dropped_count, flying_same, length_fewer, profile_same, used_fewer}
-use Rattle.lfs_operations.proofs.DroppedTails.{front_is, gone_is, gstate_is, no_move_state, without_is}
+use Rattle.lfs_operations.proofs.Dropped.{dropped_count, flying_same, length_fewer, profile_same, used_fewer}
+use Rattle.lfs_operations.proofs.DroppedTails.{no_move_state}
 use Rattle.lfs_operations.proofs.Placing.{IsPlaced, all_apart, device, nothing_came}
 use Rattle.lfs_operations.proofs.Removed.{alone, flag_ends, stays_there}
-use Rattle.lfs_operations.proofs.Rmdir.{HasPlace, Unlinks, over_soft, place_of, unlinked_count}
+use Rattle.lfs_operations.proofs.RmdirEnd as end
+use Rattle.lfs_operations.proofs.Rmdir.{HasPlace, Unlinks, place_of, unlinked_count}
 use Rattle.lfs_operations.proofs.RmdirPlaces.{HasFront, directory_led, flag_from, get_some, has_front, number_of_first, shows_nothing}
 use Rattle.lfs_operations.proofs.Unlinked.{fits_gone, held_there, pair_there, slots_gone}
 
@@ -286,10 +286,10 @@ module _ (t : Kept) (index id first gone : ℕ) (take : CanRemoveDirectory t ind
     accepted_parts = subst (IsAccepted m.disk) (sym pairs_middle ∙ is_middle) accepted_middle
 
     x_there : pair_in m (gone - 1) ≡ k.x
-    x_there = front_is m (gone - 1) first_part k.x o k.back is_middle number_middle
+    x_there = end.x_there m (gone - 1) w.chain k.front k.x o k.back is_middle number_middle
 
     o_there : pair_in m (gone - 1 + 1) ≡ o
-    o_there = gone_is m (gone - 1) first_part k.x o k.back is_middle number_middle
+    o_there = end.o_there m (gone - 1) w.chain k.front k.x o k.back is_middle number_middle
 
     pub can_drop_gone : CanDropAt m gone no_gstate
     can_drop_gone = record {
@@ -301,10 +301,7 @@ module _ (t : Kept) (index id first gone : ℕ) (take : CanRemoveDirectory t ind
           let f = first_is.0 in
           omega arith;
       thread = h.thread;
-      fits = subst (λ (z : Pair). FitsPair m.disk.block_size m.disk.page z.content) (sym x_there)
-          (each_right (λ (z : Pair). FitsPair m.disk.block_size m.disk.page z.content) first_part (k.x ∷ o ∷ k.back)
-          (subst (Each (λ (z : Pair). FitsPair m.disk.block_size m.disk.page z.content)) (sym pairs_middle ∙ is_middle)
-          (recursion_from_All (λ (z : Pair). FitsPair m.disk.block_size m.disk.page z.content) (thread_at w (q ∷ [])) (first_taken m.disk h.written).writable.pairs))).0;
+      fits = end.x_fits m (gone - 1) w.chain k.front k.x o k.back is_middle number_middle (subst (IsWritable m.disk) (sym pairs_middle) (first_taken m.disk h.written).writable);
       storable = no_move_state;
     }
 
@@ -317,27 +314,19 @@ module _ (t : Kept) (index id first gone : ℕ) (take : CanRemoveDirectory t ind
     y = record { at = k.x.at; content = d }
 
     d_slots : d.slots ≡ k.x.content.slots
-    d_slots = ap (λ (z : Pair). z.content.slots) x_there
+    d_slots = end.taken_slots m (gone - 1) w.chain k.front k.x o k.back is_middle number_middle
 
     regrouped : w.chain ++ (k.front ++ y ∷ k.back) ≡ first_part ++ y ∷ k.back
-    regrouped = sym (append_assoc w.chain k.front (y ∷ k.back))
+    regrouped = end.regrouped m (gone - 1) w.chain k.front k.x o k.back is_middle number_middle
 
     settled_end : gstate_of (w.chain ++ (k.front ++ y ∷ k.back)) ≡ no_gstate
-    settled_end = ap gstate_of regrouped ∙ gstate_is m (gone - 1) first_part k.x o k.back is_middle number_middle no_gstate y refl
+    settled_end = end.settled_end m (gone - 1) w.chain k.front k.x o k.back is_middle number_middle
 
     device_end : (disk : Disk) → IsWrittenAs m (gone - 1) d disk → IsDevice m.disk disk (first_part ++ k.x ∷ o ∷ k.back) (first_part ++ y ∷ k.back)
-    device_end disk written = device_dropped m (gone - 1) first_part k.x o k.back is_middle number_middle accepted_parts disk d d_slots written
+    device_end = end.device_end m (gone - 1) w.chain k.front k.x o k.back is_middle number_middle accepted_parts
 
     is_gone : (disk : Disk) → IsWrittenAs m (gone - 1) d disk → IsGone m.disk disk w.chain k.front k.x o y k.back
-    is_gone disk written = record {
-      device = subst (λ z. IsDevice m.disk disk z (w.chain ++ (k.front ++ y ∷ k.back))) (append_assoc w.chain k.front (k.x ∷ o ∷ k.back))
-          (subst (IsDevice m.disk disk (first_part ++ k.x ∷ o ∷ k.back)) (sym regrouped) (device_end disk written));
-      settled = settled_end;
-      soft = k.soft;
-      at = refl;
-      slots = d_slots;
-      tail = ap₂ (λ (a b : Pair). taken_over a.content.tail b.content.tail) x_there o_there ∙ over_soft k.x.content.tail o.content.tail k.soft;
-    }
+    is_gone = end.is_gone m (gone - 1) w.chain k.front k.x o k.back is_middle number_middle accepted_parts k.soft
 
     end_taken : (disk : Disk) → IsWrittenAs m (gone - 1) d disk
         → IsTaken t.disk (thread_at w (p ∷ [])) disk (w.chain ++ (k.front ++ y ∷ k.back)) (removed (can.path ++ u.name ∷ [])) (planted (can.path ++ u.name ∷ []) (λ t. None))
@@ -348,7 +337,7 @@ module _ (t : Kept) (index id first gone : ℕ) (take : CanRemoveDirectory t ind
 
     module _ (new : Kept) (g : HasDroppedBehind m (gone - 1) no_gstate new) where
       pairs_end : new.pairs ≡ w.chain ++ (k.front ++ y ∷ k.back)
-      pairs_end = g.pairs ∙ without_is m (gone - 1) first_part k.x o k.back is_middle number_middle d ∙ sym regrouped
+      pairs_end = end.pairs_end m (gone - 1) w.chain k.front k.x o k.back is_middle number_middle new g
 
       map_end : new.map ≡ without_pair t.map o.at
       map_end = g.map ∙ ap₂ (λ s (z : Pair). without_pair s z.at) h.map o_there
@@ -411,10 +400,8 @@ module _ (t : Kept) (index id first gone : ℕ) (take : CanRemoveDirectory t ind
       where
         go : (g.content ≡ (pair_in m (gone - 1)).content) ⊎ (g.content ≡ with_tail_taken m (gone - 1) no_gstate) → IsLeftOf (with_blocks left m.disk) (tree_in t.disk t.pairs) (without_file t can.path can.name)
         go (inl e) =
-            let same = e ∙ ap (λ (z : Pair). z.content) x_there in
-            let on = device_kept m (gone - 1) first_part k.x o k.back is_middle number_middle accepted_parts (with_blocks left m.disk) k.x.content refl
-            (subst (λ z. IsWrittenAs m (gone - 1) z (with_blocks left m.disk)) same g.written) in
-            let f = nothing_came m.disk (with_blocks left m.disk) w q site_middle accepted_middle (subst (λ z. IsDevice m.disk (with_blocks left m.disk) z z) (sym is_middle ∙ pairs_middle) on) in
+            let on = end.device_left m (gone - 1) w.chain k.front k.x o k.back is_middle number_middle accepted_parts (with_blocks left m.disk) (subst (λ z. IsWrittenAs m (gone - 1) z (with_blocks left m.disk)) e g.written) in
+            let f = nothing_came m.disk (with_blocks left m.disk) w q site_middle accepted_middle (subst (λ z. IsDevice m.disk (with_blocks left m.disk) z z) pairs_middle on) in
             record {
               pairs = thread_at w (q ∷ []);
               accepted = f.accepted;

@@ -36,7 +36,7 @@ use Rattle.lfs_operations.proofs.Dropped.{device_dropped, device_kept, dropped_c
 use Rattle.lfs_operations.proofs.DroppedTails.{front_is, gone_is, gstate_is, no_move_state, without_is}
 use Rattle.lfs_operations.proofs.Placing.{nothing_came}
 use Rattle.lfs_operations.proofs.RemovedWhole.{StandsWhole, over_hard}
-use Rattle.lfs_operations.proofs.Rmdir.{over_soft}
+use Rattle.lfs_operations.proofs.RmdirEnd as end
 use Rattle.lfs_operations.proofs.RmdirPlaces.{HasFront, get_some, has_front, number_of_first, shows_nothing}
 use Rattle.lfs_operations.proofs.RmdirWhole.{HasPlaceWhole, UnlinksWhole, place_whole}
 
@@ -263,10 +263,10 @@ module _ (t : Kept) (index id first gone : ℕ) (take : CanRemoveDirectory t ind
     accepted_parts = subst (IsAccepted m.disk) (sym pairs_middle ∙ is_middle) accepted_middle
 
     x_there : pair_in m (now - 1) ≡ k.x
-    x_there = front_is m (now - 1) first_part k.x o k.back is_middle number_middle
+    x_there = end.x_there m (now - 1) w.chain k.front k.x o k.back is_middle number_middle
 
     o_there : pair_in m (now - 1 + 1) ≡ o
-    o_there = gone_is m (now - 1) first_part k.x o k.back is_middle number_middle
+    o_there = end.o_there m (now - 1) w.chain k.front k.x o k.back is_middle number_middle
 
     -- the pair that is written in the second step is where the one in front of it was, or where the one in front of the entry's was
     pub written_then : ((pair_in m (now - 1)).at ≡ (pair_in t (gone - 1)).at) ⊎ ((pair_in m (now - 1)).at ≡ (pair_in t (index - 1)).at)
@@ -291,10 +291,7 @@ module _ (t : Kept) (index id first gone : ℕ) (take : CanRemoveDirectory t ind
           let n = number_now in
           omega arith;
       thread = h.thread;
-      fits = subst (λ (z : Pair). FitsPair m.disk.block_size m.disk.page z.content) (sym x_there)
-          (each_right (λ (z : Pair). FitsPair m.disk.block_size m.disk.page z.content) first_part (k.x ∷ o ∷ k.back)
-          (subst (Each (λ (z : Pair). FitsPair m.disk.block_size m.disk.page z.content)) (sym pairs_middle ∙ is_middle)
-          (recursion_from_All (λ (z : Pair). FitsPair m.disk.block_size m.disk.page z.content) (thread_at w (q ∷ [])) (first_taken m.disk h.written).writable.pairs))).0;
+      fits = end.x_fits m (now - 1) w.chain k.front k.x o k.back is_middle number_middle (subst (IsWritable m.disk) (sym pairs_middle) (first_taken m.disk h.written).writable);
       storable = no_move_state;
     }
 
@@ -307,27 +304,19 @@ module _ (t : Kept) (index id first gone : ℕ) (take : CanRemoveDirectory t ind
     y = record { at = k.x.at; content = d }
 
     d_slots : d.slots ≡ k.x.content.slots
-    d_slots = ap (λ (z : Pair). z.content.slots) x_there
+    d_slots = end.taken_slots m (now - 1) w.chain k.front k.x o k.back is_middle number_middle
 
     regrouped : w.chain ++ (k.front ++ y ∷ k.back) ≡ first_part ++ y ∷ k.back
-    regrouped = sym (append_assoc w.chain k.front (y ∷ k.back))
+    regrouped = end.regrouped m (now - 1) w.chain k.front k.x o k.back is_middle number_middle
 
     settled_end : gstate_of (w.chain ++ (k.front ++ y ∷ k.back)) ≡ no_gstate
-    settled_end = ap gstate_of regrouped ∙ gstate_is m (now - 1) first_part k.x o k.back is_middle number_middle no_gstate y refl
+    settled_end = end.settled_end m (now - 1) w.chain k.front k.x o k.back is_middle number_middle
 
     device_end : (disk : Disk) → IsWrittenAs m (now - 1) d disk → IsDevice m.disk disk (first_part ++ k.x ∷ o ∷ k.back) (first_part ++ y ∷ k.back)
-    device_end disk written = device_dropped m (now - 1) first_part k.x o k.back is_middle number_middle accepted_parts disk d d_slots written
+    device_end = end.device_end m (now - 1) w.chain k.front k.x o k.back is_middle number_middle accepted_parts
 
     is_gone : (disk : Disk) → IsWrittenAs m (now - 1) d disk → IsGone m.disk disk w.chain k.front k.x o y k.back
-    is_gone disk written = record {
-      device = subst (λ z. IsDevice m.disk disk z (w.chain ++ (k.front ++ y ∷ k.back))) (append_assoc w.chain k.front (k.x ∷ o ∷ k.back))
-          (subst (IsDevice m.disk disk (first_part ++ k.x ∷ o ∷ k.back)) (sym regrouped) (device_end disk written));
-      settled = settled_end;
-      soft = k.soft;
-      at = refl;
-      slots = d_slots;
-      tail = ap₂ (λ (a b : Pair). taken_over a.content.tail b.content.tail) x_there o_there ∙ over_soft k.x.content.tail o.content.tail k.soft;
-    }
+    is_gone = end.is_gone m (now - 1) w.chain k.front k.x o k.back is_middle number_middle accepted_parts k.soft
 
     end_taken : (disk : Disk) → IsWrittenAs m (now - 1) d disk
         → IsTaken t.disk (old) disk (w.chain ++ (k.front ++ y ∷ k.back)) (removed (can.path ++ u.name ∷ [])) (planted (can.path ++ u.name ∷ []) (λ t. None))
@@ -338,7 +327,7 @@ module _ (t : Kept) (index id first gone : ℕ) (take : CanRemoveDirectory t ind
 
     module _ (new : Kept) (g : HasDroppedBehind m (now - 1) no_gstate new) where
       pairs_end : new.pairs ≡ w.chain ++ (k.front ++ y ∷ k.back)
-      pairs_end = g.pairs ∙ without_is m (now - 1) first_part k.x o k.back is_middle number_middle d ∙ sym regrouped
+      pairs_end = end.pairs_end m (now - 1) w.chain k.front k.x o k.back is_middle number_middle new g
 
       map_middle : m.map ≡ without_pair t.map e.at
       map_middle = h.map ∙ ap (λ (z : Pair). without_pair t.map z.at) e_there
@@ -424,10 +413,8 @@ module _ (t : Kept) (index id first gone : ℕ) (take : CanRemoveDirectory t ind
       where
         go : (g.content ≡ (pair_in m (now - 1)).content) ⊎ (g.content ≡ with_tail_taken m (now - 1) no_gstate) → IsLeftOf (with_blocks left m.disk) (tree_in t.disk t.pairs) (without_file t can.path can.name)
         go (inl e) =
-            let same = e ∙ ap (λ (z : Pair). z.content) x_there in
-            let on = device_kept m (now - 1) first_part k.x o k.back is_middle number_middle accepted_parts (with_blocks left m.disk) k.x.content refl
-            (subst (λ z. IsWrittenAs m (now - 1) z (with_blocks left m.disk)) same g.written) in
-            let f = nothing_came m.disk (with_blocks left m.disk) w q site_middle accepted_middle (subst (λ z. IsDevice m.disk (with_blocks left m.disk) z z) (sym is_middle ∙ pairs_middle) on) in
+            let on = end.device_left m (now - 1) w.chain k.front k.x o k.back is_middle number_middle accepted_parts (with_blocks left m.disk) (subst (λ z. IsWrittenAs m (now - 1) z (with_blocks left m.disk)) e g.written) in
+            let f = nothing_came m.disk (with_blocks left m.disk) w q site_middle accepted_middle (subst (λ z. IsDevice m.disk (with_blocks left m.disk) z z) pairs_middle on) in
             record {
               pairs = thread_at w (q ∷ []);
               accepted = f.accepted;

@@ -5,11 +5,16 @@ pub mod Editing
 pub mod Storing
 pub mod Dropping
 pub mod Removing
-pub mod Moving
+pub mod MoveEnds
+pub mod MovingSteps
+pub mod MovingAcross
+pub mod MovingOnto
 pub mod Making
 pub mod RenamingSlots
 pub mod RenamingSeen
 pub mod Renaming
 pub mod Unlinking
+pub mod Sharing
 pub mod Recovering
+pub mod EndingMove
 pub mod RenamingOver

@@ -1,23 +1,20 @@
--- How a recovery ends what a loss of power left.
-use Rattle.std.specs.Prelude.{ℕ, suc, ◌≡◌, ◌⊎◌, ◌<◌, ◌≤◌, ◌+◌, ◌-◌, ◌^◌, ◌&&◌, ◌==◌, ◌++◌, nat_lt, if◌then◌else◌, Bool, true, false, List, [], ◌∷◌, length, slice_index_or, Option, Some, None, Result, IfErr, IsErrOf, is_err, All}
+-- How a recovery drops the pairs that no path leads to.
+use Rattle.std.specs.Prelude.{ℕ, suc, ◌≡◌, ◌⊎◌, ◌<◌, ◌≤◌, ◌+◌, if◌then◌else◌, Bool, List, [], ◌∷◌, length, slice_index_or, Option, None, Result, IfErr, IsErrOf, is_err, All}
 use Rattle.std.specs.List.{flat_map}
 use Rattle.lfs_device.specs.declared.error.Error.{Error}
 use Rattle.lfs_device.specs.declared.error.Error.TheVariants.{Io, NoMemory}
 use Rattle.lfs_model.specs.BlockSets.{AreUsed}
-use Rattle.lfs_model.specs.Changes.{Change, Delete, PutMove, PutTail}
-use Rattle.lfs_model.specs.Disk.{Disk, block_count}
+use Rattle.lfs_model.specs.Disk.{block_count}
 use Rattle.lfs_model.specs.History.{faults}
-use Rattle.lfs_model.specs.Layout.{IsLaidOut, begin_from, onward}
-use Rattle.lfs_model.specs.LoggedContent.{IsAddress}
+use Rattle.lfs_model.specs.Layout.{begin_from, onward}
 use Rattle.lfs_model.specs.Operations as ops
 use Rattle.lfs_model.specs.Recovery.{AreReached}
 use Rattle.lfs_model.specs.Session.{Session}
-use Rattle.lfs_model.specs.Slots.{Gstate, Slot, Tail, gstate_xor, is_superblock, no_gstate, same_pair}
-use Rattle.lfs_model.specs.Thread.{Pair, blocks_of, directory_pairs, gstate_of, is_hard, next_of, superblocks_before}
+use Rattle.lfs_model.specs.Slots.{Gstate, Slot, no_gstate}
+use Rattle.lfs_model.specs.Thread.{Pair, blocks_of, directory_pairs, gstate_of, superblocks_before}
 use Rattle.lfs_model.specs.View.{IsAccepted}
 use Rattle.lfs_model.specs.Shown.{IsReached, all_slots, tree_in, used_blocks}
 use Rattle.lfs_model.specs.Profile.{IsWritable}
-use Rattle.lfs_model.specs.Slots.{set_move}
 use Rattle.lfs_model.proofs.Alike.{AreAlike}
 use Rattle.lfs_model.proofs.Committed.{IsCompleted}
 use Rattle.lfs_model.proofs.Counts.{count}
@@ -26,58 +23,9 @@ use Rattle.lfs_model.proofs.Global.{HasNoMove}
 use Rattle.lfs_model.proofs.Splices.{files_of, slots_in}
 use Rattle.lfs_model.proofs.StepsTaken.{IsTaken}
 use Rattle.lfs_thread.specs.Kept.{Kept, State}
-use Rattle.lfs_thread.specs.Steps.{no_pair, pair_in}
+use Rattle.lfs_thread.specs.Steps.{no_pair}
 use Rattle.lfs_operations.specs.Dropping.{SameInFlight}
 use Rattle.lfs_operations.specs.Ready.{IsReadyBut}
-
--- ---- the commits
-
--- The share of a pair by which the global state becomes g: it changes as the state does.
-abbrev pub share_of : Kept → ℕ → Gstate → Gstate
-share_of t index g = gstate_xor (gstate_xor g (gstate_of t.pairs)) (pair_in t index).content.move
-
-abbrev pub setting : Kept → ℕ → Gstate → List Change
-setting t index g = PutMove (share_of t index g) ∷ []
-
-abbrev pub goes_on_at : Kept → ℕ → Bool
-goes_on_at t index = is_hard (pair_in t index).content.tail
-
-abbrev pub target_of : Option Tail → Option (ℕ × ℕ)
-target_of tail = next_of tail
-
-abbrev pub IsAddressIfSome : Option (ℕ × ℕ) → Type 0
-IsAddressIfSome None = Unit {0}
-IsAddressIfSome (Some at) = IsAddress at
-
--- with the share of another pair, the one behind it
-abbrev pub takes_share : Kept → ℕ → ℕ → Gstate → Gstate
-takes_share t index behind g = gstate_xor (share_of t index g) (pair_in t behind).content.move
-
--- a pair takes over the tail and the share of the one behind it
-abbrev pub taking_over : Kept → ℕ → ℕ → Gstate → List Change
-taking_over t index behind g = PutTail (goes_on_at t index && goes_on_at t behind) (target_of (pair_in t behind).content.tail) ∷ PutMove (takes_share t index behind g) ∷ []
-
--- a move type of 11 bits and an id of 10 bits
-pub record FitsFields (g : Gstate) : Type 0 where
-  pub kind : g.kind < 2 ^ 11
-  pub id : g.id < 2 ^ 10
-
--- there is such a pair in an image that may be written, and the state can be stored
-pub record CanSetState (t : Kept) (index : ℕ) (g : Gstate) : Type 0 where
-  pub accepted : IsAccepted t.disk t.pairs
-  pub writable : IsWritable t.disk t.pairs
-  pub below : index < length t.pairs
-  pub fields : FitsFields g
-
--- and one behind it
-pub record CanTakeOver (t : Kept) (index behind : ℕ) (g : Gstate) : Type 0 where
-  pub accepted : IsAccepted t.disk t.pairs
-  pub writable : IsWritable t.disk t.pairs
-  pub next : behind ≡ index + 1
-  pub below : behind < length t.pairs
-  pub fields : FitsFields g
-
--- ---- what it is told
 
 -- These are the numbers of the pairs xs to whose directory no path leads, in turn. The first of xs has the number n; from is where
 -- the directory of the pair in front of it begins, if that goes on.
@@ -107,8 +55,6 @@ pub record CanClearSync (t : Kept) : Type 0 where
   pub writable : IsWritable t.disk t.pairs
   pub none : HasNoMove (gstate_of t.pairs)
   pub reached : AreReached t.pairs
-
--- ---- what comes of it
 
 -- what the steps tell, and whether the thread has failed by them: `Io` comes with a fault of the device, and any other answer with none
 pub record TellsOfSteps {X : Type 0} (old new : State) (result : Result X Error) : Type 0 where
@@ -149,56 +95,3 @@ pub record HasRecovered (old : Kept) (numbers : List ℕ) (new : Kept) : Type 0 
 -- the state that is wanted when a pair is dropped: none with the last one
 abbrev pub state_with : Kept → Bool → Gstate
 state_with t is_last = if is_last then no_gstate else gstate_of t.pairs
-
--- ---- a set move
-
--- the slot at the id goes, and the share changes
-abbrev pub taking : Kept → ℕ → ℕ → Gstate → List Change
-taking t index id g = Delete id ∷ PutMove (share_of t index g) ∷ []
-
--- there is such a slot
-pub record CanTakeSlot (t : Kept) (index id : ℕ) (g : Gstate) : Type 0 where
-  pub can : CanSetState t index g
-  pub below : id < length (pair_in t index).content.slots
-
--- the global state without a move
-abbrev pub unset : Gstate → Gstate
-unset g = record no_gstate { sync = g.sync }
-
--- a move is set, and names that slot of the pair at the index
-pub record IsMovedAt (t : Kept) (index : ℕ) : Type 0 where
-  pub below : index < length t.pairs
-  pub kind : (gstate_of t.pairs).kind ≡ set_move
-  pub same : same_pair (pair_in t index).at (gstate_of t.pairs).pair ≡ true
-  pub left : List Slot
-  pub slot : Slot
-  pub right : List Slot
-  pub held : (pair_in t index).content.slots ≡ left ++ slot ∷ right
-  pub number : length left ≡ (gstate_of t.pairs).id
-  pub other : is_superblock slot ≡ false
-
--- it has no other slot, and isn't the first of its directory
-abbrev pub is_alone_at : Kept → ℕ → Bool
-is_alone_at t index = nat_lt 0 index && (length (pair_in t index).content.slots == 1 && goes_on_at t (index - 1))
-
--- The image is accepted and may be written, and the map knows each of its blocks.
-pub record CanEndMove (t : Kept) : Type 0 where
-  pub accepted : IsAccepted t.disk t.pairs
-  pub writable : IsWritable t.disk t.pairs
-  pub used : AreUsed t.map (used_blocks t.disk t.pairs)
-  pub size : length t.map ≡ block_count t.disk
-
--- Where the slots of the new image stand after a recovery, those of the old one stand after one.
-abbrev pub RecoversTo : Kept → Kept → Type 0
-RecoversTo old new = (s : Session) (disk : Disk) (qs : List Pair) → IsLaidOut new.disk new.pairs s ops.Recover disk qs → IsLaidOut old.disk old.pairs s ops.Recover disk qs
-
--- No move is set, and the image shows the same tree; so pairs may be dropped then. The map knows each of its blocks, of which
--- none came.
-pub record HasEndedMove (old new : Kept) : Type 0 where
-  pub taken : IsTaken old.disk old.pairs new.disk new.pairs (λ t. t) (λ d. d)
-  pub none : HasNoMove (gstate_of new.pairs)
-  pub used : AreUsed new.map (used_blocks new.disk new.pairs)
-  pub size : length new.map ≡ block_count new.disk
-  pub fewer : (b : ℕ) → count b (used_blocks new.disk new.pairs) ≤ count b (used_blocks old.disk old.pairs)
-  pub flying : SameInFlight old.map new.map
-  pub leads_on : RecoversTo old new

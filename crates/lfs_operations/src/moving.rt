@@ -15,7 +15,10 @@ ghost use Rattle.lfs_thread.specs.Kept.{Kept};
 ghost use Rattle.lfs_thread.specs.Steps.{Writes, pair_in};
 ghost use Rattle.lfs_pair.specs.ChangeSeen.{changes_seen};
 ghost use Rattle.lfs_operations.specs.Changing.{CanPut, IsPut, WritesInPairs};
-ghost use Rattle.lfs_operations.specs.Moving.{CanEnd, CanPutOnto, CanRenameAcross, CanReplaceAcross, CanReplaceDirectory, EndsAfter, HasEnded, IsMovedOnto, IsPutAndEnded, IsRenamedAcross, IsReplacedAcross, SurvivesBoth, TellsInSteps, WritesInTwo, end_at, left_at, move_of, moving_changes, onto_changes, place_after, replacing_changes, share_without_move, sync_in, with_moved};
+ghost use Rattle.lfs_operations.specs.MoveEnds.{CanEnd, HasEnded, end_at, move_of, share_without_move, sync_in};
+ghost use Rattle.lfs_operations.specs.MovingSteps.{EndsAfter, IsPutAndEnded, SurvivesBoth, TellsInSteps, WritesInTwo, left_at, place_after};
+ghost use Rattle.lfs_operations.specs.MovingAcross.{CanRenameAcross, IsRenamedAcross, moving_changes, with_moved};
+ghost use Rattle.lfs_operations.specs.MovingOnto.{CanPutOnto, CanReplaceAcross, CanReplaceDirectory, IsMovedOnto, IsReplacedAcross, onto_changes, replacing_changes};
 ghost use Rattle.lfs_operations.specs.Removing.{TellsOfCalls};
 
 use crate::changing::put;

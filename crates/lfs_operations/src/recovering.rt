@@ -16,7 +16,9 @@ ghost use Rattle.lfs_tag.specs.ContentSeen.{tail_seen};
 ghost use Rattle.lfs_tag.specs.FieldsSeen.{move_seen};
 ghost use Rattle.lfs_thread.specs.Device.{StopsLeave, two_of};
 ghost use Rattle.lfs_thread.specs.Steps.{IsChanged, IsDropped, IsLeft, Writes, pair_in};
-ghost use Rattle.lfs_operations.specs.Recovering.{CanClearSync, CanDropUnreached, CanEndMove, CanSetState, CanTakeOver, CanTakeSlot, HasEndedMove, HasRecovered, IsAddressIfSome, IsCleared, IsMovedAt, TellsOfSteps, goes_on_at, is_alone_at, setting, share_of, state_with, taking, taking_over, takes_share, target_of, unset};
+ghost use Rattle.lfs_operations.specs.Sharing.{CanSetState, CanTakeOver, IsAddressIfSome, goes_on_at, setting, share_of, taking_over, takes_share, target_of};
+ghost use Rattle.lfs_operations.specs.Recovering.{CanClearSync, CanDropUnreached, HasRecovered, IsCleared, TellsOfSteps, state_with};
+ghost use Rattle.lfs_operations.specs.EndingMove.{CanEndMove, CanTakeSlot, HasEndedMove, IsMovedAt, is_alone_at, taking, unset};
 ghost use Rattle.lfs_operations.specs.Removing.{TellsOfCalls};
 
 use lfs_device::{BlockDevice, Error};

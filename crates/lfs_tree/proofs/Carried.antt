@@ -26,7 +26,7 @@ use Rattle.lfs_model.proofs.Committed.{IsCompleted, recovered_from}
 use Rattle.lfs_model.proofs.Counts.{count_append, each_from_counted, each_weaker}
 use Rattle.lfs_model.proofs.Histories.{unprogrammed-reads}
 use Rattle.lfs_model.proofs.KeptStructs.{none_stored}
-use Rattle.lfs_operations.specs.Moving.{WritesAmong}
+use Rattle.lfs_operations.specs.MovingSteps.{WritesAmong}
 use Rattle.lfs_operations.specs.Ready.{IsReady}
 use Rattle.lfs_thread.specs.Kept.{Kept}
 use Rattle.lfs_thread.specs.Steps.{IsOnlyRead, Writes, no_pair, pair_in}

@@ -27,7 +27,7 @@ use Rattle.lfs_operations.specs.Removing.{goes_whole, written_at}
 use Rattle.lfs_thread.specs.Device.{two_of}
 use Rattle.lfs_thread.specs.Kept.{Kept}
 use Rattle.lfs_thread.specs.Steps.{HasShape, Writes, pair_in}
-use Rattle.lfs_operations.specs.Moving.{WritesAmong}
+use Rattle.lfs_operations.specs.MovingSteps.{WritesAmong}
 use Rattle.lfs_tree.specs.Entry.{ShowsContents}
 use Rattle.lfs_tree.specs.Going.{CanFree, list_shown, no_list}
 use Rattle.lfs_tree.specs.declared.entry.Contents.{Contents}

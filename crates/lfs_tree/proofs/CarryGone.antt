@@ -28,7 +28,7 @@ use Rattle.lfs_operations.specs.Unlinking.{CanRemoveDirectory, IsDirectoryRemove
 use Rattle.lfs_thread.specs.Device.{four_of}
 use Rattle.lfs_thread.specs.Kept.{Kept, State}
 use Rattle.lfs_thread.specs.Steps.{Writes, pair_in}
-use Rattle.lfs_operations.specs.Moving.{WritesAmong}
+use Rattle.lfs_operations.specs.MovingSteps.{WritesAmong}
 use Rattle.lfs_tree.specs.Allowed.{CanRemove}
 use Rattle.lfs_tree.specs.Carrying.{Carries, IsAtRest, SurvivesTo}
 use Rattle.lfs_tree.specs.CarryingSlots.{HasEntry, IsSlotFor, has_slot}

@@ -29,7 +29,7 @@ use Rattle.lfs_model.proofs.BlockCounts.{few_used}
 use Rattle.lfs_model.proofs.BlockSets.{Contains-count, count-Contains, used_count-AreUsed}
 use Rattle.lfs_model.proofs.Counts.{count}
 use Rattle.lfs_model.proofs.Histories.{LeavesOnly-weaker}
-use Rattle.lfs_operations.specs.Recovering.{HasEndedMove, RecoversTo}
+use Rattle.lfs_operations.specs.EndingMove.{HasEndedMove, RecoversTo}
 use Rattle.lfs_operations.proofs.RecoverBefore.{AreKin, stand_kin}
 use Rattle.lfs_thread.specs.Kept.{Kept, State}
 use Rattle.lfs_thread.specs.Steps.{IsOnlyRead}

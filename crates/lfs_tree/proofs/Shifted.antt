@@ -22,7 +22,7 @@ use Rattle.lfs_model.proofs.Committed.{no_move_from}
 use Rattle.lfs_model.proofs.Paths.{last_is}
 use Rattle.lfs_thread.specs.Kept.{Kept, State}
 use Rattle.lfs_thread.specs.Steps.{IsOnlyRead}
-use Rattle.lfs_operations.specs.Moving.{WritesAmong}
+use Rattle.lfs_operations.specs.MovingSteps.{WritesAmong}
 use Rattle.lfs_tree.specs.Allowed.{CanRename}
 use Rattle.lfs_tree.specs.Carrying.{Carries, IsAtRest}
 use Rattle.lfs_tree.specs.CarryingSlots.{HasEntry}

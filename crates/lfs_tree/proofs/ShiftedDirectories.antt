@@ -8,7 +8,9 @@ use Rattle.lfs_model.specs.Names.{Name}
 use Rattle.lfs_model.specs.Slots.{Branch}
 use Rattle.lfs_model.specs.Tree.{Path}
 use Rattle.lfs_model.specs.Shown.{tree_in}
-use Rattle.lfs_operations.specs.Moving.{CanReplaceDirectory, IsRenamedAcross, WritesAmong, with_moved}
+use Rattle.lfs_operations.specs.MovingSteps.{WritesAmong}
+use Rattle.lfs_operations.specs.MovingAcross.{IsRenamedAcross, with_moved}
+use Rattle.lfs_operations.specs.MovingOnto.{CanReplaceDirectory}
 use Rattle.lfs_operations.specs.Renaming.{with_renamed}
 use Rattle.lfs_operations.specs.RenamingOver.{CanRenameOntoDirectory, IsRenamedOntoDirectory, TellsOverSteps}
 use Rattle.lfs_thread.specs.Device.{four_of}

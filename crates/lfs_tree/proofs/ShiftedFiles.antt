@@ -16,7 +16,9 @@ use Rattle.lfs_model.proofs.Committed.{IsCompleted}
 use Rattle.lfs_operations.specs.Changing.{WritesIn}
 use Rattle.lfs_operations.specs.Dropping.{SameInFlight}
 use Rattle.lfs_operations.specs.Editing.{CanEdit}
-use Rattle.lfs_operations.specs.Moving.{CanReplaceAcross, IsReplacedAcross, WritesInTwo, left_at, with_moved, WritesAmong}
+use Rattle.lfs_operations.specs.MovingSteps.{WritesInTwo, left_at, WritesAmong}
+use Rattle.lfs_operations.specs.MovingAcross.{with_moved}
+use Rattle.lfs_operations.specs.MovingOnto.{CanReplaceAcross, IsReplacedAcross}
 use Rattle.lfs_operations.specs.Ready.{IsReady}
 use Rattle.lfs_operations.specs.Renaming.{CanRenameOnto, IsRenamedOnto, with_renamed}
 use Rattle.lfs_thread.specs.Kept.{Kept, State}

@@ -24,7 +24,9 @@ use Rattle.lfs_model.proofs.Splices.{files_of}
 use Rattle.lfs_operations.specs.Changing.{HasTwoFree, WritesIn, has_failed}
 use Rattle.lfs_operations.specs.Editing.{CanEdit, slot_at}
 use Rattle.lfs_operations.specs.Making.{HasRoomFor}
-use Rattle.lfs_operations.specs.Moving.{CanRenameAcross, IsRenamedAcross, TellsInSteps, WritesInTwo, end_at, left_at, with_moved, WritesAmong}
+use Rattle.lfs_operations.specs.MoveEnds.{end_at}
+use Rattle.lfs_operations.specs.MovingSteps.{TellsInSteps, WritesInTwo, left_at, WritesAmong}
+use Rattle.lfs_operations.specs.MovingAcross.{CanRenameAcross, IsRenamedAcross, with_moved}
 use Rattle.lfs_operations.specs.Ready.{IsReady, IsReadyBut}
 use Rattle.lfs_operations.specs.Removing.{goes_whole}
 use Rattle.lfs_operations.specs.Renaming.{CanRename, IsRenamed, TellsMove, with_renamed}

@@ -15,7 +15,7 @@ use Rattle.lfs_model.proofs.Committed.{IsCompleted}
 use Rattle.lfs_model.proofs.Counts.{count}
 use Rattle.lfs_model.proofs.Global.{HasNoMove}
 use Rattle.lfs_operations.specs.Ready.{IsReady}
-use Rattle.lfs_operations.specs.Recovering.{RecoversTo}
+use Rattle.lfs_operations.specs.EndingMove.{RecoversTo}
 use Rattle.lfs_thread.specs.Kept.{Kept}
 use Rattle.lfs_tree.specs.Carrying.{Carries}
 use Rattle.lfs_tree.specs.Held.{seen_kept}

@@ -12,7 +12,7 @@ ghost use Rattle.lfs_model.specs.Shown.{tree_in};
 ghost use Rattle.lfs_operations.specs.Dropping.{SameInFlight};
 ghost use Rattle.lfs_operations.specs.Ready.{IsReady};
 ghost use Rattle.lfs_operations.specs.Unlinking.{TellsOfSteps};
-ghost use Rattle.lfs_operations.specs.Moving.{WritesAmong};
+ghost use Rattle.lfs_operations.specs.MovingSteps.{WritesAmong};
 ghost use Rattle.lfs_tree.specs.Allowed.{CanRemove};
 ghost use Rattle.lfs_tree.specs.Carrying.{Carries, HasCalled, IsAtRest, SurvivesTo, TellsError};
 ghost use Rattle.lfs_tree.specs.CarryingSlots.{HasEntry};

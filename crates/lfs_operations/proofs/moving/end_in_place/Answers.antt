@@ -7,7 +7,7 @@ use Rattle.lfs_model.specs.LoggedContent.{IsAddress}
 use Rattle.lfs_model.specs.Slots.{Gstate}
 use Rattle.lfs_thread.specs.Device.{StopsLeave}
 use Rattle.lfs_thread.specs.Steps.{CanChange, IsChanged, IsLeft, IsRefused}
-use Rattle.lfs_operations.specs.Moving.{HasEnded, share_without_move}
+use Rattle.lfs_operations.specs.MoveEnds.{HasEnded, share_without_move}
 use Rattle.lfs_operations.proofs.MovEnding.{can_end, end_not_refused, end_survives, has_ended}
 use Rattle.lfs_operations.proofs.Removed.{tells_again}
 use Rattle.lfs_operations.proofs.moving.end_in_place.Goals as goal

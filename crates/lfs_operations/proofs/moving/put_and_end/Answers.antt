@@ -1,7 +1,8 @@
 use Rattle.std.proofs.Common.{ℕ, ap, ap₂, length, sym, subst, ◌∙◌, ◌-◌, arith, Err}
 use Rattle.std.proofs.lemmas.Result.{err_from_is_err_and}
 use Rattle.lfs_pair.specs.ChangeSeen.{changes_seen}
-use Rattle.lfs_operations.specs.Moving.{CanEnd, HasEnded, TellsInSteps, end_at, place_after}
+use Rattle.lfs_operations.specs.MoveEnds.{CanEnd, HasEnded, end_at}
+use Rattle.lfs_operations.specs.MovingSteps.{TellsInSteps, place_after}
 use Rattle.lfs_operations.proofs.MovTelling.{not_io, survives_both, tells_of_end, writes_at_end, writes_first}
 use Rattle.lfs_operations.proofs.OntoWritten.{end_within, put_within}
 use Rattle.lfs_thread.specs.Device.{two_of}

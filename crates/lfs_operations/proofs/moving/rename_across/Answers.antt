@@ -4,7 +4,9 @@ use Rattle.lfs_device.specs.declared.error.Error.TheVariants as Error
 use Rattle.lfs_model.specs.Changes.{PutMove}
 use Rattle.lfs_pair.specs.ChangeSeen.{changes_seen}
 use Rattle.lfs_operations.specs.Changing.{CanPut, IsPut}
-use Rattle.lfs_operations.specs.Moving.{EndsAfter, IsPutAndEnded, SurvivesBoth, TellsInSteps, WritesInTwo, end_at, left_at, moving_changes, with_moved}
+use Rattle.lfs_operations.specs.MoveEnds.{end_at}
+use Rattle.lfs_operations.specs.MovingSteps.{EndsAfter, IsPutAndEnded, SurvivesBoth, TellsInSteps, WritesInTwo, left_at}
+use Rattle.lfs_operations.specs.MovingAcross.{moving_changes, with_moved}
 use Rattle.lfs_operations.specs.RenamingSlots.{slot_changes}
 use Rattle.lfs_operations.proofs.MovLater.{can_put_later, changes_later, ends_later, parts_later, renamed_later, survives_later, tells_after_read, tells_unmade, writes_after_read, writes_read}
 use Rattle.lfs_operations.proofs.Putting.{not_both}

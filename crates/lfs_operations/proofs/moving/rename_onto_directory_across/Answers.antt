@@ -7,7 +7,9 @@ use Rattle.lfs_model.specs.Thread.{Pair}
 use Rattle.lfs_model.specs.Shown.{tree_in}
 use Rattle.lfs_thread.specs.Device.{StopsLeave}
 use Rattle.lfs_operations.specs.Dropping.{CanDropAt, HasDroppedBehind, IsLeftByDrop}
-use Rattle.lfs_operations.specs.Moving.{TellsInSteps, left_at, onto_changes, with_moved}
+use Rattle.lfs_operations.specs.MovingSteps.{TellsInSteps, left_at}
+use Rattle.lfs_operations.specs.MovingAcross.{with_moved}
+use Rattle.lfs_operations.specs.MovingOnto.{onto_changes}
 use Rattle.lfs_operations.proofs.MovReplace.{onto_directory}
 use Rattle.lfs_operations.proofs.MovTelling.{not_io, tells_of_end}
 use Rattle.lfs_operations.proofs.OntoAcross.{can_drop_later, left_directory, new_below, not_nowhere_later, old_below, renamed_directory}

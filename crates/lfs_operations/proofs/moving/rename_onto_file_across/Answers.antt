@@ -1,7 +1,7 @@
 use Rattle.std.proofs.Common.{false, refl, Result, Ok, Err}
 use Rattle.std.specs.Prelude.{OnOk}
 use Rattle.lfs_device.specs.declared.error.Error.{Error}
-use Rattle.lfs_operations.specs.Moving.{CanReplaceAcross, IsMovedOnto, IsReplacedAcross}
+use Rattle.lfs_operations.specs.MovingOnto.{CanReplaceAcross, IsMovedOnto, IsReplacedAcross}
 use Rattle.lfs_operations.proofs.MovLater.{replaced_later}
 use Rattle.lfs_operations.proofs.MovReplace.{onto_file}
 use Rattle.lfs_operations.proofs.moving.rename_onto_file_across.Goals as goal

@@ -3,7 +3,7 @@ use Rattle.lfs_model.specs.LoggedContent.{IsAddress}
 use Rattle.lfs_model.specs.Slots.{Gstate}
 use Rattle.lfs_thread.specs.Device.{StopsLeave}
 use Rattle.lfs_thread.specs.Steps.{IsChanged, IsLeft}
-use Rattle.lfs_operations.specs.Recovering.{setting, share_of}
+use Rattle.lfs_operations.specs.Sharing.{setting, share_of}
 use Rattle.lfs_operations.proofs.RecoverEnd.{clear_survives, cleared, cleared_already, enough}
 use Rattle.lfs_model.specs.Thread.{blocks_of}
 use Rattle.lfs_operations.proofs.RecoverWrites.{two_fewer, writes_fewer, writes_none}

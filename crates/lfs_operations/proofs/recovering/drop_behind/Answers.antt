@@ -8,7 +8,7 @@ use Rattle.lfs_tag.specs.FieldsSeen.{move_seen}
 use Rattle.lfs_pair.specs.declared.committing.Outcome.{Outcome}
 use Rattle.lfs_pair.specs.declared.committing.Outcome.TheVariants as outcome
 use Rattle.lfs_thread.specs.Steps.{CanDrop, IsDropped, IsRefused, pair_in}
-use Rattle.lfs_operations.specs.Recovering.{IsAddressIfSome, taking_over, takes_share, target_of}
+use Rattle.lfs_operations.specs.Sharing.{IsAddressIfSome, taking_over, takes_share, target_of}
 use Rattle.lfs_operations.proofs.RecoverShares.{can_drop, over_not_refused}
 use Rattle.lfs_operations.proofs.Removed.{tells_again}
 use Rattle.lfs_operations.proofs.recovering.drop_behind.Goals as goal

@@ -6,7 +6,8 @@ use Rattle.lfs_model.specs.Thread.{blocks_of, gstate_of}
 use Rattle.lfs_tag.specs.FieldsSeen.{move_seen}
 use Rattle.lfs_thread.specs.Device.{StopsLeave}
 use Rattle.lfs_thread.specs.Steps.{IsChanged, IsDropped, IsLeft}
-use Rattle.lfs_operations.specs.Recovering.{CanTakeSlot, share_of, takes_share, taking, taking_over, unset}
+use Rattle.lfs_operations.specs.Sharing.{share_of, takes_share, taking_over}
+use Rattle.lfs_operations.specs.EndingMove.{CanTakeSlot, taking, unset}
 use Rattle.lfs_operations.proofs.RecoverEnd.{tells_steps}
 use Rattle.lfs_operations.proofs.RecoverEnded.{can_take, ended_goes, ended_stays, survives_goes, survives_stays}
 use Rattle.lfs_operations.proofs.RecoverWrites.{two_fewer, writes_fewer}

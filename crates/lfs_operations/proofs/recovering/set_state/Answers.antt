@@ -7,7 +7,7 @@ use Rattle.lfs_tag.specs.FieldsSeen.{move_seen}
 use Rattle.lfs_pair.specs.declared.committing.Outcome.{Outcome}
 use Rattle.lfs_pair.specs.declared.committing.Outcome.TheVariants as outcome
 use Rattle.lfs_thread.specs.Steps.{CanChange, IsChanged, IsRefused}
-use Rattle.lfs_operations.specs.Recovering.{setting, share_of}
+use Rattle.lfs_operations.specs.Sharing.{setting, share_of}
 use Rattle.lfs_operations.proofs.RecoverShares.{can_set, set_not_refused}
 use Rattle.lfs_operations.proofs.Removed.{tells_again}
 use Rattle.lfs_operations.proofs.recovering.set_state.Goals as goal

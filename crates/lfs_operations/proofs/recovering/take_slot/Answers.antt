@@ -7,7 +7,8 @@ use Rattle.lfs_tag.specs.FieldsSeen.{move_seen}
 use Rattle.lfs_pair.specs.declared.committing.Outcome.{Outcome}
 use Rattle.lfs_pair.specs.declared.committing.Outcome.TheVariants as outcome
 use Rattle.lfs_thread.specs.Steps.{CanChange, IsChanged, IsRefused}
-use Rattle.lfs_operations.specs.Recovering.{share_of, taking}
+use Rattle.lfs_operations.specs.Sharing.{share_of}
+use Rattle.lfs_operations.specs.EndingMove.{taking}
 use Rattle.lfs_operations.proofs.RecoverShares.{can_take_slot, take_not_refused}
 use Rattle.lfs_operations.proofs.Removed.{tells_again}
 use Rattle.lfs_operations.proofs.recovering.take_slot.Goals as goal

@@ -3,7 +3,7 @@ use Rattle.std.specs.Prelude.{IfErr}
 use Rattle.std.proofs.lemmas.Result.{err_from_is_err_and}
 use Rattle.lfs_model.specs.TreeEdits.{renamed}
 use Rattle.lfs_model.specs.Shown.{tree_in}
-use Rattle.lfs_operations.specs.Moving.{WritesAmong}
+use Rattle.lfs_operations.specs.MovingSteps.{WritesAmong}
 use Rattle.lfs_tree.specs.Carrying.{SurvivesTo, TellsError}
 use Rattle.lfs_tree.specs.Shifting.{CanShiftFound, HasShifted}
 use Rattle.lfs_tree.proofs.Carried.{read_is}

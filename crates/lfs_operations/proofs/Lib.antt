@@ -40,7 +40,6 @@ pub mod RenameMade
 pub mod RenamePlaced
 pub mod RenameOnto
 pub mod RenameStepped
-pub mod RenameNames
 pub mod RenameWithin
 pub mod RenameCopied
 pub mod RenameTarget

@@ -31,7 +31,7 @@ use Rattle.lfs_model.proofs.Histories.{LeavesOnly-weaker}
 use Rattle.lfs_model.proofs.Moves.{IsStep, insert_here}
 use Rattle.lfs_model.proofs.OneCommit.{some_filled}
 use Rattle.lfs_model.proofs.Renames.{rename_walk}
-use Rattle.lfs_model.proofs.Searches.{is_site, number_is, same, site}
+use Rattle.lfs_model.proofs.Searches.{is_site, number_is, site}
 use Rattle.lfs_model.proofs.Sites.{Site, begin_of, thread_at}
 use Rattle.lfs_model.proofs.Splices.{IsDevice, stays_shape}
 use Rattle.lfs_model.proofs.StepsTaken.{IsTaken, commit_taken}

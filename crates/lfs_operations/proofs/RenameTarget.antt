@@ -2,7 +2,7 @@
 use Rattle.std.proofs.Common.{ℕ, ◌≡◌, true, List, [], ◌∷◌, ◌++◌, length, Some, sym, ap, subst, ◌∙◌, arith, append_assoc, length-append, refl}
 use Rattle.std.specs.Prelude.{◌≢◌}
 use Rattle.lfs_model.specs.Changes.{Delete}
-use Rattle.lfs_model.specs.Content.{RawContent, complete_all, raw_at}
+use Rattle.lfs_model.specs.Content.{RawContent, complete_all}
 use Rattle.lfs_model.specs.InDirectory.{Stands, StandsAt}
 use Rattle.lfs_model.specs.Names.{Name, is_name}
 use Rattle.lfs_model.specs.Slots.{FitsPair, Slot, same_pair}
@@ -13,7 +13,6 @@ use Rattle.lfs_model.proofs.Counts.{Each, each_right}
 use Rattle.lfs_model.proofs.Searches.{same, site, thread_is}
 use Rattle.lfs_model.proofs.Sites.{Site, begin_of, thread_at}
 use Rattle.lfs_thread.specs.Kept.{Kept}
-use Rattle.lfs_thread.specs.Steps.{pair_in}
 use Rattle.lfs_operations.specs.Editing.{CanEdit}
 use Rattle.lfs_operations.specs.Renaming.{place_without}
 use Rattle.lfs_operations.specs.RenamingSlots.{HasSlot}

@@ -1,5 +1,5 @@
 -- A rename from one pair into another, to a name that is new there.
-use Rattle.std.specs.Prelude.{ℕ, ◌≡◌, ◌≢◌, ◌++◌, None, ◌+◌, true, false, List, [], ◌∷◌}
+use Rattle.std.specs.Prelude.{ℕ, ◌≡◌, ◌≢◌, ◌++◌, None, true, false, List, [], ◌∷◌}
 use Rattle.lfs_model.specs.Tree.{Path, Tree}
 use Rattle.lfs_model.specs.TreeEdits.{renamed, rest_after}
 use Rattle.lfs_model.specs.Operations as ops

@@ -1,5 +1,5 @@
 -- A mounted image as a tree.
-use Rattle.std.proofs.Common.{ℕ, ◌≡◌, ◌∙◌, Bool, true, false, List, [], length, nat_eq, Result, Err, refl, sym, ap, subst, arith}
+use Rattle.std.proofs.Common.{ℕ, ◌≡◌, ◌<◌, ◌∙◌, Bool, true, false, List, [], length, nat_eq, Result, Err, refl, sym, ap, subst, arith}
 use Rattle.std.specs.List.{IsDistinct}
 use Rattle.std.specs.Prelude.{◌↔◌, IsTrue}
 use Rattle.lfs_device.specs.declared.device.BlockDevice.{Ghosts}
@@ -7,13 +7,13 @@ use Rattle.lfs_device.specs.declared.error.Error.{Error}
 use Rattle.lfs_device.specs.declared.error.Error.TheVariants.{Io}
 use Rattle.lfs_model.specs.BlockSets.{AreInFlight, AreUsed, BlockSets, in_flight_count}
 use Rattle.lfs_model.specs.Disk.{Disk, block_count}
-use Rattle.lfs_model.specs.History.{Event, OnlyReads, faults}
+use Rattle.lfs_model.specs.History.{Event, OnlyReads, faults, reads}
 use Rattle.lfs_model.specs.Thread.{Pair, superblocks_before}
 use Rattle.lfs_model.specs.View.{IsAccepted, View}
 use Rattle.lfs_model.specs.Profile.{IsWritable}
 use Rattle.lfs_model.specs.Shown.{used_blocks}
 use Rattle.lfs_model.proofs.BlockSets.{in_flight_count-AreInFlight}
-use Rattle.lfs_model.proofs.Histories.{OnlyReads-trans}
+use Rattle.lfs_model.proofs.Histories.{OnlyReads-trans, reads-since}
 use Rattle.lfs_model.specs.Fresh.{IsFresh}
 use Rattle.lfs_mount.specs.Accepted.{IsMounted}
 use Rattle.lfs_thread.specs.Device.{GivesBack}
@@ -54,11 +54,12 @@ module _ (disk : Disk) (history : List Event) (a b : State) (root : ℕ) (writab
   pub mounted_rooted : IsRooted b root writable
   mounted_rooted = record { works = r.works; sound = sound_now; root_is = is ∙ ap superblocks_before (sym r.only.pairs) }
 
-  pub mounted_tree : IsMountedTree disk history (seen_kept b.kept writable false)
-  mounted_tree = record {
+  pub mounted_tree : reads history < reads a.kept.history → IsMountedTree disk history (seen_kept b.kept writable false)
+  mounted_tree called = record {
     works = refl;
     disk_is = r.only.disk ∙ m.disk_is;
     reads = OnlyReads-trans m.reads r.only.reads (ap (λ (d : Disk). d.blocks) m.disk_is);
+    called = (let k = reads-since r.only.reads in omega (arith, called, k));
     no_fault = r.same ∙ m.no_fault;
     sound = sound_now;
     none_in_flight = in_flight_count-AreInFlight b.kept.map [] none_twice (subst (λ (sets : BlockSets). AreInFlight sets []) (sym r.only.map) m.none_in_flight);

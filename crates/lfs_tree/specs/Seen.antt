@@ -5,7 +5,7 @@ use Rattle.lfs_device.specs.declared.error.Error.TheVariants.{Io, NoMemory, Corr
 use Rattle.lfs_model.specs.TreeEdits.{is_file}
 use Rattle.lfs_model.specs.BlockSets.{AreUsed, BlockSets, IsInFlight, in_flight_count}
 use Rattle.lfs_model.specs.Disk.{Disk, SameGeometry, block_at, block_count}
-use Rattle.lfs_model.specs.History.{Event, OnlyReads, faults, unprogrammed}
+use Rattle.lfs_model.specs.History.{Event, OnlyReads, faults, reads, unprogrammed}
 use Rattle.lfs_model.specs.Keeping.{takes_or_moves}
 use Rattle.lfs_model.specs.Layout.{IsArranged}
 use Rattle.lfs_model.specs.Operations.{Operation}
@@ -120,10 +120,11 @@ pub record IsCarried (old : Seen) (op : Operation) (new : Seen) : Type 0 where
   pub flight : LeavesFlight old new
   pub keeps : (path : Path) → is_file (tree_seen old path) ≡ true → takes_or_moves op path ≡ false → KeepsFile (kept_of old) (kept_of new) path
 
--- The image of a disk that was only read, without a fault: it works, and no block is in flight.
+-- The image of a disk that was only read, at least once and without a fault: it works, and no block is in flight.
 pub record IsMountedTree (disk : Disk) (history : List Event) (t : Seen) : Type 0 where
   pub works : t.failed ≡ false
   pub disk_is : t.disk ≡ disk
+  pub called : reads history < reads t.history
   pub reads : OnlyReads disk.blocks history t.history
   pub no_fault : faults t.history ≡ faults history
   pub sound : IsSound t

@@ -25,7 +25,7 @@ ghost use Rattle.lfs_tree.specs.Allowed.{CanCreate, CanMake, CanRemove, CanRemov
 ghost use Rattle.lfs_tree.specs.CarryingSlots.{with_attributes_changed};
 ghost use Rattle.lfs_tree.specs.AttributeAt.{IsAttributesSize};
 ghost use Rattle.lfs_tree.specs.Finds.{Finds, list_item_seen};
-ghost use Rattle.lfs_tree.specs.Formatting.{ComesBack};
+ghost use Rattle.lfs_tree.specs.Formatting.{ComesBack, ErasesTwo};
 ghost use Rattle.lfs_tree.specs.Seen.{IsAsked, IsBroken, IsBrokenAsking, IsCarried, IsError, IsMountError as IsMountErrorOf, IsMountedTree, IsSound, SurvivesAs, around_of, tree_seen};
 
 use crate::attribute_at::attribute_at;
@@ -101,6 +101,7 @@ impl<D: BlockDevice> Tree<D> {
         ensures sound { IfOk result IsSound }
         ensures fresh { IfOk result (λ t. (in_flight_count t.map ≡ 0) × IsFresh t.disk) }
         ensures geometry { IfOk result (λ t. SameGeometry (disk_on D.BlockDevice device) t.disk) }
+        ensures calls { IfOk result (λ t. ErasesTwo (D.history device) t.history) }
         ensures back { IfErr result (λ e. ComesBack D.BlockDevice (two_of anchor) device e.0 e.1) }
     {
         match format(alloc, device) {

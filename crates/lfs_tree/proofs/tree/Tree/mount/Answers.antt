@@ -11,7 +11,7 @@ invariant_of-result g c = λ e.
 pub returns-in-Ok-clause-mounted : goal.returns-in-Ok-clause-mounted
 returns-in-Ok-clause-mounted g c =
     mounted_tree (disk_on g.D.BlockDevice c.args.device) (g.D.BlockDevice.history c.args.device) c.in_ok-thread.thread c.read_root.new.thread c.in-Ok.root c.in-Ok.is_writable
-    c.in_ok-thread.ensures.mounted (answered _ _ c.read_root.result _ c.in-Ok.is c.read_root.ensures.reading) c.in-Ok.ensures.root c.in-Ok.ensures.writable
+    c.in_ok-thread.ensures.mounted (answered _ _ c.read_root.result _ c.in-Ok.is c.read_root.ensures.reading) c.in-Ok.ensures.root c.in-Ok.ensures.writable c.in_ok-thread.ensures.called
 
 pub returns-in-Err-clause-back : goal.returns-in-Err-clause-back
 returns-in-Err-clause-back g c =

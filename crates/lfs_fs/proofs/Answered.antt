@@ -37,6 +37,7 @@ use Rattle.lfs_fs.specs.declared.files.Unsaved.{Unsaved}
 use Rattle.std.specs.List.{AllByRecursion, list_any}
 use Rattle.lfs_fs.specs.Held.{Held, IsReady, IsUnsavedIn, IsWritten, held_of, held_with, session_of, moment_of, refused_by, EndsChecks, Checks, FailsBy, Answers}
 use Rattle.lfs_fs.proofs.Failing.{reads_write_nothing, nothing_written, failed_moment, healthy_moment, asking_fails, broken_fails, memory_fails}
+use Rattle.lfs_fs.proofs.Calls.{still_called}
 
 -- the tree, further on by some calls
 later : Seen → List Event → Seen
@@ -250,6 +251,7 @@ ready_later old new files h asked =
     again h = record {
       sound = record { accepted = h.sound.accepted; fits = h.sound.fits; is_kept = h.sound.is_kept; used = h.sound.used; size = h.sound.size };
       one = h.one;
+      called = still_called old.history new.history asked.reads.events asked.reads.extends h.called;
       idle = h.idle;
       written = written_later old new.history (writers_in files) h.written;
     }
@@ -435,6 +437,7 @@ written_still t s (w ∷ ws) e writable settled k h =
 pub carried_ready : (old new : Seen) (files : OpenFiles) (op : Operation) → IsReady old files → has_unsaved files ≡ false → KeepsWriters old new (writers_in files) → IsCarried old op new → IsReady new files
 carried_ready old new files op ready e keeps carried = record {
   sound = carried.sound;
+  called = still_called old.history new.history carried.calls carried.called ready.called;
   one = ready.one;
   idle = λ h. let k = few_flying [] new.map (λ b h. absurd (never b (carried.flight.none_comes b h))) in omega (arith, k);
   written = written_still old new (writers_in files) e carried.writable carried.recovered.gstate keeps ready.written;

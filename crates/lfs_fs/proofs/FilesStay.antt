@@ -24,6 +24,7 @@ use Rattle.lfs_fs.specs.declared.files.OpenFile.TheVariants as file
 use Rattle.lfs_fs.specs.declared.files.Unsaved.{Unsaved}
 use Rattle.lfs_fs.specs.declared.files.Writer.{Writer}
 use Rattle.lfs_fs.proofs.OpenFiles.{held_is, held_one}
+use Rattle.lfs_fs.proofs.Calls.{still_called}
 
 -- ---- room
 
@@ -106,6 +107,7 @@ module _ (over : (old new : Seen) (op : Operation) (path : Path) (c : Contents) 
   are_left files ready spares keeps = record {
     ready = record {
       sound = carried.sound;
+      called = still_called old.history new.history carried.calls carried.called ready.called;
       one = ready.one;
       idle = λ h. let k = few_flying [] new.map (λ b f. absurd (never h b (carried.flight.none_comes b f))) in omega (arith, k);
       written = still_all (writers_in files) ready.one ready.written spares.apart keeps (by_size spares.room);

@@ -34,3 +34,4 @@ pub mod SavedTurns
 pub mod OpenedWriters
 pub mod Stopping
 pub mod StoppedCalls
+pub mod Calls

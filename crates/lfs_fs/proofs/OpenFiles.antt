@@ -391,6 +391,7 @@ one_closed fs fd h = let k = fewer fs fd in omega (arith, k, h)
 pub ready_moved : (t : Seen) (fs : OpenFiles) (fd position : ℕ) → IsReady t fs → IsReady t (set fs fd (option_map (moved_entry position) (entry_of fs fd)))
 ready_moved t fs fd position h = record {
   sound = h.sound;
+  called = h.called;
   one = one_moved fs fd position h.one;
   idle = λ e. h.idle (sym (unsaved_moved fs fd position) ∙ e);
   written = written_moved t fs fd position h.written;
@@ -399,6 +400,7 @@ ready_moved t fs fd position h = record {
 pub ready_closed : (t : Seen) (fs : OpenFiles) (fd : ℕ) → is_saved (entry_of fs fd) ≡ true → IsReady t fs → IsReady t (set fs fd None)
 ready_closed t fs fd e h = record {
   sound = h.sound;
+  called = h.called;
   one = one_closed fs fd h.one;
   idle = λ k. h.idle (sym (unsaved_closed fs fd e) ∙ k);
   written = written_closed t fs fd h.written;
@@ -407,6 +409,7 @@ ready_closed t fs fd e h = record {
 pub ready_put : (t : Seen) (fs : OpenFiles) (r : Reader) → IsReady t fs → IsReady t (put_entry fs (free_entry fs) (Some (file.Reading r)))
 ready_put t fs r h = record {
   sound = h.sound;
+  called = h.called;
   one = subst (λ ws. length ws ≤ 1) (sym (writers_put fs r)) h.one;
   idle = λ e. h.idle (sym (ap (list_any (λ w. is_some w.unsaved)) (writers_put fs r)) ∙ e);
   written = subst (AllByRecursion (IsWritten t)) (sym (writers_put fs r)) h.written;

@@ -237,6 +237,7 @@ room_made fs gs n none number is =
 ready_with : (t : Seen) (fs gs : OpenFiles) (w : Writer) → writers_in fs ≡ [] → writers_in gs ≡ w ∷ [] → IsReady t fs → IsWritten t w → IsReady t gs
 ready_with t fs gs w none alone h written = record {
   sound = h.sound;
+  called = h.called;
   one = subst (λ ws. length ws ≤ 1) (sym alone) (omega arith);
   idle = λ e. h.idle (ap (list_any (λ w. is_some w.unsaved)) none);
   written = subst (AllByRecursion (IsWritten t)) (sym alone) (written, tt);

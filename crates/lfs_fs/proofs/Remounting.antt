@@ -18,7 +18,7 @@ use Rattle.lfs_model.specs.Shown.{tree_in}
 use Rattle.lfs_model.specs.Run.{Moment, IsTurn, NoWrites, is_dirty}
 use Rattle.lfs_model.proofs.TurnsMade.{remounted_turn}
 use Rattle.lfs_tree.specs.Refusals.{is_refusal, refusal_in}
-use Rattle.lfs_tree.specs.Seen.{Seen, tree_seen, around_of, IsBrokenAsking, IsMountError, IsMountedTree}
+use Rattle.lfs_tree.specs.Seen.{Seen, tree_seen, around_of, IsBrokenAsking, IsMountError, IsMountedTree, IsSound}
 use Rattle.lfs_fs.specs.Replies.{reply_in}
 use Rattle.lfs_fs.specs.FileSeen.{OpenFiles, bytes_of, entry_of, is_unsaved_entry, file_seen, files_seen}
 use Rattle.lfs_fs.specs.declared.files.OpenFile as kept
@@ -28,6 +28,9 @@ use Rattle.lfs_fs.specs.Held.{Held, IsReady, held_of, held_with, moment_of, refu
 use Rattle.lfs_fs.proofs.OpenFiles.{file_is, is_saved, ready_closed, saved_is, set_is}
 use Rattle.lfs_fs.proofs.Failing.{reads_write_nothing, failed_moment, healthy_moment}
 use Rattle.lfs_fs.proofs.Answered.{is_over, kept_answer, sound_by}
+use Rattle.lfs_fs.proofs.Calls.{has_called, has_erased}
+use Rattle.lfs_model.specs.BlockSets.{in_flight_count}
+use Rattle.lfs_tree.specs.Formatting.{ErasesTwo}
 
 -- ---- a file is closed of which nothing is to be saved
 
@@ -115,7 +118,18 @@ remount_answers old now new files (Err e) same none ok broken errors =
     (subst (λ b. Answers old ops.Remount (cond b (Ok (ops.Refused (refusal_in e))) (Err e)) (held_of new files)) (sym (no_refusal e errors.errors)) (remount_fails e old new (files_seen new files) broken errors))
 
 pub mounted_ready : (disk : Disk) (history : List Event) (new : Seen) → IsMountedTree disk history new → IsReady new []
-mounted_ready disk history new m = record { sound = m.sound; one = omega arith; idle = λ e. m.none_in_flight; written = tt }
+mounted_ready disk history new m = record { sound = m.sound; called = has_called history new.history m.called; one = omega arith; idle = λ e. m.none_in_flight; written = tt }
+
+-- a session over a fresh disk, whose two blocks were erased
+pub fresh_ready : (before : List Event) (new : Seen) (files : OpenFiles) → files ≡ [] → IsSound new → in_flight_count new.map ≡ 0 → ErasesTwo before new.history → IsReady new files
+fresh_ready before new files none sound idle calls =
+    subst (IsReady new) (sym none) (record {
+      sound = sound;
+      called = has_erased before new.history (let k = calls.erases in omega (arith, k));
+      one = omega arith;
+      idle = λ e. idle;
+      written = tt;
+    })
 
 pub remount_ready : (old new : Seen) (files : OpenFiles) (r : Result (Unit {0}) Error) → files ≡ [] → OnOk r (IsMountedTree old.disk old.history new) → OnErr r (IsBrokenAsking old new) → new.failed ≡ false → IsReady new files
 remount_ready old new files (Ok u) none ok broken works = subst (IsReady new) (sym none) (mounted_ready old.disk old.history new ok)

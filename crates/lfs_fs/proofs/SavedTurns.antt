@@ -33,6 +33,7 @@ use Rattle.lfs_fs.proofs.Answered.{error_answers, is_over, kept_answer, kept_fil
 use Rattle.lfs_fs.proofs.Failing.{broken_fails, healthy_moment}
 use Rattle.lfs_fs.proofs.OpenFiles.{IsOnly, file_is, inside, inside_is, is_saved, only, saved_is, set_is}
 use Rattle.lfs_fs.proofs.Remounting.{no_tree_change, not_dirty}
+use Rattle.lfs_fs.proofs.Calls.{still_called}
 
 -- ---- the writer that has changes
 
@@ -163,6 +164,7 @@ sync_ready t new fs mid gs fd w v path bytes x ready e is stored saved left back
     let are = sync_writers t fs mid gs fd w v (ready (not_failed (held_of t fs) (ops.Sync fd) e)) is left back in
     record {
       sound = stored.sound;
+      called = still_called t.history new.history stored.calls stored.called (ready (not_failed (held_of t fs) (ops.Sync fd) e)).called;
       one = subst (λ ws. length ws ≤ 1) (sym are) (omega arith);
       idle = λ h. stored.none_in_flight;
       written = subst (AllByRecursion (IsWritten new)) (sym are) (saved.written, tt);
@@ -221,6 +223,7 @@ close_ready t new fs gs fd w path bytes ready e is stored left =
     let are : writers_in gs ≡ [] = ap (λ xs. writers_in xs) left ∙ (only fs fd w (sym is) (ready (not_failed (held_of t fs) (ops.Close fd) e)).one).without in
     record {
       sound = stored.sound;
+      called = still_called t.history new.history stored.calls stored.called (ready (not_failed (held_of t fs) (ops.Close fd) e)).called;
       one = subst (λ ws. length ws ≤ 1) (sym are) (omega arith);
       idle = λ h. stored.none_in_flight;
       written = subst (AllByRecursion (IsWritten new)) (sym are) tt;

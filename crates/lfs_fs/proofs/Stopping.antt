@@ -27,7 +27,7 @@ use Rattle.lfs_fs.proofs.Failing.{failed_moment, healthy_moment}
 
 -- ---- a session at work
 
-works_at : (h : Held) (s : Session) → (moment_of h).state ≡ Healthy s → h.tree.failed ≡ false
+pub works_at : (h : Held) (s : Session) → (moment_of h).state ≡ Healthy s → h.tree.failed ≡ false
 works_at h s e = go h.tree.failed refl
   where
     go : (b : Bool) → h.tree.failed ≡ b → h.tree.failed ≡ false
@@ -73,7 +73,7 @@ some_since events old new e = record { events = events; extends = e; each = all_
     all_some [] = tt
     all_some (e ∷ older) = (tt, all_some older)
 
-same_blocks : (disk new : Disk) (blocks : Blocks) → SameGeometry disk new → with_blocks blocks new ≡ with_blocks blocks disk
+pub same_blocks : (disk new : Disk) (blocks : Blocks) → SameGeometry disk new → with_blocks blocks new ≡ with_blocks blocks disk
 same_blocks disk new blocks g = ap₂ (λ size page. record { block_size = size; page = page; blocks = blocks }) g.block_size g.page
 
 -- the tree from before is left, so it is also one of two

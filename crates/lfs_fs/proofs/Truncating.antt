@@ -1,6 +1,6 @@
 -- A truncation of an open writer, and its turn.
 use Rattle.std.proofs.Common.{ℕ, zero, suc, ◌≡◌, ◌<◌, ◌&&◌, ◌||◌, ◌++◌, Bool, true, false, not, cond, List, [], ◌∷◌, length, length-set, set, nat_lt, Option, Some, None, Ok, is_some, refl, sym, ap, ap₂, subst, ◌∙◌, arith}
-use Rattle.std.specs.Prelude.{◌==◌}
+use Rattle.std.specs.Prelude.{◌==◌, ◌≢◌}
 use Rattle.std.specs.List.{AllByRecursion, list_any}
 use Rattle.std.specs.Option.{option_map}
 use Rattle.std.proofs.lemmas.Bool.{eq-eqb, lt-ltb, ltb-false}
@@ -31,6 +31,7 @@ use Rattle.lfs_fs.proofs.Checked.{neither, unrefused}
 use Rattle.lfs_fs.proofs.Failing.{healthy_moment}
 use Rattle.lfs_fs.proofs.OpenFiles.{IsOnly, inside_is, only, set_is}
 use Rattle.lfs_fs.proofs.WriterChecks.{the_writer, written_at}
+use Rattle.lfs_fs.proofs.Calls.{still_called}
 
 -- ---- what no check refuses
 
@@ -166,9 +167,10 @@ other_size t new fs fd size now w v same ready accepted e made b =
     to = healthy_moment (held_of new later) b.works ∙ ap₂ (λ calls (s : Session). record { disk = new.disk; calls = calls; state = Healthy s }) b.called (ap₂ (λ z f. record { tree = z; files = f }) b.shows files)
 
 -- what the session keeps
-pub ready_with : (t new : Seen) (fs : OpenFiles) (fd : ℕ) (w v : Writer) (is : session.Writer) → IsOnly fs fd w → IsWriterAs new is v → IsWrittenBeside t new → IsReady new (set fs fd (Some (file.Writing v)))
-ready_with t new fs fd w v is alone made b = record {
+pub ready_with : (t new : Seen) (fs : OpenFiles) (fd : ℕ) (w v : Writer) (is : session.Writer) → IsOnly fs fd w → IsWriterAs new is v → IsWrittenBeside t new → t.history ≢ [] → IsReady new (set fs fd (Some (file.Writing v)))
+ready_with t new fs fd w v is alone made b some = record {
   sound = b.sound;
+  called = still_called t.history new.history b.calls b.called some;
   one = (let k = ap (λ ws. length ws) (alone.with_other v) in omega (arith, k));
   idle = λ saved. absurd (let k = sym saved ∙ ap (list_any (λ u. is_some u.unsaved)) (alone.with_other v) ∙ ap (λ c. c || false) made.changed in cc);
   written = subst (AllByRecursion (IsWritten new)) (sym (alone.with_other v)) (made.written, tt);

@@ -1,19 +1,34 @@
 -- Runs whose operations withstand stops.
-use Rattle.std.proofs.Common.{ℕ, ◌≡◌, ◌+◌, ◌<◌, ◌≤◌, Bool, true, false, List, [], ◌∷◌, ◌++◌, length, take, drop, map, get_or, refl, sym, ap, subst, ◌∙◌, drop-cons, add-one}
+use Rattle.std.proofs.Common.{Result, Ok, Err, ℕ, ◌≡◌, ◌+◌, ◌<◌, ◌≤◌, Bool, true, false, List, [], ◌∷◌, ◌++◌, length, take, drop, map, get_or, refl, sym, ap, subst, ◌∙◌, drop-cons, add-one}
 use Rattle.std.proofs.lemmas.List.{take_more, take_all, map-append, take-append-drop}
 use Rattle.lfs_device.specs.declared.error.Error.{Error}
 use Rattle.lfs_model.specs.Outages.{AreWithstood}
-use Rattle.lfs_model.specs.PowerLoss.{SurvivesStops}
+use Rattle.lfs_model.specs.PowerLoss.{IsAtWork, IsLeft, SurvivesStops, Withstands}
+use Rattle.lfs_model.specs.Disk.{Disk, SameGeometry}
+use Rattle.lfs_model.specs.Effects.{applied}
+use Rattle.lfs_model.specs.History.{Event, IsNewest}
+use Rattle.lfs_model.specs.Obeyed.{AreObeyed}
+use Rattle.lfs_model.specs.Operations as ops
+use Rattle.lfs_model.specs.Operations.{Operation}
+use Rattle.lfs_model.specs.Session.{Session, Surroundings}
+use Rattle.lfs_model.specs.Shown.{tree_in}
+use Rattle.lfs_model.specs.Thread.{Pair}
 use Rattle.lfs_model.specs.Run.{Agrees, IsTurn, Moment}
-use Rattle.lfs_model.proofs.AfterStops.{withstood_turns}
-use Rattle.lfs_model.proofs.Withstanding.{agrees_later, turn_withstands, withstood_further}
-use Rattle.lfs_fs.specs.Held.{FailsBy, IsEndedBy, IsReady, held_of, moment_of}
+use Rattle.lfs_model.proofs.AfterStops.{left_before, withstood_turns}
+use Rattle.lfs_model.proofs.Kept.{one_tree}
+use Rattle.lfs_model.proofs.Standing.{device_withstands, one_device}
+use Rattle.lfs_model.proofs.Withstanding.{withstood_further}
+use Rattle.lfs_fs.specs.Held.{Answers, FailsBy, Held, IsEndedBy, IsReady, held_of, moment_of}
+use Rattle.lfs_fs.specs.Told.{IsTold}
 use Rattle.lfs_fs.specs.FileSeen.{OpenFiles}
 use Rattle.lfs_fs.specs.OpSeen.{op_seen, reply_seen}
 use Rattle.lfs_fs.specs.declared.run.Op.{Op}
 use Rattle.lfs_fs.specs.declared.run.Reply.{Reply}
 use Rattle.lfs_tree.specs.Seen.{Seen}
 use Rattle.lfs_fs.proofs.Failing.{failed_moment, healthy_moment}
+use Rattle.lfs_fs.proofs.Stopping.{same_blocks, works_at}
+use Rattle.lfs_device.specs.declared.device.BlockDevice.{Ghosts}
+use Rattle.lfs_thread.specs.Kept.{disk_on}
 
 -- the session has the tree of its disk
 pub ready_agrees : (t : Seen) (files : OpenFiles) → (t.failed ≡ false → IsReady t files) → Agrees (moment_of (held_of t files)).disk (moment_of (held_of t files)).state
@@ -23,36 +38,77 @@ ready_agrees t files ready = go t.failed refl
     go true e = subst (λ (m : Moment). Agrees t.disk m.state) (sym (failed_moment (held_of t files) e)) tt
     go false e = subst (λ (m : Moment). Agrees t.disk m.state) (sym (healthy_moment (held_of t files) e)) (t.pairs, ((ready e).sound.accepted, refl))
 
+-- ---- what a session has of its device
+
+pub told : (t : Seen) (files : OpenFiles) → (t.failed ≡ false → IsReady t files) → IsNewest t.history t.disk.blocks → AreObeyed t.history → IsTold (held_of t files)
+told t files ready newest obeyed = record { agrees = ready_agrees t files ready; called = λ works. (ready works).called; newest = newest; obeyed = obeyed }
+
+-- of the device that is lent
+pub told_by : {D : Type 0} (g : Ghosts D) (device : D) (t : Seen) (files : OpenFiles) → (t.failed ≡ false → IsReady t files) → disk_on g device ≡ t.disk → g.history device ≡ t.history → IsNewest (g.history device) (g.blocks device) →
+    AreObeyed (g.history device) → IsTold (held_of t files)
+told_by g device t files ready disk history newest obeyed =
+    told t files ready (subst (λ (d : Disk). IsNewest t.history d.blocks) disk (subst (λ (h : List Event). IsNewest h (g.blocks device)) history newest)) (subst AreObeyed history obeyed)
+
+-- ---- a call that fails, or that leaves the disk as it was
+
+stood_before : (from : Moment) (op : Operation) → Agrees from.disk from.state → (s : Session) (ps : List Pair) (around : Surroundings) → IsAtWork from s ps around → IsLeft from.disk s.tree (applied around s op).1.tree
+stood_before from op agrees s ps around work =
+    left_before from.disk ps s.tree (applied around s op).1.tree work.accepted work.writable
+    (one_tree from.disk (tree_in from.disk ps) s.tree (ps, (work.accepted, refl)) (subst (Agrees from.disk) work.healthy agrees))
+
+-- what stands is what stood
+pub untouched_withstands : (from : Moment) (op : Operation) (to : Moment) → Agrees from.disk from.state → to.disk ≡ from.disk → SurvivesStops from op to → Withstands from op to
+untouched_withstands from op to agrees same survives = record {
+  stops = survives;
+  stands = λ s ps around work clean fails. subst (λ d. IsLeft d s.tree (applied around s op).1.tree) (sym same) (stood_before from op agrees s ps around work);
+}
+
+-- the disk has the shape that it had
+same_shape : (old : Held) (op : Operation) (r : Result ops.Reply Error) (new : Held) → Answers old op r new → SameGeometry old.tree.disk new.tree.disk
+same_shape old op (Ok reply) new turn = turn.geometry
+same_shape old op (Err e) new fails = fails.fails.geometry
+
+-- What stands is what the newest call left.
+pub call_withstands : (old : Held) (op : Operation) (r : Result ops.Reply Error) (new : Held) → IsTold old → IsTold new → Answers old op r new → SurvivesStops (moment_of old) op (moment_of new) → Withstands (moment_of old) op (moment_of new)
+call_withstands old op r new before after answers survives = go old.tree.failed refl
+  where
+    go : (b : Bool) → old.tree.failed ≡ b → Withstands (moment_of old) op (moment_of new)
+    go true failed = record { stops = survives; stands = λ s ps around work clean stopped. absurd (let k = sym failed ∙ works_at old s work.healthy in cc) }
+    go false works =
+        device_withstands (moment_of old) (moment_of new) op before.agrees
+        (one_device (moment_of old) (moment_of new) (before.called works) before.newest after.newest after.obeyed (same_blocks old.tree.disk new.tree.disk new.tree.disk.blocks (same_shape old op r new answers))) survives
+
 -- ---- in turn
 
 -- one more operation
-pub run_further : (ops : List Op) (i : ℕ) (d : Op) (replies new : List Reply) (reply : Reply) (a b c : Moment) → i < length ops → Agrees a.disk a.state → AreWithstood a (map op_seen (take i ops)) (map reply_seen replies) b →
-    IsTurn b (op_seen (get_or ops i d)) (reply_seen reply) c → SurvivesStops b (op_seen (get_or ops i d)) c → new ≡ replies ++ reply ∷ [] → AreWithstood a (map op_seen (take (i + 1) ops)) (map reply_seen new) c
-run_further ops i d replies new reply a b c lt agrees done turn survives is =
+pub run_further : (ops : List Op) (i : ℕ) (d : Op) (replies new : List Reply) (reply : Reply) (a b c : Moment) → i < length ops → AreWithstood a (map op_seen (take i ops)) (map reply_seen replies) b →
+    IsTurn b (op_seen (get_or ops i d)) (reply_seen reply) c → Withstands b (op_seen (get_or ops i d)) c → new ≡ replies ++ reply ∷ [] → AreWithstood a (map op_seen (take (i + 1) ops)) (map reply_seen new) c
+run_further ops i d replies new reply a b c lt done turn withstands is =
     subst (λ rs. AreWithstood a (map op_seen (take (i + 1) ops)) (map reply_seen rs) c) (sym is)
     (subst (λ xs. AreWithstood a xs (map reply_seen (replies ++ reply ∷ [])) c) (sym (ap (map op_seen) (take_more ops i d lt) ∙ map-append op_seen (take i ops) (get_or ops i d ∷ [])))
     (subst (λ rs. AreWithstood a (map op_seen (take i ops) ++ op_seen (get_or ops i d) ∷ []) rs c) (sym (map-append reply_seen replies (reply ∷ [])))
-    (withstood_further (map op_seen (take i ops)) (op_seen (get_or ops i d)) (map reply_seen replies) (reply_seen reply) a b c done turn
-    (turn_withstands b (op_seen (get_or ops i d)) (reply_seen reply) c (agrees_later (map op_seen (take i ops)) (map reply_seen replies) a b agrees done) turn survives))))
+    (withstood_further (map op_seen (take i ops)) (op_seen (get_or ops i d)) (map reply_seen replies) (reply_seen reply) a b c done turn withstands)))
 
 pub run_ended : (ops : List Op) (i : ℕ) (replies : List Reply) (a b : Moment) → length ops ≤ i → AreWithstood a (map op_seen (take i ops)) (map reply_seen replies) b → AreWithstood a (map op_seen ops) (map reply_seen replies) b
 run_ended ops i replies a b h done = subst (λ xs. AreWithstood a (map op_seen xs) (map reply_seen replies) b) (take_all i ops h) done
 
 -- the session fails in the next one
 pub run_cut : (e : Error) (ops : List Op) (i : ℕ) (d : Op) (replies : List Reply) (a b c : Moment) → i < length ops → AreWithstood a (map op_seen (take i ops)) (map reply_seen replies) b →
-    FailsBy e b (op_seen (get_or ops i d)) c → SurvivesStops b (op_seen (get_or ops i d)) c → IsEndedBy e a (map op_seen ops) c
-run_cut e ops i d replies a b c lt done fails survives = record {
-  cut = record {
-    done = map op_seen (take i ops);
-    next = op_seen (get_or ops i d);
-    others = map op_seen (drop (i + 1) ops);
-    are = ap (map op_seen) (sym (take-append-drop i ops)) ∙ map-append op_seen (take i ops) (drop i ops) ∙ ap (λ xs. map op_seen (take i ops) ++ map op_seen xs) (drop-cons ops i d lt ∙ ap (λ n. get_or ops i d ∷ drop n ops) (sym (add-one i)));
-    replies = map reply_seen replies;
-    at = b;
-    turns = withstood_turns (map op_seen (take i ops)) (map reply_seen replies) a b done;
-    fails = fails.fails;
+    FailsBy e b (op_seen (get_or ops i d)) c → Withstands b (op_seen (get_or ops i d)) c → IsEndedBy e a (map op_seen ops) c
+run_cut e ops i d replies a b c lt done fails withstands = record {
+  ended = record {
+    cut = record {
+      done = map op_seen (take i ops);
+      next = op_seen (get_or ops i d);
+      others = map op_seen (drop (i + 1) ops);
+      are = ap (map op_seen) (sym (take-append-drop i ops)) ∙ map-append op_seen (take i ops) (drop i ops) ∙ ap (λ xs. map op_seen (take i ops) ++ map op_seen xs) (drop-cons ops i d lt ∙ ap (λ n. get_or ops i d ∷ drop n ops) (sym (add-one i)));
+      replies = map reply_seen replies;
+      at = b;
+      turns = withstood_turns (map op_seen (take i ops)) (map reply_seen replies) a b done;
+      fails = fails.fails;
+    };
+    done = done;
+    next = withstands;
   };
   by = fails;
-  withstood = done;
-  survives = survives;
 }

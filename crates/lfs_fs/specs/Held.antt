@@ -25,9 +25,8 @@ use Rattle.lfs_fs.specs.declared.checks.Opening.{Opening}
 use Rattle.lfs_fs.specs.declared.files.Unsaved.{Unsaved}
 use Rattle.lfs_model.specs.TreeEdits.{is_file}
 use Rattle.lfs_model.specs.Run.{Moment, Shows, IsTurn}
-use Rattle.lfs_model.specs.Failure.{Fails, IsCutShort}
-use Rattle.lfs_model.specs.Outages.{AreWithstood}
-use Rattle.lfs_model.specs.PowerLoss.{SurvivesStops}
+use Rattle.lfs_model.specs.Failure.{Fails}
+use Rattle.lfs_model.specs.Outages.{IsCutShortWithstood}
 use Rattle.lfs_tree.specs.Refusals.{is_refusal, refusal_in}
 use Rattle.lfs_tree.specs.Seen.{Seen, tree_seen, around_of, IsSound, IsAsked, IsBrokenAsking, IsError}
 
@@ -62,9 +61,11 @@ pub record IsWritten (t : Seen) (w : Writer) : Type 0 where
   pub size : length (bytes_of t w.path w.unsaved) ≡ w.size
   pub changed : IsUnsavedIn t w w.unsaved
 
--- What a session keeps of a tree that works: it is the disk's, and blocks are in flight only where a writer changed something.
+-- What a session keeps of a tree that works: it is the disk's, whose device has had a call, and blocks are in flight only where
+-- a writer changed something.
 pub record IsReady (t : Seen) (files : OpenFiles) : Type 0 where
   pub sound : IsSound t
+  pub called : t.history ≢ []
   pub one : length (writers_in files) ≤ 1
   pub idle : has_unsaved files ≡ false → in_flight_count t.map ≡ 0
   pub written : AllByRecursion (IsWritten t) (writers_in files)
@@ -92,12 +93,10 @@ Answers old op (Ok reply) new = IsTurn (moment_of old) op reply (moment_of new)
 Answers old op (Err e) new = FailsBy e (moment_of old) op (moment_of new)
 
 -- Some operations were carried out or refused, and withstood stops; in the next one the session failed by that error, and it
--- survives stops, too.
+-- withstands them, too.
 pub record IsEndedBy (e : Error) (from : Moment) (operations : List Operation) (to : Moment) : Type 0 where
-  pub cut : IsCutShort from operations to
-  pub by : FailsBy e cut.at cut.next to
-  pub withstood : AreWithstood from cut.done cut.replies cut.at
-  pub survives : SurvivesStops cut.at cut.next to
+  pub ended : IsCutShortWithstood from operations to
+  pub by : FailsBy e ended.cut.at ended.cut.next to
 
 -- the check that refuses an operation, that of a failed session first
 abbrev pub refused_by : Held → Operation → Option Refusal

@@ -9,3 +9,4 @@ pub mod Replacing
 pub mod RenamePaths
 pub mod Changing
 pub mod Staying
+pub mod Told

@@ -6,9 +6,9 @@ ghost use Rattle.lfs_model.specs.Thread.{Pair};
 ghost use Rattle.lfs_model.specs.Fresh.{IsFresh, empty_tree};
 ghost use Rattle.lfs_model.specs.Headline.{IsTrue};
 ghost use Rattle.lfs_model.specs.State.{Healthy, mounted};
-ghost use Rattle.lfs_model.specs.Run.{Agrees, AreTurns};
+ghost use Rattle.lfs_model.specs.Run.{AreTurns};
 ghost use Rattle.lfs_model.specs.Outages.{AreWithstood};
-ghost use Rattle.lfs_model.specs.PowerLoss.{SurvivesStops};
+ghost use Rattle.lfs_model.specs.PowerLoss.{SurvivesStops, Withstands};
 ghost use Rattle.lfs_thread.specs.Device.{GivesBack, two_of};
 ghost use Rattle.lfs_thread.specs.Kept.{disk_on};
 ghost use Rattle.lfs_model.specs.Thread.{anchor};
@@ -19,6 +19,7 @@ ghost use Rattle.lfs_fs.specs.GstateSeen.{gstate_reply};
 ghost use Rattle.lfs_fs.specs.Held.{Answers, IsBegun, IsEndedBy, moment_of};
 ghost use Rattle.lfs_fs.specs.FlagsSeen.{flags_seen};
 ghost use Rattle.lfs_fs.specs.OpSeen.{op_seen, performed, reply_seen};
+ghost use Rattle.lfs_fs.specs.Told.{IsTold};
 
 use crate::changing::{begin_new, begin_there, save, truncate_by, write_by};
 use crate::checks::{
@@ -414,11 +415,22 @@ impl<D: BlockDevice> Session<D> {
         self.tree.fail();
     }
 
-    // Nothing is done: the session has the tree of its disk.
-    fn agrees(&self)
-        ensures { Agrees self.now.tree.disk (moment_of self.now).state }
+    // Nothing is done: what it has of its disk, and what its device tells of its calls.
+    fn tells(&self)
+        ensures { IsTold self.now }
     {
-        let _tree = &self.tree;
+        let _device = self.tree.device();
+    }
+
+    // The same, with what stands on the disk behind it.
+    fn carry(&mut self, alloc: Global, op: Op<'_>) -> Result<Reply, Error>
+        ensures answers { Answers self.old (op_seen op.entry) (performed result) self.new }
+        ensures withstands { Withstands (moment_of self.old) (op_seen op.entry) (moment_of self.new) }
+    {
+        self.tells();
+        let answer = self.perform(alloc, op);
+        self.tells();
+        answer
     }
 
     /// Carries out operations in turn, a reply for each; a refusal is a reply, too. Where an
@@ -430,14 +442,14 @@ impl<D: BlockDevice> Session<D> {
         ensures headline { IfOk result (λ replies. IsFresh self.old.tree.disk → (moment_of self.old).state ≡ Healthy (mounted empty_tree) → IsTrue (moment_of self.new)) }
         ensures ended { IfErr result (λ e. IsEndedBy e (moment_of self.old) (map op_seen ops.now) (moment_of self.new)) }
     {
-        self.agrees();
+        self.tells();
         let mut replies = Vec::new(alloc);
         for op in ops {
             if replies.reserve(1).is_err() {
                 self.fail();
                 return Err(Error::NoMemory);
             }
-            match self.perform(alloc, *op) {
+            match self.carry(alloc, *op) {
                 Ok(reply) => replies.push_reserved(reply),
                 Err(error) => return Err(error),
             }

@@ -52,7 +52,8 @@ invariant_of-self-2 g c f =
     let fs = c.self.inside.files in
     let all = alone t fs c.args.fd c.args.size c.in-Some-Writing.writer e h.0 (c.self.invariant (works_now t fs c.args.fd c.args.size c.in-Some-Writing.writer e h.0)) in
     subst (IsReady c.truncate_by.new.tree) (sym (put_again fs c.take.new.self c.put_back.new.self c.args.fd c.in_ok-writer.writer c.take.ensures.left c.put_back.ensures))
-    (ready_with t c.truncate_by.new.tree fs c.args.fd c.in-Some-Writing.writer c.in_ok-writer.writer _ all c.in_ok-writer.ensures.written c.in_ok-writer.ensures.beside)
+    (ready_with t c.truncate_by.new.tree fs c.args.fd c.in-Some-Writing.writer c.in_ok-writer.writer _ all c.in_ok-writer.ensures.written c.in_ok-writer.ensures.beside
+    (c.self.invariant (works_now t fs c.args.fd c.args.size c.in-Some-Writing.writer e h.0)).called)
 
 pub returns-clause-answers : goal.returns-clause-answers
 returns-clause-answers g c =

@@ -50,7 +50,8 @@ invariant_of-self-2 g c f =
     let e = sym c.take.ensures.file ∙ c.in-Some-Writing.is ∙ ap Some c.in-Some-Writing.field-0-is in
     let all = alone c.self.inside.tree c.self.inside.files c.args.fd c.args.bytes.now c.in-Some-Writing.writer e c.in_ok-check_write.ensures.0 c.self.invariant in
     subst (IsReady c.write_by.new.tree) (sym (put_again c.self.inside.files c.take.new.self c.put_back.new.self c.args.fd c.in_ok-writer.writer c.take.ensures.left c.put_back.ensures))
-    (ready_with c.self.inside.tree c.write_by.new.tree c.self.inside.files c.args.fd c.in-Some-Writing.writer c.in_ok-writer.writer _ all c.in_ok-writer.ensures.written c.in_ok-writer.ensures.beside)
+    (ready_with c.self.inside.tree c.write_by.new.tree c.self.inside.files c.args.fd c.in-Some-Writing.writer c.in_ok-writer.writer _ all c.in_ok-writer.ensures.written c.in_ok-writer.ensures.beside
+    (c.self.invariant (not_failed (held_of c.self.inside.tree c.self.inside.files) (ops.Write c.args.fd c.args.bytes.now) c.in_ok-check_write.ensures.0)).called)
 
 pub returns-clause-answers : goal.returns-clause-answers
 returns-clause-answers g c =

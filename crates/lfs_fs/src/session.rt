@@ -122,6 +122,16 @@ impl<D: BlockDevice> Session<D> {
     /// [`recover`](Session::recover).
     pub fn mkdir(&mut self, alloc: Global, path: &[u8]) -> Result<(), Error>
         ensures answers { Answers self.old (ops.Mkdir path.now) (reply_in (λ _. ops.Done) result) self.new }
+        ensures withstands { Withstands (moment_of self.old) (ops.Mkdir path.now) (moment_of self.new) }
+    {
+        self.tells();
+        let answer = self.do_mkdir(alloc, path);
+        self.tells();
+        answer
+    }
+
+    fn do_mkdir(&mut self, alloc: Global, path: &[u8]) -> Result<(), Error>
+        ensures answers { Answers self.old (ops.Mkdir path.now) (reply_in (λ _. ops.Done) result) self.new }
         ensures survives { SurvivesStops (moment_of self.old) (ops.Mkdir path.now) (moment_of self.new) }
     {
         open_files_stay();
@@ -131,6 +141,16 @@ impl<D: BlockDevice> Session<D> {
 
     /// Takes a file, or a directory without entries. What a loss of power left is ended first.
     pub fn remove(&mut self, alloc: Global, path: &[u8]) -> Result<(), Error>
+        ensures answers { Answers self.old (ops.Remove path.now) (reply_in (λ _. ops.Done) result) self.new }
+        ensures withstands { Withstands (moment_of self.old) (ops.Remove path.now) (moment_of self.new) }
+    {
+        self.tells();
+        let answer = self.do_remove(alloc, path);
+        self.tells();
+        answer
+    }
+
+    fn do_remove(&mut self, alloc: Global, path: &[u8]) -> Result<(), Error>
         ensures answers { Answers self.old (ops.Remove path.now) (reply_in (λ _. ops.Done) result) self.new }
         ensures survives { SurvivesStops (moment_of self.old) (ops.Remove path.now) (moment_of self.new) }
     {
@@ -143,6 +163,16 @@ impl<D: BlockDevice> Session<D> {
     /// there is one. What is beneath a directory goes with it, and what a loss of power left is ended
     /// first. A path to itself: nothing is done.
     pub fn rename(&mut self, alloc: Global, from: &[u8], to: &[u8]) -> Result<(), Error>
+        ensures answers { Answers self.old (ops.Rename from.now to.now) (reply_in (λ _. ops.Done) result) self.new }
+        ensures withstands { Withstands (moment_of self.old) (ops.Rename from.now to.now) (moment_of self.new) }
+    {
+        self.tells();
+        let answer = self.do_rename(alloc, from, to);
+        self.tells();
+        answer
+    }
+
+    fn do_rename(&mut self, alloc: Global, from: &[u8], to: &[u8]) -> Result<(), Error>
         ensures answers { Answers self.old (ops.Rename from.now to.now) (reply_in (λ _. ops.Done) result) self.new }
         ensures survives { SurvivesStops (moment_of self.old) (ops.Rename from.now to.now) (moment_of self.new) }
     {
@@ -164,6 +194,22 @@ impl<D: BlockDevice> Session<D> {
         value: &[u8],
     ) -> Result<(), Error>
         ensures answers { Answers self.old (ops.SetAttr path.now kind value.now) (reply_in (λ _. ops.Done) result) self.new }
+        ensures withstands { Withstands (moment_of self.old) (ops.SetAttr path.now kind value.now) (moment_of self.new) }
+    {
+        self.tells();
+        let answer = self.do_set_attr(alloc, path, kind, value);
+        self.tells();
+        answer
+    }
+
+    fn do_set_attr(
+        &mut self,
+        alloc: Global,
+        path: &[u8],
+        kind: u8,
+        value: &[u8],
+    ) -> Result<(), Error>
+        ensures answers { Answers self.old (ops.SetAttr path.now kind value.now) (reply_in (λ _. ops.Done) result) self.new }
         ensures survives { SurvivesStops (moment_of self.old) (ops.SetAttr path.now kind value.now) (moment_of self.new) }
     {
         open_files_stay();
@@ -173,6 +219,16 @@ impl<D: BlockDevice> Session<D> {
 
     /// Takes an attribute from an entry. What a loss of power left is ended first.
     pub fn remove_attr(&mut self, alloc: Global, path: &[u8], kind: u8) -> Result<(), Error>
+        ensures answers { Answers self.old (ops.RemoveAttr path.now kind) (reply_in (λ _. ops.Done) result) self.new }
+        ensures withstands { Withstands (moment_of self.old) (ops.RemoveAttr path.now kind) (moment_of self.new) }
+    {
+        self.tells();
+        let answer = self.do_remove_attr(alloc, path, kind);
+        self.tells();
+        answer
+    }
+
+    fn do_remove_attr(&mut self, alloc: Global, path: &[u8], kind: u8) -> Result<(), Error>
         ensures answers { Answers self.old (ops.RemoveAttr path.now kind) (reply_in (λ _. ops.Done) result) self.new }
         ensures survives { SurvivesStops (moment_of self.old) (ops.RemoveAttr path.now kind) (moment_of self.new) }
     {
@@ -186,6 +242,16 @@ impl<D: BlockDevice> Session<D> {
     ///
     /// `ReadOnly` where the image isn't one of those that this library writes.
     pub fn recover(&mut self, alloc: Global) -> Result<(), Error>
+        ensures answers { Answers self.old ops.Recover (reply_in (λ _. ops.Done) result) self.new }
+        ensures withstands { Withstands (moment_of self.old) ops.Recover (moment_of self.new) }
+    {
+        self.tells();
+        let answer = self.do_recover(alloc);
+        self.tells();
+        answer
+    }
+
+    fn do_recover(&mut self, alloc: Global) -> Result<(), Error>
         ensures answers { Answers self.old ops.Recover (reply_in (λ _. ops.Done) result) self.new }
         ensures survives { SurvivesStops (moment_of self.old) ops.Recover (moment_of self.new) }
     {
@@ -240,6 +306,16 @@ impl<D: BlockDevice> Session<D> {
     /// reading. Where it is opened for writing, what a loss of power left in the image is ended first.
     pub fn open(&mut self, alloc: Global, path: &[u8], flags: OpenFlags) -> Result<u32, Error>
         ensures answers { Answers self.old (ops.Open path.now (flags_seen flags)) (reply_in ops.Opened result) self.new }
+        ensures withstands { Withstands (moment_of self.old) (ops.Open path.now (flags_seen flags)) (moment_of self.new) }
+    {
+        self.tells();
+        let answer = self.do_open(alloc, path, flags);
+        self.tells();
+        answer
+    }
+
+    fn do_open(&mut self, alloc: Global, path: &[u8], flags: OpenFlags) -> Result<u32, Error>
+        ensures answers { Answers self.old (ops.Open path.now (flags_seen flags)) (reply_in ops.Opened result) self.new }
         ensures survives { SurvivesStops (moment_of self.old) (ops.Open path.now (flags_seen flags)) (moment_of self.new) }
     {
         if flags.contains(OpenFlags::WRITE) {
@@ -253,6 +329,16 @@ impl<D: BlockDevice> Session<D> {
     /// appends, and says how many; zeros fill a gap. The position is behind them then. They are in
     /// the tree once the file is synced or closed.
     pub fn write(&mut self, alloc: Global, fd: u32, bytes: &[u8]) -> Result<u32, Error>
+        ensures answers { Answers self.old (ops.Write fd bytes.now) (reply_in ops.Count result) self.new }
+        ensures withstands { Withstands (moment_of self.old) (ops.Write fd bytes.now) (moment_of self.new) }
+    {
+        self.tells();
+        let answer = self.do_write(alloc, fd, bytes);
+        self.tells();
+        answer
+    }
+
+    fn do_write(&mut self, alloc: Global, fd: u32, bytes: &[u8]) -> Result<u32, Error>
         ensures answers { Answers self.old (ops.Write fd bytes.now) (reply_in ops.Count result) self.new }
         ensures survives { SurvivesStops (moment_of self.old) (ops.Write fd bytes.now) (moment_of self.new) }
     {
@@ -272,6 +358,16 @@ impl<D: BlockDevice> Session<D> {
     /// position stays.
     pub fn truncate(&mut self, alloc: Global, fd: u32, size: u32) -> Result<(), Error>
         ensures answers { Answers self.old (ops.Truncate fd size) (reply_in (λ _. ops.Done) result) self.new }
+        ensures withstands { Withstands (moment_of self.old) (ops.Truncate fd size) (moment_of self.new) }
+    {
+        self.tells();
+        let answer = self.do_truncate(alloc, fd, size);
+        self.tells();
+        answer
+    }
+
+    fn do_truncate(&mut self, alloc: Global, fd: u32, size: u32) -> Result<(), Error>
+        ensures answers { Answers self.old (ops.Truncate fd size) (reply_in (λ _. ops.Done) result) self.new }
         ensures survives { SurvivesStops (moment_of self.old) (ops.Truncate fd size) (moment_of self.new) }
     {
         check_truncate(&self.tree, &self.files, fd, size)?;
@@ -288,6 +384,16 @@ impl<D: BlockDevice> Session<D> {
 
     /// Brings what was written to an open file into the tree. Nothing is to be done for other files.
     pub fn sync(&mut self, alloc: Global, fd: u32) -> Result<(), Error>
+        ensures answers { Answers self.old (ops.Sync fd) (reply_in (λ _. ops.Done) result) self.new }
+        ensures withstands { Withstands (moment_of self.old) (ops.Sync fd) (moment_of self.new) }
+    {
+        self.tells();
+        let answer = self.do_sync(alloc, fd);
+        self.tells();
+        answer
+    }
+
+    fn do_sync(&mut self, alloc: Global, fd: u32) -> Result<(), Error>
         ensures answers { Answers self.old (ops.Sync fd) (reply_in (λ _. ops.Done) result) self.new }
         ensures survives { SurvivesStops (moment_of self.old) (ops.Sync fd) (moment_of self.new) }
     {
@@ -339,6 +445,16 @@ impl<D: BlockDevice> Session<D> {
 
     /// Closes an open file, and brings what was written to it into the tree. Its number is free then.
     pub fn close(&mut self, alloc: Global, fd: u32) -> Result<(), Error>
+        ensures answers { Answers self.old (ops.Close fd) (reply_in (λ _. ops.Done) result) self.new }
+        ensures withstands { Withstands (moment_of self.old) (ops.Close fd) (moment_of self.new) }
+    {
+        self.tells();
+        let answer = self.do_close(alloc, fd);
+        self.tells();
+        answer
+    }
+
+    fn do_close(&mut self, alloc: Global, fd: u32) -> Result<(), Error>
         ensures answers { Answers self.old (ops.Close fd) (reply_in (λ _. ops.Done) result) self.new }
         ensures survives { SurvivesStops (moment_of self.old) (ops.Close fd) (moment_of self.new) }
     {

@@ -1,50 +1,7 @@
-use Rattle.std.proofs.Common.{refl, sym, ap, ap₂}
 use Rattle.lfs_model.specs.Operations as ops
-use Rattle.lfs_fs.specs.FileSeen.{files_seen}
 use Rattle.lfs_fs.specs.Replies.{reply_in}
-use Rattle.lfs_fs.specs.Held.{held_of}
-use Rattle.lfs_fs.proofs.Answered.{asked_by_checks, checked_ready, done_answers, ended_call, files_asked, sound_by, with_files}
-use Rattle.lfs_fs.proofs.Errors.{given_on}
-use Rattle.lfs_fs.proofs.RemoveAnswered.{removed_left}
-use Rattle.lfs_fs.proofs.RemoveChecks.{remove_can}
-use Rattle.lfs_model.specs.TreeEdits.{removed}
-use Rattle.lfs_tree.specs.Seen.{tree_seen}
-use Rattle.lfs_fs.proofs.Stopping.{asked_changed, called_by, only_read, reads_of_ended}
+use Rattle.lfs_fs.proofs.Withstanding.{call_withstands}
 use Rattle.lfs_fs.proofs.session.Session.remove.Goals as goal
 
-pub remove-requires : goal.remove-requires
-remove-requires g c = remove_can (held_of c.self.inside.tree c.self.inside.files) c.args.path.now _ _ c.in_ok-path.ensures
-
-pub returns-clause-answers : goal.returns-clause-answers
-returns-clause-answers g c =
-    let h = c.in_ok-path.ensures in
-    with_files c.args.self.now (ops.Remove c.args.path.now) (reply_in (λ u. ops.Done) c.remove.result) c.remove.new.self (files_seen c.self.inside.tree c.self.inside.files) (files_seen c.remove.new.self c.self.inside.files)
-    (λ works. (removed_left _ c.self.inside.tree c.check_remove.new.tree c.remove.new.self c.self.inside.files c.args.path.now c.remove.result c.open_files_stay.ensures.stay c.self.invariant h.0 h.1 c.remove.ensures.done (λ f. f c.args.path.now (sym h.2)) c.remove.ensures.broken works).same)
-    (done_answers _ (held_of c.self.inside.tree c.self.inside.files) _ (ops.Remove c.args.path.now) c.check_remove.new.tree c.remove.new.self c.remove.result c.self.view_is (sound_by c.self.inside.tree c.self.inside.files c.self.invariant) h.0 h.1 refl refl refl refl refl refl refl
-    c.remove.ensures.done (λ f. f c.args.path.now (sym h.2)) c.remove.ensures.broken c.remove.ensures.errors)
-
-pub returns-in_err-path-clause-answers : goal.returns-in_err-path-clause-answers
-returns-in_err-path-clause-answers g c =
-    files_asked c.args.self.now (ops.Remove c.args.path.now) (reply_in (λ u. ops.Done) c.from_residual.result) c.self.inside.tree c.check_remove.new.tree c.self.inside.files (asked_by_checks c.self.inside.tree c.self.inside.files (ops.Remove c.args.path.now) _ c.check_remove.result c.check_remove.new.tree c.check_remove.ensures)
-    (ended_call (held_of c.self.inside.tree c.self.inside.files) _ (ops.Remove c.args.path.now) (λ u. ops.Done) _ c.check_remove.new.tree c.from_residual.result c.self.view_is (sound_by c.self.inside.tree c.self.inside.files c.self.invariant) refl c.in_err-path.ensures
-    (given_on _ c.from_residual.result c.from_residual.ensures.1))
-
-pub invariant_of-self : goal.invariant_of-self
-invariant_of-self g c = checked_ready c.self.inside.tree c.self.inside.files (ops.Remove c.args.path.now) _ c.check_remove.result c.check_remove.new.tree c.self.invariant c.check_remove.ensures
-
-pub invariant_of-self-2 : goal.invariant_of-self-2
-invariant_of-self-2 g c = λ works.
-    let h = c.in_ok-path.ensures in
-    (removed_left _ c.self.inside.tree c.check_remove.new.tree c.remove.new.self c.self.inside.files c.args.path.now c.remove.result c.open_files_stay.ensures.stay c.self.invariant h.0 h.1 c.remove.ensures.done (λ f. f c.args.path.now (sym h.2)) c.remove.ensures.broken works).ready
-
--- where power is lost
-pub returns-in_err-path-clause-survives : goal.returns-in_err-path-clause-survives
-returns-in_err-path-clause-survives g c =
-    only_read (held_of c.self.inside.tree c.self.inside.files) _ (ops.Remove c.args.path.now) c.check_remove.new.tree c.self.view_is (sound_by c.self.inside.tree c.self.inside.files c.self.invariant) (reads_of_ended (held_of c.self.inside.tree c.self.inside.files) (ops.Remove c.args.path.now) _ c.check_remove.new.tree c.in_err-path.ensures)
-
-pub returns-clause-survives : goal.returns-clause-survives
-returns-clause-survives g c =
-    let h = c.in_ok-path.ensures in
-    asked_changed (held_of c.self.inside.tree c.self.inside.files) _ (ops.Remove c.args.path.now) c.check_remove.new.tree c.remove.new.self _ c.self.view_is (sound_by c.self.inside.tree c.self.inside.files c.self.invariant) h.1 h.0
-    (called_by (ops.Remove c.args.path.now) c.check_remove.new.tree c.remove.new.self c.remove.result c.remove.ensures.done (λ f. f c.args.path.now (sym h.2)) c.remove.ensures.broken) c.remove.ensures.survives
-    (ap₂ (λ p t. removed p t) h.2 (ap tree_seen h.0.same))
+pub returns-clause-withstands : goal.returns-clause-withstands
+returns-clause-withstands g c = call_withstands _ _ (reply_in (λ u. ops.Done) c.do_remove.result) _ c.tells.ensures c.tells-2.ensures c.do_remove.ensures.answers c.do_remove.ensures.survives

@@ -1,70 +1,7 @@
-use Rattle.std.proofs.Common.{◌∙◌, ap₂, refl, sym, ap}
-use Rattle.lfs_model.specs.TreeEdits.{same_path, renamed}
 use Rattle.lfs_model.specs.Operations as ops
-use Rattle.lfs_fs.specs.FileSeen.{files_seen}
 use Rattle.lfs_fs.specs.Replies.{reply_in}
-use Rattle.lfs_fs.specs.Held.{held_of}
-use Rattle.lfs_fs.proofs.Answered.{asked_by_checks, checked_ready, done_answers, ended_call, files_asked, sound_by, with_files}
-use Rattle.lfs_fs.proofs.Errors.{given_on}
-use Rattle.lfs_fs.proofs.RenameAnswered.{renamed_left, same_answers}
-use Rattle.lfs_fs.proofs.RenameChecks.{rename_can}
-use Rattle.lfs_model.specs.Refusals.{as_path}
-use Rattle.lfs_tree.specs.Seen.{tree_seen}
-use Rattle.lfs_fs.proofs.Stopping.{asked_changed, called_by, only_read, reads_of_ended}
+use Rattle.lfs_fs.proofs.Withstanding.{call_withstands}
 use Rattle.lfs_fs.proofs.session.Session.rename.Goals as goal
 
-pub rename-requires-clause-can : goal.rename-requires-clause-can
-rename-requires-clause-can g c =
-    let h = c.in_ok-renaming.ensures in
-    rename_can (held_of c.self.inside.tree c.self.inside.files) c.args.from.now c.args.to.now _ _ c.check_rename.new.tree (λ works. c.open_files_stay.ensures.few c.self.inside.tree c.self.inside.files (c.self.invariant works)) h.0 h.1 h.2.from h.2.to
-
-pub rename-requires-clause-apart : goal.rename-requires-clause-apart
-rename-requires-clause-apart g c =
-    let h = c.in_ok-renaming.ensures in
-    ap₂ same_path h.2.from h.2.to ∙ sym h.2.same ∙ c.if-renaming.false
-
-pub returns-clause-answers : goal.returns-clause-answers
-returns-clause-answers g c =
-    let h = c.in_ok-renaming.ensures in
-    with_files c.args.self.now (ops.Rename c.args.from.now c.args.to.now) (reply_in (λ u. ops.Done) c.rename.result) c.rename.new.self (files_seen c.self.inside.tree c.self.inside.files) (files_seen c.rename.new.self c.self.inside.files)
-    (λ works. (renamed_left _ c.self.inside.tree c.check_rename.new.tree c.rename.new.self c.self.inside.files c.args.from.now c.args.to.now c.rename.result c.open_files_stay.ensures.stay c.self.invariant h.0 h.1 (sym h.2.same ∙ c.if-renaming.false) c.rename.ensures.done (λ f. f c.args.from.now c.args.to.now (sym h.2.from) (sym h.2.to)) c.rename.ensures.broken works).same)
-    (done_answers _ (held_of c.self.inside.tree c.self.inside.files) _ (ops.Rename c.args.from.now c.args.to.now) c.check_rename.new.tree c.rename.new.self c.rename.result c.self.view_is (sound_by c.self.inside.tree c.self.inside.files c.self.invariant) h.0 h.1 refl refl refl refl refl refl refl
-    c.rename.ensures.done (λ f. f c.args.from.now c.args.to.now (sym h.2.from) (sym h.2.to)) c.rename.ensures.broken c.rename.ensures.errors)
-
-pub returns-in_err-renaming-clause-answers : goal.returns-in_err-renaming-clause-answers
-returns-in_err-renaming-clause-answers g c =
-    files_asked c.args.self.now (ops.Rename c.args.from.now c.args.to.now) (reply_in (λ u. ops.Done) c.from_residual.result) c.self.inside.tree c.check_rename.new.tree c.self.inside.files (asked_by_checks c.self.inside.tree c.self.inside.files (ops.Rename c.args.from.now c.args.to.now) _ c.check_rename.result c.check_rename.new.tree c.check_rename.ensures)
-    (ended_call (held_of c.self.inside.tree c.self.inside.files) _ (ops.Rename c.args.from.now c.args.to.now) (λ u. ops.Done) _ c.check_rename.new.tree c.from_residual.result c.self.view_is (sound_by c.self.inside.tree c.self.inside.files c.self.invariant) refl c.in_err-renaming.ensures
-    (given_on _ c.from_residual.result c.from_residual.ensures.1))
-
-pub invariant_of-self : goal.invariant_of-self
-invariant_of-self g c = checked_ready c.self.inside.tree c.self.inside.files (ops.Rename c.args.from.now c.args.to.now) _ c.check_rename.result c.check_rename.new.tree c.self.invariant c.check_rename.ensures
-
-pub invariant_of-self-2 : goal.invariant_of-self-2
-invariant_of-self-2 g c = λ works.
-    let h = c.in_ok-renaming.ensures in
-    (renamed_left _ c.self.inside.tree c.check_rename.new.tree c.rename.new.self c.self.inside.files c.args.from.now c.args.to.now c.rename.result c.open_files_stay.ensures.stay c.self.invariant h.0 h.1 (sym h.2.same ∙ c.if-renaming.false) c.rename.ensures.done (λ f. f c.args.from.now c.args.to.now (sym h.2.from) (sym h.2.to)) c.rename.ensures.broken works).ready
-
-pub returns-then-renaming-clause-answers : goal.returns-then-renaming-clause-answers
-returns-then-renaming-clause-answers g c =
-    let h = c.in_ok-renaming.ensures in
-    same_answers c.self.inside.tree c.check_rename.new.tree c.self.inside.files _ c.args.from.now c.args.to.now c.self.view_is c.self.invariant h.0 h.1 (sym h.2.same ∙ c.if-renaming.true)
-
-pub invariant_of-self-then-renaming : goal.invariant_of-self-then-renaming
-invariant_of-self-then-renaming g c = checked_ready c.self.inside.tree c.self.inside.files (ops.Rename c.args.from.now c.args.to.now) _ c.check_rename.result c.check_rename.new.tree c.self.invariant c.check_rename.ensures
-
--- where power is lost
-pub returns-in_err-renaming-clause-survives : goal.returns-in_err-renaming-clause-survives
-returns-in_err-renaming-clause-survives g c =
-    only_read (held_of c.self.inside.tree c.self.inside.files) _ (ops.Rename c.args.from.now c.args.to.now) c.check_rename.new.tree c.self.view_is (sound_by c.self.inside.tree c.self.inside.files c.self.invariant) (reads_of_ended (held_of c.self.inside.tree c.self.inside.files) (ops.Rename c.args.from.now c.args.to.now) _ c.check_rename.new.tree c.in_err-renaming.ensures)
-
-pub returns-clause-survives : goal.returns-clause-survives
-returns-clause-survives g c =
-    let h = c.in_ok-renaming.ensures in
-    asked_changed (held_of c.self.inside.tree c.self.inside.files) _ (ops.Rename c.args.from.now c.args.to.now) c.check_rename.new.tree c.rename.new.self _ c.self.view_is (sound_by c.self.inside.tree c.self.inside.files c.self.invariant) h.1 h.0
-    (called_by (ops.Rename c.args.from.now c.args.to.now) c.check_rename.new.tree c.rename.new.self c.rename.result c.rename.ensures.done (λ f. f c.args.from.now c.args.to.now (sym h.2.from) (sym h.2.to)) c.rename.ensures.broken) c.rename.ensures.survives
-    (ap₂ (λ p q. renamed p q (tree_seen c.check_rename.new.tree)) h.2.from h.2.to ∙ ap (λ t. renamed (as_path c.args.from.now) (as_path c.args.to.now) (tree_seen t)) h.0.same)
-
-pub returns-then-renaming-clause-survives : goal.returns-then-renaming-clause-survives
-returns-then-renaming-clause-survives g c =
-    only_read (held_of c.self.inside.tree c.self.inside.files) _ (ops.Rename c.args.from.now c.args.to.now) c.check_rename.new.tree c.self.view_is (sound_by c.self.inside.tree c.self.inside.files c.self.invariant) (c.in_ok-renaming.ensures.0.reads)
+pub returns-clause-withstands : goal.returns-clause-withstands
+returns-clause-withstands g c = call_withstands _ _ (reply_in (λ u. ops.Done) c.do_rename.result) _ c.tells.ensures c.tells-2.ensures c.do_rename.ensures.answers c.do_rename.ensures.survives

@@ -1,0 +1,65 @@
+use Rattle.std.proofs.Common.{refl, sym}
+use Rattle.lfs_model.specs.Operations as ops
+use Rattle.lfs_fs.specs.FileSeen.{files_seen}
+use Rattle.lfs_fs.specs.Held.{held_of}
+use Rattle.lfs_fs.proofs.Answered.{ended_kept, not_failed, sound_by}
+use Rattle.lfs_fs.proofs.Errors.{given_on}
+use Rattle.lfs_fs.proofs.Remounting.{closed_answers, closed_ready}
+use Rattle.lfs_fs.proofs.SavedTurns.{can_save, close_answers, close_asks, close_ready, saving_fails, taken}
+use Rattle.lfs_fs.proofs.Stopping.{kept_call, no_call, tree_changed}
+use Rattle.lfs_fs.proofs.StoppedCalls.{saved_tree}
+use Rattle.lfs_fs.proofs.session.Session.do_close.Goals as goal
+
+pub returns-in_err-check_open-clause-answers : goal.returns-in_err-check_open-clause-answers
+returns-in_err-check_open-clause-answers g c =
+    ended_kept (held_of c.self.inside.tree c.self.inside.files) _ (ops.Close c.args.fd) (λ u. ops.Done) _ c.from_residual.result c.self.view_is (sound_by c.self.inside.tree c.self.inside.files c.self.invariant) refl c.in_err-check_open.ensures
+    (given_on _ c.from_residual.result c.from_residual.ensures.1)
+
+-- nothing is to be saved
+pub invariant_of-self : goal.invariant_of-self
+invariant_of-self g c = closed_ready c.self.inside.tree c.self.inside.files c.close.new.self c.args.fd c.if-not-is_unsaved_at.ensures c.self.invariant c.close.ensures
+
+pub returns-then-not-is_unsaved_at-clause-answers : goal.returns-then-not-is_unsaved_at-clause-answers
+returns-then-not-is_unsaved_at-clause-answers g c =
+    closed_answers c.self.inside.tree c.self.inside.files c.close.new.self _ c.args.fd c.self.view_is c.self.invariant c.in_ok-check_open.ensures.0 c.in_ok-check_open.ensures.1 c.if-not-is_unsaved_at.ensures c.close.ensures
+
+-- the writer is saved
+pub save-requires : goal.save-requires
+save-requires g c =
+    let works = not_failed (held_of c.self.inside.tree c.self.inside.files) (ops.Close c.args.fd) c.in_ok-check_open.ensures.0 in
+    can_save c.self.inside.tree c.self.inside.files c.args.fd c.in-Some-Writing.writer works (c.self.invariant works) (sym c.if-not-is_unsaved_at.ensures) (taken _ _ _ _ c.in-Some-Writing.is c.in-Some-Writing.field-0-is c.take.ensures.file)
+
+pub returns-in_err-save-clause-answers : goal.returns-in_err-save-clause-answers
+returns-in_err-save-clause-answers g c =
+    saving_fails c.self.inside.tree c.save.new.tree c.self.inside.files (files_seen c.save.new.tree c.take.new.self) _ (ops.Close c.args.fd) (λ u. ops.Done) _ c.from_residual-in_err-save.result c.self.view_is c.in_ok-check_open.ensures.0 refl
+    (close_asks c.self.inside.tree c.self.inside.files c.args.fd c.in-Some-Writing.writer (taken _ _ _ _ c.in-Some-Writing.is c.in-Some-Writing.field-0-is c.take.ensures.file)) c.in_err-save.ensures.broken c.in_err-save.ensures.errors
+    (given_on _ c.from_residual-in_err-save.result c.from_residual-in_err-save.ensures.1)
+
+pub invariant_of-self-2 : goal.invariant_of-self-2
+invariant_of-self-2 g c works =
+    close_ready c.self.inside.tree c.save.new.tree c.self.inside.files c.take.new.self c.args.fd c.in-Some-Writing.writer _ _ c.self.invariant c.in_ok-check_open.ensures.0
+    (taken _ _ _ _ c.in-Some-Writing.is c.in-Some-Writing.field-0-is c.take.ensures.file) c.in_ok-save.ensures.stored c.take.ensures.left
+
+pub returns-clause-answers : goal.returns-clause-answers
+returns-clause-answers g c =
+    close_answers c.self.inside.tree c.save.new.tree c.self.inside.files c.take.new.self _ c.args.fd c.in-Some-Writing.writer c.self.view_is c.self.invariant c.in_ok-check_open.ensures.0 (sym c.if-not-is_unsaved_at.ensures)
+    (taken _ _ _ _ c.in-Some-Writing.is c.in-Some-Writing.field-0-is c.take.ensures.file) c.in_ok-save.ensures.stored c.take.ensures.left
+
+-- where power is lost
+pub returns-in_err-check_open-clause-survives : goal.returns-in_err-check_open-clause-survives
+returns-in_err-check_open-clause-survives g c =
+    kept_call (held_of c.self.inside.tree c.self.inside.files) _ (ops.Close c.args.fd) c.self.view_is (sound_by c.self.inside.tree c.self.inside.files c.self.invariant)
+
+pub returns-then-not-is_unsaved_at-clause-survives : goal.returns-then-not-is_unsaved_at-clause-survives
+returns-then-not-is_unsaved_at-clause-survives g c =
+    no_call (held_of c.self.inside.tree c.self.inside.files) _ (ops.Close c.args.fd) c.self.inside.tree c.self.view_is (sound_by c.self.inside.tree c.self.inside.files c.self.invariant) refl
+
+pub returns-in_err-save-clause-survives : goal.returns-in_err-save-clause-survives
+returns-in_err-save-clause-survives g c =
+    tree_changed (held_of c.self.inside.tree c.self.inside.files) _ (ops.Close c.args.fd) c.save.new.tree _ c.self.view_is (sound_by c.self.inside.tree c.self.inside.files c.self.invariant) c.in_ok-check_open.ensures.0 c.save.ensures.survives
+    (saved_tree c.self.inside.tree c.self.inside.files c.args.fd c.in-Some-Writing.writer (sym c.if-not-is_unsaved_at.ensures) (taken _ _ _ _ c.in-Some-Writing.is c.in-Some-Writing.field-0-is c.take.ensures.file))
+
+pub returns-clause-survives : goal.returns-clause-survives
+returns-clause-survives g c =
+    tree_changed (held_of c.self.inside.tree c.self.inside.files) _ (ops.Close c.args.fd) c.save.new.tree _ c.self.view_is (sound_by c.self.inside.tree c.self.inside.files c.self.invariant) c.in_ok-check_open.ensures.0 c.save.ensures.survives
+    (saved_tree c.self.inside.tree c.self.inside.files c.args.fd c.in-Some-Writing.writer (sym c.if-not-is_unsaved_at.ensures) (taken _ _ _ _ c.in-Some-Writing.is c.in-Some-Writing.field-0-is c.take.ensures.file))

@@ -1,0 +1,54 @@
+use Rattle.std.proofs.Common.{refl, sym, ap, ap₂}
+use Rattle.lfs_model.specs.Operations as ops
+use Rattle.lfs_fs.specs.FileSeen.{files_seen}
+use Rattle.lfs_fs.specs.Replies.{reply_in}
+use Rattle.lfs_fs.specs.Held.{held_of}
+use Rattle.lfs_fs.proofs.Answered.{asked_by_checks, checked_ready, done_answers, ended_call, files_asked, sound_by, with_files}
+use Rattle.lfs_fs.proofs.Errors.{given_on}
+use Rattle.lfs_fs.proofs.SetAttrChecks.{set_attr_can}
+use Rattle.lfs_fs.proofs.Staying.{set_attr_left}
+use Rattle.lfs_model.specs.Content.{put_attribute}
+use Rattle.lfs_tree.specs.Seen.{tree_seen}
+use Rattle.lfs_tree.specs.CarryingSlots.{with_attributes_changed}
+use Rattle.lfs_fs.proofs.Stopping.{asked_changed, called_by, only_read, reads_of_ended}
+use Rattle.lfs_fs.proofs.session.Session.do_set_attr.Goals as goal
+
+pub set_attr-requires : goal.set_attr-requires
+set_attr-requires g c = set_attr_can (held_of c.self.inside.tree c.self.inside.files) c.args.path.now c.args.kind c.args.value.now _ _ (λ works. c.open_files_stay.ensures.few c.self.inside.tree c.self.inside.files (c.self.invariant works)) c.in_ok-path.ensures
+
+pub check_set_attr-requires : goal.check_set_attr-requires
+check_set_attr-requires g c = c.self.invariant
+
+pub returns-clause-answers : goal.returns-clause-answers
+returns-clause-answers g c =
+    let h = c.in_ok-path.ensures in
+    with_files c.args.self.now (ops.SetAttr c.args.path.now c.args.kind c.args.value.now) (reply_in (λ u. ops.Done) c.set_attr.result) c.set_attr.new.self (files_seen c.self.inside.tree c.self.inside.files) (files_seen c.set_attr.new.self c.self.inside.files)
+    (λ works. (set_attr_left _ c.self.inside.tree c.check_set_attr.new.tree c.set_attr.new.self c.self.inside.files c.args.path.now c.args.kind c.args.value.now c.set_attr.result c.open_files_stay.ensures.stay c.self.invariant h.0 h.1 c.set_attr.ensures.done (λ f. f c.args.path.now (sym h.2)) c.set_attr.ensures.broken works).same)
+    (done_answers _ (held_of c.self.inside.tree c.self.inside.files) _ (ops.SetAttr c.args.path.now c.args.kind c.args.value.now) c.check_set_attr.new.tree c.set_attr.new.self c.set_attr.result c.self.view_is (sound_by c.self.inside.tree c.self.inside.files c.self.invariant) h.0 h.1 refl refl refl refl refl refl refl
+    c.set_attr.ensures.done (λ f. f c.args.path.now (sym h.2)) c.set_attr.ensures.broken c.set_attr.ensures.errors)
+
+pub returns-in_err-path-clause-answers : goal.returns-in_err-path-clause-answers
+returns-in_err-path-clause-answers g c =
+    files_asked c.args.self.now (ops.SetAttr c.args.path.now c.args.kind c.args.value.now) (reply_in (λ u. ops.Done) c.from_residual.result) c.self.inside.tree c.check_set_attr.new.tree c.self.inside.files (asked_by_checks c.self.inside.tree c.self.inside.files (ops.SetAttr c.args.path.now c.args.kind c.args.value.now) _ c.check_set_attr.result c.check_set_attr.new.tree c.check_set_attr.ensures)
+    (ended_call (held_of c.self.inside.tree c.self.inside.files) _ (ops.SetAttr c.args.path.now c.args.kind c.args.value.now) (λ u. ops.Done) _ c.check_set_attr.new.tree c.from_residual.result c.self.view_is (sound_by c.self.inside.tree c.self.inside.files c.self.invariant) refl c.in_err-path.ensures
+    (given_on _ c.from_residual.result c.from_residual.ensures.1))
+
+pub invariant_of-self : goal.invariant_of-self
+invariant_of-self g c = checked_ready c.self.inside.tree c.self.inside.files (ops.SetAttr c.args.path.now c.args.kind c.args.value.now) _ c.check_set_attr.result c.check_set_attr.new.tree c.self.invariant c.check_set_attr.ensures
+
+pub invariant_of-self-2 : goal.invariant_of-self-2
+invariant_of-self-2 g c = λ works.
+    let h = c.in_ok-path.ensures in
+    (set_attr_left _ c.self.inside.tree c.check_set_attr.new.tree c.set_attr.new.self c.self.inside.files c.args.path.now c.args.kind c.args.value.now c.set_attr.result c.open_files_stay.ensures.stay c.self.invariant h.0 h.1 c.set_attr.ensures.done (λ f. f c.args.path.now (sym h.2)) c.set_attr.ensures.broken works).ready
+
+-- where power is lost
+pub returns-in_err-path-clause-survives : goal.returns-in_err-path-clause-survives
+returns-in_err-path-clause-survives g c =
+    only_read (held_of c.self.inside.tree c.self.inside.files) _ (ops.SetAttr c.args.path.now c.args.kind c.args.value.now) c.check_set_attr.new.tree c.self.view_is (sound_by c.self.inside.tree c.self.inside.files c.self.invariant) (reads_of_ended (held_of c.self.inside.tree c.self.inside.files) (ops.SetAttr c.args.path.now c.args.kind c.args.value.now) _ c.check_set_attr.new.tree c.in_err-path.ensures)
+
+pub returns-clause-survives : goal.returns-clause-survives
+returns-clause-survives g c =
+    let h = c.in_ok-path.ensures in
+    asked_changed (held_of c.self.inside.tree c.self.inside.files) _ (ops.SetAttr c.args.path.now c.args.kind c.args.value.now) c.check_set_attr.new.tree c.set_attr.new.self _ c.self.view_is (sound_by c.self.inside.tree c.self.inside.files c.self.invariant) h.1 h.0
+    (called_by (ops.SetAttr c.args.path.now c.args.kind c.args.value.now) c.check_set_attr.new.tree c.set_attr.new.self c.set_attr.result c.set_attr.ensures.done (λ f. f c.args.path.now (sym h.2)) c.set_attr.ensures.broken) c.set_attr.ensures.survives
+    (ap₂ (λ p t. with_attributes_changed p (put_attribute c.args.kind c.args.value.now) t) h.2 (ap tree_seen h.0.same))

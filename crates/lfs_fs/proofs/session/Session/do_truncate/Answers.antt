@@ -1,0 +1,84 @@
+use Rattle.std.proofs.Common.{◌<◌, ◌∙◌, Some, length, ap, is_some, refl, sym, subst}
+use Rattle.lfs_model.specs.Operations as ops
+use Rattle.lfs_model.specs.Run.{IsTurn}
+use Rattle.lfs_fs.specs.FileSeen.{entry_of, writer_in, writers_in}
+use Rattle.lfs_fs.specs.Held.{IsReady, held_of, moment_of}
+use Rattle.lfs_fs.proofs.Answered.{ended_kept, sound_by, not_failed}
+use Rattle.lfs_fs.proofs.Errors.{given_on}
+use Rattle.lfs_fs.proofs.Truncating.{alone, can_now, length_left, let_go, other_size, put_again, ready_with, same_size, some_writer, works_now}
+use Rattle.lfs_fs.proofs.Stopping.{kept_call, tree_changed}
+use Rattle.lfs_fs.proofs.session.Session.do_truncate.Goals as goal
+
+pub returns-in_err-check_truncate-clause-answers : goal.returns-in_err-check_truncate-clause-answers
+returns-in_err-check_truncate-clause-answers g c =
+    ended_kept (held_of c.self.inside.tree c.self.inside.files) _ (ops.Truncate c.args.fd c.args.size) (λ u. ops.Done) _ c.from_residual.result c.self.view_is (sound_by c.self.inside.tree c.self.inside.files c.self.invariant) refl c.in_err-check_truncate.ensures
+    (given_on _ c.from_residual.result c.from_residual.ensures.1)
+
+pub returns-then-has_size-clause-answers : goal.returns-then-has_size-clause-answers
+returns-then-has_size-clause-answers g c =
+    let h = c.in_ok-check_truncate.ensures in
+    let w = some_writer c.self.inside.files c.args.fd h.1 in
+    same_size c.self.inside.tree c.self.inside.files c.args.fd c.args.size _ w.0 c.self.view_is c.self.invariant h.0 w.1 (sym (c.has_size.ensures w.0 (ap writer_in w.1)) ∙ c.if-has_size.true)
+
+pub truncate_by-requires : goal.truncate_by-requires
+truncate_by-requires g c =
+    let h = c.in_ok-check_truncate.ensures in
+    let e = sym c.take.ensures.file ∙ c.in-Some-Writing.is ∙ ap Some c.in-Some-Writing.field-0-is in
+    let t = c.self.inside.tree in
+    let fs = c.self.inside.files in
+    can_now t fs c.args.fd c.args.size c.in-Some-Writing.writer e h.0 (c.self.invariant (works_now t fs c.args.fd c.args.size c.in-Some-Writing.writer e h.0)) (sym (c.has_size.ensures c.in-Some-Writing.writer (ap writer_in e)) ∙ c.if-has_size.false)
+
+pub put_back-requires-clause-inside : goal.put_back-requires-clause-inside
+put_back-requires-clause-inside g c =
+    let e = sym c.take.ensures.file ∙ c.in-Some-Writing.is ∙ ap Some c.in-Some-Writing.field-0-is in
+    subst (λ xs. c.args.fd < length xs) (sym c.take.ensures.left) (length_left c.self.inside.files c.args.fd (ap is_some e))
+
+pub put_back-requires-clause-free : goal.put_back-requires-clause-free
+put_back-requires-clause-free g c = ap (λ xs. entry_of xs c.args.fd) c.take.ensures.left ∙ let_go c.self.inside.files c.args.fd
+
+pub put_back-requires-clause-none : goal.put_back-requires-clause-none
+put_back-requires-clause-none g c =
+    let h = c.in_ok-check_truncate.ensures in
+    let e = sym c.take.ensures.file ∙ c.in-Some-Writing.is ∙ ap Some c.in-Some-Writing.field-0-is in
+    let t = c.self.inside.tree in
+    let fs = c.self.inside.files in
+    ap writers_in c.take.ensures.left ∙ (alone t fs c.args.fd c.args.size c.in-Some-Writing.writer e h.0 (c.self.invariant (works_now t fs c.args.fd c.args.size c.in-Some-Writing.writer e h.0))).without
+
+pub invariant_of-self-2 : goal.invariant_of-self-2
+invariant_of-self-2 g c f =
+    let h = c.in_ok-check_truncate.ensures in
+    let e = sym c.take.ensures.file ∙ c.in-Some-Writing.is ∙ ap Some c.in-Some-Writing.field-0-is in
+    let t = c.self.inside.tree in
+    let fs = c.self.inside.files in
+    let all = alone t fs c.args.fd c.args.size c.in-Some-Writing.writer e h.0 (c.self.invariant (works_now t fs c.args.fd c.args.size c.in-Some-Writing.writer e h.0)) in
+    subst (IsReady c.truncate_by.new.tree) (sym (put_again fs c.take.new.self c.put_back.new.self c.args.fd c.in_ok-writer.writer c.take.ensures.left c.put_back.ensures))
+    (ready_with t c.truncate_by.new.tree fs c.args.fd c.in-Some-Writing.writer c.in_ok-writer.writer _ all c.in_ok-writer.ensures.written c.in_ok-writer.ensures.beside
+    (c.self.invariant (works_now t fs c.args.fd c.args.size c.in-Some-Writing.writer e h.0)).called)
+
+pub returns-clause-answers : goal.returns-clause-answers
+returns-clause-answers g c =
+    let h = c.in_ok-check_truncate.ensures in
+    let e = sym c.take.ensures.file ∙ c.in-Some-Writing.is ∙ ap Some c.in-Some-Writing.field-0-is in
+    let t = c.self.inside.tree in
+    let fs = c.self.inside.files in
+    subst (λ xs. IsTurn (moment_of c.args.self.now) (ops.Truncate c.args.fd c.args.size) ops.Done (moment_of (held_of c.truncate_by.new.tree xs))) (sym (put_again fs c.take.new.self c.put_back.new.self c.args.fd c.in_ok-writer.writer c.take.ensures.left c.put_back.ensures))
+    (other_size t c.truncate_by.new.tree fs c.args.fd c.args.size _ c.in-Some-Writing.writer c.in_ok-writer.writer c.self.view_is c.self.invariant h.0 e c.in_ok-writer.ensures.written c.in_ok-writer.ensures.beside)
+
+-- where power is lost
+pub returns-in_err-check_truncate-clause-survives : goal.returns-in_err-check_truncate-clause-survives
+returns-in_err-check_truncate-clause-survives g c =
+    kept_call (held_of c.self.inside.tree c.self.inside.files) _ (ops.Truncate c.args.fd c.args.size) c.self.view_is (sound_by c.self.inside.tree c.self.inside.files c.self.invariant)
+
+pub returns-then-has_size-clause-survives : goal.returns-then-has_size-clause-survives
+returns-then-has_size-clause-survives g c =
+    kept_call (held_of c.self.inside.tree c.self.inside.files) _ (ops.Truncate c.args.fd c.args.size) c.self.view_is (sound_by c.self.inside.tree c.self.inside.files c.self.invariant)
+
+pub returns-in_err-writer-clause-survives : goal.returns-in_err-writer-clause-survives
+returns-in_err-writer-clause-survives g c =
+    tree_changed (held_of c.self.inside.tree c.self.inside.files) _ (ops.Truncate c.args.fd c.args.size) c.truncate_by.new.tree _ c.self.view_is (sound_by c.self.inside.tree c.self.inside.files c.self.invariant) c.in_ok-check_truncate.ensures.0
+    (c.truncate_by.ensures.survives (sound_by c.self.inside.tree c.self.inside.files c.self.invariant (not_failed (held_of c.self.inside.tree c.self.inside.files) (ops.Truncate c.args.fd c.args.size) c.in_ok-check_truncate.ensures.0))) refl
+
+pub returns-clause-survives : goal.returns-clause-survives
+returns-clause-survives g c =
+    tree_changed (held_of c.self.inside.tree c.self.inside.files) _ (ops.Truncate c.args.fd c.args.size) c.truncate_by.new.tree _ c.self.view_is (sound_by c.self.inside.tree c.self.inside.files c.self.invariant) c.in_ok-check_truncate.ensures.0
+    (c.truncate_by.ensures.survives (sound_by c.self.inside.tree c.self.inside.files c.self.invariant (not_failed (held_of c.self.inside.tree c.self.inside.files) (ops.Truncate c.args.fd c.args.size) c.in_ok-check_truncate.ensures.0))) refl

@@ -1,0 +1,7 @@
+use Rattle.lfs_model.specs.Operations as ops
+use Rattle.lfs_fs.specs.Replies.{reply_in}
+use Rattle.lfs_fs.proofs.Withstanding.{call_withstands}
+use Rattle.lfs_fs.proofs.session.Session.open.Goals as goal
+
+pub returns-clause-withstands : goal.returns-clause-withstands
+returns-clause-withstands g c = call_withstands _ _ (reply_in ops.Opened c.do_open.result) _ c.tells.ensures c.tells-2.ensures c.do_open.ensures.answers c.do_open.ensures.survives

@@ -1,6 +1,6 @@
 -- A file that comes, as a step of the thread.
 use Rattle.std.proofs.Common.{ℕ, ◌≡◌, ◌≤◌, ◌&&◌, Bool, true, false, List, [], ◌∷◌, ◌++◌, length, Some, refl, sym, ap, ap₂, subst, ◌∙◌, arith, length-append, insert}
-use Rattle.std.specs.Prelude.{nat_le}
+use Rattle.std.specs.Prelude.{Contains, nat_le}
 use Rattle.std.specs.Option.{option_and_then}
 use Rattle.std.proofs.lemmas.Bool.{ne_eqb, leb-true}
 use Rattle.lfs_model.specs.TreeEdits.{added}
@@ -22,6 +22,7 @@ use Rattle.lfs_model.specs.Refusals.{as_path}
 use Rattle.lfs_model.specs.Thread.{Pair, blocks_of, next_of}
 use Rattle.lfs_model.specs.Session.{Session}
 use Rattle.lfs_model.specs.Tree.{Tree, FileNode}
+use Rattle.lfs_model.specs.View.{IsAccepted}
 use Rattle.lfs_model.specs.Shown.{Leads, entries_in, tree_in}
 use Rattle.lfs_model.proofs.Changes.{Follows}
 use Rattle.lfs_model.proofs.Committed.{IsCompleted, no_move_from, recovered_from, commit_step}
@@ -40,10 +41,11 @@ use Rattle.lfs_pair.specs.Commit.{made_at}
 use Rattle.lfs_thread.specs.Device.{StopsLeave}
 use Rattle.lfs_thread.specs.Kept.{Kept}
 use Rattle.lfs_thread.specs.Steps.{pair_in, made_in_thread}
-use Rattle.lfs_operations.specs.Changing.{CanPut, IsLeftByPut, IsPut}
+use Rattle.lfs_operations.specs.Changing.{Alters, CanPut, IsLeftByPut, IsPut}
 use Rattle.lfs_operations.specs.Creating.{CanCreate, IsCreated, file_changes, with_file}
+use Rattle.lfs_operations.proofs.Altered.{commit_alters}
 use Rattle.lfs_operations.proofs.Held.{CompletesTo, below, fits_there, here, raw_there}
-use Rattle.lfs_operations.proofs.Splicing.{Commits, IsSplicing}
+use Rattle.lfs_operations.proofs.Splicing.{Commits, IsSplicing, pair_is}
 use Rattle.lfs_operations.proofs.Stepped.{HasStep, becomes, put_step, ready_again, survives}
 
 -- ---- the parts of a file's slot
@@ -191,6 +193,15 @@ module _ (t : Kept) (index id : ℕ) (name : Name) (can : CanCreate t index id n
             completed = λ z given flags tree is_path. subst (λ x. IsCompleted t.disk x z (ops.Open given flags) new.disk new.pairs) (sym there)
                 (subst (λ x. IsCompleted t.disk (thread_at w (p ∷ [])) z (ops.Open given flags) new.disk x) (sym s.pairs) (done z given flags tree is_path));
           }
+
+  -- the pair has one slot more, or is cut
+  pub alters : (new : Kept) → IsPut t index (file_changes id name) new → Alters t index new
+  alters new is has = go (put_step t index (file_changes id name) w p b.left [] (u ∷ []) b.right [] [] splicing new is)
+    where
+      go : HasStep t w p b.left [] (u ∷ []) b.right [] [] new → ⊥
+      go s = commit_alters t.disk new.disk w p s.q [] b.left [] (u ∷ []) b.right (λ e. absurd (omega arith)) s.more
+          (subst (IsAccepted new.disk) s.pairs (created new is).now.ready.accepted) s.commit.commit
+          (subst (λ z. Contains z p) s.pairs (subst (Contains new.pairs) (pair_is t index (file_changes id name) w p b.left [] (u ∷ []) b.right [] [] splicing) has))
 
   pub create_survives : (new : List Event) → StopsLeave t.history new (IsLeftByPut t index (file_changes id name)) → Survives t.disk t.history new (tree_in t.disk t.pairs) (with_file t can.path name)
   create_survives new stops = survives t index (file_changes id name) w p b.left [] (u ∷ []) b.right [] [] splicing (added (can.path ++ name ∷ []) (FileNode [] []))

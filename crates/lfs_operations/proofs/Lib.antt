@@ -80,3 +80,4 @@ pub mod OntoTelling
 pub mod OntoWritten
 pub mod OntoPieces
 pub mod OntoAcross
+pub mod Altered

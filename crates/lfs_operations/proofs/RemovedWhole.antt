@@ -1,5 +1,5 @@
 -- A file that goes with its pair, which held nothing else and isn't the first of its directory, as a step of the thread.
-use Rattle.std.proofs.Common.{ℕ, ◌≡◌, ◌≢◌, ◌⊎◌, inl, inr, ◌+◌, ◌-◌, ◌≤◌, ◌&&◌, not, Bool, true, false, nat_eq, eqb-true, slice_get, List, [], ◌∷◌, ◌++◌, length, Option, Some, None, refl, sym, ap, ap₂, subst, ◌∙◌, arith, append_assoc, length-append}
+use Rattle.std.proofs.Common.{◌<◌, ℕ, ◌≡◌, ◌≢◌, ◌⊎◌, inl, inr, ◌+◌, ◌-◌, ◌≤◌, ◌&&◌, not, Bool, true, false, nat_eq, eqb-true, slice_get, List, [], ◌∷◌, ◌++◌, length, Option, Some, None, refl, sym, ap, ap₂, subst, ◌∙◌, arith, append_assoc, length-append}
 use Rattle.std.specs.List.{IsDistinct}
 use Rattle.std.proofs.lemmas.Bool.{eqb-false}
 use Rattle.std.proofs.lemmas.List.Elements.{recursion_from_All}
@@ -207,6 +207,9 @@ module _ (t : Kept) (index id first : ℕ) (can : CanEdit t index id) (begins : 
 
   gone_there : pair_in t (index - 1 + 1) ≡ o
   gone_there = gone_is t (index - 1) ahead x o back is number
+
+  pub below_whole : index - 1 + 1 < length t.pairs
+  below_whole = let e = place in let l = below t can.ready can.first index o can.stands.rest can.stands.place in omega arith
 
   pub can_drop_file : CanDropAt t index no_gstate
   can_drop_file = record {

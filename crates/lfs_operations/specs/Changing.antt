@@ -119,3 +119,7 @@ pub record Tells {X : Type 0} (old new : State) (result : Result X Error) : Type
 pub record TellsPut {X : Type 0} (old new : State) (index : ℕ) (changes : List Change) (result : Result X Error) : Type 0 where
   pub tells : Tells old new result
   pub too_large : result ≡ Err NoSpace → IsTooLarge old.kept index changes
+
+-- the pair doesn't stay with what it held
+abbrev pub Alters : Kept → ℕ → Kept → Type 0
+Alters old index new = Contains new.pairs (pair_in old index) → ⊥

@@ -3,7 +3,7 @@
 ghost use Rattle.std.specs.Prelude.{◌≡◌, false, OnOk};
 ghost use Rattle.lfs_model.specs.PowerLoss.{Survives};
 ghost use Rattle.lfs_model.specs.Shown.{tree_in};
-ghost use Rattle.lfs_operations.specs.Changing.{TellsPut, WritesIn};
+ghost use Rattle.lfs_operations.specs.Changing.{Alters, TellsPut, WritesIn};
 ghost use Rattle.lfs_operations.specs.Creating.{CanCreate, IsCreated, file_changes, with_file};
 
 use crate::changing::put;
@@ -30,6 +30,7 @@ pub fn create<D: BlockDevice>(
     requires works { thread.old.failed ≡ false }
     requires can { CanCreate thread.old.kept pair id name.now }
     ensures created { OnOk result ((can : CanCreate thread.old.kept pair id name.now) → IsCreated thread.old.kept thread.new.kept can.path name.now) }
+    ensures alters { OnOk result (Alters thread.old.kept pair thread.new.kept) }
     ensures errors { TellsPut thread.old thread.new pair (file_changes id name.now) result }
     ensures device { WritesIn thread.old.kept pair thread.new.kept }
     ensures survives { (can : CanCreate thread.old.kept pair id name.now) → Survives thread.old.kept.disk thread.old.kept.history thread.new.kept.history

@@ -1,10 +1,11 @@
 // Files that go from directories.
 
-ghost use Rattle.std.specs.Prelude.{◌≡◌, ◌<◌, length, false, OnOk};
+ghost use Rattle.std.specs.Prelude.{◌≡◌, ◌<◌, ◌-◌, length, false, true, OnOk};
 ghost use Rattle.lfs_model.specs.PowerLoss.{Survives};
 ghost use Rattle.lfs_model.specs.Shown.{tree_in};
 ghost use Rattle.lfs_thread.specs.Device.{two_of};
 ghost use Rattle.lfs_thread.specs.Steps.{Writes};
+ghost use Rattle.lfs_operations.specs.Changing.{Alters};
 ghost use Rattle.lfs_operations.specs.Editing.{slot_at};
 ghost use Rattle.lfs_operations.specs.Removing.{CanRemove, IsRemoved, TellsOfCalls, goes_whole, without_file, written_at};
 
@@ -40,6 +41,7 @@ pub fn remove_file<D: BlockDevice>(
     requires works { thread.old.failed ≡ false }
     requires can { CanRemove thread.old.kept pair id first }
     ensures is_removed { OnOk result ((take : CanRemove thread.old.kept pair id first) → IsRemoved thread.old.kept thread.new.kept take.can.path take.can.name (slot_at take.can).struct) }
+    ensures alters { OnOk result (goes_whole thread.old.kept pair first ≡ true → Alters thread.old.kept (pair - 1) thread.new.kept) }
     ensures errors { TellsOfCalls thread.old thread.new result }
     ensures device { Writes (two_of (written_at thread.old.kept pair first)) thread.old.kept thread.new.kept }
     ensures survives { (take : CanRemove thread.old.kept pair id first) → Survives thread.old.kept.disk thread.old.kept.history thread.new.kept.history

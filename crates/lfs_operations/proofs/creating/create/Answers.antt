@@ -2,7 +2,7 @@ use Rattle.std.proofs.Common.{ap, sym, subst, ◌∙◌, Err}
 use Rattle.std.proofs.lemmas.Result.{err_from_is_err_and}
 use Rattle.lfs_operations.specs.Changing.{TellsPut}
 use Rattle.lfs_operations.specs.Creating.{file_changes}
-use Rattle.lfs_operations.proofs.Created.{can_put, created, create_survives}
+use Rattle.lfs_operations.proofs.Created.{alters, can_put, created, create_survives}
 use Rattle.lfs_operations.proofs.creating.create.Goals as goal
 
 pub put-requires-clause-can : goal.put-requires-clause-can
@@ -21,3 +21,6 @@ returns-clause-created g c can = created c.args.thread.now.kept c.args.pair c.ar
 
 pub returns-clause-survives : goal.returns-clause-survives
 returns-clause-survives g c can = create_survives c.args.thread.now.kept c.args.pair c.args.id c.args.name.now can c.put.new.thread.kept.history c.put.ensures.stops
+
+pub returns-clause-alters : goal.returns-clause-alters
+returns-clause-alters g c = alters c.args.thread.now.kept c.args.pair c.args.id c.args.name.now (c.requires.can) c.put.new.thread.kept c.in_ok-put.ensures.is_put

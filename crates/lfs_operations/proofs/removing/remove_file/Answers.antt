@@ -1,6 +1,6 @@
 use Rattle.std.proofs.Common.{ap, sym, subst, ◌∙◌, ◌≡◌, ◌-◌, Ok, Err, false}
 use Rattle.std.proofs.lemmas.Result.{err_from_is_err_and}
-use Rattle.lfs_model.specs.Slots.{Gstate}
+use Rattle.lfs_model.specs.Slots.{Gstate, no_gstate}
 use Rattle.lfs_pair.specs.declared.committing.Outcome.{Outcome}
 use Rattle.lfs_pair.specs.declared.committing.Outcome.TheVariants as outcome
 use Rattle.lfs_thread.specs.Device.{StopsLeave}
@@ -8,7 +8,8 @@ use Rattle.lfs_operations.specs.Dropping.{CanDropAt, HasDroppedBehind, IsLeftByD
 use Rattle.lfs_operations.specs.Editing.{slot_at}
 use Rattle.lfs_operations.specs.Removing.{IsRemoved, goes_whole}
 use Rattle.lfs_operations.proofs.Removed.{can_delete, gone, not_refused, remove_survives, tells_again}
-use Rattle.lfs_operations.proofs.RemovedWhole.{can_drop_file, gone_whole, whole_survives}
+use Rattle.lfs_operations.proofs.Altered.{drop_alters}
+use Rattle.lfs_operations.proofs.RemovedWhole.{below_whole, can_drop_file, gone_whole, whole_survives}
 use Rattle.lfs_operations.proofs.removing.remove_file.Goals as goal
 
 pub drop_at-requires-clause-can : goal.drop_at-requires-clause-can
@@ -55,3 +56,11 @@ returns-clause-is_removed g c take = by c.in_ok-change.field-0 c.in_ok-change.wa
 pub returns-clause-survives : goal.returns-clause-survives
 returns-clause-survives g c take =
     remove_survives c.args.thread.now.kept c.args.pair c.args.id c.args.first take (sym c.goes_with_slot.ensures ∙ c.if-goes_with_slot.false) c.change.new.self.kept.history c.change.ensures.stops
+
+pub returns-then-goes_with_slot-clause-alters : goal.returns-then-goes_with_slot-clause-alters
+returns-then-goes_with_slot-clause-alters g c whole =
+    drop_alters c.args.thread.now.kept (c.args.pair - 1) no_gstate c.drop_at.new.thread.kept (below_whole c.args.thread.now.kept c.args.pair c.args.id c.args.first c.requires.can.can c.requires.can.begins whole) c.requires.can.can.ready.accepted
+    (subst (λ (s : Gstate). HasDroppedBehind c.args.thread.now.kept (c.args.pair - 1) s c.drop_at.new.thread.kept) c.none.ensures c.in_ok-drop_at.ensures.is_dropped)
+
+pub returns-clause-alters : goal.returns-clause-alters
+returns-clause-alters g c whole = absurd (let k = sym whole ∙ sym c.goes_with_slot.ensures ∙ c.if-goes_with_slot.false in cc)

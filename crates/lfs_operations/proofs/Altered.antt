@@ -1,0 +1,114 @@
+-- A pair that gets more slots or fewer, or is cut, doesn't stay with what it held.
+use Rattle.std.proofs.Common.{ℕ, zero, suc, ◌≡◌, ◌≢◌, ◌⊎◌, inl, inr, ◌+◌, ◌<◌, true, false, List, [], ◌∷◌, ◌++◌, length, Option, Some, refl, sym, ap, subst, ◌∙◌, arith, append-nil, append_assoc, length-append}
+use Rattle.std.specs.Prelude.{Contains}
+use Rattle.std.specs.List.{IsDistinct}
+use Rattle.std.proofs.Common.{nat_eq}
+use Rattle.std.proofs.lemmas.Option.{same_Some}
+use Rattle.lfs_model.specs.Disk.{Disk}
+use Rattle.lfs_model.specs.Slots.{Gstate, Slot, same_pair}
+use Rattle.lfs_model.specs.Thread.{Links, Pair, anchor, blocks_of, next_of}
+use Rattle.lfs_model.specs.View.{IsAccepted}
+use Rattle.lfs_model.proofs.Committed.{IsCommit}
+use Rattle.lfs_model.proofs.Counts.{Each}
+use Rattle.lfs_model.proofs.Pairs.{pair_itself}
+use Rattle.lfs_model.proofs.Searches.{avoids_behind, avoids_front}
+use Rattle.lfs_model.proofs.Sites.{Among, Site, among_parts, thread_at}
+use Rattle.lfs_operations.specs.Changing.{Alters}
+use Rattle.lfs_operations.specs.Dropping.{HasDroppedBehind, with_tail_taken}
+use Rattle.lfs_operations.proofs.DroppedTails.{TwoAt, front_is, gone_is, over_next, two_at, without_is}
+use Rattle.lfs_thread.specs.Kept.{Kept}
+use Rattle.lfs_thread.specs.Steps.{pair_in}
+
+-- ---- a pair in a thread
+
+pub among_contains : (p : Pair) (xs : List Pair) → Contains xs p → Among (λ y. y ≡ p) xs
+among_contains p [] (k, l, e) = absurd (omega arith)
+among_contains p (x ∷ xs) (zero, l, e) = inl e
+among_contains p (x ∷ xs) (suc k, l, e) = inr (among_contains p xs (k, omega arith, e))
+
+avoided : (p : Pair) (xs : List Pair) → Each (λ x. same_pair x.at p.at ≡ false) xs → Among (λ y. y ≡ p) xs → ⊥
+avoided p [] h a = a
+avoided p (x ∷ xs) h (inl e) = absurd (let k = sym (pair_itself p.at) ∙ ap (λ (y : Pair). same_pair y.at p.at) (sym e) ∙ h.0 in cc)
+avoided p (x ∷ xs) h (inr a) = avoided p xs h.1 a
+
+-- the pair at an address is the only one there
+pub only_there : (xs : List Pair) (q : Pair) (ys : List Pair) (p : Pair) → IsDistinct nat_eq (blocks_of (xs ++ q ∷ ys)) → q.at ≡ p.at → Contains (xs ++ q ∷ ys) p → q ≡ p
+only_there xs q ys p distinct e has = go (among_parts (λ y. y ≡ p) xs (q ∷ ys) (among_contains p (xs ++ q ∷ ys) has))
+  where
+    same : same_pair q.at p.at ≡ true
+    same = ap (λ a. same_pair a p.at) e ∙ pair_itself p.at
+
+    go : Among (λ y. y ≡ p) xs ⊎ Among (λ y. y ≡ p) (q ∷ ys) → q ≡ p
+    go (inl h) = absurd (avoided p xs (avoids_front xs q ys p.at distinct same) h)
+    go (inr (inl h)) = h
+    go (inr (inr h)) = absurd (avoided p ys (avoids_behind xs q ys p.at distinct same) h)
+
+links_behind : (at : Option (ℕ × ℕ)) (xs ys : List Pair) → Links at (xs ++ ys) → (to : Option (ℕ × ℕ)) × Links to ys
+links_behind at [] ys h = (at, h)
+links_behind at (x ∷ xs) ys h = links_behind (next_of x.content.tail) xs ys h.1
+
+-- no pair's tail names it
+names_another : (xs : List Pair) (f : Pair) (ys : List Pair) → Links (Some anchor) (xs ++ f ∷ ys) → IsDistinct nat_eq (blocks_of (xs ++ f ∷ ys)) → next_of f.content.tail ≡ Some f.at → ⊥
+names_another xs f [] links distinct e = absurd (let k = sym e ∙ (links_behind (Some anchor) xs (f ∷ []) links).1.1 in cc)
+names_another xs f (g ∷ ys) links distinct e =
+    let k = (links_behind (Some anchor) xs (f ∷ g ∷ ys) links).1.1.0 in
+    let same : f.at ≡ g.at = same_Some f.at g.at (sym e ∙ k) in
+    avoided g (g ∷ ys) (avoids_behind xs f (g ∷ ys) g.at distinct (ap (λ a. same_pair a g.at) same ∙ pair_itself g.at)) (inl refl)
+
+-- ---- a commit
+
+module _ (disk new : Disk) (w : Site) (p q : Pair) (fresh : List ℕ) (l olds news r : List Slot) (more : length news ≢ length olds) where
+  abbrev ahead : List Pair
+  ahead = w.chain ++ (w.before ++ w.left)
+
+  abbrev behind : List Pair
+  behind = w.right ++ w.after
+
+  counted : (xs : List Slot) → length (l ++ (xs ++ r)) ≡ length l + (length xs + length r)
+  counted xs = let a = length-append l (xs ++ r) in let b = length-append xs r in omega arith
+
+  -- the pair holds other slots
+  other_slots : q ≡ p → q.content.slots ++ [] ≡ l ++ (news ++ r) → p.content.slots ≡ l ++ (olds ++ r) → ⊥
+  other_slots e now was =
+      let a = ap length (sym (append-nil q.content.slots) ∙ now) ∙ counted news in
+      let b = ap length was ∙ counted olds in
+      let c = ap (λ (z : Pair). length z.content.slots) e in
+      more (omega arith)
+
+  -- or its tail names the new one
+  other_tail : (f : Pair) → q ≡ p → q.content.tail ≡ Some (record { hard = true; to = f.at }) → f.content.tail ≡ p.content.tail → next_of f.content.tail ≡ Some f.at
+  other_tail f e first second = ap next_of (second ∙ ap (λ (z : Pair). z.content.tail) (sym e) ∙ first)
+
+  pub commit_alters : (rest : List Pair) → IsAccepted new (thread_at w (q ∷ rest)) → IsCommit disk new w p q rest fresh l olds news r → Contains (thread_at w (q ∷ rest)) p → ⊥
+  commit_alters [] ok c has =
+      let e = sym (append_assoc w.chain (w.before ++ w.left) (q ∷ behind)) in
+      other_slots (only_there ahead q behind p (subst (λ z. IsDistinct nat_eq (blocks_of z)) e ok.thread.distinct) c.at (subst (λ z. Contains z p) e has)) c.is c.was
+  commit_alters (f ∷ []) ok c has =
+      let e = sym (append_assoc w.chain (w.before ++ w.left) (q ∷ f ∷ behind)) in
+      let is = only_there ahead q (f ∷ behind) p (subst (λ z. IsDistinct nat_eq (blocks_of z)) e ok.thread.distinct) c.at (subst (λ z. Contains z p) e has) in
+      let g = e ∙ sym (append_assoc ahead (q ∷ []) (f ∷ behind)) in
+      names_another (ahead ++ q ∷ []) f behind (subst (λ z. Links (Some anchor) z) g ok.thread.links) (subst (λ z. IsDistinct nat_eq (blocks_of z)) g ok.thread.distinct)
+      (other_tail f is c.became.0 c.became.1)
+  commit_alters (f ∷ g ∷ rest) ok c has = absurd c.became
+
+-- ---- a pair takes over the tail of the one behind it
+
+pub drop_alters : (t : Kept) (front : ℕ) (state : Gstate) (new : Kept) → front + 1 < length t.pairs → IsAccepted t.disk t.pairs → HasDroppedBehind t front state new → Alters t front new
+drop_alters t front state new low ok d = go (two_at t.pairs front low)
+  where
+    go : TwoAt t.pairs front → Alters t front new
+    go two has =
+        let p = two.one in
+        let o = two.other in
+        let c = with_tail_taken t front state in
+        let q : Pair = record { at = p.at; content = c } in
+        let here = front_is t front two.ahead p o two.back two.is two.number in
+        let next = gone_is t front two.ahead p o two.back two.is two.number in
+        let now = d.pairs ∙ without_is t front two.ahead p o two.back two.is two.number c in
+        let same : q ≡ p = only_there two.ahead q two.back p (subst (λ z. IsDistinct nat_eq (blocks_of z)) now d.thread.distinct) refl (subst (Contains (two.ahead ++ q ∷ two.back)) here (subst (λ z. Contains z (pair_in t front)) now has)) in
+        let links = (links_behind (Some anchor) two.ahead (p ∷ o ∷ two.back) (subst (λ z. Links (Some anchor) z) two.is ok.thread.links)).1 in
+        let taken : next_of c.tail ≡ next_of o.content.tail
+        = over_next (pair_in t front).content.tail (pair_in t (front + 1)).content.tail ∙ ap (λ (z : Pair). next_of z.content.tail) next in
+        let names : next_of o.content.tail ≡ Some o.at = sym taken ∙ ap (λ (z : Pair). next_of z.content.tail) same ∙ links.1.0 in
+        let is = two.is ∙ sym (append_assoc two.ahead (p ∷ []) (o ∷ two.back)) in
+        names_another (two.ahead ++ p ∷ []) o two.back (subst (λ z. Links (Some anchor) z) is ok.thread.links) (subst (λ z. IsDistinct nat_eq (blocks_of z)) is ok.thread.distinct) names

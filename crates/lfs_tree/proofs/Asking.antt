@@ -13,12 +13,12 @@ use Rattle.lfs_model.specs.PowerLoss.{Survives}
 use Rattle.lfs_model.specs.Tree.{Tree}
 use Rattle.lfs_model.specs.Shown.{tree_in}
 use Rattle.lfs_thread.specs.Kept.{Kept, State}
-use Rattle.lfs_tree.specs.Carrying.{Carries}
+use Rattle.lfs_tree.specs.Carrying.{Carries, Spares}
 use Rattle.lfs_tree.specs.Held.{IsHeld, IsRooted, seen_image, seen_kept}
 use Rattle.lfs_tree.specs.declared.image.Image.{Image}
 use Rattle.lfs_tree.specs.declared.image.Image.TheVariants as image
 use Rattle.lfs_tree.specs.Reading.{IsReading}
-use Rattle.lfs_tree.specs.Seen.{Seen, IsAsked, IsBrokenAsking, IsCarried, IsError, tree_seen}
+use Rattle.lfs_tree.specs.Seen.{Seen, IsAsked, IsBrokenAsking, IsCarried, IsError, tree_seen, LeavesRest}
 use Rattle.lfs_tree.proofs.Mounting.{sound_read}
 use Rattle.lfs_tree.proofs.Reading.{same_error}
 
@@ -77,6 +77,9 @@ module _ {D : Type 0} (g : Ghosts D) (held : Image D) (thread : State) (root : �
       subst (λ a. IsCarried now op (seen_kept new a failed)) (sym (ap (λ (s : Seen). s.writable) seen_mounted ∙ w))
       (subst (λ b. IsCarried now op (seen_kept new true b)) (sym (ap (λ (s : Seen). s.failed) seen_mounted ∙ e))
       (subst (λ s. IsCarried s op (seen_kept new true false)) (sym (seen_working e w)) c))
+
+  pub spares_working : now.failed ≡ false → now.writable ≡ true → (new : Kept) (op : Operation) → Spares thread.kept op new → LeavesRest now op (seen_kept new writable failed)
+  spares_working e w new op c = subst (λ s. LeavesRest s op (seen_kept new writable failed)) (sym (seen_working e w)) c
 
   -- and so is what a loss of power on its way leaves
   pub survives_working : now.failed ≡ false → now.writable ≡ true → (new : List Event) (f : Tree → Tree) → Survives thread.kept.disk thread.kept.history new (tree_in thread.kept.disk thread.kept.pairs) (f (tree_in thread.kept.disk thread.kept.pairs)) →

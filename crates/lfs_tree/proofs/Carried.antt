@@ -1,5 +1,5 @@
 -- An operation that is carried out, by what its steps say.
-use Rattle.std.proofs.Common.{ℕ, zero, suc, ◌≡◌, ◌≢◌, ◌⊎◌, inl, inr, ◌<◌, ◌∙◌, true, false, List, [], ◌∷◌, ◌++◌, length, refl, sym, ap, subst, append_assoc, length-append, slice_index_or, arith}
+use Rattle.std.proofs.Common.{ℕ, zero, suc, ◌≡◌, ◌≢◌, ◌⊎◌, inl, inr, ◌<◌, ◌≤◌, ◌∙◌, true, false, List, [], ◌∷◌, ◌++◌, length, refl, sym, ap, subst, append_assoc, length-append, slice_index_or, arith}
 use Rattle.std.specs.Prelude.{All, Contains, slice_get}
 use Rattle.std.specs.List.{AllByRecursion}
 use Rattle.std.proofs.lemmas.List.Elements.{All-from_recursion}
@@ -7,31 +7,32 @@ use Rattle.std.proofs.lemmas.Option.{same_Some}
 use Rattle.lfs_model.specs.TreeEdits.{is_file}
 use Rattle.lfs_model.specs.BlockSets.{AreUsed, BlockSets, IsFree, IsInFlight, IsUsed}
 use Rattle.lfs_model.specs.BlockSets.BlockState.{Free, InFlight, Used}
-use Rattle.lfs_model.specs.Disk.{Disk}
+use Rattle.lfs_model.specs.Disk.{Disk, block_at}
 use Rattle.lfs_model.specs.History.{Event, OnlyReads}
 use Rattle.lfs_model.specs.InDirectory.{IsBehind}
 use Rattle.lfs_model.specs.Keeping.{struct_at}
 use Rattle.lfs_model.specs.Operations.{Operation}
 use Rattle.lfs_model.specs.Run.{is_recover, renames_to_itself}
 use Rattle.lfs_model.specs.Session.{Files}
-use Rattle.lfs_model.specs.Slots.{no_gstate}
+use Rattle.lfs_model.specs.Slots.{Slot, no_gstate}
 use Rattle.lfs_model.specs.Thread.{Pair, blocks_of, gstate_of}
 use Rattle.lfs_model.specs.Tree.{Path}
 use Rattle.lfs_model.specs.View.{IsAccepted}
 use Rattle.lfs_model.specs.Profile.{IsWritable}
-use Rattle.lfs_model.specs.Shown.{tree_in, used_blocks}
+use Rattle.lfs_model.specs.Shown.{all_slots, file_blocks, tree_in, used_blocks}
 use Rattle.lfs_model.proofs.Arranged.{arranged_settled}
 use Rattle.lfs_model.proofs.BlockSets.{Contains-head, Contains-tail, Contains-count, count-Contains}
 use Rattle.lfs_model.proofs.Committed.{IsCompleted, recovered_from}
-use Rattle.lfs_model.proofs.Counts.{count_append, each_from_counted, each_weaker}
+use Rattle.lfs_model.proofs.Counts.{Each, count, count_append, each_from_counted, each_pieces, each_weaker, once_from_distinct}
 use Rattle.lfs_model.proofs.Histories.{unprogrammed-reads}
 use Rattle.lfs_model.proofs.KeptStructs.{none_stored}
+use Rattle.lfs_model.proofs.Splices.{files_of}
 use Rattle.lfs_operations.specs.MovingSteps.{WritesAmong}
 use Rattle.lfs_operations.specs.Ready.{IsReady}
 use Rattle.lfs_thread.specs.Kept.{Kept}
 use Rattle.lfs_thread.specs.Steps.{IsOnlyRead, Writes, no_pair, pair_in}
 use Rattle.lfs_tree.specs.Carrying.{Carries}
-use Rattle.lfs_tree.specs.KeepsFiles.{KeepsFile, list_at}
+use Rattle.lfs_tree.specs.KeepsFiles.{KeepsFile, ListsStay, list_at}
 use Rattle.lfs_tree.proofs.KeptFiles.{keeps_by, list_used, no_pairs}
 
 -- the same thread, after other calls
@@ -108,6 +109,34 @@ pub keeps_writing : (a c : Kept) (bs : List ℕ) → IsAccepted a.disk a.pairs �
 keeps_writing a c bs accepted used each w path file same =
     keeps_by a c path file same (record { block_size = w.shape.block_size; page = w.shape.page; count = w.shape.count }) (λ b has. w.others.others b (apart_listed a bs accepted used each path b has))
 
+-- ---- the lists of all files
+
+-- none of their blocks is one of these
+pub apart_files : (t : Kept) (bs : List ℕ) → IsAccepted t.disk t.pairs → AreUsed t.map (used_blocks t.disk t.pairs) → AllByRecursion (IsPairsOrFree t) bs → (b : ℕ) → 1 ≤ count b (files_of t.disk (all_slots t.pairs)) → All (λ c. c ≢ b) bs
+apart_files t bs accepted used each b some = All-from_recursion (λ c. c ≢ b) bs (each_weaker (IsPairsOrFree t) (λ c. c ≢ b) other bs each)
+  where
+    here : IsUsed t.map b
+    here = let e = count_append b (blocks_of t.pairs) (files_of t.disk (all_slots t.pairs)) in (used b).1 (Contains-count (used_blocks t.disk t.pairs) b (omega arith))
+
+    other : (c : ℕ) → IsPairsOrFree t c → c ≢ b
+    other c (inl h) e =
+        let k = count-Contains (blocks_of t.pairs) b (subst (Contains (blocks_of t.pairs)) e h) in
+        let f = count_append b (blocks_of t.pairs) (files_of t.disk (all_slots t.pairs)) in
+        let o = once_from_distinct (used_blocks t.disk t.pairs) accepted.owned_once b in
+        absurd (omega arith)
+    other c (inr free) e = let k : Free ≡ Used = same_Some Free Used (sym (subst (IsFree t.map) e free) ∙ here) in absurd (cc)
+
+pub lists_from : (disk new : Disk) (ps : List Pair) → ((b : ℕ) → 1 ≤ count b (files_of disk (all_slots ps)) → block_at new b ≡ block_at disk b) → ListsStay disk ps new
+lists_from disk new ps h =
+    All-from_recursion (λ (s : Slot). All (λ b. block_at new b ≡ block_at disk b) (file_blocks disk s.struct)) (all_slots ps)
+    (each_weaker (λ (s : Slot). Each (λ b. block_at new b ≡ block_at disk b) (file_blocks disk s.struct)) (λ (s : Slot). All (λ b. block_at new b ≡ block_at disk b) (file_blocks disk s.struct))
+    (λ s k. All-from_recursion (λ b. block_at new b ≡ block_at disk b) (file_blocks disk s.struct) k) (all_slots ps)
+    (each_pieces (λ b. block_at new b ≡ block_at disk b) (λ (s : Slot). file_blocks disk s.struct) (all_slots ps) (each_from_counted (λ b. block_at new b ≡ block_at disk b) (files_of disk (all_slots ps)) h)))
+
+-- they stay where such blocks are written
+pub lists_stay : (t c : Kept) (bs : List ℕ) → IsAccepted t.disk t.pairs → AreUsed t.map (used_blocks t.disk t.pairs) → AllByRecursion (IsPairsOrFree t) bs → Writes bs t c → ListsStay t.disk t.pairs c.disk
+lists_stay t c bs accepted used each w = lists_from t.disk c.disk t.pairs (λ b some. w.others.others b (apart_files t bs accepted used each b some))
+
 pub all_pairs : (t : Kept) → AllByRecursion (IsPairsOrFree t) (blocks_of t.pairs)
 all_pairs t = each_from_counted (IsPairsOrFree t) (blocks_of t.pairs) (λ b some. inl (Contains-count (blocks_of t.pairs) b some))
 
@@ -158,6 +187,7 @@ carried a h op c w other asks = record {
   keeps = λ path file away.
       let k = keeps_writing (with_history a h) c w.writes.blocks w.accepted w.used w.writes.each wrote path file ((w.completed []).structs path file away (none_stored (tree_in a.disk a.pairs) op path)) in
       record { file = k.file; list = k.list; bytes = k.bytes };
+  lists = λ none. lists_stay (with_history a h) c w.writes.blocks w.accepted w.used w.writes.each wrote;
 }
   where
     wrote : Writes w.writes.blocks (with_history a h) c

@@ -4,6 +4,9 @@ use Rattle.std.specs.List.{list_all}
 use Rattle.std.proofs.lemmas.Bool.{ltb-false}
 use Rattle.std.proofs.lemmas.Option.{same_Some}
 use Rattle.lfs_device.specs.Bytes.{HasBytes}
+use Rattle.lfs_model.specs.Discipline.{LeavesAlone}
+use Rattle.lfs_model.specs.Session.{Files}
+use Rattle.lfs_model.specs.Thread.{Pair}
 use Rattle.lfs_model.specs.TreeEdits.{added, last_name}
 use Rattle.lfs_model.specs.BlockSets.{BlockSets, IsInFlight}
 use Rattle.lfs_model.specs.BlockSets.BlockState.{Free, InFlight}
@@ -11,17 +14,20 @@ use Rattle.lfs_model.specs.Disk.{entry_limit}
 use Rattle.lfs_model.specs.History.{Event, OnlyReads}
 use Rattle.lfs_model.specs.Names.{Name, is_component, is_name}
 use Rattle.lfs_model.specs.Operations as ops
-use Rattle.lfs_model.specs.Operations.{Flags}
+use Rattle.lfs_model.specs.Operations.{Flags, Operation}
 use Rattle.lfs_model.specs.Slots.{charge_of}
 use Rattle.lfs_model.specs.Refusals.{as_path}
 use Rattle.lfs_model.specs.Tree.{Path, Tree, DirectoryNode, FileNode}
 use Rattle.lfs_model.specs.Shown.{tree_in}
 use Rattle.lfs_model.proofs.Paths.{last_is}
-use Rattle.lfs_operations.specs.Changing.{WritesIn}
+use Rattle.lfs_operations.proofs.Held.{here}
+use Rattle.lfs_operations.specs.Changing.{WritesIn, Alters}
 use Rattle.lfs_operations.specs.Creating.{CanCreate, IsCreated, with_file}
 use Rattle.lfs_operations.specs.Making.{CanMake, IsMade, WritesUpTo, with_directory}
 use Rattle.lfs_operations.specs.Ready.{IsReady, StayTaken}
 use Rattle.lfs_thread.specs.Kept.{Kept, State}
+use Rattle.lfs_thread.specs.Steps.{Writes, pair_in}
+use Rattle.lfs_tree.proofs.LeftAlone.{rest_left_alone}
 use Rattle.lfs_tree.specs.Allowed.{CanAdd}
 use Rattle.lfs_tree.specs.Carrying.{Carries, IsAtRest, IsPlaceFor, IsVacant, SurvivesTo}
 use Rattle.lfs_tree.specs.Held.{seen_kept}
@@ -30,6 +36,7 @@ use Rattle.lfs_tree.proofs.Carried.{among_one, among_two, behind_below, carried,
 use Rattle.lfs_tree.proofs.CarryLogged.{logged_there}
 use Rattle.lfs_tree.proofs.CarrySurvives.{survives_behind}
 use Rattle.lfs_tree.proofs.CarryRooms.{last_is_name, room_for}
+use Rattle.std.specs.Prelude.{Contains}
 
 pub ready_to : (t : State) (root : ℕ) (h : List Event) → IsAtRest t root → 1024 ≤ t.kept.disk.block_size → IsReady (with_history t.kept h)
 ready_to t root h rests large = record {
@@ -115,6 +122,16 @@ module _ (t : State) (root : ℕ) (rests : IsAtRest t root) (path : Path) (compo
           writes = writes.writes;
         };
       }) refl refl
+
+  pub created_alone : (c : Kept) (op : Operation) (files : Files) → WritesIn (with_history t.kept h) spot.pair c → Alters (with_history t.kept h) spot.pair c
+      → LeavesAlone t.kept.disk t.kept.pairs (record { tree = tree_in t.kept.disk t.kept.pairs; files = files }) op c.disk c.pairs
+  created_alone c op files w alters =
+      let b = place.belongs in
+      let is : pair_in t.kept spot.pair ≡ b.pair = here (with_history t.kept h) (ready_to t root h rests large) place.first spot.pair b.pair (b.later ++ b.rest) b.place in
+      rest_left_alone (with_history t.kept h) c place.first spot.pair b.pair (b.later ++ b.rest) w.fresh (record { tree = tree_in t.kept.disk t.kept.pairs; files = files }) op
+      rests.held.sound.accepted rests.held.sound.used b.place w.free
+      (subst (λ (z : Pair). Writes (z.at.0 ∷ z.at.1 ∷ w.fresh) (with_history t.kept h) c) is w.writes)
+      (λ has n. alters (subst (Contains c.pairs) (sym is) has))
 
   pub made_at : (c : Kept) (given : List ℕ) → OnlyReads t.kept.disk.blocks t.kept.history h → WritesUpTo (with_history t.kept h) spot.pair c
       → ((can : CanMake (with_history t.kept h) spot.pair spot.id name) → IsMade (with_history t.kept h) c can.path name) → 4 ≤ need → as_path given ≡ path → Carries t.kept (ops.Mkdir given) c

@@ -1,11 +1,14 @@
 -- An entry whose attributes change, at a path.
 use Rattle.std.proofs.Common.{ℕ, ◌≡◌, ◌<◌, ◌≤◌, ◌∙◌, ◌++◌, true, false, List, [], ◌∷◌, length, Some, None, refl, sym, ap, subst}
-use Rattle.std.specs.Prelude.{All, is_none}
+use Rattle.std.specs.Prelude.{All, is_none, Any}
 use Rattle.std.specs.List.{AllByRecursion}
 use Rattle.std.specs.Option.{option_map}
 use Rattle.std.proofs.lemmas.Bool.{ltb-false}
 use Rattle.std.proofs.lemmas.List.Elements.{recursion_from_All}
 use Rattle.lfs_device.specs.Bytes.{HasBytes}
+use Rattle.lfs_model.specs.BlockSets.{IsFree}
+use Rattle.lfs_model.specs.Discipline.{HoldsSlot, LeavesAlone, paths_of}
+use Rattle.lfs_model.specs.Session.{Files}
 use Rattle.lfs_model.specs.TreeEdits.{attributes_of, last_name}
 use Rattle.lfs_model.specs.Content.{put_attribute, without_attribute}
 use Rattle.lfs_model.specs.Disk.{entry_limit, inline_limit}
@@ -23,9 +26,11 @@ use Rattle.lfs_model.specs.Profile.{FitsSlot, HasInline}
 use Rattle.lfs_model.specs.Shown.{contents_in, entries_in, tree_in}
 use Rattle.lfs_model.proofs.Counts.{Each, each_right}
 use Rattle.lfs_model.proofs.Paths.{last_is}
+use Rattle.lfs_operations.proofs.Held.{here}
 use Rattle.lfs_operations.specs.Editing.{CanEdit, CanSetAttribute, HasRemovedAttribute, HasSetAttribute, IsEdited, with_attributes_at}
 use Rattle.lfs_thread.specs.Kept.{Kept, State}
-use Rattle.lfs_thread.specs.Steps.{Writes}
+use Rattle.lfs_thread.specs.Steps.{Writes, pair_in}
+use Rattle.lfs_tree.proofs.LeftAlone.{about_one, holds_slot, rest_left_alone}
 use Rattle.lfs_tree.specs.Allowed.{CanRemoveAttr, CanSetAttr}
 use Rattle.lfs_tree.specs.Carrying.{Carries, IsAtRest, SurvivesTo}
 use Rattle.lfs_tree.specs.CarryingSlots.{HasEntry, IsSlotFor, IsSlotIn, has_slot, with_attributes_changed}
@@ -162,6 +167,20 @@ module _ (t : State) (root : ℕ) (rests : IsAtRest t root) (path : Path) (large
   cleared_at c kind given bs reads writes among gives e =
       let is : HasRemovedAttribute (with_history t.kept h) c slot.above slot.name kind = gives can_edit in
       edited_at c (without_attribute kind) (λ z. ops.RemoveAttr z kind) given bs reads writes among is e refl refl
+
+  -- the pair holds the slot of the path
+  pub edited_alone : (c : Kept) (op : Operation) (files : Files) (given : List ℕ) (fresh : List ℕ) → paths_of (record { tree = tree_in t.kept.disk t.kept.pairs; files = files }) op ≡ as_path given ∷ [] → as_path given ≡ path
+      → AllByRecursion (IsFree t.kept.map) fresh → Writes ((pair_in t.kept spot.pair).at.0 ∷ (pair_in t.kept spot.pair).at.1 ∷ fresh) (with_history t.kept h) c
+      → LeavesAlone t.kept.disk t.kept.pairs (record { tree = tree_in t.kept.disk t.kept.pairs; files = files }) op c.disk c.pairs
+  edited_alone c op files given fresh about e free w =
+      let s = slot.stands.stands in
+      let is : pair_in t.kept spot.pair ≡ s.pair = here (with_history t.kept h) (ready_to t root h rests large) slot.first spot.pair s.pair s.rest s.place in
+      rest_left_alone (with_history t.kept h) c slot.first spot.pair s.pair s.rest fresh (record { tree = tree_in t.kept.disk t.kept.pairs; files = files }) op
+      rests.held.sound.accepted rests.held.sound.used s.place free
+      (subst (λ (z : Pair). Writes (z.at.0 ∷ z.at.1 ∷ fresh) (with_history t.kept h) c) is w)
+      (λ has n. n (subst (Any (HoldsSlot t.kept.pairs s.pair)) (sym about)
+      (about_one (HoldsSlot t.kept.pairs s.pair) (as_path given) (slot.above ++ slot.name ∷ []) (e ∙ slot.is)
+      (holds_slot t.kept.pairs slot.above slot.stands.on.at slot.first slot.name spot.pair spot.id rests.held.sound.accepted.thread.distinct slot.stands.on.leads slot.stands.on.begins s))))
 
   edit_survives : (c : Kept) (f : Attributes → Attributes) (bs : List ℕ) → OnlyReads t.kept.disk.blocks t.kept.history h → Writes bs (with_history t.kept h) c
       → SurvivesTo (with_history t.kept h) c (with_attributes_at t.kept slot.above slot.name f) → SurvivesTo t.kept c (with_attributes_changed path f (tree_in t.kept.disk t.kept.pairs))

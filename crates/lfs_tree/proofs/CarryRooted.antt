@@ -7,7 +7,7 @@ use Rattle.lfs_model.specs.Run.{is_recover, renames_to_itself}
 use Rattle.lfs_model.proofs.Histories.{unprogrammed-reads}
 use Rattle.lfs_thread.specs.Kept.{Kept}
 use Rattle.lfs_thread.specs.Steps.{IsOnlyRead}
-use Rattle.lfs_tree.specs.Carrying.{Carries, HasCalled}
+use Rattle.lfs_tree.specs.Carrying.{Carries, HasCalled, Spares}
 use Rattle.lfs_tree.proofs.Carried.{read_is, with_history}
 
 pub carried_on : (a b : Kept) (op : Operation) (h : List Event) → OnlyReads b.disk.blocks b.history h → renames_to_itself op ≡ false → is_recover op ≡ false → Carries a op b → Carries a op (with_history b h)
@@ -31,10 +31,14 @@ carried_on a b op h reads apart other k = record {
     unprogrammed_still = λ i j f u. unprogrammed-reads i j reads ∙ k.flight.unprogrammed_still i j f u;
   };
   keeps = λ path file away. let keeps = k.keeps path file away in record { file = keeps.file; list = keeps.list; bytes = keeps.bytes };
+  lists = k.lists;
 }
 
 pub carried_read : (a b c : Kept) (op : Operation) → IsOnlyRead b c → renames_to_itself op ≡ false → is_recover op ≡ false → Carries a op b → Carries a op c
 carried_read a b c op r apart other k = subst (λ z. Carries a op z) (sym (read_is b c r)) (carried_on a b op c.history r.reads apart other k)
+
+pub spares_read : (a b c : Kept) (op : Operation) → IsOnlyRead b c → Spares a op b → Spares a op c
+spares_read a b c op r k = subst (λ z. Spares a op z) (sym (read_is b c r)) k
 
 pub called_on : (a b c : Kept) → HasCalled a b → IsOnlyRead b c → HasCalled a c
 called_on a b c k r = record {

@@ -62,3 +62,4 @@ pub mod ContentsStay
 pub mod WritersStay
 pub mod TakenBlocks
 pub mod TakenEdits
+pub mod LeftAlone

@@ -49,7 +49,7 @@ use Rattle.lfs_tree.specs.Carrying.{Carries, HasCalled, SurvivesTo, TellsError}
 use Rattle.lfs_tree.specs.Held.{IsHeld, IsRooted, seen_image, seen_kept}
 use Rattle.lfs_tree.specs.Recovering.{CanDropLost, HasDroppedLost}
 use Rattle.lfs_tree.specs.Seen.{IsCarried, IsSound, LeavesFlight, Seen, kept_of, tree_seen}
-use Rattle.lfs_tree.proofs.Carried.{all_pairs, keeps_writing, read_is, with_history}
+use Rattle.lfs_tree.proofs.Carried.{all_pairs, keeps_writing, lists_from, read_is, with_history}
 use Rattle.lfs_tree.proofs.CarryFreed.{writes_then}
 use Rattle.lfs_tree.proofs.KeptFiles.{keeps_same, keeps_then}
 
@@ -240,6 +240,7 @@ recovered_whole t root b c rooted left e w d called =
           let first = keeps_writing a b (blocks_of a.pairs) rooted.sound.accepted rooted.sound.used (all_pairs a) w path file (struct_stays a.disk a.pairs b.pairs path file (e.taken.follows.stays path (same_leaves path))) in
           let k = keeps_then a b c path first (d.keeps path first.file) in
           record { file = k.file; list = k.list; bytes = k.bytes };
+      lists = λ none. absurd (left none);
     }
 
 -- ---- what it tells
@@ -298,6 +299,7 @@ recovered_on a b h left reads k = record {
     unprogrammed_still = λ i j f u. unprogrammed-reads i j reads ∙ k.flight.unprogrammed_still i j f u;
   };
   keeps = λ path file away. let keeps = k.keeps path file away in record { file = keeps.file; list = keeps.list; bytes = keeps.bytes };
+  lists = λ none. absurd (left none);
 }
 
 pub recovered_read : (a b c : Kept) → (gstate_of a.pairs ≡ no_gstate → ⊥) → IsOnlyRead b c → Carries a ops.Recover b → Carries a ops.Recover c
@@ -323,6 +325,7 @@ recovered_already t works writable sound settled = record {
   nothing_left = λ e done. (refl, (refl, refl));
   flight = record { stay = λ b f. f; none_comes = λ b f. f; bytes = λ b f. refl; unprogrammed_still = λ b k f u. u };
   keeps = λ path file away. keeps_same (kept_of t) path file;
+  lists = λ none. lists_from t.disk t.disk t.pairs (λ b some. refl);
 }
 
 pub none_survives : (t : Seen) (after : Tree) → Survives t.disk t.history t.history (tree_seen t) after

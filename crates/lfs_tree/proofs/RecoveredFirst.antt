@@ -34,8 +34,9 @@ use Rattle.lfs_operations.proofs.RecoverBefore.{AreKin, stand_kin}
 use Rattle.lfs_thread.specs.Kept.{Kept, State}
 use Rattle.lfs_thread.specs.Steps.{IsOnlyRead}
 use Rattle.lfs_tree.specs.Allowed.{CanAdd, CanRemove, CanRemoveAttr, CanRename, CanSetAttr, HasRoom}
-use Rattle.lfs_tree.specs.Carrying.{Carries, HasCalled, SurvivesTo, TellsError}
+use Rattle.lfs_tree.specs.Carrying.{Carries, HasCalled, SurvivesTo, TellsError, Spares}
 use Rattle.lfs_tree.specs.Held.{IsRooted, seen_kept}
+use Rattle.lfs_tree.specs.KeepsFiles.{ListsStay}
 use Rattle.lfs_tree.specs.Recovering.{HasDroppedLost, HasSettled}
 use Rattle.lfs_tree.specs.Seen.{IsSound, around_of, kept_of}
 use Rattle.lfs_tree.proofs.KeptFiles.{keeps_then}
@@ -50,8 +51,8 @@ fewer_used c used sound fewer =
     let f = few_used used c.map (λ b is. Contains-count used b (let k = count-Contains (used_blocks c.disk c.pairs) b ((sound.used b).0 is) in let l = fewer b in omega arith)) in
     omega arith
 
-pub settled_whole : (a b c : Kept) → HasEndedMove a b → HasDroppedLost b c → Carries a ops.Recover c → faults c.history ≡ faults a.history → HasSettled a c
-settled_whole a b c e d carries no_fault =
+pub settled_whole : (a b c : Kept) → (gstate_of a.pairs ≡ no_gstate → ⊥) → HasEndedMove a b → HasDroppedLost b c → Carries a ops.Recover c → faults c.history ≡ faults a.history → HasSettled a c
+settled_whole a b c left e d carries no_fault =
     let now : Session = record { tree = tree_in b.disk b.pairs; files = [] } in
     let done = d.completed now refl in
     record {
@@ -59,6 +60,7 @@ settled_whole a b c e d carries no_fault =
       leads_on = λ s disk qs h. e.leads_on s disk qs (recovers_through b.disk b.pairs now c.disk c.pairs s disk qs done.laid_out d.ready.accepted d.ready.writable d.ready.settled h);
       room = fewer_used c (used_blocks a.disk a.pairs) carries.sound (λ k. let x = d.fewer k in let y = e.fewer k in omega arith);
       no_fault = no_fault;
+      same = λ none. absurd (left none);
     }
 
 pub settled_read : (a b c : Kept) → (gstate_of a.pairs ≡ no_gstate → ⊥) → IsOnlyRead b c → faults c.history ≡ faults b.history → HasSettled a b → HasSettled a c
@@ -68,6 +70,7 @@ settled_read a b c left r quiet f = record {
       (subst (λ (d : Disk). (s : Session) (disk : Disk) (qs : List Pair) → IsLaidOut d b.pairs s ops.Recover disk qs → IsLaidOut a.disk a.pairs s ops.Recover disk qs) (sym r.disk) f.leads_on);
   room = subst (λ (ps : List Pair). length (used_blocks c.disk ps) ≤ length (used_blocks a.disk a.pairs)) (sym r.pairs) (subst (λ (d : Disk). length (used_blocks d b.pairs) ≤ length (used_blocks a.disk a.pairs)) (sym r.disk) f.room);
   no_fault = quiet ∙ f.no_fault;
+  same = λ none. absurd (left none);
 }
 
 -- nothing was left
@@ -77,6 +80,7 @@ settled_already t root r e = record {
   leads_on = λ s disk qs h. h;
   room = omega arith;
   no_fault = refl;
+  same = λ none. refl;
 }
 
 -- ---- an operation behind it
@@ -147,7 +151,7 @@ called_by : (a b : Kept) (op : Operation) → Carries a op b → HasCalled a b
 called_by a b op k = record { geometry = k.geometry; calls = k.calls; called = k.called }
 
 module _ (a b : Kept) (f : HasSettled a b) where
-  tree_is : tree_in b.disk b.pairs ≡ tree_in a.disk a.pairs
+  pub tree_is : tree_in b.disk b.pairs ≡ tree_in a.disk a.pairs
   tree_is = f.carries.shows (around_of (seen_kept a true false)) []
 
   pub called_after : (c : Kept) → HasCalled b c → HasCalled a c
@@ -172,7 +176,11 @@ module _ (a b : Kept) (f : HasSettled a b) where
         nothing_left = λ e. absurd (cc (other, e));
         flight = leaves_then (seen_kept a true false) (seen_kept b true false) (seen_kept c true false) f.carries.flight k.flight;
         keeps = λ path file away. let first = f.carries.keeps path file refl in keeps_then (kept_of (seen_kept a true false)) (kept_of (seen_kept b true false)) (kept_of (seen_kept c true false)) path first (k.keeps path first.file away);
+        lists = λ none. subst (λ (z : Kept). gstate_of z.pairs ≡ no_gstate → ListsStay z.disk z.pairs c.disk) (f.same none) k.lists none;
       }
+
+  pub spares_after : (c : Kept) (op : Operation) → Spares b op c → Spares a op c
+  spares_after c op k none = subst (λ (z : Kept). Spares z op c) (f.same none) k none
 
   -- ---- a stop
 

@@ -1,9 +1,11 @@
 -- What stands behind a commit of contents, before and after their lists are settled.
-use Rattle.std.proofs.Common.{ℕ, ◌≡◌, ◌≢◌, ◌<◌, ◌≤◌, ◌+◌, ◌∙◌, inr, ⊎_elim, List, [], ◌∷◌, ◌++◌, length, Some, refl, sym, ap, subst, arith, append_assoc}
+use Rattle.std.proofs.Common.{ℕ, ◌≡◌, ◌≢◌, ◌<◌, ◌≤◌, ◌+◌, ◌∙◌, inl, inr, ⊎_elim, List, [], ◌∷◌, ◌++◌, length, Some, refl, sym, ap, subst, arith, append_assoc}
 use Rattle.std.specs.Prelude.{Contains}
 use Rattle.std.proofs.lemmas.List.Elements.{All-contains, All-from_recursion}
 use Rattle.std.proofs.lemmas.Option.{same_Some}
 use Rattle.lfs_device.specs.Bytes.{HasBytes}
+use Rattle.lfs_model.proofs.Sites.{Among, among_right}
+use Rattle.lfs_model.specs.Discipline.{HoldsSlot}
 use Rattle.lfs_model.specs.TreeEdits.{change_at}
 use Rattle.lfs_model.specs.BlockSets.{AreUsed, IsFree, IsInFlight, IsUsed}
 use Rattle.lfs_model.specs.BlockSets.BlockState.{Free, InFlight, Used}
@@ -32,13 +34,16 @@ use Rattle.lfs_files.specs.Coming.{CanCome}
 use Rattle.lfs_files.specs.Settling.{CanSettle, IsReadBesideMap, IsSettledIn, blocks_in_list}
 use Rattle.lfs_files.proofs.Outside.{none_or_some, not_there}
 use Rattle.lfs_files.proofs.Settlement.{settled_exactly}
+use Rattle.lfs_operations.proofs.Held.{here}
 use Rattle.lfs_operations.specs.Changing.{WritesIn}
 use Rattle.lfs_operations.specs.Storing.{IsStored, with_contents_at}
 use Rattle.lfs_thread.specs.Kept.{Kept, State}
-use Rattle.lfs_thread.specs.Steps.{pair_in}
+use Rattle.lfs_thread.specs.Steps.{pair_in, Writes}
+use Rattle.lfs_tree.proofs.CarryCreated.{ready_to}
+use Rattle.lfs_tree.proofs.LeftAlone.{contains_among, holds_slot}
 use Rattle.lfs_tree.specs.Carrying.{HasCalled, IsAtRest, SurvivesTo}
 use Rattle.lfs_tree.specs.OpenContents.{bytes_held}
-use Rattle.lfs_tree.specs.Storing.{CanCommit, CanPutContents, HasCommitted, IsFileFor, list_in, list_in_struct, struct_in}
+use Rattle.lfs_tree.specs.Storing.{CanCommit, CanPutContents, HasCommitted, IsFileFor, list_in, list_in_struct, struct_in, ChangesPairOf}
 use Rattle.lfs_tree.specs.declared.storing.FileSlot.{FileSlot}
 use Rattle.lfs_tree.proofs.AtPaths.{SizedLists}
 use Rattle.lfs_tree.proofs.Carried.{pair_blocks, with_history}
@@ -149,8 +154,8 @@ module _ (t : Kept) (path : Path) (u : Slot) (ok : IsAccepted t.disk t.pairs) (u
         (λ some. absurd (let k : Used ≡ InFlight = same_Some Used InFlight (sym (All-contains (IsUsed later.map) (blocks_in_list new (list_in c)) b settled.used (Contains-count (blocks_in_list new (list_in c)) b some)) ∙ flies) in cc))
         (none_or_some (count b (blocks_in_list new (list_in c))))
 
-    pub committed : path ≡ above ++ name ∷ [] → HasCommitted t path (bytes_held t c) later
-    committed e = record {
+    pub committed : path ≡ above ++ name ∷ [] → ChangesPairOf t.disk t.pairs path new.disk → HasCommitted t path (bytes_held t c) later
+    committed e alone = record {
       sound = record {
         accepted = on (λ d ps. IsAccepted d ps) is.now.ready.accepted;
         fits = λ w. on (λ d ps. IsWritable d ps) is.now.ready.writable;
@@ -165,12 +170,13 @@ module _ (t : Kept) (path : Path) (u : Slot) (ok : IsAccepted t.disk t.pairs) (u
           (is.synced (record { tree = tree_in t.disk t.pairs; files = files }) fd writer refl (wr.0, (wr.1.0, (wr.1.1.0 ∙ e, wr.1.1.1)))).laid_out;
       closed = λ files fd writer wr. on (λ d ps. IsLaidOut t.disk t.pairs (record { tree = tree_in t.disk t.pairs; files = files }) (ops.Close fd) d ps)
           (is.closed (record { tree = tree_in t.disk t.pairs; files = files }) fd writer refl (wr.0, (wr.1.0, (wr.1.1.0 ∙ e, wr.1.1.1)))).laid_out;
+      alone = subst (λ (d : Disk). ChangesPairOf t.disk t.pairs path d) (sym only.disk) alone;
       none_in_flight = no_flight later.map none_later;
     }
 
 pub committed_read : (t : Kept) (h : List Event) (path : Path) (bytes : List ℕ) (later : Kept) → HasCommitted (with_history t h) path bytes later → HasCommitted t path bytes later
 committed_read t h path bytes later k =
-    record { sound = k.sound; fits = k.fits; settled = k.settled; shows = k.shows; synced = k.synced; closed = k.closed; none_in_flight = k.none_in_flight }
+    record { sound = k.sound; fits = k.fits; settled = k.settled; shows = k.shows; synced = k.synced; closed = k.closed; alone = k.alone; none_in_flight = k.none_in_flight }
 
 -- ---- behind calls that only read
 
@@ -216,11 +222,28 @@ module _ (t : State) (root : ℕ) (rests : IsAtRest t root) (path : Path) (large
     settles = subst (λ l. CanSettle new l (list_in c)) (sym slot.list)
         (can_settle (with_history t.kept h) path u ok used at sized c (can_read t.kept h path c can) file.spot.pair below new w slot.slot.above slot.slot.name come is)
 
+    -- the pair of the slot is written, and blocks that were free
+    changes : ChangesPairOf t.kept.disk t.kept.pairs path new.disk
+    changes =
+        let s = slot.slot.stands.stands in
+        let place = s.place in
+        let is : pair_in t.kept file.spot.pair ≡ s.pair = here (with_history t.kept h) (ready_to t root h rests large) slot.slot.first file.spot.pair s.pair s.rest s.place in
+        let writes = subst (λ (z : Pair). Writes (z.at.0 ∷ z.at.1 ∷ w.fresh) (with_history t.kept h) new) is w.writes in
+        record {
+          pair = s.pair;
+          there = contains_among s.pair t.kept.pairs (subst (Among (λ y. y ≡ s.pair)) (sym place.parts)
+              (among_right (λ y. y ≡ s.pair) place.front (place.left ++ s.pair ∷ s.rest) (among_right (λ y. y ≡ s.pair) place.left (s.pair ∷ s.rest) (inl refl))));
+          holds = subst (HoldsSlot t.kept.pairs s.pair) (sym slot.slot.is)
+              (holds_slot t.kept.pairs slot.slot.above slot.slot.stands.on.at slot.slot.first slot.slot.name file.spot.pair file.spot.id ok.thread.distinct slot.slot.stands.on.leads slot.slot.stands.on.begins s);
+          others = λ b has first second. writes.others.others b (All-from_recursion (λ x. x ≢ b) (s.pair.at.0 ∷ s.pair.at.1 ∷ w.fresh)
+              ((λ e. first (sym e)), ((λ e. second (sym e)), each_weaker (IsFree t.kept.map) (λ x. x ≢ b) (λ x f e. not_free t.kept.map b ((used b).1 has) (subst (IsFree t.kept.map) e f)) w.fresh w.free)));
+        }
+
     module _ (later : Kept) (only : IsReadBesideMap new later) where
       pub commits : IsSettledIn new file.list (list_in c) later → HasCommitted t.kept path (bytes_held t.kept c) later
       commits settled = committed_read t.kept h path (bytes_held t.kept c) later
           (committed (with_history t.kept h) path u ok used at sized c (can_read t.kept h path c can) file.spot.pair below new w slot.slot.above slot.slot.name come is later only
-          (subst (λ l. IsSettledIn new l (list_in c) later) slot.list settled) slot.slot.is)
+          (subst (λ l. IsSettledIn new l (list_in c) later) slot.list settled) slot.slot.is changes)
 
       -- the calls that settle only read
       pub survives_settled : OnlyReads t.kept.disk.blocks t.kept.history h → SurvivesTo t.kept new (change_at path (with_bytes (bytes_held t.kept c)) (tree_in t.kept.disk t.kept.pairs))

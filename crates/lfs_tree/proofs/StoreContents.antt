@@ -1,7 +1,8 @@
 -- Contents of a writer that are ended and committed, behind one another.
 use Rattle.std.proofs.Common.{ℕ, ◌≡◌, ◌≤◌, ◌+◌, ◌∙◌, Bool, true, false, List, [], ◌∷◌, ◌++◌, length, Result, Ok, Err, refl, sym, ap, subst, arith, append_assoc}
-use Rattle.std.specs.Prelude.{IfErr, OnOk}
+use Rattle.std.specs.Prelude.{IfErr, OnOk, Contains}
 use Rattle.lfs_device.specs.declared.error.Error.{Error}
+use Rattle.lfs_model.specs.Discipline.{HoldsSlot}
 use Rattle.lfs_model.specs.TreeEdits.{change_at}
 use Rattle.lfs_model.specs.Blocks.{Blocks}
 use Rattle.lfs_model.specs.BlockSets.{used_count}
@@ -24,6 +25,7 @@ use Rattle.lfs_model.proofs.Histories.{LeavesOnly-weaker, LeavesOnly-worst}
 use Rattle.lfs_files.specs.Standing.{CanFinish, Holds, LeavesPairsAndUsed, held_in}
 use Rattle.lfs_thread.specs.Kept.{Kept, State}
 use Rattle.lfs_thread.specs.Steps.{IsOnlyRead}
+use Rattle.lfs_tree.proofs.LeftAlone.{pair_of_alone}
 use Rattle.lfs_tree.specs.Carrying.{HasCalled, IsAtRest, SurvivesTo, TellsError}
 use Rattle.lfs_device.specs.declared.device.BlockDevice.{Ghosts}
 use Rattle.lfs_tree.specs.Held.{IsHeld, seen_image, seen_kept}
@@ -32,7 +34,7 @@ use Rattle.lfs_tree.specs.declared.image.Image.TheVariants as image
 use Rattle.lfs_tree.proofs.Asking.{seen_mounted, seen_working}
 use Rattle.lfs_tree.specs.OpenContents.{CanStoreAt, IsArrangedBy, IsSettleable, IsStoredAt, bytes_held, kept_of}
 use Rattle.lfs_tree.specs.Seen.{IsSound, Seen, tree_seen}
-use Rattle.lfs_tree.specs.Storing.{CanCommit, HasCommitted, HasStored, IsFinished, IsLaidBy}
+use Rattle.lfs_tree.specs.Storing.{CanCommit, HasCommitted, HasStored, IsFinished, IsLaidBy, ChangesPairOf}
 use Rattle.lfs_tree.proofs.BesideWritten.{accepted_beside, bytes_of_held, geometry_beside, left_beside, over_beside, rooted_beside, tree_beside}
 use Rattle.lfs_tree.proofs.Carried.{read_is, with_history}
 use Rattle.lfs_tree.proofs.UsedBlocks.{count_is}
@@ -131,6 +133,17 @@ module _ (t : State) (root : ℕ) (rests : IsAtRest t root) (path : Path) (conte
           (subst (λ (x : Tree). IsLaidOut b.kept.disk b.kept.pairs (record { tree = x; files = files }) (op fd) new.disk new.pairs) tree_same
           (laid files fd writer (wr.0, (wr.1.0, (wr.1.1.0, wr.1.1.1 ∙ sym bytes_same))))))
 
+      -- what the end of the list wrote wasn't used
+      changes_before : (new : Disk) → ChangesPairOf b.kept.disk b.kept.pairs path new → ChangesPairOf t.kept.disk t.kept.pairs path new
+      changes_before new k = record {
+        pair = k.pair;
+        there = subst (λ (ps : List Pair). Contains ps k.pair) leaves.pairs k.there;
+        holds = subst (λ (ps : List Pair). HoldsSlot ps k.pair path) leaves.pairs k.holds;
+        others = λ x has first second.
+            let is = (sound.used x).1 has in
+            k.others x ((rests_beside.held.sound.used x).0 (leaves.map.stays x is)) first second ∙ leaves.spared.same x is;
+      }
+
       stored_before : (new : Kept) → HasCalled t.kept new → HasCommitted b.kept path (bytes_held b.kept c) new → HasStored t.kept path (bytes_held t.kept contents) new
       stored_before new called k = record {
         works = refl;
@@ -144,6 +157,7 @@ module _ (t : State) (root : ℕ) (rests : IsAtRest t root) (path : Path) (conte
         shows = k.shows ∙ turn_same;
         synced = arranged_before new ops.Sync k.synced;
         closed = arranged_before new ops.Close k.closed;
+        alone = λ files op. pair_of_alone t.kept.disk new.disk t.kept.pairs new.pairs path sound.accepted (changes_before new.disk k.alone) (record { tree = tree_in t.kept.disk t.kept.pairs; files = files }) op;
         none_in_flight = k.none_in_flight;
       }
 
@@ -178,6 +192,7 @@ stored_on a b path bytes h reads k = record {
   shows = k.shows;
   synced = k.synced;
   closed = k.closed;
+  alone = k.alone;
   none_in_flight = k.none_in_flight;
 }
 

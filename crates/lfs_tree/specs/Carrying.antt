@@ -15,7 +15,7 @@ use Rattle.lfs_model.specs.Shown.{tree_in}
 use Rattle.lfs_thread.specs.Kept.{Kept, State}
 use Rattle.lfs_tree.specs.Held.{IsRooted, seen_kept}
 use Rattle.lfs_tree.specs.Paths.{BeginsOnPath}
-use Rattle.lfs_tree.specs.Seen.{IsCarried, IsError}
+use Rattle.lfs_tree.specs.Seen.{IsCarried, IsError, LeavesRest}
 use Rattle.lfs_tree.specs.declared.paths.Found.{Found}
 use Rattle.lfs_tree.specs.declared.paths.Found.TheVariants as found
 use Rattle.lfs_tree.specs.declared.search.Spot.{Spot}
@@ -50,6 +50,10 @@ IsPlaceIn _ spot = ⊥
 -- the operation is carried out
 abbrev pub Carries : Kept → Operation → Kept → Type 0
 Carries old op new = IsCarried (seen_kept old true false) op (seen_kept new true false)
+
+-- it leaves the rest alone
+abbrev pub Spares : Kept → Operation → Kept → Type 0
+Spares old op new = LeavesRest (seen_kept old true false) op (seen_kept new true false)
 
 -- the device is divided as before, and had further calls
 pub record HasCalled (old new : Kept) : Type 0 where

@@ -1,6 +1,7 @@
 -- An entry that goes from its directory.
 use Rattle.std.specs.Prelude.{ℕ, ◌≡◌, ◌≤◌, ◌+◌, true, false, List, [], ◌∷◌, ◌++◌}
 use Rattle.lfs_files.specs.Settling.{blocks_in_list}
+use Rattle.lfs_model.specs.Discipline.{LeavesAlone}
 use Rattle.lfs_model.specs.Operations as ops
 use Rattle.lfs_model.specs.Session.{Session}
 use Rattle.lfs_model.specs.Refusals.{as_path}
@@ -75,3 +76,7 @@ pub record HasGone (old : Kept) (path : Path) (new : Kept) : Type 0 where
   pub flying : SameInFlight old.map new.map
   pub completed : (s : Session) (given : List ℕ) → s.tree ≡ tree_in old.disk old.pairs → as_path given ≡ path
       → IsCompleted old.disk old.pairs s (ops.Remove given) new.disk new.pairs
+
+-- the removal left alone the blocks of files and of pairs that it doesn't concern
+abbrev pub HasSpared : Kept → Path → Kept → Type 0
+HasSpared old path new = (s : Session) (given : List ℕ) → as_path given ≡ path → LeavesAlone old.disk old.pairs s (ops.Remove given) new.disk new.pairs

@@ -1,13 +1,14 @@
 -- What an operation leaves of a file that it neither takes away nor moves.
-use Rattle.std.specs.Prelude.{ℕ, ◌≡◌, true, List, [], Option, Some, None, Contains}
+use Rattle.std.specs.Prelude.{ℕ, ◌≡◌, true, List, [], Option, Some, None, All, Contains}
 use Rattle.lfs_model.specs.TreeEdits.{is_file}
 use Rattle.lfs_model.specs.Disk.{Disk, block_at}
 use Rattle.lfs_model.specs.Operations as ops
 use Rattle.lfs_model.specs.Operations.{Operation}
 use Rattle.lfs_model.specs.SlotEdits.{slot_of_path}
 use Rattle.lfs_model.specs.Slots.{Slot}
+use Rattle.lfs_model.specs.Thread.{Pair}
 use Rattle.lfs_model.specs.Tree.{Path}
-use Rattle.lfs_model.specs.Shown.{file_blocks, tree_in}
+use Rattle.lfs_model.specs.Shown.{all_slots, file_blocks, tree_in}
 use Rattle.lfs_thread.specs.Kept.{Kept}
 
 -- so many blocks an operation that the tree carries out may take: a pair is cut for an entry that comes, and a directory has a pair of its own
@@ -32,3 +33,7 @@ pub record KeepsFile (old new : Kept) (path : Path) : Type 0 where
   pub file : is_file (tree_in new.disk new.pairs path) ≡ true
   pub list : list_at new path ≡ list_at old path
   pub bytes : (b : ℕ) → Contains (list_at old path) b → block_at new.disk b ≡ block_at old.disk b
+
+-- every block of a file's list holds what it held
+abbrev pub ListsStay : Disk → List Pair → Disk → Type 0
+ListsStay disk ps new = All (λ t. All (λ b. block_at new b ≡ block_at disk b) (file_blocks disk t.struct)) (all_slots ps)

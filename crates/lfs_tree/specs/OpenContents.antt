@@ -1,14 +1,15 @@
 -- The contents of a file that is open for writing, beside the image.
-use Rattle.std.specs.Prelude.{ℕ, ◌≡◌, ◌+◌, ◌^◌, ◌<◌, ◌≤◌, ◌⊎◌, true, false, max, List, ◌++◌, length}
+use Rattle.std.specs.Prelude.{ℕ, ◌≡◌, ◌+◌, ◌^◌, ◌<◌, ◌≤◌, ◌⊎◌, true, false, max, List, [], ◌∷◌, ◌++◌, length}
 use Rattle.lfs_model.specs.TreeEdits.{change_at, is_file}
 use Rattle.lfs_model.specs.BlockSets.{in_flight_count}
+use Rattle.lfs_model.specs.Discipline.{LeavesAlone, paths_of}
 use Rattle.lfs_model.specs.Disk.{SameGeometry, block_count, inline_limit}
 use Rattle.lfs_model.specs.History.{Event, faults}
 use Rattle.lfs_model.specs.Layout.{IsArranged}
 use Rattle.lfs_model.specs.Operations as ops
 use Rattle.lfs_model.specs.Operations.{Operation}
 use Rattle.lfs_model.specs.Recovery.{IsRecovered}
-use Rattle.lfs_model.specs.Session.{Files, Writer, ctz_blocks}
+use Rattle.lfs_model.specs.Session.{Files, Session, Writer, ctz_blocks}
 use Rattle.lfs_model.specs.Slots.{no_gstate}
 use Rattle.lfs_model.specs.Effects.{with_bytes}
 use Rattle.lfs_model.specs.Thread.{gstate_of}
@@ -109,7 +110,11 @@ abbrev pub IsArrangedBy : Seen → Path → List ℕ → (ℕ → Operation) →
 IsArrangedBy old path bytes op new = (files : Files) (fd : ℕ) (writer : Writer) → IsWriterOf (record { tree = tree_seen old; files = files }) fd path bytes writer
     → IsArranged old.disk old.pairs (record { tree = tree_seen old; files = files }) (op fd) new.disk new.pairs
 
--- The file at the path has these bytes, and nothing is in flight any more.
+-- the operation is about that path, as a sync or a close of its writer
+abbrev pub IsAboutPath : Session → Operation → Path → Type 0
+IsAboutPath s op path = paths_of s op ≡ path ∷ []
+
+-- The file at the path has these bytes, and nothing is in flight any more. Other pairs and all lists hold what they held.
 pub record IsStoredAt (old : Seen) (path : Path) (bytes : List ℕ) (new : Seen) : Type 0 where
   pub works : new.failed ≡ false
   pub sound : IsSound new
@@ -122,4 +127,5 @@ pub record IsStoredAt (old : Seen) (path : Path) (bytes : List ℕ) (new : Seen)
   pub shows : tree_seen new ≡ change_at path (with_bytes bytes) (tree_seen old)
   pub synced : IsArrangedBy old path bytes ops.Sync new
   pub closed : IsArrangedBy old path bytes ops.Close new
+  pub alone : (files : Files) (op : Operation) → IsAboutPath (record { tree = tree_seen old; files = files }) op path → LeavesAlone old.disk old.pairs (record { tree = tree_seen old; files = files }) op new.disk new.pairs
   pub none_in_flight : in_flight_count new.map ≡ 0

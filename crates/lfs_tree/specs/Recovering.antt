@@ -6,6 +6,7 @@ use Rattle.lfs_model.specs.Disk.{block_count}
 use Rattle.lfs_model.specs.History.{faults}
 use Rattle.lfs_model.specs.Operations as ops
 use Rattle.lfs_model.specs.Session.{Session}
+use Rattle.lfs_model.specs.Slots.{no_gstate}
 use Rattle.lfs_model.specs.Thread.{gstate_of}
 use Rattle.lfs_model.specs.Tree.{Path}
 use Rattle.lfs_model.specs.View.{IsAccepted}
@@ -41,8 +42,10 @@ pub record HasDroppedLost (old new : Kept) : Type 0 where
 
 -- What a loss of power left is ended, if it left anything, without a fault of the device. Where slots stand behind a further
 -- recovery they stand behind one of the old image, and no more blocks are used: so an operation on the new image is one on the old.
+-- Where nothing was left, nothing was called.
 pub record HasSettled (old new : Kept) : Type 0 where
   pub carries : Carries old ops.Recover new
   pub leads_on : RecoversTo old new
   pub room : length (used_blocks new.disk new.pairs) ≤ length (used_blocks old.disk old.pairs)
   pub no_fault : faults new.history ≡ faults old.history
+  pub same : gstate_of old.pairs ≡ no_gstate → new ≡ old

@@ -4,6 +4,7 @@ use Rattle.lfs_device.specs.declared.error.Error.{Error}
 use Rattle.lfs_device.specs.declared.error.Error.TheVariants.{Io, NoMemory, Corrupt}
 use Rattle.lfs_model.specs.TreeEdits.{is_file}
 use Rattle.lfs_model.specs.BlockSets.{AreUsed, BlockSets, IsInFlight, in_flight_count}
+use Rattle.lfs_model.specs.Discipline.{LeavesAlone}
 use Rattle.lfs_model.specs.Disk.{Disk, SameGeometry, block_at, block_count}
 use Rattle.lfs_model.specs.History.{Event, OnlyReads, faults, reads, unprogrammed}
 use Rattle.lfs_model.specs.Keeping.{takes_or_moves}
@@ -13,6 +14,7 @@ use Rattle.lfs_model.specs.PowerLoss.{Survives}
 use Rattle.lfs_model.specs.Recovery.{IsRecovered}
 use Rattle.lfs_model.specs.Run.{IsUntouched, is_recover, renames_to_itself}
 use Rattle.lfs_model.specs.Session.{Files, Surroundings}
+use Rattle.lfs_model.specs.Slots.{no_gstate}
 use Rattle.lfs_model.specs.Effects.{effect_of}
 use Rattle.lfs_model.specs.Thread.{Pair, gstate_of}
 use Rattle.lfs_model.specs.Tree.{Path, Tree}
@@ -20,7 +22,7 @@ use Rattle.lfs_model.specs.View.{IsAccepted}
 use Rattle.lfs_model.specs.Profile.{IsWritable}
 use Rattle.lfs_model.specs.Shown.{tree_in, used_blocks}
 use Rattle.lfs_thread.specs.Kept.{Kept}
-use Rattle.lfs_tree.specs.KeepsFiles.{KeepsFile}
+use Rattle.lfs_tree.specs.KeepsFiles.{KeepsFile, ListsStay}
 
 -- The disk and its calls so far, its pairs, what is known of each block, whether it is in the writing profile, and whether a
 -- call failed.
@@ -119,6 +121,11 @@ pub record IsCarried (old : Seen) (op : Operation) (new : Seen) : Type 0 where
   pub nothing_left : is_recover op ≡ true → IsRecovered old.pairs → IsUntouched old.disk calls new.disk
   pub flight : LeavesFlight old new
   pub keeps : (path : Path) → is_file (tree_seen old path) ≡ true → takes_or_moves op path ≡ false → KeepsFile (kept_of old) (kept_of new) path
+  pub lists : gstate_of old.pairs ≡ no_gstate → ListsStay old.disk old.pairs new.disk
+
+-- Where nothing was to be recovered, the blocks of files, and those of pairs that the operation doesn't concern, hold what they held.
+abbrev pub LeavesRest : Seen → Operation → Seen → Type 0
+LeavesRest old op new = gstate_of old.pairs ≡ no_gstate → (files : Files) → LeavesAlone old.disk old.pairs (record { tree = tree_seen old; files = files }) op new.disk new.pairs
 
 -- The image of a disk that was only read, at least once and without a fault: it works, and no block is in flight.
 pub record IsMountedTree (disk : Disk) (history : List Event) (t : Seen) : Type 0 where

@@ -1,8 +1,9 @@
 -- A file that gets the contents of a writer.
-use Rattle.std.specs.Prelude.{ℕ, ◌≡◌, ◌+◌, ◌≤◌, Bool, true, false, List, [], ◌<◌, length, None}
+use Rattle.std.specs.Prelude.{Contains, ℕ, ◌≡◌, ◌≢◌, ◌+◌, ◌≤◌, Bool, true, false, List, [], ◌<◌, length, None}
 use Rattle.lfs_model.specs.TreeEdits.{change_at}
 use Rattle.lfs_model.specs.BlockSets.{in_flight_count, used_count}
-use Rattle.lfs_model.specs.Disk.{inline_limit}
+use Rattle.lfs_model.specs.Discipline.{HoldsSlot}
+use Rattle.lfs_model.specs.Disk.{Disk, block_at, inline_limit}
 use Rattle.lfs_model.specs.Layout.{IsLaidOut}
 use Rattle.lfs_model.specs.Operations as ops
 use Rattle.lfs_model.specs.Operations.{Operation}
@@ -12,7 +13,7 @@ use Rattle.lfs_model.specs.Effects.{with_bytes}
 use Rattle.lfs_model.specs.Thread.{Pair, gstate_of}
 use Rattle.lfs_model.specs.Tree.{Path, branch_of}
 use Rattle.lfs_model.specs.Profile.{IsWritable}
-use Rattle.lfs_model.specs.Shown.{tree_in}
+use Rattle.lfs_model.specs.Shown.{tree_in, used_blocks}
 use Rattle.lfs_files.specs.Coming.{CanCome}
 use Rattle.lfs_files.specs.Standing.{StandsIn}
 use Rattle.lfs_operations.specs.Editing.{CanEdit, slot_at}
@@ -103,6 +104,13 @@ abbrev pub IsLaidBy : Kept → Path → List ℕ → (ℕ → Operation) → Kep
 IsLaidBy old path bytes op new = (files : Files) (fd : ℕ) (writer : Writer) → IsWriterOf (record { tree = tree_in old.disk old.pairs; files = files }) fd path bytes writer
     → IsLaidOut old.disk old.pairs (record { tree = tree_in old.disk old.pairs; files = files }) (op fd) new.disk new.pairs
 
+-- Of the used blocks only those of one pair changed, which holds the slot of the path.
+pub record ChangesPairOf (disk : Disk) (ps : List Pair) (path : Path) (new : Disk) : Type 0 where
+  pub pair : Pair
+  pub there : Contains ps pair
+  pub holds : HoldsSlot ps pair path
+  pub others : (b : ℕ) → Contains (used_blocks disk ps) b → b ≢ pair.at.0 → b ≢ pair.at.1 → block_at new b ≡ block_at disk b
+
 -- the file at the path has these bytes, and nothing is in flight
 pub record HasCommitted (old : Kept) (path : Path) (bytes : List ℕ) (new : Kept) : Type 0 where
   pub sound : IsSound (seen_kept new true false)
@@ -111,6 +119,7 @@ pub record HasCommitted (old : Kept) (path : Path) (bytes : List ℕ) (new : Kep
   pub shows : tree_in new.disk new.pairs ≡ change_at path (with_bytes bytes) (tree_in old.disk old.pairs)
   pub synced : IsLaidBy old path bytes ops.Sync new
   pub closed : IsLaidBy old path bytes ops.Close new
+  pub alone : ChangesPairOf old.disk old.pairs path new.disk
   pub none_in_flight : in_flight_count new.map ≡ 0
 
 -- the same, seen from a tree

@@ -11,7 +11,7 @@ ghost use Rattle.lfs_model.specs.Refusals.{as_path};
 ghost use Rattle.lfs_model.specs.Tree.{DirectoryNode, FileNode};
 ghost use Rattle.lfs_model.specs.Shown.{tree_in};
 ghost use Rattle.lfs_tree.specs.Allowed.{CanCreate, CanMake};
-ghost use Rattle.lfs_tree.specs.Carrying.{Carries, HasCalled, IsAtRest, IsPlaceFor, IsPlaceIn, IsVacant, SurvivesTo, TellsError, is_place};
+ghost use Rattle.lfs_tree.specs.Carrying.{Carries, HasCalled, IsAtRest, IsPlaceFor, IsPlaceIn, IsVacant, Spares, SurvivesTo, TellsError, is_place};
 ghost use Rattle.lfs_tree.specs.Held.{seen_kept};
 ghost use Rattle.lfs_tree.specs.Reading.{IsReading};
 
@@ -91,6 +91,7 @@ pub(crate) fn create_at<D: BlockDevice>(
     requires rests { IsAtRest thread.old root }
     requires can { CanCreate (seen_kept thread.old.kept true false) path.now }
     ensures done { OnOk result ((bytes : List ℕ) (flags : Flags) → as_path bytes ≡ path.now → Carries thread.old.kept (ops.Open bytes flags) thread.new.kept) }
+    ensures alone { OnOk result ((bytes : List ℕ) (flags : Flags) → as_path bytes ≡ path.now → Spares thread.old.kept (ops.Open bytes flags) thread.new.kept) }
     ensures works { OnOk result (thread.new.failed ≡ false) }
     ensures called { HasCalled thread.old.kept thread.new.kept }
     ensures no_fault { OnOk result (faults thread.new.kept.history ≡ faults thread.old.kept.history) }

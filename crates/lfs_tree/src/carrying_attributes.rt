@@ -7,7 +7,7 @@ ghost use Rattle.lfs_model.specs.Operations as ops;
 ghost use Rattle.lfs_model.specs.Refusals.{as_path};
 ghost use Rattle.lfs_model.specs.Shown.{tree_in};
 ghost use Rattle.lfs_tree.specs.Allowed.{CanRemoveAttr, CanSetAttr};
-ghost use Rattle.lfs_tree.specs.Carrying.{Carries, HasCalled, IsAtRest, SurvivesTo, TellsError};
+ghost use Rattle.lfs_tree.specs.Carrying.{Carries, HasCalled, IsAtRest, Spares, SurvivesTo, TellsError};
 ghost use Rattle.lfs_tree.specs.CarryingSlots.{HasEntry, IsSlotFor, IsSlotIn, has_slot, with_attributes_changed};
 ghost use Rattle.lfs_tree.specs.Held.{seen_kept};
 ghost use Rattle.lfs_tree.specs.Reading.{IsReading};
@@ -63,6 +63,7 @@ pub(crate) fn set_attr_at<D: BlockDevice>(
     requires rests { IsAtRest thread.old root }
     requires can { CanSetAttr (seen_kept thread.old.kept true false) path.now kind bytes.now }
     ensures done { OnOk result ((given : List ℕ) → as_path given ≡ path.now → Carries thread.old.kept (ops.SetAttr given kind bytes.now) thread.new.kept) }
+    ensures alone { OnOk result ((given : List ℕ) → as_path given ≡ path.now → Spares thread.old.kept (ops.SetAttr given kind bytes.now) thread.new.kept) }
     ensures works { OnOk result (thread.new.failed ≡ false) }
     ensures called { HasCalled thread.old.kept thread.new.kept }
     ensures no_fault { OnOk result (faults thread.new.kept.history ≡ faults thread.old.kept.history) }
@@ -88,6 +89,7 @@ pub(crate) fn remove_attr_at<D: BlockDevice>(
     requires rests { IsAtRest thread.old root }
     requires can { CanRemoveAttr (seen_kept thread.old.kept true false) path.now kind }
     ensures done { OnOk result ((bytes : List ℕ) → as_path bytes ≡ path.now → Carries thread.old.kept (ops.RemoveAttr bytes kind) thread.new.kept) }
+    ensures alone { OnOk result ((bytes : List ℕ) → as_path bytes ≡ path.now → Spares thread.old.kept (ops.RemoveAttr bytes kind) thread.new.kept) }
     ensures works { OnOk result (thread.new.failed ≡ false) }
     ensures called { HasCalled thread.old.kept thread.new.kept }
     ensures no_fault { OnOk result (faults thread.new.kept.history ≡ faults thread.old.kept.history) }

@@ -1,7 +1,7 @@
 // Operations by path on an image of which something may be to be recovered: that comes first.
 
 ghost use Rattle.std.specs.Prelude.{ℕ, ◌≡◌, List, [], OnOk, IfOk, IfErr, false, true};
-ghost use Rattle.lfs_model.specs.TreeEdits.{added, removed, renamed, same_path};
+ghost use Rattle.lfs_model.specs.TreeEdits.{added, is_file, removed, renamed, same_path};
 ghost use Rattle.lfs_model.specs.Content.{put_attribute, without_attribute};
 ghost use Rattle.lfs_model.specs.Operations as ops;
 ghost use Rattle.lfs_model.specs.Operations.{Flags};
@@ -9,7 +9,7 @@ ghost use Rattle.lfs_model.specs.Refusals.{as_path};
 ghost use Rattle.lfs_model.specs.Tree.{DirectoryNode, FileNode};
 ghost use Rattle.lfs_model.specs.Shown.{tree_in};
 ghost use Rattle.lfs_tree.specs.Allowed.{CanCreate, CanMake, CanRemove, CanRemoveAttr, CanRename, CanSetAttr};
-ghost use Rattle.lfs_tree.specs.Carrying.{Carries, HasCalled, SurvivesTo, TellsError};
+ghost use Rattle.lfs_tree.specs.Carrying.{Carries, HasCalled, Spares, SurvivesTo, TellsError};
 ghost use Rattle.lfs_tree.specs.CarryingSlots.{with_attributes_changed};
 ghost use Rattle.lfs_tree.specs.Held.{IsRooted, seen_kept};
 
@@ -33,6 +33,7 @@ pub(crate) fn create_file<D: BlockDevice>(
     requires rooted { IsRooted thread.old root true }
     requires can { CanCreate (seen_kept thread.old.kept true false) path.now }
     ensures done { OnOk result ((bytes : List ℕ) (flags : Flags) → as_path bytes ≡ path.now → Carries thread.old.kept (ops.Open bytes flags) thread.new.kept) }
+    ensures alone { OnOk result ((bytes : List ℕ) (flags : Flags) → as_path bytes ≡ path.now → Spares thread.old.kept (ops.Open bytes flags) thread.new.kept) }
     ensures rooted { IfOk result (λ root. IsRooted thread.new root true) }
     ensures called { HasCalled thread.old.kept thread.new.kept }
     ensures errors { IfErr result (TellsError thread.old.kept thread.new.kept) }
@@ -73,6 +74,7 @@ pub(crate) fn give_attribute<D: BlockDevice>(
     requires rooted { IsRooted thread.old root true }
     requires can { CanSetAttr (seen_kept thread.old.kept true false) path.now kind bytes.now }
     ensures done { OnOk result ((given : List ℕ) → as_path given ≡ path.now → Carries thread.old.kept (ops.SetAttr given kind bytes.now) thread.new.kept) }
+    ensures alone { OnOk result ((given : List ℕ) → as_path given ≡ path.now → Spares thread.old.kept (ops.SetAttr given kind bytes.now) thread.new.kept) }
     ensures rooted { IfOk result (λ root. IsRooted thread.new root true) }
     ensures called { HasCalled thread.old.kept thread.new.kept }
     ensures errors { IfErr result (TellsError thread.old.kept thread.new.kept) }
@@ -93,6 +95,7 @@ pub(crate) fn take_attribute<D: BlockDevice>(
     requires rooted { IsRooted thread.old root true }
     requires can { CanRemoveAttr (seen_kept thread.old.kept true false) path.now kind }
     ensures done { OnOk result ((bytes : List ℕ) → as_path bytes ≡ path.now → Carries thread.old.kept (ops.RemoveAttr bytes kind) thread.new.kept) }
+    ensures alone { OnOk result ((bytes : List ℕ) → as_path bytes ≡ path.now → Spares thread.old.kept (ops.RemoveAttr bytes kind) thread.new.kept) }
     ensures rooted { IfOk result (λ root. IsRooted thread.new root true) }
     ensures called { HasCalled thread.old.kept thread.new.kept }
     ensures errors { IfErr result (TellsError thread.old.kept thread.new.kept) }
@@ -112,6 +115,7 @@ pub(crate) fn remove_entry<D: BlockDevice>(
     requires rooted { IsRooted thread.old root true }
     requires can { CanRemove (seen_kept thread.old.kept true false) path.now }
     ensures done { OnOk result ((bytes : List ℕ) → as_path bytes ≡ path.now → Carries thread.old.kept (ops.Remove bytes) thread.new.kept) }
+    ensures alone { OnOk result ((bytes : List ℕ) → as_path bytes ≡ path.now → is_file (tree_in thread.old.kept.disk thread.old.kept.pairs path.now) ≡ true → Spares thread.old.kept (ops.Remove bytes) thread.new.kept) }
     ensures rooted { IfOk result (λ root. IsRooted thread.new root true) }
     ensures called { HasCalled thread.old.kept thread.new.kept }
     ensures errors { IfErr result (TellsError thread.old.kept thread.new.kept) }

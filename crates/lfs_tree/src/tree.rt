@@ -5,7 +5,7 @@ ghost use Rattle.std.specs.List.{list_any};
 ghost use Rattle.std.specs.Option.{option_map};
 ghost use Rattle.lfs_model.specs.History.{OnlyReads, faults};
 ghost use Rattle.lfs_model.specs.Operations as ops;
-ghost use Rattle.lfs_model.specs.TreeEdits.{added, attributes_of, bytes_at, is_directory, removed, renamed, same_path};
+ghost use Rattle.lfs_model.specs.TreeEdits.{added, attributes_of, bytes_at, is_directory, is_file, removed, renamed, same_path};
 ghost use Rattle.lfs_model.specs.BlockSets.{in_flight_count};
 ghost use Rattle.lfs_model.specs.Content.{attribute_of, put_attribute, without_attribute};
 ghost use Rattle.lfs_model.specs.Operations.{Flags};
@@ -26,7 +26,7 @@ ghost use Rattle.lfs_tree.specs.CarryingSlots.{with_attributes_changed};
 ghost use Rattle.lfs_tree.specs.AttributeAt.{IsAttributesSize};
 ghost use Rattle.lfs_tree.specs.Finds.{Finds, list_item_seen};
 ghost use Rattle.lfs_tree.specs.Formatting.{ComesBack, ErasesTwo};
-ghost use Rattle.lfs_tree.specs.Seen.{IsAsked, IsBroken, IsBrokenAsking, IsCarried, IsError, IsMountError as IsMountErrorOf, IsMountedTree, IsSound, SurvivesAs, around_of, tree_seen};
+ghost use Rattle.lfs_tree.specs.Seen.{IsAsked, IsBroken, IsBrokenAsking, IsCarried, IsError, IsMountError as IsMountErrorOf, IsMountedTree, IsSound, LeavesRest, SurvivesAs, around_of, tree_seen};
 
 use crate::attribute_at::attribute_at;
 use crate::attribute_sizes::attributes_size_at;
@@ -349,6 +349,7 @@ impl<D: BlockDevice> Tree<D> {
     pub fn create(&mut self, alloc: Global, path: &Path<'_>) -> Result<(), Error>
         requires { CanCreate self.old path.now }
         ensures done { OnOk result ((bytes : List ℕ) (flags : Flags) → as_path bytes ≡ path.now → flags.write ≡ true → IsCarried self.old (ops.Open bytes flags) self.new) }
+        ensures alone { OnOk result ((bytes : List ℕ) (flags : Flags) → as_path bytes ≡ path.now → flags.write ≡ true → LeavesRest self.old (ops.Open bytes flags) self.new) }
         ensures broken { OnErr result (IsBroken self.old self.new) }
         ensures errors { IfErr result (IsError self.old self.new) }
         ensures survives { SurvivesAs self.old self.new (added path.now (FileNode [] []) (tree_seen self.old)) }
@@ -375,6 +376,7 @@ impl<D: BlockDevice> Tree<D> {
     pub fn remove(&mut self, alloc: Global, path: &Path<'_>) -> Result<(), Error>
         requires { CanRemove self.old path.now }
         ensures done { OnOk result ((bytes : List ℕ) → as_path bytes ≡ path.now → IsCarried self.old (ops.Remove bytes) self.new) }
+        ensures alone { OnOk result ((bytes : List ℕ) → as_path bytes ≡ path.now → is_file (tree_seen self.old path.now) ≡ true → LeavesRest self.old (ops.Remove bytes) self.new) }
         ensures broken { OnErr result (IsBroken self.old self.new) }
         ensures errors { IfErr result (IsError self.old self.new) }
         ensures survives { SurvivesAs self.old self.new (removed path.now (tree_seen self.old)) }
@@ -435,6 +437,7 @@ impl<D: BlockDevice> Tree<D> {
     ) -> Result<(), Error>
         requires { CanSetAttr self.old path.now kind bytes.now }
         ensures done { OnOk result ((given : List ℕ) → as_path given ≡ path.now → IsCarried self.old (ops.SetAttr given kind bytes.now) self.new) }
+        ensures alone { OnOk result ((given : List ℕ) → as_path given ≡ path.now → LeavesRest self.old (ops.SetAttr given kind bytes.now) self.new) }
         ensures broken { OnErr result (IsBroken self.old self.new) }
         ensures errors { IfErr result (IsError self.old self.new) }
         ensures survives { SurvivesAs self.old self.new (with_attributes_changed path.now (put_attribute kind bytes.now) (tree_seen self.old)) }
@@ -493,6 +496,7 @@ impl<D: BlockDevice> Tree<D> {
     pub fn remove_attr(&mut self, alloc: Global, path: &Path<'_>, kind: u8) -> Result<(), Error>
         requires { CanRemoveAttr self.old path.now kind }
         ensures done { OnOk result ((bytes : List ℕ) → as_path bytes ≡ path.now → IsCarried self.old (ops.RemoveAttr bytes kind) self.new) }
+        ensures alone { OnOk result ((bytes : List ℕ) → as_path bytes ≡ path.now → LeavesRest self.old (ops.RemoveAttr bytes kind) self.new) }
         ensures broken { OnErr result (IsBroken self.old self.new) }
         ensures errors { IfErr result (IsError self.old self.new) }
         ensures survives { SurvivesAs self.old self.new (with_attributes_changed path.now (without_attribute kind) (tree_seen self.old)) }

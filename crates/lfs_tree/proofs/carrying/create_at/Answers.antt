@@ -1,13 +1,14 @@
 use Rattle.std.proofs.Common.{sym, ap, subst, ◌∙◌, Err}
 use Rattle.std.specs.Prelude.{IfErr}
 use Rattle.std.proofs.lemmas.Result.{err_from_is_err_and}
-use Rattle.lfs_operations.specs.Changing.{WritesIn}
+use Rattle.lfs_model.specs.Operations as ops
+use Rattle.lfs_operations.specs.Changing.{WritesIn, Alters}
 use Rattle.lfs_operations.specs.Creating.{CanCreate, IsCreated, with_file}
 use Rattle.lfs_operations.specs.Making.{HasRoomFor}
 use Rattle.lfs_thread.specs.Kept.{Kept}
 use Rattle.lfs_tree.specs.Carrying.{SurvivesTo, TellsError}
 use Rattle.lfs_tree.proofs.Carried.{read_is}
-use Rattle.lfs_tree.proofs.CarryCreated.{can_create, created_at, created_survives}
+use Rattle.lfs_tree.proofs.CarryCreated.{can_create, created_alone, created_at, created_survives}
 use Rattle.lfs_tree.proofs.CarryRooms.{room_for}
 use Rattle.lfs_tree.proofs.CarrySurvives.{survives_reading}
 use Rattle.lfs_tree.proofs.CarryTold.{called_by_writing, tells_error, told_with_room}
@@ -54,6 +55,17 @@ returns-clause-done g c bytes flags e =
     let w = subst (λ k. WritesIn k p.spot.pair new) (read_is t.kept mid only) c.create.ensures.device in
     let is = subst (λ k. (can : CanCreate k p.spot.pair p.spot.id p.name.now) → IsCreated k new can.path p.name.now) (read_is t.kept mid only) c.in_ok-create.ensures.created in
     created_at t c.args.root c.requires.rests c.args.path.now c.know_names.ensures c.know_device.ensures.large c.know_device.ensures.bytes 2 c.requires.can p.name.now p.spot place mid.history new bytes flags only.reads w is e
+
+pub returns-clause-alone : goal.returns-clause-alone
+returns-clause-alone g c bytes flags e none files =
+    let t = c.args.thread.now in
+    let mid = c.find_place.new.thread.kept in
+    let new = c.create.new.thread.kept in
+    let p = c.in_ok-place.place in
+    let only = c.find_place.ensures.reading.only in
+    let w = subst (λ k. WritesIn k p.spot.pair new) (read_is t.kept mid only) c.create.ensures.device in
+    let alters = subst (λ k. Alters k p.spot.pair new) (read_is t.kept mid only) c.in_ok-create.ensures.alters in
+    created_alone t c.args.root c.requires.rests c.args.path.now c.know_names.ensures c.know_device.ensures.large c.know_device.ensures.bytes 2 c.requires.can p.name.now p.spot c.in_ok-place.ensures.place mid.history new (ops.Open bytes flags) files w alters
 
 pub returns-clause-called : goal.returns-clause-called
 returns-clause-called g c =

@@ -1,13 +1,14 @@
-use Rattle.std.proofs.Common.{[], sym, ap, subst, ◌∙◌, Err}
+use Rattle.std.proofs.Common.{refl, [], sym, ap, subst, ◌∙◌, Err}
 use Rattle.std.specs.Prelude.{IfErr}
 use Rattle.std.proofs.lemmas.Result.{err_from_is_err_and}
 use Rattle.lfs_model.specs.Content.{without_attribute}
+use Rattle.lfs_model.specs.Operations as ops
 use Rattle.lfs_operations.specs.Editing.{CanEdit, HasRemovedAttribute, with_attributes_at}
 use Rattle.lfs_thread.specs.Device.{two_of}
 use Rattle.lfs_thread.specs.Steps.{Writes, pair_in}
 use Rattle.lfs_tree.specs.Carrying.{SurvivesTo, TellsError}
 use Rattle.lfs_tree.proofs.Carried.{among_one, read_is}
-use Rattle.lfs_tree.proofs.CarryEdited.{can_edit, cleared_at, cleared_survives, slot_below}
+use Rattle.lfs_tree.proofs.CarryEdited.{can_edit, cleared_at, cleared_survives, edited_alone, slot_below}
 use Rattle.lfs_tree.proofs.CarrySurvives.{survives_reading}
 use Rattle.lfs_tree.proofs.CarryTold.{called_by_writing, tells_error, told_by_reading}
 use Rattle.lfs_tree.proofs.Reading.{answered}
@@ -55,6 +56,16 @@ returns-clause-done g c given e =
     let below = slot_below t c.args.root c.requires.rests c.args.path.now c.know_device.ensures.large c.know_device.ensures.bytes s slot mid.history in
     cleared_at t c.args.root c.requires.rests c.args.path.now c.know_device.ensures.large c.know_device.ensures.bytes s slot mid.history new c.args.kind given (two_of (pair_in t.kept s.pair).at) only.reads w
     (among_one t.kept s.pair [] below tt) is e
+
+pub returns-clause-alone : goal.returns-clause-alone
+returns-clause-alone g c given e none files =
+    let t = c.args.thread.now in
+    let mid = c.find_slot.new.thread.kept in
+    let new = c.remove_attribute.new.thread.kept in
+    let s = c.in_ok-slot.slot in
+    let only = c.find_slot.ensures.reading.only in
+    let w = subst (λ k. Writes (two_of (pair_in k s.pair).at) k new) (read_is t.kept mid only) c.remove_attribute.ensures.device in
+    edited_alone t c.args.root c.requires.rests c.args.path.now c.know_device.ensures.large c.know_device.ensures.bytes s c.in_ok-slot.ensures.slot mid.history new (ops.RemoveAttr given c.args.kind) files given [] refl e tt w
 
 pub returns-clause-called : goal.returns-clause-called
 returns-clause-called g c =

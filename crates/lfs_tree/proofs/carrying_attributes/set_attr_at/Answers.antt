@@ -1,14 +1,15 @@
-use Rattle.std.proofs.Common.{sym, ap, subst, ◌∙◌, Err}
+use Rattle.std.proofs.Common.{refl, sym, ap, subst, ◌∙◌, Err}
 use Rattle.std.specs.Prelude.{IfErr}
 use Rattle.std.proofs.lemmas.Result.{err_from_is_err_and}
 use Rattle.lfs_model.specs.Content.{put_attribute}
+use Rattle.lfs_model.specs.Operations as ops
 use Rattle.lfs_operations.specs.Changing.{WritesIn}
 use Rattle.lfs_operations.specs.Editing.{CanSetAttribute, HasSetAttribute, with_attributes_at}
 use Rattle.lfs_operations.specs.Making.{HasRoomFor}
 use Rattle.lfs_thread.specs.Kept.{Kept}
 use Rattle.lfs_tree.specs.Carrying.{SurvivesTo, TellsError}
 use Rattle.lfs_tree.proofs.Carried.{among_one, read_is}
-use Rattle.lfs_tree.proofs.CarryEdited.{can_set, set_at, set_survives, slot_below}
+use Rattle.lfs_tree.proofs.CarryEdited.{can_set, edited_alone, set_at, set_survives, slot_below}
 use Rattle.lfs_tree.proofs.CarryRooms.{room_for}
 use Rattle.lfs_tree.proofs.CarrySurvives.{survives_reading}
 use Rattle.lfs_tree.proofs.CarryTold.{called_by_writing, tells_error, told_with_room}
@@ -58,6 +59,16 @@ returns-clause-done g c given e =
     let below = slot_below t c.args.root c.requires.rests c.args.path.now c.know_device.ensures.large c.know_device.ensures.bytes s slot mid.history in
     set_at t c.args.root c.requires.rests c.args.path.now c.know_device.ensures.large c.know_device.ensures.bytes s slot mid.history new c.args.kind c.args.bytes.now given _ c.requires.can only.reads w.writes
     (among_one t.kept s.pair w.fresh below w.free) is e
+
+pub returns-clause-alone : goal.returns-clause-alone
+returns-clause-alone g c given e none files =
+    let t = c.args.thread.now in
+    let mid = c.find_slot.new.thread.kept in
+    let new = c.set_attribute.new.thread.kept in
+    let s = c.in_ok-slot.slot in
+    let only = c.find_slot.ensures.reading.only in
+    let w = subst (λ k. WritesIn k s.pair new) (read_is t.kept mid only) c.set_attribute.ensures.device in
+    edited_alone t c.args.root c.requires.rests c.args.path.now c.know_device.ensures.large c.know_device.ensures.bytes s c.in_ok-slot.ensures.slot mid.history new (ops.SetAttr given c.args.kind c.args.bytes.now) files given w.fresh refl e w.free w.writes
 
 pub returns-clause-called : goal.returns-clause-called
 returns-clause-called g c =

@@ -3,7 +3,7 @@ use Rattle.lfs_model.specs.Content.{without_attribute}
 use Rattle.lfs_model.specs.Operations as ops
 use Rattle.lfs_tree.specs.CarryingSlots.{with_attributes_changed}
 use Rattle.lfs_tree.proofs.CarryFreed.{ok_then}
-use Rattle.lfs_tree.proofs.RecoveredFirst.{called_after, carried_after, errors_after, remove_attr_after, survives_after, survives_before}
+use Rattle.lfs_tree.proofs.RecoveredFirst.{called_after, carried_after, errors_after, remove_attr_after, survives_after, survives_before, spares_after}
 use Rattle.lfs_tree.proofs.changing.take_attribute.Goals as goal
 
 pub returns-in_err-root-clause-survives : goal.returns-in_err-root-clause-survives
@@ -14,6 +14,9 @@ drop_attribute_at-requires-clause-can g c = remove_attr_after c.args.thread.now.
 
 pub returns-clause-done : goal.returns-clause-done
 returns-clause-done g c = ok_then c.drop_attribute_at.result _ _ (λ h bytes e. carried_after c.args.thread.now.kept c.recover_first.new.thread.kept c.in_ok-root.ensures.done c.drop_attribute_at.new.thread.kept (ops.RemoveAttr bytes c.args.kind) refl refl (h bytes e)) c.drop_attribute_at.ensures.done
+
+pub returns-clause-alone : goal.returns-clause-alone
+returns-clause-alone g c = ok_then c.drop_attribute_at.result _ _ (λ h bytes e. spares_after c.args.thread.now.kept c.recover_first.new.thread.kept c.in_ok-root.ensures.done c.drop_attribute_at.new.thread.kept (ops.RemoveAttr bytes c.args.kind) (h bytes e)) c.drop_attribute_at.ensures.alone
 
 pub returns-clause-called : goal.returns-clause-called
 returns-clause-called g c = called_after c.args.thread.now.kept c.recover_first.new.thread.kept c.in_ok-root.ensures.done c.drop_attribute_at.new.thread.kept c.drop_attribute_at.ensures.called

@@ -24,7 +24,7 @@ returns-in_err-drop_lost-clause-survives g c = end_survives c.args.thread.now.ke
 pub returns-clause-done : goal.returns-clause-done
 returns-clause-done g c =
     let quiet = c.end_move.ensures.errors.no_fault (λ io. let z = sym c.in_ok-end_move.was ∙ io in absurd (cc)) in
-    settled_whole c.args.thread.now.kept c.end_move.new.thread.kept c.drop_lost.new.thread.kept c.in_ok-end_move.ensures.ended c.in_ok-drop_lost.ensures.dropped
+    settled_whole c.args.thread.now.kept c.end_move.new.thread.kept c.drop_lost.new.thread.kept c.requires.left c.in_ok-end_move.ensures.ended c.in_ok-drop_lost.ensures.dropped
     (recovered_whole c.args.thread.now c.args.root c.end_move.new.thread.kept c.drop_lost.new.thread.kept c.requires.rooted c.requires.left c.in_ok-end_move.ensures.ended c.end_move.ensures.device c.in_ok-drop_lost.ensures.dropped c.drop_lost.ensures.called)
     (c.in_ok-drop_lost.ensures.no_fault ∙ quiet)
 

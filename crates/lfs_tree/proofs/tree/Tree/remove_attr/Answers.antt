@@ -3,7 +3,7 @@ use Rattle.lfs_model.specs.Content.{without_attribute}
 use Rattle.lfs_model.specs.Operations as ops
 use Rattle.lfs_tree.specs.Allowed.{CanRemoveAttr}
 use Rattle.lfs_tree.specs.CarryingSlots.{with_attributes_changed}
-use Rattle.lfs_tree.proofs.Asking.{carried_working, seen_working, survives_working}
+use Rattle.lfs_tree.proofs.Asking.{carried_working, seen_working, survives_working, spares_working}
 use Rattle.lfs_tree.proofs.tree.Tree.remove_attr.Goals as goal
 
 pub take_attribute-requires-clause-can : goal.take_attribute-requires-clause-can
@@ -12,6 +12,9 @@ take_attribute-requires-clause-can g c =
 
 pub returns-in-Ok-clause-done : goal.returns-in-Ok-clause-done
 returns-in-Ok-clause-done g c = λ bytes e. carried_working (g.D.BlockDevice) c.self.inside.image c.in-Mounted.thread c.self.inside.root c.self.inside.is_writable c.self.inside.has_failed c.args.self.now c.in-Mounted.is c.self.invariant c.self.view_is c.requires.works c.requires.writable c.take_attribute.new.thread.kept (ops.RemoveAttr bytes c.args.kind) (c.in-Ok.ensures.done bytes e)
+
+pub returns-in-Ok-clause-alone : goal.returns-in-Ok-clause-alone
+returns-in-Ok-clause-alone g c = λ bytes e. spares_working (g.D.BlockDevice) c.self.inside.image c.in-Mounted.thread c.self.inside.root c.self.inside.is_writable c.self.inside.has_failed c.args.self.now c.in-Mounted.is c.self.invariant c.self.view_is c.requires.works c.requires.writable c.take_attribute.new.thread.kept (ops.RemoveAttr bytes c.args.kind) (c.in-Ok.ensures.alone bytes e)
 
 pub returns-in-Ok-clause-survives : goal.returns-in-Ok-clause-survives
 returns-in-Ok-clause-survives g c = survives_working (g.D.BlockDevice) c.self.inside.image c.in-Mounted.thread c.self.inside.root c.self.inside.is_writable c.self.inside.has_failed c.args.self.now c.in-Mounted.is c.self.invariant c.self.view_is c.requires.works c.requires.writable c.take_attribute.new.thread.kept.history (λ t. with_attributes_changed c.args.path.now (without_attribute c.args.kind) t) c.take_attribute.ensures.survives

@@ -2,4 +2,6 @@
 #![tactic(auto)]
 
 #[cfg(test)]
+mod checksums;
+#[cfg(test)]
 mod mounts;

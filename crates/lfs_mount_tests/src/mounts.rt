@@ -144,8 +144,8 @@ fn device(alloc: Global, root: &[Item], second: Option<[Item; 4]>) -> Result<Ram
     RamDevice::from_bytes(Geometry::new(1024, 128, 16)?, bytes)
 }
 
-// How many blocks are used once the device is mounted.
-fn used<D: BlockDevice + Drop>(alloc: Global, device: D) -> Result<u32, Error> {
+/// How many blocks are used once the device is mounted.
+pub fn used<D: BlockDevice + Drop>(alloc: Global, device: D) -> Result<u32, Error> {
     match mount(alloc, device) {
         Ok(thread) => Ok(thread.into_parts().map.used_count()),
         Err((_, error)) => Err(error),

@@ -46,8 +46,8 @@ pub fn written<D: BlockDevice>(
     Ok((bytes, in_flight(&map)))
 }
 
-// Whether they are those of a plain vector, and how many blocks are in flight.
-fn compared(alloc: Global, calls: [Call; 3]) -> Result<(bool, u32), Error> {
+/// Whether they are those of a plain vector, and how many blocks are in flight.
+pub fn compared(alloc: Global, calls: [Call; 3]) -> Result<(bool, u32), Error> {
     let mut dev = RamDevice::blank(alloc, Geometry::new(1024, 128, 24)?)?;
     let (bytes, blocks) = written(alloc, &mut dev, calls)?;
     let [first, second, third] = calls;
@@ -90,6 +90,28 @@ fn a_list_turns_to_another_place(rt: HostRuntime) -> Result<(), Fail> {
                 (first, place, compared(rt.alloc(), calls)?),
                 (first, place, (true, 3))
             );
+        }
+    }
+    Ok(())
+}
+
+// Each gap, each turn and each place behind the last one: two writes of a byte behind the first.
+#[test]
+fn bytes_are_written_at_two_places(rt: HostRuntime) -> Result<(), Fail> {
+    for (first, few) in SIZES {
+        for (place, more) in SIZES {
+            for (other, most) in SIZES {
+                let calls = [
+                    Call::Write(0, first),
+                    Call::Write(place - 1, 1),
+                    Call::Write(other - 1, 1),
+                ];
+                let blocks = few.max(more).max(most);
+                assert_eq!(rt;
+                    (first, place, other, compared(rt.alloc(), calls)?),
+                    (first, place, other, (true, blocks))
+                );
+            }
         }
     }
     Ok(())

@@ -1,0 +1,324 @@
+#!/usr/bin/env python3
+"""What sessions answer and leave where a call of the device fails, where the device stops, and where memory is refused.
+
+usage: stops.py PROGRAM [--only WORD] [--count N] [--seed WORD] [--keep FOLDER]
+
+PROGRAM is a built lfs_script. Each story is a device or an image and some operations; what they answer and which tree stands
+before and behind each is worked out by session_model.py, which shares nothing with the crates. In turn, from the first call of
+the mount on:
+
+- each call of the device fails once: that operation answers Io, all later ones Failed, without a call of the device; a remount
+  finds the tree from before the operation or from behind it;
+- the device stops at each call, before it, with one byte, 20 or 100 bytes of a program stored, and behind it: a mount finds one
+  of these trees, a recovery keeps it, and nothing is left to recover; the blocks used are those of that tree;
+- and the recovery of what that left is itself stopped at each of its calls, in the same way;
+- each allocation is refused: all answers are right, or one is NoMemory and the later ones Failed, and a remount finds one of
+  these trees.
+
+Last come N stories made at random (contents.py), each stopped at one call, and its recovery at one.
+
+Prints for each story how many there were of each. Fails where anything else came; the script of it is left in FOLDER.
+"""
+
+import argparse
+import collections
+import itertools
+import os
+import random
+import subprocess
+import sys
+import tempfile
+
+from contents import made
+from fail_alloc import Refusing
+from session_model import Model, Node, looks, seen
+
+EXTENTS = ["", " torn 1", " torn 20", " torn 100", " whole"]
+MOST_CALLS = 2000
+IO, FAILED, NO_SESSION, NO_MEMORY = "error Io 5", "refused Failed 200", "error none", "error NoMemory 12"
+top = os.path.dirname(os.path.dirname(os.path.abspath(__file__)))
+
+
+def names(*letters):
+    return [f"/{letter * 200}" for letter in letters]
+
+
+FILE_MADE_AND_MOVED = ["mkdir /d", "open /d/f 102", "write 0 *5000:a", "seek 0 10", "write 0 b", "close 0", "set-attr /d/f 41 x",
+                       "rename /d/f /g", "remove /d", "list /", "open /g 1", "read 0 5000", "close 0", "used-count"]
+ENTRIES = ["mkdir /a", "mkdir /a/b", "open /a/f 102", "write 0 hello", "close 0", "set-attr /a/f 41 x", "set-attr /a 42 yy", "rename /a/f /a/b/g",
+           "rename /a/b/g /h", "rename /h /i", "open /k 102", "close 0", "rename /k /i", "mkdir /e", "rename /a/b /e", "rename /e /a/c", "mkdir /l",
+           "rename /l /a/c", "remove-attr /a 42", "remove /a/c", "remove /a", "remove /i"]
+WRITES = ["open /a 102", "write 0 *200:a", "sync 0", "write 0 *2000:b", "truncate 0 1500", "sync 0", "seek 0 3000", "write 0 c", "seek 0 5", "write 0 *1500:d",
+          "close 0", "open /a 802", "write 0 *1000:e", "close 0", "open /a 402", "close 0", "open /a 2", "write 0 *128:f", "close 0", "remove /a"]
+SPLIT = [line for path in names("b", "c", "d", "e") for line in (f"open {path} 102", "close 0")] + [f"remove {path}" for path in names("b", "c", "d", "e")]
+BESIDE = ["open /a 102", "write 0 *3000:a", "mkdir /d", "open /d/f 1", "set-attr /a 41 x", "rename /d /e", "remove /e", "close 0"]
+D, HELLO, HI = Node(), Node(b"hello"), Node(b"hi")
+FILES = {b"": Node(), b"/a": HELLO, b"/d": D, b"/d/f": HI}
+MOVING = {b"": Node(), b"/d": D, b"/g": HI}
+OTHER_ENTRIES = ["mkdir /x", "open /y 102", "write 0 *2000:y", "close 0"]
+
+
+class Story:
+    """What a device or an image begins as, operations with their answers, and the tree before each of them and behind the last."""
+
+    def __init__(self, name, begin, ops, tree=None, extra=0, counted=True):
+        self.name, self.begin, self.ops, self.extra, self.counted = name, begin, ops, extra, counted
+        words = begin.split(" ")
+        self.sizes = (int(words[1]), int(words[2]), int(words[3]) if words[0] == "fresh" else 16)
+        model = Model(*self.sizes, tree, extra)
+        self.trees, self.answers = [model.tree], []
+        for op in ops:
+            before = {path: Node(node.content, dict(node.attributes)) for path, node in model.tree.items()}
+            self.trees[-1] = before
+            self.answers.append(model.answer(op))
+            self.trees.append(model.tree)
+        self.looks = looks(self.trees)
+        self.behind = self.looks + ["recover"] + self.looks + ["gstate", "used-count"]
+
+    def trees_at(self, op):
+        """Where an operation didn't end: its number, -1 for a mount, None where all ended."""
+        return [self.trees[-1]] if op is None else [self.trees[0]] if op < 0 else self.trees[op : op + 2]
+
+    def is_shown(self, answers, trees):
+        """Whether one of the trees is seen, also behind a recovery, which leaves nothing."""
+        return any(answers == self.answers_of(tree, answers) for tree in trees)
+
+    def answers_of(self, tree, answers):
+        shown = seen(tree, self.looks)
+        used = f"count {Model(*self.sizes, tree, self.extra).used()}" if self.counted else answers[-1]
+        return shown + ["done"] + shown + ["gstate 0 none", used]
+
+
+def stories():
+    yield Story("a file made and moved", "fresh 1024 128 64", FILE_MADE_AND_MOVED)
+    yield Story("the same, where erases keep the bytes", "fresh 1024 128 64 keep", FILE_MADE_AND_MOVED)
+    yield Story("the same, where erases leave zeros", "fresh 1024 128 64 fill 00", FILE_MADE_AND_MOVED)
+    yield Story("entries that come, go and move", "fresh 1024 128 64", ENTRIES)
+    yield Story("the same, where erases keep the bytes", "fresh 1024 128 64 keep", ENTRIES)
+    yield Story("a file written anew", "fresh 1024 128 64", WRITES)
+    yield Story("a pair split and dropped", "fresh 1024 128 64", SPLIT, counted=False)
+    yield Story("entries beside an open file", "fresh 1024 128 64", BESIDE)
+    yield Story("a move between directories", "image 4096 256 files.img", ["rename /d/f /g"], FILES)
+    yield Story("a move onto a file", "image 4096 256 files.img", ["rename /d/f /a"], FILES)
+    yield Story("a directory moved onto another", "image 4096 256 files.img", ["mkdir /e", "rename /d /e"], FILES)
+    yield Story("entries of an image", "image 4096 256 files.img", OTHER_ENTRIES + ["set-attr /d 41 x", "remove /a", "remove /d/f", "remove /d"], FILES)
+    yield Story("a directory made where a move was cut short", "image 4096 256 moving.img", ["mkdir /e"], MOVING)
+    yield Story("the same, ended", "image 4096 256 moving.img", ["recover"], MOVING)
+    yield Story("a directory made where no path leads to one", "image 4096 256 unreached.img", ["mkdir /e"], {b"": Node()})
+    yield Story("a directory made where files are lost", "image 4096 256 lost_files.img", ["mkdir /e"], {b"": Node(), b"/f": HI})
+    yield Story("entries behind two superblocks", "image 4096 256 chain.img", ["mkdir /d"] + OTHER_ENTRIES, {b"": Node(), b"/a": HI}, extra=1)
+
+
+class Wrong(Exception):
+    pass
+
+
+def hold(fact, what):
+    if not fact:
+        raise Wrong(what)
+
+
+def played(program, data, cases):
+    """The answers of each script, all played by one run."""
+    text = "\n".join(line for case in cases for line in case) + "\n"
+    run = subprocess.run([program], cwd=data, input=text.encode(), capture_output=True, timeout=600)
+    answers = run.stdout.decode().split("\n")[:-1]
+    if run.returncode or len(answers) != sum(map(len, cases)):
+        sys.exit(f"a script isn't carried out: status {run.returncode}, {run.stderr!r}")
+    at = 0
+    for case in cases:
+        yield answers[at : at + len(case)]
+        at += len(case)
+
+
+def unfinished(story, answers, error):
+    """Which operation answers the error, -1 for the mount; None where all are right. `answers` are those of the mount and of the operations."""
+    wanted = ["done"] + story.answers
+    first = next((at for at, (answer, right) in enumerate(zip(answers, wanted)) if answer != right), None)
+    if first is None:
+        return None
+    hold(answers[first] == error, f"{(['mount'] + story.ops)[first]}: {answers[first]}")
+    later = FAILED if first else NO_SESSION
+    hold(all(answer == later for answer in answers[first + 1 :]), "an answer behind the error")
+    return first - 1
+
+
+def failing_once(story, nth):
+    return [story.begin, f"mount any {nth}"] + story.ops + ["calls", "stat /", "mkdir /never", "calls", "remount"] + story.behind
+
+
+def judge_once(story, answers):
+    count = 2 + len(story.ops)
+    op = unfinished(story, answers[1:count], IO)
+    calls, root, made, again, remounted = answers[count : count + 5]
+    if op is not None:
+        later = FAILED if op >= 0 else NO_SESSION
+        hold((root, made, again) == (later, later, calls), "a call of the device, or an answer, of a session that has failed")
+        hold(op < 0 or remounted == "done", "no remount")
+        hold(op < 0 or story.is_shown(answers[count + 5 :], story.trees_at(op)), "another tree")
+    return op is not None
+
+
+def stopping(story, nth, extent):
+    return [story.begin, f"mount any {nth} stop{extent}"] + story.ops + ["unmount", "mount"] + story.behind
+
+
+def judge_stop(story, answers):
+    count = 2 + len(story.ops)
+    op = unfinished(story, answers[1:count], IO)
+    hold(answers[count + 1] == "done", "no mount")
+    hold(story.is_shown(answers[count + 2 :], story.trees_at(op)), "another tree")
+    return op is not None
+
+
+def stopping_twice(story, nth, extent, second):
+    again = ["unmount", f"mount any {second} stop{extent}", "recover", "unmount", "mount"]
+    return [story.begin, f"mount any {nth} stop{extent}"] + story.ops + again + story.behind
+
+
+def judge_twice(story, answers):
+    count = 2 + len(story.ops)
+    op = unfinished(story, answers[1:count], IO)
+    _, mounted, recovered, _, last = answers[count : count + 5]
+    hold((mounted, recovered) in ((IO, NO_SESSION), ("done", IO), ("done", "done")) and last == "done", "a recovery, or a mount behind it")
+    hold(story.is_shown(answers[count + 5 :], story.trees_at(op)), "another tree")
+    return recovered != "done"
+
+
+def kept(options, case, what):
+    print(f"  WRONG: {what}", flush=True)
+    if options.keep:
+        path = os.path.join(options.keep, f"{abs(hash(tuple(case)))}.script")
+        with open(path, "w") as file:
+            file.write("\n".join(case) + "\n")
+        print(f"  {path}")
+
+
+def sweep(options, story, cases, judge, batch=40):
+    """How many scripts in turn an error ended, up to the first one that it didn't, and how many were wrong."""
+    count, wrong = 0, 0
+    while True:
+        some = list(itertools.islice(cases, batch))
+        if not some:
+            return count, wrong
+        for case, answers in zip(some, played(options.program, options.data, some)):
+            try:
+                if not judge(story, answers):
+                    return count, wrong
+            except Wrong as told:
+                kept(options, case, told)
+                wrong += 1
+            count += 1
+
+
+def sweeps(options, story):
+    turns = range(1, MOST_CALLS)
+    calls, wrong = sweep(options, story, (failing_once(story, nth) for nth in turns), judge_once)
+    stops, twice = 0, 0
+    for extent in EXTENTS:
+        count, more = sweep(options, story, (stopping(story, nth, extent) for nth in turns), judge_stop)
+        stops, wrong = stops + count, wrong + more
+        for nth in range(1, calls + 2):
+            count, more = sweep(options, story, (stopping_twice(story, nth, extent, second) for second in turns), judge_twice, 12)
+            twice, wrong = twice + count, wrong + more
+    return collections.Counter({"failed calls": calls, "stops": stops, "stops in a recovery": twice, "wrong": wrong})
+
+
+# Stories at random
+
+
+def at_random(options):
+    """How many stories were stopped, in an operation and in a recovery, and how many were wrong."""
+    counts = collections.Counter()
+    for first in range(0, options.count, 40):
+        turns = [random_turn(options.seed, number) for number in range(first, min(first + 40, options.count))]
+        for (story, case), answers in zip(turns, played(options.program, options.data, [case for _, case in turns])):
+            try:
+                counts["stops in a recovery"] += judge_twice(story, answers)
+                counts["stops"] += answers[1 + len(story.ops)] != story.answers[-1]
+            except Wrong as told:
+                kept(options, case, told)
+                counts["wrong"] += 1
+    return counts
+
+
+def random_turn(seed, number):
+    rnd = random.Random(f"{seed}/{number}")
+    blocks, ops = made(seed, number)
+    begin = f"fresh 1024 128 {blocks}" + rnd.choice(["", " keep", " fill 00"])
+    story = Story("at random", begin, [op for op in ops if op != "remount"])
+    return story, stopping_twice(story, rnd.randrange(1, 150), rnd.choice(EXTENTS), rnd.randrange(1, 12))
+
+
+# Refused allocations
+
+
+def without_memory(story):
+    return [story.begin, "mount"] + story.ops + ["remount"] + story.behind
+
+
+def judge_memory(story, run):
+    """Whether the answers are right up to one that there is no memory, if there is one, and nothing is lost."""
+    case, answers = without_memory(story), run.stdout.decode().split("\n")[:-1]
+    count = 2 + len(story.ops)
+    wanted = ["done", "done"] + story.answers + ["done"] + story.answers_of(story.trees[-1], answers)
+    if run.returncode:
+        hold((run.returncode, run.stderr) == (1, b"error: NoMemory (12)\n") and answers == wanted[: len(answers)], "an end without memory")
+        return
+    first = next((at for at, (answer, right) in enumerate(zip(answers, wanted)) if answer != right), None)
+    if first is None:
+        hold(len(answers) == len(case), "answers are missing")
+        return
+    hold(answers[first] == NO_MEMORY, f"{case[first]}: {answers[first]}")
+    later = FAILED if first > 1 else NO_SESSION
+    if first < count:
+        hold(all(answer == later for answer in answers[first + 1 : count]), "an answer behind the error")
+        op = first - 2
+        hold(op < 0 or answers[count] == "done" and story.is_shown(answers[count + 1 :], story.trees_at(op)), "another tree, or no remount")
+    else:
+        hold(all(answer == FAILED for answer in answers[first + 1 :]), "an answer behind the error")
+
+
+def refusals(options, story, refusing):
+    """How many allocations were refused in turn, and how many of these runs were wrong."""
+    case, wrong = without_memory(story), 0
+    text = ("\n".join(case) + "\n").encode()
+    for nth in range(1, 1000000):
+        run, is_refused = refusing.run([options.program], nth, cwd=options.data, input=text)
+        if not is_refused:
+            return nth - 1, wrong
+        try:
+            judge_memory(story, run)
+        except Wrong as what:
+            kept(options, [f"# its allocation {nth} refused"] + case, what)
+            wrong += 1
+
+
+def main():
+    parser = argparse.ArgumentParser(description=__doc__.split("\n")[0])
+    parser.add_argument("program", type=os.path.abspath)
+    parser.add_argument("--only", default="")
+    parser.add_argument("--count", type=int, default=5000)
+    parser.add_argument("--seed", default="stops")
+    parser.add_argument("--keep")
+    options = parser.parse_args()
+    options.data = os.path.join(top, "crates", "lfs_script", "data")
+    wrong = 0
+    with tempfile.TemporaryDirectory() as room:
+        refusing = Refusing(room)
+        for story in stories():
+            if options.only not in story.name:
+                continue
+            counts = sweeps(options, story)
+            counts["refused allocations"], more = refusals(options, story, refusing)
+            counts["wrong"] += more
+            wrong += counts["wrong"]
+            told = ", ".join(f"{counts[what]} {what}" for what in ("failed calls", "stops", "stops in a recovery", "refused allocations", "wrong"))
+            print(f"{story.name} ({story.begin}): {told}", flush=True)
+    counts = at_random(options) if options.only in "at random" else collections.Counter()
+    print(f"at random: {counts['stops']} stops, {counts['stops in a recovery']} stops in a recovery, {counts['wrong']} wrong")
+    return wrong + counts["wrong"] > 0
+
+
+if __name__ == "__main__":
+    sys.exit(main())

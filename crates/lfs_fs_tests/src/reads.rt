@@ -83,3 +83,48 @@ fn a_new_file_reads_few_pairs(rt: HostRuntime) -> Result<(), Fail> {
     assert!(rt; reads.is_some_and(|reads| reads <= 30), "{reads:?}");
     Ok(())
 }
+
+// A path of a name of 200 bytes in `/d`. The paths rise with the numbers.
+fn long_path(number: u32) -> [u8; 203] {
+    let mut path = [b'x'; 203];
+    path[0] = b'/';
+    path[1] = b'd';
+    path[2] = b'/';
+    path[3] = (b'A' as u32 + number / 16 % 16) as u8;
+    path[4] = (b'A' as u32 + number % 16) as u8;
+    path
+}
+
+// Makes files in `/d` until it has so many pairs. Whether it has.
+fn has_pairs(alloc: Global, session: &mut Session<Counted>, pairs: u32) -> Result<bool, Error> {
+    let new = OpenFlags::WRITE | OpenFlags::CREATE;
+    for number in 0..100u32 {
+        if u64::from(session.used_count()?) == 2 + 2 * u64::from(pairs) {
+            return Ok(true);
+        }
+        let fd = session.open(alloc, &long_path(number), new)?;
+        session.close(alloc, fd)?;
+    }
+    Ok(false)
+}
+
+// How many reads a listing of a directory of twelve pairs takes behind a mount.
+fn reads_of_listing(alloc: Global) -> Result<Option<u64>, Error> {
+    let mut session = counted(alloc, Start::Fresh(1024, 128, 256))?;
+    session.mkdir(alloc, b"/d")?;
+    if !has_pairs(alloc, &mut session, 12)? {
+        return Ok(None);
+    }
+    session.remount(alloc)?;
+    let before = session.device().calls(Which::Read);
+    session.list(alloc, b"/d")?;
+    Ok(Some(session.device().calls(Which::Read).saturating_sub(before)))
+}
+
+// Each of them once, and the root's.
+#[test]
+fn a_listing_reads_each_pair_once(rt: HostRuntime) -> Result<(), Fail> {
+    let reads = reads_of_listing(rt.alloc())?;
+    assert!(rt; reads.is_some_and(|reads| reads <= 13), "{reads:?}");
+    Ok(())
+}

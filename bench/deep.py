@@ -6,7 +6,7 @@ usage: deep.py PROGRAM [DEPTH]
 PROGRAM is a built lfs_script. A look-up reads each pair of the directories that it searches once at most: 1,000 for what stands
 in the last of them (the root and 999 others), and as many when it is asked again, since eight blocks are kept. Of directories
 beside each other a look-up searches the root alone, so its pairs are the bound. Prints the reads; fails where they are more, or
-where a mount reads more than three times a pair.
+where a mount takes more than three reads a pair and two.
 """
 
 import os
@@ -35,7 +35,7 @@ def deep(program, most):
         sys.exit(f"other answers: {told}")
     first, again, beyond = (after - before for before, after in zip(reads, reads[1:]))
     print(f"{most} deep: {reads[0]} reads to mount, {first} to look up, {again} again, {beyond} for what isn't there, one deeper")
-    return reads[0] <= 3 * (most + 1) and max(first, again) <= most and beyond <= most + 1
+    return reads[0] <= 3 * (most + 1) + 2 and max(first, again) <= most and beyond <= most + 1
 
 
 def wide(program, most):
@@ -48,7 +48,7 @@ def wide(program, most):
         sys.exit(f"other answers: {told}")
     first, again = (after - before for before, after in zip(reads, reads[1:]))
     print(f"{most} beside each other in {pairs} pairs: {reads[0]} reads to mount, {first} to look up the last, {again} then one in the middle")
-    return reads[0] <= 3 * (most + pairs) and max(first, again) <= pairs
+    return reads[0] <= 3 * (most + pairs) + 2 and max(first, again) <= pairs
 
 
 if __name__ == "__main__":

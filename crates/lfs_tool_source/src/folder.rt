@@ -21,7 +21,7 @@ fn kind_of(kind: FileType) -> io::Result<Kind> {
     } else if kind.is_file() {
         Ok(Kind::File)
     } else {
-        Err(io::Error::from(io::ErrorKind::Unsupported))
+        Err(io::Error::from(io::ErrorKind::InvalidInput))
     }
 }
 

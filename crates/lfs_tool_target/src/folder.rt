@@ -31,7 +31,7 @@ fn make<R: Files>(rt: &R, path: &str) -> io::Result<()> {
 // Refuses a path at which something stands that is no file.
 fn check_place<R: Files>(rt: &R, path: &str) -> io::Result<()> {
     match fs::symlink_metadata(rt, path) {
-        Ok(there) if !there.is_file() => Err(io::Error::from(io::ErrorKind::Unsupported)),
+        Ok(there) if !there.is_file() => Err(io::Error::from(io::ErrorKind::InvalidInput)),
         _ => Ok(()),
     }
 }

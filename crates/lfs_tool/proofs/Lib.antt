@@ -1,3 +1,4 @@
+mod Decimals
 mod KnownBytes
 mod Images
 mod Walked

@@ -2,6 +2,7 @@ ghost use Rattle.std.specs.Prelude.{◌≡◌, IfSome, Some, false, true};
 ghost use Rattle.std.specs.Io.KnownBytes.{Appends, Keeps};
 ghost use Rattle.lfs_tool.specs.Known.{AppendsBeginning};
 ghost use Rattle.lfs_tool.specs.Ending.{own_line, shows_help, status_of};
+ghost use Rattle.lfs_tool.specs.Errors.{tool_line, tool_status};
 
 use crate::output::write_bytes;
 use crate::{Fault, ToolError, Watched};
@@ -27,13 +28,23 @@ fn say<E: Write>(err: &mut Watched<E>, line: &str, status: u8) -> u8
     status
 }
 
+// The line of an error. A failed write is ignored.
+fn say_error<E: Write>(err: &mut Watched<E>, error: ToolError) -> u8
+    ensures status { result ≡ tool_status error }
+    ensures beginning { AppendsBeginning (E.contents err.old.inner) (E.contents err.new.inner) (tool_line error) }
+    ensures line { err.new.has_failed ≡ false → Appends (E.contents err.old.inner) (E.contents err.new.inner) (tool_line error) }
+{
+    let line = error.line();
+    say(err, line.as_str(), error.status())
+}
+
 /// Shows why a run did not do what it was asked, and gives the status with which the program ends.
 ///
 /// | Status | Meaning | Text |
 /// |---|---|---|
 /// | 0 | help was asked for | the parser's text, to `out` |
 /// | 1 | the file system refused, or memory ran out | `error: <name> (<number>)`, to `err` |
-/// | 2 | there is no command line | the parser's text, or `error: give exactly one of -c, -u, -l`, to `err` |
+/// | 2 | there is no command line | the parser's text, `error: give exactly one of -c, -u, -l`, or `error: the command line is not UTF-8`, to `err` |
 /// | 3 | input or output failed | `error: input` or `error: output`, to `err` |
 ///
 /// A failed write is ignored. A line of the tool's own is written whole unless the writer failed; what
@@ -47,11 +58,9 @@ pub fn report<O: Write, E: Write>(fault: &Fault, out: &mut Watched<O>, err: &mut
 {
     match fault {
         Fault::Line(LineError::Modes) => say(err, "error: give exactly one of -c, -u, -l\n", 2),
+        Fault::Line(LineError::NotUtf8) => say(err, "error: the command line is not UTF-8\n", 2),
         Fault::Line(LineError::Parser(error)) => match error.kind() {
-            ErrorKind::OutOfMemory => {
-                let error = ToolError::Fs(Error::NoMemory);
-                say(err, error.line(), error.status())
-            }
+            ErrorKind::OutOfMemory => say_error(err, ToolError::Fs(Error::NoMemory)),
             ErrorKind::DisplayHelp | ErrorKind::DisplayVersion => {
                 show(out, error);
                 0
@@ -61,6 +70,6 @@ pub fn report<O: Write, E: Write>(fault: &Fault, out: &mut Watched<O>, err: &mut
                 2
             }
         },
-        Fault::Tool(error) => say(err, error.line(), error.status()),
+        Fault::Tool(error) => say_error(err, *error),
     }
 }

@@ -1,6 +1,7 @@
 ghost use Rattle.std.specs.Prelude.{◌≡◌};
-ghost use Rattle.lfs_tool.specs.Errors.{error_line, tool_line, tool_status};
+ghost use Rattle.lfs_tool.specs.Errors.{tool_line, tool_status};
 
+use crate::line_text::{LineText, error_text, text_of};
 use lfs_device::Error;
 use lfs_tool_line::LineError;
 
@@ -8,7 +9,7 @@ use lfs_tool_line::LineError;
 #[derive(Clone, Copy, Debug, PartialEq, Eq, thiserror::Error)]
 pub enum ToolError {
     /// The file system refused, or memory ran out.
-    #[error("{}", line_of(*.0).trim_end())]
+    #[error("error: {} ({})", .0.name(), .0.number())]
     Fs(Error),
     /// The image or the source could not be read.
     #[error("error: input")]
@@ -29,41 +30,15 @@ pub enum Fault {
     Tool(ToolError),
 }
 
-// The line that shows an error of the file system.
-fn line_of(error: Error) -> &'static str
-    ensures { result.now ≡ error_line error }
-{
-    match error {
-        Error::NoEnt => "error: NoEnt (2)\n",
-        Error::Io => "error: Io (5)\n",
-        Error::BadFile => "error: BadFile (9)\n",
-        Error::NoMemory => "error: NoMemory (12)\n",
-        Error::Busy => "error: Busy (16)\n",
-        Error::Exist => "error: Exist (17)\n",
-        Error::NotDir => "error: NotDir (20)\n",
-        Error::IsDir => "error: IsDir (21)\n",
-        Error::Invalid => "error: Invalid (22)\n",
-        Error::TooBig => "error: TooBig (27)\n",
-        Error::NoSpace => "error: NoSpace (28)\n",
-        Error::ReadOnly => "error: ReadOnly (30)\n",
-        Error::NameTooLong => "error: NameTooLong (36)\n",
-        Error::NotEmpty => "error: NotEmpty (39)\n",
-        Error::NoAttr => "error: NoAttr (61)\n",
-        Error::Corrupt => "error: Corrupt (84)\n",
-        Error::Failed => "error: Failed (200)\n",
-        Error::EntryFull => "error: EntryFull (201)\n",
-    }
-}
-
 impl ToolError {
     // The line that shows it.
-    pub(crate) fn line(self) -> &'static str
-        ensures { result.now ≡ tool_line self }
+    pub(crate) fn line(self) -> LineText
+        ensures { result.bytes ≡ tool_line self }
     {
         match self {
-            ToolError::Fs(error) => line_of(error),
-            ToolError::Input => "error: input\n",
-            ToolError::Output => "error: output\n",
+            ToolError::Fs(error) => error_text(error),
+            ToolError::Input => text_of("error: input\n"),
+            ToolError::Output => text_of("error: output\n"),
         }
     }
 

@@ -5,6 +5,7 @@ mod ending;
 mod errors;
 mod escape;
 mod input;
+mod line_text;
 mod lines;
 mod listing;
 mod opening;

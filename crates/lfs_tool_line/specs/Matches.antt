@@ -8,7 +8,7 @@ use Rattle.clap.specs.declared.parser.matches.Found.{Found}
 use Rattle.lfs_tool_line.specs.Command.{mklittlefs}
 use Rattle.lfs_tool_line.specs.declared.line.Line.{Line}
 use Rattle.lfs_tool_line.specs.declared.line.LineError.{LineError}
-use Rattle.lfs_tool_line.specs.declared.line.LineError.TheVariants.{Modes, Parser}
+use Rattle.lfs_tool_line.specs.declared.line.LineError.TheVariants.{Modes, NotUtf8, Parser}
 use Rattle.lfs_tool_line.specs.declared.line.Mode.{Mode}
 use Rattle.lfs_tool_line.specs.declared.line.Mode.TheVariants as mode
 
@@ -81,7 +81,8 @@ pub record IsComplete (f : Found) : Type 0 where
   pub image : is_some (first_value f (codes "image")) ≡ true
 
 -- why there is no line: the parser refuses the words, or it takes them and not exactly one mode is
--- given
+-- given; text is UTF-8
 abbrev pub IsFaultOf : List Text → LineError → Type 0
 IsFaultOf words (Parser e) = HasKind (faults words) e
 IsFaultOf words Modes = Parses words × ¬ HasOneMode (rows words)
+IsFaultOf words NotUtf8 = ⊥

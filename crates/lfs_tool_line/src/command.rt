@@ -9,6 +9,22 @@ use clap::{Arg, ArgAction, ArgMatches, Command, Error, value_parser};
 use std::alloc::{AllocError, Global};
 use std::convert::AsStr;
 
+// What stands below the options in the help.
+const EXAMPLES: &str = "\
+Examples:
+  mklittlefs -c settings disk.img        makes an image of the folder settings
+  mklittlefs -l disk.img                 lists what is in it, a line for each
+  mklittlefs -u copy disk.img            puts what is in it into the folder copy
+  mklittlefs -c settings -b 1024 -p 128 -s 262144 disk.img
+  mklittlefs -l -b 1024 -p 128 disk.img  one of 256 KiB with other blocks
+
+Sizes:
+  -b  from 1024 to 65536, a multiple of -p
+  -p  8, 16, 32, 64, 128, 256 or 512, and at most an eighth of -b
+  -s  a multiple of -b: from 2 to 65536 blocks, and at most 268435456
+  With -l and -u the size is that of IMAGE, and -b is the one that it was made
+  with.";
+
 fn folder_arg<'a>(alloc: Global, id: &'a str, short: char, help: &'a str) -> Arg<'a>
     ensures rule { rule_of result ≡ folder id.entry.now short }
     ensures local { result.global ≡ false }
@@ -106,6 +122,7 @@ fn bare_command<'a>(alloc: Global) -> Command<'a>
     Command::new(alloc, "mklittlefs")
         .about("Creates, unpacks or lists an image of a littlefs file system.")
         .override_usage("mklittlefs (-c DIR | -u DIR | -l) [-b N] [-p N] [-s N] IMAGE")
+        .after_help(EXAMPLES)
 }
 
 // Adds the options of which exactly one is to be given.

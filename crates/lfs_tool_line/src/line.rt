@@ -42,6 +42,9 @@ pub enum LineError {
     /// None of `-c`, `-u` and `-l` is given, or more than one is.
     #[error("error: give exactly one of -c, -u, -l")]
     Modes,
+    /// A word isn't UTF-8. `read_line` doesn't answer it, since its words are text.
+    #[error("error: the command line is not UTF-8")]
+    NotUtf8,
 }
 
 // The text of an argument.

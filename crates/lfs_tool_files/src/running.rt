@@ -1,16 +1,15 @@
+ghost use Rattle.std.specs.Prelude.{◌≡◌, ◌≢◌, IfErr};
+ghost use Rattle.std.specs.IoError.{error_kind};
+ghost use Rattle.lfs_tool.specs.Ending.{status_of};
+
 use crate::{ImageFile, create_image};
 use lfs_device::Error;
-use lfs_tool::{
-    Fault, Line, Mode, ToolError, Watched, list, read_line, report, unpack, write_bytes,
-};
+use lfs_tool::{Fault, Line, LineError, Mode, ToolError, Watched, list, read_line, report, unpack};
 use lfs_tool_target::TargetFolder;
 use std::fs::File;
 use std::io;
 use std::io::{ErrorKind, Write};
 use std::rt::Files;
-
-// The status where there is no command line.
-const USAGE: u8 = 2;
 
 fn list_image<R: Files + AllocGlobal, W: Write>(
     rt: &R,
@@ -67,31 +66,32 @@ pub fn run<R: Files + AllocGlobal + Clone + Drop, W: Write>(
     result.map_err(Fault::Tool)
 }
 
-// Shows why there are no words.
-fn refuse_words<O: Write, E: Write>(
-    error: &io::Error,
-    out: &mut Watched<O>,
-    err: &mut Watched<E>,
-) -> u8 {
+// Why there are no words: memory ran out, or one of them is no text.
+fn fault_of(error: &io::Error) -> Fault
+    ensures memory { error_kind error.now ≡ ErrorKind.OutOfMemory → status_of result ≡ 1 }
+    ensures text { error_kind error.now ≢ ErrorKind.OutOfMemory → result ≡ Fault.Line LineError.NotUtf8 }
+{
     if error.kind() == ErrorKind::OutOfMemory {
-        let fault = Fault::Tool(ToolError::Fs(Error::NoMemory));
-        return report(&fault, out, err);
+        Fault::Tool(ToolError::Fs(Error::NoMemory))
+    } else {
+        Fault::Line(LineError::NotUtf8)
     }
-    let _ = write_bytes(err, b"error: the command line is not UTF-8\n");
-    USAGE
 }
 
 /// Runs the program on the words of its command line, or on what there is in their place, and gives the
-/// status with which it ends: that of `lfs_tool::report`, or 2 where a word isn't UTF-8.
+/// status with which it ends: 0, or that of `lfs_tool::report`.
 pub fn answer<R: Files + AllocGlobal + Clone + Drop, O: Write, E: Write>(
     rt: &R,
     words: io::Result<Vec<String>>,
     out: &mut Watched<O>,
     err: &mut Watched<E>,
-) -> u8 {
+) -> u8
+    ensures no_memory { IfErr words (λ e. error_kind e ≡ ErrorKind.OutOfMemory → result ≡ 1) }
+    ensures not_utf8 { IfErr words (λ e. error_kind e ≢ ErrorKind.OutOfMemory → result ≡ 2) }
+{
     let words = match words {
         Ok(words) => words,
-        Err(error) => return refuse_words(&error, out, err),
+        Err(error) => return report(&fault_of(&error), out, err),
     };
     match run(rt, words.as_slice(), out) {
         Ok(()) => 0,

@@ -2,9 +2,8 @@
 use Rattle.std.specs.Prelude.{ℕ, ◌++◌, List, Option, Some, None, Bool, true, false, codes, length, slice_index}
 use Rattle.std.specs.List.{flat_map}
 use Rattle.std.specs.Fmt.{decimal}
-use Rattle.lfs_device.specs.Error.{number_of}
+use Rattle.lfs_device.specs.Error.{name_of, number_of}
 use Rattle.lfs_device.specs.declared.error.Error.{Error}
-use Rattle.lfs_device.specs.declared.error.Error.TheVariants.{NoEnt, Io, BadFile, NoMemory, Busy, Exist, NotDir, IsDir, Invalid, TooBig, NoSpace, ReadOnly, NameTooLong, NotEmpty, NoAttr, Corrupt, Failed, EntryFull}
 use Rattle.lfs_tree.specs.declared.finding.ListItem.{ListItem}
 use Rattle.lfs_fs.specs.declared.gstate.Gstate.{Gstate}
 use Rattle.lfs_fs.specs.declared.run.Reply.{Reply}
@@ -13,26 +12,6 @@ use Rattle.lfs_script_lines.specs.declared.answer.Answer.{Answer}
 use Rattle.lfs_script_lines.specs.declared.answer.Answer.TheVariants as answer
 use Rattle.lfs_script_lines.specs.declared.answer.Calls.{Calls}
 use Rattle.lfs_script_lines.specs.Words.{written}
-
-abbrev pub name_of : Error → List ℕ
-name_of NoEnt = codes "NoEnt"
-name_of Io = codes "Io"
-name_of BadFile = codes "BadFile"
-name_of NoMemory = codes "NoMemory"
-name_of Busy = codes "Busy"
-name_of Exist = codes "Exist"
-name_of NotDir = codes "NotDir"
-name_of IsDir = codes "IsDir"
-name_of Invalid = codes "Invalid"
-name_of TooBig = codes "TooBig"
-name_of NoSpace = codes "NoSpace"
-name_of ReadOnly = codes "ReadOnly"
-name_of NameTooLong = codes "NameTooLong"
-name_of NotEmpty = codes "NotEmpty"
-name_of NoAttr = codes "NoAttr"
-name_of Corrupt = codes "Corrupt"
-name_of Failed = codes "Failed"
-name_of EntryFull = codes "EntryFull"
 
 abbrev pub number_text : ℕ → List ℕ
 number_text n = codes " " ++ decimal n

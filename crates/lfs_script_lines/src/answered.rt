@@ -1,7 +1,7 @@
 // The lines that scripts print.
 
 ghost use Rattle.std.specs.Prelude.{◌≡◌, ◌++◌, OnOk};
-ghost use Rattle.lfs_script_lines.specs.Answers.{answer_text, calls_text, error_text, entry_text, gstate_text, item_text, items_text, moving_text, name_of, number_text, reply_text, stat_text};
+ghost use Rattle.lfs_script_lines.specs.Answers.{answer_text, calls_text, error_text, entry_text, gstate_text, item_text, items_text, moving_text, number_text, reply_text, stat_text};
 
 use crate::answer::{Answer, Calls};
 use crate::written::push_word;
@@ -10,31 +10,6 @@ use lfs_fs::{Gstate, Reply};
 use lfs_tree::ListItem;
 use std::alloc::AllocError;
 use std::io::Write;
-
-fn name_of(error: Error) -> &'static [u8]
-    ensures { result.now ≡ name_of error }
-{
-    match error {
-        Error::NoEnt => b"NoEnt",
-        Error::Io => b"Io",
-        Error::BadFile => b"BadFile",
-        Error::NoMemory => b"NoMemory",
-        Error::Busy => b"Busy",
-        Error::Exist => b"Exist",
-        Error::NotDir => b"NotDir",
-        Error::IsDir => b"IsDir",
-        Error::Invalid => b"Invalid",
-        Error::TooBig => b"TooBig",
-        Error::NoSpace => b"NoSpace",
-        Error::ReadOnly => b"ReadOnly",
-        Error::NameTooLong => b"NameTooLong",
-        Error::NotEmpty => b"NotEmpty",
-        Error::NoAttr => b"NoAttr",
-        Error::Corrupt => b"Corrupt",
-        Error::Failed => b"Failed",
-        Error::EntryFull => b"EntryFull",
-    }
-}
 
 // Adds a space and a number.
 fn push_number(text: &mut Vec<u8>, number: u64) -> Result<(), AllocError>
@@ -51,7 +26,7 @@ fn push_error(text: &mut Vec<u8>, error: Error) -> Result<(), AllocError>
     ensures { OnOk result (text.new.items ≡ text.old.items ++ error_text error) }
 {
     text.push(b' ')?;
-    text.extend_from_slice(name_of(error))?;
+    text.extend_from_slice(error.name().as_bytes())?;
     push_number(text, u64::from(error.number()))
 }
 

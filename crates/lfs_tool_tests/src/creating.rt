@@ -6,6 +6,7 @@ use crate::unpacking::unpacked;
 use lfs_device::{Error, Geometry};
 use lfs_tool::{ToolError, Watched};
 use lfs_tool_create::{create, geometry_for};
+use lfs_tool_source::Source;
 use std::alloc::{AllocError, Global};
 use std::test::Fail;
 
@@ -14,25 +15,33 @@ const NAME_TOO_LONG: &str = "error: NameTooLong (36)\n";
 const NO_SPACE: &str = "error: NoSpace (28)\n";
 
 // What is written of a source, and how it ended.
-fn written(
+pub(crate) fn written<S: Source>(
     alloc: Global,
-    items: Items<'_>,
+    source: &mut S,
     geometry: Geometry,
-) -> Result<(Result<(), ToolError>, Vec<u8>), AllocError> {
-    let mut source = source_of(alloc, items)?;
+) -> (Result<(), ToolError>, Vec<u8>) {
     let mut image = Watched::new(Vec::new(alloc));
-    let result = create(alloc, &mut source, geometry, &mut image);
-    Ok((result, image.inner))
+    let result = create(alloc, source, geometry, &mut image);
+    (result, image.inner)
 }
 
 // What is listed of the image, or the line of an error with which nothing was written.
-fn made(alloc: Global, items: Items<'_>, geometry: Geometry) -> Result<Vec<u8>, AllocError> {
-    let (result, image) = written(alloc, items, geometry)?;
+pub(crate) fn listed<S: Source>(
+    alloc: Global,
+    source: &mut S,
+    geometry: Geometry,
+) -> Result<Vec<u8>, AllocError> {
+    let (result, image) = written(alloc, source, geometry);
     match result {
         Ok(()) => shown(alloc, image.as_slice(), geometry.block_size, geometry.page),
         Err(error) if image.is_empty() => Ok(error_shown(alloc, error)),
         Err(_) => Vec::from_slice(alloc, b"refused, and written\n"),
     }
+}
+
+fn made(alloc: Global, items: Items<'_>, geometry: Geometry) -> Result<Vec<u8>, AllocError> {
+    let mut source = source_of(alloc, items)?;
+    listed(alloc, &mut source, geometry)
 }
 
 // A file, and a folder with an empty one.
@@ -131,6 +140,33 @@ const FULL: &str = "f 128 /a\nf 128 /b\nf 128 /c\nf 128 /d\nf 128 /e\nf 123 /f\n
 
 const SPLIT: &str = "f 128 /a\nf 128 /b\nf 128 /c\nf 128 /d\nf 128 /e\nf 124 /f\n";
 
+// The six files, which fill two pairs of an image of four blocks, and one file more.
+fn made_of_seven(alloc: Global, blocks: u32) -> Result<Vec<u8>, Error> {
+    let bytes = Some([0; 128].as_slice());
+    let items = [
+        (b"/a".as_slice(), bytes),
+        (b"/b", bytes),
+        (b"/c", bytes),
+        (b"/d", bytes),
+        (b"/e", bytes),
+        (b"/f", bytes),
+        (b"/g", Some(b"")),
+    ];
+    let lines = made(alloc, &items, Geometry::new(1024, 128, blocks)?)?;
+    Ok(lines)
+}
+
+const SEVEN: &str = "f 128 /a\nf 128 /b\nf 128 /c\nf 128 /d\nf 128 /e\nf 128 /f\nf 0 /g\n";
+
+#[test]
+fn a_full_image_takes_no_file_more(rt: HostRuntime) -> Result<(), Fail> {
+    let full = made_of_seven(rt.alloc(), 4)?;
+    assert!(rt; full.as_slice() == NO_SPACE.as_bytes());
+    let larger = made_of_seven(rt.alloc(), 6)?;
+    assert!(rt; larger.as_slice() == SEVEN.as_bytes());
+    Ok(())
+}
+
 #[test]
 fn a_full_pair_is_split(rt: HostRuntime) -> Result<(), Fail> {
     let full = made_of_six(rt.alloc(), &[0; 123], 4)?;
@@ -142,8 +178,9 @@ fn a_full_pair_is_split(rt: HostRuntime) -> Result<(), Fail> {
 
 // Whether an image of the folder, unpacked, gives the folder again.
 fn comes_back(alloc: Global) -> Result<bool, Error> {
-    let (_, image) = written(alloc, FOLDER, Geometry::new(4096, 256, 16)?)?;
-    let text = unpacked(alloc, image.as_slice())?;
+    let mut source = source_of(alloc, FOLDER)?;
+    let (_, image) = written(alloc, &mut source, Geometry::new(4096, 256, 16)?);
+    let text = unpacked(alloc, image.as_slice(), 4096, 256)?;
     Ok(text.as_slice() == b"f /a hello\nd /d\nf /d/x \n".as_slice())
 }
 
@@ -161,7 +198,8 @@ const FRESH: [u8; 52] = [
 ];
 
 fn is_fresh(alloc: Global) -> Result<bool, Error> {
-    let (answer, image) = written(alloc, &[], Geometry::new(4096, 256, 16)?)?;
+    let mut source = source_of(alloc, &[])?;
+    let (answer, image) = written(alloc, &mut source, Geometry::new(4096, 256, 16)?);
     let mut wanted = Vec::from_slice(alloc, &FRESH)?;
     wanted.resize(65536, 0xff)?;
     Ok(answer.is_ok() && image.as_slice() == wanted.as_slice())

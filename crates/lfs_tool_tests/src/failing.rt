@@ -3,17 +3,23 @@
 ghost use Rattle.std.specs.Prelude.{◌≡◌, false, true};
 
 use crate::image::{image_of, shifting_block};
+use crate::lines::is_ended;
 use crate::sources::source_of;
 use lfs_device::Geometry;
-use lfs_tool::{ToolError, Watched, list};
+use lfs_tool::{ToolError, Watched, list, unpack};
 use lfs_tool_create::create;
 use lfs_tool_source::{Listed, MemorySource, Source, SourceError};
+use lfs_tool_target::MemoryTarget;
 use std::alloc::{AllocError, Global};
 use std::io;
 use std::io::{Read, Write};
 use std::test::Fail;
 
 const LINES: &[u8] = b"f 0 /b\n";
+
+const INPUT: &str = "error: input\n";
+
+const OUTPUT: &str = "error: output\n";
 
 // Gives at most 30,000 bytes a call, and fails at the call `fails_at`.
 #[derive(Drop)]
@@ -66,9 +72,42 @@ fn a_failing_reader_is_told(rt: HostRuntime) -> Result<(), Fail> {
     for fails_at in 0..7u32 {
         let (result, has_failed, lines) = read_badly(rt.alloc(), image.as_slice(), fails_at);
         let is_told = if (1..=4).contains(&fails_at) {
-            result == Err(ToolError::Input) && has_failed && lines.is_empty()
+            is_ended(rt.alloc(), result, 3, INPUT) && has_failed && lines.is_empty()
         } else {
             result == Ok(()) && !has_failed && lines.as_slice() == LINES
+        };
+        assert!(rt; is_told, "{fails_at}");
+    }
+    Ok(())
+}
+
+// As `read_badly`, of an unpacking, with how many actions were done.
+fn unpacked_badly(
+    alloc: Global,
+    image: &[u8],
+    fails_at: u32,
+) -> (Result<(), ToolError>, bool, usize) {
+    let mut image = Watched::new(Faulty {
+        left: image,
+        calls: 0,
+        fails_at,
+    });
+    let mut target = MemoryTarget {
+        done: Vec::new(alloc),
+    };
+    let result = unpack(alloc, &mut image, 4096, 256, &mut target);
+    (result, image.has_failed, target.done.len())
+}
+
+#[test]
+fn a_failing_reader_of_an_unpacking_is_told(rt: HostRuntime) -> Result<(), Fail> {
+    let image = shifting_image(rt.alloc())?;
+    for fails_at in 0..7u32 {
+        let (result, has_failed, count) = unpacked_badly(rt.alloc(), image.as_slice(), fails_at);
+        let is_told = if (1..=4).contains(&fails_at) {
+            is_ended(rt.alloc(), result, 3, INPUT) && has_failed && count == 0
+        } else {
+            result == Ok(()) && !has_failed && count == 1
         };
         assert!(rt; is_told, "{fails_at}");
     }
@@ -116,13 +155,9 @@ fn a_failing_writer_of_lines_is_told(rt: HostRuntime) -> Result<(), Fail> {
             256,
             &mut out,
         );
-        let wanted = if room < 7 {
-            Err(ToolError::Output)
-        } else {
-            Ok(())
-        };
-        let is_told = result == wanted
-            && out.has_failed == wanted.is_err()
+        let (status, line) = if room < 7 { (3, OUTPUT) } else { (0, "") };
+        let is_told = is_ended(rt.alloc(), result, status, line)
+            && out.has_failed == (room < 7)
             && out.inner.taken.as_slice() == &LINES[..room.min(7)];
         assert!(rt; is_told, "{room}");
     }
@@ -136,7 +171,7 @@ fn a_failing_writer_of_images_is_told(rt: HostRuntime) -> Result<(), Fail> {
         let mut out = writer_of(rt.alloc(), room, 4096);
         let mut source = source_of(rt.alloc(), &[])?;
         let result = create(rt.alloc(), &mut source, geometry, &mut out);
-        let is_told = result == Err(ToolError::Output) && out.has_failed;
+        let is_told = is_ended(rt.alloc(), result, 3, OUTPUT) && out.has_failed;
         assert!(rt; is_told && out.inner.taken.len() == room, "{room}");
     }
     Ok(())
@@ -206,7 +241,7 @@ fn a_failing_source_is_told(rt: HostRuntime) -> Result<(), Fail> {
         };
         let mut out = Watched::new(Vec::new(rt.alloc()));
         let result = create(rt.alloc(), &mut source, geometry, &mut out);
-        let is_told = result == Err(ToolError::Input) && source.has_failed;
+        let is_told = is_ended(rt.alloc(), result, 3, INPUT) && source.has_failed;
         assert!(rt; is_told && out.inner.is_empty(), "{left}");
     }
     Ok(())

@@ -28,7 +28,7 @@ struct Run {
     image: Image,
 }
 
-const RUNS: [Run; 11] = [
+const RUNS: [Run; 19] = [
     Run {
         words: &["-c", "runs/files", "runs/image"],
         status: 0,
@@ -128,6 +128,72 @@ const RUNS: [Run; 11] = [
         err: "error: give exactly one of -c, -u, -l\n",
         image: Image::Old,
     },
+    // sizes that no image has
+    Run {
+        words: &["-l", "-b", "0", "runs/image"],
+        status: 1,
+        out: "",
+        err: "error: Invalid (22)\n",
+        image: Image::Old,
+    },
+    Run {
+        words: &["-l", "-b", "3", "runs/image"],
+        status: 1,
+        out: "",
+        err: "error: Invalid (22)\n",
+        image: Image::Old,
+    },
+    Run {
+        words: &["-l", "-p", "0", "runs/image"],
+        status: 1,
+        out: "",
+        err: "error: Invalid (22)\n",
+        image: Image::Old,
+    },
+    Run {
+        words: &["-c", "runs/files", "-s", "4294967295", "runs/image"],
+        status: 1,
+        out: "",
+        err: "error: Invalid (22)\n",
+        image: Image::Old,
+    },
+    Run {
+        words: &[
+            "-c",
+            "runs/files",
+            "-b",
+            "65536",
+            "-s",
+            "268500992",
+            "runs/image",
+        ],
+        status: 1,
+        out: "",
+        err: "error: Invalid (22)\n",
+        image: Image::Old,
+    },
+    // a folder where a file is to be, and a file where a folder is to be
+    Run {
+        words: &["-l", "runs/files"],
+        status: 3,
+        out: "",
+        err: "error: input\n",
+        image: Image::Old,
+    },
+    Run {
+        words: &["-c", "runs/files", "runs/files"],
+        status: 3,
+        out: "",
+        err: "error: output\n",
+        image: Image::Old,
+    },
+    Run {
+        words: &["-c", "runs/image", "runs/image"],
+        status: 3,
+        out: "",
+        err: "error: input\n",
+        image: Image::Old,
+    },
 ];
 
 // A folder with two files, in a folder of the test's own.
@@ -149,7 +215,7 @@ struct Answer {
     err: Vec<u8>,
 }
 
-fn words_of(alloc: Global, words: &[&str]) -> Result<Vec<String>, AllocError> {
+pub(crate) fn words_of(alloc: Global, words: &[&str]) -> Result<Vec<String>, AllocError> {
     let mut all = vec![in alloc; String::from_str(alloc, "mklittlefs")?]?;
     for word in words {
         all.push(String::from_str(alloc, word)?)?;

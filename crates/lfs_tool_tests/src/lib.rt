@@ -10,6 +10,8 @@ mod files;
 #[cfg(test)]
 mod image;
 #[cfg(test)]
+mod large;
+#[cfg(test)]
 mod lines;
 #[cfg(test)]
 mod listing;

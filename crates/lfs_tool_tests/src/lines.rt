@@ -1,7 +1,7 @@
 // Command lines, and what is shown of those that are refused.
 
 use lfs_device::Error;
-use lfs_tool::{Fault, Line, Mode, ToolError, Watched, read_line, report};
+use lfs_tool::{Fault, Line, LineError, Mode, ToolError, Watched, read_line, report};
 use std::alloc::{AllocError, Global};
 use std::test::Fail;
 
@@ -96,6 +96,20 @@ Options:
   -p <N>      Size of a page in bytes [default: 256]
   -s <N>      Size of the image in bytes, with -c [default: 65536]
   -h, --help  Print help
+
+Examples:
+  mklittlefs -c settings disk.img        makes an image of the folder settings
+  mklittlefs -l disk.img                 lists what is in it, a line for each
+  mklittlefs -u copy disk.img            puts what is in it into the folder copy
+  mklittlefs -c settings -b 1024 -p 128 -s 262144 disk.img
+  mklittlefs -l -b 1024 -p 128 disk.img  one of 256 KiB with other blocks
+
+Sizes:
+  -b  from 1024 to 65536, a multiple of -p
+  -p  8, 16, 32, 64, 128, 256 or 512, and at most an eighth of -b
+  -s  a multiple of -b: from 2 to 65536 blocks, and at most 268435456
+  With -l and -u the size is that of IMAGE, and -b is the one that it was made
+  with.
 ";
 
 // What is shown of why there is no line, or of a run that failed.
@@ -123,6 +137,20 @@ fn is_shown(alloc: Global, fault: &Fault, status: u8, out: &str, err: &str) -> b
     report.status == status
         && report.out.as_slice() == out.as_bytes()
         && report.err.as_slice() == err.as_bytes()
+}
+
+// Whether a call of the tool ended so: with status 0 and no line, or with the status and the line of an
+// error.
+pub(crate) fn is_ended(
+    alloc: Global,
+    answer: Result<(), ToolError>,
+    status: u8,
+    line: &str,
+) -> bool {
+    match answer {
+        Ok(()) => status == 0 && line.is_empty(),
+        Err(error) => is_shown(alloc, &Fault::Tool(error), status, "", line),
+    }
 }
 
 // Whether a fault's own text is so.
@@ -185,13 +213,46 @@ fn the_parser_refuses(rt: HostRuntime) {
 }
 
 // Errors of the tool, their status and their line.
-const ERRORS: [(ToolError, u8, &str); 5] = [
+const ERRORS: [(ToolError, u8, &str); 20] = [
+    (ToolError::Fs(Error::NoEnt), 1, "error: NoEnt (2)\n"),
+    (ToolError::Fs(Error::Io), 1, "error: Io (5)\n"),
+    (ToolError::Fs(Error::BadFile), 1, "error: BadFile (9)\n"),
     (ToolError::Fs(Error::NoMemory), 1, "error: NoMemory (12)\n"),
+    (ToolError::Fs(Error::Busy), 1, "error: Busy (16)\n"),
+    (ToolError::Fs(Error::Exist), 1, "error: Exist (17)\n"),
+    (ToolError::Fs(Error::NotDir), 1, "error: NotDir (20)\n"),
+    (ToolError::Fs(Error::IsDir), 1, "error: IsDir (21)\n"),
     (ToolError::Fs(Error::Invalid), 1, "error: Invalid (22)\n"),
+    (ToolError::Fs(Error::TooBig), 1, "error: TooBig (27)\n"),
+    (ToolError::Fs(Error::NoSpace), 1, "error: NoSpace (28)\n"),
+    (ToolError::Fs(Error::ReadOnly), 1, "error: ReadOnly (30)\n"),
+    (
+        ToolError::Fs(Error::NameTooLong),
+        1,
+        "error: NameTooLong (36)\n",
+    ),
+    (ToolError::Fs(Error::NotEmpty), 1, "error: NotEmpty (39)\n"),
+    (ToolError::Fs(Error::NoAttr), 1, "error: NoAttr (61)\n"),
     (ToolError::Fs(Error::Corrupt), 1, "error: Corrupt (84)\n"),
+    (ToolError::Fs(Error::Failed), 1, "error: Failed (200)\n"),
+    (
+        ToolError::Fs(Error::EntryFull),
+        1,
+        "error: EntryFull (201)\n",
+    ),
     (ToolError::Input, 3, "error: input\n"),
     (ToolError::Output, 3, "error: output\n"),
 ];
+
+const NOT_UTF8: &str = "error: the command line is not UTF-8\n";
+
+#[test]
+fn words_are_utf8(rt: HostRuntime) -> Result<(), Fail> {
+    let fault = Fault::Line(LineError::NotUtf8);
+    assert!(rt; is_shown(rt.alloc(), &fault, 2, "", NOT_UTF8));
+    assert!(rt; is_text(rt.alloc(), &fault, NOT_UTF8)?);
+    Ok(())
+}
 
 #[test]
 fn errors_are_shown(rt: HostRuntime) -> Result<(), Fail> {

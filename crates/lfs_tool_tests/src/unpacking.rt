@@ -3,6 +3,7 @@
 ghost use Rattle.std.specs.Prelude.{◌≡◌, IsErrOf, OnOk, true};
 
 use crate::image::{Entries, Held, image_with};
+use crate::lines::is_ended;
 use crate::shown::error_shown;
 use lfs_tool::{ToolError, Watched, unpack};
 use lfs_tool_target::{Done, MemoryTarget, Target, TargetError};
@@ -65,11 +66,17 @@ fn push_done(text: &mut Vec<u8>, done: &Done) -> Result<(), AllocError> {
 }
 
 // What was done, a line for each action, and behind it the line of an error.
-pub(crate) fn unpacked(alloc: Global, image: &[u8]) -> Result<Vec<u8>, AllocError> {
+pub(crate) fn unpacked(
+    alloc: Global,
+    image: &[u8],
+    block_size: u32,
+    page: u32,
+) -> Result<Vec<u8>, AllocError> {
     let mut target = MemoryTarget {
         done: Vec::new(alloc),
     };
-    let result = unpack(alloc, &mut Watched::new(image), 4096, 256, &mut target);
+    let mut image = Watched::new(image);
+    let result = unpack(alloc, &mut image, block_size, page, &mut target);
     let mut text = Vec::new(alloc);
     for done in &target.done {
         push_done(&mut text, done)?;
@@ -82,7 +89,7 @@ pub(crate) fn unpacked(alloc: Global, image: &[u8]) -> Result<Vec<u8>, AllocErro
 
 fn is_unpacked(alloc: Global, row: Row<'_>) -> Result<bool, AllocError> {
     let image = image_with(alloc, row.0, row.1)?;
-    let text = unpacked(alloc, image.as_slice())?;
+    let text = unpacked(alloc, image.as_slice(), 4096, 256)?;
     Ok(text.as_slice() == row.2.as_bytes())
 }
 
@@ -143,7 +150,8 @@ fn told(alloc: Global, count: usize) -> Result<(Result<(), ToolError>, usize), A
 #[test]
 fn targets_fail(rt: HostRuntime) -> Result<(), Fail> {
     for count in 0..3 {
-        assert!(rt; told(rt.alloc(), count)? == (Err(ToolError::Output), 0));
+        let (result, left) = told(rt.alloc(), count)?;
+        assert!(rt; is_ended(rt.alloc(), result, 3, "error: output\n") && left == 0);
     }
     assert!(rt; told(rt.alloc(), 3)? == (Ok(()), 0));
     Ok(())

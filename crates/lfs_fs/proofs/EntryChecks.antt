@@ -5,19 +5,18 @@ use Rattle.std.specs.List.{onto_first, slice_split, list_all}
 use Rattle.std.proofs.lemmas.Bool.{lt-ltb}
 use Rattle.lfs_device.specs.declared.error.Error.{Error}
 use Rattle.lfs_model.specs.Names.{is_component, slash}
-use Rattle.lfs_model.specs.TreeEdits.{attributes_of, is_directory}
+use Rattle.lfs_model.specs.TreeEdits.{attributes_of}
 use Rattle.lfs_model.specs.Content.{attribute_of}
+use Rattle.lfs_model.specs.Effects.{items_in}
 use Rattle.lfs_model.specs.Operations as ops
 use Rattle.lfs_model.specs.Operations.{Operation, Refusal, path_of}
 use Rattle.lfs_model.specs.Session.{first_of, refuse_if}
 use Rattle.lfs_model.specs.Refusals.{as_path, bad_entry, is_root}
 use Rattle.lfs_model.specs.Tree.{Path}
 use Rattle.lfs_tree.specs.Allowed.{CanRemoveAttr}
-use Rattle.lfs_tree.specs.Finds.{Finds, is_absent, is_directory_node, is_file_node}
+use Rattle.lfs_tree.specs.Finds.{Finds, is_absent, is_file_node}
 use Rattle.lfs_tree.specs.Seen.{Seen, tree_seen, IsAsked}
 use Rattle.lfs_tree.specs.declared.finding.Finding.{Finding}
-use Rattle.lfs_tree.specs.declared.finding.Node.{Node}
-use Rattle.lfs_tree.specs.declared.finding.Node.TheVariants as node
 use Rattle.lfs_fs.specs.EntryPaths.{entry_path}
 use Rattle.lfs_fs.specs.Replies.{passed_with}
 use Rattle.lfs_fs.specs.Held.{Held, refused_by, Checks}
@@ -84,35 +83,22 @@ other_entry (b ∷ c ∷ bytes) h = path_is ∙ go (b == slash) (list_all is_com
 
 -- ---- a list
 
-directory_left : (n : Node) → is_absent n ≡ false → is_file_node n ≡ false → is_directory_node n ≡ true
-directory_left node.Nothing e f = absurd (cc)
-directory_left (node.File size) e f = absurd (cc)
-directory_left (node.Directory has_entries) e f = refl
-
 list_refused : (h : Held) (bytes : List ℕ) (p : Path) (found : Finding) → h.tree.failed ≡ false → path_of bytes ≡ Some p → Finds (tree_seen h.tree) p found →
     refused_by h (ops.ListAll bytes) ≡ first_of (found.fault ∷ refuse_if (is_absent found.node) ops.NoEnt ∷ refuse_if (is_file_node found.node) ops.NotDir ∷ [])
 list_refused h bytes p found works is f = rw (works, is, f.parents, f.nothing, f.files) refl
 
-pub list_checked : (h : Held) (bytes : List ℕ) (p : Path) (found : Finding) (tree : Seen) (absent file : Bool) (a b : Option Refusal) (r : Result Path Error) →
-    false ≡ h.tree.failed → Some p ≡ path_of bytes → IsAsked h.tree tree → Finds (tree_seen h.tree) p found →
+pub list_checked : {A : Type 0} (items : A → List ops.Item) (h : Held) (bytes : List ℕ) (p : Path) (found : Finding) (tree : Seen) (absent file : Bool) (a b : Option Refusal) (x : A) (r : Result A Error) →
+    false ≡ h.tree.failed → Some p ≡ path_of bytes → IsAsked h.tree tree → Finds (tree_seen h.tree) p found → items x ≡ items_in (tree_seen h.tree) p →
     absent ≡ is_absent found.node → a ≡ refuse_if absent ops.NoEnt → file ≡ is_file_node found.node → b ≡ refuse_if file ops.NotDir →
-    r ≡ passed_with (first_of (found.fault ∷ a ∷ b ∷ [])) p →
-    Checks h (ops.ListAll bytes) (λ path. (path ≡ as_path bytes) × (is_directory (tree_seen h.tree path) ≡ true)) r tree
-list_checked h bytes p found tree absent file a b r works is asked f absent_is a_is file_is b_is r_is =
-    decided h (ops.ListAll bytes) (λ path. (path ≡ as_path bytes) × (is_directory (tree_seen h.tree path) ≡ true)) p _ tree r asked
-    (list_refused h bytes p found (sym works) (sym is) f ∙ ap first_of (sym lists)) passes r_is
+    r ≡ passed_with (first_of (found.fault ∷ a ∷ b ∷ [])) x →
+    Checks h (ops.ListAll bytes) (λ z. items_in (tree_seen h.tree) (as_path bytes) ≡ items z) r tree
+list_checked items h bytes p found tree absent file a b x r works is asked f are absent_is a_is file_is b_is r_is =
+    decided h (ops.ListAll bytes) (λ z. items_in (tree_seen h.tree) (as_path bytes) ≡ items z) x _ tree r asked
+    (list_refused h bytes p found (sym works) (sym is) f ∙ ap first_of (sym lists))
+    (λ none. ap (λ z. items_in (tree_seen h.tree) (unwrap_or z [])) (sym is) ∙ sym are) r_is
   where
     lists : (found.fault ∷ a ∷ b ∷ []) ≡ (found.fault ∷ refuse_if (is_absent found.node) ops.NoEnt ∷ refuse_if (is_file_node found.node) ops.NotDir ∷ [])
     lists = both refl (both (when ops.NoEnt a_is absent_is) (both (when ops.NotDir b_is file_is) refl))
-
-    passes : first_of (found.fault ∷ a ∷ b ∷ []) ≡ None → (p ≡ as_path bytes) × (is_directory (tree_seen h.tree p) ≡ true)
-    passes none =
-        let k = neither found.fault (first_of (a ∷ b ∷ [])) none in
-        let l = neither a (first_of (b ∷ [])) k.1 in
-        let m = neither b None l.1 in (
-          ap (λ z. unwrap_or z []) is,
-          f.directories ∙ directory_left found.node (unrefused (is_absent found.node) ops.NoEnt (sym (when ops.NoEnt a_is absent_is) ∙ l.0)) (unrefused (is_file_node found.node) ops.NotDir (sym (when ops.NotDir b_is file_is) ∙ m.0)),
-        )
 
 -- ---- attributes
 
@@ -134,36 +120,35 @@ pub got : {A : Type 0} (f : A → List ℕ) (o : Option A) (y : Option (List ℕ
 got f None y none x e empty is = ap (λ z. unwrap_or z []) (sym e) ∙ sym empty ∙ ap f (sym is)
 got f (Some v) y none x e empty is = ap (λ z. unwrap_or z []) (sym e) ∙ ap f (sym is)
 
-pub get_checked : {A : Type 0} (items : A → List ℕ) (h : Held) (bytes : List ℕ) (kind : ℕ) (p : Path) (found : Finding) (mid tree : Seen) (attribute : Option A) (absent none : Bool) (a b : Option Refusal) (x : A) (r : Result A Error) →
-    false ≡ h.tree.failed → Some p ≡ entry_path bytes → mid ≡ record h.tree { history = mid.history } → IsAsked h.tree tree → Finds (tree_seen h.tree) p found →
-    option_map items attribute ≡ attribute_of kind (attributes_of (tree_seen mid p)) → unwrap_or (attribute_of kind (attributes_of (tree_seen mid p))) [] ≡ items x →
+pub get_checked : {A : Type 0} (items : A → List ℕ) (h : Held) (bytes : List ℕ) (kind : ℕ) (p : Path) (found : Finding) (tree : Seen) (attribute : Option A) (absent none : Bool) (a b : Option Refusal) (x : A) (r : Result A Error) →
+    false ≡ h.tree.failed → Some p ≡ entry_path bytes → IsAsked h.tree tree → Finds (tree_seen h.tree) p found →
+    option_map items attribute ≡ attribute_of kind (attributes_of (tree_seen h.tree p)) → unwrap_or (attribute_of kind (attributes_of (tree_seen h.tree p))) [] ≡ items x →
     absent ≡ is_absent found.node → a ≡ refuse_if absent ops.NoEnt → none ≡ is_none attribute → b ≡ refuse_if none ops.NoAttr →
     r ≡ passed_with (first_of (found.fault ∷ a ∷ b ∷ [])) x → Checks h (ops.GetAttr bytes kind) (λ v. unwrap_or (attribute_of kind (attributes_of (tree_seen h.tree (as_path bytes)))) [] ≡ items v) r tree
-get_checked items h bytes kind p found mid tree attribute absent none a b x r works is same asked f attr given absent_is a_is none_is b_is r_is =
+get_checked items h bytes kind p found tree attribute absent none a b x r works is asked f attr given absent_is a_is none_is b_is r_is =
     decided h (ops.GetAttr bytes kind) (λ v. unwrap_or (attribute_of kind (attributes_of (tree_seen h.tree (as_path bytes)))) [] ≡ items v) x _ tree r asked
     (get_refused h bytes kind p found (sym works) (is_entry bytes p is).0 (root_false bytes p is) f ∙ ap first_of (sym lists))
-    (λ n. ap (λ q. unwrap_or (attribute_of kind (attributes_of (tree_seen h.tree (unwrap_or q [])))) []) (is_entry bytes p is).0
-    ∙ ap (λ (t : Seen). unwrap_or (attribute_of kind (attributes_of (tree_seen t p))) []) (sym same) ∙ given) r_is
+    (λ n. ap (λ q. unwrap_or (attribute_of kind (attributes_of (tree_seen h.tree (unwrap_or q [])))) []) (is_entry bytes p is).0 ∙ given) r_is
   where
     lists : (found.fault ∷ a ∷ b ∷ []) ≡ (found.fault ∷ refuse_if (is_absent found.node) ops.NoEnt ∷ refuse_if (is_none (attribute_of kind (attributes_of (tree_seen h.tree p)))) ops.NoAttr ∷ [])
-    lists = both refl (both (when ops.NoEnt a_is absent_is) (both (when ops.NoAttr b_is (missing items attribute _ none (attr ∙ ap (λ (t : Seen). attribute_of kind (attributes_of (tree_seen t p))) same) none_is)) refl))
+    lists = both refl (both (when ops.NoEnt a_is absent_is) (both (when ops.NoAttr b_is (missing items attribute _ none attr none_is)) refl))
 
 remove_attr_refused : (h : Held) (bytes : List ℕ) (kind : ℕ) (p : Path) (found : Finding) → h.tree.failed ≡ false → h.tree.writable ≡ true → path_of bytes ≡ Some p → is_root p ≡ false → Finds (tree_seen h.tree) p found →
     refused_by h (ops.RemoveAttr bytes kind) ≡ first_of (found.fault ∷ refuse_if (is_absent found.node) ops.NoEnt ∷ refuse_if (is_none (attribute_of kind (attributes_of (tree_seen h.tree p)))) ops.NoAttr ∷ [])
 remove_attr_refused h bytes kind p found works writable is entry f = rw (works, writable, is, entry, f.parents, f.nothing) refl
 
-pub remove_attr_checked : {A : Type 0} (items : A → List ℕ) (h : Held) (bytes : List ℕ) (kind : ℕ) (p : Path) (found : Finding) (mid tree : Seen) (attribute : Option A) (absent none : Bool) (a b : Option Refusal) (r : Result Path Error) →
-    false ≡ h.tree.failed → true ≡ h.tree.writable → Some p ≡ entry_path bytes → mid ≡ record h.tree { history = mid.history } → IsAsked h.tree tree → Finds (tree_seen h.tree) p found →
-    option_map items attribute ≡ attribute_of kind (attributes_of (tree_seen mid p)) →
+pub remove_attr_checked : {A : Type 0} (items : A → List ℕ) (h : Held) (bytes : List ℕ) (kind : ℕ) (p : Path) (found : Finding) (tree : Seen) (attribute : Option A) (absent none : Bool) (a b : Option Refusal) (r : Result Path Error) →
+    false ≡ h.tree.failed → true ≡ h.tree.writable → Some p ≡ entry_path bytes → IsAsked h.tree tree → Finds (tree_seen h.tree) p found →
+    option_map items attribute ≡ attribute_of kind (attributes_of (tree_seen h.tree p)) →
     absent ≡ is_absent found.node → a ≡ refuse_if absent ops.NoEnt → none ≡ is_none attribute → b ≡ refuse_if none ops.NoAttr →
     r ≡ passed_with (first_of (found.fault ∷ a ∷ b ∷ [])) p → Checks h (ops.RemoveAttr bytes kind) (λ path. path ≡ as_path bytes) r tree
-remove_attr_checked items h bytes kind p found mid tree attribute absent none a b r works writable is same asked f attr absent_is a_is none_is b_is r_is =
+remove_attr_checked items h bytes kind p found tree attribute absent none a b r works writable is asked f attr absent_is a_is none_is b_is r_is =
     decided h (ops.RemoveAttr bytes kind) (λ path. path ≡ as_path bytes) p _ tree r asked
     (remove_attr_refused h bytes kind p found (sym works) (sym writable) (is_entry bytes p is).0 (root_false bytes p is) f ∙ ap first_of (sym lists))
     (λ n. ap (λ z. unwrap_or z []) (sym (is_entry bytes p is).0)) r_is
   where
     lists : (found.fault ∷ a ∷ b ∷ []) ≡ (found.fault ∷ refuse_if (is_absent found.node) ops.NoEnt ∷ refuse_if (is_none (attribute_of kind (attributes_of (tree_seen h.tree p)))) ops.NoAttr ∷ [])
-    lists = both refl (both (when ops.NoEnt a_is absent_is) (both (when ops.NoAttr b_is (missing items attribute _ none (attr ∙ ap (λ (t : Seen). attribute_of kind (attributes_of (tree_seen t p))) same) none_is)) refl))
+    lists = both refl (both (when ops.NoEnt a_is absent_is) (both (when ops.NoAttr b_is (missing items attribute _ none attr none_is)) refl))
 
 pub good_root : (o : Option Path) → bad_entry o ≡ false → is_root (unwrap_or o []) ≡ false
 good_root None e = absurd (cc)

@@ -35,3 +35,4 @@ pub mod OpenedWriters
 pub mod Stopping
 pub mod StoppedCalls
 pub mod Calls
+pub mod FewReads

@@ -54,14 +54,14 @@ set_refused : (h : Held) (bytes : List ℕ) (kind : ℕ) (value : List ℕ) (p :
     ∷ refuse_if (is_overcharged (around_of h.tree) (last_name p) (put_attribute kind value (attributes_of (tree_seen h.tree p)))) ops.EntryFull ∷ refuse_if (lacks (around_of h.tree) h.files 2) ops.NoSpace ∷ [])
 set_refused h bytes kind value p found works writable is entry f = rw (works, writable, is, entry, f.parents, f.nothing) refl
 
-pub set_attr_checked : (h : Held) (bytes : List ℕ) (kind : ℕ) (value : List ℕ) (p : Path) (found : Finding) (mid later tree : Seen) (replaced : Option (Vec ℕ Global)) (size n len : ℕ) (absent over lack : Bool) (a b d e : Option Refusal) (r : Result Path Error) →
-    false ≡ h.tree.failed → true ≡ h.tree.writable → Some p ≡ entry_path bytes → IsAsked h.tree mid → IsAsked mid later → IsAsked h.tree tree → Finds (tree_seen h.tree) p found →
-    option_map (λ (v : Vec ℕ Global). v.items) replaced ≡ attribute_of kind (attributes_of (tree_seen mid p)) → IsAttributesSize (attributes_of (tree_seen later p)) size → n + replaced_size replaced ≡ size + (4 + length value) →
+pub set_attr_checked : (h : Held) (bytes : List ℕ) (kind : ℕ) (value : List ℕ) (p : Path) (found : Finding) (mid tree : Seen) (replaced : Option (Vec ℕ Global)) (size n len : ℕ) (absent over lack : Bool) (a b d e : Option Refusal) (r : Result Path Error) →
+    false ≡ h.tree.failed → true ≡ h.tree.writable → Some p ≡ entry_path bytes → IsAsked h.tree mid → IsAsked h.tree tree → Finds (tree_seen h.tree) p found →
+    option_map (λ (v : Vec ℕ Global). v.items) replaced ≡ attribute_of kind (attributes_of (tree_seen h.tree p)) → IsAttributesSize (attributes_of (tree_seen mid p)) size → n + replaced_size replaced ≡ size + (4 + length value) →
     absent ≡ is_absent found.node → a ≡ refuse_if absent ops.NoEnt → b ≡ refuse_if (nat_lt 1022 (length value)) ops.TooBig →
     len ≡ length (last_name p) → ((name : List ℕ) (attributes : Attributes) → length name ≡ len → attributes_size attributes ≡ n → over ≡ is_overcharged (around_of tree) name attributes) → d ≡ refuse_if over ops.EntryFull →
     lack ≡ lacks (around_of tree) h.files 2 → e ≡ refuse_if lack ops.NoSpace →
     r ≡ passed_with (first_of (found.fault ∷ a ∷ b ∷ d ∷ e ∷ [])) p → Checks h (ops.SetAttr bytes kind value) (λ path. path ≡ as_path bytes) r tree
-set_attr_checked h bytes kind value p found mid later tree replaced size n len absent over lack a b d e r works writable is first second asked f replaced_was sized sum absent_is a_is b_is len_is over_is d_is lack_is e_is r_is =
+set_attr_checked h bytes kind value p found mid tree replaced size n len absent over lack a b d e r works writable is first asked f replaced_was sized sum absent_is a_is b_is len_is over_is d_is lack_is e_is r_is =
     decided h (ops.SetAttr bytes kind value) (λ path. path ≡ as_path bytes) p _ tree r asked
     (set_refused h bytes kind value p found (sym works) (sym writable) given (root_false bytes p is) f ∙ ap first_of (sym lists))
     (λ none. ap (λ z. unwrap_or z []) (sym given)) r_is
@@ -75,11 +75,8 @@ set_attr_checked h bytes kind value p found mid later tree replaced size n len a
     was : attributes_of (tree_seen mid p) ≡ attributes_of (tree_seen h.tree p)
     was = ap (λ (t : Seen). attributes_of (tree_seen t p)) first.same
 
-    were : attributes_of (tree_seen later p) ≡ attributes_of (tree_seen h.tree p)
-    were = ap (λ (t : Seen). attributes_of (tree_seen t p)) second.same ∙ was
-
     put : attributes_size (put_attribute kind value (attributes_of (tree_seen h.tree p))) ≡ n
-    put = put_size (attributes_of (tree_seen h.tree p)) size kind n replaced value (subst (λ z. IsAttributesSize z size) were sized) (replaced_was ∙ ap (attribute_of kind) was) sum
+    put = put_size (attributes_of (tree_seen h.tree p)) size kind n replaced value (subst (λ z. IsAttributesSize z size) was sized) replaced_was sum
 
     lists : (found.fault ∷ a ∷ b ∷ d ∷ e ∷ []) ≡ (found.fault ∷ refuse_if (is_absent found.node) ops.NoEnt ∷ refuse_if (nat_lt 1022 (length value)) ops.TooBig
         ∷ refuse_if (is_overcharged (around_of h.tree) (last_name p) (put_attribute kind value (attributes_of (tree_seen h.tree p)))) ops.EntryFull ∷ refuse_if (lacks (around_of h.tree) h.files 2) ops.NoSpace ∷ [])

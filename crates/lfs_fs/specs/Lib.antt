@@ -10,3 +10,4 @@ pub mod RenamePaths
 pub mod Changing
 pub mod Staying
 pub mod Told
+pub mod LookUps

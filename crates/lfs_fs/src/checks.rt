@@ -1,17 +1,19 @@
 // The checks of each operation, in order.
 
-ghost use Rattle.std.specs.Prelude.{if◌then◌else◌, nat_lt, ◌+◌, ◌≡◌, ◌<◌, ◌^◌, ℕ, List, [], length, true, false, is_some, unwrap_or};
+ghost use Rattle.std.specs.Prelude.{if◌then◌else◌, nat_lt, ◌+◌, ◌≡◌, ◌<◌, ◌^◌, ℕ, List, [], length, map, true, false, is_some, unwrap_or};
 ghost use Rattle.lfs_model.specs.Operations as ops;
 ghost use Rattle.lfs_model.specs.Session.{is_overcharged};
 ghost use Rattle.lfs_model.specs.Disk.{block_count};
 ghost use Rattle.lfs_fs.specs.FileSeen.{entry_of, files_seen, held_by_all, held_for, writer_in};
 ghost use Rattle.lfs_model.specs.Refusals.{as_path};
-ghost use Rattle.lfs_model.specs.Effects.{size_of};
+ghost use Rattle.lfs_model.specs.Effects.{items_in, size_of};
 ghost use Rattle.lfs_fs.specs.FlagsSeen.{flags_seen};
-ghost use Rattle.lfs_model.specs.TreeEdits.{attributes_of, is_directory};
+ghost use Rattle.lfs_model.specs.TreeEdits.{attributes_of};
 ghost use Rattle.lfs_model.specs.Content.{attribute_of};
 ghost use Rattle.lfs_fs.specs.EntryPaths.{entry_path};
 ghost use Rattle.lfs_fs.specs.Held.{Checks, ChecksKept, IsOpening, IsReadable, IsReady, held_of};
+ghost use Rattle.lfs_fs.specs.LookUps.{AddsFew};
+ghost use Rattle.lfs_tree.specs.Finds.{list_item_seen};
 ghost use Rattle.lfs_tree.specs.Seen.{around_of, tree_seen};
 ghost use Rattle.lfs_model.specs.Slots.{Attributes, attributes_size};
 ghost use Rattle.lfs_fs.specs.Replacing.{CanReplace, replaced_size};
@@ -21,7 +23,7 @@ use crate::flags::OpenFlags;
 use crate::passing::{both, passed};
 use bitflags::Flags;
 use lfs_device::{BlockDevice, Error};
-use lfs_tree::{Path, Tree, refuse_if};
+use lfs_tree::{ListItem, Path, Tree, refuse_if};
 use std::alloc::Global;
 
 // Whether a new entry with a name of that length takes too much of its pair.
@@ -66,7 +68,8 @@ pub(crate) fn check_stat<D: BlockDevice>(
     files: &Files,
     bytes: &[u8],
 ) -> Result<Option<u32>, Error>
-    ensures { Checks (held_of tree.old files.now) (ops.Stat bytes.now) (λ size. size_of (tree_seen tree.old (as_path bytes.now)) ≡ size) result tree.new }
+    ensures checks { Checks (held_of tree.old files.now) (ops.Stat bytes.now) (λ size. size_of (tree_seen tree.old (as_path bytes.now)) ≡ size) result tree.new }
+    ensures few { AddsFew tree.old (ops.Stat bytes.now) tree.new }
 {
     if tree.has_failed() {
         return Err(Error::Failed);
@@ -240,14 +243,15 @@ pub(crate) fn parse_entry<'a>(bytes: &'a [u8]) -> Option<Path<'a>>
     }
 }
 
-// The path of a directory.
-pub(crate) fn check_list<'a, D: BlockDevice>(
+// What stands in a directory, in name order.
+pub(crate) fn check_list<D: BlockDevice>(
     alloc: Global,
     tree: &mut Tree<D>,
     files: &Files,
-    bytes: &'a [u8],
-) -> Result<Path<'a>, Error>
-    ensures { Checks (held_of tree.old files.now) (ops.ListAll bytes.now) (λ path. (path ≡ as_path bytes.now) × (is_directory (tree_seen tree.old path) ≡ true)) result tree.new }
+    bytes: &[u8],
+) -> Result<Vec<ListItem>, Error>
+    ensures checks { Checks (held_of tree.old files.now) (ops.ListAll bytes.now) (λ items. items_in (tree_seen tree.old) (as_path bytes.now) ≡ map list_item_seen items.items) result tree.new }
+    ensures few { AddsFew tree.old (ops.ListAll bytes.now) tree.new }
 {
     if tree.has_failed() {
         return Err(Error::Failed);
@@ -255,13 +259,13 @@ pub(crate) fn check_list<'a, D: BlockDevice>(
     let Some(path) = Path::parse(bytes) else {
         return Err(Error::Invalid);
     };
-    let found = tree.look_up(alloc, &path)?;
+    let listing = tree.list(alloc, &path)?;
     let checks = [
-        found.fault,
-        refuse_if(found.node.is_nothing(), Error::NoEnt),
-        refuse_if(found.node.is_file(), Error::NotDir),
+        listing.finding.fault,
+        refuse_if(listing.finding.node.is_nothing(), Error::NoEnt),
+        refuse_if(listing.finding.node.is_file(), Error::NotDir),
     ];
-    passed(&checks, path)
+    passed(&checks, listing.items)
 }
 
 // An attribute's bytes.
@@ -272,7 +276,8 @@ pub(crate) fn check_get_attr<D: BlockDevice>(
     bytes: &[u8],
     kind: u8,
 ) -> Result<Vec<u8>, Error>
-    ensures { Checks (held_of tree.old files.now) (ops.GetAttr bytes.now kind) (λ v. unwrap_or (attribute_of kind (attributes_of (tree_seen tree.old (as_path bytes.now)))) [] ≡ v.items) result tree.new }
+    ensures checks { Checks (held_of tree.old files.now) (ops.GetAttr bytes.now kind) (λ v. unwrap_or (attribute_of kind (attributes_of (tree_seen tree.old (as_path bytes.now)))) [] ≡ v.items) result tree.new }
+    ensures few { AddsFew tree.old (ops.GetAttr bytes.now kind) tree.new }
 {
     if tree.has_failed() {
         return Err(Error::Failed);
@@ -280,14 +285,13 @@ pub(crate) fn check_get_attr<D: BlockDevice>(
     let Some(path) = parse_entry(bytes) else {
         return Err(Error::Invalid);
     };
-    let found = tree.look_up(alloc, &path)?;
-    let attribute = tree.get_attr(alloc, &path, kind)?;
+    let found = tree.get_attr(alloc, &path, kind)?;
     let checks = [
-        found.fault,
-        refuse_if(found.node.is_nothing(), Error::NoEnt),
-        refuse_if(attribute.is_none(), Error::NoAttr),
+        found.finding.fault,
+        refuse_if(found.finding.node.is_nothing(), Error::NoEnt),
+        refuse_if(found.bytes.is_none(), Error::NoAttr),
     ];
-    passed(&checks, attribute.unwrap_or(Vec::new(alloc)))
+    passed(&checks, found.bytes.unwrap_or(Vec::new(alloc)))
 }
 
 // The path of an entry that has the attribute.
@@ -309,12 +313,11 @@ pub(crate) fn check_remove_attr<'a, D: BlockDevice>(
     let Some(path) = parse_entry(bytes) else {
         return Err(Error::Invalid);
     };
-    let found = tree.look_up(alloc, &path)?;
-    let attribute = tree.get_attr(alloc, &path, kind)?;
+    let found = tree.get_attr(alloc, &path, kind)?;
     let checks = [
-        found.fault,
-        refuse_if(found.node.is_nothing(), Error::NoEnt),
-        refuse_if(attribute.is_none(), Error::NoAttr),
+        found.finding.fault,
+        refuse_if(found.finding.node.is_nothing(), Error::NoEnt),
+        refuse_if(found.bytes.is_none(), Error::NoAttr),
     ];
     passed(&checks, path)
 }
@@ -337,11 +340,11 @@ pub(crate) fn check_remove<'a, D: BlockDevice>(
     let Some(path) = parse_entry(bytes) else {
         return Err(Error::Invalid);
     };
-    let found = tree.look_up(alloc, &path)?;
+    let inside = tree.look_inside(alloc, &path)?;
     let checks = [
-        found.fault,
-        refuse_if(found.node.is_nothing(), Error::NoEnt),
-        refuse_if(found.node.has_entries(), Error::NotEmpty),
+        inside.finding.fault,
+        refuse_if(inside.finding.node.is_nothing(), Error::NoEnt),
+        refuse_if(inside.has_entries, Error::NotEmpty),
         refuse_if(files.is_open_at(bytes), Error::Busy),
     ];
     passed(&checks, path)
@@ -380,13 +383,12 @@ pub(crate) fn check_set_attr<'a, D: BlockDevice>(
     let Some(path) = parse_entry(bytes) else {
         return Err(Error::Invalid);
     };
-    let found = tree.look_up(alloc, &path)?;
-    let replaced = tree.get_attr(alloc, &path, kind)?;
+    let found = tree.get_attr(alloc, &path, kind)?;
     let taken = tree.attributes_size(alloc, &path)?;
-    let size = size_with(taken, &replaced, value.len());
+    let size = size_with(taken, &found.bytes, value.len());
     let checks = [
-        found.fault,
-        refuse_if(found.node.is_nothing(), Error::NoEnt),
+        found.finding.fault,
+        refuse_if(found.finding.node.is_nothing(), Error::NoEnt),
         refuse_if(value.len() > 1022, Error::TooBig),
         refuse_if(
             is_overcharged_with(tree, path.name_len(), size),

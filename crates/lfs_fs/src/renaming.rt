@@ -95,13 +95,13 @@ pub(crate) fn check_rename<'a, D: BlockDevice>(
         return Err(Error::Invalid);
     }
     let entry = tree.look_up(alloc, &from)?;
-    let target = tree.look_up(alloc, &to)?;
+    let inside = tree.look_inside(alloc, &to)?;
     let taken = tree.attributes_size(alloc, &from)?;
     let is_same = is_same_path(old, new);
-    let replaces = target.node;
+    let replaces = inside.finding.node;
     let checks = [
         entry.fault,
-        target.fault,
+        inside.finding.fault,
         refuse_if(to.name_len() > 255, Error::NameTooLong),
         refuse_if(entry.node.is_nothing(), Error::NoEnt),
         refuse_if(
@@ -118,7 +118,7 @@ pub(crate) fn check_rename<'a, D: BlockDevice>(
             ),
             Error::IsDir,
         ),
-        refuse_if(are_both(!is_same, replaces.has_entries()), Error::NotEmpty),
+        refuse_if(are_both(!is_same, inside.has_entries), Error::NotEmpty),
         refuse_if(files.is_in_the_way(old, new), Error::Busy),
         refuse_if(
             are_both(!is_same, is_overcharged_with(tree, to.name_len(), taken)),

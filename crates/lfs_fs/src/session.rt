@@ -18,6 +18,7 @@ ghost use Rattle.lfs_tree.specs.Formatting.{ComesBack};
 ghost use Rattle.lfs_fs.specs.GstateSeen.{gstate_reply};
 ghost use Rattle.lfs_fs.specs.Held.{Answers, IsBegun, IsEndedBy, moment_of};
 ghost use Rattle.lfs_fs.specs.FlagsSeen.{flags_seen};
+ghost use Rattle.lfs_fs.specs.LookUps.{ReadsFewIn};
 ghost use Rattle.lfs_fs.specs.OpSeen.{op_seen, performed, reply_seen};
 ghost use Rattle.lfs_fs.specs.Told.{IsTold};
 
@@ -60,26 +61,30 @@ impl<D: BlockDevice> Model for Session<D> {
 }
 
 impl<D: BlockDevice> Session<D> {
-    /// A file's size, or None for a directory.
+    /// A file's size, or None for a directory. Each pair of the directories above it is read at most
+    /// once.
     pub fn stat(&mut self, alloc: Global, path: &[u8]) -> Result<Option<u32>, Error>
         ensures answers { Answers self.old (ops.Stat path.now) (reply_in ops.StatIs result) self.new }
+        ensures few { ReadsFewIn self.old.tree (ops.Stat path.now) self.new.tree }
         ensures survives { SurvivesStops (moment_of self.old) (ops.Stat path.now) (moment_of self.new) }
     {
         check_stat(alloc, &mut self.tree, &self.files, path)
     }
 
-    /// What stands in a directory, in name order.
+    /// What stands in a directory, in name order. Each pair of it, and of the directories above it, is
+    /// read at most once.
     pub fn list(&mut self, alloc: Global, path: &[u8]) -> Result<Vec<ListItem>, Error>
         ensures answers { Answers self.old (ops.ListAll path.now) (reply_in (λ items. ops.Items (map list_item_seen items.items)) result) self.new }
+        ensures few { ReadsFewIn self.old.tree (ops.ListAll path.now) self.new.tree }
         ensures survives { SurvivesStops (moment_of self.old) (ops.ListAll path.now) (moment_of self.new) }
     {
-        let path = check_list(alloc, &mut self.tree, &self.files, path)?;
-        self.tree.list(alloc, &path)
+        check_list(alloc, &mut self.tree, &self.files, path)
     }
 
-    /// The bytes of an entry's attribute.
+    /// The bytes of an entry's attribute. Each pair of the directories above it is read at most once.
     pub fn get_attr(&mut self, alloc: Global, path: &[u8], kind: u8) -> Result<Vec<u8>, Error>
         ensures answers { Answers self.old (ops.GetAttr path.now kind) (reply_in (λ v. ops.Bytes v.items) result) self.new }
+        ensures few { ReadsFewIn self.old.tree (ops.GetAttr path.now kind) self.new.tree }
         ensures survives { SurvivesStops (moment_of self.old) (ops.GetAttr path.now kind) (moment_of self.new) }
     {
         check_get_attr(alloc, &mut self.tree, &self.files, path, kind)

@@ -128,3 +128,22 @@ fn a_listing_reads_each_pair_once(rt: HostRuntime) -> Result<(), Fail> {
     assert!(rt; reads.is_some_and(|reads| reads <= 13), "{reads:?}");
     Ok(())
 }
+
+// How many reads a stat of a directory of eleven pairs takes, beneath a root of one.
+fn reads_of_stat(alloc: Global) -> Result<Option<u64>, Error> {
+    let mut session = counted(alloc, Start::Fresh(1024, 128, 256))?;
+    session.mkdir(alloc, b"/d")?;
+    if !has_pairs(alloc, &mut session, 11)? {
+        return Ok(None);
+    }
+    session.remount(alloc)?;
+    reads_of(alloc, &mut session, &[(Stat(b"/d"), StatIs(None))])
+}
+
+// The root's pair alone.
+#[test]
+fn a_long_directory_is_found_without_it(rt: HostRuntime) -> Result<(), Fail> {
+    let reads = reads_of_stat(rt.alloc())?;
+    assert!(rt; reads.is_some_and(|reads| reads <= 1), "{reads:?}");
+    Ok(())
+}

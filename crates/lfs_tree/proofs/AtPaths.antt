@@ -22,7 +22,7 @@ use Rattle.lfs_device.specs.declared.device.BlockDevice.{Ghosts}
 use Rattle.lfs_model.specs.Blocks.{IsDivided}
 use Rattle.lfs_model.proofs.ListSizes.{length-bytes_of}
 use Rattle.lfs_model.proofs.Walks.{walk_append}
-use Rattle.lfs_tree.specs.AtPath.{directory_found, has_entries_from, size_shown}
+use Rattle.lfs_tree.specs.AtPath.{size_shown}
 use Rattle.lfs_tree.specs.Entry.{ShowsContents}
 use Rattle.lfs_tree.specs.declared.entry.Contents.{Contents}
 use Rattle.lfs_tree.specs.declared.entry.Contents.TheVariants as contents
@@ -50,7 +50,7 @@ sized_on g d disk n e large shape =
 -- ---- by the node
 
 pub finds_nothing : (t : Tree) (p : Path) (fault : Option ops.Refusal) → t p ≡ None → parent_fault t [] p ≡ fault → Finds t p (record { fault = fault; node = node.Nothing })
-finds_nothing t p fault e h = record { parents = h; nothing = ap is_none e; directories = ap is_directory e; files = ap is_file e; names = ap (λ z. nat_lt 0 (length (names_of z))) e; sizes = ap size_of e }
+finds_nothing t p fault e h = record { parents = h; nothing = ap is_none e; directories = ap is_directory e; files = ap is_file e; sizes = ap size_of e }
 
 pub finds_file : (t : Tree) (p : Path) (attributes : Attributes) (bytes : List ℕ) (size : ℕ) → t p ≡ Some (FileNode attributes bytes) → parent_fault t [] p ≡ None → length bytes ≡ size
     → Finds t p (record { fault = None; node = node.File size })
@@ -59,18 +59,15 @@ finds_file t p attributes bytes size e h l = record {
   nothing = ap is_none e;
   directories = ap is_directory e;
   files = ap is_file e;
-  names = ap (λ z. nat_lt 0 (length (names_of z))) e;
   sizes = ap size_of e ∙ ap Some l;
 }
 
-pub finds_directory : (t : Tree) (p : Path) (attributes : Attributes) (names : List Name) (has : Bool) → t p ≡ Some (DirectoryNode attributes names) → parent_fault t [] p ≡ None → nat_lt 0 (length names) ≡ has
-    → Finds t p (record { fault = None; node = node.Directory has })
-finds_directory t p attributes names has e h l = record {
+pub finds_directory : (t : Tree) (p : Path) (attributes : Attributes) (names : List Name) → t p ≡ Some (DirectoryNode attributes names) → parent_fault t [] p ≡ None → Finds t p (record { fault = None; node = node.Directory })
+finds_directory t p attributes names e h = record {
   parents = h;
   nothing = ap is_none e;
   directories = ap is_directory e;
   files = ap is_file e;
-  names = ap (λ z. nat_lt 0 (length (names_of z))) e ∙ l;
   sizes = ap size_of e;
 }
 
@@ -128,13 +125,6 @@ module _ (disk : Disk) (ps : List Pair) where
       go None e b = absurd (cc)
       go (Some x) e b = by_struct x x.struct refl e b
 
-  pub finds_begun : (path : Path) (first : ℕ) (has : Bool) → IsAccepted disk ps → BeginsOnPath ps path first → parent_fault (tree_in disk ps) [] path ≡ None → has ≡ has_entries_from ps first
-      → Finds (tree_in disk ps) path (record { fault = None; node = node.Directory has })
-  finds_begun path first has ok on h e =
-      let d = directory_at_path path on.at on.leads in
-      finds_directory (tree_in disk ps) path d.attributes (names_at (entries_in ps) on.at) has d.is h
-      (ap (λ n. nat_lt 0 n) (length-map (entries_in ps on.at) (λ (s : Slot). s.name) ∙ sym (length-map (entries_in ps on.at) shape_of) ∙ sym (ap length (own_shapes disk ps path on.at first ok on.leads on.begins))) ∙ sym e)
-
   -- ---- a file
 
   pub finds_shown : (path : Path) (x : Slot) (contents : Contents) → IsAccepted disk ps → IsListIfCtz disk x.struct → slot_of_path ps path ≡ Some x → ShowsContents contents x.struct → parent_fault (tree_in disk ps) [] path ≡ None
@@ -176,15 +166,6 @@ list_at_path disk ps above name to u ok leads e =
 -- ---- by what is shown
 
 module _ (t : Kept) (path : Path) (ok : IsAccepted t.disk t.pairs) where
-  pub begun_within : (now : List Pair) (first : ℕ) → now ≡ t.pairs → BeginsOnPath t.pairs path first → first < length now
-  begun_within now first e on = subst (λ ps. first < length ps) (sym e) (within t.pairs on.at first on.begins)
-
-  pub found_begun : (now : List Pair) (first : ℕ) (r : Result Finding Error) → now ≡ t.pairs → BeginsOnPath t.pairs path first → parent_fault (tree_in t.disk t.pairs) [] path ≡ None
-      → IfOk r (λ f. f ≡ directory_found now first) → IfOk r (Finds (tree_in t.disk t.pairs) path)
-  found_begun now first (Ok f) e on h k =
-      subst (λ z. Finds (tree_in t.disk t.pairs) path z) (sym (k ∙ ap (λ ps. directory_found ps first) e)) (finds_begun t.disk t.pairs path first (has_entries_from t.pairs first) ok on h refl)
-  found_begun now first (Err x) e on h k = tt
-
   pub refused_at : (r : ops.Refusal) (f : Finding) → parent_fault (tree_in t.disk t.pairs) [] path ≡ Some r → f ≡ record { fault = Some r; node = node.Nothing } → Finds (tree_in t.disk t.pairs) path f
   refused_at r f h k = subst (λ z. Finds (tree_in t.disk t.pairs) path z) (sym k) (finds_nothing (tree_in t.disk t.pairs) path (Some r) (nothing_at t.disk t.pairs path (refused_none t.disk t.pairs path [] r h)) h)
 

@@ -1,6 +1,6 @@
 -- What a slot says of its attributes.
-use Rattle.std.proofs.Common.{ℕ, zero, suc, ◌≡◌, ◌+◌, ◌/◌, ◌%◌, ◌^◌, ◌<◌, ◌≤◌, ◌==◌, ◌∙◌, Bool, true, false, cond, List, [], ◌∷◌, length, Option, Some, None, Result, Ok, Err, Vec, Global, Bor, refl, sym, ap, ap₂, subst, arith}
-use Rattle.std.specs.Prelude.{IfOk, IfSome, find}
+use Rattle.std.proofs.Common.{ℕ, zero, suc, ◌≡◌, ◌+◌, ◌/◌, ◌%◌, ◌^◌, ◌<◌, ◌≤◌, ◌==◌, ◌∙◌, Bool, true, false, cond, List, [], ◌∷◌, length, slice_get, slice_index_or, Option, Some, None, Result, Ok, Err, Vec, Global, Bor, refl, sym, ap, ap₂, subst, arith}
+use Rattle.std.specs.Prelude.{IfOk, IfSome, IsSome, find}
 use Rattle.std.specs.Option.{option_and_then, option_copied, option_map}
 use Rattle.std.proofs.lemmas.Option.{same_Some}
 use Rattle.lfs_device.specs.declared.error.Error.{Error}
@@ -15,11 +15,14 @@ use Rattle.lfs_model.specs.SlotEdits.{slot_of_path}
 use Rattle.lfs_model.specs.Thread.{Pair}
 use Rattle.lfs_model.specs.Tree.{Path, node_of}
 use Rattle.lfs_model.specs.Shown.{contents_in, entries_in, tree_in}
-use Rattle.lfs_thread.specs.Kept.{Kept}
+use Rattle.lfs_thread.specs.Kept.{Kept, State}
+use Rattle.lfs_thread.specs.Lent.{at_hand}
+use Rattle.lfs_thread.specs.Steps.{no_pair}
 use Rattle.lfs_tree.specs.AtPath.{ShowsAt}
-use Rattle.lfs_tree.specs.AttributeAt.{IsAttribute, IsShort, slot_shown}
+use Rattle.lfs_tree.specs.AttributeAt.{AreHeld, IsAtHand, IsAttribute, IsShort, slot_shown}
 use Rattle.lfs_tree.specs.BytesAt.{IsSlotAt}
 use Rattle.lfs_tree.specs.Paths.{IsSlotOf}
+use Rattle.lfs_tree.specs.declared.finding.FoundAttribute.{FoundAttribute}
 use Rattle.lfs_tree.specs.declared.paths.Shown.{Shown}
 use Rattle.lfs_tree.specs.declared.paths.Shown.TheVariants as shown
 use Rattle.lfs_tree.specs.declared.search.Spot.{Spot}
@@ -117,10 +120,29 @@ no_slot t path shown.Nothing s e = ap attributes_of (nothing_at t.disk t.pairs p
 no_slot t path shown.ParentIsFile s e = ap attributes_of (nothing_at t.disk t.pairs path (refused_none t.disk t.pairs path [] ops.NotDir s.1))
 no_slot t path shown.ParentIsMissing s e = ap attributes_of (nothing_at t.disk t.pairs path (refused_none t.disk t.pairs path [] ops.NoEnt s.1))
 
-pub attribute_then : (kind : ℕ) (old new : Attributes) (r : Result (Option (Vec ℕ Global)) Error) → old ≡ new → IfOk r (IsAttribute kind old) → IfOk r (IsAttribute kind new)
-attribute_then kind old new r e h = subst (λ a. IfOk r (IsAttribute kind a)) e h
+-- the attributes of what is shown at a path are those of its slot
+pub are_held : (t : Kept) (path : Path) (x : Shown) (slot : Option Spot) → ShowsAt t path x → slot ≡ slot_shown x → AreHeld t slot (attributes_of (tree_in t.disk t.pairs path))
+are_held t path x None s e = no_slot t path x s (sym e)
+are_held t path x (Some spot) s e = let f = slot_for t path x spot s (sym e) in (f.held, (f.there, f.attributes))
 
-pub attribute_given : (kind : ℕ) (attributes : Attributes) (r : Result (Option (Vec ℕ Global)) Error) → IfOk r (IsAttribute kind attributes) → IfOk r IsShort
-    → IfOk r (λ found. (option_map (λ (v : Vec ℕ Global). v.items) found ≡ attribute_of kind attributes) × IfSome found (λ v. length v.items ≤ 1022))
+pub held_later : (a b : Kept) (slot : Option Spot) (attributes : Attributes) → b.pairs ≡ a.pairs → AreHeld a slot attributes → AreHeld b slot attributes
+held_later a b None attributes e h = h
+held_later a b (Some spot) attributes e h = (h.0, (subst (λ ps. slice_get (slice_index_or ps spot.pair no_pair).content.slots spot.id ≡ Some h.0) (sym e) h.1.0, h.1.1))
+
+pub slot_within : (t : Kept) (path : Path) (x : Shown) (slot : Option Spot) (now : List Pair) → ShowsAt t path x → slot ≡ slot_shown x → now ≡ t.pairs → IfSome slot (λ s. s.pair < length now)
+slot_within t path x None now s e same = tt
+slot_within t path x (Some spot) now s e same = subst (λ ps. spot.pair < length ps) (sym same) (slot_for t path x spot s (sym e)).below
+
+pub slot_at_hand : (t : State) (x : Shown) (slot : Option Spot) → IsAtHand t x → slot ≡ slot_shown x → IfSome slot (λ s. IsSome (at_hand t s.pair))
+slot_at_hand t x slot h e = subst (λ (o : Option Spot). IfSome o (λ s. IsSome (at_hand t s.pair))) (sym e) h
+
+pub attribute_same : (kind : ℕ) (old new : Attributes) (r : Result (Option (Vec ℕ Global)) Error) → old ≡ new → IfOk r (IsAttribute kind old) → IfOk r (IsAttribute kind new)
+attribute_same kind old new r e h = subst (λ a. IfOk r (IsAttribute kind a)) e h
+
+pub attribute_then : (kind : ℕ) (old new : Attributes) (r : Result FoundAttribute Error) → old ≡ new → IfOk r (λ f. IsAttribute kind old f.bytes) → IfOk r (λ f. IsAttribute kind new f.bytes)
+attribute_then kind old new r e h = subst (λ a. IfOk r (λ f. IsAttribute kind a f.bytes)) e h
+
+pub attribute_given : (kind : ℕ) (attributes : Attributes) (r : Result FoundAttribute Error) → IfOk r (λ f. IsAttribute kind attributes f.bytes) → IfOk r (λ f. IsShort f.bytes)
+    → IfOk r (λ f. (option_map (λ (v : Vec ℕ Global). v.items) f.bytes ≡ attribute_of kind attributes) × IfSome f.bytes (λ v. length v.items ≤ 1022))
 attribute_given kind attributes (Ok found) is short = (is, short)
 attribute_given kind attributes (Err e) is short = tt

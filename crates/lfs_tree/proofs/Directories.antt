@@ -1,7 +1,8 @@
 -- The pairs of a directory, by the number of the first, show what stands in it.
-use Rattle.std.proofs.Common.{ℕ, zero, suc, ◌≡◌, ◌<◌, ◌+◌, ◌∙◌, Bool, true, false, cond, List, [], ◌∷◌, ◌++◌, length, map, flat_map, take, drop, get_or, slice_get, Option, Some, None, refl, sym, ap, ap₂, subst, arith, append_assoc, nat_eq}
+use Rattle.std.proofs.Common.{ℕ, zero, suc, ◌≡◌, ◌<◌, ◌≤◌, ◌+◌, ◌∙◌, Bool, true, false, cond, List, [], ◌∷◌, ◌++◌, length, map, flat_map, take, drop, get_or, slice_get, Option, Some, None, refl, sym, ap, ap₂, subst, arith, append_assoc, length-append, nat_eq}
 use Rattle.std.specs.Prelude.{IfNone, IfSome, IsSome}
 use Rattle.std.specs.List.{IsDistinct}
+use Rattle.std.proofs.lemmas.Bool.{lt-ltb}
 use Rattle.std.proofs.lemmas.List.{map-append}
 use Rattle.std.proofs.Math.Seq.{drop-append_seam}
 use Rattle.std.proofs.lemmas.Option.{same_Some, slice_get_within}
@@ -11,14 +12,15 @@ use Rattle.lfs_model.specs.Thread.{Pair, blocks_of, directories_of, directory_pa
 use Rattle.lfs_model.specs.Tree.{Path}
 use Rattle.lfs_model.specs.View.{IsAccepted}
 use Rattle.lfs_model.specs.Shown.{Leads, entries_in}
-use Rattle.lfs_model.specs.InDirectory.{BeginsAt}
+use Rattle.lfs_model.specs.InDirectory.{BeginsAt, run_length}
 use Rattle.lfs_model.proofs.Counts.{Each}
 use Rattle.lfs_model.proofs.Pairs.{pair_back, pair_on}
 use Rattle.lfs_model.proofs.Listings.{Apart, IsRun, distinct_apart, distinct_right, entries_own, listing, run_directories}
 use Rattle.lfs_model.proofs.Searches.{same_number}
 use Rattle.lfs_model.proofs.Found.{HasDirectory, chain_of_thread, led_directory}
+use Rattle.lfs_tree.specs.AtPath.{has_entries_from}
 use Rattle.lfs_tree.specs.Items.{Shape, shape_of}
-use Rattle.lfs_tree.specs.Listed.{joined_run, run_from, shapes_from}
+use Rattle.lfs_tree.specs.Listed.{joined_run, length_from, run_from, shapes_from}
 
 -- ---- along the hard tails
 
@@ -54,6 +56,43 @@ list_on ps qs first index d from next olds more news same at l m n o before =
     ∙ append_assoc olds (map shape_of (visible (gstate_of ps) (get_or ps index d))) (shapes_from ps next)
     ∙ ap (λ z. olds ++ z) (sym (shapes_on ps index d next l goes) ∙ ap (shapes_from ps) (sym at))
     ∙ before
+
+-- something stands in one of the pairs
+pub some_on : (ps qs : List Pair) (index : ℕ) (d : Pair) (from start : Option ℕ) (more : List Shape) → qs ≡ ps → from ≡ Some index → index < length ps →
+    more ≡ map shape_of (visible (gstate_of qs) (get_or qs index d)) → shapes_from ps from ≡ shapes_from ps start → 0 < length more → has_entries_from ps start ≡ true
+some_on ps qs index d from start more same at l m before some =
+    let next = cond (is_hard (get_or ps index d).content.tail) (Some (index + 1)) None in
+    let shown = m ∙ ap (λ rs. map shape_of (visible (gstate_of rs) (get_or rs index d))) same in
+    let are = sym before ∙ ap (shapes_from ps) at ∙ shapes_on ps index d next l refl ∙ ap (λ z. z ++ shapes_from ps next) (sym shown) in
+    let n = ap length are in
+    let k = length-append more (shapes_from ps next) in
+    lt-ltb 0 (length (shapes_from ps start)) (omega (arith, n, k, some))
+
+-- ---- how many they are
+
+run_step : (ps : List Pair) (index : ℕ) (d : Pair) → index < length ps → run_length (drop index ps) ≡ cond (is_hard (get_or ps index d).content.tail) (1 + run_length (drop (index + 1) ps)) 1
+run_step [] index d l = absurd (omega arith)
+run_step (p ∷ ps) zero d l = refl
+run_step (p ∷ ps) (suc index) d l =
+    let e : suc index + 1 ≡ suc (index + 1) = omega arith in
+    run_step ps index d (omega arith) ∙ ap (λ (n : ℕ). cond (is_hard (get_or ps index d).content.tail) (1 + run_length (drop n (p ∷ ps))) 1) (sym e)
+
+-- one is read, the others are left
+pub length_on : (ps qs : List Pair) (index : ℕ) (d : Pair) (from next : Option ℕ) → qs ≡ ps → from ≡ Some index → index < length ps →
+    next ≡ cond (is_hard (get_or qs index d).content.tail) (Some (index + 1)) None → length_from ps from ≡ 1 + length_from ps next
+length_on ps qs index d from next same at l n =
+    ap (length_from ps) at ∙ run_step ps index d l ∙ go (is_hard (get_or ps index d).content.tail)
+    ∙ ap (λ o. 1 + length_from ps o) (sym (n ∙ ap (λ rs. cond (is_hard (get_or rs index d).content.tail) (Some (index + 1)) None) same))
+  where
+    go : (b : Bool) → cond b (1 + run_length (drop (index + 1) ps)) 1 ≡ 1 + length_from ps (cond b (Some (index + 1)) None)
+    go true = refl
+    go false = refl
+
+pub length_some : (ps : List Pair) (index : ℕ) (d : Pair) (from : Option ℕ) → from ≡ Some index → index < length ps → 1 ≤ length_from ps from
+length_some ps index d from at l =
+    let next = cond (is_hard (get_or ps index d).content.tail) (Some (index + 1)) None in
+    let e = length_on ps ps index d from next refl at l refl in
+    omega (arith, e)
 
 -- a run of pairs, cut out of the thread
 pub run_is : (p : Pair) (run after : List Pair) → IsRun (p ∷ run) → joined_run (p ∷ run ++ after) ≡ p ∷ run

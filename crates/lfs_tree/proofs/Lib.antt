@@ -40,6 +40,7 @@ pub mod AtPaths
 pub mod ListAtShort
 pub mod LostLists
 pub mod ListAtItems
+pub mod ShownFindings
 pub mod Asking
 pub mod UsedBlocks
 pub mod CarryRooted

@@ -32,31 +32,6 @@ use Rattle.lfs_tree.proofs.Directories.{own_shapes}
 use Rattle.lfs_tree.proofs.ListAtShort.{short_entries}
 use Rattle.lfs_tree.proofs.Visits.{each_entry}
 
--- ---- where a directory stands
-
-module _ (t : Kept) (path : Path) where
-  none_there : slot_of_path t.pairs path ≡ None → is_directory (tree_in t.disk t.pairs path) ≡ true → ⊥
-  none_there e d = absurd (let k = sym (ap (λ o. is_directory (option_map (λ (f : Slot). node_of (contents_in t.disk) (entries_in t.pairs) f.attributes f.struct) o)) e) ∙ d in cc)
-
-  file_there : (x : Slot) (contents : Contents) → slot_of_path t.pairs path ≡ Some x → ShowsContents contents x.struct → is_directory (tree_in t.disk t.pairs path) ≡ true → ⊥
-  file_there x c e s d = go c s
-    where
-      by_struct : (z : Struct) → x.struct ≡ z → is_directory (tree_in t.disk t.pairs path) ≡ is_directory (Some (node_of (contents_in t.disk) (entries_in t.pairs) x.attributes z))
-      by_struct z f = ap (λ o. is_directory (option_map (λ (f : Slot). node_of (contents_in t.disk) (entries_in t.pairs) f.attributes f.struct) o)) e
-          ∙ ap (λ z. is_directory (Some (node_of (contents_in t.disk) (entries_in t.pairs) x.attributes z))) f
-
-      go : (c : Contents) → ShowsContents c x.struct → ⊥
-      go (contents.Inline len) (bytes, (f, more)) = absurd (let k = sym (by_struct (Inline bytes) f) ∙ d in cc)
-      go (contents.List head size) f = absurd (let k = sym (by_struct (Ctz head size) f) ∙ d in cc)
-
-  pub only_directory : (s : Shown) → is_directory (tree_in t.disk t.pairs path) ≡ true → ShowsAt t path s → (s ≡ shown.Root → ⊥) → ((spot : Spot) (first : ℕ) → s ≡ shown.Directory spot first → ⊥) → ⊥
-  only_directory shown.Root d h r k = r refl
-  only_directory (shown.Directory spot first) d h r k = k spot first refl
-  only_directory (shown.File spot c) d (moved, (fault, (s, sc))) r k = file_there s.stands.stands.slot c s.slot sc d
-  only_directory shown.Nothing d (moved, (fault, e)) r k = none_there e d
-  only_directory shown.ParentIsFile d (moved, e) r k = none_there (refused_none t.disk t.pairs path [] ops.NotDir e) d
-  only_directory shown.ParentIsMissing d (moved, e) r k = none_there (refused_none t.disk t.pairs path [] ops.NoEnt e) d
-
 -- ---- what the tree says
 
 each_got : (P : Slot → Type 0) (xs : List Slot) → ((k : ℕ) (x : Slot) → slice_get xs k ≡ Some x → P x) → Each P xs

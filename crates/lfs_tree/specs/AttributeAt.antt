@@ -1,9 +1,12 @@
 -- An attribute that is found.
-use Rattle.std.specs.Prelude.{ℕ, ◌≡◌, ◌≤◌, ◌<◌, ◌^◌, ◌+◌, List, Option, Some, None, IfSome, Vec, length}
+use Rattle.std.specs.Prelude.{ℕ, ◌≡◌, ◌≤◌, ◌<◌, ◌^◌, ◌+◌, List, Option, Some, None, IfSome, IsSome, Vec, [], length}
 use Rattle.std.specs.Option.{option_map, option_map_or}
 use Rattle.std.specs.declared.alloc.Global.{Global}
 use Rattle.lfs_model.specs.Content.{attribute_of, put_attribute}
-use Rattle.lfs_model.specs.Slots.{Attributes, attributes_size}
+use Rattle.lfs_model.specs.Slots.{Attributes, Slot, attributes_size}
+use Rattle.lfs_thread.specs.Kept.{Kept, State}
+use Rattle.lfs_thread.specs.Lent.{at_hand}
+use Rattle.lfs_tree.specs.BytesAt.{IsSlotAt}
 use Rattle.lfs_tree.specs.declared.paths.Shown.{Shown}
 use Rattle.lfs_tree.specs.declared.paths.Shown.TheVariants as shown
 use Rattle.lfs_tree.specs.declared.search.Spot.{Spot}
@@ -20,6 +23,15 @@ abbrev pub slot_shown : Shown → Option Spot
 slot_shown (shown.File slot contents) = Some slot
 slot_shown (shown.Directory slot first) = Some slot
 slot_shown _ = None
+
+-- the block of that slot's pair is at hand
+abbrev pub IsAtHand : State → Shown → Type 0
+IsAtHand t s = IfSome (slot_shown s) (λ slot. IsSome (at_hand t slot.pair))
+
+-- the attributes of the slot, if there is one
+abbrev pub AreHeld : Kept → Option Spot → Attributes → Type 0
+AreHeld t None attributes = attributes ≡ []
+AreHeld t (Some spot) attributes = (slot : Slot) × (IsSlotAt t spot slot × (slot.attributes ≡ attributes))
 
 -- putting an attribute adds its size, and takes that of the one of its type
 abbrev pub TakesPlace : Attributes → Type 0

@@ -8,7 +8,7 @@ use Rattle.lfs_model.specs.Tree.{Path}
 use Rattle.lfs_model.specs.View.{IsAccepted}
 use Rattle.lfs_model.specs.Shown.{Leads, entries_in}
 use Rattle.lfs_model.specs.Slots.{set_move}
-use Rattle.lfs_model.specs.InDirectory.{BeginsAt}
+use Rattle.lfs_model.specs.InDirectory.{BeginsAt, run_length}
 use Rattle.lfs_tree.specs.Items.{Shape, shape_of}
 
 -- the id of the slot that the global state says is moved away from the pair at an address
@@ -24,6 +24,11 @@ joined_run (p ∷ ps) = p ∷ (if is_hard p.content.tail then joined_run ps else
 abbrev pub run_from : List Pair → Option ℕ → List Pair
 run_from ps None = []
 run_from ps (Some first) = joined_run (drop first ps)
+
+-- how many they are
+abbrev pub length_from : List Pair → Option ℕ → ℕ
+length_from ps None = 0
+length_from ps (Some first) = run_length (drop first ps)
 
 -- what they show
 abbrev pub shapes_from : List Pair → Option ℕ → List Shape

@@ -1,20 +1,24 @@
 // An attribute of what stands at a path.
 
-ghost use Rattle.std.specs.Prelude.{◌≡◌, ◌<◌, ◌≤◌, IfErr, IfOk, IfSome, Some, false, length, slice_get};
+ghost use Rattle.std.specs.Prelude.{◌≡◌, ◌<◌, ◌≤◌, ◌+◌, IfErr, IfOk, IfSome, IsSome, Some, false, length, slice_get, sum_by};
 ghost use Rattle.std.specs.Option.{option_copied, option_map};
 ghost use Rattle.lfs_model.specs.TreeEdits.{attributes_of};
 ghost use Rattle.lfs_model.specs.Content.{attribute_of};
-ghost use Rattle.lfs_model.specs.Slots.{Content as ModelContent, Slot};
+ghost use Rattle.lfs_model.specs.Discipline.{pairs_of_path, parents};
+ghost use Rattle.lfs_model.specs.History.{reads};
+ghost use Rattle.lfs_model.specs.Slots.{Attributes, Content as ModelContent, Slot};
 ghost use Rattle.lfs_model.specs.Thread.{superblocks_before};
 ghost use Rattle.lfs_model.specs.View.{IsAccepted};
 ghost use Rattle.lfs_model.specs.Shown.{tree_in};
-ghost use Rattle.lfs_thread.specs.Lent.{IsBlockOf};
-ghost use Rattle.lfs_tree.specs.AttributeAt.{IsAttribute, IsShort, slot_shown};
+ghost use Rattle.lfs_thread.specs.Lent.{IsBlockOf, at_hand};
+ghost use Rattle.lfs_tree.specs.AttributeAt.{AreHeld, IsAttribute, IsShort, slot_shown};
 ghost use Rattle.lfs_tree.specs.BytesAt.{IsSlotAt};
+ghost use Rattle.lfs_tree.specs.Finds.{Finds};
 ghost use Rattle.lfs_tree.specs.Reading.{IsReading};
 ghost use Rattle.lfs_tree.specs.Search.{HoldsContent};
 
-use crate::by_path::shown_at;
+use crate::by_path::{finding_of, shown_at};
+use crate::finding::FoundAttribute;
 use crate::path::Path;
 use crate::paths::Shown;
 use crate::search::Spot;
@@ -67,7 +71,7 @@ fn attribute_copied(
     Ok(found)
 }
 
-// An attribute of a slot.
+// An attribute of a slot whose block is at hand.
 fn attribute_of_slot<D: BlockDevice>(
     alloc: Global,
     thread: &mut Thread<D>,
@@ -76,8 +80,10 @@ fn attribute_of_slot<D: BlockDevice>(
 ) -> Result<Option<Vec<u8>>, Error>
     requires works { thread.old.failed ≡ false }
     requires below { slot.pair < length thread.old.kept.pairs }
+    requires at_hand { IsSome (at_hand thread.old slot.pair) }
     ensures short { IfOk result IsShort }
     ensures is { (held : Slot) → IsSlotAt thread.old.kept slot held → IfOk result (IsAttribute kind held.attributes) }
+    ensures no_call { thread.new.kept ≡ thread.old.kept }
     ensures reading { IsReading thread.old thread.new result }
 {
     thread.bring(slot.pair)?;
@@ -95,24 +101,50 @@ pub(crate) fn slot_of(shown: Shown) -> Option<Spot>
     }
 }
 
-// An attribute of what stands at a path. None where it isn't there.
+// The same of the slot, if there is one.
+fn attribute_held<D: BlockDevice>(
+    alloc: Global,
+    thread: &mut Thread<D>,
+    slot: Option<Spot>,
+    kind: u8,
+) -> Result<Option<Vec<u8>>, Error>
+    requires works { thread.old.failed ≡ false }
+    requires below { IfSome slot (λ s. s.pair < length thread.old.kept.pairs) }
+    requires at_hand { IfSome slot (λ s. IsSome (at_hand thread.old s.pair)) }
+    ensures short { IfOk result IsShort }
+    ensures is { (attributes : Attributes) → AreHeld thread.old.kept slot attributes → IfOk result (IsAttribute kind attributes) }
+    ensures no_call { thread.new.kept ≡ thread.old.kept }
+    ensures reading { IsReading thread.old thread.new result }
+{
+    match slot {
+        Some(slot) => attribute_of_slot(alloc, thread, slot, kind),
+        None => Ok(None),
+    }
+}
+
+// What a path leads to, and an attribute of it.
 pub(crate) fn attribute_at<D: BlockDevice>(
     alloc: Global,
     thread: &mut Thread<D>,
     root: usize,
     path: &Path<'_>,
     kind: u8,
-) -> Result<Option<Vec<u8>>, Error>
+) -> Result<FoundAttribute, Error>
     requires works { thread.old.failed ≡ false }
     requires accepted { IsAccepted thread.old.kept.disk thread.old.kept.pairs }
     requires root { root ≡ superblocks_before thread.old.kept.pairs }
-    ensures short { IfOk result IsShort }
-    ensures is { IfOk result (IsAttribute kind (attributes_of (tree_in thread.old.kept.disk thread.old.kept.pairs path.now))) }
+    ensures found { IfOk result (λ found. Finds (tree_in thread.old.kept.disk thread.old.kept.pairs) path.now found.finding) }
+    ensures short { IfOk result (λ found. IsShort found.bytes) }
+    ensures is { IfOk result (λ found. IsAttribute kind (attributes_of (tree_in thread.old.kept.disk thread.old.kept.pairs path.now)) found.bytes) }
+    ensures few { reads thread.new.kept.history ≤ reads thread.old.kept.history + sum_by (pairs_of_path thread.old.kept.pairs) (parents path.now) }
     ensures reading { IsReading thread.old thread.new result }
 {
     let shown = shown_at(alloc, thread, root, path)?;
-    let Some(slot) = slot_of(shown) else {
-        return Ok(None);
-    };
-    attribute_of_slot(alloc, thread, slot, kind)
+    let bytes = attribute_held(alloc, thread, slot_of(shown), kind)?;
+    // By its sizes a list has as many bytes as its entry says.
+    let _device = thread.device();
+    Ok(FoundAttribute {
+        finding: finding_of(shown),
+        bytes,
+    })
 }

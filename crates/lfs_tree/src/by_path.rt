@@ -1,17 +1,20 @@
 // What paths lead to, in a thread.
 
-ghost use Rattle.std.specs.Prelude.{◌≡◌, ◌<◌, IfOk, None, false, length};
+ghost use Rattle.std.specs.Prelude.{◌≡◌, ◌≤◌, ◌+◌, IfOk, None, false, sum_by};
+ghost use Rattle.lfs_model.specs.Discipline.{pairs_of_path, parents};
+ghost use Rattle.lfs_model.specs.History.{reads};
 ghost use Rattle.lfs_model.specs.Thread.{superblocks_before};
 ghost use Rattle.lfs_model.specs.View.{IsAccepted};
 ghost use Rattle.lfs_model.specs.Shown.{tree_in};
-ghost use Rattle.lfs_tree.specs.AtPath.{IsInEntry, ShowsAt, directory_found, has_entries_from, size_shown};
-ghost use Rattle.lfs_tree.specs.Finds.{Finds};
-ghost use Rattle.lfs_tree.specs.declared.finding.Node.TheVariants.{File, Nothing};
+ghost use Rattle.lfs_tree.specs.AtPath.{IsInEntry, IsInEntryIfFile, ShowsAt, finding_of, first_shown, size_shown};
+ghost use Rattle.lfs_tree.specs.AttributeAt.{IsAtHand};
+ghost use Rattle.lfs_tree.specs.Finds.{Finds, has_names};
+ghost use Rattle.lfs_tree.specs.declared.finding.Node.TheVariants.{Directory, File, Nothing};
 ghost use Rattle.lfs_tree.specs.Reading.{IsReading};
 
-use crate::directory::entries;
+use crate::directory::has_entries;
 use crate::entry::Contents;
-use crate::finding::{Finding, Node};
+use crate::finding::{Finding, Inside, Node};
 use crate::path::Path;
 use crate::paths::{Shown, look_up_shown, moved_slot};
 use crate::refusal::{Refusal, refused};
@@ -30,45 +33,14 @@ pub(crate) fn shown_at<D: BlockDevice>(
     requires accepted { IsAccepted thread.old.kept.disk thread.old.kept.pairs }
     requires root { root ≡ superblocks_before thread.old.kept.pairs }
     ensures shown { IfOk result (ShowsAt thread.old.kept path.now) }
+    ensures at_hand { IfOk result (IsAtHand thread.new) }
+    ensures few { reads thread.new.kept.history ≤ reads thread.old.kept.history + sum_by (pairs_of_path thread.old.kept.pairs) (parents path.now) }
     ensures reading { IsReading thread.old thread.new result }
 {
     let names = path.names(alloc)?;
     let state = thread.state();
     let moved = moved_slot(thread, &state);
     look_up_shown(thread, root, &names, moved)
-}
-
-// Whether something stands in the directory that begins with the pair of number `first`.
-fn has_entries<D: BlockDevice>(
-    alloc: Global,
-    thread: &mut Thread<D>,
-    first: usize,
-) -> Result<bool, Error>
-    requires works { thread.old.failed ≡ false }
-    requires below { first < length thread.old.kept.pairs }
-    ensures has { IfOk result (λ has. has ≡ has_entries_from thread.old.kept.pairs first) }
-    ensures reading { IsReading thread.old thread.new result }
-{
-    let items = entries(alloc, thread, first)?;
-    Ok(items.len() > 0)
-}
-
-// The directory that begins with the pair of number `first`.
-fn found_directory<D: BlockDevice>(
-    alloc: Global,
-    thread: &mut Thread<D>,
-    first: usize,
-) -> Result<Finding, Error>
-    requires works { thread.old.failed ≡ false }
-    requires below { first < length thread.old.kept.pairs }
-    ensures found { IfOk result (λ found. found ≡ directory_found thread.old.kept.pairs first) }
-    ensures reading { IsReading thread.old thread.new result }
-{
-    let has_entries = has_entries(alloc, thread, first)?;
-    Ok(Finding {
-        fault: None,
-        node: Node::Directory { has_entries },
-    })
 }
 
 // How many bytes a file has.
@@ -105,6 +77,42 @@ fn found_nothing(fault: Option<Refusal>) -> Finding
     }
 }
 
+// A directory.
+fn found_directory() -> Finding
+    ensures { result ≡ record { fault = None; node = Directory } }
+{
+    Finding {
+        fault: None,
+        node: Node::Directory,
+    }
+}
+
+// By what a path is refused, and what stands at it.
+pub(crate) fn finding_of(shown: Shown) -> Finding
+    requires { IsInEntryIfFile shown }
+    ensures { result ≡ finding_of shown }
+{
+    match shown {
+        Shown::Root => found_directory(),
+        Shown::Directory { .. } => found_directory(),
+        Shown::File { contents, .. } => found_file(contents),
+        Shown::Nothing => found_nothing(None),
+        Shown::ParentIsFile => found_nothing(Some(refused(Error::NotDir))),
+        Shown::ParentIsMissing => found_nothing(Some(refused(Error::NoEnt))),
+    }
+}
+
+// The number of the first pair of the directory that stands there.
+pub(crate) fn first_of(root: usize, shown: Shown) -> Option<usize>
+    ensures { result ≡ first_shown root shown }
+{
+    match shown {
+        Shown::Root => Some(root),
+        Shown::Directory { first, .. } => Some(first),
+        _ => None,
+    }
+}
+
 // What a path leads to.
 pub(crate) fn find_at<D: BlockDevice>(
     alloc: Global,
@@ -116,17 +124,35 @@ pub(crate) fn find_at<D: BlockDevice>(
     requires accepted { IsAccepted thread.old.kept.disk thread.old.kept.pairs }
     requires root { root ≡ superblocks_before thread.old.kept.pairs }
     ensures found { IfOk result (Finds (tree_in thread.old.kept.disk thread.old.kept.pairs) path.now) }
+    ensures few { reads thread.new.kept.history ≤ reads thread.old.kept.history + sum_by (pairs_of_path thread.old.kept.pairs) (parents path.now) }
     ensures reading { IsReading thread.old thread.new result }
 {
     let shown = shown_at(alloc, thread, root, path)?;
     // By its sizes a list has as many bytes as its entry says.
     let _device = thread.device();
-    match shown {
-        Shown::Root => found_directory(alloc, thread, root),
-        Shown::Directory { first, .. } => found_directory(alloc, thread, first),
-        Shown::File { contents, .. } => Ok(found_file(contents)),
-        Shown::Nothing => Ok(found_nothing(None)),
-        Shown::ParentIsFile => Ok(found_nothing(Some(refused(Error::NotDir)))),
-        Shown::ParentIsMissing => Ok(found_nothing(Some(refused(Error::NoEnt)))),
-    }
+    Ok(finding_of(shown))
+}
+
+// What a path leads to, and whether it is a directory that has entries.
+pub(crate) fn look_inside_at<D: BlockDevice>(
+    alloc: Global,
+    thread: &mut Thread<D>,
+    root: usize,
+    path: &Path<'_>,
+) -> Result<Inside, Error>
+    requires works { thread.old.failed ≡ false }
+    requires accepted { IsAccepted thread.old.kept.disk thread.old.kept.pairs }
+    requires root { root ≡ superblocks_before thread.old.kept.pairs }
+    ensures found { IfOk result (λ inside. Finds (tree_in thread.old.kept.disk thread.old.kept.pairs) path.now inside.finding) }
+    ensures has { IfOk result (λ inside. inside.has_entries ≡ has_names (tree_in thread.old.kept.disk thread.old.kept.pairs) path.now) }
+    ensures reading { IsReading thread.old thread.new result }
+{
+    let shown = shown_at(alloc, thread, root, path)?;
+    let has_entries = has_entries(alloc, thread, first_of(root, shown))?;
+    // By its sizes a list has as many bytes as its entry says.
+    let _device = thread.device();
+    Ok(Inside {
+        finding: finding_of(shown),
+        has_entries,
+    })
 }

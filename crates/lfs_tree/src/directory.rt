@@ -1,13 +1,15 @@
 // The entries of a pair and of a directory, and where a directory begins.
 
-ghost use Rattle.std.specs.Prelude.{◌≡◌, ◌<◌, ℕ, Some, IfNone, IfOk, IfSome, false, length, map};
+ghost use Rattle.std.specs.Prelude.{◌≡◌, ◌<◌, ◌≤◌, ◌+◌, ℕ, Some, IfNone, IfOk, IfSome, false, length, map};
 ghost use Rattle.lfs_model.specs.Slots.{address_of, same_pair};
 ghost use Rattle.lfs_model.specs.Thread.{gstate_of, visible};
+ghost use Rattle.lfs_model.specs.History.{reads};
 ghost use Rattle.lfs_model.specs.InDirectory.{BeginsAt};
 ghost use Rattle.lfs_tag.specs.FieldsSeen.{move_seen};
 ghost use Rattle.lfs_thread.specs.Steps.{pair_in};
+ghost use Rattle.lfs_tree.specs.AtPath.{has_entries_from};
 ghost use Rattle.lfs_tree.specs.Items.{items_seen, shape_of};
-ghost use Rattle.lfs_tree.specs.Listed.{AreEntries, moved_in, shapes_from};
+ghost use Rattle.lfs_tree.specs.Listed.{AreEntries, length_from, moved_in, shapes_from};
 ghost use Rattle.lfs_tree.specs.Reading.{IsReading};
 
 use crate::items::{Item, items_in};
@@ -40,6 +42,7 @@ fn items_under<D: BlockDevice>(
     requires below { index < length thread.old.kept.pairs }
     requires state { move_seen state.now ≡ gstate_of thread.old.kept.pairs }
     ensures items { IfOk result (λ items. items_seen items.items ≡ map shape_of (visible (gstate_of thread.old.kept.pairs) (pair_in thread.old.kept index))) }
+    ensures few { reads thread.new.kept.history ≤ reads thread.old.kept.history + 1 }
     ensures reading { IsReading thread.old thread.new result }
 {
     thread.bring(index)?;
@@ -60,6 +63,7 @@ pub fn items_of<D: BlockDevice>(
     requires works { thread.old.failed ≡ false }
     requires below { index < length thread.old.kept.pairs }
     ensures items { IfOk result (λ items. items_seen items.items ≡ map shape_of (visible (gstate_of thread.old.kept.pairs) (pair_in thread.old.kept index))) }
+    ensures few { reads thread.new.kept.history ≤ reads thread.old.kept.history + 1 }
     ensures reading { IsReading thread.old thread.new result }
 {
     let state = thread.state();
@@ -77,6 +81,7 @@ pub(crate) fn entries_under<D: BlockDevice>(
     requires below { first < length thread.old.kept.pairs }
     requires state { move_seen state.now ≡ gstate_of thread.old.kept.pairs }
     ensures items { IfOk result (λ items. items_seen items.items ≡ shapes_from thread.old.kept.pairs (Some first)) }
+    ensures few { reads thread.new.kept.history ≤ reads thread.old.kept.history + length_from thread.old.kept.pairs (Some first) }
     ensures reading { IsReading thread.old thread.new result }
 {
     let mut items = Vec::new(alloc);
@@ -90,7 +95,8 @@ pub(crate) fn entries_under<D: BlockDevice>(
 }
 
 /// The entries of the directory that begins with the pair of number `first`, in name order: those of
-/// its pairs in turn, which hard tails join (SPEC.md of littlefs, "0x601 LFS_TYPE_HARDTAIL").
+/// its pairs in turn, which hard tails join (SPEC.md of littlefs, "0x601 LFS_TYPE_HARDTAIL"). Each of
+/// them is read at most once.
 ///
 /// Errors as those of [`items_of`].
 pub fn entries<D: BlockDevice>(
@@ -102,9 +108,51 @@ pub fn entries<D: BlockDevice>(
     requires below { first < length thread.old.kept.pairs }
     ensures items { IfOk result (λ items. items_seen items.items ≡ shapes_from thread.old.kept.pairs (Some first)) }
     ensures entries { IfOk result (λ items. AreEntries thread.old.kept.disk thread.old.kept.pairs first (items_seen items.items)) }
+    ensures few { reads thread.new.kept.history ≤ reads thread.old.kept.history + length_from thread.old.kept.pairs (Some first) }
     ensures reading { IsReading thread.old thread.new result }
 {
     let state = thread.state();
     let items = entries_under(alloc, thread, &state, first)?;
     Ok(items)
+}
+
+// The same of the directory that begins with that pair, if there is one.
+pub(crate) fn entries_from<D: BlockDevice>(
+    alloc: Global,
+    thread: &mut Thread<D>,
+    from: Option<usize>,
+) -> Result<Vec<Item>, Error>
+    requires works { thread.old.failed ≡ false }
+    requires below { IfSome from (λ first. first < length thread.old.kept.pairs) }
+    ensures items { IfOk result (λ items. items_seen items.items ≡ shapes_from thread.old.kept.pairs from) }
+    ensures few { reads thread.new.kept.history ≤ reads thread.old.kept.history + length_from thread.old.kept.pairs from }
+    ensures reading { IsReading thread.old thread.new result }
+{
+    match from {
+        Some(first) => entries(alloc, thread, first),
+        None => Ok(Vec::new(alloc)),
+    }
+}
+
+// Whether something stands there.
+pub(crate) fn has_entries<D: BlockDevice>(
+    alloc: Global,
+    thread: &mut Thread<D>,
+    from: Option<usize>,
+) -> Result<bool, Error>
+    requires works { thread.old.failed ≡ false }
+    requires below { IfSome from (λ first. first < length thread.old.kept.pairs) }
+    ensures has { IfOk result (λ has. has ≡ has_entries_from thread.old.kept.pairs from) }
+    ensures few { reads thread.new.kept.history ≤ reads thread.old.kept.history + length_from thread.old.kept.pairs from }
+    ensures reading { IsReading thread.old thread.new result }
+{
+    let mut pair = from;
+    while let Some(index) = pair {
+        let items = items_of(alloc, thread, index)?;
+        if items.len() > 0 {
+            return Ok(true);
+        }
+        pair = thread.next(index);
+    }
+    Ok(false)
 }

@@ -1,7 +1,7 @@
 // What calls by a path find.
 
 ghost use Rattle.std.specs.Prelude.{◌≡◌};
-ghost use Rattle.lfs_tree.specs.Finds.{has_entries_in, is_absent, is_directory_node, is_file_node, size_in};
+ghost use Rattle.lfs_tree.specs.Finds.{is_absent, is_directory_node, is_file_node, size_in};
 
 use crate::refusal::Refusal;
 
@@ -21,7 +21,7 @@ pub enum Node {
     Nothing,
     /// A file of so many bytes.
     File { size: u32 },
-    Directory { has_entries: bool },
+    Directory,
 }
 
 impl Node {
@@ -34,23 +34,13 @@ impl Node {
     pub fn is_directory(self) -> bool
         ensures { result ≡ is_directory_node self }
     {
-        matches!(self, Node::Directory { .. })
+        matches!(self, Node::Directory)
     }
 
     pub fn is_file(self) -> bool
         ensures { result ≡ is_file_node self }
     {
         matches!(self, Node::File { .. })
-    }
-
-    /// Whether it is a directory that has entries.
-    pub fn has_entries(self) -> bool
-        ensures { result ≡ has_entries_in self }
-    {
-        match self {
-            Node::Directory { has_entries } => has_entries,
-            _ => false,
-        }
     }
 
     /// How many bytes a file has. None where there is no file.
@@ -62,6 +52,29 @@ impl Node {
             _ => None,
         }
     }
+}
+
+/// What a path leads to, and whether it is a directory that has entries.
+#[derive(Drop)]
+pub struct Inside {
+    pub finding: Finding,
+    pub has_entries: bool,
+}
+
+/// What a path leads to, and an attribute of it.
+#[derive(Drop)]
+pub struct FoundAttribute {
+    pub finding: Finding,
+    /// The attribute's bytes. None where it isn't there.
+    pub bytes: Option<Vec<u8>>,
+}
+
+/// What a path leads to, and what stands in it.
+#[derive(Drop)]
+pub struct Listing {
+    pub finding: Finding,
+    /// In name order. Nothing where no directory stands there.
+    pub items: Vec<ListItem>,
 }
 
 /// What stands in a directory.

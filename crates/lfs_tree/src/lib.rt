@@ -39,7 +39,7 @@ mod writers;
 pub use directory::{entries, items_of};
 pub use entry::{Contents, Entry};
 pub use file_bytes::contents_of;
-pub use finding::{Finding, ListItem, Node};
+pub use finding::{Finding, FoundAttribute, Inside, ListItem, Listing, Node};
 pub use formatting::format;
 pub use items::{Item, Structure};
 pub use laws::{carried_takes_few, contents_stay};

@@ -1,23 +1,22 @@
 // What stands in the directory at a path, by name and size.
 
-ghost use Rattle.std.specs.Prelude.{◌≡◌, IfOk, false, map, true};
-ghost use Rattle.lfs_model.specs.TreeEdits.{is_directory};
+ghost use Rattle.std.specs.Prelude.{◌≡◌, ◌≤◌, ◌+◌, ◌++◌, ◌∷◌, [], IfOk, false, map, sum_by};
+ghost use Rattle.lfs_model.specs.Discipline.{pairs_of_path, parents};
+ghost use Rattle.lfs_model.specs.History.{reads};
 ghost use Rattle.lfs_model.specs.Effects.{items_in};
 ghost use Rattle.lfs_model.specs.Thread.{superblocks_before};
 ghost use Rattle.lfs_model.specs.View.{IsAccepted};
 ghost use Rattle.lfs_model.specs.Shown.{tree_in};
-ghost use Rattle.lfs_tree.specs.Finds.{list_item_seen};
+ghost use Rattle.lfs_tree.specs.Finds.{Finds, list_item_seen};
 ghost use Rattle.lfs_tree.specs.Items.{item_seen, items_seen, structure_seen};
 ghost use Rattle.lfs_tree.specs.ListAt.{AreShort, IsShort, item_listed, size_listed};
-ghost use Rattle.lfs_tree.specs.Paths.{BeginsOnPath};
 ghost use Rattle.lfs_tree.specs.Reading.{IsReading};
 
-use crate::by_path::shown_at;
-use crate::directory::entries;
-use crate::finding::ListItem;
+use crate::by_path::{finding_of, first_of, shown_at};
+use crate::directory::entries_from;
+use crate::finding::{ListItem, Listing};
 use crate::items::{Item, Structure};
 use crate::path::Path;
-use crate::paths::Shown;
 use lfs_device::{BlockDevice, Error};
 use lfs_thread::Thread;
 use std::alloc::{AllocError, Global};
@@ -58,47 +57,29 @@ fn listed_items(alloc: Global, items: Vec<Item>) -> Result<Vec<ListItem>, AllocE
     Ok(listed)
 }
 
-// The number of the first pair of the directory at a path.
-fn first_at<D: BlockDevice>(
-    alloc: Global,
-    thread: &mut Thread<D>,
-    root: usize,
-    path: &Path<'_>,
-) -> Result<usize, Error>
-    requires works { thread.old.failed ≡ false }
-    requires accepted { IsAccepted thread.old.kept.disk thread.old.kept.pairs }
-    requires root { root ≡ superblocks_before thread.old.kept.pairs }
-    requires directory { is_directory (tree_in thread.old.kept.disk thread.old.kept.pairs path.now) ≡ true }
-    ensures begins { IfOk result (BeginsOnPath thread.old.kept.pairs path.now) }
-    ensures reading { IsReading thread.old thread.new result }
-{
-    let shown = shown_at(alloc, thread, root, path)?;
-    match shown {
-        Shown::Root => Ok(root),
-        Shown::Directory { first, .. } => Ok(first),
-        _ => unreachable!(),
-    }
-}
-
-// What stands in the directory at a path, in name order.
+// What a path leads to, and what stands in the directory at it, in name order.
 pub(crate) fn list_at<D: BlockDevice>(
     alloc: Global,
     thread: &mut Thread<D>,
     root: usize,
     path: &Path<'_>,
-) -> Result<Vec<ListItem>, Error>
+) -> Result<Listing, Error>
     requires works { thread.old.failed ≡ false }
     requires accepted { IsAccepted thread.old.kept.disk thread.old.kept.pairs }
     requires root { root ≡ superblocks_before thread.old.kept.pairs }
-    requires directory { is_directory (tree_in thread.old.kept.disk thread.old.kept.pairs path.now) ≡ true }
-    ensures items { IfOk result (λ items. map list_item_seen items.items ≡ items_in (tree_in thread.old.kept.disk thread.old.kept.pairs) path.now) }
+    ensures found { IfOk result (λ listing. Finds (tree_in thread.old.kept.disk thread.old.kept.pairs) path.now listing.finding) }
+    ensures items { IfOk result (λ listing. map list_item_seen listing.items.items ≡ items_in (tree_in thread.old.kept.disk thread.old.kept.pairs) path.now) }
+    ensures few { reads thread.new.kept.history ≤ reads thread.old.kept.history + sum_by (pairs_of_path thread.old.kept.pairs) (parents path.now ++ path.now ∷ []) }
     ensures reading { IsReading thread.old thread.new result }
 {
-    let first = first_at(alloc, thread, root, path)?;
-    let items = entries(alloc, thread, first)?;
+    let shown = shown_at(alloc, thread, root, path)?;
+    let items = entries_from(alloc, thread, first_of(root, shown))?;
     // Its blocks hold bytes, so that inline contents are short, and have the sizes by which a list has
     // as many bytes as its entry says.
     let _device = thread.device();
     let listed = listed_items(alloc, items)?;
-    Ok(listed)
+    Ok(Listing {
+        finding: finding_of(shown),
+        items: listed,
+    })
 }

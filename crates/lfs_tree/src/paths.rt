@@ -11,6 +11,7 @@ ghost use Rattle.lfs_model.specs.Tree.{Path};
 ghost use Rattle.lfs_model.specs.View.{IsAccepted};
 ghost use Rattle.lfs_thread.specs.Steps.{HasTold, IsOnlyRead};
 ghost use Rattle.lfs_tag.specs.FieldsSeen.{move_seen};
+ghost use Rattle.lfs_tree.specs.AttributeAt.{IsAtHand};
 ghost use Rattle.lfs_tree.specs.Search.{HidesFrom};
 ghost use Rattle.lfs_tree.specs.Paths.{BeginsOnPath, Descends, Enters, IsHiding, IsSettled, IsShownAt, IsThere, LeadsTo, ShowsTo};
 
@@ -245,6 +246,7 @@ fn show_in<D: BlockDevice>(
     requires hiding { IsHiding thread.old.kept moved }
     requires reached { (above : Path) × BeginsOnPath thread.old.kept.pairs above parent }
     ensures answer { IfOk result (λ shown. (above : Path) → BeginsOnPath thread.old.kept.pairs above parent → IsShownAt thread.old.kept.pairs moved (above ++ name.now ∷ []) shown) }
+    ensures at_hand { IfOk result (IsAtHand thread.new) }
     ensures few { reads thread.new.kept.history ≤ reads thread.old.kept.history + run_length (drop parent thread.old.kept.pairs) }
     ensures only { IsOnlyRead thread.old.kept thread.new.kept }
     ensures works { thread.new.failed ≡ false }
@@ -261,7 +263,8 @@ fn show_in<D: BlockDevice>(
 }
 
 /// What a path leads to as [`look_up`], where the slot `moved` counts as deleted: the one that a set
-/// move names (DESIGN.md of littlefs, "The move problem").
+/// move names (DESIGN.md of littlefs, "The move problem"). The block of the slot that is found is at
+/// hand then.
 ///
 /// Errors as those of [`find_name`](crate::find_name).
 pub fn look_up_shown<D: BlockDevice>(
@@ -274,6 +277,7 @@ pub fn look_up_shown<D: BlockDevice>(
     requires hiding { IsHiding thread.old.kept moved }
     requires root { BeginsOnPath thread.old.kept.pairs [] root }
     ensures answer { IfOk result (ShowsTo thread.old.kept moved (map (λ name. name.now) path.now)) }
+    ensures at_hand { IfOk result (IsAtHand thread.new) }
     ensures few { reads thread.new.kept.history ≤ reads thread.old.kept.history + sum_by (pairs_of_path thread.old.kept.pairs) (parents (map (λ name. name.now) path.now)) }
     ensures only { IsOnlyRead thread.old.kept thread.new.kept }
     ensures works { thread.new.failed ≡ false }

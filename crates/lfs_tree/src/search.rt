@@ -1,10 +1,10 @@
 // Names in directories of several pairs.
 
-ghost use Rattle.std.specs.Prelude.{◌≡◌, ◌<◌, ◌≤◌, ◌+◌, false, length, drop, IfOk};
+ghost use Rattle.std.specs.Prelude.{◌≡◌, ◌<◌, ◌≤◌, ◌+◌, false, length, drop, IfOk, IfSome, IsSome, OnOk};
 ghost use Rattle.lfs_model.specs.History.{reads};
 ghost use Rattle.lfs_model.specs.InDirectory.{HaveNoSuperblock, run_length};
 ghost use Rattle.lfs_model.specs.Slots.{Content};
-ghost use Rattle.lfs_thread.specs.Lent.{IsBlockOf};
+ghost use Rattle.lfs_thread.specs.Lent.{IsBlockOf, at_hand};
 ghost use Rattle.lfs_thread.specs.Steps.{HasTold, IsOnlyRead, pair_in};
 ghost use Rattle.lfs_tree.specs.Search.{Answers, AnswersIn, AnswersShown, HoldsContent, passed_in};
 
@@ -61,6 +61,7 @@ fn find_in_pair<D: BlockDevice>(
     requires works { thread.old.failed ≡ false }
     requires below { pair < length thread.old.kept.pairs }
     ensures answer { IfOk result (AnswersIn skip (pair_in thread.old.kept pair).content.slots name.now) }
+    ensures at_hand { OnOk result (IsSome (at_hand thread.new pair)) }
     ensures only { IsOnlyRead thread.old.kept thread.new.kept }
     ensures few { reads thread.new.kept.history ≤ reads thread.old.kept.history + 1 }
     ensures works { thread.new.failed ≡ false }
@@ -115,7 +116,7 @@ pub fn find_name<D: BlockDevice>(
 /// What a name stands for among the entries of the directory that begins with the pair of number
 /// `first`, where the slot `moved` counts as deleted: the one that a set move names (DESIGN.md of
 /// littlefs, "The move problem"). None where nothing has the name. Each pair of the directory is read
-/// at most once, and none where its block is at hand.
+/// at most once, and none where its block is at hand; the one that has the name is at hand then.
 ///
 /// Errors as those of [`find_name`].
 pub fn find_shown<D: BlockDevice>(
@@ -127,6 +128,7 @@ pub fn find_shown<D: BlockDevice>(
     requires works { thread.old.failed ≡ false }
     requires below { first < length thread.old.kept.pairs }
     ensures answer { IfOk result (AnswersShown thread.old.kept.pairs moved first name.now) }
+    ensures at_hand { IfOk result (λ found. IfSome found (λ f. IsSome (at_hand thread.new f.0.pair))) }
     ensures only { IsOnlyRead thread.old.kept thread.new.kept }
     ensures few { reads thread.new.kept.history ≤ reads thread.old.kept.history + run_length (drop first thread.old.kept.pairs) }
     ensures works { thread.new.failed ≡ false }

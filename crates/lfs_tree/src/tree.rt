@@ -1,11 +1,12 @@
 // A mounted image, whose calls take paths.
 
-ghost use Rattle.std.specs.Prelude.{ℕ, ◌≡◌, ◌<◌, ◌==◌, ◌≤◌, ◌+◌, ◌^◌, List, [], length, map, take, drop, true, false, None, IfOk, IfErr, IfSome, OnErr, OnOk};
+ghost use Rattle.std.specs.Prelude.{ℕ, ◌≡◌, ◌<◌, ◌==◌, ◌≤◌, ◌+◌, ◌^◌, ◌++◌, ◌∷◌, List, [], length, map, take, drop, true, false, None, IfOk, IfErr, IfSome, OnErr, OnOk, sum_by};
 ghost use Rattle.std.specs.List.{list_any};
 ghost use Rattle.std.specs.Option.{option_map};
-ghost use Rattle.lfs_model.specs.History.{OnlyReads, faults};
+ghost use Rattle.lfs_model.specs.History.{OnlyReads, faults, reads};
+ghost use Rattle.lfs_model.specs.Discipline.{pairs_of_path, parents};
 ghost use Rattle.lfs_model.specs.Operations as ops;
-ghost use Rattle.lfs_model.specs.TreeEdits.{added, attributes_of, bytes_at, is_directory, is_file, removed, renamed, same_path};
+ghost use Rattle.lfs_model.specs.TreeEdits.{added, attributes_of, bytes_at, is_file, removed, renamed, same_path};
 ghost use Rattle.lfs_model.specs.BlockSets.{in_flight_count};
 ghost use Rattle.lfs_model.specs.Content.{attribute_of, put_attribute, without_attribute};
 ghost use Rattle.lfs_model.specs.Operations.{Flags};
@@ -24,18 +25,18 @@ ghost use Rattle.lfs_thread.specs.Kept.{disk_on};
 ghost use Rattle.lfs_tree.specs.Allowed.{CanCreate, CanMake, CanRemove, CanRemoveAttr, CanRename, CanSetAttr};
 ghost use Rattle.lfs_tree.specs.CarryingSlots.{with_attributes_changed};
 ghost use Rattle.lfs_tree.specs.AttributeAt.{IsAttributesSize};
-ghost use Rattle.lfs_tree.specs.Finds.{Finds, list_item_seen};
+ghost use Rattle.lfs_tree.specs.Finds.{Finds, has_names, list_item_seen};
 ghost use Rattle.lfs_tree.specs.Formatting.{ComesBack, ErasesTwo};
 ghost use Rattle.lfs_tree.specs.Seen.{IsAsked, IsBroken, IsBrokenAsking, IsCarried, IsError, IsMountError as IsMountErrorOf, IsMountedTree, IsSound, LeavesRest, SurvivesAs, around_of, tree_seen};
 
 use crate::attribute_at::attribute_at;
 use crate::attribute_sizes::attributes_size_at;
-use crate::by_path::find_at;
+use crate::by_path::{find_at, look_inside_at};
 use crate::bytes_at::bytes_at;
 use crate::changing::{
     create_file, give_attribute, make_directory, remove_entry, rename_entry, take_attribute,
 };
-use crate::finding::{Finding, ListItem};
+use crate::finding::{Finding, FoundAttribute, Inside, Listing};
 use crate::formatting::format;
 use crate::image::Image;
 use crate::list_at::list_at;
@@ -212,13 +213,14 @@ impl<D: BlockDevice> Tree<D> {
         thread.state()
     }
 
-    /// What a path leads to.
+    /// What a path leads to. Each pair of the directories above it is read at most once.
     ///
     /// `Io` where a read failed, and `NoMemory` where memory isn't granted. It has failed then.
     pub fn look_up(&mut self, alloc: Global, path: &Path<'_>) -> Result<Finding, Error>
         requires { self.old.failed ≡ false }
         ensures asked { OnOk result (IsAsked self.old self.new) }
         ensures found { IfOk result (Finds (tree_seen self.old) path.now) }
+        ensures few { reads self.new.history ≤ reads self.old.history + sum_by (pairs_of_path self.old.pairs) (parents path.now) }
         ensures broken { OnErr result (IsBrokenAsking self.old self.new) }
         ensures errors { IfErr result (IsError self.old self.new) }
     {
@@ -228,6 +230,25 @@ impl<D: BlockDevice> Tree<D> {
         let found = find_at(alloc, thread, self.root, path);
         self.has_failed = found.is_err();
         found
+    }
+
+    /// What a path leads to, and whether it is a directory that has entries.
+    ///
+    /// `Io` where a read failed, and `NoMemory` where memory isn't granted. It has failed then.
+    pub fn look_inside(&mut self, alloc: Global, path: &Path<'_>) -> Result<Inside, Error>
+        requires { self.old.failed ≡ false }
+        ensures asked { OnOk result (IsAsked self.old self.new) }
+        ensures found { IfOk result (λ inside. Finds (tree_seen self.old) path.now inside.finding) }
+        ensures has { IfOk result (λ inside. inside.has_entries ≡ has_names (tree_seen self.old) path.now) }
+        ensures broken { OnErr result (IsBrokenAsking self.old self.new) }
+        ensures errors { IfErr result (IsError self.old self.new) }
+    {
+        let Image::Mounted(thread) = &mut self.image else {
+            unreachable!()
+        };
+        let inside = look_inside_at(alloc, thread, self.root, path);
+        self.has_failed = inside.is_err();
+        inside
     }
 
     /// The contents of a file, from a position on, so many bytes at most. None where no file stands.
@@ -255,7 +276,8 @@ impl<D: BlockDevice> Tree<D> {
         bytes
     }
 
-    /// An attribute of what stands at a path, which has at most 1,022 bytes. None where it isn't there.
+    /// What a path leads to, and an attribute of it, which has at most 1,022 bytes. Each pair of the
+    /// directories above it is read at most once.
     ///
     /// `Io` where a read failed, and `NoMemory` where memory isn't granted. It has failed then.
     pub fn get_attr(
@@ -263,10 +285,12 @@ impl<D: BlockDevice> Tree<D> {
         alloc: Global,
         path: &Path<'_>,
         kind: u8,
-    ) -> Result<Option<Vec<u8>>, Error>
+    ) -> Result<FoundAttribute, Error>
         requires { self.old.failed ≡ false }
         ensures asked { OnOk result (IsAsked self.old self.new) }
-        ensures bytes { IfOk result (λ found. (option_map (λ v. v.items) found ≡ attribute_of kind (attributes_of (tree_seen self.old path.now))) × IfSome found (λ v. length v.items ≤ 1022)) }
+        ensures found { IfOk result (λ found. Finds (tree_seen self.old) path.now found.finding) }
+        ensures bytes { IfOk result (λ found. (option_map (λ v. v.items) found.bytes ≡ attribute_of kind (attributes_of (tree_seen self.old path.now))) × IfSome found.bytes (λ v. length v.items ≤ 1022)) }
+        ensures few { reads self.new.history ≤ reads self.old.history + sum_by (pairs_of_path self.old.pairs) (parents path.now) }
         ensures broken { OnErr result (IsBrokenAsking self.old self.new) }
         ensures errors { IfErr result (IsError self.old self.new) }
     {
@@ -297,23 +321,25 @@ impl<D: BlockDevice> Tree<D> {
         size
     }
 
-    /// What stands in a directory, in name order.
+    /// What a path leads to, and what stands in it, where it is a directory. Each pair of the
+    /// directories above it, and of its own, is read at most once.
     ///
     /// `Io` where a read failed, and `NoMemory` where memory isn't granted. It has failed then.
-    pub fn list(&mut self, alloc: Global, path: &Path<'_>) -> Result<Vec<ListItem>, Error>
-        requires works { self.old.failed ≡ false }
-        requires directory { is_directory (tree_seen self.old path.now) ≡ true }
+    pub fn list(&mut self, alloc: Global, path: &Path<'_>) -> Result<Listing, Error>
+        requires { self.old.failed ≡ false }
         ensures asked { OnOk result (IsAsked self.old self.new) }
-        ensures items { IfOk result (λ items. map list_item_seen items.items ≡ items_in (tree_seen self.old) path.now) }
+        ensures found { IfOk result (λ listing. Finds (tree_seen self.old) path.now listing.finding) }
+        ensures items { IfOk result (λ listing. map list_item_seen listing.items.items ≡ items_in (tree_seen self.old) path.now) }
+        ensures few { reads self.new.history ≤ reads self.old.history + sum_by (pairs_of_path self.old.pairs) (parents path.now ++ path.now ∷ []) }
         ensures broken { OnErr result (IsBrokenAsking self.old self.new) }
         ensures errors { IfErr result (IsError self.old self.new) }
     {
         let Image::Mounted(thread) = &mut self.image else {
             unreachable!()
         };
-        let items = list_at(alloc, thread, self.root, path);
-        self.has_failed = items.is_err();
-        items
+        let listing = list_at(alloc, thread, self.root, path);
+        self.has_failed = listing.is_err();
+        listing
     }
 
     /// Makes an empty directory where nothing is.

@@ -32,13 +32,13 @@ fn found(alloc: Global, bytes: &[u8]) -> Result<(Option<u32>, Option<bool>, u32)
     let Some(path) = Path::parse(bytes) else {
         return Err(Error::Invalid);
     };
-    let found = tree.look_up(alloc, &path)?;
-    let fault = match found.fault {
+    let inside = tree.look_inside(alloc, &path)?;
+    let fault = match inside.finding.fault {
         Some(refusal) => Some(refusal.error().number()),
         None => None,
     };
-    let entries = match found.node {
-        Node::Directory { has_entries } => Some(has_entries),
+    let entries = match inside.finding.node {
+        Node::Directory => Some(inside.has_entries),
         _ => None,
     };
     Ok((fault, entries, tree.used_count()))

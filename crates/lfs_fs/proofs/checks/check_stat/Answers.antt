@@ -2,14 +2,22 @@ use Rattle.lfs_fs.specs.Held.{held_of}
 use Rattle.lfs_model.specs.Operations as ops
 use Rattle.lfs_fs.proofs.Errors.{given_on}
 use Rattle.lfs_fs.proofs.Checked.{lookup_failed, stat_checked}
+use Rattle.lfs_fs.proofs.FewReads.{few_given}
+use Rattle.lfs_model.specs.Discipline.{parents}
 use Rattle.lfs_fs.proofs.checks.check_stat.Goals as goal
 
-pub returns : goal.returns
-returns g c =
+pub returns-clause-checks : goal.returns-clause-checks
+returns-clause-checks g c =
     stat_checked (held_of c.args.tree.now c.args.files.now) c.args.bytes.now c.in-Some.path c.in_ok-found.found _ c.is_nothing.result c.refuse_if.result c.size.result c.passed.result
     c.if-has_failed.ensures c.in-Some.ensures c.in_ok-found.ensures.asked c.in_ok-found.ensures.found c.is_nothing.ensures c.refuse_if.ensures c.size.ensures c.passed.ensures
 
-pub returns-in_err-found : goal.returns-in_err-found
-returns-in_err-found g c =
+pub returns-in_err-found-clause-checks : goal.returns-in_err-found-clause-checks
+returns-in_err-found-clause-checks g c =
     lookup_failed (held_of c.args.tree.now c.args.files.now) (ops.Stat c.args.bytes.now) _ c.in_err-found.field-0.0 _ c.from_residual.result c.if-has_failed.ensures c.in_err-found.ensures.broken c.in_err-found.ensures.errors
     (given_on _ c.from_residual.result c.from_residual.ensures.1)
+
+pub returns-clause-few : goal.returns-clause-few
+returns-clause-few g c = few_given c.args.tree.now c.look_up.new.self parents c.args.bytes.now c.in-Some.path c.in-Some.ensures c.look_up.ensures.few
+
+pub returns-in_err-found-clause-few : goal.returns-in_err-found-clause-few
+returns-in_err-found-clause-few g c = few_given c.args.tree.now c.look_up.new.self parents c.args.bytes.now c.in-Some.path c.in-Some.ensures c.look_up.ensures.few

@@ -1,6 +1,9 @@
-use Rattle.std.proofs.Common.{◌∙◌, ap, sym}
+use Rattle.std.proofs.Common.{◌≤◌, ◌+◌, ◌∙◌, ap, subst, sym}
 use Rattle.lfs_model.specs.TreeEdits.{attributes_of}
 use Rattle.lfs_model.specs.Shown.{tree_in}
+use Rattle.std.specs.Prelude.{sum_by}
+use Rattle.lfs_model.specs.Discipline.{pairs_of_path, parents}
+use Rattle.lfs_model.specs.History.{reads}
 use Rattle.lfs_tree.specs.Seen.{Seen, tree_seen}
 use Rattle.lfs_tree.proofs.Asking.{rooted, rooted_mounted, seen_mounted, works_mounted}
 use Rattle.lfs_tree.proofs.AttributeAtSlots.{attribute_given, attribute_then}
@@ -21,3 +24,8 @@ returns-clause-bytes g c =
     (attribute_then c.args.kind (attributes_of (tree_in t.disk t.pairs c.args.path.now)) (attributes_of (tree_seen c.args.self.now c.args.path.now)) c.attribute_at-found.result
     (ap (λ (s : Seen). attributes_of (tree_seen s c.args.path.now)) seen) c.attribute_at-found.ensures.is)
     c.attribute_at-found.ensures.short
+
+pub returns-clause-few : goal.returns-clause-few
+returns-clause-few g c =
+    let seen = seen_mounted (g.D.BlockDevice) c.self.inside.image c.in-Mounted.thread c.self.inside.root c.self.inside.is_writable c.self.inside.has_failed c.args.self.now c.in-Mounted.is c.self.invariant c.self.view_is in
+    subst (λ (s : Seen). reads c.attribute_at-found.new.thread.kept.history ≤ reads s.history + sum_by (pairs_of_path s.pairs) (parents c.args.path.now)) seen c.attribute_at-found.ensures.few

@@ -85,7 +85,7 @@ class Story:
 
     def answers_of(self, tree, answers):
         shown = seen(tree, self.looks)
-        used = f"count {Model(*self.sizes, tree, self.extra).used()}" if self.counted else answers[-1]
+        used = f"count {Model(*self.sizes, tree, self.extra).used()}" if self.counted else (answers or [""])[-1]
         return shown + ["done"] + shown + ["gstate 0 none", used]
 
 
@@ -268,6 +268,9 @@ def judge_memory(story, run):
     first = next((at for at, (answer, right) in enumerate(zip(answers, wanted)) if answer != right), None)
     if first is None:
         hold(len(answers) == len(case), "answers are missing")
+        return
+    if first == 0:  # a device that isn't made, or whose file isn't read; what is left of a format isn't spoken of
+        hold(answers[0] in (NO_MEMORY, "error input"), f"{case[0]}: {answers[0]}")
         return
     hold(answers[first] == NO_MEMORY, f"{case[first]}: {answers[first]}")
     later = FAILED if first > 1 else NO_SESSION

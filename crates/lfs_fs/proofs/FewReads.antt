@@ -1,5 +1,5 @@
 -- How many reads a look-up takes, by the calls that came.
-use Rattle.std.proofs.Common.{ℕ, ◌≡◌, ◌≤◌, ◌+◌, List, [], ◌∷◌, ◌++◌, Option, Some, unwrap_or, refl, ap, arith}
+use Rattle.std.proofs.Common.{ℕ, ◌≡◌, ◌≤◌, ◌+◌, List, [], ◌∷◌, ◌++◌, Option, Some, unwrap_or, ap, arith}
 use Rattle.std.specs.Prelude.{sum_by}
 use Rattle.lfs_model.specs.Discipline.{pairs_of_path}
 use Rattle.lfs_model.specs.History.{Event, reads}
@@ -17,7 +17,7 @@ few_given old new f bytes p is few =
     omega (arith, e, few)
 
 reads_over : (calls older : List Event) → reads (calls ++ older) ≡ reads calls + reads older
-reads_over [] older = refl
+reads_over [] older = omega arith
 reads_over (e ∷ calls) older = let k = reads_over calls older in omega (arith, k)
 
 -- by the calls that came

@@ -260,10 +260,11 @@ pub(crate) fn check_list<D: BlockDevice>(
         return Err(Error::Invalid);
     };
     let listing = tree.list(alloc, &path)?;
+    let node = listing.finding.node;
     let checks = [
         listing.finding.fault,
-        refuse_if(listing.finding.node.is_nothing(), Error::NoEnt),
-        refuse_if(listing.finding.node.is_file(), Error::NotDir),
+        refuse_if(node.is_nothing(), Error::NoEnt),
+        refuse_if(node.is_file(), Error::NotDir),
     ];
     passed(&checks, listing.items)
 }

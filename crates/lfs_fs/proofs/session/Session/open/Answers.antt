@@ -4,4 +4,4 @@ use Rattle.lfs_fs.proofs.Withstanding.{call_withstands}
 use Rattle.lfs_fs.proofs.session.Session.open.Goals as goal
 
 pub returns-clause-withstands : goal.returns-clause-withstands
-returns-clause-withstands g c = call_withstands _ _ (reply_in ops.Opened c.do_open.result) _ c.tells.ensures c.tells-2.ensures c.do_open.ensures.answers c.do_open.ensures.survives
+returns-clause-withstands g c = call_withstands _ _ (reply_in ops.Opened c.do_open-answer.result) _ c.tells.ensures c.tells-2.ensures c.do_open-answer.ensures.answers c.do_open-answer.ensures.survives

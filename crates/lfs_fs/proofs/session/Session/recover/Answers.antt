@@ -4,4 +4,4 @@ use Rattle.lfs_fs.proofs.Withstanding.{call_withstands}
 use Rattle.lfs_fs.proofs.session.Session.recover.Goals as goal
 
 pub returns-clause-withstands : goal.returns-clause-withstands
-returns-clause-withstands g c = call_withstands _ _ (reply_in (λ u. ops.Done) c.do_recover.result) _ c.tells.ensures c.tells-2.ensures c.do_recover.ensures.answers c.do_recover.ensures.survives
+returns-clause-withstands g c = call_withstands _ _ (reply_in (λ u. ops.Done) c.do_recover-answer.result) _ c.tells.ensures c.tells-2.ensures c.do_recover-answer.ensures.answers c.do_recover-answer.ensures.survives

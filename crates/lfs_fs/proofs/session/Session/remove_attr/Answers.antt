@@ -4,4 +4,4 @@ use Rattle.lfs_fs.proofs.Withstanding.{call_withstands}
 use Rattle.lfs_fs.proofs.session.Session.remove_attr.Goals as goal
 
 pub returns-clause-withstands : goal.returns-clause-withstands
-returns-clause-withstands g c = call_withstands _ _ (reply_in (λ u. ops.Done) c.do_remove_attr.result) _ c.tells.ensures c.tells-2.ensures c.do_remove_attr.ensures.answers c.do_remove_attr.ensures.survives
+returns-clause-withstands g c = call_withstands _ _ (reply_in (λ u. ops.Done) c.do_remove_attr-answer.result) _ c.tells.ensures c.tells-2.ensures c.do_remove_attr-answer.ensures.answers c.do_remove_attr-answer.ensures.survives

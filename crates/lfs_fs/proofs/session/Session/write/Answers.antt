@@ -4,4 +4,4 @@ use Rattle.lfs_fs.proofs.Withstanding.{call_withstands}
 use Rattle.lfs_fs.proofs.session.Session.write.Goals as goal
 
 pub returns-clause-withstands : goal.returns-clause-withstands
-returns-clause-withstands g c = call_withstands _ _ (reply_in ops.Count c.do_write.result) _ c.tells.ensures c.tells-2.ensures c.do_write.ensures.answers c.do_write.ensures.survives
+returns-clause-withstands g c = call_withstands _ _ (reply_in ops.Count c.do_write-answer.result) _ c.tells.ensures c.tells-2.ensures c.do_write-answer.ensures.answers c.do_write-answer.ensures.survives

@@ -163,7 +163,7 @@ pub fn has_lost_nothing<D: BlockDevice>(
     session: &mut Session<D>,
     done: usize,
 ) -> Result<bool, Error> {
-    let before = *BEHIND.get(done).unwrap_or(&LENGTH);
-    let behind = *BEHIND.get(done.saturating_add(1)).unwrap_or(&before);
+    let before = BEHIND.get(done).copied().unwrap_or(LENGTH);
+    let behind = BEHIND.get(done.saturating_add(1)).copied().unwrap_or(before);
     Ok(stays(alloc, session, before)? || behind != before && stays(alloc, session, behind)?)
 }

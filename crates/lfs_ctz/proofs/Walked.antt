@@ -64,7 +64,7 @@ multiple j k some low le =
     )
 
 -- a power of two that divides a number is no greater, and its exponent is below 32
-power_small : (j k : ℕ) → 0 < j → j < 2 ^ 32 → k ≤ trailing_zeros w32 j → (2 ^ k ≤ j) × (k < 32)
+pub power_small : (j k : ℕ) → 0 < j → j < 2 ^ 32 → k ≤ trailing_zeros w32 j → (2 ^ k ≤ j) × (k < 32)
 power_small j k some low le =
     let m = multiple j k some low le in
     let one = factor-pos m.0 (2 ^ k) j m.1 some in
@@ -91,7 +91,7 @@ zeros_more (suc i) k low le =
     zeros-le 32 (suc i + 2 ^ k) (m.0 + 1) k (omega arith) low (omega (arith, m.1, add-mul m.0 1 (2 ^ k)))
 
 -- between two multiples that follow one another there is none
-between_none : (i j k : ℕ) → 0 < i → i < j → j < 2 ^ 32 → j - 2 ^ k < i → k ≤ trailing_zeros w32 j → k ≤ trailing_zeros w32 i → ⊥
+pub between_none : (i j k : ℕ) → 0 < i → i < j → j < 2 ^ 32 → j - 2 ^ k < i → k ≤ trailing_zeros w32 j → k ≤ trailing_zeros w32 i → ⊥
 between_none i j k some less low above here there =
     let a = multiple i k some (omega arith) there in
     let b = multiple j k (omega arith) low here in

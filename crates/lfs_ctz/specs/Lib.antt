@@ -5,3 +5,4 @@ pub mod Filled
 pub mod Finished
 pub mod Growing
 pub mod Right
+pub mod Way

@@ -8,6 +8,7 @@ mod read;
 mod rest;
 mod size;
 mod visits;
+mod way;
 
 pub use extender::Extender;
 pub use front::cut;

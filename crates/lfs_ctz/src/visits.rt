@@ -1,23 +1,16 @@
-ghost use Rattle.std.specs.Prelude.{◌≡◌, ◌≤◌, ◌<◌, ◌+◌, ◌*◌, ◌^◌, ◌⊎◌, ℕ, true, false, length, OnOk, IfOk, IfErr, IsErrOf, reverse};
+ghost use Rattle.std.specs.Prelude.{◌≡◌, ◌≤◌, ◌<◌, ◌+◌, ◌*◌, ◌^◌, ◌⊎◌, ℕ, true, false, length, OnOk, IfOk, IfErr, IsErrOf, reverse, slice_index};
+ghost use Rattle.std.specs.Int.{w32, trailing_zeros};
 ghost use Rattle.std.specs.List.{FoldsTo};
 ghost use Rattle.lfs_model.specs.Blocks.{block_in};
 ghost use Rattle.lfs_device.specs.Calls.{ReadsOnly, TellsFaults};
 ghost use Rattle.lfs_model.specs.SkipLists.{IsList, blocks_back, blocks_for, word_at};
 ghost use Rattle.lfs_ctz.specs.Right.{IsNamed, IsNoted};
+ghost use Rattle.lfs_ctz.specs.Way.{HasPointers, IsOnWay};
 ghost use Rattle.lfs_model.specs.History.{reads};
 
 use crate::blocks_for;
-use crate::read::{find, pointers, read_part};
-use byteorder::{ByteOrder, LittleEndian};
+use crate::way::{Way, first_block, note, word};
 use lfs_device::{BlockDevice, Error};
-
-// The word at a place.
-fn word(words: &[u8], at: usize) -> u32
-    requires { at + 4 ≤ length words.now }
-    ensures { result ≡ word_at words.now at }
-{
-    LittleEndian::read_u32(&words[at..at + 4])
-}
 
 // Whether a block is the one that the pointers to its place name.
 fn is_named(words: &[u8], block: u32, index: u32, last: u32) -> bool
@@ -38,18 +31,21 @@ fn is_named(words: &[u8], block: u32, index: u32, last: u32) -> bool
     true
 }
 
-// The block that pointer 0 of a block names, whose pointers are noted, by one read. Corrupt where
-// it is no block of the device, or not the one that the pointers to its place name.
+// The block that pointer 0 of a block names, whose pointers are noted, by one read where the way
+// doesn't go through it. Corrupt where it is no block of the device, or not the one that the pointers
+// to its place name.
 fn checked_before<D: BlockDevice>(
     dev: &mut D,
     block: u32,
     index: u32,
     last: u32,
+    way: &Way,
     words: &mut [u8],
 ) -> Result<u32, Error>
     requires some { 0 < index }
     requires order { index ≤ last }
     requires room { length words.old ≡ 128 }
+    requires way { HasPointers (D.blocks dev.old) last 0 way.now }
     ensures word { IfOk result (λ word. word ≡ word_at (block_in (D.blocks dev.old) block) 0) }
     ensures noted { OnOk result (IsNoted (D.blocks dev.old) block index words.old words.new) }
     ensures right { OnOk result ((block < (D.geometry dev.old).block_count) × IsNamed words.old block index last) }
@@ -58,11 +54,12 @@ fn checked_before<D: BlockDevice>(
     ensures faults { TellsFaults D.BlockDevice dev.old dev.new result }
     ensures errors { IfErr result (λ e. (e ≡ Error.Io) ⊎ (e ≡ Error.Corrupt)) }
     ensures few { reads (D.history dev.new) ≤ reads (D.history dev.old) + 1 }
+    ensures known { IsOnWay last index → slice_index way.now.blocks (trailing_zeros w32 index) ≡ block → reads (D.history dev.new) ≡ reads (D.history dev.old) }
 {
     if block >= dev.geometry().block_count || !is_named(words, block, index, last) {
         return Err(Error::Corrupt);
     }
-    read_part(dev, block, 0, words, 0, 4 * pointers(index))?;
+    note(dev, block, index, last, way, words)?;
     Ok(word(words, 0))
 }
 
@@ -72,7 +69,8 @@ fn checked_before<D: BlockDevice>(
 /// Ok says that the list is well formed, as DESIGN.md of littlefs has it: it holds 1 to
 /// 2,147,483,647 bytes, each block is on the device, none comes twice, and each pointer names the
 /// block that the rule says. `Error::Corrupt` says that it is not; some blocks may have been
-/// visited then. `Error::Io` comes where the device failed. It takes no memory.
+/// visited then. `Error::Io` comes where the device failed. Each block but the first one is read
+/// once, and that one not at all. It takes no memory but some 4 KiB of the stack.
 pub fn walk<D: BlockDevice, F: FnMut(u32)>(
     dev: &mut D,
     head: u32,
@@ -88,9 +86,7 @@ pub fn walk<D: BlockDevice, F: FnMut(u32)>(
     ensures device { ReadsOnly D.BlockDevice dev.old dev.new }
     ensures faults { TellsFaults D.BlockDevice dev.old dev.new result }
     ensures errors { IfErr result (λ e. (e ≡ Error.Io) ⊎ (e ≡ Error.Corrupt)) }
-    // One read for each block, and the steps to the first one.
-    ensures few { (m : ℕ) → blocks_for (D.geometry dev.old).block_size size ≤ 2 ^ m
-        → OnOk result (reads (D.history dev.new) ≤ reads (D.history dev.old) + blocks_for (D.geometry dev.old).block_size size + 2 * m) }
+    ensures few { OnOk result (reads (D.history dev.new) < reads (D.history dev.old) + blocks_for (D.geometry dev.old).block_size size) }
 {
     let geometry = dev.geometry();
     if size == 0 || size > 0x7fff_ffff {
@@ -101,12 +97,13 @@ pub fn walk<D: BlockDevice, F: FnMut(u32)>(
         return Err(Error::Corrupt);
     }
     // If any block came twice, the first one would: equal blocks have equal blocks before them.
-    let first = find(dev, head, last, 0)?;
+    let mut way = Way::new();
+    let first = first_block(dev, head, last, &mut way)?;
     let mut words = [0; 128];
     let mut block = head;
     let mut index = last;
     while index > 0 {
-        let before = checked_before(dev, block, index, last, &mut words)?;
+        let before = checked_before(dev, block, index, last, &way, &mut words)?;
         if block == first {
             return Err(Error::Corrupt);
         }

@@ -1,11 +1,12 @@
 // Clients of contents in memory and of the fronts of lists.
 
-ghost use Rattle.std.specs.Prelude.{◌≡◌, ◌⊎◌, ◌≤◌, ◌<◌, ◌+◌, ◌^◌, take, length, IfErr, IfOk};
+ghost use Rattle.std.specs.Prelude.{◌≡◌, ◌⊎◌, ◌≤◌, ◌<◌, ◌+◌, ◌^◌, true, false, take, length, IfErr, IfOk};
 ghost use Rattle.lfs_device.specs.Calls.{ReadsOnly, TellsFaults};
-ghost use Rattle.lfs_model.specs.SkipLists.{IsList, bytes_of};
+ghost use Rattle.lfs_model.specs.History.{reads};
+ghost use Rattle.lfs_model.specs.SkipLists.{IsList, blocks_for, bytes_of};
 ghost use Rattle.lfs_model.specs.Writers.{written_into as with_bytes};
 
-use lfs_ctz::{Extender, cut, read_at};
+use lfs_ctz::{Extender, cut, read_at, walk};
 use lfs_device::{BlockDevice, Error, Geometry};
 use std::alloc::Global;
 
@@ -76,4 +77,20 @@ pub fn read_front<D: BlockDevice>(
     let front = cut(dev, head, size, keep)?;
     read_at(dev, front, keep, 0, bytes.as_mut_slice())?;
     Ok(bytes)
+}
+
+/// Whether a list is well formed. Where it is, there was at most one read for each of its blocks.
+///
+/// `Error::Io` comes where the device failed.
+pub fn is_list<D: BlockDevice>(dev: &mut D, head: u32, size: u32) -> Result<bool, Error>
+    ensures yes { result ≡ Ok true → IsList (D.blocks dev.old) (D.geometry dev.old).block_size head size }
+    ensures no { result ≡ Ok false → ¬ IsList (D.blocks dev.old) (D.geometry dev.old).block_size head size }
+    ensures few { result ≡ Ok true → reads (D.history dev.new) ≤ reads (D.history dev.old) + blocks_for (D.geometry dev.old).block_size size }
+    ensures errors { IfErr result (λ e. e ≡ Error.Io) }
+{
+    match walk(dev, head, size, &mut |_block| {}) {
+        Ok(()) => Ok(true),
+        Err(Error::Corrupt) => Ok(false),
+        Err(error) => Err(error),
+    }
 }

@@ -19,4 +19,4 @@ mod reading;
 #[cfg(test)]
 mod sizes;
 
-pub use clients::{Memory, patch, read_front};
+pub use clients::{Memory, is_list, patch, read_front};

@@ -1,4 +1,5 @@
 use crate::by_hand::device;
+use crate::clients::is_list;
 use crate::lists::content;
 use lfs_ctz::{cut, head_before, read_at, walk};
 use lfs_device::{BlockDevice, Error, Which};
@@ -71,7 +72,16 @@ fn blocks_are_visited_from_the_last(rt: HostRuntime) -> Result<(), Fail> {
     let content = content(rt.alloc(), 2045, 0)?;
     let mut device = device(rt.alloc(), &content, 5, [6, 5], 0)?;
     let visited = visited(&mut device, 7, 2045);
-    assert_eq!(rt; (visited, device.calls(Which::Any)), (Ok([0, 7, 6, 5]), 3));
+    assert_eq!(rt; (visited, device.calls(Which::Any)), (Ok([0, 7, 6, 5]), 2));
+    Ok(())
+}
+
+#[test]
+fn a_list_is_told_from_none(rt: HostRuntime) -> Result<(), Fail> {
+    let content = content(rt.alloc(), 2045, 0)?;
+    let mut device = device(rt.alloc(), &content, 5, [6, 5], 0)?;
+    assert_eq!(rt; is_list(&mut device, 7, 2045), Ok(true));
+    assert_eq!(rt; is_list(&mut device, 7, 0), Ok(false));
     Ok(())
 }
 

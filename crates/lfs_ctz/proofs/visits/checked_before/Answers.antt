@@ -1,40 +1,9 @@
-use Rattle.std.proofs.Common.{ℕ, ◌≡◌, ◌≤◌, ◌+◌, ◌-◌, ◌*◌, ◌++◌, List, length, take, drop, ap, ◌∙◌, arith}
-use Rattle.std.proofs.lemmas.List.{length-take-le}
-use Rattle.std.proofs.lemmas.Slice.{drop-append-drop}
-use Rattle.std.specs.Int.{w32, from_le_bytes}
-use Rattle.lfs_device.specs.declared.geometry.Geometry.{Geometry}
-use Rattle.lfs_model.specs.Blocks.{Blocks, block_in}
-use Rattle.lfs_model.specs.SkipLists.{pointers_of, word_at}
-use Rattle.lfs_ctz.specs.Right.{IsNoted}
+use Rattle.std.proofs.Common.{◌∙◌, arith}
 use Rattle.lfs_ctz.proofs.Chains.{pointers_of-pos}
-use Rattle.lfs_ctz.proofs.Sizes.{pointers_of-le}
-use Rattle.lfs_ctz.proofs.Words.{word_at-written}
 use Rattle.lfs_ctz.proofs.visits.checked_before.Goals as goal
-
-noted : (d : Blocks) (block index n : ℕ) (old new : List ℕ) → n ≡ pointers_of index → 4 * n ≤ length (block_in d block) → new ≡ take 0 old ++ (take (4 * n) (drop 0 (block_in d block)) ++ drop (0 + 4 * n) old)
-    → IsNoted d block index old new
-noted d block index n old new is room read = record {
-  own = λ k less. ap (λ (l : List ℕ). word_at l (4 * k)) read ∙ word_at-written (block_in d block) (drop (0 + 4 * n) old) (4 * n) (4 * k) room (omega arith);
-  others = λ k more less. ap (λ (l : List ℕ). word_at l (4 * k)) read
-      ∙ ap (λ e. word_at (take (4 * n) (block_in d block) ++ drop e old) (4 * k)) (let s : 0 + 4 * n ≡ 4 * n = omega arith in s)
-      ∙ ap (λ (l : List ℕ). from_le_bytes w32 (take (4 * k + 4 - 4 * k) l)) (drop-append-drop (4 * n) old (take (4 * n) (block_in d block)) (4 * k) (omega arith) (length-take-le (4 * n) (block_in d block) room));
-}
-
-room : (g : _) (c : goal.After-word g) → 4 * c.pointers.result ≤ length (block_in (g.D.BlockDevice.blocks c.args.dev.now) c.args.block)
-room g c =
-    let shape = g.met.D.BlockDevice.shape c.args.dev.now in
-    let few = pointers_of-le c.args.index in
-    let count = ap (λ (k : Geometry). k.block_count) c.geometry.ensures in
-    omega (arith, shape.sizes c.args.block (omega (arith, count)), (g.D.BlockDevice.geometry c.args.dev.now).valid.no_smaller, few, c.pointers.ensures)
-
-pub returns-clause-noted : goal.returns-clause-noted
-returns-clause-noted g c =
-    let shape = g.met.D.BlockDevice.shape c.args.dev.now in
-    let few = pointers_of-le c.args.index in
-    noted (g.D.BlockDevice.blocks c.args.dev.now) c.args.block c.args.index c.pointers.result c.args.words.now _ c.pointers.ensures (room g c) c.in_ok-read_part.ensures.bytes
 
 pub returns-clause-word : goal.returns-clause-word
 returns-clause-word g c =
     let some = c.requires.some in
     let many = pointers_of-pos c.args.index some in
-    c.word.ensures ∙ (returns-clause-noted g c).own 0 (omega arith)
+    c.word.ensures ∙ c.in_ok-note.ensures.noted.own 0 (omega arith)

@@ -1,5 +1,9 @@
 use Rattle.std.proofs.Common.{ℕ, ◌≡◌, ◌≤◌, ◌<◌, ◌+◌, ◌-◌, List, [], drop, reverse, slice_index, refl, sym, ap, subst, ◌∙◌, arith}
-use Rattle.std.proofs.Common.{suc, Result, Err, ◌^◌, rules, of_calls}
+use Rattle.std.proofs.Common.{suc, Result, Err, ◌^◌, ⊎_elim, rules, of_calls}
+use Rattle.std.proofs.lemmas.Bool.{cases_lt}
+use Rattle.std.specs.Int.{w32, trailing_zeros}
+use Rattle.lfs_ctz.specs.Way.{HasPointers, on_way}
+use Rattle.lfs_ctz.proofs.Ways.{none_off, one_on}
 use Rattle.std.specs.List.{FoldsTo}
 use Rattle.lfs_device.specs.declared.error.Error.{Error}
 use Rattle.lfs_ctz.specs.Right.{IsNamed, IsNoted}
@@ -47,10 +51,10 @@ loop-index-init g c =
       at = sym (head_of_back old last c.args.head);
       checked = none_checked old last c.args.head c.in_ok-first.first (g.D.BlockDevice.geometry c.args.dev.now).block_count _;
       room = refl;
-      few = λ m lt. (let steps = c.in_ok-first.ensures.few m lt in omega arith);
+      few = λ ok. (let way = c.in_ok-first.ensures.few in omega arith);
       visited = rw none refl;
       callable = search (rules, of_calls);
-      device = c.find.ensures.device;
+      device = c.first_block.ensures.device;
       quiet = quiet g.D.BlockDevice c.in_ok-first.ensures.faults;
     }
 
@@ -135,12 +139,27 @@ loop-index-preserved g c =
           (omega (arith, c.in_ok-before.ensures.right.0, ap (λ (k : Geometry). k.block_count) inv.device.geometry))
           c.if-block-first.false;
       room = c.checked_before.auto.words ∙ inv.room;
-      few = λ m lt. (let so_far = inv.few m lt in let one = c.checked_before.ensures.few in omega arith);
+      few = λ ok.
+          let so_far = inv.few ok in
+          let one = c.checked_before.ensures.few in
+          ⊎_elim
+          (λ on.
+          let none = c.checked_before.ensures.known on (c.in_ok-first.ensures.noted.blocks ok index (omega arith) inv.low on ∙ sym inv.at) in
+          let here = one_on last index (omega arith) on in
+          omega arith)
+          (λ off.
+          let here = none_off last index (omega arith) (λ on. absurd (omega arith)) in
+          omega arith)
+          (cases_lt (last - index) (2 ^ trailing_zeros w32 index));
       visited = visited_more _ _ _ c.visit.new.self bs index c.loop-index.block (index - 1 + 1) (omega (arith, size, inv.low)) inv.at (omega arith) inv.visited (search (rules, of_calls));
       callable = search (rules, of_calls);
       device = read_on g.D.BlockDevice inv.device c.checked_before.ensures.device;
       quiet = quiet g.D.BlockDevice c.in_ok-before.ensures.faults ∙ inv.quiet;
     }
+
+pub checked_before-requires-clause-way : goal.checked_before-requires-clause-way
+checked_before-requires-clause-way g c =
+    subst (λ d. HasPointers d (c.blocks_for-last.result - 1) 0 c.first_block.new.way) (sym c.loop-index.invariant.device.same) c.in_ok-first.ensures.noted.words
 
 pub returns-then-block-first-2-clause-corrupt : goal.returns-then-block-first-2-clause-corrupt
 returns-then-block-first-2-clause-corrupt g c is listed =
@@ -161,6 +180,15 @@ returns-clause-well_formed g c =
     list_of_walk old c.args.head c.args.size c.blocks_for-last.result c.in_ok-first.first _ _ c.geometry-geometry.ensures c.blocks_for-last.ensures shape (omega arith) (omega arith) (omega arith)
     _ (subst (λ k. IsChecked old last c.args.head c.in_ok-first.first (g.D.BlockDevice.geometry c.args.dev.now).block_count k c.loop-index.words) none inv.checked) is first
     (subst (λ b. IsNamed c.loop-index.words b 0 last) c.if-block-first-2.false (c.if-not-is_named.ensures.yes refl))
+
+pub returns-clause-few : goal.returns-clause-few
+returns-clause-few g c =
+    let last : ℕ = c.blocks_for-last.result - 1 in
+    let ok = chain _ _ _ _ _ c.geometry-geometry.result.valid.no_smaller c.blocks_for-last.ensures (sized _ _ _ _ _ c.geometry-geometry.ensures (returns-clause-well_formed g c)) in
+    let few = c.loop-index.invariant.few ok in
+    let none : on_way last c.loop-index.index ≡ 0 = ap (on_way last) (let e : c.loop-index.index ≡ 0 = omega arith in e) in
+    let count = count_by (g.D.BlockDevice.geometry c.args.dev.now) c.geometry-geometry.result c.args.size c.blocks_for-last.result c.geometry-geometry.ensures (omega arith) c.blocks_for-last.ensures in
+    omega (arith, few, none, count)
 
 pub returns-clause-visited : goal.returns-clause-visited
 returns-clause-visited g c =

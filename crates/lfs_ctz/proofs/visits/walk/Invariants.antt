@@ -1,8 +1,9 @@
-use Rattle.std.proofs.Common.{ℕ, ◌<◌, ◌*◌, ◌^◌, length, ◌≡◌, ◌≤◌, ◌+◌, drop, reverse, slice_index}
+use Rattle.std.proofs.Common.{length, ◌≡◌, ◌≤◌, ◌+◌, drop, reverse, slice_index}
 use Rattle.std.specs.List.{FoldsTo}
 use Rattle.lfs_device.specs.Calls.{ReadsOnly}
 use Rattle.lfs_model.specs.History.{faults, reads}
-use Rattle.lfs_model.specs.SkipLists.{blocks_back}
+use Rattle.lfs_model.specs.SkipLists.{AreListBlocks, blocks_back}
+use Rattle.lfs_ctz.specs.Way.{on_way}
 use Rattle.lfs_ctz.proofs.Walked.{IsChecked}
 use Rattle.lfs_ctz.proofs.visits.walk.Given as goal
 
@@ -20,7 +21,7 @@ invariant-loop-index g l =
       visited : FoldsTo (λ p x q. goal.F-step g p x tt q) l.fn.visit (reverse (drop (l.index + 1) (blocks_back (blocks old) (l.last + 1) l.fn.head))) l.visit;
       callable : goal.F-IsAlwaysCallable g l.visit;
       device : ReadsOnly g.D.BlockDevice old l.dev;
-      few : (m : ℕ) → l.last < 2 ^ m → reads (history l.dev) + l.index ≤ reads (history old) + l.last + 2 * m;
+      few : AreListBlocks (blocks old) (l.last + 1) l.fn.head → reads (history l.dev) + l.index ≤ reads (history old) + l.last + on_way l.last l.index;
       quiet : faults (history l.dev) ≡ faults (history old);
     }
 

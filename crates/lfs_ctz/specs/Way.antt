@@ -1,0 +1,25 @@
+-- The way from a list's last block back to its first one, by the highest pointers.
+use Rattle.std.specs.Prelude.{ℕ, zero, suc, ◌≡◌, ◌+◌, ◌*◌, ◌-◌, ◌<◌, ◌≤◌, ◌^◌, if◌then◌else◌, nat_lt, slice_index}
+use Rattle.std.specs.Int.{w32, trailing_zeros}
+use Rattle.lfs_model.specs.Blocks.{Blocks, block_in}
+use Rattle.lfs_model.specs.SkipLists.{AreListBlocks, blocks_back, word_at}
+use Rattle.lfs_ctz.specs.declared.way.Way.{Way}
+
+-- it goes through this index
+abbrev pub IsOnWay : ℕ → ℕ → Type 0
+IsOnWay last i = last - i < 2 ^ trailing_zeros w32 i
+
+-- through how many of the indices from 1 to this one
+abbrev pub on_way : ℕ → ℕ → ℕ
+on_way last zero = 0
+on_way last (suc i) = on_way last i + (if nat_lt (last - suc i) (2 ^ trailing_zeros w32 (suc i)) then 1 else 0)
+
+-- Each block that it went through before it came to an index is noted with its pointers,
+abbrev pub HasPointers : Blocks → ℕ → ℕ → Way → Type 0
+HasPointers d last at way = (i k : ℕ) → at < i → i ≤ last → IsOnWay last i → k ≤ trailing_zeros w32 i
+    → word_at way.words (128 * trailing_zeros w32 i + 4 * k) ≡ word_at (block_in d (slice_index way.blocks (trailing_zeros w32 i))) (4 * k)
+
+-- and in a list it is the list's.
+pub record IsWay (d : Blocks) (head last at : ℕ) (way : Way) : Type 0 where
+  pub words : HasPointers d last at way
+  pub blocks : AreListBlocks d (last + 1) head → (i : ℕ) → at < i → i ≤ last → IsOnWay last i → slice_index way.blocks (trailing_zeros w32 i) ≡ slice_index (blocks_back d (last + 1) head) i

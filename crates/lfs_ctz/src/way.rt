@@ -1,0 +1,117 @@
+// The way from a list's last block back to its first one.
+
+ghost use Rattle.std.specs.Prelude.{◌≡◌, ◌≤◌, ◌<◌, ◌+◌, ◌*◌, ◌⊎◌, ◌↔◌, length, OnOk, IfOk, IfErr, IsErrOf, IsTrue, slice_index};
+ghost use Rattle.std.specs.Int.{w32, trailing_zeros};
+ghost use Rattle.lfs_model.specs.Blocks.{block_in};
+ghost use Rattle.lfs_device.specs.Calls.{ReadsOnly, TellsFaults};
+ghost use Rattle.lfs_model.specs.History.{reads};
+ghost use Rattle.lfs_model.specs.SkipLists.{AreListBlocks, blocks_back, word_at};
+ghost use Rattle.lfs_ctz.specs.Right.{IsNoted};
+ghost use Rattle.lfs_ctz.specs.Way.{HasPointers, IsOnWay, IsWay, on_way};
+
+use crate::read::{pointers, read_part};
+use byteorder::{ByteOrder, LittleEndian};
+use lfs_device::{BlockDevice, Error};
+
+// The blocks that the way goes through, each with its pointers, at the number of zeros that its
+// index ends in: no two of them end in as many.
+#[derive(Drop)]
+pub(crate) struct Way {
+    pub blocks: [u32; 32],
+    // 32 words for each.
+    pub words: [u8; 4096],
+}
+
+impl Way {
+    // Nothing is noted yet.
+    pub fn new() -> Self {
+        Self {
+            blocks: [0; 32],
+            words: [0; 4096],
+        }
+    }
+}
+
+// The word at a place.
+pub(crate) fn word(words: &[u8], at: usize) -> u32
+    requires { at + 4 ≤ length words.now }
+    ensures { result ≡ word_at words.now at }
+{
+    LittleEndian::read_u32(&words[at..at + 4])
+}
+
+// Whether the way goes through the block at this index.
+fn is_on_way(index: u32, last: u32) -> bool
+    requires some { 0 < index }
+    requires order { index ≤ last }
+    ensures { IsTrue result ↔ IsOnWay last index }
+{
+    last - index < 1 << index.trailing_zeros()
+}
+
+// The first block of a list, and what the way to it goes through, each block of it read once.
+pub(crate) fn first_block<D: BlockDevice>(
+    dev: &mut D,
+    head: u32,
+    last: u32,
+    way: &mut Way,
+) -> Result<u32, Error>
+    ensures found { AreListBlocks (D.blocks dev.old) (last + 1) head → IfOk result (λ b. b ≡ slice_index (blocks_back (D.blocks dev.old) (last + 1) head) 0) }
+    ensures in_range { IfOk result (λ b. b < (D.geometry dev.old).block_count) }
+    ensures corrupt { IsErrOf result Error.Corrupt → ¬ AreListBlocks (D.blocks dev.old) (last + 1) head }
+    ensures noted { OnOk result (IsWay (D.blocks dev.old) head last 0 way.new) }
+    ensures device { ReadsOnly D.BlockDevice dev.old dev.new }
+    ensures faults { TellsFaults D.BlockDevice dev.old dev.new result }
+    ensures errors { IfErr result (λ e. (e ≡ Error.Io) ⊎ (e ≡ Error.Corrupt)) }
+    ensures few { OnOk result (reads (D.history dev.new) ≤ reads (D.history dev.old) + on_way last last) }
+{
+    let count = dev.geometry().block_count;
+    let mut block = head;
+    let mut at = last;
+    while at > 0 {
+        if block >= count {
+            return Err(Error::Corrupt);
+        }
+        let zeros = at.trailing_zeros();
+        let row = 128 * zeros as usize;
+        read_part(dev, block, 0, &mut way.words, row, 4 * (zeros + 1))?;
+        way.blocks[zeros as usize] = block;
+        block = word(&way.words, row + 4 * zeros as usize);
+        at -= 1 << zeros;
+    }
+    if block >= count {
+        return Err(Error::Corrupt);
+    }
+    Ok(block)
+}
+
+// Notes the pointers of a block of the list over the words, by one read where it isn't on the way.
+pub(crate) fn note<D: BlockDevice>(
+    dev: &mut D,
+    block: u32,
+    index: u32,
+    last: u32,
+    way: &Way,
+    words: &mut [u8],
+) -> Result<(), Error>
+    requires some { 0 < index }
+    requires order { index ≤ last }
+    requires in_device { block < (D.geometry dev.old).block_count }
+    requires room { length words.old ≡ 128 }
+    requires way { HasPointers (D.blocks dev.old) last 0 way.now }
+    ensures noted { OnOk result (IsNoted (D.blocks dev.old) block index words.old words.new) }
+    ensures device { ReadsOnly D.BlockDevice dev.old dev.new }
+    ensures faults { TellsFaults D.BlockDevice dev.old dev.new result }
+    ensures errors { IfErr result (λ e. e ≡ Error.Io) }
+    ensures few { reads (D.history dev.new) ≤ reads (D.history dev.old) + 1 }
+    ensures known { IsOnWay last index → slice_index way.now.blocks (trailing_zeros w32 index) ≡ block → reads (D.history dev.new) ≡ reads (D.history dev.old) }
+{
+    let zeros = index.trailing_zeros() as usize;
+    if is_on_way(index, last) && way.blocks[zeros] == block {
+        let len = 4 * (zeros + 1);
+        words[..len].copy_from_slice(&way.words[128 * zeros..128 * zeros + len]);
+        return Ok(());
+    }
+    read_part(dev, block, 0, words, 0, 4 * pointers(index))?;
+    Ok(())
+}

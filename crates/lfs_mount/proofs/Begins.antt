@@ -41,7 +41,7 @@ apart_from : (n : ℕ) (xs more : List (ℕ × ℕ)) (at : ℕ × ℕ) → count
 apart_from n [] more at e = λ is. let h = count_here n (map lesser_of more) in let k = subst (λ (m : ℕ). count n (m ∷ map lesser_of more) ≡ 0) (sym is) e in absurd (omega arith)
 apart_from n (x ∷ xs) more at e = apart_from n xs more at (omega arith)
 
-apart_each : (xs more : List (ℕ × ℕ)) (at : ℕ × ℕ) → ((b : ℕ) → count b (map lesser_of (xs ++ at ∷ more)) ≤ 1) → Each (λ x. lesser_of x ≢ lesser_of at) xs
+pub apart_each : (xs more : List (ℕ × ℕ)) (at : ℕ × ℕ) → ((b : ℕ) → count b (map lesser_of (xs ++ at ∷ more)) ≤ 1) → Each (λ x. lesser_of x ≢ lesser_of at) xs
 apart_each [] more at once = tt
 apart_each (x ∷ xs) more at once = (
   apart_from (lesser_of x) xs more at (let o = once (lesser_of x) in let h = count_here (lesser_of x) (map lesser_of (xs ++ at ∷ more)) in omega arith),
@@ -60,7 +60,7 @@ next_apart xs hs k h below is e distinct =
 
 -- ---- from the blocks of the pairs
 
-one_of_two : (b x y : ℕ) → cond (nat_eq b (min x y)) 1 0 ≤ cond (nat_eq b x) 1 0 + cond (nat_eq b y) 1 0
+pub one_of_two : (b x y : ℕ) → cond (nat_eq b (min x y)) 1 0 ≤ cond (nat_eq b x) 1 0 + cond (nat_eq b y) 1 0
 one_of_two b x y = ⊎_elim
     (λ (l : x < y). let e : min x y ≡ x = omega arith in subst (λ (n : ℕ). cond (nat_eq b n) 1 0 ≤ cond (nat_eq b x) 1 0 + cond (nat_eq b y) 1 0) (sym e) (omega arith))
     (λ (l : y ≤ x). let e : min x y ≡ y = omega arith in subst (λ (n : ℕ). cond (nat_eq b n) 1 0 ≤ cond (nat_eq b x) 1 0 + cond (nat_eq b y) 1 0) (sym e) (omega arith))

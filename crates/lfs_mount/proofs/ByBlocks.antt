@@ -47,7 +47,7 @@ place_some (a ∷ firsts) at i e = go (same_pair a at) refl e (place_some firsts
         let p = next m.0 m.1 in
         (p.0, ap (slice_get (a ∷ firsts)) (sym m.2) ∙ p.1, p.2)
 
-place_none : (firsts : List (ℕ × ℕ)) (at : ℕ × ℕ) (i : ℕ) (a : ℕ × ℕ) → place_of firsts at ≡ None → slice_get firsts i ≡ Some a → same_pair a at ≡ true → ⊥
+pub place_none : (firsts : List (ℕ × ℕ)) (at : ℕ × ℕ) (i : ℕ) (a : ℕ × ℕ) → place_of firsts at ≡ None → slice_get firsts i ≡ Some a → same_pair a at ≡ true → ⊥
 place_none [] at i a e f s = absurd (cc)
 place_none (b ∷ firsts) at i a e f s = go (same_pair b at) refl e i f (λ k. place_none firsts at k a)
   where

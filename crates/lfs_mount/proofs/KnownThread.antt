@@ -112,7 +112,7 @@ blocks_twice : (ps : List Pair) → length (blocks_of ps) ≡ length ps + length
 blocks_twice [] = refl
 blocks_twice (p ∷ ps) = let e = blocks_twice ps in omega arith
 
-pairs_few : (disk : Disk) (ps : List Pair) → IsThread (content_at disk) (block_count disk) ps → length ps + length ps ≤ block_count disk
+pub pairs_few : (disk : Disk) (ps : List Pair) → IsThread (content_at disk) (block_count disk) ps → length ps + length ps ≤ block_count disk
 pairs_few disk ps t =
     let twice = blocks_twice ps in
     let most = length-le_from_distinct_below (blocks_of ps) (block_count disk) t.distinct (λ q e. named_below (block_count disk) (blocks_of ps) q (recursion_from_All (λ b. b < block_count disk) (blocks_of ps) t.in_range) e) in

@@ -33,28 +33,28 @@ use Rattle.lfs_mount.proofs.Scans.{scan_some}
 
 -- ---- slots
 
-abbrev slot_reads : ℕ → ℕ → Slot → ℕ
-slot_reads block_size m s = struct_reads block_size m s.struct
+abbrev slot_reads : ℕ → Slot → ℕ
+slot_reads block_size s = struct_reads block_size s.struct
 
-one_read : (block_size m : ℕ) (s : Slot) (t : Struct) (slots : List Slot) → s.struct ≡ t
-    → sum_by (list_reads block_size m) (lists_of (s ∷ slots)) ≡ struct_reads block_size m t + sum_by (list_reads block_size m) (lists_of slots)
-one_read block_size m s (Inline bytes) slots e =
-    let same : sum_by (list_reads block_size m) (lists_of (s ∷ slots)) ≡ sum_by (list_reads block_size m) (lists_of slots) =
-    ap (λ o. sum_by (list_reads block_size m) (cons_option o (lists_of slots))) (ap (λ t. list_of (s.name, stand_of t)) e) in
+one_read : (block_size : ℕ) (s : Slot) (t : Struct) (slots : List Slot) → s.struct ≡ t
+    → sum_by (list_reads block_size) (lists_of (s ∷ slots)) ≡ struct_reads block_size t + sum_by (list_reads block_size) (lists_of slots)
+one_read block_size s (Inline bytes) slots e =
+    let same : sum_by (list_reads block_size) (lists_of (s ∷ slots)) ≡ sum_by (list_reads block_size) (lists_of slots) =
+    ap (λ o. sum_by (list_reads block_size) (cons_option o (lists_of slots))) (ap (λ t. list_of (s.name, stand_of t)) e) in
     omega (arith, same)
-one_read block_size m s (Ctz head size) slots e =
-    ap (λ o. sum_by (list_reads block_size m) (cons_option o (lists_of slots))) (ap (λ t. list_of (s.name, stand_of t)) e) ∙ sum_by-cons (list_reads block_size m) (head, size) (lists_of slots)
-one_read block_size m s (Branch to) slots e =
-    let same : sum_by (list_reads block_size m) (lists_of (s ∷ slots)) ≡ sum_by (list_reads block_size m) (lists_of slots) =
-    ap (λ o. sum_by (list_reads block_size m) (cons_option o (lists_of slots))) (ap (λ t. list_of (s.name, stand_of t)) e) in
+one_read block_size s (Ctz head size) slots e =
+    ap (λ o. sum_by (list_reads block_size) (cons_option o (lists_of slots))) (ap (λ t. list_of (s.name, stand_of t)) e) ∙ sum_by-cons (list_reads block_size) (head, size) (lists_of slots)
+one_read block_size s (Branch to) slots e =
+    let same : sum_by (list_reads block_size) (lists_of (s ∷ slots)) ≡ sum_by (list_reads block_size) (lists_of slots) =
+    ap (λ o. sum_by (list_reads block_size) (cons_option o (lists_of slots))) (ap (λ t. list_of (s.name, stand_of t)) e) in
     omega (arith, same)
 
-slots_read : (block_size m : ℕ) (slots : List Slot) → sum_by (list_reads block_size m) (lists_of slots) ≡ sum_by (slot_reads block_size m) slots
-slots_read block_size m [] = refl
-slots_read block_size m (s ∷ slots) =
-    let one = one_read block_size m s s.struct slots refl in
-    let others = slots_read block_size m slots in
-    let all = sum_by-cons (slot_reads block_size m) s slots in
+slots_read : (block_size : ℕ) (slots : List Slot) → sum_by (list_reads block_size) (lists_of slots) ≡ sum_by (slot_reads block_size) slots
+slots_read block_size [] = refl
+slots_read block_size (s ∷ slots) =
+    let one = one_read block_size s s.struct slots refl in
+    let others = slots_read block_size slots in
+    let all = sum_by-cons (slot_reads block_size) s slots in
     omega arith
 
 fewer_read : (f : Slot → ℕ) (q : Slot → Bool) (slots : List Slot) → sum_by f (filter q slots) ≤ sum_by f slots
@@ -82,35 +82,35 @@ taken_lists disk firsts g first p m known sets new marked h t =
     ∙ ap (filter (λ x. not (is_superblock x))) (sym (unmoved-without g p)) in
     takes_lists disk firsts m known new sets marked t ∙ same_lists firsts known new t.entries s.slots t.scan s.are ∙ ap lists_of (same ∙ seen)
 
-passed_reads : (disk : Disk) (firsts : List (ℕ × ℕ)) (g : Gstate) (first : Bool) (ps : List Pair) (ms : List Member) (known : Name × Vertex) (sets : BlockSets) (graph : Graph) (end : BlockSets) (m : ℕ)
+passed_reads : (disk : Disk) (firsts : List (ℕ × ℕ)) (g : Gstate) (first : Bool) (ps : List Pair) (ms : List Member) (known : Name × Vertex) (sets : BlockSets) (graph : Graph) (end : BlockSets)
     → AreMembers disk g first ps ms → Passes disk firsts known sets ms graph end
-    → sum_by (pair_reads disk m) ms ≤ length ps + sum_by (slot_reads disk.block_size m) (flat_map (unmoved g) ps)
-passed_reads disk firsts g first [] [] known sets graph end m h t = omega arith
-passed_reads disk firsts g first [] (x ∷ ms) known sets graph end m h t = absurd h
-passed_reads disk firsts g first (p ∷ ps) [] known sets graph end m h t = absurd h
-passed_reads disk firsts g first (p ∷ ps) (x ∷ ms) known sets graph end m h (new, mid, rest, (takes, (e, more))) =
+    → sum_by (pair_reads disk) ms ≤ length ps + sum_by (slot_reads disk.block_size) (flat_map (unmoved g) ps)
+passed_reads disk firsts g first [] [] known sets graph end h t = omega arith
+passed_reads disk firsts g first [] (x ∷ ms) known sets graph end h t = absurd h
+passed_reads disk firsts g first (p ∷ ps) [] known sets graph end h t = absurd h
+passed_reads disk firsts g first (p ∷ ps) (x ∷ ms) known sets graph end h (new, mid, rest, (takes, (e, more))) =
     let lists = taken_lists disk firsts g first p x known sets new mid h.0 takes in
-    let here = ap (sum_by (list_reads disk.block_size m)) lists ∙ slots_read disk.block_size m (visible g p) in
-    let fewer = fewer_read (slot_reads disk.block_size m) (λ s. not (is_superblock s)) (unmoved g p) in
-    let one = sum_by-cons (pair_reads disk m) x ms in
-    let both = sum_by-append (slot_reads disk.block_size m) (unmoved g p) (flat_map (unmoved g) ps) in
-    let others = passed_reads disk firsts g false ps ms (in_hand x.is_hard new) mid rest end m h.1 more in
+    let here = ap (sum_by (list_reads disk.block_size)) lists ∙ slots_read disk.block_size (visible g p) in
+    let fewer = fewer_read (slot_reads disk.block_size) (λ s. not (is_superblock s)) (unmoved g p) in
+    let one = sum_by-cons (pair_reads disk) x ms in
+    let both = sum_by-append (slot_reads disk.block_size) (unmoved g p) (flat_map (unmoved g) ps) in
+    let others = passed_reads disk firsts g false ps ms (in_hand x.is_hard new) mid rest end h.1 more in
     omega arith
 
 -- ---- the whole check
 
 module _ (disk : Disk) (history : List Event) (hs : List Header) (sets : BlockSets) (g : Gstate) (count : ℕ) (r : IsRead disk history hs sets g) (head : IsHead disk (pairs_on disk hs) count) where
-  pub directories_read : HasBytes disk.blocks → IsAccepted disk (pairs_on disk hs) → (m : ℕ)
-      → count + sum_by (pair_reads disk m) (members_in g true (drop count hs)) ≤ length (pairs_on disk hs) + file_reads disk m (pairs_on disk hs)
-  directories_read bytes a m =
+  pub directories_read : HasBytes disk.blocks → IsAccepted disk (pairs_on disk hs)
+      → count + sum_by (pair_reads disk) (members_in g true (drop count hs)) ≤ length (pairs_on disk hs) + file_reads disk (pairs_on disk hs)
+  directories_read bytes a =
       let ps : List Pair = head.chain ++ head.p ∷ head.rest in
       let members : List Member = members_in g true (drop count hs) in
       let known : IsThreadOf disk sets g (drop count hs) head.chain head.p head.rest = known_thread disk history hs sets g count r head in
       let passes = accepted_passes disk head.chain head.p head.rest members [] sets known.chain_is bytes known.sets_len known.owns known.described (subst (IsAccepted disk) head.parts a) in
-      let most = passed_reads disk [] (gstate_of ps) true (head.p ∷ head.rest) members nothing_known sets passes.0 passes.1 m known.described passes.2 in
-      let same = ap (file_reads disk m) head.parts in
-      let both = ap (sum_by (slot_reads disk.block_size m)) (flat_map-append (unmoved (gstate_of ps)) head.chain (head.p ∷ head.rest))
-      ∙ sum_by-append (slot_reads disk.block_size m) (flat_map (unmoved (gstate_of ps)) head.chain) (flat_map (unmoved (gstate_of ps)) (head.p ∷ head.rest)) in
+      let most = passed_reads disk [] (gstate_of ps) true (head.p ∷ head.rest) members nothing_known sets passes.0 passes.1 known.described passes.2 in
+      let same = ap (file_reads disk) head.parts in
+      let both = ap (sum_by (slot_reads disk.block_size)) (flat_map-append (unmoved (gstate_of ps)) head.chain (head.p ∷ head.rest))
+      ∙ sum_by-append (slot_reads disk.block_size) (flat_map (unmoved (gstate_of ps)) head.chain) (flat_map (unmoved (gstate_of ps)) (head.p ∷ head.rest)) in
       let len = ap length head.parts ∙ length-append head.chain (head.p ∷ head.rest) in
       let chain = head.chain_is in
       omega arith
@@ -121,11 +121,11 @@ some_pair [] links = absurd (cc)
 some_pair (p ∷ ps) links = omega arith
 
 -- the thread is read, and then its image is checked
-pub mount_few : (old disk now : Disk) (m : ℕ) (items hs : List Header) (ps qs : List Pair) (first mid last : ℕ) → disk ≡ old → now ≡ disk → hs ≡ items → pairs_on disk items ≡ ps → qs ≡ pairs_on now items
-    → mid ≡ first + 2 * length ps → last ≤ mid + check_reads disk m (pairs_on disk hs) → last ≤ first + mount_reads old m qs
-mount_few old disk now m items hs ps qs first mid last from same is kept shown read check =
+pub mount_few : (old disk now : Disk) (items hs : List Header) (ps qs : List Pair) (first mid last : ℕ) → disk ≡ old → now ≡ disk → hs ≡ items → pairs_on disk items ≡ ps → qs ≡ pairs_on now items
+    → mid ≡ first + 2 * length ps → last ≤ mid + check_reads disk (pairs_on disk hs) → last ≤ first + mount_reads old qs
+mount_few old disk now items hs ps qs first mid last from same is kept shown read check =
     let pairs : qs ≡ pairs_on disk items = shown ∙ ap (λ (d : Disk). pairs_on d items) same in
     let len : length ps ≡ length qs = ap length (sym kept ∙ sym pairs) in
-    let most : check_reads disk m (pairs_on disk hs) ≡ check_reads old m qs =
-    ap (λ (xs : List Header). check_reads disk m (pairs_on disk xs)) is ∙ ap (check_reads disk m) (sym pairs) ∙ ap (λ (d : Disk). check_reads d m qs) from in
+    let most : check_reads disk (pairs_on disk hs) ≡ check_reads old qs =
+    ap (λ (xs : List Header). check_reads disk (pairs_on disk xs)) is ∙ ap (check_reads disk) (sym pairs) ∙ ap (λ (d : Disk). check_reads d qs) from in
     omega (arith, read, check, len, most)

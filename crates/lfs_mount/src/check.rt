@@ -1,6 +1,6 @@
 // The slots of a thread, and its directories.
 
-ghost use Rattle.std.specs.Prelude.{List, ◌≡◌, ◌≤◌, ◌+◌, ◌^◌, ◌++◌, ◌∷◌, ℕ, OnOk, IsErrOf, length, sum_by};
+ghost use Rattle.std.specs.Prelude.{List, ◌≡◌, ◌≤◌, ◌+◌, ◌++◌, ◌∷◌, OnOk, IsErrOf, sum_by};
 ghost use Rattle.lfs_device.specs.Calls.{ReadsOnly};
 ghost use Rattle.lfs_model.specs.History.{reads};
 ghost use Rattle.lfs_model.specs.Thread.{Pair};
@@ -49,8 +49,7 @@ pub fn check_thread<D: BlockDevice>(
     ensures device { ReadsOnly D.BlockDevice device.old device.new }
     ensures errors { TellsErrors D.BlockDevice device.old device.new result }
     // One read for each pair, and those of the files' lists.
-    ensures few { (m : ℕ) → length map.old ≤ 2 ^ m
-        → OnOk result (reads (D.history device.new) ≤ reads (D.history device.old) + sum_by (pair_reads (disk_on D.BlockDevice device.old) m) members.now) }
+    ensures few { OnOk result (reads (D.history device.new) ≤ reads (D.history device.old) + sum_by (pair_reads (disk_on D.BlockDevice device.old)) members.now) }
 {
     let directories = take_pairs(alloc, device, map, places, members)?;
     check_reached(alloc, &directories, sync)?;

@@ -1,13 +1,12 @@
 // The lists of files, their blocks marked.
 
-ghost use Rattle.std.specs.Prelude.{◌≡◌, ◌⊎◌, ◌≤◌, ◌+◌, ◌^◌, ℕ, length, slice_set, sum_by, OnOk, IfErr, IsErrOf, IsTrue, ◌↔◌};
+ghost use Rattle.std.specs.Prelude.{◌≡◌, ◌⊎◌, ◌≤◌, ◌+◌, slice_set, sum_by, OnOk, IfErr, IsErrOf, IsTrue, ◌↔◌};
 ghost use Rattle.std.specs.Bool.{OnFalse, OnTrue};
 ghost use Rattle.std.specs.Option.{option_and_then};
 ghost use Rattle.lfs_device.specs.Calls.{ReadsOnly, TellsFaults};
 ghost use Rattle.lfs_model.specs.BlockSets.{BlockSets, IsFree};
 ghost use Rattle.lfs_model.specs.BlockSets.BlockState.{Used};
 ghost use Rattle.lfs_model.specs.History.{reads};
-ghost use Rattle.lfs_model.specs.SkipLists.{blocks_for};
 ghost use Rattle.lfs_thread.specs.Kept.{disk_on};
 ghost use Rattle.lfs_mount.specs.Entries.{entry_in};
 ghost use Rattle.lfs_mount.specs.ListsSeen.{lists_seen};
@@ -44,8 +43,7 @@ fn mark_list<D: BlockDevice>(
     ensures device { ReadsOnly D.BlockDevice device.old device.new }
     ensures faults { TellsFaults D.BlockDevice device.old device.new result }
     ensures errors { IfErr result (λ e. (e ≡ Error.Io) ⊎ (e ≡ Error.Corrupt)) }
-    ensures few { (m : ℕ) → blocks_for (D.geometry device.old).block_size size ≤ 2 ^ m
-        → OnOk result (reads (D.history device.new) ≤ reads (D.history device.old) + list_reads (D.geometry device.old).block_size m (head, size)) }
+    ensures few { OnOk result (reads (D.history device.new) ≤ reads (D.history device.old) + list_reads (D.geometry device.old).block_size (head, size)) }
 {
     let mut is_free = true;
     walk(
@@ -87,8 +85,7 @@ pub(crate) fn mark_lists<D: BlockDevice>(
     ensures device { ReadsOnly D.BlockDevice device.old device.new }
     ensures faults { TellsFaults D.BlockDevice device.old device.new result }
     ensures errors { IfErr result (λ e. (e ≡ Error.Io) ⊎ (e ≡ Error.Corrupt)) }
-    ensures few { (m : ℕ) → length map.old ≤ 2 ^ m
-        → OnOk result (reads (D.history device.new) ≤ reads (D.history device.old) + sum_by (list_reads (D.geometry device.old).block_size m) (lists_seen slots.now)) }
+    ensures few { OnOk result (reads (D.history device.new) ≤ reads (D.history device.old) + sum_by (list_reads (D.geometry device.old).block_size) (lists_seen slots.now)) }
 {
     for slot in slots {
         if let Some((head, size)) = list_of(slot) {

@@ -1,6 +1,6 @@
 // A device's image, where it is accepted.
 
-ghost use Rattle.std.specs.Prelude.{ℕ, List, ◌≡◌, ◌≤◌, ◌<◌, ◌+◌, ◌^◌, ◌++◌, ◌∷◌, drop, length, sum_by, true, IfErr, IfOk, IsErrOf, OnOk};
+ghost use Rattle.std.specs.Prelude.{List, ◌≡◌, ◌≤◌, ◌<◌, ◌+◌, ◌++◌, ◌∷◌, drop, length, sum_by, true, IfErr, IfOk, IsErrOf, OnOk};
 ghost use Rattle.lfs_device.specs.Calls.{ReadsOnly};
 ghost use Rattle.lfs_model.specs.History.{reads};
 ghost use Rattle.lfs_model.specs.Thread.{Pair as ThreadPair};
@@ -37,9 +37,8 @@ pub fn mount<D: BlockDevice>(alloc: Global, device: D) -> Result<Thread<D>, (D, 
     ensures errors { IfErr result (λ e. IsMountError e.1) }
     ensures back { IfErr result (λ e. GivesBack D.BlockDevice device e.0 e.1) }
     ensures called { IfOk result (λ t. reads (D.history device) < reads t.kept.history) }
-    // Three reads for each pair, two more, and those of the files' lists.
-    ensures few { (m : ℕ) → (D.geometry device).block_count ≤ 2 ^ m
-        → IfOk result (λ t. reads t.kept.history ≤ reads (D.history device) + mount_reads (disk_on D.BlockDevice device) m t.kept.pairs) }
+    // Three reads for each pair, two more, and one for each block of a file's list.
+    ensures few { IfOk result (λ t. reads t.kept.history ≤ reads (D.history device) + mount_reads (disk_on D.BlockDevice device) t.kept.pairs) }
 {
     let thread = Thread::read(alloc, device)?;
     let state = thread.state();
@@ -69,8 +68,7 @@ fn check_image<D: BlockDevice>(
     ensures corrupt { IsErrOf result Error.Corrupt → (ps : List ThreadPair) → ¬ IsAccepted (disk_on D.BlockDevice device.old) ps }
     ensures device { ReadsOnly D.BlockDevice device.old device.new }
     ensures errors { TellsErrors D.BlockDevice device.old device.new result }
-    ensures few { (m : ℕ) → length map.old ≤ 2 ^ m
-        → OnOk result (reads (D.history device.new) ≤ reads (D.history device.old) + check_reads (disk_on D.BlockDevice device.old) m (pairs_on (disk_on D.BlockDevice device.old) pairs.now)) }
+    ensures few { OnOk result (reads (D.history device.new) ≤ reads (D.history device.old) + check_reads (disk_on D.BlockDevice device.old) (pairs_on (disk_on D.BlockDevice device.old) pairs.now)) }
 {
     let count = count_superblocks(alloc, device, pairs)?;
     let directories = pairs_from(pairs, count);
@@ -104,8 +102,7 @@ fn check_directories<D: BlockDevice>(
         → ¬ IsAccepted (disk_on D.BlockDevice device.old) (chain ++ p ∷ rest) }
     ensures device { ReadsOnly D.BlockDevice device.old device.new }
     ensures errors { TellsErrors D.BlockDevice device.old device.new result }
-    ensures few { (m : ℕ) → length map.old ≤ 2 ^ m
-        → OnOk result (reads (D.history device.new) ≤ reads (D.history device.old) + sum_by (pair_reads (disk_on D.BlockDevice device.old) m) (members_in (move_seen state.now) true pairs.now)) }
+    ensures few { OnOk result (reads (D.history device.new) ≤ reads (D.history device.old) + sum_by (pair_reads (disk_on D.BlockDevice device.old)) (members_in (move_seen state.now) true pairs.now)) }
 {
     let members = members_of(alloc, state, pairs)?;
     let places = places_of(alloc, pairs)?;

@@ -1,6 +1,6 @@
 // The pairs of directories, read and taken.
 
-ghost use Rattle.std.specs.Prelude.{◌≡◌, ◌≤◌, ◌<◌, ◌+◌, ◌^◌, ℕ, All, IfOk, OnOk, IfErr, IsErrOf, None, Some, is_some, length, map, sum_by};
+ghost use Rattle.std.specs.Prelude.{◌≡◌, ◌≤◌, ◌<◌, ◌+◌, All, IfOk, OnOk, IfErr, IsErrOf, None, Some, is_some, map, sum_by};
 ghost use Rattle.lfs_device.specs.Calls.{ReadsOnly};
 ghost use Rattle.lfs_model.specs.BlockSets.{BlockSets};
 ghost use Rattle.lfs_model.specs.History.{reads};
@@ -92,8 +92,7 @@ fn take_pair<D: BlockDevice>(
     ensures corrupt { IsErrOf result Error.Corrupt → (new : Name × Vertex) (sets : BlockSets) → ¬ Takes (disk_on D.BlockDevice device.old) places.now member.now (known_seen known.old) map.old new sets }
     ensures device { ReadsOnly D.BlockDevice device.old device.new }
     ensures errors { TellsErrors D.BlockDevice device.old device.new result }
-    ensures few { (m : ℕ) → length map.old ≤ 2 ^ m
-        → OnOk result (reads (D.history device.new) ≤ reads (D.history device.old) + pair_reads (disk_on D.BlockDevice device.old) m member.now) }
+    ensures few { OnOk result (reads (D.history device.new) ≤ reads (D.history device.old) + pair_reads (disk_on D.BlockDevice device.old) member.now) }
 {
     let bytes = read_block(alloc, device, member.active)?;
     let log = Log::read(&bytes);
@@ -119,8 +118,7 @@ pub(crate) fn take_pairs<D: BlockDevice>(
     ensures corrupt { IsErrOf result Error.Corrupt → (graph : Graph) (end : BlockSets) → ¬ Passes (disk_on D.BlockDevice device.old) places.now nothing_known map.old members.now graph end }
     ensures device { ReadsOnly D.BlockDevice device.old device.new }
     ensures errors { TellsErrors D.BlockDevice device.old device.new result }
-    ensures few { (m : ℕ) → length map.old ≤ 2 ^ m
-        → OnOk result (reads (D.history device.new) ≤ reads (D.history device.old) + sum_by (pair_reads (disk_on D.BlockDevice device.old) m) members.now) }
+    ensures few { OnOk result (reads (D.history device.new) ≤ reads (D.history device.old) + sum_by (pair_reads (disk_on D.BlockDevice device.old)) members.now) }
 {
     let mut directories = Vec::new(alloc);
     let mut known = Known::nothing(alloc);

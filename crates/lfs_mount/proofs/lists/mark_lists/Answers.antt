@@ -13,7 +13,7 @@ use Rattle.lfs_mount.specs.Marking.{MarksList, MarksLists}
 use Rattle.lfs_mount.specs.Reads.{list_reads}
 use Rattle.lfs_mount.proofs.Called.{same_error, read_on, quiet, told_on}
 use Rattle.lfs_mount.proofs.MarkedLists.{lists_stay, lists_more, lists_fail}
-use Rattle.lfs_mount.proofs.ReadCounts.{list_fits, lists_length, reads_more, reads_stay}
+use Rattle.lfs_mount.proofs.ReadCounts.{reads_more, reads_stay}
 use Rattle.lfs_mount.proofs.lists.mark_lists.Goals as goal
 use Rattle.lfs_mount.proofs.lists.mark_lists.Goals.{in-Some+in_ok-mark_list, in_default}
 
@@ -50,14 +50,12 @@ loop-slot-preserved g c =
                 (subst (λ (d : Disk). MarksList d c.loop-slot.map (w.in-Some.head, w.in-Some.size) w.mark_list.new.map) same w.in_ok-mark_list.ensures.marked));
             device = subst (ReadsOnly g.D.BlockDevice c.args.device.now) (sym w.device-is) (read_on g.D.BlockDevice c.loop-slot.invariant.device w.in_ok-mark_list.ensures.device);
             quiet = ap (λ d. faults (g.D.BlockDevice.history d)) w.device-is ∙ quiet g.D.BlockDevice w.in_ok-mark_list.ensures.faults ∙ c.loop-slot.invariant.quiet;
-            few = λ m le.
+            few =
                 let geometry = ap (λ (k : Geometry). k.block_size) c.loop-slot.invariant.device.geometry in
-                let fits = list_fits (disk_on g.D.BlockDevice c.loop-slot.device) c.loop-slot.map w.mark_list.new.map (w.in-Some.head, w.in-Some.size) w.in_ok-mark_list.ensures.marked in
-                let len = lists_length disk (lists_seen (take c.loop-slot.slot-index c.args.slots.now)) c.args.map.now c.loop-slot.map c.loop-slot.invariant.marked in
-                let this = subst (λ size. reads (g.D.BlockDevice.history w.mark_list.new.device) ≤ reads (g.D.BlockDevice.history c.loop-slot.device) + list_reads size m (w.in-Some.head, w.in-Some.size)) geometry
-                (w.in_ok-mark_list.ensures.few m (omega arith)) in
-                let before = c.loop-slot.invariant.few m le in
-                let more = reads_more (g.D.BlockDevice.geometry c.args.device.now).block_size m c.args.slots.now c.loop-slot.slot-index c.slot-item.result (w.in-Some.head, w.in-Some.size) at
+                let this = subst (λ size. reads (g.D.BlockDevice.history w.mark_list.new.device) ≤ reads (g.D.BlockDevice.history c.loop-slot.device) + list_reads size (w.in-Some.head, w.in-Some.size)) geometry
+                w.in_ok-mark_list.ensures.few in
+                let before = c.loop-slot.invariant.few in
+                let more = reads_more (g.D.BlockDevice.geometry c.args.device.now).block_size c.args.slots.now c.loop-slot.slot-index c.slot-item.result (w.in-Some.head, w.in-Some.size) at
                 (sym c.list_of.ensures ∙ w.in-Some.is) in
                 let same_reads = ap (λ d. reads (g.D.BlockDevice.history d)) w.device-is in
                 omega arith;
@@ -67,9 +65,9 @@ loop-slot-preserved g c =
             (lists_stay disk c.args.slots.now c.loop-slot.slot-index c.slot-item.result c.args.map.now c.loop-slot.map at (sym c.list_of.ensures ∙ w.in_default.is) c.loop-slot.invariant.marked);
         device = subst (ReadsOnly g.D.BlockDevice c.args.device.now) (sym w.device-is) c.loop-slot.invariant.device;
         quiet = ap (λ d. faults (g.D.BlockDevice.history d)) w.device-is ∙ c.loop-slot.invariant.quiet;
-        few = λ m le.
-            let before = c.loop-slot.invariant.few m le in
-            let stay = reads_stay (g.D.BlockDevice.geometry c.args.device.now).block_size m c.args.slots.now c.loop-slot.slot-index c.slot-item.result at (sym c.list_of.ensures ∙ w.in_default.is) in
+        few =
+            let before = c.loop-slot.invariant.few in
+            let stay = reads_stay (g.D.BlockDevice.geometry c.args.device.now).block_size c.args.slots.now c.loop-slot.slot-index c.slot-item.result at (sym c.list_of.ensures ∙ w.in_default.is) in
             let same_reads = ap (λ d. reads (g.D.BlockDevice.history d)) w.device-is in
             omega arith;
       }

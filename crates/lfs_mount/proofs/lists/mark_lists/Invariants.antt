@@ -1,4 +1,4 @@
-use Rattle.std.proofs.Common.{ℕ, ◌≡◌, ◌≤◌, ◌+◌, ◌^◌, length, take}
+use Rattle.std.proofs.Common.{◌≡◌, ◌≤◌, ◌+◌, take}
 use Rattle.std.specs.Prelude.{sum_by}
 use Rattle.lfs_device.specs.Calls.{ReadsOnly}
 use Rattle.lfs_model.specs.History.{faults, reads}
@@ -13,6 +13,6 @@ invariant-loop-slot g l = record {
   marked : MarksLists (disk_on g.D.BlockDevice l.initial.device) l.initial.map (lists_seen (take l.slot-index l.slots)) l.map;
   device : ReadsOnly g.D.BlockDevice l.initial.device l.device;
   quiet : faults (g.D.BlockDevice.history l.device) ≡ faults (g.D.BlockDevice.history l.initial.device);
-  few : (m : ℕ) → length l.initial.map ≤ 2 ^ m → reads (g.D.BlockDevice.history l.device)
-      ≤ reads (g.D.BlockDevice.history l.initial.device) + sum_by (list_reads (g.D.BlockDevice.geometry l.initial.device).block_size m) (lists_seen (take l.slot-index l.slots));
+  few : reads (g.D.BlockDevice.history l.device)
+      ≤ reads (g.D.BlockDevice.history l.initial.device) + sum_by (list_reads (g.D.BlockDevice.geometry l.initial.device).block_size) (lists_seen (take l.slot-index l.slots));
 }

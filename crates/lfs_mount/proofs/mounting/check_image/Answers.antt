@@ -79,14 +79,14 @@ returns-clause-device g c = then_reads c.in_ok-count.ensures.device c.in_ok-chec
 
 pub returns-clause-few : goal.returns-clause-few
 unfolding returns-clause-image
-returns-clause-few g c = λ m le.
+returns-clause-few g c =
     let disk : Disk = disk_on g.D.BlockDevice c.args.device.now in
     let history = g.D.BlockDevice.history c.args.device.now in
     let state : Gstate = move_seen c.args.state.now in
     let image : HasImage disk c.args.pairs.now c.args.map.now c.check_directories.new.map = returns-clause-image g c in
     let read = c.in_ok-count.ensures.device in
     let first = c.in_ok-count.ensures.reads in
-    let rest = subst₂ (λ (d : Disk) (hs : List Header). reads (g.D.BlockDevice.history c.check_directories.new.device) ≤ reads (g.D.BlockDevice.history c.count_superblocks.new.dev) + sum_by (pair_reads d m) (members_in state true hs))
-    (ap₂ disk_of read.geometry read.same) c.pairs_from-directories.ensures (c.in_ok-check_directories.ensures.few m le) in
-    let most = directories_read disk history c.args.pairs.now c.args.map.now state c.in_ok-count.count c.requires c.in_ok-count.ensures.head (g.met.D.BlockDevice.bytes c.args.device.now) image.accepted m in
+    let rest = subst₂ (λ (d : Disk) (hs : List Header). reads (g.D.BlockDevice.history c.check_directories.new.device) ≤ reads (g.D.BlockDevice.history c.count_superblocks.new.dev) + sum_by (pair_reads d) (members_in state true hs))
+    (ap₂ disk_of read.geometry read.same) c.pairs_from-directories.ensures (c.in_ok-check_directories.ensures.few) in
+    let most = directories_read disk history c.args.pairs.now c.args.map.now state c.in_ok-count.count c.requires c.in_ok-count.ensures.head (g.met.D.BlockDevice.bytes c.args.device.now) image.accepted in
     omega (arith, first, rest, most)

@@ -68,19 +68,16 @@ returns-in-Ok-clause-called g c =
     omega (arith, some, first, begun, later, end)
 
 pub returns-in-Ok-clause-few : goal.returns-in-Ok-clause-few
-returns-in-Ok-clause-few g c = λ m le.
+returns-in-Ok-clause-few g c =
     let read = c.in_ok-thread.ensures in
     let parts = c.into_parts-parts in
     let old : Disk = disk_on g.D.BlockDevice c.args.device in
     let disk : Disk = disk_on g.D.BlockDevice parts.result.device in
     let from : disk ≡ old = ap (λ (k : Kept). k.disk) parts.ensures.same ∙ read.only.0 in
-    let size = parts.ensures.kept.size in
-    let count = ap block_count from in
-    let shape = (g.met.D.BlockDevice.shape c.args.device).count in
     let kept = c.from_parts.ensures.kept in
-    let checked = c.in-Ok.ensures.few m (omega (arith, le, size, count, shape)) in
-    subst (λ h. reads h ≤ reads (g.D.BlockDevice.history c.args.device) + mount_reads old m c.from_parts.result.kept.pairs) (sym (ap (λ (k : Kept). k.history) kept))
-    (mount_few old disk (disk_on g.D.BlockDevice c.check_image.new.device) m parts.result.pairs.items c.deref.result.now c.in_ok-thread.thread.kept.pairs c.from_parts.result.kept.pairs
+    let checked = c.in-Ok.ensures.few in
+    subst (λ h. reads h ≤ reads (g.D.BlockDevice.history c.args.device) + mount_reads old c.from_parts.result.kept.pairs) (sym (ap (λ (k : Kept). k.history) kept))
+    (mount_few old disk (disk_on g.D.BlockDevice c.check_image.new.device) parts.result.pairs.items c.deref.result.now c.in_ok-thread.thread.kept.pairs c.from_parts.result.kept.pairs
     (reads (g.D.BlockDevice.history c.args.device)) (reads (g.D.BlockDevice.history parts.result.device)) (reads (g.D.BlockDevice.history c.check_image.new.device))
     from (disk_now c.in-Ok.ensures.device) c.deref.ensures.value (ap (λ (k : Kept). k.pairs) parts.ensures.same) (ap (λ (k : Kept). k.pairs) kept)
     (ap (λ (k : Kept). reads k.history) parts.ensures.same ∙ read.few) checked)

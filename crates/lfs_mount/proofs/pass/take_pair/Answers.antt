@@ -37,14 +37,14 @@ returns-clause-taken g c = record {
 
 pub returns-clause-few : goal.returns-clause-few
 unfolding returns-clause-taken
-returns-clause-few g c = λ m le.
+returns-clause-few g c =
     let disk = disk_on g.D.BlockDevice c.args.device.now in
     let t = returns-clause-taken g c in
     let lists : lists_at disk c.args.member.now ≡ lists_seen c.take_superblock.new.slots.items = takes_lists disk c.args.places.now c.args.member.now (known_seen c.args.known.now) _ c.args.map.now c.mark_lists.new.map t in
-    let sum = ap (sum_by (list_reads disk.block_size m)) lists in
+    let sum = ap (sum_by (list_reads disk.block_size)) lists in
     let bytes = ap reads c.in_ok-bytes.ensures.ok in
-    let these = subst (λ n. reads (g.D.BlockDevice.history c.mark_lists.new.device) ≤ reads (g.D.BlockDevice.history c.read_block.new.device) + sum_by (list_reads n m) (lists_seen c.deref-3.result.now))
-    (ap (λ (k : Geometry). k.block_size) c.in_ok-bytes.ensures.device.geometry) (c.in_ok-mark_lists.ensures.few m le) in
-    let same : sum_by (list_reads disk.block_size m) (lists_seen c.deref-3.result.now) ≡ sum_by (list_reads disk.block_size m) (lists_seen c.take_superblock.new.slots.items) =
-    ap (λ ss. sum_by (list_reads disk.block_size m) (lists_seen ss)) c.deref-3.ensures.value in
+    let these = subst (λ n. reads (g.D.BlockDevice.history c.mark_lists.new.device) ≤ reads (g.D.BlockDevice.history c.read_block.new.device) + sum_by (list_reads n) (lists_seen c.deref-3.result.now))
+    (ap (λ (k : Geometry). k.block_size) c.in_ok-bytes.ensures.device.geometry) (c.in_ok-mark_lists.ensures.few) in
+    let same : sum_by (list_reads disk.block_size) (lists_seen c.deref-3.result.now) ≡ sum_by (list_reads disk.block_size) (lists_seen c.take_superblock.new.slots.items) =
+    ap (λ ss. sum_by (list_reads disk.block_size) (lists_seen ss)) c.deref-3.ensures.value in
     omega arith

@@ -13,7 +13,7 @@ use Rattle.lfs_mount.specs.Reaching.{Vertex, Graph}
 use Rattle.lfs_mount.specs.Taken.{Takes}
 use Rattle.lfs_mount.specs.declared.pass.Member.{Member}
 use Rattle.lfs_mount.proofs.Called.{same_error, read_on, quiet, passed_on}
-use Rattle.lfs_mount.proofs.ReadCounts.{pairs_more, takes_length}
+use Rattle.lfs_mount.proofs.ReadCounts.{pairs_more}
 use Rattle.lfs_mount.proofs.Passing.{IsUnderWay, all_taken, taken_hard, taken_soft, not_taken_at}
 use Rattle.lfs_mount.proofs.pass.take_pairs.Goals as goal
 use Rattle.lfs_mount.proofs.pass.take_pairs.Goals.{then-not-member+in_ok-push, else-not-member}
@@ -66,13 +66,11 @@ loop-member-preserved g c =
       ];
       device = read_on g.D.BlockDevice c.loop-member.invariant.device c.in_ok-take_pair.ensures.device;
       quiet = quiet g.D.BlockDevice c.in_ok-take_pair.ensures.errors.faults ∙ c.loop-member.invariant.quiet;
-      len = takes_length disk c.args.places.now (get_or c.args.members.now c.loop-member.member-index none) (known_seen c.loop-member.known) (known_seen c.take_pair.new.known) c.loop-member.map c.take_pair.new.map takes
-          ∙ c.loop-member.invariant.len;
-      few = λ m le.
-          let before = c.loop-member.invariant.few m le in
-          let this = subst (λ (d : Disk). reads (g.D.BlockDevice.history c.take_pair.new.device) ≤ reads (g.D.BlockDevice.history c.loop-member.device) + pair_reads d m (get_or c.args.members.now c.loop-member.member-index none))
-          (ap₂ disk_of c.loop-member.invariant.device.geometry c.loop-member.invariant.device.same) (c.in_ok-take_pair.ensures.few m (omega (arith, le, c.loop-member.invariant.len))) in
-          let more = pairs_more disk m c.args.members.now c.loop-member.member-index none c.loop-member-test.true in
+      few =
+          let before = c.loop-member.invariant.few in
+          let this = subst (λ (d : Disk). reads (g.D.BlockDevice.history c.take_pair.new.device) ≤ reads (g.D.BlockDevice.history c.loop-member.device) + pair_reads d (get_or c.args.members.now c.loop-member.member-index none))
+          (ap₂ disk_of c.loop-member.invariant.device.geometry c.loop-member.invariant.device.same) (c.in_ok-take_pair.ensures.few) in
+          let more = pairs_more disk c.args.members.now c.loop-member.member-index none c.loop-member-test.true in
           omega arith;
     }
 

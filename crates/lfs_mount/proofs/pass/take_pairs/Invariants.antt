@@ -1,4 +1,4 @@
-use Rattle.std.proofs.Common.{ℕ, ◌≡◌, ◌≤◌, ◌+◌, ◌^◌, drop, length, take}
+use Rattle.std.proofs.Common.{◌≡◌, ◌≤◌, ◌+◌, drop, take}
 use Rattle.std.specs.Prelude.{sum_by}
 use Rattle.lfs_device.specs.Calls.{ReadsOnly}
 use Rattle.lfs_model.specs.History.{faults, reads}
@@ -14,7 +14,6 @@ invariant-loop-member g l = record {
   way : IsUnderWay (disk_on g.D.BlockDevice l.initial.device) l.places l.initial.map l.members (graph_of l.directories.items) (known_seen l.known) l.map (drop l.member-index l.members);
   device : ReadsOnly g.D.BlockDevice l.initial.device l.device;
   quiet : faults (g.D.BlockDevice.history l.device) ≡ faults (g.D.BlockDevice.history l.initial.device);
-  len : length l.map ≡ length l.initial.map;
-  few : (m : ℕ) → length l.initial.map ≤ 2 ^ m → reads (g.D.BlockDevice.history l.device)
-      ≤ reads (g.D.BlockDevice.history l.initial.device) + sum_by (pair_reads (disk_on g.D.BlockDevice l.initial.device) m) (take l.member-index l.members);
+  few : reads (g.D.BlockDevice.history l.device)
+      ≤ reads (g.D.BlockDevice.history l.initial.device) + sum_by (pair_reads (disk_on g.D.BlockDevice l.initial.device)) (take l.member-index l.members);
 }

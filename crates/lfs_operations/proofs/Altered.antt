@@ -8,10 +8,13 @@ use Rattle.lfs_model.specs.Disk.{Disk}
 use Rattle.lfs_model.specs.Slots.{Gstate, Slot, same_pair}
 use Rattle.lfs_model.specs.Thread.{Links, Pair, anchor, blocks_of, next_of}
 use Rattle.lfs_model.specs.View.{IsAccepted}
+use Rattle.lfs_model.specs.SlotEdits.{with_slots}
+use Rattle.lfs_model.proofs.Became.{Became}
 use Rattle.lfs_model.proofs.Committed.{IsCommit}
 use Rattle.lfs_model.proofs.Counts.{Each}
 use Rattle.lfs_model.proofs.Pairs.{pair_itself}
 use Rattle.lfs_model.proofs.Searches.{avoids_behind, avoids_front}
+use Rattle.lfs_model.proofs.Splices.{slots_in}
 use Rattle.lfs_model.proofs.Sites.{Among, Site, among_parts, thread_at}
 use Rattle.lfs_operations.specs.Changing.{Alters}
 use Rattle.lfs_operations.specs.Dropping.{HasDroppedBehind, with_tail_taken}
@@ -43,7 +46,7 @@ only_there xs q ys p distinct e has = go (among_parts (λ y. y ≡ p) xs (q ∷ 
     go (inr (inl h)) = h
     go (inr (inr h)) = absurd (avoided p ys (avoids_behind xs q ys p.at distinct same) h)
 
-links_behind : (at : Option (ℕ × ℕ)) (xs ys : List Pair) → Links at (xs ++ ys) → (to : Option (ℕ × ℕ)) × Links to ys
+pub links_behind : (at : Option (ℕ × ℕ)) (xs ys : List Pair) → Links at (xs ++ ys) → (to : Option (ℕ × ℕ)) × Links to ys
 links_behind at [] ys h = (at, h)
 links_behind at (x ∷ xs) ys h = links_behind (next_of x.content.tail) xs ys h.1
 
@@ -79,17 +82,21 @@ module _ (disk new : Disk) (w : Site) (p q : Pair) (fresh : List ℕ) (l olds ne
   other_tail : (f : Pair) → q ≡ p → q.content.tail ≡ Some (record { hard = true; to = f.at }) → f.content.tail ≡ p.content.tail → next_of f.content.tail ≡ Some f.at
   other_tail f e first second = ap next_of (second ∙ ap (λ (z : Pair). z.content.tail) (sym e) ∙ first)
 
-  pub commit_alters : (rest : List Pair) → IsAccepted new (thread_at w (q ∷ rest)) → IsCommit disk new w p q rest fresh l olds news r → Contains (thread_at w (q ∷ rest)) p → ⊥
-  commit_alters [] ok c has =
+  pub put_alters : (rest : List Pair) → IsAccepted new (thread_at w (q ∷ rest)) → q.at ≡ p.at → p.content.slots ≡ l ++ (olds ++ r) → slots_in (q ∷ rest) ≡ l ++ (news ++ r) → Became disk p (with_slots (l ++ (news ++ r)) p) q rest
+      → Contains (thread_at w (q ∷ rest)) p → ⊥
+  put_alters [] ok at was now became has =
       let e = sym (append_assoc w.chain (w.before ++ w.left) (q ∷ behind)) in
-      other_slots (only_there ahead q behind p (subst (λ z. IsDistinct nat_eq (blocks_of z)) e ok.thread.distinct) c.at (subst (λ z. Contains z p) e has)) c.is c.was
-  commit_alters (f ∷ []) ok c has =
+      other_slots (only_there ahead q behind p (subst (λ z. IsDistinct nat_eq (blocks_of z)) e ok.thread.distinct) at (subst (λ z. Contains z p) e has)) now was
+  put_alters (f ∷ []) ok at was now became has =
       let e = sym (append_assoc w.chain (w.before ++ w.left) (q ∷ f ∷ behind)) in
-      let is = only_there ahead q (f ∷ behind) p (subst (λ z. IsDistinct nat_eq (blocks_of z)) e ok.thread.distinct) c.at (subst (λ z. Contains z p) e has) in
+      let is = only_there ahead q (f ∷ behind) p (subst (λ z. IsDistinct nat_eq (blocks_of z)) e ok.thread.distinct) at (subst (λ z. Contains z p) e has) in
       let g = e ∙ sym (append_assoc ahead (q ∷ []) (f ∷ behind)) in
       names_another (ahead ++ q ∷ []) f behind (subst (λ z. Links (Some anchor) z) g ok.thread.links) (subst (λ z. IsDistinct nat_eq (blocks_of z)) g ok.thread.distinct)
-      (other_tail f is c.became.0 c.became.1)
-  commit_alters (f ∷ g ∷ rest) ok c has = absurd c.became
+      (other_tail f is became.0 became.1)
+  put_alters (f ∷ g ∷ rest) ok at was now became has = absurd became
+
+  pub commit_alters : (rest : List Pair) → IsAccepted new (thread_at w (q ∷ rest)) → IsCommit disk new w p q rest fresh l olds news r → Contains (thread_at w (q ∷ rest)) p → ⊥
+  commit_alters rest ok c = put_alters rest ok c.at c.was c.is c.became
 
 -- ---- a pair takes over the tail of the one behind it
 

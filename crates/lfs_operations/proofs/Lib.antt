@@ -81,3 +81,10 @@ pub mod OntoWritten
 pub mod OntoPieces
 pub mod OntoAcross
 pub mod Altered
+pub mod AlteredTails
+pub mod AlteredDrops
+pub mod AlteredBehind
+pub mod AlteredAcross
+pub mod AlteredLater
+pub mod AlteredOnto
+pub mod AlteredLast

@@ -17,7 +17,7 @@ use Rattle.lfs_model.proofs.Listings.{IsRun}
 use Rattle.lfs_model.proofs.MkdirSteps.{mkdir_in_two_completed}
 use Rattle.lfs_model.proofs.Moves.{IsStep, place_at}
 use Rattle.lfs_model.proofs.Names.{IsPlace}
-use Rattle.lfs_model.proofs.Sites.{Site, begin_of, dirs_at, run_changed, thread_at, IsSite}
+use Rattle.lfs_model.proofs.Sites.{Among, Site, among_right, begin_of, dirs_at, run_changed, thread_at, IsSite}
 use Rattle.lfs_model.proofs.StepsTaken as taken
 use Rattle.lfs_model.proofs.Superblocks.{IsChain}
 use Rattle.lfs_thread.specs.Kept.{Kept}
@@ -35,7 +35,7 @@ drop_behind : (xs ys : List Pair) (n : ℕ) → n ≡ length xs → drop n (xs +
 drop_behind [] ys n e = ap (λ k. drop k ys) e
 drop_behind (x ∷ xs) ys n e = ap (λ k. drop k (x ∷ (xs ++ ys))) e ∙ drop_behind xs ys (length xs) refl
 
-run_right : (left : List Pair) (p : Pair) (right : List Pair) → IsRun (left ++ p ∷ right) → IsRun (p ∷ right)
+pub run_right : (left : List Pair) (p : Pair) (right : List Pair) → IsRun (left ++ p ∷ right) → IsRun (p ∷ right)
 run_right [] p right h = h
 run_right (x ∷ []) p right h = h.1
 run_right (x ∷ y ∷ left) p right h = run_right (y ∷ left) p right h.1
@@ -83,6 +83,16 @@ Completes disk w left x fresh right p2 l r P name =
     → (s : Session) (given : List ℕ) → s.tree ≡ tree_in disk (thread_at (last_site w.chain w.before left w.after) (x ∷ [])) → as_path given ≡ P ++ name ∷ []
     → IsCompleted disk (thread_at (last_site w.chain w.before left w.after) (x ∷ [])) s (ops.Mkdir given) new (thread_at (site_behind w right (fresh_pair x fresh)) (q ∷ more))
 
+-- the pair is the last one itself
+pub record IsOne (p x p2 : Pair) (fresh : ℕ × ℕ) : Type 0 where
+  pub same : x ≡ p
+  pub names : p2 ≡ naming_pair x fresh
+
+-- or the last one stands behind it
+pub record IsAhead (p x p2 : Pair) (right : List Pair) (fresh : ℕ × ℕ) : Type 0 where
+  pub stays : p2 ≡ p
+  pub names : Among (λ y. y ≡ naming_pair x fresh) right
+
 -- The last pair stands there, and after the first step the pair of the name here.
 pub record IsRoute (t : Kept) (last : ℕ) (w : Site) (p : Pair) (fresh : ℕ × ℕ) (l r : List Slot) (P : Path) (name : Name) : Type 0 where
   pub left : List Pair
@@ -96,6 +106,7 @@ pub record IsRoute (t : Kept) (last : ℕ) (w : Site) (p : Pair) (fresh : ℕ ×
   pub run : IsRun (w.left ++ (p2 ∷ [] ++ right))
   pub began : begin_of (last_site w.chain w.before left w.after) (x ∷ []) ≡ begin_of w (p ∷ [])
   pub begins : begin_of (site_behind w right (fresh_pair x fresh)) (p2 ∷ []) ≡ begin_of w (p ∷ [])
+  pub which : IsOne p x p2 fresh ⊎ IsAhead p x p2 right fresh
   pub completed : Completes t.disk w left x fresh right p2 l r P name
 
 module _ (t : Kept) (index last : ℕ) (w : Site) (p : Pair) (there : t.pairs ≡ thread_at w (p ∷ [])) (place : index ≡ length w.chain + length (w.before ++ w.left)) (site : IsSite w (p ∷ [])) (is_last : IsLastFrom t.pairs index last)
@@ -125,6 +136,7 @@ module _ (t : Kept) (index last : ℕ) (w : Site) (p : Pair) (there : t.pairs �
     run = run_changed w.left p [] (naming_pair p fresh) [] (λ h. refl) run_there;
     began = refl;
     begins = go w.left;
+    which = inl (record { same = refl; names = refl });
     completed = λ middle new q more step put step2 put2 a leads same place sync settled still s given tree is.
         mkdir_at_last_completed t.disk middle new w.chain w.before w.left w.after p (naming_pair p fresh) (fresh_pair p fresh) (fresh.0 ∷ fresh.1 ∷ []) p.content.slots [] q more (blocks_of more) l r P name
         step put step2 put2 a leads same place sync settled still s given tree is;
@@ -162,6 +174,7 @@ module _ (t : Kept) (index last : ℕ) (w : Site) (p : Pair) (there : t.pairs �
     run = run_here;
     began = go w.left;
     begins = refl;
+    which = inr (record { stays = refl; names = among_right (λ z. z ≡ y) k.mid (y ∷ []) (inl refl) });
     completed = λ middle new q more step put step2 put2 a leads same place sync settled still s given tree is.
         mkdir_in_two_completed t.disk middle new w.chain w.before w.left k.mid w.after k.x y f (fresh.0 ∷ fresh.1 ∷ []) k.x.content.slots [] p q more (blocks_of more) l r P name
         step put step2 put2 a leads same place sync settled still s given tree is;

@@ -1,6 +1,6 @@
 -- A directory that comes, as two steps of the thread.
 use Rattle.std.proofs.Common.{ℕ, ◌≡◌, ◌+◌, ◌<◌, ◌≤◌, ◌^◌, ◌&&◌, ◌⊎◌, inl, inr, Bool, true, false, List, [], ◌∷◌, ◌++◌, length, Some, refl, sym, ap, ap₂, subst, ◌∙◌, arith, append_assoc, length-append, insert, slice_get}
-use Rattle.std.specs.Prelude.{All, nat_le}
+use Rattle.std.specs.Prelude.{All, Contains, nat_le}
 use Rattle.std.proofs.lemmas.Bool.{leb-true}
 use Rattle.std.proofs.lemmas.List.Elements.{recursion_from_All}
 use Rattle.lfs_device.specs.Bytes.{HasBytes}
@@ -16,12 +16,13 @@ use Rattle.lfs_model.specs.Names.{Name, is_name, is_component}
 use Rattle.lfs_model.specs.Operations as ops
 use Rattle.lfs_model.specs.PowerLoss.{IsLeft as IsLeftOf, with_blocks}
 use Rattle.lfs_model.specs.Slots.{Content, FitsPair, Gstate, Slot, charge_of, no_gstate, gstate_xor, same_pair}
-use Rattle.lfs_model.specs.SlotEdits.{new_directory}
-use Rattle.lfs_model.specs.Thread.{Pair, blocks_of, gstate_of}
+use Rattle.lfs_model.specs.SlotEdits.{new_directory, with_slots}
+use Rattle.lfs_model.specs.Thread.{Pair, blocks_of, gstate_of, is_hard, next_of}
 use Rattle.lfs_model.specs.Tree.{DirectoryNode}
 use Rattle.lfs_model.specs.Profile.{FitsEntry, IsWritable}
 use Rattle.lfs_model.specs.View.{IsAccepted}
 use Rattle.lfs_model.specs.Shown.{Leads, entries_in, tree_in}
+use Rattle.lfs_model.proofs.Became.{Became}
 use Rattle.lfs_model.proofs.Beside.{change, last_site}
 use Rattle.lfs_model.proofs.Changes.{chain_now}
 use Rattle.lfs_model.proofs.Chained.{InTwo, mkdir_in_two}
@@ -33,19 +34,21 @@ use Rattle.lfs_model.proofs.Moves.{place_at, insert_here}
 use Rattle.lfs_model.proofs.Names.{IsPlace}
 use Rattle.lfs_model.proofs.Profiles.{step_writable}
 use Rattle.lfs_model.proofs.Searches.{site, thread_is, is_site, same, number_is, place_of_belongs}
-use Rattle.lfs_model.proofs.Sites.{Site, begin_of, dirs_at, thread_at, IsSite}
+use Rattle.lfs_model.proofs.Sites.{Among, Site, among_left, among_right, begin_of, dirs_at, thread_at, IsSite}
 use Rattle.lfs_model.proofs.StepsTaken as taken
 use Rattle.lfs_model.proofs.Superblocks.{IsChain}
 use Rattle.lfs_thread.specs.Device.{four_of, two_of}
 use Rattle.lfs_thread.specs.Kept.{Kept}
 use Rattle.lfs_thread.specs.Steps.{CanJoin, IsJoined, IsLeftByJoin, Writes, pair_in, made_in_thread}
-use Rattle.lfs_operations.specs.Changing.{AreTwoFree, CanPut, HasTwoFree, IsLeftByPut, IsPut, flying}
-use Rattle.lfs_operations.specs.Making.{CanMake, FitsJoined, HasRoomFor, IsLastFrom, IsMade, naming, threading, with_directory}
+use Rattle.lfs_operations.specs.Changing.{Alters, AreTwoFree, CanPut, HasTwoFree, IsLeftByPut, IsPut, flying}
+use Rattle.lfs_operations.specs.Making.{AltersUpTo, CanMake, FitsJoined, HasRoomFor, IsLastFrom, IsMade, naming, threading, with_directory}
+use Rattle.lfs_operations.proofs.Altered.{put_alters}
+use Rattle.lfs_operations.proofs.AlteredTails.{other_tail}
 use Rattle.lfs_operations.proofs.MakingCounts.{freed, less_room, no_room}
 use Rattle.lfs_operations.proofs.MakingContents.{can_name, logged_there, named_made, threaded_made}
 use Rattle.lfs_operations.proofs.MakingEntered.{Enters, HasEntered, HasEntry, IsEntering, Stays, entered, left_entered}
 use Rattle.lfs_operations.proofs.MakingPlaces.{below, pair_is}
-use Rattle.lfs_operations.proofs.MakingRoutes.{IsRoute, route, site_behind}
+use Rattle.lfs_operations.proofs.MakingRoutes.{IsAhead, IsOne, IsRoute, route, run_right, site_behind}
 use Rattle.lfs_operations.proofs.MakingThreaded.{HasThreaded, entries_still, first_taken, fits_now, fresh_pair, has_threaded, left_beside, left_threading, naming_pair, put_there, settled_there, state_now, sync_now}
 use Rattle.lfs_operations.proofs.Owning.{none_comes_now, stay_taken}
 use Rattle.lfs_operations.proofs.Placing.{nothing_came}
@@ -325,6 +328,58 @@ module _ (t : Kept) (index id : ℕ) (name : Name) (can : CanMake t index id nam
 
             was_free : (c : ℕ) → IsFree m.map c → IsFree t.map c
             was_free c free = freed t.map fresh two c (subst (λ s. IsFree s c) h.map free)
+
+    -- neither pair stays with what it held
+    pub made_alters : (new : Kept) → IsPut m index (naming m index id name fresh) new → AltersUpTo t index new
+    made_alters new is = go (entered m index (naming m index id name fresh) v way.p2 b.left name fresh b.right entering new is)
+      where
+        x_was : Among (λ z. z ≡ x) t.pairs
+        x_was = subst (Among (λ z. z ≡ x)) (sym way.end.there) (among_right (λ z. z ≡ x) w.chain (dirs_at here (x ∷ [])) (among_right (λ z. z ≡ x) (w.before ++ way.left) (x ∷ w.after) (inl refl)))
+
+        go : HasEntered m v way.p2 b.left name fresh b.right new → AltersUpTo t index new
+        go e = by way.which
+          where
+            ok : IsAccepted new.disk (thread_at v (e.q ∷ e.more))
+            ok = (both new.disk e.q e.more e.enters).end.accepted
+
+            -- the last one, by the tail of the pair that stands there now
+            end_goes : (z : Pair) → Among (λ y. y ≡ z) (thread_at v (e.q ∷ e.more)) → z.at ≡ x.at → (next_of z.content.tail ≡ Some fresh) ⊎ (is_hard z.content.tail ≡ true) → Contains new.pairs x → ⊥
+            end_goes z h at tail has =
+                other_tail t z x fresh can.ready two.first x_was (run_right way.left x [] way.end.site.run) (thread_at v (e.q ∷ e.more)) ok.thread.distinct h at tail (subst (λ ps. Contains ps x) e.pairs has)
+
+            end_alters : (Contains new.pairs x → ⊥) → (i : ℕ) → IsLastFrom t.pairs index i → Alters t i new
+            end_alters gone i is_i =
+                let a = is_i.is in
+                let b = is_last.is in
+                let number : last ≡ i = omega arith in
+                subst (λ (j : ℕ). Alters t j new) number (subst (λ z. Contains new.pairs z → ⊥) (sym (pair_is t last here x way.end.there way.end.place)) gone)
+
+            entry_alters : (Contains new.pairs p → ⊥) → Alters t index new
+            entry_alters = subst (λ z. Contains new.pairs z → ⊥) (sym (pair_is t index w p there placed))
+
+            at_now : e.q.at ≡ p.at
+            at_now = e.enters.step.shape.at ∙ way.at
+
+            by : IsOne p x way.p2 fresh ⊎ IsAhead p x way.p2 way.right fresh → AltersUpTo t index new
+            by (inl h) = record { entry = entry_alters (subst (λ z. Contains new.pairs z → ⊥) h.same gone); end = end_alters gone }
+              where
+                tail_now : (more : List Pair) → Became m.disk way.p2 (with_slots (b.left ++ (u ∷ b.right)) way.p2) e.q more → (next_of e.q.content.tail ≡ Some fresh) ⊎ (is_hard e.q.content.tail ≡ true)
+                tail_now [] k = inl (ap next_of k.0 ∙ ap (λ (z : Pair). next_of z.content.tail) h.names)
+                tail_now (f ∷ []) k = inr (ap is_hard k.0)
+                tail_now (f ∷ g ∷ more) k = absurd k
+
+                gone : Contains new.pairs x → ⊥
+                gone = end_goes e.q (among_right (λ z. z ≡ e.q) v.chain (dirs_at v (e.q ∷ e.more)) (among_right (λ z. z ≡ e.q) (v.before ++ v.left) (e.q ∷ e.more ++ (v.right ++ v.after)) (inl refl)))
+                    (at_now ∙ ap (λ (z : Pair). z.at) (sym h.same)) (tail_now e.more e.enters.put.became)
+            by (inr h) = record { entry = entry_alters entry; end = end_alters gone }
+              where
+                gone : Contains new.pairs x → ⊥
+                gone = end_goes y (among_right (λ z. z ≡ y) v.chain (dirs_at v (e.q ∷ e.more)) (among_right (λ z. z ≡ y) (v.before ++ v.left) ((e.q ∷ e.more) ++ (v.right ++ v.after))
+                    (among_right (λ z. z ≡ y) (e.q ∷ e.more) (v.right ++ v.after) (among_left (λ z. z ≡ y) v.right v.after h.names)))) refl (inl refl)
+
+                entry : Contains new.pairs p → ⊥
+                entry has = put_alters m.disk new.disk v way.p2 e.q [] b.left [] (u ∷ []) b.right (λ k. absurd (omega arith)) e.more ok e.enters.step.shape.at e.enters.put.was e.enters.put.is e.enters.put.became
+                    (subst (Contains (thread_at v (e.q ∷ e.more))) (sym h.stays) (subst (λ ps. Contains ps p) e.pairs has))
 
     -- a stop leaves the tree from before it or from after it
     pub left_by_entering : (left : Blocks) → IsLeftByPut m index (naming m index id name fresh) left → IsLeftOf (with_blocks left t.disk) (tree_in t.disk t.pairs) (with_directory t can.path name)

@@ -39,7 +39,7 @@ use Rattle.lfs_pair.specs.Commit.{made_at}
 use Rattle.lfs_thread.specs.Device.{StopsLeave}
 use Rattle.lfs_thread.specs.Kept.{Kept}
 use Rattle.lfs_thread.specs.Steps.{SlotsHaveFirst, made_in_thread, pair_in}
-use Rattle.lfs_operations.specs.Changing.{CanPut, IsLeftByPut, IsPut}
+use Rattle.lfs_operations.specs.Changing.{Alters, CanPut, IsLeftByPut, IsPut}
 use Rattle.lfs_operations.specs.Editing.{CanEdit}
 use Rattle.lfs_operations.specs.MoveEnds.{CanEnd, HasEnded, move_of}
 use Rattle.lfs_operations.specs.MovingSteps.{EndsAfter, IsPutAndEnded, place_after}
@@ -47,6 +47,7 @@ use Rattle.lfs_operations.specs.MovingAcross.{CanRenameAcross, IsRenamedAcross, 
 use Rattle.lfs_operations.specs.Ready.{IsLoggedAt}
 use Rattle.lfs_operations.specs.Removing.{goes_whole}
 use Rattle.lfs_operations.specs.RenamingSlots.{HasSlot, Parts, parts_at, parts_of, slot_changes}
+use Rattle.lfs_operations.proofs.AlteredAcross.{moved_alters}
 use Rattle.lfs_operations.proofs.Held.{CompletesTo, IsEntryIfOther, below, each_pair, fits_there, here, other_entries, raw_there}
 use Rattle.lfs_operations.proofs.MovSet.{HasTurned, IsSetting, chain_same, set_new, walk_by}
 use Rattle.lfs_operations.proofs.MovStep.{IsFirst, first_survives, first_turned, grown, mid_ends, mid_shows, rename_becomes, rename_completed, same_at}
@@ -374,3 +375,10 @@ module _ (t : Kept) (old_pair old_id first new_pair new_id : ℕ) (name : Name) 
         completed = λ z given to_given tree given_is to_is.
             rename_completed t false old_pair goes new_pair (moving_changes t old_pair old_id new_pair new_id name) wo q lo s ro w p b.left None v b.right from to name is_first is.mid x new e refl z given to_given tree given_is to_is;
       }
+
+  -- ---- what stays
+
+  pub across_alters : (new : Kept) → IsPutAndEnded t old_pair old_id goes new_pair (moving_changes t old_pair old_id new_pair new_id name) new → Alters t new_pair new
+  across_alters new is = moved_alters t false old_pair goes new_pair (moving_changes t old_pair old_id new_pair new_id name) wo q lo s ro w p b.left v b.right from to name is_first is.mid
+      (first_turned t false old_pair goes new_pair (moving_changes t old_pair old_id new_pair new_id name) wo q lo s ro w p b.left None v b.right from to name is_first is.mid is.put) new
+      (subst (λ i. HasEnded is.mid (place_after old_pair new_pair (length is.mid.pairs - length t.pairs)) i goes new) (sym can.stands.stands.number) is.ended)

@@ -185,6 +185,9 @@ module _ (t : Kept) (old_pair old_id first new_pair new_id : ℕ) (name : Name) 
   first_is : (gone ≡ length (w.chain ++ front.front) + 1) × (front.first ≡ o)
   first_is = number_of_first t.disk w.chain (dirs_at w (p ∷ [])) rename.to accepted front gone o (subst (λ z. slice_get z gone ≡ Some o) there o_there) rename.alike
 
+  pub gone_above : 0 < gone
+  gone_above = let e = first_is.0 in omega arith
+
   empty : entries_in (thread_at w (p ∷ [])) rename.to ≡ []
   empty = shows_nothing t.disk w.chain (dirs_at w (p ∷ [])) rename.to accepted site_is.chain (no_move_from (thread_at w (p ∷ [])) settled) front
       (ap (λ (z : Pair). is_hard z.content.tail) first_is.1 ∙ rename.alone) (ap (λ (z : Pair). z.content.slots) first_is.1 ∙ rename.empty)
@@ -486,13 +489,19 @@ module _ (t : Kept) (old_pair old_id first new_pair new_id : ℕ) (name : Name) 
   address_later : IsAddress (pair_in later old_pair).at
   address_later = subst (λ k. IsAddress (pair_in k old_pair).at) (read_is t h.from h.only) h.address
 
+  pub gone_above_later : 0 < gone
+  gone_above_later = gone_above later old_pair old_id first new_pair new_id name gone there_later address_later m done_later
+
   pub not_nowhere_later : AllByRecursion (λ z. same_pair z.at (pair_in t gone).at ≡ false) m.pairs → ⊥
   not_nowhere_later = not_nowhere later old_pair old_id first new_pair new_id name gone there_later address_later m done_later
 
   module _ (n : ℕ) (at : BeginsAt m.pairs (pair_in t gone).at n) where
+    pub replacing_later : IsReplacing (with_history t h.from.history) m (rename.old.path ++ rename.old.name ∷ []) (rename.path ++ name ∷ []) rename.to (pair_in t gone) n
+    replacing_later = replacing_across later old_pair old_id first new_pair new_id name gone there_later address_later m done_later n at
+
     pub can_drop_later : CanDropAt m n no_gstate
     can_drop_later = can_drop_replaced later m (rename.old.path ++ rename.old.name ∷ []) (rename.path ++ name ∷ []) rename.to (pair_in t gone) n
-        (replacing_across later old_pair old_id first new_pair new_id name gone there_later address_later m done_later n at)
+        replacing_later
 
     pub renamed_directory : (new : Kept) → HasDroppedBehind m (n - 1) no_gstate new → IsRenamedAcross t new rename.old.path rename.old.name rename.path name
     renamed_directory new d = go (renamed_onto later old_pair old_id first new_pair new_id name gone there_later address_later m done_later n at new d)

@@ -10,14 +10,14 @@ use Rattle.lfs_model.specs.BlockSets.{AreUsed}
 use Rattle.lfs_model.specs.Disk.{Disk, block_count}
 use Rattle.lfs_model.specs.PowerLoss.{IsLeft as IsLeftOf, with_blocks}
 use Rattle.lfs_model.specs.Slots.{Branch, Content, FitsPair, Slot, no_gstate, same_pair}
-use Rattle.lfs_model.specs.Thread.{Pair, gstate_of, is_hard, root_of, superblocks_before}
+use Rattle.lfs_model.specs.Thread.{Pair, blocks_of, gstate_of, is_hard, root_of, superblocks_before}
 use Rattle.lfs_model.specs.Tree.{Path, branch_of, directory_at, directory_from, root_slot}
 use Rattle.lfs_model.specs.View.{IsAccepted}
 use Rattle.lfs_model.specs.Profile.{IsWritable}
-use Rattle.lfs_model.specs.Shown.{Leads, directories_in, entries_in, tree_in, used_blocks}
+use Rattle.lfs_model.specs.Shown.{Leads, all_slots, directories_in, entries_in, tree_in, used_blocks}
 use Rattle.lfs_model.proofs.Alike.{AreAlike, alike_append, alike_itself}
 use Rattle.lfs_model.proofs.Committed.{no_move_from, recovered_from}
-use Rattle.lfs_model.proofs.Counts.{Each, count, each_right, once_from_distinct}
+use Rattle.lfs_model.proofs.Counts.{Each, count, count_append, count_here, each_right, once_from_distinct}
 use Rattle.lfs_model.proofs.Global.{HasNoMove, sync_share}
 use Rattle.lfs_model.proofs.Indexes.{HasSite, site_of_number}
 use Rattle.lfs_model.proofs.Moves.{AllReached}
@@ -102,10 +102,10 @@ module _ (t m : Kept) (from to : Path) (d : ℕ × ℕ) (o : Pair) (n : ℕ) (k 
   accepted_parts : IsAccepted m.disk (ahead ++ k.x ∷ o ∷ k.back)
   accepted_parts = subst (IsAccepted m.disk) is k.taken.follows.accepted
 
-  x_there : pair_in m (n - 1) ≡ k.x
+  pub x_there : pair_in m (n - 1) ≡ k.x
   x_there = front_is m (n - 1) ahead k.x o k.back is number
 
-  o_there : pair_in m (n - 1 + 1) ≡ o
+  pub o_there : pair_in m (n - 1 + 1) ≡ o
   o_there = gone_is m (n - 1) ahead k.x o k.back is number
 
   no_move : HasNoMove (gstate_of m.pairs)
@@ -124,10 +124,10 @@ module _ (t m : Kept) (from to : Path) (d : ℕ × ℕ) (o : Pair) (n : ℕ) (k 
 
   -- ---- the last step
 
-  abbrev c : Content
+  abbrev pub c : Content
   c = with_tail_taken m (n - 1) no_gstate
 
-  abbrev y : Pair
+  abbrev pub y : Pair
   y = record { at = k.x.at; content = c }
 
   c_slots : c.slots ≡ k.x.content.slots
@@ -191,6 +191,18 @@ module _ (t m : Kept) (from to : Path) (d : ℕ × ℕ) (o : Pair) (n : ℕ) (k 
 
     once : (b : ℕ) → count b (used_blocks m.disk m.pairs) ≤ 1
     once b = once_from_distinct (used_blocks m.disk m.pairs) k.taken.follows.accepted.owned_once b
+
+    -- the pair is gone, and no block came
+    pub end_fewer : (b : ℕ) → count b (used_blocks new.disk new.pairs) ≤ count b (used_blocks m.disk m.pairs)
+    end_fewer b = let e = end_used b in omega arith
+
+    pub end_gone : count o.at.0 (blocks_of new.pairs) ≡ 0
+    end_gone =
+        let e = end_used o.at.0 in
+        let f = once o.at.0 in
+        let h = count_here o.at.0 (o.at.1 ∷ []) in
+        let l = count_append o.at.0 (blocks_of new.pairs) (files_of new.disk (all_slots new.pairs)) in
+        omega arith
 
     pub replaced_shrunk : HasShrunk t new (renamed from to (tree_in t.disk t.pairs)) []
     replaced_shrunk = record {

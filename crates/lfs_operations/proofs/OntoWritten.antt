@@ -47,7 +47,7 @@ blocks_removed (x ∷ xs) (suc n) b =
     let f = count_append b (two_of x.at) (blocks_of xs) in
     omega (arith, k, e, f)
 
-there_counted : (xs : List Pair) (i : ℕ) (d : Pair) → i < length xs → (b : ℕ) → 1 ≤ count b (two_of (get_or xs i d).at) → 1 ≤ count b (blocks_of xs)
+pub there_counted : (xs : List Pair) (i : ℕ) (d : Pair) → i < length xs → (b : ℕ) → 1 ≤ count b (two_of (get_or xs i d).at) → 1 ≤ count b (blocks_of xs)
 there_counted [] i d l b h = absurd (omega arith)
 there_counted (x ∷ xs) zero d l b h = let e = count_append b (x.at.0 ∷ x.at.1 ∷ []) (blocks_of xs) in omega arith
 there_counted (x ∷ xs) (suc i) d l b h = let k = there_counted xs i d (omega arith) b h in let e = count_append b (x.at.0 ∷ x.at.1 ∷ []) (blocks_of xs) in omega arith

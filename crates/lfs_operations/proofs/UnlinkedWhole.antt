@@ -89,6 +89,9 @@ module _ (t : Kept) (index id first gone : ℕ) (take : CanRemoveDirectory t ind
   first_is = number_of_first t.disk w.chain (dirs_at w (x0 ∷ e ∷ [])) take.to accepted front gone o
       (subst (λ z. slice_get z gone ≡ Some o) s.there (get_some t.pairs gone no_pair take.below)) take.at
 
+  pub above_gone : 0 < gone
+  above_gone = let f = first_is.0 in omega arith
+
   empty : entries_in old take.to ≡ []
   empty = shows_nothing t.disk w.chain (dirs_at w (x0 ∷ e ∷ [])) take.to accepted s.site.chain (no_move_from old settled) front
       (ap (λ (z : Pair). is_hard z.content.tail) first_is.1 ∙ take.alone) (ap (λ (z : Pair). z.content.slots) first_is.1 ∙ take.empty)
@@ -265,7 +268,7 @@ module _ (t : Kept) (index id first gone : ℕ) (take : CanRemoveDirectory t ind
     x_there : pair_in m (now - 1) ≡ k.x
     x_there = end.x_there m (now - 1) w.chain k.front k.x o k.back is_middle number_middle
 
-    o_there : pair_in m (now - 1 + 1) ≡ o
+    pub o_there : pair_in m (now - 1 + 1) ≡ o
     o_there = end.o_there m (now - 1) w.chain k.front k.x o k.back is_middle number_middle
 
     -- the pair that is written in the second step is where the one in front of it was, or where the one in front of the entry's was

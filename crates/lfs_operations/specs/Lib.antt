@@ -1,5 +1,6 @@
 pub mod Ready
 pub mod Changing
+pub mod Altering
 pub mod Creating
 pub mod Editing
 pub mod Storing

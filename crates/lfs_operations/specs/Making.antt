@@ -23,6 +23,7 @@ use Rattle.lfs_model.proofs.Committed.{IsCompleted}
 use Rattle.lfs_model.proofs.Global.{turned}
 use Rattle.lfs_thread.specs.Kept.{Kept, State}
 use Rattle.lfs_thread.specs.Steps.{Writes, made_in_thread, pair_in}
+use Rattle.lfs_operations.specs.Changing.{Alters}
 use Rattle.lfs_operations.specs.Ready.{HasBecome, IsReady}
 
 -- ---- the last pair
@@ -81,6 +82,11 @@ pub record IsMade (old new : Kept) (path : Path) (name : Name) : Type 0 where
   pub now : HasBecome old new (with_directory old path name)
   pub completed : (s : Session) (given : List ℕ) → s.tree ≡ tree_in old.disk old.pairs → as_path given ≡ path ++ name ∷ []
       → IsCompleted old.disk old.pairs s (ops.Mkdir given) new.disk new.pairs
+
+-- Neither the pair nor the directory's last one stays with what it held.
+pub record AltersUpTo (old : Kept) (pair : ℕ) (new : Kept) : Type 0 where
+  pub entry : Alters old pair new
+  pub end : (last : ℕ) → IsLastFrom old.pairs pair last → Alters old last new
 
 -- `Io` comes with a fault of the device, and any other answer with none. The thread has failed at an error.
 pub record TellsOfSteps {X : Type 0} (old new : State) (result : Result X Error) : Type 0 where

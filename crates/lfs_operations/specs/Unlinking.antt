@@ -20,9 +20,10 @@ use Rattle.lfs_model.proofs.Committed.{IsCompleted}
 use Rattle.lfs_model.proofs.Global.{sync_share}
 use Rattle.lfs_thread.specs.Kept.{Kept, State}
 use Rattle.lfs_thread.specs.Steps.{IsWrittenAs, pair_in, with_pair}
+use Rattle.lfs_operations.specs.Changing.{Alters}
 use Rattle.lfs_operations.specs.Dropping.{HasShrunk}
 use Rattle.lfs_operations.specs.Editing.{CanEdit, slot_at}
-use Rattle.lfs_operations.specs.Removing.{without_file}
+use Rattle.lfs_operations.specs.Removing.{goes_whole, without_file}
 
 -- ---- the entry goes
 
@@ -73,6 +74,12 @@ pub record IsDirectoryRemoved (old new : Kept) (path : Path) (name : Name) : Typ
   pub now : HasShrunk old new (without_file old path name) []
   pub completed : (s : Session) (given : List ℕ) → s.tree ≡ tree_in old.disk old.pairs → as_path given ≡ path ++ name ∷ []
       → IsCompleted old.disk old.pairs s (ops.Remove given) new.disk new.pairs
+
+-- The pair in front of the one that goes doesn't stay with what it held. Nor does the one in front of the entry's pair, where
+-- that goes too.
+pub record AltersInFront (old : Kept) (pair first gone : ℕ) (new : Kept) : Type 0 where
+  pub front : Alters old (gone - 1) new
+  pub entry : goes_whole old pair first ≡ true → Alters old (pair - 1) new
 
 -- What several steps tell that take no block: `Io` comes with a fault of the device, and any other answer with none. The thread has
 -- failed by an error.

@@ -11,7 +11,7 @@ ghost use Rattle.lfs_tag.specs.FieldsSeen.{move_seen};
 ghost use Rattle.lfs_thread.specs.Device.{StopsLeave, four_of, two_of};
 ghost use Rattle.lfs_thread.specs.Steps.{CanJoin, HasToldBeside, IsJoined, IsLeftByJoin, Writes, pair_in};
 ghost use Rattle.lfs_operations.specs.Changing.{CanPut, IsLeftByPut, IsPut, TellsPut, WritesIn};
-ghost use Rattle.lfs_operations.specs.Making.{CanMake, FitsJoined, IsLastFrom, IsMade, TellsOfSteps, WritesUpTo, entering, naming, threading, with_directory};
+ghost use Rattle.lfs_operations.specs.Making.{AltersUpTo, CanMake, FitsJoined, IsLastFrom, IsMade, TellsOfSteps, WritesUpTo, entering, naming, threading, with_directory};
 
 use crate::changing::{put, take_two};
 use lfs_device::{BlockDevice, Error};
@@ -160,6 +160,7 @@ pub fn make_directory<D: BlockDevice>(
     requires works { thread.old.failed ≡ false }
     requires can { CanMake thread.old.kept pair id name.now }
     ensures made { OnOk result ((can : CanMake thread.old.kept pair id name.now) → IsMade thread.old.kept thread.new.kept can.path name.now) }
+    ensures alters { OnOk result (AltersUpTo thread.old.kept pair thread.new.kept) }
     ensures errors { TellsOfSteps thread.old thread.new result }
     ensures device { WritesUpTo thread.old.kept pair thread.new.kept }
     ensures stands { result ≡ Err Error.NoMemory → (can : CanMake thread.old.kept pair id name.now) → IsLeft thread.new.kept.disk

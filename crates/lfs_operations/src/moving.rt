@@ -10,10 +10,11 @@ ghost use Rattle.lfs_model.specs.PowerLoss.{Survives};
 ghost use Rattle.lfs_model.specs.Thread.{gstate_of};
 ghost use Rattle.lfs_model.specs.Shown.{tree_in};
 ghost use Rattle.lfs_tag.specs.FieldsSeen.{move_seen};
-ghost use Rattle.lfs_thread.specs.Device.{two_of};
+ghost use Rattle.lfs_thread.specs.Device.{four_of, two_of};
 ghost use Rattle.lfs_thread.specs.Kept.{Kept};
 ghost use Rattle.lfs_thread.specs.Steps.{Writes, pair_in};
 ghost use Rattle.lfs_pair.specs.ChangeSeen.{changes_seen};
+ghost use Rattle.lfs_operations.specs.Altering.{AltersBut};
 ghost use Rattle.lfs_operations.specs.Changing.{CanPut, IsPut, WritesInPairs};
 ghost use Rattle.lfs_operations.specs.MoveEnds.{CanEnd, HasEnded, end_at, move_of, share_without_move, sync_in};
 ghost use Rattle.lfs_operations.specs.MovingSteps.{EndsAfter, IsPutAndEnded, SurvivesBoth, TellsInSteps, WritesInTwo, left_at, place_after};
@@ -229,6 +230,7 @@ pub fn rename_across<D: BlockDevice>(
     requires can { CanRenameAcross thread.old.kept old_pair old_id first new_pair new_id name.now }
     ensures renamed { OnOk result ((rename : CanRenameAcross thread.old.kept old_pair old_id first new_pair new_id name.now)
         → IsRenamedAcross thread.old.kept thread.new.kept rename.old.path rename.old.name rename.path name.now) }
+    ensures alters { OnOk result (AltersBut thread.old.kept (two_of (pair_in thread.old.kept old_pair).at) thread.new.kept) }
     ensures errors { TellsInSteps thread.old thread.new new_pair (moving_changes thread.old.kept old_pair old_id new_pair new_id name.now) result }
     ensures device { WritesInTwo thread.old.kept (left_at thread.old.kept old_pair first) new_pair thread.new.kept }
     ensures survives { (rename : CanRenameAcross thread.old.kept old_pair old_id first new_pair new_id name.now) → Survives thread.old.kept.disk thread.old.kept.history thread.new.kept.history
@@ -308,6 +310,7 @@ pub fn rename_onto_file_across<D: BlockDevice>(
     requires can { CanReplaceAcross thread.old.kept old_pair old_id first new_pair new_id name.now }
     ensures replaced { OnOk result ((rename : CanReplaceAcross thread.old.kept old_pair old_id first new_pair new_id name.now)
         → IsReplacedAcross thread.old.kept thread.new.kept rename.old.path rename.old.name rename.path name.now rename.target.stands.slot.struct) }
+    ensures alters { OnOk result (AltersBut thread.old.kept (four_of (pair_in thread.old.kept old_pair).at (pair_in thread.old.kept new_pair).at) thread.new.kept) }
     ensures errors { TellsInSteps thread.old thread.new new_pair (replacing_changes thread.old.kept old_pair old_id new_pair new_id name.now) result }
     ensures device { WritesInTwo thread.old.kept (left_at thread.old.kept old_pair first) new_pair thread.new.kept }
     ensures survives { (rename : CanReplaceAcross thread.old.kept old_pair old_id first new_pair new_id name.now) → Survives thread.old.kept.disk thread.old.kept.history thread.new.kept.history
@@ -339,6 +342,7 @@ pub fn rename_onto_directory_across<D: BlockDevice>(
     requires can { CanReplaceDirectory thread.old.kept old_pair old_id first new_pair new_id name.now gone }
     ensures renamed { OnOk result ((rename : CanReplaceDirectory thread.old.kept old_pair old_id first new_pair new_id name.now gone)
         → IsRenamedAcross thread.old.kept thread.new.kept rename.old.path rename.old.name rename.path name.now) }
+    ensures alters { OnOk result (AltersBut thread.old.kept (four_of (pair_in thread.old.kept old_pair).at (pair_in thread.old.kept new_pair).at) thread.new.kept) }
     ensures errors { TellsInSteps thread.old thread.new new_pair (onto_changes true thread.old.kept old_pair old_id new_pair new_id name.now) result }
     ensures device { WritesInPairs thread.old.kept thread.new.kept }
     ensures survives { (rename : CanReplaceDirectory thread.old.kept old_pair old_id first new_pair new_id name.now gone) → Survives thread.old.kept.disk thread.old.kept.history thread.new.kept.history

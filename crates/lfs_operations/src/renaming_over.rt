@@ -9,6 +9,7 @@ ghost use Rattle.lfs_tag.specs.FieldsSeen.{move_seen};
 ghost use Rattle.lfs_pair.specs.ChangeSeen.{changes_seen};
 ghost use Rattle.lfs_thread.specs.Device.{four_of, two_of};
 ghost use Rattle.lfs_thread.specs.Steps.{Writes, pair_in};
+ghost use Rattle.lfs_operations.specs.Altering.{AltersBut};
 ghost use Rattle.lfs_operations.specs.Renaming.{place_without, with_renamed};
 ghost use Rattle.lfs_operations.specs.RenamingOver.{CanRenameOntoDirectory, CanRenameOver, IsRenamedOntoDirectory, IsRenamedOver, TellsOver, TellsOverSteps};
 ghost use Rattle.lfs_operations.specs.RenamingSeen.{copied};
@@ -110,6 +111,7 @@ pub fn rename_onto_directory<D: BlockDevice>(
     requires can { CanRenameOntoDirectory thread.old.kept pair id place name.now gone }
     ensures renamed { OnOk result ((rename : CanRenameOntoDirectory thread.old.kept pair id place name.now gone)
         → IsRenamedOntoDirectory thread.old.kept thread.new.kept rename.over.can.path rename.over.can.name name.now) }
+    ensures alters { OnOk result (AltersBut thread.old.kept (two_of (pair_in thread.old.kept pair).at) thread.new.kept) }
     ensures errors { TellsOverSteps thread.old thread.new result }
     ensures device { Writes (four_of (pair_in thread.old.kept pair).at (pair_in thread.old.kept (gone - 1)).at) thread.old.kept thread.new.kept }
     ensures survives { (rename : CanRenameOntoDirectory thread.old.kept pair id place name.now gone) → Survives thread.old.kept.disk thread.old.kept.history thread.new.kept.history

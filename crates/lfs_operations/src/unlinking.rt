@@ -9,7 +9,7 @@ ghost use Rattle.lfs_thread.specs.Device.{StopsLeave, four_of, two_of};
 ghost use Rattle.lfs_thread.specs.Steps.{Writes, pair_in};
 ghost use Rattle.lfs_operations.specs.Editing.{CanEdit};
 ghost use Rattle.lfs_operations.specs.Removing.{TellsOfCalls, goes_whole, without_file, written_at};
-ghost use Rattle.lfs_operations.specs.Unlinking.{CanRemoveDirectory, IsDirectoryRemoved, IsLeftByUnlink, IsUnlinked, TellsOfSteps, number_without};
+ghost use Rattle.lfs_operations.specs.Unlinking.{AltersInFront, CanRemoveDirectory, IsDirectoryRemoved, IsLeftByUnlink, IsUnlinked, TellsOfSteps, number_without};
 
 use crate::dropping::drop_at;
 use crate::removing::goes_with_slot;
@@ -73,6 +73,7 @@ fn remove_beside<D: BlockDevice>(
     requires can { CanRemoveDirectory thread.old.kept pair id first gone }
     requires stays { goes_whole thread.old.kept pair first ≡ false }
     ensures is_removed { OnOk result ((take : CanRemoveDirectory thread.old.kept pair id first gone) → IsDirectoryRemoved thread.old.kept thread.new.kept take.can.path take.can.name) }
+    ensures alters { OnOk result (AltersInFront thread.old.kept pair first gone thread.new.kept) }
     ensures errors { TellsOfSteps thread.old thread.new result }
     ensures device { Writes (four_of (written_at thread.old.kept pair first) (pair_in thread.old.kept (gone - 1)).at) thread.old.kept thread.new.kept }
     ensures survives { (take : CanRemoveDirectory thread.old.kept pair id first gone) → Survives thread.old.kept.disk thread.old.kept.history thread.new.kept.history
@@ -96,6 +97,7 @@ fn remove_with_pair<D: BlockDevice>(
     requires can { CanRemoveDirectory thread.old.kept pair id first gone }
     requires goes { goes_whole thread.old.kept pair first ≡ true }
     ensures is_removed { OnOk result ((take : CanRemoveDirectory thread.old.kept pair id first gone) → IsDirectoryRemoved thread.old.kept thread.new.kept take.can.path take.can.name) }
+    ensures alters { OnOk result (AltersInFront thread.old.kept pair first gone thread.new.kept) }
     ensures errors { TellsOfSteps thread.old thread.new result }
     ensures device { Writes (four_of (written_at thread.old.kept pair first) (pair_in thread.old.kept (gone - 1)).at) thread.old.kept thread.new.kept }
     ensures survives { (take : CanRemoveDirectory thread.old.kept pair id first gone) → Survives thread.old.kept.disk thread.old.kept.history thread.new.kept.history
@@ -126,6 +128,7 @@ pub fn remove_directory<D: BlockDevice>(
     requires works { thread.old.failed ≡ false }
     requires can { CanRemoveDirectory thread.old.kept pair id first gone }
     ensures is_removed { OnOk result ((take : CanRemoveDirectory thread.old.kept pair id first gone) → IsDirectoryRemoved thread.old.kept thread.new.kept take.can.path take.can.name) }
+    ensures alters { OnOk result (AltersInFront thread.old.kept pair first gone thread.new.kept) }
     ensures errors { TellsOfSteps thread.old thread.new result }
     ensures device { Writes (four_of (written_at thread.old.kept pair first) (pair_in thread.old.kept (gone - 1)).at) thread.old.kept thread.new.kept }
     ensures survives { (take : CanRemoveDirectory thread.old.kept pair id first gone) → Survives thread.old.kept.disk thread.old.kept.history thread.new.kept.history

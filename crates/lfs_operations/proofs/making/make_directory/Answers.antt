@@ -13,7 +13,7 @@ use Rattle.lfs_operations.specs.Making.{FitsJoined, TellsOfSteps, naming, thread
 use Rattle.lfs_operations.proofs.MakingCounts.{no_room}
 use Rattle.lfs_operations.proofs.MakingTold.{tells_first, tells_second}
 use Rattle.lfs_operations.proofs.MakingWrites.{survives_both, survives_by, writes_both, writes_first}
-use Rattle.lfs_operations.proofs.Mkdir.{at_still, can_enter, can_thread, left_by_entering, left_by_threading, left_between, left_unthreaded, made_is, room_left, thread_fits, threaded_now}
+use Rattle.lfs_operations.proofs.Mkdir.{at_still, can_enter, can_thread, left_by_entering, left_by_threading, left_between, left_unthreaded, made_alters, made_is, room_left, thread_fits, threaded_now}
 use Rattle.lfs_operations.proofs.Putting.{not_both, with_map}
 use Rattle.lfs_operations.proofs.making.make_directory.Goals as goal
 
@@ -133,6 +133,18 @@ returns-clause-made g c can =
     let h = threaded_now t c.args.pair c.args.id c.args.name.now can last c.last_from-last.ensures fresh c.in-Some.ensures.were_free c.know_device.ensures.bytes c.know_device.ensures.count m
     (subst (λ (s : State). IsJoined s.kept last fresh (threading s.kept last fresh) m) c.in-Some.ensures.taken c.in_ok-thread_behind.ensures.is_joined) writes in
     made_is t c.args.pair c.args.id c.args.name.now can last c.last_from-last.ensures fresh c.in-Some.ensures.were_free c.know_device.ensures.bytes c.know_device.ensures.count m h c.know_device-2.ensures.bytes
+    c.name_directory.new.thread.kept c.in_ok-name_directory.ensures.is_put
+
+pub returns-clause-alters : goal.returns-clause-alters
+returns-clause-alters g c =
+    let t = c.args.thread.now.kept in
+    let m = c.thread_behind.new.thread.kept in
+    let last = c.last_from-last.result in
+    let fresh = address_of c.in-Some.fresh in
+    let writes = subst (λ (s : State). Writes (four_of (pair_in s.kept last).at fresh) s.kept m) c.in-Some.ensures.taken c.thread_behind.ensures.device in
+    let h = threaded_now t c.args.pair c.args.id c.args.name.now c.requires.can last c.last_from-last.ensures fresh c.in-Some.ensures.were_free c.know_device.ensures.bytes c.know_device.ensures.count m
+    (subst (λ (s : State). IsJoined s.kept last fresh (threading s.kept last fresh) m) c.in-Some.ensures.taken c.in_ok-thread_behind.ensures.is_joined) writes in
+    made_alters t c.args.pair c.args.id c.args.name.now c.requires.can last c.last_from-last.ensures fresh c.in-Some.ensures.were_free c.know_device.ensures.bytes c.know_device.ensures.count m h c.know_device-2.ensures.bytes
     c.name_directory.new.thread.kept c.in_ok-name_directory.ensures.is_put
 
 pub returns-clause-device : goal.returns-clause-device

@@ -8,6 +8,7 @@ use Rattle.lfs_operations.specs.MoveEnds.{end_at}
 use Rattle.lfs_operations.specs.MovingSteps.{EndsAfter, IsPutAndEnded, SurvivesBoth, TellsInSteps, WritesInTwo, left_at}
 use Rattle.lfs_operations.specs.MovingAcross.{moving_changes, with_moved}
 use Rattle.lfs_operations.specs.RenamingSlots.{slot_changes}
+use Rattle.lfs_operations.proofs.AlteredLater.{altered_later}
 use Rattle.lfs_operations.proofs.MovLater.{can_put_later, changes_later, ends_later, parts_later, renamed_later, survives_later, tells_after_read, tells_unmade, writes_after_read, writes_read}
 use Rattle.lfs_operations.proofs.Putting.{not_both}
 use Rattle.lfs_operations.proofs.RenameRead.{read_survives}
@@ -114,3 +115,15 @@ returns-clause-survives g c rename =
     survives_later c.args.thread.now.kept c.copy_at.new.thread.kept c.copy_at.ensures.only c.args.old_pair c.args.old_id c.args.first c.args.new_pair c.args.new_id c.args.name.now rename c.share_with_move-state.ensures.address
     (end_at c.args.old_pair c.goes_with_slot-goes.result) c.put_and_end.new.thread.kept c.put_and_end.ensures.device
     (subst (λ z. SurvivesBoth c.copy_at.new.thread.kept c.args.new_pair z c.put_and_end.new.thread.kept) are c.put_and_end.ensures.survives)
+
+pub returns-clause-alters : goal.returns-clause-alters
+returns-clause-alters g c =
+    let parts = parts_later c.args.thread.now.kept c.copy_at.new.thread.kept c.copy_at.ensures.only c.args.old_pair c.args.old_id c.args.first c.args.new_pair c.args.new_id c.args.name.now c.requires.can c.share_with_move-state.ensures.address in
+    let are = ap changes_seen c.deref.ensures.value ∙ c.in_ok-changes.ensures
+    ∙ ap₂ (λ m z. PutMove m ∷ slot_changes c.args.new_id c.args.name.now z) c.share_with_move-state.ensures.share (c.in_ok-copy.ensures.copied ∙ sym parts) in
+    altered_later c.args.thread.now.kept c.copy_at.new.thread.kept c.copy_at.ensures.only c.args.old_pair c.args.old_id c.args.first c.args.new_pair c.args.new_id c.args.name.now c.requires.can c.share_with_move-state.ensures.address
+    c.put_and_end.new.thread.kept
+    (subst (λ b. IsPutAndEnded c.copy_at.new.thread.kept c.args.old_pair c.args.old_id b c.args.new_pair (moving_changes c.copy_at.new.thread.kept c.args.old_pair c.args.old_id c.args.new_pair c.args.new_id c.args.name.now) c.put_and_end.new.thread.kept) c.goes_with_slot-goes.ensures
+    (subst (λ z. IsPutAndEnded c.copy_at.new.thread.kept c.args.old_pair c.args.old_id c.goes_with_slot-goes.result c.args.new_pair z c.put_and_end.new.thread.kept) are c.in_ok-put_and_end.ensures.done))
+    (subst (λ b. WritesInTwo c.args.thread.now.kept (end_at c.args.old_pair b) c.args.new_pair c.put_and_end.new.thread.kept) c.goes_with_slot-goes.ensures
+    (writes_after_read c.args.thread.now.kept c.copy_at.new.thread.kept c.put_and_end.new.thread.kept (end_at c.args.old_pair c.goes_with_slot-goes.result) c.args.new_pair c.copy_at.ensures.only c.put_and_end.ensures.device))

@@ -10,6 +10,7 @@ use Rattle.lfs_operations.specs.Dropping.{CanDropAt, HasDroppedBehind, IsLeftByD
 use Rattle.lfs_operations.specs.MovingSteps.{TellsInSteps, left_at}
 use Rattle.lfs_operations.specs.MovingAcross.{with_moved}
 use Rattle.lfs_operations.specs.MovingOnto.{onto_changes}
+use Rattle.lfs_operations.proofs.AlteredLast.{altered_onto_directory}
 use Rattle.lfs_operations.proofs.MovReplace.{onto_directory}
 use Rattle.lfs_operations.proofs.MovTelling.{not_io, tells_of_end}
 use Rattle.lfs_operations.proofs.OntoAcross.{can_drop_later, left_directory, new_below, not_nowhere_later, old_below, renamed_directory}
@@ -86,3 +87,15 @@ returns-in_default-clause-device g c = writes_one c.args.thread.now.kept c.put_o
 
 pub returns-in_default-clause-survives : goal.returns-in_default-clause-survives
 returns-in_default-clause-survives g c rename = c.put_onto.ensures.survives (onto_directory rename)
+
+pub returns-in_ok-drop_at-clause-alters : goal.returns-in_ok-drop_at-clause-alters
+returns-in_ok-drop_at-clause-alters g c =
+    altered_onto_directory c.args.thread.now.kept c.args.old_pair c.args.old_id c.args.first c.args.new_pair c.args.new_id c.args.name.now c.args.gone c.requires.can c.put_onto.new.thread.kept c.in_ok-put_onto.ensures.moved c.in-Some.index
+    (subst (λ at. BeginsAt c.put_onto.new.thread.kept.pairs at c.in-Some.index) c.address-at.ensures c.in-Some.ensures.there) c.drop_at.new.thread.kept
+    (subst (λ (s : Gstate). HasDroppedBehind c.put_onto.new.thread.kept (c.in-Some.index - 1) s c.drop_at.new.thread.kept) c.none.ensures c.in_ok-drop_at.ensures.is_dropped)
+    c.put_onto.ensures.device c.drop_at.ensures.device
+
+pub returns-in_default-clause-alters : goal.returns-in_default-clause-alters
+returns-in_default-clause-alters g c =
+    absurd (not_nowhere_later c.args.thread.now.kept c.args.old_pair c.args.old_id c.args.first c.args.new_pair c.args.new_id c.args.name.now c.args.gone c.requires.can c.put_onto.new.thread.kept c.in_ok-put_onto.ensures.moved
+    (subst (λ at. AllByRecursion (λ (z : Pair). same_pair z.at at ≡ false) c.put_onto.new.thread.kept.pairs) c.address-at.ensures c.in_default.ensures.nowhere))

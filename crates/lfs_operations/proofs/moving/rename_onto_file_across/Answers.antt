@@ -2,6 +2,10 @@ use Rattle.std.proofs.Common.{false, refl, Result, Ok, Err}
 use Rattle.std.specs.Prelude.{OnOk}
 use Rattle.lfs_device.specs.declared.error.Error.{Error}
 use Rattle.lfs_operations.specs.MovingOnto.{CanReplaceAcross, IsMovedOnto, IsReplacedAcross}
+use Rattle.lfs_thread.specs.Device.{four_of}
+use Rattle.lfs_thread.specs.Steps.{pair_in}
+use Rattle.lfs_operations.specs.Altering.{AltersBut}
+use Rattle.lfs_operations.proofs.AlteredLater.{altered_onto_file}
 use Rattle.lfs_operations.proofs.MovLater.{replaced_later}
 use Rattle.lfs_operations.proofs.MovReplace.{onto_file}
 use Rattle.lfs_operations.proofs.moving.rename_onto_file_across.Goals as goal
@@ -20,3 +24,11 @@ returns-clause-replaced g c = go c.put_onto.result c.put_onto.ensures.moved
 
 pub returns-clause-survives : goal.returns-clause-survives
 returns-clause-survives g c rename = c.put_onto.ensures.survives (onto_file rename)
+
+pub returns-clause-alters : goal.returns-clause-alters
+returns-clause-alters g c = go c.put_onto.result c.put_onto.ensures.moved
+  where
+    go : (r : Result (Unit {0}) Error) → OnOk r (IsMovedOnto c.args.thread.now.kept false c.args.old_pair c.args.old_id c.args.first c.args.new_pair c.args.new_id c.args.name.now c.put_onto.new.thread.kept)
+        → OnOk r (AltersBut c.args.thread.now.kept (four_of (pair_in c.args.thread.now.kept c.args.old_pair).at (pair_in c.args.thread.now.kept c.args.new_pair).at) c.put_onto.new.thread.kept)
+    go (Ok x) h = altered_onto_file false c.args.thread.now.kept h.from h.only c.args.old_pair c.args.old_id c.args.first c.args.new_pair c.args.new_id c.args.name.now (onto_file c.requires.can) h.address c.put_onto.new.thread.kept h.done refl c.put_onto.ensures.device
+    go (Err e) h = h

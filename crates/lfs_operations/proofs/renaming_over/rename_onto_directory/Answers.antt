@@ -7,6 +7,7 @@ use Rattle.lfs_thread.specs.Steps.{pair_in}
 use Rattle.lfs_operations.specs.Dropping.{CanDropAt, HasDroppedBehind, IsLeftByDrop}
 use Rattle.lfs_operations.specs.Renaming.{with_renamed}
 use Rattle.lfs_operations.specs.RenamingOver.{TellsOverSteps, rename_over_changes}
+use Rattle.lfs_operations.proofs.AlteredOnto.{altered_within}
 use Rattle.lfs_operations.proofs.OntoGone.{can_drop_replaced}
 use Rattle.lfs_operations.proofs.OntoTelling.{last_survives, over_from, over_then, writes_over}
 use Rattle.lfs_operations.proofs.OntoWithin.{left_within, renamed_onto_directory, replacing}
@@ -76,3 +77,16 @@ returns-clause-survives g c rename =
     (tree_in t.disk t.pairs) (with_renamed t rename.over.can.path rename.over.can.name c.args.name.now) c.rename_over.ensures.device c.drop_at.ensures.device (c.rename_over.ensures.survives rename.over)
     (left_within t c.args.pair c.args.id c.args.place c.args.name.now c.args.gone rename c.rename_over.new.thread.kept (c.in_ok-rename_over.ensures.renamed rename.over).changed)
     (subst (λ (s : Gstate). StopsLeave c.rename_over.new.thread.kept.history c.drop_at.new.thread.kept.history (IsLeftByDrop c.rename_over.new.thread.kept (c.args.gone - 1) s)) c.none.ensures c.drop_at.ensures.stops)
+
+pub returns-clause-alters : goal.returns-clause-alters
+returns-clause-alters g c =
+    let rename = c.requires.can in
+    let t = c.args.thread.now.kept in
+    let m = c.rename_over.new.thread.kept in
+    let from = rename.over.can.path ++ rename.over.can.name ∷ [] in
+    let to = rename.over.can.path ++ c.args.name.now ∷ [] in
+    let changed = (c.in_ok-rename_over.ensures.renamed rename.over).changed in
+    let k = replacing t c.args.pair c.args.id c.args.place c.args.name.now c.args.gone rename m changed in
+    altered_within t m from to rename.over.to c.args.gone c.args.gone (can_drop_replaced t m from to rename.over.to (pair_in t c.args.gone) c.args.gone k).above rename.below k c.drop_at.new.thread.kept
+    (subst (λ (s : Gstate). HasDroppedBehind m (c.args.gone - 1) s c.drop_at.new.thread.kept) c.none.ensures c.in_ok-drop_at.ensures.is_dropped) c.args.pair
+    (writes_over t m c.drop_at.new.thread.kept c.args.pair c.args.gone (rename_over_changes t c.args.pair c.args.id c.args.place c.args.name.now) changed c.rename_over.ensures.device c.drop_at.ensures.device)

@@ -4,6 +4,7 @@ use Rattle.lfs_model.specs.Slots.{Gstate}
 use Rattle.lfs_thread.specs.Device.{StopsLeave, four_of, two_of}
 use Rattle.lfs_thread.specs.Steps.{Writes, pair_in}
 use Rattle.lfs_operations.specs.Dropping.{CanDropAt, HasDroppedBehind, IsLeftByDrop}
+use Rattle.lfs_operations.proofs.AlteredDrops.{beside_alters}
 use Rattle.lfs_operations.proofs.Removed.{tells_again}
 use Rattle.lfs_operations.proofs.RmdirThread.{can_drop_gone, directory_removed}
 use Rattle.lfs_operations.proofs.UnlinkedSteps.{both_survive, first_survives, steps_from, steps_then, writes_first, writes_two, written_beside}
@@ -62,3 +63,8 @@ returns-clause-survives g c take = both_survive c.args.thread.now.kept c.args.pa
     (two_of (pair_in c.args.thread.now.kept c.args.pair).at) (two_of (pair_in c.unlink.new.thread.kept (c.args.gone - 1)).at)
     c.in_ok-unlink.ensures.is_unlinked c.unlink.ensures.device c.drop_at.ensures.device c.unlink.ensures.stops
     (subst (λ (s : Gstate). StopsLeave c.unlink.new.thread.kept.history c.drop_at.new.thread.kept.history (IsLeftByDrop c.unlink.new.thread.kept (c.args.gone - 1) s)) c.none.ensures c.drop_at.ensures.stops)
+
+pub returns-clause-alters : goal.returns-clause-alters
+returns-clause-alters g c =
+    beside_alters c.args.thread.now.kept c.args.pair c.args.id c.args.first c.args.gone c.requires.can c.requires.stays c.unlink.new.thread.kept c.in_ok-unlink.ensures.is_unlinked c.drop_at.new.thread.kept
+    (subst (λ (s : Gstate). HasDroppedBehind c.unlink.new.thread.kept (c.args.gone - 1) s c.drop_at.new.thread.kept) c.none.ensures c.in_ok-drop_at.ensures.is_dropped)

@@ -7,6 +7,7 @@ use Rattle.lfs_thread.specs.Kept.{Kept}
 use Rattle.lfs_thread.specs.Steps.{Writes, pair_in}
 use Rattle.lfs_operations.specs.Dropping.{CanDropAt, HasDroppedBehind, IsLeftByDrop}
 use Rattle.lfs_operations.specs.Unlinking.{number_without}
+use Rattle.lfs_operations.proofs.AlteredDrops.{whole_alters}
 use Rattle.lfs_operations.proofs.Removed.{tells_again}
 use Rattle.lfs_operations.proofs.RemovedWhole.{stands_whole}
 use Rattle.lfs_operations.proofs.UnlinkedWhole.{can_drop_entry, can_drop_then, whole_removed}
@@ -85,3 +86,9 @@ returns-clause-survives g c take = both_survive_whole c.args.thread.now.kept c.a
     (subst (λ (s : Gstate). StopsLeave c.args.thread.now.kept.history c.drop_at.new.thread.kept.history (IsLeftByDrop c.args.thread.now.kept (c.args.pair - 1) s)) c.sync_bit.ensures c.drop_at.ensures.stops)
     (subst (λ (i : ℕ). StopsLeave c.drop_at.new.thread.kept.history c.drop_at-2.new.thread.kept.history (IsLeftByDrop c.drop_at.new.thread.kept (i - 1) no_gstate)) c.renumbered.ensures
     (subst (λ (s : Gstate). StopsLeave c.drop_at.new.thread.kept.history c.drop_at-2.new.thread.kept.history (IsLeftByDrop c.drop_at.new.thread.kept (c.renumbered.result - 1) s)) c.none.ensures c.drop_at-2.ensures.stops))
+
+pub returns-clause-alters : goal.returns-clause-alters
+returns-clause-alters g c =
+    whole_alters c.args.thread.now.kept c.args.pair c.args.id c.args.first c.args.gone c.requires.can (stands_whole c.args.thread.now.kept c.args.pair c.args.id c.args.first c.requires.can.can c.requires.can.begins c.requires.goes) c.drop_at.new.thread.kept
+    (subst (λ (s : Gstate). HasDroppedBehind c.args.thread.now.kept (c.args.pair - 1) s c.drop_at.new.thread.kept) c.sync_bit.ensures c.in_ok-drop_at.ensures.is_dropped)
+    c.drop_at-2.new.thread.kept (then_dropped c.drop_at.new.thread.kept c.renumbered.result (number_without c.args.pair c.args.gone) (move_seen c.none.result) c.drop_at-2.new.thread.kept c.renumbered.ensures c.none.ensures c.in_ok-drop_at-2.ensures.is_dropped)

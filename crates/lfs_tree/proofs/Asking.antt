@@ -5,6 +5,7 @@ use Rattle.lfs_device.specs.declared.device.BlockDevice.{Ghosts}
 use Rattle.lfs_device.specs.declared.error.Error.{Error}
 use Rattle.lfs_device.specs.declared.error.Error.TheVariants.{Io}
 use Rattle.lfs_model.specs.BlockSets.{BlockSets}
+use Rattle.lfs_model.specs.Cache.{CachedBlocks}
 use Rattle.lfs_model.specs.Disk.{Disk}
 use Rattle.lfs_model.specs.History.{Event}
 use Rattle.lfs_model.specs.Thread.{Pair, superblocks_before}
@@ -14,35 +15,35 @@ use Rattle.lfs_model.specs.Tree.{Tree}
 use Rattle.lfs_model.specs.Shown.{tree_in}
 use Rattle.lfs_thread.specs.Kept.{Kept, State}
 use Rattle.lfs_tree.specs.Carrying.{Carries, Spares}
-use Rattle.lfs_tree.specs.Held.{IsHeld, IsRooted, seen_image, seen_kept}
+use Rattle.lfs_tree.specs.Held.{IsHeld, IsRooted, seen_image, seen_kept, seen_thread}
 use Rattle.lfs_tree.specs.declared.image.Image.{Image}
 use Rattle.lfs_tree.specs.declared.image.Image.TheVariants as image
 use Rattle.lfs_tree.specs.Reading.{IsReading}
-use Rattle.lfs_tree.specs.Seen.{Seen, IsAsked, IsBrokenAsking, IsCarried, IsError, tree_seen, LeavesRest}
+use Rattle.lfs_tree.specs.Seen.{Seen, bare, IsAsked, IsBrokenAsking, IsCarried, IsError, tree_seen, LeavesRest}
 use Rattle.lfs_tree.proofs.Mounting.{sound_read}
 use Rattle.lfs_tree.proofs.Reading.{same_error}
 
-abbrev see : Disk → List Event → List Pair → BlockSets → Bool → Bool → Seen
-see disk history pairs map writable failed = record { disk = disk; history = history; pairs = pairs; map = map; writable = writable; failed = failed }
+abbrev see : Disk → List Event → List Pair → BlockSets → Bool → Bool → CachedBlocks → Seen
+see disk history pairs map writable failed cache = record { disk = disk; history = history; pairs = pairs; map = map; writable = writable; failed = failed; cache = cache }
 
 module _ {X : Type 0} (a b : State) (root : ℕ) (writable failed : Bool) (works : failed ≡ false) (h : failed ≡ false → IsRooted a root writable) where
-  pub asked : (r : Result X Error) → IsReading a b r → OnOk r (IsAsked (seen_kept a.kept writable failed) (seen_kept b.kept writable (is_err r)))
+  pub asked : (r : Result X Error) → IsReading a b r → OnOk r (IsAsked (seen_thread a writable failed) (seen_thread b writable (is_err r)))
   asked (Err e) k = tt
   asked (Ok x) k = record {
-    same = ap (λ z. see z b.kept.history b.kept.pairs b.kept.map writable false) k.only.disk
-        ∙ ap (λ z. see a.kept.disk b.kept.history z b.kept.map writable false) k.only.pairs
-        ∙ ap (λ z. see a.kept.disk b.kept.history a.kept.pairs z writable false) k.only.map
-        ∙ ap (λ z. see a.kept.disk b.kept.history a.kept.pairs a.kept.map writable z) (sym works);
+    same = ap (λ z. see z b.kept.history b.kept.pairs b.kept.map writable false b.cache) k.only.disk
+        ∙ ap (λ z. see a.kept.disk b.kept.history z b.kept.map writable false b.cache) k.only.pairs
+        ∙ ap (λ z. see a.kept.disk b.kept.history a.kept.pairs z writable false b.cache) k.only.map
+        ∙ ap (λ z. see a.kept.disk b.kept.history a.kept.pairs a.kept.map writable z b.cache) (sym works);
     failed = λ e. absurd (let z = sym works ∙ e in cc);
     reads = k.only.reads;
     no_fault = k.told.no_fault (λ e. absurd (cc));
   }
 
-  pub broken : (r : Result X Error) → IsReading a b r → OnErr r (IsBrokenAsking (seen_kept a.kept writable failed) (seen_kept b.kept writable (is_err r)))
+  pub broken : (r : Result X Error) → IsReading a b r → OnErr r (IsBrokenAsking (seen_thread a writable failed) (seen_thread b writable (is_err r)))
   broken (Ok x) k = tt
   broken (Err e) k = record { failed = refl; disk = k.only.disk; reads = k.only.reads }
 
-  pub told : (r : Result X Error) → IsReading a b r → IfErr r (IsError (seen_kept a.kept writable failed) (seen_kept b.kept writable (is_err r)))
+  pub told : (r : Result X Error) → IsReading a b r → IfErr r (IsError (seen_thread a writable failed) (seen_thread b writable (is_err r)))
   told (Ok x) k = tt
   told (Err e) k = record {
     errors = k.told.errors;
@@ -58,7 +59,7 @@ module _ {X : Type 0} (a b : State) (root : ℕ) (writable failed : Bool) (works
 
 module _ {D : Type 0} (g : Ghosts D) (held : Image D) (thread : State) (root : ℕ) (writable failed : Bool) (now : Seen)
     (is : held ≡ image.Mounted thread) (kept : IsHeld held root writable failed) (view : seen_image g held writable failed ≡ now) where
-  pub seen_mounted : seen_kept thread.kept writable failed ≡ now
+  pub seen_mounted : seen_thread thread writable failed ≡ now
   seen_mounted = subst (λ i. seen_image g i writable failed ≡ now) is view
 
   pub works_mounted : now.failed ≡ false → failed ≡ false
@@ -68,8 +69,8 @@ module _ {D : Type 0} (g : Ghosts D) (held : Image D) (thread : State) (root : �
   rooted_mounted = subst (λ i. IsHeld i root writable failed) is kept
 
   -- what works and may be written, is seen so
-  pub seen_working : now.failed ≡ false → now.writable ≡ true → now ≡ seen_kept thread.kept true false
-  seen_working e w = sym seen_mounted ∙ ap₂ (λ a b. seen_kept thread.kept a b) (ap (λ (s : Seen). s.writable) seen_mounted ∙ w) (ap (λ (s : Seen). s.failed) seen_mounted ∙ e)
+  pub seen_working : now.failed ≡ false → now.writable ≡ true → bare now ≡ seen_kept thread.kept true false
+  seen_working e w = ap bare (sym seen_mounted) ∙ ap₂ (λ a b. seen_kept thread.kept a b) (ap (λ (s : Seen). s.writable) seen_mounted ∙ w) (ap (λ (s : Seen). s.failed) seen_mounted ∙ e)
 
   -- an operation of the thread is one of what is seen
   pub carried_working : now.failed ≡ false → now.writable ≡ true → (new : Kept) (op : Operation) → Carries thread.kept op new → IsCarried now op (seen_kept new writable failed)

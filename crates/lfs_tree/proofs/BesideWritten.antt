@@ -16,6 +16,7 @@ use Rattle.lfs_model.specs.View.{IsAccepted}
 use Rattle.lfs_model.specs.Profile.{IsWritable}
 use Rattle.lfs_model.specs.Shown.{tree_in, used_blocks}
 use Rattle.lfs_model.specs.Blocks.{Blocks}
+use Rattle.lfs_model.specs.Cache.{CachedBlocks}
 use Rattle.lfs_model.specs.PowerLoss.{IsLeft, Survives, with_blocks}
 use Rattle.lfs_model.proofs.Changes.{Follows}
 use Rattle.lfs_model.proofs.Histories.{LeavesOnly-weaker, LeavesOnly-worst}
@@ -23,7 +24,7 @@ use Rattle.lfs_writer.specs.Hand.{SparesUsed}
 use Rattle.lfs_model.proofs.Files.{HasSameFile, file_blocks_same}
 use Rattle.lfs_files.specs.Standing.{CanTruncate, CanWrite, Holds, LeavesPairsAndUsed, TellsWork, held_in}
 use Rattle.lfs_thread.specs.Kept.{Kept, State}
-use Rattle.lfs_tree.specs.Held.{IsRooted, seen_kept}
+use Rattle.lfs_tree.specs.Held.{IsRooted, seen_kept, seen_thread}
 use Rattle.lfs_tree.specs.OpenContents.{CanTruncateBeside, CanWriteBeside, IsOverFile, IsWrittenBeside, blocks_named, bytes_held, list_at}
 use Rattle.lfs_tree.specs.Seen.{IsBroken, IsError, IsSound}
 use Rattle.lfs_tree.proofs.BesideImage.{files_still, geometry_back, still_follows, used_still, writable_on}
@@ -111,7 +112,7 @@ module _ (a b : State) (root : ℕ) (writable failed : Bool) (works : failed ≡
   pub rooted_beside : IsRooted b root writable
   rooted_beside = record { works = still; sound = sound_beside a.kept b.kept writable leaves sound; root_is = (h works).root_is ∙ ap superblocks_before (sym leaves.pairs) }
 
-  pub written_beside : (r : Result Contents Error) → TellsWork a.kept b.kept r → OnOk r (IsWrittenBeside (seen_kept a.kept writable failed) (seen_kept b.kept writable (is_err r)))
+  pub written_beside : (r : Result Contents Error) → TellsWork a.kept b.kept r → OnOk r (IsWrittenBeside (seen_thread a writable failed) (seen_thread b writable (is_err r)))
   written_beside (Err e) t = tt
   written_beside (Ok c) t =
       let s = sound_beside a.kept b.kept writable leaves sound in
@@ -122,17 +123,18 @@ module _ (a b : State) (root : ℕ) (writable failed : Bool) (works : failed ≡
         pairs = leaves.pairs;
         shows = tree_beside a.kept b.kept leaves sound.accepted sound.used;
         around = around_is writable _ _ _ _ _ _ _ _ a.kept.pairs b.kept.pairs leaves.shape.block_size leaves.shape.page leaves.shape.count (used_blocks_beside a.kept b.kept leaves sound.accepted sound.used) leaves.pairs;
+        stay = used_same a.kept b.kept leaves sound.accepted sound.used;
         geometry = geometry_beside a.kept b.kept leaves;
         calls = leaves.at_worst.events;
         called = leaves.at_worst.extends;
         no_fault = t.no_fault (λ e. absurd (cc));
       }
 
-  pub broken_beside : (r : Result Contents Error) → OnErr r (IsBroken (seen_kept a.kept writable failed) (seen_kept b.kept writable (is_err r)))
+  pub broken_beside : (r : Result Contents Error) → OnErr r (IsBroken (seen_thread a writable failed) (seen_thread b writable (is_err r)))
   broken_beside (Ok c) = tt
   broken_beside (Err e) = record { failed = refl; geometry = geometry_beside a.kept b.kept leaves; calls = leaves.at_worst.events; called = leaves.at_worst.extends }
 
-  pub told_beside : (r : Result Contents Error) → TellsWork a.kept b.kept r → IfErr r (IsError (seen_kept a.kept writable failed) (seen_kept b.kept writable (is_err r)))
+  pub told_beside : (r : Result Contents Error) → TellsWork a.kept b.kept r → IfErr r (IsError (seen_thread a writable failed) (seen_thread b writable (is_err r)))
   told_beside (Ok c) t = tt
   told_beside (Err e) t = record {
     errors = t.errors;
@@ -166,7 +168,7 @@ module _ (t : Kept) (writable : Bool) (limit : ℕ) (sound : IsSound (seen_kept 
   room_is : (need : ℕ) → length (used_blocks t.disk t.pairs) + need ≤ block_count t.disk → used_count t.map + need ≤ length t.map
   room_is need room = let e = count_is (seen_kept t writable false) sound in let s = sound.size in omega arith
 
-  pub can_write : (failed : Bool) (contents : Contents) (place count : ℕ) → CanWriteBeside (seen_kept t writable failed) contents place count → CanWrite t contents limit place count
+  pub can_write : {cache : CachedBlocks} (failed : Bool) (contents : Contents) (place count : ℕ) → CanWriteBeside (record (seen_kept t writable failed) { cache = cache }) contents place count → CanWrite t contents limit place count
   can_write failed contents place count can = record {
     stands = can.stands;
     large = subst (λ (n : ℕ). IsLarge n (form_of contents)) (sym is) can.large;
@@ -176,7 +178,7 @@ module _ (t : Kept) (writable : Bool) (limit : ℕ) (sound : IsSound (seen_kept 
     room = λ past. room_is (write_room t.disk.block_size place count (form_of contents)) (can.room (subst (λ n. n < max (form_size (form_of contents)) (place + count)) is past));
   }
 
-  pub can_truncate : (failed : Bool) (contents : Contents) (size : ℕ) → CanTruncateBeside (seen_kept t writable failed) contents size → CanTruncate t contents limit size
+  pub can_truncate : {cache : CachedBlocks} (failed : Bool) (contents : Contents) (size : ℕ) → CanTruncateBeside (record (seen_kept t writable failed) { cache = cache }) contents size → CanTruncate t contents limit size
   can_truncate failed contents size can = record {
     stands = can.stands;
     large = subst (λ (n : ℕ). IsLarge n (form_of contents)) (sym is) can.large;

@@ -1,14 +1,14 @@
 -- A file or a directory that comes to a path.
-use Rattle.std.proofs.Common.{ℕ, ◌≡◌, ◌≢◌, ◌≤◌, ◌∙◌, ◌++◌, true, false, List, [], ◌∷◌, refl, sym, ap, subst, arith}
+use Rattle.std.proofs.Common.{ℕ, ◌≡◌, ◌≢◌, ◌≤◌, ◌∙◌, ◌++◌, inr, true, false, List, [], ◌∷◌, refl, sym, ap, subst, arith}
 use Rattle.std.specs.List.{list_all}
 use Rattle.std.proofs.lemmas.Bool.{ltb-false}
 use Rattle.std.proofs.lemmas.Option.{same_Some}
 use Rattle.lfs_device.specs.Bytes.{HasBytes}
-use Rattle.lfs_model.specs.Discipline.{LeavesAlone}
-use Rattle.lfs_model.specs.Session.{Files}
+use Rattle.lfs_model.specs.Discipline.{LeavesAlone, paths_of}
+use Rattle.lfs_model.specs.Session.{Files, Session}
 use Rattle.lfs_model.specs.Thread.{Pair}
 use Rattle.lfs_model.specs.TreeEdits.{added, last_name}
-use Rattle.lfs_model.specs.BlockSets.{BlockSets, IsInFlight}
+use Rattle.lfs_model.specs.BlockSets.{BlockSets, IsFree, IsInFlight}
 use Rattle.lfs_model.specs.BlockSets.BlockState.{Free, InFlight}
 use Rattle.lfs_model.specs.Disk.{entry_limit}
 use Rattle.lfs_model.specs.History.{Event, OnlyReads}
@@ -19,15 +19,16 @@ use Rattle.lfs_model.specs.Slots.{charge_of}
 use Rattle.lfs_model.specs.Refusals.{as_path}
 use Rattle.lfs_model.specs.Tree.{Path, Tree, DirectoryNode, FileNode}
 use Rattle.lfs_model.specs.Shown.{tree_in}
+use Rattle.lfs_model.proofs.Counts.{each_weaker}
 use Rattle.lfs_model.proofs.Paths.{last_is}
 use Rattle.lfs_operations.proofs.Held.{here}
 use Rattle.lfs_operations.specs.Changing.{WritesIn, Alters}
 use Rattle.lfs_operations.specs.Creating.{CanCreate, IsCreated, with_file}
-use Rattle.lfs_operations.specs.Making.{CanMake, IsMade, WritesUpTo, with_directory}
+use Rattle.lfs_operations.specs.Making.{AltersUpTo, CanMake, IsMade, WritesUpTo, with_directory}
 use Rattle.lfs_operations.specs.Ready.{IsReady, StayTaken}
 use Rattle.lfs_thread.specs.Kept.{Kept, State}
 use Rattle.lfs_thread.specs.Steps.{Writes, pair_in}
-use Rattle.lfs_tree.proofs.LeftAlone.{rest_left_alone}
+use Rattle.lfs_tree.proofs.LeftAlone.{IsConcernedOrFree, concerned_alone, concerned_pair, rest_left_alone}
 use Rattle.lfs_tree.specs.Allowed.{CanAdd}
 use Rattle.lfs_tree.specs.Carrying.{Carries, IsAtRest, IsPlaceFor, IsVacant, SurvivesTo}
 use Rattle.lfs_tree.specs.Held.{seen_kept}
@@ -155,6 +156,16 @@ module _ (t : State) (root : ℕ) (rests : IsAtRest t root) (path : Path) (compo
           writes = writes.writes;
         };
       }) refl refl
+
+  pub made_alone : (c : Kept) (op : Operation) (files : Files) → WritesUpTo (with_history t.kept h) spot.pair c → AltersUpTo (with_history t.kept h) spot.pair c
+      → LeavesAlone t.kept.disk t.kept.pairs (record { tree = tree_in t.kept.disk t.kept.pairs; files = files }) op c.disk c.pairs
+  made_alone c op files w alters =
+      let s : Session = record { tree = tree_in t.kept.disk t.kept.pairs; files = files } in
+      let old = with_history t.kept h in
+      let entry = concerned_pair old (paths_of s op) c.pairs spot.pair (behind_below t.kept.pairs place.first spot.pair place.belongs.pair _ place.belongs.place) (inr alters.entry) in
+      let end = concerned_pair old (paths_of s op) c.pairs w.last w.is_last.below (inr (alters.end w.last w.is_last)) in
+      concerned_alone old c s op _ rests.held.sound.accepted rests.held.sound.used
+      (entry.0, (entry.1, (end.0, (end.1, each_weaker (IsFree t.kept.map) (IsConcernedOrFree old (paths_of s op) c.pairs) (λ b f. inr f) w.fresh w.free)))) w.writes
 
   abbrev before : Tree
   before = tree_in t.kept.disk t.kept.pairs

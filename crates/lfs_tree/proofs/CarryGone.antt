@@ -1,6 +1,6 @@
 -- An entry that goes, at a path.
-use Rattle.std.proofs.Common.{ℕ, ◌≡◌, ◌≤◌, ◌-◌, ◌∙◌, ◌<◌, ◌++◌, Bool, cond, true, false, List, [], ◌∷◌, length, Some, None, ◌⊎◌, inl, inr, Result, Ok, Err, refl, sym, ap, subst, arith}
-use Rattle.std.specs.Prelude.{nat_lt, IfErr, is_err, Any, Contains}
+use Rattle.std.proofs.Common.{ℕ, ◌≡◌, ◌≤◌, ◌-◌, ◌∙◌, ◌++◌, true, false, List, [], ◌∷◌, length, Some, None, ◌⊎◌, inl, Result, Ok, Err, refl, sym, ap, subst, arith}
+use Rattle.std.specs.Prelude.{nat_lt, IfErr, is_err}
 use Rattle.std.specs.Option.{option_and_then}
 use Rattle.std.proofs.lemmas.Bool.{ltb-false}
 use Rattle.std.proofs.lemmas.List.{length-map}
@@ -10,8 +10,7 @@ use Rattle.lfs_device.specs.declared.error.Error.{Error}
 use Rattle.lfs_device.specs.declared.error.Error.TheVariants.{Io, NoMemory}
 use Rattle.lfs_files.specs.Settling.{IsReadBesideMap}
 use Rattle.lfs_files.specs.Standing.{TellsWork}
-use Rattle.lfs_model.specs.Discipline.{HoldsSlot, LeavesAlone}
-use Rattle.lfs_model.specs.TreeEdits.{names_of, removed, is_file}
+use Rattle.lfs_model.specs.TreeEdits.{names_of, removed}
 use Rattle.lfs_model.specs.Disk.{Disk}
 use Rattle.lfs_model.specs.History.{Event, OnlyReads}
 use Rattle.lfs_model.specs.Operations as ops
@@ -22,25 +21,21 @@ use Rattle.lfs_model.specs.Tree.{Path, branch_of}
 use Rattle.lfs_model.specs.Shown.{Leads, entries_in, tree_in, used_blocks}
 use Rattle.lfs_model.proofs.BlockSets.{Contains-count, count-Contains}
 use Rattle.lfs_model.proofs.Committed.{IsCompleted, no_move_from}
-use Rattle.lfs_operations.proofs.Held.{here}
-use Rattle.lfs_operations.specs.Changing.{Alters}
 use Rattle.lfs_operations.specs.Dropping.{SameInFlight}
 use Rattle.lfs_operations.specs.Ready.{IsReady, IsReadyBut}
-use Rattle.lfs_operations.specs.Removing.{CanRemove as CanRemoveFile, IsRemoved, TellsOfCalls, goes_whole, written_at}
+use Rattle.lfs_operations.specs.Removing.{IsRemoved, TellsOfCalls, written_at}
 use Rattle.lfs_operations.specs.Unlinking.{CanRemoveDirectory, IsDirectoryRemoved, TellsOfSteps}
-use Rattle.lfs_thread.specs.Device.{four_of, two_of}
+use Rattle.lfs_thread.specs.Device.{four_of}
 use Rattle.lfs_thread.specs.Kept.{Kept, State}
 use Rattle.lfs_thread.specs.Steps.{Writes, pair_in}
 use Rattle.lfs_operations.specs.MovingSteps.{WritesAmong}
-use Rattle.lfs_tree.proofs.LeftAlone.{about_one, concerned_alone, first_owned, holds_slot, pair_there, second_owned}
 use Rattle.lfs_tree.specs.Allowed.{CanRemove}
 use Rattle.lfs_tree.specs.Carrying.{Carries, IsAtRest, SurvivesTo}
 use Rattle.lfs_tree.specs.CarryingSlots.{HasEntry, IsSlotFor, has_slot}
 use Rattle.lfs_tree.specs.Entry.{ShowsContents}
-use Rattle.lfs_tree.specs.Going.{CanGo, HasGone, HasSpared, IsEntryOn}
+use Rattle.lfs_tree.specs.Going.{CanGo, HasGone, IsEntryOn}
 use Rattle.lfs_tree.specs.Held.{seen_kept}
 use Rattle.lfs_tree.specs.Paths.{LeadsTo, StandsOnPath}
-use Rattle.lfs_tree.specs.Storing.{is_file_found}
 use Rattle.lfs_tree.specs.declared.entry.Contents.{Contents}
 use Rattle.lfs_tree.specs.declared.entry.Contents.TheVariants as contents
 use Rattle.lfs_tree.specs.declared.paths.Found.{Found}
@@ -49,7 +44,7 @@ use Rattle.lfs_tree.specs.declared.search.Spot.{Spot}
 use Rattle.lfs_tree.proofs.AtPaths.{directory_at_path}
 use Rattle.lfs_tree.proofs.Carried.{among_one, behind_below, carried, with_history}
 use Rattle.lfs_tree.proofs.CarryEdited.{can_edit, slot_found}
-use Rattle.lfs_tree.proofs.CarryFreed.{shape_geometry, writes_then, written_pairs}
+use Rattle.lfs_tree.proofs.CarryFreed.{shape_geometry, written_pairs}
 use Rattle.lfs_tree.proofs.CarrySurvives.{survives_left}
 use Rattle.lfs_tree.proofs.CarryTold.{IsTold}
 use Rattle.lfs_tree.proofs.Directories.{within}
@@ -168,45 +163,6 @@ file_gone old mid new path above name struct e is only ready flying = record {
   completed = λ s given tree given_is. subst (λ (d : Disk). IsCompleted old.disk old.pairs s (ops.Remove given) d new.pairs) (sym only.disk)
       (subst (λ (ps : List Pair). IsCompleted old.disk old.pairs s (ops.Remove given) mid.disk ps) (sym only.pairs) (is.completed s given tree (given_is ∙ e)));
 }
-
--- a file's pair holds its slot, or goes with it: then the one in front of it doesn't stay as it was
-pub file_spares : (old mid new : Kept) (path : Path) (pair id first : ℕ) (take : CanRemoveFile old pair id first) → path ≡ take.can.path ++ take.can.name ∷ [] → (goes_whole old pair first ≡ true → Alters old (pair - 1) mid)
-    → Writes (two_of (written_at old pair first)) old mid → IsReadBesideMap mid new → HasSpared old path new
-file_spares old mid new path pair id first take is alters w only s given e = go (goes_whole old pair first) refl
-  where
-    below : pair < length old.pairs
-    below = behind_below old.pairs take.can.first pair take.can.stands.pair take.can.stands.rest take.can.stands.place
-
-    later : Writes (two_of (written_at old pair first)) old new
-    later = writes_then old mid new (two_of (written_at old pair first)) w only
-
-    concerned : (index : ℕ) → index < length old.pairs → Any (HoldsSlot old.pairs (pair_in old index)) (as_path given ∷ []) ⊎ (Contains new.pairs (pair_in old index) → ⊥) → Writes (two_of (pair_in old index).at) old new
-        → LeavesAlone old.disk old.pairs s (ops.Remove given) new.disk new.pairs
-    concerned index low why writes =
-        let p = pair_in old index in
-        let there = pair_there old.pairs index low in
-        concerned_alone old new s (ops.Remove given) (two_of p.at) take.can.ready.accepted take.can.ready.used
-        (inl (record { pair = p; there = there; own = first_owned p; why = why }), (inl (record { pair = p; there = there; own = second_owned p; why = why }), tt)) writes
-
-    go : (b : Bool) → goes_whole old pair first ≡ b → LeavesAlone old.disk old.pairs s (ops.Remove given) new.disk new.pairs
-    go true whole = concerned (pair - 1) (omega (arith, below)) (inr (subst (λ (ps : List Pair). Contains ps (pair_in old (pair - 1)) → ⊥) (sym only.pairs) (alters whole)))
-        (subst (λ b. Writes (two_of (cond b (pair_in old (pair - 1)).at (pair_in old pair).at)) old new) whole later)
-    go false whole = concerned pair below
-        (inl (subst (λ (z : Pair). Any (HoldsSlot old.pairs z) (as_path given ∷ [])) (sym (here old take.can.ready take.can.first pair take.can.stands.pair take.can.stands.rest take.can.stands.place))
-        (about_one (HoldsSlot old.pairs take.can.stands.pair) (as_path given) (take.can.path ++ take.can.name ∷ []) (e ∙ is)
-        (holds_slot old.pairs take.can.path take.can.at take.can.first take.can.name pair id take.can.ready.accepted.thread.distinct take.can.leads take.can.begins take.can.stands))))
-        (subst (λ b. Writes (two_of (cond b (pair_in old (pair - 1)).at (pair_in old pair).at)) old new) whole later)
-
--- what is found at a file's path
-pub file_entry : (t : Kept) (path : Path) (f : Found) → IsEntryOn t.pairs path f → is_file (tree_in t.disk t.pairs path) ≡ true → is_file_found f ≡ true
-file_entry t path found.Root on file = absurd (let e = on.has in cc)
-file_entry t path found.ParentIsFile on file = absurd (let e = on.has in cc)
-file_entry t path found.ParentIsMissing on file = absurd (let e = on.has in cc)
-file_entry t path (found.Nothing parent place) on file = absurd (let e = on.has in cc)
-file_entry t path (found.Directory parent slot first) on file =
-    let there = on.ends.there.1 in
-    let k = sym file ∙ ap (λ p. is_file (tree_in t.disk t.pairs p)) on.ends.is ∙ ap is_file (directory_at_path t.disk t.pairs (on.ends.above ++ on.ends.name ∷ []) there.at there.leads).is in absurd (cc)
-file_entry t path (found.File parent slot contents) on file = refl
 
 pub directory_writes : (old new : Kept) (pair id first gone : ℕ) → CanRemoveDirectory old pair id first gone → Writes (four_of (written_at old pair first) (pair_in old (gone - 1)).at) old new → WritesAmong old new
 directory_writes old new pair id first gone take w = record {

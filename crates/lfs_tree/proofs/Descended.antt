@@ -47,7 +47,7 @@ take_drop zero xs = refl
 take_drop (suc i) [] = refl
 take_drop (suc i) (x ∷ xs) = ap (λ z. x ∷ z) (take_drop i xs)
 
-take_whole : (i : ℕ) (xs : Path) → length xs ≤ i → take i xs ≡ xs
+pub take_whole : (i : ℕ) (xs : Path) → length xs ≤ i → take i xs ≡ xs
 take_whole zero [] l = refl
 take_whole zero (x ∷ xs) l = absurd (omega arith)
 take_whole (suc i) [] l = refl

@@ -6,6 +6,7 @@ use Rattle.std.proofs.lemmas.Bool.{lt-ltb}
 use Rattle.std.proofs.lemmas.List.{map-append}
 use Rattle.std.proofs.Math.Seq.{drop-append_seam}
 use Rattle.std.proofs.lemmas.Option.{same_Some, slice_get_within}
+use Rattle.lfs_model.specs.Discipline.{pairs_at}
 use Rattle.lfs_model.specs.Disk.{Disk}
 use Rattle.lfs_model.specs.Slots.{Gstate, same_pair}
 use Rattle.lfs_model.specs.Thread.{Pair, blocks_of, directories_of, directory_pairs, entries_of, gstate_of, is_hard, superblocks_before, visible}
@@ -16,7 +17,7 @@ use Rattle.lfs_model.specs.InDirectory.{BeginsAt, run_length}
 use Rattle.lfs_model.proofs.Counts.{Each}
 use Rattle.lfs_model.proofs.Pairs.{pair_back, pair_on}
 use Rattle.lfs_model.proofs.Listings.{Apart, IsRun, distinct_apart, distinct_right, entries_own, listing, run_directories}
-use Rattle.lfs_model.proofs.Searches.{same_number}
+use Rattle.lfs_model.proofs.Searches.{directory_pairs_at, same_number}
 use Rattle.lfs_model.proofs.Found.{HasDirectory, chain_of_thread, led_directory}
 use Rattle.lfs_tree.specs.AtPath.{has_entries_from}
 use Rattle.lfs_tree.specs.Items.{Shape, shape_of}
@@ -31,6 +32,26 @@ run_on (p ∷ ps) zero d l = refl
 run_on (p ∷ ps) (suc index) d l =
     let e : suc index + 1 ≡ suc (index + 1) = omega arith in
     run_on ps index d (omega arith) ∙ ap (λ n. get_or ps index d ∷ cond (is_hard (get_or ps index d).content.tail) (joined_run (drop n (p ∷ ps))) []) (sym e)
+
+-- where it has a hard tail, the next ones follow
+pub run_hard_on : (ps : List Pair) (index next : ℕ) (d : Pair) → index < length ps → is_hard (get_or ps index d).content.tail ≡ true → next ≡ index + 1 →
+    joined_run (drop index ps) ≡ get_or ps index d ∷ joined_run (drop next ps)
+run_hard_on ps index next d l hard e =
+    run_on ps index d l ∙ ap (λ b. get_or ps index d ∷ cond b (joined_run (drop (index + 1) ps)) []) hard ∙ ap (λ (n : ℕ). get_or ps index d ∷ joined_run (drop n ps)) (sym e)
+
+pub run_some_on : (ps : List Pair) (index : ℕ) (d : Pair) → index < length ps → 1 ≤ length (joined_run (drop index ps))
+run_some_on ps index d l = let e = ap length (run_on ps index d l) in omega (arith, e)
+
+-- the one of that number, and those that follow; qs are the pairs at hand then
+pub run_next : (ps qs : List Pair) (index : ℕ) (d : Pair) (from next : Option ℕ) → qs ≡ ps → from ≡ Some index → index < length ps → next ≡ cond (is_hard (get_or qs index d).content.tail) (Some (index + 1)) None →
+    run_from ps from ≡ get_or qs index d ∷ run_from ps next
+run_next ps qs index d from next same at l e =
+    ap (run_from ps) at ∙ run_on ps index d l ∙ ap (λ p. p ∷ cond (is_hard p.content.tail) (joined_run (drop (index + 1) ps)) []) (sym (ap (λ rs. get_or rs index d) same))
+    ∙ ap (λ run. get_or qs index d ∷ run) (go (is_hard (get_or qs index d).content.tail) ∙ ap (run_from ps) (sym e))
+  where
+    go : (b : Bool) → cond b (joined_run (drop (index + 1) ps)) [] ≡ run_from ps (cond b (Some (index + 1)) None)
+    go true = refl
+    go false = refl
 
 -- what the pairs from a number on show is what the pair of that number shows, and what those show that follow
 pub shapes_on : (ps : List Pair) (index : ℕ) (d : Pair) (next : Option ℕ) → index < length ps → next ≡ cond (is_hard (get_or ps index d).content.tail) (Some (index + 1)) None →
@@ -142,27 +163,36 @@ begins_with disk ps P a ok leads =
       },
     )
 
+-- the pairs from a number on are those of the directory that begins there
+module _ (disk : Disk) (ps : List Pair) (P : Path) (a : ℕ × ℕ) (n : ℕ) (ok : IsAccepted disk ps) (leads : Leads ps P a) (b : BeginsAt ps a n) where
+  abbrev cut_here : IsCutAt ps a
+  cut_here = cut_at disk ps P a ok leads
+
+  run_here : joined_run (drop n ps) ≡ cut_here.directory.first ∷ cut_here.directory.run
+  run_here =
+      let c = cut_at disk ps P a ok leads in
+      let d = c.directory in
+      let number = same_number ps (length (c.chain ++ d.before)) n d.first b.pair ok.thread.distinct
+      (ap (λ z. slice_get z (length (c.chain ++ d.before))) c.is ∙ get_first (c.chain ++ d.before) d.first (d.run ++ d.after)) b.there (pair_on d.first.at a b.pair.at d.at (pair_back b.pair.at a b.same)) in
+      ap₂ (λ k z. joined_run (drop k z)) (sym number) c.is ∙ ap joined_run (drop-append_seam (c.chain ++ d.before) (d.first ∷ d.run ++ d.after)) ∙ run_is d.first d.run d.after d.is_run
+
+  pub own_pairs : joined_run (drop n ps) ≡ pairs_at ps a
+  own_pairs = run_here ∙ sym (directory_pairs_at disk ps P a ok leads cut_here.directory)
+
 pub own_run : (disk : Disk) (ps : List Pair) (P : Path) (a : ℕ × ℕ) (n : ℕ) → IsAccepted disk ps → Leads ps P a → BeginsAt ps a n →
     flat_map (visible (gstate_of ps)) (joined_run (drop n ps)) ≡ entries_in ps a
 own_run disk ps P a n ok leads b =
-    ap (flat_map (visible g)) run_here
+    ap (flat_map (visible g)) (run_here disk ps P a n ok leads b)
     ∙ sym (ap (λ ds. entries_of ds a) directories_are ∙ entries_own (directories_of g d.before) (listing d.first.at (flat_map (visible g) (d.first ∷ d.run))) (directories_of g d.after) a apart d.at)
   where
     g : Gstate
     g = gstate_of ps
 
     c : IsCutAt ps a
-    c = cut_at disk ps P a ok leads
+    c = cut_here disk ps P a n ok leads b
 
     d : HasDirectory (directory_pairs ps) a
     d = c.directory
-
-    number : length (c.chain ++ d.before) ≡ n
-    number = same_number ps (length (c.chain ++ d.before)) n d.first b.pair ok.thread.distinct
-        (ap (λ z. slice_get z (length (c.chain ++ d.before))) c.is ∙ get_first (c.chain ++ d.before) d.first (d.run ++ d.after)) b.there (pair_on d.first.at a b.pair.at d.at (pair_back b.pair.at a b.same))
-
-    run_here : joined_run (drop n ps) ≡ d.first ∷ d.run
-    run_here = ap₂ (λ k z. joined_run (drop k z)) (sym number) c.is ∙ ap joined_run (drop-append_seam (c.chain ++ d.before) (d.first ∷ d.run ++ d.after)) ∙ run_is d.first d.run d.after d.is_run
 
     directories_are : directories_of g (directory_pairs ps) ≡ directories_of g d.before ++ listing d.first.at (flat_map (visible g) (d.first ∷ d.run)) ∷ directories_of g d.after
     directories_are = ap (directories_of g) d.is ∙ run_directories g d.before d.first d.run d.after d.ends d.is_run

@@ -24,9 +24,10 @@ use Rattle.lfs_model.proofs.Counts.{Each, count, count_append, count_here, each_
 use Rattle.lfs_model.proofs.Paths.{last_is, parent_is, same_itself}
 use Rattle.lfs_model.proofs.Searches.{avoids_front}
 use Rattle.lfs_model.proofs.Sites.{Among, among_right, any_from}
+use Rattle.lfs_operations.proofs.AlteredBehind.{owner_counted, same_owner}
 use Rattle.lfs_operations.proofs.Splicing.{not_used}
 use Rattle.lfs_thread.specs.Kept.{Kept}
-use Rattle.lfs_thread.specs.Steps.{Writes, no_pair}
+use Rattle.lfs_thread.specs.Steps.{Writes, no_pair, pair_in}
 use Rattle.lfs_tree.proofs.Carried.{IsPairsOrFree, apart_files, lists_from}
 use Rattle.lfs_tree.specs.Storing.{ChangesPairOf}
 
@@ -115,21 +116,6 @@ among_contained p [] (k, l, e) = absurd (omega arith)
 among_contained p (x ∷ xs) (zero, l, e) = inl e
 among_contained p (x ∷ xs) (suc k, l, e) = inr (among_contained p xs (k, omega arith, e))
 
-owner_counted : (b : ℕ) (y : Pair) (zs : List Pair) → Among (λ z. z ≡ y) zs → 1 ≤ count b (own_blocks y) → 1 ≤ count b (blocks_of zs)
-owner_counted b y [] h some = absurd h
-owner_counted b y (z ∷ zs) (inl e) some = let k = ap (λ (x : Pair). count b (own_blocks x)) e in let c = count_append b (own_blocks z) (blocks_of zs) in omega arith
-owner_counted b y (z ∷ zs) (inr h) some = let k = owner_counted b y zs h some in let c = count_append b (own_blocks z) (blocks_of zs) in omega arith
-
--- no two pairs share a block
-same_owner : (b : ℕ) (zs : List Pair) (x y : Pair) → count b (blocks_of zs) ≤ 1 → Among (λ z. z ≡ x) zs → Among (λ z. z ≡ y) zs → 1 ≤ count b (own_blocks x) → 1 ≤ count b (own_blocks y) → x ≡ y
-same_owner b [] x y once h k some more = absurd h
-same_owner b (z ∷ zs) x y once (inl e) (inl f) some more = sym e ∙ f
-same_owner b (z ∷ zs) x y once (inl e) (inr k) some more =
-    let c = count_append b (own_blocks z) (blocks_of zs) in let m = ap (λ (w : Pair). count b (own_blocks w)) e in let o = owner_counted b y zs k more in absurd (omega arith)
-same_owner b (z ∷ zs) x y once (inr h) (inl f) some more =
-    let c = count_append b (own_blocks z) (blocks_of zs) in let m = ap (λ (w : Pair). count b (own_blocks w)) f in let o = owner_counted b x zs h some in absurd (omega arith)
-same_owner b (z ∷ zs) x y once (inr h) (inr k) some more = same_owner b zs x y (let c = count_append b (own_blocks z) (blocks_of zs) in omega arith) h k some more
-
 pub first_owned : (p : Pair) → 1 ≤ count p.at.0 (own_blocks p)
 first_owned p = let k = count_here p.at.0 (p.at.1 ∷ []) in omega arith
 
@@ -180,6 +166,14 @@ pub record IsConcerned (ps : List Pair) (paths : List Path) (qs : List Pair) (b 
 
 abbrev pub IsConcernedOrFree : Kept → List Path → List Pair → ℕ → Type 0
 IsConcernedOrFree t paths qs b = IsConcerned t.pairs paths qs b ⊎ IsFree t.map b
+
+-- both blocks of such a pair
+pub concerned_pair : (t : Kept) (paths : List Path) (qs : List Pair) (index : ℕ) → index < length t.pairs → Any (HoldsSlot t.pairs (pair_in t index)) paths ⊎ (Contains qs (pair_in t index) → ⊥)
+    → IsConcernedOrFree t paths qs (pair_in t index).at.0 × IsConcernedOrFree t paths qs (pair_in t index).at.1
+concerned_pair t paths qs index low why =
+    let p = pair_in t index in
+    let there = pair_there t.pairs index low in
+    (inl (record { pair = p; there = there; own = first_owned p; why = why }), inl (record { pair = p; there = there; own = second_owned p; why = why }))
 
 concerned_pairs : (t : Kept) (paths : List Path) (qs : List Pair) (b : ℕ) → IsConcernedOrFree t paths qs b → IsPairsOrFree t b
 concerned_pairs t paths qs b (inl k) = inl (Contains-count (blocks_of t.pairs) b (owner_counted b k.pair t.pairs (among_contained k.pair t.pairs k.there) k.own))

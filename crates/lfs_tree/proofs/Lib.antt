@@ -1,11 +1,13 @@
 pub mod NamedSlots
 pub mod Walked
 pub mod ReadOnly
+pub mod RecentBlocks
 pub mod ShownAlong
 pub mod ShownSlots
 pub mod HiddenSlots
 pub mod Entered
 pub mod Descended
+pub mod BroughtDown
 pub mod ItemsShown
 pub mod Reading
 pub mod Directories
@@ -31,6 +33,7 @@ pub mod CarryCreated
 pub mod CarryEdited
 pub mod SameDirectory
 pub mod Shifted
+pub mod ShiftedAlone
 pub mod ShiftedSlots
 pub mod ShiftedPlaces
 pub mod ShiftedFiles
@@ -49,12 +52,14 @@ pub mod AttributeAtSlots
 pub mod EmptyDirectories
 pub mod CarryFreed
 pub mod CarryGone
+pub mod CarrySpared
 pub mod AttributesPut
 pub mod SlotsHave
 pub mod KeptFiles
 pub mod BesideImage
 pub mod BesideWritten
 pub mod OpenedFiles
+pub mod PairAddresses
 pub mod PutContents
 pub mod CommitContents
 pub mod SettledContents

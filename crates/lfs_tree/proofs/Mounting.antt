@@ -20,7 +20,7 @@ use Rattle.lfs_thread.specs.Device.{GivesBack}
 use Rattle.lfs_thread.specs.Kept.{Kept, State, disk_on}
 use Rattle.lfs_thread.specs.Steps.{IsOnlyRead}
 use Rattle.lfs_tree.specs.Formatting.{IsFormatted, ShowsEmptyRoot}
-use Rattle.lfs_tree.specs.Held.{IsRooted, seen_kept}
+use Rattle.lfs_tree.specs.Held.{IsRooted, seen_kept, seen_thread}
 use Rattle.lfs_tree.specs.Reading.{IsReading}
 use Rattle.lfs_tree.specs.Seen.{IsMountedTree, IsSound}
 use Rattle.lfs_tree.proofs.Reading.{HasRead, same_error}
@@ -54,7 +54,7 @@ module _ (disk : Disk) (history : List Event) (a b : State) (root : ℕ) (writab
   pub mounted_rooted : IsRooted b root writable
   mounted_rooted = record { works = r.works; sound = sound_now; root_is = is ∙ ap superblocks_before (sym r.only.pairs) }
 
-  pub mounted_tree : reads history < reads a.kept.history → IsMountedTree disk history (seen_kept b.kept writable false)
+  pub mounted_tree : reads history < reads a.kept.history → IsMountedTree disk history (seen_thread b writable false)
   mounted_tree called = record {
     works = refl;
     disk_is = r.only.disk ∙ m.disk_is;

@@ -18,6 +18,9 @@ pub record HasRead (old new : State) : Type 0 where
 pub answered : {X : Type 0} (a b : State) (r : Result X Error) (x : X) → r ≡ Ok x → IsReading a b r → HasRead a b
 answered a b r x e h = record { only = h.only; works = h.works; same = h.told.no_fault (λ k. let z = sym e ∙ k in absurd (cc)) }
 
+pub has_read_nothing : (a : State) → a.failed ≡ false → HasRead a a
+has_read_nothing a works = record { only = only_itself a.kept; works = works; same = refl }
+
 pub both : (a b c : State) → HasRead a b → HasRead b c → HasRead a c
 both a b c r s = record { only = only_read a.kept b.kept c.kept r.only s.only; works = s.works; same = s.same ∙ r.same }
 

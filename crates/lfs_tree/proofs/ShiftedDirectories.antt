@@ -8,12 +8,13 @@ use Rattle.lfs_model.specs.Names.{Name}
 use Rattle.lfs_model.specs.Slots.{Branch}
 use Rattle.lfs_model.specs.Tree.{Path}
 use Rattle.lfs_model.specs.Shown.{tree_in}
+use Rattle.lfs_operations.specs.Altering.{AltersBut}
 use Rattle.lfs_operations.specs.MovingSteps.{WritesAmong}
 use Rattle.lfs_operations.specs.MovingAcross.{IsRenamedAcross, with_moved}
 use Rattle.lfs_operations.specs.MovingOnto.{CanReplaceDirectory}
 use Rattle.lfs_operations.specs.Renaming.{with_renamed}
 use Rattle.lfs_operations.specs.RenamingOver.{CanRenameOntoDirectory, IsRenamedOntoDirectory, TellsOverSteps}
-use Rattle.lfs_thread.specs.Device.{four_of}
+use Rattle.lfs_thread.specs.Device.{four_of, two_of}
 use Rattle.lfs_thread.specs.Kept.{Kept, State}
 use Rattle.lfs_thread.specs.Steps.{IsOnlyRead, Writes, pair_in}
 use Rattle.lfs_tree.specs.Carrying.{SurvivesTo}
@@ -21,6 +22,7 @@ use Rattle.lfs_tree.specs.Shifting.{CanShift, CanShiftOver, HasShifted, TellsOfW
 use Rattle.lfs_tree.specs.declared.carrying_rename.Source.{Source}
 use Rattle.lfs_tree.specs.declared.search.Spot.{Spot}
 use Rattle.lfs_tree.proofs.Carried.{among_two, behind_below}
+use Rattle.lfs_tree.proofs.ShiftedAlone.{spares_one, spares_two}
 use Rattle.lfs_tree.proofs.ShiftedPlaces.{one_place, other_name, target_path}
 use Rattle.lfs_tree.proofs.ShiftedSlots.{none_gone, survives_at}
 
@@ -64,15 +66,16 @@ module _ (t : Kept) (from to : Path) (source : Source) (slot : Spot) (gone : ℕ
   unfolding over_within
   over_survives_within new e gives = survives_at t new from to _ _ shift.old_is (path_here e) (gives (over_within e))
 
-  pub over_done_within : (new : Kept) → source.slot.pair ≡ slot.pair
+  pub over_done_within : (new : Kept) → source.slot.pair ≡ slot.pair → AltersBut t (two_of (pair_in t source.slot.pair).at) new
       → ((rename : CanRenameOntoDirectory t source.slot.pair source.slot.id slot.id name gone) → IsRenamedOntoDirectory t new rename.over.can.path rename.over.can.name name) → HasShifted t from to new
   unfolding over_within
-  over_done_within new e gives =
+  over_done_within new e alters gives =
       let is : IsRenamedOntoDirectory t new shift.old.path shift.old.name name = gives (over_within e) in
       record {
         ready = none_gone new is.now.ready;
         flying = is.now.flying;
         completed = λ s given to_given tree f k. is.completed s given to_given tree (f ∙ shift.old_is) (k ∙ path_here e);
+        alone = spares_one t new from to source name shift alters;
       }
 
   pub over_writes_within : (new : Kept) → Writes (four_of (pair_in t source.slot.pair).at (pair_in t (gone - 1)).at) t new → WritesAmong t new
@@ -111,15 +114,16 @@ module _ (t : Kept) (from to : Path) (source : Source) (slot : Spot) (gone : ℕ
   unfolding over_apart
   over_survives_apart new ne gives = survives_at t new from to _ _ shift.old_is shift.is (gives (over_apart ne))
 
-  pub over_done_apart : (new : Kept) → source.slot.pair ≢ slot.pair
+  pub over_done_apart : (new : Kept) → source.slot.pair ≢ slot.pair → AltersBut t (four_of (pair_in t source.slot.pair).at (pair_in t slot.pair).at) new
       → ((rename : CanReplaceDirectory t source.slot.pair source.slot.id source.first slot.pair slot.id name gone) → IsRenamedAcross t new rename.old.path rename.old.name rename.path name) → HasShifted t from to new
   unfolding over_apart
-  over_done_apart new ne gives =
+  over_done_apart new ne alters gives =
       let is : IsRenamedAcross t new shift.old.path shift.old.name shift.above name = gives (over_apart ne) in
       record {
         ready = none_gone new is.now.ready;
         flying = is.now.flying;
         completed = λ s given to_given tree f k. is.completed s given to_given tree (f ∙ shift.old_is) (k ∙ shift.is);
+        alone = spares_two t new from to source name shift slot can.target alters;
       }
 
 -- ---- what is told

@@ -5,6 +5,7 @@ use Rattle.lfs_device.specs.declared.error.Error.{Error}
 use Rattle.lfs_device.specs.declared.error.Error.TheVariants.{Io, NoMemory}
 use Rattle.lfs_files.specs.Settling.{IsReadBesideMap}
 use Rattle.lfs_files.specs.Standing.{TellsWork}
+use Rattle.lfs_model.specs.Discipline.{LeavesAlone}
 use Rattle.lfs_model.specs.TreeEdits.{renamed, rest_after}
 use Rattle.lfs_model.specs.InDirectory.{Stands}
 use Rattle.lfs_model.specs.Names.{Name}
@@ -13,6 +14,7 @@ use Rattle.lfs_model.specs.Slots.{Struct}
 use Rattle.lfs_model.specs.Tree.{Path, branch_of}
 use Rattle.lfs_model.specs.Shown.{tree_in}
 use Rattle.lfs_model.proofs.Committed.{IsCompleted}
+use Rattle.lfs_operations.specs.Altering.{AltersBut}
 use Rattle.lfs_operations.specs.Changing.{WritesIn}
 use Rattle.lfs_operations.specs.Dropping.{SameInFlight}
 use Rattle.lfs_operations.specs.Editing.{CanEdit}
@@ -21,7 +23,9 @@ use Rattle.lfs_operations.specs.MovingAcross.{with_moved}
 use Rattle.lfs_operations.specs.MovingOnto.{CanReplaceAcross, IsReplacedAcross}
 use Rattle.lfs_operations.specs.Ready.{IsReady}
 use Rattle.lfs_operations.specs.Renaming.{CanRenameOnto, IsRenamedOnto, with_renamed}
+use Rattle.lfs_thread.specs.Device.{four_of}
 use Rattle.lfs_thread.specs.Kept.{Kept, State}
+use Rattle.lfs_thread.specs.Steps.{pair_in}
 use Rattle.lfs_tree.specs.Carrying.{SurvivesTo}
 use Rattle.lfs_tree.specs.Entry.{ShowsContents}
 use Rattle.lfs_tree.specs.Shifting.{CanShift, CanShiftOnto, HasShifted, HasShiftedOnto, TellsOfWork}
@@ -33,6 +37,7 @@ use Rattle.lfs_tree.proofs.Carried.{behind_below}
 use Rattle.lfs_tree.proofs.CarryCreated.{stay_in_flight}
 use Rattle.lfs_tree.proofs.CarryFreed.{can_free, shape_geometry, writes_then}
 use Rattle.lfs_tree.proofs.CarrySurvives.{survives_left}
+use Rattle.lfs_tree.proofs.ShiftedAlone.{spares_two, spares_within}
 use Rattle.lfs_tree.proofs.ShiftedPlaces.{one_place, other_name, target_path}
 use Rattle.lfs_tree.proofs.ShiftedSlots.{across_written, apart_across, file_beside, shows_at, survives_at, within_written}
 
@@ -112,6 +117,7 @@ module _ (t : Kept) (from to : Path) (source : Source) (slot : Spot) (contents :
         shows = shows_at t new from to _ _ shift.old_is (path_here e) is.now.shows;
         flying = λ b. (is.now.none_comes b, stay_in_flight t.map new.map is.now.stays b);
         completed = λ s given to_given tree f k. is.completed s given to_given tree (f ∙ shift.old_is) (k ∙ path_here e);
+        alone = spares_within t new from to source name shift w;
       }
 
   -- ---- in another pair
@@ -141,10 +147,10 @@ module _ (t : Kept) (from to : Path) (source : Source) (slot : Spot) (contents :
   below_target : slot.pair < length t.pairs
   below_target = behind_below t.pairs shift.first slot.pair can.target.pair can.target.rest can.target.place
 
-  pub onto_apart : (new : Kept) → source.slot.pair ≢ slot.pair → WritesInTwo t (left_at t source.slot.pair source.first) slot.pair new
+  pub onto_apart : (new : Kept) → source.slot.pair ≢ slot.pair → WritesInTwo t (left_at t source.slot.pair source.first) slot.pair new → AltersBut t (four_of (pair_in t source.slot.pair).at (pair_in t slot.pair).at) new
       → ((rename : CanReplaceAcross t source.slot.pair source.slot.id source.first slot.pair slot.id name) → IsReplacedAcross t new rename.old.path rename.old.name rename.path name rename.target.stands.slot.struct) → HasShiftedOnto t from to contents new
   unfolding replace_apart target_edit
-  onto_apart new ne w gives =
+  onto_apart new ne w alters gives =
       let is : IsReplacedAcross t new shift.old.path shift.old.name shift.above name can.target.stands.slot.struct = gives (replace_apart ne) in
       record {
         free = can_free t new slot.pair slot.id target_edit contents can.shows (shape_geometry t new w.writes.shape)
@@ -152,6 +158,7 @@ module _ (t : Kept) (from to : Path) (source : Source) (slot : Spot) (contents :
         shows = shows_at t new from to _ _ shift.old_is shift.is is.now.shows;
         flying = is.now.flying;
         completed = λ s given to_given tree f k. is.completed s given to_given tree (f ∙ shift.old_is) (k ∙ shift.is);
+        alone = spares_two t new from to source name shift slot can.target alters;
       }
 
   pub onto_writes_apart : (new : Kept) → WritesInTwo t (left_at t source.slot.pair source.first) slot.pair new → WritesAmong t new
@@ -166,6 +173,9 @@ onto_done t mid new from to contents is only ready flying = record {
   completed = λ s given to_given tree f k.
       subst (λ ps. IsCompleted t.disk t.pairs s (ops.Rename given to_given) new.disk ps) (sym only.pairs)
       (subst (λ disk. IsCompleted t.disk t.pairs s (ops.Rename given to_given) disk mid.pairs) (sym only.disk) (is.completed s given to_given tree f k));
+  alone = λ s given to_given f k.
+      subst (λ ps. LeavesAlone t.disk t.pairs s (ops.Rename given to_given) new.disk ps) (sym only.pairs)
+      (subst (λ disk. LeavesAlone t.disk t.pairs s (ops.Rename given to_given) disk mid.pairs) (sym only.disk) (is.alone s given to_given f k));
 }
 
 pub apart_then : (t mid new : Kept) → WritesAmong t mid → IsReadBesideMap mid new → WritesAmong t new

@@ -21,6 +21,7 @@ use Rattle.lfs_model.proofs.BlockSets.{Contains-count, count-Contains}
 use Rattle.lfs_model.proofs.Counts.{Each, count, count_append, each_from_counted, each_weaker}
 use Rattle.lfs_model.proofs.Files.{HasSameFile}
 use Rattle.lfs_model.proofs.Splices.{files_of}
+use Rattle.lfs_operations.specs.Altering.{AltersBut}
 use Rattle.lfs_operations.specs.Changing.{HasTwoFree, WritesIn, has_failed}
 use Rattle.lfs_operations.specs.Editing.{CanEdit, slot_at}
 use Rattle.lfs_operations.specs.Making.{HasRoomFor}
@@ -30,6 +31,7 @@ use Rattle.lfs_operations.specs.MovingAcross.{CanRenameAcross, IsRenamedAcross, 
 use Rattle.lfs_operations.specs.Ready.{IsReady, IsReadyBut}
 use Rattle.lfs_operations.specs.Removing.{goes_whole}
 use Rattle.lfs_operations.specs.Renaming.{CanRename, IsRenamed, TellsMove, with_renamed}
+use Rattle.lfs_thread.specs.Device.{two_of}
 use Rattle.lfs_thread.specs.Kept.{Kept, State}
 use Rattle.lfs_thread.specs.Steps.{Writes, pair_in}
 use Rattle.lfs_tree.specs.Carrying.{SurvivesTo}
@@ -41,6 +43,7 @@ use Rattle.lfs_tree.proofs.CarryCreated.{stay_in_flight}
 use Rattle.lfs_tree.proofs.KeptFiles.{among_files}
 use Rattle.lfs_tree.proofs.CarryFreed.{apart_from_pairs, each_here}
 use Rattle.lfs_tree.proofs.CarryRooms.{no_room}
+use Rattle.lfs_tree.proofs.ShiftedAlone.{spares_one, spares_within}
 use Rattle.lfs_tree.proofs.SameDirectory.{same_above, same_first}
 
 -- ---- what is told
@@ -48,6 +51,10 @@ use Rattle.lfs_tree.proofs.SameDirectory.{same_above, same_first}
 pub if_done : {X P Q : Type 0} (r : Result X Error) → OnOk r P → (P → Q) → OnOk r Q
 if_done (Ok x) h f = f h
 if_done (Err e) h f = tt
+
+pub if_both : {X P Q R : Type 0} (r : Result X Error) → OnOk r P → OnOk r Q → (P → Q → R) → OnOk r R
+if_both (Ok x) h k f = f h k
+if_both (Err e) h k f = tt
 
 -- there was room, so NoSpace doesn't come
 told_errors : {X : Type 0} (old : Kept) (r : Result X Error) → HasRoomFor 2 old.map → ((r ≡ Err NoSpace) → (HasTwoFree old.map → ⊥)) → IfErr r (λ e. (e ≡ Io) ⊎ ((e ≡ NoMemory) ⊎ (e ≡ NoSpace))) → IfErr r (λ e. (e ≡ Io) ⊎ (e ≡ NoMemory))
@@ -192,14 +199,15 @@ module _ (t : Kept) (from to : Path) (source : Source) (place : Spot) (name : Na
   unfolding rename_within
   survives_within new e gives = survives_at t new from to _ _ shift.old_is (path_is e) (gives (rename_within e))
 
-  pub shifted_within : (new : Kept) → source.slot.pair ≡ place.pair → ((rename : CanRename t source.slot.pair source.slot.id place.id name) → IsRenamed t new rename.can.path rename.can.name name) → HasShifted t from to new
+  pub shifted_within : (new : Kept) → source.slot.pair ≡ place.pair → WritesIn t source.slot.pair new → ((rename : CanRename t source.slot.pair source.slot.id place.id name) → IsRenamed t new rename.can.path rename.can.name name) → HasShifted t from to new
   unfolding rename_within
-  shifted_within new e gives =
+  shifted_within new e w gives =
       let is : IsRenamed t new shift.old.path shift.old.name name = gives (rename_within e) in
       record {
         ready = is.now.ready;
         flying = λ b. (is.now.none_comes b, stay_in_flight t.map new.map is.now.stays b);
         completed = λ s given to_given tree f k. is.completed s given to_given tree (f ∙ shift.old_is) (k ∙ path_is e);
+        alone = spares_within t new from to source name shift w;
       }
 
   -- ---- in another pair
@@ -226,15 +234,16 @@ module _ (t : Kept) (from to : Path) (source : Source) (place : Spot) (name : Na
   unfolding rename_apart
   survives_apart new ne gives = survives_at t new from to _ _ shift.old_is shift.is (gives (rename_apart ne))
 
-  pub shifted_apart : (new : Kept) → source.slot.pair ≢ place.pair → ((rename : CanRenameAcross t source.slot.pair source.slot.id source.first place.pair place.id name) → IsRenamedAcross t new rename.old.path rename.old.name rename.path name)
+  pub shifted_apart : (new : Kept) → source.slot.pair ≢ place.pair → AltersBut t (two_of (pair_in t source.slot.pair).at) new → ((rename : CanRenameAcross t source.slot.pair source.slot.id source.first place.pair place.id name) → IsRenamedAcross t new rename.old.path rename.old.name rename.path name)
       → HasShifted t from to new
   unfolding rename_apart
-  shifted_apart new ne gives =
+  shifted_apart new ne alters gives =
       let is : IsRenamedAcross t new shift.old.path shift.old.name shift.above name = gives (rename_apart ne) in
       record {
         ready = none_gone new is.now.ready;
         flying = is.now.flying;
         completed = λ s given to_given tree f k. is.completed s given to_given tree (f ∙ shift.old_is) (k ∙ shift.is);
+        alone = spares_one t new from to source name shift alters;
       }
 
   pub writes_apart : (new : Kept) → WritesInTwo t (left_at t source.slot.pair source.first) place.pair new → WritesAmong t new

@@ -18,7 +18,7 @@ use Rattle.lfs_model.specs.Tree.{Path}
 use Rattle.lfs_model.proofs.BlockCounts.{few_flying}
 use Rattle.lfs_tree.specs.KeepsFiles.{KeepsFile}
 use Rattle.lfs_tree.specs.OpenContents.{IsOver, bytes_held}
-use Rattle.lfs_tree.specs.Seen.{IsCarried, IsSound, LeavesFlight, Seen, kept_of}
+use Rattle.lfs_tree.specs.Seen.{IsCarried, IsSound, LeavesFlight, Seen, bare, kept_of}
 use Rattle.lfs_tree.proofs.ContentsStay.{StayAs, base_list, bytes_stay, hand_bytes_stay, hand_stays, hand_still, list_stays, of_all, stored_stays}
 use Rattle.lfs_tree.proofs.KeptFiles.{list_used}
 use Rattle.lfs_writer.specs.Apart.{IsApart}
@@ -178,7 +178,7 @@ pub contents_stay : (old new : Seen) (op : Operation) (path : Path) (c : Content
     → IsOver new path c × (bytes_held (kept_of new) c ≡ bytes_held (kept_of old) c)
 contents_stay old new op path c over sound k away =
     let keeps = k.keeps path over.file away in
-    (over_stays old new path c over sound k.sound k.geometry k.flight keeps, bytes_held_stay old new path c over sound k.sound k.geometry k.flight keeps)
+    (over_stays (bare old) (bare new) path c over sound k.sound k.geometry k.flight keeps, bytes_held_stay (bare old) (bare new) path c over sound k.sound k.geometry k.flight keeps)
 
 -- no more blocks are in flight than contents in that form may have
 pub flying_of : (t : Seen) (path : Path) (c : Contents) → IsOver t path c → in_flight_count t.map ≤ form_blocks t.disk.block_size (form_of c)

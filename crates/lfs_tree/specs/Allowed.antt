@@ -7,14 +7,14 @@ use Rattle.lfs_model.specs.Disk.{block_count}
 use Rattle.lfs_model.specs.Session.{parent_fault, is_long, is_overcharged}
 use Rattle.lfs_model.specs.Refusals.{is_root}
 use Rattle.lfs_model.specs.Tree.{Path}
-use Rattle.lfs_tree.specs.Seen.{Seen, around_of, tree_seen}
+use Rattle.lfs_tree.specs.Seen.{Seen, around_of, bare, tree_seen}
 
 -- so many blocks are free: neither the image's nor in flight
 abbrev pub HasRoom : Seen → ℕ → Type 0
 HasRoom t need = length (around_of t).used + in_flight_count t.map + need ≤ block_count t.disk
 
 -- nothing is at the path, and an entry may be made there that takes so many blocks
-pub record CanAdd (t : Seen) (path : Path) (need : ℕ) : Type 0 where
+pub record CanAddImage (t : Seen) (path : Path) (need : ℕ) : Type 0 where
   pub works : t.failed ≡ false
   pub writable : t.writable ≡ true
   pub parents : parent_fault (tree_seen t) [] path ≡ None
@@ -22,6 +22,9 @@ pub record CanAdd (t : Seen) (path : Path) (need : ℕ) : Type 0 where
   pub nothing : is_some (tree_seen t path) ≡ false
   pub fits : is_overcharged (around_of t) (last_name path) [] ≡ false
   pub room : HasRoom t need
+
+abbrev pub CanAdd : Seen → Path → ℕ → Type 0
+CanAdd t path need = CanAddImage (bare t) path need
 
 -- a directory may be made there
 abbrev pub CanMake : Seen → Path → Type 0
@@ -32,7 +35,7 @@ abbrev pub CanCreate : Seen → Path → Type 0
 CanCreate t path = CanAdd t path 2
 
 -- a file or a directory without entries stands there
-pub record CanRemove (t : Seen) (path : Path) : Type 0 where
+pub record CanRemoveImage (t : Seen) (path : Path) : Type 0 where
   pub works : t.failed ≡ false
   pub writable : t.writable ≡ true
   pub entry : is_root path ≡ false
@@ -40,8 +43,11 @@ pub record CanRemove (t : Seen) (path : Path) : Type 0 where
   pub something : is_none (tree_seen t path) ≡ false
   pub empty : nat_lt 0 (length (names_of (tree_seen t path))) ≡ false
 
+abbrev pub CanRemove : Seen → Path → Type 0
+CanRemove t path = CanRemoveImage (bare t) path
+
 -- an entry stands there that takes the attribute
-pub record CanSetAttr (t : Seen) (path : Path) (kind : ℕ) (bytes : List ℕ) : Type 0 where
+pub record CanSetAttrImage (t : Seen) (path : Path) (kind : ℕ) (bytes : List ℕ) : Type 0 where
   pub works : t.failed ≡ false
   pub writable : t.writable ≡ true
   pub entry : is_root path ≡ false
@@ -51,8 +57,11 @@ pub record CanSetAttr (t : Seen) (path : Path) (kind : ℕ) (bytes : List ℕ) :
   pub fits : is_overcharged (around_of t) (last_name path) (put_attribute kind bytes (attributes_of (tree_seen t path))) ≡ false
   pub room : HasRoom t 2
 
+abbrev pub CanSetAttr : Seen → Path → ℕ → List ℕ → Type 0
+CanSetAttr t path kind bytes = CanSetAttrImage (bare t) path kind bytes
+
 -- an entry stands there that has the attribute
-pub record CanRemoveAttr (t : Seen) (path : Path) (kind : ℕ) : Type 0 where
+pub record CanRemoveAttrImage (t : Seen) (path : Path) (kind : ℕ) : Type 0 where
   pub works : t.failed ≡ false
   pub writable : t.writable ≡ true
   pub entry : is_root path ≡ false
@@ -60,8 +69,11 @@ pub record CanRemoveAttr (t : Seen) (path : Path) (kind : ℕ) : Type 0 where
   pub something : is_none (tree_seen t path) ≡ false
   pub there : is_none (attribute_of kind (attributes_of (tree_seen t path))) ≡ false
 
+abbrev pub CanRemoveAttr : Seen → Path → ℕ → Type 0
+CanRemoveAttr t path kind = CanRemoveAttrImage (bare t) path kind
+
 -- what stands at the one path may stand at the other, in place of what is there
-pub record CanRename (t : Seen) (from to : Path) : Type 0 where
+pub record CanRenameImage (t : Seen) (from to : Path) : Type 0 where
   pub works : t.failed ≡ false
   pub writable : t.writable ≡ true
   pub entry : is_root from ≡ false
@@ -76,3 +88,6 @@ pub record CanRename (t : Seen) (from to : Path) : Type 0 where
   pub empty : (not (same_path from to) && nat_lt 0 (length (names_of (tree_seen t to)))) ≡ false
   pub fits : (not (same_path from to) && is_overcharged (around_of t) (last_name to) (attributes_of (tree_seen t from))) ≡ false
   pub room : HasRoom t 2
+
+abbrev pub CanRename : Seen → Path → Path → Type 0
+CanRename t from to = CanRenameImage (bare t) from to

@@ -1,5 +1,5 @@
 -- What a path leads to, as it is found.
-use Rattle.std.specs.Prelude.{ℕ, ◌<◌, nat_lt, List, length, Option, Some, None, Bool}
+use Rattle.std.specs.Prelude.{ℕ, ◌≡◌, ◌<◌, nat_lt, List, length, Option, Some, None, Bool}
 use Rattle.lfs_model.specs.Thread.{Pair}
 use Rattle.lfs_model.specs.Tree.{Path}
 use Rattle.lfs_thread.specs.Kept.{Kept}
@@ -49,3 +49,7 @@ finding_of (shown.File slot contents) = record { fault = None; node = node.File 
 finding_of shown.Nothing = record { fault = None; node = node.Nothing }
 finding_of shown.ParentIsFile = record { fault = Some NotDir; node = node.Nothing }
 finding_of shown.ParentIsMissing = record { fault = Some NoEnt; node = node.Nothing }
+
+-- no parent of the path refuses it
+abbrev pub IsThrough : Shown → Type 0
+IsThrough s = (finding_of s).fault ≡ None

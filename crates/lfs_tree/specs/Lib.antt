@@ -30,3 +30,4 @@ pub mod Opening
 pub mod Storing
 pub mod Unreached
 pub mod Recovering
+pub mod AtHand

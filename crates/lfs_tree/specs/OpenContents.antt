@@ -1,9 +1,9 @@
 -- The contents of a file that is open for writing, beside the image.
-use Rattle.std.specs.Prelude.{ℕ, ◌≡◌, ◌+◌, ◌^◌, ◌<◌, ◌≤◌, ◌⊎◌, true, false, max, List, [], ◌∷◌, ◌++◌, length}
+use Rattle.std.specs.Prelude.{ℕ, ◌≡◌, ◌+◌, ◌^◌, ◌<◌, ◌≤◌, ◌⊎◌, true, false, max, List, [], ◌∷◌, ◌++◌, length, Contains}
 use Rattle.lfs_model.specs.TreeEdits.{change_at, is_file}
 use Rattle.lfs_model.specs.BlockSets.{in_flight_count}
 use Rattle.lfs_model.specs.Discipline.{LeavesAlone, paths_of}
-use Rattle.lfs_model.specs.Disk.{SameGeometry, block_count, inline_limit}
+use Rattle.lfs_model.specs.Disk.{SameGeometry, block_at, block_count, inline_limit}
 use Rattle.lfs_model.specs.History.{Event, faults}
 use Rattle.lfs_model.specs.Layout.{IsArranged}
 use Rattle.lfs_model.specs.Operations as ops
@@ -15,13 +15,13 @@ use Rattle.lfs_model.specs.Effects.{with_bytes}
 use Rattle.lfs_model.specs.Thread.{gstate_of}
 use Rattle.lfs_model.specs.Tree.{Path}
 use Rattle.lfs_model.specs.Profile.{IsWritable}
-use Rattle.lfs_model.specs.Shown.{tree_in}
+use Rattle.lfs_model.specs.Shown.{tree_in, used_blocks}
 use Rattle.lfs_files.specs.Standing.{StandsIn, held_in}
 use Rattle.lfs_operations.specs.Storing.{IsWriterOf}
 use Rattle.lfs_thread.specs.Kept.{Kept}
 pub use Rattle.lfs_tree.specs.KeepsFiles.{blocks_named, list_at}
 pub use Rattle.lfs_tree.specs.Seen.{kept_of}
-use Rattle.lfs_tree.specs.Seen.{Seen, IsSound, around_of, tree_seen}
+use Rattle.lfs_tree.specs.Seen.{Seen, IsSound, around_of, bare, tree_seen}
 use Rattle.lfs_writer.specs.Contents.{IsLarge, NeedsRoom, bytes_in, end_room, form_of, truncate_room, write_room}
 use Rattle.lfs_writer.specs.Form as form
 use Rattle.lfs_writer.specs.Form.{Form, form_size}
@@ -77,7 +77,7 @@ IsSettleable limit (form.Finished size flying) = limit < size
 IsSettleable limit (form.InHand stop base flying) = limit < max stop base
 
 -- The file at the path may get these contents: there is room for what is still to be written of them, and then for two blocks.
-pub record CanStoreAt (t : Seen) (path : Path) (contents : Contents) : Type 0 where
+pub record CanStoreAtImage (t : Seen) (path : Path) (contents : Contents) : Type 0 where
   pub works : t.failed ≡ false
   pub writable : t.writable ≡ true
   pub settled : gstate_of t.pairs ≡ no_gstate
@@ -85,6 +85,9 @@ pub record CanStoreAt (t : Seen) (path : Path) (contents : Contents) : Type 0 wh
   pub form : IsSettleable (inline_limit t.disk.block_size) (form_of contents)
   pub end : length (around_of t).used + end_room t.disk.block_size (form_of contents) ≤ block_count t.disk
   pub room : length (around_of t).used + ctz_blocks t.disk.block_size (length (bytes_held (kept_of t) contents)) + 2 ≤ block_count t.disk
+
+abbrev pub CanStoreAt : Seen → Path → Contents → Type 0
+CanStoreAt t path contents = CanStoreAtImage (bare t) path contents
 
 -- ---- what comes of it
 
@@ -100,6 +103,7 @@ pub record IsWrittenBeside (old new : Seen) : Type 0 where
   pub pairs : new.pairs ≡ old.pairs
   pub shows : tree_seen new ≡ tree_seen old
   pub around : around_of new ≡ around_of old
+  pub stay : (b : ℕ) → Contains (used_blocks old.disk old.pairs) b → block_at new.disk b ≡ block_at old.disk b
   pub geometry : SameGeometry old.disk new.disk
   pub calls : List Event
   pub called : new.history ≡ calls ++ old.history
@@ -115,7 +119,7 @@ abbrev pub IsAboutPath : Session → Operation → Path → Type 0
 IsAboutPath s op path = paths_of s op ≡ path ∷ []
 
 -- The file at the path has these bytes, and nothing is in flight any more. Other pairs and all lists hold what they held.
-pub record IsStoredAt (old : Seen) (path : Path) (bytes : List ℕ) (new : Seen) : Type 0 where
+pub record IsStoredAtImage (old : Seen) (path : Path) (bytes : List ℕ) (new : Seen) : Type 0 where
   pub works : new.failed ≡ false
   pub sound : IsSound new
   pub writable : new.writable ≡ true
@@ -129,3 +133,6 @@ pub record IsStoredAt (old : Seen) (path : Path) (bytes : List ℕ) (new : Seen)
   pub closed : IsArrangedBy old path bytes ops.Close new
   pub alone : (files : Files) (op : Operation) → IsAboutPath (record { tree = tree_seen old; files = files }) op path → LeavesAlone old.disk old.pairs (record { tree = tree_seen old; files = files }) op new.disk new.pairs
   pub none_in_flight : in_flight_count new.map ≡ 0
+
+abbrev pub IsStoredAt : Seen → Path → List ℕ → Seen → Type 0
+IsStoredAt old path bytes new = IsStoredAtImage (bare old) path bytes (bare new)

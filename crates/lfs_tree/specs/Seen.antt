@@ -1,9 +1,10 @@
 -- What contracts see of a tree of files on a device.
-use Rattle.std.specs.Prelude.{ℕ, ◌≡◌, ◌≢◌, ◌⊎◌, ◌<◌, Bool, true, false, List, ◌++◌, length}
+use Rattle.std.specs.Prelude.{ℕ, ◌≡◌, ◌≢◌, ◌⊎◌, ◌<◌, Bool, true, false, List, [], ◌++◌, length}
 use Rattle.lfs_device.specs.declared.error.Error.{Error}
 use Rattle.lfs_device.specs.declared.error.Error.TheVariants.{Io, NoMemory, Corrupt}
 use Rattle.lfs_model.specs.TreeEdits.{is_file}
 use Rattle.lfs_model.specs.BlockSets.{AreUsed, BlockSets, IsInFlight, in_flight_count}
+use Rattle.lfs_model.specs.Cache.{CachedBlocks}
 use Rattle.lfs_model.specs.Discipline.{LeavesAlone}
 use Rattle.lfs_model.specs.Disk.{Disk, SameGeometry, block_at, block_count}
 use Rattle.lfs_model.specs.History.{Event, OnlyReads, faults, reads, unprogrammed}
@@ -24,8 +25,8 @@ use Rattle.lfs_model.specs.Shown.{tree_in, used_blocks}
 use Rattle.lfs_thread.specs.Kept.{Kept}
 use Rattle.lfs_tree.specs.KeepsFiles.{KeepsFile, ListsStay}
 
--- The disk and its calls so far, its pairs, what is known of each block, whether it is in the writing profile, and whether a
--- call failed.
+-- The disk and its calls so far, its pairs, what is known of each block, whether it is in the writing profile, whether a call
+-- failed, and which blocks are at hand.
 pub record Seen : Type 0 where
   pub disk : Disk
   pub history : List Event
@@ -33,6 +34,11 @@ pub record Seen : Type 0 where
   pub map : BlockSets
   pub writable : Bool
   pub failed : Bool
+  pub cache : CachedBlocks
+
+-- but for what is at hand
+abbrev pub bare : Seen → Seen
+bare t = record t { cache = [] }
 
 abbrev pub kept_of : Seen → Kept
 kept_of t = record { disk = t.disk; history = t.history; pairs = t.pairs; map = t.map }
@@ -51,18 +57,21 @@ around_of t = record {
 }
 
 -- The disk is accepted with these pairs, what is kept of the profile is so, and the used blocks are the image's.
-pub record IsSound (t : Seen) : Type 0 where
+pub record IsSoundImage (t : Seen) : Type 0 where
   pub accepted : IsAccepted t.disk t.pairs
   pub fits : t.writable ≡ true → IsWritable t.disk t.pairs
   pub is_kept : IsWritable t.disk t.pairs → t.writable ≡ true
   pub used : AreUsed t.map (used_blocks t.disk t.pairs)
   pub size : length t.map ≡ block_count t.disk
 
+abbrev pub IsSound : Seen → Type 0
+IsSound t = IsSoundImage (bare t)
+
 -- ---- calls that only read
 
--- the disk was only read, by calls that didn't fail, and nothing else changed; a failed tree isn't asked
+-- the disk was only read, by calls that didn't fail, and nothing else changed but what is at hand; a failed tree isn't asked
 pub record IsAsked (old new : Seen) : Type 0 where
-  pub same : new ≡ record old { history = new.history }
+  pub same : new ≡ record old { history = new.history; cache = new.cache }
   pub failed : old.failed ≡ true → new ≡ old
   pub reads : OnlyReads old.disk.blocks old.history new.history
   pub no_fault : faults new.history ≡ faults old.history
@@ -106,7 +115,7 @@ abbrev pub SurvivesAs : Seen → Seen → Tree → Type 0
 SurvivesAs old new after = Survives old.disk old.history new.history (tree_seen old) after
 
 -- the operation is carried out, whatever files are open
-pub record IsCarried (old : Seen) (op : Operation) (new : Seen) : Type 0 where
+pub record IsCarriedImage (old : Seen) (op : Operation) (new : Seen) : Type 0 where
   pub works : new.failed ≡ false
   pub sound : IsSound new
   pub writable : new.writable ≡ true
@@ -122,6 +131,9 @@ pub record IsCarried (old : Seen) (op : Operation) (new : Seen) : Type 0 where
   pub flight : LeavesFlight old new
   pub keeps : (path : Path) → is_file (tree_seen old path) ≡ true → takes_or_moves op path ≡ false → KeepsFile (kept_of old) (kept_of new) path
   pub lists : gstate_of old.pairs ≡ no_gstate → ListsStay old.disk old.pairs new.disk
+
+abbrev pub IsCarried : Seen → Operation → Seen → Type 0
+IsCarried old op new = IsCarriedImage (bare old) op (bare new)
 
 -- Where nothing was to be recovered, the blocks of files, and those of pairs that the operation doesn't concern, hold what they held.
 abbrev pub LeavesRest : Seen → Operation → Seen → Type 0

@@ -2,6 +2,7 @@
 use Rattle.std.specs.Prelude.{ℕ, ◌≡◌, ◌⊎◌, ◌<◌, true, false, List, [], ◌∷◌, ◌++◌, length, None, Result, IfErr, IsErrOf, OnOk}
 use Rattle.lfs_device.specs.declared.error.Error.{Error}
 use Rattle.lfs_device.specs.declared.error.Error.TheVariants.{Io, NoMemory}
+use Rattle.lfs_model.specs.Discipline.{LeavesAlone}
 use Rattle.lfs_model.specs.TreeEdits.{last_name, renamed, rest_after}
 use Rattle.lfs_model.specs.History.{faults}
 use Rattle.lfs_model.specs.InDirectory.{Belongs, Stands}
@@ -95,6 +96,10 @@ CanShiftFound t from to source _ name = ⊥
 
 -- ---- what comes of it
 
+-- the rename left alone the blocks of files and of pairs that it doesn't concern
+abbrev pub HasSparedOthers : Kept → Path → Path → Kept → Type 0
+HasSparedOthers old from to new = (s : Session) (given to_given : List ℕ) → as_path given ≡ from → as_path to_given ≡ to → LeavesAlone old.disk old.pairs s (ops.Rename given to_given) new.disk new.pairs
+
 -- The tree has the entry at the other path, the other slots stand where they should, and the blocks are the image's again: so a
 -- rename of the one path to the other is completed.
 pub record HasShifted (old : Kept) (from to : Path) (new : Kept) : Type 0 where
@@ -102,6 +107,7 @@ pub record HasShifted (old : Kept) (from to : Path) (new : Kept) : Type 0 where
   pub flying : SameInFlight old.map new.map
   pub completed : (s : Session) (given to_given : List ℕ) → s.tree ≡ tree_in old.disk old.pairs → as_path given ≡ from → as_path to_given ≡ to
       → IsCompleted old.disk old.pairs s (ops.Rename given to_given) new.disk new.pairs
+  pub alone : HasSparedOthers old from to new
 
 -- The same, but that the blocks of the list that the replaced file had are still used.
 pub record HasShiftedOnto (old : Kept) (from to : Path) (contents : Contents) (new : Kept) : Type 0 where
@@ -110,6 +116,7 @@ pub record HasShiftedOnto (old : Kept) (from to : Path) (contents : Contents) (n
   pub flying : SameInFlight old.map new.map
   pub completed : (s : Session) (given to_given : List ℕ) → s.tree ≡ tree_in old.disk old.pairs → as_path given ≡ from → as_path to_given ≡ to
       → IsCompleted old.disk old.pairs s (ops.Rename given to_given) new.disk new.pairs
+  pub alone : HasSparedOthers old from to new
 
 -- `Io` comes with a fault of the device, and any other answer with none; where there is no error the thread works
 pub record TellsOfWork {X : Type 0} (old new : State) (result : Result X Error) : Type 0 where

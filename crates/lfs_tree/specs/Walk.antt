@@ -31,6 +31,11 @@ beneath path shape = record { path = path ++ slash ∷ shape.name; struct = shap
 abbrev pub places_beneath : List ℕ → List Shape → List Place
 places_beneath path shapes = map (beneath path) shapes
 
+-- ---- pairs by their addresses
+
+abbrev pub addresses_in : List Pair → List (ℕ × ℕ)
+addresses_in ps = map (λ p. p.at) ps
+
 -- ---- what is to be visited, the next one last
 
 -- a directory's first pair is in the thread

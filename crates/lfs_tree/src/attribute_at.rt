@@ -11,6 +11,7 @@ ghost use Rattle.lfs_model.specs.Thread.{superblocks_before};
 ghost use Rattle.lfs_model.specs.View.{IsAccepted};
 ghost use Rattle.lfs_model.specs.Shown.{tree_in};
 ghost use Rattle.lfs_thread.specs.Lent.{IsBlockOf, at_hand};
+ghost use Rattle.lfs_tree.specs.AtHand.{AreOnHand};
 ghost use Rattle.lfs_tree.specs.AttributeAt.{AreHeld, IsAttribute, IsShort, slot_shown};
 ghost use Rattle.lfs_tree.specs.BytesAt.{IsSlotAt};
 ghost use Rattle.lfs_tree.specs.Finds.{Finds};
@@ -137,6 +138,7 @@ pub(crate) fn attribute_at<D: BlockDevice>(
     ensures short { IfOk result (λ found. IsShort found.bytes) }
     ensures is { IfOk result (λ found. IsAttribute kind (attributes_of (tree_in thread.old.kept.disk thread.old.kept.pairs path.now)) found.bytes) }
     ensures few { reads thread.new.kept.history ≤ reads thread.old.kept.history + sum_by (pairs_of_path thread.old.kept.pairs) (parents path.now) }
+    ensures kept { AreOnHand thread.old (parents path.now) → reads thread.new.kept.history ≡ reads thread.old.kept.history }
     ensures reading { IsReading thread.old thread.new result }
 {
     let shown = shown_at(alloc, thread, root, path)?;

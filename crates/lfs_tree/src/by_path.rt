@@ -6,7 +6,8 @@ ghost use Rattle.lfs_model.specs.History.{reads};
 ghost use Rattle.lfs_model.specs.Thread.{superblocks_before};
 ghost use Rattle.lfs_model.specs.View.{IsAccepted};
 ghost use Rattle.lfs_model.specs.Shown.{tree_in};
-ghost use Rattle.lfs_tree.specs.AtPath.{IsInEntry, IsInEntryIfFile, ShowsAt, finding_of, first_shown, size_shown};
+ghost use Rattle.lfs_tree.specs.AtHand.{BringsDown};
+ghost use Rattle.lfs_tree.specs.AtPath.{IsInEntry, IsInEntryIfFile, IsThrough, ShowsAt, finding_of, first_shown, size_shown};
 ghost use Rattle.lfs_tree.specs.AttributeAt.{IsAtHand};
 ghost use Rattle.lfs_tree.specs.Finds.{Finds, has_names};
 ghost use Rattle.lfs_tree.specs.declared.finding.Node.TheVariants.{Directory, File, Nothing};
@@ -35,6 +36,7 @@ pub(crate) fn shown_at<D: BlockDevice>(
     ensures shown { IfOk result (ShowsAt thread.old.kept path.now) }
     ensures at_hand { IfOk result (IsAtHand thread.new) }
     ensures few { reads thread.new.kept.history ≤ reads thread.old.kept.history + sum_by (pairs_of_path thread.old.kept.pairs) (parents path.now) }
+    ensures brings { BringsDown IsThrough (parents path.now) thread.old thread.new result }
     ensures reading { IsReading thread.old thread.new result }
 {
     let names = path.names(alloc)?;
@@ -125,6 +127,7 @@ pub(crate) fn find_at<D: BlockDevice>(
     requires root { root ≡ superblocks_before thread.old.kept.pairs }
     ensures found { IfOk result (Finds (tree_in thread.old.kept.disk thread.old.kept.pairs) path.now) }
     ensures few { reads thread.new.kept.history ≤ reads thread.old.kept.history + sum_by (pairs_of_path thread.old.kept.pairs) (parents path.now) }
+    ensures brings { BringsDown (λ found. found.fault ≡ None) (parents path.now) thread.old thread.new result }
     ensures reading { IsReading thread.old thread.new result }
 {
     let shown = shown_at(alloc, thread, root, path)?;

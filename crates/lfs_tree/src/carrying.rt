@@ -117,6 +117,7 @@ pub(crate) fn make_at<D: BlockDevice>(
     requires rests { IsAtRest thread.old root }
     requires can { CanMake (seen_kept thread.old.kept true false) path.now }
     ensures done { OnOk result ((bytes : List ℕ) → as_path bytes ≡ path.now → Carries thread.old.kept (ops.Mkdir bytes) thread.new.kept) }
+    ensures alone { OnOk result ((bytes : List ℕ) → as_path bytes ≡ path.now → Spares thread.old.kept (ops.Mkdir bytes) thread.new.kept) }
     ensures works { OnOk result (thread.new.failed ≡ false) }
     ensures called { HasCalled thread.old.kept thread.new.kept }
     ensures no_fault { OnOk result (faults thread.new.kept.history ≡ faults thread.old.kept.history) }

@@ -3,7 +3,7 @@
 ghost use Rattle.std.specs.Prelude.{ℕ, ◌≡◌, List, true, false, is_err, OnOk, IfOk, IfErr};
 ghost use Rattle.lfs_files.specs.Settling.{IsReadBesideMap};
 ghost use Rattle.lfs_files.specs.Standing.{TellsWork};
-ghost use Rattle.lfs_model.specs.TreeEdits.{is_file, removed};
+ghost use Rattle.lfs_model.specs.TreeEdits.{removed};
 ghost use Rattle.lfs_model.specs.History.{faults};
 ghost use Rattle.lfs_model.specs.Operations as ops;
 ghost use Rattle.lfs_model.specs.Refusals.{as_path};
@@ -19,7 +19,6 @@ ghost use Rattle.lfs_tree.specs.CarryingSlots.{HasEntry};
 ghost use Rattle.lfs_tree.specs.Going.{CanFree, CanGo, CanTake, HasGone, HasSpared, IsEntryOn};
 ghost use Rattle.lfs_tree.specs.Held.{seen_kept};
 ghost use Rattle.lfs_tree.specs.Reading.{IsReading};
-ghost use Rattle.lfs_tree.specs.Storing.{is_file_found};
 
 use crate::carrying::know_device;
 use crate::entry::Contents;
@@ -114,7 +113,7 @@ fn take_found<D: BlockDevice>(
     requires works { thread.old.failed ≡ false }
     requires can { (path : TreePath) × CanGo thread.old.kept path found }
     ensures gone { OnOk result ((path : TreePath) → CanGo thread.old.kept path found → HasGone thread.old.kept path thread.new.kept) }
-    ensures alone { OnOk result ((path : TreePath) → CanGo thread.old.kept path found → is_file_found found ≡ true → HasSpared thread.old.kept path thread.new.kept) }
+    ensures alone { OnOk result ((path : TreePath) → CanGo thread.old.kept path found → HasSpared thread.old.kept path thread.new.kept) }
     ensures errors { TellsOfSteps thread.old thread.new result }
     ensures device { WritesAmong thread.old.kept thread.new.kept }
     ensures survives { (path : TreePath) → CanGo thread.old.kept path found → SurvivesTo thread.old.kept thread.new.kept (removed path (tree_in thread.old.kept.disk thread.old.kept.pairs)) }
@@ -146,7 +145,7 @@ pub(crate) fn remove_at<D: BlockDevice>(
     requires rests { IsAtRest thread.old root }
     requires can { CanRemove (seen_kept thread.old.kept true false) path.now }
     ensures done { OnOk result ((bytes : List ℕ) → as_path bytes ≡ path.now → Carries thread.old.kept (ops.Remove bytes) thread.new.kept) }
-    ensures alone { OnOk result ((bytes : List ℕ) → as_path bytes ≡ path.now → is_file (tree_in thread.old.kept.disk thread.old.kept.pairs path.now) ≡ true → Spares thread.old.kept (ops.Remove bytes) thread.new.kept) }
+    ensures alone { OnOk result ((bytes : List ℕ) → as_path bytes ≡ path.now → Spares thread.old.kept (ops.Remove bytes) thread.new.kept) }
     ensures works { OnOk result (thread.new.failed ≡ false) }
     ensures called { HasCalled thread.old.kept thread.new.kept }
     ensures no_fault { OnOk result (faults thread.new.kept.history ≡ faults thread.old.kept.history) }

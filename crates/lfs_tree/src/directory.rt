@@ -1,15 +1,16 @@
 // The entries of a pair and of a directory, and where a directory begins.
 
-ghost use Rattle.std.specs.Prelude.{◌≡◌, ◌<◌, ◌≤◌, ◌+◌, ℕ, Some, IfNone, IfOk, IfSome, false, length, map};
+ghost use Rattle.std.specs.Prelude.{◌≡◌, ◌<◌, ◌≤◌, ◌+◌, ◌∷◌, [], ℕ, Some, IfNone, IfOk, IfSome, drop, false, length, map};
 ghost use Rattle.lfs_model.specs.Slots.{address_of, same_pair};
 ghost use Rattle.lfs_model.specs.Thread.{gstate_of, visible};
 ghost use Rattle.lfs_model.specs.History.{reads};
 ghost use Rattle.lfs_model.specs.InDirectory.{BeginsAt};
 ghost use Rattle.lfs_tag.specs.FieldsSeen.{move_seen};
 ghost use Rattle.lfs_thread.specs.Steps.{pair_in};
+ghost use Rattle.lfs_tree.specs.AtHand.{AreAtHand, BringsAlong};
 ghost use Rattle.lfs_tree.specs.AtPath.{has_entries_from};
 ghost use Rattle.lfs_tree.specs.Items.{items_seen, shape_of};
-ghost use Rattle.lfs_tree.specs.Listed.{AreEntries, length_from, moved_in, shapes_from};
+ghost use Rattle.lfs_tree.specs.Listed.{AreEntries, joined_run, length_from, moved_in, run_from, shapes_from};
 ghost use Rattle.lfs_tree.specs.Reading.{IsReading};
 
 use crate::items::{Item, items_in};
@@ -43,6 +44,7 @@ fn items_under<D: BlockDevice>(
     requires state { move_seen state.now ≡ gstate_of thread.old.kept.pairs }
     ensures items { IfOk result (λ items. items_seen items.items ≡ map shape_of (visible (gstate_of thread.old.kept.pairs) (pair_in thread.old.kept index))) }
     ensures few { reads thread.new.kept.history ≤ reads thread.old.kept.history + 1 }
+    ensures brings { BringsAlong (pair_in thread.old.kept index ∷ []) thread.old thread.new result }
     ensures reading { IsReading thread.old thread.new result }
 {
     thread.bring(index)?;
@@ -82,6 +84,7 @@ pub(crate) fn entries_under<D: BlockDevice>(
     requires state { move_seen state.now ≡ gstate_of thread.old.kept.pairs }
     ensures items { IfOk result (λ items. items_seen items.items ≡ shapes_from thread.old.kept.pairs (Some first)) }
     ensures few { reads thread.new.kept.history ≤ reads thread.old.kept.history + length_from thread.old.kept.pairs (Some first) }
+    ensures kept { AreAtHand thread.old (joined_run (drop first thread.old.kept.pairs)) → reads thread.new.kept.history ≡ reads thread.old.kept.history }
     ensures reading { IsReading thread.old thread.new result }
 {
     let mut items = Vec::new(alloc);
@@ -109,6 +112,7 @@ pub fn entries<D: BlockDevice>(
     ensures items { IfOk result (λ items. items_seen items.items ≡ shapes_from thread.old.kept.pairs (Some first)) }
     ensures entries { IfOk result (λ items. AreEntries thread.old.kept.disk thread.old.kept.pairs first (items_seen items.items)) }
     ensures few { reads thread.new.kept.history ≤ reads thread.old.kept.history + length_from thread.old.kept.pairs (Some first) }
+    ensures kept { AreAtHand thread.old (joined_run (drop first thread.old.kept.pairs)) → reads thread.new.kept.history ≡ reads thread.old.kept.history }
     ensures reading { IsReading thread.old thread.new result }
 {
     let state = thread.state();
@@ -126,6 +130,7 @@ pub(crate) fn entries_from<D: BlockDevice>(
     requires below { IfSome from (λ first. first < length thread.old.kept.pairs) }
     ensures items { IfOk result (λ items. items_seen items.items ≡ shapes_from thread.old.kept.pairs from) }
     ensures few { reads thread.new.kept.history ≤ reads thread.old.kept.history + length_from thread.old.kept.pairs from }
+    ensures kept { AreAtHand thread.old (run_from thread.old.kept.pairs from) → reads thread.new.kept.history ≡ reads thread.old.kept.history }
     ensures reading { IsReading thread.old thread.new result }
 {
     match from {

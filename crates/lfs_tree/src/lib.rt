@@ -1,6 +1,7 @@
 //! What stands in the directories of an accepted image, and how it is looked up.
 #![tactic(auto)]
 
+mod addresses;
 mod attribute_at;
 mod attribute_sizes;
 mod by_path;

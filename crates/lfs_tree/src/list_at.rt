@@ -7,6 +7,7 @@ ghost use Rattle.lfs_model.specs.Effects.{items_in};
 ghost use Rattle.lfs_model.specs.Thread.{superblocks_before};
 ghost use Rattle.lfs_model.specs.View.{IsAccepted};
 ghost use Rattle.lfs_model.specs.Shown.{tree_in};
+ghost use Rattle.lfs_tree.specs.AtHand.{AreOnHand};
 ghost use Rattle.lfs_tree.specs.Finds.{Finds, list_item_seen};
 ghost use Rattle.lfs_tree.specs.Items.{item_seen, items_seen, structure_seen};
 ghost use Rattle.lfs_tree.specs.ListAt.{AreShort, IsShort, item_listed, size_listed};
@@ -70,6 +71,7 @@ pub(crate) fn list_at<D: BlockDevice>(
     ensures found { IfOk result (λ listing. Finds (tree_in thread.old.kept.disk thread.old.kept.pairs) path.now listing.finding) }
     ensures items { IfOk result (λ listing. map list_item_seen listing.items.items ≡ items_in (tree_in thread.old.kept.disk thread.old.kept.pairs) path.now) }
     ensures few { reads thread.new.kept.history ≤ reads thread.old.kept.history + sum_by (pairs_of_path thread.old.kept.pairs) (parents path.now ++ path.now ∷ []) }
+    ensures kept { AreOnHand thread.old (parents path.now ++ path.now ∷ []) → reads thread.new.kept.history ≡ reads thread.old.kept.history }
     ensures reading { IsReading thread.old thread.new result }
 {
     let shown = shown_at(alloc, thread, root, path)?;

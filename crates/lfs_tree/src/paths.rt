@@ -1,6 +1,6 @@
 // Paths, from the root down.
 
-ghost use Rattle.std.specs.Prelude.{◌≡◌, ◌<◌, ◌≤◌, ◌+◌, false, length, IfNone, IfOk, IfSome, map, sum_by, ◌++◌, ◌∷◌, [], drop};
+ghost use Rattle.std.specs.Prelude.{◌≡◌, None, ◌<◌, ◌≤◌, ◌+◌, false, length, IfNone, IfOk, IfSome, map, sum_by, ◌++◌, ◌∷◌, [], drop};
 ghost use Rattle.std.specs.List.{AllByRecursion};
 ghost use Rattle.lfs_model.specs.Discipline.{pairs_of_path, parents};
 ghost use Rattle.lfs_model.specs.History.{reads};
@@ -11,9 +11,13 @@ ghost use Rattle.lfs_model.specs.Tree.{Path};
 ghost use Rattle.lfs_model.specs.View.{IsAccepted};
 ghost use Rattle.lfs_thread.specs.Steps.{HasTold, IsOnlyRead};
 ghost use Rattle.lfs_tag.specs.FieldsSeen.{move_seen};
+ghost use Rattle.lfs_tree.specs.AtHand.{BringsAlong, BringsDown};
+ghost use Rattle.lfs_tree.specs.AtPath.{IsThrough};
 ghost use Rattle.lfs_tree.specs.AttributeAt.{IsAtHand};
+ghost use Rattle.lfs_tree.specs.Listed.{joined_run};
+ghost use Rattle.lfs_tree.specs.Reading.{IsReading};
 ghost use Rattle.lfs_tree.specs.Search.{HidesFrom};
-ghost use Rattle.lfs_tree.specs.Paths.{BeginsOnPath, Descends, Enters, IsHiding, IsSettled, IsShownAt, IsThere, LeadsTo, ShowsTo};
+ghost use Rattle.lfs_tree.specs.Paths.{BeginsOnPath, Descends, Enters, IsHiding, IsSettled, IsShownAt, IsThere, LeadsTo, ShowsTo, fault_of};
 
 use crate::entry::{Contents, Entry};
 use crate::search::{Sought, Spot, find_name, find_shown};
@@ -128,6 +132,7 @@ fn enter<D: BlockDevice>(
     requires reached { (path : Path) × BeginsOnPath thread.old.kept.pairs path first }
     ensures answer { IfOk result (λ parent. (path : Path) → BeginsOnPath thread.old.kept.pairs path first → Enters thread.old.kept (path ++ name.now ∷ []) parent) }
     ensures few { reads thread.new.kept.history ≤ reads thread.old.kept.history + run_length (drop first thread.old.kept.pairs) }
+    ensures brings { BringsAlong (joined_run (drop first thread.old.kept.pairs)) thread.old thread.new result }
     ensures only { IsOnlyRead thread.old.kept thread.new.kept }
     ensures works { thread.new.failed ≡ false }
     ensures errors { HasTold thread.old.kept thread.new.kept result }
@@ -158,6 +163,7 @@ pub fn find_directory<D: BlockDevice>(
     requires root { BeginsOnPath thread.old.kept.pairs [] root }
     ensures answer { IfOk result (Descends thread.old.kept (map (λ name. name.now) path.now)) }
     ensures few { reads thread.new.kept.history ≤ reads thread.old.kept.history + sum_by (pairs_of_path thread.old.kept.pairs) (parents (map (λ name. name.now) path.now)) }
+    ensures brings { BringsDown (λ parent. fault_of parent ≡ None) (parents (map (λ name. name.now) path.now)) thread.old thread.new result }
     ensures only { IsOnlyRead thread.old.kept thread.new.kept }
     ensures works { thread.new.failed ≡ false }
     ensures errors { HasTold thread.old.kept thread.new.kept result }
@@ -248,9 +254,8 @@ fn show_in<D: BlockDevice>(
     ensures answer { IfOk result (λ shown. (above : Path) → BeginsOnPath thread.old.kept.pairs above parent → IsShownAt thread.old.kept.pairs moved (above ++ name.now ∷ []) shown) }
     ensures at_hand { IfOk result (IsAtHand thread.new) }
     ensures few { reads thread.new.kept.history ≤ reads thread.old.kept.history + run_length (drop parent thread.old.kept.pairs) }
-    ensures only { IsOnlyRead thread.old.kept thread.new.kept }
-    ensures works { thread.new.failed ≡ false }
-    ensures errors { HasTold thread.old.kept thread.new.kept result }
+    ensures brings { BringsAlong (joined_run (drop parent thread.old.kept.pairs)) thread.old thread.new result }
+    ensures reading { IsReading thread.old thread.new result }
 {
     match find_shown(thread, parent, name, moved)? {
         Some((slot, Entry::Directory(at))) => {
@@ -279,9 +284,8 @@ pub fn look_up_shown<D: BlockDevice>(
     ensures answer { IfOk result (ShowsTo thread.old.kept moved (map (λ name. name.now) path.now)) }
     ensures at_hand { IfOk result (IsAtHand thread.new) }
     ensures few { reads thread.new.kept.history ≤ reads thread.old.kept.history + sum_by (pairs_of_path thread.old.kept.pairs) (parents (map (λ name. name.now) path.now)) }
-    ensures only { IsOnlyRead thread.old.kept thread.new.kept }
-    ensures works { thread.new.failed ≡ false }
-    ensures errors { HasTold thread.old.kept thread.new.kept result }
+    ensures brings { BringsDown IsThrough (parents (map (λ name. name.now) path.now)) thread.old thread.new result }
+    ensures reading { IsReading thread.old thread.new result }
 {
     let Some((name, above)) = path.split_last() else {
         return Ok(Shown::Root);

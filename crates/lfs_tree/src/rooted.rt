@@ -1,7 +1,7 @@
 // Operations by path where nothing is to be recovered, and where the root directory begins behind them.
 
 ghost use Rattle.std.specs.Prelude.{ℕ, ◌≡◌, List, [], OnOk, IfOk, IfErr, false, true};
-ghost use Rattle.lfs_model.specs.TreeEdits.{added, is_file, removed, renamed, same_path};
+ghost use Rattle.lfs_model.specs.TreeEdits.{added, removed, renamed, same_path};
 ghost use Rattle.lfs_model.specs.Content.{put_attribute, without_attribute};
 ghost use Rattle.lfs_model.specs.Operations as ops;
 ghost use Rattle.lfs_model.specs.Operations.{Flags};
@@ -55,6 +55,7 @@ pub(crate) fn make_directory_at<D: BlockDevice>(
     requires rests { IsAtRest thread.old root }
     requires can { CanMake (seen_kept thread.old.kept true false) path.now }
     ensures done { OnOk result ((bytes : List ℕ) → as_path bytes ≡ path.now → Carries thread.old.kept (ops.Mkdir bytes) thread.new.kept) }
+    ensures alone { OnOk result ((bytes : List ℕ) → as_path bytes ≡ path.now → Spares thread.old.kept (ops.Mkdir bytes) thread.new.kept) }
     ensures rooted { IfOk result (λ root. IsRooted thread.new root true) }
     ensures called { HasCalled thread.old.kept thread.new.kept }
     ensures errors { IfErr result (TellsError thread.old.kept thread.new.kept) }
@@ -123,7 +124,7 @@ pub(crate) fn remove_entry_at<D: BlockDevice>(
     requires rests { IsAtRest thread.old root }
     requires can { CanRemove (seen_kept thread.old.kept true false) path.now }
     ensures done { OnOk result ((bytes : List ℕ) → as_path bytes ≡ path.now → Carries thread.old.kept (ops.Remove bytes) thread.new.kept) }
-    ensures alone { OnOk result ((bytes : List ℕ) → as_path bytes ≡ path.now → is_file (tree_in thread.old.kept.disk thread.old.kept.pairs path.now) ≡ true → Spares thread.old.kept (ops.Remove bytes) thread.new.kept) }
+    ensures alone { OnOk result ((bytes : List ℕ) → as_path bytes ≡ path.now → Spares thread.old.kept (ops.Remove bytes) thread.new.kept) }
     ensures rooted { IfOk result (λ root. IsRooted thread.new root true) }
     ensures called { HasCalled thread.old.kept thread.new.kept }
     ensures errors { IfErr result (TellsError thread.old.kept thread.new.kept) }
@@ -147,6 +148,7 @@ pub(crate) fn rename_entry_at<D: BlockDevice>(
     requires can { CanRename (seen_kept thread.old.kept true false) from.now to.now }
     requires apart { same_path from.now to.now ≡ false }
     ensures done { OnOk result ((given to_given : List ℕ) → as_path given ≡ from.now → as_path to_given ≡ to.now → Carries thread.old.kept (ops.Rename given to_given) thread.new.kept) }
+    ensures alone { OnOk result ((given to_given : List ℕ) → as_path given ≡ from.now → as_path to_given ≡ to.now → Spares thread.old.kept (ops.Rename given to_given) thread.new.kept) }
     ensures rooted { IfOk result (λ root. IsRooted thread.new root true) }
     ensures called { HasCalled thread.old.kept thread.new.kept }
     ensures errors { IfErr result (TellsError thread.old.kept thread.new.kept) }

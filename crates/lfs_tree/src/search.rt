@@ -1,11 +1,14 @@
 // Names in directories of several pairs.
 
-ghost use Rattle.std.specs.Prelude.{◌≡◌, ◌<◌, ◌≤◌, ◌+◌, false, length, drop, IfOk, IfSome, IsSome, OnOk};
+ghost use Rattle.std.specs.Prelude.{◌≡◌, ◌<◌, ◌≤◌, ◌+◌, ◌∷◌, [], false, length, drop, IfOk, IfSome, IsSome, OnOk};
 ghost use Rattle.lfs_model.specs.History.{reads};
 ghost use Rattle.lfs_model.specs.InDirectory.{HaveNoSuperblock, run_length};
 ghost use Rattle.lfs_model.specs.Slots.{Content};
 ghost use Rattle.lfs_thread.specs.Lent.{IsBlockOf, at_hand};
 ghost use Rattle.lfs_thread.specs.Steps.{HasTold, IsOnlyRead, pair_in};
+ghost use Rattle.lfs_tree.specs.AtHand.{BringsAlong};
+ghost use Rattle.lfs_tree.specs.Listed.{joined_run};
+ghost use Rattle.lfs_tree.specs.Reading.{IsReading};
 ghost use Rattle.lfs_tree.specs.Search.{Answers, AnswersIn, AnswersShown, HoldsContent, passed_in};
 
 use crate::entry::{Entry, entry_of};
@@ -62,10 +65,9 @@ fn find_in_pair<D: BlockDevice>(
     requires below { pair < length thread.old.kept.pairs }
     ensures answer { IfOk result (AnswersIn skip (pair_in thread.old.kept pair).content.slots name.now) }
     ensures at_hand { OnOk result (IsSome (at_hand thread.new pair)) }
-    ensures only { IsOnlyRead thread.old.kept thread.new.kept }
     ensures few { reads thread.new.kept.history ≤ reads thread.old.kept.history + 1 }
-    ensures works { thread.new.failed ≡ false }
-    ensures errors { HasTold thread.old.kept thread.new.kept result }
+    ensures brings { BringsAlong (pair_in thread.old.kept pair ∷ []) thread.old thread.new result }
+    ensures reading { IsReading thread.old thread.new result }
 {
     thread.bring(pair)?;
     let block = thread.lend(pair).unwrap();
@@ -129,10 +131,9 @@ pub fn find_shown<D: BlockDevice>(
     requires below { first < length thread.old.kept.pairs }
     ensures answer { IfOk result (AnswersShown thread.old.kept.pairs moved first name.now) }
     ensures at_hand { IfOk result (λ found. IfSome found (λ f. IsSome (at_hand thread.new f.0.pair))) }
-    ensures only { IsOnlyRead thread.old.kept thread.new.kept }
     ensures few { reads thread.new.kept.history ≤ reads thread.old.kept.history + run_length (drop first thread.old.kept.pairs) }
-    ensures works { thread.new.failed ≡ false }
-    ensures errors { HasTold thread.old.kept thread.new.kept result }
+    ensures brings { BringsAlong (joined_run (drop first thread.old.kept.pairs)) thread.old thread.new result }
+    ensures reading { IsReading thread.old thread.new result }
 {
     let mut pair = first;
     loop {

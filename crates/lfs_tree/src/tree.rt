@@ -6,7 +6,7 @@ ghost use Rattle.std.specs.Option.{option_map};
 ghost use Rattle.lfs_model.specs.History.{OnlyReads, faults, reads};
 ghost use Rattle.lfs_model.specs.Discipline.{pairs_of_path, parents};
 ghost use Rattle.lfs_model.specs.Operations as ops;
-ghost use Rattle.lfs_model.specs.TreeEdits.{added, attributes_of, bytes_at, is_file, removed, renamed, same_path};
+ghost use Rattle.lfs_model.specs.TreeEdits.{added, attributes_of, bytes_at, removed, renamed, same_path};
 ghost use Rattle.lfs_model.specs.BlockSets.{in_flight_count};
 ghost use Rattle.lfs_model.specs.Content.{attribute_of, put_attribute, without_attribute};
 ghost use Rattle.lfs_model.specs.Operations.{Flags};
@@ -24,6 +24,7 @@ ghost use Rattle.lfs_thread.specs.Device.{GivesBack, two_of};
 ghost use Rattle.lfs_thread.specs.Kept.{disk_on};
 ghost use Rattle.lfs_tree.specs.Allowed.{CanCreate, CanMake, CanRemove, CanRemoveAttr, CanRename, CanSetAttr};
 ghost use Rattle.lfs_tree.specs.CarryingSlots.{with_attributes_changed};
+ghost use Rattle.lfs_tree.specs.AtHand.{AreSmall, HasOnHand, ReadsOnce};
 ghost use Rattle.lfs_tree.specs.AttributeAt.{IsAttributesSize};
 ghost use Rattle.lfs_tree.specs.Finds.{Finds, has_names, list_item_seen};
 ghost use Rattle.lfs_tree.specs.Formatting.{ComesBack, ErasesTwo};
@@ -213,14 +214,16 @@ impl<D: BlockDevice> Tree<D> {
         thread.state()
     }
 
-    /// What a path leads to. Each pair of the directories above it is read at most once.
+    /// What a path leads to. Each pair of the directories above it is read at most once, and none where
+    /// all of them are at hand; at most eight directories of one pair each are at hand then.
     ///
     /// `Io` where a read failed, and `NoMemory` where memory isn't granted. It has failed then.
     pub fn look_up(&mut self, alloc: Global, path: &Path<'_>) -> Result<Finding, Error>
         requires { self.old.failed ≡ false }
         ensures asked { OnOk result (IsAsked self.old self.new) }
         ensures found { IfOk result (Finds (tree_seen self.old) path.now) }
-        ensures few { reads self.new.history ≤ reads self.old.history + sum_by (pairs_of_path self.old.pairs) (parents path.now) }
+        ensures few { ReadsOnce (parents path.now) self.old self.new.history }
+        ensures hand { AreSmall self.old.pairs (parents path.now) → IfOk result (λ found. found.fault ≡ None → HasOnHand self.new (parents path.now)) }
         ensures broken { OnErr result (IsBrokenAsking self.old self.new) }
         ensures errors { IfErr result (IsError self.old self.new) }
     {
@@ -277,7 +280,7 @@ impl<D: BlockDevice> Tree<D> {
     }
 
     /// What a path leads to, and an attribute of it, which has at most 1,022 bytes. Each pair of the
-    /// directories above it is read at most once.
+    /// directories above it is read at most once, and none where all of them are at hand.
     ///
     /// `Io` where a read failed, and `NoMemory` where memory isn't granted. It has failed then.
     pub fn get_attr(
@@ -290,7 +293,7 @@ impl<D: BlockDevice> Tree<D> {
         ensures asked { OnOk result (IsAsked self.old self.new) }
         ensures found { IfOk result (λ found. Finds (tree_seen self.old) path.now found.finding) }
         ensures bytes { IfOk result (λ found. (option_map (λ v. v.items) found.bytes ≡ attribute_of kind (attributes_of (tree_seen self.old path.now))) × IfSome found.bytes (λ v. length v.items ≤ 1022)) }
-        ensures few { reads self.new.history ≤ reads self.old.history + sum_by (pairs_of_path self.old.pairs) (parents path.now) }
+        ensures few { ReadsOnce (parents path.now) self.old self.new.history }
         ensures broken { OnErr result (IsBrokenAsking self.old self.new) }
         ensures errors { IfErr result (IsError self.old self.new) }
     {
@@ -322,7 +325,7 @@ impl<D: BlockDevice> Tree<D> {
     }
 
     /// What a path leads to, and what stands in it, where it is a directory. Each pair of the
-    /// directories above it, and of its own, is read at most once.
+    /// directories above it, and of its own, is read at most once, and none where all of them are at hand.
     ///
     /// `Io` where a read failed, and `NoMemory` where memory isn't granted. It has failed then.
     pub fn list(&mut self, alloc: Global, path: &Path<'_>) -> Result<Listing, Error>
@@ -330,7 +333,7 @@ impl<D: BlockDevice> Tree<D> {
         ensures asked { OnOk result (IsAsked self.old self.new) }
         ensures found { IfOk result (λ listing. Finds (tree_seen self.old) path.now listing.finding) }
         ensures items { IfOk result (λ listing. map list_item_seen listing.items.items ≡ items_in (tree_seen self.old) path.now) }
-        ensures few { reads self.new.history ≤ reads self.old.history + sum_by (pairs_of_path self.old.pairs) (parents path.now ++ path.now ∷ []) }
+        ensures few { ReadsOnce (parents path.now ++ path.now ∷ []) self.old self.new.history }
         ensures broken { OnErr result (IsBrokenAsking self.old self.new) }
         ensures errors { IfErr result (IsError self.old self.new) }
     {
@@ -349,6 +352,7 @@ impl<D: BlockDevice> Tree<D> {
     pub fn mkdir(&mut self, alloc: Global, path: &Path<'_>) -> Result<(), Error>
         requires { CanMake self.old path.now }
         ensures done { OnOk result ((bytes : List ℕ) → as_path bytes ≡ path.now → IsCarried self.old (ops.Mkdir bytes) self.new) }
+        ensures alone { OnOk result ((bytes : List ℕ) → as_path bytes ≡ path.now → LeavesRest self.old (ops.Mkdir bytes) self.new) }
         ensures broken { OnErr result (IsBroken self.old self.new) }
         ensures errors { IfErr result (IsError self.old self.new) }
         ensures survives { SurvivesAs self.old self.new (added path.now (DirectoryNode [] []) (tree_seen self.old)) }
@@ -402,7 +406,7 @@ impl<D: BlockDevice> Tree<D> {
     pub fn remove(&mut self, alloc: Global, path: &Path<'_>) -> Result<(), Error>
         requires { CanRemove self.old path.now }
         ensures done { OnOk result ((bytes : List ℕ) → as_path bytes ≡ path.now → IsCarried self.old (ops.Remove bytes) self.new) }
-        ensures alone { OnOk result ((bytes : List ℕ) → as_path bytes ≡ path.now → is_file (tree_seen self.old path.now) ≡ true → LeavesRest self.old (ops.Remove bytes) self.new) }
+        ensures alone { OnOk result ((bytes : List ℕ) → as_path bytes ≡ path.now → LeavesRest self.old (ops.Remove bytes) self.new) }
         ensures broken { OnErr result (IsBroken self.old self.new) }
         ensures errors { IfErr result (IsError self.old self.new) }
         ensures survives { SurvivesAs self.old self.new (removed path.now (tree_seen self.old)) }
@@ -431,6 +435,7 @@ impl<D: BlockDevice> Tree<D> {
         requires can { CanRename self.old from.now to.now }
         requires apart { same_path from.now to.now ≡ false }
         ensures done { OnOk result ((given to_given : List ℕ) → as_path given ≡ from.now → as_path to_given ≡ to.now → IsCarried self.old (ops.Rename given to_given) self.new) }
+        ensures alone { OnOk result ((given to_given : List ℕ) → as_path given ≡ from.now → as_path to_given ≡ to.now → LeavesRest self.old (ops.Rename given to_given) self.new) }
         ensures broken { OnErr result (IsBroken self.old self.new) }
         ensures errors { IfErr result (IsError self.old self.new) }
         ensures survives { SurvivesAs self.old self.new (renamed from.now to.now (tree_seen self.old)) }

@@ -7,12 +7,13 @@ ghost use Rattle.lfs_tag.specs.FieldsSeen.{move_seen};
 ghost use Rattle.lfs_tree.specs.Items.{item_seen, items_seen, structure_seen};
 ghost use Rattle.lfs_tree.specs.Listed.{shapes_from};
 ghost use Rattle.lfs_tree.specs.Reading.{IsReading};
-ghost use Rattle.lfs_tree.specs.Walk.{ArePushed, BeginsIfBranch, IsWalked, beneath, found_seen, founds_seen, places_beneath};
+ghost use Rattle.lfs_tree.specs.Walk.{ArePushed, BeginsIfBranch, IsWalked, addresses_in, beneath, found_seen, founds_seen, places_beneath};
 
+use crate::addresses::addresses_of;
 use crate::directory::entries_under;
 use crate::items::{Item, Structure};
-use crate::paths::number_of;
 use lfs_device::{BlockDevice, Error};
+use lfs_mount::Places;
 use lfs_tag::MoveState;
 use lfs_thread::Thread;
 use std::alloc::{AllocError, Global};
@@ -79,18 +80,20 @@ fn push_directory<D: BlockDevice>(
 fn push_below<D: BlockDevice>(
     alloc: Global,
     thread: &mut Thread<D>,
+    addresses: &Places,
     state: &MoveState,
     found: &TreeItem,
     pending: &mut Vec<TreeItem>,
 ) -> Result<(), Error>
     requires works { thread.old.failed ≡ false }
+    requires all { addresses.now ≡ addresses_in thread.old.kept.pairs }
     requires begins { BeginsIfBranch thread.old.kept.pairs (structure_seen found.now.structure) }
     requires state { move_seen state.now ≡ gstate_of thread.old.kept.pairs }
     ensures pushed { OnOk result (ArePushed thread.old.kept.pairs (found_seen found.now) (founds_seen pending.old.items) (founds_seen pending.new.items)) }
     ensures reading { IsReading thread.old thread.new result }
 {
     if let Structure::Branch(to) = found.structure {
-        let first = number_of(thread, to).unwrap();
+        let first = addresses.find(to).unwrap() as usize;
         push_directory(alloc, thread, state, first, &found.path, pending)?;
     }
     Ok(())
@@ -108,12 +111,13 @@ pub fn walk<D: BlockDevice>(alloc: Global, thread: &mut Thread<D>) -> Result<Vec
     ensures reading { IsReading thread.old thread.new result }
 {
     let state = thread.state();
+    let addresses = addresses_of(alloc, thread)?;
     let mut walked = Vec::new(alloc);
     let mut pending = Vec::new(alloc);
     // The root's entries: the superblock's pairs, which may stand in front of it, show nothing.
     push_directory(alloc, thread, &state, 0, b"", &mut pending)?;
     while let Some(found) = pending.pop() {
-        push_below(alloc, thread, &state, &found, &mut pending)?;
+        push_below(alloc, thread, &addresses, &state, &found, &mut pending)?;
         walked.push(found)?;
     }
     Ok(walked)

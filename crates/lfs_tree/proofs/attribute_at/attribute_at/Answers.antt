@@ -57,3 +57,12 @@ pub returns-clause-reading : goal.returns-clause-reading
 returns-clause-reading g c =
     answers _ _ _ _ refl (both _ _ _ (answered _ _ c.shown_at.result c.in_ok-shown.shown c.in_ok-shown.was c.shown_at.ensures.reading)
     (answered _ _ c.attribute_held.result c.in_ok-bytes.bytes c.in_ok-bytes.was c.attribute_held.ensures.reading))
+
+pub returns-in_err-shown-clause-kept : goal.returns-in_err-shown-clause-kept
+returns-in_err-shown-clause-kept g c = c.shown_at.ensures.brings.none
+
+pub returns-in_err-bytes-clause-kept : goal.returns-in_err-bytes-clause-kept
+returns-in_err-bytes-clause-kept g c = λ there. ap (λ (t : Kept). reads t.history) c.attribute_held.ensures.no_call ∙ c.shown_at.ensures.brings.none there
+
+pub returns-clause-kept : goal.returns-clause-kept
+returns-clause-kept g c = λ there. ap (λ (t : Kept). reads t.history) c.attribute_held.ensures.no_call ∙ c.shown_at.ensures.brings.none there

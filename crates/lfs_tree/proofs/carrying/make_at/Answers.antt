@@ -1,8 +1,9 @@
 use Rattle.std.proofs.Common.{◌∙◌, sym, subst, arith}
-use Rattle.lfs_operations.specs.Making.{CanMake, IsMade, WritesUpTo, with_directory}
+use Rattle.lfs_operations.specs.Making.{AltersUpTo, CanMake, IsMade, WritesUpTo, with_directory}
+use Rattle.lfs_model.specs.Operations as ops
 use Rattle.lfs_tree.specs.Carrying.{SurvivesTo}
 use Rattle.lfs_tree.proofs.Carried.{read_is}
-use Rattle.lfs_tree.proofs.CarryCreated.{can_make, made_at, made_survives}
+use Rattle.lfs_tree.proofs.CarryCreated.{can_make, made_alone, made_at, made_survives}
 use Rattle.lfs_tree.proofs.CarrySurvives.{survives_reading}
 use Rattle.lfs_tree.proofs.CarryTold.{called_by_writing}
 use Rattle.lfs_tree.proofs.Reading.{answered}
@@ -36,6 +37,17 @@ returns-clause-done g c bytes e =
     let w = subst (λ k. WritesUpTo k p.spot.pair new) (read_is t.kept mid only) c.make_directory.ensures.device in
     let is = subst (λ k. (can : CanMake k p.spot.pair p.spot.id p.name.now) → IsMade k new can.path p.name.now) (read_is t.kept mid only) c.in_ok-make_directory.ensures.made in
     made_at t c.args.root c.requires.rests c.args.path.now c.know_names.ensures c.know_device.ensures.large c.know_device.ensures.bytes 4 c.requires.can p.name.now p.spot place mid.history new bytes only.reads w is (omega arith) e
+
+pub returns-clause-alone : goal.returns-clause-alone
+returns-clause-alone g c bytes e none files =
+    let t = c.args.thread.now in
+    let mid = c.find_place.new.thread.kept in
+    let new = c.make_directory.new.thread.kept in
+    let p = c.in_ok-place.place in
+    let only = c.find_place.ensures.reading.only in
+    let w = subst (λ k. WritesUpTo k p.spot.pair new) (read_is t.kept mid only) c.make_directory.ensures.device in
+    let alters = subst (λ k. AltersUpTo k p.spot.pair new) (read_is t.kept mid only) c.in_ok-make_directory.ensures.alters in
+    made_alone t c.args.root c.requires.rests c.args.path.now c.know_names.ensures c.know_device.ensures.large c.know_device.ensures.bytes 4 c.requires.can p.name.now p.spot c.in_ok-place.ensures.place mid.history new (ops.Mkdir bytes) files w alters
 
 pub returns-clause-called : goal.returns-clause-called
 returns-clause-called g c =

@@ -1,4 +1,4 @@
-use Rattle.std.proofs.Common.{◌≡◌, true, sym, ap, subst, ◌∙◌, Err}
+use Rattle.std.proofs.Common.{sym, ap, subst, ◌∙◌, Err}
 use Rattle.std.specs.Prelude.{IfErr}
 use Rattle.std.proofs.lemmas.Result.{err_from_is_err_and}
 use Rattle.lfs_model.specs.TreeEdits.{removed}
@@ -7,12 +7,11 @@ use Rattle.lfs_operations.specs.MovingSteps.{WritesAmong}
 use Rattle.lfs_tree.specs.Carrying.{SurvivesTo, TellsError}
 use Rattle.lfs_tree.specs.Going.{CanGo, HasGone, HasSpared}
 use Rattle.lfs_tree.proofs.Carried.{read_is}
-use Rattle.lfs_tree.proofs.CarryGone.{can_go, entry_to_remove, file_entry, removed_at, told_of_steps}
+use Rattle.lfs_tree.proofs.CarryGone.{can_go, entry_to_remove, removed_at, told_of_steps}
 use Rattle.lfs_tree.proofs.CarrySurvives.{survives_behind, survives_reading}
 use Rattle.lfs_tree.proofs.CarryTold.{called_by_writing, tells_error}
 use Rattle.lfs_tree.proofs.Reading.{answered}
 use Rattle.lfs_tree.proofs.carrying_removal.remove_at.Goals as goal
-use Rattle.lfs_tree.specs.Storing.{is_file_found}
 
 pub find_entry-requires-clause-there : goal.find_entry-requires-clause-there
 find_entry-requires-clause-there g c = entry_to_remove c.args.thread.now.kept c.args.path.now c.requires.can
@@ -58,14 +57,14 @@ returns-clause-done g c given e =
     removed_at t c.args.root c.requires.rests c.args.path.now mid.history new only.reads w given (gone can) e
 
 pub returns-clause-alone : goal.returns-clause-alone
-returns-clause-alone g c given e file none files =
+returns-clause-alone g c given e none files =
     let t = c.args.thread.now in
     let mid = c.find_entry.new.thread.kept in
     let new = c.take_found.new.thread.kept in
     let only = c.find_entry.ensures.reading.only in
     let can = can_go t c.args.root c.requires.rests c.args.path.now c.know_device.ensures.large c.know_device.ensures.bytes c.requires.can mid.history c.in_ok-found.found c.in_ok-found.ensures.entry in
-    let spares = subst (λ k. CanGo k c.args.path.now c.in_ok-found.found → is_file_found c.in_ok-found.found ≡ true → HasSpared k c.args.path.now new) (read_is t.kept mid only) (c.in_ok-take_found.ensures.alone c.args.path.now) in
-    spares can (file_entry t.kept c.args.path.now c.in_ok-found.found c.in_ok-found.ensures.entry file) (record { tree = tree_in t.kept.disk t.kept.pairs; files = files }) given e
+    let spares = subst (λ k. CanGo k c.args.path.now c.in_ok-found.found → HasSpared k c.args.path.now new) (read_is t.kept mid only) (c.in_ok-take_found.ensures.alone c.args.path.now) in
+    spares can (record { tree = tree_in t.kept.disk t.kept.pairs; files = files }) given e
 
 pub returns-clause-called : goal.returns-clause-called
 returns-clause-called g c =

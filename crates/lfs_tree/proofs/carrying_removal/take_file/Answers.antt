@@ -6,7 +6,8 @@ use Rattle.lfs_operations.specs.Editing.{slot_at}
 use Rattle.lfs_operations.specs.Ready.{IsReady}
 use Rattle.lfs_tree.specs.Going.{CanTake, HasGone, HasSpared}
 use Rattle.lfs_tree.proofs.CarryFreed.{can_free, file_writes, files_stay, ok_both, shape_geometry, writes_then}
-use Rattle.lfs_tree.proofs.CarryGone.{file_gone, file_spares, freeing_survives, removal_survives, steps_both, steps_from}
+use Rattle.lfs_tree.proofs.CarryGone.{file_gone, freeing_survives, removal_survives, steps_both, steps_from}
+use Rattle.lfs_tree.proofs.CarrySpared.{file_spares}
 use Rattle.lfs_tree.proofs.carrying_removal.take_file.Goals as goal
 
 pub remove_file-requires-clause-can : goal.remove_file-requires-clause-can

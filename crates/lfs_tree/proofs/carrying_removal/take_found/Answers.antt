@@ -1,12 +1,11 @@
-use Rattle.std.proofs.Common.{◌≡◌, ◌∙◌, true, ap, subst, sym}
+use Rattle.std.proofs.Common.{subst}
 use Rattle.lfs_model.specs.Tree.{Path}
-use Rattle.lfs_operations.specs.Unlinking.{IsDirectoryRemoved}
+use Rattle.lfs_operations.specs.Unlinking.{AltersInFront, CanRemoveDirectory, IsDirectoryRemoved}
 use Rattle.lfs_tree.specs.Going.{CanGo, CanTake, HasGone, HasSpared}
-use Rattle.lfs_operations.specs.Unlinking.{CanRemoveDirectory}
 use Rattle.lfs_tree.proofs.CarryFreed.{ok_then}
 use Rattle.lfs_tree.proofs.CarryGone.{directory_gone, directory_writes, removal_survives}
+use Rattle.lfs_tree.proofs.CarrySpared.{directory_spares}
 use Rattle.lfs_tree.proofs.carrying_removal.take_found.Goals as goal
-use Rattle.lfs_tree.specs.Storing.{is_file_found}
 
 pub returns-in-File-clause-gone : goal.returns-in-File-clause-gone
 returns-in-File-clause-gone g c =
@@ -44,13 +43,13 @@ returns-in-File-clause-alone g c =
     let t = c.args.thread.now.kept in
     let new = c.take_file.new.thread.kept in
     let f = c.in-File in
-    ok_then c.take_file.result ((path : Path) → CanTake t path f.parent f.slot f.contents → HasSpared t path new) ((path : Path) → CanGo t path c.args.found → is_file_found c.args.found ≡ true → HasSpared t path new)
-    (λ gives path can file. gives path (subst (λ k. CanGo t path k) c.in-File.is can)) c.take_file.ensures.alone
+    ok_then c.take_file.result ((path : Path) → CanTake t path f.parent f.slot f.contents → HasSpared t path new) ((path : Path) → CanGo t path c.args.found → HasSpared t path new)
+    (λ gives path can. gives path (subst (λ k. CanGo t path k) c.in-File.is can)) c.take_file.ensures.alone
 
 pub returns-in-Directory-clause-alone : goal.returns-in-Directory-clause-alone
 returns-in-Directory-clause-alone g c =
     let t = c.args.thread.now.kept in
     let new = c.remove_directory.new.thread.kept in
     let f = c.in-Directory in
-    ok_then c.remove_directory.result ((take : CanRemoveDirectory t f.slot.pair f.slot.id f.parent f.first) → IsDirectoryRemoved t new take.can.path take.can.name) ((path : Path) → CanGo t path c.args.found → is_file_found c.args.found ≡ true → HasSpared t path new)
-    (λ gives path can file. absurd (let k = sym file ∙ ap is_file_found c.in-Directory.is in cc)) c.remove_directory.ensures.is_removed
+    ok_then c.remove_directory.result (AltersInFront t f.slot.pair f.parent f.first new) ((path : Path) → CanGo t path c.args.found → HasSpared t path new)
+    (λ alters path can. let k = subst (λ k. CanGo t path k) c.in-Directory.is can in directory_spares t new path f.slot.pair f.slot.id f.parent f.first k.take k.is alters c.remove_directory.ensures.device) c.remove_directory.ensures.alters

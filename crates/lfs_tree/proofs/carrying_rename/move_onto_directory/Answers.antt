@@ -1,6 +1,6 @@
 use Rattle.lfs_operations.proofs.OntoWritten.{each_among}
 use Rattle.lfs_tree.proofs.ShiftedDirectories.{over_apart, over_done_apart, over_done_within, over_survives_apart, over_survives_within, over_within, over_writes_within, told_over}
-use Rattle.lfs_tree.proofs.ShiftedSlots.{if_done, told_across}
+use Rattle.lfs_tree.proofs.ShiftedSlots.{if_both, told_across}
 use Rattle.lfs_tree.proofs.carrying_rename.move_onto_directory.Goals as goal
 
 pub rename_onto_directory-requires-clause-can : goal.rename_onto_directory-requires-clause-can
@@ -10,8 +10,8 @@ rename_onto_directory-requires-clause-can g c =
 
 pub returns-then-from-slot-clause-shifted : goal.returns-then-from-slot-clause-shifted
 returns-then-from-slot-clause-shifted g c =
-    if_done c.rename_onto_directory.result c.rename_onto_directory.ensures.renamed
-    (λ gives from to can. over_done_within c.args.thread.now.kept from to c.args.source c.args.slot c.args.gone c.args.name.now can c.rename_onto_directory.new.thread.kept c.if-from-slot.true gives)
+    if_both c.rename_onto_directory.result c.rename_onto_directory.ensures.renamed c.rename_onto_directory.ensures.alters
+    (λ gives alters from to can. over_done_within c.args.thread.now.kept from to c.args.source c.args.slot c.args.gone c.args.name.now can c.rename_onto_directory.new.thread.kept c.if-from-slot.true alters gives)
 
 pub returns-then-from-slot-clause-errors : goal.returns-then-from-slot-clause-errors
 returns-then-from-slot-clause-errors g c = told_over c.args.thread.now c.rename_onto_directory.new.thread c.rename_onto_directory.result c.rename_onto_directory.ensures.errors
@@ -32,8 +32,8 @@ rename_onto_directory_across-requires-clause-can g c =
 
 pub returns-else-from-slot-clause-shifted : goal.returns-else-from-slot-clause-shifted
 returns-else-from-slot-clause-shifted g c =
-    if_done c.rename_onto_directory_across.result c.rename_onto_directory_across.ensures.renamed
-    (λ gives from to can. over_done_apart c.args.thread.now.kept from to c.args.source c.args.slot c.args.gone c.args.name.now can c.rename_onto_directory_across.new.thread.kept c.if-from-slot.false gives)
+    if_both c.rename_onto_directory_across.result c.rename_onto_directory_across.ensures.renamed c.rename_onto_directory_across.ensures.alters
+    (λ gives alters from to can. over_done_apart c.args.thread.now.kept from to c.args.source c.args.slot c.args.gone c.args.name.now can c.rename_onto_directory_across.new.thread.kept c.if-from-slot.false alters gives)
 
 pub returns-else-from-slot-clause-errors : goal.returns-else-from-slot-clause-errors
 returns-else-from-slot-clause-errors g c =

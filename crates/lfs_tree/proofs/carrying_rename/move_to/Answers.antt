@@ -1,4 +1,4 @@
-use Rattle.lfs_tree.proofs.ShiftedSlots.{apart_within, if_done, rename_apart, rename_within, shifted_apart, survives_apart, told_across, writes_apart, shifted_within, survives_within, told_within}
+use Rattle.lfs_tree.proofs.ShiftedSlots.{apart_within, if_both, if_done, rename_apart, rename_within, shifted_apart, survives_apart, told_across, writes_apart, shifted_within, survives_within, told_within}
 use Rattle.lfs_tree.proofs.carrying_rename.move_to.Goals as goal
 
 pub rename-requires-clause-can : goal.rename-requires-clause-can
@@ -8,7 +8,7 @@ rename-requires-clause-can g c =
 
 pub returns-then-slot-place-clause-shifted : goal.returns-then-slot-place-clause-shifted
 returns-then-slot-place-clause-shifted g c =
-    if_done c.rename.result c.rename.ensures.renamed (λ gives from to can. shifted_within c.args.thread.now.kept from to c.args.source c.args.place c.args.name.now can c.rename.new.thread.kept c.if-slot-place.true gives)
+    if_done c.rename.result c.rename.ensures.renamed (λ gives from to can. shifted_within c.args.thread.now.kept from to c.args.source c.args.place c.args.name.now can c.rename.new.thread.kept c.if-slot-place.true c.rename.ensures.device gives)
 
 pub returns-then-slot-place-clause-errors : goal.returns-then-slot-place-clause-errors
 returns-then-slot-place-clause-errors g c =
@@ -30,7 +30,7 @@ rename_across-requires-clause-can g c =
 
 pub returns-else-slot-place-clause-shifted : goal.returns-else-slot-place-clause-shifted
 returns-else-slot-place-clause-shifted g c =
-    if_done c.rename_across.result c.rename_across.ensures.renamed (λ gives from to can. shifted_apart c.args.thread.now.kept from to c.args.source c.args.place c.args.name.now can c.rename_across.new.thread.kept c.if-slot-place.false gives)
+    if_both c.rename_across.result c.rename_across.ensures.renamed c.rename_across.ensures.alters (λ gives alters from to can. shifted_apart c.args.thread.now.kept from to c.args.source c.args.place c.args.name.now can c.rename_across.new.thread.kept c.if-slot-place.false alters gives)
 
 pub returns-else-slot-place-clause-errors : goal.returns-else-slot-place-clause-errors
 returns-else-slot-place-clause-errors g c =

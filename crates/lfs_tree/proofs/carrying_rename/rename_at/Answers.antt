@@ -70,6 +70,20 @@ returns-clause-done g c given to_given e f =
     (c.in_ok-move_found.ensures.shifted c.args.from.now c.args.to.now) in
     shifted_at t c.args.root c.requires.rests c.args.from.now c.args.to.now c.requires.apart mid.kept.history new.kept read.only.reads w given to_given (is can) e f
 
+pub returns-clause-alone : goal.returns-clause-alone
+returns-clause-alone g c given to_given e f none files =
+    let t = c.args.thread.now in
+    let one = c.find_source.new.thread in
+    let mid = c.find_target.new.thread in
+    let new = c.move_found.new.thread in
+    let read = both t one mid (answered t one c.find_source.result c.in_ok-source.source c.in_ok-source.was c.find_source.ensures.reading) (answered one mid c.find_target.result c.in_ok-target.target c.in_ok-target.was c.find_target.ensures.reading) in
+    let w = subst (λ k. WritesAmong k new.kept) (read_is t.kept mid.kept read.only) c.move_found.ensures.device in
+    let can = shift_found t c.args.root c.requires.rests c.args.from.now c.args.to.now c.know_names.ensures c.know_device.ensures.large c.know_device.ensures.bytes c.requires.can c.requires.apart c.in_ok-source.source c.in_ok-source.ensures.source mid.kept.history
+    c.in_ok-target.target.found c.in_ok-target.target.name.now (target_back t.kept one.kept c.args.to.now c.in_ok-target.target.found c.in_ok-target.target.name.now c.find_source.ensures.reading.only c.in_ok-target.ensures.target) in
+    let is = subst (λ k. CanShiftFound k c.args.from.now c.args.to.now c.in_ok-source.source c.in_ok-target.target.found c.in_ok-target.target.name.now → HasShifted k c.args.from.now c.args.to.now new.kept) (read_is t.kept mid.kept read.only)
+    (c.in_ok-move_found.ensures.shifted c.args.from.now c.args.to.now) in
+    (is can).alone (record { tree = tree_in t.kept.disk t.kept.pairs; files = files }) given to_given e f
+
 pub returns-clause-called : goal.returns-clause-called
 returns-clause-called g c =
     let t = c.args.thread.now in

@@ -1,5 +1,5 @@
 use Rattle.lfs_tree.proofs.ShiftedFiles.{onto_apart, onto_survives_apart, onto_survives_within, onto_within, onto_writes_apart, replace_apart, replace_within}
-use Rattle.lfs_tree.proofs.ShiftedSlots.{apart_within, if_done, told_across, told_within}
+use Rattle.lfs_tree.proofs.ShiftedSlots.{apart_within, if_both, if_done, told_across, told_within}
 use Rattle.lfs_tree.proofs.carrying_rename.replace_file.Goals as goal
 
 pub rename_onto_file-requires-clause-can : goal.rename_onto_file-requires-clause-can
@@ -33,8 +33,8 @@ rename_onto_file_across-requires-clause-can g c =
 
 pub returns-else-from-slot-clause-shifted : goal.returns-else-from-slot-clause-shifted
 returns-else-from-slot-clause-shifted g c =
-    if_done c.rename_onto_file_across.result c.rename_onto_file_across.ensures.replaced
-    (λ gives from to can. onto_apart c.args.thread.now.kept from to c.args.source c.args.slot c.args._contents c.args.name.now can c.rename_onto_file_across.new.thread.kept c.if-from-slot.false c.rename_onto_file_across.ensures.device gives)
+    if_both c.rename_onto_file_across.result c.rename_onto_file_across.ensures.replaced c.rename_onto_file_across.ensures.alters
+    (λ gives alters from to can. onto_apart c.args.thread.now.kept from to c.args.source c.args.slot c.args._contents c.args.name.now can c.rename_onto_file_across.new.thread.kept c.if-from-slot.false c.rename_onto_file_across.ensures.device alters gives)
 
 pub returns-else-from-slot-clause-errors : goal.returns-else-from-slot-clause-errors
 returns-else-from-slot-clause-errors g c =

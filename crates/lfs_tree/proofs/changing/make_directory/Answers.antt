@@ -3,7 +3,7 @@ use Rattle.lfs_model.specs.TreeEdits.{added}
 use Rattle.lfs_model.specs.Operations as ops
 use Rattle.lfs_model.specs.Tree.{DirectoryNode}
 use Rattle.lfs_tree.proofs.CarryFreed.{ok_then}
-use Rattle.lfs_tree.proofs.RecoveredFirst.{add_after, called_after, carried_after, errors_after, survives_after, survives_before}
+use Rattle.lfs_tree.proofs.RecoveredFirst.{add_after, called_after, carried_after, errors_after, survives_after, survives_before, spares_after}
 use Rattle.lfs_tree.proofs.changing.make_directory.Goals as goal
 
 pub returns-in_err-root-clause-survives : goal.returns-in_err-root-clause-survives
@@ -14,6 +14,9 @@ make_directory_at-requires-clause-can g c = add_after c.args.thread.now.kept c.r
 
 pub returns-clause-done : goal.returns-clause-done
 returns-clause-done g c = ok_then c.make_directory_at.result _ _ (λ h bytes e. carried_after c.args.thread.now.kept c.recover_first.new.thread.kept c.in_ok-root.ensures.done c.make_directory_at.new.thread.kept (ops.Mkdir bytes) refl refl (h bytes e)) c.make_directory_at.ensures.done
+
+pub returns-clause-alone : goal.returns-clause-alone
+returns-clause-alone g c = ok_then c.make_directory_at.result _ _ (λ h bytes e. spares_after c.args.thread.now.kept c.recover_first.new.thread.kept c.in_ok-root.ensures.done c.make_directory_at.new.thread.kept (ops.Mkdir bytes) (h bytes e)) c.make_directory_at.ensures.alone
 
 pub returns-clause-called : goal.returns-clause-called
 returns-clause-called g c = called_after c.args.thread.now.kept c.recover_first.new.thread.kept c.in_ok-root.ensures.done c.make_directory_at.new.thread.kept c.make_directory_at.ensures.called

@@ -1,8 +1,8 @@
-use Rattle.std.proofs.Common.{◌∙◌, ap, refl}
-use Rattle.lfs_model.specs.TreeEdits.{is_file, removed}
+use Rattle.std.proofs.Common.{refl}
+use Rattle.lfs_model.specs.TreeEdits.{removed}
 use Rattle.lfs_model.specs.Operations as ops
 use Rattle.lfs_tree.proofs.CarryFreed.{ok_then}
-use Rattle.lfs_tree.proofs.RecoveredFirst.{called_after, carried_after, errors_after, remove_after, survives_after, survives_before, spares_after, tree_is}
+use Rattle.lfs_tree.proofs.RecoveredFirst.{called_after, carried_after, errors_after, remove_after, survives_after, survives_before, spares_after}
 use Rattle.lfs_tree.proofs.changing.remove_entry.Goals as goal
 
 pub returns-in_err-root-clause-survives : goal.returns-in_err-root-clause-survives
@@ -16,8 +16,7 @@ returns-clause-done g c = ok_then c.remove_entry_at.result _ _ (λ h bytes e. ca
 
 pub returns-clause-alone : goal.returns-clause-alone
 returns-clause-alone g c = ok_then c.remove_entry_at.result _ _
-    (λ h bytes e file. spares_after c.args.thread.now.kept c.recover_first.new.thread.kept c.in_ok-root.ensures.done c.remove_entry_at.new.thread.kept (ops.Remove bytes)
-    (h bytes e (ap (λ t. is_file (t c.args.path.now)) (tree_is c.args.thread.now.kept c.recover_first.new.thread.kept c.in_ok-root.ensures.done) ∙ file))) c.remove_entry_at.ensures.alone
+    (λ h bytes e. spares_after c.args.thread.now.kept c.recover_first.new.thread.kept c.in_ok-root.ensures.done c.remove_entry_at.new.thread.kept (ops.Remove bytes) (h bytes e)) c.remove_entry_at.ensures.alone
 
 pub returns-clause-called : goal.returns-clause-called
 returns-clause-called g c = called_after c.args.thread.now.kept c.recover_first.new.thread.kept c.in_ok-root.ensures.done c.remove_entry_at.new.thread.kept c.remove_entry_at.ensures.called

@@ -6,6 +6,8 @@ use Rattle.lfs_tree.specs.Items.{items_seen}
 use Rattle.lfs_tree.proofs.AtPaths.{sized_on}
 use Rattle.lfs_tree.proofs.ListAtItems.{bytes_on}
 use Rattle.lfs_tree.proofs.Reading.{answered, answers, both, further, lacks_memory, passed}
+use Rattle.lfs_tree.proofs.BroughtDown.{first_on_hand, on_hand_above}
+use Rattle.lfs_tree.proofs.RecentBlocks.{on_ok}
 use Rattle.lfs_tree.proofs.ShownFindings.{few_from, few_own, first_at, first_within, found_shown, in_entry, listed_from, short_from}
 use Rattle.lfs_tree.proofs.list_at.list_at.Goals as goal
 
@@ -97,3 +99,33 @@ pub returns-clause-reading : goal.returns-clause-reading
 returns-clause-reading g c =
     answers _ _ _ _ refl (both _ _ _ (answered _ _ c.shown_at.result c.in_ok-shown.shown c.in_ok-shown.was c.shown_at.ensures.reading)
     (answered _ _ c.entries_from.result c.in_ok-items.items c.in_ok-items.was c.entries_from.ensures.reading))
+
+pub returns-in_err-shown-clause-kept : goal.returns-in_err-shown-clause-kept
+returns-in_err-shown-clause-kept g c = λ there. c.shown_at.ensures.brings.none (on_hand_above c.args.thread.now c.args.path.now there)
+
+pub returns-in_err-items-clause-kept : goal.returns-in_err-items-clause-kept
+returns-in_err-items-clause-kept g c = λ there.
+    let t = c.args.thread.now.kept in
+    let only = c.shown_at.ensures.reading.only in
+    let stay = on_ok c.shown_at.result c.in_ok-shown.shown _ c.in_ok-shown.was (c.shown_at.ensures.brings.stay (on_hand_above c.args.thread.now c.args.path.now there)) in
+    let at = first_at t c.args.path.now c.requires.accepted c.args.root c.in_ok-shown.shown c.first_of.result c.requires.root c.in_ok-shown.ensures.shown c.first_of.ensures in
+    c.entries_from.ensures.kept (first_on_hand c.args.thread.now c.shown_at.new.thread c.args.path.now c.requires.accepted only c.first_of.result at stay there)
+    ∙ c.shown_at.ensures.brings.none (on_hand_above c.args.thread.now c.args.path.now there)
+
+pub returns-in_err-listed-clause-kept : goal.returns-in_err-listed-clause-kept
+returns-in_err-listed-clause-kept g c = λ there.
+    let t = c.args.thread.now.kept in
+    let only = c.shown_at.ensures.reading.only in
+    let stay = on_ok c.shown_at.result c.in_ok-shown.shown _ c.in_ok-shown.was (c.shown_at.ensures.brings.stay (on_hand_above c.args.thread.now c.args.path.now there)) in
+    let at = first_at t c.args.path.now c.requires.accepted c.args.root c.in_ok-shown.shown c.first_of.result c.requires.root c.in_ok-shown.ensures.shown c.first_of.ensures in
+    c.entries_from.ensures.kept (first_on_hand c.args.thread.now c.shown_at.new.thread c.args.path.now c.requires.accepted only c.first_of.result at stay there)
+    ∙ c.shown_at.ensures.brings.none (on_hand_above c.args.thread.now c.args.path.now there)
+
+pub returns-clause-kept : goal.returns-clause-kept
+returns-clause-kept g c = λ there.
+    let t = c.args.thread.now.kept in
+    let only = c.shown_at.ensures.reading.only in
+    let stay = on_ok c.shown_at.result c.in_ok-shown.shown _ c.in_ok-shown.was (c.shown_at.ensures.brings.stay (on_hand_above c.args.thread.now c.args.path.now there)) in
+    let at = first_at t c.args.path.now c.requires.accepted c.args.root c.in_ok-shown.shown c.first_of.result c.requires.root c.in_ok-shown.ensures.shown c.first_of.ensures in
+    c.entries_from.ensures.kept (first_on_hand c.args.thread.now c.shown_at.new.thread c.args.path.now c.requires.accepted only c.first_of.result at stay there)
+    ∙ c.shown_at.ensures.brings.none (on_hand_above c.args.thread.now c.args.path.now there)

@@ -8,7 +8,7 @@ use Rattle.lfs_model.specs.Thread.{superblocks_before}
 use Rattle.lfs_tree.specs.Carrying.{TellsError}
 use Rattle.lfs_tree.specs.Held.{seen_kept}
 use Rattle.lfs_tree.specs.Seen.{around_of}
-use Rattle.lfs_tree.proofs.CarryRooted.{called_on, carried_read}
+use Rattle.lfs_tree.proofs.CarryRooted.{called_on, carried_read, spares_read}
 use Rattle.lfs_tree.proofs.CarrySurvives.{survives_ahead}
 use Rattle.lfs_tree.proofs.CarryTold.{tells_error, told_by_reading}
 use Rattle.lfs_tree.proofs.Mounting.{sound_read}
@@ -27,6 +27,9 @@ returns-in_err-root-clause-errors g c =
 
 pub returns-clause-done : goal.returns-clause-done
 returns-clause-done g c bytes e = carried_read _ _ _ (ops.Mkdir bytes) c.find_root.ensures.reading.only refl refl (c.in_ok-make_at.ensures.done bytes e)
+
+pub returns-clause-alone : goal.returns-clause-alone
+returns-clause-alone g c bytes e = spares_read c.args.thread.now.kept c.make_at.new.thread.kept c.find_root.new.thread.kept (ops.Mkdir bytes) c.find_root.ensures.reading.only (c.in_ok-make_at.ensures.alone bytes e)
 
 pub returns-clause-rooted : goal.returns-clause-rooted
 returns-clause-rooted g c = record {

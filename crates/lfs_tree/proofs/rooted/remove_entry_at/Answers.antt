@@ -28,7 +28,7 @@ pub returns-clause-done : goal.returns-clause-done
 returns-clause-done g c bytes e = carried_read _ _ _ (ops.Remove bytes) c.find_root.ensures.reading.only refl refl (c.in_ok-remove_at.ensures.done bytes e)
 
 pub returns-clause-alone : goal.returns-clause-alone
-returns-clause-alone g c bytes e file = spares_read c.args.thread.now.kept c.remove_at.new.thread.kept c.find_root.new.thread.kept (ops.Remove bytes) c.find_root.ensures.reading.only (c.in_ok-remove_at.ensures.alone bytes e file)
+returns-clause-alone g c bytes e = spares_read c.args.thread.now.kept c.remove_at.new.thread.kept c.find_root.new.thread.kept (ops.Remove bytes) c.find_root.ensures.reading.only (c.in_ok-remove_at.ensures.alone bytes e)
 
 pub returns-clause-rooted : goal.returns-clause-rooted
 returns-clause-rooted g c = record {

@@ -11,7 +11,7 @@ use Rattle.lfs_tree.proofs.search.find_name.Goals as goal
 use Rattle.lfs_tree.proofs.search.find_name.Goals.{then-pair-first, then-pair-first-via-then-pair-first, then-pair-first-via-else-pair-first+then-id-gt0, else-pair-first+else-id-gt0}
 
 pub returns-in_err-id-clause-only : goal.returns-in_err-id-clause-only
-returns-in_err-id-clause-only g c = only_read _ _ _ c.loop-id.invariant.only c.find_in_pair.ensures.only
+returns-in_err-id-clause-only g c = only_read _ _ _ c.loop-id.invariant.only c.find_in_pair.ensures.reading.only
 
 pub returns-in_err-id-clause-few : goal.returns-in_err-id-clause-few
 returns-in_err-id-clause-few g c =
@@ -24,7 +24,7 @@ returns-in_err-id-clause-few g c =
 pub returns-in_err-id-clause-errors : goal.returns-in_err-id-clause-errors
 returns-in_err-id-clause-errors g c =
     let p = err_from_is_err_and c.from_residual.result c.from_residual.ensures.1 in
-    told_on _ _ _ c.find_in_pair.result c.from_residual.result _ p.0 (only_read _ _ _ c.loop-id.invariant.only c.find_in_pair.ensures.only) c.loop-id.invariant.no_fault c.find_in_pair.ensures.errors c.in_err-id.was p.1 p.2
+    told_on _ _ _ c.find_in_pair.result c.from_residual.result _ p.0 (only_read _ _ _ c.loop-id.invariant.only c.find_in_pair.ensures.reading.only) c.loop-id.invariant.no_fault c.find_in_pair.ensures.reading.told c.in_err-id.was p.1 p.2
 
 pub returns-in-Found-clause-answer : goal.returns-in-Found-clause-answer
 returns-in-Found-clause-answer g c =
@@ -34,20 +34,20 @@ returns-in-Found-clause-answer g c =
     stands_here c.args.thread.now.kept.pairs c.args.first c.args.name.now _ _ c.loop-id.pair c.in-Found.id no_pair inv.walked inv.below c.requires.entries c.in-Found.entry s shows
 
 pub returns-in-Found-clause-only : goal.returns-in-Found-clause-only
-returns-in-Found-clause-only g c = only_read _ _ _ c.loop-id.invariant.only c.find_in_pair.ensures.only
+returns-in-Found-clause-only g c = only_read _ _ _ c.loop-id.invariant.only c.find_in_pair.ensures.reading.only
 
 pub returns-then-from-slot_count-clause-only : goal.returns-then-from-slot_count-clause-only
-returns-then-from-slot_count-clause-only g c = only_read _ _ _ c.loop-id.invariant.only c.find_in_pair.ensures.only
+returns-then-from-slot_count-clause-only g c = only_read _ _ _ c.loop-id.invariant.only c.find_in_pair.ensures.reading.only
 
 pub returns-in-None-clause-only : goal.returns-in-None-clause-only
-returns-in-None-clause-only g c = only_read _ _ _ c.loop-id.invariant.only c.find_in_pair.ensures.only
+returns-in-None-clause-only g c = only_read _ _ _ c.loop-id.invariant.only c.find_in_pair.ensures.reading.only
 
 pub returns-then-from-slot_count-clause-answer : goal.returns-then-from-slot_count-clause-answer
 returns-then-from-slot_count-clause-answer g c =
     let inv = c.loop-id.invariant in
     let a = subst (λ o. AnswersIn None (pair_in c.loop-id.thread.kept c.loop-id.pair).content.slots c.args.name.now o) c.in-Place.is c.in_ok-id.ensures.answer in
     let place = subst (λ (ps : List Pair). PlaceAt (slice_index_or ps c.loop-id.pair no_pair).content.slots c.args.name.now c.in-Place.id) inv.only.pairs (a.place refl) in
-    let pairs = c.in_ok-id.ensures.only.pairs ∙ inv.only.pairs in
+    let pairs = c.in_ok-id.ensures.reading.only.pairs ∙ inv.only.pairs in
     let count = c.slot_count.ensures ∙ ap (λ (ps : List Pair). length (slice_index_or ps c.loop-id.pair no_pair).content.slots) pairs in
     let moved : Moves c.args.first c.loop-id.pair c.in-Place.id c.loop-id.spot.pair c.loop-id.spot.id c.if-pair-first.spot.pair c.if-pair-first.spot.id = elim c.if-pair-first.branch [
       | then-pair-first w ↦ moves (elim w.then-pair-first.branch [ then-pair-first-via-then-pair-first v ↦ inl v.if-pair-first.true | then-pair-first-via-else-pair-first+then-id-gt0 v ↦ inr (omega arith) ]) (ap (λ s. s.pair) w.spot-is) (ap (λ s. s.id) w.spot-is)
@@ -61,7 +61,7 @@ returns-in-None-clause-answer g c =
     let inv = c.loop-id.invariant in
     let a = subst (λ o. AnswersIn None (pair_in c.loop-id.thread.kept c.loop-id.pair).content.slots c.args.name.now o) c.in-Place.is c.in_ok-id.ensures.answer in
     let place = subst (λ (ps : List Pair). PlaceAt (slice_index_or ps c.loop-id.pair no_pair).content.slots c.args.name.now c.in-Place.id) inv.only.pairs (a.place refl) in
-    let pairs = c.in_ok-id.ensures.only.pairs ∙ inv.only.pairs in
+    let pairs = c.in_ok-id.ensures.reading.only.pairs ∙ inv.only.pairs in
     let moved : Moves c.args.first c.loop-id.pair c.in-Place.id c.loop-id.spot.pair c.loop-id.spot.id c.if-pair-first.spot.pair c.if-pair-first.spot.id = elim c.if-pair-first.branch [
       | then-pair-first w ↦ moves (elim w.then-pair-first.branch [ then-pair-first-via-then-pair-first v ↦ inl v.if-pair-first.true | then-pair-first-via-else-pair-first+then-id-gt0 v ↦ inr (omega arith) ]) (ap (λ s. s.pair) w.spot-is) (ap (λ s. s.id) w.spot-is)
       | else-pair-first+else-id-gt0 w ↦ stays w.if-pair-first.false (omega arith) (ap (λ s. s.pair) w.spot-is) (ap (λ s. s.id) w.spot-is)
@@ -75,7 +75,7 @@ loop-id-preserved g c =
     let inv = c.loop-id.invariant in
     let a = subst (λ o. AnswersIn None (pair_in c.loop-id.thread.kept c.loop-id.pair).content.slots c.args.name.now o) c.in-Place.is c.in_ok-id.ensures.answer in
     let place = subst (λ (ps : List Pair). PlaceAt (slice_index_or ps c.loop-id.pair no_pair).content.slots c.args.name.now c.in-Place.id) inv.only.pairs (a.place refl) in
-    let pairs = c.in_ok-id.ensures.only.pairs ∙ inv.only.pairs in
+    let pairs = c.in_ok-id.ensures.reading.only.pairs ∙ inv.only.pairs in
     let count = c.slot_count.ensures ∙ ap (λ (ps : List Pair). length (slice_index_or ps c.loop-id.pair no_pair).content.slots) pairs in
     let on = leads_on (is_hard (pair_in c.find_in_pair.new.thread.kept c.loop-id.pair).content.tail) (c.loop-id.pair + 1) c.in-Some.next (sym c.next.ensures.next ∙ c.in-Some.is) in
     let hard : is_hard (slice_index_or c.args.thread.now.kept.pairs c.loop-id.pair no_pair).content.tail ≡ true = ap (λ (ps : List Pair). is_hard (slice_index_or ps c.loop-id.pair no_pair).content.tail) (sym pairs) ∙ on.0 in
@@ -90,9 +90,9 @@ loop-id-preserved g c =
     let once = c.in_ok-id.ensures.few in
     let from = inv.from in
     record {
-      only = only_read _ _ _ inv.only c.in_ok-id.ensures.only;
-      no_fault = c.in_ok-id.ensures.errors.no_fault (λ e. absurd (let k : _ = e in cc)) ∙ inv.no_fault;
-      works = c.in_ok-id.ensures.works;
+      only = only_read _ _ _ inv.only c.in_ok-id.ensures.reading.only;
+      no_fault = c.in_ok-id.ensures.reading.told.no_fault (λ e. absurd (let k : _ = e in cc)) ∙ inv.no_fault;
+      works = c.in_ok-id.ensures.reading.works;
       few = omega (arith, few, once, run);
       from = omega (arith, from, next);
       below = behind;

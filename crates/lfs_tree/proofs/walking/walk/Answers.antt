@@ -6,11 +6,16 @@ use Rattle.lfs_model.specs.Thread.{Pair}
 use Rattle.lfs_model.specs.Shown.{entries_in}
 use Rattle.lfs_tree.specs.Items.{structure_seen}
 use Rattle.lfs_tree.specs.Walk.{ArePushed, BeginsIfBranch, Place, found_seen, founds_seen, places_beneath}
-use Rattle.lfs_tree.proofs.Reading.{answered, both, further, lacks_memory, passed}
+use Rattle.lfs_tree.proofs.Reading.{answered, both, further, has_read_nothing, lacks_memory, passed}
 use Rattle.lfs_tree.proofs.Roots.{root_shapes}
 use Rattle.lfs_tree.proofs.Sizes.{less_left, load}
 use Rattle.lfs_tree.proofs.Visits.{IsUnderWay, begun, ended, moved_on, next_begins, took}
 use Rattle.lfs_tree.proofs.walking.walk.Goals as goal
+
+pub returns-in_err-addresses-clause-reading : goal.returns-in_err-addresses-clause-reading
+returns-in_err-addresses-clause-reading g c =
+    let p = err_from_is_err_and c.from_residual.result c.from_residual.ensures.1 in
+    lacks_memory _ _ c.from_residual.result (p.1 ∙ ap Err (p.2 ∙ c.in_err-addresses.ensures.errors)) (has_read_nothing _ c.requires.works)
 
 pub loop-found-init : goal.loop-found-init
 loop-found-init g c = record {

@@ -1,9 +1,8 @@
 use Rattle.std.proofs.Common.{◌≤◌, ◌+◌, ◌∙◌, ap, subst, sym}
 use Rattle.lfs_model.specs.TreeEdits.{attributes_of}
 use Rattle.lfs_model.specs.Shown.{tree_in}
-use Rattle.std.specs.Prelude.{sum_by}
-use Rattle.lfs_model.specs.Discipline.{pairs_of_path, parents}
-use Rattle.lfs_model.specs.History.{reads}
+use Rattle.lfs_model.specs.Discipline.{parents}
+use Rattle.lfs_tree.specs.AtHand.{ReadsOnce}
 use Rattle.lfs_tree.specs.Seen.{Seen, tree_seen}
 use Rattle.lfs_tree.proofs.Asking.{rooted, rooted_mounted, seen_mounted, works_mounted}
 use Rattle.lfs_tree.proofs.AttributeAtSlots.{attribute_given, attribute_then}
@@ -28,4 +27,4 @@ returns-clause-bytes g c =
 pub returns-clause-few : goal.returns-clause-few
 returns-clause-few g c =
     let seen = seen_mounted (g.D.BlockDevice) c.self.inside.image c.in-Mounted.thread c.self.inside.root c.self.inside.is_writable c.self.inside.has_failed c.args.self.now c.in-Mounted.is c.self.invariant c.self.view_is in
-    subst (λ (s : Seen). reads c.attribute_at-found.new.thread.kept.history ≤ reads s.history + sum_by (pairs_of_path s.pairs) (parents c.args.path.now)) seen c.attribute_at-found.ensures.few
+    subst (λ (s : Seen). ReadsOnce (parents c.args.path.now) s c.attribute_at-found.new.thread.kept.history) seen (record { few = c.attribute_at-found.ensures.few; none = c.attribute_at-found.ensures.kept })

@@ -1,7 +1,6 @@
 use Rattle.std.proofs.Common.{◌≤◌, ◌+◌, ◌++◌, ◌∷◌, [], ◌∙◌, subst, sym}
-use Rattle.std.specs.Prelude.{sum_by}
-use Rattle.lfs_model.specs.Discipline.{pairs_of_path, parents}
-use Rattle.lfs_model.specs.History.{reads}
+use Rattle.lfs_model.specs.Discipline.{parents}
+use Rattle.lfs_tree.specs.AtHand.{ReadsOnce}
 use Rattle.lfs_tree.specs.Seen.{Seen}
 use Rattle.lfs_tree.proofs.Asking.{rooted, rooted_mounted, seen_mounted, works_mounted}
 use Rattle.lfs_tree.proofs.tree.Tree.list.Goals as goal
@@ -16,4 +15,4 @@ invariant_of-self g c = λ e.
 pub returns-clause-few : goal.returns-clause-few
 returns-clause-few g c =
     let seen = seen_mounted (g.D.BlockDevice) c.self.inside.image c.in-Mounted.thread c.self.inside.root c.self.inside.is_writable c.self.inside.has_failed c.args.self.now c.in-Mounted.is c.self.invariant c.self.view_is in
-    subst (λ (s : Seen). reads c.list_at-listing.new.thread.kept.history ≤ reads s.history + sum_by (pairs_of_path s.pairs) (parents c.args.path.now ++ c.args.path.now ∷ [])) seen c.list_at-listing.ensures.few
+    subst (λ (s : Seen). ReadsOnce (parents c.args.path.now ++ c.args.path.now ∷ []) s c.list_at-listing.new.thread.kept.history) seen (record { few = c.list_at-listing.ensures.few; none = c.list_at-listing.ensures.kept })

@@ -20,8 +20,9 @@ returns-in-Ok-clause-survives g c = survives_working (g.D.BlockDevice) c.self.in
 pub returns-in-Err-clause-errors : goal.returns-in-Err-clause-errors
 returns-in-Err-clause-errors g c =
     let seen = seen_working (g.D.BlockDevice) c.self.inside.image c.in-Mounted.thread c.self.inside.root c.self.inside.is_writable c.self.inside.has_failed c.args.self.now c.in-Mounted.is c.self.invariant c.self.view_is c.requires.works c.requires.writable in
-    let k = c.in-Err.ensures.errors in
-    subst (λ s. IsError s (seen_kept c.recover_image.new.thread.kept c.self.inside.is_writable true) c.in-Err.error) (sym seen) (record { errors = k.errors; fault = k.fault; no_fault = k.no_fault })
+    let e = c.in-Err.ensures.errors in
+    let k = subst (λ s. IsError s (seen_kept c.recover_image.new.thread.kept c.self.inside.is_writable true) c.in-Err.error) (sym seen) (record { errors = e.errors; fault = e.fault; no_fault = e.no_fault }) in
+    record { errors = k.errors; fault = k.fault; no_fault = k.no_fault }
 
 pub returns-in-Err-clause-survives : goal.returns-in-Err-clause-survives
 returns-in-Err-clause-survives g c = survives_working (g.D.BlockDevice) c.self.inside.image c.in-Mounted.thread c.self.inside.root c.self.inside.is_writable c.self.inside.has_failed c.args.self.now c.in-Mounted.is c.self.invariant c.self.view_is c.requires.works c.requires.writable c.recover_image.new.thread.kept.history (λ t. t) c.recover_image.ensures.survives

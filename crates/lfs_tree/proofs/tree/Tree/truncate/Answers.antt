@@ -1,7 +1,7 @@
 use Rattle.std.proofs.Common.{◌∙◌, ◌≤◌, sym, ap, subst}
 use Rattle.std.specs.Prelude.{IfErr, OnErr, OnOk}
 use Rattle.lfs_model.specs.Disk.{inline_limit}
-use Rattle.lfs_tree.specs.Held.{seen_kept}
+use Rattle.lfs_tree.specs.Held.{seen_thread}
 use Rattle.lfs_tree.specs.OpenContents.{CanTruncateBeside, IsOver, IsWrittenBeside}
 use Rattle.lfs_tree.specs.Seen.{IsBroken, IsError, Seen, tree_seen}
 use Rattle.lfs_model.specs.PowerLoss.{Survives}
@@ -37,8 +37,8 @@ returns-clause-beside g c =
     let seen = seen_mounted (g.D.BlockDevice) c.self.inside.image c.in-Mounted.thread c.self.inside.root c.self.inside.is_writable c.self.inside.has_failed c.args.self.now c.in-Mounted.is c.self.invariant c.self.view_is in
     let works = works_mounted (g.D.BlockDevice) c.self.inside.image c.in-Mounted.thread c.self.inside.root c.self.inside.is_writable c.self.inside.has_failed c.args.self.now c.in-Mounted.is c.self.invariant c.self.view_is c.requires.works in
     let held = rooted_mounted (g.D.BlockDevice) c.self.inside.image c.in-Mounted.thread c.self.inside.root c.self.inside.is_writable c.self.inside.has_failed c.args.self.now c.in-Mounted.is c.self.invariant c.self.view_is in
-    subst (λ (s : Seen). OnOk c.truncate_file-truncated.result (IsWrittenBeside s (seen_kept c.truncate_file-truncated.new.thread.kept c.self.inside.is_writable c.is_err-self-inside.result))) seen
-    (subst (λ b. OnOk c.truncate_file-truncated.result (IsWrittenBeside (seen_kept c.in-Mounted.thread.kept c.self.inside.is_writable c.self.inside.has_failed) (seen_kept c.truncate_file-truncated.new.thread.kept c.self.inside.is_writable b))) (sym c.is_err-self-inside.ensures.value)
+    subst (λ (s : Seen). OnOk c.truncate_file-truncated.result (IsWrittenBeside s (seen_thread c.truncate_file-truncated.new.thread c.self.inside.is_writable c.is_err-self-inside.result))) seen
+    (subst (λ b. OnOk c.truncate_file-truncated.result (IsWrittenBeside (seen_thread c.in-Mounted.thread c.self.inside.is_writable c.self.inside.has_failed) (seen_thread c.truncate_file-truncated.new.thread c.self.inside.is_writable b))) (sym c.is_err-self-inside.ensures.value)
     (written_beside c.in-Mounted.thread c.truncate_file-truncated.new.thread c.self.inside.root c.self.inside.is_writable c.self.inside.has_failed works held c.truncate_file-truncated.ensures.works c.truncate_file-truncated.ensures.leaves c.truncate_file-truncated.result c.truncate_file-truncated.ensures.tells))
 
 pub returns-clause-broken : goal.returns-clause-broken
@@ -46,8 +46,8 @@ returns-clause-broken g c =
     let seen = seen_mounted (g.D.BlockDevice) c.self.inside.image c.in-Mounted.thread c.self.inside.root c.self.inside.is_writable c.self.inside.has_failed c.args.self.now c.in-Mounted.is c.self.invariant c.self.view_is in
     let works = works_mounted (g.D.BlockDevice) c.self.inside.image c.in-Mounted.thread c.self.inside.root c.self.inside.is_writable c.self.inside.has_failed c.args.self.now c.in-Mounted.is c.self.invariant c.self.view_is c.requires.works in
     let held = rooted_mounted (g.D.BlockDevice) c.self.inside.image c.in-Mounted.thread c.self.inside.root c.self.inside.is_writable c.self.inside.has_failed c.args.self.now c.in-Mounted.is c.self.invariant c.self.view_is in
-    subst (λ (s : Seen). OnErr c.truncate_file-truncated.result (IsBroken s (seen_kept c.truncate_file-truncated.new.thread.kept c.self.inside.is_writable c.is_err-self-inside.result))) seen
-    (subst (λ b. OnErr c.truncate_file-truncated.result (IsBroken (seen_kept c.in-Mounted.thread.kept c.self.inside.is_writable c.self.inside.has_failed) (seen_kept c.truncate_file-truncated.new.thread.kept c.self.inside.is_writable b))) (sym c.is_err-self-inside.ensures.value)
+    subst (λ (s : Seen). OnErr c.truncate_file-truncated.result (IsBroken s (seen_thread c.truncate_file-truncated.new.thread c.self.inside.is_writable c.is_err-self-inside.result))) seen
+    (subst (λ b. OnErr c.truncate_file-truncated.result (IsBroken (seen_thread c.in-Mounted.thread c.self.inside.is_writable c.self.inside.has_failed) (seen_thread c.truncate_file-truncated.new.thread c.self.inside.is_writable b))) (sym c.is_err-self-inside.ensures.value)
     (broken_beside c.in-Mounted.thread c.truncate_file-truncated.new.thread c.self.inside.root c.self.inside.is_writable c.self.inside.has_failed works held c.truncate_file-truncated.ensures.works c.truncate_file-truncated.ensures.leaves c.truncate_file-truncated.result))
 
 pub returns-clause-errors : goal.returns-clause-errors
@@ -55,8 +55,8 @@ returns-clause-errors g c =
     let seen = seen_mounted (g.D.BlockDevice) c.self.inside.image c.in-Mounted.thread c.self.inside.root c.self.inside.is_writable c.self.inside.has_failed c.args.self.now c.in-Mounted.is c.self.invariant c.self.view_is in
     let works = works_mounted (g.D.BlockDevice) c.self.inside.image c.in-Mounted.thread c.self.inside.root c.self.inside.is_writable c.self.inside.has_failed c.args.self.now c.in-Mounted.is c.self.invariant c.self.view_is c.requires.works in
     let held = rooted_mounted (g.D.BlockDevice) c.self.inside.image c.in-Mounted.thread c.self.inside.root c.self.inside.is_writable c.self.inside.has_failed c.args.self.now c.in-Mounted.is c.self.invariant c.self.view_is in
-    subst (λ (s : Seen). IfErr c.truncate_file-truncated.result (IsError s (seen_kept c.truncate_file-truncated.new.thread.kept c.self.inside.is_writable c.is_err-self-inside.result))) seen
-    (subst (λ b. IfErr c.truncate_file-truncated.result (IsError (seen_kept c.in-Mounted.thread.kept c.self.inside.is_writable c.self.inside.has_failed) (seen_kept c.truncate_file-truncated.new.thread.kept c.self.inside.is_writable b))) (sym c.is_err-self-inside.ensures.value)
+    subst (λ (s : Seen). IfErr c.truncate_file-truncated.result (IsError s (seen_thread c.truncate_file-truncated.new.thread c.self.inside.is_writable c.is_err-self-inside.result))) seen
+    (subst (λ b. IfErr c.truncate_file-truncated.result (IsError (seen_thread c.in-Mounted.thread c.self.inside.is_writable c.self.inside.has_failed) (seen_thread c.truncate_file-truncated.new.thread c.self.inside.is_writable b))) (sym c.is_err-self-inside.ensures.value)
     (told_beside c.in-Mounted.thread c.truncate_file-truncated.new.thread c.self.inside.root c.self.inside.is_writable c.self.inside.has_failed works held c.truncate_file-truncated.ensures.works c.truncate_file-truncated.ensures.leaves c.truncate_file-truncated.result c.truncate_file-truncated.ensures.tells))
 
 pub returns-clause-survives : goal.returns-clause-survives

@@ -2,6 +2,7 @@
 use Rattle.std.proofs.Common.{◌∷◌, length, Option, inl, inr, ℕ, ◌≡◌, Bool, true, false, cond, List, [], ◌++◌, Some, None, Result, Ok, Err, refl, sym, ap, ap₂, subst, ◌∙◌, append_assoc, arith, ◌<◌, nat_le}
 use Rattle.std.proofs.lemmas.Bool.Decides.{nat_tests}
 use Rattle.std.proofs.lemmas.Option.{same_Some}
+use Rattle.lfs_model.specs.Cache.{CachedBlocks}
 use Rattle.lfs_model.specs.History.{Event}
 use Rattle.lfs_model.specs.Operations as ops
 use Rattle.lfs_model.specs.Operations.{Operation, Reply, Refusal, Flags, Failed}
@@ -40,12 +41,12 @@ use Rattle.lfs_fs.proofs.Failing.{reads_write_nothing, nothing_written, failed_m
 use Rattle.lfs_fs.proofs.Calls.{still_called}
 
 -- the tree, further on by some calls
-later : Seen → List Event → Seen
-later t events = record t { history = events ++ t.history }
+later : Seen → List Event → CachedBlocks → Seen
+later t events cache = record t { history = events ++ t.history; cache = cache }
 
-asked_later : (old new : Seen) (asked : IsAsked old new) → new ≡ later old asked.reads.events
+asked_later : (old new : Seen) (asked : IsAsked old new) → new ≡ later old asked.reads.events new.cache
 unfolding later
-asked_later old new asked = asked.same ∙ ap (λ history. record old { history = history }) asked.reads.extends
+asked_later old new asked = asked.same ∙ ap (λ history. record old { history = history; cache = new.cache }) asked.reads.extends
 
 pub is_over : (t : Seen) (files : Files) → IsSound t → IsOver t.disk t.pairs (record { tree = tree_seen t; files = files }) (around_of t)
 is_over t files sound = record {
@@ -69,7 +70,7 @@ refused_answer old op refusal tree sound other asked e = go old.tree.failed refl
         (subst (λ m. IsTurn m op (ops.Refused Failed) m) (sym (failed_moment old f)) (failed_turn old.tree.disk (around_of old.tree) op old.tree.history other)))
     go false f =
         let is : refusal_of (around_of old.tree) (session_of old) op ≡ Some refusal = sym (ap (λ b. cond b (Some Failed) (refusal_of (around_of old.tree) (session_of old) op)) f) ∙ e in
-        let new = held_with (later old.tree asked.reads.events) old.files in
+        let new = held_with (later old.tree asked.reads.events tree.cache) old.files in
         subst (λ t. IsTurn (moment_of old) op (ops.Refused refusal) (moment_of (held_with t old.files))) (sym (asked_later old.tree tree asked))
         (subst (λ m. IsTurn m op (ops.Refused refusal) (moment_of new)) (sym (healthy_moment old f))
         (subst (λ m. IsTurn (record { disk = old.tree.disk; calls = old.tree.history; state = Healthy (session_of old) }) op (ops.Refused refusal) m) (sym (healthy_moment new f))
@@ -96,10 +97,10 @@ unfolding later
 idle_answer old op tree files sound asked e other same none still silent =
     let works = not_failed old op e in
     let events = asked.reads.events in
-    let to = healthy_moment (held_with (later old.tree events) files) works
+    let to = healthy_moment (held_with (later old.tree events tree.cache) files) works
     ∙ ap (λ (s : Session). record { disk = old.tree.disk; calls = events ++ old.tree.history; state = Healthy s }) (sym same) in
     subst (λ t. IsTurn (moment_of old) op (effect_of (around_of old.tree) (session_of old) op).0 (moment_of (held_with t files))) (sym (asked_later old.tree tree asked))
-    (subst (λ m. IsTurn m op (effect_of (around_of old.tree) (session_of old) op).0 (moment_of (held_with (later old.tree events) files))) (sym (healthy_moment old works))
+    (subst (λ m. IsTurn m op (effect_of (around_of old.tree) (session_of old) op).0 (moment_of (held_with (later old.tree events tree.cache) files))) (sym (healthy_moment old works))
     (subst (λ m. IsTurn (record { disk = old.tree.disk; calls = old.tree.history; state = Healthy (session_of old) }) op (effect_of (around_of old.tree) (session_of old) op).0 m) (sym to)
     (idle_turn old.tree.disk old.tree.pairs (session_of old) (around_of old.tree) op events old.tree.history (is_over old.tree old.files (sound works)) (not_refused old op e) other
     (ap (λ (s : Session). s.tree) same) none still (reads_write_nothing old.tree.disk.blocks events asked.reads.each) silent)))
@@ -113,10 +114,10 @@ unfolding later
 asked_answer old op tree files sound asked e other asks same none still silent =
     let works = not_failed old op e in
     let events = asked.reads.events in
-    let to = healthy_moment (held_with (later old.tree events) files) works
+    let to = healthy_moment (held_with (later old.tree events tree.cache) files) works
     ∙ ap (λ (s : Session). record { disk = old.tree.disk; calls = events ++ old.tree.history; state = Healthy s }) (sym same) in
     subst (λ t. IsTurn (moment_of old) op (effect_of (around_of old.tree) (session_of old) op).0 (moment_of (held_with t files))) (sym (asked_later old.tree tree asked))
-    (subst (λ m. IsTurn m op (effect_of (around_of old.tree) (session_of old) op).0 (moment_of (held_with (later old.tree events) files))) (sym (healthy_moment old works))
+    (subst (λ m. IsTurn m op (effect_of (around_of old.tree) (session_of old) op).0 (moment_of (held_with (later old.tree events tree.cache) files))) (sym (healthy_moment old works))
     (subst (λ m. IsTurn (record { disk = old.tree.disk; calls = old.tree.history; state = Healthy (session_of old) }) op (effect_of (around_of old.tree) (session_of old) op).0 m) (sym to)
     (asked_turn old.tree.disk old.tree.pairs (session_of old) (around_of old.tree) op events old.tree.history (is_over old.tree old.files (sound works)) (not_refused old op e) other asks
     (ap (λ (s : Session). s.tree) same) none still (reads_write_nothing old.tree.disk.blocks events asked.reads.each) silent)))
@@ -219,12 +220,12 @@ pub sound_later : (old new : Seen) → IsSound old → IsAsked old new → IsSou
 sound_later old new h asked =
     subst IsSound (sym asked.same) (again h)
   where
-    again : IsSound old → IsSound (record old { history = new.history })
+    again : IsSound old → IsSound (record old { history = new.history; cache = new.cache })
     again h = record { accepted = h.accepted; fits = h.fits; is_kept = h.is_kept; used = h.used; size = h.size }
 
-unsaved_later : (t : Seen) (history : List Event) (w : Writer) (u : Option Unsaved) → IsUnsavedIn t w u → IsUnsavedIn (record t { history = history }) w u
-unsaved_later t history w None h = tt
-unsaved_later t history w (Some u) h = record {
+unsaved_later : (t : Seen) (history : List Event) (cache : CachedBlocks) (w : Writer) (u : Option Unsaved) → IsUnsavedIn t w u → IsUnsavedIn (record t { history = history; cache = cache }) w u
+unsaved_later t history cache w None h = tt
+unsaved_later t history cache w (Some u) h = record {
   over = record {
     file = h.over.file;
     stands = record { geometry = h.over.stands.geometry; divided = h.over.stands.divided; stands = h.over.stands.stands };
@@ -235,11 +236,11 @@ unsaved_later t history w (Some u) h = record {
   room = h.room;
 }
 
-written_later : (t : Seen) (history : List Event) (ws : List Writer) → AllByRecursion (IsWritten t) ws → AllByRecursion (IsWritten (record t { history = history })) ws
-written_later t history [] h = h
-written_later t history (w ∷ ws) h = (record { writable = h.0.writable; settled = h.0.settled; there = h.0.there; size = same w.unsaved (h.0.size); changed = unsaved_later t history w w.unsaved h.0.changed }, written_later t history ws h.1)
+written_later : (t : Seen) (history : List Event) (cache : CachedBlocks) (ws : List Writer) → AllByRecursion (IsWritten t) ws → AllByRecursion (IsWritten (record t { history = history; cache = cache })) ws
+written_later t history cache [] h = h
+written_later t history cache (w ∷ ws) h = (record { writable = h.0.writable; settled = h.0.settled; there = h.0.there; size = same w.unsaved (h.0.size); changed = unsaved_later t history cache w w.unsaved h.0.changed }, written_later t history cache ws h.1)
   where
-    same : (u : Option Unsaved) → length (bytes_of t w.path u) ≡ w.size → length (bytes_of (record t { history = history }) w.path u) ≡ w.size
+    same : (u : Option Unsaved) → length (bytes_of t w.path u) ≡ w.size → length (bytes_of (record t { history = history; cache = cache }) w.path u) ≡ w.size
     same None e = e
     same (Some u) e = e
 
@@ -247,13 +248,13 @@ pub ready_later : (old new : Seen) (files : OpenFiles) → IsReady old files →
 ready_later old new files h asked =
     subst (λ t. IsReady t files) (sym asked.same) (again h)
   where
-    again : IsReady old files → IsReady (record old { history = new.history }) files
+    again : IsReady old files → IsReady (record old { history = new.history; cache = new.cache }) files
     again h = record {
       sound = record { accepted = h.sound.accepted; fits = h.sound.fits; is_kept = h.sound.is_kept; used = h.sound.used; size = h.sound.size };
       one = h.one;
       called = still_called old.history new.history asked.reads.events asked.reads.extends h.called;
       idle = h.idle;
-      written = written_later old new.history (writers_in files) h.written;
+      written = written_later old new.history new.cache (writers_in files) h.written;
     }
 
 pub asked_ready : (old new : Seen) (files : OpenFiles) → (old.failed ≡ false → IsReady old files) → IsAsked old new → new.failed ≡ false → IsReady new files
@@ -451,7 +452,7 @@ spares_later : (old new : Seen) (op : Operation) (files : OpenFiles) → IsAsked
 spares_later old new op files asked h =
     subst (λ t. SparesWriters t op files) (sym asked.same) (again h)
   where
-    again : SparesWriters old op files → SparesWriters (record old { history = new.history }) op files
+    again : SparesWriters old op files → SparesWriters (record old { history = new.history; cache = new.cache }) op files
     again h = record { apart = h.apart; room = h.room }
 
 -- what an operation leaves once no check refuses it

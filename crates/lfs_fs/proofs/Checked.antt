@@ -142,7 +142,7 @@ mkdir_passed h bytes flight e =
 pub mkdir_can : (h : Held) (bytes : List ℕ) (path : Path) (tree : Seen) → (h.tree.failed ≡ false → in_flight_count h.tree.map ≤ held h.tree.disk.block_size h.files) → Checks h (ops.Mkdir bytes) (λ p. p ≡ as_path bytes) (Ok path) tree → CanMake tree path
 mkdir_can h bytes path tree ready c =
     let can = mkdir_passed h bytes (ready (not_failed h (ops.Mkdir bytes) c.1)) c.1 in
-    subst (λ t. CanMake t path) (sym c.0.same) (subst (λ z. CanMake (record h.tree { history = tree.history }) z) (sym c.2)
+    subst (λ t. CanMake t path) (sym c.0.same) (subst (λ z. CanMake (record h.tree { history = tree.history; cache = tree.cache }) z) (sym c.2)
     (record { works = can.works; writable = can.writable; parents = can.parents; name = can.name; nothing = can.nothing; fits = can.fits; room = can.room }))
 
 -- ---- an open for reading

@@ -162,7 +162,7 @@ remove_attr_can h bytes kind path tree c =
     let d = neither _ _ b.1 in
     let i = neither _ _ d.1 in
     let j = neither _ _ i.1 in
-    subst (λ t. CanRemoveAttr t path kind) (sym c.0.same) (subst (λ z. CanRemoveAttr (record h.tree { history = tree.history }) z kind) (sym c.2) (record {
+    subst (λ t. CanRemoveAttr t path kind) (sym c.0.same) (subst (λ z. CanRemoveAttr (record h.tree { history = tree.history; cache = tree.cache }) z kind) (sym c.2) (record {
       works = not_failed h (ops.RemoveAttr bytes kind) e;
       writable = negated h.tree.writable (unrefused _ _ a.0);
       entry = good_root (path_of bytes) (unrefused _ _ b.0);

@@ -36,3 +36,6 @@ pub mod Stopping
 pub mod StoppedCalls
 pub mod Calls
 pub mod FewReads
+pub mod Sparing
+pub mod KeptLookUps
+pub mod WrittenAlone

@@ -9,6 +9,7 @@ use Rattle.lfs_device.specs.declared.error.Error.TheVariants.{NoMemory}
 use Rattle.lfs_model.specs.TreeEdits.{added, bytes_at, is_directory, last_name, same_path}
 use Rattle.lfs_model.specs.BlockSets.{in_flight_count}
 use Rattle.lfs_model.specs.Disk.{block_count}
+use Rattle.lfs_model.specs.Cache.{CachedBlocks}
 use Rattle.lfs_model.specs.History.{Event}
 use Rattle.lfs_model.specs.Operations as ops
 use Rattle.lfs_model.specs.Operations.{Flags, path_of}
@@ -114,7 +115,7 @@ pub can_begin : (t mid : Seen) (fs : OpenFiles) (bytes : List ℕ) (flags : Flag
     flags.write ≡ true → p ≡ as_path bytes → size_of (tree_seen t p) ≡ Some size → CanBegin mid p size flags.truncate
 can_begin t mid fs bytes flags p size ready asked e write is sizes =
     subst (λ z. CanBegin z p size flags.truncate) (sym asked.same)
-    (subst (λ q. CanBegin (record t { history = mid.history }) q size flags.truncate) (sym is) (record {
+    (subst (λ q. CanBegin (record t { history = mid.history; cache = mid.cache }) q size flags.truncate) (sym is) (record {
       works = passed.works;
       writable = passed.writable;
       sound = record { accepted = now.sound.accepted; fits = now.sound.fits; is_kept = now.sound.is_kept; used = now.sound.used; size = now.sound.size };
@@ -141,7 +142,7 @@ pub can_create : (t mid : Seen) (fs : OpenFiles) (bytes : List ℕ) (flags : Fla
     flags.write ≡ true → p ≡ as_path bytes → size_of (tree_seen t p) ≡ None → CanCreate mid p
 can_create t mid fs bytes flags p ready asked e write is sizes =
     subst (λ z. CanCreate z p) (sym asked.same)
-    (subst (λ q. CanCreate (record t { history = mid.history }) q) (sym is) (record {
+    (subst (λ q. CanCreate (record t { history = mid.history; cache = mid.cache }) q) (sym is) (record {
       works = passed.works;
       writable = passed.writable;
       parents = passed.parents;
@@ -253,12 +254,12 @@ pub record IsOpenedBy (t : Seen) (fs : OpenFiles) (bytes : List ℕ) (flags : Fl
   pub turn : (files : Files) → (effect_of (around_of t) (session_of (held_of t fs)) (ops.Open bytes flags)).1.files ≡ files →
       IsTurn (moment_of (held_of t fs)) (ops.Open bytes flags) (effect_of (around_of t) (session_of (held_of t fs)) (ops.Open bytes flags)).0 (moment_of (held_with new files))
 
-later : Seen → List Event → Seen
-later t events = record t { history = events ++ t.history }
+later : Seen → List Event → CachedBlocks → Seen
+later t events cache = record t { history = events ++ t.history; cache = cache }
 
-asked_later : (old new : Seen) (asked : IsAsked old new) → new ≡ later old asked.reads.events
+asked_later : (old new : Seen) (asked : IsAsked old new) → new ≡ later old asked.reads.events new.cache
 unfolding later
-asked_later old new asked = asked.same ∙ ap (λ history. record old { history = history }) asked.reads.extends
+asked_later old new asked = asked.same ∙ ap (λ history. record old { history = history; cache = new.cache }) asked.reads.extends
 
 -- a file that is there, once the image is recovered
 there_turn : (old : Held) (bytes : List ℕ) (flags : Flags) (mid new : Seen) (files : Files) (n : Node) → (old.tree.failed ≡ false → IsSound old.tree) → IsAsked old.tree mid →

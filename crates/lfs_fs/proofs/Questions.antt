@@ -51,7 +51,7 @@ question_kept old now op reply same ready asks e is =
 
 pub asked_twice : (a b c : Seen) → IsAsked a b → IsAsked b c → IsAsked a c
 asked_twice a b c h k = record {
-  same = k.same ∙ ap (λ (t : Seen). record t { history = c.history }) h.same;
+  same = k.same ∙ ap (λ (t : Seen). record t { history = c.history; cache = c.cache }) h.same;
   failed = λ e. k.failed (ap (λ (t : Seen). t.failed) (h.failed e) ∙ e) ∙ h.failed e;
   reads = OnlyReads-trans h.reads k.reads (ap (λ (t : Seen). t.disk.blocks) h.same);
   no_fault = k.no_fault ∙ h.no_fault;

@@ -45,7 +45,7 @@ remove_can h bytes path tree c =
     let d = neither _ _ b.1 in
     let i = neither _ _ d.1 in
     let j = neither _ _ i.1 in
-    subst (λ t. CanRemove t path) (sym c.0.same) (subst (λ z. CanRemove (record h.tree { history = tree.history }) z) (sym c.2) (record {
+    subst (λ t. CanRemove t path) (sym c.0.same) (subst (λ z. CanRemove (record h.tree { history = tree.history; cache = tree.cache }) z) (sym c.2) (record {
       works = not_failed h (ops.Remove bytes) e;
       writable = negated h.tree.writable (unrefused _ _ a.0);
       entry = good_root (path_of bytes) (unrefused _ _ b.0);

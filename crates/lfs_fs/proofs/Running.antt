@@ -1,8 +1,129 @@
 -- Operations in turn, by a loop.
-use Rattle.std.proofs.Common.{ℕ, ◌<◌, List, [], ◌∷◌, length, arith}
+use Rattle.std.proofs.Common.{Ok, ℕ, ◌≡◌, ◌+◌, ◌<◌, ◌≤◌, Bool, false, cond, List, [], ◌∷◌, ◌++◌, Option, None, Some, length, take, drop, map, get_or, refl, sym, ap, subst, ◌∙◌, drop-cons, add-one, true, arith}
+use Rattle.std.proofs.lemmas.List.{append_cancel_right, take_more, take_all, map-append, take-append-drop}
+use Rattle.lfs_device.specs.declared.error.Error.{Error}
+use Rattle.lfs_model.specs.Operations as ops
+use Rattle.lfs_model.specs.Operations.{Operation}
+use Rattle.lfs_model.specs.Outages.{AreWithstood}
+use Rattle.lfs_model.specs.PowerLoss.{Withstands}
+use Rattle.lfs_model.specs.Run.{IsTurn, Moment}
+use Rattle.lfs_model.specs.Session.{Session}
+use Rattle.lfs_model.specs.State.{Healthy}
+use Rattle.lfs_model.specs.Thread.{Pair}
+use Rattle.lfs_model.specs.Thrift.{AreThrifty, IsThrifty, ReadsKept, if_accepted}
+use Rattle.lfs_model.specs.View.{IsAccepted}
+use Rattle.lfs_model.proofs.AfterStops.{withstood_turns}
+use Rattle.lfs_model.proofs.Withstanding.{withstood_further}
+use Rattle.lfs_fs.specs.Held.{FailsBy, Held, IsEndedBy, moment_of}
+use Rattle.lfs_fs.specs.OpSeen.{op_seen, reply_seen}
+use Rattle.lfs_fs.specs.Sparing.{IsCall}
+use Rattle.lfs_fs.proofs.KeptLookUps.{kept_hand, kept_small}
+use Rattle.lfs_tree.specs.AtHand.{AreSmall, HasOnHand}
+use Rattle.lfs_model.specs.Run as model
+use Rattle.lfs_model.specs.Discipline.{searched}
 use Rattle.lfs_fs.specs.declared.run.Op.{Op}
+use Rattle.lfs_fs.specs.declared.run.Reply.{Reply}
 
 -- there is one
 pub first_op : (ops : List Op) (i : ℕ) → i < length ops → Op
 first_op [] i h = absurd (omega (arith, h))
 first_op (op ∷ ops) i h = op
+
+-- ---- turns that are thrifty
+
+-- behind an accepted stat, the small directories that it searched are at hand
+abbrev pub IsWarm : Option Operation → Held → Type 0
+IsWarm None h = Unit {0}
+IsWarm (Some before) h = (path : List ℕ) → before ≡ ops.Stat path → (s : Session) → (moment_of h).state ≡ Healthy s → (ps : List Pair) → IsAccepted h.tree.disk ps → AreSmall ps (searched before) → HasOnHand h.tree (searched before)
+
+call_thrifty : (before : Option Operation) (old : Held) (op : Operation) (reply : ops.Reply) (new : Held) → IsWarm before old → IsCall old op (Ok reply) new → (turn : IsTurn (moment_of old) op reply (moment_of new)) →
+    IsThrifty before (moment_of old) op turn.calls (moment_of new)
+call_thrifty before old op reply new warm call turn = record {
+  alone = call.alone refl;
+  asked = λ k. append_cancel_right turn.calls [] old.tree.history (sym turn.called ∙ ap (λ (h : Held). h.tree.history) (call.asks.asked k));
+  few = λ s at ps a. call.asks.few s at ps a turn.calls turn.called;
+  kept = λ s at ps a. go before warm s at ps a;
+}
+  where
+    go : (b : Option Operation) → IsWarm b old → (s : Session) → (moment_of old).state ≡ Healthy s → (ps : List Pair) → IsAccepted old.tree.disk ps → ReadsKept ps b op turn.calls
+    go None w s at ps a = tt
+    go (Some b) w s at ps a = λ k. call.asks.none k.again (kept_hand ps b op k old.tree (w k.path k.stat s at ps a (kept_small ps b op k))) turn.calls turn.called
+
+warm_behind : (old : Held) (op : Operation) (reply : ops.Reply) (new : Held) → IsCall old op (Ok reply) new → IsWarm (if_accepted op reply) new
+warm_behind old op reply new call = go (model.is_refusal reply) refl
+  where
+    go : (b : Bool) → model.is_refusal reply ≡ b → IsWarm (cond b None (Some op)) new
+    go true e = tt
+    go false e = λ path is s at ps a small. call.asks.hand path reply is refl e s at ps a small
+
+-- the newest operation, if it was accepted
+abbrev pub last_accepted : Option Operation → List Operation → List ops.Reply → Option Operation
+last_accepted before (op ∷ operations) (reply ∷ replies) = last_accepted (if_accepted op reply) operations replies
+last_accepted before _ _ = before
+
+pub thrifty_further : (before : Option Operation) (operations : List Operation) (op : Operation) (replies : List ops.Reply) (reply : ops.Reply) (a b c : Moment) → AreThrifty before a operations replies b → (turn : IsTurn b op reply c) →
+    IsThrifty (last_accepted before operations replies) b op turn.calls c → AreThrifty before a (operations ++ op ∷ []) (replies ++ reply ∷ []) c
+thrifty_further before [] op [] reply a b c h turn one = subst (λ m. AreThrifty before m (op ∷ []) (reply ∷ []) c) (sym h) (c, turn, (one, refl))
+thrifty_further before [] op (r ∷ replies) reply a b c h turn one = absurd h
+thrifty_further before (o ∷ operations) op [] reply a b c h turn one = absurd h
+thrifty_further before (o ∷ operations) op (r ∷ replies) reply a b c (next, first, (bounds, rest)) turn one =
+    (next, first, (bounds, thrifty_further (if_accepted o r) operations op replies reply next b c rest turn one))
+
+-- the newest one comes last
+last_further : (before : Option Operation) (operations : List Operation) (op : Operation) (replies : List ops.Reply) (reply : ops.Reply) (a b : Moment) → AreThrifty before a operations replies b →
+    last_accepted before (operations ++ op ∷ []) (replies ++ reply ∷ []) ≡ if_accepted op reply
+last_further before [] op [] reply a b h = refl
+last_further before [] op (r ∷ replies) reply a b h = absurd h
+last_further before (o ∷ operations) op [] reply a b h = absurd h
+last_further before (o ∷ operations) op (r ∷ replies) reply a b (next, first, (bounds, rest)) = last_further (if_accepted o r) operations op replies reply next b rest
+
+-- ---- the operations so far
+
+-- they withstand stops, and are thrifty
+pub record HaveRun (from : Moment) (operations : List Operation) (replies : List ops.Reply) (to : Held) : Type 0 where
+  pub withstood : AreWithstood from operations replies (moment_of to)
+  pub thrifty : AreThrifty None from operations replies (moment_of to)
+  pub warm : IsWarm (last_accepted None operations replies) to
+
+pub none_run : (a : Held) (replies : List Reply) → replies ≡ [] → HaveRun (moment_of a) [] (map reply_seen replies) a
+none_run a replies none = subst (λ rs. HaveRun (moment_of a) [] (map reply_seen rs) a) (sym none) (record { withstood = refl; thrifty = refl; warm = tt })
+
+one_more : (operations : List Operation) (op : Operation) (replies : List ops.Reply) (reply : ops.Reply) (a : Moment) (b c : Held) → HaveRun a operations replies b → IsCall b op (Ok reply) c → HaveRun a (operations ++ op ∷ []) (replies ++ reply ∷ []) c
+one_more operations op replies reply a b c done call = record {
+  withstood = withstood_further operations op replies reply a (moment_of b) (moment_of c) done.withstood call.answers call.withstands;
+  thrifty = thrifty_further None operations op replies reply a (moment_of b) (moment_of c) done.thrifty call.answers (call_thrifty (last_accepted None operations replies) b op reply c done.warm call call.answers);
+  warm = subst (λ o. IsWarm o c) (sym (last_further None operations op replies reply a (moment_of b) done.thrifty)) (warm_behind b op reply c call);
+}
+
+-- one more operation
+pub run_further : (ops : List Op) (i : ℕ) (d : Op) (replies new : List Reply) (reply : Reply) (a : Moment) (b c : Held) → i < length ops → HaveRun a (map op_seen (take i ops)) (map reply_seen replies) b →
+    IsCall b (op_seen (get_or ops i d)) (Ok (reply_seen reply)) c → new ≡ replies ++ reply ∷ [] → HaveRun a (map op_seen (take (i + 1) ops)) (map reply_seen new) c
+run_further ops i d replies new reply a b c lt done call is =
+    subst (λ rs. HaveRun a (map op_seen (take (i + 1) ops)) (map reply_seen rs) c) (sym is)
+    (subst (λ xs. HaveRun a xs (map reply_seen (replies ++ reply ∷ [])) c) (sym (ap (map op_seen) (take_more ops i d lt) ∙ map-append op_seen (take i ops) (get_or ops i d ∷ [])))
+    (subst (λ rs. HaveRun a (map op_seen (take i ops) ++ op_seen (get_or ops i d) ∷ []) rs c) (sym (map-append reply_seen replies (reply ∷ [])))
+    (one_more (map op_seen (take i ops)) (op_seen (get_or ops i d)) (map reply_seen replies) (reply_seen reply) a b c done call)))
+
+pub run_ended : (ops : List Op) (i : ℕ) (replies : List Reply) (a : Moment) (b : Held) → length ops ≤ i → HaveRun a (map op_seen (take i ops)) (map reply_seen replies) b → HaveRun a (map op_seen ops) (map reply_seen replies) b
+run_ended ops i replies a b h done = subst (λ xs. HaveRun a (map op_seen xs) (map reply_seen replies) b) (take_all i ops h) done
+
+-- the session fails in the next one
+pub run_cut : (e : Error) (ops : List Op) (i : ℕ) (d : Op) (replies : List Reply) (a b c : Moment) → i < length ops → AreWithstood a (map op_seen (take i ops)) (map reply_seen replies) b →
+    FailsBy e b (op_seen (get_or ops i d)) c → Withstands b (op_seen (get_or ops i d)) c → IsEndedBy e a (map op_seen ops) c
+run_cut e ops i d replies a b c lt done fails withstands = record {
+  ended = record {
+    cut = record {
+      done = map op_seen (take i ops);
+      next = op_seen (get_or ops i d);
+      others = map op_seen (drop (i + 1) ops);
+      are = ap (map op_seen) (sym (take-append-drop i ops)) ∙ map-append op_seen (take i ops) (drop i ops) ∙ ap (λ xs. map op_seen (take i ops) ++ map op_seen xs) (drop-cons ops i d lt ∙ ap (λ n. get_or ops i d ∷ drop n ops) (sym (add-one i)));
+      replies = map reply_seen replies;
+      at = b;
+      turns = withstood_turns (map op_seen (take i ops)) (map reply_seen replies) a b done;
+      fails = fails.fails;
+    };
+    done = done;
+    next = withstands;
+  };
+  by = fails;
+}

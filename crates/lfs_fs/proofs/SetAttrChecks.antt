@@ -107,7 +107,7 @@ set_attr_can h bytes kind value path tree idle c =
     let j = neither _ _ i.1 in
     let k = neither _ _ j.1 in
     let works = not_failed h (ops.SetAttr bytes kind value) e in
-    subst (λ t. CanSetAttr t path kind value) (sym c.0.same) (subst (λ z. CanSetAttr (record h.tree { history = tree.history }) z kind value) (sym c.2) (record {
+    subst (λ t. CanSetAttr t path kind value) (sym c.0.same) (subst (λ z. CanSetAttr (record h.tree { history = tree.history; cache = tree.cache }) z kind value) (sym c.2) (record {
       works = works;
       writable = negated h.tree.writable (unrefused _ _ a.0);
       entry = good_root (path_of bytes) (unrefused _ _ b.0);

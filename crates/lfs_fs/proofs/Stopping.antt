@@ -34,7 +34,7 @@ works_at h s e = go h.tree.failed refl
     go false f = f
     go true f = absurd (let k : HasFailed ≡ Healthy s = sym (ap (λ (m : Moment). m.state) (failed_moment h f)) ∙ e in cc)
 
-session_at : (h : Held) (s : Session) → (moment_of h).state ≡ Healthy s → session_of h ≡ s
+pub session_at : (h : Held) (s : Session) → (moment_of h).state ≡ Healthy s → session_of h ≡ s
 session_at h s e = ap or_else (sym (ap (λ (m : Moment). m.state) (healthy_moment h (works_at h s e))) ∙ e)
   where
     or_else : State → Session

@@ -1,8 +1,6 @@
 -- Runs whose operations withstand stops.
-use Rattle.std.proofs.Common.{Result, Ok, Err, ℕ, ◌≡◌, ◌+◌, ◌<◌, ◌≤◌, Bool, true, false, List, [], ◌∷◌, ◌++◌, length, take, drop, map, get_or, refl, sym, ap, subst, ◌∙◌, drop-cons, add-one}
-use Rattle.std.proofs.lemmas.List.{take_more, take_all, map-append, take-append-drop}
+use Rattle.std.proofs.Common.{Result, Ok, Err, ◌≡◌, Bool, true, false, List, refl, sym, subst, ◌∙◌}
 use Rattle.lfs_device.specs.declared.error.Error.{Error}
-use Rattle.lfs_model.specs.Outages.{AreWithstood}
 use Rattle.lfs_model.specs.PowerLoss.{IsAtWork, IsLeft, SurvivesStops, Withstands}
 use Rattle.lfs_model.specs.Disk.{Disk, SameGeometry}
 use Rattle.lfs_model.specs.Effects.{applied}
@@ -13,17 +11,13 @@ use Rattle.lfs_model.specs.Operations.{Operation}
 use Rattle.lfs_model.specs.Session.{Session, Surroundings}
 use Rattle.lfs_model.specs.Shown.{tree_in}
 use Rattle.lfs_model.specs.Thread.{Pair}
-use Rattle.lfs_model.specs.Run.{Agrees, IsTurn, Moment}
-use Rattle.lfs_model.proofs.AfterStops.{left_before, withstood_turns}
+use Rattle.lfs_model.specs.Run.{Agrees, Moment}
+use Rattle.lfs_model.proofs.AfterStops.{left_before}
 use Rattle.lfs_model.proofs.Kept.{one_tree}
 use Rattle.lfs_model.proofs.Standing.{device_withstands, one_device}
-use Rattle.lfs_model.proofs.Withstanding.{withstood_further}
-use Rattle.lfs_fs.specs.Held.{Answers, FailsBy, Held, IsEndedBy, IsReady, held_of, moment_of}
+use Rattle.lfs_fs.specs.Held.{Answers, Held, IsReady, held_of, moment_of}
 use Rattle.lfs_fs.specs.Told.{IsTold}
 use Rattle.lfs_fs.specs.FileSeen.{OpenFiles}
-use Rattle.lfs_fs.specs.OpSeen.{op_seen, reply_seen}
-use Rattle.lfs_fs.specs.declared.run.Op.{Op}
-use Rattle.lfs_fs.specs.declared.run.Reply.{Reply}
 use Rattle.lfs_tree.specs.Seen.{Seen}
 use Rattle.lfs_fs.proofs.Failing.{failed_moment, healthy_moment}
 use Rattle.lfs_fs.proofs.Stopping.{same_blocks, works_at}
@@ -51,7 +45,7 @@ told_by g device t files ready disk history newest obeyed =
 
 -- ---- a call that fails, or that leaves the disk as it was
 
-stood_before : (from : Moment) (op : Operation) → Agrees from.disk from.state → (s : Session) (ps : List Pair) (around : Surroundings) → IsAtWork from s ps around → IsLeft from.disk s.tree (applied around s op).1.tree
+pub stood_before : (from : Moment) (op : Operation) → Agrees from.disk from.state → (s : Session) (ps : List Pair) (around : Surroundings) → IsAtWork from s ps around → IsLeft from.disk s.tree (applied around s op).1.tree
 stood_before from op agrees s ps around work =
     left_before from.disk ps s.tree (applied around s op).1.tree work.accepted work.writable
     (one_tree from.disk (tree_in from.disk ps) s.tree (ps, (work.accepted, refl)) (subst (Agrees from.disk) work.healthy agrees))
@@ -77,38 +71,3 @@ call_withstands old op r new before after answers survives = go old.tree.failed 
     go false works =
         device_withstands (moment_of old) (moment_of new) op before.agrees
         (one_device (moment_of old) (moment_of new) (before.called works) before.newest after.newest after.obeyed (same_blocks old.tree.disk new.tree.disk new.tree.disk.blocks (same_shape old op r new answers))) survives
-
--- ---- in turn
-
--- one more operation
-pub run_further : (ops : List Op) (i : ℕ) (d : Op) (replies new : List Reply) (reply : Reply) (a b c : Moment) → i < length ops → AreWithstood a (map op_seen (take i ops)) (map reply_seen replies) b →
-    IsTurn b (op_seen (get_or ops i d)) (reply_seen reply) c → Withstands b (op_seen (get_or ops i d)) c → new ≡ replies ++ reply ∷ [] → AreWithstood a (map op_seen (take (i + 1) ops)) (map reply_seen new) c
-run_further ops i d replies new reply a b c lt done turn withstands is =
-    subst (λ rs. AreWithstood a (map op_seen (take (i + 1) ops)) (map reply_seen rs) c) (sym is)
-    (subst (λ xs. AreWithstood a xs (map reply_seen (replies ++ reply ∷ [])) c) (sym (ap (map op_seen) (take_more ops i d lt) ∙ map-append op_seen (take i ops) (get_or ops i d ∷ [])))
-    (subst (λ rs. AreWithstood a (map op_seen (take i ops) ++ op_seen (get_or ops i d) ∷ []) rs c) (sym (map-append reply_seen replies (reply ∷ [])))
-    (withstood_further (map op_seen (take i ops)) (op_seen (get_or ops i d)) (map reply_seen replies) (reply_seen reply) a b c done turn withstands)))
-
-pub run_ended : (ops : List Op) (i : ℕ) (replies : List Reply) (a b : Moment) → length ops ≤ i → AreWithstood a (map op_seen (take i ops)) (map reply_seen replies) b → AreWithstood a (map op_seen ops) (map reply_seen replies) b
-run_ended ops i replies a b h done = subst (λ xs. AreWithstood a (map op_seen xs) (map reply_seen replies) b) (take_all i ops h) done
-
--- the session fails in the next one
-pub run_cut : (e : Error) (ops : List Op) (i : ℕ) (d : Op) (replies : List Reply) (a b c : Moment) → i < length ops → AreWithstood a (map op_seen (take i ops)) (map reply_seen replies) b →
-    FailsBy e b (op_seen (get_or ops i d)) c → Withstands b (op_seen (get_or ops i d)) c → IsEndedBy e a (map op_seen ops) c
-run_cut e ops i d replies a b c lt done fails withstands = record {
-  ended = record {
-    cut = record {
-      done = map op_seen (take i ops);
-      next = op_seen (get_or ops i d);
-      others = map op_seen (drop (i + 1) ops);
-      are = ap (map op_seen) (sym (take-append-drop i ops)) ∙ map-append op_seen (take i ops) (drop i ops) ∙ ap (λ xs. map op_seen (take i ops) ++ map op_seen xs) (drop-cons ops i d lt ∙ ap (λ n. get_or ops i d ∷ drop n ops) (sym (add-one i)));
-      replies = map reply_seen replies;
-      at = b;
-      turns = withstood_turns (map op_seen (take i ops)) (map reply_seen replies) a b done;
-      fails = fails.fails;
-    };
-    done = done;
-    next = withstands;
-  };
-  by = fails;
-}

@@ -147,7 +147,7 @@ pub beside_later : (old mid new : Seen) → IsAsked old mid → IsWrittenBeside 
 beside_later old mid new asked b =
     again (subst (λ t. IsWrittenBeside t new) asked.same b)
   where
-    again : IsWrittenBeside (record old { history = mid.history }) new → IsWrittenBeside old new
+    again : IsWrittenBeside (record old { history = mid.history; cache = mid.cache }) new → IsWrittenBeside old new
     again k = record {
       works = k.works;
       sound = k.sound;
@@ -155,6 +155,7 @@ beside_later old mid new asked b =
       pairs = k.pairs;
       shows = k.shows;
       around = k.around;
+      stay = k.stay;
       geometry = k.geometry;
       calls = k.calls ++ asked.reads.events;
       called = k.called ∙ ap (λ z. k.calls ++ z) asked.reads.extends ∙ sym (append_assoc k.calls asked.reads.events old.history);
@@ -280,7 +281,7 @@ pub can_write : (old mid : Seen) (w : Writer) (bytes : List ℕ) (place : ℕ) (
     IsFormOf old.disk.block_size w.unsaved (length (bytes_of old path w.unsaved)) (form_of c) → LargeLaw → WriteLaw → CanWriteBeside mid c place (length bytes)
 can_write old mid w bytes place c path can asked at over same shape large write =
     subst (λ t. CanWriteBeside t c place (length bytes)) (sym asked.same)
-    (subst (λ p. CanWriteBeside (record old { history = mid.history }) c p (length bytes)) (sym is) (record {
+    (subst (λ p. CanWriteBeside (record old { history = mid.history; cache = mid.cache }) c p (length bytes)) (sym is) (record {
       works = can.can.works;
       stands = (subst (λ t. IsOver t path c) asked.same over).stands;
       large = large old.disk.block_size (form_of c) (writer_seen old w) kept;

@@ -11,3 +11,4 @@ pub mod Changing
 pub mod Staying
 pub mod Told
 pub mod LookUps
+pub mod Sparing

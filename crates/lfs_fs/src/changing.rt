@@ -3,7 +3,7 @@
 ghost use Rattle.std.specs.Prelude.{ℕ, List, [], true, ◌≡◌, length, IfErr, IfOk, OnErr, OnOk};
 ghost use Rattle.lfs_model.specs.Writers.{opened_writer, after_sync, after_truncate, after_write};
 ghost use Rattle.lfs_tree.specs.OpenContents.{IsOver, IsStoredAt, IsWrittenBeside, bytes_held, kept_of};
-ghost use Rattle.lfs_tree.specs.Seen.{tree_seen, IsAsked, IsBroken, IsCarried, IsBrokenAsking, IsError, IsSound, SurvivesAs};
+ghost use Rattle.lfs_tree.specs.Seen.{tree_seen, IsAsked, IsBroken, IsCarried, IsBrokenAsking, IsError, IsSound, LeavesRest, SurvivesAs};
 ghost use Rattle.lfs_writer.specs.Contents.{form_of};
 ghost use Rattle.lfs_fs.specs.Changing.{CanBegin, IsBegunAs, CanSave, CanTruncate, CanWrite, HasContents, IsFormOf, IsSavedAs, IsWriterAs};
 ghost use Rattle.lfs_fs.specs.FileSeen.{bytes_of, writer_seen};
@@ -212,7 +212,7 @@ pub(crate) fn begin_new<D: BlockDevice>(
     flags: OpenFlags,
 ) -> Result<Writer, Error>
     requires { CanCreate tree.old path }
-    ensures made { OnOk result ((bytes : List ℕ) (flags : Flags) → as_path bytes ≡ path → flags.write ≡ true → IsCarried tree.old (ops.Open bytes flags) tree.new) }
+    ensures made { OnOk result ((bytes : List ℕ) (flags : Flags) → as_path bytes ≡ path → flags.write ≡ true → IsCarried tree.old (ops.Open bytes flags) tree.new × LeavesRest tree.old (ops.Open bytes flags) tree.new) }
     ensures begun { IfOk result (IsBegunAs tree.new (opened_writer path (flags_seen flags) [])) }
     ensures broken { OnErr result (IsBroken tree.old tree.new) }
     ensures errors { IfErr result (IsError tree.old tree.new) }

@@ -12,7 +12,7 @@ ghost use Rattle.lfs_model.specs.TreeEdits.{attributes_of};
 ghost use Rattle.lfs_model.specs.Content.{attribute_of};
 ghost use Rattle.lfs_fs.specs.EntryPaths.{entry_path};
 ghost use Rattle.lfs_fs.specs.Held.{Checks, ChecksKept, IsOpening, IsReadable, IsReady, held_of};
-ghost use Rattle.lfs_fs.specs.LookUps.{AddsFew};
+ghost use Rattle.lfs_fs.specs.LookUps.{AddsFew, AddsNone, LeavesOnHand};
 ghost use Rattle.lfs_tree.specs.Finds.{list_item_seen};
 ghost use Rattle.lfs_tree.specs.Seen.{around_of, tree_seen};
 ghost use Rattle.lfs_model.specs.Slots.{Attributes, attributes_size};
@@ -70,6 +70,8 @@ pub(crate) fn check_stat<D: BlockDevice>(
 ) -> Result<Option<u32>, Error>
     ensures checks { Checks (held_of tree.old files.now) (ops.Stat bytes.now) (λ size. size_of (tree_seen tree.old (as_path bytes.now)) ≡ size) result tree.new }
     ensures few { AddsFew tree.old (ops.Stat bytes.now) tree.new }
+    ensures kept { AddsNone tree.old (ops.Stat bytes.now) tree.new }
+    ensures hand { LeavesOnHand tree.old (ops.Stat bytes.now) result tree.new }
 {
     if tree.has_failed() {
         return Err(Error::Failed);
@@ -252,6 +254,7 @@ pub(crate) fn check_list<D: BlockDevice>(
 ) -> Result<Vec<ListItem>, Error>
     ensures checks { Checks (held_of tree.old files.now) (ops.ListAll bytes.now) (λ items. items_in (tree_seen tree.old) (as_path bytes.now) ≡ map list_item_seen items.items) result tree.new }
     ensures few { AddsFew tree.old (ops.ListAll bytes.now) tree.new }
+    ensures kept { AddsNone tree.old (ops.ListAll bytes.now) tree.new }
 {
     if tree.has_failed() {
         return Err(Error::Failed);
@@ -279,6 +282,7 @@ pub(crate) fn check_get_attr<D: BlockDevice>(
 ) -> Result<Vec<u8>, Error>
     ensures checks { Checks (held_of tree.old files.now) (ops.GetAttr bytes.now kind) (λ v. unwrap_or (attribute_of kind (attributes_of (tree_seen tree.old (as_path bytes.now)))) [] ≡ v.items) result tree.new }
     ensures few { AddsFew tree.old (ops.GetAttr bytes.now kind) tree.new }
+    ensures kept { AddsNone tree.old (ops.GetAttr bytes.now kind) tree.new }
 {
     if tree.has_failed() {
         return Err(Error::Failed);

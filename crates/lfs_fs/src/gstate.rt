@@ -5,6 +5,7 @@ ghost use Rattle.lfs_tag.specs.FieldsSeen.{move_seen};
 ghost use Rattle.lfs_fs.specs.GstateSeen.{gstate_reply, reply_of_gstate};
 
 use lfs_tag::MoveState;
+use lfs_tag::kinds::DELETE;
 
 /// The global state (DESIGN.md of littlefs, "The move problem").
 #[derive(Clone, Copy, Debug, PartialEq, Eq)]
@@ -18,7 +19,7 @@ pub struct Gstate {
 pub(crate) fn gstate_of(state: &MoveState) -> Gstate
     ensures { gstate_reply result ≡ reply_of_gstate (move_seen state.now) }
 {
-    let moving = if state.kind == 0x4ff {
+    let moving = if state.kind == DELETE {
         Some((state.pair, state.id))
     } else {
         None

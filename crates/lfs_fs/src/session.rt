@@ -1,6 +1,6 @@
 ghost use Rattle.lfs_model.specs.Operations as ops;
 ghost use Rattle.lfs_fs.specs.Replies.{reply_in};
-ghost use Rattle.std.specs.Prelude.{◌≡◌, false, true, List, map, IfOk, IfErr};
+ghost use Rattle.std.specs.Prelude.{◌≡◌, ◌⊎◌, None, false, true, List, map, IfOk, IfErr, OnOk};
 ghost use Rattle.lfs_model.specs.Disk.{SameGeometry};
 ghost use Rattle.lfs_model.specs.Thread.{Pair};
 ghost use Rattle.lfs_model.specs.Fresh.{IsFresh, empty_tree};
@@ -8,7 +8,7 @@ ghost use Rattle.lfs_model.specs.Headline.{IsTrue};
 ghost use Rattle.lfs_model.specs.State.{Healthy, mounted};
 ghost use Rattle.lfs_model.specs.Run.{AreTurns};
 ghost use Rattle.lfs_model.specs.Outages.{AreWithstood};
-ghost use Rattle.lfs_model.specs.PowerLoss.{SurvivesStops, Withstands};
+ghost use Rattle.lfs_model.specs.PowerLoss.{SurvivesStops};
 ghost use Rattle.lfs_thread.specs.Device.{GivesBack, two_of};
 ghost use Rattle.lfs_thread.specs.Kept.{disk_on};
 ghost use Rattle.lfs_model.specs.Thread.{anchor};
@@ -18,8 +18,9 @@ ghost use Rattle.lfs_tree.specs.Formatting.{ComesBack};
 ghost use Rattle.lfs_fs.specs.GstateSeen.{gstate_reply};
 ghost use Rattle.lfs_fs.specs.Held.{Answers, IsBegun, IsEndedBy, moment_of};
 ghost use Rattle.lfs_fs.specs.FlagsSeen.{flags_seen};
-ghost use Rattle.lfs_fs.specs.LookUps.{ReadsFewIn};
 ghost use Rattle.lfs_fs.specs.OpSeen.{op_seen, performed, reply_seen};
+ghost use Rattle.lfs_fs.specs.Sparing.{IsCall, LeavesOthers};
+ghost use Rattle.lfs_model.specs.Thrift.{AreThrifty};
 ghost use Rattle.lfs_fs.specs.Told.{IsTold};
 
 use crate::changing::{begin_new, begin_there, save, truncate_by, write_by};
@@ -64,9 +65,7 @@ impl<D: BlockDevice> Session<D> {
     /// A file's size, or None for a directory. Each pair of the directories above it is read at most
     /// once.
     pub fn stat(&mut self, alloc: Global, path: &[u8]) -> Result<Option<u32>, Error>
-        ensures answers { Answers self.old (ops.Stat path.now) (reply_in ops.StatIs result) self.new }
-        ensures few { ReadsFewIn self.old.tree (ops.Stat path.now) self.new.tree }
-        ensures survives { SurvivesStops (moment_of self.old) (ops.Stat path.now) (moment_of self.new) }
+        ensures { IsCall self.old (ops.Stat path.now) (reply_in ops.StatIs result) self.new }
     {
         check_stat(alloc, &mut self.tree, &self.files, path)
     }
@@ -74,25 +73,21 @@ impl<D: BlockDevice> Session<D> {
     /// What stands in a directory, in name order. Each pair of it, and of the directories above it, is
     /// read at most once.
     pub fn list(&mut self, alloc: Global, path: &[u8]) -> Result<Vec<ListItem>, Error>
-        ensures answers { Answers self.old (ops.ListAll path.now) (reply_in (λ items. ops.Items (map list_item_seen items.items)) result) self.new }
-        ensures few { ReadsFewIn self.old.tree (ops.ListAll path.now) self.new.tree }
-        ensures survives { SurvivesStops (moment_of self.old) (ops.ListAll path.now) (moment_of self.new) }
+        ensures { IsCall self.old (ops.ListAll path.now) (reply_in (λ items. ops.Items (map list_item_seen items.items)) result) self.new }
     {
         check_list(alloc, &mut self.tree, &self.files, path)
     }
 
     /// The bytes of an entry's attribute. Each pair of the directories above it is read at most once.
     pub fn get_attr(&mut self, alloc: Global, path: &[u8], kind: u8) -> Result<Vec<u8>, Error>
-        ensures answers { Answers self.old (ops.GetAttr path.now kind) (reply_in (λ v. ops.Bytes v.items) result) self.new }
-        ensures few { ReadsFewIn self.old.tree (ops.GetAttr path.now kind) self.new.tree }
-        ensures survives { SurvivesStops (moment_of self.old) (ops.GetAttr path.now kind) (moment_of self.new) }
+        ensures { IsCall self.old (ops.GetAttr path.now kind) (reply_in (λ v. ops.Bytes v.items) result) self.new }
     {
         check_get_attr(alloc, &mut self.tree, &self.files, path, kind)
     }
 
     /// The global state. Without a call of the device.
     pub fn gstate(&self) -> Result<Gstate, Error>
-        ensures { Answers self.now ops.AskGstate (reply_in gstate_reply result) self.now }
+        ensures { IsCall self.now ops.AskGstate (reply_in gstate_reply result) self.now }
     {
         if self.tree.has_failed() {
             return Err(Error::Failed);
@@ -102,7 +97,7 @@ impl<D: BlockDevice> Session<D> {
 
     /// Whether the image uses a block. Without a call of the device.
     pub fn is_used(&self, block: u32) -> Result<bool, Error>
-        ensures { Answers self.now (ops.IsUsed block) (reply_in ops.Yes result) self.now }
+        ensures { IsCall self.now (ops.IsUsed block) (reply_in ops.Yes result) self.now }
     {
         if self.tree.has_failed() {
             return Err(Error::Failed);
@@ -115,7 +110,7 @@ impl<D: BlockDevice> Session<D> {
 
     /// How many blocks the image uses. Without a call of the device.
     pub fn used_count(&self) -> Result<u32, Error>
-        ensures { Answers self.now ops.UsedCount (reply_in ops.Count result) self.now }
+        ensures { IsCall self.now ops.UsedCount (reply_in ops.Count result) self.now }
     {
         if self.tree.has_failed() {
             return Err(Error::Failed);
@@ -126,8 +121,7 @@ impl<D: BlockDevice> Session<D> {
     /// Makes an empty directory. What a loss of power left in the image is ended first, as by
     /// [`recover`](Session::recover).
     pub fn mkdir(&mut self, alloc: Global, path: &[u8]) -> Result<(), Error>
-        ensures answers { Answers self.old (ops.Mkdir path.now) (reply_in (λ _. ops.Done) result) self.new }
-        ensures withstands { Withstands (moment_of self.old) (ops.Mkdir path.now) (moment_of self.new) }
+        ensures { IsCall self.old (ops.Mkdir path.now) (reply_in (λ _. ops.Done) result) self.new }
     {
         self.tells();
         let answer = self.do_mkdir(alloc, path);
@@ -137,6 +131,7 @@ impl<D: BlockDevice> Session<D> {
 
     fn do_mkdir(&mut self, alloc: Global, path: &[u8]) -> Result<(), Error>
         ensures answers { Answers self.old (ops.Mkdir path.now) (reply_in (λ _. ops.Done) result) self.new }
+        ensures alone { OnOk result (LeavesOthers (moment_of self.old) (ops.Mkdir path.now) (moment_of self.new)) }
         ensures survives { SurvivesStops (moment_of self.old) (ops.Mkdir path.now) (moment_of self.new) }
     {
         open_files_stay();
@@ -146,8 +141,7 @@ impl<D: BlockDevice> Session<D> {
 
     /// Takes a file, or a directory without entries. What a loss of power left is ended first.
     pub fn remove(&mut self, alloc: Global, path: &[u8]) -> Result<(), Error>
-        ensures answers { Answers self.old (ops.Remove path.now) (reply_in (λ _. ops.Done) result) self.new }
-        ensures withstands { Withstands (moment_of self.old) (ops.Remove path.now) (moment_of self.new) }
+        ensures { IsCall self.old (ops.Remove path.now) (reply_in (λ _. ops.Done) result) self.new }
     {
         self.tells();
         let answer = self.do_remove(alloc, path);
@@ -157,6 +151,7 @@ impl<D: BlockDevice> Session<D> {
 
     fn do_remove(&mut self, alloc: Global, path: &[u8]) -> Result<(), Error>
         ensures answers { Answers self.old (ops.Remove path.now) (reply_in (λ _. ops.Done) result) self.new }
+        ensures alone { OnOk result (LeavesOthers (moment_of self.old) (ops.Remove path.now) (moment_of self.new)) }
         ensures survives { SurvivesStops (moment_of self.old) (ops.Remove path.now) (moment_of self.new) }
     {
         open_files_stay();
@@ -168,8 +163,7 @@ impl<D: BlockDevice> Session<D> {
     /// there is one. What is beneath a directory goes with it, and what a loss of power left is ended
     /// first. A path to itself: nothing is done.
     pub fn rename(&mut self, alloc: Global, from: &[u8], to: &[u8]) -> Result<(), Error>
-        ensures answers { Answers self.old (ops.Rename from.now to.now) (reply_in (λ _. ops.Done) result) self.new }
-        ensures withstands { Withstands (moment_of self.old) (ops.Rename from.now to.now) (moment_of self.new) }
+        ensures { IsCall self.old (ops.Rename from.now to.now) (reply_in (λ _. ops.Done) result) self.new }
     {
         self.tells();
         let answer = self.do_rename(alloc, from, to);
@@ -179,6 +173,7 @@ impl<D: BlockDevice> Session<D> {
 
     fn do_rename(&mut self, alloc: Global, from: &[u8], to: &[u8]) -> Result<(), Error>
         ensures answers { Answers self.old (ops.Rename from.now to.now) (reply_in (λ _. ops.Done) result) self.new }
+        ensures alone { OnOk result (LeavesOthers (moment_of self.old) (ops.Rename from.now to.now) (moment_of self.new)) }
         ensures survives { SurvivesStops (moment_of self.old) (ops.Rename from.now to.now) (moment_of self.new) }
     {
         open_files_stay();
@@ -198,8 +193,7 @@ impl<D: BlockDevice> Session<D> {
         kind: u8,
         value: &[u8],
     ) -> Result<(), Error>
-        ensures answers { Answers self.old (ops.SetAttr path.now kind value.now) (reply_in (λ _. ops.Done) result) self.new }
-        ensures withstands { Withstands (moment_of self.old) (ops.SetAttr path.now kind value.now) (moment_of self.new) }
+        ensures { IsCall self.old (ops.SetAttr path.now kind value.now) (reply_in (λ _. ops.Done) result) self.new }
     {
         self.tells();
         let answer = self.do_set_attr(alloc, path, kind, value);
@@ -215,6 +209,7 @@ impl<D: BlockDevice> Session<D> {
         value: &[u8],
     ) -> Result<(), Error>
         ensures answers { Answers self.old (ops.SetAttr path.now kind value.now) (reply_in (λ _. ops.Done) result) self.new }
+        ensures alone { OnOk result (LeavesOthers (moment_of self.old) (ops.SetAttr path.now kind value.now) (moment_of self.new)) }
         ensures survives { SurvivesStops (moment_of self.old) (ops.SetAttr path.now kind value.now) (moment_of self.new) }
     {
         open_files_stay();
@@ -224,8 +219,7 @@ impl<D: BlockDevice> Session<D> {
 
     /// Takes an attribute from an entry. What a loss of power left is ended first.
     pub fn remove_attr(&mut self, alloc: Global, path: &[u8], kind: u8) -> Result<(), Error>
-        ensures answers { Answers self.old (ops.RemoveAttr path.now kind) (reply_in (λ _. ops.Done) result) self.new }
-        ensures withstands { Withstands (moment_of self.old) (ops.RemoveAttr path.now kind) (moment_of self.new) }
+        ensures { IsCall self.old (ops.RemoveAttr path.now kind) (reply_in (λ _. ops.Done) result) self.new }
     {
         self.tells();
         let answer = self.do_remove_attr(alloc, path, kind);
@@ -235,6 +229,7 @@ impl<D: BlockDevice> Session<D> {
 
     fn do_remove_attr(&mut self, alloc: Global, path: &[u8], kind: u8) -> Result<(), Error>
         ensures answers { Answers self.old (ops.RemoveAttr path.now kind) (reply_in (λ _. ops.Done) result) self.new }
+        ensures alone { OnOk result (LeavesOthers (moment_of self.old) (ops.RemoveAttr path.now kind) (moment_of self.new)) }
         ensures survives { SurvivesStops (moment_of self.old) (ops.RemoveAttr path.now kind) (moment_of self.new) }
     {
         open_files_stay();
@@ -247,8 +242,7 @@ impl<D: BlockDevice> Session<D> {
     ///
     /// `ReadOnly` where the image isn't one of those that this library writes.
     pub fn recover(&mut self, alloc: Global) -> Result<(), Error>
-        ensures answers { Answers self.old ops.Recover (reply_in (λ _. ops.Done) result) self.new }
-        ensures withstands { Withstands (moment_of self.old) ops.Recover (moment_of self.new) }
+        ensures { IsCall self.old ops.Recover (reply_in (λ _. ops.Done) result) self.new }
     {
         self.tells();
         let answer = self.do_recover(alloc);
@@ -274,6 +268,7 @@ impl<D: BlockDevice> Session<D> {
     fn open_reader(&mut self, alloc: Global, path: &[u8], flags: OpenFlags) -> Result<u32, Error>
         requires { (flags_seen flags).write ≡ false }
         ensures answers { Answers self.old (ops.Open path.now (flags_seen flags)) (reply_in ops.Opened result) self.new }
+        ensures alone { OnOk result (LeavesOthers (moment_of self.old) (ops.Open path.now (flags_seen flags)) (moment_of self.new)) }
         ensures survives { SurvivesStops (moment_of self.old) (ops.Open path.now (flags_seen flags)) (moment_of self.new) }
     {
         check_open_reader(alloc, &mut self.tree, &self.files, path, flags)?;
@@ -288,6 +283,7 @@ impl<D: BlockDevice> Session<D> {
     fn open_writer(&mut self, alloc: Global, path: &[u8], flags: OpenFlags) -> Result<u32, Error>
         requires { (flags_seen flags).write ≡ true }
         ensures answers { Answers self.old (ops.Open path.now (flags_seen flags)) (reply_in ops.Opened result) self.new }
+        ensures alone { OnOk result (LeavesOthers (moment_of self.old) (ops.Open path.now (flags_seen flags)) (moment_of self.new)) }
         ensures survives { SurvivesStops (moment_of self.old) (ops.Open path.now (flags_seen flags)) (moment_of self.new) }
     {
         let found = check_open_writer(alloc, &mut self.tree, &self.files, path, flags)?;
@@ -310,8 +306,7 @@ impl<D: BlockDevice> Session<D> {
     /// Opens a file, for reading or for writing. One file at most is open for writing, and 16 for
     /// reading. Where it is opened for writing, what a loss of power left in the image is ended first.
     pub fn open(&mut self, alloc: Global, path: &[u8], flags: OpenFlags) -> Result<u32, Error>
-        ensures answers { Answers self.old (ops.Open path.now (flags_seen flags)) (reply_in ops.Opened result) self.new }
-        ensures withstands { Withstands (moment_of self.old) (ops.Open path.now (flags_seen flags)) (moment_of self.new) }
+        ensures { IsCall self.old (ops.Open path.now (flags_seen flags)) (reply_in ops.Opened result) self.new }
     {
         self.tells();
         let answer = self.do_open(alloc, path, flags);
@@ -321,6 +316,7 @@ impl<D: BlockDevice> Session<D> {
 
     fn do_open(&mut self, alloc: Global, path: &[u8], flags: OpenFlags) -> Result<u32, Error>
         ensures answers { Answers self.old (ops.Open path.now (flags_seen flags)) (reply_in ops.Opened result) self.new }
+        ensures alone { OnOk result (LeavesOthers (moment_of self.old) (ops.Open path.now (flags_seen flags)) (moment_of self.new)) }
         ensures survives { SurvivesStops (moment_of self.old) (ops.Open path.now (flags_seen flags)) (moment_of self.new) }
     {
         if flags.contains(OpenFlags::WRITE) {
@@ -334,8 +330,7 @@ impl<D: BlockDevice> Session<D> {
     /// appends, and says how many; zeros fill a gap. The position is behind them then. They are in
     /// the tree once the file is synced or closed.
     pub fn write(&mut self, alloc: Global, fd: u32, bytes: &[u8]) -> Result<u32, Error>
-        ensures answers { Answers self.old (ops.Write fd bytes.now) (reply_in ops.Count result) self.new }
-        ensures withstands { Withstands (moment_of self.old) (ops.Write fd bytes.now) (moment_of self.new) }
+        ensures { IsCall self.old (ops.Write fd bytes.now) (reply_in ops.Count result) self.new }
     {
         self.tells();
         let answer = self.do_write(alloc, fd, bytes);
@@ -345,6 +340,7 @@ impl<D: BlockDevice> Session<D> {
 
     fn do_write(&mut self, alloc: Global, fd: u32, bytes: &[u8]) -> Result<u32, Error>
         ensures answers { Answers self.old (ops.Write fd bytes.now) (reply_in ops.Count result) self.new }
+        ensures alone { OnOk result (LeavesOthers (moment_of self.old) (ops.Write fd bytes.now) (moment_of self.new)) }
         ensures survives { SurvivesStops (moment_of self.old) (ops.Write fd bytes.now) (moment_of self.new) }
     {
         check_write(&self.tree, &self.files, fd, bytes)?;
@@ -362,8 +358,7 @@ impl<D: BlockDevice> Session<D> {
     /// Gives a file that is open for writing that many bytes: it is cut, or zeros fill it up. The
     /// position stays.
     pub fn truncate(&mut self, alloc: Global, fd: u32, size: u32) -> Result<(), Error>
-        ensures answers { Answers self.old (ops.Truncate fd size) (reply_in (λ _. ops.Done) result) self.new }
-        ensures withstands { Withstands (moment_of self.old) (ops.Truncate fd size) (moment_of self.new) }
+        ensures { IsCall self.old (ops.Truncate fd size) (reply_in (λ _. ops.Done) result) self.new }
     {
         self.tells();
         let answer = self.do_truncate(alloc, fd, size);
@@ -373,6 +368,7 @@ impl<D: BlockDevice> Session<D> {
 
     fn do_truncate(&mut self, alloc: Global, fd: u32, size: u32) -> Result<(), Error>
         ensures answers { Answers self.old (ops.Truncate fd size) (reply_in (λ _. ops.Done) result) self.new }
+        ensures alone { OnOk result (LeavesOthers (moment_of self.old) (ops.Truncate fd size) (moment_of self.new)) }
         ensures survives { SurvivesStops (moment_of self.old) (ops.Truncate fd size) (moment_of self.new) }
     {
         check_truncate(&self.tree, &self.files, fd, size)?;
@@ -389,8 +385,7 @@ impl<D: BlockDevice> Session<D> {
 
     /// Brings what was written to an open file into the tree. Nothing is to be done for other files.
     pub fn sync(&mut self, alloc: Global, fd: u32) -> Result<(), Error>
-        ensures answers { Answers self.old (ops.Sync fd) (reply_in (λ _. ops.Done) result) self.new }
-        ensures withstands { Withstands (moment_of self.old) (ops.Sync fd) (moment_of self.new) }
+        ensures { IsCall self.old (ops.Sync fd) (reply_in (λ _. ops.Done) result) self.new }
     {
         self.tells();
         let answer = self.do_sync(alloc, fd);
@@ -400,6 +395,7 @@ impl<D: BlockDevice> Session<D> {
 
     fn do_sync(&mut self, alloc: Global, fd: u32) -> Result<(), Error>
         ensures answers { Answers self.old (ops.Sync fd) (reply_in (λ _. ops.Done) result) self.new }
+        ensures alone { OnOk result (LeavesOthers (moment_of self.old) (ops.Sync fd) (moment_of self.new)) }
         ensures survives { SurvivesStops (moment_of self.old) (ops.Sync fd) (moment_of self.new) }
     {
         check_sync(&self.tree, &self.files, fd)?;
@@ -417,8 +413,7 @@ impl<D: BlockDevice> Session<D> {
     /// The bytes of an open file from its position on, so many at most; fewer where the file ends,
     /// and none behind its end. The position moves on by as many.
     pub fn read(&mut self, alloc: Global, fd: u32, count: u32) -> Result<Vec<u8>, Error>
-        ensures answers { Answers self.old (ops.Read fd count) (reply_in (λ v. ops.Bytes v.items) result) self.new }
-        ensures survives { SurvivesStops (moment_of self.old) (ops.Read fd count) (moment_of self.new) }
+        ensures { IsCall self.old (ops.Read fd count) (reply_in (λ v. ops.Bytes v.items) result) self.new }
     {
         if self.tree.has_failed() {
             return Err(Error::Failed);
@@ -440,8 +435,7 @@ impl<D: BlockDevice> Session<D> {
 
     /// Sets the position of an open file.
     pub fn seek(&mut self, fd: u32, position: u32) -> Result<(), Error>
-        ensures answers { Answers self.old (ops.Seek fd position) (reply_in (λ _. ops.Done) result) self.new }
-        ensures survives { SurvivesStops (moment_of self.old) (ops.Seek fd position) (moment_of self.new) }
+        ensures { IsCall self.old (ops.Seek fd position) (reply_in (λ _. ops.Done) result) self.new }
     {
         check_seek(&self.tree, &self.files, fd, position)?;
         self.files.seek(fd, position);
@@ -450,8 +444,7 @@ impl<D: BlockDevice> Session<D> {
 
     /// Closes an open file, and brings what was written to it into the tree. Its number is free then.
     pub fn close(&mut self, alloc: Global, fd: u32) -> Result<(), Error>
-        ensures answers { Answers self.old (ops.Close fd) (reply_in (λ _. ops.Done) result) self.new }
-        ensures withstands { Withstands (moment_of self.old) (ops.Close fd) (moment_of self.new) }
+        ensures { IsCall self.old (ops.Close fd) (reply_in (λ _. ops.Done) result) self.new }
     {
         self.tells();
         let answer = self.do_close(alloc, fd);
@@ -461,6 +454,7 @@ impl<D: BlockDevice> Session<D> {
 
     fn do_close(&mut self, alloc: Global, fd: u32) -> Result<(), Error>
         ensures answers { Answers self.old (ops.Close fd) (reply_in (λ _. ops.Done) result) self.new }
+        ensures alone { OnOk result (LeavesOthers (moment_of self.old) (ops.Close fd) (moment_of self.new)) }
         ensures survives { SurvivesStops (moment_of self.old) (ops.Close fd) (moment_of self.new) }
     {
         check_open(&self.tree, &self.files, fd)?;
@@ -478,8 +472,7 @@ impl<D: BlockDevice> Session<D> {
     /// Closes all files, and reads the device anew, after an error too. `Corrupt` where no image is
     /// accepted there; then, and after `Io` and `NoMemory`, the session has failed.
     pub fn remount(&mut self, alloc: Global) -> Result<(), Error>
-        ensures answers { Answers self.old ops.Remount (reply_in (λ _. ops.Done) result) self.new }
-        ensures survives { SurvivesStops (moment_of self.old) ops.Remount (moment_of self.new) }
+        ensures { IsCall self.old ops.Remount (reply_in (λ _. ops.Done) result) self.new }
     {
         self.files.clear();
         self.tree.remount(alloc)
@@ -503,8 +496,7 @@ impl<D: BlockDevice> Session<D> {
 
     // One operation. A refusal is a reply; an error leaves a failed session.
     fn perform(&mut self, alloc: Global, op: Op<'_>) -> Result<Reply, Error>
-        ensures answers { Answers self.old (op_seen op.entry) (performed result) self.new }
-        ensures survives { SurvivesStops (moment_of self.old) (op_seen op.entry) (moment_of self.new) }
+        ensures { IsCall self.old (op_seen op.entry) (performed result) self.new }
     {
         match op {
             Op::Open(path, flags) => fd(self.open(alloc, path, flags)),
@@ -543,23 +535,13 @@ impl<D: BlockDevice> Session<D> {
         let _device = self.tree.device();
     }
 
-    // The same, with what stands on the disk behind it.
-    fn carry(&mut self, alloc: Global, op: Op<'_>) -> Result<Reply, Error>
-        ensures answers { Answers self.old (op_seen op.entry) (performed result) self.new }
-        ensures withstands { Withstands (moment_of self.old) (op_seen op.entry) (moment_of self.new) }
-    {
-        self.tells();
-        let answer = self.perform(alloc, op);
-        self.tells();
-        answer
-    }
-
     /// Carries out operations in turn, a reply for each; a refusal is a reply, too. Where an
     /// operation meets an error, the operations before it were carried out, and the session has
     /// failed.
     pub fn run(&mut self, alloc: Global, ops: &[Op<'_>]) -> Result<Vec<Reply>, Error>
         ensures turns { IfOk result (λ replies. AreTurns (moment_of self.old) (map op_seen ops.now) (map reply_seen replies.items) (moment_of self.new)) }
         ensures withstood { IfOk result (λ replies. AreWithstood (moment_of self.old) (map op_seen ops.now) (map reply_seen replies.items) (moment_of self.new)) }
+        ensures thrifty { IfOk result (λ replies. AreThrifty None (moment_of self.old) (map op_seen ops.now) (map reply_seen replies.items) (moment_of self.new)) }
         ensures headline { IfOk result (λ replies. IsFresh self.old.tree.disk → (moment_of self.old).state ≡ Healthy (mounted empty_tree) → IsTrue (moment_of self.new)) }
         ensures ended { IfErr result (λ e. IsEndedBy e (moment_of self.old) (map op_seen ops.now) (moment_of self.new)) }
     {
@@ -570,7 +552,7 @@ impl<D: BlockDevice> Session<D> {
                 self.fail();
                 return Err(Error::NoMemory);
             }
-            match self.carry(alloc, *op) {
+            match self.perform(alloc, *op) {
                 Ok(reply) => replies.push_reserved(reply),
                 Err(error) => return Err(error),
             }
@@ -586,6 +568,7 @@ impl<D: BlockDevice> Session<D> {
 pub fn mount<D: BlockDevice>(alloc: Global, device: D) -> Result<Session<D>, (D, Error)>
     ensures begun { IfOk result (IsBegun (disk_on D.BlockDevice device) (D.history device)) }
     ensures corrupt { IfErr result (λ e. e.1 ≡ Error.Corrupt → (ps : List Pair) → IsAccepted (disk_on D.BlockDevice device) ps → ⊥) }
+    ensures errors { IfErr result (λ e. (e.1 ≡ Error.Io) ⊎ (e.1 ≡ Error.Corrupt) ⊎ (e.1 ≡ Error.NoMemory)) }
     ensures back { IfErr result (λ e. GivesBack D.BlockDevice device e.0 e.1) }
 {
     match Tree::mount(alloc, device) {

@@ -7,7 +7,7 @@ use Rattle.lfs_fs.proofs.Beginning.{begun_made}
 use Rattle.lfs_fs.proofs.changing.begin_new.Goals as goal
 
 pub returns-clause-made : goal.returns-clause-made
-returns-clause-made g c = λ bytes flags is write. c.in_ok-create.ensures.done bytes flags (is ∙ sym c.lend.ensures) write
+returns-clause-made g c = λ bytes flags is write. (c.in_ok-create.ensures.done bytes flags (is ∙ sym c.lend.ensures) write, c.in_ok-create.ensures.alone bytes flags (is ∙ sym c.lend.ensures) write)
 
 pub returns-clause-begun : goal.returns-clause-begun
 returns-clause-begun g c =

@@ -4,6 +4,7 @@ use Rattle.lfs_fs.proofs.Errors.{given_on}
 use Rattle.lfs_fs.proofs.Checked.{lookup_failed}
 use Rattle.lfs_fs.proofs.EntryChecks.{get_checked, got, is_entry, none_from_some}
 use Rattle.lfs_fs.proofs.FewReads.{few_given}
+use Rattle.lfs_fs.proofs.KeptLookUps.{none_given}
 use Rattle.lfs_model.specs.Discipline.{parents}
 use Rattle.std.proofs.Common.{sym}
 use Rattle.lfs_fs.proofs.checks.check_get_attr.Goals as goal
@@ -21,7 +22,13 @@ returns-in_err-found-clause-checks g c =
     (given_on _ c.from_residual.result c.from_residual.ensures.1)
 
 pub returns-clause-few : goal.returns-clause-few
-returns-clause-few g c = few_given c.args.tree.now c.get_attr.new.self parents c.args.bytes.now c.in-Some.path (sym (is_entry c.args.bytes.now c.in-Some.path c.in-Some.ensures).0) c.get_attr.ensures.few
+returns-clause-few g c = few_given c.args.tree.now c.get_attr.new.self parents c.args.bytes.now c.in-Some.path (sym (is_entry c.args.bytes.now c.in-Some.path c.in-Some.ensures).0) c.get_attr.ensures.few.few
 
 pub returns-in_err-found-clause-few : goal.returns-in_err-found-clause-few
-returns-in_err-found-clause-few g c = few_given c.args.tree.now c.get_attr.new.self parents c.args.bytes.now c.in-Some.path (sym (is_entry c.args.bytes.now c.in-Some.path c.in-Some.ensures).0) c.get_attr.ensures.few
+returns-in_err-found-clause-few g c = few_given c.args.tree.now c.get_attr.new.self parents c.args.bytes.now c.in-Some.path (sym (is_entry c.args.bytes.now c.in-Some.path c.in-Some.ensures).0) c.get_attr.ensures.few.few
+
+pub returns-clause-kept : goal.returns-clause-kept
+returns-clause-kept g c = none_given c.args.tree.now c.get_attr.new.self parents c.args.bytes.now c.in-Some.path (sym (is_entry c.args.bytes.now c.in-Some.path c.in-Some.ensures).0) c.get_attr.ensures.few.none
+
+pub returns-in_err-found-clause-kept : goal.returns-in_err-found-clause-kept
+returns-in_err-found-clause-kept g c = none_given c.args.tree.now c.get_attr.new.self parents c.args.bytes.now c.in-Some.path (sym (is_entry c.args.bytes.now c.in-Some.path c.in-Some.ensures).0) c.get_attr.ensures.few.none

@@ -4,6 +4,7 @@ use Rattle.lfs_fs.proofs.Errors.{given_on}
 use Rattle.lfs_fs.proofs.Checked.{lookup_failed}
 use Rattle.lfs_fs.proofs.EntryChecks.{list_checked}
 use Rattle.lfs_fs.proofs.FewReads.{few_given}
+use Rattle.lfs_fs.proofs.KeptLookUps.{none_given}
 use Rattle.lfs_tree.specs.Finds.{list_item_seen}
 use Rattle.lfs_model.specs.Discipline.{parents}
 use Rattle.std.proofs.Common.{[], ◌∷◌, ◌++◌, map}
@@ -21,7 +22,13 @@ returns-in_err-listing-clause-checks g c =
     (given_on _ c.from_residual.result c.from_residual.ensures.1)
 
 pub returns-clause-few : goal.returns-clause-few
-returns-clause-few g c = few_given c.args.tree.now c.list.new.self (λ p. parents p ++ p ∷ []) c.args.bytes.now c.in-Some.path c.in-Some.ensures c.list.ensures.few
+returns-clause-few g c = few_given c.args.tree.now c.list.new.self (λ p. parents p ++ p ∷ []) c.args.bytes.now c.in-Some.path c.in-Some.ensures c.list.ensures.few.few
 
 pub returns-in_err-listing-clause-few : goal.returns-in_err-listing-clause-few
-returns-in_err-listing-clause-few g c = few_given c.args.tree.now c.list.new.self (λ p. parents p ++ p ∷ []) c.args.bytes.now c.in-Some.path c.in-Some.ensures c.list.ensures.few
+returns-in_err-listing-clause-few g c = few_given c.args.tree.now c.list.new.self (λ p. parents p ++ p ∷ []) c.args.bytes.now c.in-Some.path c.in-Some.ensures c.list.ensures.few.few
+
+pub returns-clause-kept : goal.returns-clause-kept
+returns-clause-kept g c = none_given c.args.tree.now c.list.new.self (λ p. parents p ++ p ∷ []) c.args.bytes.now c.in-Some.path c.in-Some.ensures c.list.ensures.few.none
+
+pub returns-in_err-listing-clause-kept : goal.returns-in_err-listing-clause-kept
+returns-in_err-listing-clause-kept g c = none_given c.args.tree.now c.list.new.self (λ p. parents p ++ p ∷ []) c.args.bytes.now c.in-Some.path c.in-Some.ensures c.list.ensures.few.none

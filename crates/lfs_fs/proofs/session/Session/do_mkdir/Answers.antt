@@ -11,6 +11,7 @@ use Rattle.lfs_model.specs.TreeEdits.{added}
 use Rattle.lfs_model.specs.Tree.{DirectoryNode}
 use Rattle.lfs_tree.specs.Seen.{tree_seen}
 use Rattle.lfs_fs.proofs.Stopping.{asked_changed, called_by, only_read, reads_of_ended}
+use Rattle.lfs_fs.proofs.Sparing.{done_others}
 use Rattle.lfs_fs.proofs.session.Session.do_mkdir.Goals as goal
 
 pub mkdir-requires : goal.mkdir-requires
@@ -53,3 +54,10 @@ returns-clause-survives g c =
     asked_changed (held_of c.self.inside.tree c.self.inside.files) _ (ops.Mkdir c.args.path.now) c.check_mkdir.new.tree c.mkdir.new.self _ c.self.view_is (sound_by c.self.inside.tree c.self.inside.files c.self.invariant) h.1 h.0
     (called_by (ops.Mkdir c.args.path.now) c.check_mkdir.new.tree c.mkdir.new.self c.mkdir.result c.mkdir.ensures.done (λ f. f c.args.path.now (sym h.2)) c.mkdir.ensures.broken) c.mkdir.ensures.survives
     (ap₂ (λ p t. added p (DirectoryNode [] []) t) h.2 (ap tree_seen h.0.same))
+
+-- what is left alone
+pub returns-clause-alone : goal.returns-clause-alone
+returns-clause-alone g c =
+    let h = c.in_ok-path.ensures in
+    done_others _ _ c.self.inside.tree c.check_mkdir.new.tree c.mkdir.new.self c.self.inside.files _ (ops.Mkdir c.args.path.now) c.mkdir.result c.self.view_is c.self.invariant h.0
+    c.mkdir.ensures.done (λ f. f c.args.path.now (sym h.2)) c.mkdir.ensures.alone (λ f. f c.args.path.now (sym h.2))

@@ -10,6 +10,7 @@ use Rattle.lfs_fs.proofs.RemoveChecks.{remove_can}
 use Rattle.lfs_model.specs.TreeEdits.{removed}
 use Rattle.lfs_tree.specs.Seen.{tree_seen}
 use Rattle.lfs_fs.proofs.Stopping.{asked_changed, called_by, only_read, reads_of_ended}
+use Rattle.lfs_fs.proofs.Sparing.{done_others}
 use Rattle.lfs_fs.proofs.session.Session.do_remove.Goals as goal
 
 pub remove-requires : goal.remove-requires
@@ -48,3 +49,10 @@ returns-clause-survives g c =
     asked_changed (held_of c.self.inside.tree c.self.inside.files) _ (ops.Remove c.args.path.now) c.check_remove.new.tree c.remove.new.self _ c.self.view_is (sound_by c.self.inside.tree c.self.inside.files c.self.invariant) h.1 h.0
     (called_by (ops.Remove c.args.path.now) c.check_remove.new.tree c.remove.new.self c.remove.result c.remove.ensures.done (λ f. f c.args.path.now (sym h.2)) c.remove.ensures.broken) c.remove.ensures.survives
     (ap₂ (λ p t. removed p t) h.2 (ap tree_seen h.0.same))
+
+-- what is left alone
+pub returns-clause-alone : goal.returns-clause-alone
+returns-clause-alone g c =
+    let h = c.in_ok-path.ensures in
+    done_others _ _ c.self.inside.tree c.check_remove.new.tree c.remove.new.self c.self.inside.files _ (ops.Remove c.args.path.now) c.remove.result c.self.view_is c.self.invariant h.0
+    c.remove.ensures.done (λ f. f c.args.path.now (sym h.2)) c.remove.ensures.alone (λ f. f c.args.path.now (sym h.2))

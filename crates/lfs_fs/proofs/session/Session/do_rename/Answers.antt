@@ -1,16 +1,17 @@
-use Rattle.std.proofs.Common.{◌∙◌, ap₂, refl, sym, ap}
+use Rattle.std.proofs.Common.{[], ◌∙◌, ap₂, refl, sym, ap}
 use Rattle.lfs_model.specs.TreeEdits.{same_path, renamed}
 use Rattle.lfs_model.specs.Operations as ops
 use Rattle.lfs_fs.specs.FileSeen.{files_seen}
 use Rattle.lfs_fs.specs.Replies.{reply_in}
-use Rattle.lfs_fs.specs.Held.{held_of}
+use Rattle.lfs_fs.specs.Held.{Held, held_of, held_with, moment_of}
 use Rattle.lfs_fs.proofs.Answered.{asked_by_checks, checked_ready, done_answers, ended_call, files_asked, sound_by, with_files}
 use Rattle.lfs_fs.proofs.Errors.{given_on}
 use Rattle.lfs_fs.proofs.RenameAnswered.{renamed_left, same_answers}
 use Rattle.lfs_fs.proofs.RenameChecks.{rename_can}
 use Rattle.lfs_model.specs.Refusals.{as_path}
-use Rattle.lfs_tree.specs.Seen.{tree_seen}
+use Rattle.lfs_tree.specs.Seen.{Seen, tree_seen}
 use Rattle.lfs_fs.proofs.Stopping.{asked_changed, called_by, only_read, reads_of_ended}
+use Rattle.lfs_fs.proofs.Sparing.{done_others, untouched_others}
 use Rattle.lfs_fs.proofs.session.Session.do_rename.Goals as goal
 
 pub rename-requires-clause-can : goal.rename-requires-clause-can
@@ -68,3 +69,15 @@ returns-clause-survives g c =
 pub returns-then-renaming-clause-survives : goal.returns-then-renaming-clause-survives
 returns-then-renaming-clause-survives g c =
     only_read (held_of c.self.inside.tree c.self.inside.files) _ (ops.Rename c.args.from.now c.args.to.now) c.check_rename.new.tree c.self.view_is (sound_by c.self.inside.tree c.self.inside.files c.self.invariant) (c.in_ok-renaming.ensures.0.reads)
+
+-- what is left alone
+pub returns-clause-alone : goal.returns-clause-alone
+returns-clause-alone g c =
+    let h = c.in_ok-renaming.ensures in
+    done_others _ _ c.self.inside.tree c.check_rename.new.tree c.rename.new.self c.self.inside.files _ (ops.Rename c.args.from.now c.args.to.now) c.rename.result c.self.view_is c.self.invariant h.0
+    c.rename.ensures.done (λ f. f c.args.from.now c.args.to.now (sym h.2.from) (sym h.2.to)) c.rename.ensures.alone (λ f. f c.args.from.now c.args.to.now (sym h.2.from) (sym h.2.to))
+
+pub returns-then-renaming-clause-alone : goal.returns-then-renaming-clause-alone
+returns-then-renaming-clause-alone g c =
+    untouched_others (moment_of c.args.self.now) (ops.Rename c.args.from.now c.args.to.now) (moment_of (held_with c.check_rename.new.tree []))
+    (ap (λ (t : Seen). t.disk) c.in_ok-renaming.ensures.0.same ∙ ap (λ (h : Held). h.tree.disk) c.self.view_is)

@@ -11,6 +11,7 @@ use Rattle.lfs_model.specs.Content.{put_attribute}
 use Rattle.lfs_tree.specs.Seen.{tree_seen}
 use Rattle.lfs_tree.specs.CarryingSlots.{with_attributes_changed}
 use Rattle.lfs_fs.proofs.Stopping.{asked_changed, called_by, only_read, reads_of_ended}
+use Rattle.lfs_fs.proofs.Sparing.{done_others}
 use Rattle.lfs_fs.proofs.session.Session.do_set_attr.Goals as goal
 
 pub set_attr-requires : goal.set_attr-requires
@@ -52,3 +53,10 @@ returns-clause-survives g c =
     asked_changed (held_of c.self.inside.tree c.self.inside.files) _ (ops.SetAttr c.args.path.now c.args.kind c.args.value.now) c.check_set_attr.new.tree c.set_attr.new.self _ c.self.view_is (sound_by c.self.inside.tree c.self.inside.files c.self.invariant) h.1 h.0
     (called_by (ops.SetAttr c.args.path.now c.args.kind c.args.value.now) c.check_set_attr.new.tree c.set_attr.new.self c.set_attr.result c.set_attr.ensures.done (λ f. f c.args.path.now (sym h.2)) c.set_attr.ensures.broken) c.set_attr.ensures.survives
     (ap₂ (λ p t. with_attributes_changed p (put_attribute c.args.kind c.args.value.now) t) h.2 (ap tree_seen h.0.same))
+
+-- what is left alone
+pub returns-clause-alone : goal.returns-clause-alone
+returns-clause-alone g c =
+    let h = c.in_ok-path.ensures in
+    done_others _ _ c.self.inside.tree c.check_set_attr.new.tree c.set_attr.new.self c.self.inside.files _ (ops.SetAttr c.args.path.now c.args.kind c.args.value.now) c.set_attr.result c.self.view_is c.self.invariant h.0
+    c.set_attr.ensures.done (λ f. f c.args.path.now (sym h.2)) c.set_attr.ensures.alone (λ f. f c.args.path.now (sym h.2))

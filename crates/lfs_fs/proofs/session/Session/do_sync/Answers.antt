@@ -1,12 +1,13 @@
 use Rattle.std.proofs.Common.{refl, sym}
 use Rattle.lfs_model.specs.Operations as ops
 use Rattle.lfs_fs.specs.FileSeen.{files_seen}
-use Rattle.lfs_fs.specs.Held.{held_of}
+use Rattle.lfs_fs.specs.Held.{held_of, moment_of}
 use Rattle.lfs_fs.proofs.Answered.{ended_kept, not_failed, sound_by}
 use Rattle.lfs_fs.proofs.Errors.{given_on}
 use Rattle.lfs_fs.proofs.SavedTurns.{can_save, left_free, left_inside, left_none, saving_fails, sync_answers, sync_idle, sync_ready, taken}
 use Rattle.lfs_fs.proofs.Stopping.{kept_call, tree_changed}
 use Rattle.lfs_fs.proofs.StoppedCalls.{saved_tree}
+use Rattle.lfs_fs.proofs.Sparing.{stored_others, untouched_others}
 use Rattle.lfs_fs.proofs.session.Session.do_sync.Goals as goal
 
 pub returns-in_err-check_sync-clause-answers : goal.returns-in_err-check_sync-clause-answers
@@ -69,3 +70,12 @@ pub returns-clause-survives : goal.returns-clause-survives
 returns-clause-survives g c =
     tree_changed (held_of c.self.inside.tree c.self.inside.files) _ (ops.Sync c.args.fd) c.save.new.tree _ c.self.view_is (sound_by c.self.inside.tree c.self.inside.files c.self.invariant) c.in_ok-check_sync.ensures.0 c.save.ensures.survives
     (saved_tree c.self.inside.tree c.self.inside.files c.args.fd c.in-Some-Writing.writer (sym c.if-not-is_unsaved_at.ensures) (taken _ _ _ _ c.in-Some-Writing.is c.in-Some-Writing.field-0-is c.take.ensures.file))
+
+-- what is left alone
+pub returns-then-not-is_unsaved_at-clause-alone : goal.returns-then-not-is_unsaved_at-clause-alone
+returns-then-not-is_unsaved_at-clause-alone g c = untouched_others (moment_of c.args.self.now) (ops.Sync c.args.fd) (moment_of c.args.self.now) refl
+
+pub returns-clause-alone : goal.returns-clause-alone
+returns-clause-alone g c =
+    stored_others c.self.inside.tree c.save.new.tree c.self.inside.files _ (ops.Sync c.args.fd) c.args.fd c.in-Some-Writing.writer _ c.self.view_is c.self.invariant
+    (taken _ _ _ _ c.in-Some-Writing.is c.in-Some-Writing.field-0-is c.take.ensures.file) (λ s. refl) c.in_ok-writer.ensures.stored

@@ -7,6 +7,7 @@ use Rattle.lfs_fs.proofs.Answered.{ended_kept, sound_by, not_failed}
 use Rattle.lfs_fs.proofs.Errors.{given_on}
 use Rattle.lfs_fs.proofs.Truncating.{alone, can_now, length_left, let_go, other_size, put_again, ready_with, same_size, some_writer, works_now}
 use Rattle.lfs_fs.proofs.Stopping.{kept_call, tree_changed}
+use Rattle.lfs_fs.proofs.Sparing.{beside_others, untouched_others}
 use Rattle.lfs_fs.proofs.session.Session.do_truncate.Goals as goal
 
 pub returns-in_err-check_truncate-clause-answers : goal.returns-in_err-check_truncate-clause-answers
@@ -82,3 +83,10 @@ pub returns-clause-survives : goal.returns-clause-survives
 returns-clause-survives g c =
     tree_changed (held_of c.self.inside.tree c.self.inside.files) _ (ops.Truncate c.args.fd c.args.size) c.truncate_by.new.tree _ c.self.view_is (sound_by c.self.inside.tree c.self.inside.files c.self.invariant) c.in_ok-check_truncate.ensures.0
     (c.truncate_by.ensures.survives (sound_by c.self.inside.tree c.self.inside.files c.self.invariant (not_failed (held_of c.self.inside.tree c.self.inside.files) (ops.Truncate c.args.fd c.args.size) c.in_ok-check_truncate.ensures.0))) refl
+
+-- what is left alone
+pub returns-then-has_size-clause-alone : goal.returns-then-has_size-clause-alone
+returns-then-has_size-clause-alone g c = untouched_others (moment_of c.args.self.now) (ops.Truncate c.args.fd c.args.size) (moment_of c.args.self.now) refl
+
+pub returns-clause-alone : goal.returns-clause-alone
+returns-clause-alone g c = beside_others c.self.inside.tree c.truncate_by.new.tree c.self.inside.files _ (ops.Truncate c.args.fd c.args.size) c.self.view_is c.self.invariant c.in_ok-writer.ensures.beside

@@ -8,6 +8,7 @@ use Rattle.lfs_fs.proofs.Errors.{given_on}
 use Rattle.lfs_fs.proofs.Truncating.{length_left, let_go, put_again, ready_with, some_writer}
 use Rattle.lfs_fs.proofs.WrittenTurns.{alone, can_now, few_bytes, nothing_put, some_put}
 use Rattle.lfs_fs.proofs.Stopping.{kept_call, tree_changed}
+use Rattle.lfs_fs.proofs.Sparing.{beside_others, untouched_others}
 use Rattle.lfs_fs.proofs.session.Session.do_write.Goals as goal
 
 pub returns-in_err-check_write-clause-answers : goal.returns-in_err-check_write-clause-answers
@@ -78,3 +79,10 @@ pub returns-clause-survives : goal.returns-clause-survives
 returns-clause-survives g c =
     tree_changed (held_of c.self.inside.tree c.self.inside.files) _ (ops.Write c.args.fd c.args.bytes.now) c.write_by.new.tree _ c.self.view_is (sound_by c.self.inside.tree c.self.inside.files c.self.invariant) c.in_ok-check_write.ensures.0
     (c.write_by.ensures.survives (sound_by c.self.inside.tree c.self.inside.files c.self.invariant (not_failed (held_of c.self.inside.tree c.self.inside.files) (ops.Write c.args.fd c.args.bytes.now) c.in_ok-check_write.ensures.0))) refl
+
+-- what is left alone
+pub returns-then-is_empty-clause-alone : goal.returns-then-is_empty-clause-alone
+returns-then-is_empty-clause-alone g c = untouched_others (moment_of c.args.self.now) (ops.Write c.args.fd c.args.bytes.now) (moment_of c.args.self.now) refl
+
+pub returns-clause-alone : goal.returns-clause-alone
+returns-clause-alone g c = beside_others c.self.inside.tree c.write_by.new.tree c.self.inside.files _ (ops.Write c.args.fd c.args.bytes.now) c.self.view_is c.self.invariant c.in_ok-writer.ensures.beside

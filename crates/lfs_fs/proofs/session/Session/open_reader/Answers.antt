@@ -1,4 +1,4 @@
-use Rattle.std.proofs.Common.{refl}
+use Rattle.std.proofs.Common.{ap, not, refl}
 use Rattle.lfs_model.specs.Operations as ops
 use Rattle.lfs_fs.specs.FileSeen.{files_seen}
 use Rattle.lfs_fs.specs.FlagsSeen.{flags_seen}
@@ -9,6 +9,7 @@ use Rattle.lfs_fs.proofs.Errors.{given_on}
 use Rattle.lfs_fs.proofs.OpenFiles.{few_left}
 use Rattle.lfs_fs.proofs.OpenedReaders.{reader_opened, reader_ready}
 use Rattle.lfs_fs.proofs.Stopping.{only_read, reads_failing, reads_of_ended}
+use Rattle.lfs_fs.proofs.Sparing.{turned_others}
 use Rattle.lfs_fs.proofs.session.Session.open_reader.Goals as goal
 
 pub add_reader-answer-requires-clause-few : goal.add_reader-answer-requires-clause-few
@@ -52,3 +53,12 @@ returns-then-is_err-clause-survives g c =
 pub returns-else-is_err-clause-survives : goal.returns-else-is_err-clause-survives
 returns-else-is_err-clause-survives g c =
     only_read (held_of c.self.inside.tree c.self.inside.files) _ (ops.Open c.args.path.now (flags_seen c.args.flags)) c.check_open_reader.new.tree c.self.view_is (sound_by c.self.inside.tree c.self.inside.files c.self.invariant) (c.in_ok-check_open_reader.ensures.0.reads)
+
+-- what is left alone
+pub returns-then-is_err-clause-alone : goal.returns-then-is_err-clause-alone
+returns-then-is_err-clause-alone g c =
+    turned_others c.args.self.now (ops.Open c.args.path.now (flags_seen c.args.flags)) ops.Opened c.add_reader-answer.result _ (returns-then-is_err-clause-answers g c) (λ s at ps qs calls a none k. (k.asks (ap not c.requires)).0)
+
+pub returns-else-is_err-clause-alone : goal.returns-else-is_err-clause-alone
+returns-else-is_err-clause-alone g c =
+    turned_others c.args.self.now (ops.Open c.args.path.now (flags_seen c.args.flags)) ops.Opened c.add_reader-answer.result _ (returns-else-is_err-clause-answers g c) (λ s at ps qs calls a none k. (k.asks (ap not c.requires)).0)

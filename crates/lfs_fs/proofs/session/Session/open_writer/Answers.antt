@@ -13,6 +13,8 @@ use Rattle.lfs_fs.proofs.OpenedWriters.{IsOpenedBy, can_begin, can_create, no_wr
 use Rattle.lfs_model.specs.PowerLoss.{SurvivesStops}
 use Rattle.lfs_fs.proofs.Stopping.{only_read, reads_failing, reads_of_ended}
 use Rattle.lfs_fs.proofs.StoppedCalls.{created_left, opened_left, opening_keeps}
+use Rattle.lfs_fs.proofs.Sparing.{begun_others, rest_others}
+use Rattle.lfs_fs.specs.Sparing.{LeavesOthers}
 use Rattle.lfs_fs.proofs.session.Session.open_writer.Goals as goal
 use Rattle.lfs_fs.proofs.session.Session.open_writer.Goals.{in-Some+in_ok-writer-in-Some, in-None+in_ok-writer-in-None}
 
@@ -75,7 +77,7 @@ invariant_of-self-2 g c = λ works.
           w.in_ok-writer-in-Some.ensures.recovered w.in_ok-writer-in-Some.ensures.begun))
       | in-None+in_ok-writer-in-None w ↦ subst (λ i. IsOpenedBy c.self.inside.tree c.self.inside.files c.args.path.now (flags_seen c.args.flags) i.tree c.match-found.writer) (sym w.self-inside-is) (subst (λ x. IsOpenedBy c.self.inside.tree c.self.inside.files c.args.path.now (flags_seen c.args.flags) w.begin_new.new.tree x) (sym w.writer-is)
           (opened_new c.self.inside.tree c.check_open_writer.new.tree w.begin_new.new.tree c.self.inside.files c.args.path.now (flags_seen c.args.flags) _ c.in-Ok.owned c.self.invariant h.0 h.1 c.requires c.in-Ok.ensures.path (ap (λ p. size_of (tree_seen c.self.inside.tree p)) (c.in-Ok.ensures.path ∙ sym h.2.path) ∙ h.2.size ∙ w.in-None.is)
-          (w.in_ok-writer-in-None.ensures.made c.args.path.now (flags_seen c.args.flags) (sym c.in-Ok.ensures.path) c.requires) w.in_ok-writer-in-None.ensures.begun))
+          (w.in_ok-writer-in-None.ensures.made c.args.path.now (flags_seen c.args.flags) (sym c.in-Ok.ensures.path) c.requires).0 w.in_ok-writer-in-None.ensures.begun))
     ] in
     let room = (room_made c.self.inside.files c.make_room.new.self c.in-Ok-make_room.number (no_writer c.self.inside.tree c.self.inside.files c.args.path.now (flags_seen c.args.flags) c.requires c.in_ok-found.ensures.1) c.in-Ok-make_room.ensures.number c.in-Ok-make_room.ensures.room) in
     writer_ready c.self.inside.tree c.match-found.self-inside.tree c.self.inside.files c.put_back.new.self c.args.path.now (flags_seen c.args.flags) c.match-found.writer opened (no_writer c.self.inside.tree c.self.inside.files c.args.path.now (flags_seen c.args.flags) c.requires c.in_ok-found.ensures.1) (room.alone c.match-found.writer)
@@ -91,7 +93,7 @@ returns-clause-answers g c =
           w.in_ok-writer-in-Some.ensures.recovered w.in_ok-writer-in-Some.ensures.begun))
       | in-None+in_ok-writer-in-None w ↦ subst (λ i. IsOpenedBy c.self.inside.tree c.self.inside.files c.args.path.now (flags_seen c.args.flags) i.tree c.match-found.writer) (sym w.self-inside-is) (subst (λ x. IsOpenedBy c.self.inside.tree c.self.inside.files c.args.path.now (flags_seen c.args.flags) w.begin_new.new.tree x) (sym w.writer-is)
           (opened_new c.self.inside.tree c.check_open_writer.new.tree w.begin_new.new.tree c.self.inside.files c.args.path.now (flags_seen c.args.flags) _ c.in-Ok.owned c.self.invariant h.0 h.1 c.requires c.in-Ok.ensures.path (ap (λ p. size_of (tree_seen c.self.inside.tree p)) (c.in-Ok.ensures.path ∙ sym h.2.path) ∙ h.2.size ∙ w.in-None.is)
-          (w.in_ok-writer-in-None.ensures.made c.args.path.now (flags_seen c.args.flags) (sym c.in-Ok.ensures.path) c.requires) w.in_ok-writer-in-None.ensures.begun))
+          (w.in_ok-writer-in-None.ensures.made c.args.path.now (flags_seen c.args.flags) (sym c.in-Ok.ensures.path) c.requires).0 w.in_ok-writer-in-None.ensures.begun))
     ] in
     let room = (room_made c.self.inside.files c.make_room.new.self c.in-Ok-make_room.number (no_writer c.self.inside.tree c.self.inside.files c.args.path.now (flags_seen c.args.flags) c.requires c.in_ok-found.ensures.1) c.in-Ok-make_room.ensures.number c.in-Ok-make_room.ensures.room) in
     writer_opened c.self.inside.tree c.match-found.self-inside.tree c.self.inside.files c.put_back.new.self _ c.args.path.now (flags_seen c.args.flags) c.match-found.writer c.in-Ok-make_room.number c.self.view_is opened c.requires (no_writer c.self.inside.tree c.self.inside.files c.args.path.now (flags_seen c.args.flags) c.requires c.in_ok-found.ensures.1) c.in-Ok-make_room.ensures.number
@@ -133,8 +135,20 @@ returns-clause-survives g c =
           (opening_keeps c.self.inside.tree c.check_open_writer.new.tree c.self.inside.files c.args.path.now (flags_seen c.args.flags) c.self.invariant h.0 h.1 c.requires) h.1 c.in-Ok.ensures.path (ap (λ p. size_of (tree_seen c.self.inside.tree p)) (c.in-Ok.ensures.path ∙ sym h.2.path) ∙ h.2.size ∙ w.in-Some.is)
           (w.in_ok-writer-in-Some.ensures.recovered.calls, w.in_ok-writer-in-Some.ensures.recovered.called) w.begin_there.ensures.survives)
       | in-None+in_ok-writer-in-None w ↦ subst (λ i. SurvivesStops (moment_of c.args.self.now) (ops.Open c.args.path.now (flags_seen c.args.flags)) (moment_of (held_with i.tree []))) (sym w.self-inside-is)
-          (let made = w.in_ok-writer-in-None.ensures.made c.args.path.now (flags_seen c.args.flags) (sym c.in-Ok.ensures.path) c.requires in
+          (let made = (w.in_ok-writer-in-None.ensures.made c.args.path.now (flags_seen c.args.flags) (sym c.in-Ok.ensures.path) c.requires).0 in
           created_left c.self.inside.tree c.check_open_writer.new.tree w.begin_new.new.tree c.self.inside.files _ c.args.path.now (flags_seen c.args.flags) c.in-Ok.owned c.self.view_is c.self.invariant
           (opening_keeps c.self.inside.tree c.check_open_writer.new.tree c.self.inside.files c.args.path.now (flags_seen c.args.flags) c.self.invariant h.0 h.1 c.requires) h.1 c.requires c.in-Ok.ensures.path (ap (λ p. size_of (tree_seen c.self.inside.tree p)) (c.in-Ok.ensures.path ∙ sym h.2.path) ∙ h.2.size ∙ w.in-None.is)
           (made.calls, made.called) w.begin_new.ensures.survives)
+    ]
+
+-- what is left alone
+pub returns-clause-alone : goal.returns-clause-alone
+returns-clause-alone g c =
+    let h = c.in_ok-found.ensures in
+    elim c.match-found.branch [
+      | in-Some+in_ok-writer-in-Some w ↦ subst (λ i. LeavesOthers (moment_of c.args.self.now) (ops.Open c.args.path.now (flags_seen c.args.flags)) (moment_of (held_with i.tree []))) (sym w.self-inside-is)
+          (begun_others c.self.inside.tree c.check_open_writer.new.tree w.begin_there.new.tree c.self.inside.files _ (ops.Open c.args.path.now (flags_seen c.args.flags)) c.self.view_is c.self.invariant h.0 w.in_ok-writer-in-Some.ensures.recovered)
+      | in-None+in_ok-writer-in-None w ↦ subst (λ i. LeavesOthers (moment_of c.args.self.now) (ops.Open c.args.path.now (flags_seen c.args.flags)) (moment_of (held_with i.tree []))) (sym w.self-inside-is)
+          (let made = w.in_ok-writer-in-None.ensures.made c.args.path.now (flags_seen c.args.flags) (sym c.in-Ok.ensures.path) c.requires in
+          rest_others c.self.inside.tree c.check_open_writer.new.tree w.begin_new.new.tree c.self.inside.files _ (ops.Open c.args.path.now (flags_seen c.args.flags)) c.self.view_is c.self.invariant h.0 made.0.sound made.1)
     ]

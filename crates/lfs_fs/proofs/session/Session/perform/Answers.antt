@@ -1,56 +1,64 @@
-use Rattle.std.proofs.Common.{subst, sym}
-use Rattle.lfs_fs.specs.Held.{moment_of}
+use Rattle.std.proofs.Common.{ap}
 use Rattle.lfs_fs.specs.OpSeen.{op_seen}
-use Rattle.lfs_model.specs.PowerLoss.{SurvivesStops}
+use Rattle.lfs_fs.proofs.Sparing.{performed_call}
 use Rattle.lfs_fs.proofs.session.Session.perform.Goals as goal
 
-pub returns-in-Open-clause-survives : goal.returns-in-Open-clause-survives
-returns-in-Open-clause-survives g c = subst (λ o. SurvivesStops (moment_of c.args.self.now) (op_seen o) (moment_of c.open.new.self)) (sym c.in-Open.is) c.open.ensures.withstands.stops
+pub returns-in-Open : goal.returns-in-Open
+returns-in-Open g c = performed_call _ _ _ _ _ _ (ap op_seen c.in-Open.is) c.fd.ensures c.open.ensures
 
-pub returns-in-Read-clause-survives : goal.returns-in-Read-clause-survives
-returns-in-Read-clause-survives g c = subst (λ o. SurvivesStops (moment_of c.args.self.now) (op_seen o) (moment_of c.read.new.self)) (sym c.in-Read.is) c.read.ensures.survives
+pub returns-in-Read : goal.returns-in-Read
+returns-in-Read g c = performed_call _ _ _ _ _ _ (ap op_seen c.in-Read.is) c.bytes.ensures c.read.ensures
 
-pub returns-in-Seek-clause-survives : goal.returns-in-Seek-clause-survives
-returns-in-Seek-clause-survives g c = subst (λ o. SurvivesStops (moment_of c.args.self.now) (op_seen o) (moment_of c.seek.new.self)) (sym c.in-Seek.is) c.seek.ensures.survives
+pub returns-in-Seek : goal.returns-in-Seek
+returns-in-Seek g c = performed_call _ _ _ _ _ _ (ap op_seen c.in-Seek.is) c.done.ensures c.seek.ensures
 
-pub returns-in-Write-clause-survives : goal.returns-in-Write-clause-survives
-returns-in-Write-clause-survives g c = subst (λ o. SurvivesStops (moment_of c.args.self.now) (op_seen o) (moment_of c.write.new.self)) (sym c.in-Write.is) c.write.ensures.withstands.stops
+pub returns-in-Write : goal.returns-in-Write
+returns-in-Write g c = performed_call _ _ _ _ _ _ (ap op_seen c.in-Write.is) c.count.ensures c.write.ensures
 
-pub returns-in-Truncate-clause-survives : goal.returns-in-Truncate-clause-survives
-returns-in-Truncate-clause-survives g c = subst (λ o. SurvivesStops (moment_of c.args.self.now) (op_seen o) (moment_of c.truncate.new.self)) (sym c.in-Truncate.is) c.truncate.ensures.withstands.stops
+pub returns-in-Truncate : goal.returns-in-Truncate
+returns-in-Truncate g c = performed_call _ _ _ _ _ _ (ap op_seen c.in-Truncate.is) c.done-in-Truncate.ensures c.truncate.ensures
 
-pub returns-in-Sync-clause-survives : goal.returns-in-Sync-clause-survives
-returns-in-Sync-clause-survives g c = subst (λ o. SurvivesStops (moment_of c.args.self.now) (op_seen o) (moment_of c.sync.new.self)) (sym c.in-Sync.is) c.sync.ensures.withstands.stops
+pub returns-in-Sync : goal.returns-in-Sync
+returns-in-Sync g c = performed_call _ _ _ _ _ _ (ap op_seen c.in-Sync.is) c.done-in-Sync.ensures c.sync.ensures
 
-pub returns-in-Close-clause-survives : goal.returns-in-Close-clause-survives
-returns-in-Close-clause-survives g c = subst (λ o. SurvivesStops (moment_of c.args.self.now) (op_seen o) (moment_of c.close.new.self)) (sym c.in-Close.is) c.close.ensures.withstands.stops
+pub returns-in-Close : goal.returns-in-Close
+returns-in-Close g c = performed_call _ _ _ _ _ _ (ap op_seen c.in-Close.is) c.done-in-Close.ensures c.close.ensures
 
-pub returns-in-Mkdir-clause-survives : goal.returns-in-Mkdir-clause-survives
-returns-in-Mkdir-clause-survives g c = subst (λ o. SurvivesStops (moment_of c.args.self.now) (op_seen o) (moment_of c.mkdir.new.self)) (sym c.in-Mkdir.is) c.mkdir.ensures.withstands.stops
+pub returns-in-Mkdir : goal.returns-in-Mkdir
+returns-in-Mkdir g c = performed_call _ _ _ _ _ _ (ap op_seen c.in-Mkdir.is) c.done-in-Mkdir.ensures c.mkdir.ensures
 
-pub returns-in-List-clause-survives : goal.returns-in-List-clause-survives
-returns-in-List-clause-survives g c = subst (λ o. SurvivesStops (moment_of c.args.self.now) (op_seen o) (moment_of c.list.new.self)) (sym c.in-List.is) c.list.ensures.survives
+pub returns-in-List : goal.returns-in-List
+returns-in-List g c = performed_call _ _ _ _ _ _ (ap op_seen c.in-List.is) c.items.ensures c.list.ensures
 
-pub returns-in-Stat-clause-survives : goal.returns-in-Stat-clause-survives
-returns-in-Stat-clause-survives g c = subst (λ o. SurvivesStops (moment_of c.args.self.now) (op_seen o) (moment_of c.stat.new.self)) (sym c.in-Stat.is) c.stat.ensures.survives
+pub returns-in-Stat : goal.returns-in-Stat
+returns-in-Stat g c = performed_call _ _ _ _ _ _ (ap op_seen c.in-Stat.is) c.stat-in-Stat.ensures c.stat.ensures
 
-pub returns-in-GetAttr-clause-survives : goal.returns-in-GetAttr-clause-survives
-returns-in-GetAttr-clause-survives g c = subst (λ o. SurvivesStops (moment_of c.args.self.now) (op_seen o) (moment_of c.get_attr.new.self)) (sym c.in-GetAttr.is) c.get_attr.ensures.survives
+pub returns-in-GetAttr : goal.returns-in-GetAttr
+returns-in-GetAttr g c = performed_call _ _ _ _ _ _ (ap op_seen c.in-GetAttr.is) c.bytes-in-GetAttr.ensures c.get_attr.ensures
 
-pub returns-in-Remove-clause-survives : goal.returns-in-Remove-clause-survives
-returns-in-Remove-clause-survives g c = subst (λ o. SurvivesStops (moment_of c.args.self.now) (op_seen o) (moment_of c.remove.new.self)) (sym c.in-Remove.is) c.remove.ensures.withstands.stops
+pub returns-in-Remove : goal.returns-in-Remove
+returns-in-Remove g c = performed_call _ _ _ _ _ _ (ap op_seen c.in-Remove.is) c.done-in-Remove.ensures c.remove.ensures
 
-pub returns-in-Rename-clause-survives : goal.returns-in-Rename-clause-survives
-returns-in-Rename-clause-survives g c = subst (λ o. SurvivesStops (moment_of c.args.self.now) (op_seen o) (moment_of c.rename.new.self)) (sym c.in-Rename.is) c.rename.ensures.withstands.stops
+pub returns-in-Rename : goal.returns-in-Rename
+returns-in-Rename g c = performed_call _ _ _ _ _ _ (ap op_seen c.in-Rename.is) c.done-in-Rename.ensures c.rename.ensures
 
-pub returns-in-SetAttr-clause-survives : goal.returns-in-SetAttr-clause-survives
-returns-in-SetAttr-clause-survives g c = subst (λ o. SurvivesStops (moment_of c.args.self.now) (op_seen o) (moment_of c.set_attr.new.self)) (sym c.in-SetAttr.is) c.set_attr.ensures.withstands.stops
+pub returns-in-SetAttr : goal.returns-in-SetAttr
+returns-in-SetAttr g c = performed_call _ _ _ _ _ _ (ap op_seen c.in-SetAttr.is) c.done-in-SetAttr.ensures c.set_attr.ensures
 
-pub returns-in-RemoveAttr-clause-survives : goal.returns-in-RemoveAttr-clause-survives
-returns-in-RemoveAttr-clause-survives g c = subst (λ o. SurvivesStops (moment_of c.args.self.now) (op_seen o) (moment_of c.remove_attr.new.self)) (sym c.in-RemoveAttr.is) c.remove_attr.ensures.withstands.stops
+pub returns-in-RemoveAttr : goal.returns-in-RemoveAttr
+returns-in-RemoveAttr g c = performed_call _ _ _ _ _ _ (ap op_seen c.in-RemoveAttr.is) c.done-in-RemoveAttr.ensures c.remove_attr.ensures
 
-pub returns-in-Recover-clause-survives : goal.returns-in-Recover-clause-survives
-returns-in-Recover-clause-survives g c = subst (λ o. SurvivesStops (moment_of c.args.self.now) (op_seen o) (moment_of c.recover.new.self)) (sym c.in-Recover.is) c.recover.ensures.withstands.stops
+pub returns-in-Gstate : goal.returns-in-Gstate
+returns-in-Gstate g c = performed_call _ _ _ _ _ _ (ap op_seen c.in-Gstate.is) c.gstate-in-Gstate.ensures c.gstate.ensures
 
-pub returns-in-Remount-clause-survives : goal.returns-in-Remount-clause-survives
-returns-in-Remount-clause-survives g c = subst (λ o. SurvivesStops (moment_of c.args.self.now) (op_seen o) (moment_of c.remount.new.self)) (sym c.in-Remount.is) c.remount.ensures.survives
+pub returns-in-IsUsed : goal.returns-in-IsUsed
+returns-in-IsUsed g c = performed_call _ _ _ _ _ _ (ap op_seen c.in-IsUsed.is) c.yes.ensures c.is_used.ensures
+
+pub returns-in-UsedCount : goal.returns-in-UsedCount
+returns-in-UsedCount g c = performed_call _ _ _ _ _ _ (ap op_seen c.in-UsedCount.is) c.count-in-UsedCount.ensures c.used_count.ensures
+
+pub returns-in-Recover : goal.returns-in-Recover
+returns-in-Recover g c = performed_call _ _ _ _ _ _ (ap op_seen c.in-Recover.is) c.done-in-Recover.ensures c.recover.ensures
+
+pub returns-in-Remount : goal.returns-in-Remount
+returns-in-Remount g c = performed_call _ _ _ _ _ _ (ap op_seen c.in-Remount.is) c.done-in-Remount.ensures c.remount.ensures

@@ -15,51 +15,42 @@ use Rattle.lfs_fs.proofs.Moving.{moved_ready}
 use Rattle.lfs_fs.proofs.OpenFiles.{moved_is, none_reader, reader_there, some_reader}
 use Rattle.lfs_fs.proofs.Questions.{failed_by, refused_kept}
 use Rattle.lfs_fs.proofs.ReaderReads.{no_reader, read_answers, read_fails}
-use Rattle.lfs_fs.proofs.Stopping.{kept_call, only_read}
+use Rattle.lfs_fs.proofs.Stopping.{only_read}
+use Rattle.lfs_fs.proofs.Sparing.{asking_call, asks_not, kept_asking}
+use Rattle.lfs_fs.proofs.Sparing.{asking_call, asks_not, kept_asking}
 use Rattle.lfs_fs.proofs.session.Session.read.Goals as goal
 
-pub returns-then-has_failed-clause-answers : goal.returns-then-has_failed-clause-answers
-returns-then-has_failed-clause-answers g c =
-    refused_kept (held_of c.self.inside.tree c.self.inside.files) _ (ops.Read c.args.fd c.args.count) error.Failed c.self.view_is (sound_by c.self.inside.tree c.self.inside.files c.self.invariant) refl (failed_by (held_of c.self.inside.tree c.self.inside.files) (ops.Read c.args.fd c.args.count) c.if-has_failed.ensures)
+pub returns-then-has_failed : goal.returns-then-has_failed
+returns-then-has_failed g c =
+    kept_asking c.self.inside.tree c.self.inside.files _ (ops.Read c.args.fd c.args.count) _ c.self.view_is c.self.invariant (λ s. refl) refl
+    (refused_kept (held_of c.self.inside.tree c.self.inside.files) _ (ops.Read c.args.fd c.args.count) error.Failed c.self.view_is (sound_by c.self.inside.tree c.self.inside.files c.self.invariant) refl (failed_by (held_of c.self.inside.tree c.self.inside.files) (ops.Read c.args.fd c.args.count) c.if-has_failed.ensures))
 
-pub returns-in_default-clause-answers : goal.returns-in_default-clause-answers
-returns-in_default-clause-answers g c =
-    refused_kept (held_of c.self.inside.tree c.self.inside.files) _ (ops.Read c.args.fd c.args.count) error.BadFile c.self.view_is (sound_by c.self.inside.tree c.self.inside.files c.self.invariant) refl
-    (no_reader (held_of c.self.inside.tree c.self.inside.files) c.args.fd c.args.count c.if-has_failed.ensures (none_reader c.self.inside.tree c.self.inside.files c.args.fd c.in_default.ensures))
+pub returns-in_default : goal.returns-in_default
+returns-in_default g c =
+    kept_asking c.self.inside.tree c.self.inside.files _ (ops.Read c.args.fd c.args.count) _ c.self.view_is c.self.invariant (λ s. refl) refl
+    (refused_kept (held_of c.self.inside.tree c.self.inside.files) _ (ops.Read c.args.fd c.args.count) error.BadFile c.self.view_is (sound_by c.self.inside.tree c.self.inside.files c.self.invariant) refl
+    (no_reader (held_of c.self.inside.tree c.self.inside.files) c.args.fd c.args.count c.if-has_failed.ensures (none_reader c.self.inside.tree c.self.inside.files c.args.fd c.in_default.ensures)))
 
-pub returns-in_err-bytes-clause-answers : goal.returns-in_err-bytes-clause-answers
-returns-in_err-bytes-clause-answers g c =
-    files_asked c.args.self.now (ops.Read c.args.fd c.args.count) (reply_in (λ v. ops.Bytes v.items) c.from_residual.result) c.self.inside.tree c.read_from.new.tree c.self.inside.files (λ works. absurd (let k = sym c.in_err-bytes.ensures.broken.failed ∙ works in cc))
+pub returns-in_err-bytes : goal.returns-in_err-bytes
+returns-in_err-bytes g c =
+    asking_call c.self.inside.tree c.self.inside.files _ (ops.Read c.args.fd c.args.count) _ _ c.self.view_is c.self.invariant (λ s. refl) (λ k. absurd (cc)) (asks_not _ _ _ _ refl)
+    (files_asked c.args.self.now (ops.Read c.args.fd c.args.count) (reply_in (λ v. ops.Bytes v.items) c.from_residual.result) c.self.inside.tree c.read_from.new.tree c.self.inside.files (λ works. absurd (let k = sym c.in_err-bytes.ensures.broken.failed ∙ works in cc))
     (read_fails (held_of c.self.inside.tree c.self.inside.files) _ (ops.Read c.args.fd c.args.count) (λ v. ops.Bytes v.items) _ c.read_from.new.tree c.from_residual.result c.self.view_is c.if-has_failed.ensures c.in_err-bytes.ensures.broken c.in_err-bytes.ensures.errors
-    (given_on _ c.from_residual.result c.from_residual.ensures.1))
+    (given_on _ c.from_residual.result c.from_residual.ensures.1)))
+    (only_read (held_of c.self.inside.tree c.self.inside.files) _ (ops.Read c.args.fd c.args.count) c.read_from.new.tree c.self.view_is (sound_by c.self.inside.tree c.self.inside.files c.self.invariant) (c.in_err-bytes.ensures.broken.reads))
 
 pub invariant_of-self-2 : goal.invariant_of-self-2
 invariant_of-self-2 g c =
     moved_ready c.read_from.new.tree c.self.inside.files c.seek.new.self c.args.fd (c.in-Some.reader.now.position + c.len.result)
     (asked_ready c.self.inside.tree c.read_from.new.tree c.self.inside.files c.self.invariant c.in_ok-bytes.ensures.asked) c.seek.ensures
 
-pub returns-clause-answers : goal.returns-clause-answers
-returns-clause-answers g c =
-    read_answers (held_of c.self.inside.tree c.self.inside.files) _ c.args.fd c.args.count (reader_seen c.in-Some.reader.now) c.read_from.new.tree (files_seen c.read_from.new.tree c.seek.new.self) c.in_ok-bytes.bytes.items (c.in-Some.reader.now.position + c.len.result)
+pub returns : goal.returns
+returns g c =
+    asking_call c.self.inside.tree c.self.inside.files _ (ops.Read c.args.fd c.args.count) _ _ c.self.view_is c.self.invariant (λ s. refl) (λ k. absurd (cc)) (asks_not _ _ _ _ refl)
+    (read_answers (held_of c.self.inside.tree c.self.inside.files) _ c.args.fd c.args.count (reader_seen c.in-Some.reader.now) c.read_from.new.tree (files_seen c.read_from.new.tree c.seek.new.self) c.in_ok-bytes.bytes.items (c.in-Some.reader.now.position + c.len.result)
     c.self.view_is (sound_by c.self.inside.tree c.self.inside.files c.self.invariant) c.if-has_failed.ensures c.in_ok-bytes.ensures.asked (some_reader c.self.inside.tree c.self.inside.files c.args.fd c.in-Some.reader.now c.in-Some.ensures)
     (c.in_ok-bytes.ensures.bytes ∙ ap (λ p. take c.args.count (drop c.in-Some.reader.now.position (bytes_at (tree_seen c.self.inside.tree p)))) c.lend.ensures)
     (omega (arith, c.len.ensures, c.in_ok-bytes.bytes.ok.0))
     (ap (files_seen c.read_from.new.tree) c.seek.ensures ∙ moved_is c.read_from.new.tree c.self.inside.files c.args.fd (c.in-Some.reader.now.position + c.len.result) (reader_there (entry_of c.self.inside.files c.args.fd) c.in-Some.reader.now c.in-Some.ensures)
-    ∙ ap (λ z. put_file (files_seen z c.self.inside.files) c.args.fd (option_map (moved_to (c.in-Some.reader.now.position + c.len.result)) (file_of (files_seen z c.self.inside.files) c.args.fd))) c.in_ok-bytes.ensures.asked.same)
-
--- where power is lost
-pub returns-then-has_failed-clause-survives : goal.returns-then-has_failed-clause-survives
-returns-then-has_failed-clause-survives g c =
-    kept_call (held_of c.self.inside.tree c.self.inside.files) _ (ops.Read c.args.fd c.args.count) c.self.view_is (sound_by c.self.inside.tree c.self.inside.files c.self.invariant)
-
-pub returns-in_default-clause-survives : goal.returns-in_default-clause-survives
-returns-in_default-clause-survives g c =
-    kept_call (held_of c.self.inside.tree c.self.inside.files) _ (ops.Read c.args.fd c.args.count) c.self.view_is (sound_by c.self.inside.tree c.self.inside.files c.self.invariant)
-
-pub returns-in_err-bytes-clause-survives : goal.returns-in_err-bytes-clause-survives
-returns-in_err-bytes-clause-survives g c =
-    only_read (held_of c.self.inside.tree c.self.inside.files) _ (ops.Read c.args.fd c.args.count) c.read_from.new.tree c.self.view_is (sound_by c.self.inside.tree c.self.inside.files c.self.invariant) (c.in_err-bytes.ensures.broken.reads)
-
-pub returns-clause-survives : goal.returns-clause-survives
-returns-clause-survives g c =
-    only_read (held_of c.self.inside.tree c.self.inside.files) _ (ops.Read c.args.fd c.args.count) c.read_from.new.tree c.self.view_is (sound_by c.self.inside.tree c.self.inside.files c.self.invariant) (c.in_ok-bytes.ensures.asked.reads)
+    ∙ ap (λ z. put_file (files_seen z c.self.inside.files) c.args.fd (option_map (moved_to (c.in-Some.reader.now.position + c.len.result)) (file_of (files_seen z c.self.inside.files) c.args.fd))) c.in_ok-bytes.ensures.asked.same))
+    (only_read (held_of c.self.inside.tree c.self.inside.files) _ (ops.Read c.args.fd c.args.count) c.read_from.new.tree c.self.view_is (sound_by c.self.inside.tree c.self.inside.files c.self.invariant) (c.in_ok-bytes.ensures.asked.reads))

@@ -4,25 +4,21 @@ use Rattle.lfs_fs.specs.Held.{held_of}
 use Rattle.lfs_fs.proofs.Answered.{ended_kept, sound_by}
 use Rattle.lfs_fs.proofs.Errors.{given_on}
 use Rattle.lfs_fs.proofs.Moving.{moved_answers, moved_ready}
-use Rattle.lfs_fs.proofs.Stopping.{kept_call, no_call}
+use Rattle.lfs_fs.proofs.Stopping.{no_call}
+use Rattle.lfs_fs.proofs.Sparing.{asking_call, asks_not, kept_asking}
 use Rattle.lfs_fs.proofs.session.Session.seek.Goals as goal
 
-pub returns-clause-answers : goal.returns-clause-answers
-returns-clause-answers g c = moved_answers c.self.inside.tree c.self.inside.files c.seek.new.self _ c.args.fd c.args.position c.self.view_is c.self.invariant c.in_ok-check_seek.ensures.0 c.in_ok-check_seek.ensures.1 c.seek.ensures
+pub returns : goal.returns
+returns g c =
+    asking_call c.self.inside.tree c.self.inside.files _ (ops.Seek c.args.fd c.args.position) _ _ c.self.view_is c.self.invariant (λ s. refl) (λ k. absurd (cc)) (asks_not _ _ _ _ refl)
+    (moved_answers c.self.inside.tree c.self.inside.files c.seek.new.self _ c.args.fd c.args.position c.self.view_is c.self.invariant c.in_ok-check_seek.ensures.0 c.in_ok-check_seek.ensures.1 c.seek.ensures)
+    (no_call (held_of c.self.inside.tree c.self.inside.files) _ (ops.Seek c.args.fd c.args.position) c.self.inside.tree c.self.view_is (sound_by c.self.inside.tree c.self.inside.files c.self.invariant) refl)
 
 pub invariant_of-self : goal.invariant_of-self
 invariant_of-self g c = moved_ready c.self.inside.tree c.self.inside.files c.seek.new.self c.args.fd c.args.position c.self.invariant c.seek.ensures
 
-pub returns-in_err-check_seek-clause-answers : goal.returns-in_err-check_seek-clause-answers
-returns-in_err-check_seek-clause-answers g c =
-    ended_kept (held_of c.self.inside.tree c.self.inside.files) _ (ops.Seek c.args.fd c.args.position) (λ u. ops.Done) _ c.from_residual.result c.self.view_is (sound_by c.self.inside.tree c.self.inside.files c.self.invariant) refl c.in_err-check_seek.ensures
-    (given_on _ c.from_residual.result c.from_residual.ensures.1)
-
--- where power is lost
-pub returns-in_err-check_seek-clause-survives : goal.returns-in_err-check_seek-clause-survives
-returns-in_err-check_seek-clause-survives g c =
-    kept_call (held_of c.self.inside.tree c.self.inside.files) _ (ops.Seek c.args.fd c.args.position) c.self.view_is (sound_by c.self.inside.tree c.self.inside.files c.self.invariant)
-
-pub returns-clause-survives : goal.returns-clause-survives
-returns-clause-survives g c =
-    no_call (held_of c.self.inside.tree c.self.inside.files) _ (ops.Seek c.args.fd c.args.position) c.self.inside.tree c.self.view_is (sound_by c.self.inside.tree c.self.inside.files c.self.invariant) refl
+pub returns-in_err-check_seek : goal.returns-in_err-check_seek
+returns-in_err-check_seek g c =
+    kept_asking c.self.inside.tree c.self.inside.files _ (ops.Seek c.args.fd c.args.position) _ c.self.view_is c.self.invariant (λ s. refl) refl
+    (ended_kept (held_of c.self.inside.tree c.self.inside.files) _ (ops.Seek c.args.fd c.args.position) (λ u. ops.Done) _ c.from_residual.result c.self.view_is (sound_by c.self.inside.tree c.self.inside.files c.self.invariant) refl c.in_err-check_seek.ensures
+    (given_on _ c.from_residual.result c.from_residual.ensures.1))

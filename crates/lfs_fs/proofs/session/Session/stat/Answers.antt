@@ -1,29 +1,23 @@
-use Rattle.std.proofs.Common.{ap, refl, subst, sym}
+use Rattle.std.proofs.Common.{ap, refl, sym}
 use Rattle.lfs_model.specs.Operations as ops
 use Rattle.lfs_fs.specs.Replies.{reply_in}
-use Rattle.lfs_fs.specs.Held.{Held, held_of}
+use Rattle.lfs_fs.specs.Held.{held_of}
 use Rattle.lfs_fs.proofs.Answered.{checked_ready, question_call, files_asked, asked_by_checks, sound_by}
 use Rattle.lfs_fs.proofs.Stopping.{only_read, reads_of_checks}
-use Rattle.lfs_fs.proofs.FewReads.{reads_few}
-use Rattle.lfs_fs.specs.LookUps.{ReadsFewIn}
+use Rattle.lfs_fs.proofs.Sparing.{asking_call, stat_asks}
 use Rattle.lfs_fs.proofs.session.Session.stat.Goals as goal
 
-pub returns-clause-answers : goal.returns-clause-answers
-returns-clause-answers g c =
-    files_asked c.args.self.now (ops.Stat c.args.path.now) (reply_in ops.StatIs c.check_stat.result) c.self.inside.tree c.check_stat.new.tree c.self.inside.files (asked_by_checks c.self.inside.tree c.self.inside.files (ops.Stat c.args.path.now) _ c.check_stat.result c.check_stat.new.tree c.check_stat.ensures.checks)
+pub returns : goal.returns
+returns g c =
+    asking_call c.self.inside.tree c.self.inside.files _ (ops.Stat c.args.path.now) _ _ c.self.view_is c.self.invariant (λ s. refl) (λ k. absurd (cc))
+    (stat_asks c.self.inside.tree c.args.path.now c.check_stat.result (held_of c.check_stat.new.tree c.self.inside.files)
+    (asked_by_checks c.self.inside.tree c.self.inside.files (ops.Stat c.args.path.now) _ c.check_stat.result c.check_stat.new.tree c.check_stat.ensures.checks)
+    (λ works. (checked_ready c.self.inside.tree c.self.inside.files (ops.Stat c.args.path.now) _ c.check_stat.result c.check_stat.new.tree c.self.invariant c.check_stat.ensures.checks works).sound)
+    c.check_stat.ensures.few c.check_stat.ensures.kept c.check_stat.ensures.hand)
+    (files_asked c.args.self.now (ops.Stat c.args.path.now) (reply_in ops.StatIs c.check_stat.result) c.self.inside.tree c.check_stat.new.tree c.self.inside.files (asked_by_checks c.self.inside.tree c.self.inside.files (ops.Stat c.args.path.now) _ c.check_stat.result c.check_stat.new.tree c.check_stat.ensures.checks)
     (question_call (held_of c.self.inside.tree c.self.inside.files) _ (ops.Stat c.args.path.now) ops.StatIs _ c.check_stat.result c.check_stat.new.tree c.self.view_is
-    (sound_by c.self.inside.tree c.self.inside.files c.self.invariant) refl refl (λ x p. ap ops.StatIs (sym p)) c.check_stat.ensures.checks)
+    (sound_by c.self.inside.tree c.self.inside.files c.self.invariant) refl refl (λ x p. ap ops.StatIs (sym p)) c.check_stat.ensures.checks))
+    (only_read (held_of c.self.inside.tree c.self.inside.files) _ (ops.Stat c.args.path.now) c.check_stat.new.tree c.self.view_is (sound_by c.self.inside.tree c.self.inside.files c.self.invariant) (reads_of_checks (held_of c.self.inside.tree c.self.inside.files) (ops.Stat c.args.path.now) _ c.check_stat.result c.check_stat.new.tree c.check_stat.ensures.checks))
 
 pub invariant_of-self : goal.invariant_of-self
 invariant_of-self g c = checked_ready c.self.inside.tree c.self.inside.files (ops.Stat c.args.path.now) _ c.check_stat.result c.check_stat.new.tree c.self.invariant c.check_stat.ensures.checks
-
--- where power is lost
-pub returns-clause-survives : goal.returns-clause-survives
-returns-clause-survives g c =
-    only_read (held_of c.self.inside.tree c.self.inside.files) _ (ops.Stat c.args.path.now) c.check_stat.new.tree c.self.view_is (sound_by c.self.inside.tree c.self.inside.files c.self.invariant) (reads_of_checks (held_of c.self.inside.tree c.self.inside.files) (ops.Stat c.args.path.now) _ c.check_stat.result c.check_stat.new.tree c.check_stat.ensures.checks)
-
--- how many reads it takes
-pub returns-clause-few : goal.returns-clause-few
-returns-clause-few g c =
-    subst (λ (h : Held). ReadsFewIn h.tree (ops.Stat c.args.path.now) c.check_stat.new.tree) c.self.view_is
-    (reads_few c.self.inside.tree c.check_stat.new.tree (ops.Stat c.args.path.now) c.check_stat.ensures.few)

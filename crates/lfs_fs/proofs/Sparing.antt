@@ -1,0 +1,224 @@
+-- What a session's calls leave alone.
+use Rattle.std.proofs.Common.{ℕ, ◌≡◌, Bool, true, false, cond, List, [], Option, Some, Result, Ok, Err, refl, sym, ap, subst, ◌∙◌}
+use Rattle.std.specs.Prelude.{All, OnOk, is_err}
+use Rattle.std.proofs.lemmas.List.Elements.{All-from_recursion}
+use Rattle.lfs_device.specs.declared.error.Error.{Error}
+use Rattle.lfs_model.specs.Content.{content_at}
+use Rattle.lfs_model.specs.Discipline.{LeavesAlone, ReadsFew, is_kept, looks_up, path_of_open, paths_of, searched}
+use Rattle.lfs_model.specs.Disk.{Disk, block_at, block_count}
+use Rattle.lfs_model.specs.History.{Event}
+use Rattle.lfs_model.specs.Operations as ops
+use Rattle.lfs_model.specs.Operations.{Operation, Reply}
+use Rattle.lfs_model.specs.PowerLoss.{IsLeft, SurvivesStops, Withstands}
+use Rattle.lfs_model.specs.Effects.{applied}
+use Rattle.lfs_model.specs.Run as model
+use Rattle.lfs_model.specs.Run.{Agrees, IsCarriedOut, IsTurn, Moment, only_asks}
+use Rattle.lfs_model.specs.Session.{Session, file_of}
+use Rattle.lfs_model.specs.Shown.{all_slots, file_blocks}
+use Rattle.lfs_model.specs.Slots.{Slot, no_gstate}
+use Rattle.lfs_model.specs.State.{Healthy}
+use Rattle.lfs_model.specs.Thread.{Pair, gstate_of}
+use Rattle.lfs_model.specs.View.{IsAccepted}
+use Rattle.lfs_model.proofs.Committed.{recovered_from}
+use Rattle.lfs_model.proofs.Counts.{each_always}
+use Rattle.lfs_model.proofs.Uniqueness.{one_thread}
+use Rattle.lfs_model.proofs.Withstanding.{turn_withstands}
+use Rattle.lfs_tree.specs.OpenContents.{IsStoredAt, IsWrittenBeside}
+use Rattle.lfs_tree.specs.Refusals.{is_refusal, refusal_in}
+use Rattle.lfs_tree.specs.Seen.{IsAsked, IsCarried, IsSound, LeavesRest, Seen}
+use Rattle.std.specs.Option.{option_map}
+use Rattle.lfs_fs.specs.FileSeen.{OpenFiles, entry_of, file_seen, files_seen}
+use Rattle.lfs_fs.specs.declared.files.OpenFile.TheVariants as file
+use Rattle.lfs_fs.specs.declared.files.Writer.{Writer}
+use Rattle.lfs_fs.specs.Held.{Answers, Held, IsReady, held_of, held_with, moment_of, session_of}
+use Rattle.lfs_fs.specs.LookUps.{AddsFew, AddsNone, LeavesOnHand, ReadsNoneIn}
+use Rattle.lfs_fs.specs.Replies.{reply_in}
+use Rattle.lfs_fs.specs.Sparing.{AsksFew, IsCall, LeavesAtHand, LeavesOthers}
+use Rattle.lfs_fs.proofs.KeptLookUps.{reads_none}
+use Rattle.lfs_tree.specs.AtHand.{AreSmall, HasOnHand}
+use Rattle.lfs_fs.specs.Told.{IsTold}
+use Rattle.lfs_fs.proofs.FewReads.{reads_few}
+use Rattle.lfs_fs.proofs.OpenFiles.{file_is}
+use Rattle.lfs_fs.proofs.Stopping.{kept_call, session_at, works_at}
+use Rattle.lfs_fs.proofs.WrittenAlone.{written_alone}
+use Rattle.lfs_fs.proofs.Withstanding.{call_withstands, ready_agrees, stood_before}
+
+-- ---- where the disk is as it was
+
+same_alone : (disk new : Disk) (ps qs : List Pair) (s : Session) (op : Operation) → new ≡ disk → LeavesAlone disk ps s op new qs
+same_alone disk new ps qs s op e = subst (λ z. LeavesAlone disk ps s op z qs) (sym e) (record {
+  files = All-from_recursion (λ t. All (λ b. block_at disk b ≡ block_at disk b) (file_blocks disk t.struct)) (all_slots ps)
+      (each_always (λ (t : Slot). All (λ b. block_at disk b ≡ block_at disk b) (file_blocks disk t.struct))
+      (λ t. All-from_recursion (λ b. block_at disk b ≡ block_at disk b) (file_blocks disk t.struct) (each_always (λ b. block_at disk b ≡ block_at disk b) (λ b. refl) (file_blocks disk t.struct))) (all_slots ps));
+  pairs = λ p a b n. (refl, refl);
+})
+
+pub untouched_others : (from : Moment) (op : Operation) (to : Moment) → to.disk ≡ from.disk → LeavesOthers from op to
+untouched_others from op to e s at ps qs a b none = same_alone from.disk to.disk ps qs s op e
+
+-- the turn tells that nothing was written, where nothing was to be recovered
+abbrev pub WritesNothing : Moment → Operation → Moment → Type 0
+WritesNothing from op to = (s : Session) → from.state ≡ Healthy s → (ps qs : List Pair) (calls : List Event) → IsAccepted from.disk ps → gstate_of ps ≡ no_gstate → IsCarriedOut from.disk ps s op calls to.disk qs → to.disk ≡ from.disk
+
+turn_others : (from : Moment) (op : Operation) (reply : Reply) (to : Moment) → IsTurn from op reply to → WritesNothing from op to → LeavesOthers from op to
+turn_others from op reply to turn nothing s at ps qs a b none = go (model.is_refusal reply) refl
+  where
+    go : (x : Bool) → model.is_refusal reply ≡ x → LeavesAlone from.disk ps s op to.disk qs
+    go true e = same_alone from.disk to.disk ps qs s op (turn.refused e)
+    go false e = same_alone from.disk to.disk ps qs s op (nothing s at ps qs turn.calls a none (turn.carried_out e s at ps qs a b))
+
+pub turned_others : {A : Type 0} (old : Held) (op : Operation) (reply : A → Reply) (r : Result A Error) (new : Held) → Answers old op (reply_in reply r) new → WritesNothing (moment_of old) op (moment_of new) → OnOk r (LeavesOthers (moment_of old) op (moment_of new))
+turned_others old op reply (Ok x) new turn nothing = turn_others (moment_of old) op (reply x) (moment_of new) turn nothing
+turned_others old op reply (Err e) new answers nothing = tt
+
+pub recovered_others : (old : Held) (r : Result (Unit {0}) Error) (new : Held) → Answers old ops.Recover (reply_in (λ u. ops.Done) r) new → OnOk r (LeavesOthers (moment_of old) ops.Recover (moment_of new))
+recovered_others old r new answers = turned_others old ops.Recover (λ u. ops.Done) r new answers (λ s at ps qs calls a none c. (c.nothing_left refl (recovered_from old.tree.disk ps a none)).0)
+
+-- ---- where the tree tells it
+
+others_from : (t new : Seen) (fs : OpenFiles) (now : Held) (op : Operation) → held_of t fs ≡ now → (t.failed ≡ false → IsReady t fs) → IsSound new →
+    (IsSound t → gstate_of t.pairs ≡ no_gstate → LeavesAlone t.disk t.pairs (session_of (held_of t fs)) op new.disk new.pairs) → LeavesOthers (moment_of now) op (moment_of (held_with new []))
+others_from t new fs now op same ready after alone = subst (λ (z : Held). LeavesOthers (moment_of z) op (moment_of (held_with new []))) same here
+  where
+    here : LeavesOthers (moment_of (held_of t fs)) op (moment_of (held_with new []))
+    here s at ps qs a b none =
+        let sound = (ready (works_at (held_of t fs) s at)).sound in
+        let p = one_thread (content_at t.disk) (block_count t.disk) t.pairs ps sound.accepted.thread a.thread in
+        let q = one_thread (content_at new.disk) (block_count new.disk) new.pairs qs after.accepted.thread b.thread in
+        subst (λ z. LeavesAlone t.disk ps z op new.disk qs) (session_at (held_of t fs) s at)
+        (subst (λ z. LeavesAlone t.disk z (session_of (held_of t fs)) op new.disk qs) p
+        (subst (λ z. LeavesAlone t.disk t.pairs (session_of (held_of t fs)) op new.disk z) q (alone sound (subst (λ z. gstate_of z ≡ no_gstate) (sym p) none))))
+
+-- an operation of the tree behind reads
+pub rest_others : (t mid new : Seen) (fs : OpenFiles) (now : Held) (op : Operation) → held_of t fs ≡ now → (t.failed ≡ false → IsReady t fs) → IsAsked t mid → IsSound new → LeavesRest mid op new → LeavesOthers (moment_of now) op (moment_of (held_with new []))
+rest_others t mid new fs now op same ready asked after rest = others_from t new fs now op same ready after (λ sound none. subst (λ (z : Seen). LeavesRest z op new) asked.same rest none (held_of t fs).files)
+
+-- the same, where it was carried out
+pub done_others : (C K : Type 0) (t mid new : Seen) (fs : OpenFiles) (now : Held) (op : Operation) (r : Result (Unit {0}) Error) → held_of t fs ≡ now → (t.failed ≡ false → IsReady t fs) → IsAsked t mid → OnOk r C → (C → IsCarried mid op new) →
+    OnOk r K → (K → LeavesRest mid op new) → OnOk r (LeavesOthers (moment_of now) op (moment_of (held_with new [])))
+done_others C K t mid new fs now op (Ok u) same ready asked c carried k rest = rest_others t mid new fs now op same ready asked (carried c).sound (rest k)
+done_others C K t mid new fs now op (Err e) same ready asked c carried k rest = tt
+
+-- a recovery alone
+pub begun_others : (t mid new : Seen) (fs : OpenFiles) (now : Held) (op : Operation) → held_of t fs ≡ now → (t.failed ≡ false → IsReady t fs) → IsAsked t mid → IsCarried mid ops.Recover new → LeavesOthers (moment_of now) op (moment_of (held_with new []))
+begun_others t mid new fs now op same ready asked carried =
+    others_from t new fs now op same ready carried.sound (λ sound none. same_alone t.disk new.disk t.pairs new.pairs (session_of (held_of t fs)) op
+    ((subst (λ (z : Seen). IsCarried z ops.Recover new) asked.same carried).nothing_left refl (recovered_from t.disk t.pairs sound.accepted none)).0)
+
+-- the contents of a writer come into the tree
+pub stored_others : (t new : Seen) (fs : OpenFiles) (now : Held) (op : Operation) (fd : ℕ) (w : Writer) (bytes : List ℕ) → held_of t fs ≡ now → (t.failed ≡ false → IsReady t fs) → Some (file.Writing w) ≡ entry_of fs fd →
+    ((s : Session) → paths_of s op ≡ path_of_open (file_of s.files fd)) → IsStoredAt t w.path bytes new → LeavesOthers (moment_of now) op (moment_of (held_with new []))
+stored_others t new fs now op fd w bytes same ready is about stored =
+    others_from t new fs now op same ready stored.sound
+    (λ sound none. stored.alone (files_seen t fs) op (about (session_of (held_of t fs)) ∙ ap path_of_open (file_is t fs fd ∙ ap (option_map (file_seen t)) (sym is))))
+
+-- contents are written beside the image
+pub beside_others : (t new : Seen) (fs : OpenFiles) (now : Held) (op : Operation) → held_of t fs ≡ now → (t.failed ≡ false → IsReady t fs) → IsWrittenBeside t new → LeavesOthers (moment_of now) op (moment_of (held_with new []))
+beside_others t new fs now op same ready beside =
+    others_from t new fs now op same ready beside.sound (λ sound none. written_alone t.disk new.disk t.pairs beside.stay new.pairs (session_of (held_of t fs)) op)
+
+-- ---- calls
+
+pub few_asked : (t new : Seen) (fs : OpenFiles) (op : Operation) → (t.failed ≡ false → IsSound t) → (looks_up op ≡ true → AddsFew t op new) → AsksFew (moment_of (held_of t fs)) op (moment_of (held_with new []))
+few_asked t new fs op sound few s at ps a calls is looks =
+    let p = one_thread (content_at t.disk) (block_count t.disk) t.pairs ps (sound (works_at (held_of t fs) s at)).accepted.thread a.thread in
+    subst (λ z. ReadsFew z op calls) p (λ l. reads_few t new op (few l) calls is l) looks
+
+-- an error leaves the disk as it was, too
+asking_stands : (old : Held) (op : Operation) (r : Result Reply Error) (new : Held) → Agrees old.tree.disk (moment_of old).state → ((s : Session) → only_asks s op ≡ true) → Answers old op r new → SurvivesStops (moment_of old) op (moment_of new) →
+    Withstands (moment_of old) op (moment_of new)
+asking_stands old op (Ok reply) new agrees asks turn survives = turn_withstands (moment_of old) op reply (moment_of new) agrees turn survives
+asking_stands old op (Err e) new agrees asks fails survives = record {
+  stops = survives;
+  stands = λ s ps around work clean stopped. subst (λ d. IsLeft d s.tree (applied around s op).1.tree) (sym (fails.fails.asks s work.healthy (asks s)).0) (stood_before (moment_of old) op agrees s ps around work);
+}
+
+ok_others : {A : Type 0} (old : Held) (op : Operation) (reply : A → Reply) (r : Result A Error) (new : Held) → Answers old op (reply_in reply r) new → OnOk r (LeavesOthers (moment_of old) op (moment_of new)) → is_err (reply_in reply r) ≡ false → LeavesOthers (moment_of old) op (moment_of new)
+ok_others old op reply (Ok x) new answers k e = k
+ok_others old op reply (Err x) new answers k e = go (is_refusal x) answers e
+  where
+    go : (b : Bool) → Answers old op (cond b (Ok (ops.Refused (refusal_in x))) (Err x)) new → is_err (cond b (Ok (ops.Refused (refusal_in x))) (Err x)) ≡ false → LeavesOthers (moment_of old) op (moment_of new)
+    go true turn e = untouched_others (moment_of old) op (moment_of new) (turn.refused refl)
+    go false fails e = absurd (cc)
+
+asking_others : (old : Held) (op : Operation) (r : Result Reply Error) (new : Held) → ((s : Session) → only_asks s op ≡ true) → Answers old op r new → is_err r ≡ false → LeavesOthers (moment_of old) op (moment_of new)
+asking_others old op (Ok reply) new asks turn e = turn_others (moment_of old) op reply (moment_of new) turn (λ s at ps qs calls a none c. (c.asks (asks s)).0)
+asking_others old op (Err x) new asks fails e = absurd (cc)
+
+same_ok : (x y : Reply) → (let z : Result Reply Error = Ok x in z) ≡ Ok y → x ≡ y
+same_ok x y e = cc
+
+-- a refused stat isn't accepted
+pub stat_hand : {A : Type 0} (reply : A → Reply) (r : Result A Error) (P : Type 0) → OnOk r P → (path : List ℕ) (answer : Reply) → reply_in reply r ≡ Ok answer → model.is_refusal answer ≡ false → P
+stat_hand reply (Ok x) P there path answer is accepted = there
+stat_hand reply (Err e) P there path answer is accepted = go (is_refusal e) is
+  where
+    go : (b : Bool) → cond b (Ok (ops.Refused (refusal_in e))) (Err e) ≡ Ok answer → P
+    go true same = absurd (let k : ops.Refused (refusal_in e) ≡ answer = same_ok _ _ same in let l = ap model.is_refusal k ∙ accepted in cc)
+    go false same = absurd (cc)
+
+-- how a look-up asks
+pub record AsksBy (t : Seen) (op : Operation) (r : Result Reply Error) (new : Held) : Type 0 where
+  pub few : looks_up op ≡ true → AddsFew t op new.tree
+  pub none : looks_up op ≡ true → AddsNone t op new.tree
+  pub hand : LeavesAtHand op r new
+
+pub stat_asks : (t : Seen) (path : List ℕ) (r : Result (Option ℕ) Error) (new : Held) → (new.tree.failed ≡ false → IsAsked t new.tree) → (new.tree.failed ≡ false → IsSound new.tree) → AddsFew t (ops.Stat path) new.tree →
+    AddsNone t (ops.Stat path) new.tree → LeavesOnHand t (ops.Stat path) r new.tree → AsksBy t (ops.Stat path) (reply_in ops.StatIs r) new
+stat_asks t path r new asked sound few none leaves = record { few = λ l. few; none = λ l. none; hand = hand }
+  where
+    hand : LeavesAtHand (ops.Stat path) (reply_in ops.StatIs r) new
+    hand given reply is same accepted s at ps a small =
+        let works = works_at new s at in
+        let e : new.tree.pairs ≡ ps = one_thread (content_at new.tree.disk) (block_count new.tree.disk) new.tree.pairs ps (sound works).accepted.thread a.thread in
+        let f : new.tree.pairs ≡ t.pairs = ap (λ (z : Seen). z.pairs) (asked works).same in
+        stat_hand ops.StatIs r (HasOnHand new.tree (searched (ops.Stat path))) (leaves (subst (λ z. AreSmall z (searched (ops.Stat path))) (sym e ∙ f) small)) given reply same accepted
+
+-- no other operation looks up
+pub asks_not : (t : Seen) (op : Operation) (r : Result Reply Error) (new : Held) → looks_up op ≡ false → AsksBy t op r new
+asks_not t op r new silent = record {
+  few = λ l. absurd (let m = sym silent ∙ l in cc);
+  none = λ l. absurd (let m = sym silent ∙ l in cc);
+  hand = λ path reply is same accepted s at ps a small. absurd (let m = sym silent ∙ ap looks_up is in cc);
+}
+
+-- a call that asks only
+pub asking_call : (t : Seen) (fs : OpenFiles) (now : Held) (op : Operation) (r : Result Reply Error) (new : Held) → held_of t fs ≡ now → (t.failed ≡ false → IsReady t fs) → ((s : Session) → only_asks s op ≡ true) →
+    (is_kept op ≡ true → new ≡ now) → AsksBy t op r new → Answers now op r new → SurvivesStops (moment_of now) op (moment_of new) → IsCall now op r new
+asking_call t fs now op r new same ready asks kept by answers survives = record {
+  answers = answers;
+  withstands = asking_stands now op r new (subst (λ (z : Held). Agrees z.tree.disk (moment_of z).state) same (ready_agrees t fs ready)) asks answers survives;
+  alone = λ e. asking_others now op r new asks answers e;
+  asks = record {
+    asked = kept;
+    few = subst (λ (z : Held). AsksFew (moment_of z) op (moment_of new)) same (few_asked t new.tree fs op (λ w. (ready w).sound) by.few);
+    none = λ l. subst (λ (z : Held). ReadsNoneIn z.tree op new.tree) same (reads_none t new.tree op (by.none l));
+    hand = by.hand;
+  };
+}
+
+-- the same where no call is made
+pub kept_asking : (t : Seen) (fs : OpenFiles) (now : Held) (op : Operation) (r : Result Reply Error) → held_of t fs ≡ now → (t.failed ≡ false → IsReady t fs) → ((s : Session) → only_asks s op ≡ true) → looks_up op ≡ false → Answers now op r now → IsCall now op r now
+kept_asking t fs now op r same ready asks silent answers =
+    asking_call t fs now op r now same ready asks (λ k. refl) (asks_not t op r now silent) answers (kept_call (held_of t fs) now op same (λ w. (ready w).sound))
+
+-- a call that may change the disk
+pub changing_call : {A : Type 0} (old : Held) (op : Operation) (reply : A → Reply) (r : Result A Error) (new : Held) → IsTold old → IsTold new → is_kept op ≡ false → looks_up op ≡ false → OnOk r (LeavesOthers (moment_of old) op (moment_of new)) →
+    Answers old op (reply_in reply r) new → SurvivesStops (moment_of old) op (moment_of new) → IsCall old op (reply_in reply r) new
+changing_call old op reply r new before after other silent alone answers survives =
+    let by = asks_not old.tree op (reply_in reply r) new silent in
+    record {
+      answers = answers;
+      withstands = call_withstands old op (reply_in reply r) new before after answers survives;
+      alone = λ e. ok_others old op reply r new answers alone e;
+      asks = record {
+        asked = λ k. absurd (let l = sym other ∙ k in cc);
+        few = λ s at ps a calls is looks. absurd (let l = sym silent ∙ looks in cc);
+        none = λ looks. absurd (let l = sym silent ∙ looks in cc);
+        hand = by.hand;
+      };
+    }
+
+-- the same of an operation by another name
+pub performed_call : (old new : Held) (op : Operation) (o : Operation) (r q : Result Reply Error) → o ≡ op → q ≡ r → IsCall old op r new → IsCall old o q new
+performed_call old new op o r q is same call = subst (λ z. IsCall old z q new) (sym is) (subst (λ z. IsCall old op z new) (sym same) call)

@@ -49,8 +49,8 @@ fn faulty(alloc: Global, which: Which, nth: u64, stop: bool) -> Result<Session<F
     mounted(alloc, FaultDevice::new(device, which, nth, stop))
 }
 
-// Whether a session answers that it has failed, without a call of the device.
-fn has_failed(alloc: Global, session: &mut Session<Faulty>) -> Result<bool, Error> {
+/// Whether a session answers that it has failed, without a call of the device.
+pub fn has_failed(alloc: Global, session: &mut Session<Faulty>) -> Result<bool, Error> {
     let before = session.device().calls(Which::Any);
     let wrong = wrong_at_once(alloc, session, &AFTER)?;
     Ok(wrong.is_none() && session.device().calls(Which::Any) == before)

@@ -24,6 +24,12 @@ mod long;
 #[cfg(test)]
 mod many;
 #[cfg(test)]
+mod memory;
+#[cfg(test)]
 mod played;
 #[cfg(test)]
 mod reads;
+#[cfg(test)]
+mod scripts;
+#[cfg(test)]
+mod stopping;

@@ -1,0 +1,33 @@
+// A script where any one allocation fails: this holds whichever it is (bench/fail_alloc.py).
+
+use crate::answers::Answer::Done;
+use crate::begun::{Start, begun};
+use crate::played::wrong_at_once;
+use crate::scripts::{LENGTH, carried_out, has_lost_nothing};
+use lfs_device::Error;
+use lfs_fs::Op::Remount;
+use std::alloc::Global;
+use std::test::Fail;
+
+// Whether the script ends as with memory enough, or with `NoMemory` and the tree of then.
+fn loses_nothing(alloc: Global) -> Result<bool, Error> {
+    let mut session = begun(alloc, Start::Fresh(1024, 128, 64))?;
+    match carried_out(alloc, &mut session) {
+        (done, None) => Ok(done == LENGTH),
+        (done, Some(error)) => Ok(
+            error == Error::NoMemory
+                && wrong_at_once(alloc, &mut session, &[(Remount, Done)])?.is_none()
+                && has_lost_nothing(alloc, &mut session, done)?,
+        ),
+    }
+}
+
+#[test]
+fn nothing_is_lost_where_memory_is_refused(rt: HostRuntime) -> Result<(), Fail> {
+    let holds = match loses_nothing(rt.alloc()) {
+        Ok(holds) => holds,
+        Err(error) => error == Error::NoMemory,
+    };
+    assert_eq!(rt; holds, true);
+    Ok(())
+}

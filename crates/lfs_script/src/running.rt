@@ -3,7 +3,7 @@
 use crate::script::Script;
 use lfs_script_lines::{LineError, push_answer, read_line};
 use std::alloc::AllocError;
-use std::io::{BufRead, Write};
+use std::io::{BufRead, ErrorKind, Write};
 use std::rt::Files;
 
 /// How a script ended.
@@ -64,6 +64,7 @@ pub fn run<R: Files + AllocGlobal, I: BufRead, W: Write>(
         match input.read_until(b'\n', &mut line) {
             Ok(0) => return End::Done,
             Ok(_) => {}
+            Err(error) if error.kind() == ErrorKind::OutOfMemory => return End::NoMemory,
             Err(_) => return End::Input,
         }
         if let Err(end) = answer_line(rt, &mut script, without_end(&line), number, out) {

@@ -1,6 +1,6 @@
-ghost use Rattle.std.specs.Prelude.{◌≡◌, ◌≤◌, ◌<◌, ◌+◌, ◌-◌, ◌%◌, ◌^◌, ℕ, true, false, min, [], ◌∷◌, length, slice_range, is_err, IfSome, IfErr, OnOk, OnErr, Some};
+ghost use Rattle.std.specs.Prelude.{◌≡◌, ◌≤◌, ◌<◌, ◌+◌, ◌-◌, ◌%◌, ◌^◌, ℕ, true, false, min, [], length, slice_range, is_err, IfSome, OnOk, OnErr, Some};
 ghost use Rattle.lfs_model.specs.Blocks.{SameBut, SameOutside, block_in, programmed};
-ghost use Rattle.lfs_model.specs.History.{event, reads, programs, erases, faults, unprogrammed, AllUnprogrammed, IsNewest};
+ghost use Rattle.lfs_model.specs.History.{reads, programs, erases, faults, unprogrammed, AllUnprogrammed, IsNewest};
 ghost use Rattle.lfs_model.specs.History.Call.{Read, Program, Erase};
 ghost use Rattle.lfs_model.specs.Obeyed.{AreObeyed};
 ghost use Rattle.lfs_device.specs.Fault.{calls_of, due, due_if, due_failed, undue_faults};
@@ -174,7 +174,7 @@ impl<D: BlockDevice> FaultDevice<D> {
 }
 
 impl<D: BlockDevice> BlockDevice for FaultDevice<D> {
-    ghost use Rattle.lfs_device.specs.FaultDevice.{inner_of, fault_of, blocks_of, history_of};
+    ghost use Rattle.lfs_device.specs.FaultDevice.{IsNoted, inner_of, fault_of, blocks_of, history_of};
 
     ghost geometry = { λ d. D.geometry d.inner };
 
@@ -202,12 +202,9 @@ impl<D: BlockDevice> BlockDevice for FaultDevice<D> {
         ensures whole { due (fault_of self.old) (Read block off (length buf.old)) (history_of self.old) ≡ Some Extent.Whole
             → NoFault ⟦<D as BlockDevice>⟧ (inner_of self.old) (inner_of self.new)
             → buf.new ≡ slice_range (block_in (blocks_of self.old) block) off (off + length buf.old) }
-        ensures fault { fault_of self.new ≡ fault_of self.old }
         ensures bytes { OnOk result (buf.new ≡ slice_range (block_in (blocks_of self.old) block) off (off + length buf.old)) }
         ensures same { blocks_of self.new ≡ blocks_of self.old }
-        ensures geometry { D.geometry (inner_of self.new) ≡ D.geometry (inner_of self.old) }
-        ensures history { history_of self.new ≡ event (Read block off (length buf.old)) (blocks_of self.old) (blocks_of self.new) (is_err result) ∷ history_of self.old }
-        ensures error { IfErr result (λ e. e ≡ Error.Io) }
+        ensures noted { IsNoted (Read block off (length buf.old)) self.old self.new result }
     {
         let counts = matches!(self.fault.which, Which::Any | Which::Read);
         let due = self.due(counts);
@@ -229,13 +226,10 @@ impl<D: BlockDevice> BlockDevice for FaultDevice<D> {
         ensures stored { IfSome (due (fault_of self.old) (Program block off bytes.now) (history_of self.old))
             (λ extent. NoFault ⟦<D as BlockDevice>⟧ (inner_of self.old) (inner_of self.new)
             → blocks_of self.new ≡ programmed (blocks_of self.old) block off (stored extent bytes.now)) }
-        ensures fault { fault_of self.new ≡ fault_of self.old }
         ensures ok { OnOk result (blocks_of self.new ≡ programmed (blocks_of self.old) block off bytes.now) }
         ensures err { OnErr result (SameOutside off (off + length bytes.now) (block_in (blocks_of self.old) block) (block_in (blocks_of self.new) block)) }
         ensures others { SameBut block (blocks_of self.old) (blocks_of self.new) }
-        ensures geometry { D.geometry (inner_of self.new) ≡ D.geometry (inner_of self.old) }
-        ensures history { history_of self.new ≡ event (Program block off bytes.now) (blocks_of self.old) (blocks_of self.new) (is_err result) ∷ history_of self.old }
-        ensures error { IfErr result (λ e. e ≡ Error.Io) }
+        ensures noted { IsNoted (Program block off bytes.now) self.old self.new result }
     {
         let counts = matches!(self.fault.which, Which::Any | Which::Program);
         let due = self.due(counts);
@@ -250,11 +244,8 @@ impl<D: BlockDevice> BlockDevice for FaultDevice<D> {
         requires { block < (D.geometry (inner_of self.old)).block_count }
         ensures carried { CarriedOut ⟦<D as BlockDevice>⟧ (due (fault_of self.old) (Erase block) (history_of self.old))
             (Erase block) (is_err result) (inner_of self.old) (inner_of self.new) }
-        ensures fault { fault_of self.new ≡ fault_of self.old }
         ensures others { SameBut block (blocks_of self.old) (blocks_of self.new) }
-        ensures geometry { D.geometry (inner_of self.new) ≡ D.geometry (inner_of self.old) }
-        ensures history { history_of self.new ≡ event (Erase block) (blocks_of self.old) (blocks_of self.new) (is_err result) ∷ history_of self.old }
-        ensures error { IfErr result (λ e. e ≡ Error.Io) }
+        ensures noted { IsNoted (Erase block) self.old self.new result }
     {
         let counts = matches!(self.fault.which, Which::Any | Which::Erase);
         let due = self.due(counts);

@@ -44,10 +44,12 @@ commits_behind {disk = disk} {new = new} {before = before} {mid = mid} {history 
       };
       compacted = λ full. let is = c.compacted full in record {
         active = is.active;
-        anew = is.anew;
+        anew = record {
+          holds = is.anew.holds;
+          erases = is.anew.erases ∙ ap (λ n. n + 1) (erases-reads reads);
+          programs = is.anew.programs ∙ ap (λ n. n + 1) (programs-reads reads);
+        };
         end = is.end;
-        erases = is.erases ∙ ap (λ n. n + 1) (erases-reads reads);
-        programs = is.programs ∙ ap (λ n. n + 1) (programs-reads reads);
         kept = is.kept;
       };
     })
@@ -67,6 +69,7 @@ pub clears_behind : {count : ℕ} {blocks : Blocks} {before mid history : List E
 clears_behind {count} reads since clears =
     let same = programs-reads reads in
     record {
+      erases = clears.erases ∙ ap (λ n. n + (count + 1)) (erases-reads reads);
       programs = λ logs. clears.programs (EachSince-behind logs reads since) ∙ ap (λ n. n + count) same;
       at_most = let most = clears.at_most in omega (arith, same, most);
     }
@@ -87,10 +90,7 @@ splits_behind {new = new} {before = before} {history = history} {changes = chang
       moved = s.moved;
       kept = s.kept;
       front_anew = s.front_anew;
-      fresh_active = s.fresh_active;
-      back_anew = s.back_anew;
-      cleared = s.cleared;
-      erases = s.erases ∙ ap (λ n. n + 3) (erases-reads reads);
+      back_fresh = s.back_fresh;
       clears = clears_behind reads since s.clears;
     })
 

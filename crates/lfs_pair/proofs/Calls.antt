@@ -1,13 +1,16 @@
 -- What calls behind calls do to a device.
-use Rattle.std.proofs.Common.{ℕ, ◌≡◌, ◌⊎◌, Bool, List, [], ◌∷◌, refl, sym, ◌∙◌, subst}
+use Rattle.std.proofs.Common.{arith, ap, inl, inr, Err, ℕ, ◌≡◌, ◌≤◌, ◌+◌, ◌⊎◌, Bool, List, [], ◌∷◌, refl, sym, ◌∙◌, subst}
 use Rattle.lfs_device.specs.declared.device.BlockDevice.{Ghosts}
 use Rattle.lfs_device.specs.Calls.{ReadsOnly, ChangesBlock, ChangesOnly}
-use Rattle.std.specs.Prelude.{All, ◌≢◌}
-use Rattle.lfs_model.specs.Blocks.{SameBut, SameButThese}
-use Rattle.lfs_model.specs.History.{Read, Program, Erase, event}
+use Rattle.std.specs.Prelude.{All, ◌≢◌, IsErrOf}
+use Rattle.lfs_device.specs.declared.error.Error.{Error}
+use Rattle.lfs_device.specs.declared.error.Error.TheVariants.{Io, NoMemory}
+use Rattle.lfs_model.specs.Blocks.{Blocks, SameBut, SameButThese}
+use Rattle.lfs_model.specs.History.{Event, Read, Program, Erase, event, reads}
 use Rattle.lfs_model.proofs.Histories.{began, goes_on, goes_on_by, AtWorst-read, LeavesOnly-reads, LeavesOnly-weaker, OnlyReads-read, OnlyReads-trans, StayUnprogrammed-erase, StayUnprogrammed-program, StayUnprogrammed-reads, StayUnprogrammed-trans, StayUnprogrammed-wider}
 use Rattle.lfs_model.proofs.Overwrites.{SameBut-refl, SameBut-trans, SameButThese-refl, SameButThese-trans, SameButThese-wider}
 use Rattle.lfs_pair.specs.Commit.{blocks_of}
+use Rattle.lfs_pair.specs.Writing.{ChangesReading}
 use Rattle.lfs_pair.proofs.Changed.{stays_outside}
 use Rattle.lfs_pair.proofs.TwoBlocks.{outside_one}
 
@@ -100,3 +103,28 @@ only_block {b = b} at is block = record {
   geometry = block.geometry;
   at_worst = LeavesOnly-weaker (λ disk left. outside_one at b _ disk is left) block.at_worst;
 }
+
+-- ---- with how often the device is read
+
+pub reading_trans : {D : Type 0} {g : Ghosts D} {n m : ℕ} {bs : List ℕ} {old mid new : D} → ChangesReading g n bs old mid → ChangesReading g m bs mid new → ChangesReading g (n + m) bs old new
+reading_trans first second = record {
+  only = only_trans first.only second.only;
+  few = let a = first.few in let b = second.few in omega (arith, a, b);
+}
+
+-- one read, where more are allowed
+pub reading_by_read : {D : Type 0} {g : Ghosts D} {n : ℕ} {bs : List ℕ} {old new : D} → ReadsOnly g old new → reads (g.history new) ≤ reads (g.history old) + 1 → 1 ≤ n → ChangesReading g n bs old new
+reading_by_read read few some = record { only = only_by_reads read; few = omega (arith, few, some) }
+
+pub reading_none : {D : Type 0} {g : Ghosts D} {n : ℕ} {bs : List ℕ} {d : D} → ChangesReading g n bs d d
+reading_none = record { only = only_none; few = omega arith }
+
+-- one read
+pub few_by_read : {old new : List Event} {before after : Blocks} {b off len : ℕ} {failed : Bool} → new ≡ event (Read b off len) before after failed ∷ old → reads new ≤ reads old + 1
+few_by_read is = let read = ap reads is in omega (arith, read)
+
+-- one read that failed, or none for want of memory
+pub few_at_error : {X : Type 0} {e : Error} {old new : List Event} {before after : Blocks} {b off len : ℕ} {failed : Bool} → (e ≡ Io) ⊎ (e ≡ NoMemory)
+    → (IsErrOf {T = X} (Err e) Io → new ≡ event (Read b off len) before after failed ∷ old) → (IsErrOf {T = X} (Err e) NoMemory → new ≡ old) → reads new ≤ reads old + 1
+few_at_error (inl is) io memory = few_by_read (io (ap Err is))
+few_at_error (inr is) io memory = let same = ap reads (memory (ap Err is)) in omega (arith, same)

@@ -1,6 +1,6 @@
 -- What a pair holds after a commit, and what a stop on the way leaves of it.
 use Rattle.std.proofs.Common.{ℕ, zero, suc, get_or, ◌≡◌, ◌≢◌, ◌⊎◌, ◌+◌, ◌%◌, ◌^◌, ◌<◌, ◌≤◌, Bool, true, false, cond, List, [], ◌∷◌, ◌++◌, length, Option, Some, None, flat_map, refl, sym, ap, ◌∙◌, subst, arith, inl, inr, length-append}
-use Rattle.std.specs.Prelude.{nat_lt, slice_get, unwrap_or, is_some}
+use Rattle.std.specs.Prelude.{nat_lt, slice_get, unwrap_or}
 use Rattle.std.specs.List.{list_all}
 use Rattle.std.proofs.lemmas.Bool.{lt-ltb, ltb-true}
 use Rattle.lfs_model.specs.Blocks.{Blocks, SameBut, block_in}
@@ -11,20 +11,18 @@ use Rattle.lfs_model.specs.WrittenContent.{FitsRaw, written_entries}
 use Rattle.lfs_model.specs.LoggedContent.{IsLogged}
 use Rattle.std.proofs.lemmas.List.Concat.{flat_map-append}
 use Rattle.lfs_pair.proofs.Holders.{holder_is}
-use Rattle.lfs_model.specs.Content.{RawContent, has_commit, holder_at, raw_at, content_after_all, no_content, completed}
+use Rattle.lfs_model.specs.Content.{RawContent, has_commit, holder_at, raw_at, content_after_all, no_content}
 use Rattle.lfs_model.specs.Changes.{Change, changed_by, entries_of_changes, is_storable}
 use Rattle.lfs_model.proofs.Appended.{appended_content}
 use Rattle.lfs_model.proofs.Histories.{StayUnprogrammed-wider}
 use Rattle.lfs_model.proofs.Overwrites.{SameButThese-refl}
 use Rattle.lfs_model.proofs.Commits.{has_commit-end, chain_ends}
-use Rattle.std.specs.Option.{option_and_then, option_map}
-use Rattle.lfs_tag.specs.ContentSeen.{tail_seen}
-use Rattle.lfs_tag.specs.FieldsSeen.{move_seen}
+use Rattle.std.specs.Option.{option_and_then}
 use Rattle.lfs_tag.specs.Builder.{Building, earlier}
 use Rattle.lfs_model.specs.History.{Event, AllUnprogrammed, StayUnprogrammed}
 use Rattle.lfs_pair.specs.declared.pair.Pair.{Pair}
-use Rattle.lfs_pair.specs.Pair.{IsPair, second_holds, active_at, address_in, other_in}
-use Rattle.lfs_pair.specs.Writing.{Gets, Holds, LeftByCommit, LeftByWriting, LeftInBlock}
+use Rattle.lfs_pair.specs.Pair.{EndsWith, IsPair, SumsUp, second_holds, active_at, address_in, other_in}
+use Rattle.lfs_pair.specs.Writing.{Gets, Holds, IsWritten, LeftByCommit, LeftByWriting, LeftInBlock}
 use Rattle.lfs_pair.specs.Commit.{IsActive, IsAddressOn, IsMade, IsNow, IsStill, KeepsFirst, LeftByChange, LeftWith, NowHolds, OutsideStays, made_of, made_in, made_at}
 use Rattle.lfs_pair.proofs.SameLogs.{entries_same}
 use Rattle.lfs_pair.proofs.TwoBlocks.{active_block, Sides, Stays, sides, raw_is, still_active, other_active, stays_same, stays_log, weaker_same, weaker_log, weaker_none, active_is, other_is, outside_one, sides_apart, below_count}
@@ -236,31 +234,27 @@ is_active disk history pair held is = record { active = is.active; has_commit = 
 
 -- a pair that was just written
 pub now_holds : (disk : Disk) (history : List Event) (at : ℕ × ℕ) (pair : Pair) (active : ℕ) (c : RawContent) → IsIn disk at active c
-    → address_in pair ≡ at → pair.active ≡ active → pair.is_fetched ≡ false
-    → pair.end ≡ (chain_of (block_at disk active)).end → pair.last ≡ (chain_of (block_at disk active)).last → pair.revision ≡ revision_of (block_at disk active)
-    → pair.slot_count ≡ length c.slots → option_map tail_seen pair.tail ≡ c.tail → move_seen pair.move_state ≡ c.move → pair.is_complete ≡ is_some (completed c) → IsLogged c
-    → pair.end % disk.page ≡ 0 → AllUnprogrammed history active pair.end disk.block_size → NowHolds disk history at pair c
-now_holds disk history at pair active c in_block same is written end last revision slot_count tail moved full logged pages behind = record {
+    → address_in pair ≡ at → pair.active ≡ active → pair.is_fetched ≡ false → pair.revision ≡ revision_of (block_at disk active)
+    → {end last : ℕ} → EndsWith end last pair → IsWritten disk history active end last → SumsUp c pair → IsLogged c → NowHolds disk history at pair c
+now_holds disk history at pair active c in_block same is fetched revision ends written sums logged = record {
   is_pair = record {
     active = is ∙ in_block.active_is ∙ ap (active_at disk) (sym same);
     has_commit = ap (λ b. has_commit (block_at disk b)) is ∙ in_block.has;
     describes = record {
       content = ap (λ b. content_after_all no_content (log_entries (block_at disk b))) is ∙ in_block.content;
-      end = end ∙ ap (λ b. (chain_of (block_at disk b)).end) (sym is);
-      last = last ∙ ap (λ b. (chain_of (block_at disk b)).last) (sym is);
+      end = ends.end_is ∙ written.end_is ∙ ap (λ b. (chain_of (block_at disk b)).end) (sym is);
+      last = ends.last_is ∙ written.last_is ∙ ap (λ b. (chain_of (block_at disk b)).last) (sym is);
       revision = revision ∙ ap (λ b. revision_of (block_at disk b)) (sym is);
-      slot_count = slot_count;
-      tail = tail;
-      move = moved;
-      complete = full;
+      sums = sums;
       logged = logged;
     };
-    whole_pages = λ w. pages;
-    unprogrammed = λ w. subst (λ b. AllUnprogrammed history b pair.end disk.block_size) (sym is) behind;
+    whole_pages = λ w. ap (λ e. e % disk.page) ends.end_is ∙ written.whole_pages;
+    unprogrammed = λ w. subst (λ b. AllUnprogrammed history b pair.end disk.block_size) (sym is)
+        (subst (λ e. AllUnprogrammed history active e disk.block_size) (sym ends.end_is) written.unprogrammed);
   };
   same = same;
   content = raw_in disk at active c in_block;
-  written = written;
+  written = fetched;
 }
 
 pub is_appending : (disk : Disk) (history : List Event) (pair : Pair) (held new : RawContent) (changes : List Change) (b : Building) → IsAddressOn disk (address_in pair) → IsPair disk history pair held

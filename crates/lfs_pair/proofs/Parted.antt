@@ -7,7 +7,7 @@ use Rattle.lfs_device.specs.Shown.{disk_of}
 use Rattle.lfs_device.specs.declared.geometry.Geometry.{Geometry}
 use Rattle.lfs_model.specs.Blocks.{Blocks, block_in}
 use Rattle.lfs_model.specs.Disk.{Disk, pair_capacity, slot_limit}
-use Rattle.lfs_model.specs.History.{EachSince, Event, OnlyReads, programs}
+use Rattle.lfs_model.specs.History.{EachSince, Event, OnlyReads}
 use Rattle.lfs_model.specs.Slots.{null_address}
 use Rattle.lfs_model.specs.Content.{RawSlot, RawContent, holder_at, raw_at}
 use Rattle.lfs_model.specs.Log.{LogEntry}
@@ -23,6 +23,7 @@ use Rattle.lfs_model.specs.View.{BeginsWith}
 use Rattle.lfs_pair.specs.Commit.{IsNow, IsStill, KeepsFirst, LeftWith, NowHolds, OutsideKeeps, made_in, made_at}
 use Rattle.lfs_pair.specs.Cut.{IsCut}
 use Rattle.lfs_pair.specs.Fresh.{ClearsLogs}
+use Rattle.lfs_pair.specs.Writing.{HoldsAnew}
 use Rattle.lfs_pair.specs.Split.{AreApart, AreParts, CanSplit, IsInside, LeftBySplit, OutsideBothKeeps}
 use Rattle.lfs_pair.proofs.Stay.{AreElsewhere, IsPair-reads, holder_at-stays, raw_at-stays}
 use Rattle.lfs_pair.proofs.TwoBlocks.{raw_is}
@@ -132,12 +133,13 @@ cut_inside {block_size} {page} {cut} {whole} is full = (front cut is, back)
           absurd (full (record { size = subst (λ s. sum_by raw_slot_size s ≤ pair_capacity block_size page) all is.front.size; count = subst (λ s. length s ≤ slot_limit) all is.front.count }))
     ]
 
--- one more program behind others
-pub clears_more : {count : ℕ} {before mid history : List Event} {P Q : Event → Type 0} → EachSince P before mid → EachSince Q mid history → ClearsLogs count before mid → programs history ≡ programs mid + 1
+-- one more block written anew
+pub clears_more : {count revision : ℕ} {c : RawContent} {block : List ℕ} {before mid history : List Event} {P Q : Event → Type 0} → EachSince P before mid → EachSince Q mid history → ClearsLogs count before mid → HoldsAnew revision c block mid history
     → ClearsLogs (count + 1) before history
-clears_more {before = before} {mid = mid} {history = history} first second clears more = record {
-  at_most = let most = clears.at_most in omega (arith, most, more);
-  programs = λ logs. let one = clears.programs (EachSince-until logs first second) in omega (arith, one, more);
+clears_more {before = before} {mid = mid} {history = history} first second clears anew = record {
+  erases = let some = clears.erases in let more = anew.erases in omega (arith, some, more);
+  at_most = let most = clears.at_most in let more = anew.programs in omega (arith, most, more);
+  programs = λ logs. let one = clears.programs (EachSince-until logs first second) in let more = anew.programs in omega (arith, one, more);
 }
 
 -- ---- a pair that is being split

@@ -18,7 +18,7 @@ use Rattle.lfs_model.specs.Changes.{Change, changed_by, entries_of_changes}
 use Rattle.lfs_model.specs.Commit.{entries_size, page_end}
 use Rattle.lfs_model.specs.WrittenContent.{FitsRaw, written_entries}
 use Rattle.lfs_model.specs.Tag.{class_of}
-use Rattle.lfs_pair.specs.Writing.{Holds}
+use Rattle.lfs_pair.specs.Writing.{HoldsAnew}
 use Rattle.lfs_pair.specs.declared.pair.Pair.{Pair}
 use Rattle.lfs_pair.specs.Pair.{IsPair, active_at, address_in}
 
@@ -104,11 +104,28 @@ pub record IsAppended (page : ℕ) (was : Pair) (changes : List Change) (old new
 -- next revision and up to the next page boundary
 pub record IsCompacted (page : ℕ) (was : Pair) (c : RawContent) (old new : Blocks) (before after : List Event) (pair : Pair) : Type 0 where
   pub active : pair.active ≢ was.active
-  pub anew : Holds ((was.revision + 1) % 2 ^ 32) c (block_in new pair.active)
+  pub anew : HoldsAnew ((was.revision + 1) % 2 ^ 32) c (block_in new pair.active) before after
   pub end : pair.end ≡ page_end page (4 + entries_size (written_entries c))
-  pub erases : erases after ≡ erases before + 1
-  pub programs : programs after ≡ programs before + 1
   pub kept : block_in new was.active ≡ block_in old was.active
+
+-- the changes could be appended and were, so that the pair holds that content, and its log begins as it did
+pub record AppendsNow (old : Disk) (before : List Event) (was : Pair) (changes : List Change) (c : RawContent) (disk : Disk) (history : List Event) (pair : Pair) : Type 0 where
+  pub holds : NowHolds disk history (address_in was) pair c
+  pub first : KeepsFirst old (address_in was) (Some c) disk
+  pub appends : Appends old was changes
+  pub appended : IsAppended old.page was changes old.blocks disk.blocks before history pair
+
+-- the changes can't be appended; the device and the pair are as they were
+pub record HasNoRoom {D : Type 0} (g : Ghosts D) (changes : List Change) (old new : D) (was now : Pair) : Type 0 where
+  pub no_room : Appends (disk_of (g.geometry old) (g.blocks old)) was changes → ⊥
+  pub device : new ≡ old
+  pub pair : now ≡ was
+
+-- the content was written anew, so that the pair holds it, and its log begins as it did
+pub record CompactsNow (old : Disk) (before : List Event) (was : Pair) (c : RawContent) (disk : Disk) (history : List Event) (pair : Pair) : Type 0 where
+  pub holds : NowHolds disk history (address_in was) pair c
+  pub first : KeepsFirst old (address_in was) (Some c) disk
+  pub compacted : IsCompacted old.page was c old.blocks disk.blocks before history pair
 
 -- What the changes make fits the pair, and the pair holds it: appended to its log where they can be, and else written anew.
 pub record Commits (old : Disk) (before : List Event) (changes : List Change) (was : Pair) (disk : Disk) (history : List Event) (pair : Pair) : Type 0 where

@@ -31,21 +31,26 @@ erases_logs (Erase block) false after = has_commit (block_in after block) ≡ fa
 abbrev pub ErasesLogs : Event → Type 0
 ErasesLogs e = erases_logs e.call e.failed e.after
 
--- so many programs, and one more only where a log still stands in a block after its erase
+-- so many blocks are erased and programmed, and another one is erased; it is programmed too only where a log still stands
+-- in it after its erase
 pub record ClearsLogs (count : ℕ) (before history : List Event) : Type 0 where
+  pub erases : erases history ≡ erases before + (count + 1)
   pub at_most : programs history ≤ programs before + (count + 1)
   pub programs : EachSince ErasesLogs before history → programs history ≡ programs before + count
 
--- the pair holds what the changes make of nothing, in its first block, whose revision is 1; no log is left in the second
+-- the first of two blocks holds that, with revision 1, no log is left in the second, and the pair says so
+pub record HoldsFresh (c : RawContent) (disk : Disk) (at : ℕ × ℕ) (pair : Pair) : Type 0 where
+  pub active : pair.active ≡ at.0
+  pub revision_is : pair.revision ≡ 1
+  pub anew : Holds 1 c (block_at disk at.0)
+  pub cleared : has_commit (block_at disk at.1) ≡ false
+
+-- the pair holds what the changes make of nothing, in its first block
 pub record IsFresh (before : List Event) (changes : List Change) (disk : Disk) (history : List Event) (at : ℕ × ℕ) (pair : Pair) : Type 0 where
   pub new : RawContent
   pub made : changed_by no_content changes ≡ Some new
   pub holds : NowHolds disk history at pair new
-  pub active : pair.active ≡ at.0
-  pub revision_is : pair.revision ≡ 1
-  pub anew : Holds 1 new (block_at disk at.0)
-  pub cleared : has_commit (block_at disk at.1) ≡ false
-  pub erases : erases history ≡ erases before + 2
+  pub fresh : HoldsFresh new disk at pair
   pub clears : ClearsLogs 1 before history
 
 -- an error: where memory was lacking the device is untouched

@@ -21,16 +21,25 @@ other_of at active = if active == at.0 then at.1 else at.0
 abbrev pub other_in : Pair → ℕ
 other_in pair = other_of (address_in pair) pair.active
 
+-- the pair counts that content's slots, says whether each is complete, and has its tail and its share of the global state
+pub record SumsUp (c : RawContent) (pair : Pair) : Type 0 where
+  pub slot_count : pair.slot_count ≡ length c.slots
+  pub tail : option_map tail_seen pair.tail ≡ c.tail
+  pub move : move_seen pair.move_state ≡ c.move
+  pub complete : pair.is_complete ≡ is_some (completed c)
+
+-- the pair's log ends there, with that tag
+pub record EndsWith (end last : ℕ) (pair : Pair) : Type 0 where
+  pub end_is : pair.end ≡ end
+  pub last_is : pair.last ≡ last
+
 -- a block's log comes to that content, and the pair says so
 pub record Describes (block : List ℕ) (pair : Pair) (held : RawContent) : Type 0 where
   pub content : content_after_all no_content (log_entries block) ≡ Some held
   pub end : pair.end ≡ (chain_of block).end
   pub last : pair.last ≡ (chain_of block).last
   pub revision : pair.revision ≡ revision_of block
-  pub slot_count : pair.slot_count ≡ length held.slots
-  pub tail : option_map tail_seen pair.tail ≡ held.tail
-  pub move : move_seen pair.move_state ≡ held.move
-  pub complete : pair.is_complete ≡ is_some (completed held)
+  pub sums : SumsUp held pair
   pub logged : IsLogged held
 
 -- of two blocks the second holds: it has a commit, and the first has none or an earlier revision

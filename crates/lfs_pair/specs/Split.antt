@@ -1,14 +1,14 @@
 -- What becomes of a pair that is split.
-use Rattle.std.specs.Prelude.{ℕ, ◌≡◌, ◌≢◌, ◌⊎◌, ◌+◌, ◌<◌, ◌%◌, ◌^◌, true, false, List, [], ◌∷◌, length, take, drop, Some}
+use Rattle.std.specs.Prelude.{ℕ, ◌≡◌, ◌≢◌, ◌⊎◌, ◌+◌, ◌<◌, ◌%◌, ◌^◌, true, List, [], ◌∷◌, length, take, drop, Some}
 use Rattle.lfs_model.specs.Blocks.{Blocks, SameButThese}
 use Rattle.lfs_model.specs.Disk.{Disk, block_at}
-use Rattle.lfs_model.specs.History.{Event, StayUnprogrammed, erases}
+use Rattle.lfs_model.specs.History.{Event, StayUnprogrammed}
 use Rattle.lfs_model.specs.Slots.{no_gstate}
-use Rattle.lfs_model.specs.Content.{RawContent, has_commit, raw_at}
+use Rattle.lfs_model.specs.Content.{RawContent, raw_at}
 use Rattle.lfs_model.specs.LoggedContent.{IsLogged}
 use Rattle.lfs_model.specs.Changes.{Change}
 use Rattle.lfs_model.specs.WrittenContent.{FitsRaw}
-use Rattle.lfs_pair.specs.Fresh.{ClearsLogs}
+use Rattle.lfs_pair.specs.Fresh.{ClearsLogs, HoldsFresh}
 use Rattle.lfs_pair.specs.declared.pair.Pair.{Pair}
 use Rattle.lfs_pair.specs.Pair.{address_in}
 use Rattle.lfs_pair.specs.Commit.{IsAddressOn, CanCommit, IsNow, IsStill, KeepsFirst, NowHolds, made_at}
@@ -63,11 +63,7 @@ pub record Splits (old : Disk) (before : List Event) (changes : List Change) (wa
   pub moved : pair.active ≢ was.active
   pub kept : block_at disk was.active ≡ block_at old was.active
   pub front_anew : Holds ((was.revision + 1) % 2 ^ 32) (front_of new cut fresh) (block_at disk pair.active)
-  -- the back stands in the fresh pair's first block, and no log is left in its second
-  pub fresh_active : fresh_pair.active ≡ fresh.0
-  pub back_anew : Holds 1 (back_of new cut) (block_at disk fresh.0)
-  pub cleared : has_commit (block_at disk fresh.1) ≡ false
-  pub erases : erases history ≡ erases before + 3
+  pub back_fresh : HoldsFresh (back_of new cut) disk fresh fresh_pair
   pub clears : ClearsLogs 2 before history
 
 -- both pairs hold their parts

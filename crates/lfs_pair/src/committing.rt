@@ -3,7 +3,7 @@
 ghost use Rattle.std.specs.Prelude.{◌≡◌, true, false, IfErr, OnErr, OnOk, Some, length};
 ghost use Rattle.lfs_device.specs.Shown.{disk_of};
 ghost use Rattle.lfs_model.specs.Blocks.{block_in};
-ghost use Rattle.lfs_device.specs.Calls.{ChangesOnly, TellsFaults};
+ghost use Rattle.lfs_device.specs.Calls.{TellsFaults};
 ghost use Rattle.lfs_model.specs.History.{EachSince, LeavesOnly};
 ghost use Rattle.lfs_model.specs.Stops.{ErasesCleanly, Stops};
 ghost use Rattle.lfs_model.specs.WrittenContent.{FitsRaw};
@@ -11,7 +11,8 @@ ghost use Rattle.lfs_model.specs.LoggedContent.{HaveNames, IsLogged};
 ghost use Rattle.lfs_tag.specs.ContentSeen.{content_seen};
 ghost use Rattle.lfs_pair.specs.Pair.{address_in};
 ghost use Rattle.lfs_pair.specs.ChangeSeen.{changes_seen};
-ghost use Rattle.lfs_pair.specs.Commit.{made_at, blocks_of, CanCommit, Commits, Fails, IsFull, NowHolds, Appends, IsAddressOn, IsAppended, IsCompacted, IsActive, KeepsFirst, LeftByChange, LeftWith};
+ghost use Rattle.lfs_pair.specs.Commit.{made_at, blocks_of, AppendsNow, CanCommit, Commits, CompactsNow, Fails, HasNoRoom, IsFull, IsAddressOn, IsActive, LeftByChange, LeftWith};
+ghost use Rattle.lfs_pair.specs.Writing.{ChangesReading, WritesOnly};
 
 use crate::change::Change;
 use crate::entries::push_changes;
@@ -36,7 +37,7 @@ pub enum Outcome {
 /// appended to the log of the block that holds where the padded commit ends within the block.
 /// Else, and first of all after a [`fetch`](crate::fetch), since nothing is known of what lies
 /// behind the log then, the pair's other block is erased, and what the pair is to hold is written
-/// into it (DESIGN.md of littlefs, "Metadata pairs").
+/// into it (DESIGN.md of littlefs, "Metadata pairs"). It takes at most two reads.
 ///
 /// `Full` exactly where what the changes make exceeds what [`fits`] a pair; nothing is written
 /// then, and the pair stays as it was. `NoMemory` where there is no room for two blocks and the
@@ -61,7 +62,7 @@ pub fn commit<D: BlockDevice>(
         → Commits (disk_of (D.geometry dev.old) (D.blocks dev.old)) (D.history dev.old) (changes_seen changes.now) pair.old (disk_of (D.geometry dev.new) (D.blocks dev.new)) (D.history dev.new) pair.new }
     ensures full { result ≡ Ok Outcome.Full → IsFull D.BlockDevice (changes_seen changes.now) dev.old dev.new pair.old pair.new }
     ensures error { IfErr result (λ e. Fails D.BlockDevice dev.old dev.new pair.old pair.new e) }
-    ensures device { ChangesOnly D.BlockDevice (blocks_of (address_in pair.old)) dev.old dev.new }
+    ensures device { ChangesReading D.BlockDevice 2 (blocks_of (address_in pair.old)) dev.old dev.new }
     ensures faults { TellsFaults D.BlockDevice dev.old dev.new result }
     ensures stops { EachSince ErasesCleanly (D.history dev.old) (D.history dev.new)
         → LeavesOnly Stops (D.history dev.old) (D.history dev.new) (LeftByChange (disk_of (D.geometry dev.old) (D.blocks dev.old)) (address_in pair.old) (changes_seen changes.now)) }
@@ -90,7 +91,7 @@ pub fn commit_in<'a, 'b: 'a, D: BlockDevice>(
         → Commits (disk_of (D.geometry dev.old) (D.blocks dev.old)) (D.history dev.old) (changes_seen changes.now) pair.old (disk_of (D.geometry dev.new) (D.blocks dev.new)) (D.history dev.new) pair.new }
     ensures full { result ≡ Ok Outcome.Full → IsFull D.BlockDevice (changes_seen changes.now) dev.old dev.new pair.old pair.new }
     ensures error { IfErr result (λ e. Fails D.BlockDevice dev.old dev.new pair.old pair.new e) }
-    ensures device { ChangesOnly D.BlockDevice (blocks_of (address_in pair.old)) dev.old dev.new }
+    ensures device { ChangesReading D.BlockDevice 1 (blocks_of (address_in pair.old)) dev.old dev.new }
     ensures faults { TellsFaults D.BlockDevice dev.old dev.new result }
     ensures stops { EachSince ErasesCleanly (D.history dev.old) (D.history dev.new)
         → LeavesOnly Stops (D.history dev.old) (D.history dev.new) (LeftByChange (disk_of (D.geometry dev.old) (D.blocks dev.old)) (address_in pair.old) (changes_seen changes.now)) }
@@ -122,20 +123,12 @@ fn append<D: BlockDevice>(
     requires made { made_at (disk_of (D.geometry dev.old) (D.blocks dev.old)) (address_in pair.old) (changes_seen changes.now) ≡ Some (content_seen content.now) }
     requires buf { length buf.old ≡ (D.geometry dev.old).block_size }
 
-    ensures done { result ≡ Ok true
-        → NowHolds (disk_of (D.geometry dev.new) (D.blocks dev.new)) (D.history dev.new) (address_in pair.old) pair.new (content_seen content.now) }
-    ensures first { result ≡ Ok true
-        → KeepsFirst (disk_of (D.geometry dev.old) (D.blocks dev.old)) (address_in pair.old) (Some (content_seen content.now)) (disk_of (D.geometry dev.new) (D.blocks dev.new)) }
-    ensures appends { result ≡ Ok true → Appends (disk_of (D.geometry dev.old) (D.blocks dev.old)) pair.old (changes_seen changes.now) }
-    ensures appended { result ≡ Ok true → IsAppended (D.geometry dev.old).page pair.old (changes_seen changes.now) (D.blocks dev.old) (D.blocks dev.new) (D.history dev.old) (D.history dev.new) pair.new }
-    ensures no_room { result ≡ Ok false → ¬ Appends (disk_of (D.geometry dev.old) (D.blocks dev.old)) pair.old (changes_seen changes.now) }
-    ensures no_room_pair { result ≡ Ok false → pair.new ≡ pair.old }
-    ensures no_room_dev { result ≡ Ok false → dev.new ≡ dev.old }
-    ensures no_room_buf { length buf.new ≡ length buf.old }
+    ensures done { result ≡ Ok true → AppendsNow (disk_of (D.geometry dev.old) (D.blocks dev.old)) (D.history dev.old) pair.old (changes_seen changes.now) (content_seen content.now)
+        (disk_of (D.geometry dev.new) (D.blocks dev.new)) (D.history dev.new) pair.new }
+    ensures no_room { result ≡ Ok false → HasNoRoom D.BlockDevice (changes_seen changes.now) dev.old dev.new pair.old pair.new }
+    ensures buf { length buf.new ≡ length buf.old }
     ensures err_pair { OnErr result (pair.new ≡ pair.old) }
-    ensures errors { IfErr result (λ e. e ≡ Error.Io) }
-    ensures device { ChangesOnly D.BlockDevice (blocks_of (address_in pair.old)) dev.old dev.new }
-    ensures faults { TellsFaults D.BlockDevice dev.old dev.new result }
+    ensures writes { WritesOnly D.BlockDevice 1 (blocks_of (address_in pair.old)) dev.old dev.new result }
     ensures stops { LeavesOnly Stops (D.history dev.old) (D.history dev.new) (LeftWith (disk_of (D.geometry dev.old) (D.blocks dev.old)) (address_in pair.old) (content_seen content.now)) }
 {
     let geometry = dev.geometry();
@@ -165,13 +158,10 @@ pub(crate) fn compact<D: BlockDevice>(
     requires fits { FitsRaw (D.geometry dev.old).block_size (D.geometry dev.old).page (content_seen content.now) }
 
     ensures buf { length buf.new ≡ length buf.old }
-    ensures done { OnOk result (NowHolds (disk_of (D.geometry dev.new) (D.blocks dev.new)) (D.history dev.new) (address_in pair.old) pair.new (content_seen content.now)) }
-    ensures first { OnOk result (KeepsFirst (disk_of (D.geometry dev.old) (D.blocks dev.old)) (address_in pair.old) (Some (content_seen content.now)) (disk_of (D.geometry dev.new) (D.blocks dev.new))) }
-    ensures compacted { OnOk result (IsCompacted (D.geometry dev.old).page pair.old (content_seen content.now) (D.blocks dev.old) (D.blocks dev.new) (D.history dev.old) (D.history dev.new) pair.new) }
+    ensures done { OnOk result (CompactsNow (disk_of (D.geometry dev.old) (D.blocks dev.old)) (D.history dev.old) pair.old (content_seen content.now)
+        (disk_of (D.geometry dev.new) (D.blocks dev.new)) (D.history dev.new) pair.new) }
     ensures err_pair { OnErr result (pair.new ≡ pair.old) }
-    ensures errors { IfErr result (λ e. e ≡ Error.Io) }
-    ensures device { ChangesOnly D.BlockDevice (blocks_of (address_in pair.old)) dev.old dev.new }
-    ensures faults { TellsFaults D.BlockDevice dev.old dev.new result }
+    ensures writes { WritesOnly D.BlockDevice 1 (blocks_of (address_in pair.old)) dev.old dev.new result }
     ensures stops { EachSince ErasesCleanly (D.history dev.old) (D.history dev.new)
         → LeavesOnly Stops (D.history dev.old) (D.history dev.new) (LeftWith (disk_of (D.geometry dev.old) (D.blocks dev.old)) (address_in pair.old) (content_seen content.now)) }
 {

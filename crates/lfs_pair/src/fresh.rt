@@ -1,10 +1,9 @@
 // New pairs.
 
-ghost use Rattle.std.specs.Prelude.{◌≡◌, ◌⊎◌, ◌+◌, ◌<◌, false, [], ◌∷◌, length, IfErr, IfOk, OnOk};
+ghost use Rattle.std.specs.Prelude.{◌≡◌, ◌<◌, false, length, IfErr, IfOk, OnOk};
 ghost use Rattle.lfs_device.specs.Shown.{disk_of};
-ghost use Rattle.lfs_device.specs.Calls.{ChangesBlock, ChangesOnly, TellsFaults};
+ghost use Rattle.lfs_device.specs.Calls.{TellsFaults};
 ghost use Rattle.lfs_model.specs.Blocks.{block_in};
-ghost use Rattle.lfs_model.specs.History.{erases};
 ghost use Rattle.lfs_model.specs.Content.{has_commit};
 ghost use Rattle.lfs_model.specs.LoggedContent.{HaveNames, IsLogged};
 ghost use Rattle.lfs_model.specs.Slots.{address_of};
@@ -12,8 +11,8 @@ ghost use Rattle.lfs_model.specs.WrittenContent.{FitsRaw};
 ghost use Rattle.lfs_tag.specs.ContentSeen.{content_seen};
 ghost use Rattle.lfs_pair.specs.ChangeSeen.{changes_seen};
 ghost use Rattle.lfs_pair.specs.Commit.{IsAddressOn, NowHolds, blocks_of};
-ghost use Rattle.lfs_pair.specs.Writing.{Holds};
-ghost use Rattle.lfs_pair.specs.Fresh.{CanBeFresh, ClearsLogs, FailsUntouched, IsFresh};
+ghost use Rattle.lfs_pair.specs.Writing.{ChangesReading, WritesBlock, WritesOnly};
+ghost use Rattle.lfs_pair.specs.Fresh.{CanBeFresh, ClearsLogs, FailsUntouched, HoldsFresh, IsFresh};
 
 use crate::change::Change;
 use crate::making::made_of_nothing;
@@ -36,11 +35,8 @@ fn clear<D: BlockDevice>(dev: &mut D, block: u32, buf: &mut [u8]) -> Result<(), 
     requires buf { length buf.old ≡ (D.geometry dev.old).block_size }
     ensures cleared { OnOk result (has_commit (block_in (D.blocks dev.new) block) ≡ false) }
     ensures buf { length buf.new ≡ length buf.old }
-    ensures erases { OnOk result (erases (D.history dev.new) ≡ erases (D.history dev.old) + 1) }
     ensures clears { OnOk result (ClearsLogs 0 (D.history dev.old) (D.history dev.new)) }
-    ensures device { ChangesBlock D.BlockDevice block dev.old dev.new }
-    ensures errors { IfErr result (λ e. e ≡ Error.Io) }
-    ensures faults { TellsFaults D.BlockDevice dev.old dev.new result }
+    ensures writes { WritesBlock D.BlockDevice 1 block dev.old dev.new result }
 {
     let page = dev.geometry().page as usize;
     dev.erase(block)?;
@@ -65,16 +61,10 @@ pub(crate) fn write_fresh<D: BlockDevice>(
     requires fits { FitsRaw (D.geometry dev.old).block_size (D.geometry dev.old).page (content_seen content.now) }
 
     ensures holds { IfOk result (λ pair. NowHolds (disk_of (D.geometry dev.new) (D.blocks dev.new)) (D.history dev.new) (address_of blocks) pair (content_seen content.now)) }
-    ensures active { IfOk result (λ pair. pair.active ≡ (address_of blocks).0) }
-    ensures anew { OnOk result (Holds 1 (content_seen content.now) (block_in (D.blocks dev.new) (address_of blocks).0)) }
-    ensures cleared { OnOk result (has_commit (block_in (D.blocks dev.new) (address_of blocks).1) ≡ false) }
-    ensures revision { IfOk result (λ pair. pair.revision ≡ 1) }
+    ensures fresh { IfOk result (λ pair. HoldsFresh (content_seen content.now) (disk_of (D.geometry dev.new) (D.blocks dev.new)) (address_of blocks) pair) }
     ensures buf { length buf.new ≡ length buf.old }
-    ensures erases { OnOk result (erases (D.history dev.new) ≡ erases (D.history dev.old) + 2) }
     ensures clears { OnOk result (ClearsLogs 1 (D.history dev.old) (D.history dev.new)) }
-    ensures device { ChangesOnly D.BlockDevice (blocks_of (address_of blocks)) dev.old dev.new }
-    ensures errors { IfErr result (λ e. e ≡ Error.Io) }
-    ensures faults { TellsFaults D.BlockDevice dev.old dev.new result }
+    ensures writes { WritesOnly D.BlockDevice 2 (blocks_of (address_of blocks)) dev.old dev.new result }
 {
     let [first, second] = blocks;
     clear(dev, second, buf)?;
@@ -86,7 +76,7 @@ impl Pair {
     /// Makes a pair of two blocks, whatever they hold, and commits the changes to it. Both are
     /// erased; the first then holds, with revision 1. Where the second still has a log after its
     /// erase, which may leave any bytes, its first page is programmed with zeros before the first
-    /// is written, so that no old log is taken for the pair's.
+    /// is written, so that no old log is taken for the pair's. It takes at most two reads.
     ///
     /// `NoMemory` where there is no room for a block and the slots; the device is untouched then.
     /// `Io` where a call of the device failed. After it, and after a loss of power on the way, the
@@ -105,7 +95,7 @@ impl Pair {
 
         ensures fresh { IfOk result (λ pair. IsFresh (D.history dev.old) (changes_seen changes.now) (disk_of (D.geometry dev.new) (D.blocks dev.new)) (D.history dev.new) (address_of blocks) pair) }
         ensures error { IfErr result (λ e. FailsUntouched dev.old dev.new e) }
-        ensures device { ChangesOnly D.BlockDevice (blocks_of (address_of blocks)) dev.old dev.new }
+        ensures device { ChangesReading D.BlockDevice 2 (blocks_of (address_of blocks)) dev.old dev.new }
         ensures faults { TellsFaults D.BlockDevice dev.old dev.new result }
     {
         let content = made_of_nothing(alloc, changes)?;

@@ -1,11 +1,9 @@
 // What is kept of a pair.
 
-ghost use Rattle.std.specs.Prelude.{◌≡◌, false, is_some, length, map};
-ghost use Rattle.std.specs.Option.{option_map};
-ghost use Rattle.lfs_tag.specs.FieldsSeen.{move_seen};
-ghost use Rattle.lfs_model.specs.Content.{complete_all, completed};
-ghost use Rattle.lfs_tag.specs.ContentSeen.{content_seen, slot_seen, tail_seen};
-ghost use Rattle.lfs_pair.specs.Pair.{other_in};
+ghost use Rattle.std.specs.Prelude.{◌≡◌, false, is_some, map};
+ghost use Rattle.lfs_model.specs.Content.{complete_all};
+ghost use Rattle.lfs_tag.specs.ContentSeen.{content_seen, slot_seen};
+ghost use Rattle.lfs_pair.specs.Pair.{EndsWith, SumsUp, other_in};
 
 use crate::writing::Written;
 use lfs_tag::{Content, MoveState, Slot, Tag, Tail};
@@ -69,12 +67,8 @@ impl Pair {
         ensures blocks { result.blocks ≡ blocks }
         ensures active { result.active ≡ active }
         ensures revision { result.revision ≡ revision }
-        ensures end { result.end ≡ written.end }
-        ensures last { result.last ≡ written.last }
-        ensures slot_count { result.slot_count ≡ length (content_seen content.now).slots }
-        ensures tail { option_map tail_seen result.tail ≡ (content_seen content.now).tail }
-        ensures move_state { move_seen result.move_state ≡ (content_seen content.now).move }
-        ensures complete { result.is_complete ≡ is_some (completed (content_seen content.now)) }
+        ensures ends { EndsWith written.end written.last result }
+        ensures sums { SumsUp (content_seen content.now) result }
         ensures fetched { result.is_fetched ≡ false }
     {
         Pair {

@@ -3,7 +3,7 @@
 ghost use Rattle.std.specs.Prelude.{◌≡◌, IfErr, IfOk};
 ghost use Rattle.lfs_device.specs.Shown.{disk_of};
 ghost use Rattle.lfs_model.specs.Blocks.{block_in};
-ghost use Rattle.lfs_device.specs.Calls.{ChangesOnly, TellsFaults};
+ghost use Rattle.lfs_device.specs.Calls.{TellsFaults};
 ghost use Rattle.lfs_model.specs.History.{EachSince, LeavesOnly};
 ghost use Rattle.lfs_model.specs.Slots.{address_of};
 ghost use Rattle.lfs_model.specs.Stops.{ErasesCleanly, Stops};
@@ -12,6 +12,7 @@ ghost use Rattle.lfs_pair.specs.Pair.{address_in};
 ghost use Rattle.lfs_pair.specs.Commit.{Fails};
 ghost use Rattle.lfs_pair.specs.ChangeSeen.{changes_seen};
 ghost use Rattle.lfs_pair.specs.Cut.{CanBeCut};
+ghost use Rattle.lfs_pair.specs.Writing.{ChangesReading};
 ghost use Rattle.lfs_pair.specs.Split.{blocks_of_both, CanSplit, Splits, LeftBySplit, AreParts};
 
 use crate::change::Change;
@@ -28,7 +29,8 @@ use std::alloc::Global;
 /// pair keeps the first slots and its share of the global state, and gets a hard tail to the fresh
 /// one, which gets the other slots and the tail (DESIGN.md of littlefs, "The directory tree"). The
 /// fresh pair is written first, so that power lost on the way leaves the pair with what it held, or
-/// both pairs with what they are to hold. Answers the fresh pair.
+/// both pairs with what they are to hold. Answers the fresh pair. It takes
+/// at most four reads.
 ///
 /// `NoMemory` where there is no room for two blocks and the slots; nothing is written then. `Io`
 /// where a call of the device failed. After an error `pair` is as it was, but the device may hold
@@ -50,7 +52,7 @@ pub fn split<D: BlockDevice>(
     ensures splits { IfOk result (λ fresh_pair. Splits (disk_of (D.geometry dev.old) (D.blocks dev.old)) (D.history dev.old) (changes_seen changes.now) pair.old (address_of fresh)
         (disk_of (D.geometry dev.new) (D.blocks dev.new)) (D.history dev.new) pair.new fresh_pair) }
     ensures error { IfErr result (λ e. Fails D.BlockDevice dev.old dev.new pair.old pair.new e) }
-    ensures device { ChangesOnly D.BlockDevice (blocks_of_both (address_in pair.old) (address_of fresh)) dev.old dev.new }
+    ensures device { ChangesReading D.BlockDevice 4 (blocks_of_both (address_in pair.old) (address_of fresh)) dev.old dev.new }
     ensures faults { TellsFaults D.BlockDevice dev.old dev.new result }
     ensures stops { EachSince ErasesCleanly (D.history dev.old) (D.history dev.new)
         → LeavesOnly Stops (D.history dev.old) (D.history dev.new) (LeftBySplit (disk_of (D.geometry dev.old) (D.blocks dev.old)) (address_in pair.old) (address_of fresh) (changes_seen changes.now)) }
@@ -60,7 +62,8 @@ pub fn split<D: BlockDevice>(
     Ok(fresh_pair)
 }
 
-/// [`split`] of a pair whose active block has these bytes, which a cache may have.
+/// [`split`] of a pair whose active block has these bytes, which a cache may have. It takes at most
+/// three reads.
 ///
 /// That the block has these bytes is the caller's condition, beside those of [`split`]. `NoMemory`
 /// where there is no room for a block and the slots; nothing is written then.
@@ -78,7 +81,7 @@ pub fn split_in<'a, 'b: 'a, D: BlockDevice>(
     ensures splits { IfOk result (λ fresh_pair. Splits (disk_of (D.geometry dev.old) (D.blocks dev.old)) (D.history dev.old) (changes_seen changes.now) pair.old (address_of fresh)
         (disk_of (D.geometry dev.new) (D.blocks dev.new)) (D.history dev.new) pair.new fresh_pair) }
     ensures error { IfErr result (λ e. Fails D.BlockDevice dev.old dev.new pair.old pair.new e) }
-    ensures device { ChangesOnly D.BlockDevice (blocks_of_both (address_in pair.old) (address_of fresh)) dev.old dev.new }
+    ensures device { ChangesReading D.BlockDevice 3 (blocks_of_both (address_in pair.old) (address_of fresh)) dev.old dev.new }
     ensures faults { TellsFaults D.BlockDevice dev.old dev.new result }
     ensures stops { EachSince ErasesCleanly (D.history dev.old) (D.history dev.new)
         → LeavesOnly Stops (D.history dev.old) (D.history dev.new) (LeftBySplit (disk_of (D.geometry dev.old) (D.blocks dev.old)) (address_in pair.old) (address_of fresh) (changes_seen changes.now)) }

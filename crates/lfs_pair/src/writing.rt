@@ -1,18 +1,17 @@
 // Commits, written to a block of the device.
 
-ghost use Rattle.std.specs.Prelude.{◌≡◌, ◌<◌, ◌≤◌, ◌+◌, ◌%◌, ◌^◌, [], ◌∷◌, length, take, IfOk, IfErr, OnOk};
+ghost use Rattle.std.specs.Prelude.{◌≡◌, ◌<◌, ◌≤◌, ◌+◌, ◌%◌, length, IfOk, IfErr, OnOk};
 ghost use Rattle.lfs_device.specs.Shown.{disk_of};
-ghost use Rattle.lfs_device.specs.Calls.{ChangesBlock, ReadsOnly, TellsFaults};
+ghost use Rattle.lfs_device.specs.Calls.{ReadsOnly, TellsFaults};
 ghost use Rattle.lfs_model.specs.Blocks.{block_in};
-ghost use Rattle.lfs_model.specs.History.{AllUnprogrammed, EachSince, LeavesOnly, erases, programs};
-ghost use Rattle.lfs_model.specs.Log.{chain_of};
+ghost use Rattle.lfs_model.specs.History.{AllUnprogrammed, EachSince, LeavesOnly, erases, programs, reads};
 ghost use Rattle.lfs_model.specs.LoggedContent.{HaveNames, IsLogged};
 ghost use Rattle.lfs_model.specs.Commit.{entries_size, next_at, page_end};
 ghost use Rattle.lfs_model.specs.Stops.{ErasesCleanly, Stops};
 ghost use Rattle.lfs_model.specs.WrittenContent.{FitsRaw, written_entries};
 ghost use Rattle.lfs_tag.specs.Builder.{GoesTo, padded_end};
 ghost use Rattle.lfs_tag.specs.ContentSeen.{content_seen};
-ghost use Rattle.lfs_pair.specs.Writing.{Gets, Holds, LeftByCommit, LeftByWriting, LeftInBlock};
+ghost use Rattle.lfs_pair.specs.Writing.{Adds, HoldsAnew, IsWritten, LeftByCommit, LeftByWriting, LeftInBlock, WritesBlock};
 
 use crate::entries::push_content;
 use lfs_device::{BlockDevice, Error};
@@ -35,6 +34,7 @@ fn next_bytes<D: BlockDevice>(dev: &mut D, block: u32, at: u32) -> Result<Option
     ensures device { ReadsOnly D.BlockDevice dev.old dev.new }
     ensures errors { IfErr result (λ e. e ≡ Error.Io) }
     ensures faults { TellsFaults D.BlockDevice dev.old dev.new result }
+    ensures few { reads (D.history dev.new) ≤ reads (D.history dev.old) + 1 }
 {
     if dev.geometry().block_size - at < 4 {
         return Ok(None);
@@ -59,19 +59,11 @@ pub(crate) fn program<D: BlockDevice>(
     requires goes { GoesTo builder.revision builder.previous (block_in (D.blocks dev.old) block) at }
     requires unprogrammed { AllUnprogrammed (D.history dev.old) block at (D.geometry dev.old).block_size }
 
-    ensures commit { OnOk result (Gets builder.entry (block_in (D.blocks dev.old) block) (block_in (D.blocks dev.new) block)) }
-    ensures end { IfOk result (λ written. written.end ≡ at + padded_end builder.entry) }
-    ensures pages { IfOk result (λ written. written.end % (D.geometry dev.old).page ≡ 0) }
-    ensures chain { IfOk result (λ written. written.end ≡ (chain_of (block_in (D.blocks dev.new) block)).end) }
-    ensures last { IfOk result (λ written. written.last ≡ (chain_of (block_in (D.blocks dev.new) block)).last) }
-    ensures behind { IfOk result (λ written. AllUnprogrammed (D.history dev.new) block written.end (D.geometry dev.old).block_size) }
-    ensures before { OnOk result (take at (block_in (D.blocks dev.new) block) ≡ take at (block_in (D.blocks dev.old) block)) }
-
-    ensures device { ChangesBlock D.BlockDevice block dev.old dev.new }
+    ensures adds { IfOk result (λ written. Adds builder.entry at written.end (block_in (D.blocks dev.old) block) (block_in (D.blocks dev.new) block)) }
+    ensures written { IfOk result (λ written. IsWritten (disk_of (D.geometry dev.new) (D.blocks dev.new)) (D.history dev.new) block written.end written.last) }
+    ensures writes { WritesBlock D.BlockDevice 1 block dev.old dev.new result }
     ensures erases { erases (D.history dev.new) ≡ erases (D.history dev.old) }
     ensures programs { OnOk result (programs (D.history dev.new) ≡ programs (D.history dev.old) + 1) }
-    ensures errors { IfErr result (λ e. e ≡ Error.Io) }
-    ensures faults { TellsFaults D.BlockDevice dev.old dev.new result }
     ensures stops { LeavesOnly Stops (D.history dev.old) (D.history dev.new) (LeftInBlock block (LeftByCommit builder.entry at) (D.blocks dev.old)) }
 {
     let end = at + builder.end();
@@ -101,18 +93,9 @@ pub(crate) fn write_anew<D: BlockDevice>(
     requires fits { FitsRaw (D.geometry dev.old).block_size (D.geometry dev.old).page (content_seen content.now) }
 
     ensures size { IfOk result (λ written. written.end ≡ page_end (D.geometry dev.old).page (4 + entries_size (written_entries (content_seen content.now)))) }
-    ensures holds { OnOk result (Holds revision (content_seen content.now) (block_in (D.blocks dev.new) block)) }
-    ensures end { IfOk result (λ written. written.end ≡ (chain_of (block_in (D.blocks dev.new) block)).end) }
-    ensures last { IfOk result (λ written. written.last ≡ (chain_of (block_in (D.blocks dev.new) block)).last) }
-    ensures pages { IfOk result (λ written. written.end % (D.geometry dev.old).page ≡ 0) }
-    ensures behind { IfOk result (λ written. AllUnprogrammed (D.history dev.new) block written.end (D.geometry dev.old).block_size) }
-
-    ensures device { ChangesBlock D.BlockDevice block dev.old dev.new }
-    ensures erases { OnOk result (erases (D.history dev.new) ≡ erases (D.history dev.old) + 1) }
-    ensures programs { OnOk result (programs (D.history dev.new) ≡ programs (D.history dev.old) + 1) }
-    ensures errors { IfErr result (λ e. e ≡ Error.Io) }
-    ensures faults { TellsFaults D.BlockDevice dev.old dev.new result }
-
+    ensures written { IfOk result (λ written. IsWritten (disk_of (D.geometry dev.new) (D.blocks dev.new)) (D.history dev.new) block written.end written.last) }
+    ensures anew { OnOk result (HoldsAnew revision (content_seen content.now) (block_in (D.blocks dev.new) block) (D.history dev.old) (D.history dev.new)) }
+    ensures writes { WritesBlock D.BlockDevice 1 block dev.old dev.new result }
     ensures stops { EachSince ErasesCleanly (D.history dev.old) (D.history dev.new)
         → LeavesOnly Stops (D.history dev.old) (D.history dev.new) (LeftInBlock block (LeftByWriting revision (content_seen content.now)) (D.blocks dev.old)) }
 {

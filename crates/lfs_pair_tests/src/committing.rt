@@ -8,7 +8,7 @@ ghost use Rattle.lfs_pair.specs.ChangeSeen.{changes_seen};
 ghost use Rattle.lfs_pair_tests.specs.Kept.{IsKept};
 
 use crate::images::{Half, SYNC, Seen, TAIL, device, seen};
-use crate::trial::{fetch_first, set_often, try_commit};
+use crate::trial::{fetch_first, set_often, try_commit, try_commit_in};
 use lfs_device::{BlockDevice, Erased, Error, FaultDevice, Geometry, RamDevice, Which, read_block};
 use lfs_pair::{Change, Outcome, Pair, fetch};
 use lfs_tag::kinds::FILE_NAME;
@@ -79,6 +79,19 @@ fn commit_fetched<D: BlockDevice>(
     Ok((outcome, pair))
 }
 
+// The same of a pair whose block is at hand.
+fn commit_at_hand<D: BlockDevice>(
+    alloc: Global,
+    dev: &mut D,
+    changes: &[Change<'_>],
+) -> Result<Outcome, Error>
+    requires { list_all is_storable (changes_seen changes.now) ≡ true }
+{
+    let mut pair = fetch_first(alloc, dev)?;
+    let outcome = try_commit_in(alloc, dev, &mut pair, changes)?;
+    Ok(outcome)
+}
+
 const SEVENS: [u8; 831] = [7; 831];
 
 // An attribute of so many bytes, of at most 831.
@@ -91,6 +104,21 @@ fn long_attribute(len: usize) -> [Change<'static>; 1]
         attr: 0x41,
         bytes: &SEVENS[..len],
     }]
+}
+
+// The fetch reads two blocks, and the trial the one that holds. The commit then reads the four bytes
+// behind what it programs, and the block once more only where its bytes aren't given to it.
+#[test]
+fn a_block_at_hand_is_not_read(rt: HostRuntime) -> Result<(), Fail> {
+    let mut device = counted(rt.alloc(), 1)?;
+    let outcome = commit_at_hand(rt.alloc(), &mut device, &long_attribute(1));
+    assert_eq!(rt; outcome, Ok(Outcome::Done));
+    assert_eq!(rt; device.calls(Which::Read), 4);
+    let mut device = counted(rt.alloc(), 1)?;
+    let (outcome, _) = commit_fetched(rt.alloc(), &mut device, &long_attribute(1))?;
+    assert_eq!(rt; outcome, Outcome::Done);
+    assert_eq!(rt; device.calls(Which::Read), 5);
+    Ok(())
 }
 
 // The slots take 12 and 11 bytes, so an attribute of 830 bytes makes 857, which is the capacity.

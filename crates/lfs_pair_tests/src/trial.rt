@@ -11,7 +11,7 @@ ghost use Rattle.lfs_pair.specs.ChangeSeen.{changes_seen};
 ghost use Rattle.lfs_pair_tests.specs.Kept.{CanMake, IsKept};
 
 use lfs_device::{BlockDevice, Error, read_block};
-use lfs_pair::{Change, Outcome, Pair, apply_all, commit, fetch};
+use lfs_pair::{Change, Outcome, Pair, apply_all, commit, commit_in, fetch};
 use lfs_tag::{Content, ContentError, Log, Slot};
 use std::alloc::Global;
 
@@ -65,6 +65,25 @@ pub fn try_commit<D: BlockDevice>(
         return Err(Error::Invalid);
     }
     let outcome = commit(alloc, dev, pair, changes)?;
+    Ok(outcome)
+}
+
+// Commits the changes to a pair whose block was read to find out whether they may be made, so that it
+// is at hand.
+pub fn try_commit_in<D: BlockDevice>(
+    alloc: Global,
+    dev: &mut D,
+    pair: &mut Pair,
+    changes: &[Change<'_>],
+) -> Result<Outcome, Error>
+    requires kept { IsKept (disk_of (D.geometry dev.old) (D.blocks dev.old)) (D.history dev.old) pair.old }
+    requires storable { list_all is_storable (changes_seen changes.now) ≡ true }
+{
+    let block = read_block(alloc, dev, pair.active)?;
+    if !can_make(alloc, &block, changes)? {
+        return Err(Error::Invalid);
+    }
+    let outcome = commit_in(alloc, dev, pair, &block, changes)?;
     Ok(outcome)
 }
 

@@ -1,17 +1,16 @@
 use Rattle.lfs_model.specs.Blocks.{block_in}
-use Rattle.lfs_pair.specs.Writing.{Holds}
-use Rattle.std.proofs.Common.{ℕ, ◌+◌, ◌%◌, ◌^◌, refl, sym, ap, ◌∙◌, subst, arith}
+use Rattle.lfs_pair.specs.Writing.{HoldsAnew}
+use Rattle.std.proofs.Common.{rules, ℕ, ◌+◌, ◌%◌, ◌^◌, refl, sym, ap, ◌∙◌, subst, arith}
 use Rattle.lfs_device.specs.Shown.{disk_of}
-use Rattle.lfs_model.specs.History.{AllUnprogrammed}
 use Rattle.lfs_model.specs.Slots.{address_of}
 use Rattle.lfs_tag.specs.ContentSeen.{content_seen}
 use Rattle.std.proofs.Common.{Some}
-use Rattle.lfs_pair.specs.Commit.{NowHolds, KeepsFirst}
+use Rattle.lfs_pair.specs.Commit.{KeepsFirst}
 use Rattle.lfs_model.proofs.Histories.{LeavesOnly-weaker}
 use Rattle.lfs_pair.specs.Pair.{address_in}
 use Rattle.lfs_pair.proofs.TwoBlocks.{other_is, below_count}
 use Rattle.lfs_pair.proofs.Calls.{only_block}
-use Rattle.lfs_pair.proofs.Changed.{is_compacting, compacted, compacted_first, now_holds, left_by_compaction}
+use Rattle.lfs_pair.proofs.Changed.{IsIn, is_compacting, compacted, compacted_first, now_holds, left_by_compaction}
 use Rattle.lfs_pair.proofs.committing.compact.Goals as goal
 
 pub write_anew-requires-clause-in_device : goal.write_anew-requires-clause-in_device
@@ -29,27 +28,25 @@ returns-in_err-written-clause-stops g c cleanly =
 pub returns-clause-done : goal.returns-clause-done
 returns-clause-done g c =
     let ready = is_compacting _ c.args.pair.now c.other-other.result ((c.args.pair.now.revision + 1) % 2 ^ 32) c.requires.address c.requires.active c.other-other.ensures (omega arith) refl in
-    let holds = compacted _ _ _ _ _ _ (g.D.BlockDevice.blocks c.write_anew.new.dev) ready c.in_ok-written.ensures.device.others c.in_ok-written.ensures.holds in
-    subst (λ k. NowHolds (disk_of k (g.D.BlockDevice.blocks c.write_anew.new.dev)) (g.D.BlockDevice.history c.write_anew.new.dev) (address_in c.args.pair.now) c.written.result (content_seen c.args.content.now))
-    (sym c.in_ok-written.ensures.device.geometry)
-    (now_holds _ _ _ c.written.result c.other-other.result _ holds
-    (ap address_of c.written.ensures.blocks) c.written.ensures.active c.written.ensures.fetched
-    (c.written.ensures.end ∙ c.in_ok-written.ensures.end) (c.written.ensures.last ∙ c.in_ok-written.ensures.last)
-    (c.written.ensures.revision ∙ sym c.in_ok-written.ensures.holds.revision_is)
-    c.written.ensures.slot_count c.written.ensures.tail c.written.ensures.move_state c.written.ensures.complete c.requires.logged
-    (ap (λ e. e % (g.D.BlockDevice.geometry c.args.dev.now).page) c.written.ensures.end ∙ c.in_ok-written.ensures.pages)
-    (subst (λ e. AllUnprogrammed (g.D.BlockDevice.history c.write_anew.new.dev) c.other-other.result e (g.D.BlockDevice.geometry c.args.dev.now).block_size) (sym c.written.ensures.end) c.in_ok-written.ensures.behind))
-
-pub returns-clause-compacted : goal.returns-clause-compacted
-returns-clause-compacted g c =
-    let ready = is_compacting _ c.args.pair.now c.other-other.result ((c.args.pair.now.revision + 1) % 2 ^ 32) c.requires.address c.requires.active c.other-other.ensures (omega arith) refl in
+    let device = c.in_ok-written.ensures.writes.device in
+    let anew = c.in_ok-written.ensures.anew in
+    let holds = subst (λ k. IsIn (disk_of k (g.D.BlockDevice.blocks c.write_anew.new.dev)) (address_in c.args.pair.now) c.other-other.result (content_seen c.args.content.now)) (sym device.geometry)
+    (compacted _ _ _ _ _ _ (g.D.BlockDevice.blocks c.write_anew.new.dev) ready device.others anew.holds) in
     record {
-      active = λ same. ready.apart (sym same ∙ c.written.ensures.active);
-      anew = subst (λ (b : ℕ). Holds ((c.args.pair.now.revision + 1) % 2 ^ 32) (content_seen c.args.content.now) (block_in (g.D.BlockDevice.blocks c.write_anew.new.dev) b)) (sym c.written.ensures.active) c.in_ok-written.ensures.holds;
-      end = c.written.ensures.end ∙ c.in_ok-written.ensures.size;
-      erases = c.in_ok-written.ensures.erases;
-      programs = c.in_ok-written.ensures.programs;
-      kept = c.in_ok-written.ensures.device.others.others c.args.pair.now.active ready.apart;
+      holds = now_holds _ _ _ c.written.result c.other-other.result _ holds
+          (ap address_of c.written.ensures.blocks) c.written.ensures.active c.written.ensures.fetched
+          (c.written.ensures.revision ∙ sym anew.holds.revision_is)
+          c.written.ensures.ends c.in_ok-written.ensures.written c.written.ensures.sums c.requires.logged;
+      first = subst (λ k. KeepsFirst (disk_of (g.D.BlockDevice.geometry c.args.dev.now) (g.D.BlockDevice.blocks c.args.dev.now)) (address_in c.args.pair.now) (Some (content_seen c.args.content.now)) (disk_of k (g.D.BlockDevice.blocks c.write_anew.new.dev)))
+          (sym device.geometry)
+          (compacted_first _ _ _ _ _ _ (g.D.BlockDevice.blocks c.write_anew.new.dev) ready device.others anew.holds);
+      compacted = record {
+        active = λ same. ready.apart (sym same ∙ c.written.ensures.active);
+        anew = subst (λ (b : ℕ). HoldsAnew ((c.args.pair.now.revision + 1) % 2 ^ 32) (content_seen c.args.content.now) (block_in (g.D.BlockDevice.blocks c.write_anew.new.dev) b)
+            (g.D.BlockDevice.history c.args.dev.now) (g.D.BlockDevice.history c.write_anew.new.dev)) (sym c.written.ensures.active) anew;
+        end = c.written.ensures.ends.end_is ∙ c.in_ok-written.ensures.size;
+        kept = device.others.others c.args.pair.now.active ready.apart;
+      };
     }
 
 pub returns-clause-stops : goal.returns-clause-stops
@@ -57,19 +54,12 @@ returns-clause-stops g c cleanly =
     let ready = is_compacting _ c.args.pair.now c.other-other.result ((c.args.pair.now.revision + 1) % 2 ^ 32) c.requires.address c.requires.active c.other-other.ensures (omega arith) refl in
     LeavesOnly-weaker (λ disk left. left_by_compaction _ _ _ _ _ _ disk ready left) (c.in_ok-written.ensures.stops cleanly)
 
-pub returns-clause-first : goal.returns-clause-first
-returns-clause-first g c =
+pub returns-in_err-written-clause-writes : goal.returns-in_err-written-clause-writes
+returns-in_err-written-clause-writes g c =
     let ready = is_compacting _ c.args.pair.now c.other-other.result ((c.args.pair.now.revision + 1) % 2 ^ 32) c.requires.address c.requires.active c.other-other.ensures (omega arith) refl in
-    subst (λ k. KeepsFirst (disk_of (g.D.BlockDevice.geometry c.args.dev.now) (g.D.BlockDevice.blocks c.args.dev.now)) (address_in c.args.pair.now) (Some (content_seen c.args.content.now)) (disk_of k (g.D.BlockDevice.blocks c.write_anew.new.dev)))
-    (sym c.in_ok-written.ensures.device.geometry)
-    (compacted_first _ _ _ _ _ _ (g.D.BlockDevice.blocks c.write_anew.new.dev) ready c.in_ok-written.ensures.device.others c.in_ok-written.ensures.holds)
+    record { device = only_block (address_in c.args.pair.now) (other_is _ _ _ _ ready.sides) c.in_err-written.ensures.writes.device; few = c.in_err-written.ensures.writes.few; errors = search rules; faults = search rules }
 
-pub returns-in_err-written-clause-device : goal.returns-in_err-written-clause-device
-returns-in_err-written-clause-device g c =
+pub returns-clause-writes : goal.returns-clause-writes
+returns-clause-writes g c =
     let ready = is_compacting _ c.args.pair.now c.other-other.result ((c.args.pair.now.revision + 1) % 2 ^ 32) c.requires.address c.requires.active c.other-other.ensures (omega arith) refl in
-    only_block (address_in c.args.pair.now) (other_is _ _ _ _ ready.sides) c.in_err-written.ensures.device
-
-pub returns-clause-device : goal.returns-clause-device
-returns-clause-device g c =
-    let ready = is_compacting _ c.args.pair.now c.other-other.result ((c.args.pair.now.revision + 1) % 2 ^ 32) c.requires.address c.requires.active c.other-other.ensures (omega arith) refl in
-    only_block (address_in c.args.pair.now) (other_is _ _ _ _ ready.sides) c.in_ok-written.ensures.device
+    record { device = only_block (address_in c.args.pair.now) (other_is _ _ _ _ ready.sides) c.in_ok-written.ensures.writes.device; few = c.in_ok-written.ensures.writes.few; errors = search rules; faults = search rules }

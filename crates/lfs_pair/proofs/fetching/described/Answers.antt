@@ -15,10 +15,7 @@ returns-in-Ok-clause-describes c =
         end = c.requires.end;
         last = c.requires.last;
         revision = c.requires.revision;
-        slot_count = sums.slot_count;
-        tail = sums.tail;
-        move = sums.move_state;
-        complete = sums.complete;
+        sums = record { slot_count = sums.slot_count; tail = sums.tail; move = sums.move_state; complete = sums.complete };
         logged = logged c.args.bytes.now held (λ i. omega (arith, c.type_inv.bytes i)) content;
       },
     )

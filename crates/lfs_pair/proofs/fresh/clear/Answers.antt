@@ -1,9 +1,9 @@
-use Rattle.std.proofs.Common.{◌≡◌, ◌<◌, false, ◌∙◌, ap, sym, subst, arith}
+use Rattle.std.proofs.Common.{rules, ◌≡◌, ◌<◌, false, ◌∙◌, ap, sym, subst, arith}
 use Rattle.std.proofs.lemmas.List.{take-replicate}
 use Rattle.lfs_device.specs.declared.geometry.Geometry.{Geometry}
 use Rattle.lfs_model.specs.Blocks.{block_in}
 use Rattle.lfs_model.specs.Content.{has_commit}
-use Rattle.lfs_model.specs.History.{programs}
+use Rattle.lfs_model.specs.History.{programs, reads}
 use Rattle.lfs_model.proofs.Pages.{page_at_least, page_at_most}
 use Rattle.lfs_model.proofs.Zeroed.{no_commit-programmed}
 use Rattle.lfs_model.proofs.Histories.{began, goes_on, EachSince-only, EachSince-until}
@@ -11,20 +11,45 @@ use Rattle.lfs_model.proofs.Overwrites.{slice_range_whole}
 use Rattle.lfs_pair.proofs.Calls.{block_by_erase, block_by_program, block_by_reads, block_trans, reads_one}
 use Rattle.lfs_pair.proofs.fresh.clear.Goals as goal
 
-pub returns-in_err-erase-clause-device : goal.returns-in_err-erase-clause-device
-returns-in_err-erase-clause-device g c = block_by_erase c.erase.ensures.others c.erase.ensures.geometry c.erase.ensures.history
+pub returns-in_err-erase-clause-writes : goal.returns-in_err-erase-clause-writes
+returns-in_err-erase-clause-writes g c = record {
+  device = block_by_erase c.erase.ensures.others c.erase.ensures.geometry c.erase.ensures.history;
+  few = let a = ap reads c.erase.ensures.history in omega (arith, a);
+  errors = search rules;
+  faults = search rules;
+}
 
-pub returns-in_err-read-clause-device : goal.returns-in_err-read-clause-device
-returns-in_err-read-clause-device g c = block_trans (block_by_erase c.erase.ensures.others c.erase.ensures.geometry c.erase.ensures.history) (block_by_reads (reads_one c.read.ensures.same c.read.ensures.geometry c.read.ensures.history))
+pub returns-in_err-read-clause-writes : goal.returns-in_err-read-clause-writes
+returns-in_err-read-clause-writes g c = record {
+  device = block_trans (block_by_erase c.erase.ensures.others c.erase.ensures.geometry c.erase.ensures.history) (block_by_reads (reads_one c.read.ensures.same c.read.ensures.geometry c.read.ensures.history));
+  few = let a = ap reads c.erase.ensures.history in let b = ap reads c.read.ensures.history in omega (arith, a, b);
+  errors = search rules;
+  faults = search rules;
+}
 
-pub returns-in_err-prog-clause-device : goal.returns-in_err-prog-clause-device
-returns-in_err-prog-clause-device g c = block_trans (block_by_erase c.erase.ensures.others c.erase.ensures.geometry c.erase.ensures.history) (block_trans (block_by_reads (reads_one c.read.ensures.same c.read.ensures.geometry c.read.ensures.history)) (block_by_program c.prog.ensures.others c.prog.ensures.geometry c.prog.ensures.history))
+pub returns-in_err-prog-clause-writes : goal.returns-in_err-prog-clause-writes
+returns-in_err-prog-clause-writes g c = record {
+  device = block_trans (block_by_erase c.erase.ensures.others c.erase.ensures.geometry c.erase.ensures.history) (block_trans (block_by_reads (reads_one c.read.ensures.same c.read.ensures.geometry c.read.ensures.history)) (block_by_program c.prog.ensures.others c.prog.ensures.geometry c.prog.ensures.history));
+  few = let a = ap reads c.erase.ensures.history in let b = ap reads c.read.ensures.history in let d = ap reads c.prog.ensures.history in omega (arith, a, b, d);
+  errors = search rules;
+  faults = search rules;
+}
 
-pub returns-in_ok-prog-clause-device : goal.returns-in_ok-prog-clause-device
-returns-in_ok-prog-clause-device g c = block_trans (block_by_erase c.erase.ensures.others c.erase.ensures.geometry c.erase.ensures.history) (block_trans (block_by_reads (reads_one c.read.ensures.same c.read.ensures.geometry c.read.ensures.history)) (block_by_program c.prog.ensures.others c.prog.ensures.geometry c.prog.ensures.history))
+pub returns-in_ok-prog-clause-writes : goal.returns-in_ok-prog-clause-writes
+returns-in_ok-prog-clause-writes g c = record {
+  device = block_trans (block_by_erase c.erase.ensures.others c.erase.ensures.geometry c.erase.ensures.history) (block_trans (block_by_reads (reads_one c.read.ensures.same c.read.ensures.geometry c.read.ensures.history)) (block_by_program c.prog.ensures.others c.prog.ensures.geometry c.prog.ensures.history));
+  few = let a = ap reads c.erase.ensures.history in let b = ap reads c.read.ensures.history in let d = ap reads c.prog.ensures.history in omega (arith, a, b, d);
+  errors = search rules;
+  faults = search rules;
+}
 
-pub returns-else-has_commit-clause-device : goal.returns-else-has_commit-clause-device
-returns-else-has_commit-clause-device g c = block_trans (block_by_erase c.erase.ensures.others c.erase.ensures.geometry c.erase.ensures.history) (block_by_reads (reads_one c.read.ensures.same c.read.ensures.geometry c.read.ensures.history))
+pub returns-else-has_commit-clause-writes : goal.returns-else-has_commit-clause-writes
+returns-else-has_commit-clause-writes g c = record {
+  device = block_trans (block_by_erase c.erase.ensures.others c.erase.ensures.geometry c.erase.ensures.history) (block_by_reads (reads_one c.read.ensures.same c.read.ensures.geometry c.read.ensures.history));
+  few = let a = ap reads c.erase.ensures.history in let b = ap reads c.read.ensures.history in omega (arith, a, b);
+  errors = search rules;
+  faults = search rules;
+}
 
 pub returns-in_ok-prog-clause-cleared : goal.returns-in_ok-prog-clause-cleared
 returns-in_ok-prog-clause-cleared g c =
@@ -44,6 +69,7 @@ returns-in_ok-prog-clause-clears g c =
     let then = ap programs c.in_ok-read.ensures.history in
     let last = ap programs c.in_ok-prog.ensures.history in
     record {
+      erases = search rules;
       at_most = omega arith;
       programs = λ logs.
           let first = goes_on {P = λ _. Unit {0}} began c.in_ok-erase.ensures.history tt in

@@ -1,4 +1,4 @@
-use Rattle.std.proofs.Common.{◌∙◌}
+use Rattle.std.proofs.Common.{arith, ◌≤◌, ◌+◌, ◌∙◌}
 use Rattle.std.proofs.lemmas.Result.{err_from_is_err_and}
 use Rattle.lfs_pair.proofs.Erring.{fails_on, tells_ok, tells_on}
 use Rattle.std.proofs.Common.{ap₂, sym, subst}
@@ -9,7 +9,7 @@ use Rattle.lfs_pair.specs.Pair.{address_in}
 use Rattle.lfs_pair.specs.ChangeSeen.{changes_seen}
 use Rattle.lfs_pair.specs.Split.{CanSplit, LeftBySplit}
 use Rattle.lfs_pair.proofs.Behind.{splits_behind}
-use Rattle.lfs_pair.proofs.Calls.{only_by_reads, only_trans}
+use Rattle.lfs_pair.proofs.Calls.{few_at_error, few_by_read, reading_by_read, reading_trans}
 use Rattle.lfs_pair.proofs.Changed.{active_below}
 use Rattle.lfs_pair.proofs.Parted.{CanSplit-reads, left_before}
 use Rattle.lfs_pair.proofs.splitting.split.Goals as goal
@@ -31,28 +31,28 @@ returns-in_err-fresh_pair-clause-stops g c cleanly =
     let read = c.in_ok-block.ensures.device in
     goes_on_by (LeavesOnly-reads Stops-read read.reads (left_before _ _ _ _))
     (LeavesOnly-weaker (λ disk left. subst (λ old. LeftBySplit old (address_in c.args.pair.now) (address_of c.args.fresh) (changes_seen c.args.changes.now) disk) (ap₂ disk_of read.geometry read.same) left)
-    (c.in_err-fresh_pair.ensures.stops (EachSince-behind cleanly read.reads c.in_err-fresh_pair.ensures.device.at_worst)))
+    (c.in_err-fresh_pair.ensures.stops (EachSince-behind cleanly read.reads c.in_err-fresh_pair.ensures.device.only.at_worst)))
 
 pub returns-clause-stops : goal.returns-clause-stops
 returns-clause-stops g c cleanly =
     let read = c.in_ok-block.ensures.device in
     goes_on_by (LeavesOnly-reads Stops-read read.reads (left_before _ _ _ _))
     (LeavesOnly-weaker (λ disk left. subst (λ old. LeftBySplit old (address_in c.args.pair.now) (address_of c.args.fresh) (changes_seen c.args.changes.now) disk) (ap₂ disk_of read.geometry read.same) left)
-    (c.in_ok-fresh_pair.ensures.stops (EachSince-behind cleanly read.reads c.in_ok-fresh_pair.ensures.device.at_worst)))
+    (c.in_ok-fresh_pair.ensures.stops (EachSince-behind cleanly read.reads c.in_ok-fresh_pair.ensures.device.only.at_worst)))
 
 pub returns-clause-splits : goal.returns-clause-splits
 returns-clause-splits g c =
     let read = c.in_ok-block.ensures.device in
-    splits_behind (ap₂ disk_of read.geometry read.same) read.reads c.in_ok-fresh_pair.ensures.device.at_worst c.in_ok-fresh_pair.ensures.splits
+    splits_behind (ap₂ disk_of read.geometry read.same) read.reads c.in_ok-fresh_pair.ensures.device.only.at_worst c.in_ok-fresh_pair.ensures.splits
 
 pub returns-in_err-block-clause-device : goal.returns-in_err-block-clause-device
-returns-in_err-block-clause-device g c = only_by_reads c.in_err-block.ensures.device
+returns-in_err-block-clause-device g c = reading_by_read c.in_err-block.ensures.device (few_at_error c.in_err-block.ensures.errors c.in_err-block.ensures.io c.in_err-block.ensures.no_memory) (omega arith)
 
 pub returns-in_err-fresh_pair-clause-device : goal.returns-in_err-fresh_pair-clause-device
-returns-in_err-fresh_pair-clause-device g c = only_trans (only_by_reads c.in_ok-block.ensures.device) c.in_err-fresh_pair.ensures.device
+returns-in_err-fresh_pair-clause-device g c = reading_trans (reading_by_read {n = 1} c.in_ok-block.ensures.device (few_by_read c.in_ok-block.ensures.ok) (omega arith)) c.in_err-fresh_pair.ensures.device
 
 pub returns-clause-device : goal.returns-clause-device
-returns-clause-device g c = only_trans (only_by_reads c.in_ok-block.ensures.device) c.in_ok-fresh_pair.ensures.device
+returns-clause-device g c = reading_trans (reading_by_read {n = 1} c.in_ok-block.ensures.device (few_by_read c.in_ok-block.ensures.ok) (omega arith)) c.in_ok-fresh_pair.ensures.device
 
 pub returns-in_err-fresh_pair-clause-error : goal.returns-in_err-fresh_pair-clause-error
 returns-in_err-fresh_pair-clause-error g c =

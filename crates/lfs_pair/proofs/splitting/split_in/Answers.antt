@@ -1,4 +1,4 @@
-use Rattle.std.proofs.Common.{◌+◌, ◌%◌, ◌^◌, Some, ap, sym, ◌∙◌, subst, arith}
+use Rattle.std.proofs.Common.{arith, ◌≤◌, ◌+◌, ◌%◌, ◌^◌, Some, ap, sym, ◌∙◌, subst}
 use Rattle.lfs_model.specs.Blocks.{block_in}
 use Rattle.lfs_model.specs.Content.{RawContent, has_commit}
 use Rattle.lfs_pair.specs.Writing.{Holds}
@@ -37,22 +37,22 @@ compact-requires-clause-names g c =
 
 pub returns-in_err-fresh_pair-clause-stops : goal.returns-in_err-fresh_pair-clause-stops
 returns-in_err-fresh_pair-clause-stops g c cleanly =
-    LeavesOnly-weaker (λ disk left. left_while_fresh _ _ _ (changes_seen c.args.changes.now) disk c.requires.can.apart left) (LeavesOnly-worst c.in_err-fresh_pair.ensures.device.at_worst)
+    LeavesOnly-weaker (λ disk left. left_while_fresh _ _ _ (changes_seen c.args.changes.now) disk c.requires.can.apart left) (LeavesOnly-worst c.in_err-fresh_pair.ensures.writes.device.at_worst)
 
 pub compact-requires-clause-active : goal.compact-requires-clause-active
 compact-requires-clause-active g c =
     let fresh = c.in_ok-fresh_pair.ensures in
-    subst (λ k. IsActive (disk_of k (g.D.BlockDevice.blocks c.write_fresh.new.dev)) c.args.pair.now) (sym fresh.device.geometry)
-    (IsActive-stays (pair_elsewhere c.requires.can.apart) fresh.device.others (is_active _ _ c.args.pair.now _ c.requires.can.commit.is_pair))
+    subst (λ k. IsActive (disk_of k (g.D.BlockDevice.blocks c.write_fresh.new.dev)) c.args.pair.now) (sym fresh.writes.device.geometry)
+    (IsActive-stays (pair_elsewhere c.requires.can.apart) fresh.writes.device.others (is_active _ _ c.args.pair.now _ c.requires.can.commit.is_pair))
 
 pub returns-in_err-compact-clause-stops : goal.returns-in_err-compact-clause-stops
 returns-in_err-compact-clause-stops g c cleanly =
     let ready = is_splitting _ c.geometry-geometry.result _ _ c.args.pair.now (address_of c.args.fresh) c.args.block.now (changes_seen c.args.changes.now) (content_seen c.in_ok-front.front) (content_seen c.cut_off.new.content) (content_seen c.in_ok-back.back) c.geometry-geometry.ensures (g.met.D.BlockDevice.shape c.args.dev.now).count c.requires.can c.requires.block c.in_ok-front.ensures.content c.in_ok-front.ensures.logged c.in_ok-back.ensures.parts in
     let fresh = c.in_ok-fresh_pair.ensures in
-    goes_on_by (LeavesOnly-weaker (λ disk left. left_while_fresh _ _ _ (changes_seen c.args.changes.now) disk ready.apart left) (LeavesOnly-worst fresh.device.at_worst))
-    (LeavesOnly-weaker (λ disk left. left_while_old _ _ _ (changes_seen c.args.changes.now) (g.D.BlockDevice.blocks c.write_fresh.new.dev) disk ready.apart fresh.device.others ready.made ready.logged ready.parts (raw_held fresh.holds)
-    (subst (λ k. LeftWith (disk_of k (g.D.BlockDevice.blocks c.write_fresh.new.dev)) (address_in c.args.pair.now) (content_seen c.cut_off.new.content) disk) fresh.device.geometry left))
-    (c.in_err-compact.ensures.stops (EachSince-behind cleanly fresh.device.at_worst c.in_err-compact.ensures.device.at_worst)))
+    goes_on_by (LeavesOnly-weaker (λ disk left. left_while_fresh _ _ _ (changes_seen c.args.changes.now) disk ready.apart left) (LeavesOnly-worst fresh.writes.device.at_worst))
+    (LeavesOnly-weaker (λ disk left. left_while_old _ _ _ (changes_seen c.args.changes.now) (g.D.BlockDevice.blocks c.write_fresh.new.dev) disk ready.apart fresh.writes.device.others ready.made ready.logged ready.parts (raw_held fresh.holds)
+    (subst (λ k. LeftWith (disk_of k (g.D.BlockDevice.blocks c.write_fresh.new.dev)) (address_in c.args.pair.now) (content_seen c.cut_off.new.content) disk) fresh.writes.device.geometry left))
+    (c.in_err-compact.ensures.stops (EachSince-behind cleanly fresh.writes.device.at_worst c.in_err-compact.ensures.writes.device.at_worst)))
 
 pub returns-clause-splits : goal.returns-clause-splits
 returns-clause-splits g c =
@@ -64,42 +64,51 @@ returns-clause-splits g c =
       logged = ready.logged;
       cut = ready.parts.cut;
       is_cut = ready.parts.is_cut;
-      front = subst (NowHolds _ _ (address_in c.args.pair.now) c.compact.new.pair) ready.parts.front_is c.in_ok-compact.ensures.done;
+      front = subst (NowHolds _ _ (address_in c.args.pair.now) c.compact.new.pair) ready.parts.front_is c.in_ok-compact.ensures.done.holds;
       back = subst (NowHolds _ _ (address_of c.args.fresh) c.in_ok-fresh_pair.fresh_pair) ready.parts.back_is
-          (subst (λ k. NowHolds (disk_of k (g.D.BlockDevice.blocks c.compact.new.dev)) (g.D.BlockDevice.history c.compact.new.dev) (address_of c.args.fresh) c.in_ok-fresh_pair.fresh_pair (content_seen c.in_ok-back.back)) (sym c.in_ok-compact.ensures.device.geometry)
-          (NowHolds-stays {disk = disk_of (g.D.BlockDevice.geometry c.write_fresh.new.dev) (g.D.BlockDevice.blocks c.write_fresh.new.dev)} (fresh_elsewhere ready.apart) c.in_ok-compact.ensures.device.others c.in_ok-compact.ensures.device.elsewhere fresh.holds));
+          (subst (λ k. NowHolds (disk_of k (g.D.BlockDevice.blocks c.compact.new.dev)) (g.D.BlockDevice.history c.compact.new.dev) (address_of c.args.fresh) c.in_ok-fresh_pair.fresh_pair (content_seen c.in_ok-back.back)) (sym c.in_ok-compact.ensures.writes.device.geometry)
+          (NowHolds-stays {disk = disk_of (g.D.BlockDevice.geometry c.write_fresh.new.dev) (g.D.BlockDevice.blocks c.write_fresh.new.dev)} (fresh_elsewhere ready.apart) c.in_ok-compact.ensures.writes.device.others c.in_ok-compact.ensures.writes.device.elsewhere fresh.holds));
       first = subst (λ k. KeepsFirst (disk_of (g.D.BlockDevice.geometry c.args.dev.now) (g.D.BlockDevice.blocks c.args.dev.now)) (address_in c.args.pair.now) (Some k) (disk_of (g.D.BlockDevice.geometry c.compact.new.dev) (g.D.BlockDevice.blocks c.compact.new.dev))) ready.parts.front_is
-          (λ e h anew. c.in_ok-compact.ensures.first e (first_while_fresh (disk_of (g.D.BlockDevice.geometry c.args.dev.now) (g.D.BlockDevice.blocks c.args.dev.now)) (address_in c.args.pair.now) (address_of c.args.fresh) (g.D.BlockDevice.blocks c.write_fresh.new.dev) ready.apart fresh.device.others e h) anew);
-      moved = c.in_ok-compact.ensures.compacted.active;
-      kept = c.in_ok-compact.ensures.compacted.kept ∙ fresh.device.others.others c.args.pair.now.active (active_elsewhere (disk_of (g.D.BlockDevice.geometry c.args.dev.now) (g.D.BlockDevice.blocks c.args.dev.now)) c.args.pair.now.active (pair_elsewhere ready.apart) c.requires.can.commit.is_pair.active);
-      front_anew = subst (λ (k : RawContent). Holds ((c.args.pair.now.revision + 1) % 2 ^ 32) k (block_in (g.D.BlockDevice.blocks c.compact.new.dev) c.compact.new.pair.active)) ready.parts.front_is c.in_ok-compact.ensures.compacted.anew;
-      fresh_active = fresh.active;
-      back_anew = subst (λ (k : RawContent). Holds 1 k (block_in (g.D.BlockDevice.blocks c.compact.new.dev) (address_of c.args.fresh).0)) ready.parts.back_is
-          (subst (Holds 1 (content_seen c.in_ok-back.back)) (sym (c.in_ok-compact.ensures.device.others.others (address_of c.args.fresh).0 (fresh_elsewhere ready.apart).first)) fresh.anew);
+          (λ e h anew. c.in_ok-compact.ensures.done.first e (first_while_fresh (disk_of (g.D.BlockDevice.geometry c.args.dev.now) (g.D.BlockDevice.blocks c.args.dev.now)) (address_in c.args.pair.now) (address_of c.args.fresh) (g.D.BlockDevice.blocks c.write_fresh.new.dev) ready.apart fresh.writes.device.others e h) anew);
+      moved = c.in_ok-compact.ensures.done.compacted.active;
+      kept = c.in_ok-compact.ensures.done.compacted.kept ∙ fresh.writes.device.others.others c.args.pair.now.active (active_elsewhere (disk_of (g.D.BlockDevice.geometry c.args.dev.now) (g.D.BlockDevice.blocks c.args.dev.now)) c.args.pair.now.active (pair_elsewhere ready.apart) c.requires.can.commit.is_pair.active);
+      front_anew = subst (λ (k : RawContent). Holds ((c.args.pair.now.revision + 1) % 2 ^ 32) k (block_in (g.D.BlockDevice.blocks c.compact.new.dev) c.compact.new.pair.active)) ready.parts.front_is c.in_ok-compact.ensures.done.compacted.anew.holds;
+      back_fresh = record {
+        active = fresh.fresh.active;
+        revision_is = fresh.fresh.revision_is;
+        anew = subst (λ (k : RawContent). Holds 1 k (block_in (g.D.BlockDevice.blocks c.compact.new.dev) (address_of c.args.fresh).0)) ready.parts.back_is
+            (subst (Holds 1 (content_seen c.in_ok-back.back)) (sym (c.in_ok-compact.ensures.writes.device.others.others (address_of c.args.fresh).0 (fresh_elsewhere ready.apart).first)) fresh.fresh.anew);
+        cleared = ap has_commit (c.in_ok-compact.ensures.writes.device.others.others (address_of c.args.fresh).1 (fresh_elsewhere ready.apart).second) ∙ fresh.fresh.cleared;
+      };
       inside = cut_inside ready.parts.is_cut;
-      erases = let first = fresh.erases in let second = c.in_ok-compact.ensures.compacted.erases in omega (arith, first, second);
-      clears = clears_more (LeavesOnly-worst fresh.device.at_worst) (LeavesOnly-worst c.in_ok-compact.ensures.device.at_worst) fresh.clears c.in_ok-compact.ensures.compacted.programs;
-      cleared = ap has_commit (c.in_ok-compact.ensures.device.others.others (address_of c.args.fresh).1 (fresh_elsewhere ready.apart).second) ∙ fresh.cleared;
+      clears = clears_more (LeavesOnly-worst fresh.writes.device.at_worst) (LeavesOnly-worst c.in_ok-compact.ensures.writes.device.at_worst) fresh.clears c.in_ok-compact.ensures.done.compacted.anew;
     }
 
 pub returns-clause-stops : goal.returns-clause-stops
 returns-clause-stops g c cleanly =
     let ready = is_splitting _ c.geometry-geometry.result _ _ c.args.pair.now (address_of c.args.fresh) c.args.block.now (changes_seen c.args.changes.now) (content_seen c.in_ok-front.front) (content_seen c.cut_off.new.content) (content_seen c.in_ok-back.back) c.geometry-geometry.ensures (g.met.D.BlockDevice.shape c.args.dev.now).count c.requires.can c.requires.block c.in_ok-front.ensures.content c.in_ok-front.ensures.logged c.in_ok-back.ensures.parts in
     let fresh = c.in_ok-fresh_pair.ensures in
-    goes_on_by (LeavesOnly-weaker (λ disk left. left_while_fresh _ _ _ (changes_seen c.args.changes.now) disk ready.apart left) (LeavesOnly-worst fresh.device.at_worst))
-    (LeavesOnly-weaker (λ disk left. left_while_old _ _ _ (changes_seen c.args.changes.now) (g.D.BlockDevice.blocks c.write_fresh.new.dev) disk ready.apart fresh.device.others ready.made ready.logged ready.parts (raw_held fresh.holds)
-    (subst (λ k. LeftWith (disk_of k (g.D.BlockDevice.blocks c.write_fresh.new.dev)) (address_in c.args.pair.now) (content_seen c.cut_off.new.content) disk) fresh.device.geometry left))
-    (c.in_ok-compact.ensures.stops (EachSince-behind cleanly fresh.device.at_worst c.in_ok-compact.ensures.device.at_worst)))
+    goes_on_by (LeavesOnly-weaker (λ disk left. left_while_fresh _ _ _ (changes_seen c.args.changes.now) disk ready.apart left) (LeavesOnly-worst fresh.writes.device.at_worst))
+    (LeavesOnly-weaker (λ disk left. left_while_old _ _ _ (changes_seen c.args.changes.now) (g.D.BlockDevice.blocks c.write_fresh.new.dev) disk ready.apart fresh.writes.device.others ready.made ready.logged ready.parts (raw_held fresh.holds)
+    (subst (λ k. LeftWith (disk_of k (g.D.BlockDevice.blocks c.write_fresh.new.dev)) (address_in c.args.pair.now) (content_seen c.cut_off.new.content) disk) fresh.writes.device.geometry left))
+    (c.in_ok-compact.ensures.stops (EachSince-behind cleanly fresh.writes.device.at_worst c.in_ok-compact.ensures.writes.device.at_worst)))
 
 pub returns-in_err-fresh_pair-clause-device : goal.returns-in_err-fresh_pair-clause-device
-returns-in_err-fresh_pair-clause-device g c = only_wider _ (among_second (address_in c.args.pair.now) (address_of c.args.fresh)) c.in_err-fresh_pair.ensures.device
+returns-in_err-fresh_pair-clause-device g c = record {
+  only = only_wider _ (among_second (address_in c.args.pair.now) (address_of c.args.fresh)) c.in_err-fresh_pair.ensures.writes.device;
+  few = let first = c.in_err-fresh_pair.ensures.writes.few in omega (arith, first);
+}
 
 pub returns-in_err-compact-clause-device : goal.returns-in_err-compact-clause-device
-returns-in_err-compact-clause-device g c =
-    only_trans (only_wider _ (among_second (address_in c.args.pair.now) (address_of c.args.fresh)) c.in_ok-fresh_pair.ensures.device)
-    (only_wider _ (among_first (address_in c.args.pair.now) (address_of c.args.fresh)) c.in_err-compact.ensures.device)
+returns-in_err-compact-clause-device g c = record {
+  only = only_trans (only_wider _ (among_second (address_in c.args.pair.now) (address_of c.args.fresh)) c.in_ok-fresh_pair.ensures.writes.device)
+      (only_wider _ (among_first (address_in c.args.pair.now) (address_of c.args.fresh)) c.in_err-compact.ensures.writes.device);
+  few = let first = c.in_ok-fresh_pair.ensures.writes.few in let second = c.in_err-compact.ensures.writes.few in omega (arith, first, second);
+}
 
 pub returns-clause-device : goal.returns-clause-device
-returns-clause-device g c =
-    only_trans (only_wider _ (among_second (address_in c.args.pair.now) (address_of c.args.fresh)) c.in_ok-fresh_pair.ensures.device)
-    (only_wider _ (among_first (address_in c.args.pair.now) (address_of c.args.fresh)) c.in_ok-compact.ensures.device)
+returns-clause-device g c = record {
+  only = only_trans (only_wider _ (among_second (address_in c.args.pair.now) (address_of c.args.fresh)) c.in_ok-fresh_pair.ensures.writes.device)
+      (only_wider _ (among_first (address_in c.args.pair.now) (address_of c.args.fresh)) c.in_ok-compact.ensures.writes.device);
+  few = let first = c.in_ok-fresh_pair.ensures.writes.few in let second = c.in_ok-compact.ensures.writes.few in omega (arith, first, second);
+}

@@ -1,6 +1,7 @@
-use Rattle.std.proofs.Common.{◌+◌, ◌≤◌, ap, sym, subst}
+use Rattle.std.proofs.Common.{rules, arith, ◌+◌, ◌≤◌, ap, sym, subst}
 use Rattle.lfs_device.specs.declared.geometry.Geometry.{Geometry}
 use Rattle.lfs_model.specs.Blocks.{block_in}
+use Rattle.lfs_model.specs.History.{reads}
 use Rattle.lfs_tag.specs.Builder.{padded_end}
 use Rattle.lfs_tag.specs.ContentSeen.{content_seen}
 use Rattle.lfs_pair.proofs.Anew.{is_anew, fits_sound, anew_room, anew_within, anew_holds, anew_end, leaves_erase, leaves_anew}
@@ -26,11 +27,12 @@ returns-in_err-written-clause-stops g c =
     leaves_anew (is_anew (content_seen c.args.content.now) c.push_content.ensures c.new-builder.ensures c.requires.buf (ap (λ (k : Geometry). k.page) c.geometry-page.ensures) c.from_bits-before.ensures)
     (fits_sound c.requires.logged c.requires.names c.requires.fits) c.erase.ensures.others c.in_ok-erase.ensures.history c.program.ensures.stops
 
-pub returns-clause-holds : goal.returns-clause-holds
-returns-clause-holds g c =
-    anew_holds (block_in (g.D.BlockDevice.blocks c.program.new.dev) c.args.block)
+pub returns-clause-anew : goal.returns-clause-anew
+returns-clause-anew g c =
+    let holds = anew_holds (block_in (g.D.BlockDevice.blocks c.program.new.dev) c.args.block)
     (is_anew (content_seen c.args.content.now) c.push_content.ensures c.new-builder.ensures c.requires.buf (ap (λ (k : Geometry). k.page) c.geometry-page.ensures) c.from_bits-before.ensures)
-    (fits_sound c.requires.logged c.requires.names c.requires.fits) c.in_ok-written.ensures.commit
+    (fits_sound c.requires.logged c.requires.names c.requires.fits) c.in_ok-written.ensures.adds.commit in
+    record { holds = holds; erases = search rules; programs = search rules }
 
 pub returns-clause-stops : goal.returns-clause-stops
 returns-clause-stops g c =
@@ -39,14 +41,29 @@ returns-clause-stops g c =
 
 pub returns-clause-size : goal.returns-clause-size
 returns-clause-size g c =
-    anew_end (content_seen c.args.content.now) c.in_ok-written.written.end c.in_ok-written.ensures.end
+    anew_end (content_seen c.args.content.now) c.in_ok-written.written.end c.in_ok-written.ensures.adds.end_is
     (is_anew (content_seen c.args.content.now) c.push_content.ensures c.new-builder.ensures c.requires.buf (ap (λ (k : Geometry). k.page) c.geometry-page.ensures) c.from_bits-before.ensures)
 
-pub returns-in_err-erase-clause-device : goal.returns-in_err-erase-clause-device
-returns-in_err-erase-clause-device g c = block_by_erase c.erase.ensures.others c.erase.ensures.geometry c.erase.ensures.history
+pub returns-in_err-erase-clause-writes : goal.returns-in_err-erase-clause-writes
+returns-in_err-erase-clause-writes g c = record {
+  device = block_by_erase c.erase.ensures.others c.erase.ensures.geometry c.erase.ensures.history;
+  few = let here = ap reads c.erase.ensures.history in omega (arith, here);
+  errors = search rules;
+  faults = search rules;
+}
 
-pub returns-in_err-written-clause-device : goal.returns-in_err-written-clause-device
-returns-in_err-written-clause-device g c = block_trans (block_by_erase c.erase.ensures.others c.erase.ensures.geometry c.erase.ensures.history) c.program.ensures.device
+pub returns-in_err-written-clause-writes : goal.returns-in_err-written-clause-writes
+returns-in_err-written-clause-writes g c = record {
+  device = block_trans (block_by_erase c.erase.ensures.others c.erase.ensures.geometry c.erase.ensures.history) c.program.ensures.writes.device;
+  few = let before = ap reads c.erase.ensures.history in let here = c.program.ensures.writes.few in omega (arith, before, here);
+  errors = search rules;
+  faults = search rules;
+}
 
-pub returns-clause-device : goal.returns-clause-device
-returns-clause-device g c = block_trans (block_by_erase c.erase.ensures.others c.erase.ensures.geometry c.erase.ensures.history) c.program.ensures.device
+pub returns-clause-writes : goal.returns-clause-writes
+returns-clause-writes g c = record {
+  device = block_trans (block_by_erase c.erase.ensures.others c.erase.ensures.geometry c.erase.ensures.history) c.program.ensures.writes.device;
+  few = let before = ap reads c.erase.ensures.history in let here = c.program.ensures.writes.few in omega (arith, before, here);
+  errors = search rules;
+  faults = search rules;
+}

@@ -9,4 +9,4 @@ returns-clause-back g c =
     let few = (g.D.BlockDevice.geometry c.args.dev.now).valid.no_more in
     let first = c.requires.first in
     let second = c.requires.second in
-    splits.back.is_pair.describes.tail ∙ tail_set _ (address_of c.args.next) splits.new (omega (arith, first, few)) (omega (arith, second, few)) splits.made
+    splits.back.is_pair.describes.sums.tail ∙ tail_set _ (address_of c.args.next) splits.new (omega (arith, first, few)) (omega (arith, second, few)) splits.made

@@ -29,7 +29,7 @@ fresh-requires g c =
 pub split-requires : goal.split-requires
 split-requires g c =
     let fresh = c.in_ok-pair.ensures.fresh in
-    let same = c.in_ok-pair.ensures.device.geometry in
+    let same = c.in_ok-pair.ensures.device.only.geometry in
     let count = (g.met.D.BlockDevice.shape c.fresh.new.dev).count ∙ ap (λ (k : Geometry). k.block_count) same ∙ c.requires.count in
     split_ready _ _ _ fresh.new held all changes 1 (record { size = ap (λ (k : Geometry). k.block_size) same ∙ c.requires.size; page = ap (λ (k : Geometry). k.page) same ∙ c.requires.page; count = omega (arith, count) })
     fresh.holds (some_same fresh.made) refl (refl, (refl, (refl, tt))) (record { within = omega arith; front = record { size = omega arith; count = omega arith }; back = record { size = omega arith; count = omega arith } })

@@ -17,5 +17,5 @@ fresh-requires g c =
 pub returns : goal.returns
 returns g c =
     kept_by_fresh (g.D.BlockDevice.geometry c.args.device.now) (g.D.BlockDevice.geometry c.fresh.new.dev) (g.D.BlockDevice.blocks c.args.device.now) (g.D.BlockDevice.blocks c.fresh.new.dev) _ _ _ (0, 1) _
-    c.in_ok-pair.ensures.device.geometry c.in_ok-pair.ensures.device.others.count (g.met.D.BlockDevice.shape c.args.device.now).count
+    c.in_ok-pair.ensures.device.only.geometry c.in_ok-pair.ensures.device.only.others.count (g.met.D.BlockDevice.shape c.args.device.now).count
     (λ same. absurd (omega (arith, same))) (omega (arith, (g.D.BlockDevice.geometry c.args.device.now).valid.no_fewer)) (omega (arith, (g.D.BlockDevice.geometry c.args.device.now).valid.no_fewer)) c.in_ok-pair.ensures.fresh

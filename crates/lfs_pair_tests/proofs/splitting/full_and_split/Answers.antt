@@ -41,7 +41,7 @@ fresh-requires g c =
 pub split-requires : goal.split-requires
 split-requires g c =
     let fresh = c.in_ok-pair.ensures.fresh in
-    let same = c.in_ok-pair.ensures.device.geometry in
+    let same = c.in_ok-pair.ensures.device.only.geometry in
     let size = ap (λ (k : Geometry). k.block_size) same ∙ c.requires.size in
     let page = ap (λ (k : Geometry). k.page) same ∙ c.requires.page in
     let count = (g.met.D.BlockDevice.shape c.fresh.new.dev).count ∙ ap (λ (k : Geometry). k.block_count) same ∙ c.requires.count in

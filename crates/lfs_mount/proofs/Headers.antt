@@ -72,9 +72,9 @@ seen_from disk history h is =
       held = is.held;
       log = d.content;
       slots = slots;
-      move = d.move ∙ sym parts.move ∙ ap (λ (c : Content). c.move) (sym content);
-      leads = ap₂ (λ n t. n == 1 && is_hard t) (d.slot_count ∙ sym (complete_length is.held.slots (pair_of disk h).content.slots slots)) (d.tail ∙ sym parts.tail ∙ ap (λ (c : Content). c.tail) (sym content));
-      hard = ap is_hard (d.tail ∙ sym parts.tail ∙ ap (λ (c : Content). c.tail) (sym content));
+      move = d.sums.move ∙ sym parts.move ∙ ap (λ (c : Content). c.move) (sym content);
+      leads = ap₂ (λ n t. n == 1 && is_hard t) (d.sums.slot_count ∙ sym (complete_length is.held.slots (pair_of disk h).content.slots slots)) (d.sums.tail ∙ sym parts.tail ∙ ap (λ (c : Content). c.tail) (sym content));
+      hard = ap is_hard (d.sums.tail ∙ sym parts.tail ∙ ap (λ (c : Content). c.tail) (sym content));
       content = whole ∙ ap (λ (c : Content). Some c) (sym content);
       holds = holder_is (block_at disk at.0) (block_at disk at.1) (ap has_commit (sym block) ∙ is.is_pair.has_commit) ∙ ap (λ (x : List ℕ). Some x) (sym block);
     }

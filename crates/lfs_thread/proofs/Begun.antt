@@ -6,6 +6,8 @@ use Rattle.std.proofs.lemmas.Bool.Decides.{eqb_tells}
 use Rattle.std.proofs.lemmas.Option.{same_Some, slice_get_within}
 use Rattle.std.proofs.lemmas.List.{map-append, length-set, length-replicate}
 use Rattle.std.proofs.lemmas.List.Elements.{recursion_from_All}
+use Rattle.lfs_device.specs.declared.device.BlockDevice.{Ghosts}
+use Rattle.lfs_device.specs.Calls.{ReadsOnly}
 use Rattle.lfs_model.specs.Blocks.{Blocks}
 use Rattle.lfs_model.specs.BlockSets.{Free, InFlight, Used, AreInFlight, BlockSets, IsFree, IsInFlight, IsUsed}
 use Rattle.lfs_model.specs.Disk.{Disk, block_count}
@@ -29,7 +31,7 @@ use Rattle.lfs_thread.proofs.Coming.{two_unused, free_unused}
 -- ---- a pair that was fetched
 
 pub fetched_header : (disk : Disk) (history : List Event) (at : ℕ × ℕ) (pair : Header) → IsAddressOn disk at → Fetches disk history at pair → pair.is_complete ≡ true → IsHeader disk history pair
-fetched_header disk history at pair on f full = go (completed f.held) refl (sym f.is_pair.describes.complete ∙ full)
+fetched_header disk history at pair on f full = go (completed f.held) refl (sym f.is_pair.describes.sums.complete ∙ full)
   where
     go : (o : Option Content) → completed f.held ≡ o → is_some {T = Content} o ≡ true → IsHeader disk history pair
     go None e k = absurd (cc)
@@ -99,7 +101,7 @@ module _ (disk : Disk) (blocks : Blocks) (before after : List Event) (hs : List 
 
   tail_is : p.content.tail ≡ option_map tail_seen h.tail
   tail_is = ap (λ (q : Pair). q.content.tail) (pair_on_content disk (address_in h) is.content (header_content disk after h is))
-      ∙ (completed_parts is.held is.content is.complete).tail ∙ sym is.is_pair.describes.tail
+      ∙ (completed_parts is.held is.content is.complete).tail ∙ sym is.is_pair.describes.sums.tail
 
   pairs_now : pairs_on disk (hs ++ h ∷ []) ≡ pairs_on disk hs ++ p ∷ []
   pairs_now = map-append (λ x. pair_on disk (address_in x)) hs (h ∷ [])
@@ -302,6 +304,13 @@ begun_few disk history hs sets next begun =
 
 pub then_reads : {blocks mid_blocks : Blocks} {old mid new : List Event} → OnlyReads blocks old mid → mid_blocks ≡ blocks → OnlyReads mid_blocks mid new → OnlyReads blocks old new
 then_reads {mid = mid} {new = new} first same second = goes_on_by first (subst (λ b. OnlyReads b mid new) same second)
+
+pub read_on : {D : Type 0} {g : Ghosts D} {old mid new : D} → ReadsOnly g old mid → ReadsOnly g mid new → ReadsOnly g old new
+read_on first second = record {
+  same = second.same ∙ first.same;
+  geometry = second.geometry ∙ first.geometry;
+  reads = then_reads first.reads first.same second.reads;
+}
 
 pub begun_first : (disk : Disk) (history : List Event) (hs : List Header) (sets : BlockSets) (n : ℕ) → n ≡ block_count disk → hs ≡ [] → sets ≡ replicate n Free → IsBegun disk history hs sets (Some anchor)
 begun_first disk history hs sets n e f g =

@@ -28,7 +28,7 @@ joined_more hs k h below is =
 
 share_is : (disk : Disk) (history : List Event) (h : Header) → IsHeader disk history h → share_of h ≡ (pair_on disk (address_in h)).content.move
 share_is disk history h is =
-    is.is_pair.describes.move ∙ sym (completed_parts is.held is.content is.complete).move
+    is.is_pair.describes.sums.move ∙ sym (completed_parts is.held is.content is.complete).move
     ∙ sym (ap (λ (p : Pair). p.content.move) (pair_on_content disk (address_in h) is.content (header_content disk history h is)))
 
 shares_are : (disk : Disk) (history : List Event) (hs : List Header) → AreHeaders disk history hs → map share_of hs ≡ map (λ (p : Pair). p.content.move) (pairs_on disk hs)

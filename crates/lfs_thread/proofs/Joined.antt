@@ -244,7 +244,7 @@ tail_named disk history hs sets index h a kept few = go (pair_on disk (address_i
 
 pub header_tail : (disk : Disk) (history : List Event) (h : Header) → IsHeader disk history h → (pair_on disk (address_in h)).content.tail ≡ option_map tail_seen h.tail
 header_tail disk history h is = ap (λ (q : Pair). q.content.tail) (pair_on_content disk (address_in h) is.content (header_content disk history h is))
-    ∙ (completed_parts is.held is.content is.complete).tail ∙ sym is.is_pair.describes.tail
+    ∙ (completed_parts is.held is.content is.complete).tail ∙ sym is.is_pair.describes.sums.tail
 
 pub fresh_can : (disk : Disk) (history : List Event) (hs : List Header) (sets : BlockSets) (index : ℕ) (h : Header) (fresh : ℕ × ℕ) (changes : List Change) (t : Change) → IsAt hs index h → IsKept disk history hs sets
     → block_count disk ≤ 65536 → CanJoin (seen disk history hs sets) index fresh changes → t ≡ put_tail (option_map tail_seen h.tail) → CanBeFresh disk fresh (t ∷ [])

@@ -7,22 +7,27 @@ use Rattle.lfs_device.specs.declared.error.Error.{Error}
 use Rattle.lfs_device.specs.declared.error.Error.TheVariants.{Io, NoMemory}
 use Rattle.lfs_cache.specs.Read.{ReadsWhereMissing, read_whole}
 use Rattle.std.proofs.lemmas.List.{length-map, map-append}
-use Rattle.lfs_model.specs.BlockSets.{BlockSets}
+use Rattle.std.proofs.lemmas.List.Concat.{flat_map-append}
+use Rattle.lfs_model.specs.BlockSets.{BlockSets, IsUsed}
+use Rattle.lfs_model.specs.Cache.{CachedBlocks, cached, without}
+use Rattle.lfs_model.proofs.Cache.{cached-without_other}
 use Rattle.lfs_model.specs.Disk.{Disk, block_at, block_count}
 use Rattle.lfs_model.specs.History.{Event, reads}
 use Rattle.lfs_model.specs.Log.{log_entries}
 use Rattle.lfs_model.specs.Content.{content_after_all, holder_at, no_content}
 use Rattle.lfs_model.specs.Slots.{Content, Tail}
-use Rattle.lfs_model.specs.Thread.{Pair, anchor, Links, is_hard, next_of}
+use Rattle.lfs_model.specs.Thread.{Pair, anchor, blocks_of, Links, is_hard, next_of}
 use Rattle.lfs_model.proofs.Completed.{complete_length, completed_parts}
 use Rattle.lfs_tag.specs.ContentSeen.{tail_seen}
 use Rattle.lfs_tag.specs.FieldsSeen.{move_seen}
 use Rattle.lfs_pair.specs.Pair.{active_at, address_in}
-use Rattle.lfs_pair.proofs.Changed.{active_below, holder_in}
-use Rattle.lfs_thread.specs.Kept.{Header, IsHeader, IsKept, pair_on, pairs_on, seen}
-use Rattle.lfs_thread.specs.Lent.{IsBlockOf}
-use Rattle.lfs_thread.specs.Steps.{pair_in}
-use Rattle.lfs_thread.proofs.Keeping.{header_content, pair_on_content}
+use Rattle.lfs_pair.specs.Writing.{ChangesReading}
+use Rattle.lfs_pair.proofs.Changed.{active_among, active_below, holder_in}
+use Rattle.lfs_thread.specs.Kept.{AllUsed, Header, IsHeader, IsKept, pair_on, pairs_on, seen}
+use Rattle.lfs_thread.specs.Lent.{IsBlockOf, at_hand_of, read_if_missing}
+use Rattle.lfs_thread.specs.Steps.{AreHeld, pair_in}
+use Rattle.lfs_thread.proofs.Keeping.{header_content, pair_on_content, used_right}
+use Rattle.lfs_thread.proofs.Coming.{in_flight_unused}
 use Rattle.lfs_thread.proofs.Changing.{IsAt, header_at_index, pair_at_index}
 
 -- a hard tail leads somewhere
@@ -61,13 +66,13 @@ module _ (disk : Disk) (history : List Event) (hs : List Header) (sets : BlockSe
       ∙ holder_in disk (address_in h) h.active there.is_pair.active there.is_pair.has_commit ∙ ap Some (sym e)
 
   pub count_there : h.slot_count ≡ length (pair_in (seen disk history hs sets) index).content.slots
-  count_there = there.is_pair.describes.slot_count ∙ sym (complete_length there.held.slots there.content.slots (completed_parts there.held there.content there.complete).slots) ∙ ap (λ (c : Content). length c.slots) content_is
+  count_there = there.is_pair.describes.sums.slot_count ∙ sym (complete_length there.held.slots there.content.slots (completed_parts there.held there.content there.complete).slots) ∙ ap (λ (c : Content). length c.slots) content_is
 
   pub tail_there : option_map tail_seen h.tail ≡ (pair_in (seen disk history hs sets) index).content.tail
-  tail_there = there.is_pair.describes.tail ∙ sym (completed_parts there.held there.content there.complete).tail ∙ ap (λ (c : Content). c.tail) content_is
+  tail_there = there.is_pair.describes.sums.tail ∙ sym (completed_parts there.held there.content there.complete).tail ∙ ap (λ (c : Content). c.tail) content_is
 
   pub move_there : move_seen h.move_state ≡ (pair_in (seen disk history hs sets) index).content.move
-  move_there = there.is_pair.describes.move ∙ sym (completed_parts there.held there.content there.complete).move ∙ ap (λ (c : Content). c.move) content_is
+  move_there = there.is_pair.describes.sums.move ∙ sym (completed_parts there.held there.content there.complete).move ∙ ap (λ (c : Content). c.move) content_is
 
   pub next_there : is_hard (pair_in (seen disk history hs sets) index).content.tail ≡ true → index + 1 < length (pairs_on disk hs)
   next_there hard =
@@ -78,6 +83,33 @@ module _ (disk : Disk) (history : List Event) (hs : List Header) (sets : BlockSe
       let k = behind_hard (pairs_on disk a.front) (pair_on disk (address_in h)) (pairs_on disk a.back) (Some anchor) (subst (Links (Some anchor)) parts kept.links)
       (sym (ap (λ (q : Pair). is_hard q.content.tail) (pair_at_index disk history hs sets index h a)) ∙ hard) in
       omega arith
+
+  -- ---- the reads of a step
+
+  active_used : IsUsed sets h.active
+  active_used =
+      let all = subst (λ z. AllUsed sets (blocks_of (pairs_on disk z))) a.parts kept.used in
+      let parts = subst (λ ps. AllUsed sets (blocks_of ps)) (map-append (λ x. pair_on disk (address_in x)) a.front (h ∷ a.back)) all in
+      let cut = subst (AllUsed sets) (flat_map-append (λ (s : Pair). s.at.0 ∷ s.at.1 ∷ []) (pairs_on disk a.front) (pairs_on disk (h ∷ a.back))) parts in
+      let right = used_right sets (blocks_of (pairs_on disk a.front)) (blocks_of (pairs_on disk (h ∷ a.back))) cut in
+      elim (active_among disk history h there.held there.address there.is_pair) [
+        | inl e ↦ subst (IsUsed sets) (sym e) right.0
+        | inr e ↦ subst (IsUsed sets) (sym e) right.1.0
+      ]
+
+  -- where two blocks in flight are at hand no more, this one still is
+  pub cached_beside : (fresh : ℕ × ℕ) → AreHeld sets fresh → (cache now : CachedBlocks) → now ≡ without (without cache fresh.0) fresh.1 → cached now h.active ≡ cached cache h.active
+  cached_beside fresh held cache now is =
+      ap (λ z. cached z h.active) is
+      ∙ cached-without_other (without cache fresh.0) fresh.1 h.active (λ e. in_flight_unused sets fresh.1 held.second (subst (IsUsed sets) e active_used))
+      ∙ cached-without_other cache fresh.0 h.active (λ e. in_flight_unused sets fresh.0 held.first (subst (IsUsed sets) e active_used))
+
+  -- in the words of the thread
+  pub reading_there : {D : Type 0} (g : Ghosts D) (old new : D) (blocks : ℕ × ℕ → List ℕ) (base : ℕ) (cache : CachedBlocks) → ChangesReading g (base + read_if_missing (cached cache h.active)) (blocks (address_in h)) old new
+      → ChangesReading g (base + read_if_missing (at_hand_of (seen disk history hs sets) cache index)) (blocks (pair_in (seen disk history hs sets) index).at) old new
+  reading_there g old new blocks base cache w =
+      subst (λ (p : Pair). ChangesReading g (base + read_if_missing (at_hand_of (seen disk history hs sets) cache index)) (blocks p.at) old new) (sym (pair_at_index disk history hs sets index h a))
+      (subst (λ b. ChangesReading g (base + read_if_missing (cached cache b)) (blocks (address_in h)) old new) active_is w)
 
 -- ---- the reads of a block that is brought to hand
 

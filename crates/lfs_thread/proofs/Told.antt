@@ -11,10 +11,11 @@ use Rattle.lfs_model.specs.BlockSets.{BlockSets}
 use Rattle.lfs_model.proofs.Histories.{LeavesOnly-weaker, StayUnprogrammed-trans, StayUnprogrammed-wider, goes_on_by}
 use Rattle.lfs_pair.specs.declared.pair.Pair.{Pair}
 use Rattle.lfs_pair.specs.Commit.{Fails}
+use Rattle.lfs_pair.specs.Writing.{ChangesReading}
 use Rattle.lfs_pair.proofs.Parted.{among_first, among_second, keeps_by_both, keeps_by_fresh}
 use Rattle.lfs_thread.specs.Device.{TellsErrors, TellsErrorsBeside, four_of, two_of}
 use Rattle.lfs_thread.specs.Kept.{Header, seen_on}
-use Rattle.lfs_thread.specs.Steps.{HasTold, HasToldBeside, IsUnwritten, Writes}
+use Rattle.lfs_thread.specs.Steps.{HasTold, HasToldBeside, IsUnwritten, Writes, WritesReading}
 
 module _ {D : Type 0} (g : Ghosts D) (old new : D) (hs now_hs : List Header) (sets now_sets : BlockSets) where
   pub unwritten_from : ReadsOnly g old new → IsUnwritten (seen_on g old hs sets) (seen_on g new now_hs now_sets)
@@ -42,6 +43,10 @@ module _ {D : Type 0} (g : Ghosts D) (old new : D) (hs now_hs : List Header) (se
     };
     at_worst = w.at_worst;
   }
+
+module _ {D : Type 0} (g : Ghosts D) (old new : D) (hs now_hs : List Header) (sets now_sets : BlockSets) where
+  pub reading_from : {most : ℕ} (bs : List ℕ) → ChangesReading g most bs old new → WritesReading most bs (seen_on g old hs sets) (seen_on g new now_hs now_sets)
+  reading_from bs w = record { only = writes_from g old new hs now_hs sets now_sets bs w.only; few = w.few }
 
 -- ---- two calls, of which the first writes a fresh pair
 

@@ -1,17 +1,26 @@
 -- What a thread lends.
-use Rattle.std.specs.Prelude.{ℕ, ◌≡◌, ◌≤◌, ◌^◌, List, length, Option, Some}
+use Rattle.std.specs.Prelude.{ℕ, ◌≡◌, ◌≤◌, ◌^◌, List, length, Option, None, Some}
 use Rattle.lfs_model.specs.Cache.{CachedBlocks, cached, put_first}
 use Rattle.lfs_model.specs.Disk.{block_at}
 use Rattle.lfs_model.specs.Log.{log_entries}
 use Rattle.lfs_model.specs.Slots.{Content}
 use Rattle.lfs_model.specs.Content.{RawContent, completed, content_after_all, no_content}
 use Rattle.lfs_pair.specs.Pair.{active_at}
-use Rattle.lfs_thread.specs.Kept.{State}
+use Rattle.lfs_thread.specs.Kept.{Kept, State}
 use Rattle.lfs_thread.specs.Steps.{pair_in}
 
--- the bytes of the block in which a pair's log stands, if they are at hand
+-- the bytes of the block in which a pair's log stands, if they are among these
+abbrev pub at_hand_of : Kept → CachedBlocks → ℕ → Option (List ℕ)
+at_hand_of kept cache index = cached cache (active_at kept.disk (pair_in kept index).at)
+
+-- the same of the blocks at hand
 abbrev pub at_hand : State → ℕ → Option (List ℕ)
-at_hand t index = cached t.cache (active_at t.kept.disk (pair_in t.kept index).at)
+at_hand t index = at_hand_of t.kept t.cache index
+
+-- one read, or none of what is at hand
+abbrev pub read_if_missing : Option (List ℕ) → ℕ
+read_if_missing None = 1
+read_if_missing (Some bytes) = 0
 
 -- the blocks at hand once a pair's is the most recent; the least recent one goes where there were eight
 abbrev pub brought : State → ℕ → CachedBlocks

@@ -3,4 +3,5 @@ pub mod Device
 pub mod Steps
 pub mod Lent
 pub mod Begun
+pub mod Reading
 pub mod Beside

@@ -1,12 +1,12 @@
 -- What the steps of a thread do to it.
-use Rattle.std.specs.Prelude.{ℕ, ◌≡◌, ◌≢◌, ◌⊎◌, ◌<◌, ◌+◌, slice_get, codes, true, false, List, [], length, take, drop, slice_set, slice_index_or, Option, Some, None, Result, Err, IfErr, IsErrOf}
+use Rattle.std.specs.Prelude.{ℕ, ◌≡◌, ◌≢◌, ◌⊎◌, ◌<◌, ◌≤◌, ◌+◌, slice_get, codes, true, false, List, [], length, take, drop, slice_set, slice_index_or, Option, Some, None, Result, Err, IfErr, IsErrOf}
 use Rattle.lfs_device.specs.declared.error.Error.{Error}
 use Rattle.lfs_device.specs.declared.error.Error.TheVariants.{Io, NoMemory}
 use Rattle.std.specs.Option.{option_and_then, option_map}
 use Rattle.std.specs.List.{insert, remove}
 use Rattle.lfs_model.specs.Blocks.{Blocks, SameButThese}
 use Rattle.lfs_model.specs.Disk.{Disk, block_count}
-use Rattle.lfs_model.specs.History.{AtWorst, LeavesOnly, OnlyReads, StayUnprogrammed, faults}
+use Rattle.lfs_model.specs.History.{AtWorst, LeavesOnly, OnlyReads, StayUnprogrammed, faults, reads}
 use Rattle.lfs_model.specs.Slots.{Content, FitsPair, Slot, Tail, no_gstate}
 use Rattle.lfs_model.specs.Content.{RawContent, content_at, completed, holder_at}
 use Rattle.lfs_model.specs.Changes.{Change, PutTail}
@@ -42,6 +42,11 @@ pub record Writes (bs : List ℕ) (old new : Kept) : Type 0 where
   pub elsewhere : StayUnprogrammed bs old.history new.history
   pub shape : HasShape old.disk new.disk
   pub at_worst : LeavesOnly AtWorst old.history new.history (SameButThese bs old.disk.blocks)
+
+-- the same, and the device is read at most so often
+pub record WritesReading (most : ℕ) (bs : List ℕ) (old new : Kept) : Type 0 where
+  pub only : Writes bs old new
+  pub few : reads new.history ≤ reads old.history + most
 
 -- the device was only read
 pub record IsUnwritten (old new : Kept) : Type 0 where

@@ -1,14 +1,15 @@
 // Commits to pairs and splits of them, beside the blocks that are at hand.
 
-ghost use Rattle.std.specs.Prelude.{◌≡◌, IfOk, OnOk, option_map};
-ghost use Rattle.lfs_device.specs.Calls.{ChangesOnly};
+ghost use Rattle.std.specs.Prelude.{◌≡◌, ◌+◌, IfOk, OnOk, option_map};
 ghost use Rattle.lfs_model.specs.Cache.{cached, without};
 ghost use Rattle.lfs_model.specs.Slots.{address_of};
 ghost use Rattle.lfs_pair.specs.ChangeSeen.{changes_seen};
 ghost use Rattle.lfs_pair.specs.Commit.{CanCommit, Commits, IsFull, LeftByChange};
 ghost use Rattle.lfs_pair.specs.Pair.{address_in};
 ghost use Rattle.lfs_pair.specs.Split.{CanSplit, LeftBySplit, Splits};
+ghost use Rattle.lfs_pair.specs.Writing.{ChangesReading};
 ghost use Rattle.lfs_thread.specs.Kept.{IsCurrent, disk_on};
+ghost use Rattle.lfs_thread.specs.Lent.{read_if_missing};
 ghost use Rattle.lfs_thread.specs.Device.{StopsLeave, TellsErrors, four_of, two_of};
 
 use lfs_cache::Cache;
@@ -31,7 +32,7 @@ pub(crate) fn commit_to<D: BlockDevice>(
         → Commits (disk_on D.BlockDevice device.old) (D.history device.old) (changes_seen changes.now) pair.old (disk_on D.BlockDevice device.new) (D.history device.new) pair.new }
     ensures full { result ≡ Ok Outcome.Full → IsFull D.BlockDevice (changes_seen changes.now) device.old device.new pair.old pair.new }
     ensures current { IsCurrent (D.blocks device.new) cache.new }
-    ensures device { ChangesOnly D.BlockDevice (two_of (address_in pair.old)) device.old device.new }
+    ensures device { ChangesReading D.BlockDevice (1 + read_if_missing (cached cache.old pair.old.active)) (two_of (address_in pair.old)) device.old device.new }
     ensures errors { TellsErrors D.BlockDevice device.old device.new result }
     ensures stops { StopsLeave (D.history device.old) (D.history device.new)
         (LeftByChange (disk_on D.BlockDevice device.old) (address_in pair.old) (changes_seen changes.now)) }
@@ -57,7 +58,7 @@ pub(crate) fn split_to<D: BlockDevice>(
     ensures splits { IfOk result (λ fresh_pair. Splits (disk_on D.BlockDevice device.old) (D.history device.old) (changes_seen changes.now) pair.old (address_of fresh)
         (disk_on D.BlockDevice device.new) (D.history device.new) pair.new fresh_pair) }
     ensures current { IsCurrent (D.blocks device.new) cache.new }
-    ensures device { ChangesOnly D.BlockDevice (four_of (address_in pair.old) (address_of fresh)) device.old device.new }
+    ensures device { ChangesReading D.BlockDevice (3 + read_if_missing (cached cache.old pair.old.active)) (four_of (address_in pair.old) (address_of fresh)) device.old device.new }
     ensures errors { TellsErrors D.BlockDevice device.old device.new result }
     ensures stops { StopsLeave (D.history device.old) (D.history device.new)
         (LeftBySplit (disk_on D.BlockDevice device.old) (address_in pair.old) (address_of fresh) (changes_seen changes.now)) }

@@ -1,10 +1,11 @@
 // Pairs of the thread that go.
 
-ghost use Rattle.std.specs.Prelude.{◌≡◌, OnOk};
-ghost use Rattle.lfs_device.specs.Calls.{ChangesOnly};
+ghost use Rattle.std.specs.Prelude.{◌≡◌, ◌+◌, OnOk};
+ghost use Rattle.lfs_pair.specs.Writing.{ChangesReading};
 ghost use Rattle.lfs_pair.specs.ChangeSeen.{changes_seen};
 ghost use Rattle.lfs_thread.specs.Device.{StopsLeave, TellsErrors, two_of};
 ghost use Rattle.lfs_thread.specs.Kept.{IsCurrent, IsKeptOn, seen_on};
+ghost use Rattle.lfs_thread.specs.Lent.{at_hand_of, read_if_missing};
 ghost use Rattle.lfs_thread.specs.Steps.{CanDrop, IsDropped, IsLeft, IsRefused, pair_in};
 
 use crate::committing::commit_to;
@@ -35,7 +36,7 @@ pub(crate) fn drop_pair<D: BlockDevice>(
         (seen_on D.BlockDevice device.new pairs.new.items map.new) }
     ensures full { result ≡ Ok Outcome.Full → IsRefused (seen_on D.BlockDevice device.old pairs.old.items map.old) index (changes_seen changes.now)
         (seen_on D.BlockDevice device.new pairs.new.items map.new) }
-    ensures device { ChangesOnly D.BlockDevice (two_of (pair_in (seen_on D.BlockDevice device.old pairs.old.items map.old) index).at) device.old device.new }
+    ensures device { ChangesReading D.BlockDevice (1 + read_if_missing (at_hand_of (seen_on D.BlockDevice device.old pairs.old.items map.old) cache.old index)) (two_of (pair_in (seen_on D.BlockDevice device.old pairs.old.items map.old) index).at) device.old device.new }
     ensures errors { TellsErrors D.BlockDevice device.old device.new result }
     ensures stops { StopsLeave (D.history device.old) (D.history device.new)
         (IsLeft (seen_on D.BlockDevice device.old pairs.old.items map.old) index (changes_seen changes.now)) }

@@ -1,13 +1,14 @@
 // Pairs that come into the thread.
 
-ghost use Rattle.std.specs.Prelude.{◌≡◌, OnOk};
+ghost use Rattle.std.specs.Prelude.{◌≡◌, ◌+◌, OnOk};
 ghost use Rattle.std.specs.Option.{option_map};
-ghost use Rattle.lfs_device.specs.Calls.{ChangesOnly};
 ghost use Rattle.lfs_model.specs.Slots.{address_of};
 ghost use Rattle.lfs_tag.specs.ContentSeen.{tail_seen};
+ghost use Rattle.lfs_pair.specs.Writing.{ChangesReading};
 ghost use Rattle.lfs_pair.specs.ChangeSeen.{change_seen, changes_seen};
 ghost use Rattle.lfs_thread.specs.Device.{StopsLeave, TellsErrorsBeside, four_of, two_of};
 ghost use Rattle.lfs_thread.specs.Kept.{IsCurrent, IsKeptOn, seen_on};
+ghost use Rattle.lfs_thread.specs.Lent.{at_hand_of, read_if_missing};
 ghost use Rattle.lfs_thread.specs.Steps.{CanJoin, IsBeside, IsJoined, IsLeftByJoin, put_tail, pair_in};
 
 use crate::committing::{commit_to, forget_pair};
@@ -41,7 +42,7 @@ pub(crate) fn join_pair<D: BlockDevice>(
         (seen_on D.BlockDevice device.new pairs.new.items map.new) }
     ensures full { result ≡ Ok Outcome.Full → IsBeside (seen_on D.BlockDevice device.old pairs.old.items map.old) index (address_of fresh) (changes_seen changes.now)
         (seen_on D.BlockDevice device.new pairs.new.items map.new) }
-    ensures device { ChangesOnly D.BlockDevice (four_of (pair_in (seen_on D.BlockDevice device.old pairs.old.items map.old) index).at (address_of fresh)) device.old device.new }
+    ensures device { ChangesReading D.BlockDevice (3 + read_if_missing (at_hand_of (seen_on D.BlockDevice device.old pairs.old.items map.old) cache.old index)) (four_of (pair_in (seen_on D.BlockDevice device.old pairs.old.items map.old) index).at (address_of fresh)) device.old device.new }
     ensures errors { TellsErrorsBeside D.BlockDevice (two_of (address_of fresh)) device.old device.new result }
     ensures stops { StopsLeave (D.history device.old) (D.history device.new)
         (IsLeftByJoin (seen_on D.BlockDevice device.old pairs.old.items map.old) index (address_of fresh) (changes_seen changes.now)) }

@@ -1,18 +1,17 @@
 // A thread read from a device.
 
-ghost use Rattle.std.specs.Prelude.{◌≡◌, ◌⊎◌, ◌+◌, ◌*◌, ℕ, [], length, replicate, IfErr, IfOk, List, OnOk, slice_set};
+ghost use Rattle.std.specs.Prelude.{◌≡◌, ◌+◌, ◌*◌, ℕ, [], length, replicate, IfOk, List, OnOk};
 ghost use Rattle.std.specs.Option.{option_map};
 ghost use Rattle.lfs_model.specs.Slots.{address_of};
 ghost use Rattle.lfs_tag.specs.ContentSeen.{tail_seen};
-ghost use Rattle.lfs_device.specs.Calls.{ReadsOnly, TellsFaults};
 ghost use Rattle.lfs_model.specs.BlockSets.{AreInFlight, AreUsed};
-ghost use Rattle.lfs_model.specs.BlockSets.BlockState.{Free, Used};
+ghost use Rattle.lfs_model.specs.BlockSets.BlockState.{Free};
 ghost use Rattle.lfs_model.specs.Content.{content_at};
 ghost use Rattle.lfs_model.specs.History.{reads};
 ghost use Rattle.lfs_model.specs.Thread.{IsThread, Pair as ThreadPair, blocks_of, next_of};
-ghost use Rattle.lfs_pair.specs.Pair.{address_in};
 ghost use Rattle.lfs_thread.specs.Begun.{CanStand};
-ghost use Rattle.lfs_thread.specs.Kept.{IsHeader, IsKeptOn, disk_on, pairs_on};
+ghost use Rattle.lfs_thread.specs.Kept.{IsKeptOn, disk_on, pairs_on};
+ghost use Rattle.lfs_thread.specs.Reading.{IsReadAt, TellsReading};
 
 use lfs_alloc::BlockMap;
 use lfs_device::{BlockDevice, Error};
@@ -33,9 +32,7 @@ pub(crate) fn read_pairs<D: BlockDevice>(
     ensures marked { OnOk result (AreUsed map.new (blocks_of (pairs_on (disk_on D.BlockDevice device.new) pairs.new.items)) × AreInFlight map.new []) }
     ensures corrupt { result ≡ Err Error.Corrupt → (ps : List ThreadPair)
         → ¬ IsThread (content_at (disk_on D.BlockDevice device.old)) (D.geometry device.old).block_count ps }
-    ensures device { ReadsOnly D.BlockDevice device.old device.new }
-    ensures errors { IfErr result (λ e. (e ≡ Error.Corrupt) ⊎ ((e ≡ Error.Io) ⊎ (e ≡ Error.NoMemory))) }
-    ensures faults { TellsFaults D.BlockDevice device.old device.new result }
+    ensures told { TellsReading D.BlockDevice device.old device.new result }
     ensures few { OnOk result (reads (D.history device.new) ≡ reads (D.history device.old) + 2 * length pairs.new.items) }
 {
     let block_count = device.geometry().block_count;
@@ -73,14 +70,9 @@ fn read_pair<D: BlockDevice>(
     at: [u32; 2],
 ) -> Result<Pair, Error>
     requires { length map.old ≡ (D.geometry device.old).block_count }
-    ensures header { IfOk result (IsHeader (disk_on D.BlockDevice device.old) (D.history device.new)) }
-    ensures at { IfOk result (λ pair. address_in pair ≡ address_of at) }
-    ensures stands { OnOk result (CanStand (disk_on D.BlockDevice device.old) map.old (address_of at)) }
-    ensures marked { OnOk result (map.new ≡ slice_set (slice_set map.old (address_of at).0 Used) (address_of at).1 Used) }
+    ensures read { IfOk result (IsReadAt (disk_on D.BlockDevice device.old) (D.history device.new) (address_of at) map.old map.new) }
     ensures corrupt { result ≡ Err Error.Corrupt → ¬ CanStand (disk_on D.BlockDevice device.old) map.old (address_of at) }
-    ensures device { ReadsOnly D.BlockDevice device.old device.new }
-    ensures errors { IfErr result (λ e. (e ≡ Error.Corrupt) ⊎ ((e ≡ Error.Io) ⊎ (e ≡ Error.NoMemory))) }
-    ensures faults { TellsFaults D.BlockDevice device.old device.new result }
+    ensures told { TellsReading D.BlockDevice device.old device.new result }
     ensures few { OnOk result (reads (D.history device.new) ≡ reads (D.history device.old) + 2) }
 {
     let [first, second] = at;

@@ -13,8 +13,9 @@ ghost use Rattle.lfs_pair.specs.ChangeSeen.{changes_seen};
 ghost use Rattle.lfs_thread.specs.Beside.{CanRun, HasRun, IsDividedAs, LeavesPairs, Runs, Shows};
 ghost use Rattle.lfs_thread.specs.Device.{GivesBack, StopsLeave, four_of, two_of};
 ghost use Rattle.lfs_thread.specs.Kept.{IsCurrent, IsKeptOn, WasKeptOn, disk_on, seen_on};
-ghost use Rattle.lfs_thread.specs.Lent.{IsBlockOf, at_hand, brought};
-ghost use Rattle.lfs_thread.specs.Steps.{CanBeSplit, CanChange, CanDrop, CanJoin, HasTold, HasToldBeside, IsBeside, IsJoined, IsLeftByJoin, IsChanged, IsDropped, IsLeft, IsLeftBySplit, IsOnlyRead, IsRefused, IsSplit, Writes, pair_in};
+ghost use Rattle.lfs_thread.specs.Lent.{IsBlockOf, at_hand, brought, read_if_missing};
+ghost use Rattle.lfs_thread.specs.Reading.{IsThreadOf};
+ghost use Rattle.lfs_thread.specs.Steps.{CanBeSplit, CanChange, CanDrop, CanJoin, HasTold, HasToldBeside, IsBeside, IsJoined, IsLeftByJoin, IsChanged, IsDropped, IsLeft, IsLeftBySplit, IsOnlyRead, IsRefused, IsSplit, WritesReading, pair_in};
 
 use crate::committing::commit_to;
 use crate::dropping::drop_pair;
@@ -66,22 +67,17 @@ impl<D: BlockDevice> Model for Thread<D> {
 impl<D: BlockDevice> Thread<D> {
     /// Reads the thread of a device: from the pair of blocks 0 and 1 on, by the tails (SPEC.md of
     /// littlefs, "The metadata tree"). Nothing is written. The blocks of the pairs are used then,
-    /// and no other is.
+    /// and no other is. Each block of a pair is read once.
     ///
     /// `Corrupt` exactly where there is no thread: an address is out of range, a block comes twice,
     /// or a pair holds no content whose slots each have a name and a struct. `Io` where a read
     /// failed, and `NoMemory` where there is no room for the headers, the map or a block and its
     /// slots. The device comes back with an error.
     pub fn read(alloc: Global, mut device: D) -> Result<Thread<D>, (D, Error)>
-        ensures works { IfOk result (λ t. t.failed ≡ false) }
-        ensures thread { IfOk result (λ t. IsThread (content_at (disk_on D.BlockDevice device)) (D.geometry device).block_count t.kept.pairs) }
-        ensures marked { IfOk result (λ t. AreUsed t.kept.map (blocks_of t.kept.pairs) × AreInFlight t.kept.map []) }
-        ensures only { IfOk result (λ t. (t.kept.disk ≡ disk_on D.BlockDevice device) × OnlyReads (D.blocks device) (D.history device) t.kept.history × (faults t.kept.history ≡ faults (D.history device))) }
+        ensures read { IfOk result (IsThreadOf D.BlockDevice device) }
         ensures corrupt { IfErr result (λ e. e.1 ≡ Error.Corrupt → (ps : List ThreadPair) → ¬ IsThread (content_at (disk_on D.BlockDevice device)) (D.geometry device).block_count ps) }
         ensures errors { IfErr result (λ e. (e.1 ≡ Error.Corrupt) ⊎ ((e.1 ≡ Error.Io) ⊎ (e.1 ≡ Error.NoMemory))) }
         ensures back { IfErr result (λ e. GivesBack D.BlockDevice device e.0 e.1) }
-        // Each block of a pair is read once.
-        ensures few { IfOk result (λ t. reads t.kept.history ≡ reads (D.history device) + 2 * length t.kept.pairs) }
     {
         let block_count = device.geometry().block_count;
         let mut pairs = Vec::new(alloc);
@@ -320,7 +316,7 @@ impl<D: BlockDevice> Thread<D> {
         ensures full { result ≡ Ok Outcome.Full → IsRefused self.old.kept index (changes_seen changes.now) self.new.kept }
         ensures failed { self.new.failed ≡ is_err result }
         ensures errors { HasTold self.old.kept self.new.kept result }
-        ensures device { Writes (two_of (pair_in self.old.kept index).at) self.old.kept self.new.kept }
+        ensures device { WritesReading (1 + read_if_missing (at_hand self.old index)) (two_of (pair_in self.old.kept index).at) self.old.kept self.new.kept }
         ensures stops { StopsLeave self.old.kept.history self.new.kept.history (IsLeft self.old.kept index (changes_seen changes.now)) }
     {
         let outcome = commit_to(
@@ -352,7 +348,7 @@ impl<D: BlockDevice> Thread<D> {
         ensures done { OnOk result (IsSplit self.old.kept index (address_of fresh) (changes_seen changes.now) self.new.kept) }
         ensures failed { self.new.failed ≡ is_err result }
         ensures errors { HasTold self.old.kept self.new.kept result }
-        ensures device { Writes (four_of (pair_in self.old.kept index).at (address_of fresh)) self.old.kept self.new.kept }
+        ensures device { WritesReading (3 + read_if_missing (at_hand self.old index)) (four_of (pair_in self.old.kept index).at (address_of fresh)) self.old.kept self.new.kept }
         ensures stops { StopsLeave self.old.kept.history self.new.kept.history (IsLeftBySplit self.old.kept index (address_of fresh) (changes_seen changes.now)) }
     {
         let result = split_pair(
@@ -389,7 +385,7 @@ impl<D: BlockDevice> Thread<D> {
         ensures full { result ≡ Ok Outcome.Full → IsBeside self.old.kept index (address_of fresh) (changes_seen changes.now) self.new.kept }
         ensures failed { self.new.failed ≡ is_err result }
         ensures errors { HasToldBeside (two_of (address_of fresh)) self.old.kept self.new.kept result }
-        ensures device { Writes (four_of (pair_in self.old.kept index).at (address_of fresh)) self.old.kept self.new.kept }
+        ensures device { WritesReading (3 + read_if_missing (at_hand self.old index)) (four_of (pair_in self.old.kept index).at (address_of fresh)) self.old.kept self.new.kept }
         ensures stops { StopsLeave self.old.kept.history self.new.kept.history (IsLeftByJoin self.old.kept index (address_of fresh) (changes_seen changes.now)) }
     {
         let outcome = join_pair(
@@ -422,7 +418,7 @@ impl<D: BlockDevice> Thread<D> {
         ensures full { result ≡ Ok Outcome.Full → IsRefused self.old.kept index (changes_seen changes.now) self.new.kept }
         ensures failed { self.new.failed ≡ is_err result }
         ensures errors { HasTold self.old.kept self.new.kept result }
-        ensures device { Writes (two_of (pair_in self.old.kept index).at) self.old.kept self.new.kept }
+        ensures device { WritesReading (1 + read_if_missing (at_hand self.old index)) (two_of (pair_in self.old.kept index).at) self.old.kept self.new.kept }
         ensures stops { StopsLeave self.old.kept.history self.new.kept.history (IsLeft self.old.kept index (changes_seen changes.now)) }
     {
         let outcome = drop_pair(

@@ -5,7 +5,9 @@ use Rattle.lfs_model.specs.BlockSets.{BlockSets, Free}
 use Rattle.lfs_model.proofs.Histories.{LeavesOnly-weaker}
 use Rattle.lfs_pair.specs.Pair.{address_in}
 use Rattle.lfs_thread.specs.Kept.{Header}
+use Rattle.lfs_thread.specs.Device.{two_of}
 use Rattle.lfs_thread.specs.Steps.{without_pair}
+use Rattle.lfs_thread.proofs.Lending.{reading_there}
 use Rattle.lfs_thread.proofs.Changing.{can_commit, left_in_thread, full_kept, refused}
 use Rattle.lfs_thread.proofs.Dropped.{next_there, here_at, gone_is, next_used, device_dropped, device_is_dropped}
 use Rattle.lfs_thread.proofs.dropping.drop_pair.Goals as goal
@@ -62,7 +64,7 @@ returns-clause-kept g c =
     let n = next_there (disk_of (g.D.BlockDevice.geometry c.args.device.now) (g.D.BlockDevice.blocks c.args.device.now)) c.args.pairs.now.items c.args.index c.index_mut.result.now c.requires.can.below c.index_mut.ensures.value in
     let gone = gone_is _ _ _ _ _ n c.remove-gone.ensures.value in
     let e = c.in_ok-outcome.ensures in
-    device_dropped _ _ _ _ _ _ _ _ _ _ _ _ e.device.geometry n c.requires.kept c.requires.can (e.done (ap Ok c.in_default.is)) e.device.others e.device.elsewhere _ c.remove-gone.ensures.items _
+    device_dropped _ _ _ _ _ _ _ _ _ _ _ _ e.device.only.geometry n c.requires.kept c.requires.can (e.done (ap Ok c.in_default.is)) e.device.only.others e.device.only.elsewhere _ c.remove-gone.ensures.items _
     (c.release-2.ensures ∙ ap (λ (s : BlockSets). set s (address_in c.remove-gone.result).1 Free) c.release.ensures ∙ ap (λ (h : Header). without_pair c.args.map.now (address_in h)) gone)
 
 pub returns-clause-is_dropped : goal.returns-clause-is_dropped
@@ -70,5 +72,26 @@ returns-clause-is_dropped g c _ =
     let n = next_there (disk_of (g.D.BlockDevice.geometry c.args.device.now) (g.D.BlockDevice.blocks c.args.device.now)) c.args.pairs.now.items c.args.index c.index_mut.result.now c.requires.can.below c.index_mut.ensures.value in
     let gone = gone_is _ _ _ _ _ n c.remove-gone.ensures.value in
     let e = c.in_ok-outcome.ensures in
-    device_is_dropped _ _ _ _ _ _ _ _ _ _ _ _ e.device.geometry n c.requires.kept c.requires.can (e.done (ap Ok c.in_default.is)) e.device.others e.device.elsewhere _ c.remove-gone.ensures.items _
+    device_is_dropped _ _ _ _ _ _ _ _ _ _ _ _ e.device.only.geometry n c.requires.kept c.requires.can (e.done (ap Ok c.in_default.is)) e.device.only.others e.device.only.elsewhere _ c.remove-gone.ensures.items _
     (c.release-2.ensures ∙ ap (λ (s : BlockSets). set s (address_in c.remove-gone.result).1 Free) c.release.ensures ∙ ap (λ (h : Header). without_pair c.args.map.now (address_in h)) gone)
+
+pub returns-in_err-outcome-clause-device : goal.returns-in_err-outcome-clause-device
+returns-in_err-outcome-clause-device g c =
+    let disk = disk_of (g.D.BlockDevice.geometry c.args.device.now) (g.D.BlockDevice.blocks c.args.device.now) in
+    let n = next_there disk c.args.pairs.now.items c.args.index c.index_mut.result.now c.requires.can.below c.index_mut.ensures.value in
+    reading_there disk (g.D.BlockDevice.history c.args.device.now) c.args.pairs.now.items c.args.map.now c.args.index c.index_mut.result.now (here_at _ _ _ n) c.requires.kept
+    g.D.BlockDevice c.args.device.now c.commit_to.new.device two_of 1 c.args.cache.now c.in_err-outcome.ensures.device
+
+pub returns-in-Full-clause-device : goal.returns-in-Full-clause-device
+returns-in-Full-clause-device g c =
+    let disk = disk_of (g.D.BlockDevice.geometry c.args.device.now) (g.D.BlockDevice.blocks c.args.device.now) in
+    let n = next_there disk c.args.pairs.now.items c.args.index c.index_mut.result.now c.requires.can.below c.index_mut.ensures.value in
+    reading_there disk (g.D.BlockDevice.history c.args.device.now) c.args.pairs.now.items c.args.map.now c.args.index c.index_mut.result.now (here_at _ _ _ n) c.requires.kept
+    g.D.BlockDevice c.args.device.now c.commit_to.new.device two_of 1 c.args.cache.now c.in_ok-outcome.ensures.device
+
+pub returns-clause-device : goal.returns-clause-device
+returns-clause-device g c =
+    let disk = disk_of (g.D.BlockDevice.geometry c.args.device.now) (g.D.BlockDevice.blocks c.args.device.now) in
+    let n = next_there disk c.args.pairs.now.items c.args.index c.index_mut.result.now c.requires.can.below c.index_mut.ensures.value in
+    reading_there disk (g.D.BlockDevice.history c.args.device.now) c.args.pairs.now.items c.args.map.now c.args.index c.index_mut.result.now (here_at _ _ _ n) c.requires.kept
+    g.D.BlockDevice c.args.device.now c.commit_to.new.device two_of 1 c.args.cache.now c.in_ok-outcome.ensures.device

@@ -1,12 +1,15 @@
 use Rattle.std.proofs.lemmas.Result.{err_from_is_err_and}
-use Rattle.std.proofs.Common.{◌+◌, ◌<◌, ◌∙◌, Err, [], ◌∷◌, length, refl, sym, ap, ap₂, subst, arith, rules, length-append}
+use Rattle.std.specs.Prelude.{◌⊎◌, IfErr}
+use Rattle.lfs_device.specs.declared.error.Error.TheVariants.{Corrupt, Io, NoMemory}
+use Rattle.lfs_device.specs.Calls.{TellsFaults}
+use Rattle.std.proofs.Common.{◌≡◌, ◌+◌, ◌<◌, ◌∙◌, Err, [], ◌∷◌, length, refl, sym, ap, ap₂, subst, arith, rules, length-append}
 use Rattle.std.specs.Option.{option_map}
 use Rattle.lfs_device.specs.Shown.{disk_of}
 use Rattle.lfs_device.specs.declared.geometry.Geometry.{Geometry}
 use Rattle.lfs_model.specs.Slots.{address_of}
 use Rattle.lfs_model.proofs.Histories.{began}
 use Rattle.lfs_thread.specs.Begun.{IsBegun}
-use Rattle.lfs_thread.proofs.Begun.{begun_first, begun_next, begun_kept, begun_none_in_flight, begun_few, no_thread, same_error, then_reads}
+use Rattle.lfs_thread.proofs.Begun.{begun_first, begun_next, begun_kept, begun_none_in_flight, begun_few, no_thread, read_on, same_error}
 use Rattle.lfs_thread.proofs.reading.read_pairs.Goals as goal
 
 pub loop-init : goal.loop-init
@@ -32,36 +35,33 @@ returns-in_err-pair-in-Some-clause-corrupt g c e =
     no_thread _ _ _ _ _ _ _ (address_of c.in-Some.at) (ap₂ disk_of c.loop.invariant.device.geometry c.loop.invariant.device.same) (g.met.D.BlockDevice.shape c.args.device.now).count (ap (option_map address_of) c.in-Some.is)
     c.loop.invariant.begun (c.in_err-pair-in-Some.ensures.corrupt (ap Err (same_error p.1 p.2 e)))
 
-pub returns-in_err-pair-in-Some-clause-device : goal.returns-in_err-pair-in-Some-clause-device
-returns-in_err-pair-in-Some-clause-device g c =
-    let read = c.in_err-pair-in-Some.ensures.device in
-    record {
-      same = read.same ∙ c.loop.invariant.device.same;
-      geometry = read.geometry ∙ c.loop.invariant.device.geometry;
-      reads = then_reads c.loop.invariant.device.reads c.loop.invariant.device.same read.reads;
-    }
+pub returns-in_err-pair-in-Some-clause-told : goal.returns-in_err-pair-in-Some-clause-told
+returns-in_err-pair-in-Some-clause-told g c =
+    let told = c.in_err-pair-in-Some.ensures.told in
+    let errors : IfErr c.from_residual.result (λ e. (e ≡ Corrupt) ⊎ ((e ≡ Io) ⊎ (e ≡ NoMemory))) = search rules in
+    let faults : TellsFaults g.D.BlockDevice c.args.device.now c.read_pair.new.device c.from_residual.result = search rules in
+    record { device = read_on c.loop.invariant.device told.device; errors = errors; faults = faults }
 
-pub returns-in_err-push-in-Some-clause-device : goal.returns-in_err-push-in-Some-clause-device
-returns-in_err-push-in-Some-clause-device g c =
-    let read = c.in_ok-pair-in-Some.ensures.device in
+pub returns-in_err-push-in-Some-clause-told : goal.returns-in_err-push-in-Some-clause-told
+returns-in_err-push-in-Some-clause-told g c =
+    let told = c.in_ok-pair-in-Some.ensures.told in
+    let errors : IfErr c.from_residual-in_err-push-in-Some.result (λ e. (e ≡ Corrupt) ⊎ ((e ≡ Io) ⊎ (e ≡ NoMemory))) = search rules in
+    let full : c.from_residual-in_err-push-in-Some.result ≡ Err NoMemory = search rules in
+    let no_fault = told.faults.no_fault (λ e. absurd (cc)) ∙ c.loop.invariant.no_fault in
     record {
-      same = read.same ∙ c.loop.invariant.device.same;
-      geometry = read.geometry ∙ c.loop.invariant.device.geometry;
-      reads = then_reads c.loop.invariant.device.reads c.loop.invariant.device.same read.reads;
+      device = read_on c.loop.invariant.device told.device;
+      errors = errors;
+      faults = record { fault = λ e. absurd (cc); no_fault = λ _. no_fault };
     }
 
 pub loop-preserved : goal.loop-preserved
 loop-preserved g c =
     let read = c.in_ok-pair-in-Some.ensures in
-    let no_fault = read.faults.no_fault (λ e. absurd (cc)) in
+    let no_fault = read.told.faults.no_fault (λ e. absurd (cc)) in
     record {
       begun = begun_next (disk_of (g.D.BlockDevice.geometry c.loop.device) (g.D.BlockDevice.blocks c.loop.device)) _ _ _ _ c.loop.pairs.items _ c.loop.map _ (option_map address_of c.loop.next) (address_of c.in-Some.at) c.in_ok-pair-in-Some.pair (option_map address_of c.tail_of-next.result)
-          (ap₂ disk_of read.device.geometry read.device.same) read.device.reads (ap (option_map address_of) c.in-Some.is) c.loop.invariant.begun read.header read.at read.stands c.in_ok-push-in-Some.ensures.items read.marked c.tail_of-next.ensures;
-      device = record {
-        same = read.device.same ∙ c.loop.invariant.device.same;
-        geometry = read.device.geometry ∙ c.loop.invariant.device.geometry;
-        reads = then_reads c.loop.invariant.device.reads c.loop.invariant.device.same read.device.reads;
-      };
+          (ap₂ disk_of read.told.device.geometry read.told.device.same) read.told.device.reads (ap (option_map address_of) c.in-Some.is) c.loop.invariant.begun read.read.header read.read.address read.read.stands c.in_ok-push-in-Some.ensures.items read.read.marked c.tail_of-next.ensures;
+      device = read_on c.loop.invariant.device read.told.device;
       no_fault = no_fault ∙ c.loop.invariant.no_fault;
       few = (let before = c.loop.invariant.few in let two = read.few in let more = ap length c.in_ok-push-in-Some.ensures.items ∙ length-append c.loop.pairs.items (c.in_ok-pair-in-Some.pair ∷ []) in omega (arith, before, two, more));
       count = ap length c.in_ok-push-in-Some.ensures.items ∙ length-append c.loop.pairs.items (c.in_ok-pair-in-Some.pair ∷ []) ∙ ap (λ n. n + 1) c.loop.invariant.count;

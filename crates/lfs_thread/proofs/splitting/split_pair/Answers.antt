@@ -1,14 +1,13 @@
 use Rattle.std.proofs.Common.{◌+◌, ◌∙◌, Err, List, ap, refl, subst, sym, set}
 use Rattle.std.proofs.lemmas.Result.{err_from_is_err_and}
-use Rattle.lfs_device.specs.Calls.{ChangesOnly}
 use Rattle.lfs_model.specs.BlockSets.{BlockSets, IsInFlight, Used}
 use Rattle.lfs_model.specs.Slots.{address_of}
-use Rattle.lfs_model.specs.Thread.{Pair}
 use Rattle.lfs_model.proofs.Histories.{LeavesOnly-weaker}
 use Rattle.lfs_thread.specs.Device.{four_of}
 use Rattle.lfs_thread.specs.Kept.{Header, disk_on}
-use Rattle.lfs_thread.proofs.Changing.{at_there, pair_at_index}
+use Rattle.lfs_thread.proofs.Changing.{at_there}
 use Rattle.lfs_thread.proofs.Coming.{second_held}
+use Rattle.lfs_thread.proofs.Lending.{reading_there}
 use Rattle.lfs_thread.proofs.Parting.{can_split, device_split, device_is_split, left_by_split, placed}
 use Rattle.lfs_thread.proofs.Told.{errors_again}
 use Rattle.lfs_thread.proofs.splitting.split_pair.Goals as goal
@@ -31,14 +30,14 @@ pub returns-clause-kept : goal.returns-clause-kept
 returns-clause-kept g c =
     let a = at_there (disk_on g.D.BlockDevice c.args.device.now) c.args.pairs.now.items c.args.index c.index.result.now c.requires.can.can.below c.index.ensures in
     let e = c.in_ok-fresh_pair.ensures in
-    device_split _ _ _ _ _ _ _ _ _ _ _ _ (address_of c.args.fresh) _ e.device.geometry a c.requires.kept c.requires.can e.splits e.device.others e.device.elsewhere _
+    device_split _ _ _ _ _ _ _ _ _ _ _ _ (address_of c.args.fresh) _ e.device.only.geometry a c.requires.kept c.requires.can e.splits e.device.only.others e.device.only.elsewhere _
     (ap (λ (z : List Header). set (set z c.args.index c.split_to.new.pair) (c.args.index + 1) c.in_ok-fresh_pair.fresh_pair) c.in_ok-insert.ensures.items ∙ placed _ _ _ _ _ c.in_ok-fresh_pair.fresh_pair a) _ (c.settle-2.ensures ∙ ap (λ (s : BlockSets). set s (address_of c.args.fresh).1 Used) c.settle.ensures)
 
 pub returns-clause-is_split : goal.returns-clause-is_split
 returns-clause-is_split g c =
     let a = at_there (disk_on g.D.BlockDevice c.args.device.now) c.args.pairs.now.items c.args.index c.index.result.now c.requires.can.can.below c.index.ensures in
     let e = c.in_ok-fresh_pair.ensures in
-    device_is_split _ _ _ _ _ _ _ _ _ _ _ _ (address_of c.args.fresh) _ e.device.geometry a c.requires.kept c.requires.can e.splits e.device.others e.device.elsewhere _
+    device_is_split _ _ _ _ _ _ _ _ _ _ _ _ (address_of c.args.fresh) _ e.device.only.geometry a c.requires.kept c.requires.can e.splits e.device.only.others e.device.only.elsewhere _
     (ap (λ (z : List Header). set (set z c.args.index c.split_to.new.pair) (c.args.index + 1) c.in_ok-fresh_pair.fresh_pair) c.in_ok-insert.ensures.items ∙ placed _ _ _ _ _ c.in_ok-fresh_pair.fresh_pair a) _ (c.settle-2.ensures ∙ ap (λ (s : BlockSets). set s (address_of c.args.fresh).1 Used) c.settle.ensures)
 
 pub returns-clause-stops : goal.returns-clause-stops
@@ -62,12 +61,12 @@ pub returns-in_err-fresh_pair-clause-device : goal.returns-in_err-fresh_pair-cla
 returns-in_err-fresh_pair-clause-device g c =
     let disk = disk_on g.D.BlockDevice c.args.device.now in
     let a = at_there disk c.args.pairs.now.items c.args.index c.index.result.now c.requires.can.can.below c.index.ensures in
-    subst (λ (p : Pair). ChangesOnly g.D.BlockDevice (four_of p.at (address_of c.args.fresh)) c.args.device.now c.split_to.new.device)
-    (sym (pair_at_index disk (g.D.BlockDevice.history c.args.device.now) c.args.pairs.now.items c.args.map.now c.args.index c.index.result.now a)) c.in_err-fresh_pair.ensures.device
+    reading_there disk (g.D.BlockDevice.history c.args.device.now) c.args.pairs.now.items c.args.map.now c.args.index c.index.result.now a c.requires.kept
+    g.D.BlockDevice c.args.device.now c.split_to.new.device (λ at. four_of at (address_of c.args.fresh)) 3 c.args.cache.now c.in_err-fresh_pair.ensures.device
 
 pub returns-clause-device : goal.returns-clause-device
 returns-clause-device g c =
     let disk = disk_on g.D.BlockDevice c.args.device.now in
     let a = at_there disk c.args.pairs.now.items c.args.index c.index.result.now c.requires.can.can.below c.index.ensures in
-    subst (λ (p : Pair). ChangesOnly g.D.BlockDevice (four_of p.at (address_of c.args.fresh)) c.args.device.now c.split_to.new.device)
-    (sym (pair_at_index disk (g.D.BlockDevice.history c.args.device.now) c.args.pairs.now.items c.args.map.now c.args.index c.index.result.now a)) c.in_ok-fresh_pair.ensures.device
+    reading_there disk (g.D.BlockDevice.history c.args.device.now) c.args.pairs.now.items c.args.map.now c.args.index c.index.result.now a c.requires.kept
+    g.D.BlockDevice c.args.device.now c.split_to.new.device (λ at. four_of at (address_of c.args.fresh)) 3 c.args.cache.now c.in_ok-fresh_pair.ensures.device

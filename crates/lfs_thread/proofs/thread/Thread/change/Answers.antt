@@ -1,4 +1,4 @@
-use Rattle.std.proofs.Common.{sym, ap, ap₂, subst, ◌∙◌, inl, inr, set}
+use Rattle.std.proofs.Common.{◌+◌, sym, ap, ap₂, subst, ◌∙◌, inl, inr, set}
 use Rattle.lfs_device.specs.Shown.{disk_of}
 use Rattle.lfs_pair.specs.ChangeSeen.{changes_seen}
 use Rattle.lfs_pair.specs.Pair.{address_in}
@@ -6,9 +6,11 @@ use Rattle.lfs_model.specs.Thread.{Pair}
 use Rattle.lfs_model.proofs.Histories.{LeavesOnly-weaker}
 use Rattle.lfs_thread.specs.Device.{StopsLeave, two_of}
 use Rattle.lfs_thread.specs.Kept.{State, disk_on, seen_on}
-use Rattle.lfs_thread.specs.Steps.{CanChange, HasTold, IsChanged, IsLeft, IsRefused, Writes, pair_in}
-use Rattle.lfs_thread.proofs.Changing.{at_there, pair_at_index, can_commit, device_kept, device_changed, ok_outcome, full_kept, refused, left_in_thread}
-use Rattle.lfs_thread.proofs.Told.{told_from, writes_from}
+use Rattle.lfs_thread.specs.Lent.{at_hand, read_if_missing}
+use Rattle.lfs_thread.specs.Steps.{CanChange, HasTold, IsChanged, IsLeft, IsRefused, WritesReading, pair_in}
+use Rattle.lfs_thread.proofs.Changing.{at_there, can_commit, device_kept, device_changed, ok_outcome, full_kept, refused, left_in_thread}
+use Rattle.lfs_thread.proofs.Lending.{reading_there}
+use Rattle.lfs_thread.proofs.Told.{told_from, reading_from}
 use Rattle.lfs_thread.proofs.thread.Thread.change.Goals as goal
 
 pub commit_to-outcome-requires-clause-can : goal.commit_to-outcome-requires-clause-can
@@ -30,7 +32,7 @@ invariant_of-self g c ok =
     let a = at_there (disk_on g.D.BlockDevice c.self.inside.device) c.self.inside.pairs.items c.args.index c.index_mut.result.now can.below c.index_mut.ensures.value in
     let e = c.commit_to-outcome.ensures in (
       elim (ok_outcome c.commit_to-outcome.result (sym c.is_err-self-inside.ensures.value ∙ ok)) [
-        | inl done ↦ device_kept _ _ _ _ _ _ _ _ _ _ _ _ e.device.geometry a (c.self.invariant works).0 can (e.done done) e.device.others e.device.elsewhere
+        | inl done ↦ device_kept _ _ _ _ _ _ _ _ _ _ _ _ e.device.only.geometry a (c.self.invariant works).0 can (e.done done) e.device.only.others e.device.only.elsewhere
         | inr full ↦ full_kept _ _ _ _ _ _ _ _ _ a (c.self.invariant works).0 (ap₂ disk_of (e.full full).device.geometry (e.full full).device.same) (e.full full).pair (e.full full).device.reads
       ],
       e.current,
@@ -43,7 +45,7 @@ returns-clause-done g c done =
     let a = at_there (disk_on g.D.BlockDevice c.self.inside.device) c.self.inside.pairs.items c.args.index c.index_mut.result.now can.below c.index_mut.ensures.value in
     let e = c.commit_to-outcome.ensures in
     subst (λ (v : State). IsChanged v.kept c.args.index (changes_seen c.args.changes.now) (seen_on g.D.BlockDevice c.commit_to-outcome.new.device (set c.self.inside.pairs.items c.args.index c.commit_to-outcome.new.pair) c.self.inside.map)) c.self.view_is
-    (device_changed _ _ _ _ _ _ c.self.inside.pairs.items _ c.args.index _ _ _ e.device.geometry a (c.self.invariant works).0 can (e.done done) e.device.others e.device.elsewhere)
+    (device_changed _ _ _ _ _ _ c.self.inside.pairs.items _ c.args.index _ _ _ e.device.only.geometry a (c.self.invariant works).0 can (e.done done) e.device.only.others e.device.only.elsewhere)
 
 pub returns-clause-full : goal.returns-clause-full
 returns-clause-full g c full =
@@ -60,12 +62,15 @@ returns-clause-errors g c =
 
 pub returns-clause-device : goal.returns-clause-device
 returns-clause-device g c =
+    let works = ap (λ (v : State). v.failed) c.self.view_is ∙ c.requires.works in
     let can = subst (λ (v : State). CanChange v.kept c.args.index (changes_seen c.args.changes.now)) (sym c.self.view_is) c.requires.can in
-    let a = at_there (disk_on g.D.BlockDevice c.self.inside.device) c.self.inside.pairs.items c.args.index c.index_mut.result.now can.below c.index_mut.ensures.value in
-    let at = pair_at_index (disk_on g.D.BlockDevice c.self.inside.device) (g.D.BlockDevice.history c.self.inside.device) c.self.inside.pairs.items c.self.inside.map c.args.index _ a in
-    subst (λ (v : State). Writes (two_of (pair_in v.kept c.args.index).at) v.kept (seen_on g.D.BlockDevice c.commit_to-outcome.new.device (set c.self.inside.pairs.items c.args.index c.commit_to-outcome.new.pair) c.self.inside.map)) c.self.view_is
-    (subst (λ (p : Pair). Writes (two_of p.at) (seen_on g.D.BlockDevice c.self.inside.device c.self.inside.pairs.items c.self.inside.map) (seen_on g.D.BlockDevice c.commit_to-outcome.new.device (set c.self.inside.pairs.items c.args.index c.commit_to-outcome.new.pair) c.self.inside.map)) (sym at)
-    (writes_from g.D.BlockDevice c.self.inside.device c.commit_to-outcome.new.device c.self.inside.pairs.items (set c.self.inside.pairs.items c.args.index c.commit_to-outcome.new.pair) c.self.inside.map c.self.inside.map (two_of (address_in c.index_mut.result.now)) c.commit_to-outcome.ensures.device))
+    let disk = disk_on g.D.BlockDevice c.self.inside.device in
+    let a = at_there disk c.self.inside.pairs.items c.args.index c.index_mut.result.now can.below c.index_mut.ensures.value in
+    let new = c.commit_to-outcome.new in
+    let reading = reading_there disk (g.D.BlockDevice.history c.self.inside.device) c.self.inside.pairs.items c.self.inside.map c.args.index c.index_mut.result.now a (c.self.invariant works).0
+    g.D.BlockDevice c.self.inside.device new.device two_of 1 c.self.inside.cache c.commit_to-outcome.ensures.device in
+    subst (λ (v : State). WritesReading (1 + read_if_missing (at_hand v c.args.index)) (two_of (pair_in v.kept c.args.index).at) v.kept (seen_on g.D.BlockDevice new.device (set c.self.inside.pairs.items c.args.index new.pair) c.self.inside.map)) c.self.view_is
+    (reading_from g.D.BlockDevice c.self.inside.device new.device c.self.inside.pairs.items (set c.self.inside.pairs.items c.args.index new.pair) c.self.inside.map c.self.inside.map _ reading)
 
 pub returns-clause-stops : goal.returns-clause-stops
 returns-clause-stops g c cleanly =

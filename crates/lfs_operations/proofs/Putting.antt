@@ -1,5 +1,5 @@
 -- A pair that is changed, or split into two free blocks.
-use Rattle.std.proofs.Common.{true, ℕ, ◌≡◌, ◌⊎◌, inl, inr, List, [], ◌∷◌, Result, Ok, Err, arith, refl, sym, ap, subst, ◌∙◌, set}
+use Rattle.std.proofs.Common.{true, ℕ, ◌≡◌, ◌≤◌, ◌⊎◌, Option, None, Some, inl, inr, List, [], ◌∷◌, Result, Ok, Err, arith, refl, sym, ap, subst, ◌∙◌, set}
 use Rattle.std.specs.Prelude.{IfErr, is_err}
 use Rattle.lfs_device.specs.declared.error.Error.{Error}
 use Rattle.lfs_device.specs.declared.error.Error.TheVariants.{Io, NoMemory, NoSpace}
@@ -14,6 +14,7 @@ use Rattle.lfs_model.proofs.BlockSets.{slice_get-set_same, slice_get-set_other}
 use Rattle.lfs_model.proofs.Histories.{LeavesOnly-weaker, LeavesOnly-trans, StayUnprogrammed-refl, StayUnprogrammed-trans, EachSince-until, EachSince-behind, began, OnlyReads-trans, StayUnprogrammed-reads, LeavesOnly-reads, AtWorst-read}
 use Rattle.lfs_thread.specs.Device.{StopsLeave, four_of}
 use Rattle.lfs_thread.specs.Kept.{Kept, State}
+use Rattle.lfs_thread.specs.Lent.{read_if_missing}
 use Rattle.lfs_thread.specs.Steps.{pair_in, AreHeld, AreHalves, ArePartsOf, CanBeSplit, IsLeft, HasTold, IsAsBefore, IsLeftBySplit, IsOnlyRead, IsSplit, Writes}
 use Rattle.lfs_operations.specs.Changing.{AreTwoFree, CanPut, IsCut, IsCutIn, IsLeftByPut, IsTooLarge, IsLeftByCut, TellsSpace, WritesIn, flying, Tells, has_failed}
 use Rattle.lfs_operations.proofs.Taking.{within}
@@ -218,3 +219,9 @@ tells_state old new sets e result given is same failed told = record {
   failed = failed ∙ ap is_err is ∙ sym (failing e given same (subst (λ r. IfErr r (λ x. (x ≡ Io) ⊎ (x ≡ NoMemory))) is told.errors));
   tells = tells old.kept new.kept sets e result given is same told;
 }
+
+-- ---- how often a step reads
+
+pub read_at_most : (block : Option (List ℕ)) → read_if_missing block ≤ 1
+read_at_most None = omega arith
+read_at_most (Some bytes) = omega arith

@@ -1,6 +1,7 @@
 // Pairs that are changed, or split where what the changes make doesn't fit.
 
-ghost use Rattle.std.specs.Prelude.{◌≡◌, false, IfSome, IfNone, OnOk};
+ghost use Rattle.std.specs.Prelude.{◌≡◌, ◌≤◌, ◌+◌, false, IfSome, IfNone, OnOk};
+ghost use Rattle.lfs_model.specs.History.{reads};
 ghost use Rattle.lfs_model.specs.Slots.{address_of};
 ghost use Rattle.lfs_pair.specs.ChangeSeen.{changes_seen};
 ghost use Rattle.lfs_thread.specs.Device.{StopsLeave};
@@ -41,6 +42,7 @@ fn split_in_two<D: BlockDevice>(
     ensures is_cut { OnOk result (IsCut thread.old.kept index (changes_seen changes.now) thread.new.kept) }
     ensures errors { Tells thread.old thread.new result }
     ensures device { WritesIn thread.old.kept index thread.new.kept }
+    ensures few { reads thread.new.kept.history ≤ reads thread.old.kept.history + 4 }
     ensures stops { StopsLeave thread.old.kept.history thread.new.kept.history (IsLeftByCut thread.old.kept index (changes_seen changes.now)) }
 {
     let Some(fresh) = take_two(thread) else {
@@ -62,6 +64,7 @@ pub(crate) fn put<D: BlockDevice>(
     ensures is_put { OnOk result (IsPut thread.old.kept index (changes_seen changes.now) thread.new.kept) }
     ensures errors { TellsPut thread.old thread.new index (changes_seen changes.now) result }
     ensures device { WritesIn thread.old.kept index thread.new.kept }
+    ensures few { reads thread.new.kept.history ≤ reads thread.old.kept.history + 6 }
     ensures stops { StopsLeave thread.old.kept.history thread.new.kept.history (IsLeftByPut thread.old.kept index (changes_seen changes.now)) }
 {
     match thread.change(alloc, index, changes)? {

@@ -1,6 +1,7 @@
 // Files that come into directories.
 
-ghost use Rattle.std.specs.Prelude.{◌≡◌, false, OnOk};
+ghost use Rattle.std.specs.Prelude.{◌≡◌, ◌≤◌, ◌+◌, false, OnOk};
+ghost use Rattle.lfs_model.specs.History.{reads};
 ghost use Rattle.lfs_model.specs.PowerLoss.{Survives};
 ghost use Rattle.lfs_model.specs.Shown.{tree_in};
 ghost use Rattle.lfs_operations.specs.Changing.{Alters, TellsPut, WritesIn};
@@ -15,7 +16,7 @@ use std::alloc::Global;
 
 /// Makes an empty file, an entry with an inline struct of no bytes, at the id of the pair where its
 /// name belongs. Where the pair has no room for it, it is split into two free blocks (DESIGN.md of
-/// littlefs, "Metadata pairs").
+/// littlefs, "Metadata pairs"). It takes at most six reads.
 ///
 /// `NoSpace` where it has none and fewer than two blocks are free: everything is as it was then.
 /// `Io` where a call of the device failed, and `NoMemory` where there is no room for the pair's
@@ -33,6 +34,7 @@ pub fn create<D: BlockDevice>(
     ensures alters { OnOk result (Alters thread.old.kept pair thread.new.kept) }
     ensures errors { TellsPut thread.old thread.new pair (file_changes id name.now) result }
     ensures device { WritesIn thread.old.kept pair thread.new.kept }
+    ensures few { reads thread.new.kept.history ≤ reads thread.old.kept.history + 6 }
     ensures survives { (can : CanCreate thread.old.kept pair id name.now) → Survives thread.old.kept.disk thread.old.kept.history thread.new.kept.history
         (tree_in thread.old.kept.disk thread.old.kept.pairs) (with_file thread.old.kept can.path name.now) }
 {

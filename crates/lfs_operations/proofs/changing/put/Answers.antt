@@ -1,4 +1,4 @@
-use Rattle.std.proofs.Common.{ap, sym, subst, ◌∙◌, inl, inr, Ok, Err}
+use Rattle.std.proofs.Common.{◌≤◌, ◌+◌, arith, ap, sym, subst, ◌∙◌, inl, inr, Ok, Err}
 use Rattle.std.proofs.lemmas.Result.{err_from_is_err_and}
 use Rattle.lfs_device.specs.declared.error.Error.TheVariants as Error
 use Rattle.lfs_pair.specs.declared.committing.Outcome.TheVariants as Outcome
@@ -6,8 +6,9 @@ use Rattle.lfs_model.proofs.Histories.{LeavesOnly-weaker}
 use Rattle.lfs_pair.specs.ChangeSeen.{changes_seen}
 use Rattle.lfs_thread.specs.Device.{StopsLeave}
 use Rattle.lfs_thread.specs.Kept.{Kept}
+use Rattle.lfs_thread.specs.Lent.{at_hand}
 use Rattle.lfs_operations.specs.Changing.{IsCut, IsLeftByCut, TellsPut, TellsSpace, WritesIn}
-use Rattle.lfs_operations.proofs.Putting.{read_is, cut_later, tells_later, writes_later, stops_later, not_both}
+use Rattle.lfs_operations.proofs.Putting.{read_at_most, read_is, cut_later, tells_later, writes_later, stops_later, not_both}
 use Rattle.lfs_operations.proofs.changing.put.Goals as goal
 
 pub returns-in_err-change-clause-stops : goal.returns-in_err-change-clause-stops
@@ -87,3 +88,29 @@ returns-in_err-split_in_two-in-Full-clause-stops g c =
     (subst (λ (k : Kept). WritesIn k c.args.index c.split_in_two.new.thread.kept) (read_is old c.change.new.self.kept r.only) c.split_in_two.ensures.device)
     c.change.ensures.stops
     (subst (λ (k : Kept). StopsLeave k.history c.split_in_two.new.thread.kept.history (IsLeftByCut k c.args.index (changes_seen c.args.changes.now))) (read_is old c.change.new.self.kept r.only) c.split_in_two.ensures.stops)
+
+pub returns-in_err-change-clause-few : goal.returns-in_err-change-clause-few
+returns-in_err-change-clause-few g c =
+    let few = c.change.ensures.device.few in
+    let most = read_at_most (at_hand c.args.thread.now c.args.index) in
+    omega (arith, few, most)
+
+pub returns-in-Done-clause-few : goal.returns-in-Done-clause-few
+returns-in-Done-clause-few g c =
+    let few = c.change.ensures.device.few in
+    let most = read_at_most (at_hand c.args.thread.now c.args.index) in
+    omega (arith, few, most)
+
+pub returns-in_err-split_in_two-in-Full-clause-few : goal.returns-in_err-split_in_two-in-Full-clause-few
+returns-in_err-split_in_two-in-Full-clause-few g c =
+    let first = c.change.ensures.device.few in
+    let most = read_at_most (at_hand c.args.thread.now c.args.index) in
+    let second = c.split_in_two.ensures.few in
+    omega (arith, first, most, second)
+
+pub returns-in_ok-split_in_two-in-Full-clause-few : goal.returns-in_ok-split_in_two-in-Full-clause-few
+returns-in_ok-split_in_two-in-Full-clause-few g c =
+    let first = c.change.ensures.device.few in
+    let most = read_at_most (at_hand c.args.thread.now c.args.index) in
+    let second = c.split_in_two.ensures.few in
+    omega (arith, first, most, second)

@@ -1,12 +1,14 @@
-use Rattle.std.proofs.Common.{ap, sym, subst, ◌∙◌, Err}
+use Rattle.std.proofs.Common.{◌≤◌, ◌+◌, arith, ap, sym, subst, ◌∙◌, Err}
 use Rattle.std.proofs.lemmas.Result.{err_from_is_err_and}
+use Rattle.lfs_model.specs.History.{reads}
 use Rattle.lfs_model.specs.Slots.{address_of}
 use Rattle.lfs_thread.specs.Device.{StopsLeave, four_of}
 use Rattle.lfs_thread.specs.Kept.{State}
+use Rattle.lfs_thread.specs.Lent.{at_hand}
 use Rattle.lfs_thread.specs.Steps.{CanBeSplit, HasTold, IsLeftBySplit, IsSplit, Writes, pair_in}
 use Rattle.lfs_pair.specs.ChangeSeen.{changes_seen}
 use Rattle.lfs_operations.specs.Changing.{WritesIn, flying}
-use Rattle.lfs_operations.proofs.Putting.{can_split, cut_in, stops_by_cut, writes_in, writes_none, tells_state}
+use Rattle.lfs_operations.proofs.Putting.{read_at_most, can_split, cut_in, stops_by_cut, writes_in, writes_none, tells_state}
 use Rattle.lfs_operations.proofs.changing.split_in_two.Goals as goal
 
 pub returns-in_default-clause-device : goal.returns-in_default-clause-device
@@ -37,12 +39,29 @@ returns-clause-stops g c =
 pub returns-clause-device : goal.returns-clause-device
 returns-clause-device g c =
     writes_in c.args.thread.now.kept c.args.index (address_of c.in-Some.fresh) (changes_seen c.args.changes.now) c.in-Some.ensures.were_free c.split.new.self.kept
-    (subst (λ (t : State). Writes (four_of (pair_in t.kept c.args.index).at (address_of c.in-Some.fresh)) t.kept c.split.new.self.kept) c.in-Some.ensures.taken c.split.ensures.device)
+    (subst (λ (t : State). Writes (four_of (pair_in t.kept c.args.index).at (address_of c.in-Some.fresh)) t.kept c.split.new.self.kept) c.in-Some.ensures.taken c.split.ensures.device.only)
 
 pub returns-clause-is_cut : goal.returns-clause-is_cut
 returns-clause-is_cut g c = (
   address_of c.in-Some.fresh,
   cut_in c.args.thread.now.kept c.args.index (address_of c.in-Some.fresh) (changes_seen c.args.changes.now) c.in-Some.ensures.were_free c.split.new.self.kept
       (subst (λ (t : State). IsSplit t.kept c.args.index (address_of c.in-Some.fresh) (changes_seen c.args.changes.now) c.split.new.self.kept) c.in-Some.ensures.taken c.in_ok-split.ensures.done)
-      (subst (λ (t : State). Writes (four_of (pair_in t.kept c.args.index).at (address_of c.in-Some.fresh)) t.kept c.split.new.self.kept) c.in-Some.ensures.taken c.split.ensures.device),
+      (subst (λ (t : State). Writes (four_of (pair_in t.kept c.args.index).at (address_of c.in-Some.fresh)) t.kept c.split.new.self.kept) c.in-Some.ensures.taken c.split.ensures.device.only),
 )
+
+pub returns-in_default-clause-few : goal.returns-in_default-clause-few
+returns-in_default-clause-few g c = let same = ap (λ (t : State). reads t.kept.history) c.in_default.ensures.same in omega (arith, same)
+
+pub returns-in_err-split-clause-few : goal.returns-in_err-split-clause-few
+returns-in_err-split-clause-few g c =
+    let few = c.split.ensures.device.few in
+    let most = read_at_most (at_hand c.take_two.new.thread c.args.index) in
+    let taken = ap (λ (t : State). reads t.kept.history) c.in-Some.ensures.taken in
+    omega (arith, few, most, taken)
+
+pub returns-clause-few : goal.returns-clause-few
+returns-clause-few g c =
+    let few = c.split.ensures.device.few in
+    let most = read_at_most (at_hand c.take_two.new.thread c.args.index) in
+    let taken = ap (λ (t : State). reads t.kept.history) c.in-Some.ensures.taken in
+    omega (arith, few, most, taken)

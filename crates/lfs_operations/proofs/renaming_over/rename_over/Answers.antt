@@ -57,7 +57,7 @@ returns-in_err-change-clause-errors g c =
 pub returns-in_err-change-clause-device : goal.returns-in_err-change-clause-device
 returns-in_err-change-clause-device g c =
     blocks_after_read c.args.thread.now.kept c.copy_at.new.thread.kept c.change.new.self.kept (two_of (pair_in c.args.thread.now.kept c.args.pair).at) c.copy_at.ensures.only
-    (subst (λ (k : Kept). Writes (two_of (pair_in k c.args.pair).at) c.copy_at.new.thread.kept c.change.new.self.kept) (read_is c.args.thread.now.kept c.copy_at.new.thread.kept c.copy_at.ensures.only) c.change.ensures.device)
+    (subst (λ (k : Kept). Writes (two_of (pair_in k c.args.pair).at) c.copy_at.new.thread.kept c.change.new.self.kept) (read_is c.args.thread.now.kept c.copy_at.new.thread.kept c.copy_at.ensures.only) c.change.ensures.device.only)
 
 pub returns-in_err-change-clause-survives : goal.returns-in_err-change-clause-survives
 returns-in_err-change-clause-survives g c rename =
@@ -66,7 +66,7 @@ returns-in_err-change-clause-survives g c rename =
     ∙ ap₂ (λ m z. PutMove m ∷ Delete c.args.id ∷ Delete (place_without c.args.id c.args.place) ∷ slot_changes (place_without c.args.id c.args.place) c.args.name.now z) state c.in_ok-copy.ensures.copied in
     over_survives c.args.thread.now.kept c.args.pair c.args.id c.args.place c.args.name.now rename c.change.new.self.kept.history
     (change_stops_after_read c.args.thread.now.kept c.copy_at.new.thread.kept c.change.new.self.kept c.args.pair (rename_over_changes c.args.thread.now.kept c.args.pair c.args.id c.args.place c.args.name.now) (two_of (pair_in c.copy_at.new.thread.kept c.args.pair).at) c.copy_at.ensures.only
-    rename.can.ready rename.can.first rename.can.stands.pair rename.can.stands.rest rename.can.stands.place c.change.ensures.device
+    rename.can.ready rename.can.first rename.can.stands.pair rename.can.stands.rest rename.can.stands.place c.change.ensures.device.only
     (subst (λ z. StopsLeave c.copy_at.new.thread.kept.history c.change.new.self.kept.history (IsLeft c.copy_at.new.thread.kept c.args.pair z)) are c.change.ensures.stops))
 
 pub returns-clause-renamed : goal.returns-clause-renamed
@@ -93,7 +93,7 @@ returns-clause-errors g c = over_done c.args.thread.now c.copy_at.new.thread c.c
 pub returns-clause-device : goal.returns-clause-device
 returns-clause-device g c =
     blocks_after_read c.args.thread.now.kept c.copy_at.new.thread.kept c.change.new.self.kept (two_of (pair_in c.args.thread.now.kept c.args.pair).at) c.copy_at.ensures.only
-    (subst (λ (k : Kept). Writes (two_of (pair_in k c.args.pair).at) c.copy_at.new.thread.kept c.change.new.self.kept) (read_is c.args.thread.now.kept c.copy_at.new.thread.kept c.copy_at.ensures.only) c.change.ensures.device)
+    (subst (λ (k : Kept). Writes (two_of (pair_in k c.args.pair).at) c.copy_at.new.thread.kept c.change.new.self.kept) (read_is c.args.thread.now.kept c.copy_at.new.thread.kept c.copy_at.ensures.only) c.change.ensures.device.only)
 
 pub returns-clause-survives : goal.returns-clause-survives
 returns-clause-survives g c rename =
@@ -102,5 +102,5 @@ returns-clause-survives g c rename =
     ∙ ap₂ (λ m z. PutMove m ∷ Delete c.args.id ∷ Delete (place_without c.args.id c.args.place) ∷ slot_changes (place_without c.args.id c.args.place) c.args.name.now z) state c.in_ok-copy.ensures.copied in
     over_survives c.args.thread.now.kept c.args.pair c.args.id c.args.place c.args.name.now rename c.change.new.self.kept.history
     (change_stops_after_read c.args.thread.now.kept c.copy_at.new.thread.kept c.change.new.self.kept c.args.pair (rename_over_changes c.args.thread.now.kept c.args.pair c.args.id c.args.place c.args.name.now) (two_of (pair_in c.copy_at.new.thread.kept c.args.pair).at) c.copy_at.ensures.only
-    rename.can.ready rename.can.first rename.can.stands.pair rename.can.stands.rest rename.can.stands.place c.change.ensures.device
+    rename.can.ready rename.can.first rename.can.stands.pair rename.can.stands.rest rename.can.stands.place c.change.ensures.device.only
     (subst (λ z. StopsLeave c.copy_at.new.thread.kept.history c.change.new.self.kept.history (IsLeft c.copy_at.new.thread.kept c.args.pair z)) are c.change.ensures.stops))

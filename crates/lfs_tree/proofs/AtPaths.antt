@@ -1,10 +1,9 @@
 -- What stands at a path, by what a look-up finds.
-use Rattle.std.proofs.Common.{ℕ, ◌≡◌, ◌<◌, ◌≤◌, ◌∙◌, Bool, true, false, cond, nat_lt, List, [], ◌∷◌, ◌++◌, length, Option, Some, None, Result, Ok, Err, refl, sym, ap, subst, append_assoc}
-use Rattle.std.specs.Prelude.{IfOk, is_none}
+use Rattle.std.proofs.Common.{ℕ, ◌≡◌, ◌≤◌, ◌∙◌, Bool, true, false, cond, List, [], ◌∷◌, ◌++◌, length, Option, Some, None, refl, sym, ap, subst, append_assoc}
+use Rattle.std.specs.Prelude.{is_none}
 use Rattle.std.specs.Option.{option_and_then, option_map, option_or}
-use Rattle.std.proofs.lemmas.List.{length-map}
 use Rattle.std.proofs.lemmas.Option.{same_Some}
-use Rattle.lfs_model.specs.TreeEdits.{is_directory, is_file, names_of}
+use Rattle.lfs_model.specs.TreeEdits.{is_directory, is_file}
 use Rattle.lfs_model.specs.Disk.{Disk}
 use Rattle.lfs_model.specs.Names.{Name}
 use Rattle.lfs_model.specs.Operations as ops
@@ -16,7 +15,6 @@ use Rattle.lfs_model.specs.Thread.{Pair, root_of}
 use Rattle.lfs_model.specs.Tree.{Path, Tree, Node, FileNode, DirectoryNode, branch_of, entry_named, names_at, node_of, root_slot, slot_at}
 use Rattle.lfs_model.specs.View.{IsAccepted, IsListIfCtz}
 use Rattle.lfs_model.specs.Shown.{Leads, all_slots, contents_in, entries_in, tree_in}
-use Rattle.lfs_device.specs.declared.error.Error.{Error}
 use Rattle.lfs_thread.specs.Kept.{Kept, disk_on}
 use Rattle.lfs_device.specs.declared.device.BlockDevice.{Ghosts}
 use Rattle.lfs_model.specs.Blocks.{IsDivided}
@@ -27,8 +25,7 @@ use Rattle.lfs_tree.specs.Entry.{ShowsContents}
 use Rattle.lfs_tree.specs.declared.entry.Contents.{Contents}
 use Rattle.lfs_tree.specs.declared.entry.Contents.TheVariants as contents
 use Rattle.lfs_tree.specs.Finds.{Finds}
-use Rattle.lfs_tree.specs.Items.{shape_of}
-use Rattle.lfs_tree.specs.Paths.{BeginsOnPath, ShowsTo}
+use Rattle.lfs_tree.specs.Paths.{ShowsTo}
 use Rattle.lfs_tree.specs.declared.finding.Finding.{Finding}
 use Rattle.lfs_tree.specs.declared.paths.Shown.TheVariants as shown
 use Rattle.lfs_tree.specs.declared.search.Spot.{Spot}
@@ -36,7 +33,6 @@ use Rattle.lfs_tree.specs.declared.finding.Node.TheVariants as node
 use Rattle.std.proofs.lemmas.List.Elements.{recursion_from_All}
 use Rattle.lfs_model.specs.Names.{same_name}
 use Rattle.lfs_model.proofs.Counts.{Each}
-use Rattle.lfs_tree.proofs.Directories.{own_shapes, within}
 use Rattle.lfs_tree.proofs.Visits.{each_entry}
 
 -- a list has as many bytes as its size says

@@ -8,7 +8,7 @@ use Rattle.lfs_model.specs.TreeEdits.{is_file}
 use Rattle.lfs_model.specs.BlockSets.{AreUsed, BlockSets, IsFree, IsInFlight, IsUsed}
 use Rattle.lfs_model.specs.BlockSets.BlockState.{Free, InFlight, Used}
 use Rattle.lfs_model.specs.Disk.{Disk, block_at}
-use Rattle.lfs_model.specs.History.{Event, OnlyReads}
+use Rattle.lfs_model.specs.History.{Event, OnlyReads, faults}
 use Rattle.lfs_model.specs.InDirectory.{IsBehind}
 use Rattle.lfs_model.specs.Keeping.{struct_at}
 use Rattle.lfs_model.specs.Operations.{Operation}
@@ -163,6 +163,7 @@ pub record IsWorked (a : Kept) (h : List Event) (op : Operation) (c : Kept) : Ty
   pub none_comes : (b : ℕ) → IsInFlight c.map b → IsInFlight a.map b
   pub completed : (files : Files) → IsCompleted a.disk a.pairs (record { tree = tree_in a.disk a.pairs; files = files }) op c.disk c.pairs
   pub writes : WritesAmong (with_history a h) c
+  pub no_fault : faults c.history ≡ faults a.history
 
 pub carried : (a : Kept) (h : List Event) (op : Operation) (c : Kept) → IsWorked a h op c → renames_to_itself op ≡ false → is_recover op ≡ false → Carries a op c
 carried a h op c w other asks = record {
@@ -172,6 +173,7 @@ carried a h op c w other asks = record {
   geometry = record { block_size = wrote.shape.block_size; page = wrote.shape.page; count = wrote.shape.count };
   calls = wrote.at_worst.events ++ w.reads.events;
   called = wrote.at_worst.extends ∙ ap (λ z. wrote.at_worst.events ++ z) w.reads.extends ∙ sym (append_assoc wrote.at_worst.events w.reads.events a.history);
+  no_fault = w.no_fault;
   fits = w.ready.writable;
   recovered = recovered_from c.disk c.pairs w.ready.accepted w.ready.settled;
   shows = λ around files. (w.completed files).tree around;

@@ -11,7 +11,7 @@ use Rattle.lfs_model.specs.TreeEdits.{added, last_name}
 use Rattle.lfs_model.specs.BlockSets.{BlockSets, IsFree, IsInFlight}
 use Rattle.lfs_model.specs.BlockSets.BlockState.{Free, InFlight}
 use Rattle.lfs_model.specs.Disk.{entry_limit}
-use Rattle.lfs_model.specs.History.{Event, OnlyReads}
+use Rattle.lfs_model.specs.History.{Event, OnlyReads, faults}
 use Rattle.lfs_model.specs.Names.{Name, is_component, is_name}
 use Rattle.lfs_model.specs.Operations as ops
 use Rattle.lfs_model.specs.Operations.{Flags, Operation}
@@ -101,10 +101,10 @@ module _ (t : State) (root : ℕ) (rests : IsAtRest t root) (path : Path) (compo
     room = let r = room_for t.kept need rests.held.sound can.room in omega (arith, r, enough);
   }
 
-  pub created_at : (c : Kept) (given : List ℕ) (flags : Flags) → OnlyReads t.kept.disk.blocks t.kept.history h → WritesIn (with_history t.kept h) spot.pair c
+  pub created_at : (c : Kept) (given : List ℕ) (flags : Flags) → faults c.history ≡ faults t.kept.history → OnlyReads t.kept.disk.blocks t.kept.history h → WritesIn (with_history t.kept h) spot.pair c
       → ((can : CanCreate (with_history t.kept h) spot.pair spot.id name) → IsCreated (with_history t.kept h) c can.path name) → as_path given ≡ path → Carries t.kept (ops.Open given flags) c
   unfolding can_create
-  created_at c given flags reads writes gives e =
+  created_at c given flags quiet reads writes gives e =
       let is : IsCreated (with_history t.kept h) c place.above name = gives can_create in
       carried t.kept h (ops.Open given flags) c
       (record {
@@ -122,6 +122,7 @@ module _ (t : State) (root : ℕ) (rests : IsAtRest t root) (path : Path) (compo
           each = among_one t.kept spot.pair writes.fresh (behind_below t.kept.pairs place.first spot.pair place.belongs.pair _ place.belongs.place) writes.free;
           writes = writes.writes;
         };
+        no_fault = quiet;
       }) refl refl
 
   pub created_alone : (c : Kept) (op : Operation) (files : Files) → WritesIn (with_history t.kept h) spot.pair c → Alters (with_history t.kept h) spot.pair c
@@ -134,10 +135,10 @@ module _ (t : State) (root : ℕ) (rests : IsAtRest t root) (path : Path) (compo
       (subst (λ (z : Pair). Writes (z.at.0 ∷ z.at.1 ∷ w.fresh) (with_history t.kept h) c) is w.writes)
       (λ has n. alters (subst (Contains c.pairs) (sym is) has))
 
-  pub made_at : (c : Kept) (given : List ℕ) → OnlyReads t.kept.disk.blocks t.kept.history h → WritesUpTo (with_history t.kept h) spot.pair c
+  pub made_at : (c : Kept) (given : List ℕ) → faults c.history ≡ faults t.kept.history → OnlyReads t.kept.disk.blocks t.kept.history h → WritesUpTo (with_history t.kept h) spot.pair c
       → ((can : CanMake (with_history t.kept h) spot.pair spot.id name) → IsMade (with_history t.kept h) c can.path name) → 4 ≤ need → as_path given ≡ path → Carries t.kept (ops.Mkdir given) c
   unfolding can_make
-  made_at c given reads writes gives enough e =
+  made_at c given quiet reads writes gives enough e =
       let is : IsMade (with_history t.kept h) c place.above name = gives (can_make enough) in
       carried t.kept h (ops.Mkdir given) c
       (record {
@@ -155,6 +156,7 @@ module _ (t : State) (root : ℕ) (rests : IsAtRest t root) (path : Path) (compo
           each = among_two t.kept spot.pair writes.last writes.fresh (behind_below t.kept.pairs place.first spot.pair place.belongs.pair _ place.belongs.place) writes.is_last.below writes.free;
           writes = writes.writes;
         };
+        no_fault = quiet;
       }) refl refl
 
   pub made_alone : (c : Kept) (op : Operation) (files : Files) → WritesUpTo (with_history t.kept h) spot.pair c → AltersUpTo (with_history t.kept h) spot.pair c

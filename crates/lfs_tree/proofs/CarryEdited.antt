@@ -12,7 +12,7 @@ use Rattle.lfs_model.specs.Session.{Files}
 use Rattle.lfs_model.specs.TreeEdits.{attributes_of, last_name}
 use Rattle.lfs_model.specs.Content.{put_attribute, without_attribute}
 use Rattle.lfs_model.specs.Disk.{entry_limit, inline_limit}
-use Rattle.lfs_model.specs.History.{Event, OnlyReads}
+use Rattle.lfs_model.specs.History.{Event, OnlyReads, faults}
 use Rattle.lfs_model.specs.Names.{Name}
 use Rattle.lfs_model.specs.Operations as ops
 use Rattle.lfs_model.specs.Operations.{Operation}
@@ -137,9 +137,9 @@ module _ (t : State) (root : ℕ) (rests : IsAtRest t root) (path : Path) (large
   pub slot_below : spot.pair < length t.kept.pairs
   slot_below = behind_below t.kept.pairs slot.first spot.pair slot.stands.stands.pair slot.stands.stands.rest slot.stands.stands.place
 
-  edited_at : (c : Kept) (f : Attributes → Attributes) (op : List ℕ → Operation) (given : List ℕ) (bs : List ℕ) → OnlyReads t.kept.disk.blocks t.kept.history h → Writes bs (with_history t.kept h) c → AllByRecursion (IsPairsOrFree t.kept) bs
+  edited_at : (c : Kept) (f : Attributes → Attributes) (op : List ℕ → Operation) (given : List ℕ) (bs : List ℕ) → faults c.history ≡ faults t.kept.history → OnlyReads t.kept.disk.blocks t.kept.history h → Writes bs (with_history t.kept h) c → AllByRecursion (IsPairsOrFree t.kept) bs
       → IsEdited (with_history t.kept h) c slot.above slot.name f op → as_path given ≡ path → renames_to_itself (op given) ≡ false → is_recover (op given) ≡ false → Carries t.kept (op given) c
-  edited_at c f op given bs reads writes among is e other asks = carried t.kept h (op given) c
+  edited_at c f op given bs quiet reads writes among is e other asks = carried t.kept h (op given) c
       (record {
         accepted = rests.held.sound.accepted;
         used = rests.held.sound.used;
@@ -151,22 +151,23 @@ module _ (t : State) (root : ℕ) (rests : IsAtRest t root) (path : Path) (large
         none_comes = is.now.none_comes;
         completed = λ files. is.completed (record { tree = tree_in t.kept.disk t.kept.pairs; files = files }) given refl (e ∙ slot.is);
         writes = record { blocks = bs; each = among; writes = writes };
+        no_fault = quiet;
       }) other asks
 
-  pub set_at : (c : Kept) (kind : ℕ) (bytes_given given : List ℕ) (bs : List ℕ) → CanSetAttr (seen_kept t.kept true false) path kind bytes_given → OnlyReads t.kept.disk.blocks t.kept.history h → Writes bs (with_history t.kept h) c
+  pub set_at : (c : Kept) (kind : ℕ) (bytes_given given : List ℕ) (bs : List ℕ) → CanSetAttr (seen_kept t.kept true false) path kind bytes_given → faults c.history ≡ faults t.kept.history → OnlyReads t.kept.disk.blocks t.kept.history h → Writes bs (with_history t.kept h) c
       → AllByRecursion (IsPairsOrFree t.kept) bs → ((set : CanSetAttribute (with_history t.kept h) spot.pair spot.id kind bytes_given) → HasSetAttribute (with_history t.kept h) c set.can.path set.can.name kind bytes_given)
       → as_path given ≡ path → Carries t.kept (ops.SetAttr given kind bytes_given) c
   unfolding can_set can_edit
-  set_at c kind bytes_given given bs can reads writes among gives e =
+  set_at c kind bytes_given given bs can quiet reads writes among gives e =
       let is : HasSetAttribute (with_history t.kept h) c slot.above slot.name kind bytes_given = gives (can_set kind bytes_given can) in
-      edited_at c (put_attribute kind bytes_given) (λ z. ops.SetAttr z kind bytes_given) given bs reads writes among is e refl refl
+      edited_at c (put_attribute kind bytes_given) (λ z. ops.SetAttr z kind bytes_given) given bs quiet reads writes among is e refl refl
 
-  pub cleared_at : (c : Kept) (kind : ℕ) (given : List ℕ) (bs : List ℕ) → OnlyReads t.kept.disk.blocks t.kept.history h → Writes bs (with_history t.kept h) c → AllByRecursion (IsPairsOrFree t.kept) bs
+  pub cleared_at : (c : Kept) (kind : ℕ) (given : List ℕ) (bs : List ℕ) → faults c.history ≡ faults t.kept.history → OnlyReads t.kept.disk.blocks t.kept.history h → Writes bs (with_history t.kept h) c → AllByRecursion (IsPairsOrFree t.kept) bs
       → ((can : CanEdit (with_history t.kept h) spot.pair spot.id) → HasRemovedAttribute (with_history t.kept h) c can.path can.name kind) → as_path given ≡ path → Carries t.kept (ops.RemoveAttr given kind) c
   unfolding can_edit
-  cleared_at c kind given bs reads writes among gives e =
+  cleared_at c kind given bs quiet reads writes among gives e =
       let is : HasRemovedAttribute (with_history t.kept h) c slot.above slot.name kind = gives can_edit in
-      edited_at c (without_attribute kind) (λ z. ops.RemoveAttr z kind) given bs reads writes among is e refl refl
+      edited_at c (without_attribute kind) (λ z. ops.RemoveAttr z kind) given bs quiet reads writes among is e refl refl
 
   -- the pair holds the slot of the path
   pub edited_alone : (c : Kept) (op : Operation) (files : Files) (given : List ℕ) (fresh : List ℕ) → paths_of (record { tree = tree_in t.kept.disk t.kept.pairs; files = files }) op ≡ as_path given ∷ [] → as_path given ≡ path

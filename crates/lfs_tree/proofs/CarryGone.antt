@@ -12,7 +12,7 @@ use Rattle.lfs_files.specs.Settling.{IsReadBesideMap}
 use Rattle.lfs_files.specs.Standing.{TellsWork}
 use Rattle.lfs_model.specs.TreeEdits.{names_of, removed}
 use Rattle.lfs_model.specs.Disk.{Disk}
-use Rattle.lfs_model.specs.History.{Event, OnlyReads}
+use Rattle.lfs_model.specs.History.{Event, OnlyReads, faults}
 use Rattle.lfs_model.specs.Operations as ops
 use Rattle.lfs_model.specs.Slots.{Slot, Struct, Inline, Ctz, Branch}
 use Rattle.lfs_model.specs.Refusals.{as_path}
@@ -176,8 +176,8 @@ directory_writes old new pair id first gone take w = record {
 }
 
 module _ (t : State) (root : ℕ) (rests : IsAtRest t root) (path : Path) (h : List Event) (c : Kept) (reads : OnlyReads t.kept.disk.blocks t.kept.history h) (w : WritesAmong (with_history t.kept h) c) where
-  pub removed_at : (given : List ℕ) → HasGone (with_history t.kept h) path c → as_path given ≡ path → Carries t.kept (ops.Remove given) c
-  removed_at given g e = carried t.kept h (ops.Remove given) c
+  pub removed_at : (given : List ℕ) → HasGone (with_history t.kept h) path c → faults c.history ≡ faults t.kept.history → as_path given ≡ path → Carries t.kept (ops.Remove given) c
+  removed_at given g quiet e = carried t.kept h (ops.Remove given) c
       (record {
         accepted = rests.held.sound.accepted;
         used = rests.held.sound.used;
@@ -189,6 +189,7 @@ module _ (t : State) (root : ℕ) (rests : IsAtRest t root) (path : Path) (h : L
         none_comes = λ b flies. (g.flying b).0 flies;
         completed = λ files. g.completed (record { tree = tree_in t.kept.disk t.kept.pairs; files = files }) given refl e;
         writes = w;
+        no_fault = quiet;
       }) refl refl
 
 -- ---- what it tells

@@ -1,7 +1,7 @@
 -- An operation that is carried out, and reads behind it.
 use Rattle.std.proofs.Common.{◌≡◌, ◌∙◌, false, true, List, ◌++◌, ap, sym, subst, append_assoc}
 use Rattle.lfs_model.specs.Disk.{SameGeometry}
-use Rattle.lfs_model.specs.History.{Event, OnlyReads}
+use Rattle.lfs_model.specs.History.{Event, OnlyReads, faults}
 use Rattle.lfs_model.specs.Operations.{Flags, Operation}
 use Rattle.lfs_model.specs.Run.{is_recover, renames_to_itself}
 use Rattle.lfs_model.proofs.Histories.{unprogrammed-reads}
@@ -10,14 +10,15 @@ use Rattle.lfs_thread.specs.Steps.{IsOnlyRead}
 use Rattle.lfs_tree.specs.Carrying.{Carries, HasCalled, Spares}
 use Rattle.lfs_tree.proofs.Carried.{read_is, with_history}
 
-pub carried_on : (a b : Kept) (op : Operation) (h : List Event) → OnlyReads b.disk.blocks b.history h → renames_to_itself op ≡ false → is_recover op ≡ false → Carries a op b → Carries a op (with_history b h)
-carried_on a b op h reads apart other k = record {
+pub carried_on : (a b : Kept) (op : Operation) (h : List Event) → OnlyReads b.disk.blocks b.history h → faults h ≡ faults b.history → renames_to_itself op ≡ false → is_recover op ≡ false → Carries a op b → Carries a op (with_history b h)
+carried_on a b op h reads quiet apart other k = record {
   works = k.works;
   sound = record { accepted = k.sound.accepted; fits = k.sound.fits; is_kept = k.sound.is_kept; used = k.sound.used; size = k.sound.size };
   writable = k.writable;
   geometry = k.geometry;
   calls = reads.events ++ k.calls;
   called = reads.extends ∙ ap (λ z. reads.events ++ z) k.called ∙ sym (append_assoc reads.events k.calls a.history);
+  no_fault = quiet ∙ k.no_fault;
   fits = k.fits;
   recovered = k.recovered;
   shows = k.shows;
@@ -34,8 +35,8 @@ carried_on a b op h reads apart other k = record {
   lists = k.lists;
 }
 
-pub carried_read : (a b c : Kept) (op : Operation) → IsOnlyRead b c → renames_to_itself op ≡ false → is_recover op ≡ false → Carries a op b → Carries a op c
-carried_read a b c op r apart other k = subst (λ z. Carries a op z) (sym (read_is b c r)) (carried_on a b op c.history r.reads apart other k)
+pub carried_read : (a b c : Kept) (op : Operation) → IsOnlyRead b c → faults c.history ≡ faults b.history → renames_to_itself op ≡ false → is_recover op ≡ false → Carries a op b → Carries a op c
+carried_read a b c op r quiet apart other k = subst (λ z. Carries a op z) (sym (read_is b c r)) (carried_on a b op c.history r.reads quiet apart other k)
 
 pub spares_read : (a b c : Kept) (op : Operation) → IsOnlyRead b c → Spares a op b → Spares a op c
 spares_read a b c op r k = subst (λ z. Spares a op z) (sym (read_is b c r)) k

@@ -126,9 +126,9 @@ module _ (disk : Disk) (before history : List Event) (h : Header) (g : IsGeometr
 
   begins : BeginsWith (holder_at disk anchor) superblock_entry
   begins =
-      subst (λ o. BeginsWith o superblock_entry) (sym (holder_first (block_at disk 0) (block_at disk 1) is.anew.has_commit is.cleared))
-      (ap (λ commits. slice_get (flat_map (λ c. c) commits) 0) is.anew.commits
-      ∙ ap (λ c. slice_get (flat_map (λ c. c) ((written_entries c ++ is.anew.checksum ∷ []) ∷ [])) 0) new_is)
+      subst (λ o. BeginsWith o superblock_entry) (sym (holder_first (block_at disk 0) (block_at disk 1) is.fresh.anew.has_commit is.fresh.cleared))
+      (ap (λ commits. slice_get (flat_map (λ c. c) commits) 0) is.fresh.anew.commits
+      ∙ ap (λ c. slice_get (flat_map (λ c. c) ((written_entries c ++ is.fresh.anew.checksum ∷ []) ∷ [])) 0) new_is)
 
   is_root : IsEmptyRoot disk history h
   is_root = record {
@@ -146,8 +146,8 @@ module _ (disk : Disk) (before history : List Event) (h : Header) (g : IsGeometr
       content = ap (option_and_then completed) is.holds.content ∙ ap completed new_is ∙ completes disk;
       first = begins;
     };
-    first = subst (λ c. Holds 1 c (block_at disk 0)) new_is is.anew;
-    second = is.cleared;
+    first = subst (λ c. Holds 1 c (block_at disk 0)) new_is is.fresh.anew;
+    second = is.fresh.cleared;
   }
 
 -- ---- of a device

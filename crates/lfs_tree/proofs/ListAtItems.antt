@@ -1,9 +1,9 @@
 -- What a list says of the entries of a directory is what the tree says.
-use Rattle.std.proofs.Common.{ℕ, suc, slice_get, ◌≡◌, ◌∙◌, true, List, [], ◌∷◌, ◌++◌, map, Some, None, option_map, refl, sym, ap, ap₂, subst}
+use Rattle.std.proofs.Common.{ℕ, suc, slice_get, ◌≡◌, ◌∙◌, List, [], ◌∷◌, ◌++◌, map, Some, option_map, refl, sym, ap, ap₂, subst}
 use Rattle.std.proofs.lemmas.List.Elements.{recursion_from_All}
 use Rattle.lfs_device.specs.Bytes.{HasBytes}
 use Rattle.lfs_device.specs.declared.device.BlockDevice.{Ghosts}
-use Rattle.lfs_model.specs.TreeEdits.{is_directory, names_of}
+use Rattle.lfs_model.specs.TreeEdits.{names_of}
 use Rattle.lfs_model.specs.Disk.{Disk}
 use Rattle.lfs_model.specs.Operations as ops
 use Rattle.lfs_model.specs.SlotEdits.{slot_of_path}
@@ -16,18 +16,11 @@ use Rattle.lfs_model.specs.Shown.{Leads, all_slots, contents_in, entries_in, tre
 use Rattle.lfs_model.proofs.Counts.{Each, each_both}
 use Rattle.lfs_model.proofs.OneCommit.{slot_there}
 use Rattle.lfs_thread.specs.Kept.{Kept, disk_on}
-use Rattle.lfs_tree.specs.AtPath.{ShowsAt}
-use Rattle.lfs_tree.specs.Entry.{ShowsContents}
 use Rattle.lfs_tree.specs.Items.{Shape, shape_of}
 use Rattle.lfs_tree.specs.ListAt.{AreShort, item_listed, size_listed}
 use Rattle.lfs_tree.specs.Listed.{shapes_from}
 use Rattle.lfs_tree.specs.Paths.{BeginsOnPath}
-use Rattle.lfs_tree.specs.declared.entry.Contents.{Contents}
-use Rattle.lfs_tree.specs.declared.entry.Contents.TheVariants as contents
-use Rattle.lfs_tree.specs.declared.paths.Shown.{Shown}
-use Rattle.lfs_tree.specs.declared.paths.Shown.TheVariants as shown
-use Rattle.lfs_tree.specs.declared.search.Spot.{Spot}
-use Rattle.lfs_tree.proofs.AtPaths.{SizedLists, directory_at_path, refused_none}
+use Rattle.lfs_tree.proofs.AtPaths.{SizedLists, directory_at_path}
 use Rattle.lfs_tree.proofs.Directories.{own_shapes}
 use Rattle.lfs_tree.proofs.ListAtShort.{short_entries}
 use Rattle.lfs_tree.proofs.Visits.{each_entry}

@@ -213,8 +213,8 @@ pub can_drop_then : (a b : Kept) → HasEndedMove a b → CanDropLost b
 can_drop_then a b e = record { accepted = e.taken.follows.accepted; writable = e.taken.writable; used = e.used; size = e.size; none = e.none }
 
 pub recovered_whole : (t : State) (root : ℕ) (b c : Kept) → IsRooted t root true → (gstate_of t.kept.pairs ≡ no_gstate → ⊥) → HasEndedMove t.kept b → Writes (blocks_of t.kept.pairs) t.kept b → HasDroppedLost b c → HasCalled b c
-    → Carries t.kept ops.Recover c
-recovered_whole t root b c rooted left e w d called =
+    → faults c.history ≡ faults t.kept.history → Carries t.kept ops.Recover c
+recovered_whole t root b c rooted left e w d called quiet =
     let a = t.kept in
     let all = called_then a b c (called_writing a b (blocks_of a.pairs) w) called in
     let completed : (files : Files) → IsCompleted b.disk b.pairs (record { tree = tree_in a.disk a.pairs; files = files }) ops.Recover c.disk c.pairs
@@ -226,6 +226,7 @@ recovered_whole t root b c rooted left e w d called =
       geometry = all.geometry;
       calls = all.calls;
       called = all.called;
+      no_fault = quiet;
       fits = d.ready.writable;
       recovered = (completed []).recovered;
       shows = λ around files. (completed files).tree around;
@@ -278,14 +279,15 @@ tells_given {Y = Y} a c given e f is same t = subst (λ (r : Result Y Error). If
 
 -- ---- behind it
 
-recovered_on : (a b : Kept) (h : List Event) → (gstate_of a.pairs ≡ no_gstate → ⊥) → OnlyReads b.disk.blocks b.history h → Carries a ops.Recover b → Carries a ops.Recover (with_history b h)
-recovered_on a b h left reads k = record {
+recovered_on : (a b : Kept) (h : List Event) → (gstate_of a.pairs ≡ no_gstate → ⊥) → OnlyReads b.disk.blocks b.history h → faults h ≡ faults b.history → Carries a ops.Recover b → Carries a ops.Recover (with_history b h)
+recovered_on a b h left reads quiet k = record {
   works = k.works;
   sound = record { accepted = k.sound.accepted; fits = k.sound.fits; is_kept = k.sound.is_kept; used = k.sound.used; size = k.sound.size };
   writable = k.writable;
   geometry = k.geometry;
   calls = reads.events ++ k.calls;
   called = reads.extends ∙ ap (λ z. reads.events ++ z) k.called ∙ sym (append_assoc reads.events k.calls a.history);
+  no_fault = quiet ∙ k.no_fault;
   fits = k.fits;
   recovered = k.recovered;
   shows = k.shows;
@@ -302,8 +304,8 @@ recovered_on a b h left reads k = record {
   lists = λ none. absurd (left none);
 }
 
-pub recovered_read : (a b c : Kept) → (gstate_of a.pairs ≡ no_gstate → ⊥) → IsOnlyRead b c → Carries a ops.Recover b → Carries a ops.Recover c
-recovered_read a b c left r k = subst (λ z. Carries a ops.Recover z) (sym (read_is b c r)) (recovered_on a b c.history left r.reads k)
+pub recovered_read : (a b c : Kept) → (gstate_of a.pairs ≡ no_gstate → ⊥) → IsOnlyRead b c → faults c.history ≡ faults b.history → Carries a ops.Recover b → Carries a ops.Recover c
+recovered_read a b c left r quiet k = subst (λ z. Carries a ops.Recover z) (sym (read_is b c r)) (recovered_on a b c.history left r.reads quiet k)
 
 -- ---- where nothing is left to recover
 
@@ -315,6 +317,7 @@ recovered_already t works writable sound settled = record {
   geometry = record { block_size = refl; page = refl; count = refl };
   calls = [];
   called = refl;
+  no_fault = refl;
   fits = sound.fits writable;
   recovered = recovered_from t.disk t.pairs sound.accepted settled;
   shows = λ around files. refl;

@@ -51,25 +51,23 @@ fewer_used c used sound fewer =
     let f = few_used used c.map (λ b is. Contains-count used b (let k = count-Contains (used_blocks c.disk c.pairs) b ((sound.used b).0 is) in let l = fewer b in omega arith)) in
     omega arith
 
-pub settled_whole : (a b c : Kept) → (gstate_of a.pairs ≡ no_gstate → ⊥) → HasEndedMove a b → HasDroppedLost b c → Carries a ops.Recover c → faults c.history ≡ faults a.history → HasSettled a c
-settled_whole a b c left e d carries no_fault =
+pub settled_whole : (a b c : Kept) → (gstate_of a.pairs ≡ no_gstate → ⊥) → HasEndedMove a b → HasDroppedLost b c → Carries a ops.Recover c → HasSettled a c
+settled_whole a b c left e d carries =
     let now : Session = record { tree = tree_in b.disk b.pairs; files = [] } in
     let done = d.completed now refl in
     record {
       carries = carries;
       leads_on = λ s disk qs h. e.leads_on s disk qs (recovers_through b.disk b.pairs now c.disk c.pairs s disk qs done.laid_out d.ready.accepted d.ready.writable d.ready.settled h);
       room = fewer_used c (used_blocks a.disk a.pairs) carries.sound (λ k. let x = d.fewer k in let y = e.fewer k in omega arith);
-      no_fault = no_fault;
       same = λ none. absurd (left none);
     }
 
 pub settled_read : (a b c : Kept) → (gstate_of a.pairs ≡ no_gstate → ⊥) → IsOnlyRead b c → faults c.history ≡ faults b.history → HasSettled a b → HasSettled a c
 settled_read a b c left r quiet f = record {
-  carries = recovered_read a b c left r f.carries;
+  carries = recovered_read a b c left r quiet f.carries;
   leads_on = subst (λ (ps : List Pair). (s : Session) (disk : Disk) (qs : List Pair) → IsLaidOut c.disk ps s ops.Recover disk qs → IsLaidOut a.disk a.pairs s ops.Recover disk qs) (sym r.pairs)
       (subst (λ (d : Disk). (s : Session) (disk : Disk) (qs : List Pair) → IsLaidOut d b.pairs s ops.Recover disk qs → IsLaidOut a.disk a.pairs s ops.Recover disk qs) (sym r.disk) f.leads_on);
   room = subst (λ (ps : List Pair). length (used_blocks c.disk ps) ≤ length (used_blocks a.disk a.pairs)) (sym r.pairs) (subst (λ (d : Disk). length (used_blocks d b.pairs) ≤ length (used_blocks a.disk a.pairs)) (sym r.disk) f.room);
-  no_fault = quiet ∙ f.no_fault;
   same = λ none. absurd (left none);
 }
 
@@ -79,7 +77,6 @@ settled_already t root r e = record {
   carries = recovered_already (seen_kept t.kept true false) refl refl r.sound e;
   leads_on = λ s disk qs h. h;
   room = omega arith;
-  no_fault = refl;
   same = λ none. refl;
 }
 
@@ -167,6 +164,7 @@ module _ (a b : Kept) (f : HasSettled a b) where
         geometry = all.geometry;
         calls = all.calls;
         called = all.called;
+        no_fault = k.no_fault ∙ f.carries.no_fault;
         fits = k.fits;
         recovered = k.recovered;
         shows = λ around files. subst (λ t. tree_in c.disk c.pairs ≡ (effect_of around (record { tree = t; files = files }) op).1.tree) tree_is (k.shows around files);
@@ -273,8 +271,8 @@ module _ (a b : Kept) (f : HasSettled a b) where
   told_after : (c : Kept) (e : Error) → TellsError b c e → TellsError a c e
   told_after c e told = record {
     errors = told.errors;
-    fault = λ io. let k = told.fault io in let same = f.no_fault in omega (arith, k, same);
-    no_fault = λ other. told.no_fault other ∙ f.no_fault;
+    fault = λ io. let k = told.fault io in let same = f.carries.no_fault in omega (arith, k, same);
+    no_fault = λ other. told.no_fault other ∙ f.carries.no_fault;
   }
 
   pub errors_after : (c : Kept) (r : Result ℕ Error) → IfErr r (TellsError b c) → IfErr r (TellsError a c)

@@ -8,7 +8,7 @@ use Rattle.lfs_device.specs.Bytes.{HasBytes}
 use Rattle.lfs_device.specs.declared.error.Error.{Error}
 use Rattle.lfs_model.specs.TreeEdits.{is_beneath, last_name, rest_after, same_path}
 use Rattle.lfs_model.specs.Disk.{entry_limit}
-use Rattle.lfs_model.specs.History.{Event, OnlyReads}
+use Rattle.lfs_model.specs.History.{Event, OnlyReads, faults}
 use Rattle.lfs_model.specs.InDirectory.{Belongs}
 use Rattle.lfs_model.specs.Names.{Name, is_component, is_name}
 use Rattle.lfs_model.specs.Operations as ops
@@ -158,8 +158,8 @@ module _ (t : State) (root : ℕ) (rests : IsAtRest t root) (from to : Path) (co
 -- ---- what comes of it
 
 module _ (t : State) (root : ℕ) (rests : IsAtRest t root) (from to : Path) (other : same_path from to ≡ false) (h : List Event) (c : Kept) (reads : OnlyReads t.kept.disk.blocks t.kept.history h) (w : WritesAmong (with_history t.kept h) c) where
-  pub shifted_at : (given to_given : List ℕ) → HasShifted (with_history t.kept h) from to c → as_path given ≡ from → as_path to_given ≡ to → Carries t.kept (ops.Rename given to_given) c
-  shifted_at given to_given is e f = carried t.kept h (ops.Rename given to_given) c
+  pub shifted_at : (given to_given : List ℕ) → HasShifted (with_history t.kept h) from to c → faults c.history ≡ faults t.kept.history → as_path given ≡ from → as_path to_given ≡ to → Carries t.kept (ops.Rename given to_given) c
+  shifted_at given to_given is quiet e f = carried t.kept h (ops.Rename given to_given) c
       (record {
         accepted = rests.held.sound.accepted;
         used = rests.held.sound.used;
@@ -171,6 +171,7 @@ module _ (t : State) (root : ℕ) (rests : IsAtRest t root) (from to : Path) (ot
         none_comes = λ b flies. (is.flying b).0 flies;
         completed = λ files. is.completed (record { tree = tree_in t.kept.disk t.kept.pairs; files = files }) given to_given refl e f;
         writes = w;
+        no_fault = quiet;
       }) (ap₂ same_path e f ∙ other) refl
 
 pub rests_still : (t mid : State) (root : ℕ) → IsAtRest t root → IsOnlyRead t.kept mid.kept → mid.failed ≡ false → IsAtRest mid root

@@ -1,5 +1,5 @@
 -- What a look-up says of what is shown at a path.
-use Rattle.std.proofs.Common.{ℕ, ◌≡◌, ◌<◌, ◌≤◌, ◌+◌, ◌∙◌, Bool, nat_lt, List, [], ◌∷◌, ◌++◌, length, drop, map, Option, Some, None, option_map, refl, sym, ap, subst, arith}
+use Rattle.std.proofs.Common.{ℕ, ◌≡◌, ◌<◌, ◌≤◌, ◌+◌, ◌∙◌, Bool, nat_lt, List, [], ◌∷◌, ◌++◌, length, drop, map, Option, Some, None, option_map, sym, ap, subst, arith}
 use Rattle.std.specs.Prelude.{IfSome, sum_by}
 use Rattle.std.proofs.lemmas.List.{length-map}
 use Rattle.std.proofs.lemmas.List.Sums.{sum_by-append, sum_by-cons}

@@ -144,14 +144,15 @@ module _ (t : State) (root : ℕ) (rests : IsAtRest t root) (path : Path) (conte
             k.others x ((rests_beside.held.sound.used x).0 (leaves.map.stays x is)) first second ∙ leaves.spared.same x is;
       }
 
-      stored_before : (new : Kept) → HasCalled t.kept new → HasCommitted b.kept path (bytes_held b.kept c) new → HasStored t.kept path (bytes_held t.kept contents) new
-      stored_before new called k = record {
+      stored_before : (new : Kept) → HasCalled t.kept new → faults new.history ≡ faults t.kept.history → HasCommitted b.kept path (bytes_held b.kept c) new → HasStored t.kept path (bytes_held t.kept contents) new
+      stored_before new called quiet k = record {
         works = refl;
         sound = k.sound;
         writable = refl;
         geometry = called.geometry;
         calls = called.calls;
         called = called.called;
+        no_fault = quiet;
         fits = k.fits;
         recovered = recovered_from new.disk new.pairs k.sound.accepted k.settled;
         shows = k.shows ∙ turn_same;
@@ -161,9 +162,9 @@ module _ (t : State) (root : ℕ) (rests : IsAtRest t root) (path : Path) (conte
         none_in_flight = k.none_in_flight;
       }
 
-      pub all_stored : (new : Kept) (r : Result (Unit {0}) Error) → HasCalled t.kept new → OnOk r (HasCommitted b.kept path (bytes_held b.kept c) new) → OnOk r (HasStored t.kept path (bytes_held t.kept contents) new)
-      all_stored new (Ok u) called k = stored_before new called k
-      all_stored new (Err e) called k = tt
+      pub all_stored : (new : Kept) (r : Result (Unit {0}) Error) → HasCalled t.kept new → faults b.kept.history ≡ faults t.kept.history → OnOk r (faults new.history ≡ faults b.kept.history) → OnOk r (HasCommitted b.kept path (bytes_held b.kept c) new) → OnOk r (HasStored t.kept path (bytes_held t.kept contents) new)
+      all_stored new (Ok u) called same quiet k = stored_before new called (quiet ∙ same) k
+      all_stored new (Err e) called same quiet k = tt
 
       pub survives_then_commit : (new : Kept) → HasCalled b.kept new → SurvivesTo b.kept new (change_at path (with_bytes (bytes_held b.kept c)) (tree_in b.kept.disk b.kept.pairs))
           → SurvivesTo t.kept new (change_at path (with_bytes (bytes_held t.kept contents)) (tree_in t.kept.disk t.kept.pairs))
@@ -179,14 +180,15 @@ module _ (t : State) (root : ℕ) (rests : IsAtRest t root) (path : Path) (conte
 
 -- ---- and calls behind it that only read
 
-stored_on : (a b : Kept) (path : Path) (bytes : List ℕ) (h : List Event) → OnlyReads b.disk.blocks b.history h → HasStored a path bytes b → HasStored a path bytes (with_history b h)
-stored_on a b path bytes h reads k = record {
+stored_on : (a b : Kept) (path : Path) (bytes : List ℕ) (h : List Event) → OnlyReads b.disk.blocks b.history h → faults h ≡ faults b.history → HasStored a path bytes b → HasStored a path bytes (with_history b h)
+stored_on a b path bytes h reads quiet k = record {
   works = k.works;
   sound = record { accepted = k.sound.accepted; fits = k.sound.fits; is_kept = k.sound.is_kept; used = k.sound.used; size = k.sound.size };
   writable = k.writable;
   geometry = k.geometry;
   calls = reads.events ++ k.calls;
   called = reads.extends ∙ ap (λ z. reads.events ++ z) k.called ∙ sym (append_assoc reads.events k.calls a.history);
+  no_fault = quiet ∙ k.no_fault;
   fits = k.fits;
   recovered = k.recovered;
   shows = k.shows;
@@ -196,8 +198,8 @@ stored_on a b path bytes h reads k = record {
   none_in_flight = k.none_in_flight;
 }
 
-pub stored_read : (a b c : Kept) (path : Path) (bytes : List ℕ) → IsOnlyRead b c → HasStored a path bytes b → HasStored a path bytes c
-stored_read a b c path bytes r k = subst (λ z. HasStored a path bytes z) (sym (read_is b c r)) (stored_on a b path bytes c.history r.reads k)
+pub stored_read : (a b c : Kept) (path : Path) (bytes : List ℕ) → IsOnlyRead b c → faults c.history ≡ faults b.history → HasStored a path bytes b → HasStored a path bytes c
+stored_read a b c path bytes r quiet k = subst (λ z. HasStored a path bytes z) (sym (read_is b c r)) (stored_on a b path bytes c.history r.reads quiet k)
 
 -- ---- seen from a tree
 

@@ -118,7 +118,7 @@ IsArrangedBy old path bytes op new = (files : Files) (fd : ℕ) (writer : Writer
 abbrev pub IsAboutPath : Session → Operation → Path → Type 0
 IsAboutPath s op path = paths_of s op ≡ path ∷ []
 
--- The file at the path has these bytes, and nothing is in flight any more. Other pairs and all lists hold what they held.
+-- The file at the path has these bytes, without a fault of the device, and nothing is in flight any more. Other pairs and all lists hold what they held.
 pub record IsStoredAtImage (old : Seen) (path : Path) (bytes : List ℕ) (new : Seen) : Type 0 where
   pub works : new.failed ≡ false
   pub sound : IsSound new
@@ -126,6 +126,7 @@ pub record IsStoredAtImage (old : Seen) (path : Path) (bytes : List ℕ) (new : 
   pub geometry : SameGeometry old.disk new.disk
   pub calls : List Event
   pub called : new.history ≡ calls ++ old.history
+  pub no_fault : faults new.history ≡ faults old.history
   pub fits : IsWritable new.disk new.pairs
   pub recovered : IsRecovered new.pairs
   pub shows : tree_seen new ≡ change_at path (with_bytes bytes) (tree_seen old)

@@ -3,7 +3,6 @@ use Rattle.std.specs.Prelude.{ℕ, ◌≡◌, ◌≤◌, true, false, length}
 use Rattle.lfs_model.specs.TreeEdits.{is_file}
 use Rattle.lfs_model.specs.BlockSets.{AreUsed}
 use Rattle.lfs_model.specs.Disk.{block_count}
-use Rattle.lfs_model.specs.History.{faults}
 use Rattle.lfs_model.specs.Operations as ops
 use Rattle.lfs_model.specs.Session.{Session}
 use Rattle.lfs_model.specs.Slots.{no_gstate}
@@ -47,5 +46,4 @@ pub record HasSettled (old new : Kept) : Type 0 where
   pub carries : Carries old ops.Recover new
   pub leads_on : RecoversTo old new
   pub room : length (used_blocks new.disk new.pairs) ≤ length (used_blocks old.disk old.pairs)
-  pub no_fault : faults new.history ≡ faults old.history
   pub same : gstate_of old.pairs ≡ no_gstate → new ≡ old

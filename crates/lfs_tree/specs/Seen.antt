@@ -114,7 +114,7 @@ pub record LeavesFlight (old new : Seen) : Type 0 where
 abbrev pub SurvivesAs : Seen → Seen → Tree → Type 0
 SurvivesAs old new after = Survives old.disk old.history new.history (tree_seen old) after
 
--- the operation is carried out, whatever files are open
+-- the operation is carried out without a fault of the device, whatever files are open
 pub record IsCarriedImage (old : Seen) (op : Operation) (new : Seen) : Type 0 where
   pub works : new.failed ≡ false
   pub sound : IsSound new
@@ -122,6 +122,7 @@ pub record IsCarriedImage (old : Seen) (op : Operation) (new : Seen) : Type 0 wh
   pub geometry : SameGeometry old.disk new.disk
   pub calls : List Event
   pub called : new.history ≡ calls ++ old.history
+  pub no_fault : faults new.history ≡ faults old.history
   pub fits : IsWritable new.disk new.pairs
   pub recovered : IsRecovered new.pairs
   pub shows : (around : Surroundings) (files : Files) → tree_seen new ≡ (effect_of around (record { tree = tree_seen old; files = files }) op).1.tree

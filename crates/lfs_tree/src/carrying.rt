@@ -4,7 +4,6 @@ ghost use Rattle.std.specs.Prelude.{ℕ, ◌≡◌, ◌≤◌, List, [], map, tr
 ghost use Rattle.std.specs.List.{list_all};
 ghost use Rattle.lfs_device.specs.Bytes.{HasBytes};
 ghost use Rattle.lfs_model.specs.TreeEdits.{added, last_name};
-ghost use Rattle.lfs_model.specs.History.{faults};
 ghost use Rattle.lfs_model.specs.Operations as ops;
 ghost use Rattle.lfs_model.specs.Operations.{Flags};
 ghost use Rattle.lfs_model.specs.Refusals.{as_path};
@@ -94,7 +93,6 @@ pub(crate) fn create_at<D: BlockDevice>(
     ensures alone { OnOk result ((bytes : List ℕ) (flags : Flags) → as_path bytes ≡ path.now → Spares thread.old.kept (ops.Open bytes flags) thread.new.kept) }
     ensures works { OnOk result (thread.new.failed ≡ false) }
     ensures called { HasCalled thread.old.kept thread.new.kept }
-    ensures no_fault { OnOk result (faults thread.new.kept.history ≡ faults thread.old.kept.history) }
     ensures errors { IfErr result (TellsError thread.old.kept thread.new.kept) }
     ensures survives { SurvivesTo thread.old.kept thread.new.kept (added path.now (FileNode [] []) (tree_in thread.old.kept.disk thread.old.kept.pairs)) }
 {
@@ -120,7 +118,6 @@ pub(crate) fn make_at<D: BlockDevice>(
     ensures alone { OnOk result ((bytes : List ℕ) → as_path bytes ≡ path.now → Spares thread.old.kept (ops.Mkdir bytes) thread.new.kept) }
     ensures works { OnOk result (thread.new.failed ≡ false) }
     ensures called { HasCalled thread.old.kept thread.new.kept }
-    ensures no_fault { OnOk result (faults thread.new.kept.history ≡ faults thread.old.kept.history) }
     ensures errors { IfErr result (TellsError thread.old.kept thread.new.kept) }
     ensures survives { SurvivesTo thread.old.kept thread.new.kept (added path.now (DirectoryNode [] []) (tree_in thread.old.kept.disk thread.old.kept.pairs)) }
 {

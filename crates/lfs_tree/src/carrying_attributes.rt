@@ -2,7 +2,6 @@
 
 ghost use Rattle.std.specs.Prelude.{ℕ, ◌≡◌, List, true, false, OnOk, IfOk, IfErr};
 ghost use Rattle.lfs_model.specs.Content.{put_attribute, without_attribute};
-ghost use Rattle.lfs_model.specs.History.{faults};
 ghost use Rattle.lfs_model.specs.Operations as ops;
 ghost use Rattle.lfs_model.specs.Refusals.{as_path};
 ghost use Rattle.lfs_model.specs.Shown.{tree_in};
@@ -66,7 +65,6 @@ pub(crate) fn set_attr_at<D: BlockDevice>(
     ensures alone { OnOk result ((given : List ℕ) → as_path given ≡ path.now → Spares thread.old.kept (ops.SetAttr given kind bytes.now) thread.new.kept) }
     ensures works { OnOk result (thread.new.failed ≡ false) }
     ensures called { HasCalled thread.old.kept thread.new.kept }
-    ensures no_fault { OnOk result (faults thread.new.kept.history ≡ faults thread.old.kept.history) }
     ensures errors { IfErr result (TellsError thread.old.kept thread.new.kept) }
     ensures survives { SurvivesTo thread.old.kept thread.new.kept (with_attributes_changed path.now (put_attribute kind bytes.now) (tree_in thread.old.kept.disk thread.old.kept.pairs)) }
 {
@@ -92,7 +90,6 @@ pub(crate) fn remove_attr_at<D: BlockDevice>(
     ensures alone { OnOk result ((bytes : List ℕ) → as_path bytes ≡ path.now → Spares thread.old.kept (ops.RemoveAttr bytes kind) thread.new.kept) }
     ensures works { OnOk result (thread.new.failed ≡ false) }
     ensures called { HasCalled thread.old.kept thread.new.kept }
-    ensures no_fault { OnOk result (faults thread.new.kept.history ≡ faults thread.old.kept.history) }
     ensures errors { IfErr result (TellsError thread.old.kept thread.new.kept) }
     ensures survives { SurvivesTo thread.old.kept thread.new.kept (with_attributes_changed path.now (without_attribute kind) (tree_in thread.old.kept.disk thread.old.kept.pairs)) }
 {

@@ -4,7 +4,6 @@ ghost use Rattle.std.specs.Prelude.{ℕ, ◌≡◌, List, true, false, is_err, O
 ghost use Rattle.lfs_files.specs.Settling.{IsReadBesideMap};
 ghost use Rattle.lfs_files.specs.Standing.{TellsWork};
 ghost use Rattle.lfs_model.specs.TreeEdits.{removed};
-ghost use Rattle.lfs_model.specs.History.{faults};
 ghost use Rattle.lfs_model.specs.Operations as ops;
 ghost use Rattle.lfs_model.specs.Refusals.{as_path};
 ghost use Rattle.lfs_model.specs.Tree.{Path as TreePath};
@@ -148,7 +147,6 @@ pub(crate) fn remove_at<D: BlockDevice>(
     ensures alone { OnOk result ((bytes : List ℕ) → as_path bytes ≡ path.now → Spares thread.old.kept (ops.Remove bytes) thread.new.kept) }
     ensures works { OnOk result (thread.new.failed ≡ false) }
     ensures called { HasCalled thread.old.kept thread.new.kept }
-    ensures no_fault { OnOk result (faults thread.new.kept.history ≡ faults thread.old.kept.history) }
     ensures errors { IfErr result (TellsError thread.old.kept thread.new.kept) }
     ensures survives { SurvivesTo thread.old.kept thread.new.kept (removed path.now (tree_in thread.old.kept.disk thread.old.kept.pairs)) }
 {

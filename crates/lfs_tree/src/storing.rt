@@ -180,7 +180,6 @@ fn store_at<D: BlockDevice>(
     ensures done { OnOk result (HasStored thread.old.kept path.now (bytes_held thread.old.kept contents) thread.new.kept) }
     ensures works { OnOk result (thread.new.failed ≡ false) }
     ensures called { HasCalled thread.old.kept thread.new.kept }
-    ensures no_fault { OnOk result (faults thread.new.kept.history ≡ faults thread.old.kept.history) }
     ensures errors { IfErr result (TellsError thread.old.kept thread.new.kept) }
     ensures survives { SurvivesTo thread.old.kept thread.new.kept (change_at path.now (with_bytes (bytes_held thread.old.kept contents)) (tree_in thread.old.kept.disk thread.old.kept.pairs)) }
 {

@@ -1,4 +1,4 @@
-use Rattle.std.proofs.Common.{Option, Some, None, ap, subst, sym, ◌∙◌}
+use Rattle.std.proofs.Common.{Option, ap, subst, sym}
 use Rattle.std.proofs.Common.{ap}
 use Rattle.lfs_model.specs.Content.{attribute_of}
 use Rattle.lfs_tree.specs.AttributeAt.{AreHeld}

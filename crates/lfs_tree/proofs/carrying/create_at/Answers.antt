@@ -54,7 +54,8 @@ returns-clause-done g c bytes flags e =
     let only = c.find_place.ensures.reading.only in
     let w = subst (λ k. WritesIn k p.spot.pair new) (read_is t.kept mid only) c.create.ensures.device in
     let is = subst (λ k. (can : CanCreate k p.spot.pair p.spot.id p.name.now) → IsCreated k new can.path p.name.now) (read_is t.kept mid only) c.in_ok-create.ensures.created in
-    created_at t c.args.root c.requires.rests c.args.path.now c.know_names.ensures c.know_device.ensures.large c.know_device.ensures.bytes 2 c.requires.can p.name.now p.spot place mid.history new bytes flags only.reads w is e
+    let quiet = c.create.ensures.errors.tells.tells.no_fault (λ io. let z = sym c.in_ok-create.was ∙ io in absurd (cc)) ∙ (answered _ _ c.find_place.result c.in_ok-place.place c.in_ok-place.was c.find_place.ensures.reading).same in
+    created_at t c.args.root c.requires.rests c.args.path.now c.know_names.ensures c.know_device.ensures.large c.know_device.ensures.bytes 2 c.requires.can p.name.now p.spot place mid.history new bytes flags quiet only.reads w is e
 
 pub returns-clause-alone : goal.returns-clause-alone
 returns-clause-alone g c bytes flags e none files =
@@ -100,8 +101,3 @@ returns-clause-survives g c =
     let w = subst (λ k. WritesIn k p.spot.pair new) (read_is t.kept mid only) c.create.ensures.device in
     let k = subst (λ k. (can : CanCreate k p.spot.pair p.spot.id p.name.now) → SurvivesTo k new (with_file k can.path p.name.now)) (read_is t.kept mid only) c.create.ensures.survives in
     created_survives t c.args.root c.requires.rests c.args.path.now c.know_names.ensures c.know_device.ensures.large c.know_device.ensures.bytes 2 c.requires.can p.name.now p.spot c.in_ok-place.ensures.place mid.history new only.reads w k
-
-pub returns-clause-no_fault : goal.returns-clause-no_fault
-returns-clause-no_fault g c =
-    c.create.ensures.errors.tells.tells.no_fault (λ io. let z = sym c.in_ok-create.was ∙ io in absurd (cc))
-    ∙ (answered _ _ c.find_place.result c.in_ok-place.place c.in_ok-place.was c.find_place.ensures.reading).same

@@ -36,7 +36,8 @@ returns-clause-done g c bytes e =
     let only = c.find_place.ensures.reading.only in
     let w = subst (λ k. WritesUpTo k p.spot.pair new) (read_is t.kept mid only) c.make_directory.ensures.device in
     let is = subst (λ k. (can : CanMake k p.spot.pair p.spot.id p.name.now) → IsMade k new can.path p.name.now) (read_is t.kept mid only) c.in_ok-make_directory.ensures.made in
-    made_at t c.args.root c.requires.rests c.args.path.now c.know_names.ensures c.know_device.ensures.large c.know_device.ensures.bytes 4 c.requires.can p.name.now p.spot place mid.history new bytes only.reads w is (omega arith) e
+    let quiet = c.make_directory.ensures.errors.no_fault (λ io. let z = sym c.in_ok-make_directory.was ∙ io in absurd (cc)) ∙ (answered _ _ c.find_place.result c.in_ok-place.place c.in_ok-place.was c.find_place.ensures.reading).same in
+    made_at t c.args.root c.requires.rests c.args.path.now c.know_names.ensures c.know_device.ensures.large c.know_device.ensures.bytes 4 c.requires.can p.name.now p.spot place mid.history new bytes quiet only.reads w is (omega arith) e
 
 pub returns-clause-alone : goal.returns-clause-alone
 returns-clause-alone g c bytes e none files =
@@ -82,8 +83,3 @@ returns-clause-survives g c =
     let w = subst (λ k. WritesUpTo k p.spot.pair new) (read_is t.kept mid only) c.make_directory.ensures.device in
     let k = subst (λ k. (can : CanMake k p.spot.pair p.spot.id p.name.now) → SurvivesTo k new (with_directory k can.path p.name.now)) (read_is t.kept mid only) c.make_directory.ensures.survives in
     made_survives t c.args.root c.requires.rests c.args.path.now c.know_names.ensures c.know_device.ensures.large c.know_device.ensures.bytes 4 c.requires.can p.name.now p.spot c.in_ok-place.ensures.place mid.history new only.reads w k (omega arith)
-
-pub returns-clause-no_fault : goal.returns-clause-no_fault
-returns-clause-no_fault g c =
-    c.make_directory.ensures.errors.no_fault (λ io. let z = sym c.in_ok-make_directory.was ∙ io in absurd (cc))
-    ∙ (answered _ _ c.find_place.result c.in_ok-place.place c.in_ok-place.was c.find_place.ensures.reading).same

@@ -54,7 +54,8 @@ returns-clause-done g c given e =
     let w = subst (λ k. Writes (two_of (pair_in k s.pair).at) k new) (read_is t.kept mid only) c.remove_attribute.ensures.device in
     let is = subst (λ k. (can : CanEdit k s.pair s.id) → HasRemovedAttribute k new can.path can.name c.args.kind) (read_is t.kept mid only) c.in_ok-remove_attribute.ensures.is_removed in
     let below = slot_below t c.args.root c.requires.rests c.args.path.now c.know_device.ensures.large c.know_device.ensures.bytes s slot mid.history in
-    cleared_at t c.args.root c.requires.rests c.args.path.now c.know_device.ensures.large c.know_device.ensures.bytes s slot mid.history new c.args.kind given (two_of (pair_in t.kept s.pair).at) only.reads w
+    let quiet = c.remove_attribute.ensures.errors.told.no_fault (λ io. let z = sym c.in_ok-remove_attribute.was ∙ io in absurd (cc)) ∙ (answered _ _ c.find_slot.result c.in_ok-slot.slot c.in_ok-slot.was c.find_slot.ensures.reading).same in
+    cleared_at t c.args.root c.requires.rests c.args.path.now c.know_device.ensures.large c.know_device.ensures.bytes s slot mid.history new c.args.kind given (two_of (pair_in t.kept s.pair).at) quiet only.reads w
     (among_one t.kept s.pair [] below tt) is e
 
 pub returns-clause-alone : goal.returns-clause-alone
@@ -100,8 +101,3 @@ returns-clause-survives g c =
     let w = subst (λ k. Writes (two_of (pair_in k s.pair).at) k new) (read_is t.kept mid only) c.remove_attribute.ensures.device in
     let k = subst (λ k. (can : CanEdit k s.pair s.id) → SurvivesTo k new (with_attributes_at k can.path can.name (without_attribute c.args.kind))) (read_is t.kept mid only) c.remove_attribute.ensures.survives in
     cleared_survives t c.args.root c.requires.rests c.args.path.now c.know_device.ensures.large c.know_device.ensures.bytes s c.in_ok-slot.ensures.slot mid.history new c.args.kind _ only.reads w k
-
-pub returns-clause-no_fault : goal.returns-clause-no_fault
-returns-clause-no_fault g c =
-    c.remove_attribute.ensures.errors.told.no_fault (λ io. let z = sym c.in_ok-remove_attribute.was ∙ io in absurd (cc))
-    ∙ (answered _ _ c.find_slot.result c.in_ok-slot.slot c.in_ok-slot.was c.find_slot.ensures.reading).same

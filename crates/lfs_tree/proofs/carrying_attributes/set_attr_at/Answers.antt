@@ -57,7 +57,8 @@ returns-clause-done g c given e =
     let w = subst (λ k. WritesIn k s.pair new) (read_is t.kept mid only) c.set_attribute.ensures.device in
     let is = subst (λ k. (set : CanSetAttribute k s.pair s.id c.args.kind c.args.bytes.now) → HasSetAttribute k new set.can.path set.can.name c.args.kind c.args.bytes.now) (read_is t.kept mid only) c.in_ok-set_attribute.ensures.is_set in
     let below = slot_below t c.args.root c.requires.rests c.args.path.now c.know_device.ensures.large c.know_device.ensures.bytes s slot mid.history in
-    set_at t c.args.root c.requires.rests c.args.path.now c.know_device.ensures.large c.know_device.ensures.bytes s slot mid.history new c.args.kind c.args.bytes.now given _ c.requires.can only.reads w.writes
+    let quiet = c.set_attribute.ensures.errors.tells.tells.no_fault (λ io. let z = sym c.in_ok-set_attribute.was ∙ io in absurd (cc)) ∙ (answered _ _ c.find_slot.result c.in_ok-slot.slot c.in_ok-slot.was c.find_slot.ensures.reading).same in
+    set_at t c.args.root c.requires.rests c.args.path.now c.know_device.ensures.large c.know_device.ensures.bytes s slot mid.history new c.args.kind c.args.bytes.now given _ c.requires.can quiet only.reads w.writes
     (among_one t.kept s.pair w.fresh below w.free) is e
 
 pub returns-clause-alone : goal.returns-clause-alone
@@ -103,8 +104,3 @@ returns-clause-survives g c =
     let w = subst (λ k. WritesIn k s.pair new) (read_is t.kept mid only) c.set_attribute.ensures.device in
     let k = subst (λ k. (set : CanSetAttribute k s.pair s.id c.args.kind c.args.bytes.now) → SurvivesTo k new (with_attributes_at k set.can.path set.can.name (put_attribute c.args.kind c.args.bytes.now))) (read_is t.kept mid only) c.set_attribute.ensures.survives in
     set_survives t c.args.root c.requires.rests c.args.path.now c.know_device.ensures.large c.know_device.ensures.bytes s c.in_ok-slot.ensures.slot mid.history new c.args.kind c.args.bytes.now _ c.requires.can only.reads w.writes k
-
-pub returns-clause-no_fault : goal.returns-clause-no_fault
-returns-clause-no_fault g c =
-    c.set_attribute.ensures.errors.tells.tells.no_fault (λ io. let z = sym c.in_ok-set_attribute.was ∙ io in absurd (cc))
-    ∙ (answered _ _ c.find_slot.result c.in_ok-slot.slot c.in_ok-slot.was c.find_slot.ensures.reading).same

@@ -54,7 +54,8 @@ returns-clause-done g c given e =
     let w = subst (λ k. WritesAmong k new) (read_is t.kept mid only) c.take_found.ensures.device in
     let can = can_go t c.args.root c.requires.rests c.args.path.now c.know_device.ensures.large c.know_device.ensures.bytes c.requires.can mid.history c.in_ok-found.found c.in_ok-found.ensures.entry in
     let gone = subst (λ k. CanGo k c.args.path.now c.in_ok-found.found → HasGone k c.args.path.now new) (read_is t.kept mid only) (c.in_ok-take_found.ensures.gone c.args.path.now) in
-    removed_at t c.args.root c.requires.rests c.args.path.now mid.history new only.reads w given (gone can) e
+    let quiet = c.take_found.ensures.errors.no_fault (λ io. let z = sym c.in_ok-take_found.was ∙ io in absurd (cc)) ∙ (answered _ _ c.find_entry.result c.in_ok-found.found c.in_ok-found.was c.find_entry.ensures.reading).same in
+    removed_at t c.args.root c.requires.rests c.args.path.now mid.history new only.reads w given (gone can) quiet e
 
 pub returns-clause-alone : goal.returns-clause-alone
 returns-clause-alone g c given e none files =
@@ -73,11 +74,6 @@ returns-clause-called g c =
     let only = c.find_entry.ensures.reading.only in
     let w = subst (λ k. WritesAmong k c.take_found.new.thread.kept) (read_is t.kept mid only) c.take_found.ensures.device in
     called_by_writing t.kept mid.history c.take_found.new.thread.kept w.blocks only.reads w.writes
-
-pub returns-clause-no_fault : goal.returns-clause-no_fault
-returns-clause-no_fault g c =
-    c.take_found.ensures.errors.no_fault (λ io. let z = sym c.in_ok-take_found.was ∙ io in absurd (cc))
-    ∙ (answered _ _ c.find_entry.result c.in_ok-found.found c.in_ok-found.was c.find_entry.ensures.reading).same
 
 pub returns-in_err-found-clause-survives : goal.returns-in_err-found-clause-survives
 returns-in_err-found-clause-survives g c = survives_reading c.args.thread.now c.args.root c.requires.rests c.find_entry.new.thread.kept.history c.find_entry.ensures.reading.only.reads _

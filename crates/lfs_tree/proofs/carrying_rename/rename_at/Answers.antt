@@ -68,7 +68,8 @@ returns-clause-done g c given to_given e f =
     c.in_ok-target.target.found c.in_ok-target.target.name.now (target_back t.kept one.kept c.args.to.now c.in_ok-target.target.found c.in_ok-target.target.name.now c.find_source.ensures.reading.only c.in_ok-target.ensures.target) in
     let is = subst (λ k. CanShiftFound k c.args.from.now c.args.to.now c.in_ok-source.source c.in_ok-target.target.found c.in_ok-target.target.name.now → HasShifted k c.args.from.now c.args.to.now new.kept) (read_is t.kept mid.kept read.only)
     (c.in_ok-move_found.ensures.shifted c.args.from.now c.args.to.now) in
-    shifted_at t c.args.root c.requires.rests c.args.from.now c.args.to.now c.requires.apart mid.kept.history new.kept read.only.reads w given to_given (is can) e f
+    let quiet = c.move_found.ensures.errors.no_fault (λ io. let z = sym c.in_ok-move_found.was ∙ io in absurd (cc)) ∙ read.same in
+    shifted_at t c.args.root c.requires.rests c.args.from.now c.args.to.now c.requires.apart mid.kept.history new.kept read.only.reads w given to_given (is can) quiet e f
 
 pub returns-clause-alone : goal.returns-clause-alone
 returns-clause-alone g c given to_given e f none files =
@@ -93,14 +94,6 @@ returns-clause-called g c =
     let read = both t one mid (answered t one c.find_source.result c.in_ok-source.source c.in_ok-source.was c.find_source.ensures.reading) (answered one mid c.find_target.result c.in_ok-target.target c.in_ok-target.was c.find_target.ensures.reading) in
     let w = subst (λ k. WritesAmong k new.kept) (read_is t.kept mid.kept read.only) c.move_found.ensures.device in
     called_by_writing t.kept mid.kept.history new.kept w.blocks read.only.reads w.writes
-
-pub returns-clause-no_fault : goal.returns-clause-no_fault
-returns-clause-no_fault g c =
-    let t = c.args.thread.now in
-    let one = c.find_source.new.thread in
-    let mid = c.find_target.new.thread in
-    let read = both t one mid (answered t one c.find_source.result c.in_ok-source.source c.in_ok-source.was c.find_source.ensures.reading) (answered one mid c.find_target.result c.in_ok-target.target c.in_ok-target.was c.find_target.ensures.reading) in
-    c.move_found.ensures.errors.no_fault (λ io. let z = sym c.in_ok-move_found.was ∙ io in absurd (cc)) ∙ read.same
 
 pub returns-in_err-source-clause-survives : goal.returns-in_err-source-clause-survives
 returns-in_err-source-clause-survives g c = survives_reading c.args.thread.now c.args.root c.requires.rests c.find_source.new.thread.kept.history c.find_source.ensures.reading.only.reads _

@@ -10,4 +10,4 @@ fresh-requires g c =
 pub returns-clause-root : goal.returns-clause-root
 returns-clause-root g c =
     device_root (g.D.BlockDevice.geometry c.fresh.new.dev) c.geometry-geometry.result (g.D.BlockDevice.blocks c.fresh.new.dev) _ _ _ _ _ _ (g.met.D.BlockDevice.shape c.fresh.new.dev).count
-    (c.geometry-geometry.ensures ∙ sym c.in_ok-pair.ensures.device.geometry) c.superblock_changes-changes.ensures c.superblock_bytes-structure.ensures.bytes c.of.ensures.bytes c.in_ok-pair.ensures.fresh
+    (c.geometry-geometry.ensures ∙ sym c.in_ok-pair.ensures.device.only.geometry) c.superblock_changes-changes.ensures c.superblock_bytes-structure.ensures.bytes c.of.ensures.bytes c.in_ok-pair.ensures.fresh

@@ -25,8 +25,8 @@ pub returns-clause-done : goal.returns-clause-done
 returns-clause-done g c =
     let quiet = c.end_move.ensures.errors.no_fault (λ io. let z = sym c.in_ok-end_move.was ∙ io in absurd (cc)) in
     settled_whole c.args.thread.now.kept c.end_move.new.thread.kept c.drop_lost.new.thread.kept c.requires.left c.in_ok-end_move.ensures.ended c.in_ok-drop_lost.ensures.dropped
-    (recovered_whole c.args.thread.now c.args.root c.end_move.new.thread.kept c.drop_lost.new.thread.kept c.requires.rooted c.requires.left c.in_ok-end_move.ensures.ended c.end_move.ensures.device c.in_ok-drop_lost.ensures.dropped c.drop_lost.ensures.called)
-    (c.in_ok-drop_lost.ensures.no_fault ∙ quiet)
+    (recovered_whole c.args.thread.now c.args.root c.end_move.new.thread.kept c.drop_lost.new.thread.kept c.requires.rooted c.requires.left c.in_ok-end_move.ensures.ended c.end_move.ensures.device c.in_ok-drop_lost.ensures.dropped c.drop_lost.ensures.called
+    (c.in_ok-drop_lost.ensures.no_fault ∙ quiet))
 
 pub returns-clause-called : goal.returns-clause-called
 returns-clause-called g c = called_then _ _ _ (called_writing _ _ _ c.end_move.ensures.device) c.drop_lost.ensures.called

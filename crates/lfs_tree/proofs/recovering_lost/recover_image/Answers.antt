@@ -21,7 +21,7 @@ returns-in_err-root-clause-errors g c =
     let p = err_from_is_err_and c.from_residual-in_err-root.result c.from_residual-in_err-root.ensures.1 in
     subst (λ r. IfErr r (TellsError c.args.thread.now.kept c.find_root.new.thread.kept)) (sym p.1)
     (subst (λ x. TellsError c.args.thread.now.kept c.find_root.new.thread.kept x) (sym p.2)
-    (tells_then c.args.thread.now.kept c.recover_at.new.thread.kept c.find_root.new.thread.kept _ c.in_ok-recover_at.ensures.done.no_fault
+    (tells_then c.args.thread.now.kept c.recover_at.new.thread.kept c.find_root.new.thread.kept _ c.in_ok-recover_at.ensures.done.carries.no_fault
     (tells_reading c.recover_at.new.thread.kept c.find_root.new.thread.kept c.find_root.result _ c.in_err-root.was c.find_root.ensures.reading.told)))
 
 pub returns-clause-done : goal.returns-clause-done

@@ -11,6 +11,7 @@ use Rattle.lfs_tree.proofs.CarryRooted.{called_on, carried_read, spares_read}
 use Rattle.lfs_tree.proofs.CarrySurvives.{survives_ahead}
 use Rattle.lfs_tree.proofs.CarryTold.{tells_error, told_by_reading}
 use Rattle.lfs_tree.proofs.Mounting.{sound_read}
+use Rattle.lfs_tree.proofs.Reading.{answered}
 use Rattle.lfs_tree.proofs.rooted.remove_entry_at.Goals as goal
 
 pub returns-in_err-root-clause-called : goal.returns-in_err-root-clause-called
@@ -22,10 +23,10 @@ returns-in_err-root-clause-errors g c =
     let told = told_by_reading c.remove_at.new.thread.kept c.find_root.new.thread.kept c.find_root.result c.find_root.ensures.reading.told in
     subst (λ r. IfErr r (TellsError c.args.thread.now.kept c.find_root.new.thread.kept)) (sym p.1)
     (subst (λ x. TellsError c.args.thread.now.kept c.find_root.new.thread.kept x) (sym p.2)
-    (tells_error c.args.thread.now.kept c.find_root.new.thread.kept _ c.find_root.result _ c.in_ok-remove_at.ensures.no_fault told c.in_err-root.was))
+    (tells_error c.args.thread.now.kept c.find_root.new.thread.kept _ c.find_root.result _ (c.in_ok-remove_at.ensures.done c.know_bytes.ensures.0 c.know_bytes.ensures.1).no_fault told c.in_err-root.was))
 
 pub returns-clause-done : goal.returns-clause-done
-returns-clause-done g c bytes e = carried_read _ _ _ (ops.Remove bytes) c.find_root.ensures.reading.only refl refl (c.in_ok-remove_at.ensures.done bytes e)
+returns-clause-done g c bytes e = carried_read _ _ _ (ops.Remove bytes) c.find_root.ensures.reading.only (answered _ _ c.find_root.result c.in_ok-root.root c.in_ok-root.was c.find_root.ensures.reading).same refl refl (c.in_ok-remove_at.ensures.done bytes e)
 
 pub returns-clause-alone : goal.returns-clause-alone
 returns-clause-alone g c bytes e = spares_read c.args.thread.now.kept c.remove_at.new.thread.kept c.find_root.new.thread.kept (ops.Remove bytes) c.find_root.ensures.reading.only (c.in_ok-remove_at.ensures.alone bytes e)

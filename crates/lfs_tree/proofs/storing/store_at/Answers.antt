@@ -18,7 +18,7 @@ commit_at-requires-clause-can g c = can_commit c.args.thread.now c.args.root c.r
 pub returns-clause-done : goal.returns-clause-done
 returns-clause-done g c = all_stored c.args.thread.now c.args.root c.requires.rests c.args.path.now c.args.contents c.requires.can c.finish_file.new.thread c.finish_file.ensures.works c.finish_file.ensures.leaves
     c.in_ok-finished.finished c.in_ok-finished.ensures.finished c.in_ok-finished.ensures.owned c.commit_at.new.thread.kept c.commit_at.result
-    (called_then _ _ _ (called_beside_image _ _ c.finish_file.ensures.leaves) c.commit_at.ensures.called) c.commit_at.ensures.done
+    (called_then _ _ _ (called_beside_image _ _ c.finish_file.ensures.leaves) c.commit_at.ensures.called) (c.finish_file.ensures.tells.no_fault (λ e. absurd (let k = sym c.in_ok-finished.was ∙ e in cc))) c.commit_at.ensures.no_fault c.commit_at.ensures.done
 
 pub returns-clause-called : goal.returns-clause-called
 returns-clause-called g c = called_then _ _ _ (called_beside_image _ _ c.finish_file.ensures.leaves) c.commit_at.ensures.called

@@ -6,6 +6,7 @@ use Rattle.lfs_tree.specs.Carrying.{TellsError}
 use Rattle.lfs_tree.proofs.CarryRooted.{called_on}
 use Rattle.lfs_tree.proofs.CarryTold.{tells_error, told_by_reading}
 use Rattle.lfs_tree.proofs.Mounting.{sound_read}
+use Rattle.lfs_tree.proofs.Reading.{answered}
 use Rattle.lfs_tree.proofs.CarrySurvives.{survives_left}
 use Rattle.lfs_tree.proofs.StoreContents.{each_any, stored_read}
 use Rattle.lfs_tree.proofs.storing.store_file_at.Goals as goal
@@ -19,10 +20,10 @@ returns-in_err-root-clause-errors g c =
     let told = told_by_reading c.store_at.new.thread.kept c.find_root.new.thread.kept c.find_root.result c.find_root.ensures.reading.told in
     subst (λ r. IfErr r (TellsError c.args.thread.now.kept c.find_root.new.thread.kept)) (sym p.1)
     (subst (λ x. TellsError c.args.thread.now.kept c.find_root.new.thread.kept x) (sym p.2)
-    (tells_error c.args.thread.now.kept c.find_root.new.thread.kept _ c.find_root.result _ c.in_ok-store_at.ensures.no_fault told c.in_err-root.was))
+    (tells_error c.args.thread.now.kept c.find_root.new.thread.kept _ c.find_root.result _ c.in_ok-store_at.ensures.done.no_fault told c.in_err-root.was))
 
 pub returns-clause-done : goal.returns-clause-done
-returns-clause-done g c = stored_read _ _ _ _ _ c.find_root.ensures.reading.only c.in_ok-store_at.ensures.done
+returns-clause-done g c = stored_read _ _ _ _ _ c.find_root.ensures.reading.only (answered _ _ c.find_root.result c.in_ok-root.root c.in_ok-root.was c.find_root.ensures.reading).same c.in_ok-store_at.ensures.done
 
 pub returns-clause-rooted : goal.returns-clause-rooted
 returns-clause-rooted g c = record {

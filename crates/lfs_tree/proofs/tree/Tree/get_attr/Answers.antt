@@ -1,4 +1,4 @@
-use Rattle.std.proofs.Common.{◌≤◌, ◌+◌, ◌∙◌, ap, subst, sym}
+use Rattle.std.proofs.Common.{◌∙◌, ap, subst, sym}
 use Rattle.lfs_model.specs.TreeEdits.{attributes_of}
 use Rattle.lfs_model.specs.Shown.{tree_in}
 use Rattle.lfs_model.specs.Discipline.{parents}

@@ -1,4 +1,4 @@
-use Rattle.std.proofs.Common.{◌≤◌, ◌+◌, ◌++◌, ◌∷◌, [], ◌∙◌, subst, sym}
+use Rattle.std.proofs.Common.{◌++◌, ◌∷◌, [], ◌∙◌, subst, sym}
 use Rattle.lfs_model.specs.Discipline.{parents}
 use Rattle.lfs_tree.specs.AtHand.{ReadsOnce}
 use Rattle.lfs_tree.specs.Seen.{Seen}

@@ -36,6 +36,7 @@ pub mod Stopping
 pub mod StoppedCalls
 pub mod Calls
 pub mod FewReads
+pub mod Ending
 pub mod Sparing
 pub mod KeptLookUps
 pub mod WrittenAlone

@@ -66,7 +66,7 @@ closed_ready t fs gs fd saved ready is works = subst (IsReady t) (sym is) (ready
 
 -- ---- a remount
 
-no_refusal : {P : Type 0} (e : Error) → (e ≡ Io) ⊎ ((e ≡ NoMemory) ⊎ ((e ≡ Corrupt) × P)) → is_refusal e ≡ false
+pub no_refusal : {P : Type 0} (e : Error) → (e ≡ Io) ⊎ ((e ≡ NoMemory) ⊎ ((e ≡ Corrupt) × P)) → is_refusal e ≡ false
 no_refusal e (inl h) = ap is_refusal h
 no_refusal e (inr (inl h)) = ap is_refusal h
 no_refusal e (inr (inr h)) = ap is_refusal h.0

@@ -2,6 +2,7 @@
 use Rattle.std.proofs.Common.{Ok, ℕ, ◌≡◌, ◌+◌, ◌<◌, ◌≤◌, Bool, false, cond, List, [], ◌∷◌, ◌++◌, Option, None, Some, length, take, drop, map, get_or, refl, sym, ap, subst, ◌∙◌, drop-cons, add-one, true, arith}
 use Rattle.std.proofs.lemmas.List.{append_cancel_right, take_more, take_all, map-append, take-append-drop}
 use Rattle.lfs_device.specs.declared.error.Error.{Error}
+use Rattle.lfs_model.specs.History.{faults}
 use Rattle.lfs_model.specs.Operations as ops
 use Rattle.lfs_model.specs.Operations.{Operation}
 use Rattle.lfs_model.specs.Outages.{AreWithstood}
@@ -79,19 +80,21 @@ last_further before (o ∷ operations) op (r ∷ replies) reply a b (next, first
 
 -- ---- the operations so far
 
--- they withstand stops, and are thrifty
+-- they withstand stops, are thrifty, and met no fault
 pub record HaveRun (from : Moment) (operations : List Operation) (replies : List ops.Reply) (to : Held) : Type 0 where
   pub withstood : AreWithstood from operations replies (moment_of to)
   pub thrifty : AreThrifty None from operations replies (moment_of to)
+  pub no_fault : faults to.tree.history ≡ faults from.calls
   pub warm : IsWarm (last_accepted None operations replies) to
 
 pub none_run : (a : Held) (replies : List Reply) → replies ≡ [] → HaveRun (moment_of a) [] (map reply_seen replies) a
-none_run a replies none = subst (λ rs. HaveRun (moment_of a) [] (map reply_seen rs) a) (sym none) (record { withstood = refl; thrifty = refl; warm = tt })
+none_run a replies none = subst (λ rs. HaveRun (moment_of a) [] (map reply_seen rs) a) (sym none) (record { withstood = refl; thrifty = refl; no_fault = refl; warm = tt })
 
 one_more : (operations : List Operation) (op : Operation) (replies : List ops.Reply) (reply : ops.Reply) (a : Moment) (b c : Held) → HaveRun a operations replies b → IsCall b op (Ok reply) c → HaveRun a (operations ++ op ∷ []) (replies ++ reply ∷ []) c
 one_more operations op replies reply a b c done call = record {
   withstood = withstood_further operations op replies reply a (moment_of b) (moment_of c) done.withstood call.answers call.withstands;
   thrifty = thrifty_further None operations op replies reply a (moment_of b) (moment_of c) done.thrifty call.answers (call_thrifty (last_accepted None operations replies) b op reply c done.warm call call.answers);
+  no_fault = call.ends.no_fault refl ∙ done.no_fault;
   warm = subst (λ o. IsWarm o c) (sym (last_further None operations op replies reply a (moment_of b) done.thrifty)) (warm_behind b op reply c call);
 }
 
@@ -108,9 +111,9 @@ pub run_ended : (ops : List Op) (i : ℕ) (replies : List Reply) (a : Moment) (b
 run_ended ops i replies a b h done = subst (λ xs. HaveRun a (map op_seen xs) (map reply_seen replies) b) (take_all i ops h) done
 
 -- the session fails in the next one
-pub run_cut : (e : Error) (ops : List Op) (i : ℕ) (d : Op) (replies : List Reply) (a b c : Moment) → i < length ops → AreWithstood a (map op_seen (take i ops)) (map reply_seen replies) b →
+pub run_cut : (e : Error) (ops : List Op) (i : ℕ) (d : Op) (replies : List Reply) (a b c : Moment) → i < length ops → AreWithstood a (map op_seen (take i ops)) (map reply_seen replies) b → faults b.calls ≡ faults a.calls →
     FailsBy e b (op_seen (get_or ops i d)) c → Withstands b (op_seen (get_or ops i d)) c → IsEndedBy e a (map op_seen ops) c
-run_cut e ops i d replies a b c lt done fails withstands = record {
+run_cut e ops i d replies a b c lt done calm fails withstands = record {
   ended = record {
     cut = record {
       done = map op_seen (take i ops);
@@ -125,5 +128,6 @@ run_cut e ops i d replies a b c lt done fails withstands = record {
     done = done;
     next = withstands;
   };
+  no_fault = calm;
   by = fails;
 }

@@ -127,7 +127,7 @@ committed_is t new fs fd w is dirty stored =
     ∙ sym (ap (λ f. committed f (tree_seen t)) (file_at t fs fd w is)
     ∙ ap (λ b. cond b (change_at w.path (with_bytes (bytes_of t w.path w.unsaved)) (tree_seen t)) (tree_seen t)) dirty)
 
-dirty_at : (t : Seen) (fs : OpenFiles) (fd : ℕ) (w : Writer) → Some (file.Writing w) ≡ entry_of fs fd → is_some w.unsaved ≡ true → not (is_dirty (file_of (files_seen t fs) fd)) ≡ false
+pub dirty_at : (t : Seen) (fs : OpenFiles) (fd : ℕ) (w : Writer) → Some (file.Writing w) ≡ entry_of fs fd → is_some w.unsaved ≡ true → not (is_dirty (file_of (files_seen t fs) fd)) ≡ false
 dirty_at t fs fd w is dirty = ap (λ f. not (is_dirty f)) (file_at t fs fd w is) ∙ ap not dirty
 
 writer_at : (t : Seen) (fs : OpenFiles) (fd : ℕ) (w : Writer) → Some (file.Writing w) ≡ entry_of fs fd → is_some w.unsaved ≡ true →

@@ -30,6 +30,7 @@ use Rattle.std.specs.Option.{option_map}
 use Rattle.lfs_fs.specs.FileSeen.{OpenFiles, entry_of, file_seen, files_seen}
 use Rattle.lfs_fs.specs.declared.files.OpenFile.TheVariants as file
 use Rattle.lfs_fs.specs.declared.files.Writer.{Writer}
+use Rattle.lfs_fs.specs.Ending.{EndsWell}
 use Rattle.lfs_fs.specs.Held.{Answers, Held, IsReady, held_of, held_with, moment_of, session_of}
 use Rattle.lfs_fs.specs.LookUps.{AddsFew, AddsNone, LeavesOnHand, ReadsNoneIn}
 use Rattle.lfs_fs.specs.Replies.{reply_in}
@@ -184,9 +185,10 @@ asks_not t op r new silent = record {
 
 -- a call that asks only
 pub asking_call : (t : Seen) (fs : OpenFiles) (now : Held) (op : Operation) (r : Result Reply Error) (new : Held) → held_of t fs ≡ now → (t.failed ≡ false → IsReady t fs) → ((s : Session) → only_asks s op ≡ true) →
-    (is_kept op ≡ true → new ≡ now) → AsksBy t op r new → Answers now op r new → SurvivesStops (moment_of now) op (moment_of new) → IsCall now op r new
-asking_call t fs now op r new same ready asks kept by answers survives = record {
+    (is_kept op ≡ true → new ≡ now) → AsksBy t op r new → EndsWell now op r new → Answers now op r new → SurvivesStops (moment_of now) op (moment_of new) → IsCall now op r new
+asking_call t fs now op r new same ready asks kept by ends answers survives = record {
   answers = answers;
+  ends = ends;
   withstands = asking_stands now op r new (subst (λ (z : Held). Agrees z.tree.disk (moment_of z).state) same (ready_agrees t fs ready)) asks answers survives;
   alone = λ e. asking_others now op r new asks answers e;
   asks = record {
@@ -198,17 +200,18 @@ asking_call t fs now op r new same ready asks kept by answers survives = record 
 }
 
 -- the same where no call is made
-pub kept_asking : (t : Seen) (fs : OpenFiles) (now : Held) (op : Operation) (r : Result Reply Error) → held_of t fs ≡ now → (t.failed ≡ false → IsReady t fs) → ((s : Session) → only_asks s op ≡ true) → looks_up op ≡ false → Answers now op r now → IsCall now op r now
-kept_asking t fs now op r same ready asks silent answers =
-    asking_call t fs now op r now same ready asks (λ k. refl) (asks_not t op r now silent) answers (kept_call (held_of t fs) now op same (λ w. (ready w).sound))
+pub kept_asking : (t : Seen) (fs : OpenFiles) (now : Held) (op : Operation) (r : Result Reply Error) → held_of t fs ≡ now → (t.failed ≡ false → IsReady t fs) → ((s : Session) → only_asks s op ≡ true) → looks_up op ≡ false → EndsWell now op r now → Answers now op r now → IsCall now op r now
+kept_asking t fs now op r same ready asks silent ends answers =
+    asking_call t fs now op r now same ready asks (λ k. refl) (asks_not t op r now silent) ends answers (kept_call (held_of t fs) now op same (λ w. (ready w).sound))
 
 -- a call that may change the disk
 pub changing_call : {A : Type 0} (old : Held) (op : Operation) (reply : A → Reply) (r : Result A Error) (new : Held) → IsTold old → IsTold new → is_kept op ≡ false → looks_up op ≡ false → OnOk r (LeavesOthers (moment_of old) op (moment_of new)) →
-    Answers old op (reply_in reply r) new → SurvivesStops (moment_of old) op (moment_of new) → IsCall old op (reply_in reply r) new
-changing_call old op reply r new before after other silent alone answers survives =
+    EndsWell old op (reply_in reply r) new → Answers old op (reply_in reply r) new → SurvivesStops (moment_of old) op (moment_of new) → IsCall old op (reply_in reply r) new
+changing_call old op reply r new before after other silent alone ends answers survives =
     let by = asks_not old.tree op (reply_in reply r) new silent in
     record {
       answers = answers;
+      ends = ends;
       withstands = call_withstands old op (reply_in reply r) new before after answers survives;
       alone = λ e. ok_others old op reply r new answers alone e;
       asks = record {

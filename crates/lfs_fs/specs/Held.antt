@@ -4,7 +4,7 @@ use Rattle.lfs_device.specs.declared.error.Error.{Error}
 use Rattle.lfs_device.specs.declared.error.Error.TheVariants.{Io, NoMemory, Corrupt}
 use Rattle.lfs_model.specs.BlockSets.{in_flight_count}
 use Rattle.lfs_model.specs.History.{Event, OnlyReads, faults}
-use Rattle.lfs_model.specs.Disk.{Disk}
+use Rattle.lfs_model.specs.Disk.{Disk, block_count, inline_limit}
 use Rattle.lfs_model.specs.View.{IsAccepted}
 use Rattle.lfs_model.specs.Operations.{Operation, Refusal, Reply, Failed, path_of}
 use Rattle.lfs_model.specs.Slots.{no_gstate}
@@ -17,7 +17,6 @@ use Rattle.std.specs.List.{AllByRecursion}
 use Rattle.lfs_model.specs.State.{HasFailed, Healthy, is_remount}
 use Rattle.lfs_model.specs.Refusals.{as_path, refusal_of}
 use Rattle.lfs_model.specs.Effects.{size_of}
-use Rattle.lfs_model.specs.Disk.{block_count, inline_limit}
 use Rattle.lfs_tree.specs.OpenContents.{IsOver, IsSettleable}
 use Rattle.lfs_writer.specs.Contents.{form_of}
 use Rattle.lfs_writer.specs.Form.{IsKept}
@@ -92,10 +91,11 @@ abbrev pub Answers : Held → Operation → Result Reply Error → Held → Type
 Answers old op (Ok reply) new = IsTurn (moment_of old) op reply (moment_of new)
 Answers old op (Err e) new = FailsBy e (moment_of old) op (moment_of new)
 
--- Some operations were carried out or refused, and withstood stops; in the next one the session failed by that error, and it
--- withstands them, too.
+-- Some operations were carried out or refused, without a fault of the device, and withstood stops; in the next one the session
+-- failed by that error, and it withstands them, too.
 pub record IsEndedBy (e : Error) (from : Moment) (operations : List Operation) (to : Moment) : Type 0 where
   pub ended : IsCutShortWithstood from operations to
+  pub no_fault : faults ended.cut.at.calls ≡ faults from.calls
   pub by : FailsBy e ended.cut.at ended.cut.next to
 
 -- the check that refuses an operation, that of a failed session first
@@ -134,4 +134,5 @@ pub record IsBegun (disk : Disk) (history : List Event) (h : Held) : Type 0 wher
   pub disk_is : h.tree.disk ≡ disk
   pub accepted : IsAccepted disk h.tree.pairs
   pub reads : OnlyReads disk.blocks history h.tree.history
+  pub no_fault : faults h.tree.history ≡ faults history
   pub no_files : h.files ≡ []

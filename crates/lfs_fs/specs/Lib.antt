@@ -11,4 +11,5 @@ pub mod Changing
 pub mod Staying
 pub mod Told
 pub mod LookUps
+pub mod Ending
 pub mod Sparing

@@ -1,4 +1,4 @@
--- What a session's call promises: how it answers, what a loss of power leaves, which blocks it leaves alone, how many reads it takes.
+-- What a session's call promises: how it answers and ends, what a loss of power leaves, which blocks it leaves alone, how many reads it takes.
 use Rattle.std.specs.Prelude.{ℕ, ◌≡◌, true, false, List, ◌++◌, Result, Ok, is_err}
 use Rattle.lfs_device.specs.declared.error.Error.{Error}
 use Rattle.lfs_model.specs.Discipline.{LeavesAlone, ReadsFew, is_kept, looks_up, searched}
@@ -13,6 +13,7 @@ use Rattle.lfs_model.specs.State.{Healthy}
 use Rattle.lfs_model.specs.Thread.{Pair, gstate_of}
 use Rattle.lfs_model.specs.View.{IsAccepted}
 use Rattle.lfs_tree.specs.AtHand.{AreSmall, HasOnHand}
+use Rattle.lfs_fs.specs.Ending.{EndsWell}
 use Rattle.lfs_fs.specs.Held.{Answers, Held, moment_of}
 use Rattle.lfs_fs.specs.LookUps.{ReadsNoneIn}
 
@@ -40,6 +41,7 @@ pub record AsksSeldom (old : Held) (op : Operation) (r : Result Reply Error) (ne
 -- A call that ends in that reply or error.
 pub record IsCall (old : Held) (op : Operation) (r : Result Reply Error) (new : Held) : Type 0 where
   pub answers : Answers old op r new
+  pub ends : EndsWell old op r new
   pub withstands : Withstands (moment_of old) op (moment_of new)
   pub alone : is_err r ≡ false → LeavesOthers (moment_of old) op (moment_of new)
   pub asks : AsksSeldom old op r new

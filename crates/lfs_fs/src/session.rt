@@ -5,6 +5,7 @@ ghost use Rattle.lfs_model.specs.Disk.{SameGeometry};
 ghost use Rattle.lfs_model.specs.Thread.{Pair};
 ghost use Rattle.lfs_model.specs.Fresh.{IsFresh, empty_tree};
 ghost use Rattle.lfs_model.specs.Headline.{IsTrue};
+ghost use Rattle.lfs_model.specs.History.{faults};
 ghost use Rattle.lfs_model.specs.State.{Healthy, mounted};
 ghost use Rattle.lfs_model.specs.Run.{AreTurns};
 ghost use Rattle.lfs_model.specs.Outages.{AreWithstood};
@@ -15,6 +16,7 @@ ghost use Rattle.lfs_model.specs.Thread.{anchor};
 ghost use Rattle.lfs_model.specs.View.{IsAccepted};
 ghost use Rattle.lfs_tree.specs.Finds.{list_item_seen};
 ghost use Rattle.lfs_tree.specs.Formatting.{ComesBack};
+ghost use Rattle.lfs_fs.specs.Ending.{EndsWell};
 ghost use Rattle.lfs_fs.specs.GstateSeen.{gstate_reply};
 ghost use Rattle.lfs_fs.specs.Held.{Answers, IsBegun, IsEndedBy, moment_of};
 ghost use Rattle.lfs_fs.specs.FlagsSeen.{flags_seen};
@@ -131,6 +133,7 @@ impl<D: BlockDevice> Session<D> {
 
     fn do_mkdir(&mut self, alloc: Global, path: &[u8]) -> Result<(), Error>
         ensures answers { Answers self.old (ops.Mkdir path.now) (reply_in (λ _. ops.Done) result) self.new }
+        ensures ends { EndsWell self.old (ops.Mkdir path.now) (reply_in (λ _. ops.Done) result) self.new }
         ensures alone { OnOk result (LeavesOthers (moment_of self.old) (ops.Mkdir path.now) (moment_of self.new)) }
         ensures survives { SurvivesStops (moment_of self.old) (ops.Mkdir path.now) (moment_of self.new) }
     {
@@ -151,6 +154,7 @@ impl<D: BlockDevice> Session<D> {
 
     fn do_remove(&mut self, alloc: Global, path: &[u8]) -> Result<(), Error>
         ensures answers { Answers self.old (ops.Remove path.now) (reply_in (λ _. ops.Done) result) self.new }
+        ensures ends { EndsWell self.old (ops.Remove path.now) (reply_in (λ _. ops.Done) result) self.new }
         ensures alone { OnOk result (LeavesOthers (moment_of self.old) (ops.Remove path.now) (moment_of self.new)) }
         ensures survives { SurvivesStops (moment_of self.old) (ops.Remove path.now) (moment_of self.new) }
     {
@@ -173,6 +177,7 @@ impl<D: BlockDevice> Session<D> {
 
     fn do_rename(&mut self, alloc: Global, from: &[u8], to: &[u8]) -> Result<(), Error>
         ensures answers { Answers self.old (ops.Rename from.now to.now) (reply_in (λ _. ops.Done) result) self.new }
+        ensures ends { EndsWell self.old (ops.Rename from.now to.now) (reply_in (λ _. ops.Done) result) self.new }
         ensures alone { OnOk result (LeavesOthers (moment_of self.old) (ops.Rename from.now to.now) (moment_of self.new)) }
         ensures survives { SurvivesStops (moment_of self.old) (ops.Rename from.now to.now) (moment_of self.new) }
     {
@@ -209,6 +214,7 @@ impl<D: BlockDevice> Session<D> {
         value: &[u8],
     ) -> Result<(), Error>
         ensures answers { Answers self.old (ops.SetAttr path.now kind value.now) (reply_in (λ _. ops.Done) result) self.new }
+        ensures ends { EndsWell self.old (ops.SetAttr path.now kind value.now) (reply_in (λ _. ops.Done) result) self.new }
         ensures alone { OnOk result (LeavesOthers (moment_of self.old) (ops.SetAttr path.now kind value.now) (moment_of self.new)) }
         ensures survives { SurvivesStops (moment_of self.old) (ops.SetAttr path.now kind value.now) (moment_of self.new) }
     {
@@ -229,6 +235,7 @@ impl<D: BlockDevice> Session<D> {
 
     fn do_remove_attr(&mut self, alloc: Global, path: &[u8], kind: u8) -> Result<(), Error>
         ensures answers { Answers self.old (ops.RemoveAttr path.now kind) (reply_in (λ _. ops.Done) result) self.new }
+        ensures ends { EndsWell self.old (ops.RemoveAttr path.now kind) (reply_in (λ _. ops.Done) result) self.new }
         ensures alone { OnOk result (LeavesOthers (moment_of self.old) (ops.RemoveAttr path.now kind) (moment_of self.new)) }
         ensures survives { SurvivesStops (moment_of self.old) (ops.RemoveAttr path.now kind) (moment_of self.new) }
     {
@@ -252,6 +259,7 @@ impl<D: BlockDevice> Session<D> {
 
     fn do_recover(&mut self, alloc: Global) -> Result<(), Error>
         ensures answers { Answers self.old ops.Recover (reply_in (λ _. ops.Done) result) self.new }
+        ensures ends { EndsWell self.old ops.Recover (reply_in (λ _. ops.Done) result) self.new }
         ensures survives { SurvivesStops (moment_of self.old) ops.Recover (moment_of self.new) }
     {
         open_files_stay();
@@ -268,6 +276,7 @@ impl<D: BlockDevice> Session<D> {
     fn open_reader(&mut self, alloc: Global, path: &[u8], flags: OpenFlags) -> Result<u32, Error>
         requires { (flags_seen flags).write ≡ false }
         ensures answers { Answers self.old (ops.Open path.now (flags_seen flags)) (reply_in ops.Opened result) self.new }
+        ensures ends { EndsWell self.old (ops.Open path.now (flags_seen flags)) (reply_in ops.Opened result) self.new }
         ensures alone { OnOk result (LeavesOthers (moment_of self.old) (ops.Open path.now (flags_seen flags)) (moment_of self.new)) }
         ensures survives { SurvivesStops (moment_of self.old) (ops.Open path.now (flags_seen flags)) (moment_of self.new) }
     {
@@ -283,6 +292,7 @@ impl<D: BlockDevice> Session<D> {
     fn open_writer(&mut self, alloc: Global, path: &[u8], flags: OpenFlags) -> Result<u32, Error>
         requires { (flags_seen flags).write ≡ true }
         ensures answers { Answers self.old (ops.Open path.now (flags_seen flags)) (reply_in ops.Opened result) self.new }
+        ensures ends { EndsWell self.old (ops.Open path.now (flags_seen flags)) (reply_in ops.Opened result) self.new }
         ensures alone { OnOk result (LeavesOthers (moment_of self.old) (ops.Open path.now (flags_seen flags)) (moment_of self.new)) }
         ensures survives { SurvivesStops (moment_of self.old) (ops.Open path.now (flags_seen flags)) (moment_of self.new) }
     {
@@ -316,6 +326,7 @@ impl<D: BlockDevice> Session<D> {
 
     fn do_open(&mut self, alloc: Global, path: &[u8], flags: OpenFlags) -> Result<u32, Error>
         ensures answers { Answers self.old (ops.Open path.now (flags_seen flags)) (reply_in ops.Opened result) self.new }
+        ensures ends { EndsWell self.old (ops.Open path.now (flags_seen flags)) (reply_in ops.Opened result) self.new }
         ensures alone { OnOk result (LeavesOthers (moment_of self.old) (ops.Open path.now (flags_seen flags)) (moment_of self.new)) }
         ensures survives { SurvivesStops (moment_of self.old) (ops.Open path.now (flags_seen flags)) (moment_of self.new) }
     {
@@ -340,6 +351,7 @@ impl<D: BlockDevice> Session<D> {
 
     fn do_write(&mut self, alloc: Global, fd: u32, bytes: &[u8]) -> Result<u32, Error>
         ensures answers { Answers self.old (ops.Write fd bytes.now) (reply_in ops.Count result) self.new }
+        ensures ends { EndsWell self.old (ops.Write fd bytes.now) (reply_in ops.Count result) self.new }
         ensures alone { OnOk result (LeavesOthers (moment_of self.old) (ops.Write fd bytes.now) (moment_of self.new)) }
         ensures survives { SurvivesStops (moment_of self.old) (ops.Write fd bytes.now) (moment_of self.new) }
     {
@@ -368,6 +380,7 @@ impl<D: BlockDevice> Session<D> {
 
     fn do_truncate(&mut self, alloc: Global, fd: u32, size: u32) -> Result<(), Error>
         ensures answers { Answers self.old (ops.Truncate fd size) (reply_in (λ _. ops.Done) result) self.new }
+        ensures ends { EndsWell self.old (ops.Truncate fd size) (reply_in (λ _. ops.Done) result) self.new }
         ensures alone { OnOk result (LeavesOthers (moment_of self.old) (ops.Truncate fd size) (moment_of self.new)) }
         ensures survives { SurvivesStops (moment_of self.old) (ops.Truncate fd size) (moment_of self.new) }
     {
@@ -395,6 +408,7 @@ impl<D: BlockDevice> Session<D> {
 
     fn do_sync(&mut self, alloc: Global, fd: u32) -> Result<(), Error>
         ensures answers { Answers self.old (ops.Sync fd) (reply_in (λ _. ops.Done) result) self.new }
+        ensures ends { EndsWell self.old (ops.Sync fd) (reply_in (λ _. ops.Done) result) self.new }
         ensures alone { OnOk result (LeavesOthers (moment_of self.old) (ops.Sync fd) (moment_of self.new)) }
         ensures survives { SurvivesStops (moment_of self.old) (ops.Sync fd) (moment_of self.new) }
     {
@@ -454,6 +468,7 @@ impl<D: BlockDevice> Session<D> {
 
     fn do_close(&mut self, alloc: Global, fd: u32) -> Result<(), Error>
         ensures answers { Answers self.old (ops.Close fd) (reply_in (λ _. ops.Done) result) self.new }
+        ensures ends { EndsWell self.old (ops.Close fd) (reply_in (λ _. ops.Done) result) self.new }
         ensures alone { OnOk result (LeavesOthers (moment_of self.old) (ops.Close fd) (moment_of self.new)) }
         ensures survives { SurvivesStops (moment_of self.old) (ops.Close fd) (moment_of self.new) }
     {
@@ -542,6 +557,7 @@ impl<D: BlockDevice> Session<D> {
         ensures turns { IfOk result (λ replies. AreTurns (moment_of self.old) (map op_seen ops.now) (map reply_seen replies.items) (moment_of self.new)) }
         ensures withstood { IfOk result (λ replies. AreWithstood (moment_of self.old) (map op_seen ops.now) (map reply_seen replies.items) (moment_of self.new)) }
         ensures thrifty { IfOk result (λ replies. AreThrifty None (moment_of self.old) (map op_seen ops.now) (map reply_seen replies.items) (moment_of self.new)) }
+        ensures no_fault { OnOk result (faults self.new.tree.history ≡ faults self.old.tree.history) }
         ensures headline { IfOk result (λ replies. IsFresh self.old.tree.disk → (moment_of self.old).state ≡ Healthy (mounted empty_tree) → IsTrue (moment_of self.new)) }
         ensures ended { IfErr result (λ e. IsEndedBy e (moment_of self.old) (map op_seen ops.now) (moment_of self.new)) }
     {

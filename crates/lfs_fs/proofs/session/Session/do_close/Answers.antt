@@ -1,14 +1,15 @@
 use Rattle.std.proofs.Common.{[], ap, refl, sym}
 use Rattle.lfs_model.specs.Operations as ops
-use Rattle.lfs_fs.specs.FileSeen.{files_seen}
+use Rattle.lfs_fs.specs.FileSeen.{files_seen, entry_of}
 use Rattle.lfs_fs.specs.Held.{Held, held_of, held_with, moment_of}
 use Rattle.lfs_fs.proofs.Answered.{ended_kept, not_failed, sound_by}
 use Rattle.lfs_fs.proofs.Errors.{given_on}
 use Rattle.lfs_fs.proofs.Remounting.{closed_answers, closed_ready}
-use Rattle.lfs_fs.proofs.SavedTurns.{can_save, close_answers, close_asks, close_ready, saving_fails, taken}
+use Rattle.lfs_fs.proofs.SavedTurns.{can_save, close_answers, close_asks, close_ready, saving_fails, taken, dirty_at, unsaved_writer}
 use Rattle.lfs_fs.proofs.Stopping.{kept_call, no_call, tree_changed}
 use Rattle.lfs_fs.proofs.StoppedCalls.{saved_tree}
 use Rattle.lfs_fs.proofs.Sparing.{stored_others, untouched_others}
+use Rattle.lfs_fs.proofs.Ending.{answer_ends, broken_ends, unread_ends}
 use Rattle.lfs_fs.proofs.session.Session.do_close.Goals as goal
 
 pub returns-in_err-check_open-clause-answers : goal.returns-in_err-check_open-clause-answers
@@ -73,3 +74,20 @@ pub returns-clause-alone : goal.returns-clause-alone
 returns-clause-alone g c =
     stored_others c.self.inside.tree c.save.new.tree c.self.inside.files _ (ops.Close c.args.fd) c.args.fd c.in-Some-Writing.writer _ c.self.view_is c.self.invariant
     (taken _ _ _ _ c.in-Some-Writing.is c.in-Some-Writing.field-0-is c.take.ensures.file) (λ s. refl) c.in_ok-save.ensures.stored
+
+-- how it ends
+pub returns-in_err-check_open-clause-ends : goal.returns-in_err-check_open-clause-ends
+returns-in_err-check_open-clause-ends g c = unread_ends (held_of c.self.inside.tree c.self.inside.files) _ (ops.Close c.args.fd) (λ u. ops.Done) _ c.from_residual.result c.self.view_is c.in_err-check_open.ensures (given_on _ c.from_residual.result c.from_residual.ensures.1)
+
+pub returns-then-not-is_unsaved_at-clause-ends : goal.returns-then-not-is_unsaved_at-clause-ends
+returns-then-not-is_unsaved_at-clause-ends g c = answer_ends (held_of c.self.inside.tree c.self.inside.files) _ (ops.Close c.args.fd) ops.Done _ c.self.view_is c.in_ok-check_open.ensures.0 refl
+
+pub returns-in_err-save-clause-ends : goal.returns-in_err-save-clause-ends
+returns-in_err-save-clause-ends g c =
+    let is = taken _ _ _ _ c.in-Some-Writing.is c.in-Some-Writing.field-0-is c.take.ensures.file in
+    broken_ends (held_of c.self.inside.tree c.self.inside.files) _ (ops.Close c.args.fd) (λ u. ops.Done) _ c.from_residual-in_err-save.result _ c.self.view_is (not_failed (held_of c.self.inside.tree c.self.inside.files) (ops.Close c.args.fd) c.in_ok-check_open.ensures.0)
+    (dirty_at c.self.inside.tree c.self.inside.files c.args.fd c.in-Some-Writing.writer is (unsaved_writer (entry_of c.self.inside.files c.args.fd) c.in-Some-Writing.writer (sym c.if-not-is_unsaved_at.ensures) is)) c.in_err-save.ensures.errors.errors
+    (given_on _ c.from_residual-in_err-save.result c.from_residual-in_err-save.ensures.1)
+
+pub returns-clause-ends : goal.returns-clause-ends
+returns-clause-ends g c = answer_ends (held_of c.self.inside.tree c.self.inside.files) _ (ops.Close c.args.fd) ops.Done _ c.self.view_is c.in_ok-check_open.ensures.0 c.in_ok-save.ensures.stored.no_fault

@@ -11,6 +11,7 @@ use Rattle.lfs_model.specs.TreeEdits.{removed}
 use Rattle.lfs_tree.specs.Seen.{tree_seen}
 use Rattle.lfs_fs.proofs.Stopping.{asked_changed, called_by, only_read, reads_of_ended}
 use Rattle.lfs_fs.proofs.Sparing.{done_others}
+use Rattle.lfs_fs.proofs.Ending.{carried_ends, ended_ends}
 use Rattle.lfs_fs.proofs.session.Session.do_remove.Goals as goal
 
 pub remove-requires : goal.remove-requires
@@ -56,3 +57,13 @@ returns-clause-alone g c =
     let h = c.in_ok-path.ensures in
     done_others _ _ c.self.inside.tree c.check_remove.new.tree c.remove.new.self c.self.inside.files _ (ops.Remove c.args.path.now) c.remove.result c.self.view_is c.self.invariant h.0
     c.remove.ensures.done (λ f. f c.args.path.now (sym h.2)) c.remove.ensures.alone (λ f. f c.args.path.now (sym h.2))
+
+-- how it ends
+pub returns-in_err-path-clause-ends : goal.returns-in_err-path-clause-ends
+returns-in_err-path-clause-ends g c =
+    ended_ends (held_of c.self.inside.tree c.self.inside.files) _ (ops.Remove c.args.path.now) (λ u. ops.Done) _ c.check_remove.new.tree _ c.from_residual.result c.self.view_is refl c.in_err-path.ensures (given_on _ c.from_residual.result c.from_residual.ensures.1)
+
+pub returns-clause-ends : goal.returns-clause-ends
+returns-clause-ends g c =
+    let h = c.in_ok-path.ensures in
+    carried_ends (held_of c.self.inside.tree c.self.inside.files) _ (ops.Remove c.args.path.now) (λ u. ops.Done) c.check_remove.new.tree c.remove.new.self _ c.remove.result c.self.view_is h.1 refl h.0 c.remove.ensures.done (λ f. (f c.args.path.now (sym h.2)).no_fault) c.remove.ensures.errors

@@ -12,6 +12,7 @@ use Rattle.lfs_model.specs.Refusals.{as_path}
 use Rattle.lfs_tree.specs.Seen.{Seen, tree_seen}
 use Rattle.lfs_fs.proofs.Stopping.{asked_changed, called_by, only_read, reads_of_ended}
 use Rattle.lfs_fs.proofs.Sparing.{done_others, untouched_others}
+use Rattle.lfs_fs.proofs.Ending.{answer_ends, carried_ends, ended_ends}
 use Rattle.lfs_fs.proofs.session.Session.do_rename.Goals as goal
 
 pub rename-requires-clause-can : goal.rename-requires-clause-can
@@ -81,3 +82,16 @@ pub returns-then-renaming-clause-alone : goal.returns-then-renaming-clause-alone
 returns-then-renaming-clause-alone g c =
     untouched_others (moment_of c.args.self.now) (ops.Rename c.args.from.now c.args.to.now) (moment_of (held_with c.check_rename.new.tree []))
     (ap (λ (t : Seen). t.disk) c.in_ok-renaming.ensures.0.same ∙ ap (λ (h : Held). h.tree.disk) c.self.view_is)
+
+-- how it ends
+pub returns-in_err-renaming-clause-ends : goal.returns-in_err-renaming-clause-ends
+returns-in_err-renaming-clause-ends g c =
+    ended_ends (held_of c.self.inside.tree c.self.inside.files) _ (ops.Rename c.args.from.now c.args.to.now) (λ u. ops.Done) _ c.check_rename.new.tree _ c.from_residual.result c.self.view_is refl c.in_err-renaming.ensures (given_on _ c.from_residual.result c.from_residual.ensures.1)
+
+pub returns-clause-ends : goal.returns-clause-ends
+returns-clause-ends g c =
+    let h = c.in_ok-renaming.ensures in
+    carried_ends (held_of c.self.inside.tree c.self.inside.files) _ (ops.Rename c.args.from.now c.args.to.now) (λ u. ops.Done) c.check_rename.new.tree c.rename.new.self _ c.rename.result c.self.view_is h.1 refl h.0 c.rename.ensures.done (λ f. (f c.args.from.now c.args.to.now (sym h.2.from) (sym h.2.to)).no_fault) c.rename.ensures.errors
+
+pub returns-then-renaming-clause-ends : goal.returns-then-renaming-clause-ends
+returns-then-renaming-clause-ends g c = answer_ends (held_of c.self.inside.tree c.self.inside.files) _ (ops.Rename c.args.from.now c.args.to.now) ops.Done _ c.self.view_is c.in_ok-renaming.ensures.1 c.in_ok-renaming.ensures.0.no_fault

@@ -12,6 +12,7 @@ use Rattle.lfs_tree.specs.Seen.{tree_seen}
 use Rattle.lfs_tree.specs.CarryingSlots.{with_attributes_changed}
 use Rattle.lfs_fs.proofs.Stopping.{asked_changed, called_by, only_read, reads_of_ended}
 use Rattle.lfs_fs.proofs.Sparing.{done_others}
+use Rattle.lfs_fs.proofs.Ending.{carried_ends, ended_ends}
 use Rattle.lfs_fs.proofs.session.Session.do_set_attr.Goals as goal
 
 pub set_attr-requires : goal.set_attr-requires
@@ -60,3 +61,13 @@ returns-clause-alone g c =
     let h = c.in_ok-path.ensures in
     done_others _ _ c.self.inside.tree c.check_set_attr.new.tree c.set_attr.new.self c.self.inside.files _ (ops.SetAttr c.args.path.now c.args.kind c.args.value.now) c.set_attr.result c.self.view_is c.self.invariant h.0
     c.set_attr.ensures.done (λ f. f c.args.path.now (sym h.2)) c.set_attr.ensures.alone (λ f. f c.args.path.now (sym h.2))
+
+-- how it ends
+pub returns-in_err-path-clause-ends : goal.returns-in_err-path-clause-ends
+returns-in_err-path-clause-ends g c =
+    ended_ends (held_of c.self.inside.tree c.self.inside.files) _ (ops.SetAttr c.args.path.now c.args.kind c.args.value.now) (λ u. ops.Done) _ c.check_set_attr.new.tree _ c.from_residual.result c.self.view_is refl c.in_err-path.ensures (given_on _ c.from_residual.result c.from_residual.ensures.1)
+
+pub returns-clause-ends : goal.returns-clause-ends
+returns-clause-ends g c =
+    let h = c.in_ok-path.ensures in
+    carried_ends (held_of c.self.inside.tree c.self.inside.files) _ (ops.SetAttr c.args.path.now c.args.kind c.args.value.now) (λ u. ops.Done) c.check_set_attr.new.tree c.set_attr.new.self _ c.set_attr.result c.self.view_is h.1 refl h.0 c.set_attr.ensures.done (λ f. (f c.args.path.now (sym h.2)).no_fault) c.set_attr.ensures.errors

@@ -1,13 +1,14 @@
 use Rattle.std.proofs.Common.{refl, sym}
 use Rattle.lfs_model.specs.Operations as ops
-use Rattle.lfs_fs.specs.FileSeen.{files_seen}
+use Rattle.lfs_fs.specs.FileSeen.{files_seen, entry_of}
 use Rattle.lfs_fs.specs.Held.{held_of, moment_of}
 use Rattle.lfs_fs.proofs.Answered.{ended_kept, not_failed, sound_by}
 use Rattle.lfs_fs.proofs.Errors.{given_on}
-use Rattle.lfs_fs.proofs.SavedTurns.{can_save, left_free, left_inside, left_none, saving_fails, sync_answers, sync_idle, sync_ready, taken}
+use Rattle.lfs_fs.proofs.SavedTurns.{can_save, left_free, left_inside, left_none, saving_fails, sync_answers, sync_idle, sync_ready, taken, dirty_at, unsaved_writer}
 use Rattle.lfs_fs.proofs.Stopping.{kept_call, tree_changed}
 use Rattle.lfs_fs.proofs.StoppedCalls.{saved_tree}
 use Rattle.lfs_fs.proofs.Sparing.{stored_others, untouched_others}
+use Rattle.lfs_fs.proofs.Ending.{answer_ends, broken_ends, kept_ends, unread_ends}
 use Rattle.lfs_fs.proofs.session.Session.do_sync.Goals as goal
 
 pub returns-in_err-check_sync-clause-answers : goal.returns-in_err-check_sync-clause-answers
@@ -79,3 +80,20 @@ pub returns-clause-alone : goal.returns-clause-alone
 returns-clause-alone g c =
     stored_others c.self.inside.tree c.save.new.tree c.self.inside.files _ (ops.Sync c.args.fd) c.args.fd c.in-Some-Writing.writer _ c.self.view_is c.self.invariant
     (taken _ _ _ _ c.in-Some-Writing.is c.in-Some-Writing.field-0-is c.take.ensures.file) (λ s. refl) c.in_ok-writer.ensures.stored
+
+-- how it ends
+pub returns-in_err-check_sync-clause-ends : goal.returns-in_err-check_sync-clause-ends
+returns-in_err-check_sync-clause-ends g c = unread_ends (held_of c.self.inside.tree c.self.inside.files) _ (ops.Sync c.args.fd) (λ u. ops.Done) _ c.from_residual.result c.self.view_is c.in_err-check_sync.ensures (given_on _ c.from_residual.result c.from_residual.ensures.1)
+
+pub returns-then-not-is_unsaved_at-clause-ends : goal.returns-then-not-is_unsaved_at-clause-ends
+returns-then-not-is_unsaved_at-clause-ends g c = kept_ends (held_of c.self.inside.tree c.self.inside.files) _ (ops.Sync c.args.fd) ops.Done c.self.view_is c.in_ok-check_sync.ensures.0
+
+pub returns-in_err-writer-clause-ends : goal.returns-in_err-writer-clause-ends
+returns-in_err-writer-clause-ends g c =
+    let is = taken _ _ _ _ c.in-Some-Writing.is c.in-Some-Writing.field-0-is c.take.ensures.file in
+    broken_ends (held_of c.self.inside.tree c.self.inside.files) _ (ops.Sync c.args.fd) (λ u. ops.Done) _ c.from_residual-in_err-writer.result _ c.self.view_is (not_failed (held_of c.self.inside.tree c.self.inside.files) (ops.Sync c.args.fd) c.in_ok-check_sync.ensures.0)
+    (dirty_at c.self.inside.tree c.self.inside.files c.args.fd c.in-Some-Writing.writer is (unsaved_writer (entry_of c.self.inside.files c.args.fd) c.in-Some-Writing.writer (sym c.if-not-is_unsaved_at.ensures) is)) c.in_err-writer.ensures.errors.errors
+    (given_on _ c.from_residual-in_err-writer.result c.from_residual-in_err-writer.ensures.1)
+
+pub returns-clause-ends : goal.returns-clause-ends
+returns-clause-ends g c = answer_ends (held_of c.self.inside.tree c.self.inside.files) _ (ops.Sync c.args.fd) ops.Done _ c.self.view_is c.in_ok-check_sync.ensures.0 c.in_ok-writer.ensures.stored.no_fault

@@ -8,6 +8,7 @@ use Rattle.lfs_fs.proofs.Errors.{given_on}
 use Rattle.lfs_fs.proofs.Truncating.{alone, can_now, length_left, let_go, other_size, put_again, ready_with, same_size, some_writer, works_now}
 use Rattle.lfs_fs.proofs.Stopping.{kept_call, tree_changed}
 use Rattle.lfs_fs.proofs.Sparing.{beside_others, untouched_others}
+use Rattle.lfs_fs.proofs.Ending.{answer_ends, broken_ends, kept_ends, unread_ends}
 use Rattle.lfs_fs.proofs.session.Session.do_truncate.Goals as goal
 
 pub returns-in_err-check_truncate-clause-answers : goal.returns-in_err-check_truncate-clause-answers
@@ -90,3 +91,18 @@ returns-then-has_size-clause-alone g c = untouched_others (moment_of c.args.self
 
 pub returns-clause-alone : goal.returns-clause-alone
 returns-clause-alone g c = beside_others c.self.inside.tree c.truncate_by.new.tree c.self.inside.files _ (ops.Truncate c.args.fd c.args.size) c.self.view_is c.self.invariant c.in_ok-writer.ensures.beside
+
+-- how it ends
+pub returns-in_err-check_truncate-clause-ends : goal.returns-in_err-check_truncate-clause-ends
+returns-in_err-check_truncate-clause-ends g c = unread_ends (held_of c.self.inside.tree c.self.inside.files) _ (ops.Truncate c.args.fd c.args.size) (λ u. ops.Done) _ c.from_residual.result c.self.view_is c.in_err-check_truncate.ensures (given_on _ c.from_residual.result c.from_residual.ensures.1)
+
+pub returns-then-has_size-clause-ends : goal.returns-then-has_size-clause-ends
+returns-then-has_size-clause-ends g c = kept_ends (held_of c.self.inside.tree c.self.inside.files) _ (ops.Truncate c.args.fd c.args.size) ops.Done c.self.view_is c.in_ok-check_truncate.ensures.0
+
+pub returns-in_err-writer-clause-ends : goal.returns-in_err-writer-clause-ends
+returns-in_err-writer-clause-ends g c =
+    broken_ends (held_of c.self.inside.tree c.self.inside.files) _ (ops.Truncate c.args.fd c.args.size) (λ u. ops.Done) _ c.from_residual-in_err-writer.result _ c.self.view_is (not_failed (held_of c.self.inside.tree c.self.inside.files) (ops.Truncate c.args.fd c.args.size) c.in_ok-check_truncate.ensures.0) refl c.in_err-writer.ensures.errors.errors
+    (given_on _ c.from_residual-in_err-writer.result c.from_residual-in_err-writer.ensures.1)
+
+pub returns-clause-ends : goal.returns-clause-ends
+returns-clause-ends g c = answer_ends (held_of c.self.inside.tree c.self.inside.files) _ (ops.Truncate c.args.fd c.args.size) ops.Done _ c.self.view_is c.in_ok-check_truncate.ensures.0 c.in_ok-writer.ensures.beside.no_fault

@@ -9,6 +9,7 @@ use Rattle.lfs_fs.proofs.Truncating.{length_left, let_go, put_again, ready_with,
 use Rattle.lfs_fs.proofs.WrittenTurns.{alone, can_now, few_bytes, nothing_put, some_put}
 use Rattle.lfs_fs.proofs.Stopping.{kept_call, tree_changed}
 use Rattle.lfs_fs.proofs.Sparing.{beside_others, untouched_others}
+use Rattle.lfs_fs.proofs.Ending.{answer_ends, broken_ends, kept_ends, unread_ends}
 use Rattle.lfs_fs.proofs.session.Session.do_write.Goals as goal
 
 pub returns-in_err-check_write-clause-answers : goal.returns-in_err-check_write-clause-answers
@@ -86,3 +87,18 @@ returns-then-is_empty-clause-alone g c = untouched_others (moment_of c.args.self
 
 pub returns-clause-alone : goal.returns-clause-alone
 returns-clause-alone g c = beside_others c.self.inside.tree c.write_by.new.tree c.self.inside.files _ (ops.Write c.args.fd c.args.bytes.now) c.self.view_is c.self.invariant c.in_ok-writer.ensures.beside
+
+-- how it ends
+pub returns-in_err-check_write-clause-ends : goal.returns-in_err-check_write-clause-ends
+returns-in_err-check_write-clause-ends g c = unread_ends (held_of c.self.inside.tree c.self.inside.files) _ (ops.Write c.args.fd c.args.bytes.now) ops.Count _ c.from_residual.result c.self.view_is c.in_err-check_write.ensures (given_on _ c.from_residual.result c.from_residual.ensures.1)
+
+pub returns-then-is_empty-clause-ends : goal.returns-then-is_empty-clause-ends
+returns-then-is_empty-clause-ends g c = kept_ends (held_of c.self.inside.tree c.self.inside.files) _ (ops.Write c.args.fd c.args.bytes.now) (ops.Count 0) c.self.view_is c.in_ok-check_write.ensures.0
+
+pub returns-in_err-writer-clause-ends : goal.returns-in_err-writer-clause-ends
+returns-in_err-writer-clause-ends g c =
+    broken_ends (held_of c.self.inside.tree c.self.inside.files) _ (ops.Write c.args.fd c.args.bytes.now) ops.Count _ c.from_residual-in_err-writer.result _ c.self.view_is (not_failed (held_of c.self.inside.tree c.self.inside.files) (ops.Write c.args.fd c.args.bytes.now) c.in_ok-check_write.ensures.0) refl c.in_err-writer.ensures.errors.errors
+    (given_on _ c.from_residual-in_err-writer.result c.from_residual-in_err-writer.ensures.1)
+
+pub returns-clause-ends : goal.returns-clause-ends
+returns-clause-ends g c = answer_ends (held_of c.self.inside.tree c.self.inside.files) _ (ops.Write c.args.fd c.args.bytes.now) (ops.Count (length c.args.bytes.now)) _ c.self.view_is c.in_ok-check_write.ensures.0 c.in_ok-writer.ensures.beside.no_fault

@@ -1,4 +1,4 @@
-use Rattle.std.proofs.Common.{ap, not, refl}
+use Rattle.std.proofs.Common.{ap, not, refl, ◌∙◌}
 use Rattle.lfs_model.specs.Operations as ops
 use Rattle.lfs_fs.specs.FileSeen.{files_seen}
 use Rattle.lfs_fs.specs.FlagsSeen.{flags_seen}
@@ -10,6 +10,9 @@ use Rattle.lfs_fs.proofs.OpenFiles.{few_left}
 use Rattle.lfs_fs.proofs.OpenedReaders.{reader_opened, reader_ready}
 use Rattle.lfs_fs.proofs.Stopping.{only_read, reads_failing, reads_of_ended}
 use Rattle.lfs_fs.proofs.Sparing.{turned_others}
+use Rattle.lfs_fs.proofs.Ending.{ended_ends, granted_ends}
+use Rattle.lfs_model.specs.History.{faults}
+use Rattle.lfs_tree.specs.Seen.{Seen}
 use Rattle.lfs_fs.proofs.session.Session.open_reader.Goals as goal
 
 pub add_reader-answer-requires-clause-few : goal.add_reader-answer-requires-clause-few
@@ -62,3 +65,18 @@ returns-then-is_err-clause-alone g c =
 pub returns-else-is_err-clause-alone : goal.returns-else-is_err-clause-alone
 returns-else-is_err-clause-alone g c =
     turned_others c.args.self.now (ops.Open c.args.path.now (flags_seen c.args.flags)) ops.Opened c.add_reader-answer.result _ (returns-else-is_err-clause-answers g c) (λ s at ps qs calls a none k. (k.asks (ap not c.requires)).0)
+
+-- how it ends
+pub returns-in_err-check_open_reader-clause-ends : goal.returns-in_err-check_open_reader-clause-ends
+returns-in_err-check_open_reader-clause-ends g c =
+    ended_ends (held_of c.self.inside.tree c.self.inside.files) _ (ops.Open c.args.path.now (flags_seen c.args.flags)) ops.Opened _ c.check_open_reader.new.tree _ c.from_residual.result c.self.view_is refl c.in_err-check_open_reader.ensures (given_on _ c.from_residual.result c.from_residual.ensures.1)
+
+pub returns-then-is_err-clause-ends : goal.returns-then-is_err-clause-ends
+returns-then-is_err-clause-ends g c =
+    let h = c.in_ok-check_open_reader.ensures in
+    granted_ends (held_of c.self.inside.tree c.self.inside.files) _ (ops.Open c.args.path.now (flags_seen c.args.flags)) ops.Opened c.add_reader-answer.result _ c.self.view_is h.1 refl (ap (λ (t : Seen). faults t.history) c.fail.ensures ∙ h.0.no_fault) c.add_reader-answer.ensures.error
+
+pub returns-else-is_err-clause-ends : goal.returns-else-is_err-clause-ends
+returns-else-is_err-clause-ends g c =
+    let h = c.in_ok-check_open_reader.ensures in
+    granted_ends (held_of c.self.inside.tree c.self.inside.files) _ (ops.Open c.args.path.now (flags_seen c.args.flags)) ops.Opened c.add_reader-answer.result _ c.self.view_is h.1 refl h.0.no_fault c.add_reader-answer.ensures.error

@@ -7,7 +7,7 @@ use Rattle.lfs_fs.specs.FileSeen.{entry_of, writers_in}
 use Rattle.lfs_fs.specs.declared.files.OpenFile.TheVariants as file
 use Rattle.lfs_fs.specs.Replies.{reply_in}
 use Rattle.lfs_fs.specs.Held.{held_of, held_with, moment_of}
-use Rattle.lfs_fs.proofs.Answered.{asked_by_checks, checked_ready, ended_call, files_asked, sound_by}
+use Rattle.lfs_fs.proofs.Answered.{asked_by_checks, checked_ready, ended_call, files_asked, sound_by, not_failed}
 use Rattle.lfs_fs.proofs.Errors.{given_on}
 use Rattle.lfs_fs.proofs.OpenedWriters.{IsOpenedBy, can_begin, can_create, no_writer, opened_new, opened_there, room_made, writer_breaks, writer_opened, writer_ready}
 use Rattle.lfs_model.specs.PowerLoss.{SurvivesStops}
@@ -15,6 +15,9 @@ use Rattle.lfs_fs.proofs.Stopping.{only_read, reads_failing, reads_of_ended}
 use Rattle.lfs_fs.proofs.StoppedCalls.{created_left, opened_left, opening_keeps}
 use Rattle.lfs_fs.proofs.Sparing.{begun_others, rest_others}
 use Rattle.lfs_fs.specs.Sparing.{LeavesOthers}
+use Rattle.lfs_fs.proofs.Ending.{answer_ends, broken_ends, ended_ends, error_ends}
+use Rattle.lfs_device.specs.declared.error.Error.TheVariants as error
+use Rattle.lfs_model.specs.History.{faults}
 use Rattle.lfs_fs.proofs.session.Session.open_writer.Goals as goal
 use Rattle.lfs_fs.proofs.session.Session.open_writer.Goals.{in-Some+in_ok-writer-in-Some, in-None+in_ok-writer-in-None}
 
@@ -152,3 +155,33 @@ returns-clause-alone g c =
           (let made = w.in_ok-writer-in-None.ensures.made c.args.path.now (flags_seen c.args.flags) (sym c.in-Ok.ensures.path) c.requires in
           rest_others c.self.inside.tree c.check_open_writer.new.tree w.begin_new.new.tree c.self.inside.files _ (ops.Open c.args.path.now (flags_seen c.args.flags)) c.self.view_is c.self.invariant h.0 made.0.sound made.1)
     ]
+
+-- how it ends
+pub returns-in_err-found-clause-ends : goal.returns-in_err-found-clause-ends
+returns-in_err-found-clause-ends g c =
+    ended_ends (held_of c.self.inside.tree c.self.inside.files) _ (ops.Open c.args.path.now (flags_seen c.args.flags)) ops.Opened _ c.check_open_writer.new.tree _ c.from_residual.result c.self.view_is refl c.in_err-found.ensures (given_on _ c.from_residual.result c.from_residual.ensures.1)
+
+pub returns-in_default-clause-ends : goal.returns-in_default-clause-ends
+returns-in_default-clause-ends g c = error_ends (held_of c.self.inside.tree c.self.inside.files) _ (ops.Open c.args.path.now (flags_seen c.args.flags)) error.NoMemory _ c.self.view_is (not_failed (held_of c.self.inside.tree c.self.inside.files) (ops.Open c.args.path.now (flags_seen c.args.flags)) c.in_ok-found.ensures.1) refl
+
+pub returns-in_default-make_room-clause-ends : goal.returns-in_default-make_room-clause-ends
+returns-in_default-make_room-clause-ends g c = error_ends (held_of c.self.inside.tree c.self.inside.files) _ (ops.Open c.args.path.now (flags_seen c.args.flags)) error.NoMemory _ c.self.view_is (not_failed (held_of c.self.inside.tree c.self.inside.files) (ops.Open c.args.path.now (flags_seen c.args.flags)) c.in_ok-found.ensures.1) refl
+
+pub returns-in_err-writer-in-Some-clause-ends : goal.returns-in_err-writer-in-Some-clause-ends
+returns-in_err-writer-in-Some-clause-ends g c =
+    broken_ends (held_of c.self.inside.tree c.self.inside.files) _ (ops.Open c.args.path.now (flags_seen c.args.flags)) ops.Opened _ c.from_residual-in_err-writer-in-Some.result _ c.self.view_is (not_failed (held_of c.self.inside.tree c.self.inside.files) (ops.Open c.args.path.now (flags_seen c.args.flags)) c.in_ok-found.ensures.1) refl c.in_err-writer-in-Some.ensures.errors.errors
+    (given_on _ c.from_residual-in_err-writer-in-Some.result c.from_residual-in_err-writer-in-Some.ensures.1)
+
+pub returns-in_err-writer-in-None-clause-ends : goal.returns-in_err-writer-in-None-clause-ends
+returns-in_err-writer-in-None-clause-ends g c =
+    broken_ends (held_of c.self.inside.tree c.self.inside.files) _ (ops.Open c.args.path.now (flags_seen c.args.flags)) ops.Opened _ c.from_residual-in_err-writer-in-None.result _ c.self.view_is (not_failed (held_of c.self.inside.tree c.self.inside.files) (ops.Open c.args.path.now (flags_seen c.args.flags)) c.in_ok-found.ensures.1) refl c.in_err-writer-in-None.ensures.errors.errors
+    (given_on _ c.from_residual-in_err-writer-in-None.result c.from_residual-in_err-writer-in-None.ensures.1)
+
+pub returns-clause-ends : goal.returns-clause-ends
+returns-clause-ends g c =
+    let h = c.in_ok-found.ensures in
+    let calm : faults c.match-found.self-inside.tree.history ≡ faults c.self.inside.tree.history = elim c.match-found.branch [
+      | in-Some+in_ok-writer-in-Some w ↦ ap (λ i. faults i.tree.history) w.self-inside-is ∙ w.in_ok-writer-in-Some.ensures.recovered.no_fault ∙ h.0.no_fault
+      | in-None+in_ok-writer-in-None w ↦ ap (λ i. faults i.tree.history) w.self-inside-is ∙ (w.in_ok-writer-in-None.ensures.made c.args.path.now (flags_seen c.args.flags) (sym c.in-Ok.ensures.path) c.requires).0.no_fault ∙ h.0.no_fault
+    ] in
+    answer_ends (held_of c.self.inside.tree c.self.inside.files) _ (ops.Open c.args.path.now (flags_seen c.args.flags)) (ops.Opened c.in-Ok-make_room.number) _ c.self.view_is h.1 calm

@@ -14,26 +14,29 @@ use Rattle.lfs_fs.proofs.Errors.{given_on}
 use Rattle.lfs_fs.proofs.Moving.{moved_ready}
 use Rattle.lfs_fs.proofs.OpenFiles.{moved_is, none_reader, reader_there, some_reader}
 use Rattle.lfs_fs.proofs.Questions.{failed_by, refused_kept}
-use Rattle.lfs_fs.proofs.ReaderReads.{no_reader, read_answers, read_fails}
+use Rattle.lfs_fs.proofs.ReaderReads.{a_reader, no_reader, read_answers, read_fails}
 use Rattle.lfs_fs.proofs.Stopping.{only_read}
 use Rattle.lfs_fs.proofs.Sparing.{asking_call, asks_not, kept_asking}
-use Rattle.lfs_fs.proofs.Sparing.{asking_call, asks_not, kept_asking}
+use Rattle.lfs_fs.proofs.Ending.{answer_ends, broken_ends, refused_ends}
 use Rattle.lfs_fs.proofs.session.Session.read.Goals as goal
 
 pub returns-then-has_failed : goal.returns-then-has_failed
 returns-then-has_failed g c =
     kept_asking c.self.inside.tree c.self.inside.files _ (ops.Read c.args.fd c.args.count) _ c.self.view_is c.self.invariant (λ s. refl) refl
+    (refused_ends (held_of c.self.inside.tree c.self.inside.files) _ (ops.Read c.args.fd c.args.count) ops.Failed c.self.view_is (failed_by (held_of c.self.inside.tree c.self.inside.files) (ops.Read c.args.fd c.args.count) c.if-has_failed.ensures))
     (refused_kept (held_of c.self.inside.tree c.self.inside.files) _ (ops.Read c.args.fd c.args.count) error.Failed c.self.view_is (sound_by c.self.inside.tree c.self.inside.files c.self.invariant) refl (failed_by (held_of c.self.inside.tree c.self.inside.files) (ops.Read c.args.fd c.args.count) c.if-has_failed.ensures))
 
 pub returns-in_default : goal.returns-in_default
 returns-in_default g c =
     kept_asking c.self.inside.tree c.self.inside.files _ (ops.Read c.args.fd c.args.count) _ c.self.view_is c.self.invariant (λ s. refl) refl
+    (refused_ends (held_of c.self.inside.tree c.self.inside.files) _ (ops.Read c.args.fd c.args.count) ops.BadFile c.self.view_is (no_reader (held_of c.self.inside.tree c.self.inside.files) c.args.fd c.args.count c.if-has_failed.ensures (none_reader c.self.inside.tree c.self.inside.files c.args.fd c.in_default.ensures)))
     (refused_kept (held_of c.self.inside.tree c.self.inside.files) _ (ops.Read c.args.fd c.args.count) error.BadFile c.self.view_is (sound_by c.self.inside.tree c.self.inside.files c.self.invariant) refl
     (no_reader (held_of c.self.inside.tree c.self.inside.files) c.args.fd c.args.count c.if-has_failed.ensures (none_reader c.self.inside.tree c.self.inside.files c.args.fd c.in_default.ensures)))
 
 pub returns-in_err-bytes : goal.returns-in_err-bytes
 returns-in_err-bytes g c =
     asking_call c.self.inside.tree c.self.inside.files _ (ops.Read c.args.fd c.args.count) _ _ c.self.view_is c.self.invariant (λ s. refl) (λ k. absurd (cc)) (asks_not _ _ _ _ refl)
+    (broken_ends (held_of c.self.inside.tree c.self.inside.files) _ (ops.Read c.args.fd c.args.count) (λ v. ops.Bytes v.items) _ c.from_residual.result _ c.self.view_is (sym c.if-has_failed.ensures) refl c.in_err-bytes.ensures.errors.errors (given_on _ c.from_residual.result c.from_residual.ensures.1))
     (files_asked c.args.self.now (ops.Read c.args.fd c.args.count) (reply_in (λ v. ops.Bytes v.items) c.from_residual.result) c.self.inside.tree c.read_from.new.tree c.self.inside.files (λ works. absurd (let k = sym c.in_err-bytes.ensures.broken.failed ∙ works in cc))
     (read_fails (held_of c.self.inside.tree c.self.inside.files) _ (ops.Read c.args.fd c.args.count) (λ v. ops.Bytes v.items) _ c.read_from.new.tree c.from_residual.result c.self.view_is c.if-has_failed.ensures c.in_err-bytes.ensures.broken c.in_err-bytes.ensures.errors
     (given_on _ c.from_residual.result c.from_residual.ensures.1)))
@@ -47,6 +50,8 @@ invariant_of-self-2 g c =
 pub returns : goal.returns
 returns g c =
     asking_call c.self.inside.tree c.self.inside.files _ (ops.Read c.args.fd c.args.count) _ _ c.self.view_is c.self.invariant (λ s. refl) (λ k. absurd (cc)) (asks_not _ _ _ _ refl)
+    (answer_ends (held_of c.self.inside.tree c.self.inside.files) _ (ops.Read c.args.fd c.args.count) (ops.Bytes c.in_ok-bytes.bytes.items) _ c.self.view_is
+    (a_reader (held_of c.self.inside.tree c.self.inside.files) c.args.fd c.args.count (reader_seen c.in-Some.reader.now) c.if-has_failed.ensures (some_reader c.self.inside.tree c.self.inside.files c.args.fd c.in-Some.reader.now c.in-Some.ensures)) c.in_ok-bytes.ensures.asked.no_fault)
     (read_answers (held_of c.self.inside.tree c.self.inside.files) _ c.args.fd c.args.count (reader_seen c.in-Some.reader.now) c.read_from.new.tree (files_seen c.read_from.new.tree c.seek.new.self) c.in_ok-bytes.bytes.items (c.in-Some.reader.now.position + c.len.result)
     c.self.view_is (sound_by c.self.inside.tree c.self.inside.files c.self.invariant) c.if-has_failed.ensures c.in_ok-bytes.ensures.asked (some_reader c.self.inside.tree c.self.inside.files c.args.fd c.in-Some.reader.now c.in-Some.ensures)
     (c.in_ok-bytes.ensures.bytes ∙ ap (λ p. take c.args.count (drop c.in-Some.reader.now.position (bytes_at (tree_seen c.self.inside.tree p)))) c.lend.ensures)

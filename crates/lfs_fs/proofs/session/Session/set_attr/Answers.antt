@@ -4,4 +4,4 @@ use Rattle.lfs_fs.proofs.Sparing.{changing_call}
 use Rattle.lfs_fs.proofs.session.Session.set_attr.Goals as goal
 
 pub returns : goal.returns
-returns g c = changing_call _ (ops.SetAttr c.args.path.now c.args.kind c.args.value.now) (λ u. ops.Done) c.do_set_attr-answer.result _ c.tells.ensures c.tells-2.ensures refl refl c.do_set_attr-answer.ensures.alone c.do_set_attr-answer.ensures.answers c.do_set_attr-answer.ensures.survives
+returns g c = changing_call _ (ops.SetAttr c.args.path.now c.args.kind c.args.value.now) (λ u. ops.Done) c.do_set_attr-answer.result _ c.tells.ensures c.tells-2.ensures refl refl c.do_set_attr-answer.ensures.alone c.do_set_attr-answer.ensures.ends c.do_set_attr-answer.ensures.answers c.do_set_attr-answer.ensures.survives

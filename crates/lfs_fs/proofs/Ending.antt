@@ -1,0 +1,143 @@
+-- How each of a session's calls ends.
+use Rattle.std.proofs.Common.{◌≡◌, Bool, true, false, cond, List, [], Option, Some, None, Result, Ok, Err, refl, sym, ap, subst, ◌∙◌, inl, inr}
+use Rattle.std.specs.Prelude.{◌⊎◌, OnOk, IfErr, is_err}
+use Rattle.std.proofs.lemmas.Option.{same_Some}
+use Rattle.lfs_device.specs.declared.error.Error.{Error}
+use Rattle.lfs_device.specs.declared.error.Error.TheVariants.{Io, NoMemory}
+use Rattle.lfs_model.specs.History.{faults}
+use Rattle.lfs_model.specs.Operations as ops
+use Rattle.lfs_model.specs.Operations.{Failed, Operation, Refusal, Reply}
+use Rattle.lfs_model.specs.Refusals.{refusal_of}
+use Rattle.lfs_model.specs.Session.{Files}
+use Rattle.lfs_model.specs.State.{is_remount}
+use Rattle.lfs_tree.specs.Refusals.{is_refusal, refusal_in}
+use Rattle.lfs_tree.specs.Seen.{IsAsked, IsError, IsMountError, IsMountedTree, Seen, around_of}
+use Rattle.lfs_fs.specs.Ending.{EndsWell, takes_nothing}
+use Rattle.lfs_fs.specs.Held.{Checks, EndsChecks, Held, held_with, refused_by, session_of}
+use Rattle.lfs_fs.specs.Replies.{reply_in}
+use Rattle.lfs_fs.proofs.Answered.{no_refusal_io, not_failed}
+use Rattle.lfs_fs.proofs.Remounting.{no_refusal}
+use Rattle.lfs_fs.proofs.Stopping.{session_at}
+
+-- a check that refuses in a failed session is that of a failed session
+failed_first : (h : Held) (op : Operation) (r : Refusal) → refused_by h op ≡ Some r → h.tree.failed ≡ true → r ≡ Failed
+failed_first h op r e f = sym (same_Some Failed r (sym (ap (λ b. cond b (Some Failed) (refusal_of (around_of h.tree) (session_of h) op)) f) ∙ e))
+
+-- ---- the session worked
+
+at_work : (old now : Held) (op : Operation) (r : Result Reply Error) (new : Held) → old ≡ now → old.tree.failed ≡ false → (is_err r ≡ false → faults new.tree.history ≡ faults old.tree.history) →
+    (takes_nothing (session_of old) op ≡ true → is_err r ≡ false) → EndsWell now op r new
+at_work old now op r new same works calm quiet = subst (λ z. EndsWell z op r new) same (record {
+  failed = λ f other. absurd (let k = sym works ∙ f in cc);
+  no_fault = calm;
+  answered = λ s at e. quiet (ap (λ z. takes_nothing z op) (session_at old s at) ∙ e);
+})
+
+-- it answers
+pub answer_ends : (old now : Held) (op : Operation) (reply : Reply) (new : Held) → old ≡ now → refused_by old op ≡ None → faults new.tree.history ≡ faults old.tree.history → EndsWell now op (Ok reply) new
+answer_ends old now op reply new same e calm = at_work old now op (Ok reply) new same (not_failed old op e) (λ k. calm) (λ k. refl)
+
+-- an error takes the reply's place
+pub error_ends : (old now : Held) (op : Operation) (e : Error) (new : Held) → old ≡ now → old.tree.failed ≡ false → takes_nothing (session_of old) op ≡ false → EndsWell now op (Err e) new
+error_ends old now op e new same works takes = at_work old now op (Err e) new same works (λ k. absurd (cc)) (λ k. absurd (let l = sym takes ∙ k in cc))
+
+-- either of them, and an error is none of the refusals
+pub result_ends : {A : Type 0} (old now : Held) (op : Operation) (reply : A → Reply) (r : Result A Error) (new : Held) → old ≡ now → old.tree.failed ≡ false → takes_nothing (session_of old) op ≡ false →
+    OnOk r (faults new.tree.history ≡ faults old.tree.history) → IfErr r (λ e. is_refusal e ≡ false) → EndsWell now op (reply_in reply r) new
+result_ends old now op reply (Ok x) new same works takes calm errors = at_work old now op (Ok (reply x)) new same works (λ k. calm) (λ k. refl)
+result_ends old now op reply (Err e) new same works takes calm errors =
+    subst (λ b. EndsWell now op (cond b (Ok (ops.Refused (refusal_in e))) (Err e)) new) (sym errors) (error_ends old now op e new same works takes)
+
+-- a call of the tree failed
+pub broken_ends : {A : Type 0} (old now : Held) (op : Operation) (reply : A → Reply) (e : Error) (r : Result A Error) (new : Held) → old ≡ now → old.tree.failed ≡ false → takes_nothing (session_of old) op ≡ false →
+    (e ≡ Io) ⊎ (e ≡ NoMemory) → r ≡ Err e → EndsWell now op (reply_in reply r) new
+broken_ends old now op reply e r new same works takes error is =
+    subst (λ z. EndsWell now op (reply_in reply z) new) (sym is) (result_ends old now op reply (Err e) new same works takes tt (no_refusal_io e error))
+
+no_refusals : {A : Type 0} (old new : Seen) (r : Result A Error) → IfErr r (IsError old new) → IfErr r (λ e. is_refusal e ≡ false)
+no_refusals old new (Ok x) errors = tt
+no_refusals old new (Err e) errors = no_refusal_io e errors.errors
+
+-- behind reads, a call of the tree came last
+pub carried_ends : {A K : Type 0} (old now : Held) (op : Operation) (reply : A → Reply) (mid new : Seen) (files : Files) (r : Result A Error) → old ≡ now → refused_by old op ≡ None → takes_nothing (session_of old) op ≡ false → IsAsked old.tree mid →
+    OnOk r K → (K → faults new.history ≡ faults mid.history) → IfErr r (IsError mid new) → EndsWell now op (reply_in reply r) (held_with new files)
+carried_ends {A} {K} old now op reply mid new files r same e takes asked done calm errors =
+    result_ends old now op reply r (held_with new files) same (not_failed old op e) takes (go r done) (no_refusals mid new r errors)
+  where
+    go : (r : Result A Error) → OnOk r K → OnOk r (faults new.history ≡ faults old.tree.history)
+    go (Ok x) k = calm k ∙ asked.no_fault
+    go (Err x) k = tt
+
+-- memory is asked for last
+memory_refuses_not : {A : Type 0} (r : Result A Error) → IfErr r (λ e. e ≡ NoMemory) → IfErr r (λ e. is_refusal e ≡ false)
+memory_refuses_not (Ok x) errors = tt
+memory_refuses_not (Err e) errors = ap is_refusal errors
+
+pub granted_ends : {A : Type 0} (old now : Held) (op : Operation) (reply : A → Reply) (r : Result A Error) (new : Held) → old ≡ now → refused_by old op ≡ None → takes_nothing (session_of old) op ≡ false →
+    faults new.tree.history ≡ faults old.tree.history → IfErr r (λ e. e ≡ NoMemory) → EndsWell now op (reply_in reply r) new
+granted_ends {A} old now op reply r new same e takes calm errors = result_ends old now op reply r new same (not_failed old op e) takes (go r) (memory_refuses_not r errors)
+  where
+    go : (r : Result A Error) → OnOk r (faults new.tree.history ≡ faults old.tree.history)
+    go (Ok x) = calm
+    go (Err x) = tt
+
+-- ---- a refusal, or checks that ended
+
+refusal_ends : (old now : Held) (op : Operation) (refusal : Refusal) (new : Held) → old ≡ now → refused_by old op ≡ Some refusal → faults new.tree.history ≡ faults old.tree.history → EndsWell now op (Ok (ops.Refused refusal)) new
+refusal_ends old now op refusal new same e calm = subst (λ z. EndsWell z op (Ok (ops.Refused refusal)) new) same (record {
+  failed = λ f other. ap (λ (z : Refusal). let k : Result Reply Error = Ok (ops.Refused z) in k) (failed_first old op refusal e f);
+  no_fault = λ k. calm;
+  answered = λ s at k. refl;
+})
+
+-- without a call
+pub refused_ends : (old now : Held) (op : Operation) (refusal : Refusal) → old ≡ now → refused_by old op ≡ Some refusal → EndsWell now op (Ok (ops.Refused refusal)) now
+refused_ends old now op refusal same e = refusal_ends old now op refusal now same e (ap (λ (h : Held). faults h.tree.history) (sym same))
+
+-- a question without a call
+pub kept_ends : (old now : Held) (op : Operation) (reply : Reply) → old ≡ now → refused_by old op ≡ None → EndsWell now op (Ok reply) now
+kept_ends old now op reply same e = answer_ends old now op reply now same e (ap (λ (h : Held). faults h.tree.history) (sym same))
+
+checks_end : (old now : Held) (op : Operation) (e : Error) (tree : Seen) (files : Files) → old ≡ now → takes_nothing (session_of old) op ≡ false → EndsChecks (is_refusal e) old op e tree →
+    EndsWell now op (cond (is_refusal e) (Ok (ops.Refused (refusal_in e))) (Err e)) (held_with tree files)
+checks_end old now op e tree files same takes h = go (is_refusal e) h
+  where
+    go : (b : Bool) → EndsChecks b old op e tree → EndsWell now op (cond b (Ok (ops.Refused (refusal_in e))) (Err e)) (held_with tree files)
+    go true k = refusal_ends old now op (refusal_in e) (held_with tree files) same k.1 k.0.no_fault
+    go false k = error_ends old now op e (held_with tree files) same k.1 takes
+
+-- checks by reads
+pub checked_ends : {A : Type 0} (old now : Held) (op : Operation) (reply : A → Reply) (P : A → Type 0) (r : Result A Error) (tree : Seen) (files : Files) → old ≡ now → takes_nothing (session_of old) op ≡ false → Checks old op P r tree →
+    EndsWell now op (reply_in reply r) (held_with tree files)
+checked_ends old now op reply P (Ok x) tree files same takes h = answer_ends old now op (reply x) (held_with tree files) same h.1 h.0.no_fault
+checked_ends old now op reply P (Err e) tree files same takes h = checks_end old now op e tree files same takes h
+
+-- the same of a call that gives the error on
+pub ended_ends : {A : Type 0} (old now : Held) (op : Operation) (reply : A → Reply) (e : Error) (tree : Seen) (files : Files) (r : Result A Error) → old ≡ now → takes_nothing (session_of old) op ≡ false → EndsChecks (is_refusal e) old op e tree →
+    r ≡ Err e → EndsWell now op (reply_in reply r) (held_with tree files)
+ended_ends old now op reply e tree files r same takes h is = subst (λ z. EndsWell now op (reply_in reply z) (held_with tree files)) (sym is) (checks_end old now op e tree files same takes h)
+
+-- of checks without a read
+pub unread_ends : {A : Type 0} (old now : Held) (op : Operation) (reply : A → Reply) (e : Error) (r : Result A Error) → old ≡ now → (is_refusal e ≡ true) × (refused_by old op ≡ Some (refusal_in e)) → r ≡ Err e →
+    EndsWell now op (reply_in reply r) now
+unread_ends old now op reply e r same h is =
+    subst (λ z. EndsWell now op (reply_in reply z) now) (sym is)
+    (subst (λ b. EndsWell now op (cond b (Ok (ops.Refused (refusal_in e))) (Err e)) now) (sym h.0) (refused_ends old now op (refusal_in e) same h.1))
+
+-- ---- a remount
+
+pub remount_refuses_not : {A : Type 0} (old new : Seen) (r : Result A Error) → IfErr r (IsMountError old new) → IfErr r (λ e. is_refusal e ≡ false)
+remount_refuses_not old new (Ok x) errors = tt
+remount_refuses_not old new (Err e) errors = no_refusal e errors.errors
+
+pub remount_ends : (old now : Held) (new : Seen) (files : Files) (r : Result (Unit {0}) Error) → old ≡ now → OnOk r (IsMountedTree old.tree.disk old.tree.history new) → IfErr r (λ e. is_refusal e ≡ false) →
+    EndsWell now ops.Remount (reply_in (λ u. ops.Done) r) (held_with new files)
+remount_ends old now new files r same mounted errors = subst (λ z. EndsWell z ops.Remount (reply_in (λ u. ops.Done) r) (held_with new files)) same (record {
+  failed = λ f other. absurd (cc);
+  no_fault = calm r mounted errors;
+  answered = λ s at e. absurd (cc);
+})
+  where
+    calm : (r : Result (Unit {0}) Error) → OnOk r (IsMountedTree old.tree.disk old.tree.history new) → IfErr r (λ e. is_refusal e ≡ false) → is_err (reply_in (λ u. ops.Done) r) ≡ false → faults new.history ≡ faults old.tree.history
+    calm (Ok u) m errors k = m.no_fault
+    calm (Err e) m errors k = absurd (let l = sym (ap (λ b. is_err (cond b (let z : Result Reply Error = Ok (ops.Refused (refusal_in e)) in z) (Err e))) errors) ∙ k in cc)

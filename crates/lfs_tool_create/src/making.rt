@@ -78,8 +78,7 @@ pub fn create<S: Source, W: Write>(
     // When each other error comes. The source has a fault at `Input` alone.
     ensures refused { (e : _) → IsErrOf result (ToolError.Fs e) → e ≢ Error.NoMemory → HasRefusal geometry (S.shown source.old) e }
     ensures input { IsErrOf result ToolError.Input → HasFault (S.has_failed source.new) (S.shown source.old) }
-    ensures kept { OnOk result (S.has_failed source.new ≡ S.has_failed source.old) }
-    ensures kept_at_errors { IfErr result (λ e. e ≢ ToolError.Input → S.has_failed source.new ≡ S.has_failed source.old) }
+    ensures kept { ¬ IsErrOf result ToolError.Input → S.has_failed source.new ≡ S.has_failed source.old }
 {
     let entries = read_source(alloc, source)?;
     match make(alloc, geometry, entries.as_slice()) {

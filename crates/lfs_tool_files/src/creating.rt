@@ -33,8 +33,7 @@ pub fn create_asked<S: Source, W: Write>(
     ensures refused { (e : _) → IsErrOf result (ToolError.Fs e) → e ≢ Error.NoMemory
         → HasNoGeometry line.now e ⊎ ((g : _) × (HasSizes line.now g × HasRefusal g (S.shown source.old) e)) }
     ensures input { IsErrOf result ToolError.Input → HasFault (S.has_failed source.new) (S.shown source.old) }
-    ensures kept { OnOk result (S.has_failed source.new ≡ S.has_failed source.old) }
-    ensures kept_at_errors { IfErr result (λ e. e ≢ ToolError.Input → S.has_failed source.new ≡ S.has_failed source.old) }
+    ensures kept { ¬ IsErrOf result ToolError.Input → S.has_failed source.new ≡ S.has_failed source.old }
 {
     match geometry_for(line.size, line.block_size, line.page) {
         Ok(geometry) => create(alloc, source, geometry, out),

@@ -4,11 +4,12 @@ use Rattle.std.specs.List.{AllByRecursion}
 use Rattle.std.specs.Option.{option_map_or}
 use Rattle.lfs_device.specs.declared.error.Error.{Error}
 use Rattle.lfs_model.specs.Cache.{CachedBlocks, cache_limit, cached}
-use Rattle.lfs_model.specs.Discipline.{pairs_at, pairs_of_path}
+use Rattle.lfs_model.specs.Discipline.{pairs_at, pairs_of_path, parents}
 use Rattle.lfs_model.specs.Disk.{Disk}
 use Rattle.lfs_model.specs.History.{Event, reads}
 use Rattle.lfs_model.specs.Shown.{entries_in}
-use Rattle.lfs_model.specs.Thread.{Pair, root_of}
+use Rattle.lfs_model.specs.Slots.{no_gstate}
+use Rattle.lfs_model.specs.Thread.{Pair, gstate_of, root_of}
 use Rattle.lfs_model.specs.Tree.{Path, directory_at}
 use Rattle.lfs_pair.specs.Pair.{active_at}
 use Rattle.lfs_thread.specs.Kept.{State}
@@ -77,3 +78,7 @@ HasOnHand t paths = AreRecentOn cache_limit t.disk t.cache t.pairs paths
 pub record ReadsOnce (paths : List Path) (old : Seen) (history : List Event) : Type 0 where
   pub few : reads history ≤ reads old.history + sum_by (pairs_of_path old.pairs) paths
   pub none : HasOnHand old paths → reads history ≡ reads old.history
+
+-- Where nothing is to be recovered, no more reads came than the directories above the path have pairs, and six.
+abbrev pub ReadsToCreate : Path → Seen → List Event → Type 0
+ReadsToCreate path old history = gstate_of old.pairs ≡ no_gstate → reads history ≤ reads old.history + sum_by (pairs_of_path old.pairs) (parents path) + 6

@@ -13,6 +13,7 @@ use Rattle.lfs_model.specs.Thread.{Pair, gstate_of}
 use Rattle.lfs_model.specs.Tree.{Path, Tree}
 use Rattle.lfs_model.specs.Shown.{tree_in}
 use Rattle.lfs_thread.specs.Kept.{Kept, State}
+use Rattle.lfs_tree.specs.AtHand.{ReadsToCreate}
 use Rattle.lfs_tree.specs.Held.{IsRooted, seen_kept}
 use Rattle.lfs_tree.specs.Paths.{BeginsOnPath}
 use Rattle.lfs_tree.specs.Seen.{IsCarried, IsError, LeavesRest}
@@ -60,6 +61,11 @@ pub record HasCalled (old new : Kept) : Type 0 where
   pub geometry : SameGeometry old.disk new.disk
   pub calls : List Event
   pub called : new.history ≡ calls ++ old.history
+
+-- so, and few of them are reads
+pub record CallsToCreate (path : Path) (old new : Kept) : Type 0 where
+  pub called : HasCalled old new
+  pub few : ReadsToCreate path (seen_kept old true false) new.history
 
 -- `Io` comes with a fault of the device, and `NoMemory` without one
 abbrev pub TellsError : Kept → Kept → Error → Type 0

@@ -1,8 +1,10 @@
 // Operations on paths of a thread of which nothing is to be recovered.
 
-ghost use Rattle.std.specs.Prelude.{ℕ, ◌≡◌, ◌≤◌, List, [], map, true, false, OnOk, IfOk, IfErr};
+ghost use Rattle.std.specs.Prelude.{ℕ, ◌≡◌, ◌≤◌, ◌+◌, List, [], map, sum_by, true, false, OnOk, IfOk, IfErr};
 ghost use Rattle.std.specs.List.{list_all};
 ghost use Rattle.lfs_device.specs.Bytes.{HasBytes};
+ghost use Rattle.lfs_model.specs.Discipline.{pairs_of_path, parents};
+ghost use Rattle.lfs_model.specs.History.{reads};
 ghost use Rattle.lfs_model.specs.TreeEdits.{added, last_name};
 ghost use Rattle.lfs_model.specs.Operations as ops;
 ghost use Rattle.lfs_model.specs.Operations.{Flags};
@@ -10,8 +12,8 @@ ghost use Rattle.lfs_model.specs.Refusals.{as_path};
 ghost use Rattle.lfs_model.specs.Tree.{DirectoryNode, FileNode};
 ghost use Rattle.lfs_model.specs.Shown.{tree_in};
 ghost use Rattle.lfs_tree.specs.Allowed.{CanCreate, CanMake};
-ghost use Rattle.lfs_tree.specs.Carrying.{Carries, HasCalled, IsAtRest, IsPlaceFor, IsPlaceIn, IsVacant, Spares, SurvivesTo, TellsError, is_place};
-ghost use Rattle.lfs_tree.specs.Held.{seen_kept};
+ghost use Rattle.lfs_tree.specs.Carrying.{CallsToCreate, Carries, HasCalled, IsAtRest, IsPlaceFor, IsPlaceIn, IsVacant, Spares, SurvivesTo, TellsError, is_place};
+ghost use Rattle.lfs_tree.specs.Held.{IsRooted, seen_kept};
 ghost use Rattle.lfs_tree.specs.Reading.{IsReading};
 
 use crate::path::Path;
@@ -68,6 +70,7 @@ fn find_place<'a, D: BlockDevice>(
     requires rests { IsAtRest thread.old root }
     requires vacant { IsVacant (tree_in thread.old.kept.disk thread.old.kept.pairs) path.now }
     ensures place { IfOk result (λ place. IsPlaceFor thread.old.kept.pairs path.now place.name.now place.spot) }
+    ensures few { reads thread.new.kept.history ≤ reads thread.old.kept.history + sum_by (pairs_of_path thread.old.kept.pairs) (parents path.now) }
     ensures reading { IsReading thread.old thread.new result }
 {
     let names = path.names(alloc)?;
@@ -78,7 +81,8 @@ fn find_place<'a, D: BlockDevice>(
     })
 }
 
-// Makes an empty file where nothing is. Nothing is to be recovered.
+// Makes an empty file where nothing is. Nothing is to be recovered. Answers the number of the root
+// directory's first pair, which is what it was.
 //
 // `Io` where a call of the device failed, and `NoMemory` where memory isn't granted.
 pub(crate) fn create_at<D: BlockDevice>(
@@ -86,21 +90,22 @@ pub(crate) fn create_at<D: BlockDevice>(
     thread: &mut Thread<D>,
     root: usize,
     path: &Path<'_>,
-) -> Result<(), Error>
+) -> Result<usize, Error>
     requires rests { IsAtRest thread.old root }
     requires can { CanCreate (seen_kept thread.old.kept true false) path.now }
     ensures done { OnOk result ((bytes : List ℕ) (flags : Flags) → as_path bytes ≡ path.now → Carries thread.old.kept (ops.Open bytes flags) thread.new.kept) }
     ensures alone { OnOk result ((bytes : List ℕ) (flags : Flags) → as_path bytes ≡ path.now → Spares thread.old.kept (ops.Open bytes flags) thread.new.kept) }
-    ensures works { OnOk result (thread.new.failed ≡ false) }
-    ensures called { HasCalled thread.old.kept thread.new.kept }
+    ensures rooted { IfOk result (λ root. IsRooted thread.new root true) }
+    ensures called { CallsToCreate path.now thread.old.kept thread.new.kept }
     ensures errors { IfErr result (TellsError thread.old.kept thread.new.kept) }
     ensures survives { SurvivesTo thread.old.kept thread.new.kept (added path.now (FileNode [] []) (tree_in thread.old.kept.disk thread.old.kept.pairs)) }
 {
+    path.know_bytes();
     path.know_names();
     know_device(thread);
     let place = find_place(alloc, thread, root, path)?;
     create(alloc, thread, place.spot.pair, place.spot.id, place.name)?;
-    Ok(())
+    Ok(root)
 }
 
 // Makes an empty directory where nothing is. Nothing is to be recovered.

@@ -9,15 +9,15 @@ ghost use Rattle.lfs_model.specs.Refusals.{as_path};
 ghost use Rattle.lfs_model.specs.Tree.{DirectoryNode, FileNode};
 ghost use Rattle.lfs_model.specs.Shown.{tree_in};
 ghost use Rattle.lfs_tree.specs.Allowed.{CanCreate, CanMake, CanRemove, CanRemoveAttr, CanRename, CanSetAttr};
-ghost use Rattle.lfs_tree.specs.Carrying.{Carries, HasCalled, Spares, SurvivesTo, TellsError};
+ghost use Rattle.lfs_tree.specs.Carrying.{CallsToCreate, Carries, HasCalled, Spares, SurvivesTo, TellsError};
 ghost use Rattle.lfs_tree.specs.CarryingSlots.{with_attributes_changed};
 ghost use Rattle.lfs_tree.specs.Held.{IsRooted, seen_kept};
 
+use crate::carrying::create_at;
 use crate::path::Path;
 use crate::recovering_lost::recover_first;
 use crate::rooted::{
-    create_file_at, drop_attribute_at, make_directory_at, put_attribute_at, remove_entry_at,
-    rename_entry_at,
+    drop_attribute_at, make_directory_at, put_attribute_at, remove_entry_at, rename_entry_at,
 };
 use lfs_device::{BlockDevice, Error};
 use lfs_thread::Thread;
@@ -35,12 +35,12 @@ pub(crate) fn create_file<D: BlockDevice>(
     ensures done { OnOk result ((bytes : List ℕ) (flags : Flags) → as_path bytes ≡ path.now → Carries thread.old.kept (ops.Open bytes flags) thread.new.kept) }
     ensures alone { OnOk result ((bytes : List ℕ) (flags : Flags) → as_path bytes ≡ path.now → Spares thread.old.kept (ops.Open bytes flags) thread.new.kept) }
     ensures rooted { IfOk result (λ root. IsRooted thread.new root true) }
-    ensures called { HasCalled thread.old.kept thread.new.kept }
+    ensures called { CallsToCreate path.now thread.old.kept thread.new.kept }
     ensures errors { IfErr result (TellsError thread.old.kept thread.new.kept) }
     ensures survives { SurvivesTo thread.old.kept thread.new.kept (added path.now (FileNode [] []) (tree_in thread.old.kept.disk thread.old.kept.pairs)) }
 {
     let root = recover_first(alloc, thread, root)?;
-    create_file_at(alloc, thread, root, path)
+    create_at(alloc, thread, root, path)
 }
 
 // Makes an empty directory where nothing is. Answers the number of the root directory's first pair.

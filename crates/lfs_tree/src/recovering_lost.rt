@@ -131,6 +131,7 @@ pub(crate) fn recover_first<D: BlockDevice>(
     requires { IsRooted thread.old root true }
     ensures done { OnOk result (HasSettled thread.old.kept thread.new.kept) }
     ensures rests { IfOk result (λ root. IsAtRest thread.new root) }
+    ensures idle { gstate_of thread.old.kept.pairs ≡ no_gstate → thread.new.kept ≡ thread.old.kept }
     ensures called { HasCalled thread.old.kept thread.new.kept }
     ensures errors { IfErr result (TellsError thread.old.kept thread.new.kept) }
     ensures survives { SurvivesTo thread.old.kept thread.new.kept (tree_in thread.old.kept.disk thread.old.kept.pairs) }

@@ -4,16 +4,15 @@ ghost use Rattle.std.specs.Prelude.{ℕ, ◌≡◌, List, [], OnOk, IfOk, IfErr,
 ghost use Rattle.lfs_model.specs.TreeEdits.{added, removed, renamed, same_path};
 ghost use Rattle.lfs_model.specs.Content.{put_attribute, without_attribute};
 ghost use Rattle.lfs_model.specs.Operations as ops;
-ghost use Rattle.lfs_model.specs.Operations.{Flags};
 ghost use Rattle.lfs_model.specs.Refusals.{as_path};
-ghost use Rattle.lfs_model.specs.Tree.{DirectoryNode, FileNode};
+ghost use Rattle.lfs_model.specs.Tree.{DirectoryNode};
 ghost use Rattle.lfs_model.specs.Shown.{tree_in};
-ghost use Rattle.lfs_tree.specs.Allowed.{CanCreate, CanMake, CanRemove, CanRemoveAttr, CanRename, CanSetAttr};
+ghost use Rattle.lfs_tree.specs.Allowed.{CanMake, CanRemove, CanRemoveAttr, CanRename, CanSetAttr};
 ghost use Rattle.lfs_tree.specs.Carrying.{Carries, HasCalled, IsAtRest, Spares, SurvivesTo, TellsError};
 ghost use Rattle.lfs_tree.specs.CarryingSlots.{with_attributes_changed};
 ghost use Rattle.lfs_tree.specs.Held.{IsRooted, seen_kept};
 
-use crate::carrying::{create_at, make_at};
+use crate::carrying::make_at;
 use crate::carrying_attributes::{remove_attr_at, set_attr_at};
 use crate::carrying_removal::remove_at;
 use crate::carrying_rename::rename_at;
@@ -22,28 +21,6 @@ use crate::root::find_root;
 use lfs_device::{BlockDevice, Error};
 use lfs_thread::Thread;
 use std::alloc::Global;
-
-// Makes an empty file where nothing is. Answers the number of the root directory's first pair.
-pub(crate) fn create_file_at<D: BlockDevice>(
-    alloc: Global,
-    thread: &mut Thread<D>,
-    root: usize,
-    path: &Path<'_>,
-) -> Result<usize, Error>
-    requires rests { IsAtRest thread.old root }
-    requires can { CanCreate (seen_kept thread.old.kept true false) path.now }
-    ensures done { OnOk result ((bytes : List ℕ) (flags : Flags) → as_path bytes ≡ path.now → Carries thread.old.kept (ops.Open bytes flags) thread.new.kept) }
-    ensures alone { OnOk result ((bytes : List ℕ) (flags : Flags) → as_path bytes ≡ path.now → Spares thread.old.kept (ops.Open bytes flags) thread.new.kept) }
-    ensures rooted { IfOk result (λ root. IsRooted thread.new root true) }
-    ensures called { HasCalled thread.old.kept thread.new.kept }
-    ensures errors { IfErr result (TellsError thread.old.kept thread.new.kept) }
-    ensures survives { SurvivesTo thread.old.kept thread.new.kept (added path.now (FileNode [] []) (tree_in thread.old.kept.disk thread.old.kept.pairs)) }
-{
-    path.know_bytes();
-    create_at(alloc, thread, root, path)?;
-    let root = find_root(alloc, thread)?;
-    Ok(root)
-}
 
 // Makes an empty directory where nothing is. Answers the number of the root directory's first pair.
 pub(crate) fn make_directory_at<D: BlockDevice>(

@@ -24,7 +24,7 @@ ghost use Rattle.lfs_thread.specs.Device.{GivesBack, two_of};
 ghost use Rattle.lfs_thread.specs.Kept.{disk_on};
 ghost use Rattle.lfs_tree.specs.Allowed.{CanCreate, CanMake, CanRemove, CanRemoveAttr, CanRename, CanSetAttr};
 ghost use Rattle.lfs_tree.specs.CarryingSlots.{with_attributes_changed};
-ghost use Rattle.lfs_tree.specs.AtHand.{AreSmall, HasOnHand, ReadsOnce};
+ghost use Rattle.lfs_tree.specs.AtHand.{AreSmall, HasOnHand, ReadsOnce, ReadsToCreate};
 ghost use Rattle.lfs_tree.specs.AttributeAt.{IsAttributesSize};
 ghost use Rattle.lfs_tree.specs.Finds.{Finds, has_names, list_item_seen};
 ghost use Rattle.lfs_tree.specs.Formatting.{ComesBack, ErasesTwo};
@@ -374,12 +374,14 @@ impl<D: BlockDevice> Tree<D> {
 
     /// Makes an empty file where nothing is.
     ///
-    /// What a loss of power left is ended first. `Io` where a call of the device failed, and `NoMemory`
-    /// where memory isn't granted. It has failed then.
+    /// What a loss of power left is ended first. Where it left nothing, no more reads come than the
+    /// directories above the path have pairs, and six. `Io` where a call of the device failed, and
+    /// `NoMemory` where memory isn't granted. It has failed then.
     pub fn create(&mut self, alloc: Global, path: &Path<'_>) -> Result<(), Error>
         requires { CanCreate self.old path.now }
         ensures done { OnOk result ((bytes : List ℕ) (flags : Flags) → as_path bytes ≡ path.now → flags.write ≡ true → IsCarried self.old (ops.Open bytes flags) self.new) }
         ensures alone { OnOk result ((bytes : List ℕ) (flags : Flags) → as_path bytes ≡ path.now → flags.write ≡ true → LeavesRest self.old (ops.Open bytes flags) self.new) }
+        ensures few { ReadsToCreate path.now self.old self.new.history }
         ensures broken { OnErr result (IsBroken self.old self.new) }
         ensures errors { IfErr result (IsError self.old self.new) }
         ensures survives { SurvivesAs self.old self.new (added path.now (FileNode [] []) (tree_seen self.old)) }

@@ -32,6 +32,11 @@ use Rattle.lfs_writer.specs.declared.contents.Contents.{Contents}
 abbrev pub bytes_held : Kept → Contents → List ℕ
 bytes_held t contents = bytes_in t.disk.blocks t.disk.block_size contents
 
+-- a writer's contents have these bytes, in that form
+pub record HasBytesAs (t : Seen) (these : List ℕ) (shape : Form) (contents : Contents) : Type 0 where
+  pub bytes : bytes_held (kept_of t) contents ≡ these
+  pub form : form_of contents ≡ shape
+
 -- These are the contents of an open writer over the file at the path: they stand on the disk, and what blocks of theirs are used
 -- are the file's.
 pub record IsOverFile (t : Kept) (path : Path) (contents : Contents) : Type 0 where

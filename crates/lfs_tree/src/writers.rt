@@ -7,7 +7,7 @@ ghost use Rattle.lfs_model.specs.Disk.{inline_limit};
 ghost use Rattle.lfs_model.specs.Writers.{written_into, zeros_to};
 ghost use Rattle.lfs_model.specs.Effects.{with_bytes};
 ghost use Rattle.lfs_model.specs.Tree.{Path as ModelPath};
-ghost use Rattle.lfs_tree.specs.OpenContents.{CanOpen, CanStoreAt, CanTruncateBeside, CanWriteBeside, IsOpenedForm, IsOver, IsStoredAt, IsWrittenBeside, bytes_held, kept_of};
+ghost use Rattle.lfs_tree.specs.OpenContents.{CanOpen, CanStoreAt, CanTruncateBeside, CanWriteBeside, HasBytesAs, IsOpenedForm, IsOver, IsStoredAt, IsWrittenBeside, bytes_held, kept_of};
 ghost use Rattle.lfs_tree.specs.Seen.{IsAsked, IsBroken, IsBrokenAsking, IsError, SurvivesAs, tree_seen};
 ghost use Rattle.lfs_writer.specs.Contents.{form_of};
 ghost use Rattle.lfs_writer.specs.Form as form;
@@ -78,8 +78,8 @@ impl<D: BlockDevice> Tree<D> {
     ) -> Result<Contents, Error>
         requires { CanWriteBeside self.old contents place (length bytes.now) }
         ensures over { (path : ModelPath) → IsOver self.old path contents → IfOk result (IsOver self.new path) }
-        ensures bytes { IfOk result (λ c. bytes_held (kept_of self.new) c ≡ written_into (bytes_held (kept_of self.old) contents) place bytes.now) }
-        ensures form { IfOk result (λ c. form_of c ≡ written (inline_limit self.old.disk.block_size) place (length bytes.now) (form_of contents)) }
+        ensures written { IfOk result (HasBytesAs self.new (written_into (bytes_held (kept_of self.old) contents) place bytes.now)
+            (written (inline_limit self.old.disk.block_size) place (length bytes.now) (form_of contents))) }
         ensures beside { OnOk result (IsWrittenBeside self.old self.new) }
         ensures broken { OnErr result (IsBroken self.old self.new) }
         ensures errors { IfErr result (IsError self.old self.new) }
@@ -105,8 +105,8 @@ impl<D: BlockDevice> Tree<D> {
     ) -> Result<Contents, Error>
         requires { CanTruncateBeside self.old contents size }
         ensures over { (path : ModelPath) → IsOver self.old path contents → IfOk result (IsOver self.new path) }
-        ensures bytes { IfOk result (λ c. bytes_held (kept_of self.new) c ≡ take size (zeros_to size (bytes_held (kept_of self.old) contents))) }
-        ensures form { IfOk result (λ c. form_of c ≡ truncated (inline_limit self.old.disk.block_size) size (form_of contents)) }
+        ensures truncated { IfOk result (HasBytesAs self.new (take size (zeros_to size (bytes_held (kept_of self.old) contents)))
+            (truncated (inline_limit self.old.disk.block_size) size (form_of contents))) }
         ensures beside { OnOk result (IsWrittenBeside self.old self.new) }
         ensures broken { OnErr result (IsBroken self.old self.new) }
         ensures errors { IfErr result (IsError self.old self.new) }

@@ -1,3 +1,8 @@
+use Rattle.std.proofs.Common.{◌∙◌, Err, ap, subst, sym}
+use Rattle.std.specs.Prelude.{IfErr}
+use Rattle.std.proofs.lemmas.Result.{err_from_is_err_and}
+use Rattle.lfs_tree.specs.Seen.{IsError}
+use Rattle.lfs_fs.proofs.Questions.{error_either}
 use Rattle.lfs_fs.proofs.Writing.{beside_later, broken_after, can_write, has_written}
 use Rattle.lfs_fs.proofs.Stopping.{nothing_yet, then_reads}
 use Rattle.lfs_fs.proofs.StoppedCalls.{beside_left}
@@ -12,12 +17,19 @@ write-requires g c =
 pub returns-in_err-contents-2-clause-broken : goal.returns-in_err-contents-2-clause-broken
 returns-in_err-contents-2-clause-broken g c = broken_after c.args.tree.now c.contents_of.new.tree c.write.new.self c.from_residual-in_err-contents-2.result c.in_ok-contents.ensures.asked c.in_err-contents-2.ensures.broken
 
+pub returns-in_err-contents-2-clause-errors : goal.returns-in_err-contents-2-clause-errors
+returns-in_err-contents-2-clause-errors g c =
+    let p = err_from_is_err_and c.from_residual-in_err-contents-2.result c.from_residual-in_err-contents-2.ensures.1 in
+    subst (λ r. IfErr r (IsError c.args.tree.now c.write.new.self)) (sym p.1)
+    (subst (λ r. IfErr r (IsError c.args.tree.now c.write.new.self)) (c.in_err-contents-2.was ∙ ap Err (sym p.2))
+    (error_either c.args.tree.now c.contents_of.new.tree c.write.new.self c.write.result c.in_ok-contents.ensures.asked c.write.ensures.errors))
+
 pub returns-clause-written : goal.returns-clause-written
 returns-clause-written g c =
     let k = c.in_ok-contents.ensures in
     let l = c.in_ok-contents-2.ensures in
     has_written c.args.tree.now c.contents_of.new.tree c.write.new.self c.args.writer c.args.bytes.now c.place-place.result c.min.result _ c.has_turned_at-has_turned.result c.in_ok-contents.contents c.in_ok-contents-2.contents _
-    c.requires k.asked c.place-place.ensures k.over c.lend.ensures k.form k.bytes c.forms_keep_step.ensures.written l.beside l.over l.bytes l.form c.min.ensures c.has_turned_at-has_turned.ensures c.max.ensures
+    c.requires k.asked c.place-place.ensures k.over c.lend.ensures k.form k.bytes c.forms_keep_step.ensures.written l.beside l.over l.written.bytes l.written.form c.min.ensures c.has_turned_at-has_turned.ensures c.max.ensures
 
 pub returns-clause-beside : goal.returns-clause-beside
 returns-clause-beside g c = beside_later c.args.tree.now c.contents_of.new.tree c.write.new.self c.in_ok-contents.ensures.asked c.in_ok-contents-2.ensures.beside

@@ -77,6 +77,30 @@ fn every_sixteenth_commit_erases(rt: HostRuntime) -> Result<(), Fail> {
     Ok(())
 }
 
+// How many reads a thread of one pair takes to come from a device, and so many commits then.
+fn reads_of(alloc: Global, times: u32) -> Result<u64, Error> {
+    let device = fresh(alloc, Geometry::new(4096, 256, 16)?)?;
+    let device = match Thread::read(alloc, device) {
+        Ok(mut thread) => {
+            commit_often(alloc, &mut thread, times)?;
+            thread.into_device()
+        }
+        Err((device, _)) => device,
+    };
+    Ok(device.calls(Which::Read))
+}
+
+// Both blocks are read once for the thread. Before each commit the pair's block is brought, by one
+// read at most, and the commit takes one read beside: what is at hand isn't read again.
+#[test]
+fn a_block_at_hand_is_not_read_again(rt: HostRuntime) -> Result<(), Fail> {
+    for (times, most) in [(0, 2), (1, 4), (16, 34), (17, 36)] {
+        let reads = reads_of(rt.alloc(), times);
+        assert!(rt; reads.is_ok_and(|count| count <= most));
+    }
+    Ok(())
+}
+
 // An empty file whose name has 200 bytes takes 208.
 const FIRST: [Change<'static>; 2] = [
     Change::Create {

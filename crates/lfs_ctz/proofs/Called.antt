@@ -1,6 +1,7 @@
 -- What calls of a device one behind the other say of it.
-use Rattle.std.proofs.Common.{ℕ, ◌≡◌, ◌≢◌, Bool, List, [], ◌∷◌, Result, Ok, Err, refl, sym, subst, ◌∙◌, arith}
+use Rattle.std.proofs.Common.{ℕ, ◌≡◌, ◌≢◌, Bool, List, [], ◌∷◌, Result, Ok, Err, inl, inr, refl, sym, subst, ◌∙◌, arith}
 use Rattle.std.specs.Prelude.{All}
+use Rattle.lfs_ctz.specs.Calls.{ReadsList}
 use Rattle.lfs_device.specs.Calls.{ReadsOnly, ChangesBlock, ChangesOnly, TellsFaults}
 use Rattle.lfs_device.specs.declared.device.BlockDevice.{Ghosts}
 use Rattle.lfs_device.specs.declared.error.Error.{Error}
@@ -105,3 +106,23 @@ module _ {D : Type 0} (g : Ghosts D) where
 
       back : {f : Error} → ◌≡◌ {A = Result X Error} (Err e) (Err f) → ◌≡◌ {A = Result Y Error} (Err e) (Err f)
       back {f} is = let same : e ≡ f = cc in subst (λ z. ◌≡◌ {A = Result Y Error} (Err e) (Err z)) same refl
+
+  -- after reads without a fault a list is read
+  pub list_on : {X : Type 0} {old mid new : D} {result : Result X Error} → ReadsOnly g old mid → faults (g.history mid) ≡ faults (g.history old) → ReadsList g mid new result → ReadsList g old new result
+  list_on read none told = record { device = read_on read told.device; faults = told_on none told.faults; errors = told.errors }
+
+  -- the same error of a reading with another result
+  pub list_as : {X Y : Type 0} {old new : D} {e : Error} → ReadsList {X = X} g old new (Err e) → ReadsList {X = Y} g old new (Err e)
+  list_as told = record { device = told.device; faults = told_as told.faults; errors = told.errors }
+
+  -- a part of a list wasn't read
+  pub list_io : {X Y : Type 0} {old new : D} {e : Error} → ReadsOnly g old new → TellsFaults {X = X} g old new (Err e) → e ≡ Error.Io → ReadsList {X = Y} g old new (Err e)
+  list_io read told is = record { device = read; faults = told_as told; errors = inl is }
+
+  -- a list was read and isn't right
+  pub list_corrupt : {X : Type 0} {old new : D} → ReadsOnly g old new → faults (g.history new) ≡ faults (g.history old) → ReadsList {X = X} g old new (Err Error.Corrupt)
+  list_corrupt read none = record { device = read; faults = told_corrupt none; errors = inr refl }
+
+  -- a list was read
+  pub list_ok : {X : Type 0} {old new : D} {x : X} → ReadsOnly g old new → faults (g.history new) ≡ faults (g.history old) → ReadsList g old new (Ok x)
+  list_ok read none = record { device = read; faults = record { fault = λ is. absurd (cc); no_fault = λ other. none }; errors = tt }

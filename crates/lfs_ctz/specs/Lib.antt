@@ -1,4 +1,5 @@
 pub mod Appended
+pub mod Calls
 pub mod Counts
 pub mod Extended
 pub mod Filled

@@ -1,7 +1,8 @@
 -- The way from a list's last block back to its first one, by the highest pointers.
-use Rattle.std.specs.Prelude.{ℕ, zero, suc, ◌≡◌, ◌+◌, ◌*◌, ◌-◌, ◌<◌, ◌≤◌, ◌^◌, if◌then◌else◌, nat_lt, slice_index}
+use Rattle.std.specs.Prelude.{ℕ, zero, suc, ◌≡◌, ◌+◌, ◌*◌, ◌-◌, ◌<◌, ◌≤◌, ◌^◌, if◌then◌else◌, nat_lt, List, slice_index}
 use Rattle.std.specs.Int.{w32, trailing_zeros}
 use Rattle.lfs_model.specs.Blocks.{Blocks, block_in}
+use Rattle.lfs_model.specs.History.{Event, reads}
 use Rattle.lfs_model.specs.SkipLists.{AreListBlocks, blocks_back, word_at}
 use Rattle.lfs_ctz.specs.declared.way.Way.{Way}
 
@@ -23,3 +24,8 @@ HasPointers d last at way = (i k : ℕ) → at < i → i ≤ last → IsOnWay la
 pub record IsWay (d : Blocks) (head last at : ℕ) (way : Way) : Type 0 where
   pub words : HasPointers d last at way
   pub blocks : AreListBlocks d (last + 1) head → (i : ℕ) → at < i → i ≤ last → IsOnWay last i → slice_index way.blocks (trailing_zeros w32 i) ≡ slice_index (blocks_back d (last + 1) head) i
+
+-- A block of the list takes one read at most, and none where the way goes through it.
+pub record ReadsBeside (way : Way) (last index block : ℕ) (old new : List Event) : Type 0 where
+  pub few : reads new ≤ reads old + 1
+  pub known : IsOnWay last index → slice_index way.blocks (trailing_zeros w32 index) ≡ block → reads new ≡ reads old

@@ -1,6 +1,7 @@
 ghost use Rattle.std.specs.Prelude.{[], ◌∷◌, ◌≡◌, ◌≢◌, ◌≤◌, ◌<◌, ◌+◌, ◌-◌, ◌*◌, ◌%◌, ◌^◌, ◌++◌, ◌⊎◌, ℕ, All, length, take, drop, OnOk, IfErr, IsErrOf, slice_index};
 ghost use Rattle.byteorder.specs.Endian.{little_bytes};
 ghost use Rattle.lfs_ctz.specs.Appended.{IsAppended};
+ghost use Rattle.lfs_ctz.specs.Calls.{TellsIo};
 ghost use Rattle.lfs_ctz.specs.Counts.{Writes};
 ghost use Rattle.lfs_device.specs.Calls.{ChangesBlock, ReadsOnly, TellsFaults};
 ghost use Rattle.lfs_model.specs.Blocks.{block_in};
@@ -69,8 +70,7 @@ pub(crate) fn write_block<D: BlockDevice>(
         ≡ take (end - 4 * pointers_of index) (drop (4 * pointers_of index) buf.old)) }
     ensures writes { OnOk result (Writes 0 1 (D.history dev.old) (D.history dev.new)) }
     ensures device { ChangesBlock D.BlockDevice block dev.old dev.new }
-    ensures faults { TellsFaults D.BlockDevice dev.old dev.new result }
-    ensures errors { IfErr result (λ e. e ≡ Error.Io) }
+    ensures io { TellsIo D.BlockDevice dev.old dev.new result }
 {
     put_pointers(dev, head, index, buf)?;
     dev.erase(block)?;

@@ -1,6 +1,7 @@
 ghost use Rattle.std.specs.Prelude.{◌≡◌, ◌≢◌, ◌≤◌, ◌<◌, ◌+◌, ◌-◌, ◌*◌, ◌%◌, ◌^◌, ◌++◌, ◌∷◌, [], ◌⊎◌, ℕ, All, false, length, take, drop, replicate, nat_eq, OnOk, IfOk, IfErr, IsErrOf, slice_index};
 ghost use Rattle.std.specs.List.{IsDistinct};
 ghost use Rattle.lfs_ctz.specs.Appended.{IsAppended};
+ghost use Rattle.lfs_ctz.specs.Calls.{TellsIo};
 ghost use Rattle.lfs_ctz.specs.Counts.{Writes};
 ghost use Rattle.lfs_ctz.specs.Filled.{IsFilled};
 ghost use Rattle.lfs_ctz.specs.Finished.{IsEnd};
@@ -248,8 +249,7 @@ impl Extender {
         ensures waits { OnOk result (WaitsIn (block ∷ []) (growing_of self.new)) }
         ensures writes { OnOk result (Writes (growing_of self.old).full (growing_of self.new).full (D.history dev.old) (D.history dev.new)) }
         ensures device { ChangesBlock D.BlockDevice block dev.old dev.new }
-        ensures faults { TellsFaults D.BlockDevice dev.old dev.new result }
-        ensures errors { IfErr result (λ e. e ≡ Error.Io) }
+        ensures io { TellsIo D.BlockDevice dev.old dev.new result }
     {
         let block_size = self.geometry.block_size;
         let start = self.filled as usize;
@@ -301,8 +301,7 @@ impl Extender {
         // A block that fills is erased once and programmed once.
         ensures writes { OnOk result (Writes (growing_of self.old).full (growing_of self.new).full (D.history dev.old) (D.history dev.new)) }
         ensures device { ChangesOnly D.BlockDevice (pending_of (growing_of self.old) ++ blocks.now) dev.old dev.new }
-        ensures faults { TellsFaults D.BlockDevice dev.old dev.new result }
-        ensures errors { IfErr result (λ e. e ≡ Error.Io) }
+        ensures io { TellsIo D.BlockDevice dev.old dev.new result }
     {
         let mut done = 0;
         let mut used = 0;
@@ -324,8 +323,7 @@ impl Extender {
         ensures bytes { OnOk result (take (length (growing_of self.old).rest) (drop (4 * pointers_of (growing_of self.old).full) (block_in (D.blocks dev.new) block)) ≡ (growing_of self.old).rest) }
         ensures writes { OnOk result (Writes 0 1 (D.history dev.old) (D.history dev.new)) }
         ensures device { ChangesBlock D.BlockDevice block dev.old dev.new }
-        ensures faults { TellsFaults D.BlockDevice dev.old dev.new result }
-        ensures errors { IfErr result (λ e. e ≡ Error.Io) }
+        ensures io { TellsIo D.BlockDevice dev.old dev.new result }
     {
         let end = self.filled.next_multiple_of(self.geometry.page);
         pad(&mut self.buffer, self.filled as usize, end as usize, 0xff);
@@ -351,8 +349,7 @@ impl Extender {
         ensures no_call { pending_of (growing_of self) ≡ [] → (D.history dev.new ≡ D.history dev.old) × (D.blocks dev.new ≡ D.blocks dev.old) }
         ensures writes { OnOk result (Writes 0 (length (pending_of (growing_of self))) (D.history dev.old) (D.history dev.new)) }
         ensures device { ChangesOnly D.BlockDevice (pending_of (growing_of self)) dev.old dev.new }
-        ensures faults { TellsFaults D.BlockDevice dev.old dev.new result }
-        ensures errors { IfErr result (λ e. e ≡ Error.Io) }
+        ensures io { TellsIo D.BlockDevice dev.old dev.new result }
     {
         let size = self.size;
         match self.stand {

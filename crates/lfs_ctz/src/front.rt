@@ -1,6 +1,6 @@
-ghost use Rattle.std.specs.Prelude.{◌≡◌, ◌≤◌, ◌<◌, ◌+◌, ◌*◌, ◌^◌, ◌⊎◌, ℕ, take, OnOk, IfOk, IfErr, IsErrOf};
+ghost use Rattle.std.specs.Prelude.{◌≤◌, ◌<◌, ◌+◌, ◌*◌, ◌^◌, ℕ, take, OnOk, IfOk, IsErrOf};
+ghost use Rattle.lfs_ctz.specs.Calls.{ReadsList};
 ghost use Rattle.lfs_ctz.specs.Finished.{IsEnd};
-ghost use Rattle.lfs_device.specs.Calls.{ReadsOnly, TellsFaults};
 ghost use Rattle.lfs_model.specs.History.{reads};
 ghost use Rattle.lfs_model.specs.SkipLists.{IsList, blocks_back, blocks_for, bytes_of};
 
@@ -23,9 +23,7 @@ pub fn cut<D: BlockDevice>(dev: &mut D, head: u32, size: u32, keep: u32) -> Resu
         (take (blocks_for (D.geometry dev.old).block_size keep) (blocks_back (D.blocks dev.old) (blocks_for (D.geometry dev.old).block_size size) head))) }
     ensures in_range { IfOk result (λ h. h < (D.geometry dev.old).block_count) }
     ensures corrupt { IsErrOf result Error.Corrupt → ¬ IsList (D.blocks dev.old) (D.geometry dev.old).block_size head size }
-    ensures device { ReadsOnly D.BlockDevice dev.old dev.new }
-    ensures faults { TellsFaults D.BlockDevice dev.old dev.new result }
-    ensures errors { IfErr result (λ e. (e ≡ Error.Io) ⊎ (e ≡ Error.Corrupt)) }
+    ensures reading { ReadsList D.BlockDevice dev.old dev.new result }
     // Steps to that block by the logarithm of the list's length.
     ensures few { (m : ℕ) → blocks_for (D.geometry dev.old).block_size size ≤ 2 ^ m → OnOk result (reads (D.history dev.new) ≤ reads (D.history dev.old) + 2 * m) }
 {

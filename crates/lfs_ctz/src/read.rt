@@ -1,7 +1,8 @@
-ghost use Rattle.std.specs.Prelude.{◌≡◌, ◌≤◌, ◌<◌, ◌+◌, ◌*◌, ◌^◌, ◌⊎◌, ℕ, ◌-◌, ◌++◌, min, length, take, drop, OnOk, IfOk, IfErr, IsErrOf, slice_index, slice_range};
+ghost use Rattle.std.specs.Prelude.{◌≡◌, ◌≤◌, ◌<◌, ◌+◌, ◌*◌, ◌^◌, ℕ, ◌-◌, ◌++◌, min, length, take, drop, OnOk, IfOk, IfErr, IsErrOf, slice_index, slice_range};
 ghost use Rattle.lfs_model.specs.Blocks.{block_in};
 ghost use Rattle.lfs_device.specs.Calls.{ReadsOnly, TellsFaults};
 ghost use Rattle.lfs_model.specs.History.{reads};
+ghost use Rattle.lfs_ctz.specs.Calls.{ReadsList};
 ghost use Rattle.lfs_model.specs.SkipLists.{AreListBlocks, IsList, IsBytePlace, blocks_back, blocks_for, bytes_of, pointers_of, word_at};
 
 use crate::{blocks_for, place};
@@ -14,9 +15,7 @@ pub(crate) fn pointer<D: BlockDevice>(dev: &mut D, block: u32, k: u32) -> Result
     ensures word { IfOk result (λ word. word ≡ word_at (block_in (D.blocks dev.old) block) (4 * k)) }
     ensures in_range { OnOk result (block < (D.geometry dev.old).block_count) }
     ensures corrupt { IsErrOf result Error.Corrupt → (D.geometry dev.old).block_count ≤ block }
-    ensures device { ReadsOnly D.BlockDevice dev.old dev.new }
-    ensures faults { TellsFaults D.BlockDevice dev.old dev.new result }
-    ensures errors { IfErr result (λ e. (e ≡ Error.Io) ⊎ (e ≡ Error.Corrupt)) }
+    ensures reading { ReadsList D.BlockDevice dev.old dev.new result }
     ensures few { reads (D.history dev.new) ≤ reads (D.history dev.old) + 1 }
 {
     if block >= dev.geometry().block_count {
@@ -39,9 +38,7 @@ pub(crate) fn find<D: BlockDevice>(
     ensures found { AreListBlocks (D.blocks dev.old) (last + 1) head → IfOk result (λ b. b ≡ slice_index (blocks_back (D.blocks dev.old) (last + 1) head) index) }
     ensures in_range { IfOk result (λ b. b < (D.geometry dev.old).block_count) }
     ensures corrupt { IsErrOf result Error.Corrupt → ¬ AreListBlocks (D.blocks dev.old) (last + 1) head }
-    ensures device { ReadsOnly D.BlockDevice dev.old dev.new }
-    ensures faults { TellsFaults D.BlockDevice dev.old dev.new result }
-    ensures errors { IfErr result (λ e. (e ≡ Error.Io) ⊎ (e ≡ Error.Corrupt)) }
+    ensures reading { ReadsList D.BlockDevice dev.old dev.new result }
     ensures few { (m : ℕ) → last < 2 ^ m → OnOk result (reads (D.history dev.new) ≤ reads (D.history dev.old) + 2 * m) }
 {
     let mut block = head;
@@ -63,9 +60,7 @@ fn before<D: BlockDevice>(dev: &mut D, block: u32) -> Result<u32, Error>
     ensures word { IfOk result (λ word. word ≡ word_at (block_in (D.blocks dev.old) block) 0) }
     ensures in_range { IfOk result (λ b. b < (D.geometry dev.old).block_count) }
     ensures corrupt { IsErrOf result Error.Corrupt → (D.geometry dev.old).block_count ≤ word_at (block_in (D.blocks dev.old) block) 0 }
-    ensures device { ReadsOnly D.BlockDevice dev.old dev.new }
-    ensures faults { TellsFaults D.BlockDevice dev.old dev.new result }
-    ensures errors { IfErr result (λ e. (e ≡ Error.Io) ⊎ (e ≡ Error.Corrupt)) }
+    ensures reading { ReadsList D.BlockDevice dev.old dev.new result }
     ensures few { reads (D.history dev.new) ≤ reads (D.history dev.old) + 1 }
 {
     let word = pointer(dev, block, 0)?;
@@ -84,9 +79,7 @@ pub fn head_before<D: BlockDevice>(dev: &mut D, block: u32, count: u32) -> Resul
     ensures word { IfOk result (λ word. 0 < count → word ≡ word_at (block_in (D.blocks dev.old) block) 0) }
     ensures in_range { IfOk result (λ b. b < (D.geometry dev.old).block_count) }
     ensures corrupt { IsErrOf result Error.Corrupt → (0 < count) × ((D.geometry dev.old).block_count ≤ word_at (block_in (D.blocks dev.old) block) 0) }
-    ensures device { ReadsOnly D.BlockDevice dev.old dev.new }
-    ensures faults { TellsFaults D.BlockDevice dev.old dev.new result }
-    ensures errors { IfErr result (λ e. (e ≡ Error.Io) ⊎ (e ≡ Error.Corrupt)) }
+    ensures reading { ReadsList D.BlockDevice dev.old dev.new result }
 {
     if count == 0 {
         return Ok(0);
@@ -147,9 +140,7 @@ pub fn read_at<D: BlockDevice>(
     ensures bytes { IsList (D.blocks dev.old) (D.geometry dev.old).block_size head size →
         IfOk result (λ n. take n buf.new ≡ slice_range (bytes_of (D.blocks dev.old) (D.geometry dev.old).block_size head size) pos (pos + n)) }
     ensures corrupt { IsErrOf result Error.Corrupt → ¬ IsList (D.blocks dev.old) (D.geometry dev.old).block_size head size }
-    ensures device { ReadsOnly D.BlockDevice dev.old dev.new }
-    ensures faults { TellsFaults D.BlockDevice dev.old dev.new result }
-    ensures errors { IfErr result (λ e. (e ≡ Error.Io) ⊎ (e ≡ Error.Corrupt)) }
+    ensures reading { ReadsList D.BlockDevice dev.old dev.new result }
     // Steps to the last block by the logarithm of the list's length, and two reads for each block.
     ensures few { (m first last off end : ℕ) → blocks_for (D.geometry dev.old).block_size size ≤ 2 ^ m
         → IsBytePlace (D.geometry dev.old).block_size pos first off

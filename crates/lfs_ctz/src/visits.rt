@@ -1,11 +1,10 @@
-ghost use Rattle.std.specs.Prelude.{◌≡◌, ◌≤◌, ◌<◌, ◌+◌, ◌*◌, ◌^◌, ◌⊎◌, ℕ, true, false, length, OnOk, IfOk, IfErr, IsErrOf, reverse, slice_index};
-ghost use Rattle.std.specs.Int.{w32, trailing_zeros};
+ghost use Rattle.std.specs.Prelude.{◌≡◌, ◌≤◌, ◌<◌, ◌+◌, ◌*◌, ◌^◌, ℕ, true, false, length, OnOk, IfOk, IsErrOf, reverse};
 ghost use Rattle.std.specs.List.{FoldsTo};
 ghost use Rattle.lfs_model.specs.Blocks.{block_in};
-ghost use Rattle.lfs_device.specs.Calls.{ReadsOnly, TellsFaults};
 ghost use Rattle.lfs_model.specs.SkipLists.{IsList, blocks_back, blocks_for, word_at};
+ghost use Rattle.lfs_ctz.specs.Calls.{ReadsList};
 ghost use Rattle.lfs_ctz.specs.Right.{IsNamed, IsNoted};
-ghost use Rattle.lfs_ctz.specs.Way.{HasPointers, IsOnWay};
+ghost use Rattle.lfs_ctz.specs.Way.{HasPointers, ReadsBeside};
 ghost use Rattle.lfs_model.specs.History.{reads};
 
 use crate::blocks_for;
@@ -50,11 +49,8 @@ fn checked_before<D: BlockDevice>(
     ensures noted { OnOk result (IsNoted (D.blocks dev.old) block index words.old words.new) }
     ensures right { OnOk result ((block < (D.geometry dev.old).block_count) × IsNamed words.old block index last) }
     ensures corrupt { IsErrOf result Error.Corrupt → block < (D.geometry dev.old).block_count → ¬ IsNamed words.old block index last }
-    ensures device { ReadsOnly D.BlockDevice dev.old dev.new }
-    ensures faults { TellsFaults D.BlockDevice dev.old dev.new result }
-    ensures errors { IfErr result (λ e. (e ≡ Error.Io) ⊎ (e ≡ Error.Corrupt)) }
-    ensures few { reads (D.history dev.new) ≤ reads (D.history dev.old) + 1 }
-    ensures known { IsOnWay last index → slice_index way.now.blocks (trailing_zeros w32 index) ≡ block → reads (D.history dev.new) ≡ reads (D.history dev.old) }
+    ensures reading { ReadsList D.BlockDevice dev.old dev.new result }
+    ensures reads { ReadsBeside way.now last index block (D.history dev.old) (D.history dev.new) }
 {
     if block >= dev.geometry().block_count || !is_named(words, block, index, last) {
         return Err(Error::Corrupt);
@@ -83,9 +79,7 @@ pub fn walk<D: BlockDevice, F: FnMut(u32)>(
     ensures visited { OnOk result (FoldsTo (λ p x q. F.step p x tt q) visit.old
         (reverse (blocks_back (D.blocks dev.old) (blocks_for (D.geometry dev.old).block_size size) head)) visit.new) }
     ensures callable { F.IsAlwaysCallable visit.new }
-    ensures device { ReadsOnly D.BlockDevice dev.old dev.new }
-    ensures faults { TellsFaults D.BlockDevice dev.old dev.new result }
-    ensures errors { IfErr result (λ e. (e ≡ Error.Io) ⊎ (e ≡ Error.Corrupt)) }
+    ensures reading { ReadsList D.BlockDevice dev.old dev.new result }
     ensures few { OnOk result (reads (D.history dev.new) < reads (D.history dev.old) + blocks_for (D.geometry dev.old).block_size size) }
 {
     let geometry = dev.geometry();

@@ -1,13 +1,13 @@
 // The way from a list's last block back to its first one.
 
-ghost use Rattle.std.specs.Prelude.{◌≡◌, ◌≤◌, ◌<◌, ◌+◌, ◌*◌, ◌⊎◌, ◌↔◌, length, OnOk, IfOk, IfErr, IsErrOf, IsTrue, slice_index};
-ghost use Rattle.std.specs.Int.{w32, trailing_zeros};
+ghost use Rattle.std.specs.Prelude.{◌≡◌, ◌≤◌, ◌<◌, ◌+◌, ◌*◌, ◌↔◌, length, OnOk, IfOk, IfErr, IsErrOf, IsTrue, slice_index};
 ghost use Rattle.lfs_model.specs.Blocks.{block_in};
 ghost use Rattle.lfs_device.specs.Calls.{ReadsOnly, TellsFaults};
 ghost use Rattle.lfs_model.specs.History.{reads};
 ghost use Rattle.lfs_model.specs.SkipLists.{AreListBlocks, blocks_back, word_at};
+ghost use Rattle.lfs_ctz.specs.Calls.{ReadsList};
 ghost use Rattle.lfs_ctz.specs.Right.{IsNoted};
-ghost use Rattle.lfs_ctz.specs.Way.{HasPointers, IsOnWay, IsWay, on_way};
+ghost use Rattle.lfs_ctz.specs.Way.{HasPointers, IsOnWay, IsWay, ReadsBeside, on_way};
 
 use crate::read::{pointers, read_part};
 use byteorder::{ByteOrder, LittleEndian};
@@ -60,9 +60,7 @@ pub(crate) fn first_block<D: BlockDevice>(
     ensures in_range { IfOk result (λ b. b < (D.geometry dev.old).block_count) }
     ensures corrupt { IsErrOf result Error.Corrupt → ¬ AreListBlocks (D.blocks dev.old) (last + 1) head }
     ensures noted { OnOk result (IsWay (D.blocks dev.old) head last 0 way.new) }
-    ensures device { ReadsOnly D.BlockDevice dev.old dev.new }
-    ensures faults { TellsFaults D.BlockDevice dev.old dev.new result }
-    ensures errors { IfErr result (λ e. (e ≡ Error.Io) ⊎ (e ≡ Error.Corrupt)) }
+    ensures reading { ReadsList D.BlockDevice dev.old dev.new result }
     ensures few { OnOk result (reads (D.history dev.new) ≤ reads (D.history dev.old) + on_way last last) }
 {
     let count = dev.geometry().block_count;
@@ -103,8 +101,7 @@ pub(crate) fn note<D: BlockDevice>(
     ensures device { ReadsOnly D.BlockDevice dev.old dev.new }
     ensures faults { TellsFaults D.BlockDevice dev.old dev.new result }
     ensures errors { IfErr result (λ e. e ≡ Error.Io) }
-    ensures few { reads (D.history dev.new) ≤ reads (D.history dev.old) + 1 }
-    ensures known { IsOnWay last index → slice_index way.now.blocks (trailing_zeros w32 index) ≡ block → reads (D.history dev.new) ≡ reads (D.history dev.old) }
+    ensures reads { ReadsBeside way.now last index block (D.history dev.old) (D.history dev.new) }
 {
     let zeros = index.trailing_zeros() as usize;
     if is_on_way(index, last) && way.blocks[zeros] == block {

@@ -58,7 +58,7 @@ loop-k-init g c =
     }
 
 pub returns-in_err-to-clause-device : goal.returns-in_err-to-clause-device
-returns-in_err-to-clause-device g c = read_on g.D.BlockDevice c.loop-k.invariant.device c.pointer.ensures.device
+returns-in_err-to-clause-device g c = read_on g.D.BlockDevice c.loop-k.invariant.device c.pointer.ensures.reading.device
 
 pub returns-in_err-to-clause-errors : goal.returns-in_err-to-clause-errors
 returns-in_err-to-clause-errors g c =
@@ -70,7 +70,7 @@ returns-in_err-to-clause-errors g c =
     let power = one-le-pow c.loop-k.k 2 (omega arith) in
     let lt = in_range_at (g.D.BlockDevice.blocks c.args.dev.now) index c.args.head (index - 2 ^ c.loop-k.k) c.requires.chain (omega arith) in
     let count = ap (λ (k : Geometry). k.block_count) inv.device.geometry in
-    rw (p.1, p.2) (only_io _ c.in_err-to.ensures.errors (λ is. let out = c.in_err-to.ensures.corrupt is in omega (arith, out, count, lt, inv.at, shape.count)))
+    rw (p.1, p.2) (only_io _ c.in_err-to.ensures.reading.errors (λ is. let out = c.in_err-to.ensures.corrupt is in omega (arith, out, count, lt, inv.at, shape.count)))
 
 pub loop-k-preserved : goal.loop-k-preserved
 loop-k-preserved g c =
@@ -90,6 +90,6 @@ loop-k-preserved g c =
       words = words_more c.loop-k.buf c.put_word-in-loop-k.new.buf c.in_ok-to.to (k + 1) (λ i. slice_index (blocks_back old index head) (index - 2 ^ i)) c.put_word-in-loop-k.ensures (omega arith) (omega arith) is inv.words;
       rest = ap (λ (b : List ℕ). drop (4 * pointers_of index) b) c.put_word-in-loop-k.ensures ∙ drop-with_word c.loop-k.buf (4 * (k + 1)) c.in_ok-to.to (4 * pointers_of index) (omega arith) (omega arith) ∙ inv.rest;
       len = c.put_word-in-loop-k.auto.buf ∙ inv.len;
-      device = read_on g.D.BlockDevice inv.device c.pointer.ensures.device;
-      quiet = quiet g.D.BlockDevice c.in_ok-to.ensures.faults ∙ inv.quiet;
+      device = read_on g.D.BlockDevice inv.device c.pointer.ensures.reading.device;
+      quiet = quiet g.D.BlockDevice c.in_ok-to.ensures.reading.faults ∙ inv.quiet;
     }

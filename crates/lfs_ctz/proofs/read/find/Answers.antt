@@ -1,7 +1,8 @@
 use Rattle.std.proofs.Common.{ℕ, ◌≡◌, ◌≤◌, ◌+◌, ◌-◌, ◌*◌, ◌%◌, ◌^◌, min, refl, sym, ap, subst, ◌∙◌, arith}
 use Rattle.std.specs.Int.{w32, trailing_zeros}
 use Rattle.std.proofs.lemmas.Nat.{one_shl}
-use Rattle.lfs_ctz.proofs.Called.{not_read, read_on, quiet}
+use Rattle.std.proofs.lemmas.Result.{err_from_is_err_and}
+use Rattle.lfs_ctz.proofs.Called.{list_as, list_on, not_read, read_on, quiet}
 use lib.Pow.{pow_mono}
 use Rattle.std.proofs.Common.{slice_index}
 use Rattle.lfs_model.specs.Blocks.{Blocks, block_in}
@@ -20,8 +21,10 @@ loop-at-init g c = record {
   few = λ m lt. (0, (omega arith, no_steps m c.args.last c.args.index));
 }
 
-pub returns-in_err-block-clause-device : goal.returns-in_err-block-clause-device
-returns-in_err-block-clause-device g c = read_on g.D.BlockDevice c.loop-at.invariant.device c.pointer.ensures.device
+pub returns-in_err-block-clause-reading : goal.returns-in_err-block-clause-reading
+returns-in_err-block-clause-reading g c =
+    let p = err_from_is_err_and c.from_residual.result c.from_residual.ensures.1 in
+    rw (p.1, p.2) (list_on g.D.BlockDevice c.loop-at.invariant.device c.loop-at.invariant.quiet (list_as g.D.BlockDevice c.in_err-block.ensures.reading))
 
 -- the step
 stride : (g : _) (c : goal.In_ok-block g) → 1 * 2 ^ c.min-skip.result % 4294967296 ≡ 2 ^ min (trailing_zeros w32 c.loop-at.at) c.ilog2.result
@@ -55,8 +58,8 @@ loop-at-preserved g c =
           ∙ ap (λ d. word_at (block_in d c.loop-at.block) (4 * c.min-skip.result)) inv.device.same
           ∙ pointer_at old c.args.last c.args.head at c.min-skip.result chain (omega arith) inv.high (let e = c.min-skip.ensures in omega arith) c.loop-at.block (inv.found chain)
           ∙ ap (λ n. slice_index (blocks_back old (c.args.last + 1) c.args.head) (at - n)) (ap (λ n. 2 ^ n) c.min-skip.ensures ∙ sym s);
-      device = read_on g.D.BlockDevice inv.device c.pointer.ensures.device;
-      quiet = quiet g.D.BlockDevice c.in_ok-block.ensures.faults ∙ inv.quiet;
+      device = read_on g.D.BlockDevice inv.device c.pointer.ensures.reading.device;
+      quiet = quiet g.D.BlockDevice c.in_ok-block.ensures.reading.faults ∙ inv.quiet;
       few = λ m lt.
           let steps = inv.few m lt in
           let one = c.pointer.ensures.few in

@@ -8,7 +8,7 @@ use Rattle.lfs_model.specs.SkipLists.{IsBytePlace, pointers_of, blocks_for, bloc
 use Rattle.lfs_ctz.proofs.Sizes.{blocks_for-last, place-lt, place_unique, place-mono}
 use Rattle.lfs_ctz.proofs.Gathered.{IsPart, IsTurn, filled, turn_bytes, turn_rest, turn_before, turn_in_range, turn_index}
 use Rattle.lfs_ctz.proofs.Geometries.{last_is, chain, sized, shaped}
-use Rattle.lfs_ctz.proofs.Called.{read_on, quiet, told_as, told_on}
+use Rattle.lfs_ctz.proofs.Called.{list_as, list_io, list_ok, list_on, read_on, quiet, told_on}
 use Rattle.lfs_ctz.proofs.read.read_at.Goals as goal
 
 pub overflow_sub-blocks_for : goal.overflow_sub-blocks_for
@@ -56,15 +56,19 @@ blocks-2-init g c =
           ∙ ap (slice_index (blocks_back old (blocks_for size c.args.size) c.args.head)) (place_unique size _ _ _ _ _ c.place-index.ensures is);
       bytes = λ ok. nothing_yet (bytes_of old size c.args.head c.args.size) c.args.buf.now c.args.pos c.min-len.result _ c.min-len.ensures;
       rest = refl;
-      device = c.find.ensures.device;
-      quiet = quiet g.D.BlockDevice c.in_ok-block.ensures.faults;
+      device = c.find.ensures.reading.device;
+      quiet = quiet g.D.BlockDevice c.in_ok-block.ensures.reading.faults;
       few = λ m i last off end le is there.
           let few = c.in_ok-block.ensures.few m (omega (arith, le, c.blocks_for.ensures, (blocks_for-last size c.args.size large (omega arith)).1.0)) in
           omega arith;
     }
 
-pub returns-in_err-read_part-clause-device : goal.returns-in_err-read_part-clause-device
-returns-in_err-read_part-clause-device g c = read_on g.D.BlockDevice c.blocks-2.invariant.device c.read_part.ensures.device
+pub returns-in_err-read_part-clause-reading : goal.returns-in_err-read_part-clause-reading
+returns-in_err-read_part-clause-reading g c =
+    let inv = c.blocks-2.invariant in
+    let read = c.in_err-read_part.ensures in
+    let p = err_from_is_err_and c.from_residual-in_err-read_part.result c.from_residual-in_err-read_part.ensures.1 in
+    rw (p.1, p.2) (list_io g.D.BlockDevice (read_on g.D.BlockDevice inv.device c.read_part.ensures.device) (told_on g.D.BlockDevice inv.quiet read.faults) read.errors)
 
 -- what is read at an iteration
 is_part : (block_size pos left n i off k : ℕ) → IsBytePlace block_size (pos + left - 1) i off → k ≡ pointers_of i → n ≡ min left (off + 1 - 4 * k) → IsPart block_size pos left n i off
@@ -124,8 +128,10 @@ returns-then-left-eq0-clause-count g c =
     inv.some inv.high refl (omega arith) c.blocks-2.auto.buf inv.in_range inv.device.same c.in_ok-read_part.ensures.bytes in
     (c.min-len.ensures, ap (λ k. drop k c.read_part.new.buf) c.min-len.ensures ∙ turn_rest turn ∙ inv.rest ∙ ap (λ k. drop k c.args.buf.now) (sym c.min-len.ensures))
 
-pub returns-then-left-eq0-clause-device : goal.returns-then-left-eq0-clause-device
-returns-then-left-eq0-clause-device g c = read_on g.D.BlockDevice c.blocks-2.invariant.device c.read_part.ensures.device
+pub returns-then-left-eq0-clause-reading : goal.returns-then-left-eq0-clause-reading
+returns-then-left-eq0-clause-reading g c =
+    let inv = c.blocks-2.invariant in
+    list_ok g.D.BlockDevice (read_on g.D.BlockDevice inv.device c.read_part.ensures.device) (quiet g.D.BlockDevice c.in_ok-read_part.ensures.faults ∙ inv.quiet)
 
 -- a place by the geometry of the device
 placed_by : (geometry made : Geometry) (pos i off : ℕ) → made ≡ geometry → IsBytePlace geometry.block_size pos i off → IsBytePlace made.block_size pos i off
@@ -160,8 +166,12 @@ returns-in_err-block-2-clause-corrupt g c =
     out_of_range _ _ _ _ _ (c.read_part.ensures.device.same ∙ inv.device.same) (c.read_part.ensures.device.geometry ∙ inv.device.geometry) (c.in_err-block-2.ensures.corrupt is)
     (turn_in_range turn c.args.head ok (inv.found ok _ _ c.place-index-in-blocks-2.ensures) (omega arith)))
 
-pub returns-in_err-block-2-clause-device : goal.returns-in_err-block-2-clause-device
-returns-in_err-block-2-clause-device g c = read_on g.D.BlockDevice (read_on g.D.BlockDevice c.blocks-2.invariant.device c.read_part.ensures.device) c.before-in-blocks-2.ensures.device
+pub returns-in_err-block-2-clause-reading : goal.returns-in_err-block-2-clause-reading
+returns-in_err-block-2-clause-reading g c =
+    let inv = c.blocks-2.invariant in
+    let p = err_from_is_err_and c.from_residual-in_err-block-2.result c.from_residual-in_err-block-2.ensures.1 in
+    rw (p.1, p.2) (list_on g.D.BlockDevice (read_on g.D.BlockDevice inv.device c.read_part.ensures.device) (quiet g.D.BlockDevice c.in_ok-read_part.ensures.faults ∙ inv.quiet)
+    (list_as g.D.BlockDevice c.in_err-block-2.ensures.reading))
 
 few_more : (reads_old reads_now reads_part reads_next m last i j : ℕ) → i ≡ suc j → i ≤ last → reads_now ≤ reads_old + 2 * m + 2 * (last - i) → reads_part ≡ reads_now + 1 → reads_next ≤ reads_part + 1
     → reads_next ≤ reads_old + 2 * m + 2 * (last - j)
@@ -184,18 +194,8 @@ blocks-2-preserved g c =
           ∙ turn_before turn c.args.head ok (inv.found ok _ _ now) some j end is;
       bytes = λ ok. turn_bytes turn c.args.head _ ok (inv.found ok _ _ now) (inv.bytes ok);
       rest = turn_rest turn ∙ inv.rest;
-      device = read_on g.D.BlockDevice device c.before-in-blocks-2.ensures.device;
-      quiet = quiet g.D.BlockDevice c.in_ok-block-2.ensures.faults ∙ quiet g.D.BlockDevice c.in_ok-read_part.ensures.faults ∙ inv.quiet;
+      device = read_on g.D.BlockDevice device c.before-in-blocks-2.ensures.reading.device;
+      quiet = quiet g.D.BlockDevice c.in_ok-block-2.ensures.reading.faults ∙ quiet g.D.BlockDevice c.in_ok-read_part.ensures.faults ∙ inv.quiet;
       few = λ m j last off end le is there.
           few_more _ _ _ _ m last _ j (turn_index turn some j off is) (place-mono _ _ _ _ _ _ _ now there (let h = inv.high in omega arith)) (inv.few m _ last _ end le now there) c.read_part.ensures.few c.before-in-blocks-2.ensures.few;
     }
-
-pub returns-in_err-read_part-clause-faults : goal.returns-in_err-read_part-clause-faults
-returns-in_err-read_part-clause-faults g c =
-    let p = err_from_is_err_and c.from_residual-in_err-read_part.result c.from_residual-in_err-read_part.ensures.1 in
-    rw (p.1, p.2) (told_on g.D.BlockDevice c.blocks-2.invariant.quiet (told_as g.D.BlockDevice c.in_err-read_part.ensures.faults))
-
-pub returns-in_err-block-2-clause-faults : goal.returns-in_err-block-2-clause-faults
-returns-in_err-block-2-clause-faults g c =
-    let p = err_from_is_err_and c.from_residual-in_err-block-2.result c.from_residual-in_err-block-2.ensures.1 in
-    rw (p.1, p.2) (told_on g.D.BlockDevice (quiet g.D.BlockDevice c.in_ok-read_part.ensures.faults ∙ c.blocks-2.invariant.quiet) (told_as g.D.BlockDevice c.in_err-block-2.ensures.faults))

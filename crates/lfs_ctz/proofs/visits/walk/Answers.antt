@@ -15,7 +15,7 @@ use Rattle.lfs_model.specs.SkipLists.{AreListBlocks, IsList, blocks_for, blocks_
 use Rattle.lfs_ctz.proofs.Sizes.{blocks_for-last}
 use Rattle.lfs_ctz.proofs.Chains.{head_of_back, length_back, in_range_at, back-pointer0}
 use Rattle.lfs_ctz.proofs.Geometries.{chain, sized, count_by}
-use Rattle.lfs_ctz.proofs.Called.{quiet, read_on, told_as, told_corrupt, told_on}
+use Rattle.lfs_ctz.proofs.Called.{list_as, list_corrupt, list_on, quiet, read_on}
 use Rattle.lfs_ctz.proofs.Walked.{IsChecked, none_checked, more_checked, chain_of_walk, named_of_chain, chain_fits, first_of_distinct, visited_more}
 use Rattle.lfs_ctz.proofs.visits.walk.Goals as goal
 
@@ -54,8 +54,8 @@ loop-index-init g c =
       few = λ ok. (let way = c.in_ok-first.ensures.few in omega arith);
       visited = rw none refl;
       callable = search (rules, of_calls);
-      device = c.first_block.ensures.device;
-      quiet = quiet g.D.BlockDevice c.in_ok-first.ensures.faults;
+      device = c.first_block.ensures.reading.device;
+      quiet = quiet g.D.BlockDevice c.in_ok-first.ensures.reading.faults;
     }
 
 -- in a list a checked block is right
@@ -97,13 +97,10 @@ returns-in_err-before-clause-corrupt g c =
     (named_of_chain _ _ c.args.head _ _ c.loop-index.index _ (few_blocks c.geometry-geometry.result _ c.if-last-geometry.false) inv.checked
     (chain _ _ _ _ _ c.geometry-geometry.result.valid.no_smaller c.blocks_for-last.ensures (sized _ _ _ _ _ made listed)) inv.low c.loop-index.block inv.at))
 
-pub returns-in_err-before-clause-device : goal.returns-in_err-before-clause-device
-returns-in_err-before-clause-device g c = read_on g.D.BlockDevice c.loop-index.invariant.device c.checked_before.ensures.device
-
-pub returns-in_err-before-clause-faults : goal.returns-in_err-before-clause-faults
-returns-in_err-before-clause-faults g c =
+pub returns-in_err-before-clause-reading : goal.returns-in_err-before-clause-reading
+returns-in_err-before-clause-reading g c =
     let p = err_from_is_err_and c.from_residual-in_err-before.result c.from_residual-in_err-before.ensures.1 in
-    rw (p.1, p.2) (told_on g.D.BlockDevice c.loop-index.invariant.quiet (told_as g.D.BlockDevice c.in_err-before.ensures.faults))
+    rw (p.1, p.2) (list_on g.D.BlockDevice c.loop-index.invariant.device c.loop-index.invariant.quiet (list_as g.D.BlockDevice c.in_err-before.ensures.reading))
 
 pub returns-then-block-first-clause-corrupt : goal.returns-then-block-first-clause-corrupt
 returns-then-block-first-clause-corrupt g c is listed =
@@ -111,11 +108,11 @@ returns-then-block-first-clause-corrupt g c is listed =
     let ok = chain _ _ _ _ _ c.geometry-geometry.result.valid.no_smaller c.blocks_for-last.ensures (sized _ _ _ _ _ c.geometry-geometry.ensures listed) in
     first_of_distinct (g.D.BlockDevice.blocks c.args.dev.now) (c.blocks_for-last.result - 1 + 1) c.args.head ok.distinct c.loop-index.index (omega arith) (omega (arith, inv.low)) (sym inv.at ∙ c.if-block-first.true ∙ c.in_ok-first.ensures.found ok)
 
-pub returns-then-block-first-clause-device : goal.returns-then-block-first-clause-device
-returns-then-block-first-clause-device g c = read_on g.D.BlockDevice c.loop-index.invariant.device c.checked_before.ensures.device
-
-pub returns-then-block-first-clause-faults : goal.returns-then-block-first-clause-faults
-returns-then-block-first-clause-faults g c = told_corrupt g.D.BlockDevice (quiet g.D.BlockDevice c.in_ok-before.ensures.faults ∙ c.loop-index.invariant.quiet)
+pub returns-then-block-first-clause-reading : goal.returns-then-block-first-clause-reading
+returns-then-block-first-clause-reading g c =
+    let inv = c.loop-index.invariant in
+    let read = c.in_ok-before.ensures.reading in
+    list_corrupt g.D.BlockDevice (read_on g.D.BlockDevice inv.device read.device) (quiet g.D.BlockDevice read.faults ∙ inv.quiet)
 
 pub loop-index-preserved : goal.loop-index-preserved
 loop-index-preserved g c =
@@ -141,10 +138,10 @@ loop-index-preserved g c =
       room = c.checked_before.auto.words ∙ inv.room;
       few = λ ok.
           let so_far = inv.few ok in
-          let one = c.checked_before.ensures.few in
+          let one = c.checked_before.ensures.reads.few in
           ⊎_elim
           (λ on.
-          let none = c.checked_before.ensures.known on (c.in_ok-first.ensures.noted.blocks ok index (omega arith) inv.low on ∙ sym inv.at) in
+          let none = c.checked_before.ensures.reads.known on (c.in_ok-first.ensures.noted.blocks ok index (omega arith) inv.low on ∙ sym inv.at) in
           let here = one_on last index (omega arith) on in
           omega arith)
           (λ off.
@@ -153,8 +150,8 @@ loop-index-preserved g c =
           (cases_lt (last - index) (2 ^ trailing_zeros w32 index));
       visited = visited_more _ _ _ c.visit.new.self bs index c.loop-index.block (index - 1 + 1) (omega (arith, size, inv.low)) inv.at (omega arith) inv.visited (search (rules, of_calls));
       callable = search (rules, of_calls);
-      device = read_on g.D.BlockDevice inv.device c.checked_before.ensures.device;
-      quiet = quiet g.D.BlockDevice c.in_ok-before.ensures.faults ∙ inv.quiet;
+      device = read_on g.D.BlockDevice inv.device c.checked_before.ensures.reading.device;
+      quiet = quiet g.D.BlockDevice c.in_ok-before.ensures.reading.faults ∙ inv.quiet;
     }
 
 pub checked_before-requires-clause-way : goal.checked_before-requires-clause-way

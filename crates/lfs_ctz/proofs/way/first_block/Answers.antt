@@ -9,7 +9,7 @@ use Rattle.lfs_model.specs.Blocks.{Blocks, block_in}
 use Rattle.lfs_model.specs.SkipLists.{AreListBlocks, blocks_back, word_at}
 use Rattle.lfs_ctz.specs.declared.way.Way.{Way}
 use Rattle.lfs_ctz.specs.Way.{IsOnWay, IsWay}
-use Rattle.lfs_ctz.proofs.Called.{not_read, quiet, read_on, told_as, told_corrupt, told_on}
+use Rattle.lfs_ctz.proofs.Called.{list_corrupt, list_io, list_ok, not_read, quiet, read_on, told_on}
 use Rattle.lfs_ctz.proofs.Chains.{head_of_back, in_range_at, pointer_at}
 use Rattle.lfs_ctz.proofs.Walked.{power_small}
 use Rattle.lfs_ctz.proofs.Ways.{goes_on, note_more, nothing_noted, on_way-le, one_on}
@@ -38,23 +38,19 @@ returns-then-block-count-clause-corrupt g c is chain =
     let shape = g.met.D.BlockDevice.shape c.args.dev.now in
     there _ _ _ c.loop-at.at _ _ (shape.count ∙ ap (λ (k : Geometry). k.block_count) (sym c.geometry-count.ensures)) chain inv.high (inv.found chain) c.if-block-count.true
 
-pub returns-then-block-count-clause-device : goal.returns-then-block-count-clause-device
-returns-then-block-count-clause-device g c = c.loop-at.invariant.device
-
-pub returns-then-block-count-clause-faults : goal.returns-then-block-count-clause-faults
-returns-then-block-count-clause-faults g c = told_corrupt g.D.BlockDevice c.loop-at.invariant.quiet
+pub returns-then-block-count-clause-reading : goal.returns-then-block-count-clause-reading
+returns-then-block-count-clause-reading g c = list_corrupt g.D.BlockDevice c.loop-at.invariant.device c.loop-at.invariant.quiet
 
 pub read_part-requires-clause-in_device : goal.read_part-requires-clause-in_device
 read_part-requires-clause-in_device g c =
     omega (arith, ap (λ (k : Geometry). k.block_count) c.geometry-count.ensures, ap (λ (k : Geometry). k.block_count) c.loop-at.invariant.device.geometry)
 
-pub returns-in_err-read_part-clause-device : goal.returns-in_err-read_part-clause-device
-returns-in_err-read_part-clause-device g c = read_on g.D.BlockDevice c.loop-at.invariant.device c.read_part.ensures.device
-
-pub returns-in_err-read_part-clause-faults : goal.returns-in_err-read_part-clause-faults
-returns-in_err-read_part-clause-faults g c =
+pub returns-in_err-read_part-clause-reading : goal.returns-in_err-read_part-clause-reading
+returns-in_err-read_part-clause-reading g c =
+    let inv = c.loop-at.invariant in
+    let read = c.in_err-read_part.ensures in
     let p = err_from_is_err_and c.from_residual.result c.from_residual.ensures.1 in
-    rw (p.1, p.2) (told_on g.D.BlockDevice c.loop-at.invariant.quiet (told_as g.D.BlockDevice c.in_err-read_part.ensures.faults))
+    rw (p.1, p.2) (list_io g.D.BlockDevice (read_on g.D.BlockDevice inv.device c.read_part.ensures.device) (told_on g.D.BlockDevice inv.quiet read.faults) read.errors)
 
 -- the step
 stride : (g : _) (c : goal.After-word-block g) → 1 * 2 ^ trailing_zeros w32 c.loop-at.at % 4294967296 ≡ 2 ^ trailing_zeros w32 c.loop-at.at
@@ -112,11 +108,8 @@ returns-then-block-count-2-clause-corrupt g c is chain =
     let shape = g.met.D.BlockDevice.shape c.args.dev.now in
     there _ _ _ c.loop-at.at _ _ (shape.count ∙ ap (λ (k : Geometry). k.block_count) (sym c.geometry-count.ensures)) chain inv.high (inv.found chain) c.if-block-count-2.true
 
-pub returns-then-block-count-2-clause-device : goal.returns-then-block-count-2-clause-device
-returns-then-block-count-2-clause-device g c = c.loop-at.invariant.device
-
-pub returns-then-block-count-2-clause-faults : goal.returns-then-block-count-2-clause-faults
-returns-then-block-count-2-clause-faults g c = told_corrupt g.D.BlockDevice c.loop-at.invariant.quiet
+pub returns-then-block-count-2-clause-reading : goal.returns-then-block-count-2-clause-reading
+returns-then-block-count-2-clause-reading g c = list_corrupt g.D.BlockDevice c.loop-at.invariant.device c.loop-at.invariant.quiet
 
 pub returns-clause-found : goal.returns-clause-found
 returns-clause-found g c chain = c.loop-at.invariant.found chain ∙ ap (slice_index _) (let e : c.loop-at.at ≡ 0 = omega arith in e)
@@ -125,11 +118,8 @@ pub returns-clause-noted : goal.returns-clause-noted
 returns-clause-noted g c =
     subst (λ k. IsWay (g.D.BlockDevice.blocks c.args.dev.now) c.args.head c.args.last k c.loop-at.way) (let e : c.loop-at.at ≡ 0 = omega arith in e) c.loop-at.invariant.noted
 
-pub returns-clause-device : goal.returns-clause-device
-returns-clause-device g c = c.loop-at.invariant.device
-
-pub returns-clause-faults : goal.returns-clause-faults
-returns-clause-faults g c = record { fault = λ is. absurd (cc); no_fault = λ other. c.loop-at.invariant.quiet }
+pub returns-clause-reading : goal.returns-clause-reading
+returns-clause-reading g c = list_ok g.D.BlockDevice c.loop-at.invariant.device c.loop-at.invariant.quiet
 
 pub returns-clause-few : goal.returns-clause-few
 returns-clause-few g c = let few = c.loop-at.invariant.few in omega arith

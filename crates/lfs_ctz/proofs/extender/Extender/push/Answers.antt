@@ -72,10 +72,11 @@ returns-in_err-done-clause-device g c =
     let some = still _ _ c.args.self.now c.loop-done.self c.args.blocks.now c.loop-done.used c.loop-done.done _ inv.same inv.some inv.kept c.requires.count inv.sum c.loop-done-test.true in
     changes_one g.D.BlockDevice (among (growing_of c.args.self.now) c.loop-done.self.stand c.args.blocks.now c.loop-done.used _ _ c.next_block-block.ensures refl some inv.pending) inv.device c.fill.ensures.device
 
-pub returns-in_err-done-clause-faults : goal.returns-in_err-done-clause-faults
-returns-in_err-done-clause-faults g c =
+pub returns-in_err-done-clause-io : goal.returns-in_err-done-clause-io
+returns-in_err-done-clause-io g c =
+    let told = c.in_err-done.ensures.io in
     let p = err_from_is_err_and c.from_residual.result c.from_residual.ensures.1 in
-    rw (p.1, p.2) (told_on g.D.BlockDevice c.loop-done.invariant.quiet (told_as g.D.BlockDevice c.in_err-done.ensures.faults))
+    rw (p.1, p.2) (record { faults = told_on g.D.BlockDevice c.loop-done.invariant.quiet (told_as g.D.BlockDevice told.faults); errors = told.errors })
 
 sum_more : (before : Geometry) (size done n all : ℕ) (e : Extender) → geometry_of e ≡ before → all ≡ size + done → size_of before.block_size (growing_of e) ≡ all + n
     → size_of (geometry_of e).block_size (growing_of e) ≡ size + (done + n)
@@ -117,7 +118,7 @@ loop-done-preserved g c =
       same = now.geometry ∙ inv.same;
       device = changes_one g.D.BlockDevice here inv.device c.fill.ensures.device;
       writes = record { erased = omega (arith, written.erased, inv.writes.erased); programmed = omega (arith, written.programmed, inv.writes.programmed) };
-      quiet = quiet g.D.BlockDevice c.in_ok-done.ensures.faults ∙ inv.quiet;
+      quiet = quiet g.D.BlockDevice c.in_ok-done.ensures.io.faults ∙ inv.quiet;
     }
 
 pub returns-clause-pushed : goal.returns-clause-pushed

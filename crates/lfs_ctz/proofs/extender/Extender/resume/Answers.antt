@@ -34,7 +34,7 @@ never_corrupt x (inr is) other = absurd (other (ap Err is))
 pub returns-in_err-block-clause-errors : goal.returns-in_err-block-clause-errors
 returns-in_err-block-clause-errors g c =
     let p = err_from_is_err_and c.from_residual-in_err-block.result c.from_residual-in_err-block.ensures.1 in
-    rw (p.1, p.2) (never_corrupt {T = ℕ} _ c.in_err-block.ensures.errors (λ is. c.in_err-block.ensures.corrupt is
+    rw (p.1, p.2) (never_corrupt {T = ℕ} _ c.in_err-block.ensures.reading.errors (λ is. c.in_err-block.ensures.corrupt is
     (chain _ _ _ _ _ c.geometry-geometry.result.valid.no_smaller c.blocks_for.ensures (sized _ _ _ _ _ c.geometry-geometry.ensures c.requires.list))))
 
 pub overflow_add-result : goal.overflow_add-result
@@ -172,23 +172,23 @@ pub returns-clause-waits : goal.returns-clause-waits
 returns-clause-waits g c = record { listed = refl; pending = λ other apart. apart }
 
 pub returns-in_err-head-clause-device : goal.returns-in_err-head-clause-device
-returns-in_err-head-clause-device g c = read_on g.D.BlockDevice c.find.ensures.device c.head_before.ensures.device
+returns-in_err-head-clause-device g c = read_on g.D.BlockDevice c.find.ensures.reading.device c.head_before.ensures.reading.device
 
 pub returns-in_err-head-clause-errors : goal.returns-in_err-head-clause-errors
 returns-in_err-head-clause-errors g c =
     let p = err_from_is_err_and c.from_residual-in_err-head.result c.from_residual-in_err-head.ensures.1 in
-    rw (p.1, p.2) (never_corrupt {T = ℕ} _ c.in_err-head.ensures.errors (λ is.
+    rw (p.1, p.2) (never_corrupt {T = ℕ} _ c.in_err-head.ensures.reading.errors (λ is.
     let some = (c.in_err-head.ensures.corrupt is).0 in
-    let refused = rw (c.find.ensures.device.same, c.find.ensures.device.geometry) at c.in_err-head.ensures.corrupt in
+    let refused = rw (c.find.ensures.reading.device.same, c.find.ensures.reading.device.geometry) at c.in_err-head.ensures.corrupt in
     let out = (refused is).1 in
     let inside = before_there _ _ _ _ _ c.args.keep _ _ _ _ c.geometry-geometry.ensures c.blocks_for.ensures (g.met.D.BlockDevice.shape c.args.dev.now) c.requires.list c.requires.some c.requires.within c.place-index.ensures c.in_ok-block.ensures.found some in
     omega (arith, out, inside)))
 
 pub returns-in_err-read_part-clause-device : goal.returns-in_err-read_part-clause-device
-returns-in_err-read_part-clause-device g c = read_on g.D.BlockDevice (read_on g.D.BlockDevice c.find.ensures.device c.head_before.ensures.device) c.read_part.ensures.device
+returns-in_err-read_part-clause-device g c = read_on g.D.BlockDevice (read_on g.D.BlockDevice c.find.ensures.reading.device c.head_before.ensures.reading.device) c.read_part.ensures.device
 
 pub returns-clause-device : goal.returns-clause-device
-returns-clause-device g c = read_on g.D.BlockDevice (read_on g.D.BlockDevice c.find.ensures.device c.head_before.ensures.device) c.read_part.ensures.device
+returns-clause-device g c = read_on g.D.BlockDevice (read_on g.D.BlockDevice c.find.ensures.reading.device c.head_before.ensures.reading.device) c.read_part.ensures.device
 
 -- the bytes of the block that are kept
 rest_is : (g : _) (c : goal.After-result-2-1 g) → take (c.place-index.result.1 + 1 - 4 * pointers_of c.place-index.result.0) (drop (4 * pointers_of c.place-index.result.0) (with_items c.in_ok-buffer.buffer c.read_part.new.buf).items)
@@ -199,7 +199,7 @@ rest_is g c =
     let in_range = c.in_ok-block.ensures.in_range in
     let place = c.place-index.ensures in
     let short = short_of c.geometry-geometry.result.block_size c.args.keep c.place-index.result.0 c.place-index.result.1 c.geometry-geometry.result.valid.no_smaller place c.if-off-block_size.false in
-    read_rest _ _ _ c.read_part.new.buf _ c.in_ok-block.block c.place-index.result.1 (4 * pointers_of c.place-index.result.0) c.geometry-geometry.result.block_size (c.head_before.ensures.device.same ∙ c.find.ensures.device.same)
+    read_rest _ _ _ c.read_part.new.buf _ c.in_ok-block.block c.place-index.result.1 (4 * pointers_of c.place-index.result.0) c.geometry-geometry.result.block_size (c.head_before.ensures.reading.device.same ∙ c.find.ensures.reading.device.same)
     (with_items_is c.in_ok-buffer.buffer c.read_part.new.buf (omega (arith, c.read_part.auto.buf, c.as_mut_slice.ensures.len, c.in_ok-buffer.buffer.ok.0)))
     c.in_ok-read_part.ensures.bytes
     (omega (arith, shape.sizes c.in_ok-block.block in_range, ap (λ (k : Geometry). k.block_size) made))
@@ -210,7 +210,7 @@ opened : (g : _) (c : goal.After-result-2-1 g) → IsOpen (g.D.BlockDevice.block
 opened g c =
     is_open _ _ _ _ _ _ _ _ _ _ _ _ c.geometry-geometry.ensures c.blocks_for.ensures (g.met.D.BlockDevice.shape c.args.dev.now) c.requires.list c.requires.some c.requires.within c.place-index.ensures c.in_ok-block.ensures.found
     (short_of c.geometry-geometry.result.block_size c.args.keep c.place-index.result.0 c.place-index.result.1 c.geometry-geometry.result.valid.no_smaller c.place-index.ensures c.if-off-block_size.false)
-    (λ more. c.in_ok-head.ensures.word more ∙ ap (λ d. word_at (block_in d c.in_ok-block.block) 0) c.find.ensures.device.same)
+    (λ more. c.in_ok-head.ensures.word more ∙ ap (λ d. word_at (block_in d c.in_ok-block.block) 0) c.find.ensures.reading.device.same)
     (rest_is g c)
 
 pub returns-clause-resumed : goal.returns-clause-resumed

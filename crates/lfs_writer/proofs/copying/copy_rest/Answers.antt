@@ -28,30 +28,30 @@ copying-init g c = record {
 }
 
 pub returns-in_err-count-clause-device : goal.returns-in_err-count-clause-device
-returns-in_err-count-clause-device g c = apart_read g.D.BlockDevice c.copying.invariant.device c.read_at.ensures.device
+returns-in_err-count-clause-device g c = apart_read g.D.BlockDevice c.copying.invariant.device c.read_at.ensures.reading.device
 
 pub returns-in_err-count-clause-errors : goal.returns-in_err-count-clause-errors
 returns-in_err-count-clause-errors g c =
     let inv = c.copying.invariant in
     let test = c.copying-test.true in
     let p = err_from_is_err_and c.from_residual.result c.from_residual.ensures.1 in
-    rw (p.1, p.2) (not_corrupt {T = ℕ} _ c.in_err-count.ensures.errors (λ is. c.in_err-count.ensures.corrupt is
+    rw (p.1, p.2) (not_corrupt {T = ℕ} _ c.in_err-count.ensures.reading.errors (λ is. c.in_err-count.ensures.corrupt is
     (listed _ _ _ _ (geometry_of c.args.list.now) _ c.args.head c.args.size (inv.device.geometry ∙ c.requires.geometry) inv.device.spared c.requires.base.apart (omega arith) c.requires.base.base)))
 
 pub returns-in_err-count-clause-faults : goal.returns-in_err-count-clause-faults
 returns-in_err-count-clause-faults g c =
     let p = err_from_is_err_and c.from_residual.result c.from_residual.ensures.1 in
-    rw (p.1, p.2) (told_on g.D.BlockDevice c.copying.invariant.quiet (told_as g.D.BlockDevice c.in_err-count.ensures.faults))
+    rw (p.1, p.2) (told_on g.D.BlockDevice c.copying.invariant.quiet (told_as g.D.BlockDevice c.in_err-count.ensures.reading.faults))
 
 pub returns-in_err-extend-clause-device : goal.returns-in_err-extend-clause-device
 returns-in_err-extend-clause-device g c =
     let inv = c.copying.invariant in
-    apart_on g.D.BlockDevice inv.grown.apart (apart_read g.D.BlockDevice inv.device c.read_at.ensures.device) c.extend.ensures.device
+    apart_on g.D.BlockDevice inv.grown.apart (apart_read g.D.BlockDevice inv.device c.read_at.ensures.reading.device) c.extend.ensures.device
 
 pub returns-in_err-extend-clause-faults : goal.returns-in_err-extend-clause-faults
 returns-in_err-extend-clause-faults g c =
     let p = err_from_is_err_and c.from_residual-in_err-extend.result c.from_residual-in_err-extend.ensures.1 in
-    rw (p.1, p.2) (told_on g.D.BlockDevice (quiet g.D.BlockDevice c.in_ok-count.ensures.faults ∙ c.copying.invariant.quiet) (told_as g.D.BlockDevice c.in_err-extend.ensures.faults))
+    rw (p.1, p.2) (told_on g.D.BlockDevice (quiet g.D.BlockDevice c.in_ok-count.ensures.reading.faults ∙ c.copying.invariant.quiet) (told_as g.D.BlockDevice c.in_err-extend.ensures.faults))
 
 pub extend-requires-clause-room : goal.extend-requires-clause-room
 extend-requires-clause-room g c =
@@ -68,7 +68,7 @@ extend-requires-clause-room g c =
     let long : length (take n c.read_at.new.buf) ≡ n = length-take-le n c.read_at.new.buf (omega (arith, c.read_at.auto.buf, few)) in
     let more = blocks_for-more block_size (size_of block_size now + length (take n c.read_at.new.buf)) c.args.size (omega arith) in
     let same = ap (λ (k : Geometry). blocks_for k.block_size (size_of k.block_size now + length (take n c.read_at.new.buf))) inv.same in
-    let kept = ap (λ (x : Blocks). length (kept_of x now)) c.read_at.ensures.device.same in
+    let kept = ap (λ (x : Blocks). length (kept_of x now)) c.read_at.ensures.reading.device.same in
     let count = inv.grown.count in
     let states = inv.map.count in
     let used = inv.map.used in
@@ -99,19 +99,19 @@ copying-preserved g c =
     record {
       growing = more.growing;
       same = more.geometry ∙ inv.same;
-      grown = grown_on _ _ _ _ _ _ _ _ _ _ c.read_at.ensures.device.same inv.map inv.grown more.grown;
+      grown = grown_on _ _ _ _ _ _ _ _ _ _ c.read_at.ensures.reading.device.same inv.map inv.grown more.grown;
       marked = more.marked;
       map = Keeps-trans inv.map c.extend.ensures.map;
-      device = apart_on g.D.BlockDevice inv.grown.apart (apart_read g.D.BlockDevice inv.device c.read_at.ensures.device) c.extend.ensures.device;
+      device = apart_on g.D.BlockDevice inv.grown.apart (apart_read g.D.BlockDevice inv.device c.read_at.ensures.reading.device) c.extend.ensures.device;
       own = more.own;
       some = omega arith;
       top = omega arith;
-      bytes = ap (λ (l : List ℕ). l ++ drop (size_of block_size new) base) (more.content ∙ ap (λ (x : Blocks). content_of x now ++ take n c.read_at.new.buf) c.read_at.ensures.device.same)
+      bytes = ap (λ (l : List ℕ). l ++ drop (size_of block_size new) base) (more.content ∙ ap (λ (x : Blocks). content_of x now ++ take n c.read_at.new.buf) c.read_at.ensures.reading.device.same)
           ∙ ap (λ k. content_of (g.D.BlockDevice.blocks c.copying.dev) now ++ take n c.read_at.new.buf ++ drop k base) (let k : size_of block_size new ≡ pos + n = omega arith in k)
           ∙ copied (content_of (g.D.BlockDevice.blocks c.copying.dev) now) (take n c.read_at.new.buf) base pos n chunk
           ∙ ap (λ k. content_of (g.D.BlockDevice.blocks c.copying.dev) now ++ drop k base) (let k : pos ≡ size_of block_size now = omega arith in k)
           ∙ inv.bytes;
-      quiet = quiet g.D.BlockDevice c.in_ok-extend.ensures.faults ∙ quiet g.D.BlockDevice c.in_ok-count.ensures.faults ∙ inv.quiet;
+      quiet = quiet g.D.BlockDevice c.in_ok-extend.ensures.faults ∙ quiet g.D.BlockDevice c.in_ok-count.ensures.reading.faults ∙ inv.quiet;
     }
 
 pub returns-clause-extended : goal.returns-clause-extended

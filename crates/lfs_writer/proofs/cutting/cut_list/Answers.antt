@@ -23,17 +23,17 @@ release_base-requires-clause-within g c =
     omega arith
 
 pub returns-in_err-release_base-clause-device : goal.returns-in_err-release_base-clause-device
-returns-in_err-release_base-clause-device g c = read_on g.D.BlockDevice c.cut.ensures.device c.release_base.ensures.device
+returns-in_err-release_base-clause-device g c = read_on g.D.BlockDevice c.cut.ensures.reading.device c.release_base.ensures.device
 
 pub returns-clause-device : goal.returns-clause-device
-returns-clause-device g c = read_on g.D.BlockDevice c.cut.ensures.device c.release_base.ensures.device
+returns-clause-device g c = read_on g.D.BlockDevice c.cut.ensures.reading.device c.release_base.ensures.device
 
 pub returns-clause-cut : goal.returns-clause-cut
 returns-clause-cut g c =
     let now : Geometry = g.D.BlockDevice.geometry c.args.dev.now in
     let stored = c.args.stored in
     let d : Blocks = g.D.BlockDevice.blocks c.args.dev.now in
-    let read = c.cut.ensures.device in
+    let read = c.cut.ensures.reading.device in
     let all = c.release_base.ensures.device.same ∙ read.same in
     let some = c.requires.some in
     let within = c.requires.within in
@@ -54,7 +54,7 @@ returns-clause-front g c =
     let now : Geometry = g.D.BlockDevice.geometry c.args.dev.now in
     let stored = c.args.stored in
     let d : Blocks = g.D.BlockDevice.blocks c.args.dev.now in
-    let all = c.release_base.ensures.device.same ∙ c.cut.ensures.device.same in
+    let all = c.release_base.ensures.device.same ∙ c.cut.ensures.reading.device.same in
     let some = c.requires.some in
     let within = c.requires.within in
     let front = c.in_ok-head.ensures.front (base_list d now.block_size stored.head stored.size (omega arith) c.requires.stored.base) in

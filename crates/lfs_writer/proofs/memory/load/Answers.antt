@@ -55,17 +55,17 @@ loading-preserved g c =
       resting = record { geometry = inv.resting.geometry ∙ sym ((c.put.ensures.holds d).geometry); held = c.put.ensures.held };
       bytes = wrote ∙ ap (λ k. take k bytes) (sym size);
       few = omega arith;
-      device = read_on g.D.BlockDevice inv.device c.read_at.ensures.device;
-      quiet = quiet g.D.BlockDevice c.in_ok-count.ensures.faults ∙ inv.quiet;
+      device = read_on g.D.BlockDevice inv.device c.read_at.ensures.reading.device;
+      quiet = quiet g.D.BlockDevice c.in_ok-count.ensures.reading.faults ∙ inv.quiet;
     }
 
 pub returns-in_err-count-clause-device : goal.returns-in_err-count-clause-device
-returns-in_err-count-clause-device g c = read_on g.D.BlockDevice c.loading.invariant.device c.read_at.ensures.device
+returns-in_err-count-clause-device g c = read_on g.D.BlockDevice c.loading.invariant.device c.read_at.ensures.reading.device
 
 pub returns-in_err-count-clause-faults : goal.returns-in_err-count-clause-faults
 returns-in_err-count-clause-faults g c =
     let p = err_from_is_err_and c.from_residual-in_err-count.result c.from_residual-in_err-count.ensures.1 in
-    rw (p.1, p.2) (told_on g.D.BlockDevice c.loading.invariant.quiet (told_as g.D.BlockDevice c.in_err-count.ensures.faults))
+    rw (p.1, p.2) (told_on g.D.BlockDevice c.loading.invariant.quiet (told_as g.D.BlockDevice c.in_err-count.ensures.reading.faults))
 
 pub returns-in_err-count-clause-errors : goal.returns-in_err-count-clause-errors
 returns-in_err-count-clause-errors g c =
@@ -74,5 +74,5 @@ returns-in_err-count-clause-errors g c =
     let now : Geometry = g.D.BlockDevice.geometry c.args.dev.now in
     let test = c.loading-test.true in
     let p = err_from_is_err_and c.from_residual-in_err-count.result c.from_residual-in_err-count.ensures.1 in
-    rw (p.1, p.2) (not_corrupt {T = ℕ} _ c.in_err-count.ensures.errors (λ is. c.in_err-count.ensures.corrupt is
+    rw (p.1, p.2) (not_corrupt {T = ℕ} _ c.in_err-count.ensures.reading.errors (λ is. c.in_err-count.ensures.corrupt is
     (listed_on d (g.D.BlockDevice.blocks c.loading.dev) now (g.D.BlockDevice.geometry c.loading.dev) c.args.stored.head c.args.stored.size inv.device.same inv.device.geometry (let within = c.requires.within in omega arith) c.requires.base)))

@@ -35,12 +35,12 @@ release-requires g c =
     omega (arith, within, here, inv.done.count, c.requires.map)
 
 pub returns-in_err-block-clause-device : goal.returns-in_err-block-clause-device
-returns-in_err-block-clause-device g c = read_on g.D.BlockDevice c.freeing.invariant.device c.head_before.ensures.device
+returns-in_err-block-clause-device g c = read_on g.D.BlockDevice c.freeing.invariant.device c.head_before.ensures.reading.device
 
 pub returns-in_err-block-clause-faults : goal.returns-in_err-block-clause-faults
 returns-in_err-block-clause-faults g c =
     let p = err_from_is_err_and c.from_residual.result c.from_residual.ensures.1 in
-    rw (p.1, p.2) (told_on g.D.BlockDevice c.freeing.invariant.quiet (told_as g.D.BlockDevice c.in_err-block.ensures.faults))
+    rw (p.1, p.2) (told_on g.D.BlockDevice c.freeing.invariant.quiet (told_as g.D.BlockDevice c.in_err-block.ensures.reading.faults))
 
 pub returns-in_err-block-clause-errors : goal.returns-in_err-block-clause-errors
 returns-in_err-block-clause-errors g c =
@@ -50,7 +50,7 @@ returns-in_err-block-clause-errors g c =
     let shape = (g.met.D.BlockDevice.shape c.args.dev.now).count in
     let same = ap (λ (k : Geometry). k.block_count) inv.device.geometry in
     let p = err_from_is_err_and c.from_residual.result c.from_residual.ensures.1 in
-    rw (p.1, p.2) (never_corrupt {T = ℕ} _ c.in_err-block.ensures.errors (λ is.
+    rw (p.1, p.2) (never_corrupt {T = ℕ} _ c.in_err-block.ensures.reading.errors (λ is.
     next_there (g.D.BlockDevice.blocks c.args.dev.now) _ c.args.count c.args.head (c.freeing.index - 1) c.freeing.block _ inv.device.same c.requires.chain (omega arith) (inv.here (omega arith)) (omega arith)
     (c.in_err-block.ensures.corrupt is).0 (c.in_err-block.ensures.corrupt is).1))
 
@@ -72,8 +72,8 @@ freeing-preserved g c =
       here = λ some. next_is d _ count head (index - 1) c.freeing.block _ inv.device.same c.requires.chain some (omega arith) here (c.in_ok-block.ensures.word some);
       done = puts_here Free c.args.map.now c.freeing.map c.release.new.self d count head (index - 1) c.freeing.block (omega arith) here
           (subst (λ n. Puts Free c.args.map.now c.freeing.map (drop n (blocks_back d count head))) (sym next) inv.done) one;
-      device = read_on g.D.BlockDevice inv.device c.head_before.ensures.device;
-      quiet = quiet g.D.BlockDevice c.in_ok-block.ensures.faults ∙ inv.quiet;
+      device = read_on g.D.BlockDevice inv.device c.head_before.ensures.reading.device;
+      quiet = quiet g.D.BlockDevice c.in_ok-block.ensures.reading.faults ∙ inv.quiet;
     }
 
 pub returns-clause-others : goal.returns-clause-others

@@ -6,7 +6,7 @@ use Rattle.lfs_thread.proofs.thread.Thread.read_list.Goals as goal
 
 pub invariant_of-self : goal.invariant_of-self
 invariant_of-self g c works =
-    let e = c.read_at.ensures in (
+    let e = c.read_at.ensures.reading in (
       subst (λ d. IsKept d (g.D.BlockDevice.history c.read_at.new.dev) c.self.inside.pairs.items c.self.inside.map) (sym (ap₂ disk_of e.device.geometry e.device.same))
           (kept_read _ _ _ _ c.self.inside.pairs.items c.self.inside.map e.device.reads (c.self.invariant works).0),
       subst (λ bs. IsCurrent bs c.self.inside.cache) (sym e.device.same) (c.self.invariant works).1,

@@ -1,8 +1,8 @@
 // Sessions, begun over a device made empty or over an image.
 
-use crate::image::{Entries, Held, image_with};
 use lfs_device::{BlockDevice, Error, Geometry, RamDevice};
 use lfs_fs::{Session, format, mount};
+use lfs_tests::{Entries, Held, image_with};
 use std::alloc::Global;
 
 /// What a session begins over.

@@ -3,13 +3,13 @@
 use crate::answers::Answer::{Bytes, Count, Done, Fd, Items, Refused, Stat as StatIs};
 use crate::answers::{Answer, Row};
 use crate::begun::Start;
-use crate::image::Held;
 use crate::played::wrong_of;
 use lfs_device::Error;
 use lfs_fs::Op::{
     Close, GetAttr, List, Mkdir, Open, Read, Remount, RemoveAttr, Seek, Stat, UsedCount,
 };
 use lfs_fs::OpenFlags;
+use lfs_tests::Held;
 use std::alloc::Global;
 use std::test::Fail;
 

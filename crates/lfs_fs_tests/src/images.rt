@@ -3,11 +3,11 @@
 use crate::answers::Answer::{Bytes, Done, Fd, Items, Refused, Stat as StatIs};
 use crate::answers::{Answer, Row};
 use crate::begun::{Start, begun};
-use crate::image::{Entries, Held};
 use crate::played::{wrong_at_once, wrong_of};
 use lfs_device::Error;
 use lfs_fs::Op::{Close, GetAttr, List, Mkdir, Open, Read, RemoveAttr, Stat};
 use lfs_fs::OpenFlags;
+use lfs_tests::{Entries, Held};
 use std::alloc::Global;
 use std::test::Fail;
 

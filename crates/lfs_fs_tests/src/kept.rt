@@ -5,7 +5,6 @@ use crate::answers::Answer::{
 };
 use crate::answers::{Answer, Row};
 use crate::begun::Start;
-use crate::image::Held;
 use crate::played::wrong_of;
 use lfs_device::Error;
 use lfs_fs::Op::{
@@ -13,6 +12,7 @@ use lfs_fs::Op::{
     UsedCount, Write,
 };
 use lfs_fs::{Gstate, OpenFlags};
+use lfs_tests::Held;
 use std::alloc::Global;
 use std::test::Fail;
 

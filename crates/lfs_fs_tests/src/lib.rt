@@ -14,8 +14,6 @@ mod failing;
 #[cfg(test)]
 mod files;
 #[cfg(test)]
-mod image;
-#[cfg(test)]
 mod images;
 #[cfg(test)]
 mod kept;

@@ -2,10 +2,11 @@
 
 ghost use Rattle.std.specs.Prelude.{◌≡◌, false, true};
 
-use crate::image::{image_of, shifting_block};
+use crate::image::shifting_block;
 use crate::lines::is_ended;
 use crate::sources::source_of;
 use lfs_device::Geometry;
+use lfs_tests::image_of;
 use lfs_tool::{ToolError, Watched, list, unpack};
 use lfs_tool_create::create;
 use lfs_tool_source::{Listed, MemorySource, Source, SourceError};

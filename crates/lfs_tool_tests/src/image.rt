@@ -1,16 +1,8 @@
-// Images, in their tags and bytes.
+// The block in which a file moves from slot to slot.
 
+use lfs_tests::{Entries, first_block};
 use std::alloc::{AllocError, Global};
 
-// What a commit holds: each tag with its bytes.
-pub(crate) type Entries<'a> = &'a [(u32, &'a [u8])];
-
-// The superblock's struct: version 2.0, 16 blocks of 4,096 bytes, and three limits.
-const FIELDS: [u8; 24] = [
-    0, 0, 2, 0, 0, 16, 0, 0, 16, 0, 0, 0, 255, 0, 0, 0, 255, 255, 255, 127, 254, 3, 0, 0,
-];
-
-// Commits in which a file moves from slot to slot.
 const SHIFTING: [Entries<'static>; 4] = [
     &[(0x4010_0400, b""), (0x0010_0401, b"b"), (0x2010_0400, b"")],
     &[(0x4010_0400, b""), (0x0010_0401, b"a"), (0x2010_0400, b"")],
@@ -18,131 +10,6 @@ const SHIFTING: [Entries<'static>; 4] = [
     &[(0x3410_0401, b"x")],
 ];
 
-// The checksum, bit by bit.
-fn checksum(bytes: &[u8]) -> u32 {
-    let mut sum = 0xffff_ffffu32;
-    for byte in bytes {
-        sum ^= u32::from(*byte);
-        for _ in 0..8 {
-            sum = if sum & 1 == 1 {
-                sum >> 1 ^ 0xedb8_8320
-            } else {
-                sum >> 1
-            };
-        }
-    }
-    sum
-}
-
-// Adds a commit behind the last tag, up to the next page of 256 bytes, and gives its own last tag.
-fn push_commit(bytes: &mut Vec<u8>, last: u32, entries: Entries<'_>) -> Result<u32, AllocError> {
-    let start = match bytes.len() {
-        4 => 0,
-        len => len,
-    };
-    let mut last = last;
-    for (tag, data) in entries {
-        bytes.extend_from_slice(&(tag ^ last).to_be_bytes())?;
-        bytes.extend_from_slice(data)?;
-        last = *tag;
-    }
-    let used = (bytes.len() % 256 + 8) % 256;
-    let tag = 0x500f_fc04 + ((256 - used) % 256) as u32;
-    bytes.extend_from_slice(&(tag ^ last).to_be_bytes())?;
-    let sum = checksum(bytes.get(start..).unwrap_or_default());
-    bytes.extend_from_slice(&sum.to_le_bytes())?;
-    let end = bytes.len().next_multiple_of(256);
-    bytes.resize(end, 0xff)?;
-    Ok(tag)
-}
-
-// A block with the superblock in its first commit, and the last tag of that.
-fn begun(alloc: Global, revision: u32) -> Result<(Vec<u8>, u32), AllocError> {
-    let mut bytes = Vec::from_slice(alloc, &revision.to_le_bytes())?;
-    let superblock = [
-        (0x0ff0_0008, b"littlefs".as_slice()),
-        (0x2010_0018, &FIELDS),
-    ];
-    let last = push_commit(&mut bytes, 0xffff_ffff, &superblock)?;
-    Ok((bytes, last))
-}
-
-// A block with a commit of these behind the superblock's, where there are any.
-pub(crate) fn block_with(
-    alloc: Global,
-    revision: u32,
-    entries: Entries<'_>,
-) -> Result<Vec<u8>, AllocError> {
-    let (mut bytes, last) = begun(alloc, revision)?;
-    if !entries.is_empty() {
-        push_commit(&mut bytes, last, entries)?;
-    }
-    Ok(bytes)
-}
-
-// A block with one commit of these.
-fn block_of(alloc: Global, entries: Entries<'_>) -> Result<Vec<u8>, AllocError> {
-    let mut bytes = Vec::from_slice(alloc, &[1, 0, 0, 0])?;
-    push_commit(&mut bytes, 0xffff_ffff, entries)?;
-    Ok(bytes)
-}
-
-// What stands in a block: a commit, or bytes.
-#[derive(Clone, Copy)]
-pub(crate) enum Held<'a> {
-    Commit(Entries<'a>),
-    Bytes(&'a [u8]),
-}
-
-fn put(image: &mut [u8], block: usize, bytes: &[u8]) {
-    let start = block.saturating_mul(4096);
-    let end = start.saturating_add(bytes.len());
-    if let Some(place) = image.get_mut(start..end) {
-        place.copy_from_slice(bytes);
-    }
-}
-
-fn put_held(
-    alloc: Global,
-    image: &mut [u8],
-    block: usize,
-    held: Held<'_>,
-) -> Result<(), AllocError> {
-    match held {
-        Held::Commit(entries) => put(image, block, block_of(alloc, entries)?.as_slice()),
-        Held::Bytes(bytes) => put(image, block, bytes),
-    }
-    Ok(())
-}
-
-// An image of 16 blocks of 4,096 bytes: a second commit of its first block, and its other blocks.
-pub(crate) fn image_with(
-    alloc: Global,
-    entries: Entries<'_>,
-    others: &[(usize, Held<'_>)],
-) -> Result<Vec<u8>, AllocError> {
-    let first = block_with(alloc, 1, entries)?;
-    let mut image = image_of(alloc, first.as_slice(), &[])?;
-    for (block, held) in others {
-        put_held(alloc, image.as_mut_slice(), *block, *held)?;
-    }
-    Ok(image)
-}
-
-// The block in which a file moves from slot to slot.
 pub(crate) fn shifting_block(alloc: Global) -> Result<Vec<u8>, AllocError> {
-    let (mut bytes, mut last) = begun(alloc, 1)?;
-    for entries in SHIFTING {
-        last = push_commit(&mut bytes, last, entries)?;
-    }
-    Ok(bytes)
-}
-
-// An image of 16 blocks of 4,096 bytes, of which these are the first two.
-pub(crate) fn image_of(alloc: Global, first: &[u8], second: &[u8]) -> Result<Vec<u8>, AllocError> {
-    let mut image = Vec::from_slice(alloc, first)?;
-    image.resize(4096, 0xff)?;
-    image.extend_from_slice(second)?;
-    image.resize(65536, 0xff)?;
-    Ok(image)
+    first_block(alloc, 1, &SHIFTING)
 }

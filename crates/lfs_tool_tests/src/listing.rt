@@ -1,7 +1,8 @@
 // Images and what is listed of them.
 
-use crate::image::{Entries, block_with, image_of, shifting_block};
+use crate::image::shifting_block;
 use crate::shown::shown;
+use lfs_tests::{Entries, block_with, image_of};
 use std::alloc::{AllocError, Global};
 use std::test::Fail;
 

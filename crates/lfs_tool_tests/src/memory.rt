@@ -1,9 +1,10 @@
 // Each of these holds whichever allocation fails.
 
 use crate::files::words_of;
-use crate::image::{image_of, shifting_block};
+use crate::image::shifting_block;
 use crate::sources::source_of;
 use lfs_device::Geometry;
+use lfs_tests::image_of;
 use lfs_tool::{Fault, ToolError, Watched, list, report, unpack};
 use lfs_tool_create::create;
 use lfs_tool_files::answer;

@@ -1,7 +1,7 @@
 // Images of several blocks, and what is listed of them.
 
-use crate::image::{Entries, Held, image_with};
 use crate::shown::shown;
+use lfs_tests::{Entries, Held, image_with};
 use std::alloc::{AllocError, Global};
 use std::test::Fail;
 

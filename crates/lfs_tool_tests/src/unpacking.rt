@@ -2,9 +2,9 @@
 
 ghost use Rattle.std.specs.Prelude.{◌≡◌, IsErrOf, OnOk, true};
 
-use crate::image::{Entries, Held, image_with};
 use crate::lines::is_ended;
 use crate::shown::error_shown;
+use lfs_tests::{Entries, Held, image_with};
 use lfs_tool::{ToolError, Watched, unpack};
 use lfs_tool_target::{Done, MemoryTarget, Target, TargetError};
 use std::alloc::{AllocError, Global};

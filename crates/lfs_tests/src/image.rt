@@ -1,16 +1,9 @@
-// Images of 16 blocks of 4,096 bytes, in their tags and bytes.
+// Images of 16 blocks of 4,096 bytes, in their tags and bytes: nothing of the crates that read them makes them.
 
 use std::alloc::{AllocError, Global};
 
 /// What a commit holds: each tag with its bytes.
 pub type Entries<'a> = &'a [(u32, &'a [u8])];
-
-/// What stands in a block: a commit, or bytes.
-#[derive(Clone, Copy)]
-pub enum Held<'a> {
-    Commit(Entries<'a>),
-    Bytes(&'a [u8]),
-}
 
 // The superblock's struct: version 2.0, 16 blocks of 4,096 bytes, and three limits.
 const FIELDS: [u8; 24] = [
@@ -55,14 +48,37 @@ fn push_commit(bytes: &mut Vec<u8>, last: u32, entries: Entries<'_>) -> Result<u
     Ok(tag)
 }
 
-// A block with the superblock in its first commit, and a commit of these behind it.
-fn first_block(alloc: Global, entries: Entries<'_>) -> Result<Vec<u8>, AllocError> {
-    let mut bytes = Vec::from_slice(alloc, &[1, 0, 0, 0])?;
+// A block with the superblock in its first commit, and the last tag of that.
+fn begun(alloc: Global, revision: u32) -> Result<(Vec<u8>, u32), AllocError> {
+    let mut bytes = Vec::from_slice(alloc, &revision.to_le_bytes())?;
     let superblock = [
         (0x0ff0_0008, b"littlefs".as_slice()),
         (0x2010_0018, &FIELDS),
     ];
     let last = push_commit(&mut bytes, 0xffff_ffff, &superblock)?;
+    Ok((bytes, last))
+}
+
+/// A block with the superblock in its first commit, and these commits behind it.
+pub fn first_block(
+    alloc: Global,
+    revision: u32,
+    commits: &[Entries<'_>],
+) -> Result<Vec<u8>, AllocError> {
+    let (mut bytes, mut last) = begun(alloc, revision)?;
+    for entries in commits {
+        last = push_commit(&mut bytes, last, entries)?;
+    }
+    Ok(bytes)
+}
+
+/// A block with a commit of these behind the superblock's, where there are any.
+pub fn block_with(
+    alloc: Global,
+    revision: u32,
+    entries: Entries<'_>,
+) -> Result<Vec<u8>, AllocError> {
+    let (mut bytes, last) = begun(alloc, revision)?;
     if !entries.is_empty() {
         push_commit(&mut bytes, last, entries)?;
     }
@@ -74,6 +90,13 @@ fn block_of(alloc: Global, entries: Entries<'_>) -> Result<Vec<u8>, AllocError> 
     let mut bytes = Vec::from_slice(alloc, &[1, 0, 0, 0])?;
     push_commit(&mut bytes, 0xffff_ffff, entries)?;
     Ok(bytes)
+}
+
+/// What stands in a block: a commit, or bytes.
+#[derive(Clone, Copy)]
+pub enum Held<'a> {
+    Commit(Entries<'a>),
+    Bytes(&'a [u8]),
 }
 
 fn put(image: &mut [u8], block: usize, bytes: &[u8]) {
@@ -103,10 +126,19 @@ pub fn image_with(
     entries: Entries<'_>,
     others: &[(usize, Held<'_>)],
 ) -> Result<Vec<u8>, AllocError> {
-    let mut image = first_block(alloc, entries)?;
-    image.resize(65536, 0xff)?;
+    let first = block_with(alloc, 1, entries)?;
+    let mut image = image_of(alloc, first.as_slice(), &[])?;
     for (block, held) in others {
         put_held(alloc, image.as_mut_slice(), *block, *held)?;
     }
+    Ok(image)
+}
+
+/// An image of which these are the first two blocks.
+pub fn image_of(alloc: Global, first: &[u8], second: &[u8]) -> Result<Vec<u8>, AllocError> {
+    let mut image = Vec::from_slice(alloc, first)?;
+    image.resize(4096, 0xff)?;
+    image.extend_from_slice(second)?;
+    image.resize(65536, 0xff)?;
     Ok(image)
 }

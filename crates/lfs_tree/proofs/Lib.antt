@@ -30,6 +30,7 @@ pub mod CarryRooms
 pub mod CarryLogged
 pub mod CarryTold
 pub mod CarryCreated
+pub mod CreateExamples
 pub mod CarryEdited
 pub mod SameDirectory
 pub mod Shifted

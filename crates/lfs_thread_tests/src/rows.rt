@@ -46,16 +46,21 @@ fn commit_often<D: BlockDevice>(
     Ok(())
 }
 
-// How many erases so many commits behind a mount take, and the revisions of both blocks then.
-fn erases_of(alloc: Global, times: u32) -> Result<(u64, u8, u8), Error> {
+// A device behind so many commits of the thread that was read from it.
+fn committed(alloc: Global, times: u32) -> Result<FaultDevice<RamDevice>, Error> {
     let device = fresh(alloc, Geometry::new(4096, 256, 16)?)?;
-    let device = match Thread::read(alloc, device) {
+    match Thread::read(alloc, device) {
         Ok(mut thread) => {
             commit_often(alloc, &mut thread, times)?;
-            thread.into_device()
+            Ok(thread.into_device())
         }
-        Err((device, _)) => device,
-    };
+        Err((device, _)) => Ok(device),
+    }
+}
+
+// How many erases so many commits behind a mount take, and the revisions of both blocks then.
+fn erases_of(alloc: Global, times: u32) -> Result<(u64, u8, u8), Error> {
+    let device = committed(alloc, times)?;
     let bytes = device.inner().bytes();
     let first = bytes.first().copied().unwrap_or(0);
     let second = bytes.get(4096).copied().unwrap_or(0);
@@ -79,14 +84,7 @@ fn every_sixteenth_commit_erases(rt: HostRuntime) -> Result<(), Fail> {
 
 // How many reads a thread of one pair takes to come from a device, and so many commits then.
 fn reads_of(alloc: Global, times: u32) -> Result<u64, Error> {
-    let device = fresh(alloc, Geometry::new(4096, 256, 16)?)?;
-    let device = match Thread::read(alloc, device) {
-        Ok(mut thread) => {
-            commit_often(alloc, &mut thread, times)?;
-            thread.into_device()
-        }
-        Err((device, _)) => device,
-    };
+    let device = committed(alloc, times)?;
     Ok(device.calls(Which::Read))
 }
 

@@ -9,6 +9,10 @@ NULL = 0xffffffff
 HEAD = superblock(4096, 16)
 HI = inline(b"f", b"hi")
 SET_MOVE = 0x4ff00000
+# A log of a file `x` up to the middle of its checksum's entry, in 132 bytes: with 0xff behind them the checksum is right.
+NEARLY = bytes.fromhex(
+    "02000000F00FFFF76C6974746C6566732FE00010000002000010000010000000FF000000FFFFFF7FFE0300006000041840000001"
+    "78200000468639E6A0") + bytes(67) + bytes.fromhex("701FF83B")
 START = bytes.fromhex("01000000F00FFFF76C6974746C656673" "2FE000100000020000100000" "10000000FF000000FFFFFF7FFE030000" "701FFCC8")
 
 
@@ -155,6 +159,8 @@ def images():
     yield "the fourth checksum altered", altered(whole, 776), b"f 0 /a\nf 0 /b\n"
     yield "the first checksum altered", altered(whole, 48), "Corrupt"
     yield "an older block 1", whole[:4096] + fresh + whole[8192:], b"f 0 /b\n"
+    for what, behind, answer in ("0xff", b"\xff", b"f 71 /x\n"), ("zeros", b"\0", b"f 0 /b\n"):
+        yield f"{what} behind the half of a checksum", whole[:4096] + NEARLY.ljust(4096, behind) + whole[8192:], answer
     yield "cut to two blocks", whole[:8192], "Corrupt"
     yield "a block more", whole + bytes(4096), "Corrupt"
     yield "cut to 4,100 bytes", whole[:4100], "Invalid"

@@ -10,7 +10,7 @@ use Rattle.lfs_tool.specs.Listed.{IsBad, Lists, Refuses}
 abbrev pub most : ℕ
 most = 268435457
 
-image_fits : (block_size page : ℕ) (image : List ℕ) → IsImage block_size page image → length image < most
+pub image_fits : (block_size page : ℕ) (image : List ℕ) → IsImage block_size page image → length image < most
 image_fits block_size page image is =
     let g = is.geometry in
     let some : 0 < block_size = omega (arith, g.no_smaller) in
@@ -27,11 +27,6 @@ image_read : (block_size page : ℕ) (bytes items : List ℕ) → items ≡ take
 image_read block_size page bytes items read is =
     let short = image_fits block_size page bytes is in
     subst (IsImage block_size page) (sym (read ∙ take_all most bytes (omega arith))) is
-
-pub lists_read : (known : Option (List ℕ)) (block_size page : ℕ) (items text : List ℕ) → IfSome known (λ bytes. items ≡ take most bytes) → Lists block_size page items text
-    → IfSome known (λ bytes. Lists block_size page bytes text)
-lists_read None block_size page items text read h = tt
-lists_read (Some bytes) block_size page items text read h = subst (λ (i : List ℕ). Lists block_size page i text) (all_read block_size page bytes items read h.0) h
 
 refuses_bytes : (block_size page : ℕ) (bytes items : List ℕ) (e : Error) → items ≡ take most bytes → Refuses block_size page items e → Refuses block_size page bytes e
 refuses_bytes block_size page bytes items Invalid read h = λ is. h (image_read block_size page bytes items read is)

@@ -1,29 +1,19 @@
 -- What was found of a tree lists it.
-use Rattle.std.proofs.Common.{◌≡◌, ◌∙◌, ◌++◌, ◌/◌, ◌≤◌, ℕ, List, Some, [], ◌∷◌, ap, ap₂, arith, length, refl, sym}
+use Rattle.std.proofs.Common.{◌≡◌, ◌∙◌, ◌++◌, ◌≤◌, ℕ, List, Some, [], ◌∷◌, ap, ap₂, refl, sym}
 use Rattle.lfs_model.specs.Blocks.{IsDivided}
-use Rattle.lfs_model.specs.Disk.{Disk, IsImage, disk_of}
+use Rattle.lfs_model.specs.Disk.{Disk}
 use Rattle.lfs_model.specs.Listing.{Entry, escaped_text, line_head, line_of, lines_of, newline}
 use Rattle.lfs_model.specs.Slots.{Branch, Ctz, Inline, Struct}
 use Rattle.lfs_model.specs.Tree.{Node}
 use Rattle.lfs_model.specs.View.{view_in}
-use Rattle.lfs_model.proofs.Cuts.{IsDivided-cut}
 use Rattle.lfs_model.proofs.ListSizes.{length-bytes_of}
 use Rattle.lfs_tree.specs.Walk.{AllShow, Place, Shows, ShowsNode}
-use Rattle.lfs_device.specs.declared.error.Error.{Error}
-use Rattle.lfs_device.specs.declared.error.Error.TheVariants.{Corrupt, NoMemory}
-use Rattle.lfs_tool.specs.Listed.{HasLines, IsNotMounted, Lists, Refuses, line_at, line_with, lines_at, size_in}
+use Rattle.lfs_tool.specs.Listed.{HasLines, IsListed, line_at, line_with, lines_at, size_in}
 
-record HasSizes (disk : Disk) : Type 0 where
-  enough : 1024 ≤ disk.block_size
-  count : ℕ
-  divided : IsDivided disk.block_size count disk.blocks
-
-image_sizes : (block_size page : ℕ) (image : List ℕ) → IsImage block_size page image → HasSizes (disk_of block_size page image)
-image_sizes block_size page image is = record {
-  enough = is.geometry.no_smaller;
-  count = length image / block_size;
-  divided = IsDivided-cut block_size (length image / block_size) image (let g = is.geometry.no_smaller in omega (arith, g, is.whole));
-}
+pub record HasSizes (disk : Disk) : Type 0 where
+  pub enough : 1024 ≤ disk.block_size
+  pub count : ℕ
+  pub divided : IsDivided disk.block_size count disk.blocks
 
 abbrev line_for : List ℕ → Node → List ℕ
 line_for path node = line_head node ++ escaped_text path ++ newline
@@ -43,14 +33,7 @@ lines_shown disk sizes [] (e ∷ es) s = absurd s
 lines_shown disk sizes (p ∷ ps) [] s = absurd s
 lines_shown disk sizes (p ∷ ps) (e ∷ es) s = ap₂ (λ a b. a ++ b) (line_shown disk sizes p e s.0) (lines_shown disk sizes ps es s.1)
 
--- an image of which each place has its line is listed
-pub lists_from : (block_size page : ℕ) (image text : List ℕ) → IsImage block_size page image → HasLines (disk_of block_size page image) text → Lists block_size page image text
-lists_from block_size page image text is (ps, (accepted, (places, ((entries, (walk, shows)), lines)))) =
-    let disk = disk_of block_size page image in
-    (is, (view_in disk ps, ((ps, (accepted, refl)), (entries, (walk, lines ∙ lines_shown disk (image_sizes block_size page image is) places entries shows)))))
-
--- an image that isn't mounted is refused
-pub refuses_from : (block_size page : ℕ) (image : List ℕ) (e : Error) → IsImage block_size page image → IsNotMounted (disk_of block_size page image) e → Refuses block_size page image e
-refuses_from block_size page image Corrupt is h = (is, λ view (ps, (accepted, same)). h ps accepted)
-refuses_from block_size page image NoMemory is h = tt
-refuses_from block_size page image e is h = absurd h
+-- a disk of which each place has its line is listed
+pub listed_from : (disk : Disk) (text : List ℕ) → HasSizes disk → HasLines disk text → IsListed disk text
+listed_from disk text sizes (ps, (accepted, (places, ((entries, (walk, shows)), lines)))) =
+    (view_in disk ps, ((ps, (accepted, refl)), (entries, (walk, lines ∙ lines_shown disk sizes places entries shows))))

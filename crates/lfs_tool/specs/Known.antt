@@ -1,7 +1,8 @@
 -- What a failed call of a reader or a writer leaves.
-use Rattle.std.specs.Prelude.{◌≡◌, ◌≤◌, ℕ, Bool, true, List, Option, length, take}
+use Rattle.std.specs.Prelude.{◌≡◌, ◌≤◌, ◌⊎◌, ℕ, Bool, true, List, Option, length, take}
 use Rattle.std.specs.Io.KnownBytes.{Appends}
-use Rattle.lfs_device.specs.declared.error.Error.TheVariants.{NoMemory}
+use Rattle.lfs_device.specs.declared.error.Error.{Error}
+use Rattle.lfs_device.specs.declared.error.Error.TheVariants.{Corrupt, Invalid, NoMemory}
 use Rattle.lfs_tool.specs.declared.errors.ToolError.{ToolError}
 use Rattle.lfs_tool.specs.declared.errors.ToolError.TheVariants.{Fs, Input, Output}
 
@@ -9,8 +10,18 @@ use Rattle.lfs_tool.specs.declared.errors.ToolError.TheVariants.{Fs, Input, Outp
 abbrev pub AppendsBeginning : Option (List ℕ) → Option (List ℕ) → List ℕ → Type 0
 AppendsBeginning old new bytes = (n : ℕ) × (n ≤ length bytes) × Appends old new (take n bytes)
 
--- either the reader failed, or a growth was refused and the reader had not failed
+-- either the reader failed, or a growth was refused and the reader did not fail
 abbrev pub FailsToRead : ToolError → Bool → Bool → Type 0
 FailsToRead Input old new = new ≡ true
 FailsToRead Output old new = ⊥
 FailsToRead (Fs e) old new = (e ≡ NoMemory) × (new ≡ old)
+
+-- why an image isn't listed
+abbrev pub IsListError : Error → Type 0
+IsListError e = (e ≡ NoMemory) ⊎ (e ≡ Invalid) ⊎ (e ≡ Corrupt)
+
+-- either the reader failed, or it did not and an image is refused
+abbrev pub FailsToList : ToolError → Bool → Bool → Type 0
+FailsToList Input old new = new ≡ true
+FailsToList Output old new = ⊥
+FailsToList (Fs e) old new = IsListError e × (new ≡ old)

@@ -1,4 +1,5 @@
 pub mod Known
+pub mod Blocks
 pub mod Errors
 pub mod Ending
 pub mod Listed

@@ -30,6 +30,17 @@ pub enum Fault {
     Tool(ToolError),
 }
 
+impl From<Error> for ToolError {
+    ghost use Rattle.std.specs.Prelude.{◌≡◌};
+    ghost use Rattle.lfs_tool.specs.declared.errors.ToolError.TheVariants.{Fs};
+
+    ghost from_gives = { λ error e. e ≡ Fs error };
+
+    fn from(error: Error) -> Self {
+        ToolError::Fs(error)
+    }
+}
+
 impl ToolError {
     // The line that shows it.
     pub(crate) fn line(self) -> LineText

@@ -1,6 +1,7 @@
 //! The tool mklittlefs, over any reader and any writer.
 #![tactic(auto)]
 
+mod blocks;
 mod ending;
 mod errors;
 mod escape;

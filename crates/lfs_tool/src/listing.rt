@@ -1,50 +1,90 @@
-ghost use Rattle.std.specs.Prelude.{◌≡◌, ◌≢◌, ◌↔◌, ◌<◌, ◌^◌, IfErr, IfOk, IfSome, IsErrOf, OnOk, length, true, false};
+ghost use Rattle.std.specs.Prelude.{◌≡◌, ◌≢◌, ◌↔◌, ◌<◌, ◌≤◌, ◌^◌, List, ℕ, IfErr, IfOk, IfSome, IsErrOf, OnOk, length, true, false};
 ghost use Rattle.std.specs.Io.KnownBytes.{Appends, Keeps};
-ghost use Rattle.lfs_device.specs.RamDevice.{blocks_of, geometry_of};
+ghost use Rattle.lfs_excerpt.specs.Blocks.{HaveSize};
+ghost use Rattle.lfs_excerpt.specs.Device.{blocks_of, geometry_of};
 ghost use Rattle.lfs_device.specs.Shown.{disk_of as shown};
-ghost use Rattle.lfs_tool.specs.Known.{AppendsBeginning};
+ghost use Rattle.lfs_model.specs.Disk.{IsImage};
+ghost use Rattle.lfs_tool.specs.Blocks.{AreRead};
+ghost use Rattle.lfs_tool.specs.Known.{AppendsBeginning, FailsToList, IsListError};
 ghost use Rattle.lfs_tool.specs.Listed.{HasLines, IsNotMounted, Lists, Refuses};
 
-use crate::input::read_image;
+use crate::blocks::read_blocks;
 use crate::lines::lines_of;
-use crate::opening::{device_of, items_on};
+use crate::opening::{excerpt_of, items_of_excerpt};
 use crate::output::write_bytes;
 use crate::{ToolError, Watched};
-use lfs_device::{Error, RamDevice};
+use lfs_device::{Error, Geometry};
+use lfs_excerpt::{BlockExcerpt, Excerpt, excerpt_is_listed_alike};
 use std::alloc::Global;
 use std::io::{Read, Write};
 
-// The lines of a device in memory.
-fn lines_on(alloc: Global, device: RamDevice) -> Result<Vec<u8>, Error>
+// The lines of an excerpt.
+fn lines_on(alloc: Global, device: Excerpt) -> Result<Vec<u8>, Error>
     ensures lines { IfOk result (λ text. HasLines (shown (geometry_of device) (blocks_of device)) text.items) }
     ensures err { IfErr result (IsNotMounted (shown (geometry_of device) (blocks_of device))) }
 {
-    let (_thread, items) = items_on(alloc, device)?;
+    let (_thread, items) = items_of_excerpt(alloc, device)?;
     let text = lines_of(alloc, &items)?;
     Ok(text)
 }
 
-// The lines of an image.
-fn lines_of_image(
+// The lines of an image whose blocks were read.
+fn lines_of_blocks(
     alloc: Global,
-    image: Vec<u8>,
+    blocks: Vec<BlockExcerpt>,
     block_size: u32,
     page: u32,
 ) -> Result<Vec<u8>, Error>
-    requires { length image.items < 2 ^ 32 }
-    ensures ok { IfOk result (λ text. Lists block_size page image.items text.items) }
-    ensures err { IfErr result (Refuses block_size page image.items) }
+    requires many { length blocks.items < 2 ^ 32 }
+    requires sizes { HaveSize block_size blocks.items }
+    ensures ok { IfOk result (λ text. (bytes : List ℕ) → AreRead block_size bytes blocks.items → Lists block_size page bytes text.items) }
+    ensures err { IfErr result (λ e. (bytes : List ℕ) → AreRead block_size bytes blocks.items → Refuses block_size page bytes e) }
+    ensures kinds { IfErr result IsListError }
 {
-    let device = device_of(image, block_size, page)?;
-    lines_on(alloc, device)
+    excerpt_is_listed_alike();
+    match excerpt_of(blocks, block_size, page) {
+        Ok(excerpt) => lines_on(alloc, excerpt),
+        Err(error) => Err(error),
+    }
+}
+
+// `Invalid` where no image has blocks and pages of these sizes: the least has two blocks.
+fn check_sizes(block_size: u32, page: u32) -> Result<(), Error>
+    ensures ok { OnOk result (1024 ≤ block_size) }
+    ensures err { IfErr result (λ e. (e ≡ Error.Invalid) × ((bytes : List ℕ) → ¬ IsImage block_size page bytes)) }
+{
+    Geometry::new(block_size, page, 2)?;
+    Ok(())
+}
+
+// The lines of an image.
+fn read_lines<R: Read>(
+    alloc: Global,
+    image: &mut Watched<R>,
+    block_size: u32,
+    page: u32,
+) -> Result<Vec<u8>, ToolError>
+    ensures ok { IfOk result (λ text. IfSome (R.remaining image.old.inner) (λ bytes. Lists block_size page bytes text.items)) }
+    ensures refused { (e : _) → IsErrOf result (ToolError.Fs e) → IfSome (R.remaining image.old.inner) (λ bytes. Refuses block_size page bytes e) }
+    ensures kept { OnOk result (image.new.has_failed ≡ image.old.has_failed) }
+    ensures failed { IfErr result (λ e. FailsToList e image.old.has_failed image.new.has_failed) }
+{
+    check_sizes(block_size, page)?;
+    let Some(blocks) = read_blocks(alloc, image, block_size)? else {
+        return Err(ToolError::Fs(Error::Invalid));
+    };
+    let text = lines_of_blocks(alloc, blocks, block_size, page)?;
+    Ok(text)
 }
 
 /// Writes a line for each file and directory of an image, depth first and in name order, a directory
 /// before what stands in it: `f <size> <path>`, the size in bytes, or `d 0 <path>`. In a path `\` and
 /// each byte outside 0x20 to 0x7e stand as `\x` and two hexadecimal digits.
 ///
-/// The image is read to its end, or to the byte past the largest image, 268435456 bytes. `block_size`
-/// and `page` are in bytes. Nothing is written before the image is known to be good.
+/// The image is read to its end, a block at a time, or at most a block past the largest image's,
+/// 268435456 bytes; it isn't read where `block_size` or `page`, in bytes, is out of range. Of each
+/// block only what a listing needs is kept, which is mostly the first 132 bytes. Nothing is written
+/// before the image is known to be good.
 ///
 /// # Errors
 /// - `Input` where the reader failed.
@@ -68,13 +108,10 @@ pub fn list<R: Read, W: Write>(
         (text : _) × (Lists block_size page bytes text × AppendsBeginning (W.contents out.old.inner) (W.contents out.new.inner) text)) }
 
     // When each error comes.
-    ensures refused { (e : _) → IsErrOf result (ToolError.Fs e) → IfSome (R.remaining image.old.inner) (λ bytes. Refuses block_size page bytes e) }
+    ensures refused { (e : _) → IsErrOf result (ToolError.Fs e) → IsListError e × IfSome (R.remaining image.old.inner) (λ bytes. Refuses block_size page bytes e) }
     ensures input { image.old.has_failed ≡ false → IsErrOf result ToolError.Input ↔ (image.new.has_failed ≡ true) }
     ensures output { out.old.has_failed ≡ false → IsErrOf result ToolError.Output ↔ (out.new.has_failed ≡ true) }
 {
-    let bytes = read_image(alloc, image)?;
-    match lines_of_image(alloc, bytes, block_size, page) {
-        Ok(text) => write_bytes(out, text.as_slice()),
-        Err(error) => Err(ToolError::Fs(error)),
-    }
+    let text = read_lines(alloc, image, block_size, page)?;
+    write_bytes(out, text.as_slice())
 }

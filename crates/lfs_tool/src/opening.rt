@@ -1,15 +1,23 @@
 // Images as devices.
 
-ghost use Rattle.std.specs.Prelude.{◌≡◌, ◌<◌, ◌/◌, ◌%◌, ◌^◌, [], IfErr, IfOk, OnOk, length};
+ghost use Rattle.std.specs.Prelude.{◌≡◌, ◌<◌, ◌/◌, ◌%◌, ◌^◌, [], List, IfErr, IfOk, OnOk, length};
 ghost use Rattle.lfs_device.specs.RamDevice.{blocks_of, geometry_of, history_of};
 ghost use Rattle.lfs_device.specs.Shown.{disk_of as shown};
 ghost use Rattle.lfs_model.specs.Disk.{IsImage, disk_of};
 ghost use Rattle.lfs_model.specs.Geometry.{IsGeometry};
-ghost use Rattle.lfs_mount.specs.Accepted.{IsMounted};
+ghost use Rattle.lfs_model.specs.Thread.{Pair};
+ghost use Rattle.lfs_model.specs.View.{IsAccepted};
+ghost use Rattle.lfs_excerpt.specs.Blocks.{HaveSize};
+ghost use Rattle.lfs_excerpt.specs.Device as excerpt;
+ghost use Rattle.lfs_mount.specs.Device.{IsMountError};
+ghost use Rattle.lfs_thread.specs.Device.{GivesBack};
+ghost use Rattle.lfs_thread.specs.Kept.{disk_on};
+ghost use Rattle.lfs_tool.specs.Blocks.{IsShownAs};
 ghost use Rattle.lfs_tool.specs.Listed.{HasItems, IsNotMounted};
 ghost use Rattle.lfs_tree.specs.Walk.{founds_seen};
 
-use lfs_device::{Error, Geometry, RamDevice};
+use lfs_device::{BlockDevice, Error, Geometry, RamDevice};
+use lfs_excerpt::{BlockExcerpt, Excerpt, excerpt_is_read_without_fault};
 use lfs_mount::mount;
 use lfs_thread::Thread;
 use lfs_tree::{TreeItem, walk};
@@ -41,26 +49,66 @@ pub(crate) fn device_of(image: Vec<u8>, block_size: u32, page: u32) -> Result<Ra
     RamDevice::from_bytes(geometry, image)
 }
 
-// The thread of an image that is accepted.
-fn open(alloc: Global, device: RamDevice) -> Result<Thread<RamDevice>, Error>
-    ensures mounted { IfOk result (IsMounted (shown (geometry_of device) (blocks_of device)) (history_of device)) }
-    ensures err { IfErr result (IsNotMounted (shown (geometry_of device) (blocks_of device))) }
+// The device of an excerpt of an image. `Invalid` exactly where there are no images of such blocks.
+pub(crate) fn excerpt_of(
+    blocks: Vec<BlockExcerpt>,
+    block_size: u32,
+    page: u32,
+) -> Result<Excerpt, Error>
+    requires many { length blocks.items < 2 ^ 32 }
+    requires sizes { HaveSize block_size blocks.items }
+    ensures geometry { OnOk result (IsGeometry block_size page (length blocks.items)) }
+    ensures shown { IfOk result (λ e. IsShownAs block_size page blocks.items e) }
+    ensures err { IfErr result (λ e. (e ≡ Error.Invalid) × (¬ IsGeometry block_size page (length blocks.items))) }
 {
-    match mount(alloc, device) {
-        Ok(thread) => Ok(thread),
-        Err((_, error)) => Err(error),
-    }
+    let geometry = Geometry::new(block_size, page, blocks.len() as u32)?;
+    Ok(Excerpt::new(geometry, blocks))
 }
 
 // The thread of an image that is accepted, and all that stands in it.
-pub(crate) fn items_on(
+pub(crate) fn items_on<D: BlockDevice>(
+    alloc: Global,
+    device: D,
+) -> Result<(Thread<D>, Vec<TreeItem>), (D, Error)>
+    ensures items { IfOk result (λ found. HasItems (disk_on D.BlockDevice device) found.0 (founds_seen found.1.items)) }
+    ensures corrupt { IfErr result (λ e. e.1 ≡ Error.Corrupt → (ps : List Pair) → ¬ IsAccepted (disk_on D.BlockDevice device) ps) }
+    ensures errors { IfErr result (λ e. IsMountError e.1) }
+    ensures back { IfErr result (λ e. GivesBack D.BlockDevice device e.0 e.1) }
+{
+    let mut thread = mount(alloc, device)?;
+    match walk(alloc, &mut thread) {
+        Ok(items) => Ok((thread, items)),
+        Err(error) => Err((thread.into_device(), error)),
+    }
+}
+
+// The same of an excerpt.
+pub(crate) fn items_of_excerpt(
+    alloc: Global,
+    device: Excerpt,
+) -> Result<(Thread<Excerpt>, Vec<TreeItem>), Error>
+    ensures items { IfOk result (λ found. HasItems (shown (excerpt.geometry_of device) (excerpt.blocks_of device)) found.0 (founds_seen found.1.items)) }
+    ensures err { IfErr result (IsNotMounted (shown (excerpt.geometry_of device) (excerpt.blocks_of device))) }
+{
+    match items_on(alloc, device) {
+        Ok(found) => Ok(found),
+        Err((_device, error)) => {
+            excerpt_is_read_without_fault();
+            Err(error)
+        }
+    }
+}
+
+// The same of a device in memory.
+pub(crate) fn items_in_memory(
     alloc: Global,
     device: RamDevice,
 ) -> Result<(Thread<RamDevice>, Vec<TreeItem>), Error>
     ensures items { IfOk result (λ found. HasItems (shown (geometry_of device) (blocks_of device)) found.0 (founds_seen found.1.items)) }
     ensures err { IfErr result (IsNotMounted (shown (geometry_of device) (blocks_of device))) }
 {
-    let mut thread = open(alloc, device)?;
-    let items = walk(alloc, &mut thread)?;
-    Ok((thread, items))
+    match items_on(alloc, device) {
+        Ok(found) => Ok(found),
+        Err((_device, error)) => Err(error),
+    }
 }

@@ -13,7 +13,7 @@ ghost use Rattle.lfs_tree.specs.Items.{structure_seen};
 ghost use Rattle.lfs_tree.specs.Walk.{found_seen, founds_seen};
 
 use crate::input::read_image;
-use crate::opening::{device_of, items_on};
+use crate::opening::{device_of, items_in_memory};
 use crate::{ToolError, Watched};
 use lfs_device::{Error, RamDevice};
 use lfs_thread::Thread;
@@ -108,7 +108,7 @@ fn unpack_on<T: Target>(alloc: Global, device: RamDevice, target: &mut T) -> Res
     ensures output { IsErrOf result ToolError.Output → T.has_failed target.new ≡ true }
     ensures quiet { ¬ IsErrOf result ToolError.Output → T.has_failed target.new ≡ T.has_failed target.old }
 {
-    match items_on(alloc, device) {
+    match items_in_memory(alloc, device) {
         Ok((mut thread, items)) => put_items(alloc, &mut thread, &items, target),
         Err(error) => Err(ToolError::Fs(error)),
     }

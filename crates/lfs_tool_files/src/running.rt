@@ -8,8 +8,11 @@ use lfs_tool::{Fault, Line, LineError, Mode, ToolError, Watched, list, read_line
 use lfs_tool_target::TargetFolder;
 use std::fs::File;
 use std::io;
-use std::io::{ErrorKind, Write};
+use std::io::{BufReader, ErrorKind, Write};
 use std::rt::Files;
+
+// How many bytes of an image that is listed are read at once.
+const READ_AHEAD: usize = 65_536;
 
 fn list_image<R: Files + AllocGlobal, W: Write>(
     rt: &R,
@@ -19,7 +22,10 @@ fn list_image<R: Files + AllocGlobal, W: Write>(
     let Ok(file) = File::open(rt, line.image) else {
         return Err(ToolError::Input);
     };
-    let mut image = Watched::new(file);
+    let Ok(reader) = BufReader::with_capacity(rt.alloc(), READ_AHEAD, file) else {
+        return Err(ToolError::Fs(Error::NoMemory));
+    };
+    let mut image = Watched::new(reader);
     list(rt.alloc(), &mut image, line.block_size, line.page, out)
 }
 

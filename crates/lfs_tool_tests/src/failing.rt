@@ -22,10 +22,11 @@ const INPUT: &str = "error: input\n";
 
 const OUTPUT: &str = "error: output\n";
 
-// Gives at most 30,000 bytes a call, and fails at the call `fails_at`.
+// Gives at most so many bytes a call, and fails at the call `fails_at`.
 #[derive(Drop)]
 struct Faulty<'a> {
     left: &'a [u8],
+    most: usize,
     calls: u32,
     fails_at: u32,
 }
@@ -36,7 +37,7 @@ impl Read for Faulty<'_> {
         if self.calls == self.fails_at {
             return Err(io::Error::other("no"));
         }
-        let n = self.left.len().min(30000);
+        let n = self.left.len().min(self.most);
         let mut part = &self.left[..n];
         let given = part.read(buf)?;
         self.left = &self.left[given.min(n)..];
@@ -58,6 +59,7 @@ fn read_badly(
 ) -> (Result<(), ToolError>, bool, Vec<u8>) {
     let mut image = Watched::new(Faulty {
         left: image,
+        most: 3000,
         calls: 0,
         fails_at,
     });
@@ -69,10 +71,10 @@ fn read_badly(
 #[test]
 fn a_failing_reader_is_told(rt: HostRuntime) -> Result<(), Fail> {
     let image = shifting_image(rt.alloc())?;
-    // The image is read in three calls, and a fourth finds its end.
-    for fails_at in 0..7u32 {
+    // Each of 16 blocks is read in two calls, and a further call finds the image's end.
+    for fails_at in 0..36u32 {
         let (result, has_failed, lines) = read_badly(rt.alloc(), image.as_slice(), fails_at);
-        let is_told = if (1..=4).contains(&fails_at) {
+        let is_told = if (1..=33).contains(&fails_at) {
             is_ended(rt.alloc(), result, 3, INPUT) && has_failed && lines.is_empty()
         } else {
             result == Ok(()) && !has_failed && lines.as_slice() == LINES
@@ -90,6 +92,7 @@ fn unpacked_badly(
 ) -> (Result<(), ToolError>, bool, usize) {
     let mut image = Watched::new(Faulty {
         left: image,
+        most: 30000,
         calls: 0,
         fails_at,
     });
@@ -103,6 +106,7 @@ fn unpacked_badly(
 #[test]
 fn a_failing_reader_of_an_unpacking_is_told(rt: HostRuntime) -> Result<(), Fail> {
     let image = shifting_image(rt.alloc())?;
+    // The image is read in three calls, and a fourth finds its end.
     for fails_at in 0..7u32 {
         let (result, has_failed, count) = unpacked_badly(rt.alloc(), image.as_slice(), fails_at);
         let is_told = if (1..=4).contains(&fails_at) {

@@ -28,7 +28,7 @@ struct Run {
     image: Image,
 }
 
-const RUNS: [Run; 19] = [
+const RUNS: [Run; 20] = [
     Run {
         words: &["-c", "runs/files", "runs/image"],
         status: 0,
@@ -192,6 +192,14 @@ const RUNS: [Run; 19] = [
         status: 3,
         out: "",
         err: "error: input\n",
+        image: Image::Old,
+    },
+    // a folder can't be read, and isn't where no image has such blocks
+    Run {
+        words: &["-l", "-b", "3", "runs/files"],
+        status: 1,
+        out: "",
+        err: "error: Invalid (22)\n",
         image: Image::Old,
     },
 ];

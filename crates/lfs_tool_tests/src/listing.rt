@@ -97,6 +97,16 @@ const SECONDS: [(u32, Entries<'static>, &str); 2] = [
     (2, &[(0x0010_0401, b"c"), (0x2010_0400, b"")], "f 0 /c\n"),
 ];
 
+// A log of a file `x` up to the middle of its checksum's entry: its first bytes, 67 zeros, and its last bytes. With 0xff
+// behind them the checksum is right.
+const NEARLY: &[u8] =
+    b"\x02\0\0\0\xf0\x0f\xff\xf7littlefs\x2f\xe0\0\x10\0\0\x02\0\0\x10\0\0\x10\0\0\0\xff\0\0\0\xff\xff\xff\x7f\xfe\x03\0\0\x60\0\x04\x18\x40\0\0\x01x\x20\0\0\x46\x86\x39\xe6\xa0";
+
+const NEARLY_END: &[u8] = b"\x70\x1f\xf8\x3b";
+
+// A byte behind them, and what is listed.
+const BEHIND: [(u8, &str); 2] = [(0xff, "f 71 /x\n"), (0, "f 0 /b\n")];
+
 // A byte of the image in which a file moves, the bits in it that are flipped, and what is listed.
 const FLIPPED: [(usize, u8, &str); 4] = [
     (0, 0, "f 0 /b\n"),
@@ -167,6 +177,30 @@ fn a_first_block_without_a_commit(rt: HostRuntime) -> Result<(), Fail> {
     let second = block_with(rt.alloc(), revision, entries)?;
     let image = image_of(rt.alloc(), &[0; 4], second.as_slice())?;
     assert!(rt; lists(rt.alloc(), image.as_slice(), text)?);
+    Ok(())
+}
+
+// The block that is nearly a log, with a byte behind its first 132 bytes.
+fn nearly(alloc: Global, byte: u8) -> Result<Vec<u8>, AllocError> {
+    let mut block = Vec::from_slice(alloc, NEARLY)?;
+    block.resize(128, 0)?;
+    block.extend_from_slice(NEARLY_END)?;
+    block.resize(4096, byte)?;
+    Ok(block)
+}
+
+fn lists_nearly(alloc: Global, byte: u8, text: &str) -> Result<bool, AllocError> {
+    let first = shifting_block(alloc)?;
+    let second = nearly(alloc, byte)?;
+    let image = image_of(alloc, first.as_slice(), second.as_slice())?;
+    lists(alloc, image.as_slice(), text)
+}
+
+#[test]
+fn a_block_that_is_nearly_a_log(rt: HostRuntime) -> Result<(), Fail> {
+    for (byte, text) in BEHIND {
+        assert!(rt; lists_nearly(rt.alloc(), byte, text)?, "{byte}");
+    }
     Ok(())
 }
 

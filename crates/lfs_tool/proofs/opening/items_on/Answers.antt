@@ -1,19 +1,33 @@
-use Rattle.std.proofs.Common.{◌∙◌, subst, sym}
-use Rattle.lfs_device.specs.RamDevice.{blocks_of, geometry_of}
-use Rattle.lfs_device.specs.Shown.{disk_of as shown}
+use Rattle.std.proofs.Common.{◌∙◌, Err, ap, arith, subst, sym}
+use Rattle.lfs_thread.specs.Kept.{disk_on}
+use Rattle.lfs_model.specs.History.{OnlyReads, faults}
+use Rattle.lfs_model.proofs.Histories.{goes_on_by}
 use Rattle.lfs_model.specs.View.{IsAccepted}
 use Rattle.lfs_tree.specs.Walk.{IsWalked, founds_seen}
 use Rattle.lfs_tool.proofs.opening.items_on.Goals as goal
 
-pub returns-clause-items : goal.returns-clause-items
-returns-clause-items c =
-    let disk = shown (geometry_of c.args.device) (blocks_of c.args.device) in
-    let places = founds_seen c.in_ok-items.items.items in
+pub returns-in-Ok-clause-items : goal.returns-in-Ok-clause-items
+returns-in-Ok-clause-items g c =
+    let disk = disk_on g.D.BlockDevice c.args.device in
+    let places = founds_seen c.in-Ok.items.items in
     let m = c.in_ok-thread.ensures.mounted in
-    let e = c.in_ok-items.ensures in
+    let e = c.in-Ok.ensures in
     record {
       works = e.reading.works;
       disk_is = e.reading.only.disk ∙ m.disk_is;
       accepted = subst (IsAccepted disk) (sym e.reading.only.pairs) m.accepted;
       walked = subst (λ ps. IsWalked disk ps places) (sym e.reading.only.pairs) (subst (λ d. IsWalked d c.in_ok-thread.thread.kept.pairs places) m.disk_is e.walked);
+    }
+
+pub returns-in-Err-clause-back : goal.returns-in-Err-clause-back
+returns-in-Err-clause-back g c =
+    let disk = disk_on g.D.BlockDevice c.args.device in
+    let m = c.in_ok-thread.ensures.mounted in
+    let e = c.in-Err.ensures.reading in
+    let history = c.into_device.ensures.history in
+    record {
+      disk = c.into_device.ensures.disk ∙ e.only.disk ∙ m.disk_is;
+      reads = subst (OnlyReads disk.blocks (g.D.BlockDevice.history c.args.device)) (sym history) (goes_on_by m.reads (subst (λ d. OnlyReads d.blocks c.in_ok-thread.thread.kept.history c.walk.new.thread.kept.history) m.disk_is e.only.reads));
+      fault = λ io. let more = e.told.fault (ap Err io) in omega (arith, more, m.no_fault, ap faults history);
+      no_fault = λ other. ap faults history ∙ e.told.no_fault (λ io. other (cc)) ∙ m.no_fault;
     }

@@ -1,4 +1,4 @@
-use Rattle.std.proofs.Common.{◌≡◌, ◌∙◌}
+use Rattle.std.proofs.Common.{◌∙◌}
 use Rattle.lfs_tool.proofs.ActionsDone.{at_error, begun_item, done_item, list_at, only_trans}
 use Rattle.lfs_tool.proofs.unpacking.put_items.Goals as goal
 

@@ -1,4 +1,4 @@
-use Rattle.std.proofs.Common.{ap, subst, sym}
+use Rattle.std.proofs.Common.{subst, sym}
 use Rattle.std.proofs.lemmas.Result.{on_ok_weaker}
 use Rattle.lfs_device.specs.RamDevice.{blocks_of, geometry_of}
 use Rattle.lfs_device.specs.Shown.{disk_of as shown}

@@ -1,0 +1,5 @@
+pub mod Alike
+pub mod Accepted
+pub mod Listed
+pub mod Padded
+pub mod Calls

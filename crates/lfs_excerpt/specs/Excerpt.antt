@@ -1,0 +1,40 @@
+-- What a listing needs of a disk: its logs, and the pointers of its skip lists.
+use Rattle.std.specs.Prelude.{ℕ, ◌≡◌, ◌⊎◌, ◌-◌, ◌||◌, if◌then◌else◌, Bool, false, List, [], ◌∷◌, ◌++◌, length, replicate, take}
+use Rattle.lfs_model.specs.Blocks.{Blocks}
+use Rattle.lfs_model.specs.Content.{has_commit}
+use Rattle.lfs_model.specs.Disk.{Disk}
+
+-- no less than what pointers take in a block of a skip list: 33 of four bytes are the most that the definitions allow
+abbrev pub pointer_bytes : ℕ
+pointer_bytes = 132
+
+-- One block for another: of the same size, and with the same pointers if it is a skip list's. Where either has a commit, they
+-- are the same.
+pub record IsBlockExcerpt (block excerpt : List ℕ) : Type 0 where
+  pub size : length excerpt ≡ length block
+  pub pointers : take pointer_bytes excerpt ≡ take pointer_bytes block
+  pub log : (excerpt ≡ block) ⊎ ((has_commit block ≡ false) × (has_commit excerpt ≡ false))
+
+-- each block for another
+abbrev pub AreExcerpts : Blocks → Blocks → Type 0
+AreExcerpts [] [] = Unit {0}
+AreExcerpts [] (e ∷ excerpts) = ⊥
+AreExcerpts (b ∷ blocks) [] = ⊥
+AreExcerpts (b ∷ blocks) (e ∷ excerpts) = IsBlockExcerpt b e × AreExcerpts blocks excerpts
+
+-- a disk whose blocks are excerpts of the other's, of the same size
+pub record IsExcerpt (disk excerpt : Disk) : Type 0 where
+  pub block_size : excerpt.block_size ≡ disk.block_size
+  pub blocks : AreExcerpts disk.blocks excerpt.blocks
+
+-- these bytes, and then erased ones up to a size
+abbrev pub padded : ℕ → List ℕ → List ℕ
+padded size bytes = bytes ++ replicate (size - length bytes) 255
+
+-- a block is kept whole where it has a commit, or would have one with erased bytes behind its first ones
+abbrev pub is_kept_whole : List ℕ → Bool
+is_kept_whole block = has_commit block || has_commit (padded (length block) (take pointer_bytes block))
+
+-- how many of a block's bytes are kept
+abbrev pub kept_bytes : List ℕ → ℕ
+kept_bytes block = if is_kept_whole block then length block else pointer_bytes

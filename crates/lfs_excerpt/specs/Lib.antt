@@ -1,0 +1,4 @@
+pub mod Excerpt
+pub mod Blocks
+pub mod Device
+pub mod Shown

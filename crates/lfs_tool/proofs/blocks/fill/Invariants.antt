@@ -1,0 +1,14 @@
+use Rattle.std.proofs.Common.{◌≡◌, ◌-◌, ◌≤◌, length, take}
+use Rattle.std.specs.Io.KnownBytes.{Consumes}
+use Rattle.lfs_tool.proofs.blocks.fill.Given as goal
+
+abbrev pub invariant-loop-len : goal.invariant-loop-len
+invariant-loop-len g l = record {
+  within : l.len ≤ length l.buffer;
+  size : length l.buffer ≡ length l.initial.buffer;
+  same : l.image.has_failed ≡ l.initial.image.has_failed;
+  read : Consumes (g.R.Read.remaining l.initial.image.inner) (g.R.Read.remaining l.image.inner) (take l.len l.buffer);
+}
+
+abbrev pub decreases-loop-len : goal.decreases-loop-len
+decreases-loop-len g l = length l.buffer - l.len

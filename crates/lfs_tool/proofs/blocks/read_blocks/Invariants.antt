@@ -1,0 +1,18 @@
+use Rattle.std.proofs.Common.{◌≡◌, ◌+◌, ◌-◌, ◌*◌, ◌≤◌, length}
+use Rattle.lfs_excerpt.specs.Blocks.{HaveSize}
+use Rattle.lfs_excerpt.specs.Device.{size_of}
+use Rattle.lfs_tool.proofs.BlockReads.{HasRead}
+use Rattle.lfs_tool.proofs.blocks.read_blocks.Given as goal
+
+abbrev pub invariant-loop-alloc : goal.invariant-loop-alloc
+invariant-loop-alloc g l = record {
+  cuts : size_of l.cutter ≡ l.block_size;
+  room : length l.block.items ≡ l.block_size;
+  sizes : HaveSize l.block_size l.blocks.items;
+  within : l.block_size * length l.blocks.items ≤ 268435456 + l.block_size;
+  same : l.image.has_failed ≡ l.initial.image.has_failed;
+  read : HasRead l.block_size (g.R.Read.remaining l.initial.image.inner) (g.R.Read.remaining l.image.inner) l.blocks.items;
+}
+
+abbrev pub decreases-loop-alloc : goal.decreases-loop-alloc
+decreases-loop-alloc g l = 268435456 + l.block_size - l.block_size * length l.blocks.items

@@ -1,0 +1,32 @@
+-- What is read of an image block by block.
+use Rattle.std.specs.Prelude.{ℕ, ◌≡◌, ◌≤◌, ◌<◌, ◌*◌, List, [], ◌∷◌, ◌++◌, Option, length, take}
+use Rattle.std.specs.Io.KnownBytes.{Consumes, IsAtEnd}
+use Rattle.lfs_excerpt.specs.declared.block.BlockExcerpt.{BlockExcerpt}
+use Rattle.lfs_excerpt.specs.Blocks.{block_shown, blocks_shown}
+use Rattle.lfs_device.specs.Shown.{disk_of}
+use Rattle.lfs_excerpt.specs.declared.excerpt.Excerpt.{Excerpt}
+use Rattle.lfs_excerpt.specs.Device.{blocks_of, geometry_of}
+use Rattle.lfs_excerpt.specs.Excerpt.{AreExcerpts, IsBlockExcerpt}
+use Rattle.lfs_model.specs.Blocks.{cut}
+
+-- the first n bytes of the buffer are the next known ones; where they don't fill it there are no more
+pub record Fills (old new : Option (List ℕ)) (n : ℕ) (buffer : List ℕ) : Type 0 where
+  pub within : n ≤ length buffer
+  pub read : Consumes old new (take n buffer)
+  pub last : n < length buffer → IsAtEnd new
+
+-- the bytes are whole blocks, and these are excerpts of them
+pub record AreRead (size : ℕ) (bytes : List ℕ) (blocks : List BlockExcerpt) : Type 0 where
+  pub whole : length bytes ≡ size * length blocks
+  pub excerpts : AreExcerpts (cut size (length blocks) bytes) (blocks_shown blocks)
+
+-- behind the old blocks comes an excerpt of this one
+pub record IsPushed (block : List ℕ) (old new : List BlockExcerpt) : Type 0 where
+  pub kept : BlockExcerpt
+  pub is : new ≡ old ++ kept ∷ []
+  pub excerpt : IsBlockExcerpt block (block_shown kept)
+  pub size : kept.size ≡ length block
+
+-- the device shows these blocks, of that size and in such pages
+pub record IsShownAs (block_size page : ℕ) (blocks : List BlockExcerpt) (e : Excerpt) : Type 0 where
+  pub disk : disk_of (geometry_of e) (blocks_of e) ≡ record { block_size = block_size; page = page; blocks = blocks_shown blocks }

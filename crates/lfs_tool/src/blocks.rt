@@ -1,0 +1,91 @@
+// Images read block by block, of which what a listing needs is kept.
+
+ghost use Rattle.std.specs.Prelude.{◌≡◌, ◌≤◌, ◌*◌, IfErr, IfOk, IfSome, OnOk, None, length, true};
+ghost use Rattle.lfs_excerpt.specs.Blocks.{HaveSize};
+ghost use Rattle.lfs_model.specs.Disk.{IsImage};
+ghost use Rattle.lfs_excerpt.specs.Device.{size_of};
+ghost use Rattle.lfs_tool.specs.Blocks.{AreRead, Fills, IsPushed};
+ghost use Rattle.lfs_tool.specs.Known.{FailsToRead};
+
+use crate::input::IMAGE_MAX;
+use crate::{ToolError, Watched};
+use lfs_device::Error;
+use lfs_excerpt::{BlockExcerpt, Cutter};
+use std::alloc::Global;
+use std::io::Read;
+
+// Fills the buffer, or its beginning where the image ends in it. Gives how many bytes were read.
+fn fill<R: Read>(image: &mut Watched<R>, buffer: &mut [u8]) -> Result<usize, ToolError>
+    ensures bytes { IfOk result (λ n. Fills (R.remaining image.old.inner) (R.remaining image.new.inner) n buffer.new) }
+    ensures len { length buffer.new ≡ length buffer.old }
+    ensures kept { OnOk result (image.new.has_failed ≡ image.old.has_failed) }
+    ensures err { IfErr result (λ e. (e ≡ ToolError.Input) × (image.new.has_failed ≡ true)) }
+{
+    let mut len = 0;
+    while len < buffer.len() {
+        match image.read(&mut buffer[len..]) {
+            Ok(0) => break,
+            Ok(n) => len += n,
+            Err(_) => return Err(ToolError::Input),
+        }
+    }
+    Ok(len)
+}
+
+// Reads to the end. Gives no blocks where what was read isn't a whole number of them, or more than an
+// image may have.
+pub(crate) fn read_blocks<R: Read>(
+    alloc: Global,
+    image: &mut Watched<R>,
+    block_size: u32,
+) -> Result<Option<Vec<BlockExcerpt>>, ToolError>
+    requires { 1024 ≤ block_size }
+    ensures blocks { IfOk result (λ found. IfSome found (λ blocks. IfSome (R.remaining image.old.inner) (λ bytes. AreRead block_size bytes blocks.items))) }
+    ensures sizes { IfOk result (λ found. IfSome found (λ blocks. HaveSize block_size blocks.items × (block_size * length blocks.items ≤ IMAGE_MAX))) }
+    ensures none { IfOk result (λ found. found ≡ None → IfSome (R.remaining image.old.inner) (λ bytes. (page : _) → ¬ IsImage block_size page bytes)) }
+    ensures kept { OnOk result (image.new.has_failed ≡ image.old.has_failed) }
+    ensures err { IfErr result (λ e. FailsToRead e image.old.has_failed image.new.has_failed) }
+{
+    let size = block_size as usize;
+    let (mut cutter, mut block) = room_for(alloc, size)?;
+    let mut blocks = Vec::new(alloc);
+    while size * blocks.len() <= IMAGE_MAX {
+        let n = fill(image, &mut block)?;
+        if n == 0 {
+            return Ok(Some(blocks));
+        }
+        if n < size {
+            return Ok(None);
+        }
+        push_block(alloc, &mut cutter, &block, &mut blocks)?;
+    }
+    Ok(None)
+}
+
+// What cuts blocks of so many bytes, and the room for one.
+fn room_for(alloc: Global, size: usize) -> Result<(Cutter, Vec<u8>), Error>
+    requires { 1024 ≤ size }
+    ensures sizes { IfOk result (λ room. (size_of room.0 ≡ size) × (length room.1.items ≡ size)) }
+    ensures err { IfErr result (λ e. e ≡ Error.NoMemory) }
+{
+    let cutter = Cutter::new(alloc, size)?;
+    let block = Vec::from_elem(alloc, 0u8, size)?;
+    Ok((cutter, block))
+}
+
+// Keeps an excerpt of one more block.
+fn push_block(
+    alloc: Global,
+    cutter: &mut Cutter,
+    block: &[u8],
+    blocks: &mut Vec<BlockExcerpt>,
+) -> Result<(), Error>
+    requires { length block.now ≡ size_of cutter.old }
+    ensures pushed { OnOk result (IsPushed block.now blocks.old.items blocks.new.items) }
+    ensures same { size_of cutter.new ≡ size_of cutter.old }
+    ensures err { IfErr result (λ e. e ≡ Error.NoMemory) }
+{
+    let kept = cutter.cut(alloc, block)?;
+    blocks.push(kept)?;
+    Ok(())
+}

@@ -21,7 +21,7 @@ use Rattle.lfs_device.specs.declared.error.Error.{Error}
 use Rattle.lfs_device.specs.declared.error.Error.TheVariants.{Io, NoMemory}
 use Rattle.lfs_model.specs.Headline.{is_question}
 use Rattle.lfs_model.proofs.Turns.{not_remount}
-use Rattle.lfs_tree.specs.Refusals.{is_refusal, refusal_in}
+use Rattle.lfs_lookup.specs.Refusals.{is_refusal, refusal_in}
 use Rattle.lfs_fs.specs.Replies.{reply_in}
 use Rattle.lfs_tree.specs.Seen.{Seen, tree_seen, around_of, IsSound, IsAsked, IsBroken, IsError, IsCarried}
 use Rattle.lfs_model.specs.BlockSets.{IsInFlight}

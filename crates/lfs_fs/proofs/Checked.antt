@@ -13,14 +13,14 @@ use Rattle.lfs_model.specs.Session.{is_allowed, is_long, parent_fault, readers, 
 use Rattle.lfs_model.specs.Refusals.{as_path}
 use Rattle.lfs_model.specs.Effects.{size_of}
 use Rattle.lfs_device.specs.declared.error.Error.{Error}
-use Rattle.lfs_tree.specs.Refusals.{error_for}
+use Rattle.lfs_lookup.specs.Refusals.{error_for}
 use Rattle.lfs_fs.specs.Replies.{passed_with}
 use Rattle.lfs_tree.specs.Seen.{Seen, tree_seen, around_of, IsAsked, IsBrokenAsking, IsError}
 use Rattle.lfs_tree.specs.Allowed.{CanMake}
 use Rattle.lfs_model.specs.BlockSets.{in_flight_count}
-use Rattle.lfs_tree.specs.Finds.{Finds, is_absent, is_directory_node, size_in}
+use Rattle.lfs_lookup.specs.Finds.{Finds, is_absent, is_directory_node, size_in}
 use Rattle.lfs_fs.specs.Held.{Held, IsReadable, refused_by, EndsChecks, Checks}
-use Rattle.lfs_tree.specs.declared.finding.Finding.{Finding}
+use Rattle.lfs_lookup.specs.declared.finding.Finding.{Finding}
 use Rattle.lfs_fs.proofs.Answered.{not_failed, not_refused, no_refusal_io}
 use Rattle.lfs_fs.proofs.Errors.{error_refuses, refusal_again}
 

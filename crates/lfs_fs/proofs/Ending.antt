@@ -10,7 +10,7 @@ use Rattle.lfs_model.specs.Operations.{Failed, Operation, Refusal, Reply}
 use Rattle.lfs_model.specs.Refusals.{refusal_of}
 use Rattle.lfs_model.specs.Session.{Files}
 use Rattle.lfs_model.specs.State.{is_remount}
-use Rattle.lfs_tree.specs.Refusals.{is_refusal, refusal_in}
+use Rattle.lfs_lookup.specs.Refusals.{is_refusal, refusal_in}
 use Rattle.lfs_tree.specs.Seen.{IsAsked, IsError, IsMountError, IsMountedTree, Seen, around_of}
 use Rattle.lfs_fs.specs.Ending.{EndsWell, takes_nothing}
 use Rattle.lfs_fs.specs.Held.{Checks, EndsChecks, Held, held_with, refused_by, session_of}

@@ -14,9 +14,9 @@ use Rattle.lfs_model.specs.Session.{first_of, refuse_if}
 use Rattle.lfs_model.specs.Refusals.{as_path, bad_entry, is_root}
 use Rattle.lfs_model.specs.Tree.{Path}
 use Rattle.lfs_tree.specs.Allowed.{CanRemoveAttr}
-use Rattle.lfs_tree.specs.Finds.{Finds, is_absent, is_file_node}
+use Rattle.lfs_lookup.specs.Finds.{Finds, is_absent, is_file_node}
 use Rattle.lfs_tree.specs.Seen.{Seen, tree_seen, IsAsked}
-use Rattle.lfs_tree.specs.declared.finding.Finding.{Finding}
+use Rattle.lfs_lookup.specs.declared.finding.Finding.{Finding}
 use Rattle.lfs_fs.specs.EntryPaths.{entry_path}
 use Rattle.lfs_fs.specs.Replies.{passed_with}
 use Rattle.lfs_fs.specs.Held.{Held, refused_by, Checks}

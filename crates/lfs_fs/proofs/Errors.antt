@@ -4,7 +4,7 @@ use Rattle.std.specs.Result.{IsErrAnd}
 use Rattle.lfs_device.specs.declared.error.Error.{Error}
 use Rattle.lfs_model.specs.Operations as ops
 use Rattle.lfs_model.specs.Operations.{Refusal}
-use Rattle.lfs_tree.specs.Refusals.{error_again, error_for, is_refusal, refusal_in}
+use Rattle.lfs_lookup.specs.Refusals.{error_again, error_for, is_refusal, refusal_in}
 
 pub error_refuses : (r : Refusal) → is_refusal (error_for r) ≡ true
 error_refuses ops.NoEnt = refl

@@ -12,7 +12,8 @@ use Rattle.lfs_model.specs.Session.{first_of}
 use Rattle.lfs_model.specs.Thread.{Pair}
 use Rattle.lfs_model.specs.Tree.{Path}
 use Rattle.lfs_model.proofs.Counts.{each_weaker}
-use Rattle.lfs_tree.specs.AtHand.{AreRecent, AreSmall, HasOnHand, pairs_on}
+use Rattle.lfs_lookup.specs.AtHand.{AreRecent, AreSmall, pairs_on}
+use Rattle.lfs_tree.specs.Reads.{HasOnHand}
 use Rattle.lfs_tree.specs.Seen.{Seen}
 use Rattle.lfs_fs.specs.LookUps.{AddsNone, ReadsNoneIn}
 use Rattle.lfs_fs.specs.Replies.{passed_with}

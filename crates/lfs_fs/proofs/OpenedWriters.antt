@@ -23,7 +23,7 @@ use Rattle.lfs_model.specs.Tree.{DirectoryNode, FileNode, Node, Path}
 use Rattle.lfs_model.proofs.Committed.{recovered_from}
 use Rattle.lfs_model.proofs.TurnsMade.{completed_turn}
 use Rattle.lfs_tree.specs.Allowed.{CanCreate}
-use Rattle.lfs_tree.specs.Refusals.{refusal_in}
+use Rattle.lfs_lookup.specs.Refusals.{refusal_in}
 use Rattle.lfs_tree.specs.Seen.{IsAsked, IsBroken, IsCarried, IsError, IsSound, Seen, around_of, tree_seen}
 use Rattle.lfs_fs.specs.Changing.{CanBegin, IsBegunAs}
 use Rattle.lfs_fs.specs.FileSeen.{OpenFiles, entry_of, files_seen, free_entry, has_unsaved, put_entry, writer_in, writer_seen, writers_in}

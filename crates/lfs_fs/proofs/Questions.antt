@@ -16,9 +16,9 @@ use Rattle.lfs_model.specs.Run.{IsTurn, needs_no_call}
 use Rattle.lfs_model.specs.Headline.{is_question}
 use Rattle.lfs_model.proofs.Histories.{OnlyReads-trans}
 use Rattle.lfs_model.proofs.Turns.{not_remount}
-use Rattle.lfs_tree.specs.Finds.{list_item_seen}
-use Rattle.lfs_tree.specs.declared.finding.ListItem.{ListItem}
-use Rattle.lfs_tree.specs.Refusals.{refusal_in}
+use Rattle.lfs_lookup.specs.Finds.{list_item_seen}
+use Rattle.lfs_lookup.specs.declared.finding.ListItem.{ListItem}
+use Rattle.lfs_lookup.specs.Refusals.{refusal_in}
 use Rattle.lfs_tree.specs.Seen.{Seen, IsSound, tree_seen, around_of, IsAsked, IsBrokenAsking, IsError}
 use Rattle.lfs_fs.specs.Replies.{reply_in}
 use Rattle.lfs_fs.specs.FileSeen.{OpenFiles}

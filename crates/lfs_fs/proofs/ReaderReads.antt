@@ -11,7 +11,7 @@ use Rattle.lfs_model.specs.Tree.{Node, FileNode, DirectoryNode}
 use Rattle.lfs_tree.specs.Seen.{Seen, IsSound, tree_seen, IsAsked}
 use Rattle.lfs_fs.specs.Held.{Held, held_with, session_of, refused_by, Answers}
 use Rattle.lfs_device.specs.declared.error.Error.{Error}
-use Rattle.lfs_tree.specs.Refusals.{refusal_in}
+use Rattle.lfs_lookup.specs.Refusals.{refusal_in}
 use Rattle.lfs_tree.specs.Seen.{IsBrokenAsking, IsError}
 use Rattle.lfs_fs.specs.Replies.{reply_in}
 use Rattle.lfs_fs.proofs.Failing.{asking_fails}

@@ -17,7 +17,7 @@ use Rattle.lfs_model.specs.View.{IsAccepted}
 use Rattle.lfs_model.specs.Shown.{tree_in}
 use Rattle.lfs_model.specs.Run.{Moment, IsTurn, NoWrites, is_dirty}
 use Rattle.lfs_model.proofs.TurnsMade.{remounted_turn}
-use Rattle.lfs_tree.specs.Refusals.{is_refusal, refusal_in}
+use Rattle.lfs_lookup.specs.Refusals.{is_refusal, refusal_in}
 use Rattle.lfs_tree.specs.Seen.{Seen, tree_seen, around_of, IsBrokenAsking, IsMountError, IsMountedTree, IsSound}
 use Rattle.lfs_fs.specs.Replies.{reply_in}
 use Rattle.lfs_fs.specs.FileSeen.{OpenFiles, bytes_of, entry_of, is_unsaved_entry, file_seen, files_seen}

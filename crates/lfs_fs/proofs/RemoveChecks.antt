@@ -8,9 +8,9 @@ use Rattle.lfs_model.specs.Session.{first_of, is_open_at, refuse_if, parent_faul
 use Rattle.lfs_model.specs.Refusals.{as_path, is_root, bad_entry}
 use Rattle.lfs_model.specs.Tree.{Path}
 use Rattle.lfs_tree.specs.Allowed.{CanRemove}
-use Rattle.lfs_tree.specs.Finds.{Finds, has_names, is_absent}
+use Rattle.lfs_lookup.specs.Finds.{Finds, has_names, is_absent}
 use Rattle.lfs_tree.specs.Seen.{Seen, tree_seen, IsAsked}
-use Rattle.lfs_tree.specs.declared.finding.Finding.{Finding}
+use Rattle.lfs_lookup.specs.declared.finding.Finding.{Finding}
 use Rattle.lfs_fs.specs.EntryPaths.{entry_path}
 use Rattle.lfs_fs.specs.Held.{Held, refused_by, Checks}
 use Rattle.lfs_fs.specs.Replies.{passed_with}

@@ -11,10 +11,10 @@ use Rattle.lfs_model.specs.Slots.{Attributes, attributes_size}
 use Rattle.lfs_model.specs.Refusals.{as_path, is_root}
 use Rattle.lfs_model.specs.Tree.{Path}
 use Rattle.lfs_tree.specs.Allowed.{CanRename}
-use Rattle.lfs_tree.specs.AttributeAt.{IsAttributesSize}
-use Rattle.lfs_tree.specs.Finds.{Finds, has_names, is_absent, is_directory_node, is_file_node}
+use Rattle.lfs_lookup.specs.AttributeAt.{IsAttributesSize}
+use Rattle.lfs_lookup.specs.Finds.{Finds, has_names, is_absent, is_directory_node, is_file_node}
 use Rattle.lfs_tree.specs.Seen.{Seen, around_of, tree_seen, IsAsked}
-use Rattle.lfs_tree.specs.declared.finding.Finding.{Finding}
+use Rattle.lfs_lookup.specs.declared.finding.Finding.{Finding}
 use Rattle.lfs_fs.specs.EntryPaths.{entry_path}
 use Rattle.lfs_fs.specs.Held.{Held, refused_by, Checks}
 use Rattle.lfs_fs.specs.RenamePaths.{IsRenaming, is_in_the_way}

@@ -19,7 +19,8 @@ use Rattle.lfs_fs.specs.Held.{FailsBy, Held, IsEndedBy, moment_of}
 use Rattle.lfs_fs.specs.OpSeen.{op_seen, reply_seen}
 use Rattle.lfs_fs.specs.Sparing.{IsCall}
 use Rattle.lfs_fs.proofs.KeptLookUps.{kept_hand, kept_small}
-use Rattle.lfs_tree.specs.AtHand.{AreSmall, HasOnHand}
+use Rattle.lfs_lookup.specs.AtHand.{AreSmall}
+use Rattle.lfs_tree.specs.Reads.{HasOnHand}
 use Rattle.lfs_model.specs.Run as model
 use Rattle.lfs_model.specs.Discipline.{searched}
 use Rattle.lfs_fs.specs.declared.run.Op.{Op}

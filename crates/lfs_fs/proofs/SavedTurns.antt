@@ -19,7 +19,7 @@ use Rattle.lfs_model.specs.Tree.{Path}
 use Rattle.lfs_model.proofs.BlockSets.{slice_get-set_same}
 use Rattle.lfs_model.proofs.TurnsMade.{completed_turn}
 use Rattle.lfs_tree.specs.OpenContents.{IsStoredAt}
-use Rattle.lfs_tree.specs.Refusals.{refusal_in}
+use Rattle.lfs_lookup.specs.Refusals.{refusal_in}
 use Rattle.lfs_tree.specs.Seen.{Seen, IsBroken, IsError, IsSound, around_of, tree_seen}
 use Rattle.lfs_fs.specs.Changing.{CanSave, IsSavedAs}
 use Rattle.lfs_fs.specs.FileSeen.{OpenFiles, bytes_of, entry_of, file_seen, files_seen, is_unsaved_entry, writer_seen, writers_in}

@@ -14,10 +14,10 @@ use Rattle.lfs_model.specs.Slots.{Attributes, attributes_size}
 use Rattle.lfs_model.specs.Refusals.{as_path, bad_entry, is_root}
 use Rattle.lfs_model.specs.Tree.{Path}
 use Rattle.lfs_tree.specs.Allowed.{CanSetAttr}
-use Rattle.lfs_tree.specs.AttributeAt.{IsAttributesSize}
-use Rattle.lfs_tree.specs.Finds.{Finds, is_absent}
+use Rattle.lfs_lookup.specs.AttributeAt.{IsAttributesSize}
+use Rattle.lfs_lookup.specs.Finds.{Finds, is_absent}
 use Rattle.lfs_tree.specs.Seen.{Seen, around_of, tree_seen, IsAsked}
-use Rattle.lfs_tree.specs.declared.finding.Finding.{Finding}
+use Rattle.lfs_lookup.specs.declared.finding.Finding.{Finding}
 use Rattle.lfs_fs.specs.EntryPaths.{entry_path}
 use Rattle.lfs_fs.specs.Held.{Held, refused_by, Checks}
 use Rattle.lfs_fs.specs.Replacing.{CanReplace, replaced_size}

@@ -24,7 +24,7 @@ use Rattle.lfs_model.proofs.Counts.{each_always}
 use Rattle.lfs_model.proofs.Uniqueness.{one_thread}
 use Rattle.lfs_model.proofs.Withstanding.{turn_withstands}
 use Rattle.lfs_tree.specs.OpenContents.{IsStoredAt, IsWrittenBeside}
-use Rattle.lfs_tree.specs.Refusals.{is_refusal, refusal_in}
+use Rattle.lfs_lookup.specs.Refusals.{is_refusal, refusal_in}
 use Rattle.lfs_tree.specs.Seen.{IsAsked, IsCarried, IsSound, LeavesRest, Seen}
 use Rattle.std.specs.Option.{option_map}
 use Rattle.lfs_fs.specs.FileSeen.{OpenFiles, entry_of, file_seen, files_seen}
@@ -36,7 +36,8 @@ use Rattle.lfs_fs.specs.LookUps.{AddsFew, AddsNone, LeavesOnHand, ReadsNoneIn}
 use Rattle.lfs_fs.specs.Replies.{reply_in}
 use Rattle.lfs_fs.specs.Sparing.{AsksFew, IsCall, LeavesAtHand, LeavesOthers}
 use Rattle.lfs_fs.proofs.KeptLookUps.{reads_none}
-use Rattle.lfs_tree.specs.AtHand.{AreSmall, HasOnHand}
+use Rattle.lfs_lookup.specs.AtHand.{AreSmall}
+use Rattle.lfs_tree.specs.Reads.{HasOnHand}
 use Rattle.lfs_fs.specs.Told.{IsTold}
 use Rattle.lfs_fs.proofs.FewReads.{reads_few}
 use Rattle.lfs_fs.proofs.OpenFiles.{file_is}

@@ -13,9 +13,9 @@ use Rattle.lfs_model.specs.Refusals.{as_path}
 use Rattle.lfs_model.specs.Effects.{size_of}
 use Rattle.lfs_model.specs.Tree.{Node, FileNode, DirectoryNode, Path}
 use Rattle.lfs_device.specs.declared.error.Error.{Error}
-use Rattle.lfs_tree.specs.Finds.{Finds, is_absent, is_directory_node, size_in}
+use Rattle.lfs_lookup.specs.Finds.{Finds, is_absent, is_directory_node, size_in}
 use Rattle.lfs_tree.specs.Seen.{Seen, IsAsked, around_of, tree_seen}
-use Rattle.lfs_tree.specs.declared.finding.Finding.{Finding}
+use Rattle.lfs_lookup.specs.declared.finding.Finding.{Finding}
 use Rattle.lfs_fs.specs.Held.{Checks, Held, IsOpening, refused_by}
 use Rattle.lfs_fs.specs.FileSeen.{OpenFiles, files_seen, writers_in}
 use Rattle.lfs_fs.proofs.OpenFiles.{writer_count}

@@ -26,7 +26,7 @@ use Rattle.lfs_model.specs.TreeEdits.{is_file}
 use Rattle.lfs_model.specs.Run.{Moment, Shows, IsTurn}
 use Rattle.lfs_model.specs.Failure.{Fails}
 use Rattle.lfs_model.specs.Outages.{IsCutShortWithstood}
-use Rattle.lfs_tree.specs.Refusals.{is_refusal, refusal_in}
+use Rattle.lfs_lookup.specs.Refusals.{is_refusal, refusal_in}
 use Rattle.lfs_tree.specs.Seen.{Seen, tree_seen, around_of, IsSound, IsAsked, IsBrokenAsking, IsError}
 
 -- The tree and the open files.

@@ -4,7 +4,8 @@ use Rattle.lfs_device.specs.declared.error.Error.{Error}
 use Rattle.lfs_model.specs.Discipline.{pairs_of_path, searched}
 use Rattle.lfs_model.specs.History.{Event, reads}
 use Rattle.lfs_model.specs.Operations.{Operation}
-use Rattle.lfs_tree.specs.AtHand.{AreSmall, HasOnHand}
+use Rattle.lfs_lookup.specs.AtHand.{AreSmall}
+use Rattle.lfs_tree.specs.Reads.{HasOnHand}
 use Rattle.lfs_tree.specs.Seen.{Seen}
 
 -- no more reads came than there are pairs in the directories that the operation searches

@@ -3,8 +3,8 @@ use Rattle.std.specs.Prelude.{map, Result, Ok, Err}
 use Rattle.lfs_device.specs.declared.error.Error.{Error}
 use Rattle.lfs_model.specs.Operations as ops
 use Rattle.lfs_model.specs.Operations.{Operation}
-use Rattle.lfs_tree.specs.Refusals.{refusal_in}
-use Rattle.lfs_tree.specs.Finds.{list_item_seen}
+use Rattle.lfs_lookup.specs.Refusals.{refusal_in}
+use Rattle.lfs_lookup.specs.Finds.{list_item_seen}
 use Rattle.lfs_fs.specs.GstateSeen.{gstate_reply}
 use Rattle.lfs_fs.specs.FlagsSeen.{flags_seen}
 use Rattle.lfs_fs.specs.declared.run.Op.{Op}

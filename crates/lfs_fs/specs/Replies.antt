@@ -3,7 +3,7 @@ use Rattle.std.specs.Prelude.{if◌then◌else◌, Option, Some, None, Result, O
 use Rattle.lfs_device.specs.declared.error.Error.{Error}
 use Rattle.lfs_model.specs.Operations as ops
 use Rattle.lfs_model.specs.Operations.{Refusal, Reply}
-use Rattle.lfs_tree.specs.Refusals.{error_for, is_refusal, refusal_in}
+use Rattle.lfs_lookup.specs.Refusals.{error_for, is_refusal, refusal_in}
 
 -- the reply to a call with that result, or the error that takes its place
 abbrev pub reply_in : {A : Type 0} → (A → Reply) → Result A Error → Result Reply Error

@@ -12,7 +12,8 @@ use Rattle.lfs_model.specs.Slots.{no_gstate}
 use Rattle.lfs_model.specs.State.{Healthy}
 use Rattle.lfs_model.specs.Thread.{Pair, gstate_of}
 use Rattle.lfs_model.specs.View.{IsAccepted}
-use Rattle.lfs_tree.specs.AtHand.{AreSmall, HasOnHand}
+use Rattle.lfs_lookup.specs.AtHand.{AreSmall}
+use Rattle.lfs_tree.specs.Reads.{HasOnHand}
 use Rattle.lfs_fs.specs.Ending.{EndsWell}
 use Rattle.lfs_fs.specs.Held.{Answers, Held, moment_of}
 use Rattle.lfs_fs.specs.LookUps.{ReadsNoneIn}

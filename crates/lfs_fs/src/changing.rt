@@ -21,7 +21,8 @@ use crate::flags::OpenFlags;
 use crate::owned_path::OwnedPath;
 use bitflags::Flags;
 use lfs_device::{BlockDevice, Error};
-use lfs_tree::{Path, Tree, carried_takes_few, contents_stay};
+use lfs_lookup::Path;
+use lfs_tree::{Tree, carried_takes_few, contents_stay};
 use lfs_writer::{Contents, forms_keep_step, held_blocks_are_room};
 use std::alloc::Global;
 

@@ -13,7 +13,7 @@ ghost use Rattle.lfs_model.specs.Content.{attribute_of};
 ghost use Rattle.lfs_fs.specs.EntryPaths.{entry_path};
 ghost use Rattle.lfs_fs.specs.Held.{Checks, ChecksKept, IsOpening, IsReadable, IsReady, held_of};
 ghost use Rattle.lfs_fs.specs.LookUps.{AddsFew, AddsNone, LeavesOnHand};
-ghost use Rattle.lfs_tree.specs.Finds.{list_item_seen};
+ghost use Rattle.lfs_lookup.specs.Finds.{list_item_seen};
 ghost use Rattle.lfs_tree.specs.Seen.{around_of, tree_seen};
 ghost use Rattle.lfs_model.specs.Slots.{Attributes, attributes_size};
 ghost use Rattle.lfs_fs.specs.Replacing.{CanReplace, replaced_size};
@@ -23,7 +23,8 @@ use crate::flags::OpenFlags;
 use crate::passing::{both, passed};
 use bitflags::Flags;
 use lfs_device::{BlockDevice, Error};
-use lfs_tree::{ListItem, Path, Tree, refuse_if};
+use lfs_lookup::{ListItem, Path, refuse_if};
+use lfs_tree::Tree;
 use std::alloc::Global;
 
 // Whether a new entry with a name of that length takes too much of its pair.

@@ -8,7 +8,7 @@ ghost use Rattle.lfs_model.specs.Names.{same_name};
 
 use crate::renaming::is_within;
 use lfs_device::Error;
-use lfs_tree::Path;
+use lfs_lookup::Path;
 use std::alloc::Global;
 use std::marker::Model;
 

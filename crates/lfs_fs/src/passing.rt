@@ -5,7 +5,7 @@ ghost use Rattle.lfs_model.specs.Session.{first_of};
 ghost use Rattle.lfs_fs.specs.Replies.{passed_with};
 
 use lfs_device::Error;
-use lfs_tree::Refusal;
+use lfs_lookup::Refusal;
 
 // The first check that refuses.
 fn first_of(checks: &[Option<Refusal>]) -> Option<Refusal>

@@ -5,7 +5,8 @@ ghost use Rattle.lfs_model.specs.TreeEdits.{bytes_at};
 ghost use Rattle.lfs_tree.specs.Seen.{IsAsked, IsBrokenAsking, IsError, tree_seen};
 
 use lfs_device::{BlockDevice, Error};
-use lfs_tree::{Path, Tree};
+use lfs_lookup::Path;
+use lfs_tree::Tree;
 use std::alloc::Global;
 
 // The bytes of a file from a position on, so many at most. None where no file stands.

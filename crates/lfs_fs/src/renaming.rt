@@ -13,7 +13,8 @@ use crate::files::Files;
 use crate::owned_path::is_same;
 use crate::passing::passed;
 use lfs_device::{BlockDevice, Error};
-use lfs_tree::{Path, Tree, refuse_if};
+use lfs_lookup::{Path, refuse_if};
+use lfs_tree::Tree;
 use std::alloc::Global;
 
 // Whether the other bytes begin with these, and end there or go on with a slash.

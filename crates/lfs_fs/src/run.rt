@@ -2,8 +2,8 @@
 
 ghost use Rattle.std.specs.Prelude.{◌≡◌, map};
 ghost use Rattle.lfs_model.specs.Operations as operations;
-ghost use Rattle.lfs_tree.specs.Finds.{list_item_seen};
-ghost use Rattle.lfs_tree.specs.Refusals.{is_refusal};
+ghost use Rattle.lfs_lookup.specs.Finds.{list_item_seen};
+ghost use Rattle.lfs_lookup.specs.Refusals.{is_refusal};
 ghost use Rattle.lfs_fs.specs.GstateSeen.{gstate_reply};
 ghost use Rattle.lfs_fs.specs.Replies.{reply_in};
 ghost use Rattle.lfs_fs.specs.OpSeen.{performed};
@@ -11,7 +11,7 @@ ghost use Rattle.lfs_fs.specs.OpSeen.{performed};
 use crate::flags::OpenFlags;
 use crate::gstate::Gstate;
 use lfs_device::Error;
-use lfs_tree::ListItem;
+use lfs_lookup::ListItem;
 
 /// An operation of a session.
 #[derive(Clone, Copy)]

@@ -14,7 +14,7 @@ ghost use Rattle.lfs_thread.specs.Device.{GivesBack, two_of};
 ghost use Rattle.lfs_thread.specs.Kept.{disk_on};
 ghost use Rattle.lfs_model.specs.Thread.{anchor};
 ghost use Rattle.lfs_model.specs.View.{IsAccepted};
-ghost use Rattle.lfs_tree.specs.Finds.{list_item_seen};
+ghost use Rattle.lfs_lookup.specs.Finds.{list_item_seen};
 ghost use Rattle.lfs_tree.specs.Formatting.{ComesBack};
 ghost use Rattle.lfs_fs.specs.Ending.{EndsWell};
 ghost use Rattle.lfs_fs.specs.GstateSeen.{gstate_reply};
@@ -41,7 +41,8 @@ use crate::renaming::check_rename;
 use crate::run::{Op, Reply, bytes, count, done, fd, gstate, items, stat, yes};
 use bitflags::Flags;
 use lfs_device::{BlockDevice, Error};
-use lfs_tree::{ListItem, Tree};
+use lfs_lookup::ListItem;
+use lfs_tree::Tree;
 use std::alloc::Global;
 use std::marker::Model;
 

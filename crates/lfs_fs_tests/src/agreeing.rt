@@ -3,7 +3,7 @@
 use crate::begun::mounted;
 use lfs_device::{BlockDevice, Error, RamDevice};
 use lfs_fs::Session;
-use lfs_tree::ListItem;
+use lfs_lookup::ListItem;
 use std::alloc::Global;
 
 /// A device with the same bytes.

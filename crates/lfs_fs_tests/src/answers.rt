@@ -2,7 +2,7 @@
 
 use lfs_device::Error;
 use lfs_fs::{Gstate, Op, Reply};
-use lfs_tree::ListItem;
+use lfs_lookup::ListItem;
 
 /// A name, and a file's size or None for a directory.
 pub type Item<'a> = (&'a [u8], Option<u32>);

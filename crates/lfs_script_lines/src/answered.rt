@@ -7,7 +7,7 @@ use crate::answer::{Answer, Calls};
 use crate::written::push_word;
 use lfs_device::Error;
 use lfs_fs::{Gstate, Reply};
-use lfs_tree::ListItem;
+use lfs_lookup::ListItem;
 use std::alloc::AllocError;
 use std::io::Write;
 

@@ -7,9 +7,9 @@ use Rattle.lfs_model.specs.View.{IsListIfCtz}
 use Rattle.lfs_model.proofs.Histories.{OnlyReads-trans}
 use Rattle.lfs_thread.specs.Kept.{Kept}
 use Rattle.lfs_thread.specs.Steps.{IsOnlyRead}
-use Rattle.lfs_tree.specs.Items.{structure_seen}
-use Rattle.lfs_tree.specs.Walk.{found_seen, founds_seen}
-use Rattle.lfs_tree.specs.declared.walking.TreeItem.{TreeItem}
+use Rattle.lfs_lookup.specs.Items.{structure_seen}
+use Rattle.lfs_lookup.specs.Walk.{found_seen, founds_seen}
+use Rattle.lfs_lookup.specs.declared.walking.TreeItem.{TreeItem}
 use Rattle.lfs_tool_target.specs.Shown.{Adds}
 use Rattle.lfs_tool.specs.Unpacked.{AreLists, HasBegun, HasDone, action_at, actions_at}
 

@@ -9,7 +9,7 @@ use Rattle.lfs_model.specs.Tree.{Node}
 use Rattle.lfs_model.specs.View.{IsAccepted, IsListIfCtz, view_in}
 use Rattle.lfs_device.specs.declared.error.Error.TheVariants.{Corrupt, Invalid, NoMemory}
 use Rattle.lfs_device.specs.declared.error.Error.{Error}
-use Rattle.lfs_tree.specs.Walk.{AllShow, IsWalked, Place, Shows, ShowsNode}
+use Rattle.lfs_lookup.specs.Walk.{AllShow, IsWalked, Place, Shows, ShowsNode}
 use Rattle.lfs_tool.specs.declared.errors.ToolError.{ToolError}
 use Rattle.lfs_tool.specs.declared.errors.ToolError.TheVariants.{Fs, Output}
 use Rattle.lfs_tool.specs.Listed.{Refuses}

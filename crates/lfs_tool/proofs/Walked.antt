@@ -7,7 +7,7 @@ use Rattle.lfs_model.specs.Slots.{Branch, Ctz, Inline, Struct}
 use Rattle.lfs_model.specs.Tree.{Node}
 use Rattle.lfs_model.specs.View.{view_in}
 use Rattle.lfs_model.proofs.ListSizes.{length-bytes_of}
-use Rattle.lfs_tree.specs.Walk.{AllShow, Place, Shows, ShowsNode}
+use Rattle.lfs_lookup.specs.Walk.{AllShow, Place, Shows, ShowsNode}
 use Rattle.lfs_tool.specs.Listed.{HasLines, IsListed, line_at, line_with, lines_at, size_in}
 
 pub record HasSizes (disk : Disk) : Type 0 where

@@ -8,7 +8,7 @@ use Rattle.lfs_model.specs.View.{View, HasView, IsAccepted}
 use Rattle.lfs_model.specs.Slots.{Struct, Inline, Ctz, Branch}
 use Rattle.lfs_model.specs.Listing.{IsListing, escaped_text, newline}
 use Rattle.lfs_thread.specs.Kept.{State}
-use Rattle.lfs_tree.specs.Walk.{IsWalked, Place}
+use Rattle.lfs_lookup.specs.Walk.{IsWalked, Place}
 use Rattle.lfs_device.specs.declared.error.Error.{Error}
 use Rattle.lfs_device.specs.declared.error.Error.TheVariants.{Invalid, Corrupt, NoMemory}
 

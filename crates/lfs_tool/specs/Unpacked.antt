@@ -9,8 +9,8 @@ use Rattle.lfs_device.specs.declared.error.Error.TheVariants.{Corrupt, Invalid, 
 use Rattle.lfs_tool.specs.declared.errors.ToolError.{ToolError}
 use Rattle.lfs_tool.specs.declared.errors.ToolError.TheVariants.{Fs, Output}
 use Rattle.lfs_tool.specs.Listed.{IsBad, IsNotMounted}
-use Rattle.lfs_tree.specs.FileBytes.{bytes_shown}
-use Rattle.lfs_tree.specs.Walk.{Place}
+use Rattle.lfs_lookup.specs.FileBytes.{bytes_shown}
+use Rattle.lfs_lookup.specs.Walk.{Place}
 
 -- the disk is accepted, and these actions unpack what it shows
 abbrev pub IsUnpacked : Disk → List Action → Type 0

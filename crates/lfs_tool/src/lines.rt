@@ -2,10 +2,10 @@
 
 ghost use Rattle.std.specs.Prelude.{◌≡◌, ◌++◌, IfOk, None, OnOk, Some};
 ghost use Rattle.lfs_tool.specs.Listed.{line_at, line_with, lines_at};
-ghost use Rattle.lfs_tree.specs.Walk.{found_seen, founds_seen};
+ghost use Rattle.lfs_lookup.specs.Walk.{found_seen, founds_seen};
 
 use crate::escape::escape_path;
-use lfs_tree::{Structure, TreeItem};
+use lfs_lookup::{Structure, TreeItem};
 use std::alloc::{AllocError, Global};
 use std::io::Write;
 

@@ -14,13 +14,13 @@ ghost use Rattle.lfs_thread.specs.Device.{GivesBack};
 ghost use Rattle.lfs_thread.specs.Kept.{disk_on};
 ghost use Rattle.lfs_tool.specs.Blocks.{IsShownAs};
 ghost use Rattle.lfs_tool.specs.Listed.{HasItems, IsNotMounted};
-ghost use Rattle.lfs_tree.specs.Walk.{founds_seen};
+ghost use Rattle.lfs_lookup.specs.Walk.{founds_seen};
 
 use lfs_device::{BlockDevice, Error, Geometry, RamDevice};
 use lfs_excerpt::{BlockExcerpt, Excerpt, excerpt_is_read_without_fault};
+use lfs_lookup::{TreeItem, walk};
 use lfs_mount::mount;
 use lfs_thread::Thread;
-use lfs_tree::{TreeItem, walk};
 use std::alloc::Global;
 
 // The geometry of an image of so many bytes.

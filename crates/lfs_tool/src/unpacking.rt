@@ -8,17 +8,17 @@ ghost use Rattle.lfs_tool_target.specs.Shown.{Adds};
 ghost use Rattle.lfs_tool.specs.Listed.{Refuses};
 ghost use Rattle.lfs_tool.specs.Unpacked.{AreLists, FailsToUnpack, FailsToUnpackImage, HasBegun, HasDone, IsBegunOfImage, IsDoneOf, IsDoneOfImage, TellsTarget, action_at, actions_at};
 ghost use Rattle.lfs_thread.specs.Steps.{IsOnlyRead};
-ghost use Rattle.lfs_tree.specs.FileBytes.{bytes_shown};
-ghost use Rattle.lfs_tree.specs.Items.{structure_seen};
-ghost use Rattle.lfs_tree.specs.Walk.{found_seen, founds_seen};
+ghost use Rattle.lfs_lookup.specs.FileBytes.{bytes_shown};
+ghost use Rattle.lfs_lookup.specs.Items.{structure_seen};
+ghost use Rattle.lfs_lookup.specs.Walk.{found_seen, founds_seen};
 
 use crate::input::read_image;
 use crate::opening::{device_of, items_in_memory};
 use crate::{ToolError, Watched};
 use lfs_device::{Error, RamDevice};
+use lfs_lookup::{Structure, TreeItem, contents_of};
 use lfs_thread::Thread;
 use lfs_tool_target::{Target, TargetError};
-use lfs_tree::{Structure, TreeItem, contents_of};
 use std::alloc::Global;
 use std::io::Read;
 

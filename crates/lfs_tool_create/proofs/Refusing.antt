@@ -17,7 +17,7 @@ use Rattle.lfs_model.specs.State.{Healthy, is_remount, mounted}
 use Rattle.lfs_model.proofs.Counts.{Each, each_right}
 use Rattle.lfs_model.proofs.Kept.{fresh_defined}
 use Rattle.lfs_fs.specs.Held.{FailsBy}
-use Rattle.lfs_tree.specs.Refusals as refusals
+use Rattle.lfs_lookup.specs.Refusals as refusals
 use Rattle.lfs_tool_source.specs.InMemory.{items_by}
 use Rattle.lfs_tool_source.specs.declared.entries.Entry.{Entry}
 use Rattle.lfs_tool_create.specs.Carried.{AreCarried, AreEndedBy, Ends, HasNoFile, IsFirstRefusal, node_by, operations_of}

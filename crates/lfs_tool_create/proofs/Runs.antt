@@ -14,8 +14,8 @@ use Rattle.lfs_model.proofs.Counts.{each_append}
 use Rattle.lfs_model.proofs.Turns.{turns_joined}
 use Rattle.lfs_fs.specs.Held.{Answers, Held, moment_of}
 use Rattle.lfs_fs.specs.Replies.{reply_in}
-use Rattle.lfs_tree.specs.Refusals as refusals
-use Rattle.lfs_tree.specs.Refusals.{refusal_in}
+use Rattle.lfs_lookup.specs.Refusals as refusals
+use Rattle.lfs_lookup.specs.Refusals.{refusal_in}
 use Rattle.lfs_tool_source.specs.declared.entries.Entry.{Entry}
 use Rattle.lfs_tool_create.specs.Carried.{AreCarried, AreEndedBy, Carries, Ends, HasNoFile, operations_of}
 use Rattle.lfs_tool_create.proofs.Stepping.{opened_first}

@@ -11,7 +11,7 @@ use Rattle.lfs_model.specs.Session.{Files, Session}
 use Rattle.lfs_model.specs.State.{Healthy}
 use Rattle.lfs_model.specs.Tree.{Node, FileNode, DirectoryNode}
 use Rattle.lfs_fs.specs.Held.{FailsBy}
-use Rattle.lfs_tree.specs.Refusals.{is_refusal, refusal_in}
+use Rattle.lfs_lookup.specs.Refusals.{is_refusal, refusal_in}
 use Rattle.lfs_tool_source.specs.InMemory.{items_by}
 use Rattle.lfs_tool_source.specs.declared.entries.Entry.{Entry}
 

@@ -18,10 +18,10 @@ use Rattle.lfs_tree.specs.Carrying.{Carries, Spares}
 use Rattle.lfs_tree.specs.Held.{IsHeld, IsRooted, seen_image, seen_kept, seen_thread}
 use Rattle.lfs_tree.specs.declared.image.Image.{Image}
 use Rattle.lfs_tree.specs.declared.image.Image.TheVariants as image
-use Rattle.lfs_tree.specs.Reading.{IsReading}
+use Rattle.lfs_lookup.specs.Reading.{IsReading}
 use Rattle.lfs_tree.specs.Seen.{Seen, bare, IsAsked, IsBrokenAsking, IsCarried, IsError, tree_seen, LeavesRest}
 use Rattle.lfs_tree.proofs.Mounting.{sound_read}
-use Rattle.lfs_tree.proofs.Reading.{same_error}
+use Rattle.lfs_lookup.proofs.Reading.{same_error}
 
 abbrev see : Disk → List Event → List Pair → BlockSets → Bool → Bool → CachedBlocks → Seen
 see disk history pairs map writable failed cache = record { disk = disk; history = history; pairs = pairs; map = map; writable = writable; failed = failed; cache = cache }

@@ -19,8 +19,8 @@ use Rattle.lfs_model.proofs.Found.{chain_of_thread}
 use Rattle.lfs_model.proofs.Splices.{IsDevice}
 use Rattle.lfs_model.proofs.Superblocks.{IsChain}
 use Rattle.lfs_model.proofs.Unchanged.{same_follows}
-use Rattle.lfs_tree.proofs.Directories.{within}
-use Rattle.lfs_tree.proofs.Roots.{root_begins}
+use Rattle.lfs_lookup.proofs.Directories.{within}
+use Rattle.lfs_lookup.proofs.Roots.{root_begins}
 use Rattle.lfs_model.specs.Thread.{root_of}
 
 pub writable_on : (disk new : Disk) (ps : List Pair) → SameGeometry disk new → IsWritable disk ps → IsWritable new ps

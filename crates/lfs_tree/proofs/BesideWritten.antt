@@ -28,7 +28,7 @@ use Rattle.lfs_tree.specs.Held.{IsRooted, seen_kept, seen_thread}
 use Rattle.lfs_tree.specs.OpenContents.{CanTruncateBeside, CanWriteBeside, IsOverFile, IsWrittenBeside, blocks_named, bytes_held, list_at}
 use Rattle.lfs_tree.specs.Seen.{IsBroken, IsError, IsSound}
 use Rattle.lfs_tree.proofs.BesideImage.{files_still, geometry_back, still_follows, used_still, writable_on}
-use Rattle.lfs_tree.proofs.Reading.{same_error}
+use Rattle.lfs_lookup.proofs.Reading.{same_error}
 use Rattle.lfs_tree.proofs.SlotsHave.{slot_has}
 use Rattle.lfs_tree.proofs.UsedBlocks.{count_is}
 use Rattle.lfs_writer.specs.Contents.{IsLarge, NeedsRoom, bytes_in, form_of, truncate_room, write_room}

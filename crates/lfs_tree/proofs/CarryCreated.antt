@@ -32,7 +32,7 @@ use Rattle.lfs_tree.proofs.LeftAlone.{IsConcernedOrFree, concerned_alone, concer
 use Rattle.lfs_tree.specs.Allowed.{CanAdd}
 use Rattle.lfs_tree.specs.Carrying.{Carries, IsAtRest, IsPlaceFor, IsVacant, SurvivesTo}
 use Rattle.lfs_tree.specs.Held.{seen_kept}
-use Rattle.lfs_tree.specs.declared.search.Spot.{Spot}
+use Rattle.lfs_lookup.specs.declared.search.Spot.{Spot}
 use Rattle.lfs_tree.proofs.Carried.{among_one, among_two, behind_below, carried, with_history}
 use Rattle.lfs_tree.proofs.CarryLogged.{logged_there}
 use Rattle.lfs_tree.proofs.CarrySurvives.{survives_behind}

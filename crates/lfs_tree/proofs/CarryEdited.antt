@@ -35,10 +35,10 @@ use Rattle.lfs_tree.specs.Allowed.{CanRemoveAttr, CanSetAttr}
 use Rattle.lfs_tree.specs.Carrying.{Carries, IsAtRest, SurvivesTo}
 use Rattle.lfs_tree.specs.CarryingSlots.{HasEntry, IsSlotFor, IsSlotIn, has_slot, with_attributes_changed}
 use Rattle.lfs_tree.specs.Held.{seen_kept}
-use Rattle.lfs_tree.specs.Paths.{LeadsTo, StandsOnPath}
-use Rattle.lfs_tree.specs.declared.paths.Found.{Found}
-use Rattle.lfs_tree.specs.declared.paths.Found.TheVariants as found
-use Rattle.lfs_tree.specs.declared.search.Spot.{Spot}
+use Rattle.lfs_lookup.specs.Paths.{LeadsTo, StandsOnPath}
+use Rattle.lfs_lookup.specs.declared.paths.Found.{Found}
+use Rattle.lfs_lookup.specs.declared.paths.Found.TheVariants as found
+use Rattle.lfs_lookup.specs.declared.search.Spot.{Spot}
 use Rattle.lfs_tree.proofs.Carried.{IsPairsOrFree, behind_below, carried, with_history}
 use Rattle.lfs_tree.proofs.CarryCreated.{ready_to, stay_in_flight}
 use Rattle.lfs_tree.proofs.CarryLogged.{logged_there}

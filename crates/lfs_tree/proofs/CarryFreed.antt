@@ -28,10 +28,10 @@ use Rattle.lfs_thread.specs.Device.{two_of}
 use Rattle.lfs_thread.specs.Kept.{Kept}
 use Rattle.lfs_thread.specs.Steps.{HasShape, Writes, pair_in}
 use Rattle.lfs_operations.specs.MovingSteps.{WritesAmong}
-use Rattle.lfs_tree.specs.Entry.{ShowsContents}
+use Rattle.lfs_lookup.specs.Entry.{ShowsContents}
 use Rattle.lfs_tree.specs.Going.{CanFree, list_shown, no_list}
-use Rattle.lfs_tree.specs.declared.entry.Contents.{Contents}
-use Rattle.lfs_tree.specs.declared.entry.Contents.TheVariants as shown
+use Rattle.lfs_lookup.specs.declared.entry.Contents.{Contents}
+use Rattle.lfs_lookup.specs.declared.entry.Contents.TheVariants as shown
 use Rattle.lfs_tree.proofs.Carried.{behind_below, pair_blocks}
 use Rattle.lfs_tree.proofs.KeptFiles.{among_files}
 use Rattle.lfs_writer.specs.Based.{IsBase}

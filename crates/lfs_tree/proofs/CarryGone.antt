@@ -32,22 +32,22 @@ use Rattle.lfs_operations.specs.MovingSteps.{WritesAmong}
 use Rattle.lfs_tree.specs.Allowed.{CanRemove}
 use Rattle.lfs_tree.specs.Carrying.{Carries, IsAtRest, SurvivesTo}
 use Rattle.lfs_tree.specs.CarryingSlots.{HasEntry, IsSlotFor, has_slot}
-use Rattle.lfs_tree.specs.Entry.{ShowsContents}
+use Rattle.lfs_lookup.specs.Entry.{ShowsContents}
 use Rattle.lfs_tree.specs.Going.{CanGo, HasGone, IsEntryOn}
 use Rattle.lfs_tree.specs.Held.{seen_kept}
-use Rattle.lfs_tree.specs.Paths.{LeadsTo, StandsOnPath}
-use Rattle.lfs_tree.specs.declared.entry.Contents.{Contents}
-use Rattle.lfs_tree.specs.declared.entry.Contents.TheVariants as contents
-use Rattle.lfs_tree.specs.declared.paths.Found.{Found}
-use Rattle.lfs_tree.specs.declared.paths.Found.TheVariants as found
-use Rattle.lfs_tree.specs.declared.search.Spot.{Spot}
-use Rattle.lfs_tree.proofs.AtPaths.{directory_at_path}
+use Rattle.lfs_lookup.specs.Paths.{LeadsTo, StandsOnPath}
+use Rattle.lfs_lookup.specs.declared.entry.Contents.{Contents}
+use Rattle.lfs_lookup.specs.declared.entry.Contents.TheVariants as contents
+use Rattle.lfs_lookup.specs.declared.paths.Found.{Found}
+use Rattle.lfs_lookup.specs.declared.paths.Found.TheVariants as found
+use Rattle.lfs_lookup.specs.declared.search.Spot.{Spot}
+use Rattle.lfs_lookup.proofs.AtPaths.{directory_at_path}
 use Rattle.lfs_tree.proofs.Carried.{among_one, behind_below, carried, with_history}
 use Rattle.lfs_tree.proofs.CarryEdited.{can_edit, slot_found}
 use Rattle.lfs_tree.proofs.CarryFreed.{shape_geometry, written_pairs}
 use Rattle.lfs_tree.proofs.CarrySurvives.{survives_left}
 use Rattle.lfs_tree.proofs.CarryTold.{IsTold}
-use Rattle.lfs_tree.proofs.Directories.{within}
+use Rattle.lfs_lookup.proofs.Directories.{within}
 use Rattle.lfs_tree.proofs.EmptyDirectories.{at_there, bare_there}
 
 -- ---- what is found

@@ -11,12 +11,12 @@ use Rattle.lfs_model.specs.Tree.{Path, node_of}
 use Rattle.lfs_model.specs.Shown.{contents_in, entries_in, tree_in}
 use Rattle.lfs_model.proofs.Paths.{last_is}
 use Rattle.lfs_thread.specs.Kept.{Kept}
-use Rattle.lfs_tree.proofs.Descended.{names_are}
+use Rattle.lfs_lookup.proofs.Descended.{names_are}
 use Rattle.lfs_tree.specs.Carrying.{IsPlaceFor, IsPlaceIn, IsVacant, is_place}
-use Rattle.lfs_tree.specs.Paths.{LeadsTo}
-use Rattle.lfs_tree.specs.declared.paths.Found.{Found}
-use Rattle.lfs_tree.specs.declared.paths.Found.TheVariants as found
-use Rattle.lfs_tree.specs.declared.search.Spot.{Spot}
+use Rattle.lfs_lookup.specs.Paths.{LeadsTo}
+use Rattle.lfs_lookup.specs.declared.paths.Found.{Found}
+use Rattle.lfs_lookup.specs.declared.paths.Found.TheVariants as found
+use Rattle.lfs_lookup.specs.declared.search.Spot.{Spot}
 
 -- what has a slot isn't vacant
 taken : (t : Kept) (path : Path) (x : Slot) → IsVacant (tree_in t.disk t.pairs) path → slot_of_path t.pairs path ≡ Some x → ⊥

@@ -27,7 +27,7 @@ use Rattle.lfs_operations.specs.Making.{HasRoomFor}
 use Rattle.lfs_thread.specs.Kept.{Kept}
 use Rattle.lfs_tree.specs.OpenContents.{IsOverFile, blocks_named, bytes_held}
 use Rattle.lfs_tree.specs.Storing.{CanCommit, IsFinished, list_in, list_in_struct, struct_in}
-use Rattle.lfs_tree.proofs.AtPaths.{SizedLists}
+use Rattle.lfs_lookup.proofs.AtPaths.{SizedLists}
 use Rattle.lfs_tree.proofs.Carried.{with_history}
 use Rattle.lfs_tree.proofs.OpenedFiles.{marked_there, no_flight}
 use Rattle.lfs_tree.proofs.SlotsHave.{slot_has}

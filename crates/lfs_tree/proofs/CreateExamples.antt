@@ -3,7 +3,7 @@ use Rattle.std.proofs.Common.{ℕ, ◌≡◌, ◌++◌, false, List, [], ◌∷�
 use Rattle.lfs_model.specs.History.{Event, event}
 use Rattle.lfs_model.specs.History.Call.{Read}
 use Rattle.lfs_model.specs.Thread.{gstate_of}
-use Rattle.lfs_tree.specs.AtHand.{ReadsToCreate}
+use Rattle.lfs_tree.specs.Reads.{ReadsToCreate}
 use Rattle.lfs_tree.specs.Seen.{Seen}
 
 abbrev with_reads : ℕ → List Event → List Event

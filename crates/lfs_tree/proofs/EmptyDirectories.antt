@@ -20,8 +20,8 @@ use Rattle.lfs_model.proofs.Listings.{IsRun}
 use Rattle.lfs_model.proofs.Searches.{IsDirectory, begins_directory, plain_behind}
 use Rattle.lfs_model.proofs.Splices as splices
 use Rattle.lfs_thread.specs.Steps.{no_pair}
-use Rattle.lfs_tree.specs.Listed.{joined_run}
-use Rattle.lfs_tree.proofs.Directories.{own_run, run_is}
+use Rattle.lfs_lookup.specs.Listed.{joined_run}
+use Rattle.lfs_lookup.proofs.Directories.{own_run, run_is}
 
 -- entries come of slots that aren't a superblock's
 none_first : (xs ys : List Slot) → Each (λ s. is_superblock s ≡ false) xs → entries_only (xs ++ ys) ≡ [] → (xs ≡ []) × (entries_only ys ≡ [])

@@ -21,9 +21,9 @@ use Rattle.lfs_thread.specs.Kept.{Kept, State, disk_on}
 use Rattle.lfs_thread.specs.Steps.{IsOnlyRead}
 use Rattle.lfs_tree.specs.Formatting.{IsFormatted, ShowsEmptyRoot}
 use Rattle.lfs_tree.specs.Held.{IsRooted, seen_kept, seen_thread}
-use Rattle.lfs_tree.specs.Reading.{IsReading}
+use Rattle.lfs_lookup.specs.Reading.{IsReading}
 use Rattle.lfs_tree.specs.Seen.{IsMountedTree, IsSound}
-use Rattle.lfs_tree.proofs.Reading.{HasRead, same_error}
+use Rattle.lfs_lookup.proofs.Reading.{HasRead, same_error}
 
 -- what is sound stays so where it was only read
 pub sound_read : (a b : Kept) (writable failed now : Bool) → IsOnlyRead a b → IsSound (seen_kept a writable failed) → IsSound (seen_kept b writable now)

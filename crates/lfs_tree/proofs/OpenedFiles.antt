@@ -27,15 +27,15 @@ use Rattle.lfs_model.proofs.Counts.{Each, count_append, each_from_counted, each_
 use Rattle.lfs_files.specs.Standing.{held_in}
 use Rattle.lfs_thread.specs.Beside.{IsDividedAs}
 use Rattle.lfs_thread.specs.Kept.{Kept}
-use Rattle.lfs_tree.specs.FileBytes.{bytes_shown}
+use Rattle.lfs_lookup.specs.FileBytes.{bytes_shown}
 use Rattle.lfs_tree.specs.OpenContents.{IsOpenedForm, IsOverFile, blocks_named, bytes_held, list_at}
 use Rattle.lfs_tree.specs.Opening.{CanBeOpened, IsOpened, opened_form}
-use Rattle.lfs_tree.specs.declared.entry.Contents.{Contents as EntryContents}
-use Rattle.lfs_tree.specs.declared.entry.Contents.TheVariants as entry
-use Rattle.lfs_tree.specs.declared.search.Spot.{Spot}
-use Rattle.lfs_tree.proofs.AtPaths.{SizedLists}
+use Rattle.lfs_lookup.specs.declared.entry.Contents.{Contents as EntryContents}
+use Rattle.lfs_lookup.specs.declared.entry.Contents.TheVariants as entry
+use Rattle.lfs_lookup.specs.declared.search.Spot.{Spot}
+use Rattle.lfs_lookup.proofs.AtPaths.{SizedLists}
 use Rattle.lfs_tree.proofs.BesideWritten.{bytes_of_held}
-use Rattle.lfs_tree.proofs.BytesAtSlots.{IsFileOf, file_since}
+use Rattle.lfs_lookup.proofs.BytesAtSlots.{IsFileOf, file_since}
 use Rattle.lfs_tree.proofs.Carried.{with_history}
 use Rattle.lfs_tree.proofs.SlotsHave.{slot_has}
 use Rattle.lfs_writer.specs.Contents.{HasContents, IsIdle, form_of}

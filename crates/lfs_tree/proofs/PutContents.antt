@@ -27,17 +27,17 @@ use Rattle.lfs_operations.specs.Editing.{slot_at}
 use Rattle.lfs_operations.specs.Making.{HasRoomFor}
 use Rattle.lfs_operations.specs.Storing.{CanStore, IsStored}
 use Rattle.lfs_thread.specs.Kept.{Kept, State}
-use Rattle.lfs_tree.specs.Entry.{ShowsContents}
+use Rattle.lfs_lookup.specs.Entry.{ShowsContents}
 use Rattle.lfs_tree.specs.OpenContents.{bytes_held}
-use Rattle.lfs_tree.specs.Paths.{LeadsTo}
+use Rattle.lfs_lookup.specs.Paths.{LeadsTo}
 use Rattle.lfs_tree.specs.Storing.{CanPutContents, IsFileFor, IsFileIn, IsFinished, is_file_found, list_in_struct, list_named, struct_in}
-use Rattle.lfs_tree.specs.declared.entry.Contents.{Contents as EntryContents}
-use Rattle.lfs_tree.specs.declared.entry.Contents.TheVariants as entry
-use Rattle.lfs_tree.specs.declared.paths.Found.{Found}
-use Rattle.lfs_tree.specs.declared.paths.Found.TheVariants as found
-use Rattle.lfs_tree.specs.declared.search.Spot.{Spot}
+use Rattle.lfs_lookup.specs.declared.entry.Contents.{Contents as EntryContents}
+use Rattle.lfs_lookup.specs.declared.entry.Contents.TheVariants as entry
+use Rattle.lfs_lookup.specs.declared.paths.Found.{Found}
+use Rattle.lfs_lookup.specs.declared.paths.Found.TheVariants as found
+use Rattle.lfs_lookup.specs.declared.search.Spot.{Spot}
 use Rattle.lfs_tree.specs.declared.storing.FileSlot.{FileSlot}
-use Rattle.lfs_tree.proofs.AtPaths.{directory_at_path, nothing_at, refused_none}
+use Rattle.lfs_lookup.proofs.AtPaths.{directory_at_path, nothing_at, refused_none}
 use Rattle.lfs_tree.proofs.CarryTold.{told_with_room}
 use Rattle.lfs_writer.specs.Contents.{form_of, held_bytes}
 use Rattle.lfs_writer.specs.declared.contents.Contents.{Contents}

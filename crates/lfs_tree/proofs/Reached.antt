@@ -20,14 +20,14 @@ use Rattle.lfs_model.proofs.OneCommit.{slot_there}
 use Rattle.lfs_model.proofs.Pairs.{pair_back, pair_on}
 use Rattle.lfs_model.proofs.Searches.{same_number}
 use Rattle.lfs_model.proofs.Sites.{Among}
-use Rattle.lfs_tree.specs.Items.{Shape, shape_of}
-use Rattle.lfs_tree.specs.Listed.{shapes_from}
-use Rattle.lfs_tree.specs.Paths.{BeginsOnPath}
+use Rattle.lfs_lookup.specs.Items.{Shape, shape_of}
+use Rattle.lfs_lookup.specs.Listed.{shapes_from}
+use Rattle.lfs_lookup.specs.Paths.{BeginsOnPath}
 use Rattle.lfs_tree.specs.Unreached.{AllBegin, AreReachMarks, HasMarked, IsMarked, IsNamedBy, IsNamedIn, unmarked}
-use Rattle.lfs_tree.specs.Walk.{BeginsIfBranch}
-use Rattle.lfs_tree.proofs.Directories.{begins_with, own_shapes}
-use Rattle.lfs_tree.proofs.Roots.{root_begins}
-use Rattle.lfs_tree.proofs.Visits.{leads_to, visit_begins}
+use Rattle.lfs_lookup.specs.Walk.{BeginsIfBranch}
+use Rattle.lfs_lookup.proofs.Directories.{begins_with, own_shapes}
+use Rattle.lfs_lookup.proofs.Roots.{root_begins}
+use Rattle.lfs_lookup.proofs.Visits.{leads_to, visit_begins}
 
 -- ---- one mark
 

@@ -10,7 +10,7 @@ use Rattle.lfs_model.specs.Shown.{IsReached}
 use Rattle.lfs_model.proofs.Layouts.{onward_some}
 use Rattle.lfs_operations.specs.Recovering.{AreUnreached, AreUnreachedFrom}
 use Rattle.lfs_thread.specs.Steps.{no_pair}
-use Rattle.lfs_tree.specs.Profile.{follows_at}
+use Rattle.lfs_lookup.specs.Profile.{follows_at}
 use Rattle.lfs_tree.specs.Unreached.{AreReachMarks}
 
 pub record IsScanning (ps : List Pair) (root i : ℕ) (numbers : List ℕ) (flag : Bool) : Type 0 where

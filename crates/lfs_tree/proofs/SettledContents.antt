@@ -45,7 +45,7 @@ use Rattle.lfs_tree.specs.Carrying.{HasCalled, IsAtRest, SurvivesTo}
 use Rattle.lfs_tree.specs.OpenContents.{bytes_held}
 use Rattle.lfs_tree.specs.Storing.{CanCommit, CanPutContents, HasCommitted, IsFileFor, list_in, list_in_struct, struct_in, ChangesPairOf}
 use Rattle.lfs_tree.specs.declared.storing.FileSlot.{FileSlot}
-use Rattle.lfs_tree.proofs.AtPaths.{SizedLists}
+use Rattle.lfs_lookup.proofs.AtPaths.{SizedLists}
 use Rattle.lfs_tree.proofs.Carried.{pair_blocks, with_history}
 use Rattle.lfs_tree.proofs.CarryEdited.{can_edit, slot_below}
 use Rattle.lfs_tree.proofs.CarrySurvives.{survives_behind}

@@ -27,20 +27,20 @@ use Rattle.lfs_tree.specs.Allowed.{CanRename}
 use Rattle.lfs_tree.specs.Carrying.{Carries, IsAtRest}
 use Rattle.lfs_tree.specs.CarryingSlots.{HasEntry}
 use Rattle.lfs_tree.specs.Held.{seen_kept}
-use Rattle.lfs_tree.specs.Paths.{BeginsOnPath, LeadsTo, StandsOnPath}
+use Rattle.lfs_lookup.specs.Paths.{BeginsOnPath, LeadsTo, StandsOnPath}
 use Rattle.lfs_tree.specs.Shifting.{CanShift, CanShiftFound, CanShiftOnto, CanShiftOver, CanShiftTo, HasShifted, IsSource, IsSourceIn, IsTarget, TellsOfWork}
 use Rattle.lfs_tree.specs.declared.carrying_rename.Source.{Source}
-use Rattle.lfs_tree.specs.declared.entry.Contents.{Contents}
-use Rattle.lfs_tree.specs.declared.paths.Found.{Found}
-use Rattle.lfs_tree.specs.declared.paths.Found.TheVariants as found
-use Rattle.lfs_tree.specs.declared.search.Spot.{Spot}
+use Rattle.lfs_lookup.specs.declared.entry.Contents.{Contents}
+use Rattle.lfs_lookup.specs.declared.paths.Found.{Found}
+use Rattle.lfs_lookup.specs.declared.paths.Found.TheVariants as found
+use Rattle.lfs_lookup.specs.declared.search.Spot.{Spot}
 use Rattle.lfs_tree.proofs.Carried.{carried, read_is, with_history}
 use Rattle.lfs_tree.proofs.CarryEdited.{attributes_are, can_edit, inline_fits}
 use Rattle.lfs_tree.proofs.CarryGone.{branch_is, none_entered}
 use Rattle.lfs_tree.proofs.CarryLogged.{logged_there}
 use Rattle.lfs_tree.proofs.CarryRooms.{last_is_name, room_for}
 use Rattle.lfs_tree.proofs.CarryTold.{IsTold}
-use Rattle.lfs_tree.proofs.Directories.{within}
+use Rattle.lfs_lookup.proofs.Directories.{within}
 use Rattle.lfs_tree.proofs.EmptyDirectories.{at_there, bare_there}
 use Rattle.lfs_tree.proofs.Mounting.{sound_read}
 

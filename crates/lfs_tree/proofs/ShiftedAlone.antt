@@ -21,7 +21,7 @@ use Rattle.lfs_thread.specs.Kept.{Kept}
 use Rattle.lfs_thread.specs.Steps.{pair_in}
 use Rattle.lfs_tree.specs.Shifting.{CanShift, HasSparedOthers}
 use Rattle.lfs_tree.specs.declared.carrying_rename.Source.{Source}
-use Rattle.lfs_tree.specs.declared.search.Spot.{Spot}
+use Rattle.lfs_lookup.specs.declared.search.Spot.{Spot}
 use Rattle.lfs_tree.proofs.Carried.{behind_below}
 use Rattle.lfs_tree.proofs.LeftAlone.{IsConcerned, IsConcernedOrFree, concerned_alone, first_owned, holds_slot, pair_there, second_owned}
 

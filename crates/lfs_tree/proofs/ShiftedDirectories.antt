@@ -20,7 +20,7 @@ use Rattle.lfs_thread.specs.Steps.{IsOnlyRead, Writes, pair_in}
 use Rattle.lfs_tree.specs.Carrying.{SurvivesTo}
 use Rattle.lfs_tree.specs.Shifting.{CanShift, CanShiftOver, HasShifted, TellsOfWork}
 use Rattle.lfs_tree.specs.declared.carrying_rename.Source.{Source}
-use Rattle.lfs_tree.specs.declared.search.Spot.{Spot}
+use Rattle.lfs_lookup.specs.declared.search.Spot.{Spot}
 use Rattle.lfs_tree.proofs.Carried.{among_two, behind_below}
 use Rattle.lfs_tree.proofs.ShiftedAlone.{spares_one, spares_two}
 use Rattle.lfs_tree.proofs.ShiftedPlaces.{one_place, other_name, target_path}

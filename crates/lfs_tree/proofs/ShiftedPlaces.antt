@@ -8,7 +8,7 @@ use Rattle.lfs_model.proofs.Paths.{rest_itself}
 use Rattle.lfs_thread.specs.Kept.{Kept}
 use Rattle.lfs_tree.specs.Shifting.{CanShift}
 use Rattle.lfs_tree.specs.declared.carrying_rename.Source.{Source}
-use Rattle.lfs_tree.specs.declared.search.Spot.{Spot}
+use Rattle.lfs_lookup.specs.declared.search.Spot.{Spot}
 use Rattle.lfs_tree.proofs.SameDirectory.{same_above, same_first}
 
 module _ (t : Kept) (from to : Path) (source : Source) (slot : Spot) (name : Name) (can : CanShift t from to source name) (target : Stands t.pairs can.first name slot.pair slot.id) (e : source.slot.pair ≡ slot.pair) where

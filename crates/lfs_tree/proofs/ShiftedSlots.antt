@@ -37,7 +37,7 @@ use Rattle.lfs_thread.specs.Steps.{Writes, pair_in}
 use Rattle.lfs_tree.specs.Carrying.{SurvivesTo}
 use Rattle.lfs_tree.specs.Shifting.{CanShift, CanShiftTo, HasShifted, TellsOfWork}
 use Rattle.lfs_tree.specs.declared.carrying_rename.Source.{Source}
-use Rattle.lfs_tree.specs.declared.search.Spot.{Spot}
+use Rattle.lfs_lookup.specs.declared.search.Spot.{Spot}
 use Rattle.lfs_tree.proofs.Carried.{among_one, among_two, behind_below, pair_blocks}
 use Rattle.lfs_tree.proofs.CarryCreated.{stay_in_flight}
 use Rattle.lfs_tree.proofs.KeptFiles.{among_files}

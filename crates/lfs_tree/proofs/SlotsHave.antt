@@ -12,8 +12,8 @@ use Rattle.lfs_model.specs.View.{IsAccepted}
 use Rattle.lfs_model.specs.Shown.{Leads, all_slots, entries_in}
 use Rattle.lfs_model.proofs.Counts.{Each}
 use Rattle.lfs_model.proofs.Walks.{walk_on}
-use Rattle.lfs_tree.proofs.AtPaths.{each_found}
-use Rattle.lfs_tree.proofs.Visits.{each_entry}
+use Rattle.lfs_lookup.proofs.AtPaths.{each_found}
+use Rattle.lfs_lookup.proofs.Visits.{each_entry}
 
 module _ (P : Slot → Type 0) (disk : Disk) (ps : List Pair) (ok : IsAccepted disk ps) (all : Each P (all_slots ps)) where
   child_has : (above : Path) (s c : Slot) (n : Name) → slot_of_path ps above ≡ Some s → child_of (entries_in ps) s n ≡ Some c → P c

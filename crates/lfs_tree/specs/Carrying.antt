@@ -13,13 +13,13 @@ use Rattle.lfs_model.specs.Thread.{Pair, gstate_of}
 use Rattle.lfs_model.specs.Tree.{Path, Tree}
 use Rattle.lfs_model.specs.Shown.{tree_in}
 use Rattle.lfs_thread.specs.Kept.{Kept, State}
-use Rattle.lfs_tree.specs.AtHand.{ReadsToCreate}
+use Rattle.lfs_tree.specs.Reads.{ReadsToCreate}
 use Rattle.lfs_tree.specs.Held.{IsRooted, seen_kept}
-use Rattle.lfs_tree.specs.Paths.{BeginsOnPath}
+use Rattle.lfs_lookup.specs.Paths.{BeginsOnPath}
 use Rattle.lfs_tree.specs.Seen.{IsCarried, IsError, LeavesRest}
-use Rattle.lfs_tree.specs.declared.paths.Found.{Found}
-use Rattle.lfs_tree.specs.declared.paths.Found.TheVariants as found
-use Rattle.lfs_tree.specs.declared.search.Spot.{Spot}
+use Rattle.lfs_lookup.specs.declared.paths.Found.{Found}
+use Rattle.lfs_lookup.specs.declared.paths.Found.TheVariants as found
+use Rattle.lfs_lookup.specs.declared.search.Spot.{Spot}
 
 -- The image may be changed: it is in the writing profile, and nothing of it is to be recovered.
 pub record IsAtRest (t : State) (root : ℕ) : Type 0 where

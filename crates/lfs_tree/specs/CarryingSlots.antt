@@ -7,10 +7,10 @@ use Rattle.lfs_model.specs.Slots.{Attributes}
 use Rattle.lfs_model.specs.Refusals.{is_root}
 use Rattle.lfs_model.specs.Thread.{Pair}
 use Rattle.lfs_model.specs.Tree.{Path, Tree}
-use Rattle.lfs_tree.specs.Paths.{StandsOnPath}
-use Rattle.lfs_tree.specs.declared.paths.Found.{Found}
-use Rattle.lfs_tree.specs.declared.paths.Found.TheVariants as found
-use Rattle.lfs_tree.specs.declared.search.Spot.{Spot}
+use Rattle.lfs_lookup.specs.Paths.{StandsOnPath}
+use Rattle.lfs_lookup.specs.declared.paths.Found.{Found}
+use Rattle.lfs_lookup.specs.declared.paths.Found.TheVariants as found
+use Rattle.lfs_lookup.specs.declared.search.Spot.{Spot}
 
 -- an entry is at the path
 pub record HasEntry (t : Tree) (path : Path) : Type 0 where

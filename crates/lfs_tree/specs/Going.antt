@@ -17,13 +17,13 @@ use Rattle.lfs_operations.specs.Removing.{CanRemove}
 use Rattle.lfs_operations.specs.Unlinking.{CanRemoveDirectory}
 use Rattle.lfs_thread.specs.Kept.{Kept}
 use Rattle.lfs_tree.specs.CarryingSlots.{has_slot}
-use Rattle.lfs_tree.specs.Entry.{ShowsContents}
-use Rattle.lfs_tree.specs.Paths.{EndsIn}
-use Rattle.lfs_tree.specs.declared.entry.Contents.{Contents}
-use Rattle.lfs_tree.specs.declared.entry.Contents.TheVariants as contents
-use Rattle.lfs_tree.specs.declared.paths.Found.{Found}
-use Rattle.lfs_tree.specs.declared.paths.Found.TheVariants as found
-use Rattle.lfs_tree.specs.declared.search.Spot.{Spot}
+use Rattle.lfs_lookup.specs.Entry.{ShowsContents}
+use Rattle.lfs_lookup.specs.Paths.{EndsIn}
+use Rattle.lfs_lookup.specs.declared.entry.Contents.{Contents}
+use Rattle.lfs_lookup.specs.declared.entry.Contents.TheVariants as contents
+use Rattle.lfs_lookup.specs.declared.paths.Found.{Found}
+use Rattle.lfs_lookup.specs.declared.paths.Found.TheVariants as found
+use Rattle.lfs_lookup.specs.declared.search.Spot.{Spot}
 use Rattle.lfs_writer.specs.Based.{IsBase}
 use Rattle.lfs_writer.specs.declared.stored.Stored.{Stored}
 

@@ -5,11 +5,11 @@ use Rattle.lfs_model.specs.Slots.{Slot, Struct}
 use Rattle.lfs_model.specs.Shown.{file_blocks}
 use Rattle.lfs_files.specs.Standing.{Holds, held_in}
 use Rattle.lfs_thread.specs.Kept.{Kept}
-use Rattle.lfs_tree.specs.BytesAt.{IsFileAt}
-use Rattle.lfs_tree.specs.FileBytes.{bytes_shown}
-use Rattle.lfs_tree.specs.declared.entry.Contents.{Contents as EntryContents}
-use Rattle.lfs_tree.specs.declared.entry.Contents.TheVariants as entry
-use Rattle.lfs_tree.specs.declared.search.Spot.{Spot}
+use Rattle.lfs_lookup.specs.BytesAt.{IsFileAt}
+use Rattle.lfs_lookup.specs.FileBytes.{bytes_shown}
+use Rattle.lfs_lookup.specs.declared.entry.Contents.{Contents as EntryContents}
+use Rattle.lfs_lookup.specs.declared.entry.Contents.TheVariants as entry
+use Rattle.lfs_lookup.specs.declared.search.Spot.{Spot}
 use Rattle.lfs_writer.specs.Contents.{IsIdle}
 use Rattle.lfs_writer.specs.Form as form
 use Rattle.lfs_writer.specs.Form.{Form}

@@ -23,14 +23,14 @@ use Rattle.lfs_operations.specs.Ready.{IsLoggedAt, IsReady}
 use Rattle.lfs_thread.specs.Kept.{Kept, State}
 use Rattle.lfs_thread.specs.Steps.{pair_in}
 use Rattle.lfs_tree.specs.CarryingSlots.{IsSlotFor}
-use Rattle.lfs_tree.specs.Entry.{ShowsContents}
+use Rattle.lfs_lookup.specs.Entry.{ShowsContents}
 use Rattle.lfs_tree.specs.Going.{CanFree}
-use Rattle.lfs_tree.specs.Paths.{BeginsOnPath, LeadsTo}
+use Rattle.lfs_lookup.specs.Paths.{BeginsOnPath, LeadsTo}
 use Rattle.lfs_tree.specs.declared.carrying_rename.Source.{Source}
-use Rattle.lfs_tree.specs.declared.entry.Contents.{Contents}
-use Rattle.lfs_tree.specs.declared.paths.Found.{Found}
-use Rattle.lfs_tree.specs.declared.paths.Found.TheVariants as found
-use Rattle.lfs_tree.specs.declared.search.Spot.{Spot}
+use Rattle.lfs_lookup.specs.declared.entry.Contents.{Contents}
+use Rattle.lfs_lookup.specs.declared.paths.Found.{Found}
+use Rattle.lfs_lookup.specs.declared.paths.Found.TheVariants as found
+use Rattle.lfs_lookup.specs.declared.search.Spot.{Spot}
 
 -- ---- what may be renamed
 

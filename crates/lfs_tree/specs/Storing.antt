@@ -24,11 +24,11 @@ use Rattle.lfs_tree.specs.CarryingSlots.{IsSlotFor}
 use Rattle.lfs_tree.specs.Held.{seen_kept}
 use Rattle.lfs_tree.specs.OpenContents.{IsOverFile, IsStoredAt, bytes_held}
 use Rattle.lfs_tree.specs.Seen.{IsSound}
-use Rattle.lfs_tree.specs.declared.entry.Contents.{Contents as EntryContents}
-use Rattle.lfs_tree.specs.declared.entry.Contents.TheVariants as entry
-use Rattle.lfs_tree.specs.declared.paths.Found.{Found}
-use Rattle.lfs_tree.specs.declared.paths.Found.TheVariants as found
-use Rattle.lfs_tree.specs.declared.search.Spot.{Spot}
+use Rattle.lfs_lookup.specs.declared.entry.Contents.{Contents as EntryContents}
+use Rattle.lfs_lookup.specs.declared.entry.Contents.TheVariants as entry
+use Rattle.lfs_lookup.specs.declared.paths.Found.{Found}
+use Rattle.lfs_lookup.specs.declared.paths.Found.TheVariants as found
+use Rattle.lfs_lookup.specs.declared.search.Spot.{Spot}
 use Rattle.lfs_tree.specs.declared.storing.FileSlot.{FileSlot}
 use Rattle.lfs_writer.specs.Contents.{form_of, held_bytes}
 use Rattle.lfs_writer.specs.Form as form

@@ -6,8 +6,8 @@ use Rattle.lfs_model.specs.Slots.{Struct, Inline, Ctz, Branch}
 use Rattle.lfs_model.specs.Thread.{Pair}
 use Rattle.lfs_model.specs.Shown.{IsReached}
 use Rattle.lfs_model.proofs.Sites.{Among}
-use Rattle.lfs_tree.specs.Items.{Shape}
-use Rattle.lfs_tree.specs.Walk.{BeginsIfBranch}
+use Rattle.lfs_lookup.specs.Items.{Shape}
+use Rattle.lfs_lookup.specs.Walk.{BeginsIfBranch}
 
 abbrev pub IsMarked : List Bool → ℕ → Type 0
 IsMarked marks n = slice_get marks n ≡ Some true

@@ -14,12 +14,10 @@ ghost use Rattle.lfs_model.specs.Shown.{tree_in};
 ghost use Rattle.lfs_tree.specs.Allowed.{CanCreate, CanMake};
 ghost use Rattle.lfs_tree.specs.Carrying.{CallsToCreate, Carries, HasCalled, IsAtRest, IsPlaceFor, IsPlaceIn, IsVacant, Spares, SurvivesTo, TellsError, is_place};
 ghost use Rattle.lfs_tree.specs.Held.{IsRooted, seen_kept};
-ghost use Rattle.lfs_tree.specs.Reading.{IsReading};
+ghost use Rattle.lfs_lookup.specs.Reading.{IsReading};
 
-use crate::path::Path;
-use crate::paths::{Found, look_up};
-use crate::search::Spot;
 use lfs_device::{BlockDevice, Error};
+use lfs_lookup::{Found, Path, Spot, look_up};
 use lfs_operations::{create, make_directory};
 use lfs_thread::Thread;
 use std::alloc::Global;

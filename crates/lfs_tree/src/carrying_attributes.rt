@@ -9,13 +9,11 @@ ghost use Rattle.lfs_tree.specs.Allowed.{CanRemoveAttr, CanSetAttr};
 ghost use Rattle.lfs_tree.specs.Carrying.{Carries, HasCalled, IsAtRest, Spares, SurvivesTo, TellsError};
 ghost use Rattle.lfs_tree.specs.CarryingSlots.{HasEntry, IsSlotFor, IsSlotIn, has_slot, with_attributes_changed};
 ghost use Rattle.lfs_tree.specs.Held.{seen_kept};
-ghost use Rattle.lfs_tree.specs.Reading.{IsReading};
+ghost use Rattle.lfs_lookup.specs.Reading.{IsReading};
 
 use crate::carrying::know_device;
-use crate::path::Path;
-use crate::paths::{Found, look_up};
-use crate::search::Spot;
 use lfs_device::{BlockDevice, Error};
+use lfs_lookup::{Found, Path, Spot, look_up};
 use lfs_operations::{remove_attribute, set_attribute};
 use lfs_thread::Thread;
 use std::alloc::Global;

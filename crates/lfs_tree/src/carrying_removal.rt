@@ -17,15 +17,12 @@ ghost use Rattle.lfs_tree.specs.Carrying.{Carries, HasCalled, IsAtRest, Spares, 
 ghost use Rattle.lfs_tree.specs.CarryingSlots.{HasEntry};
 ghost use Rattle.lfs_tree.specs.Going.{CanFree, CanGo, CanTake, HasGone, HasSpared, IsEntryOn};
 ghost use Rattle.lfs_tree.specs.Held.{seen_kept};
-ghost use Rattle.lfs_tree.specs.Reading.{IsReading};
+ghost use Rattle.lfs_lookup.specs.Reading.{IsReading};
 
 use crate::carrying::know_device;
-use crate::entry::Contents;
-use crate::path::Path;
-use crate::paths::{Found, look_up};
-use crate::search::Spot;
 use lfs_device::{BlockDevice, Error};
 use lfs_files::{settle_file, settled_map_is_exact};
+use lfs_lookup::{Contents, Found, Path, Spot, look_up};
 use lfs_operations::{remove_directory, remove_file};
 use lfs_thread::Thread;
 use lfs_writer::Stored;

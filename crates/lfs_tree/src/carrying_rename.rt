@@ -11,16 +11,13 @@ ghost use Rattle.lfs_tree.specs.Allowed.{CanRename};
 ghost use Rattle.lfs_tree.specs.Carrying.{Carries, HasCalled, IsAtRest, Spares, SurvivesTo, TellsError};
 ghost use Rattle.lfs_tree.specs.CarryingSlots.{HasEntry, has_slot};
 ghost use Rattle.lfs_tree.specs.Held.{seen_kept};
-ghost use Rattle.lfs_tree.specs.Reading.{IsReading};
+ghost use Rattle.lfs_lookup.specs.Reading.{IsReading};
 ghost use Rattle.lfs_tree.specs.Shifting.{CanShiftFound, CanShiftOnto, CanShiftOver, CanShiftTo, HasShifted, HasShiftedOnto, IsSource, IsSourceIn, IsTarget, TellsOfWork};
 
 use crate::carrying::{know_device, last_of};
 use crate::carrying_removal::free_list;
-use crate::entry::Contents;
-use crate::path::Path;
-use crate::paths::{Found, look_up};
-use crate::search::Spot;
 use lfs_device::{BlockDevice, Error};
+use lfs_lookup::{Contents, Found, Path, Spot, look_up};
 use lfs_operations::{
     rename, rename_across, rename_onto_directory, rename_onto_directory_across, rename_onto_file,
     rename_onto_file_across,

@@ -14,12 +14,12 @@ ghost use Rattle.lfs_tree.specs.CarryingSlots.{with_attributes_changed};
 ghost use Rattle.lfs_tree.specs.Held.{IsRooted, seen_kept};
 
 use crate::carrying::create_at;
-use crate::path::Path;
 use crate::recovering_lost::recover_first;
 use crate::rooted::{
     drop_attribute_at, make_directory_at, put_attribute_at, remove_entry_at, rename_entry_at,
 };
 use lfs_device::{BlockDevice, Error};
+use lfs_lookup::Path;
 use lfs_thread::Thread;
 use std::alloc::Global;
 

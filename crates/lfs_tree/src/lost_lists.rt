@@ -13,12 +13,12 @@ ghost use Rattle.lfs_tag.specs.ContentSeen.{slot_seen};
 ghost use Rattle.lfs_thread.specs.Lent.{IsBlockOf};
 ghost use Rattle.lfs_thread.specs.Steps.{pair_in};
 ghost use Rattle.lfs_tree.specs.LostLists.{CanFreeLists, list_typed, lists_named, lists_typed};
-ghost use Rattle.lfs_tree.specs.Reading.{IsReading};
-ghost use Rattle.lfs_tree.specs.Search.{HoldsContent};
+ghost use Rattle.lfs_lookup.specs.Reading.{IsReading};
+ghost use Rattle.lfs_lookup.specs.Search.{HoldsContent};
 
-use crate::entry::{Contents, Entry, entry_of};
 use lfs_device::{BlockDevice, Error};
 use lfs_files::{settle_file, settled_map_is_exact};
+use lfs_lookup::{Contents, Entry, entry_of};
 use lfs_tag::{Content, Log, Slot};
 use lfs_thread::Thread;
 use lfs_writer::Stored;

@@ -4,11 +4,10 @@ ghost use Rattle.std.specs.Prelude.{◌≡◌, ◌↔◌, IsTrue, IfOk, false};
 ghost use Rattle.lfs_model.specs.Thread.{superblocks_before};
 ghost use Rattle.lfs_model.specs.View.{IsAccepted};
 ghost use Rattle.lfs_model.specs.Profile.{IsWritable};
-ghost use Rattle.lfs_tree.specs.Reading.{IsReading};
+ghost use Rattle.lfs_lookup.specs.Reading.{IsReading};
 
-use crate::profile::is_writable;
-use crate::root::find_root;
 use lfs_device::{BlockDevice, Error};
+use lfs_lookup::{find_root, is_writable};
 use lfs_thread::Thread;
 use std::alloc::Global;
 

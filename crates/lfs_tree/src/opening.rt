@@ -9,18 +9,14 @@ ghost use Rattle.lfs_thread.specs.Beside.{IsDividedAs};
 ghost use Rattle.lfs_tree.specs.Held.{IsRooted};
 ghost use Rattle.lfs_tree.specs.OpenContents.{IsOpenedForm, IsOverFile, bytes_held};
 ghost use Rattle.lfs_tree.specs.Opening.{CanBeOpened, IsOpened, opened_form};
-ghost use Rattle.lfs_tree.specs.Reading.{IsReading};
-ghost use Rattle.lfs_tree.specs.declared.entry.Contents.TheVariants as entry_contents;
-ghost use Rattle.lfs_tree.specs.declared.search.Spot.{Spot as SpotSeen};
+ghost use Rattle.lfs_lookup.specs.Reading.{IsReading};
+ghost use Rattle.lfs_lookup.specs.declared.entry.Contents.TheVariants as entry_contents;
+ghost use Rattle.lfs_lookup.specs.declared.search.Spot.{Spot as SpotSeen};
 ghost use Rattle.lfs_writer.specs.Contents.{IsIdle, form_of};
 ghost use Rattle.lfs_writer.specs.Form as form;
 
-use crate::by_path::shown_at;
-use crate::bytes_at::{file_of, inline_at};
-use crate::entry;
-use crate::path::Path;
-use crate::search::Spot;
 use lfs_device::{BlockDevice, Error, Geometry};
+use lfs_lookup::{Path, Spot, file_of, inline_at, shown_at};
 use lfs_thread::Thread;
 use lfs_writer::{Contents, Stored, in_memory};
 use std::alloc::Global;
@@ -67,7 +63,7 @@ fn opened_from<D: BlockDevice>(
     alloc: Global,
     thread: &mut Thread<D>,
     slot: Spot,
-    contents: entry::Contents,
+    contents: lfs_lookup::Contents,
 ) -> Result<Contents, Error>
     requires works { thread.old.failed ≡ false }
     requires can { (held : Slot) × CanBeOpened thread.old.kept slot contents held }
@@ -75,8 +71,8 @@ fn opened_from<D: BlockDevice>(
     ensures reading { IsReading thread.old thread.new result }
 {
     match contents {
-        entry::Contents::Inline { len } => inline_opened(alloc, thread, slot, len),
-        entry::Contents::List { head, size } => Ok(list_opened(thread, head, size)),
+        lfs_lookup::Contents::Inline { len } => inline_opened(alloc, thread, slot, len),
+        lfs_lookup::Contents::List { head, size } => Ok(list_opened(thread, head, size)),
     }
 }
 

@@ -11,14 +11,14 @@ ghost use Rattle.lfs_thread.specs.Steps.{Writes};
 ghost use Rattle.lfs_tree.specs.Carrying.{HasCalled, IsAtRest, SurvivesTo, TellsError};
 ghost use Rattle.lfs_tree.specs.Held.{IsRooted};
 ghost use Rattle.lfs_tree.specs.LostLists.{lists_named};
-ghost use Rattle.lfs_tree.specs.Reading.{IsReading};
+ghost use Rattle.lfs_lookup.specs.Reading.{IsReading};
 ghost use Rattle.lfs_tree.specs.Recovering.{CanDropLost, HasDroppedLost, HasSettled};
 
 use crate::carrying::know_device;
 use crate::lost_lists::{free_lists, lists_of_pairs};
-use crate::root::find_root;
 use crate::unreached::unreached;
 use lfs_device::{BlockDevice, Error};
+use lfs_lookup::find_root;
 use lfs_operations::{drop_unreached, end_move};
 use lfs_thread::Thread;
 use lfs_writer::Stored;

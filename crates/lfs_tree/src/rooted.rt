@@ -16,9 +16,8 @@ use crate::carrying::make_at;
 use crate::carrying_attributes::{remove_attr_at, set_attr_at};
 use crate::carrying_removal::remove_at;
 use crate::carrying_rename::rename_at;
-use crate::path::Path;
-use crate::root::find_root;
 use lfs_device::{BlockDevice, Error};
+use lfs_lookup::{Path, find_root};
 use lfs_thread::Thread;
 use std::alloc::Global;
 

@@ -11,17 +11,13 @@ ghost use Rattle.lfs_operations.specs.Storing.{IsStored, with_contents_at};
 ghost use Rattle.lfs_tree.specs.Carrying.{HasCalled, IsAtRest, SurvivesTo, TellsError};
 ghost use Rattle.lfs_tree.specs.Held.{IsRooted, seen_kept};
 ghost use Rattle.lfs_tree.specs.OpenContents.{CanStoreAt, bytes_held};
-ghost use Rattle.lfs_tree.specs.Reading.{IsReading};
+ghost use Rattle.lfs_lookup.specs.Reading.{IsReading};
 ghost use Rattle.lfs_tree.specs.Storing.{CanCommit, CanPutContents, HasCommitted, HasStored, IsFileFor, IsFileIn, is_file_found, list_in, list_named, no_list};
 
 use crate::carrying::know_device;
-use crate::entry;
-use crate::path::Path;
-use crate::paths::{Found, look_up};
-use crate::root::find_root;
-use crate::search::Spot;
 use lfs_device::{BlockDevice, Error};
 use lfs_files::{finish_file, settle_file};
+use lfs_lookup::{Found, Path, Spot, find_root, look_up};
 use lfs_operations::set_struct;
 use lfs_tag::ctz_bytes;
 use lfs_tag::kinds::{CTZ_STRUCT, INLINE_STRUCT};
@@ -48,12 +44,12 @@ fn no_list() -> Stored
 }
 
 // The list that an entry names.
-fn list_named(contents: entry::Contents) -> Stored
+fn list_named(contents: lfs_lookup::Contents) -> Stored
     ensures { result ≡ list_named contents }
 {
     match contents {
-        entry::Contents::Inline { .. } => no_list(),
-        entry::Contents::List { head, size } => Stored {
+        lfs_lookup::Contents::Inline { .. } => no_list(),
+        lfs_lookup::Contents::List { head, size } => Stored {
             head,
             size,
             in_flight: false,

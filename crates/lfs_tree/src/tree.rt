@@ -24,28 +24,26 @@ ghost use Rattle.lfs_thread.specs.Device.{GivesBack, two_of};
 ghost use Rattle.lfs_thread.specs.Kept.{disk_on};
 ghost use Rattle.lfs_tree.specs.Allowed.{CanCreate, CanMake, CanRemove, CanRemoveAttr, CanRename, CanSetAttr};
 ghost use Rattle.lfs_tree.specs.CarryingSlots.{with_attributes_changed};
-ghost use Rattle.lfs_tree.specs.AtHand.{AreSmall, HasOnHand, ReadsOnce, ReadsToCreate};
-ghost use Rattle.lfs_tree.specs.AttributeAt.{IsAttributesSize};
-ghost use Rattle.lfs_tree.specs.Finds.{Finds, has_names, list_item_seen};
+ghost use Rattle.lfs_lookup.specs.AtHand.{AreSmall};
+ghost use Rattle.lfs_tree.specs.Reads.{HasOnHand, ReadsOnce, ReadsToCreate};
+ghost use Rattle.lfs_lookup.specs.AttributeAt.{IsAttributesSize};
+ghost use Rattle.lfs_lookup.specs.Finds.{Finds, has_names, list_item_seen};
 ghost use Rattle.lfs_tree.specs.Formatting.{ComesBack, ErasesTwo};
 ghost use Rattle.lfs_tree.specs.Seen.{IsAsked, IsBroken, IsBrokenAsking, IsCarried, IsError, IsMountError as IsMountErrorOf, IsMountedTree, IsSound, LeavesRest, SurvivesAs, around_of, tree_seen};
 
-use crate::attribute_at::attribute_at;
-use crate::attribute_sizes::attributes_size_at;
-use crate::by_path::{find_at, look_inside_at};
-use crate::bytes_at::bytes_at;
 use crate::changing::{
     create_file, give_attribute, make_directory, remove_entry, rename_entry, take_attribute,
 };
-use crate::finding::{Finding, FoundAttribute, Inside, Listing};
 use crate::formatting::format;
 use crate::image::Image;
-use crate::list_at::list_at;
 use crate::mounted::read_root;
-use crate::path::Path;
 use crate::recovering_lost::recover_image;
 use core::mem::replace_with;
 use lfs_device::{BlockDevice, Error, Geometry};
+use lfs_lookup::{
+    Finding, FoundAttribute, Inside, Listing, Path, attribute_at, attributes_size_at, bytes_at,
+    find_at, list_at, look_inside_at,
+};
 use lfs_tag::MoveState;
 use std::alloc::Global;
 use std::marker::Model;

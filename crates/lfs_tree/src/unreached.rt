@@ -4,17 +4,14 @@ ghost use Rattle.std.specs.Prelude.{◌≡◌, ◌<◌, ◌≤◌, ◌++◌, ◌
 ghost use Rattle.lfs_model.specs.Thread.{superblocks_before};
 ghost use Rattle.lfs_model.specs.View.{IsAccepted};
 ghost use Rattle.lfs_operations.specs.Recovering.{AreUnreached};
-ghost use Rattle.lfs_tree.specs.Items.{item_seen, items_seen};
-ghost use Rattle.lfs_tree.specs.Profile.{follows_at};
-ghost use Rattle.lfs_tree.specs.Reading.{IsReading};
+ghost use Rattle.lfs_lookup.specs.Items.{item_seen, items_seen};
+ghost use Rattle.lfs_lookup.specs.Profile.{follows_at};
+ghost use Rattle.lfs_lookup.specs.Reading.{IsReading};
 ghost use Rattle.lfs_tree.specs.Unreached.{AllBegin, AreReachMarks, HasMarked, IsNamedBy, IsNamedIn};
-ghost use Rattle.lfs_tree.specs.Walk.{BeginsIfBranch};
+ghost use Rattle.lfs_lookup.specs.Walk.{BeginsIfBranch};
 
-use crate::directory::entries_under;
-use crate::items::{Item, Structure};
-use crate::paths::number_of;
-use crate::profile::follows_at;
 use lfs_device::{BlockDevice, Error};
+use lfs_lookup::{Item, Structure, entries_under, follows_at, number_of};
 use lfs_thread::Thread;
 use std::alloc::{AllocError, Global};
 

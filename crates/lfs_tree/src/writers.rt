@@ -15,11 +15,11 @@ ghost use Rattle.lfs_writer.specs.Form.{truncated, written};
 
 use crate::image::Image;
 use crate::opening::{no_contents, open_at};
-use crate::path::Path;
 use crate::storing::store_file_at;
 use crate::tree::Tree;
 use lfs_device::{BlockDevice, Error};
 use lfs_files::{truncate_file, write_file};
+use lfs_lookup::Path;
 use lfs_writer::Contents;
 use std::alloc::Global;
 

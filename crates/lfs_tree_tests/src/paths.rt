@@ -3,7 +3,8 @@
 ghost use Rattle.std.specs.Prelude.{◌≡◌, false, IfOk};
 
 use lfs_device::{Error, Geometry, RamDevice};
-use lfs_tree::{Node, Path, Tree};
+use lfs_lookup::{Node, Path};
+use lfs_tree::Tree;
 use std::alloc::Global;
 use std::test::Fail;
 

@@ -5,7 +5,7 @@ use Rattle.lfs_fs.proofs.Checked.{lookup_failed}
 use Rattle.lfs_fs.proofs.EntryChecks.{list_checked}
 use Rattle.lfs_fs.proofs.FewReads.{few_given}
 use Rattle.lfs_fs.proofs.KeptLookUps.{none_given}
-use Rattle.lfs_tree.specs.Finds.{list_item_seen}
+use Rattle.lfs_lookup.specs.Finds.{list_item_seen}
 use Rattle.lfs_model.specs.Discipline.{parents}
 use Rattle.std.proofs.Common.{[], ◌∷◌, ◌++◌, map}
 use Rattle.lfs_fs.proofs.checks.check_list.Goals as goal

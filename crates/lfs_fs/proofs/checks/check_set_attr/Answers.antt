@@ -2,7 +2,7 @@ use Rattle.std.proofs.Common.{◌∙◌, ap, arith, subst, sym}
 use Rattle.lfs_model.specs.TreeEdits.{attributes_of}
 use Rattle.lfs_model.specs.Operations as ops
 use Rattle.lfs_model.specs.Session.{lacks}
-use Rattle.lfs_tree.specs.AttributeAt.{IsAttributesSize}
+use Rattle.lfs_lookup.specs.AttributeAt.{IsAttributesSize}
 use Rattle.lfs_tree.specs.Seen.{Seen, around_of, tree_seen}
 use Rattle.lfs_fs.specs.FileSeen.{files_seen}
 use Rattle.lfs_fs.specs.Held.{held_of}

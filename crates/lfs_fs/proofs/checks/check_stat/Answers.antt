@@ -5,7 +5,7 @@ use Rattle.lfs_fs.proofs.Checked.{lookup_failed, stat_checked}
 use Rattle.lfs_fs.proofs.FewReads.{few_given}
 use Rattle.lfs_fs.proofs.KeptLookUps.{hand_failed, hand_given, none_given}
 use Rattle.lfs_model.specs.Discipline.{parents, searched}
-use Rattle.lfs_tree.specs.AtHand.{HasOnHand}
+use Rattle.lfs_tree.specs.Reads.{HasOnHand}
 use Rattle.std.proofs.Common.{[], ◌∷◌}
 use Rattle.lfs_fs.proofs.checks.check_stat.Goals as goal
 

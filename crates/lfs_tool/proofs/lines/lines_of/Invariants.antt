@@ -1,6 +1,6 @@
 use Rattle.std.proofs.Common.{◌≡◌, take}
 use Rattle.lfs_tool.specs.Listed.{lines_at}
-use Rattle.lfs_tree.specs.Walk.{founds_seen}
+use Rattle.lfs_lookup.specs.Walk.{founds_seen}
 use Rattle.lfs_tool.proofs.lines.lines_of.Given as goal
 
 abbrev pub invariant-loop-one : goal.invariant-loop-one

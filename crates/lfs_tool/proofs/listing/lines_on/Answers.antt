@@ -1,5 +1,5 @@
 use Rattle.std.proofs.Common.{ap, ◌∙◌}
-use Rattle.lfs_tree.specs.Walk.{founds_seen}
+use Rattle.lfs_lookup.specs.Walk.{founds_seen}
 use Rattle.lfs_tool.specs.Listed.{lines_at}
 use Rattle.lfs_tool.proofs.listing.lines_on.Goals as goal
 

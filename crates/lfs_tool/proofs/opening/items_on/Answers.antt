@@ -3,7 +3,7 @@ use Rattle.lfs_thread.specs.Kept.{disk_on}
 use Rattle.lfs_model.specs.History.{OnlyReads, faults}
 use Rattle.lfs_model.proofs.Histories.{goes_on_by}
 use Rattle.lfs_model.specs.View.{IsAccepted}
-use Rattle.lfs_tree.specs.Walk.{IsWalked, founds_seen}
+use Rattle.lfs_lookup.specs.Walk.{IsWalked, founds_seen}
 use Rattle.lfs_tool.proofs.opening.items_on.Goals as goal
 
 pub returns-in-Ok-clause-items : goal.returns-in-Ok-clause-items

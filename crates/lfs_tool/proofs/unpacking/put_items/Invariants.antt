@@ -1,7 +1,7 @@
 use Rattle.std.proofs.Common.{◌≡◌, false, take}
 use Rattle.lfs_thread.specs.Steps.{IsOnlyRead}
 use Rattle.lfs_tool.specs.Unpacked.{HasDone, actions_at}
-use Rattle.lfs_tree.specs.Walk.{founds_seen}
+use Rattle.lfs_lookup.specs.Walk.{founds_seen}
 use Rattle.lfs_tool.proofs.unpacking.put_items.Given as goal
 
 abbrev pub invariant-loop-item : goal.invariant-loop-item

@@ -2,8 +2,8 @@ use Rattle.std.proofs.Common.{subst, sym}
 use Rattle.std.proofs.lemmas.Result.{on_ok_weaker}
 use Rattle.lfs_device.specs.RamDevice.{blocks_of, geometry_of}
 use Rattle.lfs_device.specs.Shown.{disk_of as shown}
-use Rattle.lfs_tree.specs.Walk.{founds_seen}
-use Rattle.lfs_tree.specs.declared.walking.TreeItem.{TreeItem}
+use Rattle.lfs_lookup.specs.Walk.{founds_seen}
+use Rattle.lfs_lookup.specs.declared.walking.TreeItem.{TreeItem}
 use Rattle.std.proofs.Common.{List}
 use Rattle.lfs_tool.specs.Unpacked.{AreLists, HasBegun, HasDone, actions_at}
 use Rattle.lfs_tool.proofs.Unpacks.{begun_of, done_of, fails_begun, lists_walked}

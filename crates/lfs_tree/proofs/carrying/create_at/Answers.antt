@@ -13,7 +13,7 @@ use Rattle.lfs_tree.proofs.CarryRooms.{room_for}
 use Rattle.lfs_tree.proofs.CarryRooted.{any_flags}
 use Rattle.lfs_tree.proofs.CarrySurvives.{survives_reading}
 use Rattle.lfs_tree.proofs.CarryTold.{called_by_reading, called_by_writing, tells_error, told_with_room}
-use Rattle.lfs_tree.proofs.Reading.{answered}
+use Rattle.lfs_lookup.proofs.Reading.{answered}
 use Rattle.lfs_tree.proofs.carrying.create_at.Goals as goal
 
 pub create-requires-clause-can : goal.create-requires-clause-can

@@ -11,7 +11,7 @@ use Rattle.lfs_tree.proofs.Carried.{among_one, read_is}
 use Rattle.lfs_tree.proofs.CarryEdited.{can_edit, cleared_at, cleared_survives, edited_alone, slot_below}
 use Rattle.lfs_tree.proofs.CarrySurvives.{survives_reading}
 use Rattle.lfs_tree.proofs.CarryTold.{called_by_writing, tells_error, told_by_reading}
-use Rattle.lfs_tree.proofs.Reading.{answered}
+use Rattle.lfs_lookup.proofs.Reading.{answered}
 use Rattle.lfs_tree.proofs.carrying_attributes.remove_attr_at.Goals as goal
 
 pub remove_attribute-requires-clause-can : goal.remove_attribute-requires-clause-can

@@ -13,7 +13,7 @@ use Rattle.lfs_tree.proofs.CarryEdited.{can_set, edited_alone, set_at, set_survi
 use Rattle.lfs_tree.proofs.CarryRooms.{room_for}
 use Rattle.lfs_tree.proofs.CarrySurvives.{survives_reading}
 use Rattle.lfs_tree.proofs.CarryTold.{called_by_writing, tells_error, told_with_room}
-use Rattle.lfs_tree.proofs.Reading.{answered}
+use Rattle.lfs_lookup.proofs.Reading.{answered}
 use Rattle.lfs_tree.proofs.carrying_attributes.set_attr_at.Goals as goal
 
 pub set_attribute-requires-clause-can : goal.set_attribute-requires-clause-can

@@ -10,7 +10,7 @@ use Rattle.lfs_tree.proofs.Carried.{read_is}
 use Rattle.lfs_tree.proofs.CarryGone.{can_go, entry_to_remove, removed_at, told_of_steps}
 use Rattle.lfs_tree.proofs.CarrySurvives.{survives_behind, survives_reading}
 use Rattle.lfs_tree.proofs.CarryTold.{called_by_writing, tells_error}
-use Rattle.lfs_tree.proofs.Reading.{answered}
+use Rattle.lfs_lookup.proofs.Reading.{answered}
 use Rattle.lfs_tree.proofs.carrying_removal.remove_at.Goals as goal
 
 pub find_entry-requires-clause-there : goal.find_entry-requires-clause-there

@@ -1,7 +1,7 @@
 use Rattle.std.proofs.Common.{ap, map, subst, ◌∙◌}
-use Rattle.lfs_tree.specs.Paths.{LeadsTo}
+use Rattle.lfs_lookup.specs.Paths.{LeadsTo}
 use Rattle.lfs_tree.proofs.CarryEdited.{slot_found}
-use Rattle.lfs_tree.proofs.RootPairs.{root_leads}
+use Rattle.lfs_lookup.proofs.RootPairs.{root_leads}
 use Rattle.lfs_tree.proofs.Shifted.{source_for}
 use Rattle.lfs_tree.proofs.carrying_rename.find_source.Goals as goal
 

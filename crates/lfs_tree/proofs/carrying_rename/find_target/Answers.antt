@@ -1,7 +1,7 @@
 use Rattle.std.proofs.Common.{ap, map, subst, ◌∙◌}
 use Rattle.lfs_model.specs.TreeEdits.{last_name}
-use Rattle.lfs_tree.specs.Paths.{LeadsTo}
-use Rattle.lfs_tree.proofs.RootPairs.{root_leads}
+use Rattle.lfs_lookup.specs.Paths.{LeadsTo}
+use Rattle.lfs_lookup.proofs.RootPairs.{root_leads}
 use Rattle.lfs_tree.proofs.carrying_rename.find_target.Goals as goal
 
 pub look_up-requires-clause-root : goal.look_up-requires-clause-root

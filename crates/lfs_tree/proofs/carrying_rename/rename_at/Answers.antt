@@ -9,8 +9,8 @@ use Rattle.lfs_tree.specs.Shifting.{CanShiftFound, HasShifted}
 use Rattle.lfs_tree.proofs.Carried.{read_is}
 use Rattle.lfs_tree.proofs.CarrySurvives.{survives_behind, survives_reading}
 use Rattle.lfs_tree.proofs.CarryTold.{called_by_reading, called_by_writing, tells_error}
-use Rattle.lfs_tree.proofs.Reading.{answered, both}
-use Rattle.lfs_tree.proofs.ReadOnly.{only_read}
+use Rattle.lfs_lookup.proofs.Reading.{answered, both}
+use Rattle.lfs_lookup.proofs.ReadOnly.{only_read}
 use Rattle.lfs_tree.proofs.Shifted.{entry_to_rename, rests_still, shift_found, shifted_at, target_back, told_of_work}
 use Rattle.lfs_tree.proofs.carrying_rename.rename_at.Goals as goal
 

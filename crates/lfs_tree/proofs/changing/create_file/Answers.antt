@@ -4,7 +4,7 @@ use Rattle.lfs_model.specs.TreeEdits.{added}
 use Rattle.lfs_model.specs.Operations as ops
 use Rattle.lfs_model.specs.Tree.{FileNode}
 use Rattle.lfs_thread.specs.Kept.{Kept}
-use Rattle.lfs_tree.specs.AtHand.{ReadsToCreate}
+use Rattle.lfs_tree.specs.Reads.{ReadsToCreate}
 use Rattle.lfs_tree.specs.Held.{seen_kept}
 use Rattle.lfs_tree.proofs.CarryFreed.{ok_then}
 use Rattle.lfs_tree.proofs.RecoveredFirst.{add_after, called_after, carried_after, errors_after, survives_after, survives_before, spares_after}

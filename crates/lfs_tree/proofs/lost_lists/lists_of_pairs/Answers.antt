@@ -5,7 +5,7 @@ use Rattle.lfs_operations.specs.Recovering.{slots_at}
 use Rattle.lfs_thread.specs.Steps.{no_pair}
 use Rattle.lfs_tree.specs.LostLists.{lists_named}
 use Rattle.lfs_tree.proofs.LostLists.{named_more}
-use Rattle.lfs_tree.proofs.Reading.{answered, both, further, passed}
+use Rattle.lfs_lookup.proofs.Reading.{answered, both, further, passed}
 use Rattle.lfs_tree.proofs.Recovered.{numbers_below}
 use Rattle.lfs_tree.proofs.lost_lists.lists_of_pairs.Goals as goal
 

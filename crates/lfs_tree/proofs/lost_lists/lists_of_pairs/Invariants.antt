@@ -1,7 +1,7 @@
 use Rattle.std.proofs.Common.{◌≡◌, take}
 use Rattle.lfs_operations.specs.Recovering.{slots_at}
 use Rattle.lfs_tree.specs.LostLists.{lists_named}
-use Rattle.lfs_tree.proofs.Reading.{HasRead}
+use Rattle.lfs_lookup.proofs.Reading.{HasRead}
 use Rattle.lfs_tree.proofs.lost_lists.lists_of_pairs.Given as goal
 
 abbrev pub invariant-loop-number : goal.invariant-loop-number

@@ -1,5 +1,5 @@
 use Rattle.lfs_tag.specs.ContentSeen.{slot_seen}
-use Rattle.lfs_tree.proofs.ItemsShown.{parts_at}
+use Rattle.lfs_lookup.proofs.ItemsShown.{parts_at}
 use Rattle.lfs_tree.proofs.lost_lists.push_lists.Goals as goal
 
 pub list_of-requires : goal.list_of-requires

@@ -1,6 +1,6 @@
 use Rattle.std.proofs.Common.{refl}
 use Rattle.std.proofs.lemmas.Result.{err_from_is_err_and}
-use Rattle.lfs_tree.proofs.Reading.{answered, answers, both, further, passed}
+use Rattle.lfs_lookup.proofs.Reading.{answered, answers, both, further, passed}
 use Rattle.lfs_tree.proofs.mounted.read_root.Goals as goal
 
 pub returns-in_err-is_writable-clause-reading : goal.returns-in_err-is_writable-clause-reading

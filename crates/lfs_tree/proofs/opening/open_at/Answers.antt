@@ -5,12 +5,12 @@ use Rattle.lfs_model.specs.Shown.{tree_in}
 use Rattle.lfs_thread.specs.Kept.{Kept}
 use Rattle.lfs_tree.specs.OpenContents.{IsOpenedForm, IsOverFile, bytes_held}
 use Rattle.lfs_tree.specs.Opening.{CanBeOpened, IsOpened, opened_form}
-use Rattle.lfs_tree.proofs.AtPaths.{sized_on}
-use Rattle.lfs_tree.proofs.BytesAtSlots.{file_of_path, not_file}
+use Rattle.lfs_lookup.proofs.AtPaths.{sized_on}
+use Rattle.lfs_lookup.proofs.BytesAtSlots.{file_of_path, not_file}
 use Rattle.lfs_tree.proofs.Carried.{read_is}
 use Rattle.lfs_tree.proofs.OpenedFiles.{bytes_opened, can_be_opened, form_of_opened, form_opened, idle_is, over_opened}
-use Rattle.lfs_tree.proofs.ReadOnly.{only_read}
-use Rattle.lfs_tree.proofs.Reading.{answered, further}
+use Rattle.lfs_lookup.proofs.ReadOnly.{only_read}
+use Rattle.lfs_lookup.proofs.Reading.{answered, further}
 use Rattle.lfs_tree.proofs.opening.open_at.Goals as goal
 
 pub unreachable-requires : goal.unreachable-requires

@@ -1,6 +1,6 @@
 use Rattle.std.proofs.Common.{sym, subst}
 use Rattle.lfs_tree.specs.Opening.{CanBeOpened, IsOpened, opened_form}
-use Rattle.lfs_tree.specs.declared.entry.Contents.{Contents as EntryContents}
+use Rattle.lfs_lookup.specs.declared.entry.Contents.{Contents as EntryContents}
 use Rattle.lfs_tree.proofs.opening.opened_from.Goals as goal
 
 pub returns-in-List-clause-opened : goal.returns-in-List-clause-opened

@@ -4,8 +4,8 @@ use Rattle.lfs_model.specs.Thread.{Pair}
 use Rattle.lfs_operations.specs.Recovering.{AreUnreached, CanDropUnreached, slots_at}
 use Rattle.lfs_tree.specs.LostLists.{lists_named}
 use Rattle.lfs_tree.proofs.CarryTold.{called_by_reading}
-use Rattle.lfs_tree.proofs.ReadOnly.{only_read}
-use Rattle.lfs_tree.proofs.Reading.{answered, both, further}
+use Rattle.lfs_lookup.proofs.ReadOnly.{only_read}
+use Rattle.lfs_lookup.proofs.Reading.{answered, both, further}
 use Rattle.lfs_tree.proofs.Recovered.{called_then, called_writing, can_drop, drop_survives, dropped, read_survives, tells_given, tells_reading, tells_then}
 use Rattle.lfs_tree.proofs.recovering_lost.drop_lost.Goals as goal
 

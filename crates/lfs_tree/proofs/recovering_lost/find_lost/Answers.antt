@@ -1,4 +1,4 @@
-use Rattle.lfs_tree.proofs.Reading.{answered, further}
+use Rattle.lfs_lookup.proofs.Reading.{answered, further}
 use Rattle.lfs_tree.proofs.recovering_lost.find_lost.Goals as goal
 
 pub returns-clause-reading : goal.returns-clause-reading

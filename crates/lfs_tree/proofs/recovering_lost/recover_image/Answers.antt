@@ -8,7 +8,7 @@ use Rattle.lfs_tree.specs.Seen.{around_of}
 use Rattle.lfs_tree.proofs.CarryRooted.{called_on}
 use Rattle.lfs_tree.proofs.CarrySurvives.{survives_ahead}
 use Rattle.lfs_tree.proofs.Mounting.{sound_read}
-use Rattle.lfs_tree.proofs.Reading.{answered}
+use Rattle.lfs_lookup.proofs.Reading.{answered}
 use Rattle.lfs_tree.proofs.Recovered.{tells_reading, tells_then}
 use Rattle.lfs_tree.proofs.RecoveredFirst.{settled_read}
 use Rattle.lfs_tree.proofs.recovering_lost.recover_image.Goals as goal

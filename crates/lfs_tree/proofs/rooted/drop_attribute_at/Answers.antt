@@ -12,7 +12,7 @@ use Rattle.lfs_tree.proofs.CarryRooted.{called_on, carried_read, spares_read}
 use Rattle.lfs_tree.proofs.CarrySurvives.{survives_ahead}
 use Rattle.lfs_tree.proofs.CarryTold.{tells_error, told_by_reading}
 use Rattle.lfs_tree.proofs.Mounting.{sound_read}
-use Rattle.lfs_tree.proofs.Reading.{answered}
+use Rattle.lfs_lookup.proofs.Reading.{answered}
 use Rattle.lfs_tree.proofs.rooted.drop_attribute_at.Goals as goal
 
 pub returns-in_err-root-clause-called : goal.returns-in_err-root-clause-called

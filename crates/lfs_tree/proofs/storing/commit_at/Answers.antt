@@ -6,7 +6,7 @@ use Rattle.lfs_thread.specs.Kept.{Kept}
 use Rattle.lfs_tree.specs.Carrying.{SurvivesTo}
 use Rattle.lfs_tree.specs.OpenContents.{bytes_held}
 use Rattle.lfs_tree.specs.Storing.{CanPutContents}
-use Rattle.lfs_tree.proofs.AtPaths.{sized_on}
+use Rattle.lfs_lookup.proofs.AtPaths.{sized_on}
 use Rattle.lfs_tree.proofs.Carried.{read_is}
 use Rattle.lfs_tree.proofs.CarrySurvives.{survives_reading}
 use Rattle.lfs_tree.proofs.CarryTold.{called_by_writing}

@@ -1,7 +1,7 @@
 use Rattle.std.proofs.Common.{ap, map, subst, ◌∙◌}
-use Rattle.lfs_tree.specs.Paths.{LeadsTo}
+use Rattle.lfs_lookup.specs.Paths.{LeadsTo}
 use Rattle.lfs_tree.proofs.PutContents.{file_for, file_found}
-use Rattle.lfs_tree.proofs.RootPairs.{root_leads}
+use Rattle.lfs_lookup.proofs.RootPairs.{root_leads}
 use Rattle.lfs_tree.proofs.storing.find_file.Goals as goal
 
 pub look_up-requires-clause-root : goal.look_up-requires-clause-root

@@ -6,7 +6,7 @@ use Rattle.lfs_tree.specs.Carrying.{TellsError}
 use Rattle.lfs_tree.proofs.CarryRooted.{called_on}
 use Rattle.lfs_tree.proofs.CarryTold.{tells_error, told_by_reading}
 use Rattle.lfs_tree.proofs.Mounting.{sound_read}
-use Rattle.lfs_tree.proofs.Reading.{answered}
+use Rattle.lfs_lookup.proofs.Reading.{answered}
 use Rattle.lfs_tree.proofs.CarrySurvives.{survives_left}
 use Rattle.lfs_tree.proofs.StoreContents.{each_any, stored_read}
 use Rattle.lfs_tree.proofs.storing.store_file_at.Goals as goal

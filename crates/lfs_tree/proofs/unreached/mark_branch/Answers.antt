@@ -2,10 +2,10 @@ use Rattle.std.proofs.Common.{sym, subst, arith}
 use Rattle.std.specs.Prelude.{IfSome}
 use Rattle.lfs_model.specs.InDirectory.{BeginsAt}
 use Rattle.lfs_model.specs.Slots.{address_of}
-use Rattle.lfs_tree.specs.Items.{structure_seen}
+use Rattle.lfs_lookup.specs.Items.{structure_seen}
 use Rattle.lfs_tree.specs.Unreached.{HasMarked, IsNamedBy}
-use Rattle.lfs_tree.specs.Walk.{BeginsIfBranch}
-use Rattle.lfs_tree.proofs.Directories.{number_some, number_within}
+use Rattle.lfs_lookup.specs.Walk.{BeginsIfBranch}
+use Rattle.lfs_lookup.proofs.Directories.{number_some, number_within}
 use Rattle.lfs_tree.proofs.Reached.{mark_named}
 use Rattle.lfs_tree.proofs.unreached.mark_branch.Goals as goal
 

@@ -1,6 +1,6 @@
 use Rattle.std.proofs.Common.{◌∙◌, ◌++◌, ◌∷◌, ◌-◌, [], ap, arith, length, length-append, take}
 use Rattle.std.proofs.lemmas.List.{map-append}
-use Rattle.lfs_tree.specs.Items.{item_seen, items_seen}
+use Rattle.lfs_lookup.specs.Items.{item_seen, items_seen}
 use Rattle.lfs_tree.proofs.Reached.{all_taken, none_taken, take_begins, taken_more}
 use Rattle.lfs_tree.proofs.unreached.mark_branches.Goals as goal
 

@@ -1,5 +1,5 @@
 use Rattle.std.proofs.Common.{length}
-use Rattle.lfs_tree.specs.Items.{items_seen}
+use Rattle.lfs_lookup.specs.Items.{items_seen}
 use Rattle.lfs_tree.proofs.Reached.{AreTaken}
 use Rattle.lfs_tree.proofs.unreached.mark_branches.Given as goal
 

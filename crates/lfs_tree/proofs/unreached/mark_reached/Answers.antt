@@ -4,13 +4,13 @@ use Rattle.std.proofs.lemmas.Result.{err_from_is_err_and}
 use Rattle.lfs_model.specs.Disk.{Disk}
 use Rattle.lfs_model.specs.Thread.{Pair, gstate_of}
 use Rattle.lfs_model.specs.View.{IsAccepted}
-use Rattle.lfs_tree.specs.Items.{items_seen}
-use Rattle.lfs_tree.specs.Listed.{shapes_from}
+use Rattle.lfs_lookup.specs.Items.{items_seen}
+use Rattle.lfs_lookup.specs.Listed.{shapes_from}
 use Rattle.lfs_tree.specs.Unreached.{AllBegin, HasMarked, IsNamedIn}
 use Rattle.lfs_tree.proofs.Reached.{IsMarking, first_begin, marked_within, marking_begun, marking_on, next_marked, reach_marks}
-use Rattle.lfs_tree.proofs.Reading.{answered, answers, begun, both, further, lacks_memory, passed}
-use Rattle.lfs_tree.proofs.Roots.{root_begins}
-use Rattle.lfs_tree.proofs.Directories.{within}
+use Rattle.lfs_lookup.proofs.Reading.{answered, answers, begun, both, further, lacks_memory, passed}
+use Rattle.lfs_lookup.proofs.Roots.{root_begins}
+use Rattle.lfs_lookup.proofs.Directories.{within}
 use Rattle.lfs_tree.proofs.unreached.mark_reached.Goals as goal
 
 pub mark-requires : goal.mark-requires

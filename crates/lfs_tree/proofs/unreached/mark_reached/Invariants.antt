@@ -1,7 +1,7 @@
 use Rattle.std.proofs.Common.{◌+◌, length}
 use Rattle.lfs_tree.specs.Unreached.{unmarked}
 use Rattle.lfs_tree.proofs.Reached.{IsMarking}
-use Rattle.lfs_tree.proofs.Reading.{HasRead}
+use Rattle.lfs_lookup.proofs.Reading.{HasRead}
 use Rattle.lfs_tree.proofs.unreached.mark_reached.Given as goal
 
 abbrev pub invariant-loop-first : goal.invariant-loop-first

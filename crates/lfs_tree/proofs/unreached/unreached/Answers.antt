@@ -1,6 +1,6 @@
 use Rattle.std.proofs.Common.{ap, arith, length}
-use Rattle.lfs_tree.proofs.Roots.{root_begins}
-use Rattle.lfs_tree.proofs.Directories.{within}
+use Rattle.lfs_lookup.proofs.Roots.{root_begins}
+use Rattle.lfs_lookup.proofs.Directories.{within}
 use Rattle.lfs_tree.proofs.unreached.unreached.Goals as goal
 
 pub unmarked-requires-clause-few : goal.unmarked-requires-clause-few

@@ -1,7 +1,7 @@
 use Rattle.std.proofs.Common.{◌∙◌, subst, sym}
 use Rattle.std.specs.Prelude.{IfOk}
 use Rattle.lfs_model.specs.TreeEdits.{attributes_of}
-use Rattle.lfs_tree.specs.AttributeAt.{IsAttributesSize}
+use Rattle.lfs_lookup.specs.AttributeAt.{IsAttributesSize}
 use Rattle.lfs_tree.specs.Seen.{Seen, tree_seen}
 use Rattle.lfs_tree.proofs.Asking.{rooted, rooted_mounted, seen_mounted, works_mounted}
 use Rattle.lfs_tree.proofs.tree.Tree.attributes_size.Goals as goal

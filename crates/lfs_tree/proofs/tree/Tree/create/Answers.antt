@@ -3,7 +3,7 @@ use Rattle.lfs_model.specs.TreeEdits.{added}
 use Rattle.lfs_model.specs.Operations as ops
 use Rattle.lfs_model.specs.Tree.{FileNode}
 use Rattle.lfs_tree.specs.Allowed.{CanCreate}
-use Rattle.lfs_tree.specs.AtHand.{ReadsToCreate}
+use Rattle.lfs_tree.specs.Reads.{ReadsToCreate}
 use Rattle.lfs_tree.specs.Seen.{Seen}
 use Rattle.lfs_tree.proofs.Asking.{carried_working, seen_mounted, seen_working, survives_working, spares_working}
 use Rattle.lfs_tree.proofs.tree.Tree.create.Goals as goal

@@ -2,10 +2,10 @@ use Rattle.std.proofs.Common.{◌∙◌, ap, subst, sym}
 use Rattle.lfs_model.specs.TreeEdits.{attributes_of}
 use Rattle.lfs_model.specs.Shown.{tree_in}
 use Rattle.lfs_model.specs.Discipline.{parents}
-use Rattle.lfs_tree.specs.AtHand.{ReadsOnce}
+use Rattle.lfs_tree.specs.Reads.{ReadsOnce}
 use Rattle.lfs_tree.specs.Seen.{Seen, tree_seen}
 use Rattle.lfs_tree.proofs.Asking.{rooted, rooted_mounted, seen_mounted, works_mounted}
-use Rattle.lfs_tree.proofs.AttributeAtSlots.{attribute_given, attribute_then}
+use Rattle.lfs_lookup.proofs.AttributeAtSlots.{attribute_given, attribute_then}
 use Rattle.lfs_tree.proofs.tree.Tree.get_attr.Goals as goal
 
 pub invariant_of-self : goal.invariant_of-self

@@ -1,6 +1,6 @@
 use Rattle.std.proofs.Common.{◌++◌, ◌∷◌, [], ◌∙◌, subst, sym}
 use Rattle.lfs_model.specs.Discipline.{parents}
-use Rattle.lfs_tree.specs.AtHand.{ReadsOnce}
+use Rattle.lfs_tree.specs.Reads.{ReadsOnce}
 use Rattle.lfs_tree.specs.Seen.{Seen}
 use Rattle.lfs_tree.proofs.Asking.{rooted, rooted_mounted, seen_mounted, works_mounted}
 use Rattle.lfs_tree.proofs.tree.Tree.list.Goals as goal

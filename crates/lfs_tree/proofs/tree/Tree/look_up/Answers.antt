@@ -1,8 +1,9 @@
 use Rattle.std.proofs.Common.{◌≡◌, ◌∙◌, None, subst, sym}
 use Rattle.lfs_model.specs.Discipline.{parents}
-use Rattle.lfs_tree.specs.AtHand.{AreSmall, ReadsOnce}
+use Rattle.lfs_lookup.specs.AtHand.{AreSmall}
+use Rattle.lfs_tree.specs.Reads.{ReadsOnce}
 use Rattle.lfs_tree.specs.Seen.{Seen}
-use Rattle.lfs_tree.proofs.BroughtDown.{hand_after}
+use Rattle.lfs_lookup.proofs.BroughtDown.{hand_after}
 use Rattle.lfs_tree.proofs.Asking.{rooted, rooted_mounted, seen_mounted, works_mounted}
 use Rattle.lfs_tree.proofs.tree.Tree.look_up.Goals as goal
 

@@ -1,6 +1,6 @@
 use Rattle.lfs_thread.specs.Kept.{disk_on}
 use Rattle.lfs_tree.proofs.Mounting.{mounted_rooted, mounted_tree, read_back}
-use Rattle.lfs_tree.proofs.Reading.{answered}
+use Rattle.lfs_lookup.proofs.Reading.{answered}
 use Rattle.lfs_tree.proofs.tree.Tree.mount.Goals as goal
 
 pub invariant_of-result : goal.invariant_of-result

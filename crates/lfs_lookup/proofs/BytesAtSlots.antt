@@ -1,0 +1,226 @@
+-- What a file's slot says of its bytes.
+use Rattle.std.proofs.Common.{ℕ, zero, suc, ◌≡◌, ◌+◌, ◌^◌, ◌<◌, ◌==◌, ◌∙◌, Bool, true, false, cond, List, [], ◌∷◌, ◌++◌, length, length-append, take, drop, Option, Some, None, Result, Ok, Err, Vec, Global, refl, sym, ap, ap₂, subst, slice_get, get_or, arith, append_assoc}
+use Rattle.std.specs.List.{enumerate_from, flat_map}
+use Rattle.std.specs.Option.{option_and_then, option_map}
+use Rattle.std.proofs.lemmas.List.{length-take, length-drop}
+use Rattle.std.proofs.lemmas.Option.{same_Some}
+use Rattle.lfs_model.specs.TreeEdits.{bytes_at, is_file}
+use Rattle.lfs_model.specs.Content.{RawSlot, complete, complete_all, kind_named, slot_of_id, struct_typed}
+use Rattle.lfs_model.specs.EntryTypes.{inline_struct_type, directory_struct_type, pair_at}
+use Rattle.lfs_model.specs.Disk.{Disk, inline_limit}
+use Rattle.lfs_model.specs.InDirectory.{IsBehind, Stands}
+use Rattle.lfs_model.specs.SkipLists.{data_of, blocks_back, blocks_for}
+use Rattle.lfs_model.specs.Lookup.{bytes_in, bytes_typed}
+use Rattle.lfs_model.specs.Names.{Name}
+use Rattle.lfs_model.specs.Slots.{Slot, Struct, Inline, Ctz, Branch}
+use Rattle.lfs_model.specs.SlotEdits.{slot_of_path}
+use Rattle.lfs_model.specs.Thread.{Pair}
+use Rattle.lfs_model.specs.Tree.{Path, node_of}
+use Rattle.lfs_model.specs.Operations as ops
+use Rattle.lfs_model.specs.Session.{parent_fault}
+use Rattle.lfs_device.specs.declared.error.Error.{Error}
+use Rattle.std.specs.Prelude.{All, IfOk}
+use Rattle.std.proofs.lemmas.List.Elements.{recursion_from_All}
+use Rattle.lfs_model.proofs.Counts.{Each, each_right}
+use Rattle.lfs_model.specs.Profile.{FitsSlot, HasInline, IsWritable}
+use Rattle.lfs_model.specs.View.{IsAccepted, IsListIfCtz}
+use Rattle.lfs_model.specs.Shown.{Leads, contents_in, entries_in, tree_in}
+use Rattle.lfs_model.proofs.Completed.{complete_parts}
+use Rattle.lfs_thread.specs.Kept.{Kept}
+use Rattle.lfs_thread.specs.Steps.{no_pair}
+use Rattle.lfs_lookup.specs.AtPath.{ShowsAt}
+use Rattle.lfs_lookup.specs.BytesAt.{IsFileAt, file_shown}
+use Rattle.lfs_lookup.specs.Entry.{ShowsContents}
+use Rattle.lfs_lookup.specs.FileBytes.{bytes_shown}
+use Rattle.lfs_lookup.specs.Paths.{IsSlotOf}
+use Rattle.lfs_lookup.specs.declared.entry.Contents.{Contents}
+use Rattle.lfs_lookup.specs.declared.entry.Contents.TheVariants as contents
+use Rattle.lfs_lookup.specs.declared.paths.Shown.{Shown}
+use Rattle.lfs_lookup.specs.declared.paths.Shown.TheVariants as shown
+use Rattle.lfs_lookup.specs.declared.search.Spot.{Spot}
+use Rattle.lfs_lookup.proofs.AtPaths.{directory_at_path, list_at_path, nothing_at, refused_none}
+
+-- ---- in a block
+
+pub raw_slot : (raw : List RawSlot) (slots : List Slot) (id : ℕ) (t : Slot) → complete_all raw ≡ Some slots → slice_get slots id ≡ Some t → complete (slot_of_id raw id) ≡ Some t
+raw_slot [] slots id t e is = absurd (let k : slots ≡ [] = sym (same_Some [] slots e) in let m = ap (λ z. slice_get z id) k in cc)
+raw_slot (s ∷ raw) slots zero t e is =
+    let p = complete_parts s raw slots e in
+    let same : p.first ≡ t = let k = sym (ap (λ z. slice_get z 0) p.all_are) ∙ is in cc in
+    p.is_first ∙ ap Some same
+raw_slot (s ∷ raw) slots (suc id) t e is =
+    let p = complete_parts s raw slots e in
+    raw_slot raw p.others id t p.are_others (sym (ap (λ z. slice_get z (suc id)) p.all_are) ∙ is)
+
+same_inline : (a b : List ℕ) → Inline a ≡ Inline b → a ≡ b
+same_inline a b e = cc
+
+pub inline_held : (s : RawSlot) (t : Slot) (bytes : List ℕ) → complete s ≡ Some t → t.struct ≡ Inline bytes → bytes_in inline_struct_type s ≡ Some bytes
+inline_held s t bytes e h = go s.name s.struct e
+  where
+    by_type : (held : List ℕ) (to : ℕ × ℕ) (head size : ℕ) (a b : Bool) → cond a (Inline held) (cond b (Branch to) (Ctz head size)) ≡ Inline bytes → cond a (Some held) None ≡ Some bytes
+    by_type held to head size true b k = ap Some (same_inline held bytes k)
+    by_type held to head size false true k = absurd (cc)
+    by_type held to head size false false k = absurd (cc)
+
+    go : (n p : Option (ℕ × List ℕ)) →
+        option_and_then (λ name. option_map (λ struct. record { kind = kind_named name.0; name = name.1; struct = struct_typed struct.0 struct.1; attributes = s.attributes }) p) n ≡ Some t → bytes_typed inline_struct_type p ≡ Some bytes
+    go None p k = absurd (cc)
+    go (Some n) None k = absurd (cc)
+    go (Some n) (Some p) k =
+        by_type p.1 (pair_at p.1) _ _ (p.0 == inline_struct_type) (p.0 == directory_struct_type)
+        (ap (λ (x : Slot). x.struct) (same_Some (record { kind = kind_named n.0; name = n.1; struct = struct_typed p.0 p.1; attributes = s.attributes }) t k) ∙ h)
+
+-- ---- in a pair
+
+pair_behind : (left : List Pair) (p : Pair) (right : List Pair) (d : Pair) → get_or (left ++ p ∷ right) (length left) d ≡ p
+pair_behind [] p right d = refl
+pair_behind (x ∷ left) p right d = pair_behind left p right d
+
+slot_behind : (left : List Slot) (s : Slot) (right : List Slot) → slice_get (left ++ s ∷ right) (length left) ≡ Some s
+slot_behind [] s right = refl
+slot_behind (x ∷ left) s right = slot_behind left s right
+
+pub behind_below : (ps : List Pair) (first index : ℕ) (pair : Pair) (rest : List Pair) → IsBehind ps first index pair rest → index < length ps
+behind_below ps first index pair rest b =
+    let l = ap length b.parts ∙ length-append b.front (b.left ++ pair ∷ rest) in
+    let m = length-append b.left (pair ∷ rest) in
+    let n = b.number in
+    omega (arith, l, m, n)
+
+pub pair_is : (ps : List Pair) (first index : ℕ) (pair : Pair) (rest : List Pair) (d : Pair) → IsBehind ps first index pair rest → get_or ps index d ≡ pair
+pair_is ps first index pair rest d b =
+    let n : length (b.front ++ b.left) ≡ index = length-append b.front b.left ∙ b.number in
+    ap₂ (λ qs i. get_or qs i d) (b.parts ∙ sym (append_assoc b.front b.left (pair ∷ rest))) (sym n) ∙ pair_behind (b.front ++ b.left) pair rest d
+
+pub slot_stands : (ps : List Pair) (first : ℕ) (name : Name) (index id : ℕ) (s : Stands ps first name index id) → slice_get (get_or ps index no_pair).content.slots id ≡ Some s.stands.slot
+slot_stands ps first name index id s =
+    ap (λ (p : Pair). slice_get p.content.slots id) (pair_is ps first index s.pair s.rest no_pair s.place)
+    ∙ ap₂ (λ xs i. slice_get xs i) s.stands.held (sym s.stands.number) ∙ slot_behind s.stands.left s.stands.slot s.stands.right
+
+-- ---- at a path
+
+module _ (t : Kept) (path : Path) (ok : IsAccepted t.disk t.pairs) (moved : Option Spot) (spot : Spot) (contents : Contents) where
+  pub file_stands : (s : IsSlotOf t.pairs moved path spot) → ShowsContents contents s.stands.stands.slot.struct → IsFileAt t spot contents s.stands.stands.slot
+  file_stands s k = record {
+    below = behind_below t.pairs s.first spot.pair s.stands.pair s.stands.rest s.stands.place;
+    there = slot_stands t.pairs s.first s.name spot.pair spot.id s.stands;
+    shows = k;
+    list = list_at_path t.disk t.pairs s.above s.name s.on.at s.stands.stands.slot ok s.on.leads (sym (ap (slot_of_path t.pairs) s.is) ∙ s.slot);
+  }
+
+node_bytes : (disk : Disk) (ps : List Pair) (x : Slot) (s : Struct) → bytes_at (Some (node_of (contents_in disk) (entries_in ps) x.attributes s)) ≡ bytes_shown disk s
+node_bytes disk ps x (Inline bytes) = refl
+node_bytes disk ps x (Ctz head size) = refl
+node_bytes disk ps x (Branch to) = refl
+
+pub bytes_of_slot : (disk : Disk) (ps : List Pair) (path : Path) (x : Slot) → slot_of_path ps path ≡ Some x → bytes_shown disk x.struct ≡ bytes_at (tree_in disk ps path)
+bytes_of_slot disk ps path x e =
+    sym (node_bytes disk ps x x.struct) ∙ ap (λ (o : Option Slot). bytes_at (option_map (λ (f : Slot). node_of (contents_in disk) (entries_in ps) f.attributes f.struct) o)) (sym e)
+
+-- a file has less than 2^31 bytes
+pub few_shown : (disk : Disk) (contents : Contents) (s : Struct) → ShowsContents contents s → IsListIfCtz disk s → length (bytes_shown disk s) < 2 ^ 31
+few_shown disk (contents.Inline len) s k list = let l = ap (λ z. length (bytes_shown disk z)) k.1.0 in let m = k.1.1.0 in let n = k.1.1.1 in omega (arith, l, m, n)
+few_shown disk (contents.List head size) s k list =
+    let l = subst (IsListIfCtz disk) k list in
+    let e = ap (λ z. length (bytes_shown disk z)) k in
+    let h = l.size_high in
+    let n = length-take size (flat_map (data_of disk.blocks) (enumerate_from 0 (blocks_back disk.blocks (blocks_for disk.block_size size) head))) in
+    omega (arith, e, h, n)
+
+pub ends_early : (bytes taken : List ℕ) (position count : ℕ) → taken ≡ take count (drop position bytes) → position < 2 ^ 32 → length bytes < 2 ^ 31 → position + length taken < 2 ^ 32
+ends_early bytes taken position count e p l =
+    let a = ap length e ∙ length-take count (drop position bytes) in
+    let b = length-drop position bytes in
+    omega (arith, a, b, p, l)
+
+-- ---- what is shown
+
+pub is_file_of : (x : Shown) (slot : Spot) (contents : Contents) → file_shown x ≡ Some (slot, contents) → x ≡ shown.File slot contents
+is_file_of shown.Root slot contents e = absurd (cc)
+is_file_of (shown.Directory s first) slot contents e = absurd (cc)
+is_file_of (shown.File s c) slot contents e =
+    let k = same_Some (s, c) (slot, contents) e in
+    ap₂ (λ a b. shown.File a b) (ap (λ (p : Spot × Contents). p.0) k) (ap (λ (p : Spot × Contents). p.1) k)
+is_file_of shown.Nothing slot contents e = absurd (cc)
+is_file_of shown.ParentIsFile slot contents e = absurd (cc)
+is_file_of shown.ParentIsMissing slot contents e = absurd (cc)
+
+module _ (t : Kept) (path : Path) (ok : IsAccepted t.disk t.pairs) where
+  directory_bytes : (at : ℕ × ℕ) → Leads t.pairs path at → bytes_at (tree_in t.disk t.pairs path) ≡ []
+  directory_bytes at leads = ap bytes_at (directory_at_path t.disk t.pairs path at leads).is
+
+  refused_bytes : (r : ops.Refusal) → parent_fault (tree_in t.disk t.pairs) [] path ≡ Some r → bytes_at (tree_in t.disk t.pairs path) ≡ []
+  refused_bytes r h = ap bytes_at (nothing_at t.disk t.pairs path (refused_none t.disk t.pairs path [] r h))
+
+  pub no_file : (x : Shown) → ShowsAt t path x → file_shown x ≡ None → bytes_at (tree_in t.disk t.pairs path) ≡ []
+  no_file shown.Root s e = ap (λ p. bytes_at (tree_in t.disk t.pairs p)) s.1
+  no_file (shown.Directory slot first) s e = directory_bytes s.1.1.1.at s.1.1.1.leads
+  no_file (shown.File slot contents) s e = absurd (cc)
+  no_file shown.Nothing s e = ap bytes_at (nothing_at t.disk t.pairs path s.1.1)
+  no_file shown.ParentIsFile s e = refused_bytes ops.NotDir s.1
+  no_file shown.ParentIsMissing s e = refused_bytes ops.NoEnt s.1
+
+-- no file is there where none is found
+module _ (t : Kept) (path : Path) where
+  pub not_file : (x : Shown) → ShowsAt t path x → file_shown x ≡ None → is_file (tree_in t.disk t.pairs path) ≡ false
+  not_file shown.Root s e = ap (λ p. is_file (tree_in t.disk t.pairs p)) s.1
+  not_file (shown.Directory slot first) s e = ap is_file (directory_at_path t.disk t.pairs path s.1.1.1.at s.1.1.1.leads).is
+  not_file (shown.File slot contents) s e = absurd (cc)
+  not_file shown.Nothing s e = ap is_file (nothing_at t.disk t.pairs path s.1.1)
+  not_file shown.ParentIsFile s e = ap is_file (nothing_at t.disk t.pairs path (refused_none t.disk t.pairs path [] ops.NotDir s.1))
+  not_file shown.ParentIsMissing s e = ap is_file (nothing_at t.disk t.pairs path (refused_none t.disk t.pairs path [] ops.NoEnt s.1))
+
+-- an entry of the writing profile has few bytes in its slot
+inline_within : (disk : Disk) (ps : List Pair) (first : ℕ) (name : Name) (index id : ℕ) (s : Stands ps first name index id) → IsWritable disk ps → HasInline (inline_limit disk.block_size) s.stands.slot.struct
+inline_within disk ps first name index id s fits =
+    let fit : Slot → Type 0 = FitsSlot disk.block_size disk.page in
+    let all = recursion_from_All (λ (p : Pair). All fit p.content.slots) ps fits.slots in
+    let one = (each_right (λ (p : Pair). All fit p.content.slots) s.place.left (s.pair ∷ s.rest)
+    (each_right (λ (p : Pair). All fit p.content.slots) s.place.front (s.place.left ++ s.pair ∷ s.rest) (subst (Each (λ (p : Pair). All fit p.content.slots)) s.place.parts all))).0 in
+    let here = (each_right fit s.stands.left (s.stands.slot ∷ s.stands.right) (subst (Each fit) s.stands.held (recursion_from_All fit s.pair.content.slots one))).0 in
+    (here.1 s.stands.entry).inline
+
+-- what is found of the file at a path
+pub record IsFileOf (t : Kept) (path : Path) (slot : Spot) (contents : Contents) : Type 0 where
+  pub held : Slot
+  pub file : IsFileAt t slot contents held
+  pub bytes : bytes_shown t.disk held.struct ≡ bytes_at (tree_in t.disk t.pairs path)
+  pub few : length (bytes_shown t.disk held.struct) < 2 ^ 31
+  pub at : slot_of_path t.pairs path ≡ Some held
+  pub inline : IsWritable t.disk t.pairs → HasInline (inline_limit t.disk.block_size) held.struct
+
+pub file_of_path : (t : Kept) (path : Path) (x : Shown) (slot : Spot) (contents : Contents) → IsAccepted t.disk t.pairs → ShowsAt t path x → file_shown x ≡ Some (slot, contents) → IsFileOf t path slot contents
+file_of_path t path x slot contents ok shows e =
+    let (moved, (h, (s, k))) = subst (λ z. ShowsAt t path z) (is_file_of x slot contents e) shows in
+    let file = file_stands t path ok moved slot contents s k in
+    record {
+      held = s.stands.stands.slot;
+      file = file;
+      bytes = bytes_of_slot t.disk t.pairs path s.stands.stands.slot s.slot;
+      few = few_shown t.disk contents s.stands.stands.slot.struct k file.list;
+      at = s.slot;
+      inline = λ fits. inline_within t.disk t.pairs s.first s.name slot.pair slot.id s.stands fits;
+    }
+
+-- the file is that of a thread that was only read since
+pub file_since : (a b : Kept) (slot : Spot) (contents : Contents) (held : Slot) → b.pairs ≡ a.pairs → b.disk ≡ a.disk → IsFileAt a slot contents held → IsFileAt b slot contents held
+file_since a b slot contents held pairs disk h = record {
+  below = subst (λ (ps : List Pair). slot.pair < length ps) (sym pairs) h.below;
+  there = subst (λ (ps : List Pair). slice_get (get_or ps slot.pair no_pair).content.slots slot.id ≡ Some held) (sym pairs) h.there;
+  shows = h.shows;
+  list = subst (λ (d : Disk). IsListIfCtz d held.struct) (sym disk) h.list;
+}
+
+pub ends_within : (bytes : List ℕ) (r : Result (Vec ℕ Global) Error) (position count : ℕ) → IfOk r (λ v. v.items ≡ take count (drop position bytes)) → position < 2 ^ 32 → length bytes < 2 ^ 31 → IfOk r (λ v. position + length v.items < 2 ^ 32)
+ends_within bytes (Ok v) position count e p l = ends_early bytes v.items position count e p l
+ends_within bytes (Err x) position count e p l = tt
+
+pub of_path : (bytes other : List ℕ) (r : Result (Vec ℕ Global) Error) (position count : ℕ) → bytes ≡ other → IfOk r (λ v. v.items ≡ take count (drop position bytes)) → IfOk r (λ v. v.items ≡ take count (drop position other))
+of_path bytes other r position count e h = subst (λ b. IfOk r (λ v. v.items ≡ take count (drop position b))) e h
+
+pub none_of : (count position : ℕ) → take count (drop position (let xs : List ℕ = [] in xs)) ≡ []
+none_of zero zero = refl
+none_of zero (suc n) = refl
+none_of (suc k) zero = refl
+none_of (suc k) (suc n) = refl

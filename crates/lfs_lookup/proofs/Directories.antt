@@ -1,0 +1,220 @@
+-- The pairs of a directory, by the number of the first, show what stands in it.
+use Rattle.std.proofs.Common.{ℕ, zero, suc, ◌≡◌, ◌<◌, ◌≤◌, ◌+◌, ◌∙◌, Bool, true, false, cond, List, [], ◌∷◌, ◌++◌, length, map, flat_map, take, drop, get_or, slice_get, Option, Some, None, refl, sym, ap, ap₂, subst, arith, append_assoc, length-append, nat_eq}
+use Rattle.std.specs.Prelude.{IfNone, IfSome, IsSome}
+use Rattle.std.specs.List.{IsDistinct}
+use Rattle.std.proofs.lemmas.Bool.{lt-ltb}
+use Rattle.std.proofs.lemmas.List.{map-append}
+use Rattle.std.proofs.Math.Seq.{drop-append_seam}
+use Rattle.std.proofs.lemmas.Option.{same_Some, slice_get_within}
+use Rattle.lfs_model.specs.Discipline.{pairs_at}
+use Rattle.lfs_model.specs.Disk.{Disk}
+use Rattle.lfs_model.specs.Slots.{Gstate, same_pair}
+use Rattle.lfs_model.specs.Thread.{Pair, blocks_of, directories_of, directory_pairs, entries_of, gstate_of, is_hard, superblocks_before, visible}
+use Rattle.lfs_model.specs.Tree.{Path}
+use Rattle.lfs_model.specs.View.{IsAccepted}
+use Rattle.lfs_model.specs.Shown.{Leads, entries_in}
+use Rattle.lfs_model.specs.InDirectory.{BeginsAt, run_length}
+use Rattle.lfs_model.proofs.Counts.{Each}
+use Rattle.lfs_model.proofs.Pairs.{pair_back, pair_on}
+use Rattle.lfs_model.proofs.Listings.{Apart, IsRun, distinct_apart, distinct_right, entries_own, listing, run_directories}
+use Rattle.lfs_model.proofs.Searches.{directory_pairs_at, same_number}
+use Rattle.lfs_model.proofs.Found.{HasDirectory, chain_of_thread, led_directory}
+use Rattle.lfs_lookup.specs.AtPath.{has_entries_from}
+use Rattle.lfs_lookup.specs.Items.{Shape, shape_of}
+use Rattle.lfs_lookup.specs.Listed.{joined_run, length_from, run_from, shapes_from}
+
+-- ---- along the hard tails
+
+pub run_on : (ps : List Pair) (index : ℕ) (d : Pair) → index < length ps →
+    joined_run (drop index ps) ≡ get_or ps index d ∷ cond (is_hard (get_or ps index d).content.tail) (joined_run (drop (index + 1) ps)) []
+run_on [] index d l = absurd (omega arith)
+run_on (p ∷ ps) zero d l = refl
+run_on (p ∷ ps) (suc index) d l =
+    let e : suc index + 1 ≡ suc (index + 1) = omega arith in
+    run_on ps index d (omega arith) ∙ ap (λ n. get_or ps index d ∷ cond (is_hard (get_or ps index d).content.tail) (joined_run (drop n (p ∷ ps))) []) (sym e)
+
+-- where it has a hard tail, the next ones follow
+pub run_hard_on : (ps : List Pair) (index next : ℕ) (d : Pair) → index < length ps → is_hard (get_or ps index d).content.tail ≡ true → next ≡ index + 1 →
+    joined_run (drop index ps) ≡ get_or ps index d ∷ joined_run (drop next ps)
+run_hard_on ps index next d l hard e =
+    run_on ps index d l ∙ ap (λ b. get_or ps index d ∷ cond b (joined_run (drop (index + 1) ps)) []) hard ∙ ap (λ (n : ℕ). get_or ps index d ∷ joined_run (drop n ps)) (sym e)
+
+pub run_some_on : (ps : List Pair) (index : ℕ) (d : Pair) → index < length ps → 1 ≤ length (joined_run (drop index ps))
+run_some_on ps index d l = let e = ap length (run_on ps index d l) in omega (arith, e)
+
+-- the one of that number, and those that follow; qs are the pairs at hand then
+pub run_next : (ps qs : List Pair) (index : ℕ) (d : Pair) (from next : Option ℕ) → qs ≡ ps → from ≡ Some index → index < length ps → next ≡ cond (is_hard (get_or qs index d).content.tail) (Some (index + 1)) None →
+    run_from ps from ≡ get_or qs index d ∷ run_from ps next
+run_next ps qs index d from next same at l e =
+    ap (run_from ps) at ∙ run_on ps index d l ∙ ap (λ p. p ∷ cond (is_hard p.content.tail) (joined_run (drop (index + 1) ps)) []) (sym (ap (λ rs. get_or rs index d) same))
+    ∙ ap (λ run. get_or qs index d ∷ run) (go (is_hard (get_or qs index d).content.tail) ∙ ap (run_from ps) (sym e))
+  where
+    go : (b : Bool) → cond b (joined_run (drop (index + 1) ps)) [] ≡ run_from ps (cond b (Some (index + 1)) None)
+    go true = refl
+    go false = refl
+
+-- what the pairs from a number on show is what the pair of that number shows, and what those show that follow
+pub shapes_on : (ps : List Pair) (index : ℕ) (d : Pair) (next : Option ℕ) → index < length ps → next ≡ cond (is_hard (get_or ps index d).content.tail) (Some (index + 1)) None →
+    shapes_from ps (Some index) ≡ map shape_of (visible (gstate_of ps) (get_or ps index d)) ++ shapes_from ps next
+shapes_on ps index d next l e =
+    ap (λ run. map shape_of (flat_map (visible (gstate_of ps)) run)) (run_on ps index d l)
+    ∙ map-append shape_of (visible (gstate_of ps) (get_or ps index d)) (flat_map (visible (gstate_of ps)) (cond (is_hard (get_or ps index d).content.tail) (joined_run (drop (index + 1) ps)) []))
+    ∙ ap (λ run. map shape_of (visible (gstate_of ps) (get_or ps index d)) ++ map shape_of (flat_map (visible (gstate_of ps)) run))
+    (go (is_hard (get_or ps index d).content.tail) ∙ ap (run_from ps) (sym e))
+  where
+    go : (b : Bool) → cond b (joined_run (drop (index + 1) ps)) [] ≡ run_from ps (cond b (Some (index + 1)) None)
+    go true = refl
+    go false = refl
+
+-- one pair more was listed; qs are the pairs at hand then
+pub list_on : (ps qs : List Pair) (first index : ℕ) (d : Pair) (from next : Option ℕ) (olds more news : List Shape) → qs ≡ ps → from ≡ Some index → index < length ps →
+    more ≡ map shape_of (visible (gstate_of qs) (get_or qs index d)) → next ≡ cond (is_hard (get_or qs index d).content.tail) (Some (index + 1)) None → news ≡ olds ++ more →
+    olds ++ shapes_from ps from ≡ shapes_from ps (Some first) → news ++ shapes_from ps next ≡ shapes_from ps (Some first)
+list_on ps qs first index d from next olds more news same at l m n o before =
+    let shown = m ∙ ap (λ rs. map shape_of (visible (gstate_of rs) (get_or rs index d))) same in
+    let goes = n ∙ ap (λ rs. cond (is_hard (get_or rs index d).content.tail) (Some (index + 1)) None) same in
+    ap (λ z. z ++ shapes_from ps next) (o ∙ ap (λ z. olds ++ z) shown)
+    ∙ append_assoc olds (map shape_of (visible (gstate_of ps) (get_or ps index d))) (shapes_from ps next)
+    ∙ ap (λ z. olds ++ z) (sym (shapes_on ps index d next l goes) ∙ ap (shapes_from ps) (sym at))
+    ∙ before
+
+-- something stands in one of the pairs
+pub some_on : (ps qs : List Pair) (index : ℕ) (d : Pair) (from start : Option ℕ) (more : List Shape) → qs ≡ ps → from ≡ Some index → index < length ps →
+    more ≡ map shape_of (visible (gstate_of qs) (get_or qs index d)) → shapes_from ps from ≡ shapes_from ps start → 0 < length more → has_entries_from ps start ≡ true
+some_on ps qs index d from start more same at l m before some =
+    let next = cond (is_hard (get_or ps index d).content.tail) (Some (index + 1)) None in
+    let shown = m ∙ ap (λ rs. map shape_of (visible (gstate_of rs) (get_or rs index d))) same in
+    let are = sym before ∙ ap (shapes_from ps) at ∙ shapes_on ps index d next l refl ∙ ap (λ z. z ++ shapes_from ps next) (sym shown) in
+    let n = ap length are in
+    let k = length-append more (shapes_from ps next) in
+    lt-ltb 0 (length (shapes_from ps start)) (omega (arith, n, k, some))
+
+-- ---- how many they are
+
+run_step : (ps : List Pair) (index : ℕ) (d : Pair) → index < length ps → run_length (drop index ps) ≡ cond (is_hard (get_or ps index d).content.tail) (1 + run_length (drop (index + 1) ps)) 1
+run_step [] index d l = absurd (omega arith)
+run_step (p ∷ ps) zero d l = refl
+run_step (p ∷ ps) (suc index) d l =
+    let e : suc index + 1 ≡ suc (index + 1) = omega arith in
+    run_step ps index d (omega arith) ∙ ap (λ (n : ℕ). cond (is_hard (get_or ps index d).content.tail) (1 + run_length (drop n (p ∷ ps))) 1) (sym e)
+
+-- one is read, the others are left
+pub length_on : (ps qs : List Pair) (index : ℕ) (d : Pair) (from next : Option ℕ) → qs ≡ ps → from ≡ Some index → index < length ps →
+    next ≡ cond (is_hard (get_or qs index d).content.tail) (Some (index + 1)) None → length_from ps from ≡ 1 + length_from ps next
+length_on ps qs index d from next same at l n =
+    ap (length_from ps) at ∙ run_step ps index d l ∙ go (is_hard (get_or ps index d).content.tail)
+    ∙ ap (λ o. 1 + length_from ps o) (sym (n ∙ ap (λ rs. cond (is_hard (get_or rs index d).content.tail) (Some (index + 1)) None) same))
+  where
+    go : (b : Bool) → cond b (1 + run_length (drop (index + 1) ps)) 1 ≡ 1 + length_from ps (cond b (Some (index + 1)) None)
+    go true = refl
+    go false = refl
+
+pub length_some : (ps : List Pair) (index : ℕ) (d : Pair) (from : Option ℕ) → from ≡ Some index → index < length ps → 1 ≤ length_from ps from
+length_some ps index d from at l =
+    let next = cond (is_hard (get_or ps index d).content.tail) (Some (index + 1)) None in
+    let e = length_on ps ps index d from next refl at l refl in
+    omega (arith, e)
+
+-- a run of pairs, cut out of the thread
+pub run_is : (p : Pair) (run after : List Pair) → IsRun (p ∷ run) → joined_run (p ∷ run ++ after) ≡ p ∷ run
+run_is p [] after h = ap (λ b. p ∷ cond b (joined_run after) []) h
+run_is p (q ∷ run) after h = ap (λ b. p ∷ cond b (joined_run (q ∷ run ++ after)) []) h.0 ∙ ap (λ ps. p ∷ ps) (run_is q run after h.1)
+
+-- ---- numbers
+
+get_first : (xs : List Pair) (p : Pair) (ys : List Pair) → slice_get (xs ++ p ∷ ys) (length xs) ≡ Some p
+get_first [] p ys = refl
+get_first (x ∷ xs) p ys = get_first xs p ys
+
+each_at : (P : Pair → Type 0) (xs : List Pair) (i : ℕ) (x : Pair) → Each P xs → slice_get xs i ≡ Some x → P x
+each_at P [] i x h e = absurd (cc)
+each_at P (y ∷ xs) zero x h e = subst P (same_Some y x e) h.0
+each_at P (y ∷ xs) (suc i) x h e = each_at P xs i x h.1 e
+
+-- ---- in an accepted image
+
+-- where a path leads, the pairs in front of the directory, its pairs and those behind it
+pub record IsCutAt (ps : List Pair) (a : ℕ × ℕ) : Type 0 where
+  pub chain : List Pair
+  pub directory : HasDirectory (directory_pairs ps) a
+  pub first_is : ps ≡ chain ++ directory_pairs ps
+  pub is : ps ≡ (chain ++ directory.before) ++ (directory.first ∷ directory.run ++ directory.after)
+
+pub cut_at : (disk : Disk) (ps : List Pair) (P : Path) (a : ℕ × ℕ) → IsAccepted disk ps → Leads ps P a → IsCutAt ps a
+cut_at disk ps P a ok leads =
+    let d = led_directory disk ps P a ok leads in
+    let c = chain_of_thread ps in
+    record {
+      chain = take (superblocks_before ps) ps;
+      directory = d;
+      first_is = c.0;
+      is = c.0 ∙ ap (λ z. take (superblocks_before ps) ps ++ z) d.is ∙ sym (append_assoc (take (superblocks_before ps) ps) d.before (d.first ∷ d.run ++ d.after));
+    }
+
+-- the directory begins with a pair of the thread
+pub begins_with : (disk : Disk) (ps : List Pair) (P : Path) (a : ℕ × ℕ) → IsAccepted disk ps → Leads ps P a → (n : ℕ) × BeginsAt ps a n
+begins_with disk ps P a ok leads =
+    let c = cut_at disk ps P a ok leads in (
+      length (c.chain ++ c.directory.before),
+      record {
+        pair = c.directory.first;
+        there = ap (λ z. slice_get z (length (c.chain ++ c.directory.before))) c.is ∙ get_first (c.chain ++ c.directory.before) c.directory.first (c.directory.run ++ c.directory.after);
+        same = c.directory.at;
+      },
+    )
+
+-- the pairs from a number on are those of the directory that begins there
+module _ (disk : Disk) (ps : List Pair) (P : Path) (a : ℕ × ℕ) (n : ℕ) (ok : IsAccepted disk ps) (leads : Leads ps P a) (b : BeginsAt ps a n) where
+  abbrev cut_here : IsCutAt ps a
+  cut_here = cut_at disk ps P a ok leads
+
+  run_here : joined_run (drop n ps) ≡ cut_here.directory.first ∷ cut_here.directory.run
+  run_here =
+      let c = cut_at disk ps P a ok leads in
+      let d = c.directory in
+      let number = same_number ps (length (c.chain ++ d.before)) n d.first b.pair ok.thread.distinct
+      (ap (λ z. slice_get z (length (c.chain ++ d.before))) c.is ∙ get_first (c.chain ++ d.before) d.first (d.run ++ d.after)) b.there (pair_on d.first.at a b.pair.at d.at (pair_back b.pair.at a b.same)) in
+      ap₂ (λ k z. joined_run (drop k z)) (sym number) c.is ∙ ap joined_run (drop-append_seam (c.chain ++ d.before) (d.first ∷ d.run ++ d.after)) ∙ run_is d.first d.run d.after d.is_run
+
+  pub own_pairs : joined_run (drop n ps) ≡ pairs_at ps a
+  own_pairs = run_here ∙ sym (directory_pairs_at disk ps P a ok leads cut_here.directory)
+
+pub own_run : (disk : Disk) (ps : List Pair) (P : Path) (a : ℕ × ℕ) (n : ℕ) → IsAccepted disk ps → Leads ps P a → BeginsAt ps a n →
+    flat_map (visible (gstate_of ps)) (joined_run (drop n ps)) ≡ entries_in ps a
+own_run disk ps P a n ok leads b =
+    ap (flat_map (visible g)) (run_here disk ps P a n ok leads b)
+    ∙ sym (ap (λ ds. entries_of ds a) directories_are ∙ entries_own (directories_of g d.before) (listing d.first.at (flat_map (visible g) (d.first ∷ d.run))) (directories_of g d.after) a apart d.at)
+  where
+    g : Gstate
+    g = gstate_of ps
+
+    c : IsCutAt ps a
+    c = cut_here disk ps P a n ok leads b
+
+    d : HasDirectory (directory_pairs ps) a
+    d = c.directory
+
+    directories_are : directories_of g (directory_pairs ps) ≡ directories_of g d.before ++ listing d.first.at (flat_map (visible g) (d.first ∷ d.run)) ∷ directories_of g d.after
+    directories_are = ap (directories_of g) d.is ∙ run_directories g d.before d.first d.run d.after d.ends d.is_run
+
+    apart : Apart (directories_of g d.before ++ listing d.first.at (flat_map (visible g) (d.first ∷ d.run)) ∷ directories_of g d.after)
+    apart = subst Apart directories_are (distinct_apart g (directory_pairs ps) (distinct_right c.chain (directory_pairs ps) (subst (λ z. IsDistinct nat_eq (blocks_of z)) c.first_is ok.thread.distinct)))
+
+pub own_shapes : (disk : Disk) (ps : List Pair) (P : Path) (a : ℕ × ℕ) (n : ℕ) → IsAccepted disk ps → Leads ps P a → BeginsAt ps a n →
+    shapes_from ps (Some n) ≡ map shape_of (entries_in ps a)
+own_shapes disk ps P a n ok leads b = ap (map shape_of) (own_run disk ps P a n ok leads b)
+
+-- ---- by the headers
+
+pub within : (ps : List Pair) (a : ℕ × ℕ) (n : ℕ) → BeginsAt ps a n → n < length ps
+within ps a n b = slice_get_within ps n b.pair b.there
+
+pub number_within : (ps : List Pair) (a : ℕ × ℕ) (o : Option ℕ) (n : ℕ) → o ≡ Some n → IfSome o (BeginsAt ps a) → n < length ps
+number_within ps a o n e h = within ps a n (subst (λ z. IfSome z (BeginsAt ps a)) e h)
+
+away : (ps : List Pair) (a : ℕ × ℕ) (n : ℕ) → Each (λ p. same_pair p.at a ≡ false) ps → BeginsAt ps a n → ⊥
+away ps a n h b = let e = sym (each_at (λ p. same_pair p.at a ≡ false) ps n b.pair h b.there) ∙ b.same in absurd (cc)
+
+pub number_some : (ps : List Pair) (a : ℕ × ℕ) (o : Option ℕ) → IfNone o (Each (λ p. same_pair p.at a ≡ false) ps) → (n : ℕ) → BeginsAt ps a n → IsSome o
+number_some ps a None h n b = absurd (away ps a n h b)
+number_some ps a (Some k) h n b = refl

@@ -1,0 +1,27 @@
+mod NamedSlots
+mod Walked
+pub mod ReadOnly
+mod RecentBlocks
+mod ShownAlong
+mod ShownSlots
+mod HiddenSlots
+mod Entered
+pub mod Descended
+pub mod BroughtDown
+pub mod ItemsShown
+pub mod Reading
+pub mod Directories
+pub mod Visits
+mod Sizes
+pub mod Roots
+mod LastNames
+pub mod RootPairs
+mod Profiled
+pub mod AtPaths
+mod ListAtShort
+mod ListAtItems
+mod ShownFindings
+pub mod BytesAtSlots
+pub mod AttributeAtSlots
+mod AttributesPut
+mod PairAddresses

@@ -1,0 +1,71 @@
+-- What a list says of the entries of a directory is what the tree says.
+use Rattle.std.proofs.Common.{ℕ, suc, slice_get, ◌≡◌, ◌∙◌, List, [], ◌∷◌, ◌++◌, map, Some, option_map, refl, sym, ap, ap₂, subst}
+use Rattle.std.proofs.lemmas.List.Elements.{recursion_from_All}
+use Rattle.lfs_device.specs.Bytes.{HasBytes}
+use Rattle.lfs_device.specs.declared.device.BlockDevice.{Ghosts}
+use Rattle.lfs_model.specs.TreeEdits.{names_of}
+use Rattle.lfs_model.specs.Disk.{Disk}
+use Rattle.lfs_model.specs.Operations as ops
+use Rattle.lfs_model.specs.SlotEdits.{slot_of_path}
+use Rattle.lfs_model.specs.Slots.{Slot, Struct, Inline, Ctz, Branch}
+use Rattle.lfs_model.specs.Effects.{items_in, size_of}
+use Rattle.lfs_model.specs.Thread.{Pair}
+use Rattle.lfs_model.specs.Tree.{Path, node_of}
+use Rattle.lfs_model.specs.View.{IsAccepted, IsListIfCtz}
+use Rattle.lfs_model.specs.Shown.{Leads, all_slots, contents_in, entries_in, tree_in}
+use Rattle.lfs_model.proofs.Counts.{Each, each_both}
+use Rattle.lfs_model.proofs.OneCommit.{slot_there}
+use Rattle.lfs_thread.specs.Kept.{Kept, disk_on}
+use Rattle.lfs_lookup.specs.Items.{Shape, shape_of}
+use Rattle.lfs_lookup.specs.ListAt.{AreShort, item_listed, size_listed}
+use Rattle.lfs_lookup.specs.Listed.{shapes_from}
+use Rattle.lfs_lookup.specs.Paths.{BeginsOnPath}
+use Rattle.lfs_lookup.proofs.AtPaths.{SizedLists, directory_at_path}
+use Rattle.lfs_lookup.proofs.Directories.{own_shapes}
+use Rattle.lfs_lookup.proofs.ListAtShort.{short_entries}
+use Rattle.lfs_lookup.proofs.Visits.{each_entry}
+
+-- ---- what the tree says
+
+each_got : (P : Slot → Type 0) (xs : List Slot) → ((k : ℕ) (x : Slot) → slice_get xs k ≡ Some x → P x) → Each P xs
+each_got P [] h = tt
+each_got P (x ∷ xs) h = (h 0 x refl, each_got P xs (λ k y e. h (suc k) y e))
+
+module _ (disk : Disk) (ps : List Pair) (path : Path) where
+  abbrev IsSized : Slot → Type 0
+  IsSized s = size_of (tree_in disk ps (path ++ s.name ∷ [])) ≡ size_listed s.struct
+
+  sized : (s : Slot) → SizedLists disk → slot_of_path ps (path ++ s.name ∷ []) ≡ Some s → IsListIfCtz disk s.struct → IsSized s
+  sized s lists e list = ap (λ o. size_of (option_map (λ (f : Slot). node_of (contents_in disk) (entries_in ps) f.attributes f.struct) o)) e ∙ go s.struct list
+    where
+      go : (z : Struct) → IsListIfCtz disk z → size_of (Some (node_of (contents_in disk) (entries_in ps) s.attributes z)) ≡ size_listed z
+      go (Inline bytes) l = refl
+      go (Ctz head size) l = ap Some (lists head size l)
+      go (Branch to) l = refl
+
+  rows : (slots : List Slot) → Each IsSized slots → map (λ name. let item : ops.Item = record { name = name; size = size_of (tree_in disk ps (path ++ name ∷ [])) } in item) (map (λ (s : Slot). s.name) slots) ≡ map item_listed (map shape_of slots)
+  rows [] h = refl
+  rows (s ∷ slots) h = ap₂ (λ z zs. let item : ops.Item = record { name = s.name; size = z } in item ∷ zs) h.0 (rows slots h.1)
+
+  pub items_listed : (at : ℕ × ℕ) → IsAccepted disk ps → Leads ps path at → SizedLists disk → map item_listed (map shape_of (entries_in ps at)) ≡ items_in (tree_in disk ps) path
+  items_listed at ok leads lists =
+      let d = directory_at_path disk ps path at leads in
+      sym (ap (λ o. map (λ name. let item : ops.Item = record { name = name; size = size_of (tree_in disk ps (path ++ name ∷ [])) } in item) (names_of o)) d.is
+      ∙ rows (entries_in ps at) (each_both (λ s. slot_of_path ps (path ++ s.name ∷ []) ≡ Some s) (λ s. IsListIfCtz disk s.struct) IsSized (λ s e l. sized s lists e l) (entries_in ps at)
+      (each_got (λ s. slot_of_path ps (path ++ s.name ∷ []) ≡ Some s) (entries_in ps at) (λ k u g. slot_there disk ps path at k u ok leads g))
+      (each_entry (λ s. IsListIfCtz disk s.struct) disk ps path at ok leads (recursion_from_All (λ (s : Slot). IsListIfCtz disk s.struct) (all_slots ps) ok.lists))))
+
+-- ---- of a thread
+
+module _ (t : Kept) (path : Path) (ok : IsAccepted t.disk t.pairs) (now : List Pair) (first : ℕ) (shapes : List Shape) (same : now ≡ t.pairs) (on : BeginsOnPath t.pairs path first) (are : shapes ≡ shapes_from now (Some first)) where
+  shapes_are : shapes ≡ map shape_of (entries_in t.pairs on.at)
+  shapes_are = are ∙ ap (λ ps. shapes_from ps (Some first)) same ∙ own_shapes t.disk t.pairs path on.at first ok on.leads on.begins
+
+  pub short_there : HasBytes t.disk.blocks → AreShort shapes
+  short_there bytes = subst AreShort (sym shapes_are) (short_entries t.disk t.pairs path on.at bytes ok on.leads)
+
+  pub listed_there : (listed : List ops.Item) → SizedLists t.disk → listed ≡ map item_listed shapes → listed ≡ items_in (tree_in t.disk t.pairs) path
+  listed_there listed lists e = e ∙ ap (map item_listed) shapes_are ∙ items_listed t.disk t.pairs path on.at ok on.leads lists
+
+pub bytes_on : {D : Type 0} (g : Ghosts D) (d : D) (disk : Disk) → disk_on g d ≡ disk → HasBytes (g.blocks d) → HasBytes disk.blocks
+bytes_on g d disk e h = subst (λ (z : Disk). HasBytes z.blocks) e h

@@ -1,0 +1,83 @@
+-- Calls that only read, one after another.
+use Rattle.std.proofs.Common.{◌≡◌, ◌⊎◌, inr, false, Result, Ok, Err, refl, sym, ap, subst, ◌∙◌, arith}
+use Rattle.std.specs.Prelude.{IfErr}
+use Rattle.lfs_device.specs.declared.error.Error.{Error}
+use Rattle.lfs_device.specs.declared.error.Error.TheVariants.{Io, NoMemory}
+use Rattle.lfs_model.specs.History.{faults}
+use Rattle.lfs_thread.specs.Kept.{State}
+use Rattle.lfs_thread.specs.Steps.{IsOnlyRead}
+use Rattle.lfs_lookup.specs.Reading.{IsReading}
+use Rattle.lfs_lookup.proofs.ReadOnly.{only_itself, only_read}
+
+-- calls that answered
+pub record HasRead (old new : State) : Type 0 where
+  pub only : IsOnlyRead old.kept new.kept
+  pub works : new.failed ≡ false
+  pub same : faults new.kept.history ≡ faults old.kept.history
+
+pub answered : {X : Type 0} (a b : State) (r : Result X Error) (x : X) → r ≡ Ok x → IsReading a b r → HasRead a b
+answered a b r x e h = record { only = h.only; works = h.works; same = h.told.no_fault (λ k. let z = sym e ∙ k in absurd (cc)) }
+
+pub has_read_nothing : (a : State) → a.failed ≡ false → HasRead a a
+has_read_nothing a works = record { only = only_itself a.kept; works = works; same = refl }
+
+pub both : (a b c : State) → HasRead a b → HasRead b c → HasRead a c
+both a b c r s = record { only = only_read a.kept b.kept c.kept r.only s.only; works = s.works; same = s.same ∙ r.same }
+
+pub further : {X : Type 0} (a b c : State) (r : Result X Error) → HasRead a b → IsReading b c r → IsReading a c r
+further a b c r h s =
+    let same = h.same in
+    record {
+      only = only_read a.kept b.kept c.kept h.only s.only;
+      works = s.works;
+      told = record {
+        errors = s.told.errors;
+        fault = λ e. let k = s.told.fault e in omega (arith, k, same);
+        no_fault = λ e. s.told.no_fault e ∙ same;
+        unwritten = λ e. (let o = only_read a.kept b.kept c.kept h.only s.only in record { disk = o.disk; reads = o.reads });
+      };
+    }
+
+pub answers : {X : Type 0} (a b : State) (r : Result X Error) (x : X) → r ≡ Ok x → HasRead a b → IsReading a b r
+answers {X = X} a b r x e h = record {
+  only = h.only;
+  works = h.works;
+  told = record {
+    errors = subst (λ (z : Result X Error). IfErr z (λ f. (f ≡ Io) ⊎ (f ≡ NoMemory))) (sym e) tt;
+    fault = λ k. let z = sym e ∙ k in absurd (cc);
+    no_fault = λ k. h.same;
+    unwritten = λ k. record { disk = h.only.disk; reads = h.only.reads };
+  };
+}
+
+pub lacks_memory : {X : Type 0} (a b : State) (r : Result X Error) → r ≡ Err NoMemory → HasRead a b → IsReading a b r
+lacks_memory {X = X} a b r e h = record {
+  only = h.only;
+  works = h.works;
+  told = record {
+    errors = subst (λ (z : Result X Error). IfErr z (λ f. (f ≡ Io) ⊎ (f ≡ NoMemory))) (sym e) (inr refl);
+    fault = λ k. let z = sym e ∙ k in absurd (cc);
+    no_fault = λ k. h.same;
+    unwritten = λ k. record { disk = h.only.disk; reads = h.only.reads };
+  };
+}
+
+pub same_error : (X : Type 0) (e f : Error) → (let r : Result X Error = Err e in r) ≡ Err f → e ≡ f
+same_error X e f h = cc
+
+-- an error is passed on
+pub passed : {X Y : Type 0} (a b : State) (r : Result X Error) (s : Result Y Error) (e f : Error) → r ≡ Err e → s ≡ Err f → f ≡ e → IsReading a b r → IsReading a b s
+passed {X = X} {Y = Y} a b r s e f is now same h = record {
+  only = h.only;
+  works = h.works;
+  told = record {
+    errors = subst (λ (z : Result Y Error). IfErr z (λ g. (g ≡ Io) ⊎ (g ≡ NoMemory))) (sym (now ∙ ap Err same)) (subst (λ (z : Result X Error). IfErr z (λ g. (g ≡ Io) ⊎ (g ≡ NoMemory))) is h.told.errors);
+    fault = λ k. h.told.fault (is ∙ ap Err (same_error Y e Io (sym (now ∙ ap Err same) ∙ k)));
+    no_fault = λ k. h.told.no_fault (λ z. k (now ∙ ap Err (same ∙ same_error X e Io (sym is ∙ z))));
+    unwritten = λ k. record { disk = h.only.disk; reads = h.only.reads };
+  };
+}
+
+-- no call at all
+pub begun : (a : State) → a.failed ≡ false → HasRead a a
+begun a works = record { only = only_itself a.kept; works = works; same = refl }

@@ -1,0 +1,128 @@
+-- What a look-up says of what is shown at a path.
+use Rattle.std.proofs.Common.{ℕ, ◌≡◌, ◌<◌, ◌≤◌, ◌+◌, ◌∙◌, Bool, nat_lt, List, [], ◌∷◌, ◌++◌, length, drop, map, Option, Some, None, option_map, sym, ap, subst, arith}
+use Rattle.std.specs.Prelude.{IfSome, sum_by}
+use Rattle.std.proofs.lemmas.List.{length-map}
+use Rattle.std.proofs.lemmas.List.Sums.{sum_by-append, sum_by-cons}
+use Rattle.lfs_device.specs.Bytes.{HasBytes}
+use Rattle.lfs_model.specs.Discipline.{pairs_of_path, parents}
+use Rattle.lfs_model.specs.Effects.{items_in, size_of}
+use Rattle.lfs_model.specs.InDirectory.{run_length}
+use Rattle.lfs_model.specs.Names.{Name}
+use Rattle.lfs_model.specs.Operations as ops
+use Rattle.lfs_model.specs.Session.{parent_fault}
+use Rattle.lfs_model.specs.SlotEdits.{slot_of_path}
+use Rattle.lfs_model.specs.Slots.{Slot, Struct}
+use Rattle.lfs_model.specs.Thread.{Pair, superblocks_before}
+use Rattle.lfs_model.specs.Tree.{Path, names_at, node_of}
+use Rattle.lfs_model.specs.TreeEdits.{names_of}
+use Rattle.lfs_model.specs.View.{IsAccepted}
+use Rattle.lfs_model.specs.Shown.{contents_in, entries_in, tree_in}
+use Rattle.lfs_model.proofs.Searches.{run_length_is}
+use Rattle.lfs_thread.specs.Kept.{Kept}
+use Rattle.lfs_lookup.specs.AtPath.{IsInEntryIfFile, ShowsAt, finding_of, first_shown, has_entries_from}
+use Rattle.lfs_lookup.specs.Entry.{ShowsContents}
+use Rattle.lfs_lookup.specs.Finds.{Finds, has_names}
+use Rattle.lfs_lookup.specs.Items.{Shape, shape_of}
+use Rattle.lfs_lookup.specs.ListAt.{AreShort, item_listed}
+use Rattle.lfs_lookup.specs.Listed.{length_from, shapes_from}
+use Rattle.lfs_lookup.specs.Paths.{BeginsOnPath}
+use Rattle.lfs_lookup.specs.declared.entry.Contents.{Contents}
+use Rattle.lfs_lookup.specs.declared.entry.Contents.TheVariants as contents
+use Rattle.lfs_lookup.specs.declared.finding.Finding.{Finding}
+use Rattle.lfs_lookup.specs.declared.finding.Node.TheVariants as node
+use Rattle.lfs_lookup.specs.declared.paths.Shown.{Shown}
+use Rattle.lfs_lookup.specs.declared.paths.Shown.TheVariants as shown
+use Rattle.lfs_lookup.proofs.AtPaths.{SizedLists, directory_at_path, file_at, finds_directory, finds_nothing, nothing_at, refused_at, refused_none}
+use Rattle.lfs_lookup.proofs.Directories.{own_shapes, within}
+use Rattle.lfs_lookup.proofs.ListAtItems.{listed_there, short_there}
+use Rattle.lfs_lookup.proofs.RootPairs.{root_leads}
+
+-- the directory at a path begins with that pair; where there is none, nothing stands beneath the path
+abbrev pub IsFirstAt : Kept → Path → Option ℕ → Type 0
+IsFirstAt t path (Some first) = BeginsOnPath t.pairs path first
+IsFirstAt t path None = names_of (tree_in t.disk t.pairs path) ≡ []
+
+-- the directories above a path, and its own
+pub few_own : (f : Path → ℕ) (path : Path) → sum_by f (parents path ++ path ∷ []) ≡ sum_by f (parents path) + f path
+few_own f path = let a = sum_by-append f (parents path) (path ∷ []) in let b = sum_by-cons f path [] in omega (arith, a, b)
+
+-- inline bytes stand in the entry
+pub in_entry : (t : Kept) (path : Path) (s : Shown) → ShowsAt t path s → IsInEntryIfFile s
+in_entry t path shown.Root h = tt
+in_entry t path (shown.Directory spot first) h = tt
+in_entry t path (shown.File spot (contents.Inline len)) (moved, (fault, (s, (bytes, (is, (l, short)))))) = short
+in_entry t path (shown.File spot (contents.List head size)) h = tt
+in_entry t path shown.Nothing h = tt
+in_entry t path shown.ParentIsFile h = tt
+in_entry t path shown.ParentIsMissing h = tt
+
+module _ (t : Kept) (path : Path) (ok : IsAccepted t.disk t.pairs) where
+  -- ---- what is found
+
+  found_begun : (first : ℕ) (f : Finding) → BeginsOnPath t.pairs path first → parent_fault (tree_in t.disk t.pairs) [] path ≡ None → f ≡ record { fault = None; node = node.Directory } → Finds (tree_in t.disk t.pairs) path f
+  found_begun first f on h k =
+      let d = directory_at_path t.disk t.pairs path on.at on.leads in
+      subst (λ z. Finds (tree_in t.disk t.pairs) path z) (sym k) (finds_directory (tree_in t.disk t.pairs) path d.attributes (names_at (entries_in t.pairs) on.at) d.is h)
+
+  pub found_shown : (root : ℕ) (s : Shown) (f : Finding) → root ≡ superblocks_before t.pairs → SizedLists t.disk → ShowsAt t path s → f ≡ finding_of s → Finds (tree_in t.disk t.pairs) path f
+  found_shown root shown.Root f r sized (moved, e) k =
+      found_begun root f (subst (λ (p : Path). BeginsOnPath t.pairs p root) (sym e) (root_leads t.disk t.pairs root ok r)) (ap (parent_fault (tree_in t.disk t.pairs) []) e) k
+  found_shown root (shown.Directory spot first) f r sized (moved, (h, (s, on))) k = found_begun first f on h k
+  found_shown root (shown.File spot contents) f r sized (moved, s) k = file_at t path ok moved spot contents f s sized k
+  found_shown root shown.Nothing f r sized (moved, (h, e)) k =
+      subst (λ z. Finds (tree_in t.disk t.pairs) path z) (sym k) (finds_nothing (tree_in t.disk t.pairs) path None (nothing_at t.disk t.pairs path e) h)
+  found_shown root shown.ParentIsFile f r sized (moved, h) k = refused_at t path ok ops.NotDir f h k
+  found_shown root shown.ParentIsMissing f r sized (moved, h) k = refused_at t path ok ops.NoEnt f h k
+
+  -- ---- the first pair of a directory
+
+  nameless : (x : Slot) (c : Contents) → slot_of_path t.pairs path ≡ Some x → ShowsContents c x.struct → names_of (tree_in t.disk t.pairs path) ≡ []
+  nameless x (contents.Inline len) e k =
+      ap (λ o. names_of (option_map (λ (f : Slot). node_of (contents_in t.disk) (entries_in t.pairs) f.attributes f.struct) o)) e
+      ∙ ap (λ (z : Struct). names_of (Some (node_of (contents_in t.disk) (entries_in t.pairs) x.attributes z))) k.1.0
+  nameless x (contents.List head size) e k =
+      ap (λ o. names_of (option_map (λ (f : Slot). node_of (contents_in t.disk) (entries_in t.pairs) f.attributes f.struct) o)) e
+      ∙ ap (λ (z : Struct). names_of (Some (node_of (contents_in t.disk) (entries_in t.pairs) x.attributes z))) k
+
+  first_is : (root : ℕ) (s : Shown) → root ≡ superblocks_before t.pairs → ShowsAt t path s → IsFirstAt t path (first_shown root s)
+  first_is root shown.Root r (moved, e) = subst (λ (p : Path). BeginsOnPath t.pairs p root) (sym e) (root_leads t.disk t.pairs root ok r)
+  first_is root (shown.Directory spot first) r (moved, (h, (s, on))) = on
+  first_is root (shown.File spot contents) r (moved, (h, (s, k))) = nameless s.stands.stands.slot contents s.slot k
+  first_is root shown.Nothing r (moved, (h, e)) = ap names_of (nothing_at t.disk t.pairs path e)
+  first_is root shown.ParentIsFile r (moved, h) = ap names_of (nothing_at t.disk t.pairs path (refused_none t.disk t.pairs path [] ops.NotDir h))
+  first_is root shown.ParentIsMissing r (moved, h) = ap names_of (nothing_at t.disk t.pairs path (refused_none t.disk t.pairs path [] ops.NoEnt h))
+
+  pub first_at : (root : ℕ) (s : Shown) (from : Option ℕ) → root ≡ superblocks_before t.pairs → ShowsAt t path s → from ≡ first_shown root s → IsFirstAt t path from
+  first_at root s from r h e = subst (IsFirstAt t path) (sym e) (first_is root s r h)
+
+  pub first_within : (now : List Pair) (from : Option ℕ) → now ≡ t.pairs → IsFirstAt t path from → IfSome from (λ first. first < length now)
+  first_within now None e h = tt
+  first_within now (Some first) e on = subst (λ ps. first < length ps) (sym e) (within t.pairs on.at first on.begins)
+
+  -- its pairs are those of the path's directory
+  pub few_from : (now : List Pair) (from : Option ℕ) → now ≡ t.pairs → IsFirstAt t path from → length_from now from ≤ pairs_of_path t.pairs path
+  few_from now None e h = omega arith
+  few_from now (Some first) e on =
+      let k = ap (λ ps. run_length (drop first ps)) e ∙ run_length_is t.disk t.pairs path on.at first ok on.leads on.begins in
+      omega (arith, k)
+
+  -- ---- what stands there
+
+  pub has_beneath : (now : List Pair) (from : Option ℕ) (has : Bool) → now ≡ t.pairs → IsFirstAt t path from → has ≡ has_entries_from now from → has ≡ has_names (tree_in t.disk t.pairs) path
+  has_beneath now None has e h k = k ∙ ap (λ (z : List Name). nat_lt 0 (length z)) (sym h)
+  has_beneath now (Some first) has e on k =
+      let d = directory_at_path t.disk t.pairs path on.at on.leads in
+      k ∙ ap (λ ps. has_entries_from ps (Some first)) e
+      ∙ ap (λ (n : ℕ). nat_lt 0 n) (ap length (own_shapes t.disk t.pairs path on.at first ok on.leads on.begins) ∙ length-map (entries_in t.pairs on.at) shape_of ∙ sym (length-map (entries_in t.pairs on.at) (λ (s : Slot). s.name)))
+      ∙ ap (λ z. nat_lt 0 (length (names_of z))) (sym d.is)
+
+  pub short_from : (now : List Pair) (from : Option ℕ) (shapes : List Shape) → now ≡ t.pairs → IsFirstAt t path from → shapes ≡ shapes_from now from → HasBytes t.disk.blocks → AreShort shapes
+  short_from now None shapes e h are bytes = subst AreShort (sym are) tt
+  short_from now (Some first) shapes e on are bytes = short_there t path ok now first shapes e on are bytes
+
+  pub listed_from : (now : List Pair) (from : Option ℕ) (shapes : List Shape) (listed : List ops.Item) → now ≡ t.pairs → IsFirstAt t path from → shapes ≡ shapes_from now from → SizedLists t.disk
+      → listed ≡ map item_listed shapes → listed ≡ items_in (tree_in t.disk t.pairs) path
+  listed_from now None shapes listed e h are lists k =
+      k ∙ ap (map item_listed) are
+      ∙ sym (ap (map (λ name. let item : ops.Item = record { name = name; size = size_of (tree_in t.disk t.pairs (path ++ name ∷ [])) } in item)) h)
+  listed_from now (Some first) shapes listed e on are lists k = listed_there t path ok now first shapes e on are listed lists k

@@ -1,0 +1,266 @@
+-- The walk of a tree, by what is still to be visited.
+use Rattle.std.proofs.Common.{ℕ, zero, suc, ◌≡◌, ◌∙◌, Bool, true, false, cond, not, List, [], ◌∷◌, ◌++◌, map, drop, reverse, slice_get, Some, option_and_then, option_map, refl, sym, ap, ap₂, subst, append_assoc}
+use Rattle.std.proofs.lemmas.List.{append-nil, map-append, reverse-append, reverse-reverse}
+use Rattle.std.proofs.lemmas.List.Concat.{flat_map-append}
+use Rattle.std.proofs.lemmas.List.Elements.{recursion_from_All}
+use Rattle.lfs_model.specs.Disk.{Disk}
+use Rattle.lfs_model.specs.Names.{Name, slash}
+use Rattle.lfs_model.specs.Slots.{Slot, Struct, Inline, Ctz, Branch, is_superblock}
+use Rattle.lfs_model.specs.Thread.{Pair, gstate_of, is_hard, root_of, unmoved, visible}
+use Rattle.lfs_model.specs.Tree.{Path, Entries, branch_of, node_of, root_slot}
+use Rattle.lfs_model.specs.TreeEdits.{names_of}
+use Rattle.lfs_model.specs.Operations.{path_bytes}
+use Rattle.lfs_model.specs.Listing.{Entry, IsWalk, IsWalkOf, paths_in}
+use Rattle.lfs_model.specs.SlotEdits.{slot_of_path}
+use Rattle.lfs_model.specs.View.{IsAccepted, IsListIfCtz}
+use Rattle.lfs_model.specs.Shown.{Leads, all_slots, contents_in, entries_in, tree_in}
+use Rattle.lfs_model.proofs.Counts.{Each, each_append, each_filter, each_joined, each_pieces, each_weaker}
+use Rattle.lfs_model.proofs.OneCommit.{slot_there}
+use Rattle.lfs_lookup.specs.Items.{shape_of}
+use Rattle.lfs_lookup.specs.Listed.{joined_run, shapes_from}
+use Rattle.lfs_lookup.specs.Walk.{AllShow, ArePushed, BeginsIfBranch, IsWalked, Place, Shows, ShowsNode, places_beneath}
+use Rattle.lfs_lookup.proofs.Directories.{begins_with, own_run, own_shapes}
+
+-- a slot and its path
+pub record Visit : Type 0 where
+  pub path : Path
+  pub slot : Slot
+
+abbrev pub place_at : Visit → Place
+place_at v = record { path = path_bytes v.path; struct = v.slot.struct }
+
+-- the path leads there, and a file's list is well formed
+pub record IsVisit (disk : Disk) (ps : List Pair) (v : Visit) : Type 0 where
+  pub leads : slot_of_path ps v.path ≡ Some v.slot
+  pub list : IsListIfCtz disk v.slot.struct
+
+abbrev pub child : Path → Slot → Visit
+child path s = record { path = path ++ s.name ∷ []; slot = s }
+
+abbrev pub below : Entries → Struct → List Slot
+below E (Branch to) = E to
+below E (Inline bytes) = []
+below E (Ctz head size) = []
+
+abbrev pub children : List Pair → Visit → List Visit
+children ps v = map (child v.path) (below (entries_in ps) v.slot.struct)
+
+abbrev pub entry_in : Disk → List Pair → Visit → Entry
+entry_in disk ps v = record { path = v.path; node = node_of (contents_in disk) (entries_in ps) v.slot.attributes v.slot.struct }
+
+abbrev pub paths_of : List Visit → List Path
+paths_of visits = map (λ v. v.path) visits
+
+-- ---- what a visit shows
+
+pub leads_to : (ps : List Pair) (P : Path) (s : Slot) (to : ℕ × ℕ) → slot_of_path ps P ≡ Some s → s.struct ≡ Branch to → Leads ps P to
+leads_to ps P s to e f = ap (option_and_then (λ found. branch_of found.struct)) e ∙ ap branch_of f
+
+names_below : (disk : Disk) (E : Entries) (s : Slot) → names_of (Some (node_of (contents_in disk) E s.attributes s.struct)) ≡ map (λ t. t.name) (below E s.struct)
+names_below disk E s = go s.struct
+  where
+    go : (t : Struct) → names_of (Some (node_of (contents_in disk) E s.attributes t)) ≡ map (λ u. u.name) (below E t)
+    go (Branch to) = refl
+    go (Inline bytes) = refl
+    go (Ctz head size) = refl
+
+children_paths : (P : Path) (slots : List Slot) → map (λ name. P ++ name ∷ []) (map (λ s. s.name) slots) ≡ paths_of (map (child P) slots)
+children_paths P [] = refl
+children_paths P (s ∷ slots) = ap (λ z. (P ++ s.name ∷ []) ∷ z) (children_paths P slots)
+
+pub paths_below : (disk : Disk) (ps : List Pair) (v : Visit) → slot_of_path ps v.path ≡ Some v.slot → paths_in (tree_in disk ps) v.path ≡ paths_of (children ps v)
+paths_below disk ps v e =
+    ap (λ o. map (λ name. v.path ++ name ∷ []) (names_of (option_map (λ found. node_of (contents_in disk) (entries_in ps) found.attributes found.struct) o))) e
+    ∙ ap (map (λ name. v.path ++ name ∷ [])) (names_below disk (entries_in ps) v.slot)
+    ∙ children_paths v.path (below (entries_in ps) v.slot.struct)
+
+pub node_at : (disk : Disk) (ps : List Pair) (v : Visit) → slot_of_path ps v.path ≡ Some v.slot → tree_in disk ps v.path ≡ Some (entry_in disk ps v).node
+node_at disk ps v e = ap (option_map (λ found. node_of (contents_in disk) (entries_in ps) found.attributes found.struct)) e
+
+shows_node : (disk : Disk) (E : Entries) (s : Slot) → IsListIfCtz disk s.struct → ShowsNode disk s.struct (node_of (contents_in disk) E s.attributes s.struct)
+shows_node disk E s list = go s.struct list
+  where
+    go : (t : Struct) → IsListIfCtz disk t → ShowsNode disk t (node_of (contents_in disk) E s.attributes t)
+    go (Inline bytes) l = (s.attributes, refl)
+    go (Ctz head size) l = (s.attributes, (refl, l))
+    go (Branch to) l = (s.attributes, (map (λ t. t.name) (E to), refl))
+
+pub visit_shows : (disk : Disk) (ps : List Pair) (v : Visit) → IsVisit disk ps v → Shows disk (place_at v) (entry_in disk ps v)
+visit_shows disk ps v h = record { path = refl; node = shows_node disk (entries_in ps) v.slot h.list }
+
+-- ---- children
+
+path_further : (P : Path) (name : Name) → path_bytes (P ++ name ∷ []) ≡ path_bytes P ++ slash ∷ name
+path_further P name = flat_map-append (λ n. slash ∷ n) P (name ∷ []) ∙ ap (λ z. path_bytes P ++ slash ∷ z) (append-nil name)
+
+pub places_of : (P : Path) (slots : List Slot) → places_beneath (path_bytes P) (map shape_of slots) ≡ map place_at (map (child P) slots)
+places_of P [] = refl
+places_of P (s ∷ slots) = ap₂ (λ x xs. x ∷ xs) (ap (λ (bytes : List ℕ). record { path = bytes; struct = s.struct }) (sym (path_further P s.name))) (places_of P slots)
+
+each_drop : {X : Type 0} (P : X → Type 0) (n : ℕ) (xs : List X) → Each P xs → Each P (drop n xs)
+each_drop P zero xs h = h
+each_drop P (suc n) [] h = h
+each_drop P (suc n) (x ∷ xs) h = each_drop P n xs h.1
+
+each_run : (P : Pair → Type 0) (ps : List Pair) → Each P ps → Each P (joined_run ps)
+each_run P [] h = tt
+each_run P (p ∷ ps) h = (h.0, go (is_hard p.content.tail) (each_run P ps h.1))
+  where
+    go : (b : Bool) → Each P (joined_run ps) → Each P (cond b (joined_run ps) [])
+    go true k = k
+    go false k = tt
+
+-- what holds of each slot of the pairs holds of those of a directory
+pub each_entry : (Q : Slot → Type 0) (disk : Disk) (ps : List Pair) (P : Path) (a : ℕ × ℕ) → IsAccepted disk ps → Leads ps P a → Each Q (all_slots ps) → Each Q (entries_in ps a)
+each_entry Q disk ps P a ok leads h =
+    let n = begins_with disk ps P a ok leads in
+    let pieces : Each (λ p. Each Q (visible (gstate_of ps) p)) ps =
+    each_weaker (λ p. Each Q (unmoved (gstate_of ps) p)) (λ p. Each Q (visible (gstate_of ps) p)) (λ p k. each_filter Q (λ s. not (is_superblock s)) (unmoved (gstate_of ps) p) k) ps
+    (each_pieces Q (unmoved (gstate_of ps)) ps h) in
+    subst (Each Q) (own_run disk ps P a n.0 ok leads n.1)
+    (each_joined Q (visible (gstate_of ps)) (joined_run (drop n.0 ps)) (each_run (λ p. Each Q (visible (gstate_of ps) p)) (drop n.0 ps) (each_drop (λ p. Each Q (visible (gstate_of ps) p)) n.0 ps pieces)))
+
+each_got : {X : Type 0} (P : X → Type 0) (xs : List X) → ((k : ℕ) (x : X) → slice_get xs k ≡ Some x → P x) → Each P xs
+each_got P [] h = tt
+each_got P (x ∷ xs) h = (h 0 x refl, each_got P xs (λ k y e. h (suc k) y e))
+
+pub each_both : {X : Type 0} (P Q R : X → Type 0) (xs : List X) → ((x : X) → P x → Q x → R x) → Each P xs → Each Q xs → Each R xs
+each_both P Q R [] f h k = tt
+each_both P Q R (x ∷ xs) f h k = (f x h.0 k.0, each_both P Q R xs f h.1 k.1)
+
+each_child : (P : Visit → Type 0) (path : Path) (slots : List Slot) → Each (λ s. P (child path s)) slots → Each P (map (child path) slots)
+each_child P path [] h = tt
+each_child P path (s ∷ slots) h = (h.0, each_child P path slots h.1)
+
+pub children_visited : (disk : Disk) (ps : List Pair) (v : Visit) → IsAccepted disk ps → slot_of_path ps v.path ≡ Some v.slot → Each (IsVisit disk ps) (children ps v)
+children_visited disk ps v ok e = go v.slot.struct refl
+  where
+    go : (t : Struct) → v.slot.struct ≡ t → Each (IsVisit disk ps) (map (child v.path) (below (entries_in ps) t))
+    go (Inline bytes) f = tt
+    go (Ctz head size) f = tt
+    go (Branch to) f =
+        let leads = leads_to ps v.path v.slot to e f in
+        each_child (IsVisit disk ps) v.path (entries_in ps to)
+        (each_both (λ s. slot_of_path ps (v.path ++ s.name ∷ []) ≡ Some s) (λ s. IsListIfCtz disk s.struct) (λ s. IsVisit disk ps (child v.path s)) (entries_in ps to) (λ s x y. record { leads = x; list = y })
+        (each_got (λ s. slot_of_path ps (v.path ++ s.name ∷ []) ≡ Some s) (entries_in ps to) (λ k u g. slot_there disk ps v.path to k u ok leads g))
+        (each_entry (λ s. IsListIfCtz disk s.struct) disk ps v.path to ok leads (recursion_from_All (λ (s : Slot). IsListIfCtz disk s.struct) (all_slots ps) ok.lists)))
+
+-- a visited directory begins with a pair of the thread
+pub visit_begins : (disk : Disk) (ps : List Pair) (v : Visit) → IsAccepted disk ps → slot_of_path ps v.path ≡ Some v.slot → BeginsIfBranch ps v.slot.struct
+visit_begins disk ps v ok e = go v.slot.struct refl
+  where
+    go : (t : Struct) → v.slot.struct ≡ t → BeginsIfBranch ps t
+    go (Inline bytes) f = tt
+    go (Ctz head size) f = tt
+    go (Branch to) f = begins_with disk ps v.path to ok (leads_to ps v.path v.slot to e f)
+
+-- what is pushed is what the children show
+pub pushed_children : (disk : Disk) (ps : List Pair) (v : Visit) (old new : List Place) → IsAccepted disk ps → slot_of_path ps v.path ≡ Some v.slot → ArePushed ps (place_at v) old new →
+    reverse new ≡ map place_at (children ps v) ++ reverse old
+pushed_children disk ps v old new ok e h = go v.slot.struct refl h
+  where
+    go : (t : Struct) → v.slot.struct ≡ t → ArePushed ps (record { path = path_bytes v.path; struct = t }) old new → reverse new ≡ map place_at (map (child v.path) (below (entries_in ps) t)) ++ reverse old
+    go (Inline bytes) f k = ap reverse k
+    go (Ctz head size) f k = ap reverse k
+    go (Branch to) f k =
+        let are = ap (places_beneath (path_bytes v.path)) (own_shapes disk ps v.path to k.0 ok (leads_to ps v.path v.slot to e f) k.1.0) ∙ places_of v.path (entries_in ps to) in
+        ap reverse k.1.1 ∙ reverse-append old (reverse (places_beneath (path_bytes v.path) (shapes_from ps (Some k.0))))
+        ∙ ap (λ z. z ++ reverse old) (reverse-reverse (places_beneath (path_bytes v.path) (shapes_from ps (Some k.0))) ∙ are)
+
+-- ---- the walk so far
+
+-- These places were visited, those are pending, the next one last: whatever walk of them comes, the tree's goes on with it.
+pub record IsUnderWay (disk : Disk) (ps : List Pair) (done pending : List Place) : Type 0 where
+  pub visits : List Visit
+  pub are : reverse pending ≡ map place_at visits
+  pub each : Each (IsVisit disk ps) visits
+  pub entries : List Entry
+  pub shown : AllShow disk done entries
+  pub goes_on : (es : List Entry) → IsWalk (tree_in disk ps) (paths_of visits) es → IsWalkOf (tree_in disk ps) (entries ++ es)
+
+-- one of them is taken
+pub record IsNext (disk : Disk) (ps : List Pair) (done : List Place) (next : Place) (pending : List Place) : Type 0 where
+  pub visit : Visit
+  pub is : next ≡ place_at visit
+  pub is_visit : IsVisit disk ps visit
+  pub visits : List Visit
+  pub are : reverse pending ≡ map place_at visits
+  pub each : Each (IsVisit disk ps) visits
+  pub entries : List Entry
+  pub shown : AllShow disk done entries
+  pub goes_on : (es : List Entry) → IsWalk (tree_in disk ps) (visit.path ∷ paths_of visits) es → IsWalkOf (tree_in disk ps) (entries ++ es)
+
+pub begun : (disk : Disk) (ps : List Pair) (pending : List Place) → IsAccepted disk ps → pending ≡ reverse (places_beneath [] (map shape_of (entries_in ps (root_of ps)))) → IsUnderWay disk ps [] pending
+begun disk ps pending ok e = record {
+  visits = map (child []) (entries_in ps (root_of ps));
+  are = ap reverse e ∙ reverse-reverse (places_beneath [] (map shape_of (entries_in ps (root_of ps)))) ∙ places_of [] (entries_in ps (root_of ps));
+  each = children_visited disk ps (record { path = []; slot = root_slot (root_of ps) }) ok refl;
+  entries = [];
+  shown = tt;
+  goes_on = λ es w. subst (λ z. IsWalk (tree_in disk ps) z es) (sym (paths_below disk ps (record { path = []; slot = root_slot (root_of ps) }) refl)) w;
+}
+
+pub took : (disk : Disk) (ps : List Pair) (done old new : List Place) (next : Place) → old ≡ new ++ next ∷ [] → IsUnderWay disk ps done old → IsNext disk ps done next new
+took disk ps done old new next e u = go u.visits refl
+  where
+    front : next ∷ reverse new ≡ map place_at u.visits
+    front = sym (ap reverse e ∙ reverse-append new (next ∷ [])) ∙ u.are
+
+    go : (vs : List Visit) → u.visits ≡ vs → IsNext disk ps done next new
+    go [] f = absurd (let k = front ∙ ap (map place_at) f in cc)
+    go (v ∷ vs) f =
+        let k = front ∙ ap (map place_at) f in
+        record {
+          visit = v;
+          is = first_of next (place_at v) (reverse new) (map place_at vs) k;
+          is_visit = (subst (Each (IsVisit disk ps)) f u.each).0;
+          visits = vs;
+          are = others_of next (place_at v) (reverse new) (map place_at vs) k;
+          each = (subst (Each (IsVisit disk ps)) f u.each).1;
+          entries = u.entries;
+          shown = u.shown;
+          goes_on = λ es w. u.goes_on es (subst (λ z. IsWalk (tree_in disk ps) (paths_of z) es) (sym f) w);
+        }
+      where
+        first_of : (x y : Place) (xs ys : List Place) → x ∷ xs ≡ y ∷ ys → x ≡ y
+        first_of x y xs ys h = cc
+
+        others_of : (x y : Place) (xs ys : List Place) → x ∷ xs ≡ y ∷ ys → xs ≡ ys
+        others_of x y xs ys h = cc
+
+shown_more : (disk : Disk) (done : List Place) (entries : List Entry) (place : Place) (entry : Entry) → AllShow disk done entries → Shows disk place entry → AllShow disk (done ++ place ∷ []) (entries ++ entry ∷ [])
+shown_more disk [] [] place entry h s = (s, tt)
+shown_more disk [] (e ∷ es) place entry h s = absurd h
+shown_more disk (p ∷ ps) [] place entry h s = absurd h
+shown_more disk (p ∷ ps) (e ∷ es) place entry h s = (h.0, shown_more disk ps es place entry h.1 s)
+
+pub moved_on : (disk : Disk) (ps : List Pair) (done old new : List Place) (next : Place) → IsAccepted disk ps → IsNext disk ps done next old → ArePushed ps next old new → IsUnderWay disk ps (done ++ next ∷ []) new
+moved_on disk ps done old new next ok n pushed = record {
+  visits = children ps n.visit ++ n.visits;
+  are = pushed_children disk ps n.visit old new ok n.is_visit.leads (subst (λ p. ArePushed ps p old new) n.is pushed)
+      ∙ ap (λ z. map place_at (children ps n.visit) ++ z) n.are ∙ sym (map-append place_at (children ps n.visit) n.visits);
+  each = each_append (IsVisit disk ps) (children ps n.visit) n.visits (children_visited disk ps n.visit ok n.is_visit.leads) n.each;
+  entries = n.entries ++ entry_in disk ps n.visit ∷ [];
+  shown = shown_more disk done n.entries next (entry_in disk ps n.visit) n.shown (subst (λ p. Shows disk p (entry_in disk ps n.visit)) (sym n.is) (visit_shows disk ps n.visit n.is_visit));
+  goes_on = λ es w.
+      subst (IsWalkOf (tree_in disk ps)) (sym (append_assoc n.entries (entry_in disk ps n.visit ∷ []) es))
+      (n.goes_on (entry_in disk ps n.visit ∷ es) (
+        refl,
+        node_at disk ps n.visit n.is_visit.leads,
+        subst (λ z. IsWalk (tree_in disk ps) z es) (map-append (λ (v : Visit). v.path) (children ps n.visit) n.visits ∙ ap (λ z. z ++ paths_of n.visits) (sym (paths_below disk ps n.visit n.is_visit.leads))) w,
+      ));
+}
+
+pub ended : (disk : Disk) (ps : List Pair) (done pending : List Place) → pending ≡ [] → IsUnderWay disk ps done pending → IsWalked disk ps done
+ended disk ps done pending e u = go u.visits refl
+  where
+    none : map place_at u.visits ≡ []
+    none = sym u.are ∙ ap reverse e
+
+    go : (vs : List Visit) → u.visits ≡ vs → IsWalked disk ps done
+    go [] f = (u.entries ++ [], (u.goes_on [] (subst (λ z. IsWalk (tree_in disk ps) (paths_of z) []) (sym f) tt), subst (AllShow disk done) (sym (append-nil u.entries)) u.shown))
+    go (v ∷ vs) f = absurd (let k = sym none ∙ ap (map place_at) f in cc)
+
+-- the next one's directory is in the thread
+pub next_begins : (disk : Disk) (ps : List Pair) (done pending : List Place) (next : Place) → IsAccepted disk ps → IsNext disk ps done next pending → BeginsIfBranch ps next.struct
+next_begins disk ps done pending next ok n = subst (BeginsIfBranch ps) (sym (ap (λ (p : Place). p.struct) n.is)) (visit_begins disk ps n.visit ok n.is_visit.leads)

@@ -1,0 +1,31 @@
+use Rattle.std.proofs.Common.{◌≡◌, ◌<◌, ◌∙◌, List, Some, length, slice_get, slice_index_or, subst, sym}
+use Rattle.std.specs.Prelude.{IfOk}
+use Rattle.lfs_model.specs.Thread.{Pair}
+use Rattle.lfs_lookup.specs.AttributeAt.{IsAttributesSize}
+use Rattle.lfs_thread.specs.Steps.{no_pair}
+use Rattle.lfs_lookup.proofs.AttributeAtSlots.{no_slot, slot_for}
+use Rattle.lfs_lookup.proofs.AttributesPut.{none_sized}
+use Rattle.lfs_lookup.proofs.Reading.{answered, further}
+use Rattle.lfs_lookup.proofs.attribute_sizes.attributes_size_at.Goals as goal
+
+pub size_of_slot-requires-clause-below : goal.size_of_slot-requires-clause-below
+size_of_slot-requires-clause-below g c =
+    let t = c.args.thread.now.kept in
+    let f = slot_for t c.args.path.now c.in_ok-shown.shown c.in-Some.slot c.in_ok-shown.ensures.shown (sym c.slot_of.ensures ∙ c.in-Some.is) in
+    subst (λ (ps : List Pair). c.in-Some.slot.pair < length ps) (sym c.shown_at.ensures.reading.only.pairs) f.below
+
+pub returns-clause-is : goal.returns-clause-is
+returns-clause-is g c =
+    let t = c.args.thread.now.kept in
+    let f = slot_for t c.args.path.now c.in_ok-shown.shown c.in-Some.slot c.in_ok-shown.ensures.shown (sym c.slot_of.ensures ∙ c.in-Some.is) in
+    subst (λ a. IfOk c.size_of_slot.result (IsAttributesSize a)) f.attributes
+    (c.size_of_slot.ensures.is f.held
+    (subst (λ (ps : List Pair). slice_get (slice_index_or ps c.in-Some.slot.pair no_pair).content.slots c.in-Some.slot.id ≡ Some f.held) (sym c.shown_at.ensures.reading.only.pairs) f.there))
+
+pub returns-clause-reading : goal.returns-clause-reading
+returns-clause-reading g c =
+    further _ _ _ c.size_of_slot.result (answered _ _ c.shown_at.result c.in_ok-shown.shown c.in_ok-shown.was c.shown_at.ensures.reading) c.size_of_slot.ensures.reading
+
+pub returns-in_default-clause-is : goal.returns-in_default-clause-is
+returns-in_default-clause-is g c =
+    subst (λ a. IsAttributesSize a 0) (sym (no_slot c.args.thread.now.kept c.args.path.now c.in_ok-shown.shown c.in_ok-shown.ensures.shown (sym c.slot_of.ensures ∙ c.in_default.is))) none_sized

@@ -1,0 +1,29 @@
+use Rattle.std.proofs.Common.{◌∙◌, List, map, sym, ap, subst, arith}
+use Rattle.std.proofs.lemmas.Option.{same_Some}
+use Rattle.lfs_model.specs.Log.{log_entries}
+use Rattle.lfs_model.specs.Content.{RawContent, RawSlot, content_after_all, no_content, slot_of_id}
+use Rattle.lfs_model.specs.LoggedContent.{Ascend, HaveParts}
+use Rattle.lfs_model.specs.Slots.{attributes_size}
+use Rattle.lfs_model.proofs.Logged.{logged}
+use Rattle.lfs_model.proofs.Completed.{completed_parts}
+use Rattle.lfs_tag.specs.ContentSeen.{content_seen, slot_seen}
+use Rattle.lfs_lookup.proofs.AttributeAtSlots.{parts_of_id, same_attributes}
+use Rattle.lfs_lookup.proofs.AttributesPut.{sized}
+use Rattle.lfs_lookup.proofs.BytesAtSlots.{raw_slot}
+use Rattle.lfs_lookup.proofs.attribute_sizes.size_in_block.Goals as goal
+
+pub size_in_slot-requires : goal.size_in_slot-requires
+size_in_slot-requires c =
+    let read = sym (ap (λ b. content_after_all no_content (log_entries b)) c.read.ensures) ∙ c.in_ok-content.ensures.content in
+    let sound = logged c.args.block.now (content_seen c.in_ok-content.content) (λ i. omega (arith, c.type_inv.block i)) read in
+    subst HaveParts (sym (ap (map slot_seen) c.deref.ensures.value)) sound.slots
+
+pub returns-clause-is : goal.returns-clause-is
+returns-clause-is c content slot is at =
+    let read = sym (ap (λ b. content_after_all no_content (log_entries b)) c.read.ensures) ∙ c.in_ok-content.ensures.content in
+    let sound = logged c.args.block.now (content_seen c.in_ok-content.content) (λ i. omega (arith, c.type_inv.block i)) read in
+    let same = ap (λ (r : RawContent). r.slots) (same_Some (content_seen c.in_ok-content.content) is.raw (sym read ∙ is.log)) in
+    let held = same_attributes (slot_of_id is.raw.slots c.args.id) slot (raw_slot is.raw.slots content.slots c.args.id slot (completed_parts is.raw content is.complete).slots at) in
+    let whole = ap (λ (raw : List RawSlot). (slot_of_id raw c.args.id).attributes) same ∙ held in
+    sized slot.attributes c.size_in_slot.result (subst (Ascend 0) whole (parts_of_id (content_seen c.in_ok-content.content).slots c.args.id sound.slots).attributes)
+    (c.size_in_slot.ensures ∙ ap (λ (raw : List RawSlot). attributes_size (slot_of_id raw c.args.id).attributes) (ap (map slot_seen) c.deref.ensures.value) ∙ ap attributes_size whole)

@@ -1,0 +1,68 @@
+use Rattle.std.proofs.Common.{◌∙◌, ap, refl, arith}
+use Rattle.std.proofs.lemmas.Result.{err_from_is_err_and}
+use Rattle.lfs_model.specs.History.{reads}
+use Rattle.lfs_model.specs.TreeEdits.{attributes_of}
+use Rattle.lfs_model.specs.Shown.{tree_in}
+use Rattle.lfs_thread.specs.Kept.{Kept}
+use Rattle.lfs_lookup.proofs.AtPaths.{sized_on}
+use Rattle.lfs_lookup.proofs.AttributeAtSlots.{are_held, held_later, slot_at_hand, slot_within}
+use Rattle.lfs_lookup.proofs.Reading.{answered, answers, both, further, passed}
+use Rattle.lfs_lookup.proofs.ShownFindings.{found_shown, in_entry}
+use Rattle.lfs_lookup.proofs.attributes.attribute_at.Goals as goal
+
+pub attribute_held-requires-clause-below : goal.attribute_held-requires-clause-below
+attribute_held-requires-clause-below g c =
+    slot_within c.args.thread.now.kept c.args.path.now c.in_ok-shown.shown c.slot_of.result c.shown_at.new.thread.kept.pairs c.in_ok-shown.ensures.shown c.slot_of.ensures c.shown_at.ensures.reading.only.pairs
+
+pub attribute_held-requires-clause-at_hand : goal.attribute_held-requires-clause-at_hand
+attribute_held-requires-clause-at_hand g c = slot_at_hand c.shown_at.new.thread c.in_ok-shown.shown c.slot_of.result c.in_ok-shown.ensures.at_hand c.slot_of.ensures
+
+pub returns-in_err-bytes-clause-reading : goal.returns-in_err-bytes-clause-reading
+returns-in_err-bytes-clause-reading g c =
+    let p = err_from_is_err_and c.from_residual-in_err-bytes.result c.from_residual-in_err-bytes.ensures.1 in
+    passed _ _ c.attribute_held.result c.from_residual-in_err-bytes.result _ p.0 c.in_err-bytes.was p.1 p.2
+    (further _ _ _ c.attribute_held.result (answered _ _ c.shown_at.result c.in_ok-shown.shown c.in_ok-shown.was c.shown_at.ensures.reading) c.attribute_held.ensures.reading)
+
+pub returns-in_err-bytes-clause-few : goal.returns-in_err-bytes-clause-few
+returns-in_err-bytes-clause-few g c =
+    let f = c.shown_at.ensures.few in
+    let e = ap (λ (t : Kept). reads t.history) c.attribute_held.ensures.no_call in
+    omega (arith, f, e)
+
+pub finding_of-requires : goal.finding_of-requires
+finding_of-requires g c = in_entry c.args.thread.now.kept c.args.path.now c.in_ok-shown.shown c.in_ok-shown.ensures.shown
+
+pub returns-clause-found : goal.returns-clause-found
+returns-clause-found g c =
+    let t = c.args.thread.now.kept in
+    let device = c.device-device.result.now in
+    found_shown t c.args.path.now c.requires.accepted c.args.root c.in_ok-shown.shown c.finding_of.result c.requires.root
+    (sized_on g.D.BlockDevice device t.disk (g.D.BlockDevice.geometry device).block_count (c.device-device.ensures.disk ∙ c.attribute_held.ensures.reading.only.disk ∙ c.shown_at.ensures.reading.only.disk)
+    (g.D.BlockDevice.geometry device).valid.no_smaller (g.met.D.BlockDevice.shape device))
+    c.in_ok-shown.ensures.shown c.finding_of.ensures
+
+pub returns-clause-is : goal.returns-clause-is
+returns-clause-is g c =
+    let t = c.args.thread.now.kept in
+    let held = are_held t c.args.path.now c.in_ok-shown.shown c.slot_of.result c.in_ok-shown.ensures.shown c.slot_of.ensures in
+    c.in_ok-bytes.ensures.is (attributes_of (tree_in t.disk t.pairs c.args.path.now)) (held_later t c.shown_at.new.thread.kept c.slot_of.result _ c.shown_at.ensures.reading.only.pairs held)
+
+pub returns-clause-few : goal.returns-clause-few
+returns-clause-few g c =
+    let f = c.shown_at.ensures.few in
+    let e = ap (λ (t : Kept). reads t.history) c.attribute_held.ensures.no_call in
+    omega (arith, f, e)
+
+pub returns-clause-reading : goal.returns-clause-reading
+returns-clause-reading g c =
+    answers _ _ _ _ refl (both _ _ _ (answered _ _ c.shown_at.result c.in_ok-shown.shown c.in_ok-shown.was c.shown_at.ensures.reading)
+    (answered _ _ c.attribute_held.result c.in_ok-bytes.bytes c.in_ok-bytes.was c.attribute_held.ensures.reading))
+
+pub returns-in_err-shown-clause-kept : goal.returns-in_err-shown-clause-kept
+returns-in_err-shown-clause-kept g c = c.shown_at.ensures.brings.none
+
+pub returns-in_err-bytes-clause-kept : goal.returns-in_err-bytes-clause-kept
+returns-in_err-bytes-clause-kept g c = λ there. ap (λ (t : Kept). reads t.history) c.attribute_held.ensures.no_call ∙ c.shown_at.ensures.brings.none there
+
+pub returns-clause-kept : goal.returns-clause-kept
+returns-clause-kept g c = λ there. ap (λ (t : Kept). reads t.history) c.attribute_held.ensures.no_call ∙ c.shown_at.ensures.brings.none there

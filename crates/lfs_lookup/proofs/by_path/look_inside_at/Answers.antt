@@ -1,0 +1,42 @@
+use Rattle.std.proofs.Common.{◌∙◌, refl}
+use Rattle.std.proofs.lemmas.Result.{err_from_is_err_and}
+use Rattle.lfs_lookup.proofs.AtPaths.{sized_on}
+use Rattle.lfs_lookup.proofs.Reading.{answered, answers, both, further, passed}
+use Rattle.lfs_lookup.proofs.ShownFindings.{first_at, first_within, found_shown, has_beneath, in_entry}
+use Rattle.lfs_lookup.proofs.by_path.look_inside_at.Goals as goal
+
+pub has_entries-requires-clause-below : goal.has_entries-requires-clause-below
+has_entries-requires-clause-below g c =
+    let t = c.args.thread.now.kept in
+    first_within t c.args.path.now c.requires.accepted c.shown_at.new.thread.kept.pairs c.first_of.result c.shown_at.ensures.reading.only.pairs
+    (first_at t c.args.path.now c.requires.accepted c.args.root c.in_ok-shown.shown c.first_of.result c.requires.root c.in_ok-shown.ensures.shown c.first_of.ensures)
+
+pub returns-in_err-has_entries-clause-reading : goal.returns-in_err-has_entries-clause-reading
+returns-in_err-has_entries-clause-reading g c =
+    let p = err_from_is_err_and c.from_residual-in_err-has_entries.result c.from_residual-in_err-has_entries.ensures.1 in
+    passed _ _ c.has_entries.result c.from_residual-in_err-has_entries.result _ p.0 c.in_err-has_entries.was p.1 p.2
+    (further _ _ _ c.has_entries.result (answered _ _ c.shown_at.result c.in_ok-shown.shown c.in_ok-shown.was c.shown_at.ensures.reading) c.has_entries.ensures.reading)
+
+pub finding_of-requires : goal.finding_of-requires
+finding_of-requires g c = in_entry c.args.thread.now.kept c.args.path.now c.in_ok-shown.shown c.in_ok-shown.ensures.shown
+
+pub returns-clause-found : goal.returns-clause-found
+returns-clause-found g c =
+    let t = c.args.thread.now.kept in
+    let device = c.device-device.result.now in
+    found_shown t c.args.path.now c.requires.accepted c.args.root c.in_ok-shown.shown c.finding_of.result c.requires.root
+    (sized_on g.D.BlockDevice device t.disk (g.D.BlockDevice.geometry device).block_count (c.device-device.ensures.disk ∙ c.has_entries.ensures.reading.only.disk ∙ c.shown_at.ensures.reading.only.disk)
+    (g.D.BlockDevice.geometry device).valid.no_smaller (g.met.D.BlockDevice.shape device))
+    c.in_ok-shown.ensures.shown c.finding_of.ensures
+
+pub returns-clause-has : goal.returns-clause-has
+returns-clause-has g c =
+    let t = c.args.thread.now.kept in
+    has_beneath t c.args.path.now c.requires.accepted c.shown_at.new.thread.kept.pairs c.first_of.result c.in_ok-has_entries.has_entries c.shown_at.ensures.reading.only.pairs
+    (first_at t c.args.path.now c.requires.accepted c.args.root c.in_ok-shown.shown c.first_of.result c.requires.root c.in_ok-shown.ensures.shown c.first_of.ensures)
+    c.in_ok-has_entries.ensures.has
+
+pub returns-clause-reading : goal.returns-clause-reading
+returns-clause-reading g c =
+    answers _ _ _ _ refl (both _ _ _ (answered _ _ c.shown_at.result c.in_ok-shown.shown c.in_ok-shown.was c.shown_at.ensures.reading)
+    (answered _ _ c.has_entries.result c.in_ok-has_entries.has_entries c.in_ok-has_entries.was c.has_entries.ensures.reading))

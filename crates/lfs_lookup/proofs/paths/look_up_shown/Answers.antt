@@ -1,0 +1,105 @@
+use Rattle.std.proofs.Common.{◌≡◌, None, ap, subst, ◌∙◌, [], arith}
+use Rattle.lfs_model.specs.Discipline.{pairs_of_path}
+use Rattle.lfs_lookup.specs.AtPath.{IsThrough}
+use Rattle.lfs_lookup.specs.Paths.{Descends, fault_of}
+use Rattle.lfs_lookup.proofs.ReadOnly.{only_read, told_behind}
+use Rattle.std.proofs.lemmas.Result.{err_from_is_err_and}
+use Rattle.lfs_lookup.proofs.BroughtDown.{down_last, down_short, run_same, stops_none}
+use Rattle.lfs_lookup.proofs.RecentBlocks.{on_ok, passes_none}
+use Rattle.lfs_lookup.proofs.Descended.{hiding_same, names_are, sum_is, showed_in, few_same}
+use Rattle.lfs_model.specs.Session.{parent_fault}
+use Rattle.lfs_model.specs.Shown.{tree_in}
+use Rattle.lfs_lookup.proofs.paths.look_up_shown.Goals as goal
+
+pub returns-in_err-parent-clause-few : goal.returns-in_err-parent-clause-few
+returns-in_err-parent-clause-few g c =
+    let is = names_are (λ name. name.now) c.args.path.now _ _ c.in-Some.ensures.cases.0 in
+    let s = sum_is (pairs_of_path c.args.thread.now.kept.pairs) _ _ _ is in
+    let few = c.find_directory.ensures.few in
+    omega (arith, s, few)
+
+pub returns-in-Directory-clause-answer : goal.returns-in-Directory-clause-answer
+returns-in-Directory-clause-answer g c =
+    let t = c.args.thread.now.kept in
+    let is = names_are (λ name. name.now) c.args.path.now _ _ c.in-Some.ensures.cases.0 in
+    let d = subst (Descends t _) c.in-Directory.is c.in_ok-parent.ensures.answer in
+    showed_in t c.find_directory.new.thread.kept c.args.moved c.find_directory.ensures.only _ _ c.in-Directory.parent c.show_in.result d.begins c.show_in.ensures.answer _ is (d.fault _)
+
+pub returns-in-Directory-clause-few : goal.returns-in-Directory-clause-few
+returns-in-Directory-clause-few g c =
+    let t = c.args.thread.now.kept in
+    let is = names_are (λ name. name.now) c.args.path.now _ _ c.in-Some.ensures.cases.0 in
+    let d = subst (Descends t _) c.in-Directory.is c.in_ok-parent.ensures.answer in
+    let s = sum_is (pairs_of_path c.args.thread.now.kept.pairs) _ _ _ is in
+    let few = c.find_directory.ensures.few in
+    let more = c.show_in.ensures.few in
+    let same = few_same t c.find_directory.new.thread.kept c.requires.hiding.accepted c.find_directory.ensures.only _ c.in-Directory.parent d.begins in
+    omega (arith, s, few, more, same)
+
+pub returns-in-Directory-clause-brings : goal.returns-in-Directory-clause-brings
+returns-in-Directory-clause-brings g c =
+    let t = c.args.thread.now.kept in
+    let is = names_are (λ name. name.now) c.args.path.now _ _ c.in-Some.ensures.cases.0 in
+    let d = subst (Descends t _) c.in-Directory.is c.in_ok-parent.ensures.answer in
+    down_last (λ q. fault_of q ≡ None) IsThrough c.args.thread.now c.find_directory.new.thread c.show_in.new.thread _ _ _ c.in_ok-parent.field-0 c.show_in.result _ is c.in_ok-parent.ensures.brings
+    (ap fault_of c.in-Directory.is) c.find_directory.ensures.only.disk
+    (run_same t c.find_directory.new.thread.kept _ c.in-Directory.parent c.requires.hiding.accepted c.find_directory.ensures.only d.begins) c.show_in.ensures.brings
+
+pub returns-in-Directory-clause-reading : goal.returns-in-Directory-clause-reading
+returns-in-Directory-clause-reading g c =
+    let r = c.show_in.ensures.reading in
+    record {
+      only = only_read _ _ _ c.find_directory.ensures.only r.only;
+      works = r.works;
+      told = told_behind _ _ _ c.show_in.result c.find_directory.ensures.only (c.in_ok-parent.ensures.errors.no_fault (λ e. absurd (let k : _ = e in cc))) r.only r.told;
+    }
+
+pub returns-in-File-clause-answer : goal.returns-in-File-clause-answer
+returns-in-File-clause-answer g c =
+    let t = c.args.thread.now.kept in
+    let is = names_are (λ name. name.now) c.args.path.now _ _ c.in-Some.ensures.cases.0 in
+    let d = subst (Descends t _) c.in-File.is c.in_ok-parent.ensures.answer in
+    ap (parent_fault (tree_in t.disk t.pairs) []) is ∙ d.fault _
+
+pub returns-in-File-clause-few : goal.returns-in-File-clause-few
+returns-in-File-clause-few g c =
+    let is = names_are (λ name. name.now) c.args.path.now _ _ c.in-Some.ensures.cases.0 in
+    let s = sum_is (pairs_of_path c.args.thread.now.kept.pairs) _ _ _ is in
+    let few = c.find_directory.ensures.few in
+    omega (arith, s, few)
+
+pub returns-in-Nothing-clause-answer : goal.returns-in-Nothing-clause-answer
+returns-in-Nothing-clause-answer g c =
+    let t = c.args.thread.now.kept in
+    let is = names_are (λ name. name.now) c.args.path.now _ _ c.in-Some.ensures.cases.0 in
+    let d = subst (Descends t _) c.in-Nothing.is c.in_ok-parent.ensures.answer in
+    ap (parent_fault (tree_in t.disk t.pairs) []) is ∙ d.fault _
+
+pub returns-in-Nothing-clause-few : goal.returns-in-Nothing-clause-few
+returns-in-Nothing-clause-few g c =
+    let is = names_are (λ name. name.now) c.args.path.now _ _ c.in-Some.ensures.cases.0 in
+    let s = sum_is (pairs_of_path c.args.thread.now.kept.pairs) _ _ _ is in
+    let few = c.find_directory.ensures.few in
+    omega (arith, s, few)
+
+pub show_in-requires-clause-hiding : goal.show_in-requires-clause-hiding
+show_in-requires-clause-hiding g c = hiding_same c.args.thread.now.kept c.find_directory.new.thread.kept c.args.moved c.find_directory.ensures.only c.requires.hiding
+
+pub returns-in_err-parent-clause-brings : goal.returns-in_err-parent-clause-brings
+returns-in_err-parent-clause-brings g c =
+    let is = names_are (λ name. name.now) c.args.path.now _ _ c.in-Some.ensures.cases.0 in
+    let p = err_from_is_err_and c.from_residual.result c.from_residual.ensures.1 in
+    down_short (λ q. fault_of q ≡ None) IsThrough c.args.thread.now c.find_directory.new.thread _ _ _ c.find_directory.result c.from_residual.result is
+    (passes_none c.find_directory.result c.from_residual.result p.0 p.1) (stops_none IsThrough c.from_residual.result p.0 p.1) c.find_directory.ensures.brings
+
+pub returns-in-File-clause-brings : goal.returns-in-File-clause-brings
+returns-in-File-clause-brings g c =
+    let is = names_are (λ name. name.now) c.args.path.now _ _ c.in-Some.ensures.cases.0 in
+    down_short (λ q. fault_of q ≡ None) IsThrough c.args.thread.now c.find_directory.new.thread _ _ _ c.find_directory.result _ is
+    (λ P h. on_ok c.find_directory.result c.in_ok-parent.field-0 P c.in_ok-parent.was h) (λ Q e. absurd (let k : _ = e in cc)) c.find_directory.ensures.brings
+
+pub returns-in-Nothing-clause-brings : goal.returns-in-Nothing-clause-brings
+returns-in-Nothing-clause-brings g c =
+    let is = names_are (λ name. name.now) c.args.path.now _ _ c.in-Some.ensures.cases.0 in
+    down_short (λ q. fault_of q ≡ None) IsThrough c.args.thread.now c.find_directory.new.thread _ _ _ c.find_directory.result _ is
+    (λ P h. on_ok c.find_directory.result c.in_ok-parent.field-0 P c.in_ok-parent.was h) (λ Q e. absurd (let k : _ = e in cc)) c.find_directory.ensures.brings

@@ -1,0 +1,25 @@
+use Rattle.std.proofs.Common.{◌≡◌, ◌<◌, ◌≤◌, ◌+◌, ◌-◌, length, drop, false, get_or}
+use Rattle.lfs_model.specs.History.{faults, reads}
+use Rattle.lfs_model.specs.InDirectory.{run_length}
+use Rattle.lfs_thread.specs.Steps.{IsOnlyRead, no_pair}
+use Rattle.lfs_lookup.specs.Listed.{joined_run}
+use Rattle.lfs_lookup.specs.Search.{IsAbsentAlong}
+use Rattle.lfs_lookup.proofs.RecentBlocks.{HasBrought}
+use Rattle.lfs_lookup.proofs.ShownAlong.{IsReached}
+use Rattle.lfs_lookup.proofs.search.find_shown.Given as goal
+
+abbrev pub invariant-loop-id : goal.invariant-loop-id
+invariant-loop-id g l = record {
+  only : IsOnlyRead l.fn.thread.kept l.thread.kept;
+  no_fault : faults l.thread.kept.history ≡ faults l.fn.thread.kept.history;
+  works : l.thread.failed ≡ false;
+  few : reads l.thread.kept.history + run_length (drop l.pair l.fn.thread.kept.pairs) ≤ reads l.fn.thread.kept.history + run_length (drop l.fn.first l.fn.thread.kept.pairs);
+  along : HasBrought (joined_run (drop l.fn.first l.fn.thread.kept.pairs)) (joined_run (drop l.pair l.fn.thread.kept.pairs)) l.fn.thread l.thread;
+  from : l.fn.first ≤ l.pair;
+  below : l.pair < length l.fn.thread.kept.pairs;
+  reached : IsReached l.fn.thread.kept.pairs l.fn.first l.pair (get_or l.fn.thread.kept.pairs l.pair no_pair);
+  absent : IsAbsentAlong l.fn.moved l.pair (drop l.pair l.fn.thread.kept.pairs) l.fn.name → IsAbsentAlong l.fn.moved l.fn.first (drop l.fn.first l.fn.thread.kept.pairs) l.fn.name;
+}
+
+abbrev pub decreases-loop-id : goal.decreases-loop-id
+decreases-loop-id g l = length l.fn.thread.kept.pairs - l.pair

@@ -1,0 +1,55 @@
+-- What a path leads to, as it is found.
+use Rattle.std.specs.Prelude.{ℕ, ◌≡◌, ◌<◌, nat_lt, List, length, Option, Some, None, Bool}
+use Rattle.lfs_model.specs.Thread.{Pair}
+use Rattle.lfs_model.specs.Tree.{Path}
+use Rattle.lfs_thread.specs.Kept.{Kept}
+use Rattle.lfs_lookup.specs.Listed.{shapes_from}
+use Rattle.lfs_lookup.specs.Paths.{ShowsTo}
+use Rattle.lfs_lookup.specs.declared.entry.Contents.{Contents}
+use Rattle.lfs_lookup.specs.declared.entry.Contents.TheVariants as contents
+use Rattle.lfs_lookup.specs.declared.finding.Finding.{Finding}
+use Rattle.lfs_lookup.specs.declared.finding.Node.TheVariants as node
+use Rattle.lfs_model.specs.Operations.{NoEnt, NotDir}
+use Rattle.lfs_lookup.specs.declared.paths.Shown.{Shown}
+use Rattle.lfs_lookup.specs.declared.paths.Shown.TheVariants as shown
+use Rattle.lfs_lookup.specs.declared.search.Spot.{Spot}
+
+-- where the slot that a set move names counts as deleted
+abbrev pub ShowsAt : Kept → Path → Shown → Type 0
+ShowsAt t path shown = (moved : Option Spot) × ShowsTo t moved path shown
+
+-- whether something stands in the directory that begins with the pair of that number, if there is one
+abbrev pub has_entries_from : List Pair → Option ℕ → Bool
+has_entries_from ps from = nat_lt 0 (length (shapes_from ps from))
+
+-- the number of the first pair of the directory that stands there
+abbrev pub first_shown : ℕ → Shown → Option ℕ
+first_shown root shown.Root = Some root
+first_shown root (shown.Directory slot first) = Some first
+first_shown root _ = None
+
+abbrev pub size_shown : Contents → ℕ
+size_shown (contents.Inline len) = len
+size_shown (contents.List head size) = size
+
+-- inline bytes stand in an entry
+abbrev pub IsInEntry : Contents → Type 0
+IsInEntry (contents.Inline len) = len < 0x3ff
+IsInEntry (contents.List head size) = Unit {0}
+
+abbrev pub IsInEntryIfFile : Shown → Type 0
+IsInEntryIfFile (shown.File slot contents) = IsInEntry contents
+IsInEntryIfFile _ = Unit {0}
+
+-- by what a path is refused, and what stands at it
+abbrev pub finding_of : Shown → Finding
+finding_of shown.Root = record { fault = None; node = node.Directory }
+finding_of (shown.Directory slot first) = record { fault = None; node = node.Directory }
+finding_of (shown.File slot contents) = record { fault = None; node = node.File (size_shown contents) }
+finding_of shown.Nothing = record { fault = None; node = node.Nothing }
+finding_of shown.ParentIsFile = record { fault = Some NotDir; node = node.Nothing }
+finding_of shown.ParentIsMissing = record { fault = Some NoEnt; node = node.Nothing }
+
+-- no parent of the path refuses it
+abbrev pub IsThrough : Shown → Type 0
+IsThrough s = (finding_of s).fault ≡ None

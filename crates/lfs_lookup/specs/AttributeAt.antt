@@ -1,0 +1,44 @@
+-- An attribute that is found.
+use Rattle.std.specs.Prelude.{ℕ, ◌≡◌, ◌≤◌, ◌<◌, ◌^◌, ◌+◌, List, Option, Some, None, IfSome, IsSome, Vec, [], length}
+use Rattle.std.specs.Option.{option_map, option_map_or}
+use Rattle.std.specs.declared.alloc.Global.{Global}
+use Rattle.lfs_model.specs.Content.{attribute_of, put_attribute}
+use Rattle.lfs_model.specs.Slots.{Attributes, Slot, attributes_size}
+use Rattle.lfs_thread.specs.Kept.{Kept, State}
+use Rattle.lfs_thread.specs.Lent.{at_hand}
+use Rattle.lfs_lookup.specs.BytesAt.{IsSlotAt}
+use Rattle.lfs_lookup.specs.declared.paths.Shown.{Shown}
+use Rattle.lfs_lookup.specs.declared.paths.Shown.TheVariants as shown
+use Rattle.lfs_lookup.specs.declared.search.Spot.{Spot}
+
+-- the attribute of that type, or none
+abbrev pub IsAttribute : ℕ → Attributes → Option (Vec ℕ Global) → Type 0
+IsAttribute kind attributes found = option_map (λ v. v.items) found ≡ attribute_of kind attributes
+
+abbrev pub IsShort : Option (Vec ℕ Global) → Type 0
+IsShort found = IfSome found (λ v. length v.items ≤ 1022)
+
+-- the slot of a file or of a directory
+abbrev pub slot_shown : Shown → Option Spot
+slot_shown (shown.File slot contents) = Some slot
+slot_shown (shown.Directory slot first) = Some slot
+slot_shown _ = None
+
+-- the block of that slot's pair is at hand
+abbrev pub IsAtHand : State → Shown → Type 0
+IsAtHand t s = IfSome (slot_shown s) (λ slot. IsSome (at_hand t slot.pair))
+
+-- the attributes of the slot, if there is one
+abbrev pub AreHeld : Kept → Option Spot → Attributes → Type 0
+AreHeld t None attributes = attributes ≡ []
+AreHeld t (Some spot) attributes = (slot : Slot) × (IsSlotAt t spot slot × (slot.attributes ≡ attributes))
+
+-- putting an attribute adds its size, and takes that of the one of its type
+abbrev pub TakesPlace : Attributes → Type 0
+TakesPlace attributes = (kind : ℕ) (bytes : List ℕ) → attributes_size (put_attribute kind bytes attributes) + option_map_or (λ b. 4 + length b) (attribute_of kind attributes) 0 ≡ attributes_size attributes + (4 + length bytes)
+
+-- so many bytes of a pair are the attributes'
+pub record IsAttributesSize (attributes : Attributes) (size : ℕ) : Type 0 where
+  pub is : size ≡ attributes_size attributes
+  pub small : size < 2 ^ 32
+  pub put : TakesPlace attributes

@@ -1,0 +1,15 @@
+-- What is handed out of a slot's struct.
+use Rattle.std.specs.Prelude.{ℕ, ◌≡◌, ◌<◌, List, length}
+use Rattle.lfs_model.specs.Slots.{Struct, Inline, Ctz, Branch, address_of}
+use Rattle.lfs_lookup.specs.declared.entry.Contents.{Contents}
+use Rattle.lfs_lookup.specs.declared.entry.Contents.TheVariants as contents
+use Rattle.lfs_lookup.specs.declared.entry.Entry.{Entry}
+use Rattle.lfs_lookup.specs.declared.entry.Entry.TheVariants as entry
+
+abbrev pub ShowsContents : Contents → Struct → Type 0
+ShowsContents (contents.Inline len) t = (bytes : List ℕ) × ((t ≡ Inline bytes) × ((length bytes ≡ len) × (len < 0x3ff)))
+ShowsContents (contents.List head size) t = t ≡ Ctz head size
+
+abbrev pub Shows : Entry → Struct → Type 0
+Shows (entry.File contents) t = ShowsContents contents t
+Shows (entry.Directory at) t = t ≡ Branch (address_of at)

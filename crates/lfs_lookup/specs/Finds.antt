@@ -1,0 +1,46 @@
+-- What a look-up finds, and what a list names.
+use Rattle.std.specs.Prelude.{ℕ, ◌≡◌, [], nat_lt, Bool, true, false, length, Option, Some, None, is_none}
+use Rattle.lfs_model.specs.TreeEdits.{is_directory, is_file, names_of}
+use Rattle.lfs_model.specs.Operations as ops
+use Rattle.lfs_model.specs.Session.{parent_fault}
+use Rattle.lfs_model.specs.Effects.{size_of}
+use Rattle.lfs_model.specs.Tree.{Path, Tree}
+use Rattle.lfs_lookup.specs.declared.finding.Finding.{Finding}
+use Rattle.lfs_lookup.specs.declared.finding.ListItem.{ListItem}
+use Rattle.lfs_lookup.specs.declared.finding.Node.{Node}
+use Rattle.lfs_lookup.specs.declared.finding.Node.TheVariants as node
+
+abbrev pub is_absent : Node → Bool
+is_absent node.Nothing = true
+is_absent (node.File size) = false
+is_absent node.Directory = false
+
+abbrev pub is_file_node : Node → Bool
+is_file_node node.Nothing = false
+is_file_node (node.File size) = true
+is_file_node node.Directory = false
+
+abbrev pub is_directory_node : Node → Bool
+is_directory_node node.Nothing = false
+is_directory_node (node.File size) = false
+is_directory_node node.Directory = true
+
+abbrev pub size_in : Node → Option ℕ
+size_in node.Nothing = None
+size_in (node.File size) = Some size
+size_in node.Directory = None
+
+-- what was found stands for the node at a path; where a parent refuses there is none
+pub record Finds (t : Tree) (p : Path) (found : Finding) : Type 0 where
+  pub parents : parent_fault t [] p ≡ found.fault
+  pub nothing : is_none (t p) ≡ is_absent found.node
+  pub directories : is_directory (t p) ≡ is_directory_node found.node
+  pub files : is_file (t p) ≡ is_file_node found.node
+  pub sizes : size_of (t p) ≡ size_in found.node
+
+-- whether something stands beneath a path
+abbrev pub has_names : Tree → Path → Bool
+has_names t p = nat_lt 0 (length (names_of (t p)))
+
+abbrev pub list_item_seen : ListItem → ops.Item
+list_item_seen item = record { name = item.name.items; size = item.size }

@@ -1,0 +1,24 @@
+-- What a list says of an entry.
+use Rattle.std.specs.Prelude.{ℕ, ◌<◌, List, [], ◌∷◌, length, Option, Some, None}
+use Rattle.lfs_model.specs.Operations as ops
+use Rattle.lfs_model.specs.Slots.{Struct, Inline, Ctz, Branch}
+use Rattle.lfs_lookup.specs.Items.{Shape}
+
+-- how many bytes a file has
+abbrev pub size_listed : Struct → Option ℕ
+size_listed (Inline bytes) = Some (length bytes)
+size_listed (Ctz head size) = Some size
+size_listed (Branch to) = None
+
+abbrev pub item_listed : Shape → ops.Item
+item_listed x = record { name = x.name; size = size_listed x.struct }
+
+-- inline bytes stand in an entry
+abbrev pub IsShort : Struct → Type 0
+IsShort (Inline bytes) = length bytes < 0x3ff
+IsShort (Ctz head size) = Unit {0}
+IsShort (Branch to) = Unit {0}
+
+abbrev pub AreShort : List Shape → Type 0
+AreShort [] = Unit {0}
+AreShort (x ∷ xs) = IsShort x.struct × AreShort xs

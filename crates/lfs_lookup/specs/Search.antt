@@ -1,0 +1,74 @@
+-- What a search for a name answers.
+use Rattle.std.specs.Prelude.{ℕ, ◌≡◌, ◌+◌, ◌==◌, ◌&&◌, if◌then◌else◌, true, false, List, [], ◌∷◌, drop, slice_get, Option, None, Some}
+use Rattle.lfs_model.specs.Names.{Name}
+use Rattle.lfs_model.specs.Slots.{Slot, Content, Gstate, is_superblock, same_pair}
+use Rattle.lfs_model.specs.Thread.{Pair, is_hard}
+use Rattle.lfs_model.specs.InDirectory.{StandsAt, PlaceAt, Stands, Belongs}
+use Rattle.lfs_thread.specs.Lent.{IsBlockOf}
+use Rattle.lfs_lookup.specs.declared.entry.Entry.{Entry}
+use Rattle.lfs_lookup.specs.declared.search.Spot.{Spot}
+use Rattle.lfs_lookup.specs.declared.search.Sought.{Sought}
+use Rattle.lfs_lookup.specs.declared.search.Sought.TheVariants.{Found, Place}
+use Rattle.lfs_lookup.specs.declared.search.SoughtInPair.{SoughtInPair}
+use Rattle.lfs_lookup.specs.declared.search.SoughtInPair.TheVariants as in_pair
+use Rattle.lfs_lookup.specs.Entry.{Shows}
+
+-- a block's log comes to a content in which each slot has a name and a struct
+abbrev pub HoldsContent : List ℕ → Type 0
+HoldsContent block = (content : Content) × IsBlockOf block content
+
+-- no entry has the name, but for the one at an id
+abbrev pub IsAbsentBut : Option ℕ → List Slot → Name → Type 0
+IsAbsentBut skip slots name = (id : ℕ) (s : Slot) → slice_get slots id ≡ Some s → is_superblock s ≡ false → (skip ≡ Some id → ⊥) → s.name ≡ name → ⊥
+
+-- the name stands at the id, which isn't passed over, with that struct
+pub record StandsShown (skip : Option ℕ) (slots : List Slot) (name : Name) (id : ℕ) (entry : Entry) : Type 0 where
+  pub stands : StandsAt slots name id
+  pub shows : Shows entry stands.slot.struct
+  pub kept : skip ≡ Some id → ⊥
+
+-- the name isn't there, and belongs there if nothing is passed over
+pub record BelongsShown (skip : Option ℕ) (slots : List Slot) (name : Name) (id : ℕ) : Type 0 where
+  pub absent : IsAbsentBut skip slots name
+  pub place : skip ≡ None → PlaceAt slots name id
+
+-- among the slots of a pair, of which one may be passed over
+abbrev pub AnswersIn : Option ℕ → List Slot → Name → SoughtInPair → Type 0
+AnswersIn skip slots name (in_pair.Found id entry) = StandsShown skip slots name id entry
+AnswersIn skip slots name (in_pair.Place id) = BelongsShown skip slots name id
+
+-- in the directory that begins with the pair of number `first`
+abbrev pub Answers : List Pair → ℕ → Name → Sought → Type 0
+Answers ps first name (Found spot entry) = (s : Stands ps first name spot.pair spot.id) × Shows entry s.stands.slot.struct
+Answers ps first name (Place spot) = Belongs ps first name spot.pair spot.id
+
+-- ---- where a slot counts as deleted
+
+-- the id that is passed over in the pair of that number
+abbrev pub passed_in : Option Spot → ℕ → Option ℕ
+passed_in None index = None
+passed_in (Some spot) index = if spot.pair == index then Some spot.id else None
+
+-- these pairs, from number `index` on, as far as hard tails lead
+abbrev pub IsAbsentAlong : Option Spot → ℕ → List Pair → Name → Type 0
+IsAbsentAlong moved index [] name = Unit {0}
+IsAbsentAlong moved index (p ∷ ps) name = IsAbsentBut (passed_in moved index) p.content.slots name × (is_hard p.content.tail ≡ true → IsAbsentAlong moved (index + 1) ps name)
+
+-- the name stands there, not in the slot that counts as deleted
+pub record IsShown (ps : List Pair) (moved : Option Spot) (first : ℕ) (name : Name) (spot : Spot) (entry : Entry) : Type 0 where
+  pub stands : Stands ps first name spot.pair spot.id
+  pub shows : Shows entry stands.stands.slot.struct
+  pub kept : passed_in moved spot.pair ≡ Some spot.id → ⊥
+
+abbrev pub AnswersShown : List Pair → Option Spot → ℕ → Name → Option (Spot × Entry) → Type 0
+AnswersShown ps moved first name (Some found) = IsShown ps moved first name found.0 found.1
+AnswersShown ps moved first name None = IsAbsentAlong moved first (drop first ps) name
+
+-- the id of the slot that a global state says is moved away, if it is in this pair
+abbrev pub hidden_in : Gstate → Pair → Option ℕ
+hidden_in g p = if g.kind == 0x4ff && same_pair g.pair p.at then Some g.id else None
+
+-- in these pairs, from number `index` on, that slot and no other counts as deleted
+abbrev pub HidesFrom : Gstate → Option Spot → ℕ → List Pair → Type 0
+HidesFrom g moved index [] = Unit {0}
+HidesFrom g moved index (p ∷ ps) = (passed_in moved index ≡ hidden_in g p) × HidesFrom g moved (index + 1) ps

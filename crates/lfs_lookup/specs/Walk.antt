@@ -1,0 +1,76 @@
+-- All that stands beneath the root, as it is found.
+use Rattle.std.specs.Prelude.{ℕ, ◌≡◌, List, [], ◌∷◌, ◌++◌, map, reverse, Some}
+use Rattle.lfs_model.specs.Disk.{Disk}
+use Rattle.lfs_model.specs.SkipLists.{IsList}
+use Rattle.lfs_model.specs.Names.{Name, slash}
+use Rattle.lfs_model.specs.Slots.{Struct, Inline, Ctz, Branch, Attributes}
+use Rattle.lfs_model.specs.Thread.{Pair}
+use Rattle.lfs_model.specs.Tree.{Node, FileNode, DirectoryNode}
+use Rattle.lfs_model.specs.Operations.{path_bytes}
+use Rattle.lfs_model.specs.Listing.{Entry, IsWalkOf}
+use Rattle.lfs_model.specs.InDirectory.{BeginsAt}
+use Rattle.lfs_model.specs.Shown.{contents_in, tree_in}
+use Rattle.lfs_lookup.specs.declared.walking.TreeItem.{TreeItem}
+use Rattle.lfs_lookup.specs.Items.{Shape, structure_seen}
+use Rattle.lfs_lookup.specs.Listed.{shapes_from}
+
+-- a path's bytes, and what stands there
+pub record Place : Type 0 where
+  pub path : List ℕ
+  pub struct : Struct
+
+abbrev pub found_seen : TreeItem → Place
+found_seen f = record { path = f.path.items; struct = structure_seen f.structure }
+
+abbrev pub founds_seen : List TreeItem → List Place
+founds_seen founds = map found_seen founds
+
+abbrev pub beneath : List ℕ → Shape → Place
+beneath path shape = record { path = path ++ slash ∷ shape.name; struct = shape.struct }
+
+abbrev pub places_beneath : List ℕ → List Shape → List Place
+places_beneath path shapes = map (beneath path) shapes
+
+-- ---- pairs by their addresses
+
+abbrev pub addresses_in : List Pair → List (ℕ × ℕ)
+addresses_in ps = map (λ p. p.at) ps
+
+-- ---- what is to be visited, the next one last
+
+-- a directory's first pair is in the thread
+abbrev pub BeginsIfBranch : List Pair → Struct → Type 0
+BeginsIfBranch ps (Branch to) = (first : ℕ) × BeginsAt ps to first
+BeginsIfBranch ps (Inline bytes) = Unit {0}
+BeginsIfBranch ps (Ctz head size) = Unit {0}
+
+-- what stands in a directory comes on top
+abbrev pub ArePushedBelow : List Pair → List ℕ → Struct → List Place → List Place → Type 0
+ArePushedBelow ps path (Branch to) old new = (first : ℕ) × (BeginsAt ps to first × (new ≡ old ++ reverse (places_beneath path (shapes_from ps (Some first)))))
+ArePushedBelow ps path (Inline bytes) old new = new ≡ old
+ArePushedBelow ps path (Ctz head size) old new = new ≡ old
+
+abbrev pub ArePushed : List Pair → Place → List Place → List Place → Type 0
+ArePushed ps place old new = ArePushedBelow ps place.path place.struct old new
+
+-- ---- the walk
+
+-- the struct says what the node is
+abbrev pub ShowsNode : Disk → Struct → Node → Type 0
+ShowsNode disk (Inline bytes) node = (attributes : Attributes) × (node ≡ FileNode attributes bytes)
+ShowsNode disk (Ctz head size) node = (attributes : Attributes) × ((node ≡ FileNode attributes (contents_in disk head size)) × IsList disk.blocks disk.block_size head size)
+ShowsNode disk (Branch to) node = (attributes : Attributes) × ((names : List Name) × (node ≡ DirectoryNode attributes names))
+
+pub record Shows (disk : Disk) (place : Place) (entry : Entry) : Type 0 where
+  pub path : place.path ≡ path_bytes entry.path
+  pub node : ShowsNode disk place.struct entry.node
+
+abbrev pub AllShow : Disk → List Place → List Entry → Type 0
+AllShow disk [] [] = Unit {0}
+AllShow disk [] (e ∷ es) = ⊥
+AllShow disk (p ∷ ps) [] = ⊥
+AllShow disk (p ∷ ps) (e ∷ es) = Shows disk p e × AllShow disk ps es
+
+-- these places are those of the walk of the tree, in turn
+abbrev pub IsWalked : Disk → List Pair → List Place → Type 0
+IsWalked disk ps places = (entries : List Entry) × (IsWalkOf (tree_in disk ps) entries × AllShow disk places entries)

@@ -1,0 +1,97 @@
+// How much of its pair the attributes of what stands at a path take.
+
+ghost use Rattle.std.specs.Prelude.{◌≡◌, ◌<◌, IfErr, IfOk, Some, false, length, map, slice_get};
+ghost use Rattle.lfs_model.specs.TreeEdits.{attributes_of};
+ghost use Rattle.lfs_model.specs.Content.{slot_of_id};
+ghost use Rattle.lfs_model.specs.LoggedContent.{Ascend, HaveParts};
+ghost use Rattle.lfs_model.specs.Slots.{Content as ModelContent, Slot as ModelSlot, attributes_size};
+ghost use Rattle.lfs_model.specs.Thread.{superblocks_before};
+ghost use Rattle.lfs_model.specs.View.{IsAccepted};
+ghost use Rattle.lfs_model.specs.Shown.{tree_in};
+ghost use Rattle.lfs_tag.specs.ContentSeen.{attribute_seen, slot_seen};
+ghost use Rattle.lfs_thread.specs.Lent.{IsBlockOf};
+ghost use Rattle.lfs_lookup.specs.AttributeAt.{IsAttributesSize};
+ghost use Rattle.lfs_lookup.specs.BytesAt.{IsSlotAt};
+ghost use Rattle.lfs_lookup.specs.Reading.{IsReading};
+ghost use Rattle.lfs_lookup.specs.Search.{HoldsContent};
+
+use crate::attributes::slot_of;
+use crate::by_path::shown_at;
+use crate::path::Path;
+use crate::search::Spot;
+use lfs_device::{BlockDevice, Error};
+use lfs_tag::{Attribute, Content, Log, Slot};
+use lfs_thread::Thread;
+use std::alloc::Global;
+
+// The sizes of attributes together: each takes its tag and its bytes.
+fn size_of_all(attributes: &[Attribute<'_>]) -> usize
+    requires { Ascend 0 (map attribute_seen attributes.now) }
+    ensures { result ≡ attributes_size (map attribute_seen attributes.now) }
+{
+    let mut size = 0;
+    for attribute in attributes {
+        size += 4 + attribute.bytes.len();
+    }
+    size
+}
+
+// The same of the slot at an id. None stands past the last.
+fn size_in_slot(slots: &[Slot<'_>], id: u16) -> usize
+    requires { HaveParts (map slot_seen slots.now) }
+    ensures { result ≡ attributes_size (slot_of_id (map slot_seen slots.now) id).attributes }
+{
+    match slots.get(usize::from(id)) {
+        Some(slot) => size_of_all(&slot.attributes),
+        None => 0,
+    }
+}
+
+// The same of a slot of a block.
+fn size_in_block(alloc: Global, block: &[u8], id: u16) -> Result<usize, Error>
+    requires { HoldsContent block.now }
+    ensures is { (content : ModelContent) (slot : ModelSlot) → IsBlockOf block.now content → slice_get content.slots id ≡ Some slot → IfOk result (IsAttributesSize slot.attributes) }
+    ensures errors { IfErr result (λ e. e ≡ Error.NoMemory) }
+{
+    let content = Content::read(alloc, &Log::read(block))?;
+    Ok(size_in_slot(&content.slots, id))
+}
+
+// The same of a slot.
+fn size_of_slot<D: BlockDevice>(
+    alloc: Global,
+    thread: &mut Thread<D>,
+    slot: Spot,
+) -> Result<usize, Error>
+    requires works { thread.old.failed ≡ false }
+    requires below { slot.pair < length thread.old.kept.pairs }
+    ensures is { (held : ModelSlot) → IsSlotAt thread.old.kept slot held → IfOk result (IsAttributesSize held.attributes) }
+    ensures reading { IsReading thread.old thread.new result }
+{
+    thread.bring(slot.pair)?;
+    size_in_block(alloc, thread.lend(slot.pair).unwrap(), slot.id)
+}
+
+/// How many bytes the attributes of what stands at a path take in its pair, the tag of each included.
+/// Nothing where nothing stands, and for the root.
+///
+/// `root` is the number of the root directory's first pair. `Io` where a read failed, and `NoMemory`
+/// where room isn't granted.
+pub fn attributes_size_at<D: BlockDevice>(
+    alloc: Global,
+    thread: &mut Thread<D>,
+    root: usize,
+    path: &Path<'_>,
+) -> Result<usize, Error>
+    requires works { thread.old.failed ≡ false }
+    requires accepted { IsAccepted thread.old.kept.disk thread.old.kept.pairs }
+    requires root { root ≡ superblocks_before thread.old.kept.pairs }
+    ensures is { IfOk result (IsAttributesSize (attributes_of (tree_in thread.old.kept.disk thread.old.kept.pairs path.now))) }
+    ensures reading { IsReading thread.old thread.new result }
+{
+    let shown = shown_at(alloc, thread, root, path)?;
+    let Some(slot) = slot_of(shown) else {
+        return Ok(0);
+    };
+    size_of_slot(alloc, thread, slot)
+}

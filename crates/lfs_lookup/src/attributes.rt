@@ -1,0 +1,156 @@
+// An attribute of what stands at a path.
+
+ghost use Rattle.std.specs.Prelude.{◌≡◌, ◌<◌, ◌≤◌, ◌+◌, IfErr, IfOk, IfSome, IsSome, Some, false, length, slice_get, sum_by};
+ghost use Rattle.std.specs.Option.{option_copied, option_map};
+ghost use Rattle.lfs_model.specs.TreeEdits.{attributes_of};
+ghost use Rattle.lfs_model.specs.Content.{attribute_of};
+ghost use Rattle.lfs_model.specs.Discipline.{pairs_of_path, parents};
+ghost use Rattle.lfs_model.specs.History.{reads};
+ghost use Rattle.lfs_model.specs.Slots.{Attributes, Content as ModelContent, Slot};
+ghost use Rattle.lfs_model.specs.Thread.{superblocks_before};
+ghost use Rattle.lfs_model.specs.View.{IsAccepted};
+ghost use Rattle.lfs_model.specs.Shown.{tree_in};
+ghost use Rattle.lfs_thread.specs.Lent.{IsBlockOf, at_hand};
+ghost use Rattle.lfs_lookup.specs.AtHand.{AreOnHand};
+ghost use Rattle.lfs_lookup.specs.AttributeAt.{AreHeld, IsAttribute, IsShort, slot_shown};
+ghost use Rattle.lfs_lookup.specs.BytesAt.{IsSlotAt};
+ghost use Rattle.lfs_lookup.specs.Finds.{Finds};
+ghost use Rattle.lfs_lookup.specs.Reading.{IsReading};
+ghost use Rattle.lfs_lookup.specs.Search.{HoldsContent};
+
+use crate::by_path::{finding_of, shown_at};
+use crate::finding::FoundAttribute;
+use crate::path::Path;
+use crate::paths::Shown;
+use crate::search::Spot;
+use lfs_device::{BlockDevice, Error};
+use lfs_tag::kinds::ATTRIBUTE;
+use lfs_tag::{Log, Steps, get};
+use lfs_thread::Thread;
+use std::alloc::{AllocError, Global};
+
+// The bytes of an attribute of a slot of a block. None where it hasn't that one.
+fn attribute_in_block(block: &[u8], kind: u8, id: u16) -> Option<&[u8]>
+    requires { HoldsContent block.now }
+    ensures short { IfSome result (λ bytes. length bytes.now ≤ 1022) }
+    ensures is { (content : ModelContent) (slot : Slot) → IsBlockOf block.now content → slice_get content.slots id ≡ Some slot → option_copied result ≡ attribute_of kind slot.attributes }
+{
+    get(
+        &Log::read(block),
+        ATTRIBUTE + u16::from(kind),
+        id,
+        &mut Steps::new(),
+    )
+}
+
+// A copy of bytes, if there are any.
+fn copy_of(alloc: Global, bytes: Option<&[u8]>) -> Result<Option<Vec<u8>>, AllocError>
+    ensures { IfOk result (λ found. option_map (λ v. v.items) found ≡ option_copied bytes.entry) }
+{
+    match bytes {
+        Some(bytes) => {
+            let copy = Vec::from_slice(alloc, bytes)?;
+            Ok(Some(copy))
+        }
+        None => Ok(None),
+    }
+}
+
+// A copy of an attribute of a slot of a block.
+fn attribute_copied(
+    alloc: Global,
+    block: &[u8],
+    kind: u8,
+    id: u16,
+) -> Result<Option<Vec<u8>>, Error>
+    requires { HoldsContent block.now }
+    ensures short { IfOk result IsShort }
+    ensures is { (content : ModelContent) (slot : Slot) → IsBlockOf block.now content → slice_get content.slots id ≡ Some slot → IfOk result (IsAttribute kind slot.attributes) }
+    ensures errors { IfErr result (λ e. e ≡ Error.NoMemory) }
+{
+    let found = copy_of(alloc, attribute_in_block(block, kind, id))?;
+    Ok(found)
+}
+
+// An attribute of a slot whose block is at hand.
+fn attribute_of_slot<D: BlockDevice>(
+    alloc: Global,
+    thread: &mut Thread<D>,
+    slot: Spot,
+    kind: u8,
+) -> Result<Option<Vec<u8>>, Error>
+    requires works { thread.old.failed ≡ false }
+    requires below { slot.pair < length thread.old.kept.pairs }
+    requires at_hand { IsSome (at_hand thread.old slot.pair) }
+    ensures short { IfOk result IsShort }
+    ensures is { (held : Slot) → IsSlotAt thread.old.kept slot held → IfOk result (IsAttribute kind held.attributes) }
+    ensures no_call { thread.new.kept ≡ thread.old.kept }
+    ensures reading { IsReading thread.old thread.new result }
+{
+    thread.bring(slot.pair)?;
+    attribute_copied(alloc, thread.lend(slot.pair).unwrap(), kind, slot.id)
+}
+
+// The slot of a file or of a directory. The root has none.
+pub(crate) fn slot_of(shown: Shown) -> Option<Spot>
+    ensures { result ≡ slot_shown shown }
+{
+    match shown {
+        Shown::File { slot, .. } => Some(slot),
+        Shown::Directory { slot, .. } => Some(slot),
+        _ => None,
+    }
+}
+
+// The same of the slot, if there is one.
+fn attribute_held<D: BlockDevice>(
+    alloc: Global,
+    thread: &mut Thread<D>,
+    slot: Option<Spot>,
+    kind: u8,
+) -> Result<Option<Vec<u8>>, Error>
+    requires works { thread.old.failed ≡ false }
+    requires below { IfSome slot (λ s. s.pair < length thread.old.kept.pairs) }
+    requires at_hand { IfSome slot (λ s. IsSome (at_hand thread.old s.pair)) }
+    ensures short { IfOk result IsShort }
+    ensures is { (attributes : Attributes) → AreHeld thread.old.kept slot attributes → IfOk result (IsAttribute kind attributes) }
+    ensures no_call { thread.new.kept ≡ thread.old.kept }
+    ensures reading { IsReading thread.old thread.new result }
+{
+    match slot {
+        Some(slot) => attribute_of_slot(alloc, thread, slot, kind),
+        None => Ok(None),
+    }
+}
+
+/// What a path leads to, and its attribute of a kind, if it has one. Nothing is read that is at hand,
+/// and else no more pairs than the directories above the path have.
+///
+/// `root` is the number of the root directory's first pair. `Io` where a read failed, and `NoMemory`
+/// where room isn't granted.
+pub fn attribute_at<D: BlockDevice>(
+    alloc: Global,
+    thread: &mut Thread<D>,
+    root: usize,
+    path: &Path<'_>,
+    kind: u8,
+) -> Result<FoundAttribute, Error>
+    requires works { thread.old.failed ≡ false }
+    requires accepted { IsAccepted thread.old.kept.disk thread.old.kept.pairs }
+    requires root { root ≡ superblocks_before thread.old.kept.pairs }
+    ensures found { IfOk result (λ found. Finds (tree_in thread.old.kept.disk thread.old.kept.pairs) path.now found.finding) }
+    ensures short { IfOk result (λ found. IsShort found.bytes) }
+    ensures is { IfOk result (λ found. IsAttribute kind (attributes_of (tree_in thread.old.kept.disk thread.old.kept.pairs path.now)) found.bytes) }
+    ensures few { reads thread.new.kept.history ≤ reads thread.old.kept.history + sum_by (pairs_of_path thread.old.kept.pairs) (parents path.now) }
+    ensures kept { AreOnHand thread.old (parents path.now) → reads thread.new.kept.history ≡ reads thread.old.kept.history }
+    ensures reading { IsReading thread.old thread.new result }
+{
+    let shown = shown_at(alloc, thread, root, path)?;
+    let bytes = attribute_held(alloc, thread, slot_of(shown), kind)?;
+    // By its sizes a list has as many bytes as its entry says.
+    let _device = thread.device();
+    Ok(FoundAttribute {
+        finding: finding_of(shown),
+        bytes,
+    })
+}

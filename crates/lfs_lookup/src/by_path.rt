@@ -1,0 +1,172 @@
+// What paths lead to, in a thread.
+
+ghost use Rattle.std.specs.Prelude.{◌≡◌, ◌≤◌, ◌+◌, IfOk, None, false, sum_by};
+ghost use Rattle.lfs_model.specs.Discipline.{pairs_of_path, parents};
+ghost use Rattle.lfs_model.specs.History.{reads};
+ghost use Rattle.lfs_model.specs.Thread.{superblocks_before};
+ghost use Rattle.lfs_model.specs.View.{IsAccepted};
+ghost use Rattle.lfs_model.specs.Shown.{tree_in};
+ghost use Rattle.lfs_lookup.specs.AtHand.{BringsDown};
+ghost use Rattle.lfs_lookup.specs.AtPath.{IsInEntry, IsInEntryIfFile, IsThrough, ShowsAt, finding_of, first_shown, size_shown};
+ghost use Rattle.lfs_lookup.specs.AttributeAt.{IsAtHand};
+ghost use Rattle.lfs_lookup.specs.Finds.{Finds, has_names};
+ghost use Rattle.lfs_lookup.specs.declared.finding.Node.TheVariants.{Directory, File, Nothing};
+ghost use Rattle.lfs_lookup.specs.Reading.{IsReading};
+
+use crate::directory::has_entries;
+use crate::entry::Contents;
+use crate::finding::{Finding, Inside, Node};
+use crate::path::Path;
+use crate::paths::{Shown, look_up_shown, moved_slot};
+use crate::refusal::{Refusal, refused};
+use lfs_device::{BlockDevice, Error};
+use lfs_thread::Thread;
+use std::alloc::Global;
+
+/// What a path leads to, where the slot that a set move names counts as deleted. No more reads than
+/// the directories above the path have pairs.
+///
+/// `root` is the number of the root directory's first pair. `Io` where a read failed, and `NoMemory`
+/// where room isn't granted.
+pub fn shown_at<D: BlockDevice>(
+    alloc: Global,
+    thread: &mut Thread<D>,
+    root: usize,
+    path: &Path<'_>,
+) -> Result<Shown, Error>
+    requires works { thread.old.failed ≡ false }
+    requires accepted { IsAccepted thread.old.kept.disk thread.old.kept.pairs }
+    requires root { root ≡ superblocks_before thread.old.kept.pairs }
+    ensures shown { IfOk result (ShowsAt thread.old.kept path.now) }
+    ensures at_hand { IfOk result (IsAtHand thread.new) }
+    ensures few { reads thread.new.kept.history ≤ reads thread.old.kept.history + sum_by (pairs_of_path thread.old.kept.pairs) (parents path.now) }
+    ensures brings { BringsDown IsThrough (parents path.now) thread.old thread.new result }
+    ensures reading { IsReading thread.old thread.new result }
+{
+    let names = path.names(alloc)?;
+    let state = thread.state();
+    let moved = moved_slot(thread, &state);
+    look_up_shown(thread, root, &names, moved)
+}
+
+// How many bytes a file has.
+fn size_of(contents: Contents) -> u32
+    requires { IsInEntry contents }
+    ensures { result ≡ size_shown contents }
+{
+    match contents {
+        Contents::Inline { len } => len as u32,
+        Contents::List { size, .. } => size,
+    }
+}
+
+// A file.
+fn found_file(contents: Contents) -> Finding
+    requires { IsInEntry contents }
+    ensures { result ≡ record { fault = None; node = File (size_shown contents) } }
+{
+    Finding {
+        fault: None,
+        node: Node::File {
+            size: size_of(contents),
+        },
+    }
+}
+
+// Nothing, where the path may be refused.
+fn found_nothing(fault: Option<Refusal>) -> Finding
+    ensures { result ≡ record { fault = fault; node = Nothing } }
+{
+    Finding {
+        fault,
+        node: Node::Nothing,
+    }
+}
+
+// A directory.
+fn found_directory() -> Finding
+    ensures { result ≡ record { fault = None; node = Directory } }
+{
+    Finding {
+        fault: None,
+        node: Node::Directory,
+    }
+}
+
+// By what a path is refused, and what stands at it.
+pub(crate) fn finding_of(shown: Shown) -> Finding
+    requires { IsInEntryIfFile shown }
+    ensures { result ≡ finding_of shown }
+{
+    match shown {
+        Shown::Root => found_directory(),
+        Shown::Directory { .. } => found_directory(),
+        Shown::File { contents, .. } => found_file(contents),
+        Shown::Nothing => found_nothing(None),
+        Shown::ParentIsFile => found_nothing(Some(refused(Error::NotDir))),
+        Shown::ParentIsMissing => found_nothing(Some(refused(Error::NoEnt))),
+    }
+}
+
+// The number of the first pair of the directory that stands there.
+pub(crate) fn first_of(root: usize, shown: Shown) -> Option<usize>
+    ensures { result ≡ first_shown root shown }
+{
+    match shown {
+        Shown::Root => Some(root),
+        Shown::Directory { first, .. } => Some(first),
+        _ => None,
+    }
+}
+
+/// What a path leads to: a file with its size, a directory, or nothing, and then why. Nothing is read
+/// that is at hand, and else no more pairs than the directories above the path have.
+///
+/// `root` is the number of the root directory's first pair. `Io` where a read failed, and `NoMemory`
+/// where room isn't granted.
+pub fn find_at<D: BlockDevice>(
+    alloc: Global,
+    thread: &mut Thread<D>,
+    root: usize,
+    path: &Path<'_>,
+) -> Result<Finding, Error>
+    requires works { thread.old.failed ≡ false }
+    requires accepted { IsAccepted thread.old.kept.disk thread.old.kept.pairs }
+    requires root { root ≡ superblocks_before thread.old.kept.pairs }
+    ensures found { IfOk result (Finds (tree_in thread.old.kept.disk thread.old.kept.pairs) path.now) }
+    ensures few { reads thread.new.kept.history ≤ reads thread.old.kept.history + sum_by (pairs_of_path thread.old.kept.pairs) (parents path.now) }
+    ensures brings { BringsDown (λ found. found.fault ≡ None) (parents path.now) thread.old thread.new result }
+    ensures reading { IsReading thread.old thread.new result }
+{
+    let shown = shown_at(alloc, thread, root, path)?;
+    // By its sizes a list has as many bytes as its entry says.
+    let _device = thread.device();
+    Ok(finding_of(shown))
+}
+
+/// What a path leads to, and whether it is a directory that has entries.
+///
+/// `root` is the number of the root directory's first pair. `Io` where a read failed, and `NoMemory`
+/// where room isn't granted.
+pub fn look_inside_at<D: BlockDevice>(
+    alloc: Global,
+    thread: &mut Thread<D>,
+    root: usize,
+    path: &Path<'_>,
+) -> Result<Inside, Error>
+    requires works { thread.old.failed ≡ false }
+    requires accepted { IsAccepted thread.old.kept.disk thread.old.kept.pairs }
+    requires root { root ≡ superblocks_before thread.old.kept.pairs }
+    ensures found { IfOk result (λ inside. Finds (tree_in thread.old.kept.disk thread.old.kept.pairs) path.now inside.finding) }
+    ensures has { IfOk result (λ inside. inside.has_entries ≡ has_names (tree_in thread.old.kept.disk thread.old.kept.pairs) path.now) }
+    ensures reading { IsReading thread.old thread.new result }
+{
+    let shown = shown_at(alloc, thread, root, path)?;
+    let has_entries = has_entries(alloc, thread, first_of(root, shown))?;
+    // By its sizes a list has as many bytes as its entry says.
+    let _device = thread.device();
+    Ok(Inside {
+        finding: finding_of(shown),
+        has_entries,
+    })
+}

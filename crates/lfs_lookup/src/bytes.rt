@@ -1,0 +1,166 @@
+// The bytes of the file at a path.
+
+ghost use Rattle.std.specs.Prelude.{◌≡◌, ◌<◌, ◌+◌, ◌^◌, List, ℕ, IfOk, IfErr, Some, drop, false, length, slice_get, take};
+ghost use Rattle.std.specs.Option.{option_copied};
+ghost use Rattle.lfs_model.specs.TreeEdits.{bytes_at};
+ghost use Rattle.lfs_model.specs.SkipLists.{IsList};
+ghost use Rattle.lfs_model.specs.Slots.{Content as ModelContent, Inline, Slot};
+ghost use Rattle.lfs_model.specs.Thread.{superblocks_before};
+ghost use Rattle.lfs_model.specs.View.{IsAccepted};
+ghost use Rattle.lfs_model.specs.Shown.{contents_in, tree_in};
+ghost use Rattle.lfs_thread.specs.Lent.{IsBlockOf};
+ghost use Rattle.lfs_lookup.specs.BytesAt.{IsFileAt, IsSlotAt, file_shown};
+ghost use Rattle.lfs_lookup.specs.FileBytes.{bytes_shown};
+ghost use Rattle.lfs_lookup.specs.Reading.{IsReading};
+
+use crate::by_path::shown_at;
+use crate::entry::Contents;
+use crate::file_bytes::zeros;
+use crate::path::Path;
+use crate::paths::Shown;
+use crate::search::Spot;
+use core::cmp::min;
+use lfs_device::{BlockDevice, Error};
+use lfs_tag::kinds::INLINE_STRUCT;
+use lfs_tag::{Log, Steps, get};
+use lfs_thread::Thread;
+use std::alloc::{AllocError, Global};
+
+// Some of the bytes, from a position on, so many at most.
+fn copied_from(
+    alloc: Global,
+    bytes: &[u8],
+    position: u32,
+    count: usize,
+) -> Result<Vec<u8>, AllocError>
+    ensures { IfOk result (λ v. v.items ≡ take count (drop position bytes.now)) }
+{
+    let from = min(position as usize, bytes.len());
+    let len = min(count, bytes.len() - from);
+    Vec::from_slice(alloc, &bytes[from..from + len])
+}
+
+// The bytes that stand in a slot of a block. None where it has no such struct.
+fn inline_in_block(block: &[u8], id: u16) -> Option<&[u8]>
+    ensures { (content : ModelContent) (slot : Slot) (bytes : List ℕ) → IsBlockOf block.now content → slice_get content.slots id ≡ Some slot → slot.struct ≡ Inline bytes → option_copied result ≡ Some bytes }
+{
+    get(&Log::read(block), INLINE_STRUCT, id, &mut Steps::new())
+}
+
+// Some of the bytes that stand in a slot of a block.
+fn copied_in_block(
+    alloc: Global,
+    block: &[u8],
+    id: u16,
+    position: u32,
+    count: usize,
+) -> Result<Vec<u8>, Error>
+    ensures bytes { (content : ModelContent) (slot : Slot) (bytes : List ℕ) → IsBlockOf block.now content → slice_get content.slots id ≡ Some slot → slot.struct ≡ Inline bytes → IfOk result (λ v. v.items ≡ take count (drop position bytes)) }
+    ensures errors { IfErr result (λ e. e ≡ Error.NoMemory) }
+{
+    let Some(bytes) = inline_in_block(block, id) else {
+        return Ok(Vec::new(alloc));
+    };
+    Ok(copied_from(alloc, bytes, position, count)?)
+}
+
+/// Some of the bytes that stand in a slot: so many from a position on, or up to their end.
+///
+/// `Io` where a read failed, and `NoMemory` where room isn't granted.
+pub fn inline_at<D: BlockDevice>(
+    alloc: Global,
+    thread: &mut Thread<D>,
+    slot: Spot,
+    position: u32,
+    count: usize,
+) -> Result<Vec<u8>, Error>
+    requires works { thread.old.failed ≡ false }
+    requires below { slot.pair < length thread.old.kept.pairs }
+    ensures bytes { (held : Slot) (bytes : List ℕ) → IsSlotAt thread.old.kept slot held → held.struct ≡ Inline bytes → IfOk result (λ v. v.items ≡ take count (drop position bytes)) }
+    ensures reading { IsReading thread.old thread.new result }
+{
+    thread.bring(slot.pair)?;
+    copied_in_block(
+        alloc,
+        thread.lend(slot.pair).unwrap(),
+        slot.id,
+        position,
+        count,
+    )
+}
+
+// Some of the bytes of a skip list.
+fn list_from<D: BlockDevice>(
+    alloc: Global,
+    thread: &mut Thread<D>,
+    head: u32,
+    size: u32,
+    position: u32,
+    count: usize,
+) -> Result<Vec<u8>, Error>
+    requires works { thread.old.failed ≡ false }
+    requires list { IsList thread.old.kept.disk.blocks thread.old.kept.disk.block_size head size }
+    ensures bytes { IfOk result (λ v. v.items ≡ take count (drop position (contents_in thread.old.kept.disk head size))) }
+    ensures reading { IsReading thread.old thread.new result }
+{
+    let left = size.saturating_sub(position);
+    let mut bytes = zeros(alloc, min(count, left as usize))?;
+    thread.read_list(head, size, position, &mut bytes)?;
+    Ok(bytes)
+}
+
+// Some of the bytes of a file, whose slot stands there.
+fn contents_from<D: BlockDevice>(
+    alloc: Global,
+    thread: &mut Thread<D>,
+    slot: Spot,
+    contents: Contents,
+    position: u32,
+    count: usize,
+) -> Result<Vec<u8>, Error>
+    requires works { thread.old.failed ≡ false }
+    requires file { (held : Slot) × IsFileAt thread.old.kept slot contents held }
+    ensures bytes { (held : Slot) → IsFileAt thread.old.kept slot contents held → IfOk result (λ v. v.items ≡ take count (drop position (bytes_shown thread.old.kept.disk held.struct))) }
+    ensures reading { IsReading thread.old thread.new result }
+{
+    match contents {
+        Contents::Inline { .. } => inline_at(alloc, thread, slot, position, count),
+        Contents::List { head, size } => list_from(alloc, thread, head, size, position, count),
+    }
+}
+
+/// The slot of a file, and where its bytes stand. None of anything else.
+pub fn file_of(shown: Shown) -> Option<(Spot, Contents)>
+    ensures { result ≡ file_shown shown }
+{
+    match shown {
+        Shown::File { slot, contents } => Some((slot, contents)),
+        _ => None,
+    }
+}
+
+/// The bytes of the file at a path, from a position on, so many at most. None where no file stands.
+///
+/// `root` is the number of the root directory's first pair. `Io` where a read failed, and `NoMemory`
+/// where room isn't granted.
+pub fn bytes_at<D: BlockDevice>(
+    alloc: Global,
+    thread: &mut Thread<D>,
+    root: usize,
+    path: &Path<'_>,
+    position: u32,
+    count: usize,
+) -> Result<Vec<u8>, Error>
+    requires works { thread.old.failed ≡ false }
+    requires accepted { IsAccepted thread.old.kept.disk thread.old.kept.pairs }
+    requires root { root ≡ superblocks_before thread.old.kept.pairs }
+    ensures bytes { IfOk result (λ v. v.items ≡ take count (drop position (bytes_at (tree_in thread.old.kept.disk thread.old.kept.pairs path.now)))) }
+    ensures end { IfOk result (λ v. position + length v.items < 2 ^ 32) }
+    ensures reading { IsReading thread.old thread.new result }
+{
+    let shown = shown_at(alloc, thread, root, path)?;
+    let Some((slot, contents)) = file_of(shown) else {
+        return Ok(Vec::new(alloc));
+    };
+    contents_from(alloc, thread, slot, contents, position, count)
+}

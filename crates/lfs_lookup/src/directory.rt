@@ -1,0 +1,165 @@
+// The entries of a pair and of a directory, and where a directory begins.
+
+ghost use Rattle.std.specs.Prelude.{◌≡◌, ◌<◌, ◌≤◌, ◌+◌, ◌∷◌, [], ℕ, Some, IfNone, IfOk, IfSome, drop, false, length, map};
+ghost use Rattle.lfs_model.specs.Slots.{address_of, same_pair};
+ghost use Rattle.lfs_model.specs.Thread.{gstate_of, visible};
+ghost use Rattle.lfs_model.specs.History.{reads};
+ghost use Rattle.lfs_model.specs.InDirectory.{BeginsAt};
+ghost use Rattle.lfs_tag.specs.FieldsSeen.{move_seen};
+ghost use Rattle.lfs_thread.specs.Steps.{pair_in};
+ghost use Rattle.lfs_lookup.specs.AtHand.{AreAtHand, BringsAlong};
+ghost use Rattle.lfs_lookup.specs.AtPath.{has_entries_from};
+ghost use Rattle.lfs_lookup.specs.Items.{items_seen, shape_of};
+ghost use Rattle.lfs_lookup.specs.Listed.{AreEntries, joined_run, length_from, moved_in, run_from, shapes_from};
+ghost use Rattle.lfs_lookup.specs.Reading.{IsReading};
+
+use crate::items::{Item, items_in};
+use crate::paths::is_same_pair;
+use lfs_device::{BlockDevice, Error};
+use lfs_tag::MoveState;
+use lfs_tag::kinds::DELETE;
+use lfs_thread::Thread;
+use std::alloc::Global;
+
+// The id of the slot that a set move names in the pair at an address, if it names one there.
+fn moved_in(state: &MoveState, at: [u32; 2]) -> Option<usize>
+    ensures { result ≡ moved_in (move_seen state.now) (address_of at) }
+{
+    if state.kind == DELETE && is_same_pair(state.pair, at) {
+        Some(usize::from(state.id))
+    } else {
+        None
+    }
+}
+
+// The entries of one pair, where that is the global state.
+fn items_under<D: BlockDevice>(
+    alloc: Global,
+    thread: &mut Thread<D>,
+    state: &MoveState,
+    index: usize,
+) -> Result<Vec<Item>, Error>
+    requires works { thread.old.failed ≡ false }
+    requires below { index < length thread.old.kept.pairs }
+    requires state { move_seen state.now ≡ gstate_of thread.old.kept.pairs }
+    ensures items { IfOk result (λ items. items_seen items.items ≡ map shape_of (visible (gstate_of thread.old.kept.pairs) (pair_in thread.old.kept index))) }
+    ensures few { reads thread.new.kept.history ≤ reads thread.old.kept.history + 1 }
+    ensures brings { BringsAlong (pair_in thread.old.kept index ∷ []) thread.old thread.new result }
+    ensures reading { IsReading thread.old thread.new result }
+{
+    thread.bring(index)?;
+    let moved = moved_in(state, thread.address(index));
+    items_in(alloc, thread.lend(index).unwrap(), moved)
+}
+
+/// The entries of one pair in their order: without the superblock, and without the slot that a set
+/// move names (DESIGN.md of littlefs, "The move problem").
+///
+/// `Io` where the read of the pair's block failed, and `NoMemory` where the room for the block, its
+/// slots or the entries isn't granted.
+pub fn items_of<D: BlockDevice>(
+    alloc: Global,
+    thread: &mut Thread<D>,
+    index: usize,
+) -> Result<Vec<Item>, Error>
+    requires works { thread.old.failed ≡ false }
+    requires below { index < length thread.old.kept.pairs }
+    ensures items { IfOk result (λ items. items_seen items.items ≡ map shape_of (visible (gstate_of thread.old.kept.pairs) (pair_in thread.old.kept index))) }
+    ensures few { reads thread.new.kept.history ≤ reads thread.old.kept.history + 1 }
+    ensures reading { IsReading thread.old thread.new result }
+{
+    let state = thread.state();
+    items_under(alloc, thread, &state, index)
+}
+
+/// The entries of a directory, whose first pair has that number, where that is the global state.
+///
+/// `Io` where a read failed, and `NoMemory` where room isn't granted.
+pub fn entries_under<D: BlockDevice>(
+    alloc: Global,
+    thread: &mut Thread<D>,
+    state: &MoveState,
+    first: usize,
+) -> Result<Vec<Item>, Error>
+    requires works { thread.old.failed ≡ false }
+    requires below { first < length thread.old.kept.pairs }
+    requires state { move_seen state.now ≡ gstate_of thread.old.kept.pairs }
+    ensures items { IfOk result (λ items. items_seen items.items ≡ shapes_from thread.old.kept.pairs (Some first)) }
+    ensures few { reads thread.new.kept.history ≤ reads thread.old.kept.history + length_from thread.old.kept.pairs (Some first) }
+    ensures kept { AreAtHand thread.old (joined_run (drop first thread.old.kept.pairs)) → reads thread.new.kept.history ≡ reads thread.old.kept.history }
+    ensures reading { IsReading thread.old thread.new result }
+{
+    let mut items = Vec::new(alloc);
+    let mut pair = Some(first);
+    while let Some(index) = pair {
+        let mut more = items_under(alloc, thread, state, index)?;
+        items.append(&mut more)?;
+        pair = thread.next(index);
+    }
+    Ok(items)
+}
+
+/// The entries of the directory that begins with the pair of number `first`, in name order: those of
+/// its pairs in turn, which hard tails join (SPEC.md of littlefs, "0x601 LFS_TYPE_HARDTAIL"). Each of
+/// them is read at most once.
+///
+/// Errors as those of [`items_of`].
+pub fn entries<D: BlockDevice>(
+    alloc: Global,
+    thread: &mut Thread<D>,
+    first: usize,
+) -> Result<Vec<Item>, Error>
+    requires works { thread.old.failed ≡ false }
+    requires below { first < length thread.old.kept.pairs }
+    ensures items { IfOk result (λ items. items_seen items.items ≡ shapes_from thread.old.kept.pairs (Some first)) }
+    ensures entries { IfOk result (λ items. AreEntries thread.old.kept.disk thread.old.kept.pairs first (items_seen items.items)) }
+    ensures few { reads thread.new.kept.history ≤ reads thread.old.kept.history + length_from thread.old.kept.pairs (Some first) }
+    ensures kept { AreAtHand thread.old (joined_run (drop first thread.old.kept.pairs)) → reads thread.new.kept.history ≡ reads thread.old.kept.history }
+    ensures reading { IsReading thread.old thread.new result }
+{
+    let state = thread.state();
+    let items = entries_under(alloc, thread, &state, first)?;
+    Ok(items)
+}
+
+// The same of the directory that begins with that pair, if there is one.
+pub(crate) fn entries_from<D: BlockDevice>(
+    alloc: Global,
+    thread: &mut Thread<D>,
+    from: Option<usize>,
+) -> Result<Vec<Item>, Error>
+    requires works { thread.old.failed ≡ false }
+    requires below { IfSome from (λ first. first < length thread.old.kept.pairs) }
+    ensures items { IfOk result (λ items. items_seen items.items ≡ shapes_from thread.old.kept.pairs from) }
+    ensures few { reads thread.new.kept.history ≤ reads thread.old.kept.history + length_from thread.old.kept.pairs from }
+    ensures kept { AreAtHand thread.old (run_from thread.old.kept.pairs from) → reads thread.new.kept.history ≡ reads thread.old.kept.history }
+    ensures reading { IsReading thread.old thread.new result }
+{
+    match from {
+        Some(first) => entries(alloc, thread, first),
+        None => Ok(Vec::new(alloc)),
+    }
+}
+
+// Whether something stands there.
+pub(crate) fn has_entries<D: BlockDevice>(
+    alloc: Global,
+    thread: &mut Thread<D>,
+    from: Option<usize>,
+) -> Result<bool, Error>
+    requires works { thread.old.failed ≡ false }
+    requires below { IfSome from (λ first. first < length thread.old.kept.pairs) }
+    ensures has { IfOk result (λ has. has ≡ has_entries_from thread.old.kept.pairs from) }
+    ensures few { reads thread.new.kept.history ≤ reads thread.old.kept.history + length_from thread.old.kept.pairs from }
+    ensures reading { IsReading thread.old thread.new result }
+{
+    let mut pair = from;
+    while let Some(index) = pair {
+        let items = items_of(alloc, thread, index)?;
+        if items.len() > 0 {
+            return Ok(true);
+        }
+        pair = thread.next(index);
+    }
+    Ok(false)
+}

@@ -1,0 +1,52 @@
+// What stands in a slot.
+
+ghost use Rattle.std.specs.Prelude.{◌≡◌, length};
+ghost use Rattle.lfs_model.specs.Content.{struct_typed};
+ghost use Rattle.lfs_model.specs.LoggedContent.{IsPart};
+ghost use Rattle.lfs_tag.specs.ContentSeen.{part_seen};
+ghost use Rattle.lfs_lookup.specs.Entry.{Shows};
+
+use lfs_tag::kinds::{DIRECTORY_STRUCT, INLINE_STRUCT};
+use lfs_tag::{Part, ctz_of, pair_of};
+
+/// Where a file's bytes stand. They aren't copied.
+#[derive(Clone, Copy, Debug, PartialEq, Eq, Drop)]
+pub enum Contents {
+    /// So many bytes, in the file's slot.
+    Inline { len: usize },
+    /// A skip list: the address of its last block, and its size in bytes.
+    List { head: u32, size: u32 },
+}
+
+/// What an entry of a directory stands for, by its struct (SPEC.md of littlefs, "0x2xx
+/// LFS_TYPE_STRUCT").
+#[derive(Clone, Copy, Debug, PartialEq, Eq, Drop)]
+pub enum Entry {
+    File(Contents),
+    /// A directory, by the address of its first pair.
+    Directory([u32; 2]),
+}
+
+/// What a struct says: where a file's bytes stand, or where a directory's first pair does (SPEC.md of
+/// littlefs, "0x2xx LFS_TYPE_STRUCT").
+pub fn entry_of(structure: &Part<'_>) -> Entry
+    requires { IsPart 2 (part_seen structure.now) }
+    ensures { Shows result (struct_typed structure.now.kind structure.now.bytes.now) }
+{
+    let bytes = structure.bytes;
+    if structure.kind == INLINE_STRUCT {
+        Entry::File(Contents::Inline { len: bytes.len() })
+    } else if structure.kind == DIRECTORY_STRUCT {
+        Entry::Directory(pair_of(eight(bytes)))
+    } else {
+        let (head, size) = ctz_of(eight(bytes));
+        Entry::File(Contents::List { head, size })
+    }
+}
+
+fn eight(bytes: &[u8]) -> &[u8; 8]
+    requires { length bytes.now ≡ 8 }
+    ensures { result.now ≡ bytes.now }
+{
+    <&[u8; 8]>::try_from(bytes).unwrap()
+}

@@ -1,0 +1,46 @@
+// The bytes of a file.
+
+ghost use Rattle.std.specs.Prelude.{◌≡◌, IfOk, OnOk, false, length};
+ghost use Rattle.lfs_model.specs.View.{IsListIfCtz};
+ghost use Rattle.lfs_model.specs.Shown.{contents_in};
+ghost use Rattle.lfs_lookup.specs.FileBytes.{bytes_shown};
+ghost use Rattle.lfs_lookup.specs.Items.{structure_seen};
+ghost use Rattle.lfs_lookup.specs.Reading.{IsReading};
+
+use crate::items::Structure;
+use lfs_device::{BlockDevice, Error};
+use lfs_thread::Thread;
+use std::alloc::{AllocError, Global};
+
+// So many zeros.
+pub(crate) fn zeros(alloc: Global, len: usize) -> Result<Vec<u8>, AllocError>
+    ensures { IfOk result (λ bytes. length bytes.items ≡ len) }
+{
+    let mut bytes = Vec::new(alloc);
+    bytes.resize(len, 0)?;
+    Ok(bytes)
+}
+
+/// The bytes of a file, from what its entry says. Of a directory there are none.
+///
+/// `Io` where a read failed, and `NoMemory` where there is no room for the bytes.
+pub fn contents_of<D: BlockDevice>(
+    alloc: Global,
+    thread: &mut Thread<D>,
+    structure: &Structure,
+) -> Result<Vec<u8>, Error>
+    requires works { thread.old.failed ≡ false }
+    requires list { IsListIfCtz thread.old.kept.disk (structure_seen structure.now) }
+    ensures bytes { IfOk result (λ bytes. bytes.items ≡ bytes_shown thread.old.kept.disk (structure_seen structure.now)) }
+    ensures reading { IsReading thread.old thread.new result }
+{
+    match structure {
+        Structure::Inline(bytes) => Ok(Vec::from_slice(alloc, bytes)?),
+        Structure::Ctz { head, size } => {
+            let mut bytes = zeros(alloc, *size as usize)?;
+            thread.read_list(*head, *size, 0, &mut bytes)?;
+            Ok(bytes)
+        }
+        Structure::Branch(_) => Ok(Vec::new(alloc)),
+    }
+}

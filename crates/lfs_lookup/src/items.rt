@@ -1,0 +1,120 @@
+// The entries of one pair.
+
+ghost use Rattle.std.specs.Prelude.{◌≡◌, ◌++◌, IfOk, IfErr, OnOk, map};
+ghost use Rattle.std.specs.Option.{option_map};
+ghost use Rattle.lfs_model.specs.Slots.{Content as ModelContent};
+ghost use Rattle.lfs_model.specs.Content.{struct_typed};
+ghost use Rattle.lfs_model.specs.LoggedContent.{HasParts, HaveParts, IsPart};
+ghost use Rattle.lfs_thread.specs.Lent.{IsBlockOf};
+ghost use Rattle.lfs_tag.specs.ContentSeen.{part_seen, slot_seen};
+ghost use Rattle.lfs_lookup.specs.Items.{item_seen, items_seen, listed, shapes_in, shown_among, shown_raw, structure_seen, without};
+
+use lfs_device::Error;
+use lfs_tag::kinds::{CTZ_STRUCT, DIRECTORY_NAME, DIRECTORY_STRUCT, FILE_NAME};
+use lfs_tag::{Content, Log, Part, Slot, ctz_of, pair_of};
+use std::alloc::{AllocError, Global};
+
+/// What an entry's struct says (SPEC.md of littlefs, "0x2xx LFS_TYPE_STRUCT"): where the contents of a file
+/// stand, or where a directory begins.
+#[derive(Drop)]
+pub enum Structure {
+    /// A file's bytes, which stand in the pair itself.
+    Inline(Vec<u8>),
+    /// A file's skip list: the address of its last block, and its size in bytes.
+    Ctz { head: u32, size: u32 },
+    /// The first pair of a directory.
+    Branch([u32; 2]),
+}
+
+/// A file or a directory, as it stands in the directory above it.
+#[derive(Drop)]
+pub struct Item {
+    /// Its name's bytes.
+    pub name: Vec<u8>,
+    /// What its entry says.
+    pub structure: Structure,
+}
+
+// What a struct's part of a slot says.
+fn structure_of(alloc: Global, part: &Part<'_>) -> Result<Structure, AllocError>
+    requires { IsPart 2 (part_seen part.now) }
+    ensures { IfOk result (λ s. structure_seen s ≡ struct_typed part.now.kind part.now.bytes.now) }
+{
+    match (part.kind, <&[u8; 8]>::try_from(part.bytes)) {
+        (DIRECTORY_STRUCT, Ok(bytes)) => Ok(Structure::Branch(pair_of(bytes))),
+        (CTZ_STRUCT, Ok(bytes)) => {
+            let (head, size) = ctz_of(bytes);
+            Ok(Structure::Ctz { head, size })
+        }
+        _ => {
+            let bytes = Vec::from_slice(alloc, part.bytes)?;
+            Ok(Structure::Inline(bytes))
+        }
+    }
+}
+
+// What a slot shows. Nothing where it is the superblock's, or has no name or no struct.
+fn item_of(alloc: Global, slot: &Slot<'_>) -> Result<Option<Item>, AllocError>
+    requires { HasParts (slot_seen slot.now) }
+    ensures { IfOk result (λ item. option_map item_seen item ≡ shown_raw (slot_seen slot.now)) }
+{
+    let (Some(name), Some(part)) = (slot.name, slot.structure) else {
+        return Ok(None);
+    };
+    if name.kind != FILE_NAME && name.kind != DIRECTORY_NAME {
+        return Ok(None);
+    }
+    let structure = structure_of(alloc, &part)?;
+    let name = Vec::from_slice(alloc, name.bytes)?;
+    Ok(Some(Item { name, structure }))
+}
+
+// Adds what a slot shows.
+fn push_shown(alloc: Global, items: &mut Vec<Item>, slot: &Slot<'_>) -> Result<(), AllocError>
+    requires { HasParts (slot_seen slot.now) }
+    ensures { OnOk result (items_seen items.new.items ≡ items_seen items.old.items ++ listed (shown_raw (slot_seen slot.now))) }
+{
+    if let Some(item) = item_of(alloc, slot)? {
+        items.push(item)?;
+    }
+    Ok(())
+}
+
+// What slots show.
+fn items_among(alloc: Global, slots: &[Slot<'_>]) -> Result<Vec<Item>, AllocError>
+    requires { HaveParts (map slot_seen slots.now) }
+    ensures { IfOk result (λ items. items_seen items.items ≡ shown_among (map slot_seen slots.now)) }
+{
+    let mut items = Vec::new(alloc);
+    for slot in slots {
+        push_shown(alloc, &mut items, slot)?;
+    }
+    Ok(items)
+}
+
+// Removes the slot of an id, if there is one.
+fn remove_moved(slots: &mut Vec<Slot<'_>>, moved: Option<usize>)
+    ensures { map slot_seen slots.new.items ≡ without moved (map slot_seen slots.old.items) }
+{
+    if let Some(id) = moved {
+        if id < slots.len() {
+            slots.remove(id);
+        }
+    }
+}
+
+// The entries of a pair whose log stands in a block, without the one that is moved away.
+pub(crate) fn items_in(
+    alloc: Global,
+    block: &[u8],
+    moved: Option<usize>,
+) -> Result<Vec<Item>, Error>
+    requires { (content : ModelContent) × IsBlockOf block.now content }
+    ensures items { (content : ModelContent) → IsBlockOf block.now content → IfOk result (λ items. items_seen items.items ≡ shapes_in moved content.slots) }
+    ensures errors { IfErr result (λ e. e ≡ Error.NoMemory) }
+{
+    let mut content = Content::read(alloc, &Log::read(block))?;
+    remove_moved(&mut content.slots, moved);
+    let items = items_among(alloc, &content.slots)?;
+    Ok(items)
+}

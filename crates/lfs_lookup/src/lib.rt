@@ -1,0 +1,41 @@
+//! What stands in the directories of an accepted image, and how it is looked up.
+#![tactic(auto)]
+
+mod addresses;
+mod attribute_sizes;
+mod attributes;
+mod by_path;
+mod bytes;
+mod directory;
+mod entry;
+mod file_bytes;
+mod finding;
+mod items;
+mod listed;
+mod path;
+mod paths;
+mod profile;
+mod refusal;
+mod root;
+mod search;
+mod walking;
+
+pub use attribute_sizes::attributes_size_at;
+pub use attributes::attribute_at;
+pub use by_path::{find_at, look_inside_at, shown_at};
+pub use bytes::{bytes_at, file_of, inline_at};
+pub use directory::{entries, entries_under, items_of};
+pub use entry::{Contents, Entry, entry_of};
+pub use file_bytes::contents_of;
+pub use finding::{Finding, FoundAttribute, Inside, ListItem, Listing, Node};
+pub use items::{Item, Structure};
+pub use listed::list_at;
+pub use path::Path;
+pub use paths::{
+    Found, Parent, Shown, find_directory, look_up, look_up_shown, moved_slot, number_of,
+};
+pub use profile::{follows_at, is_writable};
+pub use refusal::{Refusal, refuse_if, refused};
+pub use root::find_root;
+pub use search::{Sought, Spot, find_name, find_shown};
+pub use walking::{TreeItem, walk};

@@ -1,0 +1,91 @@
+// What stands in the directory at a path, by name and size.
+
+ghost use Rattle.std.specs.Prelude.{◌≡◌, ◌≤◌, ◌+◌, ◌++◌, ◌∷◌, [], IfOk, false, map, sum_by};
+ghost use Rattle.lfs_model.specs.Discipline.{pairs_of_path, parents};
+ghost use Rattle.lfs_model.specs.History.{reads};
+ghost use Rattle.lfs_model.specs.Effects.{items_in};
+ghost use Rattle.lfs_model.specs.Thread.{superblocks_before};
+ghost use Rattle.lfs_model.specs.View.{IsAccepted};
+ghost use Rattle.lfs_model.specs.Shown.{tree_in};
+ghost use Rattle.lfs_lookup.specs.AtHand.{AreOnHand};
+ghost use Rattle.lfs_lookup.specs.Finds.{Finds, list_item_seen};
+ghost use Rattle.lfs_lookup.specs.Items.{item_seen, items_seen, structure_seen};
+ghost use Rattle.lfs_lookup.specs.ListAt.{AreShort, IsShort, item_listed, size_listed};
+ghost use Rattle.lfs_lookup.specs.Reading.{IsReading};
+
+use crate::by_path::{finding_of, first_of, shown_at};
+use crate::directory::entries_from;
+use crate::finding::{ListItem, Listing};
+use crate::items::{Item, Structure};
+use crate::path::Path;
+use lfs_device::{BlockDevice, Error};
+use lfs_thread::Thread;
+use std::alloc::{AllocError, Global};
+
+// How many bytes a file has. None for a directory.
+fn listed_size(structure: &Structure) -> Option<u32>
+    requires { IsShort (structure_seen structure.now) }
+    ensures { result ≡ size_listed (structure_seen structure.now) }
+{
+    match structure {
+        Structure::Inline(bytes) => Some(bytes.len() as u32),
+        Structure::Ctz { size, .. } => Some(*size),
+        Structure::Branch(_) => None,
+    }
+}
+
+// An entry by name and size.
+fn listed_item(item: Item) -> ListItem
+    requires { IsShort (structure_seen item.structure) }
+    ensures { list_item_seen result ≡ item_listed (item_seen item) }
+{
+    let size = listed_size(&item.structure);
+    ListItem {
+        name: item.name,
+        size,
+    }
+}
+
+// Entries by name and size.
+fn listed_items(alloc: Global, items: Vec<Item>) -> Result<Vec<ListItem>, AllocError>
+    requires { AreShort (items_seen items.items) }
+    ensures { IfOk result (λ listed. map list_item_seen listed.items ≡ map item_listed (items_seen items.items)) }
+{
+    let mut listed = Vec::new(alloc);
+    for item in items {
+        listed.push(listed_item(item))?;
+    }
+    Ok(listed)
+}
+
+/// What a path leads to, and what stands in the directory at it, in name order. Nothing is read that is
+/// at hand, and else no more pairs than the directories above the path have, and that one.
+///
+/// `root` is the number of the root directory's first pair. `Io` where a read failed, and `NoMemory`
+/// where room isn't granted.
+pub fn list_at<D: BlockDevice>(
+    alloc: Global,
+    thread: &mut Thread<D>,
+    root: usize,
+    path: &Path<'_>,
+) -> Result<Listing, Error>
+    requires works { thread.old.failed ≡ false }
+    requires accepted { IsAccepted thread.old.kept.disk thread.old.kept.pairs }
+    requires root { root ≡ superblocks_before thread.old.kept.pairs }
+    ensures found { IfOk result (λ listing. Finds (tree_in thread.old.kept.disk thread.old.kept.pairs) path.now listing.finding) }
+    ensures items { IfOk result (λ listing. map list_item_seen listing.items.items ≡ items_in (tree_in thread.old.kept.disk thread.old.kept.pairs) path.now) }
+    ensures few { reads thread.new.kept.history ≤ reads thread.old.kept.history + sum_by (pairs_of_path thread.old.kept.pairs) (parents path.now ++ path.now ∷ []) }
+    ensures kept { AreOnHand thread.old (parents path.now ++ path.now ∷ []) → reads thread.new.kept.history ≡ reads thread.old.kept.history }
+    ensures reading { IsReading thread.old thread.new result }
+{
+    let shown = shown_at(alloc, thread, root, path)?;
+    let items = entries_from(alloc, thread, first_of(root, shown))?;
+    // Its blocks hold bytes, so that inline contents are short, and have the sizes by which a list has
+    // as many bytes as its entry says.
+    let _device = thread.device();
+    let listed = listed_items(alloc, items)?;
+    Ok(Listing {
+        finding: finding_of(shown),
+        items: listed,
+    })
+}

@@ -1,0 +1,138 @@
+// Paths: a slash before each name.
+
+ghost use Rattle.std.specs.Prelude.{ℕ, List, true, ◌≡◌, ◌<◌, ◌≤◌, ◌^◌, ◌==◌, ◌||◌, IfOk, not, length, map, is_some};
+ghost use Rattle.std.specs.List.{list_all, slice_split};
+ghost use Rattle.lfs_model.specs.TreeEdits.{last_name};
+ghost use Rattle.lfs_model.specs.Names.{is_component, same_name, slash};
+ghost use Rattle.lfs_model.specs.Operations.{path_of};
+ghost use Rattle.lfs_model.specs.Refusals.{as_path, is_root};
+ghost use Rattle.lfs_lookup.specs.NameLengths.{behind_slash};
+
+use std::alloc::{AllocError, Global};
+use std::marker::Model;
+
+fn is_same(name: &[u8], other: &[u8]) -> bool
+    ensures { result ≡ same_name name.now other.now }
+{
+    name == other
+}
+
+fn are_plain(name: &[u8]) -> bool
+    ensures { result ≡ list_all (λ b. not (b == 0 || b == slash)) name.now }
+{
+    name.iter().all(|byte| !(*byte == 0 || *byte == b'/'))
+}
+
+fn is_component(name: &[u8]) -> bool
+    ensures { result ≡ is_component name.now }
+{
+    !name.is_empty() && are_plain(name) && !is_same(name, b".") && !is_same(name, b"..")
+}
+
+// Whether these bytes are names with a slash between each two.
+fn are_components(bytes: &[u8]) -> bool
+    ensures { result ≡ list_all is_component (slice_split (λ c. c == slash) bytes.now) }
+{
+    bytes
+        .split(|byte| *byte == b'/')
+        .all(|name| is_component(name))
+}
+
+fn is_path(bytes: &[u8]) -> bool
+    ensures { result ≡ is_some (path_of bytes.now) }
+{
+    match bytes {
+        [] => false,
+        [first, rest @ ..] => *first == b'/' && (rest.is_empty() || are_components(rest)),
+    }
+}
+
+// The parts between slashes.
+fn parts_of<'a>(alloc: Global, bytes: &'a [u8]) -> Result<Vec<&'a [u8]>, AllocError>
+    ensures { IfOk result (λ parts. map (λ part. part.now) parts.items ≡ slice_split (λ c. c == slash) bytes.now) }
+{
+    bytes.split(|byte| *byte == b'/').collect(alloc)
+}
+
+// How many bytes stand behind the last slash.
+fn len_behind_slash(bytes: &[u8]) -> usize
+    ensures len { result ≡ behind_slash 0 bytes.now }
+    ensures bound { result ≤ length bytes.now }
+{
+    let mut len = 0;
+    for byte in bytes {
+        len = if *byte == b'/' { 0 } else { len + 1 };
+    }
+    len
+}
+
+/// The bytes of a path that is well formed. To a contract it is the names in it.
+#[derive(Drop)]
+pub struct Path<'a> {
+    bytes: &'a [u8],
+}
+
+impl<'a> Model for Path<'a> {
+    ghost use Rattle.std.specs.Prelude.{◌≡◌, true, is_some};
+    ghost use Rattle.lfs_model.specs.Operations.{path_of};
+    ghost use Rattle.lfs_model.specs.Refusals.{as_path};
+    ghost use Rattle.lfs_model.specs.Tree.{Path};
+
+    ghost Value = { Path };
+
+    ghost view = { λ p. as_path p.bytes.now };
+
+    ghost invariant = { λ p. is_some (path_of p.bytes.now) ≡ true };
+}
+
+impl<'a> Path<'a> {
+    /// The path of these bytes, if it is well formed.
+    pub fn parse(bytes: &'a [u8]) -> Option<Path<'a>>
+        ensures { result ≡ path_of bytes.now }
+    {
+        if is_path(bytes) {
+            Some(Path { bytes })
+        } else {
+            None
+        }
+    }
+
+    /// The names in it, in turn; the root's path has none. An error where their room isn't granted.
+    pub fn names(&self, alloc: Global) -> Result<Vec<&'a [u8]>, AllocError>
+        ensures { IfOk result (λ names. map (λ name. name.now) names.items ≡ self.now) }
+    {
+        match self.bytes {
+            [] | [_] => Ok(Vec::new(alloc)),
+            [_, rest @ ..] => parts_of(alloc, rest),
+        }
+    }
+
+    /// Whether it is the root's path.
+    pub fn is_root(&self) -> bool
+        ensures { result ≡ is_root self.now }
+    {
+        matches!(self.bytes, [] | [_])
+    }
+
+    /// For a proof: each of its names may be a component of a path. It does nothing.
+    pub fn know_names(&self)
+        ensures { list_all is_component self.now ≡ true }
+    {
+        let _len = self.bytes.len();
+    }
+
+    /// For a proof: it is the path of some bytes. It does nothing.
+    pub fn know_bytes(&self)
+        ensures { (bytes : List ℕ) × (as_path bytes ≡ self.now) }
+    {
+        let _len = self.bytes.len();
+    }
+
+    /// How many bytes the last name has; the root's path has none.
+    pub fn name_len(&self) -> usize
+        ensures len { result ≡ length (last_name self.now) }
+        ensures bound { result < 2 ^ 63 }
+    {
+        len_behind_slash(self.bytes)
+    }
+}

@@ -1,0 +1,298 @@
+// Paths, from the root down.
+
+ghost use Rattle.std.specs.Prelude.{◌≡◌, None, ◌<◌, ◌≤◌, ◌+◌, false, length, IfNone, IfOk, IfSome, map, sum_by, ◌++◌, ◌∷◌, [], drop};
+ghost use Rattle.std.specs.List.{AllByRecursion};
+ghost use Rattle.lfs_model.specs.Discipline.{pairs_of_path, parents};
+ghost use Rattle.lfs_model.specs.History.{reads};
+ghost use Rattle.lfs_model.specs.InDirectory.{BeginsAt, run_length};
+ghost use Rattle.lfs_model.specs.Slots.{address_of, no_gstate, same_pair};
+ghost use Rattle.lfs_model.specs.Thread.{gstate_of};
+ghost use Rattle.lfs_model.specs.Tree.{Path};
+ghost use Rattle.lfs_model.specs.View.{IsAccepted};
+ghost use Rattle.lfs_thread.specs.Steps.{HasTold, IsOnlyRead};
+ghost use Rattle.lfs_tag.specs.FieldsSeen.{move_seen};
+ghost use Rattle.lfs_lookup.specs.AtHand.{BringsAlong, BringsDown};
+ghost use Rattle.lfs_lookup.specs.AtPath.{IsThrough};
+ghost use Rattle.lfs_lookup.specs.AttributeAt.{IsAtHand};
+ghost use Rattle.lfs_lookup.specs.Listed.{joined_run};
+ghost use Rattle.lfs_lookup.specs.Reading.{IsReading};
+ghost use Rattle.lfs_lookup.specs.Search.{HidesFrom};
+ghost use Rattle.lfs_lookup.specs.Paths.{BeginsOnPath, Descends, Enters, IsHiding, IsSettled, IsShownAt, IsThere, LeadsTo, ShowsTo, fault_of};
+
+use crate::entry::{Contents, Entry};
+use crate::search::{Sought, Spot, find_name, find_shown};
+use lfs_device::{BlockDevice, Error};
+use lfs_tag::MoveState;
+use lfs_tag::kinds::DELETE;
+use lfs_thread::Thread;
+
+/// What a path leads to, where a directory is wanted.
+#[derive(Clone, Copy, Debug, PartialEq, Eq, Drop)]
+pub enum Parent {
+    /// A directory, by the number of its first pair.
+    Directory(usize),
+    /// A file stands there.
+    File,
+    /// Nothing stands there.
+    Nothing,
+}
+
+/// What a path leads to. `parent` is the number of the first pair of the directory that has, or
+/// would have, its last name.
+#[derive(Clone, Copy, Debug, PartialEq, Eq, Drop)]
+pub enum Found {
+    /// The root directory, which has no slot.
+    Root,
+    /// A directory, which begins with the pair of number `first`.
+    Directory {
+        parent: usize,
+        slot: Spot,
+        first: usize,
+    },
+    /// A file.
+    File {
+        parent: usize,
+        slot: Spot,
+        contents: Contents,
+    },
+    /// Nothing. The name belongs in front of the slot `place`.
+    Nothing {
+        parent: usize,
+        place: Spot,
+    },
+    /// A component before the last is a file.
+    ParentIsFile,
+    /// A component before the last isn't there.
+    ParentIsMissing,
+}
+
+/// What a path leads to where a slot may count as deleted, as [`Found`], but without a place for what
+/// isn't there.
+#[derive(Clone, Copy, Debug, PartialEq, Eq, Drop)]
+pub enum Shown {
+    /// The root directory, which has no slot.
+    Root,
+    /// A directory, which begins with the pair of number `first`.
+    Directory { slot: Spot, first: usize },
+    /// A file.
+    File { slot: Spot, contents: Contents },
+    /// Nothing.
+    Nothing,
+    /// A component before the last is a file.
+    ParentIsFile,
+    /// A component before the last isn't there.
+    ParentIsMissing,
+}
+
+/// The number of the pair at an address, of which the two blocks may come in either order. None
+/// where no pair of the thread is at it.
+pub fn number_of<D: BlockDevice>(thread: &Thread<D>, at: [u32; 2]) -> Option<usize>
+    ensures there { IfSome result (BeginsAt thread.now.kept.pairs (address_of at)) }
+    ensures nowhere { IfNone result (AllByRecursion (λ p. same_pair p.at (address_of at) ≡ false) thread.now.kept.pairs) }
+{
+    for index in 0..thread.len() {
+        if is_same_pair(thread.address(index), at) {
+            return Some(index);
+        }
+    }
+    None
+}
+
+/// The slot that counts as deleted under a global state, which is the one that a set move names
+/// (DESIGN.md of littlefs, "The move problem"). None where no move is set.
+pub fn moved_slot<D: BlockDevice>(thread: &Thread<D>, state: &MoveState) -> Option<Spot>
+    requires { IsAccepted thread.now.kept.disk thread.now.kept.pairs }
+    ensures { HidesFrom (move_seen state.now) result 0 thread.now.kept.pairs }
+{
+    if state.kind != DELETE {
+        return None;
+    }
+    match number_of(thread, state.pair) {
+        Some(pair) => Some(Spot { pair, id: state.id }),
+        None => None,
+    }
+}
+
+// Whether two addresses are of the same pair: in either order.
+pub(crate) fn is_same_pair(a: [u32; 2], b: [u32; 2]) -> bool
+    ensures { result ≡ same_pair (address_of a) (address_of b) }
+{
+    a[0] == b[0] && a[1] == b[1] || a[0] == b[1] && a[1] == b[0]
+}
+
+// Goes from a directory to the one of that name in it, where a slot may count as deleted.
+fn enter<D: BlockDevice>(
+    thread: &mut Thread<D>,
+    first: usize,
+    name: &[u8],
+    moved: Option<Spot>,
+) -> Result<Parent, Error>
+    requires works { thread.old.failed ≡ false }
+    requires hiding { IsHiding thread.old.kept moved }
+    requires reached { (path : Path) × BeginsOnPath thread.old.kept.pairs path first }
+    ensures answer { IfOk result (λ parent. (path : Path) → BeginsOnPath thread.old.kept.pairs path first → Enters thread.old.kept (path ++ name.now ∷ []) parent) }
+    ensures few { reads thread.new.kept.history ≤ reads thread.old.kept.history + run_length (drop first thread.old.kept.pairs) }
+    ensures brings { BringsAlong (joined_run (drop first thread.old.kept.pairs)) thread.old thread.new result }
+    ensures only { IsOnlyRead thread.old.kept thread.new.kept }
+    ensures works { thread.new.failed ≡ false }
+    ensures errors { HasTold thread.old.kept thread.new.kept result }
+{
+    match find_shown(thread, first, name, moved)? {
+        Some((_, Entry::Directory(at))) => {
+            let next = number_of(thread, at).unwrap();
+            Ok(Parent::Directory(next))
+        }
+        Some((_, Entry::File(_))) => Ok(Parent::File),
+        None => Ok(Parent::Nothing),
+    }
+}
+
+/// Goes down a path of directories from the root, which begins with the pair of number `root`, by
+/// the names of its components, where the slot `moved` counts as deleted. It stops at the first
+/// component that is no directory. Each pair of the directories on the way is read at most once.
+///
+/// Errors as those of [`find_name`](crate::find_name).
+pub fn find_directory<D: BlockDevice>(
+    thread: &mut Thread<D>,
+    root: usize,
+    path: &[&[u8]],
+    moved: Option<Spot>,
+) -> Result<Parent, Error>
+    requires works { thread.old.failed ≡ false }
+    requires hiding { IsHiding thread.old.kept moved }
+    requires root { BeginsOnPath thread.old.kept.pairs [] root }
+    ensures answer { IfOk result (Descends thread.old.kept (map (λ name. name.now) path.now)) }
+    ensures few { reads thread.new.kept.history ≤ reads thread.old.kept.history + sum_by (pairs_of_path thread.old.kept.pairs) (parents (map (λ name. name.now) path.now)) }
+    ensures brings { BringsDown (λ parent. fault_of parent ≡ None) (parents (map (λ name. name.now) path.now)) thread.old thread.new result }
+    ensures only { IsOnlyRead thread.old.kept thread.new.kept }
+    ensures works { thread.new.failed ≡ false }
+    ensures errors { HasTold thread.old.kept thread.new.kept result }
+{
+    let mut first = root;
+    for name in path {
+        first = match enter(thread, first, name, moved)? {
+            Parent::Directory(next) => next,
+            Parent::File => return Ok(Parent::File),
+            Parent::Nothing => return Ok(Parent::Nothing),
+        };
+    }
+    Ok(Parent::Directory(first))
+}
+
+// What a name in a directory stands for.
+fn look_in<D: BlockDevice>(
+    thread: &mut Thread<D>,
+    parent: usize,
+    name: &[u8],
+) -> Result<Found, Error>
+    requires works { thread.old.failed ≡ false }
+    requires settled { IsSettled thread.old.kept }
+    requires reached { (above : Path) × BeginsOnPath thread.old.kept.pairs above parent }
+    ensures answer { IfOk result (λ found. (above : Path) → BeginsOnPath thread.old.kept.pairs above parent → IsThere thread.old.kept.pairs above name.now found) }
+    ensures few { reads thread.new.kept.history ≤ reads thread.old.kept.history + run_length (drop parent thread.old.kept.pairs) }
+    ensures only { IsOnlyRead thread.old.kept thread.new.kept }
+    ensures works { thread.new.failed ≡ false }
+    ensures errors { HasTold thread.old.kept thread.new.kept result }
+{
+    match find_name(thread, parent, name)? {
+        Sought::Found(slot, Entry::Directory(at)) => {
+            let first = number_of(thread, at).unwrap();
+            Ok(Found::Directory {
+                parent,
+                slot,
+                first,
+            })
+        }
+        Sought::Found(slot, Entry::File(contents)) => Ok(Found::File {
+            parent,
+            slot,
+            contents,
+        }),
+        Sought::Place(place) => Ok(Found::Nothing { parent, place }),
+    }
+}
+
+/// What a path leads to, by the names of its components, from the root down; the root begins with
+/// the pair of number `root`. Each pair of the directories above it is read at most once, and none
+/// of which the block is at hand.
+///
+/// Errors as those of [`find_name`](crate::find_name).
+pub fn look_up<D: BlockDevice>(
+    thread: &mut Thread<D>,
+    root: usize,
+    path: &[&[u8]],
+) -> Result<Found, Error>
+    requires works { thread.old.failed ≡ false }
+    requires settled { IsSettled thread.old.kept }
+    requires root { BeginsOnPath thread.old.kept.pairs [] root }
+    ensures answer { IfOk result (LeadsTo thread.old.kept (map (λ name. name.now) path.now)) }
+    ensures few { reads thread.new.kept.history ≤ reads thread.old.kept.history + sum_by (pairs_of_path thread.old.kept.pairs) (parents (map (λ name. name.now) path.now)) }
+    ensures only { IsOnlyRead thread.old.kept thread.new.kept }
+    ensures works { thread.new.failed ≡ false }
+    ensures errors { HasTold thread.old.kept thread.new.kept result }
+{
+    let Some((name, above)) = path.split_last() else {
+        return Ok(Found::Root);
+    };
+    match find_directory(thread, root, above, None)? {
+        Parent::Directory(parent) => look_in(thread, parent, name),
+        Parent::File => Ok(Found::ParentIsFile),
+        Parent::Nothing => Ok(Found::ParentIsMissing),
+    }
+}
+
+// What a name in a directory stands for, where a slot may count as deleted.
+fn show_in<D: BlockDevice>(
+    thread: &mut Thread<D>,
+    parent: usize,
+    name: &[u8],
+    moved: Option<Spot>,
+) -> Result<Shown, Error>
+    requires works { thread.old.failed ≡ false }
+    requires hiding { IsHiding thread.old.kept moved }
+    requires reached { (above : Path) × BeginsOnPath thread.old.kept.pairs above parent }
+    ensures answer { IfOk result (λ shown. (above : Path) → BeginsOnPath thread.old.kept.pairs above parent → IsShownAt thread.old.kept.pairs moved (above ++ name.now ∷ []) shown) }
+    ensures at_hand { IfOk result (IsAtHand thread.new) }
+    ensures few { reads thread.new.kept.history ≤ reads thread.old.kept.history + run_length (drop parent thread.old.kept.pairs) }
+    ensures brings { BringsAlong (joined_run (drop parent thread.old.kept.pairs)) thread.old thread.new result }
+    ensures reading { IsReading thread.old thread.new result }
+{
+    match find_shown(thread, parent, name, moved)? {
+        Some((slot, Entry::Directory(at))) => {
+            let first = number_of(thread, at).unwrap();
+            Ok(Shown::Directory { slot, first })
+        }
+        Some((slot, Entry::File(contents))) => Ok(Shown::File { slot, contents }),
+        None => Ok(Shown::Nothing),
+    }
+}
+
+/// What a path leads to as [`look_up`], where the slot `moved` counts as deleted: the one that a set
+/// move names (DESIGN.md of littlefs, "The move problem"). The block of the slot that is found is at
+/// hand then.
+///
+/// Errors as those of [`find_name`](crate::find_name).
+pub fn look_up_shown<D: BlockDevice>(
+    thread: &mut Thread<D>,
+    root: usize,
+    path: &[&[u8]],
+    moved: Option<Spot>,
+) -> Result<Shown, Error>
+    requires works { thread.old.failed ≡ false }
+    requires hiding { IsHiding thread.old.kept moved }
+    requires root { BeginsOnPath thread.old.kept.pairs [] root }
+    ensures answer { IfOk result (ShowsTo thread.old.kept moved (map (λ name. name.now) path.now)) }
+    ensures at_hand { IfOk result (IsAtHand thread.new) }
+    ensures few { reads thread.new.kept.history ≤ reads thread.old.kept.history + sum_by (pairs_of_path thread.old.kept.pairs) (parents (map (λ name. name.now) path.now)) }
+    ensures brings { BringsDown IsThrough (parents (map (λ name. name.now) path.now)) thread.old thread.new result }
+    ensures reading { IsReading thread.old thread.new result }
+{
+    let Some((name, above)) = path.split_last() else {
+        return Ok(Shown::Root);
+    };
+    match find_directory(thread, root, above, moved)? {
+        Parent::Directory(parent) => show_in(thread, parent, name, moved),
+        Parent::File => Ok(Shown::ParentIsFile),
+        Parent::Nothing => Ok(Shown::ParentIsMissing),
+    }
+}

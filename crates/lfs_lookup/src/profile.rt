@@ -1,0 +1,181 @@
+// Whether an image keeps within what is written.
+
+ghost use Rattle.std.specs.Prelude.{ℕ, List, ◌≡◌, ◌↔◌, ◌-◌, ◌<◌, ◌^◌, IsTrue, All, IfOk, IfErr, Some, false, length, map, min, true};
+ghost use Rattle.lfs_model.specs.Content.{complete, complete_all, struct_typed};
+ghost use Rattle.lfs_model.specs.EntryTypes.{superblock_at};
+ghost use Rattle.lfs_model.specs.Disk.{file_limit};
+ghost use Rattle.lfs_model.specs.Slots.{Content as ModelContent, File, Slot as ModelSlot, attributes_size};
+ghost use Rattle.lfs_model.specs.Thread.{superblocks_before};
+ghost use Rattle.lfs_model.specs.Profile.{FitsEntry, FitsSlot, IsWritable};
+ghost use Rattle.lfs_model.specs.View.{IsAccepted};
+ghost use Rattle.lfs_tag.specs.ContentSeen.{attribute_seen, slot_seen};
+ghost use Rattle.lfs_thread.specs.Lent.{IsBlockOf};
+ghost use Rattle.lfs_thread.specs.Steps.{pair_in};
+ghost use Rattle.lfs_lookup.specs.Profile.{IsPairWritable, IsShaped, follows_at};
+ghost use Rattle.lfs_lookup.specs.Reading.{IsReading};
+
+use lfs_device::{BlockDevice, Error, Geometry};
+use lfs_pair::fits;
+use lfs_tag::kinds::{DIRECTORY_NAME, FILE_NAME, INLINE_STRUCT};
+use lfs_tag::{Attribute, Content, Log, Part, Slot, superblock_of};
+use lfs_thread::Thread;
+use std::alloc::Global;
+
+// The bytes of attributes with their tags, or the greatest number where there are more.
+fn attributes_size(attributes: &[Attribute<'_>]) -> u64
+    ensures { result ≡ min (attributes_size (map attribute_seen attributes.now)) (2 ^ 64 - 1) }
+{
+    let mut total: u64 = 0;
+    for attribute in attributes {
+        total = total
+            .saturating_add(4)
+            .saturating_add(attribute.bytes.len() as u64);
+    }
+    total
+}
+
+// Whether an entry takes at most half of what a pair may hold, whatever contents it gets, and has
+// them within the limit where they stand in it.
+fn fits_entry(
+    geometry: &Geometry,
+    name: &Part<'_>,
+    structure: &Part<'_>,
+    attributes: &[Attribute<'_>],
+) -> bool
+    ensures { IsTrue result ↔ FitsEntry geometry.now.block_size geometry.now.page
+        (record { kind = File; name = name.now.bytes.now; struct = struct_typed structure.now.kind structure.now.bytes.now; attributes = map attribute_seen attributes.now }) }
+{
+    let limit = geometry.inline_limit();
+    let charge = attributes_size(attributes)
+        .saturating_add(name.bytes.len() as u64)
+        .saturating_add(u64::from(limit) + 8);
+    charge <= u64::from(geometry.entry_limit())
+        && (structure.kind != INLINE_STRUCT || structure.bytes.len() <= limit as usize)
+}
+
+// Whether a superblock has the limits that `format` writes.
+fn has_written_limits(structure: &Part<'_>) -> bool
+    requires { length structure.now.bytes.now ≡ 24 }
+    ensures { IsTrue result ↔ (((superblock_at structure.now.bytes.now).name_max ≡ 255) × ((superblock_at structure.now.bytes.now).file_max ≡ file_limit) × ((superblock_at structure.now.bytes.now).attr_max ≡ 1022)) }
+{
+    match <&[u8; 24]>::try_from(structure.bytes) {
+        Ok(bytes) => {
+            let fields = superblock_of(bytes);
+            fields.name_max == 255 && fields.file_max == 2_147_483_647 && fields.attr_max == 1022
+        }
+        Err(_) => false,
+    }
+}
+
+// Whether a slot keeps within what is written.
+fn fits_slot(geometry: &Geometry, slot: &Slot<'_>) -> bool
+    requires { (s : ModelSlot) × ((complete (slot_seen slot.now) ≡ Some s) × IsShaped s) }
+    ensures { (s : ModelSlot) → complete (slot_seen slot.now) ≡ Some s → IsShaped s → IsTrue result ↔ FitsSlot geometry.now.block_size geometry.now.page s }
+{
+    let (Some(name), Some(structure)) = (slot.name, slot.structure) else {
+        return false;
+    };
+    if name.kind == FILE_NAME || name.kind == DIRECTORY_NAME {
+        return fits_entry(geometry, &name, &structure, &slot.attributes);
+    }
+    has_written_limits(&structure)
+}
+
+// Whether all slots do.
+fn fit_all(geometry: &Geometry, slots: &[Slot<'_>]) -> bool
+    requires { (all : List ModelSlot) × ((complete_all (map slot_seen slots.now) ≡ Some all) × All IsShaped all) }
+    ensures { (all : List ModelSlot) → complete_all (map slot_seen slots.now) ≡ Some all → All IsShaped all → IsTrue result ↔ All (FitsSlot geometry.now.block_size geometry.now.page) all }
+{
+    for slot in slots {
+        if !fits_slot(geometry, slot) {
+            return false;
+        }
+    }
+    true
+}
+
+// Whether a pair has a slot, if a hard tail names it.
+fn is_filled(follows: bool, slots: &[Slot<'_>]) -> bool
+    ensures { IsTrue result ↔ (follows ≡ true → ¬ (length slots.now ≡ 0)) }
+{
+    !follows || !slots.is_empty()
+}
+
+// Whether a pair whose log stands in a block does. A pair that a hard tail names has a slot.
+fn fits_in_block(
+    alloc: Global,
+    geometry: &Geometry,
+    block: &[u8],
+    follows: bool,
+) -> Result<bool, Error>
+    requires { (content : ModelContent) × (IsBlockOf block.now content × All IsShaped content.slots) }
+    ensures is { (content : ModelContent) → IsBlockOf block.now content → All IsShaped content.slots → IfOk result (λ b. IsTrue b ↔ IsPairWritable geometry.now.block_size geometry.now.page follows content) }
+    ensures errors { IfErr result (λ e. e ≡ Error.NoMemory) }
+{
+    let content = Content::read(alloc, &Log::read(block))?;
+    if !is_filled(follows, &content.slots) {
+        return Ok(false);
+    }
+    if !fits(&content, *geometry) {
+        return Ok(false);
+    }
+    let fit = fit_all(geometry, &content.slots);
+    Ok(fit)
+}
+
+// Whether the pair at an index does.
+fn fits_at<D: BlockDevice>(
+    alloc: Global,
+    thread: &mut Thread<D>,
+    geometry: &Geometry,
+    index: usize,
+    follows: bool,
+) -> Result<bool, Error>
+    requires works { thread.old.failed ≡ false }
+    requires below { index < length thread.old.kept.pairs }
+    requires shaped { All IsShaped (pair_in thread.old.kept index).content.slots }
+    ensures is { IfOk result (λ b. IsTrue b ↔ IsPairWritable geometry.now.block_size geometry.now.page follows (pair_in thread.old.kept index).content) }
+    ensures reading { IsReading thread.old thread.new result }
+{
+    thread.bring(index)?;
+    fits_in_block(alloc, geometry, thread.lend(index).unwrap(), follows)
+}
+
+/// Whether a pair goes on with the directory of the one in front of it. Those up to the root's first
+/// one don't.
+pub fn follows_at<D: BlockDevice>(thread: &Thread<D>, root: usize, index: usize) -> bool
+    requires works { thread.now.failed ≡ false }
+    requires below { index < length thread.now.kept.pairs }
+    ensures { result ≡ follows_at root thread.now.kept.pairs index }
+{
+    index > root && thread.next(index - 1).is_some()
+}
+
+/// Whether an image keeps within what this library writes, so that it may be changed: each pair has
+/// at most a thousand slots, whose bytes it could hold after a compaction; each superblock has the
+/// limits that a fresh image has; each entry, with any contents that may stand in
+/// it, takes at most half of that room, and a file's contents stand in it up to an eighth of a
+/// block only; and no pair but the first of a directory is without slots.
+///
+/// `root` is the number of the root directory's first pair. Each pair is read at most once. `Io`
+/// where a read failed, and `NoMemory` where the room for a block and its slots isn't granted.
+pub fn is_writable<D: BlockDevice>(
+    alloc: Global,
+    thread: &mut Thread<D>,
+    root: usize,
+) -> Result<bool, Error>
+    requires works { thread.old.failed ≡ false }
+    requires accepted { IsAccepted thread.old.kept.disk thread.old.kept.pairs }
+    requires root { root ≡ superblocks_before thread.old.kept.pairs }
+    ensures is { IfOk result (λ b. IsTrue b ↔ IsWritable thread.old.kept.disk thread.old.kept.pairs) }
+    ensures reading { IsReading thread.old thread.new result }
+{
+    let geometry = thread.device().geometry();
+    for index in 0..thread.len() {
+        let follows = follows_at(thread, root, index);
+        if !fits_at(alloc, thread, &geometry, index, follows)? {
+            return Ok(false);
+        }
+    }
+    Ok(true)
+}

@@ -1,0 +1,57 @@
+// Errors that are refusals.
+
+ghost use Rattle.std.specs.Prelude.{◌≡◌, true};
+ghost use Rattle.lfs_model.specs.Session.{refuse_if};
+ghost use Rattle.lfs_lookup.specs.Refusals.{error_for, is_refusal, refusal_in};
+
+use lfs_device::Error;
+use std::marker::Model;
+
+/// Why an operation isn't carried out, where everything is as it was: an error that isn't `Io`,
+/// `NoMemory` or `Corrupt`. To a contract it is the definition's refusal.
+#[derive(Clone, Copy)]
+pub struct Refusal {
+    error: Error,
+}
+
+impl Model for Refusal {
+    ghost use Rattle.std.specs.Prelude.{◌≡◌, true};
+    ghost use Rattle.lfs_model.specs.Operations as ops;
+    ghost use Rattle.lfs_lookup.specs.Refusals.{error_again, error_for, is_refusal, refusal_in};
+
+    ghost Value = { ops.Refusal };
+
+    ghost view = { λ r. refusal_in r.error };
+
+    ghost invariant = { λ r. is_refusal r.error ≡ true };
+
+    ghost inverse = { λ r. record { error = error_for r } };
+
+    ghost inverse_ok = { λ r h. Prim.rw (error_again r.error h) };
+}
+
+impl Refusal {
+    /// The error that is answered for it.
+    pub fn error(&self) -> Error
+        ensures refusal { refusal_in result ≡ self.now }
+        ensures is { is_refusal result ≡ true }
+    {
+        self.error
+    }
+}
+
+/// The refusal that an error is.
+pub fn refused(error: Error) -> Refusal
+    requires { is_refusal error ≡ true }
+    ensures { result ≡ refusal_in error }
+{
+    Refusal { error }
+}
+
+/// That refusal, if a check says so.
+pub fn refuse_if(is: bool, error: Error) -> Option<Refusal>
+    requires { is_refusal error ≡ true }
+    ensures { result ≡ refuse_if is (refusal_in error) }
+{
+    if is { Some(Refusal { error }) } else { None }
+}

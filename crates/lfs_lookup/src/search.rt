@@ -1,0 +1,160 @@
+// Names in directories of several pairs.
+
+ghost use Rattle.std.specs.Prelude.{◌≡◌, ◌<◌, ◌≤◌, ◌+◌, ◌∷◌, [], false, length, drop, IfOk, IfSome, IsSome, OnOk};
+ghost use Rattle.lfs_model.specs.History.{reads};
+ghost use Rattle.lfs_model.specs.InDirectory.{HaveNoSuperblock, run_length};
+ghost use Rattle.lfs_model.specs.Slots.{Content};
+ghost use Rattle.lfs_thread.specs.Lent.{IsBlockOf, at_hand};
+ghost use Rattle.lfs_thread.specs.Steps.{HasTold, IsOnlyRead, pair_in};
+ghost use Rattle.lfs_lookup.specs.AtHand.{BringsAlong};
+ghost use Rattle.lfs_lookup.specs.Listed.{joined_run};
+ghost use Rattle.lfs_lookup.specs.Reading.{IsReading};
+ghost use Rattle.lfs_lookup.specs.Search.{Answers, AnswersIn, AnswersShown, HoldsContent, passed_in};
+
+use crate::entry::{Entry, entry_of};
+use lfs_device::{BlockDevice, Error};
+use lfs_tag::{Log, Lookup, Steps, find, struct_of};
+use lfs_thread::Thread;
+
+/// A slot, or the place of one: a pair's number in the thread and an id in it.
+#[derive(Clone, Copy, Debug, PartialEq, Eq, Drop)]
+pub struct Spot {
+    pub pair: usize,
+    pub id: u16,
+}
+
+/// Where a name stands in a directory.
+#[derive(Clone, Copy, Debug, PartialEq, Eq, Drop)]
+pub enum Sought {
+    /// Its slot, and what stands there.
+    Found(Spot, Entry),
+    /// It isn't there, and belongs in front of this slot.
+    Place(Spot),
+}
+
+// Where a name stands in a pair.
+#[derive(Drop)]
+enum SoughtInPair {
+    Found(u16, Entry),
+    Place(u16),
+}
+
+// Where a name stands among the slots of a block, where one slot may be passed over.
+fn find_in_block(block: &[u8], name: &[u8], skip: Option<u16>) -> SoughtInPair
+    requires { HoldsContent block.now }
+    ensures { (content : Content) → IsBlockOf block.now content → AnswersIn skip content.slots name.now result }
+{
+    let log = Log::read(block);
+    match find(&log, name, skip) {
+        Lookup::Found(id) => {
+            let structure = struct_of(&log, id, &mut Steps::new()).unwrap();
+            SoughtInPair::Found(id, entry_of(&structure))
+        }
+        Lookup::Place(id) => SoughtInPair::Place(id),
+    }
+}
+
+// Where a name stands in one pair, where one slot may be passed over.
+fn find_in_pair<D: BlockDevice>(
+    thread: &mut Thread<D>,
+    pair: usize,
+    name: &[u8],
+    skip: Option<u16>,
+) -> Result<SoughtInPair, Error>
+    requires works { thread.old.failed ≡ false }
+    requires below { pair < length thread.old.kept.pairs }
+    ensures answer { IfOk result (AnswersIn skip (pair_in thread.old.kept pair).content.slots name.now) }
+    ensures at_hand { OnOk result (IsSome (at_hand thread.new pair)) }
+    ensures few { reads thread.new.kept.history ≤ reads thread.old.kept.history + 1 }
+    ensures brings { BringsAlong (pair_in thread.old.kept pair ∷ []) thread.old thread.new result }
+    ensures reading { IsReading thread.old thread.new result }
+{
+    thread.bring(pair)?;
+    let block = thread.lend(pair).unwrap();
+    Ok(find_in_block(block, name, skip))
+}
+
+/// Where a name stands among the entries of the directory that begins with the pair of number
+/// `first`, or where it belongs. A set move isn't heeded; [`find_shown`] heeds it. A directory goes
+/// on along the hard tails (SPEC.md of littlefs, "0x601 LFS_TYPE_HARDTAIL"), and its entries are
+/// sorted by name. Each of its pairs is read at most once, and none where its block is at hand.
+///
+/// `Io` where a read failed, and `NoMemory` where the room for a block isn't granted. The thread
+/// works on after either.
+pub fn find_name<D: BlockDevice>(
+    thread: &mut Thread<D>,
+    first: usize,
+    name: &[u8],
+) -> Result<Sought, Error>
+    requires works { thread.old.failed ≡ false }
+    requires below { first < length thread.old.kept.pairs }
+    requires entries { HaveNoSuperblock (drop (first + 1) thread.old.kept.pairs) }
+    ensures answer { IfOk result (Answers thread.old.kept.pairs first name.now) }
+    ensures only { IsOnlyRead thread.old.kept thread.new.kept }
+    ensures few { reads thread.new.kept.history ≤ reads thread.old.kept.history + run_length (drop first thread.old.kept.pairs) }
+    ensures works { thread.new.failed ≡ false }
+    ensures errors { HasTold thread.old.kept thread.new.kept result }
+{
+    let mut spot = Spot { pair: first, id: 0 };
+    let mut pair = first;
+    loop {
+        let id = match find_in_pair(thread, pair, name, None)? {
+            SoughtInPair::Found(id, entry) => return Ok(Sought::Found(Spot { pair, id }, entry)),
+            SoughtInPair::Place(id) => id,
+        };
+        if pair == first || id > 0 {
+            spot = Spot { pair, id };
+        }
+        if usize::from(id) < thread.slot_count(pair) {
+            return Ok(Sought::Place(spot));
+        }
+        pair = match thread.next(pair) {
+            Some(next) => next,
+            None => return Ok(Sought::Place(spot)),
+        };
+    }
+}
+
+/// What a name stands for among the entries of the directory that begins with the pair of number
+/// `first`, where the slot `moved` counts as deleted: the one that a set move names (DESIGN.md of
+/// littlefs, "The move problem"). None where nothing has the name. Each pair of the directory is read
+/// at most once, and none where its block is at hand; the one that has the name is at hand then.
+///
+/// Errors as those of [`find_name`].
+pub fn find_shown<D: BlockDevice>(
+    thread: &mut Thread<D>,
+    first: usize,
+    name: &[u8],
+    moved: Option<Spot>,
+) -> Result<Option<(Spot, Entry)>, Error>
+    requires works { thread.old.failed ≡ false }
+    requires below { first < length thread.old.kept.pairs }
+    ensures answer { IfOk result (AnswersShown thread.old.kept.pairs moved first name.now) }
+    ensures at_hand { IfOk result (λ found. IfSome found (λ f. IsSome (at_hand thread.new f.0.pair))) }
+    ensures few { reads thread.new.kept.history ≤ reads thread.old.kept.history + run_length (drop first thread.old.kept.pairs) }
+    ensures brings { BringsAlong (joined_run (drop first thread.old.kept.pairs)) thread.old thread.new result }
+    ensures reading { IsReading thread.old thread.new result }
+{
+    let mut pair = first;
+    loop {
+        let skip = passed_in(moved, pair);
+        match find_in_pair(thread, pair, name, skip)? {
+            SoughtInPair::Found(id, entry) => return Ok(Some((Spot { pair, id }, entry))),
+            SoughtInPair::Place(_) => {}
+        }
+        pair = match thread.next(pair) {
+            Some(next) => next,
+            None => return Ok(None),
+        };
+    }
+}
+
+// The id that is passed over in a pair.
+fn passed_in(moved: Option<Spot>, pair: usize) -> Option<u16>
+    ensures { result ≡ passed_in moved pair }
+{
+    match moved {
+        Some(spot) if spot.pair == pair => Some(spot.id),
+        _ => None,
+    }
+}

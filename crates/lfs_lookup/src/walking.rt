@@ -1,0 +1,124 @@
+// All that stands beneath the root.
+
+ghost use Rattle.std.specs.Prelude.{◌≡◌, ◌++◌, ◌<◌, Some, IfOk, OnOk, false, length, reverse};
+ghost use Rattle.lfs_model.specs.Thread.{gstate_of};
+ghost use Rattle.lfs_model.specs.View.{IsAccepted};
+ghost use Rattle.lfs_tag.specs.FieldsSeen.{move_seen};
+ghost use Rattle.lfs_lookup.specs.Items.{item_seen, items_seen, structure_seen};
+ghost use Rattle.lfs_lookup.specs.Listed.{shapes_from};
+ghost use Rattle.lfs_lookup.specs.Reading.{IsReading};
+ghost use Rattle.lfs_lookup.specs.Walk.{ArePushed, BeginsIfBranch, IsWalked, addresses_in, beneath, found_seen, founds_seen, places_beneath};
+
+use crate::addresses::addresses_of;
+use crate::directory::entries_under;
+use crate::items::{Item, Structure};
+use lfs_device::{BlockDevice, Error};
+use lfs_mount::Places;
+use lfs_tag::MoveState;
+use lfs_thread::Thread;
+use std::alloc::{AllocError, Global};
+
+/// A file or a directory of the tree.
+#[derive(Drop)]
+pub struct TreeItem {
+    /// Its path from the root: a `/` in front of each name.
+    pub path: Vec<u8>,
+    /// What its entry says.
+    pub structure: Structure,
+}
+
+// What stands in the directory of a path.
+fn found_beneath(alloc: Global, path: &[u8], item: Item) -> Result<TreeItem, AllocError>
+    ensures { IfOk result (λ found. found_seen found ≡ beneath path.now (item_seen item)) }
+{
+    let mut below = Vec::from_slice(alloc, path)?;
+    below.push(b'/')?;
+    below.extend_from_slice(&item.name)?;
+    Ok(TreeItem {
+        path: below,
+        structure: item.structure,
+    })
+}
+
+// Puts the entries of the directory of a path on top, the first of them topmost.
+fn push_items(
+    alloc: Global,
+    pending: &mut Vec<TreeItem>,
+    path: &[u8],
+    mut items: Vec<Item>,
+) -> Result<(), AllocError>
+    ensures { OnOk result (founds_seen pending.new.items ≡ founds_seen pending.old.items ++ reverse (places_beneath path.now (items_seen items.items))) }
+{
+    while let Some(item) = items.pop() {
+        let found = found_beneath(alloc, path, item)?;
+        pending.push(found)?;
+    }
+    Ok(())
+}
+
+// Puts the entries on top of the directory that begins with the pair of number `first`.
+fn push_directory<D: BlockDevice>(
+    alloc: Global,
+    thread: &mut Thread<D>,
+    state: &MoveState,
+    first: usize,
+    path: &[u8],
+    pending: &mut Vec<TreeItem>,
+) -> Result<(), Error>
+    requires works { thread.old.failed ≡ false }
+    requires below { first < length thread.old.kept.pairs }
+    requires state { move_seen state.now ≡ gstate_of thread.old.kept.pairs }
+    ensures pushed { OnOk result (founds_seen pending.new.items ≡ founds_seen pending.old.items ++ reverse (places_beneath path.now (shapes_from thread.old.kept.pairs (Some first)))) }
+    ensures reading { IsReading thread.old thread.new result }
+{
+    let items = entries_under(alloc, thread, state, first)?;
+    push_items(alloc, pending, path, items)?;
+    Ok(())
+}
+
+// Puts what stands in a directory on top; a file has nothing beneath it.
+fn push_below<D: BlockDevice>(
+    alloc: Global,
+    thread: &mut Thread<D>,
+    addresses: &Places,
+    state: &MoveState,
+    found: &TreeItem,
+    pending: &mut Vec<TreeItem>,
+) -> Result<(), Error>
+    requires works { thread.old.failed ≡ false }
+    requires all { addresses.now ≡ addresses_in thread.old.kept.pairs }
+    requires begins { BeginsIfBranch thread.old.kept.pairs (structure_seen found.now.structure) }
+    requires state { move_seen state.now ≡ gstate_of thread.old.kept.pairs }
+    ensures pushed { OnOk result (ArePushed thread.old.kept.pairs (found_seen found.now) (founds_seen pending.old.items) (founds_seen pending.new.items)) }
+    ensures reading { IsReading thread.old thread.new result }
+{
+    if let Structure::Branch(to) = found.structure {
+        let first = addresses.find(to).unwrap() as usize;
+        push_directory(alloc, thread, state, first, &found.path, pending)?;
+    }
+    Ok(())
+}
+
+/// All that stands beneath the root, depth first and in name order: a directory comes before what
+/// stands beneath it, and that before the next name.
+///
+/// `Io` where a read failed, and `NoMemory` where the room for a block, its slots or what was found
+/// isn't granted.
+pub fn walk<D: BlockDevice>(alloc: Global, thread: &mut Thread<D>) -> Result<Vec<TreeItem>, Error>
+    requires works { thread.old.failed ≡ false }
+    requires accepted { IsAccepted thread.old.kept.disk thread.old.kept.pairs }
+    ensures walked { IfOk result (λ found. IsWalked thread.old.kept.disk thread.old.kept.pairs (founds_seen found.items)) }
+    ensures reading { IsReading thread.old thread.new result }
+{
+    let state = thread.state();
+    let addresses = addresses_of(alloc, thread)?;
+    let mut walked = Vec::new(alloc);
+    let mut pending = Vec::new(alloc);
+    // The root's entries: the superblock's pairs, which may stand in front of it, show nothing.
+    push_directory(alloc, thread, &state, 0, b"", &mut pending)?;
+    while let Some(found) = pending.pop() {
+        push_below(alloc, thread, &addresses, &state, &found, &mut pending)?;
+        walked.push(found)?;
+    }
+    Ok(walked)
+}

@@ -1,7 +1,0 @@
-use Rattle.std.proofs.Common.{◌≡◌, map, take}
-use Rattle.lfs_tag.specs.ContentSeen.{slot_seen}
-use Rattle.lfs_tree.specs.Items.{items_seen, shown_among}
-use Rattle.lfs_tree.proofs.items.items_among.Given as goal
-
-abbrev pub invariant-loop-slot : goal.invariant-loop-slot
-invariant-loop-slot l = items_seen l.items.items ≡ shown_among (map slot_seen (take l.slot-index l.slots))

@@ -80,8 +80,8 @@ short_copy (Some x) (Some v) e h = subst (λ b. length b ≤ 1022) (sym (same_So
 
 pub is_slot_of : (t : Kept) (path : Path) (x : Shown) (slot : Spot) → ShowsAt t path x → slot_shown x ≡ Some slot → (moved : Option Spot) × IsSlotOf t.pairs moved path slot
 is_slot_of t path shown.Root slot s e = absurd (cc)
-is_slot_of t path (shown.Directory at first) slot s e = (s.0, subst (λ z. IsSlotOf t.pairs s.0 path z) (same_Some at slot e) s.1.1.0)
-is_slot_of t path (shown.File at contents) slot s e = (s.0, subst (λ z. IsSlotOf t.pairs s.0 path z) (same_Some at slot e) s.1.1.0)
+is_slot_of t path (shown.Directory at first) slot s e = (s.moved, subst (λ z. IsSlotOf t.pairs s.moved path z) (same_Some at slot e) s.shows.1.0)
+is_slot_of t path (shown.File at contents) slot s e = (s.moved, subst (λ z. IsSlotOf t.pairs s.moved path z) (same_Some at slot e) s.shows.1.0)
 is_slot_of t path shown.Nothing slot s e = absurd (cc)
 is_slot_of t path shown.ParentIsFile slot s e = absurd (cc)
 is_slot_of t path shown.ParentIsMissing slot s e = absurd (cc)
@@ -113,12 +113,12 @@ slot_for t path x slot shows e =
     }
 
 pub no_slot : (t : Kept) (path : Path) (x : Shown) → ShowsAt t path x → slot_shown x ≡ None → attributes_of (tree_in t.disk t.pairs path) ≡ []
-no_slot t path shown.Root s e = ap (λ p. attributes_of (tree_in t.disk t.pairs p)) s.1
+no_slot t path shown.Root s e = ap (λ p. attributes_of (tree_in t.disk t.pairs p)) s.shows
 no_slot t path (shown.Directory at first) s e = absurd (cc)
 no_slot t path (shown.File at contents) s e = absurd (cc)
-no_slot t path shown.Nothing s e = ap attributes_of (nothing_at t.disk t.pairs path s.1.1)
-no_slot t path shown.ParentIsFile s e = ap attributes_of (nothing_at t.disk t.pairs path (refused_none t.disk t.pairs path [] ops.NotDir s.1))
-no_slot t path shown.ParentIsMissing s e = ap attributes_of (nothing_at t.disk t.pairs path (refused_none t.disk t.pairs path [] ops.NoEnt s.1))
+no_slot t path shown.Nothing s e = ap attributes_of (nothing_at t.disk t.pairs path s.shows.1)
+no_slot t path shown.ParentIsFile s e = ap attributes_of (nothing_at t.disk t.pairs path (refused_none t.disk t.pairs path [] ops.NotDir s.shows))
+no_slot t path shown.ParentIsMissing s e = ap attributes_of (nothing_at t.disk t.pairs path (refused_none t.disk t.pairs path [] ops.NoEnt s.shows))
 
 -- the attributes of what is shown at a path are those of its slot
 pub are_held : (t : Kept) (path : Path) (x : Shown) (slot : Option Spot) → ShowsAt t path x → slot ≡ slot_shown x → AreHeld t slot (attributes_of (tree_in t.disk t.pairs path))

@@ -154,22 +154,22 @@ module _ (t : Kept) (path : Path) (ok : IsAccepted t.disk t.pairs) where
   refused_bytes r h = ap bytes_at (nothing_at t.disk t.pairs path (refused_none t.disk t.pairs path [] r h))
 
   pub no_file : (x : Shown) → ShowsAt t path x → file_shown x ≡ None → bytes_at (tree_in t.disk t.pairs path) ≡ []
-  no_file shown.Root s e = ap (λ p. bytes_at (tree_in t.disk t.pairs p)) s.1
-  no_file (shown.Directory slot first) s e = directory_bytes s.1.1.1.at s.1.1.1.leads
+  no_file shown.Root s e = ap (λ p. bytes_at (tree_in t.disk t.pairs p)) s.shows
+  no_file (shown.Directory slot first) s e = directory_bytes s.shows.1.1.at s.shows.1.1.leads
   no_file (shown.File slot contents) s e = absurd (cc)
-  no_file shown.Nothing s e = ap bytes_at (nothing_at t.disk t.pairs path s.1.1)
-  no_file shown.ParentIsFile s e = refused_bytes ops.NotDir s.1
-  no_file shown.ParentIsMissing s e = refused_bytes ops.NoEnt s.1
+  no_file shown.Nothing s e = ap bytes_at (nothing_at t.disk t.pairs path s.shows.1)
+  no_file shown.ParentIsFile s e = refused_bytes ops.NotDir s.shows
+  no_file shown.ParentIsMissing s e = refused_bytes ops.NoEnt s.shows
 
 -- no file is there where none is found
 module _ (t : Kept) (path : Path) where
   pub not_file : (x : Shown) → ShowsAt t path x → file_shown x ≡ None → is_file (tree_in t.disk t.pairs path) ≡ false
-  not_file shown.Root s e = ap (λ p. is_file (tree_in t.disk t.pairs p)) s.1
-  not_file (shown.Directory slot first) s e = ap is_file (directory_at_path t.disk t.pairs path s.1.1.1.at s.1.1.1.leads).is
+  not_file shown.Root s e = ap (λ p. is_file (tree_in t.disk t.pairs p)) s.shows
+  not_file (shown.Directory slot first) s e = ap is_file (directory_at_path t.disk t.pairs path s.shows.1.1.at s.shows.1.1.leads).is
   not_file (shown.File slot contents) s e = absurd (cc)
-  not_file shown.Nothing s e = ap is_file (nothing_at t.disk t.pairs path s.1.1)
-  not_file shown.ParentIsFile s e = ap is_file (nothing_at t.disk t.pairs path (refused_none t.disk t.pairs path [] ops.NotDir s.1))
-  not_file shown.ParentIsMissing s e = ap is_file (nothing_at t.disk t.pairs path (refused_none t.disk t.pairs path [] ops.NoEnt s.1))
+  not_file shown.Nothing s e = ap is_file (nothing_at t.disk t.pairs path s.shows.1)
+  not_file shown.ParentIsFile s e = ap is_file (nothing_at t.disk t.pairs path (refused_none t.disk t.pairs path [] ops.NotDir s.shows))
+  not_file shown.ParentIsMissing s e = ap is_file (nothing_at t.disk t.pairs path (refused_none t.disk t.pairs path [] ops.NoEnt s.shows))
 
 -- an entry of the writing profile has few bytes in its slot
 inline_within : (disk : Disk) (ps : List Pair) (first : ℕ) (name : Name) (index id : ℕ) (s : Stands ps first name index id) → IsWritable disk ps → HasInline (inline_limit disk.block_size) s.stands.slot.struct
@@ -192,8 +192,9 @@ pub record IsFileOf (t : Kept) (path : Path) (slot : Spot) (contents : Contents)
 
 pub file_of_path : (t : Kept) (path : Path) (x : Shown) (slot : Spot) (contents : Contents) → IsAccepted t.disk t.pairs → ShowsAt t path x → file_shown x ≡ Some (slot, contents) → IsFileOf t path slot contents
 file_of_path t path x slot contents ok shows e =
-    let (moved, (h, (s, k))) = subst (λ z. ShowsAt t path z) (is_file_of x slot contents e) shows in
-    let file = file_stands t path ok moved slot contents s k in
+    let found = subst (λ z. ShowsAt t path z) (is_file_of x slot contents e) shows in
+    let (h, (s, k)) = found.shows in
+    let file = file_stands t path ok found.moved slot contents s k in
     record {
       held = s.stands.stands.slot;
       file = file;

@@ -1,9 +1,10 @@
 -- What a look-up says of what is shown at a path.
-use Rattle.std.proofs.Common.{ℕ, ◌≡◌, ◌<◌, ◌≤◌, ◌+◌, ◌∙◌, Bool, nat_lt, List, [], ◌∷◌, ◌++◌, length, drop, map, Option, Some, None, option_map, sym, ap, subst, arith}
-use Rattle.std.specs.Prelude.{IfSome, sum_by}
+use Rattle.std.proofs.Common.{ℕ, ◌≡◌, ◌<◌, ◌≤◌, ◌+◌, ◌∙◌, Bool, nat_lt, List, [], ◌∷◌, ◌++◌, length, drop, map, Option, Some, None, Ok, Err, option_map, sym, ap, subst, arith}
+use Rattle.std.specs.Prelude.{IfOk, IfSome, Result, sum_by}
 use Rattle.std.proofs.lemmas.List.{length-map}
 use Rattle.std.proofs.lemmas.List.Sums.{sum_by-append, sum_by-cons}
 use Rattle.lfs_device.specs.Bytes.{HasBytes}
+use Rattle.lfs_device.specs.declared.error.Error.{Error}
 use Rattle.lfs_model.specs.Discipline.{pairs_of_path, parents}
 use Rattle.lfs_model.specs.Effects.{items_in, size_of}
 use Rattle.lfs_model.specs.InDirectory.{run_length}
@@ -11,8 +12,8 @@ use Rattle.lfs_model.specs.Names.{Name}
 use Rattle.lfs_model.specs.Operations as ops
 use Rattle.lfs_model.specs.Session.{parent_fault}
 use Rattle.lfs_model.specs.SlotEdits.{slot_of_path}
-use Rattle.lfs_model.specs.Slots.{Slot, Struct}
-use Rattle.lfs_model.specs.Thread.{Pair, superblocks_before}
+use Rattle.lfs_model.specs.Slots.{Gstate, Slot, Struct}
+use Rattle.lfs_model.specs.Thread.{Pair, gstate_of, superblocks_before}
 use Rattle.lfs_model.specs.Tree.{Path, names_at, node_of}
 use Rattle.lfs_model.specs.TreeEdits.{names_of}
 use Rattle.lfs_model.specs.View.{IsAccepted}
@@ -25,13 +26,15 @@ use Rattle.lfs_lookup.specs.Finds.{Finds, has_names}
 use Rattle.lfs_lookup.specs.Items.{Shape, shape_of}
 use Rattle.lfs_lookup.specs.ListAt.{AreShort, item_listed}
 use Rattle.lfs_lookup.specs.Listed.{length_from, shapes_from}
-use Rattle.lfs_lookup.specs.Paths.{BeginsOnPath}
+use Rattle.lfs_lookup.specs.Paths.{BeginsOnPath, ShowsTo}
+use Rattle.lfs_lookup.specs.Search.{HidesFrom}
 use Rattle.lfs_lookup.specs.declared.entry.Contents.{Contents}
 use Rattle.lfs_lookup.specs.declared.entry.Contents.TheVariants as contents
 use Rattle.lfs_lookup.specs.declared.finding.Finding.{Finding}
 use Rattle.lfs_lookup.specs.declared.finding.Node.TheVariants as node
 use Rattle.lfs_lookup.specs.declared.paths.Shown.{Shown}
 use Rattle.lfs_lookup.specs.declared.paths.Shown.TheVariants as shown
+use Rattle.lfs_lookup.specs.declared.search.Spot.{Spot}
 use Rattle.lfs_lookup.proofs.AtPaths.{SizedLists, directory_at_path, file_at, finds_directory, finds_nothing, nothing_at, refused_at, refused_none}
 use Rattle.lfs_lookup.proofs.Directories.{own_shapes, within}
 use Rattle.lfs_lookup.proofs.ListAtItems.{listed_there, short_there}
@@ -46,11 +49,20 @@ IsFirstAt t path None = names_of (tree_in t.disk t.pairs path) ≡ []
 pub few_own : (f : Path → ℕ) (path : Path) → sum_by f (parents path ++ path ∷ []) ≡ sum_by f (parents path) + f path
 few_own f path = let a = sum_by-append f (parents path) (path ∷ []) in let b = sum_by-cons f path [] in omega (arith, a, b)
 
+-- what is shown where that slot counts as deleted which the global state names
+pub shows_at : (t : Kept) (names path : Path) (g : Gstate) (moved : Option Spot) (r : Result Shown Error) → names ≡ path → g ≡ gstate_of t.pairs → HidesFrom g moved 0 t.pairs → IfOk r (ShowsTo t moved names) → IfOk r (ShowsAt t path)
+shows_at t names path g moved (Ok x) e is hides shows = record {
+  moved = moved;
+  hides = subst (λ (z : Gstate). HidesFrom z moved 0 t.pairs) is hides;
+  shows = subst (λ p. ShowsTo t moved p x) e shows;
+}
+shows_at t names path g moved (Err x) e is hides shows = tt
+
 -- inline bytes stand in the entry
 pub in_entry : (t : Kept) (path : Path) (s : Shown) → ShowsAt t path s → IsInEntryIfFile s
 in_entry t path shown.Root h = tt
 in_entry t path (shown.Directory spot first) h = tt
-in_entry t path (shown.File spot (contents.Inline len)) (moved, (fault, (s, (bytes, (is, (l, short)))))) = short
+in_entry t path (shown.File spot (contents.Inline len)) h = let (fault, (s, (bytes, (is, (l, short))))) = h.shows in short
 in_entry t path (shown.File spot (contents.List head size)) h = tt
 in_entry t path shown.Nothing h = tt
 in_entry t path shown.ParentIsFile h = tt
@@ -65,14 +77,14 @@ module _ (t : Kept) (path : Path) (ok : IsAccepted t.disk t.pairs) where
       subst (λ z. Finds (tree_in t.disk t.pairs) path z) (sym k) (finds_directory (tree_in t.disk t.pairs) path d.attributes (names_at (entries_in t.pairs) on.at) d.is h)
 
   pub found_shown : (root : ℕ) (s : Shown) (f : Finding) → root ≡ superblocks_before t.pairs → SizedLists t.disk → ShowsAt t path s → f ≡ finding_of s → Finds (tree_in t.disk t.pairs) path f
-  found_shown root shown.Root f r sized (moved, e) k =
-      found_begun root f (subst (λ (p : Path). BeginsOnPath t.pairs p root) (sym e) (root_leads t.disk t.pairs root ok r)) (ap (parent_fault (tree_in t.disk t.pairs) []) e) k
-  found_shown root (shown.Directory spot first) f r sized (moved, (h, (s, on))) k = found_begun first f on h k
-  found_shown root (shown.File spot contents) f r sized (moved, s) k = file_at t path ok moved spot contents f s sized k
-  found_shown root shown.Nothing f r sized (moved, (h, e)) k =
-      subst (λ z. Finds (tree_in t.disk t.pairs) path z) (sym k) (finds_nothing (tree_in t.disk t.pairs) path None (nothing_at t.disk t.pairs path e) h)
-  found_shown root shown.ParentIsFile f r sized (moved, h) k = refused_at t path ok ops.NotDir f h k
-  found_shown root shown.ParentIsMissing f r sized (moved, h) k = refused_at t path ok ops.NoEnt f h k
+  found_shown root shown.Root f r sized s k =
+      found_begun root f (subst (λ (p : Path). BeginsOnPath t.pairs p root) (sym s.shows) (root_leads t.disk t.pairs root ok r)) (ap (parent_fault (tree_in t.disk t.pairs) []) s.shows) k
+  found_shown root (shown.Directory spot first) f r sized s k = found_begun first f s.shows.1.1 s.shows.0 k
+  found_shown root (shown.File spot contents) f r sized s k = file_at t path ok s.moved spot contents f s.shows sized k
+  found_shown root shown.Nothing f r sized s k =
+      subst (λ z. Finds (tree_in t.disk t.pairs) path z) (sym k) (finds_nothing (tree_in t.disk t.pairs) path None (nothing_at t.disk t.pairs path s.shows.1) s.shows.0)
+  found_shown root shown.ParentIsFile f r sized s k = refused_at t path ok ops.NotDir f s.shows k
+  found_shown root shown.ParentIsMissing f r sized s k = refused_at t path ok ops.NoEnt f s.shows k
 
   -- ---- the first pair of a directory
 
@@ -85,12 +97,12 @@ module _ (t : Kept) (path : Path) (ok : IsAccepted t.disk t.pairs) where
       ∙ ap (λ (z : Struct). names_of (Some (node_of (contents_in t.disk) (entries_in t.pairs) x.attributes z))) k
 
   first_is : (root : ℕ) (s : Shown) → root ≡ superblocks_before t.pairs → ShowsAt t path s → IsFirstAt t path (first_shown root s)
-  first_is root shown.Root r (moved, e) = subst (λ (p : Path). BeginsOnPath t.pairs p root) (sym e) (root_leads t.disk t.pairs root ok r)
-  first_is root (shown.Directory spot first) r (moved, (h, (s, on))) = on
-  first_is root (shown.File spot contents) r (moved, (h, (s, k))) = nameless s.stands.stands.slot contents s.slot k
-  first_is root shown.Nothing r (moved, (h, e)) = ap names_of (nothing_at t.disk t.pairs path e)
-  first_is root shown.ParentIsFile r (moved, h) = ap names_of (nothing_at t.disk t.pairs path (refused_none t.disk t.pairs path [] ops.NotDir h))
-  first_is root shown.ParentIsMissing r (moved, h) = ap names_of (nothing_at t.disk t.pairs path (refused_none t.disk t.pairs path [] ops.NoEnt h))
+  first_is root shown.Root r s = subst (λ (p : Path). BeginsOnPath t.pairs p root) (sym s.shows) (root_leads t.disk t.pairs root ok r)
+  first_is root (shown.Directory spot first) r s = s.shows.1.1
+  first_is root (shown.File spot contents) r s = let (h, (at, k)) = s.shows in nameless at.stands.stands.slot contents at.slot k
+  first_is root shown.Nothing r s = ap names_of (nothing_at t.disk t.pairs path s.shows.1)
+  first_is root shown.ParentIsFile r s = ap names_of (nothing_at t.disk t.pairs path (refused_none t.disk t.pairs path [] ops.NotDir s.shows))
+  first_is root shown.ParentIsMissing r s = ap names_of (nothing_at t.disk t.pairs path (refused_none t.disk t.pairs path [] ops.NoEnt s.shows))
 
   pub first_at : (root : ℕ) (s : Shown) (from : Option ℕ) → root ≡ superblocks_before t.pairs → ShowsAt t path s → from ≡ first_shown root s → IsFirstAt t path from
   first_at root s from r h e = subst (IsFirstAt t path) (sym e) (first_is root s r h)

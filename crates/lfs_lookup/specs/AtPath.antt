@@ -1,10 +1,11 @@
 -- What a path leads to, as it is found.
 use Rattle.std.specs.Prelude.{ℕ, ◌≡◌, ◌<◌, nat_lt, List, length, Option, Some, None, Bool}
-use Rattle.lfs_model.specs.Thread.{Pair}
+use Rattle.lfs_model.specs.Thread.{Pair, gstate_of}
 use Rattle.lfs_model.specs.Tree.{Path}
 use Rattle.lfs_thread.specs.Kept.{Kept}
 use Rattle.lfs_lookup.specs.Listed.{shapes_from}
 use Rattle.lfs_lookup.specs.Paths.{ShowsTo}
+use Rattle.lfs_lookup.specs.Search.{HidesFrom}
 use Rattle.lfs_lookup.specs.declared.entry.Contents.{Contents}
 use Rattle.lfs_lookup.specs.declared.entry.Contents.TheVariants as contents
 use Rattle.lfs_lookup.specs.declared.finding.Finding.{Finding}
@@ -14,9 +15,11 @@ use Rattle.lfs_lookup.specs.declared.paths.Shown.{Shown}
 use Rattle.lfs_lookup.specs.declared.paths.Shown.TheVariants as shown
 use Rattle.lfs_lookup.specs.declared.search.Spot.{Spot}
 
--- where the slot that a set move names counts as deleted
-abbrev pub ShowsAt : Kept → Path → Shown → Type 0
-ShowsAt t path shown = (moved : Option Spot) × ShowsTo t moved path shown
+-- where the slot that a set move names counts as deleted, and no other
+pub record ShowsAt (t : Kept) (path : Path) (shown : Shown) : Type 0 where
+  pub moved : Option Spot
+  pub hides : HidesFrom (gstate_of t.pairs) moved 0 t.pairs
+  pub shows : ShowsTo t moved path shown
 
 -- whether something stands in the directory that begins with the pair of that number, if there is one
 abbrev pub has_entries_from : List Pair → Option ℕ → Bool

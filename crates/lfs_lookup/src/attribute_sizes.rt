@@ -1,15 +1,18 @@
 // How much of its pair the attributes of what stands at a path take.
 
-ghost use Rattle.std.specs.Prelude.{◌≡◌, ◌<◌, IfErr, IfOk, Some, false, length, map, slice_get};
+ghost use Rattle.std.specs.Prelude.{◌≡◌, ◌≤◌, ◌<◌, ◌+◌, IfErr, IfOk, IsSome, Some, false, length, map, slice_get, sum_by};
 ghost use Rattle.lfs_model.specs.TreeEdits.{attributes_of};
 ghost use Rattle.lfs_model.specs.Content.{slot_of_id};
+ghost use Rattle.lfs_model.specs.Discipline.{pairs_of_path, parents};
+ghost use Rattle.lfs_model.specs.History.{reads};
 ghost use Rattle.lfs_model.specs.LoggedContent.{Ascend, HaveParts};
 ghost use Rattle.lfs_model.specs.Slots.{Content as ModelContent, Slot as ModelSlot, attributes_size};
 ghost use Rattle.lfs_model.specs.Thread.{superblocks_before};
 ghost use Rattle.lfs_model.specs.View.{IsAccepted};
 ghost use Rattle.lfs_model.specs.Shown.{tree_in};
 ghost use Rattle.lfs_tag.specs.ContentSeen.{attribute_seen, slot_seen};
-ghost use Rattle.lfs_thread.specs.Lent.{IsBlockOf};
+ghost use Rattle.lfs_thread.specs.Lent.{IsBlockOf, at_hand};
+ghost use Rattle.lfs_lookup.specs.AtHand.{AreOnHand};
 ghost use Rattle.lfs_lookup.specs.AttributeAt.{IsAttributesSize};
 ghost use Rattle.lfs_lookup.specs.BytesAt.{IsSlotAt};
 ghost use Rattle.lfs_lookup.specs.Reading.{IsReading};
@@ -57,7 +60,7 @@ fn size_in_block(alloc: Global, block: &[u8], id: u16) -> Result<usize, Error>
     Ok(size_in_slot(&content.slots, id))
 }
 
-// The same of a slot.
+// The same of a slot whose block is at hand.
 fn size_of_slot<D: BlockDevice>(
     alloc: Global,
     thread: &mut Thread<D>,
@@ -65,15 +68,18 @@ fn size_of_slot<D: BlockDevice>(
 ) -> Result<usize, Error>
     requires works { thread.old.failed ≡ false }
     requires below { slot.pair < length thread.old.kept.pairs }
+    requires at_hand { IsSome (at_hand thread.old slot.pair) }
     ensures is { (held : ModelSlot) → IsSlotAt thread.old.kept slot held → IfOk result (IsAttributesSize held.attributes) }
+    ensures no_call { thread.new.kept ≡ thread.old.kept }
     ensures reading { IsReading thread.old thread.new result }
 {
     thread.bring(slot.pair)?;
     size_in_block(alloc, thread.lend(slot.pair).unwrap(), slot.id)
 }
 
-/// How many bytes the attributes of what stands at a path take in its pair, the tag of each included.
-/// Nothing where nothing stands, and for the root.
+/// How many bytes the attributes of what stands at a path take in its pair, the tag of each included:
+/// 0 where nothing stands there, and for the root. No more reads than the directories above the path
+/// have pairs, and none where all these pairs are at hand.
 ///
 /// `root` is the number of the root directory's first pair. `Io` where a read failed, and `NoMemory`
 /// where room isn't granted.
@@ -87,6 +93,8 @@ pub fn attributes_size_at<D: BlockDevice>(
     requires accepted { IsAccepted thread.old.kept.disk thread.old.kept.pairs }
     requires root { root ≡ superblocks_before thread.old.kept.pairs }
     ensures is { IfOk result (IsAttributesSize (attributes_of (tree_in thread.old.kept.disk thread.old.kept.pairs path.now))) }
+    ensures few { reads thread.new.kept.history ≤ reads thread.old.kept.history + sum_by (pairs_of_path thread.old.kept.pairs) (parents path.now) }
+    ensures kept { AreOnHand thread.old (parents path.now) → reads thread.new.kept.history ≡ reads thread.old.kept.history }
     ensures reading { IsReading thread.old thread.new result }
 {
     let shown = shown_at(alloc, thread, root, path)?;

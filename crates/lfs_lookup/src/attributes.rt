@@ -123,8 +123,9 @@ fn attribute_held<D: BlockDevice>(
     }
 }
 
-/// What a path leads to, and its attribute of a kind, if it has one. Nothing is read that is at hand,
-/// and else no more pairs than the directories above the path have.
+/// What a path leads to, and its attribute of a kind, if it has one, of 1,022 bytes at most; the root
+/// has none. No more reads than the directories above the path have pairs, and none where all these
+/// pairs are at hand.
 ///
 /// `root` is the number of the root directory's first pair. `Io` where a read failed, and `NoMemory`
 /// where room isn't granted.

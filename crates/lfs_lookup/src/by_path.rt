@@ -1,6 +1,6 @@
 // What paths lead to, in a thread.
 
-ghost use Rattle.std.specs.Prelude.{◌≡◌, ◌≤◌, ◌+◌, IfOk, None, false, sum_by};
+ghost use Rattle.std.specs.Prelude.{◌≡◌, ◌≤◌, ◌+◌, ◌++◌, [], ◌∷◌, IfOk, None, false, sum_by};
 ghost use Rattle.lfs_model.specs.Discipline.{pairs_of_path, parents};
 ghost use Rattle.lfs_model.specs.History.{reads};
 ghost use Rattle.lfs_model.specs.Thread.{superblocks_before};
@@ -23,8 +23,9 @@ use lfs_device::{BlockDevice, Error};
 use lfs_thread::Thread;
 use std::alloc::Global;
 
-/// What a path leads to, where the slot that a set move names counts as deleted. No more reads than
-/// the directories above the path have pairs.
+/// What a path leads to, where a slot may count as deleted, as the one does that a set move names
+/// (DESIGN.md of littlefs, "The move problem"). No more reads than the directories above the path have
+/// pairs, and none where all these pairs are at hand; that of a slot that is found is at hand then.
 ///
 /// `root` is the number of the root directory's first pair. `Io` where a read failed, and `NoMemory`
 /// where room isn't granted.
@@ -119,8 +120,9 @@ pub(crate) fn first_of(root: usize, shown: Shown) -> Option<usize>
     }
 }
 
-/// What a path leads to: a file with its size, a directory, or nothing, and then why. Nothing is read
-/// that is at hand, and else no more pairs than the directories above the path have.
+/// What a path leads to: a file with its size, a directory, or nothing; and by what it is refused, if
+/// one of the directories above it isn't there or isn't one. No more reads than these directories
+/// have pairs, and none where all these pairs are at hand.
 ///
 /// `root` is the number of the root directory's first pair. `Io` where a read failed, and `NoMemory`
 /// where room isn't granted.
@@ -144,7 +146,8 @@ pub fn find_at<D: BlockDevice>(
     Ok(finding_of(shown))
 }
 
-/// What a path leads to, and whether it is a directory that has entries.
+/// What a path leads to, and whether it is a directory that has entries. No more reads than the
+/// directories above the path and the one at it have pairs.
 ///
 /// `root` is the number of the root directory's first pair. `Io` where a read failed, and `NoMemory`
 /// where room isn't granted.
@@ -159,6 +162,7 @@ pub fn look_inside_at<D: BlockDevice>(
     requires root { root ≡ superblocks_before thread.old.kept.pairs }
     ensures found { IfOk result (λ inside. Finds (tree_in thread.old.kept.disk thread.old.kept.pairs) path.now inside.finding) }
     ensures has { IfOk result (λ inside. inside.has_entries ≡ has_names (tree_in thread.old.kept.disk thread.old.kept.pairs) path.now) }
+    ensures few { reads thread.new.kept.history ≤ reads thread.old.kept.history + sum_by (pairs_of_path thread.old.kept.pairs) (parents path.now ++ path.now ∷ []) }
     ensures reading { IsReading thread.old thread.new result }
 {
     let shown = shown_at(alloc, thread, root, path)?;

@@ -1,8 +1,9 @@
 // The bytes of the file at a path.
 
-ghost use Rattle.std.specs.Prelude.{◌≡◌, ◌<◌, ◌+◌, ◌^◌, List, ℕ, IfOk, IfErr, Some, drop, false, length, slice_get, take};
+ghost use Rattle.std.specs.Prelude.{◌≡◌, ◌≤◌, ◌<◌, ◌+◌, ◌^◌, List, ℕ, IfOk, IfErr, Some, drop, false, length, slice_get, take};
 ghost use Rattle.std.specs.Option.{option_copied};
 ghost use Rattle.lfs_model.specs.TreeEdits.{bytes_at};
+ghost use Rattle.lfs_model.specs.History.{reads};
 ghost use Rattle.lfs_model.specs.SkipLists.{IsList};
 ghost use Rattle.lfs_model.specs.Slots.{Content as ModelContent, Inline, Slot};
 ghost use Rattle.lfs_model.specs.Thread.{superblocks_before};
@@ -64,7 +65,8 @@ fn copied_in_block(
     Ok(copied_from(alloc, bytes, position, count)?)
 }
 
-/// Some of the bytes that stand in a slot: so many from a position on, or up to their end.
+/// Some of the bytes that stand in a slot whose struct is an inline one: so many from a position on,
+/// or up to their end. One read at most.
 ///
 /// `Io` where a read failed, and `NoMemory` where room isn't granted.
 pub fn inline_at<D: BlockDevice>(
@@ -77,6 +79,7 @@ pub fn inline_at<D: BlockDevice>(
     requires works { thread.old.failed ≡ false }
     requires below { slot.pair < length thread.old.kept.pairs }
     ensures bytes { (held : Slot) (bytes : List ℕ) → IsSlotAt thread.old.kept slot held → held.struct ≡ Inline bytes → IfOk result (λ v. v.items ≡ take count (drop position bytes)) }
+    ensures few { reads thread.new.kept.history ≤ reads thread.old.kept.history + 1 }
     ensures reading { IsReading thread.old thread.new result }
 {
     thread.bring(slot.pair)?;
@@ -139,7 +142,9 @@ pub fn file_of(shown: Shown) -> Option<(Spot, Contents)>
     }
 }
 
-/// The bytes of the file at a path, from a position on, so many at most. None where no file stands.
+/// The bytes of the file at a path from a position on: so many, or up to their end. No bytes where no
+/// file stands there. The position and how many they are come to less than 2^32. How many reads it
+/// takes isn't said.
 ///
 /// `root` is the number of the root directory's first pair. `Io` where a read failed, and `NoMemory`
 /// where room isn't granted.

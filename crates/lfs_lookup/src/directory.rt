@@ -72,7 +72,9 @@ pub fn items_of<D: BlockDevice>(
     items_under(alloc, thread, &state, index)
 }
 
-/// The entries of a directory, whose first pair has that number, where that is the global state.
+/// The entries of the directory that begins with the pair of that number, where `state` is the
+/// thread's global state. No more reads than the directory has pairs, and none where all these are at
+/// hand.
 ///
 /// `Io` where a read failed, and `NoMemory` where room isn't granted.
 pub fn entries_under<D: BlockDevice>(
@@ -99,9 +101,10 @@ pub fn entries_under<D: BlockDevice>(
     Ok(items)
 }
 
-/// The entries of the directory that begins with the pair of number `first`, in name order: those of
-/// its pairs in turn, which hard tails join (SPEC.md of littlefs, "0x601 LFS_TYPE_HARDTAIL"). Each of
-/// them is read at most once.
+/// The entries of the directory that begins with the pair of number `first`: those of its pairs in
+/// turn, which hard tails join (SPEC.md of littlefs, "0x601 LFS_TYPE_HARDTAIL"), so in name order
+/// where the image is accepted. No more reads than these pairs are, and none where all of them are at
+/// hand.
 ///
 /// Errors as those of [`items_of`].
 pub fn entries<D: BlockDevice>(

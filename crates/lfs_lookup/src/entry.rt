@@ -27,8 +27,8 @@ pub enum Entry {
     Directory([u32; 2]),
 }
 
-/// What a struct says: where a file's bytes stand, or where a directory's first pair does (SPEC.md of
-/// littlefs, "0x2xx LFS_TYPE_STRUCT").
+/// What a slot's struct says: where a file's bytes stand, or where a directory's first pair does
+/// (SPEC.md of littlefs, "0x2xx LFS_TYPE_STRUCT").
 pub fn entry_of(structure: &Part<'_>) -> Entry
     requires { IsPart 2 (part_seen structure.now) }
     ensures { Shows result (struct_typed structure.now.kind structure.now.bytes.now) }

@@ -58,8 +58,9 @@ fn listed_items(alloc: Global, items: Vec<Item>) -> Result<Vec<ListItem>, AllocE
     Ok(listed)
 }
 
-/// What a path leads to, and what stands in the directory at it, in name order. Nothing is read that is
-/// at hand, and else no more pairs than the directories above the path have, and that one.
+/// What a path leads to, and what stands in the directory at it, in name order; no items where none
+/// is there. No more reads than the directories above the path and the one at it have pairs, and
+/// none where all these pairs are at hand.
 ///
 /// `root` is the number of the root directory's first pair. `Io` where a read failed, and `NoMemory`
 /// where room isn't granted.

@@ -149,7 +149,7 @@ fn enter<D: BlockDevice>(
 
 /// Goes down a path of directories from the root, which begins with the pair of number `root`, by
 /// the names of its components, where the slot `moved` counts as deleted. It stops at the first
-/// component that is no directory. Each pair of the directories on the way is read at most once.
+/// component that is no directory. No more reads than the directories above the last one have pairs.
 ///
 /// Errors as those of [`find_name`](crate::find_name).
 pub fn find_directory<D: BlockDevice>(
@@ -213,8 +213,7 @@ fn look_in<D: BlockDevice>(
 }
 
 /// What a path leads to, by the names of its components, from the root down; the root begins with
-/// the pair of number `root`. Each pair of the directories above it is read at most once, and none
-/// of which the block is at hand.
+/// the pair of number `root`. No more reads than the directories above it have pairs.
 ///
 /// Errors as those of [`find_name`](crate::find_name).
 pub fn look_up<D: BlockDevice>(

@@ -53,7 +53,7 @@ fn fits_entry(
         && (structure.kind != INLINE_STRUCT || structure.bytes.len() <= limit as usize)
 }
 
-// Whether a superblock has the limits that `format` writes.
+// Whether a superblock has the limits that a fresh image has.
 fn has_written_limits(structure: &Part<'_>) -> bool
     requires { length structure.now.bytes.now ≡ 24 }
     ensures { IsTrue result ↔ (((superblock_at structure.now.bytes.now).name_max ≡ 255) × ((superblock_at structure.now.bytes.now).file_max ≡ file_limit) × ((superblock_at structure.now.bytes.now).attr_max ≡ 1022)) }
@@ -142,7 +142,7 @@ fn fits_at<D: BlockDevice>(
 }
 
 /// Whether a pair goes on with the directory of the one in front of it. Those up to the root's first
-/// one don't.
+/// one, whose number is `root`, don't.
 pub fn follows_at<D: BlockDevice>(thread: &Thread<D>, root: usize, index: usize) -> bool
     requires works { thread.now.failed ≡ false }
     requires below { index < length thread.now.kept.pairs }
@@ -153,12 +153,12 @@ pub fn follows_at<D: BlockDevice>(thread: &Thread<D>, root: usize, index: usize)
 
 /// Whether an image keeps within what this library writes, so that it may be changed: each pair has
 /// at most a thousand slots, whose bytes it could hold after a compaction; each superblock has the
-/// limits that a fresh image has; each entry, with any contents that may stand in
-/// it, takes at most half of that room, and a file's contents stand in it up to an eighth of a
-/// block only; and no pair but the first of a directory is without slots.
+/// limits that a fresh image has; each entry, with any contents that may stand in it, takes at most
+/// half of that room, and a file's contents stand in it up to an eighth of a block only; and no pair
+/// but the first of a directory is without slots.
 ///
-/// `root` is the number of the root directory's first pair. Each pair is read at most once. `Io`
-/// where a read failed, and `NoMemory` where the room for a block and its slots isn't granted.
+/// `root` is the number of the root directory's first pair. `Io` where a read failed, and `NoMemory`
+/// where the room for a block and its slots isn't granted.
 pub fn is_writable<D: BlockDevice>(
     alloc: Global,
     thread: &mut Thread<D>,

@@ -1,7 +1,8 @@
 // Where the root directory begins.
 
-ghost use Rattle.std.specs.Prelude.{◌≡◌, ◌+◌, ◌<◌, false, true, length, IfErr, IfOk};
+ghost use Rattle.std.specs.Prelude.{◌≡◌, ◌≤◌, ◌+◌, ◌<◌, false, true, length, IfErr, IfOk};
 ghost use Rattle.lfs_model.specs.Content.{complete};
+ghost use Rattle.lfs_model.specs.History.{reads};
 ghost use Rattle.lfs_model.specs.Slots.{Content as ModelContent, Slot as ModelSlot, is_superblock};
 ghost use Rattle.lfs_model.specs.Thread.{starts_with_superblock, superblocks_before};
 ghost use Rattle.lfs_model.specs.View.{IsAccepted};
@@ -49,6 +50,7 @@ fn goes_on<D: BlockDevice>(
     requires below { index < length thread.old.kept.pairs }
     ensures is { IfOk result (λ b. b ≡ goes_on thread.old.kept index) }
     ensures below { IfOk result (λ b. b ≡ true → index + 1 < length thread.old.kept.pairs) }
+    ensures few { reads thread.new.kept.history ≤ reads thread.old.kept.history + 1 }
     ensures reading { IsReading thread.old thread.new result }
 {
     if thread.slot_count(index) != 1 {
@@ -62,14 +64,15 @@ fn goes_on<D: BlockDevice>(
 }
 
 /// The number of the root directory's first pair: the last one of the superblock's (SPEC.md of
-/// littlefs, "0x0ff LFS_TYPE_SUPERBLOCK"). Where the thread has no superblock pair in front of it
-/// nothing is read.
+/// littlefs, "0x0ff LFS_TYPE_SUPERBLOCK"). One read more at most than there are pairs in front of it,
+/// and none where the first pair has more slots than the superblock, or no hard tail.
 ///
 /// `Io` where a read failed, and `NoMemory` where the room for a block and its slots isn't granted.
 pub fn find_root<D: BlockDevice>(alloc: Global, thread: &mut Thread<D>) -> Result<usize, Error>
     requires works { thread.old.failed ≡ false }
     requires accepted { IsAccepted thread.old.kept.disk thread.old.kept.pairs }
     ensures root { IfOk result (λ root. root ≡ superblocks_before thread.old.kept.pairs) }
+    ensures few { IfOk result (λ root. reads thread.new.kept.history ≤ reads thread.old.kept.history + root + 1) }
     ensures reading { IsReading thread.old thread.new result }
 {
     for root in 0..thread.len() {

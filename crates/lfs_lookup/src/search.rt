@@ -77,7 +77,7 @@ fn find_in_pair<D: BlockDevice>(
 /// Where a name stands among the entries of the directory that begins with the pair of number
 /// `first`, or where it belongs. A set move isn't heeded; [`find_shown`] heeds it. A directory goes
 /// on along the hard tails (SPEC.md of littlefs, "0x601 LFS_TYPE_HARDTAIL"), and its entries are
-/// sorted by name. Each of its pairs is read at most once, and none where its block is at hand.
+/// sorted by name. No more reads than it has pairs.
 ///
 /// `Io` where a read failed, and `NoMemory` where the room for a block isn't granted. The thread
 /// works on after either.
@@ -117,8 +117,8 @@ pub fn find_name<D: BlockDevice>(
 
 /// What a name stands for among the entries of the directory that begins with the pair of number
 /// `first`, where the slot `moved` counts as deleted: the one that a set move names (DESIGN.md of
-/// littlefs, "The move problem"). None where nothing has the name. Each pair of the directory is read
-/// at most once, and none where its block is at hand; the one that has the name is at hand then.
+/// littlefs, "The move problem"). None where nothing has the name. No more reads than the directory
+/// has pairs, and none where all of them are at hand; the one that has the name is at hand then.
 ///
 /// Errors as those of [`find_name`].
 pub fn find_shown<D: BlockDevice>(

@@ -1,4 +1,5 @@
-//! A mounted image: format and mount, the calls that take a path, and the contents of open writers beside it.
+//! A mounted image: format and mount, the calls that take a path, recovery among them, and the
+//! contents of open writers beside it. Paths, and what the calls answer, are of `lfs_lookup`.
 #![tactic(auto)]
 
 mod carrying;

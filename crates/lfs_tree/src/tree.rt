@@ -233,7 +233,8 @@ impl<D: BlockDevice> Tree<D> {
         found
     }
 
-    /// What a path leads to, and whether it is a directory that has entries.
+    /// What a path leads to, and whether it is a directory that has entries. No more reads than the
+    /// directories above it, and the one at it, have pairs.
     ///
     /// `Io` where a read failed, and `NoMemory` where memory isn't granted. It has failed then.
     pub fn look_inside(&mut self, alloc: Global, path: &Path<'_>) -> Result<Inside, Error>
@@ -241,6 +242,7 @@ impl<D: BlockDevice> Tree<D> {
         ensures asked { OnOk result (IsAsked self.old self.new) }
         ensures found { IfOk result (λ inside. Finds (tree_seen self.old) path.now inside.finding) }
         ensures has { IfOk result (λ inside. inside.has_entries ≡ has_names (tree_seen self.old) path.now) }
+        ensures few { reads self.new.history ≤ reads self.old.history + sum_by (pairs_of_path self.old.pairs) (parents path.now ++ path.now ∷ []) }
         ensures broken { OnErr result (IsBrokenAsking self.old self.new) }
         ensures errors { IfErr result (IsError self.old self.new) }
     {
@@ -252,7 +254,7 @@ impl<D: BlockDevice> Tree<D> {
         inside
     }
 
-    /// The contents of a file, from a position on, so many bytes at most. None where no file stands.
+    /// The contents of a file, from a position on, so many bytes at most. No bytes where no file stands.
     ///
     /// `Io` where a read failed, and `NoMemory` where memory isn't granted. It has failed then.
     pub fn read_file(
@@ -304,13 +306,15 @@ impl<D: BlockDevice> Tree<D> {
     }
 
     /// How many bytes of its pair the attributes of what stands at a path take: 4 each, and its own.
-    /// None where nothing stands there.
+    /// 0 where nothing stands there. No more reads than the directories above it have pairs, and none
+    /// where all of them are at hand.
     ///
     /// `Io` where a read failed, and `NoMemory` where memory isn't granted. It has failed then.
     pub fn attributes_size(&mut self, alloc: Global, path: &Path<'_>) -> Result<usize, Error>
         requires { self.old.failed ≡ false }
         ensures asked { OnOk result (IsAsked self.old self.new) }
         ensures size { IfOk result (IsAttributesSize (attributes_of (tree_seen self.old path.now))) }
+        ensures few { ReadsOnce (parents path.now) self.old self.new.history }
         ensures broken { OnErr result (IsBrokenAsking self.old self.new) }
         ensures errors { IfErr result (IsError self.old self.new) }
     {

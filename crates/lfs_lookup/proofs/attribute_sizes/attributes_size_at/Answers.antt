@@ -1,9 +1,11 @@
-use Rattle.std.proofs.Common.{◌≡◌, ◌<◌, ◌∙◌, List, Some, length, slice_get, slice_index_or, subst, sym}
+use Rattle.std.proofs.Common.{◌≡◌, ◌<◌, ◌∙◌, List, Some, ap, arith, length, slice_get, slice_index_or, subst, sym}
 use Rattle.std.specs.Prelude.{IfOk}
+use Rattle.lfs_model.specs.History.{reads}
 use Rattle.lfs_model.specs.Thread.{Pair}
 use Rattle.lfs_lookup.specs.AttributeAt.{IsAttributesSize}
+use Rattle.lfs_thread.specs.Kept.{Kept}
 use Rattle.lfs_thread.specs.Steps.{no_pair}
-use Rattle.lfs_lookup.proofs.AttributeAtSlots.{no_slot, slot_for}
+use Rattle.lfs_lookup.proofs.AttributeAtSlots.{no_slot, slot_at_hand, slot_for}
 use Rattle.lfs_lookup.proofs.AttributesPut.{none_sized}
 use Rattle.lfs_lookup.proofs.Reading.{answered, further}
 use Rattle.lfs_lookup.proofs.attribute_sizes.attributes_size_at.Goals as goal
@@ -13,6 +15,10 @@ size_of_slot-requires-clause-below g c =
     let t = c.args.thread.now.kept in
     let f = slot_for t c.args.path.now c.in_ok-shown.shown c.in-Some.slot c.in_ok-shown.ensures.shown (sym c.slot_of.ensures ∙ c.in-Some.is) in
     subst (λ (ps : List Pair). c.in-Some.slot.pair < length ps) (sym c.shown_at.ensures.reading.only.pairs) f.below
+
+pub size_of_slot-requires-clause-at_hand : goal.size_of_slot-requires-clause-at_hand
+size_of_slot-requires-clause-at_hand g c =
+    slot_at_hand c.shown_at.new.thread c.in_ok-shown.shown (Some c.in-Some.slot) c.in_ok-shown.ensures.at_hand (sym (sym c.slot_of.ensures ∙ c.in-Some.is))
 
 pub returns-clause-is : goal.returns-clause-is
 returns-clause-is g c =
@@ -29,3 +35,18 @@ returns-clause-reading g c =
 pub returns-in_default-clause-is : goal.returns-in_default-clause-is
 returns-in_default-clause-is g c =
     subst (λ a. IsAttributesSize a 0) (sym (no_slot c.args.thread.now.kept c.args.path.now c.in_ok-shown.shown c.in_ok-shown.ensures.shown (sym c.slot_of.ensures ∙ c.in_default.is))) none_sized
+
+pub returns-clause-few : goal.returns-clause-few
+returns-clause-few g c =
+    let f = c.shown_at.ensures.few in
+    let e = ap (λ (t : Kept). reads t.history) c.size_of_slot.ensures.no_call in
+    omega (arith, f, e)
+
+pub returns-in_err-shown-clause-kept : goal.returns-in_err-shown-clause-kept
+returns-in_err-shown-clause-kept g c = c.shown_at.ensures.brings.none
+
+pub returns-in_default-clause-kept : goal.returns-in_default-clause-kept
+returns-in_default-clause-kept g c = c.shown_at.ensures.brings.none
+
+pub returns-clause-kept : goal.returns-clause-kept
+returns-clause-kept g c = λ there. ap (λ (t : Kept). reads t.history) c.size_of_slot.ensures.no_call ∙ c.shown_at.ensures.brings.none there

@@ -1,8 +1,9 @@
-use Rattle.std.proofs.Common.{◌∙◌, refl}
+use Rattle.std.proofs.Common.{◌∙◌, arith, refl}
 use Rattle.std.proofs.lemmas.Result.{err_from_is_err_and}
+use Rattle.lfs_model.specs.Discipline.{pairs_of_path}
 use Rattle.lfs_lookup.proofs.AtPaths.{sized_on}
 use Rattle.lfs_lookup.proofs.Reading.{answered, answers, both, further, passed}
-use Rattle.lfs_lookup.proofs.ShownFindings.{first_at, first_within, found_shown, has_beneath, in_entry}
+use Rattle.lfs_lookup.proofs.ShownFindings.{few_from, few_own, first_at, first_within, found_shown, has_beneath, in_entry}
 use Rattle.lfs_lookup.proofs.by_path.look_inside_at.Goals as goal
 
 pub has_entries-requires-clause-below : goal.has_entries-requires-clause-below
@@ -40,3 +41,29 @@ pub returns-clause-reading : goal.returns-clause-reading
 returns-clause-reading g c =
     answers _ _ _ _ refl (both _ _ _ (answered _ _ c.shown_at.result c.in_ok-shown.shown c.in_ok-shown.was c.shown_at.ensures.reading)
     (answered _ _ c.has_entries.result c.in_ok-has_entries.has_entries c.in_ok-has_entries.was c.has_entries.ensures.reading))
+
+pub returns-in_err-shown-clause-few : goal.returns-in_err-shown-clause-few
+returns-in_err-shown-clause-few g c =
+    let f = c.shown_at.ensures.few in
+    let s = few_own (pairs_of_path c.args.thread.now.kept.pairs) c.args.path.now in
+    omega (arith, f, s)
+
+pub returns-in_err-has_entries-clause-few : goal.returns-in_err-has_entries-clause-few
+returns-in_err-has_entries-clause-few g c =
+    let t = c.args.thread.now.kept in
+    let f = c.shown_at.ensures.few in
+    let n = c.has_entries.ensures.few in
+    let k = few_from t c.args.path.now c.requires.accepted c.shown_at.new.thread.kept.pairs c.first_of.result c.shown_at.ensures.reading.only.pairs
+    (first_at t c.args.path.now c.requires.accepted c.args.root c.in_ok-shown.shown c.first_of.result c.requires.root c.in_ok-shown.ensures.shown c.first_of.ensures) in
+    let s = few_own (pairs_of_path t.pairs) c.args.path.now in
+    omega (arith, f, n, k, s)
+
+pub returns-clause-few : goal.returns-clause-few
+returns-clause-few g c =
+    let t = c.args.thread.now.kept in
+    let f = c.shown_at.ensures.few in
+    let n = c.has_entries.ensures.few in
+    let k = few_from t c.args.path.now c.requires.accepted c.shown_at.new.thread.kept.pairs c.first_of.result c.shown_at.ensures.reading.only.pairs
+    (first_at t c.args.path.now c.requires.accepted c.args.root c.in_ok-shown.shown c.first_of.result c.requires.root c.in_ok-shown.ensures.shown c.first_of.ensures) in
+    let s = few_own (pairs_of_path t.pairs) c.args.path.now in
+    omega (arith, f, n, k, s)

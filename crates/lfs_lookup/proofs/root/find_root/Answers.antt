@@ -23,12 +23,19 @@ returns-then-not-branch-clause-root g c =
     let before = inv.before in
     omega (arith, before, ends)
 
+pub returns-then-not-branch-clause-few : goal.returns-then-not-branch-clause-few
+returns-then-not-branch-clause-few g c =
+    let few = c.loop-root.invariant.few in
+    let once = c.goes_on.ensures.few in
+    omega (arith, few, once)
+
 pub loop-root-init : goal.loop-root-init
 loop-root-init g c = record {
   end = c.len-root-end.ensures;
   read = begun c.args.thread.now c.requires.works;
   below = some_pairs c.args.thread.now.kept.disk c.args.thread.now.kept.pairs c.requires.accepted;
   before = omega arith;
+  few = omega arith;
 }
 
 pub loop-root-preserved : goal.loop-root-preserved
@@ -38,9 +45,12 @@ loop-root-preserved g c =
     let on = root_on c.args.thread.now.kept.pairs c.loop-root.root more
     (subst (λ (ps : List Pair). continues ps c.loop-root.root (c.loop-root.root + 1) ≡ true) inv.read.only.pairs (sym c.in_ok-goes_on.ensures.is ∙ c.if-not-branch.false)) in
     let before = inv.before in
+    let few = inv.few in
+    let once = c.goes_on.ensures.few in
     record {
       end = inv.end;
       read = both _ _ _ inv.read (answered _ _ c.goes_on.result c.in_ok-goes_on.field-0 c.in_ok-goes_on.was c.goes_on.ensures.reading);
       below = more;
       before = omega (arith, before, on);
+      few = omega (arith, few, once);
     }

@@ -23,9 +23,10 @@ use lfs_device::{BlockDevice, Error};
 use lfs_thread::Thread;
 use std::alloc::Global;
 
-/// What a path leads to, where a slot may count as deleted, as the one does that a set move names
+/// What a path leads to, where the slot that a set move names counts as deleted, and no other
 /// (DESIGN.md of littlefs, "The move problem"). No more reads than the directories above the path have
-/// pairs, and none where all these pairs are at hand; that of a slot that is found is at hand then.
+/// pairs, and none where all these pairs are at hand; the pair of a slot that is found is at hand
+/// then.
 ///
 /// `root` is the number of the root directory's first pair. `Io` where a read failed, and `NoMemory`
 /// where room isn't granted.

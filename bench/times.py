@@ -1,7 +1,9 @@
 #!/usr/bin/env python3
 """Runs the gate and prints docs/TIMES.md: the processor seconds that each crate takes, for its code, its tests and its edits.
 
-usage: bench/times.py [LOG] > docs/TIMES.md     at the top of the repository; what the gate prints goes to LOG (gate.log)
+usage: bench/times.py [LOG [CRATE..]] > docs/TIMES.md     at the top of the repository; what the gate prints goes to LOG (gate.log)
+
+With names of crates only these are tried; what they stand on is proved too and counts.
 
 A check of the prover is a process. Twice a second its time so far is read from /proc, so each process counts half a second too
 little at most. An edit's check runs in a folder of its own, and a check of tests has the word --test; so the three are told apart.
@@ -51,11 +53,11 @@ def seen(process):
     return words[words.index("--crate-name") + 1], part, (int(fields[11]) + int(fields[12])) / TICK
 
 
-def measured(log):
+def measured(log, crates):
     """The gate's last line, its wall time, and each crate's processor seconds by part."""
     spent, began = {}, time.monotonic()
     with open(log, "w") as out:
-        gate = subprocess.Popen(["rt", "ci"], stdout=out, stderr=subprocess.STDOUT, stdin=subprocess.DEVNULL)
+        gate = subprocess.Popen(["rt", "ci", *crates], stdout=out, stderr=subprocess.STDOUT, stdin=subprocess.DEVNULL)
         while gate.poll() is None:
             for process in descendants(gate.pid):
                 if found := seen(process):
@@ -76,7 +78,7 @@ def functions(log):
 
 def main():
     log = sys.argv[1] if len(sys.argv) > 1 else "gate.log"
-    last, wall, totals = measured(log)
+    last, wall, totals = measured(log, sys.argv[2:])
     counts = functions(log)
     edits = lambda crate: len([it for it in os.listdir(f"crates/{crate}/must-fail")]) if os.path.isdir(f"crates/{crate}/must-fail") else 0
     whole = sum(sum(it.values()) for it in totals.values())

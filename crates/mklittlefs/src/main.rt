@@ -1,4 +1,4 @@
-//! mklittlefs: creates an image of a littlefs file system from a folder, or lists one.
+//! mklittlefs: makes an image of a littlefs file system from a folder, unpacks one into a folder, or lists one.
 #![tactic(auto)]
 
 use lfs_tool::Watched;

@@ -1,4 +1,4 @@
-//! Tests of sessions: operations and their replies as rows.
+//! Tests of sessions, operations and their replies as rows, and of the lines of scripts.
 #![tactic(auto)]
 
 #[cfg(test)]
@@ -17,6 +17,8 @@ mod files;
 mod images;
 #[cfg(test)]
 mod kept;
+#[cfg(test)]
+mod lines;
 #[cfg(test)]
 mod long;
 #[cfg(test)]

@@ -109,6 +109,7 @@ fn a_front_is_kept(rt: HostRuntime) -> Result<(), Fail> {
         (2045, 2044, 1, 1, 6),
         (2045, 2045, 1015, 1, 7),
         (2045, 2045, 1016, 2, 7),
+        (3060, 2044, 1, 1, 6),
         (3060, 3060, 1, 1, 7),
     ] {
         assert_eq!(rt; front(rt.alloc(), size, keep, n)?, (needed, head, true));

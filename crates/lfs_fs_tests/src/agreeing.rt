@@ -84,6 +84,23 @@ fn use_same<D: BlockDevice, E: BlockDevice>(
     Ok(session.used_count()? == count && other.used_count()? == count)
 }
 
+// Whether both have the same global state, and use the same blocks.
+fn keep_same<D: BlockDevice, E: BlockDevice>(
+    session: &Session<D>,
+    other: &Session<E>,
+    block_count: u32,
+) -> Result<bool, Error> {
+    Ok(session.gstate()? == other.gstate()? && use_same(session, other, block_count)?)
+}
+
+/// Whether a session keeps what one that is begun over a copy of its device finds: the global state,
+/// each block and how many are used.
+pub fn keeps(alloc: Global, session: &Session<RamDevice>) -> Result<bool, Error> {
+    let copy = copied(alloc, session.device())?;
+    let block_count = copy.geometry().block_count;
+    keep_same(session, &mounted(alloc, copy)?, block_count)
+}
+
 /// Whether a session answers what one that is begun over a copy of its device does: the global
 /// state, each block, how many are used, and what each directory lists.
 pub fn agrees<D: BlockDevice>(
@@ -93,9 +110,5 @@ pub fn agrees<D: BlockDevice>(
 ) -> Result<bool, Error> {
     let block_count = copy.geometry().block_count;
     let mut other = mounted(alloc, copy)?;
-    Ok(
-        session.gstate()? == other.gstate()?
-            && use_same(session, &other, block_count)?
-            && list_same(alloc, session, &mut other)?,
-    )
+    Ok(keep_same(session, &other, block_count)? && list_same(alloc, session, &mut other)?)
 }

@@ -53,8 +53,8 @@ fn moved(new: OpenFlags) -> [Row<'static>; 10] {
 
 const PAIR: &[u8] = &[2, 0, 0, 0, 3, 0, 0, 0];
 
-// A directory `d` whose file is being moved, and is the file `g` already.
-const MOVING: Start<'static> = Start::Image(
+/// A directory `d` whose file is being moved, and is the file `g` already.
+pub const MOVING: Start<'static> = Start::Image(
     &[
         (0x4010_0400, b""),
         (0x0020_0401, b"d"),

@@ -30,6 +30,8 @@ mod played;
 #[cfg(test)]
 mod reads;
 #[cfg(test)]
+mod scenes;
+#[cfg(test)]
 mod scripts;
 #[cfg(test)]
 mod stopping;

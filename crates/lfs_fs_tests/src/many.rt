@@ -1,6 +1,6 @@
 // A directory of more entries than a pair holds.
 
-use crate::agreeing::{agrees, copied};
+use crate::agreeing::{agrees, copied, keeps};
 use crate::answers::Answer::{Count, Done, Fd, Items};
 use crate::answers::Row;
 use crate::begun::{Start, begun};
@@ -11,28 +11,28 @@ use lfs_fs::{OpenFlags, Session};
 use std::alloc::Global;
 use std::test::Fail;
 
-const A: &[u8] =
+pub const A: &[u8] =
     b"aaaaaaaaaaaaaaaaaaaaaaaaaaaaaaaaaaaaaaaaaaaaaaaaaaaaaaaaaaaaaaaaaaaaaaaaaaaaaaaaaaaaaaaaaaaaaaaaaaaaaaaaaaaaaaaaaaaaaaaaaaaaaaaaaaaaaaaaaaaaaaaaaaaaaaaaaaaaaaaaaaaaaaaaaaaaaaaaaaaaaaaaaaaaaaaaaaaaaaaa";
 
-const AT_A: &[u8] =
+pub const AT_A: &[u8] =
     b"/aaaaaaaaaaaaaaaaaaaaaaaaaaaaaaaaaaaaaaaaaaaaaaaaaaaaaaaaaaaaaaaaaaaaaaaaaaaaaaaaaaaaaaaaaaaaaaaaaaaaaaaaaaaaaaaaaaaaaaaaaaaaaaaaaaaaaaaaaaaaaaaaaaaaaaaaaaaaaaaaaaaaaaaaaaaaaaaaaaaaaaaaaaaaaaaaaaaaaaaa";
 
-const B: &[u8] =
+pub const B: &[u8] =
     b"bbbbbbbbbbbbbbbbbbbbbbbbbbbbbbbbbbbbbbbbbbbbbbbbbbbbbbbbbbbbbbbbbbbbbbbbbbbbbbbbbbbbbbbbbbbbbbbbbbbbbbbbbbbbbbbbbbbbbbbbbbbbbbbbbbbbbbbbbbbbbbbbbbbbbbbbbbbbbbbbbbbbbbbbbbbbbbbbbbbbbbbbbbbbbbbbbbbbbbbb";
 
-const AT_B: &[u8] =
+pub const AT_B: &[u8] =
     b"/bbbbbbbbbbbbbbbbbbbbbbbbbbbbbbbbbbbbbbbbbbbbbbbbbbbbbbbbbbbbbbbbbbbbbbbbbbbbbbbbbbbbbbbbbbbbbbbbbbbbbbbbbbbbbbbbbbbbbbbbbbbbbbbbbbbbbbbbbbbbbbbbbbbbbbbbbbbbbbbbbbbbbbbbbbbbbbbbbbbbbbbbbbbbbbbbbbbbbbbb";
 
-const C: &[u8] =
+pub const C: &[u8] =
     b"cccccccccccccccccccccccccccccccccccccccccccccccccccccccccccccccccccccccccccccccccccccccccccccccccccccccccccccccccccccccccccccccccccccccccccccccccccccccccccccccccccccccccccccccccccccccccccccccccccccccc";
 
-const AT_C: &[u8] =
+pub const AT_C: &[u8] =
     b"/cccccccccccccccccccccccccccccccccccccccccccccccccccccccccccccccccccccccccccccccccccccccccccccccccccccccccccccccccccccccccccccccccccccccccccccccccccccccccccccccccccccccccccccccccccccccccccccccccccccccc";
 
-const D: &[u8] =
+pub const D: &[u8] =
     b"dddddddddddddddddddddddddddddddddddddddddddddddddddddddddddddddddddddddddddddddddddddddddddddddddddddddddddddddddddddddddddddddddddddddddddddddddddddddddddddddddddddddddddddddddddddddddddddddddddddddd";
 
-const AT_D: &[u8] =
+pub const AT_D: &[u8] =
     b"/dddddddddddddddddddddddddddddddddddddddddddddddddddddddddddddddddddddddddddddddddddddddddddddddddddddddddddddddddddddddddddddddddddddddddddddddddddddddddddddddddddddddddddddddddddddddddddddddddddddddd";
 
 // A directory with a name of 200 bytes takes 216 of the 857 bytes of a pair, and the superblock 40:
@@ -103,11 +103,16 @@ fn path_of(number: u32) -> [u8; 5] {
     ]
 }
 
-// Makes a file, and answers whether it did.
+// Makes a file, and answers whether it did, and the session kept what a new mount finds behind each
+// operation.
 fn makes(alloc: Global, session: &mut Session<RamDevice>, number: u32) -> Result<bool, Error> {
     let new = OpenFlags::WRITE | OpenFlags::CREATE;
-    let rows = [(Open(&path_of(number), new), Fd(0)), (Close(0), Done)];
-    Ok(wrong_at_once(alloc, session, &rows)?.is_none())
+    for row in [(Open(&path_of(number), new), Fd(0)), (Close(0), Done)] {
+        if wrong_at_once(alloc, session, &[row])?.is_some() || !keeps(alloc, session)? {
+            return Ok(false);
+        }
+    }
+    Ok(true)
 }
 
 // Whether `/d` lists so many files, in name order.

@@ -3,21 +3,24 @@
 use crate::answers::Answer::Done;
 use crate::begun::{Start, begun};
 use crate::played::wrong_at_once;
-use crate::scripts::{LENGTH, carried_out, has_lost_nothing};
+use crate::scripts::{LENGTH, carried_out, has_lost_nothing, long_rows, long_script};
 use lfs_device::Error;
 use lfs_fs::Op::Remount;
+use lfs_fs::OpenFlags;
 use std::alloc::Global;
 use std::test::Fail;
 
 // Whether the script ends as with memory enough, or with `NoMemory` and the tree of then.
 fn loses_nothing(alloc: Global) -> Result<bool, Error> {
+    let rows = long_rows(OpenFlags::WRITE | OpenFlags::CREATE);
+    let script = long_script(&rows);
     let mut session = begun(alloc, Start::Fresh(1024, 128, 64))?;
-    match carried_out(alloc, &mut session) {
+    match carried_out(alloc, &mut session, script.rows) {
         (done, None) => Ok(done == LENGTH),
         (done, Some(error)) => Ok(
             error == Error::NoMemory
                 && wrong_at_once(alloc, &mut session, &[(Remount, Done)])?.is_none()
-                && has_lost_nothing(alloc, &mut session, done)?,
+                && has_lost_nothing(alloc, &mut session, &script, done)?,
         ),
     }
 }

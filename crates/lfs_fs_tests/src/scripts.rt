@@ -16,8 +16,19 @@ pub const LENGTH: usize = 14;
 
 const READ: OpenFlags = OpenFlags::READ;
 
-// A file of five blocks is made, written, turned, marked and moved out of its directory, which goes.
-fn script(new: OpenFlags) -> [Row<'static>; LENGTH] {
+/// A tree, by what is answered of it, and how many blocks it takes, if that isn't free.
+pub type Tree<'a> = (&'a [Row<'a>], Option<u32>);
+
+/// Operations, the trees in turn, and which of these stands behind so many operations.
+#[derive(Clone, Copy)]
+pub struct Script<'a> {
+    pub rows: &'a [Row<'a>],
+    pub trees: &'a [Tree<'a>],
+    pub behind: &'a [usize],
+}
+
+/// A file of five blocks is made, written, turned, marked and moved out of its directory, which goes.
+pub fn long_rows(new: OpenFlags) -> [Row<'static>; LENGTH] {
     [
         (Mkdir(b"/d"), Done),
         (Open(b"/d/f", new), Fd(0)),
@@ -42,16 +53,15 @@ const ONLY_D: Answer<'static> = Items(&[(b"d", None)]);
 
 const ONLY_F: Answer<'static> = Items(&[(b"f", Some(5000))]);
 
-// The trees in turn, by what is answered of them, and how many blocks each takes.
-const TREES: [(&[Row<'static>], u32); 7] = [
-    (&[(List(b"/"), Items(&[]))], 2),
-    (&[(List(b"/"), ONLY_D), (List(b"/d"), Items(&[]))], 4),
+const TREES: &[Tree<'static>] = &[
+    (&[(List(b"/"), Items(&[]))], Some(2)),
+    (&[(List(b"/"), ONLY_D), (List(b"/d"), Items(&[]))], Some(4)),
     (
         &[
             (List(b"/"), ONLY_D),
             (List(b"/d"), Items(&[(b"f", Some(0))])),
         ],
-        4,
+        Some(4),
     ),
     (
         &[
@@ -62,7 +72,7 @@ const TREES: [(&[Row<'static>], u32); 7] = [
             (Read(0, 12), Bytes(b"aaaaaaaaaaba")),
             (Close(0), Done),
         ],
-        9,
+        Some(9),
     ),
     (
         &[
@@ -70,7 +80,7 @@ const TREES: [(&[Row<'static>], u32); 7] = [
             (List(b"/d"), ONLY_F),
             (GetAttr(b"/d/f", 0x41), Bytes(b"x")),
         ],
-        9,
+        Some(9),
     ),
     (
         &[
@@ -78,7 +88,7 @@ const TREES: [(&[Row<'static>], u32); 7] = [
             (List(b"/d"), Items(&[])),
             (GetAttr(b"/g", 0x41), Bytes(b"x")),
         ],
-        9,
+        Some(9),
     ),
     (
         &[
@@ -89,20 +99,30 @@ const TREES: [(&[Row<'static>], u32); 7] = [
             (Read(0, 3), Bytes(b"aba")),
             (Close(0), Done),
         ],
-        7,
+        Some(7),
     ),
 ];
 
 // Which tree stands behind so many operations.
-const BEHIND: [usize; 15] = [0, 1, 2, 2, 2, 2, 3, 4, 5, 6, 6, 6, 6, 6, 6];
+const BEHIND: &[usize] = &[0, 1, 2, 2, 2, 2, 3, 4, 5, 6, 6, 6, 6, 6, 6];
 
-/// Carries out the script: how many operations are answered as they should, and what ends the others.
+/// The long script, of these rows.
+pub fn long_script<'a>(rows: &'a [Row<'a>]) -> Script<'a> {
+    Script {
+        rows,
+        trees: TREES,
+        behind: BEHIND,
+    }
+}
+
+/// Carries out rows in turn: how many are answered as they should, and what ends the others.
 pub fn carried_out<D: BlockDevice>(
     alloc: Global,
     session: &mut Session<D>,
+    rows: &[Row<'_>],
 ) -> (usize, Option<Error>) {
     let mut done = 0usize;
-    for row in &script(OpenFlags::WRITE | OpenFlags::CREATE) {
+    for row in rows {
         match wrong_at_once(alloc, session, &[*row]) {
             Ok(None) => done = done.saturating_add(1),
             Ok(Some(_)) => return (done, None),
@@ -116,38 +136,41 @@ pub fn carried_out<D: BlockDevice>(
 fn is_seen<D: BlockDevice>(
     alloc: Global,
     session: &mut Session<D>,
-    tree: usize,
+    tree: Option<&Tree<'_>>,
 ) -> Result<bool, Error> {
-    match TREES.get(tree) {
+    match tree {
         Some(tree) => Ok(wrong_at_once(alloc, session, tree.0)?.is_none()),
         None => Ok(false),
     }
 }
 
+const NO_GSTATE: Answer<'static> = GstateIs(Gstate {
+    sync: false,
+    moving: None,
+});
+
 // Whether nothing is left to recover, and a tree's blocks are those that are used.
 fn is_settled<D: BlockDevice>(
     alloc: Global,
     session: &mut Session<D>,
-    tree: usize,
+    tree: Option<&Tree<'_>>,
 ) -> Result<bool, Error> {
-    let nothing = GstateIs(Gstate {
-        sync: false,
-        moving: None,
-    });
-    match TREES.get(tree) {
-        Some(tree) => {
-            let rows = [(AskGstate, nothing), (UsedCount, Count(tree.1))];
-            Ok(wrong_at_once(alloc, session, &rows)?.is_none())
-        }
-        None => Ok(false),
-    }
+    let used = match tree {
+        Some((_, used)) => *used,
+        None => None,
+    };
+    let is_right = match used {
+        Some(used) => wrong_at_once(alloc, session, &[(UsedCount, Count(used))])?.is_none(),
+        None => true,
+    };
+    Ok(is_right && wrong_at_once(alloc, session, &[(AskGstate, NO_GSTATE)])?.is_none())
 }
 
 // Whether a tree is seen, also behind a recovery, which leaves nothing to recover.
 fn stays<D: BlockDevice>(
     alloc: Global,
     session: &mut Session<D>,
-    tree: usize,
+    tree: Option<&Tree<'_>>,
 ) -> Result<bool, Error> {
     if !is_seen(alloc, session, tree)? {
         return Ok(false);
@@ -156,17 +179,40 @@ fn stays<D: BlockDevice>(
     Ok(recovered.is_none() && is_seen(alloc, session, tree)? && is_settled(alloc, session, tree)?)
 }
 
+// Which trees may stand where so many operations were carried out, and the next one maybe.
+fn trees_at(script: &Script<'_>, done: usize) -> (usize, usize) {
+    let before = script
+        .behind
+        .get(done)
+        .copied()
+        .unwrap_or(script.trees.len());
+    let behind = script.behind.get(done.saturating_add(1)).copied();
+    (before, behind.unwrap_or(before))
+}
+
+/// Which tree is seen where so many operations were carried out, and the next one maybe.
+pub fn tree_seen<D: BlockDevice>(
+    alloc: Global,
+    session: &mut Session<D>,
+    script: &Script<'_>,
+    done: usize,
+) -> Result<usize, Error> {
+    let (before, behind) = trees_at(script, done);
+    let is_before = is_seen(alloc, session, script.trees.get(before))?;
+    Ok(if is_before { before } else { behind })
+}
+
 /// Whether a session has the tree from before the operation that ended the script or from behind it,
 /// also behind a recovery, which leaves nothing to recover.
 pub fn has_lost_nothing<D: BlockDevice>(
     alloc: Global,
     session: &mut Session<D>,
+    script: &Script<'_>,
     done: usize,
 ) -> Result<bool, Error> {
-    let before = BEHIND.get(done).copied().unwrap_or(LENGTH);
-    let behind = BEHIND
-        .get(done.saturating_add(1))
-        .copied()
-        .unwrap_or(before);
-    Ok(stays(alloc, session, before)? || behind != before && stays(alloc, session, behind)?)
+    let (before, behind) = trees_at(script, done);
+    Ok(
+        stays(alloc, session, script.trees.get(before))?
+            || behind != before && stays(alloc, session, script.trees.get(behind))?,
+    )
 }

@@ -1,27 +1,42 @@
-// A script on devices that stop, and on devices one of whose calls fails.
+// Scripts on devices that stop, and one on devices one of whose calls fails.
 
+use crate::agreeing::copied;
 use crate::answers::Answer::Done;
+use crate::answers::Row;
 use crate::begun::{Start, device_of, mounted};
 use crate::failing::has_failed;
 use crate::played::wrong_at_once;
-use crate::scripts::{LENGTH, carried_out, has_lost_nothing};
+use crate::scenes::{RECOVERY, RENAMING, others, with_file_to_move};
+use crate::scripts::{
+    LENGTH, Script, carried_out, has_lost_nothing, long_rows, long_script, tree_seen,
+};
 use lfs_device::{Erased, Error, FaultDevice, RamDevice, Which};
 use lfs_fs::Op::Remount;
-use lfs_fs::mount;
+use lfs_fs::{OpenFlags, mount};
 use std::alloc::Global;
 use std::test::Fail;
 
 type Stopping = FaultDevice<RamDevice>;
 
-// A small device made empty, one of whose calls fails, and each later one where it stops.
-fn device(alloc: Global, erased: Erased, nth: u64, stops: bool) -> Result<Stopping, Error> {
-    let fresh = device_of(alloc, Start::Fresh(1024, 128, 64))?;
-    let device = fresh.erased_as(erased);
-    Ok(FaultDevice::new(device, Which::Any, nth, stops))
+// A small device made empty.
+fn small(alloc: Global) -> Result<RamDevice, Error> {
+    device_of(alloc, Start::Fresh(1024, 128, 64))
 }
 
-// How many operations of the script are carried out until the device stops, and the device.
-fn stopped(alloc: Global, device: Stopping) -> Result<(usize, RamDevice), Error> {
+// A copy of a device, one of whose calls fails, and each later one where it stops.
+fn stopping(
+    alloc: Global,
+    device: &RamDevice,
+    erased: Erased,
+    nth: u64,
+    stops: bool,
+) -> Result<Stopping, Error> {
+    let copy = copied(alloc, device)?.erased_as(erased);
+    Ok(FaultDevice::new(copy, Which::Any, nth, stops))
+}
+
+// How many rows are carried out until the device stops, and the device.
+fn stopped(alloc: Global, device: Stopping, rows: &[Row<'_>]) -> Result<(usize, RamDevice), Error> {
     let mut session = match mount(alloc, device) {
         Ok(session) => session,
         Err((device, error)) => {
@@ -32,7 +47,7 @@ fn stopped(alloc: Global, device: Stopping) -> Result<(usize, RamDevice), Error>
             };
         }
     };
-    let (done, error) = carried_out(alloc, &mut session);
+    let (done, error) = carried_out(alloc, &mut session, rows);
     match error {
         Some(error) if error != Error::Io => Err(error),
         _ => Ok((done, session.unmount().into_inner())),
@@ -40,22 +55,39 @@ fn stopped(alloc: Global, device: Stopping) -> Result<(usize, RamDevice), Error>
 }
 
 // How many operations are carried out, and whether a mount of what is left has lost nothing.
-fn survived(alloc: Global, device: Stopping) -> Result<(usize, bool), Error> {
-    let (done, left) = stopped(alloc, device)?;
+fn survived(alloc: Global, device: Stopping, script: &Script<'_>) -> Result<(usize, bool), Error> {
+    let (done, left) = stopped(alloc, device, script.rows)?;
     let mut session = mounted(alloc, left)?;
-    let is_right = has_lost_nothing(alloc, &mut session, done)?;
+    let is_right = has_lost_nothing(alloc, &mut session, script, done)?;
     Ok((done, is_right))
 }
 
-// The same of a device that stops before its call of that number, in the middle of it, behind it.
-fn survived_at(alloc: Global, erased: Erased, nth: u64) -> Result<[(usize, bool); 3], Error> {
-    let before = device(alloc, erased, nth, true)?;
-    let within = device(alloc, erased, nth, true)?.torn(20);
-    let behind = device(alloc, erased, nth, true)?.whole();
+// Copies that stop before their call of that number, in the middle of it, behind it.
+fn copies(
+    alloc: Global,
+    device: &RamDevice,
+    erased: Erased,
+    nth: u64,
+) -> Result<[Stopping; 3], Error> {
+    let before = stopping(alloc, device, erased, nth, true)?;
+    let within = stopping(alloc, device, erased, nth, true)?.torn(20);
+    let behind = stopping(alloc, device, erased, nth, true)?.whole();
+    Ok([before, within, behind])
+}
+
+// What is survived of a script on each of them.
+fn survived_at(
+    alloc: Global,
+    device: &RamDevice,
+    erased: Erased,
+    script: &Script<'_>,
+    nth: u64,
+) -> Result<[(usize, bool); 3], Error> {
+    let [before, within, behind] = copies(alloc, device, erased, nth)?;
     Ok([
-        survived(alloc, before)?,
-        survived(alloc, within)?,
-        survived(alloc, behind)?,
+        survived(alloc, before, script)?,
+        survived(alloc, within, script)?,
+        survived(alloc, behind, script)?,
     ])
 }
 
@@ -69,10 +101,10 @@ fn are_right(ends: &[(usize, bool)]) -> bool {
     true
 }
 
-// Whether the whole script was carried out in each way.
-fn are_whole(ends: &[(usize, bool)]) -> bool {
+// Whether so many operations, all of a script, were carried out in each way.
+fn are_whole(ends: &[(usize, bool)], length: usize) -> bool {
     for end in ends {
-        if end.0 != LENGTH {
+        if end.0 != length {
             return false;
         }
     }
@@ -80,13 +112,18 @@ fn are_whole(ends: &[(usize, bool)]) -> bool {
 }
 
 // At how many calls the device may stop in these ways, and nothing is lost. None where something is.
-fn calls_survived(alloc: Global, erased: Erased) -> Result<Option<u64>, Error> {
+fn calls_survived(
+    alloc: Global,
+    device: &RamDevice,
+    erased: Erased,
+    script: &Script<'_>,
+) -> Result<Option<u64>, Error> {
     for nth in 1..1000u64 {
-        let ends = survived_at(alloc, erased, nth)?;
+        let ends = survived_at(alloc, device, erased, script, nth)?;
         if !are_right(&ends) {
             return Ok(None);
         }
-        if are_whole(&ends) {
+        if are_whole(&ends, script.rows.len()) {
             return Ok(Some(nth));
         }
     }
@@ -96,7 +133,8 @@ fn calls_survived(alloc: Global, erased: Erased) -> Result<Option<u64>, Error> {
 // Whether it survives a stop at each call. The script makes five blocks twice, two of a directory, and
 // eight commits at least, in programs alone.
 fn survives(alloc: Global, erased: Erased) -> Result<bool, Error> {
-    let calls = calls_survived(alloc, erased)?;
+    let rows = long_rows(OpenFlags::WRITE | OpenFlags::CREATE);
+    let calls = calls_survived(alloc, &small(alloc)?, erased, &long_script(&rows))?;
     Ok(calls.is_some_and(|calls| calls > 20))
 }
 
@@ -118,19 +156,82 @@ fn nothing_is_lost_where_erases_keep_bytes(rt: HostRuntime) -> Result<(), Fail> 
     Ok(())
 }
 
-// The same where one call fails: the session has failed, and a remount has lost nothing.
-fn failed_at(alloc: Global, nth: u64) -> Result<(usize, bool), Error> {
-    let mut session = match mount(alloc, device(alloc, Erased::Fill(0xff), nth, false)?) {
+// Whether each of the other scripts survives it. They mount, and make two commits at least.
+fn others_survive(alloc: Global, new: OpenFlags) -> Result<bool, Error> {
+    for (device, script) in &others(alloc, new)? {
+        let calls = calls_survived(alloc, device, Erased::Fill(0xff), script)?;
+        if !calls.is_some_and(|calls| calls > 4) {
+            return Ok(false);
+        }
+    }
+    Ok(true)
+}
+
+#[test]
+fn nothing_is_lost_in_other_scripts(rt: HostRuntime) -> Result<(), Fail> {
+    let new = OpenFlags::WRITE | OpenFlags::CREATE;
+    assert_eq!(rt; others_survive(rt.alloc(), new), Ok(true));
+    Ok(())
+}
+
+// At how many calls the recovery of a device may stop, and its tree stays. None where it is lost.
+fn recovery_survived(
+    alloc: Global,
+    left: &RamDevice,
+    script: &Script<'_>,
+    done: usize,
+) -> Result<Option<u64>, Error> {
+    let mut session = mounted(alloc, copied(alloc, left)?)?;
+    let tree = tree_seen(alloc, &mut session, script, done)?;
+    let recovery = Script {
+        rows: &RECOVERY,
+        trees: script.trees,
+        behind: &[tree, tree],
+    };
+    calls_survived(alloc, left, Erased::Fill(0xff), &recovery)
+}
+
+// The same where a file is moved, and where a recovery of what a stop leaves is stopped in its turn.
+fn renaming_survived(alloc: Global, device: &RamDevice) -> Result<Option<u64>, Error> {
+    let calls = calls_survived(alloc, device, Erased::Fill(0xff), &RENAMING)?;
+    for nth in 1..calls.unwrap_or(0) {
+        for copy in copies(alloc, device, Erased::Fill(0xff), nth)? {
+            let (done, left) = stopped(alloc, copy, RENAMING.rows)?;
+            if recovery_survived(alloc, &left, &RENAMING, done)?.is_none() {
+                return Ok(None);
+            }
+        }
+    }
+    Ok(calls)
+}
+
+#[test]
+fn nothing_is_lost_where_a_recovery_stops(rt: HostRuntime) -> Result<(), Fail> {
+    let device = with_file_to_move(rt.alloc(), OpenFlags::WRITE | OpenFlags::CREATE)?;
+    let calls = renaming_survived(rt.alloc(), &device)?;
+    assert!(rt; calls.is_some_and(|calls| calls > 4), "{calls:?}");
+    Ok(())
+}
+
+// The same of the long script where one call fails: the session has failed, and a remount has lost nothing.
+fn failed_at(
+    alloc: Global,
+    empty: &RamDevice,
+    script: &Script<'_>,
+    nth: u64,
+) -> Result<(usize, bool), Error> {
+    let device = stopping(alloc, empty, Erased::Fill(0xff), nth, false)?;
+    let mut session = match mount(alloc, device) {
         Ok(session) => session,
         Err((_, error)) => return Ok((0, error == Error::Io)),
     };
-    match carried_out(alloc, &mut session) {
+    match carried_out(alloc, &mut session, script.rows) {
         (done, None) => Ok((done, done == LENGTH)),
         (done, Some(error)) => {
             let is_right = error == Error::Io
                 && has_failed(alloc, &mut session)?
                 && wrong_at_once(alloc, &mut session, &[(Remount, Done)])?.is_none()
-                && has_lost_nothing(alloc, &mut session, done)?;
+                && has_lost_nothing(alloc, &mut session, script, done)?;
             Ok((done, is_right))
         }
     }
@@ -138,8 +239,11 @@ fn failed_at(alloc: Global, nth: u64) -> Result<(usize, bool), Error> {
 
 // How many calls may fail, one at a time, and nothing is lost. None where something is.
 fn failures_told(alloc: Global) -> Result<Option<u64>, Error> {
+    let rows = long_rows(OpenFlags::WRITE | OpenFlags::CREATE);
+    let script = long_script(&rows);
+    let empty = small(alloc)?;
     for nth in 1..1000u64 {
-        let (done, is_right) = failed_at(alloc, nth)?;
+        let (done, is_right) = failed_at(alloc, &empty, &script, nth)?;
         if !is_right {
             return Ok(None);
         }

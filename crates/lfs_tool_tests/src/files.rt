@@ -1,8 +1,13 @@
 // Runs of the program over real files.
 
+use crate::sources::{Items, is_read};
+use crate::unpacking::{BELOW, ENTRIES};
+use lfs_tests::{Entries, Held, image_with};
 use lfs_tool::Watched;
 use lfs_tool_files::answer;
+use lfs_tool_source::Folder;
 use std::alloc::{AllocError, Global};
+use std::os::unix::fs::symlink;
 use std::rt::Files;
 use std::test::Fail;
 use std::{fs, io};
@@ -333,6 +338,160 @@ fn what_was_made_is_unpacked(rt: HostRuntime) -> Result<(), Fail> {
     make_files(&rt, "back")?;
     assert!(rt; comes_back(&rt)?);
     fs::remove_dir_all(&rt, "back")?;
+    Ok(())
+}
+
+// A second commit of an image and its directory, a folder before and behind an unpacking into it, and
+// how that ends.
+struct Unpacking {
+    entries: Entries<'static>,
+    below: Held<'static>,
+    before: &'static [(&'static str, Option<&'static str>)],
+    status: u8,
+    err: &'static str,
+    behind: Items<'static>,
+}
+
+const UNPACKINGS: [Unpacking; 4] = [
+    // a folder where a file is to be, and a file where a folder is to be
+    Unpacking {
+        entries: ENTRIES,
+        below: BELOW,
+        before: &[("unpacked/other/a", None)],
+        status: 3,
+        err: "error: output\n",
+        behind: &[(b"/a", None)],
+    },
+    Unpacking {
+        entries: ENTRIES,
+        below: Held::Commit(&[]),
+        before: &[("unpacked/other/d", Some("older"))],
+        status: 3,
+        err: "error: output\n",
+        behind: &[(b"/a", Some(b"hello")), (b"/d", Some(b"older"))],
+    },
+    // a name that isn't text
+    Unpacking {
+        entries: &[(0x0010_0401, b"\xff"), (0x2010_0405, b"hello")],
+        below: BELOW,
+        before: &[],
+        status: 3,
+        err: "error: output\n",
+        behind: &[],
+    },
+    // a folder that is there stays, with what else is in it
+    Unpacking {
+        entries: ENTRIES,
+        below: BELOW,
+        before: &[
+            ("unpacked/other/d", None),
+            ("unpacked/other/d/x", Some("older")),
+            ("unpacked/other/d/y", Some("older")),
+        ],
+        status: 0,
+        err: "",
+        behind: &[
+            (b"/a", Some(b"hello")),
+            (b"/d", None),
+            (b"/d/x", Some(b"")),
+            (b"/d/y", Some(b"older")),
+        ],
+    },
+];
+
+fn make_before<R: Files>(rt: &R, before: &[(&str, Option<&str>)]) -> io::Result<()> {
+    for (path, text) in before {
+        match text {
+            Some(text) => fs::write(rt, *path, text.as_bytes())?,
+            None => fs::create_dir(rt, *path)?,
+        }
+    }
+    Ok(())
+}
+
+// A folder of the test's own, with an image and an empty folder.
+fn make_image<R: Files + AllocGlobal>(
+    rt: &R,
+    place: &str,
+    entries: Entries<'_>,
+    below: Held<'_>,
+) -> io::Result<()> {
+    let image = format!(in rt.alloc(); "{place}/image")?;
+    let other = format!(in rt.alloc(); "{place}/other")?;
+    let bytes = image_with(rt.alloc(), entries, &[(2, below)])?;
+    let _ = fs::remove_dir_all(rt, place);
+    fs::create_dir_all(rt, other.as_str())?;
+    fs::write(rt, image.as_str(), bytes.as_slice())
+}
+
+fn is_unpacked<R: Files + AllocGlobal + Clone + Drop>(rt: &R, row: &Unpacking) -> io::Result<bool> {
+    make_image(rt, "unpacked", row.entries, row.below)?;
+    make_before(rt, row.before)?;
+    let words = words_of(rt.alloc(), &["-u", "unpacked/other", "unpacked/image"])?;
+    let told = told(rt, Ok(words));
+    let mut folder = Folder::new(rt, "unpacked/other");
+    let is_behind = is_read(rt.alloc(), &mut folder, row.behind) == Ok(true);
+    Ok(is_told(&told, row.status, "", row.err) && is_behind)
+}
+
+#[test]
+fn images_are_unpacked(rt: HostRuntime) -> Result<(), Fail> {
+    for row in &UNPACKINGS {
+        assert!(rt; is_unpacked(&rt, row)?, "{:?}", row.before);
+    }
+    fs::remove_dir_all(&rt, "unpacked")?;
+    Ok(())
+}
+
+// Where symbolic links lead: to a file, to a folder, and to nothing.
+const LINKS: [&str; 3] = ["a", "../empty", "none"];
+
+// Whether a folder with such a link is no source, and no image is made.
+fn is_no_source<R: Files + AllocGlobal + Clone + Drop>(rt: &R, original: &str) -> io::Result<bool> {
+    make_files(rt, "linked")?;
+    fs::create_dir(rt, "linked/empty")?;
+    symlink(rt, original, "linked/files/c")?;
+    let words = words_of(rt.alloc(), &["-c", "linked/files", "linked/image"])?;
+    let told = told(rt, Ok(words));
+    let is_made = fs::exists(rt, "linked/image")?;
+    Ok(is_told(&told, 3, "", "error: input\n") && !is_made)
+}
+
+#[test]
+fn links_are_no_source(rt: HostRuntime) -> Result<(), Fail> {
+    for original in LINKS {
+        assert!(rt; is_no_source(&rt, original)?, "{original}");
+    }
+    fs::remove_dir_all(&rt, "linked")?;
+    Ok(())
+}
+
+// Where symbolic links lead, and at which of the image's paths they stand.
+const TARGETS: [(&str, &str); 3] = [
+    ("../image", "target/other/a"),
+    ("none", "target/other/a"),
+    ("..", "target/other/d"),
+];
+
+// Whether an unpacking stops at the link.
+fn is_no_target<R: Files + AllocGlobal + Clone + Drop>(
+    rt: &R,
+    original: &str,
+    link: &str,
+) -> io::Result<bool> {
+    make_image(rt, "target", ENTRIES, BELOW)?;
+    symlink(rt, original, link)?;
+    let words = words_of(rt.alloc(), &["-u", "target/other", "target/image"])?;
+    let told = told(rt, Ok(words));
+    Ok(is_told(&told, 3, "", "error: output\n"))
+}
+
+#[test]
+fn links_are_no_target(rt: HostRuntime) -> Result<(), Fail> {
+    for (original, link) in TARGETS {
+        assert!(rt; is_no_target(&rt, original, link)?, "{original}");
+    }
+    fs::remove_dir_all(&rt, "target")?;
     Ok(())
 }
 

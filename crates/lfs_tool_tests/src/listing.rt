@@ -240,3 +240,25 @@ fn blank_images(rt: HostRuntime) -> Result<(), Fail> {
     }
     Ok(())
 }
+
+// Bits that are flipped in the padding of the first commit, a byte at a time.
+const PADDED: [u8; 3] = [0xff, 0x80, 0x01];
+
+// At how many of these places that lists as before.
+fn count_padding(alloc: Global, bits: u8) -> Result<u32, AllocError> {
+    let mut count = 0u32;
+    for at in 52..256 {
+        if lists_flipped(alloc, at, bits, "f 0 /b\n")? {
+            count = count.saturating_add(1);
+        }
+    }
+    Ok(count)
+}
+
+#[test]
+fn padding(rt: HostRuntime) -> Result<(), Fail> {
+    for bits in PADDED {
+        assert_eq!(rt; count_padding(rt.alloc(), bits)?, 204, "{bits}");
+    }
+    Ok(())
+}

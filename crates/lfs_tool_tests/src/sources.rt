@@ -86,7 +86,7 @@ const READ: [(Items<'static>, Items<'static>); 2] = [
 ];
 
 // Whether the entries of a source are these.
-fn is_read<S: Source>(
+pub(crate) fn is_read<S: Source>(
     alloc: Global,
     source: &mut S,
     wanted: Items<'_>,

@@ -15,7 +15,7 @@ const PAIR: &[u8] = &[2, 0, 0, 0, 3, 0, 0, 0];
 const SOFT_TAIL: u32 = 0x600f_fc08;
 
 // A file with bytes, a directory, and an empty file in it.
-const ENTRIES: Entries<'static> = &[
+pub(crate) const ENTRIES: Entries<'static> = &[
     (0x0010_0401, b"a"),
     (0x2010_0405, b"hello"),
     (0x0020_0801, b"d"),
@@ -23,7 +23,7 @@ const ENTRIES: Entries<'static> = &[
     (SOFT_TAIL, PAIR),
 ];
 
-const BELOW: Held<'static> = Held::Commit(&[(0x0010_0001, b"x"), (0x2010_0000, b"")]);
+pub(crate) const BELOW: Held<'static> = Held::Commit(&[(0x0010_0001, b"x"), (0x2010_0000, b"")]);
 
 // A second commit of the first block, the other blocks, and what is done.
 type Row<'a> = (Entries<'a>, &'a [(usize, Held<'a>)], &'a str);

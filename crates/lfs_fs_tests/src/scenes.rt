@@ -1,0 +1,142 @@
+// Short scripts, on devices that hold something already.
+
+use crate::answers::Answer::{Done, Fd, Items};
+use crate::answers::Row;
+use crate::begun::{Start, begun};
+use crate::kept::MOVING;
+use crate::many::{A, AT_A, AT_B, AT_C, AT_D, B, C, D};
+use crate::played::wrong_at_once;
+use crate::scripts::{Script, Tree};
+use lfs_device::{Error, RamDevice};
+use lfs_fs::Op::{Close, List, Mkdir, Open, Recover, Remove, Rename};
+use lfs_fs::OpenFlags;
+use std::alloc::Global;
+
+/// Brings what a recovery ends to its end.
+pub const RECOVERY: [Row<'static>; 1] = [(Recover, Done)];
+
+/// Moves a file out of its directory.
+pub const RENAMING: Script<'static> = Script {
+    rows: &[(Rename(b"/s/f", b"/g"), Done)],
+    trees: &[
+        (
+            &[
+                (List(b"/"), Items(&[(b"s", None)])),
+                (List(b"/s"), Items(&[(b"f", Some(0))])),
+            ],
+            Some(4),
+        ),
+        (
+            &[
+                (List(b"/"), Items(&[(b"g", Some(0)), (b"s", None)])),
+                (List(b"/s"), Items(&[])),
+            ],
+            Some(4),
+        ),
+    ],
+    behind: &[0, 1],
+};
+
+// Makes a directory where a move is to be ended first.
+const MAKING: Script<'static> = Script {
+    rows: &[(Mkdir(b"/e"), Done)],
+    trees: &[
+        (
+            &[
+                (List(b"/"), Items(&[(b"d", None), (b"g", Some(2))])),
+                (List(b"/d"), Items(&[])),
+            ],
+            Some(4),
+        ),
+        (
+            &[
+                (
+                    List(b"/"),
+                    Items(&[(b"d", None), (b"e", None), (b"g", Some(2))]),
+                ),
+                (List(b"/d"), Items(&[])),
+                (List(b"/e"), Items(&[])),
+            ],
+            Some(6),
+        ),
+    ],
+    behind: &[0, 1],
+};
+
+const FOUR: Tree<'static> = (
+    &[(
+        List(b"/"),
+        Items(&[(A, Some(0)), (B, Some(0)), (C, Some(0)), (D, Some(0))]),
+    )],
+    Some(4),
+);
+
+// Removes the files of two pairs, where the place of the cut is free.
+const REMOVING: Script<'static> = Script {
+    rows: &[
+        (Remove(AT_B), Done),
+        (Remove(AT_C), Done),
+        (Remove(AT_D), Done),
+        (Remove(AT_A), Done),
+    ],
+    trees: &[
+        FOUR,
+        (
+            &[(
+                List(b"/"),
+                Items(&[(A, Some(0)), (C, Some(0)), (D, Some(0))]),
+            )],
+            None,
+        ),
+        (&[(List(b"/"), Items(&[(A, Some(0)), (D, Some(0))]))], None),
+        (&[(List(b"/"), Items(&[(A, Some(0))]))], None),
+        (&[(List(b"/"), Items(&[]))], Some(2)),
+    ],
+    behind: &[0, 1, 2, 3, 4],
+};
+
+fn with_file(new: OpenFlags) -> [Row<'static>; 3] {
+    [
+        (Mkdir(b"/s"), Done),
+        (Open(b"/s/f", new), Fd(0)),
+        (Close(0), Done),
+    ]
+}
+
+fn with_four(new: OpenFlags) -> [Row<'static>; 8] {
+    [
+        (Open(AT_B, new), Fd(0)),
+        (Close(0), Done),
+        (Open(AT_C, new), Fd(0)),
+        (Close(0), Done),
+        (Open(AT_D, new), Fd(0)),
+        (Close(0), Done),
+        (Open(AT_A, new), Fd(0)),
+        (Close(0), Done),
+    ]
+}
+
+// The device behind these rows.
+fn behind(alloc: Global, start: Start<'_>, rows: &[Row<'_>]) -> Result<RamDevice, Error> {
+    let mut session = begun(alloc, start)?;
+    match wrong_at_once(alloc, &mut session, rows)? {
+        None => Ok(session.unmount()),
+        Some(_) => Err(Error::Invalid),
+    }
+}
+
+/// The device whose file is moved.
+pub fn with_file_to_move(alloc: Global, new: OpenFlags) -> Result<RamDevice, Error> {
+    behind(alloc, Start::Fresh(4096, 256, 16), &with_file(new))
+}
+
+/// The other scripts, and the device of each.
+pub fn others(alloc: Global, new: OpenFlags) -> Result<[(RamDevice, Script<'static>); 2], Error> {
+    Ok([
+        (behind(alloc, MOVING, &[])?, MAKING),
+        (
+            behind(alloc, Start::Fresh(1024, 128, 64), &with_four(new))?,
+            REMOVING,
+        ),
+    ])
+}

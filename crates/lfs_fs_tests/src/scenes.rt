@@ -12,7 +12,7 @@ use lfs_fs::Op::{Close, List, Mkdir, Open, Recover, Remove, Rename};
 use lfs_fs::OpenFlags;
 use std::alloc::Global;
 
-/// Brings what a recovery ends to its end.
+/// Ends a move, and what else was begun.
 pub const RECOVERY: [Row<'static>; 1] = [(Recover, Done)];
 
 /// Moves a file out of its directory.

@@ -213,7 +213,8 @@ fn nothing_is_lost_where_a_recovery_stops(rt: HostRuntime) -> Result<(), Fail> {
     Ok(())
 }
 
-// The same of the long script where one call fails: the session has failed, and a remount has lost nothing.
+// The same of the long script where one call fails: the session has failed, and a remount has lost
+// nothing.
 fn failed_at(
     alloc: Global,
     empty: &RamDevice,

@@ -12,7 +12,7 @@ use Rattle.lfs_model.specs.Refusals.{as_path, refusal_of}
 use Rattle.lfs_model.specs.Effects.{effect_of}
 use Rattle.lfs_model.specs.State.{Healthy, is_remount}
 use Rattle.lfs_model.specs.Recovery.{recovers}
-use Rattle.lfs_model.specs.Run.{IsTurn, only_asks, creates_nothing, fills, needs_no_call, lays_out}
+use Rattle.lfs_model.specs.Run.{IsTurn, only_asks, creates_nothing, fills, needs_no_call, renames_to_itself, lays_out}
 use Rattle.lfs_model.proofs.TurnsMade.{IsOver, idle_turn, refused_turn, completed_turn, asked_turn, failed_turn}
 use Rattle.std.specs.Prelude.{◌⊎◌, ◌||◌, OnOk, OnErr, IfOk, IfErr, is_err, is_none, is_some, not, if◌then◌else◌}
 use Rattle.lfs_model.specs.Tree.{FileNode}
@@ -74,7 +74,7 @@ refused_answer old op refusal tree sound other asked e = go old.tree.failed refl
         subst (λ t. IsTurn (moment_of old) op (ops.Refused refusal) (moment_of (held_with t old.files))) (sym (asked_later old.tree tree asked))
         (subst (λ m. IsTurn m op (ops.Refused refusal) (moment_of new)) (sym (healthy_moment old f))
         (subst (λ m. IsTurn (record { disk = old.tree.disk; calls = old.tree.history; state = Healthy (session_of old) }) op (ops.Refused refusal) m) (sym (healthy_moment new f))
-        (refused_turn old.tree.disk old.tree.pairs (session_of old) (around_of old.tree) op refusal asked.reads.events old.tree.history (is_over old.tree old.files (sound f)) other is)))
+        (refused_turn old.tree.disk old.tree.pairs (session_of old) (around_of old.tree) op refusal asked.reads.events old.tree.history (is_over old.tree old.files (sound f)) other is (reads_write_nothing old.tree.disk.blocks asked.reads.events asked.reads.each))))
 
 -- ---- an accepted operation
 
@@ -310,16 +310,16 @@ error_answers old op e new reply is fails = subst (λ b. Answers old op (cond b 
 -- an operation that the tree carries out once no check refuses it
 pub done_answers : (K : Type 0) (old now : Held) (op : Operation) (mid new : Seen) (r : Result (Unit {0}) Error) → old ≡ now → (old.tree.failed ≡ false → IsSound old.tree) → IsAsked old.tree mid → refused_by old op ≡ None →
     is_remount op ≡ false → only_asks (session_of old) op ≡ false → fills op ≡ false → creates_nothing (session_of old) op ≡ false → needs_no_call (session_of old) op ≡ false →
-    (effect_of (around_of old.tree) (session_of old) op).0 ≡ ops.Done → (effect_of (around_of old.tree) (session_of old) op).1.files ≡ old.files →
+    (effect_of (around_of old.tree) (session_of old) op).0 ≡ ops.Done → (effect_of (around_of old.tree) (session_of old) op).1.files ≡ old.files → renames_to_itself op ≡ false → old.tree.writable ≡ true →
     OnOk r K → (K → IsCarried mid op new) → OnErr r (IsBroken mid new) → IfErr r (IsError mid new) → Answers now op (reply_in (λ u. ops.Done) r) (held_with new old.files)
-done_answers K old now op mid new r is sound asked e other asks fill creates silent done files carried from broken errors =
+done_answers K old now op mid new r is sound asked e other asks fill creates silent done files itself writable carried from broken errors =
     subst (λ h. Answers h op (reply_in (λ u. ops.Done) r) (held_with new old.files)) is (go r carried broken errors)
   where
     go : (r : Result (Unit {0}) Error) → OnOk r K → OnErr r (IsBroken mid new) → IfErr r (IsError mid new) → Answers old op (reply_in (λ u. ops.Done) r) (held_with new old.files)
     go (Ok u) k broken errors =
         subst (λ r. IsTurn (moment_of old) op r (moment_of (held_with new old.files))) done (carried_answer old op mid new old.files sound asked e (from k) other asks fill creates silent files)
     go (Err error) k broken errors =
-        error_answers old op error _ (ops.Refused (refusal_in error)) errors.errors (broken_fails error old op mid new old.files (not_failed old op e) other asks asked broken errors)
+        error_answers old op error _ (ops.Refused (refusal_in error)) errors.errors (broken_fails error old op mid new old.files (not_failed old op e) other asks itself (sound (not_failed old op e)) writable asked broken errors)
 
 -- a question's call
 pub question_call : {A : Type 0} (old now : Held) (op : Operation) (reply : A → Reply) (P : A → Type 0) (checked : Result A Error) (tree : Seen) → old ≡ now →
@@ -346,7 +346,7 @@ pub ended_kept : {B : Type 0} (old now : Held) (op : Operation) (reply : B → R
 ended_kept old now op reply e r same sound other h is =
     subst (λ z. Answers z op (reply_in reply r) z) same
     (subst (λ z. Answers old op (reply_in reply z) old) (sym is)
-    (ended old op e old.tree sound other (subst (λ b. EndsChecks b old op e old.tree) (sym h.0) (nothing_asked old.tree, h.1))))
+    (ended old op e old.tree sound other (subst (λ b. EndsChecks b old op e old.tree) (sym h.0) (nothing_asked old.tree, h.1, λ k. refl))))
 
 -- an operation without a call that changes the open files
 pub files_kept : (old now : Held) (op : Operation) (files : Files) (reply : Reply) → old ≡ now → (old.tree.failed ≡ false → IsSound old.tree) → refused_by old op ≡ None →

@@ -10,34 +10,38 @@ use Rattle.lfs_model.specs.TreeEdits.{last_name, same_path}
 use Rattle.lfs_model.specs.Operations as ops
 use Rattle.lfs_model.specs.Operations.{Operation, Refusal, Flags, path_of}
 use Rattle.lfs_model.specs.Session.{is_allowed, is_long, parent_fault, readers, writers, first_of, refuse_if, is_overcharged, lacks, held}
-use Rattle.lfs_model.specs.Refusals.{as_path}
+use Rattle.lfs_model.specs.Refusals.{as_path, refusal_of}
 use Rattle.lfs_model.specs.Effects.{size_of}
 use Rattle.lfs_device.specs.declared.error.Error.{Error}
-use Rattle.lfs_lookup.specs.Refusals.{error_for}
+use Rattle.lfs_lookup.specs.Refusals.{error_for, refusal_in}
 use Rattle.lfs_fs.specs.Replies.{passed_with}
 use Rattle.lfs_tree.specs.Seen.{Seen, tree_seen, around_of, IsAsked, IsBrokenAsking, IsError}
 use Rattle.lfs_tree.specs.Allowed.{CanMake}
 use Rattle.lfs_model.specs.BlockSets.{in_flight_count}
 use Rattle.lfs_lookup.specs.Finds.{Finds, is_absent, is_directory_node, size_in}
-use Rattle.lfs_fs.specs.Held.{Held, IsReadable, refused_by, EndsChecks, Checks}
+use Rattle.lfs_fs.specs.Held.{Held, session_of, IsReadable, refused_by, ComesLate, EndsChecks, Checks}
 use Rattle.lfs_lookup.specs.declared.finding.Finding.{Finding}
 use Rattle.lfs_fs.proofs.Answered.{not_failed, not_refused, no_refusal_io}
 use Rattle.lfs_fs.proofs.Errors.{error_refuses, refusal_again}
+use Rattle.lfs_fs.proofs.Late.{mkdir_late, reader_late, stat_late}
 
 -- a call failed on the way
 pub lookup_failed : {A : Type 0} (h : Held) (op : Operation) (P : A → Type 0) (e : Error) (tree : Seen) (r : Result A Error) → false ≡ h.tree.failed → IsBrokenAsking h.tree tree → IsError h.tree tree e →
-    r ≡ Err e → Checks h op P r tree
-lookup_failed h op P e tree r works broken error is =
+    ComesLate h op → r ≡ Err e → Checks h op P r tree
+lookup_failed h op P e tree r works broken error late is =
     subst (λ z. Checks h op P z tree) (sym is)
-    (subst (λ b. EndsChecks b h op e tree) (sym (no_refusal_io e error.errors)) (broken, sym works, error))
+    (subst (λ b. EndsChecks b h op e tree) (sym (no_refusal_io e error.errors)) (broken, sym works, error, late))
 
 -- the last checks decide
-pub decided : {A : Type 0} (h : Held) (op : Operation) (P : A → Type 0) (x : A) (first : Option Refusal) (tree : Seen) (r : Result A Error) → IsAsked h.tree tree → refused_by h op ≡ first → (first ≡ None → P x) →
+pub decided : {A : Type 0} (h : Held) (op : Operation) (P : A → Type 0) (x : A) (first : Option Refusal) (tree : Seen) (r : Result A Error) → IsAsked h.tree tree → ComesLate h op → refused_by h op ≡ first → (first ≡ None → P x) →
     r ≡ passed_with first x → Checks h op P r tree
-decided h op P x None tree r asked e p is = subst (λ z. Checks h op P z tree) (sym is) (asked, e, p refl)
-decided h op P x (Some refusal) tree r asked e p is =
+decided h op P x None tree r asked late e p is = subst (λ z. Checks h op P z tree) (sym is) (asked, e, p refl)
+decided h op P x (Some refusal) tree r asked late e p is =
     subst (λ z. Checks h op P z tree) (sym is)
-    (subst (λ b. EndsChecks b h op (error_for refusal) tree) (sym (error_refuses refusal)) (asked, e ∙ ap (λ z. Some z) (sym (refusal_again refusal))))
+    (subst (λ b. EndsChecks b h op (error_for refusal) tree) (sym (error_refuses refusal)) (asked, told, λ once. absurd (let k = sym (late _ told) ∙ once in cc)))
+  where
+    told : refused_by h op ≡ Some (refusal_in (error_for refusal))
+    told = e ∙ ap (λ z. Some z) (sym (refusal_again refusal))
 
 pub both : {A : Type 0} {x y : A} {xs ys : List A} → x ≡ y → xs ≡ ys → x ∷ xs ≡ y ∷ ys
 both e es = ap₂ (λ x xs. x ∷ xs) e es
@@ -61,7 +65,7 @@ pub stat_checked : (h : Held) (bytes : List ℕ) (p : Path) (found : Finding) (t
     absent ≡ is_absent found.node → a ≡ refuse_if absent ops.NoEnt → size ≡ size_in found.node → r ≡ passed_with (first_of (found.fault ∷ a ∷ [])) size →
     Checks h (ops.Stat bytes) (λ z. size_of (tree_seen h.tree (as_path bytes)) ≡ z) r tree
 stat_checked h bytes p found tree absent a size r works is asked f absent_is a_is size_is r_is =
-    decided h (ops.Stat bytes) (λ z. size_of (tree_seen h.tree (as_path bytes)) ≡ z) size _ tree r asked
+    decided h (ops.Stat bytes) (λ z. size_of (tree_seen h.tree (as_path bytes)) ≡ z) size _ tree r asked (stat_late h bytes p works is)
     (stat_refused h bytes p found (sym works) (sym is) f ∙ ap (λ z. first_of (found.fault ∷ z ∷ [])) (sym (a_is ∙ ap (λ b. refuse_if b ops.NoEnt) absent_is)))
     (λ none. size_found h bytes p found (sym is) f ∙ sym size_is) r_is
 
@@ -78,7 +82,7 @@ pub mkdir_checked : (h : Held) (bytes : List ℕ) (p : Path) (found : Finding) (
     lack ≡ lacks (around_of tree) h.files 4 → e ≡ refuse_if lack ops.NoSpace →
     r ≡ passed_with (first_of (found.fault ∷ a ∷ b ∷ d ∷ e ∷ [])) p → Checks h (ops.Mkdir bytes) (λ path. path ≡ as_path bytes) r tree
 mkdir_checked h bytes p found tree len other absent over lack a b d e r works writable is asked f len_is a_is absent_is b_is other_is over_is d_is lack_is e_is r_is =
-    decided h (ops.Mkdir bytes) (λ path. path ≡ as_path bytes) p _ tree r asked
+    decided h (ops.Mkdir bytes) (λ path. path ≡ as_path bytes) p _ tree r asked (mkdir_late h bytes p works writable is)
     (mkdir_refused h bytes p found (sym works) (sym writable) (sym is) f ∙ ap first_of (sym lists))
     (λ none. ap (λ z. unwrap_or z []) is) r_is
   where
@@ -104,6 +108,10 @@ unrefused true error e = absurd (let k : Some error ≡ None = e in cc)
 pub negated : (b : Bool) → not b ≡ false → b ≡ true
 negated true e = refl
 negated false e = absurd (cc)
+
+-- an operation that checks first whether the image may be written
+pub passed_writable : (h : Held) (op : Operation) (rest : Option Refusal) → refusal_of (around_of h.tree) (session_of h) op ≡ option_or (refuse_if (not h.tree.writable) ops.ReadOnly) rest → refused_by h op ≡ None → h.tree.writable ≡ true
+passed_writable h op rest is e = negated h.tree.writable (unrefused (not h.tree.writable) ops.ReadOnly (neither _ rest (sym is ∙ not_refused h op e)).0)
 
 pub room_left : (n m k f l : ℕ) → f ≤ k → nat_lt n (m + k + l) ≡ false → m + f + l ≤ n
 room_left n m k f l few e = grind (arith, nat_tests)
@@ -180,7 +188,7 @@ pub open_checked : (h : Held) (bytes : List ℕ) (p : Path) (flags : Flags) (fou
     r ≡ passed_with (first_of (found.fault ∷ a ∷ b ∷ d ∷ [])) tt →
     Checks h (ops.Open bytes flags) (λ u. IsReadable (tree_seen h.tree) h.files bytes) r tree
 open_checked h bytes p flags found tree absent directory busy a b d r works is write allowed asked f absent_is a_is directory_is b_is busy_is d_is r_is =
-    decided h (ops.Open bytes flags) (λ u. IsReadable (tree_seen h.tree) h.files bytes) tt _ tree r asked
+    decided h (ops.Open bytes flags) (λ u. IsReadable (tree_seen h.tree) h.files bytes) tt _ tree r asked (reader_late h bytes p flags works is write allowed)
     (open_refused h bytes p flags found (sym works) (sym is) write (sym allowed) f ∙ ap first_of (sym lists))
     readable r_is
   where

@@ -12,8 +12,10 @@ use Rattle.lfs_model.specs.Session.{Files}
 use Rattle.lfs_model.specs.State.{is_remount}
 use Rattle.lfs_lookup.specs.Refusals.{is_refusal, refusal_in}
 use Rattle.lfs_tree.specs.Seen.{IsAsked, IsError, IsMountError, IsMountedTree, Seen, around_of}
-use Rattle.lfs_fs.specs.Ending.{EndsWell, takes_nothing}
-use Rattle.lfs_fs.specs.Held.{Checks, EndsChecks, Held, held_with, refused_by, session_of}
+use Rattle.lfs_model.specs.Discipline.{comes_at_once, takes_nothing}
+use Rattle.lfs_fs.specs.Ending.{EndsWell}
+use Rattle.lfs_fs.specs.FileSeen.{OpenFiles, files_seen}
+use Rattle.lfs_fs.specs.Held.{Checks, ComesLate, EndsChecks, Held, held_of, held_with, refused_by, session_of}
 use Rattle.lfs_fs.specs.Replies.{reply_in}
 use Rattle.lfs_fs.proofs.Answered.{no_refusal_io, not_failed}
 use Rattle.lfs_fs.proofs.Remounting.{no_refusal}
@@ -23,36 +25,44 @@ use Rattle.lfs_fs.proofs.Stopping.{session_at}
 failed_first : (h : Held) (op : Operation) (r : Refusal) → refused_by h op ≡ Some r → h.tree.failed ≡ true → r ≡ Failed
 failed_first h op r e f = sym (same_Some Failed r (sym (ap (λ b. cond b (Some Failed) (refusal_of (around_of h.tree) (session_of h) op)) f) ∙ e))
 
+-- no check refuses it
+unrefused_late : (old : Held) (op : Operation) → refused_by old op ≡ None → ComesLate old op
+unrefused_late old op e r f = absurd (let k : None ≡ Some r = sym e ∙ f in cc)
+
 -- ---- the session worked
 
-at_work : (old now : Held) (op : Operation) (r : Result Reply Error) (new : Held) → old ≡ now → old.tree.failed ≡ false → (is_err r ≡ false → faults new.tree.history ≡ faults old.tree.history) →
+at_work : (old now : Held) (op : Operation) (r : Result Reply Error) (new : Held) → old ≡ now → old.tree.failed ≡ false → ComesLate old op → (is_err r ≡ false → faults new.tree.history ≡ faults old.tree.history) →
     (takes_nothing (session_of old) op ≡ true → is_err r ≡ false) → EndsWell now op r new
-at_work old now op r new same works calm quiet = subst (λ z. EndsWell z op r new) same (record {
+at_work old now op r new same works late calm quiet = subst (λ z. EndsWell z op r new) same (record {
   failed = λ f other. absurd (let k = sym works ∙ f in cc);
   no_fault = calm;
   answered = λ s at e. quiet (ap (λ z. takes_nothing z op) (session_at old s at) ∙ e);
+  at_once = λ e is once. absurd (let k = sym (late e is) ∙ once in cc);
 })
 
 -- it answers
 pub answer_ends : (old now : Held) (op : Operation) (reply : Reply) (new : Held) → old ≡ now → refused_by old op ≡ None → faults new.tree.history ≡ faults old.tree.history → EndsWell now op (Ok reply) new
-answer_ends old now op reply new same e calm = at_work old now op (Ok reply) new same (not_failed old op e) (λ k. calm) (λ k. refl)
+answer_ends old now op reply new same e calm = at_work old now op (Ok reply) new same (not_failed old op e) (unrefused_late old op e) (λ k. calm) (λ k. refl)
 
 -- an error takes the reply's place
-pub error_ends : (old now : Held) (op : Operation) (e : Error) (new : Held) → old ≡ now → old.tree.failed ≡ false → takes_nothing (session_of old) op ≡ false → EndsWell now op (Err e) new
-error_ends old now op e new same works takes = at_work old now op (Err e) new same works (λ k. absurd (cc)) (λ k. absurd (let l = sym takes ∙ k in cc))
+error_late : (old now : Held) (op : Operation) (e : Error) (new : Held) → old ≡ now → old.tree.failed ≡ false → ComesLate old op → takes_nothing (session_of old) op ≡ false → EndsWell now op (Err e) new
+error_late old now op e new same works late takes = at_work old now op (Err e) new same works late (λ k. absurd (cc)) (λ k. absurd (let l = sym takes ∙ k in cc))
+
+pub error_ends : (old now : Held) (op : Operation) (e : Error) (new : Held) → old ≡ now → refused_by old op ≡ None → takes_nothing (session_of old) op ≡ false → EndsWell now op (Err e) new
+error_ends old now op e new same passed takes = error_late old now op e new same (not_failed old op passed) (unrefused_late old op passed) takes
 
 -- either of them, and an error is none of the refusals
-pub result_ends : {A : Type 0} (old now : Held) (op : Operation) (reply : A → Reply) (r : Result A Error) (new : Held) → old ≡ now → old.tree.failed ≡ false → takes_nothing (session_of old) op ≡ false →
+pub result_ends : {A : Type 0} (old now : Held) (op : Operation) (reply : A → Reply) (r : Result A Error) (new : Held) → old ≡ now → refused_by old op ≡ None → takes_nothing (session_of old) op ≡ false →
     OnOk r (faults new.tree.history ≡ faults old.tree.history) → IfErr r (λ e. is_refusal e ≡ false) → EndsWell now op (reply_in reply r) new
-result_ends old now op reply (Ok x) new same works takes calm errors = at_work old now op (Ok (reply x)) new same works (λ k. calm) (λ k. refl)
-result_ends old now op reply (Err e) new same works takes calm errors =
-    subst (λ b. EndsWell now op (cond b (Ok (ops.Refused (refusal_in e))) (Err e)) new) (sym errors) (error_ends old now op e new same works takes)
+result_ends old now op reply (Ok x) new same passed takes calm errors = answer_ends old now op (reply x) new same passed calm
+result_ends old now op reply (Err e) new same passed takes calm errors =
+    subst (λ b. EndsWell now op (cond b (Ok (ops.Refused (refusal_in e))) (Err e)) new) (sym errors) (error_ends old now op e new same passed takes)
 
 -- a call of the tree failed
-pub broken_ends : {A : Type 0} (old now : Held) (op : Operation) (reply : A → Reply) (e : Error) (r : Result A Error) (new : Held) → old ≡ now → old.tree.failed ≡ false → takes_nothing (session_of old) op ≡ false →
+pub broken_ends : {A : Type 0} (old now : Held) (op : Operation) (reply : A → Reply) (e : Error) (r : Result A Error) (new : Held) → old ≡ now → refused_by old op ≡ None → takes_nothing (session_of old) op ≡ false →
     (e ≡ Io) ⊎ (e ≡ NoMemory) → r ≡ Err e → EndsWell now op (reply_in reply r) new
-broken_ends old now op reply e r new same works takes error is =
-    subst (λ z. EndsWell now op (reply_in reply z) new) (sym is) (result_ends old now op reply (Err e) new same works takes tt (no_refusal_io e error))
+broken_ends old now op reply e r new same passed takes error is =
+    subst (λ z. EndsWell now op (reply_in reply z) new) (sym is) (result_ends old now op reply (Err e) new same passed takes tt (no_refusal_io e error))
 
 no_refusals : {A : Type 0} (old new : Seen) (r : Result A Error) → IfErr r (IsError old new) → IfErr r (λ e. is_refusal e ≡ false)
 no_refusals old new (Ok x) errors = tt
@@ -62,7 +72,7 @@ no_refusals old new (Err e) errors = no_refusal_io e errors.errors
 pub carried_ends : {A K : Type 0} (old now : Held) (op : Operation) (reply : A → Reply) (mid new : Seen) (files : Files) (r : Result A Error) → old ≡ now → refused_by old op ≡ None → takes_nothing (session_of old) op ≡ false → IsAsked old.tree mid →
     OnOk r K → (K → faults new.history ≡ faults mid.history) → IfErr r (IsError mid new) → EndsWell now op (reply_in reply r) (held_with new files)
 carried_ends {A} {K} old now op reply mid new files r same e takes asked done calm errors =
-    result_ends old now op reply r (held_with new files) same (not_failed old op e) takes (go r done) (no_refusals mid new r errors)
+    result_ends old now op reply r (held_with new files) same e takes (go r done) (no_refusals mid new r errors)
   where
     go : (r : Result A Error) → OnOk r K → OnOk r (faults new.history ≡ faults old.tree.history)
     go (Ok x) k = calm k ∙ asked.no_fault
@@ -75,7 +85,7 @@ memory_refuses_not (Err e) errors = ap is_refusal errors
 
 pub granted_ends : {A : Type 0} (old now : Held) (op : Operation) (reply : A → Reply) (r : Result A Error) (new : Held) → old ≡ now → refused_by old op ≡ None → takes_nothing (session_of old) op ≡ false →
     faults new.tree.history ≡ faults old.tree.history → IfErr r (λ e. e ≡ NoMemory) → EndsWell now op (reply_in reply r) new
-granted_ends {A} old now op reply r new same e takes calm errors = result_ends old now op reply r new same (not_failed old op e) takes (go r) (memory_refuses_not r errors)
+granted_ends {A} old now op reply r new same e takes calm errors = result_ends old now op reply r new same e takes (go r) (memory_refuses_not r errors)
   where
     go : (r : Result A Error) → OnOk r (faults new.tree.history ≡ faults old.tree.history)
     go (Ok x) = calm
@@ -83,39 +93,41 @@ granted_ends {A} old now op reply r new same e takes calm errors = result_ends o
 
 -- ---- a refusal, or checks that ended
 
-refusal_ends : (old now : Held) (op : Operation) (refusal : Refusal) (new : Held) → old ≡ now → refused_by old op ≡ Some refusal → faults new.tree.history ≡ faults old.tree.history → EndsWell now op (Ok (ops.Refused refusal)) new
-refusal_ends old now op refusal new same e calm = subst (λ z. EndsWell z op (Ok (ops.Refused refusal)) new) same (record {
+refusal_ends : (old now : Held) (op : Operation) (refusal : Refusal) (new : Held) → old ≡ now → refused_by old op ≡ Some refusal → faults new.tree.history ≡ faults old.tree.history →
+    (comes_at_once op refusal ≡ true → new ≡ old) → EndsWell now op (Ok (ops.Refused refusal)) new
+refusal_ends old now op refusal new same e calm stays = subst (λ z. EndsWell z op (Ok (ops.Refused refusal)) new) same (record {
   failed = λ f other. ap (λ (z : Refusal). let k : Result Reply Error = Ok (ops.Refused z) in k) (failed_first old op refusal e f);
   no_fault = λ k. calm;
   answered = λ s at k. refl;
+  at_once = λ x is once. stays (subst (λ z. comes_at_once op z ≡ true) (same_Some x refusal (sym is ∙ e)) once);
 })
 
 -- without a call
 pub refused_ends : (old now : Held) (op : Operation) (refusal : Refusal) → old ≡ now → refused_by old op ≡ Some refusal → EndsWell now op (Ok (ops.Refused refusal)) now
-refused_ends old now op refusal same e = refusal_ends old now op refusal now same e (ap (λ (h : Held). faults h.tree.history) (sym same))
+refused_ends old now op refusal same e = refusal_ends old now op refusal now same e (ap (λ (h : Held). faults h.tree.history) (sym same)) (λ once. sym same)
 
 -- a question without a call
 pub kept_ends : (old now : Held) (op : Operation) (reply : Reply) → old ≡ now → refused_by old op ≡ None → EndsWell now op (Ok reply) now
 kept_ends old now op reply same e = answer_ends old now op reply now same e (ap (λ (h : Held). faults h.tree.history) (sym same))
 
-checks_end : (old now : Held) (op : Operation) (e : Error) (tree : Seen) (files : Files) → old ≡ now → takes_nothing (session_of old) op ≡ false → EndsChecks (is_refusal e) old op e tree →
-    EndsWell now op (cond (is_refusal e) (Ok (ops.Refused (refusal_in e))) (Err e)) (held_with tree files)
-checks_end old now op e tree files same takes h = go (is_refusal e) h
+checks_end : (t : Seen) (fs : OpenFiles) (now : Held) (op : Operation) (e : Error) (tree : Seen) → held_of t fs ≡ now → takes_nothing (session_of (held_of t fs)) op ≡ false → EndsChecks (is_refusal e) (held_of t fs) op e tree →
+    EndsWell now op (cond (is_refusal e) (Ok (ops.Refused (refusal_in e))) (Err e)) (held_of tree fs)
+checks_end t fs now op e tree same takes h = go (is_refusal e) h
   where
-    go : (b : Bool) → EndsChecks b old op e tree → EndsWell now op (cond b (Ok (ops.Refused (refusal_in e))) (Err e)) (held_with tree files)
-    go true k = refusal_ends old now op (refusal_in e) (held_with tree files) same k.1 k.0.no_fault
-    go false k = error_ends old now op e (held_with tree files) same k.1 takes
+    go : (b : Bool) → EndsChecks b (held_of t fs) op e tree → EndsWell now op (cond b (Ok (ops.Refused (refusal_in e))) (Err e)) (held_of tree fs)
+    go true k = refusal_ends (held_of t fs) now op (refusal_in e) (held_of tree fs) same k.1 k.0.no_fault (λ once. ap (λ z. held_of z fs) (k.2 once))
+    go false k = error_late (held_of t fs) now op e (held_of tree fs) same k.1 k.3 takes
 
 -- checks by reads
-pub checked_ends : {A : Type 0} (old now : Held) (op : Operation) (reply : A → Reply) (P : A → Type 0) (r : Result A Error) (tree : Seen) (files : Files) → old ≡ now → takes_nothing (session_of old) op ≡ false → Checks old op P r tree →
-    EndsWell now op (reply_in reply r) (held_with tree files)
-checked_ends old now op reply P (Ok x) tree files same takes h = answer_ends old now op (reply x) (held_with tree files) same h.1 h.0.no_fault
-checked_ends old now op reply P (Err e) tree files same takes h = checks_end old now op e tree files same takes h
+pub checked_ends : {A : Type 0} (t : Seen) (fs : OpenFiles) (now : Held) (op : Operation) (reply : A → Reply) (P : A → Type 0) (r : Result A Error) (tree : Seen) → held_of t fs ≡ now → takes_nothing (session_of (held_of t fs)) op ≡ false →
+    Checks (held_of t fs) op P r tree → EndsWell now op (reply_in reply r) (held_of tree fs)
+checked_ends t fs now op reply P (Ok x) tree same takes h = answer_ends (held_of t fs) now op (reply x) (held_of tree fs) same h.1 h.0.no_fault
+checked_ends t fs now op reply P (Err e) tree same takes h = checks_end t fs now op e tree same takes h
 
 -- the same of a call that gives the error on
-pub ended_ends : {A : Type 0} (old now : Held) (op : Operation) (reply : A → Reply) (e : Error) (tree : Seen) (files : Files) (r : Result A Error) → old ≡ now → takes_nothing (session_of old) op ≡ false → EndsChecks (is_refusal e) old op e tree →
-    r ≡ Err e → EndsWell now op (reply_in reply r) (held_with tree files)
-ended_ends old now op reply e tree files r same takes h is = subst (λ z. EndsWell now op (reply_in reply z) (held_with tree files)) (sym is) (checks_end old now op e tree files same takes h)
+pub ended_ends : {A : Type 0} (t : Seen) (fs : OpenFiles) (now : Held) (op : Operation) (reply : A → Reply) (e : Error) (tree : Seen) (r : Result A Error) → held_of t fs ≡ now → takes_nothing (session_of (held_of t fs)) op ≡ false →
+    EndsChecks (is_refusal e) (held_of t fs) op e tree → r ≡ Err e → EndsWell now op (reply_in reply r) (held_of tree fs)
+ended_ends t fs now op reply e tree r same takes h is = subst (λ z. EndsWell now op (reply_in reply z) (held_of tree fs)) (sym is) (checks_end t fs now op e tree same takes h)
 
 -- of checks without a read
 pub unread_ends : {A : Type 0} (old now : Held) (op : Operation) (reply : A → Reply) (e : Error) (r : Result A Error) → old ≡ now → (is_refusal e ≡ true) × (refused_by old op ≡ Some (refusal_in e)) → r ≡ Err e →
@@ -136,8 +148,14 @@ remount_ends old now new files r same mounted errors = subst (λ z. EndsWell z o
   failed = λ f other. absurd (cc);
   no_fault = calm r mounted errors;
   answered = λ s at e. absurd (cc);
+  at_once = λ e is once. absurd (let k = sym (never_at_once old.tree.failed e is) ∙ once in cc);
 })
   where
+    -- none but a failed session's refuses it
+    never_at_once : (b : Bool) (e : Refusal) → cond b (Some Failed) None ≡ Some e → comes_at_once ops.Remount e ≡ false
+    never_at_once true e is = ap (comes_at_once ops.Remount) (sym (same_Some Failed e is))
+    never_at_once false e is = absurd (cc)
+
     calm : (r : Result (Unit {0}) Error) → OnOk r (IsMountedTree old.tree.disk old.tree.history new) → IfErr r (λ e. is_refusal e ≡ false) → is_err (reply_in (λ u. ops.Done) r) ≡ false → faults new.history ≡ faults old.tree.history
     calm (Ok u) m errors k = m.no_fault
     calm (Err e) m errors k = absurd (let l = sym (ap (λ b. is_err (cond b (let z : Result Reply Error = Ok (ops.Refused (refusal_in e)) in z) (Err e))) errors) ∙ k in cc)

@@ -21,25 +21,11 @@ use Rattle.lfs_fs.specs.EntryPaths.{entry_path}
 use Rattle.lfs_fs.specs.Replies.{passed_with}
 use Rattle.lfs_fs.specs.Held.{Held, refused_by, Checks}
 use Rattle.lfs_fs.proofs.Answered.{not_failed, not_refused}
+use Rattle.lfs_fs.proofs.EntryPaths.{is_entry, no_entry, root_false}
+use Rattle.lfs_fs.proofs.Late.{get_late, list_late, remove_attr_late}
 use Rattle.lfs_fs.proofs.Checked.{both, when, decided, negated, neither, unrefused}
 
 -- ---- paths of entries
-
-bad_if_none : (o : Option Path) → None ≡ cond (bad_entry o) None o → bad_entry o ≡ true
-bad_if_none None e = refl
-bad_if_none (Some []) e = refl
-bad_if_none (Some (n ∷ p)) e = absurd (cc)
-
-good_if_some : (o : Option Path) (p : Path) → Some p ≡ cond (bad_entry o) None o → (o ≡ Some p) × (bad_entry o ≡ false)
-good_if_some None p e = absurd (cc)
-good_if_some (Some []) p e = absurd (cc)
-good_if_some (Some (n ∷ q)) p e = (sym e, refl)
-
-pub no_entry : (bytes : List ℕ) → None ≡ entry_path bytes → bad_entry (path_of bytes) ≡ true
-no_entry bytes e = bad_if_none (path_of bytes) e
-
-pub is_entry : (bytes : List ℕ) (p : Path) → Some p ≡ entry_path bytes → (path_of bytes ≡ Some p) × (bad_entry (path_of bytes) ≡ false)
-is_entry bytes p e = good_if_some (path_of bytes) p e
 
 pub root_only : (bytes : List ℕ) → length bytes ≡ 1 → None ≡ entry_path bytes
 root_only [] e = absurd (cc)
@@ -93,7 +79,7 @@ pub list_checked : {A : Type 0} (items : A → List ops.Item) (h : Held) (bytes 
     r ≡ passed_with (first_of (found.fault ∷ a ∷ b ∷ [])) x →
     Checks h (ops.ListAll bytes) (λ z. items_in (tree_seen h.tree) (as_path bytes) ≡ items z) r tree
 list_checked items h bytes p found tree absent file a b x r works is asked f are absent_is a_is file_is b_is r_is =
-    decided h (ops.ListAll bytes) (λ z. items_in (tree_seen h.tree) (as_path bytes) ≡ items z) x _ tree r asked
+    decided h (ops.ListAll bytes) (λ z. items_in (tree_seen h.tree) (as_path bytes) ≡ items z) x _ tree r asked (list_late h bytes p works is)
     (list_refused h bytes p found (sym works) (sym is) f ∙ ap first_of (sym lists))
     (λ none. ap (λ z. items_in (tree_seen h.tree) (unwrap_or z [])) (sym is) ∙ sym are) r_is
   where
@@ -113,9 +99,6 @@ get_refused h bytes kind p found works is entry f = rw (works, is, entry, f.pare
 abbrev is_got : Held → List ℕ → ℕ → List ℕ → Type 0
 is_got h bytes kind v = unwrap_or (attribute_of kind (attributes_of (tree_seen h.tree (as_path bytes)))) [] ≡ v
 
-pub root_false : (bytes : List ℕ) (p : Path) → Some p ≡ entry_path bytes → is_root p ≡ false
-root_false bytes p e = let k = is_entry bytes p e in sym (ap bad_entry k.0) ∙ k.1
-
 pub got : {A : Type 0} (f : A → List ℕ) (o : Option A) (y : Option (List ℕ)) (none got : A) → option_map f o ≡ y → f none ≡ [] → got ≡ unwrap_or o none → unwrap_or y [] ≡ f got
 got f None y none x e empty is = ap (λ z. unwrap_or z []) (sym e) ∙ sym empty ∙ ap f (sym is)
 got f (Some v) y none x e empty is = ap (λ z. unwrap_or z []) (sym e) ∙ ap f (sym is)
@@ -126,7 +109,7 @@ pub get_checked : {A : Type 0} (items : A → List ℕ) (h : Held) (bytes : List
     absent ≡ is_absent found.node → a ≡ refuse_if absent ops.NoEnt → none ≡ is_none attribute → b ≡ refuse_if none ops.NoAttr →
     r ≡ passed_with (first_of (found.fault ∷ a ∷ b ∷ [])) x → Checks h (ops.GetAttr bytes kind) (λ v. unwrap_or (attribute_of kind (attributes_of (tree_seen h.tree (as_path bytes)))) [] ≡ items v) r tree
 get_checked items h bytes kind p found tree attribute absent none a b x r works is asked f attr given absent_is a_is none_is b_is r_is =
-    decided h (ops.GetAttr bytes kind) (λ v. unwrap_or (attribute_of kind (attributes_of (tree_seen h.tree (as_path bytes)))) [] ≡ items v) x _ tree r asked
+    decided h (ops.GetAttr bytes kind) (λ v. unwrap_or (attribute_of kind (attributes_of (tree_seen h.tree (as_path bytes)))) [] ≡ items v) x _ tree r asked (get_late h bytes kind p works is)
     (get_refused h bytes kind p found (sym works) (is_entry bytes p is).0 (root_false bytes p is) f ∙ ap first_of (sym lists))
     (λ n. ap (λ q. unwrap_or (attribute_of kind (attributes_of (tree_seen h.tree (unwrap_or q [])))) []) (is_entry bytes p is).0 ∙ given) r_is
   where
@@ -143,7 +126,7 @@ pub remove_attr_checked : {A : Type 0} (items : A → List ℕ) (h : Held) (byte
     absent ≡ is_absent found.node → a ≡ refuse_if absent ops.NoEnt → none ≡ is_none attribute → b ≡ refuse_if none ops.NoAttr →
     r ≡ passed_with (first_of (found.fault ∷ a ∷ b ∷ [])) p → Checks h (ops.RemoveAttr bytes kind) (λ path. path ≡ as_path bytes) r tree
 remove_attr_checked items h bytes kind p found tree attribute absent none a b r works writable is asked f attr absent_is a_is none_is b_is r_is =
-    decided h (ops.RemoveAttr bytes kind) (λ path. path ≡ as_path bytes) p _ tree r asked
+    decided h (ops.RemoveAttr bytes kind) (λ path. path ≡ as_path bytes) p _ tree r asked (remove_attr_late h bytes kind p works writable is)
     (remove_attr_refused h bytes kind p found (sym works) (sym writable) (is_entry bytes p is).0 (root_false bytes p is) f ∙ ap first_of (sym lists))
     (λ n. ap (λ z. unwrap_or z []) (sym (is_entry bytes p is).0)) r_is
   where

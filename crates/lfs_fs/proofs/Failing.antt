@@ -9,8 +9,8 @@ use Rattle.lfs_model.specs.History.{Event, Call, Read, Program, Erase, EachEvent
 use Rattle.lfs_model.specs.Operations.{Operation}
 use Rattle.lfs_model.specs.Session.{Files, Session}
 use Rattle.lfs_model.specs.State.{State, HasFailed, Healthy, is_remount}
-use Rattle.lfs_model.specs.Run.{Moment, NoWrites, only_asks}
-use Rattle.lfs_tree.specs.Seen.{Seen, IsAsked, IsBroken, IsBrokenAsking, IsError}
+use Rattle.lfs_model.specs.Run.{Moment, NoWrites, only_asks, renames_to_itself}
+use Rattle.lfs_tree.specs.Seen.{Seen, IsSound, IsAsked, IsBroken, IsBrokenAsking, IsError}
 use Rattle.lfs_fs.specs.Held.{Held, held_with, session_of, moment_of, FailsBy}
 
 -- ---- calls
@@ -76,6 +76,8 @@ asking_fails e old op tree files works broken error = record {
     calls = broken.reads.events;
     called = broken.reads.extends;
     asks = λ s f a. (broken.disk, writes);
+    itself = λ h. (broken.disk, writes);
+    unwritten = λ none. (broken.disk, writes);
     remounted = λ h. (broken.disk, writes);
     silent = λ f other. absurd (works_not_failed old works f);
   };
@@ -87,16 +89,18 @@ asking_fails e old op tree files works broken error = record {
     writes : NoWrites broken.reads.events
     writes = reads_write_nothing old.tree.disk.blocks broken.reads.events broken.reads.each
 
--- a call failed that changes the disk
+-- a call failed that changes the disk, which may be written
 pub broken_fails : (e : Error) (old : Held) (op : Operation) (mid new : Seen) (files : Files) → old.tree.failed ≡ false → is_remount op ≡ false → only_asks (session_of old) op ≡ false →
-    IsAsked old.tree mid → IsBroken mid new → IsError mid new e → FailsBy e (moment_of old) op (moment_of (held_with new files))
-broken_fails e old op mid new files works other asks asked broken error = record {
+    renames_to_itself op ≡ false → IsSound old.tree → old.tree.writable ≡ true → IsAsked old.tree mid → IsBroken mid new → IsError mid new e → FailsBy e (moment_of old) op (moment_of (held_with new files))
+broken_fails e old op mid new files works other asks itself sound writable asked broken error = record {
   fails = record {
     failed = ap (λ (m : Moment). m.state) (failed_moment (held_with new files) broken.failed);
     geometry = subst (λ (t : Seen). SameGeometry t.disk new.disk) asked.same broken.geometry;
     calls = broken.calls ++ asked.reads.events;
     called = broken.called ∙ ap (λ z. broken.calls ++ z) asked.reads.extends ∙ sym (append_assoc broken.calls asked.reads.events old.tree.history);
     asks = λ s f a. absurd (let k = sym asks ∙ ap (λ z. only_asks z op) (same_session (session_of old) s (sym (ap (λ (m : Moment). m.state) (healthy_moment old works)) ∙ f)) ∙ a in cc);
+    itself = λ h. absurd (let k = sym itself ∙ h in cc);
+    unwritten = λ none. absurd (none old.tree.pairs sound.accepted (sound.fits writable));
     remounted = λ h. absurd (let k = sym other ∙ h in cc);
     silent = λ f h. absurd (works_not_failed old works f);
   };
@@ -138,6 +142,8 @@ memory_fails_at_once old op = record {
     calls = [];
     called = refl;
     asks = λ s f a. (refl, (refl, refl));
+    itself = λ h. (refl, (refl, refl));
+    unwritten = λ none. (refl, (refl, refl));
     remounted = λ h. (refl, (refl, refl));
     silent = λ f other. (refl, refl);
   };

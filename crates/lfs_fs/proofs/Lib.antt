@@ -1,6 +1,8 @@
 pub mod Errors
 pub mod Failing
 pub mod Answered
+pub mod EntryPaths
+pub mod Late
 pub mod Checked
 pub mod Running
 pub mod Withstanding

@@ -350,12 +350,12 @@ writer_opened t new fs gs now bytes flags w n same opened write none number is =
         ∙ ap (λ b. put_file (files_seen t fs) (free_number (files_seen t fs)) (Some (if b then Writing (opened_writer (as_path bytes) flags (bytes_at (tree_seen t (as_path bytes)))) else Reading (record { path = as_path bytes; position = 0 })))) (sym write)
 
 pub writer_breaks : (t mid new : Seen) (fs gs : OpenFiles) (now : Held) (bytes : List ℕ) (flags : Flags) (e : Error) (r : Result ℕ Error) → held_of t fs ≡ now → IsAsked t mid → refused_by (held_of t fs) (ops.Open bytes flags) ≡ None →
-    flags.write ≡ true → IsBroken mid new → IsError mid new e → r ≡ Err e → Answers now (ops.Open bytes flags) (reply_in ops.Opened r) (held_of new gs)
-writer_breaks t mid new fs gs now bytes flags e r same asked passed write broken error is =
+    IsSound t → flags.write ≡ true → IsBroken mid new → IsError mid new e → r ≡ Err e → Answers now (ops.Open bytes flags) (reply_in ops.Opened r) (held_of new gs)
+writer_breaks t mid new fs gs now bytes flags e r same asked passed sound write broken error is =
     subst (λ z. Answers z (ops.Open bytes flags) (reply_in ops.Opened r) (held_of new gs)) same
     (subst (λ z. Answers (held_of t fs) (ops.Open bytes flags) (reply_in ops.Opened z) (held_of new gs)) (sym is)
     (error_answers (held_of t fs) (ops.Open bytes flags) e (held_of new gs) (ops.Refused (refusal_in e)) error.errors
-    (broken_fails e (held_of t fs) (ops.Open bytes flags) mid new (files_seen new gs) (not_failed (held_of t fs) (ops.Open bytes flags) passed) refl (ap not write) asked broken error)))
+    (broken_fails e (held_of t fs) (ops.Open bytes flags) mid new (files_seen new gs) (not_failed (held_of t fs) (ops.Open bytes flags) passed) refl (ap not write) refl sound (open_passed (held_of t fs) bytes flags write passed).writable asked broken error)))
 
 -- no memory is found for it
 pub writer_lacks_memory : (t mid left : Seen) (fs gs : OpenFiles) (now : Held) (bytes : List ℕ) (flags : Flags) → held_of t fs ≡ now → IsAsked t mid → refused_by (held_of t fs) (ops.Open bytes flags) ≡ None →

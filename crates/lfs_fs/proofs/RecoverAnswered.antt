@@ -1,5 +1,5 @@
 -- What a recovery answers, and what it leaves of the open files.
-use Rattle.std.proofs.Common.{inl, ◌≡◌, false, [], None, Result, refl, sym, subst}
+use Rattle.std.proofs.Common.{inl, ◌≡◌, false, not, [], None, Result, refl, sym, subst}
 use Rattle.std.specs.Prelude.{OnErr, OnOk, IfErr}
 use Rattle.lfs_device.specs.declared.error.Error.{Error}
 use Rattle.lfs_model.specs.Operations as ops
@@ -9,7 +9,8 @@ use Rattle.lfs_fs.specs.FileSeen.{OpenFiles, files_seen, writers_in}
 use Rattle.lfs_fs.specs.Held.{Answers, Held, IsReady, held_of, refused_by}
 use Rattle.lfs_fs.specs.Replies.{reply_in}
 use Rattle.lfs_fs.specs.Staying.{AreLeft, FilesStay}
-use Rattle.lfs_fs.proofs.Answered.{KeepsFiles, done_answers, done_left, keeps_writers, none_concerned, nothing_asked, sound_by, with_files}
+use Rattle.lfs_fs.proofs.Answered.{KeepsFiles, done_answers, done_left, keeps_writers, none_concerned, not_refused, nothing_asked, sound_by, with_files}
+use Rattle.lfs_fs.proofs.Checked.{negated, unrefused}
 use Rattle.lfs_fs.proofs.Staying.{SameFile}
 
 -- the tree stays, and every file with it
@@ -29,4 +30,5 @@ pub recover_answers : (t new : Seen) (files : OpenFiles) (now : Held) (r : Resul
 recover_answers t new files now r stay same ready e done broken errors =
     with_files now ops.Recover (reply_in (λ u. ops.Done) r) new (files_seen t files) (files_seen new files)
     (λ works. (recovered_left t new files r stay ready e done broken works).same)
-    (done_answers (IsCarried t ops.Recover new) (held_of t files) now ops.Recover t new r same (sound_by t files ready) (nothing_asked t) e refl refl refl refl refl refl refl done (λ k. k) broken errors)
+    (done_answers (IsCarried t ops.Recover new) (held_of t files) now ops.Recover t new r same (sound_by t files ready) (nothing_asked t) e refl refl refl refl refl refl refl refl
+    (negated t.writable (unrefused (not t.writable) ops.ReadOnly (not_refused (held_of t files) ops.Recover e))) done (λ k. k) broken errors)

@@ -79,6 +79,8 @@ remount_fails e old new files broken error = record {
     calls = broken.reads.events;
     called = broken.reads.extends;
     asks = λ s f a. (broken.disk, writes);
+    itself = λ h. absurd (cc);
+    unwritten = λ none. (broken.disk, writes);
     remounted = λ h. (broken.disk, writes);
     silent = λ f other. absurd (cc);
   };

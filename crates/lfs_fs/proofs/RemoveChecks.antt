@@ -15,8 +15,10 @@ use Rattle.lfs_fs.specs.EntryPaths.{entry_path}
 use Rattle.lfs_fs.specs.Held.{Held, refused_by, Checks}
 use Rattle.lfs_fs.specs.Replies.{passed_with}
 use Rattle.lfs_fs.proofs.Answered.{not_failed, not_refused}
+use Rattle.lfs_fs.proofs.Late.{remove_late}
 use Rattle.lfs_fs.proofs.Checked.{both, decided, negated, neither, unrefused, when}
-use Rattle.lfs_fs.proofs.EntryChecks.{good_root, is_entry, root_false}
+use Rattle.lfs_fs.proofs.EntryChecks.{good_root}
+use Rattle.lfs_fs.proofs.EntryPaths.{is_entry, root_false}
 
 remove_refused : (h : Held) (bytes : List ℕ) (p : Path) (found : Finding) → h.tree.failed ≡ false → h.tree.writable ≡ true → path_of bytes ≡ Some p → is_root p ≡ false → Finds (tree_seen h.tree) p found →
     refused_by h (ops.Remove bytes) ≡ first_of (found.fault ∷ refuse_if (is_absent found.node) ops.NoEnt ∷ refuse_if (has_names (tree_seen h.tree) p) ops.NotEmpty ∷ refuse_if (is_open_at (same_path p) h.files) ops.Busy ∷ [])
@@ -27,7 +29,7 @@ pub remove_checked : (h : Held) (bytes : List ℕ) (p : Path) (found : Finding) 
     absent ≡ is_absent found.node → a ≡ refuse_if absent ops.NoEnt → filled ≡ has_names (tree_seen h.tree) p → b ≡ refuse_if filled ops.NotEmpty → busy ≡ is_open_at (same_path (as_path bytes)) h.files → d ≡ refuse_if busy ops.Busy →
     r ≡ passed_with (first_of (found.fault ∷ a ∷ b ∷ d ∷ [])) p → Checks h (ops.Remove bytes) (λ path. path ≡ as_path bytes) r tree
 remove_checked h bytes p found tree absent filled busy a b d r works writable is asked f absent_is a_is filled_is b_is busy_is d_is r_is =
-    decided h (ops.Remove bytes) (λ path. path ≡ as_path bytes) p _ tree r asked
+    decided h (ops.Remove bytes) (λ path. path ≡ as_path bytes) p _ tree r asked (remove_late h bytes p works writable is)
     (remove_refused h bytes p found (sym works) (sym writable) given (root_false bytes p is) f ∙ ap first_of (sym lists))
     (λ n. ap (λ z. unwrap_or z []) (sym given)) r_is
   where

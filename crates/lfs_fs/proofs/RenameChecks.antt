@@ -21,8 +21,10 @@ use Rattle.lfs_fs.specs.RenamePaths.{IsRenaming, is_in_the_way}
 use Rattle.lfs_fs.specs.Replies.{passed_with}
 use Rattle.lfs_fs.specs.declared.renaming.Renaming.{Renaming}
 use Rattle.lfs_fs.proofs.Answered.{not_failed, not_refused}
+use Rattle.lfs_fs.proofs.Late.{rename_late}
 use Rattle.lfs_fs.proofs.Checked.{both, decided, negated, neither, room_left, unrefused, when}
-use Rattle.lfs_fs.proofs.EntryChecks.{good_root, is_entry, no_entry, root_false}
+use Rattle.lfs_fs.proofs.EntryChecks.{good_root}
+use Rattle.lfs_fs.proofs.EntryPaths.{is_entry, no_entry, root_false}
 
 -- ---- paths that none are an entry's, or one beneath the other
 
@@ -65,7 +67,7 @@ pub rename_checked : (h : Held) (old new : List ℕ) (p q : Path) (entry target 
     r ≡ passed_with (first_of (entry.fault ∷ target.fault ∷ a ∷ b ∷ c ∷ d ∷ e ∷ f ∷ i ∷ j ∷ [])) x → Checks h (ops.Rename old new) (IsRenaming old new) r tree
 rename_checked h old new p q entry target mid later tree size len other same absent one two filled three over four lack busy a b c d e f i j r x
     works writable is are apart first second asked found sought sized same_is len_is a_is absent_is b_is one_is c_is two_is d_is filled_is three_is e_is busy_is f_is other_is over_is four_is i_is lack_is j_is x_is r_is =
-    decided h (ops.Rename old new) (IsRenaming old new) x _ tree r asked
+    decided h (ops.Rename old new) (IsRenaming old new) x _ tree r asked (rename_late h old new p q works writable is are apart)
     (rename_refused h old new p q entry target (sym works) (sym writable) from to (root_false old p is) (root_false new q are) (ap₂ is_beneath (sym from_path) (sym to_path) ∙ apart) found
     (subst (λ (t : Seen). Finds (tree_seen t) q target) first.same sought) ∙ ap first_of (sym lists))
     (λ none. x_is) r_is

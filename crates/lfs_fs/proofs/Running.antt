@@ -1,8 +1,10 @@
 -- Operations in turn, by a loop.
+use Rattle.std.specs.List.{AllByRecursion}
+use Rattle.std.specs.Prelude.{sum_by}
 use Rattle.std.proofs.Common.{Ok, ℕ, ◌≡◌, ◌+◌, ◌<◌, ◌≤◌, Bool, false, cond, List, [], ◌∷◌, ◌++◌, Option, None, Some, length, take, drop, map, get_or, refl, sym, ap, subst, ◌∙◌, drop-cons, add-one, true, arith}
 use Rattle.std.proofs.lemmas.List.{append_cancel_right, take_more, take_all, map-append, take-append-drop}
 use Rattle.lfs_device.specs.declared.error.Error.{Error}
-use Rattle.lfs_model.specs.History.{faults}
+use Rattle.lfs_model.specs.History.{faults, reads}
 use Rattle.lfs_model.specs.Operations as ops
 use Rattle.lfs_model.specs.Operations.{Operation}
 use Rattle.lfs_model.specs.Outages.{AreWithstood}
@@ -11,18 +13,18 @@ use Rattle.lfs_model.specs.Run.{IsTurn, Moment}
 use Rattle.lfs_model.specs.Session.{Session}
 use Rattle.lfs_model.specs.State.{Healthy}
 use Rattle.lfs_model.specs.Thread.{Pair}
-use Rattle.lfs_model.specs.Thrift.{AreThrifty, IsThrifty, ReadsKept, if_accepted}
+use Rattle.lfs_model.specs.Thrift.{AreThrifty, AsksFew, IsThrifty, ReadsKept, if_accepted}
 use Rattle.lfs_model.specs.View.{IsAccepted}
 use Rattle.lfs_model.proofs.AfterStops.{withstood_turns}
 use Rattle.lfs_model.proofs.Withstanding.{withstood_further}
 use Rattle.lfs_fs.specs.Held.{FailsBy, Held, IsEndedBy, moment_of}
-use Rattle.lfs_fs.specs.OpSeen.{op_seen, reply_seen}
+use Rattle.lfs_fs.specs.OpSeen.{IsNamed, op_seen, reply_seen}
 use Rattle.lfs_fs.specs.Sparing.{IsCall}
 use Rattle.lfs_fs.proofs.KeptLookUps.{kept_hand, kept_small}
 use Rattle.lfs_lookup.specs.AtHand.{AreSmall}
 use Rattle.lfs_tree.specs.Reads.{HasOnHand}
 use Rattle.lfs_model.specs.Run as model
-use Rattle.lfs_model.specs.Discipline.{searched}
+use Rattle.lfs_model.specs.Discipline.{pairs_of_path, searched}
 use Rattle.lfs_fs.specs.declared.run.Op.{Op}
 use Rattle.lfs_fs.specs.declared.run.Reply.{Reply}
 
@@ -111,10 +113,27 @@ run_further ops i d replies new reply a b c lt done call is =
 pub run_ended : (ops : List Op) (i : ℕ) (replies : List Reply) (a : Moment) (b : Held) → length ops ≤ i → HaveRun a (map op_seen (take i ops)) (map reply_seen replies) b → HaveRun a (map op_seen ops) (map reply_seen replies) b
 run_ended ops i replies a b h done = subst (λ xs. HaveRun a (map op_seen xs) (map reply_seen replies) b) (take_all i ops h) done
 
+-- each refusal is named
+pub named_further : (replies new : List Reply) (reply : Reply) → AllByRecursion IsNamed replies → IsNamed reply → new ≡ replies ++ reply ∷ [] → AllByRecursion IsNamed new
+named_further replies new reply done one is = subst (AllByRecursion IsNamed) (sym is) (go replies done)
+  where
+    go : (rs : List Reply) → AllByRecursion IsNamed rs → AllByRecursion IsNamed (rs ++ reply ∷ [])
+    go [] h = (one, tt)
+    go (r ∷ rs) h = (h.0, go rs h.1)
+
+-- without a call nothing was read
+pub silent_few : (from : Moment) (op : Operation) (to : Moment) → to.calls ≡ from.calls → AsksFew from op to
+silent_few from op to same s at ps a calls is looks =
+    let none = append_cancel_right calls [] from.calls (sym is ∙ same) in
+    subst (λ z. reads z ≤ sum_by (pairs_of_path ps) (searched op)) (sym none) (zero_least _)
+  where
+    zero_least : (n : ℕ) → 0 ≤ n
+    zero_least n = omega arith
+
 -- the session fails in the next one
-pub run_cut : (e : Error) (ops : List Op) (i : ℕ) (d : Op) (replies : List Reply) (a b c : Moment) → i < length ops → AreWithstood a (map op_seen (take i ops)) (map reply_seen replies) b → faults b.calls ≡ faults a.calls →
-    FailsBy e b (op_seen (get_or ops i d)) c → Withstands b (op_seen (get_or ops i d)) c → IsEndedBy e a (map op_seen ops) c
-run_cut e ops i d replies a b c lt done calm fails withstands = record {
+pub run_cut : (e : Error) (ops : List Op) (i : ℕ) (d : Op) (replies : List Reply) (a : Moment) (b : Held) (c : Moment) → i < length ops → HaveRun a (map op_seen (take i ops)) (map reply_seen replies) b → AsksFew (moment_of b) (op_seen (get_or ops i d)) c →
+    FailsBy e (moment_of b) (op_seen (get_or ops i d)) c → Withstands (moment_of b) (op_seen (get_or ops i d)) c → IsEndedBy e a (map op_seen ops) c
+run_cut e ops i d replies a b c lt run few fails withstands = record {
   ended = record {
     cut = record {
       done = map op_seen (take i ops);
@@ -122,13 +141,15 @@ run_cut e ops i d replies a b c lt done calm fails withstands = record {
       others = map op_seen (drop (i + 1) ops);
       are = ap (map op_seen) (sym (take-append-drop i ops)) ∙ map-append op_seen (take i ops) (drop i ops) ∙ ap (λ xs. map op_seen (take i ops) ++ map op_seen xs) (drop-cons ops i d lt ∙ ap (λ n. get_or ops i d ∷ drop n ops) (sym (add-one i)));
       replies = map reply_seen replies;
-      at = b;
-      turns = withstood_turns (map op_seen (take i ops)) (map reply_seen replies) a b done;
+      at = moment_of b;
+      turns = withstood_turns (map op_seen (take i ops)) (map reply_seen replies) a (moment_of b) run.withstood;
       fails = fails.fails;
     };
-    done = done;
+    done = run.withstood;
     next = withstands;
   };
-  no_fault = calm;
+  thrifty = run.thrifty;
+  few = few;
+  no_fault = run.no_fault;
   by = fails;
 }

@@ -232,12 +232,12 @@ close_ready t new fs gs fd w path bytes ready e is stored left =
 -- ---- a call fails
 
 pub saving_fails : {B : Type 0} (t new : Seen) (fs : OpenFiles) (files : Files) (now : Held) (op : Operation) (reply : B → ops.Reply) (e : Error) (r : Result B Error) → held_of t fs ≡ now → refused_by (held_of t fs) op ≡ None →
-    is_remount op ≡ false → only_asks (session_of (held_of t fs)) op ≡ false → IsBroken t new → IsError t new e → r ≡ Err e → Answers now op (reply_in reply r) (held_with new files)
-saving_fails t new fs files now op reply e r same accepted other asks broken error is =
+    is_remount op ≡ false → only_asks (session_of (held_of t fs)) op ≡ false → renames_to_itself op ≡ false → IsSound t → t.writable ≡ true → IsBroken t new → IsError t new e → r ≡ Err e → Answers now op (reply_in reply r) (held_with new files)
+saving_fails t new fs files now op reply e r same accepted other asks itself sound writable broken error is =
     subst (λ z. Answers z op (reply_in reply r) (held_with new files)) same
     (subst (λ z. Answers (held_of t fs) op (reply_in reply z) (held_with new files)) (sym is)
     (error_answers (held_of t fs) op e (held_with new files) (ops.Refused (refusal_in e)) error.errors
-    (broken_fails e (held_of t fs) op t new files (not_failed (held_of t fs) op accepted) other asks (nothing_asked t) broken error)))
+    (broken_fails e (held_of t fs) op t new files (not_failed (held_of t fs) op accepted) other asks itself sound writable (nothing_asked t) broken error)))
 
 pub close_asks : (t : Seen) (fs : OpenFiles) (fd : ℕ) (w : Writer) → Some (file.Writing w) ≡ entry_of fs fd → only_asks (session_of (held_of t fs)) (ops.Close fd) ≡ false
 close_asks t fs fd w is = ap (λ f. is_some (reader_of f)) (file_at t fs fd w is)

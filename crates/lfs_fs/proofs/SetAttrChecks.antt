@@ -23,8 +23,10 @@ use Rattle.lfs_fs.specs.Held.{Held, refused_by, Checks}
 use Rattle.lfs_fs.specs.Replacing.{CanReplace, replaced_size}
 use Rattle.lfs_fs.specs.Replies.{passed_with}
 use Rattle.lfs_fs.proofs.Answered.{not_failed, not_refused}
+use Rattle.lfs_fs.proofs.Late.{set_late}
 use Rattle.lfs_fs.proofs.Checked.{both, decided, negated, neither, room_left, unrefused, when}
-use Rattle.lfs_fs.proofs.EntryChecks.{good_root, is_entry, root_false}
+use Rattle.lfs_fs.proofs.EntryChecks.{good_root}
+use Rattle.lfs_fs.proofs.EntryPaths.{is_entry, root_false}
 
 -- ---- sizes
 
@@ -62,7 +64,7 @@ pub set_attr_checked : (h : Held) (bytes : List ℕ) (kind : ℕ) (value : List 
     lack ≡ lacks (around_of tree) h.files 2 → e ≡ refuse_if lack ops.NoSpace →
     r ≡ passed_with (first_of (found.fault ∷ a ∷ b ∷ d ∷ e ∷ [])) p → Checks h (ops.SetAttr bytes kind value) (λ path. path ≡ as_path bytes) r tree
 set_attr_checked h bytes kind value p found mid tree replaced size n len absent over lack a b d e r works writable is first asked f replaced_was sized sum absent_is a_is b_is len_is over_is d_is lack_is e_is r_is =
-    decided h (ops.SetAttr bytes kind value) (λ path. path ≡ as_path bytes) p _ tree r asked
+    decided h (ops.SetAttr bytes kind value) (λ path. path ≡ as_path bytes) p _ tree r asked (set_late h bytes kind value p works writable is)
     (set_refused h bytes kind value p found (sym works) (sym writable) given (root_false bytes p is) f ∙ ap first_of (sym lists))
     (λ none. ap (λ z. unwrap_or z []) (sym given)) r_is
   where

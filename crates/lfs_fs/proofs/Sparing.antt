@@ -34,7 +34,8 @@ use Rattle.lfs_fs.specs.Ending.{EndsWell}
 use Rattle.lfs_fs.specs.Held.{Answers, Held, IsReady, held_of, held_with, moment_of, session_of}
 use Rattle.lfs_fs.specs.LookUps.{AddsFew, AddsNone, LeavesOnHand, ReadsNoneIn}
 use Rattle.lfs_fs.specs.Replies.{reply_in}
-use Rattle.lfs_fs.specs.Sparing.{AsksFew, IsCall, LeavesAtHand, LeavesOthers}
+use Rattle.lfs_model.specs.Thrift.{AsksFew}
+use Rattle.lfs_fs.specs.Sparing.{IsCall, LeavesAtHand, LeavesOthers}
 use Rattle.lfs_fs.proofs.KeptLookUps.{reads_none}
 use Rattle.lfs_lookup.specs.AtHand.{AreSmall}
 use Rattle.lfs_tree.specs.Reads.{HasOnHand}
@@ -66,7 +67,7 @@ turn_others : (from : Moment) (op : Operation) (reply : Reply) (to : Moment) →
 turn_others from op reply to turn nothing s at ps qs a b none = go (model.is_refusal reply) refl
   where
     go : (x : Bool) → model.is_refusal reply ≡ x → LeavesAlone from.disk ps s op to.disk qs
-    go true e = same_alone from.disk to.disk ps qs s op (turn.refused e)
+    go true e = same_alone from.disk to.disk ps qs s op (turn.refused e).0
     go false e = same_alone from.disk to.disk ps qs s op (nothing s at ps qs turn.calls a none (turn.carried_out e s at ps qs a b))
 
 pub turned_others : {A : Type 0} (old : Held) (op : Operation) (reply : A → Reply) (r : Result A Error) (new : Held) → Answers old op (reply_in reply r) new → WritesNothing (moment_of old) op (moment_of new) → OnOk r (LeavesOthers (moment_of old) op (moment_of new))
@@ -140,7 +141,7 @@ ok_others old op reply (Ok x) new answers k e = k
 ok_others old op reply (Err x) new answers k e = go (is_refusal x) answers e
   where
     go : (b : Bool) → Answers old op (cond b (Ok (ops.Refused (refusal_in x))) (Err x)) new → is_err (cond b (Ok (ops.Refused (refusal_in x))) (Err x)) ≡ false → LeavesOthers (moment_of old) op (moment_of new)
-    go true turn e = untouched_others (moment_of old) op (moment_of new) (turn.refused refl)
+    go true turn e = untouched_others (moment_of old) op (moment_of new) (turn.refused refl).0
     go false fails e = absurd (cc)
 
 asking_others : (old : Held) (op : Operation) (r : Result Reply Error) (new : Held) → ((s : Session) → only_asks s op ≡ true) → Answers old op r new → is_err r ≡ false → LeavesOthers (moment_of old) op (moment_of new)

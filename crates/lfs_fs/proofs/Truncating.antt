@@ -1,5 +1,5 @@
 -- A truncation of an open writer, and its turn.
-use Rattle.std.proofs.Common.{ℕ, zero, suc, ◌≡◌, ◌<◌, ◌&&◌, ◌||◌, ◌++◌, Bool, true, false, not, cond, List, [], ◌∷◌, length, length-set, set, nat_lt, Option, Some, None, Ok, is_some, refl, sym, ap, ap₂, subst, ◌∙◌, arith}
+use Rattle.std.proofs.Common.{ℕ, zero, suc, ◌≡◌, ◌==◌, ◌<◌, ◌&&◌, ◌||◌, ◌++◌, Bool, true, false, not, cond, List, [], ◌∷◌, length, length-set, set, nat_lt, Option, Some, None, Ok, is_some, refl, sym, ap, ap₂, subst, ◌∙◌, arith}
 use Rattle.std.specs.Prelude.{◌==◌, ◌≢◌}
 use Rattle.std.specs.List.{AllByRecursion, list_any}
 use Rattle.std.specs.Option.{option_map}
@@ -8,7 +8,8 @@ use Rattle.std.proofs.lemmas.List.{map-set}
 use Rattle.lfs_model.specs.Disk.{file_limit}
 use Rattle.lfs_model.specs.Operations as ops
 use Rattle.lfs_model.specs.Operations.{Operation, Reply}
-use Rattle.lfs_model.specs.Run.{IsTurn}
+use Rattle.lfs_model.specs.Discipline.{takes_nothing}
+use Rattle.lfs_model.specs.Run.{IsTurn, has_size}
 use Rattle.lfs_model.specs.Session as session
 use Rattle.lfs_model.specs.Session.{Files, Session, Surroundings, Writing, file_of, first_of, held_by, overfills, put_file, refuse_if, writer_of}
 use Rattle.lfs_model.specs.Writers.{after_truncate}
@@ -138,13 +139,17 @@ inside_put t fs fd x e = ap (λ b. cond b (set (files_seen t fs) fd (Some x)) (f
         mapped [] = refl
         mapped (f ∷ fs) = ap suc (mapped fs)
 
-pub other_size : (t new : Seen) (fs : OpenFiles) (fd size : ℕ) (now : Held) (w v : Writer) → held_of t fs ≡ now → (t.failed ≡ false → IsReady t fs) → refused_by (held_of t fs) (ops.Truncate fd size) ≡ None → entry_of fs fd ≡ Some (file.Writing w) →
+-- another size is to be made
+pub other_needed : (t : Seen) (fs : OpenFiles) (fd size : ℕ) (w : Writer) → entry_of fs fd ≡ Some (file.Writing w) → IsWritten t w → (size == w.size) ≡ false → takes_nothing (session_of (held_of t fs)) (ops.Truncate fd size) ≡ false
+other_needed t fs fd size w e written other = ap (λ o. has_size o size) (the_writer t fs fd (Some w) (sym (ap writer_in e))) ∙ ap (λ n. size == n) written.size ∙ other
+
+pub other_size : (t new : Seen) (fs : OpenFiles) (fd size : ℕ) (now : Held) (w v : Writer) → held_of t fs ≡ now → (t.failed ≡ false → IsReady t fs) → refused_by (held_of t fs) (ops.Truncate fd size) ≡ None → entry_of fs fd ≡ Some (file.Writing w) → (size == w.size) ≡ false →
     IsWriterAs new (after_truncate (writer_seen t w) size) v → IsWrittenBeside t new → IsTurn (moment_of now) (ops.Truncate fd size) ops.Done (moment_of (held_of new (set fs fd (Some (file.Writing v)))))
-other_size t new fs fd size now w v same ready accepted e made b =
+other_size t new fs fd size now w v same ready accepted e other made b =
     subst (λ z. IsTurn (moment_of z) op ops.Done (moment_of (held_of new later))) same
     (subst (λ m. IsTurn m op ops.Done (moment_of (held_of new later))) (sym (healthy_moment (held_of t fs) works))
     (subst (λ m. IsTurn (record { disk = t.disk; calls = t.history; state = Healthy (session_of (held_of t fs)) }) op ops.Done m) (sym to)
-    (filled_turn t.disk t.pairs (session_of (held_of t fs)) (around_of t) op new.disk new.pairs b.calls t.history (is_over t (files_seen t fs) (ready works).sound) (not_refused (held_of t fs) op accepted) refl b.geometry
+    (filled_turn t.disk t.pairs (session_of (held_of t fs)) (around_of t) op new.disk new.pairs b.calls t.history (is_over t (files_seen t fs) (ready works).sound) (not_refused (held_of t fs) op accepted) refl (other_needed t fs fd size w e (written_at t fs fd w (ready works).written (sym (ap writer_in e))) other) b.geometry
     b.sound.accepted b.pairs (ap₂ (λ (z : Tree) (a : Surroundings). let k : View = record { tree = z; gstate = a.gstate; used = a.used } in k) b.shows b.around) (recovered_from new.disk new.pairs b.sound.accepted made.written.settled)
     (λ h. b.sound.fits made.written.writable))))
   where

@@ -21,6 +21,7 @@ use Rattle.lfs_fs.specs.FileSeen.{OpenFiles, files_seen, writers_in}
 use Rattle.lfs_fs.proofs.OpenFiles.{writer_count}
 use Rattle.lfs_fs.specs.Replies.{passed_with}
 use Rattle.lfs_fs.specs.declared.checks.Opening.{Opening}
+use Rattle.lfs_fs.proofs.Late.{writer_late}
 use Rattle.lfs_fs.proofs.Checked.{both, decided, there, when}
 
 -- ---- what a file that is opened to be written anew holds
@@ -90,7 +91,7 @@ pub writer_checked : (h : Held) (bytes : List ℕ) (p : Path) (flags : Flags) (f
     r ≡ passed_with (first_of (found.fault ∷ r1 ∷ r2 ∷ r3 ∷ r4 ∷ r5 ∷ r6 ∷ r7 ∷ r8 ∷ [])) (record { path = p; size = size }) → Checks h (ops.Open bytes flags) (λ found. IsOpening (tree_seen h.tree) bytes found) r tree
 writer_checked h bytes p flags found tree size long other absent create exclusive truncate directory busy over lack full c1 c2 c3 c4 c6 c7 c8 r1 r2 r3 r4 r5 r6 r7 r8 r works writable is write allowed asked f
     absent_is size_is create_is exclusive_is truncate_is long_is c1_is c2_is r1_is c3_is r2_is c4_is r3_is directory_is r4_is busy_is r5_is other_is over_is c6_is r6_is lack_is c7_is r7_is full_is c8_is r8_is r_is =
-    decided h (ops.Open bytes flags) (λ found. IsOpening (tree_seen h.tree) bytes found) (record { path = p; size = size }) _ tree r asked
+    decided h (ops.Open bytes flags) (λ found. IsOpening (tree_seen h.tree) bytes found) (record { path = p; size = size }) _ tree r asked (writer_late h bytes p flags works writable is write allowed)
     (writer_refused h bytes p flags found (sym works) (sym writable) (sym is) write (sym allowed) f ∙ ap first_of (sym lists))
     (λ none. record { path = ap (λ z. unwrap_or z []) is; size = f.sizes ∙ sym size_is }) r_is
   where

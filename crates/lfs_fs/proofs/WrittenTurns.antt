@@ -1,5 +1,5 @@
 -- A write of an open writer, and its turn.
-use Rattle.std.proofs.Common.{ℕ, ◌≡◌, ◌+◌, ◌<◌, ◌^◌, ◌&&◌, ◌||◌, ◌++◌, Bool, true, false, List, [], ◌∷◌, length, set, nat_lt, Some, None, Ok, is_some, refl, sym, ap, ap₂, subst, ◌∙◌, arith}
+use Rattle.std.proofs.Common.{ℕ, ◌≡◌, ◌==◌, ◌+◌, ◌<◌, ◌^◌, ◌&&◌, ◌||◌, ◌++◌, Bool, true, false, List, [], ◌∷◌, length, set, nat_lt, Some, None, Ok, is_some, refl, sym, ap, ap₂, subst, ◌∙◌, arith}
 use Rattle.std.specs.Prelude.{◌==◌}
 use Rattle.std.specs.List.{list_any}
 use Rattle.std.specs.Option.{option_map}
@@ -7,7 +7,8 @@ use Rattle.std.proofs.lemmas.Bool.{eqb-true, ltb-false}
 use Rattle.lfs_model.specs.Disk.{file_limit}
 use Rattle.lfs_model.specs.Operations as ops
 use Rattle.lfs_model.specs.Operations.{Operation}
-use Rattle.lfs_model.specs.Run.{IsTurn}
+use Rattle.lfs_model.specs.Discipline.{takes_nothing}
+use Rattle.lfs_model.specs.Run.{IsTurn, needs_no_call}
 use Rattle.lfs_model.specs.Session.{Session, Surroundings, Writing, file_of, first_of, overfills, put_file, refuse_if, writer_of}
 use Rattle.lfs_model.specs.Writers.{after_write, write_place}
 use Rattle.lfs_model.specs.State.{Healthy}
@@ -106,13 +107,20 @@ nothing_put t fs fd bytes now w same invariant accepted e none =
 
 -- ---- some bytes
 
-pub some_put : (t new : Seen) (fs : OpenFiles) (fd : ℕ) (bytes : List ℕ) (now : Held) (w v : Writer) → held_of t fs ≡ now → (t.failed ≡ false → IsReady t fs) → refused_by (held_of t fs) (ops.Write fd bytes) ≡ None → entry_of fs fd ≡ Some (file.Writing w) →
+some_needed : (s : Session) (fd : ℕ) (bytes : List ℕ) → (length bytes == 0) ≡ false → needs_no_call s (ops.Write fd bytes) ≡ false
+some_needed s fd [] e = absurd (cc)
+some_needed s fd (b ∷ bytes) e = refl
+
+pub some_taken : (t : Seen) (fs : OpenFiles) (fd : ℕ) (bytes : List ℕ) → (length bytes == 0) ≡ false → takes_nothing (session_of (held_of t fs)) (ops.Write fd bytes) ≡ false
+some_taken t fs fd bytes some = some_needed (session_of (held_of t fs)) fd bytes some
+
+pub some_put : (t new : Seen) (fs : OpenFiles) (fd : ℕ) (bytes : List ℕ) (now : Held) (w v : Writer) → held_of t fs ≡ now → (t.failed ≡ false → IsReady t fs) → refused_by (held_of t fs) (ops.Write fd bytes) ≡ None → entry_of fs fd ≡ Some (file.Writing w) → (length bytes == 0) ≡ false →
     IsWriterAs new (after_write (writer_seen t w) bytes) v → IsWrittenBeside t new → IsTurn (moment_of now) (ops.Write fd bytes) (ops.Count (length bytes)) (moment_of (held_of new (set fs fd (Some (file.Writing v)))))
-some_put t new fs fd bytes now w v same invariant accepted e made b =
+some_put t new fs fd bytes now w v same invariant accepted e some made b =
     subst (λ z. IsTurn (moment_of z) op (ops.Count (length bytes)) (moment_of (held_of new later))) same
     (subst (λ m. IsTurn m op (ops.Count (length bytes)) (moment_of (held_of new later))) (sym (healthy_moment (held_of t fs) works))
     (subst (λ m. IsTurn (record { disk = t.disk; calls = t.history; state = Healthy (session_of (held_of t fs)) }) op (ops.Count (length bytes)) m) (sym to)
-    (filled_turn t.disk t.pairs (session_of (held_of t fs)) (around_of t) op new.disk new.pairs b.calls t.history (is_over t (files_seen t fs) (invariant works).sound) (not_refused (held_of t fs) op accepted) refl b.geometry
+    (filled_turn t.disk t.pairs (session_of (held_of t fs)) (around_of t) op new.disk new.pairs b.calls t.history (is_over t (files_seen t fs) (invariant works).sound) (not_refused (held_of t fs) op accepted) refl (some_needed (session_of (held_of t fs)) fd bytes some) b.geometry
     b.sound.accepted b.pairs (ap₂ (λ (z : Tree) (a : Surroundings). let k : View = record { tree = z; gstate = a.gstate; used = a.used } in k) b.shows b.around) (recovered_from new.disk new.pairs b.sound.accepted made.written.settled)
     (λ h. b.sound.fits made.written.writable))))
   where

@@ -3,6 +3,7 @@ use Rattle.std.specs.Prelude.{ℕ, ◌+◌, ◌≤◌, nat_le, length, is_none, 
 use Rattle.lfs_device.specs.declared.error.Error.{Error}
 use Rattle.lfs_device.specs.declared.error.Error.TheVariants.{Io, NoMemory, Corrupt}
 use Rattle.lfs_model.specs.BlockSets.{in_flight_count}
+use Rattle.lfs_model.specs.Discipline.{comes_at_once}
 use Rattle.lfs_model.specs.History.{Event, OnlyReads, faults}
 use Rattle.lfs_model.specs.Disk.{Disk, block_count, inline_limit}
 use Rattle.lfs_model.specs.View.{IsAccepted}
@@ -26,6 +27,7 @@ use Rattle.lfs_model.specs.TreeEdits.{is_file}
 use Rattle.lfs_model.specs.Run.{Moment, Shows, IsTurn}
 use Rattle.lfs_model.specs.Failure.{Fails}
 use Rattle.lfs_model.specs.Outages.{IsCutShortWithstood}
+use Rattle.lfs_model.specs.Thrift.{AreThrifty, AsksFew}
 use Rattle.lfs_lookup.specs.Refusals.{is_refusal, refusal_in}
 use Rattle.lfs_tree.specs.Seen.{Seen, tree_seen, around_of, IsSound, IsAsked, IsBrokenAsking, IsError}
 
@@ -92,9 +94,11 @@ Answers old op (Ok reply) new = IsTurn (moment_of old) op reply (moment_of new)
 Answers old op (Err e) new = FailsBy e (moment_of old) op (moment_of new)
 
 -- Some operations were carried out or refused, without a fault of the device, and withstood stops; in the next one the session
--- failed by that error, and it withstands them, too.
+-- failed by that error, and it withstands them, too. None of them read more than it must.
 pub record IsEndedBy (e : Error) (from : Moment) (operations : List Operation) (to : Moment) : Type 0 where
   pub ended : IsCutShortWithstood from operations to
+  pub thrifty : AreThrifty None from ended.cut.done ended.cut.replies ended.cut.at
+  pub few : AsksFew ended.cut.at ended.cut.next to
   pub no_fault : faults ended.cut.at.calls ≡ faults from.calls
   pub by : FailsBy e ended.cut.at ended.cut.next to
 
@@ -102,10 +106,14 @@ pub record IsEndedBy (e : Error) (from : Moment) (operations : List Operation) (
 abbrev pub refused_by : Held → Operation → Option Refusal
 refused_by h op = if h.tree.failed then Some Failed else refusal_of (around_of h.tree) (session_of h) op
 
+-- no check refuses it of those that ask nothing
+abbrev pub ComesLate : Held → Operation → Type 0
+ComesLate h op = (r : Refusal) → refused_by h op ≡ Some r → comes_at_once op r ≡ false
+
 -- what the checks leave where they end in that error: a refusal, or a call that failed
 abbrev pub EndsChecks : Bool → Held → Operation → Error → Seen → Type 0
-EndsChecks true h op e tree = IsAsked h.tree tree × (refused_by h op ≡ Some (refusal_in e))
-EndsChecks false h op e tree = IsBrokenAsking h.tree tree × (h.tree.failed ≡ false) × IsError h.tree tree e
+EndsChecks true h op e tree = IsAsked h.tree tree × (refused_by h op ≡ Some (refusal_in e)) × (comes_at_once op (refusal_in e) ≡ true → tree ≡ h.tree)
+EndsChecks false h op e tree = IsBrokenAsking h.tree tree × (h.tree.failed ≡ false) × IsError h.tree tree e × ComesLate h op
 
 -- An operation's checks by reads alone: it passes, and then the value has P; or it is refused; or a read failed.
 abbrev pub Checks : {A : Type 0} → Held → Operation → (A → Type 0) → Result A Error → Seen → Type 0

@@ -1,9 +1,9 @@
 -- What contracts see of operations and replies.
-use Rattle.std.specs.Prelude.{map, Result, Ok, Err}
+use Rattle.std.specs.Prelude.{◌≡◌, true, map, Result, Ok, Err}
 use Rattle.lfs_device.specs.declared.error.Error.{Error}
 use Rattle.lfs_model.specs.Operations as ops
 use Rattle.lfs_model.specs.Operations.{Operation}
-use Rattle.lfs_lookup.specs.Refusals.{refusal_in}
+use Rattle.lfs_lookup.specs.Refusals.{is_refusal, refusal_in}
 use Rattle.lfs_lookup.specs.Finds.{list_item_seen}
 use Rattle.lfs_fs.specs.GstateSeen.{gstate_reply}
 use Rattle.lfs_fs.specs.FlagsSeen.{flags_seen}
@@ -44,6 +44,11 @@ reply_seen (reply.Stat size) = ops.StatIs size
 reply_seen (reply.Gstate gstate) = gstate_reply gstate
 reply_seen (reply.Yes is) = ops.Yes is
 reply_seen (reply.Refused error) = ops.Refused (refusal_in error)
+
+-- a reply that refuses names an error that is a refusal
+abbrev pub IsNamed : Reply → Type 0
+IsNamed (reply.Refused error) = is_refusal error ≡ true
+IsNamed _ = Unit {0}
 
 -- the reply, or the error in its place
 abbrev pub performed : Result Reply Error → Result ops.Reply Error

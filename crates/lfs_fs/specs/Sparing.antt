@@ -1,8 +1,7 @@
 -- What a session's call promises: how it answers and ends, what a loss of power leaves, which blocks it leaves alone, how many reads it takes.
-use Rattle.std.specs.Prelude.{ℕ, ◌≡◌, true, false, List, ◌++◌, Result, Ok, is_err}
+use Rattle.std.specs.Prelude.{ℕ, ◌≡◌, true, false, List, Result, Ok, is_err}
 use Rattle.lfs_device.specs.declared.error.Error.{Error}
-use Rattle.lfs_model.specs.Discipline.{LeavesAlone, ReadsFew, is_kept, looks_up, searched}
-use Rattle.lfs_model.specs.History.{Event}
+use Rattle.lfs_model.specs.Discipline.{LeavesAlone, is_kept, looks_up, searched}
 use Rattle.lfs_model.specs.Operations as ops
 use Rattle.lfs_model.specs.Operations.{Operation, Reply}
 use Rattle.lfs_model.specs.PowerLoss.{Withstands}
@@ -11,6 +10,7 @@ use Rattle.lfs_model.specs.Session.{Session}
 use Rattle.lfs_model.specs.Slots.{no_gstate}
 use Rattle.lfs_model.specs.State.{Healthy}
 use Rattle.lfs_model.specs.Thread.{Pair, gstate_of}
+use Rattle.lfs_model.specs.Thrift.{AsksFew}
 use Rattle.lfs_model.specs.View.{IsAccepted}
 use Rattle.lfs_lookup.specs.AtHand.{AreSmall}
 use Rattle.lfs_tree.specs.Reads.{HasOnHand}
@@ -22,10 +22,6 @@ use Rattle.lfs_fs.specs.LookUps.{ReadsNoneIn}
 abbrev pub LeavesOthers : Moment → Operation → Moment → Type 0
 LeavesOthers from op to = (s : Session) → from.state ≡ Healthy s → (ps qs : List Pair) → IsAccepted from.disk ps → IsAccepted to.disk qs → gstate_of ps ≡ no_gstate
     → LeavesAlone from.disk ps s op to.disk qs
-
--- a look-up read no more pairs than its directories have
-abbrev pub AsksFew : Moment → Operation → Moment → Type 0
-AsksFew from op to = (s : Session) → from.state ≡ Healthy s → (ps : List Pair) → IsAccepted from.disk ps → (calls : List Event) → to.calls ≡ calls ++ from.calls → ReadsFew ps op calls
 
 -- behind an accepted stat the directories that it searched are at hand, if they are small
 abbrev pub LeavesAtHand : Operation → Result Reply Error → Held → Type 0

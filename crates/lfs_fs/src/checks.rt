@@ -24,6 +24,7 @@ use crate::passing::{both, passed};
 use bitflags::Flags;
 use lfs_device::{BlockDevice, Error};
 use lfs_lookup::{ListItem, Path, refuse_if};
+use lfs_tag::Superblock;
 use lfs_tree::Tree;
 use std::alloc::Global;
 
@@ -46,10 +47,8 @@ pub(crate) fn is_overcharged_with<D: BlockDevice>(
     ensures { (name : List ℕ) (attributes : Attributes) → length name ≡ name_len → attributes_size attributes ≡ attributes_len → result ≡ is_overcharged (around_of tree.now) name attributes }
 {
     let geometry = tree.geometry();
-    let inline_limit = (geometry.block_size / 8).min(1022) as u64;
-    let capacity = (geometry.block_size as u64).saturating_sub(39 + geometry.page as u64);
-    let entry = 4 + name_len as u64 + (4 + inline_limit);
-    capacity / 2 < entry.saturating_add(attributes_len as u64)
+    let entry = 4 + name_len as u64 + (4 + u64::from(geometry.inline_limit()));
+    u64::from(geometry.entry_limit()) < entry.saturating_add(attributes_len as u64)
 }
 
 // Whether fewer blocks than that are free.
@@ -110,7 +109,10 @@ pub(crate) fn check_mkdir<'a, D: BlockDevice>(
     let found = tree.look_up(alloc, &path)?;
     let checks = [
         found.fault,
-        refuse_if(path.name_len() > 255, Error::NameTooLong),
+        refuse_if(
+            path.name_len() > Superblock::NAME_MAX as usize,
+            Error::NameTooLong,
+        ),
         refuse_if(!found.node.is_nothing(), Error::Exist),
         refuse_if(is_overcharged(tree, path.name_len()), Error::EntryFull),
         refuse_if(lacks(tree, files, 4), Error::NoSpace),
@@ -132,7 +134,7 @@ pub(crate) fn check_seek<D: BlockDevice>(
     if !files.is_open(fd) {
         return Err(Error::BadFile);
     }
-    if position > 2147483647 {
+    if position > Superblock::FILE_MAX {
         return Err(Error::Invalid);
     }
     Ok(())
@@ -218,7 +220,10 @@ pub(crate) fn check_open_writer<'a, D: BlockDevice>(
     let checks = [
         found.fault,
         refuse_if(
-            both(both(is_absent, creates), path.name_len() > 255),
+            both(
+                both(is_absent, creates),
+                path.name_len() > Superblock::NAME_MAX as usize,
+            ),
             Error::NameTooLong,
         ),
         refuse_if(both(is_absent, !creates), Error::NoEnt),
@@ -395,7 +400,7 @@ pub(crate) fn check_set_attr<'a, D: BlockDevice>(
     let checks = [
         found.finding.fault,
         refuse_if(found.finding.node.is_nothing(), Error::NoEnt),
-        refuse_if(value.len() > 1022, Error::TooBig),
+        refuse_if(value.len() > Superblock::ATTR_MAX as usize, Error::TooBig),
         refuse_if(
             is_overcharged_with(tree, path.name_len(), size),
             Error::EntryFull,
@@ -434,7 +439,7 @@ pub(crate) fn check_write<D: BlockDevice>(
         return Ok(());
     }
     let place = writer.place();
-    if place as u64 + bytes.len() as u64 > 2147483647 {
+    if place as u64 + bytes.len() as u64 > Superblock::FILE_MAX as u64 {
         return Err(Error::TooBig);
     }
     let size = writer.size.max(place + bytes.len() as u32);
@@ -460,7 +465,7 @@ pub(crate) fn check_truncate<D: BlockDevice>(
     let Some(writer) = files.writer(fd) else {
         return Err(Error::BadFile);
     };
-    if size > 2147483647 {
+    if size > Superblock::FILE_MAX {
         return Err(Error::TooBig);
     }
     if size != writer.size && overfills(tree, writer.has_turned_by_size(), size) {

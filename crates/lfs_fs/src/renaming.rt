@@ -14,6 +14,7 @@ use crate::owned_path::is_same;
 use crate::passing::passed;
 use lfs_device::{BlockDevice, Error};
 use lfs_lookup::{Path, refuse_if};
+use lfs_tag::Superblock;
 use lfs_tree::Tree;
 use std::alloc::Global;
 
@@ -103,7 +104,10 @@ pub(crate) fn check_rename<'a, D: BlockDevice>(
     let checks = [
         entry.fault,
         inside.finding.fault,
-        refuse_if(to.name_len() > 255, Error::NameTooLong),
+        refuse_if(
+            to.name_len() > Superblock::NAME_MAX as usize,
+            Error::NameTooLong,
+        ),
         refuse_if(entry.node.is_nothing(), Error::NoEnt),
         refuse_if(
             are_both(

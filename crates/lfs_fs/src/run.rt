@@ -1,57 +1,87 @@
 // Operations and their replies.
 
-ghost use Rattle.std.specs.Prelude.{◌≡◌, map};
+ghost use Rattle.std.specs.Prelude.{◌≡◌, map, IfOk};
 ghost use Rattle.lfs_model.specs.Operations as operations;
 ghost use Rattle.lfs_lookup.specs.Finds.{list_item_seen};
 ghost use Rattle.lfs_lookup.specs.Refusals.{is_refusal};
 ghost use Rattle.lfs_fs.specs.GstateSeen.{gstate_reply};
 ghost use Rattle.lfs_fs.specs.Replies.{reply_in};
-ghost use Rattle.lfs_fs.specs.OpSeen.{performed};
+ghost use Rattle.lfs_fs.specs.OpSeen.{IsNamed, performed};
 
 use crate::flags::OpenFlags;
 use crate::gstate::Gstate;
 use lfs_device::Error;
 use lfs_lookup::ListItem;
 
-/// An operation of a session.
+/// An operation of a session, by the name of the call that it makes, with what the call takes.
 #[derive(Clone, Copy)]
 pub enum Op<'a> {
+    /// A path, and how it is opened.
     Open(&'a [u8], OpenFlags),
+    /// An open file's number, and how many bytes at most.
     Read(u32, u32),
+    /// An open file's number, and the bytes.
     Write(u32, &'a [u8]),
+    /// An open file's number, and the position.
     Seek(u32, u32),
+    /// An open file's number, and how many bytes it is to have.
     Truncate(u32, u32),
+    /// An open file's number.
     Sync(u32),
+    /// An open file's number.
     Close(u32),
+    /// The path of the new directory.
     Mkdir(&'a [u8]),
+    /// A directory's path.
     List(&'a [u8]),
+    /// A path.
     Stat(&'a [u8]),
+    /// A path, and the attribute's type.
     GetAttr(&'a [u8], u8),
+    /// A path.
     Remove(&'a [u8]),
+    /// The old path, and the new one.
     Rename(&'a [u8], &'a [u8]),
+    /// A path, the attribute's type, and its bytes.
     SetAttr(&'a [u8], u8, &'a [u8]),
+    /// A path, and the attribute's type.
     RemoveAttr(&'a [u8], u8),
+    /// The global state is asked for.
     Gstate,
+    /// A block's number.
     IsUsed(u32),
+    /// How many blocks are used.
     UsedCount,
+    /// What a loss of power left is ended.
     Recover,
+    /// The device is read anew.
     Remount,
 }
 
 /// What an operation answers.
 #[derive(Drop)]
 pub enum Reply {
+    /// It was carried out, and there is nothing to tell.
     Done,
+    /// The number under which a file was opened.
     Fd(u32),
+    /// The bytes that were read, or those of an attribute.
     Bytes(Vec<u8>),
+    /// How many bytes were written, or how many blocks are used.
     Count(u32),
+    /// What stands in a directory.
     Items(Vec<ListItem>),
+    /// A file's size in bytes, or None for a directory.
     Stat(Option<u32>),
+    /// The global state.
     Gstate(Gstate),
+    /// Whether a block is used.
     Yes(bool),
+    /// It was refused, and nothing has changed. Never `Io`, `NoMemory` or `Corrupt`.
     Refused(Error),
 }
 
+// Whether it isn't one of the errors that make a session fail.
 fn is_refusal(error: Error) -> bool
     ensures { result ≡ is_refusal error }
 {
@@ -59,7 +89,8 @@ fn is_refusal(error: Error) -> bool
 }
 
 fn refused(error: Error) -> Result<Reply, Error>
-    ensures { performed result ≡ reply_in (λ r. r) (Err error) }
+    ensures seen { performed result ≡ reply_in (λ r. r) (Err error) }
+    ensures named { IfOk result IsNamed }
 {
     if is_refusal(error) {
         Ok(Reply::Refused(error))
@@ -69,7 +100,8 @@ fn refused(error: Error) -> Result<Reply, Error>
 }
 
 pub(crate) fn done(answer: Result<(), Error>) -> Result<Reply, Error>
-    ensures { performed result ≡ reply_in (λ _. operations.Done) answer }
+    ensures seen { performed result ≡ reply_in (λ _. operations.Done) answer }
+    ensures named { IfOk result IsNamed }
 {
     match answer {
         Ok(()) => Ok(Reply::Done),
@@ -78,7 +110,8 @@ pub(crate) fn done(answer: Result<(), Error>) -> Result<Reply, Error>
 }
 
 pub(crate) fn fd(answer: Result<u32, Error>) -> Result<Reply, Error>
-    ensures { performed result ≡ reply_in operations.Opened answer }
+    ensures seen { performed result ≡ reply_in operations.Opened answer }
+    ensures named { IfOk result IsNamed }
 {
     match answer {
         Ok(fd) => Ok(Reply::Fd(fd)),
@@ -87,7 +120,8 @@ pub(crate) fn fd(answer: Result<u32, Error>) -> Result<Reply, Error>
 }
 
 pub(crate) fn bytes(answer: Result<Vec<u8>, Error>) -> Result<Reply, Error>
-    ensures { performed result ≡ reply_in (λ v. operations.Bytes v.items) answer }
+    ensures seen { performed result ≡ reply_in (λ v. operations.Bytes v.items) answer }
+    ensures named { IfOk result IsNamed }
 {
     match answer {
         Ok(bytes) => Ok(Reply::Bytes(bytes)),
@@ -96,7 +130,8 @@ pub(crate) fn bytes(answer: Result<Vec<u8>, Error>) -> Result<Reply, Error>
 }
 
 pub(crate) fn count(answer: Result<u32, Error>) -> Result<Reply, Error>
-    ensures { performed result ≡ reply_in operations.Count answer }
+    ensures seen { performed result ≡ reply_in operations.Count answer }
+    ensures named { IfOk result IsNamed }
 {
     match answer {
         Ok(count) => Ok(Reply::Count(count)),
@@ -105,7 +140,8 @@ pub(crate) fn count(answer: Result<u32, Error>) -> Result<Reply, Error>
 }
 
 pub(crate) fn items(answer: Result<Vec<ListItem>, Error>) -> Result<Reply, Error>
-    ensures { performed result ≡ reply_in (λ items. operations.Items (map list_item_seen items.items)) answer }
+    ensures seen { performed result ≡ reply_in (λ items. operations.Items (map list_item_seen items.items)) answer }
+    ensures named { IfOk result IsNamed }
 {
     match answer {
         Ok(items) => Ok(Reply::Items(items)),
@@ -114,7 +150,8 @@ pub(crate) fn items(answer: Result<Vec<ListItem>, Error>) -> Result<Reply, Error
 }
 
 pub(crate) fn stat(answer: Result<Option<u32>, Error>) -> Result<Reply, Error>
-    ensures { performed result ≡ reply_in operations.StatIs answer }
+    ensures seen { performed result ≡ reply_in operations.StatIs answer }
+    ensures named { IfOk result IsNamed }
 {
     match answer {
         Ok(size) => Ok(Reply::Stat(size)),
@@ -123,7 +160,8 @@ pub(crate) fn stat(answer: Result<Option<u32>, Error>) -> Result<Reply, Error>
 }
 
 pub(crate) fn gstate(answer: Result<Gstate, Error>) -> Result<Reply, Error>
-    ensures { performed result ≡ reply_in gstate_reply answer }
+    ensures seen { performed result ≡ reply_in gstate_reply answer }
+    ensures named { IfOk result IsNamed }
 {
     match answer {
         Ok(gstate) => Ok(Reply::Gstate(gstate)),
@@ -132,7 +170,8 @@ pub(crate) fn gstate(answer: Result<Gstate, Error>) -> Result<Reply, Error>
 }
 
 pub(crate) fn yes(answer: Result<bool, Error>) -> Result<Reply, Error>
-    ensures { performed result ≡ reply_in operations.Yes answer }
+    ensures seen { performed result ≡ reply_in operations.Yes answer }
+    ensures named { IfOk result IsNamed }
 {
     match answer {
         Ok(yes) => Ok(Reply::Yes(yes)),

@@ -1,26 +1,28 @@
 ghost use Rattle.lfs_model.specs.Operations as ops;
+ghost use Rattle.lfs_model.specs.Operations.{Operation, Reply as Answer};
 ghost use Rattle.lfs_fs.specs.Replies.{reply_in};
-ghost use Rattle.std.specs.Prelude.{◌≡◌, ◌⊎◌, None, false, true, List, map, IfOk, IfErr, OnOk};
+ghost use Rattle.std.specs.Prelude.{◌≡◌, ◌⊎◌, None, false, true, List, [], map, All, IfOk, IfErr, OnOk};
 ghost use Rattle.lfs_model.specs.Disk.{SameGeometry};
 ghost use Rattle.lfs_model.specs.Thread.{Pair};
 ghost use Rattle.lfs_model.specs.Fresh.{IsFresh, empty_tree};
-ghost use Rattle.lfs_model.specs.Headline.{IsTrue};
+ghost use Rattle.lfs_model.specs.Headline.{ComesFromFresh, IsTrue};
 ghost use Rattle.lfs_model.specs.History.{faults};
 ghost use Rattle.lfs_model.specs.State.{Healthy, mounted};
 ghost use Rattle.lfs_model.specs.Run.{AreTurns};
 ghost use Rattle.lfs_model.specs.Outages.{AreWithstood};
 ghost use Rattle.lfs_model.specs.PowerLoss.{SurvivesStops};
 ghost use Rattle.lfs_thread.specs.Device.{GivesBack, two_of};
-ghost use Rattle.lfs_thread.specs.Kept.{disk_on};
+ghost use Rattle.lfs_thread.specs.Kept.{disk_on, seen_on};
 ghost use Rattle.lfs_model.specs.Thread.{anchor};
 ghost use Rattle.lfs_model.specs.View.{IsAccepted};
 ghost use Rattle.lfs_lookup.specs.Finds.{list_item_seen};
-ghost use Rattle.lfs_tree.specs.Formatting.{ComesBack};
+ghost use Rattle.lfs_tree.specs.Formatting.{ComesBack, WritesFirstTwo};
+ghost use Rattle.lfs_tree.specs.Seen.{kept_of};
 ghost use Rattle.lfs_fs.specs.Ending.{EndsWell};
 ghost use Rattle.lfs_fs.specs.GstateSeen.{gstate_reply};
 ghost use Rattle.lfs_fs.specs.Held.{Answers, IsBegun, IsEndedBy, moment_of};
 ghost use Rattle.lfs_fs.specs.FlagsSeen.{flags_seen};
-ghost use Rattle.lfs_fs.specs.OpSeen.{op_seen, performed, reply_seen};
+ghost use Rattle.lfs_fs.specs.OpSeen.{IsNamed, op_seen, performed, reply_seen};
 ghost use Rattle.lfs_fs.specs.Sparing.{IsCall, LeavesOthers};
 ghost use Rattle.lfs_model.specs.Thrift.{AreThrifty};
 ghost use Rattle.lfs_fs.specs.Told.{IsTold};
@@ -47,6 +49,15 @@ use std::alloc::Global;
 use std::marker::Model;
 
 /// A session: a tree of files on a device, and the open files.
+///
+/// Paths are bytes, `/` alone or names with a `/` in front of each. A call is refused, and then
+/// nothing is written and nothing has changed, or it fails: `Io` where a call of the device failed,
+/// and `NoMemory` where memory isn't granted. A session that has failed answers `Failed` to each
+/// call but [`remount`](Session::remount).
+///
+/// Each call names its refusals in the order in which they are checked. `ReadOnly`, `BadFile`,
+/// `Invalid` and `Failed` come without a call of the device, and so do all of
+/// [`write`](Session::write) and [`truncate`](Session::truncate).
 #[derive(Drop)]
 pub struct Session<D: BlockDevice> {
     tree: Tree<D>,
@@ -65,30 +76,47 @@ impl<D: BlockDevice> Model for Session<D> {
 }
 
 impl<D: BlockDevice> Session<D> {
-    /// A file's size, or None for a directory. Each pair of the directories above it is read at most
-    /// once.
+    /// A file's size in bytes, or None for a directory. No more reads are made than the directories
+    /// above it have pairs.
+    ///
+    /// # Errors
+    ///
+    /// `Invalid` where the path isn't well formed; `NoEnt` or `NotDir` where a parent is missing or
+    /// is a file; `NoEnt` where nothing stands there.
     pub fn stat(&mut self, alloc: Global, path: &[u8]) -> Result<Option<u32>, Error>
         ensures { IsCall self.old (ops.Stat path.now) (reply_in ops.StatIs result) self.new }
     {
         check_stat(alloc, &mut self.tree, &self.files, path)
     }
 
-    /// What stands in a directory, in name order. Each pair of it, and of the directories above it, is
-    /// read at most once.
+    /// What stands in a directory, in name order. No more reads are made than it and the
+    /// directories above it have pairs.
+    ///
+    /// # Errors
+    ///
+    /// `Invalid` where the path isn't well formed; `NoEnt` or `NotDir` where a parent is missing or
+    /// is a file; `NoEnt` where nothing stands there; `NotDir` where a file does.
     pub fn list(&mut self, alloc: Global, path: &[u8]) -> Result<Vec<ListItem>, Error>
         ensures { IsCall self.old (ops.ListAll path.now) (reply_in (λ items. ops.Items (map list_item_seen items.items)) result) self.new }
     {
         check_list(alloc, &mut self.tree, &self.files, path)
     }
 
-    /// The bytes of an entry's attribute. Each pair of the directories above it is read at most once.
+    /// The bytes of an entry's attribute. No more reads are made than the directories above it have
+    /// pairs.
+    ///
+    /// # Errors
+    ///
+    /// `Invalid` where the path isn't well formed or is the root's; `NoEnt` or `NotDir` where a
+    /// parent is missing or is a file; `NoEnt` where nothing stands there; `NoAttr` where the entry
+    /// has none of that type.
     pub fn get_attr(&mut self, alloc: Global, path: &[u8], kind: u8) -> Result<Vec<u8>, Error>
         ensures { IsCall self.old (ops.GetAttr path.now kind) (reply_in (λ v. ops.Bytes v.items) result) self.new }
     {
         check_get_attr(alloc, &mut self.tree, &self.files, path, kind)
     }
 
-    /// The global state. Without a call of the device.
+    /// The global state. Without a call of the device, and never refused.
     pub fn gstate(&self) -> Result<Gstate, Error>
         ensures { IsCall self.now ops.AskGstate (reply_in gstate_reply result) self.now }
     {
@@ -99,6 +127,10 @@ impl<D: BlockDevice> Session<D> {
     }
 
     /// Whether the image uses a block. Without a call of the device.
+    ///
+    /// # Errors
+    ///
+    /// `Invalid` where the image has no such block.
     pub fn is_used(&self, block: u32) -> Result<bool, Error>
         ensures { IsCall self.now (ops.IsUsed block) (reply_in ops.Yes result) self.now }
     {
@@ -111,7 +143,7 @@ impl<D: BlockDevice> Session<D> {
         Ok(self.tree.is_used(block))
     }
 
-    /// How many blocks the image uses. Without a call of the device.
+    /// How many blocks the image uses. Without a call of the device, and never refused.
     pub fn used_count(&self) -> Result<u32, Error>
         ensures { IsCall self.now ops.UsedCount (reply_in ops.Count result) self.now }
     {
@@ -123,6 +155,14 @@ impl<D: BlockDevice> Session<D> {
 
     /// Makes an empty directory. What a loss of power left in the image is ended first, as by
     /// [`recover`](Session::recover).
+    ///
+    /// # Errors
+    ///
+    /// `ReadOnly` where the image isn't one of those that this library writes; `Invalid` where the
+    /// path isn't well formed; `NoEnt` or `NotDir` where a parent is missing or is a file;
+    /// `NameTooLong` where the name has more than 255 bytes; `Exist` where something stands there;
+    /// `EntryFull` where the name takes too much of a metadata pair; `NoSpace` where fewer than
+    /// four blocks are free.
     pub fn mkdir(&mut self, alloc: Global, path: &[u8]) -> Result<(), Error>
         ensures { IsCall self.old (ops.Mkdir path.now) (reply_in (λ _. ops.Done) result) self.new }
     {
@@ -144,6 +184,13 @@ impl<D: BlockDevice> Session<D> {
     }
 
     /// Takes a file, or a directory without entries. What a loss of power left is ended first.
+    ///
+    /// # Errors
+    ///
+    /// `ReadOnly` where the image isn't one of those that this library writes; `Invalid` where the
+    /// path isn't well formed or is the root's; `NoEnt` or `NotDir` where a parent is missing or is
+    /// a file; `NoEnt` where nothing stands there; `NotEmpty` where a directory has entries; `Busy`
+    /// where the file is open.
     pub fn remove(&mut self, alloc: Global, path: &[u8]) -> Result<(), Error>
         ensures { IsCall self.old (ops.Remove path.now) (reply_in (λ _. ops.Done) result) self.new }
     {
@@ -164,9 +211,20 @@ impl<D: BlockDevice> Session<D> {
         self.tree.remove(alloc, &path)
     }
 
-    /// Gives an entry another path, in place of a file, or of a directory without entries, at it, if
-    /// there is one. What is beneath a directory goes with it, and what a loss of power left is ended
-    /// first. A path to itself: nothing is done.
+    /// Gives an entry another path, in place of a file, or of a directory without entries, at it,
+    /// if there is one. What is beneath a directory goes with it, and what a loss of power left is
+    /// ended first. A path to itself: nothing is done.
+    ///
+    /// # Errors
+    ///
+    /// `ReadOnly` where the image isn't one of those that this library writes; `Invalid` where a
+    /// path isn't well formed or is the root's, or the new one lies beneath the old one; `NoEnt` or
+    /// `NotDir` where a parent is missing or is a file, of the old path first; `NameTooLong` where
+    /// the new name has more than 255 bytes; `NoEnt` where nothing stands at the old path; `NotDir`
+    /// for a directory in place of a file, `IsDir` for a file in place of a directory, `NotEmpty`
+    /// where the directory in its place has entries; `Busy` where a file at the old path, beneath
+    /// it or at the new path is open; `EntryFull` where the new name and the attributes take too
+    /// much of a metadata pair; `NoSpace` where fewer than two blocks are free.
     pub fn rename(&mut self, alloc: Global, from: &[u8], to: &[u8]) -> Result<(), Error>
         ensures { IsCall self.old (ops.Rename from.now to.now) (reply_in (λ _. ops.Done) result) self.new }
     {
@@ -190,8 +248,16 @@ impl<D: BlockDevice> Session<D> {
         self.tree.rename(alloc, &renaming.from, &renaming.to)
     }
 
-    /// Gives an entry an attribute, in place of the one of that type that it has, if it has one. What
-    /// a loss of power left is ended first.
+    /// Gives an entry an attribute, in place of the one of that type that it has, if it has one.
+    /// What a loss of power left is ended first.
+    ///
+    /// # Errors
+    ///
+    /// `ReadOnly` where the image isn't one of those that this library writes; `Invalid` where the
+    /// path isn't well formed or is the root's; `NoEnt` or `NotDir` where a parent is missing or is
+    /// a file; `NoEnt` where nothing stands there; `TooBig` where the value has more than 1,022
+    /// bytes; `EntryFull` where the name and the attributes take too much of a metadata pair;
+    /// `NoSpace` where fewer than two blocks are free.
     pub fn set_attr(
         &mut self,
         alloc: Global,
@@ -225,6 +291,12 @@ impl<D: BlockDevice> Session<D> {
     }
 
     /// Takes an attribute from an entry. What a loss of power left is ended first.
+    ///
+    /// # Errors
+    ///
+    /// `ReadOnly` where the image isn't one of those that this library writes; `Invalid` where the
+    /// path isn't well formed or is the root's; `NoEnt` or `NotDir` where a parent is missing or is
+    /// a file; `NoEnt` where nothing stands there; `NoAttr` where the entry has none of that type.
     pub fn remove_attr(&mut self, alloc: Global, path: &[u8], kind: u8) -> Result<(), Error>
         ensures { IsCall self.old (ops.RemoveAttr path.now kind) (reply_in (λ _. ops.Done) result) self.new }
     {
@@ -247,6 +319,8 @@ impl<D: BlockDevice> Session<D> {
 
     /// Ends what a loss of power left in the image: a set move, and directories that no path leads
     /// to. The tree stays; nothing is written where nothing is left.
+    ///
+    /// # Errors
     ///
     /// `ReadOnly` where the image isn't one of those that this library writes.
     pub fn recover(&mut self, alloc: Global) -> Result<(), Error>
@@ -314,8 +388,23 @@ impl<D: BlockDevice> Session<D> {
         Ok(number)
     }
 
-    /// Opens a file, for reading or for writing. One file at most is open for writing, and 16 for
-    /// reading. Where it is opened for writing, what a loss of power left in the image is ended first.
+    /// Opens a file, for reading or for writing, and answers the least number that isn't open. One
+    /// file at most is open for writing, and 16 for reading. Where it is opened for writing, what a
+    /// loss of power left in the image is ended first; a file that is created is in the tree at
+    /// once.
+    ///
+    /// # Errors
+    ///
+    /// `ReadOnly` where it is opened for writing and the image isn't one of those that this library
+    /// writes; `Invalid` where the path isn't well formed or the flags don't go together; `NoEnt`
+    /// or `NotDir` where a parent is missing or is a file; of a file to create `NameTooLong` where
+    /// its name has more than 255 bytes; `NoEnt` where nothing stands there and none is created;
+    /// `Exist` where something does, with [`EXCLUSIVE`](OpenFlags::EXCLUSIVE); `IsDir` for a
+    /// directory; `Busy`, for writing where a file is open for writing or this one is open at all,
+    /// for reading where this one is open for writing or 16 are open for reading; of a file to
+    /// create `EntryFull` where its name takes too much of a metadata pair, and `NoSpace` where
+    /// fewer than two blocks are free, or with [`TRUNCATE`](OpenFlags::TRUNCATE) too few for the
+    /// file anew.
     pub fn open(&mut self, alloc: Global, path: &[u8], flags: OpenFlags) -> Result<u32, Error>
         ensures { IsCall self.old (ops.Open path.now (flags_seen flags)) (reply_in ops.Opened result) self.new }
     {
@@ -341,6 +430,12 @@ impl<D: BlockDevice> Session<D> {
     /// Writes bytes at the position of a file that is open for writing, or at its end where it
     /// appends, and says how many; zeros fill a gap. The position is behind them then. They are in
     /// the tree once the file is synced or closed.
+    ///
+    /// # Errors
+    ///
+    /// `BadFile` where no file is open for writing under the number; `TooBig` where the file would
+    /// have more than 2,147,483,647 bytes; `NoSpace` where too few blocks are free for what the
+    /// file would hold.
     pub fn write(&mut self, alloc: Global, fd: u32, bytes: &[u8]) -> Result<u32, Error>
         ensures { IsCall self.old (ops.Write fd bytes.now) (reply_in ops.Count result) self.new }
     {
@@ -370,6 +465,11 @@ impl<D: BlockDevice> Session<D> {
 
     /// Gives a file that is open for writing that many bytes: it is cut, or zeros fill it up. The
     /// position stays.
+    ///
+    /// # Errors
+    ///
+    /// `BadFile` where no file is open for writing under the number; `TooBig` for more than
+    /// 2,147,483,647 bytes; `NoSpace` where too few blocks are free for what the file would hold.
     pub fn truncate(&mut self, alloc: Global, fd: u32, size: u32) -> Result<(), Error>
         ensures { IsCall self.old (ops.Truncate fd size) (reply_in (λ _. ops.Done) result) self.new }
     {
@@ -397,7 +497,12 @@ impl<D: BlockDevice> Session<D> {
         Ok(())
     }
 
-    /// Brings what was written to an open file into the tree. Nothing is to be done for other files.
+    /// Brings what was written to an open file into the tree. Nothing is to be done for other
+    /// files.
+    ///
+    /// # Errors
+    ///
+    /// `BadFile` where no file is open under the number.
     pub fn sync(&mut self, alloc: Global, fd: u32) -> Result<(), Error>
         ensures { IsCall self.old (ops.Sync fd) (reply_in (λ _. ops.Done) result) self.new }
     {
@@ -427,6 +532,10 @@ impl<D: BlockDevice> Session<D> {
 
     /// The bytes of an open file from its position on, so many at most; fewer where the file ends,
     /// and none behind its end. The position moves on by as many.
+    ///
+    /// # Errors
+    ///
+    /// `BadFile` where no file is open for reading under the number.
     pub fn read(&mut self, alloc: Global, fd: u32, count: u32) -> Result<Vec<u8>, Error>
         ensures { IsCall self.old (ops.Read fd count) (reply_in (λ v. ops.Bytes v.items) result) self.new }
     {
@@ -448,7 +557,12 @@ impl<D: BlockDevice> Session<D> {
         Ok(bytes)
     }
 
-    /// Sets the position of an open file.
+    /// Sets the position of an open file, from its beginning, also behind its end.
+    ///
+    /// # Errors
+    ///
+    /// `BadFile` where no file is open under the number; `Invalid` for a position above
+    /// 2,147,483,647.
     pub fn seek(&mut self, fd: u32, position: u32) -> Result<(), Error>
         ensures { IsCall self.old (ops.Seek fd position) (reply_in (λ _. ops.Done) result) self.new }
     {
@@ -457,7 +571,12 @@ impl<D: BlockDevice> Session<D> {
         Ok(())
     }
 
-    /// Closes an open file, and brings what was written to it into the tree. Its number is free then.
+    /// Closes an open file, and brings what was written to it into the tree. Its number is free
+    /// then.
+    ///
+    /// # Errors
+    ///
+    /// `BadFile` where no file is open under the number.
     pub fn close(&mut self, alloc: Global, fd: u32) -> Result<(), Error>
         ensures { IsCall self.old (ops.Close fd) (reply_in (λ _. ops.Done) result) self.new }
     {
@@ -485,8 +604,12 @@ impl<D: BlockDevice> Session<D> {
         Ok(())
     }
 
-    /// Closes all files, and reads the device anew, after an error too. `Corrupt` where no image is
-    /// accepted there; then, and after `Io` and `NoMemory`, the session has failed.
+    /// Closes all files, and reads the device anew, after an error too.
+    ///
+    /// # Errors
+    ///
+    /// `Corrupt` where no image is accepted there; then, and after `Io` and `NoMemory`, the session
+    /// has failed.
     pub fn remount(&mut self, alloc: Global) -> Result<(), Error>
         ensures { IsCall self.old ops.Remount (reply_in (λ _. ops.Done) result) self.new }
     {
@@ -512,7 +635,8 @@ impl<D: BlockDevice> Session<D> {
 
     // One operation. A refusal is a reply; an error leaves a failed session.
     fn perform(&mut self, alloc: Global, op: Op<'_>) -> Result<Reply, Error>
-        ensures { IsCall self.old (op_seen op.entry) (performed result) self.new }
+        ensures call { IsCall self.old (op_seen op.entry) (performed result) self.new }
+        ensures named { IfOk result IsNamed }
     {
         match op {
             Op::Open(path, flags) => fd(self.open(alloc, path, flags)),
@@ -551,15 +675,19 @@ impl<D: BlockDevice> Session<D> {
         let _device = self.tree.device();
     }
 
-    /// Carries out operations in turn, a reply for each; a refusal is a reply, too. Where an
-    /// operation meets an error, the operations before it were carried out, and the session has
-    /// failed.
+    /// Carries out operations in turn, a reply for each; a refusal is a reply, too.
+    ///
+    /// # Errors
+    ///
+    /// `Io`, `NoMemory` and, from a remount, `Corrupt`: the operations before it were carried out,
+    /// and the session has failed.
     pub fn run(&mut self, alloc: Global, ops: &[Op<'_>]) -> Result<Vec<Reply>, Error>
         ensures turns { IfOk result (λ replies. AreTurns (moment_of self.old) (map op_seen ops.now) (map reply_seen replies.items) (moment_of self.new)) }
         ensures withstood { IfOk result (λ replies. AreWithstood (moment_of self.old) (map op_seen ops.now) (map reply_seen replies.items) (moment_of self.new)) }
+        ensures named { IfOk result (λ replies. All IsNamed replies.items) }
         ensures thrifty { IfOk result (λ replies. AreThrifty None (moment_of self.old) (map op_seen ops.now) (map reply_seen replies.items) (moment_of self.new)) }
         ensures no_fault { OnOk result (faults self.new.tree.history ≡ faults self.old.tree.history) }
-        ensures headline { IfOk result (λ replies. IsFresh self.old.tree.disk → (moment_of self.old).state ≡ Healthy (mounted empty_tree) → IsTrue (moment_of self.new)) }
+        ensures headline { OnOk result ((done : List Operation) (answers : List Answer) → ComesFromFresh done answers (moment_of self.old) → IsTrue (moment_of self.new)) }
         ensures ended { IfErr result (λ e. IsEndedBy e (moment_of self.old) (map op_seen ops.now) (moment_of self.new)) }
     {
         self.tells();
@@ -580,6 +708,8 @@ impl<D: BlockDevice> Session<D> {
 
 /// A session over the image of a device. Only reads are made.
 ///
+/// # Errors
+///
 /// `Corrupt` exactly where no image is accepted there. `Io` where a read failed, and `NoMemory`
 /// where memory isn't granted. The device comes back with an error.
 pub fn mount<D: BlockDevice>(alloc: Global, device: D) -> Result<Session<D>, (D, Error)>
@@ -597,15 +727,18 @@ pub fn mount<D: BlockDevice>(alloc: Global, device: D) -> Result<Session<D>, (D,
     }
 }
 
-/// Makes an empty file system on a device (SPEC.md of littlefs, "Superblock"), and begins a
-/// session over it.
+/// Makes an empty file system on a device (SPEC.md of littlefs, "Superblock"), and begins a session
+/// over it. The blocks 0 and 1 are erased, and no other is written.
 ///
-/// `Io` where a call of the device failed, and `NoMemory` where memory isn't granted. The device
-/// comes back with an error.
+/// # Errors
+///
+/// `Io` where a call of the device failed; the two blocks may hold anything then. `NoMemory` where
+/// memory isn't granted; nothing is written then. The device comes back with an error.
 pub fn format<D: BlockDevice>(alloc: Global, device: D) -> Result<Session<D>, (D, Error)>
     ensures fresh { IfOk result (λ s. IsFresh s.tree.disk) }
     ensures state { IfOk result (λ s. (moment_of s).state ≡ Healthy (mounted empty_tree)) }
     ensures geometry { IfOk result (λ s. SameGeometry (disk_on D.BlockDevice device) s.tree.disk) }
+    ensures calls { IfOk result (λ s. WritesFirstTwo (seen_on D.BlockDevice device [] []) (kept_of s.tree)) }
     ensures back { IfErr result (λ e. ComesBack D.BlockDevice (two_of anchor) device e.0 e.1) }
 {
     match Tree::format(alloc, device) {

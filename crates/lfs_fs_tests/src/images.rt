@@ -13,8 +13,8 @@ use std::test::Fail;
 
 const READ_ONLY: Answer<'static> = Refused(Error::ReadOnly);
 
-// A file of 600 bytes in its slot, where at most 512 are written.
-const LONG_FILE: Start<'static> = Start::Image(
+/// A file of 600 bytes in its slot, where at most 512 are written.
+pub const LONG_FILE: Start<'static> = Start::Image(
     &[
         (0x4010_0400, b""),
         (0x0010_0401, b"a"),

@@ -6,6 +6,8 @@ mod agreeing;
 #[cfg(test)]
 mod answers;
 #[cfg(test)]
+mod at_once;
+#[cfg(test)]
 mod begun;
 #[cfg(test)]
 mod directories;

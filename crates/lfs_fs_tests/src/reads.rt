@@ -10,10 +10,10 @@ use lfs_fs::{OpenFlags, Session};
 use std::alloc::Global;
 use std::test::Fail;
 
-type Counted = FaultDevice<RamDevice>;
+pub type Counted = FaultDevice<RamDevice>;
 
-// A session over a device that counts its calls.
-fn counted(alloc: Global, start: Start<'_>) -> Result<Session<Counted>, Error> {
+/// A session over a device that counts its calls.
+pub fn counted(alloc: Global, start: Start<'_>) -> Result<Session<Counted>, Error> {
     let device = device_of(alloc, start)?;
     mounted(alloc, FaultDevice::new(device, Which::Any, 0, false))
 }

@@ -99,7 +99,7 @@ turn_keeps Q carries from to op reply turn h (ps, (ok, q)) = go (is_refusal repl
     known = true_from to (turn_is_healthy from to op reply turn h) turn.agrees
 
     go : (b : Bool) → is_refusal reply ≡ b → (state : State) → from.state ≡ state → IsHealthy state → ArePairs Q to.disk
-    go true is state e k = subst (ArePairs Q) (sym (turn.refused is)) (ps, (ok, q))
+    go true is state e k = subst (ArePairs Q) (sym (turn.refused is).0) (ps, (ok, q))
     go false is HasFailed e k = absurd k
     go false is (Healthy s) e k =
         let shown = known.shows in

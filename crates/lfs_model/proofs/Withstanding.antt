@@ -63,7 +63,7 @@ turn_withstands from op reply to agrees turn survives = record { stops = survive
             ((turn.carried_out accepted s work.healthy ps shown.0 work.accepted shown.1.0).profile work.writable) (sym shown.1.1)
 
         by_reply : (b : Bool) → is_refusal reply ≡ b → is_remount op ≡ false → IsLeft to.disk s.tree (applied around s op).1.tree
-        by_reply true e other = untouched (turn.refused e)
+        by_reply true e other = untouched (turn.refused e).0
         by_reply false e other = done other e
 
         by_op : (b : Bool) → is_remount op ≡ b → IsLeft to.disk s.tree (applied around s op).1.tree

@@ -1,20 +1,25 @@
 -- Where an error ends a run, in place of a reply: the device failed, memory was wanting, or a remount found no accepted disk.
 use Rattle.std.specs.Prelude.{◌≡◌, true, false, List, [], ◌∷◌, ◌++◌}
 use Rattle.lfs_model.specs.Disk.{SameGeometry}
+use Rattle.lfs_model.specs.Thread.{Pair}
+use Rattle.lfs_model.specs.View.{IsAccepted}
+use Rattle.lfs_model.specs.Profile.{IsWritable}
 use Rattle.lfs_model.specs.History.{Event}
 use Rattle.lfs_model.specs.Operations.{Operation, Reply}
 use Rattle.lfs_model.specs.Session.{Session}
 use Rattle.lfs_model.specs.State.{HasFailed, Healthy, is_remount}
-use Rattle.lfs_model.specs.Run.{Moment, only_asks, IsUntouched, AreTurns}
+use Rattle.lfs_model.specs.Run.{Moment, only_asks, renames_to_itself, IsUntouched, AreTurns}
 
--- The session fails in an operation. What asks only, and a remount, write nothing; a session that had failed makes no call but
--- for a remount.
+-- The session fails in an operation. What asks only, a rename to itself and a remount write nothing, nor does anything on an image
+-- outside the writing profile; a session that had failed makes no call but for a remount.
 pub record Fails (from : Moment) (op : Operation) (to : Moment) : Type 0 where
   pub failed : to.state ≡ HasFailed
   pub geometry : SameGeometry from.disk to.disk
   pub calls : List Event
   pub called : to.calls ≡ calls ++ from.calls
   pub asks : (s : Session) → from.state ≡ Healthy s → only_asks s op ≡ true → IsUntouched from.disk calls to.disk
+  pub itself : renames_to_itself op ≡ true → IsUntouched from.disk calls to.disk
+  pub unwritten : ((ps : List Pair) → IsAccepted from.disk ps → IsWritable from.disk ps → ⊥) → IsUntouched from.disk calls to.disk
   pub remounted : is_remount op ≡ true → IsUntouched from.disk calls to.disk
   pub silent : from.state ≡ HasFailed → is_remount op ≡ false → (to.disk ≡ from.disk) × (calls ≡ [])
 

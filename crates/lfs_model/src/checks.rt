@@ -1,11 +1,13 @@
 // What each operation checks, in which order, and what it asks of the disk.
 
-ghost use Rattle.std.specs.Prelude.{◌≡◌, true, false, List, [], ◌∷◌, ◌++◌, Some, None, replicate, codes};
+ghost use Rattle.std.specs.Prelude.{◌≡◌, true, false, List, [], ◌∷◌, ◌++◌, filter, Some, None, replicate, codes};
 ghost use Rattle.lfs_model.specs.Slots.{no_gstate};
 ghost use Rattle.lfs_model.specs.Operations as ops;
 ghost use Rattle.lfs_model.specs.Operations.{NoEnt, BadFile, Exist, NotDir, IsDir, Invalid, NoSpace, ReadOnly, NameTooLong, NotEmpty, NoAttr, EntryFull};
 ghost use Rattle.lfs_model.specs.State.{mounted};
 ghost use Rattle.lfs_model.specs.Fresh.{empty_tree};
+ghost use Rattle.lfs_model.specs.Discipline.{comes_at_once, takes_nothing};
+ghost use Rattle.lfs_model.specs.examples.Runs.{each_refusal, writing_at};
 ghost use Rattle.lfs_model.specs.examples.Sessions.{around, replies, fresh_replies, each_at, for_read, for_write, for_new};
 
 /// A disk outside the writing profile is read, and each changing call is refused before anything else is looked at.
@@ -17,6 +19,15 @@ pub fn read_only_is_checked_first()
         ≡ ops.Refused ReadOnly ∷ ops.Refused ReadOnly ∷ ops.Refused ReadOnly ∷ ops.Refused ReadOnly
         ∷ ops.Refused ReadOnly ∷ ops.Refused ReadOnly ∷ ops.Refused ReadOnly ∷ ops.Refused ReadOnly
         ∷ ops.Refused Invalid ∷ ops.Refused BadFile ∷ ops.Items [] ∷ ops.StatIs None ∷ ops.Refused Invalid ∷ [] }
+{}
+
+/// Which refusals come without a look-up, and what takes neither the device nor memory.
+pub fn refusals_come_at_once()
+    ensures made { filter (comes_at_once (ops.Mkdir (codes "/d"))) each_refusal ≡ BadFile ∷ Invalid ∷ ReadOnly ∷ ops.Failed ∷ [] }
+    ensures written { filter (comes_at_once (ops.Write 0 [])) each_refusal ≡ each_refusal }
+    ensures remounted { comes_at_once ops.Remount ops.Failed ≡ false }
+    ensures moved { filter (takes_nothing (writing_at [] true [])) (ops.Seek 0 1 ∷ ops.Read 0 1 ∷ ops.Write 0 [] ∷ ops.Sync 0 ∷ ops.UsedCount ∷ [])
+        ≡ ops.Seek 0 1 ∷ ops.Write 0 [] ∷ ops.UsedCount ∷ [] }
 {}
 
 /// What is asked of the disk.

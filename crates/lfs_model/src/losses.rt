@@ -17,17 +17,22 @@ ghost use Rattle.lfs_model.specs.Stops.{ErasesCleanly};
 ghost use Rattle.lfs_model.specs.Tree.{Tree};
 ghost use Rattle.lfs_model.specs.Outages.{IsCutShortWithstood, IsStoppedSince, LosesPower, LosesPowerInTurn};
 ghost use Rattle.lfs_model.specs.examples.Images.{small_image, appended_image};
-ghost use Rattle.lfs_model.specs.examples.Runs.{fresh_moment, failed_moment, no_disk, some_reads};
+ghost use Rattle.lfs_model.specs.examples.Runs.{fresh_moment, failed_moment, opened_moment, no_disk, some_reads};
 
 /// A run ends where its session fails; what came before it was carried out.
 pub fn error_ends_a_run()
     ensures second { IsCutShort fresh_moment (ops.Stat (codes "/") ∷ ops.Mkdir (codes "/d") ∷ ops.UsedCount ∷ []) failed_moment }
     ensures withstood { IsCutShortWithstood fresh_moment (ops.Stat (codes "/") ∷ ops.Mkdir (codes "/d") ∷ ops.UsedCount ∷ []) failed_moment }
     ensures goes_on { IsCutShort fresh_moment (ops.Stat (codes "/") ∷ []) fresh_moment → ⊥ }
+{}
 
-    // A session that had failed makes no call, and a failed remount writes nothing.
+/// A session that had failed makes no call. A failed remount, a rename to itself that fails, and what fails on a disk that
+/// isn't accepted write nothing.
+pub fn failure_writes_only_what_may_be_written()
     ensures no_call { Fails failed_moment (ops.Stat (codes "/")) (record failed_moment { calls = some_reads 1 }) → ⊥ }
     ensures no_write { Fails fresh_moment ops.Remount (record failed_moment { disk = appended_image }) → ⊥ }
+    ensures itself { Fails fresh_moment (ops.Rename (codes "/a") (codes "/a")) (record failed_moment { calls = opened_moment.calls }) → ⊥ }
+    ensures unwritten { Fails (record fresh_moment { disk = no_disk }) (ops.Mkdir (codes "/d")) (record failed_moment { disk = no_disk; calls = opened_moment.calls }) → ⊥ }
 {}
 
 /// A stop leaves the tree from before or from after, and a mount and a recovery keep it.

@@ -29,7 +29,8 @@ pub fn operations_are_told_apart()
     // A dirty file is committed by a sync and by a close; nothing is done for one that isn't.
     ensures dirty { filter (lays_out (writing_at [] true [])) (ops.Sync 0 ∷ ops.Close 0 ∷ ops.Write 0 [] ∷ ops.Sync 1 ∷ []) ≡ ops.Sync 0 ∷ ops.Close 0 ∷ [] }
     ensures clean { filter (needs_no_call (writing_at [] false [])) each_operation
-        ≡ ops.Sync 0 ∷ ops.Close 0 ∷ ops.AskGstate ∷ ops.IsUsed 0 ∷ ops.UsedCount ∷ [] }
+        ≡ ops.Write 0 [] ∷ ops.Sync 0 ∷ ops.Close 0 ∷ ops.AskGstate ∷ ops.IsUsed 0 ∷ ops.UsedCount ∷ [] }
+    ensures sized { filter (needs_no_call (writing_at [] true (codes "hi"))) (ops.Truncate 0 2 ∷ ops.Truncate 0 3 ∷ ops.Truncate 1 2 ∷ ops.Write 0 (codes "!") ∷ []) ≡ ops.Truncate 0 2 ∷ [] }
     ensures unseen { filter fills each_operation ≡ ops.Write 0 [] ∷ ops.Truncate 0 1 ∷ [] }
     ensures kept { filter is_kept each_operation ≡ ops.AskGstate ∷ ops.IsUsed 0 ∷ ops.UsedCount ∷ [] }
     ensures itself { filter renames_to_itself each_operation ≡ ops.Rename (codes "/a") (codes "/a") ∷ [] }

@@ -19,6 +19,7 @@ use Rattle.lfs_pair.specs.Pair.{address_in}
 use Rattle.lfs_pair.specs.Writing.{Holds}
 use Rattle.lfs_thread.specs.Device.{two_of}
 use Rattle.lfs_thread.specs.Kept.{Header, IsHeader, Kept}
+use Rattle.lfs_thread.specs.Steps.{Writes}
 
 -- what puts a superblock with that struct into slot 0
 abbrev pub put_superblock : List ℕ → List Change
@@ -75,6 +76,11 @@ pub record ShowsEmptyRoot (t : Kept) : Type 0 where
 pub record ErasesTwo (before history : List Event) : Type 0 where
   pub erases : erases history ≡ erases before + 2
   pub no_fault : faults history ≡ faults before
+
+-- The blocks 0 and 1 were erased, no other was written, and no call failed.
+pub record WritesFirstTwo (old new : Kept) : Type 0 where
+  pub calls : ErasesTwo old.history new.history
+  pub writes : Writes (two_of anchor) old new
 
 -- The device comes back with an error: no block but these was written, and none where memory was lacking. `Io` comes with
 -- a fault of it, and no other error does.

@@ -21,15 +21,15 @@ ghost use Rattle.lfs_model.specs.Tree.{DirectoryNode, FileNode};
 ghost use Rattle.lfs_mount.specs.Device.{IsMountError};
 ghost use Rattle.lfs_tag.specs.FieldsSeen.{move_seen};
 ghost use Rattle.lfs_thread.specs.Device.{GivesBack, two_of};
-ghost use Rattle.lfs_thread.specs.Kept.{disk_on};
+ghost use Rattle.lfs_thread.specs.Kept.{disk_on, seen_on};
 ghost use Rattle.lfs_tree.specs.Allowed.{CanCreate, CanMake, CanRemove, CanRemoveAttr, CanRename, CanSetAttr};
 ghost use Rattle.lfs_tree.specs.CarryingSlots.{with_attributes_changed};
 ghost use Rattle.lfs_lookup.specs.AtHand.{AreSmall};
 ghost use Rattle.lfs_tree.specs.Reads.{HasOnHand, ReadsOnce, ReadsToCreate};
 ghost use Rattle.lfs_lookup.specs.AttributeAt.{IsAttributesSize};
 ghost use Rattle.lfs_lookup.specs.Finds.{Finds, has_names, list_item_seen};
-ghost use Rattle.lfs_tree.specs.Formatting.{ComesBack, ErasesTwo};
-ghost use Rattle.lfs_tree.specs.Seen.{IsAsked, IsBroken, IsBrokenAsking, IsCarried, IsError, IsMountError as IsMountErrorOf, IsMountedTree, IsSound, LeavesRest, SurvivesAs, around_of, tree_seen};
+ghost use Rattle.lfs_tree.specs.Formatting.{ComesBack, WritesFirstTwo};
+ghost use Rattle.lfs_tree.specs.Seen.{IsAsked, IsBroken, IsBrokenAsking, IsCarried, IsError, IsMountError as IsMountErrorOf, IsMountedTree, IsSound, LeavesRest, SurvivesAs, around_of, kept_of, tree_seen};
 
 use crate::changing::{
     create_file, give_attribute, make_directory, remove_entry, rename_entry, take_attribute,
@@ -101,7 +101,7 @@ impl<D: BlockDevice> Tree<D> {
         ensures sound { IfOk result IsSound }
         ensures fresh { IfOk result (λ t. (in_flight_count t.map ≡ 0) × IsFresh t.disk) }
         ensures geometry { IfOk result (λ t. SameGeometry (disk_on D.BlockDevice device) t.disk) }
-        ensures calls { IfOk result (λ t. ErasesTwo (D.history device) t.history) }
+        ensures calls { IfOk result (λ t. WritesFirstTwo (seen_on D.BlockDevice device [] []) (kept_of t)) }
         ensures back { IfErr result (λ e. ComesBack D.BlockDevice (two_of anchor) device e.0 e.1) }
     {
         match format(alloc, device) {

@@ -1,8 +1,10 @@
 use Rattle.lfs_model.specs.Operations as ops
 use Rattle.lfs_fs.specs.Held.{held_of}
 use Rattle.lfs_fs.proofs.Errors.{given_on}
+use Rattle.lfs_fs.proofs.Late.{get_late}
 use Rattle.lfs_fs.proofs.Checked.{lookup_failed}
-use Rattle.lfs_fs.proofs.EntryChecks.{get_checked, got, is_entry, none_from_some}
+use Rattle.lfs_fs.proofs.EntryChecks.{get_checked, got, none_from_some}
+use Rattle.lfs_fs.proofs.EntryPaths.{is_entry}
 use Rattle.lfs_fs.proofs.FewReads.{few_given}
 use Rattle.lfs_fs.proofs.KeptLookUps.{none_given}
 use Rattle.lfs_model.specs.Discipline.{parents}
@@ -18,7 +20,7 @@ returns-clause-checks g c =
 
 pub returns-in_err-found-clause-checks : goal.returns-in_err-found-clause-checks
 returns-in_err-found-clause-checks g c =
-    lookup_failed (held_of c.args.tree.now c.args.files.now) (ops.GetAttr c.args.bytes.now c.args.kind) _ c.in_err-found.field-0.0 _ c.from_residual.result c.if-has_failed.ensures c.in_err-found.ensures.broken c.in_err-found.ensures.errors
+    lookup_failed (held_of c.args.tree.now c.args.files.now) (ops.GetAttr c.args.bytes.now c.args.kind) _ c.in_err-found.field-0.0 _ c.from_residual.result c.if-has_failed.ensures c.in_err-found.ensures.broken c.in_err-found.ensures.errors (get_late (held_of c.args.tree.now c.args.files.now) c.args.bytes.now c.args.kind c.in-Some.path c.if-has_failed.ensures c.in-Some.ensures)
     (given_on _ c.from_residual.result c.from_residual.ensures.1)
 
 pub returns-clause-few : goal.returns-clause-few

@@ -1,6 +1,7 @@
 use Rattle.lfs_model.specs.Operations as ops
 use Rattle.lfs_fs.specs.Held.{held_of}
 use Rattle.lfs_fs.proofs.Errors.{given_on}
+use Rattle.lfs_fs.proofs.Late.{list_late}
 use Rattle.lfs_fs.proofs.Checked.{lookup_failed}
 use Rattle.lfs_fs.proofs.EntryChecks.{list_checked}
 use Rattle.lfs_fs.proofs.FewReads.{few_given}
@@ -18,7 +19,7 @@ returns-clause-checks g c =
 
 pub returns-in_err-listing-clause-checks : goal.returns-in_err-listing-clause-checks
 returns-in_err-listing-clause-checks g c =
-    lookup_failed (held_of c.args.tree.now c.args.files.now) (ops.ListAll c.args.bytes.now) _ c.in_err-listing.field-0.0 _ c.from_residual.result c.if-has_failed.ensures c.in_err-listing.ensures.broken c.in_err-listing.ensures.errors
+    lookup_failed (held_of c.args.tree.now c.args.files.now) (ops.ListAll c.args.bytes.now) _ c.in_err-listing.field-0.0 _ c.from_residual.result c.if-has_failed.ensures c.in_err-listing.ensures.broken c.in_err-listing.ensures.errors (list_late (held_of c.args.tree.now c.args.files.now) c.args.bytes.now c.in-Some.path c.if-has_failed.ensures c.in-Some.ensures)
     (given_on _ c.from_residual.result c.from_residual.ensures.1)
 
 pub returns-clause-few : goal.returns-clause-few

@@ -7,6 +7,7 @@ use Rattle.lfs_fs.proofs.Answered.{ready_later}
 use Rattle.lfs_fs.specs.Held.{held_of}
 use Rattle.lfs_model.specs.Operations as ops
 use Rattle.lfs_fs.proofs.Errors.{given_on}
+use Rattle.lfs_fs.proofs.Late.{mkdir_late}
 use Rattle.lfs_fs.proofs.Checked.{lookup_failed, mkdir_checked}
 use Rattle.lfs_fs.proofs.checks.check_mkdir.Goals as goal
 
@@ -20,5 +21,5 @@ returns g c =
 
 pub returns-in_err-found : goal.returns-in_err-found
 returns-in_err-found g c =
-    lookup_failed (held_of c.args.tree.now c.args.files.now) (ops.Mkdir c.args.bytes.now) _ c.in_err-found.field-0.0 _ c.from_residual.result c.if-has_failed.ensures c.in_err-found.ensures.broken c.in_err-found.ensures.errors
+    lookup_failed (held_of c.args.tree.now c.args.files.now) (ops.Mkdir c.args.bytes.now) _ c.in_err-found.field-0.0 _ c.from_residual.result c.if-has_failed.ensures c.in_err-found.ensures.broken c.in_err-found.ensures.errors (mkdir_late (held_of c.args.tree.now c.args.files.now) c.args.bytes.now c.in-Some.path c.if-has_failed.ensures c.if-not-is_writable.ensures c.in-Some.ensures)
     (given_on _ c.from_residual.result c.from_residual.ensures.1)

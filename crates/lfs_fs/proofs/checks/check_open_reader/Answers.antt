@@ -3,6 +3,7 @@ use Rattle.lfs_fs.specs.FlagsSeen.{flags_seen}
 use Rattle.lfs_fs.specs.Held.{held_of}
 use Rattle.lfs_model.specs.Operations as ops
 use Rattle.lfs_fs.proofs.Errors.{given_on}
+use Rattle.lfs_fs.proofs.Late.{reader_late}
 use Rattle.lfs_fs.proofs.Checked.{lookup_failed, open_checked}
 use Rattle.lfs_fs.proofs.checks.check_open_reader.Goals as goal
 
@@ -15,5 +16,5 @@ returns g c =
 
 pub returns-in_err-found : goal.returns-in_err-found
 returns-in_err-found g c =
-    lookup_failed (held_of c.args.tree.now c.args.files.now) (ops.Open c.args.bytes.now (flags_seen c.args.flags)) _ c.in_err-found.field-0.0 _ c.from_residual.result c.if-has_failed.ensures c.in_err-found.ensures.broken c.in_err-found.ensures.errors
+    lookup_failed (held_of c.args.tree.now c.args.files.now) (ops.Open c.args.bytes.now (flags_seen c.args.flags)) _ c.in_err-found.field-0.0 _ c.from_residual.result c.if-has_failed.ensures c.in_err-found.ensures.broken c.in_err-found.ensures.errors (reader_late (held_of c.args.tree.now c.args.files.now) c.args.bytes.now c.in-Some.path (flags_seen c.args.flags) c.if-has_failed.ensures c.in-Some.ensures c.requires c.if-not-is_allowed.ensures)
     (given_on _ c.from_residual.result c.from_residual.ensures.1)

@@ -7,6 +7,7 @@ use Rattle.lfs_fs.specs.FlagsSeen.{flags_seen}
 use Rattle.lfs_fs.specs.Held.{held_of}
 use Rattle.lfs_fs.proofs.Answered.{ready_later}
 use Rattle.lfs_fs.proofs.Errors.{given_on}
+use Rattle.lfs_fs.proofs.Late.{writer_late}
 use Rattle.lfs_fs.proofs.Checked.{lookup_failed}
 use Rattle.lfs_fs.proofs.OpenFiles.{lacks_is}
 use Rattle.lfs_fs.proofs.WriterOpens.{busy_for, writer_checked}
@@ -30,5 +31,5 @@ returns g c =
 
 pub returns-in_err-found : goal.returns-in_err-found
 returns-in_err-found g c =
-    lookup_failed (held_of c.args.tree.now c.args.files.now) (ops.Open c.args.bytes.now (flags_seen c.args.flags)) _ c.in_err-found.field-0.0 _ c.from_residual.result c.if-has_failed.ensures c.in_err-found.ensures.broken c.in_err-found.ensures.errors
+    lookup_failed (held_of c.args.tree.now c.args.files.now) (ops.Open c.args.bytes.now (flags_seen c.args.flags)) _ c.in_err-found.field-0.0 _ c.from_residual.result c.if-has_failed.ensures c.in_err-found.ensures.broken c.in_err-found.ensures.errors (writer_late (held_of c.args.tree.now c.args.files.now) c.args.bytes.now c.in-Some.path (flags_seen c.args.flags) c.if-has_failed.ensures c.if-not-is_writable.ensures c.in-Some.ensures c.requires.write c.if-not-is_allowed.ensures)
     (given_on _ c.from_residual.result c.from_residual.ensures.1)

@@ -3,6 +3,7 @@ use Rattle.lfs_fs.specs.Held.{held_of}
 use Rattle.lfs_fs.proofs.Checked.{lookup_failed}
 use Rattle.lfs_fs.proofs.EntryChecks.{some_path}
 use Rattle.lfs_fs.proofs.Errors.{given_on}
+use Rattle.lfs_fs.proofs.Late.{remove_late}
 use Rattle.lfs_fs.proofs.RemoveChecks.{remove_checked}
 use Rattle.lfs_fs.proofs.checks.check_remove.Goals as goal
 
@@ -18,5 +19,5 @@ returns g c =
 
 pub returns-in_err-inside : goal.returns-in_err-inside
 returns-in_err-inside g c =
-    lookup_failed (held_of c.args.tree.now c.args.files.now) (ops.Remove c.args.bytes.now) _ c.in_err-inside.field-0.0 _ c.from_residual.result c.if-has_failed.ensures c.in_err-inside.ensures.broken c.in_err-inside.ensures.errors
+    lookup_failed (held_of c.args.tree.now c.args.files.now) (ops.Remove c.args.bytes.now) _ c.in_err-inside.field-0.0 _ c.from_residual.result c.if-has_failed.ensures c.in_err-inside.ensures.broken c.in_err-inside.ensures.errors (remove_late (held_of c.args.tree.now c.args.files.now) c.args.bytes.now c.in-Some.path c.if-has_failed.ensures c.if-not-is_writable.ensures c.in-Some.ensures)
     (given_on _ c.from_residual.result c.from_residual.ensures.1)

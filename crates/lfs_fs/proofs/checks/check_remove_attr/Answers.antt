@@ -1,6 +1,7 @@
 use Rattle.lfs_model.specs.Operations as ops
 use Rattle.lfs_fs.specs.Held.{held_of}
 use Rattle.lfs_fs.proofs.Errors.{given_on}
+use Rattle.lfs_fs.proofs.Late.{remove_attr_late}
 use Rattle.lfs_fs.proofs.Checked.{lookup_failed}
 use Rattle.lfs_fs.proofs.EntryChecks.{remove_attr_checked, none_from_some}
 use Rattle.lfs_fs.proofs.checks.check_remove_attr.Goals as goal
@@ -13,5 +14,5 @@ returns g c =
 
 pub returns-in_err-found : goal.returns-in_err-found
 returns-in_err-found g c =
-    lookup_failed (held_of c.args.tree.now c.args.files.now) (ops.RemoveAttr c.args.bytes.now c.args.kind) _ c.in_err-found.field-0.0 _ c.from_residual.result c.if-has_failed.ensures c.in_err-found.ensures.broken c.in_err-found.ensures.errors
+    lookup_failed (held_of c.args.tree.now c.args.files.now) (ops.RemoveAttr c.args.bytes.now c.args.kind) _ c.in_err-found.field-0.0 _ c.from_residual.result c.if-has_failed.ensures c.in_err-found.ensures.broken c.in_err-found.ensures.errors (remove_attr_late (held_of c.args.tree.now c.args.files.now) c.args.bytes.now c.args.kind c.in-Some.path c.if-has_failed.ensures c.if-not-is_writable.ensures c.in-Some.ensures)
     (given_on _ c.from_residual.result c.from_residual.ensures.1)

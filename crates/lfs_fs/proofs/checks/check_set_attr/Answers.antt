@@ -9,6 +9,7 @@ use Rattle.lfs_fs.specs.Held.{held_of}
 use Rattle.lfs_fs.proofs.Answered.{ready_later}
 use Rattle.lfs_fs.proofs.Checked.{lookup_failed}
 use Rattle.lfs_fs.proofs.Errors.{given_on}
+use Rattle.lfs_fs.proofs.Late.{set_late}
 use Rattle.lfs_fs.proofs.OpenFiles.{lacks_is}
 use Rattle.lfs_fs.proofs.Questions.{asked_twice, broken_twice, error_twice}
 use Rattle.lfs_fs.proofs.SetAttrChecks.{can_replace, set_attr_checked}
@@ -32,12 +33,12 @@ returns g c =
 
 pub returns-in_err-found : goal.returns-in_err-found
 returns-in_err-found g c =
-    lookup_failed (held_of c.args.tree.now c.args.files.now) (ops.SetAttr c.args.bytes.now c.args.kind c.args.value.now) _ c.in_err-found.field-0.0 _ c.from_residual.result c.if-has_failed.ensures c.in_err-found.ensures.broken c.in_err-found.ensures.errors
+    lookup_failed (held_of c.args.tree.now c.args.files.now) (ops.SetAttr c.args.bytes.now c.args.kind c.args.value.now) _ c.in_err-found.field-0.0 _ c.from_residual.result c.if-has_failed.ensures c.in_err-found.ensures.broken c.in_err-found.ensures.errors (set_late (held_of c.args.tree.now c.args.files.now) c.args.bytes.now c.args.kind c.args.value.now c.in-Some.path c.if-has_failed.ensures c.if-not-is_writable.ensures c.in-Some.ensures)
     (given_on _ c.from_residual.result c.from_residual.ensures.1)
 
 pub returns-in_err-taken : goal.returns-in_err-taken
 returns-in_err-taken g c =
     let asked = c.in_ok-found.ensures.asked in
     lookup_failed (held_of c.args.tree.now c.args.files.now) (ops.SetAttr c.args.bytes.now c.args.kind c.args.value.now) _ c.in_err-taken.field-0.0 _ c.from_residual-in_err-taken.result c.if-has_failed.ensures
-    (broken_twice _ _ _ asked c.in_err-taken.ensures.broken) (error_twice _ _ _ _ asked c.in_err-taken.ensures.errors)
+    (broken_twice _ _ _ asked c.in_err-taken.ensures.broken) (error_twice _ _ _ _ asked c.in_err-taken.ensures.errors) (set_late (held_of c.args.tree.now c.args.files.now) c.args.bytes.now c.args.kind c.args.value.now c.in-Some.path c.if-has_failed.ensures c.if-not-is_writable.ensures c.in-Some.ensures)
     (given_on _ c.from_residual-in_err-taken.result c.from_residual-in_err-taken.ensures.1)

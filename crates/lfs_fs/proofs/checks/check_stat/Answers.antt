@@ -1,6 +1,7 @@
 use Rattle.lfs_fs.specs.Held.{held_of}
 use Rattle.lfs_model.specs.Operations as ops
 use Rattle.lfs_fs.proofs.Errors.{given_on}
+use Rattle.lfs_fs.proofs.Late.{stat_late}
 use Rattle.lfs_fs.proofs.Checked.{lookup_failed, stat_checked}
 use Rattle.lfs_fs.proofs.FewReads.{few_given}
 use Rattle.lfs_fs.proofs.KeptLookUps.{hand_failed, hand_given, none_given}
@@ -16,7 +17,7 @@ returns-clause-checks g c =
 
 pub returns-in_err-found-clause-checks : goal.returns-in_err-found-clause-checks
 returns-in_err-found-clause-checks g c =
-    lookup_failed (held_of c.args.tree.now c.args.files.now) (ops.Stat c.args.bytes.now) _ c.in_err-found.field-0.0 _ c.from_residual.result c.if-has_failed.ensures c.in_err-found.ensures.broken c.in_err-found.ensures.errors
+    lookup_failed (held_of c.args.tree.now c.args.files.now) (ops.Stat c.args.bytes.now) _ c.in_err-found.field-0.0 _ c.from_residual.result c.if-has_failed.ensures c.in_err-found.ensures.broken c.in_err-found.ensures.errors (stat_late (held_of c.args.tree.now c.args.files.now) c.args.bytes.now c.in-Some.path c.if-has_failed.ensures c.in-Some.ensures)
     (given_on _ c.from_residual.result c.from_residual.ensures.1)
 
 pub returns-clause-few : goal.returns-clause-few

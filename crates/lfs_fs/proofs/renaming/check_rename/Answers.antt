@@ -7,6 +7,7 @@ use Rattle.lfs_fs.specs.Held.{held_of}
 use Rattle.lfs_fs.proofs.Answered.{ready_later}
 use Rattle.lfs_fs.proofs.Checked.{lookup_failed}
 use Rattle.lfs_fs.proofs.Errors.{given_on}
+use Rattle.lfs_fs.proofs.Late.{rename_late}
 use Rattle.lfs_fs.proofs.OpenFiles.{lacks_is}
 use Rattle.lfs_fs.proofs.Questions.{asked_twice, broken_twice, error_twice}
 use Rattle.lfs_fs.proofs.RenameChecks.{rename_checked, renaming_is, three_of}
@@ -32,18 +33,18 @@ returns g c =
 
 pub returns-in_err-entry : goal.returns-in_err-entry
 returns-in_err-entry g c =
-    lookup_failed (held_of c.args.tree.now c.args.files.now) (ops.Rename c.args.old.now c.args.new.now) _ c.in_err-entry.field-0.0 _ c.from_residual.result c.if-has_failed.ensures c.in_err-entry.ensures.broken c.in_err-entry.ensures.errors
+    lookup_failed (held_of c.args.tree.now c.args.files.now) (ops.Rename c.args.old.now c.args.new.now) _ c.in_err-entry.field-0.0 _ c.from_residual.result c.if-has_failed.ensures c.in_err-entry.ensures.broken c.in_err-entry.ensures.errors (rename_late (held_of c.args.tree.now c.args.files.now) c.args.old.now c.args.new.now c.in-Some.from c.in-Some-parse_entry.to c.if-has_failed.ensures c.if-not-is_writable.ensures c.in-Some.ensures c.in-Some-parse_entry.ensures (sym c.if-is_beneath.ensures))
     (given_on _ c.from_residual.result c.from_residual.ensures.1)
 
 pub returns-in_err-inside : goal.returns-in_err-inside
 returns-in_err-inside g c =
     lookup_failed (held_of c.args.tree.now c.args.files.now) (ops.Rename c.args.old.now c.args.new.now) _ c.in_err-inside.field-0.0 _ c.from_residual-in_err-inside.result c.if-has_failed.ensures
-    (broken_twice _ _ _ c.in_ok-entry.ensures.asked c.in_err-inside.ensures.broken) (error_twice _ _ _ _ c.in_ok-entry.ensures.asked c.in_err-inside.ensures.errors)
+    (broken_twice _ _ _ c.in_ok-entry.ensures.asked c.in_err-inside.ensures.broken) (error_twice _ _ _ _ c.in_ok-entry.ensures.asked c.in_err-inside.ensures.errors) (rename_late (held_of c.args.tree.now c.args.files.now) c.args.old.now c.args.new.now c.in-Some.from c.in-Some-parse_entry.to c.if-has_failed.ensures c.if-not-is_writable.ensures c.in-Some.ensures c.in-Some-parse_entry.ensures (sym c.if-is_beneath.ensures))
     (given_on _ c.from_residual-in_err-inside.result c.from_residual-in_err-inside.ensures.1)
 
 pub returns-in_err-taken : goal.returns-in_err-taken
 returns-in_err-taken g c =
     let asked = asked_twice _ _ _ c.in_ok-entry.ensures.asked c.in_ok-inside.ensures.asked in
     lookup_failed (held_of c.args.tree.now c.args.files.now) (ops.Rename c.args.old.now c.args.new.now) _ c.in_err-taken.field-0.0 _ c.from_residual-in_err-taken.result c.if-has_failed.ensures
-    (broken_twice _ _ _ asked c.in_err-taken.ensures.broken) (error_twice _ _ _ _ asked c.in_err-taken.ensures.errors)
+    (broken_twice _ _ _ asked c.in_err-taken.ensures.broken) (error_twice _ _ _ _ asked c.in_err-taken.ensures.errors) (rename_late (held_of c.args.tree.now c.args.files.now) c.args.old.now c.args.new.now c.in-Some.from c.in-Some-parse_entry.to c.if-has_failed.ensures c.if-not-is_writable.ensures c.in-Some.ensures c.in-Some-parse_entry.ensures (sym c.if-is_beneath.ensures))
     (given_on _ c.from_residual-in_err-taken.result c.from_residual-in_err-taken.ensures.1)

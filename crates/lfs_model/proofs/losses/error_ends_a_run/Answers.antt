@@ -1,11 +1,11 @@
-use Rattle.std.proofs.Common.{[], ◌∷◌, None, refl, sym, ◌∙◌, append-nil}
+use Rattle.std.proofs.Common.{[], ◌∷◌, None, refl}
 use Rattle.std.specs.Prelude.{codes}
 use Rattle.lfs_model.specs.Operations as ops
 use Rattle.lfs_model.specs.examples.Runs.{fresh_moment, failed_moment}
 use Rattle.lfs_model.specs.Failure.{IsCutShort}
 use Rattle.lfs_model.specs.State.{HasFailed, Healthy, mounted}
 use Rattle.lfs_model.specs.Fresh.{empty_tree}
-use Rattle.lfs_model.proofs.FreshSession.{differ, withstood}
+use Rattle.lfs_model.proofs.FreshSession.{withstood}
 use Rattle.lfs_model.proofs.AskedTurn.{turn}
 use Rattle.lfs_model.proofs.losses.error_ends_a_run.Goals as goal
 
@@ -24,6 +24,8 @@ cut = record {
     calls = [];
     called = refl;
     asks = λ s e f. absurd (cc);
+    itself = λ e. absurd (cc);
+    unwritten = λ none. (refl, (refl, refl));
     remounted = λ e. absurd (cc);
     silent = λ e. absurd (cc);
   };
@@ -42,9 +44,3 @@ returns-clause-withstood c = record {
 
 pub returns-clause-goes_on : goal.returns-clause-goes_on
 returns-clause-goes_on c = λ h. absurd (let e = h.fails.failed in cc)
-
-pub returns-clause-no_call : goal.returns-clause-no_call
-returns-clause-no_call c = λ h. absurd (let e = h.called ∙ append-nil h.calls ∙ (h.silent refl refl).1 in cc)
-
-pub returns-clause-no_write : goal.returns-clause-no_write
-returns-clause-no_write c = λ h. differ (sym (h.remounted refl).0)

@@ -33,8 +33,10 @@ save-requires g c =
 
 pub returns-in_err-save-clause-answers : goal.returns-in_err-save-clause-answers
 returns-in_err-save-clause-answers g c =
+    let works = not_failed (held_of c.self.inside.tree c.self.inside.files) (ops.Close c.args.fd) c.in_ok-check_open.ensures.0 in
+    let can = can_save c.self.inside.tree c.self.inside.files c.args.fd c.in-Some-Writing.writer works (c.self.invariant works) (sym c.if-not-is_unsaved_at.ensures) (taken _ _ _ _ c.in-Some-Writing.is c.in-Some-Writing.field-0-is c.take.ensures.file) in
     saving_fails c.self.inside.tree c.save.new.tree c.self.inside.files (files_seen c.save.new.tree c.take.new.self) _ (ops.Close c.args.fd) (λ u. ops.Done) _ c.from_residual-in_err-save.result c.self.view_is c.in_ok-check_open.ensures.0 refl
-    (close_asks c.self.inside.tree c.self.inside.files c.args.fd c.in-Some-Writing.writer (taken _ _ _ _ c.in-Some-Writing.is c.in-Some-Writing.field-0-is c.take.ensures.file)) c.in_err-save.ensures.broken c.in_err-save.ensures.errors
+    (close_asks c.self.inside.tree c.self.inside.files c.args.fd c.in-Some-Writing.writer (taken _ _ _ _ c.in-Some-Writing.is c.in-Some-Writing.field-0-is c.take.ensures.file)) refl (c.self.invariant works).sound can.written.writable c.in_err-save.ensures.broken c.in_err-save.ensures.errors
     (given_on _ c.from_residual-in_err-save.result c.from_residual-in_err-save.ensures.1)
 
 pub invariant_of-self-2 : goal.invariant_of-self-2
@@ -85,7 +87,7 @@ returns-then-not-is_unsaved_at-clause-ends g c = answer_ends (held_of c.self.ins
 pub returns-in_err-save-clause-ends : goal.returns-in_err-save-clause-ends
 returns-in_err-save-clause-ends g c =
     let is = taken _ _ _ _ c.in-Some-Writing.is c.in-Some-Writing.field-0-is c.take.ensures.file in
-    broken_ends (held_of c.self.inside.tree c.self.inside.files) _ (ops.Close c.args.fd) (λ u. ops.Done) _ c.from_residual-in_err-save.result _ c.self.view_is (not_failed (held_of c.self.inside.tree c.self.inside.files) (ops.Close c.args.fd) c.in_ok-check_open.ensures.0)
+    broken_ends (held_of c.self.inside.tree c.self.inside.files) _ (ops.Close c.args.fd) (λ u. ops.Done) _ c.from_residual-in_err-save.result _ c.self.view_is c.in_ok-check_open.ensures.0
     (dirty_at c.self.inside.tree c.self.inside.files c.args.fd c.in-Some-Writing.writer is (unsaved_writer (entry_of c.self.inside.files c.args.fd) c.in-Some-Writing.writer (sym c.if-not-is_unsaved_at.ensures) is)) c.in_err-save.ensures.errors.errors
     (given_on _ c.from_residual-in_err-save.result c.from_residual-in_err-save.ensures.1)
 

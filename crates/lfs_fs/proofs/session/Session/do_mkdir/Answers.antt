@@ -4,7 +4,7 @@ use Rattle.lfs_fs.specs.FileSeen.{files_seen}
 use Rattle.lfs_fs.specs.Replies.{reply_in}
 use Rattle.lfs_fs.specs.Held.{held_of}
 use Rattle.lfs_fs.proofs.Answered.{asked_by_checks, checked_ready, done_answers, ended_call, files_asked, sound_by, with_files}
-use Rattle.lfs_fs.proofs.Checked.{mkdir_can}
+use Rattle.lfs_fs.proofs.Checked.{mkdir_can, passed_writable}
 use Rattle.lfs_fs.proofs.Errors.{given_on}
 use Rattle.lfs_fs.proofs.Staying.{mkdir_left}
 use Rattle.lfs_model.specs.TreeEdits.{added}
@@ -27,7 +27,8 @@ returns-clause-answers g c =
     let h = c.in_ok-path.ensures in
     with_files c.args.self.now (ops.Mkdir c.args.path.now) (reply_in (λ u. ops.Done) c.mkdir.result) c.mkdir.new.self (files_seen c.self.inside.tree c.self.inside.files) (files_seen c.mkdir.new.self c.self.inside.files)
     (λ works. (mkdir_left _ c.self.inside.tree c.check_mkdir.new.tree c.mkdir.new.self c.self.inside.files c.args.path.now _ c.mkdir.result c.open_files_stay.ensures.stay c.self.invariant h.0 h.1 h.2 (mkdir_can (held_of c.self.inside.tree c.self.inside.files) c.args.path.now _ _ (λ works. c.open_files_stay.ensures.few c.self.inside.tree c.self.inside.files (c.self.invariant works)) h) c.mkdir.ensures.done (λ f. f c.args.path.now (sym h.2)) c.mkdir.ensures.broken works).same)
-    (done_answers _ (held_of c.self.inside.tree c.self.inside.files) _ (ops.Mkdir c.args.path.now) c.check_mkdir.new.tree c.mkdir.new.self c.mkdir.result c.self.view_is (sound_by c.self.inside.tree c.self.inside.files c.self.invariant) h.0 h.1 refl refl refl refl refl refl refl
+    (done_answers _ (held_of c.self.inside.tree c.self.inside.files) _ (ops.Mkdir c.args.path.now) c.check_mkdir.new.tree c.mkdir.new.self c.mkdir.result c.self.view_is (sound_by c.self.inside.tree c.self.inside.files c.self.invariant) h.0 h.1 refl refl refl refl refl refl refl refl
+    (passed_writable (held_of c.self.inside.tree c.self.inside.files) (ops.Mkdir c.args.path.now) _ refl h.1)
     c.mkdir.ensures.done (λ f. f c.args.path.now (sym h.2)) c.mkdir.ensures.broken c.mkdir.ensures.errors)
 
 pub returns-in_err-path-clause-answers : goal.returns-in_err-path-clause-answers
@@ -66,7 +67,7 @@ returns-clause-alone g c =
 -- how it ends
 pub returns-in_err-path-clause-ends : goal.returns-in_err-path-clause-ends
 returns-in_err-path-clause-ends g c =
-    ended_ends (held_of c.self.inside.tree c.self.inside.files) _ (ops.Mkdir c.args.path.now) (λ u. ops.Done) _ c.check_mkdir.new.tree _ c.from_residual.result c.self.view_is refl c.in_err-path.ensures (given_on _ c.from_residual.result c.from_residual.ensures.1)
+    ended_ends c.self.inside.tree c.self.inside.files _ (ops.Mkdir c.args.path.now) (λ u. ops.Done) _ c.check_mkdir.new.tree c.from_residual.result c.self.view_is refl c.in_err-path.ensures (given_on _ c.from_residual.result c.from_residual.ensures.1)
 
 pub returns-clause-ends : goal.returns-clause-ends
 returns-clause-ends g c =

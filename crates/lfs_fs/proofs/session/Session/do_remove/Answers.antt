@@ -11,6 +11,7 @@ use Rattle.lfs_model.specs.TreeEdits.{removed}
 use Rattle.lfs_tree.specs.Seen.{tree_seen}
 use Rattle.lfs_fs.proofs.Stopping.{asked_changed, called_by, only_read, reads_of_ended}
 use Rattle.lfs_fs.proofs.Sparing.{done_others}
+use Rattle.lfs_fs.proofs.Checked.{passed_writable}
 use Rattle.lfs_fs.proofs.Ending.{carried_ends, ended_ends}
 use Rattle.lfs_fs.proofs.session.Session.do_remove.Goals as goal
 
@@ -22,7 +23,8 @@ returns-clause-answers g c =
     let h = c.in_ok-path.ensures in
     with_files c.args.self.now (ops.Remove c.args.path.now) (reply_in (λ u. ops.Done) c.remove.result) c.remove.new.self (files_seen c.self.inside.tree c.self.inside.files) (files_seen c.remove.new.self c.self.inside.files)
     (λ works. (removed_left _ c.self.inside.tree c.check_remove.new.tree c.remove.new.self c.self.inside.files c.args.path.now c.remove.result c.open_files_stay.ensures.stay c.self.invariant h.0 h.1 c.remove.ensures.done (λ f. f c.args.path.now (sym h.2)) c.remove.ensures.broken works).same)
-    (done_answers _ (held_of c.self.inside.tree c.self.inside.files) _ (ops.Remove c.args.path.now) c.check_remove.new.tree c.remove.new.self c.remove.result c.self.view_is (sound_by c.self.inside.tree c.self.inside.files c.self.invariant) h.0 h.1 refl refl refl refl refl refl refl
+    (done_answers _ (held_of c.self.inside.tree c.self.inside.files) _ (ops.Remove c.args.path.now) c.check_remove.new.tree c.remove.new.self c.remove.result c.self.view_is (sound_by c.self.inside.tree c.self.inside.files c.self.invariant) h.0 h.1 refl refl refl refl refl refl refl refl
+    (passed_writable (held_of c.self.inside.tree c.self.inside.files) (ops.Remove c.args.path.now) _ refl h.1)
     c.remove.ensures.done (λ f. f c.args.path.now (sym h.2)) c.remove.ensures.broken c.remove.ensures.errors)
 
 pub returns-in_err-path-clause-answers : goal.returns-in_err-path-clause-answers
@@ -61,7 +63,7 @@ returns-clause-alone g c =
 -- how it ends
 pub returns-in_err-path-clause-ends : goal.returns-in_err-path-clause-ends
 returns-in_err-path-clause-ends g c =
-    ended_ends (held_of c.self.inside.tree c.self.inside.files) _ (ops.Remove c.args.path.now) (λ u. ops.Done) _ c.check_remove.new.tree _ c.from_residual.result c.self.view_is refl c.in_err-path.ensures (given_on _ c.from_residual.result c.from_residual.ensures.1)
+    ended_ends c.self.inside.tree c.self.inside.files _ (ops.Remove c.args.path.now) (λ u. ops.Done) _ c.check_remove.new.tree c.from_residual.result c.self.view_is refl c.in_err-path.ensures (given_on _ c.from_residual.result c.from_residual.ensures.1)
 
 pub returns-clause-ends : goal.returns-clause-ends
 returns-clause-ends g c =

@@ -12,6 +12,7 @@ use Rattle.lfs_model.specs.Refusals.{as_path}
 use Rattle.lfs_tree.specs.Seen.{Seen, tree_seen}
 use Rattle.lfs_fs.proofs.Stopping.{asked_changed, called_by, only_read, reads_of_ended}
 use Rattle.lfs_fs.proofs.Sparing.{done_others, untouched_others}
+use Rattle.lfs_fs.proofs.Checked.{passed_writable}
 use Rattle.lfs_fs.proofs.Ending.{answer_ends, carried_ends, ended_ends}
 use Rattle.lfs_fs.proofs.session.Session.do_rename.Goals as goal
 
@@ -30,7 +31,8 @@ returns-clause-answers g c =
     let h = c.in_ok-renaming.ensures in
     with_files c.args.self.now (ops.Rename c.args.from.now c.args.to.now) (reply_in (λ u. ops.Done) c.rename.result) c.rename.new.self (files_seen c.self.inside.tree c.self.inside.files) (files_seen c.rename.new.self c.self.inside.files)
     (λ works. (renamed_left _ c.self.inside.tree c.check_rename.new.tree c.rename.new.self c.self.inside.files c.args.from.now c.args.to.now c.rename.result c.open_files_stay.ensures.stay c.self.invariant h.0 h.1 (sym h.2.same ∙ c.if-renaming.false) c.rename.ensures.done (λ f. f c.args.from.now c.args.to.now (sym h.2.from) (sym h.2.to)) c.rename.ensures.broken works).same)
-    (done_answers _ (held_of c.self.inside.tree c.self.inside.files) _ (ops.Rename c.args.from.now c.args.to.now) c.check_rename.new.tree c.rename.new.self c.rename.result c.self.view_is (sound_by c.self.inside.tree c.self.inside.files c.self.invariant) h.0 h.1 refl refl refl refl refl refl refl
+    (done_answers _ (held_of c.self.inside.tree c.self.inside.files) _ (ops.Rename c.args.from.now c.args.to.now) c.check_rename.new.tree c.rename.new.self c.rename.result c.self.view_is (sound_by c.self.inside.tree c.self.inside.files c.self.invariant) h.0 h.1 refl refl refl refl refl refl refl (sym h.2.same ∙ c.if-renaming.false)
+    (passed_writable (held_of c.self.inside.tree c.self.inside.files) (ops.Rename c.args.from.now c.args.to.now) _ refl h.1)
     c.rename.ensures.done (λ f. f c.args.from.now c.args.to.now (sym h.2.from) (sym h.2.to)) c.rename.ensures.broken c.rename.ensures.errors)
 
 pub returns-in_err-renaming-clause-answers : goal.returns-in_err-renaming-clause-answers
@@ -86,7 +88,7 @@ returns-then-renaming-clause-alone g c =
 -- how it ends
 pub returns-in_err-renaming-clause-ends : goal.returns-in_err-renaming-clause-ends
 returns-in_err-renaming-clause-ends g c =
-    ended_ends (held_of c.self.inside.tree c.self.inside.files) _ (ops.Rename c.args.from.now c.args.to.now) (λ u. ops.Done) _ c.check_rename.new.tree _ c.from_residual.result c.self.view_is refl c.in_err-renaming.ensures (given_on _ c.from_residual.result c.from_residual.ensures.1)
+    ended_ends c.self.inside.tree c.self.inside.files _ (ops.Rename c.args.from.now c.args.to.now) (λ u. ops.Done) _ c.check_rename.new.tree c.from_residual.result c.self.view_is refl c.in_err-renaming.ensures (given_on _ c.from_residual.result c.from_residual.ensures.1)
 
 pub returns-clause-ends : goal.returns-clause-ends
 returns-clause-ends g c =

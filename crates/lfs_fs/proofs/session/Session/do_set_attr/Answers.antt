@@ -12,6 +12,7 @@ use Rattle.lfs_tree.specs.Seen.{tree_seen}
 use Rattle.lfs_tree.specs.CarryingSlots.{with_attributes_changed}
 use Rattle.lfs_fs.proofs.Stopping.{asked_changed, called_by, only_read, reads_of_ended}
 use Rattle.lfs_fs.proofs.Sparing.{done_others}
+use Rattle.lfs_fs.proofs.Checked.{passed_writable}
 use Rattle.lfs_fs.proofs.Ending.{carried_ends, ended_ends}
 use Rattle.lfs_fs.proofs.session.Session.do_set_attr.Goals as goal
 
@@ -26,7 +27,8 @@ returns-clause-answers g c =
     let h = c.in_ok-path.ensures in
     with_files c.args.self.now (ops.SetAttr c.args.path.now c.args.kind c.args.value.now) (reply_in (λ u. ops.Done) c.set_attr.result) c.set_attr.new.self (files_seen c.self.inside.tree c.self.inside.files) (files_seen c.set_attr.new.self c.self.inside.files)
     (λ works. (set_attr_left _ c.self.inside.tree c.check_set_attr.new.tree c.set_attr.new.self c.self.inside.files c.args.path.now c.args.kind c.args.value.now c.set_attr.result c.open_files_stay.ensures.stay c.self.invariant h.0 h.1 c.set_attr.ensures.done (λ f. f c.args.path.now (sym h.2)) c.set_attr.ensures.broken works).same)
-    (done_answers _ (held_of c.self.inside.tree c.self.inside.files) _ (ops.SetAttr c.args.path.now c.args.kind c.args.value.now) c.check_set_attr.new.tree c.set_attr.new.self c.set_attr.result c.self.view_is (sound_by c.self.inside.tree c.self.inside.files c.self.invariant) h.0 h.1 refl refl refl refl refl refl refl
+    (done_answers _ (held_of c.self.inside.tree c.self.inside.files) _ (ops.SetAttr c.args.path.now c.args.kind c.args.value.now) c.check_set_attr.new.tree c.set_attr.new.self c.set_attr.result c.self.view_is (sound_by c.self.inside.tree c.self.inside.files c.self.invariant) h.0 h.1 refl refl refl refl refl refl refl refl
+    (passed_writable (held_of c.self.inside.tree c.self.inside.files) (ops.SetAttr c.args.path.now c.args.kind c.args.value.now) _ refl h.1)
     c.set_attr.ensures.done (λ f. f c.args.path.now (sym h.2)) c.set_attr.ensures.broken c.set_attr.ensures.errors)
 
 pub returns-in_err-path-clause-answers : goal.returns-in_err-path-clause-answers
@@ -65,7 +67,7 @@ returns-clause-alone g c =
 -- how it ends
 pub returns-in_err-path-clause-ends : goal.returns-in_err-path-clause-ends
 returns-in_err-path-clause-ends g c =
-    ended_ends (held_of c.self.inside.tree c.self.inside.files) _ (ops.SetAttr c.args.path.now c.args.kind c.args.value.now) (λ u. ops.Done) _ c.check_set_attr.new.tree _ c.from_residual.result c.self.view_is refl c.in_err-path.ensures (given_on _ c.from_residual.result c.from_residual.ensures.1)
+    ended_ends c.self.inside.tree c.self.inside.files _ (ops.SetAttr c.args.path.now c.args.kind c.args.value.now) (λ u. ops.Done) _ c.check_set_attr.new.tree c.from_residual.result c.self.view_is refl c.in_err-path.ensures (given_on _ c.from_residual.result c.from_residual.ensures.1)
 
 pub returns-clause-ends : goal.returns-clause-ends
 returns-clause-ends g c =

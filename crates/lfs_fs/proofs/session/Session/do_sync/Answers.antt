@@ -49,8 +49,10 @@ returns-clause-answers g c =
 
 pub returns-in_err-writer-clause-answers : goal.returns-in_err-writer-clause-answers
 returns-in_err-writer-clause-answers g c =
+    let works = not_failed (held_of c.self.inside.tree c.self.inside.files) (ops.Sync c.args.fd) c.in_ok-check_sync.ensures.0 in
+    let can = can_save c.self.inside.tree c.self.inside.files c.args.fd c.in-Some-Writing.writer works (c.self.invariant works) (sym c.if-not-is_unsaved_at.ensures) (taken _ _ _ _ c.in-Some-Writing.is c.in-Some-Writing.field-0-is c.take.ensures.file) in
     saving_fails c.self.inside.tree c.save.new.tree c.self.inside.files (files_seen c.save.new.tree c.take.new.self) _ (ops.Sync c.args.fd) (λ u. ops.Done) _ c.from_residual-in_err-writer.result c.self.view_is c.in_ok-check_sync.ensures.0 refl
-    refl c.in_err-writer.ensures.broken c.in_err-writer.ensures.errors
+    refl refl (c.self.invariant works).sound can.written.writable c.in_err-writer.ensures.broken c.in_err-writer.ensures.errors
     (given_on _ c.from_residual-in_err-writer.result c.from_residual-in_err-writer.ensures.1)
 
 -- where power is lost
@@ -91,7 +93,7 @@ returns-then-not-is_unsaved_at-clause-ends g c = kept_ends (held_of c.self.insid
 pub returns-in_err-writer-clause-ends : goal.returns-in_err-writer-clause-ends
 returns-in_err-writer-clause-ends g c =
     let is = taken _ _ _ _ c.in-Some-Writing.is c.in-Some-Writing.field-0-is c.take.ensures.file in
-    broken_ends (held_of c.self.inside.tree c.self.inside.files) _ (ops.Sync c.args.fd) (λ u. ops.Done) _ c.from_residual-in_err-writer.result _ c.self.view_is (not_failed (held_of c.self.inside.tree c.self.inside.files) (ops.Sync c.args.fd) c.in_ok-check_sync.ensures.0)
+    broken_ends (held_of c.self.inside.tree c.self.inside.files) _ (ops.Sync c.args.fd) (λ u. ops.Done) _ c.from_residual-in_err-writer.result _ c.self.view_is c.in_ok-check_sync.ensures.0
     (dirty_at c.self.inside.tree c.self.inside.files c.args.fd c.in-Some-Writing.writer is (unsaved_writer (entry_of c.self.inside.files c.args.fd) c.in-Some-Writing.writer (sym c.if-not-is_unsaved_at.ensures) is)) c.in_err-writer.ensures.errors.errors
     (given_on _ c.from_residual-in_err-writer.result c.from_residual-in_err-writer.ensures.1)
 

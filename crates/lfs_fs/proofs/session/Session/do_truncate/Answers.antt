@@ -1,11 +1,12 @@
 use Rattle.std.proofs.Common.{◌<◌, ◌∙◌, Some, length, ap, is_some, refl, sym, subst}
 use Rattle.lfs_model.specs.Operations as ops
 use Rattle.lfs_model.specs.Run.{IsTurn}
-use Rattle.lfs_fs.specs.FileSeen.{entry_of, writer_in, writers_in}
+use Rattle.lfs_fs.specs.FileSeen.{entry_of, files_seen, writer_in, writers_in}
 use Rattle.lfs_fs.specs.Held.{IsReady, held_of, moment_of}
 use Rattle.lfs_fs.proofs.Answered.{ended_kept, sound_by, not_failed}
 use Rattle.lfs_fs.proofs.Errors.{given_on}
-use Rattle.lfs_fs.proofs.Truncating.{alone, can_now, length_left, let_go, other_size, put_again, ready_with, same_size, some_writer, works_now}
+use Rattle.lfs_fs.proofs.SavedTurns.{saving_fails}
+use Rattle.lfs_fs.proofs.Truncating.{alone, can_now, length_left, let_go, other_needed, other_size, put_again, ready_with, same_size, some_writer, works_now}
 use Rattle.lfs_fs.proofs.Stopping.{kept_call, tree_changed}
 use Rattle.lfs_fs.proofs.Sparing.{beside_others, untouched_others}
 use Rattle.lfs_fs.proofs.Ending.{answer_ends, broken_ends, kept_ends, unread_ends}
@@ -64,7 +65,18 @@ returns-clause-answers g c =
     let t = c.self.inside.tree in
     let fs = c.self.inside.files in
     subst (λ xs. IsTurn (moment_of c.args.self.now) (ops.Truncate c.args.fd c.args.size) ops.Done (moment_of (held_of c.truncate_by.new.tree xs))) (sym (put_again fs c.take.new.self c.put_back.new.self c.args.fd c.in_ok-writer.writer c.take.ensures.left c.put_back.ensures))
-    (other_size t c.truncate_by.new.tree fs c.args.fd c.args.size _ c.in-Some-Writing.writer c.in_ok-writer.writer c.self.view_is c.self.invariant h.0 e c.in_ok-writer.ensures.written c.in_ok-writer.ensures.beside)
+    (other_size t c.truncate_by.new.tree fs c.args.fd c.args.size _ c.in-Some-Writing.writer c.in_ok-writer.writer c.self.view_is c.self.invariant h.0 e (sym (c.has_size.ensures c.in-Some-Writing.writer (ap writer_in e)) ∙ c.if-has_size.false) c.in_ok-writer.ensures.written c.in_ok-writer.ensures.beside)
+
+pub returns-in_err-writer-clause-answers : goal.returns-in_err-writer-clause-answers
+returns-in_err-writer-clause-answers g c =
+    let e = sym c.take.ensures.file ∙ c.in-Some-Writing.is ∙ ap Some c.in-Some-Writing.field-0-is in
+    let h = c.in_ok-check_truncate.ensures in
+    let t = c.self.inside.tree in
+    let fs = c.self.inside.files in
+    let can = can_now t fs c.args.fd c.args.size c.in-Some-Writing.writer e h.0 (c.self.invariant (works_now t fs c.args.fd c.args.size c.in-Some-Writing.writer e h.0)) (sym (c.has_size.ensures c.in-Some-Writing.writer (ap writer_in e)) ∙ c.if-has_size.false) in
+    saving_fails t c.truncate_by.new.tree fs (files_seen c.truncate_by.new.tree c.take.new.self) _ (ops.Truncate c.args.fd c.args.size) (λ u. ops.Done) _ c.from_residual-in_err-writer.result c.self.view_is h.0
+    refl refl refl (c.self.invariant can.can.works).sound can.can.written.writable c.in_err-writer.ensures.broken c.in_err-writer.ensures.errors
+    (given_on _ c.from_residual-in_err-writer.result c.from_residual-in_err-writer.ensures.1)
 
 -- where power is lost
 pub returns-in_err-check_truncate-clause-survives : goal.returns-in_err-check_truncate-clause-survives
@@ -101,7 +113,13 @@ returns-then-has_size-clause-ends g c = kept_ends (held_of c.self.inside.tree c.
 
 pub returns-in_err-writer-clause-ends : goal.returns-in_err-writer-clause-ends
 returns-in_err-writer-clause-ends g c =
-    broken_ends (held_of c.self.inside.tree c.self.inside.files) _ (ops.Truncate c.args.fd c.args.size) (λ u. ops.Done) _ c.from_residual-in_err-writer.result _ c.self.view_is (not_failed (held_of c.self.inside.tree c.self.inside.files) (ops.Truncate c.args.fd c.args.size) c.in_ok-check_truncate.ensures.0) refl c.in_err-writer.ensures.errors.errors
+    let e = sym c.take.ensures.file ∙ c.in-Some-Writing.is ∙ ap Some c.in-Some-Writing.field-0-is in
+    let h = c.in_ok-check_truncate.ensures in
+    let t = c.self.inside.tree in
+    let fs = c.self.inside.files in
+    let can = can_now t fs c.args.fd c.args.size c.in-Some-Writing.writer e h.0 (c.self.invariant (works_now t fs c.args.fd c.args.size c.in-Some-Writing.writer e h.0)) (sym (c.has_size.ensures c.in-Some-Writing.writer (ap writer_in e)) ∙ c.if-has_size.false) in
+    broken_ends (held_of c.self.inside.tree c.self.inside.files) _ (ops.Truncate c.args.fd c.args.size) (λ u. ops.Done) _ c.from_residual-in_err-writer.result _ c.self.view_is h.0
+    (other_needed t fs c.args.fd c.args.size c.in-Some-Writing.writer e can.can.written (sym (c.has_size.ensures c.in-Some-Writing.writer (ap writer_in e)) ∙ c.if-has_size.false)) c.in_err-writer.ensures.errors.errors
     (given_on _ c.from_residual-in_err-writer.result c.from_residual-in_err-writer.ensures.1)
 
 pub returns-clause-ends : goal.returns-clause-ends

@@ -1,12 +1,13 @@
 use Rattle.std.proofs.Common.{rules, ◌<◌, ◌∙◌, Some, length, ap, is_some, refl, sym, subst}
 use Rattle.lfs_model.specs.Operations as ops
 use Rattle.lfs_model.specs.Run.{IsTurn}
-use Rattle.lfs_fs.specs.FileSeen.{entry_of, writers_in}
+use Rattle.lfs_fs.specs.FileSeen.{entry_of, files_seen, writers_in}
 use Rattle.lfs_fs.specs.Held.{IsReady, held_of, moment_of}
 use Rattle.lfs_fs.proofs.Answered.{ended_kept, sound_by, not_failed}
 use Rattle.lfs_fs.proofs.Errors.{given_on}
 use Rattle.lfs_fs.proofs.Truncating.{length_left, let_go, put_again, ready_with, some_writer}
-use Rattle.lfs_fs.proofs.WrittenTurns.{alone, can_now, few_bytes, nothing_put, some_put}
+use Rattle.lfs_fs.proofs.SavedTurns.{saving_fails}
+use Rattle.lfs_fs.proofs.WrittenTurns.{alone, can_now, few_bytes, nothing_put, some_put, some_taken}
 use Rattle.lfs_fs.proofs.Stopping.{kept_call, tree_changed}
 use Rattle.lfs_fs.proofs.Sparing.{beside_others, untouched_others}
 use Rattle.lfs_fs.proofs.Ending.{answer_ends, broken_ends, kept_ends, unread_ends}
@@ -60,7 +61,15 @@ returns-clause-answers g c =
     let e = sym c.take.ensures.file ∙ c.in-Some-Writing.is ∙ ap Some c.in-Some-Writing.field-0-is in
     subst (λ xs. IsTurn (moment_of c.args.self.now) (ops.Write c.args.fd c.args.bytes.now) (ops.Count (length c.args.bytes.now)) (moment_of (held_of c.write_by.new.tree xs)))
     (sym (put_again c.self.inside.files c.take.new.self c.put_back.new.self c.args.fd c.in_ok-writer.writer c.take.ensures.left c.put_back.ensures))
-    (some_put c.self.inside.tree c.write_by.new.tree c.self.inside.files c.args.fd c.args.bytes.now _ c.in-Some-Writing.writer c.in_ok-writer.writer c.self.view_is c.self.invariant c.in_ok-check_write.ensures.0 e c.in_ok-writer.ensures.written c.in_ok-writer.ensures.beside)
+    (some_put c.self.inside.tree c.write_by.new.tree c.self.inside.files c.args.fd c.args.bytes.now _ c.in-Some-Writing.writer c.in_ok-writer.writer c.self.view_is c.self.invariant c.in_ok-check_write.ensures.0 e (sym c.is_empty.ensures ∙ c.if-is_empty.false) c.in_ok-writer.ensures.written c.in_ok-writer.ensures.beside)
+
+pub returns-in_err-writer-clause-answers : goal.returns-in_err-writer-clause-answers
+returns-in_err-writer-clause-answers g c =
+    let e = sym c.take.ensures.file ∙ c.in-Some-Writing.is ∙ ap Some c.in-Some-Writing.field-0-is in
+    let can = can_now c.self.inside.tree c.self.inside.files c.args.fd c.args.bytes.now c.in-Some-Writing.writer e c.in_ok-check_write.ensures.0 c.self.invariant (sym c.is_empty.ensures ∙ c.if-is_empty.false) in
+    saving_fails c.self.inside.tree c.write_by.new.tree c.self.inside.files (files_seen c.write_by.new.tree c.take.new.self) _ (ops.Write c.args.fd c.args.bytes.now) ops.Count _ c.from_residual-in_err-writer.result c.self.view_is c.in_ok-check_write.ensures.0
+    refl refl refl (c.self.invariant can.can.works).sound can.can.written.writable c.in_err-writer.ensures.broken c.in_err-writer.ensures.errors
+    (given_on _ c.from_residual-in_err-writer.result c.from_residual-in_err-writer.ensures.1)
 
 -- where power is lost
 pub returns-in_err-check_write-clause-survives : goal.returns-in_err-check_write-clause-survives
@@ -97,7 +106,8 @@ returns-then-is_empty-clause-ends g c = kept_ends (held_of c.self.inside.tree c.
 
 pub returns-in_err-writer-clause-ends : goal.returns-in_err-writer-clause-ends
 returns-in_err-writer-clause-ends g c =
-    broken_ends (held_of c.self.inside.tree c.self.inside.files) _ (ops.Write c.args.fd c.args.bytes.now) ops.Count _ c.from_residual-in_err-writer.result _ c.self.view_is (not_failed (held_of c.self.inside.tree c.self.inside.files) (ops.Write c.args.fd c.args.bytes.now) c.in_ok-check_write.ensures.0) refl c.in_err-writer.ensures.errors.errors
+    broken_ends (held_of c.self.inside.tree c.self.inside.files) _ (ops.Write c.args.fd c.args.bytes.now) ops.Count _ c.from_residual-in_err-writer.result _ c.self.view_is c.in_ok-check_write.ensures.0
+    (some_taken c.self.inside.tree c.self.inside.files c.args.fd c.args.bytes.now (sym c.is_empty.ensures ∙ c.if-is_empty.false)) c.in_err-writer.ensures.errors.errors
     (given_on _ c.from_residual-in_err-writer.result c.from_residual-in_err-writer.ensures.1)
 
 pub returns-clause-ends : goal.returns-clause-ends

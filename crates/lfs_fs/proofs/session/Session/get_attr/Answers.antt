@@ -12,7 +12,7 @@ pub returns : goal.returns
 returns g c =
     asking_call c.self.inside.tree c.self.inside.files _ (ops.GetAttr c.args.path.now c.args.kind) _ _ c.self.view_is c.self.invariant (λ s. refl) (λ k. absurd (cc))
     (record { few = λ l. c.check_get_attr.ensures.few; none = λ l. c.check_get_attr.ensures.kept; hand = λ path reply is same accepted s at ps a small. absurd (cc) })
-    (checked_ends (held_of c.self.inside.tree c.self.inside.files) _ (ops.GetAttr c.args.path.now c.args.kind) (λ v. ops.Bytes v.items) _ c.check_get_attr.result c.check_get_attr.new.tree _ c.self.view_is refl c.check_get_attr.ensures.checks)
+    (checked_ends c.self.inside.tree c.self.inside.files _ (ops.GetAttr c.args.path.now c.args.kind) (λ v. ops.Bytes v.items) _ c.check_get_attr.result c.check_get_attr.new.tree c.self.view_is refl c.check_get_attr.ensures.checks)
     (files_asked c.args.self.now (ops.GetAttr c.args.path.now c.args.kind) (reply_in (λ v. ops.Bytes v.items) c.check_get_attr.result) c.self.inside.tree c.check_get_attr.new.tree c.self.inside.files (asked_by_checks c.self.inside.tree c.self.inside.files (ops.GetAttr c.args.path.now c.args.kind) _ c.check_get_attr.result c.check_get_attr.new.tree c.check_get_attr.ensures.checks)
     (question_call (held_of c.self.inside.tree c.self.inside.files) _ (ops.GetAttr c.args.path.now c.args.kind) (λ v. ops.Bytes v.items) _ c.check_get_attr.result c.check_get_attr.new.tree c.self.view_is
     (sound_by c.self.inside.tree c.self.inside.files c.self.invariant) refl refl (λ x p. ap ops.Bytes (sym p)) c.check_get_attr.ensures.checks))

@@ -13,7 +13,7 @@ pub returns : goal.returns
 returns g c =
     asking_call c.self.inside.tree c.self.inside.files _ (ops.ListAll c.args.path.now) _ _ c.self.view_is c.self.invariant (λ s. refl) (λ k. absurd (cc))
     (record { few = λ l. c.check_list.ensures.few; none = λ l. c.check_list.ensures.kept; hand = λ path reply is same accepted s at ps a small. absurd (cc) })
-    (checked_ends (held_of c.self.inside.tree c.self.inside.files) _ (ops.ListAll c.args.path.now) (λ items. ops.Items (map list_item_seen items.items)) _ c.check_list.result c.check_list.new.tree _ c.self.view_is refl c.check_list.ensures.checks)
+    (checked_ends c.self.inside.tree c.self.inside.files _ (ops.ListAll c.args.path.now) (λ items. ops.Items (map list_item_seen items.items)) _ c.check_list.result c.check_list.new.tree c.self.view_is refl c.check_list.ensures.checks)
     (files_asked c.args.self.now (ops.ListAll c.args.path.now) (reply_in (λ items. ops.Items (map list_item_seen items.items)) c.check_list.result) c.self.inside.tree c.check_list.new.tree c.self.inside.files (asked_by_checks c.self.inside.tree c.self.inside.files (ops.ListAll c.args.path.now) _ c.check_list.result c.check_list.new.tree c.check_list.ensures.checks)
     (question_call (held_of c.self.inside.tree c.self.inside.files) _ (ops.ListAll c.args.path.now) (λ items. ops.Items (map list_item_seen items.items)) _ c.check_list.result c.check_list.new.tree c.self.view_is
     (sound_by c.self.inside.tree c.self.inside.files c.self.invariant) refl refl (λ x p. ap ops.Items (sym p)) c.check_list.ensures.checks))

@@ -69,7 +69,7 @@ returns-else-is_err-clause-alone g c =
 -- how it ends
 pub returns-in_err-check_open_reader-clause-ends : goal.returns-in_err-check_open_reader-clause-ends
 returns-in_err-check_open_reader-clause-ends g c =
-    ended_ends (held_of c.self.inside.tree c.self.inside.files) _ (ops.Open c.args.path.now (flags_seen c.args.flags)) ops.Opened _ c.check_open_reader.new.tree _ c.from_residual.result c.self.view_is refl c.in_err-check_open_reader.ensures (given_on _ c.from_residual.result c.from_residual.ensures.1)
+    ended_ends c.self.inside.tree c.self.inside.files _ (ops.Open c.args.path.now (flags_seen c.args.flags)) ops.Opened _ c.check_open_reader.new.tree c.from_residual.result c.self.view_is refl c.in_err-check_open_reader.ensures (given_on _ c.from_residual.result c.from_residual.ensures.1)
 
 pub returns-then-is_err-clause-ends : goal.returns-then-is_err-clause-ends
 returns-then-is_err-clause-ends g c =

@@ -9,7 +9,7 @@ use Rattle.lfs_fs.specs.Replies.{reply_in}
 use Rattle.lfs_fs.specs.Held.{held_of, held_with, moment_of}
 use Rattle.lfs_fs.proofs.Answered.{asked_by_checks, checked_ready, ended_call, files_asked, sound_by, not_failed}
 use Rattle.lfs_fs.proofs.Errors.{given_on}
-use Rattle.lfs_fs.proofs.OpenedWriters.{IsOpenedBy, can_begin, can_create, no_writer, opened_new, opened_there, room_made, writer_breaks, writer_opened, writer_ready}
+use Rattle.lfs_fs.proofs.OpenedWriters.{IsOpenedBy, can_begin, can_create, no_writer, opened_new, opened_there, room_made, writer_breaks, writer_opened, writer_ready, writer_lacks_memory}
 use Rattle.lfs_model.specs.PowerLoss.{SurvivesStops}
 use Rattle.lfs_fs.proofs.Stopping.{only_read, reads_failing, reads_of_ended}
 use Rattle.lfs_fs.proofs.StoppedCalls.{created_left, opened_left, opening_keeps}
@@ -41,7 +41,7 @@ begin_there-requires g c =
 pub returns-in_err-writer-in-Some-clause-answers : goal.returns-in_err-writer-in-Some-clause-answers
 returns-in_err-writer-in-Some-clause-answers g c =
     let h = c.in_ok-found.ensures in
-    writer_breaks c.self.inside.tree c.check_open_writer.new.tree c.begin_there.new.tree c.self.inside.files _ _ c.args.path.now (flags_seen c.args.flags) _ c.from_residual-in_err-writer-in-Some.result c.self.view_is h.0 h.1 c.requires c.in_err-writer-in-Some.ensures.broken c.in_err-writer-in-Some.ensures.errors
+    writer_breaks c.self.inside.tree c.check_open_writer.new.tree c.begin_there.new.tree c.self.inside.files _ _ c.args.path.now (flags_seen c.args.flags) _ c.from_residual-in_err-writer-in-Some.result c.self.view_is h.0 h.1 (c.self.invariant (not_failed (held_of c.self.inside.tree c.self.inside.files) (ops.Open c.args.path.now (flags_seen c.args.flags)) h.1)).sound c.requires c.in_err-writer-in-Some.ensures.broken c.in_err-writer-in-Some.ensures.errors
     (given_on _ c.from_residual-in_err-writer-in-Some.result c.from_residual-in_err-writer-in-Some.ensures.1)
 
 pub begin_new-requires : goal.begin_new-requires
@@ -52,7 +52,7 @@ begin_new-requires g c =
 pub returns-in_err-writer-in-None-clause-answers : goal.returns-in_err-writer-in-None-clause-answers
 returns-in_err-writer-in-None-clause-answers g c =
     let h = c.in_ok-found.ensures in
-    writer_breaks c.self.inside.tree c.check_open_writer.new.tree c.begin_new.new.tree c.self.inside.files _ _ c.args.path.now (flags_seen c.args.flags) _ c.from_residual-in_err-writer-in-None.result c.self.view_is h.0 h.1 c.requires c.in_err-writer-in-None.ensures.broken c.in_err-writer-in-None.ensures.errors
+    writer_breaks c.self.inside.tree c.check_open_writer.new.tree c.begin_new.new.tree c.self.inside.files _ _ c.args.path.now (flags_seen c.args.flags) _ c.from_residual-in_err-writer-in-None.result c.self.view_is h.0 h.1 (c.self.invariant (not_failed (held_of c.self.inside.tree c.self.inside.files) (ops.Open c.args.path.now (flags_seen c.args.flags)) h.1)).sound c.requires c.in_err-writer-in-None.ensures.broken c.in_err-writer-in-None.ensures.errors
     (given_on _ c.from_residual-in_err-writer-in-None.result c.from_residual-in_err-writer-in-None.ensures.1)
 
 pub put_back-requires-clause-inside : goal.put_back-requires-clause-inside
@@ -107,6 +107,15 @@ pub returns-in_err-found-clause-survives : goal.returns-in_err-found-clause-surv
 returns-in_err-found-clause-survives g c =
     only_read (held_of c.self.inside.tree c.self.inside.files) _ (ops.Open c.args.path.now (flags_seen c.args.flags)) c.check_open_writer.new.tree c.self.view_is (sound_by c.self.inside.tree c.self.inside.files c.self.invariant) (reads_of_ended (held_of c.self.inside.tree c.self.inside.files) (ops.Open c.args.path.now (flags_seen c.args.flags)) _ c.check_open_writer.new.tree c.in_err-found.ensures)
 
+-- no memory is granted
+pub returns-in_default-clause-answers : goal.returns-in_default-clause-answers
+returns-in_default-clause-answers g c =
+    writer_lacks_memory c.self.inside.tree c.check_open_writer.new.tree c.fail.new.self c.self.inside.files c.self.inside.files _ c.args.path.now (flags_seen c.args.flags) c.self.view_is c.in_ok-found.ensures.0 c.in_ok-found.ensures.1 c.fail.ensures
+
+pub returns-in_default-make_room-clause-answers : goal.returns-in_default-make_room-clause-answers
+returns-in_default-make_room-clause-answers g c =
+    writer_lacks_memory c.self.inside.tree c.check_open_writer.new.tree c.fail-in_default-make_room.new.self c.self.inside.files c.make_room.new.self _ c.args.path.now (flags_seen c.args.flags) c.self.view_is c.in_ok-found.ensures.0 c.in_ok-found.ensures.1 c.fail-in_default-make_room.ensures
+
 pub returns-in_default-clause-survives : goal.returns-in_default-clause-survives
 returns-in_default-clause-survives g c =
     only_read (held_of c.self.inside.tree c.self.inside.files) _ (ops.Open c.args.path.now (flags_seen c.args.flags)) c.fail.new.self c.self.view_is (sound_by c.self.inside.tree c.self.inside.files c.self.invariant) (reads_failing c.self.inside.tree c.check_open_writer.new.tree c.fail.new.self c.fail.ensures c.in_ok-found.ensures.0.reads)
@@ -159,22 +168,22 @@ returns-clause-alone g c =
 -- how it ends
 pub returns-in_err-found-clause-ends : goal.returns-in_err-found-clause-ends
 returns-in_err-found-clause-ends g c =
-    ended_ends (held_of c.self.inside.tree c.self.inside.files) _ (ops.Open c.args.path.now (flags_seen c.args.flags)) ops.Opened _ c.check_open_writer.new.tree _ c.from_residual.result c.self.view_is refl c.in_err-found.ensures (given_on _ c.from_residual.result c.from_residual.ensures.1)
+    ended_ends c.self.inside.tree c.self.inside.files _ (ops.Open c.args.path.now (flags_seen c.args.flags)) ops.Opened _ c.check_open_writer.new.tree c.from_residual.result c.self.view_is refl c.in_err-found.ensures (given_on _ c.from_residual.result c.from_residual.ensures.1)
 
 pub returns-in_default-clause-ends : goal.returns-in_default-clause-ends
-returns-in_default-clause-ends g c = error_ends (held_of c.self.inside.tree c.self.inside.files) _ (ops.Open c.args.path.now (flags_seen c.args.flags)) error.NoMemory _ c.self.view_is (not_failed (held_of c.self.inside.tree c.self.inside.files) (ops.Open c.args.path.now (flags_seen c.args.flags)) c.in_ok-found.ensures.1) refl
+returns-in_default-clause-ends g c = error_ends (held_of c.self.inside.tree c.self.inside.files) _ (ops.Open c.args.path.now (flags_seen c.args.flags)) error.NoMemory _ c.self.view_is c.in_ok-found.ensures.1 refl
 
 pub returns-in_default-make_room-clause-ends : goal.returns-in_default-make_room-clause-ends
-returns-in_default-make_room-clause-ends g c = error_ends (held_of c.self.inside.tree c.self.inside.files) _ (ops.Open c.args.path.now (flags_seen c.args.flags)) error.NoMemory _ c.self.view_is (not_failed (held_of c.self.inside.tree c.self.inside.files) (ops.Open c.args.path.now (flags_seen c.args.flags)) c.in_ok-found.ensures.1) refl
+returns-in_default-make_room-clause-ends g c = error_ends (held_of c.self.inside.tree c.self.inside.files) _ (ops.Open c.args.path.now (flags_seen c.args.flags)) error.NoMemory _ c.self.view_is c.in_ok-found.ensures.1 refl
 
 pub returns-in_err-writer-in-Some-clause-ends : goal.returns-in_err-writer-in-Some-clause-ends
 returns-in_err-writer-in-Some-clause-ends g c =
-    broken_ends (held_of c.self.inside.tree c.self.inside.files) _ (ops.Open c.args.path.now (flags_seen c.args.flags)) ops.Opened _ c.from_residual-in_err-writer-in-Some.result _ c.self.view_is (not_failed (held_of c.self.inside.tree c.self.inside.files) (ops.Open c.args.path.now (flags_seen c.args.flags)) c.in_ok-found.ensures.1) refl c.in_err-writer-in-Some.ensures.errors.errors
+    broken_ends (held_of c.self.inside.tree c.self.inside.files) _ (ops.Open c.args.path.now (flags_seen c.args.flags)) ops.Opened _ c.from_residual-in_err-writer-in-Some.result _ c.self.view_is c.in_ok-found.ensures.1 refl c.in_err-writer-in-Some.ensures.errors.errors
     (given_on _ c.from_residual-in_err-writer-in-Some.result c.from_residual-in_err-writer-in-Some.ensures.1)
 
 pub returns-in_err-writer-in-None-clause-ends : goal.returns-in_err-writer-in-None-clause-ends
 returns-in_err-writer-in-None-clause-ends g c =
-    broken_ends (held_of c.self.inside.tree c.self.inside.files) _ (ops.Open c.args.path.now (flags_seen c.args.flags)) ops.Opened _ c.from_residual-in_err-writer-in-None.result _ c.self.view_is (not_failed (held_of c.self.inside.tree c.self.inside.files) (ops.Open c.args.path.now (flags_seen c.args.flags)) c.in_ok-found.ensures.1) refl c.in_err-writer-in-None.ensures.errors.errors
+    broken_ends (held_of c.self.inside.tree c.self.inside.files) _ (ops.Open c.args.path.now (flags_seen c.args.flags)) ops.Opened _ c.from_residual-in_err-writer-in-None.result _ c.self.view_is c.in_ok-found.ensures.1 refl c.in_err-writer-in-None.ensures.errors.errors
     (given_on _ c.from_residual-in_err-writer-in-None.result c.from_residual-in_err-writer-in-None.ensures.1)
 
 pub returns-clause-ends : goal.returns-clause-ends

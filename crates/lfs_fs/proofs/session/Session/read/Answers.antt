@@ -36,7 +36,8 @@ returns-in_default g c =
 pub returns-in_err-bytes : goal.returns-in_err-bytes
 returns-in_err-bytes g c =
     asking_call c.self.inside.tree c.self.inside.files _ (ops.Read c.args.fd c.args.count) _ _ c.self.view_is c.self.invariant (λ s. refl) (λ k. absurd (cc)) (asks_not _ _ _ _ refl)
-    (broken_ends (held_of c.self.inside.tree c.self.inside.files) _ (ops.Read c.args.fd c.args.count) (λ v. ops.Bytes v.items) _ c.from_residual.result _ c.self.view_is (sym c.if-has_failed.ensures) refl c.in_err-bytes.ensures.errors.errors (given_on _ c.from_residual.result c.from_residual.ensures.1))
+    (broken_ends (held_of c.self.inside.tree c.self.inside.files) _ (ops.Read c.args.fd c.args.count) (λ v. ops.Bytes v.items) _ c.from_residual.result _ c.self.view_is
+    (a_reader (held_of c.self.inside.tree c.self.inside.files) c.args.fd c.args.count (reader_seen c.in-Some.reader.now) c.if-has_failed.ensures (some_reader c.self.inside.tree c.self.inside.files c.args.fd c.in-Some.reader.now c.in-Some.ensures)) refl c.in_err-bytes.ensures.errors.errors (given_on _ c.from_residual.result c.from_residual.ensures.1))
     (files_asked c.args.self.now (ops.Read c.args.fd c.args.count) (reply_in (λ v. ops.Bytes v.items) c.from_residual.result) c.self.inside.tree c.read_from.new.tree c.self.inside.files (λ works. absurd (let k = sym c.in_err-bytes.ensures.broken.failed ∙ works in cc))
     (read_fails (held_of c.self.inside.tree c.self.inside.files) _ (ops.Read c.args.fd c.args.count) (λ v. ops.Bytes v.items) _ c.read_from.new.tree c.from_residual.result c.self.view_is c.if-has_failed.ensures c.in_err-bytes.ensures.broken c.in_err-bytes.ensures.errors
     (given_on _ c.from_residual.result c.from_residual.ensures.1)))

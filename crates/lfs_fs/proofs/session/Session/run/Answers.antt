@@ -1,44 +1,52 @@
-use Rattle.std.proofs.Common.{rules, arith, ap, get_or, map, take}
+use Rattle.std.proofs.Common.{rules, arith, ap, get_or, map, subst, sym, take}
+use Rattle.std.proofs.lemmas.List.Elements.{All-from_recursion}
+use Rattle.std.specs.List.{AllByRecursion}
 use Rattle.lfs_model.proofs.AfterStops.{withstood_turns}
-use Rattle.lfs_model.proofs.Turns.{fresh_turns}
+use Rattle.lfs_model.proofs.Turns.{fresh_turns, turns_joined}
 use Rattle.lfs_model.proofs.Withstanding.{agrees_later}
 use Rattle.lfs_fs.specs.Held.{Held, moment_of}
-use Rattle.lfs_fs.specs.OpSeen.{op_seen, reply_seen}
+use Rattle.lfs_fs.specs.OpSeen.{IsNamed, op_seen, reply_seen}
 use Rattle.lfs_fs.proofs.Failing.{memory_fails_now}
-use Rattle.lfs_fs.proofs.Running.{first_op, none_run, run_further, run_ended, run_cut}
+use Rattle.lfs_fs.proofs.Running.{first_op, named_further, none_run, run_further, run_ended, run_cut, silent_few}
 use Rattle.lfs_fs.proofs.Stopping.{failing_survives}
 use Rattle.lfs_fs.proofs.Withstanding.{untouched_withstands}
 use Rattle.lfs_fs.proofs.session.Session.run.Goals as goal
 
 pub loop-op-init : goal.loop-op-init
-loop-op-init g c = none_run c.args.self.now c.new-replies.result.items c.new-replies.ensures.items
+loop-op-init g c = (none_run c.args.self.now c.new-replies.result.items c.new-replies.ensures.items, subst (AllByRecursion IsNamed) (sym c.new-replies.ensures.items) tt)
 
 pub loop-op-preserved : goal.loop-op-preserved
-loop-op-preserved g c =
-    run_further c.args.ops.now c.loop-op.op-index _ c.loop-op.replies.items c.push_reserved.new.self.items c.in-Ok.reply _ _ _ c.loop-op-test.true c.loop-op.invariant c.in-Ok.ensures (search rules)
+loop-op-preserved g c = (
+  run_further c.args.ops.now c.loop-op.op-index _ c.loop-op.replies.items c.push_reserved.new.self.items c.in-Ok.reply _ _ _ c.loop-op-test.true c.loop-op.invariant.0 c.in-Ok.ensures.call (search rules),
+  named_further c.loop-op.replies.items c.push_reserved.new.self.items c.in-Ok.reply c.loop-op.invariant.1 c.in-Ok.ensures.named (search rules),
+)
 
 pub returns-in-Err-clause-ended : goal.returns-in-Err-clause-ended
-returns-in-Err-clause-ended g c = run_cut _ c.args.ops.now c.loop-op.op-index _ c.loop-op.replies.items _ _ _ c.loop-op-test.true c.loop-op.invariant.withstood c.loop-op.invariant.no_fault c.in-Err.ensures.answers c.in-Err.ensures.withstands
+returns-in-Err-clause-ended g c = run_cut _ c.args.ops.now c.loop-op.op-index _ c.loop-op.replies.items _ _ _ c.loop-op-test.true c.loop-op.invariant.0 c.in-Err.ensures.call.asks.few c.in-Err.ensures.call.answers c.in-Err.ensures.call.withstands
 
 pub returns-then-is_err-clause-ended : goal.returns-then-is_err-clause-ended
 returns-then-is_err-clause-ended g c =
-    run_cut _ c.args.ops.now c.loop-op.op-index (first_op c.args.ops.now c.loop-op.op-index c.loop-op-test.true) c.loop-op.replies.items _ _ _ c.loop-op-test.true c.loop-op.invariant.withstood c.loop-op.invariant.no_fault (memory_fails_now c.loop-op.self c.fail.new.self _ c.fail.ensures)
-    (untouched_withstands (moment_of c.loop-op.self) _ (moment_of c.fail.new.self) (agrees_later (map op_seen (take c.loop-op.op-index c.args.ops.now)) (map reply_seen c.loop-op.replies.items) (moment_of c.args.self.now) (moment_of c.loop-op.self) c.tells.ensures.agrees c.loop-op.invariant.withstood) (ap (λ (h : Held). h.tree.disk) c.fail.ensures)
+    run_cut _ c.args.ops.now c.loop-op.op-index (first_op c.args.ops.now c.loop-op.op-index c.loop-op-test.true) c.loop-op.replies.items _ _ _ c.loop-op-test.true c.loop-op.invariant.0
+    (silent_few (moment_of c.loop-op.self) _ (moment_of c.fail.new.self) (ap (λ (h : Held). h.tree.history) c.fail.ensures)) (memory_fails_now c.loop-op.self c.fail.new.self _ c.fail.ensures)
+    (untouched_withstands (moment_of c.loop-op.self) _ (moment_of c.fail.new.self) (agrees_later (map op_seen (take c.loop-op.op-index c.args.ops.now)) (map reply_seen c.loop-op.replies.items) (moment_of c.args.self.now) (moment_of c.loop-op.self) c.tells.ensures.agrees c.loop-op.invariant.0.withstood) (ap (λ (h : Held). h.tree.disk) c.fail.ensures)
     (failing_survives c.loop-op.self c.fail.new.self (op_seen (get_or c.args.ops.now c.loop-op.op-index (first_op c.args.ops.now c.loop-op.op-index c.loop-op-test.true))) c.fail.ensures))
 
 pub returns-clause-withstood : goal.returns-clause-withstood
-returns-clause-withstood g c = (run_ended c.args.ops.now c.loop-op.op-index c.loop-op.replies.items _ _ (omega arith) c.loop-op.invariant).withstood
+returns-clause-withstood g c = (run_ended c.args.ops.now c.loop-op.op-index c.loop-op.replies.items _ _ (omega arith) c.loop-op.invariant.0).withstood
 
 pub returns-clause-thrifty : goal.returns-clause-thrifty
-returns-clause-thrifty g c = (run_ended c.args.ops.now c.loop-op.op-index c.loop-op.replies.items _ _ (omega arith) c.loop-op.invariant).thrifty
+returns-clause-thrifty g c = (run_ended c.args.ops.now c.loop-op.op-index c.loop-op.replies.items _ _ (omega arith) c.loop-op.invariant.0).thrifty
 
 pub returns-clause-turns : goal.returns-clause-turns
-returns-clause-turns g c = withstood_turns _ _ _ _ (run_ended c.args.ops.now c.loop-op.op-index c.loop-op.replies.items (moment_of c.args.self.now) c.loop-op.self (omega arith) c.loop-op.invariant).withstood
+returns-clause-turns g c = withstood_turns _ _ _ _ (run_ended c.args.ops.now c.loop-op.op-index c.loop-op.replies.items (moment_of c.args.self.now) c.loop-op.self (omega arith) c.loop-op.invariant.0).withstood
 
 pub returns-clause-headline : goal.returns-clause-headline
-returns-clause-headline g c fresh state =
-    fresh_turns _ _ (moment_of c.args.self.now) (moment_of c.loop-op.self) fresh state
-    (withstood_turns _ _ _ _ (run_ended c.args.ops.now c.loop-op.op-index c.loop-op.replies.items _ _ (omega arith) c.loop-op.invariant).withstood)
+returns-clause-headline g c done answers fresh =
+    let run = withstood_turns _ _ _ _ (run_ended c.args.ops.now c.loop-op.op-index c.loop-op.replies.items (moment_of c.args.self.now) c.loop-op.self (omega arith) c.loop-op.invariant.0).withstood in
+    fresh_turns _ _ fresh.from (moment_of c.loop-op.self) fresh.fresh fresh.mounts (turns_joined _ _ _ _ fresh.from (moment_of c.args.self.now) (moment_of c.loop-op.self) fresh.turns run)
+
+pub returns-clause-named : goal.returns-clause-named
+returns-clause-named g c = All-from_recursion IsNamed c.loop-op.replies.items c.loop-op.invariant.1
 
 pub returns-clause-no_fault : goal.returns-clause-no_fault
-returns-clause-no_fault g c = c.loop-op.invariant.no_fault
+returns-clause-no_fault g c = c.loop-op.invariant.0.no_fault

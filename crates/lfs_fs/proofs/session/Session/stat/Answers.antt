@@ -15,7 +15,7 @@ returns g c =
     (asked_by_checks c.self.inside.tree c.self.inside.files (ops.Stat c.args.path.now) _ c.check_stat.result c.check_stat.new.tree c.check_stat.ensures.checks)
     (λ works. (checked_ready c.self.inside.tree c.self.inside.files (ops.Stat c.args.path.now) _ c.check_stat.result c.check_stat.new.tree c.self.invariant c.check_stat.ensures.checks works).sound)
     c.check_stat.ensures.few c.check_stat.ensures.kept c.check_stat.ensures.hand)
-    (checked_ends (held_of c.self.inside.tree c.self.inside.files) _ (ops.Stat c.args.path.now) ops.StatIs _ c.check_stat.result c.check_stat.new.tree _ c.self.view_is refl c.check_stat.ensures.checks)
+    (checked_ends c.self.inside.tree c.self.inside.files _ (ops.Stat c.args.path.now) ops.StatIs _ c.check_stat.result c.check_stat.new.tree c.self.view_is refl c.check_stat.ensures.checks)
     (files_asked c.args.self.now (ops.Stat c.args.path.now) (reply_in ops.StatIs c.check_stat.result) c.self.inside.tree c.check_stat.new.tree c.self.inside.files (asked_by_checks c.self.inside.tree c.self.inside.files (ops.Stat c.args.path.now) _ c.check_stat.result c.check_stat.new.tree c.check_stat.ensures.checks)
     (question_call (held_of c.self.inside.tree c.self.inside.files) _ (ops.Stat c.args.path.now) ops.StatIs _ c.check_stat.result c.check_stat.new.tree c.self.view_is
     (sound_by c.self.inside.tree c.self.inside.files c.self.invariant) refl refl (λ x p. ap ops.StatIs (sym p)) c.check_stat.ensures.checks))

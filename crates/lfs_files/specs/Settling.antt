@@ -1,12 +1,10 @@
 -- A list that a commit names, in place of another.
 use Rattle.std.specs.Prelude.{ℕ, ◌≡◌, ◌++◌, List, length, Contains}
-use Rattle.lfs_model.specs.BlockSets.{IsInFlight}
 use Rattle.lfs_model.specs.Disk.{block_count}
 use Rattle.lfs_model.specs.History.{OnlyReads}
 use Rattle.lfs_model.specs.Thread.{blocks_of}
 use Rattle.lfs_thread.specs.Kept.{Kept}
 use Rattle.lfs_writer.specs.Based.{IsBase, list_blocks}
-use Rattle.lfs_writer.specs.Hand.{KeepsUsed}
 use Rattle.lfs_writer.specs.Settled.{IsSettled}
 use Rattle.lfs_writer.specs.declared.stored.Stored.{Stored}
 
@@ -28,9 +26,3 @@ pub record IsReadBesideMap (old new : Kept) : Type 0 where
 
 abbrev pub IsSettledIn : Kept → Stored → Stored → Kept → Type 0
 IsSettledIn old before stored new = IsSettled old.map new.map (blocks_in_list old before) (blocks_in_list old stored)
-
--- no block is in flight any more, and the same ones are used
-pub record IsAbandoned (old new : Kept) : Type 0 where
-  pub only : IsReadBesideMap old new
-  pub none : (b : ℕ) → ¬ (IsInFlight new.map b)
-  pub map : KeepsUsed old.map new.map

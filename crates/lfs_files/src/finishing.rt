@@ -1,14 +1,13 @@
-// Contents that are finished for a commit, or given up.
+// Contents that are finished for a commit.
 
-ghost use Rattle.std.specs.Prelude.{◌≡◌, false, IfErr, IfOk, OnErr, OnOk};
-ghost use Rattle.lfs_files.specs.Settling.{IsAbandoned};
+ghost use Rattle.std.specs.Prelude.{◌≡◌, false, IfOk};
 ghost use Rattle.lfs_files.specs.Standing.{CanFinish, Holds, LeavesPairsAndUsed, TellsWork, held_in};
 ghost use Rattle.lfs_writer.specs.Owned.{AreOwned};
 ghost use Rattle.lfs_writer.specs.Contents.{bytes_in, finished, form_of};
 
 use lfs_device::{BlockDevice, Error};
 use lfs_thread::Thread;
-use lfs_writer::{Contents, abandon, finish};
+use lfs_writer::{Contents, finish};
 use std::alloc::Global;
 
 /// Ends the list in hand of an open writer, where there is one. The contents stay, and so do the
@@ -31,19 +30,4 @@ pub fn finish_file<D: BlockDevice>(
 {
     let finished = thread.beside(alloc, |device, map| finish(alloc, device, map, contents))?;
     finished
-}
-
-/// Gives up what is in flight, as where the contents of a writer are gone. No call of the device is
-/// made.
-///
-/// `NoMemory` where there is no memory for an empty cache; the thread is as it was then.
-pub fn abandon_file<D: BlockDevice>(alloc: Global, thread: &mut Thread<D>) -> Result<(), Error>
-    requires { thread.old.failed ≡ false }
-    ensures abandoned { OnOk result (IsAbandoned thread.old.kept thread.new.kept) }
-    ensures works { thread.new.failed ≡ false }
-    ensures same { OnErr result (thread.new ≡ thread.old) }
-    ensures error { IfErr result (λ e. e ≡ Error.NoMemory) }
-{
-    thread.beside(alloc, |_device, map| abandon(map))?;
-    Ok(())
 }

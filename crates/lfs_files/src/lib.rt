@@ -7,8 +7,8 @@ mod settling;
 mod truncating;
 mod writing;
 
-pub use finishing::{abandon_file, finish_file};
-pub use laws::{finished_contents_can_come, settled_map_is_exact};
+pub use finishing::finish_file;
+pub use laws::settled_map_is_exact;
 pub use settling::settle_file;
 pub use truncating::truncate_file;
 pub use writing::write_file;

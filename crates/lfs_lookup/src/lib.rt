@@ -32,11 +32,9 @@ pub use finding::{Finding, FoundAttribute, Inside, ListItem, Listing, Node};
 pub use items::{Item, Structure};
 pub use listed::list_at;
 pub use path::Path;
-pub use paths::{
-    Found, Parent, Shown, find_directory, look_up, look_up_shown, moved_slot, number_of,
-};
+pub use paths::{Found, Shown, look_up, number_of};
 pub use profile::{follows_at, is_writable};
 pub use refusal::{Refusal, refuse_if, refused};
 pub use root::find_root;
-pub use search::{Sought, Spot, find_name, find_shown};
+pub use search::{Spot, find_shown};
 pub use walking::{TreeItem, walk};

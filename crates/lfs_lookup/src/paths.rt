@@ -26,14 +26,14 @@ use lfs_tag::MoveState;
 use lfs_tag::kinds::DELETE;
 use lfs_thread::Thread;
 
-/// What a path leads to, where a directory is wanted.
+// What a path leads to, where a directory is wanted.
 #[derive(Clone, Copy, Debug, PartialEq, Eq, Drop)]
-pub enum Parent {
-    /// A directory, by the number of its first pair.
+pub(crate) enum Parent {
+    // A directory, by the number of its first pair.
     Directory(usize),
-    /// A file stands there.
+    // A file stands there.
     File,
-    /// Nothing stands there.
+    // Nothing stands there.
     Nothing,
 }
 
@@ -98,9 +98,9 @@ pub fn number_of<D: BlockDevice>(thread: &Thread<D>, at: [u32; 2]) -> Option<usi
     None
 }
 
-/// The slot that counts as deleted under a global state, which is the one that a set move names
-/// (DESIGN.md of littlefs, "The move problem"). None where no move is set.
-pub fn moved_slot<D: BlockDevice>(thread: &Thread<D>, state: &MoveState) -> Option<Spot>
+// The slot that counts as deleted under a global state, which is the one that a set move names
+// (DESIGN.md of littlefs, "The move problem"). None where no move is set.
+pub(crate) fn moved_slot<D: BlockDevice>(thread: &Thread<D>, state: &MoveState) -> Option<Spot>
     requires { IsAccepted thread.now.kept.disk thread.now.kept.pairs }
     ensures { HidesFrom (move_seen state.now) result 0 thread.now.kept.pairs }
 {
@@ -147,12 +147,12 @@ fn enter<D: BlockDevice>(
     }
 }
 
-/// Goes down a path of directories from the root, which begins with the pair of number `root`, by
-/// the names of its components, where the slot `moved` counts as deleted. It stops at the first
-/// component that is no directory. No more reads than the directories above the last one have pairs.
-///
-/// Errors as those of [`find_name`](crate::find_name).
-pub fn find_directory<D: BlockDevice>(
+// Goes down a path of directories from the root, which begins with the pair of number `root`, by
+// the names of its components, where the slot `moved` counts as deleted. It stops at the first
+// component that is no directory. No more reads than the directories above the last one have pairs.
+//
+// Errors as those of `find_name`.
+pub(crate) fn find_directory<D: BlockDevice>(
     thread: &mut Thread<D>,
     root: usize,
     path: &[&[u8]],
@@ -215,7 +215,8 @@ fn look_in<D: BlockDevice>(
 /// What a path leads to, by the names of its components, from the root down; the root begins with
 /// the pair of number `root`. No more reads than the directories above it have pairs.
 ///
-/// Errors as those of [`find_name`](crate::find_name).
+/// `Io` where a read failed, and `NoMemory` where the room for a block isn't granted. The thread
+/// works on after either.
 pub fn look_up<D: BlockDevice>(
     thread: &mut Thread<D>,
     root: usize,
@@ -266,12 +267,12 @@ fn show_in<D: BlockDevice>(
     }
 }
 
-/// What a path leads to as [`look_up`], where the slot `moved` counts as deleted: the one that a set
-/// move names (DESIGN.md of littlefs, "The move problem"). The block of the slot that is found is at
-/// hand then.
-///
-/// Errors as those of [`find_name`](crate::find_name).
-pub fn look_up_shown<D: BlockDevice>(
+// What a path leads to as `look_up`, where the slot `moved` counts as deleted: the one that a set
+// move names (DESIGN.md of littlefs, "The move problem"). The block of the slot that is found is at
+// hand then.
+//
+// Errors as those of `find_name`.
+pub(crate) fn look_up_shown<D: BlockDevice>(
     thread: &mut Thread<D>,
     root: usize,
     path: &[&[u8]],

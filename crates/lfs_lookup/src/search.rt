@@ -23,12 +23,12 @@ pub struct Spot {
     pub id: u16,
 }
 
-/// Where a name stands in a directory.
+// Where a name stands in a directory.
 #[derive(Clone, Copy, Debug, PartialEq, Eq, Drop)]
-pub enum Sought {
-    /// Its slot, and what stands there.
+pub(crate) enum Sought {
+    // Its slot, and what stands there.
     Found(Spot, Entry),
-    /// It isn't there, and belongs in front of this slot.
+    // It isn't there, and belongs in front of this slot.
     Place(Spot),
 }
 
@@ -74,14 +74,14 @@ fn find_in_pair<D: BlockDevice>(
     Ok(find_in_block(block, name, skip))
 }
 
-/// Where a name stands among the entries of the directory that begins with the pair of number
-/// `first`, or where it belongs. A set move isn't heeded; [`find_shown`] heeds it. A directory goes
-/// on along the hard tails (SPEC.md of littlefs, "0x601 LFS_TYPE_HARDTAIL"), and its entries are
-/// sorted by name. No more reads than it has pairs.
-///
-/// `Io` where a read failed, and `NoMemory` where the room for a block isn't granted. The thread
-/// works on after either.
-pub fn find_name<D: BlockDevice>(
+// Where a name stands among the entries of the directory that begins with the pair of number
+// `first`, or where it belongs. A set move isn't heeded; `find_shown` heeds it. A directory goes
+// on along the hard tails (SPEC.md of littlefs, "0x601 LFS_TYPE_HARDTAIL"), and its entries are
+// sorted by name. No more reads than it has pairs.
+//
+// `Io` where a read failed, and `NoMemory` where the room for a block isn't granted. The thread
+// works on after either.
+pub(crate) fn find_name<D: BlockDevice>(
     thread: &mut Thread<D>,
     first: usize,
     name: &[u8],
@@ -120,7 +120,8 @@ pub fn find_name<D: BlockDevice>(
 /// littlefs, "The move problem"). None where nothing has the name. No more reads than the directory
 /// has pairs, and none where all of them are at hand; the one that has the name is at hand then.
 ///
-/// Errors as those of [`find_name`].
+/// `Io` where a read failed, and `NoMemory` where the room for a block isn't granted. The thread
+/// works on after either.
 pub fn find_shown<D: BlockDevice>(
     thread: &mut Thread<D>,
     first: usize,

@@ -18,20 +18,20 @@ use lfs_alloc::BlockMap;
 use lfs_device::{BlockDevice, Error};
 use std::alloc::Global;
 
-/// Checks what stands in the pairs of a thread whose headers are known, and marks the blocks of its
-/// files in `map`, where those of the pairs are used and all others free.
-///
-/// `members` are the pairs from the root's first one on, in the thread's order; `places` are the
-/// directories; `sync` is the sync bit of the global state.
-///
-/// Where the superblock's pairs and the move that the global state names are right, Ok says that
-/// the image is accepted and that the map has its blocks, and `Corrupt` that it isn't accepted: a
-/// slot holds no entry, a file's list isn't well formed, a block is owned twice, or the directories
-/// are no tree (SPEC.md of littlefs, "Metadata types"; DESIGN.md, "CTZ skip-lists", "Directories"
-/// and "The move problem").
-/// `NoMemory` comes where memory isn't granted, `Io` where the device failed. After an error
-/// nothing is known of the map.
-pub fn check_thread<D: BlockDevice>(
+// Checks what stands in the pairs of a thread whose headers are known, and marks the blocks of its
+// files in `map`, where those of the pairs are used and all others free.
+//
+// `members` are the pairs from the root's first one on, in the thread's order; `places` are the
+// directories; `sync` is the sync bit of the global state.
+//
+// Where the superblock's pairs and the move that the global state names are right, Ok says that
+// the image is accepted and that the map has its blocks, and `Corrupt` that it isn't accepted: a
+// slot holds no entry, a file's list isn't well formed, a block is owned twice, or the directories
+// are no tree (SPEC.md of littlefs, "Metadata types"; DESIGN.md, "CTZ skip-lists", "Directories"
+// and "The move problem").
+// `NoMemory` comes where memory isn't granted, `Io` where the device failed. After an error
+// nothing is known of the map.
+pub(crate) fn check_thread<D: BlockDevice>(
     alloc: Global,
     device: &mut D,
     map: &mut BlockMap,

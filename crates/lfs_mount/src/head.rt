@@ -199,19 +199,19 @@ fn leads_on(pair: &Pair) -> bool
     }
 }
 
-/// How many superblock pairs stand in front of the root's first pair, in the thread with these
-/// headers. The log of the first pair begins with the superblock, and slot 0 keeps its name, with a
-/// struct of version 2.0 and of the device's geometry (SPEC.md of littlefs, "0x0ff
-/// LFS_TYPE_SUPERBLOCK"). The superblock goes on in the next pair where a pair has no other slot and
-/// a hard tail, and the next one's slot 0 is a superblock's too; both then have the same struct, and
-/// the root begins at the last of them.
-///
-/// `Corrupt` where the superblock isn't so; no such image is accepted. `Io` where a read failed, and
-/// `NoMemory` where there is no room for a block and its slots. Nothing is written. Each of the
-/// superblock's pairs is read once, and the one behind them at most once.
-///
-/// That the headers are those of the device's thread, all and in order, is the caller's condition.
-pub fn count_superblocks<D: BlockDevice>(
+// How many superblock pairs stand in front of the root's first pair, in the thread with these
+// headers. The log of the first pair begins with the superblock, and slot 0 keeps its name, with a
+// struct of version 2.0 and of the device's geometry (SPEC.md of littlefs, "0x0ff
+// LFS_TYPE_SUPERBLOCK"). The superblock goes on in the next pair where a pair has no other slot and
+// a hard tail, and the next one's slot 0 is a superblock's too; both then have the same struct, and
+// the root begins at the last of them.
+//
+// `Corrupt` where the superblock isn't so; no such image is accepted. `Io` where a read failed, and
+// `NoMemory` where there is no room for a block and its slots. Nothing is written. Each of the
+// superblock's pairs is read once, and the one behind them at most once.
+//
+// That the headers are those of the device's thread, all and in order, is the caller's condition.
+pub(crate) fn count_superblocks<D: BlockDevice>(
     alloc: Global,
     dev: &mut D,
     pairs: &[Pair],

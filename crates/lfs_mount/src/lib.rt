@@ -14,9 +14,5 @@ mod pass;
 mod places;
 mod reaching;
 
-pub use check::check_thread;
-pub use head::count_superblocks;
 pub use mounting::mount;
-pub use moves::check_move;
-pub use pass::Member;
 pub use places::Places;

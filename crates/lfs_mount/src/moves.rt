@@ -35,13 +35,13 @@ fn names_one(address: [u32; 2], pairs: &[Pair]) -> bool
     false
 }
 
-/// Checks the move of a global state, as far as the headers of the directories' pairs tell: none is
-/// set, with nothing in the other fields, or it is a delete of a slot in one of these pairs (SPEC.md
-/// of littlefs, "0x7ff LFS_TYPE_MOVESTATE"). That the slot is an entry there is left to who reads the
-/// slots; where one is, the move is right.
-///
-/// `Corrupt` exactly where it is neither, and no accepted image has such a move.
-pub fn check_move(state: &MoveState, pairs: &[Pair]) -> Result<(), Error>
+// Checks the move of a global state, as far as the headers of the directories' pairs tell: none is
+// set, with nothing in the other fields, or it is a delete of a slot in one of these pairs (SPEC.md
+// of littlefs, "0x7ff LFS_TYPE_MOVESTATE"). That the slot is an entry there is left to who reads the
+// slots; where one is, the move is right.
+//
+// `Corrupt` exactly where it is neither, and no accepted image has such a move.
+pub(crate) fn check_move(state: &MoveState, pairs: &[Pair]) -> Result<(), Error>
     ensures ok { OnOk result (names_known (move_seen state.now) (map address_in pairs.now) ≡ true) }
     ensures corrupt { IfErr result (λ e. (e ≡ Error.Corrupt) × (names_known (move_seen state.now) (map address_in pairs.now) ≡ false)) }
     ensures right { OnOk result ((chain : List ThreadPair) (p : ThreadPair) (rest : List ThreadPair)

@@ -26,16 +26,16 @@ use lfs_device::{BlockDevice, Error, read_block};
 use lfs_tag::{Content, Log, Slot};
 use std::alloc::Global;
 
-/// What is known of a directory's pair before its slots are looked at.
+// What is known of a directory's pair before its slots are looked at.
 #[derive(Clone, Copy, Drop)]
-pub struct Member {
-    /// The block of the two that holds.
+pub(crate) struct Member {
+    // The block of the two that holds.
     pub active: u32,
-    /// The tail is hard: the next pair continues the directory.
+    // The tail is hard: the next pair continues the directory.
     pub is_hard: bool,
-    /// Slot 0 is the superblock, as in the root's first pair.
+    // Slot 0 is the superblock, as in the root's first pair.
     pub has_superblock: bool,
-    /// The id of the slot that the global state says is moved away.
+    // The id of the slot that the global state says is moved away.
     pub moved: Option<u32>,
 }
 

@@ -11,5 +11,5 @@ mod splitting;
 mod thread;
 
 pub use parts::Parts;
-pub use shares::{joined_state, with_share};
+pub use shares::with_share;
 pub use thread::Thread;

@@ -8,9 +8,9 @@ ghost use Rattle.lfs_tag.specs.FieldsSeen.{move_seen};
 use lfs_pair::Pair;
 use lfs_tag::MoveState;
 
-/// What the shares of these pairs come to: their exclusive or (DESIGN.md of littlefs, "The move
-/// problem").
-pub fn joined_state(pairs: &[Pair]) -> MoveState
+// What the shares of these pairs come to: their exclusive or (DESIGN.md of littlefs, "The move
+// problem").
+pub(crate) fn joined_state(pairs: &[Pair]) -> MoveState
     ensures { move_seen result ≡ fold gstate_xor no_gstate (map (λ p. move_seen p.move_state) pairs.now) }
 {
     let mut state = MoveState::none();

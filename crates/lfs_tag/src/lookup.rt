@@ -32,7 +32,7 @@ const BLOCK_MAX: usize = 65536;
 
 // For each slot how the wanted name stands to its own; `None` where it has none, or the
 // superblock's.
-type Ranks = ArrayVec<Option<Ordering>, 17_408>;
+type Ranks = ArrayVec<Option<Ordering>, SLOT_MAX>;
 
 /// Where a name stands among a log's slots, or where it belongs, which is in front of the first
 /// slot with a greater name. Names are ordered by their bytes, a proper beginning first. A

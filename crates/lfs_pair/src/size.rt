@@ -2,7 +2,7 @@
 
 ghost use Rattle.std.specs.Prelude.{◌≡◌, ℕ, ◌+◌, ◌-◌, ◌^◌, ◌<◌, ◌≤◌, ◌↔◌, IsTrue, length, min, map, sum_by};
 ghost use Rattle.std.specs.Option.{option_map};
-ghost use Rattle.lfs_model.specs.Disk.{pair_capacity};
+ghost use Rattle.lfs_model.specs.Disk.{pair_capacity, slot_limit};
 ghost use Rattle.lfs_model.specs.Slots.{attributes_size};
 ghost use Rattle.lfs_model.specs.WrittenContent.{part_size, raw_slot_size, raw_size, FitsRaw};
 ghost use Rattle.lfs_tag.specs.ContentSeen.{part_seen, attribute_seen, slot_seen, content_seen};
@@ -53,17 +53,17 @@ pub(crate) fn slots_size(slots: &[Slot<'_>]) -> u64
     total
 }
 
-// How many bytes of slots a pair that is written may hold: a block less 39 bytes and a page.
-pub(crate) fn capacity_of(geometry: Geometry) -> u64
-    ensures { result ≡ pair_capacity geometry.block_size geometry.page }
+// Whether a pair that is written may hold so many slots of so many bytes.
+pub(crate) fn is_within(count: usize, size: u64, geometry: Geometry) -> bool
+    ensures { IsTrue result ↔ ((count ≤ slot_limit) × (size ≤ pair_capacity geometry.block_size geometry.page)) }
 {
-    u64::from(geometry.block_size - 39 - geometry.page)
+    count <= geometry.slot_limit() && size <= u64::from(geometry.pair_capacity())
 }
 
-/// Whether a pair that is written may hold this: at most a thousand slots, and their bytes within
-/// the pair's capacity, which is a block less 39 bytes and a page.
+/// Whether a pair that is written may hold this: no more slots than [`Geometry::slot_limit`], and
+/// their bytes within [`Geometry::pair_capacity`].
 pub fn fits(content: &Content<'_>, geometry: Geometry) -> bool
     ensures { IsTrue result ↔ FitsRaw geometry.block_size geometry.page (content_seen content.now) }
 {
-    content.slots.len() <= 1000 && slots_size(&content.slots) <= capacity_of(geometry)
+    is_within(content.slots.len(), slots_size(&content.slots), geometry)
 }

@@ -1,33 +1,16 @@
 // Paths: a slash before each name.
 
-ghost use Rattle.std.specs.Prelude.{ℕ, List, true, ◌≡◌, ◌<◌, ◌≤◌, ◌^◌, ◌==◌, ◌||◌, IfOk, not, length, map, is_some};
+ghost use Rattle.std.specs.Prelude.{ℕ, List, true, ◌≡◌, ◌<◌, ◌≤◌, ◌^◌, ◌==◌, IfOk, length, map, is_some};
 ghost use Rattle.std.specs.List.{list_all, slice_split};
 ghost use Rattle.lfs_model.specs.TreeEdits.{last_name};
-ghost use Rattle.lfs_model.specs.Names.{is_component, same_name, slash};
+ghost use Rattle.lfs_model.specs.Names.{is_component, slash};
 ghost use Rattle.lfs_model.specs.Operations.{path_of};
 ghost use Rattle.lfs_model.specs.Refusals.{as_path, is_root};
 ghost use Rattle.lfs_lookup.specs.NameLengths.{behind_slash};
 
+use lfs_tag::is_component;
 use std::alloc::{AllocError, Global};
 use std::marker::Model;
-
-fn is_same(name: &[u8], other: &[u8]) -> bool
-    ensures { result ≡ same_name name.now other.now }
-{
-    name == other
-}
-
-fn are_plain(name: &[u8]) -> bool
-    ensures { result ≡ list_all (λ b. not (b == 0 || b == slash)) name.now }
-{
-    name.iter().all(|byte| !(*byte == 0 || *byte == b'/'))
-}
-
-fn is_component(name: &[u8]) -> bool
-    ensures { result ≡ is_component name.now }
-{
-    !name.is_empty() && are_plain(name) && !is_same(name, b".") && !is_same(name, b"..")
-}
 
 // Whether these bytes are names with a slash between each two.
 fn are_components(bytes: &[u8]) -> bool

@@ -14,8 +14,8 @@ ghost use Rattle.lfs_lookup.specs.Listed.{AreEntries, joined_run, length_from, m
 ghost use Rattle.lfs_lookup.specs.Reading.{IsReading};
 
 use crate::items::{Item, items_in};
-use crate::paths::is_same_pair;
 use lfs_device::{BlockDevice, Error};
+use lfs_pair::is_same_pair;
 use lfs_tag::MoveState;
 use lfs_tag::kinds::DELETE;
 use lfs_thread::Thread;

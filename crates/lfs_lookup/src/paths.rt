@@ -22,6 +22,7 @@ ghost use Rattle.lfs_lookup.specs.Paths.{BeginsOnPath, Descends, Enters, IsHidin
 use crate::entry::{Contents, Entry};
 use crate::search::{Sought, Spot, find_name, find_shown};
 use lfs_device::{BlockDevice, Error};
+use lfs_pair::is_same_pair;
 use lfs_tag::MoveState;
 use lfs_tag::kinds::DELETE;
 use lfs_thread::Thread;
@@ -111,13 +112,6 @@ pub(crate) fn moved_slot<D: BlockDevice>(thread: &Thread<D>, state: &MoveState) 
         Some(pair) => Some(Spot { pair, id: state.id }),
         None => None,
     }
-}
-
-// Whether two addresses are of the same pair: in either order.
-pub(crate) fn is_same_pair(a: [u32; 2], b: [u32; 2]) -> bool
-    ensures { result ≡ same_pair (address_of a) (address_of b) }
-{
-    a[0] == b[0] && a[1] == b[1] || a[0] == b[1] && a[1] == b[0]
 }
 
 // Goes from a directory to the one of that name in it, where a slot may count as deleted.

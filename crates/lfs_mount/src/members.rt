@@ -7,11 +7,10 @@ ghost use Rattle.lfs_tag.specs.FieldsSeen.{move_seen};
 ghost use Rattle.lfs_mount.specs.ByBlock.{lesser_of};
 ghost use Rattle.lfs_mount.specs.Members.{begins_in, continues, member_in, members_in, moved_at};
 
-use crate::moves::is_same_pair;
 use crate::pass::Member;
 use crate::places::Places;
 use lfs_device::Error;
-use lfs_pair::Pair;
+use lfs_pair::{Pair, is_same_pair};
 use lfs_tag::MoveState;
 use lfs_tag::kinds::DELETE;
 use std::alloc::Global;

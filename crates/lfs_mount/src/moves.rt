@@ -3,7 +3,7 @@
 ghost use Rattle.std.specs.Prelude.{◌≡◌, ◌++◌, ◌∷◌, IfErr, List, OnErr, OnOk, false, map, true};
 ghost use Rattle.lfs_model.specs.Disk.{Disk};
 ghost use Rattle.lfs_model.specs.History.{Event};
-ghost use Rattle.lfs_model.specs.Slots.{address_of, gstate_xor, same_pair};
+ghost use Rattle.lfs_model.specs.Slots.{address_of, gstate_xor};
 ghost use Rattle.lfs_model.specs.Thread.{Pair as ThreadPair, gstate_of};
 ghost use Rattle.lfs_model.specs.View.{IsAccepted, IsMove};
 ghost use Rattle.lfs_pair.specs.Pair.{address_in};
@@ -12,16 +12,9 @@ ghost use Rattle.lfs_thread.specs.Kept.{AreHeaders, pairs_on};
 ghost use Rattle.lfs_mount.specs.Moves.{HasDirectories, IsMovedFrom, joined_of, names_known, names_one};
 
 use lfs_device::Error;
-use lfs_pair::Pair;
+use lfs_pair::{Pair, is_same_pair};
 use lfs_tag::MoveState;
 use lfs_tag::kinds::DELETE;
-
-// Whether two addresses are those of one pair, in either order.
-pub(crate) fn is_same_pair(a: [u32; 2], b: [u32; 2]) -> bool
-    ensures { result ≡ same_pair (address_of a) (address_of b) }
-{
-    (a[0] == b[0] && a[1] == b[1]) || (a[0] == b[1] && a[1] == b[0])
-}
 
 // Whether one of the pairs is at an address.
 fn names_one(address: [u32; 2], pairs: &[Pair]) -> bool

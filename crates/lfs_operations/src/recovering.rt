@@ -22,7 +22,7 @@ ghost use Rattle.lfs_operations.specs.EndingMove.{CanEndMove, CanTakeSlot, HasEn
 ghost use Rattle.lfs_operations.specs.Removing.{TellsOfCalls};
 
 use lfs_device::{BlockDevice, Error};
-use lfs_pair::Change;
+use lfs_pair::{Change, is_same_pair};
 use lfs_tag::kinds::DELETE;
 use lfs_tag::{MoveState, Tail};
 use lfs_thread::{Thread, with_share};
@@ -200,13 +200,6 @@ pub fn drop_unreached<D: BlockDevice>(
     }
     clear_sync(alloc, thread)?;
     Ok(())
-}
-
-// Whether two addresses are of the same pair: in either order.
-fn is_same_pair(a: [u32; 2], b: [u32; 2]) -> bool
-    ensures { result ≡ same_pair (address_of a) (address_of b) }
-{
-    a[0] == b[0] && a[1] == b[1] || a[0] == b[1] && a[1] == b[0]
 }
 
 // The number of the pair at an address, of which the two blocks may come in either order.

@@ -17,6 +17,6 @@ mod writing;
 pub use change::{Change, apply_all};
 pub use committing::{Outcome, commit, commit_in};
 pub use fetching::fetch;
-pub use pair::Pair;
+pub use pair::{Pair, is_same_pair};
 pub use size::fits;
 pub use splitting::{split, split_in};

@@ -2,6 +2,7 @@
 
 ghost use Rattle.std.specs.Prelude.{◌≡◌, false, is_some, map};
 ghost use Rattle.lfs_model.specs.Content.{complete_all};
+ghost use Rattle.lfs_model.specs.Slots.{address_of, same_pair};
 ghost use Rattle.lfs_tag.specs.ContentSeen.{content_seen, slot_seen};
 ghost use Rattle.lfs_pair.specs.Pair.{EndsWith, SumsUp, other_in};
 
@@ -18,6 +19,13 @@ pub(crate) fn are_complete(slots: &[Slot<'_>]) -> bool
         }
     }
     true
+}
+
+/// Whether two addresses are those of one pair: its two blocks may come in either order.
+pub fn is_same_pair(a: [u32; 2], b: [u32; 2]) -> bool
+    ensures { result ≡ same_pair (address_of a) (address_of b) }
+{
+    a[0] == b[0] && a[1] == b[1] || a[0] == b[1] && a[1] == b[0]
 }
 
 /// What is known of a pair without its slots: enough to append to the block that holds.

@@ -32,7 +32,7 @@ pub use finding::{Finding, FoundAttribute, Inside, ListItem, Listing, Node};
 pub use items::{Item, Structure};
 pub use listed::list_at;
 pub use path::Path;
-pub use paths::{Found, Shown, look_up, number_of};
+pub use paths::{Found, Shown, look_up};
 pub use profile::{follows_at, is_writable};
 pub use refusal::{Refusal, refuse_if, refused};
 pub use root::find_root;

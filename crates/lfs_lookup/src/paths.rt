@@ -1,11 +1,9 @@
 // Paths, from the root down.
 
-ghost use Rattle.std.specs.Prelude.{◌≡◌, None, ◌<◌, ◌≤◌, ◌+◌, false, length, IfNone, IfOk, IfSome, map, sum_by, ◌++◌, ◌∷◌, [], drop};
-ghost use Rattle.std.specs.List.{AllByRecursion};
+ghost use Rattle.std.specs.Prelude.{◌≡◌, None, ◌<◌, ◌≤◌, ◌+◌, false, length, IfOk, map, sum_by, ◌++◌, ◌∷◌, [], drop};
 ghost use Rattle.lfs_model.specs.Discipline.{pairs_of_path, parents};
 ghost use Rattle.lfs_model.specs.History.{reads};
-ghost use Rattle.lfs_model.specs.InDirectory.{BeginsAt, run_length};
-ghost use Rattle.lfs_model.specs.Slots.{address_of, no_gstate, same_pair};
+ghost use Rattle.lfs_model.specs.InDirectory.{run_length};
 ghost use Rattle.lfs_model.specs.Thread.{gstate_of};
 ghost use Rattle.lfs_model.specs.Tree.{Path};
 ghost use Rattle.lfs_model.specs.View.{IsAccepted};
@@ -22,10 +20,9 @@ ghost use Rattle.lfs_lookup.specs.Paths.{BeginsOnPath, Descends, Enters, IsHidin
 use crate::entry::{Contents, Entry};
 use crate::search::{Sought, Spot, find_name, find_shown};
 use lfs_device::{BlockDevice, Error};
-use lfs_pair::is_same_pair;
 use lfs_tag::MoveState;
 use lfs_tag::kinds::DELETE;
-use lfs_thread::Thread;
+use lfs_thread::{Thread, number_of};
 
 // What a path leads to, where a directory is wanted.
 #[derive(Clone, Copy, Debug, PartialEq, Eq, Drop)]
@@ -83,20 +80,6 @@ pub enum Shown {
     ParentIsFile,
     /// A component before the last isn't there.
     ParentIsMissing,
-}
-
-/// The number of the pair at an address, of which the two blocks may come in either order. None
-/// where no pair of the thread is at it.
-pub fn number_of<D: BlockDevice>(thread: &Thread<D>, at: [u32; 2]) -> Option<usize>
-    ensures there { IfSome result (BeginsAt thread.now.kept.pairs (address_of at)) }
-    ensures nowhere { IfNone result (AllByRecursion (λ p. same_pair p.at (address_of at) ≡ false) thread.now.kept.pairs) }
-{
-    for index in 0..thread.len() {
-        if is_same_pair(thread.address(index), at) {
-            return Some(index);
-        }
-    }
-    None
 }
 
 // The slot that counts as deleted under a global state, which is the one that a set move names

@@ -24,14 +24,13 @@ ghost use Rattle.lfs_operations.specs.Removing.{TellsOfCalls};
 
 use crate::changing::put;
 use crate::dropping::drop_at;
-use crate::recovering::number_of;
 use crate::removing::goes_with_slot;
 use crate::renaming_copy::{SlotCopy, copy_at, push_slot};
 use lfs_device::{BlockDevice, Error};
 use lfs_pair::Change;
 use lfs_tag::MoveState;
 use lfs_tag::kinds::DELETE;
-use lfs_thread::{Thread, with_share};
+use lfs_thread::{Thread, number_of, with_share};
 use std::alloc::{AllocError, Global};
 
 // A pair's share of the global state, without the move that is set.

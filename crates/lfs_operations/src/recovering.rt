@@ -5,13 +5,11 @@ ghost use Rattle.std.specs.Option.{option_map};
 ghost use Rattle.lfs_model.specs.LoggedContent.{IsAddress};
 ghost use Rattle.lfs_model.specs.PowerLoss.{Survives};
 ghost use Rattle.lfs_model.specs.Recovery.{IsRecovered};
-ghost use Rattle.lfs_model.specs.Slots.{Gstate, address_of, gstate_xor, no_gstate, same_pair};
+ghost use Rattle.lfs_model.specs.Slots.{Gstate, address_of, gstate_xor, no_gstate};
 ghost use Rattle.lfs_model.specs.Thread.{blocks_of, gstate_of, is_hard};
 ghost use Rattle.lfs_model.specs.View.{IsAccepted};
 ghost use Rattle.lfs_model.specs.Shown.{tree_in};
-ghost use Rattle.lfs_model.specs.InDirectory.{BeginsAt};
 ghost use Rattle.lfs_model.proofs.Global.{HasNoMove};
-ghost use Rattle.std.specs.List.{AllByRecursion};
 ghost use Rattle.lfs_tag.specs.ContentSeen.{tail_seen};
 ghost use Rattle.lfs_tag.specs.FieldsSeen.{move_seen};
 ghost use Rattle.lfs_thread.specs.Device.{StopsLeave, two_of};
@@ -22,10 +20,10 @@ ghost use Rattle.lfs_operations.specs.EndingMove.{CanEndMove, CanTakeSlot, HasEn
 ghost use Rattle.lfs_operations.specs.Removing.{TellsOfCalls};
 
 use lfs_device::{BlockDevice, Error};
-use lfs_pair::{Change, is_same_pair};
+use lfs_pair::Change;
 use lfs_tag::kinds::DELETE;
 use lfs_tag::{MoveState, Tail};
-use lfs_thread::{Thread, with_share};
+use lfs_thread::{Thread, number_of, with_share};
 use std::alloc::Global;
 
 // An address of two blocks, which are words of 32 bits.
@@ -200,19 +198,6 @@ pub fn drop_unreached<D: BlockDevice>(
     }
     clear_sync(alloc, thread)?;
     Ok(())
-}
-
-// The number of the pair at an address, of which the two blocks may come in either order.
-pub(crate) fn number_of<D: BlockDevice>(thread: &Thread<D>, at: [u32; 2]) -> Option<usize>
-    ensures there { IfSome result (BeginsAt thread.now.kept.pairs (address_of at)) }
-    ensures nowhere { IfNone result (AllByRecursion (λ p. same_pair p.at (address_of at) ≡ false) thread.now.kept.pairs) }
-{
-    for index in 0..thread.len() {
-        if is_same_pair(thread.address(index), at) {
-            return Some(index);
-        }
-    }
-    None
 }
 
 // The number of the pair whose slot a set move names. None where no move is set.

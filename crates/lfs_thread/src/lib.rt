@@ -3,6 +3,7 @@
 
 mod committing;
 mod dropping;
+mod finding;
 mod joining;
 mod parts;
 mod reading;
@@ -10,6 +11,7 @@ mod shares;
 mod splitting;
 mod thread;
 
+pub use finding::number_of;
 pub use parts::Parts;
 pub use shares::with_share;
 pub use thread::Thread;

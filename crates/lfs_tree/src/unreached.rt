@@ -11,8 +11,8 @@ ghost use Rattle.lfs_tree.specs.Unreached.{AllBegin, AreReachMarks, HasMarked, I
 ghost use Rattle.lfs_lookup.specs.Walk.{BeginsIfBranch};
 
 use lfs_device::{BlockDevice, Error};
-use lfs_lookup::{Item, Structure, entries_under, follows_at, number_of};
-use lfs_thread::Thread;
+use lfs_lookup::{Item, Structure, entries_under, follows_at};
+use lfs_thread::{Thread, number_of};
 use std::alloc::{AllocError, Global};
 
 // So many marks that aren't set.

@@ -1,7 +1,7 @@
 use Rattle.std.proofs.Common.{◌≡◌, ◌≤◌, false, length, take}
 use Rattle.std.specs.List.{AllByRecursion}
 use Rattle.lfs_model.specs.Slots.{address_of, same_pair}
-use Rattle.lfs_operations.proofs.recovering.number_of.Given as goal
+use Rattle.lfs_thread.proofs.finding.number_of.Given as goal
 
 abbrev pub invariant-loop-index : goal.invariant-loop-index
 invariant-loop-index g l = record {

@@ -1,0 +1,24 @@
+// Pairs by their addresses.
+
+ghost use Rattle.std.specs.Prelude.{◌≡◌, IfNone, IfSome, false};
+ghost use Rattle.std.specs.List.{AllByRecursion};
+ghost use Rattle.lfs_model.specs.InDirectory.{BeginsAt};
+ghost use Rattle.lfs_model.specs.Slots.{address_of, same_pair};
+
+use crate::thread::Thread;
+use lfs_device::BlockDevice;
+use lfs_pair::is_same_pair;
+
+/// The number of the pair at an address, of which the two blocks may come in either order. None
+/// where no pair of the thread is at it.
+pub fn number_of<D: BlockDevice>(thread: &Thread<D>, at: [u32; 2]) -> Option<usize>
+    ensures there { IfSome result (BeginsAt thread.now.kept.pairs (address_of at)) }
+    ensures nowhere { IfNone result (AllByRecursion (λ p. same_pair p.at (address_of at) ≡ false) thread.now.kept.pairs) }
+{
+    for index in 0..thread.len() {
+        if is_same_pair(thread.address(index), at) {
+            return Some(index);
+        }
+    }
+    None
+}

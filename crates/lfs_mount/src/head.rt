@@ -15,7 +15,7 @@ ghost use Rattle.lfs_mount.specs.Head.{HasHeaders, IsHead, IsSuperblockOf, descr
 use lfs_device::{BlockDevice, Error, Geometry, read_block};
 use lfs_pair::Pair;
 use lfs_tag::kinds::{DIRECTORY_NAME, FILE_NAME, INLINE_STRUCT, SUPERBLOCK_NAME};
-use lfs_tag::{Content, ContentError, Log, Slot, Superblock, Tag, superblock_of};
+use lfs_tag::{Content, ContentError, Log, Slot, Superblock, Tag, is_hard, superblock_of};
 use std::alloc::Global;
 
 const MAGIC: &[u8] = b"littlefs";
@@ -193,10 +193,7 @@ fn goes_on<D: BlockDevice>(
 fn leads_on(pair: &Pair) -> bool
     ensures { result ≡ leads_on pair.now }
 {
-    match pair.tail {
-        Some(tail) => pair.slot_count == 1 && tail.hard,
-        None => false,
-    }
+    pair.slot_count == 1 && is_hard(pair.tail)
 }
 
 // How many superblock pairs stand in front of the root's first pair, in the thread with these

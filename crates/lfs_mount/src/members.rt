@@ -5,25 +5,15 @@ ghost use Rattle.std.specs.List.{IsDistinct};
 ghost use Rattle.lfs_model.specs.Slots.{address_of};
 ghost use Rattle.lfs_tag.specs.FieldsSeen.{move_seen};
 ghost use Rattle.lfs_mount.specs.ByBlock.{lesser_of};
-ghost use Rattle.lfs_mount.specs.Members.{begins_in, continues, member_in, members_in, moved_at};
+ghost use Rattle.lfs_mount.specs.Members.{begins_in, member_in, members_in, moved_at};
 
 use crate::pass::Member;
 use crate::places::Places;
 use lfs_device::Error;
 use lfs_pair::{Pair, is_same_pair};
-use lfs_tag::MoveState;
 use lfs_tag::kinds::DELETE;
+use lfs_tag::{MoveState, is_hard};
 use std::alloc::Global;
-
-// Whether a pair's tail is a hard one.
-fn continues(pair: &Pair) -> bool
-    ensures { result ≡ continues pair.now }
-{
-    match pair.tail {
-        None => false,
-        Some(tail) => tail.hard,
-    }
-}
 
 // The slot at an address that the global state says is moved away.
 fn moved_at(state: &MoveState, at: [u32; 2]) -> Option<u32>
@@ -41,7 +31,7 @@ fn member_of(state: &MoveState, is_first: bool, pair: &Pair) -> Member
 {
     Member {
         active: pair.active,
-        is_hard: continues(pair),
+        is_hard: is_hard(pair.tail),
         has_superblock: is_first,
         moved: moved_at(state, pair.blocks),
     }
@@ -77,7 +67,7 @@ pub(crate) fn places_of(alloc: Global, pairs: &[Pair]) -> Result<Places, Error>
         if begins {
             places.add(pair.blocks)?;
         }
-        begins = !continues(pair);
+        begins = !is_hard(pair.tail);
     }
     Ok(places)
 }

@@ -13,19 +13,9 @@ ghost use Rattle.lfs_operations.specs.Removing.{TellsOfCalls};
 
 use lfs_device::{BlockDevice, Error};
 use lfs_pair::Change;
-use lfs_tag::{MoveState, Tail};
+use lfs_tag::{MoveState, Tail, is_hard};
 use lfs_thread::{Thread, with_share};
 use std::alloc::Global;
-
-// Whether a tail is a hard one.
-fn leads_on(tail: Option<Tail>) -> bool
-    ensures { result ≡ is_hard (option_map tail_seen tail) }
-{
-    match tail {
-        None => false,
-        Some(tail) => tail.hard,
-    }
-}
 
 // The change by which a pair with the tail `front` takes over the tail `gone`.
 fn tail_over(front: Option<Tail>, gone: Option<Tail>) -> Change<'static>
@@ -37,7 +27,7 @@ fn tail_over(front: Option<Tail>, gone: Option<Tail>) -> Change<'static>
             pair: None,
         },
         Some(tail) => Change::Tail {
-            hard: leads_on(front) && tail.hard,
+            hard: is_hard(front) && tail.hard,
             pair: Some(tail.pair),
         },
     }

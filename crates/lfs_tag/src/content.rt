@@ -6,6 +6,7 @@ ghost use Rattle.lfs_model.specs.Tag.{kind_of, data_size};
 ghost use Rattle.lfs_model.specs.Log.{LogEntry, log_entries};
 ghost use Rattle.lfs_model.specs.EntryTypes.{is_in_table, has_its_id, tail_of};
 ghost use Rattle.lfs_model.specs.Content.{put_attribute, without_attribute, with_attribute, empty_slot, slot_of_id, changed, up_to, typed, slots_after, content_after, content_after_all, no_content};
+ghost use Rattle.lfs_model.specs.Thread.{is_hard};
 ghost use Rattle.lfs_tag.specs.Seen.{seen};
 ghost use Rattle.lfs_tag.specs.FieldsSeen.{move_seen};
 ghost use Rattle.lfs_tag.specs.ContentSeen.{part_seen, attribute_seen, slot_seen, tail_seen, content_seen, first_not_below};
@@ -51,6 +52,16 @@ pub struct Slot<'a> {
 pub struct Tail {
     pub hard: bool,
     pub pair: [u32; 2],
+}
+
+/// Whether a tail goes on with the same directory: there is one, and it is hard.
+pub fn is_hard(tail: Option<Tail>) -> bool
+    ensures { result ≡ is_hard (option_map tail_seen tail) }
+{
+    match tail {
+        None => false,
+        Some(tail) => tail.hard,
+    }
 }
 
 /// What a log's entries come to: the slots by their ids, the last tail and the last move state. A

@@ -22,7 +22,7 @@ mod tag;
 
 pub use builder::CommitBuilder;
 pub use checksum::crc;
-pub use content::{Attribute, Content, ContentError, Part, Slot, Tail};
+pub use content::{Attribute, Content, ContentError, Part, Slot, Tail, is_hard};
 pub use entries::Entries;
 pub use entry::Entry;
 pub use field_bytes::{ctz_bytes, move_bytes, pair_bytes, superblock_bytes};

@@ -29,7 +29,7 @@ use lfs_cache::Cache;
 use lfs_ctz::read_at;
 use lfs_device::{BlockDevice, Error, Geometry};
 use lfs_pair::{Change, Outcome, Pair};
-use lfs_tag::{MoveState, Tail};
+use lfs_tag::{MoveState, Tail, is_hard};
 use std::alloc::Global;
 use std::marker::Model;
 
@@ -191,7 +191,7 @@ impl<D: BlockDevice> Thread<D> {
         ensures next { result ≡ (if is_hard (pair_in self.now.kept index).content.tail then Some (index + 1) else None) }
         ensures below { IfSome result (λ next. next < length self.now.kept.pairs) }
     {
-        if leads_on(&self.pairs[index]) {
+        if is_hard(self.pairs[index].tail) {
             Some(index + 1)
         } else {
             None
@@ -487,16 +487,6 @@ impl<D: BlockDevice> Thread<D> {
         ensures { IsTrue result ↔ IsUsed self.now.kept.map block }
     {
         self.map.is_used(block)
-    }
-}
-
-// Whether a pair's tail is a hard one.
-fn leads_on(pair: &Pair) -> bool
-    ensures { result ≡ is_hard (option_map tail_seen pair.now.tail) }
-{
-    match pair.tail {
-        None => false,
-        Some(tail) => tail.hard,
     }
 }
 

@@ -1,10 +1,10 @@
 // Whether an image keeps within what is written.
 
-ghost use Rattle.std.specs.Prelude.{ℕ, List, ◌≡◌, ◌↔◌, ◌-◌, ◌<◌, ◌^◌, IsTrue, All, IfOk, IfErr, Some, false, length, map, min, true};
+ghost use Rattle.std.specs.Prelude.{List, ◌≡◌, ◌↔◌, ◌<◌, IsTrue, All, IfOk, IfErr, Some, false, length, map, true};
 ghost use Rattle.lfs_model.specs.Content.{complete, complete_all, struct_typed};
 ghost use Rattle.lfs_model.specs.EntryTypes.{superblock_at};
 ghost use Rattle.lfs_model.specs.Disk.{file_limit};
-ghost use Rattle.lfs_model.specs.Slots.{Content as ModelContent, File, Slot as ModelSlot, attributes_size};
+ghost use Rattle.lfs_model.specs.Slots.{Content as ModelContent, File, Slot as ModelSlot};
 ghost use Rattle.lfs_model.specs.Thread.{superblocks_before};
 ghost use Rattle.lfs_model.specs.Profile.{FitsEntry, FitsSlot, IsWritable};
 ghost use Rattle.lfs_model.specs.View.{IsAccepted};
@@ -15,24 +15,11 @@ ghost use Rattle.lfs_lookup.specs.Profile.{IsPairWritable, IsShaped, follows_at}
 ghost use Rattle.lfs_lookup.specs.Reading.{IsReading};
 
 use lfs_device::{BlockDevice, Error, Geometry};
-use lfs_pair::fits;
+use lfs_pair::{attributes_size, fits};
 use lfs_tag::kinds::{DIRECTORY_NAME, FILE_NAME, INLINE_STRUCT};
 use lfs_tag::{Attribute, Content, Log, Part, Slot, superblock_of};
 use lfs_thread::Thread;
 use std::alloc::Global;
-
-// The bytes of attributes with their tags, or the greatest number where there are more.
-fn attributes_size(attributes: &[Attribute<'_>]) -> u64
-    ensures { result ≡ min (attributes_size (map attribute_seen attributes.now)) (2 ^ 64 - 1) }
-{
-    let mut total: u64 = 0;
-    for attribute in attributes {
-        total = total
-            .saturating_add(4)
-            .saturating_add(attribute.bytes.len() as u64);
-    }
-    total
-}
 
 // Whether an entry takes at most half of what a pair may hold, whatever contents it gets, and has
 // them within the limit where they stand in it.

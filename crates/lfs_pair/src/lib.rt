@@ -18,5 +18,5 @@ pub use change::{Change, apply_all};
 pub use committing::{Outcome, commit, commit_in};
 pub use fetching::fetch;
 pub use pair::{Pair, is_same_pair};
-pub use size::fits;
+pub use size::{attributes_size, fits};
 pub use splitting::{split, split_in};

@@ -20,8 +20,8 @@ fn part_size(part: &Option<Part<'_>>) -> u64
     }
 }
 
-// The same of attributes.
-fn attributes_size(attributes: &[Attribute<'_>]) -> u64
+/// The bytes of attributes with their tags, or the greatest number where there are more.
+pub fn attributes_size(attributes: &[Attribute<'_>]) -> u64
     ensures { result ≡ min (attributes_size (map attribute_seen attributes.now)) (2 ^ 64 - 1) }
 {
     let mut total: u64 = 0;

@@ -1,7 +1,0 @@
-use Rattle.std.proofs.Common.{◌≡◌, ◌-◌, ◌^◌, take, map, min}
-use Rattle.lfs_model.specs.Slots.{attributes_size}
-use Rattle.lfs_tag.specs.ContentSeen.{attribute_seen}
-use Rattle.lfs_lookup.proofs.profile.attributes_size.Given as goal
-
-abbrev pub invariant-loop-attribute : goal.invariant-loop-attribute
-invariant-loop-attribute l = l.total ≡ min (attributes_size (map attribute_seen (take l.attribute-index l.attributes))) (2 ^ 64 - 1)

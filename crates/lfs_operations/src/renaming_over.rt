@@ -4,7 +4,6 @@ ghost use Rattle.std.specs.Prelude.{◌≡◌, ◌-◌, ◌∷◌, IfOk, OnOk, f
 ghost use Rattle.lfs_model.specs.Changes.{Delete, PutMove};
 ghost use Rattle.lfs_model.specs.PowerLoss.{Survives};
 ghost use Rattle.lfs_model.specs.Shown.{tree_in};
-ghost use Rattle.lfs_model.proofs.Global.{sync_share};
 ghost use Rattle.lfs_tag.specs.FieldsSeen.{move_seen};
 ghost use Rattle.lfs_pair.specs.ChangeSeen.{changes_seen};
 ghost use Rattle.lfs_thread.specs.Device.{four_of, two_of};
@@ -18,23 +17,12 @@ ghost use Rattle.lfs_operations.specs.RenamingSlots.{slot_changes};
 use crate::dropping::drop_at;
 use crate::renaming::place_without;
 use crate::renaming_copy::{SlotCopy, copy_at, push_slot};
+use crate::unlinking::sync_bit;
 use lfs_device::{BlockDevice, Error};
 use lfs_pair::Change;
 use lfs_tag::MoveState;
 use lfs_thread::{Thread, with_share};
 use std::alloc::{AllocError, Global};
-
-// The share that turns the sync bit.
-fn sync_turned() -> MoveState
-    ensures { move_seen result ≡ sync_share }
-{
-    MoveState {
-        sync: true,
-        kind: 0,
-        id: 0,
-        pair: [0, 0],
-    }
-}
 
 // The share becomes that, the slots at an id and a place go, and the copy of the first comes at the
 // place.
@@ -81,7 +69,7 @@ pub(crate) fn rename_over<D: BlockDevice>(
         (tree_in thread.old.kept.disk thread.old.kept.pairs) (with_renamed thread.old.kept rename.can.path rename.can.name name.now) }
 {
     let copy = copy_at(alloc, thread, pair, id)?;
-    let state = with_share(&thread.share(pair), &sync_turned());
+    let state = with_share(&thread.share(pair), &sync_bit());
     let changes = changes_over(alloc, state, id, place, name, &copy)?;
     // Two slots make way for one with the name of the one and the rest of the other, so it fits.
     thread.change(alloc, pair, &changes)?;

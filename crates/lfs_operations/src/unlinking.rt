@@ -20,7 +20,7 @@ use lfs_thread::{Thread, with_share};
 use std::alloc::Global;
 
 // The share that turns the sync bit.
-fn sync_bit() -> MoveState
+pub(crate) fn sync_bit() -> MoveState
     ensures { move_seen result ≡ sync_share }
 {
     MoveState {

@@ -43,7 +43,7 @@ returns-in_err-changes-clause-survives g c rename =
 
 pub change-requires-clause-can : goal.change-requires-clause-can
 change-requires-clause-can g c =
-    let state = c.with_share-state.ensures ∙ ap₂ gstate_xor c.share.ensures c.sync_turned.ensures ∙ ap (λ (k : Kept). gstate_xor (pair_in k c.args.pair).content.move sync_share) (read_is c.args.thread.now.kept c.copy_at.new.thread.kept c.copy_at.ensures.only) in
+    let state = c.with_share-state.ensures ∙ ap₂ gstate_xor c.share.ensures c.sync_bit.ensures ∙ ap (λ (k : Kept). gstate_xor (pair_in k c.args.pair).content.move sync_share) (read_is c.args.thread.now.kept c.copy_at.new.thread.kept c.copy_at.ensures.only) in
     let are = ap changes_seen c.deref.ensures.value ∙ c.in_ok-changes.ensures
     ∙ ap₂ (λ m z. PutMove m ∷ Delete c.args.id ∷ Delete (place_without c.args.id c.args.place) ∷ slot_changes (place_without c.args.id c.args.place) c.args.name.now z) state c.in_ok-copy.ensures.copied in
     subst (CanChange c.copy_at.new.thread.kept c.args.pair) (sym are) (can_change_after_read c.args.thread.now.kept c.copy_at.new.thread.kept c.args.pair (rename_over_changes c.args.thread.now.kept c.args.pair c.args.id c.args.place c.args.name.now) c.copy_at.ensures.only (can_over c.args.thread.now.kept c.args.pair c.args.id c.args.place c.args.name.now c.requires.can))
@@ -61,7 +61,7 @@ returns-in_err-change-clause-device g c =
 
 pub returns-in_err-change-clause-survives : goal.returns-in_err-change-clause-survives
 returns-in_err-change-clause-survives g c rename =
-    let state = c.with_share-state.ensures ∙ ap₂ gstate_xor c.share.ensures c.sync_turned.ensures ∙ ap (λ (k : Kept). gstate_xor (pair_in k c.args.pair).content.move sync_share) (read_is c.args.thread.now.kept c.copy_at.new.thread.kept c.copy_at.ensures.only) in
+    let state = c.with_share-state.ensures ∙ ap₂ gstate_xor c.share.ensures c.sync_bit.ensures ∙ ap (λ (k : Kept). gstate_xor (pair_in k c.args.pair).content.move sync_share) (read_is c.args.thread.now.kept c.copy_at.new.thread.kept c.copy_at.ensures.only) in
     let are = ap changes_seen c.deref.ensures.value ∙ c.in_ok-changes.ensures
     ∙ ap₂ (λ m z. PutMove m ∷ Delete c.args.id ∷ Delete (place_without c.args.id c.args.place) ∷ slot_changes (place_without c.args.id c.args.place) c.args.name.now z) state c.in_ok-copy.ensures.copied in
     over_survives c.args.thread.now.kept c.args.pair c.args.id c.args.place c.args.name.now rename c.change.new.self.kept.history
@@ -74,13 +74,13 @@ returns-clause-renamed g c rename = by c.in_ok-change.field-0 c.in_ok-change.was
   where
     by : (o : Outcome) → c.change.result ≡ Ok o → IsRenamedOver c.args.thread.now.kept c.change.new.self.kept c.args.pair c.args.id c.args.place rename.can.path rename.can.name c.args.name.now
     by outcome.Done is =
-        let state = c.with_share-state.ensures ∙ ap₂ gstate_xor c.share.ensures c.sync_turned.ensures ∙ ap (λ (k : Kept). gstate_xor (pair_in k c.args.pair).content.move sync_share) (read_is c.args.thread.now.kept c.copy_at.new.thread.kept c.copy_at.ensures.only) in
+        let state = c.with_share-state.ensures ∙ ap₂ gstate_xor c.share.ensures c.sync_bit.ensures ∙ ap (λ (k : Kept). gstate_xor (pair_in k c.args.pair).content.move sync_share) (read_is c.args.thread.now.kept c.copy_at.new.thread.kept c.copy_at.ensures.only) in
         let are = ap changes_seen c.deref.ensures.value ∙ c.in_ok-changes.ensures
         ∙ ap₂ (λ m z. PutMove m ∷ Delete c.args.id ∷ Delete (place_without c.args.id c.args.place) ∷ slot_changes (place_without c.args.id c.args.place) c.args.name.now z) state c.in_ok-copy.ensures.copied in
         renamed_over c.args.thread.now.kept c.args.pair c.args.id c.args.place c.args.name.now rename c.change.new.self.kept (changed_after_read c.args.thread.now.kept c.copy_at.new.thread.kept c.change.new.self.kept c.args.pair (rename_over_changes c.args.thread.now.kept c.args.pair c.args.id c.args.place c.args.name.now) c.copy_at.ensures.only
         (subst (λ z. IsChanged c.copy_at.new.thread.kept c.args.pair z c.change.new.self.kept) are (c.change.ensures.done is)))
     by outcome.Full is =
-        let state = c.with_share-state.ensures ∙ ap₂ gstate_xor c.share.ensures c.sync_turned.ensures ∙ ap (λ (k : Kept). gstate_xor (pair_in k c.args.pair).content.move sync_share) (read_is c.args.thread.now.kept c.copy_at.new.thread.kept c.copy_at.ensures.only) in
+        let state = c.with_share-state.ensures ∙ ap₂ gstate_xor c.share.ensures c.sync_bit.ensures ∙ ap (λ (k : Kept). gstate_xor (pair_in k c.args.pair).content.move sync_share) (read_is c.args.thread.now.kept c.copy_at.new.thread.kept c.copy_at.ensures.only) in
         let are = ap changes_seen c.deref.ensures.value ∙ c.in_ok-changes.ensures
         ∙ ap₂ (λ m z. PutMove m ∷ Delete c.args.id ∷ Delete (place_without c.args.id c.args.place) ∷ slot_changes (place_without c.args.id c.args.place) c.args.name.now z) state c.in_ok-copy.ensures.copied in
         absurd (over_not_refused c.args.thread.now.kept c.args.pair c.args.id c.args.place c.args.name.now rename c.change.new.self.kept (refused_after_read c.args.thread.now.kept c.copy_at.new.thread.kept c.change.new.self.kept c.args.pair (rename_over_changes c.args.thread.now.kept c.args.pair c.args.id c.args.place c.args.name.now) c.copy_at.ensures.only
@@ -97,7 +97,7 @@ returns-clause-device g c =
 
 pub returns-clause-survives : goal.returns-clause-survives
 returns-clause-survives g c rename =
-    let state = c.with_share-state.ensures ∙ ap₂ gstate_xor c.share.ensures c.sync_turned.ensures ∙ ap (λ (k : Kept). gstate_xor (pair_in k c.args.pair).content.move sync_share) (read_is c.args.thread.now.kept c.copy_at.new.thread.kept c.copy_at.ensures.only) in
+    let state = c.with_share-state.ensures ∙ ap₂ gstate_xor c.share.ensures c.sync_bit.ensures ∙ ap (λ (k : Kept). gstate_xor (pair_in k c.args.pair).content.move sync_share) (read_is c.args.thread.now.kept c.copy_at.new.thread.kept c.copy_at.ensures.only) in
     let are = ap changes_seen c.deref.ensures.value ∙ c.in_ok-changes.ensures
     ∙ ap₂ (λ m z. PutMove m ∷ Delete c.args.id ∷ Delete (place_without c.args.id c.args.place) ∷ slot_changes (place_without c.args.id c.args.place) c.args.name.now z) state c.in_ok-copy.ensures.copied in
     over_survives c.args.thread.now.kept c.args.pair c.args.id c.args.place c.args.name.now rename c.change.new.self.kept.history

@@ -4,18 +4,16 @@ ghost use Rattle.std.specs.Prelude.{ℕ, List, ◌≡◌, ◌↔◌, ◌⊎◌, 
 ghost use Rattle.std.specs.Option.{option_map};
 ghost use Rattle.lfs_device.specs.Calls.{ReadsOnly, TellsFaults};
 ghost use Rattle.lfs_model.specs.Blocks.{block_in};
-ghost use Rattle.lfs_model.specs.Content.{content_after_all, no_content};
 ghost use Rattle.lfs_model.specs.History.{reads};
-ghost use Rattle.lfs_model.specs.Log.{log_entries};
 ghost use Rattle.lfs_model.specs.View.{BeginsWith, IsAccepted, superblock_entry};
-ghost use Rattle.lfs_tag.specs.ContentSeen.{content_seen, part_seen, slot_seen};
+ghost use Rattle.lfs_tag.specs.ContentSeen.{part_seen, slot_seen};
 ghost use Rattle.lfs_thread.specs.Kept.{disk_on, pairs_on};
 ghost use Rattle.lfs_mount.specs.Head.{HasHeaders, IsHead, IsSuperblockOf, describes, goes_on, inline_in, is_called, leads_on, names_superblock, repeats_in, repeats_of, superblock_in, superblock_of};
 
 use lfs_device::{BlockDevice, Error, Geometry, read_block};
 use lfs_pair::Pair;
 use lfs_tag::kinds::{DIRECTORY_NAME, FILE_NAME, INLINE_STRUCT, SUPERBLOCK_NAME};
-use lfs_tag::{Content, ContentError, Log, Slot, Superblock, Tag, is_hard, superblock_of};
+use lfs_tag::{Content, Log, Slot, Superblock, Tag, is_hard, superblock_of};
 use std::alloc::Global;
 
 const MAGIC: &[u8] = b"littlefs";
@@ -119,22 +117,10 @@ fn read_superblock(alloc: Global, geometry: &Geometry, block: &[u8]) -> Result<V
     if !begins_with_superblock(&log) {
         return Err(Error::Corrupt);
     }
-    let content = content_of(alloc, &log)?;
+    let content = Content::read(alloc, &log)?;
     match superblock_in(geometry, &content.slots) {
         Some(bytes) => Ok(Vec::from_slice(alloc, bytes)?),
         None => Err(Error::Corrupt),
-    }
-}
-
-fn content_of<'a>(alloc: Global, log: &Log<'a>) -> Result<Content<'a>, Error>
-    ensures content { IfOk result (λ c. content_after_all no_content (log_entries log.now) ≡ Some (content_seen c)) }
-    ensures corrupt { IsErrOf result Error.Corrupt → content_after_all no_content (log_entries log.now) ≡ None }
-    ensures errors { IfErr result (λ e. (e ≡ Error.Corrupt) ⊎ (e ≡ Error.NoMemory)) }
-{
-    match Content::read(alloc, log) {
-        Ok(content) => Ok(content),
-        Err(ContentError::Malformed) => Err(Error::Corrupt),
-        Err(ContentError::NoMemory) => Err(Error::NoMemory),
     }
 }
 
@@ -146,7 +132,7 @@ fn repeats(alloc: Global, block: &[u8], bytes: &[u8]) -> Result<bool, Error>
     ensures errors { IfErr result (λ e. (e ≡ Error.Corrupt) ⊎ (e ≡ Error.NoMemory)) }
 {
     let log = Log::read(block);
-    let content = content_of(alloc, &log)?;
+    let content = Content::read(alloc, &log)?;
     repeats_in(&content.slots, bytes)
 }
 

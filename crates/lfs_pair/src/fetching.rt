@@ -12,7 +12,7 @@ ghost use Rattle.lfs_pair.specs.Pair.{Describes, Fetches};
 use crate::pair::Pair;
 use crate::reading::Head;
 use lfs_device::{BlockDevice, Error, read_block};
-use lfs_tag::{ContentError, Log, Summary, is_later};
+use lfs_tag::{Log, Summary, is_later};
 use std::alloc::Global;
 
 // The pair whose active block has these bytes and that head.
@@ -34,22 +34,19 @@ fn described(
     ensures errors { IfErr result (λ e. (e ≡ Error.Corrupt) ⊎ (e ≡ Error.NoMemory)) }
 {
     let log = Log::known(bytes, head.end, head.last);
-    match Summary::read(alloc, &log) {
-        Ok(summary) => Ok(Pair {
-            blocks,
-            active,
-            end: head.end,
-            last: head.last,
-            revision: head.revision,
-            slot_count: summary.slot_count,
-            tail: summary.tail,
-            move_state: summary.move_state,
-            is_complete: summary.is_complete,
-            is_fetched: true,
-        }),
-        Err(ContentError::Malformed) => Err(Error::Corrupt),
-        Err(ContentError::NoMemory) => Err(Error::NoMemory),
-    }
+    let summary = Summary::read(alloc, &log)?;
+    Ok(Pair {
+        blocks,
+        active,
+        end: head.end,
+        last: head.last,
+        revision: head.revision,
+        slot_count: summary.slot_count,
+        tail: summary.tail,
+        move_state: summary.move_state,
+        is_complete: summary.is_complete,
+        is_fetched: true,
+    })
 }
 
 /// Reads a pair: which of its blocks holds, where that block's log ends, and what it comes to but

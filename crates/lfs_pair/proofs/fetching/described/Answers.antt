@@ -4,10 +4,10 @@ use Rattle.lfs_model.specs.Log.{log_entries}
 use Rattle.lfs_model.specs.Content.{content_after_all, no_content}
 use Rattle.lfs_pair.proofs.fetching.described.Goals as goal
 
-pub returns-in-Ok-clause-describes : goal.returns-in-Ok-clause-describes
-returns-in-Ok-clause-describes c =
-    let held = c.in-Ok.ensures.summary.0 in
-    let sums = c.in-Ok.ensures.summary.1 in
+pub returns-clause-describes : goal.returns-clause-describes
+returns-clause-describes c =
+    let held = c.in_ok-summary.ensures.summary.0 in
+    let sums = c.in_ok-summary.ensures.summary.1 in
     let content = ap (λ z. content_after_all no_content (log_entries z)) (sym c.known-log.ensures) ∙ sums.content in (
       held,
       record {

@@ -3,12 +3,12 @@ use Rattle.std.specs.Prelude.{[], ◌∷◌}
 use Rattle.lfs_model.specs.Operations.{Operation}
 use Rattle.lfs_model.specs.Run.{Moment, AreTurns}
 use Rattle.lfs_fs.specs.Held.{IsEndedBy}
-use Rattle.lfs_fs.specs.OpSeen.{reply_seen}
+use Rattle.lfs_fs.specs.OpSeen.{IsNamed, reply_seen}
 use Rattle.lfs_script_lines.specs.declared.answer.Answer.{Answer}
 use Rattle.lfs_script_lines.specs.declared.answer.Answer.TheVariants.{Reply, Error}
 
--- It is a turn of the definitions with that reply, or the session has failed in it by that error.
+-- It is a turn of the definitions with that reply, which names the refusal that it is; or the session has failed in it by that error.
 abbrev pub IsAnswered : Moment → Operation → Answer → Moment → Type 0
-IsAnswered from op (Reply r) to = AreTurns from (op ∷ []) (reply_seen r ∷ []) to
+IsAnswered from op (Reply r) to = AreTurns from (op ∷ []) (reply_seen r ∷ []) to × IsNamed r
 IsAnswered from op (Error e) to = IsEndedBy e from (op ∷ []) to
 IsAnswered from op _ to = ⊥

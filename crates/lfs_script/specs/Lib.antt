@@ -1,1 +1,4 @@
 pub mod Answered
+pub mod InHand
+pub mod OperationSeen
+pub mod Performed

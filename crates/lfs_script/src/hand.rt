@@ -1,5 +1,9 @@
 // The device in hand, and the session over it.
 
+ghost use Rattle.std.specs.Prelude.{◌≡◌, ◌↔◌, [], IfSome, None};
+ghost use Rattle.lfs_device.specs.FaultDevice.{fault_of, history_of, inner_of};
+ghost use Rattle.lfs_script.specs.InHand.{IsLeftBy, counted};
+
 use crate::counted::Counted;
 use lfs_device::{Extent, Fault, FaultDevice, RamDevice, Which};
 use lfs_fs::Session;
@@ -17,7 +21,11 @@ pub const NO_FAULT: Fault = Fault {
 };
 
 /// The device with its calls counted from now on, of which one may be told to fail.
-pub fn told(device: RamDevice, fault: Fault) -> Device {
+pub fn told(device: RamDevice, fault: Fault) -> Device
+    ensures fault { fault_of result.inner ≡ fault }
+    ensures device { inner_of result.inner ≡ device }
+    ensures no_call { history_of result.inner ≡ [] }
+{
     let device = FaultDevice::new(device, fault.which, fault.nth, fault.stops);
     let device = match fault.extent {
         Extent::Nothing => device,
@@ -36,8 +44,12 @@ pub enum Hand {
 }
 
 impl Hand {
-    /// The device in hand.
-    pub fn device(&self) -> Option<&Device> {
+    /// The device in hand. A session's is as the last call left it.
+    pub fn device(&self) -> Option<&Device>
+        ensures none { (result ≡ None) ↔ (self.now ≡ Hand.Nothing) }
+        ensures device { IfSome result (λ found. (d : _) → self.now ≡ Hand.Device d → found.now ≡ d) }
+        ensures session { IfSome result (λ found. (s : _) → self.now ≡ Hand.Session s → IsLeftBy s (inner_of found.now.inner) (history_of found.now.inner)) }
+    {
         match self {
             Hand::Nothing => None,
             Hand::Device(device) => Some(device),
@@ -45,8 +57,12 @@ impl Hand {
         }
     }
 
-    /// The device in hand, whose session has ended.
-    pub fn into_device(self) -> Option<Device> {
+    /// The device in hand, whose session has ended. Nothing is written.
+    pub fn into_device(self) -> Option<Device>
+        ensures none { (result ≡ None) ↔ (self ≡ Hand.Nothing) }
+        ensures device { IfSome result (λ found. (d : _) → self ≡ Hand.Device d → found ≡ d) }
+        ensures session { IfSome result (λ found. (s : _) → self ≡ Hand.Session s → IsLeftBy s (inner_of found.inner) (history_of found.inner)) }
+    {
         match self {
             Hand::Nothing => None,
             Hand::Device(device) => Some(device),
@@ -55,8 +71,10 @@ impl Hand {
     }
 }
 
-/// How many calls a device had.
-pub fn calls_of(device: &Device) -> Calls {
+/// How many calls a device had. Each count saturates.
+pub fn calls_of(device: &Device) -> Calls
+    ensures { result ≡ counted (history_of device.now.inner) }
+{
     Calls {
         reads: device.inner().calls(Which::Read),
         programs: device.inner().calls(Which::Program),

@@ -1,21 +1,45 @@
 // Devices in memory, and files with their bytes.
 
+ghost use Rattle.std.specs.Prelude.{◌≡◌, ◌⊎◌, ◌*◌, [], IfErr, IfOk, OnOk, replicate};
+ghost use Rattle.lfs_model.specs.Disk.{IsImage};
+ghost use Rattle.lfs_model.specs.Geometry.{IsGeometry};
+ghost use Rattle.lfs_device.specs.RamDevice.{bytes_of, geometry_of, history_of};
+
 use lfs_device::{Error, Geometry, RamDevice};
 use std::alloc::Global;
 use std::rt::Files;
 use std::{fs, io, str};
 
+/// A device that holds 0xff in every byte.
+///
+/// # Errors
+/// - `Invalid` where there are no devices of such blocks.
+/// - `NoMemory` where its bytes aren't granted.
 pub fn blank(
     alloc: Global,
     block_size: u32,
     page: u32,
     block_count: u32,
-) -> Result<RamDevice, Error> {
+) -> Result<RamDevice, Error>
+    ensures geometry { IfOk result (λ d. ((geometry_of d).block_size ≡ block_size) × ((geometry_of d).page ≡ page) × ((geometry_of d).block_count ≡ block_count)) }
+    ensures bytes { IfOk result (λ d. bytes_of d ≡ replicate (block_size * block_count) 255) }
+    ensures no_call { IfOk result (λ d. history_of d ≡ []) }
+    ensures errors { IfErr result (λ e. (e ≡ Error.NoMemory) ⊎ ((e ≡ Error.Invalid) × (¬ IsGeometry block_size page block_count))) }
+{
     RamDevice::blank(alloc, Geometry::new(block_size, page, block_count)?)
 }
 
-/// A device that holds these bytes. `Invalid` where they aren't the blocks of a device.
-pub fn device_of(bytes: Vec<u8>, block_size: u32, page: u32) -> Result<RamDevice, Error> {
+/// A device that holds these bytes. It takes no memory.
+///
+/// # Errors
+/// - `Invalid` exactly where they aren't the blocks of a device.
+pub fn device_of(bytes: Vec<u8>, block_size: u32, page: u32) -> Result<RamDevice, Error>
+    ensures image { OnOk result (IsImage block_size page bytes.items) }
+    ensures geometry { IfOk result (λ d. ((geometry_of d).block_size ≡ block_size) × ((geometry_of d).page ≡ page)) }
+    ensures bytes { IfOk result (λ d. bytes_of d ≡ bytes.items) }
+    ensures no_call { IfOk result (λ d. history_of d ≡ []) }
+    ensures err { IfErr result (λ e. (e ≡ Error.Invalid) × (¬ IsImage block_size page bytes.items)) }
+{
     if block_size == 0 {
         return Err(Error::Invalid);
     }

@@ -1,8 +1,10 @@
 // What a session answers to a script's operations.
 
+ghost use Rattle.std.specs.Prelude.{◌≡◌};
 ghost use Rattle.lfs_fs.specs.Held.{moment_of};
 ghost use Rattle.lfs_fs.specs.OpSeen.{op_seen};
 ghost use Rattle.lfs_script.specs.Answered.{IsAnswered};
+ghost use Rattle.lfs_script.specs.OperationSeen.{operation_seen};
 
 use lfs_device::BlockDevice;
 use lfs_fs::{Op, Session};
@@ -10,7 +12,9 @@ use lfs_script_lines::{Answer, Operation};
 use std::alloc::Global;
 
 // The session's own operation.
-fn op_of(operation: &Operation) -> Op<'_> {
+fn op_of(operation: &Operation) -> Op<'_>
+    ensures { op_seen result ≡ operation_seen operation.now }
+{
     match operation {
         Operation::Open(path, flags) => Op::Open(path, *flags),
         Operation::Read(fd, count) => Op::Read(*fd, *count),
@@ -49,10 +53,14 @@ fn perform_op<D: BlockDevice>(alloc: Global, session: &mut Session<D>, op: Op<'_
 }
 
 /// Carries out an operation.
+///
+/// The answer is the session's reply, a refusal among them, or the error by which the session failed.
 pub fn perform<D: BlockDevice>(
     alloc: Global,
     session: &mut Session<D>,
     operation: &Operation,
-) -> Answer {
+) -> Answer
+    ensures { IsAnswered (moment_of session.old) (operation_seen operation.now) result (moment_of session.new) }
+{
     perform_op(alloc, session, op_of(operation))
 }

@@ -1,5 +1,9 @@
 // What a script's commands do to the device in hand.
 
+ghost use Rattle.std.specs.Prelude.{◌≡◌, IfErr, IfOk};
+ghost use Rattle.lfs_script.specs.InHand.{IsUnmounted, calls_answer, calls_in};
+ghost use Rattle.lfs_script.specs.Performed.{IsPerformed};
+
 use crate::hand::{Device, Hand, NO_FAULT, calls_of, told};
 use crate::images::{blank, device_of, read_file, write_file};
 use crate::performing::perform;
@@ -26,7 +30,10 @@ impl<'a, R: Files + AllocGlobal> Script<'a, R> {
     }
 
     // Takes a session in hand, or the device that came back.
-    fn begin(&mut self, begun: Result<Session<Device>, (Device, Error)>) -> Answer {
+    fn begin(&mut self, begun: Result<Session<Device>, (Device, Error)>) -> Answer
+        ensures session { IfOk begun (λ s. (result ≡ Answer.Reply Reply.Done) × (self.new.hand ≡ Hand.Session s)) }
+        ensures device { IfErr begun (λ back. (result ≡ Answer.Error back.1) × (self.new.hand ≡ Hand.Device back.0)) }
+    {
         match begun {
             Ok(session) => {
                 self.hand = Hand::Session(session);
@@ -62,7 +69,9 @@ impl<'a, R: Files + AllocGlobal> Script<'a, R> {
         }
     }
 
-    fn unmount(&mut self) -> Answer {
+    fn unmount(&mut self) -> Answer
+        ensures { IsUnmounted self.old.hand result self.new.hand }
+    {
         match mem::replace(&mut self.hand, Hand::Nothing) {
             Hand::Session(session) => {
                 self.hand = Hand::Device(session.unmount());
@@ -98,14 +107,18 @@ impl<'a, R: Files + AllocGlobal> Script<'a, R> {
         }
     }
 
-    fn calls(&self) -> Answer {
+    fn calls(&self) -> Answer
+        ensures { result ≡ calls_answer (calls_in self.now.hand) }
+    {
         match self.hand.device() {
             Some(device) => Answer::Calls(calls_of(device)),
             None => Answer::Nothing,
         }
     }
 
-    fn operate(&mut self, operation: &Operation) -> Answer {
+    fn operate(&mut self, operation: &Operation) -> Answer
+        ensures { IsPerformed self.old.hand operation.now result self.new.hand }
+    {
         match &mut self.hand {
             Hand::Session(session) => perform(self.rt.alloc(), session, operation),
             _ => Answer::Nothing,
@@ -113,7 +126,14 @@ impl<'a, R: Files + AllocGlobal> Script<'a, R> {
     }
 
     /// Carries out a command.
-    pub fn carry_out(&mut self, command: &Command) -> Answer {
+    ///
+    /// An operation is the session's; it is answered `Nothing` without one. `Calls` and `Save` leave what is in hand.
+    pub fn carry_out(&mut self, command: &Command) -> Answer
+        ensures performed { (op : _) → command.now ≡ Command.Perform op → IsPerformed self.old.hand op result self.new.hand }
+        ensures unmounted { command.now ≡ Command.Unmount → IsUnmounted self.old.hand result self.new.hand }
+        ensures calls { command.now ≡ Command.Calls → (result ≡ calls_answer (calls_in self.old.hand)) × (self.new.hand ≡ self.old.hand) }
+        ensures saved { (file : _) → command.now ≡ Command.Save file → self.new.hand ≡ self.old.hand }
+    {
         match command {
             Command::Fresh {
                 block_size,

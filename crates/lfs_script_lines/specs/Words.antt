@@ -1,6 +1,7 @@
 -- Words for bytes.
-use Rattle.std.specs.Prelude.{ℕ, ◌+◌, ◌*◌, ◌-◌, ◌/◌, ◌%◌, ◌<◌, ◌==◌, Bool, true, not, ◌&&◌, nat_le, if◌then◌else◌, List, [], ◌∷◌, Option, Some, None, option_map, All}
-use Rattle.std.specs.List.{flat_map}
+use Rattle.std.specs.Prelude.{ℕ, ◌+◌, ◌*◌, ◌-◌, ◌/◌, ◌%◌, ◌^◌, ◌<◌, ◌==◌, Bool, true, not, ◌&&◌, nat_le, if◌then◌else◌, List, [], ◌∷◌, ◌++◌, Option, Some, None, option_map, All}
+use Rattle.std.specs.Fmt.{decimal}
+use Rattle.std.specs.List.{AllByRecursion, flat_map}
 use Rattle.std.specs.Str.{bytes_eq}
 use Rattle.lfs_model.specs.Listing.{hex_digit}
 use Rattle.lfs_script_lines.specs.declared.words.Part.{Part}
@@ -66,6 +67,23 @@ text_bytes word = spelled Text word
 -- the bytes that a word without a repetition stands for
 abbrev pub word_bytes : List ℕ → Option (List ℕ)
 word_bytes word = if bytes_eq word (0x5c ∷ 0x65 ∷ []) then Some [] else text_bytes word
+
+-- ---- repeated
+
+-- counts before a word, each behind a star and with a colon after it
+abbrev pub starred : List ℕ → List ℕ → List ℕ
+starred [] word = word
+starred (n ∷ counts) word = (0x2a ∷ decimal n) ++ 0x3a ∷ starred counts word
+
+abbrev pub AreCounts : List ℕ → Type 0
+AreCounts counts = AllByRecursion (λ n. n < 2 ^ 32) counts
+
+-- how many times the word is meant
+abbrev pub times_in : List ℕ → ℕ
+times_in [] = 1
+times_in (n ∷ counts) = n * times_in counts
+
+-- ---- lines
 
 -- a line without a command: it is empty, or a comment
 abbrev pub is_silent : List ℕ → Bool

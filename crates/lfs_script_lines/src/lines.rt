@@ -1,6 +1,6 @@
 // Lines that are commands.
 
-ghost use Rattle.std.specs.Prelude.{◌≡◌, IfOk, is_none};
+ghost use Rattle.std.specs.Prelude.{◌≡◌, IfOk, is_none, true};
 ghost use Rattle.lfs_script_lines.specs.Words.{is_silent};
 
 use crate::command::{Command, Operation};
@@ -21,12 +21,22 @@ pub enum LineError {
 }
 
 impl From<AllocError> for LineError {
+    ghost use Rattle.std.specs.Prelude.{◌≡◌};
+    ghost use Rattle.lfs_script_lines.specs.declared.lines.LineError.TheVariants.{NoMemory};
+
+    ghost from_gives = { λ _ e. e ≡ NoMemory };
+
     fn from(_: AllocError) -> LineError {
         LineError::NoMemory
     }
 }
 
 impl<T: Drop> From<AllocFailed<T>> for LineError {
+    ghost use Rattle.std.specs.Prelude.{◌≡◌};
+    ghost use Rattle.lfs_script_lines.specs.declared.lines.LineError.TheVariants.{NoMemory};
+
+    ghost from_gives = { λ _ e. e ≡ NoMemory };
+
     fn from(_: AllocFailed<T>) -> LineError {
         LineError::NoMemory
     }
@@ -204,7 +214,8 @@ fn words_of<'a>(alloc: Global, line: &'a [u8]) -> Result<Vec<&'a [u8]>, LineErro
 /// - `Words` where the line is no command of a script.
 /// - `NoMemory` where its words or their bytes find no memory.
 pub fn read_line(alloc: Global, line: &[u8]) -> Result<Option<Command>, LineError>
-    ensures { IfOk result (λ found. is_none found ≡ is_silent line.now) }
+    ensures found { IfOk result (λ found. is_none found ≡ is_silent line.now) }
+    ensures silent { is_silent line.now ≡ true → result ≡ Ok None }
 {
     if line.is_empty() || line[0] == b'#' {
         return Ok(None);

@@ -1,7 +1,9 @@
 // Words that are bytes.
 
-ghost use Rattle.std.specs.Prelude.{◌≡◌, ◌≢◌, ◌<◌, ℕ, List, IfOk, IfSome, IsSomeAnd, Some, option_map, slice_index};
-ghost use Rattle.lfs_script_lines.specs.Words.{AreBytes, advance, hex_value, is_plain, text_bytes, word_bytes, written};
+ghost use Rattle.std.specs.Prelude.{◌≡◌, ◌==◌, ◌≢◌, ◌<◌, ◌^◌, ◌-◌, ◌++◌, ◌∷◌, ℕ, List, IfOk, IfSome, IsSomeAnd, Some, length, min, option_map, slice_index};
+ghost use Rattle.std.specs.Fmt.{decimal};
+ghost use Rattle.std.specs.List.{position, repeat};
+ghost use Rattle.lfs_script_lines.specs.Words.{AreBytes, AreCounts, advance, hex_value, is_plain, starred, text_bytes, times_in, word_bytes, written};
 
 use crate::numbers::read_decimal;
 use std::alloc::{AllocError, Global};
@@ -92,35 +94,45 @@ fn read_plain(alloc: Global, word: &[u8]) -> Result<Option<Vec<u8>>, AllocError>
     }
 }
 
-// How many times the rest of a word is to be taken, and that rest.
+// Where the first colon stands.
+fn colon(text: &[u8]) -> Option<usize>
+    ensures { result ≡ position (λ b. b == 0x3a) text.now }
+{
+    text.iter().position(|byte| *byte == b':')
+}
+
+// The count behind a star, and what stands behind its colon.
+fn star(behind: &[u8]) -> Option<(u32, &[u8])>
+    ensures shorter { IfSome result (λ r. length r.1.now < length behind.now) }
+    ensures counted { (n : ℕ) (rest : List ℕ) → n < 2 ^ 32 → behind.now ≡ decimal n ++ 0x3a ∷ rest → IsSomeAnd result (λ r. (r.0 ≡ n) × (r.1.now ≡ rest)) }
+{
+    let end = colon(behind)?;
+    let times = read_decimal(&behind[..end])?;
+    Some((times, &behind[end + 1..]))
+}
+
+// How many times the rest of a word is to be taken, and that rest. The count saturates.
 fn repetition(word: &[u8]) -> Option<(u64, &[u8])>
-    ensures { slice_index word.now 0 ≢ 0x2a → IsSomeAnd result (λ r. (r.0 ≡ 1) × (r.1.now ≡ word.now)) }
+    ensures plain { slice_index word.now 0 ≢ 0x2a → IsSomeAnd result (λ r. (r.0 ≡ 1) × (r.1.now ≡ word.now)) }
+    ensures starred { (counts : List ℕ) (rest : List ℕ) → AreCounts counts → slice_index rest 0 ≢ 0x2a → word.now ≡ starred counts rest
+        → IsSomeAnd result (λ r. (r.0 ≡ min (times_in counts) (2 ^ 64 - 1)) × (r.1.now ≡ rest)) }
 {
     let mut count = 1u64;
     let mut rest = word;
-    while let Some((b'*', behind)) = rest.split_first() {
-        let end = behind.iter().position(|byte| *byte == b':')?;
-        let times = read_decimal(&behind[..end])?;
+    while let Some(behind) = rest.strip_prefix(b"*".as_slice()) {
+        let (times, further) = star(behind)?;
         count = count.saturating_mul(u64::from(times));
-        rest = &behind[end + 1..];
+        rest = further;
     }
     Some((count, rest))
 }
 
 // The bytes so many times.
-fn repeated(alloc: Global, bytes: &[u8], count: u64) -> Result<Vec<u8>, AllocError> {
-    let mut all = Vec::new(alloc);
-    if bytes.is_empty() {
-        return Ok(all);
-    }
-    let Some(len) = count.checked_mul(bytes.len() as u64) else {
-        return Err(AllocError);
-    };
-    all.reserve(len as usize)?;
-    for _ in 0..count {
-        all.extend_from_slice(bytes)?;
-    }
-    Ok(all)
+fn repeated(alloc: Global, bytes: &[u8], count: u64) -> Result<Vec<u8>, AllocError>
+    ensures bytes { IfOk result (λ v. v.items ≡ repeat count bytes.now) }
+    ensures room { IfOk result (λ v. length v.items < 2 ^ 63) }
+{
+    bytes.repeat(alloc, count as usize)
 }
 
 /// The bytes that a word stands for. None where it stands for none.
@@ -129,6 +141,9 @@ fn repeated(alloc: Global, bytes: &[u8], count: u64) -> Result<Vec<u8>, AllocErr
 /// `\e` is no byte at all, and `*COUNT:WORD` the word's bytes so many times.
 pub fn read_word(alloc: Global, word: &[u8]) -> Result<Option<Vec<u8>>, AllocError>
     ensures plain { slice_index word.now 0 ≢ 0x2a → IfOk result (λ found. option_map (λ v. v.items) found ≡ word_bytes word.now) }
+    // Counts before it are multiplied.
+    ensures starred { (counts : List ℕ) (rest : List ℕ) → AreCounts counts → slice_index rest 0 ≢ 0x2a → word.now ≡ starred counts rest
+        → IfOk result (λ found. option_map (λ v. v.items) found ≡ option_map (λ bytes. repeat (times_in counts) bytes) (word_bytes rest)) }
     // The word that bytes are written as is read as these.
     ensures again { (bytes : List ℕ) → AreBytes bytes → word.now ≡ written bytes → IfOk result (λ found. option_map (λ v. v.items) found ≡ Some bytes) }
 {

@@ -1,8 +1,10 @@
-ghost use Rattle.std.specs.Prelude.{◌≡◌, false, true};
+ghost use Rattle.std.specs.Prelude.{◌≡◌, ◌↔◌, false, true};
+ghost use Rattle.std.specs.IoError.{error_kind};
 
 use crate::{Kind, Listed, Source, SourceError};
 use std::alloc::Global;
 use std::fs::FileType;
+use std::io::ErrorKind;
 use std::rt::Files;
 use std::{fs, io};
 
@@ -21,14 +23,14 @@ fn kind_of(kind: FileType) -> io::Result<Kind> {
     } else if kind.is_file() {
         Ok(Kind::File)
     } else {
-        Err(io::Error::from(io::ErrorKind::InvalidInput))
+        Err(io::Error::from(ErrorKind::InvalidInput))
     }
 }
 
 // A name that is text.
 fn name_of(alloc: Global, name: &[u8]) -> io::Result<Vec<u8>> {
     if str::from_utf8(name).is_err() {
-        return Err(io::Error::from(io::ErrorKind::InvalidFilename));
+        return Err(io::Error::from(ErrorKind::InvalidFilename));
     }
     let name = name.to_vec(alloc)?;
     Ok(name)
@@ -50,7 +52,7 @@ impl<'a, R: Files + AllocGlobal + Clone + Drop> Folder<'a, R> {
     // The path in the file system, where it is text.
     fn full(&self, path: &[u8]) -> io::Result<String> {
         let Ok(path) = str::from_utf8(path) else {
-            return Err(io::Error::from(io::ErrorKind::InvalidFilename));
+            return Err(io::Error::from(ErrorKind::InvalidFilename));
         };
         let mut full = String::from_str(self.rt.alloc(), self.root)?;
         full.push_str(path)?;
@@ -76,10 +78,11 @@ impl<'a, R: Files + AllocGlobal + Clone + Drop> Folder<'a, R> {
 
     // What the error says to the reader of the source.
     fn failed(&mut self, error: io::Error) -> SourceError
+        ensures kind { (error_kind error ≡ ErrorKind.OutOfMemory) ↔ (result ≡ SourceError.NoMemory) }
         ensures fault { result ≡ SourceError.Fault → self.new.has_failed ≡ true }
         ensures no_memory { result ≡ SourceError.NoMemory → self.new.has_failed ≡ self.old.has_failed }
     {
-        if error.kind() == io::ErrorKind::OutOfMemory {
+        if error.kind() == ErrorKind::OutOfMemory {
             return SourceError::NoMemory;
         }
         self.has_failed = true;

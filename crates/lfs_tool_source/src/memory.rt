@@ -1,8 +1,8 @@
-ghost use Rattle.std.specs.Prelude.{◌≡◌, ◌+◌, ◌++◌, ◌∷◌, [], IfOk, IfSome, MatchOption, None, OnOk, Some, drop, false, length, map, true, ◌==◌};
+ghost use Rattle.std.specs.Prelude.{◌≡◌, ◌+◌, ◌++◌, ◌∷◌, [], IfOk, IfSome, IsErrOf, MatchOption, None, OnOk, Some, drop, false, length, map, true, ◌==◌};
 ghost use Rattle.std.specs.List.{list_any};
 ghost use Rattle.lfs_model.specs.Names.{slash};
 ghost use Rattle.lfs_tool_source.specs.Shown.{is_folder, listed};
-ghost use Rattle.lfs_tool_source.specs.InMemory.{has_no_bytes, is_within, item_of, items_by, name_of, names_in, source_of};
+ghost use Rattle.lfs_tool_source.specs.InMemory.{bytes_at, has_no_bytes, is_within, item_of, items_by, name_of, names_in, source_of};
 
 use crate::{Kind, Listed, Source, SourceError};
 use std::alloc::Global;
@@ -16,7 +16,9 @@ pub struct Held {
     pub bytes: Option<Vec<u8>>,
 }
 
-/// A tree in memory. Where two files have one path, the first is read.
+/// A tree in memory. Where two things have one path, the first is read.
+///
+/// It never answers `Fault` to `list`, and to `read` only where no file stands at the path.
 #[derive(Drop)]
 pub struct MemorySource {
     /// What stands at each path, in any order.
@@ -97,12 +99,24 @@ impl Source for MemorySource {
 
     ghost has_failed = { λ s. s.has_failed };
 
-    fn list(&mut self, alloc: Global, folder: &[u8]) -> Result<Vec<Listed>, SourceError> {
+    fn list(&mut self, alloc: Global, folder: &[u8]) -> Result<Vec<Listed>, SourceError>
+        ensures names { IfOk result (λ v. map listed v.items ≡ names_in (map item_of self.old.held.items) folder.now) }
+        ensures held { self.new.held ≡ self.old.held }
+        ensures kept { self.new.has_failed ≡ self.old.has_failed }
+        ensures never { ¬ IsErrOf result SourceError.Fault }
+    {
         let names = names_in(alloc, self.held.as_slice(), folder)?;
         Ok(names)
     }
 
-    fn read(&mut self, alloc: Global, file: &[u8]) -> Result<Vec<u8>, SourceError> {
+    fn read(&mut self, alloc: Global, file: &[u8]) -> Result<Vec<u8>, SourceError>
+        ensures bytes { IfOk result (λ v. bytes_at (map item_of self.old.held.items) file.now ≡ Some v.items) }
+        ensures held { self.new.held ≡ self.old.held }
+        ensures kept { OnOk result (self.new.has_failed ≡ self.old.has_failed) }
+        ensures missing { IsErrOf result SourceError.Fault → bytes_at (map item_of self.old.held.items) file.now ≡ None }
+        ensures fault { IsErrOf result SourceError.Fault → self.new.has_failed ≡ true }
+        ensures no_memory { IsErrOf result SourceError.NoMemory → self.new.has_failed ≡ self.old.has_failed }
+    {
         for held in &self.held {
             if held.path.as_slice() == file {
                 if let Some(bytes) = &held.bytes {

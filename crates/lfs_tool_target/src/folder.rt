@@ -1,9 +1,10 @@
-ghost use Rattle.std.specs.Prelude.{◌≡◌, false, true};
+ghost use Rattle.std.specs.Prelude.{◌≡◌, ◌↔◌, false, true};
+ghost use Rattle.std.specs.IoError.{error_kind};
 
 use crate::{Target, TargetError};
 use std::alloc::Global;
 use std::fs::File;
-use std::io::Write;
+use std::io::{ErrorKind, Write};
 use std::rt::Files;
 use std::{fs, io};
 
@@ -31,7 +32,7 @@ fn make<R: Files>(rt: &R, path: &str) -> io::Result<()> {
 // Refuses a path at which something stands that is no file.
 fn check_place<R: Files>(rt: &R, path: &str) -> io::Result<()> {
     match fs::symlink_metadata(rt, path) {
-        Ok(there) if !there.is_file() => Err(io::Error::from(io::ErrorKind::InvalidInput)),
+        Ok(there) if !there.is_file() => Err(io::Error::from(ErrorKind::InvalidInput)),
         _ => Ok(()),
     }
 }
@@ -52,7 +53,7 @@ impl<'a, R: Files + AllocGlobal + Clone + Drop> TargetFolder<'a, R> {
     // The path in the file system, where it is text. The folder itself is there then.
     fn full(&self, path: &[u8]) -> io::Result<String> {
         let Ok(path) = str::from_utf8(path) else {
-            return Err(io::Error::from(io::ErrorKind::InvalidFilename));
+            return Err(io::Error::from(ErrorKind::InvalidFilename));
         };
         make(self.rt, self.root)?;
         let mut full = String::from_str(self.rt.alloc(), self.root)?;
@@ -74,10 +75,11 @@ impl<'a, R: Files + AllocGlobal + Clone + Drop> TargetFolder<'a, R> {
 
     // What the error says to the writer of the target.
     fn failed(&mut self, error: io::Error) -> TargetError
+        ensures kind { (error_kind error ≡ ErrorKind.OutOfMemory) ↔ (result ≡ TargetError.NoMemory) }
         ensures fault { result ≡ TargetError.Fault → self.new.has_failed ≡ true }
         ensures no_memory { result ≡ TargetError.NoMemory → self.new.has_failed ≡ self.old.has_failed }
     {
-        if error.kind() == io::ErrorKind::OutOfMemory {
+        if error.kind() == ErrorKind::OutOfMemory {
             return TargetError::NoMemory;
         }
         self.has_failed = true;

@@ -1,5 +1,6 @@
 mod Decimals
 mod KnownBytes
+pub mod Writers
 mod BlockReads
 mod Images
 mod Walked

@@ -1,3 +1,4 @@
+pub mod Watched
 pub mod Known
 pub mod Blocks
 pub mod Errors

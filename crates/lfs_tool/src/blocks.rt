@@ -6,6 +6,7 @@ ghost use Rattle.lfs_model.specs.Disk.{IsImage};
 ghost use Rattle.lfs_excerpt.specs.Device.{size_of};
 ghost use Rattle.lfs_tool.specs.Blocks.{AreRead, Fills, IsPushed};
 ghost use Rattle.lfs_tool.specs.Known.{FailsToRead};
+ghost use Rattle.lfs_tool.specs.Watched.{failed_of, inner_of};
 
 use crate::input::IMAGE_MAX;
 use crate::{ToolError, Watched};
@@ -16,10 +17,10 @@ use std::io::Read;
 
 // Fills the buffer, or its beginning where the image ends in it. Gives how many bytes were read.
 fn fill<R: Read>(image: &mut Watched<R>, buffer: &mut [u8]) -> Result<usize, ToolError>
-    ensures bytes { IfOk result (λ n. Fills (R.remaining image.old.inner) (R.remaining image.new.inner) n buffer.new) }
+    ensures bytes { IfOk result (λ n. Fills (R.remaining (inner_of image.old)) (R.remaining (inner_of image.new)) n buffer.new) }
     ensures len { length buffer.new ≡ length buffer.old }
-    ensures kept { OnOk result (image.new.has_failed ≡ image.old.has_failed) }
-    ensures err { IfErr result (λ e. (e ≡ ToolError.Input) × (image.new.has_failed ≡ true)) }
+    ensures kept { OnOk result (failed_of image.new ≡ failed_of image.old) }
+    ensures err { IfErr result (λ e. (e ≡ ToolError.Input) × (failed_of image.new ≡ true)) }
 {
     let mut len = 0;
     while len < buffer.len() {
@@ -40,11 +41,11 @@ pub(crate) fn read_blocks<R: Read>(
     block_size: u32,
 ) -> Result<Option<Vec<BlockExcerpt>>, ToolError>
     requires { 1024 ≤ block_size }
-    ensures blocks { IfOk result (λ found. IfSome found (λ blocks. IfSome (R.remaining image.old.inner) (λ bytes. AreRead block_size bytes blocks.items))) }
+    ensures blocks { IfOk result (λ found. IfSome found (λ blocks. IfSome (R.remaining (inner_of image.old)) (λ bytes. AreRead block_size bytes blocks.items))) }
     ensures sizes { IfOk result (λ found. IfSome found (λ blocks. HaveSize block_size blocks.items × (block_size * length blocks.items ≤ IMAGE_MAX))) }
-    ensures none { IfOk result (λ found. found ≡ None → IfSome (R.remaining image.old.inner) (λ bytes. (page : _) → ¬ IsImage block_size page bytes)) }
-    ensures kept { OnOk result (image.new.has_failed ≡ image.old.has_failed) }
-    ensures err { IfErr result (λ e. FailsToRead e image.old.has_failed image.new.has_failed) }
+    ensures none { IfOk result (λ found. found ≡ None → IfSome (R.remaining (inner_of image.old)) (λ bytes. (page : _) → ¬ IsImage block_size page bytes)) }
+    ensures kept { OnOk result (failed_of image.new ≡ failed_of image.old) }
+    ensures err { IfErr result (λ e. FailsToRead e (failed_of image.old) (failed_of image.new)) }
 {
     let size = block_size as usize;
     let (mut cutter, mut block) = room_for(alloc, size)?;

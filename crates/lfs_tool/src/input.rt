@@ -1,7 +1,8 @@
 // Whole images from readers.
 
-ghost use Rattle.std.specs.Prelude.{◌≡◌, ◌+◌, ◌≤◌, IfErr, IfOk, IfSome, OnOk, length, take, true};
+ghost use Rattle.std.specs.Prelude.{◌≡◌, ◌+◌, ◌≤◌, IfErr, IfOk, IfSome, OnOk, length, take};
 ghost use Rattle.lfs_tool.specs.Known.{FailsToRead};
+ghost use Rattle.lfs_tool.specs.Watched.{failed_of, inner_of};
 
 use crate::{ToolError, Watched};
 use lfs_device::Error;
@@ -16,10 +17,10 @@ pub(crate) fn read_image<R: Read>(
     alloc: Global,
     image: &mut Watched<R>,
 ) -> Result<Vec<u8>, ToolError>
-    ensures bytes { IfOk result (λ v. IfSome (R.remaining image.old.inner) (λ bytes. v.items ≡ take (IMAGE_MAX + 1) bytes)) }
+    ensures bytes { IfOk result (λ v. IfSome (R.remaining (inner_of image.old)) (λ bytes. v.items ≡ take (IMAGE_MAX + 1) bytes)) }
     ensures bound { IfOk result (λ v. length v.items ≤ IMAGE_MAX + 1) }
-    ensures kept { OnOk result (image.new.has_failed ≡ image.old.has_failed) }
-    ensures err { IfErr result (λ e. FailsToRead e image.old.has_failed image.new.has_failed) }
+    ensures kept { OnOk result (failed_of image.new ≡ failed_of image.old) }
+    ensures err { IfErr result (λ e. FailsToRead e (failed_of image.old) (failed_of image.new)) }
 {
     let mut bytes = Vec::new(alloc);
     let mut buffer = [0u8; 65536];

@@ -1,12 +1,14 @@
-ghost use Rattle.std.specs.Prelude.{◌≡◌, ◌≢◌, ◌↔◌, ◌<◌, ◌≤◌, ◌^◌, List, ℕ, IfErr, IfOk, IfSome, IsErrOf, OnOk, length, true, false};
-ghost use Rattle.std.specs.Io.KnownBytes.{Appends, Keeps};
+ghost use Rattle.std.specs.Prelude.{◌≡◌, ◌↔◌, ◌<◌, ◌^◌, List, ℕ, IfErr, IfOk, IfSome, IsErrOf, OnOk, length, true, false};
+ghost use Rattle.std.specs.Io.KnownBytes.{Appends};
 ghost use Rattle.lfs_excerpt.specs.Blocks.{HaveSize};
 ghost use Rattle.lfs_excerpt.specs.Device.{blocks_of, geometry_of};
 ghost use Rattle.lfs_device.specs.Shown.{disk_of as shown};
 ghost use Rattle.lfs_model.specs.Disk.{IsImage};
+ghost use Rattle.lfs_model.specs.Geometry.{IsGeometry};
 ghost use Rattle.lfs_tool.specs.Blocks.{AreRead};
 ghost use Rattle.lfs_tool.specs.Known.{AppendsBeginning, FailsToList, IsListError};
 ghost use Rattle.lfs_tool.specs.Listed.{HasLines, IsNotMounted, Lists, Refuses};
+ghost use Rattle.lfs_tool.specs.Watched.{TellsWriter, failed_of, inner_of};
 
 use crate::blocks::read_blocks;
 use crate::lines::lines_of;
@@ -50,7 +52,7 @@ fn lines_of_blocks(
 
 // `Invalid` where no image has blocks and pages of these sizes: the least has two blocks.
 fn check_sizes(block_size: u32, page: u32) -> Result<(), Error>
-    ensures ok { OnOk result (1024 ≤ block_size) }
+    ensures ok { OnOk result (IsGeometry block_size page 2) }
     ensures err { IfErr result (λ e. (e ≡ Error.Invalid) × ((bytes : List ℕ) → ¬ IsImage block_size page bytes)) }
 {
     Geometry::new(block_size, page, 2)?;
@@ -64,10 +66,11 @@ fn read_lines<R: Read>(
     block_size: u32,
     page: u32,
 ) -> Result<Vec<u8>, ToolError>
-    ensures ok { IfOk result (λ text. IfSome (R.remaining image.old.inner) (λ bytes. Lists block_size page bytes text.items)) }
-    ensures refused { (e : _) → IsErrOf result (ToolError.Fs e) → IfSome (R.remaining image.old.inner) (λ bytes. Refuses block_size page bytes e) }
-    ensures kept { OnOk result (image.new.has_failed ≡ image.old.has_failed) }
-    ensures failed { IfErr result (λ e. FailsToList e image.old.has_failed image.new.has_failed) }
+    ensures ok { IfOk result (λ text. IfSome (R.remaining (inner_of image.old)) (λ bytes. Lists block_size page bytes text.items)) }
+    ensures refused { (e : _) → IsErrOf result (ToolError.Fs e) → IfSome (R.remaining (inner_of image.old)) (λ bytes. Refuses block_size page bytes e) }
+    ensures kept { OnOk result (failed_of image.new ≡ failed_of image.old) }
+    ensures failed { IfErr result (λ e. FailsToList e (failed_of image.old) (failed_of image.new)) }
+    ensures unread { ¬ IsGeometry block_size page 2 → (image.new ≡ image.old) × IsErrOf result (ToolError.Fs Error.Invalid) }
 {
     check_sizes(block_size, page)?;
     let Some(blocks) = read_blocks(alloc, image, block_size)? else {
@@ -99,18 +102,18 @@ pub fn list<R: Read, W: Write>(
     page: u32,
     out: &mut Watched<W>,
 ) -> Result<(), ToolError>
-    ensures ok { OnOk result (IfSome (R.remaining image.old.inner) (λ bytes.
-        (text : _) × (Lists block_size page bytes text × Appends (W.contents out.old.inner) (W.contents out.new.inner) text))) }
+    ensures ok { OnOk result (IfSome (R.remaining (inner_of image.old)) (λ bytes.
+        (text : _) × (Lists block_size page bytes text × Appends (W.contents (inner_of out.old)) (W.contents (inner_of out.new)) text))) }
 
-    // Nothing is written, unless the writer fails: then a beginning of the lines may be.
-    ensures unwritten { IfErr result (λ e. e ≢ ToolError.Output → Keeps (W.contents out.old.inner) (W.contents out.new.inner)) }
-    ensures beginning { IsErrOf result ToolError.Output → IfSome (R.remaining image.old.inner) (λ bytes.
-        (text : _) × (Lists block_size page bytes text × AppendsBeginning (W.contents out.old.inner) (W.contents out.new.inner) text)) }
+    // The writer isn't touched, unless it fails: then a beginning of the lines may be written.
+    ensures writer { TellsWriter out.old out.new result }
+    ensures beginning { IsErrOf result ToolError.Output → IfSome (R.remaining (inner_of image.old)) (λ bytes.
+        (text : _) × (Lists block_size page bytes text × AppendsBeginning (W.contents (inner_of out.old)) (W.contents (inner_of out.new)) text)) }
 
-    // When each error comes.
-    ensures refused { (e : _) → IsErrOf result (ToolError.Fs e) → IsListError e × IfSome (R.remaining image.old.inner) (λ bytes. Refuses block_size page bytes e) }
-    ensures input { image.old.has_failed ≡ false → IsErrOf result ToolError.Input ↔ (image.new.has_failed ≡ true) }
-    ensures output { out.old.has_failed ≡ false → IsErrOf result ToolError.Output ↔ (out.new.has_failed ≡ true) }
+    // When each other error comes.
+    ensures refused { (e : _) → IsErrOf result (ToolError.Fs e) → IsListError e × IfSome (R.remaining (inner_of image.old)) (λ bytes. Refuses block_size page bytes e) }
+    ensures input { failed_of image.old ≡ false → IsErrOf result ToolError.Input ↔ (failed_of image.new ≡ true) }
+    ensures unread { ¬ IsGeometry block_size page 2 → (image.new ≡ image.old) × IsErrOf result (ToolError.Fs Error.Invalid) }
 {
     let text = read_lines(alloc, image, block_size, page)?;
     write_bytes(out, text.as_slice())

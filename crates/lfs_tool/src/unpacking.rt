@@ -11,6 +11,7 @@ ghost use Rattle.lfs_thread.specs.Steps.{IsOnlyRead};
 ghost use Rattle.lfs_lookup.specs.FileBytes.{bytes_shown};
 ghost use Rattle.lfs_lookup.specs.Items.{structure_seen};
 ghost use Rattle.lfs_lookup.specs.Walk.{found_seen, founds_seen};
+ghost use Rattle.lfs_tool.specs.Watched.{failed_of, inner_of};
 
 use crate::input::read_image;
 use crate::opening::{device_of, items_in_memory};
@@ -154,15 +155,15 @@ pub fn unpack<R: Read, T: Target>(
     page: u32,
     target: &mut T,
 ) -> Result<(), ToolError>
-    ensures done { OnOk result (IfSome (R.remaining image.old.inner) (λ bytes. IsDoneOfImage block_size page bytes (T.done target.old) (T.done target.new))) }
+    ensures done { OnOk result (IfSome (R.remaining (inner_of image.old)) (λ bytes. IsDoneOfImage block_size page bytes (T.done target.old) (T.done target.new))) }
 
     // Nothing is done, or a beginning of the actions, where the target failed or memory ran out.
     ensures undone { IfErr result (λ e. e ≢ ToolError.Output → e ≢ ToolError.Fs Error.NoMemory → T.done target.new ≡ T.done target.old) }
-    ensures begun { OnErr result ((T.done target.new ≡ T.done target.old) ⊎ IfSome (R.remaining image.old.inner) (λ bytes. IsBegunOfImage block_size page bytes (T.done target.old) (T.done target.new))) }
+    ensures begun { OnErr result ((T.done target.new ≡ T.done target.old) ⊎ IfSome (R.remaining (inner_of image.old)) (λ bytes. IsBegunOfImage block_size page bytes (T.done target.old) (T.done target.new))) }
 
     // When each error comes.
-    ensures refused { (e : _) → IsErrOf result (ToolError.Fs e) → IfSome (R.remaining image.old.inner) (λ bytes. Refuses block_size page bytes e) }
-    ensures input { image.old.has_failed ≡ false → IsErrOf result ToolError.Input ↔ (image.new.has_failed ≡ true) }
+    ensures refused { (e : _) → IsErrOf result (ToolError.Fs e) → IfSome (R.remaining (inner_of image.old)) (λ bytes. Refuses block_size page bytes e) }
+    ensures input { failed_of image.old ≡ false → IsErrOf result ToolError.Input ↔ (failed_of image.new ≡ true) }
     ensures output { T.has_failed target.old ≡ false → IsErrOf result ToolError.Output ↔ (T.has_failed target.new ≡ true) }
 {
     let bytes = read_image(alloc, image)?;

@@ -1,6 +1,6 @@
 -- From a run of a source's operations to the image that it leaves.
 use Rattle.std.proofs.Common.{ℕ, ◌≡◌, ◌∙◌, ◌≤◌, ◌+◌, ◌*◌, ◌/◌, ◌%◌, List, [], ◌∷◌, length, Option, Some, None, ap, ap₂, arith, refl, subst, sym, flat_map}
-use Rattle.std.specs.Prelude.{Err, IfErr, IfSome, IsErrAnd, IsErrOf, Ok, OnErr, Result, ◌≢◌}
+use Rattle.std.specs.Prelude.{Err, IfErr, IfSome, IsErrAnd, Ok, Result, ◌≢◌}
 use Rattle.lfs_device.specs.declared.error.Error.{Error}
 use Rattle.lfs_device.specs.declared.error.Error.TheVariants.{NoMemory}
 use Rattle.std.proofs.lemmas.Nat.{div-mul-add, mod-mul-add}
@@ -141,7 +141,3 @@ refused (Err f) e g from es is b h = λ other. record { from = from; begins = b;
 
 pub passed : (g : Geometry) (es slice : List Entry) (image written : List ℕ) → slice ≡ es → written ≡ image → AreLeft g slice image → AreLeft g es written
 passed g es slice image written same is l = subst (λ xs. AreLeft g es xs) (sym is) (subst (λ xs. AreLeft g xs image) same l)
-
-pub at_error : {X E : Type 0} (r : Result X E) (e : E) (P : Type 0) → OnErr r P → IsErrOf r e → P
-at_error (Ok x) e P h is = absurd (cc)
-at_error (Err f) e P h is = h

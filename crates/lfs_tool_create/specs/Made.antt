@@ -1,5 +1,5 @@
 -- What is made of a source, and why nothing is.
-use Rattle.std.specs.Prelude.{ℕ, ◌≡◌, ◌⊎◌, ◌*◌, Bool, true, List, length, Option, IfSome}
+use Rattle.std.specs.Prelude.{ℕ, ◌≡◌, ◌⊎◌, ◌*◌, Bool, true, List, length, Option, Result, Err, IfSome}
 use Rattle.std.specs.Io.KnownBytes.{Appends}
 use Rattle.lfs_model.specs.Disk.{IsImage, block_count, disk_of}
 use Rattle.lfs_model.specs.Fresh.{IsFresh, empty_tree}
@@ -16,6 +16,8 @@ use Rattle.lfs_model.specs.Profile.{IsWritable}
 use Rattle.lfs_model.specs.Shown.{tree_in}
 use Rattle.lfs_device.specs.declared.error.Error.{Error}
 use Rattle.lfs_device.specs.declared.geometry.Geometry.{Geometry}
+use Rattle.lfs_tool.specs.declared.errors.ToolError.{ToolError}
+use Rattle.lfs_tool.specs.declared.errors.ToolError.TheVariants.{Input}
 use Rattle.lfs_tool.specs.Known.{AppendsBeginning}
 use Rattle.lfs_tool_create.specs.Carried.{AreCarried, IsFirstRefusal, operations_of_all}
 use Rattle.lfs_tool_source.specs.Entries.{AreAll, HasBadNames}
@@ -79,3 +81,8 @@ HasRefusal geometry known e = (entries : List Entry) × (AreAll known entries ×
 -- the source has failed, or a folder in it has bad names
 abbrev pub HasFault : Bool → Option Source → Type 0
 HasFault failed known = (failed ≡ true) ⊎ IfSome known HasBadNames
+
+-- `Input` comes where the source has a fault; behind any other answer it has failed as little as before
+abbrev pub TellsSource : {X : Type 0} → Bool → Bool → Option Source → Result X ToolError → Type 0
+TellsSource old new known (Err Input) = HasFault new known
+TellsSource old new known other = new ≡ old

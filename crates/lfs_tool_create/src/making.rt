@@ -1,6 +1,7 @@
-ghost use Rattle.std.specs.Prelude.{◌≡◌, ◌≢◌, IfErr, IfOk, IsErrOf, OnOk, true};
+ghost use Rattle.std.specs.Prelude.{◌≡◌, ◌≢◌, IfErr, IfOk, IsErrOf, OnOk};
 ghost use Rattle.lfs_fs.specs.Held.{moment_of};
-ghost use Rattle.lfs_tool_create.specs.Made.{AreLeft, Begins, HasFault, HasRefusal, IsBegun, IsCreated, IsRefused};
+ghost use Rattle.lfs_tool.specs.Watched.{TellsWriter, inner_of};
+ghost use Rattle.lfs_tool_create.specs.Made.{AreLeft, Begins, HasRefusal, IsBegun, IsCreated, IsRefused, TellsSource};
 ghost use Rattle.lfs_tool_source.specs.Entries.{AreAll};
 
 use crate::carrying::carry_over;
@@ -14,10 +15,8 @@ use std::io::Write;
 // All that the source has.
 fn read_source<S: Source>(alloc: Global, source: &mut S) -> Result<Vec<Entry>, ToolError>
     ensures entries { IfOk result (λ v. AreAll (S.shown source.old) v.items) }
-    ensures input { IsErrOf result ToolError.Input → HasFault (S.has_failed source.new) (S.shown source.old) }
+    ensures source { TellsSource (S.has_failed source.old) (S.has_failed source.new) (S.shown source.old) result }
     ensures other { IfErr result (λ e. e ≢ ToolError.Input → e ≡ ToolError.Fs Error.NoMemory) }
-    ensures kept { OnOk result (S.has_failed source.new ≡ S.has_failed source.old) }
-    ensures kept_by_fs { (e : _) → IsErrOf result (ToolError.Fs e) → S.has_failed source.new ≡ S.has_failed source.old }
 {
     match read_tree(alloc, source) {
         Ok(entries) => Ok(entries),
@@ -68,17 +67,16 @@ pub fn create<S: Source, W: Write>(
     geometry: Geometry,
     out: &mut Watched<W>,
 ) -> Result<(), ToolError>
-    ensures ok { OnOk result (IsCreated geometry (S.shown source.old) (W.contents out.old.inner) (W.contents out.new.inner)) }
+    ensures ok { OnOk result (IsCreated geometry (S.shown source.old) (W.contents (inner_of out.old)) (W.contents (inner_of out.new))) }
 
     // The writer isn't touched, unless it fails: then a beginning of the image may be written.
-    ensures untouched { IfErr result (λ e. e ≢ ToolError.Output → out.new ≡ out.old) }
-    ensures output { IsErrOf result ToolError.Output → (out.new.has_failed ≡ true)
-        × IsBegun geometry (S.shown source.old) (W.contents out.old.inner) (W.contents out.new.inner) }
+    ensures writer { TellsWriter out.old out.new result }
+    ensures beginning { IsErrOf result ToolError.Output
+        → IsBegun geometry (S.shown source.old) (W.contents (inner_of out.old)) (W.contents (inner_of out.new)) }
 
-    // When each other error comes. The source has a fault at `Input` alone.
+    // When each other error comes.
     ensures refused { (e : _) → IsErrOf result (ToolError.Fs e) → e ≢ Error.NoMemory → HasRefusal geometry (S.shown source.old) e }
-    ensures input { IsErrOf result ToolError.Input → HasFault (S.has_failed source.new) (S.shown source.old) }
-    ensures kept { ¬ IsErrOf result ToolError.Input → S.has_failed source.new ≡ S.has_failed source.old }
+    ensures source { TellsSource (S.has_failed source.old) (S.has_failed source.new) (S.shown source.old) result }
 {
     let entries = read_source(alloc, source)?;
     match make(alloc, geometry, entries.as_slice()) {

@@ -1,5 +1,6 @@
-ghost use Rattle.std.specs.Prelude.{◌≡◌, ◌≢◌, ◌⊎◌, IfErr, IsErrOf, OnOk, true};
-ghost use Rattle.lfs_tool_create.specs.Made.{HasFault, HasRefusal, IsBegun, IsCreated};
+ghost use Rattle.std.specs.Prelude.{◌≡◌, ◌≢◌, ◌⊎◌, IsErrOf, None, OnOk};
+ghost use Rattle.lfs_tool.specs.Watched.{TellsWriter, inner_of};
+ghost use Rattle.lfs_tool_create.specs.Made.{HasRefusal, IsBegun, IsCreated, TellsSource};
 ghost use Rattle.lfs_tool_files.specs.Asked.{HasNoGeometry, HasSizes};
 
 use crate::ImageFile;
@@ -11,7 +12,8 @@ use std::alloc::Global;
 use std::io::Write;
 use std::rt::Files;
 
-/// Writes the image of a source with the sizes that a command line gives, in bytes.
+/// Writes the image of a source with the sizes that a command line gives, in bytes. The source isn't
+/// read where no image has these sizes.
 ///
 /// # Errors
 /// - `Fs(Invalid)` where the image isn't a whole number of blocks, or its geometry is out of range.
@@ -22,18 +24,18 @@ pub fn create_asked<S: Source, W: Write>(
     source: &mut S,
     out: &mut Watched<W>,
 ) -> Result<(), ToolError>
-    ensures ok { OnOk result ((g : _) × (HasSizes line.now g × IsCreated g (S.shown source.old) (W.contents out.old.inner) (W.contents out.new.inner))) }
+    ensures ok { OnOk result ((g : _) × (HasSizes line.now g × IsCreated g (S.shown source.old) (W.contents (inner_of out.old)) (W.contents (inner_of out.new)))) }
 
     // The writer isn't touched, unless it fails: then a beginning of the image may be written.
-    ensures untouched { IfErr result (λ e. e ≢ ToolError.Output → out.new ≡ out.old) }
-    ensures output { IsErrOf result ToolError.Output → (out.new.has_failed ≡ true)
-        × ((g : _) × (HasSizes line.now g × IsBegun g (S.shown source.old) (W.contents out.old.inner) (W.contents out.new.inner))) }
+    ensures writer { TellsWriter out.old out.new result }
+    ensures beginning { IsErrOf result ToolError.Output
+        → (g : _) × (HasSizes line.now g × IsBegun g (S.shown source.old) (W.contents (inner_of out.old)) (W.contents (inner_of out.new))) }
 
     // When each other error comes. The source has a fault at `Input` alone.
     ensures refused { (e : _) → IsErrOf result (ToolError.Fs e) → e ≢ Error.NoMemory
         → HasNoGeometry line.now e ⊎ ((g : _) × (HasSizes line.now g × HasRefusal g (S.shown source.old) e)) }
-    ensures input { IsErrOf result ToolError.Input → HasFault (S.has_failed source.new) (S.shown source.old) }
-    ensures kept { ¬ IsErrOf result ToolError.Input → S.has_failed source.new ≡ S.has_failed source.old }
+    ensures source { TellsSource (S.has_failed source.old) (S.has_failed source.new) (S.shown source.old) result }
+    ensures unread { HasNoGeometry line.now Error.Invalid → (source.new ≡ source.old) × IsErrOf result (ToolError.Fs Error.Invalid) }
 {
     match geometry_for(line.size, line.block_size, line.page) {
         Ok(geometry) => create(alloc, source, geometry, out),
@@ -52,7 +54,11 @@ pub fn create_image<R: Files + AllocGlobal + Clone + Drop>(
     folder: &str,
     image: &mut Watched<ImageFile<'_, R>>,
 ) -> Result<(), ToolError>
-    ensures untouched { IfErr result (λ e. e ≢ ToolError.Output → image.new ≡ image.old) }
+    ensures sizes { OnOk result ((g : _) × HasSizes line.now g) }
+    ensures writer { TellsWriter image.old image.new result }
+    ensures refused { (e : _) → IsErrOf result (ToolError.Fs e) → e ≢ Error.NoMemory
+        → HasNoGeometry line.now e ⊎ ((g : _) × (HasSizes line.now g × HasRefusal g None e)) }
+    ensures unread { HasNoGeometry line.now Error.Invalid → IsErrOf result (ToolError.Fs Error.Invalid) }
 {
     let mut source = Folder::new(rt, folder);
     create_asked(rt.alloc(), line, &mut source, image)

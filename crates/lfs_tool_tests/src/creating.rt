@@ -22,7 +22,7 @@ pub(crate) fn written<S: Source>(
 ) -> (Result<(), ToolError>, Vec<u8>) {
     let mut image = Watched::new(Vec::new(alloc));
     let result = create(alloc, source, geometry, &mut image);
-    (result, image.inner)
+    (result, image.into_inner())
 }
 
 // What is listed of the image, or the line of an error with which nothing was written.

@@ -33,7 +33,7 @@ struct Run {
     image: Image,
 }
 
-const RUNS: [Run; 20] = [
+const RUNS: [Run; 21] = [
     Run {
         words: &["-c", "runs/files", "runs/image"],
         status: 0,
@@ -86,6 +86,14 @@ const RUNS: [Run; 20] = [
     },
     Run {
         words: &["-c", "runs/files", "-s", "65537", "runs/image"],
+        status: 1,
+        out: "",
+        err: "error: Invalid (22)\n",
+        image: Image::Old,
+    },
+    // sizes are refused before the folder is read
+    Run {
+        words: &["-c", "runs/none", "-s", "65537", "runs/image"],
         status: 1,
         out: "",
         err: "error: Invalid (22)\n",
@@ -242,8 +250,8 @@ fn told<R: Files + AllocGlobal + Clone + Drop>(rt: &R, words: io::Result<Vec<Str
     let status = answer(rt, words, &mut out, &mut err);
     Answer {
         status,
-        out: out.inner,
-        err: err.inner,
+        out: out.into_inner(),
+        err: err.into_inner(),
     }
 }
 
@@ -314,15 +322,28 @@ fn what_was_made_is_listed(rt: HostRuntime) -> Result<(), Fail> {
     Ok(())
 }
 
-// Whether an image of the folder, unpacked into another one, gives the files again, also where they
-// are there already.
-fn comes_back<R: Files + AllocGlobal + Clone + Drop>(rt: &R) -> io::Result<bool> {
-    let making = words_of(rt.alloc(), &["-c", "back/files", "back/image"])?;
-    let made = told(rt, Ok(making)).status;
+// How an image is made of a folder, and unpacked into another one.
+const BACK: [(&[&str], &[&str]); 2] = [
+    (
+        &["-c", "back/files", "back/image"],
+        &["-u", "back/other", "back/image"],
+    ),
+    (
+        &["-c", "back/files", "-b", "1024", "-p", "128", "back/image"],
+        &["-u", "back/other", "-b", "1024", "-p", "128", "back/image"],
+    ),
+];
+
+// Whether that gives the files again, also where they are there already.
+fn comes_back<R: Files + AllocGlobal + Clone + Drop>(
+    rt: &R,
+    making: &[&str],
+    unpacking: &[&str],
+) -> io::Result<bool> {
+    let made = told(rt, Ok(words_of(rt.alloc(), making)?)).status;
     fs::create_dir_all(rt, "back/other")?;
     fs::write(rt, "back/other/a", b"an older file")?;
-    let unpacking = words_of(rt.alloc(), &["-u", "back/other", "back/image"])?;
-    let unpacked = told(rt, Ok(unpacking));
+    let unpacked = told(rt, Ok(words_of(rt.alloc(), unpacking)?));
     let a = fs::read(rt, "back/other/a")?;
     let b = fs::read(rt, "back/other/b")?;
     Ok(
@@ -335,8 +356,10 @@ fn comes_back<R: Files + AllocGlobal + Clone + Drop>(rt: &R) -> io::Result<bool>
 
 #[test]
 fn what_was_made_is_unpacked(rt: HostRuntime) -> Result<(), Fail> {
-    make_files(&rt, "back")?;
-    assert!(rt; comes_back(&rt)?);
+    for (making, unpacking) in BACK {
+        make_files(&rt, "back")?;
+        assert!(rt; comes_back(&rt, making, unpacking)?, "{unpacking:?}");
+    }
     fs::remove_dir_all(&rt, "back")?;
     Ok(())
 }

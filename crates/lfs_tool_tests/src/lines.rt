@@ -126,8 +126,8 @@ fn report_of(alloc: Global, fault: &Fault) -> Report {
     let status = report(fault, &mut out, &mut err);
     Report {
         status,
-        out: out.inner,
-        err: err.inner,
+        out: out.into_inner(),
+        err: err.into_inner(),
     }
 }
 

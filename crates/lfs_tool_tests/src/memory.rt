@@ -82,7 +82,7 @@ fn is_no_memory(error: ToolError) -> bool {
     let mut out = Watched::new(Counting { taken: 0 });
     let mut err = Watched::new(Knowing::new(NO_MEMORY));
     let status = report(&Fault::Tool(error), &mut out, &mut err);
-    status == 1 && out.inner.taken == 0 && err.inner.is_whole()
+    status == 1 && out.inner().taken == 0 && err.inner().is_whole()
 }
 
 // Whether all was written, or memory ran out and nothing was.
@@ -132,8 +132,8 @@ fn is_run<R: Files + AllocGlobal + Clone + Drop>(
     let mut out = Watched::new(Knowing::new(text));
     let mut err = Watched::new(Knowing::new(NO_MEMORY));
     match answer(rt, Ok(words), &mut out, &mut err) {
-        0 => out.inner.is_whole() && err.inner.is_untouched(),
-        1 => out.inner.is_untouched() && err.inner.is_whole(),
+        0 => out.inner().is_whole() && err.inner().is_untouched(),
+        1 => out.inner().is_untouched() && err.inner().is_whole(),
         _ => false,
     }
 }
@@ -185,7 +185,7 @@ fn an_image_is_listed(rt: HostRuntime) -> Result<(), Fail> {
         256,
         &mut out,
     );
-    assert!(rt; is_whole(&result, out.inner.taken, 7));
+    assert!(rt; is_whole(&result, out.inner().taken, 7));
     Ok(())
 }
 
@@ -228,7 +228,7 @@ fn is_made<S: Source>(alloc: Global, source: &mut S) -> bool {
     };
     let mut out = Watched::new(Counting { taken: 0 });
     let result = create(alloc, source, geometry, &mut out);
-    is_whole(&result, out.inner.taken, 65536)
+    is_whole(&result, out.inner().taken, 65536)
 }
 
 #[test]

@@ -3,6 +3,7 @@ use Rattle.std.proofs.lemmas.Result.{on_ok_weaker}
 use Rattle.std.specs.Io.KnownBytes.{Appends}
 use Rattle.lfs_tool.specs.Known.{AppendsBeginning}
 use Rattle.lfs_tool.proofs.Images.{with_lines}
+use Rattle.lfs_tool.proofs.Writers.{tells_written}
 use Rattle.lfs_tool.proofs.listing.list.Goals as goal
 
 pub returns-clause-ok : goal.returns-clause-ok
@@ -15,3 +16,6 @@ pub returns-clause-beginning : goal.returns-clause-beginning
 returns-clause-beginning g c = λ failed.
     let P : List ℕ → Type 0 = AppendsBeginning (g.W.Write.contents c.args.out.now.inner) (g.W.Write.contents c.write_bytes.new.out.inner) in
     with_lines (g.R.Read.remaining c.args.image.now.inner) c.args.block_size c.args.page c.in_ok-text.text.items P c.in_ok-text.ensures.ok (subst P c.as_slice.ensures.value c.write_bytes.ensures.beginning)
+
+pub returns-clause-writer : goal.returns-clause-writer
+returns-clause-writer g c = tells_written _ _ c.write_bytes.result c.write_bytes.ensures.kept c.write_bytes.ensures.failed

@@ -2,7 +2,8 @@ use Rattle.std.proofs.Common.{List, ◌≡◌, ◌∙◌, subst, sym}
 use Rattle.std.proofs.lemmas.Result.{IfOk-weaker}
 use Rattle.lfs_tool_source.specs.declared.entries.Entry.{Entry}
 use Rattle.lfs_tool_create.specs.Made.{IsRefused}
-use Rattle.lfs_tool_create.proofs.Images.{at_error, made, passed}
+use Rattle.lfs_tool.proofs.Writers.{tells_written}
+use Rattle.lfs_tool_create.proofs.Images.{made, passed}
 use Rattle.lfs_tool_create.proofs.Walking.{carry_over}
 use Rattle.lfs_tool_create.proofs.making.create.Goals as goal
 
@@ -15,12 +16,15 @@ returns-in-Ok-clause-ok g c =
     (λ _ appends. (entries, (all, (carry_over (g.S.Source.shown c.args.source.now) entries all, (c.as_slice-in-Ok.result.now, (l, (made c.args.geometry (g.S.Source.shown c.args.source.now) entries c.as_slice-in-Ok.result.now all l, appends)))))))
     c.write_bytes.ensures.ok
 
-pub returns-in-Ok-clause-output : goal.returns-in-Ok-clause-output
-returns-in-Ok-clause-output g c = λ e.
+pub returns-in-Ok-clause-writer : goal.returns-in-Ok-clause-writer
+returns-in-Ok-clause-writer g c = tells_written _ _ c.write_bytes.result c.write_bytes.ensures.kept c.write_bytes.ensures.failed
+
+pub returns-in-Ok-clause-beginning : goal.returns-in-Ok-clause-beginning
+returns-in-Ok-clause-beginning g c = λ _.
     let entries = c.in_ok-entries.entries.items in
     let all = c.in_ok-entries.ensures.entries in
     let l = passed c.args.geometry entries c.as_slice.result.now c.in-Ok.image.items c.as_slice-in-Ok.result.now c.as_slice.ensures.value c.as_slice-in-Ok.ensures.value c.in-Ok.ensures.ok in
-    ((at_error c.write_bytes.result _ _ c.write_bytes.ensures.failed e).1, (c.as_slice-in-Ok.result.now, (made c.args.geometry (g.S.Source.shown c.args.source.now) entries c.as_slice-in-Ok.result.now all l, c.write_bytes.ensures.beginning)))
+    (c.as_slice-in-Ok.result.now, (made c.args.geometry (g.S.Source.shown c.args.source.now) entries c.as_slice-in-Ok.result.now all l, c.write_bytes.ensures.beginning))
 
 pub returns-clause-refused : goal.returns-clause-refused
 returns-clause-refused g c = λ e is not_memory.

@@ -1,6 +1,7 @@
 use Rattle.std.proofs.Common.{◌≡◌, ◌/◌, ◌%◌, inl, inr, subst}
 use Rattle.std.proofs.lemmas.Result.{IfOk-weaker}
 use Rattle.lfs_device.specs.declared.geometry.Geometry.{Geometry}
+use Rattle.lfs_model.specs.Geometry.{IsGeometry}
 use Rattle.lfs_tool_line.specs.declared.line.Line.{Line}
 use Rattle.lfs_tool_files.specs.Asked.{HasNoGeometry, HasSizes}
 use Rattle.lfs_tool_files.proofs.creating.create_asked.Goals as goal
@@ -9,16 +10,24 @@ sized : (line : Line) (g : Geometry) → (g.block_size ≡ line.block_size) × (
     → (g.block_count ≡ line.size / line.block_size) × (line.size % line.block_size ≡ 0) → HasSizes line g
 sized line g sizes count = record { block_size = sizes.0; page = sizes.1; block_count = count.0; whole = count.1 }
 
+valid_sizes : (line : Line) (g : Geometry) → HasSizes line g → IsGeometry line.block_size line.page (line.size / line.block_size)
+valid_sizes line g s = rw (← s.block_count, ← s.block_size, ← s.page) g.valid
+
 pub returns-in-Ok-clause-ok : goal.returns-in-Ok-clause-ok
 returns-in-Ok-clause-ok g c =
     let sizes = sized c.args.line.now c.in-Ok.geometry c.in-Ok.ensures.sizes c.in-Ok.ensures.count in
     IfOk-weaker c.create.result _ _ (λ _ made. (c.in-Ok.geometry, (sizes, made))) c.create.ensures.ok
 
-pub returns-in-Ok-clause-output : goal.returns-in-Ok-clause-output
-returns-in-Ok-clause-output g c = λ e.
+pub returns-in-Ok-clause-beginning : goal.returns-in-Ok-clause-beginning
+returns-in-Ok-clause-beginning g c = λ e.
     let sizes = sized c.args.line.now c.in-Ok.geometry c.in-Ok.ensures.sizes c.in-Ok.ensures.count in
-    let begun = c.create.ensures.output e in
-    (begun.0, (c.in-Ok.geometry, (sizes, begun.1)))
+    (c.in-Ok.geometry, (sizes, c.create.ensures.beginning e))
+
+-- the geometry that was made is one
+pub returns-in-Ok-clause-unread : goal.returns-in-Ok-clause-unread
+returns-in-Ok-clause-unread g c = λ no.
+    let sizes = sized c.args.line.now c.in-Ok.geometry c.in-Ok.ensures.sizes c.in-Ok.ensures.count in
+    absurd (no.none sizes.whole (valid_sizes c.args.line.now c.in-Ok.geometry sizes))
 
 pub returns-in-Ok-clause-refused : goal.returns-in-Ok-clause-refused
 returns-in-Ok-clause-refused g c = λ e is other.

@@ -5,12 +5,12 @@ use Rattle.lfs_device.specs.declared.error.Error.{Error}
 use Rattle.lfs_model.specs.Operations as ops
 use Rattle.lfs_model.specs.Tree.{Tree}
 use Rattle.lfs_tree.specs.Seen.{Seen, IsBroken, IsCarried, IsError, around_of, tree_seen}
-use Rattle.lfs_fs.specs.FileSeen.{OpenFiles, files_seen, writers_in}
-use Rattle.lfs_fs.specs.Held.{Answers, Held, IsReady, held_of, refused_by}
-use Rattle.lfs_fs.specs.Replies.{reply_in}
-use Rattle.lfs_fs.specs.Staying.{AreLeft, FilesStay}
-use Rattle.lfs_fs.proofs.Answered.{KeepsFiles, done_answers, done_left, keeps_writers, none_concerned, not_refused, nothing_asked, sound_by, with_files}
-use Rattle.lfs_fs.proofs.Checked.{negated, unrefused}
+use Rattle.lfs_checks.specs.FileSeen.{OpenFiles, files_seen, writers_in}
+use Rattle.lfs_checks.specs.Held.{Answers, Held, IsReady, held_of, refused_by}
+use Rattle.lfs_checks.specs.Replies.{reply_in}
+use Rattle.lfs_checks.specs.Staying.{AreLeft, FilesStay}
+use Rattle.lfs_checks.proofs.Answered.{KeepsFiles, done_answers, done_left, keeps_writers, none_concerned, not_refused, nothing_asked, sound_by, with_files}
+use Rattle.lfs_checks.proofs.Checked.{negated, unrefused}
 use Rattle.lfs_fs.proofs.Staying.{SameFile}
 
 -- the tree stays, and every file with it

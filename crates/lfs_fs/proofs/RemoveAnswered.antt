@@ -10,15 +10,15 @@ use Rattle.lfs_model.specs.Session.{is_open_at}
 use Rattle.lfs_model.specs.Refusals.{as_path}
 use Rattle.lfs_model.specs.Tree.{Path, Tree}
 use Rattle.lfs_tree.specs.Seen.{Seen, IsAsked, IsBroken, IsCarried, around_of, tree_seen}
-use Rattle.lfs_fs.specs.FileSeen.{OpenFiles, files_seen, writers_in}
-use Rattle.lfs_fs.specs.Held.{IsReady, IsWritten, held_of, refused_by}
+use Rattle.lfs_checks.specs.FileSeen.{OpenFiles, files_seen, writers_in}
+use Rattle.lfs_checks.specs.Held.{IsReady, IsWritten, held_of, refused_by}
 use Rattle.lfs_model.specs.Keeping.{takes_or_moves}
-use Rattle.lfs_fs.specs.Staying.{AreLeft, FilesStay, KeepsWriters, SparesWriters}
-use Rattle.lfs_fs.specs.declared.files.OpenFile.TheVariants as file
-use Rattle.lfs_fs.specs.declared.files.Writer.{Writer}
-use Rattle.lfs_fs.proofs.Answered.{done_left}
+use Rattle.lfs_checks.specs.Staying.{AreLeft, FilesStay, KeepsWriters, SparesWriters}
+use Rattle.lfs_checks.specs.declared.files.OpenFile.TheVariants as file
+use Rattle.lfs_checks.specs.declared.files.Writer.{Writer}
+use Rattle.lfs_checks.proofs.Answered.{done_left}
 use Rattle.lfs_fs.proofs.FilesBeside.{beside, not_some, or_false}
-use Rattle.lfs_fs.proofs.RemoveChecks.{remove_bare, remove_not_open}
+use Rattle.lfs_checks.proofs.RemoveChecks.{remove_bare, remove_not_open}
 use Rattle.lfs_fs.proofs.Staying.{SameFile, changed_same, named}
 
 -- ---- the writers' files

@@ -3,7 +3,7 @@ use Rattle.std.specs.Prelude.{◌≡◌, ◌≢◌, false, []}
 use Rattle.lfs_model.specs.History.{IsNewest}
 use Rattle.lfs_model.specs.Obeyed.{AreObeyed}
 use Rattle.lfs_model.specs.Run.{Agrees}
-use Rattle.lfs_fs.specs.Held.{Held, moment_of}
+use Rattle.lfs_checks.specs.Held.{Held, moment_of}
 
 -- A session that works has the tree of its disk, and its device has had a call. The newest call left the disk as it is, and each
 -- that didn't fail was carried out.

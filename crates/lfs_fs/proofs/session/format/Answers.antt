@@ -1,6 +1,6 @@
-use Rattle.lfs_fs.specs.Held.{held_of}
+use Rattle.lfs_checks.specs.Held.{held_of}
 use Rattle.std.proofs.Common.{ap}
-use Rattle.lfs_fs.specs.FileSeen.{files_seen}
+use Rattle.lfs_checks.specs.FileSeen.{files_seen}
 use Rattle.lfs_fs.proofs.FreshBegun.{fresh_state}
 use Rattle.lfs_fs.proofs.Remounting.{fresh_ready}
 use Rattle.lfs_fs.proofs.session.format.Goals as goal

@@ -1,5 +1,5 @@
 use Rattle.std.proofs.Common.{subst, sym}
-use Rattle.lfs_fs.specs.Held.{IsReady}
+use Rattle.lfs_checks.specs.Held.{IsReady}
 use Rattle.lfs_fs.proofs.Remounting.{mounted_ready}
 use Rattle.lfs_fs.proofs.session.mount.Goals as goal
 

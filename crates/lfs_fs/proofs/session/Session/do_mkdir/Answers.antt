@@ -1,11 +1,11 @@
 use Rattle.std.proofs.Common.{refl, sym, ap, ap₂, []}
 use Rattle.lfs_model.specs.Operations as ops
-use Rattle.lfs_fs.specs.FileSeen.{files_seen}
-use Rattle.lfs_fs.specs.Replies.{reply_in}
-use Rattle.lfs_fs.specs.Held.{held_of}
-use Rattle.lfs_fs.proofs.Answered.{asked_by_checks, checked_ready, done_answers, ended_call, files_asked, sound_by, with_files}
-use Rattle.lfs_fs.proofs.Checked.{mkdir_can, passed_writable}
-use Rattle.lfs_fs.proofs.Errors.{given_on}
+use Rattle.lfs_checks.specs.FileSeen.{files_seen}
+use Rattle.lfs_checks.specs.Replies.{reply_in}
+use Rattle.lfs_checks.specs.Held.{held_of}
+use Rattle.lfs_checks.proofs.Answered.{asked_by_checks, checked_ready, done_answers, ended_call, files_asked, sound_by, with_files}
+use Rattle.lfs_checks.proofs.Checked.{mkdir_can, passed_writable}
+use Rattle.lfs_checks.proofs.Errors.{given_on}
 use Rattle.lfs_fs.proofs.Staying.{mkdir_left}
 use Rattle.lfs_model.specs.TreeEdits.{added}
 use Rattle.lfs_model.specs.Tree.{DirectoryNode}

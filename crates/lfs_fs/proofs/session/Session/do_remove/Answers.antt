@@ -1,17 +1,17 @@
 use Rattle.std.proofs.Common.{refl, sym, ap, ap₂}
 use Rattle.lfs_model.specs.Operations as ops
-use Rattle.lfs_fs.specs.FileSeen.{files_seen}
-use Rattle.lfs_fs.specs.Replies.{reply_in}
-use Rattle.lfs_fs.specs.Held.{held_of}
-use Rattle.lfs_fs.proofs.Answered.{asked_by_checks, checked_ready, done_answers, ended_call, files_asked, sound_by, with_files}
-use Rattle.lfs_fs.proofs.Errors.{given_on}
+use Rattle.lfs_checks.specs.FileSeen.{files_seen}
+use Rattle.lfs_checks.specs.Replies.{reply_in}
+use Rattle.lfs_checks.specs.Held.{held_of}
+use Rattle.lfs_checks.proofs.Answered.{asked_by_checks, checked_ready, done_answers, ended_call, files_asked, sound_by, with_files}
+use Rattle.lfs_checks.proofs.Errors.{given_on}
 use Rattle.lfs_fs.proofs.RemoveAnswered.{removed_left}
-use Rattle.lfs_fs.proofs.RemoveChecks.{remove_can}
+use Rattle.lfs_checks.proofs.RemoveChecks.{remove_can}
 use Rattle.lfs_model.specs.TreeEdits.{removed}
 use Rattle.lfs_tree.specs.Seen.{tree_seen}
 use Rattle.lfs_fs.proofs.Stopping.{asked_changed, called_by, only_read, reads_of_ended}
 use Rattle.lfs_fs.proofs.Sparing.{done_others}
-use Rattle.lfs_fs.proofs.Checked.{passed_writable}
+use Rattle.lfs_checks.proofs.Checked.{passed_writable}
 use Rattle.lfs_fs.proofs.Ending.{carried_ends, ended_ends}
 use Rattle.lfs_fs.proofs.session.Session.do_remove.Goals as goal
 

@@ -1,18 +1,18 @@
 use Rattle.std.proofs.Common.{[], ◌∙◌, ap₂, refl, sym, ap}
 use Rattle.lfs_model.specs.TreeEdits.{same_path, renamed}
 use Rattle.lfs_model.specs.Operations as ops
-use Rattle.lfs_fs.specs.FileSeen.{files_seen}
-use Rattle.lfs_fs.specs.Replies.{reply_in}
-use Rattle.lfs_fs.specs.Held.{Held, held_of, held_with, moment_of}
-use Rattle.lfs_fs.proofs.Answered.{asked_by_checks, checked_ready, done_answers, ended_call, files_asked, sound_by, with_files}
-use Rattle.lfs_fs.proofs.Errors.{given_on}
+use Rattle.lfs_checks.specs.FileSeen.{files_seen}
+use Rattle.lfs_checks.specs.Replies.{reply_in}
+use Rattle.lfs_checks.specs.Held.{Held, held_of, held_with, moment_of}
+use Rattle.lfs_checks.proofs.Answered.{asked_by_checks, checked_ready, done_answers, ended_call, files_asked, sound_by, with_files}
+use Rattle.lfs_checks.proofs.Errors.{given_on}
 use Rattle.lfs_fs.proofs.RenameAnswered.{renamed_left, same_answers}
-use Rattle.lfs_fs.proofs.RenameChecks.{rename_can}
+use Rattle.lfs_checks.proofs.RenameChecks.{rename_can}
 use Rattle.lfs_model.specs.Refusals.{as_path}
 use Rattle.lfs_tree.specs.Seen.{Seen, tree_seen}
 use Rattle.lfs_fs.proofs.Stopping.{asked_changed, called_by, only_read, reads_of_ended}
 use Rattle.lfs_fs.proofs.Sparing.{done_others, untouched_others}
-use Rattle.lfs_fs.proofs.Checked.{passed_writable}
+use Rattle.lfs_checks.proofs.Checked.{passed_writable}
 use Rattle.lfs_fs.proofs.Ending.{answer_ends, carried_ends, ended_ends}
 use Rattle.lfs_fs.proofs.session.Session.do_rename.Goals as goal
 

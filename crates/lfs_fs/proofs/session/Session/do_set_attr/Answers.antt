@@ -1,18 +1,18 @@
 use Rattle.std.proofs.Common.{refl, sym, ap, ap₂}
 use Rattle.lfs_model.specs.Operations as ops
-use Rattle.lfs_fs.specs.FileSeen.{files_seen}
-use Rattle.lfs_fs.specs.Replies.{reply_in}
-use Rattle.lfs_fs.specs.Held.{held_of}
-use Rattle.lfs_fs.proofs.Answered.{asked_by_checks, checked_ready, done_answers, ended_call, files_asked, sound_by, with_files}
-use Rattle.lfs_fs.proofs.Errors.{given_on}
-use Rattle.lfs_fs.proofs.SetAttrChecks.{set_attr_can}
+use Rattle.lfs_checks.specs.FileSeen.{files_seen}
+use Rattle.lfs_checks.specs.Replies.{reply_in}
+use Rattle.lfs_checks.specs.Held.{held_of}
+use Rattle.lfs_checks.proofs.Answered.{asked_by_checks, checked_ready, done_answers, ended_call, files_asked, sound_by, with_files}
+use Rattle.lfs_checks.proofs.Errors.{given_on}
+use Rattle.lfs_checks.proofs.SetAttrChecks.{set_attr_can}
 use Rattle.lfs_fs.proofs.Staying.{set_attr_left}
 use Rattle.lfs_model.specs.Content.{put_attribute}
 use Rattle.lfs_tree.specs.Seen.{tree_seen}
 use Rattle.lfs_tree.specs.CarryingSlots.{with_attributes_changed}
 use Rattle.lfs_fs.proofs.Stopping.{asked_changed, called_by, only_read, reads_of_ended}
 use Rattle.lfs_fs.proofs.Sparing.{done_others}
-use Rattle.lfs_fs.proofs.Checked.{passed_writable}
+use Rattle.lfs_checks.proofs.Checked.{passed_writable}
 use Rattle.lfs_fs.proofs.Ending.{carried_ends, ended_ends}
 use Rattle.lfs_fs.proofs.session.Session.do_set_attr.Goals as goal
 

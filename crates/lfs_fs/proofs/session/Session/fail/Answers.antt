@@ -1,5 +1,5 @@
 use Rattle.std.proofs.Common.{◌∙◌, ap, true}
-use Rattle.lfs_fs.specs.Held.{Held, held_of}
+use Rattle.lfs_checks.specs.Held.{Held, held_of}
 use Rattle.lfs_fs.proofs.session.Session.fail.Goals as goal
 
 pub returns : goal.returns

@@ -1,6 +1,6 @@
 use Rattle.std.proofs.Common.{refl}
 use Rattle.lfs_model.specs.Operations as ops
-use Rattle.lfs_fs.specs.FlagsSeen.{flags_seen}
+use Rattle.lfs_checks.specs.FlagsSeen.{flags_seen}
 use Rattle.lfs_fs.proofs.Sparing.{changing_call}
 use Rattle.lfs_fs.proofs.session.Session.open.Goals as goal
 

@@ -1,12 +1,12 @@
 use Rattle.std.proofs.Common.{ap, not, refl, ◌∙◌}
 use Rattle.lfs_model.specs.Operations as ops
-use Rattle.lfs_fs.specs.FileSeen.{files_seen}
-use Rattle.lfs_fs.specs.FlagsSeen.{flags_seen}
-use Rattle.lfs_fs.specs.Replies.{reply_in}
-use Rattle.lfs_fs.specs.Held.{held_of}
-use Rattle.lfs_fs.proofs.Answered.{asked_by_checks, checked_ready, ended_call, files_asked, reader_fails, sound_by}
-use Rattle.lfs_fs.proofs.Errors.{given_on}
-use Rattle.lfs_fs.proofs.OpenFiles.{few_left}
+use Rattle.lfs_checks.specs.FileSeen.{files_seen}
+use Rattle.lfs_checks.specs.FlagsSeen.{flags_seen}
+use Rattle.lfs_checks.specs.Replies.{reply_in}
+use Rattle.lfs_checks.specs.Held.{held_of}
+use Rattle.lfs_checks.proofs.Answered.{asked_by_checks, checked_ready, ended_call, files_asked, reader_fails, sound_by}
+use Rattle.lfs_checks.proofs.Errors.{given_on}
+use Rattle.lfs_checks.proofs.OpenFiles.{few_left}
 use Rattle.lfs_fs.proofs.OpenedReaders.{reader_opened, reader_ready}
 use Rattle.lfs_fs.proofs.Stopping.{only_read, reads_failing, reads_of_ended}
 use Rattle.lfs_fs.proofs.Sparing.{turned_others}

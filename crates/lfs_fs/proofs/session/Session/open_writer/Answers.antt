@@ -2,13 +2,13 @@ use Rattle.std.proofs.Common.{◌≡◌, ◌<◌, ◌∙◌, [], sym, refl, ap, 
 use Rattle.lfs_model.specs.Operations as ops
 use Rattle.lfs_model.specs.Effects.{size_of}
 use Rattle.lfs_tree.specs.Seen.{tree_seen}
-use Rattle.lfs_fs.specs.FlagsSeen.{flags_seen}
-use Rattle.lfs_fs.specs.FileSeen.{entry_of, writers_in}
-use Rattle.lfs_fs.specs.declared.files.OpenFile.TheVariants as file
-use Rattle.lfs_fs.specs.Replies.{reply_in}
-use Rattle.lfs_fs.specs.Held.{held_of, held_with, moment_of}
-use Rattle.lfs_fs.proofs.Answered.{asked_by_checks, checked_ready, ended_call, files_asked, sound_by, not_failed}
-use Rattle.lfs_fs.proofs.Errors.{given_on}
+use Rattle.lfs_checks.specs.FlagsSeen.{flags_seen}
+use Rattle.lfs_checks.specs.FileSeen.{entry_of, writers_in}
+use Rattle.lfs_checks.specs.declared.files.OpenFile.TheVariants as file
+use Rattle.lfs_checks.specs.Replies.{reply_in}
+use Rattle.lfs_checks.specs.Held.{held_of, held_with, moment_of}
+use Rattle.lfs_checks.proofs.Answered.{asked_by_checks, checked_ready, ended_call, files_asked, sound_by, not_failed}
+use Rattle.lfs_checks.proofs.Errors.{given_on}
 use Rattle.lfs_fs.proofs.OpenedWriters.{IsOpenedBy, can_begin, can_create, no_writer, opened_new, opened_there, room_made, writer_breaks, writer_opened, writer_ready, writer_lacks_memory}
 use Rattle.lfs_model.specs.PowerLoss.{SurvivesStops}
 use Rattle.lfs_fs.proofs.Stopping.{only_read, reads_failing, reads_of_ended}

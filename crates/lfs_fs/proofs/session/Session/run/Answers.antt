@@ -4,9 +4,9 @@ use Rattle.std.specs.List.{AllByRecursion}
 use Rattle.lfs_model.proofs.AfterStops.{withstood_turns}
 use Rattle.lfs_model.proofs.Turns.{fresh_turns, turns_joined}
 use Rattle.lfs_model.proofs.Withstanding.{agrees_later}
-use Rattle.lfs_fs.specs.Held.{Held, moment_of}
+use Rattle.lfs_checks.specs.Held.{Held, moment_of}
 use Rattle.lfs_fs.specs.OpSeen.{IsNamed, op_seen, reply_seen}
-use Rattle.lfs_fs.proofs.Failing.{memory_fails_now}
+use Rattle.lfs_checks.proofs.Failing.{memory_fails_now}
 use Rattle.lfs_fs.proofs.Running.{first_op, named_further, none_run, run_further, run_ended, run_cut, silent_few}
 use Rattle.lfs_fs.proofs.Stopping.{failing_survives}
 use Rattle.lfs_fs.proofs.Withstanding.{untouched_withstands}

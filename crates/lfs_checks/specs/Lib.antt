@@ -1,0 +1,10 @@
+pub mod Replies
+pub mod Held
+pub mod FileSeen
+pub mod FlagsSeen
+pub mod EntryPaths
+pub mod Replacing
+pub mod RenamePaths
+pub mod Changing
+pub mod Staying
+pub mod LookUps

@@ -1,0 +1,75 @@
+// Paths that are kept.
+
+ghost use Rattle.std.specs.Prelude.{◌≡◌, false, true, IfOk, IfErr, is_some};
+ghost use Rattle.lfs_model.specs.Operations.{path_of};
+ghost use Rattle.lfs_model.specs.Refusals.{as_path, bad_entry};
+ghost use Rattle.lfs_model.specs.TreeEdits.{rest_after, same_path};
+ghost use Rattle.lfs_model.specs.Names.{same_name};
+
+use crate::renaming::is_within;
+use lfs_device::Error;
+use lfs_lookup::Path;
+use std::alloc::Global;
+use std::marker::Model;
+
+/// The bytes of a path that is well formed. To a contract it is the names in it.
+#[derive(Drop)]
+pub struct OwnedPath {
+    bytes: Vec<u8>,
+}
+
+impl Model for OwnedPath {
+    ghost use Rattle.std.specs.Prelude.{◌≡◌, true, is_some};
+    ghost use Rattle.lfs_model.specs.Operations.{path_of};
+    ghost use Rattle.lfs_model.specs.Refusals.{as_path};
+    ghost use Rattle.lfs_model.specs.Tree.{Path};
+
+    ghost Value = { Path };
+
+    ghost view = { λ p. as_path p.bytes.items };
+
+    ghost invariant = { λ p. is_some (path_of p.bytes.items) ≡ true };
+}
+
+impl OwnedPath {
+    /// The path of these bytes, which are well formed.
+    pub fn of(alloc: Global, bytes: &[u8]) -> Result<OwnedPath, Error>
+        requires { is_some (path_of bytes.now) ≡ true }
+        ensures path { IfOk result (λ path. path ≡ as_path bytes.now) }
+        ensures error { IfErr result (λ e. e ≡ Error.NoMemory) }
+    {
+        match Vec::from_slice(alloc, bytes) {
+            Ok(bytes) => Ok(OwnedPath { bytes }),
+            Err(_) => Err(Error::NoMemory),
+        }
+    }
+
+    /// The path, lent.
+    pub fn lend(&self) -> Path<'_>
+        ensures { result ≡ self.now }
+    {
+        Path::parse(self.bytes.as_slice()).unwrap()
+    }
+
+    // Whether it is the path of these bytes.
+    pub(crate) fn is_at(&self, bytes: &[u8]) -> bool
+        requires { is_some (path_of bytes.now) ≡ true }
+        ensures { result ≡ same_path (as_path bytes.now) self.now }
+    {
+        is_same(self.bytes.as_slice(), bytes)
+    }
+
+    // Whether it is the path of these bytes, an entry's, or lies beneath it.
+    pub(crate) fn is_within(&self, bytes: &[u8]) -> bool
+        requires { bad_entry (path_of bytes.now) ≡ false }
+        ensures { result ≡ is_some (rest_after (as_path bytes.now) self.now) }
+    {
+        is_within(bytes, self.bytes.as_slice())
+    }
+}
+
+pub(crate) fn is_same(bytes: &[u8], other: &[u8]) -> bool
+    ensures { result ≡ same_name bytes.now other.now }
+{
+    bytes == other
+}

@@ -3,7 +3,7 @@
 
 usage: bench/times.py [LOG [CRATE..]] > docs/TIMES.md     at the top of the repository; what the gate prints goes to LOG (gate.log)
 
-With names of crates only these are tried; what they stand on is proved too and counts.
+With names of crates the gate runs in a copy that has only these and what they stand on, which is proved too and counts.
 
 A check of the prover is a process. Twice a second its time so far is read from /proc, so each process counts half a second too
 little at most. An edit's check runs in a folder of its own, and a check of tests has the word --test; so the three are told apart.
@@ -11,8 +11,10 @@ little at most. An edit's check runs in a folder of its own, and a check of test
 import collections
 import os
 import re
+import shutil
 import subprocess
 import sys
+import tempfile
 import time
 
 TICK = os.sysconf("SC_CLK_TCK")
@@ -53,11 +55,11 @@ def seen(process):
     return words[words.index("--crate-name") + 1], part, (int(fields[11]) + int(fields[12])) / TICK
 
 
-def measured(log, crates):
+def measured(log, folder):
     """The gate's last line, its wall time, and each crate's processor seconds by part."""
     spent, began = {}, time.monotonic()
     with open(log, "w") as out:
-        gate = subprocess.Popen(["rt", "ci", *crates], stdout=out, stderr=subprocess.STDOUT, stdin=subprocess.DEVNULL)
+        gate = subprocess.Popen(["rt", "ci"], cwd=folder, stdout=out, stderr=subprocess.STDOUT, stdin=subprocess.DEVNULL)
         while gate.poll() is None:
             for process in descendants(gate.pid):
                 if found := seen(process):
@@ -70,6 +72,25 @@ def measured(log, crates):
         return it.read().strip().rpartition("\n")[2], time.monotonic() - began, totals
 
 
+def copy_with(crates, room):
+    """A copy of what is committed, with these crates and what they stand on alone."""
+    archive = subprocess.run(["git", "archive", "HEAD"], stdout=subprocess.PIPE, check=True).stdout
+    subprocess.run(["tar", "x", "-C", room], input=archive, check=True)
+    with open(f"{room}/crates.txt") as it:
+        lines = {line.partition(":")[0]: line for line in it}
+    kept, waiting = set(), list(crates)
+    while waiting:
+        name = waiting.pop()
+        if name in lines and name not in kept:
+            kept.add(name)
+            waiting += lines[name].partition(":")[2].split()
+    with open(f"{room}/crates.txt", "w") as it:
+        it.writelines(line for name, line in lines.items() if name in kept)
+    for name in lines.keys() - kept:
+        shutil.rmtree(f"{room}/crates/{name}")
+    return room
+
+
 def functions(log):
     """How many functions the gate proved of each crate."""
     with open(log) as it:
@@ -78,7 +99,8 @@ def functions(log):
 
 def main():
     log = sys.argv[1] if len(sys.argv) > 1 else "gate.log"
-    last, wall, totals = measured(log, sys.argv[2:])
+    with tempfile.TemporaryDirectory() as room:
+        last, wall, totals = measured(log, copy_with(sys.argv[2:], room) if sys.argv[2:] else ".")
     counts = functions(log)
     edits = lambda crate: len([it for it in os.listdir(f"crates/{crate}/must-fail")]) if os.path.isdir(f"crates/{crate}/must-fail") else 0
     whole = sum(sum(it.values()) for it in totals.values())

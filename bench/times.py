@@ -4,6 +4,7 @@
 usage: bench/times.py [LOG [CRATE..]] > docs/TIMES.md     at the top of the repository; what the gate prints goes to LOG (gate.log)
 
 With names of crates the gate runs in a copy that has only these and what they stand on, which is proved too and counts.
+`taskset -c 0,1 bench/times.py ..` shows what it takes on two processors.
 
 A check of the prover is a process. Twice a second its time so far is read from /proc, so each process counts half a second too
 little at most. An edit's check runs in a folder of its own, and a check of tests has the word --test; so the three are told apart.
@@ -110,7 +111,7 @@ def main():
     print("|---|---|---|---|---|---|")
     for crate, spent in sorted(totals.items(), key=lambda it: -sum(it[1].values())):
         print(f"| `{crate}` | {counts.get(crate, '')} | {spent['code']:.0f} | {spent['tests']:.0f} | {spent['edits']:.0f} | {edits(crate)} |")
-    print(f"\nIn all {whole / 60:.0f} processor minutes, on {os.cpu_count()} processors in {wall / 60:.0f} minutes. The gate's last line: `{last}`.")
+    print(f"\nIn all {whole / 60:.0f} processor minutes, on {len(os.sched_getaffinity(0))} processors in {wall / 60:.0f} minutes. The gate's last line: `{last}`.")
 
 
 if __name__ == "__main__":

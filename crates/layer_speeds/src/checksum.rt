@@ -1,12 +1,8 @@
-//! The checksum of a block of 64 KiB, so many rounds, each over the last one's. Prints the checksum,
-//! and on standard error the nanoseconds that the rounds took (bench/crc.py compares them).
-#![tactic(auto)]
-
-ghost use Rattle.std.specs.Prelude.{◌≡◌, length};
+// The checksum of a block of 64 KiB.
 
 use lfs_tag::crc;
+use std::io;
 use std::time::Instant;
-use std::{env, io};
 
 const BLOCK: usize = 65536;
 
@@ -27,18 +23,14 @@ fn rounds_over(block: &[u8], rounds: u32) -> u32 {
     sum
 }
 
-fn main(rt: HostRuntime) -> io::Result<()> {
-    let mut rounds = 1;
-    for word in env::args(&rt)? {
-        if let Ok(number) = word.as_str().parse::<u32>() {
-            rounds = number;
-        }
-    }
+/// Computes the checksum so many rounds, each over the last one's. Prints it, and on standard error
+/// the nanoseconds that the rounds took (bench/crc.py compares them).
+pub fn show(rt: &HostRuntime, rounds: u32) -> io::Result<()> {
     let mut block = [0u8; BLOCK];
     fill(&mut block);
-    let start = Instant::now(&rt)?;
+    let start = Instant::now(rt)?;
     let sum = rounds_over(&block, rounds);
-    let took = start.elapsed(&rt)?;
+    let took = start.elapsed(rt)?;
     println!(rt; "{sum}")?;
     eprintln!(rt; "{}", took.as_nanos())
 }

@@ -1,7 +1,5 @@
-//! How many device reads it takes to read a byte of a list of 1,000 blocks, beside those of a walk
-//! back by each block's first pointer. Prints both for some of the blocks, and the most and the sum
-//! over all of them (bench/ctz_reads.py judges them).
-#![tactic(auto)]
+// How many device reads it takes to read a byte of a list of 1,000 blocks, beside those of a walk
+// back by each block's first pointer.
 
 use lfs_ctz::read_at;
 use lfs_device::{BlockDevice, Error, FaultDevice, Geometry, RamDevice, Which};
@@ -92,7 +90,9 @@ fn measure(alloc: Global) -> Result<Vec<Reads>, Error> {
     Ok(all)
 }
 
-fn main(rt: HostRuntime) -> io::Result<()> {
+/// Prints both for some of the blocks, and the most and the sum over all of them (bench/ctz_reads.py
+/// judges them).
+pub fn show(rt: &HostRuntime) -> io::Result<()> {
     let all = match measure(rt.alloc()) {
         Ok(all) => all,
         Err(error) => return eprintln!(rt; "{error:?}"),

@@ -27,6 +27,7 @@ fn main(rt: HostRuntime) -> io::Result<()> {
     match figure.as_str() {
         "checksum" => checksum::show(&rt, rounds),
         "look_ups" => look_ups::show(&rt, rounds),
-        _ => list_reads::show(&rt),
+        "list_reads" => list_reads::show(&rt),
+        _ => eprintln!(rt; "checksum, look_ups or list_reads"),
     }
 }

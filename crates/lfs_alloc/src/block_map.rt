@@ -96,7 +96,7 @@ impl BlockMap {
 
     /// Hands out a free block, which is then in flight until it is settled or released. None exactly where no block is free.
     ///
-    /// The blocks come in turn, from the one after the last that was taken, so that all of them wear alike.
+    /// The blocks come in turn, from the one after the last that was taken since the mount.
     pub fn take(&mut self) -> Option<u32>
         ensures was_free { IfSome result (IsFree self.old) }
         ensures taken { IfSome result (λ block. self.new ≡ slice_set self.old block InFlight) }

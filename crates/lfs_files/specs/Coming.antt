@@ -6,7 +6,7 @@ use Rattle.lfs_model.specs.SlotEdits.{Stores}
 use Rattle.lfs_model.specs.Slots.{Struct}
 use Rattle.lfs_model.specs.View.{IsListIfCtz}
 use Rattle.lfs_model.specs.Shown.{file_blocks}
-use Rattle.lfs_model.proofs.Counts.{count}
+use Rattle.lfs_model.specs.Steps.{count}
 use Rattle.lfs_thread.specs.Kept.{Kept}
 
 -- The struct says these contents, as a list that stands on the disk or inline. `come` are its blocks that the one before hasn't;

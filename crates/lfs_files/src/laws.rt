@@ -1,7 +1,7 @@
 // What the map has once a list is settled.
 
 ghost use Rattle.std.specs.Prelude.{◌≡◌, ◌≤◌, ◌+◌, ℕ, Contains, List};
-ghost use Rattle.lfs_model.proofs.Counts.{count};
+ghost use Rattle.lfs_model.specs.Steps.{count};
 ghost use Rattle.lfs_model.specs.BlockSets.{AreUsed, BlockSets};
 ghost use Rattle.lfs_writer.specs.Settled.{IsSettled};
 

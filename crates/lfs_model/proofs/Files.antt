@@ -4,12 +4,14 @@ use Rattle.std.specs.Prelude.{All, slice_index}
 use Rattle.std.specs.List.{enumerate_from}
 use Rattle.std.proofs.lemmas.List.Elements.{All-from_recursion}
 use Rattle.lfs_model.specs.Blocks.{Blocks, block_in}
-use Rattle.lfs_model.specs.Disk.{Disk, block_at, SameGeometry}
+use Rattle.lfs_model.specs.Disk.{Disk, SameGeometry}
 use Rattle.lfs_model.specs.Slots.{Struct, Inline, Ctz, Branch}
 use Rattle.lfs_model.specs.SkipLists.{word_at, pointers_of, blocks_for, blocks_back, AreListBlocks, IsList, data_of, bytes_of}
 use Rattle.lfs_model.specs.Shown.{contents_in, file_blocks}
 use Rattle.lfs_model.specs.View.{IsListIfCtz}
 use Rattle.lfs_model.proofs.Counts.{Each, each_left, each_right}
+use Rattle.lfs_model.specs.Steps.{HasSameFile}
+pub use Rattle.lfs_model.specs.Steps.{HasSameFile}
 
 abbrev pub Same : Blocks → Blocks → List ℕ → Type 0
 Same d e = Each (λ b. block_in e b ≡ block_in d b)
@@ -59,10 +61,6 @@ bytes_same d e block_size head size h =
     ∙ ap (take size) (data_same d e 0 (blocks_back d (blocks_for block_size size) head) h)
 
 -- ---- of a disk
-
--- the blocks of the file that a struct names are the same on both disks
-abbrev pub HasSameFile : Disk → Disk → Struct → Type 0
-HasSameFile disk new s = Each (λ b. block_at new b ≡ block_at disk b) (file_blocks disk s)
 
 pub file_blocks_same : (disk new : Disk) (s : Struct) → SameGeometry disk new → HasSameFile disk new s → file_blocks new s ≡ file_blocks disk s
 file_blocks_same disk new (Inline bytes) g h = refl

@@ -9,13 +9,10 @@ use Rattle.lfs_model.specs.Effects.{with_bytes}
 use Rattle.lfs_model.proofs.Paths.{path_itself, rest_itself}
 use Rattle.lfs_model.proofs.Edits.{planted_off, planted_on, not_same}
 use Rattle.lfs_model.proofs.Trees.{set_off, change_off, change_on, renamed_is}
+use Rattle.lfs_model.specs.Steps.{LeavesBytes, StaysFile}
+pub use Rattle.lfs_model.specs.Steps.{LeavesBytes, StaysFile}
 
 -- ---- changes of a tree
-
--- whatever tree it changes, a file at that path has the same bytes after it
-abbrev pub LeavesBytes : (Tree → Tree) → Path → Type 0
-LeavesBytes change q = (t : Tree) (attributes : Attributes) (bytes : List ℕ) → t q ≡ Some (FileNode attributes bytes) →
-    (others : Attributes) × (change t q ≡ Some (FileNode others bytes))
 
 -- what the two changes leave together each of them leaves
 abbrev pub Parts : (Tree → Tree) → (Tree → Tree) → Type 0
@@ -120,10 +117,6 @@ bytes_set p bytes leaves =
     absurd (omega arith)
 
 -- ---- slots of files
-
--- a file's slot is still there, with its struct
-abbrev pub StaysFile : Option Slot → Option Slot → Type 0
-StaysFile was now = (u : Slot) → was ≡ Some u → branch_of u.struct ≡ None → (v : Slot) × ((now ≡ Some v) × (v.struct ≡ u.struct))
 
 pub stays_same : (was now : Option Slot) → now ≡ was → StaysFile was now
 stays_same was now h u e file = (u, (h ∙ e, refl))

@@ -28,13 +28,10 @@ use Rattle.lfs_model.proofs.Writable.{flag}
 use Rattle.lfs_model.proofs.LeftFiles.{Parts}
 use Rattle.lfs_model.proofs.MadeDirectory.{Cut, follows_then}
 use Rattle.lfs_model.proofs.Profiles.{step_writable, drop_writable, beside_writable, set_writable, end_writable}
+use Rattle.lfs_model.specs.Steps.{IsTaken}
+pub use Rattle.lfs_model.specs.Steps.{IsTaken}
 
 -- ---- what a step comes to
-
--- The step leads from the pairs ps on the disk to qs on the new one, makes that of the tree, and stays in the profile.
-pub record IsTaken (disk : Disk) (ps : List Pair) (new : Disk) (qs : List Pair) (change : Tree → Tree) (walk : Walk → Walk) : Type 0 where
-  pub follows : Follows disk ps new qs change walk
-  pub writable : IsWritable new qs
 
 -- one after another
 pub taken_then : (a b c : Disk) (ps qs rs : List Pair) (f g : Tree → Tree) (v w : Walk → Walk) → Parts f g → IsTaken a ps b qs f v → IsTaken b qs c rs g w → IsTaken a ps c rs (λ t. g (f t)) (λ d. w (v d))

@@ -39,6 +39,7 @@ pub mod Layout
 pub mod Discipline
 pub mod Keeping
 pub mod InDirectory
+pub mod Steps
 pub mod Run
 pub mod Failure
 pub mod Thrift

@@ -1,5 +1,5 @@
 -- What the pairs of a thread show: directories, paths, the tree, the blocks that are used.
-use Rattle.std.specs.Prelude.{ℕ, ◌≡◌, ◌+◌, true, List, [], ◌++◌, Some}
+use Rattle.std.specs.Prelude.{ℕ, ◌≡◌, true, List, [], ◌++◌, Some}
 use Rattle.std.specs.List.{flat_map}
 use Rattle.lfs_model.specs.Disk.{Disk}
 use Rattle.lfs_model.specs.Slots.{Slot, Struct, Inline, Ctz, Branch, same_pair}

@@ -12,7 +12,7 @@ use Rattle.lfs_model.specs.Refusals.{as_path}
 use Rattle.lfs_model.specs.Tree.{Path, Tree}
 use Rattle.lfs_model.specs.Profile.{FitsEntry}
 use Rattle.lfs_model.specs.Shown.{Leads, tree_in}
-use Rattle.lfs_model.proofs.Committed.{IsCompleted}
+use Rattle.lfs_model.specs.Steps.{IsCompleted}
 use Rattle.lfs_thread.specs.Kept.{Kept}
 use Rattle.lfs_thread.specs.Steps.{pair_in}
 use Rattle.lfs_operations.specs.Ready.{HasBecome, IsLoggedAt, IsReady}

@@ -19,8 +19,7 @@ use Rattle.lfs_model.specs.Thread.{Pair}
 use Rattle.lfs_model.specs.Tree.{Path, Tree, DirectoryNode}
 use Rattle.lfs_model.specs.Shown.{Leads, tree_in}
 use Rattle.lfs_model.specs.WrittenContent.{pair_bytes}
-use Rattle.lfs_model.proofs.Committed.{IsCompleted}
-use Rattle.lfs_model.proofs.Global.{turned}
+use Rattle.lfs_model.specs.Steps.{IsCompleted, turned}
 use Rattle.lfs_thread.specs.Kept.{Kept, State}
 use Rattle.lfs_thread.specs.Steps.{Writes, made_in_thread, pair_in}
 use Rattle.lfs_operations.specs.Changing.{Alters}

@@ -11,12 +11,7 @@ use Rattle.lfs_model.specs.Profile.{IsWritable}
 use Rattle.lfs_model.specs.Shown.{directories_in, used_blocks}
 use Rattle.lfs_model.specs.View.{IsAccepted}
 use Rattle.lfs_model.specs.Slots.{set_move}
-use Rattle.lfs_model.proofs.Alike.{AreAlike}
-use Rattle.lfs_model.proofs.Counts.{count}
-use Rattle.lfs_model.proofs.MoveSets.{firsts}
-use Rattle.lfs_model.proofs.Sites.{Among}
-use Rattle.lfs_model.proofs.StepsTaken.{IsTaken}
-use Rattle.lfs_model.proofs.Writable.{flag}
+use Rattle.lfs_model.specs.Steps.{AreAlike, count, firsts, Among, IsTaken, flag}
 use Rattle.lfs_thread.specs.Kept.{Kept}
 use Rattle.lfs_thread.specs.Device.{two_of}
 use Rattle.lfs_thread.specs.Steps.{HasShape, pair_in, with_pair, without_pair}

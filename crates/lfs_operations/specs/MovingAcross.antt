@@ -5,7 +5,7 @@ use Rattle.lfs_model.specs.TreeEdits.{renamed, rest_after}
 use Rattle.lfs_model.specs.Operations as ops
 use Rattle.lfs_model.specs.Session.{Session}
 use Rattle.lfs_model.specs.Refusals.{as_path}
-use Rattle.lfs_model.proofs.Committed.{IsCompleted}
+use Rattle.lfs_model.specs.Steps.{IsCompleted}
 use Rattle.lfs_model.specs.Changes.{Change, PutMove}
 use Rattle.lfs_model.specs.InDirectory.{BeginsAt, Belongs}
 use Rattle.lfs_model.specs.Names.{Name, is_name}

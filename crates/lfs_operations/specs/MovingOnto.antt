@@ -5,7 +5,7 @@ use Rattle.lfs_model.specs.TreeEdits.{rest_after}
 use Rattle.lfs_model.specs.Operations as ops
 use Rattle.lfs_model.specs.Session.{Session}
 use Rattle.lfs_model.specs.Refusals.{as_path}
-use Rattle.lfs_model.proofs.Committed.{IsCompleted}
+use Rattle.lfs_model.specs.Steps.{IsCompleted, count}
 use Rattle.lfs_model.specs.Changes.{Change, Delete, PutMove}
 use Rattle.lfs_model.specs.InDirectory.{BeginsAt, Stands}
 use Rattle.lfs_model.specs.LoggedContent.{IsAddress}
@@ -14,7 +14,6 @@ use Rattle.lfs_model.specs.Slots.{Branch, Struct, gstate_xor, same_pair}
 use Rattle.lfs_model.specs.Thread.{is_hard}
 use Rattle.lfs_model.specs.Profile.{FitsEntry}
 use Rattle.lfs_model.specs.Shown.{file_blocks, Leads, tree_in, used_blocks}
-use Rattle.lfs_model.proofs.Counts.{count}
 use Rattle.lfs_thread.specs.Kept.{Kept}
 use Rattle.lfs_thread.specs.Steps.{IsOnlyRead, pair_in}
 use Rattle.lfs_operations.specs.Editing.{CanEdit, slot_at}

@@ -10,7 +10,7 @@ use Rattle.lfs_model.specs.View.{IsAccepted}
 use Rattle.lfs_model.specs.Profile.{IsWritable}
 use Rattle.lfs_model.specs.Shown.{tree_in, used_blocks}
 use Rattle.lfs_model.specs.Tree.{Tree}
-use Rattle.lfs_model.proofs.Counts.{count}
+use Rattle.lfs_model.specs.Steps.{count}
 use Rattle.lfs_thread.specs.Kept.{Kept}
 
 -- It is accepted and in the writing profile, no move is set and the sync bit isn't; the map knows each of its blocks.

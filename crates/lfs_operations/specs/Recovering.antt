@@ -15,13 +15,8 @@ use Rattle.lfs_model.specs.Thread.{Pair, blocks_of, directory_pairs, gstate_of, 
 use Rattle.lfs_model.specs.View.{IsAccepted}
 use Rattle.lfs_model.specs.Shown.{IsReached, all_slots, tree_in, used_blocks}
 use Rattle.lfs_model.specs.Profile.{IsWritable}
-use Rattle.lfs_model.proofs.Alike.{AreAlike}
-use Rattle.lfs_model.proofs.Committed.{IsCompleted}
-use Rattle.lfs_model.proofs.Counts.{count}
-use Rattle.lfs_model.proofs.Files.{HasSameFile}
-use Rattle.lfs_model.proofs.Global.{HasNoMove}
-use Rattle.lfs_model.proofs.Splices.{files_of, slots_in}
-use Rattle.lfs_model.proofs.StepsTaken.{IsTaken}
+use Rattle.lfs_model.specs.Steps.{AreAlike, IsCompleted, count, HasSameFile, HasNoMove, files_of, IsTaken}
+use Rattle.lfs_model.specs.InDirectory.{slots_in}
 use Rattle.lfs_thread.specs.Kept.{Kept, State}
 use Rattle.lfs_thread.specs.Steps.{no_pair}
 use Rattle.lfs_operations.specs.Dropping.{SameInFlight}

@@ -9,8 +9,7 @@ use Rattle.lfs_model.specs.Slots.{Struct}
 use Rattle.lfs_model.specs.Refusals.{as_path}
 use Rattle.lfs_model.specs.Tree.{Path, Tree, branch_of}
 use Rattle.lfs_model.specs.Shown.{file_blocks, tree_in, used_blocks}
-use Rattle.lfs_model.proofs.Committed.{IsCompleted}
-use Rattle.lfs_model.proofs.Counts.{count}
+use Rattle.lfs_model.specs.Steps.{IsCompleted, count}
 use Rattle.lfs_thread.specs.Kept.{Kept, State}
 use Rattle.lfs_thread.specs.Steps.{HasTold, pair_in}
 use Rattle.lfs_operations.specs.Editing.{CanEdit, slot_at}

@@ -13,9 +13,7 @@ use Rattle.lfs_model.specs.Slots.{Branch, Content, gstate_xor, same_pair}
 use Rattle.lfs_model.specs.Thread.{IsThread, gstate_of, is_hard}
 use Rattle.lfs_model.specs.Tree.{Path}
 use Rattle.lfs_model.specs.Profile.{FitsEntry}
-use Rattle.lfs_model.proofs.Global.{sync_share}
-use Rattle.lfs_model.proofs.Renames.{rename_walk}
-use Rattle.lfs_model.proofs.StepsTaken.{IsTaken}
+use Rattle.lfs_model.specs.Steps.{sync_share, rename_walk, IsTaken}
 use Rattle.lfs_thread.specs.Kept.{Kept, State}
 use Rattle.lfs_thread.specs.Steps.{HasTold, IsChanged, IsOnlyRead, IsWrittenAs, pair_in, with_pair}
 use Rattle.lfs_operations.specs.Dropping.{HasShrunk}

@@ -14,8 +14,7 @@ use Rattle.lfs_model.specs.Thread.{blocks_of}
 use Rattle.lfs_model.specs.Tree.{Path, Tree, branch_of}
 use Rattle.lfs_model.specs.View.{IsListIfCtz}
 use Rattle.lfs_model.specs.Shown.{file_blocks, tree_in, used_blocks}
-use Rattle.lfs_model.proofs.Committed.{IsCompleted}
-use Rattle.lfs_model.proofs.Counts.{count}
+use Rattle.lfs_model.specs.Steps.{IsCompleted, count}
 use Rattle.lfs_thread.specs.Kept.{Kept}
 use Rattle.lfs_operations.specs.Editing.{CanEdit, slot_at}
 use Rattle.lfs_operations.specs.Ready.{HasBecomeBut}

@@ -16,8 +16,7 @@ use Rattle.lfs_model.specs.Refusals.{as_path}
 use Rattle.lfs_model.specs.Thread.{IsThread, is_hard}
 use Rattle.lfs_model.specs.Tree.{Path}
 use Rattle.lfs_model.specs.Shown.{tree_in}
-use Rattle.lfs_model.proofs.Committed.{IsCompleted}
-use Rattle.lfs_model.proofs.Global.{sync_share}
+use Rattle.lfs_model.specs.Steps.{IsCompleted, sync_share}
 use Rattle.lfs_thread.specs.Kept.{Kept, State}
 use Rattle.lfs_thread.specs.Steps.{IsWrittenAs, pair_in, with_pair}
 use Rattle.lfs_operations.specs.Changing.{Alters}

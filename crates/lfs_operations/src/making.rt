@@ -6,7 +6,7 @@ ghost use Rattle.lfs_model.specs.Disk.{block_count};
 ghost use Rattle.lfs_model.specs.PowerLoss.{IsLeft, Survives};
 ghost use Rattle.lfs_model.specs.Slots.{address_of};
 ghost use Rattle.lfs_model.specs.Shown.{tree_in};
-ghost use Rattle.lfs_model.proofs.Global.{turned};
+ghost use Rattle.lfs_model.specs.Steps.{turned};
 ghost use Rattle.lfs_tag.specs.FieldsSeen.{move_seen};
 ghost use Rattle.lfs_thread.specs.Device.{StopsLeave, four_of, two_of};
 ghost use Rattle.lfs_thread.specs.Steps.{CanJoin, HasToldBeside, IsJoined, IsLeftByJoin, Writes, pair_in};

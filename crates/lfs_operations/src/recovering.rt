@@ -9,7 +9,7 @@ ghost use Rattle.lfs_model.specs.Slots.{Gstate, address_of, gstate_xor, no_gstat
 ghost use Rattle.lfs_model.specs.Thread.{blocks_of, gstate_of, is_hard};
 ghost use Rattle.lfs_model.specs.View.{IsAccepted};
 ghost use Rattle.lfs_model.specs.Shown.{tree_in};
-ghost use Rattle.lfs_model.proofs.Global.{HasNoMove};
+ghost use Rattle.lfs_model.specs.Steps.{HasNoMove};
 ghost use Rattle.lfs_tag.specs.ContentSeen.{tail_seen};
 ghost use Rattle.lfs_tag.specs.FieldsSeen.{move_seen};
 ghost use Rattle.lfs_thread.specs.Device.{StopsLeave, two_of};

@@ -8,8 +8,7 @@ use Rattle.lfs_model.specs.Refusals.{as_path}
 use Rattle.lfs_model.specs.Thread.{Pair}
 use Rattle.lfs_model.specs.Tree.{Path}
 use Rattle.lfs_model.specs.Shown.{tree_in, used_blocks}
-use Rattle.lfs_model.proofs.Committed.{IsCompleted}
-use Rattle.lfs_model.proofs.Counts.{count}
+use Rattle.lfs_model.specs.Steps.{IsCompleted, count}
 use Rattle.lfs_operations.specs.Dropping.{SameInFlight}
 use Rattle.lfs_operations.specs.Editing.{slot_at}
 use Rattle.lfs_operations.specs.Ready.{IsReady, IsReadyBut}

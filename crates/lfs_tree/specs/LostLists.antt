@@ -5,7 +5,7 @@ use Rattle.lfs_files.specs.Settling.{blocks_in_list}
 use Rattle.lfs_model.specs.Content.{RawSlot, struct_typed}
 use Rattle.lfs_model.specs.Slots.{Slot, Struct, Inline, Ctz, Branch}
 use Rattle.lfs_model.specs.Shown.{used_blocks}
-use Rattle.lfs_model.proofs.Counts.{count}
+use Rattle.lfs_model.specs.Steps.{count}
 use Rattle.lfs_operations.specs.Ready.{IsReadyBut}
 use Rattle.lfs_thread.specs.Kept.{Kept}
 use Rattle.lfs_writer.specs.Based.{IsBase}

@@ -11,9 +11,7 @@ use Rattle.lfs_model.specs.Tree.{Path}
 use Rattle.lfs_model.specs.View.{IsAccepted}
 use Rattle.lfs_model.specs.Profile.{IsWritable}
 use Rattle.lfs_model.specs.Shown.{tree_in, used_blocks}
-use Rattle.lfs_model.proofs.Committed.{IsCompleted}
-use Rattle.lfs_model.proofs.Counts.{count}
-use Rattle.lfs_model.proofs.Global.{HasNoMove}
+use Rattle.lfs_model.specs.Steps.{IsCompleted, count, HasNoMove}
 use Rattle.lfs_operations.specs.Ready.{IsReady}
 use Rattle.lfs_operations.specs.EndingMove.{RecoversTo}
 use Rattle.lfs_thread.specs.Kept.{Kept}

@@ -15,7 +15,7 @@ use Rattle.lfs_model.specs.Thread.{Pair, is_hard}
 use Rattle.lfs_model.specs.Tree.{Path}
 use Rattle.lfs_model.specs.Profile.{FitsEntry}
 use Rattle.lfs_model.specs.Shown.{tree_in}
-use Rattle.lfs_model.proofs.Committed.{IsCompleted}
+use Rattle.lfs_model.specs.Steps.{IsCompleted}
 use Rattle.lfs_operations.specs.Dropping.{SameInFlight}
 use Rattle.lfs_operations.specs.Editing.{CanEdit, slot_at}
 use Rattle.lfs_operations.specs.Making.{HasRoomFor}

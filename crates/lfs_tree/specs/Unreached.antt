@@ -5,7 +5,7 @@ use Rattle.lfs_model.specs.InDirectory.{BeginsAt}
 use Rattle.lfs_model.specs.Slots.{Struct, Inline, Ctz, Branch}
 use Rattle.lfs_model.specs.Thread.{Pair}
 use Rattle.lfs_model.specs.Shown.{IsReached}
-use Rattle.lfs_model.proofs.Sites.{Among}
+use Rattle.lfs_model.specs.Steps.{Among}
 use Rattle.lfs_lookup.specs.Items.{Shape}
 use Rattle.lfs_lookup.specs.Walk.{BeginsIfBranch}
 

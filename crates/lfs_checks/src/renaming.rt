@@ -1,19 +1,21 @@
 // The paths and the checks of a rename.
 
-ghost use Rattle.std.specs.Prelude.{◌≡◌, ◌&&◌, false, is_some, true};
+ghost use Rattle.std.specs.Prelude.{◌≡◌, ◌&&◌, false, is_some, not, true};
 ghost use Rattle.lfs_model.specs.TreeEdits.{is_beneath, rest_after, same_path};
 ghost use Rattle.lfs_model.specs.Operations as ops;
 ghost use Rattle.lfs_model.specs.Operations.{path_of};
 ghost use Rattle.lfs_model.specs.Refusals.{as_path, bad_entry};
+ghost use Rattle.lfs_model.specs.Session.{refuse_if};
+ghost use Rattle.lfs_lookup.specs.Refusals.{is_refusal, refusal_in};
 ghost use Rattle.lfs_checks.specs.Held.{Checks, IsReady, held_of};
 ghost use Rattle.lfs_checks.specs.RenamePaths.{IsRenaming, goes_on};
 
 use crate::checks::{is_overcharged_with, lacks, parse_entry};
 use crate::files::Files;
 use crate::owned_path::is_same;
-use crate::passing::passed;
+use crate::passing::{both, passed};
 use lfs_device::{BlockDevice, Error};
-use lfs_lookup::{Path, refuse_if};
+use lfs_lookup::{Path, Refusal, refuse_if};
 use lfs_tag::Superblock;
 use lfs_tree::Tree;
 use std::alloc::Global;
@@ -55,10 +57,12 @@ fn is_beneath(bytes: &[u8], other: &[u8]) -> bool
     is_within(bytes, other) && !is_same_path(bytes, other)
 }
 
-fn are_both(a: bool, b: bool) -> bool
-    ensures { result ≡ (a && b) }
+// A check of what stands at the new path, which a rename to the same path passes.
+fn refuse_replacing(is_same: bool, is_bad: bool, error: Error) -> Option<Refusal>
+    requires { is_refusal error ≡ true }
+    ensures { result ≡ refuse_if (not is_same && is_bad) (refusal_in error) }
 {
-    a && b
+    refuse_if(both(!is_same, is_bad), error)
 }
 
 /// A rename that no check refuses.
@@ -101,34 +105,20 @@ pub fn check_rename<'a, D: BlockDevice>(
     let taken = tree.attributes_size(alloc, &from)?;
     let is_same = is_same_path(old, new);
     let replaces = inside.finding.node;
+    let name_len = to.name_len();
+    let puts_directory = both(entry.node.is_directory(), replaces.is_file());
+    let puts_file = both(entry.node.is_file(), replaces.is_directory());
+    let overfills = is_overcharged_with(tree, name_len, taken);
     let checks = [
         entry.fault,
         inside.finding.fault,
-        refuse_if(
-            to.name_len() > Superblock::NAME_MAX as usize,
-            Error::NameTooLong,
-        ),
+        refuse_if(name_len > Superblock::NAME_MAX as usize, Error::NameTooLong),
         refuse_if(entry.node.is_nothing(), Error::NoEnt),
-        refuse_if(
-            are_both(
-                !is_same,
-                are_both(entry.node.is_directory(), replaces.is_file()),
-            ),
-            Error::NotDir,
-        ),
-        refuse_if(
-            are_both(
-                !is_same,
-                are_both(entry.node.is_file(), replaces.is_directory()),
-            ),
-            Error::IsDir,
-        ),
-        refuse_if(are_both(!is_same, inside.has_entries), Error::NotEmpty),
+        refuse_replacing(is_same, puts_directory, Error::NotDir),
+        refuse_replacing(is_same, puts_file, Error::IsDir),
+        refuse_replacing(is_same, inside.has_entries, Error::NotEmpty),
         refuse_if(files.is_in_the_way(old, new), Error::Busy),
-        refuse_if(
-            are_both(!is_same, is_overcharged_with(tree, to.name_len(), taken)),
-            Error::EntryFull,
-        ),
+        refuse_replacing(is_same, overfills, Error::EntryFull),
         refuse_if(lacks(tree, files, 2), Error::NoSpace),
     ];
     passed(&checks, Renaming { from, to, is_same })

@@ -19,15 +19,15 @@ returns g c =
     let two = c.in_ok-inside.ensures.asked in
     let asked = asked_twice _ _ _ (asked_twice _ _ _ one two) c.in_ok-taken.ensures.asked in
     rename_checked (held_of c.args.tree.now c.args.files.now) c.args.old.now c.args.new.now c.in-Some.from c.in-Some-parse_entry.to c.in_ok-entry.entry c.in_ok-inside.inside.finding c.look_up.new.self c.look_inside.new.self c.attributes_size.new.self
-    c.in_ok-taken.taken c.name_len.result c.name_len-2.result c.is_same_path-is_same.result c.is_nothing.result c.are_both-2.result c.are_both-4.result c.in_ok-inside.inside.has_entries c.are_both-5.result c.is_overcharged_with.result c.are_both-6.result c.lacks.result c.is_in_the_way.result
-    c.refuse_if.result c.refuse_if-2.result c.refuse_if-3.result c.refuse_if-4.result c.refuse_if-5.result c.refuse_if-6.result c.refuse_if-7.result c.refuse_if-8.result c.passed.result _
+    c.in_ok-taken.taken c.name_len-name_len.result c.name_len-name_len.result c.is_same_path-is_same.result c.is_nothing.result _ _ c.in_ok-inside.inside.has_entries _ c.is_overcharged_with-overfills.result _ c.lacks.result c.is_in_the_way.result
+    c.refuse_if.result c.refuse_if-2.result c.refuse_replacing.result c.refuse_replacing-2.result c.refuse_replacing-3.result c.refuse_if-3.result c.refuse_replacing-4.result c.refuse_if-4.result c.passed.result _
     c.if-has_failed.ensures c.if-not-is_writable.ensures c.in-Some.ensures c.in-Some-parse_entry.ensures (sym c.if-is_beneath.ensures) one two asked
     c.in_ok-entry.ensures.found c.in_ok-inside.ensures.found c.in_ok-taken.ensures.size c.is_same_path-is_same.ensures
-    c.name_len.ensures.len c.refuse_if.ensures c.is_nothing.ensures c.refuse_if-2.ensures
-    (three_of _ _ _ _ _ _ _ c.are_both-2.ensures c.are_both.ensures c.is_directory.ensures c.is_file.ensures) c.refuse_if-3.ensures (three_of _ _ _ _ _ _ _ c.are_both-4.ensures c.are_both-3.ensures c.is_file-2.ensures c.is_directory-2.ensures) c.refuse_if-4.ensures
-    c.in_ok-inside.ensures.has c.are_both-5.ensures c.refuse_if-5.ensures (c.is_in_the_way.ensures c.args.tree.now) c.refuse_if-6.ensures
-    c.name_len-2.ensures.len c.is_overcharged_with.ensures c.are_both-6.ensures c.refuse_if-7.ensures
-    (c.lacks.ensures ∙ lacks_is c.attributes_size.new.self c.args.files.now 2 (ready_later _ _ c.args.files.now (c.requires (sym c.if-has_failed.ensures)) asked) ∙ ap (λ z. lacks (around_of c.attributes_size.new.self) (files_seen z c.args.files.now) 2) asked.same) c.refuse_if-8.ensures
+    c.name_len-name_len.ensures.len c.refuse_if.ensures c.is_nothing.ensures c.refuse_if-2.ensures
+    (three_of _ _ _ _ _ _ _ refl c.both-puts_directory.ensures c.is_directory.ensures c.is_file.ensures) c.refuse_replacing.ensures (three_of _ _ _ _ _ _ _ refl c.both-puts_file.ensures c.is_file-2.ensures c.is_directory-2.ensures) c.refuse_replacing-2.ensures
+    c.in_ok-inside.ensures.has refl c.refuse_replacing-3.ensures (c.is_in_the_way.ensures c.args.tree.now) c.refuse_if-3.ensures
+    c.name_len-name_len.ensures.len c.is_overcharged_with-overfills.ensures refl c.refuse_replacing-4.ensures
+    (c.lacks.ensures ∙ lacks_is c.attributes_size.new.self c.args.files.now 2 (ready_later _ _ c.args.files.now (c.requires (sym c.if-has_failed.ensures)) asked) ∙ ap (λ z. lacks (around_of c.attributes_size.new.self) (files_seen z c.args.files.now) 2) asked.same) c.refuse_if-4.ensures
     (renaming_is c.args.old.now c.args.new.now c.in-Some.from c.in-Some-parse_entry.to _ c.in-Some.ensures c.in-Some-parse_entry.ensures refl refl c.is_same_path-is_same.ensures)
     c.passed.ensures
 

@@ -67,7 +67,8 @@ static void configure(uint32_t block, uint32_t page, uint32_t count) {
     config.block_size = block;
     config.block_count = count;
     config.block_cycles = -1;
-    config.cache_size = page < 64 ? 64 : page;
+    // room for the longest file that stands in its entry, which littlefs wants to change one
+    config.cache_size = block / 8;
     config.lookahead_size = 64;
     config.disk_version = 0x00020000;
 }

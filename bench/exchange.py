@@ -9,7 +9,8 @@ LITTLEFS is the folder of littlefs's own code with version 2.7 or later, which c
 - made by littlefs, with files, directories and attributes that come, change, move and go at random; every second one ends in a
   loss of power in the middle of an operation;
 - made by a session, at random as well;
-- one of either kind that littlefs changed after it.
+- made by a session whose device stops in the middle of an operation;
+- one of each of these kinds that littlefs changed after it, which first ends what a stop left half done.
 
 Each is shown by littlefs, and a session over it has to list the same entries, with the same bytes and attributes. Last come N images
 by littlefs with names of which one may be the beginning of another. littlefs puts the longer one in front there, so an image that has
@@ -176,13 +177,17 @@ def some_session(rnd, geometry):
             yield f"remove-attr {some_path()} {rnd.randrange(4)}"
 
 
-def make_by_sessions(options, kind, room):
+def make_by_sessions(options, kind, stops, room):
     lines = []
     for number in range(options.count):
         rnd = random.Random(f"{options.seed}/{kind.name}/{number}")
         geometry = rnd.choice(GEOMETRIES)
-        image = f"{room}/session_{number}.img"
-        lines += ["fresh %d %d %d" % geometry, *some_session(rnd, geometry), "unmount", f"save {image}"]
+        image = f"{room}/{kind.name.replace(' ', '_')}_{number}.img"
+        lines += ["fresh %d %d %d" % geometry + rnd.choice(["", " keep"]), *some_session(rnd, geometry)]
+        if stops:
+            stop = rnd.choice(["program", "erase"]), 1 + rnd.randrange(60), rnd.choice(["", " torn 1", f" torn {rnd.randrange(2000)}", " whole"])
+            lines += ["mount %s %d stop%s" % stop, *some_session(rnd, geometry)]
+        lines += ["unmount", f"save {image}"]
         kind.images.append((image, geometry))
         if number % BATCH == BATCH - 1 or number == options.count - 1:
             carried_out(options.program, lines)
@@ -197,18 +202,20 @@ def main():
     parser.add_argument("--seed", default="exchange")
     parser.add_argument("--keep", type=os.path.abspath, default=".")
     options = parser.parse_args()
-    kinds = [Kind(name) for name in ("by littlefs", "by sessions", "by littlefs and changed", "by sessions and changed", "by littlefs with any names")]
+    makers = ["by littlefs", "by sessions", "by stopped sessions"]
+    kinds = [Kind(name) for name in [*makers, *(f"{name} and changed" for name in makers), "by littlefs with any names"]]
     with tempfile.TemporaryDirectory() as room:
         options.exchange = build(options.littlefs, room)
         make_by_littlefs(options, kinds[0], "apart", room)
-        make_by_sessions(options, kinds[1], room)
-        change_by_littlefs(options, kinds[2], kinds[0].images)
-        change_by_littlefs(options, kinds[3], kinds[1].images)
-        make_by_littlefs(options, kinds[4], "any", room)
+        make_by_sessions(options, kinds[1], False, room)
+        make_by_sessions(options, kinds[2], True, room)
+        for changed, made in zip(kinds[3:6], kinds[:3]):
+            change_by_littlefs(options, changed, made.images)
+        make_by_littlefs(options, kinds[6], "any", room)
         for kind in kinds:
             compare(options, kind)
             print(f"{kind.name}: {len(kind.images)} images; " + "; ".join(f"{what}: {count}" for what, count in sorted(kind.told.items())), flush=True)
-    return any(what.startswith("DIFFERENCE") for kind in kinds for what in kind.told) or any(kind.told["not accepted, by its names"] for kind in kinds[:4])
+    return any(what.startswith("DIFFERENCE") for kind in kinds for what in kind.told) or any(kind.told["not accepted, by its names"] for kind in kinds[:-1])
 
 
 if __name__ == "__main__":

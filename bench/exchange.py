@@ -6,8 +6,8 @@ usage: exchange.py LITTLEFS PROGRAM [--count N] [--seed WORD] [--keep FOLDER]
 LITTLEFS is the folder of littlefs's own code with version 2.7 or later, which can write images of version 2.0: a checkout of it, or
 `lib/littlefs` of Debian's source package micropython. PROGRAM is a built lfs_script. There are N images of each kind:
 
-- made by littlefs, with files, directories and attributes that come, change, move and go at random; every second one ends in a
-  loss of power in the middle of an operation;
+- made by littlefs, with files, directories and attributes that come, change, move and go at random; some end in a loss of power
+  in the middle of an operation;
 - made by a session, at random as well;
 - made by a session whose device stops in the middle of an operation;
 - one of each of these kinds that littlefs changed after it, which first ends what a stop left half done.

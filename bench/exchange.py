@@ -21,7 +21,6 @@ Prints how many of each kind there were. Fails where anything differs; the image
 
 import argparse
 import collections
-import glob
 import os
 import random
 import re

@@ -6,10 +6,14 @@ usage: bench/times.py [LOG [CRATE..]] > docs/TIMES.md     at the top of the repo
 With names of crates the gate runs in a copy that has only these and what they stand on, which is proved too and counts.
 `taskset -c 0,1 bench/times.py ..` shows what it takes on two processors.
 
+The figures stay in LOG.json. A part that the gate has kept from an earlier run takes no time, and its figure of then is printed; so a
+run after a change, or one crate after the other, gives the table of the whole. Remove the file, and have nothing kept, for one run alone.
+
 A check of the prover is a process. Twice a second its time so far is read from /proc, so each process counts half a second too
 little at most. An edit's check runs in a folder of its own, and a check of tests has the word --test; so the three are told apart.
 """
 import collections
+import json
 import os
 import re
 import shutil
@@ -21,6 +25,8 @@ import time
 TICK = os.sysconf("SC_CLK_TCK")
 PERIOD = 0.5
 PARTS = ("code", "tests", "edits")
+# what these two take alone tells how fast a machine is
+YARDSTICK = ("lfs_model", "lfs_device")
 
 
 def descendants(of):
@@ -98,20 +104,44 @@ def functions(log):
         return dict(re.findall(r"(?s)== (\w+)\n(?:(?!== ).)*?functions=(\d+)", it.read()))
 
 
+def remembered(totals, file):
+    """The figures of this run, and of earlier ones for what it didn't measure. They are left in the file."""
+    if os.path.exists(file):
+        with open(file) as it:
+            for crate, spent in json.load(it).items():
+                for part, seconds in spent.items():
+                    totals[crate][part] = totals[crate][part] or seconds
+    with open(file, "w") as it:
+        json.dump(totals, it, indent=1)
+    return totals
+
+
+def edits_of(crate):
+    """How many wrong bodies the gate tries of a crate."""
+    folder = f"crates/{crate}/must-fail"
+    return len([it for it in os.listdir(folder) if it.endswith(".edit")]) if os.path.isdir(folder) else 0
+
+
+def table(totals, counts):
+    """The lines of the table, the crate that takes longest first."""
+    yield "| Crate | Functions | Code | Tests | Wrong bodies | of so many |"
+    yield "|---|---|---|---|---|---|"
+    for crate, spent in sorted(totals.items(), key=lambda it: -sum(it[1].values())):
+        yield f"| `{crate}` | {counts.get(crate, '')} | {spent['code']:.0f} | {spent['tests']:.0f} | {spent['edits']:.0f} | {edits_of(crate)} |"
+
+
 def main():
     log = sys.argv[1] if len(sys.argv) > 1 else "gate.log"
     with tempfile.TemporaryDirectory() as room:
         last, wall, totals = measured(log, copy_with(sys.argv[2:], room) if sys.argv[2:] else ".")
-    counts = functions(log)
-    edits = lambda crate: len([it for it in os.listdir(f"crates/{crate}/must-fail")]) if os.path.isdir(f"crates/{crate}/must-fail") else 0
-    whole = sum(sum(it.values()) for it in totals.values())
+    totals = remembered(totals, f"{log}.json")
+    sums = {part: sum(it[part] for it in totals.values()) / 60 for part in PARTS}
     print("# Times\n")
-    print("Printed by `bench/times.py`, which runs the gate from nothing: the processor seconds of each crate's checks. On a machine that does other work they are upper bounds.\n")
-    print("| Crate | Functions | Code | Tests | Edits | of so many |")
-    print("|---|---|---|---|---|---|")
-    for crate, spent in sorted(totals.items(), key=lambda it: -sum(it[1].values())):
-        print(f"| `{crate}` | {counts.get(crate, '')} | {spent['code']:.0f} | {spent['tests']:.0f} | {spent['edits']:.0f} | {edits(crate)} |")
-    print(f"\nIn all {whole / 60:.0f} processor minutes, on {len(os.sched_getaffinity(0))} processors in {wall / 60:.0f} minutes. The gate's last line: `{last}`.")
+    print("Printed by `bench/times.py`, which runs the gate: the processor seconds of each crate's checks, from nothing. On a machine that does other work they are upper bounds.\n")
+    print(*table(totals, functions(log)), sep="\n")
+    print(f"\nIn all {sum(sums.values()):.0f} processor minutes: {sums['code']:.0f} for the code, {sums['tests']:.0f} for tests, {sums['edits']:.0f} for wrong bodies. That is {sum(sums.values()) / sums['code']:.2f} times as much as the code's proofs alone.")
+    print(f"\nThe machine's yardstick: {' and '.join(f'`{it}`' for it in YARDSTICK)} alone take {sum(totals[it]['code'] for it in YARDSTICK):.0f} processor seconds on it.")
+    print(f"\nThe last run took {wall / 60:.0f} minutes on {len(os.sched_getaffinity(0))} processors. The gate's last line: `{last}`.")
 
 
 if __name__ == "__main__":

@@ -12,7 +12,7 @@ use lfs_device::{BlockDevice, Error, Geometry, RamDevice};
 use std::alloc::Global;
 
 /// A list in blocks below `next`.
-#[derive(Clone, Copy, Debug, PartialEq, Eq)]
+#[derive(Clone, Copy, Drop)]
 pub struct List {
     pub head: u32,
     pub size: u32,
@@ -166,6 +166,26 @@ pub fn holds<D: BlockDevice>(
     let mut buf = Vec::from_elem(alloc, 0xeeu8, list.size as usize)?;
     let len = read_at(dev, list.head, list.size, 0, buf.as_mut_slice())?;
     Ok(buf.get(..len) == Some(bytes))
+}
+
+/// How many blocks a walk visits, and the last four of them, or zeros.
+pub fn visited<D: BlockDevice>(
+    dev: &mut D,
+    head: u32,
+    size: u32,
+) -> Result<(u32, [u32; 4]), Error> {
+    let mut count = 0u32;
+    let mut last = [0; 4];
+    walk(
+        dev,
+        head,
+        size,
+        &mut |block| {
+            count = count.saturating_add(1);
+            last = [last[1], last[2], last[3], block];
+        },
+    )?;
+    Ok((count, last))
 }
 
 /// The first and the last block of 1,024 bytes in which two images differ.

@@ -12,7 +12,7 @@ use std::alloc::Global;
 use std::test::Fail;
 
 // So many bytes; others from a place on, with zeros in a gap; and the first of them.
-#[derive(Clone, Copy)]
+#[derive(Drop)]
 struct Row {
     first: usize,
     place: u32,
@@ -21,7 +21,7 @@ struct Row {
 }
 
 // The bytes that are there then.
-fn plain(alloc: Global, row: Row) -> Result<Vec<u8>, Error> {
+fn plain(alloc: Global, row: &Row) -> Result<Vec<u8>, Error> {
     let mut bytes = content(alloc, row.first, 0)?;
     let place = row.place as usize;
     let more = content(alloc, row.more, 0x55)?;
@@ -39,7 +39,12 @@ fn plain(alloc: Global, row: Row) -> Result<Vec<u8>, Error> {
 }
 
 // Whether an extender holds them.
-fn holds_row(alloc: Global, extender: &mut Extender, row: Row, wanted: &[u8]) -> Result<bool, Error>
+fn holds_row(
+    alloc: Global,
+    extender: &mut Extender,
+    row: &Row,
+    wanted: &[u8],
+) -> Result<bool, Error>
     ensures below { OnOk result ((disk : Blocks) → (next : ℕ) → IsBelow disk (geometry_of extender.old) extender.new next) }
     ensures same { OnOk result (geometry_of extender.new ≡ geometry_of extender.old) }
 {
@@ -58,7 +63,7 @@ fn holds_row(alloc: Global, extender: &mut Extender, row: Row, wanted: &[u8]) ->
 }
 
 // Whether a list goes on from them: with so many bytes behind them, in pushes of 7.
-fn goes_on(alloc: Global, row: Row, n: usize) -> Result<(bool, bool, u32), Error> {
+fn goes_on(alloc: Global, row: &Row, n: usize) -> Result<(bool, bool, u32), Error> {
     let mut device = blank(alloc, 16)?;
     let wanted = plain(alloc, row)?;
     let more = content(alloc, n, 0xaa)?;
@@ -98,7 +103,7 @@ fn contents_in_memory_go_on_in_blocks(rt: HostRuntime) -> Result<(), Fail> {
             more,
             keep,
         };
-        assert_eq!(rt; (n, goes_on(rt.alloc(), row, n)?), (n, (true, true, head)));
+        assert_eq!(rt; (n, goes_on(rt.alloc(), &row, n)?), (n, (true, true, head)));
     }
     Ok(())
 }

@@ -1,7 +1,7 @@
 use lfs_ctz::{blocks_for, place};
 
 #[test]
-fn a_list_has_no_block_too_many(rt: HostRuntime) {
+fn sizes_and_places(rt: HostRuntime) {
     for (size, blocks) in [
         (0, 0),
         (1, 1),
@@ -16,10 +16,6 @@ fn a_list_has_no_block_too_many(rt: HostRuntime) {
     ] {
         assert_eq!(rt; (size, blocks_for(1024, size)), (size, blocks));
     }
-}
-
-#[test]
-fn a_byte_has_a_place(rt: HostRuntime) {
     for (pos, index, off) in [
         (1023, 0, 1023),
         (1024, 1, 4),
@@ -31,22 +27,15 @@ fn a_byte_has_a_place(rt: HostRuntime) {
     }
 }
 
-// The pointers of a block take this much: one for each power of two that divides its index.
-fn pointer_bytes(index: u32) -> u32 {
-    let mut off = 0u32;
-    for power in [1, 2, 4, 8, 16, 32] {
-        if index > 0 && index % power == 0 {
-            off = off.saturating_add(4);
-        }
-    }
-    off
-}
-
+// A block has a pointer for each power of two that divides its index, and the first block has none.
 #[test]
 fn blocks_hold_what_their_pointers_leave(rt: HostRuntime) {
     let mut size = 0u32;
     for index in 0..40u32 {
-        let off = pointer_bytes(index);
+        let off = match index {
+            0 => 0,
+            _ => index.trailing_zeros().saturating_add(1).saturating_mul(4),
+        };
         let next = size.saturating_add(1024).saturating_sub(off);
         assert_eq!(rt;
             (

@@ -1,117 +1,123 @@
-use crate::devices::device;
+use crate::cache::Step::{Fill, Forget, Take};
+use crate::devices::faulty;
 use lfs_cache::Cache;
-use lfs_device::{BlockDevice, Error, FaultDevice, RamDevice, Which};
+use lfs_device::{BlockDevice, Error, Extent, Which};
 use std::alloc::Global;
 use std::test::Fail;
 
-// The device, one of whose reads fails; at 0 none.
-fn faulty(alloc: Global, nth: u64) -> Result<FaultDevice<RamDevice>, Error> {
-    Ok(FaultDevice::new(device(alloc)?, Which::Read, nth, false))
+// What is done with a block.
+enum Step {
+    Fill(u32),
+    Forget(u32),
+    Take(u32),
 }
 
-fn fill<D: BlockDevice>(cache: &mut Cache, device: &mut D, block: u32) -> Result<(), Error> {
-    if block >= device.geometry().block_count {
-        return Err(Error::Invalid);
+// Does it, and says how many bytes were taken.
+fn carry_out<D: BlockDevice>(
+    cache: &mut Cache,
+    device: &mut D,
+    step: &Step,
+) -> Result<usize, Error> {
+    match step {
+        Step::Fill(block) => {
+            if *block >= device.geometry().block_count {
+                return Err(Error::Invalid);
+            }
+            cache.fill(device, *block)?;
+            Ok(0)
+        }
+        Step::Forget(block) => {
+            cache.forget(*block);
+            Ok(0)
+        }
+        Step::Take(block) => Ok(cache.take(*block).map_or(0, |bytes| bytes.len())),
     }
-    cache.fill(device, block)
 }
 
-fn first_byte(cache: &Cache, block: u32) -> Option<u8> {
-    cache.lend(block).and_then(|bytes| bytes.first().copied())
-}
-
-// After fills of these blocks, how many reads there were and the first byte of each block that is at hand.
-fn filled(alloc: Global, blocks: &[u32]) -> Result<(u64, Vec<Option<u8>>), Error> {
-    let mut device = faulty(alloc, 0)?;
+// What the last step answers where one read fails, how many reads there were, and the first byte of
+// each block that is at hand.
+fn played(
+    alloc: Global,
+    nth: u64,
+    steps: &[Step],
+) -> Result<(Result<usize, Error>, u64, Vec<u8>), Error> {
+    let mut device = faulty(alloc, Which::Read, nth, false, Extent::Nothing)?;
     let mut cache = Cache::new(alloc)?;
-    for &block in blocks {
-        fill(&mut cache, &mut device, block)?;
+    let mut answer = Ok(0);
+    for step in steps {
+        answer = carry_out(&mut cache, &mut device, step);
     }
     let mut bytes = Vec::new(alloc);
     for block in 0..10 {
-        bytes.push(first_byte(&cache, block))?;
-    }
-    Ok((device.calls(Which::Any), bytes))
-}
-
-#[test]
-fn the_least_recent_block_goes(rt: HostRuntime) -> Result<(), Fail> {
-    // Block 0, at hand, takes no read and becomes the most recent, so that block 1 is the one to go.
-    for (blocks, reads, missing) in [
-        (
-            [0, 0, 0, 0, 0, 0, 0, 0, 0, 0],
-            1,
-            [1, 2, 3, 4, 5, 6, 7, 8, 9],
-        ),
-        (
-            [0, 1, 2, 3, 4, 5, 6, 7, 0, 0],
-            8,
-            [8, 9, 9, 9, 9, 9, 9, 9, 9],
-        ),
-        (
-            [0, 1, 2, 3, 4, 5, 6, 7, 0, 8],
-            9,
-            [1, 9, 9, 9, 9, 9, 9, 9, 9],
-        ),
-    ] {
-        let seen = filled(rt.alloc(), &blocks)?;
-        let mut expected = Vec::new(rt.alloc());
-        for block in 0..10u8 {
-            expected.push((!missing.contains(&block)).then_some(block + 1))?;
+        if let Some(lent) = cache.lend(block) {
+            bytes.extend_from_slice(lent.get(..1).unwrap_or_default())?;
         }
-        assert_eq!(rt; (seen.0, seen.1.as_slice()), (reads, expected.as_slice()));
     }
-    Ok(())
+    Ok((answer, device.calls(Which::Any), bytes))
 }
 
-// Whether blocks 3 and 4 are at hand, after block 3 was dropped and after it was read again, and the reads.
-fn dropped(alloc: Global, takes: bool) -> Result<([Option<u8>; 3], Option<usize>, u64), Error> {
-    let mut device = faulty(alloc, 0)?;
-    let mut cache = Cache::new(alloc)?;
-    fill(&mut cache, &mut device, 3)?;
-    fill(&mut cache, &mut device, 4)?;
-    let taken = if takes {
-        cache.take(3).map(|bytes| bytes.len())
-    } else {
-        cache.forget(3);
-        None
-    };
-    cache.forget(5);
-    let third = first_byte(&cache, 3);
-    let fourth = first_byte(&cache, 4);
-    fill(&mut cache, &mut device, 3)?;
-    Ok((
-        [third, fourth, first_byte(&cache, 3)],
-        taken,
-        device.calls(Which::Read),
-    ))
-}
+const TWICE: [Step; 2] = [Fill(0), Fill(0)];
 
-#[test]
-fn a_block_forgotten_or_taken_is_read_again(rt: HostRuntime) -> Result<(), Fail> {
-    let bytes = [None, Some(5), Some(4)];
-    assert_eq!(rt; dropped(rt.alloc(), false)?, (bytes, None, 3));
-    assert_eq!(rt; dropped(rt.alloc(), true)?, (bytes, Some(1024), 3));
-    Ok(())
-}
+const EIGHT: [Step; 9] = [
+    Fill(0),
+    Fill(1),
+    Fill(2),
+    Fill(3),
+    Fill(4),
+    Fill(5),
+    Fill(6),
+    Fill(7),
+    Fill(0),
+];
 
-// Block 7 can't be read at first, while block 6 is at hand.
-fn failed(alloc: Global) -> Result<(Result<(), Error>, [Option<u8>; 3], u64), Error> {
-    let mut device = faulty(alloc, 2)?;
-    let mut cache = Cache::new(alloc)?;
-    fill(&mut cache, &mut device, 6)?;
-    let outcome = fill(&mut cache, &mut device, 7);
-    let sixth = first_byte(&cache, 6);
-    let seventh = first_byte(&cache, 7);
-    fill(&mut cache, &mut device, 6)?;
-    let reads = device.calls(Which::Read);
-    fill(&mut cache, &mut device, 7)?;
-    Ok((outcome, [sixth, seventh, first_byte(&cache, 7)], reads))
-}
+// Block 0, at hand, becomes the most recent, so that block 1 is the one to go.
+const NINE: [Step; 10] = [
+    Fill(0),
+    Fill(1),
+    Fill(2),
+    Fill(3),
+    Fill(4),
+    Fill(5),
+    Fill(6),
+    Fill(7),
+    Fill(0),
+    Fill(8),
+];
+
+const FORGOTTEN: [Step; 4] = [Fill(3), Fill(4), Forget(3), Forget(5)];
+
+const FORGOTTEN_AND_FILLED: [Step; 4] = [Fill(3), Fill(4), Forget(3), Fill(3)];
+
+const TAKEN: [Step; 3] = [Fill(3), Fill(4), Take(3)];
+
+const TAKEN_AND_FILLED: [Step; 4] = [Fill(3), Fill(4), Take(3), Fill(3)];
+
+// Block 7 can't be read at first.
+const FAILED: [Step; 2] = [Fill(6), Fill(7)];
+
+const FAILED_AND_AT_HAND: [Step; 3] = [Fill(6), Fill(7), Fill(6)];
+
+const FAILED_AND_FILLED: [Step; 4] = [Fill(6), Fill(7), Fill(6), Fill(7)];
 
 #[test]
-fn a_read_that_fails_leaves_the_cache(rt: HostRuntime) -> Result<(), Fail> {
-    let expected = (Err(Error::Io), [Some(7), None, Some(8)], 2);
-    assert_eq!(rt; failed(rt.alloc())?, expected);
+fn blocks_are_kept(rt: HostRuntime) -> Result<(), Fail> {
+    for (nth, steps, answer, reads, at_hand) in [
+        (0, TWICE.as_slice(), Ok(0), 1, [1].as_slice()),
+        (0, &EIGHT, Ok(0), 8, &[1, 2, 3, 4, 5, 6, 7, 8]),
+        (0, &NINE, Ok(0), 9, &[1, 3, 4, 5, 6, 7, 8, 9]),
+        (0, &FORGOTTEN, Ok(0), 2, &[5]),
+        (0, &FORGOTTEN_AND_FILLED, Ok(0), 3, &[4, 5]),
+        (0, &TAKEN, Ok(1024), 2, &[5]),
+        (0, &TAKEN_AND_FILLED, Ok(0), 3, &[4, 5]),
+        (2, &FAILED, Err(Error::Io), 2, &[7]),
+        (2, &FAILED_AND_AT_HAND, Ok(0), 2, &[7]),
+        (2, &FAILED_AND_FILLED, Ok(0), 3, &[7, 8]),
+    ] {
+        let found = played(rt.alloc(), nth, steps)?;
+        assert_eq!(rt;
+            (found.0, found.1, found.2.as_slice()),
+            (answer, reads, at_hand)
+        );
+    }
     Ok(())
 }

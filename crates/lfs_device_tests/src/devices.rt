@@ -7,9 +7,8 @@ use std::alloc::Global;
 pub fn runs(alloc: Global, parts: &[(usize, u8)]) -> Result<Vec<u8>, Error> {
     let mut bytes = Vec::new(alloc);
     for &(len, byte) in parts {
-        for _ in 0..len {
-            bytes.push(byte)?;
-        }
+        let end = bytes.len().saturating_add(len);
+        bytes.resize(end, byte)?;
     }
     Ok(bytes)
 }
@@ -17,12 +16,26 @@ pub fn runs(alloc: Global, parts: &[(usize, u8)]) -> Result<Vec<u8>, Error> {
 /// A device of ten blocks of 1,024 bytes, with pages of 16. Each block is full of its number and one.
 pub fn device(alloc: Global) -> Result<RamDevice, Error> {
     let mut bytes = Vec::new(alloc);
-    for number in 0..10u8 {
-        for _ in 0..1024 {
-            bytes.push(number + 1)?;
-        }
+    for number in 1..11u8 {
+        bytes.resize(1024 * usize::from(number), number)?;
     }
     RamDevice::from_bytes(Geometry::new(1024, 16, 10)?, bytes)
+}
+
+/// The device, whose `nth` call of a kind fails, when so much of it is carried out; at 0 none.
+pub fn faulty(
+    alloc: Global,
+    which: Which,
+    nth: u64,
+    stops: bool,
+    extent: Extent,
+) -> Result<FaultDevice<RamDevice>, Error> {
+    let faulty = FaultDevice::new(device(alloc)?, which, nth, stops);
+    Ok(match extent {
+        Extent::Nothing => faulty,
+        Extent::FirstBytes(k) => faulty.torn(k),
+        Extent::Whole => faulty.whole(),
+    })
 }
 
 /// Erases a block and programs its beginning.
@@ -37,19 +50,4 @@ pub fn rewrite<D: BlockDevice>(device: &mut D, block: u32, bytes: &[u8]) -> Resu
     device.erase(block)?;
     device.prog(block, 0, bytes)?;
     Ok(())
-}
-
-/// The device, which stops at its `nth` call of a kind, when so much of that is carried out.
-pub fn stopping(
-    alloc: Global,
-    which: Which,
-    nth: u64,
-    extent: Extent,
-) -> Result<FaultDevice<RamDevice>, Error> {
-    let faulty = FaultDevice::new(device(alloc)?, which, nth, true);
-    Ok(match extent {
-        Extent::Nothing => faulty,
-        Extent::FirstBytes(k) => faulty.torn(k),
-        Extent::Whole => faulty.whole(),
-    })
 }

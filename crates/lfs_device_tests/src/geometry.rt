@@ -26,17 +26,8 @@ fn a_geometry_has_limits(rt: HostRuntime) {
     }
 }
 
-// The bytes of a pair's slots, of an entry and of a file in its entry.
-fn limits(block_size: u32, page: u32) -> Result<(u32, u32, u32, usize), Error> {
-    let geometry = Geometry::new(block_size, page, 2)?;
-    Ok((
-        geometry.pair_capacity(),
-        geometry.entry_limit(),
-        geometry.inline_limit(),
-        geometry.slot_limit(),
-    ))
-}
-
+// The bytes of a pair's slots, of an entry and of a file in its entry, and how many slots a pair may
+// have.
 #[test]
 fn a_geometry_limits_pairs_and_entries(rt: HostRuntime) -> Result<(), Fail> {
     for (block_size, page, expected) in [
@@ -46,7 +37,14 @@ fn a_geometry_limits_pairs_and_entries(rt: HostRuntime) -> Result<(), Fail> {
         (8192, 8, (8145, 4072, 1022, 1000)),
         (65536, 512, (64985, 32492, 1022, 1000)),
     ] {
-        assert_eq!(rt; limits(block_size, page)?, expected);
+        let geometry = Geometry::new(block_size, page, 2)?;
+        let limits = (
+            geometry.pair_capacity(),
+            geometry.entry_limit(),
+            geometry.inline_limit(),
+            geometry.slot_limit(),
+        );
+        assert_eq!(rt; limits, expected);
     }
     Ok(())
 }

@@ -4,12 +4,12 @@ ghost use Rattle.std.specs.Prelude.{IfOk};
 ghost use Rattle.lfs_device.specs.Shown.{disk_of};
 ghost use Rattle.lfs_pair_tests.specs.Kept.{IsKept};
 
-use crate::images::{Seen, seen, sevens};
-use crate::trial::set_often;
+use crate::images::{Entries, block, seen, sevens};
+use crate::trial::fetch_first;
 use lfs_device::{BlockDevice, Erased, Error, FaultDevice, Geometry, RamDevice, Which};
-use lfs_pair::{Change, Pair, fetch};
+use lfs_pair::{Change, Pair};
+use lfs_tag::MoveState;
 use lfs_tag::kinds::{FILE_NAME, INLINE_STRUCT, SUPERBLOCK_NAME};
-use lfs_tag::{CommitBuilder, MoveState, Tag};
 use std::alloc::Global;
 use std::test::Fail;
 
@@ -82,41 +82,33 @@ fn superblock_pair<D: BlockDevice>(alloc: Global, device: &mut D) -> Result<Pair
     Ok(pair)
 }
 
-fn fetched<D: BlockDevice>(alloc: Global, device: &mut D) -> Result<Pair, Error> {
-    fetch(alloc, device, [0, 1])
-}
+// A log of the revision 9.
+const OLD: Entries<'static> = &[
+    (FILE_NAME, 0, b"old"),
+    (INLINE_STRUCT, 0, b""),
+    (FILE_NAME, 1, b"older"),
+    (INLINE_STRUCT, 1, b""),
+];
 
-// 16 blocks of sevens, whose calls are counted.
-fn counted(alloc: Global, erased: Erased) -> Result<FaultDevice<RamDevice>, Error> {
-    let inner = sevens(alloc, Geometry::new(4096, 256, 16)?, erased)?;
-    Ok(FaultDevice::new(inner, Which::Any, 0, false))
-}
-
-// The same without the count, but for a log of the revision 9 in the second block, which an erase
-// leaves there.
+// 16 blocks of sevens, but for such a log in the second one, which an erase leaves there.
 fn with_old_log(alloc: Global) -> Result<RamDevice, Error> {
+    let mut bytes = Vec::from_elem(alloc, 7u8, BLOCK)?;
+    bytes.extend_from_slice(&block(alloc, BLOCK, 256, 7, 9, OLD)?)?;
+    bytes.resize(16 * BLOCK, 7)?;
     let geometry = Geometry::new(4096, 256, 16)?;
-    let mut bytes = Vec::from_elem(alloc, 7u8, 16 * BLOCK)?;
-    let first = Tag::from_bits(0xffff_ffff);
-    let mut builder = CommitBuilder::new(256, &mut bytes[BLOCK..2 * BLOCK], first, Some(9));
-    builder.push(Tag::new(FILE_NAME, 0, 3), b"old");
-    builder.push(Tag::new(INLINE_STRUCT, 0, 0), b"");
-    builder.push(Tag::new(FILE_NAME, 1, 5), b"older");
-    builder.push(Tag::new(INLINE_STRUCT, 1, 0), b"");
-    builder.finish(Some([7; 4]))?;
     Ok(RamDevice::from_bytes(geometry, bytes)?.erased_as(Erased::Keep))
 }
 
 // A new pair and what is fetched then, and whether the two are the same but for that.
-fn made<D: BlockDevice>(alloc: Global, device: &mut D) -> Result<(Seen, u32, bool), Error> {
+fn made<D: BlockDevice>(alloc: Global, device: &mut D) -> Result<(Pair, bool), Error> {
     let pair = superblock_pair(alloc, device)?;
-    let again = fetched(alloc, device)?;
+    let again = fetch_first(alloc, device)?;
     let is_same = again
         == Pair {
             is_fetched: true,
             ..pair
         };
-    Ok((seen(&pair), pair.last.bits(), is_same && !pair.is_fetched))
+    Ok((pair, is_same && !pair.is_fetched))
 }
 
 // Both blocks are erased, and the first is programmed. The last tag is the checksum's, with the
@@ -128,9 +120,13 @@ fn a_superblock_is_written(rt: HostRuntime) -> Result<(), Fail> {
         (0xffu8, &ON_ONES, 0x500f_fcd0u32),
         (0, &ON_LOW_BYTES, 0xd01f_fcd0),
     ] {
-        let mut device = counted(alloc, Erased::Fill(byte))?;
-        let expected = ((0, 256, 1, 1, true, None, NOT_MOVED), last, true);
-        assert_eq!(rt; made(alloc, &mut device), Ok(expected));
+        let inner = sevens(alloc, 4096, 256, 16, Erased::Fill(byte))?;
+        let mut device = FaultDevice::new(inner, Which::Any, 0, false);
+        let (pair, is_same) = made(alloc, &mut device)?;
+        assert_eq!(rt;
+            (seen(&pair), pair.last.bits(), is_same),
+            ((0, 256, 1, 1, true, None, NOT_MOVED), last, true)
+        );
         assert_eq!(rt;
             (device.calls(Which::Erase), device.calls(Which::Program)),
             (2, 1)
@@ -141,78 +137,34 @@ fn a_superblock_is_written(rt: HostRuntime) -> Result<(), Fail> {
     Ok(())
 }
 
-// The second block's old log, found before, is cleared by a page of zeros.
+// The second block's old log, found before, is cleared by a page of zeros. An erase, a read and a
+// program of the second block come first, and then those of the first; one that fails is `Io`.
 #[test]
 fn an_old_log_is_cleared(rt: HostRuntime) -> Result<(), Fail> {
     let alloc = rt.alloc();
-    let mut device = with_old_log(alloc)?;
-    let old = fetched(alloc, &mut device)?;
-    assert_eq!(rt; (old.active, old.revision, old.slot_count), (1, 9, 2));
-    let answer = made(alloc, &mut device)?;
-    assert_eq!(rt;
-        (answer.0, answer.2),
-        ((0, 256, 1, 1, true, None, NOT_MOVED), true)
-    );
     let image = image(alloc, &ON_LOW_BYTES, 7, 0, 7)?;
-    assert_eq!(rt; device.bytes(), image.as_slice());
-    Ok(())
-}
-
-// After 15 commits, and after one more.
-fn filled<D: BlockDevice>(alloc: Global, device: &mut D) -> Result<[(u32, usize, u32); 2], Error> {
-    let mut pair = superblock_pair(alloc, device)?;
-    set_often(alloc, device, &mut pair, 0, 15)?;
-    let full = (pair.active, pair.end, pair.revision);
-    set_often(alloc, device, &mut pair, 0, 1)?;
-    let again = fetched(alloc, device)?;
-    Ok([full, (again.active, again.end, again.revision)])
-}
-
-// Each commit takes a page, and a block has 16. The third erase is the compaction's.
-#[test]
-fn the_sixteenth_commit_is_a_compaction(rt: HostRuntime) -> Result<(), Fail> {
-    let mut device = counted(rt.alloc(), Erased::Fill(0xff))?;
-    let expected = [(0, 4096, 1), (1, 256, 2)];
-    assert_eq!(rt; filled(rt.alloc(), &mut device), Ok(expected));
-    assert_eq!(rt; device.calls(Which::Erase), 3);
-    Ok(())
-}
-
-// What a new pair answers where the `nth` call fails, how many calls there were, whether the second
-// block's first page is zeros then and all else is as it was, and whether it is made once more.
-fn faulty(alloc: Global, nth: u64) -> Result<(Option<Error>, u64, bool, bool, bool), Error> {
-    let before = with_old_log(alloc)?.to_bytes();
-    let mut device = FaultDevice::new(with_old_log(alloc)?, Which::Any, nth, false);
-    let answer = superblock_pair(alloc, &mut device).err();
-    let calls = device.calls(Which::Any);
-    let after = device.inner().bytes();
-    let is_cleared = after.get(BLOCK..BLOCK + 256) == Some([0; 256].as_slice());
-    let is_same = after.get(..BLOCK) == before.get(..BLOCK)
-        && after.get(BLOCK + 256..) == before.get(BLOCK + 256..);
-    let is_made = superblock_pair(alloc, &mut device).is_ok();
-    Ok((answer, calls, is_cleared, is_same, is_made))
-}
-
-// An erase, a read and a program of the second block, then of the first; at the seventh all is
-// made, and the first block has changed.
-#[test]
-fn each_call_that_fails_is_io(rt: HostRuntime) -> Result<(), Fail> {
-    for nth in 1..=6u64 {
-        let expected = (Some(Error::Io), nth, 3 < nth, true, true);
-        assert_eq!(rt; faulty(rt.alloc(), nth), Ok(expected));
+    for nth in 0..=6u64 {
+        let before = with_old_log(alloc)?;
+        let mut device = FaultDevice::new(with_old_log(alloc)?, Which::Any, nth, false);
+        if nth > 0 {
+            let answer = superblock_pair(alloc, &mut device).err();
+            assert_eq!(rt; (answer, device.calls(Which::Any)), (Some(Error::Io), nth));
+            let after = device.inner().bytes();
+            let is_cleared = after.get(BLOCK..BLOCK + 256) == Some([0; 256].as_slice());
+            let is_same = after.get(..BLOCK) == before.bytes().get(..BLOCK)
+                && after.get(BLOCK + 256..) == before.bytes().get(BLOCK + 256..);
+            assert_eq!(rt; (is_cleared, is_same), (3 < nth, true));
+        }
+        if nth <= 3 {
+            let old = fetch_first(alloc, &mut device)?;
+            assert_eq!(rt; (old.active, old.revision, old.slot_count), (1, 9, 2));
+        }
+        let (pair, is_same) = made(alloc, &mut device)?;
+        assert_eq!(rt;
+            (seen(&pair), is_same),
+            ((0, 256, 1, 1, true, None, NOT_MOVED), true)
+        );
+        assert_eq!(rt; device.inner().bytes(), image.as_slice());
     }
-    assert_eq!(rt; faulty(rt.alloc(), 7), Ok((None, 6, true, false, false)));
-    Ok(())
-}
-
-// Memory is taken before the first call.
-#[test]
-fn without_memory_nothing_is_called(rt: HostRuntime) -> Result<(), Fail> {
-    let mut device = counted(rt.alloc(), Erased::Fill(0xff))?;
-    let calls = match superblock_pair(rt.alloc(), &mut device) {
-        Ok(_) => 5,
-        Err(_) => 0,
-    };
-    assert_eq!(rt; device.calls(Which::Any), calls);
     Ok(())
 }

@@ -1,12 +1,13 @@
 // Blocks and devices for all tests, and what is compared of a pair.
 
-ghost use Rattle.std.specs.Prelude.{◌≡◌, IfOk};
+ghost use Rattle.std.specs.Prelude.{◌≡◌, true, IfOk};
 ghost use Rattle.lfs_device.specs.RamDevice.{geometry_of};
+ghost use Rattle.lfs_model.specs.Geometry.{is_page};
 
 use lfs_device::{Erased, Error, Geometry, RamDevice};
 use lfs_pair::Pair;
 use lfs_tag::kinds::{CREATE, FILE_NAME, HARD_TAIL, INLINE_STRUCT, MOVE_STATE, SUPERBLOCK_NAME};
-use lfs_tag::{CommitBuilder, MoveState, Tag, Tail, move_bytes, pair_bytes};
+use lfs_tag::{CommitBuilder, MoveState, Tag, Tail};
 use std::alloc::Global;
 
 pub const TAIL: Option<Tail> = Some(Tail {
@@ -21,70 +22,93 @@ pub const SYNC: MoveState = MoveState {
     pair: [0, 0],
 };
 
-/// What a block of 1,024 bytes holds, with pages of 128.
-#[derive(Clone, Copy, Drop)]
-pub enum Half {
-    /// Nothing was written to it.
-    Empty,
-    /// One commit of that revision: a superblock without a struct, a file `a` of two bytes, a hard
-    /// tail to {2, 3} and a move state. The slots take 12 and 11 bytes.
-    Holds(u32),
-    /// The same, with a superblock's struct of 24 bytes.
-    IsComplete(u32),
-    /// One commit of that revision, which creates a slot behind one that isn't there.
-    Malformed(u32),
-}
+/// A commit's entries: types, ids and bytes.
+pub type Entries<'a> = &'a [(u16, u16, &'a [u8])];
 
-fn filled(alloc: Global, revision: u32, is_complete: bool) -> Result<Vec<u8>, Error> {
-    let mut block = Vec::from_elem(alloc, 0xffu8, 1024)?;
+/// A superblock without a struct, a file `a` of two bytes, a hard tail to {2, 3} and a move state. The
+/// slots take 12 and 11 bytes.
+pub const HELD: Entries<'static> = &[
+    (SUPERBLOCK_NAME, 0, b"littlefs"),
+    (FILE_NAME, 1, b"a"),
+    (INLINE_STRUCT, 1, b"hi"),
+    (HARD_TAIL, 0x3ff, &[2, 0, 0, 0, 3, 0, 0, 0]),
+    (MOVE_STATE, 0x3ff, &[0, 0, 0, 0x80, 0, 0, 0, 0, 0, 0, 0, 0]),
+];
+
+/// The same, with a superblock's struct of 24 bytes.
+pub const COMPLETE: Entries<'static> = &[
+    (SUPERBLOCK_NAME, 0, b"littlefs"),
+    (INLINE_STRUCT, 0, &[0; 24]),
+    (FILE_NAME, 1, b"a"),
+    (INLINE_STRUCT, 1, b"hi"),
+    (HARD_TAIL, 0x3ff, &[2, 0, 0, 0, 3, 0, 0, 0]),
+    (MOVE_STATE, 0x3ff, &[0, 0, 0, 0x80, 0, 0, 0, 0, 0, 0, 0, 0]),
+];
+
+/// A slot is created behind one that isn't there.
+pub const MALFORMED: Entries<'static> = &[(CREATE, 1, b"")];
+
+/// A block of that size full of a byte, but for a commit of these entries, with that revision.
+pub fn block(
+    alloc: Global,
+    size: usize,
+    page: u32,
+    byte: u8,
+    revision: u32,
+    entries: Entries<'_>,
+) -> Result<Vec<u8>, Error>
+    requires { is_page page ≡ true }
+{
+    let mut block = Vec::from_elem(alloc, byte, size)?;
     let first = Tag::from_bits(0xffff_ffff);
-    let mut builder = CommitBuilder::new(128, &mut block, first, Some(revision));
-    builder.push(Tag::new(SUPERBLOCK_NAME, 0, 8), b"littlefs");
-    if is_complete {
-        builder.push(Tag::new(INLINE_STRUCT, 0, 24), &[0; 24]);
+    let mut builder = CommitBuilder::new(page, &mut block, first, Some(revision));
+    for (kind, id, bytes) in entries {
+        if *kind < 0x800 && *id < 0x400 && bytes.len() < 0x3ff {
+            let tag = Tag::new(*kind, *id, bytes.len() as u16);
+            if tag.class() != 5 && tag.size() == bytes.len() {
+                builder.push(tag, bytes);
+            }
+        }
     }
-    builder.push(Tag::new(FILE_NAME, 1, 1), b"a");
-    builder.push(Tag::new(INLINE_STRUCT, 1, 2), b"hi");
-    builder.push(Tag::new(HARD_TAIL, 0x3ff, 8), &pair_bytes([2, 3]));
-    builder.push(Tag::new(MOVE_STATE, 0x3ff, 12), &move_bytes(&SYNC));
-    builder.finish(Some([0xff; 4]))?;
+    builder.finish(Some([byte; 4]))?;
     Ok(block)
 }
 
-fn malformed(alloc: Global, revision: u32) -> Result<Vec<u8>, Error> {
-    let mut block = Vec::from_elem(alloc, 0xffu8, 1024)?;
-    let first = Tag::from_bits(0xffff_ffff);
-    let mut builder = CommitBuilder::new(128, &mut block, first, Some(revision));
-    builder.push(Tag::new(CREATE, 1, 0), b"");
-    builder.finish(Some([0xff; 4]))?;
-    Ok(block)
-}
-
-fn block(alloc: Global, half: Half) -> Result<Vec<u8>, Error> {
-    match half {
-        Half::Empty => Ok(Vec::from_elem(alloc, 0xffu8, 1024)?),
-        Half::Holds(revision) => filled(alloc, revision, false),
-        Half::IsComplete(revision) => filled(alloc, revision, true),
-        Half::Malformed(revision) => malformed(alloc, revision),
-    }
-}
-
-/// A device of four such blocks, of which the first two are these.
-pub fn device(alloc: Global, halves: [Half; 2], erased: Erased) -> Result<RamDevice, Error>
+/// A device of four blocks of 1,024 bytes with pages of 128, of which the first two have one commit
+/// each, of that revision, or none.
+pub fn device(
+    alloc: Global,
+    halves: [(u32, Entries<'_>); 2],
+    erased: Erased,
+) -> Result<RamDevice, Error>
     ensures { IfOk result (λ device. (geometry_of device).block_count ≡ 4) }
 {
     let geometry = Geometry::new(1024, 128, 4)?;
-    let mut bytes = block(alloc, halves[0])?;
-    let second = block(alloc, halves[1])?;
-    bytes.extend_from_slice(&second)?;
+    let mut bytes = Vec::new(alloc);
+    for (revision, entries) in halves {
+        if entries.is_empty() {
+            bytes.extend_from_slice(&[0xff; 1024])?;
+        } else {
+            bytes.extend_from_slice(&block(alloc, 1024, 128, 0xff, revision, entries)?)?;
+        }
+    }
     bytes.resize(4096, 0xff)?;
     Ok(RamDevice::from_bytes(geometry, bytes)?.erased_as(erased))
 }
 
 /// A device that holds 7 in each byte.
-pub fn sevens(alloc: Global, geometry: Geometry, erased: Erased) -> Result<RamDevice, Error>
-    ensures { IfOk result (λ device. geometry_of device ≡ geometry) }
+pub fn sevens(
+    alloc: Global,
+    block_size: u32,
+    page: u32,
+    block_count: u32,
+    erased: Erased,
+) -> Result<RamDevice, Error>
+    ensures size { IfOk result (λ device. (geometry_of device).block_size ≡ block_size) }
+    ensures page { IfOk result (λ device. (geometry_of device).page ≡ page) }
+    ensures count { IfOk result (λ device. (geometry_of device).block_count ≡ block_count) }
 {
+    let geometry = Geometry::new(block_size, page, block_count)?;
     let size = geometry.block_size as usize * geometry.block_count as usize;
     let bytes = Vec::from_elem(alloc, 7u8, size)?;
     Ok(RamDevice::from_bytes(geometry, bytes)?.erased_as(erased))

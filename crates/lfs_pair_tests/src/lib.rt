@@ -5,8 +5,6 @@ mod clients;
 #[cfg(test)]
 mod committing;
 #[cfg(test)]
-mod cutting;
-#[cfg(test)]
 mod fetching;
 #[cfg(test)]
 mod fresh;

@@ -1,12 +1,10 @@
 // A full pair, split on devices whose erases leave this or that.
 
-ghost use Rattle.std.specs.Prelude.{◌≡◌, ◌≢◌, ◌<◌, IfOk};
-ghost use Rattle.lfs_device.specs.RamDevice.{geometry_of};
-ghost use Rattle.lfs_device.specs.FaultDevice.{inner_of};
+ghost use Rattle.std.specs.Prelude.{◌≡◌, ◌≢◌, ◌<◌};
 ghost use Rattle.lfs_model.specs.Slots.{address_of};
 
 use crate::images::{Seen, seen, sevens};
-use lfs_device::{BlockDevice, Erased, Error, FaultDevice, Geometry, RamDevice, Which, read_block};
+use lfs_device::{BlockDevice, Erased, Error, read_block};
 use lfs_pair::{Change, Pair, fetch, split};
 use lfs_tag::kinds::{DELETE, FILE_NAME, INLINE_STRUCT};
 use lfs_tag::{Content, Log, MoveState, Tail};
@@ -139,16 +137,6 @@ fn found<D: BlockDevice>(
     Ok((pair, names))
 }
 
-// Eight blocks of sevens.
-fn eight(alloc: Global, erased: Erased) -> Result<RamDevice, Error>
-    ensures size { IfOk result (λ device. (geometry_of device).block_size ≡ 1024) }
-    ensures page { IfOk result (λ device. (geometry_of device).page ≡ 128) }
-    ensures count { IfOk result (λ device. (geometry_of device).block_count ≡ 8) }
-{
-    let geometry = Geometry::new(1024, 128, 8)?;
-    sevens(alloc, geometry, erased)
-}
-
 // The pair, with the first bytes of its names.
 type Part = (Seen, Vec<u8>);
 
@@ -180,7 +168,7 @@ fn parts<D: BlockDevice>(alloc: Global, device: &mut D) -> Result<(Part, Part, b
 fn both_parts_are_found(rt: HostRuntime) -> Result<(), Fail> {
     let alloc = rt.alloc();
     for erased in [Erased::Keep, Erased::Fill(0x00), Erased::Fill(0xff)] {
-        let mut device = eight(alloc, erased)?;
+        let mut device = sevens(alloc, 1024, 128, 8, erased)?;
         let (front, back, is_same) = parts(alloc, &mut device)?;
         let names = front.1.as_slice() == b"ab".as_slice()
             && back.1.as_slice() == b"cde".as_slice();
@@ -191,66 +179,5 @@ fn both_parts_are_found(rt: HostRuntime) -> Result<(), Fail> {
             (front_is, back_is, true, true)
         );
     }
-    Ok(())
-}
-
-// Whether a device that stops on the way has both parts then, or the four files alone.
-fn leaves(alloc: Global, mut device: FaultDevice<RamDevice>, is_split: bool) -> Result<bool, Error>
-    requires size { (geometry_of (inner_of device)).block_size ≡ 1024 }
-    requires page { (geometry_of (inner_of device)).page ≡ 128 }
-    requires count { (geometry_of (inner_of device)).block_count ≡ 8 }
-{
-    let has_failed = full_and_split(alloc, &mut device) == Err(Error::Io);
-    let mut disk = device.into_inner();
-    let (pair, names) = found(alloc, &mut disk, [0, 1])?;
-    let is_old = names.as_slice() == b"abde".as_slice() && pair.tail == Some(SOFT_TAIL);
-    if !is_split {
-        return Ok(has_failed && is_old && pair.move_state == MOVED);
-    }
-    let (fresh_pair, back) = found(alloc, &mut disk, [2, 3])?;
-    let is_front = names.as_slice() == b"ab".as_slice() && pair.tail == Some(HARD_TAIL);
-    let is_back = back.as_slice() == b"cde".as_slice() && fresh_pair.tail == Some(SOFT_TAIL);
-    let has_moved = pair.move_state == MOVED && fresh_pair.move_state == NOT_MOVED;
-    Ok(has_failed && is_front && is_back && has_moved)
-}
-
-// Of 14 calls five write the full pair and one reads it.
-#[test]
-fn a_stop_leaves_the_old_pair_or_both(rt: HostRuntime) -> Result<(), Fail> {
-    let alloc = rt.alloc();
-    for erased in [Erased::Keep, Erased::Fill(0x00), Erased::Fill(0xff)] {
-        for nth in 6..=14u64 {
-            let whole = FaultDevice::new(eight(alloc, erased)?, Which::Any, nth, true).whole();
-            assert_eq!(rt; leaves(alloc, whole, nth == 14), Ok(true));
-            let torn = FaultDevice::new(eight(alloc, erased)?, Which::Any, nth, true).torn(100);
-            assert_eq!(rt; leaves(alloc, torn, false), Ok(true));
-        }
-    }
-    Ok(())
-}
-
-// Whether so many erases, programs and calls go with that answer: all of them, or none of the pair
-// for which there was no memory.
-fn is_whole(answer: Option<Error>, calls: (u64, u64, u64)) -> bool {
-    match answer {
-        None => calls == (5, 3, 14),
-        Some(Error::NoMemory) => (calls.0, calls.1) == (0, 0) || (calls.0, calls.1) == (2, 1),
-        Some(_) => false,
-    }
-}
-
-// Memory is taken before the first write of a pair.
-#[test]
-fn without_memory_nothing_is_written(rt: HostRuntime) -> Result<(), Fail> {
-    let alloc = rt.alloc();
-    let inner = eight(alloc, Erased::Fill(0xff))?;
-    let mut device = FaultDevice::new(inner, Which::Any, 0, false);
-    let answer = full_and_split(alloc, &mut device).err();
-    let calls = (
-        device.calls(Which::Erase),
-        device.calls(Which::Program),
-        device.calls(Which::Any),
-    );
-    assert_eq!(rt; is_whole(answer, calls), true);
     Ok(())
 }

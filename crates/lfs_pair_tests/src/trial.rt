@@ -7,13 +7,42 @@ ghost use Rattle.lfs_model.specs.Slots.{address_of};
 ghost use Rattle.lfs_model.specs.Changes.{is_storable};
 ghost use Rattle.lfs_model.specs.LoggedContent.{HaveNames};
 ghost use Rattle.lfs_tag.specs.ContentSeen.{slot_seen};
-ghost use Rattle.lfs_pair.specs.ChangeSeen.{changes_seen};
+ghost use Rattle.lfs_pair.specs.ChangeSeen.{change_seen, changes_seen};
 ghost use Rattle.lfs_pair_tests.specs.Kept.{CanMake, IsKept};
 
 use lfs_device::{BlockDevice, Error, read_block};
-use lfs_pair::{Change, Outcome, Pair, apply_all, commit, commit_in, fetch};
+use lfs_pair::{Change, Outcome, Pair, apply_all, commit, fetch};
 use lfs_tag::{Content, ContentError, Log, Slot};
 use std::alloc::Global;
+
+// Whether an id, types and a length fit into a tag.
+fn is_storable(change: Change<'_>) -> bool
+    ensures { IsTrue result → is_storable (change_seen change.entry) ≡ true }
+{
+    match change {
+        Change::Create { id, kind, name } => id < 0x3ff && kind < 0x100 && name.len() <= 1022,
+        Change::Delete { id } => id < 0x3ff,
+        Change::Struct { id, kind, bytes } => {
+            id < 0x3ff && kind >= 0x200 && kind < 0x300 && bytes.len() <= 1022
+        }
+        Change::Attr { id, attr: _, bytes } => id < 0x3ff && bytes.len() <= 1022,
+        Change::NoAttr { id, attr: _ } => id < 0x3ff,
+        Change::Tail { hard: _, pair: _ } => true,
+        Change::Move { state } => state.kind < 0x800 && state.id < 0x400,
+    }
+}
+
+// Whether each of these changes fits into a tag.
+fn are_storable(changes: &[Change<'_>]) -> bool
+    ensures { IsTrue result → list_all is_storable (changes_seen changes.now) ≡ true }
+{
+    for change in changes {
+        if !is_storable(*change) {
+            return false;
+        }
+    }
+    true
+}
 
 // Whether each slot has a name.
 fn have_names(slots: &[Slot<'_>]) -> bool
@@ -57,33 +86,16 @@ pub fn try_commit<D: BlockDevice>(
     changes: &[Change<'_>],
 ) -> Result<Outcome, Error>
     requires kept { IsKept (disk_of (D.geometry dev.old) (D.blocks dev.old)) (D.history dev.old) pair.old }
-    requires storable { list_all is_storable (changes_seen changes.now) ≡ true }
     ensures kept { IfOk result (λ _. IsKept (disk_of (D.geometry dev.new) (D.blocks dev.new)) (D.history dev.new) pair.new) }
 {
+    if !are_storable(changes) {
+        return Err(Error::Invalid);
+    }
     let block = read_block(alloc, dev, pair.active)?;
     if !can_make(alloc, &block, changes)? {
         return Err(Error::Invalid);
     }
     let outcome = commit(alloc, dev, pair, changes)?;
-    Ok(outcome)
-}
-
-// Commits the changes to a pair whose block was read to find out whether they may be made, so that it
-// is at hand.
-pub fn try_commit_in<D: BlockDevice>(
-    alloc: Global,
-    dev: &mut D,
-    pair: &mut Pair,
-    changes: &[Change<'_>],
-) -> Result<Outcome, Error>
-    requires kept { IsKept (disk_of (D.geometry dev.old) (D.blocks dev.old)) (D.history dev.old) pair.old }
-    requires storable { list_all is_storable (changes_seen changes.now) ≡ true }
-{
-    let block = read_block(alloc, dev, pair.active)?;
-    if !can_make(alloc, &block, changes)? {
-        return Err(Error::Invalid);
-    }
-    let outcome = commit_in(alloc, dev, pair, &block, changes)?;
     Ok(outcome)
 }
 
@@ -108,29 +120,4 @@ pub fn fetch_first<D: BlockDevice>(alloc: Global, dev: &mut D) -> Result<Pair, E
 {
     let pair = fetch_kept(alloc, dev, [0, 1])?;
     Ok(pair)
-}
-
-// Sets the attribute 0x41 of a slot to one byte, so many times.
-pub fn set_often<D: BlockDevice>(
-    alloc: Global,
-    dev: &mut D,
-    pair: &mut Pair,
-    id: u16,
-    times: u8,
-) -> Result<(), Error>
-    requires kept { IsKept (disk_of (D.geometry dev.old) (D.blocks dev.old)) (D.history dev.old) pair.old }
-    requires id { id < 0x3ff }
-    ensures { IfOk result (λ _. IsKept (disk_of (D.geometry dev.new) (D.blocks dev.new)) (D.history dev.new) pair.new) }
-{
-    for n in 0..times {
-        let changes = [Change::Attr {
-            id,
-            attr: 0x41,
-            bytes: &[n],
-        }];
-        if try_commit(alloc, dev, pair, &changes)? == Outcome::Full {
-            return Err(Error::NoSpace);
-        }
-    }
-    Ok(())
 }

@@ -2,15 +2,15 @@
 
 use std::alloc::{AllocError, Global};
 
-// A fresh image's commit: the superblock.
-pub(crate) const FRESH: [u8; 52] = [
+// The superblock's commit.
+const SUPERBLOCK: [u8; 52] = [
     1, 0, 0, 0, 0xf0, 0x0f, 0xff, 0xf7, 0x6c, 0x69, 0x74, 0x74, 0x6c, 0x65, 0x66, 0x73, 0x2f, 0xe0,
     0, 0x10, 0, 0, 2, 0, 0, 0x10, 0, 0, 0x10, 0, 0, 0, 0xff, 0, 0, 0, 0xff, 0xff, 0xff, 0x7f, 0xfe,
     3, 0, 0, 0x70, 0x1f, 0xfc, 0xc8, 0x4a, 0x7f, 0x27, 0xf3,
 ];
 
 // A file `b` comes behind it.
-pub(crate) const FILE_B: [u8; 21] = [
+const FILE_B: [u8; 21] = [
     0x10, 0x1f, 0xf8, 0xd0, 0x40, 0, 0, 1, 0x62, 0x20, 0, 0, 1, 0x70, 0x1f, 0xf8, 0xef, 0xa8, 0xc4,
     0xff, 0x1e,
 ];
@@ -32,10 +32,24 @@ const ATTRIBUTE: [u8; 13] = [
 ];
 
 // A file `a` in a block of 32 bytes, up to its checksum.
-const ONE_FILE: [u8; 9] = [1, 0, 0, 0, 0xff, 0xef, 0xff, 0xfe, 0x61];
+pub(crate) const ONE_FILE: [u8; 9] = [1, 0, 0, 0, 0xff, 0xef, 0xff, 0xfe, 0x61];
 
-// These commits, each from a page on, and 0xff between them and to the end.
-fn block_of(
+// These five commits.
+pub(crate) const SHIFTING: [&[u8]; 5] = [&SUPERBLOCK, &FILE_B, &FILE_A, &NO_FILE_A, &ATTRIBUTE];
+
+// The first of them alone, a fresh image's.
+pub(crate) const FRESH: [&[u8]; 1] = [&SUPERBLOCK];
+
+// A block of 32 bytes, whose second commit deletes a slot that isn't there.
+pub(crate) const BAD_DELETE: [&[u8]; 2] = [
+    &ONE_FILE,
+    &[
+        0x4f, 0xe0, 4, 1, 0x1f, 0xff, 0xf8, 0x0f, 0xa9, 0x77, 0x2b, 0x46,
+    ],
+];
+
+// Commits, each from a page on, and 0xff between them and to the end.
+pub(crate) fn block_of(
     alloc: Global,
     size: usize,
     page: usize,
@@ -50,36 +64,4 @@ fn block_of(
     }
     block.resize(size, 0xff)?;
     Ok(block)
-}
-
-pub(crate) fn fresh(alloc: Global) -> Result<Vec<u8>, AllocError> {
-    block_of(alloc, 4096, 256, &[&FRESH])
-}
-
-pub(crate) fn shifting(alloc: Global) -> Result<Vec<u8>, AllocError> {
-    block_of(
-        alloc,
-        4096,
-        256,
-        &[&FRESH, &FILE_B, &FILE_A, &NO_FILE_A, &ATTRIBUTE],
-    )
-}
-
-// One file, and behind it these bytes.
-pub(crate) fn one_file(alloc: Global, rest: &[u8]) -> Result<Vec<u8>, AllocError> {
-    block_of(alloc, 32, 9, &[&ONE_FILE, rest])
-}
-
-// The block with another byte.
-pub(crate) fn altered(
-    alloc: Global,
-    block: &[u8],
-    at: usize,
-    byte: u8,
-) -> Result<Vec<u8>, AllocError> {
-    let mut other = block.to_vec(alloc)?;
-    if at < other.len() {
-        other[at] = byte;
-    }
-    Ok(other)
 }

@@ -1,11 +1,10 @@
 // What a log comes to, and what look-ups find in it.
 
-use crate::blocks::{one_file, shifting};
+use crate::blocks::{BAD_DELETE, SHIFTING, block_of};
 use lfs_tag::{
-    Content, ContentError, Log, Lookup, MoveState, Part, Slot, Steps, Summary, find, get, name_of,
+    Content, ContentError, Log, Lookup, MoveState, Part, Steps, Summary, find, get, name_of,
     struct_of,
 };
-use std::alloc::{AllocError, Global};
 use std::test::Fail;
 
 fn typed<'a>(part: Option<Part<'a>>) -> Option<(u16, &'a [u8])> {
@@ -15,158 +14,81 @@ fn typed<'a>(part: Option<Part<'a>>) -> Option<(u16, &'a [u8])> {
     }
 }
 
-// The first attribute's type and bytes, and how many there are.
-fn attribute_of<'a>(slot: &Slot<'a>) -> (usize, Option<(u8, &'a [u8])>) {
-    let first = match slot.attributes.as_slice() {
-        [first, ..] => Some((first.kind, first.bytes)),
-        [] => None,
-    };
-    (slot.attributes.len(), first)
-}
-
 #[test]
-fn slots_that_shift(rt: HostRuntime) -> Result<(), Fail> {
-    let block = shifting(rt.alloc())?;
-    let content = Content::read(rt.alloc(), &Log::read(&block))?;
+fn contents_and_summaries(rt: HostRuntime) -> Result<(), Fail> {
+    let alloc = rt.alloc();
+    let block = block_of(alloc, 4096, 256, &SHIFTING)?;
+    let log = Log::read(&block);
+    let content = Content::read(alloc, &log)?;
     assert_eq!(rt; (content.slots.len(), content.tail), (2, None));
-    if let Some(slot) = content.slots.get(1) {
+    for slot in content.slots.get(1..).unwrap_or_default() {
         assert_eq!(rt;
-            (typed(slot.name), typed(slot.structure), attribute_of(slot)),
             (
-                Some((1, b"b".as_slice())),
-                Some((0x201, b"".as_slice())),
-                (1, Some((0x41, b"x".as_slice())))
-            )
+                typed(slot.name),
+                typed(slot.structure),
+                slot.attributes.len()
+            ),
+            (Some((1, b"b".as_slice())), Some((0x201, b"".as_slice())), 1)
         );
+        for attribute in &slot.attributes {
+            assert_eq!(rt; (attribute.kind, attribute.bytes), (0x41, b"x".as_slice()));
+        }
     }
+    let summary = Summary {
+        slot_count: 2,
+        tail: None,
+        move_state: MoveState::none(),
+        is_complete: true,
+    };
+    assert_eq!(rt; Summary::read(alloc, &log), Ok(summary));
     Ok(())
-}
-
-// Deletes a slot that isn't there.
-const BAD_DELETE: [u8; 12] = [
-    0x4f, 0xe0, 4, 1, 0x1f, 0xff, 0xf8, 0x0f, 0xa9, 0x77, 0x2b, 0x46,
-];
-
-// Whether a block has a log, and why its content and its summary aren't read.
-fn errors_of(alloc: Global, block: &[u8]) -> (bool, Option<ContentError>, Option<ContentError>) {
-    let log = Log::read(block);
-    (
-        log.has_commit(),
-        Content::read(alloc, &log).err(),
-        Summary::read(alloc, &log).err(),
-    )
 }
 
 #[test]
 fn a_slot_that_is_not_there(rt: HostRuntime) -> Result<(), Fail> {
-    let block = one_file(rt.alloc(), &BAD_DELETE)?;
-    assert_eq!(rt;
-        errors_of(rt.alloc(), &block),
-        (
-            true,
-            Some(ContentError::Malformed),
-            Some(ContentError::Malformed)
-        )
-    );
+    let block = block_of(rt.alloc(), 32, 9, &BAD_DELETE)?;
+    let log = Log::read(&block);
+    let content = Content::read(rt.alloc(), &log).err();
+    let summary = Summary::read(rt.alloc(), &log).err();
+    let error = Some(ContentError::Malformed);
+    assert_eq!(rt; (log.has_commit(), content, summary), (true, error, error));
     Ok(())
 }
 
+// What is held of a type for an id, and at how many entries a search looks, from the last one back.
 #[test]
-fn summaries(rt: HostRuntime) -> Result<(), Fail> {
-    let block = shifting(rt.alloc())?;
-    assert_eq!(rt;
-        Summary::read(rt.alloc(), &Log::read(&block))?,
-        Summary {
-            slot_count: 2,
-            tail: None,
-            move_state: MoveState::none(),
-            is_complete: true,
-        }
-    );
-    Ok(())
-}
-
-// What a log holds of a type for an id, and how many entries were looked at.
-fn held<'a>(log: &Log<'a>, kind: u16, id: u16) -> (Option<&'a [u8]>, u64) {
+fn look_ups(rt: HostRuntime) -> Result<(), Fail> {
+    let block = block_of(rt.alloc(), 4096, 256, &SHIFTING)?;
+    let log = Log::read(&block);
+    for (kind, id, held, looks) in [
+        (0x341, 1, Some(b"x".as_slice()), 2),
+        (1, 1, Some(b"b"), 11),
+        (0x201, 1, Some(b""), 10),
+        (0xff, 0, Some(b"littlefs"), 15),
+        (2, 1, None, 11),
+        (1, 2, None, 15),
+        (0x4ff, 1, None, 12),
+    ] {
+        let mut steps = Steps::new();
+        let found = get(&log, kind, id, &mut steps);
+        assert_eq!(rt; (found, steps.count()), (held, looks));
+    }
     let mut steps = Steps::new();
-    let held = get(log, kind, id, &mut steps);
-    (held, steps.count())
-}
-
-#[test]
-fn held_by_a_search(rt: HostRuntime) -> Result<(), Fail> {
-    let block = shifting(rt.alloc())?;
-    let log = Log::read(&block);
-    assert_eq!(rt;
-        (held(&log, 0x341, 1), held(&log, 1, 1)),
-        ((Some(b"x".as_slice()), 2), (Some(b"b".as_slice()), 11))
-    );
-    Ok(())
-}
-
-#[test]
-fn held_or_not(rt: HostRuntime) -> Result<(), Fail> {
-    let block = shifting(rt.alloc())?;
-    let log = Log::read(&block);
-    assert_eq!(rt;
-        [
-            held(&log, 0x201, 1).0,
-            held(&log, 0xff, 0).0,
-            held(&log, 2, 1).0,
-            held(&log, 1, 2).0,
-            held(&log, 0x4ff, 1).0,
-        ],
-        [
-            Some(b"".as_slice()),
-            Some(b"littlefs".as_slice()),
-            None,
-            None,
-            None
-        ]
-    );
-    Ok(())
-}
-
-// The name and the struct of a slot.
-fn parts_of<'a>(log: &Log<'a>, id: u16) -> (Option<(u16, &'a [u8])>, Option<(u16, &'a [u8])>) {
-    let mut steps = Steps::new();
-    let name = typed(name_of(log, id, &mut steps));
-    (name, typed(struct_of(log, id, &mut steps)))
-}
-
-#[test]
-fn parts_of_slots(rt: HostRuntime) -> Result<(), Fail> {
-    let block = shifting(rt.alloc())?;
-    let log = Log::read(&block);
-    assert_eq!(rt;
-        (parts_of(&log, 1), parts_of(&log, 2)),
-        (
-            (Some((1, b"b".as_slice())), Some((0x201, b"".as_slice()))),
-            (None, None)
-        )
-    );
-    Ok(())
-}
-
-#[test]
-fn places_of_names(rt: HostRuntime) -> Result<(), Fail> {
-    let block = shifting(rt.alloc())?;
-    let log = Log::read(&block);
-    assert_eq!(rt;
-        [
-            find(&log, b"b", None),
-            find(&log, b"a", None),
-            find(&log, b"littlefs", None),
-            find(&log, b"b", Some(1)),
-            find(&log, b"a", Some(1)),
-        ],
-        [
-            Lookup::Found(1),
-            Lookup::Place(1),
-            Lookup::Place(2),
-            Lookup::Place(2),
-            Lookup::Place(2),
-        ]
-    );
+    for (id, name, structure) in [
+        (1, Some((1, b"b".as_slice())), Some((0x201, b"".as_slice()))),
+        (2, None, None),
+    ] {
+        assert_eq!(rt; typed(name_of(&log, id, &mut steps)), name);
+        assert_eq!(rt; typed(struct_of(&log, id, &mut steps)), structure);
+    }
+    for (name, skip, place) in [
+        (b"b".as_slice(), None, Lookup::Found(1)),
+        (b"a", None, Lookup::Place(1)),
+        (b"littlefs", None, Lookup::Place(2)),
+        (b"b", Some(1), Lookup::Place(2)),
+        (b"a", Some(1), Lookup::Place(2)),
+    ] {
+        assert_eq!(rt; find(&log, name, skip), place);
+    }
     Ok(())
 }

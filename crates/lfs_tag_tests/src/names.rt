@@ -3,42 +3,26 @@
 use lfs_tag::{is_component, is_later, is_name};
 
 #[test]
-fn names(rt: HostRuntime) {
-    assert_eq!(rt;
-        [
-            is_name(b"a"),
-            is_name(b""),
-            is_name(b"."),
-            is_name(b".."),
-            is_name(b"..."),
-            is_name(b"a/b"),
-            is_name(b"a\0"),
-        ],
-        [true, false, false, false, true, false, false]
-    );
-}
-
-#[test]
-fn length_of_names(rt: HostRuntime) {
-    assert_eq!(rt;
-        [
-            is_name(&[0x61; 255]),
-            is_name(&[0x61; 256]),
-            is_component(&[0x61; 256])
-        ],
-        [true, false, true]
-    );
-}
-
-#[test]
-fn later_revisions(rt: HostRuntime) {
-    assert_eq!(rt;
-        [
-            is_later(1, 2),
-            is_later(2, 1),
-            is_later(0xffff_ffff, 0),
-            is_later(5, 5)
-        ],
-        [true, false, true, false]
-    );
+fn names_and_revisions(rt: HostRuntime) {
+    for (name, is_right, is_part) in [
+        (b"a".as_slice(), true, true),
+        (b"", false, false),
+        (b".", false, false),
+        (b"..", false, false),
+        (b"...", true, true),
+        (b"a/b", false, false),
+        (b"a\0", false, false),
+        (&[0x61; 255], true, true),
+        (&[0x61; 256], false, true),
+    ] {
+        assert_eq!(rt; (is_name(name), is_component(name)), (is_right, is_part));
+    }
+    for (first, second, is_right) in [
+        (1, 2, true),
+        (2, 1, false),
+        (0xffff_ffff, 0, true),
+        (5, 5, false),
+    ] {
+        assert_eq!(rt; is_later(first, second), is_right);
+    }
 }

@@ -3,7 +3,7 @@
 use lfs_tag::{Tag, kinds};
 
 #[test]
-fn before_exclusive_or(rt: HostRuntime) {
+fn fields_and_exclusive_or(rt: HostRuntime) {
     let name = Tag::new(kinds::SUPERBLOCK_NAME, 0, 8);
     let tail = Tag::new(kinds::SOFT_TAIL, Tag::NO_ID, 8);
     let state = Tag::new(kinds::MOVE_STATE, Tag::NO_ID, 12);
@@ -13,12 +13,7 @@ fn before_exclusive_or(rt: HostRuntime) {
         [tail.bits(), state.bits(), first, second.bits()],
         [0x600f_fc08, 0x7fff_fc0c, 0xf00f_fff7, 0x2010_0018]
     );
-}
-
-#[test]
-fn fields_of_a_tag(rt: HostRuntime) {
     let create = Tag::new(kinds::CREATE, 3, 0);
-    let name = Tag::new(kinds::SUPERBLOCK_NAME, 0, 8);
     assert_eq!(rt;
         (
             create.bits(),

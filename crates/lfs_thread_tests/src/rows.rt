@@ -1,30 +1,23 @@
-// Worked examples: how often commits erase, and how many blocks a directory takes.
+// Worked examples: how often commits erase, how many blocks a directory takes, and where slots are
+// cut.
 
 ghost use Rattle.std.specs.Prelude.{◌≡◌, false};
 
+use crate::images::{Entries, device};
+use crate::scripts::{Line, SCRIPT, rows_of, run, small};
 use crate::stepping::{Step, carry_out};
-use lfs_device::{BlockDevice, Error, FaultDevice, Geometry, RamDevice, Which};
+use lfs_device::{BlockDevice, Erased, Error, FaultDevice, Geometry, RamDevice, Which};
 use lfs_pair::{Change, Outcome};
 use lfs_tag::kinds::{FILE_NAME, INLINE_STRUCT, SUPERBLOCK_NAME};
-use lfs_tag::{CommitBuilder, Tag};
 use lfs_thread::Thread;
 use std::alloc::Global;
 use std::test::Fail;
 
-// A file system whose root has only the superblock, which takes 40 bytes: its fields aren't read by
-// a thread.
-fn fresh(alloc: Global, geometry: Geometry) -> Result<FaultDevice<RamDevice>, Error> {
-    let size = geometry.block_size as usize;
-    let mut bytes = Vec::from_elem(alloc, 0xffu8, size)?;
-    let first = Tag::from_bits(0xffff_ffff);
-    let mut builder = CommitBuilder::new(geometry.page, &mut bytes, first, Some(1));
-    builder.push(Tag::new(SUPERBLOCK_NAME, 0, 8), b"littlefs");
-    builder.push(Tag::new(INLINE_STRUCT, 0, 24), &[0; 24]);
-    builder.finish(Some([0xff; 4]))?;
-    bytes.resize(size * geometry.block_count as usize, 0xff)?;
-    let inner = RamDevice::from_bytes(geometry, bytes)?;
-    Ok(FaultDevice::new(inner, Which::Any, 0, false))
-}
+// A root with only the superblock, which takes 40 bytes: its fields aren't read by a thread.
+const SUPERBLOCK: Entries<'static> = &[
+    (SUPERBLOCK_NAME, 0, b"littlefs"),
+    (INLINE_STRUCT, 0, &[0; 24]),
+];
 
 const ATTRIBUTE: [Change<'static>; 1] = [Change::Attr {
     id: 0,
@@ -32,69 +25,30 @@ const ATTRIBUTE: [Change<'static>; 1] = [Change::Attr {
     bytes: b"x",
 }];
 
-// So many commits that each set an attribute to one byte.
-fn commit_often<D: BlockDevice>(
-    alloc: Global,
-    thread: &mut Thread<D>,
-    times: u32,
-) -> Result<(), Error>
-    requires { thread.old.failed ≡ false }
-{
-    for _ in 0..times {
-        carry_out(alloc, thread, Step::Change(0, &ATTRIBUTE))?;
-    }
-    Ok(())
-}
-
-// A device behind so many commits of the thread that was read from it.
-fn committed(alloc: Global, times: u32) -> Result<FaultDevice<RamDevice>, Error> {
-    let device = fresh(alloc, Geometry::new(4096, 256, 16)?)?;
-    match Thread::read(alloc, device) {
-        Ok(mut thread) => {
-            commit_often(alloc, &mut thread, times)?;
-            Ok(thread.into_device())
-        }
-        Err((device, _)) => Ok(device),
-    }
-}
-
-// How many erases so many commits behind a mount take, and the revisions of both blocks then.
-fn erases_of(alloc: Global, times: u32) -> Result<(u64, u8, u8), Error> {
-    let device = committed(alloc, times)?;
-    let bytes = device.inner().bytes();
-    let first = bytes.first().copied().unwrap_or(0);
-    let second = bytes.get(4096).copied().unwrap_or(0);
-    Ok((device.calls(Which::Erase), first, second))
-}
+const COMMITS: [Line; 17] = [(Step::Change(0, &ATTRIBUTE), Outcome::Done, &[]); 17];
 
 // The first commit behind a mount erases the other block. 15 fill its other pages, and the next one
-// erases again.
+// erases again. Both blocks are read once for the thread. Before each commit the pair's block is
+// brought, by one read at most, and the commit takes one read beside: what is at hand isn't read again.
 #[test]
 fn every_sixteenth_commit_erases(rt: HostRuntime) -> Result<(), Fail> {
-    for (times, answer) in [
-        (0, (0, 1, 0xff)),
-        (1, (1, 1, 2)),
-        (16, (1, 1, 2)),
-        (17, (2, 3, 2)),
+    for (times, erases, revisions, most) in [
+        (0, 0, [1, 7], 2),
+        (1, 1, [1, 2], 4),
+        (16, 1, [1, 2], 34),
+        (17, 2, [3, 2], 36),
     ] {
-        assert_eq!(rt; erases_of(rt.alloc(), times), Ok(answer));
-    }
-    Ok(())
-}
-
-// How many reads a thread of one pair takes to come from a device, and so many commits then.
-fn reads_of(alloc: Global, times: u32) -> Result<u64, Error> {
-    let device = committed(alloc, times)?;
-    Ok(device.calls(Which::Read))
-}
-
-// Both blocks are read once for the thread. Before each commit the pair's block is brought, by one
-// read at most, and the commit takes one read beside: what is at hand isn't read again.
-#[test]
-fn a_block_at_hand_is_not_read_again(rt: HostRuntime) -> Result<(), Fail> {
-    for (times, most) in [(0, 2), (1, 4), (16, 34), (17, 36)] {
-        let reads = reads_of(rt.alloc(), times);
-        assert!(rt; reads.is_ok_and(|count| count <= most));
+        let inner = device(rt.alloc(), Geometry::new(4096, 256, 16)?, SUPERBLOCK)?;
+        let device = FaultDevice::new(inner, Which::Any, 0, false);
+        let lines = COMMITS.get(..times).unwrap_or_default();
+        let (done, _, device) = run(rt.alloc(), device, lines);
+        assert_eq!(rt; (done, device.calls(Which::Erase)), (times, erases));
+        assert!(rt; device.calls(Which::Read) <= most);
+        let bytes = device.inner().bytes();
+        assert_eq!(rt;
+            (bytes.first(), bytes.get(4096)),
+            (Some(&revisions[0]), Some(&revisions[1]))
+        );
     }
     Ok(())
 }
@@ -161,43 +115,165 @@ const NO_TAIL: [Change<'static>; 1] = [Change::Tail {
     pair: None,
 }];
 
-// Each with its outcome and the count of blocks in use behind it: 40 + 3 * 208 bytes fit the 857 of a
-// pair, and 40 + 4 * 208 don't. The superblock and one file stay in the first pair.
-const FOUR_FILES: [(Step<'static>, Outcome, usize); 9] = [
-    (Step::Change(0, &FIRST), Outcome::Done, 2),
-    (Step::Change(0, &SECOND), Outcome::Done, 2),
-    (Step::Change(0, &THIRD), Outcome::Done, 2),
-    (Step::Change(0, &FOURTH), Outcome::Full, 2),
-    (Step::Split(0, &FOURTH), Outcome::Done, 4),
-    (Step::Change(0, &NO_SECOND), Outcome::Done, 4),
-    (Step::Change(1, &NO_FIRST), Outcome::Done, 4),
-    (Step::Change(1, &NO_FIRST), Outcome::Done, 4),
-    (Step::DropNext(0, &NO_TAIL), Outcome::Done, 2),
+// 40 + 3 * 208 bytes fit the 857 of a pair, and 40 + 4 * 208 don't. The superblock and one file stay
+// in the first pair.
+const FOUR_FILES: [Line; 9] = [
+    (Step::Change(0, &FIRST), Outcome::Done, &[([0, 1], 2)]),
+    (Step::Change(0, &SECOND), Outcome::Done, &[([0, 1], 3)]),
+    (Step::Change(0, &THIRD), Outcome::Done, &[([0, 1], 4)]),
+    (Step::Change(0, &FOURTH), Outcome::Full, &[([0, 1], 4)]),
+    (
+        Step::Split(0, &FOURTH),
+        Outcome::Done,
+        &[([0, 1], 2), ([2, 3], 3)],
+    ),
+    (
+        Step::Change(0, &NO_SECOND),
+        Outcome::Done,
+        &[([0, 1], 1), ([2, 3], 3)],
+    ),
+    (
+        Step::Change(1, &NO_FIRST),
+        Outcome::Done,
+        &[([0, 1], 1), ([2, 3], 2)],
+    ),
+    (
+        Step::Change(1, &NO_FIRST),
+        Outcome::Done,
+        &[([0, 1], 1), ([2, 3], 1)],
+    ),
+    (Step::DropNext(0, &NO_TAIL), Outcome::Done, &[([0, 1], 1)]),
 ];
 
-// Whether each step has its outcome, and as many blocks are in use then.
-fn take_blocks<D: BlockDevice>(alloc: Global, thread: &mut Thread<D>) -> Result<bool, Error>
+// Of the cuts with at most half of the bytes in front the last, where both parts fit. A slot takes
+// nine bytes more with its tags and its name, and a part may have 977.
+const ALIKE: Entries<'static> = &[
+    (FILE_NAME, 0, b"f"),
+    (INLINE_STRUCT, 0, &[0; 300]),
+    (FILE_NAME, 1, b"f"),
+    (INLINE_STRUCT, 1, &[0; 300]),
+    (FILE_NAME, 2, b"f"),
+    (INLINE_STRUCT, 2, &[0; 300]),
+];
+
+const ALIKE_MORE: [Change<'static>; 2] = [
+    Change::Create {
+        id: 3,
+        kind: FILE_NAME,
+        name: b"f",
+    },
+    Change::Struct {
+        id: 3,
+        kind: INLINE_STRUCT,
+        bytes: &[0; 300],
+    },
+];
+
+// 309 bytes each, 618 of 1,236 in front.
+const ALIKE_CUT: [Line; 1] = [(
+    Step::Split(0, &ALIKE_MORE),
+    Outcome::Done,
+    &[([0, 1], 2), ([2, 3], 2)],
+)];
+
+const LARGE_FIRST: Entries<'static> = &[(FILE_NAME, 0, b"f"), (INLINE_STRUCT, 0, &[0; 900])];
+
+const LARGE_FIRST_MORE: [Change<'static>; 4] = [
+    Change::Create {
+        id: 1,
+        kind: FILE_NAME,
+        name: b"f",
+    },
+    Change::Struct {
+        id: 1,
+        kind: INLINE_STRUCT,
+        bytes: &[0; 100],
+    },
+    Change::Create {
+        id: 2,
+        kind: FILE_NAME,
+        name: b"f",
+    },
+    Change::Struct {
+        id: 2,
+        kind: INLINE_STRUCT,
+        bytes: &[0; 50],
+    },
+];
+
+// 909, 109 and 59 bytes: the only cut has more than half in front.
+const LARGE_FIRST_CUT: [Line; 1] = [(
+    Step::Split(0, &LARGE_FIRST_MORE),
+    Outcome::Done,
+    &[([0, 1], 1), ([2, 3], 2)],
+)];
+
+const LARGE_LAST: Entries<'static> = &[
+    (FILE_NAME, 0, b"f"),
+    (INLINE_STRUCT, 0, &[0; 100]),
+    (FILE_NAME, 1, b"f"),
+    (INLINE_STRUCT, 1, &[0; 50]),
+];
+
+const LARGE_LAST_MORE: [Change<'static>; 2] = [
+    Change::Create {
+        id: 2,
+        kind: FILE_NAME,
+        name: b"f",
+    },
+    Change::Struct {
+        id: 2,
+        kind: INLINE_STRUCT,
+        bytes: &[0; 900],
+    },
+];
+
+// 109, 59 and 909 bytes: the only cut has less than half in front.
+const LARGE_LAST_CUT: [Line; 1] = [(
+    Step::Split(0, &LARGE_LAST_MORE),
+    Outcome::Done,
+    &[([0, 1], 2), ([2, 3], 1)],
+)];
+
+// Whether each step becomes what its line says, and the pairs are kept that it says.
+fn keeps<D: BlockDevice>(
+    alloc: Global,
+    thread: &mut Thread<D>,
+    lines: &[Line],
+) -> Result<bool, Error>
     requires { thread.old.failed ≡ false }
 {
-    for (step, outcome, blocks) in &FOUR_FILES {
-        let found = carry_out(alloc, thread, *step)?;
-        if found != *outcome || thread.len() != *blocks / 2 {
+    for line in lines {
+        let found = carry_out(alloc, thread, line.0)?;
+        let rows = rows_of(alloc, thread)?;
+        if found != line.1 || rows.as_slice() != line.2 {
             return Ok(false);
         }
     }
     Ok(true)
 }
 
-fn four_files(alloc: Global) -> Result<bool, Error> {
-    let device = fresh(alloc, Geometry::new(1024, 128, 64)?)?;
+fn is_kept(alloc: Global, device: RamDevice, lines: &[Line]) -> Result<bool, Error> {
     match Thread::read(alloc, device) {
-        Ok(mut thread) => take_blocks(alloc, &mut thread),
+        Ok(mut thread) => keeps(alloc, &mut thread, lines),
         Err((_, error)) => Err(error),
     }
 }
 
 #[test]
-fn four_files_take_four_blocks(rt: HostRuntime) -> Result<(), Fail> {
-    assert_eq!(rt; four_files(rt.alloc()), Ok(true));
+fn steps_have_their_rows(rt: HostRuntime) -> Result<(), Fail> {
+    let alloc = rt.alloc();
+    for (page, entries, lines) in [
+        (128, SUPERBLOCK, FOUR_FILES.as_slice()),
+        (8, ALIKE, &ALIKE_CUT),
+        (8, LARGE_FIRST, &LARGE_FIRST_CUT),
+        (8, LARGE_LAST, &LARGE_LAST_CUT),
+    ] {
+        let device = device(alloc, Geometry::new(1024, page, 64)?, entries)?;
+        assert_eq!(rt; is_kept(alloc, device, lines), Ok(true));
+    }
+    for erased in [Erased::Fill(0xff), Erased::Fill(0), Erased::Keep] {
+        assert_eq!(rt; is_kept(alloc, small(alloc, erased)?, &SCRIPT), Ok(true));
+    }
     Ok(())
 }

@@ -2,13 +2,19 @@
 
 ghost use Rattle.std.specs.Prelude.{◌≡◌, false};
 
-use crate::reading::written;
+use crate::images::{FILE_A, device};
 use crate::stepping::{Step, carry_out};
 use lfs_device::{BlockDevice, Erased, Error, Geometry, RamDevice};
-use lfs_pair::Change;
+use lfs_pair::{Change, Outcome};
 use lfs_tag::kinds::{DIRECTORY_NAME, DIRECTORY_STRUCT, FILE_NAME, INLINE_STRUCT};
 use lfs_thread::Thread;
 use std::alloc::Global;
+
+/// Where a pair stands, and how many slots it has.
+pub type Row = ([u32; 2], usize);
+
+/// A step, what became of it, and the pairs behind it.
+pub type Line = (Step<'static>, Outcome, &'static [Row]);
 
 // With a name of one byte a slot takes 309 bytes, and a pair may have 857.
 const LARGE: [u8; 300] = [9; 300];
@@ -105,47 +111,65 @@ const NO_TAIL: [Change<'static>; 1] = [Change::Tail {
     pair: None,
 }];
 
+/// The pairs before the first step.
+pub const START: &[Row] = &[([0, 1], 1)];
+
 /// A pair is filled, a directory's pair comes, the first is split where it is full, and what came
 /// goes again.
-pub const STEPS: [Step<'static>; 11] = [
-    Step::Change(0, &SECOND),
-    Step::Change(0, &THIRD),
-    Step::Change(0, &ATTRIBUTE),
-    Step::ThreadIn(0, &DIRECTORY),
-    Step::Change(1, &FIRST),
-    Step::Change(0, &FIFTH),
-    Step::Split(0, &FIFTH),
-    Step::Change(2, &NO_FIRST),
-    Step::DropNext(1, &NO_DIRECTORY),
-    Step::Change(0, &NO_FIRST),
-    Step::DropNext(0, &NO_TAIL),
+pub const SCRIPT: [Line; 11] = [
+    (Step::Change(0, &SECOND), Outcome::Done, &[([0, 1], 2)]),
+    (Step::Change(0, &THIRD), Outcome::Done, &[([0, 1], 3)]),
+    (Step::Change(0, &ATTRIBUTE), Outcome::Done, &[([0, 1], 3)]),
+    (
+        Step::ThreadIn(0, &DIRECTORY),
+        Outcome::Done,
+        &[([0, 1], 4), ([2, 3], 0)],
+    ),
+    (
+        Step::Change(1, &FIRST),
+        Outcome::Done,
+        &[([0, 1], 4), ([2, 3], 1)],
+    ),
+    (
+        Step::Change(0, &FIFTH),
+        Outcome::Full,
+        &[([0, 1], 4), ([2, 3], 1)],
+    ),
+    (
+        Step::Split(0, &FIFTH),
+        Outcome::Done,
+        &[([0, 1], 2), ([4, 5], 3), ([2, 3], 1)],
+    ),
+    (
+        Step::Change(2, &NO_FIRST),
+        Outcome::Done,
+        &[([0, 1], 2), ([4, 5], 3), ([2, 3], 0)],
+    ),
+    (
+        Step::DropNext(1, &NO_DIRECTORY),
+        Outcome::Done,
+        &[([0, 1], 2), ([4, 5], 2)],
+    ),
+    (
+        Step::Change(0, &NO_FIRST),
+        Outcome::Done,
+        &[([0, 1], 1), ([4, 5], 2)],
+    ),
+    (Step::DropNext(0, &NO_TAIL), Outcome::Done, &[([0, 1], 1)]),
 ];
 
-/// Where a pair stands, and how many slots it has.
-pub type Row = ([u32; 2], usize);
-
-/// The pairs before the first step and after each.
-pub const KEPT: [&[Row]; 12] = [
-    &[([0, 1], 1)],
-    &[([0, 1], 2)],
-    &[([0, 1], 3)],
-    &[([0, 1], 3)],
-    &[([0, 1], 4), ([2, 3], 0)],
-    &[([0, 1], 4), ([2, 3], 1)],
-    &[([0, 1], 4), ([2, 3], 1)],
-    &[([0, 1], 2), ([4, 5], 3), ([2, 3], 1)],
-    &[([0, 1], 2), ([4, 5], 3), ([2, 3], 0)],
-    &[([0, 1], 2), ([4, 5], 2)],
-    &[([0, 1], 1), ([4, 5], 2)],
-    &[([0, 1], 1)],
-];
+/// Whether these are the pairs of the moment behind so many steps.
+pub fn are_kept_at(rows: &[Row], done: usize) -> bool {
+    match done {
+        0 => START == rows,
+        _ => SCRIPT.get(done - 1).is_some_and(|line| line.2 == rows),
+    }
+}
 
 /// 16 blocks of 1,024 bytes with pages of 128, and a pair with an empty file `a`.
 pub fn small(alloc: Global, erased: Erased) -> Result<RamDevice, Error> {
-    let mut bytes = written(alloc, None, true)?;
-    bytes.resize(16 * 1024, 7)?;
-    let geometry = Geometry::new(1024, 128, 16)?;
-    Ok(RamDevice::from_bytes(geometry, bytes)?.erased_as(erased))
+    let device = device(alloc, Geometry::new(1024, 128, 16)?, FILE_A)?;
+    Ok(device.erased_as(erased))
 }
 
 /// What is kept of each pair.
@@ -171,28 +195,24 @@ pub fn read_rows<D: BlockDevice + Drop>(alloc: Global, device: D) -> Result<Vec<
 fn carry_out_all<D: BlockDevice>(
     alloc: Global,
     thread: &mut Thread<D>,
-    steps: &[Step<'_>],
+    lines: &[Line],
 ) -> (usize, Option<Error>)
     requires { thread.old.failed ≡ false }
 {
-    for (done, step) in steps.iter().enumerate() {
-        if let Err(error) = carry_out(alloc, thread, *step) {
+    for (done, line) in lines.iter().enumerate() {
+        if let Err(error) = carry_out(alloc, thread, line.0) {
             return (done, Some(error));
         }
     }
-    (steps.len(), None)
+    (lines.len(), None)
 }
 
 /// Reads a device's thread and carries out the steps. Gives back how many were done, the error that
 /// came then and the device.
-pub fn run<D: BlockDevice>(
-    alloc: Global,
-    device: D,
-    steps: &[Step<'_>],
-) -> (usize, Option<Error>, D) {
+pub fn run<D: BlockDevice>(alloc: Global, device: D, lines: &[Line]) -> (usize, Option<Error>, D) {
     match Thread::read(alloc, device) {
         Ok(mut thread) => {
-            let (done, error) = carry_out_all(alloc, &mut thread, steps);
+            let (done, error) = carry_out_all(alloc, &mut thread, lines);
             (done, error, thread.into_device())
         }
         Err((device, error)) => (0, Some(error), device),

@@ -1,54 +1,53 @@
-// Sources and the images that are made of them.
+// Sources, the images that are made of them, and what comes back.
 
-use crate::shown::{error_shown, shown};
+use crate::shown::{ended, listed, unpacked};
 use crate::sources::{Items, source_of};
-use crate::unpacking::unpacked;
 use lfs_device::{Error, Geometry};
-use lfs_tool::{ToolError, Watched};
-use lfs_tool_create::{create, geometry_for};
-use lfs_tool_source::Source;
+use lfs_tool::Watched;
+use lfs_tool_create::create;
+use lfs_tool_source::{Held, MemorySource};
 use std::alloc::{AllocError, Global};
 use std::test::Fail;
 
-const NAME_TOO_LONG: &str = "error: NameTooLong (36)\n";
-
 const NO_SPACE: &str = "error: NoSpace (28)\n";
 
-// What is written of a source, and how it ended.
-pub(crate) fn written<S: Source>(
-    alloc: Global,
-    source: &mut S,
-    geometry: Geometry,
-) -> (Result<(), ToolError>, Vec<u8>) {
-    let mut image = Watched::new(Vec::new(alloc));
-    let result = create(alloc, source, geometry, &mut image);
-    (result, image.into_inner())
-}
+const NAME_TOO_LONG: &str = "error: NameTooLong (36)\n";
 
-// What is listed of the image, or the line of an error with which nothing was written.
-pub(crate) fn listed<S: Source>(
+// Whether the image of a source lists as these lines and, where they are given, is unpacked by these
+// actions; or whether this error comes and nothing is written.
+fn comes_back(
     alloc: Global,
-    source: &mut S,
+    source: MemorySource,
     geometry: Geometry,
-) -> Result<Vec<u8>, AllocError> {
-    let (result, image) = written(alloc, source, geometry);
-    match result {
-        Ok(()) => shown(alloc, image.as_slice(), geometry.block_size, geometry.page),
-        Err(error) if image.is_empty() => Ok(error_shown(alloc, error)),
-        Err(_) => Vec::from_slice(alloc, b"refused, and written\n"),
+    lines: &[u8],
+    actions: Option<&[u8]>,
+) -> Result<bool, Error> {
+    let mut source = source;
+    let mut out = Watched::new(Vec::new(alloc));
+    let result = create(alloc, &mut source, geometry, &mut out);
+    let image = out.into_inner();
+    if result.is_err() {
+        return Ok(ended(alloc, image, result)?.as_slice() == lines);
     }
-}
-
-fn made(alloc: Global, items: Items<'_>, geometry: Geometry) -> Result<Vec<u8>, AllocError> {
-    let mut source = source_of(alloc, items)?;
-    listed(alloc, &mut source, geometry)
+    let (block_size, page) = (geometry.block_size, geometry.page);
+    let mut reader = Watched::new(image.as_slice());
+    let is_listed = listed(alloc, &mut reader, block_size, page)?.as_slice() == lines;
+    let Some(actions) = actions else {
+        return Ok(is_listed);
+    };
+    let mut reader = Watched::new(image.as_slice());
+    let done = unpacked(alloc, &mut reader, block_size, page)?;
+    Ok(is_listed && done.as_slice() == actions)
 }
 
 // A file, and a folder with an empty one.
 const FOLDER: Items<'static> = &[(b"/d/x", Some(b"")), (b"/d", None), (b"/a", Some(b"hello"))];
 
-// Sources, how many blocks of 4,096 bytes with pages of 256 there are, and what comes of it.
-const SOURCES: [(Items<'static>, u32, &str); 13] = [
+// A source, how many blocks there are, and what comes of it.
+type Row = (Items<'static>, u32, &'static str);
+
+// Blocks of 4,096 bytes, with pages of 256.
+const SOURCES: [Row; 13] = [
     (&[], 2, ""),
     (&[(b"/a", Some(b"hello"))], 16, "f 5 /a\n"),
     (&[(b"/a", Some(&[7; 512]))], 16, "f 512 /a\n"),
@@ -74,119 +73,75 @@ const SOURCES: [(Items<'static>, u32, &str); 13] = [
     ),
 ];
 
-// As `made`, with so many blocks of 4,096 bytes and pages of 256.
-fn made_in(alloc: Global, items: Items<'_>, blocks: u32) -> Result<Vec<u8>, Error> {
-    let geometry = Geometry::new(4096, 256, blocks)?;
-    let text = made(alloc, items, geometry)?;
-    Ok(text)
-}
+// What the folder's image lists, and what unpacking it does.
+const LINES: &[u8] = b"f 5 /a\nd 0 /d\nf 0 /d/x\n";
+
+const ACTIONS: &[u8] = b"f /a hello\nd /d\nf /d/x \n";
+
+const BYTES: Option<&[u8]> = Some(&[0; 128]);
+
+// Seven files, of which six fill two pairs of an image of four blocks.
+const SEVEN: Items<'static> = &[
+    (b"/a", BYTES),
+    (b"/b", BYTES),
+    (b"/c", BYTES),
+    (b"/d", BYTES),
+    (b"/e", BYTES),
+    (b"/f", BYTES),
+    (b"/g", Some(b"")),
+];
+
+// Blocks of 1,024 bytes, with pages of 128. Beside 40 bytes of the superblock, six files of 8 and a name
+// of 1 beside their bytes: a pair holds 857.
+const SMALL: [Row; 4] = [
+    (
+        &[
+            (b"/a", BYTES),
+            (b"/b", BYTES),
+            (b"/c", BYTES),
+            (b"/d", BYTES),
+            (b"/e", BYTES),
+            (b"/f", Some(&[0; 123])),
+        ],
+        4,
+        "f 128 /a\nf 128 /b\nf 128 /c\nf 128 /d\nf 128 /e\nf 123 /f\n",
+    ),
+    (
+        &[
+            (b"/a", BYTES),
+            (b"/b", BYTES),
+            (b"/c", BYTES),
+            (b"/d", BYTES),
+            (b"/e", BYTES),
+            (b"/f", Some(&[0; 124])),
+        ],
+        4,
+        "f 128 /a\nf 128 /b\nf 128 /c\nf 128 /d\nf 128 /e\nf 124 /f\n",
+    ),
+    (SEVEN, 4, NO_SPACE),
+    (
+        SEVEN,
+        6,
+        "f 128 /a\nf 128 /b\nf 128 /c\nf 128 /d\nf 128 /e\nf 128 /f\nf 0 /g\n",
+    ),
+];
+
+// Sizes of a block and a page, and what is made with them.
+const MADE: [(u32, u32, &[Row]); 2] = [(4096, 256, &SOURCES), (1024, 128, &SMALL)];
 
 #[test]
 fn images_are_made(rt: HostRuntime) -> Result<(), Fail> {
-    for (items, blocks, text) in SOURCES {
-        let lines = made_in(rt.alloc(), items, blocks)?;
-        assert!(rt; lines.as_slice() == text.as_bytes(), "{text}");
+    for (block_size, page, rows) in MADE {
+        for (items, blocks, text) in rows {
+            let source = source_of(rt.alloc(), items)?;
+            let geometry = Geometry::new(block_size, page, *blocks)?;
+            let comes_back = comes_back(rt.alloc(), source, geometry, text.as_bytes(), None)?;
+            assert!(rt; comes_back, "{text}");
+        }
     }
-    Ok(())
-}
-
-// A slash and the longest name.
-fn longest_path() -> [u8; 256] {
-    let mut path = [b'x'; 256];
-    path[0] = b'/';
-    path
-}
-
-// A slash and a name that is a byte longer.
-fn longer_path() -> [u8; 257] {
-    let mut path = [b'x'; 257];
-    path[0] = b'/';
-    path
-}
-
-#[test]
-fn a_name_has_255_bytes(rt: HostRuntime) -> Result<(), Fail> {
-    let path = longest_path();
-    let lines = made_in(rt.alloc(), &[(&path, Some(b""))], 4)?;
-    assert!(rt; lines.len() == 261 && lines.starts_with(b"f 0 /x"));
-    Ok(())
-}
-
-#[test]
-fn a_name_has_256_bytes(rt: HostRuntime) -> Result<(), Fail> {
-    let path = longer_path();
-    let lines = made_in(rt.alloc(), &[(&path, Some(b""))], 2)?;
-    assert!(rt; lines.as_slice() == NAME_TOO_LONG.as_bytes());
-    Ok(())
-}
-
-// Beside 40 bytes of the superblock, six files of 8 and a name of 1 beside their bytes: a pair with
-// blocks of 1,024 bytes and pages of 128 holds 857.
-fn made_of_six(alloc: Global, last: &[u8], blocks: u32) -> Result<Vec<u8>, Error> {
-    let bytes = Some([0; 128].as_slice());
-    let items = [
-        (b"/a".as_slice(), bytes),
-        (b"/b", bytes),
-        (b"/c", bytes),
-        (b"/d", bytes),
-        (b"/e", bytes),
-        (b"/f", Some(last)),
-    ];
-    let lines = made(alloc, &items, Geometry::new(1024, 128, blocks)?)?;
-    Ok(lines)
-}
-
-const FULL: &str = "f 128 /a\nf 128 /b\nf 128 /c\nf 128 /d\nf 128 /e\nf 123 /f\n";
-
-const SPLIT: &str = "f 128 /a\nf 128 /b\nf 128 /c\nf 128 /d\nf 128 /e\nf 124 /f\n";
-
-// The six files, which fill two pairs of an image of four blocks, and one file more.
-fn made_of_seven(alloc: Global, blocks: u32) -> Result<Vec<u8>, Error> {
-    let bytes = Some([0; 128].as_slice());
-    let items = [
-        (b"/a".as_slice(), bytes),
-        (b"/b", bytes),
-        (b"/c", bytes),
-        (b"/d", bytes),
-        (b"/e", bytes),
-        (b"/f", bytes),
-        (b"/g", Some(b"")),
-    ];
-    let lines = made(alloc, &items, Geometry::new(1024, 128, blocks)?)?;
-    Ok(lines)
-}
-
-const SEVEN: &str = "f 128 /a\nf 128 /b\nf 128 /c\nf 128 /d\nf 128 /e\nf 128 /f\nf 0 /g\n";
-
-#[test]
-fn a_full_image_takes_no_file_more(rt: HostRuntime) -> Result<(), Fail> {
-    let full = made_of_seven(rt.alloc(), 4)?;
-    assert!(rt; full.as_slice() == NO_SPACE.as_bytes());
-    let larger = made_of_seven(rt.alloc(), 6)?;
-    assert!(rt; larger.as_slice() == SEVEN.as_bytes());
-    Ok(())
-}
-
-#[test]
-fn a_full_pair_is_split(rt: HostRuntime) -> Result<(), Fail> {
-    let full = made_of_six(rt.alloc(), &[0; 123], 4)?;
-    assert!(rt; full.as_slice() == FULL.as_bytes());
-    let split = made_of_six(rt.alloc(), &[0; 124], 4)?;
-    assert!(rt; split.as_slice() == SPLIT.as_bytes());
-    Ok(())
-}
-
-// Whether an image of the folder, unpacked, gives the folder again.
-fn comes_back(alloc: Global) -> Result<bool, Error> {
-    let mut source = source_of(alloc, FOLDER)?;
-    let (_, image) = written(alloc, &mut source, Geometry::new(4096, 256, 16)?);
-    let text = unpacked(alloc, image.as_slice(), 4096, 256)?;
-    Ok(text.as_slice() == b"f /a hello\nd /d\nf /d/x \n".as_slice())
-}
-
-#[test]
-fn a_folder_comes_back(rt: HostRuntime) -> Result<(), Fail> {
-    assert!(rt; comes_back(rt.alloc())?);
+    let source = source_of(rt.alloc(), FOLDER)?;
+    let geometry = Geometry::new(4096, 256, 16)?;
+    assert!(rt; comes_back(rt.alloc(), source, geometry, LINES, Some(ACTIONS))?);
     Ok(())
 }
 
@@ -197,38 +152,124 @@ const FRESH: [u8; 52] = [
     0x7f, 0xfe, 0x03, 0, 0, 0x70, 0x1f, 0xfc, 0xc8, 0x4a, 0x7f, 0x27, 0xf3,
 ];
 
-fn is_fresh(alloc: Global) -> Result<bool, Error> {
-    let mut source = source_of(alloc, &[])?;
-    let (answer, image) = written(alloc, &mut source, Geometry::new(4096, 256, 16)?);
-    let mut wanted = Vec::from_slice(alloc, &FRESH)?;
-    wanted.resize(65536, 0xff)?;
-    Ok(answer.is_ok() && image.as_slice() == wanted.as_slice())
-}
-
 #[test]
-fn nothing_makes_a_fresh_image(rt: HostRuntime) -> Result<(), Fail> {
-    assert!(rt; is_fresh(rt.alloc())?);
+fn an_image_has_these_bytes(rt: HostRuntime) -> Result<(), Fail> {
+    let mut source = source_of(rt.alloc(), &[])?;
+    let mut out = Watched::new(Vec::new(rt.alloc()));
+    let result = create(
+        rt.alloc(),
+        &mut source,
+        Geometry::new(4096, 256, 16)?,
+        &mut out,
+    );
+    let mut wanted = Vec::from_slice(rt.alloc(), &FRESH)?;
+    wanted.resize(65536, 0xff)?;
+    assert!(rt; result == Ok(()) && out.inner().as_slice() == wanted.as_slice());
     Ok(())
 }
 
-// Sizes of an image, a block and a page, and how many blocks there are.
-const SIZES: [(u32, u32, u32, Result<u32, Error>); 3] = [
-    (65536, 4096, 256, Ok(16)),
-    (65537, 4096, 256, Err(Error::Invalid)),
-    (65536, 0, 256, Err(Error::Invalid)),
+// What stands in a source, the lines that list it, and those of its unpacking.
+#[derive(Drop)]
+struct Large {
+    held: Vec<Held>,
+    lines: String,
+    actions: String,
+}
+
+impl Large {
+    fn new(alloc: Global) -> Large {
+        Large {
+            held: Vec::new(alloc),
+            lines: String::new(alloc),
+            actions: String::new(alloc),
+        }
+    }
+
+    // Adds a folder, or a file without bytes.
+    fn push(&mut self, alloc: Global, path: &str, is_folder: bool) -> Result<(), AllocError> {
+        let (kind, end, bytes) = if is_folder {
+            ('d', "", None)
+        } else {
+            ('f', " ", Some(Vec::new(alloc)))
+        };
+        let line = format!(in alloc; "{kind} 0 {path}\n")?;
+        let action = format!(in alloc; "{kind} {path}{end}\n")?;
+        self.lines.push_str(line.as_str())?;
+        self.actions.push_str(action.as_str())?;
+        let path = path.as_bytes().to_vec(alloc)?;
+        self.held.push(Held { path, bytes })?;
+        Ok(())
+    }
+}
+
+// So many folders in one another, and a file in the last, each name with so many bytes.
+fn deep(alloc: Global, count: u32, len: u32) -> Result<Large, AllocError> {
+    let mut large = Large::new(alloc);
+    let mut path = String::new(alloc);
+    for depth in 0..=count {
+        path.push('/')?;
+        for _ in 0..len {
+            path.push('n')?;
+        }
+        large.push(alloc, path.as_str(), depth < count)?;
+    }
+    Ok(large)
+}
+
+// A folder with so many files, whose names have five digits.
+fn wide(alloc: Global, count: u32) -> Result<Large, AllocError> {
+    let mut large = Large::new(alloc);
+    large.push(alloc, "/d", true)?;
+    for number in 0..count {
+        let path = format!(in alloc; "/d/{number:05}")?;
+        large.push(alloc, path.as_str(), false)?;
+    }
+    Ok(large)
+}
+
+// How many folders there are in one another, how many bytes a name has, how many blocks of 1,024 bytes,
+// and the error.
+const DEEP: [(u32, u32, u32, Option<&str>); 5] = [
+    // two blocks of the root and two of each folder; at the last folder four are free
+    (40, 1, 84, None),
+    (40, 1, 83, Some(NO_SPACE)),
+    // the longest name, and one that is a byte longer
+    (3, 255, 16, None),
+    (0, 255, 4, None),
+    (0, 256, 2, Some(NAME_TOO_LONG)),
 ];
 
-fn blocks_for(size: u32, block_size: u32, page: u32) -> Result<u32, Error> {
-    let geometry = geometry_for(size, block_size, page)?;
-    Ok(geometry.block_count)
+fn is_made(alloc: Global, large: Large, blocks: u32, error: Option<&str>) -> Result<bool, Error> {
+    let source = MemorySource {
+        held: large.held,
+        has_failed: false,
+    };
+    let lines = error.unwrap_or(large.lines.as_str()).as_bytes();
+    let actions = Some(large.actions.as_bytes());
+    comes_back(
+        alloc,
+        source,
+        Geometry::new(1024, 8, blocks)?,
+        lines,
+        actions,
+    )
 }
 
 #[test]
-fn sizes_make_geometries(rt: HostRuntime) {
-    for (size, block_size, page, blocks) in SIZES {
+fn deep_sources(rt: HostRuntime) -> Result<(), Fail> {
+    for (count, len, blocks, error) in DEEP {
+        let large = deep(rt.alloc(), count, len)?;
         assert!(rt;
-            blocks_for(size, block_size, page) == blocks,
-            "{size}, {block_size}"
+            is_made(rt.alloc(), large, blocks, error)?,
+            "{count}, {len}"
         );
     }
+    Ok(())
+}
+
+#[test]
+fn a_thousand_files(rt: HostRuntime) -> Result<(), Fail> {
+    let large = wide(rt.alloc(), 1000)?;
+    assert!(rt; is_made(rt.alloc(), large, 128, None)?);
+    Ok(())
 }

@@ -8,20 +8,12 @@ mod failing;
 #[cfg(test)]
 mod files;
 #[cfg(test)]
-mod image;
-#[cfg(test)]
-mod large;
+mod images;
 #[cfg(test)]
 mod lines;
 #[cfg(test)]
-mod listing;
-#[cfg(test)]
 mod memory;
-#[cfg(test)]
-mod mounting;
 #[cfg(test)]
 mod shown;
 #[cfg(test)]
 mod sources;
-#[cfg(test)]
-mod unpacking;

@@ -1,7 +1,8 @@
 // Command lines, and what is shown of those that are refused.
 
+use crate::shown::report_of;
 use lfs_device::Error;
-use lfs_tool::{Fault, Line, LineError, Mode, ToolError, Watched, read_line, report};
+use lfs_tool::{Fault, Line, LineError, Mode, ToolError, read_line};
 use std::alloc::{AllocError, Global};
 use std::test::Fail;
 
@@ -59,27 +60,6 @@ fn lines_are_read(rt: HostRuntime) -> Result<(), Fail> {
 
 const MODES: &str = "error: give exactly one of -c, -u, -l\n";
 
-// Lines in which not exactly one mode is given.
-const WITHOUT_A_MODE: [&[&str]; 4] = [
-    &["mklittlefs", "i"],
-    &["mklittlefs", "-p", "256", "i", "-b0"],
-    &["mklittlefs", "-l", "-c", "d", "i"],
-    &["mklittlefs", "-l", "-u", "d", "i"],
-];
-
-// Lines that the parser refuses.
-const REFUSED: [&[&str]; 6] = [
-    &["mklittlefs", "-l"],
-    &["mklittlefs", "-l", "i", "j"],
-    &["mklittlefs", "-l", "i", "-c"],
-    &["mklittlefs", "-l", "-b", "4294967296", "i"],
-    &["mklittlefs", "-l", "-p", "0x100", "i"],
-    &["mklittlefs", "-x"],
-];
-
-// Lines that ask for help.
-const HELPED: [&[&str]; 2] = [&["mklittlefs", "--help"], &["mklittlefs", "-l", "-h"]];
-
 const HELP: &str = "\
 Creates, unpacks or lists an image of a littlefs file system.
 
@@ -112,104 +92,57 @@ Sizes:
   with.
 ";
 
-// What is shown of why there is no line, or of a run that failed.
-#[derive(Drop)]
-struct Report {
-    status: u8,
-    out: Vec<u8>,
-    err: Vec<u8>,
-}
+// Words that are no line: the status, what goes to `out`, and what to `err`, if that isn't the parser's
+// own text.
+const REFUSED: [(&[&str], u8, &str, Option<&str>); 12] = [
+    // not exactly one mode
+    (&["mklittlefs", "i"], 2, "", Some(MODES)),
+    (&["mklittlefs", "-p", "256", "i", "-b0"], 2, "", Some(MODES)),
+    (&["mklittlefs", "-l", "-c", "d", "i"], 2, "", Some(MODES)),
+    (&["mklittlefs", "-l", "-u", "d", "i"], 2, "", Some(MODES)),
+    // what the parser refuses
+    (&["mklittlefs", "-l"], 2, "", None),
+    (&["mklittlefs", "-l", "i", "j"], 2, "", None),
+    (&["mklittlefs", "-l", "i", "-c"], 2, "", None),
+    (&["mklittlefs", "-l", "-b", "4294967296", "i"], 2, "", None),
+    (&["mklittlefs", "-l", "-p", "0x100", "i"], 2, "", None),
+    (&["mklittlefs", "-x"], 2, "", None),
+    // a request for help
+    (&["mklittlefs", "--help"], 0, HELP, Some("")),
+    (&["mklittlefs", "-l", "-h"], 0, HELP, Some("")),
+];
 
-fn report_of(alloc: Global, fault: &Fault) -> Report {
-    let mut out = Watched::new(Vec::new(alloc));
-    let mut err = Watched::new(Vec::new(alloc));
-    let status = report(fault, &mut out, &mut err);
-    Report {
-        status,
-        out: out.into_inner(),
-        err: err.into_inner(),
-    }
-}
-
-// Whether a fault is shown so: its status, and what goes to `out` and to `err`.
-fn is_shown(alloc: Global, fault: &Fault, status: u8, out: &str, err: &str) -> bool {
-    let report = report_of(alloc, fault);
-    report.status == status
-        && report.out.as_slice() == out.as_bytes()
-        && report.err.as_slice() == err.as_bytes()
-}
-
-// Whether a call of the tool ended so: with status 0 and no line, or with the status and the line of an
-// error.
-pub(crate) fn is_ended(
+// Whether a fault is shown so, which is its own text too.
+fn is_shown(
     alloc: Global,
-    answer: Result<(), ToolError>,
+    fault: &Fault,
     status: u8,
-    line: &str,
-) -> bool {
-    match answer {
-        Ok(()) => status == 0 && line.is_empty(),
-        Err(error) => is_shown(alloc, &Fault::Tool(error), status, "", line),
-    }
-}
-
-// Whether a fault's own text is so.
-fn is_text(alloc: Global, fault: &Fault, text: &str) -> Result<bool, AllocError> {
-    let shown = format!(in alloc; "{fault}")?;
-    Ok(shown.trim_end() == text.trim_end())
-}
-
-// Why the words are no line.
-fn fault_of<'a>(alloc: Global, words: &'a [&'a str]) -> Option<Fault> {
-    match read_line(alloc, words) {
-        Ok(_) => None,
-        Err(error) => Some(Fault::Line(error)),
-    }
-}
-
-#[test]
-fn one_mode_is_given(rt: HostRuntime) -> Result<(), Fail> {
-    for words in WITHOUT_A_MODE {
-        let fault = fault_of(rt.alloc(), words);
-        let is_told = match &fault {
-            Some(fault) => is_shown(rt.alloc(), fault, 2, "", MODES)
-                && is_text(rt.alloc(), fault, MODES)?,
-            None => false,
-        };
-        assert!(rt; is_told, "{words:?}");
-    }
-    Ok(())
-}
-
-#[test]
-fn help_is_shown(rt: HostRuntime) -> Result<(), Fail> {
-    for words in HELPED {
-        let fault = fault_of(rt.alloc(), words);
-        let is_told = match &fault {
-            Some(fault) => is_shown(rt.alloc(), fault, 0, HELP, "")
-                && is_text(rt.alloc(), fault, HELP)?,
-            None => false,
-        };
-        assert!(rt; is_told, "{words:?}");
-    }
-    Ok(())
-}
-
-// Whether the parser's text goes to `err`.
-fn is_refused(alloc: Global, words: &[&str]) -> bool {
-    let Some(fault) = fault_of(alloc, words) else {
-        return false;
-    };
-    let report = report_of(alloc, &fault);
+    out: &str,
+    err: Option<&str>,
+) -> Result<bool, AllocError> {
+    let report = report_of(alloc, fault);
     let told = report.err.as_slice();
-    report.status == 2 && report.out.is_empty() && !told.is_empty() && told != MODES.as_bytes()
+    let text = format!(in alloc; "{fault}")?;
+    let is_err = match err {
+        Some(err) => {
+            let own = if err.is_empty() { out } else { err };
+            told == err.as_bytes() && text.trim_end() == own.trim_end()
+        }
+        None => !told.is_empty() && told != MODES.as_bytes(),
+    };
+    Ok(report.status == status && report.out.as_slice() == out.as_bytes() && is_err)
 }
 
 #[test]
-fn the_parser_refuses(rt: HostRuntime) {
-    for words in REFUSED {
-        assert!(rt; is_refused(rt.alloc(), words), "{words:?}");
+fn faults_of_lines_are_shown(rt: HostRuntime) -> Result<(), Fail> {
+    for (words, status, out, err) in REFUSED {
+        let is_told = match read_line(rt.alloc(), words) {
+            Ok(_) => false,
+            Err(error) => is_shown(rt.alloc(), &Fault::Line(error), status, out, err)?,
+        };
+        assert!(rt; is_told, "{words:?}");
     }
+    Ok(())
 }
 
 // Errors of the tool, their status and their line.
@@ -247,19 +180,11 @@ const ERRORS: [(ToolError, u8, &str); 20] = [
 const NOT_UTF8: &str = "error: the command line is not UTF-8\n";
 
 #[test]
-fn words_are_utf8(rt: HostRuntime) -> Result<(), Fail> {
-    let fault = Fault::Line(LineError::NotUtf8);
-    assert!(rt; is_shown(rt.alloc(), &fault, 2, "", NOT_UTF8));
-    assert!(rt; is_text(rt.alloc(), &fault, NOT_UTF8)?);
-    Ok(())
-}
-
-#[test]
 fn errors_are_shown(rt: HostRuntime) -> Result<(), Fail> {
+    let not_utf8 = Fault::Line(LineError::NotUtf8);
+    assert!(rt; is_shown(rt.alloc(), &not_utf8, 2, "", Some(NOT_UTF8))?);
     for (error, status, line) in ERRORS {
-        let fault = Fault::Tool(error);
-        let is_told = is_shown(rt.alloc(), &fault, status, "", line)
-            && is_text(rt.alloc(), &fault, line)?;
+        let is_told = is_shown(rt.alloc(), &Fault::Tool(error), status, "", Some(line))?;
         assert!(rt; is_told, "{line}");
     }
     Ok(())

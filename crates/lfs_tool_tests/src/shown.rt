@@ -1,28 +1,86 @@
-// What the tool prints.
+// What the tool shows, as text.
 
-use lfs_tool::{Fault, ToolError, Watched, list, report};
+use lfs_tool::{Fault, ToolError, Watched, list, report, unpack};
+use lfs_tool_target::{Done, MemoryTarget};
 use std::alloc::{AllocError, Global};
+use std::io::Read;
 
-// The line that shows an error.
-pub(crate) fn error_shown(alloc: Global, error: ToolError) -> Vec<u8> {
-    let mut out = Watched::new(Vec::new(alloc));
-    let mut err = Watched::new(Vec::new(alloc));
-    let _ = report(&Fault::Tool(error), &mut out, &mut err);
-    err.into_inner()
+// What is shown of a fault: the status, and what goes to `out` and to `err`.
+#[derive(Drop)]
+pub(crate) struct Report {
+    pub(crate) status: u8,
+    pub(crate) out: Vec<u8>,
+    pub(crate) err: Vec<u8>,
 }
 
-// What listing an image prints: its lines, or behind what was written the line of an error.
-pub(crate) fn shown(
+pub(crate) fn report_of(alloc: Global, fault: &Fault) -> Report {
+    let mut out = Watched::new(Vec::new(alloc));
+    let mut err = Watched::new(Vec::new(alloc));
+    let status = report(fault, &mut out, &mut err);
+    Report {
+        status,
+        out: out.into_inner(),
+        err: err.into_inner(),
+    }
+}
+
+// What was written, and behind it the line of an error.
+pub(crate) fn ended(
     alloc: Global,
-    image: &[u8],
+    written: Vec<u8>,
+    answer: Result<(), ToolError>,
+) -> Result<Vec<u8>, AllocError> {
+    let mut text = written;
+    if let Err(error) = answer {
+        let report = report_of(alloc, &Fault::Tool(error));
+        text.extend_from_slice(report.err.as_slice())?;
+    }
+    Ok(text)
+}
+
+// What listing an image prints.
+pub(crate) fn listed<R: Read>(
+    alloc: Global,
+    image: &mut Watched<R>,
     block_size: u32,
     page: u32,
 ) -> Result<Vec<u8>, AllocError> {
     let mut out = Watched::new(Vec::new(alloc));
-    let result = list(alloc, &mut Watched::new(image), block_size, page, &mut out);
-    let mut text = out.into_inner();
-    if let Err(error) = result {
-        text.extend_from_slice(error_shown(alloc, error).as_slice())?;
+    let result = list(alloc, image, block_size, page, &mut out);
+    ended(alloc, out.into_inner(), result)
+}
+
+fn push_done(text: &mut Vec<u8>, done: &Done) -> Result<(), AllocError> {
+    match done {
+        Done::Folder(path) => {
+            text.extend_from_slice(b"d ")?;
+            text.extend_from_slice(path)?;
+        }
+        Done::File(path, bytes) => {
+            text.extend_from_slice(b"f ")?;
+            text.extend_from_slice(path)?;
+            text.push(b' ')?;
+            text.extend_from_slice(bytes)?;
+        }
     }
-    Ok(text)
+    text.push(b'\n')?;
+    Ok(())
+}
+
+// What is done where an image is unpacked, a line for each action.
+pub(crate) fn unpacked<R: Read>(
+    alloc: Global,
+    image: &mut Watched<R>,
+    block_size: u32,
+    page: u32,
+) -> Result<Vec<u8>, AllocError> {
+    let mut target = MemoryTarget {
+        done: Vec::new(alloc),
+    };
+    let result = unpack(alloc, image, block_size, page, &mut target);
+    let mut text = Vec::new(alloc);
+    for done in &target.done {
+        push_done(&mut text, done)?;
+    }
+    ended(alloc, text, result)
 }

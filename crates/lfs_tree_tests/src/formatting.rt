@@ -1,10 +1,6 @@
 // Empty file systems, made on small devices that held something else.
 
-ghost use Rattle.std.specs.Prelude.{◌≡◌, false, IfOk};
-ghost use Rattle.lfs_tree.specs.Formatting.{IsFormatted};
-
-use lfs_device::{BlockDevice, Error, FaultDevice, Geometry, RamDevice, Which};
-use lfs_thread::Thread;
+use lfs_device::{Error, FaultDevice, Geometry, RamDevice, Which};
 use lfs_tree::format;
 use std::alloc::Global;
 use std::test::Fail;
@@ -12,40 +8,23 @@ use std::test::Fail;
 // The block size, the page and the block count.
 type Sizes = (u32, u32, u32);
 
-// A device that holds 7 in every byte.
-fn device(alloc: Global, sizes: Sizes) -> Result<RamDevice, Error> {
+// What the device holds, and how many pairs and slots, once it is made empty that held 7 in every byte. Its
+// call of that number fails, if there is one.
+fn formatted(
+    alloc: Global,
+    sizes: Sizes,
+    which: Which,
+    nth: u64,
+) -> Result<(Vec<u8>, usize, usize), Error> {
     let geometry = Geometry::new(sizes.0, sizes.1, sizes.2)?;
     let len = geometry.block_size as usize * geometry.block_count as usize;
-    RamDevice::from_bytes(geometry, Vec::from_elem(alloc, 7u8, len)?)
-}
-
-// The thread of a device made empty.
-fn formatted<D: BlockDevice + Drop>(alloc: Global, device: D) -> Result<Thread<D>, Error>
-    ensures works { IfOk result (λ t. t.failed ≡ false) }
-    ensures formatted { IfOk result (λ t. IsFormatted t.kept) }
-{
-    match format(alloc, device) {
-        Ok(thread) => Ok(thread),
-        Err((_, error)) => Err(error),
-    }
-}
-
-// How many pairs there are on a device made empty, how many slots the first has, and what the
-// device holds.
-fn shown(alloc: Global, sizes: Sizes) -> Result<(usize, usize, Vec<u8>), Error> {
-    let thread = formatted(alloc, device(alloc, sizes)?)?;
-    let pairs = thread.len();
-    let slots = thread.slot_count(0);
-    Ok((pairs, slots, thread.into_device().to_bytes()))
-}
-
-// These bytes, then 0xff up to the end of block 1, and 7 in the other blocks.
-fn image(alloc: Global, sizes: Sizes, head: &[u8]) -> Result<Vec<u8>, Error> {
-    let mut bytes = Vec::new(alloc);
-    bytes.extend_from_slice(head)?;
-    bytes.resize(sizes.0.saturating_mul(2) as usize, 0xff)?;
-    bytes.resize(sizes.0.saturating_mul(sizes.2) as usize, 7)?;
-    Ok(bytes)
+    let ram = RamDevice::from_bytes(geometry, Vec::from_elem(alloc, 7u8, len)?)?;
+    let thread = match format(alloc, FaultDevice::new(ram, which, nth, false)) {
+        Ok(thread) => thread,
+        Err((_, error)) => return Err(error),
+    };
+    let (pairs, slots) = (thread.len(), thread.slot_count(0));
+    Ok((thread.into_device().into_inner().to_bytes(), pairs, slots))
 }
 
 // The revision, the superblock's name and struct, and the checksum, each behind its tag.
@@ -70,39 +49,39 @@ const OF_65536: [u8; 52] = [
     0x87, 0xac, 0x66, 0xfc,
 ];
 
+// Sizes, and what the first two blocks begin with. Behind that they hold 0xff, and the others 7.
+const HEADS: [(Sizes, [u8; 52]); 3] = [
+    ((4096, 256, 16), OF_4096),
+    ((1024, 128, 2), OF_1024),
+    ((65536, 512, 16), OF_65536),
+];
+
+// Which call fails, and how the format then ends: both blocks are erased, and one is programmed.
+const FAILED: [(Which, u64, Option<Error>); 7] = [
+    (Which::Any, 1, Some(Error::Io)),
+    (Which::Erase, 1, Some(Error::Io)),
+    (Which::Erase, 2, Some(Error::Io)),
+    (Which::Erase, 3, None),
+    (Which::Read, 1, Some(Error::Io)),
+    (Which::Program, 1, Some(Error::Io)),
+    (Which::Program, 2, None),
+];
+
 #[test]
 fn superblock_stands_alone(rt: HostRuntime) -> Result<(), Fail> {
-    for (sizes, head) in [
-        ((4096, 256, 16), OF_4096),
-        ((1024, 128, 2), OF_1024),
-        ((65536, 512, 16), OF_65536),
-    ] {
-        let bytes = image(rt.alloc(), sizes, &head)?;
-        assert_eq!(rt; shown(rt.alloc(), sizes), Ok((1, 1, bytes)));
+    for (sizes, head) in HEADS {
+        let mut wanted = Vec::from_slice(rt.alloc(), &head)?;
+        wanted.resize(sizes.0.saturating_mul(2) as usize, 0xff)?;
+        wanted.resize(sizes.0.saturating_mul(sizes.2) as usize, 7)?;
+        let (bytes, pairs, slots) = formatted(rt.alloc(), sizes, Which::Any, 0)?;
+        assert!(rt; bytes == wanted && (pairs, slots) == (1, 1), "{sizes:?}");
     }
-    Ok(())
-}
-
-// What becomes of a format on a device one of whose calls fails: how many pairs there are then.
-fn met(alloc: Global, which: Which, nth: u64) -> Result<usize, Error> {
-    let inner = device(alloc, (1024, 128, 2))?;
-    let thread = formatted(alloc, FaultDevice::new(inner, which, nth, false))?;
-    Ok(thread.len())
-}
-
-// Both blocks are erased, and one is programmed.
-#[test]
-fn failed_call_is_told(rt: HostRuntime) -> Result<(), Fail> {
-    for (which, nth, result) in [
-        (Which::Any, 1, Err(Error::Io)),
-        (Which::Erase, 1, Err(Error::Io)),
-        (Which::Erase, 2, Err(Error::Io)),
-        (Which::Erase, 3, Ok(1)),
-        (Which::Read, 1, Err(Error::Io)),
-        (Which::Program, 1, Err(Error::Io)),
-        (Which::Program, 2, Ok(1)),
-    ] {
-        assert_eq!(rt; met(rt.alloc(), which, nth), result);
+    for (number, (which, nth, error)) in FAILED.iter().enumerate() {
+        let met = match formatted(rt.alloc(), (1024, 128, 2), *which, *nth) {
+            Ok((_, pairs, _)) => error.is_none() && pairs == 1,
+            Err(met) => Some(met) == *error,
+        };
+        assert!(rt; met, "{number}");
     }
     Ok(())
 }

@@ -16,7 +16,7 @@ use lfs_writer::{
 use std::alloc::Global;
 
 /// So many bytes at a place, or another size.
-#[derive(Clone, Copy, Debug, PartialEq, Eq)]
+#[derive(Clone, Copy)]
 pub enum Call {
     Write(u32, u32),
     Truncate(u32),

@@ -57,61 +57,38 @@ pub fn compared(alloc: Global, calls: [Call; 3]) -> Result<(bool, u32), Error> {
     Ok((bytes == wanted, blocks))
 }
 
+// Bytes at a place that are cut, and two writes of a byte behind the first: each gap, each turn and each
+// place behind the last one.
 #[test]
-fn bytes_are_written_at_a_place_and_cut(rt: HostRuntime) -> Result<(), Fail> {
-    for (first, _) in SIZES {
-        for (place, _) in SIZES {
-            for (size, blocks) in SIZES {
-                let calls = [
+fn bytes_are_written_at_a_place(rt: HostRuntime) -> Result<(), Fail> {
+    for (first, few) in SIZES {
+        for (place, more) in SIZES {
+            for (last, most) in SIZES {
+                let cut = [
                     Call::Write(0, first),
                     Call::Write(place, 2),
-                    Call::Truncate(size),
+                    Call::Truncate(last),
                 ];
-                assert_eq!(rt;
-                    (first, place, size, compared(rt.alloc(), calls)?),
-                    (first, place, size, (true, blocks))
-                );
+                let cut = compared(rt.alloc(), cut)?;
+                assert!(rt; cut == (true, most), "{first}, {place}, {last}");
+                let twice = [
+                    Call::Write(0, first),
+                    Call::Write(place - 1, 1),
+                    Call::Write(last - 1, 1),
+                ];
+                let twice = compared(rt.alloc(), twice)?;
+                let blocks = few.max(more).max(most);
+                assert!(rt; twice == (true, blocks), "{first}, {place}, {last}");
             }
-        }
-    }
-    Ok(())
-}
-
-#[test]
-fn a_list_turns_to_another_place(rt: HostRuntime) -> Result<(), Fail> {
-    for (first, _) in SIZES {
-        for (place, _) in SIZES {
-            let calls = [
+            let turned = [
                 Call::Truncate(first),
                 Call::Write(place - 1, 1),
                 Call::Write(2047, 1),
             ];
-            assert_eq!(rt;
-                (first, place, compared(rt.alloc(), calls)?),
-                (first, place, (true, 3))
+            assert!(rt;
+                compared(rt.alloc(), turned)? == (true, 3),
+                "{first}, {place}"
             );
-        }
-    }
-    Ok(())
-}
-
-// Each gap, each turn and each place behind the last one: two writes of a byte behind the first.
-#[test]
-fn bytes_are_written_at_two_places(rt: HostRuntime) -> Result<(), Fail> {
-    for (first, few) in SIZES {
-        for (place, more) in SIZES {
-            for (other, most) in SIZES {
-                let calls = [
-                    Call::Write(0, first),
-                    Call::Write(place - 1, 1),
-                    Call::Write(other - 1, 1),
-                ];
-                let blocks = few.max(more).max(most);
-                assert_eq!(rt;
-                    (first, place, other, compared(rt.alloc(), calls)?),
-                    (first, place, other, (true, blocks))
-                );
-            }
         }
     }
     Ok(())
@@ -131,9 +108,9 @@ fn settled<D: BlockDevice>(alloc: Global, dev: &mut D, size: u32) -> Result<(u32
 fn a_settled_list_is_used(rt: HostRuntime) -> Result<(), Fail> {
     for (size, blocks) in SIZES {
         let mut dev = RamDevice::blank(rt.alloc(), Geometry::new(1024, 128, 24)?)?;
-        assert_eq!(rt;
-            (size, settled(rt.alloc(), &mut dev, size)?),
-            (size, (blocks, 0))
+        assert!(rt;
+            settled(rt.alloc(), &mut dev, size)? == (blocks, 0),
+            "{size}"
         );
     }
     Ok(())

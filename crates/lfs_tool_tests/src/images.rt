@@ -1,0 +1,560 @@
+// Images, what is listed of them, and what unpacking them does.
+
+use crate::shown::{listed, unpacked};
+use lfs_tests::{Entries, Held, block_with, first_block, image_of, image_with};
+use lfs_tool::Watched;
+use std::alloc::{AllocError, Global};
+use std::test::Fail;
+
+const CORRUPT: &str = "error: Corrupt (84)\n";
+
+const INVALID: &str = "error: Invalid (22)\n";
+
+// Addresses of pairs.
+const FIRST: &[u8] = &[0, 0, 0, 0, 1, 0, 0, 0];
+
+const PAIR: &[u8] = &[2, 0, 0, 0, 3, 0, 0, 0];
+
+const TURNED: &[u8] = &[3, 0, 0, 0, 2, 0, 0, 0];
+
+const SAME: &[u8] = &[2, 0, 0, 0, 2, 0, 0, 0];
+
+const HALF: &[u8] = &[2, 0, 0, 0, 0xff, 0xff, 0xff, 0xff];
+
+const NO_PAIR: &[u8] = &[0xff; 8];
+
+const SOFT_TAIL: u32 = 0x600f_fc08;
+
+const HARD_TAIL: u32 = 0x601f_fc08;
+
+const MOVE_STATE: u32 = 0x7fff_fc0c;
+
+// Superblocks: as the first one, with a block more, and with names of at most 32 bytes.
+const FIELDS: &[u8] = &[
+    0, 0, 2, 0, 0, 16, 0, 0, 16, 0, 0, 0, 255, 0, 0, 0, 255, 255, 255, 127, 254, 3, 0, 0,
+];
+
+const LARGER: &[u8] = &[
+    0, 0, 2, 0, 0, 16, 0, 0, 17, 0, 0, 0, 255, 0, 0, 0, 255, 255, 255, 127, 254, 3, 0, 0,
+];
+
+const SHORT_NAMES: &[u8] = &[
+    0, 0, 2, 0, 0, 16, 0, 0, 16, 0, 0, 0, 32, 0, 0, 0, 255, 255, 255, 127, 254, 3, 0, 0,
+];
+
+// Blocks of a pair: without slots, with a file `f`, with a file `a`.
+const EMPTY: Held<'static> = Held::Commit(&[]);
+
+const WITH_F: Held<'static> = Held::Commit(&[(0x0010_0001, b"f"), (0x2010_0002, b"hi")]);
+
+const WITH_A: Held<'static> = Held::Commit(&[(0x0010_0001, b"a"), (0x2010_0002, b"hi")]);
+
+// An image: a second commit of its first block, its other blocks, and what is shown of it.
+type Row<'a> = (Entries<'a>, &'a [(usize, Held<'a>)], &'a str);
+
+// A second commit of these entries, and what is listed.
+const COMMITS: [(Entries<'static>, &str); 19] = [
+    // bytes that are shown as numbers, of an empty file and of one of five bytes
+    (
+        &[(0x0010_0405, b"a\n\\\xc3\xa9"), (0x2010_0400, b"")],
+        "f 0 /a\\x0a\\x5c\\xc3\\xa9\n",
+    ),
+    (
+        &[(0x0010_0405, b"a\n\\\xc3\xa9"), (0x2010_0405, b"hello")],
+        "f 5 /a\\x0a\\x5c\\xc3\\xa9\n",
+    ),
+    // a directory that isn't in the thread, a list of one block, a directory with a file's struct, a
+    // tail to a pair without a commit
+    (&[(0x0020_0401, b"d"), (0x2000_0408, PAIR)], CORRUPT),
+    (&[(0x0010_0401, b"a"), (0x2020_0408, PAIR)], "f 3 /a\n"),
+    (&[(0x0020_0401, b"d"), (0x2010_0400, b"")], CORRUPT),
+    (&[(0x600f_fc08, PAIR), (0x7fff_fc0c, &[0; 12])], CORRUPT),
+    // a sync bit, an id without a move, and a move state that says nothing
+    (
+        &[
+            (0x600f_fc08, NO_PAIR),
+            (0x7fff_fc0c, &[0, 0, 0, 0x80, 0, 0, 0, 0, 0, 0, 0, 0]),
+        ],
+        "",
+    ),
+    (
+        &[
+            (0x600f_fc08, NO_PAIR),
+            (0x7fff_fc0c, &[0, 4, 0, 0, 0, 0, 0, 0, 0, 0, 0, 0]),
+        ],
+        CORRUPT,
+    ),
+    (
+        &[
+            (0x600f_fc08, NO_PAIR),
+            (0x7fff_fc0c, &[0xff, 3, 0, 0, 0, 0, 0, 0, 0, 0, 0, 0]),
+        ],
+        "",
+    ),
+    // a superblock that isn't the first, a name twice, a name out of order
+    (&[(0x0ff0_0408, b"littlefs"), (0x2010_0400, b"")], CORRUPT),
+    (
+        &[
+            (0x0010_0401, b"a"),
+            (0x2010_0400, b""),
+            (0x0010_0801, b"a"),
+            (0x2010_0800, b""),
+        ],
+        CORRUPT,
+    ),
+    (
+        &[
+            (0x0010_0801, b"a"),
+            (0x2010_0800, b""),
+            (0x0010_0401, b"b"),
+            (0x2010_0400, b""),
+        ],
+        CORRUPT,
+    ),
+    // names that no entry may have
+    (&[(0x0010_0400, b""), (0x2010_0400, b"")], CORRUPT),
+    (&[(0x0010_0402, b".."), (0x2010_0400, b"")], CORRUPT),
+    (&[(0x0010_0403, b"a/b"), (0x2010_0400, b"")], CORRUPT),
+    // a file with a directory's struct, and one without a struct
+    (&[(0x0010_0401, b"a"), (0x2000_0408, PAIR)], CORRUPT),
+    (&[(0x0010_0401, b"a"), (0x3410_0400, b"")], CORRUPT),
+    // a slot in front of the superblock's, and a struct for a slot that isn't there
+    (
+        &[(0x4010_0000, b""), (0x0010_0001, b"a"), (0x2010_0000, b"")],
+        CORRUPT,
+    ),
+    (
+        &[(0x0010_0401, b"a"), (0x2010_0400, b""), (0x2010_0800, b"")],
+        CORRUPT,
+    ),
+];
+
+const TAILS: [Row<'static>; 8] = [
+    // to the first pair, to a block twice, to half a pair, to nothing
+    (&[(SOFT_TAIL, FIRST)], &[], CORRUPT),
+    (&[(SOFT_TAIL, SAME)], &[(2, WITH_F)], CORRUPT),
+    (&[(SOFT_TAIL, HALF)], &[], CORRUPT),
+    (&[(SOFT_TAIL, NO_PAIR)], &[], ""),
+    // a pair that isn't reached, with the sync bit and without
+    (
+        &[
+            (SOFT_TAIL, PAIR),
+            (MOVE_STATE, &[0, 0, 0, 0x80, 0, 0, 0, 0, 0, 0, 0, 0]),
+        ],
+        &[(2, EMPTY)],
+        "",
+    ),
+    (
+        &[
+            (SOFT_TAIL, PAIR),
+            (MOVE_STATE, &[0, 0, 0, 0, 0, 0, 0, 0, 0, 0, 0, 0]),
+        ],
+        &[(2, EMPTY)],
+        CORRUPT,
+    ),
+    // a file of 600 bytes in its slot, and a limit that isn't written here
+    (
+        &[(0x0010_0401, b"a"), (0x2010_0658, &[7; 600])],
+        &[],
+        "f 600 /a\n",
+    ),
+    (&[(0x2010_0018, SHORT_NAMES)], &[], ""),
+];
+
+const DIRECTORIES: [Row<'static>; 5] = [
+    // the root itself
+    (&[(0x0020_0401, b"d"), (0x2000_0408, FIRST)], &[], CORRUPT),
+    // an address in the other order, a pair that two entries name
+    (
+        &[
+            (0x0020_0401, b"d"),
+            (0x2000_0408, TURNED),
+            (SOFT_TAIL, PAIR),
+        ],
+        &[(2, WITH_F)],
+        "d 0 /d\nf 2 /d/f\n",
+    ),
+    (
+        &[
+            (0x0020_0401, b"d"),
+            (0x2000_0408, PAIR),
+            (0x0020_0801, b"e"),
+            (0x2000_0808, PAIR),
+            (SOFT_TAIL, PAIR),
+        ],
+        &[(2, WITH_F)],
+        CORRUPT,
+    ),
+    // a directory whose only file is moved away
+    (
+        &[
+            (0x0020_0401, b"d"),
+            (0x2000_0408, PAIR),
+            (0x0010_0801, b"g"),
+            (0x2010_0802, b"hi"),
+            (SOFT_TAIL, PAIR),
+            (MOVE_STATE, &[0, 0, 0xf0, 0x4f, 2, 0, 0, 0, 3, 0, 0, 0]),
+        ],
+        &[(2, WITH_F)],
+        "d 0 /d\nf 2 /g\n",
+    ),
+    // a directory that goes on in a second pair
+    (
+        &[(0x0010_0401, b"a"), (0x2010_0400, b""), (HARD_TAIL, PAIR)],
+        &[(2, WITH_F)],
+        "f 0 /a\nf 2 /f\n",
+    ),
+];
+
+const SUPERBLOCKS: [Row<'static>; 4] = [
+    (
+        &[(HARD_TAIL, PAIR)],
+        &[(
+            2,
+            Held::Commit(&[
+                (0x0ff0_0008, b"littlefs"),
+                (0x2010_0018, FIELDS),
+                (0x0010_0401, b"a"),
+                (0x2010_0402, b"hi"),
+            ]),
+        )],
+        "f 2 /a\n",
+    ),
+    (
+        &[(HARD_TAIL, PAIR)],
+        &[(
+            2,
+            Held::Commit(&[
+                (0x0ff0_0008, b"littlefs"),
+                (0x2010_0018, LARGER),
+                (0x0010_0401, b"a"),
+                (0x2010_0402, b"hi"),
+            ]),
+        )],
+        CORRUPT,
+    ),
+    (
+        &[(0x0010_0401, b"z"), (0x2010_0400, b""), (HARD_TAIL, PAIR)],
+        &[(
+            2,
+            Held::Commit(&[(0x0ff0_0008, b"littlefs"), (0x2010_0018, FIELDS)]),
+        )],
+        CORRUPT,
+    ),
+    (&[(HARD_TAIL, PAIR)], &[(2, WITH_A)], "f 2 /a\n"),
+];
+
+// The superblock's slot named by a move, and one of two files of one name.
+const MOVES: [Row<'static>; 2] = [
+    (
+        &[(MOVE_STATE, &[0, 0, 0xf0, 0x4f, 0, 0, 0, 0, 1, 0, 0, 0])],
+        &[],
+        CORRUPT,
+    ),
+    (
+        &[
+            (0x0010_0401, b"f"),
+            (0x2020_0408, &[16, 0, 0, 0, 3, 0, 0, 0]),
+            (0x0010_0801, b"f"),
+            (0x2010_0802, b"hi"),
+            (MOVE_STATE, &[0, 4, 0xf0, 0x4f, 0, 0, 0, 0, 1, 0, 0, 0]),
+        ],
+        &[],
+        "f 2 /f\n",
+    ),
+];
+
+// A list of three blocks, and one whose last block has a wrong pointer.
+const SECOND: Held<'static> = Held::Bytes(&[4, 0, 0, 0]);
+
+const LISTS: [Row<'static>; 8] = [
+    // a block of two files, the superblock's, one that isn't there
+    (
+        &[
+            (0x0010_0401, b"a"),
+            (0x2020_0408, &[2, 0, 0, 0, 3, 0, 0, 0]),
+            (0x0010_0801, b"b"),
+            (0x2020_0808, &[2, 0, 0, 0, 3, 0, 0, 0]),
+        ],
+        &[],
+        CORRUPT,
+    ),
+    (
+        &[
+            (0x0010_0401, b"a"),
+            (0x2020_0408, &[1, 0, 0, 0, 3, 0, 0, 0]),
+        ],
+        &[],
+        CORRUPT,
+    ),
+    (
+        &[
+            (0x0010_0401, b"a"),
+            (0x2020_0408, &[16, 0, 0, 0, 3, 0, 0, 0]),
+        ],
+        &[],
+        CORRUPT,
+    ),
+    // no byte, and one more than a file may have
+    (
+        &[
+            (0x0010_0401, b"a"),
+            (0x2020_0408, &[2, 0, 0, 0, 0, 0, 0, 0]),
+        ],
+        &[],
+        CORRUPT,
+    ),
+    (
+        &[
+            (0x0010_0401, b"a"),
+            (0x2020_0408, &[2, 0, 0, 0, 0, 0, 0, 0x80]),
+        ],
+        &[],
+        CORRUPT,
+    ),
+    // three blocks, with a right pointer 1 and with a wrong one
+    (
+        &[
+            (0x0010_0401, b"a"),
+            (0x2020_0408, &[6, 0, 0, 0, 0x08, 0x20, 0, 0]),
+        ],
+        &[(5, SECOND), (6, Held::Bytes(&[5, 0, 0, 0, 4, 0, 0, 0]))],
+        "f 8200 /a\n",
+    ),
+    (
+        &[
+            (0x0010_0401, b"a"),
+            (0x2020_0408, &[6, 0, 0, 0, 0x08, 0x20, 0, 0]),
+        ],
+        &[(5, SECOND), (6, Held::Bytes(&[5, 0, 0, 0, 5, 0, 0, 0]))],
+        CORRUPT,
+    ),
+    // two files with a block each
+    (
+        &[
+            (0x0010_0401, b"a"),
+            (0x2020_0408, &[2, 0, 0, 0, 3, 0, 0, 0]),
+            (0x0010_0801, b"b"),
+            (0x2020_0808, &[3, 0, 0, 0, 4, 0, 0, 0]),
+        ],
+        &[],
+        "f 3 /a\nf 4 /b\n",
+    ),
+];
+
+// A file with bytes, a directory, and an empty file in it.
+pub(crate) const ENTRIES: Entries<'static> = &[
+    (0x0010_0401, b"a"),
+    (0x2010_0405, b"hello"),
+    (0x0020_0801, b"d"),
+    (0x2000_0808, PAIR),
+    (SOFT_TAIL, PAIR),
+];
+
+pub(crate) const BELOW: Held<'static> = Held::Commit(&[(0x0010_0001, b"x"), (0x2010_0000, b"")]);
+
+// Images, and what unpacking them does.
+const UNPACKED: [Row<'static>; 4] = [
+    (ENTRIES, &[(2, BELOW)], "f /a hello\nd /d\nf /d/x \n"),
+    (&[], &[], ""),
+    // a list of one block
+    (
+        &[
+            (0x0010_0401, b"a"),
+            (0x2020_0408, &[2, 0, 0, 0, 3, 0, 0, 0]),
+        ],
+        &[(2, Held::Bytes(b"abcd"))],
+        "f /a abc\n",
+    ),
+    // a directory that isn't in the thread
+    (
+        &[(0x0020_0401, b"d"), (0x2000_0408, PAIR)],
+        &[],
+        "error: Corrupt (84)\n",
+    ),
+];
+
+// Whether an image is listed so, or does this where it is unpacked.
+fn is_shown(alloc: Global, row: Row<'_>, is_unpacked: bool) -> Result<bool, AllocError> {
+    let (entries, others, wanted) = row;
+    let image = image_with(alloc, entries, others)?;
+    let mut image = Watched::new(image.as_slice());
+    let text = if is_unpacked {
+        unpacked(alloc, &mut image, 4096, 256)?
+    } else {
+        listed(alloc, &mut image, 4096, 256)?
+    };
+    Ok(text.as_slice() == wanted.as_bytes())
+}
+
+// All images that are listed, but for those with a commit of the first block alone.
+const LISTED: [&[Row<'static>]; 5] = [&TAILS, &DIRECTORIES, &SUPERBLOCKS, &MOVES, &LISTS];
+
+#[test]
+fn images_are_shown(rt: HostRuntime) -> Result<(), Fail> {
+    for (entries, text) in COMMITS {
+        assert!(rt;
+            is_shown(rt.alloc(), (entries, &[], text), false)?,
+            "{entries:?}"
+        );
+    }
+    for rows in LISTED {
+        for row in rows {
+            assert!(rt; is_shown(rt.alloc(), *row, false)?, "{:?}", row.0);
+        }
+    }
+    for row in UNPACKED {
+        assert!(rt; is_shown(rt.alloc(), row, true)?, "{:?}", row.0);
+    }
+    Ok(())
+}
+
+// The commits of a block in which a file moves from slot to slot.
+const SHIFTING: [Entries<'static>; 4] = [
+    &[(0x4010_0400, b""), (0x0010_0401, b"b"), (0x2010_0400, b"")],
+    &[(0x4010_0400, b""), (0x0010_0401, b"a"), (0x2010_0400, b"")],
+    &[(0x4ff0_0400, b"")],
+    &[(0x3410_0401, b"x")],
+];
+
+pub(crate) fn shifting_block(alloc: Global) -> Result<Vec<u8>, AllocError> {
+    first_block(alloc, 1, &SHIFTING)
+}
+
+// A log of a file `x` up to the middle of its checksum's entry: its first bytes, 67 zeros, and its last
+// bytes. With 0xff behind them the checksum is right.
+const NEARLY: &[u8] =
+    b"\x02\0\0\0\xf0\x0f\xff\xf7littlefs\x2f\xe0\0\x10\0\0\x02\0\0\x10\0\0\x10\0\0\0\xff\0\0\0\xff\xff\xff\x7f\xfe\x03\0\0\x60\0\x04\x18\x40\0\0\x01x\x20\0\0\x46\x86\x39\xe6\xa0";
+
+const NEARLY_END: &[u8] = b"\x70\x1f\xf8\x3b";
+
+// Images that more than commits make.
+#[derive(Clone, Copy)]
+enum Odd {
+    // The block in which a file moves, and a second block: its revision and its second commit.
+    Second(u32, Entries<'static>),
+    // A first block without a commit, and such a second block.
+    Uncommitted(u32, Entries<'static>),
+    // The block in which a file moves, and one that is nearly a log, with this byte behind the first 132.
+    Nearly(u8),
+    // The block in which a file moves, and flipped bits of a byte.
+    Flipped(usize, u8),
+    // So many bytes of a fresh image, or with bytes 0xff behind it.
+    Fresh(usize),
+    // So many bytes 0xff.
+    Blank(usize),
+}
+
+// These images, and what is listed of them.
+const ODD: [(Odd, &str); 15] = [
+    (Odd::Second(0xffff_ffff, &[]), "f 0 /b\n"),
+    (
+        Odd::Second(2, &[(0x0010_0401, b"c"), (0x2010_0400, b"")]),
+        "f 0 /c\n",
+    ),
+    (
+        Odd::Uncommitted(2, &[(0x0010_0401, b"c"), (0x2010_0400, b"")]),
+        "f 0 /c\n",
+    ),
+    (Odd::Nearly(0xff), "f 71 /x\n"),
+    (Odd::Nearly(0), "f 0 /b\n"),
+    (Odd::Flipped(0, 0), "f 0 /b\n"),
+    (Odd::Flipped(264, 0x62 ^ 0x63), ""),
+    (Odd::Flipped(776, 0xff), "f 0 /a\nf 0 /b\n"),
+    (Odd::Flipped(48, 0xff), CORRUPT),
+    (Odd::Fresh(8192), CORRUPT),
+    (Odd::Fresh(69632), CORRUPT),
+    (Odd::Fresh(4100), INVALID),
+    (Odd::Blank(0), INVALID),
+    (Odd::Blank(4100), INVALID),
+    (Odd::Blank(65536), CORRUPT),
+];
+
+// The block that is nearly a log.
+fn nearly(alloc: Global, byte: u8) -> Result<Vec<u8>, AllocError> {
+    let mut block = Vec::from_slice(alloc, NEARLY)?;
+    block.resize(128, 0)?;
+    block.extend_from_slice(NEARLY_END)?;
+    block.resize(4096, byte)?;
+    Ok(block)
+}
+
+// The bytes of such an image.
+fn odd_image(alloc: Global, odd: Odd) -> Result<Vec<u8>, AllocError> {
+    let mut first = shifting_block(alloc)?;
+    let mut second = Vec::new(alloc);
+    let mut len = 65536;
+    match odd {
+        Odd::Second(revision, entries) => second = block_with(alloc, revision, entries)?,
+        Odd::Uncommitted(revision, entries) => {
+            first = Vec::from_slice(alloc, &[0; 4])?;
+            second = block_with(alloc, revision, entries)?;
+        }
+        Odd::Nearly(byte) => second = nearly(alloc, byte)?,
+        Odd::Flipped(at, bits) => {
+            if let Some(byte) = first.get_mut(at) {
+                *byte ^= bits;
+            }
+        }
+        Odd::Fresh(bytes) => {
+            first = block_with(alloc, 1, &[])?;
+            len = bytes;
+        }
+        Odd::Blank(bytes) => {
+            first = Vec::new(alloc);
+            len = bytes;
+        }
+    }
+    let mut image = image_of(alloc, first.as_slice(), second.as_slice())?;
+    image.resize(len, 0xff)?;
+    Ok(image)
+}
+
+fn is_listed(
+    alloc: Global,
+    odd: Odd,
+    block_size: u32,
+    page: u32,
+    wanted: &str,
+) -> Result<bool, AllocError> {
+    let image = odd_image(alloc, odd)?;
+    let mut image = Watched::new(image.as_slice());
+    let text = listed(alloc, &mut image, block_size, page)?;
+    Ok(text.as_slice() == wanted.as_bytes())
+}
+
+// Sizes of a block and of a page, and what is listed of a fresh image.
+const SIZES: [(u32, u32, &str); 6] = [
+    (4096, 256, ""),
+    (0, 256, INVALID),
+    (4096, 0, INVALID),
+    (512, 64, INVALID),
+    (65536, 256, INVALID),
+    (1024, 128, CORRUPT),
+];
+
+#[test]
+fn odd_images_are_listed(rt: HostRuntime) -> Result<(), Fail> {
+    for (number, (odd, text)) in ODD.iter().enumerate() {
+        assert!(rt; is_listed(rt.alloc(), *odd, 4096, 256, text)?, "{number}");
+    }
+    for (block_size, page, text) in SIZES {
+        let is_listed = is_listed(rt.alloc(), Odd::Fresh(65536), block_size, page, text)?;
+        assert!(rt; is_listed, "{block_size}, {page}");
+    }
+    Ok(())
+}
+
+// Bits that are flipped in the padding of the first commit, a byte at a time.
+const PADDED: [u8; 3] = [0xff, 0x80, 0x01];
+
+#[test]
+fn padding(rt: HostRuntime) -> Result<(), Fail> {
+    for bits in PADDED {
+        for at in 52..256 {
+            let is_listed = is_listed(rt.alloc(), Odd::Flipped(at, bits), 4096, 256, "f 0 /b\n")?;
+            assert!(rt; is_listed, "{at}, {bits}");
+        }
+    }
+    Ok(())
+}

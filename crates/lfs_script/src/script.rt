@@ -14,6 +14,18 @@ use lfs_script_lines::{Answer, Command, Operation, Scope};
 use std::mem;
 use std::rt::Files;
 
+// Compares a session with one on a device that holds the bytes of a file.
+fn compare_with_file<R: Files + AllocGlobal>(
+    rt: &R,
+    session: &mut Session<Device>,
+    file: &[u8],
+) -> Answer {
+    match read_file(rt, file) {
+        Some(bytes) => compare_with(rt.alloc(), session, Scope::Whole, bytes),
+        None => Answer::Input,
+    }
+}
+
 /// A script on its way.
 #[derive(Drop)]
 pub struct Script<'a, R: Files> {
@@ -129,12 +141,9 @@ impl<'a, R: Files + AllocGlobal> Script<'a, R> {
     fn compare_with(&mut self, file: &[u8]) -> Answer
         ensures { IsCompared self.old.hand result self.new.hand }
     {
-        let Hand::Session(session) = &mut self.hand else {
-            return Answer::Nothing;
-        };
-        match read_file(self.rt, file) {
-            Some(bytes) => compare_with(self.rt.alloc(), session, Scope::Whole, bytes),
-            None => Answer::Input,
+        match &mut self.hand {
+            Hand::Session(session) => compare_with_file(self.rt, session, file),
+            _ => Answer::Nothing,
         }
     }
 

@@ -15,9 +15,7 @@ pub enum Answer<'a> {
     Bytes(&'a [u8]),
     Count(u32),
     Items(&'a [Item<'a>]),
-    Stat(Option<u32>),
     Gstate(Gstate),
-    Yes(bool),
     Refused(Error),
 }
 
@@ -48,9 +46,7 @@ pub fn is_answer(reply: &Reply, answer: Answer<'_>) -> bool {
         Answer::Items(rows) => {
             matches!(reply, Reply::Items(items) if are_items(items.as_slice(), rows))
         }
-        Answer::Stat(size) => matches!(reply, Reply::Stat(found) if *found == size),
         Answer::Gstate(gstate) => matches!(reply, Reply::Gstate(found) if *found == gstate),
-        Answer::Yes(yes) => matches!(reply, Reply::Yes(found) if *found == yes),
         Answer::Refused(error) => matches!(reply, Reply::Refused(found) if *found == error),
     }
 }

@@ -1,11 +1,11 @@
-// Sessions, begun over a device made empty or over an image.
+// Devices, made empty or with an image, and sessions over them.
 
 use lfs_device::{BlockDevice, Error, Geometry, RamDevice};
 use lfs_fs::{Session, format, mount};
 use lfs_tests::{Entries, Held, image_with};
 use std::alloc::Global;
 
-/// What a session begins over.
+/// What a device holds.
 #[derive(Clone, Copy)]
 pub enum Start<'a> {
     /// A device made empty: its block size, page and block count.
@@ -23,8 +23,8 @@ pub fn mounted<D: BlockDevice + Drop>(alloc: Global, device: D) -> Result<Sessio
     }
 }
 
-/// The session over a device made empty.
-pub fn formatted<D: BlockDevice + Drop>(alloc: Global, device: D) -> Result<Session<D>, Error> {
+// The session over a device made empty.
+fn formatted<D: BlockDevice + Drop>(alloc: Global, device: D) -> Result<Session<D>, Error> {
     match format(alloc, device) {
         Ok(session) => Ok(session),
         Err((_, error)) => Err(error),
@@ -46,13 +46,8 @@ pub fn device_of(alloc: Global, start: Start<'_>) -> Result<RamDevice, Error> {
     }
 }
 
-/// A session over it.
-pub fn begun(alloc: Global, start: Start<'_>) -> Result<Session<RamDevice>, Error> {
-    match start {
-        Start::Fresh(block_size, page, block_count) => {
-            let geometry = Geometry::new(block_size, page, block_count)?;
-            formatted(alloc, RamDevice::blank(alloc, geometry)?)
-        }
-        Start::Image(_, _) => mounted(alloc, device_of(alloc, start)?),
-    }
+/// A device with the same bytes.
+pub fn copied(alloc: Global, device: &RamDevice) -> Result<RamDevice, Error> {
+    let bytes = Vec::from_slice(alloc, device.bytes())?;
+    RamDevice::from_bytes(device.geometry(), bytes)
 }

@@ -10,7 +10,7 @@ const NOTHING: Result<bool, LineError> = Ok(false);
 
 const REFUSED: Result<bool, LineError> = Err(LineError::Words);
 
-const LINES: [(&str, Result<bool, LineError>); 48] = [
+const LINES: [(&str, Result<bool, LineError>); 55] = [
     ("", NOTHING),
     ("# list /", NOTHING),
     (" # list /", REFUSED),
@@ -53,6 +53,14 @@ const LINES: [(&str, Result<bool, LineError>); 48] = [
     ("stat *:/a", REFUSED),
     ("stat *2/a", REFUSED),
     ("stat *x:/a", REFUSED),
+    // What of two sessions is compared.
+    ("compare", COMMAND),
+    ("compare entries", COMMAND),
+    ("compare ff", COMMAND),
+    ("compare 100", REFUSED),
+    ("compare entries ff", REFUSED),
+    ("compare-with", REFUSED),
+    ("compare-with a.img", COMMAND),
     // What erases leave.
     ("fresh 4096 256", REFUSED),
     ("fresh 4096 256 16 fill", REFUSED),

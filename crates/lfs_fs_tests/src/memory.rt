@@ -1,8 +1,8 @@
 // A script where any one allocation fails: this holds whichever it is (bench/fail_alloc.py).
 
 use crate::answers::Answer::Done;
-use crate::begun::{Start, begun};
-use crate::played::wrong_at_once;
+use crate::begun::{Start, device_of, mounted};
+use crate::played::first_wrong;
 use crate::scripts::{LENGTH, carried_out, has_lost_nothing, long_rows, long_script};
 use lfs_device::Error;
 use lfs_fs::Op::Remount;
@@ -14,12 +14,12 @@ use std::test::Fail;
 fn loses_nothing(alloc: Global) -> Result<bool, Error> {
     let rows = long_rows(OpenFlags::WRITE | OpenFlags::CREATE);
     let script = long_script(&rows);
-    let mut session = begun(alloc, Start::Fresh(1024, 128, 64))?;
+    let mut session = mounted(alloc, device_of(alloc, Start::Fresh(1024, 128, 64))?)?;
     match carried_out(alloc, &mut session, script.rows) {
         (done, None) => Ok(done == LENGTH),
         (done, Some(error)) => Ok(
             error == Error::NoMemory
-                && wrong_at_once(alloc, &mut session, &[(Remount, Done)])?.is_none()
+                && first_wrong(alloc, &mut session, &[(Remount, Done)])?.is_none()
                 && has_lost_nothing(alloc, &mut session, &script, done)?,
         ),
     }

@@ -1,14 +1,12 @@
-// Rows, played on a session at once and in turn.
+// Rows, played on a session.
 
-use crate::agreeing::{agrees, copied};
 use crate::answers::{Row, is_answer};
-use crate::begun::{Start, begun};
-use lfs_device::{BlockDevice, Error, RamDevice};
+use lfs_device::{BlockDevice, Error};
 use lfs_fs::Session;
 use std::alloc::Global;
 
 /// The first row with another reply, where all are played by one run.
-pub fn wrong_at_once<D: BlockDevice>(
+pub fn first_wrong<D: BlockDevice>(
     alloc: Global,
     session: &mut Session<D>,
     rows: &[Row<'_>],
@@ -28,34 +26,4 @@ pub fn wrong_at_once<D: BlockDevice>(
     } else {
         Ok(Some(replies.len()))
     }
-}
-
-// The first row with another reply, or behind which the session doesn't agree with its device, where
-// each is a run of its own.
-fn wrong_in_turn(
-    alloc: Global,
-    session: &mut Session<RamDevice>,
-    rows: &[Row<'_>],
-) -> Result<Option<usize>, Error> {
-    for (index, row) in rows.iter().enumerate() {
-        if wrong_at_once(alloc, session, &[*row])?.is_some() {
-            return Ok(Some(index));
-        }
-        let copy = copied(alloc, session.device())?;
-        if !agrees(alloc, session, copy)? {
-            return Ok(Some(index));
-        }
-    }
-    Ok(None)
-}
-
-/// The first wrong row of a session that begins so, and None where all are right.
-pub fn wrong_of(alloc: Global, start: Start<'_>, rows: &[Row<'_>]) -> Result<Option<usize>, Error> {
-    let mut session = begun(alloc, start)?;
-    let wrong = wrong_at_once(alloc, &mut session, rows)?;
-    if wrong.is_some() {
-        return Ok(wrong);
-    }
-    let mut session = begun(alloc, start)?;
-    wrong_in_turn(alloc, &mut session, rows)
 }

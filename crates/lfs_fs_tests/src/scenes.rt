@@ -2,15 +2,58 @@
 
 use crate::answers::Answer::{Done, Fd, Items};
 use crate::answers::Row;
-use crate::begun::{Start, begun};
-use crate::kept::MOVING;
-use crate::many::{A, AT_A, AT_B, AT_C, AT_D, B, C, D};
-use crate::played::wrong_at_once;
+use crate::begun::{Start, device_of, mounted};
+use crate::played::first_wrong;
 use crate::scripts::{Script, Tree};
 use lfs_device::{Error, RamDevice};
 use lfs_fs::Op::{Close, List, Mkdir, Open, Recover, Remove, Rename};
 use lfs_fs::OpenFlags;
+use lfs_tests::Held;
 use std::alloc::Global;
+
+const A: &[u8] =
+    b"aaaaaaaaaaaaaaaaaaaaaaaaaaaaaaaaaaaaaaaaaaaaaaaaaaaaaaaaaaaaaaaaaaaaaaaaaaaaaaaaaaaaaaaaaaaaaaaaaaaaaaaaaaaaaaaaaaaaaaaaaaaaaaaaaaaaaaaaaaaaaaaaaaaaaaaaaaaaaaaaaaaaaaaaaaaaaaaaaaaaaaaaaaaaaaaaaaaaaaaa";
+
+const AT_A: &[u8] =
+    b"/aaaaaaaaaaaaaaaaaaaaaaaaaaaaaaaaaaaaaaaaaaaaaaaaaaaaaaaaaaaaaaaaaaaaaaaaaaaaaaaaaaaaaaaaaaaaaaaaaaaaaaaaaaaaaaaaaaaaaaaaaaaaaaaaaaaaaaaaaaaaaaaaaaaaaaaaaaaaaaaaaaaaaaaaaaaaaaaaaaaaaaaaaaaaaaaaaaaaaaaa";
+
+const B: &[u8] =
+    b"bbbbbbbbbbbbbbbbbbbbbbbbbbbbbbbbbbbbbbbbbbbbbbbbbbbbbbbbbbbbbbbbbbbbbbbbbbbbbbbbbbbbbbbbbbbbbbbbbbbbbbbbbbbbbbbbbbbbbbbbbbbbbbbbbbbbbbbbbbbbbbbbbbbbbbbbbbbbbbbbbbbbbbbbbbbbbbbbbbbbbbbbbbbbbbbbbbbbbbbb";
+
+const AT_B: &[u8] =
+    b"/bbbbbbbbbbbbbbbbbbbbbbbbbbbbbbbbbbbbbbbbbbbbbbbbbbbbbbbbbbbbbbbbbbbbbbbbbbbbbbbbbbbbbbbbbbbbbbbbbbbbbbbbbbbbbbbbbbbbbbbbbbbbbbbbbbbbbbbbbbbbbbbbbbbbbbbbbbbbbbbbbbbbbbbbbbbbbbbbbbbbbbbbbbbbbbbbbbbbbbbb";
+
+const C: &[u8] =
+    b"cccccccccccccccccccccccccccccccccccccccccccccccccccccccccccccccccccccccccccccccccccccccccccccccccccccccccccccccccccccccccccccccccccccccccccccccccccccccccccccccccccccccccccccccccccccccccccccccccccccccc";
+
+const AT_C: &[u8] =
+    b"/cccccccccccccccccccccccccccccccccccccccccccccccccccccccccccccccccccccccccccccccccccccccccccccccccccccccccccccccccccccccccccccccccccccccccccccccccccccccccccccccccccccccccccccccccccccccccccccccccccccccc";
+
+const D: &[u8] =
+    b"dddddddddddddddddddddddddddddddddddddddddddddddddddddddddddddddddddddddddddddddddddddddddddddddddddddddddddddddddddddddddddddddddddddddddddddddddddddddddddddddddddddddddddddddddddddddddddddddddddddddd";
+
+const AT_D: &[u8] =
+    b"/dddddddddddddddddddddddddddddddddddddddddddddddddddddddddddddddddddddddddddddddddddddddddddddddddddddddddddddddddddddddddddddddddddddddddddddddddddddddddddddddddddddddddddddddddddddddddddddddddddddddd";
+
+const PAIR: &[u8] = &[2, 0, 0, 0, 3, 0, 0, 0];
+
+// A directory `d` whose file is being moved, and is the file `g` already.
+const MOVING: Start<'static> = Start::Image(
+    &[
+        (0x4010_0400, b""),
+        (0x0020_0401, b"d"),
+        (0x2000_0408, PAIR),
+        (0x4010_0800, b""),
+        (0x0010_0801, b"g"),
+        (0x2010_0802, b"hi"),
+        (0x600f_fc08, PAIR),
+        (0x7fff_fc0c, &[0, 0, 0xf0, 0x4f, 2, 0, 0, 0, 3, 0, 0, 0]),
+    ],
+    &[(
+        2,
+        Held::Commit(&[(0x0010_0001, b"f"), (0x2010_0002, b"hi")]),
+    )],
+);
 
 /// Ends a move, and what else was begun.
 pub const RECOVERY: [Row<'static>; 1] = [(Recover, Done)];
@@ -118,8 +161,8 @@ fn with_four(new: OpenFlags) -> [Row<'static>; 8] {
 
 // The device behind these rows.
 fn behind(alloc: Global, start: Start<'_>, rows: &[Row<'_>]) -> Result<RamDevice, Error> {
-    let mut session = begun(alloc, start)?;
-    match wrong_at_once(alloc, &mut session, rows)? {
+    let mut session = mounted(alloc, device_of(alloc, start)?)?;
+    match first_wrong(alloc, &mut session, rows)? {
         None => Ok(session.unmount()),
         Some(_) => Err(Error::Invalid),
     }
@@ -133,7 +176,7 @@ pub fn with_file_to_move(alloc: Global, new: OpenFlags) -> Result<RamDevice, Err
 /// The other scripts, and the device of each.
 pub fn others(alloc: Global, new: OpenFlags) -> Result<[(RamDevice, Script<'static>); 2], Error> {
     Ok([
-        (behind(alloc, MOVING, &[])?, MAKING),
+        (device_of(alloc, MOVING)?, MAKING),
         (
             behind(alloc, Start::Fresh(1024, 128, 64), &with_four(new))?,
             REMOVING,

@@ -2,7 +2,7 @@
 
 use crate::answers::Answer::{Bytes, Count, Done, Fd, Gstate as GstateIs, Items, Refused};
 use crate::answers::{Answer, Row};
-use crate::played::wrong_at_once;
+use crate::played::first_wrong;
 use lfs_device::{BlockDevice, Error};
 use lfs_fs::Op::{
     Close, GetAttr, Gstate as AskGstate, List, Mkdir, Open, Read, Recover, Remove, Rename, Seek,
@@ -123,7 +123,7 @@ pub fn carried_out<D: BlockDevice>(
 ) -> (usize, Option<Error>) {
     let mut done = 0usize;
     for row in rows {
-        match wrong_at_once(alloc, session, &[*row]) {
+        match first_wrong(alloc, session, &[*row]) {
             Ok(None) => done = done.saturating_add(1),
             Ok(Some(_)) => return (done, None),
             Err(error) => return (done, Some(error)),
@@ -139,7 +139,7 @@ fn is_seen<D: BlockDevice>(
     tree: Option<&Tree<'_>>,
 ) -> Result<bool, Error> {
     match tree {
-        Some(tree) => Ok(wrong_at_once(alloc, session, tree.0)?.is_none()),
+        Some(tree) => Ok(first_wrong(alloc, session, tree.0)?.is_none()),
         None => Ok(false),
     }
 }
@@ -160,10 +160,10 @@ fn is_settled<D: BlockDevice>(
         None => None,
     };
     let is_right = match used {
-        Some(used) => wrong_at_once(alloc, session, &[(UsedCount, Count(used))])?.is_none(),
+        Some(used) => first_wrong(alloc, session, &[(UsedCount, Count(used))])?.is_none(),
         None => true,
     };
-    Ok(is_right && wrong_at_once(alloc, session, &[(AskGstate, NO_GSTATE)])?.is_none())
+    Ok(is_right && first_wrong(alloc, session, &[(AskGstate, NO_GSTATE)])?.is_none())
 }
 
 // Whether a tree is seen, also behind a recovery, which leaves nothing to recover.
@@ -175,7 +175,7 @@ fn stays<D: BlockDevice>(
     if !is_seen(alloc, session, tree)? {
         return Ok(false);
     }
-    let recovered = wrong_at_once(alloc, session, &[(Recover, Done)])?;
+    let recovered = first_wrong(alloc, session, &[(Recover, Done)])?;
     Ok(recovered.is_none() && is_seen(alloc, session, tree)? && is_settled(alloc, session, tree)?)
 }
 

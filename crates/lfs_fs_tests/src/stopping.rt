@@ -1,11 +1,10 @@
 // Scripts on devices that stop, and one on devices one of whose calls fails.
 
-use crate::agreeing::copied;
 use crate::answers::Answer::Done;
 use crate::answers::Row;
-use crate::begun::{Start, device_of, mounted};
-use crate::failing::has_failed;
-use crate::played::wrong_at_once;
+use crate::begun::{Start, copied, device_of, mounted};
+use crate::failing::{Faulty, has_failed};
+use crate::played::first_wrong;
 use crate::scenes::{RECOVERY, RENAMING, others, with_file_to_move};
 use crate::scripts::{
     LENGTH, Script, carried_out, has_lost_nothing, long_rows, long_script, tree_seen,
@@ -15,8 +14,6 @@ use lfs_fs::Op::Remount;
 use lfs_fs::{OpenFlags, mount};
 use std::alloc::Global;
 use std::test::Fail;
-
-type Stopping = FaultDevice<RamDevice>;
 
 // A small device made empty.
 fn small(alloc: Global) -> Result<RamDevice, Error> {
@@ -30,13 +27,13 @@ fn stopping(
     erased: Erased,
     nth: u64,
     stops: bool,
-) -> Result<Stopping, Error> {
+) -> Result<Faulty, Error> {
     let copy = copied(alloc, device)?.erased_as(erased);
     Ok(FaultDevice::new(copy, Which::Any, nth, stops))
 }
 
 // How many rows are carried out until the device stops, and the device.
-fn stopped(alloc: Global, device: Stopping, rows: &[Row<'_>]) -> Result<(usize, RamDevice), Error> {
+fn stopped(alloc: Global, device: Faulty, rows: &[Row<'_>]) -> Result<(usize, RamDevice), Error> {
     let mut session = match mount(alloc, device) {
         Ok(session) => session,
         Err((device, error)) => {
@@ -55,7 +52,7 @@ fn stopped(alloc: Global, device: Stopping, rows: &[Row<'_>]) -> Result<(usize, 
 }
 
 // How many operations are carried out, and whether a mount of what is left has lost nothing.
-fn survived(alloc: Global, device: Stopping, script: &Script<'_>) -> Result<(usize, bool), Error> {
+fn survived(alloc: Global, device: Faulty, script: &Script<'_>) -> Result<(usize, bool), Error> {
     let (done, left) = stopped(alloc, device, script.rows)?;
     let mut session = mounted(alloc, left)?;
     let is_right = has_lost_nothing(alloc, &mut session, script, done)?;
@@ -68,47 +65,29 @@ fn copies(
     device: &RamDevice,
     erased: Erased,
     nth: u64,
-) -> Result<[Stopping; 3], Error> {
+) -> Result<[Faulty; 3], Error> {
     let before = stopping(alloc, device, erased, nth, true)?;
     let within = stopping(alloc, device, erased, nth, true)?.torn(20);
     let behind = stopping(alloc, device, erased, nth, true)?.whole();
     Ok([before, within, behind])
 }
 
-// What is survived of a script on each of them.
+// Whether nothing is lost of a script on any of them, and whether all of it is carried out on each.
 fn survived_at(
     alloc: Global,
     device: &RamDevice,
     erased: Erased,
     script: &Script<'_>,
     nth: u64,
-) -> Result<[(usize, bool); 3], Error> {
-    let [before, within, behind] = copies(alloc, device, erased, nth)?;
-    Ok([
-        survived(alloc, before, script)?,
-        survived(alloc, within, script)?,
-        survived(alloc, behind, script)?,
-    ])
-}
-
-// Whether nothing is lost in any way.
-fn are_right(ends: &[(usize, bool)]) -> bool {
-    for end in ends {
-        if !end.1 {
-            return false;
-        }
+) -> Result<(bool, bool), Error> {
+    let mut are_right = true;
+    let mut are_whole = true;
+    for copy in copies(alloc, device, erased, nth)? {
+        let (done, is_right) = survived(alloc, copy, script)?;
+        are_right &= is_right;
+        are_whole &= done == script.rows.len();
     }
-    true
-}
-
-// Whether so many operations, all of a script, were carried out in each way.
-fn are_whole(ends: &[(usize, bool)], length: usize) -> bool {
-    for end in ends {
-        if end.0 != length {
-            return false;
-        }
-    }
-    true
+    Ok((are_right, are_whole))
 }
 
 // At how many calls the device may stop in these ways, and nothing is lost. None where something is.
@@ -119,11 +98,11 @@ fn calls_survived(
     script: &Script<'_>,
 ) -> Result<Option<u64>, Error> {
     for nth in 1..1000u64 {
-        let ends = survived_at(alloc, device, erased, script, nth)?;
-        if !are_right(&ends) {
+        let (are_right, are_whole) = survived_at(alloc, device, erased, script, nth)?;
+        if !are_right {
             return Ok(None);
         }
-        if are_whole(&ends, script.rows.len()) {
+        if are_whole {
             return Ok(Some(nth));
         }
     }
@@ -138,21 +117,13 @@ fn survives(alloc: Global, erased: Erased) -> Result<bool, Error> {
     Ok(calls.is_some_and(|calls| calls > 20))
 }
 
+const ERASED: [Erased; 3] = [Erased::Fill(0xff), Erased::Fill(0), Erased::Keep];
+
 #[test]
 fn nothing_is_lost_where_a_device_stops(rt: HostRuntime) -> Result<(), Fail> {
-    assert_eq!(rt; survives(rt.alloc(), Erased::Fill(0xff)), Ok(true));
-    Ok(())
-}
-
-#[test]
-fn nothing_is_lost_where_erases_leave_zeros(rt: HostRuntime) -> Result<(), Fail> {
-    assert_eq!(rt; survives(rt.alloc(), Erased::Fill(0)), Ok(true));
-    Ok(())
-}
-
-#[test]
-fn nothing_is_lost_where_erases_keep_bytes(rt: HostRuntime) -> Result<(), Fail> {
-    assert_eq!(rt; survives(rt.alloc(), Erased::Keep), Ok(true));
+    for erased in ERASED {
+        assert_eq!(rt; survives(rt.alloc(), erased), Ok(true), "{erased:?}");
+    }
     Ok(())
 }
 
@@ -231,7 +202,7 @@ fn failed_at(
         (done, Some(error)) => {
             let is_right = error == Error::Io
                 && has_failed(alloc, &mut session)?
-                && wrong_at_once(alloc, &mut session, &[(Remount, Done)])?.is_none()
+                && first_wrong(alloc, &mut session, &[(Remount, Done)])?.is_none()
                 && has_lost_nothing(alloc, &mut session, script, done)?;
             Ok((done, is_right))
         }

@@ -2,6 +2,7 @@
 //! system in memory, and prints what each answers.
 #![tactic(auto)]
 
+mod comparison;
 mod counted;
 mod hand;
 mod images;

@@ -1,17 +1,30 @@
 // What a script's commands do to the device in hand.
 
 ghost use Rattle.std.specs.Prelude.{◌≡◌, IfErr, IfOk};
-ghost use Rattle.lfs_script.specs.InHand.{IsUnmounted, calls_answer, calls_in};
+ghost use Rattle.lfs_script.specs.InHand.{IsCompared, IsUnmounted, calls_answer, calls_in};
 ghost use Rattle.lfs_script.specs.Performed.{IsPerformed};
 
+use crate::comparison::{compare, compare_with};
 use crate::hand::{Device, Hand, NO_FAULT, calls_of, told};
 use crate::images::{blank, device_of, read_file, write_file};
 use crate::performing::perform;
 use lfs_device::{Erased, Error, Fault, RamDevice};
 use lfs_fs::{Reply, Session, format, mount};
-use lfs_script_lines::{Answer, Command, Operation};
+use lfs_script_lines::{Answer, Command, Operation, Scope};
 use std::mem;
 use std::rt::Files;
+
+// Compares a session with one on a device that holds the bytes of a file.
+fn compare_with_file<R: Files + AllocGlobal>(
+    rt: &R,
+    session: &mut Session<Device>,
+    file: &[u8],
+) -> Answer {
+    match read_file(rt, file) {
+        Some(bytes) => compare_with(rt.alloc(), session, Scope::Whole, bytes),
+        None => Answer::Input,
+    }
+}
 
 /// A script on its way.
 #[derive(Drop)]
@@ -116,6 +129,24 @@ impl<'a, R: Files + AllocGlobal> Script<'a, R> {
         }
     }
 
+    fn compare(&mut self, scope: Scope) -> Answer
+        ensures { IsCompared self.old.hand result self.new.hand }
+    {
+        match &mut self.hand {
+            Hand::Session(session) => compare(self.rt.alloc(), session, scope),
+            _ => Answer::Nothing,
+        }
+    }
+
+    fn compare_with(&mut self, file: &[u8]) -> Answer
+        ensures { IsCompared self.old.hand result self.new.hand }
+    {
+        match &mut self.hand {
+            Hand::Session(session) => compare_with_file(self.rt, session, file),
+            _ => Answer::Nothing,
+        }
+    }
+
     fn operate(&mut self, operation: &Operation) -> Answer
         ensures { IsPerformed self.old.hand operation.now result self.new.hand }
     {
@@ -127,11 +158,14 @@ impl<'a, R: Files + AllocGlobal> Script<'a, R> {
 
     /// Carries out a command.
     ///
-    /// An operation is the session's; it is answered `Nothing` without one. `Calls` and `Save` leave what is in hand.
+    /// An operation is the session's; it is answered `Nothing` without one, and so is a comparison. `Calls` and `Save`
+    /// leave what is in hand.
     pub fn carry_out(&mut self, command: &Command) -> Answer
         ensures performed { (op : _) → command.now ≡ Command.Perform op → IsPerformed self.old.hand op result self.new.hand }
         ensures unmounted { command.now ≡ Command.Unmount → IsUnmounted self.old.hand result self.new.hand }
         ensures calls { command.now ≡ Command.Calls → (result ≡ calls_answer (calls_in self.old.hand)) × (self.new.hand ≡ self.old.hand) }
+        ensures compared { (scope : _) → command.now ≡ Command.Compare scope → IsCompared self.old.hand result self.new.hand }
+        ensures compared_with { (file : _) → command.now ≡ Command.CompareWith file → IsCompared self.old.hand result self.new.hand }
         ensures saved { (file : _) → command.now ≡ Command.Save file → self.new.hand ≡ self.old.hand }
     {
         match command {
@@ -154,6 +188,8 @@ impl<'a, R: Files + AllocGlobal> Script<'a, R> {
             Command::Mount(fault) => self.mount(*fault),
             Command::Save(file) => self.save(file),
             Command::Calls => self.calls(),
+            Command::Compare(scope) => self.compare(*scope),
+            Command::CompareWith(file) => self.compare_with(file),
             Command::Perform(operation) => self.operate(operation),
         }
     }

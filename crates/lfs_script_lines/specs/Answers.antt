@@ -1,16 +1,19 @@
 -- The lines that show answers.
-use Rattle.std.specs.Prelude.{ℕ, ◌++◌, List, Option, Some, None, Bool, true, false, codes, length, slice_index}
+use Rattle.std.specs.Prelude.{ℕ, ◌/◌, ◌%◌, ◌∷◌, [], ◌++◌, List, Option, Some, None, Bool, true, false, codes, length, slice_index}
 use Rattle.std.specs.List.{flat_map}
 use Rattle.std.specs.Fmt.{decimal}
 use Rattle.lfs_device.specs.Error.{name_of, number_of}
 use Rattle.lfs_device.specs.declared.error.Error.{Error}
 use Rattle.lfs_lookup.specs.declared.finding.ListItem.{ListItem}
+use Rattle.lfs_model.specs.Listing.{hex_digit}
 use Rattle.lfs_fs.specs.declared.gstate.Gstate.{Gstate}
 use Rattle.lfs_fs.specs.declared.run.Reply.{Reply}
 use Rattle.lfs_fs.specs.declared.run.Reply.TheVariants as reply
 use Rattle.lfs_script_lines.specs.declared.answer.Answer.{Answer}
 use Rattle.lfs_script_lines.specs.declared.answer.Answer.TheVariants as answer
 use Rattle.lfs_script_lines.specs.declared.answer.Calls.{Calls}
+use Rattle.lfs_script_lines.specs.declared.answer.Difference.{Difference}
+use Rattle.lfs_script_lines.specs.declared.answer.Difference.TheVariants as differs
 use Rattle.lfs_script_lines.specs.Words.{written}
 
 abbrev pub number_text : ℕ → List ℕ
@@ -64,6 +67,18 @@ reply_text (reply.Refused error) = codes "refused" ++ error_text error
 abbrev pub calls_text : Calls → List ℕ
 calls_text c = codes "calls" ++ number_text c.reads ++ number_text c.programs ++ number_text c.erases ++ number_text c.faults
 
+-- an attribute's type, in two hexadecimal digits
+abbrev pub kind_text : ℕ → List ℕ
+kind_text kind = 0x20 ∷ hex_digit (kind / 16) ∷ hex_digit (kind % 16) ∷ []
+
+abbrev pub difference_text : Difference → List ℕ
+difference_text (differs.Entry path) = codes "differs entry " ++ written path.items
+difference_text (differs.Bytes path) = codes "differs bytes " ++ written path.items
+difference_text (differs.Attribute path kind) = codes "differs attribute " ++ written path.items ++ kind_text kind
+difference_text differs.Gstate = codes "differs gstate"
+difference_text (differs.Block block) = codes "differs block" ++ number_text block
+difference_text differs.UsedCount = codes "differs used-count"
+
 -- the line, without its end
 abbrev pub answer_text : Answer → List ℕ
 answer_text (answer.Reply r) = reply_text r
@@ -72,3 +87,5 @@ answer_text answer.Nothing = codes "error none"
 answer_text answer.Input = codes "error input"
 answer_text answer.Output = codes "error output"
 answer_text (answer.Calls c) = calls_text c
+answer_text answer.Same = codes "same"
+answer_text (answer.Differs difference) = difference_text difference

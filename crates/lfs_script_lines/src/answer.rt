@@ -13,6 +13,23 @@ pub struct Calls {
     pub faults: u64,
 }
 
+/// What two sessions differ in. Paths are bytes.
+#[derive(Drop)]
+pub enum Difference {
+    /// What stands at a path: nothing, a file of a size, or a directory.
+    Entry(Vec<u8>),
+    /// What the file at a path holds.
+    Bytes(Vec<u8>),
+    /// An attribute of what stands at a path.
+    Attribute(Vec<u8>, u8),
+    /// The global state.
+    Gstate,
+    /// Whether a block is used.
+    Block(u32),
+    /// How many blocks are used.
+    UsedCount,
+}
+
 /// What a command of a script answers.
 #[derive(Drop)]
 pub enum Answer {
@@ -27,4 +44,8 @@ pub enum Answer {
     /// A file could not be written.
     Output,
     Calls(Calls),
+    /// Nothing differs.
+    Same,
+    /// What differs first.
+    Differs(Difference),
 }

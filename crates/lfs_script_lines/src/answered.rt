@@ -1,10 +1,10 @@
 // The lines that scripts print.
 
 ghost use Rattle.std.specs.Prelude.{◌≡◌, ◌++◌, OnOk};
-ghost use Rattle.lfs_script_lines.specs.Answers.{answer_text, calls_text, error_text, entry_text, gstate_text, item_text, items_text, moving_text, number_text, reply_text, stat_text};
+ghost use Rattle.lfs_script_lines.specs.Answers.{answer_text, calls_text, difference_text, error_text, entry_text, gstate_text, item_text, items_text, kind_text, moving_text, number_text, reply_text, stat_text};
 
-use crate::answer::{Answer, Calls};
-use crate::written::push_word;
+use crate::answer::{Answer, Calls, Difference};
+use crate::written::{hex_digit, push_word};
 use lfs_device::Error;
 use lfs_fs::{Gstate, Reply};
 use lfs_lookup::ListItem;
@@ -144,6 +144,41 @@ fn push_calls(text: &mut Vec<u8>, calls: Calls) -> Result<(), AllocError>
     push_number(text, calls.faults)
 }
 
+// Adds a space and the type of an attribute.
+fn push_kind(text: &mut Vec<u8>, kind: u8) -> Result<(), AllocError>
+    ensures { OnOk result (text.new.items ≡ text.old.items ++ kind_text kind) }
+{
+    let word = [b' ', hex_digit(kind / 16), hex_digit(kind % 16)];
+    text.extend_from_slice(&word)
+}
+
+fn push_difference(text: &mut Vec<u8>, difference: &Difference) -> Result<(), AllocError>
+    ensures { OnOk result (text.new.items ≡ text.old.items ++ difference_text difference.now) }
+{
+    match difference {
+        Difference::Entry(path) => {
+            text.extend_from_slice(b"differs entry ")?;
+            push_word(text, path)?;
+        }
+        Difference::Bytes(path) => {
+            text.extend_from_slice(b"differs bytes ")?;
+            push_word(text, path)?;
+        }
+        Difference::Attribute(path, kind) => {
+            text.extend_from_slice(b"differs attribute ")?;
+            push_word(text, path)?;
+            push_kind(text, *kind)?;
+        }
+        Difference::Gstate => text.extend_from_slice(b"differs gstate")?,
+        Difference::Block(block) => {
+            text.extend_from_slice(b"differs block")?;
+            push_number(text, u64::from(*block))?;
+        }
+        Difference::UsedCount => text.extend_from_slice(b"differs used-count")?,
+    }
+    Ok(())
+}
+
 /// Adds the line that shows an answer, without its end.
 pub fn push_answer(text: &mut Vec<u8>, answer: &Answer) -> Result<(), AllocError>
     ensures { OnOk result (text.new.items ≡ text.old.items ++ answer_text answer.now) }
@@ -158,6 +193,8 @@ pub fn push_answer(text: &mut Vec<u8>, answer: &Answer) -> Result<(), AllocError
         Answer::Input => text.extend_from_slice(b"error input")?,
         Answer::Output => text.extend_from_slice(b"error output")?,
         Answer::Calls(calls) => push_calls(text, *calls)?,
+        Answer::Same => text.extend_from_slice(b"same")?,
+        Answer::Differs(difference) => push_difference(text, difference)?,
     }
     Ok(())
 }

@@ -3,6 +3,17 @@
 use lfs_device::{Erased, Fault};
 use lfs_fs::OpenFlags;
 
+/// What of two sessions is compared.
+#[derive(Clone, Copy)]
+pub enum Scope {
+    /// All that they answer.
+    Whole,
+    /// All but the attributes of other types than this one.
+    Kind(u8),
+    /// All but attributes and what files hold.
+    Entries,
+}
+
 /// What a line of a script asks for. Sizes are in bytes, and nothing is checked against a device yet.
 #[derive(Drop)]
 pub enum Command {
@@ -31,6 +42,10 @@ pub enum Command {
     Save(Vec<u8>),
     /// How many calls the device had.
     Calls,
+    /// The first difference between the session and one on a copy of its device.
+    Compare(Scope),
+    /// The first difference between the session and one on a device with the bytes of a file.
+    CompareWith(Vec<u8>),
     /// An operation of the session.
     Perform(Operation),
 }

@@ -9,9 +9,9 @@ mod numbers;
 mod words;
 mod written;
 
-pub use answer::{Answer, Calls};
+pub use answer::{Answer, Calls, Difference};
 pub use answered::push_answer;
-pub use command::{Command, Operation};
+pub use command::{Command, Operation, Scope};
 pub use lines::{LineError, read_line};
 pub use words::read_word;
 pub use written::push_word;

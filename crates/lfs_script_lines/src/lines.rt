@@ -3,7 +3,7 @@
 ghost use Rattle.std.specs.Prelude.{◌≡◌, IfOk, is_none, true};
 ghost use Rattle.lfs_script_lines.specs.Words.{is_silent};
 
-use crate::command::{Command, Operation};
+use crate::command::{Command, Operation, Scope};
 use crate::numbers::{read_decimal, read_hex};
 use crate::words::read_word;
 use bitflags::Flags;
@@ -70,6 +70,7 @@ fn bare_command(name: &[u8]) -> Result<Command, LineError> {
         b"unmount" => return Ok(Command::Unmount),
         b"mount" => return Ok(Command::Mount(NO_FAULT)),
         b"calls" => return Ok(Command::Calls),
+        b"compare" => return Ok(Command::Compare(Scope::Whole)),
         b"gstate" => Operation::Gstate,
         b"used-count" => Operation::UsedCount,
         b"recover" => Operation::Recover,
@@ -79,10 +80,20 @@ fn bare_command(name: &[u8]) -> Result<Command, LineError> {
     Ok(Command::Perform(operation))
 }
 
+// What of two sessions is compared, by the word for it.
+fn scope(word: &[u8]) -> Result<Scope, LineError> {
+    match word {
+        b"entries" => Ok(Scope::Entries),
+        kind => Ok(Scope::Kind(hex_byte(kind)?)),
+    }
+}
+
 // That of a line with one word behind its name.
 fn command_on(alloc: Global, name: &[u8], word: &[u8]) -> Result<Command, LineError> {
     let operation = match name {
         b"save" => return Ok(Command::Save(bytes(alloc, word)?)),
+        b"compare" => return Ok(Command::Compare(scope(word)?)),
+        b"compare-with" => return Ok(Command::CompareWith(bytes(alloc, word)?)),
         b"sync" => Operation::Sync(number(word)?),
         b"close" => Operation::Close(number(word)?),
         b"mkdir" => Operation::Mkdir(bytes(alloc, word)?),

@@ -7,7 +7,7 @@ ghost use Rattle.lfs_script_lines.specs.Words.{shown, written};
 use crate::words::is_plain;
 use std::alloc::AllocError;
 
-fn hex_digit(value: u8) -> u8
+pub(crate) fn hex_digit(value: u8) -> u8
     requires { value < 16 }
     ensures { result ≡ hex_digit value }
 {

@@ -1,0 +1,278 @@
+// Sessions, compared with others on bytes like those of their devices.
+
+ghost use Rattle.std.specs.Prelude.{◌≡◌, ◌≢◌, ◌++◌, ◌∷◌, [], IfOk};
+
+use crate::hand::{Device, NO_FAULT, told};
+use lfs_device::{BlockDevice, Error, Geometry, RamDevice};
+use lfs_fs::{OpenFlags, Reply, Session, mount};
+use lfs_lookup::ListItem;
+use lfs_script_lines::{Answer, Difference, Scope};
+use std::alloc::{AllocError, Global};
+
+// A session on a device that holds these bytes.
+fn mounted(alloc: Global, geometry: Geometry, bytes: Vec<u8>) -> Result<Session<Device>, Error> {
+    let device = RamDevice::from_bytes(geometry, bytes)?;
+    match mount(alloc, told(device, NO_FAULT)) {
+        Ok(session) => Ok(session),
+        Err((_, error)) => Err(error),
+    }
+}
+
+// The first block that one session uses and the other doesn't, or that they count otherwise.
+fn different_block(
+    session: &Session<Device>,
+    other: &Session<Device>,
+    block_count: u32,
+) -> Result<Option<Difference>, Error> {
+    let mut count = 0u32;
+    for block in 0..block_count {
+        let is_used = session.is_used(block)?;
+        if is_used != other.is_used(block)? {
+            return Ok(Some(Difference::Block(block)));
+        }
+        count = count.saturating_add(u32::from(is_used));
+    }
+    if session.used_count()? != count || other.used_count()? != count {
+        return Ok(Some(Difference::UsedCount));
+    }
+    Ok(None)
+}
+
+fn are_same(item: &ListItem, other: &ListItem) -> bool {
+    item.name.as_slice() == other.name.as_slice() && item.size == other.size
+}
+
+// The first place where two listings differ.
+fn different_place(items: &[ListItem], others: &[ListItem]) -> Option<usize> {
+    for (place, (item, other)) in items.iter().zip(others).enumerate() {
+        if !are_same(item, other) {
+            return Some(place);
+        }
+    }
+    if items.len() == others.len() {
+        None
+    } else {
+        Some(items.len().min(others.len()))
+    }
+}
+
+// The name of the first entry that only one of two listings has.
+fn different_name<'a>(items: &'a [ListItem], others: &'a [ListItem]) -> Option<&'a [u8]> {
+    let place = different_place(items, others)?;
+    match items.get(place) {
+        Some(item) => Some(item.name.as_slice()),
+        None => Some(others.get(place)?.name.as_slice()),
+    }
+}
+
+// The path of a name in a directory.
+fn path_below(alloc: Global, directory: &[u8], name: &[u8]) -> Result<Vec<u8>, AllocError>
+    ensures root { directory.now ≡ 0x2f ∷ [] → IfOk result (λ path. path.items ≡ 0x2f ∷ name.now) }
+    ensures deeper { directory.now ≢ 0x2f ∷ [] → IfOk result (λ path. path.items ≡ directory.now ++ 0x2f ∷ name.now) }
+{
+    let mut path = Vec::new(alloc);
+    if directory != b"/".as_slice() {
+        path.extend_from_slice(directory)?;
+    }
+    path.push(b'/')?;
+    path.extend_from_slice(name)?;
+    Ok(path)
+}
+
+// What a file holds. None where it can't be opened beside the files that are open.
+fn bytes_of(
+    alloc: Global,
+    session: &mut Session<Device>,
+    path: &[u8],
+) -> Result<Option<Vec<u8>>, Error> {
+    match session.open(alloc, path, OpenFlags::READ) {
+        Ok(fd) => {
+            let bytes = session.read(alloc, fd, u32::MAX)?;
+            session.close(alloc, fd)?;
+            Ok(Some(bytes))
+        }
+        Err(Error::Busy) => Ok(None),
+        Err(error) => Err(error),
+    }
+}
+
+// Whether a file holds the same in both.
+fn hold_same(
+    alloc: Global,
+    session: &mut Session<Device>,
+    other: &mut Session<Device>,
+    path: &[u8],
+) -> Result<bool, Error> {
+    let Some(bytes) = bytes_of(alloc, session, path)? else {
+        return Ok(true);
+    };
+    let Some(others) = bytes_of(alloc, other, path)? else {
+        return Ok(false);
+    };
+    Ok(bytes.as_slice() == others.as_slice())
+}
+
+// An attribute. None where there is none.
+fn attribute_of(
+    alloc: Global,
+    session: &mut Session<Device>,
+    path: &[u8],
+    kind: u8,
+) -> Result<Option<Vec<u8>>, Error> {
+    match session.get_attr(alloc, path, kind) {
+        Ok(bytes) => Ok(Some(bytes)),
+        Err(Error::NoAttr) => Ok(None),
+        Err(error) => Err(error),
+    }
+}
+
+// Whether an attribute is the same in both.
+fn is_same_attribute(
+    alloc: Global,
+    session: &mut Session<Device>,
+    other: &mut Session<Device>,
+    path: &[u8],
+    kind: u8,
+) -> Result<bool, Error> {
+    let attribute = attribute_of(alloc, session, path, kind)?;
+    match (attribute, attribute_of(alloc, other, path, kind)?) {
+        (None, None) => Ok(true),
+        (Some(bytes), Some(others)) => Ok(bytes.as_slice() == others.as_slice()),
+        _ => Ok(false),
+    }
+}
+
+// The first type, from one to another, of which the attributes differ.
+fn different_kind(
+    alloc: Global,
+    session: &mut Session<Device>,
+    other: &mut Session<Device>,
+    path: &[u8],
+    first: u8,
+    last: u8,
+) -> Result<Option<u8>, Error> {
+    for kind in first..=last {
+        if !is_same_attribute(alloc, session, other, path, kind)? {
+            return Ok(Some(kind));
+        }
+    }
+    Ok(None)
+}
+
+// What differs of an entry that both list with this size.
+fn difference_at(
+    alloc: Global,
+    session: &mut Session<Device>,
+    other: &mut Session<Device>,
+    scope: Scope,
+    path: &[u8],
+    size: Option<u32>,
+) -> Result<Option<Difference>, Error> {
+    let (first, last) = match scope {
+        Scope::Whole => (0, 255),
+        Scope::Kind(kind) => (kind, kind),
+        Scope::Entries => return Ok(None),
+    };
+    if let Some(kind) = different_kind(alloc, session, other, path, first, last)? {
+        return Ok(Some(Difference::Attribute(Vec::from_slice(alloc, path)?, kind)));
+    }
+    if size.is_some() && !hold_same(alloc, session, other, path)? {
+        return Ok(Some(Difference::Bytes(Vec::from_slice(alloc, path)?)));
+    }
+    Ok(None)
+}
+
+// What differs first of a directory's entries. Those that are directories wait then.
+fn difference_in(
+    alloc: Global,
+    session: &mut Session<Device>,
+    other: &mut Session<Device>,
+    scope: Scope,
+    directory: &[u8],
+    waiting: &mut Vec<Vec<u8>>,
+) -> Result<Option<Difference>, Error> {
+    let items = session.list(alloc, directory)?;
+    let others = other.list(alloc, directory)?;
+    if let Some(name) = different_name(&items, &others) {
+        return Ok(Some(Difference::Entry(path_below(alloc, directory, name)?)));
+    }
+    for item in items.iter() {
+        let path = path_below(alloc, directory, &item.name)?;
+        let difference = difference_at(alloc, session, other, scope, &path, item.size)?;
+        if difference.is_some() {
+            return Ok(difference);
+        }
+        if item.size.is_none() {
+            waiting.push(path)?;
+        }
+    }
+    Ok(None)
+}
+
+// What differs first of all entries.
+fn different_entry(
+    alloc: Global,
+    session: &mut Session<Device>,
+    other: &mut Session<Device>,
+    scope: Scope,
+) -> Result<Option<Difference>, Error> {
+    let mut waiting = Vec::new(alloc);
+    waiting.push(Vec::from_slice(alloc, b"/")?)?;
+    for _ in 0..u64::MAX {
+        let Some(directory) = waiting.pop() else {
+            return Ok(None);
+        };
+        let difference = difference_in(alloc, session, other, scope, &directory, &mut waiting)?;
+        if difference.is_some() {
+            return Ok(difference);
+        }
+    }
+    Ok(None)
+}
+
+// What differs first, where the other session is on these bytes.
+fn difference(
+    alloc: Global,
+    session: &mut Session<Device>,
+    scope: Scope,
+    bytes: Vec<u8>,
+) -> Result<Option<Difference>, Error> {
+    let gstate = session.gstate()?;
+    let geometry = session.device().geometry();
+    let mut other = mounted(alloc, geometry, bytes)?;
+    if gstate != other.gstate()? {
+        return Ok(Some(Difference::Gstate));
+    }
+    let difference = different_block(session, &other, geometry.block_count)?;
+    if difference.is_some() {
+        return Ok(difference);
+    }
+    different_entry(alloc, session, &mut other, scope)
+}
+
+/// Compares what a session answers with what one on a device with these bytes does. The session is
+/// only asked.
+///
+/// The answer is the session's refusal where it has failed before. It is an error where the bytes
+/// are no device's or don't mount, and where one of the sessions fails.
+pub fn compare_with(
+    alloc: Global,
+    session: &mut Session<Device>,
+    scope: Scope,
+    bytes: Vec<u8>,
+) -> Answer {
+    match difference(alloc, session, scope, bytes) {
+        Ok(None) => Answer::Same,
+        Ok(Some(difference)) => Answer::Differs(difference),
+        Err(Error::Failed) => Answer::Reply(Reply::Refused(Error::Failed)),
+        Err(error) => Answer::Error(error),
+    }
+}
+
+/// Compares what a session answers with what one on a copy of its device does.
+pub fn compare(alloc: Global, session: &mut Session<Device>, scope: Scope) -> Answer {
+    match Vec::from_slice(alloc, session.device().inner().inner().bytes()) {
+        Ok(bytes) => compare_with(alloc, session, scope, bytes),
+        Err(_) => Answer::Error(Error::NoMemory),
+    }
+}

@@ -56,7 +56,7 @@ fn different_place(items: &[ListItem], others: &[ListItem]) -> Option<usize> {
     }
 }
 
-// The name of the first entry that only one of two listings has.
+// The name of the first entry in which two listings differ.
 fn different_name<'a>(items: &'a [ListItem], others: &'a [ListItem]) -> Option<&'a [u8]> {
     let place = different_place(items, others)?;
     match items.get(place) {

@@ -1,6 +1,6 @@
 // Pairs of a small device, fetched.
 
-use crate::images::{COMPLETE, HELD, MALFORMED, SYNC, TAIL, block, device, seen};
+use crate::images::{COMPLETE, HELD, MALFORMED, NOTHING, SYNC, TAIL, block, device, seen};
 use lfs_device::{Erased, Error, FaultDevice, Geometry, Which};
 use lfs_pair::{Change, apply_all, fetch, fits};
 use lfs_tag::kinds::{FILE_NAME, INLINE_STRUCT};
@@ -13,8 +13,8 @@ use std::test::Fail;
 #[test]
 fn the_later_log_holds(rt: HostRuntime) -> Result<(), Fail> {
     for (first, second, active, revision, is_complete) in [
-        ((0, [].as_slice()), (7, COMPLETE), 1, 7, true),
-        ((0, &[]), (7, HELD), 1, 7, false),
+        ((0, NOTHING), (7, COMPLETE), 1, 7, true),
+        ((0, NOTHING), (7, HELD), 1, 7, false),
         ((0, HELD), (0xffff_ffff, HELD), 0, 0, false),
         ((0xffff_ffff, HELD), (0, HELD), 1, 0, false),
         (
@@ -39,13 +39,13 @@ fn the_later_log_holds(rt: HostRuntime) -> Result<(), Fail> {
 #[test]
 fn fetches_fail(rt: HostRuntime) -> Result<(), Fail> {
     for (second, nth, error, calls) in [
-        ((0, [].as_slice()), 0, Error::Corrupt, 2),
+        ((0, NOTHING), 0, Error::Corrupt, 2),
         ((9, MALFORMED), 0, Error::Corrupt, 2),
         ((9, HELD), 1, Error::Io, 1),
         ((9, HELD), 2, Error::Io, 2),
     ] {
         let first = if second.0 == 0 {
-            (0, [].as_slice())
+            (0, NOTHING)
         } else {
             (8, HELD)
         };

@@ -45,6 +45,9 @@ pub const COMPLETE: Entries<'static> = &[
     (MOVE_STATE, 0x3ff, &[0, 0, 0, 0x80, 0, 0, 0, 0, 0, 0, 0, 0]),
 ];
 
+/// No commit.
+pub const NOTHING: Entries<'static> = &[];
+
 /// A slot is created behind one that isn't there.
 pub const MALFORMED: Entries<'static> = &[(CREATE, 1, b"")];
 
@@ -78,7 +81,7 @@ pub fn block(
 /// each, of that revision, or none.
 pub fn device(
     alloc: Global,
-    halves: [(u32, Entries<'_>); 2],
+    halves: [(u32, Entries<'static>); 2],
     erased: Erased,
 ) -> Result<RamDevice, Error>
     ensures { IfOk result (λ device. (geometry_of device).block_count ≡ 4) }

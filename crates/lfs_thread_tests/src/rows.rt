@@ -117,7 +117,7 @@ const NO_TAIL: [Change<'static>; 1] = [Change::Tail {
 
 // 40 + 3 * 208 bytes fit the 857 of a pair, and 40 + 4 * 208 don't. The superblock and one file stay
 // in the first pair.
-const FOUR_FILES: [Line; 9] = [
+const FOUR_FILES: &[Line] = &[
     (Step::Change(0, &FIRST), Outcome::Done, &[([0, 1], 2)]),
     (Step::Change(0, &SECOND), Outcome::Done, &[([0, 1], 3)]),
     (Step::Change(0, &THIRD), Outcome::Done, &[([0, 1], 4)]),
@@ -170,7 +170,7 @@ const ALIKE_MORE: [Change<'static>; 2] = [
 ];
 
 // 309 bytes each, 618 of 1,236 in front.
-const ALIKE_CUT: [Line; 1] = [(
+const ALIKE_CUT: &[Line] = &[(
     Step::Split(0, &ALIKE_MORE),
     Outcome::Done,
     &[([0, 1], 2), ([2, 3], 2)],
@@ -202,7 +202,7 @@ const LARGE_FIRST_MORE: [Change<'static>; 4] = [
 ];
 
 // 909, 109 and 59 bytes: the only cut has more than half in front.
-const LARGE_FIRST_CUT: [Line; 1] = [(
+const LARGE_FIRST_CUT: &[Line] = &[(
     Step::Split(0, &LARGE_FIRST_MORE),
     Outcome::Done,
     &[([0, 1], 1), ([2, 3], 2)],
@@ -229,7 +229,7 @@ const LARGE_LAST_MORE: [Change<'static>; 2] = [
 ];
 
 // 109, 59 and 909 bytes: the only cut has less than half in front.
-const LARGE_LAST_CUT: [Line; 1] = [(
+const LARGE_LAST_CUT: &[Line] = &[(
     Step::Split(0, &LARGE_LAST_MORE),
     Outcome::Done,
     &[([0, 1], 2), ([2, 3], 1)],
@@ -264,10 +264,10 @@ fn is_kept(alloc: Global, device: RamDevice, lines: &[Line]) -> Result<bool, Err
 fn steps_have_their_rows(rt: HostRuntime) -> Result<(), Fail> {
     let alloc = rt.alloc();
     for (page, entries, lines) in [
-        (128, SUPERBLOCK, FOUR_FILES.as_slice()),
-        (8, ALIKE, &ALIKE_CUT),
-        (8, LARGE_FIRST, &LARGE_FIRST_CUT),
-        (8, LARGE_LAST, &LARGE_LAST_CUT),
+        (128, SUPERBLOCK, FOUR_FILES),
+        (8, ALIKE, ALIKE_CUT),
+        (8, LARGE_FIRST, LARGE_FIRST_CUT),
+        (8, LARGE_LAST, LARGE_LAST_CUT),
     ] {
         let device = device(alloc, Geometry::new(1024, page, 64)?, entries)?;
         assert_eq!(rt; is_kept(alloc, device, lines), Ok(true));

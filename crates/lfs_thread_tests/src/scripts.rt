@@ -160,9 +160,12 @@ pub const SCRIPT: [Line; 11] = [
 
 /// Whether these are the pairs of the moment behind so many steps.
 pub fn are_kept_at(rows: &[Row], done: usize) -> bool {
-    match done {
-        0 => START == rows,
-        _ => SCRIPT.get(done - 1).is_some_and(|line| line.2 == rows),
+    if done == 0 {
+        return rows == START;
+    }
+    match SCRIPT.get(done - 1) {
+        Some(line) => rows == line.2,
+        None => false,
     }
 }
 

@@ -1,10 +1,17 @@
-// Images by littlefs's own code, for exchange.py, which builds this with it: shows one, or makes or changes one by operations
-// at random, which may end in a loss of power. Its images are of version 2.0.
+// Images by littlefs's own code, for exchange.py, which builds this with it: shows one, makes or changes one by operations
+// at random, which may end in a loss of power, or carries out operations that it is told. Where VERSION isn't given, its images
+// are of the newest version that the code knows.
 //
 //   exchange list IMAGE BLOCK PAGE               a line for each entry, with paths and attributes in hexadecimal numbers:
-//                                                f SIZE CHECKSUM PATH, or d PATH, and then TYPE:BYTES for each attribute
-//   exchange make IMAGE BLOCK PAGE COUNT SEED NAMES
-//   exchange change IMAGE BLOCK PAGE SEED NAMES  where NAMES is apart, no name is the beginning of another
+//                                                f SIZE CHECKSUM PATH, or d PATH, and then TYPE:BYTES for each attribute;
+//                                                missing PATH for a listed name that isn't found when it is looked up
+//   exchange make IMAGE BLOCK PAGE COUNT CYCLES SEED
+//   exchange change IMAGE BLOCK PAGE CYCLES SEED
+//   exchange run IMAGE BLOCK PAGE COUNT CYCLES   reads operations, one a line, and answers each with 0 or an error's number;
+//                                                the image is made where COUNT isn't 0. Paths are hexadecimal numbers.
+//     put PATH SIZE LETTER, append PATH SIZE LETTER, rename OLD NEW, remove PATH, mkdir PATH
+//     cut N        the power goes after so many more programs and erases
+//     save FILE    unmounts, writes the image, and mounts it again
 #include HEADER
 #include <stdio.h>
 #include <stdlib.h>
@@ -17,7 +24,6 @@ static lfs_t lfs;
 // how many more programs and erases are carried out before the power goes
 static long left = -1;
 static int keeps; // an erase leaves what is there
-static int apart; // no name is the beginning of another
 
 static uint64_t state;
 
@@ -57,7 +63,7 @@ static int erase_device(const struct lfs_config *c, lfs_block_t block) {
 
 static int sync_device(const struct lfs_config *c) { (void)c; return 0; }
 
-static void configure(uint32_t block, uint32_t page, uint32_t count) {
+static void configure(uint32_t block, uint32_t page, uint32_t count, int32_t cycles) {
     config.read = read_device;
     config.prog = program_device;
     config.erase = erase_device;
@@ -66,11 +72,13 @@ static void configure(uint32_t block, uint32_t page, uint32_t count) {
     config.prog_size = page;
     config.block_size = block;
     config.block_count = count;
-    config.block_cycles = -1;
+    config.block_cycles = cycles;
     // room for the longest file that stands in its entry, which littlefs wants to change one
     config.cache_size = block / 8;
     config.lookahead_size = 64;
-    config.disk_version = 0x00020000;
+#ifdef VERSION
+    config.disk_version = VERSION;
+#endif
 }
 
 // ---- listing
@@ -79,9 +87,10 @@ static void hex(const uint8_t *bytes, size_t len) {
     for (size_t k = 0; k < len; k++) printf("%02x", bytes[k]);
 }
 
+// The attributes of the types that come here.
 static int show_attributes(const char *path) {
     static uint8_t value[1022];
-    for (int kind = 0; kind < 256; kind++) {
+    for (int kind = 0; kind < 8; kind++) {
         lfs_ssize_t len = lfs_getattr(&lfs, path, (uint8_t)kind, value, sizeof value);
         if (len == LFS_ERR_NOATTR) continue;
         if (len < 0) return (int)len;
@@ -91,7 +100,7 @@ static int show_attributes(const char *path) {
     return 0;
 }
 
-static int show_file(const char *path, lfs_size_t size) {
+static int show_file(const char *path) {
     static uint8_t part[4096];
     lfs_file_t file;
     int err = lfs_file_open(&lfs, &file, path, LFS_O_RDONLY);
@@ -99,10 +108,35 @@ static int show_file(const char *path, lfs_size_t size) {
     uint32_t sum = 0xffffffff;
     lfs_ssize_t len;
     while ((len = lfs_file_read(&lfs, &file, part, sizeof part)) > 0) sum = lfs_crc(sum, part, (size_t)len);
-    lfs_file_close(&lfs, &file);
-    printf("f %u %08x ", (unsigned)size, (unsigned)sum);
+    printf("f %u %08x ", (unsigned)lfs_file_size(&lfs, &file), (unsigned)sum);
     hex((const uint8_t *)path, strlen(path));
+    lfs_file_close(&lfs, &file);
     return (int)len;
+}
+
+static int show(const char *path);
+
+// An entry that a listing has, looked up by its path.
+static int show_entry(const char *path, uint8_t type) {
+    struct lfs_info info;
+    lfs_dir_t dir;
+    int err = lfs_stat(&lfs, path, &info);
+    if (!err && info.type != type) err = LFS_ERR_NOENT;
+    if (!err && type == LFS_TYPE_REG) err = show_file(path);
+    if (!err && type == LFS_TYPE_DIR && !(err = lfs_dir_open(&lfs, &dir, path))) {
+        lfs_dir_close(&lfs, &dir);
+        printf("d ");
+        hex((const uint8_t *)path, strlen(path));
+    }
+    int missing = err == LFS_ERR_NOENT;
+    if (missing) {
+        printf("missing ");
+        hex((const uint8_t *)path, strlen(path));
+        err = 0;
+    }
+    if (!err && !missing) err = show_attributes(path);
+    printf("\n");
+    return err || missing || type != LFS_TYPE_DIR ? err : show(path);
 }
 
 static int show(const char *path) {
@@ -112,20 +146,11 @@ static int show(const char *path) {
     if (err) return err;
     while ((err = lfs_dir_read(&lfs, &dir, &info)) > 0) {
         if (!strcmp(info.name, ".") || !strcmp(info.name, "..")) continue;
-        err = 0;
         char *beneath = malloc(strlen(path) + strlen(info.name) + 2);
         sprintf(beneath, "%s/%s", strcmp(path, "/") ? path : "", info.name);
-        if (info.type == LFS_TYPE_REG) {
-            err = show_file(beneath, info.size);
-        } else {
-            printf("d ");
-            hex((const uint8_t *)beneath, strlen(beneath));
-        }
-        if (!err) err = show_attributes(beneath);
-        printf("\n");
-        if (!err && info.type == LFS_TYPE_DIR) err = show(beneath);
+        err = show_entry(beneath, info.type);
         free(beneath);
-        if (err) return err;
+        if (err) break;
     }
     lfs_dir_close(&lfs, &dir);
     return err;
@@ -136,7 +161,6 @@ static int show(const char *path) {
 static void some_name(char *name) {
     uint32_t len = below(20) ? 1 + below(below(4) ? 2 : 30) : 1 + below(255);
     for (uint32_t k = 0; k < len; k++) name[k] = below(3) ? 'a' + (char)below(4) : (char)(1 + below(46 - 1));
-    if (apart) name[len - 1] = '~';
     name[len] = 0;
     if (!strcmp(name, ".") || !strcmp(name, "..")) name[0] = 'x';
 }
@@ -209,15 +233,35 @@ static int operate(void) {
     }
 }
 
+static void refuse_corruption(int err) {
+    if (err != LFS_ERR_CORRUPT) return;
+    fprintf(stderr, "corrupt\n");
+    exit(3);
+}
+
 // Carries out operations until one meets the loss of power; refusals are passed over.
 static void operate_often(void) {
-    for (uint32_t times = below(below(2) ? 20 : 200); times && left != -2; times--) {
-        int err = operate();
-        if (err == LFS_ERR_CORRUPT) { fprintf(stderr, "corrupt\n"); exit(3); }
+    for (uint32_t times = below(below(2) ? 20 : 200); times && left != -2; times--) refuse_corruption(operate());
+}
+
+// Makes short files and some directories, as far as there is room.
+static void fill(void) {
+    static char path[1024];
+    for (uint32_t wanted = 30 + below(40), times = 8 * wanted; wanted && times; times--) {
+        lfs_file_t file;
+        some_path(path);
+        int is_file = below(8) > 0;
+        int err = is_file ? lfs_file_open(&lfs, &file, path, LFS_O_WRONLY | LFS_O_CREAT | LFS_O_EXCL) : lfs_mkdir(&lfs, path);
+        if (!err) wanted--;
+        if (!err && is_file) {
+            lfs_file_write(&lfs, &file, path, below((uint32_t)strlen(path)));
+            err = lfs_file_close(&lfs, &file);
+        }
+        refuse_corruption(err);
     }
 }
 
-static int load(const char *file, uint32_t block, uint32_t page) {
+static int load(const char *file, uint32_t block, uint32_t page, int32_t cycles) {
     FILE *in = fopen(file, "rb");
     if (!in) return 1;
     fseek(in, 0, SEEK_END);
@@ -226,7 +270,7 @@ static int load(const char *file, uint32_t block, uint32_t page) {
     device = malloc(size);
     if (fread(device, 1, size, in) != size) return 1;
     fclose(in);
-    configure(block, page, (uint32_t)(size / block));
+    configure(block, page, (uint32_t)(size / block), cycles);
     return 0;
 }
 
@@ -237,29 +281,80 @@ static int save(const char *file) {
     return fclose(out);
 }
 
+static int begin(uint32_t block, uint32_t page, uint32_t count, int32_t cycles, int byte) {
+    device = malloc((size_t)block * count);
+    memset(device, byte, (size_t)block * count);
+    configure(block, page, count, cycles);
+    return lfs_format(&lfs, &config);
+}
+
+// ---- operations that are told
+
+static void unhex(const char *word, char *out) {
+    unsigned byte;
+    for (; sscanf(word, "%2x", &byte) == 1; word += 2) *out++ = (char)byte;
+    *out = 0;
+}
+
+static int put(const char *path, int flags, uint32_t size, char letter) {
+    lfs_file_t file;
+    int err = lfs_file_open(&lfs, &file, path, LFS_O_WRONLY | flags);
+    if (err) return err;
+    char *bytes = malloc(size + 1);
+    memset(bytes, letter, size);
+    lfs_ssize_t wrote = lfs_file_write(&lfs, &file, bytes, size);
+    free(bytes);
+    err = lfs_file_close(&lfs, &file);
+    return wrote < 0 ? (int)wrote : err;
+}
+
+static int keep(const char *file) {
+    int err = left == -2 ? 0 : lfs_unmount(&lfs);
+    if (save(file)) return 1;
+    return err || left == -2 ? err : lfs_mount(&lfs, &config);
+}
+
+static int obey(char *line) {
+    static char path[4096], other[4096], words[4][8192];
+    int count = sscanf(line, "%8191s %8191s %8191s %8191s", words[0], words[1], words[2], words[3]);
+    uint32_t size = count == 4 ? (uint32_t)atol(words[2]) : 0;
+    if (!strcmp(words[0], "save")) return keep(words[1]);
+    if (!strcmp(words[0], "cut")) { left = atol(words[1]); return 0; }
+    unhex(words[1], path);
+    if (!strcmp(words[0], "put")) return put(path, LFS_O_CREAT | LFS_O_TRUNC, size, words[3][0]);
+    if (!strcmp(words[0], "append")) return put(path, LFS_O_APPEND, size, words[3][0]);
+    if (!strcmp(words[0], "remove")) return lfs_remove(&lfs, path);
+    if (!strcmp(words[0], "mkdir")) return lfs_mkdir(&lfs, path);
+    unhex(words[2], other);
+    if (!strcmp(words[0], "rename")) return lfs_rename(&lfs, path, other);
+    exit(2);
+}
+
+static int run(void) {
+    static char line[20000];
+    while (fgets(line, sizeof line, stdin)) {
+        printf("%d\n", obey(line));
+        fflush(stdout);
+    }
+    return 0;
+}
+
 int main(int argc, char **words) {
     if (argc < 5) return 2;
     uint32_t block = (uint32_t)atol(words[3]), page = (uint32_t)atol(words[4]);
-    if (!strcmp(words[1], "list")) {
-        if (load(words[2], block, page)) return 2;
-        int err = lfs_mount(&lfs, &config);
-        if (!err) err = show("/");
-        if (err) printf("error %d\n", err);
-        return err ? 1 : 0;
-    }
-    int makes = !strcmp(words[1], "make");
-    if (argc != (makes ? 8 : 7)) return 2;
-    state = (uint64_t)atoll(words[argc - 2]);
-    apart = !strcmp(words[argc - 1], "apart");
-    if (makes) {
-        uint32_t count = (uint32_t)atol(words[5]);
-        device = malloc((size_t)block * count);
-        memset(device, below(2) ? 0xff : 0, (size_t)block * count);
-        configure(block, page, count);
-        if (lfs_format(&lfs, &config)) return 1;
-    } else if (load(words[2], block, page)) return 2;
-    keeps = (int)below(2);
-    if (lfs_mount(&lfs, &config)) return 1;
+    int makes = !strcmp(words[1], "make"), runs = !strcmp(words[1], "run"), lists = !strcmp(words[1], "list");
+    if (argc != (lists ? 5 : makes ? 8 : 7)) return 2;
+    uint32_t count = makes || runs ? (uint32_t)atol(words[5]) : 0;
+    int32_t cycles = lists ? -1 : (int32_t)atol(words[makes || runs ? 6 : 5]);
+    state = runs || lists ? 0 : (uint64_t)atoll(words[argc - 1]);
+    if (count ? begin(block, page, count, cycles, below(2) ? 0xff : 0) : load(words[2], block, page, cycles)) return 2;
+    if (!lists && !runs) keeps = (int)below(2);
+    int err = lfs_mount(&lfs, &config);
+    if (lists && !err) err = show("/");
+    if (lists && err) printf("error %d\n", err);
+    if (lists || err) return err ? 1 : 0;
+    if (runs) return run();
+    if (makes) fill();
     if (below(2)) left = (long)below(below(2) ? 60 : 600);
     operate_often();
     if (left != -2) lfs_unmount(&lfs);

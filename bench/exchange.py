@@ -1,28 +1,34 @@
 #!/usr/bin/env python3
-"""Images exchanged with littlefs's own code: what it writes is read by sessions, and what sessions write by it.
+"""Images exchanged with littlefs's own code: what it writes is read here, and what is written here is read by it.
 
-usage: exchange.py LITTLEFS PROGRAM [--count N] [--seed WORD] [--keep FOLDER]
+usage: exchange.py LITTLEFS [SCRIPT TOOL] [--count N] [--operations N] [--seed WORD] [--only GROUP] [--keep FOLDER]
 
 LITTLEFS is the folder of littlefs's own code with version 2.7 or later, which can write images of version 2.0: a checkout of it, or
-`lib/littlefs` of Debian's source package micropython. PROGRAM is a built lfs_script. There are N images of each kind:
+`lib/littlefs` of Debian's source package micropython. SCRIPT is a built lfs_script, TOOL a built mklittlefs. There are N images of
+each kind, but for long use, whose images are those of N operations each:
 
-- made by littlefs, with files, directories and attributes that come, change, move and go at random; some end in a loss of power
-  in the middle of an operation;
-- made by a session, at random as well;
-- made by a session whose device stops in the middle of an operation;
-- one of each of these kinds that littlefs changed after it, which first ends what a stop left half done.
+- by littlefs, by sessions, by sessions whose device stopped: files, directories and attributes that come, change, move and go at
+  random; some of littlefs's end in a loss of power;
+- names by littlefs, by the tool (`-c`), by sessions: directories whose names are beginnings of one another, over several pairs;
+- each of these that littlefs changed after it (which first ends what a stop left half done), or that a session changed;
+- long use: a logger in the root, and mixed operations, with a `block_cycles` of 3, 20, 100 and 500; an image at each unmount, some
+  that a loss of power cut after it, and these when littlefs had gone on with them;
+- version 2.1: images written here that littlefs in its default version then wrote to.
 
-Each is shown by littlefs, and a session over it has to list the same entries, with the same bytes and attributes. Last come N images
-by littlefs with names of which one may be the beginning of another. littlefs puts the longer one in front there, so an image that has
-two such names in one directory isn't accepted (docs/USING.md); the others are compared as above.
+Each is shown by littlefs, and compared with the plain tree that the operations make, where that is known. A session, the tool and the
+plain reader (image_reader.py) have to show the same. An image of version 2.1 has to be refused, and one that wasn't written yet is
+listed as it was. Without SCRIPT and TOOL the reader alone is tried, on images by littlefs. GROUP is random, names, long or version:
+the kinds of one line above.
 
-Prints how many of each kind there were. Fails where anything differs; the image is then left in FOLDER.
+Prints a table: how many images and entries there were; images refused here, with the cause; names that littlefs lists and doesn't find,
+or that it doesn't list; names that it lists twice; older trees that were listed here; and other differences. Cut images of a
+`block_cycles` up to 25 in which a directory is half moved may be refused, and are counted apart. Fails where anything else is above
+0; the image is then left in FOLDER.
 """
 
 import argparse
 import collections
 import os
-import random
 import re
 import shutil
 import subprocess
@@ -30,48 +36,22 @@ import sys
 import tempfile
 import zlib
 
-from session_model import bytes_of, word
+import exchange_kinds
+import image_reader
+import littlefs_code
+from exchange_operations import answers_of
+from session_model import word
 
-GEOMETRIES = [(1024, 16, 40), (1024, 128, 64), (1536, 64, 32), (2048, 64, 128), (4096, 256, 64), (4096, 512, 32)]
+VERSION = "0x00020000"
 BATCH = 20
-here = os.path.dirname(os.path.abspath(__file__))
+COLUMNS = ["images", "entries", "refused", "half moved", "not found", "twice", "older trees", "differences"]
+CORRUPT = "Corrupt"
 
 
-def build(littlefs, room):
-    """exchange.c with littlefs's code, whose names may begin with lfs2, as MicroPython has them."""
-    prefix = "lfs2" if os.path.exists(f"{littlefs}/lfs2.c") else "lfs"
-    with open(f"{here}/exchange.c") as it:
-        names = set(re.findall(r"\b(?:lfs|LFS)_\w+", it.read()))
-    renamed = [f"-D{name}={name.replace('lfs', 'lfs2', 1).replace('LFS', 'LFS2', 1)}" for name in sorted(names)] if prefix == "lfs2" else []
-    switches = [f"-D{prefix.upper()}_{it}" for it in ("MULTIVERSION", "NO_DEBUG", "NO_WARN", "NO_ERROR")]
-    sources = [f"{here}/exchange.c", f"{littlefs}/{prefix}.c", f"{littlefs}/{prefix}_util.c"]
-    subprocess.run(["gcc", "-O1", f'-DHEADER="{prefix}.h"', *switches, f"-I{littlefs}", *renamed, "-o", f"{room}/exchange", *sources], check=True)
-    return f"{room}/exchange"
-
-
-class Kind:
-    """Images of a kind: how many there were, and what came of them."""
-
-    def __init__(self, name):
-        self.name, self.images, self.told = name, [], collections.Counter()
-
-
-def shown(exchange, image, geometry):
-    """The tree that littlefs finds: for each path a file's size and checksum, or None, and the attributes."""
-    run = subprocess.run([exchange, "list", image, *map(str, geometry[:2])], stdout=subprocess.PIPE, text=True)
-    if run.returncode:
-        return None
-    tree = {b"": (None, {})}
-    for line in run.stdout.splitlines():
-        words = line.split()
-        content = (int(words[1]), int(words[2], 16)) if words[0] == "f" else None
-        path, *attributes = words[3:] if words[0] == "f" else words[1:]
-        tree[bytes.fromhex(path)] = content, {int(kind): bytes.fromhex(value) for kind, _, value in (it.partition(":") for it in attributes)}
-    return tree
+# What is asked of a session over an image, and what it answers
 
 
 def questions(tree):
-    """What is asked of a session over the image."""
     for path, (content, attributes) in tree.items():
         if content is None:
             yield f"list {word(path) if path else '/'}", ("list", path)
@@ -86,7 +66,7 @@ def decoded(text):
 
 
 def is_told(tree, asked, answer):
-    """Whether a session answers what littlefs shows."""
+    """Whether a session answers what the tree has."""
     what = asked[0]
     if what == "list":
         beneath = sorted((path[len(asked[1]) + 1 :], node[0]) for path, node in tree.items() if path and path.rpartition(b"/")[0] == asked[1])
@@ -100,121 +80,194 @@ def is_told(tree, asked, answer):
     return answer == ("fd 0" if what == "open" else "done")
 
 
-def carried_out(program, lines):
-    run = subprocess.run([program], input=("\n".join(lines) + "\n").encode(), stdout=subprocess.PIPE, check=True)
-    return run.stdout.decode().split("\n")
+def lines(tree):
+    """What a listing of the tree has to print: depth first, the names of a directory by their bytes."""
+    shown = image_reader.escaped
+    paths = sorted((path for path in tree if path), key=lambda path: path.split(b"/"))
+    return b"".join(b"f %d %s\n" % (tree[path][0][0], shown(path)) if tree[path][0] else b"d 0 %s\n" % shown(path) for path in paths)
+
+
+# The three that read an image here: each gives its listing, or the error's name
+
+
+def by_reader(image, geometry):
+    with open(image, "rb") as it:
+        try:
+            return image_reader.listing(it.read(), *geometry[:2])
+        except image_reader.Refused as refused:
+            return str(refused)
+
+
+def by_tool(options, image, geometry):
+    run = subprocess.run([options.tool, "-l", "-b", str(geometry[0]), "-p", str(geometry[1]), image], capture_output=True)
+    return run.stdout if run.returncode == 0 else run.stderr.decode().partition("error: ")[2].partition(" (")[0]
+
+
+def by_session(tree, asked, answers):
+    """The tree's lines where all that was asked is told, the error's name where the image isn't mounted, or the wrong answer."""
+    if answers[0] != "done":
+        return answers[0].split(" ")[1]
+    wrong = [line for (line, question), answer in zip(asked, answers[1:]) if not is_told(tree, question, answer)]
+    return f"another answer to {wrong[0][:100]}" if wrong else lines(tree)
+
+
+def read_here(options, case, tree, asked, told):
+    answers = {"the plain reader": by_reader(case.image, case.geometry)}
+    if options.script:
+        answers |= {"the tool": by_tool(options, case.image, case.geometry), "a session": by_session(tree, asked, told)}
+    return answers
+
+
+def cause(image, geometry, tree):
+    """Why an image may be refused here, as far as it can be told from its bytes."""
+    with open(image, "rb") as it:
+        data = it.read()
+    try:
+        pairs = image_reader.read_thread([data[at : at + geometry[0]] for at in range(0, len(data), geometry[0])])
+    except image_reader.Refused:
+        return "no thread"
+    if is_half_moved(pairs):
+        return "half moved"
+    if not pairs[0].slots:
+        return "no slot in the first pair"
+    return "names" if has_beginnings(tree) else "other"
+
+
+def is_half_moved(pairs):
+    """Whether a directory's pointer has one block of a pair of the thread, and not the other."""
+    pointers = [set(image_reader.words(slot.struct[1])) for pair in pairs for slot in pair.slots if slot.struct[0] == image_reader.PAIR_STRUCT]
+    return any(len(pointer & set(pair.address)) == 1 for pointer in pointers for pair in pairs)
 
 
 def has_beginnings(tree):
     """Whether in some directory one name is the beginning of another."""
-    return any(path and other != path and other.startswith(path) and b"/" not in other[len(path) :] for path in tree for other in tree)
+    names = collections.defaultdict(list)
+    for path in filter(None, tree):
+        names[path.rpartition(b"/")[0]].append(path.rpartition(b"/")[2])
+    return any(b.startswith(a) for below in names.values() for a, b in zip(sorted(below), sorted(below)[1:]))
 
 
-def compare(options, kind):
-    """Whether a session over each image finds what littlefs does."""
-    for at in range(0, len(kind.images), BATCH):
-        lines, stories = [], []
-        for image, geometry in kind.images[at : at + BATCH]:
-            tree = shown(options.exchange, image, geometry)
-            asked = list(questions(tree)) if tree else []
-            stories.append((image, tree, asked))
-            lines += [f"image {geometry[0]} {geometry[1]} {image}"] + [line for line, _ in asked]
-        answers, place = carried_out(options.program, lines), 0
-        for image, tree, asked in stories:
-            told, place = answers[place : place + 1 + len(asked)], place + 1 + len(asked)
-            if tree is None:
-                what = "DIFFERENCE: littlefs does not show it"
-            elif told[0] != "done":
-                what = "not accepted, by its names" if has_beginnings(tree) else f"DIFFERENCE: {told[0]}"
-            else:
-                wrong = [line for (line, question), answer in zip(asked, told[1:]) if not is_told(tree, question, answer)]
-                what = f"DIFFERENCE: {wrong[0][:200]}" if wrong else "the same"
-                kind.told["entries"] += len(tree) - 1
-            kind.told[what] += 1
-            if what.startswith("DIFFERENCE"):
-                shutil.copy(image, options.keep)
+# Comparing
 
 
-def make_by_littlefs(options, kind, names, room):
-    for number in range(options.count):
-        seed, geometry = f"{options.seed}/{kind.name}/{number}", random.Random(f"{options.seed}/{kind.name}/{number}").choice(GEOMETRIES)
-        image = f"{room}/{kind.name.replace(' ', '_')}_{number}.img"
-        subprocess.run([options.exchange, "make", image, *map(str, geometry), str(zlib.crc32(seed.encode())), names], check=True)
-        kind.images.append((image, geometry))
+class Table:
+    """What came of the images of each kind."""
 
+    def __init__(self, options):
+        self.options, self.rows, self.causes, self.told = options, {}, {}, collections.Counter()
 
-def change_by_littlefs(options, kind, others):
-    for image, geometry in others:
-        changed = image.replace(".img", "_changed.img")
-        shutil.copy(image, changed)
-        subprocess.run([options.exchange, "change", changed, *map(str, geometry[:2]), str(zlib.crc32(image.encode())), "apart"], check=True)
-        kind.images.append((changed, geometry))
+    def count(self, kind, column, number=1):
+        self.rows.setdefault(kind, collections.Counter())[column] += number
 
+    def fault(self, case, column, what):
+        """Something that may not be: the first few of a kind are told, and the images left."""
+        self.count(case.kind, column)
+        self.told[case.kind, column] += 1
+        if self.told[case.kind, column] <= 2:
+            print(f"{case.kind}: {column}: {what} ({os.path.basename(case.image)})", file=sys.stderr)
+            shutil.copy(case.image, self.options.keep)
 
-def some_session(rnd, geometry):
-    """Operations of a session that makes an image."""
-    folders = [""]
-    some_path = lambda: f"{rnd.choice(folders)}/{''.join(rnd.choices('abcdef', k=rnd.choice([1, 2, 2, 2, 30])))}~"
-    for _ in range(rnd.randrange(120)):
-        kind = rnd.randrange(10)
-        if kind == 0 and len(folders) < 8:
-            folders.append(some_path())
-            yield f"mkdir {folders[-1]}"
-        elif kind < 6:
-            yield f"open {some_path()} {rnd.choice(['102', '502', '902', '2'])}"
-            for _ in range(rnd.randrange(3)):
-                size = rnd.choice([1, rnd.randrange(1, 200), rnd.randrange(1, 4 * geometry[0])])
-                yield from [f"seek 0 {rnd.randrange(2 * size)}"] * rnd.randrange(2) + [f"write 0 *{size}:{rnd.choice('vwxyz')}"]
-            yield from [f"truncate 0 {rnd.randrange(3000)}"] * rnd.randrange(2) + ["close 0"]
-        elif kind == 6:
-            yield f"remove {some_path()}"
-        elif kind == 7:
-            yield f"rename {some_path()} {some_path()}"
-        elif kind == 8:
-            yield f"set-attr {some_path()} {rnd.randrange(4)} *{rnd.randrange(1, 60)}:q"
+    def refused(self, case, tree, who, count):
+        why = cause(case.image, case.geometry, tree)
+        if why == "half moved" and case.cut and 0 < case.cycles <= 25 and len(who) == count:
+            self.count(case.kind, "half moved")
         else:
-            yield f"remove-attr {some_path()} {rnd.randrange(4)}"
+            self.fault(case, "refused", f"{why}, by {' and '.join(who)}")
+            self.causes.setdefault(case.kind, collections.Counter())[why] += 1
+
+    def show(self):
+        width = max(map(len, self.rows))
+        print(" " * width + "".join(f"{column:>13}" for column in COLUMNS))
+        for kind, row in self.rows.items():
+            causes = ", ".join(f"{why}: {count}" for why, count in self.causes.get(kind, {}).items())
+            print(f"{kind:{width}}" + "".join(f"{row[column]:13}" for column in COLUMNS) + (f"  refused: {causes}" if causes else ""))
+
+    def failed(self):
+        return any(row[column] for row in self.rows.values() for column in COLUMNS[2:] if column != "half moved")
 
 
-def make_by_sessions(options, kind, stops, room):
-    lines = []
-    for number in range(options.count):
-        rnd = random.Random(f"{options.seed}/{kind.name}/{number}")
-        geometry = rnd.choice(GEOMETRIES)
-        image = f"{room}/{kind.name.replace(' ', '_')}_{number}.img"
-        lines += ["fresh %d %d %d" % geometry + rnd.choice(["", " keep"]), *some_session(rnd, geometry)]
-        if stops:
-            stop = rnd.choice(["program", "erase"]), 1 + rnd.randrange(60), rnd.choice(["", " torn 1", f" torn {rnd.randrange(2000)}", " whole"])
-            lines += ["mount %s %d stop%s" % stop, *some_session(rnd, geometry)]
-        lines += ["unmount", f"save {image}"]
-        kind.images.append((image, geometry))
-        if number % BATCH == BATCH - 1 or number == options.count - 1:
-            carried_out(options.program, lines)
-            lines = []
+def compare(options, table, cases):
+    """Counts what littlefs and the readers here make of each image."""
+    for at in range(0, len(cases), BATCH):
+        script, stories = [], []
+        for case in cases[at : at + BATCH]:
+            shown = littlefs_code.shown(options.newest if case.newer else options.code, case.image, case.geometry)
+            tree = case.tree or (shown.tree if shown else None)
+            asked = list(questions(tree)) if tree else []
+            stories.append((case, shown, tree, asked))
+            script += [f"image {case.geometry[0]} {case.geometry[1]} {case.image}"] + [line for line, _ in asked]
+        answers, place = answers_of(options.script, script) if options.script else [], 0
+        for case, shown, tree, asked in stories:
+            told, place = answers[place : place + 1 + len(asked)], place + 1 + len(asked)
+            table.count(case.kind, "images")
+            if tree is None:
+                table.fault(case, "differences", "littlefs does not show it")
+                continue
+            table.count(case.kind, "entries", len(tree) - 1)
+            judge_littlefs(table, case, shown, tree)
+            judge_readers(table, case, tree, read_here(options, case, tree, asked, told))
+
+
+def judge_littlefs(table, case, shown, tree):
+    """Whether littlefs shows the tree that it has to."""
+    if shown is None:
+        table.fault(case, "differences", "littlefs does not show it")
+        return
+    unlisted = set(tree) - set(shown.tree) - shown.missing
+    for path in sorted(shown.missing | unlisted | case.missing):
+        table.fault(case, "not found", path)
+    for path in sorted(shown.twice):
+        table.fault(case, "twice", path)
+    wrong = [path for path in shown.tree if path not in tree or shown.tree[path] != tree[path]]
+    for path in sorted(wrong) + case.wrong:
+        table.fault(case, "differences", f"littlefs shows another {path}")
+
+
+def judge_readers(table, case, tree, answers):
+    """Whether what was read here is the tree."""
+    refused = [who for who, answer in answers.items() if answer == CORRUPT]
+    others = [who for who, answer in answers.items() if answer not in (CORRUPT, lines(tree))]
+    if case.newer:
+        judge_newer(table, case, refused, others, len(answers))
+        return
+    if refused:
+        table.refused(case, tree, refused, len(answers))
+    if others:
+        table.fault(case, "differences", f"{' and '.join(others)}: {answers[others[0]][:200]}")
+
+
+def judge_newer(table, case, refused, others, count):
+    """The same where littlefs had the image in its default version. One that a loss of power cut may have either."""
+    if others:
+        table.fault(case, "older trees", f"by {' and '.join(others)}")
+    elif case.written and len(refused) < count:
+        table.fault(case, "differences", "version 2.1 is accepted")
+    elif not case.written and not case.cut and refused:
+        table.fault(case, "differences", f"refused as it was by {' and '.join(refused)}")
 
 
 def main():
     parser = argparse.ArgumentParser(description=__doc__.split("\n")[0])
     parser.add_argument("littlefs", type=os.path.abspath)
-    parser.add_argument("program", type=os.path.abspath)
+    parser.add_argument("script", nargs="?", type=os.path.abspath)
+    parser.add_argument("tool", nargs="?", type=os.path.abspath)
     parser.add_argument("--count", type=int, default=200)
+    parser.add_argument("--operations", type=int, default=10000)
     parser.add_argument("--seed", default="exchange")
+    parser.add_argument("--only", choices=exchange_kinds.GROUPS)
     parser.add_argument("--keep", type=os.path.abspath, default=".")
     options = parser.parse_args()
-    makers = ["by littlefs", "by sessions", "by stopped sessions"]
-    kinds = [Kind(name) for name in [*makers, *(f"{name} and changed" for name in makers), "by littlefs with any names"]]
-    with tempfile.TemporaryDirectory() as room:
-        options.exchange = build(options.littlefs, room)
-        make_by_littlefs(options, kinds[0], "apart", room)
-        make_by_sessions(options, kinds[1], False, room)
-        make_by_sessions(options, kinds[2], True, room)
-        for changed, made in zip(kinds[3:6], kinds[:3]):
-            change_by_littlefs(options, changed, made.images)
-        make_by_littlefs(options, kinds[6], "any", room)
-        for kind in kinds:
-            compare(options, kind)
-            print(f"{kind.name}: {len(kind.images)} images; " + "; ".join(f"{what}: {count}" for what, count in sorted(kind.told.items())), flush=True)
-    return any(what.startswith("DIFFERENCE") for kind in kinds for what in kind.told) or any(kind.told["not accepted, by its names"] for kind in kinds[:-1])
+    table = Table(options)
+    with tempfile.TemporaryDirectory() as options.room:
+        options.code = littlefs_code.build(options.littlefs, f"{options.room}/exchange", VERSION)
+        options.newest = littlefs_code.build(options.littlefs, f"{options.room}/exchange_newest")
+        for cases in exchange_kinds.all_cases(options):
+            compare(options, table, cases)
+            for case in cases:
+                os.unlink(case.image)
+    print(f"littlefs {littlefs_code.release(options.littlefs)}, {options.count} images of each kind, {options.operations} operations of long use")
+    table.show()
+    return table.failed()
 
 
 if __name__ == "__main__":

@@ -3,7 +3,7 @@
 An answer is the listing in bytes, or the error's name. Geometry is (block size, page).
 """
 
-from image_maker import Commit, Entry, Log, folder, inline, list_of, listed, move, numbers, simple_plan, superblock, tail
+from image_maker import MOVED_SUPERBLOCKS, Commit, Entry, Log, folder, inline, list_of, listed, move, numbers, simple_plan, superblock, tail
 
 NULL = 0xffffffff
 HEAD = superblock(4096, 16)
@@ -90,6 +90,7 @@ def logs():
     yield "an unknown type", after(Entry(0x003, 1, b"g")), "Corrupt"
     yield "a file with a directory's struct", after(name, Entry(0x200, 2, numbers(2, 3))), "Corrupt"
     yield "a directory with a list's struct", after(Entry(0x002, 2, b"g"), Entry(0x202, 2, numbers(2, 3))), "Corrupt"
+    yield "the superblock under another name", after(Entry(0x0ff, 0, b"LITTLEFS")), "Corrupt"
     yield "the superblock renamed", after(Entry(0x001, 0, b"littlefs")), "Corrupt"
     yield "a tail and a state with ids", after(Entry(0x600, 7, numbers(NULL, NULL)), Entry(0x7ff, 8, numbers(0x3ff, 0, 0))), b"f 0 /f\n"
     yield "another kind of checksum within", after(Entry(0x502, 0x3ff, bytes(4))), b"f 0 /f\n"
@@ -151,6 +152,96 @@ def plans():
     yield "a superblock alone, no second", chain(rest=[inline(b"a", b"hi")]), b"f 2 /a\n"
 
 
+def named(*names):
+    return [inline(name, b"") for name in names]
+
+
+def two_folders(first, second):
+    """Names of the root, beside a directory `d` with others."""
+    return plan([(0, 1), [HEAD, folder(b"d", 2, 3), *named(*first)], tail((2, 3))], [(2, 3), named(*second)])
+
+
+def orders():
+    """Names of which one is the beginning of another."""
+    long, short, lines = [b"log.old", b"log"], [b"log", b"log.old"], b"f 0 /log\nf 0 /log.old\n"
+    below = b"d 0 /d\nf 0 /d/log\nf 0 /d/log.old\n"
+    moved = move(SET_MOVE | 3 << 10, (0, 1))
+    yield "the longer name first", root(*named(*long)), lines
+    yield "the shorter name first", root(*named(*short)), lines
+    yield "the longer name first in two folders", two_folders(long, long), below + lines
+    yield "the shorter name first in two folders", two_folders(short, short), below + lines
+    yield "the longer name first, and then the shorter", two_folders(long, short), "Corrupt"
+    yield "the shorter name first, and then the longer", two_folders(short, long), "Corrupt"
+    yield "both orders in one folder", root(*named(b"a.b", b"a", b"log", b"log.old")), "Corrupt"
+    yield "the other order in no reached folder", plan(
+        [(0, 1), [HEAD, *named(*short)], tail((2, 3)), move(1 << 31)], [(2, 3), named(*long)]), lines
+    yield "the longer name first, over two pairs", plan(
+        [(0, 1), [HEAD, *named(b"log.old")], tail((2, 3), hard=True)], [(2, 3), named(b"log")]), lines
+    yield "the shorter name first, over two pairs, and a moved one", plan(
+        [(0, 1), [HEAD, *named(*short, b"log")], tail((2, 3), hard=True), moved], [(2, 3), named(b"log.older")]), lines + b"f 0 /log.older\n"
+    yield "the shorter name first, then the longer in the next pair", plan(
+        [(0, 1), [HEAD, *named(*short)], tail((2, 3), hard=True)], [(2, 3), named(b"log.o")]), "Corrupt"
+    yield "a moved name in neither order", plan([(0, 1), [HEAD, *named(*long, b"a")], moved]), lines
+    yield "three names, the longest first", root(*named(b"abc", b"ab", b"a")), b"f 0 /a\nf 0 /ab\nf 0 /abc\n"
+    yield "three names, the middle one first", root(*named(b"ab", b"a", b"abc")), "Corrupt"
+    yield "a longer name in front of others", root(*named(b"ab", b"a", b"b")), b"f 0 /a\nf 0 /ab\nf 0 /b\n"
+    yield "a beginning behind another name", root(*named(b"aa", b"ab", b"a")), b"f 0 /a\nf 0 /aa\nf 0 /ab\n"
+    yield "a beginning between two", root(*named(b"aa", b"a", b"ab")), "Corrupt"
+
+
+def forward(*entries, ident=0x3ff, length=8, told=None):
+    """A root with a file `f`, a forward checksum behind it, and then a commit of these entries and the file `g`."""
+    made = after(*entries, *inline(b"g", b"").entries(2))
+    made.blocks[0].commits[0].entries.append(Entry(0x5ff, ident, bytes(length), told))
+    return made
+
+
+def forward_first():
+    made = root()
+    made.blocks[0].commits[0].entries.insert(0, Entry(0x5ff, 0x3ff, bytes(8)))
+    return made
+
+
+def forward_checksums():
+    """An entry of version 2.1 means nothing; but the version of the superblock behind it counts."""
+    newer = Entry(0x201, 0, superblock(4096, 16, version=0x00020001).data)
+    both = b"f 0 /f\nf 0 /g\n"
+    for length in 0, 1, 4, 8, 12, 200, 1022:
+        yield f"a forward checksum of {length} bytes", forward(length=length), both
+        yield f"version 2.1 behind one of {length} bytes", forward(newer, length=length), "Corrupt"
+    yield "a forward checksum without data in the first commit", forward(length=0, told=0x3ff), "Corrupt"
+    yield "a forward checksum without data", after(Entry(0x5ff, 0x3ff, length=0x3ff), newer), b"f 0 /f\n"
+    yield "a forward checksum past the block", after(Entry(0x5ff, 0x3ff, bytes(8)), *[Entry(0x5ff, 0x3ff, bytes(1022))] * 4, newer), b"f 0 /f\n"
+    yield "a forward checksum of no slot's id", forward(ident=77), both
+    yield "a forward checksum first", forward_first(), "Corrupt"
+    yield "forward checksums alone", after(*[Entry(0x5ff, 0x3ff, bytes(8))] * 3), b"f 0 /f\n"
+    yield "another type of class 5", after(Entry(0x5fe, 0x3ff, bytes(8)), newer), b"f 0 /f\n"
+
+
+def fronts():
+    """Pairs without slots in front of the superblock."""
+    first, second, third = (0, 1), (2, 3), (4, 5)
+    on, behind, more = tail(second, hard=True), [second, [HEAD, HI]], tail(third, hard=True)
+    shown = b"f 2 /f\n" if MOVED_SUPERBLOCKS else "Corrupt"
+    late = plan([first, [], on], behind)
+    late.blocks[2].commits.insert(0, Commit([]))
+    yield "an empty pair in front", plan([first, [], on], behind), shown
+    yield "an empty pair in front, soft", plan([first, [], tail(second)], behind), "Corrupt"
+    yield "an empty pair alone", plan([first, []]), "Corrupt"
+    yield "an empty pair in front of files", plan([first, [], on], [second, [HI]]), "Corrupt"
+    yield "an empty pair in front, then a file before the superblock", plan([first, [], on], [second, [HI], more], [third, [HEAD]]), "Corrupt"
+    yield "two empty pairs in front", plan([first, [], on], [second, [], more], [third, [HEAD, HI]]), shown
+    yield "an empty pair, a superblock, another with files", plan([first, [], on], [second, [HEAD], more], [third, [HEAD, HI]]), shown
+    yield "a superblock, an empty pair, another with files", plan([first, [HEAD], on], [second, [], more], [third, [HEAD, HI]]), shown
+    yield "a superblock, an empty pair, files", plan([first, [HEAD], on], [second, [], more], [third, [HI]]), b"f 2 /f\n"
+    yield "two superblocks that differ behind an empty pair", plan(
+        [first, [], on], [second, [HEAD], more], [third, [superblock(4096, 16, names=32), HI]]), "Corrupt"
+    yield "a superblock behind an empty pair and an empty commit", late, "Corrupt"
+    yield "an empty pair in front, named as a directory", plan([first, [], on], [second, [HEAD, folder(b"d", 0, 1)]]), "Corrupt"
+    yield "an empty pair in front, a directory behind", plan(
+        [first, [], on], [second, [HEAD, folder(b"d", 4, 5)], tail(third)], [third, [HI]]), b"d 0 /d\nf 2 /d/f\n" if MOVED_SUPERBLOCKS else "Corrupt"
+
+
 def images():
     whole = shifting()
     fresh = plan([(0, 1), [HEAD]], revision=NULL).image()[:4096]
@@ -181,7 +272,7 @@ def geometries():
 
 
 def cases():
-    for what, made, answer in [*plans(), *logs()]:
+    for what, made, answer in [*plans(), *logs(), *orders(), *forward_checksums(), *fronts()]:
         yield what, made.image(), (4096, 256), answer
     for what, image, answer in images():
         yield what, image, (4096, 256), answer

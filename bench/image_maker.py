@@ -3,12 +3,15 @@
 A Plan says what each block holds: a Log of commits or plain bytes. `plan.image()` lays it out with right tags and checksums,
 so a plan that was changed gives an image that is wrong in that one thing. `random_plan(rnd)` makes a random tree and a plan
 of it: directories of several pairs, inline files and skip lists, logs with a history of deletes and renames, both blocks of
-a pair written, move states, pairs that nothing names, superblocks in a chain. It gives the tree's lines too.
+a pair written, move states, pairs that nothing names, superblocks in a chain, pairs without slots in front of them, either order
+of names, forward checksums. It gives the tree's lines too.
 """
 
 from dataclasses import dataclass, field
+import os
 import zlib
 
+MOVED_SUPERBLOCKS = os.environ.get("EMPTY_FRONT", "0") != "0"  # whether pairs without slots may stand in front of the superblock
 NULL = 0xffffffff
 REMOVED = 0x3ff
 GEOMETRIES = [(1024, 128, 64), (1024, 8, 96), (1024, 64, 200), (2048, 256, 40), (4096, 256, 16), (4096, 512, 48)]
@@ -17,6 +20,19 @@ LETTERS = b"abcxyz._- ~\x01\x0a\x5c\x7f\xc3\xff"
 
 class NoRoom(Exception):
     pass
+
+
+def by_shorter(name):
+    """Sorts names by their bytes, a beginning before what begins with it."""
+    return name
+
+
+def by_longer(name):
+    """Sorts names as littlefs does: a beginning behind what begins with it."""
+    return [*name, 256]
+
+
+ORDERS = [by_shorter, by_longer]
 
 
 @dataclass
@@ -81,8 +97,8 @@ def put_tag(out, previous, kind, ident, length):
     return tag
 
 
-def superblock(block_size, count, names=255):
-    fields = numbers(0x00020000, block_size, count, names, 2147483647, 1022)
+def superblock(block_size, count, names=255, version=0x00020000):
+    fields = numbers(version, block_size, count, names, 2147483647, 1022)
     return Slot(0x0ff, b"littlefs", 0x201, fields)
 
 
@@ -162,10 +178,13 @@ def random_name(rnd):
 def random_tree(rnd, depth=0):
     tree = {}
     for _ in range(rnd.choice([0, 1, 2, 4, 8, 12])):
+        name = random_name(rnd)
+        if tree and rnd.random() < 0.2:  # one that begins with another
+            name = (rnd.choice(list(tree)) + name)[:255]
         if rnd.random() < 0.3 and depth < 4:
-            tree[random_name(rnd)] = random_tree(rnd, depth + 1)
+            tree[name] = random_tree(rnd, depth + 1)
         else:
-            tree[random_name(rnd)] = rnd.randbytes(rnd.choice([0, 1, 5, 40, 300, rnd.randint(0, 6000)]))
+            tree[name] = rnd.randbytes(rnd.choice([0, 1, 5, 40, 300, rnd.randint(0, 6000)]))
     return tree
 
 
@@ -186,8 +205,8 @@ class Directory:
 
 
 class Layout:
-    def __init__(self, rnd, geometry):
-        self.rnd, self.plan = rnd, Plan(*geometry)
+    def __init__(self, rnd, geometry, order):
+        self.rnd, self.plan, self.order = rnd, Plan(*geometry), order
         self.free = list(range(2, self.plan.count))
         rnd.shuffle(self.free)
         self.directories, self.unreached, self.root = [], False, 0
@@ -214,8 +233,8 @@ class Layout:
 
     def add(self, tree, first=None, reached=True):
         """A directory and all below it; gives its first pair's address."""
-        slots = []
-        for name, node in sorted(tree.items()):
+        slots, order = [], self.order or self.rnd.choice(ORDERS)
+        for name, node in sorted(tree.items(), key=lambda item: order(item[0])):
             if isinstance(node, dict):
                 slots.append(folder(name, *self.rnd.sample(self.add(node, None, reached), 2)))
             else:
@@ -238,6 +257,7 @@ class Layout:
         """All pairs in the thread's order: (address, slots, whether the tail to the next is hard)."""
         rnd, plan = self.rnd, self.plan
         chain = [(0, 1)] + [tuple(self.take(2)) for _ in range(rnd.choice([0, 0, 0, 0, 1, 3]))]
+        empty = [MOVED_SUPERBLOCKS and rnd.random() < 0.5 for _ in chain[:-1]] + [False]
         self.add(tree, chain[-1])
         root = self.directories.pop()
         self.root = len(chain) - 1
@@ -249,8 +269,9 @@ class Layout:
         for directory in [root] + self.directories:
             hard = [True] * (len(directory.slots) - 1) + [False]
             pairs += zip(directory.addresses, directory.slots, hard)
-        for _, slots, _ in pairs[: len(chain)]:
-            slots.insert(0, superblock(plan.block_size, plan.count))
+        for (_, slots, _), without in zip(pairs, empty):
+            if not without:
+                slots.insert(0, superblock(plan.block_size, plan.count))
         return pairs
 
 
@@ -316,9 +337,16 @@ def drop_passing(present):
     return [Entry(0x4ff, at) for at in gone]
 
 
+def forward_checksum(rnd):
+    """An entry of version 2.1, of any length; it means nothing."""
+    return Entry(0x5ff, rnd.choice([0, 1, 0x3ff]), rnd.randbytes(rnd.choice([0, 4, 8, 8, 8, rnd.randrange(60)])))
+
+
 def commits_of(rnd, entries):
-    commits = [Commit([])]
+    commits, forward = [Commit([])], rnd.random() < 0.1
     for at, entry in enumerate(entries):
+        if at and forward and rnd.random() < 0.2:
+            commits[-1].entries.append(forward_checksum(rnd))
         if at and rnd.random() < 0.15:
             commits[-1].kind = rnd.choice([0x500, 0x500, 0x501])
             commits[-1].length = rnd.choice([None, None, rnd.randint(4, 40)])
@@ -355,17 +383,18 @@ def put_pair(rnd, plan, address, log):
         plan.blocks[other] = Log(log.revision - rnd.choice(behind) & NULL, old + log.commits[: rnd.randint(0, 1)])
 
 
-def random_plan(rnd, geometry=None, tree=None):
-    """A plan of a random tree, and the lines of the tree."""
+def random_plan(rnd, geometry=None, tree=None, mixed=False):
+    """A plan of a random tree and the tree's lines. The names are in one of the two orders, or in either in each directory."""
     while True:
         try:
-            return plan_of(rnd, geometry or rnd.choice(GEOMETRIES), random_tree(rnd) if tree is None else tree)
+            order = None if mixed else rnd.choice(ORDERS)
+            return plan_of(rnd, geometry or rnd.choice(GEOMETRIES), random_tree(rnd) if tree is None else tree, order)
         except NoRoom:
             continue
 
 
-def plan_of(rnd, geometry, tree):
-    layout = Layout(rnd, geometry)
+def plan_of(rnd, geometry, tree, order):
+    layout = Layout(rnd, geometry, order)
     pairs = layout.thread(tree)
     state = random_state(rnd, pairs[layout.root :], layout.unreached or rnd.random() < 0.1)
     states = spread(rnd, state, len(pairs))

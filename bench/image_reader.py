@@ -4,14 +4,21 @@
 Refused: `Invalid` for a length or geometry outside the limits, `Corrupt` for bytes that
 hold no accepted image. Each log is folded forward from its start and each list walked
 block by block; nothing is kept or searched. docs/FORMAT.md tells the format and its rules.
+
+MOVED_SUPERBLOCKS says whether pairs without slots may stand in front of the superblock, as
+littlefs leaves them where the first pair has worn. The crates don't accept such images yet;
+EMPTY_FRONT=1 in the environment turns it on.
 """
 
 from dataclasses import dataclass
+import os
 import zlib
 
+MOVED_SUPERBLOCKS = os.environ.get("EMPTY_FRONT", "0") != "0"
 FILE, FOLDER, SUPERBLOCK = 0x001, 0x002, 0x0ff
 PAIR_STRUCT, INLINE, LIST = 0x200, 0x201, 0x202
 CREATE, DELETE, SET_MOVE = 0x401, 0x4ff, 0x4ff
+FORWARD_CHECKSUM = 0x5ff  # of version 2.1: an entry without meaning
 NONE = 0x3ff  # as an id: no slot; as a length: removed
 NULL = 0xffffffff
 FIXED = {SUPERBLOCK: 8, PAIR_STRUCT: 8, LIST: 8, CREATE: 0, DELETE: 0, 0x600: 8, 0x601: 8, 0x7ff: 12}
@@ -67,7 +74,7 @@ def read_log(block):
         if tag >> 31 or end > len(block):
             break
         pending.append((kind, ident, length, block[at:end]))
-        if kind >> 8 != 5:
+        if kind >> 8 != 5 or kind == FORWARD_CHECKSUM and length != NONE:
             at, previous = end, tag
             continue
         if kind > 0x501 or not 4 <= length < NONE or word(block, at) != zlib.crc32(block[start:at]) ^ NULL:
@@ -168,6 +175,18 @@ def list_blocks(blocks, head, size):
 # The rules of an accepted image
 
 
+def shorter_first(one, other):
+    """Whether a name comes before another, where a beginning comes before what begins with it."""
+    return one < other
+
+
+def longer_first(one, other):
+    """The same where a beginning comes behind, as littlefs has it."""
+    if one.startswith(other) or other.startswith(one):
+        return len(one) > len(other)
+    return one < other
+
+
 class Image:
     """The thread of an image, which of its pairs begins the root, and what the move names."""
 
@@ -175,6 +194,7 @@ class Image:
         self.blocks = blocks
         self.pairs = read_thread(blocks)
         self.root = self.last_superblock()
+        self.rising = {shorter_first, longer_first}  # the orders in which all names seen so far rise
         self.moved = None  # (index of the pair, id)
         state = bytes(12)
         for pair in self.pairs:
@@ -183,15 +203,18 @@ class Image:
         self.check_move(word(state) >> 20 & 0x7ff, word(state) >> 10 & 0x3ff, words(state[4:]))
 
     def last_superblock(self):
-        """Superblocks may stand alone in their pairs, each with a hard tail to the next one."""
-        root = 0
-        while root + 1 < len(self.pairs):
-            pair, following = self.pairs[root], self.pairs[root + 1]
-            if len(pair.slots) != 1 or not pair.tail[0]:
+        """Superblocks may stand alone in their pairs, each with a hard tail to the next one. A pair in front may have no slot at all."""
+        root, index = 0, 0
+        while index < len(self.pairs):
+            slots, hard = self.pairs[index].slots, self.pairs[index].tail[0]
+            headed = bool(slots) and slots[0].kind == SUPERBLOCK
+            if headed:
+                root = index
+            elif slots or not MOVED_SUPERBLOCKS:
                 break
-            if not following.slots or following.slots[0].kind != SUPERBLOCK:
+            if len(slots) > 1 or not hard:
                 break
-            root += 1
+            index += 1
         return root
 
     def check_move(self, kind, ident, address):
@@ -206,14 +229,15 @@ class Image:
         self.moved = (index, ident)
 
     def check_superblocks(self, block_size):
-        accept(self.pairs[0].slots and self.pairs[0].first == (SUPERBLOCK, 0, 8, b"littlefs"))
-        fields = self.pairs[0].slots[0].struct[1]
+        chain = [pair for pair in self.pairs[: self.root + 1] if pair.slots]
+        accept(chain and chain[0].first == (SUPERBLOCK, 0, 8, b"littlefs") and chain[0].slots[0].name == b"littlefs")
+        fields = chain[0].slots[0].struct[1]
         accept(len(fields) == 24 and words(fields)[:3] == (0x00020000, block_size, len(self.blocks)))
+        for pair in chain:
+            accept(pair.slots[0].kind == SUPERBLOCK and pair.slots[0].struct == (INLINE, fields))
         for index, pair in enumerate(self.pairs):
-            for ident, slot in enumerate(pair.slots):
-                accept((slot.kind == SUPERBLOCK) == (ident == 0 and index <= self.root))
-            if index <= self.root:
-                accept(pair.slots[0].struct == (INLINE, fields))
+            others = pair.slots[1:] if index <= self.root else pair.slots
+            accept(all(slot.kind != SUPERBLOCK for slot in others))
 
     def check_slots(self):
         structs = {FILE: (INLINE, LIST), FOLDER: (PAIR_STRUCT,)}
@@ -265,8 +289,10 @@ class Image:
             if not self.pairs[index].tail[0] or index + 1 == len(self.pairs):
                 break
             index += 1
-        accept(all(a.name < b.name for a, b in zip(entries, entries[1:])))
-        return [(path + b"/" + slot.name, slot) for slot in reversed(entries)]
+        names = [slot.name for slot in entries]
+        self.rising = {order for order in self.rising if all(order(a, b) for a, b in zip(names, names[1:]))}
+        accept(self.rising)
+        return [(path + b"/" + slot.name, slot) for slot in sorted(entries, key=lambda slot: slot.name, reverse=True)]
 
 
 def escaped(path):

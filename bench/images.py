@@ -24,7 +24,7 @@ import image_maker
 import image_reader
 from image_maker import NULL, REMOVED, Commit, Entry, Log, numbers
 
-KINDS = [0x001, 0x002, 0x0ff, 0x200, 0x201, 0x202, 0x300, 0x3ff, 0x401, 0x4ff, 0x500, 0x501, 0x502, 0x600, 0x601, 0x7ff, 0x003, 0x203, 0x400, 0x602, 0x700]
+KINDS = [0x001, 0x002, 0x0ff, 0x200, 0x201, 0x202, 0x300, 0x3ff, 0x401, 0x4ff, 0x500, 0x501, 0x502, 0x5ff, 0x600, 0x601, 0x7ff, 0x003, 0x203, 0x400, 0x602, 0x700]
 NUMBERS = [("Corrupt", 84), ("Invalid", 22)]
 
 
@@ -203,14 +203,17 @@ def rubbish(rnd, plan):
 
 WHOLE = "made"
 RAW = [flipped, flipped, flipped, resized, rubbish]
-MADE = [WHOLE, WHOLE] + PLANNED + PLANNED + RAW
+MIXED = "orders"  # a tree whose directories may have different orders of names
+MADE = [WHOLE, WHOLE, MIXED] + PLANNED + PLANNED + RAW
 
 
 def made_image(seed, number):
     """Kind, image, geometry, and what it has to list where that is known."""
-    rnd = random.Random(f"{seed}/{number}")
-    plan, lines = image_maker.random_plan(rnd)
-    geometry, how = (plan.block_size, plan.page), MADE[number % len(MADE)]
+    rnd, how = random.Random(f"{seed}/{number}"), MADE[number % len(MADE)]
+    plan, lines = image_maker.random_plan(rnd, mixed=how == MIXED)
+    geometry = (plan.block_size, plan.page)
+    if how == MIXED:
+        return how, plan.image(), geometry, None
     if how == WHOLE:
         return how, plan.image(), geometry, lines
     if how in RAW:

@@ -1,0 +1,309 @@
+"""The images that exchange.py compares: `all_cases(options)` makes them, and yields them a list at a time."""
+
+from dataclasses import dataclass, field
+import os
+import random
+import shutil
+import subprocess
+import zlib
+
+from exchange_operations import a_few, answers_of, beside_a_log, carry_out, logging, mixed, scripted, some_changes, some_tree, told
+from littlefs_code import NOT_FOUND, Driver, shown, summed
+
+GEOMETRIES = [(1024, 16, 64), (1024, 128, 64), (1536, 64, 48), (2048, 64, 128), (4096, 256, 64), (4096, 512, 48)]
+ROOMY = [(1024, 128, 256), (1024, 16, 256), (2048, 64, 128), (4096, 256, 64), (4096, 512, 64)]
+WORN = (4096, 256, 64)
+CYCLES = [3, 20, 100, 500]
+EVERY = 250  # operations from an unmount to the next
+GONE_ON = 6
+
+
+@dataclass
+class Case:
+    """An image, and what is known of it."""
+
+    kind: str
+    image: str
+    geometry: tuple
+    tree: dict = None  # what it has to show; None: what littlefs shows
+    plain: dict = None  # the same with the files' bytes
+    cycles: int = -1
+    cut: bool = False  # a loss of power may have cut an operation
+    newer: bool = False  # littlefs had it in its default version
+    written: bool = False  # and has written to it
+    missing: set = field(default_factory=set)  # paths that littlefs didn't find when it was to change them
+    wrong: list = field(default_factory=list)  # operations that it refused otherwise
+
+
+def known(kind, image, geometry, plain, **more):
+    return Case(kind, image, geometry, summed(plain), plain, **more)
+
+
+def all_cases(options):
+    """Lists of images; those of a list are there until the next one is asked for."""
+    for group, make in GROUPS.items():
+        if options.only in (None, group):
+            yield from make(options)
+
+
+# Any operations
+
+
+def at_random(options):
+    yield from with_changed(options, by_littlefs(options))
+    if not options.script:
+        return
+    yield from with_changed(options, by_sessions(options, "by sessions", False))
+    yield from with_changed(options, by_sessions(options, "by stopped sessions", True))
+
+
+def begin(options, kind, number, geometries):
+    """What the image of a kind and number begins with: its own random numbers, a geometry, and a file's name."""
+    rnd = random.Random(f"{options.seed}/{kind}/{number}")
+    return rnd, rnd.choice(geometries), f"{options.room}/{kind.replace(' ', '_').replace(',', '')}_{number}.img"
+
+
+def by_littlefs(options):
+    cases = []
+    for number in range(options.count):
+        rnd, geometry, image = begin(options, "by littlefs", number, GEOMETRIES)
+        cycles = rnd.choice([-1, -1, *CYCLES])
+        subprocess.run([options.code, "make", image, *map(str, geometry), str(cycles), str(rnd.getrandbits(32))], check=True)
+        cases.append(Case("by littlefs", image, geometry, cycles=cycles, cut=True))
+    return cases
+
+
+def with_changed(options, cases):
+    """The images, and then copies of them after littlefs changed them."""
+    changed = []
+    for case in cases:
+        image, seed = case.image.replace(".img", "_changed.img"), str(zlib.crc32(os.path.basename(case.image).encode()))
+        shutil.copy(case.image, image)
+        subprocess.run([options.code, "change", image, *map(str, case.geometry[:2]), str(case.cycles), seed], check=True)
+        changed.append(Case(f"{case.kind}, changed", image, case.geometry, cycles=case.cycles, cut=True))
+    yield cases
+    yield changed
+
+
+def some_session(rnd, geometry):
+    """Operations of a session that makes an image."""
+    folders = [""]
+    some_path = lambda: f"{rnd.choice(folders)}/{''.join(rnd.choices('abcdef', k=rnd.choice([1, 2, 2, 2, 30])))}"
+    for _ in range(rnd.randrange(120)):
+        kind = rnd.randrange(10)
+        if kind == 0 and len(folders) < 8:
+            folders.append(some_path())
+            yield f"mkdir {folders[-1]}"
+        elif kind < 6:
+            yield f"open {some_path()} {rnd.choice(['102', '502', '902', '2'])}"
+            for _ in range(rnd.randrange(3)):
+                size = rnd.choice([1, rnd.randrange(1, 200), rnd.randrange(1, 4 * geometry[0])])
+                yield from [f"seek 0 {rnd.randrange(2 * size)}"] * rnd.randrange(2) + [f"write 0 *{size}:{rnd.choice('vwxyz')}"]
+            yield from [f"truncate 0 {rnd.randrange(3000)}"] * rnd.randrange(2) + ["close 0"]
+        elif kind == 6:
+            yield f"remove {some_path()}"
+        elif kind == 7:
+            yield f"rename {some_path()} {some_path()}"
+        elif kind == 8:
+            yield f"set-attr {some_path()} {rnd.randrange(4)} *{rnd.randrange(1, 60)}:q"
+        else:
+            yield f"remove-attr {some_path()} {rnd.randrange(4)}"
+
+
+def by_sessions(options, kind, stops):
+    cases = []
+    for number in range(options.count):
+        rnd, geometry, image = begin(options, kind, number, GEOMETRIES)
+        script = ["fresh %d %d %d" % geometry + rnd.choice(["", " keep"]), *some_session(rnd, geometry)]
+        if stops:
+            stop = rnd.choice(["program", "erase"]), 1 + rnd.randrange(60), rnd.choice(["", " torn 1", f" torn {rnd.randrange(2000)}", " whole"])
+            script += ["mount %s %d stop%s" % stop, *some_session(rnd, geometry)]
+        answers_of(options.script, [*script, "unmount", f"save {image}"])
+        cases.append(Case(kind, image, geometry))
+    return cases
+
+
+# Names of which one is the beginning of another
+
+
+def names(options):
+    for make in [names_by_littlefs, names_by_tool, names_by_sessions] if options.script else [names_by_littlefs]:
+        cases = [make(options, number) for number in range(options.count)]
+        by_session = [other for case in cases if options.script and (other := changed_by_session(options, case))]
+        later = [changed_by_littlefs(options, case, "then by littlefs") for case in by_session]
+        changed = [changed_by_littlefs(options, case, "changed by littlefs") for case in cases]
+        yield from [cases, changed, by_session, later]
+
+
+def names_by_littlefs(options, number):
+    rnd, geometry, image = begin(options, "names by littlefs", number, ROOMY)
+    case, plain = known("names by littlefs", image, geometry, {}), {b"": None}
+    driver = Driver(options.code, image, geometry, fresh=True)
+    for operation in some_tree(rnd, geometry[0]):
+        tell(driver, case, operation, plain)
+    driver.end(image)
+    case.plain, case.tree = plain, summed(plain)
+    return case
+
+
+def tell(driver, case, operation, plain):
+    """Has littlefs carry out an operation, and the plain tree with it."""
+    answer = driver.tell(told(operation))
+    if answer == NOT_FOUND:
+        case.missing.add(operation[1])
+    elif answer:
+        case.wrong.append(f"{operation[:2]} is refused with {answer}")
+    carry_out(plain, operation)
+
+
+def names_by_tool(options, number):
+    """By `mklittlefs -c` of a folder."""
+    rnd, geometry, image = begin(options, "names by -c", number, ROOMY)
+    plain, folder = {b"": None}, f"{options.room}/folder"
+    for operation in some_tree(rnd, geometry[0]):
+        carry_out(plain, operation)
+    for path, node in plain.items():
+        if node is None:
+            os.mkdir(folder.encode() + path)
+        else:
+            with open(folder.encode() + path, "wb") as it:
+                it.write(node)
+    sizes = ["-b", str(geometry[0]), "-p", str(geometry[1]), "-s", str(geometry[0] * geometry[2])]
+    subprocess.run([options.tool, "-c", folder, *sizes, image], check=True)
+    shutil.rmtree(folder)
+    return known("names by -c", image, geometry, plain)
+
+
+def names_by_sessions(options, number):
+    rnd, geometry, image = begin(options, "names by sessions", number, ROOMY)
+    plain, script = {b"": None}, ["fresh %d %d %d" % geometry]
+    for operation in some_tree(rnd, geometry[0]):
+        carry_out(plain, operation)
+        script += scripted(operation)
+    answers = answers_of(options.script, [*script, "unmount", f"save {image}"])
+    return known("names by sessions", image, geometry, plain, wrong=refusals(answers))
+
+
+def refusals(answers):
+    return [f"a session answers {answer}" for answer in answers if answer.startswith(("refused", "error"))][:1]
+
+
+def changed_by_littlefs(options, case, how):
+    """A copy of the image after littlefs changed it: files written anew, added to, renamed onto others, removed, made."""
+    rnd, image = random.Random(case.image + how), case.image.replace(".img", f"_{how.replace(' ', '_')}.img")
+    shutil.copy(case.image, image)
+    plain, changed = dict(case.plain), known(f"{case.kind}, {how}", image, case.geometry, {})
+    driver = Driver(options.code, image, case.geometry)
+    for operation in some_changes(rnd, dict(plain), case.geometry[0]):
+        tell(driver, changed, operation, plain)
+    driver.end(image)
+    changed.plain, changed.tree = plain, summed(plain)
+    return changed
+
+
+def changed_by_session(options, case):
+    """A copy of the image after a session changed it, or none where it isn't mounted."""
+    rnd, image = random.Random(case.image), case.image.replace(".img", "_by_session.img")
+    plain, script = dict(case.plain), [f"image {case.geometry[0]} {case.geometry[1]} {case.image}"]
+    for operation in some_changes(rnd, plain, case.geometry[0]):
+        script += scripted(operation)
+    answers = answers_of(options.script, [*script, "unmount", f"save {image}"])
+    if answers[0] != "done":
+        return None
+    return known(f"{case.kind}, changed by a session", image, case.geometry, plain, wrong=refusals(answers))
+
+
+# Long use, with pairs that move as they wear
+
+
+def long_use(options):
+    for what, first, operate in ("a logger", beside_a_log, logging), ("mixed", a_few, mixed):
+        for cycles in CYCLES:
+            yield from history(options, what, first, operate, cycles)
+
+
+def history(options, what, first, operate, cycles):
+    """Images at each unmount, copies of them that were cut short behind it, and of these when littlefs had gone on."""
+    rnd, _, image = begin(options, f"long use, {what}", cycles, [WORN])
+    driver, plain = Driver(options.code, image, WORN, fresh=True, cycles=cycles), {b"": None}
+    case = Case(f"{what}, block_cycles {cycles}", image, WORN, cycles=cycles)
+    for operation in first(rnd):
+        tell(driver, case, operation, plain)
+    for number in range(options.operations):
+        tell(driver, case, operate(rnd, plain, WORN), plain)
+        if number % EVERY == EVERY - 1:
+            case.image = image.replace(".img", f"_{number}.img")
+            driver.tell(f"save {case.image}")
+            case.plain, case.tree = dict(plain), summed(plain)
+            yield [case, *cut_short(options, rnd, case, operate)]
+            case = Case(case.kind, image, WORN, cycles=cycles)
+    driver.end()
+
+
+def cut_short(options, rnd, case, operate):
+    """A copy of the image whose power went in the middle of an operation, and one more when littlefs had gone on with it."""
+    cut = Case(f"{case.kind}, cut", case.image.replace(".img", "_cut.img"), WORN, cycles=case.cycles, cut=True)
+    shutil.copy(case.image, cut.image)
+    driver, plain = Driver(options.code, cut.image, WORN, cycles=case.cycles), dict(case.plain)
+    driver.tell(f"cut {rnd.randrange(rnd.choice([10, 100]))}")
+    for _ in range(100):
+        before, operation = dict(plain), operate(rnd, plain, WORN)
+        if driver.tell(told(operation)):
+            break
+        carry_out(plain, operation)
+    driver.end(cut.image)
+    yield cut
+    standing = left_by(options, cut, before, operation)
+    if standing:
+        yield gone_on(options, rnd, cut, operate, standing)
+
+
+def left_by(options, cut, before, operation):
+    """Which plain tree an operation that was cut short left, if any of those that it may."""
+    after, begun, found = dict(before), dict(before), shown(options.code, cut.image, WORN)
+    carry_out(after, operation)
+    begun[operation[1]] = before.get(operation[1], b"")  # a new file, without its bytes yet
+    return next((plain for plain in (before, after, begun) if found and found.tree == summed(plain)), None)
+
+
+def gone_on(options, rnd, cut, operate, plain):
+    case = known(f"{cut.kind}, gone on", cut.image.replace("_cut.img", "_gone_on.img"), WORN, {}, cycles=cut.cycles)
+    shutil.copy(cut.image, case.image)
+    driver = Driver(options.code, case.image, WORN, cycles=cut.cycles)
+    for _ in range(GONE_ON):
+        tell(driver, case, operate(rnd, plain, WORN), plain)
+    driver.end(case.image)
+    case.plain, case.tree = plain, summed(plain)
+    return case
+
+
+# Version 2.1
+
+
+def version(options):
+    """Images made here, to which littlefs writes in its default version: nothing, an operation, or a few, the last perhaps cut short."""
+    cases = []
+    for number in range(options.count if options.script else 0):
+        made = (names_by_tool if number % 2 else names_by_sessions)(options, number)
+        rnd, image = random.Random(f"{options.seed}/version/{number}"), made.image.replace(".img", "_newer.img")
+        shutil.copy(made.image, image)
+        case = Case("version 2.1", image, made.geometry, newer=True, cut=number % 3 == 2)
+        driver, plain = Driver(options.newest, image, made.geometry), dict(made.plain)
+        if case.cut:
+            driver.tell(f"cut {rnd.randrange(12)}")
+        for operation in list(some_changes(rnd, plain, made.geometry[0]))[: [0, 1, 2, 5][number % 4]]:
+            driver.tell(told(operation))
+        driver.end(image)
+        case.written = not is_same(made.image, image) and not case.cut
+        case.kind += ", cut" if case.cut else ", written to" if case.written else ", mounted"
+        os.unlink(made.image)
+        cases.append(case)
+    yield cases
+
+
+def is_same(one, other):
+    with open(one, "rb") as it, open(other, "rb") as that:
+        return it.read() == that.read()
+
+
+GROUPS = {"random": at_random, "names": names, "long": long_use, "version": version}

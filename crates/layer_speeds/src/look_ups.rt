@@ -1,5 +1,6 @@
 // Look-ups in a block of 64 KiB that holds a thousand files, each created in front of the others.
 
+use lfs_device::NameOrder;
 use lfs_tag::kinds::{CREATE, FILE_NAME};
 use lfs_tag::{CommitBuilder, Content, Log, Lookup, Tag, find};
 use std::alloc::Global;
@@ -55,7 +56,12 @@ fn know_often(block: &[u8], rounds: u32) -> u64 {
 fn find_often(log: &Log<'_>, rounds: u32) -> u64 {
     let mut sum = 0u64;
     for round in 0..rounds {
-        sum = sum.wrapping_add(u64::from(shown(find(log, &name_of(round), None))));
+        sum = sum.wrapping_add(u64::from(shown(find(
+            log,
+            NameOrder::ShorterFirst,
+            &name_of(round),
+            None,
+        ))));
     }
     sum
 }
@@ -79,8 +85,8 @@ pub fn show(rt: &HostRuntime, rounds: u32) -> io::Result<()> {
     let log = Log::read(&block);
     println!(rt;
         "{} {}",
-        shown(find(&log, &name_of(0), None)),
-        shown(find(&log, b"\0", None))
+        shown(find(&log, NameOrder::ShorterFirst, &name_of(0), None)),
+        shown(find(&log, NameOrder::ShorterFirst, b"\0", None))
     )?;
     let start = Instant::now(rt)?;
     let read = read_often(&block, rounds);

@@ -41,7 +41,7 @@ fn a_block_is_copied(rt: HostRuntime) -> Result<(), Fail> {
             (1024, 1),
             (1024, 2),
             (copied, 1),
-            (1024 - copied, rest),
+            (1024usize.saturating_sub(copied), rest),
             (1024, 4),
         ];
         let bytes = device.into_inner().to_bytes();

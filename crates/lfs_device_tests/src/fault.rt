@@ -126,7 +126,12 @@ fn the_nth_call_fails(rt: HostRuntime) -> Result<(), Fail> {
         assert_eq!(rt; (found, device.calls(Which::Any)), (answers, calls));
         let expected = runs(
             rt.alloc(),
-            &[(1024, 1), (stored, 5), (1024 - stored, 0xff), (1024, 3)],
+            &[
+                (1024, 1),
+                (stored, 5),
+                (1024usize.saturating_sub(stored), 0xff),
+                (1024, 3),
+            ],
         )?;
         let bytes = device.into_inner().to_bytes();
         assert_eq!(rt; bytes.get(..3072), Some(expected.as_slice()));

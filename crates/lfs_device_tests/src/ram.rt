@@ -52,7 +52,10 @@ fn an_erase_leaves_what_was_asked(rt: HostRuntime) -> Result<(), Fail> {
         let expected = runs(alloc, &[(1024, 1), (32, 5), (992, left), (1024, 3)])?;
         assert_eq!(rt; ram.bytes().get(..3072), Some(expected.as_slice()));
         for (off, len, fives) in [(0, 1024, 32), (30, 4, 2), (32, 992, 0), (0, 32, 32)] {
-            let expected = runs(alloc, &[(fives, 5), (len as usize - fives, left)])?;
+            let expected = runs(
+                alloc,
+                &[(fives, 5), ((len as usize).saturating_sub(fives), left)],
+            )?;
             assert_eq!(rt; read(alloc, &mut ram, off, len), Ok(expected));
         }
     }

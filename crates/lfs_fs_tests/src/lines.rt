@@ -10,7 +10,7 @@ const NOTHING: Result<bool, LineError> = Ok(false);
 
 const REFUSED: Result<bool, LineError> = Err(LineError::Words);
 
-const LINES: [(&str, Result<bool, LineError>); 55] = [
+const LINES: [(&str, Result<bool, LineError>); 59] = [
     ("", NOTHING),
     ("# list /", NOTHING),
     (" # list /", REFUSED),
@@ -66,6 +66,11 @@ const LINES: [(&str, Result<bool, LineError>); 55] = [
     ("fresh 4096 256 16 fill", REFUSED),
     ("fresh 4096 256 16 fill 100", REFUSED),
     ("fresh 4096 256 16 keep 00", REFUSED),
+    // Which of two names comes first.
+    ("fresh 4096 256 16 shorter-first", COMMAND),
+    ("fresh 4096 256 16 longer-first keep", COMMAND),
+    ("fresh 4096 256 16 keep longer-first", REFUSED),
+    ("fresh 4096 256 16 first", REFUSED),
     ("image 4096 256", REFUSED),
     // Which call of a mounted device fails, and what it leaves.
     ("mount program 1 torn 20", COMMAND),

@@ -1,6 +1,6 @@
 // Sessions, compared with others on bytes like those of their devices.
 
-ghost use Rattle.std.specs.Prelude.{◌≡◌, ◌≢◌, ◌++◌, ◌∷◌, [], IfOk};
+ghost use Rattle.std.specs.Prelude.{◌≡◌, ◌<◌, ◌≤◌, ◌++◌, ◌∷◌, length, IfOk};
 
 use crate::hand::{Device, NO_FAULT, told};
 use lfs_device::{BlockDevice, Error, Geometry, RamDevice};
@@ -65,13 +65,13 @@ fn different_name<'a>(items: &'a [ListItem], others: &'a [ListItem]) -> Option<&
     }
 }
 
-// The path of a name in a directory.
+// The path of a name in a directory. The root's own path is one byte.
 fn path_below(alloc: Global, directory: &[u8], name: &[u8]) -> Result<Vec<u8>, AllocError>
-    ensures root { directory.now ≡ 0x2f ∷ [] → IfOk result (λ path. path.items ≡ 0x2f ∷ name.now) }
-    ensures deeper { directory.now ≢ 0x2f ∷ [] → IfOk result (λ path. path.items ≡ directory.now ++ 0x2f ∷ name.now) }
+    ensures root { length directory.now ≤ 1 → IfOk result (λ path. path.items ≡ 0x2f ∷ name.now) }
+    ensures deeper { 1 < length directory.now → IfOk result (λ path. path.items ≡ directory.now ++ 0x2f ∷ name.now) }
 {
     let mut path = Vec::new(alloc);
-    if directory != b"/".as_slice() {
+    if directory.len() > 1 {
         path.extend_from_slice(directory)?;
     }
     path.push(b'/')?;

@@ -8,8 +8,8 @@ use crate::comparison::{compare, compare_with};
 use crate::hand::{Device, Hand, NO_FAULT, calls_of, told};
 use crate::images::{blank, device_of, read_file, write_file};
 use crate::performing::perform;
-use lfs_device::{Erased, Error, Fault, RamDevice};
-use lfs_fs::{Reply, Session, format, mount};
+use lfs_device::{Erased, Error, Fault, NameOrder, RamDevice};
+use lfs_fs::{Reply, Session, format_ordered, mount};
 use lfs_script_lines::{Answer, Command, Operation, Scope};
 use std::mem;
 use std::rt::Files;
@@ -59,11 +59,16 @@ impl<'a, R: Files + AllocGlobal> Script<'a, R> {
         }
     }
 
-    fn format(&mut self, device: Result<RamDevice, Error>, erased: Erased) -> Answer {
+    fn format(
+        &mut self,
+        device: Result<RamDevice, Error>,
+        order: NameOrder,
+        erased: Erased,
+    ) -> Answer {
         match device {
             Ok(device) => {
                 let device = told(device.erased_as(erased), NO_FAULT);
-                self.begin(format(self.rt.alloc(), device))
+                self.begin(format_ordered(self.rt.alloc(), device, order))
             }
             Err(error) => Answer::Error(error),
         }
@@ -173,10 +178,11 @@ impl<'a, R: Files + AllocGlobal> Script<'a, R> {
                 block_size,
                 page,
                 block_count,
+                order,
                 erased,
             } => {
                 let device = blank(self.rt.alloc(), *block_size, *page, *block_count);
-                self.format(device, *erased)
+                self.format(device, *order, *erased)
             }
             Command::Image {
                 block_size,

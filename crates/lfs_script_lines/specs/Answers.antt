@@ -71,12 +71,15 @@ calls_text c = codes "calls" ++ number_text c.reads ++ number_text c.programs ++
 abbrev pub kind_text : ℕ → List ℕ
 kind_text kind = 0x20 ∷ hex_digit (kind / 16) ∷ hex_digit (kind % 16) ∷ []
 
+abbrev pub block_text : ℕ → List ℕ
+block_text block = codes "differs block" ++ number_text block
+
 abbrev pub difference_text : Difference → List ℕ
 difference_text (differs.Entry path) = codes "differs entry " ++ written path.items
 difference_text (differs.Bytes path) = codes "differs bytes " ++ written path.items
 difference_text (differs.Attribute path kind) = codes "differs attribute " ++ written path.items ++ kind_text kind
 difference_text differs.Gstate = codes "differs gstate"
-difference_text (differs.Block block) = codes "differs block" ++ number_text block
+difference_text (differs.Block block) = block_text block
 difference_text differs.UsedCount = codes "differs used-count"
 
 -- the line, without its end

@@ -1,7 +1,7 @@
 // The lines that scripts print.
 
 ghost use Rattle.std.specs.Prelude.{◌≡◌, ◌++◌, OnOk};
-ghost use Rattle.lfs_script_lines.specs.Answers.{answer_text, calls_text, difference_text, error_text, entry_text, gstate_text, item_text, items_text, kind_text, moving_text, number_text, reply_text, stat_text};
+ghost use Rattle.lfs_script_lines.specs.Answers.{answer_text, block_text, calls_text, difference_text, error_text, entry_text, gstate_text, item_text, items_text, kind_text, moving_text, number_text, reply_text, stat_text};
 
 use crate::answer::{Answer, Calls, Difference};
 use crate::written::{hex_digit, push_word};
@@ -152,6 +152,13 @@ fn push_kind(text: &mut Vec<u8>, kind: u8) -> Result<(), AllocError>
     text.extend_from_slice(&word)
 }
 
+fn push_block(text: &mut Vec<u8>, block: u32) -> Result<(), AllocError>
+    ensures { OnOk result (text.new.items ≡ text.old.items ++ block_text block) }
+{
+    text.extend_from_slice(b"differs block")?;
+    push_number(text, u64::from(block))
+}
+
 fn push_difference(text: &mut Vec<u8>, difference: &Difference) -> Result<(), AllocError>
     ensures { OnOk result (text.new.items ≡ text.old.items ++ difference_text difference.now) }
 {
@@ -170,10 +177,7 @@ fn push_difference(text: &mut Vec<u8>, difference: &Difference) -> Result<(), Al
             push_kind(text, *kind)?;
         }
         Difference::Gstate => text.extend_from_slice(b"differs gstate")?,
-        Difference::Block(block) => {
-            text.extend_from_slice(b"differs block")?;
-            push_number(text, u64::from(*block))?;
-        }
+        Difference::Block(block) => push_block(text, *block)?,
         Difference::UsedCount => text.extend_from_slice(b"differs used-count")?,
     }
     Ok(())

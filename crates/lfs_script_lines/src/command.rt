@@ -1,6 +1,6 @@
 // What a line asks for.
 
-use lfs_device::{Erased, Fault};
+use lfs_device::{Erased, Fault, NameOrder};
 use lfs_fs::OpenFlags;
 
 /// What of two sessions is compared.
@@ -22,6 +22,8 @@ pub enum Command {
         block_size: u32,
         page: u32,
         block_count: u32,
+        /// Which of two names comes first where one is the beginning of the other.
+        order: NameOrder,
         /// What its erases leave.
         erased: Erased,
     },

@@ -7,7 +7,7 @@ use crate::command::{Command, Operation, Scope};
 use crate::numbers::{read_decimal, read_hex};
 use crate::words::read_word;
 use bitflags::Flags;
-use lfs_device::{Erased, Extent, Fault, Which};
+use lfs_device::{Erased, Extent, Fault, NameOrder, Which};
 use lfs_fs::OpenFlags;
 use std::alloc::{AllocError, AllocFailed, Global};
 
@@ -181,16 +181,30 @@ fn erased(words: &[&[u8]]) -> Result<Erased, LineError> {
     }
 }
 
+// A blank device, by the words for it. Without a word for the order the longer names come first.
+fn fresh(words: &[&[u8]]) -> Result<Command, LineError> {
+    let [block_size, page, block_count, rest @ ..] = words else {
+        return Err(LineError::Words);
+    };
+    let (order, rest) = match rest {
+        [b"shorter-first", rest @ ..] => (NameOrder::ShorterFirst, rest),
+        [b"longer-first", rest @ ..] => (NameOrder::LongerFirst, rest),
+        _ => (NameOrder::LongerFirst, rest),
+    };
+    Ok(Command::Fresh {
+        block_size: number(block_size)?,
+        page: number(page)?,
+        block_count: number(block_count)?,
+        order,
+        erased: erased(rest)?,
+    })
+}
+
 // The command of a line with several words behind its name.
 fn long_command(alloc: Global, name: &[u8], words: &[&[u8]]) -> Result<Command, LineError> {
     match (name, words) {
         (b"mount", _) => Ok(Command::Mount(fault(words)?)),
-        (b"fresh", [block_size, page, block_count, rest @ ..]) => Ok(Command::Fresh {
-            block_size: number(block_size)?,
-            page: number(page)?,
-            block_count: number(block_count)?,
-            erased: erased(rest)?,
-        }),
+        (b"fresh", _) => fresh(words),
         (b"image", [block_size, page, file, rest @ ..]) => Ok(Command::Image {
             block_size: number(block_size)?,
             page: number(page)?,

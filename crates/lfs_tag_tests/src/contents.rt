@@ -1,6 +1,7 @@
 // What a log comes to, and what look-ups find in it.
 
 use crate::blocks::{BAD_DELETE, SHIFTING, block_of};
+use lfs_device::NameOrder::{LongerFirst, ShorterFirst};
 use lfs_tag::{
     Content, ContentError, Log, Lookup, MoveState, Part, Steps, Summary, find, get, name_of,
     struct_of,
@@ -81,14 +82,19 @@ fn look_ups(rt: HostRuntime) -> Result<(), Fail> {
         assert_eq!(rt; typed(name_of(&log, id, &mut steps)), name);
         assert_eq!(rt; typed(struct_of(&log, id, &mut steps)), structure);
     }
-    for (name, skip, place) in [
-        (b"b".as_slice(), None, Lookup::Found(1)),
-        (b"a", None, Lookup::Place(1)),
-        (b"littlefs", None, Lookup::Place(2)),
-        (b"b", Some(1), Lookup::Place(2)),
-        (b"a", Some(1), Lookup::Place(2)),
+    for (order, name, skip, place) in [
+        (ShorterFirst, b"b".as_slice(), None, Lookup::Found(1)),
+        (ShorterFirst, b"a", None, Lookup::Place(1)),
+        (ShorterFirst, b"littlefs", None, Lookup::Place(2)),
+        (ShorterFirst, b"b", Some(1), Lookup::Place(2)),
+        (ShorterFirst, b"a", Some(1), Lookup::Place(2)),
+        (ShorterFirst, b"bb", None, Lookup::Place(2)),
+        (LongerFirst, b"b", None, Lookup::Found(1)),
+        (LongerFirst, b"a", None, Lookup::Place(1)),
+        (LongerFirst, b"littlefs", None, Lookup::Place(2)),
+        (LongerFirst, b"bb", None, Lookup::Place(1)),
     ] {
-        assert_eq!(rt; find(&log, name, skip), place);
+        assert_eq!(rt; find(&log, order, name, skip), place);
     }
     Ok(())
 }

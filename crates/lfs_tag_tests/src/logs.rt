@@ -20,6 +20,21 @@ const TURNED: [&[u8]; 2] = [&ONE_FILE, &[0x50, 0x0f, 0xfc, 0x12, 0xbc, 0xa0, 0xb
 
 const OTHER: [&[u8]; 2] = [&ONE_FILE, &[0x50, 0x3f, 0xfc, 0x12, 0x2c, 0x45, 0xd4, 0x88]];
 
+// A forward checksum of version 2.1 in front of the checksum, and one with the length of no data.
+const FORWARD: [&[u8]; 2] = [
+    &ONE_FILE,
+    &[
+        0x5f, 0xef, 0xfc, 9, 1, 2, 3, 4, 5, 6, 7, 8, 0x0f, 0xf0, 0, 7, 0xd9, 0x6d, 0xfd, 0x2c,
+    ],
+];
+
+const NO_FORWARD: [&[u8]; 2] = [
+    &ONE_FILE,
+    &[
+        0x5f, 0xef, 0xff, 0xfe, 0x0f, 0xf0, 3, 0xe8, 0x32, 0x47, 0x8a, 0xeb,
+    ],
+];
+
 const REVISION: [&[u8]; 1] = [&[7, 0, 0, 1]];
 
 const NO_LOG: Told = (4, 1, 0xffff_ffff);
@@ -50,6 +65,9 @@ fn chains(rt: HostRuntime) -> Result<(), Fail> {
         (32, 9, &PLAIN, 4096, 0, 32, (32, 1, 0x500f_fc13)),
         (32, 9, &TURNED, 4096, 0, 32, (32, 1, 0xd01f_fc13)),
         (32, 9, &OTHER, 4096, 0, 32, NO_LOG),
+        (40, 9, &FORWARD, 4096, 0, 40, (40, 1, 0x500f_fc0f)),
+        (40, 9, &FORWARD, 17, 0xff, 40, NO_LOG),
+        (40, 9, &NO_FORWARD, 4096, 0, 40, NO_LOG),
     ] {
         let mut block = block_of(rt.alloc(), size, page, commits)?;
         if let Some(old) = block.get_mut(at) {

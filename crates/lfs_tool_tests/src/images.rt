@@ -244,6 +244,69 @@ const SUPERBLOCKS: [Row<'static>; 4] = [
     (&[(HARD_TAIL, PAIR)], &[(2, WITH_A)], "f 2 /a\n"),
 ];
 
+// A superblock of version 2.1.
+const LATER_VERSION: &[u8] = &[
+    1, 0, 2, 0, 0, 16, 0, 0, 16, 0, 0, 0, 255, 0, 0, 0, 255, 255, 255, 127, 254, 3, 0, 0,
+];
+
+const FORWARD_CHECKSUM: (u32, &[u8]) = (0x5fff_fc08, &[0x10, 0, 0, 0, 0x12, 0x34, 0x56, 0x78]);
+
+// Files of which one name begins the other, in this order: the longer first, or the shorter.
+const LONGER: Held<'static> = Held::Commit(&[
+    (0x0010_0002, b"xy"),
+    (0x2010_0000, b""),
+    (0x0010_0401, b"x"),
+    (0x2010_0400, b""),
+]);
+
+const SHORTER: Held<'static> = Held::Commit(&[
+    (0x0010_0001, b"x"),
+    (0x2010_0000, b""),
+    (0x0010_0402, b"xy"),
+    (0x2010_0400, b""),
+]);
+
+const LONGER_FIRST: Entries<'static> = &[
+    (0x0010_0402, b"ab"),
+    (0x2010_0400, b""),
+    (0x0010_0801, b"a"),
+    (0x2010_0800, b""),
+    (0x0020_0c01, b"d"),
+    (0x2000_0c08, PAIR),
+    (SOFT_TAIL, PAIR),
+];
+
+const SHORTER_FIRST: Entries<'static> = &[
+    (0x0010_0401, b"a"),
+    (0x2010_0400, b""),
+    (0x0010_0802, b"ab"),
+    (0x2010_0800, b""),
+    (0x0020_0c01, b"d"),
+    (0x2000_0c08, PAIR),
+    (SOFT_TAIL, PAIR),
+];
+
+const BOTH: &str = "f 0 /a\nf 0 /ab\nd 0 /d\nf 0 /d/x\nf 0 /d/xy\n";
+
+// The same tree in each order of names, orders that differ from folder to folder, and what a driver
+// of version 2.1 leaves.
+const ORDERS: [Row<'static>; 6] = [
+    (LONGER_FIRST, &[(2, LONGER)], BOTH),
+    (SHORTER_FIRST, &[(2, SHORTER)], BOTH),
+    (LONGER_FIRST, &[(2, SHORTER)], CORRUPT),
+    (SHORTER_FIRST, &[(2, LONGER)], CORRUPT),
+    (
+        &[FORWARD_CHECKSUM, (0x0010_0401, b"a"), (0x2010_0402, b"hi")],
+        &[],
+        "f 2 /a\n",
+    ),
+    (
+        &[(0x2010_0018, LATER_VERSION), FORWARD_CHECKSUM],
+        &[],
+        CORRUPT,
+    ),
+];
+
 // The superblock's slot named by a move, and one of two files of one name.
 const MOVES: [Row<'static>; 2] = [
     (
@@ -388,7 +451,7 @@ fn is_shown(alloc: Global, row: Row<'_>, is_unpacked: bool) -> Result<bool, Allo
 }
 
 // All images that are listed, but for those with a commit of the first block alone.
-const LISTED: [&[Row<'static>]; 5] = [&TAILS, &DIRECTORIES, &SUPERBLOCKS, &MOVES, &LISTS];
+const LISTED: [&[Row<'static>]; 6] = [&TAILS, &DIRECTORIES, &SUPERBLOCKS, &ORDERS, &MOVES, &LISTS];
 
 #[test]
 fn images_are_shown(rt: HostRuntime) -> Result<(), Fail> {

@@ -1,7 +1,7 @@
 // Command lines, and what is shown of those that are refused.
 
 use crate::shown::report_of;
-use lfs_device::Error;
+use lfs_device::{Error, NameOrder};
 use lfs_tool::{Fault, Line, LineError, Mode, ToolError, read_line};
 use std::alloc::{AllocError, Global};
 use std::test::Fail;
@@ -15,6 +15,7 @@ const LINES: [(&[&str], Line<'static>); 3] = [
             block_size: 4096,
             page: 256,
             size: 65536,
+            order: NameOrder::LongerFirst,
             image: "disk.img",
         },
     ),
@@ -27,6 +28,8 @@ const LINES: [(&[&str], Line<'static>); 3] = [
             "+16",
             "-s",
             "1024",
+            "--order",
+            "shorter-first",
             "i",
         ],
         Line {
@@ -34,16 +37,26 @@ const LINES: [(&[&str], Line<'static>); 3] = [
             block_size: 512,
             page: 16,
             size: 1024,
+            order: NameOrder::ShorterFirst,
             image: "i",
         },
     ),
     (
-        &["mklittlefs", "i", "-u", "out", "-s", "4294967295"],
+        &[
+            "mklittlefs",
+            "i",
+            "-u",
+            "out",
+            "-s",
+            "4294967295",
+            "--order=longer-first",
+        ],
         Line {
             mode: Mode::Unpack("out"),
             block_size: 4096,
             page: 256,
             size: 4_294_967_295,
+            order: NameOrder::LongerFirst,
             image: "i",
         },
     ),
@@ -60,22 +73,25 @@ fn lines_are_read(rt: HostRuntime) -> Result<(), Fail> {
 
 const MODES: &str = "error: give exactly one of -c, -u, -l\n";
 
+const ORDER: &str = "error: --order is longer-first or shorter-first\n";
+
 const HELP: &str = "\
 Creates, unpacks or lists an image of a littlefs file system.
 
-Usage: mklittlefs (-c DIR | -u DIR | -l) [-b N] [-p N] [-s N] IMAGE
+Usage: mklittlefs (-c DIR | -u DIR | -l) [-b N] [-p N] [-s N] [--order ORDER] IMAGE
 
 Arguments:
   <IMAGE>  The file with the image
 
 Options:
-  -c <DIR>    Create IMAGE from the folder DIR
-  -u <DIR>    Unpack IMAGE into the folder DIR
-  -l          List the files and folders of IMAGE
-  -b <N>      Size of a block in bytes [default: 4096]
-  -p <N>      Size of a page in bytes [default: 256]
-  -s <N>      Size of the image in bytes, with -c [default: 65536]
-  -h, --help  Print help
+  -c <DIR>             Create IMAGE from the folder DIR
+  -u <DIR>             Unpack IMAGE into the folder DIR
+  -l                   List the files and folders of IMAGE
+  -b <N>               Size of a block in bytes [default: 4096]
+  -p <N>               Size of a page in bytes [default: 256]
+  -s <N>               Size of the image in bytes, with -c [default: 65536]
+      --order <ORDER>  Order of names in the image that -c makes [default: longer-first]
+  -h, --help           Print help
 
 Examples:
   mklittlefs -c settings disk.img        makes an image of the folder settings
@@ -83,6 +99,7 @@ Examples:
   mklittlefs -u copy disk.img            puts what is in it into the folder copy
   mklittlefs -c settings -b 1024 -p 128 -s 262144 disk.img
   mklittlefs -l -b 1024 -p 128 disk.img  one of 256 KiB with other blocks
+  mklittlefs -c settings --order shorter-first disk.img
 
 Sizes:
   -b  from 1024 to 65536, a multiple of -p
@@ -90,16 +107,34 @@ Sizes:
   -s  a multiple of -b: from 2 to 65536 blocks, and at most 268435456
   With -l and -u the size is that of IMAGE, and -b is the one that it was made
   with.
+
+Order:
+  Names stand by their bytes. Where one begins another, as a and ab, either the
+  longer or the shorter comes first: ORDER is longer-first, as in images of
+  littlefs itself, or shorter-first. -l and -u read both, and list alike.
 ";
 
 // Words that are no line: the status, what goes to `out`, and what to `err`, if that isn't the parser's
 // own text.
-const REFUSED: [(&[&str], u8, &str, Option<&str>); 12] = [
+const REFUSED: [(&[&str], u8, &str, Option<&str>); 14] = [
     // not exactly one mode
     (&["mklittlefs", "i"], 2, "", Some(MODES)),
     (&["mklittlefs", "-p", "256", "i", "-b0"], 2, "", Some(MODES)),
     (&["mklittlefs", "-l", "-c", "d", "i"], 2, "", Some(MODES)),
     (&["mklittlefs", "-l", "-u", "d", "i"], 2, "", Some(MODES)),
+    // an order that is none
+    (
+        &["mklittlefs", "-l", "--order", "first", "i"],
+        2,
+        "",
+        Some(ORDER),
+    ),
+    (
+        &["mklittlefs", "-c", "d", "--order", "", "i"],
+        2,
+        "",
+        Some(ORDER),
+    ),
     // what the parser refuses
     (&["mklittlefs", "-l"], 2, "", None),
     (&["mklittlefs", "-l", "i", "j"], 2, "", None),

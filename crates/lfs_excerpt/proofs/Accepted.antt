@@ -1,12 +1,14 @@
 -- An excerpt of an accepted disk is accepted, with the same pairs.
-use Rattle.std.proofs.Common.{ℕ, ◌≡◌, List, ◌++◌, flat_map, option_and_then, refl, sym, ap, subst, ◌∙◌}
+use Rattle.std.proofs.Common.{AllPairs, Less, ℕ, ◌≡◌, List, ◌++◌, flat_map, option_and_then, refl, sym, ap, subst, ◌∙◌}
 use Rattle.std.specs.Prelude.{nat_eq}
 use Rattle.std.specs.List.{IsDistinct}
 use Rattle.std.proofs.lemmas.List.Elements.{All-weaker}
+use Rattle.lfs_model.specs.Tree.{names_at}
+use Rattle.lfs_model.specs.Names.{name_cmp}
 use Rattle.lfs_model.specs.Content.{holder_at, content_at, content_after_all, no_content, completed}
 use Rattle.lfs_model.specs.Disk.{Disk, block_at, block_count}
 use Rattle.lfs_model.specs.Log.{log_entries}
-use Rattle.lfs_model.specs.Shown.{all_slots, file_blocks, used_blocks}
+use Rattle.lfs_model.specs.Shown.{entries_in, all_slots, file_blocks, used_blocks}
 use Rattle.lfs_model.specs.SkipLists.{blocks_for, blocks_back, IsList}
 use Rattle.lfs_model.specs.Slots.{Slot, Struct, Inline, Ctz, Branch}
 use Rattle.lfs_model.specs.Thread.{Pair, IsThread, anchor, blocks_of}
@@ -51,7 +53,7 @@ module _ (disk excerpt : Disk) (is : IsExcerpt disk excerpt) where
     named = ok.named;
     superblock = (let (bytes, (struct, same)) = ok.superblock in (bytes, (superblock_struct bytes struct, same)));
     slots = ok.slots;
-    order = ok.order;
+    order = λ path at l. subst (λ o. AllPairs (λ a b. name_cmp o a b ≡ Less) (names_at (entries_in ps) at)) (sym is.order) (ok.order path at l);
     branches = ok.branches;
     once = ok.once;
     reached = ok.reached;

@@ -25,6 +25,7 @@ AreExcerpts (b ∷ blocks) (e ∷ excerpts) = IsBlockExcerpt b e × AreExcerpts 
 -- a disk whose blocks are excerpts of the other's, of the same size
 pub record IsExcerpt (disk excerpt : Disk) : Type 0 where
   pub block_size : excerpt.block_size ≡ disk.block_size
+  pub order : excerpt.order ≡ disk.order
   pub blocks : AreExcerpts disk.blocks excerpt.blocks
 
 -- these bytes, and then erased ones up to a size

@@ -3,7 +3,7 @@ use Rattle.std.proofs.Common.{inl, inr, ◌≡◌, ◌∙◌, ◌/◌, ◌%◌, 
 use Rattle.std.proofs.Math.Nat.{mul-div_cancel_left, mul-mod_right}
 use Rattle.lfs_device.specs.declared.error.Error.{Error}
 use Rattle.lfs_device.specs.declared.error.Error.TheVariants.{Corrupt, NoMemory}
-use Rattle.lfs_device.specs.Shown.{disk_of as shown}
+use Rattle.lfs_device.specs.Shown.{disk_of as shown, ordered}
 use Rattle.lfs_excerpt.specs.declared.block.BlockExcerpt.{BlockExcerpt}
 use Rattle.lfs_excerpt.specs.declared.excerpt.Excerpt.{Excerpt}
 use Rattle.lfs_excerpt.specs.Blocks.{HaveSize, blocks_shown}
@@ -16,17 +16,18 @@ use Rattle.lfs_model.specs.Geometry.{IsGeometry}
 use Rattle.lfs_model.specs.Listing.{IsListing}
 use Rattle.lfs_model.specs.Thread.{Pair}
 use Rattle.lfs_model.specs.View.{HasView, IsAccepted, View}
+use Rattle.lfs_model.specs.declared.order.NameOrder.{NameOrder}
 use Rattle.lfs_tool.specs.Blocks.{AreRead, IsShownAs}
 use Rattle.lfs_tool.specs.Known.{IsListError}
 use Rattle.lfs_tool.specs.Listed.{HasLines, IsNotMounted, Lists, Refuses}
 use Rattle.lfs_tool.proofs.Walked.{HasSizes, listed_from}
 
 -- the disk of these blocks
-abbrev pub disk_with : ℕ → ℕ → List BlockExcerpt → Disk
-disk_with block_size page blocks = record { block_size = block_size; page = page; blocks = blocks_shown blocks }
+abbrev pub disk_with : ℕ → ℕ → NameOrder → List BlockExcerpt → Disk
+disk_with block_size page order blocks = record { block_size = block_size; page = page; order = order; blocks = blocks_shown blocks }
 
-sizes_of : (block_size page count : ℕ) (blocks : List BlockExcerpt) → 1024 ≤ block_size → HaveSize block_size blocks → HasSizes (disk_with block_size page blocks)
-sizes_of block_size page count blocks enough have = record { enough = enough; count = length blocks; divided = divided_shown block_size (length blocks) blocks refl have }
+sizes_of : (block_size page : ℕ) (order : NameOrder) (blocks : List BlockExcerpt) → 1024 ≤ block_size → HaveSize block_size blocks → HasSizes (disk_with block_size page order blocks)
+sizes_of block_size page order blocks enough have = record { enough = enough; count = length blocks; divided = divided_shown block_size (length blocks) blocks refl have }
 
 blocks_read : (block_size : ℕ) (bytes : List ℕ) (blocks : List BlockExcerpt) → 1024 ≤ block_size → AreRead block_size bytes blocks → length bytes / block_size ≡ length blocks
 blocks_read block_size bytes blocks enough are = ap (λ n. n / block_size) are.whole ∙ mul-div_cancel_left (length blocks) (omega arith)
@@ -40,9 +41,11 @@ image_of_blocks block_size page bytes blocks are geometry = record {
 pub no_image_of_blocks : (block_size page : ℕ) (bytes : List ℕ) (blocks : List BlockExcerpt) → AreRead block_size bytes blocks → (IsGeometry block_size page (length blocks) → ⊥) → IsImage block_size page bytes → ⊥
 no_image_of_blocks block_size page bytes blocks are none is = none (subst (IsGeometry block_size page) (blocks_read block_size bytes blocks is.geometry.no_smaller are) is.geometry)
 
-pub excerpt_of_blocks : (block_size page : ℕ) (bytes : List ℕ) (blocks : List BlockExcerpt) → 1024 ≤ block_size → AreRead block_size bytes blocks → IsExcerpt (disk_of block_size page bytes) (disk_with block_size page blocks)
-excerpt_of_blocks block_size page bytes blocks enough are = record {
+pub excerpt_of_blocks : (block_size page : ℕ) (order : NameOrder) (bytes : List ℕ) (blocks : List BlockExcerpt) → 1024 ≤ block_size → AreRead block_size bytes blocks
+    → IsExcerpt (disk_of block_size page order bytes) (disk_with block_size page order blocks)
+excerpt_of_blocks block_size page order bytes blocks enough are = record {
   block_size = refl;
+  order = refl;
   blocks = subst (λ n. AreExcerpts (cut block_size n bytes) (blocks_shown blocks)) (sym (blocks_read block_size bytes blocks enough are)) are.excerpts;
 }
 
@@ -52,12 +55,12 @@ abbrev pub AreListedAlike : Type 0
 AreListedAlike = (disk excerpt : Disk) (view : View) → IsExcerpt disk excerpt → HasView excerpt view → (whole : View) × (HasView disk whole × ((text : List ℕ) → IsListing view.tree text → IsListing whole.tree text))
 
 pub lists_by_excerpt : AreListedAlike → (block_size page : ℕ) (bytes text : List ℕ) (blocks : List BlockExcerpt) (e : Excerpt) → AreRead block_size bytes blocks → IsGeometry block_size page (length blocks)
-    → HaveSize block_size blocks → IsShownAs block_size page blocks e → HasLines (shown (geometry_of e) (blocks_of e)) text → Lists block_size page bytes text
-lists_by_excerpt alike block_size page bytes text blocks e are geometry have is lines =
-    let found = listed_from (disk_with block_size page blocks) text (sizes_of block_size page (length blocks) blocks geometry.no_smaller have) (subst (λ d. HasLines d text) is.disk lines) in
+    → HaveSize block_size blocks → IsShownAs block_size page blocks e → (order : NameOrder) → HasLines (ordered order (shown (geometry_of e) (blocks_of e))) text → Lists block_size page bytes text
+lists_by_excerpt alike block_size page bytes text blocks e are geometry have is order lines =
+    let found = listed_from (disk_with block_size page order blocks) text (sizes_of block_size page order blocks geometry.no_smaller have) (subst (λ d. HasLines d text) (is.disk order) lines) in
     let (view, (shows, listing)) = found in
-    let whole = alike (disk_of block_size page bytes) (disk_with block_size page blocks) view (excerpt_of_blocks block_size page bytes blocks geometry.no_smaller are) shows in
-    (image_of_blocks block_size page bytes blocks are geometry, (whole.0, (whole.1.0, whole.1.1 text listing)))
+    let whole = alike (disk_of block_size page order bytes) (disk_with block_size page order blocks) view (excerpt_of_blocks block_size page order bytes blocks geometry.no_smaller are) shows in
+    (image_of_blocks block_size page bytes blocks are geometry, (whole.0, ((order, whole.1.0), whole.1.1 text listing)))
 
 abbrev pub AreRefusedAlike : Type 0
 AreRefusedAlike = (disk excerpt : Disk) (ps : List Pair) → IsExcerpt disk excerpt → IsAccepted disk ps → IsAccepted excerpt ps
@@ -66,8 +69,9 @@ pub refuses_by_excerpt : AreRefusedAlike → (block_size page : ℕ) (bytes : Li
     → IsShownAs block_size page blocks e → IsNotMounted (shown (geometry_of e) (blocks_of e)) error → Refuses block_size page bytes error
 refuses_by_excerpt alike block_size page bytes blocks e Corrupt are geometry is none = (
   image_of_blocks block_size page bytes blocks are geometry,
-  λ view (ps, (accepted, same)).
-      subst (λ d. (ps : List Pair) → IsAccepted d ps → ⊥) is.disk none ps (alike (disk_of block_size page bytes) (disk_with block_size page blocks) ps (excerpt_of_blocks block_size page bytes blocks geometry.no_smaller are) accepted),
+  λ view (order, (ps, (accepted, same))).
+      subst (λ d. (ps : List Pair) → IsAccepted d ps → ⊥) (is.disk order) (none order) ps
+      (alike (disk_of block_size page order bytes) (disk_with block_size page order blocks) ps (excerpt_of_blocks block_size page order bytes blocks geometry.no_smaller are) accepted),
 )
 refuses_by_excerpt alike block_size page bytes blocks e NoMemory are geometry is none = tt
 refuses_by_excerpt alike block_size page bytes blocks e error are geometry is none = absurd none

@@ -3,6 +3,7 @@ mod KnownBytes
 pub mod Writers
 mod BlockReads
 mod Images
+mod Mounts
 mod Walked
 mod Excerpts
 mod ActionsDone

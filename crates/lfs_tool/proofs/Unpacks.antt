@@ -6,14 +6,16 @@ use Rattle.lfs_model.specs.Listing.{Action, Entry, action_for, action_of}
 use Rattle.lfs_model.specs.Slots.{Branch, Ctz, Inline, Struct}
 use Rattle.lfs_model.specs.Thread.{Pair}
 use Rattle.lfs_model.specs.Tree.{Node}
-use Rattle.lfs_model.specs.View.{IsAccepted, IsListIfCtz, view_in}
+use Rattle.lfs_model.specs.View.{HasView, IsAccepted, IsListIfCtz, view_in}
+use Rattle.lfs_model.specs.declared.order.NameOrder.{NameOrder}
 use Rattle.lfs_device.specs.declared.error.Error.TheVariants.{Corrupt, Invalid, NoMemory}
 use Rattle.lfs_device.specs.declared.error.Error.{Error}
+use Rattle.lfs_device.specs.Shown.{ordered}
 use Rattle.lfs_lookup.specs.Walk.{AllShow, IsWalked, Place, Shows, ShowsNode}
 use Rattle.lfs_tool.specs.declared.errors.ToolError.{ToolError}
 use Rattle.lfs_tool.specs.declared.errors.ToolError.TheVariants.{Fs, Output}
 use Rattle.lfs_tool.specs.Listed.{Refuses}
-use Rattle.lfs_tool.specs.Unpacked.{AreLists, FailsToUnpack, FailsToUnpackImage, HasBegun, HasDone, IsBegunOf, IsBegunOfImage, IsDoneOf, IsDoneOfImage, IsUnpacked, TellsTarget, action_at, action_below, actions_at}
+use Rattle.lfs_tool.specs.Unpacked.{AreLists, FailsToUnpack, FailsToUnpackImage, HasBegun, HasDone, IsBegunOf, IsBegunOfImage, IsDoneOf, IsDoneOfImage, IsUnpacked, TellsTarget, Unpacks, action_at, action_below, actions_at}
 use Rattle.lfs_tool.proofs.Images.{all_read, most}
 
 -- ---- what was found of a tree unpacks it
@@ -45,16 +47,17 @@ actions_shown disk [] (e ∷ es) s = absurd s
 actions_shown disk (p ∷ ps) [] s = absurd s
 actions_shown disk (p ∷ ps) (e ∷ es) s = ap₂ (λ a more. a ∷ more) (action_shown disk p e s.0) (actions_shown disk ps es s.1)
 
-unpacks : (disk : Disk) (ps : List Pair) (places : List Place) → IsAccepted disk ps → IsWalked disk ps places → IsUnpacked disk (actions_at disk places)
-unpacks disk ps places accepted (entries, (walk, shows)) = (view_in disk ps, ((ps, (accepted, refl)), (entries, (walk, actions_shown disk places entries shows))))
+module _ (disk now : Disk) (order : NameOrder) (ps : List Pair) (places : List Place) (same : now ≡ ordered order disk) (accepted : IsAccepted (ordered order disk) ps) (walked : IsWalked (ordered order disk) ps places) where
+  unpacks : IsUnpacked disk (actions_at (ordered order disk) places)
+  unpacks =
+      let (entries, (walk, shows)) = walked in
+      (view_in (ordered order disk) ps, ((order, (ps, (accepted, refl))), (entries, (walk, actions_shown (ordered order disk) places entries shows))))
 
-pub done_of : (disk now : Disk) (ps : List Pair) (places : List Place) (old new : Option (List Action)) → now ≡ disk → IsAccepted disk ps → IsWalked disk ps places
-    → HasDone old new (actions_at now places) → IsDoneOf disk old new
-done_of disk now ps places old new same accepted walked h = (actions_at disk places, (unpacks disk ps places accepted walked, subst (λ d. HasDone old new (actions_at d places)) same h))
+  pub done_of : (old new : Option (List Action)) → HasDone old new (actions_at now places) → IsDoneOf disk old new
+  done_of old new h = (actions_at (ordered order disk) places, (unpacks, subst (λ d. HasDone old new (actions_at d places)) same h))
 
-pub begun_of : (disk now : Disk) (ps : List Pair) (places : List Place) (old new : Option (List Action)) → now ≡ disk → IsAccepted disk ps → IsWalked disk ps places
-    → HasBegun old new (actions_at now places) → IsBegunOf disk old new
-begun_of disk now ps places old new same accepted walked h = (actions_at disk places, (unpacks disk ps places accepted walked, subst (λ d. HasBegun old new (actions_at d places)) same h))
+  pub begun_of : (old new : Option (List Action)) → HasBegun old new (actions_at now places) → IsBegunOf disk old new
+  begun_of old new h = (actions_at (ordered order disk) places, (unpacks, subst (λ d. HasBegun old new (actions_at d places)) same h))
 
 pub fails_begun : {X : Type 0} (disk : Disk) (old new : Option (List Action)) (was now : Bool) (r : Result X ToolError) (begun : Type 0) → OnErr r begun → (begun → IsBegunOf disk old new)
     → TellsTarget was now r → IfErr r (FailsToUnpack disk old new)
@@ -65,18 +68,25 @@ fails_begun disk old new was now (Err e) begun h to tells = absurd tells
 
 -- ---- of an image
 
-pub done_image : (block_size page : ℕ) (image : List ℕ) (disk : Disk) (old new : Option (List Action)) → IsImage block_size page image → disk ≡ disk_of block_size page image
+-- the disk is that of the bytes, in each order of names
+abbrev IsDiskOf : ℕ → ℕ → List ℕ → Disk → Type 0
+IsDiskOf block_size page image disk = (order : NameOrder) → ordered order disk ≡ disk_of block_size page order image
+
+unpacks_image : (block_size page : ℕ) (image : List ℕ) (disk : Disk) (actions : List Action) → IsImage block_size page image → IsDiskOf block_size page image disk → IsUnpacked disk actions → Unpacks block_size page image actions
+unpacks_image block_size page image disk actions is same (view, ((order, shows), unpacking)) = (is, (view, ((order, subst (λ d. HasView d view) (same order) shows), unpacking)))
+
+pub done_image : (block_size page : ℕ) (image : List ℕ) (disk : Disk) (old new : Option (List Action)) → IsImage block_size page image → IsDiskOf block_size page image disk
     → IsDoneOf disk old new → IsDoneOfImage block_size page image old new
-done_image block_size page image disk old new is same (actions, (unpacked, h)) = (actions, ((is, subst (λ d. IsUnpacked d actions) same unpacked), h))
+done_image block_size page image disk old new is same (actions, (unpacked, h)) = (actions, (unpacks_image block_size page image disk actions is same unpacked, h))
 
-begun_image : (block_size page : ℕ) (image : List ℕ) (disk : Disk) (old new : Option (List Action)) → IsImage block_size page image → disk ≡ disk_of block_size page image
+begun_image : (block_size page : ℕ) (image : List ℕ) (disk : Disk) (old new : Option (List Action)) → IsImage block_size page image → IsDiskOf block_size page image disk
     → IsBegunOf disk old new → IsBegunOfImage block_size page image old new
-begun_image block_size page image disk old new is same (actions, (unpacked, h)) = (actions, ((is, subst (λ d. IsUnpacked d actions) same unpacked), h))
+begun_image block_size page image disk old new is same (actions, (unpacked, h)) = (actions, (unpacks_image block_size page image disk actions is same unpacked, h))
 
-pub fails_image : (block_size page : ℕ) (image : List ℕ) (disk : Disk) (old new : Option (List Action)) (e : ToolError) → IsImage block_size page image → disk ≡ disk_of block_size page image
+pub fails_image : (block_size page : ℕ) (image : List ℕ) (disk : Disk) (old new : Option (List Action)) (e : ToolError) → IsImage block_size page image → IsDiskOf block_size page image disk
     → FailsToUnpack disk old new e → FailsToUnpackImage block_size page image old new e
 fails_image block_size page image disk old new (Fs Corrupt) is same (wrong, undone) =
-    ((is, λ view (ps, (accepted, shows)). wrong ps (subst (λ d. IsAccepted d ps) (sym same) accepted)), undone)
+    ((is, λ view (order, (ps, (accepted, shows))). wrong order ps (subst (λ d. IsAccepted d ps) (sym (same order)) accepted)), undone)
 fails_image block_size page image disk old new (Fs NoMemory) is same (inl undone) = inl undone
 fails_image block_size page image disk old new (Fs NoMemory) is same (inr begun) = inr (begun_image block_size page image disk old new is same begun)
 fails_image block_size page image disk old new Output is same begun = begun_image block_size page image disk old new is same begun

@@ -2,13 +2,13 @@
 use Rattle.std.proofs.Common.{◌≡◌, ◌∙◌, ◌++◌, ◌≤◌, ℕ, List, Some, [], ◌∷◌, ap, ap₂, refl, sym}
 use Rattle.lfs_model.specs.Blocks.{IsDivided}
 use Rattle.lfs_model.specs.Disk.{Disk}
-use Rattle.lfs_model.specs.Listing.{Entry, escaped_text, line_head, line_of, lines_of, newline}
+use Rattle.lfs_model.specs.Listing.{Entry, IsListing, escaped_text, line_head, line_of, lines_of, newline}
 use Rattle.lfs_model.specs.Slots.{Branch, Ctz, Inline, Struct}
 use Rattle.lfs_model.specs.Tree.{Node}
-use Rattle.lfs_model.specs.View.{view_in}
+use Rattle.lfs_model.specs.View.{HasView, View, view_in}
 use Rattle.lfs_model.proofs.ListSizes.{length-bytes_of}
 use Rattle.lfs_lookup.specs.Walk.{AllShow, Place, Shows, ShowsNode}
-use Rattle.lfs_tool.specs.Listed.{HasLines, IsListed, line_at, line_with, lines_at, size_in}
+use Rattle.lfs_tool.specs.Listed.{HasLines, line_at, line_with, lines_at, size_in}
 
 pub record HasSizes (disk : Disk) : Type 0 where
   pub enough : 1024 ≤ disk.block_size
@@ -32,6 +32,10 @@ lines_shown disk sizes [] [] s = refl
 lines_shown disk sizes [] (e ∷ es) s = absurd s
 lines_shown disk sizes (p ∷ ps) [] s = absurd s
 lines_shown disk sizes (p ∷ ps) (e ∷ es) s = ap₂ (λ a b. a ++ b) (line_shown disk sizes p e s.0) (lines_shown disk sizes ps es s.1)
+
+-- the disk is accepted, and this text lists what it shows
+abbrev pub IsListed : Disk → List ℕ → Type 0
+IsListed disk text = (view : View) × (HasView disk view × IsListing view.tree text)
 
 -- a disk of which each place has its line is listed
 pub listed_from : (disk : Disk) (text : List ℕ) → HasSizes disk → HasLines disk text → IsListed disk text

@@ -3,11 +3,12 @@ use Rattle.std.specs.Prelude.{ℕ, ◌≡◌, ◌≤◌, ◌<◌, ◌*◌, List,
 use Rattle.std.specs.Io.KnownBytes.{Consumes, IsAtEnd}
 use Rattle.lfs_excerpt.specs.declared.block.BlockExcerpt.{BlockExcerpt}
 use Rattle.lfs_excerpt.specs.Blocks.{block_shown, blocks_shown}
-use Rattle.lfs_device.specs.Shown.{disk_of}
+use Rattle.lfs_device.specs.Shown.{disk_of, ordered}
 use Rattle.lfs_excerpt.specs.declared.excerpt.Excerpt.{Excerpt}
 use Rattle.lfs_excerpt.specs.Device.{blocks_of, geometry_of}
 use Rattle.lfs_excerpt.specs.Excerpt.{AreExcerpts, IsBlockExcerpt}
 use Rattle.lfs_model.specs.Blocks.{cut}
+use Rattle.lfs_model.specs.declared.order.NameOrder.{NameOrder}
 
 -- the first n bytes of the buffer are the next known ones; where they don't fill it there are no more
 pub record Fills (old new : Option (List ℕ)) (n : ℕ) (buffer : List ℕ) : Type 0 where
@@ -27,6 +28,6 @@ pub record IsPushed (block : List ℕ) (old new : List BlockExcerpt) : Type 0 wh
   pub excerpt : IsBlockExcerpt block (block_shown kept)
   pub size : kept.size ≡ length block
 
--- the device shows these blocks, of that size and in such pages
+-- the device shows these blocks, of that size and in such pages, with the names in any order
 pub record IsShownAs (block_size page : ℕ) (blocks : List BlockExcerpt) (e : Excerpt) : Type 0 where
-  pub disk : disk_of (geometry_of e) (blocks_of e) ≡ record { block_size = block_size; page = page; blocks = blocks_shown blocks }
+  pub disk : (order : NameOrder) → ordered order (disk_of (geometry_of e) (blocks_of e)) ≡ record { block_size = block_size; page = page; order = order; blocks = blocks_shown blocks }

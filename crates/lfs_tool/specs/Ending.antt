@@ -3,7 +3,7 @@ use Rattle.std.specs.Prelude.{◌++◌, ℕ, List, Option, Some, None, Bool, tru
 use Rattle.clap.specs.Words.{kind_of}
 use Rattle.clap.specs.declared.error.ErrorKind.{ErrorKind}
 use Rattle.clap.specs.declared.error.ErrorKind.TheVariants as kind
-use Rattle.lfs_tool_line.specs.declared.line.LineError.TheVariants.{Modes, NotUtf8, Parser}
+use Rattle.lfs_tool_line.specs.declared.line.LineError.TheVariants.{Modes, NotUtf8, Order, Parser}
 use Rattle.lfs_model.specs.Listing.{newline}
 use Rattle.lfs_tool.specs.Errors.{error_line, tool_line, tool_status}
 use Rattle.lfs_device.specs.declared.error.Error.TheVariants.{NoMemory}
@@ -29,6 +29,7 @@ shown_status mistake = 2
 
 abbrev pub status_of : Fault → ℕ
 status_of (Line Modes) = 2
+status_of (Line Order) = 2
 status_of (Line NotUtf8) = 2
 status_of (Line (Parser e)) = shown_status (shown_as (kind_of e))
 status_of (Tool e) = tool_status e
@@ -41,6 +42,7 @@ shown_line mistake = None
 -- the line on the standard error, where it is the tool's own
 abbrev pub own_line : Fault → Option (List ℕ)
 own_line (Line Modes) = Some (codes "error: give exactly one of -c, -u, -l" ++ newline)
+own_line (Line Order) = Some (codes "error: --order is longer-first or shorter-first" ++ newline)
 own_line (Line NotUtf8) = Some (codes "error: the command line is not UTF-8" ++ newline)
 own_line (Line (Parser e)) = shown_line (shown_as (kind_of e))
 own_line (Tool e) = Some (tool_line e)

@@ -1,6 +1,7 @@
 pub mod Watched
 pub mod Known
 pub mod Blocks
+pub mod Orders
 pub mod Errors
 pub mod Ending
 pub mod Listed

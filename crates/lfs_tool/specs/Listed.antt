@@ -2,27 +2,26 @@
 use Rattle.std.specs.Prelude.{ℕ, ◌≡◌, false, List, ◌++◌, Option, Some, None, codes, length}
 use Rattle.std.specs.List.{flat_map}
 use Rattle.std.specs.Fmt.{decimal}
-use Rattle.lfs_model.specs.Disk.{Disk, IsImage, disk_of}
+use Rattle.lfs_device.specs.Shown.{ordered}
+use Rattle.lfs_model.specs.Disk.{Disk, IsImage}
 use Rattle.lfs_model.specs.Thread.{Pair}
-use Rattle.lfs_model.specs.View.{View, HasView, IsAccepted}
+use Rattle.lfs_model.specs.View.{IsAccepted, View}
+use Rattle.lfs_model.specs.declared.order.NameOrder.{NameOrder}
 use Rattle.lfs_model.specs.Slots.{Struct, Inline, Ctz, Branch}
 use Rattle.lfs_model.specs.Listing.{IsListing, escaped_text, newline}
 use Rattle.lfs_thread.specs.Kept.{State}
 use Rattle.lfs_lookup.specs.Walk.{IsWalked, Place}
 use Rattle.lfs_device.specs.declared.error.Error.{Error}
 use Rattle.lfs_device.specs.declared.error.Error.TheVariants.{Invalid, Corrupt, NoMemory}
-
--- the disk is accepted, and this text lists what it shows
-abbrev pub IsListed : Disk → List ℕ → Type 0
-IsListed disk text = (view : View) × (HasView disk view × IsListing view.tree text)
+use Rattle.lfs_tool.specs.Orders.{IsShownBy}
 
 -- the bytes are an image that this text lists
 abbrev pub Lists : ℕ → ℕ → List ℕ → List ℕ → Type 0
-Lists block_size page image text = IsImage block_size page image × IsListed (disk_of block_size page image) text
+Lists block_size page image text = IsImage block_size page image × ((view : View) × (IsShownBy block_size page image view × IsListing view.tree text))
 
--- the bytes are an image that isn't accepted
+-- the bytes are an image that isn't accepted, in either order of names
 abbrev pub IsBad : ℕ → ℕ → List ℕ → Type 0
-IsBad block_size page image = IsImage block_size page image × ((view : View) → ¬ HasView (disk_of block_size page image) view)
+IsBad block_size page image = IsImage block_size page image × ((view : View) → ¬ IsShownBy block_size page image view)
 
 -- why bytes aren't listed; memory may run out at any
 abbrev pub Refuses : ℕ → ℕ → List ℕ → Error → Type 0
@@ -54,15 +53,15 @@ lines_at places = flat_map line_at places
 abbrev pub HasLines : Disk → List ℕ → Type 0
 HasLines disk text = (ps : List Pair) × (IsAccepted disk ps × ((places : List Place) × (IsWalked disk ps places × (text ≡ lines_at places))))
 
--- the thread is that of the accepted disk, and these are the places of its tree's walk
+-- the thread is that of the disk, accepted in the thread's order of names, and these are the places of its tree's walk
 pub record HasItems (disk : Disk) (t : State) (places : List Place) : Type 0 where
   pub works : t.failed ≡ false
-  pub disk_is : t.kept.disk ≡ disk
-  pub accepted : IsAccepted disk t.kept.pairs
-  pub walked : IsWalked disk t.kept.pairs places
+  pub disk_is : t.kept.disk ≡ ordered t.kept.disk.order disk
+  pub accepted : IsAccepted (ordered t.kept.disk.order disk) t.kept.pairs
+  pub walked : IsWalked (ordered t.kept.disk.order disk) t.kept.pairs places
 
--- why a disk in memory isn't mounted or walked: it isn't accepted, or memory ran out
+-- why a disk in memory isn't mounted or walked: it isn't accepted in either order of names, or memory ran out
 abbrev pub IsNotMounted : Disk → Error → Type 0
-IsNotMounted disk Corrupt = (ps : List Pair) → ¬ IsAccepted disk ps
+IsNotMounted disk Corrupt = (order : NameOrder) (ps : List Pair) → ¬ IsAccepted (ordered order disk) ps
 IsNotMounted disk NoMemory = Unit {0}
 IsNotMounted disk other = ⊥

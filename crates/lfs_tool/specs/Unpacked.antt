@@ -1,24 +1,25 @@
 -- What an unpacking answers.
 use Rattle.std.specs.Prelude.{ℕ, ◌≡◌, ◌⊎◌, ◌++◌, Bool, true, List, Option, Some, None, Result, Ok, Err, map, take}
 use Rattle.std.specs.List.{AllByRecursion}
-use Rattle.lfs_model.specs.Disk.{Disk, IsImage, disk_of}
-use Rattle.lfs_model.specs.View.{View, HasView, IsListIfCtz}
+use Rattle.lfs_model.specs.Disk.{Disk, IsImage}
+use Rattle.lfs_model.specs.View.{IsListIfCtz, View}
 use Rattle.lfs_model.specs.Slots.{Struct, Inline, Ctz, Branch}
 use Rattle.lfs_model.specs.Listing.{Action, IsUnpacking, MakeDirectory, PutFile}
 use Rattle.lfs_device.specs.declared.error.Error.TheVariants.{Corrupt, Invalid, NoMemory}
 use Rattle.lfs_tool.specs.declared.errors.ToolError.{ToolError}
 use Rattle.lfs_tool.specs.declared.errors.ToolError.TheVariants.{Fs, Output}
 use Rattle.lfs_tool.specs.Listed.{IsBad, IsNotMounted}
+use Rattle.lfs_tool.specs.Orders.{IsShownBy, IsShownOn}
 use Rattle.lfs_lookup.specs.FileBytes.{bytes_shown}
 use Rattle.lfs_lookup.specs.Walk.{Place}
 
 -- the disk is accepted, and these actions unpack what it shows
 abbrev pub IsUnpacked : Disk → List Action → Type 0
-IsUnpacked disk actions = (view : View) × (HasView disk view × IsUnpacking view.tree actions)
+IsUnpacked disk actions = (view : View) × (IsShownOn disk view × IsUnpacking view.tree actions)
 
 -- the bytes are an image that these actions unpack
 abbrev pub Unpacks : ℕ → ℕ → List ℕ → List Action → Type 0
-Unpacks block_size page image actions = IsImage block_size page image × IsUnpacked (disk_of block_size page image) actions
+Unpacks block_size page image actions = IsImage block_size page image × ((view : View) × (IsShownBy block_size page image view × IsUnpacking view.tree actions))
 
 -- these actions more were done, where what was done is known
 abbrev pub HasDone : Option (List Action) → Option (List Action) → List Action → Type 0

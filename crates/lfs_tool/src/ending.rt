@@ -38,7 +38,7 @@ fn say_error<E: Write>(err: &mut Watched<E>, error: ToolError) -> u8
 /// |---|---|---|
 /// | 0 | help was asked for | the parser's text, to `out` |
 /// | 1 | the file system refused, or memory ran out | `error: <name> (<number>)`, to `err` |
-/// | 2 | there is no command line | the parser's text, `error: give exactly one of -c, -u, -l`, or `error: the command line is not UTF-8`, to `err` |
+/// | 2 | there is no command line | the parser's text, `error: give exactly one of -c, -u, -l`, `error: --order is longer-first or shorter-first`, or `error: the command line is not UTF-8`, to `err` |
 /// | 3 | input or output failed | `error: input` or `error: output`, to `err` |
 ///
 /// A failed write is ignored. The writer to which nothing goes isn't touched. A line of the tool's own is
@@ -52,6 +52,9 @@ pub fn report<O: Write, E: Write>(fault: &Fault, out: &mut Watched<O>, err: &mut
 {
     match fault {
         Fault::Line(LineError::Modes) => say(err, "error: give exactly one of -c, -u, -l\n", 2),
+        Fault::Line(LineError::Order) => {
+            say(err, "error: --order is longer-first or shorter-first\n", 2)
+        }
         Fault::Line(LineError::NotUtf8) => say(err, "error: the command line is not UTF-8\n", 2),
         Fault::Line(LineError::Parser(error)) => match error.kind() {
             ErrorKind::OutOfMemory => say_error(err, ToolError::Fs(Error::NoMemory)),

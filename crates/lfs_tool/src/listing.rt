@@ -2,9 +2,10 @@ ghost use Rattle.std.specs.Prelude.{◌≡◌, ◌↔◌, ◌<◌, ◌^◌, List
 ghost use Rattle.std.specs.Io.KnownBytes.{Appends};
 ghost use Rattle.lfs_excerpt.specs.Blocks.{HaveSize};
 ghost use Rattle.lfs_excerpt.specs.Device.{blocks_of, geometry_of};
-ghost use Rattle.lfs_device.specs.Shown.{disk_of as shown};
+ghost use Rattle.lfs_device.specs.Shown.{disk_of as shown, ordered};
 ghost use Rattle.lfs_model.specs.Disk.{IsImage};
 ghost use Rattle.lfs_model.specs.Geometry.{IsGeometry};
+ghost use Rattle.lfs_model.specs.declared.order.NameOrder.{NameOrder};
 ghost use Rattle.lfs_tool.specs.Blocks.{AreRead};
 ghost use Rattle.lfs_tool.specs.Known.{AppendsBeginning, FailsToList, IsListError};
 ghost use Rattle.lfs_tool.specs.Listed.{HasLines, IsNotMounted, Lists, Refuses};
@@ -22,7 +23,7 @@ use std::io::{Read, Write};
 
 // The lines of an excerpt.
 fn lines_on(alloc: Global, device: Excerpt) -> Result<Vec<u8>, Error>
-    ensures lines { IfOk result (λ text. HasLines (shown (geometry_of device) (blocks_of device)) text.items) }
+    ensures lines { IfOk result (λ text. (order : NameOrder) × HasLines (ordered order (shown (geometry_of device) (blocks_of device))) text.items) }
     ensures err { IfErr result (IsNotMounted (shown (geometry_of device) (blocks_of device))) }
 {
     let (_thread, items) = items_of_excerpt(alloc, device)?;
@@ -84,6 +85,9 @@ fn read_lines<R: Read>(
 /// before what stands in it: `f <size> <path>`, the size in bytes, or `d 0 <path>`. In a path `\` and
 /// each byte outside 0x20 to 0x7e stand as `\x` and two hexadecimal digits.
 ///
+/// The image may have its names in either order. Of two names of which one begins the other, the lines
+/// have the shorter first.
+///
 /// The image is read to its end, a block at a time, or at most a block past the largest image's,
 /// 268435456 bytes; it isn't read where `block_size` or `page`, in bytes, is out of range. Of each
 /// block only what a listing needs is kept, which is mostly the first 132 bytes. Nothing is written
@@ -93,7 +97,7 @@ fn read_lines<R: Read>(
 /// - `Input` where the reader failed.
 /// - `Fs(NoMemory)` where a growth was refused.
 /// - `Fs(Invalid)` where the image isn't a whole number of blocks, or its geometry is out of range.
-/// - `Fs(Corrupt)` where the image isn't accepted.
+/// - `Fs(Corrupt)` where the image is accepted in neither order of names.
 /// - `Output` where the writer failed. What was written is then a beginning of the lines.
 pub fn list<R: Read, W: Write>(
     alloc: Global,

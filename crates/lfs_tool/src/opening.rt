@@ -2,24 +2,25 @@
 
 ghost use Rattle.std.specs.Prelude.{◌≡◌, ◌<◌, ◌/◌, ◌%◌, ◌^◌, [], List, IfErr, IfOk, OnOk, length};
 ghost use Rattle.lfs_device.specs.RamDevice.{blocks_of, geometry_of, history_of};
-ghost use Rattle.lfs_device.specs.Shown.{disk_of as shown};
+ghost use Rattle.lfs_device.specs.Shown.{disk_of as shown, ordered};
 ghost use Rattle.lfs_model.specs.Disk.{IsImage, disk_of};
 ghost use Rattle.lfs_model.specs.Geometry.{IsGeometry};
 ghost use Rattle.lfs_model.specs.Thread.{Pair};
 ghost use Rattle.lfs_model.specs.View.{IsAccepted};
+ghost use Rattle.lfs_model.specs.declared.order.NameOrder.{NameOrder};
 ghost use Rattle.lfs_excerpt.specs.Blocks.{HaveSize};
 ghost use Rattle.lfs_excerpt.specs.Device as excerpt;
 ghost use Rattle.lfs_mount.specs.Device.{IsMountError};
-ghost use Rattle.lfs_thread.specs.Device.{GivesBack};
+ghost use Rattle.lfs_mount.specs.Either.{GivesDeviceBack};
 ghost use Rattle.lfs_thread.specs.Kept.{disk_on};
 ghost use Rattle.lfs_tool.specs.Blocks.{IsShownAs};
 ghost use Rattle.lfs_tool.specs.Listed.{HasItems, IsNotMounted};
 ghost use Rattle.lfs_lookup.specs.Walk.{founds_seen};
 
-use lfs_device::{BlockDevice, Error, Geometry, RamDevice};
+use lfs_device::{BlockDevice, Error, Geometry, Ordered, RamDevice};
 use lfs_excerpt::{BlockExcerpt, Excerpt, excerpt_is_read_without_fault};
 use lfs_lookup::{TreeItem, walk};
-use lfs_mount::mount;
+use lfs_mount::mount_either;
 use lfs_thread::Thread;
 use std::alloc::Global;
 
@@ -41,7 +42,7 @@ fn geometry_of(len: usize, block_size: u32, page: u32) -> Result<Geometry, Error
 pub(crate) fn device_of(image: Vec<u8>, block_size: u32, page: u32) -> Result<RamDevice, Error>
     requires { length image.items < 2 ^ 32 }
     ensures image { OnOk result (IsImage block_size page image.items) }
-    ensures disk { IfOk result (λ d. shown (geometry_of d) (blocks_of d) ≡ disk_of block_size page image.items) }
+    ensures disk { IfOk result (λ d. (order : NameOrder) → ordered order (shown (geometry_of d) (blocks_of d)) ≡ disk_of block_size page order image.items) }
     ensures no_call { IfOk result (λ d. history_of d ≡ []) }
     ensures err { IfErr result (λ e. (e ≡ Error.Invalid) × (¬ IsImage block_size page image.items)) }
 {
@@ -65,20 +66,20 @@ pub(crate) fn excerpt_of(
     Ok(Excerpt::new(geometry, blocks))
 }
 
-// The thread of an image that is accepted, and all that stands in it.
+// The thread of an image that is accepted in one of the orders of names, and all that stands in it.
 pub(crate) fn items_on<D: BlockDevice>(
     alloc: Global,
     device: D,
-) -> Result<(Thread<D>, Vec<TreeItem>), (D, Error)>
+) -> Result<(Thread<Ordered<D>>, Vec<TreeItem>), (D, Error)>
     ensures items { IfOk result (λ found. HasItems (disk_on D.BlockDevice device) found.0 (founds_seen found.1.items)) }
-    ensures corrupt { IfErr result (λ e. e.1 ≡ Error.Corrupt → (ps : List Pair) → ¬ IsAccepted (disk_on D.BlockDevice device) ps) }
+    ensures corrupt { IfErr result (λ e. e.1 ≡ Error.Corrupt → (order : NameOrder) (ps : List Pair) → ¬ IsAccepted (ordered order (disk_on D.BlockDevice device)) ps) }
     ensures errors { IfErr result (λ e. IsMountError e.1) }
-    ensures back { IfErr result (λ e. GivesBack D.BlockDevice device e.0 e.1) }
+    ensures back { IfErr result (λ e. GivesDeviceBack D.BlockDevice device e.0 e.1) }
 {
-    let mut thread = mount(alloc, device)?;
+    let mut thread = mount_either(alloc, device)?;
     match walk(alloc, &mut thread) {
         Ok(items) => Ok((thread, items)),
-        Err(error) => Err((thread.into_device(), error)),
+        Err(error) => Err((thread.into_device().into_inner(), error)),
     }
 }
 
@@ -86,7 +87,7 @@ pub(crate) fn items_on<D: BlockDevice>(
 pub(crate) fn items_of_excerpt(
     alloc: Global,
     device: Excerpt,
-) -> Result<(Thread<Excerpt>, Vec<TreeItem>), Error>
+) -> Result<(Thread<Ordered<Excerpt>>, Vec<TreeItem>), Error>
     ensures items { IfOk result (λ found. HasItems (shown (excerpt.geometry_of device) (excerpt.blocks_of device)) found.0 (founds_seen found.1.items)) }
     ensures err { IfErr result (IsNotMounted (shown (excerpt.geometry_of device) (excerpt.blocks_of device))) }
 {
@@ -103,7 +104,7 @@ pub(crate) fn items_of_excerpt(
 pub(crate) fn items_in_memory(
     alloc: Global,
     device: RamDevice,
-) -> Result<(Thread<RamDevice>, Vec<TreeItem>), Error>
+) -> Result<(Thread<Ordered<RamDevice>>, Vec<TreeItem>), Error>
     ensures items { IfOk result (λ found. HasItems (shown (geometry_of device) (blocks_of device)) found.0 (founds_seen found.1.items)) }
     ensures err { IfErr result (IsNotMounted (shown (geometry_of device) (blocks_of device))) }
 {

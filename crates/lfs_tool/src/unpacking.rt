@@ -16,7 +16,7 @@ ghost use Rattle.lfs_tool.specs.Watched.{failed_of, inner_of};
 use crate::input::read_image;
 use crate::opening::{device_of, items_in_memory};
 use crate::{ToolError, Watched};
-use lfs_device::{Error, RamDevice};
+use lfs_device::{Error, Ordered, RamDevice};
 use lfs_lookup::{Structure, TreeItem, contents_of};
 use lfs_thread::Thread;
 use lfs_tool_target::{Target, TargetError};
@@ -26,7 +26,7 @@ use std::io::Read;
 // The bytes of a file of an image in memory.
 fn file_bytes(
     alloc: Global,
-    thread: &mut Thread<RamDevice>,
+    thread: &mut Thread<Ordered<RamDevice>>,
     structure: &Structure,
 ) -> Result<Vec<u8>, ToolError>
     requires works { thread.old.failed ≡ false }
@@ -59,7 +59,7 @@ fn fault_of(error: TargetError) -> ToolError
 // Does what one item asks for.
 fn put_item<T: Target>(
     alloc: Global,
-    thread: &mut Thread<RamDevice>,
+    thread: &mut Thread<Ordered<RamDevice>>,
     item: &TreeItem,
     target: &mut T,
 ) -> Result<(), ToolError>
@@ -86,7 +86,7 @@ fn put_item<T: Target>(
 // Does what the items ask for, in turn.
 fn put_items<T: Target>(
     alloc: Global,
-    thread: &mut Thread<RamDevice>,
+    thread: &mut Thread<Ordered<RamDevice>>,
     items: &[TreeItem],
     target: &mut T,
 ) -> Result<(), ToolError>
@@ -138,6 +138,9 @@ fn unpack_image<T: Target>(
 /// Unpacks an image into a target: for each file and directory, depth first and in name order, one
 /// action. A directory is made before what stands in it, and a file is put with its bytes.
 ///
+/// The image may have its names in either order. Of two names of which one begins the other, the shorter
+/// comes first here.
+///
 /// The image is read to its end, or to the byte past the largest image, 268435456 bytes. `block_size`
 /// and `page` are in bytes. Nothing is done before the image is known to be good. After an error the
 /// actions that were done are a beginning of those that the image asks for.
@@ -146,7 +149,7 @@ fn unpack_image<T: Target>(
 /// - `Input` where the reader failed.
 /// - `Fs(NoMemory)` where a growth was refused.
 /// - `Fs(Invalid)` where the image isn't a whole number of blocks, or its geometry is out of range.
-/// - `Fs(Corrupt)` where the image isn't accepted.
+/// - `Fs(Corrupt)` where the image is accepted in neither order of names.
 /// - `Output` where the target failed.
 pub fn unpack<R: Read, T: Target>(
     alloc: Global,

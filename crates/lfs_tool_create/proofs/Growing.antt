@@ -3,6 +3,7 @@ use Rattle.std.proofs.Common.{ℕ, zero, suc, ◌≡◌, ◌∙◌, ◌≤◌, �
 use Rattle.std.proofs.lemmas.List.Sorted.{IsPermutation-map}
 use Rattle.std.proofs.lemmas.List.Elements.{recursion_from_All}
 use Rattle.std.specs.declared.cmp.Ordering.TheVariants.{Less}
+use Rattle.lfs_model.specs.declared.order.NameOrder.TheVariants.{ShorterFirst}
 use Rattle.lfs_model.specs.Names.{Name, is_component, name_cmp}
 use Rattle.lfs_model.specs.Tree.{Path, FileNode, DirectoryNode, Tree}
 use Rattle.lfs_model.specs.TreeEdits.{added, with_name, with_names}
@@ -210,8 +211,8 @@ module _ (n : ℕ) (ih : Grows n) (s : Source) (f : Path) (ns : List Name) (g : 
   two = tree_after k.front one
 
   apart : Each (λ (h : Name × Bool). g.0 ≡ h.0 → ⊥) gs
-  apart = each_weaker (λ (h : Name × Bool). name_cmp g.0 h.0 ≡ Less) (λ (h : Name × Bool). g.0 ≡ h.0 → ⊥) (λ h less. less_unlike g.0 h.0 less) gs
-      (each_names (λ m. name_cmp g.0 m ≡ Less) gs (rising_right ns (g.0 ∷ given_names gs) b.rising).0)
+  apart = each_weaker (λ (h : Name × Bool). name_cmp ShorterFirst g.0 h.0 ≡ Less) (λ (h : Name × Bool). g.0 ≡ h.0 → ⊥) (λ h less. less_unlike g.0 h.0 less) gs
+      (each_names (λ m. name_cmp ShorterFirst g.0 m ≡ Less) gs (rising_right ns (g.0 ∷ given_names gs) b.rising).0)
 
   off : (h : Name × Bool) → (g.0 ≡ h.0 → ⊥) → (rest r : Path) → f ++ h.0 ∷ rest ≡ f ++ g.0 ∷ r → ⊥
   off h other rest r x = other (let y = cancel f (h.0 ∷ rest) (g.0 ∷ r) x in cc)

@@ -35,24 +35,25 @@ use Rattle.lfs_tool_create.proofs.Refusing.{IsFromFresh, anywhere, comes, has_ca
 
 -- ---- the geometry
 
-pub begins : (g : Geometry) (d : RamDevice) (h : Held) → geometry_of d ≡ g → IsFresh h.tree.disk → (moment_of h).state ≡ Healthy (mounted empty_tree) → SameGeometry (device.disk_of (geometry_of d) (blocks_of d)) h.tree.disk
+pub begins : (g : Geometry) (d : RamDevice) (h : Held) → geometry_of d ≡ g → IsFresh h.tree.disk → (moment_of h).state ≡ Healthy (mounted empty_tree) → SameGeometry (device.ordered g.order (device.disk_of (geometry_of d) (blocks_of d))) h.tree.disk
     → Begins g (moment_of h)
 begins g d h is fresh state same = record {
   fresh = fresh;
   block_size = same.block_size ∙ ap (λ (x : Geometry). x.block_size) is;
   page = same.page ∙ ap (λ (x : Geometry). x.page) is;
+  order = same.order;
   count = same.count ∙ length-cut (geometry_of d).block_size (geometry_of d).block_count (bytes_of d) ∙ ap (λ (x : Geometry). x.block_count) is;
   mounts = state;
 }
 
 turns_geometry : (operations : List Operation) (replies : List Reply) (a b : Moment) → AreTurns a operations replies b → SameGeometry a.disk b.disk
-turns_geometry [] [] a b e = subst (λ (m : Moment). SameGeometry a.disk m.disk) e (record { block_size = refl; page = refl; count = refl })
+turns_geometry [] [] a b e = subst (λ (m : Moment). SameGeometry a.disk m.disk) e (record { block_size = refl; page = refl; order = refl; count = refl })
 turns_geometry [] (reply ∷ replies) a b e = absurd e
 turns_geometry (op ∷ operations) [] a b e = absurd e
 turns_geometry (op ∷ operations) (reply ∷ replies) a b (next, (turn, rest)) =
     let s = turns_geometry operations replies next b rest in
     let t = turn.geometry in
-    record { block_size = s.block_size ∙ t.block_size; page = s.page ∙ t.page; count = s.count ∙ t.count }
+    record { block_size = s.block_size ∙ t.block_size; page = s.page ∙ t.page; order = s.order ∙ t.order; count = s.count ∙ t.count }
 
 count_of : (size count : ℕ) (bytes : List ℕ) → 1 ≤ size → length bytes ≡ size * count → length bytes / size ≡ count
 count_of size count bytes some e =
@@ -68,12 +69,14 @@ some_bytes : (g : Geometry) → 1 ≤ g.block_size
 some_bytes g = let least : 1024 ≤ g.block_size = g.valid.no_smaller in omega (arith, least)
 
 -- what the run left in the device
-pub left : (g : Geometry) (from to : Moment) (es : List Entry) (d : RamDevice) (bytes : List ℕ) → Begins g from → AreCarried from (operations_of_all es) to → device.disk_of (geometry_of d) (blocks_of d) ≡ to.disk
+pub left : (g : Geometry) (from to : Moment) (es : List Entry) (d : RamDevice) (bytes : List ℕ) → Begins g from → AreCarried from (operations_of_all es) to
+    → device.ordered to.disk.order (device.disk_of (geometry_of d) (blocks_of d)) ≡ to.disk
     → bytes ≡ bytes_of d → AreLeft g es bytes
 left g from to es d bytes b c shown is =
     let same = turns_geometry (operations_of_all es) c.replies from to c.turns in
     let size : (geometry_of d).block_size ≡ g.block_size = ap (λ (k : Disk). k.block_size) shown ∙ same.block_size ∙ b.block_size in
     let page : (geometry_of d).page ≡ g.page = ap (λ (k : Disk). k.page) shown ∙ same.page ∙ b.page in
+    let order : to.disk.order ≡ g.order = same.order ∙ b.order in
     let count : (geometry_of d).block_count ≡ g.block_count = sym (length-cut (geometry_of d).block_size (geometry_of d).block_count (bytes_of d)) ∙ ap block_count shown ∙ same.count ∙ b.count in
     let len : length bytes ≡ g.block_size * g.block_count = ap length is ∙ d.size ∙ ap₂ (λ x y. x * y) size count in
     let blocks : (geometry_of d).block_count ≡ length bytes / g.block_size = count ∙ sym (count_of g.block_size g.block_count bytes (some_bytes g) len) in
@@ -83,8 +86,8 @@ left g from to es d bytes b c shown is =
       to = to;
       carried = c;
       len = len;
-      disk = sym shown ∙ ap₂ (λ s p. record { block_size = s; page = p; blocks = cut s (geometry_of d).block_count (bytes_of d) }) size page
-          ∙ ap₂ (λ n xs. record { block_size = g.block_size; page = g.page; blocks = cut g.block_size n xs }) blocks (sym is);
+      disk = sym shown ∙ (λ j. record { block_size = size j; page = page j; order = order j; blocks = cut (size j) (geometry_of d).block_count (bytes_of d) })
+          ∙ ap₂ (λ n xs. record { block_size = g.block_size; page = g.page; order = g.order; blocks = cut g.block_size n xs }) blocks (sym is);
     }
 
 -- ---- the image
@@ -123,7 +126,7 @@ made g known es bytes all l = record {
     after = same_session t.session (session_after_all anywhere (mounted empty_tree) (flat_map operations_of es) l.carried.replies)
         (sym t.healthy ∙ fresh_defined (operations_of_all es) l.carried.replies l.to anywhere (comes l.from l.to (operations_of_all es) (record { fresh = l.begins.fresh; mounts = l.begins.mounts }) l.carried))
 
-    shows : (k : Option Source) → AreAll k es → IfSome k (λ src. IsTreeOf src (tree_in (disk_of g.block_size g.page bytes) s.pairs))
+    shows : (k : Option Source) → AreAll k es → IfSome k (λ src. IsTreeOf src (tree_in (disk_of g.block_size g.page g.order bytes) s.pairs))
     shows None a = tt
     shows (Some src) a =
         let whole = carried_tree src es a in

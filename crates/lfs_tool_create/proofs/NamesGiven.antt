@@ -6,6 +6,7 @@ use Rattle.std.specs.declared.cmp.Ordering.TheVariants.{Less}
 use Rattle.std.proofs.lemmas.List.Elements.{All-contains, All-contains_itself, All-from_recursion, recursion_from_All}
 use Rattle.std.proofs.lemmas.List.Sorted.{Contains-permutation, IsPermutation-sym}
 use Rattle.std.proofs.lemmas.Option.{same_Some}
+use Rattle.lfs_model.specs.declared.order.NameOrder.TheVariants.{ShorterFirst}
 use Rattle.lfs_model.specs.Names.{Name, name_cmp, same_name, is_less}
 use Rattle.lfs_model.specs.TreeEdits.{with_name}
 use Rattle.lfs_model.specs.Source.{kind_given, given_names}
@@ -18,30 +19,30 @@ use Rattle.lfs_model.proofs.Paths.{Names, alike, unlike, names, name_itself, sam
 -- each comes before those behind it
 abbrev pub Rising : List Name → Type 0
 Rising [] = Unit {0}
-Rising (n ∷ ns) = Each (λ m. name_cmp n m ≡ Less) ns × Rising ns
+Rising (n ∷ ns) = Each (λ m. name_cmp ShorterFirst n m ≡ Less) ns × Rising ns
 
-pub rising_from : (ns : List Name) → AllPairs (λ a b. name_cmp a b ≡ Less) ns → Rising ns
+pub rising_from : (ns : List Name) → AllPairs (λ a b. name_cmp ShorterFirst a b ≡ Less) ns → Rising ns
 rising_from [] h = tt
 rising_from (n ∷ ns) h = (
-  recursion_from_All (λ m. name_cmp n m ≡ Less) ns (λ k d lt. h 0 (suc k) d (omega arith) (omega arith)),
+  recursion_from_All (λ m. name_cmp ShorterFirst n m ≡ Less) ns (λ k d lt. h 0 (suc k) d (omega arith) (omega arith)),
   rising_from ns (λ i j d l m. h (suc i) (suc j) d (omega arith) (omega arith)),
 )
 
-pub before_it : (ns : List Name) (n : Name) (rest : List Name) → Rising (ns ++ n ∷ rest) → Each (λ m. name_cmp m n ≡ Less) ns
+pub before_it : (ns : List Name) (n : Name) (rest : List Name) → Rising (ns ++ n ∷ rest) → Each (λ m. name_cmp ShorterFirst m n ≡ Less) ns
 before_it [] n rest h = tt
-before_it (m ∷ ns) n rest h = ((each_right (λ k. name_cmp m k ≡ Less) ns (n ∷ rest) h.0).0, before_it ns n rest h.1)
+before_it (m ∷ ns) n rest h = ((each_right (λ k. name_cmp ShorterFirst m k ≡ Less) ns (n ∷ rest) h.0).0, before_it ns n rest h.1)
 
 pub rising_right : (ns rest : List Name) → Rising (ns ++ rest) → Rising rest
 rising_right [] rest h = h
 rising_right (n ∷ ns) rest h = rising_right ns rest h.1
 
 -- the greatest name comes to the end
-pub name_at_end : (n : Name) (ns : List Name) → Each (λ m. name_cmp m n ≡ Less) ns → with_name n ns ≡ ns ++ n ∷ []
+pub name_at_end : (n : Name) (ns : List Name) → Each (λ m. name_cmp ShorterFirst m n ≡ Less) ns → with_name n ns ≡ ns ++ n ∷ []
 name_at_end n [] h = refl
-name_at_end n (m ∷ ns) h = ap (λ b. cond b (n ∷ m ∷ ns) (m ∷ with_name n ns)) (ap is_less (greater m n h.0)) ∙ ap (λ z. m ∷ z) (name_at_end n ns h.1)
+name_at_end n (m ∷ ns) h = ap (λ b. cond b (n ∷ m ∷ ns) (m ∷ with_name n ns)) (ap is_less (greater ShorterFirst m n h.0)) ∙ ap (λ z. m ∷ z) (name_at_end n ns h.1)
 
-pub less_unlike : (a b : Name) → name_cmp a b ≡ Less → a ≡ b → ⊥
-less_unlike a b h e = let f = sym h ∙ ap (name_cmp a) (sym e) ∙ name_itself a in cc
+pub less_unlike : (a b : Name) → name_cmp ShorterFirst a b ≡ Less → a ≡ b → ⊥
+less_unlike a b h e = let f = sym h ∙ ap (name_cmp ShorterFirst a) (sym e) ∙ name_itself a in cc
 
 pub each_names : (P : Name → Type 0) (gs : List (Name × Bool)) → Each P (given_names gs) → Each (λ g. P g.0) gs
 each_names P [] h = tt
@@ -78,8 +79,8 @@ pub each_found : (gs : List (Name × Bool)) → Rising (given_names gs) → Each
 each_found [] h = tt
 each_found (g ∷ gs) h = (
   kind_first g.0 g gs (same_itself g.0),
-  each_both (λ (x : Name × Bool). name_cmp g.0 x.0 ≡ Less) (λ (x : Name × Bool). kind_given x.0 gs ≡ Some x.1) (λ (x : Name × Bool). kind_given x.0 (g ∷ gs) ≡ Some x.1)
-      (λ x less found. kind_past x.0 g gs (unlike_test x.0 g.0 (λ e. less_unlike g.0 x.0 less (sym e))) ∙ found) gs (each_names (λ n. name_cmp g.0 n ≡ Less) gs h.0) (each_found gs h.1),
+  each_both (λ (x : Name × Bool). name_cmp ShorterFirst g.0 x.0 ≡ Less) (λ (x : Name × Bool). kind_given x.0 gs ≡ Some x.1) (λ (x : Name × Bool). kind_given x.0 (g ∷ gs) ≡ Some x.1)
+      (λ x less found. kind_past x.0 g gs (unlike_test x.0 g.0 (λ e. less_unlike g.0 x.0 less (sym e))) ∙ found) gs (each_names (λ n. name_cmp ShorterFirst g.0 n ≡ Less) gs h.0) (each_found gs h.1),
 )
 
 -- names that come once have their kinds in any order

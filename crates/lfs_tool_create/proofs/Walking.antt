@@ -5,6 +5,7 @@ use Rattle.std.specs.List.Sorted.{IsPermutation}
 use Rattle.std.specs.declared.cmp.Ordering.TheVariants.{Less}
 use Rattle.std.proofs.lemmas.List.Elements.{All-contains, All-contains_itself, All-from_recursion, recursion_from_All}
 use Rattle.std.proofs.lemmas.List.Sorted.{Contains-permutation, IsPermutation-map, IsPermutation-sym}
+use Rattle.lfs_model.specs.declared.order.NameOrder.TheVariants.{ShorterFirst}
 use Rattle.lfs_model.specs.TreeEdits as apply
 use Rattle.lfs_model.specs.Fresh.{empty_tree}
 use Rattle.lfs_model.specs.Listing as listing
@@ -49,16 +50,16 @@ among_moved xs ys moved m a =
 first_same : (x y : Name) (xs ys : List Name) → Rising (x ∷ xs) → Rising (y ∷ ys) → Among x (y ∷ ys) → Among y (x ∷ xs) → x ≡ y
 first_same x y xs ys r s (inl e) b = e
 first_same x y xs ys r s (inr a) (inl e) = sym e
-first_same x y xs ys r s (inr a) (inr b) = absurd (less_both x y (from_each (λ m. name_cmp x m ≡ Less) xs y r.0 b) (from_each (λ m. name_cmp y m ≡ Less) ys x s.0 a))
+first_same x y xs ys r s (inr a) (inr b) = absurd (less_both x y (from_each (λ m. name_cmp ShorterFirst x m ≡ Less) xs y r.0 b) (from_each (λ m. name_cmp ShorterFirst y m ≡ Less) ys x s.0 a))
   where
-    less_both : (a b : Name) → name_cmp a b ≡ Less → name_cmp b a ≡ Less → ⊥
-    less_both a b e f = let g = sym f ∙ greater a b e in absurd (cc)
+    less_both : (a b : Name) → name_cmp ShorterFirst a b ≡ Less → name_cmp ShorterFirst b a ≡ Less → ⊥
+    less_both a b e f = let g = sym f ∙ greater ShorterFirst a b e in absurd (cc)
 
-later : (x : Name) (xs ys : List Name) → Each (λ m. name_cmp x m ≡ Less) xs → ((m : Name) → Among m (x ∷ xs) → Among m (x ∷ ys)) → (m : Name) → Among m xs → Among m ys
+later : (x : Name) (xs ys : List Name) → Each (λ m. name_cmp ShorterFirst x m ≡ Less) xs → ((m : Name) → Among m (x ∷ xs) → Among m (x ∷ ys)) → (m : Name) → Among m xs → Among m ys
 later x xs ys r h m a = go (h m (inr a))
   where
     go : Among m (x ∷ ys) → Among m ys
-    go (inl e) = absurd (less_unlike x m (from_each (λ n. name_cmp x n ≡ Less) xs m r a) (sym e))
+    go (inl e) = absurd (less_unlike x m (from_each (λ n. name_cmp ShorterFirst x n ≡ Less) xs m r a) (sym e))
     go (inr b) = b
 
 same_rising : (xs ys : List Name) → Rising xs → Rising ys → ((m : Name) → Among m xs → Among m ys) → ((m : Name) → Among m ys → Among m xs) → xs ≡ ys
@@ -69,7 +70,7 @@ same_rising (x ∷ xs) (y ∷ ys) r s h k =
     let e : x ≡ y = first_same x y xs ys r s (h x (inl refl)) (k y (inl refl)) in
     ap₂ (λ z zs. z ∷ zs) e (same_rising xs ys r.1 s.1
     (later x xs ys r.0 (λ m a. subst (λ z. Among m (z ∷ ys)) (sym e) (h m a)))
-    (later x ys xs (subst (λ z. Each (λ m. name_cmp z m ≡ Less) ys) (sym e) s.0) (λ m a. k m (subst (λ z. Among m (z ∷ ys)) e a))))
+    (later x ys xs (subst (λ z. Each (λ m. name_cmp ShorterFirst z m ≡ Less) ys) (sym e) s.0) (λ m a. k m (subst (λ z. Among m (z ∷ ys)) e a))))
 
 -- ---- places and their paths
 

@@ -30,6 +30,7 @@ pub record Begins (geometry : Geometry) (from : Moment) : Type 0 where
   pub fresh : IsFresh from.disk
   pub block_size : from.disk.block_size ≡ geometry.block_size
   pub page : from.disk.page ≡ geometry.page
+  pub order : from.disk.order ≡ geometry.order
   pub count : block_count from.disk ≡ geometry.block_count
   pub mounts : from.state ≡ Healthy (mounted empty_tree)
 
@@ -40,7 +41,7 @@ pub record AreLeft (geometry : Geometry) (entries : List Entry) (bytes : List �
   pub to : Moment
   pub carried : AreCarried from (operations_of_all entries) to
   pub len : length bytes ≡ geometry.block_size * geometry.block_count
-  pub disk : to.disk ≡ disk_of geometry.block_size geometry.page bytes
+  pub disk : to.disk ≡ disk_of geometry.block_size geometry.page geometry.order bytes
 
 -- An operation of the entries is refused, and this is the first refusal.
 pub record IsRefused (geometry : Geometry) (entries : List Entry) (e : Error) : Type 0 where
@@ -60,10 +61,10 @@ pub record IsMade (geometry : Geometry) (known : Option Source) (bytes : List �
   pub len : length bytes ≡ geometry.block_size * geometry.block_count
   pub image : IsImage geometry.block_size geometry.page bytes
   pub pairs : List Pair
-  pub accepted : IsAccepted (disk_of geometry.block_size geometry.page bytes) pairs
-  pub writable : IsWritable (disk_of geometry.block_size geometry.page bytes) pairs
+  pub accepted : IsAccepted (disk_of geometry.block_size geometry.page geometry.order bytes) pairs
+  pub writable : IsWritable (disk_of geometry.block_size geometry.page geometry.order bytes) pairs
   pub gstate : gstate_of pairs ≡ no_gstate
-  pub tree : IfSome known (λ s. IsTreeOf s (tree_in (disk_of geometry.block_size geometry.page bytes) pairs))
+  pub tree : IfSome known (λ s. IsTreeOf s (tree_in (disk_of geometry.block_size geometry.page geometry.order bytes) pairs))
 
 -- all that the source has is carried over, and what is known to be written grew by one image of it
 abbrev pub IsCreated : Geometry → Option Source → Option (List ℕ) → Option (List ℕ) → Type 0

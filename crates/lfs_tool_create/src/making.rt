@@ -6,7 +6,7 @@ ghost use Rattle.lfs_tool_source.specs.Entries.{AreAll};
 
 use crate::carrying::carry_over;
 use lfs_device::{Error, Geometry, RamDevice};
-use lfs_fs::{Session, format};
+use lfs_fs::{Session, format_ordered};
 use lfs_tool::{ToolError, Watched, write_bytes};
 use lfs_tool_source::{Entry, Source, SourceError, read_tree};
 use std::alloc::Global;
@@ -31,7 +31,7 @@ fn begin(alloc: Global, geometry: Geometry) -> Result<Session<RamDevice>, Error>
     ensures err { IfErr result (λ e. e ≡ Error.NoMemory) }
 {
     let device = RamDevice::blank(alloc, geometry)?;
-    match format(alloc, device) {
+    match format_ordered(alloc, device, geometry.order) {
         Ok(session) => Ok(session),
         // The device has met no fault, so memory ran out.
         Err((_device, error)) => Err(error),
@@ -48,10 +48,11 @@ fn make(alloc: Global, geometry: Geometry, entries: &[Entry]) -> Result<Vec<u8>,
     Ok(session.unmount().to_bytes())
 }
 
-/// Writes an image of a geometry that holds what a source has. All of the source is read first. It is
-/// carried over into an empty file system, depth first and in name order: a folder is made, a file is
-/// opened to create it, its bytes are written at once, and it is closed. Nothing is written where one
-/// of these operations is refused.
+/// Writes an image of a geometry that holds what a source has. The names in its directories have the
+/// geometry's order. All of the source is read first. It is carried over into an empty file system,
+/// depth first and in name order, the shorter names first: a folder is made, a file is opened to create
+/// it, its bytes are written at once, and it is closed. Nothing is written where one of these operations
+/// is refused.
 ///
 /// # Errors
 /// - `Input` where the source couldn't be read, or a name in a folder of it is given twice or can't stand

@@ -1,7 +1,7 @@
 -- How a run of the program ends, and what it shows then.
 use Rattle.std.specs.Prelude.{ℕ, ◌≡◌, ◌⊎◌, true, false, List, Option, IfSome}
 use Rattle.std.specs.Io.KnownBytes.{Appends}
-use Rattle.lfs_tool_line.specs.Matches.{HasOneMode, IsFaultOf, Parses, rows}
+use Rattle.lfs_tool_line.specs.Matches.{HasOneMode, HasOrder, IsFaultOf, Parses, rows}
 use Rattle.lfs_tool.specs.Ending.{own_line, shows_help, status_of}
 use Rattle.lfs_tool.specs.Watched.{failed_of, inner_of}
 use Rattle.lfs_tool.specs.declared.errors.Fault.{Fault}
@@ -10,7 +10,7 @@ use Rattle.lfs_tool.specs.declared.watched.Watched.{Watched}
 
 -- the words are a command line
 abbrev pub HasLine : List (List ℕ) → Type 0
-HasLine words = Parses words × HasOneMode (rows words)
+HasLine words = Parses words × HasOneMode (rows words) × HasOrder (rows words)
 
 -- a fault that a run of these words may end in: of the line as the line tells, and of the tool only where there is one
 abbrev pub IsFaultIn : List (List ℕ) → Fault → Type 0

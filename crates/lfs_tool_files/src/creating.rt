@@ -12,8 +12,8 @@ use std::alloc::Global;
 use std::io::Write;
 use std::rt::Files;
 
-/// Writes the image of a source with the sizes that a command line gives, in bytes. The source isn't
-/// read where no image has these sizes.
+/// Writes the image of a source with the sizes that a command line gives, in bytes, and with its order
+/// of names. The source isn't read where no image has these sizes.
 ///
 /// # Errors
 /// - `Fs(Invalid)` where the image isn't a whole number of blocks, or its geometry is out of range.
@@ -38,7 +38,7 @@ pub fn create_asked<S: Source, W: Write>(
     ensures unread { HasNoGeometry line.now Error.Invalid → (source.new ≡ source.old) × IsErrOf result (ToolError.Fs Error.Invalid) }
 {
     match geometry_for(line.size, line.block_size, line.page) {
-        Ok(geometry) => create(alloc, source, geometry, out),
+        Ok(geometry) => create(alloc, source, geometry.ordered(line.order), out),
         Err(error) => Err(ToolError::Fs(error)),
     }
 }

@@ -1,14 +1,16 @@
 -- What a line of words says.
-use Rattle.std.specs.Prelude.{◌≡◌, ◌∷◌, pos, ℕ, [], Bool, List, Option, Some, None, true, false, codes, is_some, option_map, count_by}
+use Rattle.std.specs.Prelude.{◌≡◌, ◌∷◌, if◌then◌else◌, pos, ℕ, [], Bool, List, Option, Some, None, true, false, codes, is_some, option_map, count_by}
 use Rattle.std.specs.Str.{bytes_eq}
 use Rattle.std.specs.Str.Parse.{digits_value, without_leading_plus}
 use Rattle.clap.specs.Words.{Kinds, Row, Text, fault_of, first_of, matches_of, one_of}
 use Rattle.clap.specs.Words.{HasKind, IsSignedIn, first_value, one_text, without_minus}
 use Rattle.clap.specs.declared.parser.matches.Found.{Found}
+use Rattle.lfs_model.specs.declared.order.NameOrder.{NameOrder}
+use Rattle.lfs_model.specs.declared.order.NameOrder.TheVariants.{LongerFirst, ShorterFirst}
 use Rattle.lfs_tool_line.specs.Command.{mklittlefs}
 use Rattle.lfs_tool_line.specs.declared.line.Line.{Line}
 use Rattle.lfs_tool_line.specs.declared.line.LineError.{LineError}
-use Rattle.lfs_tool_line.specs.declared.line.LineError.TheVariants.{Modes, NotUtf8, Parser}
+use Rattle.lfs_tool_line.specs.declared.line.LineError.TheVariants.{Modes, NotUtf8, Order, Parser}
 use Rattle.lfs_tool_line.specs.declared.line.Mode.{Mode}
 use Rattle.lfs_tool_line.specs.declared.line.Mode.TheVariants as mode
 
@@ -59,6 +61,21 @@ IsModeOf rows (mode.Create dir) = first_of (codes "create") rows ≡ Some dir.no
 IsModeOf rows (mode.Unpack dir) = first_of (codes "unpack") rows ≡ Some dir.now
 IsModeOf rows mode.List = is_listed rows ≡ true
 
+-- the order of names that a text names
+abbrev pub order_named : Text → Option NameOrder
+order_named text = if bytes_eq text (codes "longer-first") then Some LongerFirst else (if bytes_eq text (codes "shorter-first") then Some ShorterFirst else None)
+
+abbrev pub order_in : Option Text → Option NameOrder
+order_in None = None
+order_in (Some text) = order_named text
+
+abbrev pub order_given : List Row → Option NameOrder
+order_given rows = order_in (first_of (codes "order") rows)
+
+-- the order that is given is one
+abbrev pub HasOrder : List Row → Type 0
+HasOrder rows = is_some (order_given rows) ≡ true
+
 -- each part of the line is the value that the words give it, or its default
 pub record IsLineOf (rows : List Row) (line : Line) : Type 0 where
   pub one_mode : HasOneMode rows
@@ -66,6 +83,7 @@ pub record IsLineOf (rows : List Row) (line : Line) : Type 0 where
   pub block_size : number_at (codes "block_size") rows ≡ Some line.block_size
   pub page : number_at (codes "page") rows ≡ Some line.page
   pub size : number_at (codes "size") rows ≡ Some line.size
+  pub order : order_given rows ≡ Some line.order
   pub image : first_of (codes "image") rows ≡ Some line.image.now
 
 -- the option has a text that reads as a number of 32 bits
@@ -81,8 +99,9 @@ pub record IsComplete (f : Found) : Type 0 where
   pub image : is_some (first_value f (codes "image")) ≡ true
 
 -- why there is no line: the parser refuses the words, or it takes them and not exactly one mode is
--- given; text is UTF-8
+-- given, or an order that is none; text is UTF-8
 abbrev pub IsFaultOf : List Text → LineError → Type 0
 IsFaultOf words (Parser e) = HasKind (faults words) e
 IsFaultOf words Modes = Parses words × ¬ HasOneMode (rows words)
+IsFaultOf words Order = Parses words × HasOneMode (rows words) × ¬ HasOrder (rows words)
 IsFaultOf words NotUtf8 = ⊥

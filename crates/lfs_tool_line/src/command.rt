@@ -2,7 +2,7 @@
 
 ghost use Rattle.std.specs.Prelude.{◌≡◌, IfOk, codes, map, false};
 ghost use Rattle.clap.specs.Words.{FailsBy, app_of, found_of, new_app, rows_of, rule_of, with_rule};
-ghost use Rattle.lfs_tool_line.specs.Command.{folder, image_rule, list_rule, mklittlefs, number, with_modes, with_sizes};
+ghost use Rattle.lfs_tool_line.specs.Command.{folder, image_rule, list_rule, mklittlefs, number, order_rule, with_modes, with_sizes};
 ghost use Rattle.lfs_tool_line.specs.Matches.{IsComplete, faults, rows};
 
 use clap::{Arg, ArgAction, ArgMatches, Command, Error, value_parser};
@@ -17,13 +17,19 @@ Examples:
   mklittlefs -u copy disk.img            puts what is in it into the folder copy
   mklittlefs -c settings -b 1024 -p 128 -s 262144 disk.img
   mklittlefs -l -b 1024 -p 128 disk.img  one of 256 KiB with other blocks
+  mklittlefs -c settings --order shorter-first disk.img
 
 Sizes:
   -b  from 1024 to 65536, a multiple of -p
   -p  8, 16, 32, 64, 128, 256 or 512, and at most an eighth of -b
   -s  a multiple of -b: from 2 to 65536 blocks, and at most 268435456
   With -l and -u the size is that of IMAGE, and -b is the one that it was made
-  with.";
+  with.
+
+Order:
+  Names stand by their bytes. Where one begins another, as a and ab, either the
+  longer or the shorter comes first: ORDER is longer-first, as in images of
+  littlefs itself, or shorter-first. -l and -u read both, and list alike.";
 
 fn folder_arg<'a>(alloc: Global, id: &'a str, short: char, help: &'a str) -> Arg<'a>
     ensures rule { rule_of result ≡ folder id.entry.now short }
@@ -98,6 +104,24 @@ fn with_list<'a>(alloc: Global, command: Command<'a>) -> Result<Command<'a>, All
     command.arg(list_arg(alloc))
 }
 
+fn order_arg<'a>(alloc: Global) -> Arg<'a>
+    ensures rule { rule_of result ≡ order_rule }
+    ensures local { result.global ≡ false }
+{
+    Arg::new(alloc, "order")
+        .long("order")
+        .action(ArgAction::Set)
+        .value_name("ORDER")
+        .default_value("longer-first")
+        .help("Order of names in the image that -c makes")
+}
+
+fn with_order<'a>(alloc: Global, command: Command<'a>) -> Result<Command<'a>, AllocError>
+    ensures { IfOk result (λ c. app_of c ≡ with_rule (app_of command.entry) order_rule) }
+{
+    command.arg(order_arg(alloc))
+}
+
 fn image_arg<'a>(alloc: Global) -> Arg<'a>
     ensures rule { rule_of result ≡ image_rule }
     ensures local { result.global ≡ false }
@@ -121,7 +145,9 @@ fn bare_command<'a>(alloc: Global) -> Command<'a>
 {
     Command::new(alloc, "mklittlefs")
         .about("Creates, unpacks or lists an image of a littlefs file system.")
-        .override_usage("mklittlefs (-c DIR | -u DIR | -l) [-b N] [-p N] [-s N] IMAGE")
+        .override_usage(
+            "mklittlefs (-c DIR | -u DIR | -l) [-b N] [-p N] [-s N] [--order ORDER] IMAGE",
+        )
         .after_help(EXAMPLES)
 }
 
@@ -156,6 +182,7 @@ fn command<'a>(alloc: Global) -> Result<Command<'a>, AllocError>
 {
     let command = with_modes(alloc, bare_command(alloc))?;
     let command = with_sizes(alloc, command)?;
+    let command = with_order(alloc, command)?;
     let command = with_image(alloc, command)?;
     Ok(command)
 }

@@ -1,9 +1,10 @@
 ghost use Rattle.std.specs.Prelude.{◌≡◌, IfErr, IfOk, MatchOption, Some, map, option_map};
 ghost use Rattle.clap.specs.Words.{first_of, found_of, rows_of};
-ghost use Rattle.lfs_tool_line.specs.Matches.{HasNumber, HasOneMode, IsComplete, IsFaultOf, IsLineOf, IsModeOf, Parses, flag_at, number_at, rows};
+ghost use Rattle.lfs_tool_line.specs.Matches.{HasNumber, HasOneMode, IsComplete, IsFaultOf, IsLineOf, IsModeOf, Parses, flag_at, number_at, order_given, order_named, rows};
 
 use crate::command::parse;
 use clap::ArgMatches;
+use lfs_model::NameOrder;
 use std::alloc::Global;
 use std::convert::AsStr;
 use thiserror::Error;
@@ -29,6 +30,8 @@ pub struct Line<'a> {
     pub page: u32,
     /// The size of the image in bytes, for `Mode::Create`.
     pub size: u32,
+    /// The order of the names in the image, for `Mode::Create`.
+    pub order: NameOrder,
     /// The path of the image.
     pub image: &'a str,
 }
@@ -42,6 +45,9 @@ pub enum LineError {
     /// None of `-c`, `-u` and `-l` is given, or more than one is.
     #[error("error: give exactly one of -c, -u, -l")]
     Modes,
+    /// The order of names is neither `longer-first` nor `shorter-first`.
+    #[error("error: --order is longer-first or shorter-first")]
+    Order,
     /// A word isn't UTF-8. `read_line` doesn't answer it, since its words are text.
     #[error("error: the command line is not UTF-8")]
     NotUtf8,
@@ -85,11 +91,35 @@ fn mode_of<'a>(matches: &ArgMatches<'a>) -> Option<Mode<'a>>
     }
 }
 
+// The order that a text names.
+fn order_of_text(text: &str) -> Option<NameOrder>
+    ensures { result ≡ order_named text.now }
+{
+    if text == "longer-first" {
+        Some(NameOrder::LongerFirst)
+    } else if text == "shorter-first" {
+        Some(NameOrder::ShorterFirst)
+    } else {
+        None
+    }
+}
+
+// The order that is given, or the default.
+fn order_of(matches: &ArgMatches<'_>) -> Option<NameOrder>
+    ensures { result ≡ order_given (rows_of (found_of matches.now)) }
+{
+    match text_in(matches, "order") {
+        Some(text) => order_of_text(text),
+        None => None,
+    }
+}
+
 // The line that the matches say.
-fn line_of<'a>(matches: &ArgMatches<'a>, mode: Mode<'a>) -> Line<'a>
+fn line_of<'a>(matches: &ArgMatches<'a>, mode: Mode<'a>, order: NameOrder) -> Line<'a>
     requires complete { IsComplete (found_of matches.now) }
     requires one { HasOneMode (rows_of (found_of matches.now)) }
     requires mode { IsModeOf (rows_of (found_of matches.now)) mode }
+    requires order { order_given (rows_of (found_of matches.now)) ≡ Some order }
     ensures { IsLineOf (rows_of (found_of matches.now)) result }
 {
     Line {
@@ -97,20 +127,22 @@ fn line_of<'a>(matches: &ArgMatches<'a>, mode: Mode<'a>) -> Line<'a>
         block_size: number_in(matches, "block_size"),
         page: number_in(matches, "page"),
         size: number_in(matches, "size"),
+        order,
         image: text_in(matches, "image").unwrap(),
     }
 }
 
 /// Reads the words of a command line, the program's name first:
-/// `mklittlefs (-c DIR | -u DIR | -l) [-b N] [-p N] [-s N] IMAGE`.
+/// `mklittlefs (-c DIR | -u DIR | -l) [-b N] [-p N] [-s N] [--order ORDER] IMAGE`.
 ///
 /// A number is decimal, from 0 to 4294967295. Where an option isn't given, a block has 4096 bytes, a
-/// page 256 and the image 65536.
+/// page 256 and the image 65536, and the longer names come first. ORDER is `longer-first` or `shorter-first`; it is read
+/// with each mode and matters with `-c` alone.
 ///
 /// # Errors
 /// `LineError::Parser` where the parser refuses the words, where they ask for help, or where a growth
 /// was refused. `LineError::Modes` where it takes them and not exactly one of `-c`, `-u` and `-l` is
-/// given.
+/// given, and `LineError::Order` where ORDER is neither.
 pub fn read_line<'a, S: AsStr>(alloc: Global, words: &'a [S]) -> Result<Line<'a>, LineError>
     ensures ok { IfOk result (λ line. Parses (map S.text words.entry.now)
         × IsLineOf (rows (map S.text words.entry.now)) line) }
@@ -121,7 +153,10 @@ pub fn read_line<'a, S: AsStr>(alloc: Global, words: &'a [S]) -> Result<Line<'a>
         Err(error) => return Err(LineError::Parser(error)),
     };
     match mode_of(&matches) {
-        Some(mode) => Ok(line_of(&matches, mode)),
+        Some(mode) => match order_of(&matches) {
+            Some(order) => Ok(line_of(&matches, mode, order)),
+            None => Err(LineError::Order),
+        },
         None => Err(LineError::Modes),
     }
 }

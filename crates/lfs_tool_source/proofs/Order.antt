@@ -9,6 +9,7 @@ use Rattle.std.proofs.lemmas.List.Elements.{All-from_recursion}
 use Rattle.std.proofs.lemmas.List.Kept.{AllPairs-cons}
 use Rattle.std.proofs.lemmas.List.Sums.{sum_by-cons}
 use Rattle.std.proofs.lemmas.List.Sorted.{IsPermutation-map, sum_by-IsPermutation}
+use Rattle.lfs_model.specs.declared.order.NameOrder.TheVariants.{ShorterFirst}
 use Rattle.lfs_model.specs.Names.{Name, name_cmp, same_name, is_component, is_less}
 use Rattle.lfs_model.specs.Source.{AreBad, Source, given_names, times}
 use Rattle.lfs_tool_source.specs.Shown.{listed}
@@ -26,20 +27,20 @@ less_from Greater e = absurd (cc)
 
 record Rises (last : Name) (ns : List Name) : Type 0 where
   components : Each (λ n. is_component n ≡ true) ns
-  above : Each (λ n. name_cmp last n ≡ Less) ns
-  pairs : AllPairs (λ a b. name_cmp a b ≡ Less) ns
+  above : Each (λ n. name_cmp ShorterFirst last n ≡ Less) ns
+  pairs : AllPairs (λ a b. name_cmp ShorterFirst a b ≡ Less) ns
 
 rises_from : (last : Name) (ns : List Name) → rise_behind last ns ≡ true → Rises last ns
 rises_from last [] e = record { components = tt; above = tt; pairs = λ i j d l m. absurd (omega arith) }
 rises_from last (n ∷ ns) e =
-    let one = and_parts (is_component n && is_less (name_cmp last n)) (rise_behind n ns) e in
-    let two = and_parts (is_component n) (is_less (name_cmp last n)) one.0 in
-    let less = less_from (name_cmp last n) two.1 in
+    let one = and_parts (is_component n && is_less (name_cmp ShorterFirst last n)) (rise_behind n ns) e in
+    let two = and_parts (is_component n) (is_less (name_cmp ShorterFirst last n)) one.0 in
+    let less = less_from (name_cmp ShorterFirst last n) two.1 in
     let rest = rises_from n ns one.1 in
     record {
       components = (two.0, rest.components);
-      above = (less, each_weaker (λ m. name_cmp n m ≡ Less) (λ m. name_cmp last m ≡ Less) (λ m k. nat_list_cmp_total.trans last n m less k) ns rest.above);
-      pairs = AllPairs-cons (λ a b. name_cmp a b ≡ Less) n ns (All-from_recursion (λ m. name_cmp n m ≡ Less) ns rest.above) rest.pairs;
+      above = (less, each_weaker (λ m. name_cmp ShorterFirst n m ≡ Less) (λ m. name_cmp ShorterFirst last m ≡ Less) (λ m k. nat_list_cmp_total.trans last n m less k) ns rest.above);
+      pairs = AllPairs-cons (λ a b. name_cmp ShorterFirst a b ≡ Less) n ns (All-from_recursion (λ m. name_cmp ShorterFirst n m ≡ Less) ns rest.above) rest.pairs;
     }
 
 pub in_order : (ns : List Name) → rise_behind [] ns ≡ true → AreInOrder ns
@@ -52,7 +53,7 @@ in_order ns e =
 abbrev NeverFall : List Name → Type 0
 NeverFall [] = Unit {0}
 NeverFall (n ∷ []) = Unit {0}
-NeverFall (n ∷ m ∷ ns) = (is_less (name_cmp m n) ≡ false) × NeverFall (m ∷ ns)
+NeverFall (n ∷ m ∷ ns) = (is_less (name_cmp ShorterFirst m n) ≡ false) × NeverFall (m ∷ ns)
 
 never_fall : (xs : List Listed) → IsSortedBy comes_before xs → NeverFall (map name_in xs)
 never_fall [] h = tt
@@ -82,18 +83,18 @@ twice n ns = inr (n, omega (arith, here_too n (n ∷ ns), here_too n ns))
 
 bad_behind : (last : Name) (ns : List Name) → NeverFall (last ∷ ns) → rise_behind last ns ≡ false → AreBad (last ∷ ns)
 bad_behind last [] h e = absurd (cc)
-bad_behind last (n ∷ ns) h e = go (is_component n) (name_cmp last n) refl refl e (bad_behind n ns h.1)
+bad_behind last (n ∷ ns) h e = go (is_component n) (name_cmp ShorterFirst last n) refl refl e (bad_behind n ns h.1)
   where
-    go : (c : Bool) (o : Ordering) → is_component n ≡ c → name_cmp last n ≡ o → (c && is_less o && rise_behind n ns) ≡ false → (rise_behind n ns ≡ false → AreBad (n ∷ ns)) → AreBad (last ∷ n ∷ ns)
+    go : (c : Bool) (o : Ordering) → is_component n ≡ c → name_cmp ShorterFirst last n ≡ o → (c && is_less o && rise_behind n ns) ≡ false → (rise_behind n ns ≡ false → AreBad (n ∷ ns)) → AreBad (last ∷ n ∷ ns)
     go false o is cmp f next = bad_later last (n ∷ ns) (odd_here n ns is)
     go true Less is cmp f next = bad_later last (n ∷ ns) (next f)
     go true Equal is cmp f next = subst (λ m. AreBad (last ∷ m ∷ ns)) (name_from_equal last n cmp) (twice last ns)
     go true Greater is cmp f next =
-        let back : name_cmp n last ≡ Less = nat_list_cmp_total.antisymm n last ∙ ap ordering_reverse cmp in
+        let back : name_cmp ShorterFirst n last ≡ Less = nat_list_cmp_total.antisymm n last ∙ ap ordering_reverse cmp in
         let wrong : true ≡ false = sym (ap is_less back) ∙ h.0 in
         absurd (cc)
 
-above_nothing : (n : Name) → is_component n ≡ true → is_less (name_cmp [] n) ≡ true
+above_nothing : (n : Name) → is_component n ≡ true → is_less (name_cmp ShorterFirst [] n) ≡ true
 above_nothing [] e = absurd (cc)
 above_nothing (b ∷ n) e = refl
 
@@ -101,7 +102,7 @@ bad_from : (ns : List Name) → NeverFall ns → rise_behind [] ns ≡ false →
 bad_from [] h e = absurd (cc)
 bad_from (n ∷ ns) h e = go (is_component n) refl e
   where
-    go : (c : Bool) → is_component n ≡ c → (c && is_less (name_cmp [] n) && rise_behind n ns) ≡ false → AreBad (n ∷ ns)
+    go : (c : Bool) → is_component n ≡ c → (c && is_less (name_cmp ShorterFirst [] n) && rise_behind n ns) ≡ false → AreBad (n ∷ ns)
     go false is f = odd_here n ns is
     go true is f = bad_behind n ns h (sym (ap (λ b. b && rise_behind n ns) (above_nothing n is)) ∙ f)
 
@@ -109,11 +110,11 @@ pub bad_names : (xs : List Listed) → IsSortedBy comes_before xs → rise_behin
 bad_names xs h e = bad_from (map name_in xs) (never_fall xs h) e
 
 -- one more name that is in order
-pub rise_more : (last : Name) (x : Listed) (xs : List Listed) → is_component x.name.items ≡ true → is_less (name_cmp last x.name.items) ≡ true
+pub rise_more : (last : Name) (x : Listed) (xs : List Listed) → is_component x.name.items ≡ true → is_less (name_cmp ShorterFirst last x.name.items) ≡ true
     → rise_behind last (map name_in (x ∷ xs)) ≡ rise_behind x.name.items (map name_in xs)
-rise_more last x xs c l = ap (λ b. b && is_less (name_cmp last x.name.items) && rise_behind x.name.items (map name_in xs)) c ∙ ap (λ b. b && rise_behind x.name.items (map name_in xs)) l
+rise_more last x xs c l = ap (λ b. b && is_less (name_cmp ShorterFirst last x.name.items) && rise_behind x.name.items (map name_in xs)) c ∙ ap (λ b. b && rise_behind x.name.items (map name_in xs)) l
 
-pub rise_ends : (last : Name) (x : Listed) (xs : List Listed) → (is_component x.name.items && is_less (name_cmp last x.name.items)) ≡ false → rise_behind last (map name_in (x ∷ xs)) ≡ false
+pub rise_ends : (last : Name) (x : Listed) (xs : List Listed) → (is_component x.name.items && is_less (name_cmp ShorterFirst last x.name.items)) ≡ false → rise_behind last (map name_in (x ∷ xs)) ≡ false
 rise_ends last x xs e = ap (λ b. b && rise_behind x.name.items (map name_in xs)) e
 
 -- ---- in another order

@@ -2,6 +2,7 @@
 use Rattle.std.specs.Prelude.{◌≡◌, ◌++◌, ◌&&◌, ℕ, Bool, true, false, List, [], ◌∷◌, Option, Some, None, All, AllPairs, Contains, IfSome, map}
 use Rattle.std.specs.List.Sorted.{IsPermutation}
 use Rattle.std.specs.declared.cmp.Ordering.TheVariants.{Less}
+use Rattle.lfs_model.specs.declared.order.NameOrder.TheVariants.{ShorterFirst}
 use Rattle.lfs_model.specs.Names.{Name, name_cmp, is_component, is_less}
 use Rattle.lfs_model.specs.Source.{AreBad, Source, given_names, path_in}
 use Rattle.lfs_tool_source.specs.Shown.{is_folder}
@@ -16,17 +17,17 @@ abbrev pub name_in : Listed → Name
 name_in l = l.name.items
 
 abbrev pub comes_before : Listed → Listed → Bool
-comes_before a b = is_less (name_cmp a.name.items b.name.items)
+comes_before a b = is_less (name_cmp ShorterFirst a.name.items b.name.items)
 
 -- each is a component, and greater than the one before it
 abbrev pub rise_behind : Name → List Name → Bool
 rise_behind last [] = true
-rise_behind last (n ∷ ns) = is_component n && is_less (name_cmp last n) && rise_behind n ns
+rise_behind last (n ∷ ns) = is_component n && is_less (name_cmp ShorterFirst last n) && rise_behind n ns
 
 -- components of paths, each greater than those before it
 pub record AreInOrder (names : List Name) : Type 0 where
   pub components : All (λ n. is_component n ≡ true) names
-  pub rise : AllPairs (λ a b. name_cmp a b ≡ Less) names
+  pub rise : AllPairs (λ a b. name_cmp ShorterFirst a b ≡ Less) names
 
 -- These names, each with whether it is a folder's, are in order, and all that stands in a folder of what the source
 -- is known to show.

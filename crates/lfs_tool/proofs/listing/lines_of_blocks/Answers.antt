@@ -10,7 +10,7 @@ pub returns-in-Ok-clause-ok : goal.returns-in-Ok-clause-ok
 returns-in-Ok-clause-ok c =
     let e = c.in-Ok in
     IfOk-weaker c.lines_on.result _ _
-    (λ text lines bytes are. lists_by_excerpt c.excerpt_is_listed_alike.ensures.listed c.args.block_size c.args.page bytes text.items c.args.blocks.items e.excerpt are e.ensures.geometry c.requires.sizes e.ensures.shown lines)
+    (λ text (order, lines) bytes are. lists_by_excerpt c.excerpt_is_listed_alike.ensures.listed c.args.block_size c.args.page bytes text.items c.args.blocks.items e.excerpt are e.ensures.geometry c.requires.sizes e.ensures.shown order lines)
     c.lines_on.ensures.lines
 
 pub returns-in-Ok-clause-err : goal.returns-in-Ok-clause-err

@@ -5,5 +5,7 @@ use Rattle.lfs_tool.proofs.listing.lines_on.Goals as goal
 
 pub returns-clause-lines : goal.returns-clause-lines
 returns-clause-lines c =
-    let h = c.in_ok-_thread.ensures.items in
-    (c.in_ok-_thread._thread.kept.pairs, (h.accepted, (founds_seen c.in_ok-_thread.items.items, (h.walked, c.in_ok-text.ensures ∙ ap (λ found. lines_at (founds_seen found)) c.deref.ensures.value))))
+    let h = c.in_ok-_thread.ensures.items in (
+      c.in_ok-_thread._thread.kept.disk.order,
+      (c.in_ok-_thread._thread.kept.pairs, (h.accepted, (founds_seen c.in_ok-_thread.items.items, (h.walked, c.in_ok-text.ensures ∙ ap (λ found. lines_at (founds_seen found)) c.deref.ensures.value)))),
+    )

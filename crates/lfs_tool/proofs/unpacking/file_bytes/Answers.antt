@@ -14,4 +14,4 @@ not_a_fault e old new (inr memory) fault none = memory
 pub returns-in-Err-clause-err : goal.returns-in-Err-clause-err
 returns-in-Err-clause-err c =
     let told = c.in-Err.ensures.reading.told in
-    ap Fs (not_a_fault c.in-Err.error _ _ told.errors (λ io. told.fault (ap Err io)) (ap faults (sym c.device-device.ensures.history) ∙ c.device-device.result.now.no_fault))
+    ap Fs (not_a_fault c.in-Err.error _ _ told.errors (λ io. told.fault (ap Err io)) (ap faults (sym c.device-device.ensures.history) ∙ c.device-device.result.now.inner.no_fault))

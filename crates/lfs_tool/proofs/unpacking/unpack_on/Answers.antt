@@ -21,7 +21,7 @@ returns-in-Ok-clause-done g c =
     let old = g.T.Target.done c.args.target.now in
     let new = g.T.Target.done c.put_items.new.target in
     on_ok_weaker c.put_items.result (λ all.
-    done_of _ c.in-Ok.thread.kept.disk c.in-Ok.thread.kept.pairs (founds_seen c.in-Ok.items.items) old new h.disk_is h.accepted h.walked
+    done_of (shown (geometry_of c.args.device) (blocks_of c.args.device)) c.in-Ok.thread.kept.disk c.in-Ok.thread.kept.disk.order c.in-Ok.thread.kept.pairs (founds_seen c.in-Ok.items.items) h.disk_is h.accepted h.walked old new
     (subst (λ (items : List TreeItem). HasDone old new (actions_at c.in-Ok.thread.kept.disk (founds_seen items))) c.deref.ensures.value all)) c.put_items.ensures.done
 
 pub returns-in-Ok-clause-failed : goal.returns-in-Ok-clause-failed
@@ -30,5 +30,5 @@ returns-in-Ok-clause-failed g c =
     let old = g.T.Target.done c.args.target.now in
     let new = g.T.Target.done c.put_items.new.target in
     fails_begun (shown (geometry_of c.args.device) (blocks_of c.args.device)) old new _ _ c.put_items.result _ c.put_items.ensures.begun (λ begun.
-    begun_of _ c.in-Ok.thread.kept.disk c.in-Ok.thread.kept.pairs (founds_seen c.in-Ok.items.items) old new h.disk_is h.accepted h.walked
+    begun_of (shown (geometry_of c.args.device) (blocks_of c.args.device)) c.in-Ok.thread.kept.disk c.in-Ok.thread.kept.disk.order c.in-Ok.thread.kept.pairs (founds_seen c.in-Ok.items.items) h.disk_is h.accepted h.walked old new
     (subst (λ (items : List TreeItem). HasBegun old new (actions_at c.in-Ok.thread.kept.disk (founds_seen items))) c.deref.ensures.value begun)) c.put_items.ensures.tells

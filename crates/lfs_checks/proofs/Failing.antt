@@ -72,7 +72,7 @@ pub asking_fails : (e : Error) (old : Held) (op : Operation) (tree : Seen) (file
 asking_fails e old op tree files works broken error = record {
   fails = record {
     failed = ap (λ (m : Moment). m.state) (failed_moment (held_with tree files) broken.failed);
-    geometry = subst (λ d. SameGeometry old.tree.disk d) (sym broken.disk) (record { block_size = refl; page = refl; count = refl });
+    geometry = subst (λ d. SameGeometry old.tree.disk d) (sym broken.disk) (record { block_size = refl; page = refl; order = refl; count = refl });
     calls = broken.reads.events;
     called = broken.reads.extends;
     asks = λ s f a. (broken.disk, writes);
@@ -113,7 +113,7 @@ broken_fails e old op mid new files works other asks itself sound writable asked
 pub broken_by_reads : (t s : Seen) → IsBrokenAsking t s → IsBroken t s
 broken_by_reads t s b = record {
   failed = b.failed;
-  geometry = subst (λ d. SameGeometry t.disk d) (sym b.disk) (record { block_size = refl; page = refl; count = refl });
+  geometry = subst (λ d. SameGeometry t.disk d) (sym b.disk) (record { block_size = refl; page = refl; order = refl; count = refl });
   calls = b.reads.events;
   called = b.reads.extends;
 }
@@ -138,7 +138,7 @@ pub memory_fails_at_once : (old : Held) (op : Operation) → FailsBy NoMemory (m
 memory_fails_at_once old op = record {
   fails = record {
     failed = refl;
-    geometry = record { block_size = refl; page = refl; count = refl };
+    geometry = record { block_size = refl; page = refl; order = refl; count = refl };
     calls = [];
     called = refl;
     asks = λ s f a. (refl, (refl, refl));

@@ -2,6 +2,11 @@
 use Rattle.lfs_device.specs.declared.geometry.Geometry.{Geometry}
 use Rattle.lfs_model.specs.Blocks.{Blocks}
 use Rattle.lfs_model.specs.Disk.{Disk}
+use Rattle.lfs_model.specs.declared.order.NameOrder.{NameOrder}
 
 abbrev pub disk_of : Geometry → Blocks → Disk
-disk_of geometry blocks = record { block_size = geometry.block_size; page = geometry.page; blocks = blocks }
+disk_of geometry blocks = record { block_size = geometry.block_size; page = geometry.page; order = geometry.order; blocks = blocks }
+
+-- the same disk, with its names in that order
+abbrev pub ordered : NameOrder → Disk → Disk
+ordered order disk = record disk { order = order }

@@ -1,8 +1,10 @@
 ghost use Rattle.std.specs.Prelude.{◌≡◌, MatchResult};
 ghost use Rattle.lfs_model.specs.Disk.{pair_capacity, entry_limit, inline_limit, slot_limit};
 ghost use Rattle.lfs_model.specs.Geometry.{IsGeometry};
+ghost use Rattle.lfs_model.specs.declared.order.NameOrder.TheVariants.{LongerFirst};
 
 use crate::Error;
+use lfs_model::NameOrder;
 
 /// How a device is divided: blocks, which are erased whole, and pages, which are programmed whole. Sizes are in bytes.
 ///
@@ -14,14 +16,17 @@ pub struct Geometry {
     pub block_size: u32,
     pub page: u32,
     pub block_count: u32,
+    /// The order of the names in the device's directories. A session takes the order that its image has in place of it.
+    pub order: NameOrder,
     pub ghost valid: { IsGeometry block_size page block_count },
 }
 
 impl Geometry {
-    /// A geometry of these sizes. `Invalid` exactly where they are outside the limits. It takes no memory.
+    /// A geometry of these sizes, with the longer names first. `Invalid` exactly where the sizes are outside the limits. It
+    /// takes no memory.
     pub fn new(block_size: u32, page: u32, block_count: u32) -> Result<Geometry, Error>
         ensures { MatchResult result
-            (λ g. (g.block_size ≡ block_size) × (g.page ≡ page) × (g.block_count ≡ block_count))
+            (λ g. (g.block_size ≡ block_size) × (g.page ≡ page) × (g.block_count ≡ block_count) × (g.order ≡ LongerFirst))
             (λ e. (e ≡ Error.Invalid) × (¬ IsGeometry block_size page block_count)) }
     {
         if !matches!(page, 8 | 16 | 32 | 64 | 128 | 256 | 512) {
@@ -44,7 +49,20 @@ impl Geometry {
             block_size,
             page,
             block_count,
+            order: NameOrder::LongerFirst,
         })
+    }
+
+    /// The same geometry with that order of names.
+    pub fn ordered(self, order: NameOrder) -> Geometry
+        ensures { result ≡ record self { order = order } }
+    {
+        Geometry {
+            block_size: self.block_size,
+            page: self.page,
+            block_count: self.block_count,
+            order,
+        }
     }
 
     /// How many bytes the slots of a metadata pair that is written may take, each name, struct and attribute with its tag

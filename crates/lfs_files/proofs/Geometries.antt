@@ -1,9 +1,10 @@
--- A geometry is known by its three numbers.
+-- A geometry is known by its three numbers and its order.
 use Rattle.std.proofs.Common.{ℕ, ◌≡◌, ap, subst}
 use Rattle.std.proofs.Math.Bool.{Bool-set}
 use Rattle.std.proofs.Math.Bridge.{le_prop}
 use Rattle.std.proofs.Math.Nat.{ℕ_set}
 use Rattle.lfs_device.specs.declared.geometry.Geometry.{Geometry}
+use Rattle.lfs_model.specs.declared.order.NameOrder.{NameOrder}
 use Rattle.lfs_model.specs.Geometry.{IsGeometry}
 
 -- its limits hold in one way
@@ -19,13 +20,17 @@ one_way v w = λ i. record {
   bytes = le_prop v.bytes w.bytes i;
 }
 
-with_size : (a : Geometry) (size : ℕ) → a.block_size ≡ size → (v : IsGeometry size a.page a.block_count) → a ≡ record { block_size = size; page = a.page; block_count = a.block_count; valid = v }
-with_size a size is = subst (λ s. (v : IsGeometry s a.page a.block_count) → a ≡ record { block_size = s; page = a.page; block_count = a.block_count; valid = v }) is
-    (λ v. ap (λ w. record { block_size = a.block_size; page = a.page; block_count = a.block_count; valid = w }) (one_way a.valid v))
+with_size : (a : Geometry) (size : ℕ) → a.block_size ≡ size → (v : IsGeometry size a.page a.block_count) → a ≡ record { block_size = size; page = a.page; order = a.order; block_count = a.block_count; valid = v }
+with_size a size is = subst (λ s. (v : IsGeometry s a.page a.block_count) → a ≡ record { block_size = s; page = a.page; order = a.order; block_count = a.block_count; valid = v }) is
+    (λ v. ap (λ w. record { block_size = a.block_size; page = a.page; order = a.order; block_count = a.block_count; valid = w }) (one_way a.valid v))
 
-with_page : (a : Geometry) (size page : ℕ) → a.block_size ≡ size → a.page ≡ page → (v : IsGeometry size page a.block_count) → a ≡ record { block_size = size; page = page; block_count = a.block_count; valid = v }
-with_page a size page is also = subst (λ p. (v : IsGeometry size p a.block_count) → a ≡ record { block_size = size; page = p; block_count = a.block_count; valid = v }) also (with_size a size is)
+with_page : (a : Geometry) (size page : ℕ) → a.block_size ≡ size → a.page ≡ page → (v : IsGeometry size page a.block_count) → a ≡ record { block_size = size; page = page; order = a.order; block_count = a.block_count; valid = v }
+with_page a size page is also = subst (λ p. (v : IsGeometry size p a.block_count) → a ≡ record { block_size = size; page = p; order = a.order; block_count = a.block_count; valid = v }) also (with_size a size is)
 
-pub geometry_is : (a b : Geometry) → a.block_size ≡ b.block_size → a.page ≡ b.page → a.block_count ≡ b.block_count → a ≡ b
-geometry_is a b size page count =
-    subst (λ n. (v : IsGeometry b.block_size b.page n) → a ≡ record { block_size = b.block_size; page = b.page; block_count = n; valid = v }) count (with_page a b.block_size b.page size page) b.valid
+with_order : (a : Geometry) (size page : ℕ) (order : NameOrder) → a.block_size ≡ size → a.page ≡ page → a.order ≡ order → (v : IsGeometry size page a.block_count)
+    → a ≡ record { block_size = size; page = page; order = order; block_count = a.block_count; valid = v }
+with_order a size page order is also too = subst (λ o. (v : IsGeometry size page a.block_count) → a ≡ record { block_size = size; page = page; order = o; block_count = a.block_count; valid = v }) too (with_page a size page is also)
+
+pub geometry_is : (a b : Geometry) → a.block_size ≡ b.block_size → a.page ≡ b.page → a.order ≡ b.order → a.block_count ≡ b.block_count → a ≡ b
+geometry_is a b size page order count =
+    subst (λ n. (v : IsGeometry b.block_size b.page n) → a ≡ record { block_size = b.block_size; page = b.page; order = b.order; block_count = n; valid = v }) count (with_order a b.block_size b.page b.order size page order) b.valid

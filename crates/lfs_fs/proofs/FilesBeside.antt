@@ -1,6 +1,8 @@
 -- Files beside a path at which nothing has names.
 use Rattle.std.proofs.Common.{ℕ, ◌≡◌, ◌||◌, ◌++◌, ◌∙◌, Bool, true, false, cond, List, [], ◌∷◌, length, map, Option, Some, None, is_some, refl, sym, ap, arith, append-nil}
 use Rattle.std.specs.Option.{option_and_then, option_map}
+use Rattle.lfs_model.proofs.Orders.{length_in_order}
+use Rattle.lfs_model.specs.declared.order.NameOrder.TheVariants.{ShorterFirst}
 use Rattle.lfs_model.specs.TreeEdits.{is_file, names_of, rest_after, same_path}
 use Rattle.lfs_model.specs.Slots.{Slot, Struct, Inline, Ctz, Branch}
 use Rattle.lfs_model.specs.Tree.{Entries, Path, branch_of, node_of, root_slot, slot_at, tree_from}
@@ -16,7 +18,7 @@ module _ (c : ℕ → ℕ → List ℕ) (E : Entries) where
   leaf : (u : Slot) (attributes : List (ℕ × List ℕ)) (s : Struct) → u.struct ≡ s → length (names_of (Some (node_of c E attributes s))) ≡ 0 → IsLeaf E u
   leaf u attributes (Inline bytes) e l x b = absurd (let k = sym (ap branch_of e) ∙ b in cc)
   leaf u attributes (Ctz head size) e l x b = absurd (let k = sym (ap branch_of e) ∙ b in cc)
-  leaf u attributes (Branch to) e l x b = let k : Some to ≡ Some x = sym (ap branch_of e) ∙ b in bare (E to) (E x) (ap E (let i : to ≡ x = cc in i)) l
+  leaf u attributes (Branch to) e l x b = let k : Some to ≡ Some x = sym (ap branch_of e) ∙ b in bare (E to) (E x) (ap E (let i : to ≡ x = cc in i)) (sym (length_in_order ShorterFirst (map (λ (s : Slot). s.name) (E to))) ∙ l)
     where
       bare : (xs ys : List Slot) → xs ≡ ys → length (map (λ (s : Slot). s.name) xs) ≡ 0 → ys ≡ []
       bare [] ys e l = sym e

@@ -75,7 +75,7 @@ remount_fails : (e : Error) (old : Held) (new : Seen) (files : Files) → IsBrok
 remount_fails e old new files broken error = record {
   fails = record {
     failed = ap (λ (m : Moment). m.state) (failed_moment (held_with new files) broken.failed);
-    geometry = subst (λ d. SameGeometry old.tree.disk d) (sym broken.disk) (record { block_size = refl; page = refl; count = refl });
+    geometry = subst (λ d. SameGeometry old.tree.disk d) (sym broken.disk) (record { block_size = refl; page = refl; order = refl; count = refl });
     calls = broken.reads.events;
     called = broken.reads.extends;
     asks = λ s f a. (broken.disk, writes);

@@ -74,7 +74,7 @@ some_since events old new e = record { events = events; extends = e; each = all_
     all_some (e ∷ older) = (tt, all_some older)
 
 pub same_blocks : (disk new : Disk) (blocks : Blocks) → SameGeometry disk new → with_blocks blocks new ≡ with_blocks blocks disk
-same_blocks disk new blocks g = ap₂ (λ size page. record { block_size = size; page = page; blocks = blocks }) g.block_size g.page
+same_blocks disk new blocks g = λ j. record { block_size = g.block_size j; page = g.page j; order = g.order j; blocks = blocks }
 
 -- the tree from before is left, so it is also one of two
 left_still : (before after : Tree) (left : Disk) → IsLeft left before before → IsLeft left before after
@@ -102,7 +102,7 @@ pub nothing_yet : (t : Seen) → IsSound t → t.writable ≡ true → KeepsTree
 nothing_yet t sound writable = record {
   sound = sound;
   writable = writable;
-  geometry = record { block_size = refl; page = refl; count = refl };
+  geometry = record { block_size = refl; page = refl; order = refl; count = refl };
   tree = refl;
   calls = [];
   called = refl;
@@ -128,6 +128,7 @@ still_carried t m new op k carried same survives = record {
   geometry = record {
     block_size = carried.geometry.block_size ∙ k.geometry.block_size;
     page = carried.geometry.page ∙ k.geometry.page;
+    order = carried.geometry.order ∙ k.geometry.order;
     count = carried.geometry.count ∙ k.geometry.count;
   };
   tree = same ∙ k.tree;

@@ -2,6 +2,7 @@
 use Rattle.std.proofs.Common.{Result, Ok, Err, ◌≡◌, Bool, true, false, List, refl, sym, subst, ◌∙◌}
 use Rattle.lfs_device.specs.declared.error.Error.{Error}
 use Rattle.lfs_model.specs.PowerLoss.{IsAtWork, IsLeft, SurvivesStops, Withstands}
+use Rattle.lfs_model.specs.Blocks.{Blocks}
 use Rattle.lfs_model.specs.Disk.{Disk, SameGeometry}
 use Rattle.lfs_model.specs.Effects.{applied}
 use Rattle.lfs_model.specs.History.{Event, IsNewest}
@@ -22,7 +23,6 @@ use Rattle.lfs_tree.specs.Seen.{Seen}
 use Rattle.lfs_checks.proofs.Failing.{failed_moment, healthy_moment}
 use Rattle.lfs_fs.proofs.Stopping.{same_blocks, works_at}
 use Rattle.lfs_device.specs.declared.device.BlockDevice.{Ghosts}
-use Rattle.lfs_thread.specs.Kept.{disk_on}
 
 -- the session has the tree of its disk
 pub ready_agrees : (t : Seen) (files : OpenFiles) → (t.failed ≡ false → IsReady t files) → Agrees (moment_of (held_of t files)).disk (moment_of (held_of t files)).state
@@ -38,10 +38,10 @@ pub told : (t : Seen) (files : OpenFiles) → (t.failed ≡ false → IsReady t 
 told t files ready newest obeyed = record { agrees = ready_agrees t files ready; called = λ works. (ready works).called; newest = newest; obeyed = obeyed }
 
 -- of the device that is lent
-pub told_by : {D : Type 0} (g : Ghosts D) (device : D) (t : Seen) (files : OpenFiles) → (t.failed ≡ false → IsReady t files) → disk_on g device ≡ t.disk → g.history device ≡ t.history → IsNewest (g.history device) (g.blocks device) →
+pub told_by : {D : Type 0} (g : Ghosts D) (device : D) (t : Seen) (files : OpenFiles) → (t.failed ≡ false → IsReady t files) → g.blocks device ≡ t.disk.blocks → g.history device ≡ t.history → IsNewest (g.history device) (g.blocks device) →
     AreObeyed (g.history device) → IsTold (held_of t files)
-told_by g device t files ready disk history newest obeyed =
-    told t files ready (subst (λ (d : Disk). IsNewest t.history d.blocks) disk (subst (λ (h : List Event). IsNewest h (g.blocks device)) history newest)) (subst AreObeyed history obeyed)
+told_by g device t files ready blocks history newest obeyed =
+    told t files ready (subst (λ (bs : Blocks). IsNewest t.history bs) blocks (subst (λ (h : List Event). IsNewest h (g.blocks device)) history newest)) (subst AreObeyed history obeyed)
 
 -- ---- a call that fails, or that leaves the disk as it was
 

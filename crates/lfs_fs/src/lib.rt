@@ -10,5 +10,6 @@ mod session;
 
 pub use gstate::Gstate;
 pub use lfs_checks::OpenFlags;
+pub use lfs_device::NameOrder;
 pub use run::{Op, Reply};
-pub use session::{Session, format, mount};
+pub use session::{Session, format, format_ordered, mount};

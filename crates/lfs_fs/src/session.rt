@@ -11,12 +11,16 @@ ghost use Rattle.lfs_model.specs.State.{Healthy, mounted};
 ghost use Rattle.lfs_model.specs.Run.{AreTurns};
 ghost use Rattle.lfs_model.specs.Outages.{AreWithstood};
 ghost use Rattle.lfs_model.specs.PowerLoss.{SurvivesStops};
-ghost use Rattle.lfs_thread.specs.Device.{GivesBack, two_of};
-ghost use Rattle.lfs_thread.specs.Kept.{disk_on, seen_on};
+ghost use Rattle.lfs_model.specs.declared.order.NameOrder.{NameOrder};
+ghost use Rattle.lfs_model.specs.declared.order.NameOrder.TheVariants.{LongerFirst, ShorterFirst};
+ghost use Rattle.lfs_device.specs.Shown.{ordered};
+ghost use Rattle.lfs_mount.specs.Either.{GivesDeviceBack};
+ghost use Rattle.lfs_thread.specs.Device.{two_of};
+ghost use Rattle.lfs_thread.specs.Kept.{disk_on, seen};
 ghost use Rattle.lfs_model.specs.Thread.{anchor};
 ghost use Rattle.lfs_model.specs.View.{IsAccepted};
 ghost use Rattle.lfs_lookup.specs.Finds.{list_item_seen};
-ghost use Rattle.lfs_tree.specs.Formatting.{ComesBack, WritesFirstTwo};
+ghost use Rattle.lfs_tree.specs.Formatting.{DeviceComesBack, WritesFirstTwo};
 ghost use Rattle.lfs_tree.specs.Seen.{kept_of};
 ghost use Rattle.lfs_fs.specs.Ending.{EndsWell};
 ghost use Rattle.lfs_fs.specs.GstateSeen.{gstate_reply};
@@ -38,9 +42,9 @@ use lfs_checks::{
     check_open_reader, check_open_writer, check_remove, check_remove_attr, check_rename,
     check_seek, check_set_attr, check_stat, check_sync, check_truncate, check_write,
 };
-use lfs_device::{BlockDevice, Error};
+use lfs_device::{BlockDevice, Error, NameOrder, Ordered};
 use lfs_lookup::ListItem;
-use lfs_tree::Tree;
+use lfs_tree::{Tree, mount_either};
 use std::alloc::Global;
 use std::marker::Model;
 
@@ -56,7 +60,7 @@ use std::marker::Model;
 /// [`write`](Session::write) and [`truncate`](Session::truncate).
 #[derive(Drop)]
 pub struct Session<D: BlockDevice> {
-    tree: Tree<D>,
+    tree: Tree<Ordered<D>>,
     files: Files,
 }
 
@@ -615,18 +619,26 @@ impl<D: BlockDevice> Session<D> {
 
     /// The device, as the last call left it.
     pub fn device(&self) -> &D
-        ensures disk { disk_on D.BlockDevice result.now ≡ self.now.tree.disk }
+        ensures disk { ordered self.now.tree.disk.order (disk_on D.BlockDevice result.now) ≡ self.now.tree.disk }
         ensures history { D.history result.now ≡ self.now.tree.history }
     {
-        self.tree.device()
+        self.tree.device().inner()
     }
 
     /// Ends the session. Nothing is written.
     pub fn unmount(self) -> D
-        ensures disk { disk_on D.BlockDevice result ≡ self.tree.disk }
+        ensures disk { ordered self.tree.disk.order (disk_on D.BlockDevice result) ≡ self.tree.disk }
         ensures history { D.history result ≡ self.tree.history }
     {
-        self.tree.into_device()
+        self.tree.into_device().into_inner()
+    }
+
+    /// The order in which the image's directories have their names. What is listed doesn't depend on
+    /// it: there the shorter name always comes first.
+    pub fn order(&self) -> NameOrder
+        ensures { result ≡ self.now.tree.disk.order }
+    {
+        self.tree.device().order()
     }
 
     // One operation. A refusal is a reply; an error leaves a failed session.
@@ -702,19 +714,21 @@ impl<D: BlockDevice> Session<D> {
     }
 }
 
-/// A session over the image of a device. Only reads are made.
+/// A session over the image of a device, in the order of names that it has. Where both orders fit,
+/// the longer names come first, as littlefs's own code has them. Only reads are made.
 ///
 /// # Errors
 ///
-/// `Corrupt` exactly where no image is accepted there. `Io` where a read failed, and `NoMemory`
-/// where memory isn't granted. The device comes back with an error.
+/// `Corrupt` exactly where no image is accepted there in either order. `Io` where a read failed, and
+/// `NoMemory` where memory isn't granted. The device comes back with an error.
 pub fn mount<D: BlockDevice>(alloc: Global, device: D) -> Result<Session<D>, (D, Error)>
-    ensures begun { IfOk result (IsBegun (disk_on D.BlockDevice device) (D.history device)) }
-    ensures corrupt { IfErr result (λ e. e.1 ≡ Error.Corrupt → (ps : List Pair) → IsAccepted (disk_on D.BlockDevice device) ps → ⊥) }
+    ensures begun { IfOk result (λ s. IsBegun (ordered s.tree.disk.order (disk_on D.BlockDevice device)) (D.history device) s) }
+    ensures longer { IfOk result (λ s. s.tree.disk.order ≡ ShorterFirst → (ps : List Pair) → ¬ IsAccepted (ordered LongerFirst (disk_on D.BlockDevice device)) ps) }
+    ensures corrupt { IfErr result (λ e. e.1 ≡ Error.Corrupt → (order : NameOrder) (ps : List Pair) → ¬ IsAccepted (ordered order (disk_on D.BlockDevice device)) ps) }
     ensures errors { IfErr result (λ e. (e.1 ≡ Error.Io) ⊎ (e.1 ≡ Error.Corrupt) ⊎ (e.1 ≡ Error.NoMemory)) }
-    ensures back { IfErr result (λ e. GivesBack D.BlockDevice device e.0 e.1) }
+    ensures back { IfErr result (λ e. GivesDeviceBack D.BlockDevice device e.0 e.1) }
 {
-    match Tree::mount(alloc, device) {
+    match mount_either(alloc, device) {
         Ok(tree) => Ok(Session {
             tree,
             files: Files::none(alloc),
@@ -723,25 +737,46 @@ pub fn mount<D: BlockDevice>(alloc: Global, device: D) -> Result<Session<D>, (D,
     }
 }
 
-/// Makes an empty file system on a device (SPEC.md of littlefs, "Superblock"), and begins a session
-/// over it. The blocks 0 and 1 are erased, and no other is written.
+/// Makes an empty file system on a device, as [`format_ordered`] does, in littlefs's own order of
+/// names: the longer ones first.
+///
+/// # Errors
+///
+/// Those of [`format_ordered`].
+pub fn format<D: BlockDevice>(alloc: Global, device: D) -> Result<Session<D>, (D, Error)>
+    ensures fresh { IfOk result (λ s. IsFresh s.tree.disk) }
+    ensures state { IfOk result (λ s. (moment_of s).state ≡ Healthy (mounted empty_tree)) }
+    ensures geometry { IfOk result (λ s. SameGeometry (ordered LongerFirst (disk_on D.BlockDevice device)) s.tree.disk) }
+    ensures calls { IfOk result (λ s. WritesFirstTwo (seen (ordered LongerFirst (disk_on D.BlockDevice device)) (D.history device) [] []) (kept_of s.tree)) }
+    ensures back { IfErr result (λ e. DeviceComesBack D.BlockDevice (two_of anchor) device e.0 e.1) }
+{
+    format_ordered(alloc, device, NameOrder::LongerFirst)
+}
+
+/// Makes an empty file system on a device (SPEC.md of littlefs, "Superblock"), whose directories
+/// will have their names in that order, and begins a session over it. The blocks 0 and 1 are erased,
+/// and no other is written. The order isn't stored: a mount finds it by the names.
 ///
 /// # Errors
 ///
 /// `Io` where a call of the device failed; the two blocks may hold anything then. `NoMemory` where
 /// memory isn't granted; nothing is written then. The device comes back with an error.
-pub fn format<D: BlockDevice>(alloc: Global, device: D) -> Result<Session<D>, (D, Error)>
+pub fn format_ordered<D: BlockDevice>(
+    alloc: Global,
+    device: D,
+    order: NameOrder,
+) -> Result<Session<D>, (D, Error)>
     ensures fresh { IfOk result (λ s. IsFresh s.tree.disk) }
     ensures state { IfOk result (λ s. (moment_of s).state ≡ Healthy (mounted empty_tree)) }
-    ensures geometry { IfOk result (λ s. SameGeometry (disk_on D.BlockDevice device) s.tree.disk) }
-    ensures calls { IfOk result (λ s. WritesFirstTwo (seen_on D.BlockDevice device [] []) (kept_of s.tree)) }
-    ensures back { IfErr result (λ e. ComesBack D.BlockDevice (two_of anchor) device e.0 e.1) }
+    ensures geometry { IfOk result (λ s. SameGeometry (ordered order (disk_on D.BlockDevice device)) s.tree.disk) }
+    ensures calls { IfOk result (λ s. WritesFirstTwo (seen (ordered order (disk_on D.BlockDevice device)) (D.history device) [] []) (kept_of s.tree)) }
+    ensures back { IfErr result (λ e. DeviceComesBack D.BlockDevice (two_of anchor) device e.0 e.1) }
 {
-    match Tree::format(alloc, device) {
+    match Tree::format(alloc, Ordered::new(device, order)) {
         Ok(tree) => Ok(Session {
             tree,
             files: Files::none(alloc),
         }),
-        Err(back) => Err(back),
+        Err((device, error)) => Err((device.into_inner(), error)),
     }
 }

@@ -3,6 +3,8 @@ use Rattle.std.proofs.Common.{ℕ, ◌≡◌, ◌≤◌, ◌∙◌, Bool, true, 
 use Rattle.std.specs.Prelude.{is_none}
 use Rattle.std.specs.Option.{option_and_then, option_map, option_or}
 use Rattle.std.proofs.lemmas.Option.{same_Some}
+use Rattle.lfs_model.specs.Names.{in_order}
+use Rattle.lfs_model.specs.declared.order.NameOrder.TheVariants.{ShorterFirst}
 use Rattle.lfs_model.specs.TreeEdits.{is_directory, is_file}
 use Rattle.lfs_model.specs.Disk.{Disk}
 use Rattle.lfs_model.specs.Names.{Name}
@@ -104,7 +106,7 @@ module _ (disk : Disk) (ps : List Pair) where
 
   pub record IsDirectoryAt (path : Path) (at : ℕ × ℕ) : Type 0 where
     pub attributes : Attributes
-    pub is : tree_in disk ps path ≡ Some (DirectoryNode attributes (names_at (entries_in ps) at))
+    pub is : tree_in disk ps path ≡ Some (DirectoryNode attributes (in_order ShorterFirst (names_at (entries_in ps) at)))
 
   pub directory_at_path : (path : Path) (at : ℕ × ℕ) → Leads ps path at → IsDirectoryAt path at
   directory_at_path path at leads = go (slot_of_path ps path) refl leads
@@ -114,7 +116,7 @@ module _ (disk : Disk) (ps : List Pair) where
       by_struct x (Ctz head size) k e b = absurd (cc)
       by_struct x (Branch to) k e b = record {
         attributes = x.attributes;
-        is = ap node_shown e ∙ ap (λ (z : Struct). Some (node_of (contents_in disk) (entries_in ps) x.attributes z)) k ∙ ap (λ z. Some (DirectoryNode x.attributes (names_at (entries_in ps) z))) (same_Some to at b);
+        is = ap node_shown e ∙ ap (λ (z : Struct). Some (node_of (contents_in disk) (entries_in ps) x.attributes z)) k ∙ ap (λ z. Some (DirectoryNode x.attributes (in_order ShorterFirst (names_at (entries_in ps) z)))) (same_Some to at b);
       }
 
       go : (o : Option Slot) → slot_of_path ps path ≡ o → option_and_then (λ (f : Slot). branch_of f.struct) o ≡ Some at → IsDirectoryAt path at

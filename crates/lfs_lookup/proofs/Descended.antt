@@ -1,10 +1,11 @@
 -- Down a path, a directory at a time.
-use Rattle.std.proofs.Common.{ℕ, zero, suc, ◌≡◌, ◌<◌, ◌≤◌, ◌+◌, List, [], ◌∷◌, ◌++◌, length, map, take, drop, Option, Some, None, Result, Ok, Err, refl, sym, ap, ap₂, subst, ◌∙◌, arith, append_assoc, append-nil, slice_get, slice_index_or}
+use Rattle.std.proofs.Common.{subst₂, ℕ, zero, suc, ◌≡◌, ◌<◌, ◌≤◌, ◌+◌, List, [], ◌∷◌, ◌++◌, length, map, take, drop, Option, Some, None, Result, Ok, Err, refl, sym, ap, ap₂, subst, ◌∙◌, arith, append_assoc, append-nil, slice_get, slice_index_or}
 use Rattle.std.specs.Prelude.{sum_by, IfOk}
 use Rattle.std.specs.Option.{option_and_then, option_map, option_or}
 use Rattle.std.proofs.lemmas.List.{map-append}
 use Rattle.std.proofs.lemmas.List.Sums.{sum_by-append, sum_by-cons}
 use Rattle.lfs_device.specs.declared.error.Error.{Error}
+use Rattle.lfs_model.specs.Disk.{Disk}
 use Rattle.lfs_model.specs.Discipline.{pairs_of_path, parents}
 use Rattle.lfs_model.specs.History.{reads}
 use Rattle.lfs_model.specs.InDirectory.{run_length}
@@ -173,7 +174,7 @@ pub sum_is : (f : Path → ℕ) (path above : Path) (n : Name) → path ≡ abov
 sum_is f path above n e = ap (λ p. sum_by f (parents p)) e ∙ sum_on f above n
 
 module _ (t : Kept) (path above : Path) (n : Name) (is : path ≡ above ++ n ∷ []) where
-  pub leads_there : (found : Found) → parent_fault (tree_in t.disk t.pairs) [] (above ++ n ∷ []) ≡ None → IsThere t.pairs above n found → LeadsTo t path found
+  pub leads_there : (found : Found) → parent_fault (tree_in t.disk t.pairs) [] (above ++ n ∷ []) ≡ None → IsThere t.disk.order t.pairs above n found → LeadsTo t path found
   leads_there (found.Directory parent slot first) e there = record { parents = ap (parent_fault (tree_in t.disk t.pairs) []) is ∙ e; there = record { above = above; name = n; is = is; there = there } }
   leads_there (found.File parent slot contents) e there = record { parents = ap (parent_fault (tree_in t.disk t.pairs) []) is ∙ e; there = record { above = above; name = n; is = is; there = there } }
   leads_there (found.Nothing parent place) e there = record { parents = ap (parent_fault (tree_in t.disk t.pairs) []) is ∙ e; there = record { above = above; name = n; is = is; there = there } }
@@ -188,11 +189,11 @@ module _ (t : Kept) (path above : Path) (n : Name) (is : path ≡ above ++ n ∷
   leads_past_nothing d = record { parents = ap (parent_fault (tree_in t.disk t.pairs) []) is ∙ d.fault n; there = tt }
 
 pub looked_in : (t next : Kept) → IsOnlyRead t next → (above : Path) (n : Name) (first : ℕ) (result : Result Found Error) → BeginsOnPath t.pairs above first
-    → IfOk result (λ found. (above : Path) → BeginsOnPath next.pairs above first → IsThere next.pairs above n found) → (path : Path) → path ≡ above ++ n ∷ []
+    → IfOk result (λ found. (above : Path) → BeginsOnPath next.pairs above first → IsThere next.disk.order next.pairs above n found) → (path : Path) → path ≡ above ++ n ∷ []
     → parent_fault (tree_in t.disk t.pairs) [] (above ++ n ∷ []) ≡ None → IfOk result (LeadsTo t path)
 looked_in t next r above n first (Err e) on answer path is fault = tt
 looked_in t next r above n first (Ok found) on answer path is fault =
-    leads_there t path above n is found fault (subst (λ ps. IsThere ps above n found) r.pairs (answer above (begins_same t next r above first on)))
+    leads_there t path above n is found fault (subst₂ (λ (d : Disk) ps. IsThere d.order ps above n found) r.disk r.pairs (answer above (begins_same t next r above first on)))
 
 shows_there : (t : Kept) (moved : Option Spot) (path : Path) (s : Shown) → parent_fault (tree_in t.disk t.pairs) [] path ≡ None → IsShownAt t.pairs moved path s → ShowsTo t moved path s
 shows_there t moved path (shown.Directory spot first) e there = (e, there)

@@ -45,7 +45,7 @@ module _ (t : Kept) (ok : IsSettled t) (path : Path) (first : ℕ) (on : BeginsO
 
   -- ---- a name that belongs there
 
-  pub absent_is : (name : Name) (pair id : ℕ) → Belongs t.pairs first name pair id → slot_of_path t.pairs (path ++ name ∷ []) ≡ None
+  pub absent_is : (name : Name) (pair id : ℕ) → Belongs t.disk.order t.pairs first name pair id → slot_of_path t.pairs (path ++ name ∷ []) ≡ None
   absent_is name pair id b = (nothing_there t.disk t.pairs path on.at _ name on.leads (place_of_belongs t.disk t.pairs path on.at ok.accepted on.leads first pair id name (no_move_from t.pairs ok.settled) b on.begins)).0
 
 -- ---- a directory that a path leads to is at its address

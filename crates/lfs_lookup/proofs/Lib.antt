@@ -1,4 +1,5 @@
 mod NamedSlots
+pub mod ByName
 mod Walked
 pub mod ReadOnly
 mod RecentBlocks

@@ -16,11 +16,13 @@ use Rattle.lfs_model.specs.Shown.{Leads, all_slots, contents_in, entries_in, tre
 use Rattle.lfs_model.proofs.Counts.{Each, each_both}
 use Rattle.lfs_model.proofs.OneCommit.{slot_there}
 use Rattle.lfs_thread.specs.Kept.{Kept, disk_on}
+use Rattle.lfs_lookup.specs.ByName.{AreByName}
 use Rattle.lfs_lookup.specs.Items.{Shape, shape_of}
-use Rattle.lfs_lookup.specs.ListAt.{AreShort, item_listed, size_listed}
+use Rattle.lfs_lookup.specs.ListAt.{AreShort, IsShort, item_listed, size_listed}
 use Rattle.lfs_lookup.specs.Listed.{shapes_from}
 use Rattle.lfs_lookup.specs.Paths.{BeginsOnPath}
 use Rattle.lfs_lookup.proofs.AtPaths.{SizedLists, directory_at_path}
+use Rattle.lfs_lookup.proofs.ByName.{AreRows, each_row, rows_by_name}
 use Rattle.lfs_lookup.proofs.Directories.{own_shapes}
 use Rattle.lfs_lookup.proofs.ListAtShort.{short_entries}
 use Rattle.lfs_lookup.proofs.Visits.{each_entry}
@@ -47,25 +49,41 @@ module _ (disk : Disk) (ps : List Pair) (path : Path) where
   rows [] h = refl
   rows (s ∷ slots) h = ap₂ (λ z zs. let item : ops.Item = record { name = s.name; size = z } in item ∷ zs) h.0 (rows slots h.1)
 
-  pub items_listed : (at : ℕ × ℕ) → IsAccepted disk ps → Leads ps path at → SizedLists disk → map item_listed (map shape_of (entries_in ps at)) ≡ items_in (tree_in disk ps) path
-  items_listed at ok leads lists =
+  pub items_listed : (at : ℕ × ℕ) (slots : List Slot) → IsAccepted disk ps → Leads ps path at → SizedLists disk → AreRows (entries_in ps at) slots → map item_listed (map shape_of slots) ≡ items_in (tree_in disk ps) path
+  items_listed at slots ok leads lists r =
       let d = directory_at_path disk ps path at leads in
       sym (ap (λ o. map (λ name. let item : ops.Item = record { name = name; size = size_of (tree_in disk ps (path ++ name ∷ [])) } in item) (names_of o)) d.is
-      ∙ rows (entries_in ps at) (each_both (λ s. slot_of_path ps (path ++ s.name ∷ []) ≡ Some s) (λ s. IsListIfCtz disk s.struct) IsSized (λ s e l. sized s lists e l) (entries_in ps at)
+      ∙ ap (map (λ name. let item : ops.Item = record { name = name; size = size_of (tree_in disk ps (path ++ name ∷ [])) } in item)) (sym r.names)
+      ∙ rows slots (each_row IsSized (entries_in ps at) slots r (each_both (λ s. slot_of_path ps (path ++ s.name ∷ []) ≡ Some s) (λ s. IsListIfCtz disk s.struct) IsSized (λ s e l. sized s lists e l) (entries_in ps at)
       (each_got (λ s. slot_of_path ps (path ++ s.name ∷ []) ≡ Some s) (entries_in ps at) (λ k u g. slot_there disk ps path at k u ok leads g))
-      (each_entry (λ s. IsListIfCtz disk s.struct) disk ps path at ok leads (recursion_from_All (λ (s : Slot). IsListIfCtz disk s.struct) (all_slots ps) ok.lists))))
+      (each_entry (λ s. IsListIfCtz disk s.struct) disk ps path at ok leads (recursion_from_All (λ (s : Slot). IsListIfCtz disk s.struct) (all_slots ps) ok.lists)))))
 
 -- ---- of a thread
 
-module _ (t : Kept) (path : Path) (ok : IsAccepted t.disk t.pairs) (now : List Pair) (first : ℕ) (shapes : List Shape) (same : now ≡ t.pairs) (on : BeginsOnPath t.pairs path first) (are : shapes ≡ shapes_from now (Some first)) where
-  shapes_are : shapes ≡ map shape_of (entries_in t.pairs on.at)
-  shapes_are = are ∙ ap (λ ps. shapes_from ps (Some first)) same ∙ own_shapes t.disk t.pairs path on.at first ok on.leads on.begins
+each_short : (slots : List Slot) → AreShort (map shape_of slots) → Each (λ s. IsShort s.struct) slots
+each_short [] h = tt
+each_short (s ∷ slots) h = (h.0, each_short slots h.1)
+
+short_each : (slots : List Slot) → Each (λ s. IsShort s.struct) slots → AreShort (map shape_of slots)
+short_each [] h = tt
+short_each (s ∷ slots) h = (h.0, short_each slots h.1)
+
+-- what is found in name order: these entries, put in it
+module _ (t : Kept) (path : Path) (ok : IsAccepted t.disk t.pairs) (now : List Pair) (first : ℕ) (found shapes : List Shape) (same : now ≡ t.pairs) (on : BeginsOnPath t.pairs path first)
+    (are : found ≡ shapes_from now (Some first)) (by_name : AreByName found shapes) where
+  slots_there : (slots : List Slot) × (AreRows (entries_in t.pairs on.at) slots × (shapes ≡ map shape_of slots))
+  slots_there =
+      let own = are ∙ ap (λ ps. shapes_from ps (Some first)) same ∙ own_shapes t.disk t.pairs path on.at first ok on.leads on.begins in
+      rows_by_name (entries_in t.pairs on.at) shapes (subst (λ (z : List Shape). AreByName z shapes) own by_name)
 
   pub short_there : HasBytes t.disk.blocks → AreShort shapes
-  short_there bytes = subst AreShort (sym shapes_are) (short_entries t.disk t.pairs path on.at bytes ok on.leads)
+  short_there bytes =
+      let (slots, (r, is)) = slots_there in
+      subst AreShort (sym is)
+      (short_each slots (each_row (λ s. IsShort s.struct) (entries_in t.pairs on.at) slots r (each_short (entries_in t.pairs on.at) (short_entries t.disk t.pairs path on.at bytes ok on.leads))))
 
   pub listed_there : (listed : List ops.Item) → SizedLists t.disk → listed ≡ map item_listed shapes → listed ≡ items_in (tree_in t.disk t.pairs) path
-  listed_there listed lists e = e ∙ ap (map item_listed) shapes_are ∙ items_listed t.disk t.pairs path on.at ok on.leads lists
+  listed_there listed lists e = let (slots, (r, is)) = slots_there in e ∙ ap (map item_listed) is ∙ items_listed t.disk t.pairs path on.at slots ok on.leads lists r
 
 pub bytes_on : {D : Type 0} (g : Ghosts D) (d : D) (disk : Disk) → disk_on g d ≡ disk → HasBytes (g.blocks d) → HasBytes disk.blocks
 bytes_on g d disk e h = subst (λ (z : Disk). HasBytes z.blocks) e h

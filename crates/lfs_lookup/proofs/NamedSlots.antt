@@ -7,7 +7,8 @@ use Rattle.std.specs.Ordering.{ordering_reverse}
 use Rattle.std.proofs.Math.Dec.{eqb_refl}
 use Rattle.std.proofs.lemmas.Bool.{ne_eqb}
 use Rattle.std.proofs.lemmas.Option.{same_Some}
-use Rattle.std.proofs.lemmas.Cmp.{nat_list_cmp_total}
+use Rattle.lfs_model.proofs.Orders.{name_order, same_by}
+use Rattle.lfs_model.specs.declared.order.NameOrder.{NameOrder}
 use Rattle.lfs_model.specs.Names.{Name, name_cmp, same_name, is_same, is_less}
 use Rattle.lfs_model.specs.Slots.{Slot, Content, is_superblock, is_superblock_kind}
 use Rattle.lfs_model.specs.Content.{RawSlot, RawContent, completed, complete, complete_all, slot_of_id, kind_named, struct_typed}
@@ -104,39 +105,39 @@ is_below Less e = refl
 is_below Equal e = absurd (cc)
 is_below Greater e = absurd (cc)
 
-less_first : (name : Name) (t : Slot) (slots : List Slot) → passing (same_name name) t ≡ false → passing (is_behind name) t ≡ false
-    → AllByRecursion (λ s. name_cmp s.name name ≡ Less) (entries_only slots) → AllByRecursion (λ s. name_cmp s.name name ≡ Less) (entries_only (t ∷ slots))
-less_first name t slots same behind rest = go (is_superblock t) refl
+less_first : (by : NameOrder) (name : Name) (t : Slot) (slots : List Slot) → passing (same_name name) t ≡ false → passing (is_behind by name) t ≡ false
+    → AllByRecursion (λ s. name_cmp by s.name name ≡ Less) (entries_only slots) → AllByRecursion (λ s. name_cmp by s.name name ≡ Less) (entries_only (t ∷ slots))
+less_first by name t slots same behind rest = go (is_superblock t) refl
   where
-    go : (b : Bool) → is_superblock t ≡ b → AllByRecursion (λ s. name_cmp s.name name ≡ Less) (cond (not b) (t ∷ entries_only slots) (entries_only slots))
+    go : (b : Bool) → is_superblock t ≡ b → AllByRecursion (λ s. name_cmp by s.name name ≡ Less) (cond (not b) (t ∷ entries_only slots) (entries_only slots))
     go true e = rest
     go false e =
-        let g = is_greater (name_cmp name t.name) (not_passed (same_name name) t same e) (not_passed (is_behind name) t behind e) in
-        (nat_list_cmp_total.antisymm t.name name ∙ ap ordering_reverse g, rest)
+        let g = is_greater (name_cmp by name t.name) (same_by by name t.name ∙ not_passed (same_name name) t same e) (not_passed (is_behind by name) t behind e) in
+        ((name_order by).antisymm t.name name ∙ ap ordering_reverse g, rest)
 
-pub belongs : (name : Name) (raw : List RawSlot) (slots : List Slot) (id : ℕ) → HaveParts raw → complete_all raw ≡ Some slots → IsPlace name None raw id → PlaceAt slots name id
-belongs name raw slots zero h e p = record { left = []; right = slots; held = refl; number = refl; less = tt; greater = go raw slots h e p.greater; fronted = plain raw slots h e p.greater }
+pub belongs : {by : NameOrder} (name : Name) (raw : List RawSlot) (slots : List Slot) (id : ℕ) → HaveParts raw → complete_all raw ≡ Some slots → IsPlace by name None raw id → PlaceAt by slots name id
+belongs {by} name raw slots zero h e p = record { left = []; right = slots; held = refl; number = refl; less = tt; greater = go raw slots h e p.greater; fronted = plain raw slots h e p.greater }
   where
-    go : (raw : List RawSlot) (slots : List Slot) → HaveParts raw → complete_all raw ≡ Some slots → (0 < length raw → is_named (is_behind name) None raw 0 ≡ true) → (slots ≡ []) ⊎ BeginsAbove name (entries_only slots)
+    go : (raw : List RawSlot) (slots : List Slot) → HaveParts raw → complete_all raw ≡ Some slots → (0 < length raw → is_named (is_behind by name) None raw 0 ≡ true) → (slots ≡ []) ⊎ BeginsAbove by name (entries_only slots)
     go [] slots h e k = inl (sym (same_Some [] slots e))
     go (s ∷ raw) slots h e k =
         let p = complete_parts s raw slots e in
-        let ok = passed (is_behind name) p.first (sym (named_first (is_behind name) s raw p.first h.0 p.is_first) ∙ k (omega arith)) in
+        let ok = passed (is_behind by name) p.first (sym (named_first (is_behind by name) s raw p.first h.0 p.is_first) ∙ k (omega arith)) in
         inr (record {
           first = p.first;
           rest = entries_only p.others;
           are = ap entries_only p.all_are ∙ ap (λ b. cond (not b) (p.first ∷ entries_only p.others) (entries_only p.others)) ok.entry;
-          above = is_below (name_cmp name p.first.name) ok.named;
+          above = is_below (name_cmp by name p.first.name) ok.named;
         })
 
-    plain : (raw : List RawSlot) (slots : List Slot) → HaveParts raw → complete_all raw ≡ Some slots → (0 < length raw → is_named (is_behind name) None raw 0 ≡ true) → starts_with_superblock slots ≡ false
+    plain : (raw : List RawSlot) (slots : List Slot) → HaveParts raw → complete_all raw ≡ Some slots → (0 < length raw → is_named (is_behind by name) None raw 0 ≡ true) → starts_with_superblock slots ≡ false
     plain [] slots h e k = ap starts_with_superblock (sym (same_Some [] slots e))
     plain (s ∷ raw) slots h e k =
         let p = complete_parts s raw slots e in
-        let ok = passed (is_behind name) p.first (sym (named_first (is_behind name) s raw p.first h.0 p.is_first) ∙ k (omega arith)) in
+        let ok = passed (is_behind by name) p.first (sym (named_first (is_behind by name) s raw p.first h.0 p.is_first) ∙ k (omega arith)) in
         ap starts_with_superblock p.all_are ∙ ok.entry
-belongs name [] slots (suc id) h e p = absurd (let w = p.within in omega arith)
-belongs name (s ∷ raw) slots (suc id) h e p =
+belongs {by} name [] slots (suc id) h e p = absurd (let w = p.within in omega arith)
+belongs {by} name (s ∷ raw) slots (suc id) h e p =
     let c = complete_parts s raw slots e in
     let r = belongs name raw c.others id h.1 c.are_others (record {
       absent = λ other. p.absent (suc other);
@@ -149,7 +150,7 @@ belongs name (s ∷ raw) slots (suc id) h e p =
       right = r.right;
       held = c.all_are ∙ ap (λ z. c.first ∷ z) r.held;
       number = ap suc r.number;
-      less = less_first name c.first r.left (sym (named_first (same_name name) s raw c.first h.0 c.is_first) ∙ p.absent 0) (sym (named_first (is_behind name) s raw c.first h.0 c.is_first) ∙ p.least 0 (omega arith)) r.less;
+      less = less_first by name c.first r.left (sym (named_first (same_name name) s raw c.first h.0 c.is_first) ∙ p.absent 0) (sym (named_first (is_behind by name) s raw c.first h.0 c.is_first) ∙ p.least 0 (omega arith)) r.less;
       greater = r.greater;
       fronted = r.fronted;
     }
@@ -226,7 +227,7 @@ skip_false : (skip : Option ℕ) (id : ℕ) → (skip ≡ Some id → ⊥) → o
 skip_false None id h = refl
 skip_false (Some k) id h = ne_eqb k id (λ e. h (ap Some e))
 
-module _ (content : Content) (name : Name) (skip : Option ℕ) (raw : RawContent) (logged : IsLogged raw) (complete : completed raw ≡ Some content) where
+module _ (by : NameOrder) (content : Content) (name : Name) (skip : Option ℕ) (raw : RawContent) (logged : IsLogged raw) (complete : completed raw ≡ Some content) where
   pub stands_in : (id : ℕ) → IsFound name skip raw.slots id → StandsAt content.slots name id
   stands_in id found =
       let k = kept_from (option_map_or (same_name name) (entry_name (slot_of_id raw.slots id)) false) (option_map_or (λ k. k == id) skip false) found.named in
@@ -237,10 +238,10 @@ module _ (content : Content) (name : Name) (skip : Option ℕ) (raw : RawContent
       let k = kept_from (option_map_or (same_name name) (entry_name (slot_of_id raw.slots id)) false) (option_map_or (λ k. k == id) skip false) found.named in
       not_skipped skip id k.kept is
 
-  pub belongs_in : (id : ℕ) → IsPlace name skip raw.slots id → skip ≡ None → PlaceAt content.slots name id
-  belongs_in id place none = belongs name raw.slots content.slots id logged.slots (completed_parts raw content complete).slots (subst (λ o. IsPlace name o raw.slots id) none place)
+  pub belongs_in : (id : ℕ) → IsPlace by name skip raw.slots id → skip ≡ None → PlaceAt by content.slots name id
+  belongs_in id place none = belongs name raw.slots content.slots id logged.slots (completed_parts raw content complete).slots (subst (λ o. IsPlace by name o raw.slots id) none place)
 
-  pub absent_in : (id : ℕ) → IsPlace name skip raw.slots id → IsAbsentBut skip content.slots name
+  pub absent_in : (id : ℕ) → IsPlace by name skip raw.slots id → IsAbsentBut skip content.slots name
   absent_in id place other s at entry not_passed same =
       let n = name_at_id raw.slots content.slots other s logged.slots (completed_parts raw content complete).slots at in
       let m = ap (λ b. option_map_or (same_name name) (cond b None (Some s.name)) false) entry in

@@ -5,6 +5,9 @@ use Rattle.std.proofs.lemmas.List.{length-map}
 use Rattle.std.proofs.lemmas.List.Sums.{sum_by-append, sum_by-cons}
 use Rattle.lfs_device.specs.Bytes.{HasBytes}
 use Rattle.lfs_device.specs.declared.error.Error.{Error}
+use Rattle.lfs_model.proofs.Orders.{length_in_order}
+use Rattle.lfs_model.specs.Names.{in_order}
+use Rattle.lfs_model.specs.declared.order.NameOrder.TheVariants.{ShorterFirst}
 use Rattle.lfs_model.specs.Discipline.{pairs_of_path, parents}
 use Rattle.lfs_model.specs.Effects.{items_in, size_of}
 use Rattle.lfs_model.specs.InDirectory.{run_length}
@@ -23,6 +26,8 @@ use Rattle.lfs_thread.specs.Kept.{Kept}
 use Rattle.lfs_lookup.specs.AtPath.{IsInEntryIfFile, ShowsAt, finding_of, first_shown, has_entries_from}
 use Rattle.lfs_lookup.specs.Entry.{ShowsContents}
 use Rattle.lfs_lookup.specs.Finds.{Finds, has_names}
+use Rattle.std.specs.List.Sorted.{IsPermutation}
+use Rattle.lfs_lookup.specs.ByName.{AreByName}
 use Rattle.lfs_lookup.specs.Items.{Shape, shape_of}
 use Rattle.lfs_lookup.specs.ListAt.{AreShort, item_listed}
 use Rattle.lfs_lookup.specs.Listed.{length_from, shapes_from}
@@ -36,6 +41,7 @@ use Rattle.lfs_lookup.specs.declared.paths.Shown.{Shown}
 use Rattle.lfs_lookup.specs.declared.paths.Shown.TheVariants as shown
 use Rattle.lfs_lookup.specs.declared.search.Spot.{Spot}
 use Rattle.lfs_lookup.proofs.AtPaths.{SizedLists, directory_at_path, file_at, finds_directory, finds_nothing, nothing_at, refused_at, refused_none}
+use Rattle.lfs_lookup.proofs.ByName.{nothing_moved}
 use Rattle.lfs_lookup.proofs.Directories.{own_shapes, within}
 use Rattle.lfs_lookup.proofs.ListAtItems.{listed_there, short_there}
 use Rattle.lfs_lookup.proofs.RootPairs.{root_leads}
@@ -74,7 +80,7 @@ module _ (t : Kept) (path : Path) (ok : IsAccepted t.disk t.pairs) where
   found_begun : (first : ℕ) (f : Finding) → BeginsOnPath t.pairs path first → parent_fault (tree_in t.disk t.pairs) [] path ≡ None → f ≡ record { fault = None; node = node.Directory } → Finds (tree_in t.disk t.pairs) path f
   found_begun first f on h k =
       let d = directory_at_path t.disk t.pairs path on.at on.leads in
-      subst (λ z. Finds (tree_in t.disk t.pairs) path z) (sym k) (finds_directory (tree_in t.disk t.pairs) path d.attributes (names_at (entries_in t.pairs) on.at) d.is h)
+      subst (λ z. Finds (tree_in t.disk t.pairs) path z) (sym k) (finds_directory (tree_in t.disk t.pairs) path d.attributes (in_order ShorterFirst (names_at (entries_in t.pairs) on.at)) d.is h)
 
   pub found_shown : (root : ℕ) (s : Shown) (f : Finding) → root ≡ superblocks_before t.pairs → SizedLists t.disk → ShowsAt t path s → f ≡ finding_of s → Finds (tree_in t.disk t.pairs) path f
   found_shown root shown.Root f r sized s k =
@@ -125,16 +131,20 @@ module _ (t : Kept) (path : Path) (ok : IsAccepted t.disk t.pairs) where
   has_beneath now (Some first) has e on k =
       let d = directory_at_path t.disk t.pairs path on.at on.leads in
       k ∙ ap (λ ps. has_entries_from ps (Some first)) e
-      ∙ ap (λ (n : ℕ). nat_lt 0 n) (ap length (own_shapes t.disk t.pairs path on.at first ok on.leads on.begins) ∙ length-map (entries_in t.pairs on.at) shape_of ∙ sym (length-map (entries_in t.pairs on.at) (λ (s : Slot). s.name)))
+      ∙ ap (λ (n : ℕ). nat_lt 0 n) (ap length (own_shapes t.disk t.pairs path on.at first ok on.leads on.begins) ∙ length-map (entries_in t.pairs on.at) shape_of ∙ sym (length-map (entries_in t.pairs on.at) (λ (s : Slot). s.name)) ∙ sym (length_in_order ShorterFirst (names_at (entries_in t.pairs) on.at)))
       ∙ ap (λ z. nat_lt 0 (length (names_of z))) (sym d.is)
 
-  pub short_from : (now : List Pair) (from : Option ℕ) (shapes : List Shape) → now ≡ t.pairs → IsFirstAt t path from → shapes ≡ shapes_from now from → HasBytes t.disk.blocks → AreShort shapes
-  short_from now None shapes e h are bytes = subst AreShort (sym are) tt
-  short_from now (Some first) shapes e on are bytes = short_there t path ok now first shapes e on are bytes
+  none_by_name : (found shapes : List Shape) → found ≡ [] → AreByName found shapes → shapes ≡ []
+  none_by_name found shapes are by_name = nothing_moved shapes (subst (λ (z : List Shape). IsPermutation z shapes) are by_name.permutation)
 
-  pub listed_from : (now : List Pair) (from : Option ℕ) (shapes : List Shape) (listed : List ops.Item) → now ≡ t.pairs → IsFirstAt t path from → shapes ≡ shapes_from now from → SizedLists t.disk
-      → listed ≡ map item_listed shapes → listed ≡ items_in (tree_in t.disk t.pairs) path
-  listed_from now None shapes listed e h are lists k =
-      k ∙ ap (map item_listed) are
+  pub short_from : (now : List Pair) (from : Option ℕ) (found shapes : List Shape) → now ≡ t.pairs → IsFirstAt t path from → found ≡ shapes_from now from → AreByName found shapes
+      → HasBytes t.disk.blocks → AreShort shapes
+  short_from now None found shapes e h are by_name bytes = subst AreShort (sym (none_by_name found shapes are by_name)) tt
+  short_from now (Some first) found shapes e on are by_name bytes = short_there t path ok now first found shapes e on are by_name bytes
+
+  pub listed_from : (now : List Pair) (from : Option ℕ) (found shapes : List Shape) (listed : List ops.Item) → now ≡ t.pairs → IsFirstAt t path from → found ≡ shapes_from now from
+      → AreByName found shapes → SizedLists t.disk → listed ≡ map item_listed shapes → listed ≡ items_in (tree_in t.disk t.pairs) path
+  listed_from now None found shapes listed e h are by_name lists k =
+      k ∙ ap (map item_listed) (none_by_name found shapes are by_name)
       ∙ sym (ap (map (λ name. let item : ops.Item = record { name = name; size = size_of (tree_in t.disk t.pairs (path ++ name ∷ [])) } in item)) h)
-  listed_from now (Some first) shapes listed e on are lists k = listed_there t path ok now first shapes e on are listed lists k
+  listed_from now (Some first) found shapes listed e on are by_name lists k = listed_there t path ok now first found shapes e on are by_name listed lists k

@@ -1,8 +1,10 @@
 -- The walk ends: there are no more levels of directories than pairs, so what stands beneath a directory can be counted.
 use Rattle.std.proofs.Common.{ℕ, zero, suc, ◌≡◌, ◌<◌, ◌≤◌, ◌+◌, ◌∙◌, true, false, nat_eq, eqb-true, List, [], ◌∷◌, ◌++◌, length, map, reverse, Option, Some, None, option_and_then, refl, sym, ap, ap₂, subst, arith, length-append, ⊎_elim}
-use Rattle.std.specs.List.{IsDistinct, list_any}
+use Rattle.std.specs.List.{IsDistinct, list_any, sum_by}
 use Rattle.std.proofs.lemmas.Bool.{or_cases, false_from_ne_true}
 use Rattle.std.proofs.lemmas.List.{append-nil, reverse-append}
+use Rattle.std.proofs.lemmas.List.Sorted.{sum_by-IsPermutation}
+use Rattle.std.proofs.lemmas.List.Sums.{sum_by-cons}
 use Rattle.std.proofs.lemmas.Map.Steps.{length-le_from_distinct_below}
 use Rattle.std.proofs.lemmas.Option.{same_Some}
 use Rattle.lfs_model.specs.Disk.{Disk}
@@ -19,6 +21,7 @@ use Rattle.lfs_model.proofs.Pairs.{pair_back, pair_on}
 use Rattle.lfs_model.proofs.Paths.{append_step}
 use Rattle.lfs_model.proofs.Walks.{walk_append}
 use Rattle.lfs_lookup.specs.Walk.{ArePushed, Place}
+use Rattle.lfs_lookup.proofs.ByName.{AreRows}
 use Rattle.lfs_lookup.proofs.Directories.{begins_with, within}
 use Rattle.lfs_lookup.proofs.Visits.{IsNext, IsVisit, Visit, below, child, children, children_visited, each_both, leads_to, place_at, pushed_children}
 
@@ -123,6 +126,13 @@ total_same : (f g : Slot → ℕ) (slots : List Slot) → Each (λ s. f s ≡ g 
 total_same f g [] h = refl
 total_same f g (s ∷ slots) h = ap₂ (λ x y. x + y) h.0 (total_same f g slots h.1)
 
+total_is : (f : Slot → ℕ) (slots : List Slot) → total f slots ≡ sum_by f slots
+total_is f [] = refl
+total_is f (s ∷ slots) = ap (λ n. f s + n) (total_is f slots) ∙ sym (sum_by-cons f s slots)
+
+total_rows : (f : Slot → ℕ) (slots rows : List Slot) → AreRows slots rows → total f rows ≡ total f slots
+total_rows f slots rows r = total_is f rows ∙ sum_by-IsPermutation f slots rows r.permutation ∙ sym (total_is f slots)
+
 each_slot : (P : Visit → Type 0) (path : Path) (slots : List Slot) → Each P (map (child path) slots) → Each (λ s. P (child path s)) slots
 each_slot P path [] h = tt
 each_slot P path (s ∷ slots) h = (h.0, each_slot P path slots h.1)
@@ -176,10 +186,11 @@ less_left disk ps done rest new next ok n pushed =
     let E = entries_in ps in
     let L = length ps in
     let slots = below E n.visit.slot.struct in
-    let now : reverse new ≡ map place_at (children ps n.visit) ++ reverse rest = pushed_children disk ps n.visit rest new ok n.is_visit.leads (subst (λ p. ArePushed ps p rest new) n.is pushed) in
-    let a : load L E new ≡ load L E (map place_at (children ps n.visit)) + load L E (reverse rest) = sym (load_reverse L E new) ∙ ap (load L E) now ∙ load_append L E (map place_at (children ps n.visit)) (reverse rest) in
+    let r = pushed_children disk ps n.visit rest new ok n.is_visit.leads (subst (λ p. ArePushed ps p rest new) n.is pushed) in
+    let now = map place_at (map (child n.visit.path) r.0) in
+    let a : load L E new ≡ load L E now + load L E (reverse rest) = sym (load_reverse L E new) ∙ ap (load L E) r.1.1 ∙ load_append L E now (reverse rest) in
     let b : load L E (reverse rest) ≡ load L E rest = load_reverse L E rest in
-    let c : load L E (map place_at (children ps n.visit)) ≡ total (λ s. size_within L E s.struct) slots = load_children L E n.visit.path slots in
+    let c : load L E now ≡ total (λ s. size_within L E s.struct) slots = load_children L E n.visit.path r.0 ∙ total_rows (λ s. size_within L E s.struct) slots r.0 r.1.0 in
     let d : load L E (rest ++ next ∷ []) ≡ load L E rest + load L E (next ∷ []) = load_append L E rest (next ∷ []) in
     let f : size_within L E next.struct ≡ size_within L E n.visit.slot.struct = ap (λ (p : Place). size_within L E p.struct) n.is in
     let g : 1 + total (λ s. size_within L E s.struct) slots ≡ size_within L E n.visit.slot.struct = stable disk ps L n.visit ok n.is_visit.leads (omega arith) in

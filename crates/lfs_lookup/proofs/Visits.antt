@@ -3,6 +3,8 @@ use Rattle.std.proofs.Common.{ℕ, zero, suc, ◌≡◌, ◌∙◌, Bool, true, 
 use Rattle.std.proofs.lemmas.List.{append-nil, map-append, reverse-append, reverse-reverse}
 use Rattle.std.proofs.lemmas.List.Concat.{flat_map-append}
 use Rattle.std.proofs.lemmas.List.Elements.{recursion_from_All}
+use Rattle.lfs_model.specs.Names.{in_order}
+use Rattle.lfs_model.specs.declared.order.NameOrder.TheVariants.{ShorterFirst}
 use Rattle.lfs_model.specs.Disk.{Disk}
 use Rattle.lfs_model.specs.Names.{Name, slash}
 use Rattle.lfs_model.specs.Slots.{Slot, Struct, Inline, Ctz, Branch, is_superblock}
@@ -16,9 +18,11 @@ use Rattle.lfs_model.specs.View.{IsAccepted, IsListIfCtz}
 use Rattle.lfs_model.specs.Shown.{Leads, all_slots, contents_in, entries_in, tree_in}
 use Rattle.lfs_model.proofs.Counts.{Each, each_append, each_filter, each_joined, each_pieces, each_weaker}
 use Rattle.lfs_model.proofs.OneCommit.{slot_there}
-use Rattle.lfs_lookup.specs.Items.{shape_of}
+use Rattle.lfs_lookup.specs.ByName.{AreByName}
+use Rattle.lfs_lookup.specs.Items.{Shape, shape_of}
 use Rattle.lfs_lookup.specs.Listed.{joined_run, shapes_from}
-use Rattle.lfs_lookup.specs.Walk.{AllShow, ArePushed, BeginsIfBranch, IsWalked, Place, Shows, ShowsNode, places_beneath}
+use Rattle.lfs_lookup.specs.Walk.{AllShow, ArePushed, ArePushedFrom, BeginsIfBranch, IsWalked, Place, Shows, ShowsNode, places_beneath}
+use Rattle.lfs_lookup.proofs.ByName.{AreRows, each_row, names_in, no_rows, rows_by_name}
 use Rattle.lfs_lookup.proofs.Directories.{begins_with, own_run, own_shapes}
 
 -- a slot and its path
@@ -56,23 +60,25 @@ paths_of visits = map (λ v. v.path) visits
 pub leads_to : (ps : List Pair) (P : Path) (s : Slot) (to : ℕ × ℕ) → slot_of_path ps P ≡ Some s → s.struct ≡ Branch to → Leads ps P to
 leads_to ps P s to e f = ap (option_and_then (λ found. branch_of found.struct)) e ∙ ap branch_of f
 
-names_below : (disk : Disk) (E : Entries) (s : Slot) → names_of (Some (node_of (contents_in disk) E s.attributes s.struct)) ≡ map (λ t. t.name) (below E s.struct)
-names_below disk E s = go s.struct
+-- a directory's names are those of its entries in name order
+names_below : (disk : Disk) (E : Entries) (s : Slot) (rows : List Slot) → AreRows (below E s.struct) rows → names_of (Some (node_of (contents_in disk) E s.attributes s.struct)) ≡ names_in rows
+names_below disk E s rows r = go s.struct r.names
   where
-    go : (t : Struct) → names_of (Some (node_of (contents_in disk) E s.attributes t)) ≡ map (λ u. u.name) (below E t)
-    go (Branch to) = refl
-    go (Inline bytes) = refl
-    go (Ctz head size) = refl
+    go : (t : Struct) → names_in rows ≡ in_order ShorterFirst (names_in (below E t)) → names_of (Some (node_of (contents_in disk) E s.attributes t)) ≡ names_in rows
+    go (Branch to) e = sym e
+    go (Inline bytes) e = sym e
+    go (Ctz head size) e = sym e
 
-children_paths : (P : Path) (slots : List Slot) → map (λ name. P ++ name ∷ []) (map (λ s. s.name) slots) ≡ paths_of (map (child P) slots)
+children_paths : (P : Path) (slots : List Slot) → map (λ name. P ++ name ∷ []) (names_in slots) ≡ paths_of (map (child P) slots)
 children_paths P [] = refl
 children_paths P (s ∷ slots) = ap (λ z. (P ++ s.name ∷ []) ∷ z) (children_paths P slots)
 
-pub paths_below : (disk : Disk) (ps : List Pair) (v : Visit) → slot_of_path ps v.path ≡ Some v.slot → paths_in (tree_in disk ps) v.path ≡ paths_of (children ps v)
-paths_below disk ps v e =
+pub paths_below : (disk : Disk) (ps : List Pair) (v : Visit) (rows : List Slot) → slot_of_path ps v.path ≡ Some v.slot → AreRows (below (entries_in ps) v.slot.struct) rows
+    → paths_in (tree_in disk ps) v.path ≡ paths_of (map (child v.path) rows)
+paths_below disk ps v rows e r =
     ap (λ o. map (λ name. v.path ++ name ∷ []) (names_of (option_map (λ found. node_of (contents_in disk) (entries_in ps) found.attributes found.struct) o))) e
-    ∙ ap (map (λ name. v.path ++ name ∷ [])) (names_below disk (entries_in ps) v.slot)
-    ∙ children_paths v.path (below (entries_in ps) v.slot.struct)
+    ∙ ap (map (λ name. v.path ++ name ∷ [])) (names_below disk (entries_in ps) v.slot rows r)
+    ∙ children_paths v.path rows
 
 pub node_at : (disk : Disk) (ps : List Pair) (v : Visit) → slot_of_path ps v.path ≡ Some v.slot → tree_in disk ps v.path ≡ Some (entry_in disk ps v).node
 node_at disk ps v e = ap (option_map (λ found. node_of (contents_in disk) (entries_in ps) found.attributes found.struct)) e
@@ -83,7 +89,7 @@ shows_node disk E s list = go s.struct list
     go : (t : Struct) → IsListIfCtz disk t → ShowsNode disk t (node_of (contents_in disk) E s.attributes t)
     go (Inline bytes) l = (s.attributes, refl)
     go (Ctz head size) l = (s.attributes, (refl, l))
-    go (Branch to) l = (s.attributes, (map (λ t. t.name) (E to), refl))
+    go (Branch to) l = (s.attributes, (in_order ShorterFirst (map (λ t. t.name) (E to)), refl))
 
 pub visit_shows : (disk : Disk) (ps : List Pair) (v : Visit) → IsVisit disk ps v → Shows disk (place_at v) (entry_in disk ps v)
 visit_shows disk ps v h = record { path = refl; node = shows_node disk (entries_in ps) v.slot h.list }
@@ -132,18 +138,25 @@ each_child : (P : Visit → Type 0) (path : Path) (slots : List Slot) → Each (
 each_child P path [] h = tt
 each_child P path (s ∷ slots) h = (h.0, each_child P path slots h.1)
 
-pub children_visited : (disk : Disk) (ps : List Pair) (v : Visit) → IsAccepted disk ps → slot_of_path ps v.path ≡ Some v.slot → Each (IsVisit disk ps) (children ps v)
-children_visited disk ps v ok e = go v.slot.struct refl
+slots_visited : (disk : Disk) (ps : List Pair) (v : Visit) → IsAccepted disk ps → slot_of_path ps v.path ≡ Some v.slot → Each (λ s. IsVisit disk ps (child v.path s)) (below (entries_in ps) v.slot.struct)
+slots_visited disk ps v ok e = go v.slot.struct refl
   where
-    go : (t : Struct) → v.slot.struct ≡ t → Each (IsVisit disk ps) (map (child v.path) (below (entries_in ps) t))
+    go : (t : Struct) → v.slot.struct ≡ t → Each (λ s. IsVisit disk ps (child v.path s)) (below (entries_in ps) t)
     go (Inline bytes) f = tt
     go (Ctz head size) f = tt
     go (Branch to) f =
         let leads = leads_to ps v.path v.slot to e f in
-        each_child (IsVisit disk ps) v.path (entries_in ps to)
-        (each_both (λ s. slot_of_path ps (v.path ++ s.name ∷ []) ≡ Some s) (λ s. IsListIfCtz disk s.struct) (λ s. IsVisit disk ps (child v.path s)) (entries_in ps to) (λ s x y. record { leads = x; list = y })
+        each_both (λ s. slot_of_path ps (v.path ++ s.name ∷ []) ≡ Some s) (λ s. IsListIfCtz disk s.struct) (λ s. IsVisit disk ps (child v.path s)) (entries_in ps to) (λ s x y. record { leads = x; list = y })
         (each_got (λ s. slot_of_path ps (v.path ++ s.name ∷ []) ≡ Some s) (entries_in ps to) (λ k u g. slot_there disk ps v.path to k u ok leads g))
-        (each_entry (λ s. IsListIfCtz disk s.struct) disk ps v.path to ok leads (recursion_from_All (λ (s : Slot). IsListIfCtz disk s.struct) (all_slots ps) ok.lists)))
+        (each_entry (λ s. IsListIfCtz disk s.struct) disk ps v.path to ok leads (recursion_from_All (λ (s : Slot). IsListIfCtz disk s.struct) (all_slots ps) ok.lists))
+
+pub children_visited : (disk : Disk) (ps : List Pair) (v : Visit) → IsAccepted disk ps → slot_of_path ps v.path ≡ Some v.slot → Each (IsVisit disk ps) (children ps v)
+children_visited disk ps v ok e = each_child (IsVisit disk ps) v.path (below (entries_in ps) v.slot.struct) (slots_visited disk ps v ok e)
+
+rows_visited : (disk : Disk) (ps : List Pair) (v : Visit) (rows : List Slot) → IsAccepted disk ps → slot_of_path ps v.path ≡ Some v.slot → AreRows (below (entries_in ps) v.slot.struct) rows
+    → Each (IsVisit disk ps) (map (child v.path) rows)
+rows_visited disk ps v rows ok e r =
+    each_child (IsVisit disk ps) v.path rows (each_row (λ s. IsVisit disk ps (child v.path s)) (below (entries_in ps) v.slot.struct) rows r (slots_visited disk ps v ok e))
 
 -- a visited directory begins with a pair of the thread
 pub visit_begins : (disk : Disk) (ps : List Pair) (v : Visit) → IsAccepted disk ps → slot_of_path ps v.path ≡ Some v.slot → BeginsIfBranch ps v.slot.struct
@@ -154,18 +167,28 @@ visit_begins disk ps v ok e = go v.slot.struct refl
     go (Ctz head size) f = tt
     go (Branch to) f = begins_with disk ps v.path to ok (leads_to ps v.path v.slot to e f)
 
--- what is pushed is what the children show
+-- the children in name order, which what is pushed shows
+abbrev pub IsPushed : Path → List Slot → List Place → List Place → Type 0
+IsPushed path slots old new = (rows : List Slot) × (AreRows slots rows × (reverse new ≡ map place_at (map (child path) rows) ++ reverse old))
+
+pushed_from : (ps : List Pair) (path : Path) (first : ℕ) (slots : List Slot) (old new : List Place) → shapes_from ps (Some first) ≡ map shape_of slots → ArePushedFrom ps (path_bytes path) first old new
+    → IsPushed path slots old new
+pushed_from ps path first slots old new own k =
+    let shapes = k.0 in
+    let r = rows_by_name slots shapes (subst (λ (z : List Shape). AreByName z shapes) own k.1.0) in
+    let are = ap (places_beneath (path_bytes path)) r.1.1 ∙ places_of path r.0 in (
+      r.0,
+      (r.1.0, ap reverse k.1.1 ∙ reverse-append old (reverse (places_beneath (path_bytes path) shapes)) ∙ ap (λ z. z ++ reverse old) (reverse-reverse (places_beneath (path_bytes path) shapes) ∙ are)),
+    )
+
 pub pushed_children : (disk : Disk) (ps : List Pair) (v : Visit) (old new : List Place) → IsAccepted disk ps → slot_of_path ps v.path ≡ Some v.slot → ArePushed ps (place_at v) old new →
-    reverse new ≡ map place_at (children ps v) ++ reverse old
+    IsPushed v.path (below (entries_in ps) v.slot.struct) old new
 pushed_children disk ps v old new ok e h = go v.slot.struct refl h
   where
-    go : (t : Struct) → v.slot.struct ≡ t → ArePushed ps (record { path = path_bytes v.path; struct = t }) old new → reverse new ≡ map place_at (map (child v.path) (below (entries_in ps) t)) ++ reverse old
-    go (Inline bytes) f k = ap reverse k
-    go (Ctz head size) f k = ap reverse k
-    go (Branch to) f k =
-        let are = ap (places_beneath (path_bytes v.path)) (own_shapes disk ps v.path to k.0 ok (leads_to ps v.path v.slot to e f) k.1.0) ∙ places_of v.path (entries_in ps to) in
-        ap reverse k.1.1 ∙ reverse-append old (reverse (places_beneath (path_bytes v.path) (shapes_from ps (Some k.0))))
-        ∙ ap (λ z. z ++ reverse old) (reverse-reverse (places_beneath (path_bytes v.path) (shapes_from ps (Some k.0))) ∙ are)
+    go : (t : Struct) → v.slot.struct ≡ t → ArePushed ps (record { path = path_bytes v.path; struct = t }) old new → IsPushed v.path (below (entries_in ps) t) old new
+    go (Inline bytes) f k = ([], (no_rows, ap reverse k))
+    go (Ctz head size) f k = ([], (no_rows, ap reverse k))
+    go (Branch to) f k = pushed_from ps v.path k.0 (entries_in ps to) old new (own_shapes disk ps v.path to k.0 ok (leads_to ps v.path v.slot to e f) k.1.0) k.1.1
 
 -- ---- the walk so far
 
@@ -190,15 +213,19 @@ pub record IsNext (disk : Disk) (ps : List Pair) (done : List Place) (next : Pla
   pub shown : AllShow disk done entries
   pub goes_on : (es : List Entry) → IsWalk (tree_in disk ps) (visit.path ∷ paths_of visits) es → IsWalkOf (tree_in disk ps) (entries ++ es)
 
-pub begun : (disk : Disk) (ps : List Pair) (pending : List Place) → IsAccepted disk ps → pending ≡ reverse (places_beneath [] (map shape_of (entries_in ps (root_of ps)))) → IsUnderWay disk ps [] pending
-begun disk ps pending ok e = record {
-  visits = map (child []) (entries_in ps (root_of ps));
-  are = ap reverse e ∙ reverse-reverse (places_beneath [] (map shape_of (entries_in ps (root_of ps)))) ∙ places_of [] (entries_in ps (root_of ps));
-  each = children_visited disk ps (record { path = []; slot = root_slot (root_of ps) }) ok refl;
-  entries = [];
-  shown = tt;
-  goes_on = λ es w. subst (λ z. IsWalk (tree_in disk ps) z es) (sym (paths_below disk ps (record { path = []; slot = root_slot (root_of ps) }) refl)) w;
-}
+pub begun : (disk : Disk) (ps : List Pair) (first : ℕ) (pending : List Place) → IsAccepted disk ps → shapes_from ps (Some first) ≡ map shape_of (entries_in ps (root_of ps)) → ArePushedFrom ps [] first [] pending
+    → IsUnderWay disk ps [] pending
+begun disk ps first pending ok own h =
+    let v : Visit = record { path = []; slot = root_slot (root_of ps) } in
+    let r = pushed_from ps [] first (entries_in ps (root_of ps)) [] pending own h in
+    record {
+      visits = map (child []) r.0;
+      are = r.1.1 ∙ append-nil (map place_at (map (child []) r.0));
+      each = rows_visited disk ps v r.0 ok refl r.1.0;
+      entries = [];
+      shown = tt;
+      goes_on = λ es w. subst (λ z. IsWalk (tree_in disk ps) z es) (sym (paths_below disk ps v r.0 refl r.1.0)) w;
+    }
 
 pub took : (disk : Disk) (ps : List Pair) (done old new : List Place) (next : Place) → old ≡ new ++ next ∷ [] → IsUnderWay disk ps done old → IsNext disk ps done next new
 took disk ps done old new next e u = go u.visits refl
@@ -235,21 +262,23 @@ shown_more disk (p ∷ ps) [] place entry h s = absurd h
 shown_more disk (p ∷ ps) (e ∷ es) place entry h s = (h.0, shown_more disk ps es place entry h.1 s)
 
 pub moved_on : (disk : Disk) (ps : List Pair) (done old new : List Place) (next : Place) → IsAccepted disk ps → IsNext disk ps done next old → ArePushed ps next old new → IsUnderWay disk ps (done ++ next ∷ []) new
-moved_on disk ps done old new next ok n pushed = record {
-  visits = children ps n.visit ++ n.visits;
-  are = pushed_children disk ps n.visit old new ok n.is_visit.leads (subst (λ p. ArePushed ps p old new) n.is pushed)
-      ∙ ap (λ z. map place_at (children ps n.visit) ++ z) n.are ∙ sym (map-append place_at (children ps n.visit) n.visits);
-  each = each_append (IsVisit disk ps) (children ps n.visit) n.visits (children_visited disk ps n.visit ok n.is_visit.leads) n.each;
-  entries = n.entries ++ entry_in disk ps n.visit ∷ [];
-  shown = shown_more disk done n.entries next (entry_in disk ps n.visit) n.shown (subst (λ p. Shows disk p (entry_in disk ps n.visit)) (sym n.is) (visit_shows disk ps n.visit n.is_visit));
-  goes_on = λ es w.
-      subst (IsWalkOf (tree_in disk ps)) (sym (append_assoc n.entries (entry_in disk ps n.visit ∷ []) es))
-      (n.goes_on (entry_in disk ps n.visit ∷ es) (
-        refl,
-        node_at disk ps n.visit n.is_visit.leads,
-        subst (λ z. IsWalk (tree_in disk ps) z es) (map-append (λ (v : Visit). v.path) (children ps n.visit) n.visits ∙ ap (λ z. z ++ paths_of n.visits) (sym (paths_below disk ps n.visit n.is_visit.leads))) w,
-      ));
-}
+moved_on disk ps done old new next ok n pushed =
+    let r = pushed_children disk ps n.visit old new ok n.is_visit.leads (subst (λ p. ArePushed ps p old new) n.is pushed) in
+    let now = map (child n.visit.path) r.0 in
+    record {
+      visits = now ++ n.visits;
+      are = r.1.1 ∙ ap (λ z. map place_at now ++ z) n.are ∙ sym (map-append place_at now n.visits);
+      each = each_append (IsVisit disk ps) now n.visits (rows_visited disk ps n.visit r.0 ok n.is_visit.leads r.1.0) n.each;
+      entries = n.entries ++ entry_in disk ps n.visit ∷ [];
+      shown = shown_more disk done n.entries next (entry_in disk ps n.visit) n.shown (subst (λ p. Shows disk p (entry_in disk ps n.visit)) (sym n.is) (visit_shows disk ps n.visit n.is_visit));
+      goes_on = λ es w.
+          subst (IsWalkOf (tree_in disk ps)) (sym (append_assoc n.entries (entry_in disk ps n.visit ∷ []) es))
+          (n.goes_on (entry_in disk ps n.visit ∷ es) (
+            refl,
+            node_at disk ps n.visit n.is_visit.leads,
+            subst (λ z. IsWalk (tree_in disk ps) z es) (map-append (λ (v : Visit). v.path) now n.visits ∙ ap (λ z. z ++ paths_of n.visits) (sym (paths_below disk ps n.visit r.0 n.is_visit.leads r.1.0))) w,
+          ));
+    }
 
 pub ended : (disk : Disk) (ps : List Pair) (done pending : List Place) → pending ≡ [] → IsUnderWay disk ps done pending → IsWalked disk ps done
 ended disk ps done pending e u = go u.visits refl

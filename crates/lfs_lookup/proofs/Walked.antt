@@ -4,6 +4,7 @@ use Rattle.std.proofs.lemmas.Option.{same_Some}
 use Rattle.std.specs.List.{AllByRecursion}
 use Rattle.std.proofs.lemmas.List.Elements.{filter-append}
 use Rattle.std.proofs.lemmas.List.Concat.{flat_map-append}
+use Rattle.lfs_model.specs.declared.order.NameOrder.{NameOrder}
 use Rattle.lfs_model.specs.Names.{Name, name_cmp}
 use Rattle.lfs_model.specs.Slots.{Slot, is_superblock}
 use Rattle.lfs_model.specs.Thread.{Pair, is_hard}
@@ -14,7 +15,7 @@ use Rattle.lfs_model.specs.InDirectory.{entries_only, slots_in, StandsAt, Begins
 
 -- The pairs up to number `index` were searched. The last one of them that is the first of the directory or has an entry is `at`, with
 -- lesser names alone.
-pub record HasPassed (ps : List Pair) (first : ℕ) (name : Name) (at id index : ℕ) : Type 0 where
+pub record HasPassed (by : NameOrder) (ps : List Pair) (first : ℕ) (name : Name) (at id index : ℕ) : Type 0 where
   pub front : List Pair
   pub left : List Pair
   pub pair : Pair
@@ -26,13 +27,13 @@ pub record HasPassed (ps : List Pair) (first : ℕ) (name : Name) (at id index :
   pub next : length front + length left + 1 + length empty ≡ index
   pub joined : AllByRecursion IsJoined (left ++ pair ∷ empty)
   pub count : length pair.content.slots ≡ id
-  pub less : AllByRecursion (λ s. name_cmp s.name name ≡ Less) (entries_only pair.content.slots)
+  pub less : AllByRecursion (λ s. name_cmp by s.name name ≡ Less) (entries_only pair.content.slots)
   pub not_before : (left ≡ []) ⊎ (entries_only pair.content.slots ≢ [])
   pub none : entries_only (slots_in empty) ≡ []
 
-pub data IsWalked (ps : List Pair) (first : ℕ) (name : Name) (at id index : ℕ) : Type 0 where
-  begun : index ≡ first → IsWalked ps first name at id index
-  passed : HasPassed ps first name at id index → first < index → IsWalked ps first name at id index
+pub data IsWalked (by : NameOrder) (ps : List Pair) (first : ℕ) (name : Name) (at id index : ℕ) : Type 0 where
+  begun : index ≡ first → IsWalked by ps first name at id index
+  passed : HasPassed by ps first name at id index → first < index → IsWalked by ps first name at id index
 
 -- ---- the pair that comes next
 
@@ -63,7 +64,7 @@ at_index (p ∷ ps) (suc index) d h =
 pub begun_here : (ps : List Pair) (first index : ℕ) (q : Pair) (a : At ps index q) → index ≡ first → IsBehind ps first index q a.rest
 begun_here ps first index q a e = record { front = a.front; left = []; parts = a.parts; begins = a.begins ∙ e; number = (let b = a.begins in omega arith); joined = tt }
 
-module _ (ps : List Pair) (first : ℕ) (name : Name) (at id index : ℕ) (h : HasPassed ps first name at id index) where
+module _ {by : NameOrder} (ps : List Pair) (first : ℕ) (name : Name) (at id index : ℕ) (h : HasPassed by ps first name at id index) where
   abbrev seen : List Pair
   seen = h.left ++ h.pair ∷ h.empty
 
@@ -107,9 +108,9 @@ plain_here : (front left : List Pair) (x : Pair) (more : List Pair) (q : Pair) (
 plain_here front left x more q rest e h =
     (each_right IsPlain more (q ∷ rest) (subst HaveNoSuperblock (ap (λ l. drop (length front + 1) (front ++ (l ++ q ∷ rest))) e ∙ drop_past front x (more ++ q ∷ rest)) h)).0
 
-plain_passed : (ps : List Pair) (first : ℕ) (name : Name) (at id index : ℕ) (h : HasPassed ps first name at id index) (q : Pair) (rest : List Pair) → h.rest ≡ q ∷ rest
+plain_passed : {by : NameOrder} (ps : List Pair) (first : ℕ) (name : Name) (at id index : ℕ) (h : HasPassed by ps first name at id index) (q : Pair) (rest : List Pair) → h.rest ≡ q ∷ rest
     → HaveNoSuperblock (drop (first + 1) ps) → IsPlain q
-plain_passed ps first name at id index h q rest e plain = go h.left refl
+plain_passed {by} ps first name at id index h q rest e plain = go h.left refl
   where
     whole : HaveNoSuperblock (drop (length h.front + 1) (h.front ++ ((h.left ++ h.pair ∷ h.empty) ++ q ∷ rest)))
     whole = subst HaveNoSuperblock (ap₂ (λ (n : ℕ) (z : List Pair). drop (n + 1) z) (sym h.begins) (regrouped ps first name at id index h ∙ ap (λ z. h.front ++ ((h.left ++ h.pair ∷ h.empty) ++ z)) e)) plain
@@ -147,7 +148,7 @@ pub data Moves (first index id at old now_at now_id : ℕ) : Type 0 where
   moves : (index ≡ first) ⊎ (0 < id) → now_at ≡ index → now_id ≡ id → Moves first index id at old now_at now_id
   stays : (index ≡ first → ⊥) → id ≤ 0 → now_at ≡ at → now_id ≡ old → Moves first index id at old now_at now_id
 
-module _ (ps : List Pair) (first : ℕ) (name : Name) (at old index id : ℕ) (d : Pair) (walked : IsWalked ps first name at old index) (below : index < length ps)
+module _ {by : NameOrder} (ps : List Pair) (first : ℕ) (name : Name) (at old index id : ℕ) (d : Pair) (walked : IsWalked by ps first name at old index) (below : index < length ps)
     (plain : HaveNoSuperblock (drop (first + 1) ps)) where
   abbrev q : Pair
   q = get_or ps index d
@@ -155,7 +156,7 @@ module _ (ps : List Pair) (first : ℕ) (name : Name) (at old index id : ℕ) (d
   pub stands_here : (entry : Entry) (s : StandsAt q.content.slots name id) → Shows entry s.slot.struct → (t : Stands ps first name index id) × Shows entry t.stands.slot.struct
   stands_here entry s shows = go walked
     where
-      go : IsWalked ps first name at old index → (t : Stands ps first name index id) × Shows entry t.stands.slot.struct
+      go : IsWalked by ps first name at old index → (t : Stands ps first name index id) × Shows entry t.stands.slot.struct
       go (begun e) = let a = at_index ps index d below in (record { pair = q; rest = a.rest; place = begun_here ps first index q a e; stands = s }, shows)
       go (passed h l) = let r = passed_here ps first name at old index h d below in (record { pair = q; rest = r.0; place = r.1.1; stands = s }, shows)
 
@@ -169,11 +170,11 @@ module _ (ps : List Pair) (first : ℕ) (name : Name) (at old index id : ℕ) (d
     place : IsBehind ps first index q rest
     not_before : (place.left ≡ []) ⊎ (entries_only left ≢ [])
 
-  has_front : (pl : PlaceAt q.content.slots name id) → (index ≡ first) ⊎ (0 < id) → HasFront pl.left
+  has_front : (pl : PlaceAt by q.content.slots name id) → (index ≡ first) ⊎ (0 < id) → HasFront pl.left
   unfolding begun_here
   has_front pl why = go walked why
     where
-      go : IsWalked ps first name at old index → (index ≡ first) ⊎ (0 < id) → HasFront pl.left
+      go : IsWalked by ps first name at old index → (index ≡ first) ⊎ (0 < id) → HasFront pl.left
       go (begun e) w = let a = at_index ps index d below in record { rest = a.rest; place = begun_here ps first index q a e; not_before = inl refl }
       go (passed h l) (inl e) = absurd (omega arith)
       go (passed h l) (inr some) =
@@ -185,7 +186,7 @@ module _ (ps : List Pair) (first : ℕ) (name : Name) (at old index id : ℕ) (d
           }
 
   -- it ends in this pair
-  pub ends_here : PlaceAt q.content.slots name id → (index ≡ first) ⊎ (0 < id) → (id < length q.content.slots) ⊎ (is_hard q.content.tail ≡ false) → Belongs ps first name index id
+  pub ends_here : PlaceAt by q.content.slots name id → (index ≡ first) ⊎ (0 < id) → (id < length q.content.slots) ⊎ (is_hard q.content.tail ≡ false) → Belongs by ps first name index id
   ends_here pl why end =
       let f = has_front pl why in
       record {
@@ -204,14 +205,14 @@ module _ (ps : List Pair) (first : ℕ) (name : Name) (at old index id : ℕ) (d
         not_behind = go pl.greater end;
       }
     where
-      go : (pl.right ≡ []) ⊎ BeginsAbove name (entries_only pl.right) → (id < length q.content.slots) ⊎ (is_hard q.content.tail ≡ false)
-          → BeginsAbove name (entries_only (pl.right ++ [])) ⊎ ((entries_only (pl.right ++ []) ≡ []) × (is_hard q.content.tail ≡ false))
-      go (inr b) end = inl (subst (λ z. BeginsAbove name (entries_only z)) (sym (append-nil pl.right)) b)
+      go : (pl.right ≡ []) ⊎ BeginsAbove by name (entries_only pl.right) → (id < length q.content.slots) ⊎ (is_hard q.content.tail ≡ false)
+          → BeginsAbove by name (entries_only (pl.right ++ [])) ⊎ ((entries_only (pl.right ++ []) ≡ []) × (is_hard q.content.tail ≡ false))
+      go (inr b) end = inl (subst (λ z. BeginsAbove by name (entries_only z)) (sym (append-nil pl.right)) b)
       go (inl e) (inl l) = absurd (let k = ap length pl.held in let m = ap length (append-nil pl.left) in let r = ap (λ z. length (pl.left ++ z)) e in let n = pl.number in omega arith)
       go (inl e) (inr k) = inr (ap (λ z. entries_only (z ++ [])) e, k)
 
   -- it goes on behind this pair
-  pub goes_on : PlaceAt q.content.slots name id → (index ≡ first) ⊎ (0 < id) → length q.content.slots ≤ id → is_hard q.content.tail ≡ true → HasPassed ps first name index id (index + 1)
+  pub goes_on : PlaceAt by q.content.slots name id → (index ≡ first) ⊎ (0 < id) → length q.content.slots ≤ id → is_hard q.content.tail ≡ true → HasPassed by ps first name index id (index + 1)
   goes_on pl why all hard =
       let f = has_front pl why in
       let none = nothing_behind q.content.slots pl.left pl.right pl.held (let n = pl.number in omega arith) in
@@ -229,7 +230,7 @@ module _ (ps : List Pair) (first : ℕ) (name : Name) (at old index id : ℕ) (d
         next = omega arith;
         joined = each_append IsJoined f.place.left (q ∷ []) f.place.joined (hard, tt);
         count = ap length is ∙ pl.number;
-        less = subst (λ z. AllByRecursion (λ s. name_cmp s.name name ≡ Less) (entries_only z)) (sym is) pl.less;
+        less = subst (λ z. AllByRecursion (λ s. name_cmp by s.name name ≡ Less) (entries_only z)) (sym is) pl.less;
         not_before = go f.not_before is;
         none = refl;
       }
@@ -239,14 +240,14 @@ module _ (ps : List Pair) (first : ℕ) (name : Name) (at old index id : ℕ) (d
       go (inr n) e = inr (subst (λ z. entries_only z ≢ []) (sym e) n)
 
   -- no entry of this pair is less: the place is behind the pair before
-  is_right : (pl : PlaceAt q.content.slots name id) → id ≤ 0 → q.content.slots ≡ pl.right
+  is_right : (pl : PlaceAt by q.content.slots name id) → id ≤ 0 → q.content.slots ≡ pl.right
   is_right pl none = go pl.left pl.held pl.number
     where
       go : (left : List Slot) → q.content.slots ≡ left ++ pl.right → length left ≡ id → q.content.slots ≡ pl.right
       go [] e n = e
       go (s ∷ left) e n = absurd (omega arith)
 
-  pub ends_before : PlaceAt q.content.slots name id → HasPassed ps first name at old index → id ≤ 0 → (id < length q.content.slots) ⊎ (is_hard q.content.tail ≡ false) → Belongs ps first name at old
+  pub ends_before : PlaceAt by q.content.slots name id → HasPassed by ps first name at old index → id ≤ 0 → (id < length q.content.slots) ⊎ (is_hard q.content.tail ≡ false) → Belongs by ps first name at old
   ends_before pl h none end =
       let r = passed_here ps first name at old index h d below in
       record {
@@ -275,13 +276,13 @@ module _ (ps : List Pair) (first : ℕ) (name : Name) (at old index id : ℕ) (d
       same : entries_only (slots_in (h.empty ++ q ∷ [])) ≡ entries_only pl.right
       same = entries_on h.empty q h.none ∙ ap entries_only (is_right pl none)
 
-      go : (pl.right ≡ []) ⊎ BeginsAbove name (entries_only pl.right) → (id < length q.content.slots) ⊎ (is_hard q.content.tail ≡ false)
-          → BeginsAbove name (entries_only (slots_in (h.empty ++ q ∷ []))) ⊎ ((entries_only (slots_in (h.empty ++ q ∷ [])) ≡ []) × (last_is_joined h.pair (h.empty ++ q ∷ []) ≡ false))
-      go (inr b) end = inl (subst (BeginsAbove name) (sym same) b)
+      go : (pl.right ≡ []) ⊎ BeginsAbove by name (entries_only pl.right) → (id < length q.content.slots) ⊎ (is_hard q.content.tail ≡ false)
+          → BeginsAbove by name (entries_only (slots_in (h.empty ++ q ∷ []))) ⊎ ((entries_only (slots_in (h.empty ++ q ∷ [])) ≡ []) × (last_is_joined h.pair (h.empty ++ q ∷ []) ≡ false))
+      go (inr b) end = inl (subst (BeginsAbove by name) (sym same) b)
       go (inl e) (inl l) = absurd (let k = ap length (is_right pl none ∙ e) in omega arith)
       go (inl e) (inr k) = inr (same ∙ ap entries_only e, last_on h.pair h.empty q ∙ k)
 
-  pub goes_past : PlaceAt q.content.slots name id → HasPassed ps first name at old index → id ≤ 0 → length q.content.slots ≤ id → is_hard q.content.tail ≡ true → HasPassed ps first name at old (index + 1)
+  pub goes_past : PlaceAt by q.content.slots name id → HasPassed by ps first name at old index → id ≤ 0 → length q.content.slots ≤ id → is_hard q.content.tail ≡ true → HasPassed by ps first name at old (index + 1)
   goes_past pl h none all hard =
       let r = passed_here ps first name at old index h d below in
       let e : entries_only (slots_in (h.empty ++ q ∷ [])) ≡ [] = entries_on h.empty q h.none ∙ ap entries_only (empty_list q.content.slots (omega arith)) in
@@ -308,21 +309,21 @@ module _ (ps : List Pair) (first : ℕ) (name : Name) (at old index id : ℕ) (d
       empty_list [] l = refl
       empty_list (s ∷ slots) l = absurd (omega arith)
 
-  pub ended : PlaceAt q.content.slots name id → (now_at now_id : ℕ) → Moves first index id at old now_at now_id → (id < length q.content.slots) ⊎ (is_hard q.content.tail ≡ false) → Belongs ps first name now_at now_id
-  ended pl now_at now_id (moves why e f) end = subst (λ (n : ℕ). Belongs ps first name n now_id) (sym e) (subst (λ (n : ℕ). Belongs ps first name index n) (sym f) (ends_here pl why end))
-  ended pl now_at now_id (stays other none e f) end = subst (λ (n : ℕ). Belongs ps first name n now_id) (sym e) (subst (λ (n : ℕ). Belongs ps first name at n) (sym f) (go walked))
+  pub ended : PlaceAt by q.content.slots name id → (now_at now_id : ℕ) → Moves first index id at old now_at now_id → (id < length q.content.slots) ⊎ (is_hard q.content.tail ≡ false) → Belongs by ps first name now_at now_id
+  ended pl now_at now_id (moves why e f) end = subst (λ (n : ℕ). Belongs by ps first name n now_id) (sym e) (subst (λ (n : ℕ). Belongs by ps first name index n) (sym f) (ends_here pl why end))
+  ended pl now_at now_id (stays other none e f) end = subst (λ (n : ℕ). Belongs by ps first name n now_id) (sym e) (subst (λ (n : ℕ). Belongs by ps first name at n) (sym f) (go walked))
     where
-      go : IsWalked ps first name at old index → Belongs ps first name at old
+      go : IsWalked by ps first name at old index → Belongs by ps first name at old
       go (begun k) = absurd (other k)
       go (passed h l) = ends_before pl h none end
 
-  pub walked_on : PlaceAt q.content.slots name id → first ≤ index → (now_at now_id : ℕ) → Moves first index id at old now_at now_id → length q.content.slots ≤ id → is_hard q.content.tail ≡ true → IsWalked ps first name now_at now_id (index + 1)
+  pub walked_on : PlaceAt by q.content.slots name id → first ≤ index → (now_at now_id : ℕ) → Moves first index id at old now_at now_id → length q.content.slots ≤ id → is_hard q.content.tail ≡ true → IsWalked by ps first name now_at now_id (index + 1)
   walked_on pl from now_at now_id (moves why e f) all hard =
-      subst (λ (n : ℕ). IsWalked ps first name n now_id (index + 1)) (sym e) (subst (λ (n : ℕ). IsWalked ps first name index n (index + 1)) (sym f) (passed (goes_on pl why all hard) (omega arith)))
+      subst (λ (n : ℕ). IsWalked by ps first name n now_id (index + 1)) (sym e) (subst (λ (n : ℕ). IsWalked by ps first name index n (index + 1)) (sym f) (passed (goes_on pl why all hard) (omega arith)))
   walked_on pl from now_at now_id (stays other none e f) all hard =
-      subst (λ (n : ℕ). IsWalked ps first name n now_id (index + 1)) (sym e) (subst (λ (n : ℕ). IsWalked ps first name at n (index + 1)) (sym f) (go walked))
+      subst (λ (n : ℕ). IsWalked by ps first name n now_id (index + 1)) (sym e) (subst (λ (n : ℕ). IsWalked by ps first name at n (index + 1)) (sym f) (go walked))
     where
-      go : IsWalked ps first name at old index → IsWalked ps first name at old (index + 1)
+      go : IsWalked by ps first name at old index → IsWalked by ps first name at old (index + 1)
       go (begun k) = absurd (other k)
       go (passed h l) = passed (goes_past pl h none all hard) (omega arith)
 

@@ -4,6 +4,7 @@ pub mod Paths
 pub mod FileBytes
 pub mod Items
 pub mod Listed
+pub mod ByName
 pub mod Reading
 pub mod Walk
 pub mod Profile

@@ -1,5 +1,6 @@
 -- What paths lead to.
 use Rattle.std.specs.Prelude.{ℕ, ◌≡◌, List, Option, Some, None, ◌∷◌, [], ◌++◌}
+use Rattle.lfs_model.specs.declared.order.NameOrder.{NameOrder}
 use Rattle.lfs_model.specs.InDirectory.{BeginsAt, Belongs, Stands}
 use Rattle.lfs_model.specs.Names.{Name}
 use Rattle.lfs_model.specs.Operations.{Refusal, NoEnt, NotDir}
@@ -68,19 +69,19 @@ pub record StandsOnPath (ps : List Pair) (above : Path) (name : Name) (first : �
   pub slot : slot_of_path ps (above ++ name ∷ []) ≡ Some stands.stands.slot
 
 -- nothing is at its path, and the name belongs in the directory at the path above, in front of the slot at the spot
-pub record BelongsOnPath (ps : List Pair) (above : Path) (name : Name) (first : ℕ) (spot : Spot) : Type 0 where
+pub record BelongsOnPath (order : NameOrder) (ps : List Pair) (above : Path) (name : Name) (first : ℕ) (spot : Spot) : Type 0 where
   pub on : BeginsOnPath ps above first
-  pub belongs : Belongs ps first name spot.pair spot.id
+  pub belongs : Belongs order ps first name spot.pair spot.id
   pub nothing : slot_of_path ps (above ++ name ∷ []) ≡ None
 
 -- what a name in the directory at a path stands for
-abbrev pub IsThere : List Pair → Path → Name → Found → Type 0
-IsThere ps above name (found.Directory parent slot first) = StandsOnPath ps above name parent slot × BeginsOnPath ps (above ++ name ∷ []) first
-IsThere ps above name (found.File parent slot contents) = (s : StandsOnPath ps above name parent slot) × ShowsContents contents s.stands.stands.slot.struct
-IsThere ps above name (found.Nothing parent place) = BelongsOnPath ps above name parent place
-IsThere ps above name found.Root = ⊥
-IsThere ps above name found.ParentIsFile = ⊥
-IsThere ps above name found.ParentIsMissing = ⊥
+abbrev pub IsThere : NameOrder → List Pair → Path → Name → Found → Type 0
+IsThere order ps above name (found.Directory parent slot first) = StandsOnPath ps above name parent slot × BeginsOnPath ps (above ++ name ∷ []) first
+IsThere order ps above name (found.File parent slot contents) = (s : StandsOnPath ps above name parent slot) × ShowsContents contents s.stands.stands.slot.struct
+IsThere order ps above name (found.Nothing parent place) = BelongsOnPath order ps above name parent place
+IsThere order ps above name found.Root = ⊥
+IsThere order ps above name found.ParentIsFile = ⊥
+IsThere order ps above name found.ParentIsMissing = ⊥
 
 -- by what a path is refused for its parents
 abbrev pub parent_refusal : Found → Option Refusal
@@ -89,18 +90,18 @@ parent_refusal found.ParentIsMissing = Some NoEnt
 parent_refusal _ = None
 
 -- the last name of the path stands for that
-pub record EndsIn (ps : List Pair) (path : Path) (found : Found) : Type 0 where
+pub record EndsIn (order : NameOrder) (ps : List Pair) (path : Path) (found : Found) : Type 0 where
   pub above : Path
   pub name : Name
   pub is : path ≡ above ++ name ∷ []
-  pub there : IsThere ps above name found
+  pub there : IsThere order ps above name found
 
 -- what is found for the path, unless a parent refuses
 abbrev pub IsAtPath : Kept → Path → Found → Type 0
 IsAtPath t path found.Root = path ≡ []
 IsAtPath t path found.ParentIsFile = Unit {0}
 IsAtPath t path found.ParentIsMissing = Unit {0}
-IsAtPath t path there = EndsIn t.pairs path there
+IsAtPath t path there = EndsIn t.disk.order t.pairs path there
 
 -- what a path leads to
 pub record LeadsTo (t : Kept) (path : Path) (found : Found) : Type 0 where

@@ -1,5 +1,6 @@
 -- What a search for a name answers.
 use Rattle.std.specs.Prelude.{ℕ, ◌≡◌, ◌+◌, ◌==◌, ◌&&◌, if◌then◌else◌, true, false, List, [], ◌∷◌, drop, slice_get, Option, None, Some}
+use Rattle.lfs_model.specs.declared.order.NameOrder.{NameOrder}
 use Rattle.lfs_model.specs.Names.{Name}
 use Rattle.lfs_model.specs.Slots.{Slot, Content, Gstate, is_superblock, same_pair}
 use Rattle.lfs_model.specs.Thread.{Pair, is_hard}
@@ -28,19 +29,19 @@ pub record StandsShown (skip : Option ℕ) (slots : List Slot) (name : Name) (id
   pub kept : skip ≡ Some id → ⊥
 
 -- the name isn't there, and belongs there if nothing is passed over
-pub record BelongsShown (skip : Option ℕ) (slots : List Slot) (name : Name) (id : ℕ) : Type 0 where
+pub record BelongsShown (order : NameOrder) (skip : Option ℕ) (slots : List Slot) (name : Name) (id : ℕ) : Type 0 where
   pub absent : IsAbsentBut skip slots name
-  pub place : skip ≡ None → PlaceAt slots name id
+  pub place : skip ≡ None → PlaceAt order slots name id
 
 -- among the slots of a pair, of which one may be passed over
-abbrev pub AnswersIn : Option ℕ → List Slot → Name → SoughtInPair → Type 0
-AnswersIn skip slots name (in_pair.Found id entry) = StandsShown skip slots name id entry
-AnswersIn skip slots name (in_pair.Place id) = BelongsShown skip slots name id
+abbrev pub AnswersIn : NameOrder → Option ℕ → List Slot → Name → SoughtInPair → Type 0
+AnswersIn order skip slots name (in_pair.Found id entry) = StandsShown skip slots name id entry
+AnswersIn order skip slots name (in_pair.Place id) = BelongsShown order skip slots name id
 
 -- in the directory that begins with the pair of number `first`
-abbrev pub Answers : List Pair → ℕ → Name → Sought → Type 0
-Answers ps first name (Found spot entry) = (s : Stands ps first name spot.pair spot.id) × Shows entry s.stands.slot.struct
-Answers ps first name (Place spot) = Belongs ps first name spot.pair spot.id
+abbrev pub Answers : NameOrder → List Pair → ℕ → Name → Sought → Type 0
+Answers order ps first name (Found spot entry) = (s : Stands ps first name spot.pair spot.id) × Shows entry s.stands.slot.struct
+Answers order ps first name (Place spot) = Belongs order ps first name spot.pair spot.id
 
 -- ---- where a slot counts as deleted
 

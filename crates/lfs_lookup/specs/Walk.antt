@@ -11,6 +11,7 @@ use Rattle.lfs_model.specs.Listing.{Entry, IsWalkOf}
 use Rattle.lfs_model.specs.InDirectory.{BeginsAt}
 use Rattle.lfs_model.specs.Shown.{contents_in, tree_in}
 use Rattle.lfs_lookup.specs.declared.walking.TreeItem.{TreeItem}
+use Rattle.lfs_lookup.specs.ByName.{AreByName}
 use Rattle.lfs_lookup.specs.Items.{Shape, structure_seen}
 use Rattle.lfs_lookup.specs.Listed.{shapes_from}
 
@@ -44,9 +45,14 @@ BeginsIfBranch ps (Branch to) = (first : ℕ) × BeginsAt ps to first
 BeginsIfBranch ps (Inline bytes) = Unit {0}
 BeginsIfBranch ps (Ctz head size) = Unit {0}
 
+-- what stands in the directory that begins with the pair of that number comes on top, in name order
+abbrev pub ArePushedFrom : List Pair → List ℕ → ℕ → List Place → List Place → Type 0
+ArePushedFrom ps path first old new =
+    (shapes : List Shape) × (AreByName (shapes_from ps (Some first)) shapes × (new ≡ old ++ reverse (places_beneath path shapes)))
+
 -- what stands in a directory comes on top
 abbrev pub ArePushedBelow : List Pair → List ℕ → Struct → List Place → List Place → Type 0
-ArePushedBelow ps path (Branch to) old new = (first : ℕ) × (BeginsAt ps to first × (new ≡ old ++ reverse (places_beneath path (shapes_from ps (Some first)))))
+ArePushedBelow ps path (Branch to) old new = (first : ℕ) × (BeginsAt ps to first × ArePushedFrom ps path first old new)
 ArePushedBelow ps path (Inline bytes) old new = new ≡ old
 ArePushedBelow ps path (Ctz head size) old new = new ≡ old
 

@@ -102,9 +102,9 @@ pub fn entries_under<D: BlockDevice>(
 }
 
 /// The entries of the directory that begins with the pair of number `first`: those of its pairs in
-/// turn, which hard tails join (SPEC.md of littlefs, "0x601 LFS_TYPE_HARDTAIL"), so in name order
-/// where the image is accepted. No more reads than these pairs are, and none where all of them are at
-/// hand.
+/// turn, which hard tails join (SPEC.md of littlefs, "0x601 LFS_TYPE_HARDTAIL"), so in the
+/// disk's order of names where the image is accepted. No more reads than these pairs are, and none
+/// where all of them are at hand.
 ///
 /// Errors as those of [`items_of`].
 pub fn entries<D: BlockDevice>(

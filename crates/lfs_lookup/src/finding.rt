@@ -73,7 +73,7 @@ pub struct FoundAttribute {
 #[derive(Drop)]
 pub struct Listing {
     pub finding: Finding,
-    /// In name order. Nothing where no directory stands there.
+    /// In name order, the shorter names first. Nothing where no directory stands there.
     pub items: Vec<ListItem>,
 }
 

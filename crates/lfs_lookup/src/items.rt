@@ -7,6 +7,7 @@ ghost use Rattle.lfs_model.specs.Content.{struct_typed};
 ghost use Rattle.lfs_model.specs.LoggedContent.{HasParts, HaveParts, IsPart};
 ghost use Rattle.lfs_thread.specs.Lent.{IsBlockOf};
 ghost use Rattle.lfs_tag.specs.ContentSeen.{part_seen, slot_seen};
+ghost use Rattle.lfs_lookup.specs.ByName.{AreByName};
 ghost use Rattle.lfs_lookup.specs.Items.{item_seen, items_seen, listed, shapes_in, shown_among, shown_raw, structure_seen, without};
 
 use lfs_device::Error;
@@ -117,4 +118,11 @@ pub(crate) fn items_in(
     remove_moved(&mut content.slots, moved);
     let items = items_among(alloc, &content.slots)?;
     Ok(items)
+}
+
+// Puts entries in the order of their names, the shorter names first.
+pub(crate) fn sort_by_name(items: &mut Vec<Item>)
+    ensures { AreByName (items_seen items.old.items) (items_seen items.new.items) }
+{
+    items.sort_unstable_by(|a, b| a.name.cmp(&b.name));
 }

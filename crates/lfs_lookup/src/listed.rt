@@ -16,7 +16,7 @@ ghost use Rattle.lfs_lookup.specs.Reading.{IsReading};
 use crate::by_path::{finding_of, first_of, shown_at};
 use crate::directory::entries_from;
 use crate::finding::{ListItem, Listing};
-use crate::items::{Item, Structure};
+use crate::items::{Item, Structure, sort_by_name};
 use crate::path::Path;
 use lfs_device::{BlockDevice, Error};
 use lfs_thread::Thread;
@@ -58,8 +58,8 @@ fn listed_items(alloc: Global, items: Vec<Item>) -> Result<Vec<ListItem>, AllocE
     Ok(listed)
 }
 
-/// What a path leads to, and what stands in the directory at it, in name order; no items where none
-/// is there. No more reads than the directories above the path and the one at it have pairs, and
+/// What a path leads to, and what stands in the directory at it, in name order, the shorter names
+/// first; no items where none is there. No more reads than the directories above the path and the one at it have pairs, and
 /// none where all these pairs are at hand.
 ///
 /// `root` is the number of the root directory's first pair. `Io` where a read failed, and `NoMemory`
@@ -80,7 +80,8 @@ pub fn list_at<D: BlockDevice>(
     ensures reading { IsReading thread.old thread.new result }
 {
     let shown = shown_at(alloc, thread, root, path)?;
-    let items = entries_from(alloc, thread, first_of(root, shown))?;
+    let mut items = entries_from(alloc, thread, first_of(root, shown))?;
+    sort_by_name(&mut items);
     // Its blocks hold bytes, so that inline contents are short, and have the sizes by which a list has
     // as many bytes as its entry says.
     let _device = thread.device();

@@ -165,7 +165,7 @@ fn look_in<D: BlockDevice>(
     requires works { thread.old.failed ≡ false }
     requires settled { IsSettled thread.old.kept }
     requires reached { (above : Path) × BeginsOnPath thread.old.kept.pairs above parent }
-    ensures answer { IfOk result (λ found. (above : Path) → BeginsOnPath thread.old.kept.pairs above parent → IsThere thread.old.kept.pairs above name.now found) }
+    ensures answer { IfOk result (λ found. (above : Path) → BeginsOnPath thread.old.kept.pairs above parent → IsThere thread.old.kept.disk.order thread.old.kept.pairs above name.now found) }
     ensures few { reads thread.new.kept.history ≤ reads thread.old.kept.history + run_length (drop parent thread.old.kept.pairs) }
     ensures only { IsOnlyRead thread.old.kept thread.new.kept }
     ensures works { thread.new.failed ≡ false }

@@ -12,7 +12,7 @@ ghost use Rattle.lfs_lookup.specs.Reading.{IsReading};
 ghost use Rattle.lfs_lookup.specs.Search.{Answers, AnswersIn, AnswersShown, HoldsContent, passed_in};
 
 use crate::entry::{Entry, entry_of};
-use lfs_device::{BlockDevice, Error};
+use lfs_device::{BlockDevice, Error, NameOrder};
 use lfs_tag::{Log, Lookup, Steps, find, struct_of};
 use lfs_thread::Thread;
 
@@ -40,12 +40,12 @@ enum SoughtInPair {
 }
 
 // Where a name stands among the slots of a block, where one slot may be passed over.
-fn find_in_block(block: &[u8], name: &[u8], skip: Option<u16>) -> SoughtInPair
+fn find_in_block(block: &[u8], order: NameOrder, name: &[u8], skip: Option<u16>) -> SoughtInPair
     requires { HoldsContent block.now }
-    ensures { (content : Content) → IsBlockOf block.now content → AnswersIn skip content.slots name.now result }
+    ensures { (content : Content) → IsBlockOf block.now content → AnswersIn order skip content.slots name.now result }
 {
     let log = Log::read(block);
-    match find(&log, name, skip) {
+    match find(&log, order, name, skip) {
         Lookup::Found(id) => {
             let structure = struct_of(&log, id, &mut Steps::new()).unwrap();
             SoughtInPair::Found(id, entry_of(&structure))
@@ -63,15 +63,16 @@ fn find_in_pair<D: BlockDevice>(
 ) -> Result<SoughtInPair, Error>
     requires works { thread.old.failed ≡ false }
     requires below { pair < length thread.old.kept.pairs }
-    ensures answer { IfOk result (AnswersIn skip (pair_in thread.old.kept pair).content.slots name.now) }
+    ensures answer { IfOk result (AnswersIn thread.old.kept.disk.order skip (pair_in thread.old.kept pair).content.slots name.now) }
     ensures at_hand { OnOk result (IsSome (at_hand thread.new pair)) }
     ensures few { reads thread.new.kept.history ≤ reads thread.old.kept.history + 1 }
     ensures brings { BringsAlong (pair_in thread.old.kept pair ∷ []) thread.old thread.new result }
     ensures reading { IsReading thread.old thread.new result }
 {
     thread.bring(pair)?;
+    let order = thread.geometry().order;
     let block = thread.lend(pair).unwrap();
-    Ok(find_in_block(block, name, skip))
+    Ok(find_in_block(block, order, name, skip))
 }
 
 // Where a name stands among the entries of the directory that begins with the pair of number
@@ -89,7 +90,7 @@ pub(crate) fn find_name<D: BlockDevice>(
     requires works { thread.old.failed ≡ false }
     requires below { first < length thread.old.kept.pairs }
     requires entries { HaveNoSuperblock (drop (first + 1) thread.old.kept.pairs) }
-    ensures answer { IfOk result (Answers thread.old.kept.pairs first name.now) }
+    ensures answer { IfOk result (Answers thread.old.kept.disk.order thread.old.kept.pairs first name.now) }
     ensures only { IsOnlyRead thread.old.kept thread.new.kept }
     ensures few { reads thread.new.kept.history ≤ reads thread.old.kept.history + run_length (drop first thread.old.kept.pairs) }
     ensures works { thread.new.failed ≡ false }

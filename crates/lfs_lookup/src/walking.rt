@@ -1,17 +1,16 @@
 // All that stands beneath the root.
 
-ghost use Rattle.std.specs.Prelude.{◌≡◌, ◌++◌, ◌<◌, Some, IfOk, OnOk, false, length, reverse};
+ghost use Rattle.std.specs.Prelude.{◌≡◌, ◌++◌, ◌<◌, IfOk, OnOk, false, length, reverse};
 ghost use Rattle.lfs_model.specs.Thread.{gstate_of};
 ghost use Rattle.lfs_model.specs.View.{IsAccepted};
 ghost use Rattle.lfs_tag.specs.FieldsSeen.{move_seen};
 ghost use Rattle.lfs_lookup.specs.Items.{item_seen, items_seen, structure_seen};
-ghost use Rattle.lfs_lookup.specs.Listed.{shapes_from};
 ghost use Rattle.lfs_lookup.specs.Reading.{IsReading};
-ghost use Rattle.lfs_lookup.specs.Walk.{ArePushed, BeginsIfBranch, IsWalked, addresses_in, beneath, found_seen, founds_seen, places_beneath};
+ghost use Rattle.lfs_lookup.specs.Walk.{ArePushed, ArePushedFrom, BeginsIfBranch, IsWalked, addresses_in, beneath, found_seen, founds_seen, places_beneath};
 
 use crate::addresses::addresses_of;
 use crate::directory::entries_under;
-use crate::items::{Item, Structure};
+use crate::items::{Item, Structure, sort_by_name};
 use lfs_device::{BlockDevice, Error};
 use lfs_mount::Places;
 use lfs_tag::MoveState;
@@ -56,7 +55,7 @@ fn push_items(
     Ok(())
 }
 
-// Puts the entries on top of the directory that begins with the pair of number `first`.
+// Puts the entries on top of the directory that begins with the pair of number `first`, in name order.
 fn push_directory<D: BlockDevice>(
     alloc: Global,
     thread: &mut Thread<D>,
@@ -68,10 +67,11 @@ fn push_directory<D: BlockDevice>(
     requires works { thread.old.failed ≡ false }
     requires below { first < length thread.old.kept.pairs }
     requires state { move_seen state.now ≡ gstate_of thread.old.kept.pairs }
-    ensures pushed { OnOk result (founds_seen pending.new.items ≡ founds_seen pending.old.items ++ reverse (places_beneath path.now (shapes_from thread.old.kept.pairs (Some first)))) }
+    ensures pushed { OnOk result (ArePushedFrom thread.old.kept.pairs path.now first (founds_seen pending.old.items) (founds_seen pending.new.items)) }
     ensures reading { IsReading thread.old thread.new result }
 {
-    let items = entries_under(alloc, thread, state, first)?;
+    let mut items = entries_under(alloc, thread, state, first)?;
+    sort_by_name(&mut items);
     push_items(alloc, pending, path, items)?;
     Ok(())
 }
@@ -99,8 +99,8 @@ fn push_below<D: BlockDevice>(
     Ok(())
 }
 
-/// All that stands beneath the root, depth first and in name order: a directory comes before what
-/// stands beneath it, and that before the next name.
+/// All that stands beneath the root, depth first and in name order, the shorter names first: a
+/// directory comes before what stands beneath it, and that before the next name.
 ///
 /// `Io` where a read failed, and `NoMemory` where the room for a block, its slots or what was found
 /// isn't granted.

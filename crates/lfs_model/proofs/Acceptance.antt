@@ -10,6 +10,7 @@ use Rattle.std.proofs.lemmas.List.Elements.{All-from_recursion, All-head, All-ta
 use Rattle.std.proofs.lemmas.List.Folds.{Any-from_list_any}
 use Rattle.std.proofs.lemmas.List.Kept.{AllPairs-cons}
 use Rattle.byteorder.specs.Endian.{little_number}
+use Rattle.lfs_model.specs.declared.order.NameOrder.{NameOrder}
 use Rattle.lfs_model.specs.Disk.{Disk, block_count}
 use Rattle.lfs_model.specs.Names.{Name, name_cmp, same_name, is_less, is_name}
 use Rattle.lfs_model.specs.Slots.{Slot, Kind, File, Directory, Superblock, Struct, Inline, Ctz, Branch, Gstate, same_pair, is_superblock}
@@ -63,20 +64,20 @@ apart_from (x ∷ xs) h = and_from (list_all (λ y. not (nat_eq x y)) xs) (are_a
     each x [] h = refl
     each x (y ∷ ys) h = and_from (not (nat_eq x y)) (list_all (λ y. not (nat_eq x y)) ys) (ap not h.0) (each x ys h.1)
 
-abbrev pub rise : List Name → Bool
-rise [] = true
-rise (n ∷ ns) = list_all (λ m. is_less (name_cmp n m)) ns && rise ns
+abbrev pub rise : NameOrder → List Name → Bool
+rise by [] = true
+rise by (n ∷ ns) = list_all (λ m. is_less (name_cmp by n m)) ns && rise by ns
 
 less_from : (o : Ordering) → is_less o ≡ true → o ≡ Less
 less_from Less e = refl
 less_from Equal e = absurd (cc)
 less_from Greater e = absurd (cc)
 
-pub rise_from : (ns : List Name) → rise ns ≡ true → AllPairs (λ a b. name_cmp a b ≡ Less) ns
-rise_from [] e = λ i j d l m. absurd (omega arith)
-rise_from (n ∷ ns) e =
-    let both = and_parts (list_all (λ m. is_less (name_cmp n m)) ns) (rise ns) e in
-    AllPairs-cons (λ a b. name_cmp a b ≡ Less) n ns (all_from (λ m. is_less (name_cmp n m)) (λ m. name_cmp n m ≡ Less) (λ m. less_from (name_cmp n m)) ns both.0) (rise_from ns both.1)
+pub rise_from : (by : NameOrder) (ns : List Name) → rise by ns ≡ true → AllPairs (λ a b. name_cmp by a b ≡ Less) ns
+rise_from by [] e = λ i j d l m. absurd (omega arith)
+rise_from by (n ∷ ns) e =
+    let both = and_parts (list_all (λ m. is_less (name_cmp by n m)) ns) (rise by ns) e in
+    AllPairs-cons (λ a b. name_cmp by a b ≡ Less) n ns (all_from (λ m. is_less (name_cmp by n m)) (λ m. name_cmp by n m ≡ Less) (λ m. less_from (name_cmp by n m)) ns both.0) (rise_from by ns both.1)
 
 -- ---- slots
 
@@ -233,7 +234,7 @@ tests disk ps bytes k =
     ∷ list_all (λ p. has_superblock bytes p.content.slots) (superblock_pairs ps)
     ∷ list_all (λ p. list_all is_entry p.content.slots) (other_pairs ps)
     ∷ is_outlined k (entries_in ps) (root_slot (root_of ps))
-    ∷ on_branches (λ path at. rise (names_at (entries_in ps) at)) (outline_in k ps)
+    ∷ on_branches (λ path at. rise disk.order (names_at (entries_in ps) at)) (outline_in k ps)
     ∷ on_branches (λ path at. begins ps at) (outline_in k ps)
     ∷ on_branches (is_once (outline_in k ps)) (outline_in k ps)
     ∷ ((gstate_of ps).sync || list_all (λ d. list_any (λ f. leads_to ps d.at f.0) (outline_in k ps)) (directories_in ps))
@@ -268,7 +269,7 @@ image_is_accepted disk ps bytes k h =
       named = h.named;
       superblock = (bytes, (struct_from disk bytes t.1.1.0, all_from (λ p. has_superblock bytes p.content.slots) (λ p. HasSuperblock bytes p.content.slots) (λ p. superblock_from bytes p.content.slots) (superblock_pairs ps) t.1.1.1.0));
       slots = all_from (λ p. list_all is_entry p.content.slots) (λ p. All IsEntry p.content.slots) (λ p. all_from is_entry IsEntry entry_from p.content.slots) (other_pairs ps) t.1.1.1.1.0;
-      order = λ path at l. rise_from (names_at (entries_in ps) at) (led k ps whole (λ path at. rise (names_at (entries_in ps) at)) t.1.1.1.1.1.1.0 path at l);
+      order = λ path at l. rise_from disk.order (names_at (entries_in ps) at) (led k ps whole (λ path at. rise disk.order (names_at (entries_in ps) at)) t.1.1.1.1.1.1.0 path at l);
       branches = λ path at l. Any-from_list_any (λ d. same_pair d.at at) (directories_in ps) (led k ps whole (λ path at. begins ps at) t.1.1.1.1.1.1.1.0 path at l);
       once = λ path other at to l m same. one path other at to same (led k ps whole (λ other to. not (same_pair at to) || same_path path other) (led k ps whole (is_once (outline_in k ps)) t.1.1.1.1.1.1.1.1.0 path at l) other to m);
       reached = λ clear. let here = rw clear at t.1.1.1.1.1.1.1.1.1.0 in all_from (λ d. list_any (λ f. leads_to ps d.at f.0) (outline_in k ps)) (λ d. IsReached ps d.at) (λ d. reached_from ps d.at (outline_in k ps)) (directories_in ps) here;

@@ -34,7 +34,7 @@ module _ (disk new : Disk) (chain before left after : List Pair) (p q : Pair) (m
     (step : IsStepBeside disk new chain before left after p [] q more f extra [] l [] (new_directory name f.at ∷ []) r)
     (put : IsPutBeside disk (last_site chain before left after) p q more f l [] (new_directory name f.at ∷ []) r)
     (a : ℕ × ℕ) (leads : Leads (thread_at (last_site chain before left after) (p ∷ [])) P a) (same : same_pair (begin_of (last_site chain before left after) (p ∷ [])) a ≡ true)
-    (place : IsPlace (entries_in (thread_at (last_site chain before left after) (p ∷ [])) a) (place_at (last_site chain before left after) l) name)
+    (place : IsPlace disk.order (entries_in (thread_at (last_site chain before left after) (p ∷ [])) a) (place_at (last_site chain before left after) l) name)
     (settled : gstate_of (thread_at (last_site chain before left after) (p ∷ [])) ≡ no_gstate)
     (still : gstate_of (thread_at (last_site chain before left after) (q ∷ (more ++ f ∷ []))) ≡ no_gstate) where
   abbrev w : Site
@@ -85,7 +85,7 @@ module _ (disk middle new : Disk) (chain before front mid after : List Pair) (x 
     (put2 : IsPut middle (record { chain = chain; before = before; left = front; right = mid ++ y ∷ []; after = f ∷ after }) p q more l [] (new_directory name f.at ∷ []) r)
     (a : ℕ × ℕ) (leads : Leads (thread_at (last_site chain before (front ++ p ∷ mid) after) (x ∷ [])) P a)
     (same : same_pair (begin_of (last_site chain before (front ++ p ∷ mid) after) (x ∷ [])) a ≡ true)
-    (place : IsPlace (entries_in (thread_at (record { chain = chain; before = before; left = front; right = mid ++ y ∷ []; after = f ∷ after }) (p ∷ [])) a)
+    (place : IsPlace middle.order (entries_in (thread_at (record { chain = chain; before = before; left = front; right = mid ++ y ∷ []; after = f ∷ after }) (p ∷ [])) a)
     (place_at (record { chain = chain; before = before; left = front; right = mid ++ y ∷ []; after = f ∷ after }) l) name)
     (sync : (gstate_of (thread_at (last_site chain before (front ++ p ∷ mid) after) (y ∷ ([] ++ f ∷ [])))).sync ≡ true)
     (settled : gstate_of (thread_at (last_site chain before (front ++ p ∷ mid) after) (x ∷ [])) ≡ no_gstate)

@@ -79,7 +79,7 @@ commit = record {
   still = refl;
   site = record { chain = refl; ends = tt; run = refl };
   device = record {
-    geometry = record { block_size = refl; page = refl; count = refl };
+    geometry = record { block_size = refl; page = refl; order = refl; count = refl };
     contents = All-from_recursion (λ r. content_at large_appended r.at ≡ Some r.content) (next ∷ []) (holds, tt);
     first = begins;
     files = All-from_recursion (λ s. HasSameFile large_image large_appended s.struct) (superblock ∷ []) (tt, tt);
@@ -107,7 +107,7 @@ over = record {
 
 proper : IsProper large_image (pair ∷ []) (mounted empty_tree) op opened_moment.calls large_appended
 proper = record {
-  geometry = record { block_size = refl; page = refl; count = refl };
+  geometry = record { block_size = refl; page = refl; order = refl; count = refl };
   other = refl;
   asks = refl;
   fills = refl;

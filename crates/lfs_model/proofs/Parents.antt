@@ -1,7 +1,9 @@
 -- Each node of a tree stands in a directory that has its name, and each name of a directory has a node.
 use Rattle.std.proofs.Common.{ℕ, zero, suc, ◌≡◌, true, cond, List, [], ◌∷◌, ◌++◌, map, Option, Some, None, refl, sym, ap, subst, ◌∙◌, arith, option_and_then, option_map}
 use Rattle.std.specs.Prelude.{Contains, is_some}
-use Rattle.lfs_model.specs.Names.{Name}
+use Rattle.lfs_model.proofs.Orders.{contains_in_order, contains_back}
+use Rattle.lfs_model.specs.declared.order.NameOrder.TheVariants.{ShorterFirst}
+use Rattle.lfs_model.specs.Names.{in_order, Name}
 use Rattle.lfs_model.specs.Slots.{Slot, Struct, Inline, Ctz, Branch, Attributes}
 use Rattle.lfs_model.specs.Tree.{Path, Node, DirectoryNode, Entries, entry_named, branch_of, slot_at, node_of, names_at, tree_from}
 use Rattle.lfs_model.proofs.Paths.{Names, alike, unlike, names}
@@ -38,7 +40,7 @@ parent_has_name c E s path n node e = go (slot_at E s path) (sym (ap (option_map
         → (others : Attributes) × (ns : List Name) × (Some (node_of c E attributes t) ≡ Some (DirectoryNode others ns)) × Contains ns n
     below attributes (Inline bytes) h = absurd (cc)
     below attributes (Ctz head size) h = absurd (cc)
-    below attributes (Branch to) h = (attributes, names_at E to, refl, found to (entry_named n (E to)) refl h)
+    below attributes (Branch to) h = (attributes, in_order ShorterFirst (names_at E to), refl, contains_in_order ShorterFirst (names_at E to) n (found to (entry_named n (E to)) refl h))
 
     go : (o : Option Slot) → option_map (λ u. node_of c E u.attributes u.struct) (option_and_then (λ t. slot_at E t (n ∷ [])) o) ≡ Some node
         → (attributes : Attributes) × (ns : List Name) × (option_map (λ u. node_of c E u.attributes u.struct) o ≡ Some (DirectoryNode attributes ns)) × Contains ns n
@@ -58,8 +60,8 @@ name_has_node c E s path attributes ns n e has = ap (λ o. is_some (option_map (
     below others (Inline bytes) h = absurd (cc)
     below others (Ctz head size) h = absurd (cc)
     below others (Branch to) h =
-        let same : ns ≡ names_at E to = cc in
-        kept (entry_named n (E to)) (contained_found n (E to) (subst (λ ms. Contains ms n) same has))
+        let same : ns ≡ in_order ShorterFirst (names_at E to) = cc in
+        kept (entry_named n (E to)) (contained_found n (E to) (contains_back ShorterFirst (names_at E to) n (subst (λ ms. Contains ms n) same has)))
 
     go : (o : Option Slot) → option_map (λ u. node_of c E u.attributes u.struct) o ≡ Some (DirectoryNode attributes ns)
         → is_some (option_map (λ u. node_of c E u.attributes u.struct) (option_and_then (λ t. slot_at E t (n ∷ [])) o)) ≡ true

@@ -8,6 +8,7 @@ use Rattle.std.proofs.lemmas.Option.{same_Some, slice_get_within, get_or_from_sl
 use Rattle.std.proofs.lemmas.List.Elements.{All-from_recursion, All-head, All-tail}
 use Rattle.std.proofs.lemmas.List.Folds.{list_any-from_Any}
 use Rattle.byteorder.specs.Endian.{little_number}
+use Rattle.lfs_model.specs.declared.order.NameOrder.{NameOrder}
 use Rattle.lfs_model.specs.Disk.{Disk, block_count, block_at}
 use Rattle.lfs_model.specs.Names.{Name, name_cmp, is_less, is_name}
 use Rattle.lfs_model.specs.Slots.{Content, Slot, Kind, File, Directory, Superblock, Struct, Inline, Ctz, Branch, Gstate, same_pair}
@@ -91,20 +92,20 @@ refused_with disk qs links contents never ps a =
 
 -- ---- rules that fail
 
-rise_to : (ns : List Name) → AllPairs (λ a b. name_cmp a b ≡ Less) ns → rise ns ≡ true
-rise_to [] h = refl
-rise_to (n ∷ ns) h =
-    and_from (list_all (λ m. is_less (name_cmp n m)) ns) (rise ns)
-    (all_to (λ m. is_less (name_cmp n m)) (λ m. name_cmp n m ≡ Less) (λ m e. ap is_less e) ns (λ j d l. h 0 (suc j) d (omega arith) (omega arith)))
-    (rise_to ns (λ i j d l m. h (suc i) (suc j) d (omega arith) (omega arith)))
+rise_to : (by : NameOrder) (ns : List Name) → AllPairs (λ a b. name_cmp by a b ≡ Less) ns → rise by ns ≡ true
+rise_to by [] h = refl
+rise_to by (n ∷ ns) h =
+    and_from (list_all (λ m. is_less (name_cmp by n m)) ns) (rise by ns)
+    (all_to (λ m. is_less (name_cmp by n m)) (λ m. name_cmp by n m ≡ Less) (λ m e. ap is_less e) ns (λ j d l. h 0 (suc j) d (omega arith) (omega arith)))
+    (rise_to by ns (λ i j d l m. h (suc i) (suc j) d (omega arith) (omega arith)))
 
 -- a block isn't there
 pub fails_range : (disk : Disk) (ps : List Pair) → list_all (λ b. nat_lt b (block_count disk)) (blocks_of ps) ≡ false → IsAccepted disk ps → ⊥
 fails_range disk ps fails a = let e = all_to (λ b. nat_lt b (block_count disk)) (λ b. b < block_count disk) (λ b. lt-ltb b (block_count disk)) (blocks_of ps) a.thread.in_range in cc
 
 -- the names of a directory don't rise
-pub fails_order : (disk : Disk) (ps : List Pair) (path : Path) (at : ℕ × ℕ) → Leads ps path at → rise (names_at (entries_in ps) at) ≡ false → IsAccepted disk ps → ⊥
-fails_order disk ps path at leads fails a = let e = rise_to (names_at (entries_in ps) at) (a.order path at leads) in cc
+pub fails_order : (disk : Disk) (ps : List Pair) (path : Path) (at : ℕ × ℕ) → Leads ps path at → rise disk.order (names_at (entries_in ps) at) ≡ false → IsAccepted disk ps → ⊥
+fails_order disk ps path at leads fails a = let e = rise_to disk.order (names_at (entries_in ps) at) (a.order path at leads) in cc
 
 -- a path leads to what is no directory
 pub fails_branches : (disk : Disk) (ps : List Pair) (path : Path) (at : ℕ × ℕ) → Leads ps path at → begins ps at ≡ false → IsAccepted disk ps → ⊥

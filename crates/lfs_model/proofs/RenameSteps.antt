@@ -4,6 +4,8 @@ use Rattle.std.specs.List.{insert}
 use Rattle.std.specs.declared.cmp.Ordering.TheVariants.{Less}
 use Rattle.std.proofs.lemmas.Bool.{cases_lt}
 use Rattle.std.proofs.lemmas.List.Elements.{filter-append}
+use Rattle.lfs_model.proofs.Orders.{less_differs}
+use Rattle.lfs_model.specs.declared.order.NameOrder.{NameOrder}
 use Rattle.lfs_model.specs.Disk.{Disk}
 use Rattle.lfs_model.specs.Names.{Name, name_cmp}
 use Rattle.lfs_model.specs.Slots.{Slot, is_superblock, same_pair}
@@ -17,7 +19,7 @@ use Rattle.lfs_model.specs.Refusals.{as_path}
 use Rattle.lfs_model.specs.InDirectory.{entries_only, slots_in}
 use Rattle.lfs_model.proofs.Edits.{not_after}
 use Rattle.lfs_model.proofs.Paths.{last_is}
-use Rattle.lfs_model.proofs.Names.{IsPlace, greater}
+use Rattle.lfs_model.proofs.Names.{IsPlace}
 use Rattle.lfs_model.proofs.Sites.{Site, thread_at, begin_of}
 use Rattle.lfs_model.proofs.Moves.{place_at, shown_before, shown_behind, entry_only, get_here, remove_here, insert_here}
 use Rattle.lfs_model.proofs.Changes.{Follows}
@@ -37,9 +39,6 @@ sibling_apart P n m apart = not_after (P ++ n ∷ []) (P ++ m ∷ []) (λ r e. a
     go [] r e = cc
     go (x ∷ P) r e = go P r (cc)
 
-less_differs : (a b : Name) → name_cmp a b ≡ Less → b ≡ a → ⊥
-less_differs a b e same = absurd (let k : name_cmp a a ≡ Less = ap (name_cmp a) (sym same) ∙ e in let g = greater a a k in cc)
-
 get_past : (xs : List Slot) (u : Slot) (ys : List Slot) (i : ℕ) (d : Slot) → length xs ≤ i → get_or (xs ++ u ∷ ys) (suc i) d ≡ get_or (xs ++ ys) i d
 get_past [] u ys i d le = refl
 get_past (x ∷ xs) u ys zero d le = absurd (omega arith)
@@ -51,38 +50,38 @@ get_before (x ∷ xs) u ys zero d lt = refl
 get_before (x ∷ xs) u ys (suc i) d lt = get_before xs u ys i d (omega arith)
 
 -- without an entry in front of it a place is one less
-pub place_behind : (xs : List Slot) (u : Slot) (ys : List Slot) (n : ℕ) (name : Name) → length xs ≤ n → IsPlace (xs ++ u ∷ ys) (suc n) name → IsPlace (xs ++ ys) n name
-place_behind xs u ys n name le h = record {
+pub place_behind : {by : NameOrder} (xs : List Slot) (u : Slot) (ys : List Slot) (n : ℕ) (name : Name) → length xs ≤ n → IsPlace by (xs ++ u ∷ ys) (suc n) name → IsPlace by (xs ++ ys) n name
+place_behind {by} xs u ys n name le h = record {
   within = (let w = h.within in omega (arith, w, length-append xs (u ∷ ys), length-append xs ys));
   below = λ j d lt. ⊎_elim
-      (λ less. subst (λ (s : Slot). name_cmp s.name name ≡ Less) (get_before xs u ys j d less) (h.below j d (omega arith)))
-      (λ past. subst (λ (s : Slot). name_cmp s.name name ≡ Less) (get_past xs u ys j d past) (h.below (suc j) d (omega arith)))
+      (λ less. subst (λ (s : Slot). name_cmp by s.name name ≡ Less) (get_before xs u ys j d less) (h.below j d (omega arith)))
+      (λ past. subst (λ (s : Slot). name_cmp by s.name name ≡ Less) (get_past xs u ys j d past) (h.below (suc j) d (omega arith)))
       (cases_lt j (length xs));
-  above = λ j d low high. subst (λ (s : Slot). name_cmp name s.name ≡ Less) (get_past xs u ys j d (omega arith))
+  above = λ j d low high. subst (λ (s : Slot). name_cmp by name s.name ≡ Less) (get_past xs u ys j d (omega arith))
       (h.above (suc j) d (omega arith) (omega (arith, length-append xs (u ∷ ys), length-append xs ys, high)));
 }
 
 -- without one behind it it stays
-pub place_ahead : (xs : List Slot) (u : Slot) (ys : List Slot) (n : ℕ) (name : Name) → n ≤ length xs → IsPlace (xs ++ u ∷ ys) n name → IsPlace (xs ++ ys) n name
-place_ahead xs u ys n name le h = record {
+pub place_ahead : {by : NameOrder} (xs : List Slot) (u : Slot) (ys : List Slot) (n : ℕ) (name : Name) → n ≤ length xs → IsPlace by (xs ++ u ∷ ys) n name → IsPlace by (xs ++ ys) n name
+place_ahead {by} xs u ys n name le h = record {
   within = omega (arith, le, length-append xs ys);
-  below = λ j d lt. subst (λ (s : Slot). name_cmp s.name name ≡ Less) (get_before xs u ys j d (omega arith)) (h.below j d lt);
+  below = λ j d lt. subst (λ (s : Slot). name_cmp by s.name name ≡ Less) (get_before xs u ys j d (omega arith)) (h.below j d lt);
   above = λ j d low high. ⊎_elim
-      (λ less. subst (λ (s : Slot). name_cmp name s.name ≡ Less) (get_before xs u ys j d less) (h.above j d low (omega (arith, length-append xs (u ∷ ys), less))))
-      (λ past. subst (λ (s : Slot). name_cmp name s.name ≡ Less) (get_past xs u ys j d past) (h.above (suc j) d (omega arith) (omega (arith, length-append xs (u ∷ ys), length-append xs ys, high))))
+      (λ less. subst (λ (s : Slot). name_cmp by name s.name ≡ Less) (get_before xs u ys j d less) (h.above j d low (omega (arith, length-append xs (u ∷ ys), less))))
+      (λ past. subst (λ (s : Slot). name_cmp by name s.name ≡ Less) (get_past xs u ys j d past) (h.above (suc j) d (omega arith) (omega (arith, length-append xs (u ∷ ys), length-append xs ys, high))))
       (cases_lt j (length xs));
 }
 
 -- the entry there isn't of that name
-behind_differs : (xs : List Slot) (u : Slot) (ys : List Slot) (n : ℕ) (name : Name) → length xs ≤ n → IsPlace (xs ++ u ∷ ys) (suc n) name → name ≡ u.name → ⊥
-behind_differs xs u ys n name le h = less_differs u.name name (subst (λ (s : Slot). name_cmp s.name name ≡ Less) (here xs u ys) (h.below (length xs) u (omega arith)))
+behind_differs : {by : NameOrder} (xs : List Slot) (u : Slot) (ys : List Slot) (n : ℕ) (name : Name) → length xs ≤ n → IsPlace by (xs ++ u ∷ ys) (suc n) name → name ≡ u.name → ⊥
+behind_differs {by} xs u ys n name le h e = less_differs by u.name name (subst (λ (s : Slot). name_cmp by s.name name ≡ Less) (here xs u ys) (h.below (length xs) u (omega arith))) (sym e)
   where
     here : (xs : List Slot) (u : Slot) (ys : List Slot) → get_or (xs ++ u ∷ ys) (length xs) u ≡ u
     here [] u ys = refl
     here (x ∷ xs) u ys = here xs u ys
 
-ahead_differs : (xs : List Slot) (u : Slot) (ys : List Slot) (n : ℕ) (name : Name) → n ≤ length xs → IsPlace (xs ++ u ∷ ys) n name → name ≡ u.name → ⊥
-ahead_differs xs u ys n name le h e = less_differs name u.name (subst (λ (s : Slot). name_cmp name s.name ≡ Less) (here xs u ys) (h.above (length xs) u le (omega (arith, length-append xs (u ∷ ys))))) (sym e)
+ahead_differs : {by : NameOrder} (xs : List Slot) (u : Slot) (ys : List Slot) (n : ℕ) (name : Name) → n ≤ length xs → IsPlace by (xs ++ u ∷ ys) n name → name ≡ u.name → ⊥
+ahead_differs {by} xs u ys n name le h e = less_differs by name u.name (subst (λ (s : Slot). name_cmp by name s.name ≡ Less) (here xs u ys) (h.above (length xs) u le (omega (arith, length-append xs (u ∷ ys))))) e
   where
     here : (xs : List Slot) (u : Slot) (ys : List Slot) → get_or (xs ++ u ∷ ys) (length xs) u ≡ u
     here [] u ys = refl
@@ -96,7 +95,7 @@ entries_of_both xs ys = filter-append (λ (s : Slot). not (is_superblock s)) xs 
 module _ (disk new : Disk) (w : Site) (p q : Pair) (more : List Pair) (l : List Slot) (u : Slot) (passed r : List Slot) (name : Name)
     (c : IsCommit disk new w p q more [] l (u ∷ passed) (passed ++ record u { name = name } ∷ []) r) (other : is_superblock u ≡ false)
     (P : Path) (a : ℕ × ℕ) (leads : Leads (thread_at w (p ∷ [])) P a) (same : same_pair (begin_of w (p ∷ [])) a ≡ true)
-    (place : IsPlace (entries_in (thread_at w (p ∷ [])) a) (place_at w (l ++ u ∷ passed)) name) where
+    (place : IsPlace disk.order (entries_in (thread_at w (p ∷ [])) a) (place_at w (l ++ u ∷ passed)) name) where
   abbrev moved : Slot
   moved = record u { name = name }
 
@@ -125,11 +124,11 @@ module _ (disk new : Disk) (w : Site) (p q : Pair) (more : List Pair) (l : List 
       ∙ ap (λ z. ahead ++ z) (entries_of_both (u ∷ []) passed ∙ ap (λ z. z ++ entries_only passed) (entry_only u other)))
       ∙ omega (arith, length-append ahead (u ∷ entries_only passed), length-append ahead (entries_only passed))
 
-  place_there : IsPlace (shown_before w l ++ u ∷ (entries_only passed ++ shown_behind w r)) (suc (length (shown_before w l ++ entries_only passed))) name
-  place_there = subst (λ k. IsPlace (ahead ++ u ∷ rest) k name) number_is (subst (λ z. IsPlace z (place_at w (l ++ u ∷ passed)) name) shows place)
+  place_there : IsPlace disk.order (shown_before w l ++ u ∷ (entries_only passed ++ shown_behind w r)) (suc (length (shown_before w l ++ entries_only passed))) name
+  place_there = subst (λ k. IsPlace disk.order (ahead ++ u ∷ rest) k name) number_is (subst (λ z. IsPlace disk.order z (place_at w (l ++ u ∷ passed)) name) shows place)
 
-  new_place : IsPlace (remove (entries_in (thread_at w (p ∷ [])) a) (place_at w l)) (length (shown_before w l ++ entries_only passed)) name
-  new_place = subst (λ z. IsPlace z number name) (sym left_over) (place_behind ahead u rest number name (omega (arith, length-append ahead (entries_only passed))) place_there)
+  new_place : IsPlace disk.order (remove (entries_in (thread_at w (p ∷ [])) a) (place_at w l)) (length (shown_before w l ++ entries_only passed)) name
+  new_place = subst (λ z. IsPlace disk.order z number name) (sym left_over) (place_behind ahead u rest number name (omega (arith, length-append ahead (entries_only passed))) place_there)
 
   shown_moved : shown_before w l ++ (entries_only (passed ++ record u { name = name } ∷ []) ++ shown_behind w r)
       ≡ insert (remove (entries_in (thread_at w (p ∷ [])) a) (place_at w l)) (length (shown_before w l ++ entries_only passed)) (record u { name = name })
@@ -159,7 +158,7 @@ module _ (disk new : Disk) (w : Site) (p q : Pair) (more : List Pair) (l : List 
 module _ (disk new : Disk) (w : Site) (p q : Pair) (more : List Pair) (l : List Slot) (u : Slot) (passed r : List Slot) (name : Name)
     (c : IsCommit disk new w p q more [] l (passed ++ u ∷ []) (record u { name = name } ∷ passed) r) (other : is_superblock u ≡ false)
     (P : Path) (a : ℕ × ℕ) (leads : Leads (thread_at w (p ∷ [])) P a) (same : same_pair (begin_of w (p ∷ [])) a ≡ true)
-    (place : IsPlace (entries_in (thread_at w (p ∷ [])) a) (place_at w l) name) where
+    (place : IsPlace disk.order (entries_in (thread_at w (p ∷ [])) a) (place_at w l) name) where
   abbrev moved2 : Slot
   moved2 = record u { name = name }
 
@@ -183,11 +182,11 @@ module _ (disk new : Disk) (w : Site) (p q : Pair) (more : List Pair) (l : List 
   few : place_at w l ≤ length (shown_before w l ++ entries_only passed)
   few = omega (arith, length-append (shown_before w l) (entries_only passed))
 
-  place_there2 : IsPlace ((shown_before w l ++ entries_only passed) ++ u ∷ shown_behind w r) (place_at w l) name
-  place_there2 = subst (λ z. IsPlace z (place_at w l) name) shows2 place
+  place_there2 : IsPlace disk.order ((shown_before w l ++ entries_only passed) ++ u ∷ shown_behind w r) (place_at w l) name
+  place_there2 = subst (λ z. IsPlace disk.order z (place_at w l) name) shows2 place
 
-  new_place2 : IsPlace (remove (entries_in (thread_at w (p ∷ [])) a) (length (shown_before w l ++ entries_only passed))) (place_at w l) name
-  new_place2 = subst (λ z. IsPlace z (place_at w l) name) (sym left_over2) (place_ahead ahead2 u (shown_behind w r) (place_at w l) name few place_there2)
+  new_place2 : IsPlace disk.order (remove (entries_in (thread_at w (p ∷ [])) a) (length (shown_before w l ++ entries_only passed))) (place_at w l) name
+  new_place2 = subst (λ z. IsPlace disk.order z (place_at w l) name) (sym left_over2) (place_ahead ahead2 u (shown_behind w r) (place_at w l) name few place_there2)
 
   shown_moved2 : shown_before w l ++ (entries_only (record u { name = name } ∷ passed) ++ shown_behind w r)
       ≡ insert (remove (entries_in (thread_at w (p ∷ [])) a) (length (shown_before w l ++ entries_only passed))) (place_at w l) (record u { name = name })

@@ -260,7 +260,7 @@ last_of (x ∷ []) n = record { front = []; last = x; is = refl }
 last_of (x ∷ y ∷ xs) n = let l = last_of (y ∷ xs) (λ e. absurd (cc)) in record { front = x ∷ l.front; last = l.last; is = ap (λ z. x ∷ z) l.is }
 
 module _ (disk : Disk) (ps : List Pair) (P : Path) (a : ℕ × ℕ) (ok : IsAccepted disk ps) (leads : Leads ps P a) (first index id : ℕ) (name : Name) (none : HasNoMove (gstate_of ps))
-    (b : Belongs ps first name index id) (begins : BeginsAt ps a first) where
+    (b : Belongs disk.order ps first name index id) (begins : BeginsAt ps a first) where
   abbrev at_site : Site
   at_site = site disk ps P a ok leads first index b.pair (b.later ++ b.rest) b.place begins
 
@@ -278,32 +278,32 @@ module _ (disk : Disk) (ps : List Pair) (P : Path) (a : ℕ × ℕ) (ok : IsAcce
       ∙ site_shows disk at_site b.pair b.left [] b.right a (subst (IsAccepted disk) whole ok) (is_site disk ps P a ok leads first index b.pair (b.later ++ b.rest) b.place begins)
       (subst (λ z. HasNoMove (gstate_of z)) whole none) (same disk ps P a ok leads first index b.pair (b.later ++ b.rest) b.place begins) b.held
 
-  rises : Rise (shown_before at_site b.left ++ shown_behind at_site b.right)
-  rises = subst Rise shows (ok.order P a leads)
+  rises : Rise disk.order (shown_before at_site b.left ++ shown_behind at_site b.right)
+  rises = subst (Rise disk.order) shows (ok.order P a leads)
 
   left_is : at_site.left ≡ b.place.left
   unfolding site
   left_is = refl
 
-  less : Each (λ s. name_cmp s.name name ≡ Less) (shown_before at_site b.left)
+  less : Each (λ s. name_cmp disk.order s.name name ≡ Less) (shown_before at_site b.left)
   less = go b.not_before
     where
       before_is : entries_only (slots_in at_site.left ++ b.left) ≡ entries_only (slots_in at_site.left) ++ entries_only b.left
       before_is = filter-append (λ (s : Slot). not (is_superblock s)) (slots_in at_site.left) b.left
 
-      go : (b.place.left ≡ []) ⊎ (entries_only b.left ≢ []) → Each (λ s. name_cmp s.name name ≡ Less) (entries_only (slots_in at_site.left ++ b.left))
-      go (inl e) = subst (λ (z : List Pair). Each (λ s. name_cmp s.name name ≡ Less) (entries_only (slots_in z ++ b.left))) (sym (left_is ∙ e)) b.less
+      go : (b.place.left ≡ []) ⊎ (entries_only b.left ≢ []) → Each (λ s. name_cmp disk.order s.name name ≡ Less) (entries_only (slots_in at_site.left ++ b.left))
+      go (inl e) = subst (λ (z : List Pair). Each (λ s. name_cmp disk.order s.name name ≡ Less) (entries_only (slots_in z ++ b.left))) (sym (left_is ∙ e)) b.less
       go (inr n) =
           let l = last_of (entries_only b.left) n in
           let f = entries_only (slots_in at_site.left) in
-          let last = each_right (λ s. name_cmp s.name name ≡ Less) l.front (l.last ∷ []) (subst (Each (λ s. name_cmp s.name name ≡ Less)) l.is b.less) in
+          let last = each_right (λ s. name_cmp disk.order s.name name ≡ Less) l.front (l.last ∷ []) (subst (Each (λ s. name_cmp disk.order s.name name ≡ Less)) l.is b.less) in
           let are : entries_only (slots_in at_site.left ++ b.left) ≡ (f ++ l.front) ++ l.last ∷ [] = before_is ∙ ap (λ z. f ++ z) l.is ∙ sym (append_assoc f l.front (l.last ∷ [])) in
-          let up : Rise ((f ++ l.front) ++ l.last ∷ shown_behind at_site b.right) =
-          subst Rise (ap (λ z. z ++ shown_behind at_site b.right) are ∙ append_assoc (f ++ l.front) (l.last ∷ []) (shown_behind at_site b.right)) rises in
-          subst (Each (λ s. name_cmp s.name name ≡ Less)) (sym are)
-          (each_append (λ s. name_cmp s.name name ≡ Less) (f ++ l.front) (l.last ∷ []) (less_before (f ++ l.front) l.last (shown_behind at_site b.right) name up last.0) last)
+          let up : Rise disk.order ((f ++ l.front) ++ l.last ∷ shown_behind at_site b.right) =
+          subst (Rise disk.order) (ap (λ z. z ++ shown_behind at_site b.right) are ∙ append_assoc (f ++ l.front) (l.last ∷ []) (shown_behind at_site b.right)) rises in
+          subst (Each (λ s. name_cmp disk.order s.name name ≡ Less)) (sym are)
+          (each_append (λ s. name_cmp disk.order s.name name ≡ Less) (f ++ l.front) (l.last ∷ []) (less_before disk.order (f ++ l.front) l.last (shown_behind at_site b.right) name up last.0) last)
 
-  greater : Each (λ s. name_cmp name s.name ≡ Less) (shown_behind at_site b.right)
+  greater : Each (λ s. name_cmp disk.order name s.name ≡ Less) (shown_behind at_site b.right)
   greater = go b.not_behind
     where
       behind_is : entries_only (b.right ++ slots_in at_site.right) ≡ entries_only (b.right ++ slots_in b.later) ++ entries_only (slots_in goes_there.more)
@@ -312,21 +312,21 @@ module _ (disk : Disk) (ps : List Pair) (P : Path) (a : ℕ × ℕ) (ok : IsAcce
           ∙ ap entries_only (sym (append_assoc b.right (slots_in b.later) (slots_in goes_there.more)))
           ∙ filter-append (λ (s : Slot). not (is_superblock s)) (b.right ++ slots_in b.later) (slots_in goes_there.more)
 
-      go : BeginsAbove name (entries_only (b.right ++ slots_in b.later)) ⊎ ((entries_only (b.right ++ slots_in b.later) ≡ []) × (last_is_joined b.pair b.later ≡ false)) →
-          Each (λ s. name_cmp name s.name ≡ Less) (entries_only (b.right ++ slots_in at_site.right))
+      go : BeginsAbove disk.order name (entries_only (b.right ++ slots_in b.later)) ⊎ ((entries_only (b.right ++ slots_in b.later) ≡ []) × (last_is_joined b.pair b.later ≡ false)) →
+          Each (λ s. name_cmp disk.order name s.name ≡ Less) (entries_only (b.right ++ slots_in at_site.right))
       go (inl begins) =
           let are : entries_only (b.right ++ slots_in at_site.right) ≡ begins.first ∷ (begins.rest ++ entries_only (slots_in goes_there.more)) =
           behind_is ∙ ap (λ z. z ++ entries_only (slots_in goes_there.more)) begins.are in
-          subst (Each (λ s. name_cmp name s.name ≡ Less)) (sym are) (
+          subst (Each (λ s. name_cmp disk.order name s.name ≡ Less)) (sym are) (
             begins.above,
-            greater_behind begins.first (begins.rest ++ entries_only (slots_in goes_there.more)) name
-                (rise_right (shown_before at_site b.left) (begins.first ∷ (begins.rest ++ entries_only (slots_in goes_there.more))) (subst (λ z. Rise (shown_before at_site b.left ++ z)) are rises)) begins.above,
+            greater_behind disk.order begins.first (begins.rest ++ entries_only (slots_in goes_there.more)) name
+                (rise_right disk.order (shown_before at_site b.left) (begins.first ∷ (begins.rest ++ entries_only (slots_in goes_there.more))) (subst (λ z. Rise disk.order (shown_before at_site b.left ++ z)) are rises)) begins.above,
           )
       go (inr (nothing, last)) =
-          subst (Each (λ s. name_cmp name s.name ≡ Less)) (sym (behind_is ∙ ap₂ (λ x (y : List Pair). x ++ entries_only (slots_in y)) nothing (goes_there.last last))) tt
+          subst (Each (λ s. name_cmp disk.order name s.name ≡ Less)) (sym (behind_is ∙ ap₂ (λ x (y : List Pair). x ++ entries_only (slots_in y)) nothing (goes_there.last last))) tt
 
-  pub place_of_belongs : IsPlace (entries_in ps a) (place_at at_site b.left) name
-  place_of_belongs = subst (λ z. IsPlace z (place_at at_site b.left) name) (sym shows) (place_between (shown_before at_site b.left) (shown_behind at_site b.right) name less greater)
+  pub place_of_belongs : IsPlace disk.order (entries_in ps a) (place_at at_site b.left) name
+  place_of_belongs = subst (λ z. IsPlace disk.order z (place_at at_site b.left) name) (sym shows) (place_between (shown_before at_site b.left) (shown_behind at_site b.right) name less greater)
 
 -- ---- where no superblock stands
 

@@ -1,12 +1,15 @@
 -- A device's bytes under a geometry.
 use Rattle.std.specs.Prelude.{ℕ, ◌≡◌, ◌-◌, ◌/◌, ◌%◌, min, List, length}
 use Rattle.lfs_model.specs.Blocks.{Blocks, block_in, cut}
+use Rattle.lfs_model.specs.declared.order.NameOrder.{NameOrder}
 use Rattle.lfs_model.specs.Geometry.{IsGeometry}
 use Rattle.lfs_model.specs.Tag.{data_limit}
 
 pub record Disk : Type 0 where
   pub block_size : ℕ
   pub page : ℕ
+  -- the order of the names in its directories
+  pub order : NameOrder
   pub blocks : Blocks
 
 abbrev pub block_count : Disk → ℕ
@@ -15,10 +18,11 @@ block_count disk = length disk.blocks
 abbrev pub block_at : Disk → ℕ → List ℕ
 block_at disk b = block_in disk.blocks b
 
--- as many blocks and pages, of the same size
+-- as many blocks and pages, of the same size, and the same order of names
 pub record SameGeometry (disk new : Disk) : Type 0 where
   pub block_size : new.block_size ≡ disk.block_size
   pub page : new.page ≡ disk.page
+  pub order : new.order ≡ disk.order
   pub count : block_count new ≡ block_count disk
 
 -- An image of a device: its bytes, a whole number of blocks.
@@ -27,8 +31,8 @@ pub record IsImage (block_size page : ℕ) (bytes : List ℕ) : Type 0 where
   pub whole : length bytes % block_size ≡ 0
 
 -- the disk that an image is of
-abbrev pub disk_of : ℕ → ℕ → List ℕ → Disk
-disk_of block_size page bytes = record { block_size = block_size; page = page; blocks = cut block_size (length bytes / block_size) bytes }
+abbrev pub disk_of : ℕ → ℕ → NameOrder → List ℕ → Disk
+disk_of block_size page order bytes = record { block_size = block_size; page = page; order = order; blocks = cut block_size (length bytes / block_size) bytes }
 
 -- The largest file that is kept in its entry.
 abbrev pub inline_limit : ℕ → ℕ

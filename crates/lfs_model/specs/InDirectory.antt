@@ -2,6 +2,7 @@
 use Rattle.std.specs.Prelude.{ℕ, ◌≡◌, ◌≢◌, ◌⊎◌, ◌+◌, not, Bool, true, false, if◌then◌else◌, List, [], ◌∷◌, ◌++◌, length, filter, slice_get, Some}
 use Rattle.std.specs.List.{flat_map, AllByRecursion}
 use Rattle.std.specs.declared.cmp.Ordering.TheVariants.{Less}
+use Rattle.lfs_model.specs.declared.order.NameOrder.{NameOrder}
 use Rattle.lfs_model.specs.Names.{Name, name_cmp}
 use Rattle.lfs_model.specs.Slots.{Slot, is_superblock, same_pair}
 use Rattle.lfs_model.specs.Thread.{Pair, is_hard, starts_with_superblock}
@@ -27,20 +28,20 @@ pub record StandsAt (slots : List Slot) (name : Name) (id : ℕ) : Type 0 where
   pub named : slot.name ≡ name
 
 -- these begin with a greater name
-pub record BeginsAbove (name : Name) (slots : List Slot) : Type 0 where
+pub record BeginsAbove (order : NameOrder) (name : Name) (slots : List Slot) : Type 0 where
   pub first : Slot
   pub rest : List Slot
   pub are : slots ≡ first ∷ rest
-  pub above : name_cmp name first.name ≡ Less
+  pub above : name_cmp order name first.name ≡ Less
 
 -- In front of the id all names are less; at the id there is a greater one, or nothing behind it.
-pub record PlaceAt (slots : List Slot) (name : Name) (id : ℕ) : Type 0 where
+pub record PlaceAt (order : NameOrder) (slots : List Slot) (name : Name) (id : ℕ) : Type 0 where
   pub left : List Slot
   pub right : List Slot
   pub held : slots ≡ left ++ right
   pub number : length left ≡ id
-  pub less : AllByRecursion (λ s. name_cmp s.name name ≡ Less) (entries_only left)
-  pub greater : (right ≡ []) ⊎ BeginsAbove name (entries_only right)
+  pub less : AllByRecursion (λ s. name_cmp order s.name name ≡ Less) (entries_only left)
+  pub greater : (right ≡ []) ⊎ BeginsAbove order name (entries_only right)
   pub fronted : starts_with_superblock right ≡ false
 
 -- ---- in a directory
@@ -90,7 +91,7 @@ pub record Stands (ps : List Pair) (first : ℕ) (name : Name) (index id : ℕ) 
 
 -- The name belongs there: the pair is the directory's first or has an entry less than the name, and behind the place a greater
 -- name comes first, in this pair or a later one, or there is none in the directory.
-pub record Belongs (ps : List Pair) (first : ℕ) (name : Name) (index id : ℕ) : Type 0 where
+pub record Belongs (order : NameOrder) (ps : List Pair) (first : ℕ) (name : Name) (index id : ℕ) : Type 0 where
   pub pair : Pair
   pub later : List Pair
   pub rest : List Pair
@@ -100,8 +101,8 @@ pub record Belongs (ps : List Pair) (first : ℕ) (name : Name) (index id : ℕ)
   pub right : List Slot
   pub held : pair.content.slots ≡ left ++ right
   pub number : length left ≡ id
-  pub less : AllByRecursion (λ s. name_cmp s.name name ≡ Less) (entries_only left)
+  pub less : AllByRecursion (λ s. name_cmp order s.name name ≡ Less) (entries_only left)
   pub fronted : starts_with_superblock right ≡ false
   pub not_before : (place.left ≡ []) ⊎ (entries_only left ≢ [])
-  pub not_behind : BeginsAbove name (entries_only (right ++ slots_in later))
+  pub not_behind : BeginsAbove order name (entries_only (right ++ slots_in later))
       ⊎ ((entries_only (right ++ slots_in later) ≡ []) × (last_is_joined pair later ≡ false))

@@ -1,6 +1,7 @@
 -- What the slots of a log hold for an id, and where a name stands among them.
 use Rattle.std.specs.Prelude.{ℕ, ◌≡◌, ◌<◌, ◌≤◌, ◌/◌, ◌%◌, ◌^◌, ◌==◌, ◌&&◌, not, if◌then◌else◌, Bool, true, false, List, length, Option, Some, None}
 use Rattle.std.specs.Option.{option_and_then, option_map_or}
+use Rattle.lfs_model.specs.declared.order.NameOrder.{NameOrder}
 use Rattle.lfs_model.specs.Names.{Name, name_cmp, same_name, is_less}
 use Rattle.lfs_model.specs.Content.{RawSlot, slot_of_id, attribute_of}
 use Rattle.lfs_model.specs.EntryTypes.{superblock_name_type}
@@ -30,8 +31,8 @@ entry_name s = option_and_then (λ name. if name.0 == superblock_name_type then 
 abbrev pub is_named : (Name → Bool) → Option ℕ → List RawSlot → ℕ → Bool
 is_named passes skip slots id = option_map_or passes (entry_name (slot_of_id slots id)) false && not (option_map_or (λ k. k == id) skip false)
 
-abbrev pub is_behind : Name → Name → Bool
-is_behind name other = is_less (name_cmp name other)
+abbrev pub is_behind : NameOrder → Name → Name → Bool
+is_behind order name other = is_less (name_cmp order name other)
 
 -- the least id that has a name, one slot passed over
 pub record IsFound (name : Name) (skip : Option ℕ) (slots : List RawSlot) (id : ℕ) : Type 0 where
@@ -39,8 +40,8 @@ pub record IsFound (name : Name) (skip : Option ℕ) (slots : List RawSlot) (id 
   pub least : (other : ℕ) → other < id → is_named (same_name name) skip slots other ≡ false
 
 -- no slot has the name, and this is the least id of a greater one, or the count where there is none
-pub record IsPlace (name : Name) (skip : Option ℕ) (slots : List RawSlot) (id : ℕ) : Type 0 where
+pub record IsPlace (order : NameOrder) (name : Name) (skip : Option ℕ) (slots : List RawSlot) (id : ℕ) : Type 0 where
   pub absent : (other : ℕ) → is_named (same_name name) skip slots other ≡ false
-  pub least : (other : ℕ) → other < id → is_named (is_behind name) skip slots other ≡ false
-  pub greater : id < length slots → is_named (is_behind name) skip slots id ≡ true
+  pub least : (other : ℕ) → other < id → is_named (is_behind order name) skip slots other ≡ false
+  pub greater : id < length slots → is_named (is_behind order name) skip slots id ≡ true
   pub within : id ≤ length slots

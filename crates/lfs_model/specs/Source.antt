@@ -3,6 +3,7 @@ use Rattle.std.specs.Prelude.{ℕ, ◌≡◌, ◌≤◌, ◌⊎◌, Bool, false,
 use Rattle.std.specs.List.Sorted.{IsPermutation}
 use Rattle.std.specs.Option.{option_and_then, option_map}
 use Rattle.std.specs.declared.cmp.Ordering.TheVariants.{Less}
+use Rattle.lfs_model.specs.declared.order.NameOrder.TheVariants.{ShorterFirst}
 use Rattle.lfs_model.specs.Names.{Name, name_cmp, same_name, is_component, slash}
 use Rattle.lfs_model.specs.Tree.{Path, Node, FileNode, DirectoryNode, Tree}
 
@@ -56,7 +57,7 @@ abbrev pub IsNodeOf : Option Standing → Option Node → Type 0
 IsNodeOf None None = Unit {0}
 IsNodeOf (Some (AFile bytes)) (Some (FileNode attributes shown)) = (attributes ≡ []) × (shown ≡ bytes)
 IsNodeOf (Some (AFolder names)) (Some (DirectoryNode attributes shown)) =
-    (attributes ≡ []) × IsPermutation names shown × AllPairs (λ a b. name_cmp a b ≡ Less) shown
+    (attributes ≡ []) × IsPermutation names shown × AllPairs (λ a b. name_cmp ShorterFirst a b ≡ Less) shown
 IsNodeOf _ _ = ⊥
 
 -- the tree that a source makes

@@ -1,6 +1,9 @@
 // What the entries of a log say.
 
 ghost use Rattle.std.specs.Prelude.{◌≡◌, ℕ, ◌<◌, ◌^◌, true, false, List, [], ◌∷◌, ◌++◌, Some, None, codes};
+ghost use Rattle.std.specs.declared.cmp.Ordering.TheVariants.{Less};
+ghost use Rattle.lfs_model.specs.Names.{name_cmp};
+ghost use Rattle.lfs_model.specs.declared.order.NameOrder.TheVariants.{ShorterFirst, LongerFirst};
 ghost use Rattle.lfs_model.specs.Tag.{IsValid, tag_with, kind_of, id_of, len_of};
 ghost use Rattle.lfs_model.specs.Slots.{Gstate, no_gstate, gstate_xor};
 ghost use Rattle.lfs_model.specs.Content.{RawSlot, RawContent, no_content, empty_slot, content_after_all};
@@ -92,9 +95,11 @@ pub fn bad_entry_is_refused()
 /// Where a name stands among slots. The superblock's name and the slot that is passed over don't count.
 pub fn name_has_its_place()
     ensures found { IsFound (codes "b") None (raw_root ∷ raw_file (codes "b") ∷ []) 1 }
-    ensures before { IsPlace (codes "a") None (raw_root ∷ raw_file (codes "b") ∷ []) 1 }
-    ensures behind { IsPlace (codes "littlefs") None (raw_root ∷ raw_file (codes "b") ∷ []) 2 }
-    ensures passed_over { IsPlace (codes "b") (Some 1) (raw_root ∷ raw_file (codes "b") ∷ []) 2 }
+    ensures longer { name_cmp LongerFirst (codes "log.old") (codes "log") ≡ Less }
+    ensures shorter { name_cmp ShorterFirst (codes "log") (codes "log.old") ≡ Less }
+    ensures before { IsPlace ShorterFirst (codes "a") None (raw_root ∷ raw_file (codes "b") ∷ []) 1 }
+    ensures behind { IsPlace ShorterFirst (codes "littlefs") None (raw_root ∷ raw_file (codes "b") ∷ []) 2 }
+    ensures passed_over { IsPlace ShorterFirst (codes "b") (Some 1) (raw_root ∷ raw_file (codes "b") ∷ []) 2 }
     ensures second { IsFound (codes "b") (Some 1) (raw_root ∷ raw_file (codes "b") ∷ raw_file (codes "b") ∷ []) 2 }
 {}
 

@@ -81,7 +81,7 @@ pub fn search_finds_what_stands_at_a_path()
     ensures stands { (disk : Disk) (ps : List Pair) (path : Path) (at : ℕ × ℕ) (first pair id : ℕ) (name : Name) → IsAccepted disk ps → gstate_of ps ≡ no_gstate → Leads ps path at
         → BeginsAt ps at first → (s : Stands ps first name pair id) → slot_of_path ps (path ++ name ∷ []) ≡ Some s.stands.slot }
     ensures absent { (disk : Disk) (ps : List Pair) (path : Path) (at : ℕ × ℕ) (first pair id : ℕ) (name : Name) → IsAccepted disk ps → gstate_of ps ≡ no_gstate → Leads ps path at
-        → BeginsAt ps at first → Belongs ps first name pair id → slot_of_path ps (path ++ name ∷ []) ≡ None }
+        → BeginsAt ps at first → Belongs disk.order ps first name pair id → slot_of_path ps (path ++ name ∷ []) ≡ None }
     ensures reads { (disk : Disk) (ps : List Pair) (path : Path) (at : ℕ × ℕ) (first : ℕ) → IsAccepted disk ps → Leads ps path at → BeginsAt ps at first
         → run_length (drop first ps) ≡ pairs_of_path ps path }
 {}

@@ -123,7 +123,7 @@ module _ (disk : Disk) (chain : List Pair) (p : Pair) (rest : List Pair) (bytes 
 
   -- Ok of the pass and of the search
   pub is_accepted : (ms : List Member) (sets end : BlockSets) (graph : Graph) → IsThread (content_at disk) (block_count disk) ps → IsMove ps g → Owns sets (blocks_of ps)
-      → AreMembers disk g true dirs ms → Passes disk (firsts_of (directories_in ps)) nothing_known sets ms graph end → AreRight ps → IsAccepted disk ps
+      → AreMembers disk g true dirs ms → Passes disk (firsts_of (directories_in ps)) nothing_known sets ms graph end → AreRight disk.order ps → IsAccepted disk ps
   is_accepted ms sets end graph thread move owns members passes right =
       let h = passed_rules disk (firsts_of (directories_in ps)) g true dirs ms nothing_known sets graph end members passes in
       let hold : HoldSlots (StructMark bytes) true dirs =
@@ -146,21 +146,21 @@ module _ (disk : Disk) (chain : List Pair) (p : Pair) (rest : List Pair) (bytes 
 -- ---- the whole check
 
 pub known_drawn : (disk : Disk) (sets : BlockSets) (firsts : List (ℕ × ℕ)) (ms : List Member) (sync : Bool) (chain : List Pair) (p : Pair) (rest : List Pair) (graph : Graph) (end : BlockSets)
-    → IsKnownThread disk sets firsts ms sync chain p rest → Passes disk firsts nothing_known sets ms graph end → Shows graph sync (chain ++ p ∷ rest)
+    → IsKnownThread disk sets firsts ms sync chain p rest → Passes disk firsts nothing_known sets ms graph end → Shows disk.order graph sync (chain ++ p ∷ rest)
 known_drawn disk sets firsts ms sync chain p rest graph end known passes =
     let ps : List Pair = chain ++ p ∷ rest in
-    subst (λ s. Shows graph s ps) known.sync_is
+    subst (λ s. Shows disk.order graph s ps) known.sync_is
     (thread_shows disk ps ms sets graph end known.thread (subst (λ qs. AreMembers disk (gstate_of ps) true qs ms) (sym (pairs_behind chain (p ∷ rest) known.chain_is)) known.described)
     (subst (λ f. Passes disk f nothing_known sets ms graph end) known.places passes))
 
 pub checked_accepted : (disk : Disk) (sets : BlockSets) (firsts : List (ℕ × ℕ)) (ms : List Member) (sync : Bool) (chain : List Pair) (p : Pair) (rest : List Pair) (bytes : List ℕ) (graph : Graph) (end : BlockSets)
     → IsKnownThread disk sets firsts ms sync chain p rest → HasHead disk chain p rest bytes → IsMove (chain ++ p ∷ rest) (gstate_of (chain ++ p ∷ rest))
-    → Passes disk firsts nothing_known sets ms graph end → AreRight (chain ++ p ∷ rest) → IsAccepted disk (chain ++ p ∷ rest)
+    → Passes disk firsts nothing_known sets ms graph end → AreRight disk.order (chain ++ p ∷ rest) → IsAccepted disk (chain ++ p ∷ rest)
 checked_accepted disk sets firsts ms sync chain p rest bytes graph end known head move passes right =
     is_accepted disk chain p rest bytes known.chain_is head ms sets end graph known.thread move known.owns known.described
     (subst (λ f. Passes disk f nothing_known sets ms graph end) known.places passes) right
 
-pub accepted_right : (disk : Disk) (qs : List Pair) → IsAccepted disk qs → AreRight qs
+pub accepted_right : (disk : Disk) (qs : List Pair) → IsAccepted disk qs → AreRight disk.order qs
 accepted_right disk qs a = record { tree = record { order = a.order; branches = a.branches; once = a.once }; reached = a.reached }
 
 -- the map has the blocks of the image

@@ -19,6 +19,7 @@ pub mod Rules
 pub mod Passable
 pub mod Accepts
 pub mod Ending
+pub mod BothOrders
 pub mod Refuses
 pub mod Within
 pub mod Called

@@ -1,13 +1,12 @@
 -- How many reads the check of an image takes, by what its thread shows.
 use Rattle.std.proofs.Common.{ℕ, ◌≡◌, ◌≤◌, ◌<◌, ◌+◌, ◌*◌, not, Bool, true, false, cond, List, [], ◌∷◌, ◌++◌, length, drop, filter, Some, sym, ap, subst, ◌∙◌, arith, refl, length-append}
 use Rattle.std.specs.Prelude.{All, sum_by}
-use Rattle.std.specs.List.{cons_option, filter_map, flat_map}
+use Rattle.std.specs.List.{cons_option, flat_map}
 use Rattle.std.proofs.lemmas.List.Concat.{flat_map-append}
 use Rattle.std.proofs.lemmas.List.Sums.{sum_by-append, sum_by-cons}
 use Rattle.std.proofs.lemmas.Option.{same_Some}
 use Rattle.lfs_device.specs.Bytes.{HasBytes}
 use Rattle.lfs_model.specs.BlockSets.{BlockSets}
-use Rattle.lfs_model.specs.Content.{complete_all}
 use Rattle.lfs_model.specs.Disk.{Disk}
 use Rattle.lfs_model.specs.History.{Event}
 use Rattle.lfs_model.specs.Names.{Name}
@@ -16,7 +15,7 @@ use Rattle.lfs_model.specs.Thread.{Links, Pair, anchor, gstate_of, unmoved, visi
 use Rattle.lfs_model.specs.View.{IsAccepted, IsEntry}
 use Rattle.lfs_thread.specs.Kept.{Header, pairs_on}
 use Rattle.lfs_mount.specs.Described.{AreMembers, IsMember, moved_in}
-use Rattle.lfs_mount.specs.Entries.{entry_of, nothing_known, stand_of}
+use Rattle.lfs_mount.specs.Entries.{nothing_known, stand_of}
 use Rattle.lfs_mount.specs.Head.{IsHead}
 use Rattle.lfs_mount.specs.Marking.{list_of}
 use Rattle.lfs_mount.specs.Members.{IsRead, IsThreadOf, members_in}
@@ -75,12 +74,12 @@ taken_lists disk firsts g first p m known sets new marked h t =
     let parts = kept_parts m t.held.slots t.entries t.kept in
     let w = without_moved (moved_in g p) t.held.slots parts.0 p.content.slots all (ap (λ o. unmoved_of o t.held.slots) (sym h.moved) ∙ parts.1.0) in
     let are = without_superblock first parts.0 t.entries (without (moved_in g p) p.content.slots) w.are (ap (λ b. behind_superblock b parts.0) (sym h.first) ∙ parts.1.1) in
-    let s = scan_some firsts known t.entries new t.scan in
+    let s = scan_some disk.order firsts known t.entries new t.scan in
     let same : s.slots ≡ behind first (without (moved_in g p) p.content.slots) = same_Some s.slots (behind first (without (moved_in g p) p.content.slots)) (sym s.are ∙ are) in
     let seen : behind first (without (moved_in g p) p.content.slots) ≡ visible g p =
     sym (visible_behind first (without (moved_in g p) p.content.slots) (λ e. starts_without (moved_in g p) p.content.slots w.entry (h.starts e)) (subst (All IsEntry) same s.entries))
     ∙ ap (filter (λ x. not (is_superblock x))) (sym (unmoved-without g p)) in
-    takes_lists disk firsts m known new sets marked t ∙ same_lists firsts known new t.entries s.slots t.scan s.are ∙ ap lists_of (same ∙ seen)
+    takes_lists disk firsts m known new sets marked t ∙ same_lists disk.order firsts known new t.entries s.slots t.scan s.are ∙ ap lists_of (same ∙ seen)
 
 passed_reads : (disk : Disk) (firsts : List (ℕ × ℕ)) (g : Gstate) (first : Bool) (ps : List Pair) (ms : List Member) (known : Name × Vertex) (sets : BlockSets) (graph : Graph) (end : BlockSets)
     → AreMembers disk g first ps ms → Passes disk firsts known sets ms graph end

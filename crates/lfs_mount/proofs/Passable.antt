@@ -2,6 +2,7 @@
 use Rattle.std.proofs.Common.{ℕ, zero, suc, ◌≡◌, Bool, true, false, cond, List, [], ◌∷◌, remove, filter, slice_get, Option, Some, None, is_some, refl, sym, ap, ap₂, subst, ◌∙◌, option_and_then, flat_map, not}
 use Rattle.std.specs.Prelude.{All}
 use Rattle.std.proofs.lemmas.Option.{same_Some}
+use Rattle.lfs_model.specs.declared.order.NameOrder.{NameOrder}
 use Rattle.lfs_model.specs.Disk.{Disk, block_at}
 use Rattle.lfs_model.specs.Log.{log_entries}
 use Rattle.lfs_model.specs.Names.{Name}
@@ -75,12 +76,12 @@ can_go_behind false raws slots c s = (raws, refl)
 can_go_behind true [] slots c s = absurd (let e : starts_with_superblock [] ≡ true = ap starts_with_superblock (same_Some [] slots c) ∙ s refl in cc)
 can_go_behind true (r ∷ raws) slots c s = (raws, refl)
 
-can_scan : (firsts : List (ℕ × ℕ)) (known : Name × Vertex) (raws : List RawSlot) (slots : List Slot) → HaveParts raws → complete_all raws ≡ Some slots → All IsEntry slots
-    → (new : Name × Vertex) × (scanned firsts known raws ≡ Some new)
-can_scan firsts known raws slots h c entries = go (scanned firsts known raws) refl
+can_scan : (by : NameOrder) (firsts : List (ℕ × ℕ)) (known : Name × Vertex) (raws : List RawSlot) (slots : List Slot) → HaveParts raws → complete_all raws ≡ Some slots → All IsEntry slots
+    → (new : Name × Vertex) × (scanned by firsts known raws ≡ Some new)
+can_scan by firsts known raws slots h c entries = go (scanned by firsts known raws) refl
   where
-    go : (o : Option (Name × Vertex)) → scanned firsts known raws ≡ o → (new : Name × Vertex) × (o ≡ Some new)
-    go None e = absurd (scan_none firsts known raws h e slots c entries)
+    go : (o : Option (Name × Vertex)) → scanned by firsts known raws ≡ o → (new : Name × Vertex) × (o ≡ Some new)
+    go None e = absurd (scan_none by firsts known raws h e slots c entries)
     go (Some new) e = (new, refl)
 
 -- ---- one pair
@@ -108,7 +109,7 @@ can_take disk firsts g first p m known sets marked bytes h entries moved lists =
         let kept_parts : HaveParts k.0 = parts_behind first u.0 k.0 (parts_moved (moved_in g p) held.slots u.0 parts u.1) k.1 in
         let seen : behind first (without (moved_in g p) p.content.slots) ≡ visible g p = sym (visible_behind first (without (moved_in g p) p.content.slots) starts right)
         ∙ ap (filter (λ x. not (is_superblock x))) (sym (unmoved-without g p)) in
-        let s = can_scan firsts known k.0 (behind first (without (moved_in g p) p.content.slots)) kept_parts are right in (
+        let s = can_scan disk.order firsts known k.0 (behind first (without (moved_in g p) p.content.slots)) kept_parts are right in (
           s.0,
           record {
             held = held;
@@ -116,7 +117,7 @@ can_take disk firsts g first p m known sets marked bytes h entries moved lists =
             entries = k.0;
             kept = ap₂ (λ b o. option_and_then (behind_superblock b) (unmoved_of o held.slots)) h.first h.moved ∙ ap (option_and_then (behind_superblock first)) u.1 ∙ k.1;
             scan = s.1;
-            lists = subst (λ ls. MarksLists disk sets ls marked) (sym (same_lists firsts known s.0 k.0 (behind first (without (moved_in g p) p.content.slots)) s.1 are ∙ ap lists_of seen)) lists;
+            lists = subst (λ ls. MarksLists disk sets ls marked) (sym (same_lists disk.order firsts known s.0 k.0 (behind first (without (moved_in g p) p.content.slots)) s.1 are ∙ ap lists_of seen)) lists;
           },
         )
 

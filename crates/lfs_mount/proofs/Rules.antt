@@ -4,6 +4,7 @@ use Rattle.std.specs.Prelude.{All}
 use Rattle.std.specs.List.{filter_map, cons_option}
 use Rattle.std.proofs.lemmas.Option.{same_Some}
 use Rattle.std.proofs.lemmas.List.Elements.{All-head, All-tail}
+use Rattle.lfs_model.specs.declared.order.NameOrder.{NameOrder}
 use Rattle.lfs_model.specs.Disk.{Disk, block_at}
 use Rattle.lfs_model.specs.Log.{log_entries}
 use Rattle.lfs_model.specs.Names.{Name}
@@ -134,13 +135,13 @@ one_list r raws slots p Q others (x, (f, q)) =
     ∙ ap (λ (y : Entry). cons_option (list_of y) (filter_map (λ s. list_of (entry_of s)) p.others)) (sym h.same ∙ ap entry_of (same_Some h.slot p.first (sym h.is ∙ p.is_first)))
     ∙ ap (filter_map (λ s. list_of (entry_of s))) (sym p.all_are)
 
-pub same_lists : (firsts : List (ℕ × ℕ)) (known new : Name × Vertex) (raws : List RawSlot) (slots : List Slot) → scanned firsts known raws ≡ Some new → complete_all raws ≡ Some slots
+pub same_lists : (by : NameOrder) (firsts : List (ℕ × ℕ)) (known new : Name × Vertex) (raws : List RawSlot) (slots : List Slot) → scanned by firsts known raws ≡ Some new → complete_all raws ≡ Some slots
     → lists_in raws ≡ filter_map (λ s. list_of (entry_of s)) slots
-same_lists firsts known new [] slots e c = ap (filter_map (λ s. list_of (entry_of s))) (same_Some [] slots c)
-same_lists firsts known new (r ∷ raws) slots e c =
+same_lists by firsts known new [] slots e c = ap (filter_map (λ s. list_of (entry_of s))) (same_Some [] slots c)
+same_lists by firsts known new (r ∷ raws) slots e c =
     let p = complete_parts r raws slots c in
-    one_list r raws slots p (λ x. scanned firsts (with_entry firsts known x) raws ≡ Some new) (λ x f. same_lists firsts (with_entry firsts known x) new raws p.others f p.are_others)
-    (some_parts (λ x. scanned firsts (with_entry firsts known x) raws) new (entry_in r) e)
+    one_list r raws slots p (λ x. scanned by firsts (with_entry by firsts known x) raws ≡ Some new) (λ x f. same_lists by firsts (with_entry by firsts known x) new raws p.others f p.are_others)
+    (some_parts (λ x. scanned by firsts (with_entry by firsts known x) raws) new (entry_in r) e)
 
 -- ---- one pair
 
@@ -150,7 +151,7 @@ lists_of slots = filter_map (λ s. list_of (entry_of s)) slots
 pub record IsTaken (disk : Disk) (firsts : List (ℕ × ℕ)) (g : Gstate) (first : Bool) (p : Pair) (known : Name × Vertex) (sets : BlockSets) (new : Name × Vertex) (marked : BlockSets) : Type 0 where
   pub kept : All IsEntry (behind first (unmoved g p))
   pub entries : All IsEntry (visible g p)
-  pub known_is : new ≡ with_entries firsts known (map entry_of (visible g p))
+  pub known_is : new ≡ with_entries disk.order firsts known (map entry_of (visible g p))
   pub lists : MarksLists disk sets (lists_of (visible g p)) marked
   pub moved : IsMovedEntry (moved_in g p) p.content.slots
 
@@ -176,7 +177,7 @@ taken_rules disk firsts g first p m known sets new marked h t =
     let parts = kept_parts m t.held.slots t.entries t.kept in
     let w = without_moved (moved_in g p) t.held.slots parts.0 p.content.slots all (ap (λ o. unmoved_of o t.held.slots) (sym h.moved) ∙ parts.1.0) in
     let are = without_superblock first parts.0 t.entries (without (moved_in g p) p.content.slots) w.are (ap (λ b. behind_superblock b parts.0) (sym h.first) ∙ parts.1.1) in
-    let s = scan_some firsts known t.entries new t.scan in
+    let s = scan_some disk.order firsts known t.entries new t.scan in
     let same : s.slots ≡ behind first (without (moved_in g p) p.content.slots) = same_Some s.slots (behind first (without (moved_in g p) p.content.slots)) (sym s.are ∙ are) in
     let seen : behind first (without (moved_in g p) p.content.slots) ≡ visible g p =
     sym (visible_behind first (without (moved_in g p) p.content.slots) (λ e. starts_without (moved_in g p) p.content.slots w.entry (h.starts e)) (subst (All IsEntry) same s.entries))
@@ -184,8 +185,8 @@ taken_rules disk firsts g first p m known sets new marked h t =
     record {
       kept = subst (λ ss. All IsEntry (behind first ss)) (sym (unmoved-without g p)) (subst (All IsEntry) same s.entries);
       entries = subst (All IsEntry) (same ∙ seen) s.entries;
-      known_is = s.same ∙ ap (λ ss. with_entries firsts known (map entry_of ss)) (same ∙ seen);
-      lists = subst (λ ls. MarksLists disk sets ls marked) (same_lists firsts known new t.entries s.slots t.scan s.are ∙ ap (filter_map (λ x. list_of (entry_of x))) (same ∙ seen)) t.lists;
+      known_is = s.same ∙ ap (λ ss. with_entries disk.order firsts known (map entry_of ss)) (same ∙ seen);
+      lists = subst (λ ls. MarksLists disk sets ls marked) (same_lists disk.order firsts known new t.entries s.slots t.scan s.are ∙ ap (filter_map (λ x. list_of (entry_of x))) (same ∙ seen)) t.lists;
       moved = w.entry;
     }
 
@@ -199,14 +200,14 @@ HaveEntries g first (p ∷ ps) = All IsEntry (behind first (unmoved g p)) × Hav
 pub record HavePassed (disk : Disk) (firsts : List (ℕ × ℕ)) (g : Gstate) (first : Bool) (ps : List Pair) (known : Name × Vertex) (sets : BlockSets) (graph : Graph) (end : BlockSets) : Type 0 where
   pub kept : HaveEntries g first ps
   pub entries : Each (λ p. All IsEntry (visible g p)) ps
-  pub graph_is : graph ≡ vertices firsts known (map entries_of (shown_in g ps))
+  pub graph_is : graph ≡ vertices disk.order firsts known (map entries_of (shown_in g ps))
   pub lists : MarksLists disk sets (flat_map (λ p. lists_of (visible g p)) ps) end
   pub moved : Each (λ p. IsMovedEntry (moved_in g p) p.content.slots) ps
 
-ended-vertices : (hard : Bool) (firsts : List (ℕ × ℕ)) (new : Name × Vertex) (rest : List (Bool × List Entry))
-    → ended hard new (vertices firsts (in_hand hard new) rest) ≡ cond hard (vertices firsts new rest) (new.1 ∷ vertices firsts nothing_known rest)
-ended-vertices true firsts new rest = refl
-ended-vertices false firsts new rest = refl
+ended-vertices : (by : NameOrder) (hard : Bool) (firsts : List (ℕ × ℕ)) (new : Name × Vertex) (rest : List (Bool × List Entry))
+    → ended hard new (vertices by firsts (in_hand hard new) rest) ≡ cond hard (vertices by firsts new rest) (new.1 ∷ vertices by firsts nothing_known rest)
+ended-vertices by true firsts new rest = refl
+ended-vertices by false firsts new rest = refl
 
 pub passed_rules : (disk : Disk) (firsts : List (ℕ × ℕ)) (g : Gstate) (first : Bool) (ps : List Pair) (ms : List Member) (known : Name × Vertex) (sets : BlockSets) (graph : Graph) (end : BlockSets)
     → AreMembers disk g first ps ms → Passes disk firsts known sets ms graph end → HavePassed disk firsts g first ps known sets graph end
@@ -221,8 +222,8 @@ passed_rules disk firsts g first (p ∷ ps) (m ∷ ms) known sets graph end h (n
     record {
       kept = (one.kept, others.kept);
       entries = (one.entries, others.entries);
-      graph_is = e ∙ ap (ended m.is_hard new) others.graph_is ∙ ended-vertices m.is_hard firsts new tail
-          ∙ ap₂ (λ (b : Bool) (n : Name × Vertex). cond b (vertices firsts n tail) (n.1 ∷ vertices firsts nothing_known tail)) h.0.hard one.known_is;
+      graph_is = e ∙ ap (ended m.is_hard new) others.graph_is ∙ ended-vertices disk.order m.is_hard firsts new tail
+          ∙ ap₂ (λ (b : Bool) (n : Name × Vertex). cond b (vertices disk.order firsts n tail) (n.1 ∷ vertices disk.order firsts nothing_known tail)) h.0.hard one.known_is;
       lists = lists_joined disk (lists_of (visible g p)) (flat_map (λ q. lists_of (visible g q)) ps) sets mid end one.lists others.lists;
       moved = (one.moved, others.moved);
     }
@@ -234,10 +235,10 @@ named_all g [] h = tt
 named_all g (p ∷ ps) h = ((λ k d lt. (h.0 k d lt).name), named_all g ps h.1)
 
 pub passed_draws : (disk : Disk) (g : Gstate) (ps : List Pair) (ms : List Member) (sets : BlockSets) (graph : Graph) (end : BlockSets) → Ends ps → AreMembers disk g true ps ms
-    → Passes disk (firsts_of (directories_of g ps)) nothing_known sets ms graph end → Draws (directories_of g ps) graph
+    → Passes disk (firsts_of (directories_of g ps)) nothing_known sets ms graph end → Draws disk.order (directories_of g ps) graph
 passed_draws disk g ps ms sets graph end ends members passes =
     let h = passed_rules disk (firsts_of (directories_of g ps)) g true ps ms nothing_known sets graph end members passes in
-    subst (Draws (directories_of g ps)) (sym h.graph_is) (thread_drawn g ps ends (named_all g ps h.entries))
+    subst (Draws disk.order (directories_of g ps)) (sym h.graph_is) (thread_drawn disk.order g ps ends (named_all g ps h.entries))
 
 -- the last pair of a thread has no tail
 pub links_end : (at : Option (ℕ × ℕ)) (ps : List Pair) → Links at ps → Ends ps
@@ -256,7 +257,7 @@ ends_behind (suc n) (p ∷ []) h = subst Ends (sym (drop-nil n)) tt
 ends_behind (suc n) (p ∷ q ∷ ps) h = ends_behind n (q ∷ ps) h
 
 pub thread_shows : (disk : Disk) (ps : List Pair) (ms : List Member) (sets : BlockSets) (graph : Graph) (end : BlockSets) → IsThread (content_at disk) (block_count disk) ps
-    → AreMembers disk (gstate_of ps) true (directory_pairs ps) ms → Passes disk (firsts_of (directories_in ps)) nothing_known sets ms graph end → Shows graph (gstate_of ps).sync ps
+    → AreMembers disk (gstate_of ps) true (directory_pairs ps) ms → Passes disk (firsts_of (directories_in ps)) nothing_known sets ms graph end → Shows disk.order graph (gstate_of ps).sync ps
 thread_shows disk ps ms sets graph end thread members passes = record {
   distinct = thread.distinct;
   draws = passed_draws disk (gstate_of ps) (directory_pairs ps) ms sets graph end (ends_behind (superblocks_before ps) ps (links_end (Some anchor) ps thread.links)) members passes;

@@ -3,6 +3,7 @@ use Rattle.std.proofs.Common.{if◌then◌else◌, ℕ, zero, suc, ◌≡◌, Bo
 use Rattle.std.specs.Prelude.{All}
 use Rattle.std.proofs.lemmas.Option.{same_Some}
 use Rattle.std.proofs.lemmas.List.{length-map}
+use Rattle.lfs_model.specs.declared.order.NameOrder.{NameOrder}
 use Rattle.lfs_model.specs.Names.{Name, is_name}
 use Rattle.lfs_model.specs.Slots.{Slot, Gstate}
 use Rattle.lfs_model.specs.Thread.{Pair, ThreadDirectory, is_hard, visible, joined, directories_of}
@@ -28,20 +29,20 @@ runs hand [] = []
 runs hand (p ∷ ps) = if p.0 then runs (hand ++ p.1) ps else (hand ++ p.1) ∷ runs [] ps
 
 -- what is known of each directory, the first one's behind what is known so far
-abbrev pub vertices : List (ℕ × ℕ) → Name × Vertex → List (Bool × List Entry) → Graph
-vertices firsts known [] = []
-vertices firsts known (p ∷ ps) =
-    if p.0 then vertices firsts (with_entries firsts known p.1) ps
-    else (with_entries firsts known p.1).1 ∷ vertices firsts nothing_known ps
+abbrev pub vertices : NameOrder → List (ℕ × ℕ) → Name × Vertex → List (Bool × List Entry) → Graph
+vertices by firsts known [] = []
+vertices by firsts known (p ∷ ps) =
+    if p.0 then vertices by firsts (with_entries by firsts known p.1) ps
+    else (with_entries by firsts known p.1).1 ∷ vertices by firsts nothing_known ps
 
 abbrev pub entries_of : Shown → Bool × List Entry
 entries_of p = (p.0, map entry_of p.1)
 
-abbrev pub AreDrawn : List ThreadDirectory → List (List Slot) → Graph → Type 0
-AreDrawn ds [] [] = Unit {0}
-AreDrawn ds [] (v ∷ vs) = ⊥
-AreDrawn ds (s ∷ ss) [] = ⊥
-AreDrawn ds (s ∷ ss) (v ∷ vs) = IsDrawn ds s v × AreDrawn ds ss vs
+abbrev pub AreDrawn : NameOrder → List ThreadDirectory → List (List Slot) → Graph → Type 0
+AreDrawn by ds [] [] = Unit {0}
+AreDrawn by ds [] (v ∷ vs) = ⊥
+AreDrawn by ds (s ∷ ss) [] = ⊥
+AreDrawn by ds (s ∷ ss) (v ∷ vs) = IsDrawn by ds s v × AreDrawn by ds ss vs
 
 -- ---- the same directories from either end
 
@@ -84,40 +85,40 @@ directories_from_front g ps ends = runs_in_front g ps [] ends ∙ nothing_in_fro
 abbrev pub Named : Shown → Type 0
 Named p = All (λ s. is_name s.name ≡ true) p.1
 
-pub runs_drawn : (ds : List ThreadDirectory) (ps : List Shown) (hand : List Slot) (known : Name × Vertex) → Each Named ps → IsKnown ds hand known
-    → AreDrawn ds (runs hand ps) (vertices (firsts_of ds) known (map entries_of ps))
-runs_drawn ds [] hand known named h = tt
-runs_drawn ds ((true, slots) ∷ ps) hand known named h =
-    runs_drawn ds ps (hand ++ slots) (with_entries (firsts_of ds) known (map entry_of slots)) named.1 (known_more ds hand slots known named.0 h)
-runs_drawn ds ((false, slots) ∷ ps) hand known named h =
-    ((known_more ds hand slots known named.0 h).drawn, runs_drawn ds ps [] nothing_known named.1 (nothing_drawn ds))
+pub runs_drawn : {by : NameOrder} (ds : List ThreadDirectory) (ps : List Shown) (hand : List Slot) (known : Name × Vertex) → Each Named ps → IsKnown by ds hand known
+    → AreDrawn by ds (runs hand ps) (vertices by (firsts_of ds) known (map entries_of ps))
+runs_drawn {by} ds [] hand known named h = tt
+runs_drawn {by} ds ((true, slots) ∷ ps) hand known named h =
+    runs_drawn ds ps (hand ++ slots) (with_entries by (firsts_of ds) known (map entry_of slots)) named.1 (known_more ds hand slots known named.0 h)
+runs_drawn {by} ds ((false, slots) ∷ ps) hand known named h =
+    ((known_more ds hand slots known named.0 h).drawn, runs_drawn ds ps [] nothing_known named.1 (nothing_drawn by ds))
 
 -- ---- the graph
 
-drawn_len : (ds : List ThreadDirectory) (ss : List (List Slot)) (graph : Graph) → AreDrawn ds ss graph → length graph ≡ length ss
-drawn_len ds [] [] h = refl
-drawn_len ds [] (v ∷ vs) h = absurd h
-drawn_len ds (s ∷ ss) [] h = absurd h
-drawn_len ds (s ∷ ss) (v ∷ vs) h = ap (λ n. suc n) (drawn_len ds ss vs h.1)
+drawn_len : (by : NameOrder) (ds : List ThreadDirectory) (ss : List (List Slot)) (graph : Graph) → AreDrawn by ds ss graph → length graph ≡ length ss
+drawn_len by ds [] [] h = refl
+drawn_len by ds [] (v ∷ vs) h = absurd h
+drawn_len by ds (s ∷ ss) [] h = absurd h
+drawn_len by ds (s ∷ ss) (v ∷ vs) h = ap (λ n. suc n) (drawn_len by ds ss vs h.1)
 
-drawn_at : (ds es : List ThreadDirectory) (graph : Graph) → AreDrawn ds (slots_in es) graph → (i : ℕ) (d : ThreadDirectory) (v : Vertex) → slice_get es i ≡ Some d → slice_get graph i ≡ Some v → IsDrawn ds d.slots v
-drawn_at ds [] graph h i d v e f = absurd (cc)
-drawn_at ds (x ∷ es) [] h i d v e f = absurd h
-drawn_at ds (x ∷ es) (w ∷ vs) h zero d v e f =
-    subst (IsDrawn ds d.slots) (same_Some w v f) (subst (λ (y : ThreadDirectory). IsDrawn ds y.slots w) (same_Some x d e) h.0)
-drawn_at ds (x ∷ es) (w ∷ vs) h (suc i) d v e f = drawn_at ds es vs h.1 i d v e f
+drawn_at : (by : NameOrder) (ds es : List ThreadDirectory) (graph : Graph) → AreDrawn by ds (slots_in es) graph → (i : ℕ) (d : ThreadDirectory) (v : Vertex) → slice_get es i ≡ Some d → slice_get graph i ≡ Some v → IsDrawn by ds d.slots v
+drawn_at by ds [] graph h i d v e f = absurd (cc)
+drawn_at by ds (x ∷ es) [] h i d v e f = absurd h
+drawn_at by ds (x ∷ es) (w ∷ vs) h zero d v e f =
+    subst (IsDrawn by ds d.slots) (same_Some w v f) (subst (λ (y : ThreadDirectory). IsDrawn by ds y.slots w) (same_Some x d e) h.0)
+drawn_at by ds (x ∷ es) (w ∷ vs) h (suc i) d v e f = drawn_at by ds es vs h.1 i d v e f
 
-pub draws_from : (ds : List ThreadDirectory) (graph : Graph) → AreDrawn ds (map (λ d. d.slots) ds) graph → Draws ds graph
-draws_from ds graph h = record {
-  len = drawn_len ds (slots_in ds) graph h ∙ length-map ds (λ (d : ThreadDirectory). d.slots);
-  each = drawn_at ds ds graph h;
+pub draws_from : (by : NameOrder) (ds : List ThreadDirectory) (graph : Graph) → AreDrawn by ds (map (λ d. d.slots) ds) graph → Draws by ds graph
+draws_from by ds graph h = record {
+  len = drawn_len by ds (slots_in ds) graph h ∙ length-map ds (λ (d : ThreadDirectory). d.slots);
+  each = drawn_at by ds ds graph h;
 }
 
 -- pairs taken from the front draw the directories
-pub thread_drawn : (g : Gstate) (ps : List Pair) → Ends ps → Each Named (shown_in g ps)
-    → Draws (directories_of g ps) (vertices (firsts_of (directories_of g ps)) nothing_known (map entries_of (shown_in g ps)))
-thread_drawn g ps ends named =
-    draws_from (directories_of g ps) (vertices (firsts_of (directories_of g ps)) nothing_known (map entries_of (shown_in g ps)))
-    (subst (λ ss. AreDrawn (directories_of g ps) ss (vertices (firsts_of (directories_of g ps)) nothing_known (map entries_of (shown_in g ps))))
+pub thread_drawn : (by : NameOrder) (g : Gstate) (ps : List Pair) → Ends ps → Each Named (shown_in g ps)
+    → Draws by (directories_of g ps) (vertices by (firsts_of (directories_of g ps)) nothing_known (map entries_of (shown_in g ps)))
+thread_drawn by g ps ends named =
+    draws_from by (directories_of g ps) (vertices by (firsts_of (directories_of g ps)) nothing_known (map entries_of (shown_in g ps)))
+    (subst (λ ss. AreDrawn by (directories_of g ps) ss (vertices by (firsts_of (directories_of g ps)) nothing_known (map entries_of (shown_in g ps))))
     (directories_from_front g ps ends)
-    (runs_drawn (directories_of g ps) (shown_in g ps) [] nothing_known named (nothing_drawn (directories_of g ps))))
+    (runs_drawn (directories_of g ps) (shown_in g ps) [] nothing_known named (nothing_drawn by (directories_of g ps))))

@@ -4,6 +4,7 @@ use Rattle.std.specs.Prelude.{All}
 use Rattle.std.proofs.lemmas.Bool.{and_parts, or_cases, ne_eqb}
 use Rattle.std.proofs.lemmas.List.Elements.{All-head, All-tail, All-cons}
 use Rattle.std.proofs.lemmas.Option.{same_Some}
+use Rattle.lfs_model.specs.declared.order.NameOrder.{NameOrder}
 use Rattle.lfs_model.specs.Names.{Name, is_name}
 use Rattle.lfs_model.specs.Tag.{tag_with, kind_of, len_of, class_of}
 use Rattle.lfs_model.specs.Slots.{Slot, File, Directory, Superblock}
@@ -197,18 +198,18 @@ entry_none s t parts none is entry = go s.name s.struct parts.struct none is
 -- ---- all slots of a pair
 
 -- the slots are entries, and this is known then
-pub record IsScanned (firsts : List (ℕ × ℕ)) (known : Name × Vertex) (raws : List RawSlot) (new : Name × Vertex) : Type 0 where
+pub record IsScanned (by : NameOrder) (firsts : List (ℕ × ℕ)) (known : Name × Vertex) (raws : List RawSlot) (new : Name × Vertex) : Type 0 where
   pub slots : List Slot
   pub are : complete_all raws ≡ Some slots
   pub entries : All IsEntry slots
-  pub same : new ≡ with_entries firsts known (map entry_of slots)
+  pub same : new ≡ with_entries by firsts known (map entry_of slots)
 
-pub scan_some : (firsts : List (ℕ × ℕ)) (known : Name × Vertex) (raws : List RawSlot) (new : Name × Vertex) → scanned firsts known raws ≡ Some new → IsScanned firsts known raws new
-scan_some firsts known [] new e = record { slots = []; are = refl; entries = λ k d lt. absurd (omega arith); same = sym (same_Some known new e) }
-scan_some firsts known (s ∷ raws) new e = go (entry_in s) refl e (λ x. scan_some firsts (with_entry firsts known x) raws new)
+pub scan_some : (by : NameOrder) (firsts : List (ℕ × ℕ)) (known : Name × Vertex) (raws : List RawSlot) (new : Name × Vertex) → scanned by firsts known raws ≡ Some new → IsScanned by firsts known raws new
+scan_some by firsts known [] new e = record { slots = []; are = refl; entries = λ k d lt. absurd (omega arith); same = sym (same_Some known new e) }
+scan_some by firsts known (s ∷ raws) new e = go (entry_in s) refl e (λ x. scan_some by firsts (with_entry by firsts known x) raws new)
   where
-    go : (o : Option Entry) → entry_in s ≡ o → option_and_then (λ x. scanned firsts (with_entry firsts known x) raws) o ≡ Some new
-        → ((x : Entry) → scanned firsts (with_entry firsts known x) raws ≡ Some new → IsScanned firsts (with_entry firsts known x) raws new) → IsScanned firsts known (s ∷ raws) new
+    go : (o : Option Entry) → entry_in s ≡ o → option_and_then (λ x. scanned by firsts (with_entry by firsts known x) raws) o ≡ Some new
+        → ((x : Entry) → scanned by firsts (with_entry by firsts known x) raws ≡ Some new → IsScanned by firsts (with_entry by firsts known x) raws new) → IsScanned by firsts known (s ∷ raws) new
     go None f g next = absurd (cc)
     go (Some x) f g next =
         let h = entry_some s x f in
@@ -217,12 +218,12 @@ scan_some firsts known (s ∷ raws) new e = go (entry_in s) refl e (λ x. scan_s
           slots = h.slot ∷ r.slots;
           are = complete_cons s raws h.slot r.slots h.is r.are;
           entries = All-cons IsEntry h.slot r.slots h.entry r.entries;
-          same = r.same ∙ ap (λ (y : Entry). with_entries firsts (with_entry firsts known y) (map entry_of r.slots)) (sym h.same);
+          same = r.same ∙ ap (λ (y : Entry). with_entries by firsts (with_entry by firsts known y) (map entry_of r.slots)) (sym h.same);
         }
 
-pub scan_none : (firsts : List (ℕ × ℕ)) (known : Name × Vertex) (raws : List RawSlot) → HaveParts raws → scanned firsts known raws ≡ None → (slots : List Slot) → complete_all raws ≡ Some slots → All IsEntry slots → ⊥
-scan_none firsts known [] parts e slots are entries = absurd (cc)
-scan_none firsts known (s ∷ raws) parts e slots are entries = go (entry_in s) refl e (λ x f. scan_none firsts (with_entry firsts known x) raws parts.1 f p.others p.are_others (All-tail IsEntry p.first p.others all))
+pub scan_none : (by : NameOrder) (firsts : List (ℕ × ℕ)) (known : Name × Vertex) (raws : List RawSlot) → HaveParts raws → scanned by firsts known raws ≡ None → (slots : List Slot) → complete_all raws ≡ Some slots → All IsEntry slots → ⊥
+scan_none by firsts known [] parts e slots are entries = absurd (cc)
+scan_none by firsts known (s ∷ raws) parts e slots are entries = go (entry_in s) refl e (λ x f. scan_none by firsts (with_entry by firsts known x) raws parts.1 f p.others p.are_others (All-tail IsEntry p.first p.others all))
   where
     p : AreComplete s raws slots
     p = complete_parts s raws slots are
@@ -230,7 +231,7 @@ scan_none firsts known (s ∷ raws) parts e slots are entries = go (entry_in s) 
     all : All IsEntry (p.first ∷ p.others)
     all = subst (All IsEntry) p.all_are entries
 
-    go : (o : Option Entry) → entry_in s ≡ o → option_and_then (λ x. scanned firsts (with_entry firsts known x) raws) o ≡ None
-        → ((x : Entry) → scanned firsts (with_entry firsts known x) raws ≡ None → ⊥) → ⊥
+    go : (o : Option Entry) → entry_in s ≡ o → option_and_then (λ x. scanned by firsts (with_entry by firsts known x) raws) o ≡ None
+        → ((x : Entry) → scanned by firsts (with_entry by firsts known x) raws ≡ None → ⊥) → ⊥
     go None f g next = entry_none s p.first parts.0 f p.is_first (All-head IsEntry p.first p.others all)
     go (Some x) f g next = next x g

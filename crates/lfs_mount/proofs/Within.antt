@@ -4,10 +4,11 @@ use Rattle.std.specs.Prelude.{All}
 use Rattle.std.proofs.lemmas.Option.{same_Some}
 use Rattle.std.proofs.lemmas.List.{length-map}
 use Rattle.std.proofs.lemmas.List.Elements.{All-from_recursion}
+use Rattle.lfs_model.specs.declared.order.NameOrder.{NameOrder}
 use Rattle.lfs_model.specs.BlockSets.{BlockSets}
 use Rattle.lfs_model.specs.Content.{RawSlot}
 use Rattle.lfs_model.specs.Disk.{Disk, block_count}
-use Rattle.lfs_model.specs.Names.{Name, name_cmp, is_less}
+use Rattle.lfs_model.specs.Names.{Name}
 use Rattle.lfs_model.specs.Slots.{Slot, Gstate, same_pair}
 use Rattle.lfs_model.specs.Thread.{Pair, ThreadDirectory, joined, is_hard, visible, gstate_of, directory_pairs, directories_of}
 use Rattle.lfs_model.specs.Shown.{directories_in}
@@ -15,7 +16,7 @@ use Rattle.lfs_model.proofs.Counts.{Each, each_append}
 use Rattle.lfs_model.proofs.Superblocks.{pairs_behind}
 use Rattle.lfs_mount.specs.Reaching.{Vertex, Graph}
 use Rattle.lfs_mount.specs.DirectorySeen.{vertex_of, graph_of}
-use Rattle.lfs_mount.specs.Entries.{InSlot, InList, Below, Entry, entry_in, place_of, with_branch, with_entry, nothing_known}
+use Rattle.lfs_mount.specs.Entries.{comes_behind, InSlot, InList, Below, Entry, entry_in, place_of, with_branch, with_entry, nothing_known}
 use Rattle.lfs_mount.specs.Scanned.{scanned}
 use Rattle.lfs_mount.specs.Passed.{in_hand, ended, Passes}
 use Rattle.lfs_mount.specs.Described.{AreMembers}
@@ -43,20 +44,20 @@ branch_within firsts v to h = go (place_of firsts to) refl
     go None e = h
     go (Some i) e = each_append (λ b. b < length firsts) v.branches (i ∷ []) h (place_within firsts to i e, tt)
 
-entry_within : (firsts : List (ℕ × ℕ)) (known : Name × Vertex) (e : Entry) → Below_all (length firsts) known.1 → Below_all (length firsts) (with_entry firsts known e).1
-entry_within firsts (last, v) (name, InSlot) h = h
-entry_within firsts (last, v) (name, InList head size) h = h
-entry_within firsts (last, v) (name, Below to) h = branch_within firsts (record v { is_sound = v.is_sound && is_less (name_cmp last name) }) to h
+entry_within : (by : NameOrder) (firsts : List (ℕ × ℕ)) (known : Name × Vertex) (e : Entry) → Below_all (length firsts) known.1 → Below_all (length firsts) (with_entry by firsts known e).1
+entry_within by firsts (last, v) (name, InSlot) h = h
+entry_within by firsts (last, v) (name, InList head size) h = h
+entry_within by firsts (last, v) (name, Below to) h = branch_within firsts (record v { is_sound = v.is_sound && comes_behind by last name }) to h
 
 parts_of : {X : Type 0} (f : Entry → Option X) (y : X) (o : Option Entry) → option_and_then f o ≡ Some y → (x : Entry) × (f x ≡ Some y)
 parts_of f y None e = absurd (cc)
 parts_of f y (Some x) e = (x, e)
 
-scan_within : (firsts : List (ℕ × ℕ)) (known new : Name × Vertex) (raws : List RawSlot) → scanned firsts known raws ≡ Some new → Below_all (length firsts) known.1 → Below_all (length firsts) new.1
-scan_within firsts known new [] e h = subst (λ (k : Name × Vertex). Below_all (length firsts) k.1) (same_Some known new e) h
-scan_within firsts known new (r ∷ raws) e h =
-    let x = parts_of (λ y. scanned firsts (with_entry firsts known y) raws) new (entry_in r) e in
-    scan_within firsts (with_entry firsts known x.0) new raws x.1 (entry_within firsts known x.0 h)
+scan_within : (by : NameOrder) (firsts : List (ℕ × ℕ)) (known new : Name × Vertex) (raws : List RawSlot) → scanned by firsts known raws ≡ Some new → Below_all (length firsts) known.1 → Below_all (length firsts) new.1
+scan_within by firsts known new [] e h = subst (λ (k : Name × Vertex). Below_all (length firsts) k.1) (same_Some known new e) h
+scan_within by firsts known new (r ∷ raws) e h =
+    let x = parts_of (λ y. scanned by firsts (with_entry by firsts known y) raws) new (entry_in r) e in
+    scan_within by firsts (with_entry by firsts known x.0) new raws x.1 (entry_within by firsts known x.0 h)
 
 hand_within : (n : ℕ) (hard : Bool) (new : Name × Vertex) → Below_all n new.1 → Below_all n (in_hand hard new).1
 hand_within n true new h = h
@@ -70,7 +71,7 @@ passes_within : (disk : Disk) (firsts : List (ℕ × ℕ)) (known : Name × Vert
     → Below_all (length firsts) known.1 → Each (Below_all (length firsts)) graph
 passes_within disk firsts known sets [] graph end (e, f) h = subst (Each (Below_all (length firsts))) (sym e) tt
 passes_within disk firsts known sets (m ∷ ms) graph end (new, mid, rest, (takes, (e, more))) h =
-    let k = scan_within firsts known new takes.entries takes.scan h in
+    let k = scan_within disk.order firsts known new takes.entries takes.scan h in
     subst (Each (Below_all (length firsts))) (sym e)
     (ended_within (length firsts) m.is_hard new rest k (passes_within disk firsts (in_hand m.is_hard new) mid ms rest end more (hand_within (length firsts) m.is_hard new k)))
 

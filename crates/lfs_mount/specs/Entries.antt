@@ -1,6 +1,7 @@
 -- What stands in the slots of a pair, and what it adds to what is known of a directory.
-use Rattle.std.specs.Prelude.{ℕ, suc, ◌==◌, ◌&&◌, true, false, if◌then◌else◌, List, [], ◌∷◌, ◌++◌, length, map, Option, Some, None}
+use Rattle.std.specs.Prelude.{ℕ, suc, ◌==◌, ◌&&◌, Bool, true, false, if◌then◌else◌, List, [], ◌∷◌, ◌++◌, length, map, Option, Some, None}
 use Rattle.std.specs.Option.{option_and_then, option_map}
+use Rattle.lfs_model.specs.declared.order.NameOrder.{NameOrder}
 use Rattle.lfs_model.specs.Names.{Name, name_cmp, is_less, is_name}
 use Rattle.lfs_model.specs.Slots.{Slot, Struct, Inline, Ctz, Branch, same_pair}
 use Rattle.lfs_model.specs.Content.{RawSlot}
@@ -59,13 +60,18 @@ with_stand firsts v InSlot = v
 with_stand firsts v (InList head size) = v
 with_stand firsts v (Below to) = with_branch v (place_of firsts to)
 
--- behind the last name so far
-abbrev pub with_entry : List (ℕ × ℕ) → Name × Vertex → Entry → Name × Vertex
-with_entry firsts (last, v) (name, stand) = (name, with_stand firsts (record v { is_sound = v.is_sound && is_less (name_cmp last name) }) stand)
+-- a name comes behind the last one, which is empty where there is none
+abbrev pub comes_behind : NameOrder → Name → Name → Bool
+comes_behind order [] name = true
+comes_behind order (b ∷ last) name = is_less (name_cmp order (b ∷ last) name)
 
-abbrev pub with_entries : List (ℕ × ℕ) → Name × Vertex → List Entry → Name × Vertex
-with_entries firsts known [] = known
-with_entries firsts known (e ∷ es) = with_entries firsts (with_entry firsts known e) es
+-- behind the last name so far
+abbrev pub with_entry : NameOrder → List (ℕ × ℕ) → Name × Vertex → Entry → Name × Vertex
+with_entry order firsts (last, v) (name, stand) = (name, with_stand firsts (record v { is_sound = v.is_sound && comes_behind order last name }) stand)
+
+abbrev pub with_entries : NameOrder → List (ℕ × ℕ) → Name × Vertex → List Entry → Name × Vertex
+with_entries order firsts known [] = known
+with_entries order firsts known (e ∷ es) = with_entries order firsts (with_entry order firsts known e) es
 
 abbrev pub nothing_known : Name × Vertex
 nothing_known = ([], record { is_sound = true; branches = [] })

@@ -1,6 +1,7 @@
 pub mod Reaching
 pub mod Places
 pub mod DirectorySeen
+pub mod Either
 pub mod Directories
 pub mod Entries
 pub mod EntrySeen

@@ -2,16 +2,23 @@
 
 ghost use Rattle.std.specs.Prelude.{◌≡◌, ◌⊎◌, map, OnOk, IfErr, IsErrOf, Some, None};
 ghost use Rattle.lfs_tag.specs.ContentSeen.{slot_seen};
-ghost use Rattle.lfs_mount.specs.Entries.{nothing_known, with_entry};
+ghost use Rattle.lfs_mount.specs.Entries.{comes_behind, nothing_known, with_entry};
 ghost use Rattle.lfs_mount.specs.EntrySeen.{entry_seen};
 ghost use Rattle.lfs_mount.specs.Scanned.{scanned};
 
 use crate::entry::{Entry, Target, entry_of};
 use crate::places::Places;
 use crate::reaching::Directory;
-use lfs_device::Error;
-use lfs_tag::Slot;
+use lfs_device::{Error, NameOrder};
+use lfs_tag::{Slot, name_cmp};
 use std::alloc::Global;
+
+// Whether a name comes behind the last one, which is empty where there is none.
+fn comes_behind(order: NameOrder, last: &[u8], name: &[u8]) -> bool
+    ensures { result ≡ comes_behind order last.now name.now }
+{
+    last.is_empty() || name_cmp(order, last, name).is_lt()
+}
 
 // What is known of a directory by the entries so far.
 #[derive(Drop)]
@@ -49,11 +56,11 @@ impl Known {
     }
 
     // Takes one entry more.
-    fn add(&mut self, places: &Places, entry: &Entry<'_>) -> Result<(), Error>
-        ensures ok { OnOk result (known_seen self.new ≡ with_entry places.now (known_seen self.old) (entry_seen entry.now)) }
+    fn add(&mut self, order: NameOrder, places: &Places, entry: &Entry<'_>) -> Result<(), Error>
+        ensures ok { OnOk result (known_seen self.new ≡ with_entry order places.now (known_seen self.old) (entry_seen entry.now)) }
         ensures error { IfErr result (λ e. e ≡ Error.NoMemory) }
     {
-        let rises = self.last.as_slice().cmp(&entry.name).is_lt();
+        let rises = comes_behind(order, &self.last, entry.name);
         self.directory.is_sound = self.directory.is_sound && rises;
         self.set_last(entry.name)?;
         if let Target::Directory(pair) = entry.target {
@@ -74,16 +81,21 @@ impl Known {
     }
 
     // Takes the entries in these slots of a pair. Corrupt exactly where one of them holds none.
-    pub fn scan(&mut self, places: &Places, slots: &[Slot<'_>]) -> Result<(), Error>
-        ensures ok { OnOk result (scanned places.now (known_seen self.old) (map slot_seen slots.now) ≡ Some (known_seen self.new)) }
-        ensures corrupt { IsErrOf result Error.Corrupt → scanned places.now (known_seen self.old) (map slot_seen slots.now) ≡ None }
+    pub fn scan(
+        &mut self,
+        order: NameOrder,
+        places: &Places,
+        slots: &[Slot<'_>],
+    ) -> Result<(), Error>
+        ensures ok { OnOk result (scanned order places.now (known_seen self.old) (map slot_seen slots.now) ≡ Some (known_seen self.new)) }
+        ensures corrupt { IsErrOf result Error.Corrupt → scanned order places.now (known_seen self.old) (map slot_seen slots.now) ≡ None }
         ensures errors { IfErr result (λ e. (e ≡ Error.Corrupt) ⊎ (e ≡ Error.NoMemory)) }
     {
         for slot in slots {
             let Some(entry) = entry_of(slot) else {
                 return Err(Error::Corrupt);
             };
-            self.add(places, &entry)?;
+            self.add(order, places, &entry)?;
         }
         Ok(())
     }

@@ -3,6 +3,7 @@
 #![tactic(auto)]
 
 mod check;
+mod either;
 mod entry;
 mod head;
 mod known;
@@ -14,5 +15,6 @@ mod pass;
 mod places;
 mod reaching;
 
+pub use either::mount_either;
 pub use mounting::mount;
 pub use places::Places;

@@ -99,7 +99,7 @@ fn take_pair<D: BlockDevice>(
     let mut slots = Content::read(alloc, &log)?.slots;
     take_moved(&mut slots, member.moved)?;
     take_superblock(&mut slots, member.has_superblock)?;
-    known.scan(places, &slots)?;
+    known.scan(device.geometry().order, places, &slots)?;
     mark_lists(device, map, &slots)?;
     Ok(())
 }

@@ -2,6 +2,7 @@
 
 ghost use Rattle.std.specs.Prelude.{List, ◌≡◌, ◌≤◌, ◌<◌, ◌^◌, ◌++◌, ◌⊎◌, ℕ, All, OnOk, IfOk, IfErr, IsErrOf, length, nat_eq};
 ghost use Rattle.std.specs.List.{IsDistinct};
+ghost use Rattle.lfs_model.specs.declared.order.NameOrder.{NameOrder};
 ghost use Rattle.lfs_model.specs.Thread.{Pair};
 ghost use Rattle.lfs_mount.specs.Directories.{AreRight, Shows};
 ghost use Rattle.lfs_mount.specs.DirectorySeen.{graph_of};
@@ -73,8 +74,8 @@ pub(crate) fn check_reached(
 ) -> Result<(), Error>
     requires some { 0 < length directories.now }
     requires within { All (λ d. All (λ b. b < length directories.now) d.branches.items) directories.now }
-    ensures ok { OnOk result ((ps : List Pair) → Shows (graph_of directories.now) sync ps → AreRight ps) }
-    ensures corrupt { IsErrOf result Error.Corrupt → (ps : List Pair) → Shows (graph_of directories.now) sync ps → ¬ AreRight ps }
+    ensures ok { OnOk result ((by : NameOrder) (ps : List Pair) → Shows by (graph_of directories.now) sync ps → AreRight by ps) }
+    ensures corrupt { IsErrOf result Error.Corrupt → (by : NameOrder) (ps : List Pair) → Shows by (graph_of directories.now) sync ps → ¬ AreRight by ps }
     ensures errors { IfErr result (λ e. (e ≡ Error.Corrupt) ⊎ (e ≡ Error.NoMemory)) }
 {
     let is_reached = reached(alloc, directories)?;

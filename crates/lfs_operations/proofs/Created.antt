@@ -72,7 +72,7 @@ no_bytes : IsPart 2 (inline_struct_type, [])
 no_bytes = record { of_class = refl; short = omega arith; in_table = refl }
 
 module _ (t : Kept) (index id : ℕ) (name : Name) (can : CanCreate t index id name) where
-  abbrev b : Belongs t.pairs can.first name index id
+  abbrev b : Belongs t.disk.order t.pairs can.first name index id
   b = can.belongs
 
   abbrev p : Pair
@@ -169,11 +169,11 @@ module _ (t : Kept) (index id : ℕ) (name : Name) (can : CanCreate t index id n
   same_there : same_pair (begin_of w (p ∷ [])) can.at ≡ true
   same_there = same t.disk t.pairs can.path can.at can.ready.accepted can.leads can.first index p (b.later ++ b.rest) b.place can.begins
 
-  place : IsPlace (entries_in t.pairs can.at) (place_at w b.left) name
+  place : IsPlace t.disk.order (entries_in t.pairs can.at) (place_at w b.left) name
   place = place_of_belongs t.disk t.pairs can.path can.at can.ready.accepted can.leads can.first index id name (no_move_from t.pairs can.ready.settled) b can.begins
 
-  place_there : IsPlace (entries_in (thread_at w (p ∷ [])) can.at) (place_at w b.left) name
-  place_there = subst (λ z. IsPlace (entries_in z can.at) (place_at w b.left) name) there place
+  place_there : IsPlace t.disk.order (entries_in (thread_at w (p ∷ [])) can.at) (place_at w b.left) name
+  place_there = subst (λ z. IsPlace t.disk.order (entries_in z can.at) (place_at w b.left) name) there place
 
   follows : (disk : Disk) (q : Pair) (more : List Pair) → Commits t w p b.left [] (u ∷ []) b.right [] disk q more
       → Follows t.disk (thread_at w (p ∷ [])) disk (thread_at w (q ∷ more)) (added (can.path ++ name ∷ []) (FileNode [] [])) (λ d. d)

@@ -66,7 +66,7 @@ module _ (t : Kept) (n : ℕ) (ahead : List Pair) (p o : Pair) (back : List Pair
   -- the pair holds a content with its slots
   placed : (disk : Disk) (c : Content) → c.slots ≡ p.content.slots → IsWrittenAs t n c disk → IsPlaced t.disk disk p (record { at = p.at; content = c }) [] []
   placed disk c same w = record {
-    geometry = record { block_size = w.shape.block_size; page = w.shape.page; count = w.shape.count };
+    geometry = record { block_size = w.shape.block_size; page = w.shape.page; order = w.shape.order; count = w.shape.count };
     same = λ b none. (subst (λ at. OutsideKeeps at t.disk.blocks disk.blocks) at_is w.others).others b (all_apart (p.at.0 ∷ p.at.1 ∷ []) b none);
     contents = (ap (content_at disk) (sym at_is) ∙ w.holds, tt);
     first = λ h b. subst (λ at. BeginsWith (holder_at disk at) superblock_entry) at_is

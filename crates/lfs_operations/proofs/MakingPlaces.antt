@@ -72,7 +72,7 @@ module _ (t : Kept) (index : ℕ) (w : Site) (p : Pair) (there : t.pairs ≡ thr
   -- ---- on another disk
 
   pub shape_same : {disk : Disk} → HasShape t.disk disk → SameGeometry t.disk disk
-  shape_same s = record { block_size = s.block_size; page = s.page; count = s.count }
+  shape_same s = record { block_size = s.block_size; page = s.page; order = s.order; count = s.count }
 
   pub same_two : (disk : Disk) → OutsideKeeps (pair_in t index).at t.disk.blocks disk.blocks → (b : ℕ) → count b (blocks_of (p ∷ [])) ≡ 0 → block_at disk b ≡ block_at t.disk b
   same_two disk others b none = (subst (λ at. OutsideKeeps at t.disk.blocks disk.blocks) at_is others).others b (all_apart (p.at.0 ∷ p.at.1 ∷ []) b none)

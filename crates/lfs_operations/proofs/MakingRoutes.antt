@@ -76,7 +76,7 @@ Completes disk w left x fresh right p2 l r P name =
     → IsStep middle new (site_behind w right (fresh_pair x fresh)) p2 [] q more (blocks_of more) [] l [] (new_directory name fresh ∷ []) r
     → taken.IsPut middle (site_behind w right (fresh_pair x fresh)) p2 q more l [] (new_directory name fresh ∷ []) r
     → (a : ℕ × ℕ) → Leads (thread_at (last_site w.chain w.before left w.after) (x ∷ [])) P a → same_pair (begin_of (last_site w.chain w.before left w.after) (x ∷ [])) a ≡ true
-    → IsPlace (entries_in (thread_at (site_behind w right (fresh_pair x fresh)) (p2 ∷ [])) a) (place_at (site_behind w right (fresh_pair x fresh)) l) name
+    → IsPlace middle.order (entries_in (thread_at (site_behind w right (fresh_pair x fresh)) (p2 ∷ [])) a) (place_at (site_behind w right (fresh_pair x fresh)) l) name
     → (gstate_of (thread_at (last_site w.chain w.before left w.after) (naming_pair x fresh ∷ ([] ++ fresh_pair x fresh ∷ [])))).sync ≡ true
     → gstate_of (thread_at (last_site w.chain w.before left w.after) (x ∷ [])) ≡ no_gstate
     → gstate_of (thread_at (site_behind w right (fresh_pair x fresh)) (q ∷ more)) ≡ no_gstate

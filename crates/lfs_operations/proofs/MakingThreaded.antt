@@ -198,7 +198,7 @@ module _ (t : Kept) (ready : IsReady t) (last : ℕ) (chain before left after : 
 
       placed : IsPlaced t.disk (with_blocks blocks t.disk) x x [] (fresh.0 ∷ fresh.1 ∷ [])
       placed = record {
-        geometry = record { block_size = refl; page = refl; count = others.count };
+        geometry = record { block_size = refl; page = refl; order = refl; count = others.count };
         same = λ b none. others.others b (all_apart (fresh.0 ∷ fresh.1 ∷ []) b (omega arith));
         contents = (content_same t.disk (with_blocks blocks t.disk) x.at first_same second_same ∙ held_there, tt);
         first = λ h b. subst (λ o. BeginsWith o superblock_entry) (sym (ap₂ holder first_same second_same)) b;
@@ -219,7 +219,7 @@ module _ (t : Kept) (ready : IsReady t) (last : ℕ) (chain before left after : 
       (subst (All (λ (z : Pair). content_at new.disk z.at ≡ Some z.content)) pairs is.thread.contents) in
       let here = each_right (λ (z : Pair). content_at new.disk z.at ≡ Some z.content) (before ++ left) (y ∷ f ∷ after)
       (each_right (λ (z : Pair). content_at new.disk z.at ≡ Some z.content) chain ((before ++ left) ++ (y ∷ f ∷ after)) contents) in
-      let shape : HasShape t.disk new.disk = record { block_size = writes.shape.block_size; page = writes.shape.page; count = writes.shape.count } in
+      let shape : HasShape t.disk new.disk = record { block_size = writes.shape.block_size; page = writes.shape.page; order = writes.shape.order; count = writes.shape.count } in
       let step = step_from new.disk (placed_from new.disk shape writes.others here.0 here.1.0 (subst (λ (c : Content). StaysFirst t.disk (pair_in t last).at c new.disk) same is.first)) in
       record {
         step = step;
@@ -261,7 +261,7 @@ module _ (t : Kept) (ready : IsReady t) (last : ℕ) (chain before left after : 
         disk = with_blocks blocks t.disk
 
         shape : HasShape t.disk (with_blocks blocks t.disk)
-        shape = record { block_size = refl; page = refl; count = is.others.count }
+        shape = record { block_size = refl; page = refl; order = refl; count = is.others.count }
 
         go : IsAsBefore held last (with_blocks blocks t.disk) ⊎ IsJoinedOn held last fresh (threading t last fresh) (with_blocks blocks t.disk) → IsLeft (with_blocks blocks t.disk) (tree_in t.disk t.pairs) tree
         go (inl b) =

@@ -41,7 +41,7 @@ writes_then : {bs : List ℕ} {old mid new : Kept} → Writes bs old mid → Wri
 writes_then f s = record {
   others = same_then f.others s.others;
   elsewhere = StayUnprogrammed-trans f.elsewhere s.elsewhere;
-  shape = record { block_size = s.shape.block_size ∙ f.shape.block_size; page = s.shape.page ∙ f.shape.page; count = s.shape.count ∙ f.shape.count };
+  shape = record { block_size = s.shape.block_size ∙ f.shape.block_size; page = s.shape.page ∙ f.shape.page; order = s.shape.order ∙ f.shape.order; count = s.shape.count ∙ f.shape.count };
   at_worst = LeavesOnly-trans f.at_worst (LeavesOnly-weaker (λ blocks k. same_then f.others k) s.at_worst);
 }
 
@@ -62,7 +62,7 @@ module _ (t : Kept) (index last : ℕ) (is_last : IsLastFrom t.pairs index last)
   first_wider : (new : Kept) (more : List ℕ) → Writes (four_of (pair_in t last).at fresh) (with_map t (flying t.map fresh)) new → Writes (own more) t new
   first_wider new more w =
       let k = writes_wider {bs = four_of (pair_in t last).at fresh} {cs = own more} {old = with_map t (flying t.map fresh)} {new = new} (covers_first more) w in
-      record { others = k.others; elsewhere = k.elsewhere; shape = record { block_size = k.shape.block_size; page = k.shape.page; count = k.shape.count }; at_worst = k.at_worst }
+      record { others = k.others; elsewhere = k.elsewhere; shape = record { block_size = k.shape.block_size; page = k.shape.page; order = k.shape.order; count = k.shape.count }; at_worst = k.at_worst }
 
   pub writes_first : (new : Kept) → Writes (four_of (pair_in t last).at fresh) (with_map t (flying t.map fresh)) new → WritesUpTo t index new
   writes_first new w = record {

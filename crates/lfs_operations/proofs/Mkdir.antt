@@ -73,7 +73,7 @@ holds_at t index w p there place ok =
 
 module _ (t : Kept) (index id : ℕ) (name : Name) (can : CanMake t index id name) (last : ℕ) (is_last : IsLastFrom t.pairs index last) (fresh : ℕ × ℕ) (two : AreTwoFree t.map fresh)
     (bytes : HasBytes t.disk.blocks) (many : block_count t.disk < 2 ^ 32) where
-  abbrev b : Belongs t.pairs can.first name index id
+  abbrev b : Belongs t.disk.order t.pairs can.first name index id
   b = can.belongs
 
   abbrev p : Pair
@@ -145,7 +145,7 @@ module _ (t : Kept) (index id : ℕ) (name : Name) (can : CanMake t index id nam
       (left_beside t can.ready last w.chain w.before way.left w.after x way.end fresh two made new.disk.blocks (with_directory t can.path name) others)
     where
       same_disk : with_blocks new.disk.blocks t.disk ≡ new.disk
-      same_disk = λ j. record { block_size = sym writes.shape.block_size j; page = sym writes.shape.page j; blocks = new.disk.blocks }
+      same_disk = λ j. record { block_size = sym writes.shape.block_size j; page = sym writes.shape.page j; order = sym writes.shape.order j; blocks = new.disk.blocks }
 
   -- ---- the entry comes
 
@@ -270,12 +270,13 @@ module _ (t : Kept) (index id : ℕ) (name : Name) (can : CanMake t index id nam
 
     -- ---- after it
 
-    place_there : IsPlace (entries_in (thread_at v (way.p2 ∷ [])) can.at) (place_at v b.left) name
-    place_there = subst (λ z. IsPlace z (place_at v b.left) name)
+    place_there : IsPlace m.disk.order (entries_in (thread_at v (way.p2 ∷ [])) can.at) (place_at v b.left) name
+    place_there = subst (λ o. IsPlace o (entries_in (thread_at v (way.p2 ∷ [])) can.at) (place_at v b.left) name) (sym h.step.device.geometry.order)
+        (subst (λ z. IsPlace t.disk.order z (place_at v b.left) name)
         (ap (λ z. entries_in z can.at) way.end.there
         ∙ sym (entries_still t can.ready last w.chain w.before way.left w.after x way.end fresh two made can.path can.at leads_here same_here m.disk h.step)
         ∙ ap (λ z. entries_in z can.at) same_thread)
-        (place_of_belongs t.disk t.pairs can.path can.at can.ready.accepted can.leads can.first index id name (no_move_from t.pairs can.ready.settled) b can.begins)
+        (place_of_belongs t.disk t.pairs can.path can.at can.ready.accepted can.leads can.first index id name (no_move_from t.pairs can.ready.settled) b can.begins))
 
     sync : (gstate_of (thread_at here (y ∷ ([] ++ f ∷ [])))).sync ≡ true
     sync = sync_now t can.ready last w.chain w.before way.left w.after x way.end fresh two made can.path can.at leads_here same_here
@@ -387,7 +388,7 @@ module _ (t : Kept) (index id : ℕ) (name : Name) (can : CanMake t index id nam
         (go (left_entered m index (naming m index id name fresh) v way.p2 b.left name fresh b.right entering left is))
       where
         same_disk : with_blocks left m.disk ≡ with_blocks left t.disk
-        same_disk = λ j. record { block_size = h.step.device.geometry.block_size j; page = h.step.device.geometry.page j; blocks = left }
+        same_disk = λ j. record { block_size = h.step.device.geometry.block_size j; page = h.step.device.geometry.page j; order = h.step.device.geometry.order j; blocks = left }
 
         go : Stays m index (naming m index id name fresh) v way.p2 b.left name fresh b.right entering (with_blocks left m.disk) ⊎ HasEntry m v way.p2 b.left name fresh b.right (with_blocks left m.disk)
             → IsLeftOf (with_blocks left m.disk) (tree_in t.disk t.pairs) (with_directory t can.path name)

@@ -37,7 +37,7 @@ module _ (disk middle new : Disk) (chain before left after : List Pair) (x y f :
     (put2 : IsPut middle (ahead_of chain before left f after) y q more l [] (new_directory name f.at ∷ []) r)
     (a : ℕ × ℕ) (leads : Leads (thread_at (last_site chain before left after) (x ∷ [])) P a)
     (same : same_pair (begin_of (last_site chain before left after) (x ∷ [])) a ≡ true)
-    (place : IsPlace (entries_in (thread_at (ahead_of chain before left f after) (y ∷ [])) a) (place_at (ahead_of chain before left f after) l) name)
+    (place : IsPlace middle.order (entries_in (thread_at (ahead_of chain before left f after) (y ∷ [])) a) (place_at (ahead_of chain before left f after) l) name)
     (sync : (gstate_of (thread_at (last_site chain before left after) (y ∷ ([] ++ f ∷ [])))).sync ≡ true)
     (settled : gstate_of (thread_at (last_site chain before left after) (x ∷ [])) ≡ no_gstate)
     (still : gstate_of (thread_at (ahead_of chain before left f after) (q ∷ more)) ≡ no_gstate) where

@@ -1,6 +1,7 @@
 -- Two pairs of one thread: a slot of the one comes into the other, and a set move hides it where it stood.
 use Rattle.std.proofs.Common.{ℕ, zero, suc, ◌≡◌, ◌≢◌, Bool, true, false, cond, not, nat_eq, ◌&&◌, List, [], ◌∷◌, ◌++◌, length, take, drop, refl, sym, ap, ap₂, subst, ◌∙◌, arith, flat_map, append_assoc, append-nil, remove, Less}
 use Rattle.std.proofs.lemmas.List.Elements.{filter-append}
+use Rattle.lfs_model.specs.declared.order.NameOrder.{NameOrder}
 use Rattle.lfs_model.specs.Disk.{Disk}
 use Rattle.lfs_model.specs.Names.{Name, name_cmp}
 use Rattle.lfs_model.specs.Slots.{Slot, Gstate, is_superblock, same_pair}
@@ -103,7 +104,7 @@ visible_each F g ss h = subst (Each F) (sym (hidden_visible g ss)) (to_entries F
 
 -- ---- a place
 
-less_parts : (xs ys : List Slot) (name : Name) → IsPlace (xs ++ ys) (length xs) name → Each (λ s. name_cmp s.name name ≡ Less) xs
+less_parts : {by : NameOrder} (xs ys : List Slot) (name : Name) → IsPlace by (xs ++ ys) (length xs) name → Each (λ s. name_cmp by s.name name ≡ Less) xs
 less_parts [] ys name h = tt
 less_parts (x ∷ xs) ys name h = (
   h.below 0 x (omega arith),
@@ -114,7 +115,7 @@ less_parts (x ∷ xs) ys name h = (
   }),
 )
 
-greater_parts : (xs ys : List Slot) (name : Name) → IsPlace (xs ++ ys) (length xs) name → Each (λ s. name_cmp name s.name ≡ Less) ys
+greater_parts : {by : NameOrder} (xs ys : List Slot) (name : Name) → IsPlace by (xs ++ ys) (length xs) name → Each (λ s. name_cmp by name s.name ≡ Less) ys
 greater_parts [] [] name h = tt
 greater_parts [] (y ∷ ys) name h = (
   h.above 0 y (omega arith) (omega arith),
@@ -233,17 +234,17 @@ module _ (disk new : Disk) (wo : Site) (o : Pair) (lo : List Slot) (u : Slot) (r
       ∙ sym (append_assoc (flat_map (visible h) w.left) (entries_only l) (entries_only r ++ flat_map (visible h) w.right))
 
   -- a name's place is between the same entries
-  pub hidden_place : (name : Name) → IsPlace (entries_in (thread_at w (p ∷ [])) a) (place_at w l) name
-      → IsPlace (put (entries_in (thread_at w (p ∷ []))) b (remove (entries_in (thread_at w (p ∷ [])) b) (place_at wo lo)) a) (length (flat_map (visible (gstate_of (thread_at w (q ∷ more)))) w.left ++ entries_only l)) name
+  pub hidden_place : (name : Name) → IsPlace disk.order (entries_in (thread_at w (p ∷ [])) a) (place_at w l) name
+      → IsPlace disk.order (put (entries_in (thread_at w (p ∷ []))) b (remove (entries_in (thread_at w (p ∷ [])) b) (place_at wo lo)) a) (length (flat_map (visible (gstate_of (thread_at w (q ∷ more)))) w.left ++ entries_only l)) name
   hidden_place name place =
       let shows : entries_in (thread_at w (p ∷ [])) a ≡ shown_before w l ++ shown_behind w r
       = site_shows disk w p l [] r a step.accepted step.site step.no_move same (sym (append-nil p.content.slots) ∙ step.was) in
-      let here = subst (λ z. IsPlace z (place_at w l) name) shows place in
-      let less = from_entries (λ s. name_cmp s.name name ≡ Less) (slots_in w.left ++ l) (less_parts (shown_before w l) (shown_behind w r) name here) in
-      let more_than = from_entries (λ s. name_cmp name s.name ≡ Less) (r ++ slots_in w.right) (greater_parts (shown_before w l) (shown_behind w r) name here) in
-      let L : Slot → Type 0 = λ s. name_cmp s.name name ≡ Less in
-      let G : Slot → Type 0 = λ s. name_cmp name s.name ≡ Less in
-      subst (λ z. IsPlace z (length shown_front) name) (sym there_before) (place_between shown_front shown_back name
+      let here = subst (λ z. IsPlace disk.order z (place_at w l) name) shows place in
+      let less = from_entries (λ s. name_cmp disk.order s.name name ≡ Less) (slots_in w.left ++ l) (less_parts (shown_before w l) (shown_behind w r) name here) in
+      let more_than = from_entries (λ s. name_cmp disk.order name s.name ≡ Less) (r ++ slots_in w.right) (greater_parts (shown_before w l) (shown_behind w r) name here) in
+      let L : Slot → Type 0 = λ s. name_cmp disk.order s.name name ≡ Less in
+      let G : Slot → Type 0 = λ s. name_cmp disk.order name s.name ≡ Less in
+      subst (λ z. IsPlace disk.order z (length shown_front) name) (sym there_before) (place_between shown_front shown_back name
       (each_append L (flat_map (visible h) w.left) (entries_only l) (visible_each L h w.left (each_left (IfOther L) (slots_in w.left) l less)) (to_entries L l (each_right (IfOther L) (slots_in w.left) l less)))
       (each_append G (entries_only r) (flat_map (visible h) w.right) (to_entries G r (each_left (IfOther G) r (slots_in w.right) more_than))
       (visible_each G h w.right (each_right (IfOther G) r (slots_in w.right) more_than))))

@@ -185,7 +185,7 @@ module _ (t : Kept) (old_pair old_id first new_pair new_id : ℕ) (name : Name) 
   abbrev goes : Bool
   goes = goes_whole t old_pair first
 
-  abbrev b : Belongs t.pairs rename.to_first name new_pair new_id
+  abbrev b : Belongs t.disk.order t.pairs rename.to_first name new_pair new_id
   b = rename.belongs
 
   abbrev p : Pair
@@ -309,7 +309,7 @@ module _ (t : Kept) (old_pair old_id first new_pair new_id : ℕ) (name : Name) 
       let k = stands_whole t old_pair old_id first can rename.begins_old whole in
       (flag_whole t old_pair old_id first can rename.begins_old whole, ap length k.held)
 
-  place : IsPlace (entries_in t.pairs rename.at) (place_at w b.left) name
+  place : IsPlace t.disk.order (entries_in t.pairs rename.at) (place_at w b.left) name
   place = place_of_belongs t.disk t.pairs rename.path rename.at can.ready.accepted rename.leads rename.to_first new_pair new_id name (no_move_from t.pairs can.ready.settled) b rename.begins
 
   abbrev from : Path
@@ -325,7 +325,7 @@ module _ (t : Kept) (old_pair old_id first new_pair new_id : ℕ) (name : Name) 
       rename.path rename.at (subst (λ z. Leads z rename.path rename.at) there rename.leads)
       (same t.disk t.pairs rename.path rename.at can.ready.accepted rename.leads rename.to_first new_pair p (b.later ++ b.rest) b.place rename.begins)
       setting refl (ap (λ (n : Name). rest_after (can.path ++ n ∷ []) to) can.stands.stands.named ∙ rename.not_beneath)
-      (subst (λ z. IsPlace (entries_in z rename.at) (place_at w b.left) name) there place))
+      (subst (λ z. IsPlace t.disk.order (entries_in z rename.at) (place_at w b.left) name) there place))
 
   is_first : IsFirst t false old_pair goes new_pair (moving_changes t old_pair old_id new_pair new_id name) wo q lo s ro w p b.left None v b.right from to name
   is_first = record {

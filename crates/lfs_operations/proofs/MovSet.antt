@@ -302,7 +302,7 @@ module _ (disk : Disk) (wo : Site) (o : Pair) (lo : List Slot) (u : Slot) (ro : 
     (P : Path) (b : ℕ × ℕ) (leads : Leads (thread_at w (p ∷ [])) P b) (same_old : same_pair (begin_of wo (o ∷ [])) b ≡ true)
     (Q : Path) (a : ℕ × ℕ) (arrives : Leads (thread_at w (p ∷ [])) Q a) (same : same_pair (begin_of w (p ∷ [])) a ≡ true) where
   pub set_new : IsSetting disk wo o lo u ro w p l [] v r → v ≡ record u { name = v.name } → rest_after (P ++ u.name ∷ []) (Q ++ v.name ∷ []) ≡ None
-      → IsPlace (entries_in (thread_at w (p ∷ [])) a) (place_at w l) v.name
+      → IsPlace disk.order (entries_in (thread_at w (p ∷ [])) a) (place_at w l) v.name
       → Follows disk (thread_at w (p ∷ [])) new (thread_at w (q ∷ more)) (renamed (P ++ u.name ∷ []) (Q ++ v.name ∷ [])) (walk_by (P ++ u.name ∷ []) (Q ++ v.name ∷ []))
   set_new k same_slot off place =
       let step = set_step disk wo o lo u ro w p l [] v r k sync new q more x in

@@ -393,7 +393,7 @@ module _ (t : Kept) (sync : Bool) (old_pair : ℕ) (goes : Bool) (new_pair : ℕ
           past (inr h) = within (among_parts (λ y. y ≡ z) (w.before ++ w.left) (p ∷ (w.right ++ w.after)) h)
 
       pub last_shape : HasShape t.disk last.disk
-      last_shape = record { block_size = e.shape.block_size ∙ x.shape.block_size; page = e.shape.page ∙ x.shape.page; count = e.shape.count ∙ x.shape.count }
+      last_shape = record { block_size = e.shape.block_size ∙ x.shape.block_size; page = e.shape.page ∙ x.shape.page; order = e.shape.order ∙ x.shape.order; count = e.shape.count ∙ x.shape.count }
 
       pub rename_completed : sync ≡ false → (s : Session) (old_bytes new_bytes : List ℕ) → s.tree ≡ tree_in t.disk t.pairs → as_path old_bytes ≡ old_path → as_path new_bytes ≡ new_path
           → IsCompleted t.disk t.pairs s (ops.Rename old_bytes new_bytes) last.disk last.pairs

@@ -81,7 +81,7 @@ writes_then : (bs : List ℕ) (old mid new : Kept) → Writes bs old mid → Wri
 writes_then bs old mid new v w = record {
   others = SameButThese-trans v.others w.others;
   elsewhere = StayUnprogrammed-trans v.elsewhere w.elsewhere;
-  shape = record { block_size = w.shape.block_size ∙ v.shape.block_size; page = w.shape.page ∙ v.shape.page; count = w.shape.count ∙ v.shape.count };
+  shape = record { block_size = w.shape.block_size ∙ v.shape.block_size; page = w.shape.page ∙ v.shape.page; order = w.shape.order ∙ v.shape.order; count = w.shape.count ∙ v.shape.count };
   at_worst = LeavesOnly-trans v.at_worst (LeavesOnly-weaker (λ blocks k. SameButThese-trans v.others k) w.at_worst);
 }
 
@@ -272,7 +272,7 @@ pub survives_first : (old mid : Kept) (index : ℕ) (changes : List Change) → 
 survives_first old mid index changes stops before after first shows = first mid.history stops
 
 same_disk : (old new : Disk) (blocks : Blocks) → HasShape old new → with_blocks blocks new ≡ with_blocks blocks old
-same_disk old new blocks h = λ j. record { block_size = h.block_size j; page = h.page j; blocks = blocks }
+same_disk old new blocks h = λ j. record { block_size = h.block_size j; page = h.page j; order = h.order j; blocks = blocks }
 
 pub survives_both : (old mid new : Kept) (index : ℕ) (changes : List Change) {P : Event → Type 0} → IsPut old index changes mid → StopsLeave old.history mid.history (IsLeftByPut old index changes)
     → WritesIn old index mid → EachSince P mid.history new.history → Survives mid.disk mid.history new.history (tree_in mid.disk mid.pairs) (tree_in mid.disk mid.pairs) → SurvivesBoth old index changes new

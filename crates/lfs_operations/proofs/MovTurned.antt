@@ -158,7 +158,7 @@ module _ (t : Kept) (index : ℕ) (changes : List Change) (w : Site) (p : Pair) 
   -- ---- on the disk
 
   shape_same : {disk : Disk} → HasShape t.disk disk → SameGeometry t.disk disk
-  shape_same s = record { block_size = s.block_size; page = s.page; count = s.count }
+  shape_same s = record { block_size = s.block_size; page = s.page; order = s.order; count = s.count }
 
   same_two : (disk : Disk) → OutsideKeeps p.at t.disk.blocks disk.blocks → (b : ℕ) → count b (blocks_of (p ∷ [])) ≡ 0 → block_at disk b ≡ block_at t.disk b
   same_two disk others b none = others.others b (all_apart (p.at.0 ∷ p.at.1 ∷ []) b none)
@@ -310,7 +310,7 @@ module _ (t : Kept) (index : ℕ) (changes : List Change) (w : Site) (p : Pair) 
   Stays disk = IsDevice t.disk disk (thread_at w (p ∷ [])) (thread_at w (p ∷ []))
 
   shape_of : (left : Blocks) → length left ≡ length t.disk.blocks → HasShape t.disk (with_blocks left t.disk)
-  shape_of left e = record { block_size = refl; page = refl; count = e }
+  shape_of left e = record { block_size = refl; page = refl; order = refl; count = e }
 
   pub left_alone : (left : Blocks) → IsLeft t index changes left
       → Stays (with_blocks left t.disk) ⊎ HasTurned t.disk w p slots move (with_blocks left t.disk) (record { at = p.at; content = content_with p slots move }) []

@@ -56,7 +56,7 @@ replaced_by disk ps P a k u d old ok leads there branch empty apart = record {
   where
     below : (t : Path) → directory_at (entries_in ps) (root_of ps) ((P ++ u.name ∷ []) ++ t) ≡ directory_from (entries_in ps) u t
     below t = ap (directory_at (entries_in ps) (root_of ps)) (append_step P u.name t) ∙ leads_below (entries_in ps) (root_slot (root_of ps)) P a leads u.name t
-        ∙ ap (option_and_then (λ z. directory_from (entries_in ps) z t)) (found_at (entries_in ps a) k u ((accepted_sound disk ps ok).tree.order P a leads) there)
+        ∙ ap (option_and_then (λ z. directory_from (entries_in ps) z t)) (found_at disk.order (entries_in ps a) k u ((accepted_sound disk ps ok).tree.order P a leads) there)
 
     leaf : (x : ℕ × ℕ) → branch_of u.struct ≡ Some x → entries_in ps x ≡ []
     leaf x e = ap (entries_in ps) (same_Some x d (sym e ∙ ap branch_of branch)) ∙ empty
@@ -231,7 +231,7 @@ module _ (t m : Kept) (from to : Path) (d : ℕ × ℕ) (o : Pair) (n : ℕ) (k 
   -- ---- at a stop
 
   same_shape : (left : Blocks) → with_blocks left m.disk ≡ with_blocks left t.disk
-  same_shape left = λ j. record { block_size = k.shape.block_size j; page = k.shape.page j; blocks = left }
+  same_shape left = λ j. record { block_size = k.shape.block_size j; page = k.shape.page j; order = k.shape.order j; blocks = left }
 
   h : HasSite m.pairs (n - 1)
   h = site_of_number m.disk m.pairs (n - 1) k.taken.follows.accepted

@@ -125,7 +125,7 @@ writes_none t index = record {
   writes = record {
     others = record { count = refl; sizes = λ b. refl; others = λ b apart. refl };
     elsewhere = StayUnprogrammed-refl ((pair_in t index).at.0 ∷ (pair_in t index).at.1 ∷ []) t.history;
-    shape = record { block_size = refl; page = refl; count = refl };
+    shape = record { block_size = refl; page = refl; order = refl; count = refl };
     at_worst = began;
   };
 }

@@ -178,7 +178,7 @@ module _ (old now : Kept) (dropped : ℕ) (u : IsUnderWay old now dropped []) wh
       still = subst HasNoMove (sym c.settled) (record { kind = refl; id = refl; pair = refl })
 
       geometry : SameGeometry now.disk new.disk
-      geometry = record { block_size = on.shape.block_size; page = on.shape.page; count = on.shape.count }
+      geometry = record { block_size = on.shape.block_size; page = on.shape.page; order = on.shape.order; count = on.shape.count }
 
       files : SameFiles now.disk new.disk (all_slots now.pairs)
       files = recursion_from_All (λ (s : Slot). HasSameFile now.disk new.disk s.struct) (all_slots now.pairs) c.files
@@ -194,7 +194,7 @@ module _ (old now : Kept) (dropped : ℕ) (u : IsUnderWay old now dropped []) wh
       (subst (λ z. IsLeftOf (with_blocks left now.disk) z z) shows_now x)) (last clean))
     where
       disk_is : (left : Blocks) → with_blocks left now.disk ≡ with_blocks left old.disk
-      disk_is left = ap₂ (λ (a b : ℕ). record { block_size = a; page = b; blocks = left }) u.device.shape.block_size u.device.shape.page
+      disk_is left = λ j. record { block_size = u.device.shape.block_size j; page = u.device.shape.page j; order = u.device.shape.order j; blocks = left }
 
 -- ---- what the steps tell
 

@@ -74,7 +74,7 @@ module _ (t : Kept) (chain front : List Pair) (p : Pair) (back : List Pair) (ind
   pub placed_by : (disk : Disk) (c : Content) → (HasFirst p.content.slots → SlotsHaveFirst c.slots) → IsAccepted t.disk (chain ++ (front ++ p ∷ back)) → IsWrittenAs t index c disk
       → IsDevice t.disk disk (chain ++ (front ++ p ∷ back)) (chain ++ (front ++ record { at = p.at; content = c } ∷ back))
   placed_by disk c keeps ok is = device t.disk disk site p (record { at = p.at; content = c }) [] [] ok ok.owned_once (record {
-    geometry = record { block_size = is.shape.block_size; page = is.shape.page; count = is.shape.count };
+    geometry = record { block_size = is.shape.block_size; page = is.shape.page; order = is.shape.order; count = is.shape.count };
     same = λ b none. (subst (λ at. OutsideKeeps at t.disk.blocks disk.blocks) at_is is.others).others b (all_apart (p.at.0 ∷ p.at.1 ∷ []) b none);
     contents = (ap (content_at disk) (sym at_is) ∙ is.holds, tt);
     first = λ h b. subst (λ at. BeginsWith (holder_at disk at) superblock_entry) at_is

@@ -52,11 +52,11 @@ pub record StaysOn (old new : Kept) : Type 0 where
   pub calls : EachSince (λ e. Unit {0}) old.history new.history
 
 pub stays_itself : (t : Kept) → StaysOn t t
-stays_itself t = record { shape = record { block_size = refl; page = refl; count = refl }; calls = record { events = []; extends = refl; each = tt } }
+stays_itself t = record { shape = record { block_size = refl; page = refl; order = refl; count = refl }; calls = record { events = []; extends = refl; each = tt } }
 
 pub stays_then : (a b c : Kept) → StaysOn a b → StaysOn b c → StaysOn a c
 stays_then a b c h k = record {
-  shape = record { block_size = k.shape.block_size ∙ h.shape.block_size; page = k.shape.page ∙ h.shape.page; count = k.shape.count ∙ h.shape.count };
+  shape = record { block_size = k.shape.block_size ∙ h.shape.block_size; page = k.shape.page ∙ h.shape.page; order = k.shape.order ∙ h.shape.order; count = k.shape.count ∙ h.shape.count };
   calls = goes_on_by h.calls k.calls;
 }
 
@@ -309,7 +309,7 @@ module _ (old now : Kept) (dropped number : ℕ) (rest : List ℕ) (n : IsNext o
     shows = ap (tree_in now.disk) (n.way.there ∙ ap (λ z. C ++ (n.kept ++ z)) (sym (joined_singles (n.x ∷ n.todo)))) ∙ n.way.is.taken.follows.shows
 
     disk_is : StaysOn old now → (left : Blocks) → with_blocks left now.disk ≡ with_blocks left old.disk
-    disk_is d left = ap₂ (λ (a b : ℕ). record { block_size = a; page = b; blocks = left }) d.shape.block_size d.shape.page
+    disk_is d left = λ j. record { block_size = d.shape.block_size j; page = d.shape.page j; order = d.shape.order j; blocks = left }
 
     number_there : slice_index_or old.pairs number no_pair ≡ n.x
     number_there = numbered old.pairs C n.seen n.x n.todo number n.way.is.are

@@ -36,7 +36,7 @@ pub writes_none : (bs : List ℕ) (t : Kept) → Writes bs t t
 writes_none bs t = record {
   others = SameButThese-refl bs t.disk.blocks;
   elsewhere = StayUnprogrammed-refl bs t.history;
-  shape = record { block_size = refl; page = refl; count = refl };
+  shape = record { block_size = refl; page = refl; order = refl; count = refl };
   at_worst = record { events = []; extends = refl; each = tt };
 }
 

@@ -51,7 +51,7 @@ pub only_read_writes : (t mid : Kept) (bs : List ℕ) → IsOnlyRead t mid → W
 only_read_writes t mid bs only = subst (λ (k : Kept). Writes bs t k) (sym (read_is t mid only)) (record {
   others = record { count = refl; sizes = λ b. refl; others = λ b apart. refl };
   elsewhere = StayUnprogrammed-reads bs only.reads;
-  shape = record { block_size = refl; page = refl; count = refl };
+  shape = record { block_size = refl; page = refl; order = refl; count = refl };
   at_worst = LeavesOnly-reads AtWorst-read only.reads (record { count = refl; sizes = λ b. refl; others = λ b apart. refl });
 })
 
@@ -64,7 +64,7 @@ change_stops_after_read t mid new index changes bs only ready first p rest place
       written = record {
         holds = holds t ready first index p rest place ∙ ap (λ (z : Pair). Some z.content) (sym (here t ready first index p rest place));
         others = record { count = refl; sizes = λ b. refl; others = λ b apart. refl };
-        shape = record { block_size = refl; page = refl; count = refl };
+        shape = record { block_size = refl; page = refl; order = refl; count = refl };
         first = λ b k. b;
       };
     })) (LeavesOnly-weaker (λ left l. earlier left (subst (λ (k : Kept). IsLeft k index changes left) (read_is t mid only) l)) (stops (EachSince-behind clean only.reads writes.at_worst)))

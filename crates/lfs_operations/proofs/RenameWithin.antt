@@ -45,7 +45,7 @@ module _ (t : Kept) (index id place : ℕ) (name : Name) (rename : CanRename t i
   abbrev can : CanEdit t index id
   can = rename.can
 
-  abbrev b : Belongs t.pairs can.first name index place
+  abbrev b : Belongs t.disk.order t.pairs can.first name index place
   b = rename.belongs
 
   abbrev p : Pair
@@ -89,8 +89,8 @@ module _ (t : Kept) (index id place : ℕ) (name : Name) (rename : CanRename t i
   same_there : same_pair (begin_of w (p ∷ [])) can.at ≡ true
   same_there = same t.disk t.pairs can.path can.at can.ready.accepted can.leads can.first index p (b.later ++ b.rest) b.place can.begins
 
-  place_there : IsPlace (entries_in (thread_at w (p ∷ [])) can.at) (place_at w b.left) name
-  place_there = subst (λ z. IsPlace (entries_in z can.at) (place_at w b.left) name) there
+  place_there : IsPlace t.disk.order (entries_in (thread_at w (p ∷ [])) can.at) (place_at w b.left) name
+  place_there = subst (λ z. IsPlace t.disk.order (entries_in z can.at) (place_at w b.left) name) there
       (place_of_belongs t.disk t.pairs can.path can.at can.ready.accepted can.leads can.first index place name (no_move_from t.pairs can.ready.settled) b can.begins)
 
   fits_here : FitsPair t.disk.block_size t.disk.page p.content
@@ -175,8 +175,8 @@ module _ (t : Kept) (index id place : ℕ) (name : Name) (rename : CanRename t i
           (given_is ∙ ap (λ n. can.path ++ n ∷ []) (sym s.named)) to_is;
     }
       where
-        place_now : IsPlace (entries_in (thread_at w (p ∷ [])) can.at) (place_at w (s.left ++ u ∷ d.passed)) name
-        place_now = subst (λ z. IsPlace (entries_in (thread_at w (p ∷ [])) can.at) (place_at w z) name) d.front place_there
+        place_now : IsPlace t.disk.order (entries_in (thread_at w (p ∷ [])) can.at) (place_at w (s.left ++ u ∷ d.passed)) name
+        place_now = subst (λ z. IsPlace t.disk.order (entries_in (thread_at w (p ∷ [])) can.at) (place_at w z) name) d.front place_there
 
   -- ---- in front of it
 

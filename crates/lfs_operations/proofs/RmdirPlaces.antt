@@ -90,7 +90,7 @@ directory_led disk ps P a k u d ok leads there branch =
     let E = entries_in ps in
     ap (directory_at (entries_in ps) (root_of ps)) (sym (append-nil (P ++ u.name ∷ [])) ∙ append_step P u.name [])
     ∙ leads_below (entries_in ps) (root_slot (root_of ps)) P a leads u.name []
-    ∙ ap (option_and_then (λ z. directory_from (entries_in ps) z [])) (found_at (entries_in ps a) k u ((accepted_sound disk ps ok).tree.order P a leads) there)
+    ∙ ap (option_and_then (λ z. directory_from (entries_in ps) z [])) (found_at disk.order (entries_in ps a) k u ((accepted_sound disk ps ok).tree.order P a leads) there)
     ∙ ap branch_of branch
 
 path_some : (P : Path) (n : List ℕ) → [] ≡ P ++ n ∷ [] → ⊥

@@ -190,7 +190,7 @@ module _ (t : Kept) (index id first gone : ℕ) (take : CanRemoveDirectory t ind
 
   placed : (disk : Disk) (d : Content) → (HasFirst p.content.slots → SlotsHaveFirst d.slots) → IsWrittenAs t index d disk → IsPlaced t.disk disk p (record { at = p.at; content = d }) [] []
   placed disk d first h = record {
-    geometry = record { block_size = h.shape.block_size; page = h.shape.page; count = h.shape.count };
+    geometry = record { block_size = h.shape.block_size; page = h.shape.page; order = h.shape.order; count = h.shape.count };
     same = λ b none. (subst (λ at. OutsideKeeps at t.disk.blocks disk.blocks) at_is h.others).others b (all_apart (p.at.0 ∷ p.at.1 ∷ []) b none);
     contents = (ap (content_at disk) (sym at_is) ∙ h.holds, tt);
     first = λ k b. subst (λ at. BeginsWith (holder_at disk at) superblock_entry) at_is (h.first (subst (λ at. BeginsWith (holder_at t.disk at) superblock_entry) (sym at_is) b) (first k));
@@ -386,7 +386,7 @@ module _ (t : Kept) (index id first gone : ℕ) (take : CanRemoveDirectory t ind
     -- ---- at a stop in the second step
 
     same_shape : (left : Blocks) → with_blocks left m.disk ≡ with_blocks left t.disk
-    same_shape left = λ j. record { block_size = h.written.shape.block_size j; page = h.written.shape.page j; blocks = left }
+    same_shape left = λ j. record { block_size = h.written.shape.block_size j; page = h.written.shape.page j; order = h.written.shape.order j; blocks = left }
 
     site_middle : IsSite w (q ∷ [])
     site_middle = record {

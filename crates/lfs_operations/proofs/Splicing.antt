@@ -171,7 +171,7 @@ module _ (t : Kept) (index : ℕ) (changes : List Change) (w : Site) (p : Pair) 
   -- ---- on the disk
 
   shape_same : {disk : Disk} → HasShape t.disk disk → SameGeometry t.disk disk
-  shape_same s = record { block_size = s.block_size; page = s.page; count = s.count }
+  shape_same s = record { block_size = s.block_size; page = s.page; order = s.order; count = s.count }
 
   same_two : (disk : Disk) → OutsideKeeps p.at t.disk.blocks disk.blocks → (b : ℕ) → count b (blocks_of (p ∷ [])) ≡ 0 → block_at disk b ≡ block_at t.disk b
   same_two disk others b none = others.others b (all_apart (p.at.0 ∷ p.at.1 ∷ []) b none)

@@ -165,7 +165,7 @@ module _ (t : Kept) (index : ℕ) (changes : List Change) (w : Site) (p : Pair) 
   Stays disk = IsDevice t.disk disk (thread_at w (p ∷ [])) (thread_at w (p ∷ []))
 
   shape_of : (left : Blocks) → length left ≡ length t.disk.blocks → HasShape t.disk (with_blocks left t.disk)
-  shape_of left e = record { block_size = refl; page = refl; count = e }
+  shape_of left e = record { block_size = refl; page = refl; order = refl; count = e }
 
   left_one : (left : Blocks) → IsLeft t index changes left → Stays (with_blocks left t.disk) ⊎ HasCommit t w p l olds news r come (with_blocks left t.disk)
   left_one left is = go is.is

@@ -38,6 +38,7 @@ writes_trans first second = record {
   shape = record {
     block_size = second.shape.block_size ∙ first.shape.block_size;
     page = second.shape.page ∙ first.shape.page;
+    order = second.shape.order ∙ first.shape.order;
     count = second.shape.count ∙ first.shape.count;
   };
   at_worst = LeavesOnly-trans first.at_worst (LeavesOnly-weaker (λ blocks k. SameButThese-trans first.others k) second.at_worst);

@@ -402,7 +402,7 @@ module _ (t : Kept) (index id first gone : ℕ) (take : CanRemoveDirectory t ind
     -- ---- at a stop in the second step
 
     same_shape : (left : Blocks) → with_blocks left m.disk ≡ with_blocks left t.disk
-    same_shape left = λ j. record { block_size = h.written.shape.block_size j; page = h.written.shape.page j; blocks = left }
+    same_shape left = λ j. record { block_size = h.written.shape.block_size j; page = h.written.shape.page j; order = h.written.shape.order j; blocks = left }
 
     site_middle : IsSite w (q ∷ [])
     site_middle = record {

@@ -30,7 +30,7 @@ pub record CanCreate (t : Kept) (pair id : ℕ) (name : Name) : Type 0 where
   pub leads : Leads t.pairs path at
   pub first : ℕ
   pub begins : BeginsAt t.pairs at first
-  pub belongs : Belongs t.pairs first name pair id
+  pub belongs : Belongs t.disk.order t.pairs first name pair id
   pub is_name : is_name name ≡ true
   pub fits : FitsEntry t.disk.block_size t.disk.page (new_file name)
   pub logged : IsLoggedAt t.disk (pair_in t pair).at

@@ -47,7 +47,7 @@ pub record CanMake (t : Kept) (pair id : ℕ) (name : Name) : Type 0 where
   pub leads : Leads t.pairs path at
   pub first : ℕ
   pub begins : BeginsAt t.pairs at first
-  pub belongs : Belongs t.pairs first name pair id
+  pub belongs : Belongs t.disk.order t.pairs first name pair id
   pub is_name : is_name name ≡ true
   pub fits : charge_of t.disk.block_size name [] ≤ entry_limit t.disk.block_size t.disk.page
   pub room : HasRoomFor 4 t.map

@@ -36,7 +36,7 @@ pub record CanRenameAcross (t : Kept) (old_pair old_id first new_pair new_id : �
   pub leads : Leads t.pairs path at
   pub to_first : ℕ
   pub begins : BeginsAt t.pairs at to_first
-  pub belongs : Belongs t.pairs to_first name new_pair new_id
+  pub belongs : Belongs t.disk.order t.pairs to_first name new_pair new_id
   pub logged : IsLoggedAt t.disk (pair_in t new_pair).at
   pub apart : old_pair ≢ new_pair
   pub not_beneath : rest_after (old.path ++ old.name ∷ []) (path ++ name ∷ []) ≡ None

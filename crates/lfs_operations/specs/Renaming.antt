@@ -33,7 +33,7 @@ rename_changes t pair id place name = Delete id ∷ slot_changes (place_without 
 -- directory. The entry may be written under it.
 pub record CanRename (t : Kept) (pair id place : ℕ) (name : Name) : Type 0 where
   pub can : CanEdit t pair id
-  pub belongs : Belongs t.pairs can.first name pair place
+  pub belongs : Belongs t.disk.order t.pairs can.first name pair place
   pub is_name : is_name name ≡ true
   pub fits : FitsEntry t.disk.block_size t.disk.page (record (slot_at can) { name = name })
 

@@ -11,7 +11,7 @@ use Rattle.lfs_model.specs.Geometry.{is_page}
 use Rattle.lfs_model.specs.EntryTypes.{no_id}
 use Rattle.lfs_model.specs.Commit.{next_at, checksum_type}
 use Rattle.lfs_tag.specs.Builder.{Building, checksum_start, padded_end}
-use Rattle.lfs_tag.proofs.BuilderCommits.{IsChecksumKind, class_of_kind}
+use Rattle.lfs_tag.proofs.BuilderCommits.{IsChecksumKind, class_of_kind, not_forward}
 
 -- ---- the checksum's tag
 
@@ -86,7 +86,8 @@ carried_is kind size k small =
     let is = kind_is kind size k small in
     let class : class_of (tag_with kind no_id size) ≡ 5 = class_of_kind (tag_with kind no_id size) (kind_of_cases kind (tag_with kind no_id size) k is) in
     let bit : chunk_of (tag_with kind no_id size) % 2 ≡ kind % 2 = ap (λ (n : ℕ). n % 2 ^ 8 % 2) is ∙ omega arith in
-    rw (class, bit) refl
+    let plain = not_forward (tag_with kind no_id size) (kind_of_cases kind (tag_with kind no_id size) k is) in
+    rw (class, plain, bit) refl
 
 pub nothing_follows : (block : List ℕ) (end size : ℕ) (next : Option (List ℕ)) → IfSome next AreBytes → size < 2 ^ 10 → next_at block end ≡ next
     → entry_at block end (carried (tag_with (checksum_type next) no_id size)) ≡ None

@@ -8,7 +8,7 @@ use Rattle.std.proofs.Math.Seq.{take-append_seam, drop-append_seam}
 use Rattle.byteorder.specs.Endian.{big_number, big_bytes, little_number, little_bytes}
 use Rattle.byteorder.specs.Numbers.{big_number-reads_back, little_number-reads_back}
 use Rattle.lfs_model.specs.Crc.{crc_of}
-use Rattle.lfs_model.specs.Tag.{IsValid, kind_of, len_of, class_of, data_size, carried}
+use Rattle.lfs_model.specs.Tag.{IsValid, kind_of, len_of, class_of, data_size, is_forward_checksum, carried}
 use Rattle.lfs_model.specs.Log.{LogEntry, entry_at, past, is_checksum, closes, IsCommit}
 use Rattle.lfs_model.specs.Commit.{stored, entries_size}
 use Rattle.lfs_tag.specs.BuilderKeeps.{last_tag, AreStorable}
@@ -65,6 +65,11 @@ pub class_of_kind : (tag : ℕ) → IsChecksumKind tag → class_of tag ≡ 5
 class_of_kind tag (inl h) = ap (λ (k : ℕ). k / 2 ^ 8) h
 class_of_kind tag (inr h) = ap (λ (k : ℕ). k / 2 ^ 8) h
 
+-- a checksum is no forward checksum
+pub not_forward : (tag : ℕ) → IsChecksumKind tag → is_forward_checksum tag ≡ false
+not_forward tag (inl h) = rw h refl
+not_forward tag (inr h) = rw h refl
+
 kind_passes : (tag : ℕ) → IsChecksumKind tag → (eqb (kind_of tag) 0x500 || eqb (kind_of tag) 0x501) ≡ true
 kind_passes tag (inl h) = rw h refl
 kind_passes tag (inr h) = rw h refl
@@ -81,7 +86,7 @@ closing block front rest pad start at tag before sum kind valid fits small size 
     let behind : drop at block ≡ stored_tag ++ (e.bytes ++ rest) = ap (λ (n : ℕ). drop n block) place ∙ sym (drop-drop (length front) start block) ∙ ap (drop (length front)) here ∙ drop-append_seam front (stored_tag ++ (e.bytes ++ rest)) in
     let bytes_size : length e.bytes ≡ data_size tag = grind (arith, nat_tests, size, most) in
     let read : entry_at block at before ≡ Some e = entry_read block rest at before e valid bytes_size fits behind in
-    let sum_class : is_checksum e ≡ true = rw (class_of_kind tag kind) refl in
+    let sum_class : is_checksum e ≡ true = rw (class_of_kind tag kind, not_forward tag kind) refl in
     let low : leb 4 (len_of tag) ≡ true = grind (arith, nat_tests, size) in
     let high : leb (len_of tag) 1022 ≡ true = grind (arith, nat_tests, most) in
     let range : slice_range block start (at + 4) ≡ front ++ stored_tag =

@@ -7,6 +7,8 @@ use Rattle.std.proofs.lemmas.Bool.{cases_lt}
 use Rattle.std.proofs.lemmas.Bool.Decides.{nat_tests}
 use Rattle.std.proofs.lemmas.Option.{option_and_then_some, same_Some}
 use Rattle.std.proofs.lemmas.List.{map-append, map-set, length-map, get_or_past}
+use Rattle.lfs_model.proofs.Orders.{same_by}
+use Rattle.lfs_model.specs.declared.order.NameOrder.{NameOrder}
 use Rattle.lfs_model.specs.Tag.{kind_of, id_of, class_of}
 use Rattle.lfs_model.specs.Log.{LogEntry, log_entries, chain_of}
 use Rattle.lfs_model.specs.Names.{Name, name_cmp, same_name, is_same, is_less}
@@ -23,72 +25,72 @@ Rank = Option Ordering
 
 -- ---- one entry
 
-empty_ranks : (name : Name) (n : ℕ) → map (rank_of name) (replicate n empty_slot) ≡ replicate n None
-empty_ranks name zero = refl
-empty_ranks name (suc n) = ap (λ rs. None ∷ rs) (empty_ranks name n)
+empty_ranks : (order : NameOrder) (name : Name) (n : ℕ) → map (rank_of order name) (replicate n empty_slot) ≡ replicate n None
+empty_ranks order name zero = refl
+empty_ranks order name (suc n) = ap (λ rs. None ∷ rs) (empty_ranks order name n)
 
-up_to_ranks : (name : Name) (slots : List RawSlot) (i : ℕ) → map (rank_of name) (up_to slots i) ≡ ranks_up_to (map (rank_of name) slots) i
-up_to_ranks name slots i =
-    map-append (rank_of name) slots (replicate (i + 1 - length slots) empty_slot)
-    ∙ ap (λ rs. map (rank_of name) slots ++ rs) (empty_ranks name (i + 1 - length slots) ∙ ap (λ n. replicate (i + 1 - n) None) (sym (length-map slots (rank_of name))))
+up_to_ranks : (order : NameOrder) (name : Name) (slots : List RawSlot) (i : ℕ) → map (rank_of order name) (up_to slots i) ≡ ranks_up_to (map (rank_of order name) slots) i
+up_to_ranks order name slots i =
+    map-append (rank_of order name) slots (replicate (i + 1 - length slots) empty_slot)
+    ∙ ap (λ rs. map (rank_of order name) slots ++ rs) (empty_ranks order name (i + 1 - length slots) ∙ ap (λ n. replicate (i + 1 - n) None) (sym (length-map slots (rank_of order name))))
 
 -- a change that leaves a slot's name leaves its rank
-same_ranks : (name : Name) (f : RawSlot → RawSlot) → ((r : RawSlot) → (f r).name ≡ r.name) → (slots : List RawSlot) (i : ℕ) → map (rank_of name) (changed f slots i) ≡ map (rank_of name) slots
-same_ranks name f same [] i = refl
-same_ranks name f same (s ∷ slots) zero = ap (λ r. r ∷ map (rank_of name) slots) (ap (λ n. option_map (name_cmp name) (option_and_then (λ (p : ℕ × List ℕ). cond (eqb p.0 superblock_name_type) None (Some p.1)) n)) (same s))
-same_ranks name f same (s ∷ slots) (suc i) = ap (λ rs. rank_of name s ∷ rs) (same_ranks name f same slots i)
+same_ranks : (order : NameOrder) (name : Name) (f : RawSlot → RawSlot) → ((r : RawSlot) → (f r).name ≡ r.name) → (slots : List RawSlot) (i : ℕ) → map (rank_of order name) (changed f slots i) ≡ map (rank_of order name) slots
+same_ranks order name f same [] i = refl
+same_ranks order name f same (s ∷ slots) zero = ap (λ r. r ∷ map (rank_of order name) slots) (ap (λ n. option_map (name_cmp order name) (option_and_then (λ (p : ℕ × List ℕ). cond (eqb p.0 superblock_name_type) None (Some p.1)) n)) (same s))
+same_ranks order name f same (s ∷ slots) (suc i) = ap (λ rs. rank_of order name s ∷ rs) (same_ranks order name f same slots i)
 
-named_rank : (name : Name) (e : LogEntry) (r : RawSlot) → rank_of name (record r { name = typed e }) ≡ entry_rank name e
-named_rank name e r = by_test (eqb (kind_of e.tag) superblock_name_type)
+named_rank : (order : NameOrder) (name : Name) (e : LogEntry) (r : RawSlot) → rank_of order name (record r { name = typed e }) ≡ entry_rank order name e
+named_rank order name e r = by_test (eqb (kind_of e.tag) superblock_name_type)
   where
-    by_test : (b : Bool) → option_map (name_cmp name) (cond b None (Some e.bytes)) ≡ cond b None (Some (name_cmp name e.bytes))
+    by_test : (b : Bool) → option_map (name_cmp order name) (cond b None (Some e.bytes)) ≡ cond b None (Some (name_cmp order name e.bytes))
     by_test true = refl
     by_test false = refl
 
-rank_step : (name : Name) (s t : List RawSlot) (e : LogEntry) → Effect s t e → ranks_after name (map (rank_of name) s) e ≡ map (rank_of name) t
-rank_step name s t e (rests high same) =
+rank_step : (order : NameOrder) (name : Name) (s t : List RawSlot) (e : LogEntry) → Effect s t e → ranks_after order name (map (rank_of order name) s) e ≡ map (rank_of order name) t
+rank_step order name s t e (rests high same) =
     let a : eqb (class_of e.tag) 0 ≡ false = grind (arith, nat_tests) in
     let b : eqb (class_of e.tag) 4 ≡ false = grind (arith, nat_tests) in
-    rw (a, b) (ap (map (rank_of name)) (sym same))
-rank_step name s t e (names class keeps is) =
+    rw (a, b) (ap (map (rank_of order name)) (sym same))
+rank_step order name s t e (names class keeps is) =
     let a : eqb (class_of e.tag) 0 ≡ true = grind (arith, nat_tests) in
     let i = id_of e.tag in
     let all = up_to s i in
     let r = slot_of_id all i in
-    rw (a, is) (ap (λ rs. set rs i (entry_rank name e)) (sym (up_to_ranks name s i)) ∙ ap (set (map (rank_of name) all) i) (sym (named_rank name e r)) ∙ sym (map-set (rank_of name) all i (record r { name = typed e })))
-rank_step name s t e (creates class create le is) =
+    rw (a, is) (ap (λ rs. set rs i (entry_rank order name e)) (sym (up_to_ranks order name s i)) ∙ ap (set (map (rank_of order name) all) i) (sym (named_rank order name e r)) ∙ sym (map-set (rank_of order name) all i (record r { name = typed e })))
+rank_step order name s t e (creates class create le is) =
     let a : eqb (class_of e.tag) 0 ≡ false = grind (arith, nat_tests) in
     let b : eqb (class_of e.tag) 4 ≡ true = grind (arith, nat_tests) in
     let c : eqb (kind_of e.tag) create_type ≡ true = grind (arith, nat_tests) in
-    let len = length-map s (rank_of name) in
-    let d : leb (id_of e.tag) (length (map (rank_of name) s)) ≡ true = rw len (grind (arith, nat_tests)) in
-    rw (a, b, c, d, is) (sym (map-insert (rank_of name) s (id_of e.tag) empty_slot))
-rank_step name s t e (deletes class delete lt is) =
+    let len = length-map s (rank_of order name) in
+    let d : leb (id_of e.tag) (length (map (rank_of order name) s)) ≡ true = rw len (grind (arith, nat_tests)) in
+    rw (a, b, c, d, is) (sym (map-insert (rank_of order name) s (id_of e.tag) empty_slot))
+rank_step order name s t e (deletes class delete lt is) =
     let a : eqb (class_of e.tag) 0 ≡ false = grind (arith, nat_tests) in
     let b : eqb (class_of e.tag) 4 ≡ true = grind (arith, nat_tests) in
     let c : eqb (kind_of e.tag) create_type ≡ false = grind (arith, nat_tests) in
-    let len = length-map s (rank_of name) in
-    let d : ltb (id_of e.tag) (length (map (rank_of name) s)) ≡ true = rw len (grind (arith, nat_tests)) in
-    rw (a, b, c, d, is) (sym (map-remove (rank_of name) s (id_of e.tag)))
-rank_step name s t e (structures class keeps lt is) =
+    let len = length-map s (rank_of order name) in
+    let d : ltb (id_of e.tag) (length (map (rank_of order name) s)) ≡ true = rw len (grind (arith, nat_tests)) in
+    rw (a, b, c, d, is) (sym (map-remove (rank_of order name) s (id_of e.tag)))
+rank_step order name s t e (structures class keeps lt is) =
     let a : eqb (class_of e.tag) 0 ≡ false = grind (arith, nat_tests) in
     let b : eqb (class_of e.tag) 4 ≡ false = grind (arith, nat_tests) in
-    rw (a, b, is) (sym (same_ranks name (λ r. record r { struct = typed e }) (λ r. refl) s (id_of e.tag)))
-rank_step name s t e (attributes class lt is) =
+    rw (a, b, is) (sym (same_ranks order name (λ r. record r { struct = typed e }) (λ r. refl) s (id_of e.tag)))
+rank_step order name s t e (attributes class lt is) =
     let a : eqb (class_of e.tag) 0 ≡ false = grind (arith, nat_tests) in
     let b : eqb (class_of e.tag) 4 ≡ false = grind (arith, nat_tests) in
-    rw (a, b, is) (sym (same_ranks name (λ r. record r { attributes = with_attribute e r.attributes }) (λ r. refl) s (id_of e.tag)))
+    rw (a, b, is) (sym (same_ranks order name (λ r. record r { attributes = with_attribute e r.attributes }) (λ r. refl) s (id_of e.tag)))
 
 -- ---- all entries
 
-ranks_after_content : (name : Name) (es : List LogEntry) (s t : RawContent) → content_after_all s es ≡ Some t → ranks_after_all name (map (rank_of name) s.slots) es ≡ map (rank_of name) t.slots
-ranks_after_content name [] s t h = ap (λ (x : RawContent). map (rank_of name) x.slots) (same_Some _ _ h)
-ranks_after_content name (e ∷ es) s t h =
+ranks_after_content : (order : NameOrder) (name : Name) (es : List LogEntry) (s t : RawContent) → content_after_all s es ≡ Some t → ranks_after_all order name (map (rank_of order name) s.slots) es ≡ map (rank_of order name) t.slots
+ranks_after_content order name [] s t h = ap (λ (x : RawContent). map (rank_of order name) x.slots) (same_Some _ _ h)
+ranks_after_content order name (e ∷ es) s t h =
     option_and_then_some (λ u. content_after_all u es) (content_after s e) t h (λ u is rest.
-    ap (λ rs. ranks_after_all name rs es) (rank_step name s.slots u.slots e (effect s u e is)) ∙ ranks_after_content name es u t rest)
+    ap (λ rs. ranks_after_all order name rs es) (rank_step order name s.slots u.slots e (effect s u e is)) ∙ ranks_after_content order name es u t rest)
 
-pub ranked : (name : Name) (es : List LogEntry) (t : RawContent) → content_after_all no_content es ≡ Some t → ranks_after_all name [] es ≡ map (rank_of name) t.slots
-ranked name es t h = ranks_after_content name es no_content t h
+pub ranked : (order : NameOrder) (name : Name) (es : List LogEntry) (t : RawContent) → content_after_all no_content es ≡ Some t → ranks_after_all order name [] es ≡ map (rank_of order name) t.slots
+ranked order name es t h = ranks_after_content order name es no_content t h
 
 -- a block of that size has few entries
 pub few_entries : (block : List ℕ) → length block ≤ 2 ^ 16 → length (log_entries block) < 2 ^ 14
@@ -153,55 +155,55 @@ from_zero same skip ranks k b h = subst (λ n. is_first same skip n (get_or rank
 
 -- ---- the answer
 
-rank_at : (name : Name) (slots : List RawSlot) (k : ℕ) → get_or (map (rank_of name) slots) k None ≡ rank_of name (slot_of_id slots k)
-rank_at name [] k = refl
-rank_at name (s ∷ slots) zero = refl
-rank_at name (s ∷ slots) (suc k) = rank_at name slots k
+rank_at : (order : NameOrder) (name : Name) (slots : List RawSlot) (k : ℕ) → get_or (map (rank_of order name) slots) k None ≡ rank_of order name (slot_of_id slots k)
+rank_at order name [] k = refl
+rank_at order name (s ∷ slots) zero = refl
+rank_at order name (s ∷ slots) (suc k) = rank_at order name slots k
 
-same_wanted : (name : Name) (o : Option Name) → option_map_or (is_wanted true) (option_map (name_cmp name) o) false ≡ option_map_or (same_name name) o false
-same_wanted name None = refl
-same_wanted name (Some other) = by_order (name_cmp name other)
+same_wanted : (order : NameOrder) (name : Name) (o : Option Name) → option_map_or (is_wanted true) (option_map (name_cmp order name) o) false ≡ option_map_or (same_name name) o false
+same_wanted order name None = refl
+same_wanted order name (Some other) = by_order (name_cmp order name other) ∙ same_by order name other
   where
     by_order : (o : Ordering) → is_wanted true o ≡ is_same o
     by_order Less = refl
     by_order Equal = refl
     by_order Greater = refl
 
-behind_wanted : (name : Name) (o : Option Name) → option_map_or (is_wanted false) (option_map (name_cmp name) o) false ≡ option_map_or (is_behind name) o false
-behind_wanted name None = refl
-behind_wanted name (Some other) = by_order (name_cmp name other)
+behind_wanted : (order : NameOrder) (name : Name) (o : Option Name) → option_map_or (is_wanted false) (option_map (name_cmp order name) o) false ≡ option_map_or (is_behind order name) o false
+behind_wanted order name None = refl
+behind_wanted order name (Some other) = by_order (name_cmp order name other)
   where
     by_order : (o : Ordering) → is_wanted false o ≡ is_less o
     by_order Less = refl
     by_order Equal = refl
     by_order Greater = refl
 
-same_named : (name : Name) (skip : Option ℕ) (slots : List RawSlot) (k : ℕ) → is_named (same_name name) skip slots k ≡ is_first true skip k (get_or (map (rank_of name) slots) k None)
-same_named name skip slots k = ap (λ b. b && not (is_skipped skip k)) (sym (ap (λ r. option_map_or (is_wanted true) r false) (rank_at name slots k) ∙ same_wanted name (entry_name (slot_of_id slots k))))
+same_named : (order : NameOrder) (name : Name) (skip : Option ℕ) (slots : List RawSlot) (k : ℕ) → is_named (same_name name) skip slots k ≡ is_first true skip k (get_or (map (rank_of order name) slots) k None)
+same_named order name skip slots k = ap (λ b. b && not (is_skipped skip k)) (sym (ap (λ r. option_map_or (is_wanted true) r false) (rank_at order name slots k) ∙ same_wanted order name (entry_name (slot_of_id slots k))))
 
-behind_named : (name : Name) (skip : Option ℕ) (slots : List RawSlot) (k : ℕ) → is_named (is_behind name) skip slots k ≡ is_first false skip k (get_or (map (rank_of name) slots) k None)
-behind_named name skip slots k = ap (λ b. b && not (is_skipped skip k)) (sym (ap (λ r. option_map_or (is_wanted false) r false) (rank_at name slots k) ∙ behind_wanted name (entry_name (slot_of_id slots k))))
+behind_named : (order : NameOrder) (name : Name) (skip : Option ℕ) (slots : List RawSlot) (k : ℕ) → is_named (is_behind order name) skip slots k ≡ is_first false skip k (get_or (map (rank_of order name) slots) k None)
+behind_named order name skip slots k = ap (λ b. b && not (is_skipped skip k)) (sym (ap (λ r. option_map_or (is_wanted false) r false) (rank_at order name slots k) ∙ behind_wanted order name (entry_name (slot_of_id slots k))))
 
-pub found_is : (name : Name) (skip : Option ℕ) (slots : List RawSlot) (id : ℕ) → id ≡ first_from true skip 0 (map (rank_of name) slots) → id < length slots → IsFound name skip slots id
-found_is name skip slots id is lt =
-    let first = subst (FirstFrom true skip 0 (map (rank_of name) slots)) (sym is) (first_at true skip 0 (map (rank_of name) slots)) in
-    let len = length-map slots (rank_of name) in
+pub found_is : (order : NameOrder) (name : Name) (skip : Option ℕ) (slots : List RawSlot) (id : ℕ) → id ≡ first_from true skip 0 (map (rank_of order name) slots) → id < length slots → IsFound name skip slots id
+found_is order name skip slots id is lt =
+    let first = subst (FirstFrom true skip 0 (map (rank_of order name) slots)) (sym is) (first_at true skip 0 (map (rank_of order name) slots)) in
+    let len = length-map slots (rank_of order name) in
     record {
-      named = same_named name skip slots id ∙ from_zero true skip (map (rank_of name) slots) id true (first.here id (omega arith) (omega (arith, len)));
-      least = λ k below. same_named name skip slots k ∙ from_zero true skip (map (rank_of name) slots) k false (first.before k (omega arith));
+      named = same_named order name skip slots id ∙ from_zero true skip (map (rank_of order name) slots) id true (first.here id (omega arith) (omega (arith, len)));
+      least = λ k below. same_named order name skip slots k ∙ from_zero true skip (map (rank_of order name) slots) k false (first.before k (omega arith));
     }
 
-pub place_is : (name : Name) (skip : Option ℕ) (slots : List RawSlot) (id : ℕ) → length slots ≤ first_from true skip 0 (map (rank_of name) slots) → id ≡ first_from false skip 0 (map (rank_of name) slots) → IsPlace name skip slots id
-place_is name skip slots id past is =
-    let none = first_at true skip 0 (map (rank_of name) slots) in
-    let first = subst (FirstFrom false skip 0 (map (rank_of name) slots)) (sym is) (first_at false skip 0 (map (rank_of name) slots)) in
-    let len = length-map slots (rank_of name) in
+pub place_is : (order : NameOrder) (name : Name) (skip : Option ℕ) (slots : List RawSlot) (id : ℕ) → length slots ≤ first_from true skip 0 (map (rank_of order name) slots) → id ≡ first_from false skip 0 (map (rank_of order name) slots) → IsPlace order name skip slots id
+place_is order name skip slots id past is =
+    let none = first_at true skip 0 (map (rank_of order name) slots) in
+    let first = subst (FirstFrom false skip 0 (map (rank_of order name) slots)) (sym is) (first_at false skip 0 (map (rank_of order name) slots)) in
+    let len = length-map slots (rank_of order name) in
     record {
       absent = λ k. elim (cases_lt k (length slots)) [
-        | inl lt ↦ same_named name skip slots k ∙ from_zero true skip (map (rank_of name) slots) k false (none.before k (omega arith))
+        | inl lt ↦ same_named order name skip slots k ∙ from_zero true skip (map (rank_of order name) slots) k false (none.before k (omega arith))
         | inr le ↦ ap (λ (s : RawSlot). option_map_or (same_name name) (entry_name s) false && not (is_skipped skip k)) (get_or_past slots k empty_slot le)
       ];
-      least = λ k below. behind_named name skip slots k ∙ from_zero false skip (map (rank_of name) slots) k false (first.before k (omega arith));
-      greater = λ lt. behind_named name skip slots id ∙ from_zero false skip (map (rank_of name) slots) id true (first.here id (omega arith) (omega (arith, len)));
+      least = λ k below. behind_named order name skip slots k ∙ from_zero false skip (map (rank_of order name) slots) k false (first.before k (omega arith));
+      greater = λ lt. behind_named order name skip slots id ∙ from_zero false skip (map (rank_of order name) slots) id true (first.here id (omega arith) (omega (arith, len)));
       within = omega (arith, first.within, len);
     }

@@ -1,12 +1,12 @@
 -- Entries one behind the other, from the front and from the back.
-use Rattle.std.proofs.Common.{◌≡◌, ℕ, zero, suc, ◌+◌, ◌-◌, ◌*◌, ◌%◌, ◌^◌, ◌<◌, ◌≤◌, Bool, true, false, cond, eqb, ltb, List, [], ◌∷◌, ◌++◌, length, drop, slice_range, Option, Some, None, refl, sym, ap, ◌∙◌, arith}
+use Rattle.std.proofs.Common.{◌≡◌, ℕ, zero, suc, ◌+◌, ◌-◌, ◌*◌, ◌%◌, ◌^◌, ◌<◌, ◌≤◌, Bool, true, false, cond, ltb, List, [], ◌∷◌, ◌++◌, length, drop, slice_range, Option, Some, None, refl, sym, ap, ◌∙◌, arith}
 use Rattle.std.specs.Option.{option_map_or}
 use Rattle.std.specs.Int.Bits.{bit_xor, xor_zero_r}
 use Rattle.std.proofs.lemmas.Nat.{xor_mod}
 use Rattle.std.proofs.lemmas.Bool.Decides.{nat_tests}
 use Rattle.std.proofs.lemmas.List.{length-append}
 use Rattle.byteorder.specs.Endian.{big_number}
-use Rattle.lfs_model.specs.Tag.{class_of, chunk_of, data_size, carried}
+use Rattle.lfs_model.specs.Tag.{chunk_of, data_size, ends_commit, carried}
 use Rattle.std.specs.List.{flat_map}
 use Rattle.lfs_model.specs.Log.{LogEntry, entry_at, past, is_checksum, IsCommit, IsChain, chain_of, log_entries, IsRun, run_within, entries_between}
 use Rattle.lfs_model.proofs.Checksums.{xor_cancel}
@@ -94,7 +94,7 @@ ends block at before (e ∷ f ∷ es) end last h lt =
 
 -- the tag that carries so
 pub carried_mod : (tag : ℕ) → tag < 2 ^ 31 → carried tag % 2 ^ 31 ≡ tag
-carried_mod tag lt = by_class (eqb (class_of tag) 5)
+carried_mod tag lt = by_class (ends_commit tag)
   where
     by_class : (b : Bool) → cond b (bit_xor tag (chunk_of tag % 2 * 2 ^ 31)) tag % 2 ^ 31 ≡ tag
     by_class true =

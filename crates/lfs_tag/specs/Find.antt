@@ -4,6 +4,7 @@ use Rattle.std.specs.Option.{option_map, option_map_or}
 use Rattle.std.specs.List.{insert, remove}
 use Rattle.std.specs.declared.cmp.Ordering.{Ordering}
 use Rattle.std.specs.declared.cmp.Ordering.TheVariants.{Less, Equal, Greater}
+use Rattle.lfs_model.specs.declared.order.NameOrder.{NameOrder}
 use Rattle.lfs_model.specs.Tag.{kind_of, id_of, class_of}
 use Rattle.lfs_model.specs.Log.{LogEntry}
 use Rattle.lfs_model.specs.Names.{Name, name_cmp}
@@ -12,12 +13,12 @@ use Rattle.lfs_model.specs.EntryTypes.{create_type, superblock_name_type}
 use Rattle.lfs_model.specs.Lookup.{entry_name}
 
 -- how a wanted name stands to a slot's; none where the slot has no name that is looked up
-abbrev pub rank_of : Name → RawSlot → Option Ordering
-rank_of name s = option_map (name_cmp name) (entry_name s)
+abbrev pub rank_of : NameOrder → Name → RawSlot → Option Ordering
+rank_of order name s = option_map (name_cmp order name) (entry_name s)
 
 -- to the name that an entry gives a slot
-abbrev pub entry_rank : Name → LogEntry → Option Ordering
-entry_rank name e = if kind_of e.tag == superblock_name_type then None else Some (name_cmp name e.bytes)
+abbrev pub entry_rank : NameOrder → Name → LogEntry → Option Ordering
+entry_rank order name e = if kind_of e.tag == superblock_name_type then None else Some (name_cmp order name e.bytes)
 
 abbrev pub ranks_up_to : List (Option Ordering) → ℕ → List (Option Ordering)
 ranks_up_to ranks id = ranks ++ replicate (id + 1 - length ranks) None
@@ -30,14 +31,14 @@ spliced ranks e =
     else (if nat_lt (id_of e.tag) (length ranks) then remove ranks (id_of e.tag) else ranks)
 
 -- the ranks behind an entry, and behind all of these
-abbrev pub ranks_after : Name → List (Option Ordering) → LogEntry → List (Option Ordering)
-ranks_after name ranks e =
-    if class_of e.tag == 0 then slice_set (ranks_up_to ranks (id_of e.tag)) (id_of e.tag) (entry_rank name e)
+abbrev pub ranks_after : NameOrder → Name → List (Option Ordering) → LogEntry → List (Option Ordering)
+ranks_after order name ranks e =
+    if class_of e.tag == 0 then slice_set (ranks_up_to ranks (id_of e.tag)) (id_of e.tag) (entry_rank order name e)
     else (if class_of e.tag == 4 then spliced ranks e else ranks)
 
-abbrev pub ranks_after_all : Name → List (Option Ordering) → List LogEntry → List (Option Ordering)
-ranks_after_all name ranks [] = ranks
-ranks_after_all name ranks (e ∷ es) = ranks_after_all name (ranks_after name ranks e) es
+abbrev pub ranks_after_all : NameOrder → Name → List (Option Ordering) → List LogEntry → List (Option Ordering)
+ranks_after_all order name ranks [] = ranks
+ranks_after_all order name ranks (e ∷ es) = ranks_after_all order name (ranks_after order name ranks e) es
 
 -- ---- the first slot
 

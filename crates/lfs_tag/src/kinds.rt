@@ -23,6 +23,8 @@ pub const DELETE: u16 = 0x4ff;
 pub const CHECKSUM: u16 = 0x500;
 /// Ends a commit; the tag behind it is stored with its top bit turned.
 pub const TURNED_CHECKSUM: u16 = 0x501;
+/// A forward checksum of version 2.1, which is read as an entry without meaning.
+pub const FORWARD_CHECKSUM: u16 = 0x5ff;
 /// The next pair of the thread, which begins another directory.
 pub const SOFT_TAIL: u16 = 0x600;
 /// The next pair of the thread, which continues the directory.

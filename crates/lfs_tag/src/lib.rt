@@ -29,7 +29,7 @@ pub use field_bytes::{ctz_bytes, move_bytes, pair_bytes, superblock_bytes};
 pub use fields::{MoveState, NULL_ADDRESS, Superblock, ctz_of, move_of, pair_of, superblock_of};
 pub use log::Log;
 pub use lookup::{Lookup, find};
-pub use names::{is_component, is_name};
+pub use names::{is_component, is_name, name_cmp};
 pub use revision::is_later;
 pub use search::{get, name_of, struct_of};
 pub use steps::Steps;

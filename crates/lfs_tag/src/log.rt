@@ -59,7 +59,7 @@ fn commit_end(block: &[u8], start: usize, mut at: usize, mut before: Tag) -> Opt
 {
     while let Some(entry) = entry_at(block, at, before) {
         let end = at + 4 + entry.bytes.len();
-        if entry.tag.class() == 5 {
+        if entry.tag.ends_commit() {
             return if closes(block, start, at, &entry) {
                 Some((end, entry.tag.carried()))
             } else {
@@ -108,8 +108,9 @@ impl<'a> Model for Log<'a> {
 impl<'a> Log<'a> {
     /// Reads a block of any length and any bytes. The chain ends in front of the first commit that an
     /// entry of it spoils: an invalid tag, bytes past the end of the block, a type of class 5 that is
-    /// neither checksum's, a checksum of less than 4 or more than 1,022 bytes, or one with the wrong
-    /// number. There may be no commit.
+    /// no checksum's, a checksum of less than 4 or more than 1,022 bytes, or one with the wrong
+    /// number. A forward checksum of version 2.1 (type 0x5ff, at most 1,022 bytes) is an entry like
+    /// any other, and means nothing. There may be no commit.
     pub fn read(block: &'a [u8]) -> Log<'a>
         ensures { result ≡ block.now }
     {

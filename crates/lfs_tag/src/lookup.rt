@@ -12,7 +12,9 @@ ghost use Rattle.lfs_tag.specs.Seen.{seen};
 use crate::entry::Entry;
 use crate::kinds::{CREATE, NAME_CLASS, SPLICE_CLASS, SUPERBLOCK_NAME};
 use crate::log::Log;
+use crate::names::name_cmp;
 use arrayvec::ArrayVec;
+use lfs_device::NameOrder;
 use std::cmp::Ordering;
 
 /// Where a name stands among a log's slots.
@@ -35,20 +37,19 @@ const BLOCK_MAX: usize = 65536;
 type Ranks = ArrayVec<Option<Ordering>, SLOT_MAX>;
 
 /// Where a name stands among a log's slots, or where it belongs, which is in front of the first
-/// slot with a greater name. Names are ordered by their bytes, a proper beginning first. A
-/// superblock's slot and the slot `skip` are passed over, though they keep their ids.
+/// slot with a name that is greater in that order. A superblock's slot and the slot `skip` are passed over, though they keep their ids.
 ///
 /// The answer is of a log that isn't malformed, in a block of at most 65,536 bytes. The log's
 /// entries are taken once, and each name is compared once. It takes no memory but a table on the
 /// stack with a byte for each slot that a block can have.
-pub fn find(log: &Log<'_>, name: &[u8], skip: Option<u16>) -> Lookup
-    ensures { (c : RawContent) → content_after_all no_content (log_entries log.now) ≡ Some c → length log.now ≤ 2 ^ 16 → Answers name.now skip c.slots result }
+pub fn find(log: &Log<'_>, order: NameOrder, name: &[u8], skip: Option<u16>) -> Lookup
+    ensures { (c : RawContent) → content_after_all no_content (log_entries log.now) ≡ Some c → length log.now ≤ 2 ^ 16 → Answers order name.now skip c.slots result }
 {
     if BLOCK_MAX < log.block().len() {
         return Lookup::Place(0);
     }
     let mut ranks = Ranks::new();
-    rank_slots(&mut ranks, log, name);
+    rank_slots(&mut ranks, log, order, name);
     let found = first(&ranks, true, skip);
     if found < ranks.len() {
         Lookup::Found(found as u16)
@@ -59,38 +60,42 @@ pub fn find(log: &Log<'_>, name: &[u8], skip: Option<u16>) -> Lookup
 
 // The ranks of a log's slots.
 #[tactic(auto, using(crate::proofs::Ranks::few_entries))]
-fn rank_slots(ranks: &mut Ranks, log: &Log<'_>, name: &[u8])
+fn rank_slots(ranks: &mut Ranks, log: &Log<'_>, order: NameOrder, name: &[u8])
     requires none { ranks.old.items ≡ [] }
     requires small { length log.now ≤ 2 ^ 16 }
-    ensures { ranks.new.items ≡ ranks_after_all name.now [] (log_entries log.now) }
+    ensures { ranks.new.items ≡ ranks_after_all order name.now [] (log_entries log.now) }
 {
     for entry in log.entries() {
-        take(ranks, name, &entry);
+        take(ranks, order, name, &entry);
     }
 }
 
 // What an entry makes of the ranks.
-fn take(ranks: &mut Ranks, name: &[u8], entry: &Entry<'_>)
+fn take(ranks: &mut Ranks, order: NameOrder, name: &[u8], entry: &Entry<'_>)
     requires { max (array_vec_len ranks.old) 1024 < 17408 }
-    ensures ranks { ranks.new.items ≡ ranks_after name.now ranks.old.items (seen entry.now) }
+    ensures ranks { ranks.new.items ≡ ranks_after order name.now ranks.old.items (seen entry.now) }
     ensures room { array_vec_len ranks.new ≤ max (array_vec_len ranks.old) 1024 + 1 }
 {
     let class = entry.tag.class();
     if class == NAME_CLASS {
-        put_rank(ranks, usize::from(entry.tag.id()), entry_rank(name, entry));
+        put_rank(
+            ranks,
+            usize::from(entry.tag.id()),
+            entry_rank(order, name, entry),
+        );
     } else if class == SPLICE_CLASS {
         splice(ranks, entry);
     }
 }
 
 // How the wanted name stands to the one that an entry gives a slot.
-fn entry_rank(name: &[u8], entry: &Entry<'_>) -> Option<Ordering>
-    ensures { result ≡ entry_rank name.now (seen entry.now) }
+fn entry_rank(order: NameOrder, name: &[u8], entry: &Entry<'_>) -> Option<Ordering>
+    ensures { result ≡ entry_rank order name.now (seen entry.now) }
 {
     if entry.tag.kind() == SUPERBLOCK_NAME {
         None
     } else {
-        Some(name.cmp(entry.bytes))
+        Some(name_cmp(order, name, entry.bytes))
     }
 }
 

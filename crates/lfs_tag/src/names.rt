@@ -2,7 +2,10 @@
 
 ghost use Rattle.std.specs.Prelude.{◌≡◌, ◌==◌, ◌||◌, not};
 ghost use Rattle.std.specs.List.{list_all};
-ghost use Rattle.lfs_model.specs.Names.{is_component, is_name, same_name, slash};
+ghost use Rattle.lfs_model.specs.Names.{is_component, is_name, longer_first, name_cmp, same_name, slash};
+
+use lfs_device::NameOrder;
+use std::cmp::Ordering;
 
 /// Whether a path may have such a component, of any length: it isn't empty, has neither a byte 0
 /// nor a slash, and is neither `.` nor `..`.
@@ -30,4 +33,23 @@ fn are_plain(name: &[u8]) -> bool
     ensures { result ≡ list_all (λ b. not (b == 0 || b == slash)) name.now }
 {
     name.iter().all(|byte| !(*byte == 0 || *byte == b'/'))
+}
+
+/// How two names stand in that order: by their bytes, and where one is the beginning of the other, as the order says.
+pub fn name_cmp(order: NameOrder, name: &[u8], other: &[u8]) -> Ordering
+    ensures { result ≡ name_cmp order name.now other.now }
+{
+    match order {
+        NameOrder::ShorterFirst => name.cmp(other),
+        NameOrder::LongerFirst => longer_first(name, other),
+    }
+}
+
+fn longer_first(name: &[u8], other: &[u8]) -> Ordering
+    ensures { result ≡ longer_first name.now other.now }
+{
+    let shared = name.len().min(other.len());
+    name[..shared]
+        .cmp(&other[..shared])
+        .then(other.len().cmp(&name.len()))
 }

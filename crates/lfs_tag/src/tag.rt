@@ -1,9 +1,10 @@
 // Tags.
 
 ghost use Rattle.std.specs.Prelude.{◌≡◌, ◌<◌, ◌^◌, ◌%◌, ◌↔◌, IsTrue, bit_xor};
-ghost use Rattle.lfs_model.specs.Tag.{IsValid, kind_of, id_of, len_of, class_of, chunk_of, data_size, tag_with, carried};
+ghost use Rattle.lfs_model.specs.Tag.{IsValid, kind_of, id_of, len_of, class_of, chunk_of, data_size, ends_commit, tag_with, carried};
 ghost use Rattle.lfs_model.specs.EntryTypes.{removes};
 
+use crate::kinds::{CHECKSUM_CLASS, FORWARD_CHECKSUM};
 use std::marker::Model;
 
 /// A tag of 32 bits: from the top a bit that is 0 where the tag is valid, 11 bits of type, ten of id
@@ -139,12 +140,20 @@ impl Tag {
         }
     }
 
+    // Whether it ends a commit, or spoils it: any tag of class 5 but a forward checksum's, which
+    // littlefs writes from version 2.1 on, and which means nothing here.
+    pub(crate) fn ends_commit(self) -> bool
+        ensures { result ≡ ends_commit self }
+    {
+        self.class() == CHECKSUM_CLASS && !(self.kind() == FORWARD_CHECKSUM && self.len() <= 1022)
+    }
+
     // The tag as the next one is decoded with it: a checksum's lowest chunk bit is added to the top
     // bit, so that what stands behind a commit can be made to decode as no tag.
     pub(crate) fn carried(self) -> Tag
         ensures { result ≡ carried self }
     {
-        if self.class() == 5 {
+        if self.ends_commit() {
             Tag {
                 bits: self.bits ^ (u32::from(self.kind()) & 1) << 31,
             }

@@ -15,6 +15,7 @@ use Rattle.lfs_thread.specs.Kept.{Kept, disk_on}
 pub record IsDividedAs (geometry : Geometry) (disk : Disk) : Type 0 where
   pub block_size : geometry.block_size ≡ disk.block_size
   pub page : geometry.page ≡ disk.page
+  pub order : geometry.order ≡ disk.order
   pub count : geometry.block_count ≡ block_count disk
 
 -- what is called with a device and a map, and what it answers and leaves there

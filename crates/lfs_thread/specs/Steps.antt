@@ -30,10 +30,11 @@ made_in_thread t index changes = option_and_then completed (made_at t.disk (pair
 
 -- ---- what every step says
 
--- as many blocks and pages of the same sizes
+-- as many blocks and pages of the same sizes, and the same order of names
 pub record HasShape (old new : Disk) : Type 0 where
   pub block_size : new.block_size ≡ old.block_size
   pub page : new.page ≡ old.page
+  pub order : new.order ≡ old.order
   pub count : block_count new ≡ block_count old
 
 -- no block but these changes, what was unprogrammed in another still is, and a loss of power on the way leaves the others

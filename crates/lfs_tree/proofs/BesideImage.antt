@@ -31,7 +31,7 @@ writable_on disk new ps g h = record {
 }
 
 pub geometry_back : (disk new : Disk) → SameGeometry disk new → SameGeometry new disk
-geometry_back disk new g = record { block_size = sym g.block_size; page = sym g.page; count = sym g.count }
+geometry_back disk new g = record { block_size = sym g.block_size; page = sym g.page; order = sym g.order; count = sym g.count }
 
 -- pairs of which no block changed
 contents_still : (disk new : Disk) (ps : List Pair) → ((b : ℕ) → 1 ≤ count b (blocks_of ps) → block_at new b ≡ block_at disk b) → Each (λ (p : Pair). content_at disk p.at ≡ Some p.content) ps

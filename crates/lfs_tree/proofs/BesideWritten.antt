@@ -42,7 +42,7 @@ pub bytes_of_held : (t : Kept) (c : Contents) (bytes : List ℕ) (shape : Form) 
 bytes_of_held t c bytes shape h = ap (λ (n : ℕ). bytes_in t.disk.blocks n c) (sym h.divided.block_size) ∙ h.has.has
 
 pub geometry_beside : (a b : Kept) → LeavesPairsAndUsed a b → SameGeometry a.disk b.disk
-geometry_beside a b l = record { block_size = l.shape.block_size; page = l.shape.page; count = l.shape.count }
+geometry_beside a b l = record { block_size = l.shape.block_size; page = l.shape.page; order = l.shape.order; count = l.shape.count }
 
 module _ (a b : Kept) (leaves : LeavesPairsAndUsed a b) (accepted : IsAccepted a.disk a.pairs) (used : AreUsed a.map (used_blocks a.disk a.pairs)) where
   used_same : (x : ℕ) → Contains (used_blocks a.disk a.pairs) x → block_at b.disk x ≡ block_at a.disk x
@@ -100,7 +100,7 @@ around_is writable block_size page count block_size_now page_now count_now used 
 pub left_beside : (t : Kept) (blocks : Blocks) {after : Tree} → IsAccepted t.disk t.pairs → IsWritable t.disk t.pairs → AreUsed t.map (used_blocks t.disk t.pairs) → SparesUsed t.map t.disk.blocks blocks
     → IsLeft (with_blocks blocks t.disk) (tree_in t.disk t.pairs) after
 left_beside t blocks accepted fits used spared =
-    let same : SameGeometry t.disk (with_blocks blocks t.disk) = record { block_size = refl; page = refl; count = spared.count } in
+    let same : SameGeometry t.disk (with_blocks blocks t.disk) = record { block_size = refl; page = refl; order = refl; count = spared.count } in
     let f = still_follows t.disk (with_blocks blocks t.disk) t.pairs accepted same (λ x has. spared.same x ((used x).1 has)) in
     record { pairs = t.pairs; accepted = f.accepted; writable = writable_on t.disk (with_blocks blocks t.disk) t.pairs same fits; tree = inl f.shows }
 

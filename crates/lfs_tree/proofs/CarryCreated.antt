@@ -56,7 +56,7 @@ pub stay_in_flight : (old new : BlockSets) → StayTaken old new → (b : ℕ) �
 stay_in_flight old new stays b flies = stays b (λ free. let k : InFlight ≡ Free = same_Some InFlight Free (sym flies ∙ free) in absurd (cc)) ∙ flies
 
 module _ (t : State) (root : ℕ) (rests : IsAtRest t root) (path : Path) (components : list_all is_component path ≡ true) (large : 1024 ≤ t.kept.disk.block_size) (bytes : HasBytes t.kept.disk.blocks)
-    (need : ℕ) (can : CanAdd (seen_kept t.kept true false) path need) (name : Name) (spot : Spot) (place : IsPlaceFor t.kept.pairs path name spot) (h : List Event) where
+    (need : ℕ) (can : CanAdd (seen_kept t.kept true false) path need) (name : Name) (spot : Spot) (place : IsPlaceFor t.kept.disk.order t.kept.pairs path name spot) (h : List Event) where
   name_is : last_name path ≡ name
   name_is = ap last_name place.is ∙ last_is place.above name
 

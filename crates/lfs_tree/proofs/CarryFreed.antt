@@ -107,7 +107,7 @@ file_writes old new index id first can w = record {
 }
 
 pub shape_geometry : (old new : Kept) → HasShape old.disk new.disk → SameGeometry old.disk new.disk
-shape_geometry old new s = record { block_size = s.block_size; page = s.page; count = s.count }
+shape_geometry old new s = record { block_size = s.block_size; page = s.page; order = s.order; count = s.count }
 
 -- the written blocks aren't the file's
 pub files_stay : (old mid : Kept) (index id first : ℕ) (can : CanEdit old index id) → Writes (two_of (written_at old index first)) old mid → HasSameFile old.disk mid.disk (slot_at can).struct

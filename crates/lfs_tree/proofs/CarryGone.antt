@@ -10,6 +10,8 @@ use Rattle.lfs_device.specs.declared.error.Error.{Error}
 use Rattle.lfs_device.specs.declared.error.Error.TheVariants.{Io, NoMemory}
 use Rattle.lfs_files.specs.Settling.{IsReadBesideMap}
 use Rattle.lfs_files.specs.Standing.{TellsWork}
+use Rattle.lfs_model.proofs.Orders.{length_in_order}
+use Rattle.lfs_model.specs.declared.order.NameOrder.TheVariants.{ShorterFirst}
 use Rattle.lfs_model.specs.TreeEdits.{names_of, removed}
 use Rattle.lfs_model.specs.Disk.{Disk}
 use Rattle.lfs_model.specs.History.{Event, OnlyReads, faults}
@@ -17,7 +19,7 @@ use Rattle.lfs_model.specs.Operations as ops
 use Rattle.lfs_model.specs.Slots.{Slot, Struct, Inline, Ctz, Branch}
 use Rattle.lfs_model.specs.Refusals.{as_path}
 use Rattle.lfs_model.specs.Thread.{Pair}
-use Rattle.lfs_model.specs.Tree.{Path, branch_of}
+use Rattle.lfs_model.specs.Tree.{names_at, Path, branch_of}
 use Rattle.lfs_model.specs.Shown.{Leads, entries_in, tree_in, used_blocks}
 use Rattle.lfs_model.proofs.BlockSets.{Contains-count, count-Contains}
 use Rattle.lfs_model.proofs.Committed.{IsCompleted, no_move_from}
@@ -52,10 +54,10 @@ use Rattle.lfs_tree.proofs.EmptyDirectories.{at_there, bare_there}
 
 -- ---- what is found
 
-pub entry_on : (t : Kept) (path : Path) (f : Found) → HasEntry (tree_in t.disk t.pairs) path → LeadsTo t path f → IsEntryOn t.pairs path f
+pub entry_on : (t : Kept) (path : Path) (f : Found) → HasEntry (tree_in t.disk t.pairs) path → LeadsTo t path f → IsEntryOn t.disk.order t.pairs path f
 entry_on t path f v l = go f l (slot_found t path f v l)
   where
-    go : (f : Found) → LeadsTo t path f → has_slot f ≡ true → IsEntryOn t.pairs path f
+    go : (f : Found) → LeadsTo t path f → has_slot f ≡ true → IsEntryOn t.disk.order t.pairs path f
     go found.Root l e = absurd (cc)
     go found.ParentIsFile l e = absurd (cc)
     go found.ParentIsMissing l e = absurd (cc)
@@ -83,7 +85,7 @@ none_entered t path bare at leads =
     let d = directory_at_path t.disk t.pairs path at leads in
     let none = ltb-false 0 (length (names_of (tree_in t.disk t.pairs path))) bare in
     let e = ap (λ o. length (names_of o)) d.is in
-    let l = length-map (entries_in t.pairs at) (λ (s : Slot). s.name) in
+    let l = length_in_order ShorterFirst (names_at (entries_in t.pairs) at) ∙ length-map (entries_in t.pairs at) (λ (s : Slot). s.name) in
     empty (entries_in t.pairs at) (omega arith)
   where
     empty : (xs : List Slot) → length xs ≤ 0 → xs ≡ []
@@ -97,7 +99,7 @@ module _ (t : State) (root : ℕ) (rests : IsAtRest t root) (path : Path) (large
   slot_on : (parent : ℕ) (slot : Spot) (ends_above : Path) (name : List ℕ) → path ≡ ends_above ++ name ∷ [] → StandsOnPath t.kept.pairs ends_above name parent slot → IsSlotFor t.kept.pairs path slot
   slot_on parent slot above name is stands = record { above = above; name = name; first = parent; is = is; stands = stands }
 
-  pub can_go : (f : Found) → IsEntryOn t.kept.pairs path f → CanGo (with_history t.kept h) path f
+  pub can_go : (f : Found) → IsEntryOn t.kept.disk.order t.kept.pairs path f → CanGo (with_history t.kept h) path f
   unfolding can_edit slot_on
   can_go found.Root on = absurd (let e = on.has in cc)
   can_go found.ParentIsFile on = absurd (let e = on.has in cc)

@@ -31,7 +31,7 @@ place_found t path (found.Nothing parent place) v l = refl
 place_found t path (found.Directory parent slot first) v l = let s = l.there.there.0 in absurd (taken t path s.stands.stands.slot v (ap (slot_of_path t.pairs) l.there.is ∙ s.slot))
 place_found t path (found.File parent slot contents) v l = let s = l.there.there.0 in absurd (taken t path s.stands.stands.slot v (ap (slot_of_path t.pairs) l.there.is ∙ s.slot))
 
-pub place_for : (t : Kept) (path : Path) (f : Found) (name : Name) (spot : Spot) → IsVacant (tree_in t.disk t.pairs) path → LeadsTo t path f → IsPlaceIn f spot → name ≡ last_name path → IsPlaceFor t.pairs path name spot
+pub place_for : (t : Kept) (path : Path) (f : Found) (name : Name) (spot : Spot) → IsVacant (tree_in t.disk t.pairs) path → LeadsTo t path f → IsPlaceIn f spot → name ≡ last_name path → IsPlaceFor t.disk.order t.pairs path name spot
 place_for t path found.Root name spot v l h e = absurd h
 place_for t path found.ParentIsFile name spot v l h e = absurd h
 place_for t path found.ParentIsMissing name spot v l h e = absurd h
@@ -44,7 +44,7 @@ place_for t path (found.Nothing parent place) name spot v l h e =
       first = parent;
       is = l.there.is ∙ ap (λ n. l.there.above ++ n ∷ []) (sym same);
       on = l.there.there.on;
-      belongs = subst (λ (s : Spot). Belongs t.pairs parent name s.pair s.id) h (subst (λ n. Belongs t.pairs parent n place.pair place.id) (sym same) l.there.there.belongs);
+      belongs = subst (λ (s : Spot). Belongs t.disk.order t.pairs parent name s.pair s.id) h (subst (λ n. Belongs t.disk.order t.pairs parent n place.pair place.id) (sym same) l.there.there.belongs);
     }
 
 pub last_of_map : {A : Type 0} (f : A → Name) (xs above : List A) (x : A) → xs ≡ above ++ x ∷ [] → f x ≡ last_name (map f xs)

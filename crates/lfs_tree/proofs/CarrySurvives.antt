@@ -35,7 +35,7 @@ survives_left t c h after geometry since accepted fits shows reads k =
     (record { pairs = c.pairs; accepted = accepted; writable = fits; tree = inr shows })))
   where
     same_disk : (disk new : Disk) → SameGeometry disk new → with_blocks new.blocks disk ≡ new
-    same_disk disk new g = ap₂ (λ size page. record { block_size = size; page = page; blocks = new.blocks }) (sym g.block_size) (sym g.page)
+    same_disk disk new g = λ j. record { block_size = sym g.block_size j; page = sym g.page j; order = sym g.order j; blocks = new.blocks }
 
 -- a stop in a call that only reads behind an operation that is carried out leaves its tree
 pub survives_ahead : (t c : Kept) (h : List Event) (op : Operation) (after : Tree) → Carries t op c → tree_in c.disk c.pairs ≡ after → OnlyReads c.disk.blocks c.history h →

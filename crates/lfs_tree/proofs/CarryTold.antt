@@ -15,14 +15,14 @@ use Rattle.lfs_tree.proofs.Carried.{with_history}
 
 pub called_by_reading : (a b : Kept) → IsOnlyRead a b → HasCalled a b
 called_by_reading a b r = record {
-  geometry = record { block_size = ap (λ (d : Disk). d.block_size) r.disk; page = ap (λ (d : Disk). d.page) r.disk; count = ap (λ (d : Disk). block_count d) r.disk };
+  geometry = record { block_size = ap (λ (d : Disk). d.block_size) r.disk; page = ap (λ (d : Disk). d.page) r.disk; order = ap (λ (d : Disk). d.order) r.disk; count = ap (λ (d : Disk). block_count d) r.disk };
   calls = r.reads.events;
   called = r.reads.extends;
 }
 
 pub called_by_writing : (a : Kept) (h : List Event) (c : Kept) (bs : List ℕ) → OnlyReads a.disk.blocks a.history h → Writes bs (with_history a h) c → HasCalled a c
 called_by_writing a h c bs reads w = record {
-  geometry = record { block_size = w.shape.block_size; page = w.shape.page; count = w.shape.count };
+  geometry = record { block_size = w.shape.block_size; page = w.shape.page; order = w.shape.order; count = w.shape.count };
   calls = w.at_worst.events ++ reads.events;
   called = w.at_worst.extends ∙ ap (λ z. w.at_worst.events ++ z) reads.extends ∙ sym (append_assoc w.at_worst.events reads.events a.history);
 }

@@ -222,6 +222,7 @@ wrote g hs sets bs w = record {
   shape = record {
     block_size = ap (λ (k : Geometry). k.block_size) w.geometry;
     page = ap (λ (k : Geometry). k.page) w.geometry;
+    order = ap (λ (k : Geometry). k.order) w.geometry;
     count = w.others.count;
   };
   at_worst = w.at_worst;

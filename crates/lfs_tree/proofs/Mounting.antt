@@ -4,6 +4,7 @@ use Rattle.std.specs.List.{IsDistinct}
 use Rattle.std.specs.Prelude.{◌↔◌, IsTrue}
 use Rattle.lfs_device.specs.declared.device.BlockDevice.{Ghosts}
 use Rattle.lfs_device.specs.declared.error.Error.{Error}
+use Rattle.lfs_device.specs.Shown.{ordered}
 use Rattle.lfs_device.specs.declared.error.Error.TheVariants.{Io}
 use Rattle.lfs_model.specs.BlockSets.{AreInFlight, AreUsed, BlockSets, in_flight_count}
 use Rattle.lfs_model.specs.Disk.{Disk, block_count}
@@ -16,6 +17,8 @@ use Rattle.lfs_model.proofs.BlockSets.{in_flight_count-AreInFlight}
 use Rattle.lfs_model.proofs.Histories.{OnlyReads-trans, reads-since}
 use Rattle.lfs_model.specs.Fresh.{IsFresh}
 use Rattle.lfs_mount.specs.Accepted.{IsMounted}
+use Rattle.lfs_mount.specs.Either.{GivesDeviceBack}
+use Rattle.lfs_model.specs.declared.order.NameOrder.{NameOrder}
 use Rattle.lfs_thread.specs.Device.{GivesBack}
 use Rattle.lfs_thread.specs.Kept.{Kept, State, disk_on}
 use Rattle.lfs_thread.specs.Steps.{IsOnlyRead}
@@ -70,6 +73,17 @@ pub read_back : {D X : Type 0} (g : Ghosts D) (old back : D) (a b : State) (r : 
     → IsMounted (disk_on g old) (g.history old) a → r ≡ Err e → IsReading a b r → disk_on g back ≡ b.kept.disk → g.history back ≡ b.kept.history → GivesBack g old back e
 read_back {X = X} g old back a b r e m is read same later = record {
   disk = same ∙ read.only.disk ∙ m.disk_is;
+  reads = subst (λ (h : List Event). OnlyReads (g.blocks old) (g.history old) h) (sym later) (OnlyReads-trans m.reads read.only.reads (ap (λ (d : Disk). d.blocks) m.disk_is));
+  fault = λ io. (let k = read.told.fault (is ∙ ap Err io) in let n = m.no_fault in let l = ap faults later in omega (arith, k, n, l));
+  no_fault = λ other. ap faults later ∙ read.told.no_fault (λ z. other (same_error X e Io (sym is ∙ z))) ∙ m.no_fault;
+}
+
+-- the same of a device whose names are in an order that was found
+pub given_back_either : {D X : Type 0} (g : Ghosts D) (old back : D) (order : NameOrder) (a b : State) (r : Result X Error) (e : Error)
+    → IsMounted (ordered a.kept.disk.order (disk_on g old)) (g.history old) a → r ≡ Err e → IsReading a b r → ordered order (disk_on g back) ≡ b.kept.disk → g.history back ≡ b.kept.history
+    → GivesDeviceBack g old back e
+given_back_either {X = X} g old back order a b r e m is read same later = record {
+  disk = λ other. ap (ordered other) (same ∙ read.only.disk ∙ m.disk_is);
   reads = subst (λ (h : List Event). OnlyReads (g.blocks old) (g.history old) h) (sym later) (OnlyReads-trans m.reads read.only.reads (ap (λ (d : Disk). d.blocks) m.disk_is));
   fault = λ io. (let k = read.told.fault (is ∙ ap Err io) in let n = m.no_fault in let l = ap faults later in omega (arith, k, n, l));
   no_fault = λ other. ap faults later ∙ read.told.no_fault (λ z. other (same_error X e Io (sym is ∙ z))) ∙ m.no_fault;

@@ -181,14 +181,14 @@ pub end_survives : (a b : Kept) (h : List Event) → Writes (blocks_of a.pairs) 
 end_survives a b h w shows calls called first second =
     survives_then a.disk a.history b.history h (tree_in a.disk a.pairs) (tree_in a.disk a.pairs) w.at_worst (some_since calls b.history h called) first
     (λ clean. LeavesOnly-weaker (λ left x. subst (λ z. IsLeft z (tree_in a.disk a.pairs) (tree_in a.disk a.pairs))
-    (ap₂ (λ (size page : ℕ). record { block_size = size; page = page; blocks = left }) w.shape.block_size w.shape.page)
+    (λ j. record { block_size = w.shape.block_size j; page = w.shape.page j; order = w.shape.order j; blocks = left })
     (subst (λ z. IsLeft (with_blocks left b.disk) z z) shows x)) (second clean))
 
 -- ---- calls
 
 pub called_writing : (a b : Kept) (bs : List ℕ) → Writes bs a b → HasCalled a b
 called_writing a b bs w = record {
-  geometry = record { block_size = w.shape.block_size; page = w.shape.page; count = w.shape.count };
+  geometry = record { block_size = w.shape.block_size; page = w.shape.page; order = w.shape.order; count = w.shape.count };
   calls = w.at_worst.events;
   called = w.at_worst.extends;
 }
@@ -198,6 +198,7 @@ called_then a b c f g = record {
   geometry = record {
     block_size = g.geometry.block_size ∙ f.geometry.block_size;
     page = g.geometry.page ∙ f.geometry.page;
+    order = g.geometry.order ∙ f.geometry.order;
     count = g.geometry.count ∙ f.geometry.count;
   };
   calls = g.calls ++ f.calls;
@@ -314,7 +315,7 @@ recovered_already t works writable sound settled = record {
   works = works;
   sound = sound;
   writable = writable;
-  geometry = record { block_size = refl; page = refl; count = refl };
+  geometry = record { block_size = refl; page = refl; order = refl; count = refl };
   calls = [];
   called = refl;
   no_fault = refl;

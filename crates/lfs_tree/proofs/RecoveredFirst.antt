@@ -183,7 +183,7 @@ module _ (a b : Kept) (f : HasSettled a b) where
   -- ---- a stop
 
   left_on : (blocks : Blocks) → with_blocks blocks b.disk ≡ with_blocks blocks a.disk
-  left_on blocks = ap₂ (λ (size page : ℕ). record { block_size = size; page = page; blocks = blocks }) f.carries.geometry.block_size f.carries.geometry.page
+  left_on blocks = λ j. record { block_size = f.carries.geometry.block_size j; page = f.carries.geometry.page j; order = f.carries.geometry.order j; blocks = blocks }
 
   pub survives_after : (c : Kept) (change : Tree → Tree) → HasCalled b c → SurvivesTo a b (tree_in a.disk a.pairs) → SurvivesTo b c (change (tree_in b.disk b.pairs)) → SurvivesTo a c (change (tree_in a.disk a.pairs))
   survives_after c change called first second =

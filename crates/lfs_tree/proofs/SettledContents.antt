@@ -68,7 +68,7 @@ module _ (t : Kept) (path : Path) (u : Slot) (ok : IsAccepted t.disk t.pairs) (u
       (off (pair_in t pair).at.0 k.0, (off (pair_in t pair).at.1 k.1, each_weaker (IsFree t.map) (λ x. x ≢ b) (λ x f e. taken (subst (IsFree t.map) e f)) w.fresh w.free)))
 
   geometry : SameGeometry t.disk new.disk
-  geometry = record { block_size = w.writes.shape.block_size; page = w.writes.shape.page; count = w.writes.shape.count }
+  geometry = record { block_size = w.writes.shape.block_size; page = w.writes.shape.page; order = w.writes.shape.order; count = w.writes.shape.count }
 
   was_taken : (b : ℕ) → 1 ≤ count b (file_blocks t.disk u.struct) → IsFree t.map b → ⊥
   was_taken b some = not_free t.map b (list_used t path u ok used at sized b some)
@@ -250,7 +250,7 @@ module _ (t : State) (root : ℕ) (rests : IsAtRest t root) (path : Path) (large
           → SurvivesTo t.kept later (change_at path (with_bytes (bytes_held t.kept c)) (tree_in t.kept.disk t.kept.pairs))
       survives_settled reads k =
           let after = change_at path (with_bytes (bytes_held t.kept c)) (tree_in t.kept.disk t.kept.pairs) in
-          let disk_is : new.disk ≡ with_blocks new.disk.blocks t.kept.disk = λ i. record { block_size = w.writes.shape.block_size i; page = w.writes.shape.page i; blocks = new.disk.blocks } in
+          let disk_is : new.disk ≡ with_blocks new.disk.blocks t.kept.disk = λ i. record { block_size = w.writes.shape.block_size i; page = w.writes.shape.page i; order = w.writes.shape.order i; blocks = new.disk.blocks } in
           let first : LeavesOnly Stops t.kept.history new.history (λ d. Unit {0}) = LeavesOnly-trans (LeavesOnly-reads Stops-read reads tt) (LeavesOnly-weaker (λ d p. tt) (LeavesOnly-worst w.writes.at_worst)) in
           survives_then t.kept.disk t.kept.history new.history later.history (tree_in t.kept.disk t.kept.pairs) after first only.reads k
           (λ clean. LeavesOnly-reads Stops-read only.reads

@@ -115,7 +115,7 @@ module _ (t : State) (root : ℕ) (rests : IsAtRest t root) (from to : Path) (co
       let same : name ≡ there.name = target.named ∙ ap last_name there.is ∙ last_is there.above there.name in
       record {
         can = can_shift there.above parent name target.named (there.is ∙ ap (λ n. there.above ++ n ∷ []) (sym same)) there.there.on;
-        belongs = subst (λ n. Belongs t.kept.pairs parent n place.pair place.id) (sym same) there.there.belongs;
+        belongs = subst (λ n. Belongs t.kept.disk.order t.kept.pairs parent n place.pair place.id) (sym same) there.there.belongs;
       }
 
   pub shift_onto : (parent : ℕ) (slot : Spot) (contents : Contents) (name : Name) → IsTarget t.kept to (found.File parent slot contents) name → CanShiftOnto (with_history t.kept h) from to source slot contents name

@@ -186,7 +186,7 @@ module _ (t : Kept) (from to : Path) (source : Source) (place : Spot) (name : Na
   pub rename_within : source.slot.pair ≡ place.pair → CanRename t source.slot.pair source.slot.id place.id name
   rename_within e = record {
     can = shift.old;
-    belongs = subst (λ i. Belongs t.pairs shift.old.first name i place.id) (sym e) (subst (λ f. Belongs t.pairs f name place.pair place.id) (one_directory e) can.belongs);
+    belongs = subst (λ i. Belongs t.disk.order t.pairs shift.old.first name i place.id) (sym e) (subst (λ f. Belongs t.disk.order t.pairs f name place.pair place.id) (one_directory e) can.belongs);
     is_name = shift.is_name;
     fits = shift.fits;
   }

@@ -55,7 +55,7 @@ called_beside_image a b l = record { geometry = geometry_beside a b l; calls = l
 
 pub called_then : (a b c : Kept) → HasCalled a b → HasCalled b c → HasCalled a c
 called_then a b c k m = record {
-  geometry = record { block_size = m.geometry.block_size ∙ k.geometry.block_size; page = m.geometry.page ∙ k.geometry.page; count = m.geometry.count ∙ k.geometry.count };
+  geometry = record { block_size = m.geometry.block_size ∙ k.geometry.block_size; page = m.geometry.page ∙ k.geometry.page; order = m.geometry.order ∙ k.geometry.order; count = m.geometry.count ∙ k.geometry.count };
   calls = m.calls ++ k.calls;
   called = m.called ∙ ap (λ z. m.calls ++ z) k.called ∙ sym (append_assoc m.calls k.calls a.history);
 }
@@ -171,7 +171,7 @@ module _ (t : State) (root : ℕ) (rests : IsAtRest t root) (path : Path) (conte
       survives_then_commit new called k =
           let second : EachSince (λ e. Unit {0}) b.kept.history new.history = record { events = called.calls; extends = called.called; each = each_any called.calls } in
           let after = change_at path (with_bytes (bytes_held t.kept contents)) (tree_in t.kept.disk t.kept.pairs) in
-          let same : (blocks : Blocks) → with_blocks blocks b.kept.disk ≡ with_blocks blocks t.kept.disk = λ blocks. λ i. record { block_size = leaves.shape.block_size i; page = leaves.shape.page i; blocks = blocks } in
+          let same : (blocks : Blocks) → with_blocks blocks b.kept.disk ≡ with_blocks blocks t.kept.disk = λ blocks. λ i. record { block_size = leaves.shape.block_size i; page = leaves.shape.page i; order = leaves.shape.order i; blocks = blocks } in
           survives_then t.kept.disk t.kept.history b.kept.history new.history (tree_in t.kept.disk t.kept.pairs) after leaves.at_worst second (survives_beside after)
           (λ clean. LeavesOnly-weaker (λ blocks left.
           subst (λ (d : Disk). IsLeft d (tree_in t.kept.disk t.kept.pairs) (change_at path (with_bytes (bytes_held t.kept contents)) (tree_in t.kept.disk t.kept.pairs))) (same blocks)

@@ -160,6 +160,7 @@ module _ (old new : Seen) (path : Path) (c : Contents) (over : IsOver old path c
       divided = record {
         block_size = over.stands.divided.block_size ∙ sym geometry.block_size;
         page = over.stands.divided.page ∙ sym geometry.page;
+        order = over.stands.divided.order ∙ sym geometry.order;
         count = over.stands.divided.count ∙ sym geometry.count;
       };
       stands = still.0;

@@ -1,6 +1,7 @@
 -- What an operation on a path finds, and what comes of it over a thread.
 use Rattle.std.specs.Prelude.{ℕ, ◌≡◌, Bool, true, false, List, [], ◌∷◌, ◌++◌, None, is_some}
 use Rattle.lfs_device.specs.declared.error.Error.{Error}
+use Rattle.lfs_model.specs.declared.order.NameOrder.{NameOrder}
 use Rattle.lfs_model.specs.Disk.{SameGeometry}
 use Rattle.lfs_model.specs.History.{Event}
 use Rattle.lfs_model.specs.InDirectory.{Belongs}
@@ -32,12 +33,12 @@ pub record IsVacant (t : Tree) (path : Path) : Type 0 where
   pub nothing : is_some (t path) ≡ false
 
 -- the name is the last one of the path, and belongs in front of the slot at the spot
-pub record IsPlaceFor (ps : List Pair) (path : Path) (name : Name) (spot : Spot) : Type 0 where
+pub record IsPlaceFor (order : NameOrder) (ps : List Pair) (path : Path) (name : Name) (spot : Spot) : Type 0 where
   pub above : Path
   pub first : ℕ
   pub is : path ≡ above ++ name ∷ []
   pub on : BeginsOnPath ps above first
-  pub belongs : Belongs ps first name spot.pair spot.id
+  pub belongs : Belongs order ps first name spot.pair spot.id
 
 -- nothing is found, but a place
 abbrev pub is_place : Found → Bool

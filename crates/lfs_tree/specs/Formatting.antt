@@ -4,13 +4,16 @@ use Rattle.lfs_device.specs.declared.device.BlockDevice.{Ghosts}
 use Rattle.lfs_device.specs.declared.error.Error.{Error}
 use Rattle.lfs_device.specs.declared.error.Error.TheVariants.{Io, NoMemory}
 use Rattle.lfs_device.specs.Calls.{ChangesOnly}
+use Rattle.lfs_device.specs.Shown.{ordered}
+use Rattle.lfs_model.specs.Blocks.{SameButThese}
+use Rattle.lfs_model.specs.declared.order.NameOrder.{NameOrder}
 use Rattle.lfs_model.specs.BlockSets.{AreInFlight, AreUsed, BlockSets}
 use Rattle.lfs_model.specs.Changes.{Change, Create, PutStruct}
 use Rattle.lfs_model.specs.Content.{RawContent, has_commit}
 use Rattle.lfs_model.specs.EntryTypes.{inline_struct_type, superblock_name_type}
-use Rattle.lfs_model.specs.Disk.{Disk, block_at, block_count}
+use Rattle.lfs_model.specs.Disk.{Disk, SameGeometry, block_at, block_count}
 use Rattle.lfs_model.specs.Fresh.{IsFresh, empty_tree, fresh_pair, superblock_bytes}
-use Rattle.lfs_model.specs.History.{Event, erases, faults}
+use Rattle.lfs_model.specs.History.{AtWorst, Event, LeavesOnly, StayUnprogrammed, erases, faults}
 use Rattle.lfs_model.specs.Slots.{no_gstate}
 use Rattle.lfs_model.specs.Thread.{anchor}
 use Rattle.lfs_model.specs.View.{IsAccepted, view_in}
@@ -18,7 +21,7 @@ use Rattle.lfs_model.specs.Profile.{IsWritable}
 use Rattle.lfs_pair.specs.Pair.{address_in}
 use Rattle.lfs_pair.specs.Writing.{Holds}
 use Rattle.lfs_thread.specs.Device.{two_of}
-use Rattle.lfs_thread.specs.Kept.{Header, IsHeader, Kept}
+use Rattle.lfs_thread.specs.Kept.{Header, IsHeader, Kept, disk_on}
 use Rattle.lfs_thread.specs.Steps.{Writes}
 
 -- what puts a superblock with that struct into slot 0
@@ -87,6 +90,17 @@ pub record WritesFirstTwo (old new : Kept) : Type 0 where
 pub record ComesBack {D : Type 0} (g : Ghosts D) (bs : List ℕ) (old back : D) (error : Error) : Type 0 where
   pub errors : (error ≡ Io) ⊎ (error ≡ NoMemory)
   pub writes : ChangesOnly g bs old back
+  pub unwritten : error ≡ NoMemory → back ≡ old
+  pub fault : error ≡ Io → faults (g.history old) < faults (g.history back)
+  pub no_fault : error ≢ Io → faults (g.history back) ≡ faults (g.history old)
+
+-- The same of a device, in whichever order it has its names.
+pub record DeviceComesBack {D : Type 0} (g : Ghosts D) (bs : List ℕ) (old back : D) (error : Error) : Type 0 where
+  pub errors : (error ≡ Io) ⊎ (error ≡ NoMemory)
+  pub others : SameButThese bs (g.blocks old) (g.blocks back)
+  pub elsewhere : StayUnprogrammed bs (g.history old) (g.history back)
+  pub geometry : (order : NameOrder) → SameGeometry (ordered order (disk_on g old)) (ordered order (disk_on g back))
+  pub at_worst : LeavesOnly AtWorst (g.history old) (g.history back) (SameButThese bs (g.blocks old))
   pub unwritten : error ≡ NoMemory → back ≡ old
   pub fault : error ≡ Io → faults (g.history old) < faults (g.history back)
   pub no_fault : error ≢ Io → faults (g.history back) ≡ faults (g.history old)

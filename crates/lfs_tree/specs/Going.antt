@@ -1,6 +1,7 @@
 -- An entry that goes from its directory.
 use Rattle.std.specs.Prelude.{ℕ, ◌≡◌, ◌≤◌, ◌+◌, true, false, List, [], ◌∷◌, ◌++◌}
 use Rattle.lfs_files.specs.Settling.{blocks_in_list}
+use Rattle.lfs_model.specs.declared.order.NameOrder.{NameOrder}
 use Rattle.lfs_model.specs.Discipline.{LeavesAlone}
 use Rattle.lfs_model.specs.Operations as ops
 use Rattle.lfs_model.specs.Session.{Session}
@@ -27,8 +28,8 @@ use Rattle.lfs_writer.specs.Based.{IsBase}
 use Rattle.lfs_writer.specs.declared.stored.Stored.{Stored}
 
 -- an entry is found for the path
-pub record IsEntryOn (ps : List Pair) (path : Path) (found : Found) : Type 0 where
-  pub ends : EndsIn ps path found
+pub record IsEntryOn (order : NameOrder) (ps : List Pair) (path : Path) (found : Found) : Type 0 where
+  pub ends : EndsIn order ps path found
   pub has : has_slot found ≡ true
 
 -- ---- the list of a file

@@ -68,7 +68,7 @@ pub record CanShift (t : Kept) (from to : Path) (source : Source) (name : Name) 
 -- nothing is at the other path, and the name belongs there
 pub record CanShiftTo (t : Kept) (from to : Path) (source : Source) (place : Spot) (name : Name) : Type 0 where
   pub can : CanShift t from to source name
-  pub belongs : Belongs t.pairs can.first name place.pair place.id
+  pub belongs : Belongs t.disk.order t.pairs can.first name place.pair place.id
 
 -- a file with these contents is at the other path
 pub record CanShiftOnto (t : Kept) (from to : Path) (source : Source) (slot : Spot) (contents : Contents) (name : Name) : Type 0 where

@@ -67,7 +67,7 @@ fn find_place<'a, D: BlockDevice>(
 ) -> Result<Place<'a>, Error>
     requires rests { IsAtRest thread.old root }
     requires vacant { IsVacant (tree_in thread.old.kept.disk thread.old.kept.pairs) path.now }
-    ensures place { IfOk result (λ place. IsPlaceFor thread.old.kept.pairs path.now place.name.now place.spot) }
+    ensures place { IfOk result (λ place. IsPlaceFor thread.old.kept.disk.order thread.old.kept.pairs path.now place.name.now place.spot) }
     ensures few { reads thread.new.kept.history ≤ reads thread.old.kept.history + sum_by (pairs_of_path thread.old.kept.pairs) (parents path.now) }
     ensures reading { IsReading thread.old thread.new result }
 {

@@ -37,7 +37,7 @@ fn find_entry<D: BlockDevice>(
 ) -> Result<Found, Error>
     requires rests { IsAtRest thread.old root }
     requires there { HasEntry (tree_in thread.old.kept.disk thread.old.kept.pairs) path.now }
-    ensures entry { IfOk result (IsEntryOn thread.old.kept.pairs path.now) }
+    ensures entry { IfOk result (IsEntryOn thread.old.kept.disk.order thread.old.kept.pairs path.now) }
     ensures reading { IsReading thread.old thread.new result }
 {
     let names = path.names(alloc)?;

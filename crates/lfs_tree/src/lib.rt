@@ -7,6 +7,7 @@ mod carrying_attributes;
 mod carrying_removal;
 mod carrying_rename;
 mod changing;
+mod either;
 mod formatting;
 mod image;
 mod laws;
@@ -20,6 +21,7 @@ mod tree;
 mod unreached;
 mod writers;
 
+pub use either::mount_either;
 pub use formatting::format;
 pub use laws::{carried_takes_few, contents_stay};
 pub use tree::Tree;

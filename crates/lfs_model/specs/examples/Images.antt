@@ -3,6 +3,7 @@ use Rattle.std.specs.Prelude.{ℕ, ◌-◌, List, [], ◌∷◌, ◌++◌, lengt
 use Rattle.std.specs.List.{flat_map}
 use Rattle.std.specs.Option.{option_map}
 use Rattle.byteorder.specs.Endian.{little_bytes}
+use Rattle.lfs_model.specs.declared.order.NameOrder.TheVariants.{ShorterFirst}
 use Rattle.lfs_model.specs.Blocks.{Blocks}
 use Rattle.lfs_model.specs.Disk.{Disk, file_limit}
 use Rattle.lfs_model.specs.Slots.{Gstate, no_gstate}
@@ -63,7 +64,7 @@ small_commit =
     unwritten 76  -- padding to the page
 
 abbrev pub small_disk : List ℕ → Disk
-small_disk block = record { block_size = 1024; page = 128; blocks = block ∷ unwritten 1024 ∷ [] }
+small_disk block = record { block_size = 1024; page = 128; order = ShorterFirst; blocks = block ∷ unwritten 1024 ∷ [] }
 
 abbrev pub small_block : List ℕ
 small_block = filled 1024 small_commit
@@ -89,7 +90,7 @@ large_commit =
 
 -- a disk of 16 blocks of 4,096 bytes that begins with these blocks
 abbrev pub large_disk : Blocks → Disk
-large_disk blocks = record { block_size = 4096; page = 256; blocks = blocks ++ replicate (16 - length blocks) (unwritten 4096) }
+large_disk blocks = record { block_size = 4096; page = 256; order = ShorterFirst; blocks = blocks ++ replicate (16 - length blocks) (unwritten 4096) }
 
 abbrev pub large_image : Disk
 large_image = large_disk (filled 4096 large_commit ∷ [])
@@ -170,7 +171,7 @@ zeroed_block =
     replicate 3584 0
 
 abbrev pub zeroed_image : Disk
-zeroed_image = record { block_size = 4096; page = 256; blocks = zeroed_block ∷ replicate 15 (replicate 4096 0) }
+zeroed_image = record { block_size = 4096; page = 256; order = ShorterFirst; blocks = zeroed_block ∷ replicate 15 (replicate 4096 0) }
 
 -- ---- other images of 16 blocks, by their entries
 
@@ -188,7 +189,7 @@ image_with root blocks = large_disk (root ∷ unwritten 4096 ∷ blocks)
 
 -- the fresh image cut or lengthened to so many blocks
 abbrev pub resized : ℕ → Disk
-resized count = record { block_size = 4096; page = 256; blocks = filled 4096 large_commit ∷ replicate (count - 1) (unwritten 4096) }
+resized count = record { block_size = 4096; page = 256; order = ShorterFirst; blocks = filled 4096 large_commit ∷ replicate (count - 1) (unwritten 4096) }
 
 -- a superblock's struct with another version, block size or limit of names, and a fresh root with it
 abbrev pub superblock_with : ℕ → ℕ → ℕ → List ℕ

@@ -43,8 +43,8 @@ pub listed_items-requires : goal.listed_items-requires
 listed_items-requires g c =
     let t = c.args.thread.now.kept in
     let device = c.device-device.result.now in
-    short_from t c.args.path.now c.requires.accepted c.shown_at.new.thread.kept.pairs c.first_of.result (items_seen c.in_ok-items.items.items) c.shown_at.ensures.reading.only.pairs
-    (first_at t c.args.path.now c.requires.accepted c.args.root c.in_ok-shown.shown c.first_of.result c.requires.root c.in_ok-shown.ensures.shown c.first_of.ensures) c.in_ok-items.ensures.items
+    short_from t c.args.path.now c.requires.accepted c.shown_at.new.thread.kept.pairs c.first_of.result (items_seen c.in_ok-items.items.items) (items_seen c.sort_by_name.new.items.items) c.shown_at.ensures.reading.only.pairs
+    (first_at t c.args.path.now c.requires.accepted c.args.root c.in_ok-shown.shown c.first_of.result c.requires.root c.in_ok-shown.ensures.shown c.first_of.ensures) c.in_ok-items.ensures.items c.sort_by_name.ensures
     (bytes_on g.D.BlockDevice device t.disk (c.device-device.ensures.disk ∙ c.entries_from.ensures.reading.only.disk ∙ c.shown_at.ensures.reading.only.disk) (g.met.D.BlockDevice.bytes device))
 
 pub returns-in_err-listed-clause-reading : goal.returns-in_err-listed-clause-reading
@@ -79,8 +79,8 @@ pub returns-clause-items : goal.returns-clause-items
 returns-clause-items g c =
     let t = c.args.thread.now.kept in
     let device = c.device-device.result.now in
-    listed_from t c.args.path.now c.requires.accepted c.shown_at.new.thread.kept.pairs c.first_of.result (items_seen c.in_ok-items.items.items) (map list_item_seen c.in_ok-listed.listed.items) c.shown_at.ensures.reading.only.pairs
-    (first_at t c.args.path.now c.requires.accepted c.args.root c.in_ok-shown.shown c.first_of.result c.requires.root c.in_ok-shown.ensures.shown c.first_of.ensures) c.in_ok-items.ensures.items
+    listed_from t c.args.path.now c.requires.accepted c.shown_at.new.thread.kept.pairs c.first_of.result (items_seen c.in_ok-items.items.items) (items_seen c.sort_by_name.new.items.items) (map list_item_seen c.in_ok-listed.listed.items) c.shown_at.ensures.reading.only.pairs
+    (first_at t c.args.path.now c.requires.accepted c.args.root c.in_ok-shown.shown c.first_of.result c.requires.root c.in_ok-shown.ensures.shown c.first_of.ensures) c.in_ok-items.ensures.items c.sort_by_name.ensures
     (sized_on g.D.BlockDevice device t.disk (g.D.BlockDevice.geometry device).block_count (c.device-device.ensures.disk ∙ c.entries_from.ensures.reading.only.disk ∙ c.shown_at.ensures.reading.only.disk)
     (g.D.BlockDevice.geometry device).valid.no_smaller (g.met.D.BlockDevice.shape device))
     c.in_ok-listed.ensures

@@ -1,5 +1,6 @@
-use Rattle.std.proofs.Common.{ℕ, ◌≡◌, inl, inr, ◌<◌, ◌+◌, ◌∙◌, true, List, slice_index_or, sym, ap, subst, length, drop, arith, refl, None}
+use Rattle.std.proofs.Common.{subst₂, ℕ, ◌≡◌, inl, inr, ◌<◌, ◌+◌, ◌∙◌, true, List, slice_index_or, sym, ap, subst, length, drop, arith, refl, None}
 use Rattle.std.proofs.lemmas.Result.{err_from_is_err_and}
+use Rattle.lfs_model.specs.Disk.{Disk}
 use Rattle.lfs_model.specs.Thread.{Pair, is_hard}
 use Rattle.lfs_model.specs.InDirectory.{StandsAt, PlaceAt, run_length}
 use Rattle.lfs_thread.specs.Steps.{pair_in, no_pair}
@@ -29,7 +30,7 @@ returns-in_err-id-clause-errors g c =
 pub returns-in-Found-clause-answer : goal.returns-in-Found-clause-answer
 returns-in-Found-clause-answer g c =
     let inv = c.loop-id.invariant in
-    let a = subst (λ o. AnswersIn None (pair_in c.loop-id.thread.kept c.loop-id.pair).content.slots c.args.name.now o) c.in-Found.is c.in_ok-id.ensures.answer in
+    let a = subst (λ o. AnswersIn c.loop-id.thread.kept.disk.order None (pair_in c.loop-id.thread.kept c.loop-id.pair).content.slots c.args.name.now o) c.in-Found.is c.in_ok-id.ensures.answer in
     let (s, shows) = subst (λ (ps : List Pair). (s : StandsAt (slice_index_or ps c.loop-id.pair no_pair).content.slots c.args.name.now c.in-Found.id) × Shows c.in-Found.entry s.slot.struct) inv.only.pairs (a.stands, a.shows) in
     stands_here c.args.thread.now.kept.pairs c.args.first c.args.name.now _ _ c.loop-id.pair c.in-Found.id no_pair inv.walked inv.below c.requires.entries c.in-Found.entry s shows
 
@@ -45,8 +46,8 @@ returns-in-None-clause-only g c = only_read _ _ _ c.loop-id.invariant.only c.fin
 pub returns-then-from-slot_count-clause-answer : goal.returns-then-from-slot_count-clause-answer
 returns-then-from-slot_count-clause-answer g c =
     let inv = c.loop-id.invariant in
-    let a = subst (λ o. AnswersIn None (pair_in c.loop-id.thread.kept c.loop-id.pair).content.slots c.args.name.now o) c.in-Place.is c.in_ok-id.ensures.answer in
-    let place = subst (λ (ps : List Pair). PlaceAt (slice_index_or ps c.loop-id.pair no_pair).content.slots c.args.name.now c.in-Place.id) inv.only.pairs (a.place refl) in
+    let a = subst (λ o. AnswersIn c.loop-id.thread.kept.disk.order None (pair_in c.loop-id.thread.kept c.loop-id.pair).content.slots c.args.name.now o) c.in-Place.is c.in_ok-id.ensures.answer in
+    let place = subst₂ (λ (d : Disk) (ps : List Pair). PlaceAt d.order (slice_index_or ps c.loop-id.pair no_pair).content.slots c.args.name.now c.in-Place.id) inv.only.disk inv.only.pairs (a.place refl) in
     let pairs = c.in_ok-id.ensures.reading.only.pairs ∙ inv.only.pairs in
     let count = c.slot_count.ensures ∙ ap (λ (ps : List Pair). length (slice_index_or ps c.loop-id.pair no_pair).content.slots) pairs in
     let moved : Moves c.args.first c.loop-id.pair c.in-Place.id c.loop-id.spot.pair c.loop-id.spot.id c.if-pair-first.spot.pair c.if-pair-first.spot.id = elim c.if-pair-first.branch [
@@ -59,8 +60,8 @@ returns-then-from-slot_count-clause-answer g c =
 pub returns-in-None-clause-answer : goal.returns-in-None-clause-answer
 returns-in-None-clause-answer g c =
     let inv = c.loop-id.invariant in
-    let a = subst (λ o. AnswersIn None (pair_in c.loop-id.thread.kept c.loop-id.pair).content.slots c.args.name.now o) c.in-Place.is c.in_ok-id.ensures.answer in
-    let place = subst (λ (ps : List Pair). PlaceAt (slice_index_or ps c.loop-id.pair no_pair).content.slots c.args.name.now c.in-Place.id) inv.only.pairs (a.place refl) in
+    let a = subst (λ o. AnswersIn c.loop-id.thread.kept.disk.order None (pair_in c.loop-id.thread.kept c.loop-id.pair).content.slots c.args.name.now o) c.in-Place.is c.in_ok-id.ensures.answer in
+    let place = subst₂ (λ (d : Disk) (ps : List Pair). PlaceAt d.order (slice_index_or ps c.loop-id.pair no_pair).content.slots c.args.name.now c.in-Place.id) inv.only.disk inv.only.pairs (a.place refl) in
     let pairs = c.in_ok-id.ensures.reading.only.pairs ∙ inv.only.pairs in
     let moved : Moves c.args.first c.loop-id.pair c.in-Place.id c.loop-id.spot.pair c.loop-id.spot.id c.if-pair-first.spot.pair c.if-pair-first.spot.id = elim c.if-pair-first.branch [
       | then-pair-first w ↦ moves (elim w.then-pair-first.branch [ then-pair-first-via-then-pair-first v ↦ inl v.if-pair-first.true | then-pair-first-via-else-pair-first+then-id-gt0 v ↦ inr (omega arith) ]) (ap (λ s. s.pair) w.spot-is) (ap (λ s. s.id) w.spot-is)
@@ -73,8 +74,8 @@ returns-in-None-clause-answer g c =
 pub loop-id-preserved : goal.loop-id-preserved
 loop-id-preserved g c =
     let inv = c.loop-id.invariant in
-    let a = subst (λ o. AnswersIn None (pair_in c.loop-id.thread.kept c.loop-id.pair).content.slots c.args.name.now o) c.in-Place.is c.in_ok-id.ensures.answer in
-    let place = subst (λ (ps : List Pair). PlaceAt (slice_index_or ps c.loop-id.pair no_pair).content.slots c.args.name.now c.in-Place.id) inv.only.pairs (a.place refl) in
+    let a = subst (λ o. AnswersIn c.loop-id.thread.kept.disk.order None (pair_in c.loop-id.thread.kept c.loop-id.pair).content.slots c.args.name.now o) c.in-Place.is c.in_ok-id.ensures.answer in
+    let place = subst₂ (λ (d : Disk) (ps : List Pair). PlaceAt d.order (slice_index_or ps c.loop-id.pair no_pair).content.slots c.args.name.now c.in-Place.id) inv.only.disk inv.only.pairs (a.place refl) in
     let pairs = c.in_ok-id.ensures.reading.only.pairs ∙ inv.only.pairs in
     let count = c.slot_count.ensures ∙ ap (λ (ps : List Pair). length (slice_index_or ps c.loop-id.pair no_pair).content.slots) pairs in
     let on = leads_on (is_hard (pair_in c.find_in_pair.new.thread.kept c.loop-id.pair).content.tail) (c.loop-id.pair + 1) c.in-Some.next (sym c.next.ensures.next ∙ c.in-Some.is) in
@@ -96,6 +97,6 @@ loop-id-preserved g c =
       few = omega (arith, few, once, run);
       from = omega (arith, from, next);
       below = behind;
-      walked = subst (λ (n : ℕ). IsWalked c.args.thread.now.kept.pairs c.args.first c.args.name.now c.if-pair-first.spot.pair c.if-pair-first.spot.id n) (sym next)
+      walked = subst (λ (n : ℕ). IsWalked c.args.thread.now.kept.disk.order c.args.thread.now.kept.pairs c.args.first c.args.name.now c.if-pair-first.spot.pair c.if-pair-first.spot.id n) (sym next)
           (walked_on c.args.thread.now.kept.pairs c.args.first c.args.name.now _ _ c.loop-id.pair c.in-Place.id no_pair inv.walked inv.below c.requires.entries place inv.from _ _ moved (let t = c.if-from-slot_count.false in let f = c.from.ensures in omega arith) hard);
     }

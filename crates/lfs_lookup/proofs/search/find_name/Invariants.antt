@@ -13,7 +13,7 @@ invariant-loop-id g l = record {
   few : reads l.thread.kept.history + run_length (drop l.pair l.fn.thread.kept.pairs) ≤ reads l.fn.thread.kept.history + run_length (drop l.fn.first l.fn.thread.kept.pairs);
   from : l.fn.first ≤ l.pair;
   below : l.pair < length l.fn.thread.kept.pairs;
-  walked : IsWalked l.fn.thread.kept.pairs l.fn.first l.fn.name l.spot.pair l.spot.id l.pair;
+  walked : IsWalked l.fn.thread.kept.disk.order l.fn.thread.kept.pairs l.fn.first l.fn.name l.spot.pair l.spot.id l.pair;
 }
 
 abbrev pub decreases-loop-id : goal.decreases-loop-id

@@ -58,7 +58,7 @@ pub returns-in-Found-clause-answer : goal.returns-in-Found-clause-answer
 returns-in-Found-clause-answer g c =
     let inv = c.loop-id.invariant in
     let ps = c.args.thread.now.kept.pairs in
-    let a = subst (λ o. AnswersIn c.passed_in-skip.result (pair_in c.loop-id.thread.kept c.loop-id.pair).content.slots c.args.name.now o) c.in-Found.is c.in_ok-id.ensures.answer in
+    let a = subst (λ o. AnswersIn c.loop-id.thread.kept.disk.order c.passed_in-skip.result (pair_in c.loop-id.thread.kept c.loop-id.pair).content.slots c.args.name.now o) c.in-Found.is c.in_ok-id.ensures.answer in
     let b = subst (λ qs. StandsShown c.passed_in-skip.result (slice_index_or qs c.loop-id.pair no_pair).content.slots c.args.name.now c.in-Found.id c.in-Found.entry) inv.only.pairs a in
     shown_here ps c.args.moved c.args.first c.args.name.now _ (slice_index_or ps c.loop-id.pair no_pair) c.in-Found.entry inv.reached
     (subst (λ k. StandsShown k (slice_index_or ps c.loop-id.pair no_pair).content.slots c.args.name.now c.in-Found.id c.in-Found.entry) c.passed_in-skip.ensures b)
@@ -93,7 +93,7 @@ pub returns-in-None-clause-answer : goal.returns-in-None-clause-answer
 returns-in-None-clause-answer g c =
     let inv = c.loop-id.invariant in
     let ps = c.args.thread.now.kept.pairs in
-    let a = subst (λ o. AnswersIn c.passed_in-skip.result (pair_in c.loop-id.thread.kept c.loop-id.pair).content.slots c.args.name.now o) c.in-Place.is c.in_ok-id.ensures.answer in
+    let a = subst (λ o. AnswersIn c.loop-id.thread.kept.disk.order c.passed_in-skip.result (pair_in c.loop-id.thread.kept c.loop-id.pair).content.slots c.args.name.now o) c.in-Place.is c.in_ok-id.ensures.answer in
     let b = subst (λ k. IsAbsentBut k (slice_index_or ps c.loop-id.pair no_pair).content.slots c.args.name.now) c.passed_in-skip.ensures
     (subst (λ qs. IsAbsentBut c.passed_in-skip.result (slice_index_or qs c.loop-id.pair no_pair).content.slots c.args.name.now) inv.only.pairs a.absent) in
     let pairs = c.in_ok-id.ensures.reading.only.pairs ∙ inv.only.pairs in
@@ -105,7 +105,7 @@ pub loop-id-preserved : goal.loop-id-preserved
 loop-id-preserved g c =
     let inv = c.loop-id.invariant in
     let ps = c.args.thread.now.kept.pairs in
-    let a = subst (λ o. AnswersIn c.passed_in-skip.result (pair_in c.loop-id.thread.kept c.loop-id.pair).content.slots c.args.name.now o) c.in-Place.is c.in_ok-id.ensures.answer in
+    let a = subst (λ o. AnswersIn c.loop-id.thread.kept.disk.order c.passed_in-skip.result (pair_in c.loop-id.thread.kept c.loop-id.pair).content.slots c.args.name.now o) c.in-Place.is c.in_ok-id.ensures.answer in
     let b = subst (λ k. IsAbsentBut k (slice_index_or ps c.loop-id.pair no_pair).content.slots c.args.name.now) c.passed_in-skip.ensures
     (subst (λ qs. IsAbsentBut c.passed_in-skip.result (slice_index_or qs c.loop-id.pair no_pair).content.slots c.args.name.now) inv.only.pairs a.absent) in
     let pairs = c.in_ok-id.ensures.reading.only.pairs ∙ inv.only.pairs in

@@ -1,11 +1,11 @@
-use Rattle.std.proofs.Common.{◌<◌, ◌++◌, ◌∷◌, [], ◌-◌, ◌∙◌, Err, List, Some, ap, length, reverse, sym, subst, take}
-use Rattle.lfs_lookup.specs.Listed.{shapes_from}
+use Rattle.std.proofs.Common.{◌<◌, ◌++◌, ◌∷◌, [], ◌-◌, ◌∙◌, Err, List, ap, length, sym, subst, take}
 use Rattle.std.proofs.lemmas.List.{map-append}
 use Rattle.std.proofs.lemmas.Result.{err_from_is_err_and}
 use Rattle.lfs_model.specs.Thread.{Pair}
 use Rattle.lfs_model.specs.Shown.{entries_in}
 use Rattle.lfs_lookup.specs.Items.{structure_seen}
-use Rattle.lfs_lookup.specs.Walk.{ArePushed, BeginsIfBranch, Place, found_seen, founds_seen, places_beneath}
+use Rattle.lfs_lookup.specs.Walk.{ArePushed, ArePushedFrom, BeginsIfBranch, Place, found_seen, founds_seen}
+use Rattle.lfs_lookup.specs.declared.walking.TreeItem.{TreeItem}
 use Rattle.lfs_lookup.proofs.Reading.{answered, both, further, has_read_nothing, lacks_memory, passed}
 use Rattle.lfs_lookup.proofs.Roots.{root_shapes}
 use Rattle.lfs_lookup.proofs.Sizes.{less_left, load}
@@ -21,9 +21,9 @@ pub loop-found-init : goal.loop-found-init
 loop-found-init g c = record {
   read = answered _ _ c.push_directory.result c.in_ok-push_directory.field-0 c.in_ok-push_directory.was c.push_directory.ensures.reading;
   under_way = subst (λ (done : List Place). IsUnderWay c.args.thread.now.kept.disk c.args.thread.now.kept.pairs done (founds_seen c.push_directory.new.pending.items)) (sym (ap founds_seen c.new-walked.ensures.items))
-      (begun c.args.thread.now.kept.disk c.args.thread.now.kept.pairs (founds_seen c.push_directory.new.pending.items) c.requires.accepted
-      (c.in_ok-push_directory.ensures.pushed ∙ ap (λ items. founds_seen items ++ reverse (places_beneath [] (shapes_from c.args.thread.now.kept.pairs (Some 0)))) c.new-pending.ensures.items
-      ∙ ap (λ shapes. reverse (places_beneath [] shapes)) (root_shapes c.args.thread.now.kept.disk c.args.thread.now.kept.pairs c.requires.accepted)));
+      (begun c.args.thread.now.kept.disk c.args.thread.now.kept.pairs 0 (founds_seen c.push_directory.new.pending.items) c.requires.accepted
+      (root_shapes c.args.thread.now.kept.disk c.args.thread.now.kept.pairs c.requires.accepted)
+      (subst (λ (items : List TreeItem). ArePushedFrom c.args.thread.now.kept.pairs [] 0 (founds_seen items) (founds_seen c.push_directory.new.pending.items)) c.new-pending.ensures.items c.in_ok-push_directory.ensures.pushed));
 }
 
 pub push_below-requires-clause-begins : goal.push_below-requires-clause-begins

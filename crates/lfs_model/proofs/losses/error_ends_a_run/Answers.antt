@@ -20,7 +20,7 @@ cut = record {
   turns = (fresh_moment, (turn, refl));
   fails = record {
     failed = refl;
-    geometry = record { block_size = refl; page = refl; count = refl };
+    geometry = record { block_size = refl; page = refl; order = refl; count = refl };
     calls = [];
     called = refl;
     asks = λ s e f. absurd (cc);

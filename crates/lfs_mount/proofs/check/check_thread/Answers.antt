@@ -42,8 +42,8 @@ returns-in_err-check_reached-clause-corrupt g c = λ is chain p rest known a.
     let e = err_from_is_err_and c.from_residual-in_err-check_reached.result c.from_residual-in_err-check_reached.ensures.1 in
     let disk = disk_on g.D.BlockDevice c.args.device.now in
     let shows = known_drawn disk c.args.map.now c.args.places.now c.args.members.now c.args.sync chain p rest (graph_of c.in_ok-directories.directories.items) c.take_pairs.new.map known c.in_ok-directories.ensures.taken in
-    c.in_err-check_reached.ensures.corrupt (ap Err (same_error e.1 e.2 is)) (chain ++ p ∷ rest)
-    (subst (λ (ds : List Directory). Shows (graph_of ds) c.args.sync (chain ++ p ∷ rest)) (sym c.deref.ensures.value) shows) (accepted_right disk (chain ++ p ∷ rest) a)
+    c.in_err-check_reached.ensures.corrupt (ap Err (same_error e.1 e.2 is)) disk.order (chain ++ p ∷ rest)
+    (subst (λ (ds : List Directory). Shows disk.order (graph_of ds) c.args.sync (chain ++ p ∷ rest)) (sym c.deref.ensures.value) shows) (accepted_right disk (chain ++ p ∷ rest) a)
 
 pub returns-clause-ok : goal.returns-clause-ok
 returns-clause-ok g c = λ chain p rest known.
@@ -54,5 +54,5 @@ returns-clause-ok g c = λ chain p rest known.
       marked = λ bytes head. checked_blocks disk c.args.map.now c.args.places.now c.args.members.now c.args.sync chain p rest bytes (graph_of c.in_ok-directories.directories.items) c.take_pairs.new.map known head c.in_ok-directories.ensures.taken;
       accepted = λ bytes head move. checked_accepted disk c.args.map.now c.args.places.now c.args.members.now c.args.sync chain p rest bytes (graph_of c.in_ok-directories.directories.items) c.take_pairs.new.map known head move
           c.in_ok-directories.ensures.taken
-          (c.in_ok-check_reached.ensures.ok (chain ++ p ∷ rest) (subst (λ (ds : List Directory). Shows (graph_of ds) c.args.sync (chain ++ p ∷ rest)) (sym c.deref.ensures.value) shows));
+          (c.in_ok-check_reached.ensures.ok disk.order (chain ++ p ∷ rest) (subst (λ (ds : List Directory). Shows disk.order (graph_of ds) c.args.sync (chain ++ p ∷ rest)) (sym c.deref.ensures.value) shows));
     }

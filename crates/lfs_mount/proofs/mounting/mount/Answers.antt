@@ -1,7 +1,7 @@
 use Rattle.std.proofs.Common.{arith, ◌≡◌, ◌≤◌, ◌+◌, sym, ap, subst, ◌∙◌}
 use Rattle.lfs_model.specs.Blocks.{Blocks}
 use Rattle.lfs_model.specs.History.{OnlyReads, faults, reads}
-use Rattle.lfs_model.specs.Disk.{Disk, block_count}
+use Rattle.lfs_model.specs.Disk.{Disk}
 use Rattle.lfs_model.proofs.Histories.{reads-since}
 use Rattle.lfs_tag.specs.FieldsSeen.{move_seen}
 use Rattle.lfs_thread.specs.Kept.{IsCurrent, Kept, disk_on}

@@ -29,7 +29,9 @@ returns-clause-taken g c = record {
   content = ap (λ b. content_after_all no_content (log_entries b)) (sym (c.read-log.ensures ∙ c.deref.ensures.value ∙ c.in_ok-bytes.ensures.bytes)) ∙ c.in_ok-slots.ensures.content;
   entries = map slot_seen c.take_superblock.new.slots.items;
   kept = ap (option_and_then (behind_superblock c.args.member.now.has_superblock)) c.in_ok-take_moved.ensures.ok ∙ c.in_ok-take_superblock.ensures.ok;
-  scan = ap (λ xs. scanned c.args.places.now (known_seen c.args.known.now) (map slot_seen xs)) (sym c.deref-2.ensures.value) ∙ c.in_ok-scan.ensures.ok;
+  scan = ap₂ (λ o xs. scanned o c.args.places.now (known_seen c.args.known.now) (map slot_seen xs))
+      (sym (ap (λ (k : Geometry). k.order) (c.geometry.ensures ∙ c.in_ok-bytes.ensures.device.geometry)))
+      (sym c.deref-2.ensures.value) ∙ c.in_ok-scan.ensures.ok;
   lists = subst (λ ls. MarksLists (disk_on g.D.BlockDevice c.args.device.now) c.args.map.now ls c.mark_lists.new.map)
       (ap lists_seen c.deref-3.ensures.value)
       (subst (λ d. MarksLists d c.args.map.now (lists_seen c.deref-3.result.now) c.mark_lists.new.map) (ap₂ disk_of c.in_ok-bytes.ensures.device.geometry c.in_ok-bytes.ensures.device.same) c.in_ok-mark_lists.ensures.marked);

@@ -15,13 +15,13 @@ some_in : (ds : List Directory) → 0 < length ds → 0 < length (graph_of ds)
 some_in ds some = omega (arith, length-graph ds)
 
 pub returns-in_err-is_reached-clause-corrupt : goal.returns-in_err-is_reached-clause-corrupt
-returns-in_err-is_reached-clause-corrupt c = λ is ps shows right.
+returns-in_err-is_reached-clause-corrupt c = λ is by ps shows right.
     let p = err_from_is_err_and c.from_residual.result c.from_residual.ensures.1 in
     let fails = c.in_err-is_reached.ensures.corrupt (ap Err (same_error p.1 p.2 is)) in
     fails_wrong ps (graph_of c.args.directories.now) c.args.sync shows (some_in c.args.directories.now c.requires.some) fails.0 fails.1 right
 
 pub returns-then-contains-clause-corrupt : goal.returns-then-contains-clause-corrupt
-returns-then-contains-clause-corrupt c = λ is ps shows right.
+returns-then-contains-clause-corrupt c = λ is by ps shows right.
     let r = c.in_ok-is_reached.ensures.reached in
     let marks = c.in_ok-is_reached.is_reached.items in
     let any = c.if-contains.ensures.cases in
@@ -29,7 +29,7 @@ returns-then-contains-clause-corrupt c = λ is ps shows right.
     never_right ps (graph_of c.args.directories.now) c.args.sync shows (some_in c.args.directories.now c.requires.some) r.steps marks r.finished r.marked r.len any.0 c.if-not-sync.true unmarked right
 
 pub returns-clause-ok : goal.returns-clause-ok
-returns-clause-ok c = λ ps shows.
+returns-clause-ok c = λ by ps shows.
     let r = c.in_ok-is_reached.ensures.reached in
     let marks = c.in_ok-is_reached.is_reached.items in
     all_right ps (graph_of c.args.directories.now) c.args.sync shows (some_in c.args.directories.now c.requires.some) r.steps marks r.finished r.marked r.len

@@ -13,7 +13,7 @@ returns-in-Ok-clause-fresh g c = (fresh_tree c.in-Ok.thread c.in-Ok.ensures.work
 pub returns-in-Ok-clause-geometry : goal.returns-in-Ok-clause-geometry
 returns-in-Ok-clause-geometry g c =
     let s = c.in-Ok.ensures.writes.shape in
-    record { block_size = s.block_size; page = s.page; count = s.count }
+    record { block_size = s.block_size; page = s.page; order = s.order; count = s.count }
 
 pub returns-in-Ok-clause-calls : goal.returns-in-Ok-clause-calls
 returns-in-Ok-clause-calls g c = record { calls = c.in-Ok.ensures.calls; writes = c.in-Ok.ensures.writes }

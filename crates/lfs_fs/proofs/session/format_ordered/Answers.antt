@@ -1,0 +1,38 @@
+use Rattle.lfs_checks.specs.Held.{held_of}
+use Rattle.std.proofs.Common.{refl, sym, ap, subst}
+use Rattle.lfs_device.specs.declared.geometry.Geometry.{Geometry}
+use Rattle.lfs_device.specs.declared.ordered.Ordered.{Ordered}
+use Rattle.lfs_model.specs.Thread.{anchor}
+use Rattle.lfs_thread.specs.Device.{two_of}
+use Rattle.lfs_tree.specs.Formatting.{DeviceComesBack}
+use Rattle.lfs_checks.specs.FileSeen.{files_seen}
+use Rattle.lfs_fs.proofs.FreshBegun.{fresh_state}
+use Rattle.lfs_fs.proofs.Remounting.{fresh_ready}
+use Rattle.lfs_fs.proofs.session.format_ordered.Goals as goal
+
+pub invariant_of-result : goal.invariant_of-result
+invariant_of-result g c = λ works. fresh_ready _ c.in-Ok.tree c.none.result c.none.ensures c.in-Ok.ensures.sound c.in-Ok.ensures.fresh.0 c.in-Ok.ensures.calls.calls
+
+pub returns-in-Ok-clause-state : goal.returns-in-Ok-clause-state
+returns-in-Ok-clause-state g c = fresh_state (held_of c.in-Ok.tree c.none.result) c.in-Ok.ensures.works.0 (ap (files_seen c.in-Ok.tree) c.none.ensures) c.in-Ok.ensures.sound.accepted c.in-Ok.ensures.fresh.1
+
+pub returns-in-Err-clause-back : goal.returns-in-Err-clause-back
+returns-in-Err-clause-back g c =
+    let b = c.in-Err.ensures.back in
+    let below = c.new.result.inner in
+    subst (λ old. DeviceComesBack g.D.BlockDevice (two_of anchor) old c.into_inner.result c.in-Err.error) c.new.ensures.inner
+    (subst (λ back. DeviceComesBack g.D.BlockDevice (two_of anchor) below back c.in-Err.error) (sym c.into_inner.ensures) (record {
+      errors = b.errors;
+      others = b.writes.others;
+      elsewhere = b.writes.elsewhere;
+      geometry = λ order. record {
+        block_size = ap (λ (k : Geometry). k.block_size) b.writes.geometry;
+        page = ap (λ (k : Geometry). k.page) b.writes.geometry;
+        order = refl;
+        count = b.writes.others.count;
+      };
+      at_worst = b.writes.at_worst;
+      unwritten = λ lack. ap (λ (w : Ordered g.row.D.Denot). w.inner) (b.unwritten lack);
+      fault = b.fault;
+      no_fault = b.no_fault;
+    }))

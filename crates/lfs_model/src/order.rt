@@ -1,0 +1,10 @@
+// The two orders in which a directory may have its names.
+
+/// In which order the names of a directory stand: by their bytes, and where one name is the beginning of another, as this says.
+#[derive(Clone, Copy, Debug, PartialEq, Eq)]
+pub enum NameOrder {
+    /// The shorter one comes first, as in any dictionary.
+    ShorterFirst,
+    /// The longer one comes first, as littlefs's own code has it.
+    LongerFirst,
+}

@@ -1,0 +1,17 @@
+-- What a mount says of a device whose image may have its names in either order.
+use Rattle.std.specs.Prelude.{◌≡◌, ◌≢◌, ◌<◌}
+use Rattle.lfs_device.specs.declared.device.BlockDevice.{Ghosts}
+use Rattle.lfs_device.specs.declared.error.Error.{Error}
+use Rattle.lfs_device.specs.declared.error.Error.TheVariants.{Io}
+use Rattle.lfs_device.specs.Shown.{ordered}
+use Rattle.lfs_model.specs.History.{OnlyReads, faults}
+use Rattle.lfs_model.specs.declared.order.NameOrder.{NameOrder}
+use Rattle.lfs_thread.specs.Kept.{disk_on}
+
+-- The device comes back with an error: it was only read, and in each order of names it is the same disk. `Io` comes with
+-- a fault of it, and any other error with none.
+pub record GivesDeviceBack {D : Type 0} (g : Ghosts D) (old back : D) (error : Error) : Type 0 where
+  pub disk : (order : NameOrder) → ordered order (disk_on g back) ≡ ordered order (disk_on g old)
+  pub reads : OnlyReads (g.blocks old) (g.history old) (g.history back)
+  pub fault : error ≡ Io → faults (g.history old) < faults (g.history back)
+  pub no_fault : error ≢ Io → faults (g.history back) ≡ faults (g.history old)

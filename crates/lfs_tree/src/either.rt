@@ -1,0 +1,45 @@
+// A device's image as a tree, in whichever order its directories have their names.
+
+ghost use Rattle.std.specs.Prelude.{◌≡◌, IfErr, IfOk, List};
+ghost use Rattle.lfs_device.specs.Shown.{ordered};
+ghost use Rattle.lfs_model.specs.Thread.{Pair};
+ghost use Rattle.lfs_model.specs.View.{IsAccepted};
+ghost use Rattle.lfs_model.specs.declared.order.NameOrder.{NameOrder};
+ghost use Rattle.lfs_model.specs.declared.order.NameOrder.TheVariants.{LongerFirst, ShorterFirst};
+ghost use Rattle.lfs_mount.specs.Device.{IsMountError};
+ghost use Rattle.lfs_mount.specs.Either.{GivesDeviceBack};
+ghost use Rattle.lfs_thread.specs.Kept.{disk_on};
+ghost use Rattle.lfs_tree.specs.Seen.{IsMountedTree};
+
+use crate::image::Image;
+use crate::mounted::read_root;
+use crate::tree::Tree;
+use lfs_device::{BlockDevice, Error, Ordered};
+use std::alloc::Global;
+
+/// Reads the image of a device, as [`Tree::mount`] does, in the order of names that it has. Where
+/// both orders fit, the longer names come first.
+///
+/// `Corrupt` exactly where no image is accepted there in either order. `Io` where a read failed, and
+/// `NoMemory` where memory isn't granted. The device comes back with an error.
+pub fn mount_either<D: BlockDevice>(
+    alloc: Global,
+    device: D,
+) -> Result<Tree<Ordered<D>>, (D, Error)>
+    ensures mounted { IfOk result (λ t. IsMountedTree (ordered t.disk.order (disk_on D.BlockDevice device)) (D.history device) t) }
+    ensures longer { IfOk result (λ t. t.disk.order ≡ ShorterFirst → (ps : List Pair) → ¬ IsAccepted (ordered LongerFirst (disk_on D.BlockDevice device)) ps) }
+    ensures corrupt { IfErr result (λ e. e.1 ≡ Error.Corrupt → (order : NameOrder) (ps : List Pair) → ¬ IsAccepted (ordered order (disk_on D.BlockDevice device)) ps) }
+    ensures errors { IfErr result (λ e. IsMountError e.1) }
+    ensures back { IfErr result (λ e. GivesDeviceBack D.BlockDevice device e.0 e.1) }
+{
+    let mut thread = lfs_mount::mount_either(alloc, device)?;
+    match read_root(alloc, &mut thread) {
+        Ok((root, is_writable)) => Ok(Tree {
+            image: Image::Mounted(thread),
+            root,
+            is_writable,
+            has_failed: false,
+        }),
+        Err(error) => Err((thread.into_device().into_inner(), error)),
+    }
+}

@@ -2,7 +2,8 @@
 // at random, which may end in a loss of power, or carries out operations that it is told. Where VERSION isn't given, its images
 // are of the newest version that the code knows.
 //
-//   exchange list IMAGE BLOCK PAGE               a line for each entry, with paths and attributes in hexadecimal numbers:
+//   exchange list IMAGE BLOCK PAGE [ended]       a line for each entry, with paths and attributes in hexadecimal numbers;
+//                                                with `ended` what a loss of power left half done is ended first:
 //                                                f SIZE CHECKSUM PATH, or d PATH, and then TYPE:BYTES for each attribute;
 //                                                missing PATH for a listed name that isn't found when it is looked up
 //   exchange make IMAGE BLOCK PAGE COUNT CYCLES SEED
@@ -343,13 +344,15 @@ int main(int argc, char **words) {
     if (argc < 5) return 2;
     uint32_t block = (uint32_t)atol(words[3]), page = (uint32_t)atol(words[4]);
     int makes = !strcmp(words[1], "make"), runs = !strcmp(words[1], "run"), lists = !strcmp(words[1], "list");
-    if (argc != (lists ? 5 : makes ? 8 : 7)) return 2;
+    int ends = lists && argc == 6 && !strcmp(words[5], "ended");
+    if (argc != (lists ? 5 + ends : makes ? 8 : 7)) return 2;
     uint32_t count = makes || runs ? (uint32_t)atol(words[5]) : 0;
     int32_t cycles = lists ? -1 : (int32_t)atol(words[makes || runs ? 6 : 5]);
     state = runs || lists ? 0 : (uint64_t)atoll(words[argc - 1]);
     if (count ? begin(block, page, count, cycles, below(2) ? 0xff : 0) : load(words[2], block, page, cycles)) return 2;
     if (!lists && !runs) keeps = (int)below(2);
     int err = lfs_mount(&lfs, &config);
+    if (ends && !err) err = lfs_fs_mkconsistent(&lfs);
     if (lists && !err) err = show("/");
     if (lists && err) printf("error %d\n", err);
     if (lists || err) return err ? 1 : 0;

@@ -22,12 +22,14 @@ the kinds of one line above.
 
 Prints a table: how many images and entries there were; images refused here, with the cause; names that littlefs lists and doesn't find,
 or that it doesn't list; names that it lists twice; older trees that were listed here; and other differences. Cut images of a
-`block_cycles` up to 25 in which a directory is half moved may be refused, and are counted apart. Fails where anything else is above
-0; the image is then left in FOLDER.
+`block_cycles` up to 25 in which a directory is half moved may be refused, and are counted apart. Where a loss of power left a move
+half done, littlefs ends it before it lists: since release 2.9 it doesn't list the entry behind the moved one until then. Fails where
+anything else is above 0; the image is then left in FOLDER.
 """
 
 import argparse
 import collections
+import functools
 import os
 import re
 import shutil
@@ -139,6 +141,17 @@ def is_half_moved(pairs):
     return any(len(pointer & set(pair.address)) == 1 for pointer in pointers for pair in pairs)
 
 
+def has_move(image, geometry):
+    """Whether a slot is moved away that still stands there. Since release 2.9 littlefs doesn't list the entry behind it until the move is ended."""
+    with open(image, "rb") as it:
+        data = it.read()
+    try:
+        pairs = image_reader.read_thread([data[at : at + geometry[0]] for at in range(0, len(data), geometry[0])])
+    except image_reader.Refused:
+        return False
+    return image_reader.word(bytes(functools.reduce(lambda a, b: [x ^ y for x, y in zip(a, b)], (pair.move for pair in pairs)))) >> 20 & 0x7FF != 0
+
+
 def has_beginnings(tree):
     """Whether in some directory one name is the beginning of another."""
     names = collections.defaultdict(list)
@@ -191,7 +204,8 @@ def compare(options, table, cases):
     for at in range(0, len(cases), BATCH):
         script, stories = [], []
         for case in cases[at : at + BATCH]:
-            shown = littlefs_code.shown(options.newest if case.newer else options.code, case.image, case.geometry)
+            code = options.newest if case.newer else options.code
+            shown = littlefs_code.shown(code, case.image, case.geometry, ended=case.cut and has_move(case.image, case.geometry))
             tree = case.tree or (shown.tree if shown else None)
             asked = list(questions(tree)) if tree else []
             stories.append((case, shown, tree, asked))

@@ -3,7 +3,7 @@
 An answer is the listing in bytes, or the error's name. Geometry is (block size, page).
 """
 
-from image_maker import MOVED_SUPERBLOCKS, Commit, Entry, Log, folder, inline, list_of, listed, move, numbers, simple_plan, superblock, tail
+from image_maker import Commit, Entry, Log, folder, inline, list_of, listed, move, numbers, simple_plan, superblock, tail
 
 NULL = 0xffffffff
 HEAD = superblock(4096, 16)
@@ -222,7 +222,7 @@ def fronts():
     """Pairs without slots in front of the superblock."""
     first, second, third = (0, 1), (2, 3), (4, 5)
     on, behind, more = tail(second, hard=True), [second, [HEAD, HI]], tail(third, hard=True)
-    shown = b"f 2 /f\n" if MOVED_SUPERBLOCKS else "Corrupt"
+    shown = b"f 2 /f\n"
     late = plan([first, [], on], behind)
     late.blocks[2].commits.insert(0, Commit([]))
     yield "an empty pair in front", plan([first, [], on], behind), shown
@@ -239,7 +239,7 @@ def fronts():
     yield "a superblock behind an empty pair and an empty commit", late, "Corrupt"
     yield "an empty pair in front, named as a directory", plan([first, [], on], [second, [HEAD, folder(b"d", 0, 1)]]), "Corrupt"
     yield "an empty pair in front, a directory behind", plan(
-        [first, [], on], [second, [HEAD, folder(b"d", 4, 5)], tail(third)], [third, [HI]]), b"d 0 /d\nf 2 /d/f\n" if MOVED_SUPERBLOCKS else "Corrupt"
+        [first, [], on], [second, [HEAD, folder(b"d", 4, 5)], tail(third)], [third, [HI]]), b"d 0 /d\nf 2 /d/f\n"
 
 
 def images():

@@ -8,10 +8,8 @@ of names, forward checksums. It gives the tree's lines too.
 """
 
 from dataclasses import dataclass, field
-import os
 import zlib
 
-MOVED_SUPERBLOCKS = os.environ.get("EMPTY_FRONT", "0") != "0"  # whether pairs without slots may stand in front of the superblock
 NULL = 0xffffffff
 REMOVED = 0x3ff
 GEOMETRIES = [(1024, 128, 64), (1024, 8, 96), (1024, 64, 200), (2048, 256, 40), (4096, 256, 16), (4096, 512, 48)]
@@ -257,7 +255,7 @@ class Layout:
         """All pairs in the thread's order: (address, slots, whether the tail to the next is hard)."""
         rnd, plan = self.rnd, self.plan
         chain = [(0, 1)] + [tuple(self.take(2)) for _ in range(rnd.choice([0, 0, 0, 0, 1, 3]))]
-        empty = [MOVED_SUPERBLOCKS and rnd.random() < 0.5 for _ in chain[:-1]] + [False]
+        empty = [rnd.random() < 0.5 for _ in chain[:-1]] + [False]
         self.add(tree, chain[-1])
         root = self.directories.pop()
         self.root = len(chain) - 1

@@ -4,17 +4,11 @@
 Refused: `Invalid` for a length or geometry outside the limits, `Corrupt` for bytes that
 hold no accepted image. Each log is folded forward from its start and each list walked
 block by block; nothing is kept or searched. docs/FORMAT.md tells the format and its rules.
-
-MOVED_SUPERBLOCKS says whether pairs without slots may stand in front of the superblock, as
-littlefs leaves them where the first pair has worn. The crates don't accept such images yet;
-EMPTY_FRONT=1 in the environment turns it on.
 """
 
 from dataclasses import dataclass
-import os
 import zlib
 
-MOVED_SUPERBLOCKS = os.environ.get("EMPTY_FRONT", "0") != "0"
 FILE, FOLDER, SUPERBLOCK = 0x001, 0x002, 0x0ff
 PAIR_STRUCT, INLINE, LIST = 0x200, 0x201, 0x202
 CREATE, DELETE, SET_MOVE = 0x401, 0x4ff, 0x4ff
@@ -210,7 +204,7 @@ class Image:
             headed = bool(slots) and slots[0].kind == SUPERBLOCK
             if headed:
                 root = index
-            elif slots or not MOVED_SUPERBLOCKS:
+            elif slots:
                 break
             if len(slots) > 1 or not hard:
                 break

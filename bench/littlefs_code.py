@@ -41,9 +41,9 @@ class Shown:
     twice: set  # listed more than once
 
 
-def shown(code, image, geometry):
-    """What littlefs shows of an image, or None where it can't be mounted or read."""
-    run = subprocess.run([code, "list", image, *map(str, geometry[:2])], stdout=subprocess.PIPE, text=True)
+def shown(code, image, geometry, ended=False):
+    """What littlefs shows of an image, or None where it can't be mounted or read; once it has ended what a loss of power left, or as it is."""
+    run = subprocess.run([code, "list", image, *map(str, geometry[:2]), *["ended"] * ended], stdout=subprocess.PIPE, text=True)
     if run.returncode:
         return None
     tree, missing, times = {b"": (None, {})}, set(), collections.Counter()

@@ -11,7 +11,7 @@ use Rattle.lfs_model.specs.Log.{log_entries}
 use Rattle.lfs_model.specs.Shown.{entries_in, all_slots, file_blocks, used_blocks}
 use Rattle.lfs_model.specs.SkipLists.{blocks_for, blocks_back, IsList}
 use Rattle.lfs_model.specs.Slots.{Slot, Struct, Inline, Ctz, Branch}
-use Rattle.lfs_model.specs.Thread.{Pair, IsThread, anchor, blocks_of}
+use Rattle.lfs_model.specs.Thread.{Pair, IsThread, blocks_of, first_at, from_slots}
 use Rattle.lfs_model.specs.View.{BeginsWith, IsAccepted, IsListIfCtz, IsSuperblockStruct, superblock_entry}
 use Rattle.lfs_excerpt.specs.Excerpt.{IsExcerpt}
 use Rattle.lfs_excerpt.proofs.Alike.{count_same, block_excerpt, holder_same, back_same, list_same}
@@ -49,8 +49,9 @@ module _ (disk excerpt : Disk) (is : IsExcerpt disk excerpt) where
   pub stays_accepted : (ps : List Pair) → IsAccepted disk ps → IsAccepted excerpt ps
   stays_accepted ps ok = record {
     thread = subst (λ of. IsThread of (block_count excerpt) ps) (sym contents) (subst (λ n. IsThread (content_at disk) n ps) (sym count) ok.thread);
-    first = subst (λ holding. BeginsWith (holding anchor) superblock_entry) (sym holders) ok.first;
+    first = subst (λ holding. BeginsWith (holding (first_at (from_slots ps))) superblock_entry) (sym holders) ok.first;
     named = ok.named;
+    root = ok.root;
     superblock = (let (bytes, (struct, same)) = ok.superblock in (bytes, (superblock_struct bytes struct, same)));
     slots = ok.slots;
     order = λ path at l. subst (λ o. AllPairs (λ a b. name_cmp o a b ≡ Less) (names_at (entries_in ps) at)) (sym is.order) (ok.order path at l);

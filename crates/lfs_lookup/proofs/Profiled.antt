@@ -7,7 +7,7 @@ use Rattle.lfs_model.specs.Disk.{Disk}
 use Rattle.lfs_model.specs.Slots.{Directory, File, FitsPair, Inline, Kind, Slot, Superblock, is_superblock_kind}
 use Rattle.lfs_model.specs.Thread.{Pair, is_hard, superblocks_before}
 use Rattle.lfs_model.specs.Profile.{FitsSlot, HaveSlots, IsWritable}
-use Rattle.lfs_model.specs.View.{HasSuperblock, IsAccepted, IsEntry, Suits}
+use Rattle.lfs_model.specs.View.{MayHaveSuperblock, IsAccepted, IsEntry, Suits}
 use Rattle.lfs_model.proofs.Completed.{complete_length, complete_parts}
 use Rattle.lfs_thread.specs.Steps.{no_pair}
 use Rattle.lfs_lookup.specs.Profile.{IsPairWritable, IsShaped, follows_at}
@@ -109,8 +109,8 @@ shaped_entry s e k = go s.kind k e.struct
     go Directory k e = absurd (cc)
     go Superblock k e = absurd e
 
-shaped_headed : (bytes : List ℕ) (slots : List Slot) → length bytes ≡ 24 → HasSuperblock bytes slots → All IsShaped slots
-shaped_headed bytes [] n h i d l = absurd h
+shaped_headed : (bytes : List ℕ) (slots : List Slot) → length bytes ≡ 24 → MayHaveSuperblock bytes slots → All IsShaped slots
+shaped_headed bytes [] n h i d l = absurd (omega (arith, l))
 shaped_headed bytes (s ∷ slots) n h zero d l = λ k. (bytes, (h.1, n))
 shaped_headed bytes (s ∷ slots) n h (suc i) d l = shaped_entry (slice_index_or slots i d) (h.2 i d (omega (arith, l)))
 

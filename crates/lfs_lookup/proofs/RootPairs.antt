@@ -1,32 +1,197 @@
 -- The superblock's pairs in front of the root directory, one after another.
-use Rattle.std.proofs.Common.{ℕ, zero, suc, ◌≡◌, ◌+◌, ◌<◌, ◌∙◌, ◌==◌, ◌&&◌, Bool, true, false, cond, List, [], ◌∷◌, length, drop, get_or, refl, sym, ap, subst, arith}
+use Rattle.std.proofs.Common.{ℕ, zero, suc, ◌≡◌, ◌+◌, ◌<◌, ◌≤◌, ◌∙◌, ◌&&◌, Bool, true, false, cond, List, [], ◌∷◌, length, drop, get_or, Option, None, Some, refl, sym, ap, subst, arith}
+use Rattle.std.proofs.lemmas.Bool.{and_from, and_parts, and_right}
 use Rattle.lfs_model.specs.Disk.{Disk}
 use Rattle.lfs_model.specs.InDirectory.{BeginsAt}
-use Rattle.lfs_model.specs.Thread.{Pair, is_hard, root_of, starts_with_superblock, superblocks_before}
+use Rattle.lfs_model.specs.Slots.{Slot}
+use Rattle.lfs_model.specs.Thread.{Pair, is_bare, is_hard, leads_on, meets_superblock, root_of, starts_with_superblock, superblock_or, superblocks_before}
 use Rattle.lfs_model.specs.View.{IsAccepted}
-use Rattle.lfs_thread.specs.Steps.{no_pair}
+use Rattle.lfs_model.proofs.Superblocks.{meets_from}
+use Rattle.lfs_thread.specs.Kept.{Kept}
+use Rattle.lfs_thread.specs.Steps.{no_pair, pair_in}
 use Rattle.lfs_lookup.specs.Paths.{BeginsOnPath}
+use Rattle.lfs_lookup.specs.Root.{IsInChain, IsNext, has_few, next_in_chain}
 use Rattle.lfs_lookup.proofs.Roots.{root_begins}
 
-abbrev pub continues : List Pair → ℕ → ℕ → Bool
-continues ps n next = length (get_or ps n no_pair).content.slots == 1 && is_hard (get_or ps n no_pair).content.tail && starts_with_superblock (get_or ps next no_pair).content.slots
+abbrev at : List Pair → ℕ → Pair
+at ps n = get_or ps n no_pair
 
-pub root_on : (ps : List Pair) (n : ℕ) → n + 1 < length ps → continues ps n (n + 1) ≡ true → superblocks_before (drop n ps) ≡ 1 + superblocks_before (drop (n + 1) ps)
-root_on [] n l e = absurd (omega arith)
-root_on (p ∷ []) zero l e = absurd (omega arith)
-root_on (p ∷ q ∷ ps) zero l e = ap (λ b. cond b (1 + superblocks_before (q ∷ ps)) 0) e
-root_on (p ∷ ps) (suc n) l e =
-    let f : suc n + 1 ≡ suc (n + 1) = omega arith in
-    root_on ps n (omega arith) (subst (λ k. continues (p ∷ ps) (suc n) k ≡ true) f e) ∙ ap (λ k. 1 + superblocks_before (drop k (p ∷ ps))) (sym f)
+dropped : (ps : List Pair) (n : ℕ) → n < length ps → drop n ps ≡ at ps n ∷ drop (n + 1) ps
+dropped [] n l = absurd (omega arith)
+dropped (p ∷ ps) zero l = refl
+dropped (p ∷ ps) (suc n) l = dropped ps n (omega arith) ∙ ap (λ k. at ps n ∷ drop k (p ∷ ps)) (let e : suc (n + 1) ≡ suc n + 1 = omega arith in e)
 
-pub root_ends : (ps : List Pair) (n : ℕ) → continues ps n (n + 1) ≡ false → superblocks_before (drop n ps) ≡ 0
-root_ends [] zero e = refl
-root_ends [] (suc n) e = refl
-root_ends (p ∷ []) zero e = refl
-root_ends (p ∷ q ∷ ps) zero e = ap (λ b. cond b (1 + superblocks_before (q ∷ ps)) 0) e
-root_ends (p ∷ ps) (suc n) e =
-    let f : suc n + 1 ≡ suc (n + 1) = omega arith in
-    root_ends ps n (subst (λ k. continues (p ∷ ps) (suc n) k ≡ false) f e)
+-- the chain goes on behind a pair
+abbrev pub goes_on : List Pair → ℕ → Bool
+goes_on ps n = meets_superblock (drop (n + 1) ps) && leads_on (at ps n)
+
+before_at : (ps : List Pair) (n : ℕ) → n < length ps → superblocks_before (drop n ps) ≡ cond (goes_on ps n) (1 + superblocks_before (drop (n + 1) ps)) 0
+before_at ps n l = ap superblocks_before (dropped ps n l)
+
+meets_at : (ps : List Pair) (n : ℕ) → n < length ps → meets_superblock (drop n ps) ≡ superblock_or (at ps n).content.slots (is_hard (at ps n).content.tail && meets_superblock (drop (n + 1) ps))
+meets_at ps n l = ap meets_superblock (dropped ps n l)
+
+meets_slots : (slots : List Slot) (later : Bool) → 0 < length slots → superblock_or slots later ≡ starts_with_superblock slots
+meets_slots [] later l = absurd (omega arith)
+meets_slots (s ∷ slots) later l = refl
+
+no_slots : (slots : List Slot) → length slots ≡ 0 → slots ≡ []
+no_slots [] e = refl
+no_slots (s ∷ slots) e = absurd (omega arith)
+
+few_bare : (slots : List Slot) → starts_with_superblock slots ≡ true → has_few slots ≡ true → is_bare slots ≡ true
+few_bare [] s f = refl
+few_bare (x ∷ []) s f = s
+few_bare (x ∷ y ∷ slots) s f = absurd (cc)
+
+many_not_bare : (slots : List Slot) → has_few slots ≡ false → is_bare slots ≡ false
+many_not_bare [] f = absurd (cc)
+many_not_bare (x ∷ []) f = absurd (cc)
+many_not_bare (x ∷ y ∷ slots) f = refl
+
+-- ---- up to the first pair that has a slot
+
+pub record IsAhead (ps : List Pair) (index : ℕ) : Type 0 where
+  pub meets : meets_superblock (drop index ps) ≡ true
+  pub root : index + superblocks_before (drop index ps) ≡ superblocks_before ps
+
+pub ahead_first : (disk : Disk) (ps : List Pair) → IsAccepted disk ps → IsAhead ps 0
+ahead_first disk ps ok = record { meets = meets_from ps ok.root; root = omega arith }
+
+pub ahead_next : (ps : List Pair) (n : ℕ) → n < length ps → length (at ps n).content.slots ≡ 0 → IsAhead ps n → IsAhead ps (n + 1)
+ahead_next ps n l none h =
+    let empty = no_slots (at ps n).content.slots none in
+    let meets = sym (ap (λ z. superblock_or z (is_hard (at ps n).content.tail && meets_superblock (drop (n + 1) ps))) empty) ∙ sym (meets_at ps n l) ∙ h.meets in
+    let both = and_parts (is_hard (at ps n).content.tail) (meets_superblock (drop (n + 1) ps)) meets in
+    let goes = and_from (meets_superblock (drop (n + 1) ps)) (leads_on (at ps n)) both.1 (and_from (is_bare (at ps n).content.slots) (is_hard (at ps n).content.tail) (ap is_bare empty) both.0) in
+    let more = before_at ps n l ∙ ap (λ b. cond b (1 + superblocks_before (drop (n + 1) ps)) 0) goes in
+    let root = h.root in
+    record { meets = both.1; root = omega arith }
+
+pub ahead_ends : (ps : List Pair) (n : ℕ) → length ps ≤ n → IsAhead ps n → ⊥
+ahead_ends ps n l h = let e = ap meets_superblock (drop_all ps n l) ∙ refl in let k = sym h.meets ∙ e in cc
+  where
+    drop_all : (xs : List Pair) (k : ℕ) → length xs ≤ k → drop k xs ≡ []
+    drop_all [] zero l = refl
+    drop_all [] (suc k) l = refl
+    drop_all (x ∷ xs) zero l = absurd (omega arith)
+    drop_all (x ∷ xs) (suc k) l = drop_all xs k (omega arith)
+
+pub ahead_found : (t : Kept) (n : ℕ) → n < length t.pairs → 0 < length (pair_in t n).content.slots → IsAhead t.pairs n → IsInChain t n
+ahead_found t n l some h = record {
+  below = l;
+  starts = sym (meets_slots (pair_in t n).content.slots (is_hard (pair_in t n).content.tail && meets_superblock (drop (n + 1) t.pairs)) some) ∙ sym (meets_at t.pairs n l) ∙ h.meets;
+  root = h.root;
+}
+
+-- a thread with the same pairs has the same chain
+pub in_chain_on : (a b : Kept) (n : ℕ) → b.pairs ≡ a.pairs → IsInChain b n → IsInChain a n
+in_chain_on a b n e h = record {
+  below = subst (λ (ps : List Pair). n < length ps) e h.below;
+  starts = subst (λ (ps : List Pair). starts_with_superblock (get_or ps n no_pair).content.slots ≡ true) e h.starts;
+  root = subst (λ (ps : List Pair). n + superblocks_before (drop n ps) ≡ superblocks_before ps) e h.root;
+}
+
+-- ---- from one superblock to the next
+
+pub record IsWalked (t : Kept) (superblock index : ℕ) : Type 0 where
+  pub below : index < length t.pairs
+  pub first : superblock ≤ index
+  pub bare : has_few (pair_in t index).content.slots ≡ true → is_bare (pair_in t index).content.slots ≡ true
+  pub goes : goes_on t.pairs index ≡ true → index + superblocks_before (drop index t.pairs) ≡ superblocks_before t.pairs
+  pub ends : goes_on t.pairs index ≡ false → superblock ≡ superblocks_before t.pairs
+
+pub walked_first : (t : Kept) (n : ℕ) → IsInChain t n → IsWalked t n n
+walked_first t n h = record {
+  below = h.below;
+  first = omega arith;
+  bare = few_bare (pair_in t n).content.slots h.starts;
+  goes = λ e. h.root;
+  ends = λ e. let none = before_at t.pairs n h.below ∙ ap (λ b. cond b (1 + superblocks_before (drop (n + 1) t.pairs)) 0) e in let root = h.root in omega arith;
+}
+
+-- the chain can't go on
+pub walked_stops : (t : Kept) (superblock n : ℕ) → IsWalked t superblock n → next_in_chain t n ≡ None → superblock ≡ superblocks_before t.pairs
+walked_stops t superblock n h e = h.ends (and_right (meets_superblock (drop (n + 1) t.pairs)) (leads_on (pair_in t n)) (go (has_few (pair_in t n).content.slots) refl (is_hard (pair_in t n).content.tail) refl e))
+  where
+    go : (few : Bool) → has_few (pair_in t n).content.slots ≡ few → (hard : Bool) → is_hard (pair_in t n).content.tail ≡ hard → cond few (cond hard (Some (n + 1)) None) None ≡ None → leads_on (pair_in t n) ≡ false
+    go false f hard k z = ap (λ b. b && is_hard (pair_in t n).content.tail) (many_not_bare (pair_in t n).content.slots f)
+    go true f false k z = and_right (is_bare (pair_in t n).content.slots) (is_hard (pair_in t n).content.tail) k
+    go true f true k z = absurd (cc)
+
+record Leads (t : Kept) (n next : ℕ) : Type 0 where
+  is : next ≡ n + 1
+  few : has_few (pair_in t n).content.slots ≡ true
+  hard : is_hard (pair_in t n).content.tail ≡ true
+
+leads_to : (t : Kept) (n next : ℕ) → next_in_chain t n ≡ Some next → Leads t n next
+leads_to t n next e = go (has_few (pair_in t n).content.slots) refl (is_hard (pair_in t n).content.tail) refl e
+  where
+    go : (few : Bool) → has_few (pair_in t n).content.slots ≡ few → (hard : Bool) → is_hard (pair_in t n).content.tail ≡ hard → cond few (cond hard (Some (n + 1)) None) None ≡ Some next → Leads t n next
+    go false f hard k z = absurd (cc)
+    go true f false k z = absurd (cc)
+    go true f true k z = record { is = (let i : n + 1 ≡ next = cc in sym i); few = f; hard = k }
+
+module _ (t : Kept) (superblock n next : ℕ) (h : IsWalked t superblock n) (e : next_in_chain t n ≡ Some next) (within : next < length t.pairs) where
+  abbrev l : Leads t n next
+  l = leads_to t n next e
+
+  leads : leads_on (pair_in t n) ≡ true
+  leads = and_from (is_bare (pair_in t n).content.slots) (is_hard (pair_in t n).content.tail) (h.bare l.few) l.hard
+
+  goes_by : goes_on t.pairs n ≡ meets_superblock (drop next t.pairs)
+  goes_by = ap (λ b. meets_superblock (drop (n + 1) t.pairs) && b) leads ∙ and_true_right (meets_superblock (drop (n + 1) t.pairs)) ∙ ap (λ k. meets_superblock (drop k t.pairs)) (sym l.is)
+    where
+      and_true_right : (b : Bool) → (b && true) ≡ b
+      and_true_right true = refl
+      and_true_right false = refl
+
+  meets_next : 0 < length (pair_in t next).content.slots → meets_superblock (drop next t.pairs) ≡ starts_with_superblock (pair_in t next).content.slots
+  meets_next some = meets_at t.pairs next within ∙ meets_slots (pair_in t next).content.slots (is_hard (pair_in t next).content.tail && meets_superblock (drop (next + 1) t.pairs)) some
+
+  -- a superblock again
+  pub walked_found : 0 < length (pair_in t next).content.slots → starts_with_superblock (pair_in t next).content.slots ≡ true → IsNext t superblock (Some next)
+  walked_found some starts =
+      let goes = goes_by ∙ meets_next some ∙ starts in
+      let more = before_at t.pairs n h.below ∙ ap (λ b. cond b (1 + superblocks_before (drop (n + 1) t.pairs)) 0) goes ∙ ap (λ k. 1 + superblocks_before (drop k t.pairs)) (sym l.is) in
+      let root = h.goes goes in
+      let is = l.is in
+      let first = h.first in
+      (omega arith, record { below = within; starts = starts; root = omega arith })
+
+  -- other slots
+  pub walked_other : 0 < length (pair_in t next).content.slots → starts_with_superblock (pair_in t next).content.slots ≡ false → superblock ≡ superblocks_before t.pairs
+  walked_other some starts = h.ends (goes_by ∙ meets_next some ∙ starts)
+
+  -- no slot
+  pub walked_on : length (pair_in t next).content.slots ≡ 0 → IsWalked t superblock (n + 1)
+  walked_on none = subst (IsWalked t superblock) l.is (record {
+    below = within;
+    first = (let is = l.is in let first = h.first in omega arith);
+    bare = λ k. ap is_bare empty;
+    goes = λ k.
+        let goes = goes_by ∙ meets_hard ∙ k in
+        let more = before_at t.pairs n h.below ∙ ap (λ b. cond b (1 + superblocks_before (drop (n + 1) t.pairs)) 0) goes ∙ ap (λ j. 1 + superblocks_before (drop j t.pairs)) (sym l.is) in
+        let root = h.goes goes in
+        let is = l.is in
+        omega arith;
+    ends = λ k. h.ends (goes_by ∙ meets_hard ∙ k);
+  })
+    where
+      empty : (pair_in t next).content.slots ≡ []
+      empty = no_slots (pair_in t next).content.slots none
+
+      turned : (a b : Bool) → (a && b) ≡ (b && a)
+      turned true true = refl
+      turned true false = refl
+      turned false true = refl
+      turned false false = refl
+
+      meets_hard : meets_superblock (drop next t.pairs) ≡ goes_on t.pairs next
+      meets_hard = meets_at t.pairs next within
+          ∙ ap (λ z. superblock_or z (is_hard (pair_in t next).content.tail && meets_superblock (drop (next + 1) t.pairs))) empty
+          ∙ turned (is_hard (pair_in t next).content.tail) (meets_superblock (drop (next + 1) t.pairs))
+          ∙ ap (λ z. meets_superblock (drop (next + 1) t.pairs) && (is_bare z && is_hard (pair_in t next).content.tail)) (sym empty)
 
 -- the root directory begins behind them
 pub root_leads : (disk : Disk) (ps : List Pair) (root : ℕ) → IsAccepted disk ps → root ≡ superblocks_before ps → BeginsOnPath ps [] root

@@ -1,6 +1,6 @@
 // Where the root directory begins.
 
-ghost use Rattle.std.specs.Prelude.{◌≡◌, ◌≤◌, ◌+◌, ◌<◌, false, true, length, IfErr, IfOk};
+ghost use Rattle.std.specs.Prelude.{◌≡◌, ◌≤◌, ◌+◌, ◌<◌, false, length, IfErr, IfOk, IfSome};
 ghost use Rattle.lfs_model.specs.Content.{complete};
 ghost use Rattle.lfs_model.specs.History.{reads};
 ghost use Rattle.lfs_model.specs.Slots.{Content as ModelContent, Slot as ModelSlot, is_superblock};
@@ -8,8 +8,9 @@ ghost use Rattle.lfs_model.specs.Thread.{starts_with_superblock, superblocks_bef
 ghost use Rattle.lfs_model.specs.View.{IsAccepted};
 ghost use Rattle.lfs_tag.specs.ContentSeen.{slot_seen};
 ghost use Rattle.lfs_thread.specs.Lent.{IsBlockOf};
+ghost use Rattle.lfs_thread.specs.Steps.{pair_in};
 ghost use Rattle.lfs_lookup.specs.Reading.{IsReading};
-ghost use Rattle.lfs_lookup.specs.Root.{goes_on};
+ghost use Rattle.lfs_lookup.specs.Root.{IsInChain, IsNext, next_in_chain};
 
 use lfs_device::{BlockDevice, Error};
 use lfs_tag::kinds::{DIRECTORY_NAME, FILE_NAME};
@@ -40,32 +41,81 @@ fn starts_with_superblock(alloc: Global, block: &[u8]) -> Result<bool, Error>
     }
 }
 
-// Whether the superblock goes on in the pair behind one, which has no other slot then.
-fn goes_on<D: BlockDevice>(
+// Whether a pair begins with a superblock.
+fn begins_with_superblock<D: BlockDevice>(
     alloc: Global,
     thread: &mut Thread<D>,
     index: usize,
 ) -> Result<bool, Error>
     requires works { thread.old.failed ≡ false }
     requires below { index < length thread.old.kept.pairs }
-    ensures is { IfOk result (λ b. b ≡ goes_on thread.old.kept index) }
-    ensures below { IfOk result (λ b. b ≡ true → index + 1 < length thread.old.kept.pairs) }
+    ensures is { IfOk result (λ b. b ≡ starts_with_superblock (pair_in thread.old.kept index).content.slots) }
     ensures few { reads thread.new.kept.history ≤ reads thread.old.kept.history + 1 }
     ensures reading { IsReading thread.old thread.new result }
 {
-    if thread.slot_count(index) != 1 {
-        return Ok(false);
-    }
-    let Some(next) = thread.next(index) else {
-        return Ok(false);
-    };
-    thread.bring(next)?;
-    starts_with_superblock(alloc, thread.lend(next).unwrap())
+    thread.bring(index)?;
+    starts_with_superblock(alloc, thread.lend(index).unwrap())
 }
 
-/// The number of the root directory's first pair: the last one of the superblock's (SPEC.md of
-/// littlefs, "0x0ff LFS_TYPE_SUPERBLOCK"). One read more at most than there are pairs in front of it,
-/// and none where the first pair has more slots than the superblock, or no hard tail.
+// The pair behind one, where the chain may go on: the one has at most one slot, and a hard tail.
+fn next_in_chain<D: BlockDevice>(thread: &Thread<D>, index: usize) -> Option<usize>
+    requires works { thread.now.failed ≡ false }
+    requires below { index < length thread.now.kept.pairs }
+    ensures next { result ≡ next_in_chain thread.now.kept index }
+    ensures below { IfSome result (λ next. next < length thread.now.kept.pairs) }
+{
+    if thread.slot_count(index) > 1 {
+        return None;
+    }
+    thread.next(index)
+}
+
+// The first pair that has a slot. In an accepted image it begins with a superblock.
+fn first_superblock<D: BlockDevice>(thread: &Thread<D>) -> usize
+    requires works { thread.now.failed ≡ false }
+    requires accepted { IsAccepted thread.now.kept.disk thread.now.kept.pairs }
+    ensures first { IsInChain thread.now.kept result }
+{
+    for index in 0..thread.len() {
+        if thread.slot_count(index) > 0 {
+            return index;
+        }
+    }
+    unreachable!()
+}
+
+// The next pair of the chain that has a superblock, behind one that has. None where the root begins
+// at that one.
+fn next_superblock<D: BlockDevice>(
+    alloc: Global,
+    thread: &mut Thread<D>,
+    superblock: usize,
+) -> Result<Option<usize>, Error>
+    requires works { thread.old.failed ≡ false }
+    requires chained { IsInChain thread.old.kept superblock }
+    ensures next { IfOk result (λ next. IsNext thread.old.kept superblock next) }
+    ensures few { reads thread.new.kept.history ≤ reads thread.old.kept.history + 1 }
+    ensures reading { IsReading thread.old thread.new result }
+{
+    for index in superblock..thread.len() {
+        let Some(next) = next_in_chain(thread, index) else {
+            return Ok(None);
+        };
+        if thread.slot_count(next) > 0 {
+            if !begins_with_superblock(alloc, thread, next)? {
+                return Ok(None);
+            }
+            return Ok(Some(next));
+        }
+    }
+    // The last pair has no hard tail.
+    unreachable!()
+}
+
+/// The number of the root directory's first pair: the last one of the superblock's chain (SPEC.md of
+/// littlefs, "0x0ff LFS_TYPE_SUPERBLOCK"). Pairs of the chain may have no slot. One read more at most
+/// than there are pairs in front of the root, and none where the first pair has more slots than the
+/// superblock, or no hard tail.
 ///
 /// `Io` where a read failed, and `NoMemory` where the room for a block and its slots isn't granted.
 pub fn find_root<D: BlockDevice>(alloc: Global, thread: &mut Thread<D>) -> Result<usize, Error>
@@ -75,11 +125,9 @@ pub fn find_root<D: BlockDevice>(alloc: Global, thread: &mut Thread<D>) -> Resul
     ensures few { IfOk result (λ root. reads thread.new.kept.history ≤ reads thread.old.kept.history + root + 1) }
     ensures reading { IsReading thread.old thread.new result }
 {
-    for root in 0..thread.len() {
-        if !goes_on(alloc, thread, root)? {
-            return Ok(root);
-        }
+    let mut root = first_superblock(thread);
+    while let Some(next) = next_superblock(alloc, thread, root)? {
+        root = next;
     }
-    // The last pair has no hard tail.
-    unreachable!()
+    Ok(root)
 }

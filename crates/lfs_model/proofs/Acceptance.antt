@@ -15,9 +15,9 @@ use Rattle.lfs_model.specs.Disk.{Disk, block_count}
 use Rattle.lfs_model.specs.Names.{Name, name_cmp, same_name, is_less, is_name}
 use Rattle.lfs_model.specs.Slots.{Slot, Kind, File, Directory, Superblock, Struct, Inline, Ctz, Branch, Gstate, same_pair, is_superblock}
 use Rattle.lfs_model.specs.Content.{content_at, holder_at}
-use Rattle.lfs_model.specs.Thread.{Pair, anchor, Links, blocks_of, gstate_of, root_of}
+use Rattle.lfs_model.specs.Thread.{Pair, anchor, Links, blocks_of, directory_pairs, first_at, from_slots, gstate_of, root_of, starts_with_superblock}
 use Rattle.lfs_model.specs.Tree.{Path, root_slot, branch_of, slot_at, directory_at, names_at}
-use Rattle.lfs_model.specs.View.{first_name, IsAccepted, BeginsWith, IsSuperblockStruct, HasSuperblock, IsEntry, Suits, IsListIfCtz, IsMove, NamesSlot, IsOtherSlot, superblock_entry, superblock_pairs, other_pairs}
+use Rattle.lfs_model.specs.View.{first_name, first_slots, IsAccepted, BeginsWith, IsSuperblockStruct, MayHaveSuperblock, IsEntry, Suits, IsListIfCtz, IsMove, NamesSlot, IsOtherSlot, superblock_entry, superblock_pairs, other_pairs}
 use Rattle.lfs_model.specs.Shown.{Leads, IsReached, directories_in, entries_in, all_slots, used_blocks}
 use Rattle.lfs_model.specs.TreeEdits.{same_path}
 use Rattle.lfs_model.proofs.Paths.{name_from_same, path_from_same}
@@ -116,11 +116,11 @@ inline_from bytes (Ctz head size) e = absurd (cc)
 inline_from bytes (Branch to) e = absurd (cc)
 
 abbrev pub has_superblock : List ℕ → List Slot → Bool
-has_superblock bytes [] = false
+has_superblock bytes [] = true
 has_superblock bytes (s ∷ slots) = is_superblock s && (is_inline bytes s.struct && list_all is_entry slots)
 
-superblock_from : (bytes : List ℕ) (slots : List Slot) → has_superblock bytes slots ≡ true → HasSuperblock bytes slots
-superblock_from bytes [] e = absurd (cc)
+superblock_from : (bytes : List ℕ) (slots : List Slot) → has_superblock bytes slots ≡ true → MayHaveSuperblock bytes slots
+superblock_from bytes [] e = tt
 superblock_from bytes (s ∷ slots) e =
     let one = and_parts (is_superblock s) (is_inline bytes s.struct && list_all is_entry slots) e in
     let two = and_parts (is_inline bytes s.struct) (list_all is_entry slots) one.1 in
@@ -240,14 +240,15 @@ tests disk ps bytes k =
     ∷ ((gstate_of ps).sync || list_all (λ d. list_any (λ f. leads_to ps d.at f.0) (outline_in k ps)) (directories_in ps))
     ∷ is_move ps (gstate_of ps)
     ∷ are_apart (used_blocks disk ps)
+    ∷ starts_with_superblock (first_slots (directory_pairs ps))
     ∷ []
 
 -- these pairs stand on the disk, and the tests pass
 pub record IsImage (disk : Disk) (ps : List Pair) (bytes : List ℕ) (k : ℕ) : Type 0 where
   pub links : Links (Some anchor) ps
   pub contents : AllByRecursion (λ p. content_at disk p.at ≡ Some p.content) ps
-  pub first : BeginsWith (holder_at disk anchor) superblock_entry
-  pub named : first_name ps ≡ Some (codes "littlefs")
+  pub first : BeginsWith (holder_at disk (first_at (from_slots ps))) superblock_entry
+  pub named : first_name (from_slots ps) ≡ Some (codes "littlefs")
   pub lists : AllByRecursion (λ s. IsListIfCtz disk s.struct) (all_slots ps)
   pub pass : list_all (λ b. b) (tests disk ps bytes k) ≡ true
 
@@ -267,7 +268,8 @@ image_is_accepted disk ps bytes k h =
       };
       first = h.first;
       named = h.named;
-      superblock = (bytes, (struct_from disk bytes t.1.1.0, all_from (λ p. has_superblock bytes p.content.slots) (λ p. HasSuperblock bytes p.content.slots) (λ p. superblock_from bytes p.content.slots) (superblock_pairs ps) t.1.1.1.0));
+      root = t.1.1.1.1.1.1.1.1.1.1.1.1.0;
+      superblock = (bytes, (struct_from disk bytes t.1.1.0, all_from (λ p. has_superblock bytes p.content.slots) (λ p. MayHaveSuperblock bytes p.content.slots) (λ p. superblock_from bytes p.content.slots) (superblock_pairs ps) t.1.1.1.0));
       slots = all_from (λ p. list_all is_entry p.content.slots) (λ p. All IsEntry p.content.slots) (λ p. all_from is_entry IsEntry entry_from p.content.slots) (other_pairs ps) t.1.1.1.1.0;
       order = λ path at l. rise_from disk.order (names_at (entries_in ps) at) (led k ps whole (λ path at. rise disk.order (names_at (entries_in ps) at)) t.1.1.1.1.1.1.0 path at l);
       branches = λ path at l. Any-from_list_any (λ d. same_pair d.at at) (directories_in ps) (led k ps whole (λ path at. begins ps at) t.1.1.1.1.1.1.1.0 path at l);

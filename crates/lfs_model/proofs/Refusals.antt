@@ -13,10 +13,10 @@ use Rattle.lfs_model.specs.Disk.{Disk, block_count, block_at}
 use Rattle.lfs_model.specs.Names.{Name, name_cmp, is_less, is_name}
 use Rattle.lfs_model.specs.Slots.{Content, Slot, Kind, File, Directory, Superblock, Struct, Inline, Ctz, Branch, Gstate, same_pair}
 use Rattle.lfs_model.specs.Content.{content_at, has_commit}
-use Rattle.lfs_model.specs.Thread.{Pair, anchor, Links, next_of, blocks_of, gstate_of, root_of, ThreadDirectory}
+use Rattle.lfs_model.specs.Thread.{Pair, anchor, Links, next_of, blocks_of, directory_pairs, starts_with_superblock, gstate_of, root_of, ThreadDirectory}
 use Rattle.lfs_model.specs.Tree.{Path, root_slot, names_at}
 use Rattle.lfs_model.specs.TreeEdits.{same_path}
-use Rattle.lfs_model.specs.View.{IsAccepted, IsMove, NamesSlot, IsOtherSlot, IsEntry, Suits, HasSuperblock, IsSuperblockStruct, superblock_pairs, other_pairs, IsListIfCtz}
+use Rattle.lfs_model.specs.View.{IsAccepted, first_slots, IsMove, NamesSlot, IsOtherSlot, IsEntry, Suits, MayHaveSuperblock, IsSuperblockStruct, superblock_pairs, other_pairs, IsListIfCtz}
 use Rattle.lfs_model.specs.Profile.{IsWritable, FitsSlot}
 use Rattle.lfs_model.specs.Shown.{Leads, IsReached, directories_in, entries_in, used_blocks, all_slots}
 use Rattle.lfs_model.specs.examples.Images.{IsRefused, IsReadOnly}
@@ -170,11 +170,15 @@ entry_to s h = and_from (is_name s.name) (suits s.kind s.struct) h.name (suits_t
 pub fails_slots : (disk : Disk) (ps : List Pair) → list_all (λ p. list_all is_entry p.content.slots) (other_pairs ps) ≡ false → IsAccepted disk ps → ⊥
 fails_slots disk ps fails a = let e = all_to (λ p. list_all is_entry p.content.slots) (λ p. All IsEntry p.content.slots) (λ p. all_to is_entry IsEntry entry_to p.content.slots) (other_pairs ps) a.slots in cc
 
+-- the root directory doesn't begin with a superblock
+pub fails_root : (disk : Disk) (ps : List Pair) → starts_with_superblock (first_slots (directory_pairs ps)) ≡ false → IsAccepted disk ps → ⊥
+fails_root disk ps fails a = let e = sym a.root ∙ fails in cc
+
 inline_to : (bytes : List ℕ) (s : Struct) → s ≡ Inline bytes → is_inline bytes s ≡ true
 inline_to bytes s e = rw e (same_itself bytes)
 
-superblock_to : (bytes : List ℕ) (slots : List Slot) → HasSuperblock bytes slots → has_superblock bytes slots ≡ true
-superblock_to bytes [] h = absurd h
+superblock_to : (bytes : List ℕ) (slots : List Slot) → MayHaveSuperblock bytes slots → has_superblock bytes slots ≡ true
+superblock_to bytes [] h = refl
 superblock_to bytes (s ∷ slots) h = and_from _ _ h.0 (and_from _ _ (inline_to bytes s.struct h.1) (all_to is_entry IsEntry entry_to slots h.2))
 
 struct_to : (disk : Disk) (bytes : List ℕ) → IsSuperblockStruct disk bytes → is_struct disk bytes ≡ true
@@ -183,15 +187,15 @@ struct_to disk bytes h =
     (and_from _ _ (eq-eqb (little_number 4 (drop 4 bytes)) disk.block_size h.block_size) (eq-eqb (little_number 4 (drop 8 bytes)) (block_count disk) h.block_count)))
 
 -- the superblock's bytes aren't those of the disk, or not those of each of its pairs
-pub fails_superblock : (disk : Disk) (ps : List Pair) (p : Pair) (rest : List Pair) (bytes : List ℕ) → superblock_pairs ps ≡ p ∷ rest → ((held : List ℕ) → HasSuperblock held p.content.slots → Inline bytes ≡ Inline held) →
+pub fails_superblock : (disk : Disk) (ps : List Pair) (p : Pair) (rest : List Pair) (bytes : List ℕ) → superblock_pairs ps ≡ p ∷ rest → ((held : List ℕ) → MayHaveSuperblock held p.content.slots → Inline bytes ≡ Inline held) →
     (is_struct disk bytes && list_all (λ q. has_superblock bytes q.content.slots) (superblock_pairs ps)) ≡ false → IsAccepted disk ps → ⊥
 fails_superblock disk ps p rest bytes are first fails a =
     let held = a.superblock.0 in
     let each = a.superblock.1.1 in
-    let here : HasSuperblock held p.content.slots = All-head (λ q. HasSuperblock held q.content.slots) p rest (subst (All (λ q. HasSuperblock held q.content.slots)) are each) in
+    let here : MayHaveSuperblock held p.content.slots = All-head (λ q. MayHaveSuperblock held q.content.slots) p rest (subst (All (λ q. MayHaveSuperblock held q.content.slots)) are each) in
     let same : bytes ≡ held = let e = first held here in cc in
     let struct = struct_to disk held a.superblock.1.0 in
-    let pairs = all_to (λ q. has_superblock held q.content.slots) (λ q. HasSuperblock held q.content.slots) (λ q. superblock_to held q.content.slots) (superblock_pairs ps) each in
+    let pairs = all_to (λ q. has_superblock held q.content.slots) (λ q. MayHaveSuperblock held q.content.slots) (λ q. superblock_to held q.content.slots) (superblock_pairs ps) each in
     let pass : (is_struct disk held && list_all (λ q. has_superblock held q.content.slots) (superblock_pairs ps)) ≡ true = and_from (is_struct disk held) (list_all (λ q. has_superblock held q.content.slots) (superblock_pairs ps)) struct pairs in
     let now = rw (← same) at pass in
     cc

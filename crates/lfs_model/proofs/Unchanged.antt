@@ -1,13 +1,13 @@
 -- A disk that has the same thread and files is accepted too, and shows the same tree. What the first pair has.
-use Rattle.std.proofs.Common.{ℕ, suc, ◌≡◌, ◌+◌, ◌<◌, true, List, [], ◌∷◌, ◌++◌, take, Some, refl, sym, ap, subst, ◌∙◌, arith}
+use Rattle.std.proofs.Common.{ℕ, ◌≡◌, ◌+◌, ◌<◌, true, List, [], ◌∷◌, ◌++◌, Some, refl, sym, ap, subst, ◌∙◌, arith}
 use Rattle.std.specs.Prelude.{All, slice_get, codes}
 use Rattle.std.specs.Option.{option_map}
 use Rattle.std.proofs.lemmas.List.Elements.{All-from_recursion, recursion_from_All}
 use Rattle.std.proofs.lemmas.List.Concat.{flat_map-append}
 use Rattle.lfs_model.specs.Disk.{Disk, block_count}
 use Rattle.lfs_model.specs.Slots.{Slot, gstate_xor}
-use Rattle.lfs_model.specs.Thread.{Pair, blocks_of, gstate_of, starts_with_superblock, superblocks_before, unmoved}
-use Rattle.lfs_model.specs.View.{HasSuperblock, IsListIfCtz, IsAccepted}
+use Rattle.lfs_model.specs.Thread.{Pair, blocks_of, from_slots, gstate_of, starts_with_superblock, unmoved}
+use Rattle.lfs_model.specs.View.{IsListIfCtz, IsAccepted, first_name}
 use Rattle.lfs_model.specs.Shown.{all_slots, used_blocks}
 use Rattle.lfs_model.proofs.Counts.{Each, each_always, each_both, each_right, count}
 use Rattle.lfs_model.specs.SlotEdits.{slot_of_path}
@@ -16,29 +16,31 @@ use Rattle.lfs_model.proofs.Changes.{Follows, SameFiles, rearranged_follows, own
 use Rattle.lfs_model.proofs.Files.{HasSameFile, is_list_same}
 use Rattle.lfs_model.proofs.Global.{gstate_append, gstate_cons}
 use Rattle.lfs_model.proofs.Splices.{IsDevice}
-use Rattle.lfs_model.proofs.Superblocks.{IsChain}
+use Rattle.lfs_model.proofs.Superblocks.{IsChain, meets_first, meets_from}
 use Rattle.lfs_model.proofs.Uses.{accepted_sound}
 
--- ---- the first pair
+-- ---- the first pair that has a slot
 
 -- it has the superblock, by its name, in slot 0
 pub record HasFirst (slots : List Slot) : Type 0 where
   pub kind : starts_with_superblock slots ≡ true
   pub name : option_map (λ s. s.name) (slice_get slots 0) ≡ Some (codes "littlefs")
 
-pub accepted_first : (disk : Disk) (p : Pair) (rest : List Pair) → IsAccepted disk (p ∷ rest) → HasFirst p.content.slots
-accepted_first disk p rest ok = record {
-  kind = (headed p.content.slots (recursion_from_All (λ (x : Pair). HasSuperblock ok.superblock.0 x.content.slots) (p ∷ take (superblocks_before (p ∷ rest)) rest)
-      (subst (λ k. All (λ (x : Pair). HasSuperblock ok.superblock.0 x.content.slots) (take k (p ∷ rest))) more ok.superblock.1.1)).0);
-  name = ok.named;
-}
-  where
-    more : superblocks_before (p ∷ rest) + 1 ≡ suc (superblocks_before (p ∷ rest))
-    more = omega arith
+-- some pair has a slot
+pub record HasFilled (ps : List Pair) : Type 0 where
+  pub pair : Pair
+  pub rest : List Pair
+  pub is : from_slots ps ≡ pair ∷ rest
 
-    headed : (slots : List Slot) → HasSuperblock ok.superblock.0 slots → starts_with_superblock slots ≡ true
-    headed [] h = absurd h
-    headed (s ∷ slots) h = h.0
+pub accepted_filled : (disk : Disk) (ps : List Pair) → IsAccepted disk ps → HasFilled ps
+accepted_filled disk ps ok = go (from_slots ps) refl ok.named
+  where
+    go : (qs : List Pair) → from_slots ps ≡ qs → first_name qs ≡ Some (codes "littlefs") → HasFilled ps
+    go [] e k = absurd (cc)
+    go (p ∷ rest) e k = record { pair = p; rest = rest; is = e }
+
+pub accepted_first : (disk : Disk) (ps : List Pair) (p : Pair) (rest : List Pair) → IsAccepted disk ps → from_slots ps ≡ p ∷ rest → HasFirst p.content.slots
+accepted_first disk ps p rest ok is = record { kind = meets_first ps p rest is (meets_from ps ok.root); name = ap first_name (sym is) ∙ ok.named }
 
 -- ---- the global state
 

@@ -177,6 +177,42 @@ pub fn superblock_chain_is_read()
         (root_block [] 0xf3277f4a 204 ∷ [])) }
 {}
 
+/// A superblock that moved on leaves pairs without slots in front of it.
+pub fn moved_superblock_is_read()
+    ensures moved { HasView
+        (image_with (pair_block (tail_entry true (Some (2, 3)) ∷ []) 0x9f96c0e0 232)
+        (root_block (file_entries 1 (codes "a") (codes "hi")) 0xa7a04ca1 193 ∷ []))
+        (view_with (([], DirectoryNode [] (codes "a" ∷ []))
+        ∷ (codes "a" ∷ [], FileNode [] (codes "hi")) ∷ [])
+        no_gstate (0 ∷ 1 ∷ 2 ∷ 3 ∷ [])) }
+
+    // A copy in front, and a pair without a slot between.
+    ensures between { HasView
+        (image_with (root_block (tail_entry true (Some (2, 3)) ∷ []) 0xef8649c3 192)
+        (pair_block (tail_entry true (Some (4, 5)) ∷ []) 0xb6c46c87 232 ∷ unwritten 4096
+        ∷ root_block (file_entries 1 (codes "a") (codes "hi")) 0xa7a04ca1 193 ∷ []))
+        (view_with (([], DirectoryNode [] (codes "a" ∷ []))
+        ∷ (codes "a" ∷ [], FileNode [] (codes "hi")) ∷ [])
+        no_gstate (0 ∷ 1 ∷ 2 ∷ 3 ∷ 4 ∷ 5 ∷ [])) }
+
+    // The pair without a slot has no superblock behind it, so it is the root's second one.
+    ensures no_more { HasView
+        (image_with (root_block (tail_entry true (Some (2, 3)) ∷ []) 0xef8649c3 192)
+        (pair_block (tail_entry true (Some (4, 5)) ∷ []) 0xb6c46c87 232 ∷ unwritten 4096
+        ∷ pair_block (file_entries 0 (codes "a") (codes "hi")) 0x4cbde7e4 233 ∷ []))
+        (view_with (([], DirectoryNode [] (codes "a" ∷ []))
+        ∷ (codes "a" ∷ [], FileNode [] (codes "hi")) ∷ [])
+        no_gstate (0 ∷ 1 ∷ 2 ∷ 3 ∷ 4 ∷ 5 ∷ [])) }
+
+    // A soft tail doesn't lead on, and a superblock has to come.
+    ensures soft { IsRefused
+        (image_with (pair_block (tail_entry false (Some (2, 3)) ∷ []) 0xc7d2fcdf 232)
+        (root_block (file_entries 1 (codes "a") (codes "hi")) 0xa7a04ca1 193 ∷ [])) }
+    ensures none { IsRefused
+        (image_with (pair_block (tail_entry true (Some (2, 3)) ∷ []) 0x9f96c0e0 232)
+        (pair_block (file_entries 0 (codes "a") (codes "hi")) 0x4cbde7e4 233 ∷ [])) }
+{}
+
 /// What other tools write is shown, and may not be written.
 pub fn other_profile_is_read_only()
     // 600 bytes stand in an entry, where at most 512 are written.

@@ -1,5 +1,5 @@
 -- The thread of an accepted image, from what a pass and a search have found.
-use Rattle.std.proofs.Common.{ℕ, zero, suc, ◌≡◌, Bool, true, false, List, [], ◌∷◌, ◌++◌, Option, Some, None, refl, sym, ap, subst, ◌∙◌, arith, nat_eq, flat_map}
+use Rattle.std.proofs.Common.{ℕ, zero, suc, ◌≡◌, ◌⊎◌, inl, inr, Bool, true, false, List, [], ◌∷◌, ◌++◌, Option, Some, None, refl, sym, ap, subst, ◌∙◌, arith, nat_eq, flat_map}
 use Rattle.std.specs.Prelude.{All}
 use Rattle.std.specs.List.{IsDistinct}
 use Rattle.std.proofs.lemmas.List.Concat.{flat_map-append}
@@ -10,16 +10,16 @@ use Rattle.lfs_model.specs.Disk.{Disk, block_count}
 use Rattle.lfs_model.specs.SkipLists.{IsList}
 use Rattle.lfs_model.specs.Slots.{Slot, Gstate}
 use Rattle.lfs_model.specs.Thread.{Pair, IsThread, blocks_of, gstate_of, unmoved, visible}
-use Rattle.lfs_model.specs.View.{IsEntry, IsHeaded, HasStruct, IsListIfCtz, IsMove, IsAccepted}
+use Rattle.lfs_model.specs.View.{IsEntry, IsHeaded, MayBeHeaded, HasStruct, IsListIfCtz, IsMove, IsAccepted}
 use Rattle.lfs_model.specs.Shown.{file_blocks, all_slots, used_blocks, directories_in}
 use Rattle.lfs_model.proofs.Counts.{Each, each_append, each_weaker, count, count_append, once_from_distinct, distinct_from_once}
-use Rattle.lfs_model.proofs.Superblocks.{IsChain, pairs_behind, Mark, StructMark, HoldSlots, superblock_rule, slots_rule}
+use Rattle.lfs_model.proofs.Superblocks.{IsChain, pairs_behind, Mark, StructMark, HoldSlots, root_rule, superblock_rule, slots_rule}
 use Rattle.lfs_mount.specs.Reaching.{Graph}
 use Rattle.lfs_mount.specs.Directories.{AreRight, Shows}
 use Rattle.lfs_mount.specs.Entries.{firsts_of, nothing_known}
 use Rattle.lfs_mount.specs.Marking.{Owns, MarksLists, marked_of}
 use Rattle.lfs_mount.specs.Described.{moved_in, AreMembers}
-use Rattle.lfs_mount.specs.Checked.{HasStart, IsAlone, HasHead, IsKnownThread}
+use Rattle.lfs_mount.specs.Checked.{HasStart, IsAlone, IsBare, HasHead, IsKnownThread}
 use Rattle.lfs_mount.specs.Moves.{IsEntryIfSome, IsMovedFrom}
 use Rattle.lfs_mount.specs.Passed.{Passes}
 use Rattle.lfs_mount.specs.declared.pass.Member.{Member}
@@ -28,10 +28,13 @@ use Rattle.lfs_mount.proofs.Owned.{owned_more, has_only}
 use Rattle.lfs_mount.proofs.Rules.{behind, without, unmoved-without, IsMovedEntry, lists_of, HaveEntries, passed_rules, thread_shows}
 use Rattle.lfs_mount.proofs.Accepts.{IsInline, Starting, starts_so, slots_right, no_blocks, no_lists, counted, listed}
 
-alone_headed : (bytes : List ℕ) (chain : List Pair) → Each (IsAlone bytes) chain → Each (λ q. IsHeaded (HasStruct bytes) q.content.slots) chain
-alone_headed bytes [] h = tt
-alone_headed bytes (q ∷ chain) h =
-    (subst (IsHeaded (HasStruct bytes)) (sym h.0.slots) (h.0.superblock, h.0.struct, (λ k d lt. absurd (omega arith))), alone_headed bytes chain h.1)
+bare_headed : (bytes : List ℕ) (chain : List Pair) → Each (IsBare bytes) chain → Each (λ q. MayBeHeaded (HasStruct bytes) q.content.slots) chain
+bare_headed bytes [] h = tt
+bare_headed bytes (q ∷ chain) h = (go h.0, bare_headed bytes chain h.1)
+  where
+    go : IsBare bytes q → MayBeHeaded (HasStruct bytes) q.content.slots
+    go (inl none) = subst (MayBeHeaded (HasStruct bytes)) (sym none) tt
+    go (inr alone) = subst (MayBeHeaded (HasStruct bytes)) (sym alone.slots) (alone.superblock, alone.struct, (λ k d lt. absurd (omega arith)))
 
 inline_slot : (bytes : List ℕ) (s : Slot) → HasStruct bytes s → IsInline s.struct
 inline_slot bytes s h = subst IsInline (sym h) tt
@@ -46,9 +49,18 @@ alone_inline g bytes q h = subst (Each (λ s. IsInline s.struct)) (sym (unmoved-
     go (Some (suc zero)) = (inline_slot bytes h.slot h.struct, tt)
     go (Some (suc (suc id))) = (inline_slot bytes h.slot h.struct, tt)
 
-chain_inline : (g : Gstate) (bytes : List ℕ) (chain : List Pair) → Each (IsAlone bytes) chain → Each (λ s. IsInline s.struct) (flat_map (unmoved g) chain)
+bare_inline : (g : Gstate) (bytes : List ℕ) (q : Pair) → IsBare bytes q → Each (λ s. IsInline s.struct) (unmoved g q)
+bare_inline g bytes q (inr alone) = alone_inline g bytes q alone
+bare_inline g bytes q (inl none) = subst (Each (λ s. IsInline s.struct)) (sym (unmoved-without g q ∙ ap (without (moved_in g q)) none)) (go (moved_in g q))
+  where
+    go : (moved : Option ℕ) → Each (λ s. IsInline s.struct) (without moved [])
+    go None = tt
+    go (Some zero) = tt
+    go (Some (suc id)) = tt
+
+chain_inline : (g : Gstate) (bytes : List ℕ) (chain : List Pair) → Each (IsBare bytes) chain → Each (λ s. IsInline s.struct) (flat_map (unmoved g) chain)
 chain_inline g bytes [] h = tt
-chain_inline g bytes (q ∷ chain) h = each_append (λ (s : Slot). IsInline s.struct) (unmoved g q) (flat_map (unmoved g) chain) (alone_inline g bytes q h.0) (chain_inline g bytes chain h.1)
+chain_inline g bytes (q ∷ chain) h = each_append (λ (s : Slot). IsInline s.struct) (unmoved g q) (flat_map (unmoved g) chain) (bare_inline g bytes q h.0) (chain_inline g bytes chain h.1)
 
 -- pairs behind the first begin with none
 others_start : (bytes : List ℕ) (ps : List Pair) → Starting bytes false ps
@@ -86,7 +98,7 @@ module _ (disk : Disk) (chain : List Pair) (p : Pair) (rest : List Pair) (bytes 
       let P : ℕ × ℕ → Type 0 = λ x. IsList disk.blocks disk.block_size x.0 x.1 in
       let Q : Slot → Type 0 = λ x. IsListIfCtz disk x.struct in
       All-from_recursion Q (all_slots ps) (subst (Each Q) (sym slots_parted)
-      (each_append Q (flat_map (unmoved g) chain) (flat_map (unmoved g) dirs) (no_lists disk (flat_map (unmoved g) chain) (chain_inline g bytes chain head.alone))
+      (each_append Q (flat_map (unmoved g) chain) (flat_map (unmoved g) dirs) (no_lists disk (flat_map (unmoved g) chain) (chain_inline g bytes chain head.bare))
       (listed disk g bytes true dirs starting entries moved (subst (Each P) e (recursion_from_All P lists all)))))
 
   -- the blocks that are marked are those of the files
@@ -99,7 +111,7 @@ module _ (disk : Disk) (chain : List Pair) (p : Pair) (rest : List Pair) (bytes 
       let after = count_append b (blocks_of ps) (blocks (all_slots ps)) in
       let parts : blocks (all_slots ps) ≡ blocks (flat_map (unmoved g) dirs) =
       ap blocks slots_parted ∙ flat_map-append (λ (s : Slot). file_blocks disk s.struct) (flat_map (unmoved g) chain) (flat_map (unmoved g) dirs)
-      ∙ ap (λ bs. bs ++ blocks (flat_map (unmoved g) dirs)) (no_blocks disk (flat_map (unmoved g) chain) (chain_inline g bytes chain head.alone)) in
+      ∙ ap (λ bs. bs ++ blocks (flat_map (unmoved g) dirs)) (no_blocks disk (flat_map (unmoved g) chain) (chain_inline g bytes chain head.bare)) in
       let same : count b (blocks (all_slots ps)) ≡ count b marked = ap (count b) parts ∙ counted disk g bytes b true dirs starting entries moved in
       omega arith
 
@@ -132,7 +144,8 @@ module _ (disk : Disk) (chain : List Pair) (p : Pair) (rest : List Pair) (bytes 
         thread = thread;
         first = head.first;
         named = head.named;
-        superblock = (bytes, (head.struct, superblock_rule (StructMark bytes) chain p rest chain_is (alone_headed bytes chain head.alone) hold));
+        root = root_rule (StructMark bytes) chain p rest chain_is hold;
+        superblock = (bytes, (head.struct, superblock_rule (StructMark bytes) chain p rest chain_is (bare_headed bytes chain head.bare) hold));
         slots = slots_rule (StructMark bytes) chain p rest chain_is hold;
         order = right.tree.order;
         branches = right.tree.branches;

@@ -13,7 +13,6 @@ use Rattle.lfs_tag.specs.ContentSeen.{tail_seen}
 use Rattle.lfs_tag.specs.FieldsSeen.{move_seen}
 use Rattle.lfs_pair.specs.Pair.{active_at, address_in, second_holds}
 use Rattle.lfs_thread.specs.Kept.{Header, AreHeaders, IsHeader, pair_on, pairs_on}
-use Rattle.lfs_mount.specs.Head.{leads_on}
 
 abbrev pub pair_of : Disk → Header → Pair
 pair_of disk h = pair_on disk (address_in h)
@@ -24,7 +23,7 @@ pub record IsSeen (disk : Disk) (h : Header) : Type 0 where
   pub log : content_after_all no_content (log_entries (block_at disk h.active)) ≡ Some held
   pub slots : complete_all held.slots ≡ Some (pair_of disk h).content.slots
   pub move : move_seen h.move_state ≡ (pair_of disk h).content.move
-  pub leads : leads_on h ≡ (length (pair_of disk h).content.slots == 1 && is_hard (pair_of disk h).content.tail)
+  pub count : h.slot_count ≡ length (pair_of disk h).content.slots
   pub hard : is_hard (option_map tail_seen h.tail) ≡ is_hard (pair_of disk h).content.tail
   pub holds : holder_at disk (address_in h) ≡ Some (block_at disk h.active)
   pub content : content_at disk (address_in h) ≡ Some (pair_of disk h).content
@@ -73,7 +72,7 @@ seen_from disk history h is =
       log = d.content;
       slots = slots;
       move = d.sums.move ∙ sym parts.move ∙ ap (λ (c : Content). c.move) (sym content);
-      leads = ap₂ (λ n t. n == 1 && is_hard t) (d.sums.slot_count ∙ sym (complete_length is.held.slots (pair_of disk h).content.slots slots)) (d.sums.tail ∙ sym parts.tail ∙ ap (λ (c : Content). c.tail) (sym content));
+      count = d.sums.slot_count ∙ sym (complete_length is.held.slots (pair_of disk h).content.slots slots);
       hard = ap is_hard (d.sums.tail ∙ sym parts.tail ∙ ap (λ (c : Content). c.tail) (sym content));
       content = whole ∙ ap (λ (c : Content). Some c) (sym content);
       holds = holder_is (block_at disk at.0) (block_at disk at.1) (ap has_commit (sym block) ∙ is.is_pair.has_commit) ∙ ap (λ (x : List ℕ). Some x) (sym block);

@@ -1,97 +1,163 @@
--- How many of the superblock's pairs stand in front of the root's first one.
-use Rattle.std.proofs.Common.{ℕ, zero, suc, ◌≡◌, ◌==◌, ◌&&◌, ◌+◌, ◌-◌, ◌<◌, ◌≤◌, Bool, true, false, cond, List, [], ◌∷◌, ◌++◌, length, take, slice_get, slice_index_or, Option, Some, None, refl, sym, ap, ap₂, subst, ◌∙◌, arith, eqb-true, eq-eqb, add-one, option_and_then, option_map, codes}
-use Rattle.std.proofs.lemmas.Bool.{and_parts, and_from}
+-- How many pairs of the superblock's chain stand in front of the root's first one.
+use Rattle.std.proofs.Common.{ℕ, zero, suc, ◌≡◌, ◌⊎◌, inl, inr, ◌==◌, ◌&&◌, ◌||◌, ◌+◌, ◌-◌, ◌<◌, ◌≤◌, Bool, true, false, cond, List, [], ◌∷◌, ◌++◌, length, drop, take, slice_get, slice_index_or, Option, Some, None, refl, sym, ap, ap₂, subst, ◌∙◌, arith, eqb-true, option_and_then, option_map, codes}
+use Rattle.std.proofs.lemmas.Bool.{and_from, and_parts, and_right, eqb-false}
 use Rattle.std.proofs.lemmas.List.{length-map}
 use Rattle.std.proofs.lemmas.List.Elements.{recursion_from_All}
-use Rattle.std.proofs.lemmas.Option.{same_Some, slice_get_read}
-use Rattle.lfs_model.specs.Blocks.{Blocks}
+use Rattle.std.proofs.lemmas.Option.{same_Some, slice_get_read, slice_get_within}
+use Rattle.lfs_model.specs.Blocks.{Blocks, block_in}
 use Rattle.lfs_model.specs.Content.{content_at, holder_at}
 use Rattle.lfs_model.specs.Disk.{Disk, block_at, block_count}
 use Rattle.lfs_model.specs.History.{Event}
 use Rattle.lfs_model.specs.Slots.{Slot, Inline}
-use Rattle.lfs_model.specs.Thread.{Pair, anchor, IsThread, is_hard, starts_with_superblock, superblocks_before}
-use Rattle.lfs_model.specs.View.{BeginsWith, HasSuperblock, IsAccepted, first_name, superblock_entry, superblock_pairs}
+use Rattle.lfs_model.specs.Thread as Thread
+use Rattle.lfs_model.specs.Thread.{Pair, anchor, IsThread, first_at, from_slots, has_slots, is_bare, is_hard, meets_superblock, starts_with_superblock, superblock_or, superblocks_before}
+use Rattle.lfs_model.specs.View.{BeginsWith, MayHaveSuperblock, IsAccepted, first_name, superblock_entry, superblock_pairs}
 use Rattle.lfs_model.proofs.Counts.{Each}
-use Rattle.lfs_pair.specs.Pair.{address_in}
-use Rattle.lfs_thread.specs.Kept.{Header, pairs_on}
-use Rattle.lfs_mount.specs.Checked.{HasStart, IsAlone}
-use Rattle.lfs_mount.specs.Head.{HasHeaders, IsHead, IsSuperblockOf, goes_on, leads_on, repeats_in, repeats_of, superblock_in}
-use Rattle.lfs_mount.proofs.FirstSlots.{IsFirst, IsNamed, describes_struct, first_found, first_is, repeats_false, repeats_none, repeats_true, struct_described}
-use Rattle.lfs_mount.proofs.Headers.{IsSeen, header_at, pair_at, pair_of}
+use Rattle.lfs_model.proofs.Superblocks.{meets_first, meets_from, meets_starting}
+use Rattle.lfs_tag.specs.ContentSeen.{tail_seen}
+use Rattle.lfs_thread.specs.Kept.{AreHeaders, Header, pairs_on}
+use Rattle.lfs_mount.specs.Checked.{HasStart, IsAlone, IsBare}
+use Rattle.lfs_mount.specs.Head.{HasHeaders, IsHead, IsSuperblockOf, first_filled, leads_on, repeats_in, repeats_of, superblock_in}
+use Rattle.lfs_mount.proofs.FirstSlots.{IsFirst, describes_struct, first_found, first_is, repeats_false, repeats_none, repeats_true, struct_described}
+use Rattle.lfs_mount.proofs.Headers.{IsSeen, header_at, pair_at, pair_of, seen_from}
 
--- ---- pairs of the superblock, so many of them in front of one that begins with it
+-- ---- pairs of the superblock's chain
 
+-- a pair in front of the root's first one
+abbrev pub IsLink : List ℕ → Pair → Type 0
+IsLink bytes p = IsBare bytes p × (is_hard p.content.tail ≡ true)
+
+-- so many of them
+abbrev pub Linked : List ℕ → ℕ → List Pair → Type 0
+Linked bytes zero ps = Unit {0}
+Linked bytes (suc k) [] = ⊥
+Linked bytes (suc k) (p ∷ ps) = IsLink bytes p × Linked bytes k ps
+
+-- and behind them one that begins with the superblock
 abbrev pub Led : List ℕ → ℕ → List Pair → Type 0
 Led bytes k [] = ⊥
 Led bytes zero (p ∷ ps) = HasStart bytes p.content.slots
-Led bytes (suc k) (p ∷ ps) = IsAlone bytes p × (is_hard p.content.tail ≡ true) × Led bytes k ps
-
--- one slot, a hard tail and a superblock behind it
-abbrev pub is_followed : Pair → Pair → Bool
-is_followed p q = length p.content.slots == 1 && is_hard p.content.tail && starts_with_superblock q.content.slots
+Led bytes (suc k) (p ∷ ps) = IsLink bytes p × Led bytes k ps
 
 starts_so : (bytes : List ℕ) (slots : List Slot) → HasStart bytes slots → starts_with_superblock slots ≡ true
 starts_so bytes [] h = absurd h
 starts_so bytes (s ∷ slots) h = h.0
 
-alone_from : (bytes : List ℕ) (p : Pair) → HasStart bytes p.content.slots → (length p.content.slots == 1) ≡ true → IsAlone bytes p
-alone_from bytes p h e = go p.content.slots refl h (eqb-true (length p.content.slots) 1 e)
-  where
-    go : (slots : List Slot) → p.content.slots ≡ slots → HasStart bytes slots → length p.content.slots ≡ 1 → IsAlone bytes p
-    go [] is k one = absurd k
-    go (s ∷ []) is k one = record { slot = s; slots = is; superblock = k.0; struct = k.1 }
-    go (s ∷ t ∷ slots) is k one = absurd (let l = ap length is in omega arith)
-
 alone_start : (bytes : List ℕ) (p : Pair) → IsAlone bytes p → HasStart bytes p.content.slots
 alone_start bytes p a = subst (HasStart bytes) (sym a.slots) (a.superblock, a.struct)
 
--- the first of them begins with it too
-led_start : (bytes : List ℕ) (k : ℕ) (p : Pair) (ps : List Pair) → Led bytes k (p ∷ ps) → HasStart bytes p.content.slots
-led_start bytes zero p ps l = l
-led_start bytes (suc k) p ps l = alone_start bytes p l.0
+link_bare : (bytes : List ℕ) (p : Pair) → IsBare bytes p → is_bare p.content.slots ≡ true
+link_bare bytes p (inl none) = ap is_bare none
+link_bare bytes p (inr alone) = ap is_bare alone.slots ∙ alone.superblock
 
-pub led_more : (bytes : List ℕ) (k : ℕ) (ps : List Pair) (p q : Pair) → Led bytes k ps → slice_get ps k ≡ Some p → slice_get ps (suc k) ≡ Some q
-    → (length p.content.slots == 1) ≡ true → is_hard p.content.tail ≡ true → HasStart bytes q.content.slots → Led bytes (suc k) ps
-led_more bytes k [] p q l e f one hard start = absurd l
-led_more bytes zero (x ∷ []) p q l e f one hard start = absurd (cc)
-led_more bytes zero (x ∷ y ∷ ps) p q l e f one hard start =
-    let is : p ≡ x = sym (same_Some x p e) in (
-      alone_from bytes x l (subst (λ (z : Pair). (length z.content.slots == 1) ≡ true) is one),
-      subst (λ (z : Pair). is_hard z.content.tail ≡ true) is hard,
-      subst (λ (z : Pair). HasStart bytes z.content.slots) (sym (same_Some y q f)) start,
-    )
-led_more bytes (suc k) (x ∷ ps) p q l e f one hard start = (l.0, l.1, led_more bytes k ps p q l.2 e f one hard start)
+link_leads : (bytes : List ℕ) (p : Pair) → IsLink bytes p → Thread.leads_on p ≡ true
+link_leads bytes p h = and_from (is_bare p.content.slots) (is_hard p.content.tail) (link_bare bytes p h.0) h.1
 
--- a pair of the superblock, and one that it leads to
-followed : (bytes : List ℕ) (k : ℕ) (x y : Pair) (ps : List Pair) → Led bytes (suc k) (x ∷ y ∷ ps) → is_followed x y ≡ true
-followed bytes k x y ps l =
-    and_from (length x.content.slots == 1 && is_hard x.content.tail) (starts_with_superblock y.content.slots)
-    (and_from (length x.content.slots == 1) (is_hard x.content.tail) (eq-eqb (length x.content.slots) 1 (ap length l.0.slots)) l.1) (starts_so bytes y.content.slots (led_start bytes k y ps l.2))
+link_meets : (bytes : List ℕ) (p : Pair) (ps : List Pair) → IsLink bytes p → meets_superblock ps ≡ true → meets_superblock (p ∷ ps) ≡ true
+link_meets bytes p ps (inl none, hard) e = ap (λ z. superblock_or z (is_hard p.content.tail && meets_superblock ps)) none ∙ and_from (is_hard p.content.tail) (meets_superblock ps) hard e
+link_meets bytes p ps (inr alone, hard) e = meets_starting p ps (starts_so bytes p.content.slots (alone_start bytes p alone))
 
-before_followed : (x y : Pair) (ps : List Pair) → is_followed x y ≡ true → superblocks_before (x ∷ y ∷ ps) ≡ suc (superblocks_before (y ∷ ps))
-before_followed x y ps e = ap (λ b. cond b (1 + superblocks_before (y ∷ ps)) 0) e ∙ (let n = superblocks_before (y ∷ ps) in omega arith)
+before_link : (bytes : List ℕ) (p : Pair) (ps : List Pair) → IsLink bytes p → meets_superblock ps ≡ true → superblocks_before (p ∷ ps) ≡ suc (superblocks_before ps)
+before_link bytes p ps h e = ap (λ b. cond b (1 + superblocks_before ps) 0) (and_from (meets_superblock ps) (Thread.leads_on p) e (link_leads bytes p h)) ∙ (let n = superblocks_before ps in omega arith)
 
-pub stops_at : (bytes : List ℕ) (k : ℕ) (ps : List Pair) (p q : Pair) → Led bytes k ps → slice_get ps k ≡ Some p → slice_get ps (suc k) ≡ Some q → is_followed p q ≡ false
-    → superblocks_before ps ≡ k
-stops_at bytes k [] p q l e f halts = absurd l
-stops_at bytes zero (x ∷ []) p q l e f halts = absurd (cc)
-stops_at bytes zero (x ∷ y ∷ ps) p q l e f halts =
-    ap (λ b. cond b (1 + superblocks_before (y ∷ ps)) 0) (ap₂ is_followed (same_Some x p e) (same_Some y q f) ∙ halts)
-stops_at bytes (suc k) (x ∷ []) p q l e f halts = absurd (cc)
-stops_at bytes (suc k) (x ∷ y ∷ ps) p q l e f halts =
-    let next = stops_at bytes k (y ∷ ps) p q l.2 e f halts in
-    let more = before_followed x y ps (followed bytes k x y ps l) in
+linked_meets : (bytes : List ℕ) (k : ℕ) (ps : List Pair) → Linked bytes k ps → meets_superblock (drop k ps) ≡ true → meets_superblock ps ≡ true
+linked_meets bytes zero ps h e = e
+linked_meets bytes (suc k) [] h e = absurd h
+linked_meets bytes (suc k) (p ∷ ps) h e = link_meets bytes p ps h.0 (linked_meets bytes k ps h.1 e)
+
+linked_before : (bytes : List ℕ) (k : ℕ) (ps : List Pair) → Linked bytes k ps → meets_superblock (drop k ps) ≡ true → superblocks_before ps ≡ k + superblocks_before (drop k ps)
+linked_before bytes zero ps h e = omega arith
+linked_before bytes (suc k) [] h e = absurd h
+linked_before bytes (suc k) (p ∷ ps) h e =
+    let one = before_link bytes p ps h.0 (linked_meets bytes k ps h.1 e) in
+    let more = linked_before bytes k ps h.1 e in
     omega arith
 
-pub stops_last : (bytes : List ℕ) (k : ℕ) (ps : List Pair) → Led bytes k ps → suc k ≡ length ps → superblocks_before ps ≡ k
-stops_last bytes k [] l e = absurd l
-stops_last bytes zero (x ∷ []) l e = refl
-stops_last bytes zero (x ∷ y ∷ ps) l e = absurd (omega arith)
-stops_last bytes (suc k) (x ∷ []) l e = absurd (omega arith)
-stops_last bytes (suc k) (x ∷ y ∷ ps) l e =
-    let next = stops_last bytes k (y ∷ ps) l.2 (omega arith) in
-    let more = before_followed x y ps (followed bytes k x y ps l) in
-    omega arith
+linked_more : (bytes : List ℕ) (k : ℕ) (ps : List Pair) (p : Pair) → Linked bytes k ps → slice_get ps k ≡ Some p → IsLink bytes p → Linked bytes (suc k) ps
+linked_more bytes k [] p h e link = absurd (cc)
+linked_more bytes zero (x ∷ ps) p h e link = (subst (IsLink bytes) (sym (same_Some x p e)) link, tt)
+linked_more bytes (suc k) (x ∷ ps) p h e link = (h.0, linked_more bytes k ps p h.1 e link)
+
+led_from : (bytes : List ℕ) (k : ℕ) (ps : List Pair) (p : Pair) → Linked bytes k ps → slice_get ps k ≡ Some p → HasStart bytes p.content.slots → Led bytes k ps
+led_from bytes k [] p h e start = absurd (cc)
+led_from bytes zero (x ∷ ps) p h e start = subst (λ (z : Pair). HasStart bytes z.content.slots) (sym (same_Some x p e)) start
+led_from bytes (suc k) (x ∷ ps) p h e start = (h.0, led_from bytes k ps p h.1 e start)
+
+led_linked : (bytes : List ℕ) (k : ℕ) (ps : List Pair) → Led bytes k ps → Linked bytes k ps
+led_linked bytes k [] l = absurd l
+led_linked bytes zero (p ∷ ps) l = tt
+led_linked bytes (suc k) (p ∷ ps) l = (l.0, led_linked bytes k ps l.1)
+
+led_start : (bytes : List ℕ) (k : ℕ) (ps : List Pair) (p : Pair) → Led bytes k ps → slice_get ps k ≡ Some p → HasStart bytes p.content.slots
+led_start bytes k [] p l e = absurd l
+led_start bytes zero (x ∷ ps) p l e = subst (λ (z : Pair). HasStart bytes z.content.slots) (same_Some x p e) l
+led_start bytes (suc k) (x ∷ ps) p l e = led_start bytes k ps p l.1 e
+
+dropped : (ps : List Pair) (k : ℕ) (p : Pair) → slice_get ps k ≡ Some p → drop k ps ≡ p ∷ drop (suc k) ps
+dropped [] k p e = absurd (cc)
+dropped (x ∷ ps) zero p e = ap (λ (z : Pair). z ∷ ps) (same_Some x p e)
+dropped (x ∷ ps) (suc k) p e = dropped ps k p e
+
+led_meets : (bytes : List ℕ) (k : ℕ) (ps : List Pair) → Led bytes k ps → meets_superblock (drop k ps) ≡ true
+led_meets bytes k [] l = absurd l
+led_meets bytes zero (p ∷ ps) l = meets_starting p ps (starts_so bytes p.content.slots l)
+led_meets bytes (suc k) (p ∷ ps) l = led_meets bytes k ps l.1
+
+-- ---- from one superblock on, by pairs without slots
+
+-- where the chain doesn't go on behind the pair at an index, the root begins at the last superblock
+pub record IsWalked (bytes : List ℕ) (ps : List Pair) (root index : ℕ) : Type 0 where
+  pub led : Led bytes root ps
+  pub linked : Linked bytes index ps
+  pub below : root ≤ index
+  pub bare : (p : Pair) → slice_get ps index ≡ Some p → (p.content.slots ≡ []) ⊎ HasStart bytes p.content.slots
+  pub ends : (p : Pair) → slice_get ps index ≡ Some p → (meets_superblock (drop (suc index) ps) && Thread.leads_on p) ≡ false → superblocks_before ps ≡ root
+
+walked_at : (bytes : List ℕ) (k : ℕ) (ps : List Pair) → Led bytes k ps → IsWalked bytes ps k k
+walked_at bytes k ps l = record {
+  led = l;
+  linked = led_linked bytes k ps l;
+  below = omega arith;
+  bare = λ p e. inr (led_start bytes k ps p l e);
+  ends = λ p e halts.
+      let none = ap superblocks_before (dropped ps k p e) ∙ ap (λ b. cond b (1 + superblocks_before (drop (suc k) ps)) 0) halts in
+      let all = linked_before bytes k ps (led_linked bytes k ps l) (led_meets bytes k ps l) in
+      omega arith;
+}
+
+few_le : (n : ℕ) → (n == 0 || n == 1) ≡ true → n ≤ 1
+few_le n f = go (n == 0) refl (n == 1) refl f
+  where
+    go : (a : Bool) → (n == 0) ≡ a → (b : Bool) → (n == 1) ≡ b → (a || b) ≡ true → n ≤ 1
+    go true e b g h = let z = eqb-true n 0 e in omega arith
+    go false e true g h = let z = eqb-true n 1 g in omega arith
+    go false e false g h = absurd (cc)
+
+bare_from : (bytes : List ℕ) (p : Pair) → (p.content.slots ≡ []) ⊎ HasStart bytes p.content.slots → (length p.content.slots == 0 || length p.content.slots == 1) ≡ true → IsBare bytes p
+bare_from bytes p (inl none) few = inl none
+bare_from bytes p (inr start) few = go p.content.slots refl start (few_le (length p.content.slots) few)
+  where
+    go : (slots : List Slot) → p.content.slots ≡ slots → HasStart bytes slots → length p.content.slots ≤ 1 → IsBare bytes p
+    go [] is k f = absurd k
+    go (s ∷ []) is k f = inr (record { slot = s; slots = is; superblock = k.0; struct = k.1 })
+    go (s ∷ t ∷ slots) is k f = absurd (let l = ap length is in omega arith)
+
+many_slots : (slots : List Slot) → (length slots == 0 || length slots == 1) ≡ false → is_bare slots ≡ false
+many_slots [] f = absurd (let clash : true ≡ false = f in cc)
+many_slots (s ∷ []) f = absurd (let clash : true ≡ false = f in cc)
+many_slots (s ∷ t ∷ slots) f = refl
+
+-- the chain stops at a pair that doesn't lead on
+stops : (p : Pair) → ((length p.content.slots == 0 || length p.content.slots == 1) && is_hard p.content.tail) ≡ false → Thread.leads_on p ≡ false
+stops p e = go (length p.content.slots == 0 || length p.content.slots == 1) refl e
+  where
+    go : (b : Bool) → (length p.content.slots == 0 || length p.content.slots == 1) ≡ b → (b && is_hard p.content.tail) ≡ false → Thread.leads_on p ≡ false
+    go false f k = ap (λ b. b && is_hard p.content.tail) (many_slots p.content.slots f)
+    go true f k = and_right (is_bare p.content.slots) (is_hard p.content.tail) k
+
+meets_slots : (slots : List Slot) (later : Bool) → (slots ≡ [] → ⊥) → superblock_or slots later ≡ starts_with_superblock slots
+meets_slots [] later some = absurd (some refl)
+meets_slots (s ∷ slots) later some = refl
 
 -- ---- the pairs come apart so
 
@@ -101,56 +167,61 @@ record IsSplit (bytes : List ℕ) (k : ℕ) (ps : List Pair) : Type 0 where
   rest : List Pair
   parts : ps ≡ chain ++ p ∷ rest
   chain_is : length chain ≡ k
-  alone : Each (IsAlone bytes) chain
+  bare : Each (IsBare bytes) chain
   start : HasStart bytes p.content.slots
 
 split : (bytes : List ℕ) (k : ℕ) (ps : List Pair) → Led bytes k ps → IsSplit bytes k ps
 split bytes k [] l = absurd l
-split bytes zero (p ∷ ps) l = record { chain = []; p = p; rest = ps; parts = refl; chain_is = refl; alone = tt; start = l }
+split bytes zero (p ∷ ps) l = record { chain = []; p = p; rest = ps; parts = refl; chain_is = refl; bare = tt; start = l }
 split bytes (suc k) (p ∷ ps) l =
-    let s = split bytes k ps l.2 in
-    record { chain = p ∷ s.chain; p = s.p; rest = s.rest; parts = ap (λ (qs : List Pair). p ∷ qs) s.parts; chain_is = ap suc s.chain_is; alone = (l.0, s.alone); start = s.start }
+    let s = split bytes k ps l.1 in
+    record { chain = p ∷ s.chain; p = s.p; rest = s.rest; parts = ap (λ (qs : List Pair). p ∷ qs) s.parts; chain_is = ap suc s.chain_is; bare = (l.0.0, s.bare); start = s.start }
 
 -- ---- an accepted image's superblocks
 
--- what each of the superblock's pairs has, the next one has too
-told : (P : Pair → Type 0) (bytes : List ℕ) (k : ℕ) (ps : List Pair) (p q : Pair) → Led bytes k ps → slice_get ps k ≡ Some p → slice_get ps (suc k) ≡ Some q → is_followed p q ≡ true
-    → Each P (take (suc (superblocks_before ps)) ps) → P q
-told P bytes k [] p q l e f goes h = absurd l
-told P bytes zero (x ∷ []) p q l e f goes h = absurd (cc)
-told P bytes zero (x ∷ y ∷ ps) p q l e f goes h =
-    let more = before_followed x y ps (ap₂ is_followed (same_Some x p e) (same_Some y q f) ∙ goes) in
-    let both : Each P (take (suc (suc (superblocks_before (y ∷ ps)))) (x ∷ y ∷ ps)) = subst (λ n. Each P (take (suc n) (x ∷ y ∷ ps))) more h in
-    subst P (same_Some y q f) both.1.0
-told P bytes (suc k) (x ∷ []) p q l e f goes h = absurd (cc)
-told P bytes (suc k) (x ∷ y ∷ ps) p q l e f goes h =
-    let more = before_followed x y ps (followed bytes k x y ps l) in
-    let all : Each P (take (suc (suc (superblocks_before (y ∷ ps)))) (x ∷ y ∷ ps)) = subst (λ n. Each P (take (suc n) (x ∷ y ∷ ps))) more h in
-    told P bytes k (y ∷ ps) p q l.2 e f goes all.1
+each_at : (P : Pair → Type 0) (n : ℕ) (ps : List Pair) (k : ℕ) (p : Pair) → k < n → slice_get ps k ≡ Some p → Each P (take n ps) → P p
+each_at P n [] k p low e h = absurd (cc)
+each_at P zero (x ∷ ps) k p low e h = absurd (omega arith)
+each_at P (suc n) (x ∷ ps) zero p low e h = subst P (same_Some x p e) h.0
+each_at P (suc n) (x ∷ ps) (suc k) p low e h = each_at P n ps k p (omega arith) e h.1
 
-start_of : (bytes : List ℕ) (slots : List Slot) → HasSuperblock bytes slots → HasStart bytes slots
-start_of bytes [] h = absurd h
-start_of bytes (s ∷ slots) h = (h.0, h.1)
+start_of : (bytes : List ℕ) (slots : List Slot) → (slots ≡ [] → ⊥) → MayHaveSuperblock bytes slots → HasStart bytes slots
+start_of bytes [] some h = absurd (some refl)
+start_of bytes (s ∷ slots) some h = (h.0, h.1)
 
 same_bytes : (a b : List ℕ) (slots : List Slot) → HasStart a slots → HasStart b slots → a ≡ b
 same_bytes a b [] h k = absurd h
 same_bytes a b (s ∷ slots) h k = let e : Inline a ≡ Inline b = sym h.1 ∙ k.1 in cc
 
-each_headed : (disk : Disk) (ps : List Pair) (a : IsAccepted disk ps) → Each (λ q. HasSuperblock a.superblock.0 q.content.slots) (take (suc (superblocks_before ps)) ps)
-each_headed disk ps a =
-    subst (λ n. Each (λ (q : Pair). HasSuperblock a.superblock.0 q.content.slots) (take n ps)) (add-one (superblocks_before ps))
-    (recursion_from_All (λ (q : Pair). HasSuperblock a.superblock.0 q.content.slots) (superblock_pairs ps) a.superblock.1.1)
+has_some : (bytes : List ℕ) (slots : List Slot) → HasStart bytes slots → slots ≡ [] → ⊥
+has_some bytes [] h e = h
+has_some bytes (s ∷ slots) h e = cc
+
+starting_some : (slots : List Slot) → starts_with_superblock slots ≡ true → slots ≡ [] → ⊥
+starting_some [] h e = cc
+starting_some (s ∷ slots) h e = cc
+
+-- a pair of the chain that has a slot has the struct
+held : (disk : Disk) (ps : List Pair) (a : IsAccepted disk ps) (k : ℕ) (p : Pair) → k ≤ superblocks_before ps → slice_get ps k ≡ Some p → (p.content.slots ≡ [] → ⊥) → HasStart a.superblock.0 p.content.slots
+held disk ps a k p low e some = start_of a.superblock.0 p.content.slots some
+    (each_at (λ (q : Pair). MayHaveSuperblock a.superblock.0 q.content.slots) (superblocks_before ps + 1) ps k p (omega arith) e
+    (recursion_from_All (λ (q : Pair). MayHaveSuperblock a.superblock.0 q.content.slots) (superblock_pairs ps) a.superblock.1.1))
+
+get_some : (ps : List Pair) (k : ℕ) (bytes : List ℕ) → Led bytes k ps → (p : Pair) × (slice_get ps k ≡ Some p)
+get_some [] k bytes l = absurd l
+get_some (x ∷ ps) zero bytes l = (x, refl)
+get_some (x ∷ ps) (suc k) bytes l = get_some ps k bytes l.1
 
 -- the next pair has a superblock with another struct
-refused : (disk : Disk) (bytes : List ℕ) (k : ℕ) (ps : List Pair) (p q : Pair) → Led bytes k ps → slice_get ps k ≡ Some p → slice_get ps (suc k) ≡ Some q → is_followed p q ≡ true
+refused : (disk : Disk) (bytes : List ℕ) (root n : ℕ) (ps : List Pair) (q : Pair) → Led bytes root ps → root ≤ n → Linked bytes n ps → slice_get ps n ≡ Some q → starts_with_superblock q.content.slots ≡ true
     → (HasStart bytes q.content.slots → ⊥) → IsAccepted disk ps → ⊥
-refused disk bytes k [] p q l e f goes other a = l
-refused disk bytes k (x ∷ ps) p q l e f goes other a =
-    let b = a.superblock.0 in
-    let headed = each_headed disk (x ∷ ps) a in
-    let is : b ≡ bytes = same_bytes b bytes x.content.slots (start_of b x.content.slots headed.0) (led_start bytes k x ps l) in
-    let next = told (λ (z : Pair). HasSuperblock b z.content.slots) bytes k (x ∷ ps) p q l e f goes headed in
-    other (subst (λ (z : List ℕ). HasStart z q.content.slots) is (start_of b q.content.slots next))
+refused disk bytes root n ps q led low linked e starts other a =
+    let first = get_some ps root bytes led in
+    let start = led_start bytes root ps first.0 led first.1 in
+    let meets = ap meets_superblock (dropped ps n q e) ∙ meets_starting q (drop (suc n) ps) starts in
+    let all = linked_before bytes n ps linked meets in
+    let is : a.superblock.0 ≡ bytes = same_bytes a.superblock.0 bytes first.0.content.slots (held disk ps a root first.0 (omega arith) first.1 (has_some bytes first.0.content.slots start)) start in
+    other (subst (λ (z : List ℕ). HasStart z q.content.slots) is (held disk ps a n q (omega arith) e (starting_some q.content.slots starts)))
 
 -- ---- headers
 
@@ -171,9 +242,91 @@ step_at hs index h next low high e f =
       there = subst (λ i. slice_get hs i ≡ Some next) is (slice_get_read hs (length hs) index next refl high f);
     }
 
--- the same step over other blocks and bytes that are the same
-pub same_step : (blocks then : Blocks) (bytes read : List ℕ) (h next : Header) (o : Option Bool) → then ≡ blocks → read ≡ bytes → goes_on then read h next ≡ o → goes_on blocks bytes h next ≡ o
-same_step blocks then bytes read h next o b r e = ap₂ (λ (x : Blocks) (y : List ℕ). goes_on x y h next) (sym b) (sym r) ∙ e
+-- the same of other blocks, bytes and headers that are the same
+pub same_block : (blocks then : Blocks) (bytes read : List ℕ) (h k : Header) (o : Option Bool) → then ≡ blocks → read ≡ bytes → h ≡ k → repeats_of read (block_in then k.active) ≡ o → repeats_of bytes (block_in blocks h.active) ≡ o
+same_block blocks then bytes read h k o b r e f = ap (λ (x : Header). repeats_of bytes (block_in blocks x.active)) e ∙ ap₂ (λ (x : Blocks) (y : List ℕ). repeats_of y (block_in x k.active)) (sym b) (sym r) ∙ f
+
+-- the first one of a pair that has a slot, with pairs of the chain in front of it
+record IsFilled (disk : Disk) (hs : List Header) (k : ℕ) (bytes : List ℕ) : Type 0 where
+  header : Header
+  here : slice_get hs k ≡ Some header
+  some : (pair_of disk header).content.slots ≡ [] → ⊥
+  linked : Linked bytes k (pairs_on disk hs)
+  rest : List Pair
+  from : from_slots (pairs_on disk hs) ≡ pair_of disk header ∷ rest
+
+no_slots : (slots : List Slot) → length slots ≡ 0 → slots ≡ []
+no_slots [] e = refl
+no_slots (s ∷ slots) e = absurd (omega arith)
+
+filled_slots : (slots : List Slot) → (slots ≡ [] → ⊥) → has_slots slots ≡ true
+filled_slots [] some = absurd (some refl)
+filled_slots (s ∷ slots) some = refl
+
+filled : (disk : Disk) (history : List Event) (bytes : List ℕ) (hs : List Header) (k : ℕ) → AreHeaders disk history hs → first_filled hs ≡ Some k → IsFilled disk hs k bytes
+filled disk history bytes [] k each e = absurd (cc)
+filled disk history bytes (x ∷ hs) k each e =
+    go (x.slot_count == 0) refl (is_hard (option_map tail_seen x.tail)) refl (first_filled hs) refl e (λ j f. filled disk history bytes hs j each.1 f)
+  where
+    seen : IsSeen disk x
+    seen = seen_from disk history x each.0
+
+    go : (a : Bool) → (x.slot_count == 0) ≡ a → (b : Bool) → is_hard (option_map tail_seen x.tail) ≡ b → (o : Option ℕ) → first_filled hs ≡ o
+        → cond a (cond b (option_map (λ n. suc n) o) None) (Some 0) ≡ Some k → ((j : ℕ) → first_filled hs ≡ Some j → IsFilled disk hs j bytes) → IsFilled disk (x ∷ hs) k bytes
+    go false n b hard o f is next = subst (λ i. IsFilled disk (x ∷ hs) i bytes) (same_Some 0 k is) (record {
+      header = x;
+      here = refl;
+      some = some;
+      linked = tt;
+      rest = pairs_on disk hs;
+      from = ap (λ t. cond t (pair_of disk x ∷ pairs_on disk hs) (from_slots (pairs_on disk hs))) (filled_slots (pair_of disk x).content.slots some);
+    })
+      where
+        some : (pair_of disk x).content.slots ≡ [] → ⊥
+        some none = eqb-false x.slot_count 0 n (seen.count ∙ ap length none)
+    go true n false hard o f is next = absurd (cc)
+    go true n true hard None f is next = absurd (cc)
+    go true n true hard (Some j) f is next = subst (λ i. IsFilled disk (x ∷ hs) i bytes) (same_Some (suc j) k is) (record {
+      header = (next j f).header;
+      here = (next j f).here;
+      some = (next j f).some;
+      linked = ((inl empty, sym seen.hard ∙ hard), (next j f).linked);
+      rest = (next j f).rest;
+      from = ap (λ z. cond (has_slots z) (pair_of disk x ∷ pairs_on disk hs) (from_slots (pairs_on disk hs))) empty ∙ (next j f).from;
+    })
+      where
+        empty : (pair_of disk x).content.slots ≡ []
+        empty = no_slots (pair_of disk x).content.slots (sym seen.count ∙ eqb-true x.slot_count 0 n)
+
+none_filled : (disk : Disk) (history : List Event) (hs : List Header) → AreHeaders disk history hs → first_filled hs ≡ None → meets_superblock (pairs_on disk hs) ≡ false
+none_filled disk history [] each e = refl
+none_filled disk history (x ∷ hs) each e = go (x.slot_count == 0) refl (is_hard (option_map tail_seen x.tail)) refl (first_filled hs) refl e (λ f. none_filled disk history hs each.1 f)
+  where
+    seen : IsSeen disk x
+    seen = seen_from disk history x each.0
+
+    go : (a : Bool) → (x.slot_count == 0) ≡ a → (b : Bool) → is_hard (option_map tail_seen x.tail) ≡ b → (o : Option ℕ) → first_filled hs ≡ o
+        → cond a (cond b (option_map (λ n. suc n) o) None) (Some 0) ≡ None → (first_filled hs ≡ None → meets_superblock (pairs_on disk hs) ≡ false) → meets_superblock (pairs_on disk (x ∷ hs)) ≡ false
+    go false n b hard o f is next = absurd (cc)
+    go true n true hard (Some j) f is next = absurd (cc)
+    go true n true hard None f is next = empty ∙ ap (λ b. is_hard (pair_of disk x).content.tail && b) (next f) ∙ and_right (is_hard (pair_of disk x).content.tail) false refl
+      where
+        empty : meets_superblock (pairs_on disk (x ∷ hs)) ≡ (is_hard (pair_of disk x).content.tail && meets_superblock (pairs_on disk hs))
+        empty = ap (λ z. superblock_or z (is_hard (pair_of disk x).content.tail && meets_superblock (pairs_on disk hs))) (no_slots (pair_of disk x).content.slots (sym seen.count ∙ eqb-true x.slot_count 0 n))
+    go true n false hard o f is next = empty ∙ ap (λ b. b && meets_superblock (pairs_on disk hs)) (sym seen.hard ∙ hard)
+      where
+        empty : meets_superblock (pairs_on disk (x ∷ hs)) ≡ (is_hard (pair_of disk x).content.tail && meets_superblock (pairs_on disk hs))
+        empty = ap (λ z. superblock_or z (is_hard (pair_of disk x).content.tail && meets_superblock (pairs_on disk hs))) (no_slots (pair_of disk x).content.slots (sym seen.count ∙ eqb-true x.slot_count 0 n))
+
+with_true : (b : Bool) → (b && true) ≡ b
+with_true true = refl
+with_true false = refl
+
+turned : (a b : Bool) → (a && b) ≡ (b && a)
+turned true true = refl
+turned true false = refl
+turned false true = refl
+turned false false = refl
 
 module _ (disk : Disk) (history : List Event) (hs : List Header) (has : HasHeaders disk history hs) where
   abbrev ps : List Pair
@@ -188,15 +341,23 @@ module _ (disk : Disk) (history : List Event) (hs : List Header) (has : HasHeade
 
   -- ---- one step
 
-  module _ (bytes : List ℕ) (index : ℕ) (h next : Header) (s : IsStep hs index h next) (led : Led bytes (index - 1) ps) where
+  leads_seen : (h : Header) → IsSeen disk h → leads_on h ≡ ((length (pair_of disk h).content.slots == 0 || length (pair_of disk h).content.slots == 1) && is_hard (pair_of disk h).content.tail)
+  leads_seen h seen = ap₂ (λ n b. (n == 0 || n == 1) && b) seen.count seen.hard
+
+  -- the chain stops at a pair that doesn't lead on
+  pub halts : (bytes : List ℕ) (root index : ℕ) (h : Header) → slice_get hs index ≡ Some h → IsWalked bytes ps root index → leads_on h ≡ false → superblocks_before ps ≡ root
+  halts bytes root index h here w e = w.ends (pair_of disk h) (pair_at disk hs index h here)
+      (and_right (meets_superblock (drop (suc index) ps)) (Thread.leads_on (pair_of disk h)) (stops (pair_of disk h) (sym (leads_seen h (header_at disk history hs index h has.each here)) ∙ e)))
+
+  module _ (bytes : List ℕ) (root index : ℕ) (h next : Header) (s : IsStep hs index h next) (walked : IsWalked bytes ps root (index - 1)) where
     abbrev p : Pair
     p = pair_of disk h
 
     abbrev q : Pair
     q = pair_of disk next
 
-    l : Led bytes s.k ps
-    l = subst (λ n. Led bytes n ps) (let is = s.is in omega arith) led
+    w : IsWalked bytes ps root s.k
+    w = subst (IsWalked bytes ps root) (let is = s.is in omega arith) walked
 
     p_at : slice_get ps s.k ≡ Some p
     p_at = pair_at disk hs s.k h s.here
@@ -216,122 +377,176 @@ module _ (disk : Disk) (history : List Event) (hs : List Header) (has : HasHeade
     pub within : next.active < block_count disk
     within = seen_next.active
 
-    pub more : goes_on disk.blocks bytes h next ≡ Some true → Led bytes (index + 1 - 1) ps
-    more is = subst (λ n. Led bytes n ps) (let at = s.is in omega arith) (go (leads_on h) refl is)
-      where
-        go : (b : Bool) → leads_on h ≡ b → cond b (repeats_of bytes (block_at disk next.active)) (Some false) ≡ Some true → Led bytes (suc s.k) ps
-        go false n m = absurd (cc)
-        go true n m =
-            let both = and_parts (length p.content.slots == 1) (is_hard p.content.tail) (sym seen.leads ∙ n) in
-            led_more bytes s.k ps p q l p_at q_at both.0 both.1 (repeats_true bytes seen_next.held.slots q.content.slots seen_next.slots (sym repeats ∙ m))
+    leads_is : leads_on h ≡ ((length p.content.slots == 0 || length p.content.slots == 1) && is_hard p.content.tail)
+    leads_is = leads_seen h seen
 
-    not_followed : goes_on disk.blocks bytes h next ≡ Some false → is_followed p q ≡ false
-    not_followed is = go (leads_on h) refl is
-      where
-        go : (b : Bool) → leads_on h ≡ b → cond b (repeats_of bytes (block_at disk next.active)) (Some false) ≡ Some false → is_followed p q ≡ false
-        go false n m = ap (λ b. b && starts_with_superblock q.content.slots) (sym seen.leads ∙ n)
-        go true n m = ap₂ (λ b c. b && c) (sym seen.leads ∙ n) (repeats_false bytes seen_next.held.slots q.content.slots seen_next.slots (sym repeats ∙ m))
+    module _ (leads : leads_on h ≡ true) where
+      link : IsLink bytes p
+      link =
+          let both = and_parts (length p.content.slots == 0 || length p.content.slots == 1) (is_hard p.content.tail) (sym leads_is ∙ leads) in
+          (bare_from bytes p (w.bare p p_at) both.0, both.1)
 
-    pub ends : goes_on disk.blocks bytes h next ≡ Some false → superblocks_before ps ≡ index - 1
-    ends is = stops_at bytes s.k ps p q l p_at q_at (not_followed is) ∙ (let at = s.is in omega arith)
+      linked : Linked bytes (suc s.k) ps
+      linked = linked_more bytes s.k ps p w.linked p_at link
 
-    pub fails : goes_on disk.blocks bytes h next ≡ None → IsAccepted disk ps → ⊥
-    fails is a = go (leads_on h) refl is
-      where
-        go : (b : Bool) → leads_on h ≡ b → cond b (repeats_of bytes (block_at disk next.active)) (Some false) ≡ None → ⊥
-        go false n m = absurd (cc)
-        go true n m =
-            let other = repeats_none bytes seen_next.held.slots q.content.slots seen_next.slots (sym repeats ∙ m) in
-            refused disk bytes s.k ps p q l p_at q_at (and_from _ _ (sym seen.leads ∙ n) other.0) other.1 a
+      goes : (meets_superblock (drop (suc s.k) ps) && Thread.leads_on p) ≡ meets_superblock (drop (suc s.k) ps)
+      goes = ap (λ b. meets_superblock (drop (suc s.k) ps) && b) (link_leads bytes p link) ∙ with_true (meets_superblock (drop (suc s.k) ps))
 
-  -- ---- the first header, as it is read
+      meets : meets_superblock (drop (suc s.k) ps) ≡ superblock_or q.content.slots (is_hard q.content.tail && meets_superblock (drop (suc (suc s.k)) ps))
+      meets = ap meets_superblock (dropped ps (suc s.k) q q_at)
 
-  module _ (h : Header) (is : h ≡ slice_index_or hs 0 h) where
-    first_at : slice_get hs 0 ≡ Some h
-    first_at = slice_get_read hs (length hs) 0 h refl some_header is
+      -- no slot
+      pub passes : next.slot_count ≡ 0 → IsWalked bytes ps root (index + 1 - 1)
+      passes none = subst (IsWalked bytes ps root) (let is = s.is in omega arith) (record {
+        led = w.led;
+        linked = linked;
+        below = (let b = w.below in omega arith);
+        bare = λ x e. inl (subst (λ (z : Pair). z.content.slots ≡ []) (same_Some q x (sym q_at ∙ e)) empty);
+        ends = λ x e k. w.ends p p_at (goes ∙ meets ∙ ap (λ z. superblock_or z (is_hard q.content.tail && meets_superblock (drop (suc (suc s.k)) ps))) empty ∙ turned (is_hard q.content.tail) (meets_superblock (drop (suc (suc s.k)) ps))
+            ∙ ap (λ z. meets_superblock (drop (suc (suc s.k)) ps) && (is_bare z && is_hard q.content.tail)) (sym empty)
+            ∙ ap (λ (z : Pair). meets_superblock (drop (suc (suc s.k)) ps) && Thread.leads_on z) (same_Some q x (sym q_at ∙ e)) ∙ k);
+      })
+        where
+          empty : q.content.slots ≡ []
+          empty = no_slots q.content.slots (sym seen_next.count ∙ none)
 
-    abbrev pub first : Pair
-    first = pair_of disk h
+      some : (next.slot_count ≡ 0 → ⊥) → q.content.slots ≡ [] → ⊥
+      some filled e = filled (seen_next.count ∙ ap length e)
 
-    first_pair : slice_get ps 0 ≡ Some first
-    first_pair = pair_at disk hs 0 h first_at
+      -- the superblock again
+      pub more : repeats_of bytes (block_at disk next.active) ≡ Some true → IsWalked bytes ps index (index + 1 - 1)
+      more is = subst (IsWalked bytes ps index) (omega arith) (subst (λ n. IsWalked bytes ps n n) (sym s.is) (walked_at bytes (suc s.k) ps
+          (led_from bytes (suc s.k) ps q linked q_at (repeats_true bytes seen_next.held.slots q.content.slots seen_next.slots (sym repeats ∙ is)))))
 
-    abbrev first_seen : IsSeen disk h
-    first_seen = header_at disk history hs 0 h has.each first_at
+      -- other slots
+      pub ends : (next.slot_count ≡ 0 → ⊥) → repeats_of bytes (block_at disk next.active) ≡ Some false → superblocks_before ps ≡ root
+      ends filled is = w.ends p p_at (goes ∙ meets ∙ meets_slots q.content.slots (is_hard q.content.tail && meets_superblock (drop (suc (suc s.k)) ps)) (some filled)
+          ∙ repeats_false bytes seen_next.held.slots q.content.slots seen_next.slots (sym repeats ∙ is))
 
-    -- the thread begins there
-    is_anchor : address_in h ≡ anchor
-    is_anchor = go hs has.thread first_at
-      where
-        go : (xs : List Header) → IsThread (content_at disk) (block_count disk) (pairs_on disk xs) → slice_get xs 0 ≡ Some h → address_in h ≡ anchor
-        go [] t k = absurd (cc)
-        go (x ∷ xs) t k = ap address_in (sym (same_Some x h k)) ∙ same_Some (address_in x) anchor (sym t.links.0)
+      pub fails : repeats_of bytes (block_at disk next.active) ≡ None → IsAccepted disk ps → ⊥
+      fails is a =
+          let other = repeats_none bytes seen_next.held.slots q.content.slots seen_next.slots (sym repeats ∙ is) in
+          refused disk bytes root (suc s.k) ps q w.led (let b = w.below in omega arith) linked q_at other.0 other.1 a
 
-    held_first : holder_at disk anchor ≡ Some (block_at disk h.active)
-    held_first = ap (holder_at disk) (sym is_anchor) ∙ first_seen.holds
+  -- ---- the first header of a pair that has a slot, as it is read
 
-    -- the superblock that its block has, by the header as it is read
-    abbrev pub HasFound : List ℕ → Type 0
-    HasFound bytes = IsSuperblockOf disk (slice_index_or hs 0 h).active bytes
+  pub refused_none : first_filled hs ≡ None → IsAccepted disk ps → ⊥
+  refused_none none a = let e = sym (meets_from ps a.root) ∙ none_filled disk history hs has.each none in cc
 
-    there : (bytes : List ℕ) → HasFound bytes → IsSuperblockOf disk h.active bytes
-    there bytes s = subst (λ (z : Header). IsSuperblockOf disk z.active bytes) (sym is) s
+  module _ (k : ℕ) (found : first_filled hs ≡ Some k) where
+    pub within_first : k < length hs
+    within_first = let f = filled disk history [] hs k has.each found in slice_get_within hs k f.header f.here
 
-    is_first : (bytes : List ℕ) → HasFound bytes → IsFirst disk.block_size (block_count disk) bytes first.content.slots
-    is_first bytes s =
-        first_found disk.block_size (block_count disk) first_seen.held.slots first.content.slots bytes first_seen.slots
-        (sym (ap (option_and_then (λ c. superblock_in disk.block_size (block_count disk) c.slots)) first_seen.log) ∙ (there bytes s).struct)
+    module _ (h : Header) (is : h ≡ slice_index_or hs k h) where
+      pub active_within : (slice_index_or hs k h).active < block_count disk
+      active_within = subst (λ (x : Header). x.active < block_count disk) is (header_at disk history hs k h has.each (slice_get_read hs (length hs) k h refl within_first is)).active
 
-    pub begun : (bytes : List ℕ) → HasFound bytes → Led bytes 0 ps
-    begun bytes s = go ps first_pair
-      where
-        go : (qs : List Pair) → slice_get qs 0 ≡ Some first → Led bytes 0 qs
-        go [] k = absurd (cc)
-        go (q ∷ qs) k = subst (λ (z : Pair). HasStart bytes z.content.slots) (sym (same_Some q first k)) (is_first bytes s).start
+      here : slice_get hs k ≡ Some h
+      here = slice_get_read hs (length hs) k h refl within_first is
 
-    pub refused_first : ((bytes : List ℕ) → HasFound bytes → ⊥) → IsAccepted disk ps → ⊥
-    refused_first never a = go ps first_pair a
-      where
-        go : (qs : List Pair) → slice_get qs 0 ≡ Some first → IsAccepted disk qs → ⊥
-        go [] k b = absurd (cc)
-        go (q ∷ qs) k b =
-            let headed = (each_headed disk (q ∷ qs) b).0 in
-            let here : IsFirst disk.block_size (block_count disk) b.superblock.0 q.content.slots =
-            record { start = start_of b.superblock.0 q.content.slots headed; named = b.named; describes = describes_struct disk b.superblock.0 b.superblock.1.0 } in
-            never b.superblock.0 (subst (λ (z : Header). IsSuperblockOf disk z.active b.superblock.0) is (record {
-              begins = subst (λ o. BeginsWith o superblock_entry) held_first b.first;
-              struct = ap (option_and_then (λ c. superblock_in disk.block_size (block_count disk) c.slots)) first_seen.log
-                  ∙ first_is disk.block_size (block_count disk) first_seen.held.slots first.content.slots b.superblock.0 first_seen.slots
-                  (subst (λ (z : Pair). IsFirst disk.block_size (block_count disk) b.superblock.0 z.content.slots) (same_Some q first k) here);
-            }))
+      first : Pair
+      first = pair_of disk h
 
-    -- ---- the head
+      first_pair : slice_get ps k ≡ Some (pair_of disk h)
+      first_pair = pair_at disk hs k h here
 
-    name_is : (qs : List Pair) → slice_get qs 0 ≡ Some first → IsNamed first.content.slots → first_name qs ≡ Some (codes "littlefs")
-    name_is [] k n = absurd (cc)
-    name_is (q ∷ qs) k n = ap (λ (z : Pair). option_map (λ (s : Slot). s.name) (slice_get z.content.slots 0)) (same_Some q first k) ∙ n
+      abbrev first_seen : IsSeen disk h
+      first_seen = header_at disk history hs k h has.each here
 
-    pub head_is : (bytes : List ℕ) (k : ℕ) → HasFound bytes → Led bytes k ps → superblocks_before ps ≡ k → IsHead disk ps k
-    head_is bytes k s l before =
-        let apart = split bytes k ps l in
-        let f = is_first bytes s in
-        record {
-          chain = apart.chain;
-          p = apart.p;
-          rest = apart.rest;
-          parts = apart.parts;
-          chain_is = apart.chain_is;
-          before = before;
-          bytes = bytes;
-          head = record {
-            first = subst (λ o. BeginsWith o superblock_entry) (sym held_first) (there bytes s).begins;
-            named = ap first_name (sym apart.parts) ∙ name_is ps first_pair f.named;
-            struct = struct_described disk bytes f.describes;
-            alone = apart.alone;
-            start = apart.start;
-          };
-        }
+      abbrev f : (bytes : List ℕ) → IsFilled disk hs k bytes
+      f bytes = filled disk history bytes hs k has.each found
 
-    -- the last pair is one of the superblock's
-    pub last_is : (bytes : List ℕ) (k : ℕ) → HasFound bytes → Led bytes k ps → suc k ≡ length hs → IsHead disk ps k
-    last_is bytes k s l last = head_is bytes k s l (stops_last bytes k ps l (last ∙ sym (length-map hs (pair_of disk))))
+      same_header : (bytes : List ℕ) → (f bytes).header ≡ h
+      same_header bytes = same_Some (f bytes).header h (sym (f bytes).here ∙ here)
+
+      linked_first : (bytes : List ℕ) → Linked bytes k ps
+      linked_first bytes = (f bytes).linked
+
+      from : from_slots ps ≡ pair_of disk h ∷ (f []).rest
+      from = (f []).from ∙ ap (λ (x : Header). pair_of disk x ∷ (f []).rest) (same_header [])
+
+      some_slot : (pair_of disk h).content.slots ≡ [] → ⊥
+      some_slot = subst (λ (x : Header). (pair_of disk x).content.slots ≡ [] → ⊥) (same_header []) (f []).some
+
+      held_first : holder_at disk (first_at (from_slots ps)) ≡ Some (block_at disk h.active)
+      held_first = ap (λ (qs : List Pair). holder_at disk (first_at qs)) from ∙ first_seen.holds
+
+      -- the superblock that its block has, by the header as it is read
+      abbrev pub HasFound : List ℕ → Type 0
+      HasFound bytes = IsSuperblockOf disk (slice_index_or hs k h).active bytes
+
+      there : (bytes : List ℕ) → HasFound bytes → IsSuperblockOf disk h.active bytes
+      there bytes s = subst (λ (z : Header). IsSuperblockOf disk z.active bytes) (sym is) s
+
+      is_first : (bytes : List ℕ) → HasFound bytes → IsFirst disk.block_size (block_count disk) bytes (pair_of disk h).content.slots
+      is_first bytes s =
+          first_found disk.block_size (block_count disk) first_seen.held.slots (pair_of disk h).content.slots bytes first_seen.slots
+          (sym (ap (option_and_then (λ c. superblock_in disk.block_size (block_count disk) c.slots)) first_seen.log) ∙ (there bytes s).struct)
+
+      pub begun : (bytes : List ℕ) → HasFound bytes → IsWalked bytes ps k (k + 1 - 1)
+      begun bytes s = subst (λ n. IsWalked bytes ps k n) (omega arith)
+          (walked_at bytes k ps (led_from bytes k ps (pair_of disk h) (linked_first bytes) first_pair (is_first bytes s).start))
+
+      pub refused_first : ((bytes : List ℕ) → HasFound bytes → ⊥) → IsAccepted disk ps → ⊥
+      refused_first never a =
+          let bytes = a.superblock.0 in
+          let starts = meets_first ps (pair_of disk h) (f []).rest from (meets_from ps a.root) in
+          let meets = ap meets_superblock (dropped ps k (pair_of disk h) first_pair) ∙ meets_starting (pair_of disk h) (drop (suc k) ps) starts in
+          let all = linked_before bytes k ps (linked_first bytes) meets in
+          let first_is_so : IsFirst disk.block_size (block_count disk) bytes (pair_of disk h).content.slots =
+          record {
+            start = held disk ps a k (pair_of disk h) (omega arith) first_pair some_slot;
+            named = ap first_name (sym from) ∙ a.named;
+            describes = describes_struct disk bytes a.superblock.1.0;
+          } in
+          never bytes (subst (λ (z : Header). IsSuperblockOf disk z.active bytes) is (record {
+            begins = subst (λ o. BeginsWith o superblock_entry) held_first a.first;
+            struct = ap (option_and_then (λ c. superblock_in disk.block_size (block_count disk) c.slots)) first_seen.log
+                ∙ first_is disk.block_size (block_count disk) first_seen.held.slots (pair_of disk h).content.slots bytes first_seen.slots first_is_so;
+          }))
+
+      -- ---- the head
+
+      pub head_is : (bytes : List ℕ) (root index : ℕ) → HasFound bytes → IsWalked bytes ps root index → superblocks_before ps ≡ root → IsHead disk ps root
+      head_is bytes root index s w before =
+          let apart = split bytes root ps w.led in
+          let d = is_first bytes s in
+          record {
+            chain = apart.chain;
+            p = apart.p;
+            rest = apart.rest;
+            parts = apart.parts;
+            chain_is = apart.chain_is;
+            before = before;
+            bytes = bytes;
+            head = record {
+              first = subst (λ (qs : List Pair). BeginsWith (holder_at disk (first_at (from_slots qs))) superblock_entry) apart.parts
+                  (subst (λ o. BeginsWith o superblock_entry) (sym held_first) (there bytes s).begins);
+              named = ap (λ (qs : List Pair). first_name (from_slots qs)) (sym apart.parts) ∙ ap first_name from ∙ d.named;
+              struct = struct_described disk bytes d.describes;
+              bare = apart.bare;
+              start = apart.start;
+            };
+          }
+
+      -- behind the last pair there is none
+      pub last_is : (bytes : List ℕ) (root index : ℕ) → HasFound bytes → IsWalked bytes ps root index → suc index ≡ length hs → IsHead disk ps root
+      last_is bytes root index s w last = head_is bytes root index s w (go (slice_get ps index) refl)
+        where
+          none_behind : (qs : List Pair) → length qs ≤ suc index → drop (suc index) qs ≡ []
+          none_behind qs low = drop_all qs (suc index) low
+            where
+              drop_all : (xs : List Pair) (n : ℕ) → length xs ≤ n → drop n xs ≡ []
+              drop_all [] zero l = refl
+              drop_all [] (suc n) l = refl
+              drop_all (x ∷ xs) zero l = absurd (omega arith)
+              drop_all (x ∷ xs) (suc n) l = drop_all xs n (omega arith)
+
+          beyond : (qs : List Pair) (n : ℕ) → n < length qs → slice_get qs n ≡ None → ⊥
+          beyond [] n l e = omega arith
+          beyond (x ∷ qs) zero l e = cc
+          beyond (x ∷ qs) (suc n) l e = beyond qs n (omega arith) e
+
+          go : (o : Option Pair) → slice_get ps index ≡ o → superblocks_before ps ≡ root
+          go (Some p) e = w.ends p e (ap (λ (qs : List Pair). meets_superblock qs && Thread.leads_on p) (none_behind ps (let l = length-map hs (pair_of disk) in omega arith)))
+          go None e = absurd (beyond ps index (let l = length-map hs (pair_of disk) in omega arith) e)

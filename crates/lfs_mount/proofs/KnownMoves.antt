@@ -5,11 +5,11 @@ use Rattle.std.proofs.lemmas.List.{drop-map, length-map}
 use Rattle.lfs_model.specs.Disk.{Disk}
 use Rattle.lfs_model.specs.History.{Event}
 use Rattle.lfs_model.specs.Slots.{Gstate, Slot, gstate_xor, no_gstate, same_pair}
-use Rattle.lfs_model.specs.Thread.{Pair, gstate_of, is_hard, starts_with_superblock, superblocks_before}
-use Rattle.lfs_model.specs.View.{HasStruct, IsAccepted, IsEntry, IsHeaded, IsMove, IsOtherSlot}
+use Rattle.lfs_model.specs.Thread.{Pair, gstate_of, is_bare, is_hard, leads_on, meets_superblock, superblocks_before}
+use Rattle.lfs_model.specs.View.{IsAccepted, IsEntry, IsMove, IsOtherSlot}
 use Rattle.lfs_model.proofs.Counts.{Each}
 use Rattle.lfs_model.proofs.Sites.{Among, among_from, among_parts, among_right, any_from}
-use Rattle.lfs_model.proofs.Superblocks.{IsChain, StructMark, entry_is_other, hold_from_rules}
+use Rattle.lfs_model.proofs.Superblocks.{IsChain, entry_is_other}
 use Rattle.lfs_tag.specs.FieldsSeen.{move_seen}
 use Rattle.lfs_pair.specs.Pair.{address_in}
 use Rattle.lfs_thread.specs.Kept.{AreHeaders, Header, pairs_on}
@@ -83,47 +83,33 @@ known_right g headers chain p rest has e h = move_right g chain (p ∷ rest) (ap
 
 -- ---- the move of an accepted image names one of the directories' pairs
 
--- a superblock's pair in front of the root's first one has one slot
-have_one : (chain : List Pair) (p : Pair) (rest : List Pair) → IsChain chain (p ∷ rest) → Each (λ q. length q.content.slots ≡ 1) chain
-have_one [] p rest h = tt
-have_one (c ∷ []) p rest h = go (length c.content.slots == 1 && is_hard c.content.tail && starts_with_superblock p.content.slots) refl h
+-- a pair of the superblock's chain in front of the root's first one has no slot, or the superblock alone
+have_bare : (chain : List Pair) (p : Pair) (rest : List Pair) → IsChain chain (p ∷ rest) → Each (λ q. is_bare q.content.slots ≡ true) chain
+have_bare [] p rest h = tt
+have_bare (c ∷ chain) p rest h = go (meets_superblock (chain ++ p ∷ rest) && leads_on c) refl h (have_bare chain p rest)
   where
-    go : (b : Bool) → (length c.content.slots == 1 && is_hard c.content.tail && starts_with_superblock p.content.slots) ≡ b → cond b (1 + superblocks_before (p ∷ rest)) 0 ≡ 1
-        → Each (λ q. length q.content.slots ≡ 1) (c ∷ [])
-    go true e k =
-        let first = and_parts (length c.content.slots == 1 && is_hard c.content.tail) (starts_with_superblock p.content.slots) e in
-        (eqb-true (length c.content.slots) 1 (and_parts (length c.content.slots == 1) (is_hard c.content.tail) first.0).0, tt)
-    go false e k = absurd (omega arith)
-have_one (c ∷ d ∷ chain) p rest h = go (length c.content.slots == 1 && is_hard c.content.tail && starts_with_superblock d.content.slots) refl h (have_one (d ∷ chain) p rest)
-  where
-    go : (b : Bool) → (length c.content.slots == 1 && is_hard c.content.tail && starts_with_superblock d.content.slots) ≡ b → cond b (1 + superblocks_before (d ∷ (chain ++ p ∷ rest))) 0 ≡ length (c ∷ d ∷ chain)
-        → (IsChain (d ∷ chain) (p ∷ rest) → Each (λ q. length q.content.slots ≡ 1) (d ∷ chain)) → Each (λ q. length q.content.slots ≡ 1) (c ∷ d ∷ chain)
-    go true e k next =
-        let first = and_parts (length c.content.slots == 1 && is_hard c.content.tail) (starts_with_superblock d.content.slots) e in
-        (eqb-true (length c.content.slots) 1 (and_parts (length c.content.slots == 1) (is_hard c.content.tail) first.0).0, next (omega arith))
+    go : (b : Bool) → (meets_superblock (chain ++ p ∷ rest) && leads_on c) ≡ b → cond b (1 + superblocks_before (chain ++ p ∷ rest)) 0 ≡ length (c ∷ chain)
+        → (IsChain chain (p ∷ rest) → Each (λ q. is_bare q.content.slots ≡ true) chain) → Each (λ q. is_bare q.content.slots ≡ true) (c ∷ chain)
+    go true e k next = ((and_parts (is_bare c.content.slots) (is_hard c.content.tail) (and_parts (meets_superblock (chain ++ p ∷ rest)) (leads_on c) e).1).0, next (omega arith))
     go false e k next = absurd (omega arith)
 
--- and that slot is the superblock's
-no_other : (P : Slot → Type 0) (slots : List Slot) (id : ℕ) → length slots ≡ 1 → IsHeaded P slots → IsOtherSlot (slice_get slots id) → ⊥
-no_other P [] id one h k = h
-no_other P (s ∷ []) zero one h k = absurd (let clash : true ≡ false = sym h.0 ∙ k in cc)
-no_other P (s ∷ []) (suc id) one h k = k
-no_other P (s ∷ t ∷ slots) id one h k = absurd (omega arith)
+no_other : (slots : List Slot) (id : ℕ) → is_bare slots ≡ true → IsOtherSlot (slice_get slots id) → ⊥
+no_other [] id h k = k
+no_other (s ∷ []) zero h k = absurd (let clash : true ≡ false = sym h ∙ k in cc)
+no_other (s ∷ []) (suc id) h k = k
+no_other (s ∷ t ∷ slots) id h k = absurd (let clash : false ≡ true = h in cc)
 
-none_named : (g : Gstate) (bytes : List ℕ) (chain : List Pair) → Each (λ q. length q.content.slots ≡ 1) chain → Each (λ q. IsHeaded (HasStruct bytes) q.content.slots) chain → Among (Named g) chain → ⊥
-none_named g bytes [] one h k = k
-none_named g bytes (c ∷ chain) one h (inl k) = no_other (HasStruct bytes) c.content.slots g.id one.0 h.0 k.1
-none_named g bytes (c ∷ chain) one h (inr k) = none_named g bytes chain one.1 h.1 k
+none_named : (g : Gstate) (chain : List Pair) → Each (λ q. is_bare q.content.slots ≡ true) chain → Among (Named g) chain → ⊥
+none_named g [] bare k = k
+none_named g (c ∷ chain) bare (inl k) = no_other c.content.slots g.id bare.0 k.1
+none_named g (c ∷ chain) bare (inr k) = none_named g chain bare.1 k
 
 move_known : (g : Gstate) (disk : Disk) (chain : List Pair) (p : Pair) (rest : List Pair) → IsChain chain (p ∷ rest) → IsAccepted disk (chain ++ p ∷ rest) → gstate_of (chain ++ p ∷ rest) ≡ g
     → names_known g (map (λ q. q.at) (p ∷ rest)) ≡ true
 move_known g disk chain p rest is a e = go (subst (IsMove (chain ++ p ∷ rest)) e a.move)
   where
-    headed : Each (λ q. IsHeaded (HasStruct a.superblock.0) q.content.slots) chain
-    headed = (hold_from_rules (StructMark a.superblock.0) chain p rest is a.superblock.1.1 a.slots).0
-
     named : Among (Named g) chain ⊎ Among (Named g) (p ∷ rest) → names_one g.pair (map (λ q. q.at) (p ∷ rest)) ≡ true
-    named (inl k) = absurd (none_named g a.superblock.0 chain (have_one chain p rest is) headed k)
+    named (inl k) = absurd (none_named g chain (have_bare chain p rest is) k)
     named (inr k) = names_among g (p ∷ rest) k
 
     go : IsMove (chain ++ p ∷ rest) g → names_known g (map (λ q. q.at) (p ∷ rest)) ≡ true

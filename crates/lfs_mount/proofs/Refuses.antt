@@ -169,7 +169,7 @@ accepted_passes disk chain p rest ms firsts sets chain_is has_bytes len owns mem
     let dirs : List Pair = p ∷ rest in
     let g : Gstate = gstate_of ps in
     let bytes : List ℕ = a.superblock.0 in
-    let hold = (hold_from_rules (StructMark bytes) chain p rest chain_is a.superblock.1.1 a.slots).1 in
+    let hold = (hold_from_rules (StructMark bytes) chain p rest chain_is a.superblock.1.1 a.root a.slots).1 in
     let starting : Starting bytes true dirs = ((λ e. begins bytes p.content.slots hold.0), others_start bytes rest) in
     let moved : Each (λ q. IsMovedEntry (moved_in g q) q.content.slots) dirs =
     moved_entries g true bytes dirs hold (each_right (λ q. g.kind ≡ 0x4ff → same_pair g.pair q.at ≡ true → IsOtherSlot (slice_get q.content.slots g.id)) chain dirs (move_named g ps a.thread.distinct a.move)) in

@@ -1,11 +1,11 @@
 -- What is known of a thread before its slots are looked at, and of the superblock's pairs.
-use Rattle.std.specs.Prelude.{ℕ, ◌≡◌, Bool, true, List, [], ◌∷◌, ◌++◌, length, Some, codes}
+use Rattle.std.specs.Prelude.{ℕ, ◌≡◌, ◌⊎◌, Bool, true, List, [], ◌∷◌, ◌++◌, length, Some, codes}
 use Rattle.std.specs.List.{AllByRecursion}
 use Rattle.lfs_model.specs.BlockSets.{BlockSets}
 use Rattle.lfs_model.specs.Content.{holder_at, content_at}
 use Rattle.lfs_model.specs.Disk.{Disk, block_count}
 use Rattle.lfs_model.specs.Slots.{Slot, is_superblock}
-use Rattle.lfs_model.specs.Thread.{Pair, anchor, IsThread, blocks_of, gstate_of, superblocks_before}
+use Rattle.lfs_model.specs.Thread.{Pair, IsThread, blocks_of, first_at, from_slots, gstate_of, superblocks_before}
 use Rattle.lfs_model.specs.View.{HasStruct, BeginsWith, superblock_entry, IsSuperblockStruct, first_name}
 use Rattle.lfs_model.specs.Shown.{directories_in}
 use Rattle.lfs_mount.specs.Entries.{firsts_of}
@@ -17,19 +17,23 @@ abbrev pub HasStart : List ℕ → List Slot → Type 0
 HasStart bytes [] = ⊥
 HasStart bytes (s ∷ slots) = (is_superblock s ≡ true) × HasStruct bytes s
 
--- a superblock's pair in front of the root's first one has no other slot
+-- the superblock's slot and no other
 pub record IsAlone (bytes : List ℕ) (p : Pair) : Type 0 where
   pub slot : Slot
   pub slots : p.content.slots ≡ slot ∷ []
   pub superblock : is_superblock slot ≡ true
   pub struct : HasStruct bytes slot
 
--- the superblock's pairs, up to the root's first one
+-- a pair of the superblock's chain in front of the root's first one: no slot, or that one
+abbrev pub IsBare : List ℕ → Pair → Type 0
+IsBare bytes p = (p.content.slots ≡ []) ⊎ IsAlone bytes p
+
+-- the superblock's chain, up to the root's first pair
 pub record HasHead (disk : Disk) (chain : List Pair) (p : Pair) (rest : List Pair) (bytes : List ℕ) : Type 0 where
-  pub first : BeginsWith (holder_at disk anchor) superblock_entry
-  pub named : first_name (chain ++ p ∷ rest) ≡ Some (codes "littlefs")
+  pub first : BeginsWith (holder_at disk (first_at (from_slots (chain ++ p ∷ rest)))) superblock_entry
+  pub named : first_name (from_slots (chain ++ p ∷ rest)) ≡ Some (codes "littlefs")
   pub struct : IsSuperblockStruct disk bytes
-  pub alone : AllByRecursion (IsAlone bytes) chain
+  pub bare : AllByRecursion (IsBare bytes) chain
   pub start : HasStart bytes p.content.slots
 
 -- a thread: so many pairs stand in front of the root's first one; its pairs' blocks are marked, its directories have their places

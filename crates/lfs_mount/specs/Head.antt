@@ -1,8 +1,7 @@
 -- The superblock's pairs, as they are read.
-use Rattle.std.specs.Prelude.{ℕ, ◌≡◌, ◌==◌, ◌&&◌, ◌||◌, not, Bool, true, false, if◌then◌else◌, List, [], ◌∷◌, ◌++◌, length, Option, Some, None, codes}
+use Rattle.std.specs.Prelude.{ℕ, suc, ◌≡◌, ◌==◌, ◌&&◌, ◌||◌, not, Bool, true, false, if◌then◌else◌, List, [], ◌∷◌, ◌++◌, length, Option, Some, None, codes}
 use Rattle.std.specs.Option.{option_and_then, option_map}
 use Rattle.std.specs.Str.{bytes_eq}
-use Rattle.lfs_model.specs.Blocks.{Blocks, block_in}
 use Rattle.lfs_model.specs.Content.{RawSlot, content_after_all, content_at, no_content}
 use Rattle.lfs_model.specs.EntryTypes.{directory_name_type, file_name_type, inline_struct_type, superblock_at}
 use Rattle.lfs_model.specs.Disk.{Disk, block_at, block_count}
@@ -71,13 +70,14 @@ pub record IsSuperblockOf (disk : Disk) (block : ℕ) (bytes : List ℕ) : Type 
 
 -- ---- pairs
 
--- one slot and a hard tail, by which the superblock may go on in the next pair
+-- at most one slot and a hard tail, by which the superblock's chain may go on behind the pair
 abbrev pub leads_on : Header → Bool
-leads_on h = h.slot_count == 1 && is_hard (option_map tail_seen h.tail)
+leads_on h = (h.slot_count == 0 || h.slot_count == 1) && is_hard (option_map tail_seen h.tail)
 
--- whether the superblock goes on in the pair behind one; none where that one has another struct
-abbrev pub goes_on : Blocks → List ℕ → Header → Header → Option Bool
-goes_on blocks bytes h next = if leads_on h then repeats_of bytes (block_in blocks next.active) else Some false
+-- the first pair that has a slot, where those in front of it have hard tails
+abbrev pub first_filled : List Header → Option ℕ
+first_filled [] = None
+first_filled (h ∷ hs) = if h.slot_count == 0 then (if is_hard (option_map tail_seen h.tail) then option_map (λ k. suc k) (first_filled hs) else None) else Some 0
 
 -- ---- the thread
 

@@ -1,6 +1,6 @@
 // The superblock's pairs, in front of the root's first one.
 
-ghost use Rattle.std.specs.Prelude.{ℕ, List, ◌≡◌, ◌↔◌, ◌⊎◌, ◌<◌, ◌≤◌, ◌+◌, IsTrue, IfOk, IfErr, IsErrOf, OnOk, None, Some, codes, map};
+ghost use Rattle.std.specs.Prelude.{ℕ, List, ◌≡◌, ◌↔◌, ◌⊎◌, ◌<◌, ◌≤◌, ◌+◌, length, IsTrue, IfOk, IfErr, IsErrOf, OnOk, None, Some, codes, map};
 ghost use Rattle.std.specs.Option.{option_map};
 ghost use Rattle.lfs_device.specs.Calls.{ReadsOnly, TellsFaults};
 ghost use Rattle.lfs_model.specs.Blocks.{block_in};
@@ -8,7 +8,7 @@ ghost use Rattle.lfs_model.specs.History.{reads};
 ghost use Rattle.lfs_model.specs.View.{BeginsWith, IsAccepted, superblock_entry};
 ghost use Rattle.lfs_tag.specs.ContentSeen.{part_seen, slot_seen};
 ghost use Rattle.lfs_thread.specs.Kept.{disk_on, pairs_on};
-ghost use Rattle.lfs_mount.specs.Head.{HasHeaders, IsHead, IsSuperblockOf, describes, goes_on, inline_in, is_called, leads_on, names_superblock, repeats_in, repeats_of, superblock_in, superblock_of};
+ghost use Rattle.lfs_mount.specs.Head.{HasHeaders, IsHead, IsSuperblockOf, describes, first_filled, inline_in, is_called, leads_on, names_superblock, repeats_in, repeats_of, superblock_in, superblock_of};
 
 use lfs_device::{BlockDevice, Error, Geometry, read_block};
 use lfs_pair::Pair;
@@ -151,47 +151,61 @@ fn superblock_at<D: BlockDevice>(alloc: Global, dev: &mut D, block: u32) -> Resu
     read_superblock(alloc, &geometry, &bytes)
 }
 
-// Whether the superblock with this struct goes on in the next pair. Corrupt exactly where that one
-// has a superblock with another struct, or no content.
-fn goes_on<D: BlockDevice>(
+// Whether a block's first slot is a superblock's. Corrupt exactly where it is one with another
+// struct, or the log has no content.
+fn repeats_at<D: BlockDevice>(
     alloc: Global,
     dev: &mut D,
-    pair: &Pair,
-    next: &Pair,
+    block: u32,
     bytes: &[u8],
 ) -> Result<bool, Error>
-    requires { next.now.active < (D.geometry dev.old).block_count }
-    ensures ok { IfOk result (λ more. goes_on (D.blocks dev.old) bytes.now pair.now next.now ≡ Some more) }
-    ensures corrupt { IsErrOf result Error.Corrupt → goes_on (D.blocks dev.old) bytes.now pair.now next.now ≡ None }
+    requires { block < (D.geometry dev.old).block_count }
+    ensures ok { IfOk result (λ repeats. repeats_of bytes.now (block_in (D.blocks dev.old) block) ≡ Some repeats) }
+    ensures corrupt { IsErrOf result Error.Corrupt → repeats_of bytes.now (block_in (D.blocks dev.old) block) ≡ None }
     ensures device { ReadsOnly D.BlockDevice dev.old dev.new }
     ensures errors { IfErr result (λ e. (e ≡ Error.Corrupt) ⊎ ((e ≡ Error.Io) ⊎ (e ≡ Error.NoMemory))) }
     ensures faults { TellsFaults D.BlockDevice dev.old dev.new result }
     ensures reads { reads (D.history dev.new) ≤ reads (D.history dev.old) + 1 }
 {
-    if !leads_on(pair) {
-        return Ok(false);
-    }
-    let block = read_block(alloc, dev, next.active)?;
+    let block = read_block(alloc, dev, block)?;
     repeats(alloc, &block, bytes)
 }
 
-// Whether a pair has one slot and a hard tail.
+// Whether a pair has at most one slot, and a hard tail.
 fn leads_on(pair: &Pair) -> bool
     ensures { result ≡ leads_on pair.now }
 {
-    pair.slot_count == 1 && is_hard(pair.tail)
+    (pair.slot_count == 0 || pair.slot_count == 1) && is_hard(pair.tail)
 }
 
-// How many superblock pairs stand in front of the root's first pair, in the thread with these
-// headers. The log of the first pair begins with the superblock, and slot 0 keeps its name, with a
-// struct of version 2.0 and of the device's geometry (SPEC.md of littlefs, "0x0ff
-// LFS_TYPE_SUPERBLOCK"). The superblock goes on in the next pair where a pair has no other slot and
-// a hard tail, and the next one's slot 0 is a superblock's too; both then have the same struct, and
-// the root begins at the last of them.
+// The first pair that has a slot. Corrupt exactly where there is none, or one in front of it has no
+// hard tail.
+fn first_filled(pairs: &[Pair]) -> Result<usize, Error>
+    ensures ok { IfOk result (λ index. first_filled pairs.now ≡ Some index) }
+    ensures below { IfOk result (λ index. index < length pairs.now) }
+    ensures corrupt { IfErr result (λ e. (e ≡ Error.Corrupt) × (first_filled pairs.now ≡ None)) }
+{
+    for index in 0..pairs.len() {
+        if pairs[index].slot_count != 0 {
+            return Ok(index);
+        }
+        if !is_hard(pairs[index].tail) {
+            return Err(Error::Corrupt);
+        }
+    }
+    Err(Error::Corrupt)
+}
+
+// How many pairs stand in front of the root's first pair, in the thread with these headers: the
+// superblock's chain, without its last pair. In the first pair that has a slot the log begins with
+// the superblock, and slot 0 keeps its name, with a struct of version 2.0 and of the device's
+// geometry (SPEC.md of littlefs, "0x0ff LFS_TYPE_SUPERBLOCK"). The chain goes on behind a pair with
+// a hard tail and no slot, or with the superblock alone, where the next pair that has a slot begins
+// with a superblock. All superblocks have the same struct, and the root begins at the last one.
 //
 // `Corrupt` where the superblock isn't so; no such image is accepted. `Io` where a read failed, and
-// `NoMemory` where there is no room for a block and its slots. Nothing is written. Each of the
-// superblock's pairs is read once, and the one behind them at most once.
+// `NoMemory` where there is no room for a block and its slots. Nothing is written. Each pair of the
+// chain is read at most once, and the one behind it at most once.
 //
 // That the headers are those of the device's thread, all and in order, is the caller's condition.
 pub(crate) fn count_superblocks<D: BlockDevice>(
@@ -207,11 +221,20 @@ pub(crate) fn count_superblocks<D: BlockDevice>(
     ensures faults { TellsFaults D.BlockDevice dev.old dev.new result }
     ensures reads { IfOk result (λ count. reads (D.history dev.new) ≤ reads (D.history dev.old) + count + 2) }
 {
-    let bytes = superblock_at(alloc, dev, pairs[0].active)?;
-    for index in 1..pairs.len() {
-        if !goes_on(alloc, dev, &pairs[index - 1], &pairs[index], &bytes)? {
-            return Ok(index - 1);
+    let first = first_filled(pairs)?;
+    let bytes = superblock_at(alloc, dev, pairs[first].active)?;
+    let mut root = first;
+    for index in first + 1..pairs.len() {
+        if !leads_on(&pairs[index - 1]) {
+            return Ok(root);
         }
+        if pairs[index].slot_count == 0 {
+            continue;
+        }
+        if !repeats_at(alloc, dev, pairs[index].active, &bytes)? {
+            return Ok(root);
+        }
+        root = index;
     }
-    Ok(pairs.len() - 1)
+    Ok(root)
 }

@@ -9,7 +9,7 @@ use Rattle.lfs_model.specs.Content.{RawContent, raw_at, content_after_all, conte
 use Rattle.lfs_model.specs.Disk.{Disk}
 use Rattle.lfs_model.specs.InDirectory.{IsBehind}
 use Rattle.lfs_model.specs.Slots.{Content, FitsPair, Slot, is_superblock}
-use Rattle.lfs_model.specs.View.{HasSuperblock, IsAccepted, IsEntry}
+use Rattle.lfs_model.specs.View.{MayHaveSuperblock, IsAccepted, IsEntry}
 use Rattle.std.specs.Prelude.{All}
 use Rattle.std.proofs.lemmas.List.{take-append-drop}
 use Rattle.lfs_model.specs.Thread.{Pair, superblocks_before}
@@ -38,15 +38,15 @@ get_behind (x ∷ xs) p zs n d e = ap (λ (k : ℕ). get_or (x ∷ (xs ++ p ∷ 
 abbrev pub IsEntryIfOther : Slot → Type 0
 IsEntryIfOther s = is_superblock s ≡ false → IsEntry s
 
-headed_entries : (bytes : List ℕ) (slots : List Slot) → HasSuperblock bytes slots → Each IsEntryIfOther slots
-headed_entries bytes [] h = absurd h
+headed_entries : (bytes : List ℕ) (slots : List Slot) → MayHaveSuperblock bytes slots → Each IsEntryIfOther slots
+headed_entries bytes [] h = tt
 headed_entries bytes (s ∷ slots) h = ((λ e. absurd (let z = sym e ∙ h.0 in cc)), each_weaker IsEntry IsEntryIfOther (λ x k e. k) slots (recursion_from_All IsEntry slots h.2))
 
 pub other_entries : (disk : Disk) (ps : List Pair) → IsAccepted disk ps → Each (λ p. Each IsEntryIfOther p.content.slots) ps
 other_entries disk ps ok = subst (Each (λ p. Each IsEntryIfOther p.content.slots)) (take-append-drop (superblocks_before ps + 1) ps)
     (each_append (λ p. Each IsEntryIfOther p.content.slots) (take (superblocks_before ps + 1) ps) (drop (superblocks_before ps + 1) ps)
-    (each_weaker (λ (p : Pair). HasSuperblock ok.superblock.0 p.content.slots) (λ (p : Pair). Each IsEntryIfOther p.content.slots) (λ p h. headed_entries ok.superblock.0 p.content.slots h)
-    (take (superblocks_before ps + 1) ps) (recursion_from_All (λ (p : Pair). HasSuperblock ok.superblock.0 p.content.slots) (take (superblocks_before ps + 1) ps) ok.superblock.1.1))
+    (each_weaker (λ (p : Pair). MayHaveSuperblock ok.superblock.0 p.content.slots) (λ (p : Pair). Each IsEntryIfOther p.content.slots) (λ p h. headed_entries ok.superblock.0 p.content.slots h)
+    (take (superblocks_before ps + 1) ps) (recursion_from_All (λ (p : Pair). MayHaveSuperblock ok.superblock.0 p.content.slots) (take (superblocks_before ps + 1) ps) ok.superblock.1.1))
     (each_weaker (λ (p : Pair). All IsEntry p.content.slots) (λ (p : Pair). Each IsEntryIfOther p.content.slots)
     (λ p h. each_weaker IsEntry IsEntryIfOther (λ x k e. k) p.content.slots (recursion_from_All IsEntry p.content.slots h)) (drop (superblocks_before ps + 1) ps)
     (recursion_from_All (λ (p : Pair). All IsEntry p.content.slots) (drop (superblocks_before ps + 1) ps) ok.slots)))

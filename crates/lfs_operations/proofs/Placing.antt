@@ -1,21 +1,22 @@
 -- At a site of an accepted image a pair becomes others, on a disk where only its blocks and some that nobody owned differ.
-use Rattle.std.proofs.Common.{ℕ, ◌≡◌, ◌≢◌, ◌⊎◌, inl, inr, ◌+◌, ◌≤◌, nat_eq, List, [], ◌∷◌, ◌++◌, length, Some, refl, sym, ap, subst, ◌∙◌, arith, append_assoc, length-append}
+use Rattle.std.proofs.Common.{ℕ, ◌≡◌, ◌≢◌, ◌+◌, ◌≤◌, cond, nat_eq, List, [], ◌∷◌, ◌++◌, length, Some, refl, sym, ap, subst, ◌∙◌, arith, append_assoc, length-append}
 use Rattle.std.specs.Prelude.{All}
 use Rattle.std.specs.List.{IsDistinct, flat_map}
+use Rattle.std.proofs.lemmas.List.{append-nil}
 use Rattle.std.proofs.lemmas.List.Elements.{All-from_recursion}
 use Rattle.std.proofs.lemmas.List.Concat.{flat_map-append}
 use Rattle.lfs_model.specs.Disk.{Disk, block_at, SameGeometry}
 use Rattle.lfs_model.specs.Slots.{Slot}
 use Rattle.lfs_model.specs.Content.{content_at, holder_at}
-use Rattle.lfs_model.specs.Thread.{Pair, anchor, Links, blocks_of}
-use Rattle.lfs_model.specs.View.{BeginsWith, superblock_entry, IsAccepted}
+use Rattle.lfs_model.specs.Thread.{Pair, blocks_of, first_at, from_slots, has_slots}
+use Rattle.lfs_model.specs.View.{BeginsWith, superblock_entry, IsAccepted, first_name}
 use Rattle.lfs_model.specs.Shown.{all_slots, used_blocks, file_blocks}
 use Rattle.lfs_model.proofs.Counts.{Each, count, count_append, once_from_distinct, each_from_counted}
 use Rattle.lfs_model.proofs.Sites.{Site, thread_at, IsSite}
 use Rattle.lfs_model.proofs.Splices.{IsDevice}
 use Rattle.lfs_model.proofs.Devices.{device_from, first_same}
 use Rattle.lfs_model.proofs.Changes.{Follows}
-use Rattle.lfs_model.proofs.Superblocks.{IsChain}
+use Rattle.lfs_model.proofs.Superblocks.{Behind, FromSlots, InFront, IsChain, first_counted, from_front}
 use Rattle.lfs_model.proofs.Unchanged.{HasFirst, accepted_first, same_follows}
 
 -- ---- blocks
@@ -25,39 +26,6 @@ all_apart bs b none = All-from_recursion (λ k. k ≢ b) bs (each_from_counted (
 
 pub blocks_append : (xs ys : List Pair) (b : ℕ) → count b (blocks_of (xs ++ ys)) ≡ count b (blocks_of xs) + count b (blocks_of ys)
 blocks_append xs ys b = ap (count b) (flat_map-append (λ (s : Pair). s.at.0 ∷ s.at.1 ∷ []) xs ys) ∙ count_append b (blocks_of xs) (blocks_of ys)
-
-same_at : (x : Pair) → Some anchor ≡ Some x.at → x.at ≡ anchor
-same_at x h = cc
-
--- the thread has blocks 0 and 1
-record HasAnchor (ps : List Pair) : Type 0 where
-  zero : 1 ≤ count 0 (blocks_of ps)
-  one : 1 ≤ count 1 (blocks_of ps)
-
-has_anchor : (ps : List Pair) → Links (Some anchor) ps → HasAnchor ps
-has_anchor [] links = absurd (cc)
-has_anchor (x ∷ xs) links =
-    let e : x.at ≡ anchor = same_at x links.0 in
-    let h0 : count 0 (0 ∷ 1 ∷ blocks_of xs) ≡ 1 + count 0 (blocks_of xs) = omega arith in
-    let h1 : count 1 (0 ∷ 1 ∷ blocks_of xs) ≡ 1 + count 1 (blocks_of xs) = omega arith in
-    let g0 = ap (λ (at : ℕ × ℕ). count 0 (at.0 ∷ at.1 ∷ blocks_of xs)) e ∙ h0 in
-    let g1 = ap (λ (at : ℕ × ℕ). count 1 (at.0 ∷ at.1 ∷ blocks_of xs)) e ∙ h1 in
-    record { zero = omega arith; one = omega arith }
-
--- the first pair, or one whose blocks aren't the first pair's
-first_or_not : (xs : List Pair) (p : Pair) (ys : List Pair) → Links (Some anchor) (xs ++ p ∷ ys) → ((b : ℕ) → count b (blocks_of (xs ++ p ∷ ys)) ≤ 1)
-    → ((xs ≡ []) × (p.at ≡ anchor)) ⊎ ((count 0 (blocks_of (p ∷ [])) ≡ 0) × (count 1 (blocks_of (p ∷ [])) ≡ 0))
-first_or_not [] p ys links once = inl (refl, same_at p links.0)
-first_or_not (x ∷ xs) p ys links once =
-    let e : x.at ≡ anchor = same_at x links.0 in
-    let n0 = once 0 in let n1 = once 1 in
-    let a0 = blocks_append xs (p ∷ ys) 0 in let a1 = blocks_append xs (p ∷ ys) 1 in
-    let g0 : count 0 (0 ∷ 1 ∷ blocks_of (xs ++ p ∷ ys)) ≡ 1 + count 0 (blocks_of (xs ++ p ∷ ys)) = omega arith in
-    let h0 : count 0 (blocks_of (x ∷ (xs ++ p ∷ ys))) ≡ 1 + count 0 (blocks_of (xs ++ p ∷ ys)) = ap (λ (at : ℕ × ℕ). count 0 (at.0 ∷ at.1 ∷ blocks_of (xs ++ p ∷ ys))) e ∙ g0 in
-    let g1 : count 1 (0 ∷ 1 ∷ blocks_of (xs ++ p ∷ ys)) ≡ 1 + count 1 (blocks_of (xs ++ p ∷ ys)) = omega arith in
-    let h1 : count 1 (blocks_of (x ∷ (xs ++ p ∷ ys))) ≡ 1 + count 1 (blocks_of (xs ++ p ∷ ys)) = ap (λ (at : ℕ × ℕ). count 1 (at.0 ∷ at.1 ∷ blocks_of (xs ++ p ∷ ys))) e ∙ g1 in
-    let b0 = blocks_append (p ∷ []) ys 0 in let b1 = blocks_append (p ∷ []) ys 1 in
-    inr (omega arith, omega arith)
 
 -- ---- one pair became others
 
@@ -89,18 +57,46 @@ module _ (old disk : Disk) (w : Site) (p q : Pair) (more : List Pair) (extra : L
       let f = count_append b (blocks_of ps) (flat_map (λ (s : Slot). file_blocks old s.struct) (all_slots ps)) in
       omega arith
 
-  still_first : BeginsWith (holder_at disk anchor) superblock_entry
-  still_first = go (first_or_not front p back (subst (Links (Some anchor)) grouped ok.thread.links)
-      (λ b. once_from_distinct (blocks_of (front ++ p ∷ back)) (subst (λ z. IsDistinct nat_eq (blocks_of z)) grouped ok.thread.distinct) b))
+  abbrev Begins : ℕ × ℕ → Type 0
+  Begins at = BeginsWith (holder_at disk at) superblock_entry
+
+  -- a pair of the others, whose blocks are none that changed
+  other_first : (c : Pair) → first_at (from_slots ps) ≡ c.at → 1 ≤ count c.at.0 (blocks_of front) + count c.at.0 (blocks_of back) → 1 ≤ count c.at.1 (blocks_of front) + count c.at.1 (blocks_of back) → Begins (first_at (from_slots ps))
+  other_first c e f s = subst Begins (sym e) (first_same old disk c.at (still c.at.0 f) (still c.at.1 s) (subst (λ at. BeginsWith (holder_at old at) superblock_entry) e ok.first))
     where
-      go : ((front ≡ []) × (p.at ≡ anchor)) ⊎ ((count 0 (blocks_of (p ∷ [])) ≡ 0) × (count 1 (blocks_of (p ∷ [])) ≡ 0)) → BeginsWith (holder_at disk anchor) superblock_entry
-      go (inl (alone, e)) =
-          let has = accepted_first old p back (subst (IsAccepted old) (grouped ∙ ap (λ z. z ++ p ∷ back) alone) ok) in
-          subst (λ a. BeginsWith (holder_at disk a) superblock_entry) e (is.first has (subst (λ a. BeginsWith (holder_at old a) superblock_entry) (sym e) ok.first))
-      go (inr (f, s)) =
-          let h = has_anchor ps ok.thread.links in
-          first_same old disk (is.same 0 (let a = apart 0 h.zero in let k = count_append 0 extra (blocks_of (p ∷ [])) in omega arith))
-          (is.same 1 (let a = apart 1 h.one in let k = count_append 1 extra (blocks_of (p ∷ [])) in omega arith)) ok.first
+      still : (b : ℕ) → 1 ≤ count b (blocks_of front) + count b (blocks_of back) → block_at disk b ≡ block_at old b
+      still b some = is.same b (
+          let n = once_from_distinct (blocks_of ps) ok.thread.distinct b in
+          let w = ap (λ z. count b (blocks_of z)) grouped ∙ blocks_append front (p ∷ back) b in
+          let v = blocks_append (p ∷ []) back b in
+          let a = apart b in
+          let k = count_append b extra (blocks_of (p ∷ [])) in
+          let none = a (omega arith) in
+          omega arith)
+
+  still_first : Begins (first_at (from_slots ps))
+  still_first = go (from_front front)
+    where
+      is_front : (qs : List Pair) → from_slots (front ++ p ∷ back) ≡ qs → from_slots ps ≡ qs
+      is_front qs e = ap from_slots grouped ∙ e
+
+      behind : ((qs : List Pair) → from_slots (front ++ qs) ≡ from_slots qs) → (slots : List Slot) → p.content.slots ≡ slots → FromSlots back → Begins (first_at (from_slots ps))
+      behind all (s ∷ slots) e f =
+          let here = is_front (p ∷ back) (all (p ∷ back) ∙ ap (λ z. cond (has_slots z) (p ∷ back) (from_slots back)) e) in
+          subst Begins (sym (ap first_at here)) (is.first (accepted_first old ps p back ok here) (subst (λ at. BeginsWith (holder_at old at) superblock_entry) (ap first_at here) ok.first))
+      behind all [] e (InFront c rest there more) =
+          let here = is_front (c ∷ rest) (all (p ∷ back) ∙ ap (λ z. cond (has_slots z) (p ∷ back) (from_slots back)) e ∙ there) in
+          let n = first_counted back c rest there in
+          other_first c (ap first_at here) (let l = n.0 in omega arith) (let l = n.1 in omega arith)
+      behind all [] e (Behind none more) =
+          let here = is_front [] (all (p ∷ back) ∙ ap (λ z. cond (has_slots z) (p ∷ back) (from_slots back)) e ∙ ap from_slots (sym (append-nil back)) ∙ more []) in
+          absurd (let k = ap first_name (sym here) ∙ ok.named in cc)
+
+      go : FromSlots front → Begins (first_at (from_slots ps))
+      go (InFront c rest there all) =
+          let n = first_counted front c rest there in
+          other_first c (ap first_at (is_front (c ∷ rest ++ p ∷ back) (all (p ∷ back)))) (let l = n.0 in omega arith) (let l = n.1 in omega arith)
+      go (Behind none all) = behind all p.content.slots refl (from_front back)
 
   pub device : IsDevice old disk (thread_at w (p ∷ [])) (thread_at w (q ∷ more))
   device = device_from old disk w.chain (w.before ++ w.left) p [] q more (w.right ++ w.after) extra ok free

@@ -12,7 +12,7 @@ use Rattle.lfs_model.specs.PowerLoss.{IsLeft as IsLeftOf, Survives, with_blocks}
 use Rattle.lfs_model.specs.Layout.{onward}
 use Rattle.lfs_model.specs.Recovery.{IsRecovered}
 use Rattle.lfs_model.specs.Slots.{Gstate, Slot, no_gstate}
-use Rattle.lfs_model.specs.Thread.{Links, ThreadDirectory, Pair, anchor, blocks_of, directory_pairs, gstate_of, is_hard, starts_with_superblock, superblocks_before}
+use Rattle.lfs_model.specs.Thread.{Links, ThreadDirectory, Pair, anchor, blocks_of, directory_pairs, gstate_of, leads_on, meets_superblock, superblocks_before}
 use Rattle.lfs_model.specs.View.{IsAccepted}
 use Rattle.lfs_model.specs.Shown.{IsReached, all_slots, directories_in, file_blocks, tree_in}
 use Rattle.lfs_model.specs.Profile.{IsWritable}
@@ -48,7 +48,7 @@ use Rattle.lfs_operations.proofs.RecoverUnderWay.{IsUnderWay, StaysOn}
 
 fewer : (p : Pair) (ps : List Pair) → superblocks_before (p ∷ ps) < length (p ∷ ps)
 fewer p [] = omega arith
-fewer p (q ∷ ps) = go (length p.content.slots == 1 && is_hard p.content.tail && starts_with_superblock q.content.slots) (fewer q ps)
+fewer p (q ∷ ps) = go (meets_superblock (q ∷ ps) && leads_on p) (fewer q ps)
   where
     go : (b : Bool) → superblocks_before (q ∷ ps) < length (q ∷ ps) → cond b (1 + superblocks_before (q ∷ ps)) 0 < length (p ∷ q ∷ ps)
     go true l = omega arith

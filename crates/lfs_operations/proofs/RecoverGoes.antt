@@ -13,7 +13,7 @@ use Rattle.lfs_model.specs.PowerLoss.{IsLeft as IsLeftOf, with_blocks}
 use Rattle.lfs_model.specs.Slots.{FitsPair, Gstate, Slot, Tail, same_pair}
 use Rattle.lfs_model.specs.SlotEdits.{with_slots, without_moved}
 use Rattle.lfs_model.specs.Thread.{Pair, blocks_of, gstate_of, is_hard, superblocks_before, unmoved}
-use Rattle.lfs_model.specs.View.{HasSuperblock, IsAccepted}
+use Rattle.lfs_model.specs.View.{MayHaveSuperblock, IsAccepted}
 use Rattle.lfs_model.specs.Profile.{IsWritable}
 use Rattle.lfs_model.specs.Shown.{all_slots, file_blocks, tree_in, used_blocks}
 use Rattle.lfs_model.proofs.Changes.{SameFiles, chain_now, slots_files}
@@ -102,9 +102,9 @@ module _ (t : Kept) (can : CanEndMove t) (behind : ℕ) (m : IsMovedAt t behind)
     where
       go : (superblocks_before t.pairs < behind) ⊎ (behind ≤ superblocks_before t.pairs) → superblocks_before t.pairs < behind
       go (inl l) = l
-      go (inr l) = absurd (let k = (subst (HasSuperblock can.accepted.superblock.0) slots_are
-          (heads (λ p. HasSuperblock can.accepted.superblock.0 p.content.slots) (superblocks_before t.pairs + 1) t.pairs behind (omega arith) m.below
-          (recursion_from_All (λ (p : Pair). HasSuperblock can.accepted.superblock.0 p.content.slots) (take (superblocks_before t.pairs + 1) t.pairs) can.accepted.superblock.1.1))).0 in
+      go (inr l) = absurd (let k = (subst (MayHaveSuperblock can.accepted.superblock.0) slots_are
+          (heads (λ p. MayHaveSuperblock can.accepted.superblock.0 p.content.slots) (superblocks_before t.pairs + 1) t.pairs behind (omega arith) m.below
+          (recursion_from_All (λ (p : Pair). MayHaveSuperblock can.accepted.superblock.0 p.content.slots) (take (superblocks_before t.pairs + 1) t.pairs) can.accepted.superblock.1.1))).0 in
           let z = sym k ∙ m.other in cc)
 
   pub h : HasSite t.pairs (behind - 1)

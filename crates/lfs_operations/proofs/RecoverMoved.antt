@@ -2,13 +2,12 @@
 use Rattle.std.proofs.Common.{ℕ, suc, zero, ◌≡◌, ◌+◌, ◌<◌, ◌≤◌, ◌⊎◌, ◌==◌, ◌&&◌, inl, inr, Bool, true, false, cond, eqb-true, length-append, List, [], ◌∷◌, ◌++◌, length, take, Option, Some, None, refl, sym, ap, subst, ◌∙◌, arith, get_or, slice_get}
 use Rattle.std.specs.Prelude.{IfNone, IfSome}
 use Rattle.std.specs.List.{AllByRecursion}
-use Rattle.std.proofs.lemmas.Bool.{cases_lt}
+use Rattle.std.proofs.lemmas.Bool.{and_parts, cases_lt}
 use Rattle.std.proofs.lemmas.Option.{same_Some}
-use Rattle.std.proofs.lemmas.List.Elements.{recursion_from_All}
 use Rattle.lfs_model.specs.InDirectory.{BeginsAt}
 use Rattle.lfs_model.specs.Slots.{Gstate, Slot, is_superblock, same_pair}
-use Rattle.lfs_model.specs.Thread.{Pair, gstate_of, is_hard, starts_with_superblock, superblocks_before}
-use Rattle.lfs_model.specs.View.{HasSuperblock, IsAccepted, IsMove, IsOtherSlot, NamesSlot}
+use Rattle.lfs_model.specs.Thread.{Pair, gstate_of, is_bare, is_hard, leads_on, meets_superblock, superblocks_before}
+use Rattle.lfs_model.specs.View.{IsAccepted, IsMove, IsOtherSlot, NamesSlot}
 use Rattle.lfs_model.specs.Slots.{no_move, set_move}
 use Rattle.lfs_model.proofs.Counts.{Each}
 use Rattle.lfs_model.proofs.Global.{HasNoMove}
@@ -95,23 +94,22 @@ not_nowhere t ok kind none = go t.pairs none (among_from (λ (p : Pair). (same_p
 
 -- ---- it is one of a directory
 
-chain_step : (one hard first : Bool) (n i : ℕ) → suc i < cond (one && hard && first) (1 + n) 0 → i < n
-chain_step true true true n i l = omega arith
-chain_step true true false n i l = absurd (omega arith)
-chain_step true false first n i l = absurd (omega arith)
-chain_step false hard first n i l = absurd (omega arith)
+chain_bare : (ps : List Pair) (i : ℕ) → i < superblocks_before ps → is_bare (get_or ps i no_pair).content.slots ≡ true
+chain_bare [] i low = absurd (omega arith)
+chain_bare (p ∷ ps) i low = go (meets_superblock ps && leads_on p) refl i low (chain_bare ps)
+  where
+    go : (t : Bool) → (meets_superblock ps && leads_on p) ≡ t → (i : ℕ) → i < cond t (1 + superblocks_before ps) 0 → ((k : ℕ) → k < superblocks_before ps → is_bare (get_or ps k no_pair).content.slots ≡ true) →
+        is_bare (get_or (p ∷ ps) i no_pair).content.slots ≡ true
+    go false e i l next = absurd (omega arith)
+    go true e zero l next = (and_parts (is_bare p.content.slots) (is_hard p.content.tail) (and_parts (meets_superblock ps) (leads_on p) e).1).0
+    go true e (suc i) l next = next i (omega arith)
 
-chain_one : (one hard first : Bool) (n i : ℕ) → i < cond (one && hard && first) (1 + n) 0 → one ≡ true
-chain_one true hard first n i l = refl
-chain_one false hard first n i l = absurd (omega arith)
-
-chain_single : (ps : List Pair) (i : ℕ) → i < superblocks_before ps → length (get_or ps i no_pair).content.slots ≡ 1
-chain_single [] i low = absurd (omega arith)
-chain_single (p ∷ []) i low = absurd (omega arith)
-chain_single (p ∷ q ∷ ps) zero low =
-    eqb-true (length p.content.slots) 1 (chain_one (length p.content.slots == 1) (is_hard p.content.tail) (starts_with_superblock q.content.slots) (superblocks_before (q ∷ ps)) 0 low)
-chain_single (p ∷ q ∷ ps) (suc i) low =
-    chain_single (q ∷ ps) i (chain_step (length p.content.slots == 1) (is_hard p.content.tail) (starts_with_superblock q.content.slots) (superblocks_before (q ∷ ps)) i low)
+-- no slot of theirs is an entry
+bare_other : (l : List Slot) (s : Slot) (r : List Slot) → is_superblock s ≡ false → is_bare (l ++ s ∷ r) ≡ true → ⊥
+bare_other [] s [] other h = let z = sym h ∙ other in cc
+bare_other [] s (t ∷ r) other h = let z : false ≡ true = h in cc
+bare_other (x ∷ []) s r other h = let z : false ≡ true = h in cc
+bare_other (x ∷ y ∷ l) s r other h = let z : false ≡ true = h in cc
 
 pub heads : (P : Pair → Type 0) (n : ℕ) (ps : List Pair) (i : ℕ) → i < n → i < length ps → Each P (take n ps) → P (get_or ps i no_pair)
 heads P n [] i l low h = absurd (omega arith)
@@ -122,18 +120,9 @@ heads P (suc n) (p ∷ ps) (suc i) l low h = heads P n ps i (omega arith) (omega
 pub in_directory : (t : Kept) (index : ℕ) → IsAccepted t.disk t.pairs → IsMovedAt t index → superblocks_before t.pairs ≤ index
 in_directory t index ok m = go (cases_lt index (superblocks_before t.pairs))
   where
-    bytes : List ℕ
-    bytes = ok.superblock.0
-
-    wrong : (l : List Slot) → (pair_in t index).content.slots ≡ l ++ m.slot ∷ m.right → length (pair_in t index).content.slots ≡ 1 → HasSuperblock ok.superblock.0 (pair_in t index).content.slots → ⊥
-    wrong [] e one h = absurd (let k = (subst (HasSuperblock ok.superblock.0) e h).0 in let z = sym k ∙ m.other in cc)
-    wrong (s ∷ l) e one h = absurd (let a = ap length e in let b = length-append l (m.slot ∷ m.right) in omega arith)
-
     go : (index < superblocks_before t.pairs) ⊎ (superblocks_before t.pairs ≤ index) → superblocks_before t.pairs ≤ index
     go (inr h) = h
-    go (inl h) = absurd (wrong m.left m.held (chain_single t.pairs index h)
-        (heads (λ p. HasSuperblock ok.superblock.0 p.content.slots) (superblocks_before t.pairs + 1) t.pairs index (omega arith) m.below
-        (recursion_from_All (λ (p : Pair). HasSuperblock ok.superblock.0 p.content.slots) (take (superblocks_before t.pairs + 1) t.pairs) ok.superblock.1.1)))
+    go (inl h) = absurd (bare_other m.left m.slot m.right m.other (ap is_bare (sym m.held) ∙ chain_bare t.pairs index h))
 
 -- what the search for it found
 pub found_there : (t : Kept) (o : Option ℕ) → IsAccepted t.disk t.pairs → (gstate_of t.pairs).kind ≡ set_move → IfSome o (BeginsAt t.pairs (gstate_of t.pairs).pair) → IfSome o (IsMovedAt t)

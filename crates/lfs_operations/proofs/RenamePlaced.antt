@@ -8,7 +8,7 @@ use Rattle.lfs_model.specs.Disk.{Disk, SameGeometry}
 use Rattle.lfs_model.specs.Slots.{Content, Slot, is_superblock}
 use Rattle.lfs_model.specs.Thread.{Pair, gstate_of, starts_with_superblock, superblocks_before}
 use Rattle.lfs_model.specs.Profile.{FitsEntry, FitsSlot}
-use Rattle.lfs_model.specs.View.{HasSuperblock, IsAccepted, IsEntry, IsListIfCtz}
+use Rattle.lfs_model.specs.View.{MayHaveSuperblock, IsAccepted, IsEntry, IsListIfCtz}
 use Rattle.lfs_model.specs.Shown.{all_slots, file_blocks}
 use Rattle.lfs_model.proofs.Changes.{SameFiles, slots_files}
 use Rattle.lfs_model.proofs.Committed.{no_move_from}
@@ -63,8 +63,9 @@ carries_ahead u name gone passed = record {
 abbrev HasRests : List Slot → Type 0
 HasRests slots = (l xs : List Slot) → slots ≡ l ++ xs → starts_with_superblock xs ≡ false → Each IsEntry xs
 
-headed_rests : (bytes : List ℕ) (slots : List Slot) → HasSuperblock bytes slots → HasRests slots
-headed_rests bytes [] h l xs e f = absurd h
+headed_rests : (bytes : List ℕ) (slots : List Slot) → MayHaveSuperblock bytes slots → HasRests slots
+headed_rests bytes [] h [] xs e f = subst (Each IsEntry) e tt
+headed_rests bytes [] h (x ∷ l) xs e f = absurd (cc)
 headed_rests bytes (s ∷ slots) h [] xs e f = absurd (let z = sym f ∙ ap starts_with_superblock (sym e) ∙ h.0 in cc)
 headed_rests bytes (s ∷ slots) h (x ∷ l) xs e f = each_right IsEntry l xs (subst (Each IsEntry) (rest e) (recursion_from_All IsEntry slots h.2))
   where
@@ -77,8 +78,8 @@ all_rests slots h l xs e f = each_right IsEntry l xs (subst (Each IsEntry) e (re
 each_rests : (disk : Disk) (ps : List Pair) → IsAccepted disk ps → Each (λ p. HasRests p.content.slots) ps
 each_rests disk ps ok = subst (Each (λ p. HasRests p.content.slots)) (take-append-drop (superblocks_before ps + 1) ps)
     (each_append (λ p. HasRests p.content.slots) (take (superblocks_before ps + 1) ps) (drop (superblocks_before ps + 1) ps)
-    (each_weaker (λ (p : Pair). HasSuperblock ok.superblock.0 p.content.slots) (λ (p : Pair). HasRests p.content.slots) (λ p h. headed_rests ok.superblock.0 p.content.slots h)
-    (take (superblocks_before ps + 1) ps) (recursion_from_All (λ (p : Pair). HasSuperblock ok.superblock.0 p.content.slots) (take (superblocks_before ps + 1) ps) ok.superblock.1.1))
+    (each_weaker (λ (p : Pair). MayHaveSuperblock ok.superblock.0 p.content.slots) (λ (p : Pair). HasRests p.content.slots) (λ p h. headed_rests ok.superblock.0 p.content.slots h)
+    (take (superblocks_before ps + 1) ps) (recursion_from_All (λ (p : Pair). MayHaveSuperblock ok.superblock.0 p.content.slots) (take (superblocks_before ps + 1) ps) ok.superblock.1.1))
     (each_weaker (λ (p : Pair). All IsEntry p.content.slots) (λ (p : Pair). HasRests p.content.slots) (λ p h. all_rests p.content.slots h) (drop (superblocks_before ps + 1) ps)
     (recursion_from_All (λ (p : Pair). All IsEntry p.content.slots) (drop (superblocks_before ps + 1) ps) ok.slots)))
 

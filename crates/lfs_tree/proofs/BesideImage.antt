@@ -6,7 +6,7 @@ use Rattle.std.proofs.lemmas.List.Elements.{All-from_recursion, recursion_from_A
 use Rattle.lfs_model.specs.Content.{content_at, holder_at}
 use Rattle.lfs_model.specs.Disk.{Disk, SameGeometry, block_at}
 use Rattle.lfs_model.specs.Slots.{FitsPair, Slot}
-use Rattle.lfs_model.specs.Thread.{Pair, anchor, blocks_of, directory_pairs, superblocks_before, Links}
+use Rattle.lfs_model.specs.Thread.{Pair, blocks_of, directory_pairs, first_at, from_slots, superblocks_before}
 use Rattle.lfs_model.specs.View.{BeginsWith, IsAccepted, superblock_entry}
 use Rattle.lfs_model.specs.Profile.{FitsSlot, IsWritable}
 use Rattle.lfs_model.specs.Shown.{all_slots, file_blocks, used_blocks}
@@ -17,8 +17,8 @@ use Rattle.lfs_model.proofs.Devices.{content_same, first_same}
 use Rattle.lfs_model.proofs.Files.{HasSameFile}
 use Rattle.lfs_model.proofs.Found.{chain_of_thread}
 use Rattle.lfs_model.proofs.Splices.{IsDevice}
-use Rattle.lfs_model.proofs.Superblocks.{IsChain}
-use Rattle.lfs_model.proofs.Unchanged.{same_follows}
+use Rattle.lfs_model.proofs.Superblocks.{IsChain, first_counted}
+use Rattle.lfs_model.proofs.Unchanged.{accepted_filled, same_follows}
 use Rattle.lfs_lookup.proofs.Directories.{within}
 use Rattle.lfs_lookup.proofs.Roots.{root_begins}
 use Rattle.lfs_model.specs.Thread.{root_of}
@@ -44,14 +44,14 @@ contents_still disk new (p ∷ ps) same was = (
   contents_still disk new ps (λ b some. same b (omega arith)) was.1,
 )
 
-first_still : (disk new : Disk) (ps : List Pair) → Links (Some anchor) ps → ((b : ℕ) → 1 ≤ count b (blocks_of ps) → block_at new b ≡ block_at disk b) → BeginsWith (holder_at disk anchor) superblock_entry
-    → BeginsWith (holder_at new anchor) superblock_entry
-first_still disk new [] links same h = absurd (cc)
-first_still disk new (x ∷ xs) links same h =
-    let e : anchor ≡ x.at = let k = links.0 in cc in
-    first_same disk new
-    (subst (λ (at : ℕ × ℕ). block_at new at.0 ≡ block_at disk at.0) (sym e) (same x.at.0 (let k = count_here x.at.0 (x.at.1 ∷ blocks_of xs) in omega arith)))
-    (subst (λ (at : ℕ × ℕ). block_at new at.1 ≡ block_at disk at.1) (sym e) (same x.at.1 (let k = count_here x.at.1 (blocks_of xs) in omega arith))) h
+first_still : (disk new : Disk) (ps : List Pair) → IsAccepted disk ps → ((b : ℕ) → 1 ≤ count b (blocks_of ps) → block_at new b ≡ block_at disk b)
+    → BeginsWith (holder_at new (first_at (from_slots ps))) superblock_entry
+first_still disk new ps ok same =
+    let f = accepted_filled disk ps ok in
+    let n = first_counted ps f.pair f.rest f.is in
+    let e = ap first_at f.is in
+    subst (λ at. BeginsWith (holder_at new at) superblock_entry) (sym e)
+    (first_same disk new f.pair.at (same f.pair.at.0 n.0) (same f.pair.at.1 n.1) (subst (λ at. BeginsWith (holder_at disk at) superblock_entry) e ok.first))
 
 module _ (disk new : Disk) (ps : List Pair) (ok : IsAccepted disk ps) (geometry : SameGeometry disk new) (same : (b : ℕ) → Contains (used_blocks disk ps) b → block_at new b ≡ block_at disk b) where
   counted : (b : ℕ) → count b (used_blocks disk ps) ≡ count b (blocks_of ps) + count b (flat_map (λ (s : Slot). file_blocks disk s.struct) (all_slots ps))
@@ -70,7 +70,7 @@ module _ (disk new : Disk) (ps : List Pair) (ok : IsAccepted disk ps) (geometry 
     geometry = geometry;
     contents = All-from_recursion (λ (p : Pair). content_at new p.at ≡ Some p.content) ps
         (contents_still disk new ps pair_still (recursion_from_All (λ (p : Pair). content_at disk p.at ≡ Some p.content) ps ok.thread.contents));
-    first = first_still disk new ps ok.thread.links pair_still ok.first;
+    first = first_still disk new ps ok pair_still;
     files = All-from_recursion (λ (s : Slot). HasSameFile disk new s.struct) (all_slots ps) files_still;
   }
 

@@ -1,14 +1,15 @@
-use Rattle.std.proofs.Common.{◌≡◌, ◌<◌, ◌≤◌, ◌+◌, drop, length}
+use Rattle.std.proofs.Common.{◌≤◌, ◌+◌, ◌-◌, length}
 use Rattle.lfs_model.specs.History.{reads}
-use Rattle.lfs_model.specs.Thread.{superblocks_before}
+use Rattle.lfs_lookup.specs.Root.{IsInChain}
 use Rattle.lfs_lookup.proofs.Reading.{HasRead}
 use Rattle.lfs_lookup.proofs.root.find_root.Given as goal
 
-abbrev pub invariant-loop-root : goal.invariant-loop-root
-invariant-loop-root g l = record {
-  end : l.root-end ≡ length l.fn.thread.kept.pairs;
+abbrev pub invariant-loop-next : goal.invariant-loop-next
+invariant-loop-next g l = record {
+  chained : IsInChain l.fn.thread.kept l.root;
   read : HasRead l.fn.thread l.thread;
-  below : l.root < length l.fn.thread.kept.pairs;
-  before : superblocks_before l.fn.thread.kept.pairs ≡ l.root + superblocks_before (drop l.root l.fn.thread.kept.pairs);
   few : reads l.thread.kept.history ≤ reads l.fn.thread.kept.history + l.root;
 }
+
+abbrev pub decreases-loop-next : goal.decreases-loop-next
+decreases-loop-next g l = length l.fn.thread.kept.pairs - l.root

@@ -1,90 +1,133 @@
-use Rattle.std.proofs.Common.{◌∙◌, ◌≡◌, ◌-◌, suc, Err, Some, None, true, false, arith, rules, length, ap, subst}
+use Rattle.std.proofs.Common.{◌∙◌, ◌≡◌, ◌-◌, suc, Err, Ok, Some, None, true, false, arith, rules, length, ap, sym, refl, subst}
+use Rattle.std.proofs.lemmas.List.{get_or_default}
+use Rattle.std.proofs.lemmas.Option.{slice_get_read}
 use Rattle.std.proofs.lemmas.Result.{err_from_is_err_and}
 use Rattle.lfs_device.specs.declared.geometry.Geometry.{Geometry}
-use Rattle.lfs_thread.specs.Kept.{disk_on, pairs_on}
-use Rattle.lfs_mount.proofs.Heads.{Led, begun, ends, fails, head_is, last_is, more, refused_first, same_step, some_header, step_at, within}
+use Rattle.lfs_thread.specs.Kept.{Header, disk_on, pairs_on}
+use Rattle.lfs_mount.proofs.Heads.{IsWalked, active_within, begun, ends, fails, halts, head_is, last_is, more, passes, refused_first, refused_none, same_block, step_at, within}
 use Rattle.lfs_mount.proofs.Told.{same_error, tells_error, tells_ok, then_reads}
 use Rattle.lfs_mount.proofs.head.count_superblocks.Goals as goal
 
+pub returns-in_err-first-clause-corrupt : goal.returns-in_err-first-clause-corrupt
+returns-in_err-first-clause-corrupt g c = λ is a.
+    refused_none (disk_on g.D.BlockDevice c.args.dev.now) (g.D.BlockDevice.history c.args.dev.now) c.args.pairs.now c.requires c.in_err-first.ensures.corrupt.1 a
+
+pub superblock_at-requires : goal.superblock_at-requires
+superblock_at-requires g c =
+    let low = active_within (disk_on g.D.BlockDevice c.args.dev.now) (g.D.BlockDevice.history c.args.dev.now) c.args.pairs.now c.requires c.in_ok-first.first c.in_ok-first.ensures.ok c.index-pairs-first.result c.index-pairs-first.is in
+    let count = (g.met.D.BlockDevice.shape c.args.dev.now).count in
+    omega (arith, low, count)
+
 pub returns-in_err-bytes-clause-corrupt : goal.returns-in_err-bytes-clause-corrupt
 returns-in_err-bytes-clause-corrupt g c = λ is a.
-    let e = err_from_is_err_and c.from_residual.result c.from_residual.ensures.1 in
-    refused_first (disk_on g.D.BlockDevice c.args.dev.now) (g.D.BlockDevice.history c.args.dev.now) c.args.pairs.now c.requires c.index-pairs-0.result c.index-pairs-0.is
+    let e = err_from_is_err_and c.from_residual-in_err-bytes.result c.from_residual-in_err-bytes.ensures.1 in
+    refused_first (disk_on g.D.BlockDevice c.args.dev.now) (g.D.BlockDevice.history c.args.dev.now) c.args.pairs.now c.requires c.in_ok-first.first c.in_ok-first.ensures.ok c.index-pairs-first.result c.index-pairs-first.is
     (c.in_err-bytes.ensures.corrupt (ap Err (same_error e.1 e.2 is))) a
 
 pub loop-index-init : goal.loop-index-init
 loop-index-init g c = record {
-  led = begun (disk_on g.D.BlockDevice c.args.dev.now) (g.D.BlockDevice.history c.args.dev.now) c.args.pairs.now c.requires c.index-pairs-0.result c.index-pairs-0.is c.in_ok-bytes.bytes.items c.in_ok-bytes.ensures.found;
+  walked = begun (disk_on g.D.BlockDevice c.args.dev.now) (g.D.BlockDevice.history c.args.dev.now) c.args.pairs.now c.requires c.in_ok-first.first c.in_ok-first.ensures.ok c.index-pairs-first.result c.index-pairs-first.is c.in_ok-bytes.bytes.items
+      c.in_ok-bytes.ensures.found;
   device = c.in_ok-bytes.ensures.device;
   no_fault = c.in_ok-bytes.ensures.faults.no_fault (λ e. absurd (cc));
-  read = c.in_ok-bytes.ensures.reads;
+  read = (let one = c.in_ok-bytes.ensures.reads in omega (arith, one));
 }
 
-pub goes_on-requires : goal.goes_on-requires
-goes_on-requires g c =
+pub returns-then-not-leads_on-clause-head : goal.returns-then-not-leads_on-clause-head
+returns-then-not-leads_on-clause-head g c =
+    let disk = disk_on g.D.BlockDevice c.args.dev.now in
+    let low = c.loop-index.auto.index in
+    let high = c.loop-index-test.true in
+    let this = c.index-pairs-index in
+    let here = slice_get_read c.args.pairs.now (length c.args.pairs.now) (c.loop-index.index - 1) this.result refl (omega (arith, low, high)) this.is in
+    let stays = sym c.leads_on.ensures ∙ c.if-not-leads_on.true in
+    head_is disk (g.D.BlockDevice.history c.args.dev.now) c.args.pairs.now c.requires c.in_ok-first.first c.in_ok-first.ensures.ok c.index-pairs-first.result c.index-pairs-first.is c.in_ok-bytes.bytes.items c.loop-index.root (c.loop-index.index - 1)
+    c.in_ok-bytes.ensures.found c.loop-index.invariant.walked
+    (halts disk (g.D.BlockDevice.history c.args.dev.now) c.args.pairs.now c.requires c.in_ok-bytes.bytes.items c.loop-index.root (c.loop-index.index - 1) this.result here c.loop-index.invariant.walked stays)
+
+pub loop-index-preserved-then-pairs-index-eq0 : goal.loop-index-preserved-then-pairs-index-eq0
+loop-index-preserved-then-pairs-index-eq0 g c =
+    let low = c.loop-index.auto.index in
     let this = c.index-pairs-index in
     let next = c.index-pairs-index-in-loop-index in
-    let step = step_at c.args.pairs.now c.loop-index.index this.result next.result c.loop-index.auto.index c.loop-index-test.true this.is next.is in
-    let low = within (disk_on g.D.BlockDevice c.args.dev.now) (g.D.BlockDevice.history c.args.dev.now) c.args.pairs.now c.requires c.in_ok-bytes.bytes.items c.loop-index.index this.result next.result step c.loop-index.invariant.led in
+    let step = step_at c.args.pairs.now c.loop-index.index this.result next.result (omega (arith, low)) c.loop-index-test.true this.is next.is in
+    record {
+      walked = passes (disk_on g.D.BlockDevice c.args.dev.now) (g.D.BlockDevice.history c.args.dev.now) c.args.pairs.now c.requires c.in_ok-bytes.bytes.items c.loop-index.root c.loop-index.index this.result next.result step c.loop-index.invariant.walked
+          (sym c.leads_on.ensures ∙ c.if-not-leads_on.false) (ap (λ (h : Header). h.slot_count) next.is ∙ c.if-pairs-index-eq0.true);
+      device = c.loop-index.invariant.device;
+      no_fault = c.loop-index.invariant.no_fault;
+      read = c.loop-index.invariant.read;
+    }
+
+pub repeats_at-requires : goal.repeats_at-requires
+repeats_at-requires g c =
+    let low = c.loop-index.auto.index in
+    let this = c.index-pairs-index in
+    let next = c.index-pairs-index-in-loop-index-2 in
+    let step = step_at c.args.pairs.now c.loop-index.index this.result next.result (omega (arith, low)) c.loop-index-test.true this.is next.is in
+    let small = within (disk_on g.D.BlockDevice c.args.dev.now) (g.D.BlockDevice.history c.args.dev.now) c.args.pairs.now c.requires c.in_ok-bytes.bytes.items c.loop-index.root c.loop-index.index this.result next.result step c.loop-index.invariant.walked in
+    let at = ap (λ (h : Header). h.active) next.is in
     let count = (g.met.D.BlockDevice.shape c.args.dev.now).count in
     let same = ap (λ (k : Geometry). k.block_count) c.loop-index.invariant.device.geometry in
-    omega (arith, low, count, same)
+    omega (arith, small, at, count, same)
 
-pub returns-in_err-goes_on-clause-corrupt : goal.returns-in_err-goes_on-clause-corrupt
-returns-in_err-goes_on-clause-corrupt g c = λ is a.
-    let e = err_from_is_err_and c.from_residual-in_err-goes_on.result c.from_residual-in_err-goes_on.ensures.1 in
+pub returns-in_err-repeats_at-clause-corrupt : goal.returns-in_err-repeats_at-clause-corrupt
+returns-in_err-repeats_at-clause-corrupt g c = λ is a.
+    let e = err_from_is_err_and c.from_residual-in_err-repeats_at.result c.from_residual-in_err-repeats_at.ensures.1 in
+    let low = c.loop-index.auto.index in
     let this = c.index-pairs-index in
-    let next = c.index-pairs-index-in-loop-index in
-    let step = step_at c.args.pairs.now c.loop-index.index this.result next.result c.loop-index.auto.index c.loop-index-test.true this.is next.is in
-    let none = same_step _ _ _ _ this.result next.result None c.loop-index.invariant.device.same c.deref.ensures.value (c.in_err-goes_on.ensures.corrupt (ap Err (same_error e.1 e.2 is))) in
-    fails (disk_on g.D.BlockDevice c.args.dev.now) (g.D.BlockDevice.history c.args.dev.now) c.args.pairs.now c.requires c.in_ok-bytes.bytes.items c.loop-index.index this.result next.result step c.loop-index.invariant.led none a
+    let next = c.index-pairs-index-in-loop-index-2 in
+    let step = step_at c.args.pairs.now c.loop-index.index this.result next.result (omega (arith, low)) c.loop-index-test.true this.is next.is in
+    let none = same_block _ _ _ _ _ _ None c.loop-index.invariant.device.same c.deref.ensures.value next.is (c.in_err-repeats_at.ensures.corrupt (ap Err (same_error e.1 e.2 is))) in
+    fails (disk_on g.D.BlockDevice c.args.dev.now) (g.D.BlockDevice.history c.args.dev.now) c.args.pairs.now c.requires c.in_ok-bytes.bytes.items c.loop-index.root c.loop-index.index this.result next.result step c.loop-index.invariant.walked
+    (sym c.leads_on.ensures ∙ c.if-not-leads_on.false) none a
 
-pub returns-in_err-goes_on-clause-device : goal.returns-in_err-goes_on-clause-device
-returns-in_err-goes_on-clause-device g c = then_reads c.loop-index.invariant.device c.in_err-goes_on.ensures.device
+pub returns-in_err-repeats_at-clause-device : goal.returns-in_err-repeats_at-clause-device
+returns-in_err-repeats_at-clause-device g c = then_reads c.loop-index.invariant.device c.in_err-repeats_at.ensures.device
 
-pub returns-in_err-goes_on-clause-faults : goal.returns-in_err-goes_on-clause-faults
-returns-in_err-goes_on-clause-faults g c =
-    let e = err_from_is_err_and c.from_residual-in_err-goes_on.result c.from_residual-in_err-goes_on.ensures.1 in
-    tells_error e.1 e.2 c.loop-index.invariant.no_fault c.in_err-goes_on.ensures.faults
+pub returns-in_err-repeats_at-clause-faults : goal.returns-in_err-repeats_at-clause-faults
+returns-in_err-repeats_at-clause-faults g c =
+    let e = err_from_is_err_and c.from_residual-in_err-repeats_at.result c.from_residual-in_err-repeats_at.ensures.1 in
+    tells_error e.1 e.2 c.loop-index.invariant.no_fault c.in_err-repeats_at.ensures.faults
 
 pub returns-then-not-branch-clause-head : goal.returns-then-not-branch-clause-head
 returns-then-not-branch-clause-head g c =
     let disk = disk_on g.D.BlockDevice c.args.dev.now in
+    let history = g.D.BlockDevice.history c.args.dev.now in
+    let low = c.loop-index.auto.index in
     let this = c.index-pairs-index in
-    let next = c.index-pairs-index-in-loop-index in
-    let step = step_at c.args.pairs.now c.loop-index.index this.result next.result c.loop-index.auto.index c.loop-index-test.true this.is next.is in
-    let not_more : c.in_ok-goes_on.field-0 ≡ false = search rules in
-    let ended = same_step _ _ _ _ this.result next.result (Some false) c.loop-index.invariant.device.same c.deref.ensures.value (c.in_ok-goes_on.ensures.ok ∙ ap (λ b. Some b) not_more) in
-    head_is disk (g.D.BlockDevice.history c.args.dev.now) c.args.pairs.now c.requires c.index-pairs-0.result c.index-pairs-0.is c.in_ok-bytes.bytes.items (c.loop-index.index - 1) c.in_ok-bytes.ensures.found c.loop-index.invariant.led
-    (ends disk (g.D.BlockDevice.history c.args.dev.now) c.args.pairs.now c.requires c.in_ok-bytes.bytes.items c.loop-index.index this.result next.result step c.loop-index.invariant.led ended)
+    let next = c.index-pairs-index-in-loop-index-2 in
+    let step = step_at c.args.pairs.now c.loop-index.index this.result next.result (omega (arith, low)) c.loop-index-test.true this.is next.is in
+    let not_more : c.in_ok-repeats_at.field-0 ≡ false = search rules in
+    let ended = same_block _ _ _ _ _ _ (Some false) c.loop-index.invariant.device.same c.deref.ensures.value next.is (c.in_ok-repeats_at.ensures.ok ∙ ap (λ b. Some b) not_more) in
+    head_is disk history c.args.pairs.now c.requires c.in_ok-first.first c.in_ok-first.ensures.ok c.index-pairs-first.result c.index-pairs-first.is c.in_ok-bytes.bytes.items c.loop-index.root (c.loop-index.index - 1)
+    c.in_ok-bytes.ensures.found c.loop-index.invariant.walked
+    (ends disk history c.args.pairs.now c.requires c.in_ok-bytes.bytes.items c.loop-index.root c.loop-index.index this.result next.result step c.loop-index.invariant.walked
+    (sym c.leads_on.ensures ∙ c.if-not-leads_on.false) (λ e. c.if-pairs-index-eq0.false (ap (λ (h : Header). h.slot_count) (get_or_default c.args.pairs.now c.loop-index.index c.index-pairs-index-in-loop-index.result next.result c.loop-index-test.true ∙ sym next.is) ∙ e)) ended)
 
 pub returns-then-not-branch-clause-device : goal.returns-then-not-branch-clause-device
-returns-then-not-branch-clause-device g c = then_reads c.loop-index.invariant.device c.in_ok-goes_on.ensures.device
+returns-then-not-branch-clause-device g c = then_reads c.loop-index.invariant.device c.in_ok-repeats_at.ensures.device
 
 pub returns-then-not-branch-clause-faults : goal.returns-then-not-branch-clause-faults
-returns-then-not-branch-clause-faults g c = tells_ok (c.in_ok-goes_on.ensures.faults.no_fault (λ e. absurd (cc)) ∙ c.loop-index.invariant.no_fault)
-
-pub returns-then-not-branch-clause-reads : goal.returns-then-not-branch-clause-reads
-returns-then-not-branch-clause-reads g c =
-    let one = c.in_ok-goes_on.ensures.reads in
-    let others = c.loop-index.invariant.read in
-    let low = c.loop-index.auto.index in
-    omega (arith, one, others, low)
+returns-then-not-branch-clause-faults g c = tells_ok (c.in_ok-repeats_at.ensures.faults.no_fault (λ e. absurd (cc)) ∙ c.loop-index.invariant.no_fault)
 
 pub loop-index-preserved : goal.loop-index-preserved
 loop-index-preserved g c =
+    let low = c.loop-index.auto.index in
     let this = c.index-pairs-index in
-    let next = c.index-pairs-index-in-loop-index in
-    let step = step_at c.args.pairs.now c.loop-index.index this.result next.result c.loop-index.auto.index c.loop-index-test.true this.is next.is in
-    let is_more : c.in_ok-goes_on.field-0 ≡ true = search rules in
-    let went = same_step _ _ _ _ this.result next.result (Some true) c.loop-index.invariant.device.same c.deref.ensures.value (c.in_ok-goes_on.ensures.ok ∙ ap (λ b. Some b) is_more) in
-    let one = c.in_ok-goes_on.ensures.reads in
+    let next = c.index-pairs-index-in-loop-index-2 in
+    let step = step_at c.args.pairs.now c.loop-index.index this.result next.result (omega (arith, low)) c.loop-index-test.true this.is next.is in
+    let is_more : c.in_ok-repeats_at.field-0 ≡ true = search rules in
+    let went = same_block _ _ _ _ _ _ (Some true) c.loop-index.invariant.device.same c.deref.ensures.value next.is (c.in_ok-repeats_at.ensures.ok ∙ ap (λ b. Some b) is_more) in
+    let one = c.in_ok-repeats_at.ensures.reads in
     let others = c.loop-index.invariant.read in
+    let below = c.loop-index.invariant.walked.below in
     record {
-      led = more (disk_on g.D.BlockDevice c.args.dev.now) (g.D.BlockDevice.history c.args.dev.now) c.args.pairs.now c.requires c.in_ok-bytes.bytes.items c.loop-index.index this.result next.result step c.loop-index.invariant.led went;
-      device = then_reads c.loop-index.invariant.device c.in_ok-goes_on.ensures.device;
-      no_fault = c.in_ok-goes_on.ensures.faults.no_fault (λ e. absurd (cc)) ∙ c.loop-index.invariant.no_fault;
-      read = omega (arith, one, others);
+      walked = more (disk_on g.D.BlockDevice c.args.dev.now) (g.D.BlockDevice.history c.args.dev.now) c.args.pairs.now c.requires c.in_ok-bytes.bytes.items c.loop-index.root c.loop-index.index this.result next.result step c.loop-index.invariant.walked
+          (sym c.leads_on.ensures ∙ c.if-not-leads_on.false) went;
+      device = then_reads c.loop-index.invariant.device c.in_ok-repeats_at.ensures.device;
+      no_fault = c.in_ok-repeats_at.ensures.faults.no_fault (λ e. absurd (cc)) ∙ c.loop-index.invariant.no_fault;
+      read = omega (arith, one, others, below, low);
     }
 
 pub returns-clause-head : goal.returns-clause-head
@@ -93,23 +136,13 @@ returns-clause-head g c =
     let low = c.loop-index.auto.index in
     let past = c.loop-index-test.false in
     let high = c.loop-index.auto.index-end in
-    let some = some_header disk (g.D.BlockDevice.history c.args.dev.now) c.args.pairs.now c.requires in
-    let last : c.loop-index.index ≡ length c.args.pairs.now = omega (arith, low, past, high, some) in
-    let back : suc (length c.args.pairs.now - 1) ≡ length c.args.pairs.now = omega (arith, low, last) in
-    last_is disk (g.D.BlockDevice.history c.args.dev.now) c.args.pairs.now c.requires c.index-pairs-0.result c.index-pairs-0.is c.in_ok-bytes.bytes.items (length c.args.pairs.now - 1) c.in_ok-bytes.ensures.found
-    (subst (λ n. Led c.in_ok-bytes.bytes.items (n - 1) (pairs_on disk c.args.pairs.now)) last c.loop-index.invariant.led) back
+    let some = c.in_ok-first.ensures.below in
+    let back : suc (c.loop-index.index - 1) ≡ length c.args.pairs.now = omega (arith, low, past, high, some) in
+    last_is disk (g.D.BlockDevice.history c.args.dev.now) c.args.pairs.now c.requires c.in_ok-first.first c.in_ok-first.ensures.ok c.index-pairs-first.result c.index-pairs-first.is c.in_ok-bytes.bytes.items c.loop-index.root (c.loop-index.index - 1)
+    c.in_ok-bytes.ensures.found c.loop-index.invariant.walked back
 
 pub returns-clause-device : goal.returns-clause-device
 returns-clause-device g c = c.loop-index.invariant.device
 
 pub returns-clause-faults : goal.returns-clause-faults
 returns-clause-faults g c = tells_ok c.loop-index.invariant.no_fault
-
-pub returns-clause-reads : goal.returns-clause-reads
-returns-clause-reads g c =
-    let some = some_header (disk_on g.D.BlockDevice c.args.dev.now) (g.D.BlockDevice.history c.args.dev.now) c.args.pairs.now c.requires in
-    let read = c.loop-index.invariant.read in
-    let low = c.loop-index.auto.index in
-    let past = c.loop-index-test.false in
-    let high = c.loop-index.auto.index-end in
-    omega (arith, read, low, past, high, some)

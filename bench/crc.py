@@ -1,7 +1,7 @@
 #!/usr/bin/env python3
 """The checksum of a block of 64 KiB beside zlib's crc32, on the same bytes.
 
-Builds and runs the program layer_speeds. Prints the two rates and how many times as long as zlib's ours takes; fails above 3.
+Builds and runs the program lfs_bench. Prints the two rates and how many times as long as zlib's ours takes; fails above 3.
 """
 import os
 import subprocess
@@ -23,7 +23,7 @@ def block():
 
 
 def ours():
-    crate = os.path.join(top, "crates", "layer_speeds")
+    crate = os.path.join(top, "crates", "lfs_bench")
     run = subprocess.run(["rt", "run", "--", "checksum", str(ROUNDS)], cwd=crate, stdout=subprocess.PIPE, stderr=subprocess.PIPE, check=True, text=True)
     return int(run.stdout.split()[-1]), int(run.stderr.split()[-1])
 

@@ -1,7 +1,7 @@
 #!/usr/bin/env python3
 """How many device reads a byte of a list of 1,000 blocks takes, beside a walk back one block at a time.
 
-Builds and runs the program layer_speeds, and works out the same numbers by the rule that a block's pointer k leads 2**k blocks
+Builds and runs the program lfs_bench, and works out the same numbers by the rule that a block's pointer k leads 2**k blocks
 back. Fails where they differ, or where a read in the middle takes more than 21: twice the logarithm of the list's length, and
 the byte.
 """
@@ -34,7 +34,7 @@ def wanted():
     return lines + [f"most {max(each)}, sum {sum(each)}, plainly {sum(plain)}"]
 
 
-crate = os.path.join(top, "crates", "layer_speeds")
+crate = os.path.join(top, "crates", "lfs_bench")
 run = subprocess.run(["rt", "run", "--", "list_reads"], cwd=crate, stdout=subprocess.PIPE, stderr=subprocess.DEVNULL, check=True, text=True)
 lines = [line for line in run.stdout.splitlines() if line.startswith(("block ", "most "))]
 print("\n".join(lines))

@@ -1,7 +1,7 @@
 #!/usr/bin/env python3
 """A file of 16 MiB that is written in pieces of 4 KiB over a session on a device in memory.
 
-Builds and runs the program write_speed, and copies the same bytes piece by piece and computes zlib's checksum of them.
+Builds and runs the program lfs_bench, and copies the same bytes piece by piece and computes zlib's checksum of them.
 Prints the two times and their ratio. Fails where writing takes more than twice as long, where the number of erases isn't
 that of the file's blocks or that of programs isn't one more (the commit), or where they don't come in order.
 """
@@ -20,11 +20,11 @@ top = os.path.dirname(os.path.dirname(os.path.abspath(__file__)))
 
 def ours():
     """The least time of several runs in milliseconds, and what one prints."""
-    crate = os.path.join(top, "crates", "write_speed")
+    crate = os.path.join(top, "crates", "lfs_bench")
     subprocess.run(["rt", "run"], cwd=crate, stdout=subprocess.DEVNULL, stderr=subprocess.DEVNULL, check=True)
     times = []
     for _ in range(RUNS):
-        run = subprocess.run(["out/write_speed", str(PIECES)], cwd=crate, stdout=subprocess.PIPE, stderr=subprocess.PIPE, check=True, text=True)
+        run = subprocess.run(["out/lfs_bench", "writes", str(PIECES)], cwd=crate, stdout=subprocess.PIPE, stderr=subprocess.PIPE, check=True, text=True)
         times.append(int(run.stderr) / 1e6)
     return min(times), run.stdout.splitlines()
 

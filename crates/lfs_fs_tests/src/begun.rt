@@ -1,8 +1,8 @@
 // Devices, made empty or with an image, and sessions over them.
 
 use lfs_device::{BlockDevice, Error, Geometry, RamDevice};
+use lfs_fixtures::{Entries, Held, image_with};
 use lfs_fs::{Session, format, mount};
-use lfs_tests::{Entries, Held, image_with};
 use std::alloc::Global;
 
 /// What a device holds.

@@ -6,9 +6,9 @@ use crate::begun::{Start, device_of, mounted};
 use crate::played::first_wrong;
 use crate::scripts::{Script, Tree};
 use lfs_device::{Error, RamDevice};
+use lfs_fixtures::Held;
 use lfs_fs::Op::{Close, List, Mkdir, Open, Recover, Remove, Rename};
 use lfs_fs::OpenFlags;
-use lfs_tests::Held;
 use std::alloc::Global;
 
 const A: &[u8] =

@@ -19,7 +19,7 @@ pub mod Rules
 pub mod Passable
 pub mod Accepts
 pub mod Ending
-pub mod BothOrders
+pub mod ReadImages
 pub mod Refuses
 pub mod Within
 pub mod Called
@@ -33,3 +33,4 @@ pub mod KnownThread
 pub mod Mounts
 pub mod Mounted
 pub mod MountReads
+pub mod InOrders

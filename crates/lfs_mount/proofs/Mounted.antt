@@ -18,7 +18,7 @@ use Rattle.lfs_model.proofs.Counts.{count_here}
 use Rattle.lfs_model.proofs.Histories.{OnlyReads-trans}
 use Rattle.lfs_thread.specs.Device.{GivesBack}
 use Rattle.lfs_thread.specs.Kept.{AllUsed, Header, IsKept, Kept, State, WasKept, disk_on, pairs_on, seen}
-use Rattle.lfs_mount.specs.Accepted.{HasImage, IsMounted}
+use Rattle.lfs_mount.specs.Accepted.{HasOnly, IsMounted}
 use Rattle.lfs_mount.specs.Members.{IsRead}
 use Rattle.std.specs.List.{flat_map}
 
@@ -50,29 +50,29 @@ all_used sets (b ∷ bs) more f = (
 )
 
 pub kept_again : (disk now : Disk) (history later : List Event) (items hs : List Header) (sets new : BlockSets) → now ≡ disk → hs ≡ items → OnlyReads disk.blocks history later → IsKept disk history items sets
-    → HasImage disk hs sets new → WasKept now later items new
-kept_again disk now history later items hs sets new same is reads kept image =
+    → HasOnly sets new (used_blocks disk (pairs_on disk hs)) → WasKept now later items new
+kept_again disk now history later items hs sets new same is reads kept marked =
     subst (λ (d : Disk). WasKept d later items new) (sym same) (record {
       before = history;
       since = reads;
       each = kept.each;
       links = kept.links;
       distinct = kept.distinct;
-      size = image.marked.len ∙ kept.size;
+      size = marked.len ∙ kept.size;
       used = all_used new (blocks_of (pairs_on disk items)) (flat_map (λ s. file_blocks disk s.struct) (all_slots (pairs_on disk items)))
-          (λ b has. ((image.marked.used b).1 (subst (λ (xs : List Header). Contains (used_blocks disk (pairs_on disk xs)) b) (sym is) has), tt));
+          (λ b has. ((marked.used b).1 (subst (λ (xs : List Header). Contains (used_blocks disk (pairs_on disk xs)) b) (sym is) has), tt));
     })
 
 pub is_mounted : (old disk now : Disk) (first history later : List Event) (items hs : List Header) (sets new : BlockSets) (t : State) → disk ≡ old → now ≡ disk → hs ≡ items
-    → OnlyReads old.blocks first history → OnlyReads disk.blocks history later → HasImage disk hs sets new → length sets ≡ block_count disk → faults later ≡ faults first → t.failed ≡ false → t.kept ≡ seen now later items new → IsMounted old first t
-is_mounted old disk now first history later items hs sets new t from same is before after image size none works kept = record {
+    → OnlyReads old.blocks first history → OnlyReads disk.blocks history later → IsAccepted disk (pairs_on disk hs) → HasOnly sets new (used_blocks disk (pairs_on disk hs)) → length sets ≡ block_count disk → faults later ≡ faults first → t.failed ≡ false → t.kept ≡ seen now later items new → IsMounted old first t
+is_mounted old disk now first history later items hs sets new t from same is before after accepted marked size none works kept = record {
   works = works;
   disk_is = ap (λ (k : Kept). k.disk) kept ∙ same ∙ from;
   reads = subst (OnlyReads old.blocks first) (sym (ap (λ (k : Kept). k.history) kept)) (OnlyReads-trans before after (ap (λ (d : Disk). d.blocks) from));
-  accepted = subst (IsAccepted old) (sym pairs) (subst (λ (d : Disk). IsAccepted d (pairs_on disk hs)) from image.accepted);
-  used = subst (λ (s : BlockSets). AreUsed s (used_blocks old t.kept.pairs)) (sym map_is) (subst (λ (ps : List Pair). AreUsed new (used_blocks old ps)) (sym pairs) (subst (λ (d : Disk). AreUsed new (used_blocks d (pairs_on disk hs))) from image.marked.used));
-  none_in_flight = subst (λ (s : BlockSets). AreInFlight s []) (sym map_is) image.marked.none_in_flight;
-  size = ap (λ (s : BlockSets). length s) map_is ∙ image.marked.len ∙ size ∙ ap block_count from;
+  accepted = subst (IsAccepted old) (sym pairs) (subst (λ (d : Disk). IsAccepted d (pairs_on disk hs)) from accepted);
+  used = subst (λ (s : BlockSets). AreUsed s (used_blocks old t.kept.pairs)) (sym map_is) (subst (λ (ps : List Pair). AreUsed new (used_blocks old ps)) (sym pairs) (subst (λ (d : Disk). AreUsed new (used_blocks d (pairs_on disk hs))) from marked.used));
+  none_in_flight = subst (λ (s : BlockSets). AreInFlight s []) (sym map_is) marked.none_in_flight;
+  size = ap (λ (s : BlockSets). length s) map_is ∙ marked.len ∙ size ∙ ap block_count from;
   no_fault = ap (λ (k : Kept). faults k.history) kept ∙ none;
 }
   where
@@ -90,14 +90,14 @@ disk_now read = ap₂ disk_of read.geometry read.same
 pub ok_tells : {D X : Type 0} {g : Ghosts D} {old new : D} {x : X} → TellsFaults g old new (Ok x) → faults (g.history new) ≡ faults (g.history old)
 ok_tells tells = tells.no_fault (λ io. absurd (cc))
 
-err_same : {e f : Error} → ◌≡◌ {A = Result (Unit {0}) Error} (Err e) (Err f) → e ≡ f
+err_same : {X : Type 0} {e f : Error} → ◌≡◌ {A = Result X Error} (Err e) (Err f) → e ≡ f
 err_same same = cc
 
-pub given_back : {D : Type 0} (g : Ghosts D) (old mid back : D) (error : Error) → disk_on g mid ≡ disk_on g old → OnlyReads (g.blocks old) (g.history old) (g.history mid) → faults (g.history mid) ≡ faults (g.history old)
-    → ReadsOnly g mid back → TellsFaults {X = Unit {0}} g mid back (Err error) → GivesBack g old back error
-given_back g old mid back error same before none read tells = record {
+pub given_back : {D X : Type 0} (g : Ghosts D) (old mid back : D) (error : Error) → disk_on g mid ≡ disk_on g old → OnlyReads (g.blocks old) (g.history old) (g.history mid) → faults (g.history mid) ≡ faults (g.history old)
+    → ReadsOnly g mid back → TellsFaults {X = X} g mid back (Err error) → GivesBack g old back error
+given_back {X = X} g old mid back error same before none read tells = record {
   disk = disk_now read ∙ same;
   reads = OnlyReads-trans before read.reads (ap (λ (d : Disk). d.blocks) same);
   fault = λ io. let rose = tells.fault (ap Err io) in omega (arith, none, rose);
-  no_fault = λ other. tells.no_fault (λ io. other (err_same io)) ∙ none;
+  no_fault = λ other. tells.no_fault (λ io. other (err_same {X = X} io)) ∙ none;
 }

@@ -1,5 +1,5 @@
 -- From the parts of the check to the image.
-use Rattle.std.proofs.Common.{ℕ, ◌≡◌, ◌++◌, List, ◌∷◌, drop, sym, ap, subst, ◌∙◌}
+use Rattle.std.proofs.Common.{Bool, ℕ, ◌≡◌, ◌++◌, List, ◌∷◌, drop, sym, ap, subst, ◌∙◌}
 use Rattle.lfs_model.specs.BlockSets.{BlockSets}
 use Rattle.lfs_model.specs.Content.{content_at}
 use Rattle.lfs_model.specs.Disk.{Disk, block_count}
@@ -10,7 +10,7 @@ use Rattle.lfs_model.specs.View.{IsAccepted, IsMove}
 use Rattle.lfs_model.specs.Shown.{used_blocks}
 use Rattle.lfs_model.proofs.Uniqueness.{one_thread}
 use Rattle.lfs_thread.specs.Kept.{Header, pairs_on}
-use Rattle.lfs_mount.specs.Accepted.{HasImage, HasOnly, IsRight}
+use Rattle.lfs_mount.specs.Accepted.{HasImage, HasOnly, IsJudged}
 use Rattle.lfs_mount.specs.Head.{HasHeaders, IsHead}
 use Rattle.lfs_mount.specs.Members.{IsRead, IsThreadOf}
 use Rattle.lfs_mount.specs.Moves.{HasDirectories, IsMovedFrom}
@@ -48,16 +48,17 @@ module _ (disk : Disk) (history : List Event) (hs : List Header) (sets : BlockSe
 
   pub has_image : (now : Disk) → now ≡ disk → (new : BlockSets) (xs : List Header) → xs ≡ dirs
       → ((chain : List Pair) (p : Pair) (rest : List Pair) → HasDirectories g xs chain p rest → IsMovedFrom g (p ∷ rest) → IsMove (chain ++ p ∷ rest) g)
-      → ((chain : List Pair) (p : Pair) (rest : List Pair) → IsThreadOf now sets g xs chain p rest → IsRight now sets new chain p rest)
-      → HasImage disk hs sets new
-  has_image now same new xs e move right =
+      → (fits : Bool) → ((chain : List Pair) (p : Pair) (rest : List Pair) → IsThreadOf now sets g xs chain p rest → IsJudged now fits sets new chain p rest)
+      → HasImage disk hs fits sets new
+  has_image now same new xs e move fits judged =
       let ps : List Pair = head.chain ++ head.p ∷ head.rest in
       let thread = subst (λ d. IsThreadOf d sets g xs head.chain head.p head.rest) (sym same) (subst (λ ys. IsThreadOf disk sets g ys head.chain head.p head.rest) (sym e) known) in
-      let is : IsRight disk sets new head.chain head.p head.rest = subst (λ d. IsRight d sets new head.chain head.p head.rest) same (right head.chain head.p head.rest thread) in
+      let is : IsJudged disk fits sets new head.chain head.p head.rest = subst (λ d. IsJudged d fits sets new head.chain head.p head.rest) same (judged head.chain head.p head.rest thread) in
       let global : g ≡ gstate_of ps = r.global ∙ ap gstate_of head.parts in
       let has = subst (λ ys. HasDirectories g ys head.chain head.p head.rest) (sym e) directories in
       let moves = move head.chain head.p head.rest has (subst (λ s. IsMovedFrom s (head.p ∷ head.rest)) (sym global) is.moved) in
       record {
-        accepted = subst (IsAccepted disk) (sym head.parts) (is.accepted head.bytes head.head (subst (IsMove ps) global moves));
         marked = subst (λ qs. HasOnly sets new (used_blocks disk qs)) (sym head.parts) (is.marked head.bytes head.head);
+        accepted = λ fit. subst (IsAccepted disk) (sym head.parts) (is.accepted fit head.bytes head.head (subst (IsMove ps) global moves));
+        refused = λ unfit. refused (is.refused unfit);
       }

@@ -77,23 +77,23 @@ passes_within disk firsts known sets (m ∷ ms) graph end (new, mid, rest, (take
 
 -- ---- the directories of the code
 
-each_within : (n : ℕ) (ds : List Directory) → Each (Below_all n) (graph_of ds) → Each (λ (d : Directory). All (λ b. b < n) d.branches.items) ds
-each_within n [] h = tt
-each_within n (d ∷ ds) h = (All-from_recursion (λ b. b < n) d.branches.items h.0, each_within n ds h.1)
+each_within : (by : NameOrder) (n : ℕ) (ds : List Directory) → Each (Below_all n) (graph_of by ds) → Each (λ (d : Directory). All (λ b. b < n) d.branches.items) ds
+each_within by n [] h = tt
+each_within by n (d ∷ ds) h = (All-from_recursion (λ b. b < n) d.branches.items h.0, each_within by n ds h.1)
 
 some_joined : (at : ℕ × ℕ) (hard : Bool) (slots : List Slot) (ds : List ThreadDirectory) → 0 < length (joined at hard slots ds)
 some_joined at hard slots [] = omega arith
 some_joined at true slots (d ∷ ds) = omega arith
 some_joined at false slots (d ∷ ds) = omega arith
 
-module _ (disk : Disk) (sets : BlockSets) (firsts : List (ℕ × ℕ)) (ms : List Member) (sync : Bool) (known : HasKnownThread disk sets firsts ms sync) (ds : List Directory) (end : BlockSets)
-    (passes : Passes disk firsts nothing_known sets ms (graph_of ds) end) where
+module _ (disk : Disk) (sets : BlockSets) (firsts : List (ℕ × ℕ)) (ms : List Member) (sync : Bool) (known : HasKnownThread disk sets firsts ms sync) (by : NameOrder) (ds : List Directory) (end : BlockSets)
+    (passes : Passes disk firsts nothing_known sets ms (graph_of by ds) end) where
   abbrev ps : List Pair
   ps = known.0 ++ known.1 ∷ known.2
 
   same_length : (length ds ≡ length (directories_in ps)) × (length firsts ≡ length (directories_in ps))
   same_length = (
-    sym (length-map ds vertex_of) ∙ (known_drawn disk sets firsts ms sync known.0 known.1 known.2 (graph_of ds) end known.3 passes).draws.len,
+    sym (length-map ds (vertex_of by)) ∙ (known_drawn disk sets firsts ms sync known.0 known.1 known.2 (graph_of by ds) end known.3 passes).draws.len,
     ap length known.3.places ∙ length-map (directories_in ps) (λ (d : ThreadDirectory). d.at),
   )
 
@@ -109,7 +109,7 @@ module _ (disk : Disk) (sets : BlockSets) (firsts : List (ℕ × ℕ)) (ms : Lis
   pub within_directories : All (λ (d : Directory). All (λ b. b < length ds) d.branches.items) ds
   within_directories =
       All-from_recursion (λ (d : Directory). All (λ b. b < length ds) d.branches.items) ds
-      (each_within (length ds) ds (subst (λ n. Each (Below_all n) (graph_of ds)) (same_length.1 ∙ sym same_length.0) (passes_within disk firsts nothing_known sets ms (graph_of ds) end passes tt)))
+      (each_within by (length ds) ds (subst (λ n. Each (Below_all n) (graph_of by ds)) (same_length.1 ∙ sym same_length.0) (passes_within disk firsts nothing_known sets ms (graph_of by ds) end passes tt)))
 
 -- ---- the blocks that hold are on the device
 

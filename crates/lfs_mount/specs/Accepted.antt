@@ -1,5 +1,5 @@
 -- What the pass over a thread's slots finds.
-use Rattle.std.specs.Prelude.{ℕ, ◌≡◌, false, List, [], ◌∷◌, ◌++◌, length}
+use Rattle.std.specs.Prelude.{ℕ, ◌≡◌, Bool, true, false, List, [], ◌∷◌, ◌++◌, length}
 use Rattle.lfs_model.specs.BlockSets.{AreInFlight, AreUsed, BlockSets}
 use Rattle.lfs_model.specs.Disk.{Disk, block_count}
 use Rattle.lfs_model.specs.Thread.{Pair, gstate_of}
@@ -16,17 +16,19 @@ pub record HasOnly (old new : BlockSets) (bs : List ℕ) : Type 0 where
   pub used : AreUsed new bs
   pub none_in_flight : AreInFlight new []
 
--- The slot that is moved away is an entry. Where the superblock's pairs are right the map has the image's blocks, and where
--- the move is right too the image is accepted.
-pub record IsRight (disk : Disk) (old new : BlockSets) (chain : List Pair) (p : Pair) (rest : List Pair) : Type 0 where
+-- The slot that is moved away is an entry. Where the superblock's pairs are right the map has the image's blocks, and where the move
+-- is right too the image is accepted, if the directories fit the disk's order of names; if they don't it isn't.
+pub record IsJudged (disk : Disk) (fits : Bool) (old new : BlockSets) (chain : List Pair) (p : Pair) (rest : List Pair) : Type 0 where
   pub moved : IsMovedFrom (gstate_of (chain ++ p ∷ rest)) (p ∷ rest)
   pub marked : (bytes : List ℕ) → HasHead disk chain p rest bytes → HasOnly old new (used_blocks disk (chain ++ p ∷ rest))
-  pub accepted : (bytes : List ℕ) → HasHead disk chain p rest bytes → IsMove (chain ++ p ∷ rest) (gstate_of (chain ++ p ∷ rest)) → IsAccepted disk (chain ++ p ∷ rest)
+  pub accepted : fits ≡ true → (bytes : List ℕ) → HasHead disk chain p rest bytes → IsMove (chain ++ p ∷ rest) (gstate_of (chain ++ p ∷ rest)) → IsAccepted disk (chain ++ p ∷ rest)
+  pub refused : fits ≡ false → IsAccepted disk (chain ++ p ∷ rest) → ⊥
 
--- the image is accepted, and the map has its blocks
-pub record HasImage (disk : Disk) (headers : List Header) (old new : BlockSets) : Type 0 where
-  pub accepted : IsAccepted disk (pairs_on disk headers)
+-- The map has the image's blocks. The image is accepted, if its directories fit the disk's order of names; if they don't none is.
+pub record HasImage (disk : Disk) (headers : List Header) (fits : Bool) (old new : BlockSets) : Type 0 where
   pub marked : HasOnly old new (used_blocks disk (pairs_on disk headers))
+  pub accepted : fits ≡ true → IsAccepted disk (pairs_on disk headers)
+  pub refused : fits ≡ false → (ps : List Pair) → IsAccepted disk ps → ⊥
 
 -- The thread of an accepted image, whose device was only read, without a fault: the map has all blocks, none but the image's are
 -- used, and none is in flight.

@@ -1,3 +1,4 @@
+pub mod Orders
 pub mod Reaching
 pub mod Places
 pub mod DirectorySeen
@@ -20,3 +21,4 @@ pub mod Members
 pub mod Head
 pub mod Moves
 pub mod Accepted
+pub mod ReadImage

@@ -1,19 +1,23 @@
 // The slots of a thread, and its directories.
 
-ghost use Rattle.std.specs.Prelude.{List, ◌≡◌, ◌≤◌, ◌+◌, ◌++◌, ◌∷◌, OnOk, IsErrOf, sum_by};
+ghost use Rattle.std.specs.Prelude.{List, ◌≡◌, ◌≤◌, ◌+◌, ◌++◌, ◌∷◌, IfOk, OnOk, IsErrOf, sum_by};
 ghost use Rattle.lfs_device.specs.Calls.{ReadsOnly};
+ghost use Rattle.lfs_device.specs.Shown.{ordered};
 ghost use Rattle.lfs_model.specs.History.{reads};
 ghost use Rattle.lfs_model.specs.Thread.{Pair};
 ghost use Rattle.lfs_model.specs.View.{IsAccepted};
+ghost use Rattle.lfs_model.specs.declared.order.NameOrder.{NameOrder};
 ghost use Rattle.lfs_mount.specs.Checked.{HasKnownThread, IsKnownThread};
-ghost use Rattle.lfs_mount.specs.Accepted.{IsRight};
+ghost use Rattle.lfs_mount.specs.Accepted.{IsJudged};
 ghost use Rattle.lfs_mount.specs.Device.{TellsErrors};
 ghost use Rattle.lfs_thread.specs.Kept.{disk_on};
+ghost use Rattle.lfs_mount.specs.Orders.{has_order};
 ghost use Rattle.lfs_mount.specs.Reads.{pair_reads};
 
+use crate::orders::Orders;
 use crate::pass::{Member, take_pairs};
 use crate::places::Places;
-use crate::reaching::check_reached;
+use crate::reaching::orders_of;
 use lfs_alloc::BlockMap;
 use lfs_device::{BlockDevice, Error};
 use std::alloc::Global;
@@ -24,11 +28,12 @@ use std::alloc::Global;
 // `members` are the pairs from the root's first one on, in the thread's order; `places` are the
 // directories; `sync` is the sync bit of the global state.
 //
-// Where the superblock's pairs and the move that the global state names are right, Ok says that
-// the image is accepted and that the map has its blocks, and `Corrupt` that it isn't accepted: a
-// slot holds no entry, a file's list isn't well formed, a block is owned twice, or the directories
-// are no tree (SPEC.md of littlefs, "Metadata types"; DESIGN.md, "CTZ skip-lists", "Directories"
-// and "The move problem").
+// Where the superblock's pairs and the move that the global state names are right, Ok says in which
+// orders of names the image is accepted, and that the map has its blocks; in an order in which the
+// directories are no tree, or their names don't rise, it isn't. `Corrupt` says that it is accepted
+// in none: a slot holds no entry, a file's list isn't well formed, or a block is owned twice
+// (SPEC.md of littlefs, "Metadata types"; DESIGN.md, "CTZ skip-lists", "Directories" and "The move
+// problem").
 // `NoMemory` comes where memory isn't granted, `Io` where the device failed. After an error
 // nothing is known of the map.
 pub(crate) fn check_thread<D: BlockDevice>(
@@ -38,20 +43,20 @@ pub(crate) fn check_thread<D: BlockDevice>(
     places: &Places,
     members: &[Member],
     sync: bool,
-) -> Result<(), Error>
+) -> Result<Orders, Error>
     requires { HasKnownThread (disk_on D.BlockDevice device.old) map.old places.now members.now sync }
-    ensures ok { OnOk result ((chain : List Pair) (p : Pair) (rest : List Pair)
-        → IsKnownThread (disk_on D.BlockDevice device.old) map.old places.now members.now sync chain p rest
-        → IsRight (disk_on D.BlockDevice device.old) map.old map.new chain p rest) }
-    ensures corrupt { IsErrOf result Error.Corrupt → (chain : List Pair) (p : Pair) (rest : List Pair)
-        → IsKnownThread (disk_on D.BlockDevice device.old) map.old places.now members.now sync chain p rest
-        → ¬ IsAccepted (disk_on D.BlockDevice device.old) (chain ++ p ∷ rest) }
+    ensures ok { IfOk result (λ orders. (order : NameOrder) (chain : List Pair) (p : Pair) (rest : List Pair)
+        → IsKnownThread (ordered order (disk_on D.BlockDevice device.old)) map.old places.now members.now sync chain p rest
+        → IsJudged (ordered order (disk_on D.BlockDevice device.old)) (has_order order orders) map.old map.new chain p rest) }
+    ensures corrupt { IsErrOf result Error.Corrupt → (order : NameOrder) (chain : List Pair) (p : Pair) (rest : List Pair)
+        → IsKnownThread (ordered order (disk_on D.BlockDevice device.old)) map.old places.now members.now sync chain p rest
+        → ¬ IsAccepted (ordered order (disk_on D.BlockDevice device.old)) (chain ++ p ∷ rest) }
     ensures device { ReadsOnly D.BlockDevice device.old device.new }
     ensures errors { TellsErrors D.BlockDevice device.old device.new result }
     // One read for each pair, and those of the files' lists.
     ensures few { OnOk result (reads (D.history device.new) ≤ reads (D.history device.old) + sum_by (pair_reads (disk_on D.BlockDevice device.old)) members.now) }
 {
     let directories = take_pairs(alloc, device, map, places, members)?;
-    check_reached(alloc, &directories, sync)?;
-    Ok(())
+    let orders = orders_of(alloc, &directories, sync)?;
+    Ok(orders)
 }

@@ -1,7 +1,6 @@
 // A device's image, in whichever order its directories have their names.
 
-ghost use Rattle.std.specs.Prelude.{◌≡◌, ◌<◌, IfErr, IfOk, List};
-ghost use Rattle.lfs_model.specs.History.{reads};
+ghost use Rattle.std.specs.Prelude.{◌≡◌, false, IfErr, IfOk, List};
 ghost use Rattle.lfs_model.specs.Thread.{Pair as ThreadPair};
 ghost use Rattle.lfs_model.specs.View.{IsAccepted};
 ghost use Rattle.lfs_model.specs.declared.order.NameOrder.{NameOrder};
@@ -11,33 +10,31 @@ ghost use Rattle.lfs_thread.specs.Kept.{disk_on};
 ghost use Rattle.lfs_mount.specs.Accepted.{IsMounted};
 ghost use Rattle.lfs_mount.specs.Device.{IsMountError};
 ghost use Rattle.lfs_mount.specs.Either.{GivesDeviceBack};
+ghost use Rattle.lfs_mount.specs.ReadImage.{HasFewReads, in_order};
 
-use crate::mounting::mount;
+use crate::mounting::read_image;
 use lfs_device::{BlockDevice, Error, NameOrder, Ordered};
-use lfs_thread::Thread;
+use lfs_thread::{Parts, Thread};
 use std::alloc::Global;
 
-// Mounts the image whose directories have their names in that order. Errors as those of `mount`.
-fn mount_in<D: BlockDevice>(
-    alloc: Global,
-    device: D,
-    order: NameOrder,
-) -> Result<Thread<Ordered<D>>, (D, Error)>
-    ensures mounted { IfOk result (IsMounted (ordered order (disk_on D.BlockDevice device)) (D.history device)) }
-    ensures corrupt { IfErr result (λ e. e.1 ≡ Error.Corrupt → (ps : List ThreadPair) → ¬ IsAccepted (ordered order (disk_on D.BlockDevice device)) ps) }
-    ensures errors { IfErr result (λ e. IsMountError e.1) }
-    ensures back { IfErr result (λ e. GivesDeviceBack D.BlockDevice device e.0 e.1) }
-    ensures called { IfOk result (λ t. reads (D.history device) < reads t.kept.history) }
+// The same thread, whose directories have their names in that order.
+fn in_order<D: BlockDevice>(thread: Thread<D>, order: NameOrder) -> Thread<Ordered<D>>
+    requires works { thread.failed ≡ false }
+    ensures { result ≡ in_order order thread }
 {
-    match mount(alloc, Ordered::new(device, order)) {
-        Ok(thread) => Ok(thread),
-        Err((device, error)) => Err((device.into_inner(), error)),
-    }
+    let parts = thread.into_parts();
+    Thread::from_parts(Parts {
+        device: Ordered::new(parts.device, order),
+        cache: parts.cache,
+        pairs: parts.pairs,
+        map: parts.map,
+    })
 }
 
-/// Reads the image of a device, as [`mount`](crate::mount) does, and finds the order in which its
-/// directories have their names. In littlefs's own code the longer name comes first where one is
-/// the beginning of the other (`lfs_dir_find_match`). Where both orders fit, it takes that one.
+/// Reads the image of a device, as [`mount`](crate::mount) does and by no more reads, and finds the
+/// order in which its directories have their names. In littlefs's own code the longer name comes
+/// first where one is the beginning of the other (`lfs_dir_find_match`). Where both orders fit, it
+/// takes that one.
 ///
 /// `Corrupt` exactly where no image is accepted there in either order. `Io` where a read failed, and
 /// `NoMemory` where memory isn't granted. The device comes back with an error.
@@ -50,11 +47,12 @@ pub fn mount_either<D: BlockDevice>(
     ensures corrupt { IfErr result (λ e. e.1 ≡ Error.Corrupt → (order : NameOrder) (ps : List ThreadPair) → ¬ IsAccepted (ordered order (disk_on D.BlockDevice device)) ps) }
     ensures errors { IfErr result (λ e. IsMountError e.1) }
     ensures back { IfErr result (λ e. GivesDeviceBack D.BlockDevice device e.0 e.1) }
-    ensures called { IfOk result (λ t. reads (D.history device) < reads t.kept.history) }
+    // Three reads for each pair, two more, and one for each block of a file's list.
+    ensures few { IfOk result (HasFewReads (disk_on D.BlockDevice device) (D.history device)) }
 {
-    match mount_in(alloc, device, NameOrder::LongerFirst) {
-        Ok(thread) => Ok(thread),
-        Err((device, Error::Corrupt)) => mount_in(alloc, device, NameOrder::ShorterFirst),
-        Err(back) => Err(back),
+    let (thread, orders) = read_image(alloc, device)?;
+    match orders.first() {
+        Some(order) => Ok(in_order(thread, order)),
+        None => Err((thread.into_device(), Error::Corrupt)),
     }
 }

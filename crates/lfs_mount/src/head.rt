@@ -3,9 +3,11 @@
 ghost use Rattle.std.specs.Prelude.{ℕ, List, ◌≡◌, ◌↔◌, ◌⊎◌, ◌<◌, ◌≤◌, ◌+◌, length, IsTrue, IfOk, IfErr, IsErrOf, OnOk, None, Some, codes, map};
 ghost use Rattle.std.specs.Option.{option_map};
 ghost use Rattle.lfs_device.specs.Calls.{ReadsOnly, TellsFaults};
+ghost use Rattle.lfs_device.specs.Shown.{ordered};
 ghost use Rattle.lfs_model.specs.Blocks.{block_in};
 ghost use Rattle.lfs_model.specs.History.{reads};
 ghost use Rattle.lfs_model.specs.View.{BeginsWith, IsAccepted, superblock_entry};
+ghost use Rattle.lfs_model.specs.declared.order.NameOrder.{NameOrder};
 ghost use Rattle.lfs_tag.specs.ContentSeen.{part_seen, slot_seen};
 ghost use Rattle.lfs_thread.specs.Kept.{disk_on, pairs_on};
 ghost use Rattle.lfs_mount.specs.Head.{HasHeaders, IsHead, IsSuperblockOf, describes, first_filled, inline_in, is_called, leads_on, names_superblock, repeats_in, repeats_of, superblock_in, superblock_of};
@@ -203,9 +205,9 @@ fn first_filled(pairs: &[Pair]) -> Result<usize, Error>
 // a hard tail and no slot, or with the superblock alone, where the next pair that has a slot begins
 // with a superblock. All superblocks have the same struct, and the root begins at the last one.
 //
-// `Corrupt` where the superblock isn't so; no such image is accepted. `Io` where a read failed, and
-// `NoMemory` where there is no room for a block and its slots. Nothing is written. Each pair of the
-// chain is read at most once, and the one behind it at most once.
+// `Corrupt` where the superblock isn't so; no such image is accepted, in either order of names.
+// `Io` where a read failed, and `NoMemory` where there is no room for a block and its slots. Nothing
+// is written. Each pair of the chain is read at most once, and the one behind it at most once.
 //
 // That the headers are those of the device's thread, all and in order, is the caller's condition.
 pub(crate) fn count_superblocks<D: BlockDevice>(
@@ -215,7 +217,7 @@ pub(crate) fn count_superblocks<D: BlockDevice>(
 ) -> Result<usize, Error>
     requires { HasHeaders (disk_on D.BlockDevice dev.old) (D.history dev.old) pairs.now }
     ensures head { IfOk result (IsHead (disk_on D.BlockDevice dev.old) (pairs_on (disk_on D.BlockDevice dev.old) pairs.now)) }
-    ensures corrupt { IsErrOf result Error.Corrupt → ¬ IsAccepted (disk_on D.BlockDevice dev.old) (pairs_on (disk_on D.BlockDevice dev.old) pairs.now) }
+    ensures corrupt { IsErrOf result Error.Corrupt → (order : NameOrder) → ¬ IsAccepted (ordered order (disk_on D.BlockDevice dev.old)) (pairs_on (disk_on D.BlockDevice dev.old) pairs.now) }
     ensures device { ReadsOnly D.BlockDevice dev.old dev.new }
     ensures errors { IfErr result (λ e. (e ≡ Error.Corrupt) ⊎ ((e ≡ Error.Io) ⊎ (e ≡ Error.NoMemory))) }
     ensures faults { TellsFaults D.BlockDevice dev.old dev.new result }

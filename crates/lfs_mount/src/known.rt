@@ -1,12 +1,15 @@
 // What is known of a directory while its pairs are read.
 
 ghost use Rattle.std.specs.Prelude.{◌≡◌, ◌⊎◌, map, OnOk, IfErr, IsErrOf, Some, None};
+ghost use Rattle.lfs_model.specs.declared.order.NameOrder.{NameOrder};
 ghost use Rattle.lfs_tag.specs.ContentSeen.{slot_seen};
 ghost use Rattle.lfs_mount.specs.Entries.{comes_behind, nothing_known, with_entry};
 ghost use Rattle.lfs_mount.specs.EntrySeen.{entry_seen};
+ghost use Rattle.lfs_mount.specs.Orders.{has_order};
 ghost use Rattle.lfs_mount.specs.Scanned.{scanned};
 
 use crate::entry::{Entry, Target, entry_of};
+use crate::orders::Orders;
 use crate::places::Places;
 use crate::reaching::Directory;
 use lfs_device::{Error, NameOrder};
@@ -18,6 +21,16 @@ fn comes_behind(order: NameOrder, last: &[u8], name: &[u8]) -> bool
     ensures { result ≡ comes_behind order last.now name.now }
 {
     last.is_empty() || name_cmp(order, last, name).is_lt()
+}
+
+// The orders in which a name comes behind the last one.
+fn orders_behind(last: &[u8], name: &[u8]) -> Orders
+    ensures { (order : NameOrder) → has_order order result ≡ comes_behind order last.now name.now }
+{
+    Orders {
+        longer_first: comes_behind(NameOrder::LongerFirst, last, name),
+        shorter_first: comes_behind(NameOrder::ShorterFirst, last, name),
+    }
 }
 
 // What is known of a directory by the entries so far.
@@ -34,12 +47,12 @@ impl Known {
 
     // Before the first entry of a directory.
     pub fn nothing(alloc: Global) -> Known
-        ensures { known_seen result ≡ nothing_known }
+        ensures { (order : NameOrder) → known_seen order result ≡ nothing_known }
     {
         Known {
             last: Vec::new(alloc),
             directory: Directory {
-                is_sound: true,
+                sound_in: Orders::both_or_none(true),
                 branches: Vec::new(alloc),
             },
         }
@@ -56,17 +69,17 @@ impl Known {
     }
 
     // Takes one entry more.
-    fn add(&mut self, order: NameOrder, places: &Places, entry: &Entry<'_>) -> Result<(), Error>
-        ensures ok { OnOk result (known_seen self.new ≡ with_entry order places.now (known_seen self.old) (entry_seen entry.now)) }
+    fn add(&mut self, places: &Places, entry: &Entry<'_>) -> Result<(), Error>
+        ensures ok { OnOk result ((order : NameOrder) → known_seen order self.new ≡ with_entry order places.now (known_seen order self.old) (entry_seen entry.now)) }
         ensures error { IfErr result (λ e. e ≡ Error.NoMemory) }
     {
-        let rises = comes_behind(order, &self.last, entry.name);
-        self.directory.is_sound = self.directory.is_sound && rises;
+        let rises = orders_behind(&self.last, entry.name);
+        self.directory.sound_in = self.directory.sound_in.and(rises);
         self.set_last(entry.name)?;
         if let Target::Directory(pair) = entry.target {
             match places.find(pair) {
                 Some(place) => self.directory.branches.push(place)?,
-                None => self.directory.is_sound = false,
+                None => self.directory.sound_in = Orders::both_or_none(false),
             }
         }
         Ok(())
@@ -74,28 +87,23 @@ impl Known {
 
     // The directory, at its end. Nothing is known then of the next one.
     pub fn end(&mut self, alloc: Global) -> Directory
-        ensures directory { vertex_of result ≡ (known_seen self.old).1 }
-        ensures nothing { known_seen self.new ≡ nothing_known }
+        ensures directory { (order : NameOrder) → vertex_of order result ≡ (known_seen order self.old).1 }
+        ensures nothing { (order : NameOrder) → known_seen order self.new ≡ nothing_known }
     {
         std::mem::replace(self, Known::nothing(alloc)).directory
     }
 
     // Takes the entries in these slots of a pair. Corrupt exactly where one of them holds none.
-    pub fn scan(
-        &mut self,
-        order: NameOrder,
-        places: &Places,
-        slots: &[Slot<'_>],
-    ) -> Result<(), Error>
-        ensures ok { OnOk result (scanned order places.now (known_seen self.old) (map slot_seen slots.now) ≡ Some (known_seen self.new)) }
-        ensures corrupt { IsErrOf result Error.Corrupt → scanned order places.now (known_seen self.old) (map slot_seen slots.now) ≡ None }
+    pub fn scan(&mut self, places: &Places, slots: &[Slot<'_>]) -> Result<(), Error>
+        ensures ok { OnOk result ((order : NameOrder) → scanned order places.now (known_seen order self.old) (map slot_seen slots.now) ≡ Some (known_seen order self.new)) }
+        ensures corrupt { IsErrOf result Error.Corrupt → (order : NameOrder) → scanned order places.now (known_seen order self.old) (map slot_seen slots.now) ≡ None }
         ensures errors { IfErr result (λ e. (e ≡ Error.Corrupt) ⊎ (e ≡ Error.NoMemory)) }
     {
         for slot in slots {
             let Some(entry) = entry_of(slot) else {
                 return Err(Error::Corrupt);
             };
-            self.add(order, places, &entry)?;
+            self.add(places, &entry)?;
         }
         Ok(())
     }

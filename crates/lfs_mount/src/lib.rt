@@ -1,5 +1,5 @@
-//! Which images are accepted: one pass over the metadata pairs, whose headers are in memory, and a
-//! search among the directories, which reads nothing.
+//! Which images are accepted: one pass over the metadata pairs, whose headers are in memory, and for
+//! each order of names a search among the directories, which reads nothing.
 #![tactic(auto)]
 
 mod check;
@@ -11,6 +11,7 @@ mod lists;
 mod members;
 mod mounting;
 mod moves;
+mod orders;
 mod pass;
 mod places;
 mod reaching;

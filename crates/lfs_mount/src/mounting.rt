@@ -2,21 +2,26 @@
 
 ghost use Rattle.std.specs.Prelude.{List, ◌≡◌, ◌≤◌, ◌<◌, ◌+◌, ◌++◌, ◌∷◌, drop, length, sum_by, true, IfErr, IfOk, IsErrOf, OnOk};
 ghost use Rattle.lfs_device.specs.Calls.{ReadsOnly};
+ghost use Rattle.lfs_device.specs.Shown.{ordered};
 ghost use Rattle.lfs_model.specs.History.{reads};
 ghost use Rattle.lfs_model.specs.Thread.{Pair as ThreadPair};
 ghost use Rattle.lfs_model.specs.View.{IsAccepted};
+ghost use Rattle.lfs_model.specs.declared.order.NameOrder.{NameOrder};
 ghost use Rattle.lfs_tag.specs.FieldsSeen.{move_seen};
 ghost use Rattle.lfs_thread.specs.Device.{GivesBack};
 ghost use Rattle.lfs_thread.specs.Kept.{disk_on, pairs_on};
-ghost use Rattle.lfs_mount.specs.Accepted.{HasImage, IsMounted, IsRight};
+ghost use Rattle.lfs_mount.specs.Accepted.{HasImage, IsJudged, IsMounted};
 ghost use Rattle.lfs_mount.specs.Device.{IsMountError, TellsErrors};
 ghost use Rattle.lfs_mount.specs.Members.{AreDirectories, IsRead, IsThreadOf, members_in};
+ghost use Rattle.lfs_mount.specs.Orders.{has_order};
+ghost use Rattle.lfs_mount.specs.ReadImage.{IsReadImage};
 ghost use Rattle.lfs_mount.specs.Reads.{check_reads, mount_reads, pair_reads};
 
 use crate::check::check_thread;
 use crate::head::count_superblocks;
 use crate::members::{members_of, places_of};
 use crate::moves::check_move;
+use crate::orders::Orders;
 use lfs_alloc::BlockMap;
 use lfs_device::{BlockDevice, Error};
 use lfs_pair::Pair;
@@ -26,8 +31,8 @@ use std::alloc::Global;
 
 /// Reads the image of a device, and keeps its thread where the image is accepted: what littlefs
 /// 2.0 allows (SPEC.md of littlefs), with every file's list well formed, no block owned twice, and
-/// each directory reached once, or not at all where the sync bit is set. Only reads are made. The
-/// map's used blocks are then those of the image's pairs and files, and none is in flight.
+/// each directory reached once, or not at all where the sync bit is set. Its names are in the order
+/// of the device's geometry. Only reads are made. The map's used blocks are then those of the image's pairs and files, and none is in flight.
 ///
 /// `Corrupt` exactly where no image is accepted there. `Io` where a read failed, and `NoMemory` where
 /// memory isn't granted. The device comes back with an error.
@@ -40,6 +45,24 @@ pub fn mount<D: BlockDevice>(alloc: Global, device: D) -> Result<Thread<D>, (D, 
     // Three reads for each pair, two more, and one for each block of a file's list.
     ensures few { IfOk result (λ t. reads t.kept.history ≤ reads (D.history device) + mount_reads (disk_on D.BlockDevice device) t.kept.pairs) }
 {
+    let (thread, orders) = read_image(alloc, device)?;
+    if !orders.has(thread.device().geometry().order) {
+        return Err((thread.into_device(), Error::Corrupt));
+    }
+    Ok(thread)
+}
+
+// Reads the image of a device, and finds the orders of names in which it is accepted. There may be
+// none; `Corrupt` says so too, and comes where something else than its names is wrong.
+pub(crate) fn read_image<D: BlockDevice>(
+    alloc: Global,
+    device: D,
+) -> Result<(Thread<D>, Orders), (D, Error)>
+    ensures read { IfOk result (λ r. IsReadImage (disk_on D.BlockDevice device) (D.history device) r.0 r.1) }
+    ensures corrupt { IfErr result (λ e. e.1 ≡ Error.Corrupt → (order : NameOrder) (ps : List ThreadPair) → ¬ IsAccepted (ordered order (disk_on D.BlockDevice device)) ps) }
+    ensures errors { IfErr result (λ e. IsMountError e.1) }
+    ensures back { IfErr result (λ e. GivesBack D.BlockDevice device e.0 e.1) }
+{
     let thread = Thread::read(alloc, device)?;
     let state = thread.state();
     let mut parts = thread.into_parts();
@@ -50,31 +73,33 @@ pub fn mount<D: BlockDevice>(alloc: Global, device: D) -> Result<Thread<D>, (D, 
         &parts.pairs,
         &state,
     ) {
-        Ok(()) => Ok(Thread::from_parts(parts)),
+        Ok(orders) => Ok((Thread::from_parts(parts), orders)),
         Err(error) => Err((parts.device, error)),
     }
 }
 
-// Checks the image whose thread was read, and marks the blocks of its files.
+// Checks the image whose thread was read, marks the blocks of its files, and finds the orders of
+// names in which it is accepted.
 fn check_image<D: BlockDevice>(
     alloc: Global,
     device: &mut D,
     map: &mut BlockMap,
     pairs: &[Pair],
     state: &MoveState,
-) -> Result<(), Error>
+) -> Result<Orders, Error>
     requires { IsRead (disk_on D.BlockDevice device.old) (D.history device.old) pairs.now map.old (move_seen state.now) }
-    ensures image { OnOk result (HasImage (disk_on D.BlockDevice device.old) pairs.now map.old map.new) }
-    ensures corrupt { IsErrOf result Error.Corrupt → (ps : List ThreadPair) → ¬ IsAccepted (disk_on D.BlockDevice device.old) ps }
+    ensures image { IfOk result (λ orders. (order : NameOrder) → HasImage (ordered order (disk_on D.BlockDevice device.old)) pairs.now (has_order order orders) map.old map.new) }
+    ensures corrupt { IsErrOf result Error.Corrupt → (order : NameOrder) (ps : List ThreadPair) → ¬ IsAccepted (ordered order (disk_on D.BlockDevice device.old)) ps }
     ensures device { ReadsOnly D.BlockDevice device.old device.new }
     ensures errors { TellsErrors D.BlockDevice device.old device.new result }
-    ensures few { OnOk result (reads (D.history device.new) ≤ reads (D.history device.old) + check_reads (disk_on D.BlockDevice device.old) (pairs_on (disk_on D.BlockDevice device.old) pairs.now)) }
+    ensures few { IfOk result (λ orders. (order : NameOrder) → has_order order orders ≡ true
+        → reads (D.history device.new) ≤ reads (D.history device.old) + check_reads (disk_on D.BlockDevice device.old) (pairs_on (disk_on D.BlockDevice device.old) pairs.now)) }
 {
     let count = count_superblocks(alloc, device, pairs)?;
     let directories = pairs_from(pairs, count);
     check_move(state, directories)?;
-    check_directories(alloc, device, map, directories, state)?;
-    Ok(())
+    let orders = check_directories(alloc, device, map, directories, state)?;
+    Ok(orders)
 }
 
 // The pairs from an index on.
@@ -85,27 +110,28 @@ fn pairs_from(pairs: &[Pair], index: usize) -> &[Pair]
     &pairs[index..]
 }
 
-// Checks what stands in the pairs of directories, and marks the blocks of their files.
+// Checks what stands in the pairs of directories, marks the blocks of their files, and finds the
+// orders of names in which they are right.
 fn check_directories<D: BlockDevice>(
     alloc: Global,
     device: &mut D,
     map: &mut BlockMap,
     pairs: &[Pair],
     state: &MoveState,
-) -> Result<(), Error>
+) -> Result<Orders, Error>
     requires { AreDirectories (disk_on D.BlockDevice device.old) map.old (move_seen state.now) pairs.now }
-    ensures ok { OnOk result ((chain : List ThreadPair) (p : ThreadPair) (rest : List ThreadPair)
-        → IsThreadOf (disk_on D.BlockDevice device.old) map.old (move_seen state.now) pairs.now chain p rest
-        → IsRight (disk_on D.BlockDevice device.old) map.old map.new chain p rest) }
-    ensures corrupt { IsErrOf result Error.Corrupt → (chain : List ThreadPair) (p : ThreadPair) (rest : List ThreadPair)
-        → IsThreadOf (disk_on D.BlockDevice device.old) map.old (move_seen state.now) pairs.now chain p rest
-        → ¬ IsAccepted (disk_on D.BlockDevice device.old) (chain ++ p ∷ rest) }
+    ensures ok { IfOk result (λ orders. (order : NameOrder) (chain : List ThreadPair) (p : ThreadPair) (rest : List ThreadPair)
+        → IsThreadOf (ordered order (disk_on D.BlockDevice device.old)) map.old (move_seen state.now) pairs.now chain p rest
+        → IsJudged (ordered order (disk_on D.BlockDevice device.old)) (has_order order orders) map.old map.new chain p rest) }
+    ensures corrupt { IsErrOf result Error.Corrupt → (order : NameOrder) (chain : List ThreadPair) (p : ThreadPair) (rest : List ThreadPair)
+        → IsThreadOf (ordered order (disk_on D.BlockDevice device.old)) map.old (move_seen state.now) pairs.now chain p rest
+        → ¬ IsAccepted (ordered order (disk_on D.BlockDevice device.old)) (chain ++ p ∷ rest) }
     ensures device { ReadsOnly D.BlockDevice device.old device.new }
     ensures errors { TellsErrors D.BlockDevice device.old device.new result }
     ensures few { OnOk result (reads (D.history device.new) ≤ reads (D.history device.old) + sum_by (pair_reads (disk_on D.BlockDevice device.old)) (members_in (move_seen state.now) true pairs.now)) }
 {
     let members = members_of(alloc, state, pairs)?;
     let places = places_of(alloc, pairs)?;
-    check_thread(alloc, device, map, &places, &members, state.sync)?;
-    Ok(())
+    let orders = check_thread(alloc, device, map, &places, &members, state.sync)?;
+    Ok(orders)
 }

@@ -2,9 +2,11 @@
 
 ghost use Rattle.std.specs.Prelude.{◌≡◌, ◌≤◌, ◌<◌, ◌+◌, All, IfOk, OnOk, IfErr, IsErrOf, None, Some, is_some, map, sum_by};
 ghost use Rattle.lfs_device.specs.Calls.{ReadsOnly};
+ghost use Rattle.lfs_device.specs.Shown.{ordered};
 ghost use Rattle.lfs_model.specs.BlockSets.{BlockSets};
 ghost use Rattle.lfs_model.specs.History.{reads};
 ghost use Rattle.lfs_model.specs.Names.{Name};
+ghost use Rattle.lfs_model.specs.declared.order.NameOrder.{NameOrder};
 ghost use Rattle.lfs_mount.specs.Device.{TellsErrors};
 ghost use Rattle.lfs_thread.specs.Kept.{disk_on};
 ghost use Rattle.lfs_mount.specs.DirectorySeen.{graph_of};
@@ -76,8 +78,8 @@ fn take_superblock(slots: &mut Vec<Slot<'_>>, has_superblock: bool) -> Result<()
     Ok(())
 }
 
-// Takes the entries of a pair of a directory by its active block, and marks the blocks of its
-// files. Corrupt exactly where its log is malformed, a slot holds no entry, a list isn't well formed
+// Takes the entries of a pair of a directory by its active block, in each order of names, and marks
+// the blocks of its files. Corrupt exactly where its log is malformed, a slot holds no entry, a list isn't well formed
 // or a block was marked before.
 fn take_pair<D: BlockDevice>(
     alloc: Global,
@@ -88,8 +90,8 @@ fn take_pair<D: BlockDevice>(
     member: &Member,
 ) -> Result<(), Error>
     requires { member.now.active < (D.geometry device.old).block_count }
-    ensures taken { OnOk result (Takes (disk_on D.BlockDevice device.old) places.now member.now (known_seen known.old) map.old (known_seen known.new) map.new) }
-    ensures corrupt { IsErrOf result Error.Corrupt → (new : Name × Vertex) (sets : BlockSets) → ¬ Takes (disk_on D.BlockDevice device.old) places.now member.now (known_seen known.old) map.old new sets }
+    ensures taken { OnOk result ((order : NameOrder) → Takes (ordered order (disk_on D.BlockDevice device.old)) places.now member.now (known_seen order known.old) map.old (known_seen order known.new) map.new) }
+    ensures corrupt { IsErrOf result Error.Corrupt → (order : NameOrder) (new : Name × Vertex) (sets : BlockSets) → ¬ Takes (ordered order (disk_on D.BlockDevice device.old)) places.now member.now (known_seen order known.old) map.old new sets }
     ensures device { ReadsOnly D.BlockDevice device.old device.new }
     ensures errors { TellsErrors D.BlockDevice device.old device.new result }
     ensures few { OnOk result (reads (D.history device.new) ≤ reads (D.history device.old) + pair_reads (disk_on D.BlockDevice device.old) member.now) }
@@ -99,12 +101,12 @@ fn take_pair<D: BlockDevice>(
     let mut slots = Content::read(alloc, &log)?.slots;
     take_moved(&mut slots, member.moved)?;
     take_superblock(&mut slots, member.has_superblock)?;
-    known.scan(device.geometry().order, places, &slots)?;
+    known.scan(places, &slots)?;
     mark_lists(device, map, &slots)?;
     Ok(())
 }
 
-// Takes the pairs of all directories, in the thread's order. Corrupt exactly where one of them can't
+// Takes the pairs of all directories, in the thread's order, in each order of names. Corrupt exactly where one of them can't
 // be taken.
 pub(crate) fn take_pairs<D: BlockDevice>(
     alloc: Global,
@@ -114,8 +116,8 @@ pub(crate) fn take_pairs<D: BlockDevice>(
     members: &[Member],
 ) -> Result<Vec<Directory>, Error>
     requires { All (λ m. m.active < (D.geometry device.old).block_count) members.now }
-    ensures taken { IfOk result (λ ds. Passes (disk_on D.BlockDevice device.old) places.now nothing_known map.old members.now (graph_of ds.items) map.new) }
-    ensures corrupt { IsErrOf result Error.Corrupt → (graph : Graph) (end : BlockSets) → ¬ Passes (disk_on D.BlockDevice device.old) places.now nothing_known map.old members.now graph end }
+    ensures taken { IfOk result (λ ds. (order : NameOrder) → Passes (ordered order (disk_on D.BlockDevice device.old)) places.now nothing_known map.old members.now (graph_of order ds.items) map.new) }
+    ensures corrupt { IsErrOf result Error.Corrupt → (order : NameOrder) (graph : Graph) (end : BlockSets) → ¬ Passes (ordered order (disk_on D.BlockDevice device.old)) places.now nothing_known map.old members.now graph end }
     ensures device { ReadsOnly D.BlockDevice device.old device.new }
     ensures errors { TellsErrors D.BlockDevice device.old device.new result }
     ensures few { OnOk result (reads (D.history device.new) ≤ reads (D.history device.old) + sum_by (pair_reads (disk_on D.BlockDevice device.old)) members.now) }

@@ -1,21 +1,23 @@
 // Which directories are reached from the root.
 
-ghost use Rattle.std.specs.Prelude.{List, ◌≡◌, ◌≤◌, ◌<◌, ◌^◌, ◌++◌, ◌⊎◌, ℕ, All, OnOk, IfOk, IfErr, IsErrOf, length, nat_eq};
+ghost use Rattle.std.specs.Prelude.{List, ◌≡◌, ◌↔◌, ◌≤◌, ◌<◌, ◌^◌, ◌++◌, ◌⊎◌, ℕ, true, All, OnOk, IfOk, IfErr, IsErrOf, length, nat_eq};
 ghost use Rattle.std.specs.List.{IsDistinct};
-ghost use Rattle.lfs_model.specs.declared.order.NameOrder.{NameOrder};
 ghost use Rattle.lfs_model.specs.Thread.{Pair};
+ghost use Rattle.lfs_model.specs.declared.order.NameOrder.{NameOrder};
 ghost use Rattle.lfs_mount.specs.Directories.{AreRight, Shows};
 ghost use Rattle.lfs_mount.specs.DirectorySeen.{graph_of};
+ghost use Rattle.lfs_mount.specs.Orders.{has_order};
 ghost use Rattle.lfs_mount.specs.Reaching.{AreReached, Fails, Finds, IsMarked};
 
-use lfs_device::Error;
+use crate::orders::Orders;
+use lfs_device::{Error, NameOrder};
 use std::alloc::Global;
 
 // What is known of a directory by itself.
 #[derive(Drop)]
 pub(crate) struct Directory {
-    // Its names rise, and each directory in it is one of the thread.
-    pub is_sound: bool,
+    // The orders in which it is sound: its names rise, and each directory in it is one of the thread.
+    pub sound_in: Orders,
     // The places of those, in the order of their names.
     pub branches: Vec<u32>,
 }
@@ -40,12 +42,13 @@ fn find(is_found: &mut Vec<bool>, found: &mut Vec<u32>, branches: &[u32]) -> Res
 }
 
 // Which directories are reached from the root, which is the first. Corrupt where one that is
-// reached isn't sound or is reached twice. It looks at each directory and at each branch once.
-fn reached(alloc: Global, directories: &[Directory]) -> Result<Vec<bool>, Error>
+// reached isn't sound in that order of names or is reached twice. It looks at each directory and at
+// each branch once.
+fn reached(alloc: Global, directories: &[Directory], order: NameOrder) -> Result<Vec<bool>, Error>
     requires some { 0 < length directories.now }
     requires within { All (λ d. All (λ b. b < length directories.now) d.branches.items) directories.now }
-    ensures reached { IfOk result (λ marks. AreReached (graph_of directories.now) marks.items) }
-    ensures corrupt { IsErrOf result Error.Corrupt → (steps : ℕ) × Fails (graph_of directories.now) steps }
+    ensures reached { IfOk result (λ marks. AreReached (graph_of order directories.now) marks.items) }
+    ensures corrupt { IsErrOf result Error.Corrupt → (steps : ℕ) × Fails (graph_of order directories.now) steps }
     ensures errors { IfErr result (λ e. (e ≡ Error.Corrupt) ⊎ (e ≡ Error.NoMemory)) }
 {
     let mut is_found = Vec::from_elem(alloc, false, directories.len())?;
@@ -55,7 +58,7 @@ fn reached(alloc: Global, directories: &[Directory]) -> Result<Vec<bool>, Error>
     let mut next = 0;
     while next < found.len() {
         let directory = &directories[found[next] as usize];
-        if !directory.is_sound {
+        if !directory.sound_in.has(order) {
             return Err(Error::Corrupt);
         }
         find(&mut is_found, &mut found, &directory.branches)?;
@@ -64,23 +67,60 @@ fn reached(alloc: Global, directories: &[Directory]) -> Result<Vec<bool>, Error>
     Ok(is_found)
 }
 
-// Checks a thread's directories by what is known of each: those reached from the root, the first,
-// are sound, and none is reached twice; all are reached, unless the sync bit is set. Corrupt exactly
-// where that isn't so.
-pub(crate) fn check_reached(
+// Checks a thread's directories in an order of names by what is known of each: those reached from
+// the root, the first, are sound, and none is reached twice; all are reached, unless the sync bit is
+// set. Corrupt exactly where that isn't so.
+fn check_reached(
     alloc: Global,
     directories: &[Directory],
+    order: NameOrder,
     sync: bool,
 ) -> Result<(), Error>
     requires some { 0 < length directories.now }
     requires within { All (λ d. All (λ b. b < length directories.now) d.branches.items) directories.now }
-    ensures ok { OnOk result ((by : NameOrder) (ps : List Pair) → Shows by (graph_of directories.now) sync ps → AreRight by ps) }
-    ensures corrupt { IsErrOf result Error.Corrupt → (by : NameOrder) (ps : List Pair) → Shows by (graph_of directories.now) sync ps → ¬ AreRight by ps }
+    ensures ok { OnOk result ((ps : List Pair) → Shows order (graph_of order directories.now) sync ps → AreRight order ps) }
+    ensures corrupt { IsErrOf result Error.Corrupt → (ps : List Pair) → Shows order (graph_of order directories.now) sync ps → ¬ AreRight order ps }
     ensures errors { IfErr result (λ e. (e ≡ Error.Corrupt) ⊎ (e ≡ Error.NoMemory)) }
 {
-    let is_reached = reached(alloc, directories)?;
+    let is_reached = reached(alloc, directories, order)?;
     if !sync && is_reached.contains(&false) {
         return Err(Error::Corrupt);
     }
     Ok(())
+}
+
+// Whether a thread's directories are right in an order of names.
+fn are_right(
+    alloc: Global,
+    directories: &[Directory],
+    order: NameOrder,
+    sync: bool,
+) -> Result<bool, Error>
+    requires some { 0 < length directories.now }
+    requires within { All (λ d. All (λ b. b < length directories.now) d.branches.items) directories.now }
+    ensures right { IfOk result (λ right. (ps : List Pair) → Shows order (graph_of order directories.now) sync ps → (right ≡ true) ↔ AreRight order ps) }
+    ensures error { IfErr result (λ e. e ≡ Error.NoMemory) }
+{
+    match check_reached(alloc, directories, order, sync) {
+        Ok(()) => Ok(true),
+        Err(Error::Corrupt) => Ok(false),
+        Err(error) => Err(error),
+    }
+}
+
+// The orders of names in which a thread's directories are right, by what is known of each.
+pub(crate) fn orders_of(
+    alloc: Global,
+    directories: &[Directory],
+    sync: bool,
+) -> Result<Orders, Error>
+    requires some { 0 < length directories.now }
+    requires within { All (λ d. All (λ b. b < length directories.now) d.branches.items) directories.now }
+    ensures right { IfOk result (λ orders. (order : NameOrder) (ps : List Pair) → Shows order (graph_of order directories.now) sync ps → (has_order order orders ≡ true) ↔ AreRight order ps) }
+    ensures error { IfErr result (λ e. e ≡ Error.NoMemory) }
+{
+    Ok(Orders {
+        longer_first: are_right(alloc, directories, NameOrder::LongerFirst, sync)?,
+        shorter_first: are_right(alloc, directories, NameOrder::ShorterFirst, sync)?,
+    })
 }

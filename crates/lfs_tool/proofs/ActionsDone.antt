@@ -10,7 +10,7 @@ use Rattle.lfs_thread.specs.Steps.{IsOnlyRead}
 use Rattle.lfs_lookup.specs.Items.{structure_seen}
 use Rattle.lfs_lookup.specs.Walk.{found_seen, founds_seen}
 use Rattle.lfs_lookup.specs.declared.walking.TreeItem.{TreeItem}
-use Rattle.lfs_tool_target.specs.Shown.{Adds}
+use Rattle.lfs_tool_folders.specs.Actions.{Adds}
 use Rattle.lfs_tool.specs.Unpacked.{AreLists, HasBegun, HasDone, action_at, actions_at}
 
 list_of : (disk : Disk) (items : List TreeItem) (i : ℕ) (d : TreeItem) → AreLists disk (founds_seen items) → i < length items → IsListIfCtz disk (structure_seen (get_or items i d).structure)

@@ -7,9 +7,9 @@ use Rattle.std.proofs.Math.Seq.{take-append-add, take-append_seam}
 use Rattle.std.proofs.lemmas.Bool.{cases_lt}
 use Rattle.std.proofs.lemmas.List.{append-nil, drop-append-le, length-take-le, take-append-le, take_all}
 use Rattle.std.proofs.lemmas.List.Elements.{All-push}
-use Rattle.lfs_excerpt.specs.declared.block.BlockExcerpt.{BlockExcerpt}
-use Rattle.lfs_excerpt.specs.Blocks.{HaveSize, block_shown, blocks_shown}
-use Rattle.lfs_excerpt.specs.Excerpt.{AreExcerpts, IsBlockExcerpt}
+use Rattle.lfs_tool.specs.declared.block_excerpt.BlockExcerpt.{BlockExcerpt}
+use Rattle.lfs_tool.specs.ExcerptBlocks.{HaveSize, block_shown, blocks_shown}
+use Rattle.lfs_tool.specs.Excerpt.{AreExcerpts, IsBlockExcerpt}
 use Rattle.lfs_model.specs.Blocks.{Blocks, cut}
 use Rattle.lfs_model.specs.Disk.{IsImage}
 use Rattle.lfs_tool.specs.Blocks.{AreRead, Fills, IsPushed}

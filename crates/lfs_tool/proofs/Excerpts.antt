@@ -4,12 +4,12 @@ use Rattle.std.proofs.Math.Nat.{mul-div_cancel_left, mul-mod_right}
 use Rattle.lfs_device.specs.declared.error.Error.{Error}
 use Rattle.lfs_device.specs.declared.error.Error.TheVariants.{Corrupt, NoMemory}
 use Rattle.lfs_device.specs.Shown.{disk_of as shown, ordered}
-use Rattle.lfs_excerpt.specs.declared.block.BlockExcerpt.{BlockExcerpt}
-use Rattle.lfs_excerpt.specs.declared.excerpt.Excerpt.{Excerpt}
-use Rattle.lfs_excerpt.specs.Blocks.{HaveSize, blocks_shown}
-use Rattle.lfs_excerpt.specs.Device.{blocks_of, geometry_of}
-use Rattle.lfs_excerpt.specs.Excerpt.{AreExcerpts, IsExcerpt}
-use Rattle.lfs_excerpt.specs.Shown.{divided_shown}
+use Rattle.lfs_tool.specs.declared.block_excerpt.BlockExcerpt.{BlockExcerpt}
+use Rattle.lfs_tool.specs.declared.excerpt.Excerpt.{Excerpt}
+use Rattle.lfs_tool.specs.ExcerptBlocks.{HaveSize, blocks_shown}
+use Rattle.lfs_tool.specs.ExcerptSeen.{blocks_of, geometry_of}
+use Rattle.lfs_tool.specs.Excerpt.{AreExcerpts, IsExcerpt}
+use Rattle.lfs_tool.specs.ExcerptShape.{divided_shown}
 use Rattle.lfs_model.specs.Blocks.{cut}
 use Rattle.lfs_model.specs.Disk.{Disk, IsImage, disk_of}
 use Rattle.lfs_model.specs.Geometry.{IsGeometry}

@@ -1,3 +1,8 @@
+pub mod ExcerptsAlike
+pub mod AcceptedAlike
+pub mod ListedAlike
+pub mod Padded
+pub mod ExcerptCalls
 mod Decimals
 mod KnownBytes
 pub mod Writers
@@ -8,3 +13,11 @@ mod Walked
 mod Excerpts
 mod ActionsDone
 mod Unpacks
+mod NamesGiven
+mod Places
+mod Growing
+mod Stepping
+mod Runs
+mod Refusing
+mod ImagesMade
+mod Walking

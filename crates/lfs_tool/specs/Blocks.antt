@@ -1,12 +1,12 @@
 -- What is read of an image block by block.
 use Rattle.std.specs.Prelude.{ℕ, ◌≡◌, ◌≤◌, ◌<◌, ◌*◌, List, [], ◌∷◌, ◌++◌, Option, length, take}
 use Rattle.std.specs.Io.KnownBytes.{Consumes, IsAtEnd}
-use Rattle.lfs_excerpt.specs.declared.block.BlockExcerpt.{BlockExcerpt}
-use Rattle.lfs_excerpt.specs.Blocks.{block_shown, blocks_shown}
+use Rattle.lfs_tool.specs.declared.block_excerpt.BlockExcerpt.{BlockExcerpt}
+use Rattle.lfs_tool.specs.ExcerptBlocks.{block_shown, blocks_shown}
 use Rattle.lfs_device.specs.Shown.{disk_of, ordered}
-use Rattle.lfs_excerpt.specs.declared.excerpt.Excerpt.{Excerpt}
-use Rattle.lfs_excerpt.specs.Device.{blocks_of, geometry_of}
-use Rattle.lfs_excerpt.specs.Excerpt.{AreExcerpts, IsBlockExcerpt}
+use Rattle.lfs_tool.specs.declared.excerpt.Excerpt.{Excerpt}
+use Rattle.lfs_tool.specs.ExcerptSeen.{blocks_of, geometry_of}
+use Rattle.lfs_tool.specs.Excerpt.{AreExcerpts, IsBlockExcerpt}
 use Rattle.lfs_model.specs.Blocks.{cut}
 use Rattle.lfs_model.specs.declared.order.NameOrder.{NameOrder}
 

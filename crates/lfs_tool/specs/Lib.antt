@@ -1,3 +1,7 @@
+pub mod Excerpt
+pub mod ExcerptBlocks
+pub mod ExcerptSeen
+pub mod ExcerptShape
 pub mod Watched
 pub mod Known
 pub mod Blocks
@@ -6,3 +10,5 @@ pub mod Errors
 pub mod Ending
 pub mod Listed
 pub mod Unpacked
+pub mod Carried
+pub mod Made

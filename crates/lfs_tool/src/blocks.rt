@@ -1,17 +1,16 @@
 // Images read block by block, of which what a listing needs is kept.
 
 ghost use Rattle.std.specs.Prelude.{◌≡◌, ◌≤◌, ◌*◌, IfErr, IfOk, IfSome, OnOk, None, length, true};
-ghost use Rattle.lfs_excerpt.specs.Blocks.{HaveSize};
+ghost use Rattle.lfs_tool.specs.ExcerptBlocks.{HaveSize};
 ghost use Rattle.lfs_model.specs.Disk.{IsImage};
-ghost use Rattle.lfs_excerpt.specs.Device.{size_of};
+ghost use Rattle.lfs_tool.specs.ExcerptSeen.{size_of};
 ghost use Rattle.lfs_tool.specs.Blocks.{AreRead, Fills, IsPushed};
 ghost use Rattle.lfs_tool.specs.Known.{FailsToRead};
 ghost use Rattle.lfs_tool.specs.Watched.{failed_of, inner_of};
 
 use crate::input::IMAGE_MAX;
-use crate::{ToolError, Watched};
+use crate::{BlockExcerpt, Cutter, ToolError, Watched};
 use lfs_device::Error;
-use lfs_excerpt::{BlockExcerpt, Cutter};
 use std::alloc::Global;
 use std::io::Read;
 

@@ -1,23 +1,37 @@
-//! The tool mklittlefs, over any reader and any writer.
+//! The tool mklittlefs, over any reader and writer, any source and target: an image is listed, unpacked, or
+//! made of a tree of files.
 #![tactic(auto)]
 
+mod block_excerpt;
 mod blocks;
+mod carrying;
+mod cutter;
 mod ending;
 mod errors;
 mod escape;
+mod excerpt;
+mod excerpt_laws;
 mod input;
 mod line_text;
 mod lines;
 mod listing;
+mod making;
 mod opening;
 mod output;
+mod sizes;
 mod unpacking;
 mod watched;
 
+pub use block_excerpt::BlockExcerpt;
+pub use cutter::Cutter;
 pub use ending::report;
 pub use errors::{Fault, ToolError};
+pub use excerpt::Excerpt;
+pub use excerpt_laws::{excerpt_is_listed_alike, excerpt_is_read_without_fault};
 pub use lfs_tool_line::{Line, LineError, Mode, read_line};
 pub use listing::list;
+pub use making::create;
 pub use output::write_bytes;
+pub use sizes::geometry_for;
 pub use unpacking::unpack;
 pub use watched::Watched;

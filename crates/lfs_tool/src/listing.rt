@@ -1,7 +1,7 @@
 ghost use Rattle.std.specs.Prelude.{◌≡◌, ◌↔◌, ◌<◌, ◌^◌, List, ℕ, IfErr, IfOk, IfSome, IsErrOf, OnOk, length, true, false};
 ghost use Rattle.std.specs.Io.KnownBytes.{Appends};
-ghost use Rattle.lfs_excerpt.specs.Blocks.{HaveSize};
-ghost use Rattle.lfs_excerpt.specs.Device.{blocks_of, geometry_of};
+ghost use Rattle.lfs_tool.specs.ExcerptBlocks.{HaveSize};
+ghost use Rattle.lfs_tool.specs.ExcerptSeen.{blocks_of, geometry_of};
 ghost use Rattle.lfs_device.specs.Shown.{disk_of as shown, ordered};
 ghost use Rattle.lfs_model.specs.Disk.{IsImage};
 ghost use Rattle.lfs_model.specs.Geometry.{IsGeometry};
@@ -15,9 +15,8 @@ use crate::blocks::read_blocks;
 use crate::lines::lines_of;
 use crate::opening::{excerpt_of, items_of_excerpt};
 use crate::output::write_bytes;
-use crate::{ToolError, Watched};
+use crate::{BlockExcerpt, Excerpt, ToolError, Watched, excerpt_is_listed_alike};
 use lfs_device::{Error, Geometry};
-use lfs_excerpt::{BlockExcerpt, Excerpt, excerpt_is_listed_alike};
 use std::alloc::Global;
 use std::io::{Read, Write};
 

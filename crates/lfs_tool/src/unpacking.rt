@@ -4,7 +4,7 @@ ghost use Rattle.std.specs.Prelude.{◌≡◌, ◌≢◌, ◌⊎◌, ◌↔◌, 
 ghost use Rattle.lfs_device.specs.RamDevice.{blocks_of, geometry_of};
 ghost use Rattle.lfs_device.specs.Shown.{disk_of as shown};
 ghost use Rattle.lfs_model.specs.View.{IsListIfCtz};
-ghost use Rattle.lfs_tool_target.specs.Shown.{Adds};
+ghost use Rattle.lfs_tool_folders.specs.Actions.{Adds};
 ghost use Rattle.lfs_tool.specs.Listed.{Refuses};
 ghost use Rattle.lfs_tool.specs.Unpacked.{AreLists, FailsToUnpack, FailsToUnpackImage, HasBegun, HasDone, IsBegunOfImage, IsDoneOf, IsDoneOfImage, TellsTarget, action_at, actions_at};
 ghost use Rattle.lfs_thread.specs.Steps.{IsOnlyRead};
@@ -19,7 +19,7 @@ use crate::{ToolError, Watched};
 use lfs_device::{Error, Ordered, RamDevice};
 use lfs_lookup::{Structure, TreeItem, contents_of};
 use lfs_thread::Thread;
-use lfs_tool_target::{Target, TargetError};
+use lfs_tool_folders::{Target, TargetError};
 use std::alloc::Global;
 use std::io::Read;
 

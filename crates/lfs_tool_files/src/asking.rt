@@ -10,7 +10,7 @@ ghost use Rattle.lfs_tool.specs.Watched.{TellsWriter, failed_of, inner_of};
 
 use lfs_device::Error;
 use lfs_tool::{Line, ToolError, Watched, list, unpack};
-use lfs_tool_target::Target;
+use lfs_tool_folders::Target;
 use std::alloc::Global;
 use std::io::{Read, Write};
 

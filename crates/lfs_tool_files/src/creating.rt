@@ -1,13 +1,12 @@
 ghost use Rattle.std.specs.Prelude.{◌≡◌, ◌≢◌, ◌⊎◌, IsErrOf, None, OnOk};
 ghost use Rattle.lfs_tool.specs.Watched.{TellsWriter, inner_of};
-ghost use Rattle.lfs_tool_create.specs.Made.{HasRefusal, IsBegun, IsCreated, TellsSource};
+ghost use Rattle.lfs_tool.specs.Made.{HasRefusal, IsBegun, IsCreated, TellsSource};
 ghost use Rattle.lfs_tool_files.specs.Asked.{HasNoGeometry, HasSizes};
 
 use crate::ImageFile;
 use lfs_device::Error;
-use lfs_tool::{Line, ToolError, Watched};
-use lfs_tool_create::{create, geometry_for};
-use lfs_tool_source::{Folder, Source};
+use lfs_tool::{Line, ToolError, Watched, create, geometry_for};
+use lfs_tool_folders::{Folder, Source};
 use std::alloc::Global;
 use std::io::Write;
 use std::rt::Files;
@@ -17,7 +16,7 @@ use std::rt::Files;
 ///
 /// # Errors
 /// - `Fs(Invalid)` where the image isn't a whole number of blocks, or its geometry is out of range.
-/// - Those of `lfs_tool_create::create`, at the same times.
+/// - Those of `lfs_tool::create`, at the same times.
 pub fn create_asked<S: Source, W: Write>(
     alloc: Global,
     line: &Line<'_>,

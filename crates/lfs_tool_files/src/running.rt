@@ -8,7 +8,7 @@ ghost use Rattle.lfs_tool_files.specs.Answered.{HasLine, IsAnswered, IsFaultIn, 
 use crate::{ImageFile, create_image, list_asked, unpack_asked};
 use lfs_device::Error;
 use lfs_tool::{Fault, Line, LineError, Mode, ToolError, Watched, read_line, report};
-use lfs_tool_target::TargetFolder;
+use lfs_tool_folders::TargetFolder;
 use std::fs::File;
 use std::io;
 use std::io::{BufReader, ErrorKind, Write};

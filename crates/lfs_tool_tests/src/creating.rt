@@ -3,9 +3,8 @@
 use crate::shown::{ended, listed, unpacked};
 use crate::sources::{Items, source_of};
 use lfs_device::{Error, Geometry};
-use lfs_tool::Watched;
-use lfs_tool_create::create;
-use lfs_tool_source::{Held, MemorySource};
+use lfs_tool::{Watched, create};
+use lfs_tool_folders::{Held, MemorySource};
 use std::alloc::{AllocError, Global};
 use std::test::Fail;
 

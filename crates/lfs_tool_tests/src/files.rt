@@ -2,10 +2,10 @@
 
 use crate::images::{BELOW, ENTRIES};
 use crate::sources::{Items, is_read};
-use lfs_tests::{Entries, Held, image_with};
+use lfs_fixtures::{Entries, Held, image_with};
 use lfs_tool::Watched;
 use lfs_tool_files::answer;
-use lfs_tool_source::Folder;
+use lfs_tool_folders::Folder;
 use std::alloc::{AllocError, Global};
 use std::io::ErrorKind;
 use std::os::unix::fs::symlink;

@@ -1,7 +1,7 @@
 // Images, what is listed of them, and what unpacking them does.
 
 use crate::shown::{listed, unpacked};
-use lfs_tests::{Entries, Held, block_with, first_block, image_of, image_with};
+use lfs_fixtures::{Entries, Held, block_with, first_block, image_of, image_with};
 use lfs_tool::Watched;
 use std::alloc::{AllocError, Global};
 use std::test::Fail;

@@ -1,7 +1,7 @@
 // What the tool shows, as text.
 
 use lfs_tool::{Fault, ToolError, Watched, list, report, unpack};
-use lfs_tool_target::{Done, MemoryTarget};
+use lfs_tool_folders::{Done, MemoryTarget};
 use std::alloc::{AllocError, Global};
 use std::io::Read;
 

@@ -1,6 +1,6 @@
 // Sources, and what is read of them.
 
-use lfs_tool_source::{Folder, Held, MemorySource, Source, SourceError, read_tree};
+use lfs_tool_folders::{Folder, Held, MemorySource, Source, SourceError, read_tree};
 use std::alloc::{AllocError, Global};
 use std::fs;
 use std::test::Fail;

@@ -1,6 +1,7 @@
-use Rattle.std.proofs.Common.{true, ◌++◌, ◌∷◌, ◌<◌, List, Err, length, sym, ap, subst}
+use Rattle.std.proofs.Common.{true, ◌++◌, ◌∷◌, ◌∙◌, ◌<◌, List, Err, length, sym, ap, subst, true≢false}
 use Rattle.std.specs.Prelude.{All}
 use Rattle.std.proofs.lemmas.Result.{err_from_is_err_and}
+use Rattle.lfs_device.specs.Shown.{ordered}
 use Rattle.lfs_model.specs.Thread.{gstate_of}
 use Rattle.lfs_thread.specs.Kept.{disk_on}
 use Rattle.lfs_mount.specs.DirectorySeen.{graph_of}
@@ -14,45 +15,39 @@ use Rattle.lfs_mount.proofs.Within.{members_within, some_directory, within_direc
 use Rattle.lfs_mount.proofs.check.check_thread.Goals as goal
 
 pub returns-in_err-directories-clause-corrupt : goal.returns-in_err-directories-clause-corrupt
-returns-in_err-directories-clause-corrupt g c = λ is chain p rest known a.
+returns-in_err-directories-clause-corrupt g c = λ is order chain p rest known a.
     let e = err_from_is_err_and c.from_residual.result c.from_residual.ensures.1 in
-    let disk = disk_on g.D.BlockDevice c.args.device.now in
+    let disk = ordered order (disk_on g.D.BlockDevice c.args.device.now) in
     let r = accepted_passes disk chain p rest c.args.members.now c.args.places.now c.args.map.now known.chain_is (g.met.D.BlockDevice.bytes c.args.device.now) known.sets_len known.owns known.described a in
-    c.in_err-directories.ensures.corrupt (ap Err (same_error e.1 e.2 is)) r.0 r.1 r.2
+    c.in_err-directories.ensures.corrupt (ap Err (same_error e.1 e.2 is)) order r.0 r.1 r.2
 
 pub take_pairs-requires : goal.take_pairs-requires
 take_pairs-requires g c =
     subst (λ n. All (λ (m : Member). m.active < n) c.args.members.now) (g.met.D.BlockDevice.shape c.args.device.now).count
     (members_within (disk_on g.D.BlockDevice c.args.device.now) (gstate_of (c.requires.0 ++ c.requires.1 ∷ c.requires.2)) true (c.requires.1 ∷ c.requires.2) c.args.members.now c.requires.3.described)
 
-pub check_reached-requires-clause-some : goal.check_reached-requires-clause-some
-check_reached-requires-clause-some g c =
+pub orders_of-requires-clause-some : goal.orders_of-requires-clause-some
+orders_of-requires-clause-some g c =
     let disk = disk_on g.D.BlockDevice c.args.device.now in
     subst (λ (ds : List Directory). 0 < length ds) (sym c.deref.ensures.value)
-    (some_directory disk c.args.map.now c.args.places.now c.args.members.now c.args.sync c.requires c.in_ok-directories.directories.items c.take_pairs.new.map c.in_ok-directories.ensures.taken)
+    (some_directory disk c.args.map.now c.args.places.now c.args.members.now c.args.sync c.requires disk.order c.in_ok-directories.directories.items c.take_pairs.new.map (c.in_ok-directories.ensures.taken disk.order))
 
-pub check_reached-requires-clause-within : goal.check_reached-requires-clause-within
-check_reached-requires-clause-within g c =
+pub orders_of-requires-clause-within : goal.orders_of-requires-clause-within
+orders_of-requires-clause-within g c =
     let disk = disk_on g.D.BlockDevice c.args.device.now in
     subst (λ (ds : List Directory). All (λ d. All (λ b. b < length ds) d.branches.items) ds) (sym c.deref.ensures.value)
-    (within_directories disk c.args.map.now c.args.places.now c.args.members.now c.args.sync c.requires c.in_ok-directories.directories.items c.take_pairs.new.map c.in_ok-directories.ensures.taken)
-
-pub returns-in_err-check_reached-clause-corrupt : goal.returns-in_err-check_reached-clause-corrupt
-returns-in_err-check_reached-clause-corrupt g c = λ is chain p rest known a.
-    let e = err_from_is_err_and c.from_residual-in_err-check_reached.result c.from_residual-in_err-check_reached.ensures.1 in
-    let disk = disk_on g.D.BlockDevice c.args.device.now in
-    let shows = known_drawn disk c.args.map.now c.args.places.now c.args.members.now c.args.sync chain p rest (graph_of c.in_ok-directories.directories.items) c.take_pairs.new.map known c.in_ok-directories.ensures.taken in
-    c.in_err-check_reached.ensures.corrupt (ap Err (same_error e.1 e.2 is)) disk.order (chain ++ p ∷ rest)
-    (subst (λ (ds : List Directory). Shows disk.order (graph_of ds) c.args.sync (chain ++ p ∷ rest)) (sym c.deref.ensures.value) shows) (accepted_right disk (chain ++ p ∷ rest) a)
+    (within_directories disk c.args.map.now c.args.places.now c.args.members.now c.args.sync c.requires disk.order c.in_ok-directories.directories.items c.take_pairs.new.map (c.in_ok-directories.ensures.taken disk.order))
 
 pub returns-clause-ok : goal.returns-clause-ok
-returns-clause-ok g c = λ chain p rest known.
-    let disk = disk_on g.D.BlockDevice c.args.device.now in
-    let shows = known_drawn disk c.args.map.now c.args.places.now c.args.members.now c.args.sync chain p rest (graph_of c.in_ok-directories.directories.items) c.take_pairs.new.map known c.in_ok-directories.ensures.taken in
+returns-clause-ok g c = λ order chain p rest known.
+    let disk = ordered order (disk_on g.D.BlockDevice c.args.device.now) in
+    let graph = graph_of order c.in_ok-directories.directories.items in
+    let passes = c.in_ok-directories.ensures.taken order in
+    let shows = known_drawn disk c.args.map.now c.args.places.now c.args.members.now c.args.sync chain p rest graph c.take_pairs.new.map known passes in
+    let right = c.in_ok-orders.ensures.right order (chain ++ p ∷ rest) (subst (λ (ds : List Directory). Shows order (graph_of order ds) c.args.sync (chain ++ p ∷ rest)) (sym c.deref.ensures.value) shows) in
     record {
-      moved = checked_moved disk c.args.map.now c.args.places.now c.args.members.now c.args.sync chain p rest (graph_of c.in_ok-directories.directories.items) c.take_pairs.new.map known c.in_ok-directories.ensures.taken;
-      marked = λ bytes head. checked_blocks disk c.args.map.now c.args.places.now c.args.members.now c.args.sync chain p rest bytes (graph_of c.in_ok-directories.directories.items) c.take_pairs.new.map known head c.in_ok-directories.ensures.taken;
-      accepted = λ bytes head move. checked_accepted disk c.args.map.now c.args.places.now c.args.members.now c.args.sync chain p rest bytes (graph_of c.in_ok-directories.directories.items) c.take_pairs.new.map known head move
-          c.in_ok-directories.ensures.taken
-          (c.in_ok-check_reached.ensures.ok disk.order (chain ++ p ∷ rest) (subst (λ (ds : List Directory). Shows disk.order (graph_of ds) c.args.sync (chain ++ p ∷ rest)) (sym c.deref.ensures.value) shows));
+      moved = checked_moved disk c.args.map.now c.args.places.now c.args.members.now c.args.sync chain p rest graph c.take_pairs.new.map known passes;
+      marked = λ bytes head. checked_blocks disk c.args.map.now c.args.places.now c.args.members.now c.args.sync chain p rest bytes graph c.take_pairs.new.map known head passes;
+      accepted = λ fit bytes head move. checked_accepted disk c.args.map.now c.args.places.now c.args.members.now c.args.sync chain p rest bytes graph c.take_pairs.new.map known head move passes (right.0 fit);
+      refused = λ unfit a. true≢false (sym (right.1 (accepted_right disk (chain ++ p ∷ rest) a)) ∙ unfit);
     }

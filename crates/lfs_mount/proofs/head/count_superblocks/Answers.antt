@@ -3,14 +3,18 @@ use Rattle.std.proofs.lemmas.List.{get_or_default}
 use Rattle.std.proofs.lemmas.Option.{slice_get_read}
 use Rattle.std.proofs.lemmas.Result.{err_from_is_err_and}
 use Rattle.lfs_device.specs.declared.geometry.Geometry.{Geometry}
+use Rattle.lfs_device.specs.Shown.{ordered}
 use Rattle.lfs_thread.specs.Kept.{Header, disk_on, pairs_on}
 use Rattle.lfs_mount.proofs.Heads.{IsWalked, active_within, begun, ends, fails, halts, head_is, last_is, more, passes, refused_first, refused_none, same_block, step_at, within}
+use Rattle.lfs_mount.proofs.InOrders.{has_headers_in}
 use Rattle.lfs_mount.proofs.Told.{same_error, tells_error, tells_ok, then_reads}
 use Rattle.lfs_mount.proofs.head.count_superblocks.Goals as goal
 
 pub returns-in_err-first-clause-corrupt : goal.returns-in_err-first-clause-corrupt
-returns-in_err-first-clause-corrupt g c = λ is a.
-    refused_none (disk_on g.D.BlockDevice c.args.dev.now) (g.D.BlockDevice.history c.args.dev.now) c.args.pairs.now c.requires c.in_err-first.ensures.corrupt.1 a
+returns-in_err-first-clause-corrupt g c = λ is order a.
+    let disk = disk_on g.D.BlockDevice c.args.dev.now in
+    let has = has_headers_in order disk (g.D.BlockDevice.history c.args.dev.now) c.args.pairs.now c.requires in
+    refused_none (ordered order disk) (g.D.BlockDevice.history c.args.dev.now) c.args.pairs.now has c.in_err-first.ensures.corrupt.1 a
 
 pub superblock_at-requires : goal.superblock_at-requires
 superblock_at-requires g c =
@@ -19,10 +23,12 @@ superblock_at-requires g c =
     omega (arith, low, count)
 
 pub returns-in_err-bytes-clause-corrupt : goal.returns-in_err-bytes-clause-corrupt
-returns-in_err-bytes-clause-corrupt g c = λ is a.
+returns-in_err-bytes-clause-corrupt g c = λ is order a.
     let e = err_from_is_err_and c.from_residual-in_err-bytes.result c.from_residual-in_err-bytes.ensures.1 in
-    refused_first (disk_on g.D.BlockDevice c.args.dev.now) (g.D.BlockDevice.history c.args.dev.now) c.args.pairs.now c.requires c.in_ok-first.first c.in_ok-first.ensures.ok c.index-pairs-first.result c.index-pairs-first.is
-    (c.in_err-bytes.ensures.corrupt (ap Err (same_error e.1 e.2 is))) a
+    let disk = disk_on g.D.BlockDevice c.args.dev.now in
+    let has = has_headers_in order disk (g.D.BlockDevice.history c.args.dev.now) c.args.pairs.now c.requires in
+    refused_first (ordered order disk) (g.D.BlockDevice.history c.args.dev.now) c.args.pairs.now has c.in_ok-first.first c.in_ok-first.ensures.ok c.index-pairs-first.result c.index-pairs-first.is
+    (λ bytes s. c.in_err-bytes.ensures.corrupt (ap Err (same_error e.1 e.2 is)) bytes (record { begins = s.begins; struct = s.struct })) a
 
 pub loop-index-init : goal.loop-index-init
 loop-index-init g c = record {
@@ -72,14 +78,16 @@ repeats_at-requires g c =
     omega (arith, small, at, count, same)
 
 pub returns-in_err-repeats_at-clause-corrupt : goal.returns-in_err-repeats_at-clause-corrupt
-returns-in_err-repeats_at-clause-corrupt g c = λ is a.
+returns-in_err-repeats_at-clause-corrupt g c = λ is order a.
+    let disk = disk_on g.D.BlockDevice c.args.dev.now in
+    let has = has_headers_in order disk (g.D.BlockDevice.history c.args.dev.now) c.args.pairs.now c.requires in
     let e = err_from_is_err_and c.from_residual-in_err-repeats_at.result c.from_residual-in_err-repeats_at.ensures.1 in
     let low = c.loop-index.auto.index in
     let this = c.index-pairs-index in
     let next = c.index-pairs-index-in-loop-index-2 in
     let step = step_at c.args.pairs.now c.loop-index.index this.result next.result (omega (arith, low)) c.loop-index-test.true this.is next.is in
     let none = same_block _ _ _ _ _ _ None c.loop-index.invariant.device.same c.deref.ensures.value next.is (c.in_err-repeats_at.ensures.corrupt (ap Err (same_error e.1 e.2 is))) in
-    fails (disk_on g.D.BlockDevice c.args.dev.now) (g.D.BlockDevice.history c.args.dev.now) c.args.pairs.now c.requires c.in_ok-bytes.bytes.items c.loop-index.root c.loop-index.index this.result next.result step c.loop-index.invariant.walked
+    fails (ordered order disk) (g.D.BlockDevice.history c.args.dev.now) c.args.pairs.now has c.in_ok-bytes.bytes.items c.loop-index.root c.loop-index.index this.result next.result step c.loop-index.invariant.walked
     (sym c.leads_on.ensures ∙ c.if-not-leads_on.false) none a
 
 pub returns-in_err-repeats_at-clause-device : goal.returns-in_err-repeats_at-clause-device

@@ -1,7 +1,9 @@
 use Rattle.std.proofs.Common.{◌≡◌, ◌≤◌, ◌+◌, drop, take}
 use Rattle.std.specs.Prelude.{sum_by}
 use Rattle.lfs_device.specs.Calls.{ReadsOnly}
+use Rattle.lfs_device.specs.Shown.{ordered}
 use Rattle.lfs_model.specs.History.{faults, reads}
+use Rattle.lfs_model.specs.declared.order.NameOrder.{NameOrder}
 use Rattle.lfs_thread.specs.Kept.{disk_on}
 use Rattle.lfs_mount.specs.DirectorySeen.{graph_of}
 use Rattle.lfs_mount.specs.KnownSeen.{known_seen}
@@ -11,7 +13,8 @@ use Rattle.lfs_mount.proofs.pass.take_pairs.Given as goal
 
 abbrev pub invariant-loop-member : goal.invariant-loop-member
 invariant-loop-member g l = record {
-  way : IsUnderWay (disk_on g.D.BlockDevice l.initial.device) l.places l.initial.map l.members (graph_of l.directories.items) (known_seen l.known) l.map (drop l.member-index l.members);
+  way : (order : NameOrder)
+      → IsUnderWay (ordered order (disk_on g.D.BlockDevice l.initial.device)) l.places l.initial.map l.members (graph_of order l.directories.items) (known_seen order l.known) l.map (drop l.member-index l.members);
   device : ReadsOnly g.D.BlockDevice l.initial.device l.device;
   quiet : faults (g.D.BlockDevice.history l.device) ≡ faults (g.D.BlockDevice.history l.initial.device);
   few : reads (g.D.BlockDevice.history l.device)

@@ -29,8 +29,8 @@ bounds-directories-index c =
     let at = slice_get_read c.loop-next.found.items _ c.loop-next.next c.index.result.now refl (omega arith) c.index.ensures in
     omega (arith, marked_within c.loop-next.is_found.items c.loop-next.found.items c.loop-next.invariant.marked c.loop-next.next c.index.result.now at, c.loop-next.invariant.len)
 
-pub returns-then-not-directory-clause-corrupt : goal.returns-then-not-directory-clause-corrupt
-returns-then-not-directory-clause-corrupt c = λ is.
+pub returns-then-not-has-clause-corrupt : goal.returns-then-not-has-clause-corrupt
+returns-then-not-has-clause-corrupt c = λ is.
     let at = slice_get_read c.loop-next.found.items _ c.loop-next.next c.index.result.now refl (omega arith) c.index.ensures in
     let within = marked_within c.loop-next.is_found.items c.loop-next.found.items c.loop-next.invariant.marked c.loop-next.next c.index.result.now at in
     let here = slice_get_read c.args.directories.now _ c.index.result.now c.index-directories-index.result refl (omega (arith, within, c.loop-next.invariant.len)) c.index-directories-index.is in (
@@ -38,7 +38,7 @@ returns-then-not-directory-clause-corrupt c = λ is.
       inr (
         c.index.result.now,
         ap (λ xs. slice_get xs c.loop-next.next) (sym c.loop-next.invariant.found) ∙ at,
-        sound_of c.args.directories.now c.index.result.now c.index-directories-index.result here ∙ c.if-not-directory.true,
+        sound_of c.args.order c.args.directories.now c.index.result.now c.index-directories-index.result here ∙ sym c.has.ensures ∙ c.if-not-has.true,
       ),
     )
 
@@ -59,7 +59,7 @@ returns-in_err-find-clause-corrupt c = λ is.
     let p = err_from_is_err_and c.from_residual-in_err-find.result c.from_residual-in_err-find.ensures.1 in
     let twice = c.in_err-find.ensures.twice (ap Err (same_error p.1 p.2 is)) in
     let next = ap (λ xs. c.loop-next.found.items ++ xs) c.deref.ensures.value
-    ∙ branches_found c.args.directories.now c.loop-next.found.items c.loop-next.next c.index.result.now c.index-directories-index.result c.loop-next.invariant.found at here in
+    ∙ branches_found c.args.order c.args.directories.now c.loop-next.found.items c.loop-next.next c.index.result.now c.index-directories-index.result c.loop-next.invariant.found at here in
     (c.loop-next.next + 1, inl (λ distinct. twice (subst (IsDistinct nat_eq) (sym next) distinct)))
 
 pub loop-next-smaller : goal.loop-next-smaller
@@ -72,19 +72,19 @@ loop-next-preserved c =
     let here = slice_get_read c.args.directories.now _ c.index.result.now c.index-directories-index.result refl (omega (arith, within, c.loop-next.invariant.len)) c.index-directories-index.is in
     let joined = c.in_ok-find.ensures.found.found_is ∙ ap (λ xs. c.loop-next.found.items ++ xs) c.deref.ensures.value in
     record {
-      found = joined ∙ branches_found c.args.directories.now c.loop-next.found.items c.loop-next.next c.index.result.now c.index-directories-index.result c.loop-next.invariant.found at here;
+      found = joined ∙ branches_found c.args.order c.args.directories.now c.loop-next.found.items c.loop-next.next c.index.result.now c.index-directories-index.result c.loop-next.invariant.found at here;
       marked = c.in_ok-find.ensures.found.marked;
       len = c.in_ok-find.ensures.found.len ∙ c.loop-next.invariant.len;
-      sound = subst (λ xs. All (λ v. is_sound_at (graph_of c.args.directories.now) v ≡ true) (take (c.loop-next.next + 1) xs)) (sym joined)
-          (next_sound (graph_of c.args.directories.now) c.loop-next.found.items c.index-directories-index.result.branches.items c.loop-next.next c.index.result.now at c.loop-next.invariant.sound
-          (sound_of c.args.directories.now c.index.result.now c.index-directories-index.result here ∙ c.if-not-directory.false));
+      sound = subst (λ xs. All (λ v. is_sound_at (graph_of c.args.order c.args.directories.now) v ≡ true) (take (c.loop-next.next + 1) xs)) (sym joined)
+          (next_sound (graph_of c.args.order c.args.directories.now) c.loop-next.found.items c.index-directories-index.result.branches.items c.loop-next.next c.index.result.now at c.loop-next.invariant.sound
+          (sound_of c.args.order c.args.directories.now c.index.result.now c.index-directories-index.result here ∙ sym c.has.ensures ∙ c.if-not-has.false));
       passed = omega (arith, ap length joined, length-append c.loop-next.found.items c.index-directories-index.result.branches.items);
     }
 
 pub returns-clause-reached : goal.returns-clause-reached
 returns-clause-reached c = record {
   steps = c.loop-next.next;
-  finished = nothing_left c.args.directories.now c.loop-next.is_found.items c.loop-next.found.items c.loop-next.next c.loop-next.invariant.found (omega arith) c.loop-next.invariant.marked c.loop-next.invariant.sound;
+  finished = nothing_left c.args.order c.args.directories.now c.loop-next.is_found.items c.loop-next.found.items c.loop-next.next c.loop-next.invariant.found (omega arith) c.loop-next.invariant.marked c.loop-next.invariant.sound;
   marked = subst (IsMarked c.loop-next.is_found.items) c.loop-next.invariant.found c.loop-next.invariant.marked;
-  len = c.loop-next.invariant.len ∙ sym (length-map c.args.directories.now vertex_of);
+  len = c.loop-next.invariant.len ∙ sym (length-map c.args.directories.now (vertex_of c.args.order));
 }

@@ -1,6 +1,6 @@
 use Rattle.std.proofs.Common.{◌≡◌, ◌∙◌, ◌*◌, ap, arith, length, refl, subst, sym}
 use Rattle.std.proofs.lemmas.List.Elements.{All-nil}
-use Rattle.lfs_excerpt.specs.Blocks.{HaveSize}
+use Rattle.lfs_tool.specs.ExcerptBlocks.{HaveSize}
 use Rattle.lfs_tool.specs.Blocks.{Fills, IsPushed}
 use Rattle.lfs_tool.proofs.BlockReads.{HasRead, comes_closer, grown, has_read_more, has_read_none, lent, pushed_count, read_in_part, read_to_end, read_too_many, sizes_more}
 use Rattle.lfs_tool.proofs.blocks.read_blocks.Goals as goal

@@ -1,7 +1,7 @@
 use Rattle.std.proofs.Common.{subst, sym}
 use Rattle.std.proofs.lemmas.Result.{IfErr-weaker, IfOk-weaker}
 use Rattle.lfs_device.specs.Shown.{disk_of as shown}
-use Rattle.lfs_excerpt.specs.Device.{blocks_of, geometry_of}
+use Rattle.lfs_tool.specs.ExcerptSeen.{blocks_of, geometry_of}
 use Rattle.lfs_tool.specs.Listed.{Refuses}
 use Rattle.lfs_tool.proofs.Excerpts.{kind_not_mounted, lists_by_excerpt, no_image_of_blocks, refuses_by_excerpt}
 use Rattle.lfs_tool.proofs.listing.lines_of_blocks.Goals as goal

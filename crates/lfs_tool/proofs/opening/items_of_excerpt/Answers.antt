@@ -1,5 +1,5 @@
 use Rattle.lfs_device.specs.Shown.{disk_of as shown}
-use Rattle.lfs_excerpt.specs.Device.{blocks_of, geometry_of}
+use Rattle.lfs_tool.specs.ExcerptSeen.{blocks_of, geometry_of}
 use Rattle.lfs_tool.proofs.Mounts.{not_mounted}
 use Rattle.lfs_tool.proofs.opening.items_of_excerpt.Goals as goal
 

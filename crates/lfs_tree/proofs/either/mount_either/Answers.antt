@@ -23,7 +23,7 @@ returns-in-Ok-clause-mounted g c =
     subst (λ (o : NameOrder). IsMountedTree (ordered o disk) (g.D.BlockDevice.history c.args.device) (seen_thread c.read_root.new.thread c.in-Ok.is_writable false))
     (sym (ap (λ (d : Disk). d.order) read.only.disk))
     (mounted_tree (ordered was.kept.disk.order disk) (g.D.BlockDevice.history c.args.device) was c.read_root.new.thread c.in-Ok.root c.in-Ok.is_writable
-    c.in_ok-thread.ensures.mounted read c.in-Ok.ensures.root c.in-Ok.ensures.writable c.in_ok-thread.ensures.called)
+    c.in_ok-thread.ensures.mounted read c.in-Ok.ensures.root c.in-Ok.ensures.writable c.in_ok-thread.ensures.few.called)
 
 pub returns-in-Ok-clause-longer : goal.returns-in-Ok-clause-longer
 returns-in-Ok-clause-longer g c = λ shorter.

@@ -1,0 +1,85 @@
+// A file that is written in pieces of 4 KiB over a session on a device in memory.
+
+use crate::watched::{Counts, Watched};
+use lfs_ctz::blocks_for;
+use lfs_device::{Error, Geometry, RamDevice};
+use lfs_fs::{OpenFlags, Session, format};
+use std::alloc::Global;
+use std::io;
+use std::time::Instant;
+
+const BLOCK: u32 = 4096;
+
+const PIECE: u32 = 4096;
+
+type Writing = Session<Watched<RamDevice>>;
+
+// The bytes that are written again and again.
+fn piece() -> [u8; PIECE as usize] {
+    let mut state = 1u32;
+    let mut piece = [0; PIECE as usize];
+    for byte in piece.iter_mut() {
+        state = state.wrapping_mul(1_103_515_245).wrapping_add(12345);
+        *byte = (state >> 16 & 0xff) as u8;
+    }
+    piece
+}
+
+// A session over an empty file system with room for so many pieces, and a new file.
+fn begun(alloc: Global, pieces: u32) -> Result<(Writing, u32), Error> {
+    let blocks = pieces.saturating_add(pieces / 64).saturating_add(16);
+    let device = RamDevice::blank(alloc, Geometry::new(BLOCK, 256, blocks)?)?;
+    let mut session = format(alloc, Watched::new(device)).map_err(|(_, error)| error)?;
+    let fd = session.open(alloc, b"/file", OpenFlags::WRITE | OpenFlags::CREATE)?;
+    Ok((session, fd))
+}
+
+// Writes the pieces, and closes the file.
+fn write_pieces(alloc: Global, session: &mut Writing, fd: u32, pieces: u32) -> Result<(), Error> {
+    let piece = piece();
+    for _ in 0..pieces {
+        session.write(alloc, fd, &piece)?;
+    }
+    session.close(alloc, fd)
+}
+
+// Whether the file is so many pieces.
+fn has_pieces(alloc: Global, session: &mut Writing, pieces: u32) -> Result<bool, Error> {
+    let piece = piece();
+    let fd = session.open(alloc, b"/file", OpenFlags::READ)?;
+    for _ in 0..pieces {
+        if session.read(alloc, fd, PIECE)?.as_slice() != piece.as_slice() {
+            return Ok(false);
+        }
+    }
+    let is_end = session.read(alloc, fd, PIECE)?.is_empty();
+    Ok(is_end)
+}
+
+fn show_counts(rt: &HostRuntime, pieces: u32, before: Counts, after: Counts) -> io::Result<()> {
+    println!(rt;
+        "{} blocks, {} erases, {} programs, {} of them in turn",
+        blocks_for(BLOCK, pieces.saturating_mul(PIECE)),
+        after.erases.saturating_sub(before.erases),
+        after.programs.saturating_sub(before.programs),
+        after.in_turn.saturating_sub(before.in_turn)
+    )
+}
+
+/// Writes so many pieces. Prints how many blocks the file has, how many erases and programs its writing
+/// and closing took, and whether it is read as it was written; on standard error the nanoseconds
+/// (bench/writes.py judges them).
+pub fn show(rt: &HostRuntime, pieces: u32) -> io::Result<()> {
+    let (mut session, fd) = match begun(rt.alloc(), pieces) {
+        Ok(begun) => begun,
+        Err(error) => return println!(rt; "{error:?}"),
+    };
+    let before = session.device().counts();
+    let start = Instant::now(rt)?;
+    let written = write_pieces(rt.alloc(), &mut session, fd, pieces);
+    let time = start.elapsed(rt)?;
+    show_counts(rt, pieces, before, session.device().counts())?;
+    let is_read = written.is_ok() && has_pieces(rt.alloc(), &mut session, pieces) == Ok(true);
+    println!(rt; "read as written: {is_read}")?;
+    eprintln!(rt; "{}", time.as_nanos())
+}

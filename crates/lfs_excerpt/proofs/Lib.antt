@@ -1,5 +1,0 @@
-pub mod Alike
-pub mod Accepted
-pub mod Listed
-pub mod Padded
-pub mod Calls

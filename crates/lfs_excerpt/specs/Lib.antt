@@ -1,4 +1,0 @@
-pub mod Excerpt
-pub mod Blocks
-pub mod Device
-pub mod Shown

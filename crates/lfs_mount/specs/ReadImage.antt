@@ -1,0 +1,33 @@
+-- A thread that was read, with the orders of names in which its image is accepted.
+use Rattle.std.specs.Prelude.{◌≡◌, ◌≤◌, ◌<◌, ◌+◌, true, false, List}
+use Rattle.lfs_device.specs.Shown.{ordered}
+use Rattle.lfs_model.specs.Disk.{Disk}
+use Rattle.lfs_model.specs.History.{Event, OnlyReads, faults, reads}
+use Rattle.lfs_model.specs.Thread.{Pair}
+use Rattle.lfs_model.specs.View.{IsAccepted}
+use Rattle.lfs_model.specs.declared.order.NameOrder.{NameOrder}
+use Rattle.lfs_thread.specs.Kept.{State}
+use Rattle.lfs_mount.specs.Accepted.{IsMounted}
+use Rattle.lfs_mount.specs.Orders.{has_order}
+use Rattle.lfs_mount.specs.Reads.{mount_reads}
+use Rattle.lfs_mount.specs.declared.orders.Orders.{Orders}
+
+-- the same thread, with its names in that order
+abbrev pub in_order : NameOrder → State → State
+in_order order t = record t { kept = record t.kept { disk = ordered order t.kept.disk } }
+
+-- some reads were made since, and no more than the mount of the image takes
+pub record HasFewReads (disk : Disk) (history : List Event) (t : State) : Type 0 where
+  pub called : reads history < reads t.kept.history
+  pub few : reads t.kept.history ≤ reads history + mount_reads disk t.kept.pairs
+
+-- The thread of a device that was only read, without a fault. Its image is accepted in these orders of names, by few reads, and in
+-- another one none is.
+pub record IsReadImage (disk : Disk) (history : List Event) (t : State) (orders : Orders) : Type 0 where
+  pub works : t.failed ≡ false
+  pub disk_is : t.kept.disk ≡ disk
+  pub reads : OnlyReads disk.blocks history t.kept.history
+  pub no_fault : faults t.kept.history ≡ faults history
+  pub mounted : (order : NameOrder) → has_order order orders ≡ true → IsMounted (ordered order disk) history (in_order order t)
+  pub few : (order : NameOrder) → has_order order orders ≡ true → HasFewReads disk history t
+  pub refused : (order : NameOrder) → has_order order orders ≡ false → (ps : List Pair) → IsAccepted (ordered order disk) ps → ⊥

@@ -1,0 +1,61 @@
+// The orders of names.
+
+ghost use Rattle.std.specs.Prelude.{◌≡◌, ◌&&◌, false, IfSome, None, Some, true};
+ghost use Rattle.lfs_model.specs.declared.order.NameOrder.{NameOrder};
+ghost use Rattle.lfs_model.specs.declared.order.NameOrder.TheVariants.{LongerFirst, ShorterFirst};
+ghost use Rattle.lfs_mount.specs.Orders.{has_order};
+
+use lfs_device::NameOrder;
+
+// In which orders of names something holds.
+#[derive(Clone, Copy, Drop)]
+pub(crate) struct Orders {
+    pub longer_first: bool,
+    pub shorter_first: bool,
+}
+
+impl Orders {
+    // Both orders, or none.
+    pub fn both_or_none(both: bool) -> Orders
+        ensures { (order : NameOrder) → has_order order result ≡ both }
+    {
+        Orders {
+            longer_first: both,
+            shorter_first: both,
+        }
+    }
+
+    pub fn has(self, order: NameOrder) -> bool
+        ensures { result ≡ has_order order self }
+    {
+        match order {
+            NameOrder::LongerFirst => self.longer_first,
+            NameOrder::ShorterFirst => self.shorter_first,
+        }
+    }
+
+    // The orders that are in both.
+    pub fn and(self, other: Orders) -> Orders
+        ensures { (order : NameOrder) → has_order order result ≡ (has_order order self && has_order order other) }
+    {
+        Orders {
+            longer_first: self.longer_first && other.longer_first,
+            shorter_first: self.shorter_first && other.shorter_first,
+        }
+    }
+
+    // The order to take: the longer names first where both hold, as in littlefs's own code.
+    pub fn first(self) -> Option<NameOrder>
+        ensures holds { IfSome result (λ order. has_order order self ≡ true) }
+        ensures longer { result ≡ Some ShorterFirst → has_order LongerFirst self ≡ false }
+        ensures none { result ≡ None → (order : NameOrder) → has_order order self ≡ false }
+    {
+        if self.longer_first {
+            Some(NameOrder::LongerFirst)
+        } else if self.shorter_first {
+            Some(NameOrder::ShorterFirst)
+        } else {
+            None
+        }
+    }
+}

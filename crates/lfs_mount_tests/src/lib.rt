@@ -1,7 +1,0 @@
-//! Tests of mounts.
-#![tactic(auto)]
-
-#[cfg(test)]
-mod checksums;
-#[cfg(test)]
-mod mounts;

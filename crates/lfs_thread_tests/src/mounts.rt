@@ -1,0 +1,188 @@
+// Images of 16 blocks of 1,024 bytes, mounted.
+
+use crate::images::{Entries, block};
+use lfs_device::{Error, FaultDevice, Geometry, RamDevice, Which};
+use lfs_mount::mount;
+use lfs_tag::kinds::{
+    CTZ_STRUCT, DIRECTORY_NAME, DIRECTORY_STRUCT, FILE_NAME, HARD_TAIL, INLINE_STRUCT, MOVE_STATE,
+    SOFT_TAIL, SUPERBLOCK_NAME,
+};
+use std::alloc::Global;
+use std::test::Fail;
+
+// What may stand in a pair: its type, id and bytes.
+type Item = (u16, u16, &'static [u8]);
+
+const NAME: Item = (SUPERBLOCK_NAME, 0, b"littlefs");
+
+// Version 2.0, 16 blocks of 1,024 bytes, and the limits 255, 2,147,483,647 and 1,022.
+const FIELDS: Item = (
+    INLINE_STRUCT,
+    0,
+    b"\x00\x00\x02\x00\x00\x04\x00\x00\x10\x00\x00\x00\xff\x00\x00\x00\xff\xff\xff\x7f\xfe\x03\x00\x00",
+);
+
+// The same with a longest name of 254 bytes.
+const OTHER_FIELDS: Item = (
+    INLINE_STRUCT,
+    0,
+    b"\x00\x00\x02\x00\x00\x04\x00\x00\x10\x00\x00\x00\xfe\x00\x00\x00\xff\xff\xff\x7f\xfe\x03\x00\x00",
+);
+
+// The same with 17 blocks.
+const OTHER_SIZE: Item = (
+    INLINE_STRUCT,
+    0,
+    b"\x00\x00\x02\x00\x00\x04\x00\x00\x11\x00\x00\x00\xff\x00\x00\x00\xff\xff\xff\x7f\xfe\x03\x00\x00",
+);
+
+// A tail to {2, 3}.
+const NEXT: Item = (SOFT_TAIL, 0x3ff, b"\x02\x00\x00\x00\x03\x00\x00\x00");
+
+const GOES_ON: Item = (HARD_TAIL, 0x3ff, b"\x02\x00\x00\x00\x03\x00\x00\x00");
+
+// A directory at {2, 3}, as id 1 and 2.
+const DIRECTORY: Item = (DIRECTORY_NAME, 1, b"d");
+
+const DIRECTORY_AT: Item = (DIRECTORY_STRUCT, 1, b"\x02\x00\x00\x00\x03\x00\x00\x00");
+
+const TWIN: Item = (DIRECTORY_NAME, 2, b"e");
+
+const TWIN_AT: Item = (DIRECTORY_STRUCT, 2, b"\x03\x00\x00\x00\x02\x00\x00\x00");
+
+// A file of 1,025 bytes, whose last block is block 4, as id 0 and 1.
+const FIRST: Item = (FILE_NAME, 0, b"f");
+
+const FIRST_AT: Item = (CTZ_STRUCT, 0, b"\x04\x00\x00\x00\x01\x04\x00\x00");
+
+const FILE: Item = (FILE_NAME, 1, b"f");
+
+const FILE_AT: Item = (CTZ_STRUCT, 1, b"\x04\x00\x00\x00\x01\x04\x00\x00");
+
+// A file of a byte in block 5, as id 2.
+const SHARING: Item = (FILE_NAME, 2, b"g");
+
+const SHARING_AT: Item = (CTZ_STRUCT, 2, b"\x05\x00\x00\x00\x01\x00\x00\x00");
+
+// An empty file whose name comes before the others, as id 2.
+const EARLY: Item = (FILE_NAME, 2, b"a");
+
+const EARLY_AT: Item = (INLINE_STRUCT, 2, b"");
+
+// A move of id 1 and of id 2 of {0, 1}.
+const MOVE: Item = (
+    MOVE_STATE,
+    0x3ff,
+    b"\x00\x04\xf0\x4f\x01\x00\x00\x00\x00\x00\x00\x00",
+);
+
+const MOVE_OF_NONE: Item = (
+    MOVE_STATE,
+    0x3ff,
+    b"\x00\x08\xf0\x4f\x00\x00\x00\x00\x01\x00\x00\x00",
+);
+
+const SYNC: Item = (
+    MOVE_STATE,
+    0x3ff,
+    b"\x00\x00\x00\x80\x00\x00\x00\x00\x00\x00\x00\x00",
+);
+
+/// How many blocks are used once a device is mounted whose first block begins so, and whose third one too.
+/// Its read of that number fails, if it has one. Block 4 points to block 5, as the second block of a list
+/// does to the first; all else is 0xff.
+pub fn used(alloc: Global, first: &[u8], third: &[u8], nth: u64) -> Result<u32, Error> {
+    let mut bytes = Vec::from_slice(alloc, first)?;
+    bytes.resize(2048, 0xff)?;
+    bytes.extend_from_slice(third)?;
+    bytes.resize(4096, 0xff)?;
+    bytes.extend_from_slice(&[5, 0, 0, 0])?;
+    bytes.resize(16384, 0xff)?;
+    let ram = RamDevice::from_bytes(Geometry::new(1024, 128, 16)?, bytes)?;
+    match mount(alloc, FaultDevice::new(ram, Which::Read, nth, false)) {
+        Ok(thread) => Ok(thread.into_parts().map.used_count()),
+        Err((_, error)) => Err(error),
+    }
+}
+
+// What stands in the pair {0, 1}, and in {2, 3} if there is one.
+type Image = (Entries<'static>, Option<Entries<'static>>);
+
+fn used_of(alloc: Global, image: Image, nth: u64) -> Result<u32, Error> {
+    let first = block(alloc, 1024, 128, image.0)?;
+    let third = match image.1 {
+        Some(entries) => block(alloc, 1024, 128, entries)?,
+        None => Vec::new(alloc),
+    };
+    used(alloc, first.as_slice(), third.as_slice(), nth)
+}
+
+const CORRUPT: Result<u32, Error> = Err(Error::Corrupt);
+
+const IMAGES: [(Image, Result<u32, Error>); 16] = [
+    ((&[NAME, FIELDS], None), Ok(2)),
+    ((&[NAME, FIELDS, FILE, FILE_AT], None), Ok(4)),
+    (
+        (&[NAME, FIELDS, DIRECTORY, DIRECTORY_AT, NEXT], Some(&[])),
+        Ok(4),
+    ),
+    (
+        (
+            &[NAME, FIELDS, GOES_ON],
+            Some(&[NAME, FIELDS, FILE, FILE_AT]),
+        ),
+        Ok(6),
+    ),
+    ((&[NAME, FIELDS, GOES_ON], Some(&[FIRST, FIRST_AT])), Ok(6)),
+    ((&[NAME, FIELDS, FILE, FILE_AT, MOVE], None), Ok(2)),
+    ((&[NAME, FIELDS, NEXT, SYNC], Some(&[])), Ok(4)),
+    // no superblock, one of another size, one that goes on with another struct, names that don't rise
+    ((&[FIRST, FIRST_AT], None), CORRUPT),
+    ((&[NAME, OTHER_SIZE], None), CORRUPT),
+    (
+        (&[NAME, FIELDS, GOES_ON], Some(&[NAME, OTHER_FIELDS])),
+        CORRUPT,
+    ),
+    (
+        (&[NAME, FIELDS, FILE, FILE_AT, EARLY, EARLY_AT], None),
+        CORRUPT,
+    ),
+    // a directory twice, one that isn't there, one that isn't reached
+    (
+        (
+            &[NAME, FIELDS, DIRECTORY, DIRECTORY_AT, TWIN, TWIN_AT, NEXT],
+            Some(&[]),
+        ),
+        CORRUPT,
+    ),
+    ((&[NAME, FIELDS, DIRECTORY, DIRECTORY_AT], None), CORRUPT),
+    ((&[NAME, FIELDS, NEXT], Some(&[])), CORRUPT),
+    // a block in two lists, and a move of no slot
+    (
+        (&[NAME, FIELDS, FILE, FILE_AT, SHARING, SHARING_AT], None),
+        CORRUPT,
+    ),
+    (
+        (&[NAME, FIELDS, FILE, FILE_AT, MOVE_OF_NONE], None),
+        CORRUPT,
+    ),
+];
+
+const READ: Image = (
+    &[NAME, FIELDS, DIRECTORY, DIRECTORY_AT, NEXT],
+    Some(&[FIRST, FIRST_AT]),
+);
+
+#[test]
+fn images_are_mounted(rt: HostRuntime) -> Result<(), Fail> {
+    for (number, (image, answer)) in IMAGES.iter().enumerate() {
+        assert!(rt; used_of(rt.alloc(), *image, 0) == *answer, "{number}");
+    }
+    // Each read in turn fails: both blocks of two pairs, the superblock, the slots of two pairs, and
+    // the pointer of a list of two blocks. There is no ninth one.
+    for nth in 1..=9 {
+        let answer = if nth < 9 { Err(Error::Io) } else { Ok(6) };
+        assert!(rt; used_of(rt.alloc(), READ, nth) == answer, "{nth}");
+    }
+    Ok(())
+}

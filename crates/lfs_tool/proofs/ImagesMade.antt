@@ -1,0 +1,146 @@
+-- From a run of a source's operations to the image that it leaves.
+use Rattle.std.proofs.Common.{ℕ, ◌≡◌, ◌∙◌, ◌≤◌, ◌+◌, ◌*◌, ◌/◌, ◌%◌, List, [], ◌∷◌, length, Option, Some, None, ap, ap₂, arith, refl, subst, sym, flat_map}
+use Rattle.std.specs.Prelude.{Err, IfErr, IfSome, IsErrAnd, Ok, Result, ◌≢◌}
+use Rattle.lfs_device.specs.declared.error.Error.{Error}
+use Rattle.lfs_device.specs.declared.error.Error.TheVariants.{NoMemory}
+use Rattle.std.proofs.lemmas.Nat.{div-mul-add, mod-mul-add}
+use Rattle.lfs_device.specs.RamDevice.{blocks_of, bytes_of, geometry_of}
+use Rattle.lfs_device.specs.Shown as device
+use Rattle.lfs_device.specs.declared.geometry.Geometry.{Geometry}
+use Rattle.lfs_device.specs.declared.ram.RamDevice.{RamDevice}
+use Rattle.lfs_model.specs.Blocks.{cut}
+use Rattle.lfs_model.specs.Content.{content_at}
+use Rattle.lfs_model.specs.Disk.{Disk, SameGeometry, block_count, disk_of}
+use Rattle.lfs_model.specs.Fresh.{IsFresh, empty_tree}
+use Rattle.lfs_model.specs.Geometry.{IsGeometry}
+use Rattle.lfs_model.specs.Headline.{IsSettled, IsTrue, session_after_all}
+use Rattle.lfs_model.specs.Operations.{Operation, Reply}
+use Rattle.lfs_model.specs.Run.{AreTurns, Moment}
+use Rattle.lfs_model.specs.Session.{Session}
+use Rattle.lfs_model.specs.Source.{IsTreeOf, Source}
+use Rattle.lfs_model.specs.State.{HasFailed, Healthy, State, mounted}
+use Rattle.lfs_model.specs.View.{IsAccepted}
+use Rattle.lfs_model.specs.Profile.{IsWritable}
+use Rattle.lfs_model.specs.Shown.{tree_in}
+use Rattle.lfs_model.proofs.Cuts.{length-cut}
+use Rattle.lfs_model.proofs.Kept.{fresh_defined, fresh_settled, fresh_true}
+use Rattle.lfs_model.proofs.Uniqueness.{one_thread}
+use Rattle.lfs_fs.specs.Held.{Held, moment_of}
+use Rattle.lfs_tool_folders.specs.Entries.{AreAll}
+use Rattle.lfs_tool_folders.specs.declared.entries.Entry.{Entry}
+use Rattle.lfs_tool.specs.Carried.{AreCarried, IsFirstRefusal, operations_of, operations_of_all}
+use Rattle.lfs_tool.specs.Made.{AreLeft, Begins, IsMade, IsRefused}
+use Rattle.lfs_tool.proofs.Growing.{carried_tree, tree_after}
+use Rattle.lfs_tool.proofs.Refusing.{IsFromFresh, anywhere, comes, has_carried}
+
+-- ---- the geometry
+
+pub begins : (g : Geometry) (d : RamDevice) (h : Held) → geometry_of d ≡ g → IsFresh h.tree.disk → (moment_of h).state ≡ Healthy (mounted empty_tree) → SameGeometry (device.ordered g.order (device.disk_of (geometry_of d) (blocks_of d))) h.tree.disk
+    → Begins g (moment_of h)
+begins g d h is fresh state same = record {
+  fresh = fresh;
+  block_size = same.block_size ∙ ap (λ (x : Geometry). x.block_size) is;
+  page = same.page ∙ ap (λ (x : Geometry). x.page) is;
+  order = same.order;
+  count = same.count ∙ length-cut (geometry_of d).block_size (geometry_of d).block_count (bytes_of d) ∙ ap (λ (x : Geometry). x.block_count) is;
+  mounts = state;
+}
+
+turns_geometry : (operations : List Operation) (replies : List Reply) (a b : Moment) → AreTurns a operations replies b → SameGeometry a.disk b.disk
+turns_geometry [] [] a b e = subst (λ (m : Moment). SameGeometry a.disk m.disk) e (record { block_size = refl; page = refl; order = refl; count = refl })
+turns_geometry [] (reply ∷ replies) a b e = absurd e
+turns_geometry (op ∷ operations) [] a b e = absurd e
+turns_geometry (op ∷ operations) (reply ∷ replies) a b (next, (turn, rest)) =
+    let s = turns_geometry operations replies next b rest in
+    let t = turn.geometry in
+    record { block_size = s.block_size ∙ t.block_size; page = s.page ∙ t.page; order = s.order ∙ t.order; count = s.count ∙ t.count }
+
+count_of : (size count : ℕ) (bytes : List ℕ) → 1 ≤ size → length bytes ≡ size * count → length bytes / size ≡ count
+count_of size count bytes some e =
+    let turned : length bytes ≡ count * size + 0 = omega (arith, e) in
+    ap (λ n. n / size) turned ∙ div-mul-add count size 0 (omega (arith, some))
+
+whole_of : (size count : ℕ) (bytes : List ℕ) → 1 ≤ size → length bytes ≡ size * count → length bytes % size ≡ 0
+whole_of size count bytes some e =
+    let turned : length bytes ≡ count * size + 0 = omega (arith, e) in
+    ap (λ n. n % size) turned ∙ mod-mul-add count size 0 (omega (arith, some))
+
+some_bytes : (g : Geometry) → 1 ≤ g.block_size
+some_bytes g = let least : 1024 ≤ g.block_size = g.valid.no_smaller in omega (arith, least)
+
+-- what the run left in the device
+pub left : (g : Geometry) (from to : Moment) (es : List Entry) (d : RamDevice) (bytes : List ℕ) → Begins g from → AreCarried from (operations_of_all es) to
+    → device.ordered to.disk.order (device.disk_of (geometry_of d) (blocks_of d)) ≡ to.disk
+    → bytes ≡ bytes_of d → AreLeft g es bytes
+left g from to es d bytes b c shown is =
+    let same = turns_geometry (operations_of_all es) c.replies from to c.turns in
+    let size : (geometry_of d).block_size ≡ g.block_size = ap (λ (k : Disk). k.block_size) shown ∙ same.block_size ∙ b.block_size in
+    let page : (geometry_of d).page ≡ g.page = ap (λ (k : Disk). k.page) shown ∙ same.page ∙ b.page in
+    let order : to.disk.order ≡ g.order = same.order ∙ b.order in
+    let count : (geometry_of d).block_count ≡ g.block_count = sym (length-cut (geometry_of d).block_size (geometry_of d).block_count (bytes_of d)) ∙ ap block_count shown ∙ same.count ∙ b.count in
+    let len : length bytes ≡ g.block_size * g.block_count = ap length is ∙ d.size ∙ ap₂ (λ x y. x * y) size count in
+    let blocks : (geometry_of d).block_count ≡ length bytes / g.block_size = count ∙ sym (count_of g.block_size g.block_count bytes (some_bytes g) len) in
+    record {
+      from = from;
+      begins = b;
+      to = to;
+      carried = c;
+      len = len;
+      disk = sym shown ∙ (λ j. record { block_size = size j; page = page j; order = order j; blocks = cut (size j) (geometry_of d).block_count (bytes_of d) })
+          ∙ ap₂ (λ n xs. record { block_size = g.block_size; page = g.page; order = g.order; blocks = cut g.block_size n xs }) blocks (sym is);
+    }
+
+-- ---- the image
+
+same_session : (s t : Session) → Healthy s ≡ Healthy t → s ≡ t
+same_session s t e = ap or_else e
+  where
+    or_else : State → Session
+    or_else HasFailed = s
+    or_else (Healthy z) = z
+
+pub made : (g : Geometry) (known : Option Source) (es : List Entry) (bytes : List ℕ) → AreAll known es → AreLeft g es bytes → IsMade g known bytes
+made g known es bytes all l = record {
+  len = l.len;
+  image = record {
+    geometry = subst (IsGeometry g.block_size g.page) (sym (count_of g.block_size g.block_count bytes (some_bytes g) l.len)) g.valid;
+    whole = whole_of g.block_size g.block_count bytes (some_bytes g) l.len;
+  };
+  pairs = s.pairs;
+  accepted = subst (λ k. IsAccepted k s.pairs) l.disk s.accepted;
+  writable = subst (λ k. IsWritable k s.pairs) l.disk s.writable;
+  gstate = s.recovered.gstate;
+  tree = shows known all;
+}
+  where
+    f : IsFromFresh l.from
+    f = record { fresh = l.begins.fresh; mounts = l.begins.mounts }
+
+    s : IsSettled l.to.disk
+    s = fresh_settled (operations_of_all es) l.carried.replies l.to (comes l.from l.to (operations_of_all es) (record { fresh = l.begins.fresh; mounts = l.begins.mounts }) l.carried)
+
+    t : IsTrue l.to
+    t = fresh_true (operations_of_all es) l.carried.replies l.to (comes l.from l.to (operations_of_all es) (record { fresh = l.begins.fresh; mounts = l.begins.mounts }) l.carried)
+
+    after : t.session ≡ session_after_all anywhere (mounted empty_tree) (flat_map operations_of es) l.carried.replies
+    after = same_session t.session (session_after_all anywhere (mounted empty_tree) (flat_map operations_of es) l.carried.replies)
+        (sym t.healthy ∙ fresh_defined (operations_of_all es) l.carried.replies l.to anywhere (comes l.from l.to (operations_of_all es) (record { fresh = l.begins.fresh; mounts = l.begins.mounts }) l.carried))
+
+    shows : (k : Option Source) → AreAll k es → IfSome k (λ src. IsTreeOf src (tree_in (disk_of g.block_size g.page g.order bytes) s.pairs))
+    shows None a = tt
+    shows (Some src) a =
+        let whole = carried_tree src es a in
+        let one = one_thread (content_at l.to.disk) (block_count l.to.disk) s.pairs t.shows.0 s.accepted.thread t.shows.1.0.thread in
+        let tree : tree_in l.to.disk s.pairs ≡ tree_after es empty_tree =
+        ap (tree_in l.to.disk) one ∙ sym t.shows.1.1 ∙ ap (λ (x : Session). x.tree) after ∙ (has_carried l.from l.to es (record { fresh = l.begins.fresh; mounts = l.begins.mounts }) l.carried).tree whole.new in
+        subst (IsTreeOf src) (sym tree ∙ ap (λ k. tree_in k s.pairs) l.disk) whole.tree
+
+-- ---- what is passed on
+
+pub refused : {X : Type 0} (r : Result X Error) (e : Error) (g : Geometry) (from : Moment) (es : List Entry) → IsErrAnd r (λ f. f ≡ e) → Begins g from → (e ≢ NoMemory → IsFirstRefusal from (operations_of_all es) e)
+    → IfErr r (λ f. f ≢ NoMemory → IsRefused g es f)
+refused (Ok x) e g from es is b h = tt
+refused (Err f) e g from es is b h = λ other. record { from = from; begins = b; first = subst (IsFirstRefusal from (operations_of_all es)) (sym is) (h (λ x. other (is ∙ x))) }
+
+pub passed : (g : Geometry) (es slice : List Entry) (image written : List ℕ) → slice ≡ es → written ≡ image → AreLeft g slice image → AreLeft g es written
+passed g es slice image written same is l = subst (λ xs. AreLeft g es xs) (sym is) (subst (λ xs. AreLeft g xs image) same l)

@@ -1,0 +1,173 @@
+-- What the operations of entries make of a session, where each is accepted.
+use Rattle.std.proofs.Common.{ℕ, ◌≡◌, ◌∙◌, ◌+◌, ◌++◌, Bool, true, false, cond, List, [], ◌∷◌, length, Option, Some, None, drop, is_none, refl, sym, ap, ap₂, subst, append-nil, flat_map, option_map}
+use Rattle.std.proofs.Math.Seq.{drop-nil}
+use Rattle.std.proofs.lemmas.Option.{same_Some}
+use Rattle.lfs_model.specs.TreeEdits.{added, bytes_at, change_at, same_path}
+use Rattle.lfs_model.specs.Listing.{new_file_flags, operations_for}
+use Rattle.lfs_model.specs.Operations as ops
+use Rattle.lfs_model.specs.Operations.{Operation, Refusal, Reply}
+use Rattle.lfs_model.specs.Session.{Files, Session, Surroundings, Writer, Writing, free_number}
+use Rattle.lfs_model.specs.Writers.{after_write, opened_writer}
+use Rattle.lfs_model.specs.Effects.{applied, committed, effect_of, reply_or, with_bytes}
+use Rattle.lfs_model.specs.Refusals.{as_path, refusal_of}
+use Rattle.lfs_model.specs.State.{Healthy, State, answered_in}
+use Rattle.lfs_model.specs.Tree.{Path, FileNode, DirectoryNode, Tree}
+use Rattle.lfs_model.specs.Run.{AreTurns, IsTurn, Moment, is_refusal}
+use Rattle.lfs_model.specs.Headline.{session_after_all}
+use Rattle.lfs_model.proofs.Counts.{Each}
+use Rattle.lfs_tool_folders.specs.InMemory.{items_by}
+use Rattle.lfs_tool_folders.specs.declared.entries.Entry.{Entry}
+use Rattle.lfs_tool.specs.Carried.{AreClosed, node_by, operations_of}
+use Rattle.lfs_tool.proofs.Growing.{AreNew, grown, tree_after}
+
+pub first_is_free : (files : Files) → AreClosed files → free_number files ≡ 0
+first_is_free [] h = refl
+first_is_free (None ∷ []) h = refl
+first_is_free (None ∷ f ∷ fs) h = absurd h
+first_is_free (Some o ∷ fs) h = absurd h
+
+abbrev with_files : Tree → Files → Session
+with_files t files = record { tree = t; files = files }
+
+abbrev Accepted : List Reply → Type 0
+Accepted replies = Each (λ r. is_refusal r ≡ false) replies
+
+-- ---- a file
+
+abbrev opened : Tree → Path → Writer
+opened t p = opened_writer p new_file_flags (bytes_at (t p))
+
+-- the tree once the file is there, and once its bytes are
+abbrev tree_opened : Tree → Path → Tree
+tree_opened t p = cond (is_none (t p)) (added p (FileNode [] []) t) t
+
+abbrev tree_closed : Tree → Path → List ℕ → Tree
+tree_closed t p bytes = committed (Some (Writing (after_write (opened t p) bytes))) (tree_opened t p)
+
+changed_added : (p : Path) (bytes : List ℕ) (t : Tree) → change_at p (with_bytes bytes) (added p (FileNode [] []) t) ≡ added p (FileNode [] bytes) t
+changed_added p bytes t = λ i q. at q i
+  where
+    at : (q : Path) → change_at p (with_bytes bytes) (added p (FileNode [] []) t) q ≡ added p (FileNode [] bytes) t q
+    at q = go (same_path p q) _
+      where
+        go : (b : Bool) (rest : Option _) → cond b (option_map (with_bytes bytes) (cond b (Some (FileNode [] [])) rest)) (cond b (Some (FileNode [] [])) rest) ≡ cond b (Some (FileNode [] bytes)) rest
+        go true rest = refl
+        go false rest = refl
+
+file_comes : (t : Tree) (p : Path) (bytes : List ℕ) → t p ≡ None → tree_closed t p bytes ≡ added p (FileNode [] bytes) t
+file_comes t p [] e = ap (λ o. cond (is_none o) (added p (FileNode [] []) t) t) e
+file_comes t p (b ∷ bytes) e =
+    ap₂ (λ c (u : Tree). change_at p (with_bytes c) u) all (ap (λ o. cond (is_none o) (added p (FileNode [] []) t) t) e) ∙ changed_added p (b ∷ bytes) t
+  where
+    all : (after_write (opened t p) (b ∷ bytes)).contents ≡ b ∷ bytes
+    all = ap (λ o. b ∷ (bytes ++ drop (0 + length (b ∷ bytes)) (bytes_at o))) e ∙ ap (λ xs. b ∷ (bytes ++ xs)) (drop-nil (0 + length (b ∷ bytes))) ∙ ap (λ xs. b ∷ xs) (append-nil bytes)
+
+-- ---- an entry
+
+-- The operations of an entry are done, and more follow.
+record HasStepped (around : Surroundings) (path : List ℕ) (o : Option (List ℕ)) (more : List Operation) (t : Tree) (files : Files) (replies : List Reply) (to : Moment) : Type 0 where
+  tree : Tree
+  left_open : Files
+  left : List Reply
+  between : Moment
+  turns : AreTurns between more left to
+  accepted : Accepted left
+  closed : AreClosed left_open
+  is : session_after_all around (with_files t files) (operations_for path (node_by o) ++ more) replies ≡ session_after_all around (with_files tree left_open) more left
+  comes : t (as_path path) ≡ None → tree ≡ added (as_path path) (node_by o) t
+
+-- an accepted operation has its effect
+accepted_effect : (around : Surroundings) (s : Session) (op : Operation) (reply : Reply) (more : List Operation) (left : List Reply) → is_refusal reply ≡ false
+    → session_after_all around (cond (is_refusal reply) s (effect_of around s op).1) more left ≡ session_after_all around (effect_of around s op).1 more left
+accepted_effect around s op reply more left e = ap (λ b. session_after_all around (cond b s (effect_of around s op).1) more left) e
+
+folder_stepped : (around : Surroundings) (path : List ℕ) (more : List Operation) (t : Tree) (files : Files) (replies : List Reply) (from to : Moment) → AreClosed files → Accepted replies
+    → AreTurns from (ops.Mkdir path ∷ more) replies to → HasStepped around path None more t files replies to
+folder_stepped around path more t files [] from to closed accepted h = absurd h
+folder_stepped around path more t files (reply ∷ left) from to closed accepted (between, (turn, rest)) = record {
+  tree = added (as_path path) (DirectoryNode [] []) t;
+  left_open = files;
+  left = left;
+  between = between;
+  turns = rest;
+  accepted = accepted.1;
+  closed = closed;
+  is = accepted_effect around (with_files t files) (ops.Mkdir path) reply more left accepted.0;
+  comes = λ e. refl;
+}
+
+abbrev file_effect : Surroundings → List ℕ → List ℕ → Session → Session
+file_effect around path bytes s =
+    (effect_of around (effect_of around (effect_of around s (ops.Open path new_file_flags)).1 (ops.Write 0 bytes)).1 (ops.Close 0)).1
+
+file_effect_is : (around : Surroundings) (path bytes : List ℕ) (t : Tree) (files : Files) → AreClosed files → file_effect around path bytes (with_files t files) ≡ with_files (tree_closed t (as_path path) bytes) (None ∷ [])
+file_effect_is around path bytes t [] h = refl
+file_effect_is around path bytes t (None ∷ []) h = refl
+file_effect_is around path bytes t (None ∷ f ∷ fs) h = absurd h
+file_effect_is around path bytes t (Some o ∷ fs) h = absurd h
+
+file_stepped : (around : Surroundings) (path bytes : List ℕ) (more : List Operation) (t : Tree) (files : Files) (replies : List Reply) (from to : Moment) → AreClosed files → Accepted replies
+    → AreTurns from (ops.Open path new_file_flags ∷ ops.Write 0 bytes ∷ ops.Close 0 ∷ more) replies to → HasStepped around path (Some bytes) more t files replies to
+file_stepped around path bytes more t files [] from to closed accepted h = absurd h
+file_stepped around path bytes more t files (a ∷ []) from to closed accepted (one, (turn, h)) = absurd h
+file_stepped around path bytes more t files (a ∷ b ∷ []) from to closed accepted (one, (turn, (two, (next, h)))) = absurd h
+file_stepped around path bytes more t files (a ∷ b ∷ c ∷ left) from to closed accepted (one, (turn, (two, (next, (three, (last, rest)))))) =
+    let s = with_files t files in
+    let s1 = (effect_of around s (ops.Open path new_file_flags)).1 in
+    let s2 = (effect_of around s1 (ops.Write 0 bytes)).1 in
+    record {
+      tree = tree_closed t (as_path path) bytes;
+      left_open = None ∷ [];
+      left = left;
+      between = three;
+      turns = rest;
+      accepted = accepted.1.1.1;
+      closed = tt;
+      is = accepted_effect around s (ops.Open path new_file_flags) a (ops.Write 0 bytes ∷ ops.Close 0 ∷ more) (b ∷ c ∷ left) accepted.0
+          ∙ accepted_effect around s1 (ops.Write 0 bytes) b (ops.Close 0 ∷ more) (c ∷ left) accepted.1.0
+          ∙ accepted_effect around s2 (ops.Close 0) c more left accepted.1.1.0
+          ∙ ap (λ z. session_after_all around z more left) (file_effect_is around path bytes t files closed);
+      comes = file_comes t (as_path path) bytes;
+    }
+
+stepped : (around : Surroundings) (path : List ℕ) (o : Option (List ℕ)) (more : List Operation) (t : Tree) (files : Files) (replies : List Reply) (from to : Moment) → AreClosed files → Accepted replies
+    → AreTurns from (operations_for path (node_by o) ++ more) replies to → HasStepped around path o more t files replies to
+stepped around path None more = folder_stepped around path more
+stepped around path (Some bytes) more = file_stepped around path bytes more
+
+-- ---- entries in turn
+
+pub record HasCarried (s : Session) (es : List Entry) (t : Tree) : Type 0 where
+  pub closed : AreClosed s.files
+  pub tree : AreNew es t → s.tree ≡ tree_after es t
+
+pub carried_from : (around : Surroundings) (es : List Entry) (t : Tree) (files : Files) (replies : List Reply) (from to : Moment) → AreClosed files → Accepted replies
+    → AreTurns from (flat_map operations_of es) replies to → HasCarried (session_after_all around (with_files t files) (flat_map operations_of es) replies) es t
+carried_from around [] t files [] from to closed accepted h = record { closed = closed; tree = λ e. refl }
+carried_from around [] t files (reply ∷ replies) from to closed accepted h = absurd h
+carried_from around (e ∷ es) t files replies from to closed accepted h =
+    let k = stepped around e.path.items (items_by e.bytes) (flat_map operations_of es) t files replies from to closed accepted h in
+    let c = carried_from around es k.tree k.left_open k.left k.between to k.closed k.accepted k.turns in
+    record {
+      closed = subst (λ (s : Session). AreClosed s.files) (sym k.is) c.closed;
+      tree = λ new.
+          let one : k.tree ≡ grown e t = k.comes new.0 in
+          ap (λ (s : Session). s.tree) k.is ∙ c.tree (subst (AreNew es) (sym one) new.1) ∙ ap (tree_after es) one;
+    }
+
+-- ---- the number of the file
+
+number_in : (around : Surroundings) (s : Session) (path : List ℕ) (fd : ℕ) (r : Option Refusal) → (reply_or r s (effect_of around s (ops.Open path new_file_flags))).0 ≡ ops.Opened fd → free_number s.files ≡ fd
+number_in around s path fd None e = ap number e
+  where
+    number : Reply → ℕ
+    number (ops.Opened n) = n
+    number _ = 0
+number_in around s path fd (Some error) e = absurd (cc)
+
+pub opened_first : (from to : Moment) (s : Session) (path : List ℕ) (fd : ℕ) → from.state ≡ Healthy s → AreClosed s.files → IsTurn from (ops.Open path new_file_flags) (ops.Opened fd) to → fd ≡ 0
+opened_first from to s path fd state closed turn =
+    let a = turn.answered in
+    let e : answered_in a.around (Healthy s) (ops.Open path new_file_flags) ≡ (Some (ops.Opened fd), to.state) = ap (λ z. answered_in a.around z (ops.Open path new_file_flags)) (sym state) ∙ a.answers in
+    let reply : (applied a.around s (ops.Open path new_file_flags)).0 ≡ ops.Opened fd = same_Some _ _ (ap (λ (z : Option Reply × State). z.0) e) in
+    sym (number_in a.around s path fd (refusal_of a.around s (ops.Open path new_file_flags)) reply) ∙ first_is_free s.files closed

@@ -1,0 +1,27 @@
+use Rattle.std.proofs.Common.{◌∙◌, ap, ap₂, arith, length, subst, sym, take}
+use Rattle.std.proofs.lemmas.List.{take_all}
+use Rattle.lfs_tool.specs.Excerpt.{IsBlockExcerpt, padded}
+use Rattle.lfs_tool.proofs.Padded.{cut_excerpt, kept_cut, kept_whole, whole_excerpt}
+use Rattle.lfs_tool.proofs.cutter.Cutter.cut.Goals as goal
+use Rattle.lfs_tool.proofs.cutter.Cutter.cut.Goals.{then-keeps_whole, else-keeps_whole}
+
+pub returns-clause-excerpt : goal.returns-clause-excerpt
+returns-clause-excerpt c =
+    let block = c.args.block.now in
+    let kept = c.in_ok-bytes.bytes.items in
+    let shown = ap₂ padded c.new.ensures.size (ap (λ v. v.items) c.new.ensures.bytes) in
+    subst (IsBlockExcerpt block) (sym shown) (elim c.if-keeps_whole.branch [
+      | then-keeps_whole w ↦ whole_excerpt block kept (c.in_ok-bytes.ensures.items ∙ ap (λ k. take k block) w.len-is ∙ take_all (length block) block (omega arith))
+      | else-keeps_whole w ↦ cut_excerpt block kept (c.in_ok-bytes.ensures.items ∙ ap (λ k. take k block) w.len-is) (omega (arith, c.requires, c.args.self.now.room)) (sym w.if-keeps_whole.ensures.is)
+    ])
+
+pub returns-clause-sizes : goal.returns-clause-sizes
+returns-clause-sizes c =
+    let block = c.args.block.now in
+    let kept = c.in_ok-bytes.bytes.items in (
+      c.new.ensures.size,
+      ap (λ v. length v.items) c.new.ensures.bytes ∙ elim c.if-keeps_whole.branch [
+        | then-keeps_whole w ↦ kept_whole block kept (c.in_ok-bytes.ensures.items ∙ ap (λ k. take k block) w.len-is ∙ take_all (length block) block (omega arith)) (sym w.if-keeps_whole.ensures.is)
+        | else-keeps_whole w ↦ kept_cut block kept (c.in_ok-bytes.ensures.items ∙ ap (λ k. take k block) w.len-is) (omega (arith, c.requires, c.args.self.now.room)) (sym w.if-keeps_whole.ensures.is)
+      ],
+    )

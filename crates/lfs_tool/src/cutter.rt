@@ -1,0 +1,79 @@
+ghost use Rattle.std.specs.Prelude.{◌≡◌, ◌≤◌, ◌-◌, ◌++◌, drop, length, replicate, IfErr};
+
+use crate::BlockExcerpt;
+use lfs_device::Error;
+use lfs_tag::Log;
+use std::alloc::Global;
+
+// No less than what the pointers of a skip list's block take: the definitions allow 33 of four bytes,
+// and on 65,536 blocks there are at most 16.
+const POINTER_BYTES: usize = 132;
+
+/// Cuts blocks of one size down to what a listing needs of them.
+#[derive(Drop)]
+pub struct Cutter {
+    // A block's first bytes, and then 0xff.
+    padded: Vec<u8>,
+    ghost room: { 132 ≤ length padded.items },
+    ghost erased: { drop 132 padded.items ≡ replicate (length padded.items - 132) 255 },
+}
+
+impl Cutter {
+    ghost use Rattle.std.specs.Prelude.{◌≡◌, IfOk};
+    ghost use Rattle.lfs_tool.specs.ExcerptBlocks.{block_shown};
+    ghost use Rattle.lfs_tool.specs.ExcerptSeen.{size_of};
+    ghost use Rattle.lfs_tool.specs.Excerpt.{IsBlockExcerpt, is_kept_whole, kept_bytes};
+
+    /// For blocks of so many bytes, 132 at least. `NoMemory` where its room isn't granted.
+    pub fn new(alloc: Global, block_size: usize) -> Result<Cutter, Error>
+        requires { 132 ≤ block_size }
+        ensures size { IfOk result (λ c. size_of c ≡ block_size) }
+        ensures err { IfErr result (λ e. e ≡ Error.NoMemory) }
+    {
+        let padded = Vec::from_elem(alloc, 0xffu8, block_size)?;
+        Ok(Cutter { padded })
+    }
+
+    /// Keeps of a block its first 132 bytes, which hold the pointers if it is a skip list's (SPEC.md of
+    /// littlefs, "CTZ skip-lists"). Keeps all of it where a commit can be read in it, or could be with
+    /// 0xff behind those.
+    ///
+    /// `NoMemory` where the room for what is kept isn't granted.
+    pub fn cut(&mut self, alloc: Global, block: &[u8]) -> Result<BlockExcerpt, Error>
+        requires { length block.now ≡ size_of self.old }
+        ensures excerpt { IfOk result (λ b. IsBlockExcerpt block.now (block_shown b)) }
+        ensures sizes { IfOk result (λ b. (b.size ≡ length block.now) × (length b.bytes.items ≡ kept_bytes block.now)) }
+        ensures same { size_of self.new ≡ size_of self.old }
+        ensures err { IfErr result (λ e. e ≡ Error.NoMemory) }
+    {
+        let len = if self.keeps_whole(block) {
+            block.len()
+        } else {
+            POINTER_BYTES
+        };
+        let bytes = Vec::from_slice(alloc, &block[..len])?;
+        Ok(BlockExcerpt::new(block.len(), bytes))
+    }
+
+    // Whether the block has a commit, or would have one with 0xff behind its first bytes.
+    fn keeps_whole(&mut self, block: &[u8]) -> bool
+        requires size { length block.now ≡ size_of self.old }
+        requires room { 132 ≤ length block.now }
+        ensures is { result ≡ is_kept_whole block.now }
+        ensures same { size_of self.new ≡ size_of self.old }
+    {
+        if Log::read(block).has_commit() {
+            return true;
+        }
+        put_front(&mut self.padded, &block[..POINTER_BYTES]);
+        Log::read(&self.padded).has_commit()
+    }
+}
+
+// Writes bytes over the first ones.
+fn put_front(all: &mut Vec<u8>, bytes: &[u8])
+    requires { length bytes.now ≤ length all.old.items }
+    ensures { all.new.items ≡ bytes.now ++ drop (length bytes.now) all.old.items }
+{
+    all[0..bytes.len()].copy_from_slice(bytes);
+}

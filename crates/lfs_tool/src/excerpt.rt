@@ -1,0 +1,106 @@
+ghost use Rattle.std.specs.Prelude.{◌≡◌, ◌≤◌, ◌<◌, ◌+◌, ◌%◌, [], ◌∷◌, true, false, length, slice_range, All, IsOk, IsErrOf};
+ghost use Rattle.lfs_model.specs.Blocks.{block_in};
+ghost use Rattle.lfs_model.specs.History.{event, AllUnprogrammed, IsNewest};
+ghost use Rattle.lfs_model.specs.History.Call.{Read, Program, Erase};
+ghost use Rattle.lfs_model.specs.Obeyed.{AreObeyed};
+ghost use Rattle.lfs_tool.specs.ExcerptBlocks.{HasRead, HaveSize, blocks_shown};
+
+use crate::BlockExcerpt;
+use lfs_device::{BlockDevice, Error, Geometry, Trace};
+
+/// An image cut down to what a listing needs, as a device. What isn't kept reads as 0xff, so a file's
+/// bytes that stand in a skip list can't be read from it. A read never fails; a program and an erase
+/// always do, with `Io`, and change nothing.
+#[derive(Drop)]
+pub struct Excerpt {
+    geometry: Geometry,
+    blocks: Vec<BlockExcerpt>,
+    trace: Trace,
+    ghost count: { length blocks.items ≡ geometry.block_count },
+    ghost sizes: { HaveSize geometry.block_size blocks.items },
+    pub ghost has_read: { All HasRead trace.events },
+    ghost newest: { IsNewest trace.events (blocks_shown blocks.items) },
+    ghost obeyed: { AreObeyed trace.events },
+}
+
+impl Excerpt {
+    ghost use Rattle.lfs_tool.specs.ExcerptSeen.{blocks_of, geometry_of, history_of};
+
+    /// The device of these blocks. There are as many as the geometry has, of its size.
+    pub fn new(geometry: Geometry, blocks: Vec<BlockExcerpt>) -> Excerpt
+        requires count { length blocks.items ≡ geometry.block_count }
+        requires sizes { HaveSize geometry.block_size blocks.items }
+        ensures geometry { geometry_of result ≡ geometry }
+        ensures blocks { blocks_of result ≡ blocks_shown blocks.items }
+        ensures no_call { history_of result ≡ [] }
+    {
+        Excerpt {
+            geometry,
+            blocks,
+            trace: Trace::told_by(&geometry, &()),
+        }
+    }
+}
+
+impl BlockDevice for Excerpt {
+    ghost use Rattle.lfs_tool.specs.ExcerptSeen.{blocks_of, geometry_of, history_of};
+    ghost use Rattle.lfs_tool.specs.ExcerptShape.{bytes_shown, divided_shown};
+
+    ghost geometry = { geometry_of };
+
+    ghost blocks = { blocks_of };
+
+    ghost history = { history_of };
+
+    ghost shape = { λ e. divided_shown e.geometry.block_size e.geometry.block_count e.blocks.items e.count e.sizes };
+
+    ghost bytes = { λ e. bytes_shown e.blocks.items };
+
+    ghost newest = { λ e. e.newest };
+
+    ghost obeyed = { λ e. e.obeyed };
+
+    fn geometry(&self) -> Geometry {
+        self.geometry
+    }
+
+    fn read(&mut self, block: u32, off: u32, buf: &mut [u8]) -> Result<(), Error>
+        requires in_device { block < (geometry_of self.old).block_count }
+        requires in_block { off + length buf.old ≤ (geometry_of self.old).block_size }
+        ensures ok { IsOk result }
+        ensures bytes { buf.new ≡ slice_range (block_in (blocks_of self.old) block) off (off + length buf.old) }
+        ensures same { blocks_of self.new ≡ blocks_of self.old }
+        ensures geometry { geometry_of self.new ≡ geometry_of self.old }
+        ensures history { history_of self.new ≡ event (Read block off (length buf.old)) (blocks_of self.old) (blocks_of self.new) false ∷ history_of self.old }
+    {
+        self.blocks[block as usize].read(off as usize, buf);
+        self.trace = Trace::told_by(self, &(block, off, buf.len()));
+        Ok(())
+    }
+
+    fn prog(&mut self, block: u32, off: u32, bytes: &[u8]) -> Result<(), Error>
+        requires in_device { block < (geometry_of self.old).block_count }
+        requires in_block { off + length bytes.now ≤ (geometry_of self.old).block_size }
+        requires begins { off % (geometry_of self.old).page ≡ 0 }
+        requires ends { (off + length bytes.now) % (geometry_of self.old).page ≡ 0 }
+        requires unprogrammed { AllUnprogrammed (history_of self.old) block off (off + length bytes.now) }
+        ensures err { IsErrOf result Error.Io }
+        ensures same { blocks_of self.new ≡ blocks_of self.old }
+        ensures geometry { geometry_of self.new ≡ geometry_of self.old }
+        ensures history { history_of self.new ≡ event (Program block off bytes.now) (blocks_of self.old) (blocks_of self.new) true ∷ history_of self.old }
+    {
+        self.trace = Trace::told_by(self, &(block, off, bytes));
+        Err(Error::Io)
+    }
+
+    fn erase(&mut self, block: u32) -> Result<(), Error>
+        requires { block < (geometry_of self.old).block_count }
+        ensures err { IsErrOf result Error.Io }
+        ensures same { blocks_of self.new ≡ blocks_of self.old }
+        ensures geometry { geometry_of self.new ≡ geometry_of self.old }
+        ensures history { history_of self.new ≡ event (Erase block) (blocks_of self.old) (blocks_of self.new) true ∷ history_of self.old }
+    {
+        self.trace = Trace::told_by(self, &block);
+        Err(Error::Io)
+    }
+}

@@ -1,0 +1,87 @@
+ghost use Rattle.std.specs.Prelude.{◌≡◌, ◌≢◌, IfErr, IfOk, IsErrOf, OnOk};
+ghost use Rattle.lfs_fs.specs.Held.{moment_of};
+ghost use Rattle.lfs_tool.specs.Watched.{TellsWriter, inner_of};
+ghost use Rattle.lfs_tool.specs.Made.{AreLeft, Begins, HasRefusal, IsBegun, IsCreated, IsRefused, TellsSource};
+ghost use Rattle.lfs_tool_folders.specs.Entries.{AreAll};
+
+use crate::carrying::carry_over;
+use crate::{ToolError, Watched, write_bytes};
+use lfs_device::{Error, Geometry, RamDevice};
+use lfs_fs::{Session, format_ordered};
+use lfs_tool_folders::{Entry, Source, SourceError, read_tree};
+use std::alloc::Global;
+use std::io::Write;
+
+// All that the source has.
+fn read_source<S: Source>(alloc: Global, source: &mut S) -> Result<Vec<Entry>, ToolError>
+    ensures entries { IfOk result (λ v. AreAll (S.shown source.old) v.items) }
+    ensures source { TellsSource (S.has_failed source.old) (S.has_failed source.new) (S.shown source.old) result }
+    ensures other { IfErr result (λ e. e ≢ ToolError.Input → e ≡ ToolError.Fs Error.NoMemory) }
+{
+    match read_tree(alloc, source) {
+        Ok(entries) => Ok(entries),
+        Err(SourceError::Fault) => Err(ToolError::Input),
+        Err(SourceError::NoMemory) => Err(ToolError::Fs(Error::NoMemory)),
+    }
+}
+
+// A session over an empty image in memory.
+fn begin(alloc: Global, geometry: Geometry) -> Result<Session<RamDevice>, Error>
+    ensures begins { IfOk result (λ s. Begins geometry (moment_of s)) }
+    ensures err { IfErr result (λ e. e ≡ Error.NoMemory) }
+{
+    let device = RamDevice::blank(alloc, geometry)?;
+    match format_ordered(alloc, device, geometry.order) {
+        Ok(session) => Ok(session),
+        // The device has met no fault, so memory ran out.
+        Err((_device, error)) => Err(error),
+    }
+}
+
+// The image that holds these entries.
+fn make(alloc: Global, geometry: Geometry, entries: &[Entry]) -> Result<Vec<u8>, Error>
+    ensures ok { IfOk result (λ v. AreLeft geometry entries.now v.items) }
+    ensures err { IfErr result (λ e. e ≢ Error.NoMemory → IsRefused geometry entries.now e) }
+{
+    let mut session = begin(alloc, geometry)?;
+    carry_over(alloc, &mut session, entries)?;
+    Ok(session.unmount().to_bytes())
+}
+
+/// Writes an image of a geometry that holds what a source has. The names in its directories have the
+/// geometry's order. All of the source is read first. It is carried over into an empty file system,
+/// depth first and in name order, the shorter names first: a folder is made, a file is opened to create
+/// it, its bytes are written at once, and it is closed. Nothing is written where one of these operations
+/// is refused.
+///
+/// # Errors
+/// - `Input` where the source couldn't be read, or a name in a folder of it is given twice or can't stand
+///   in a path.
+/// - `Fs(error)` where an operation is refused, with its refusal: so `Fs(NoSpace)` where too few blocks
+///   are free, `Fs(NameTooLong)` where a name has more than 255 bytes, and `Fs(TooBig)` where a file has
+///   more than 2147483647.
+/// - `Fs(NoMemory)` where a growth was refused.
+/// - `Output` where the writer failed. What was written is then a beginning of the image.
+pub fn create<S: Source, W: Write>(
+    alloc: Global,
+    source: &mut S,
+    geometry: Geometry,
+    out: &mut Watched<W>,
+) -> Result<(), ToolError>
+    ensures ok { OnOk result (IsCreated geometry (S.shown source.old) (W.contents (inner_of out.old)) (W.contents (inner_of out.new))) }
+
+    // The writer isn't touched, unless it fails: then a beginning of the image may be written.
+    ensures writer { TellsWriter out.old out.new result }
+    ensures beginning { IsErrOf result ToolError.Output
+        → IsBegun geometry (S.shown source.old) (W.contents (inner_of out.old)) (W.contents (inner_of out.new)) }
+
+    // When each other error comes.
+    ensures refused { (e : _) → IsErrOf result (ToolError.Fs e) → e ≢ Error.NoMemory → HasRefusal geometry (S.shown source.old) e }
+    ensures source { TellsSource (S.has_failed source.old) (S.has_failed source.new) (S.shown source.old) result }
+{
+    let entries = read_source(alloc, source)?;
+    match make(alloc, geometry, entries.as_slice()) {
+        Ok(image) => write_bytes(out, image.as_slice()),
+        Err(error) => Err(ToolError::Fs(error)),
+    }
+}

@@ -1,0 +1,15 @@
+-- What was done to a target.
+use Rattle.std.specs.Prelude.{◌≡◌, ◌++◌, [], ◌∷◌, List, Option, Some, None}
+use Rattle.lfs_model.specs.Listing.{Action, MakeDirectory, PutFile}
+use Rattle.lfs_tool_folders.specs.declared.target_memory.Done.{Done}
+use Rattle.lfs_tool_folders.specs.declared.target_memory.Done.TheVariants as variant
+
+-- one action more, where what was done is known
+abbrev pub Adds : Option (List Action) → Option (List Action) → Action → Type 0
+Adds None new a = Unit {0}
+Adds (Some done) None a = ⊥
+Adds (Some done) (Some now) a = now ≡ done ++ a ∷ []
+
+abbrev pub action_seen : Done → Action
+action_seen (variant.Folder path) = MakeDirectory path.items
+action_seen (variant.File path bytes) = PutFile path.items bytes.items

@@ -1,0 +1,4 @@
+pub mod Shown
+pub mod InMemory
+pub mod Entries
+pub mod Actions

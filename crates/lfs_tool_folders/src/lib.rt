@@ -1,0 +1,20 @@
+//! Where a tree of files comes from, and where it goes: memory, or a folder of the real file system.
+#![tactic(auto)]
+
+mod entries;
+mod full_path;
+mod names;
+mod source;
+mod source_folder;
+mod source_memory;
+mod target;
+mod target_folder;
+mod target_memory;
+
+pub use entries::{Entry, read_tree};
+pub use source::{Kind, Listed, Source, SourceError};
+pub use source_folder::Folder;
+pub use source_memory::{Held, MemorySource};
+pub use target::{Target, TargetError};
+pub use target_folder::TargetFolder;
+pub use target_memory::{Done, MemoryTarget};

@@ -1,0 +1,65 @@
+ghost use Rattle.std.specs.Prelude.{◌≡◌, Bool, IfOk, IfSome, IsErrOf, None, OnOk, Option, Some, map, true};
+ghost use Rattle.lfs_model.specs.Source as model;
+ghost use Rattle.lfs_tool_folders.specs.Shown.{Rests, listed};
+
+use std::alloc::Global;
+
+/// What a name stands for.
+#[derive(Clone, Copy, Debug, PartialEq, Eq, PartialOrd, Ord, Drop)]
+pub enum Kind {
+    /// A file, which has bytes.
+    File,
+    /// A folder, which has names.
+    Folder,
+}
+
+/// A name in a folder.
+#[derive(Debug, PartialEq, Eq, PartialOrd, Ord, Drop)]
+pub struct Listed {
+    /// The name's bytes.
+    pub name: Vec<u8>,
+    /// What it stands for.
+    pub kind: Kind,
+}
+
+/// Why a source gave nothing.
+#[derive(Clone, Copy, Debug, PartialEq, Eq, Drop)]
+pub enum SourceError {
+    /// It couldn't be read, or a folder has bad names.
+    Fault,
+    /// A growth was refused.
+    NoMemory,
+}
+
+/// A folder and all below it. A path has `/` before each name, and is empty for the folder itself.
+pub trait Source {
+    // What it shows, where that is known.
+    ghost shown: { Self → Option model.Source } = { λ _. None };
+
+    // Whether a call has met a fault.
+    ghost has_failed: { Self → Bool };
+
+    /// The names in a folder, in any order.
+    ///
+    /// # Errors
+    /// - `Fault` where the folder couldn't be read.
+    /// - `NoMemory` where a growth was refused.
+    fn list(&mut self, alloc: Global, folder: &[u8]) -> Result<Vec<Listed>, SourceError>
+        ensures names { IfOk result (λ v. IfSome (shown self.old) (λ s. map listed v.items ≡ s.names folder.now)) }
+        ensures shown { Rests (shown self.old) (shown self.new) }
+        ensures kept { OnOk result (has_failed self.new ≡ has_failed self.old) }
+        ensures fault { IsErrOf result SourceError.Fault → has_failed self.new ≡ true }
+        ensures no_memory { IsErrOf result SourceError.NoMemory → has_failed self.new ≡ has_failed self.old };
+
+    /// The bytes of a file.
+    ///
+    /// # Errors
+    /// - `Fault` where the file couldn't be read.
+    /// - `NoMemory` where a growth was refused.
+    fn read(&mut self, alloc: Global, file: &[u8]) -> Result<Vec<u8>, SourceError>
+        ensures bytes { IfOk result (λ v. IfSome (shown self.old) (λ s. v.items ≡ s.bytes file.now)) }
+        ensures shown { Rests (shown self.old) (shown self.new) }
+        ensures kept { OnOk result (has_failed self.new ≡ has_failed self.old) }
+        ensures fault { IsErrOf result SourceError.Fault → has_failed self.new ≡ true }
+        ensures no_memory { IsErrOf result SourceError.NoMemory → has_failed self.new ≡ has_failed self.old };
+}

@@ -1,0 +1,131 @@
+ghost use Rattle.std.specs.Prelude.{◌≡◌, ◌+◌, ◌++◌, ◌∷◌, [], IfOk, IfSome, IsErrOf, MatchOption, None, OnOk, Some, drop, false, length, map, true, ◌==◌};
+ghost use Rattle.std.specs.List.{list_any};
+ghost use Rattle.lfs_model.specs.Names.{slash};
+ghost use Rattle.lfs_tool_folders.specs.Shown.{is_folder, listed};
+ghost use Rattle.lfs_tool_folders.specs.InMemory.{bytes_at, has_no_bytes, is_within, item_of, items_by, name_of, names_in, source_of};
+
+use crate::{Kind, Listed, Source, SourceError};
+use std::alloc::Global;
+
+/// What a source in memory has at a path.
+#[derive(Debug, Drop)]
+pub struct Held {
+    /// The path, `/` before each name.
+    pub path: Vec<u8>,
+    /// A file's bytes, and none for a folder.
+    pub bytes: Option<Vec<u8>>,
+}
+
+/// A tree in memory. Where two things have one path, the first is read.
+///
+/// It never answers `Fault` to `list`, and to `read` only where no file stands at the path.
+#[derive(Drop)]
+pub struct MemorySource {
+    /// What stands at each path, in any order.
+    pub held: Vec<Held>,
+    /// Whether a file was read that isn't there.
+    pub has_failed: bool,
+}
+
+fn has_slash(name: &[u8]) -> bool
+    ensures { result ≡ list_any (λ b. b == slash) name.now }
+{
+    name.iter().any(|b| *b == b'/')
+}
+
+// The name of the path where it stands in the folder.
+fn name_in<'a>(folder: &[u8], path: &'a [u8]) -> Option<&'a [u8]>
+    ensures { MatchOption result (is_within folder.now path.now ≡ false)
+        (λ name. (is_within folder.now path.now ≡ true) × (name.now ≡ drop (length folder.now + 1) path.now)) }
+{
+    let at = folder.len();
+    if at >= path.len() || &path[..at] != folder || path[at] != b'/' {
+        return None;
+    }
+    let name = &path[at + 1..];
+    if has_slash(name) { None } else { Some(name) }
+}
+
+fn copied(alloc: Global, bytes: &[u8]) -> Result<Vec<u8>, SourceError>
+    ensures bytes { IfOk result (λ v. v.items ≡ bytes.now) }
+    ensures memory { (e : _) → result ≡ Err e → e ≡ SourceError.NoMemory }
+{
+    bytes.to_vec(alloc).map_err(|_| SourceError::NoMemory)
+}
+
+fn kind(held: &Held) -> Kind
+    ensures { is_folder result ≡ has_no_bytes (item_of held.now).1 }
+{
+    match &held.bytes {
+        Some(_) => Kind::File,
+        None => Kind::Folder,
+    }
+}
+
+// Adds the name of what is held, where it stands in the folder.
+fn push_name(
+    alloc: Global,
+    names: &mut Vec<Listed>,
+    folder: &[u8],
+    held: &Held,
+) -> Result<(), SourceError>
+    ensures names { OnOk result (map listed names.new.items ≡ map listed names.old.items ++ name_of folder.now (item_of held.now)) }
+    ensures memory { (e : _) → result ≡ Err e → e ≡ SourceError.NoMemory }
+{
+    let Some(name) = name_in(folder, held.path.as_slice()) else {
+        return Ok(());
+    };
+    let name = copied(alloc, name)?;
+    let kind = kind(held);
+    names
+        .push(Listed { name, kind })
+        .map_err(|_| SourceError::NoMemory)
+}
+
+// The names of what is held that stand in the folder.
+fn names_in(alloc: Global, held: &[Held], folder: &[u8]) -> Result<Vec<Listed>, SourceError>
+    ensures names { IfOk result (λ v. map listed v.items ≡ names_in (map item_of held.now) folder.now) }
+    ensures memory { (e : _) → result ≡ Err e → e ≡ SourceError.NoMemory }
+{
+    let mut names = Vec::new(alloc);
+    for one in held {
+        push_name(alloc, &mut names, folder, one)?;
+    }
+    Ok(names)
+}
+
+impl Source for MemorySource {
+    ghost shown = { λ s. Some (source_of (map item_of s.held.items)) };
+
+    ghost has_failed = { λ s. s.has_failed };
+
+    fn list(&mut self, alloc: Global, folder: &[u8]) -> Result<Vec<Listed>, SourceError>
+        ensures names { IfOk result (λ v. map listed v.items ≡ names_in (map item_of self.old.held.items) folder.now) }
+        ensures held { self.new.held ≡ self.old.held }
+        ensures kept { self.new.has_failed ≡ self.old.has_failed }
+        ensures never { ¬ IsErrOf result SourceError.Fault }
+    {
+        let names = names_in(alloc, self.held.as_slice(), folder)?;
+        Ok(names)
+    }
+
+    fn read(&mut self, alloc: Global, file: &[u8]) -> Result<Vec<u8>, SourceError>
+        ensures bytes { IfOk result (λ v. bytes_at (map item_of self.old.held.items) file.now ≡ Some v.items) }
+        ensures held { self.new.held ≡ self.old.held }
+        ensures kept { OnOk result (self.new.has_failed ≡ self.old.has_failed) }
+        ensures missing { IsErrOf result SourceError.Fault → bytes_at (map item_of self.old.held.items) file.now ≡ None }
+        ensures fault { IsErrOf result SourceError.Fault → self.new.has_failed ≡ true }
+        ensures no_memory { IsErrOf result SourceError.NoMemory → self.new.has_failed ≡ self.old.has_failed }
+    {
+        for held in &self.held {
+            if held.path.as_slice() == file {
+                if let Some(bytes) = &held.bytes {
+                    return copied(alloc, bytes.as_slice());
+                }
+                break;
+            }
+        }
+        self.has_failed = true;
+        Err(SourceError::Fault)
+    }
+}

@@ -1,0 +1,47 @@
+ghost use Rattle.std.specs.Prelude.{◌≡◌, Bool, IsErrOf, List, None, OnErr, OnOk, Option, true};
+ghost use Rattle.lfs_model.specs.Listing.{Action, MakeDirectory, PutFile};
+ghost use Rattle.lfs_tool_folders.specs.Actions.{Adds};
+
+use std::alloc::Global;
+
+/// Why a target took nothing.
+#[derive(Clone, Copy, Debug, PartialEq, Eq, Drop)]
+pub enum TargetError {
+    /// It couldn't be written.
+    Fault,
+    /// A growth was refused.
+    NoMemory,
+}
+
+/// A folder to which files and folders go. A path has `/` before each name.
+pub trait Target {
+    // What was done to it, where that is known.
+    ghost done: { Self → Option (List Action) } = { λ _. None };
+
+    // Whether a call has met a fault.
+    ghost has_failed: { Self → Bool };
+
+    /// Makes a folder. One that is there already stays as it is.
+    ///
+    /// # Errors
+    /// - `Fault` where it couldn't be made.
+    /// - `NoMemory` where a growth was refused.
+    fn make_folder(&mut self, alloc: Global, path: &[u8]) -> Result<(), TargetError>
+        ensures done { OnOk result (Adds (done self.old) (done self.new) (MakeDirectory path.now)) }
+        ensures undone { OnErr result (done self.new ≡ done self.old) }
+        ensures kept { OnOk result (has_failed self.new ≡ has_failed self.old) }
+        ensures fault { IsErrOf result TargetError.Fault → has_failed self.new ≡ true }
+        ensures no_memory { IsErrOf result TargetError.NoMemory → has_failed self.new ≡ has_failed self.old };
+
+    /// Puts a file of these bytes there, in place of one that is there already.
+    ///
+    /// # Errors
+    /// - `Fault` where it couldn't be made or written.
+    /// - `NoMemory` where a growth was refused.
+    fn put_file(&mut self, alloc: Global, path: &[u8], bytes: &[u8]) -> Result<(), TargetError>
+        ensures done { OnOk result (Adds (done self.old) (done self.new) (PutFile path.now bytes.now)) }
+        ensures undone { OnErr result (done self.new ≡ done self.old) }
+        ensures kept { OnOk result (has_failed self.new ≡ has_failed self.old) }
+        ensures fault { IsErrOf result TargetError.Fault → has_failed self.new ≡ true }
+        ensures no_memory { IsErrOf result TargetError.NoMemory → has_failed self.new ≡ has_failed self.old };
+}

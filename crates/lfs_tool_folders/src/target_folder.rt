@@ -1,0 +1,103 @@
+ghost use Rattle.std.specs.Prelude.{◌≡◌, ◌↔◌, false, true};
+ghost use Rattle.std.specs.IoError.{error_kind};
+
+use crate::full_path::full_path;
+use crate::{Target, TargetError};
+use std::alloc::Global;
+use std::fs::File;
+use std::io::{ErrorKind, Write};
+use std::rt::Files;
+use std::{fs, io};
+
+/// A folder of the real file system, made at the first call where it isn't there. A name that isn't
+/// UTF-8 is a fault, and so is a path at which something stands that is neither a file nor a folder, as
+/// a symbolic link.
+#[derive(Drop)]
+pub struct TargetFolder<'a, R> {
+    rt: &'a R,
+    root: &'a str,
+    has_failed: bool,
+}
+
+// Makes a folder, unless there is one.
+fn make<R: Files>(rt: &R, path: &str) -> io::Result<()> {
+    let Err(error) = fs::create_dir(rt, path) else {
+        return Ok(());
+    };
+    match fs::symlink_metadata(rt, path) {
+        Ok(there) if there.is_dir() => Ok(()),
+        _ => Err(error),
+    }
+}
+
+// Refuses a path at which something stands that is no file.
+fn check_place<R: Files>(rt: &R, path: &str) -> io::Result<()> {
+    match fs::symlink_metadata(rt, path) {
+        Ok(there) if !there.is_file() => Err(io::Error::from(ErrorKind::InvalidInput)),
+        _ => Ok(()),
+    }
+}
+
+impl<'a, R: Files + AllocGlobal + Clone + Drop> TargetFolder<'a, R> {
+    /// The folder at a path of the file system. Nothing is made yet.
+    pub fn new(rt: &'a R, root: &'a str) -> TargetFolder<'a, R>
+        ensures root { result.root.now ≡ root.now }
+        ensures has_failed { result.has_failed ≡ false }
+    {
+        TargetFolder {
+            rt,
+            root,
+            has_failed: false,
+        }
+    }
+
+    // The path in the file system, where it is text. The folder itself is there then.
+    fn full(&self, path: &[u8]) -> io::Result<String> {
+        let full = full_path(self.rt.alloc(), self.root, path)?;
+        make(self.rt, self.root)?;
+        Ok(full)
+    }
+
+    fn folder(&self, path: &[u8]) -> io::Result<()> {
+        let full = self.full(path)?;
+        make(self.rt, full.as_str())
+    }
+
+    fn file(&self, path: &[u8], bytes: &[u8]) -> io::Result<()> {
+        let full = self.full(path)?;
+        check_place(self.rt, full.as_str())?;
+        let mut file = File::create(self.rt, full.as_str())?;
+        file.write_all(bytes)
+    }
+
+    // What the error says to the writer of the target.
+    fn failed(&mut self, error: io::Error) -> TargetError
+        ensures kind { (error_kind error ≡ ErrorKind.OutOfMemory) ↔ (result ≡ TargetError.NoMemory) }
+        ensures fault { result ≡ TargetError.Fault → self.new.has_failed ≡ true }
+        ensures no_memory { result ≡ TargetError.NoMemory → self.new.has_failed ≡ self.old.has_failed }
+    {
+        if error.kind() == ErrorKind::OutOfMemory {
+            return TargetError::NoMemory;
+        }
+        self.has_failed = true;
+        TargetError::Fault
+    }
+}
+
+impl<'a, R: Files + AllocGlobal + Clone + Drop> Target for TargetFolder<'a, R> {
+    ghost has_failed = { λ t. t.has_failed };
+
+    fn make_folder(&mut self, _alloc: Global, path: &[u8]) -> Result<(), TargetError> {
+        match self.folder(path) {
+            Ok(()) => Ok(()),
+            Err(error) => Err(self.failed(error)),
+        }
+    }
+
+    fn put_file(&mut self, _alloc: Global, path: &[u8], bytes: &[u8]) -> Result<(), TargetError> {
+        match self.file(path, bytes) {
+            Ok(()) => Ok(()),
+            Err(error) => Err(self.failed(error)),
+        }
+    }
+}

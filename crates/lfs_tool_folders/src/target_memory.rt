@@ -1,0 +1,48 @@
+ghost use Rattle.std.specs.Prelude.{◌≡◌, IfOk, Some, false, map};
+ghost use Rattle.lfs_tool_folders.specs.Actions.{action_seen};
+
+use crate::{Target, TargetError};
+use std::alloc::Global;
+
+/// What was done to a target in memory.
+#[derive(Debug, PartialEq, Eq, Drop)]
+pub enum Done {
+    /// A folder was made at this path.
+    Folder(Vec<u8>),
+    /// A file was put at this path, with these bytes.
+    File(Vec<u8>, Vec<u8>),
+}
+
+/// A target that keeps what was done to it, in turn. It never faults.
+#[derive(Drop)]
+pub struct MemoryTarget {
+    pub done: Vec<Done>,
+}
+
+fn copied(alloc: Global, bytes: &[u8]) -> Result<Vec<u8>, TargetError>
+    ensures bytes { IfOk result (λ v. v.items ≡ bytes.now) }
+    ensures memory { (e : _) → result ≡ Err e → e ≡ TargetError.NoMemory }
+{
+    bytes.to_vec(alloc).map_err(|_| TargetError::NoMemory)
+}
+
+impl Target for MemoryTarget {
+    ghost done = { λ t. Some (map action_seen t.done.items) };
+
+    ghost has_failed = { λ t. false };
+
+    fn make_folder(&mut self, alloc: Global, path: &[u8]) -> Result<(), TargetError> {
+        let path = copied(alloc, path)?;
+        self.done
+            .push(Done::Folder(path))
+            .map_err(|_| TargetError::NoMemory)
+    }
+
+    fn put_file(&mut self, alloc: Global, path: &[u8], bytes: &[u8]) -> Result<(), TargetError> {
+        let path = copied(alloc, path)?;
+        let bytes = copied(alloc, bytes)?;
+        self.done
+            .push(Done::File(path, bytes))
+            .map_err(|_| TargetError::NoMemory)
+    }
+}

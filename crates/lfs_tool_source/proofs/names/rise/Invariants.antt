@@ -1,6 +1,0 @@
-use Rattle.std.proofs.Common.{◌≡◌, [], drop, map}
-use Rattle.lfs_tool_source.specs.Entries.{name_in, rise_behind}
-use Rattle.lfs_tool_source.proofs.names.rise.Given as goal
-
-abbrev pub invariant-loop-one : goal.invariant-loop-one
-invariant-loop-one l = rise_behind [] (map name_in l.fn.names) ≡ rise_behind l.last (map name_in (drop l.one-index l.names))

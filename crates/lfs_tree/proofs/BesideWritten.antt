@@ -22,7 +22,7 @@ use Rattle.lfs_model.proofs.Changes.{Follows}
 use Rattle.lfs_model.proofs.Histories.{LeavesOnly-weaker, LeavesOnly-worst}
 use Rattle.lfs_writer.specs.Hand.{SparesUsed}
 use Rattle.lfs_model.proofs.Files.{HasSameFile, file_blocks_same}
-use Rattle.lfs_files.specs.Standing.{CanTruncate, CanWrite, Holds, LeavesPairsAndUsed, TellsWork, held_in}
+use Rattle.lfs_writer.specs.Standing.{CanTruncate, CanWrite, Holds, LeavesPairsAndUsed, TellsWork, held_in}
 use Rattle.lfs_thread.specs.Kept.{Kept, State}
 use Rattle.lfs_tree.specs.Held.{IsRooted, seen_kept, seen_thread}
 use Rattle.lfs_tree.specs.OpenContents.{CanTruncateBeside, CanWriteBeside, IsOverFile, IsWrittenBeside, blocks_named, bytes_held, list_at}

@@ -8,8 +8,8 @@ use Rattle.std.proofs.lemmas.Option.{same_Some}
 use Rattle.lfs_device.specs.Bytes.{HasBytes}
 use Rattle.lfs_device.specs.declared.error.Error.{Error}
 use Rattle.lfs_device.specs.declared.error.Error.TheVariants.{Io, NoMemory}
-use Rattle.lfs_files.specs.Settling.{IsReadBesideMap}
-use Rattle.lfs_files.specs.Standing.{TellsWork}
+use Rattle.lfs_writer.specs.Settling.{IsReadBesideMap}
+use Rattle.lfs_writer.specs.Standing.{TellsWork}
 use Rattle.lfs_model.proofs.Orders.{length_in_order}
 use Rattle.lfs_model.specs.declared.order.NameOrder.TheVariants.{ShorterFirst}
 use Rattle.lfs_model.specs.TreeEdits.{names_of, removed}

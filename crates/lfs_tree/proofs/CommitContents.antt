@@ -18,11 +18,11 @@ use Rattle.lfs_model.proofs.BlockCounts.{few_flying}
 use Rattle.lfs_model.proofs.BlockSets.{Contains-count, count-Contains}
 use Rattle.lfs_model.proofs.Counts.{Each, count, count_append, each_from_counted, each_pieces, once_from_distinct}
 use Rattle.lfs_model.proofs.Files.{length_back}
-use Rattle.lfs_files.specs.Coming.{CanCome}
-use Rattle.lfs_files.specs.Settling.{blocks_in_list}
-use Rattle.lfs_files.specs.Standing.{StandsIn}
-use Rattle.lfs_files.proofs.Coming.{inline_comes, list_comes}
-use Rattle.lfs_files.proofs.Outside.{none_or_some}
+use Rattle.lfs_writer.specs.Coming.{CanCome}
+use Rattle.lfs_writer.specs.Settling.{blocks_in_list}
+use Rattle.lfs_writer.specs.Standing.{StandsIn}
+use Rattle.lfs_writer.proofs.Coming.{inline_comes, list_comes}
+use Rattle.lfs_writer.proofs.Outside.{none_or_some}
 use Rattle.lfs_operations.specs.Making.{HasRoomFor}
 use Rattle.lfs_thread.specs.Kept.{Kept}
 use Rattle.lfs_tree.specs.OpenContents.{IsOverFile, blocks_named, bytes_held}

@@ -8,7 +8,7 @@ use Rattle.std.specs.Prelude.{Contains, ◌↔◌, slice_index_or}
 use Rattle.std.proofs.lemmas.Bool.{cases_lt}
 use Rattle.std.proofs.lemmas.List.Elements.{All-from_recursion, recursion_from_All}
 use Rattle.std.proofs.lemmas.Option.{same_Some}
-use Rattle.lfs_files.specs.Settling.{CanSettle, IsReadBesideMap, IsSettledIn, blocks_in_list}
+use Rattle.lfs_writer.specs.Settling.{CanSettle, IsReadBesideMap, IsSettledIn, blocks_in_list}
 use Rattle.lfs_model.specs.BlockSets.{AreUsed, BlockSets, IsInFlight}
 use Rattle.lfs_model.specs.Content.{RawSlot, complete, complete_all, kind_named, struct_typed}
 use Rattle.lfs_model.specs.Disk.{Disk, SameGeometry}

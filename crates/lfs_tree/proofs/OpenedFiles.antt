@@ -24,7 +24,7 @@ use Rattle.lfs_model.specs.Shown.{all_slots, file_blocks, tree_in, used_blocks}
 use Rattle.lfs_model.proofs.BlockCounts.{few_flying, in_flight-freed}
 use Rattle.lfs_model.proofs.BlockSets.{Contains-count}
 use Rattle.lfs_model.proofs.Counts.{Each, count_append, each_from_counted, each_pieces}
-use Rattle.lfs_files.specs.Standing.{held_in}
+use Rattle.lfs_writer.specs.Standing.{held_in}
 use Rattle.lfs_thread.specs.Beside.{IsDividedAs}
 use Rattle.lfs_thread.specs.Kept.{Kept}
 use Rattle.lfs_lookup.specs.FileBytes.{bytes_shown}

@@ -21,7 +21,7 @@ use Rattle.lfs_model.specs.Shown.{file_blocks, tree_in}
 use Rattle.lfs_model.specs.WrittenContent.{pair_bytes}
 use Rattle.lfs_model.proofs.Counts.{count}
 use Rattle.lfs_model.proofs.WrittenAnew.{kind_of-tag_with, len_of-tag_with}
-use Rattle.lfs_files.specs.Standing.{StandsIn, TellsWork}
+use Rattle.lfs_writer.specs.Standing.{StandsIn, TellsWork}
 use Rattle.lfs_operations.specs.Changing.{TellsPut}
 use Rattle.lfs_operations.specs.Editing.{slot_at}
 use Rattle.lfs_operations.specs.Making.{HasRoomFor}

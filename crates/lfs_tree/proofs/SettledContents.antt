@@ -30,10 +30,10 @@ use Rattle.lfs_model.proofs.BlockSets.{Contains-count, count-Contains}
 use Rattle.lfs_model.proofs.Counts.{count, count_append, each_from_counted, each_weaker, once_from_distinct}
 use Rattle.lfs_model.proofs.Files.{HasSameFile, file_blocks_same, is_list_same}
 use Rattle.lfs_model.proofs.Histories.{LeavesOnly-reads, LeavesOnly-trans, LeavesOnly-weaker, LeavesOnly-worst, Stops-read}
-use Rattle.lfs_files.specs.Coming.{CanCome}
-use Rattle.lfs_files.specs.Settling.{CanSettle, IsReadBesideMap, IsSettledIn, blocks_in_list}
-use Rattle.lfs_files.proofs.Outside.{none_or_some, not_there}
-use Rattle.lfs_files.proofs.Settlement.{settled_exactly}
+use Rattle.lfs_writer.specs.Coming.{CanCome}
+use Rattle.lfs_writer.specs.Settling.{CanSettle, IsReadBesideMap, IsSettledIn, blocks_in_list}
+use Rattle.lfs_writer.proofs.Outside.{none_or_some, not_there}
+use Rattle.lfs_writer.proofs.Settlement.{settled_exactly}
 use Rattle.lfs_operations.proofs.Held.{here}
 use Rattle.lfs_operations.specs.Changing.{WritesIn}
 use Rattle.lfs_operations.specs.Storing.{IsStored, with_contents_at}

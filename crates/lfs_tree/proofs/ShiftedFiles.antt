@@ -3,8 +3,8 @@ use Rattle.std.proofs.Common.{ℕ, ◌≡◌, ◌≢◌, ◌⊎◌, ◌<◌, ◌
 use Rattle.std.specs.Prelude.{IfErr, OnOk, is_err}
 use Rattle.lfs_device.specs.declared.error.Error.{Error}
 use Rattle.lfs_device.specs.declared.error.Error.TheVariants.{Io, NoMemory}
-use Rattle.lfs_files.specs.Settling.{IsReadBesideMap}
-use Rattle.lfs_files.specs.Standing.{TellsWork}
+use Rattle.lfs_writer.specs.Settling.{IsReadBesideMap}
+use Rattle.lfs_writer.specs.Standing.{TellsWork}
 use Rattle.lfs_model.specs.Discipline.{LeavesAlone}
 use Rattle.lfs_model.specs.TreeEdits.{renamed, rest_after}
 use Rattle.lfs_model.specs.InDirectory.{Stands}

@@ -22,7 +22,7 @@ use Rattle.lfs_model.proofs.AfterStops.{survives_then}
 use Rattle.lfs_model.proofs.Arranged.{arranged_after, recovered_stays}
 use Rattle.lfs_model.proofs.Committed.{recovered_from}
 use Rattle.lfs_model.proofs.Histories.{LeavesOnly-weaker, LeavesOnly-worst}
-use Rattle.lfs_files.specs.Standing.{CanFinish, Holds, LeavesPairsAndUsed, held_in}
+use Rattle.lfs_writer.specs.Standing.{CanFinish, Holds, LeavesPairsAndUsed, held_in}
 use Rattle.lfs_thread.specs.Kept.{Kept, State}
 use Rattle.lfs_thread.specs.Steps.{IsOnlyRead}
 use Rattle.lfs_tree.proofs.LeftAlone.{pair_of_alone}

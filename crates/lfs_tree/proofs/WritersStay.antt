@@ -6,7 +6,7 @@ use Rattle.std.proofs.lemmas.Option.{slice_get-get_or}
 use Rattle.lfs_device.specs.declared.geometry.Geometry.{Geometry}
 use Rattle.lfs_ctz.specs.Extended.{geometry_of, growing_of}
 use Rattle.lfs_ctz.specs.Growing.{Growing, kept_of as blocks_kept, pending_of, size_of}
-use Rattle.lfs_files.specs.Standing.{held_in}
+use Rattle.lfs_writer.specs.Standing.{held_in}
 use Rattle.lfs_model.specs.Blocks.{Blocks, block_in}
 use Rattle.lfs_model.specs.BlockSets.{BlockSets, BlockState, IsFree, IsInFlight, IsUsed, in_flight_count}
 use Rattle.lfs_model.specs.BlockSets.BlockState.{Free, InFlight, Used}

@@ -1,6 +1,6 @@
 -- An entry that goes from its directory.
 use Rattle.std.specs.Prelude.{ℕ, ◌≡◌, ◌≤◌, ◌+◌, true, false, List, [], ◌∷◌, ◌++◌}
-use Rattle.lfs_files.specs.Settling.{blocks_in_list}
+use Rattle.lfs_writer.specs.Settling.{blocks_in_list}
 use Rattle.lfs_model.specs.declared.order.NameOrder.{NameOrder}
 use Rattle.lfs_model.specs.Discipline.{LeavesAlone}
 use Rattle.lfs_model.specs.Operations as ops

@@ -1,7 +1,7 @@
 -- The skip lists that slots name, whose blocks are freed where the slots are gone.
 use Rattle.std.specs.Prelude.{ℕ, ◌≤◌, ◌+◌, false, List, [], ◌∷◌, Option, Some, None}
 use Rattle.std.specs.List.{AllByRecursion, flat_map}
-use Rattle.lfs_files.specs.Settling.{blocks_in_list}
+use Rattle.lfs_writer.specs.Settling.{blocks_in_list}
 use Rattle.lfs_model.specs.Content.{RawSlot, struct_typed}
 use Rattle.lfs_model.specs.Slots.{Slot, Struct, Inline, Ctz, Branch}
 use Rattle.lfs_model.specs.Shown.{used_blocks}

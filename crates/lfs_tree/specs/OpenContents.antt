@@ -16,7 +16,7 @@ use Rattle.lfs_model.specs.Thread.{gstate_of}
 use Rattle.lfs_model.specs.Tree.{Path}
 use Rattle.lfs_model.specs.Profile.{IsWritable}
 use Rattle.lfs_model.specs.Shown.{tree_in, used_blocks}
-use Rattle.lfs_files.specs.Standing.{StandsIn, held_in}
+use Rattle.lfs_writer.specs.Standing.{StandsIn, held_in}
 use Rattle.lfs_operations.specs.Storing.{IsWriterOf}
 use Rattle.lfs_thread.specs.Kept.{Kept}
 pub use Rattle.lfs_tree.specs.KeepsFiles.{blocks_named, list_at}

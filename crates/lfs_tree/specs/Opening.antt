@@ -3,7 +3,7 @@ use Rattle.std.specs.Prelude.{All, false}
 use Rattle.lfs_model.specs.BlockSets.{IsFree}
 use Rattle.lfs_model.specs.Slots.{Slot, Struct}
 use Rattle.lfs_model.specs.Shown.{file_blocks}
-use Rattle.lfs_files.specs.Standing.{Holds, held_in}
+use Rattle.lfs_writer.specs.Standing.{Holds, held_in}
 use Rattle.lfs_thread.specs.Kept.{Kept}
 use Rattle.lfs_lookup.specs.BytesAt.{IsFileAt}
 use Rattle.lfs_lookup.specs.FileBytes.{bytes_shown}

@@ -14,8 +14,8 @@ use Rattle.lfs_model.specs.Thread.{Pair, gstate_of}
 use Rattle.lfs_model.specs.Tree.{Path, branch_of}
 use Rattle.lfs_model.specs.Profile.{IsWritable}
 use Rattle.lfs_model.specs.Shown.{tree_in, used_blocks}
-use Rattle.lfs_files.specs.Coming.{CanCome}
-use Rattle.lfs_files.specs.Standing.{StandsIn}
+use Rattle.lfs_writer.specs.Coming.{CanCome}
+use Rattle.lfs_writer.specs.Standing.{StandsIn}
 use Rattle.lfs_operations.specs.Editing.{CanEdit, slot_at}
 use Rattle.lfs_operations.specs.Making.{HasRoomFor}
 use Rattle.lfs_operations.specs.Storing.{IsWriterOf}

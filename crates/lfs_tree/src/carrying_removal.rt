@@ -1,8 +1,8 @@
 // Entries at paths that go, in a thread of which nothing is to be recovered.
 
 ghost use Rattle.std.specs.Prelude.{ℕ, ◌≡◌, List, true, false, is_err, OnOk, IfOk, IfErr};
-ghost use Rattle.lfs_files.specs.Settling.{IsReadBesideMap};
-ghost use Rattle.lfs_files.specs.Standing.{TellsWork};
+ghost use Rattle.lfs_writer.specs.Settling.{IsReadBesideMap};
+ghost use Rattle.lfs_writer.specs.Standing.{TellsWork};
 ghost use Rattle.lfs_model.specs.TreeEdits.{removed};
 ghost use Rattle.lfs_model.specs.Operations as ops;
 ghost use Rattle.lfs_model.specs.Refusals.{as_path};
@@ -21,11 +21,10 @@ ghost use Rattle.lfs_lookup.specs.Reading.{IsReading};
 
 use crate::carrying::know_device;
 use lfs_device::{BlockDevice, Error};
-use lfs_files::{settle_file, settled_map_is_exact};
 use lfs_lookup::{Contents, Found, Path, Spot, look_up};
 use lfs_operations::{remove_directory, remove_file};
 use lfs_thread::Thread;
-use lfs_writer::Stored;
+use lfs_writer::{Stored, settle_file, settled_map_is_exact};
 use std::alloc::Global;
 
 // The entry at a path.

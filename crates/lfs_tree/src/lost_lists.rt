@@ -2,8 +2,8 @@
 
 ghost use Rattle.std.specs.Prelude.{◌≡◌, ◌++◌, ◌<◌, IfErr, IfOk, OnOk, false, is_err, length, map};
 ghost use Rattle.std.specs.Option.{option_to_list};
-ghost use Rattle.lfs_files.specs.Settling.{IsReadBesideMap};
-ghost use Rattle.lfs_files.specs.Standing.{TellsWork};
+ghost use Rattle.lfs_writer.specs.Settling.{IsReadBesideMap};
+ghost use Rattle.lfs_writer.specs.Standing.{TellsWork};
 ghost use Rattle.lfs_model.specs.LoggedContent.{HasParts, HaveParts};
 ghost use Rattle.lfs_model.specs.Slots.{Content as ModelContent};
 ghost use Rattle.lfs_operations.specs.Dropping.{SameInFlight};
@@ -17,11 +17,10 @@ ghost use Rattle.lfs_lookup.specs.Reading.{IsReading};
 ghost use Rattle.lfs_lookup.specs.Search.{HoldsContent};
 
 use lfs_device::{BlockDevice, Error};
-use lfs_files::{settle_file, settled_map_is_exact};
 use lfs_lookup::{Contents, Entry, entry_of};
 use lfs_tag::{Content, Log, Slot};
 use lfs_thread::Thread;
-use lfs_writer::Stored;
+use lfs_writer::{Stored, settle_file, settled_map_is_exact};
 use std::alloc::{AllocError, Global};
 
 // The list that a slot names, if it names one.

@@ -1,7 +1,7 @@
 // Files that get the contents of a writer, in a thread of which nothing is to be recovered.
 
 ghost use Rattle.std.specs.Prelude.{◌≡◌, ◌∷◌, [], false, true, IfErr, IfOk, OnOk};
-ghost use Rattle.lfs_files.specs.Standing.{TellsWork};
+ghost use Rattle.lfs_writer.specs.Standing.{TellsWork};
 ghost use Rattle.lfs_model.specs.TreeEdits.{change_at, is_file};
 ghost use Rattle.lfs_model.specs.History.{faults};
 ghost use Rattle.lfs_model.specs.Effects.{with_bytes};
@@ -16,13 +16,12 @@ ghost use Rattle.lfs_tree.specs.Storing.{CanCommit, CanPutContents, HasCommitted
 
 use crate::carrying::know_device;
 use lfs_device::{BlockDevice, Error};
-use lfs_files::{finish_file, settle_file};
 use lfs_lookup::{Found, Path, Spot, find_root, look_up};
 use lfs_operations::set_struct;
 use lfs_tag::ctz_bytes;
 use lfs_tag::kinds::{CTZ_STRUCT, INLINE_STRUCT};
 use lfs_thread::Thread;
-use lfs_writer::{Contents, Stored};
+use lfs_writer::{Contents, Stored, finish_file, settle_file};
 use std::alloc::Global;
 
 // The slot of a file, and its list, which has no bytes where they stand in the slot.

@@ -18,9 +18,8 @@ use crate::opening::{no_contents, open_at};
 use crate::storing::store_file_at;
 use crate::tree::Tree;
 use lfs_device::{BlockDevice, Error};
-use lfs_files::{truncate_file, write_file};
 use lfs_lookup::Path;
-use lfs_writer::Contents;
+use lfs_writer::{Contents, truncate_file, write_file};
 use std::alloc::Global;
 
 impl<D: BlockDevice> Tree<D> {

@@ -24,7 +24,7 @@ use Rattle.lfs_writer.proofs.Takings.{member}
 abbrev pub gone_of : Bool → ℕ → List ℕ → List ℕ
 gone_of in_flight shared bb = if in_flight then drop shared bb else []
 
-none_distinct : IsDistinct nat_eq []
+pub none_distinct : IsDistinct nat_eq []
 unfolding IsDistinct
 none_distinct = tt
 

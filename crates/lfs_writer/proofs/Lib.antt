@@ -19,3 +19,9 @@ pub mod Settlings
 pub mod Others
 pub mod Used
 pub mod Owning
+pub mod Geometries
+pub mod Standing
+pub mod Settled
+pub mod Outside
+pub mod Coming
+pub mod Settlement

@@ -11,3 +11,6 @@ pub mod Form
 pub mod Contents
 pub mod Settled
 pub mod Owned
+pub mod Standing
+pub mod Settling
+pub mod Coming

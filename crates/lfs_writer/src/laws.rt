@@ -1,14 +1,17 @@
 // Laws of the forms of contents, for the session above: what it says of a writer and what it holds
-// back for one cover where the contents stand.
+// back for one cover where the contents stand. And what the map has once a list is settled.
 
-ghost use Rattle.std.specs.Prelude.{◌≤◌, ◌<◌, ◌+◌, ◌-◌, ℕ, false, max, List, ◌∷◌, length};
+ghost use Rattle.std.specs.Prelude.{◌≡◌, ◌≤◌, ◌<◌, ◌+◌, ◌-◌, ℕ, false, max, Contains, List, ◌∷◌, length};
+ghost use Rattle.lfs_model.specs.BlockSets.{AreUsed, BlockSets};
 ghost use Rattle.lfs_model.specs.Disk.{inline_limit};
 ghost use Rattle.lfs_model.specs.Operations.{Flags};
 ghost use Rattle.lfs_model.specs.Session.{Writer, held_by};
+ghost use Rattle.lfs_model.specs.Steps.{count};
 ghost use Rattle.lfs_model.specs.Writers.{after_sync, after_truncate, after_write, opened_writer, write_place};
 ghost use Rattle.lfs_model.specs.Tree.{Path};
 ghost use Rattle.lfs_writer.specs.Contents.{IsLarge, NeedsRoom, end_room, truncate_room, write_room};
 ghost use Rattle.lfs_writer.specs.Form.{Form, InMemory, Finished, IsKept, form_blocks, form_size, synced, truncated, written};
+ghost use Rattle.lfs_writer.specs.Settled.{IsSettled};
 
 /// Each call of a writer leaves the contents in a form that fits what the session says of it.
 pub fn forms_keep_step()
@@ -31,4 +34,11 @@ pub fn held_blocks_are_room()
     ensures truncate { (block_size : ℕ) (form : Form) (w : Writer) (size used all : ℕ) → IsKept block_size form w → used + held_by block_size w ≤ all → used + held_by block_size (after_truncate w size) ≤ all
         → NeedsRoom (inline_limit block_size) size form → used + truncate_room block_size size form ≤ all }
     ensures end { (block_size : ℕ) (form : Form) (w : Writer) (used all : ℕ) → IsKept block_size form w → used + held_by block_size w ≤ all → used + end_room block_size form ≤ all }
+{}
+
+/// A map in which a list was settled has exactly the used blocks of the image that names it, where
+/// it had those of the image before: with the blocks that are gone, and without those that came.
+pub fn settled_map_is_exact()
+    ensures { (sets later : BlockSets) (owned used before now gone come : List ℕ) → AreUsed sets owned → ((b : ℕ) → count b owned ≤ 1) → ((b : ℕ) → count b owned + count b come ≡ count b used + count b gone)
+        → ((b : ℕ) → count b now + count b gone ≡ count b come + count b before) → ((b : ℕ) → Contains now b → Contains used b) → IsSettled sets later before now → AreUsed later used }
 {}

@@ -1,6 +1,6 @@
 use Rattle.std.proofs.Common.{ap, subst, sym}
 use Rattle.std.specs.Prelude.{OnOk}
-use Rattle.lfs_files.specs.Settling.{CanSettle, IsSettledIn, blocks_in_list}
+use Rattle.lfs_writer.specs.Settling.{CanSettle, IsSettledIn, blocks_in_list}
 use Rattle.lfs_operations.specs.Dropping.{SameInFlight}
 use Rattle.lfs_operations.specs.Ready.{IsReady}
 use Rattle.lfs_tree.specs.Going.{list_shown, no_list}

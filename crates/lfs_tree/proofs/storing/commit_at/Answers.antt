@@ -1,5 +1,5 @@
 use Rattle.std.proofs.Common.{sym, subst}
-use Rattle.lfs_files.specs.Settling.{CanSettle, IsSettledIn}
+use Rattle.lfs_writer.specs.Settling.{CanSettle, IsSettledIn}
 use Rattle.lfs_operations.specs.Changing.{WritesIn}
 use Rattle.lfs_operations.specs.Storing.{IsStored, with_contents_at}
 use Rattle.lfs_thread.specs.Kept.{Kept}

@@ -17,10 +17,11 @@ use Rattle.lfs_writer.specs.Hand.{IsStored}
 use Rattle.lfs_writer.specs.Owned.{AreOwned}
 use Rattle.lfs_writer.specs.declared.contents.Contents.TheVariants.{Finished}
 use Rattle.lfs_writer.specs.declared.stored.Stored.{Stored}
-use Rattle.lfs_files.specs.Coming.{CanCome}
-use Rattle.lfs_files.specs.Settling.{blocks_in_list}
-use Rattle.lfs_files.specs.Standing.{Holds}
-use Rattle.lfs_files.proofs.Outside.{came, come_apart, counted_both, outside}
+use Rattle.lfs_writer.specs.Coming.{CanCome}
+use Rattle.lfs_writer.specs.Settling.{blocks_in_list}
+use Rattle.lfs_writer.specs.Standing.{Holds}
+use Rattle.lfs_writer.proofs.Ends.{none_distinct}
+use Rattle.lfs_writer.proofs.Outside.{came, come_apart, counted_both, outside}
 
 flying_else : (sets : BlockSets) (b : ℕ) → b < length sets → (IsFree sets b → ⊥) → (IsUsed sets b → ⊥) → IsInFlight sets b
 flying_else sets b lt free used = go (get_or sets b Free) (slice_get-get_or sets b Free lt)
@@ -57,10 +58,6 @@ list_comes t s bytes form was holds size large owned distinct =
       apart = come_apart (blocks_in_list t s) (file_blocks t.disk was) once once_was;
       blocks = counted_both (blocks_in_list t s) (file_blocks t.disk was) once once_was;
     }
-
-none_distinct : IsDistinct nat_eq []
-unfolding IsDistinct
-none_distinct = tt
 
 -- inline
 pub inline_comes : (t : Kept) (bytes : List ℕ) (was : Struct) → length bytes ≤ inline_limit t.disk.block_size → CanCome t bytes was (Inline bytes)

@@ -13,8 +13,8 @@ use Rattle.lfs_writer.specs.Contents.{HasContents, IsLarge, NeedsRoom, Stands, e
 use Rattle.lfs_writer.specs.Form.{Form, form_size}
 use Rattle.lfs_writer.specs.Owned.{AreOwned, blocks_held}
 use Rattle.lfs_writer.specs.declared.contents.Contents.{Contents}
-use Rattle.lfs_files.specs.Standing.{CanFinish, CanTruncate, CanWrite, Holds, StandsIn, held_in}
-use Rattle.lfs_files.proofs.Geometries.{geometry_is}
+use Rattle.lfs_writer.specs.Standing.{CanFinish, CanTruncate, CanWrite, Holds, StandsIn, held_in}
+use Rattle.lfs_writer.proofs.Geometries.{geometry_is}
 
 module _ {D : Type 0} (g : Ghosts D) (t : Kept) (device : D) (map : BlockSets) (shows : Shows g t device map)
     (shape : IsDivided (g.geometry device).block_size (g.geometry device).block_count (g.blocks device)) where

@@ -3,8 +3,8 @@ use Rattle.lfs_model.specs.Writers.{written_into}
 use Rattle.lfs_thread.specs.Kept.{disk_on}
 use Rattle.lfs_writer.specs.Contents.{bytes_in, form_of}
 use Rattle.lfs_writer.specs.Form.{written}
-use Rattle.lfs_files.proofs.Standing.{holds_after, owned_after, write_here}
-use Rattle.lfs_files.proofs.writing.write_file.Goals as goal
+use Rattle.lfs_writer.proofs.Standing.{holds_after, owned_after, write_here}
+use Rattle.lfs_writer.proofs.files.write_file.Goals as goal
 
 pub beside-requires-clause-can : goal.beside-requires-clause-can
 beside-requires-clause-can g c device map shows = record {

@@ -1,34 +1,35 @@
-use Rattle.std.proofs.Common.{rules, ap, ◌∙◌}
+use Rattle.std.proofs.Common.{rules, ap, take, ◌∙◌}
+use Rattle.lfs_model.specs.Writers.{zeros_to}
 use Rattle.lfs_thread.specs.Kept.{disk_on}
 use Rattle.lfs_writer.specs.Contents.{bytes_in, form_of}
-use Rattle.lfs_writer.specs.Contents.{finished}
-use Rattle.lfs_files.proofs.Standing.{holds_after, owned_after, finish_here}
-use Rattle.lfs_files.proofs.finishing.finish_file.Goals as goal
+use Rattle.lfs_writer.specs.Form.{truncated}
+use Rattle.lfs_writer.proofs.Standing.{holds_after, owned_after, truncate_here}
+use Rattle.lfs_writer.proofs.files.truncate_file.Goals as goal
 
 pub beside-requires-clause-can : goal.beside-requires-clause-can
 beside-requires-clause-can g c device map shows = record {
-  can = λ p q here here_map _ _ _ _ _ _ _ _ _ _ _ _.
-      finish_here g.D.BlockDevice c.args.thread.now.kept p.now q.now
+  can = λ p q here here_map _ _ _ _ _ _ _ _ _ _ _ _ _ _.
+      truncate_here g.D.BlockDevice c.args.thread.now.kept p.now q.now
       (record { disk = ap (disk_on g.D.BlockDevice) here ∙ shows.disk; history = ap g.D.BlockDevice.history here ∙ shows.history; map = here_map ∙ shows.map })
-      (g.met.D.BlockDevice.shape p.now) c.args.contents c.requires.can;
+      (g.met.D.BlockDevice.shape p.now) c.args.contents c.args.limit c.args.size c.requires.can;
 }
 
-pub returns-clause-finished : goal.returns-clause-finished
-returns-clause-finished g c =
-    let ran = c.in_ok-finished.ensures.ran in
+pub returns-clause-truncated : goal.returns-clause-truncated
+returns-clause-truncated g c =
+    let ran = c.in_ok-truncated.ensures.ran in
     let run = ran.run in
     holds_after g.D.BlockDevice c.args.thread.now.kept c.beside.new.self.kept run.shown.now run.left.now run.shown_map.now run.left_map.now
     (record { disk = ap (disk_on g.D.BlockDevice) run.shows ∙ ran.before.disk; history = ap g.D.BlockDevice.history run.shows ∙ ran.before.history; map = run.shows_map ∙ ran.before.map })
     (record { disk = ap (disk_on g.D.BlockDevice) run.leaves ∙ ran.after.disk; history = ap g.D.BlockDevice.history run.leaves ∙ ran.after.history; map = run.leaves_map ∙ ran.after.map })
     (g.met.D.BlockDevice.shape run.shown.now) (g.met.D.BlockDevice.shape run.left.now) (search rules)
-    (λ d n. bytes_in d n c.args.contents) (finished (form_of c.args.contents)) c.in_ok-finished.finished
+    (λ d n. take c.args.size (zeros_to c.args.size (bytes_in d n c.args.contents))) (truncated c.args.limit c.args.size (form_of c.args.contents)) c.in_ok-truncated.truncated
     (search rules)
 
 pub returns-clause-owned : goal.returns-clause-owned
 returns-clause-owned g c =
-    let ran = c.in_ok-finished.ensures.ran in
+    let ran = c.in_ok-truncated.ensures.ran in
     let run = ran.run in
     owned_after g.D.BlockDevice c.args.thread.now.kept c.beside.new.self.kept run.shown.now run.left.now run.shown_map.now run.left_map.now
     (record { disk = ap (disk_on g.D.BlockDevice) run.shows ∙ ran.before.disk; history = ap g.D.BlockDevice.history run.shows ∙ ran.before.history; map = run.shows_map ∙ ran.before.map })
     (record { disk = ap (disk_on g.D.BlockDevice) run.leaves ∙ ran.after.disk; history = ap g.D.BlockDevice.history run.leaves ∙ ran.after.history; map = run.leaves_map ∙ ran.after.map })
-    (g.met.D.BlockDevice.shape run.shown.now) (g.met.D.BlockDevice.shape run.left.now) (search rules) c.args.contents c.in_ok-finished.finished (search rules)
+    (g.met.D.BlockDevice.shape run.shown.now) (g.met.D.BlockDevice.shape run.left.now) (search rules) c.args.contents c.in_ok-truncated.truncated (search rules)

@@ -12,8 +12,8 @@ use Rattle.lfs_thread.specs.Kept.{Kept}
 use Rattle.lfs_writer.specs.Based.{IsBase, list_blocks}
 use Rattle.lfs_writer.specs.Settled.{IsSettled, KeepsOthers}
 use Rattle.lfs_writer.specs.declared.stored.Stored.{Stored}
-use Rattle.lfs_files.specs.Settling.{CanSettle, IsSettledIn, blocks_in_list}
-use Rattle.lfs_files.proofs.Standing.{blocks_here, size_here}
+use Rattle.lfs_writer.specs.Settling.{CanSettle, IsSettledIn, blocks_in_list}
+use Rattle.lfs_writer.proofs.Standing.{blocks_here, size_here}
 
 module _ {D : Type 0} (g : Ghosts D) (t : Kept) (device : D) (map : BlockSets) (shows : Shows g t device map)
     (shape : IsDivided (g.geometry device).block_size (g.geometry device).block_count (g.blocks device)) (before stored : Stored) (can : CanSettle t before stored) where

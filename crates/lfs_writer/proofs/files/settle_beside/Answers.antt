@@ -2,8 +2,8 @@ use Rattle.std.proofs.Common.{rules, ap, subst, ◌∙◌}
 use Rattle.lfs_model.specs.BlockSets.{BlockSets}
 use Rattle.lfs_thread.specs.Beside.{LeavesPairs}
 use Rattle.lfs_thread.specs.Kept.{disk_on}
-use Rattle.lfs_files.proofs.Settled.{settle_here, settle_leaves, settled_after}
-use Rattle.lfs_files.proofs.settling.settle_beside.Goals as goal
+use Rattle.lfs_writer.proofs.Settled.{settle_here, settle_leaves, settled_after}
+use Rattle.lfs_writer.proofs.files.settle_beside.Goals as goal
 
 pub beside-requires-clause-can : goal.beside-requires-clause-can
 beside-requires-clause-can g c device map shows = record {

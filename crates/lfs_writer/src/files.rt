@@ -1,0 +1,140 @@
+// The contents of files that are open for writing, on the device of a thread of metadata pairs.
+
+ghost use Rattle.std.specs.Prelude.{◌≡◌, false, is_err, length, take, IfOk, OnOk};
+ghost use Rattle.lfs_model.specs.Writers.{written_into, zeros_to};
+ghost use Rattle.lfs_writer.specs.Settling.{CanSettle, IsReadBesideMap, IsSettledIn};
+ghost use Rattle.lfs_writer.specs.Standing.{CanFinish, CanTruncate, CanWrite, Holds, LeavesPairsAndUsed, TellsWork, held_in};
+ghost use Rattle.lfs_writer.specs.Contents.{bytes_in, finished, form_of};
+ghost use Rattle.lfs_writer.specs.Form.{truncated, written};
+ghost use Rattle.lfs_writer.specs.Owned.{AreOwned};
+
+use crate::{Contents, Stored, finish, settle_list, truncate_contents, write_contents};
+use lfs_device::{BlockDevice, Error};
+use lfs_thread::Thread;
+use std::alloc::Global;
+
+/// Writes bytes, at least one, at a place of the contents of an open writer; zeros fill a gap
+/// before it. The pairs of the thread stay as they are.
+///
+/// Contents of at most `limit` bytes are kept in memory. The contents are gone after an error:
+/// `Io` where the device failed, `NoMemory` where there is no memory for a block or an empty cache.
+/// The thread works on.
+pub fn write_file<D: BlockDevice>(
+    alloc: Global,
+    thread: &mut Thread<D>,
+    contents: Contents,
+    limit: u32,
+    place: u32,
+    bytes: &[u8],
+) -> Result<Contents, Error>
+    requires works { thread.old.failed ≡ false }
+    requires can { CanWrite thread.old.kept contents limit place (length bytes.now) }
+    ensures written { IfOk result (λ c. Holds thread.new.kept c (written_into (bytes_in thread.old.kept.disk.blocks thread.old.kept.disk.block_size contents) place bytes.now)
+        (written limit place (length bytes.now) (form_of contents))) }
+    ensures owned { IfOk result (λ c. AreOwned thread.new.kept.map (held_in thread.old.kept contents) (held_in thread.new.kept c)) }
+    ensures works { thread.new.failed ≡ false }
+    ensures leaves { LeavesPairsAndUsed thread.old.kept thread.new.kept }
+    ensures tells { TellsWork thread.old.kept thread.new.kept result }
+{
+    let written = thread.beside(alloc, |device, map| {
+        write_contents(alloc, device, map, contents, limit, place, bytes)
+    })?;
+    written
+}
+
+/// Cuts the contents of an open writer to a size, or fills them up to it with zeros. The pairs of
+/// the thread stay as they are.
+///
+/// Contents of at most `limit` bytes are kept in memory. The contents are gone after an error:
+/// `Io` where the device failed, `NoMemory` where there is no memory for a block or an empty cache.
+/// The thread works on.
+pub fn truncate_file<D: BlockDevice>(
+    alloc: Global,
+    thread: &mut Thread<D>,
+    contents: Contents,
+    limit: u32,
+    size: u32,
+) -> Result<Contents, Error>
+    requires works { thread.old.failed ≡ false }
+    requires can { CanTruncate thread.old.kept contents limit size }
+    ensures truncated { IfOk result (λ c. Holds thread.new.kept c (take size (zeros_to size (bytes_in thread.old.kept.disk.blocks thread.old.kept.disk.block_size contents)))
+        (truncated limit size (form_of contents))) }
+    ensures owned { IfOk result (λ c. AreOwned thread.new.kept.map (held_in thread.old.kept contents) (held_in thread.new.kept c)) }
+    ensures works { thread.new.failed ≡ false }
+    ensures leaves { LeavesPairsAndUsed thread.old.kept thread.new.kept }
+    ensures tells { TellsWork thread.old.kept thread.new.kept result }
+{
+    let truncated = thread.beside(alloc, |device, map| {
+        truncate_contents(alloc, device, map, contents, limit, size)
+    })?;
+    truncated
+}
+
+/// Ends the list in hand of an open writer, where there is one. The contents stay, and so do the
+/// pairs of the thread.
+///
+/// The contents are gone after an error: `Io` where the device failed, `NoMemory` where there is no
+/// memory for a block or an empty cache. The thread works on.
+pub fn finish_file<D: BlockDevice>(
+    alloc: Global,
+    thread: &mut Thread<D>,
+    contents: Contents,
+) -> Result<Contents, Error>
+    requires works { thread.old.failed ≡ false }
+    requires can { CanFinish thread.old.kept contents }
+    ensures finished { IfOk result (λ c. Holds thread.new.kept c (bytes_in thread.old.kept.disk.blocks thread.old.kept.disk.block_size contents) (finished (form_of contents))) }
+    ensures owned { IfOk result (λ c. AreOwned thread.new.kept.map (held_in thread.old.kept contents) (held_in thread.new.kept c)) }
+    ensures works { thread.new.failed ≡ false }
+    ensures leaves { LeavesPairsAndUsed thread.old.kept thread.new.kept }
+    ensures tells { TellsWork thread.old.kept thread.new.kept result }
+{
+    let finished = thread.beside(alloc, |device, map| finish(alloc, device, map, contents))?;
+    finished
+}
+
+// Settles a list in the map of a thread, which works on; after an error the map is of no use.
+fn settle_beside<D: BlockDevice>(
+    alloc: Global,
+    thread: &mut Thread<D>,
+    before: Stored,
+    stored: Stored,
+) -> Result<(), Error>
+    requires works { thread.old.failed ≡ false }
+    requires can { CanSettle thread.old.kept before stored }
+    ensures settled { OnOk result (IsSettledIn thread.old.kept before stored thread.new.kept) }
+    ensures only { IsReadBesideMap thread.old.kept thread.new.kept }
+    ensures works { thread.new.failed ≡ false }
+    ensures tells { TellsWork thread.old.kept thread.new.kept result }
+{
+    let settled = thread.beside(
+        alloc,
+        |device, map| settle_list(device, map, before, stored),
+    )?;
+    settled
+}
+
+/// Settles a finished list once a commit names it: its blocks are used, and those that only the
+/// list before it had are free. Either list may have no bytes, and then has no block. Nothing is
+/// written.
+///
+/// After an error, `Io` where the device failed or `NoMemory` where there is no memory for an empty
+/// cache, the thread has failed, since its map is of no use any more.
+pub fn settle_file<D: BlockDevice>(
+    alloc: Global,
+    thread: &mut Thread<D>,
+    before: Stored,
+    stored: Stored,
+) -> Result<(), Error>
+    requires works { thread.old.failed ≡ false }
+    requires can { CanSettle thread.old.kept before stored }
+    ensures settled { OnOk result (IsSettledIn thread.old.kept before stored thread.new.kept) }
+    ensures only { IsReadBesideMap thread.old.kept thread.new.kept }
+    ensures failed { thread.new.failed ≡ is_err result }
+    ensures tells { TellsWork thread.old.kept thread.new.kept result }
+{
+    let result = settle_beside(alloc, thread, before, stored);
+    if result.is_err() {
+        thread.fail();
+    }
+    result
+}

@@ -1,0 +1,3 @@
+mod Carrying
+mod FirstRefusal
+mod Images

@@ -1,0 +1,46 @@
+-- What a buffer tells of a reply.
+use Rattle.std.specs.Prelude.{ℕ, ◌≡◌, ◌++◌, nat_le, if◌then◌else◌, List, [], ◌∷◌, length, Option, Some, None, Result, Ok, Err, codes}
+use Rattle.std.specs.List.{flat_map}
+use Rattle.std.specs.Fmt.{decimal}
+use Rattle.lfs_model.specs.Blocks.{overwritten}
+use Rattle.lfs_model.specs.Listing.{escaped_text, newline}
+use Rattle.lfs_model.specs.Operations as ops
+use Rattle.lfs_model.specs.Operations.{Item, Operation, Reply}
+use Rattle.lfs_model.specs.Run.{Moment}
+use Rattle.lfs_device.specs.declared.error.Error.{Error}
+use Rattle.littlefs_c.specs.Calls.{Refuses, Runs}
+
+-- what a line says of a file of that size, or of a directory, before its name
+abbrev pub head_of : Option ℕ → List ℕ
+head_of (Some size) = codes "f " ++ decimal size ++ codes " "
+head_of None = codes "d 0 "
+
+abbrev pub line_of : Item → List ℕ
+line_of item = head_of item.size ++ escaped_text item.name ++ newline
+
+abbrev pub lines_of : List Item → List ℕ
+lines_of items = flat_map line_of items
+
+-- what a buffer tells of a reply: the lines of a directory, or the bytes
+abbrev pub told : Reply → List ℕ
+told (ops.Items items) = lines_of items
+told (ops.Bytes bytes) = bytes
+told _ = []
+
+-- bytes at the beginning of a buffer, which stays as it is where they don't fit
+abbrev pub put_in : List ℕ → List ℕ → List ℕ
+put_in bytes buffer = if nat_le (length bytes) (length buffer) then overwritten buffer 0 bytes else buffer
+
+-- The last reply is told in the buffer, if there is room. The answer is the room that it wants.
+pub record IsTold (block_size page : ℕ) (image : List ℕ) (operations : List Operation) (answer : ℕ) (old new : List ℕ) : Type 0 where
+  pub replies : List Reply
+  pub last : Reply
+  pub to : Moment
+  pub runs : Runs block_size page image operations (replies ++ last ∷ []) to
+  pub room : answer ≡ length (told last)
+  pub buffer : new ≡ put_in (told last) old
+
+-- what is told, or why the buffer stays
+abbrev pub Tells : ℕ → ℕ → List ℕ → List Operation → Result ℕ Error → List ℕ → List ℕ → Type 0
+Tells block_size page image operations (Ok room) old new = IsTold block_size page image operations room old new
+Tells block_size page image operations (Err e) old new = (new ≡ old) × Refuses block_size page image operations e

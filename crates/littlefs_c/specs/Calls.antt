@@ -1,0 +1,101 @@
+-- What a call over an image answers, and what it leaves in the image.
+use Rattle.std.specs.Prelude.{ℕ, ◌≡◌, ◌⊎◌, ◌*◌, true, false, List, [], ◌∷◌, ◌++◌, length, Result, Ok, Err, All}
+use Rattle.lfs_model.specs.Disk.{Disk, IsImage, disk_of}
+use Rattle.lfs_model.specs.Operations as ops
+use Rattle.lfs_model.specs.Operations.{Operation, Reply}
+use Rattle.lfs_model.specs.Run.{AreTurns, IsTurn, Moment}
+use Rattle.lfs_model.specs.Run as run
+use Rattle.lfs_model.specs.Shown.{tree_in}
+use Rattle.lfs_model.specs.State.{Healthy, mounted}
+use Rattle.lfs_model.specs.Thread.{Pair}
+use Rattle.lfs_model.specs.View.{IsAccepted}
+use Rattle.lfs_model.specs.declared.order.NameOrder.{NameOrder}
+use Rattle.lfs_model.specs.declared.order.NameOrder.TheVariants.{LongerFirst, ShorterFirst}
+use Rattle.lfs_device.specs.RamDevice.{bytes_of, geometry_of, history_of}
+use Rattle.lfs_device.specs.declared.error.Error.{Error}
+use Rattle.lfs_device.specs.declared.error.Error.TheVariants.{Corrupt, Invalid, NoMemory}
+use Rattle.lfs_device.specs.declared.ram.RamDevice.{RamDevice}
+use Rattle.lfs_lookup.specs.Refusals.{is_refusal, refusal_in}
+
+-- ---- a session over an image
+
+-- A device that holds an image, and has had no call.
+pub record IsOf (block_size page : ℕ) (image : List ℕ) (d : RamDevice) : Type 0 where
+  pub whole : IsImage block_size page image
+  pub size : (geometry_of d).block_size ≡ block_size
+  pub its_page : (geometry_of d).page ≡ page
+  pub bytes : bytes_of d ≡ image
+  pub no_call : history_of d ≡ []
+
+-- A session as a mount of the image begins it. The image is accepted, with the longer names first where both orders fit.
+pub record IsMounted (block_size page : ℕ) (image : List ℕ) (from : Moment) : Type 0 where
+  pub whole : IsImage block_size page image
+  pub disk : from.disk ≡ disk_of block_size page from.disk.order image
+  pub longer : from.disk.order ≡ ShorterFirst → (ps : List Pair) → ¬ IsAccepted (disk_of block_size page LongerFirst image) ps
+  pub pairs : List Pair
+  pub accepted : IsAccepted from.disk pairs
+  pub mounts : from.state ≡ Healthy (mounted (tree_in from.disk pairs))
+
+-- the image is accepted, and a session begins with it
+abbrev pub IsBegun : ℕ → ℕ → List ℕ → Type 0
+IsBegun block_size page image = (from : Moment) × IsMounted block_size page image from
+
+-- What keeps a call from any operation: the bytes are no image of that geometry, none is accepted in them, or memory is wanting.
+abbrev pub Prevents : ℕ → ℕ → List ℕ → Error → Type 0
+Prevents block_size page image Invalid = ¬ IsImage block_size page image
+Prevents block_size page image Corrupt = (order : NameOrder) (ps : List Pair) → ¬ IsAccepted (disk_of block_size page order image) ps
+Prevents block_size page image NoMemory = Unit {0}
+Prevents block_size page image other = ⊥
+
+-- an accepted image, or why it isn't one
+abbrev pub Checks : {X : Type 0} → ℕ → ℕ → List ℕ → Result X Error → Type 0
+Checks block_size page image (Ok x) = IsBegun block_size page image
+Checks block_size page image (Err e) = Prevents block_size page image e
+
+-- ---- operations
+
+-- Operations of a session that begins with a mount of the image, with their replies, none of which refuses.
+pub record Runs (block_size page : ℕ) (image : List ℕ) (operations : List Operation) (replies : List Reply) (to : Moment) : Type 0 where
+  pub from : Moment
+  pub mounts : IsMounted block_size page image from
+  pub turns : AreTurns from operations replies to
+  pub accepted : All (λ r. run.is_refusal r ≡ false) replies
+
+abbrev pub RunsThese : ℕ → ℕ → List ℕ → List Operation → Moment → Type 0
+RunsThese block_size page image operations to = (replies : List Reply) × Runs block_size page image operations replies to
+
+-- One of the operations is refused by that error, behind those that are accepted.
+pub record HasRefusal (block_size page : ℕ) (image : List ℕ) (operations : List Operation) (e : Error) : Type 0 where
+  pub done : List Operation
+  pub next : Operation
+  pub others : List Operation
+  pub are : operations ≡ done ++ next ∷ others
+  pub replies : List Reply
+  pub at : Moment
+  pub runs : Runs block_size page image done replies at
+  pub to : Moment
+  pub refused : IsTurn at next (ops.Refused (refusal_in e)) to
+  pub refusal : is_refusal e ≡ true
+
+abbrev pub Refuses : ℕ → ℕ → List ℕ → List Operation → Error → Type 0
+Refuses block_size page image operations e = Prevents block_size page image e ⊎ HasRefusal block_size page image operations e
+
+-- ---- results
+
+-- the reply to the last of the operations, or why there is none
+abbrev pub Asks : {X : Type 0} → ℕ → ℕ → List ℕ → List Operation → (X → Reply) → Result X Error → Type 0
+Asks block_size page image operations reply (Ok x) =
+    (replies : List Reply) × ((to : Moment) × Runs block_size page image operations (replies ++ reply x ∷ []) to)
+Asks block_size page image operations reply (Err e) = Refuses block_size page image operations e
+
+-- The new image is the disk that the operations leave.
+pub record Leaves (block_size page : ℕ) (old : List ℕ) (operations : List Operation) (new : List ℕ) : Type 0 where
+  pub to : Moment
+  pub runs : RunsThese block_size page old operations to
+  pub len : length new ≡ length old
+  pub disk : to.disk ≡ disk_of block_size page to.disk.order new
+
+-- the image is what the operations leave, or it stays, and that is why
+abbrev pub Changes : {X : Type 0} → ℕ → ℕ → List ℕ → List Operation → Result X Error → List ℕ → Type 0
+Changes block_size page old operations (Ok x) new = Leaves block_size page old operations new
+Changes block_size page old operations (Err e) new = (new ≡ old) × Refuses block_size page old operations e

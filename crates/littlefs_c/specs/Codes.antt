@@ -1,0 +1,30 @@
+-- Answers as one number: 0 and more, or minus an error's number.
+use Rattle.std.specs.Prelude.{ℕ, ℤ, ◌≡◌, pos, ◌-ℤ◌, ◌==◌, if◌then◌else◌, Option, Some, None, Result, Ok, Err}
+use Rattle.lfs_device.specs.Error.{number_of}
+use Rattle.lfs_device.specs.declared.error.Error.{Error}
+use Rattle.lfs_device.specs.declared.error.Error.TheVariants.{Invalid}
+use Rattle.lfs_model.specs.declared.order.NameOrder.{NameOrder}
+use Rattle.lfs_model.specs.declared.order.NameOrder.TheVariants.{LongerFirst, ShorterFirst}
+
+abbrev pub code_of : {X : Type 0} → (X → ℕ) → Result X Error → ℤ
+code_of number (Ok x) = pos (number x)
+code_of number (Err e) = pos 0 -ℤ pos (number_of e)
+
+-- the order of names that a number stands for
+abbrev pub order_of : ℕ → Result NameOrder Error
+order_of n = if n == 0 then Ok LongerFirst else (if n == 1 then Ok ShorterFirst else Err Invalid)
+
+-- a file's size, and 2 to the 32nd for a directory
+abbrev pub size_number : Option ℕ → ℕ
+size_number (Some size) = size
+size_number None = 4294967296
+
+-- the number answers a result that is as said
+abbrev pub SaysDone : ℤ → (Result Unit Error → Type 0) → Type 0
+SaysDone code P = (r : Result Unit Error) × ((code ≡ code_of (λ _. 0) r) × P r)
+
+abbrev pub SaysCount : ℤ → (Result ℕ Error → Type 0) → Type 0
+SaysCount code P = (r : Result ℕ Error) × ((code ≡ code_of (λ n. n) r) × P r)
+
+abbrev pub SaysSize : ℤ → (Result (Option ℕ) Error → Type 0) → Type 0
+SaysSize code P = (r : Result (Option ℕ) Error) × ((code ≡ code_of size_number r) × P r)

@@ -1,0 +1,6 @@
+pub mod Calls
+pub mod Buffers
+pub mod Codes
+pub mod Starts
+pub mod FirstRefused
+pub mod Files

@@ -1,0 +1,234 @@
+// The calls over an image.
+
+ghost use Rattle.std.specs.Prelude.{◌≡◌, ◌∷◌, ◌<◌, ◌^◌, ◌-◌, [], min, length, IfOk};
+ghost use Rattle.lfs_model.specs.Operations as ops;
+ghost use Rattle.lfs_checks.specs.FlagsSeen.{flags_seen};
+ghost use Rattle.littlefs_c.specs.Buffers.{Tells, put_in};
+ghost use Rattle.littlefs_c.specs.Codes.{order_of};
+ghost use Rattle.littlefs_c.specs.Calls.{Changes, Checks};
+ghost use Rattle.littlefs_c.specs.Files.{reading, replacing_flags, writing};
+ghost use Rattle.littlefs_c.specs.Starts.{FormatsIn};
+
+use crate::image::{begin, device};
+use crate::lines::lines_of;
+use crate::reading::{attribute_at, bytes_at, items_at};
+use crate::running::change;
+use bitflags::Flags;
+use lfs_device::{Error, NameOrder};
+use lfs_fs::{Op, OpenFlags, format_ordered};
+use std::alloc::Global;
+
+// The order of names that a number stands for.
+fn order_named(number: u32) -> Result<NameOrder, Error>
+    ensures { order_of number ≡ result }
+{
+    match number {
+        0 => Ok(NameOrder::LongerFirst),
+        1 => Ok(NameOrder::ShorterFirst),
+        _ => Err(Error::Invalid),
+    }
+}
+
+// Makes an image an empty file system.
+pub(crate) fn format(
+    alloc: Global,
+    image: &mut [u8],
+    block_size: u32,
+    page: u32,
+    order: u32,
+) -> Result<(), Error>
+    ensures { FormatsIn block_size page order image.old result image.new }
+{
+    let order = order_named(order)?;
+    let device = device(alloc, image, block_size, page)?;
+    match format_ordered(alloc, device, order) {
+        Ok(session) => {
+            image.copy_from_slice(session.device().bytes());
+            Ok(())
+        }
+        // The device has met no fault, so memory was wanting.
+        Err((_device, error)) => Err(error),
+    }
+}
+
+// Whether an image is accepted.
+pub(crate) fn check(alloc: Global, image: &[u8], block_size: u32, page: u32) -> Result<(), Error>
+    ensures { Checks block_size page image.now result }
+{
+    begin(alloc, image, block_size, page)?;
+    Ok(())
+}
+
+// Puts bytes at the beginning of a buffer where they fit, and says how many they are.
+fn hand_over(bytes: &[u8], buffer: &mut [u8]) -> usize
+    ensures room { result ≡ length bytes.now }
+    ensures small { result < 2 ^ 63 }
+    ensures buffer { buffer.new ≡ put_in bytes.now buffer.old }
+{
+    if bytes.len() <= buffer.len() {
+        buffer[..bytes.len()].copy_from_slice(bytes);
+    }
+    bytes.len()
+}
+
+// The lines of a directory.
+pub(crate) fn list(
+    alloc: Global,
+    image: &[u8],
+    block_size: u32,
+    page: u32,
+    path: &[u8],
+    buffer: &mut [u8],
+) -> Result<usize, Error>
+    ensures told { Tells block_size page image.now (ops.ListAll path.now ∷ []) result buffer.old buffer.new }
+    ensures small { IfOk result (λ n. n < 2 ^ 63) }
+{
+    let items = items_at(alloc, image, block_size, page, path)?;
+    let text = lines_of(alloc, &items)?;
+    Ok(hand_over(&text, buffer))
+}
+
+// The bytes of a file from a position on, as many as there is room for.
+pub(crate) fn read(
+    alloc: Global,
+    image: &[u8],
+    block_size: u32,
+    page: u32,
+    path: &[u8],
+    position: u32,
+    buffer: &mut [u8],
+) -> Result<usize, Error>
+    ensures told { Tells block_size page image.now (reading path.now position (min (length buffer.old) (2 ^ 32 - 1))) result buffer.old buffer.new }
+    ensures small { IfOk result (λ n. n < 2 ^ 63) }
+{
+    let count = buffer.len().min(4_294_967_295) as u32;
+    let bytes = bytes_at(alloc, image, block_size, page, path, position, count)?;
+    Ok(hand_over(&bytes, buffer))
+}
+
+// The bytes of an entry's attribute.
+pub(crate) fn get_attr(
+    alloc: Global,
+    image: &[u8],
+    block_size: u32,
+    page: u32,
+    path: &[u8],
+    kind: u8,
+    buffer: &mut [u8],
+) -> Result<usize, Error>
+    ensures told { Tells block_size page image.now (ops.GetAttr path.now kind ∷ []) result buffer.old buffer.new }
+    ensures small { IfOk result (λ n. n < 2 ^ 63) }
+{
+    let bytes = attribute_at(alloc, image, block_size, page, path, kind)?;
+    Ok(hand_over(&bytes, buffer))
+}
+
+// How a file is opened that is made, or made empty.
+fn replacing() -> OpenFlags
+    ensures { flags_seen result ≡ replacing_flags }
+{
+    let mut flags = OpenFlags::WRITE;
+    flags.insert(OpenFlags::CREATE);
+    flags.insert(OpenFlags::TRUNCATE);
+    flags
+}
+
+// Puts a file with these bytes, in place of the one at the path if there is one.
+pub(crate) fn write<'a>(
+    alloc: Global,
+    image: &mut [u8],
+    block_size: u32,
+    page: u32,
+    path: &'a [u8],
+    bytes: &'a [u8],
+) -> Result<(), Error>
+    ensures { Changes block_size page image.old (writing path.now bytes.now) result image.new }
+{
+    let ops = [
+        Op::Open(path, replacing()),
+        Op::Write(0, bytes),
+        Op::Close(0),
+    ];
+    change(alloc, image, block_size, page, &ops)
+}
+
+// Makes an empty directory.
+pub(crate) fn mkdir(
+    alloc: Global,
+    image: &mut [u8],
+    block_size: u32,
+    page: u32,
+    path: &[u8],
+) -> Result<(), Error>
+    ensures { Changes block_size page image.old (ops.Mkdir path.now ∷ []) result image.new }
+{
+    change(alloc, image, block_size, page, &[Op::Mkdir(path)])
+}
+
+// Takes a file, or a directory without entries.
+pub(crate) fn remove(
+    alloc: Global,
+    image: &mut [u8],
+    block_size: u32,
+    page: u32,
+    path: &[u8],
+) -> Result<(), Error>
+    ensures { Changes block_size page image.old (ops.Remove path.now ∷ []) result image.new }
+{
+    change(alloc, image, block_size, page, &[Op::Remove(path)])
+}
+
+// Gives an entry another path.
+pub(crate) fn rename<'a>(
+    alloc: Global,
+    image: &mut [u8],
+    block_size: u32,
+    page: u32,
+    from: &'a [u8],
+    to: &'a [u8],
+) -> Result<(), Error>
+    ensures { Changes block_size page image.old (ops.Rename from.now to.now ∷ []) result image.new }
+{
+    change(alloc, image, block_size, page, &[Op::Rename(from, to)])
+}
+
+// Gives an entry an attribute.
+pub(crate) fn set_attr<'a>(
+    alloc: Global,
+    image: &mut [u8],
+    block_size: u32,
+    page: u32,
+    path: &'a [u8],
+    kind: u8,
+    bytes: &'a [u8],
+) -> Result<(), Error>
+    ensures { Changes block_size page image.old (ops.SetAttr path.now kind bytes.now ∷ []) result image.new }
+{
+    change(
+        alloc,
+        image,
+        block_size,
+        page,
+        &[Op::SetAttr(path, kind, bytes)],
+    )
+}
+
+// Takes an attribute from an entry.
+pub(crate) fn remove_attr(
+    alloc: Global,
+    image: &mut [u8],
+    block_size: u32,
+    page: u32,
+    path: &[u8],
+    kind: u8,
+) -> Result<(), Error>
+    ensures { Changes block_size page image.old (ops.RemoveAttr path.now kind ∷ []) result image.new }
+{
+    change(
+        alloc,
+        image,
+        block_size,
+        page,
+        &[Op::RemoveAttr(path, kind)],
+    )
+}

@@ -1,0 +1,54 @@
+// Results as one number.
+
+ghost use Rattle.std.specs.Prelude.{◌≡◌, ◌<◌, ◌^◌, pos, ◌-ℤ◌, IfOk};
+ghost use Rattle.lfs_device.specs.Error.{number_of};
+ghost use Rattle.littlefs_c.specs.Codes.{code_of, size_number};
+
+use lfs_device::Error;
+
+fn error_code(error: Error) -> i64
+    ensures { result ≡ pos 0 -ℤ pos (number_of error) }
+{
+    -i64::from(error.number())
+}
+
+// 0 where it was done.
+pub(crate) fn done_code(answer: Result<(), Error>) -> i64
+    ensures { result ≡ code_of (λ _. 0) answer }
+{
+    match answer {
+        Ok(()) => 0,
+        Err(error) => error_code(error),
+    }
+}
+
+pub(crate) fn count_code(answer: Result<u32, Error>) -> i64
+    ensures { result ≡ code_of (λ n. n) answer }
+{
+    match answer {
+        Ok(count) => i64::from(count),
+        Err(error) => error_code(error),
+    }
+}
+
+// A file's size, or 2 to the 32nd for a directory.
+pub(crate) fn size_code(answer: Result<Option<u32>, Error>) -> i64
+    ensures { result ≡ code_of size_number answer }
+{
+    match answer {
+        Ok(Some(size)) => i64::from(size),
+        Ok(None) => 4_294_967_296,
+        Err(error) => error_code(error),
+    }
+}
+
+// The room that is wanted.
+pub(crate) fn room_code(answer: Result<usize, Error>) -> i64
+    requires { IfOk answer (λ n. n < 2 ^ 63) }
+    ensures { result ≡ code_of (λ n. n) answer }
+{
+    match answer {
+        Ok(room) => room as i64,
+        Err(error) => error_code(error),
+    }
+}

@@ -1,0 +1,10 @@
+//! littlefs over images in memory, to be called from C: each call carries out one operation of a session.
+#![tactic(auto)]
+
+mod calls;
+mod codes;
+mod exports;
+mod image;
+mod lines;
+mod reading;
+mod running;

@@ -1,0 +1,79 @@
+// The lines that tell what stands in a directory.
+
+ghost use Rattle.std.specs.Prelude.{◌≡◌, ◌++◌, ◌<◌, map, IfOk, OnOk};
+ghost use Rattle.lfs_model.specs.Listing.{escaped, escaped_text, hex_digit};
+ghost use Rattle.lfs_lookup.specs.Finds.{list_item_seen};
+ghost use Rattle.littlefs_c.specs.Buffers.{head_of, line_of, lines_of};
+
+use lfs_lookup::ListItem;
+use std::alloc::{AllocError, Global};
+use std::io::Write;
+
+fn digit(value: u8) -> u8
+    requires { value < 16 }
+    ensures { result ≡ hex_digit value }
+{
+    if value < 10 {
+        b'0' + value
+    } else {
+        b'a' + (value - 10)
+    }
+}
+
+fn push_escaped(text: &mut Vec<u8>, byte: u8) -> Result<(), AllocError>
+    ensures { OnOk result (text.new.items ≡ text.old.items ++ escaped byte) }
+{
+    if (0x20..=0x7e).contains(&byte) && byte != b'\\' {
+        text.push(byte)?;
+    } else {
+        let shown = [b'\\', b'x', digit(byte / 16), digit(byte % 16)];
+        text.extend_from_slice(&shown)?;
+    }
+    Ok(())
+}
+
+// Adds a name as it is listed.
+fn push_name(text: &mut Vec<u8>, name: &[u8]) -> Result<(), AllocError>
+    ensures { OnOk result (text.new.items ≡ text.old.items ++ escaped_text name.now) }
+{
+    for byte in name {
+        push_escaped(text, *byte)?;
+    }
+    Ok(())
+}
+
+// Adds what a line says before the name.
+fn push_head(text: &mut Vec<u8>, size: Option<u32>) -> Result<(), AllocError>
+    ensures { OnOk result (text.new.items ≡ text.old.items ++ head_of size) }
+{
+    match size {
+        Some(size) => {
+            if write!(text, "f {} ", size).is_err() {
+                return Err(AllocError);
+            }
+        }
+        None => text.extend_from_slice(b"d 0 ")?,
+    }
+    Ok(())
+}
+
+// Adds the line of what stands in a directory.
+fn push_line(text: &mut Vec<u8>, item: &ListItem) -> Result<(), AllocError>
+    ensures { OnOk result (text.new.items ≡ text.old.items ++ line_of (list_item_seen item.now)) }
+{
+    push_head(text, item.size)?;
+    push_name(text, &item.name)?;
+    text.push(b'\n')?;
+    Ok(())
+}
+
+// The lines of what stands in a directory, in turn.
+pub(crate) fn lines_of(alloc: Global, items: &[ListItem]) -> Result<Vec<u8>, AllocError>
+    ensures { IfOk result (λ text. text.items ≡ lines_of (map list_item_seen items.now)) }
+{
+    let mut text = Vec::new(alloc);
+    for item in items {
+        push_line(&mut text, item)?;
+    }
+    Ok(text)
+}

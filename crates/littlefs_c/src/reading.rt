@@ -1,0 +1,112 @@
+// What is asked of an image.
+
+ghost use Rattle.std.specs.Prelude.{◌∷◌, [], map};
+ghost use Rattle.lfs_model.specs.Operations as ops;
+ghost use Rattle.lfs_checks.specs.Held.{moment_of};
+ghost use Rattle.lfs_lookup.specs.Finds.{list_item_seen};
+ghost use Rattle.littlefs_c.specs.Calls.{Asks};
+ghost use Rattle.littlefs_c.specs.Files.{Carries, reading};
+
+use crate::image::begin;
+use lfs_device::{Error, RamDevice};
+use lfs_fs::{OpenFlags, Session};
+use lfs_lookup::ListItem;
+use std::alloc::Global;
+
+// A file's size in bytes, or None for a directory.
+pub(crate) fn size_at(
+    alloc: Global,
+    image: &[u8],
+    block_size: u32,
+    page: u32,
+    path: &[u8],
+) -> Result<Option<u32>, Error>
+    ensures { Asks block_size page image.now (ops.Stat path.now ∷ []) ops.StatIs result }
+{
+    let mut session = begin(alloc, image, block_size, page)?;
+    let answer = session.stat(alloc, path);
+    // It has met no fault.
+    let _device = session.device();
+    answer
+}
+
+// How many blocks an image uses.
+pub(crate) fn used_count(
+    alloc: Global,
+    image: &[u8],
+    block_size: u32,
+    page: u32,
+) -> Result<u32, Error>
+    ensures { Asks block_size page image.now (ops.UsedCount ∷ []) ops.Count result }
+{
+    let session = begin(alloc, image, block_size, page)?;
+    let answer = session.used_count();
+    let _device = session.device();
+    answer
+}
+
+// What stands in a directory, in name order.
+pub(crate) fn items_at(
+    alloc: Global,
+    image: &[u8],
+    block_size: u32,
+    page: u32,
+    path: &[u8],
+) -> Result<Vec<ListItem>, Error>
+    ensures { Asks block_size page image.now (ops.ListAll path.now ∷ []) (λ items. ops.Items (map list_item_seen items.items)) result }
+{
+    let mut session = begin(alloc, image, block_size, page)?;
+    let answer = session.list(alloc, path);
+    let _device = session.device();
+    answer
+}
+
+// The bytes of an entry's attribute.
+pub(crate) fn attribute_at(
+    alloc: Global,
+    image: &[u8],
+    block_size: u32,
+    page: u32,
+    path: &[u8],
+    kind: u8,
+) -> Result<Vec<u8>, Error>
+    ensures { Asks block_size page image.now (ops.GetAttr path.now kind ∷ []) (λ v. ops.Bytes v.items) result }
+{
+    let mut session = begin(alloc, image, block_size, page)?;
+    let answer = session.get_attr(alloc, path, kind);
+    let _device = session.device();
+    answer
+}
+
+// Reads so many bytes of a file at most, from a position on, in a session without open files.
+fn read_at(
+    alloc: Global,
+    session: &mut Session<RamDevice>,
+    path: &[u8],
+    position: u32,
+    count: u32,
+) -> Result<Vec<u8>, Error>
+    ensures { Carries (moment_of session.old) (reading path.now position count) (λ v. ops.Bytes v.items) result (moment_of session.new) }
+{
+    session.open(alloc, path, OpenFlags::READ)?;
+    session.seek(0, position)?;
+    session.read(alloc, 0, count)
+}
+
+// So many bytes of a file at most, from a position on.
+pub(crate) fn bytes_at(
+    alloc: Global,
+    image: &[u8],
+    block_size: u32,
+    page: u32,
+    path: &[u8],
+    position: u32,
+    count: u32,
+) -> Result<Vec<u8>, Error>
+    ensures { Asks block_size page image.now (reading path.now position count) (λ v. ops.Bytes v.items) result }
+{
+    let mut session = begin(alloc, image, block_size, page)?;
+    let answer = read_at(alloc, &mut session, path, position, count);
+    let _device = session.device();
+    answer
+}

@@ -1,0 +1,66 @@
+// Operations that change an image.
+
+ghost use Rattle.std.specs.Prelude.{◌≡◌, false, map, All, IfNone, IfOk, IfErr, IfSome};
+ghost use Rattle.lfs_model.specs.Run.{is_refusal};
+ghost use Rattle.lfs_model.specs.State.{is_remount};
+ghost use Rattle.lfs_checks.specs.Held.{moment_of};
+ghost use Rattle.lfs_fs.specs.OpSeen.{IsNamed, op_seen, reply_seen};
+ghost use Rattle.littlefs_c.specs.Calls.{Changes, Refuses, RunsThese};
+ghost use Rattle.littlefs_c.specs.FirstRefused.{IsFirstRefused};
+
+use crate::image::begin;
+use lfs_device::{Error, RamDevice};
+use lfs_fs::{Op, Reply, Session};
+use std::alloc::Global;
+
+// The first error by which an operation was refused.
+fn first_refusal(replies: &[Reply]) -> Option<Error>
+    requires { All IsNamed replies.now }
+    ensures none { IfNone result (All (λ r. is_refusal (reply_seen r) ≡ false) replies.now) }
+    ensures some { IfSome result (IsFirstRefused (map reply_seen replies.now)) }
+{
+    for reply in replies {
+        if let Reply::Refused(error) = reply {
+            return Some(*error);
+        }
+    }
+    None
+}
+
+// A session over an image that has carried out these operations, none of them refused.
+fn carry_out(
+    alloc: Global,
+    image: &[u8],
+    block_size: u32,
+    page: u32,
+    ops: &[Op<'_>],
+) -> Result<Session<RamDevice>, Error>
+    requires { All (λ op. is_remount (op_seen op) ≡ false) ops.now }
+    ensures ok { IfOk result (λ s. RunsThese block_size page image.now (map op_seen ops.now) (moment_of s)) }
+    ensures err { IfErr result (Refuses block_size page image.now (map op_seen ops.now)) }
+{
+    let mut session = begin(alloc, image, block_size, page)?;
+    let answer = session.run(alloc, ops);
+    // It has met no fault, so memory was wanting where the run ended in an error.
+    let _device = session.device();
+    match first_refusal(&answer?) {
+        Some(error) => Err(error),
+        None => Ok(session),
+    }
+}
+
+// Carries out operations in a session over an image, and takes its bytes where none is refused.
+pub(crate) fn change(
+    alloc: Global,
+    image: &mut [u8],
+    block_size: u32,
+    page: u32,
+    ops: &[Op<'_>],
+) -> Result<(), Error>
+    requires { All (λ op. is_remount (op_seen op) ≡ false) ops.now }
+    ensures { Changes block_size page image.old (map op_seen ops.now) result image.new }
+{
+    let session = carry_out(alloc, image, block_size, page, ops)?;
+    image.copy_from_slice(session.device().bytes());
+    Ok(())
+}

@@ -1,14 +1,15 @@
 #!/usr/bin/env python3
 """What the calls from C and from Python answer and leave.
 
-usage: bindings.py [--count N] [--seed WORD] [--built]
+usage: bindings.py [--count N] [--seed WORD] [--built] [--littlefs FOLDER]
 
 Builds the static library (`rt lib`), and the example and the shared library from it (`make`); not with `--built`. Then in turn:
 
 - the example in C is run, and has to print what it says;
 - N lists of 30 operations made at random are carried out through bindings/python on an image each, and worked out by
   session_model.py, which shares nothing with the crates: each answer and refusal is compared, and behind each operation that is
-  refused the bytes, and at the end of the list the whole tree, by a second look at these bytes;
+  refused the bytes, and at the end of the list the whole tree, by a second look at these bytes. With the folder of littlefs's own
+  code it has to show the same tree of each image whose longer names come first, as littlefs has them;
 - each call that fills a buffer is given one of no byte, one too short, an exact one, and one with room to spare: what is behind
   the bytes that it says, and all of it where they don't fit, has to stay;
 - each call is given hostile images: changed, cut and random bytes, and sizes out of range. Each answers a number that
@@ -26,7 +27,10 @@ import os
 import random
 import subprocess
 import sys
+import tempfile
+import zlib
 
+import littlefs_code
 import session_model
 from session_model import Model, Refused, key, parsed
 
@@ -176,7 +180,17 @@ def look(image, tree):
             same(f"attribute {kind} of {path}", image.getattr(path, kind), data)
 
 
-def compare(count, seed):
+def by_littlefs(code, image, block_size, page, tree):
+    """littlefs's own code shows that tree of an image."""
+    with tempfile.NamedTemporaryFile() as file:
+        file.write(bytes(image))
+        file.flush()
+        shown = littlefs_code.shown(code, file.name, (block_size, page))
+    wanted = {path: (None if node.content is None else (len(node.content), zlib.crc32(node.content) ^ 0xFFFFFFFF), {kind: data for kind, data in node.attributes.items() if path and kind < 8}) for path, node in tree.items()}
+    same("what littlefs shows", (shown.tree, shown.missing, shown.twice), (wanted, set(), set()))
+
+
+def compare(count, seed, code):
     seen = collections.Counter()
     for number in range(count):
         chance = random.Random(f"{seed} {number}")
@@ -194,6 +208,9 @@ def compare(count, seed):
                 same(f"list {number}, bytes behind {name} {takes!r:.200}", bytes(image) == before, True)
             seen[name + (" refused" if isinstance(wanted, str) else "")] += 1
         look(littlefs_c.Image(bytes(image), block_size, page), model.tree)
+        if code and order == littlefs_c.LONGER_FIRST:
+            by_littlefs(code, image, block_size, page, model.tree)
+            seen["image shown by littlefs"] += 1
     return seen
 
 
@@ -311,6 +328,7 @@ def main():
     parser.add_argument("--count", type=int, default=2000)
     parser.add_argument("--seed", default="1")
     parser.add_argument("--built", action="store_true")
+    parser.add_argument("--littlefs", type=os.path.abspath)
     given = parser.parse_args()
     if not given.built:
         build()
@@ -318,7 +336,10 @@ def main():
     same("the example", shown, EXAMPLE)
     print("buffers:", buffers())
     print("hostile images:", dict(attack(given.count, given.seed)))
-    seen = compare(given.count, given.seed)
+    with tempfile.TemporaryDirectory() as room:
+        code = littlefs_code.build(given.littlefs, f"{room}/exchange", "0x00020000") if given.littlefs else None
+        seen = compare(given.count, given.seed, code)
+    print("images shown by littlefs:", seen.pop("image shown by littlefs", 0))
     print("operations:", sum(seen.values()), dict(sorted(seen.items())))
 
 

@@ -1,20 +1,25 @@
 // Threads of small devices, read.
 
-use crate::images::{FILE_A, NAME_A, block};
 use lfs_device::{Error, Geometry, RamDevice};
-use lfs_tag::kinds::SOFT_TAIL;
-use lfs_tag::pair_bytes;
+use lfs_tag::kinds::{FILE_NAME, INLINE_STRUCT, SOFT_TAIL};
+use lfs_tag::{CommitBuilder, Tag, pair_bytes};
 use lfs_thread::Thread;
 use std::alloc::Global;
 
 // A block of 1,024 bytes with one commit: an empty file `a`, or its name alone, and a soft tail.
 fn written(alloc: Global, tail: Option<[u32; 2]>, is_complete: bool) -> Result<Vec<u8>, Error> {
-    let place = pair_bytes(tail.unwrap_or_default());
-    let mut entries = Vec::from_slice(alloc, if is_complete { FILE_A } else { NAME_A })?;
-    if tail.is_some() {
-        entries.push((SOFT_TAIL, 0x3ff, place.as_slice()))?;
+    let mut block = Vec::from_elem(alloc, 0xffu8, 1024)?;
+    let first = Tag::from_bits(0xffff_ffff);
+    let mut builder = CommitBuilder::new(128, &mut block, first, Some(1));
+    builder.push(Tag::new(FILE_NAME, 0, 1), b"a");
+    if is_complete {
+        builder.push(Tag::new(INLINE_STRUCT, 0, 0), b"");
     }
-    block(alloc, 1024, 128, &entries)
+    if let Some(pair) = tail {
+        builder.push(Tag::new(SOFT_TAIL, 0x3ff, 8), &pair_bytes(pair));
+    }
+    builder.finish(Some([0xff; 4]))?;
+    Ok(block)
 }
 
 // How many pairs are read of a device of so many in turn, {0, 1}, {2, 3} and so on, with that tail at

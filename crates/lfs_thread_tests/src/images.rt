@@ -14,9 +14,6 @@ pub type Entries<'a> = &'a [(u16, u16, &'a [u8])];
 /// An empty file `a`.
 pub const FILE_A: Entries<'static> = &[(FILE_NAME, 0, b"a"), (INLINE_STRUCT, 0, b"")];
 
-/// Its name alone.
-pub const NAME_A: Entries<'static> = &[(FILE_NAME, 0, b"a")];
-
 /// A block with a commit of these entries, of the revision 1.
 pub fn block(alloc: Global, size: usize, page: u32, entries: Entries<'_>) -> Result<Vec<u8>, Error>
     requires { is_page page ≡ true }

@@ -84,7 +84,7 @@ def copy_with(crates, room):
     archive = subprocess.run(["git", "archive", "HEAD"], stdout=subprocess.PIPE, check=True).stdout
     subprocess.run(["tar", "x", "-C", room], input=archive, check=True)
     with open(f"{room}/crates.txt") as it:
-        lines = {line.partition(":")[0]: line for line in it}
+        lines = {line.partition(":")[0].split()[0]: line for line in it}
     kept, waiting = set(), list(crates)
     while waiting:
         name = waiting.pop()

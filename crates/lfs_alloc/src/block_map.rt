@@ -96,7 +96,8 @@ impl BlockMap {
 
     /// Hands out a free block, which is then in flight until it is settled or released. None exactly where no block is free.
     ///
-    /// The blocks come in turn, from the one after the last that was taken since the mount.
+    /// The blocks come in turn, from the one after the last that was taken, or from where
+    /// [`go_on_at`](BlockMap::go_on_at) said.
     pub fn take(&mut self) -> Option<u32>
         ensures was_free { IfSome result (IsFree self.old) }
         ensures taken { IfSome result (λ block. self.new ≡ slice_set self.old block InFlight) }
@@ -107,6 +108,14 @@ impl BlockMap {
         self.set(block, State::InFlight);
         self.next = block + 1;
         Some(block)
+    }
+
+    /// Lets [`take`](BlockMap::take) go on at a block: the one with that number, modulo the number of
+    /// blocks. Which blocks are used, and which are in flight, stays.
+    pub fn go_on_at(&mut self, number: u32)
+        ensures { self.new ≡ self.old }
+    {
+        self.next = number.checked_rem(self.block_count).unwrap_or(0);
     }
 
     /// Makes a block free, whether it was used or in flight.

@@ -1,21 +1,12 @@
 // The numbers of a thread's pairs, by their addresses.
 
-ghost use Rattle.std.specs.Prelude.{◌≡◌, ◌<◌, ◌^◌, IfErr, IfOk};
-ghost use Rattle.lfs_model.specs.Disk.{block_count};
+ghost use Rattle.std.specs.Prelude.{◌≡◌, IfErr, IfOk};
 ghost use Rattle.lfs_model.specs.View.{IsAccepted};
 ghost use Rattle.lfs_lookup.specs.Walk.{addresses_in};
 
 use lfs_device::{BlockDevice, Error};
-use lfs_mount::Places;
-use lfs_thread::Thread;
+use lfs_thread::{Places, Thread};
 use std::alloc::Global;
-
-// What is known of any device, for the proof: a block's number has 32 bits.
-fn know_count<D: BlockDevice>(thread: &Thread<D>)
-    ensures { block_count thread.now.kept.disk < 2 ^ 32 }
-{
-    let _count = thread.device().geometry().block_count;
-}
 
 // The addresses of all pairs, by which their numbers are found without going through them.
 pub(crate) fn addresses_of<D: BlockDevice>(
@@ -26,7 +17,6 @@ pub(crate) fn addresses_of<D: BlockDevice>(
     ensures all { IfOk result (λ places. places ≡ addresses_in thread.now.kept.pairs) }
     ensures errors { IfErr result (λ e. e ≡ Error.NoMemory) }
 {
-    know_count(thread);
     let mut addresses = Places::new(alloc);
     for index in 0..thread.len() {
         addresses.add(thread.address(index))?;

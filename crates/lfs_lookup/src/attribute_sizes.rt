@@ -50,13 +50,13 @@ fn size_in_slot(slots: &[Slot<'_>], id: u16) -> usize
     }
 }
 
-// The same of a slot of a block.
-fn size_in_block(alloc: Global, block: &[u8], id: u16) -> Result<usize, Error>
-    requires { HoldsContent block.now }
-    ensures is { (content : ModelContent) (slot : ModelSlot) → IsBlockOf block.now content → slice_get content.slots id ≡ Some slot → IfOk result (IsAttributesSize slot.attributes) }
+// The same of a slot of a log.
+fn size_in_log(alloc: Global, log: &Log<'_>, id: u16) -> Result<usize, Error>
+    requires { HoldsContent log.now }
+    ensures is { (content : ModelContent) (slot : ModelSlot) → IsBlockOf log.now content → slice_get content.slots id ≡ Some slot → IfOk result (IsAttributesSize slot.attributes) }
     ensures errors { IfErr result (λ e. e ≡ Error.NoMemory) }
 {
-    let content = Content::read(alloc, &Log::read(block))?;
+    let content = Content::read(alloc, log)?;
     Ok(size_in_slot(&content.slots, id))
 }
 
@@ -74,7 +74,7 @@ fn size_of_slot<D: BlockDevice>(
     ensures reading { IsReading thread.old thread.new result }
 {
     thread.bring(slot.pair)?;
-    size_in_block(alloc, thread.lend(slot.pair).unwrap(), slot.id)
+    size_in_log(alloc, &thread.lend(slot.pair).unwrap(), slot.id)
 }
 
 /// How many bytes the attributes of what stands at a path take in its pair, the tag of each included:

@@ -29,18 +29,13 @@ use lfs_tag::{Log, Steps, get};
 use lfs_thread::Thread;
 use std::alloc::{AllocError, Global};
 
-// The bytes of an attribute of a slot of a block. None where it hasn't that one.
-fn attribute_in_block(block: &[u8], kind: u8, id: u16) -> Option<&[u8]>
-    requires { HoldsContent block.now }
+// The bytes of an attribute of a slot of a log. None where it hasn't that one.
+fn attribute_in_log<'a>(log: &Log<'a>, kind: u8, id: u16) -> Option<&'a [u8]>
+    requires { HoldsContent log.now }
     ensures short { IfSome result (λ bytes. length bytes.now ≤ 1022) }
-    ensures is { (content : ModelContent) (slot : Slot) → IsBlockOf block.now content → slice_get content.slots id ≡ Some slot → option_copied result ≡ attribute_of kind slot.attributes }
+    ensures is { (content : ModelContent) (slot : Slot) → IsBlockOf log.now content → slice_get content.slots id ≡ Some slot → option_copied result ≡ attribute_of kind slot.attributes }
 {
-    get(
-        &Log::read(block),
-        ATTRIBUTE + u16::from(kind),
-        id,
-        &mut Steps::new(),
-    )
+    get(log, ATTRIBUTE + u16::from(kind), id, &mut Steps::new())
 }
 
 // A copy of bytes, if there are any.
@@ -56,19 +51,19 @@ fn copy_of(alloc: Global, bytes: Option<&[u8]>) -> Result<Option<Vec<u8>>, Alloc
     }
 }
 
-// A copy of an attribute of a slot of a block.
+// A copy of an attribute of a slot of a log.
 fn attribute_copied(
     alloc: Global,
-    block: &[u8],
+    log: &Log<'_>,
     kind: u8,
     id: u16,
 ) -> Result<Option<Vec<u8>>, Error>
-    requires { HoldsContent block.now }
+    requires { HoldsContent log.now }
     ensures short { IfOk result IsShort }
-    ensures is { (content : ModelContent) (slot : Slot) → IsBlockOf block.now content → slice_get content.slots id ≡ Some slot → IfOk result (IsAttribute kind slot.attributes) }
+    ensures is { (content : ModelContent) (slot : Slot) → IsBlockOf log.now content → slice_get content.slots id ≡ Some slot → IfOk result (IsAttribute kind slot.attributes) }
     ensures errors { IfErr result (λ e. e ≡ Error.NoMemory) }
 {
-    let found = copy_of(alloc, attribute_in_block(block, kind, id))?;
+    let found = copy_of(alloc, attribute_in_log(log, kind, id))?;
     Ok(found)
 }
 
@@ -88,7 +83,7 @@ fn attribute_of_slot<D: BlockDevice>(
     ensures reading { IsReading thread.old thread.new result }
 {
     thread.bring(slot.pair)?;
-    attribute_copied(alloc, thread.lend(slot.pair).unwrap(), kind, slot.id)
+    attribute_copied(alloc, &thread.lend(slot.pair).unwrap(), kind, slot.id)
 }
 
 // The slot of a file or of a directory. The root has none.

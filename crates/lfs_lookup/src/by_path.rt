@@ -48,7 +48,7 @@ pub fn shown_at<D: BlockDevice>(
     let names = path.names(alloc)?;
     let state = thread.state();
     let moved = moved_slot(thread, &state);
-    look_up_shown(thread, root, &names, moved)
+    look_up_shown(alloc, thread, root, &names, moved)
 }
 
 // How many bytes a file has.

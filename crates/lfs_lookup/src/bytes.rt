@@ -41,25 +41,25 @@ fn copied_from(
     Vec::from_slice(alloc, &bytes[from..from + len])
 }
 
-// The bytes that stand in a slot of a block. None where it has no such struct.
-fn inline_in_block(block: &[u8], id: u16) -> Option<&[u8]>
-    ensures { (content : ModelContent) (slot : Slot) (bytes : List ℕ) → IsBlockOf block.now content → slice_get content.slots id ≡ Some slot → slot.struct ≡ Inline bytes → option_copied result ≡ Some bytes }
+// The bytes that stand in a slot of a log. None where it has no such struct.
+fn inline_in_log<'a>(log: &Log<'a>, id: u16) -> Option<&'a [u8]>
+    ensures { (content : ModelContent) (slot : Slot) (bytes : List ℕ) → IsBlockOf log.now content → slice_get content.slots id ≡ Some slot → slot.struct ≡ Inline bytes → option_copied result ≡ Some bytes }
 {
-    get(&Log::read(block), INLINE_STRUCT, id, &mut Steps::new())
+    get(log, INLINE_STRUCT, id, &mut Steps::new())
 }
 
-// Some of the bytes that stand in a slot of a block.
-fn copied_in_block(
+// Some of the bytes that stand in a slot of a log.
+fn copied_in_log(
     alloc: Global,
-    block: &[u8],
+    log: &Log<'_>,
     id: u16,
     position: u32,
     count: usize,
 ) -> Result<Vec<u8>, Error>
-    ensures bytes { (content : ModelContent) (slot : Slot) (bytes : List ℕ) → IsBlockOf block.now content → slice_get content.slots id ≡ Some slot → slot.struct ≡ Inline bytes → IfOk result (λ v. v.items ≡ take count (drop position bytes)) }
+    ensures bytes { (content : ModelContent) (slot : Slot) (bytes : List ℕ) → IsBlockOf log.now content → slice_get content.slots id ≡ Some slot → slot.struct ≡ Inline bytes → IfOk result (λ v. v.items ≡ take count (drop position bytes)) }
     ensures errors { IfErr result (λ e. e ≡ Error.NoMemory) }
 {
-    let Some(bytes) = inline_in_block(block, id) else {
+    let Some(bytes) = inline_in_log(log, id) else {
         return Ok(Vec::new(alloc));
     };
     Ok(copied_from(alloc, bytes, position, count)?)
@@ -83,9 +83,9 @@ pub fn inline_at<D: BlockDevice>(
     ensures reading { IsReading thread.old thread.new result }
 {
     thread.bring(slot.pair)?;
-    copied_in_block(
+    copied_in_log(
         alloc,
-        thread.lend(slot.pair).unwrap(),
+        &thread.lend(slot.pair).unwrap(),
         slot.id,
         position,
         count,

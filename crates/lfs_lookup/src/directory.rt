@@ -49,7 +49,7 @@ fn items_under<D: BlockDevice>(
 {
     thread.bring(index)?;
     let moved = moved_in(state, thread.address(index));
-    items_in(alloc, thread.lend(index).unwrap(), moved)
+    items_in(alloc, &thread.lend(index).unwrap(), moved)
 }
 
 /// The entries of one pair in their order: without the superblock, and without the slot that a set

@@ -104,17 +104,17 @@ fn remove_moved(slots: &mut Vec<Slot<'_>>, moved: Option<usize>)
     }
 }
 
-// The entries of a pair whose log stands in a block, without the one that is moved away.
+// The entries of a pair with that log, without the one that is moved away.
 pub(crate) fn items_in(
     alloc: Global,
-    block: &[u8],
+    log: &Log<'_>,
     moved: Option<usize>,
 ) -> Result<Vec<Item>, Error>
-    requires { (content : ModelContent) × IsBlockOf block.now content }
-    ensures items { (content : ModelContent) → IsBlockOf block.now content → IfOk result (λ items. items_seen items.items ≡ shapes_in moved content.slots) }
+    requires { (content : ModelContent) × IsBlockOf log.now content }
+    ensures items { (content : ModelContent) → IsBlockOf log.now content → IfOk result (λ items. items_seen items.items ≡ shapes_in moved content.slots) }
     ensures errors { IfErr result (λ e. e ≡ Error.NoMemory) }
 {
-    let mut content = Content::read(alloc, &Log::read(block))?;
+    let mut content = Content::read(alloc, log)?;
     remove_moved(&mut content.slots, moved);
     let items = items_among(alloc, &content.slots)?;
     Ok(items)

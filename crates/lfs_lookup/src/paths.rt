@@ -23,6 +23,7 @@ use lfs_device::{BlockDevice, Error};
 use lfs_tag::MoveState;
 use lfs_tag::kinds::DELETE;
 use lfs_thread::{Thread, number_of};
+use std::alloc::Global;
 
 // What a path leads to, where a directory is wanted.
 #[derive(Clone, Copy, Debug, PartialEq, Eq, Drop)]
@@ -99,6 +100,7 @@ pub(crate) fn moved_slot<D: BlockDevice>(thread: &Thread<D>, state: &MoveState) 
 
 // Goes from a directory to the one of that name in it, where a slot may count as deleted.
 fn enter<D: BlockDevice>(
+    alloc: Global,
     thread: &mut Thread<D>,
     first: usize,
     name: &[u8],
@@ -114,7 +116,7 @@ fn enter<D: BlockDevice>(
     ensures works { thread.new.failed ≡ false }
     ensures errors { HasTold thread.old.kept thread.new.kept result }
 {
-    match find_shown(thread, first, name, moved)? {
+    match find_shown(alloc, thread, first, name, moved)? {
         Some((_, Entry::Directory(at))) => {
             let next = number_of(thread, at).unwrap();
             Ok(Parent::Directory(next))
@@ -130,6 +132,7 @@ fn enter<D: BlockDevice>(
 //
 // Errors as those of `find_name`.
 pub(crate) fn find_directory<D: BlockDevice>(
+    alloc: Global,
     thread: &mut Thread<D>,
     root: usize,
     path: &[&[u8]],
@@ -147,7 +150,7 @@ pub(crate) fn find_directory<D: BlockDevice>(
 {
     let mut first = root;
     for name in path {
-        first = match enter(thread, first, name, moved)? {
+        first = match enter(alloc, thread, first, name, moved)? {
             Parent::Directory(next) => next,
             Parent::File => return Ok(Parent::File),
             Parent::Nothing => return Ok(Parent::Nothing),
@@ -158,6 +161,7 @@ pub(crate) fn find_directory<D: BlockDevice>(
 
 // What a name in a directory stands for.
 fn look_in<D: BlockDevice>(
+    alloc: Global,
     thread: &mut Thread<D>,
     parent: usize,
     name: &[u8],
@@ -171,7 +175,7 @@ fn look_in<D: BlockDevice>(
     ensures works { thread.new.failed ≡ false }
     ensures errors { HasTold thread.old.kept thread.new.kept result }
 {
-    match find_name(thread, parent, name)? {
+    match find_name(alloc, thread, parent, name)? {
         Sought::Found(slot, Entry::Directory(at)) => {
             let first = number_of(thread, at).unwrap();
             Ok(Found::Directory {
@@ -195,6 +199,7 @@ fn look_in<D: BlockDevice>(
 /// `Io` where a read failed, and `NoMemory` where the room for a block isn't granted. The thread
 /// works on after either.
 pub fn look_up<D: BlockDevice>(
+    alloc: Global,
     thread: &mut Thread<D>,
     root: usize,
     path: &[&[u8]],
@@ -211,8 +216,8 @@ pub fn look_up<D: BlockDevice>(
     let Some((name, above)) = path.split_last() else {
         return Ok(Found::Root);
     };
-    match find_directory(thread, root, above, None)? {
-        Parent::Directory(parent) => look_in(thread, parent, name),
+    match find_directory(alloc, thread, root, above, None)? {
+        Parent::Directory(parent) => look_in(alloc, thread, parent, name),
         Parent::File => Ok(Found::ParentIsFile),
         Parent::Nothing => Ok(Found::ParentIsMissing),
     }
@@ -220,6 +225,7 @@ pub fn look_up<D: BlockDevice>(
 
 // What a name in a directory stands for, where a slot may count as deleted.
 fn show_in<D: BlockDevice>(
+    alloc: Global,
     thread: &mut Thread<D>,
     parent: usize,
     name: &[u8],
@@ -234,7 +240,7 @@ fn show_in<D: BlockDevice>(
     ensures brings { BringsAlong (joined_run (drop parent thread.old.kept.pairs)) thread.old thread.new result }
     ensures reading { IsReading thread.old thread.new result }
 {
-    match find_shown(thread, parent, name, moved)? {
+    match find_shown(alloc, thread, parent, name, moved)? {
         Some((slot, Entry::Directory(at))) => {
             let first = number_of(thread, at).unwrap();
             Ok(Shown::Directory { slot, first })
@@ -250,6 +256,7 @@ fn show_in<D: BlockDevice>(
 //
 // Errors as those of `find_name`.
 pub(crate) fn look_up_shown<D: BlockDevice>(
+    alloc: Global,
     thread: &mut Thread<D>,
     root: usize,
     path: &[&[u8]],
@@ -267,8 +274,8 @@ pub(crate) fn look_up_shown<D: BlockDevice>(
     let Some((name, above)) = path.split_last() else {
         return Ok(Shown::Root);
     };
-    match find_directory(thread, root, above, moved)? {
-        Parent::Directory(parent) => show_in(thread, parent, name, moved),
+    match find_directory(alloc, thread, root, above, moved)? {
+        Parent::Directory(parent) => show_in(alloc, thread, parent, name, moved),
         Parent::File => Ok(Shown::ParentIsFile),
         Parent::Nothing => Ok(Shown::ParentIsMissing),
     }

@@ -88,18 +88,18 @@ fn is_filled(follows: bool, slots: &[Slot<'_>]) -> bool
     !follows || !slots.is_empty()
 }
 
-// Whether a pair whose log stands in a block does. A pair that a hard tail names has a slot.
-fn fits_in_block(
+// Whether a pair with that log does. A pair that a hard tail names has a slot.
+fn fits_in_log(
     alloc: Global,
     geometry: &Geometry,
-    block: &[u8],
+    log: &Log<'_>,
     follows: bool,
 ) -> Result<bool, Error>
-    requires { (content : ModelContent) × (IsBlockOf block.now content × All IsShaped content.slots) }
-    ensures is { (content : ModelContent) → IsBlockOf block.now content → All IsShaped content.slots → IfOk result (λ b. IsTrue b ↔ IsPairWritable geometry.now.block_size geometry.now.page follows content) }
+    requires { (content : ModelContent) × (IsBlockOf log.now content × All IsShaped content.slots) }
+    ensures is { (content : ModelContent) → IsBlockOf log.now content → All IsShaped content.slots → IfOk result (λ b. IsTrue b ↔ IsPairWritable geometry.now.block_size geometry.now.page follows content) }
     ensures errors { IfErr result (λ e. e ≡ Error.NoMemory) }
 {
-    let content = Content::read(alloc, &Log::read(block))?;
+    let content = Content::read(alloc, log)?;
     if !is_filled(follows, &content.slots) {
         return Ok(false);
     }
@@ -125,7 +125,7 @@ fn fits_at<D: BlockDevice>(
     ensures reading { IsReading thread.old thread.new result }
 {
     thread.bring(index)?;
-    fits_in_block(alloc, geometry, thread.lend(index).unwrap(), follows)
+    fits_in_log(alloc, geometry, &thread.lend(index).unwrap(), follows)
 }
 
 /// Whether a pair goes on with the directory of the one in front of it. Those up to the root's first

@@ -28,13 +28,13 @@ fn is_superblock(slot: &Slot<'_>) -> bool
     }
 }
 
-// Whether the first slot of a block's log is.
-fn starts_with_superblock(alloc: Global, block: &[u8]) -> Result<bool, Error>
-    requires { (content : ModelContent) × IsBlockOf block.now content }
-    ensures is { (content : ModelContent) → IsBlockOf block.now content → IfOk result (λ b. b ≡ starts_with_superblock content.slots) }
+// Whether the first slot of a log is.
+fn starts_with_superblock(alloc: Global, log: &Log<'_>) -> Result<bool, Error>
+    requires { (content : ModelContent) × IsBlockOf log.now content }
+    ensures is { (content : ModelContent) → IsBlockOf log.now content → IfOk result (λ b. b ≡ starts_with_superblock content.slots) }
     ensures errors { IfErr result (λ e. e ≡ Error.NoMemory) }
 {
-    let content = Content::read(alloc, &Log::read(block))?;
+    let content = Content::read(alloc, log)?;
     match content.slots.first() {
         Some(slot) => Ok(is_superblock(slot)),
         None => Ok(false),
@@ -54,7 +54,7 @@ fn begins_with_superblock<D: BlockDevice>(
     ensures reading { IsReading thread.old thread.new result }
 {
     thread.bring(index)?;
-    starts_with_superblock(alloc, thread.lend(index).unwrap())
+    starts_with_superblock(alloc, &thread.lend(index).unwrap())
 }
 
 // The pair behind one, where the chain may go on: the one has at most one slot, and a hard tail.

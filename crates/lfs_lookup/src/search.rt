@@ -15,6 +15,7 @@ use crate::entry::{Entry, entry_of};
 use lfs_device::{BlockDevice, Error, NameOrder};
 use lfs_tag::{Log, Lookup, Steps, find, struct_of};
 use lfs_thread::Thread;
+use std::alloc::{AllocError, Global};
 
 /// A slot, or the place of one: a pair's number in the thread and an id in it.
 #[derive(Clone, Copy, Debug, PartialEq, Eq, Drop)]
@@ -39,23 +40,30 @@ enum SoughtInPair {
     Place(u16),
 }
 
-// Where a name stands among the slots of a block, where one slot may be passed over.
-fn find_in_block(block: &[u8], order: NameOrder, name: &[u8], skip: Option<u16>) -> SoughtInPair
-    requires { HoldsContent block.now }
-    ensures { (content : Content) → IsBlockOf block.now content → AnswersIn order skip content.slots name.now result }
+// Where a name stands among the slots of a log, where one slot may be passed over.
+fn find_in_log(
+    alloc: Global,
+    log: &Log<'_>,
+    order: NameOrder,
+    name: &[u8],
+    skip: Option<u16>,
+) -> Result<SoughtInPair, AllocError>
+    requires { HoldsContent log.now }
+    ensures { (content : Content) → IsBlockOf log.now content → IfOk result (AnswersIn order skip content.slots name.now) }
 {
-    let log = Log::read(block);
-    match find(&log, order, name, skip) {
+    let found = find(alloc, log, order, name, skip)?;
+    match found {
         Lookup::Found(id) => {
-            let structure = struct_of(&log, id, &mut Steps::new()).unwrap();
-            SoughtInPair::Found(id, entry_of(&structure))
+            let structure = struct_of(log, id, &mut Steps::new()).unwrap();
+            Ok(SoughtInPair::Found(id, entry_of(&structure)))
         }
-        Lookup::Place(id) => SoughtInPair::Place(id),
+        Lookup::Place(id) => Ok(SoughtInPair::Place(id)),
     }
 }
 
 // Where a name stands in one pair, where one slot may be passed over.
 fn find_in_pair<D: BlockDevice>(
+    alloc: Global,
     thread: &mut Thread<D>,
     pair: usize,
     name: &[u8],
@@ -71,8 +79,9 @@ fn find_in_pair<D: BlockDevice>(
 {
     thread.bring(pair)?;
     let order = thread.geometry().order;
-    let block = thread.lend(pair).unwrap();
-    Ok(find_in_block(block, order, name, skip))
+    let log = thread.lend(pair).unwrap();
+    let found = find_in_log(alloc, &log, order, name, skip)?;
+    Ok(found)
 }
 
 // Where a name stands among the entries of the directory that begins with the pair of number
@@ -83,6 +92,7 @@ fn find_in_pair<D: BlockDevice>(
 // `Io` where a read failed, and `NoMemory` where the room for a block isn't granted. The thread
 // works on after either.
 pub(crate) fn find_name<D: BlockDevice>(
+    alloc: Global,
     thread: &mut Thread<D>,
     first: usize,
     name: &[u8],
@@ -99,7 +109,7 @@ pub(crate) fn find_name<D: BlockDevice>(
     let mut spot = Spot { pair: first, id: 0 };
     let mut pair = first;
     loop {
-        let id = match find_in_pair(thread, pair, name, None)? {
+        let id = match find_in_pair(alloc, thread, pair, name, None)? {
             SoughtInPair::Found(id, entry) => return Ok(Sought::Found(Spot { pair, id }, entry)),
             SoughtInPair::Place(id) => id,
         };
@@ -124,6 +134,7 @@ pub(crate) fn find_name<D: BlockDevice>(
 /// `Io` where a read failed, and `NoMemory` where the room for a block isn't granted. The thread
 /// works on after either.
 pub fn find_shown<D: BlockDevice>(
+    alloc: Global,
     thread: &mut Thread<D>,
     first: usize,
     name: &[u8],
@@ -140,7 +151,7 @@ pub fn find_shown<D: BlockDevice>(
     let mut pair = first;
     loop {
         let skip = passed_in(moved, pair);
-        match find_in_pair(thread, pair, name, skip)? {
+        match find_in_pair(alloc, thread, pair, name, skip)? {
             SoughtInPair::Found(id, entry) => return Ok(Some((Spot { pair, id }, entry))),
             SoughtInPair::Place(_) => {}
         }

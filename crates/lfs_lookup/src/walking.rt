@@ -12,9 +12,8 @@ use crate::addresses::addresses_of;
 use crate::directory::entries_under;
 use crate::items::{Item, Structure, sort_by_name};
 use lfs_device::{BlockDevice, Error};
-use lfs_mount::Places;
 use lfs_tag::MoveState;
-use lfs_thread::Thread;
+use lfs_thread::{Places, Thread};
 use std::alloc::{AllocError, Global};
 
 /// A file or a directory of the tree.

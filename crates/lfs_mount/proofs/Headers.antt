@@ -1,11 +1,11 @@
 -- What the disk holds of a pair that a header describes.
-use Rattle.std.proofs.Common.{ℕ, zero, suc, ◌≡◌, ◌==◌, ◌&&◌, ◌||◌, ◌<◌, not, Bool, true, false, cond, List, [], ◌∷◌, length, slice_get, Option, Some, None, refl, sym, ap, ap₂, subst, ◌∙◌, option_and_then, option_map}
+use Rattle.std.proofs.Common.{ℕ, zero, suc, ◌≡◌, ◌<◌, Bool, true, false, cond, List, [], ◌∷◌, length, slice_get, Option, Some, None, sym, ap, subst, ◌∙◌, option_and_then, option_map}
 use Rattle.std.specs.Prelude.{unwrap_or}
 use Rattle.std.proofs.lemmas.Option.{same_Some, slice_get-map}
-use Rattle.lfs_model.specs.Content.{RawContent, complete_all, completed, content_after_all, content_at, has_commit, holder, holder_at, is_later, no_content}
+use Rattle.lfs_model.specs.Content.{RawContent, complete_all, completed, content_after_all, content_at, holder_at, no_content}
 use Rattle.lfs_model.specs.Disk.{Disk, block_at, block_count}
 use Rattle.lfs_model.specs.History.{Event}
-use Rattle.lfs_model.specs.Log.{log_entries, revision_of}
+use Rattle.lfs_model.specs.Log.{log_entries}
 use Rattle.lfs_model.specs.Slots.{Content, no_gstate}
 use Rattle.lfs_model.specs.Thread.{Pair, is_hard}
 use Rattle.lfs_model.proofs.Completed.{complete_length, completed_parts}
@@ -31,25 +31,6 @@ pub record IsSeen (disk : Disk) (h : Header) : Type 0 where
 content_on : (disk : Disk) (at : ℕ × ℕ) (c : Content) → content_at disk at ≡ Some c → (pair_on disk at).content ≡ c
 content_on disk at c e = ap (λ (o : Option Content). unwrap_or o (record { slots = []; tail = None; move = no_gstate })) e
 
--- the block that holds, by which of the two it is
-holder_is : (a b : List ℕ) → has_commit (cond (second_holds a b) b a) ≡ true → holder a b ≡ Some (cond (second_holds a b) b a)
-holder_is a b h = go (has_commit a) (has_commit b) (is_later (revision_of a) (revision_of b)) refl h
-  where
-    go : (ca cb later : Bool) → has_commit a ≡ ca → has_commit (cond (cb && (not ca || later)) b a) ≡ true
-        → cond (not ca) (cond cb (Some b) None) (cond (cb && later) (Some b) (Some a)) ≡ Some (cond (cb && (not ca || later)) b a)
-    go true true true e k = refl
-    go true true false e k = refl
-    go true false later e k = refl
-    go false true later e k = refl
-    go false false later e k = absurd (let clash : false ≡ true = sym e ∙ k in cc)
-
-active_block : (disk : Disk) (at : ℕ × ℕ) → block_at disk (active_at disk at) ≡ cond (second_holds (block_at disk at.0) (block_at disk at.1)) (block_at disk at.1) (block_at disk at.0)
-active_block disk at = go (second_holds (block_at disk at.0) (block_at disk at.1))
-  where
-    go : (b : Bool) → block_at disk (cond b at.1 at.0) ≡ cond b (block_at disk at.1) (block_at disk at.0)
-    go true = refl
-    go false = refl
-
 active_within : (disk : Disk) (at : ℕ × ℕ) → at.0 < block_count disk → at.1 < block_count disk → active_at disk at < block_count disk
 active_within disk at first second = go (second_holds (block_at disk at.0) (block_at disk at.1))
   where
@@ -65,7 +46,6 @@ seen_from disk history h is =
     let parts = completed_parts is.held is.content is.complete in
     let slots : complete_all is.held.slots ≡ Some (pair_of disk h).content.slots = parts.slots ∙ ap (λ (c : Content). Some c.slots) (sym content) in
     let d = is.is_pair.describes in
-    let block = ap (block_at disk) is.is_pair.active ∙ active_block disk at in
     record {
       active = subst (λ b. b < block_count disk) (sym is.is_pair.active) (active_within disk at is.address.first is.address.second);
       held = is.held;
@@ -75,7 +55,7 @@ seen_from disk history h is =
       count = d.sums.slot_count ∙ sym (complete_length is.held.slots (pair_of disk h).content.slots slots);
       hard = ap is_hard (d.sums.tail ∙ sym parts.tail ∙ ap (λ (c : Content). c.tail) (sym content));
       content = whole ∙ ap (λ (c : Content). Some c) (sym content);
-      holds = holder_is (block_at disk at.0) (block_at disk at.1) (ap has_commit (sym block) ∙ is.is_pair.has_commit) ∙ ap (λ (x : List ℕ). Some x) (sym block);
+      holds = is.is_pair.holds;
     }
 
 -- the header at an index

@@ -5,7 +5,6 @@ use Rattle.lfs_model.specs.BlockSets.{BlockSets}
 use Rattle.lfs_model.specs.Disk.{Disk}
 use Rattle.lfs_model.specs.History.{Event}
 use Rattle.lfs_model.specs.Slots.{Gstate}
-use Rattle.lfs_model.specs.Thread.{Pair}
 use Rattle.lfs_model.specs.View.{IsSuperblockStruct}
 use Rattle.lfs_model.specs.declared.order.NameOrder.{NameOrder}
 use Rattle.lfs_thread.specs.Kept.{AreHeaders, Header, IsHeader, IsKept, pairs_on}
@@ -19,7 +18,7 @@ module _ (order : NameOrder) (disk : Disk) where
     held = is.held;
     is_pair = record {
       active = is.is_pair.active;
-      has_commit = is.is_pair.has_commit;
+      holds = is.is_pair.holds;
       describes = is.is_pair.describes;
       whole_pages = is.is_pair.whole_pages;
       unprogrammed = is.is_pair.unprogrammed;

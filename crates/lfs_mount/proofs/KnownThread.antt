@@ -1,11 +1,8 @@
 -- What headers say of the pairs of directories is so.
-use Rattle.std.proofs.Common.{ℕ, zero, suc, ◌≡◌, ◌+◌, ◌≤◌, ◌<◌, ◌^◌, Bool, true, false, cond, not, nat_eq, List, [], ◌∷◌, ◌++◌, length, drop, Some, refl, sym, ap, subst, ◌∙◌, arith, slice_get, drop_at, get_or, ◌||◌, eqb-true}
+use Rattle.std.proofs.Common.{ℕ, zero, suc, ◌≡◌, ◌<◌, Bool, true, false, cond, not, nat_eq, List, [], ◌∷◌, ◌++◌, length, drop, Some, refl, sym, ap, subst, ◌∙◌, arith, slice_get, drop_at, get_or}
 use Rattle.std.specs.Prelude.{Contains}
 use Rattle.std.specs.List.{IsDistinct}
-use Rattle.std.specs.List.{list_any}
-use Rattle.std.proofs.lemmas.List.{drop-map, length-drop, length-map}
-use Rattle.std.proofs.lemmas.List.Elements.{recursion_from_All}
-use Rattle.std.proofs.lemmas.Map.Steps.{length-le_from_distinct_below}
+use Rattle.std.proofs.lemmas.List.{drop-map}
 use Rattle.lfs_model.proofs.Listings.{distinct_right}
 use Rattle.std.proofs.lemmas.Option.{slice_get-get_or}
 use Rattle.lfs_model.specs.BlockSets.{AreInFlight, AreUsed, BlockState, BlockSets}
@@ -17,7 +14,6 @@ use Rattle.lfs_model.specs.Slots.{Gstate}
 use Rattle.lfs_model.specs.Thread.{IsThread, ThreadDirectory, Pair, blocks_of, directories_of, gstate_of, is_hard, joined, starts_with_superblock, superblocks_before, visible}
 use Rattle.lfs_model.specs.Shown.{directories_in}
 use Rattle.lfs_model.proofs.BlockSets.{Contains-count, count-Contains}
-use Rattle.lfs_model.proofs.Counts.{Each}
 use Rattle.lfs_model.proofs.Superblocks.{pairs_behind}
 use Rattle.lfs_pair.specs.Pair.{address_in}
 use Rattle.lfs_thread.specs.Kept.{AreHeaders, Header, pairs_on}
@@ -98,26 +94,6 @@ owns_from sets bs distinct used none = record {
     state b apart InFlight e = absurd (let c = (none b).0 e in let below : c.0 < 0 = c.1 in omega arith)
     state b apart Used e = absurd (nowhere b apart ((used b).0 e))
 
--- ---- how many there are
-
-named_below : (n : ℕ) (xs : List ℕ) (q : ℕ) → Each (λ x. x < n) xs → list_any (nat_eq q) xs ≡ true → q < n
-named_below n [] q h e = absurd (cc)
-named_below n (x ∷ xs) q h e = go (nat_eq q x) refl e (named_below n xs q h.1)
-  where
-    go : (b : Bool) → nat_eq q x ≡ b → (b || list_any (nat_eq q) xs) ≡ true → (list_any (nat_eq q) xs ≡ true → q < n) → q < n
-    go true is k next = subst (λ (y : ℕ). y < n) (sym (eqb-true q x is)) h.0
-    go false is k next = next k
-
-blocks_twice : (ps : List Pair) → length (blocks_of ps) ≡ length ps + length ps
-blocks_twice [] = refl
-blocks_twice (p ∷ ps) = let e = blocks_twice ps in omega arith
-
-pub pairs_few : (disk : Disk) (ps : List Pair) → IsThread (content_at disk) (block_count disk) ps → length ps + length ps ≤ block_count disk
-pairs_few disk ps t =
-    let twice = blocks_twice ps in
-    let most = length-le_from_distinct_below (blocks_of ps) (block_count disk) t.distinct (λ q e. named_below (block_count disk) (blocks_of ps) q (recursion_from_All (λ b. b < block_count disk) (blocks_of ps) t.in_range) e) in
-    omega arith
-
 -- ---- the thread
 
 module _ (disk : Disk) (history : List Event) (hs : List Header) (sets : BlockSets) (g : Gstate) (count : ℕ) (r : IsRead disk history hs sets g) (head : IsHead disk (pairs_on disk hs) count) where
@@ -157,9 +133,8 @@ module _ (disk : Disk) (history : List Event) (hs : List Header) (sets : BlockSe
     sync_is = ap (λ (s : Gstate). s.sync) (sym global);
   }
 
-  pub directories_are : block_count disk < 2 ^ 32 → AreDirectories disk sets g dirs
-  directories_are small = record {
-    few = (let most = pairs_few disk (pairs_on disk hs) r.thread in let len = length-map hs (pair_of disk) in let fewer = length-drop count hs in omega arith);
+  pub directories_are : AreDirectories disk sets g dirs
+  directories_are = record {
     apart = begins_distinct disk dirs (subst (λ qs. IsDistinct nat_eq (blocks_of qs)) behind (distinct_right head.chain (head.p ∷ head.rest) (subst (λ qs. IsDistinct nat_eq (blocks_of qs)) head.parts r.kept.distinct)));
     known = (head.chain, head.p, head.rest, known_thread);
   }

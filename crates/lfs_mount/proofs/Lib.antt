@@ -6,7 +6,6 @@ pub mod Finished
 pub mod Marks
 pub mod Rooted
 pub mod Drawn
-pub mod ByBlocks
 pub mod Begins
 pub mod Markings
 pub mod Owned

@@ -1,12 +1,13 @@
 -- What stands in the slots of a pair, and what it adds to what is known of a directory.
-use Rattle.std.specs.Prelude.{ℕ, suc, ◌==◌, ◌&&◌, Bool, true, false, if◌then◌else◌, List, [], ◌∷◌, ◌++◌, length, map, Option, Some, None}
+use Rattle.std.specs.Prelude.{ℕ, ◌==◌, ◌&&◌, Bool, true, false, if◌then◌else◌, List, [], ◌∷◌, ◌++◌, length, map, Option, Some, None}
 use Rattle.std.specs.Option.{option_and_then, option_map}
 use Rattle.lfs_model.specs.declared.order.NameOrder.{NameOrder}
 use Rattle.lfs_model.specs.Names.{Name, name_cmp, is_less, is_name}
-use Rattle.lfs_model.specs.Slots.{Slot, Struct, Inline, Ctz, Branch, same_pair}
+use Rattle.lfs_model.specs.Slots.{Slot, Struct, Inline, Ctz, Branch}
 use Rattle.lfs_model.specs.Content.{RawSlot}
 use Rattle.lfs_model.specs.EntryTypes.{file_name_type, directory_name_type, inline_struct_type, ctz_struct_type, directory_struct_type, pair_at}
 use Rattle.lfs_model.specs.Thread.{ThreadDirectory}
+use Rattle.lfs_thread.specs.Places.{place_of}
 use Rattle.lfs_mount.specs.Reaching.{Vertex}
 
 -- what an entry of a directory stands for, without a file's bytes
@@ -41,10 +42,6 @@ entry_in s = option_and_then (λ name. option_and_then (λ struct.
     if is_name name.1 then option_map (λ stand. (name.1, stand)) (stand_in name.0 struct) else None) s.struct) s.name
 
 -- ---- directories by their addresses
-
-abbrev pub place_of : List (ℕ × ℕ) → ℕ × ℕ → Option ℕ
-place_of [] at = None
-place_of (a ∷ firsts) at = if same_pair a at then Some 0 else option_map (λ i. suc i) (place_of firsts at)
 
 abbrev pub firsts_of : List ThreadDirectory → List (ℕ × ℕ)
 firsts_of ds = map (λ d. d.at) ds

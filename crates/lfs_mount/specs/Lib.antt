@@ -6,7 +6,6 @@ pub mod Either
 pub mod Directories
 pub mod Entries
 pub mod EntrySeen
-pub mod ByBlock
 pub mod Scanned
 pub mod KnownSeen
 pub mod Marking

@@ -1,5 +1,5 @@
 -- What headers say of the pairs of directories.
-use Rattle.std.specs.Prelude.{ℕ, Bool, false, not, ◌==◌, ◌&&◌, if◌then◌else◌, List, [], ◌∷◌, Option, Some, None, ◌≡◌, ◌≤◌, ◌^◌, length, map, nat_eq, true}
+use Rattle.std.specs.Prelude.{ℕ, Bool, false, not, ◌==◌, ◌&&◌, if◌then◌else◌, List, [], ◌∷◌, Option, Some, None, ◌≡◌, nat_eq, true}
 use Rattle.std.specs.List.{IsDistinct}
 use Rattle.std.specs.Option.{option_map}
 use Rattle.lfs_model.specs.Slots.{Gstate, same_pair}
@@ -11,7 +11,7 @@ use Rattle.lfs_model.specs.Thread.{IsThread, Pair, blocks_of, gstate_of, is_hard
 use Rattle.lfs_tag.specs.ContentSeen.{tail_seen}
 use Rattle.lfs_pair.specs.Pair.{address_in}
 use Rattle.lfs_thread.specs.Kept.{Header, IsKept, pairs_on}
-use Rattle.lfs_mount.specs.ByBlock.{lesser_of}
+use Rattle.lfs_thread.specs.Places.{blocks_at}
 use Rattle.lfs_mount.specs.Checked.{HasKnownThread, IsKnownThread}
 use Rattle.lfs_mount.specs.declared.pass.Member.{Member}
 
@@ -40,10 +40,9 @@ abbrev pub begins_in : Bool → List Header → List (ℕ × ℕ)
 begins_in begins [] = []
 begins_in begins (h ∷ hs) = if begins then address_in h ∷ begins_in (not (continues h)) hs else begins_in (not (continues h)) hs
 
--- These headers are those of the directories' pairs in a thread that is known: few enough, and no two directories begin in one block.
+-- These headers are those of the directories' pairs in a thread that is known, and no two directories begin in one block.
 pub record AreDirectories (disk : Disk) (sets : BlockSets) (g : Gstate) (headers : List Header) : Type 0 where
-  pub few : length headers ≤ 2 ^ 31
-  pub apart : IsDistinct nat_eq (map lesser_of (begins_in true headers))
+  pub apart : IsDistinct nat_eq (blocks_at (begins_in true headers))
   pub known : HasKnownThread disk sets (begins_in true headers) (members_in g true headers) g.sync
 
 -- that thread

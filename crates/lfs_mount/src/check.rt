@@ -16,10 +16,10 @@ ghost use Rattle.lfs_mount.specs.Reads.{pair_reads};
 
 use crate::orders::Orders;
 use crate::pass::{Member, take_pairs};
-use crate::places::Places;
 use crate::reaching::orders_of;
 use lfs_alloc::BlockMap;
 use lfs_device::{BlockDevice, Error};
+use lfs_thread::Places;
 use std::alloc::Global;
 
 // Checks what stands in the pairs of a thread whose headers are known, and marks the blocks of its

@@ -10,10 +10,10 @@ ghost use Rattle.lfs_mount.specs.Scanned.{scanned};
 
 use crate::entry::{Entry, Target, entry_of};
 use crate::orders::Orders;
-use crate::places::Places;
 use crate::reaching::Directory;
 use lfs_device::{Error, NameOrder};
 use lfs_tag::{Slot, name_cmp};
+use lfs_thread::Places;
 use std::alloc::Global;
 
 // Whether a name comes behind the last one, which is empty where there is none.

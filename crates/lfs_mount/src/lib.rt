@@ -13,9 +13,7 @@ mod mounting;
 mod moves;
 mod orders;
 mod pass;
-mod places;
 mod reaching;
 
 pub use either::mount_either;
 pub use mounting::mount;
-pub use places::Places;

@@ -1,18 +1,18 @@
 // What a mount knows of the pairs of directories from their headers.
 
-ghost use Rattle.std.specs.Prelude.{◌≡◌, ◌≤◌, ◌^◌, IfErr, IfOk, length, map, nat_eq, true};
+ghost use Rattle.std.specs.Prelude.{◌≡◌, IfErr, IfOk, nat_eq, true};
 ghost use Rattle.std.specs.List.{IsDistinct};
 ghost use Rattle.lfs_model.specs.Slots.{address_of};
 ghost use Rattle.lfs_tag.specs.FieldsSeen.{move_seen};
-ghost use Rattle.lfs_mount.specs.ByBlock.{lesser_of};
+ghost use Rattle.lfs_thread.specs.Places.{blocks_at};
 ghost use Rattle.lfs_mount.specs.Members.{begins_in, member_in, members_in, moved_at};
 
 use crate::pass::Member;
-use crate::places::Places;
 use lfs_device::Error;
 use lfs_pair::{Pair, is_same_pair};
 use lfs_tag::kinds::DELETE;
 use lfs_tag::{MoveState, is_hard};
+use lfs_thread::Places;
 use std::alloc::Global;
 
 // The slot at an address that the global state says is moved away.
@@ -56,8 +56,7 @@ pub(crate) fn members_of(
 
 // Where the directories of these pairs begin, from the root's first pair on.
 pub(crate) fn places_of(alloc: Global, pairs: &[Pair]) -> Result<Places, Error>
-    requires few { length pairs.now ≤ 2 ^ 31 }
-    requires apart { IsDistinct nat_eq (map lesser_of (begins_in true pairs.now)) }
+    requires { IsDistinct nat_eq (blocks_at (begins_in true pairs.now)) }
     ensures places { IfOk result (λ places. places ≡ begins_in true pairs.now) }
     ensures error { IfErr result (λ e. e ≡ Error.NoMemory) }
 {

@@ -79,7 +79,7 @@ pub(crate) fn read_image<D: BlockDevice>(
 }
 
 // Checks the image whose thread was read, marks the blocks of its files, and finds the orders of
-// names in which it is accepted.
+// names in which it is accepted. The map goes on at another block than after an earlier mount.
 fn check_image<D: BlockDevice>(
     alloc: Global,
     device: &mut D,
@@ -99,7 +99,20 @@ fn check_image<D: BlockDevice>(
     let directories = pairs_from(pairs, count);
     check_move(state, directories)?;
     let orders = check_directories(alloc, device, map, directories, state)?;
+    go_on_elsewhere(map, pairs);
     Ok(orders)
+}
+
+// Lets the map hand out blocks from another one after each mount, so that wear spreads: the number is
+// the sum of the pairs' revisions, which rise with each mount that writes, and of the used blocks.
+fn go_on_elsewhere(map: &mut BlockMap, pairs: &[Pair])
+    ensures { map.new ≡ map.old }
+{
+    let mut number = map.used_count();
+    for pair in pairs {
+        number = number.wrapping_add(pair.revision);
+    }
+    map.go_on_at(number);
 }
 
 // The pairs from an index on.

@@ -21,11 +21,11 @@ ghost use Rattle.lfs_tag.specs.ContentSeen.{slot_seen};
 use crate::entry::entry_of;
 use crate::known::Known;
 use crate::lists::mark_lists;
-use crate::places::Places;
 use crate::reaching::Directory;
 use lfs_alloc::BlockMap;
 use lfs_device::{BlockDevice, Error, read_block};
 use lfs_tag::{Content, Log, Slot};
+use lfs_thread::Places;
 use std::alloc::Global;
 
 // What is known of a directory's pair before its slots are looked at.

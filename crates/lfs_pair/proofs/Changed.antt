@@ -10,7 +10,7 @@ use Rattle.lfs_model.specs.View.{BeginsWith}
 use Rattle.lfs_model.specs.WrittenContent.{FitsRaw, written_entries}
 use Rattle.lfs_model.specs.LoggedContent.{IsLogged}
 use Rattle.std.proofs.lemmas.List.Concat.{flat_map-append}
-use Rattle.lfs_pair.proofs.Holders.{holder_is}
+use Rattle.lfs_pair.proofs.Holders.{held_commit, holder_is, raw_held}
 use Rattle.lfs_model.specs.Content.{RawContent, has_commit, holder_at, raw_at, content_after_all, no_content}
 use Rattle.lfs_model.specs.Changes.{Change, changed_by, entries_of_changes, is_storable}
 use Rattle.lfs_model.proofs.Appended.{appended_content}
@@ -224,13 +224,13 @@ is_compacting disk pair other revision on is also small next =
       sides = both;
       apart = λ same. sides_apart disk (address_in pair) pair.active other on.apart both (sym same);
       is = is.active;
-      had = is.has_commit;
+      had = held_commit disk (address_in pair) pair.active is.holds;
       small = subst (λ r. r < 2 ^ 32) is.revision_is small;
       next = next ∙ ap (λ r. (r + 1) % 2 ^ 32) is.revision_is;
     }
 
 pub is_active : (disk : Disk) (history : List Event) (pair : Pair) (held : RawContent) → IsPair disk history pair held → IsActive disk pair
-is_active disk history pair held is = record { active = is.active; has_commit = is.has_commit; revision_is = is.describes.revision }
+is_active disk history pair held is = record { active = is.active; holds = is.holds; revision_is = is.describes.revision }
 
 -- a pair that was just written
 pub now_holds : (disk : Disk) (history : List Event) (at : ℕ × ℕ) (pair : Pair) (active : ℕ) (c : RawContent) → IsIn disk at active c
@@ -239,7 +239,7 @@ pub now_holds : (disk : Disk) (history : List Event) (at : ℕ × ℕ) (pair : P
 now_holds disk history at pair active c in_block same is fetched revision ends written sums logged = record {
   is_pair = record {
     active = is ∙ in_block.active_is ∙ ap (active_at disk) (sym same);
-    has_commit = ap (λ b. has_commit (block_at disk b)) is ∙ in_block.has;
+    holds = ap (holder_at disk) same ∙ holder_in disk at active in_block.active_is in_block.has ∙ ap (λ b. Some (block_at disk b)) (sym is);
     describes = record {
       content = ap (λ b. content_after_all no_content (log_entries (block_at disk b))) is ∙ in_block.content;
       end = ends.end_is ∙ written.end_is ∙ ap (λ b. (chain_of (block_at disk b)).end) (sym is);
@@ -265,7 +265,7 @@ is_appending disk history pair held new changes b on is made entries none =
       sides = both;
       apart = sides_apart disk (address_in pair) pair.active (other_in pair) on.apart both;
       is = is.active;
-      had = is.has_commit;
+      had = held_commit disk (address_in pair) pair.active is.holds;
       held_is = is.describes.content;
       more = ap (content_after_all held) entries ∙ changed_content held new changes made;
       no_revision = none;
@@ -274,7 +274,7 @@ is_appending disk history pair held new changes b on is made entries none =
 -- what the changes make of what the pair holds is what they make of its block's content
 pub made_is : (disk : Disk) (history : List Event) (pair : Pair) (held : RawContent) (changes : List Change) → IsPair disk history pair held → made_at disk (address_in pair) changes ≡ changed_by held changes
 made_is disk history pair held changes is =
-    ap (option_and_then (λ c. changed_by c changes)) (raw_is disk (address_in pair) pair.active is.active is.has_commit ∙ is.describes.content)
+    ap (option_and_then (λ c. changed_by c changes)) (raw_held disk (address_in pair) pair.active is.holds ∙ is.describes.content)
 
 -- the log of a pair ends within its block
 pub ends_in_block : (disk : Disk) (history : List Event) (pair : Pair) (held : RawContent) (block_size : ℕ) → IsPair disk history pair held → length (block_at disk pair.active) ≡ block_size → 1024 ≤ block_size → pair.end ≤ block_size
@@ -314,7 +314,14 @@ stays_outside at b old new (inr is) stays = StayUnprogrammed-wider (at.0 ∷ at.
 pub made_here : (disk : Disk) (history : List Event) (pair : Pair) (held : RawContent) (block : List ℕ) (changes : List Change) (new : Option RawContent) → IsPair disk history pair held
     → block ≡ block_at disk pair.active → made_in block changes ≡ new → made_at disk (address_in pair) changes ≡ new
 made_here disk history pair held block changes new is here made =
-    ap (λ h. made_of h changes) (raw_is disk (address_in pair) pair.active is.active is.has_commit) ∙ ap (λ b. made_in b changes) (sym here) ∙ made
+    ap (λ h. made_of h changes) (raw_held disk (address_in pair) pair.active is.holds) ∙ ap (λ b. made_in b changes) (sym here) ∙ made
+
+-- where the log ends that holds, and by which tag
+pub ends_here : (disk : Disk) (history : List Event) (pair : Pair) (held : RawContent) (block : List ℕ) → IsPair disk history pair held → block ≡ block_at disk pair.active → EndsWith (chain_of block).end (chain_of block).last pair
+ends_here disk history pair held block is here = record {
+  end_is = is.describes.end ∙ ap (λ b. (chain_of b).end) (sym here);
+  last_is = is.describes.last ∙ ap (λ b. (chain_of b).last) (sym here);
+}
 
 -- the disk itself, before a call
 pub left_alone : (disk : Disk) (at : ℕ × ℕ) (changes : List Change) → LeftByChange disk at changes disk.blocks

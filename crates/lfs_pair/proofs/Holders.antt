@@ -1,7 +1,10 @@
 -- Which block of a pair holds, and which one does after a write.
-use Rattle.std.proofs.Common.{ℕ, ◌≡◌, ◌+◌, ◌-◌, ◌%◌, ◌^◌, ◌<◌, Bool, true, false, cond, not, ◌&&◌, ◌||◌, List, Some, None, refl, sym, ap₂, ◌∙◌, arith}
-use Rattle.lfs_model.specs.Log.{revision_of}
-use Rattle.lfs_model.specs.Content.{has_commit, is_later, holder}
+use Rattle.std.proofs.Common.{ℕ, ◌≡◌, ◌+◌, ◌-◌, ◌%◌, ◌^◌, ◌<◌, Bool, true, false, cond, not, ◌&&◌, ◌||◌, List, Some, None, refl, sym, ap, ap₂, subst, ◌∙◌, arith}
+use Rattle.std.specs.Option.{option_and_then}
+use Rattle.std.proofs.lemmas.Option.{same_Some}
+use Rattle.lfs_model.specs.Disk.{Disk, block_at}
+use Rattle.lfs_model.specs.Log.{log_entries, revision_of}
+use Rattle.lfs_model.specs.Content.{has_commit, is_later, holder, holder_at, content_after_all, no_content, raw_at}
 use Rattle.lfs_pair.specs.Pair.{second_holds}
 
 -- the block that holds, by which of the two it is
@@ -15,6 +18,27 @@ holder_is a b h = go (has_commit a) (has_commit b) (is_later (revision_of a) (re
     go true false later e f h = refl
     go false true later e f h = refl
     go false false later e f h = absurd (let k = sym e ∙ h in cc)
+
+-- the block that holds has a commit
+holder_has : (a b block : List ℕ) → holder a b ≡ Some block → has_commit block ≡ true
+holder_has a b block h = go (has_commit a) (has_commit b) (is_later (revision_of a) (revision_of b)) refl refl h
+  where
+    this : (x : List ℕ) → has_commit x ≡ true → Some x ≡ Some block → has_commit block ≡ true
+    this x has is = subst (λ y. has_commit y ≡ true) (same_Some x block is) has
+
+    go : (ca cb later : Bool) → has_commit a ≡ ca → has_commit b ≡ cb → cond (not ca) (cond cb (Some b) None) (cond (cb && later) (Some b) (Some a)) ≡ Some block → has_commit block ≡ true
+    go true true true e f is = this b f is
+    go true true false e f is = this a e is
+    go true false later e f is = this a e is
+    go false true later e f is = this b f is
+    go false false later e f is = absurd (cc)
+
+pub held_commit : (disk : Disk) (at : ℕ × ℕ) (active : ℕ) → holder_at disk at ≡ Some (block_at disk active) → has_commit (block_at disk active) ≡ true
+held_commit disk at active holds = holder_has (block_at disk at.0) (block_at disk at.1) (block_at disk active) holds
+
+-- a pair holds what the block that holds does
+pub raw_held : (disk : Disk) (at : ℕ × ℕ) (active : ℕ) → holder_at disk at ≡ Some (block_at disk active) → raw_at disk at ≡ content_after_all no_content (log_entries (block_at disk active))
+raw_held disk at active holds = ap (option_and_then (λ block. content_after_all no_content (log_entries block))) holds
 
 -- where neither has a commit, none holds
 pub holder_none : (a b : List ℕ) → has_commit a ≡ false → has_commit b ≡ false → holder a b ≡ None

@@ -17,16 +17,16 @@ use Rattle.lfs_model.specs.Changes.{Change}
 use Rattle.lfs_model.proofs.Histories.{EachSince-until}
 use Rattle.lfs_model.proofs.Logged.{nothing_logged}
 use Rattle.lfs_model.proofs.Overwrites.{SameButThese-refl, SameButThese-trans, SameButThese-wider}
+use Rattle.lfs_model.proofs.Staying.{AreElsewhere, holder_at-stays, raw_at-stays}
 use Rattle.lfs_pair.specs.declared.pair.Pair.{Pair}
 use Rattle.lfs_pair.specs.Pair.{address_in}
 use Rattle.lfs_model.specs.View.{BeginsWith}
-use Rattle.lfs_pair.specs.Commit.{IsNow, IsStill, KeepsFirst, LeftWith, NowHolds, OutsideKeeps, made_in, made_at}
+use Rattle.lfs_pair.specs.Commit.{IsNow, IsStill, KeepsFirst, LeftWith, OutsideKeeps, made_in, made_at}
 use Rattle.lfs_pair.specs.Cut.{IsCut}
 use Rattle.lfs_pair.specs.Fresh.{ClearsLogs}
 use Rattle.lfs_pair.specs.Writing.{HoldsAnew}
 use Rattle.lfs_pair.specs.Split.{AreApart, AreParts, CanSplit, IsInside, LeftBySplit, OutsideBothKeeps}
-use Rattle.lfs_pair.proofs.Stay.{AreElsewhere, IsPair-reads, holder_at-stays, raw_at-stays}
-use Rattle.lfs_pair.proofs.TwoBlocks.{raw_is}
+use Rattle.lfs_pair.proofs.Stay.{IsPair-reads}
 use Rattle.lfs_pair.proofs.Changed.{made_here, made_is, some_same}
 
 -- ---- blocks of two pairs
@@ -186,10 +186,6 @@ CanSplit-reads reads can =
     }
 
 -- ---- what a stop on the way there leaves
-
-pub raw_held : {disk : Disk} {history : List Event} {at : ℕ × ℕ} {pair : Pair} {c : RawContent} → NowHolds disk history at pair c → raw_at disk at ≡ Some c
-raw_held {disk} {pair = pair} holds =
-    ap (raw_at disk) (sym holds.same) ∙ raw_is disk (address_in pair) pair.active holds.is_pair.active holds.is_pair.has_commit ∙ holds.is_pair.describes.content
 
 -- before a call
 pub left_before : (old : Disk) (at fresh : ℕ × ℕ) (changes : List Change) → LeftBySplit old at fresh changes old.blocks

@@ -1,21 +1,16 @@
 -- What a pair holds where nothing is written to its two blocks.
 use Rattle.std.specs.Prelude.{All}
-use Rattle.std.proofs.Common.{ℕ, ◌≡◌, ◌≢◌, ◌<◌, Bool, true, false, cond, List, sym, ap, ap₂, ◌∙◌, subst}
-use Rattle.std.specs.Option.{option_and_then}
+use Rattle.std.proofs.Common.{ℕ, ◌≡◌, ◌≢◌, Bool, true, false, cond, List, Some, sym, ap, ap₂, ◌∙◌, subst}
 use Rattle.lfs_model.specs.Blocks.{Blocks, SameButThese}
 use Rattle.lfs_model.specs.Disk.{Disk, block_at}
-use Rattle.lfs_model.specs.Log.{log_entries, revision_of}
+use Rattle.lfs_model.specs.Log.{revision_of}
 use Rattle.lfs_model.specs.History.{Event, OnlyReads, StayUnprogrammed}
-use Rattle.lfs_model.specs.Content.{RawContent, has_commit, holder, holder_at, raw_at, content_after_all, no_content}
+use Rattle.lfs_model.specs.Content.{RawContent}
 use Rattle.lfs_model.proofs.Histories.{AllUnprogrammed-reads, AllUnprogrammed-stays}
+use Rattle.lfs_model.proofs.Staying.{AreElsewhere, holder_at-stays, raw_at-stays}
 use Rattle.lfs_pair.specs.declared.pair.Pair.{Pair}
 use Rattle.lfs_pair.specs.Pair.{IsPair, Describes, second_holds, active_at, address_in}
-use Rattle.lfs_pair.specs.Commit.{IsActive, IsAddressOn, NowHolds}
-
--- neither block of a pair is one of those
-pub record AreElsewhere (at : ℕ × ℕ) (bs : List ℕ) : Type 0 where
-  pub first : All (λ b. b ≢ at.0) bs
-  pub second : All (λ b. b ≢ at.1) bs
+use Rattle.lfs_pair.specs.Commit.{IsActive, NowHolds}
 
 -- ---- on the disk
 
@@ -23,22 +18,6 @@ pub active_at-stays : {at : ℕ × ℕ} {bs : List ℕ} (disk : Disk) {blocks : 
     → active_at (record disk { blocks = blocks }) at ≡ active_at disk at
 active_at-stays {at} disk elsewhere same =
     ap₂ (λ a b. cond (second_holds a b) at.1 at.0) (same.others at.0 elsewhere.first) (same.others at.1 elsewhere.second)
-
-pub raw_at-stays : {at : ℕ × ℕ} {bs : List ℕ} (disk : Disk) {blocks : Blocks} → AreElsewhere at bs → SameButThese bs disk.blocks blocks
-    → raw_at (record disk { blocks = blocks }) at ≡ raw_at disk at
-raw_at-stays {at} disk elsewhere same =
-    ap₂ (λ a b. option_and_then (λ block. content_after_all no_content (log_entries block)) (holder a b)) (same.others at.0 elsewhere.first) (same.others at.1 elsewhere.second)
-
-pub holder_at-stays : {at : ℕ × ℕ} {bs : List ℕ} (disk : Disk) {blocks : Blocks} → AreElsewhere at bs → SameButThese bs disk.blocks blocks
-    → holder_at (record disk { blocks = blocks }) at ≡ holder_at disk at
-holder_at-stays {at} disk elsewhere same = ap₂ holder (same.others at.0 elsewhere.first) (same.others at.1 elsewhere.second)
-
-pub IsAddressOn-stays : {at : ℕ × ℕ} {bs : List ℕ} {disk : Disk} {blocks : Blocks} → SameButThese bs disk.blocks blocks → IsAddressOn disk at → IsAddressOn (record disk { blocks = blocks }) at
-IsAddressOn-stays {at} same on = record {
-  apart = on.apart;
-  first = subst (λ n. at.0 < n) (sym same.count) on.first;
-  second = subst (λ n. at.1 < n) (sym same.count) on.second;
-}
 
 -- ---- as the pair says
 
@@ -56,7 +35,7 @@ IsActive-stays {disk = disk} {pair = pair} elsewhere same is =
     let block = same.others pair.active (active_elsewhere disk pair.active elsewhere is.active) in
     record {
       active = is.active ∙ sym (active_at-stays disk elsewhere same);
-      has_commit = ap has_commit block ∙ is.has_commit;
+      holds = holder_at-stays disk elsewhere same ∙ is.holds ∙ ap Some (sym block);
       revision_is = is.revision_is ∙ ap revision_of (sym block);
     }
 
@@ -67,7 +46,7 @@ IsPair-stays {disk = disk} {pair = pair} {held} elsewhere same stay is =
     let block = same.others pair.active apart in
     record {
       active = is.active ∙ sym (active_at-stays disk elsewhere same);
-      has_commit = ap has_commit block ∙ is.has_commit;
+      holds = holder_at-stays disk elsewhere same ∙ is.holds ∙ ap Some (sym block);
       describes = subst (λ b. Describes b pair held) (sym block) is.describes;
       whole_pages = is.whole_pages;
       unprogrammed = λ written. AllUnprogrammed-stays pair.active stay apart (is.unprogrammed written);
@@ -88,7 +67,7 @@ NowHolds-stays {bs = bs} {disk = disk} elsewhere same stay holds = record {
 pub IsPair-reads : {blocks : Blocks} {disk : Disk} {before after : List Event} {pair : Pair} {held : RawContent} → OnlyReads blocks before after → IsPair disk before pair held → IsPair disk after pair held
 IsPair-reads {pair = pair} reads is = record {
   active = is.active;
-  has_commit = is.has_commit;
+  holds = is.holds;
   describes = is.describes;
   whole_pages = is.whole_pages;
   unprogrammed = λ written. AllUnprogrammed-reads pair.active reads (is.unprogrammed written);

@@ -1,5 +1,5 @@
 -- What a commit to a pair does.
-use Rattle.std.specs.Prelude.{ℕ, ◌≡◌, ◌≢◌, ◌⊎◌, ◌+◌, ◌%◌, ◌^◌, ◌++◌, ◌<◌, ◌≤◌, false, true, List, [], ◌∷◌, take, slice_get, Option, Some, None}
+use Rattle.std.specs.Prelude.{ℕ, ◌≡◌, ◌≢◌, ◌⊎◌, ◌+◌, ◌%◌, ◌^◌, ◌++◌, ◌<◌, ◌≤◌, false, List, [], ◌∷◌, take, slice_get, Option, Some, None}
 use Rattle.std.specs.Option.{option_and_then}
 use Rattle.lfs_device.specs.declared.device.BlockDevice.{Ghosts}
 use Rattle.lfs_device.specs.declared.error.Error.{Error}
@@ -12,7 +12,7 @@ use Rattle.lfs_model.specs.History.{Event, StayUnprogrammed, erases, programs}
 use Rattle.lfs_model.specs.Log.{LogEntry, chain_of, log_entries, revision_of}
 use Rattle.lfs_model.specs.LoggedContent.{HaveNames, IsLogged}
 use Rattle.lfs_model.specs.Slots.{Content, FitsPair}
-use Rattle.lfs_model.specs.Content.{RawContent, completed, has_commit, holder_at, raw_at, content_after_all, no_content}
+use Rattle.lfs_model.specs.Content.{RawContent, completed, holder_at, raw_at, content_after_all, no_content}
 use Rattle.lfs_model.specs.View.{BeginsWith}
 use Rattle.lfs_model.specs.Changes.{Change, changed_by, entries_of_changes}
 use Rattle.lfs_model.specs.Commit.{entries_size, page_end}
@@ -69,7 +69,7 @@ pub record CanCommit (disk : Disk) (history : List Event) (pair : Pair) (changes
 -- the pair says which of its blocks holds, and that one's revision
 pub record IsActive (disk : Disk) (pair : Pair) : Type 0 where
   pub active : pair.active ≡ active_at disk (address_in pair)
-  pub has_commit : has_commit (block_at disk pair.active) ≡ true
+  pub holds : holder_at disk (address_in pair) ≡ Some (block_at disk pair.active)
   pub revision_is : pair.revision ≡ revision_of (block_at disk pair.active)
 
 -- the pair at that address holds that, and its active block was written, not only fetched

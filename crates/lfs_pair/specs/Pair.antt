@@ -5,7 +5,7 @@ use Rattle.lfs_model.specs.Disk.{Disk, block_at}
 use Rattle.lfs_model.specs.History.{Event, AllUnprogrammed}
 use Rattle.lfs_model.specs.Log.{chain_of, revision_of, log_entries}
 use Rattle.lfs_model.specs.Slots.{address_of}
-use Rattle.lfs_model.specs.Content.{RawContent, has_commit, is_later, content_after_all, no_content, raw_at, completed}
+use Rattle.lfs_model.specs.Content.{RawContent, has_commit, holder_at, is_later, content_after_all, no_content, raw_at, completed}
 use Rattle.lfs_model.specs.LoggedContent.{IsLogged}
 use Rattle.lfs_tag.specs.ContentSeen.{tail_seen}
 use Rattle.lfs_tag.specs.FieldsSeen.{move_seen}
@@ -54,7 +54,7 @@ active_at disk at = if second_holds (block_at disk at.0) (block_at disk at.1) th
 -- programmed behind its end.
 pub record IsPair (disk : Disk) (history : List Event) (pair : Pair) (held : RawContent) : Type 0 where
   pub active : pair.active ≡ active_at disk (address_in pair)
-  pub has_commit : has_commit (block_at disk pair.active) ≡ true
+  pub holds : holder_at disk (address_in pair) ≡ Some (block_at disk pair.active)
   pub describes : Describes (block_at disk pair.active) pair held
   pub whole_pages : pair.is_fetched ≡ false → pair.end % disk.page ≡ 0
   pub unprogrammed : pair.is_fetched ≡ false → AllUnprogrammed history pair.active pair.end disk.block_size

@@ -97,7 +97,7 @@ pub fn commit_in<'a, 'b: 'a, D: BlockDevice>(
         → LeavesOnly Stops (D.history dev.old) (D.history dev.new) (LeftByChange (disk_of (D.geometry dev.old) (D.blocks dev.old)) (address_in pair.old) (changes_seen changes.now)) }
 {
     let geometry = dev.geometry();
-    let content = made_in(alloc, block, changes)?;
+    let content = made_in(alloc, pair, block, changes)?;
     if !fits(&content, geometry) {
         return Ok(Outcome::Full);
     }

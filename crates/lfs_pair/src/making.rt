@@ -2,12 +2,15 @@
 
 ghost use Rattle.std.specs.Prelude.{◌≡◌, true, is_some, IfOk, IfErr, Some, length, None};
 ghost use Rattle.lfs_model.specs.Content.{no_content};
+ghost use Rattle.lfs_model.specs.Log.{chain_of};
 ghost use Rattle.lfs_model.specs.LoggedContent.{IsLogged};
 ghost use Rattle.lfs_tag.specs.ContentSeen.{content_seen};
 ghost use Rattle.lfs_pair.specs.ChangeSeen.{changes_seen};
 ghost use Rattle.lfs_pair.specs.Commit.{made_of, made_in};
+ghost use Rattle.lfs_pair.specs.Pair.{EndsWith};
 
 use crate::change::{Change, apply_all};
+use crate::pair::Pair;
 use lfs_device::Error;
 use lfs_tag::{Content, ContentError, Log, MoveState};
 use std::alloc::Global;
@@ -41,18 +44,21 @@ pub(crate) fn made_of_nothing<'a>(
     }
 }
 
-// What the changes make of what the block with these bytes holds.
+// What the changes make of what the pair's block with these bytes holds. Its checksums aren't
+// computed again.
 pub(crate) fn made_in<'a, 'b: 'a>(
     alloc: Global,
+    pair: &Pair,
     block: &'a [u8],
     changes: &[Change<'b>],
 ) -> Result<Content<'a>, Error>
-    requires { is_some (made_in block.now (changes_seen changes.now)) ≡ true }
+    requires made { is_some (made_in block.now (changes_seen changes.now)) ≡ true }
+    requires ends { EndsWith (chain_of block.now).end (chain_of block.now).last pair.now }
     ensures content { IfOk result (λ c. made_in block.now (changes_seen changes.now) ≡ Some (content_seen c)) }
     ensures logged { IfOk result (λ c. IsLogged (content_seen c)) }
     ensures errors { IfErr result (λ e. e ≡ Error.NoMemory) }
 {
-    let log = Log::read(block);
+    let log = Log::known(block, pair.end, pair.last);
     let mut content = match Content::read(alloc, &log) {
         Ok(content) => content,
         Err(ContentError::NoMemory) => return Err(Error::NoMemory),

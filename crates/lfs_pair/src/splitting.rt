@@ -87,7 +87,7 @@ pub fn split_in<'a, 'b: 'a, D: BlockDevice>(
         → LeavesOnly Stops (D.history dev.old) (D.history dev.new) (LeftBySplit (disk_of (D.geometry dev.old) (D.blocks dev.old)) (address_in pair.old) (address_of fresh) (changes_seen changes.now)) }
 {
     let geometry = dev.geometry();
-    let mut front = made_in(alloc, block, changes)?;
+    let mut front = made_in(alloc, pair, block, changes)?;
     let back = cut_off(&mut front, fresh, geometry)?;
     let mut buf = Vec::from_elem(alloc, 0u8, geometry.block_size as usize)?;
     let fresh_pair = write_fresh(dev, fresh, &back, &mut buf)?;

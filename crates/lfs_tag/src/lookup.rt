@@ -1,8 +1,7 @@
 // The slot of a name, or the place where it belongs.
 
-ghost use Rattle.std.specs.Prelude.{◌≡◌, ℕ, ◌+◌, ◌≤◌, ◌<◌, ◌^◌, [], length, max, slice_set, Some, None};
+ghost use Rattle.std.specs.Prelude.{◌≡◌, ℕ, ◌+◌, ◌≤◌, ◌<◌, ◌^◌, [], length, max, slice_set, vec_len, IfOk, OnOk, Some, None};
 ghost use Rattle.std.specs.List.{insert, remove};
-ghost use Rattle.arrayvec.specs.ArrayVec.{array_vec_len};
 ghost use Rattle.lfs_model.specs.Log.{log_entries};
 ghost use Rattle.lfs_model.specs.Content.{RawContent, content_after_all, no_content};
 ghost use Rattle.lfs_tag.specs.Find.{entry_rank, ranks_up_to, spliced, ranks_after, ranks_after_all, is_wanted, is_skipped, is_first, first_from};
@@ -13,8 +12,8 @@ use crate::entry::Entry;
 use crate::kinds::{CREATE, NAME_CLASS, SPLICE_CLASS, SUPERBLOCK_NAME};
 use crate::log::Log;
 use crate::names::name_cmp;
-use arrayvec::ArrayVec;
 use lfs_device::NameOrder;
+use std::alloc::{AllocError, Global};
 use std::cmp::Ordering;
 
 /// Where a name stands among a log's slots.
@@ -26,66 +25,77 @@ pub enum Lookup {
     Place(u16),
 }
 
-// More slots than a log of `BLOCK_MAX` bytes can come to: a name makes slots up to its id, which is
-// below 1,024, and each entry at most one.
-const SLOT_MAX: usize = 17_408;
-
 const BLOCK_MAX: usize = 65536;
 
 // For each slot how the wanted name stands to its own; `None` where it has none, or the
 // superblock's.
-type Ranks = ArrayVec<Option<Ordering>, SLOT_MAX>;
+type Ranks = Vec<Option<Ordering>>;
 
 /// Where a name stands among a log's slots, or where it belongs, which is in front of the first
 /// slot with a name that is greater in that order. A superblock's slot and the slot `skip` are passed over, though they keep their ids.
 ///
 /// The answer is of a log that isn't malformed, in a block of at most 65,536 bytes. The log's
-/// entries are taken once, and each name is compared once. It takes no memory but a table on the
-/// stack with a byte for each slot that a block can have.
-pub fn find(log: &Log<'_>, order: NameOrder, name: &[u8], skip: Option<u16>) -> Lookup
-    ensures { (c : RawContent) → content_after_all no_content (log_entries log.now) ≡ Some c → length log.now ≤ 2 ^ 16 → Answers order name.now skip c.slots result }
+/// entries are taken once, and each name is compared once. It takes memory for a byte for each slot
+/// that the log has on the way.
+pub fn find(
+    alloc: Global,
+    log: &Log<'_>,
+    order: NameOrder,
+    name: &[u8],
+    skip: Option<u16>,
+) -> Result<Lookup, AllocError>
+    ensures { (c : RawContent) → content_after_all no_content (log_entries log.now) ≡ Some c → length log.now ≤ 2 ^ 16 → IfOk result (Answers order name.now skip c.slots) }
 {
     if BLOCK_MAX < log.block().len() {
-        return Lookup::Place(0);
+        return Ok(Lookup::Place(0));
     }
-    let mut ranks = Ranks::new();
-    rank_slots(&mut ranks, log, order, name);
+    let mut ranks = Vec::new(alloc);
+    rank_slots(&mut ranks, log, order, name)?;
     let found = first(&ranks, true, skip);
     if found < ranks.len() {
-        Lookup::Found(found as u16)
+        Ok(Lookup::Found(found as u16))
     } else {
-        Lookup::Place(first(&ranks, false, skip) as u16)
+        Ok(Lookup::Place(first(&ranks, false, skip) as u16))
     }
 }
 
 // The ranks of a log's slots.
 #[tactic(auto, using(crate::proofs::Ranks::few_entries))]
-fn rank_slots(ranks: &mut Ranks, log: &Log<'_>, order: NameOrder, name: &[u8])
+fn rank_slots(
+    ranks: &mut Ranks,
+    log: &Log<'_>,
+    order: NameOrder,
+    name: &[u8],
+) -> Result<(), AllocError>
     requires none { ranks.old.items ≡ [] }
     requires small { length log.now ≤ 2 ^ 16 }
-    ensures { ranks.new.items ≡ ranks_after_all order name.now [] (log_entries log.now) }
+    ensures ranks { OnOk result (ranks.new.items ≡ ranks_after_all order name.now [] (log_entries log.now)) }
+    ensures few { OnOk result (vec_len ranks.new < 17408) }
 {
     for entry in log.entries() {
-        take(ranks, order, name, &entry);
+        take(ranks, order, name, &entry)?;
     }
+    Ok(())
 }
 
 // What an entry makes of the ranks.
-fn take(ranks: &mut Ranks, order: NameOrder, name: &[u8], entry: &Entry<'_>)
-    requires { max (array_vec_len ranks.old) 1024 < 17408 }
-    ensures ranks { ranks.new.items ≡ ranks_after order name.now ranks.old.items (seen entry.now) }
-    ensures room { array_vec_len ranks.new ≤ max (array_vec_len ranks.old) 1024 + 1 }
+fn take(
+    ranks: &mut Ranks,
+    order: NameOrder,
+    name: &[u8],
+    entry: &Entry<'_>,
+) -> Result<(), AllocError>
+    ensures ranks { OnOk result (ranks.new.items ≡ ranks_after order name.now ranks.old.items (seen entry.now)) }
+    ensures room { OnOk result (vec_len ranks.new ≤ max (vec_len ranks.old) 1024 + 1) }
 {
     let class = entry.tag.class();
     if class == NAME_CLASS {
-        put_rank(
-            ranks,
-            usize::from(entry.tag.id()),
-            entry_rank(order, name, entry),
-        );
+        let rank = entry_rank(order, name, entry);
+        put_rank(ranks, usize::from(entry.tag.id()), rank)?;
     } else if class == SPLICE_CLASS {
-        splice(ranks, entry);
+        splice(ranks, entry)?;
     }
+    Ok(())
 }
 
 // How the wanted name stands to the one that an entry gives a slot.
@@ -100,41 +110,43 @@ fn entry_rank(order: NameOrder, name: &[u8], entry: &Entry<'_>) -> Option<Orderi
 }
 
 // Ranks a slot, which may be past the end.
-fn put_rank(ranks: &mut Ranks, id: usize, rank: Option<Ordering>)
+fn put_rank(ranks: &mut Ranks, id: usize, rank: Option<Ordering>) -> Result<(), AllocError>
     requires { id < 1024 }
-    ensures ranks { ranks.new.items ≡ slice_set (ranks_up_to ranks.old.items id) id rank }
-    ensures room { array_vec_len ranks.new ≤ max (array_vec_len ranks.old) 1024 }
+    ensures ranks { OnOk result (ranks.new.items ≡ slice_set (ranks_up_to ranks.old.items id) id rank) }
+    ensures room { OnOk result (vec_len ranks.new ≤ max (vec_len ranks.old) 1024) }
 {
-    fill_up(ranks, id);
+    fill_up(ranks, id)?;
     ranks[id] = rank;
+    Ok(())
 }
 
 // Adds slots without a name up to an id.
-fn fill_up(ranks: &mut Ranks, id: usize)
+fn fill_up(ranks: &mut Ranks, id: usize) -> Result<(), AllocError>
     requires { id < 1024 }
-    ensures ranks { ranks.new.items ≡ ranks_up_to ranks.old.items id }
-    ensures long { id < array_vec_len ranks.new }
-    ensures room { array_vec_len ranks.new ≤ max (array_vec_len ranks.old) 1024 }
+    ensures ranks { OnOk result (ranks.new.items ≡ ranks_up_to ranks.old.items id) }
+    ensures long { OnOk result (id < vec_len ranks.new) }
+    ensures room { OnOk result (vec_len ranks.new ≤ max (vec_len ranks.old) 1024) }
 {
-    while ranks.len() <= id {
-        ranks.push(None);
+    if ranks.len() <= id {
+        ranks.resize(id + 1, None)?;
     }
+    Ok(())
 }
 
 // Carries out a create or a delete.
-fn splice(ranks: &mut Ranks, entry: &Entry<'_>)
-    requires { array_vec_len ranks.old < 17408 }
-    ensures ranks { ranks.new.items ≡ spliced ranks.old.items (seen entry.now) }
-    ensures room { array_vec_len ranks.new ≤ array_vec_len ranks.old + 1 }
+fn splice(ranks: &mut Ranks, entry: &Entry<'_>) -> Result<(), AllocError>
+    ensures ranks { OnOk result (ranks.new.items ≡ spliced ranks.old.items (seen entry.now)) }
+    ensures room { OnOk result (vec_len ranks.new ≤ vec_len ranks.old + 1) }
 {
     let id = usize::from(entry.tag.id());
     if entry.tag.kind() == CREATE {
         if id <= ranks.len() {
-            ranks.insert(id, None);
+            ranks.insert(id, None)?;
         }
     } else if id < ranks.len() {
         ranks.remove(id);
     }
+    Ok(())
 }
 
 // The first slot whose name is the wanted one, or is behind it; the number of slots where none is.

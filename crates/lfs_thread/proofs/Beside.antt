@@ -1,5 +1,5 @@
 -- What is kept of a thread, where no block of its pairs changes.
-use Rattle.std.proofs.Common.{ℕ, ◌≡◌, ◌<◌, ◌≤◌, Bool, true, false, cond, List, [], ◌∷◌, length, Some, None, refl, sym, ap, ap₂, subst, ◌∙◌, arith}
+use Rattle.std.proofs.Common.{ℕ, ◌≡◌, ◌≤◌, List, [], ◌∷◌, length, Some, None, refl, sym, ap, ap₂, subst, ◌∙◌, arith}
 use Rattle.std.specs.Prelude.{unwrap_or}
 use Rattle.std.specs.Option.{option_and_then}
 use Rattle.lfs_device.specs.declared.device.BlockDevice.{Ghosts}
@@ -8,56 +8,21 @@ use Rattle.lfs_device.specs.Shown.{disk_of}
 use Rattle.lfs_model.specs.Blocks.{Blocks, block_in}
 use Rattle.lfs_model.specs.BlockSets.{BlockSets, IsUsed}
 use Rattle.lfs_model.specs.Cache.{CachedBlocks, cached}
-use Rattle.lfs_model.specs.Content.{completed, has_commit}
-use Rattle.lfs_model.specs.Disk.{Disk, block_at}
-use Rattle.lfs_model.specs.History.{Event, unprogrammed}
+use Rattle.lfs_model.specs.Content.{completed}
+use Rattle.lfs_model.specs.Disk.{Disk}
+use Rattle.lfs_model.specs.History.{Event}
 use Rattle.lfs_model.specs.Slots.{no_gstate}
 use Rattle.lfs_model.specs.Thread.{Links, anchor, blocks_of}
 use Rattle.lfs_model.proofs.BlockSets.{Contains-count}
 use Rattle.lfs_model.proofs.Counts.{count, count_here}
 use Rattle.lfs_model.proofs.Staying.{IsSameAt, raw_same}
-use Rattle.lfs_pair.specs.Pair.{Describes, active_at, address_in, second_holds}
-use Rattle.lfs_thread.specs.Kept.{AllUsed, AreHeaders, Header, IsCurrent, IsHeader, pair_on, pairs_on, seen_on, disk_on, IsKeptOn}
+use Rattle.lfs_pair.specs.Pair.{address_in}
+use Rattle.lfs_thread.specs.Kept.{AllUsed, AreHeaders, Header, IsCurrent, pair_on, pairs_on, seen_on, disk_on, IsKeptOn}
 use Rattle.lfs_thread.specs.Beside.{LeavesPairs}
 use Rattle.lfs_thread.proofs.Coming.{used_at}
+use Rattle.lfs_thread.proofs.Keeping.{IsAsItWas, header_same}
 
 -- ---- one pair
-
--- a block holds the same bytes, and what was unprogrammed in it still is
-pub record IsAsItWas (old new : Blocks) (before after : List Event) (b : ℕ) : Type 0 where
-  pub same : block_in new b ≡ block_in old b
-  pub stays : (k : ℕ) → unprogrammed before b k ≡ true → unprogrammed after b k ≡ true
-
-pub of_two : (P : ℕ → Type 0) (s : Bool) (at : ℕ × ℕ) → P at.0 → P at.1 → P (cond s at.1 at.0)
-of_two P true at p q = q
-of_two P false at p q = p
-
-pub pair_beside : (disk : Disk) (blocks : Blocks) (before after : List Event) (h : Header) → length blocks ≡ length disk.blocks
-    → IsAsItWas disk.blocks blocks before after (address_in h).0 → IsAsItWas disk.blocks blocks before after (address_in h).1
-    → IsHeader disk before h → IsHeader (record disk { blocks = blocks }) after h
-pair_beside disk blocks before after h size first second is =
-    let same : IsSameAt disk (record disk { blocks = blocks }) (address_in h) = record { first = first.same; second = second.same } in
-    let e : active_at (record disk { blocks = blocks }) (address_in h) ≡ active_at disk (address_in h) = ap₂ (λ a b. cond (second_holds a b) (address_in h).1 (address_in h).0) first.same second.same in
-    let was = subst (IsAsItWas disk.blocks blocks before after) (sym is.is_pair.active)
-    (of_two (IsAsItWas disk.blocks blocks before after) (second_holds (block_at disk (address_in h).0) (block_at disk (address_in h).1)) (address_in h) first second) in
-    record {
-      address = record {
-        apart = is.address.apart;
-        first = subst (λ n. (address_in h).0 < n) (sym size) is.address.first;
-        second = subst (λ n. (address_in h).1 < n) (sym size) is.address.second;
-      };
-      held = is.held;
-      is_pair = record {
-        active = is.is_pair.active ∙ sym e;
-        has_commit = ap has_commit was.same ∙ is.is_pair.has_commit;
-        describes = subst (λ b. Describes b h is.held) (sym was.same) is.is_pair.describes;
-        whole_pages = is.is_pair.whole_pages;
-        unprogrammed = λ written k low high. was.stays k (is.is_pair.unprogrammed written k low high);
-      };
-      raw = raw_same same ∙ is.raw;
-      content = is.content;
-      complete = is.complete;
-    }
 
 pub pair_on-beside : (disk : Disk) (blocks : Blocks) (at : ℕ × ℕ) → block_in blocks at.0 ≡ block_in disk.blocks at.0 → block_in blocks at.1 ≡ block_in disk.blocks at.1
     → pair_on (record disk { blocks = blocks }) at ≡ pair_on disk at
@@ -76,7 +41,7 @@ module _ (disk : Disk) (blocks : Blocks) (before after : List Event) (size : len
   headers_beside [] was are = tt
   headers_beside (h ∷ hs) was are =
       let first = (address_in h).0 in let second = (address_in h).1 in let rest = blocks_of (pairs_on disk hs) in (
-        pair_beside disk blocks before after h size (was first (let m = count_here first (second ∷ rest) in omega arith))
+        header_same disk blocks before after h size (was first (let m = count_here first (second ∷ rest) in omega arith))
             (was second (let m = count_here second rest in let k = behind second first (second ∷ rest) in omega arith)) are.0,
         headers_beside hs (λ b k. was b (let m = behind b first (second ∷ rest) in let n = behind b second rest in omega arith)) are.1,
       )

@@ -17,6 +17,7 @@ use Rattle.lfs_model.specs.Content.{RawSlot, RawContent, raw_at, content_at, com
 use Rattle.lfs_model.specs.Thread.{Pair, Links, next_of, blocks_of}
 use Rattle.lfs_model.proofs.Counts.{count, once_from_distinct}
 use Rattle.lfs_model.proofs.Completed.{complete_parts, fits_pair}
+use Rattle.lfs_model.proofs.Histories.{unprogrammed-reads}
 use Rattle.lfs_device.specs.declared.error.Error.{Error}
 use Rattle.lfs_device.specs.declared.geometry.Geometry.{Geometry}
 use Rattle.lfs_device.specs.Shown.{disk_of}
@@ -26,10 +27,9 @@ use Rattle.lfs_pair.specs.Pair.{address_in}
 use Rattle.lfs_pair.specs.Commit.{CanCommit, Commits, NowHolds, IsAddressOn, OutsideKeeps, OutsideStays, IsMade, IsStill, LeftByChange, made_at}
 use Rattle.lfs_model.specs.View.{superblock_entry}
 use Rattle.lfs_model.proofs.FirstEntries.{superblock_anew}
-use Rattle.lfs_pair.proofs.Stay.{IsPair-reads}
 use Rattle.lfs_thread.specs.Kept.{Header, seen, pair_on, pairs_on, IsHeader, AreHeaders, AllUsed, IsKept}
 use Rattle.lfs_thread.specs.Steps.{pair_in, no_pair, made_in_thread, CanChange, with_pair, StaysFirst, IsWrittenAs, IsChanged, IsOnlyRead, IsRefused, IsLeft}
-use Rattle.lfs_thread.proofs.Keeping.{kept_thread, headers_right, header_content, pair_on_content, used_left, used_right, IsReplaced, pairs_are, kept_replaced}
+use Rattle.lfs_thread.proofs.Keeping.{IsAsItWas, header_same, kept_thread, headers_right, header_content, pair_on_content, used_left, used_right, IsReplaced, pairs_are, kept_replaced}
 
 -- ---- the header at an index
 
@@ -236,17 +236,11 @@ at_there disk hs index h below value =
 
 pub headers_read : (disk : Disk) (blocks : Blocks) (before after : List Event) (hs : List Header) → OnlyReads blocks before after → AreHeaders disk before hs → AreHeaders disk after hs
 headers_read disk blocks before after [] reads are = tt
-headers_read disk blocks before after (h ∷ hs) reads are = (
-  record {
-    address = are.0.address;
-    held = are.0.held;
-    is_pair = IsPair-reads reads are.0.is_pair;
-    raw = are.0.raw;
-    content = are.0.content;
-    complete = are.0.complete;
-  },
-  headers_read disk blocks before after hs reads are.1,
-)
+headers_read disk blocks before after (h ∷ hs) reads are =
+    (header_same disk disk.blocks before after h refl (there (address_in h).0) (there (address_in h).1) are.0, headers_read disk blocks before after hs reads are.1)
+  where
+    there : (b : ℕ) → IsAsItWas disk.blocks disk.blocks before after b
+    there b = record { same = refl; stays = λ k was. unprogrammed-reads b k reads ∙ was }
 
 pub kept_read : (disk : Disk) (blocks : Blocks) (before after : List Event) (hs : List Header) (sets : BlockSets) → OnlyReads blocks before after → IsKept disk before hs sets → IsKept disk after hs sets
 kept_read disk blocks before after hs sets reads kept = record {

@@ -2,6 +2,7 @@
 use Rattle.std.proofs.Common.{ℕ, ◌≡◌, ◌<◌, ◌≤◌, ◌^◌, ◌+◌, true, false, List, [], ◌∷◌, ◌++◌, length, Option, None, Some, Result, Ok, Err, ◌⊎◌, inl, inr, rules, refl, sym, ap, subst, ◌∙◌, arith}
 use Rattle.std.specs.Option.{option_map}
 use Rattle.std.specs.Prelude.{IfErr}
+use Rattle.lfs_device.specs.Bytes.{AreBytes}
 use Rattle.lfs_device.specs.declared.device.BlockDevice.{Ghosts}
 use Rattle.lfs_device.specs.declared.error.Error.{Error}
 use Rattle.lfs_device.specs.declared.error.Error.TheVariants.{Io, NoMemory}
@@ -13,20 +14,19 @@ use Rattle.lfs_model.specs.Cache.{CachedBlocks, cached, without}
 use Rattle.lfs_model.proofs.Cache.{cached-without_other}
 use Rattle.lfs_model.specs.Disk.{Disk, block_at, block_count}
 use Rattle.lfs_model.specs.History.{Event, reads}
-use Rattle.lfs_model.specs.Log.{log_entries}
+use Rattle.lfs_model.specs.Log.{chain_of, log_entries}
 use Rattle.lfs_model.specs.Content.{content_after_all, holder_at, no_content}
 use Rattle.lfs_model.specs.Slots.{Content, Tail}
 use Rattle.lfs_model.specs.Thread.{Pair, anchor, blocks_of, Links, is_hard, next_of}
 use Rattle.lfs_model.proofs.Completed.{complete_length, completed_parts}
 use Rattle.lfs_tag.specs.ContentSeen.{tail_seen}
 use Rattle.lfs_tag.specs.FieldsSeen.{move_seen}
-use Rattle.lfs_pair.specs.Pair.{active_at, address_in}
+use Rattle.lfs_pair.specs.Pair.{active_at, address_in, second_holds}
 use Rattle.lfs_pair.specs.Writing.{ChangesReading}
-use Rattle.lfs_pair.proofs.Changed.{active_among, active_below, holder_in}
 use Rattle.lfs_thread.specs.Kept.{AllUsed, Header, IsHeader, IsKept, pair_on, pairs_on, seen}
 use Rattle.lfs_thread.specs.Lent.{IsBlockOf, at_hand_of, read_if_missing}
 use Rattle.lfs_thread.specs.Steps.{AreHeld, pair_in}
-use Rattle.lfs_thread.proofs.Keeping.{header_content, pair_on_content, used_right}
+use Rattle.lfs_thread.proofs.Keeping.{header_content, of_two, pair_on_content, used_right}
 use Rattle.lfs_thread.proofs.Coming.{in_flight_unused}
 use Rattle.lfs_thread.proofs.Changing.{IsAt, header_at_index, pair_at_index}
 
@@ -50,20 +50,33 @@ module _ (disk : Disk) (history : List Event) (hs : List Header) (sets : BlockSe
   pub active_is : h.active ≡ active_at disk (pair_in (seen disk history hs sets) index).at
   active_is = there.is_pair.active ∙ ap (λ (p : Pair). active_at disk p.at) (sym (pair_at_index disk history hs sets index h a))
 
-  pub active_there : (count : ℕ) → block_count disk ≡ count → h.active < count
-  active_there count e = active_below disk history h there.held count there.address there.is_pair e
+  -- what holds of both blocks of the pair holds of the active one
+  one_of_both : (P : ℕ → Type 0) → P (address_in h).0 → P (address_in h).1 → P h.active
+  one_of_both P first second =
+      subst P (sym there.is_pair.active) (of_two P (second_holds (block_at disk (address_in h).0) (block_at disk (address_in h).1)) (address_in h) first second)
 
-  pub block_there : (bytes : List ℕ) → bytes ≡ block_at disk h.active → length bytes ≤ 2 ^ 16 → IsBlockOf bytes (pair_in (seen disk history hs sets) index).content
-  block_there bytes e short = record {
+  pub active_there : (count : ℕ) → block_count disk ≡ count → h.active < count
+  active_there count e = let below = one_of_both (λ b. b < block_count disk) there.address.first there.address.second in omega (arith, below, e)
+
+  pub block_there : (bytes : List ℕ) → bytes ≡ block_at disk h.active → length bytes ≤ 2 ^ 16 → AreBytes bytes → IsBlockOf bytes (pair_in (seen disk history hs sets) index).content
+  block_there bytes e short are = record {
     raw = there.held;
     log = ap (λ b. content_after_all no_content (log_entries b)) e ∙ there.is_pair.describes.content;
     complete = there.complete ∙ ap Some content_is;
     short = short;
+    bytes = are;
   }
+
+  -- where its log ends, and by which tag
+  pub end_there : (bytes : List ℕ) → bytes ≡ block_at disk h.active → h.end ≡ (chain_of bytes).end
+  end_there bytes e = there.is_pair.describes.end ∙ ap (λ b. (chain_of b).end) (sym e)
+
+  pub last_there : (bytes : List ℕ) → bytes ≡ block_at disk h.active → h.last ≡ (chain_of bytes).last
+  last_there bytes e = there.is_pair.describes.last ∙ ap (λ b. (chain_of b).last) (sym e)
 
   pub holder_there : (bytes : List ℕ) → bytes ≡ block_at disk h.active → holder_at disk (pair_in (seen disk history hs sets) index).at ≡ Some bytes
   holder_there bytes e = ap (λ (p : Pair). holder_at disk p.at) (pair_at_index disk history hs sets index h a)
-      ∙ holder_in disk (address_in h) h.active there.is_pair.active there.is_pair.has_commit ∙ ap Some (sym e)
+      ∙ there.is_pair.holds ∙ ap Some (sym e)
 
   pub count_there : h.slot_count ≡ length (pair_in (seen disk history hs sets) index).content.slots
   count_there = there.is_pair.describes.sums.slot_count ∙ sym (complete_length there.held.slots there.content.slots (completed_parts there.held there.content there.complete).slots) ∙ ap (λ (c : Content). length c.slots) content_is
@@ -92,10 +105,7 @@ module _ (disk : Disk) (history : List Event) (hs : List Header) (sets : BlockSe
       let parts = subst (λ ps. AllUsed sets (blocks_of ps)) (map-append (λ x. pair_on disk (address_in x)) a.front (h ∷ a.back)) all in
       let cut = subst (AllUsed sets) (flat_map-append (λ (s : Pair). s.at.0 ∷ s.at.1 ∷ []) (pairs_on disk a.front) (pairs_on disk (h ∷ a.back))) parts in
       let right = used_right sets (blocks_of (pairs_on disk a.front)) (blocks_of (pairs_on disk (h ∷ a.back))) cut in
-      elim (active_among disk history h there.held there.address there.is_pair) [
-        | inl e ↦ subst (IsUsed sets) (sym e) right.0
-        | inr e ↦ subst (IsUsed sets) (sym e) right.1.0
-      ]
+      one_of_both (IsUsed sets) right.0 right.1.0
 
   -- where two blocks in flight are at hand no more, this one still is
   pub cached_beside : (fresh : ℕ × ℕ) → AreHeld sets fresh → (cache now : CachedBlocks) → now ≡ without (without cache fresh.0) fresh.1 → cached now h.active ≡ cached cache h.active

@@ -11,3 +11,4 @@ pub mod Told
 pub mod Lending
 pub mod GlobalState
 pub mod Beside
+pub mod ByBlocks

@@ -17,14 +17,14 @@ use Rattle.lfs_model.specs.LoggedContent.{HaveParts, IsLogged}
 use Rattle.lfs_model.proofs.Logged.{nothing_logged}
 use Rattle.lfs_model.specs.View.{BeginsWith, superblock_entry}
 use Rattle.lfs_model.specs.Changes.{Change}
-use Rattle.lfs_model.specs.Content.{RawSlot, RawContent, holder_at, raw_at, content_at, completed, complete_all}
+use Rattle.lfs_model.specs.Content.{RawSlot, RawContent, holder_at, raw_at, content_at, content_after_all, completed, complete_all, no_content}
+use Rattle.lfs_model.specs.Log.{log_entries}
 use Rattle.lfs_model.specs.Thread.{Pair, Links, next_of, blocks_of}
 use Rattle.lfs_model.proofs.Counts.{count, once_from_distinct}
 use Rattle.lfs_model.proofs.Completed.{complete_parts, complete_take, complete_drop, completed_from, fits_pair}
 use Rattle.lfs_pair.specs.Pair.{address_in}
 use Rattle.lfs_pair.specs.Cut.{CanBeCut, FitSlots, IsCut}
-use Rattle.lfs_pair.proofs.Changed.{made_is}
-use Rattle.lfs_pair.specs.Commit.{IsAddressOn, CanCommit, IsStill, KeepsFirst, made_at}
+use Rattle.lfs_pair.specs.Commit.{IsAddressOn, CanCommit, IsStill, KeepsFirst, made_at, made_of}
 use Rattle.lfs_model.proofs.FirstEntries.{superblock_anew}
 use Rattle.lfs_pair.specs.Split.{CanSplit, IsInside, Splits, OutsideBothKeeps, OutsideBothStays, LeftBySplit, AreParted, front_of, back_of}
 use Rattle.lfs_thread.specs.Kept.{Kept, Header, seen, pair_on, pairs_on, IsHeader, AllUsed, IsKept}
@@ -128,9 +128,12 @@ can_split disk before hs sets index h fresh changes a kept can =
     m : Completes (made_at disk (address_in h) changes) can.can.content
     m = made_of_header disk before hs sets index h changes can.can.content a can.can.made
 
+    held_raw : (commit : CanCommit disk before h changes) → raw_at disk (address_in h) ≡ Some commit.held
+    held_raw commit = ap (option_and_then (λ block. content_after_all no_content (log_entries block))) commit.is_pair.holds ∙ commit.is_pair.describes.content
+
     raw_same : (commit : CanCommit disk before h changes) → can.raw ≡ commit.new
     raw_same commit = same_Some can.raw commit.new (sym can.made ∙ ap (λ (p : Pair). made_at disk p.at changes) (pair_at_index disk before hs sets index h a)
-        ∙ made_is disk before h commit.held changes commit.is_pair ∙ commit.changed)
+        ∙ ap (λ r. made_of r changes) (held_raw commit) ∙ commit.changed)
 
     blocks_used : IsUsed sets (address_in h).0 × IsUsed sets (address_in h).1
     blocks_used =

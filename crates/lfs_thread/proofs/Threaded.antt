@@ -23,7 +23,6 @@ use Rattle.lfs_pair.specs.Pair.{address_in}
 use Rattle.lfs_pair.specs.Commit.{CanCommit, Commits, IsMade, IsStill, LeftByChange, made_at, OutsideKeeps, OutsideStays}
 use Rattle.lfs_pair.specs.Fresh.{IsFresh}
 use Rattle.lfs_pair.specs.Split.{AreApart, OutsideBothKeeps}
-use Rattle.lfs_pair.proofs.Parted.{keeps_by_both, keeps_by_fresh}
 use Rattle.lfs_model.proofs.FirstEntries.{superblock_anew}
 use Rattle.lfs_model.proofs.Staying.{AreElsewhere, raw_at-stays}
 use Rattle.lfs_thread.specs.Kept.{Kept, Header, seen, pair_on, pairs_on, IsHeader, AllUsed, IsKept}
@@ -34,6 +33,7 @@ use Rattle.lfs_thread.proofs.Changing.{IsAt, Completes, can_commit, kept_read, h
 use Rattle.lfs_thread.proofs.Coming.{SettlesTwo, settles_two, held_address}
 use Rattle.lfs_thread.proofs.Dropped.{remove_behind}
 use Rattle.lfs_thread.proofs.Parting.{insert_behind}
+use Rattle.lfs_thread.proofs.Told.{keeps_by_both, keeps_by_fresh}
 use Rattle.lfs_thread.proofs.Joined.{beside_pairs, beside_kept, beside_made, joined_kept, joined_pairs, tail_named, header_tail, IsFreshHeader, fresh_header}
 
 -- ---- beside the thread, and then in it

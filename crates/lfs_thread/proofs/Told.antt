@@ -1,18 +1,20 @@
 -- What a call says of the device, in the words of the thread.
-use Rattle.std.proofs.Common.{ℕ, List, ◌≡◌, ◌⊎◌, ◌∙◌, sym, ap, ap₂, subst, Result, Ok, Err}
-use Rattle.std.specs.Prelude.{IfErr}
+use Rattle.std.proofs.Common.{ℕ, List, ◌≡◌, ◌≢◌, ◌⊎◌, ◌∙◌, sym, ap, ap₂, subst, Result, Ok, Err}
+use Rattle.std.specs.Prelude.{All, IfErr}
+use Rattle.std.proofs.lemmas.List.Elements.{All-drop, All-take}
 use Rattle.lfs_device.specs.declared.device.BlockDevice.{Ghosts}
 use Rattle.lfs_device.specs.declared.error.Error.{Error}
 use Rattle.lfs_device.specs.declared.error.Error.TheVariants.{Io, NoMemory}
 use Rattle.lfs_device.specs.declared.geometry.Geometry.{Geometry}
 use Rattle.lfs_device.specs.Calls.{ChangesOnly, ReadsOnly}
 use Rattle.lfs_device.specs.Shown.{disk_of}
+use Rattle.lfs_model.specs.Blocks.{Blocks, SameButThese}
 use Rattle.lfs_model.specs.BlockSets.{BlockSets}
 use Rattle.lfs_model.proofs.Histories.{LeavesOnly-weaker, StayUnprogrammed-trans, StayUnprogrammed-wider, goes_on_by}
+use Rattle.lfs_model.proofs.Overwrites.{SameButThese-trans, SameButThese-wider}
 use Rattle.lfs_pair.specs.declared.pair.Pair.{Pair}
 use Rattle.lfs_pair.specs.Commit.{Fails}
 use Rattle.lfs_pair.specs.Writing.{ChangesReading}
-use Rattle.lfs_pair.proofs.Parted.{among_first, among_second, keeps_by_both, keeps_by_fresh}
 use Rattle.lfs_thread.specs.Device.{TellsErrors, TellsErrorsBeside, four_of, two_of}
 use Rattle.lfs_thread.specs.Kept.{Header, seen_on}
 use Rattle.lfs_thread.specs.Steps.{HasTold, HasToldBeside, IsUnwritten, Writes, WritesReading}
@@ -50,6 +52,19 @@ module _ {D : Type 0} (g : Ghosts D) (old new : D) (hs now_hs : List Header) (se
   reading_from bs w = record { only = writes_from g old new hs now_hs sets now_sets bs w.only; few = w.few }
 
 -- ---- two calls, of which the first writes a fresh pair
+
+-- a block that is none of four is none of the first two, and none of the others
+among_first : (at fresh : ℕ × ℕ) (other : ℕ) → All (λ c. c ≢ other) (four_of at fresh) → All (λ c. c ≢ other) (two_of at)
+among_first at fresh other apart = All-take (λ c. c ≢ other) 2 (four_of at fresh) apart
+
+among_second : (at fresh : ℕ × ℕ) (other : ℕ) → All (λ c. c ≢ other) (four_of at fresh) → All (λ c. c ≢ other) (two_of fresh)
+among_second at fresh other apart = All-drop (λ c. c ≢ other) 2 (four_of at fresh) apart
+
+pub keeps_by_fresh : (at fresh : ℕ × ℕ) {old new : Blocks} → SameButThese (two_of fresh) old new → SameButThese (four_of at fresh) old new
+keeps_by_fresh at fresh same = SameButThese-wider (four_of at fresh) (among_second at fresh) same
+
+pub keeps_by_both : (at fresh : ℕ × ℕ) {old mid new : Blocks} → SameButThese (two_of fresh) old mid → SameButThese (two_of at) mid new → SameButThese (four_of at fresh) old new
+keeps_by_both at fresh first second = SameButThese-trans (keeps_by_fresh at fresh first) (SameButThese-wider (four_of at fresh) (among_first at fresh) second)
 
 module _ {D : Type 0} (g : Ghosts D) (at fresh : ℕ × ℕ) where
   pub changes_by_fresh : {old new : D} → ChangesOnly g (two_of fresh) old new → ChangesOnly g (four_of at fresh) old new

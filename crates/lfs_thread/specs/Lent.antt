@@ -1,5 +1,6 @@
 -- What a thread lends.
 use Rattle.std.specs.Prelude.{ℕ, ◌≡◌, ◌≤◌, ◌^◌, List, length, Option, None, Some}
+use Rattle.lfs_device.specs.Bytes.{AreBytes}
 use Rattle.lfs_model.specs.Cache.{CachedBlocks, cached, put_first}
 use Rattle.lfs_model.specs.Disk.{block_at}
 use Rattle.lfs_model.specs.Log.{log_entries}
@@ -26,9 +27,10 @@ read_if_missing (Some bytes) = 0
 abbrev pub brought : State → ℕ → CachedBlocks
 brought t index = put_first t.cache (active_at t.kept.disk (pair_in t.kept index).at) (block_at t.kept.disk (active_at t.kept.disk (pair_in t.kept index).at))
 
--- a block's log comes to that content; a block has at most 64 KiB
+-- a block's log comes to that content; a block has at most 64 KiB, of bytes
 pub record IsBlockOf (block : List ℕ) (content : Content) : Type 0 where
   pub raw : RawContent
   pub log : content_after_all no_content (log_entries block) ≡ Some raw
   pub complete : completed raw ≡ Some content
   pub short : length block ≤ 2 ^ 16
+  pub bytes : AreBytes block

@@ -5,3 +5,4 @@ pub mod Lent
 pub mod Begun
 pub mod Reading
 pub mod Beside
+pub mod Places

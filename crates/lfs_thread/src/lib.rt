@@ -6,6 +6,7 @@ mod dropping;
 mod finding;
 mod joining;
 mod parts;
+mod places;
 mod reading;
 mod shares;
 mod splitting;
@@ -13,5 +14,6 @@ mod thread;
 
 pub use finding::number_of;
 pub use parts::Parts;
+pub use places::Places;
 pub use shares::with_share;
 pub use thread::Thread;

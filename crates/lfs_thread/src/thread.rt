@@ -29,7 +29,7 @@ use lfs_cache::Cache;
 use lfs_ctz::read_at;
 use lfs_device::{BlockDevice, Error, Geometry};
 use lfs_pair::{Change, Outcome, Pair};
-use lfs_tag::{MoveState, Tail, is_hard};
+use lfs_tag::{Log, MoveState, Tail, is_hard};
 use std::alloc::Global;
 use std::marker::Model;
 
@@ -238,17 +238,18 @@ impl<D: BlockDevice> Thread<D> {
         self.cache.fill(&mut self.device, block)
     }
 
-    /// The bytes of the block in which a pair's log stands, without a copy. None where it isn't at
-    /// hand.
-    pub fn lend(&self, index: usize) -> Option<&[u8]>
+    /// The log of a pair, without a copy; its checksums aren't computed again. None where its block
+    /// isn't at hand.
+    pub fn lend(&self, index: usize) -> Option<Log<'_>>
         requires works { self.now.failed ≡ false }
         requires below { index < length self.now.kept.pairs }
-        ensures lent { option_copied result ≡ at_hand self.now index }
-        ensures holds { IfSome result (λ block. IsBlockOf block.now (pair_in self.now.kept index).content) }
-        ensures holder { IfSome result (λ block. holder_at self.now.kept.disk (pair_in self.now.kept index).at ≡ Some block.now) }
+        ensures lent { result ≡ at_hand self.now index }
+        ensures holds { IfSome result (λ log. IsBlockOf log (pair_in self.now.kept index).content) }
+        ensures holder { IfSome result (λ log. holder_at self.now.kept.disk (pair_in self.now.kept index).at ≡ Some log) }
     {
-        match self.cache.lend(self.pairs[index].active) {
-            Some(block) => Some(block),
+        let pair = &self.pairs[index];
+        match self.cache.lend(pair.active) {
+            Some(block) => Some(Log::known(block, pair.end, pair.last)),
             None => None,
         }
     }
@@ -465,6 +466,27 @@ impl<D: BlockDevice> Thread<D> {
         ensures { self.new ≡ record self.old { failed = true } }
     {
         self.has_failed = true;
+    }
+
+    /// Whether it has failed.
+    pub fn has_failed(&self) -> bool
+        ensures { result ≡ self.now.failed }
+    {
+        self.has_failed
+    }
+
+    /// A thread that has failed, of these parts: nothing is known of what its device holds.
+    pub fn unread(parts: Parts<D>) -> Thread<D>
+        ensures failed { result.failed ≡ true }
+        ensures kept { result.kept ≡ seen_on D.BlockDevice parts.device parts.pairs.items parts.map }
+    {
+        Thread {
+            device: parts.device,
+            cache: parts.cache,
+            pairs: parts.pairs,
+            map: parts.map,
+            has_failed: true,
+        }
     }
 
     /// How the device is divided.

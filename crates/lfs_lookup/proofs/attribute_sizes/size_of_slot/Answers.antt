@@ -7,8 +7,8 @@ use Rattle.lfs_lookup.proofs.attribute_sizes.size_of_slot.Goals as goal
 
 pub returns-clause-is : goal.returns-clause-is
 returns-clause-is g c held there =
-    c.size_in_block.ensures.is (pair_in c.bring.new.self.kept c.args.slot.pair).content held
-    (subst (λ o. IfSome o (λ block. IsBlockOf block.now (pair_in c.bring.new.self.kept c.args.slot.pair).content)) c.unwrap.ensures c.lend.ensures.holds)
+    c.size_in_log.ensures.is (pair_in c.bring.new.self.kept c.args.slot.pair).content held
+    (subst (λ o. IfSome o (λ log. IsBlockOf log (pair_in c.bring.new.self.kept c.args.slot.pair).content)) c.unwrap.ensures c.lend.ensures.holds)
     (subst (λ (ps : List Pair). slice_get (slice_index_or ps c.args.slot.pair no_pair).content.slots c.args.slot.id ≡ Some held) (sym c.bring.ensures.only.pairs) there)
 
 pub returns-clause-no_call : goal.returns-clause-no_call

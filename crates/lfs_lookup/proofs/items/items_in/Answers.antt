@@ -12,14 +12,15 @@ use Rattle.lfs_lookup.proofs.items.items_in.Goals as goal
 
 pub items_among-requires : goal.items_among-requires
 items_among-requires c =
-    let read = sym (ap (λ b. content_after_all no_content (log_entries b)) c.read.ensures) ∙ c.in_ok-content.ensures.content in
-    let sound = logged c.args.block.now (content_seen c.in_ok-content.content) (λ i. omega (arith, c.type_inv.block i)) read in
+    let (content, is) = c.requires in
+    let read = c.in_ok-content.ensures.content in
+    let sound = logged c.args.log.now (content_seen c.in_ok-content.content) is.bytes read in
     let are = ap (map slot_seen) c.deref.ensures.value ∙ c.remove_moved.ensures in
     subst HaveParts (sym are) (parts_without c.args.moved (content_seen c.in_ok-content.content).slots sound.slots)
 
 pub returns-clause-items : goal.returns-clause-items
 returns-clause-items c content is =
-    let read = sym (ap (λ b. content_after_all no_content (log_entries b)) c.read.ensures) ∙ c.in_ok-content.ensures.content in
+    let read = c.in_ok-content.ensures.content in
     let same = same_Some (content_seen c.in_ok-content.content) is.raw (sym read ∙ is.log) in
     let slots = ap (λ (r : RawContent). r.slots) same in
     let are = ap (map slot_seen) c.deref.ensures.value ∙ c.remove_moved.ensures in

@@ -1,7 +1,7 @@
-use Rattle.std.proofs.Common.{◌∙◌, ◌+◌, ◌<◌, ◌≡◌, length, arith, refl, subst, sym}
+use Rattle.std.proofs.Common.{arith, refl, subst}
 use Rattle.std.proofs.lemmas.Result.{err_from_is_err_and}
 use Rattle.lfs_lookup.specs.Root.{IsNext}
-use Rattle.lfs_lookup.proofs.Reading.{answered, answers, begun, both, further, passed}
+use Rattle.lfs_lookup.proofs.Reading.{answered, answers, both, further, passed}
 use Rattle.lfs_lookup.proofs.RootPairs.{in_chain_on}
 use Rattle.lfs_lookup.proofs.root.find_root.Goals as goal
 

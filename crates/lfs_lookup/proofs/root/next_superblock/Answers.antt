@@ -1,4 +1,4 @@
-use Rattle.std.proofs.Common.{◌∙◌, ◌≡◌, ◌≤◌, ◌<◌, ◌+◌, None, Some, true, false, arith, rules, length, ap, sym, refl, subst}
+use Rattle.std.proofs.Common.{◌∙◌, ◌≡◌, ◌<◌, None, Some, true, false, arith, rules, length, ap, sym, refl, subst}
 use Rattle.std.proofs.lemmas.Result.{err_from_is_err_and}
 use Rattle.lfs_model.specs.History.{reads}
 use Rattle.lfs_model.specs.Thread.{starts_with_superblock}
@@ -6,7 +6,7 @@ use Rattle.lfs_thread.specs.Kept.{State}
 use Rattle.lfs_thread.specs.Steps.{pair_in}
 use Rattle.lfs_lookup.specs.Reading.{IsReading}
 use Rattle.lfs_lookup.specs.Root.{next_in_chain}
-use Rattle.lfs_lookup.proofs.Reading.{HasRead, answered, answers, begun, both, further, passed}
+use Rattle.lfs_lookup.proofs.Reading.{HasRead, answered, answers, begun, passed}
 use Rattle.lfs_lookup.proofs.RootPairs.{walked_first, walked_found, walked_on, walked_other, walked_stops}
 use Rattle.lfs_lookup.proofs.root.next_superblock.Goals as goal
 

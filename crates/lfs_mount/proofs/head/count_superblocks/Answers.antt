@@ -1,11 +1,11 @@
-use Rattle.std.proofs.Common.{◌∙◌, ◌≡◌, ◌-◌, suc, Err, Ok, Some, None, true, false, arith, rules, length, ap, sym, refl, subst}
+use Rattle.std.proofs.Common.{◌∙◌, ◌≡◌, ◌-◌, suc, Err, Some, None, true, false, arith, rules, length, ap, sym, refl}
 use Rattle.std.proofs.lemmas.List.{get_or_default}
 use Rattle.std.proofs.lemmas.Option.{slice_get_read}
 use Rattle.std.proofs.lemmas.Result.{err_from_is_err_and}
 use Rattle.lfs_device.specs.declared.geometry.Geometry.{Geometry}
 use Rattle.lfs_device.specs.Shown.{ordered}
-use Rattle.lfs_thread.specs.Kept.{Header, disk_on, pairs_on}
-use Rattle.lfs_mount.proofs.Heads.{IsWalked, active_within, begun, ends, fails, halts, head_is, last_is, more, passes, refused_first, refused_none, same_block, step_at, within}
+use Rattle.lfs_thread.specs.Kept.{Header, disk_on}
+use Rattle.lfs_mount.proofs.Heads.{active_within, begun, ends, fails, halts, head_is, last_is, more, passes, refused_first, refused_none, same_block, step_at, within}
 use Rattle.lfs_mount.proofs.InOrders.{has_headers_in}
 use Rattle.lfs_mount.proofs.Told.{same_error, tells_error, tells_ok, then_reads}
 use Rattle.lfs_mount.proofs.head.count_superblocks.Goals as goal

@@ -1,8 +1,8 @@
-use Rattle.std.proofs.Common.{◌≡◌, ◌≤◌, ◌+◌, Err, List, true, ◌^◌, ◌<◌, sym, ap, ap₂, subst, subst₂, arith}
+use Rattle.std.proofs.Common.{◌≡◌, ◌≤◌, ◌+◌, Err, List, true, sym, ap, ap₂, subst, subst₂, arith}
 use Rattle.std.specs.Prelude.{sum_by}
 use Rattle.std.proofs.lemmas.Result.{err_from_is_err_and}
 use Rattle.lfs_device.specs.Shown.{disk_of, ordered}
-use Rattle.lfs_model.specs.Disk.{Disk, block_count}
+use Rattle.lfs_model.specs.Disk.{Disk}
 use Rattle.lfs_model.specs.History.{reads}
 use Rattle.lfs_model.specs.Slots.{Gstate}
 use Rattle.lfs_tag.specs.FieldsSeen.{move_seen}
@@ -47,13 +47,10 @@ check_directories-requires g c =
     let history = g.D.BlockDevice.history c.args.device.now in
     let read = c.in_ok-count.ensures.device in
     let same : now ≡ disk = ap₂ disk_of read.geometry read.same in
-    let count = (g.met.D.BlockDevice.shape c.args.device.now).count in
-    let most = (g.D.BlockDevice.geometry c.args.device.now).valid.no_more in
-    let small : block_count disk < 2 ^ 32 = omega (arith, count, most) in
     let state : Gstate = move_seen c.args.state.now in
     subst (λ d. AreDirectories d c.args.map.now state c.pairs_from-directories.result.now) (sym same)
     (subst (λ xs. AreDirectories disk c.args.map.now state xs) (sym c.pairs_from-directories.ensures)
-    (directories_are disk history c.args.pairs.now c.args.map.now state c.in_ok-count.count c.requires c.in_ok-count.ensures.head small))
+    (directories_are disk history c.args.pairs.now c.args.map.now state c.in_ok-count.count c.requires c.in_ok-count.ensures.head))
 
 pub returns-in_err-orders-clause-corrupt : goal.returns-in_err-orders-clause-corrupt
 returns-in_err-orders-clause-corrupt g c = λ is order.
@@ -77,10 +74,11 @@ returns-clause-image g c = λ order.
     let history = g.D.BlockDevice.history c.args.device.now in
     let read = c.in_ok-count.ensures.device in
     let state : Gstate = move_seen c.args.state.now in
-    has_image (ordered order disk) history c.args.pairs.now c.args.map.now state c.in_ok-count.count (read_in order disk history c.args.pairs.now c.args.map.now state c.requires)
+    subst (HasImage (ordered order disk) c.args.pairs.now (has_order order c.in_ok-orders.orders) c.args.map.now) (sym c.go_on_elsewhere.ensures)
+    (has_image (ordered order disk) history c.args.pairs.now c.args.map.now state c.in_ok-count.count (read_in order disk history c.args.pairs.now c.args.map.now state c.requires)
     (head_in order disk c.args.pairs.now c.in_ok-count.count c.in_ok-count.ensures.head)
     (ordered order now) (ap (ordered order) (ap₂ disk_of read.geometry read.same)) c.check_directories.new.map c.pairs_from-directories.result.now c.pairs_from-directories.ensures
-    c.in_ok-check_move.ensures.right (has_order order c.in_ok-orders.orders) (c.in_ok-orders.ensures.ok order)
+    c.in_ok-check_move.ensures.right (has_order order c.in_ok-orders.orders) (c.in_ok-orders.ensures.ok order))
 
 pub returns-clause-device : goal.returns-clause-device
 returns-clause-device g c = then_reads c.in_ok-count.ensures.device c.in_ok-orders.ensures.device
@@ -91,7 +89,7 @@ returns-clause-few g c = λ order fits.
     let disk : Disk = disk_on g.D.BlockDevice c.args.device.now in
     let history = g.D.BlockDevice.history c.args.device.now in
     let state : Gstate = move_seen c.args.state.now in
-    let image : HasImage (ordered order disk) c.args.pairs.now (has_order order c.in_ok-orders.orders) c.args.map.now c.check_directories.new.map = returns-clause-image g c order in
+    let image : HasImage (ordered order disk) c.args.pairs.now (has_order order c.in_ok-orders.orders) c.args.map.now c.go_on_elsewhere.new.map = returns-clause-image g c order in
     let read = c.in_ok-count.ensures.device in
     let first = c.in_ok-count.ensures.reads in
     let rest = subst₂ (λ (d : Disk) (hs : List Header). reads (g.D.BlockDevice.history c.check_directories.new.device) ≤ reads (g.D.BlockDevice.history c.count_superblocks.new.dev) + sum_by (pair_reads d) (members_in state true hs))

@@ -1,6 +1,6 @@
 use Rattle.std.proofs.lemmas.Result.{err_from_is_err_and}
 use Rattle.lfs_pair.proofs.Erring.{fails_on}
-use Rattle.std.proofs.Common.{arith, ◌≤◌, ◌+◌, ap₂, subst}
+use Rattle.std.proofs.Common.{arith, ap₂, subst}
 use Rattle.lfs_device.specs.Shown.{disk_of}
 use Rattle.lfs_model.proofs.Histories.{goes_on_by, LeavesOnly-reads, LeavesOnly-weaker, EachSince-behind, Stops-read}
 use Rattle.lfs_pair.specs.Pair.{address_in}

@@ -15,7 +15,7 @@ use Rattle.lfs_pair.specs.Pair.{address_in}
 use Rattle.lfs_pair.specs.ChangeSeen.{changes_seen}
 use Rattle.lfs_pair.specs.Writing.{ChangesReading}
 use Rattle.lfs_pair.specs.Commit.{blocks_of, KeepsFirst, IsCompacted, NowHolds, LeftWith}
-use Rattle.lfs_pair.proofs.Changed.{left_by_change, made_here}
+use Rattle.lfs_pair.proofs.Changed.{ends_here, left_by_change, made_here}
 use Rattle.lfs_pair.proofs.committing.commit_in.Goals as goal
 
 pub returns-in_err-compact-clause-stops : goal.returns-in_err-compact-clause-stops
@@ -134,3 +134,6 @@ returns-in_err-compact-clause-faults g c =
 pub returns-clause-faults : goal.returns-clause-faults
 returns-clause-faults g c =
     tells_ok (subst (λ d. faults (g.D.BlockDevice.history c.compact.new.dev) ≡ faults (g.D.BlockDevice.history d)) (c.in_ok-append.ensures.no_room (ap Ok c.if-branch.false)).device (c.in_ok-compact.ensures.writes.faults.no_fault (λ gives. absurd (cc))))
+
+pub made_in-requires-clause-ends : goal.made_in-requires-clause-ends
+made_in-requires-clause-ends g c = ends_here _ _ c.args.pair.now c.requires.can.held c.args.block.now c.requires.can.is_pair c.requires.block

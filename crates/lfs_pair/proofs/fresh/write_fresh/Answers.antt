@@ -1,4 +1,4 @@
-use Rattle.std.proofs.Common.{rules, arith, ◌+◌, ◌≤◌, ◌≡◌, false, inl, inr, refl, sym, ap, ◌∙◌}
+use Rattle.std.proofs.Common.{rules, arith, ◌≡◌, false, inl, inr, refl, sym, ap, ◌∙◌}
 use Rattle.lfs_device.specs.Shown.{disk_of}
 use Rattle.lfs_model.specs.Blocks.{block_in}
 use Rattle.lfs_model.specs.Content.{has_commit}

@@ -12,7 +12,7 @@ use Rattle.lfs_pair.proofs.making.made_in.Goals as goal
 
 pub returns-in-Ok-apply_all-clause-logged : goal.returns-in-Ok-apply_all-clause-logged
 returns-in-Ok-apply_all-clause-logged c =
-    let held : content_after_all no_content (log_entries c.args.block.now) ≡ Some (content_seen c.in-Ok.content) = ap (λ z. content_after_all no_content (log_entries z)) (sym c.read-log.ensures) ∙ c.in-Ok.ensures.content in
+    let held : content_after_all no_content (log_entries c.args.block.now) ≡ Some (content_seen c.in-Ok.content) = ap (λ z. content_after_all no_content (log_entries z)) (sym c.known-log.ensures) ∙ c.in-Ok.ensures.content in
     let some : is_some (changed_by (content_seen c.in-Ok.content) (changes_seen c.args.changes.now)) ≡ true =
-    ap (λ z. is_some (option_and_then (λ h. changed_by h (changes_seen c.args.changes.now)) z)) (sym held) ∙ c.requires in
+    ap (λ z. is_some (option_and_then (λ h. changed_by h (changes_seen c.args.changes.now)) z)) (sym held) ∙ c.requires.made in
     logged_made (content_seen c.in-Ok.content) (changes_seen c.args.changes.now) (content_seen c.apply_all.new.content) (logged c.args.block.now (content_seen c.in-Ok.content) (λ i. omega (arith, c.type_inv.block i)) held) some c.in-Ok-apply_all.ensures

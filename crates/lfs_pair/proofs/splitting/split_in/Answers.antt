@@ -1,4 +1,4 @@
-use Rattle.std.proofs.Common.{arith, ◌≤◌, ◌+◌, ◌%◌, ◌^◌, Some, ap, sym, ◌∙◌, subst}
+use Rattle.std.proofs.Common.{arith, ◌+◌, ◌%◌, ◌^◌, Some, ap, sym, ◌∙◌, subst}
 use Rattle.lfs_model.specs.Blocks.{block_in}
 use Rattle.lfs_model.specs.Content.{RawContent, has_commit}
 use Rattle.lfs_pair.specs.Writing.{Holds}
@@ -9,10 +9,10 @@ use Rattle.lfs_tag.specs.ContentSeen.{content_seen}
 use Rattle.lfs_pair.specs.Pair.{address_in}
 use Rattle.lfs_pair.specs.ChangeSeen.{changes_seen}
 use Rattle.lfs_pair.specs.Commit.{IsActive, KeepsFirst, LeftWith, NowHolds}
-use Rattle.lfs_pair.proofs.Changed.{is_active}
+use Rattle.lfs_pair.proofs.Changed.{ends_here, is_active}
 use Rattle.lfs_pair.proofs.Stay.{IsActive-stays, NowHolds-stays, active_elsewhere}
 use Rattle.lfs_pair.proofs.Calls.{only_trans, only_wider}
-use Rattle.lfs_pair.proofs.Parted.{among_first, among_second, clears_more, cut_inside, is_splitting, first_while_fresh, pair_elsewhere, fresh_elsewhere, left_while_fresh, left_while_old, raw_held}
+use Rattle.lfs_pair.proofs.Parted.{among_first, among_second, clears_more, cut_inside, is_splitting, first_while_fresh, pair_elsewhere, fresh_elsewhere, left_while_fresh, left_while_old}
 use Rattle.lfs_pair.proofs.splitting.split_in.Goals as goal
 
 pub write_fresh-requires-clause-logged : goal.write_fresh-requires-clause-logged
@@ -50,7 +50,7 @@ returns-in_err-compact-clause-stops g c cleanly =
     let ready = is_splitting _ c.geometry-geometry.result _ _ c.args.pair.now (address_of c.args.fresh) c.args.block.now (changes_seen c.args.changes.now) (content_seen c.in_ok-front.front) (content_seen c.cut_off.new.content) (content_seen c.in_ok-back.back) c.geometry-geometry.ensures (g.met.D.BlockDevice.shape c.args.dev.now).count c.requires.can c.requires.block c.in_ok-front.ensures.content c.in_ok-front.ensures.logged c.in_ok-back.ensures.parts in
     let fresh = c.in_ok-fresh_pair.ensures in
     goes_on_by (LeavesOnly-weaker (λ disk left. left_while_fresh _ _ _ (changes_seen c.args.changes.now) disk ready.apart left) (LeavesOnly-worst fresh.writes.device.at_worst))
-    (LeavesOnly-weaker (λ disk left. left_while_old _ _ _ (changes_seen c.args.changes.now) (g.D.BlockDevice.blocks c.write_fresh.new.dev) disk ready.apart fresh.writes.device.others ready.made ready.logged ready.parts (raw_held fresh.holds)
+    (LeavesOnly-weaker (λ disk left. left_while_old _ _ _ (changes_seen c.args.changes.now) (g.D.BlockDevice.blocks c.write_fresh.new.dev) disk ready.apart fresh.writes.device.others ready.made ready.logged ready.parts fresh.holds.content
     (subst (λ k. LeftWith (disk_of k (g.D.BlockDevice.blocks c.write_fresh.new.dev)) (address_in c.args.pair.now) (content_seen c.cut_off.new.content) disk) fresh.writes.device.geometry left))
     (c.in_err-compact.ensures.stops (EachSince-behind cleanly fresh.writes.device.at_worst c.in_err-compact.ensures.writes.device.at_worst)))
 
@@ -89,7 +89,7 @@ returns-clause-stops g c cleanly =
     let ready = is_splitting _ c.geometry-geometry.result _ _ c.args.pair.now (address_of c.args.fresh) c.args.block.now (changes_seen c.args.changes.now) (content_seen c.in_ok-front.front) (content_seen c.cut_off.new.content) (content_seen c.in_ok-back.back) c.geometry-geometry.ensures (g.met.D.BlockDevice.shape c.args.dev.now).count c.requires.can c.requires.block c.in_ok-front.ensures.content c.in_ok-front.ensures.logged c.in_ok-back.ensures.parts in
     let fresh = c.in_ok-fresh_pair.ensures in
     goes_on_by (LeavesOnly-weaker (λ disk left. left_while_fresh _ _ _ (changes_seen c.args.changes.now) disk ready.apart left) (LeavesOnly-worst fresh.writes.device.at_worst))
-    (LeavesOnly-weaker (λ disk left. left_while_old _ _ _ (changes_seen c.args.changes.now) (g.D.BlockDevice.blocks c.write_fresh.new.dev) disk ready.apart fresh.writes.device.others ready.made ready.logged ready.parts (raw_held fresh.holds)
+    (LeavesOnly-weaker (λ disk left. left_while_old _ _ _ (changes_seen c.args.changes.now) (g.D.BlockDevice.blocks c.write_fresh.new.dev) disk ready.apart fresh.writes.device.others ready.made ready.logged ready.parts fresh.holds.content
     (subst (λ k. LeftWith (disk_of k (g.D.BlockDevice.blocks c.write_fresh.new.dev)) (address_in c.args.pair.now) (content_seen c.cut_off.new.content) disk) fresh.writes.device.geometry left))
     (c.in_ok-compact.ensures.stops (EachSince-behind cleanly fresh.writes.device.at_worst c.in_ok-compact.ensures.writes.device.at_worst)))
 
@@ -112,3 +112,6 @@ returns-clause-device g c = record {
       (only_wider _ (among_first (address_in c.args.pair.now) (address_of c.args.fresh)) c.in_ok-compact.ensures.writes.device);
   few = let first = c.in_ok-fresh_pair.ensures.writes.few in let second = c.in_ok-compact.ensures.writes.few in omega (arith, first, second);
 }
+
+pub made_in-requires-clause-ends : goal.made_in-requires-clause-ends
+made_in-requires-clause-ends g c = ends_here _ _ c.args.pair.now c.requires.can.commit.held c.args.block.now c.requires.can.commit.is_pair c.requires.block

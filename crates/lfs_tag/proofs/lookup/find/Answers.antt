@@ -9,18 +9,18 @@ pub returns-then-found-len : goal.returns-then-found-len
 returns-then-found-len c = λ t is small.
     let order = c.args.order in
     let name = c.args.name.now in
-    let ranks = c.rank_slots.ensures ∙ ranked order name (log_entries c.args.log.now) t is in
+    let ranks = c.in_ok-rank_slots.ensures.ranks ∙ ranked order name (log_entries c.args.log.now) t is in
     let len = ap length ranks ∙ length-map t.slots (rank_of order name) in
-    found_is order name c.args.skip t.slots c.first-found.result (c.first-found.ensures.first ∙ ap (first_from true c.args.skip 0) (c.deref.ensures.0 ∙ ranks))
-    (omega (arith, len, c.len.ensures.value, c.if-found-len.true))
+    found_is order name c.args.skip t.slots c.first-found.result (c.first-found.ensures.first ∙ ap (first_from true c.args.skip 0) (c.deref.ensures.value ∙ ranks))
+    (omega (arith, len, c.len.ensures, c.if-found-len.true))
 
-pub returns-else-found-len : goal.returns-else-found-len
-returns-else-found-len c = λ t is small.
+pub returns : goal.returns
+returns c = λ t is small.
     let order = c.args.order in
     let name = c.args.name.now in
-    let ranks = c.rank_slots.ensures ∙ ranked order name (log_entries c.args.log.now) t is in
+    let ranks = c.in_ok-rank_slots.ensures.ranks ∙ ranked order name (log_entries c.args.log.now) t is in
     let len = ap length ranks ∙ length-map t.slots (rank_of order name) in
-    let found = c.first-found.ensures.first ∙ ap (first_from true c.args.skip 0) (c.deref.ensures.0 ∙ ranks) in
+    let found = c.first-found.ensures.first ∙ ap (first_from true c.args.skip 0) (c.deref.ensures.value ∙ ranks) in
     place_is order name c.args.skip t.slots c.first.result
-    (omega (arith, len, found, c.len.ensures.value, c.if-found-len.false))
-    (c.first.ensures.first ∙ ap (first_from false c.args.skip 0) (c.deref-else-found-len.ensures.0 ∙ ranks))
+    (omega (arith, len, found, c.len.ensures, c.if-found-len.false))
+    (c.first.ensures.first ∙ ap (first_from false c.args.skip 0) (c.deref-else-found-len.ensures.value ∙ ranks))

@@ -4,7 +4,6 @@ use Rattle.lfs_device.specs.Shown.{disk_of}
 use Rattle.lfs_model.specs.Blocks.{SameButThese}
 use Rattle.lfs_model.specs.BlockSets.{BlockSets, IsInFlight, Used}
 use Rattle.lfs_model.specs.Slots.{address_of}
-use Rattle.lfs_model.specs.Thread.{Pair}
 use Rattle.lfs_model.proofs.Histories.{faults-since}
 use Rattle.lfs_pair.specs.ChangeSeen.{changes_seen}
 use Rattle.lfs_pair.specs.Pair.{address_in}
@@ -12,7 +11,7 @@ use Rattle.lfs_thread.specs.Device.{TellsErrors, four_of, two_of}
 use Rattle.lfs_thread.specs.Kept.{Header, IsKept, disk_on, seen, seen_on}
 use Rattle.lfs_thread.specs.Steps.{IsBeside}
 use Rattle.lfs_thread.proofs.AtHand.{current_but_two}
-use Rattle.lfs_thread.proofs.Changing.{at_there, pair_at_index}
+use Rattle.lfs_thread.proofs.Changing.{at_there}
 use Rattle.lfs_thread.specs.Lent.{read_if_missing}
 use Rattle.lfs_thread.proofs.Coming.{second_held}
 use Rattle.lfs_thread.proofs.Lending.{cached_beside, reading_there}

@@ -1,8 +1,6 @@
 use Rattle.std.proofs.Common.{◌+◌, sym, ap, ap₂, subst, ◌∙◌, inl, inr, set}
 use Rattle.lfs_device.specs.Shown.{disk_of}
 use Rattle.lfs_pair.specs.ChangeSeen.{changes_seen}
-use Rattle.lfs_pair.specs.Pair.{address_in}
-use Rattle.lfs_model.specs.Thread.{Pair}
 use Rattle.lfs_model.proofs.Histories.{LeavesOnly-weaker}
 use Rattle.lfs_thread.specs.Device.{StopsLeave, two_of}
 use Rattle.lfs_thread.specs.Kept.{State, disk_on, seen_on}

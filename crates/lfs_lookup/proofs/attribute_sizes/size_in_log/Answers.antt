@@ -10,18 +10,19 @@ use Rattle.lfs_tag.specs.ContentSeen.{content_seen, slot_seen}
 use Rattle.lfs_lookup.proofs.AttributeAtSlots.{parts_of_id, same_attributes}
 use Rattle.lfs_lookup.proofs.AttributesPut.{sized}
 use Rattle.lfs_lookup.proofs.BytesAtSlots.{raw_slot}
-use Rattle.lfs_lookup.proofs.attribute_sizes.size_in_block.Goals as goal
+use Rattle.lfs_lookup.proofs.attribute_sizes.size_in_log.Goals as goal
 
 pub size_in_slot-requires : goal.size_in_slot-requires
 size_in_slot-requires c =
-    let read = sym (ap (λ b. content_after_all no_content (log_entries b)) c.read.ensures) ∙ c.in_ok-content.ensures.content in
-    let sound = logged c.args.block.now (content_seen c.in_ok-content.content) (λ i. omega (arith, c.type_inv.block i)) read in
+    let (content, is) = c.requires in
+    let read = c.in_ok-content.ensures.content in
+    let sound = logged c.args.log.now (content_seen c.in_ok-content.content) is.bytes read in
     subst HaveParts (sym (ap (map slot_seen) c.deref.ensures.value)) sound.slots
 
 pub returns-clause-is : goal.returns-clause-is
 returns-clause-is c content slot is at =
-    let read = sym (ap (λ b. content_after_all no_content (log_entries b)) c.read.ensures) ∙ c.in_ok-content.ensures.content in
-    let sound = logged c.args.block.now (content_seen c.in_ok-content.content) (λ i. omega (arith, c.type_inv.block i)) read in
+    let read = c.in_ok-content.ensures.content in
+    let sound = logged c.args.log.now (content_seen c.in_ok-content.content) is.bytes read in
     let same = ap (λ (r : RawContent). r.slots) (same_Some (content_seen c.in_ok-content.content) is.raw (sym read ∙ is.log)) in
     let held = same_attributes (slot_of_id is.raw.slots c.args.id) slot (raw_slot is.raw.slots content.slots c.args.id slot (completed_parts is.raw content is.complete).slots at) in
     let whole = ap (λ (raw : List RawSlot). (slot_of_id raw c.args.id).attributes) same ∙ held in

@@ -12,7 +12,7 @@ use Rattle.lfs_model.proofs.Histories.{StayUnprogrammed-trans, StayUnprogrammed-
 use Rattle.lfs_model.specs.SkipLists.{capacity_of, blocks_back, blocks_for}
 use Rattle.lfs_ctz.specs.declared.rest.Rest.{Rest}
 use Rattle.lfs_ctz.specs.declared.rest.Rest.TheVariants.{Closed, Shared, Handed, Held}
-use Rattle.lfs_ctz.specs.Growing.{Growing, pending_in, last_in, is_held, is_held_in, pending_of, kept_of, blocks_of, size_of, needed_of, next_of, IsRest, IsGrowing}
+use Rattle.lfs_ctz.specs.Growing.{Growing, pending_in, last_in, is_held, is_held_in, pending_of, kept_of, blocks_of, size_of, next_of, IsRest, IsGrowing}
 use Rattle.lfs_ctz.proofs.Sizes.{blocks_for-above, blocks_for-within}
 use Rattle.lfs_ctz.proofs.Chains.{length_back}
 
@@ -59,6 +59,14 @@ next_apart d full head rest (Handed b) front blocks used stand some is distinct 
 next_apart d full head rest Held front blocks used stand some is distinct apart =
     apart_before (blocks_back d full head) front blocks used (some refl) (sym (append-nil (blocks_back d full head)) ∙ is) distinct apart
 
+-- and it is on the device
+pub next_inside : (d : Blocks) (full head : ℕ) (rest : List ℕ) (t : Rest) (blocks : List ℕ) (used n : ℕ) → length d ≡ n → IsRest d full head rest t → (pending_in t ≡ [] → used < length blocks) → All (λ b. b < n) blocks
+    → (next_of t blocks used).0 < n
+next_inside d full head rest Closed blocks used n count stand some inside = inside used 0 (some refl)
+next_inside d full head rest (Shared b) blocks used n count stand some inside = inside used 0 (some refl)
+next_inside d full head rest (Handed b) blocks used n count stand some inside = omega (arith, stand.in_range, count)
+next_inside d full head rest Held blocks used n count stand some inside = inside used 0 (some refl)
+
 pub next_some : (t : Rest) (blocks : List ℕ) (used : ℕ) → (pending_in t ≡ [] → used < length blocks) → used ≤ length blocks → (next_of t blocks used).1 ≤ length blocks
 next_some Closed blocks used some le = let lt = some refl in omega arith
 next_some (Shared b) blocks used some le = let lt = some refl in omega arith
@@ -97,7 +105,7 @@ kept_count d e was now blocks used le is =
 
 -- while bytes are left and no block is pending there is one to take
 pub still_some : (d e : Blocks) (block_size : ℕ) (was now : Growing) (blocks : List ℕ) (used done total : ℕ) → 1024 ≤ block_size → used ≤ length blocks → kept_of e now ≡ kept_of d was ++ take used blocks
-    → length blocks ≡ needed_of block_size was total → size_of block_size now ≡ size_of block_size was + done → done < total → pending_of now ≡ [] → used < length blocks
+    → length blocks ≡ blocks_for block_size (size_of block_size was + total) - (was.full + length (pending_of was)) → size_of block_size now ≡ size_of block_size was + done → done < total → pending_of now ≡ [] → used < length blocks
 still_some d e block_size was now blocks used done total large le is count sum less none =
     let counted = kept_count d e was now blocks used le is in
     let more = blocks_for-above block_size (size_of block_size was + total) now.full large (omega arith) in
@@ -117,7 +125,7 @@ size_fits d block_size g large held short own listed = go g.stand held.stand lis
     go Held none out e = absurd (cc)
 
 pub all_used : (d e : Blocks) (block_size : ℕ) (was now : Growing) (blocks : List ℕ) (used total : ℕ) → 1024 ≤ block_size → used ≤ length blocks → kept_of e now ≡ kept_of d was ++ take used blocks
-    → length blocks ≡ needed_of block_size was total → size_of block_size now ≡ size_of block_size was + total → IsGrowing e now → length now.rest < capacity_of block_size now.full → blocks_of e now ≡ kept_of e now
+    → length blocks ≡ blocks_for block_size (size_of block_size was + total) - (was.full + length (pending_of was)) → size_of block_size now ≡ size_of block_size was + total → IsGrowing e now → length now.rest < capacity_of block_size now.full → blocks_of e now ≡ kept_of e now
     → is_held now ≡ false → length blocks ≤ used
 all_used d e block_size was now blocks used total large le is count sum held short own listed =
     let counted = kept_count d e was now blocks used le is in

@@ -1,14 +1,25 @@
 -- The bytes of an extender that do not fill a block.
-use Rattle.std.proofs.Common.{ℕ, ◌≡◌, ◌+◌, ◌-◌, ◌*◌, length, drop, arith, length-drop}
+use Rattle.std.proofs.Common.{ℕ, ◌≡◌, ◌<◌, ◌+◌, ◌-◌, ◌*◌, ◌^◌, length, drop, subst, arith, length-drop}
 use Rattle.std.proofs.lemmas.List.{length-take-le}
-use Rattle.lfs_model.specs.SkipLists.{pointers_of, bytes_before}
-use Rattle.lfs_ctz.specs.declared.extender.Extender.{Extender}
-use Rattle.lfs_ctz.specs.Extended.{growing_of}
-use Rattle.lfs_ctz.specs.Growing.{IsShort}
+use Rattle.lfs_model.specs.SkipLists.{pointers_of}
+use Rattle.lfs_ctz.specs.declared.extender.Extender.TheInside.{Inside}
+use Rattle.lfs_ctz.specs.Fields.{HasBlock, growing}
+use Rattle.lfs_ctz.specs.Growing.{Growing, IsShort, end_of}
 
--- the rest does not fill a block, and the size counts it
-pub rest_of : (e : Extender) → IsShort e.geometry.block_size (growing_of e) × (e.size ≡ bytes_before e.geometry.block_size e.full + length (growing_of e).rest)
-rest_of e =
+-- how many there are
+pub rest_long : (e : Inside) → HasBlock e → length (growing e).rest + 4 * pointers_of e.full ≡ e.filled
+rest_long e has =
     let p : ℕ = 4 * pointers_of e.full in
-    let rest = length-take-le (e.filled - p) (drop p e.buffer.items) (omega (arith, e.one_block, e.in_step.high, length-drop p e.buffer.items)) in
-    (omega (arith, rest, e.in_step.low, e.in_step.high), omega (arith, rest, e.in_step.sum))
+    omega (arith, length-take-le (e.filled - p) (drop p e.buffer.items) (omega (arith, has.one_block, has.in_step.high, length-drop p e.buffer.items)), has.in_step.low)
+
+-- they do not fill a block, and the size counts them
+pub record IsCounted (g : Growing) (size : ℕ) : Type 0 where
+  pub short : IsShort g.geometry.block_size g
+  pub sum : size ≡ end_of g
+  pub fits : size < 2 ^ 31
+
+pub counted : (e : Inside) (g : Growing) → HasBlock e → growing e ≡ g → IsCounted g e.size
+counted e g has is =
+    let rest = rest_long e has in
+    subst (λ (v : Growing). IsCounted v e.size) is
+    (record { short = omega (arith, rest, has.in_step.high); sum = omega (arith, rest, has.in_step.sum); fits = has.in_step.fits })

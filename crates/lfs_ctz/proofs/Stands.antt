@@ -1,4 +1,4 @@
--- What an extender shows on a disk, and on one where the same bytes stand in its blocks.
+-- What a list that grows shows on a disk, and on one where the same bytes stand in its blocks.
 use Rattle.std.proofs.Common.{ℕ, true, ◌≡◌, ◌≢◌, ◌+◌, ◌*◌, ◌-◌, ◌^◌, ◌<◌, List, [], ◌∷◌, ◌++◌, length, take, drop, slice_index, refl, sym, ap, ap₂, subst, ◌∙◌, arith, length-append}
 use Rattle.std.specs.Prelude.{All}
 use Rattle.std.proofs.lemmas.List.Elements.{All-from_recursion, recursion_from_All}
@@ -7,13 +7,12 @@ use Rattle.lfs_model.proofs.Counts.{each_left, each_right}
 use Rattle.lfs_model.proofs.Files.{Same, back_same, chain_same, data_same}
 use Rattle.lfs_model.specs.Blocks.{Blocks, IsDivided, block_in}
 use Rattle.lfs_model.specs.SkipLists.{AreListBlocks, bytes_before, blocks_back, pointers_of, word_at}
-use Rattle.lfs_ctz.specs.declared.extender.Extender.{Extender}
 use Rattle.lfs_ctz.specs.declared.rest.Rest.{Rest}
 use Rattle.lfs_ctz.specs.declared.rest.Rest.TheVariants.{Closed, Shared, Handed, Held}
-use Rattle.lfs_ctz.specs.Extended.{IsGrown, geometry_of, growing_of}
-use Rattle.lfs_ctz.specs.Growing.{Growing, IsGrowing, IsRest, IsStill, blocks_of, content_of, is_held_in, joined, kept_of, last_in, pending_in, size_of}
+use Rattle.lfs_ctz.specs.Extended.{IsGrown}
+use Rattle.lfs_ctz.specs.Extending.{IsHolding}
+use Rattle.lfs_ctz.specs.Growing.{Growing, IsGrowing, IsHeld, IsRest, IsShort, IsStill, blocks_of, content_of, is_held_in, joined, kept_of, last_in, pending_in, size_of}
 use Rattle.lfs_ctz.proofs.Filling.{length-full, none_chain}
-use Rattle.lfs_ctz.proofs.Rests.{rest_of}
 
 module _ (d later : Blocks) (count : length later ≡ length d) where
   abbrev IsSame : ℕ → Type 0
@@ -51,22 +50,22 @@ module _ (d later : Blocks) (count : length later ≡ length d) where
         blocks = ap (λ (l : List ℕ). l ++ last_in g.stand) back;
       }
 
--- what an extender shows, from what doesn't follow
-pub is_grown : (divided : Geometry) (d : Blocks) (e : Extender) (bytes : List ℕ) (size count : ℕ) (own all : List ℕ) → IsDivided divided.block_size count d → geometry_of e ≡ divided
-    → IsGrowing d (growing_of e) → content_of d (growing_of e) ≡ bytes → size_of divided.block_size (growing_of e) ≡ size → kept_of d (growing_of e) ≡ own → blocks_of d (growing_of e) ≡ all
+-- what a list shows, from what doesn't follow
+pub is_grown : (divided : Geometry) (d : Blocks) (e : Growing) (bytes : List ℕ) (size count : ℕ) (own all : List ℕ) → IsDivided divided.block_size count d → e.geometry ≡ divided
+    → IsShort e.geometry.block_size e → IsGrowing d e → content_of d e ≡ bytes → size_of divided.block_size e ≡ size → kept_of d e ≡ own → blocks_of d e ≡ all
     → IsGrown divided d e bytes size own all
-is_grown divided d e bytes size count own all shape geometry growing content sum kept blocks =
+is_grown divided d e bytes size count own all shape geometry short growing content sum kept blocks =
     let full = length-full d divided.block_size count e.full e.head divided.valid.no_smaller shape growing.chain in
     record {
       geometry = geometry;
       growing = growing;
       content = content;
       sum = sum;
-      whole = omega (arith, ap length content, full, sum, length-append (joined d (blocks_back d e.full e.head)) (growing_of e).rest);
+      whole = omega (arith, ap length content, full, sum, length-append (joined d (blocks_back d e.full e.head)) e.rest);
       kept = kept;
       blocks = blocks;
-      short = subst (λ (k : Geometry). length (growing_of e).rest < k.block_size - 4 * pointers_of e.full) geometry (rest_of e).0;
-      stays = λ later count same. still d later count (growing_of e) (subst (All (λ b. block_in later b ≡ block_in d b)) (sym blocks) same) growing;
+      short = subst (λ (k : Geometry). length e.rest < k.block_size - 4 * pointers_of e.full) geometry short;
+      stays = λ later count same. still d later count e (subst (All (λ b. block_in later b ≡ block_in d b)) (sym blocks) same) growing;
     }
 
 -- all bytes in memory
@@ -76,21 +75,21 @@ stands_held (Shared b) is = absurd (cc)
 stands_held (Handed b) is = absurd (cc)
 stands_held Held is = refl
 
-module _ (divided : Geometry) (e : Extender) (bytes : List ℕ) (size : ℕ) (geometry : geometry_of e ≡ divided) (none : e.full ≡ 0) (rest : (growing_of e).rest ≡ bytes) (long : length bytes ≡ size) where
+module _ (divided : Geometry) (e : Growing) (bytes : List ℕ) (size : ℕ) (geometry : e.geometry ≡ divided) (none : e.full ≡ 0) (short : IsShort e.geometry.block_size e) (rest : e.rest ≡ bytes) (long : length bytes ≡ size) where
   nothing : (d : Blocks) → blocks_back d e.full e.head ≡ []
   nothing d = ap (λ k. blocks_back d k e.head) none
 
-  alone : (d : Blocks) → IsGrowing d (growing_of e) → kept_of d (growing_of e) ≡ [] → blocks_of d (growing_of e) ≡ [] → IsGrown divided d e bytes size [] []
+  alone : (d : Blocks) → IsGrowing d e → kept_of d e ≡ [] → blocks_of d e ≡ [] → IsGrown divided d e bytes size [] []
   alone d growing kept blocks = record {
     geometry = geometry;
     growing = growing;
-    content = ap (λ (l : List ℕ). joined d l ++ (growing_of e).rest) (nothing d) ∙ rest;
+    content = ap (λ (l : List ℕ). joined d l ++ e.rest) (nothing d) ∙ rest;
     sum = omega (arith, ap (bytes_before divided.block_size) none, ap length rest, long);
     whole = long;
     kept = kept;
     blocks = blocks;
-    short = subst (λ (k : Geometry). length (growing_of e).rest < k.block_size - 4 * pointers_of e.full) geometry (rest_of e).0;
-    stays = λ later count same. still d later count (growing_of e) (subst (All (λ b. block_in later b ≡ block_in d b)) (sym blocks) same) growing;
+    short = subst (λ (k : Geometry). length e.rest < k.block_size - 4 * pointers_of e.full) geometry short;
+    stays = λ later count same. still d later count e (subst (All (λ b. block_in later b ≡ block_in d b)) (sym blocks) same) growing;
   }
 
   chained : (d : Blocks) → AreListBlocks d e.full e.head
@@ -99,13 +98,20 @@ module _ (divided : Geometry) (e : Extender) (bytes : List ℕ) (size : ℕ) (ge
   pub grown_held : e.stand ≡ Held → (d : Blocks) → IsGrown divided d e bytes size [] []
   grown_held is d =
       alone d
-      (record { chain = chained d; stand = subst (IsRest d e.full e.head (growing_of e).rest) (sym is) none })
+      (record { chain = chained d; stand = subst (IsRest d e.full e.head e.rest) (sym is) none })
       (ap₂ (λ (x y : List ℕ). x ++ y) (nothing d) (ap pending_in is))
       (ap₂ (λ (x y : List ℕ). x ++ y) (nothing d) (ap last_in is))
 
   pub grown_closed : e.stand ≡ Closed → bytes ≡ [] → (d : Blocks) → IsGrown divided d e bytes size [] []
   grown_closed is empty d =
       alone d
-      (record { chain = chained d; stand = subst (IsRest d e.full e.head (growing_of e).rest) (sym is) (rest ∙ empty) })
+      (record { chain = chained d; stand = subst (IsRest d e.full e.head e.rest) (sym is) (rest ∙ empty) })
       (ap₂ (λ (x y : List ℕ). x ++ y) (nothing d) (ap pending_in is))
       (ap₂ (λ (x y : List ℕ). x ++ y) (nothing d) (ap last_in is))
+
+pub is_holding : (divided : Geometry) (e : Growing) (bytes : List ℕ) → e.geometry ≡ divided → IsShort e.geometry.block_size e → e.rest ≡ bytes → IsHeld e → IsHolding divided e bytes
+is_holding divided e bytes geometry short rest held = record {
+  held = held;
+  rest = rest;
+  holds = grown_held divided e bytes (length bytes) geometry held.none short rest refl (stands_held e.stand held.held);
+}

@@ -3,7 +3,7 @@ use Rattle.std.specs.Prelude.{◌≡◌, ◌⊎◌, Result, IfErr}
 use Rattle.lfs_device.specs.Calls.{ReadsOnly, TellsFaults}
 use Rattle.lfs_device.specs.declared.device.BlockDevice.{Ghosts}
 use Rattle.lfs_device.specs.declared.error.Error.{Error}
-use Rattle.lfs_device.specs.declared.error.Error.TheVariants.{Corrupt, Io}
+use Rattle.lfs_device.specs.declared.error.Error.TheVariants.{Corrupt, Io, NoMemory}
 
 -- The device was only read; `Io` comes with a fault of it, any other answer without one, and no error but `Corrupt` beside it.
 pub record ReadsList {D X : Type 0} (g : Ghosts D) (old new : D) (result : Result X Error) : Type 0 where
@@ -15,3 +15,8 @@ pub record ReadsList {D X : Type 0} (g : Ghosts D) (old new : D) (result : Resul
 pub record TellsIo {D X : Type 0} (g : Ghosts D) (old new : D) (result : Result X Error) : Type 0 where
   pub faults : TellsFaults g old new result
   pub errors : IfErr result (λ e. e ≡ Io)
+
+-- the same of a call that takes memory: `NoMemory` comes without a fault
+pub record TellsMemory {D X : Type 0} (g : Ghosts D) (old new : D) (result : Result X Error) : Type 0 where
+  pub faults : TellsFaults g old new result
+  pub errors : IfErr result (λ e. (e ≡ Io) ⊎ (e ≡ NoMemory))

@@ -3,10 +3,13 @@ use Rattle.std.specs.Prelude.{ℕ, Bool, true, false, ◌≡◌, ◌≢◌, ◌�
 use Rattle.std.specs.List.{flat_map, enumerate_from}
 use Rattle.lfs_model.specs.Blocks.{Blocks, block_in}
 use Rattle.lfs_model.specs.SkipLists.{pointers_of, bytes_before, capacity_of, blocks_back, blocks_for, AreListBlocks, data_of}
+use Rattle.lfs_device.specs.declared.geometry.Geometry.{Geometry}
 use Rattle.lfs_ctz.specs.declared.rest.Rest.{Rest}
 use Rattle.lfs_ctz.specs.declared.rest.Rest.TheVariants.{Closed, Shared, Handed, Held}
 
 pub record Growing : Type 0 where
+  -- of this device
+  pub geometry : Geometry
   -- so many blocks are full and on the disk; the last of them, where there is one
   pub full : ℕ
   pub head : ℕ
@@ -59,13 +62,17 @@ content_of disk g = joined disk (blocks_back disk g.full g.head) ++ g.rest
 abbrev pub size_of : ℕ → Growing → ℕ
 size_of block_size g = bytes_before block_size g.full + length g.rest
 
+-- where they end
+abbrev pub end_of : Growing → ℕ
+end_of g = size_of g.geometry.block_size g
+
 -- the rest does not fill a block, so that no other blocks are full
 abbrev pub IsShort : ℕ → Growing → Type 0
 IsShort block_size g = length g.rest < capacity_of block_size g.full
 
 -- how many blocks it needs for so many bytes more
-abbrev pub needed_of : ℕ → Growing → ℕ → ℕ
-needed_of block_size g n = blocks_for block_size (size_of block_size g + n) - (g.full + length (pending_of g))
+abbrev pub needed_of : Growing → ℕ → ℕ
+needed_of g n = blocks_for g.geometry.block_size (end_of g + n) - (g.full + length (pending_of g))
 
 -- the rest is in a block that was handed in for it
 pub record IsHanded (disk : Blocks) (full head : ℕ) (rest : List ℕ) (b : ℕ) : Type 0 where

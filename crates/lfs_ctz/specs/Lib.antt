@@ -2,6 +2,8 @@ pub mod Appended
 pub mod Calls
 pub mod Counts
 pub mod Extended
+pub mod Extending
+pub mod Fields
 pub mod Filled
 pub mod Finished
 pub mod Growing

@@ -3,6 +3,7 @@ ghost use Rattle.byteorder.specs.Endian.{little_bytes};
 ghost use Rattle.lfs_ctz.specs.Appended.{IsAppended};
 ghost use Rattle.lfs_ctz.specs.Calls.{TellsIo};
 ghost use Rattle.lfs_ctz.specs.Counts.{Writes};
+ghost use Rattle.lfs_ctz.specs.Extending.{CanFollow};
 ghost use Rattle.lfs_device.specs.Calls.{ChangesBlock, ReadsOnly, TellsFaults};
 ghost use Rattle.lfs_model.specs.Blocks.{block_in};
 ghost use Rattle.lfs_model.specs.SkipLists.{AreListBlocks, blocks_back, pointers_of, word_at};
@@ -57,9 +58,7 @@ pub(crate) fn write_block<D: BlockDevice>(
     buf: &mut [u8],
     end: u32,
 ) -> Result<(), Error>
-    requires chain { AreListBlocks (D.blocks dev.old) index head }
-    requires in_device { block < (D.geometry dev.old).block_count }
-    requires apart { All (λ c. c ≢ block) (blocks_back (D.blocks dev.old) index head) }
+    requires follows { CanFollow D.BlockDevice dev.old index head block }
     requires size { length buf.old ≡ (D.geometry dev.old).block_size }
     requires large { 1024 ≤ length buf.old }
     requires pages { end % (D.geometry dev.old).page ≡ 0 }

@@ -1,25 +1,29 @@
-ghost use Rattle.std.specs.Prelude.{◌≡◌, ◌≢◌, ◌≤◌, ◌<◌, ◌+◌, ◌-◌, ◌*◌, ◌%◌, ◌^◌, ◌++◌, ◌∷◌, [], ◌⊎◌, ℕ, All, false, length, take, drop, replicate, nat_eq, OnOk, IfOk, IfErr, IsErrOf, slice_index};
-ghost use Rattle.std.specs.List.{IsDistinct};
+ghost use Rattle.std.specs.Prelude.{◌≡◌, ◌≤◌, ◌<◌, ◌+◌, ◌-◌, ◌*◌, ◌^◌, ◌++◌, ◌∷◌, [], length, take, drop, replicate, OnOk, IfOk, IfErr};
 ghost use Rattle.lfs_ctz.specs.Appended.{IsAppended};
-ghost use Rattle.lfs_ctz.specs.Calls.{TellsIo};
+ghost use Rattle.lfs_ctz.specs.Calls.{TellsIo, TellsMemory};
 ghost use Rattle.lfs_ctz.specs.Counts.{Writes};
-ghost use Rattle.lfs_ctz.specs.Filled.{IsFilled};
+ghost use Rattle.lfs_ctz.specs.Extended.{IsGrown};
+ghost use Rattle.lfs_ctz.specs.Extending.{CanEnd, CanFollow, CanPush, CanResume, IsHolding, IsPushed, IsResumed, IsStarted};
 ghost use Rattle.lfs_ctz.specs.Finished.{IsEnd};
-ghost use Rattle.lfs_device.specs.Calls.{ChangesBlock, ChangesOnly, ReadsOnly, TellsFaults};
-ghost use Rattle.lfs_model.specs.Blocks.{Blocks, block_in, overwritten};
+ghost use Rattle.lfs_ctz.specs.Growing.{IsHeld, WaitsIn, blocks_of, content_of, end_of, needed_of, next_of, pending_of};
+ghost use Rattle.lfs_device.specs.Calls.{ChangesBlock, ChangesOnly, ReadsOnly};
+ghost use Rattle.lfs_model.specs.Blocks.{block_in, overwritten};
 ghost use Rattle.lfs_model.specs.Writers.{written_into as with_bytes};
-ghost use Rattle.lfs_model.specs.SkipLists.{AreListBlocks, IsList, blocks_back, blocks_for, bytes_of, pointers_of};
+ghost use Rattle.lfs_model.specs.SkipLists.{blocks_back, blocks_for, pointers_of};
 
 use crate::block::write_block;
 use crate::read::{find, head_before, pointers, read_part};
 use crate::{Rest, blocks_for, place};
 use lfs_device::{BlockDevice, Error, Geometry};
 use std::alloc::Global;
+use std::marker::Model;
 
 /// Appends bytes to a list, in blocks that are handed in, and writes a block as it fills.
 ///
 /// It holds one block of bytes in memory. Contents that need no block yet can stand there alone:
 /// `hold`, `put` and `cut` change them, and a `push` goes on from them into blocks.
+///
+/// A contract sees the list that grows: its full blocks, and the bytes behind them.
 #[derive(Drop)]
 pub struct Extender {
     geometry: Geometry,
@@ -29,8 +33,18 @@ pub struct Extender {
     filled: u32,
     size: u32,
     stand: Rest,
-    ghost one_block: { length buffer.items ≡ geometry.block_size },
-    ghost in_step: { IsFilled geometry.block_size full filled size },
+}
+
+impl Model for Extender {
+    ghost use Rattle.lfs_ctz.specs.Growing.{Growing};
+
+    ghost Value = { Growing };
+
+    ghost use Rattle.lfs_ctz.specs.Fields.{HasBlock, growing};
+
+    ghost view = { growing };
+
+    ghost invariant = { HasBlock };
 }
 
 // Writes bytes over those from a place on.
@@ -51,15 +65,11 @@ fn pad(all: &mut Vec<u8>, at: usize, end: usize, byte: u8)
 }
 
 impl Extender {
-    ghost use Rattle.lfs_ctz.specs.Extended.{IsGrown, geometry_of, growing_of};
-    ghost use Rattle.lfs_ctz.specs.Growing.{IsGrowing, IsHeld, WaitsIn, blocks_of, content_of, is_held, kept_of, needed_of, next_of, pending_of, size_of};
-
     /// An empty list.
     ///
     /// `Error::NoMemory` comes where there is no memory for a block.
     pub fn start(alloc: Global, geometry: Geometry) -> Result<Extender, Error>
-        ensures started { IfOk result (λ e. (disk : Blocks) → IsGrown geometry disk e [] 0 [] []) }
-        ensures listed { IfOk result (λ e. is_held (growing_of e) ≡ false) }
+        ensures started { IfOk result (IsStarted geometry) }
         ensures errors { IfErr result (λ e. e ≡ Error.NoMemory) }
     {
         let buffer = Vec::from_elem(alloc, 0u8, geometry.block_size as usize)?;
@@ -85,17 +95,10 @@ impl Extender {
         size: u32,
         keep: u32,
     ) -> Result<Extender, Error>
-        requires list { IsList (D.blocks dev.old) (D.geometry dev.old).block_size head size }
-        requires some { 1 ≤ keep }
-        requires within { keep ≤ size }
-        ensures resumed { IfOk result (λ e. IsGrown (D.geometry dev.old) (D.blocks dev.old) e
-            (take keep (bytes_of (D.blocks dev.old) (D.geometry dev.old).block_size head size)) keep
-            (take (growing_of e).full (blocks_back (D.blocks dev.old) (blocks_for (D.geometry dev.old).block_size size) head))
-            (take (blocks_for (D.geometry dev.old).block_size keep) (blocks_back (D.blocks dev.old) (blocks_for (D.geometry dev.old).block_size size) head))) }
-        ensures waits { IfOk result (λ e. WaitsIn [] (growing_of e)) }
+        requires { CanResume (D.blocks dev.old) (D.geometry dev.old).block_size head size keep }
+        ensures resumed { IfOk result (IsResumed (D.blocks dev.old) (D.geometry dev.old) head size keep) }
         ensures device { ReadsOnly D.BlockDevice dev.old dev.new }
-        ensures faults { TellsFaults D.BlockDevice dev.old dev.new result }
-        ensures errors { IfErr result (λ e. (e ≡ Error.Io) ⊎ (e ≡ Error.NoMemory)) }
+        ensures tells { TellsMemory D.BlockDevice dev.old dev.new result }
     {
         let geometry = dev.geometry();
         let block_size = geometry.block_size;
@@ -130,10 +133,8 @@ impl Extender {
     ///
     /// There are fewer than a block has.
     pub fn hold(&mut self, bytes: &[u8])
-        requires { length bytes.now < (geometry_of self.old).block_size }
-        ensures held { IsHeld (growing_of self.new) }
-        ensures rest { (growing_of self.new).rest ≡ bytes.now }
-        ensures holds { (disk : Blocks) → IsGrown (geometry_of self.old) disk self.new bytes.now (length bytes.now) [] [] }
+        requires { length bytes.now < self.old.geometry.block_size }
+        ensures { IsHolding self.old.geometry self.new bytes.now }
     {
         overwrite(&mut self.buffer, 0, bytes);
         self.full = 0;
@@ -145,8 +146,8 @@ impl Extender {
 
     /// The bytes, where all are in memory and none in a block.
     pub fn held(&self) -> &[u8]
-        requires { IsHeld (growing_of self.now) }
-        ensures { result.now ≡ (growing_of self.now).rest }
+        requires { IsHeld self.now }
+        ensures { result.now ≡ self.now.rest }
     {
         &self.buffer[..self.filled as usize]
     }
@@ -156,12 +157,9 @@ impl Extender {
     ///
     /// There are fewer than a block has then.
     pub fn put(&mut self, at: u32, bytes: &[u8])
-        requires held { IsHeld (growing_of self.old) }
-        requires room { at + length bytes.now < (geometry_of self.old).block_size }
-        ensures held { IsHeld (growing_of self.new) }
-        ensures rest { (growing_of self.new).rest ≡ with_bytes (growing_of self.old).rest at bytes.now }
-        ensures holds { (disk : Blocks) → IsGrown (geometry_of self.old) disk self.new
-            (with_bytes (growing_of self.old).rest at bytes.now) (length (with_bytes (growing_of self.old).rest at bytes.now)) [] [] }
+        requires held { IsHeld self.old }
+        requires room { at + length bytes.now < self.old.geometry.block_size }
+        ensures { IsHolding self.old.geometry self.new (with_bytes self.old.rest at bytes.now) }
     {
         let from = self.filled.max(at);
         pad(&mut self.buffer, self.filled as usize, from as usize, 0);
@@ -174,11 +172,9 @@ impl Extender {
     ///
     /// There are at least so many.
     pub fn cut(&mut self, len: u32)
-        requires held { IsHeld (growing_of self.old) }
-        requires within { len ≤ length (growing_of self.old).rest }
-        ensures held { IsHeld (growing_of self.new) }
-        ensures rest { (growing_of self.new).rest ≡ take len (growing_of self.old).rest }
-        ensures holds { (disk : Blocks) → IsGrown (geometry_of self.old) disk self.new (take len (growing_of self.old).rest) len [] [] }
+        requires held { IsHeld self.old }
+        requires within { len ≤ length self.old.rest }
+        ensures { IsHolding self.old.geometry self.new (take len self.old.rest) }
     {
         self.filled = len;
         self.size = len;
@@ -186,14 +182,14 @@ impl Extender {
 
     /// How many bytes the list has.
     pub fn size(&self) -> u32
-        ensures { result ≡ size_of (geometry_of self.now).block_size (growing_of self.now) }
+        ensures { result ≡ end_of self.now }
     {
         self.size
     }
 
     /// How many blocks are full and on the device.
     pub fn full(&self) -> u32
-        ensures { result ≡ (growing_of self.now).full }
+        ensures { result ≡ self.now.full }
     {
         self.full
     }
@@ -204,9 +200,9 @@ impl Extender {
     /// At least one byte comes, and the whole list has at most 2,147,483,647 bytes then.
     pub fn needed(&self, n: u32) -> u32
         requires some { 1 ≤ n }
-        requires room { size_of (geometry_of self.now).block_size (growing_of self.now) + n < 2 ^ 31 }
-        ensures count { result ≡ needed_of (geometry_of self.now).block_size (growing_of self.now) n }
-        ensures within { (growing_of self.now).full + length (pending_of (growing_of self.now)) ≤ blocks_for (geometry_of self.now).block_size (size_of (geometry_of self.now).block_size (growing_of self.now) + n) }
+        requires room { end_of self.now + n < 2 ^ 31 }
+        ensures count { result ≡ needed_of self.now n }
+        ensures within { self.now.full + length (pending_of self.now) ≤ blocks_for self.now.geometry.block_size (end_of self.now + n) }
     {
         let begun = match self.stand {
             Rest::Handed(_) => 1,
@@ -217,8 +213,8 @@ impl Extender {
 
     // The block that takes the next bytes, and how many of those handed in are used then.
     fn next_block(&self, blocks: &[u32], used: usize) -> (u32, usize)
-        requires { pending_of (growing_of self.now) ≡ [] → used < length blocks.now }
-        ensures { result ≡ next_of (growing_of self.now).stand blocks.now used }
+        requires { pending_of self.now ≡ [] → used < length blocks.now }
+        ensures { result ≡ next_of self.now.stand blocks.now used }
     {
         match self.stand {
             Rest::Handed(block) => (block, used),
@@ -234,20 +230,17 @@ impl Extender {
         bytes: &[u8],
         block: u32,
     ) -> Result<usize, Error>
-        requires chain { AreListBlocks (D.blocks dev.old) (growing_of self.old).full (growing_of self.old).head }
-        requires in_device { block < (D.geometry dev.old).block_count }
-        requires apart { All (λ c. c ≢ block) (blocks_back (D.blocks dev.old) (growing_of self.old).full (growing_of self.old).head) }
-        requires geometry { D.geometry dev.old ≡ geometry_of self.old }
+        requires follows { CanFollow D.BlockDevice dev.old self.old.full self.old.head block }
+        requires geometry { D.geometry dev.old ≡ self.old.geometry }
         requires some { 1 ≤ length bytes.now }
-        requires room { size_of (geometry_of self.old).block_size (growing_of self.old) + length bytes.now < 2 ^ 31 }
+        requires room { end_of self.old + length bytes.now < 2 ^ 31 }
         ensures count { IfOk result (λ n. (1 ≤ n) × (n ≤ length bytes.now)) }
-        ensures filled { IfOk result (λ n. IsGrown (geometry_of self.old) (D.blocks dev.new) self.new
-            (content_of (D.blocks dev.old) (growing_of self.old) ++ take n bytes.now)
-            (size_of (geometry_of self.old).block_size (growing_of self.old) + n)
-            (blocks_back (D.blocks dev.old) (growing_of self.old).full (growing_of self.old).head ++ block ∷ [])
-            (blocks_back (D.blocks dev.old) (growing_of self.old).full (growing_of self.old).head ++ block ∷ [])) }
-        ensures waits { OnOk result (WaitsIn (block ∷ []) (growing_of self.new)) }
-        ensures writes { OnOk result (Writes (growing_of self.old).full (growing_of self.new).full (D.history dev.old) (D.history dev.new)) }
+        ensures filled { IfOk result (λ n. IsGrown self.old.geometry (D.blocks dev.new) self.new
+            (content_of (D.blocks dev.old) self.old ++ take n bytes.now) (end_of self.old + n)
+            (blocks_back (D.blocks dev.old) self.old.full self.old.head ++ block ∷ [])
+            (blocks_back (D.blocks dev.old) self.old.full self.old.head ++ block ∷ [])) }
+        ensures waits { OnOk result (WaitsIn (block ∷ []) self.new) }
+        ensures writes { OnOk result (Writes self.old.full self.new.full (D.history dev.old) (D.history dev.new)) }
         ensures device { ChangesBlock D.BlockDevice block dev.old dev.new }
         ensures io { TellsIo D.BlockDevice dev.old dev.new result }
     {
@@ -284,23 +277,11 @@ impl Extender {
         bytes: &[u8],
         blocks: &[u32],
     ) -> Result<(), Error>
-        requires growing { IsGrowing (D.blocks dev.old) (growing_of self.old) }
-        requires geometry { D.geometry dev.old ≡ geometry_of self.old }
-        requires some { 1 ≤ length bytes.now }
-        requires room { size_of (geometry_of self.old).block_size (growing_of self.old) + length bytes.now < 2 ^ 31 }
-        requires count { length blocks.now ≡ needed_of (geometry_of self.old).block_size (growing_of self.old) (length bytes.now) }
-        requires in_device { All (λ b. b < (D.geometry dev.old).block_count) blocks.now }
-        requires distinct { IsDistinct nat_eq blocks.now }
-        requires apart { All (λ b. All (λ c. c ≢ b) (kept_of (D.blocks dev.old) (growing_of self.old))) blocks.now }
-        ensures pushed { OnOk result (IsGrown (geometry_of self.old) (D.blocks dev.new) self.new
-            (content_of (D.blocks dev.old) (growing_of self.old) ++ bytes.now)
-            (size_of (geometry_of self.old).block_size (growing_of self.old) + length bytes.now)
-            (kept_of (D.blocks dev.old) (growing_of self.old) ++ blocks.now)
-            (kept_of (D.blocks dev.old) (growing_of self.old) ++ blocks.now)) }
-        ensures waits { OnOk result (WaitsIn (pending_of (growing_of self.old) ++ blocks.now) (growing_of self.new)) }
+        requires { CanPush D.BlockDevice dev.old self.old bytes.now blocks.now }
+        ensures pushed { OnOk result (IsPushed (D.blocks dev.old) self.old bytes.now blocks.now (D.blocks dev.new) self.new) }
         // A block that fills is erased once and programmed once.
-        ensures writes { OnOk result (Writes (growing_of self.old).full (growing_of self.new).full (D.history dev.old) (D.history dev.new)) }
-        ensures device { ChangesOnly D.BlockDevice (pending_of (growing_of self.old) ++ blocks.now) dev.old dev.new }
+        ensures writes { OnOk result (Writes self.old.full self.new.full (D.history dev.old) (D.history dev.new)) }
+        ensures device { ChangesOnly D.BlockDevice (pending_of self.old ++ blocks.now) dev.old dev.new }
         ensures io { TellsIo D.BlockDevice dev.old dev.new result }
     {
         let mut done = 0;
@@ -315,12 +296,10 @@ impl Extender {
 
     // Fills up the block that is begun to whole pages, and writes it.
     fn write_last<D: BlockDevice>(&mut self, dev: &mut D, block: u32) -> Result<(), Error>
-        requires chain { AreListBlocks (D.blocks dev.old) (growing_of self.old).full (growing_of self.old).head }
-        requires in_device { block < (D.geometry dev.old).block_count }
-        requires apart { All (λ c. c ≢ block) (blocks_back (D.blocks dev.old) (growing_of self.old).full (growing_of self.old).head) }
-        requires geometry { D.geometry dev.old ≡ geometry_of self.old }
-        ensures appended { OnOk result (IsAppended (D.blocks dev.old) (D.blocks dev.new) (growing_of self.old).full (growing_of self.old).head block) }
-        ensures bytes { OnOk result (take (length (growing_of self.old).rest) (drop (4 * pointers_of (growing_of self.old).full) (block_in (D.blocks dev.new) block)) ≡ (growing_of self.old).rest) }
+        requires follows { CanFollow D.BlockDevice dev.old self.old.full self.old.head block }
+        requires geometry { D.geometry dev.old ≡ self.old.geometry }
+        ensures appended { OnOk result (IsAppended (D.blocks dev.old) (D.blocks dev.new) self.old.full self.old.head block) }
+        ensures bytes { OnOk result (take (length self.old.rest) (drop (4 * pointers_of self.old.full) (block_in (D.blocks dev.new) block)) ≡ self.old.rest) }
         ensures writes { OnOk result (Writes 0 1 (D.history dev.old) (D.history dev.new)) }
         ensures device { ChangesBlock D.BlockDevice block dev.old dev.new }
         ensures io { TellsIo D.BlockDevice dev.old dev.new result }
@@ -339,16 +318,12 @@ impl Extender {
     /// holds the list as the extender was given it or left it. `Error::Io` comes where the device
     /// failed.
     pub fn finish<D: BlockDevice>(mut self, dev: &mut D) -> Result<(u32, u32), Error>
-        requires growing { IsGrowing (D.blocks dev.old) (growing_of self) }
-        requires geometry { D.geometry dev.old ≡ geometry_of self }
-        requires some { 1 ≤ size_of (geometry_of self).block_size (growing_of self) }
-        requires listed { is_held (growing_of self) ≡ false }
-        ensures finished { IfOk result (λ r. IsEnd (D.blocks dev.new) (geometry_of self).block_size r.0 r.1
-            (content_of (D.blocks dev.old) (growing_of self)) (blocks_of (D.blocks dev.old) (growing_of self))) }
-        ensures size { IfOk result (λ r. r.1 ≡ size_of (geometry_of self).block_size (growing_of self)) }
-        ensures no_call { pending_of (growing_of self) ≡ [] → (D.history dev.new ≡ D.history dev.old) × (D.blocks dev.new ≡ D.blocks dev.old) }
-        ensures writes { OnOk result (Writes 0 (length (pending_of (growing_of self))) (D.history dev.old) (D.history dev.new)) }
-        ensures device { ChangesOnly D.BlockDevice (pending_of (growing_of self)) dev.old dev.new }
+        requires { CanEnd D.BlockDevice dev.old self }
+        ensures finished { IfOk result (λ r. IsEnd (D.blocks dev.new) self.geometry.block_size r.0 r.1 (content_of (D.blocks dev.old) self) (blocks_of (D.blocks dev.old) self)) }
+        ensures size { IfOk result (λ r. r.1 ≡ end_of self) }
+        ensures no_call { pending_of self ≡ [] → (D.history dev.new ≡ D.history dev.old) × (D.blocks dev.new ≡ D.blocks dev.old) }
+        ensures writes { OnOk result (Writes 0 (length (pending_of self)) (D.history dev.old) (D.history dev.new)) }
+        ensures device { ChangesOnly D.BlockDevice (pending_of self) dev.old dev.new }
         ensures io { TellsIo D.BlockDevice dev.old dev.new result }
     {
         let size = self.size;

@@ -4,11 +4,9 @@ use Rattle.lfs_device.specs.declared.geometry.Geometry.{Geometry}
 use Rattle.lfs_model.specs.Blocks.{Blocks}
 use Rattle.lfs_model.specs.BlockSets.{BlockSets}
 use Rattle.lfs_model.specs.Writers.{written_into}
-use Rattle.lfs_ctz.specs.Extended.{geometry_of, growing_of}
-use Rattle.lfs_ctz.specs.Growing.{content_of, pending_of}
-use Rattle.lfs_ctz.specs.declared.extender.Extender.{Extender}
+use Rattle.lfs_ctz.specs.Growing.{content_of, pending_of, Growing, end_of}
 use Rattle.lfs_writer.specs.Apart.{Spares}
-use Rattle.lfs_writer.specs.Extended.{IsExtended, bytes_in_hand, end_of}
+use Rattle.lfs_writer.specs.Extended.{IsExtended}
 use Rattle.lfs_writer.specs.Hand.{IsBegun, IsHand}
 use Rattle.lfs_writer.specs.Taken.{Keeps}
 use Rattle.lfs_writer.specs.Written.{bytes_over}
@@ -17,20 +15,20 @@ use Rattle.lfs_writer.proofs.Copies.{counted}
 use Rattle.lfs_writer.proofs.Flights.{wrote}
 use Rattle.lfs_writer.proofs.Hands.{hand_grows}
 
-module _ (map later : BlockSets) (d e : Blocks) (list longer : Extender) (base : Stored) (shared : ℕ) (bytes : List ℕ) (total : ℕ) (begun : IsBegun map d (geometry_of list).block_size (growing_of list) base shared)
-    (spared : Spares map (pending_of (growing_of list)) d e) (keeps : Keeps map later) (more : IsExtended map d list bytes total later e longer) where
-  pub extended_hand : IsHand later e (geometry_of list).block_size (growing_of longer) base shared
+module _ (map later : BlockSets) (d e : Blocks) (list longer : Growing) (base : Stored) (shared : ℕ) (bytes : List ℕ) (total : ℕ) (begun : IsBegun map d list.geometry.block_size list base shared)
+    (spared : Spares map (pending_of list) d e) (keeps : Keeps map later) (more : IsExtended map d list bytes total later e longer) where
+  pub extended_hand : IsHand later e list.geometry.block_size longer base shared
   extended_hand =
-      hand_grows map later d e (geometry_of list).block_size (growing_of list) (growing_of longer) base shared begun spared keeps more.grown more.growing more.marked more.own.own
-      (counted (geometry_of list) (geometry_of longer) (growing_of longer) _ more.geometry more.own.many) more.own.listed
+      hand_grows map later d e list.geometry.block_size list longer base shared begun spared keeps more.grown more.growing more.marked more.own.own
+      (counted list.geometry longer.geometry longer _ more.geometry more.own.many) more.own.listed
 
   -- under its own name of the geometry
-  pub extended_on : IsHand later e (geometry_of longer).block_size (growing_of longer) base shared
-  extended_on = subst (λ (k : Geometry). IsHand later e k.block_size (growing_of longer) base shared) (sym more.geometry) extended_hand
+  pub extended_on : IsHand later e longer.geometry.block_size longer base shared
+  extended_on = subst (λ (k : Geometry). IsHand later e k.block_size longer base shared) (sym more.geometry) extended_hand
 
 -- bytes at its end are written over what the base has there
-pub extended_bytes : (map later : BlockSets) (d e : Blocks) (list longer : Extender) (base : Stored) (shared : ℕ) (bytes : List ℕ) → IsBegun map d (geometry_of list).block_size (growing_of list) base shared → Spares map (pending_of (growing_of list)) d e
-    → IsExtended map d list (bytes_in_hand d list ++ bytes) (end_of list + length bytes) later e longer → length (content_of d (growing_of list)) ≡ end_of list
+pub extended_bytes : (map later : BlockSets) (d e : Blocks) (list longer : Growing) (base : Stored) (shared : ℕ) (bytes : List ℕ) → IsBegun map d list.geometry.block_size list base shared → Spares map (pending_of list) d e
+    → IsExtended map d list (content_of d list ++ bytes) (end_of list + length bytes) later e longer → length (content_of d list) ≡ end_of list
     → bytes_over e (record { list = longer; base = base; shared = shared }) ≡ written_into (bytes_over d (record { list = list; base = base; shared = shared })) (end_of list) bytes
 extended_bytes map later d e list longer base shared bytes begun spared more long =
-    wrote map d e (geometry_of list) (geometry_of longer) (growing_of list) (growing_of longer) base shared bytes more.geometry begun spared more.content more.sum long
+    wrote map d e list.geometry longer.geometry list longer base shared bytes more.geometry begun spared more.content more.sum long

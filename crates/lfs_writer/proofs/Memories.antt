@@ -10,14 +10,11 @@ use Rattle.std.specs.Prelude.{All, Contains, slice_range}
 use Rattle.lfs_model.specs.Blocks.{Blocks}
 use Rattle.lfs_model.specs.BlockSets.{BlockSets, IsFree, IsInFlight}
 use Rattle.lfs_model.specs.SkipLists.{AreListBlocks, IsList, blocks_back, blocks_for, bytes_before, bytes_of}
-use Rattle.lfs_ctz.specs.Extended.{geometry_of, growing_of}
-use Rattle.lfs_ctz.specs.Growing.{Growing, IsGrowing, IsHeld, IsRest, content_of, is_held_in, joined, kept_of, pending_in, pending_of, size_of}
-use Rattle.lfs_ctz.specs.declared.extender.Extender.{Extender}
+use Rattle.lfs_ctz.specs.Growing.{Growing, IsGrowing, IsHeld, IsRest, content_of, is_held_in, joined, kept_of, pending_in, pending_of, size_of, end_of}
 use Rattle.lfs_ctz.specs.declared.rest.Rest.{Rest}
 use Rattle.lfs_ctz.specs.declared.rest.Rest.TheVariants.{Closed, Shared, Handed, Held}
 use Rattle.lfs_writer.specs.Based.{IsBase, list_blocks}
 use Rattle.lfs_writer.specs.Contents.{IsQuiet, held_bytes}
-use Rattle.lfs_writer.specs.Extended.{end_of}
 use Rattle.lfs_writer.proofs.Copies.{base_list, none_behind}
 use Rattle.lfs_writer.specs.Written.{IsAt}
 use Rattle.lfs_writer.proofs.Ends.{none_chain}
@@ -95,8 +92,8 @@ pub shortened_bytes : (old : List ℕ) (size : ℕ) → size ≤ length old → 
 shortened_bytes old size le = sym (ap (take size) (zeros_not old size le))
 
 -- bytes that stand in memory alone are as many as the list has
-pub held_size : (e : Extender) → IsHeld (growing_of e) → end_of e ≡ length (growing_of e).rest
-held_size e held = omega (arith, ap (bytes_before (geometry_of e).block_size) held.none)
+pub held_size : (e : Growing) → IsHeld e → end_of e ≡ length e.rest
+held_size e held = omega (arith, ap (bytes_before e.geometry.block_size) held.none)
 
 -- more of them are loaded
 pub loaded : (bytes old part : List ℕ) (pos n : ℕ) → old ≡ take pos bytes → pos + n ≤ length bytes → part ≡ take n (drop pos bytes) → written_into old pos part ≡ take (pos + n) bytes
@@ -147,12 +144,12 @@ part_read bytes buf found pos n part le is read =
     sym (take-take part n buf le) ∙ ap (take part) (sym is ∙ read ∙ ap (λ k. take k (drop pos bytes)) (let k : pos + n - pos ≡ n = omega arith in k)) ∙ take-take part n (drop pos bytes) le
 
 -- over no base
-pub begins_none : (map : BlockSets) (d : Blocks) (now : Geometry) (e : Extender) → IsQuiet map d now e → IsAt map d now (record { list = e; base = record { head = 0; size = 0; in_flight = false }; shared = 0 }) (length (held_bytes e)) (held_bytes e)
+pub begins_none : (map : BlockSets) (d : Blocks) (now : Geometry) (e : Growing) → IsQuiet map d now e → IsAt map d now (record { list = e; base = record { head = 0; size = 0; in_flight = false }; shared = 0 }) (length (held_bytes e)) (held_bytes e)
 begins_none map d now e quiet =
-    let g : Growing = growing_of e in
+    let g : Growing = e in
     let held = quiet.resting.held in
     let none : kept_of d g ≡ [] = held_kept d g held in
-    let block_size : ℕ = (geometry_of e).block_size in
+    let block_size : ℕ = e.geometry.block_size in
     record {
       begun = record {
         geometry = quiet.resting.geometry;

@@ -1,5 +1,5 @@
 -- Contents on a thread's device.
-use Rattle.std.proofs.Common.{ℕ, ◌≡◌, ◌<◌, ◌≤◌, ◌+◌, ◌^◌, max, List, length, Result, Ok, Err, sym, ap, subst, ◌∙◌}
+use Rattle.std.proofs.Common.{ℕ, ◌≡◌, ◌≤◌, ◌+◌, List, length, Result, Ok, Err, sym, ap, subst, ◌∙◌}
 use Rattle.std.specs.Prelude.{IfOk}
 use Rattle.lfs_device.specs.declared.error.Error.{Error}
 use Rattle.lfs_device.specs.declared.device.BlockDevice.{Ghosts}
@@ -9,8 +9,8 @@ use Rattle.lfs_model.specs.BlockSets.{BlockSets, used_count}
 use Rattle.lfs_model.specs.Disk.{Disk}
 use Rattle.lfs_thread.specs.Beside.{IsDividedAs, Shows}
 use Rattle.lfs_thread.specs.Kept.{Kept}
-use Rattle.lfs_writer.specs.Contents.{HasContents, IsLarge, NeedsRoom, Stands, end_room, form_of, truncate_room, write_room}
-use Rattle.lfs_writer.specs.Form.{Form, form_size}
+use Rattle.lfs_writer.specs.Contents.{CanFinishContents, CanTruncateContents, CanWriteContents, FitsTruncation, FitsWrite, HasContents, Stands, end_room, form_of}
+use Rattle.lfs_writer.specs.Form.{Form}
 use Rattle.lfs_writer.specs.Owned.{AreOwned, blocks_held}
 use Rattle.lfs_writer.specs.declared.contents.Contents.{Contents}
 use Rattle.lfs_writer.specs.Standing.{CanFinish, CanTruncate, CanWrite, Holds, StandsIn, held_in}
@@ -47,54 +47,26 @@ module _ {D : Type 0} (g : Ghosts D) (t : Kept) (device : D) (map : BlockSets) (
   }
 
   -- a write there
-  pub write_here : (contents : Contents) (limit place count : ℕ) → CanWrite t contents limit place count
-      → Stands map (g.blocks device) (g.geometry device) contents × (IsLarge limit (form_of contents) × (limit < (g.geometry device).block_size × (1 ≤ count × (place + count < 2 ^ 31
-      × (limit < max (form_size (form_of contents)) (place + count) → used_count map + write_room (g.geometry device).block_size place count (form_of contents) ≤ length map)))))
-  write_here contents limit place count can = (
-    stands_here contents can.stands,
-    (
-      can.large,
-      (
-        subst (λ n. limit < n) (sym size_here) can.short,
-        (
-          can.some,
-          (
-            can.small,
-            subst (λ (n : ℕ). limit < max (form_size (form_of contents)) (place + count) → used_count map + write_room n place count (form_of contents) ≤ length map) (sym size_here)
-                (subst (λ (m : BlockSets). limit < max (form_size (form_of contents)) (place + count) → used_count m + write_room t.disk.block_size place count (form_of contents) ≤ length m) (sym shows.map) can.room),
-          ),
-        ),
-      ),
-    ),
-  )
+  pub write_here : (contents : Contents) (limit place count : ℕ) → CanWrite t contents limit place count → CanWriteContents map (g.blocks device) (g.geometry device) contents limit place count
+  write_here contents limit place count can = record {
+    stands = stands_here contents can.stands;
+    fits = subst (λ (n : ℕ). FitsWrite map n (form_of contents) limit place count) (sym size_here) (subst (λ (m : BlockSets). FitsWrite m t.disk.block_size (form_of contents) limit place count) (sym shows.map) can.fits);
+  }
 
   -- a truncation
-  pub truncate_here : (contents : Contents) (limit size : ℕ) → CanTruncate t contents limit size
-      → Stands map (g.blocks device) (g.geometry device) contents × (IsLarge limit (form_of contents) × (limit < (g.geometry device).block_size × (size < 2 ^ 31
-      × (NeedsRoom limit size (form_of contents) → used_count map + truncate_room (g.geometry device).block_size size (form_of contents) ≤ length map))))
-  truncate_here contents limit size can = (
-    stands_here contents can.stands,
-    (
-      can.large,
-      (
-        subst (λ n. limit < n) (sym size_here) can.short,
-        (
-          can.small,
-          subst (λ (n : ℕ). NeedsRoom limit size (form_of contents) → used_count map + truncate_room n size (form_of contents) ≤ length map) (sym size_here)
-              (subst (λ (m : BlockSets). NeedsRoom limit size (form_of contents) → used_count m + truncate_room t.disk.block_size size (form_of contents) ≤ length m) (sym shows.map) can.room),
-        ),
-      ),
-    ),
-  )
+  pub truncate_here : (contents : Contents) (limit size : ℕ) → CanTruncate t contents limit size → CanTruncateContents map (g.blocks device) (g.geometry device) contents limit size
+  truncate_here contents limit size can = record {
+    stands = stands_here contents can.stands;
+    fits = subst (λ (n : ℕ). FitsTruncation map n (form_of contents) limit size) (sym size_here) (subst (λ (m : BlockSets). FitsTruncation m t.disk.block_size (form_of contents) limit size) (sym shows.map) can.fits);
+  }
 
   -- the end of a list in hand
-  pub finish_here : (contents : Contents) → CanFinish t contents
-      → Stands map (g.blocks device) (g.geometry device) contents × (used_count map + end_room (g.geometry device).block_size (form_of contents) ≤ length map)
-  finish_here contents can = (
-    stands_here contents can.stands,
-    subst (λ (n : ℕ). used_count map + end_room n (form_of contents) ≤ length map) (sym size_here)
-        (subst (λ (m : BlockSets). used_count m + end_room t.disk.block_size (form_of contents) ≤ length m) (sym shows.map) can.room),
-  )
+  pub finish_here : (contents : Contents) → CanFinish t contents → CanFinishContents map (g.blocks device) (g.geometry device) contents
+  finish_here contents can = record {
+    stands = stands_here contents can.stands;
+    room = subst (λ (n : ℕ). used_count map + end_room n (form_of contents) ≤ length map) (sym size_here)
+        (subst (λ (m : BlockSets). used_count m + end_room t.disk.block_size (form_of contents) ≤ length m) (sym shows.map) can.room);
+  }
 
 -- what a call answers, seen from the thread
 pub holds_after : {D : Type 0} (g : Ghosts D) (old new : Kept) (d e : D) (m n : BlockSets) → Shows g old d m → Shows g new e n → IsDivided (g.geometry d).block_size (g.geometry d).block_count (g.blocks d)

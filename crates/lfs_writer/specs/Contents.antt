@@ -1,13 +1,10 @@
 -- The contents of an open writer: their form, their bytes, and what map and disk say of them.
-use Rattle.std.specs.Prelude.{ℕ, ◌≡◌, ◌≢◌, ◌≤◌, ◌<◌, ◌+◌, ◌*◌, true, min, max, ◌==◌, nat_lt, if◌then◌else◌, List, length}
+use Rattle.std.specs.Prelude.{ℕ, ◌≡◌, ◌≢◌, ◌≤◌, ◌<◌, ◌+◌, ◌*◌, ◌^◌, true, min, max, ◌==◌, nat_lt, if◌then◌else◌, List, length}
 use Rattle.lfs_model.specs.Blocks.{Blocks}
-use Rattle.lfs_model.specs.BlockSets.{BlockSets, IsInFlight}
+use Rattle.lfs_model.specs.BlockSets.{BlockSets, IsInFlight, used_count}
 use Rattle.lfs_model.specs.SkipLists.{blocks_for}
 use Rattle.lfs_device.specs.declared.geometry.Geometry.{Geometry}
-use Rattle.lfs_ctz.specs.Extended.{geometry_of, growing_of}
-use Rattle.lfs_ctz.specs.Growing.{IsHeld}
-use Rattle.lfs_ctz.specs.declared.extender.Extender.{Extender}
-use Rattle.lfs_writer.specs.Extended.{end_of}
+use Rattle.lfs_ctz.specs.Growing.{IsHeld, Growing, end_of}
 use Rattle.lfs_writer.specs.Form as form
 use Rattle.lfs_writer.specs.Form.{Form, form_size}
 use Rattle.lfs_writer.specs.Hand.{IsStored, stored_bytes}
@@ -16,8 +13,8 @@ use Rattle.lfs_writer.specs.declared.contents.Contents.{Contents}
 use Rattle.lfs_writer.specs.declared.contents.Contents.TheVariants.{InMemory, Finished, InHand}
 
 -- what stands in the extender's buffer alone
-abbrev pub held_bytes : Extender → List ℕ
-held_bytes list = (growing_of list).rest
+abbrev pub held_bytes : Growing → List ℕ
+held_bytes list = list.rest
 
 abbrev pub form_of : Contents → Form
 form_of (InMemory list) = form.InMemory (length (held_bytes list))
@@ -35,12 +32,12 @@ pub record IsIdle (map : BlockSets) (disk : Blocks) : Type 0 where
   pub none : (b : ℕ) → ¬ (IsInFlight map b)
 
 -- an extender of this device has all bytes in its buffer
-pub record IsResting (now : Geometry) (list : Extender) : Type 0 where
-  pub geometry : now ≡ geometry_of list
-  pub held : IsHeld (growing_of list)
+pub record IsResting (now : Geometry) (list : Growing) : Type 0 where
+  pub geometry : now ≡ list.geometry
+  pub held : IsHeld list
 
 -- all bytes stand in memory, and no block is in flight
-pub record IsQuiet (map : BlockSets) (disk : Blocks) (now : Geometry) (list : Extender) : Type 0 where
+pub record IsQuiet (map : BlockSets) (disk : Blocks) (now : Geometry) (list : Growing) : Type 0 where
   pub idle : IsIdle map disk
   pub resting : IsResting now list
 
@@ -94,3 +91,31 @@ abbrev pub NeedsRoom : ℕ → ℕ → Form → Type 0
 NeedsRoom limit size (form.InMemory old) = limit < size
 NeedsRoom limit size (form.Finished old flying) = (limit < size) × (old < size)
 NeedsRoom limit size (form.InHand stop base flying) = size ≢ max stop base
+
+-- so many bytes, at least one, may be written at a place: past the limit there is room for what the form of the contents wants
+pub record FitsWrite (map : BlockSets) (block_size : ℕ) (shape : Form) (limit place count : ℕ) : Type 0 where
+  pub large : IsLarge limit shape
+  pub short : limit < block_size
+  pub some : 1 ≤ count
+  pub small : place + count < 2 ^ 31
+  pub room : limit < max (form_size shape) (place + count) → used_count map + write_room block_size place count shape ≤ length map
+
+-- they may be cut or filled up to a size: where it changes there is room for what the form wants
+pub record FitsTruncation (map : BlockSets) (block_size : ℕ) (shape : Form) (limit size : ℕ) : Type 0 where
+  pub large : IsLarge limit shape
+  pub short : limit < block_size
+  pub small : size < 2 ^ 31
+  pub room : NeedsRoom limit size shape → used_count map + truncate_room block_size size shape ≤ length map
+
+-- contents stand on a device of this geometry, and may be written there; may be truncated; or may be finished
+pub record CanWriteContents (map : BlockSets) (disk : Blocks) (now : Geometry) (contents : Contents) (limit place count : ℕ) : Type 0 where
+  pub stands : Stands map disk now contents
+  pub fits : FitsWrite map now.block_size (form_of contents) limit place count
+
+pub record CanTruncateContents (map : BlockSets) (disk : Blocks) (now : Geometry) (contents : Contents) (limit size : ℕ) : Type 0 where
+  pub stands : Stands map disk now contents
+  pub fits : FitsTruncation map now.block_size (form_of contents) limit size
+
+pub record CanFinishContents (map : BlockSets) (disk : Blocks) (now : Geometry) (contents : Contents) : Type 0 where
+  pub stands : Stands map disk now contents
+  pub room : used_count map + end_room now.block_size (form_of contents) ≤ length map

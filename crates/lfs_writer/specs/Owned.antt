@@ -2,7 +2,6 @@
 use Rattle.std.specs.Prelude.{ℕ, ◌≡◌, ◌++◌, true, Contains, List, []}
 use Rattle.lfs_model.specs.Blocks.{Blocks}
 use Rattle.lfs_model.specs.BlockSets.{BlockSets, IsUsed}
-use Rattle.lfs_ctz.specs.Extended.{growing_of}
 use Rattle.lfs_ctz.specs.Growing.{kept_of}
 use Rattle.lfs_writer.specs.Based.{list_blocks}
 use Rattle.lfs_writer.specs.declared.contents.Contents.{Contents}
@@ -20,7 +19,7 @@ blocks_in disk block_size s = list_blocks disk block_size s.head s.size
 abbrev pub blocks_held : Blocks → ℕ → Contents → List ℕ
 blocks_held disk block_size (InMemory list) = []
 blocks_held disk block_size (Finished stored) = blocks_in disk block_size stored
-blocks_held disk block_size (InHand hand) = kept_of disk (growing_of hand.list) ++ blocks_in disk block_size hand.base
+blocks_held disk block_size (InHand hand) = kept_of disk hand.list ++ blocks_in disk block_size hand.base
 
 -- the same list, in the same blocks
 pub record KeepsList (block_size : ℕ) (old : Blocks) (was : Stored) (new : Blocks) (now : Stored) : Type 0 where

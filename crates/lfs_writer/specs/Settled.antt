@@ -1,6 +1,12 @@
 -- Blocks of a list that take another state.
-use Rattle.std.specs.Prelude.{ℕ, ◌≡◌, ◌≢◌, All, Contains, List, Some, length, slice_get}
+use Rattle.std.specs.Prelude.{ℕ, ◌≡◌, ◌≢◌, Bool, true, false, All, Contains, List, Some, length, slice_get}
 use Rattle.lfs_model.specs.BlockSets.{BlockSets, BlockState, IsFree, IsUsed}
+use Rattle.lfs_model.specs.BlockSets.BlockState.{Free, Used}
+
+-- the state of a block that is used, or is free
+abbrev pub settled_as : Bool → BlockState
+settled_as true = Used
+settled_as false = Free
 
 -- each of these blocks is in that state, and the others are as they were
 pub record Puts (state : BlockState) (old new : BlockSets) (bs : List ℕ) : Type 0 where

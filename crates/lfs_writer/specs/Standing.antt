@@ -1,5 +1,5 @@
 -- The contents of an open writer on a thread's device.
-use Rattle.std.specs.Prelude.{ℕ, ◌≡◌, ◌⊎◌, ◌≤◌, ◌<◌, ◌+◌, ◌^◌, max, List, length, Result, IfErr, IsErrOf}
+use Rattle.std.specs.Prelude.{ℕ, ◌≡◌, ◌⊎◌, ◌≤◌, ◌<◌, ◌+◌, List, length, Result, IfErr, IsErrOf}
 use Rattle.lfs_device.specs.declared.error.Error.{Error}
 use Rattle.lfs_device.specs.declared.error.Error.TheVariants.{Io, NoMemory}
 use Rattle.lfs_device.specs.declared.geometry.Geometry.{Geometry}
@@ -8,8 +8,8 @@ use Rattle.lfs_model.specs.History.{AtWorst, LeavesOnly, faults}
 use Rattle.lfs_thread.specs.Beside.{IsDividedAs}
 use Rattle.lfs_thread.specs.Kept.{Kept}
 use Rattle.lfs_thread.specs.Steps.{HasShape}
-use Rattle.lfs_writer.specs.Contents.{HasContents, IsLarge, NeedsRoom, Stands, end_room, form_of, truncate_room, write_room}
-use Rattle.lfs_writer.specs.Form.{Form, form_size}
+use Rattle.lfs_writer.specs.Contents.{FitsTruncation, FitsWrite, HasContents, Stands, end_room, form_of}
+use Rattle.lfs_writer.specs.Form.{Form}
 use Rattle.lfs_writer.specs.Hand.{KeepsUsed, SparesUsed, SparesUsedPages}
 use Rattle.lfs_writer.specs.Owned.{blocks_held}
 use Rattle.lfs_writer.specs.declared.contents.Contents.{Contents}
@@ -26,14 +26,10 @@ pub record Holds (t : Kept) (contents : Contents) (bytes : List ℕ) (shape : Fo
   pub divided : IsDividedAs geometry t.disk
   pub has : HasContents t.map t.disk.blocks geometry contents bytes shape
 
--- so many bytes, at least one, may be written there: past the limit there is room for what the form of the contents wants
+-- bytes may be written there
 pub record CanWrite (t : Kept) (contents : Contents) (limit place count : ℕ) : Type 0 where
   pub stands : StandsIn t contents
-  pub large : IsLarge limit (form_of contents)
-  pub short : limit < t.disk.block_size
-  pub some : 1 ≤ count
-  pub small : place + count < 2 ^ 31
-  pub room : limit < max (form_size (form_of contents)) (place + count) → used_count t.map + write_room t.disk.block_size place count (form_of contents) ≤ length t.map
+  pub fits : FitsWrite t.map t.disk.block_size (form_of contents) limit place count
 
 -- The pairs are the same. No used block changes, what was unprogrammed in it still is, it stays used, and a loss of power on
 -- the way leaves it as it was.
@@ -51,13 +47,10 @@ pub record TellsWork {X : Type 0} (old new : Kept) (result : Result X Error) : T
   pub fault : IsErrOf result Io → faults old.history < faults new.history
   pub no_fault : ¬ IsErrOf result Io → faults new.history ≡ faults old.history
 
--- they may be cut or filled up to that size: where it changes there is room for what their form wants
+-- they may be cut or filled up to that size
 pub record CanTruncate (t : Kept) (contents : Contents) (limit size : ℕ) : Type 0 where
   pub stands : StandsIn t contents
-  pub large : IsLarge limit (form_of contents)
-  pub short : limit < t.disk.block_size
-  pub small : size < 2 ^ 31
-  pub room : NeedsRoom limit size (form_of contents) → used_count t.map + truncate_room t.disk.block_size size (form_of contents) ≤ length t.map
+  pub fits : FitsTruncation t.map t.disk.block_size (form_of contents) limit size
 
 -- the list in hand may be ended
 pub record CanFinish (t : Kept) (contents : Contents) : Type 0 where

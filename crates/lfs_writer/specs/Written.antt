@@ -3,8 +3,7 @@ use Rattle.std.specs.Prelude.{ℕ, ◌≡◌, ◌≢◌, ◌≤◌, true, List, 
 use Rattle.lfs_device.specs.declared.geometry.Geometry.{Geometry}
 use Rattle.lfs_model.specs.Blocks.{Blocks}
 use Rattle.lfs_model.specs.BlockSets.{BlockSets}
-use Rattle.lfs_ctz.specs.Extended.{geometry_of, growing_of}
-use Rattle.lfs_writer.specs.Extended.{end_of}
+use Rattle.lfs_ctz.specs.Growing.{end_of}
 use Rattle.lfs_writer.specs.Hand.{IsBegun, IsHand, IsStored, hand_bytes, stored_bytes}
 use Rattle.lfs_writer.specs.Owned.{AreOwned, blocks_in}
 use Rattle.lfs_writer.specs.declared.stored.Stored.{Stored}
@@ -16,17 +15,17 @@ length_in hand = max (end_of hand.list) hand.base.size
 
 -- the contents
 abbrev pub bytes_over : Blocks → Hand → List ℕ
-bytes_over disk hand = hand_bytes disk (geometry_of hand.list).block_size (growing_of hand.list) hand.base
+bytes_over disk hand = hand_bytes disk hand.list.geometry.block_size hand.list hand.base
 
 -- a list that is begun, of this device
 pub record HasBegun (map : BlockSets) (disk : Blocks) (now : Geometry) (hand : Hand) : Type 0 where
-  pub geometry : now ≡ geometry_of hand.list
-  pub begun : IsBegun map disk (geometry_of hand.list).block_size (growing_of hand.list) hand.base hand.shared
+  pub geometry : now ≡ hand.list.geometry
+  pub begun : IsBegun map disk hand.list.geometry.block_size hand.list hand.base hand.shared
 
 -- a list in hand that has bytes, of this device
 pub record IsGoing (map : BlockSets) (disk : Blocks) (now : Geometry) (hand : Hand) : Type 0 where
-  pub geometry : now ≡ geometry_of hand.list
-  pub list : IsHand map disk (geometry_of hand.list).block_size (growing_of hand.list) hand.base hand.shared
+  pub geometry : now ≡ hand.list.geometry
+  pub list : IsHand map disk hand.list.geometry.block_size hand.list hand.base hand.shared
   pub some : 1 ≤ end_of hand.list
 
 -- it is begun, ends there, and the contents are these

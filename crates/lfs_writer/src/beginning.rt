@@ -1,8 +1,9 @@
 // Lists that are begun over finished ones.
 
-ghost use Rattle.std.specs.Prelude.{◌≡◌, ◌≤◌, ◌⊎◌, IfOk, IfErr};
-ghost use Rattle.lfs_device.specs.Calls.{ReadsOnly, TellsFaults};
+ghost use Rattle.std.specs.Prelude.{◌≡◌, ◌≤◌, IfOk};
+ghost use Rattle.lfs_device.specs.Calls.{ReadsOnly};
 ghost use Rattle.lfs_model.specs.BlockSets.{BlockSets};
+ghost use Rattle.lfs_ctz.specs.Calls.{TellsMemory};
 ghost use Rattle.lfs_writer.specs.Based.{IsBase};
 ghost use Rattle.lfs_writer.specs.Hand.{IsStored, stored_bytes};
 ghost use Rattle.lfs_writer.specs.Written.{IsAt};
@@ -29,8 +30,7 @@ pub(crate) fn begin_over<D: BlockDevice>(
         → IsAt map (D.blocks dev.old) (D.geometry dev.old) h keep (stored_bytes (D.blocks dev.old) (D.geometry dev.old).block_size base)) }
     ensures base { IfOk result (λ h. h.base ≡ base) }
     ensures device { ReadsOnly D.BlockDevice dev.old dev.new }
-    ensures faults { TellsFaults D.BlockDevice dev.old dev.new result }
-    ensures errors { IfErr result (λ e. (e ≡ Error.Io) ⊎ (e ≡ Error.NoMemory)) }
+    ensures tells { TellsMemory D.BlockDevice dev.old dev.new result }
 {
     if keep == 0 {
         let list = Extender::start(alloc, dev.geometry())?;

@@ -1,15 +1,15 @@
 // The contents of an open writer, and writes to them.
 
-ghost use Rattle.std.specs.Prelude.{◌≡◌, ◌≤◌, ◌<◌, ◌+◌, ◌^◌, ◌⊎◌, length, max, true, OnOk, IfOk, IfErr};
-ghost use Rattle.lfs_device.specs.Calls.{TellsFaults};
+ghost use Rattle.std.specs.Prelude.{◌≡◌, ◌≤◌, ◌<◌, ◌+◌, ◌^◌, length, max, true, OnOk, IfOk, IfErr};
 ghost use Rattle.lfs_model.specs.Blocks.{Blocks};
 ghost use Rattle.lfs_model.specs.BlockSets.{BlockSets, used_count};
 ghost use Rattle.lfs_model.specs.SkipLists.{blocks_for};
 ghost use Rattle.lfs_model.specs.Writers.{written_into};
+ghost use Rattle.lfs_ctz.specs.Calls.{TellsMemory};
 ghost use Rattle.lfs_writer.specs.Calls.{LeavesUsed};
-ghost use Rattle.lfs_writer.specs.Contents.{HasContents, IsIdle, IsLarge, IsQuiet, Stands, bytes_in, form_of, held_bytes, write_room};
+ghost use Rattle.lfs_writer.specs.Contents.{CanWriteContents, HasContents, IsIdle, IsQuiet, bytes_in, form_of, held_bytes, write_room};
 ghost use Rattle.lfs_writer.specs.Form as form;
-ghost use Rattle.lfs_writer.specs.Form.{form_size, written};
+ghost use Rattle.lfs_writer.specs.Form.{written};
 ghost use Rattle.lfs_writer.specs.Hand.{IsStored, KeepsUsed, stored_bytes};
 ghost use Rattle.lfs_writer.specs.Roomy.{base_blocks};
 ghost use Rattle.lfs_writer.specs.Written.{HasWritten, IsGoing, bytes_over, length_in};
@@ -71,8 +71,7 @@ fn write_held<D: BlockDevice>(
     ensures owned { IfOk result (λ c. AreOwned map.new (blocks_held (D.blocks dev.old) (D.geometry dev.old).block_size (Contents.InMemory list)) (blocks_held (D.blocks dev.new) (D.geometry dev.old).block_size c)) }
     ensures map { KeepsUsed map.old map.new }
     ensures device { LeavesUsed D.BlockDevice map.old dev.old dev.new }
-    ensures faults { TellsFaults D.BlockDevice dev.old dev.new result }
-    ensures errors { IfErr result (λ e. (e ≡ Error.Io) ⊎ (e ≡ Error.NoMemory)) }
+    ensures tells { TellsMemory D.BlockDevice dev.old dev.new result }
 {
     let size = list.size().max(place + bytes.len() as u32);
     if size <= limit {
@@ -102,8 +101,7 @@ fn write_over<D: BlockDevice>(
     ensures base { IfOk result (λ h. KeepsList (D.geometry dev.old).block_size (D.blocks dev.old) stored (D.blocks dev.new) h.base) }
     ensures map { KeepsUsed map.old map.new }
     ensures device { LeavesUsed D.BlockDevice map.old dev.old dev.new }
-    ensures faults { TellsFaults D.BlockDevice dev.old dev.new result }
-    ensures errors { IfErr result (λ e. (e ≡ Error.Io) ⊎ (e ≡ Error.NoMemory)) }
+    ensures tells { TellsMemory D.BlockDevice dev.old dev.new result }
 {
     let begun = begin_over(alloc, dev, stored, place.min(stored.size))?;
     let mut hand = begun;
@@ -132,8 +130,7 @@ fn write_stored<D: BlockDevice>(
     ensures owned { IfOk result (λ c. AreOwned map.new (blocks_held (D.blocks dev.old) (D.geometry dev.old).block_size (Contents.Finished stored)) (blocks_held (D.blocks dev.new) (D.geometry dev.old).block_size c)) }
     ensures map { KeepsUsed map.old map.new }
     ensures device { LeavesUsed D.BlockDevice map.old dev.old dev.new }
-    ensures faults { TellsFaults D.BlockDevice dev.old dev.new result }
-    ensures errors { IfErr result (λ e. (e ≡ Error.Io) ⊎ (e ≡ Error.NoMemory)) }
+    ensures tells { TellsMemory D.BlockDevice dev.old dev.new result }
 {
     let size = stored.size.max(place + bytes.len() as u32);
     if size <= limit {
@@ -165,8 +162,7 @@ fn write_hand<D: BlockDevice>(
     ensures owned { IfOk result (λ c. AreOwned map.new (blocks_held (D.blocks dev.old) (D.geometry dev.old).block_size (Contents.InHand hand)) (blocks_held (D.blocks dev.new) (D.geometry dev.old).block_size c)) }
     ensures map { KeepsUsed map.old map.new }
     ensures device { LeavesUsed D.BlockDevice map.old dev.old dev.new }
-    ensures faults { TellsFaults D.BlockDevice dev.old dev.new result }
-    ensures errors { IfErr result (λ e. (e ≡ Error.Io) ⊎ (e ≡ Error.NoMemory)) }
+    ensures tells { TellsMemory D.BlockDevice dev.old dev.new result }
 {
     let hand = write_turned(alloc, dev, map, hand, place, bytes)?;
     Ok(Contents::InHand(hand))
@@ -186,19 +182,13 @@ pub fn write_contents<D: BlockDevice>(
     place: u32,
     bytes: &[u8],
 ) -> Result<Contents, Error>
-    requires stands { Stands map.old (D.blocks dev.old) (D.geometry dev.old) contents }
-    requires large { IsLarge limit (form_of contents) }
-    requires short { limit < (D.geometry dev.old).block_size }
-    requires some { 1 ≤ length bytes.now }
-    requires small { place + length bytes.now < 2 ^ 31 }
-    requires room { limit < max (form_size (form_of contents)) (place + length bytes.now) → used_count map.old + write_room (D.geometry dev.old).block_size place (length bytes.now) (form_of contents) ≤ length map.old }
+    requires { CanWriteContents map.old (D.blocks dev.old) (D.geometry dev.old) contents limit place (length bytes.now) }
     ensures written { IfOk result (λ c. HasContents map.new (D.blocks dev.new) (D.geometry dev.old) c
         (written_into (bytes_in (D.blocks dev.old) (D.geometry dev.old).block_size contents) place bytes.now) (written limit place (length bytes.now) (form_of contents))) }
     ensures owned { IfOk result (λ c. AreOwned map.new (blocks_held (D.blocks dev.old) (D.geometry dev.old).block_size contents) (blocks_held (D.blocks dev.new) (D.geometry dev.old).block_size c)) }
     ensures map { KeepsUsed map.old map.new }
     ensures device { LeavesUsed D.BlockDevice map.old dev.old dev.new }
-    ensures faults { TellsFaults D.BlockDevice dev.old dev.new result }
-    ensures errors { IfErr result (λ e. (e ≡ Error.Io) ⊎ (e ≡ Error.NoMemory)) }
+    ensures tells { TellsMemory D.BlockDevice dev.old dev.new result }
 {
     match contents {
         Contents::InMemory(list) => write_held(alloc, dev, map, list, limit, place, bytes),

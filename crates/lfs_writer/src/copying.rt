@@ -1,15 +1,14 @@
 // The rest of a base, copied behind what was written.
 
-ghost use Rattle.std.specs.Prelude.{◌≡◌, ◌≤◌, ◌+◌, ◌++◌, ◌⊎◌, length, max, drop, OnOk, IfErr};
-ghost use Rattle.lfs_device.specs.Calls.{TellsFaults};
+ghost use Rattle.std.specs.Prelude.{◌≡◌, ◌≤◌, ◌+◌, ◌++◌, length, max, drop, OnOk};
 ghost use Rattle.lfs_model.specs.BlockSets.{in_flight_count, used_count};
 ghost use Rattle.lfs_model.specs.SkipLists.{blocks_for, bytes_of};
-ghost use Rattle.lfs_ctz.specs.Extended.{geometry_of, growing_of};
-ghost use Rattle.lfs_ctz.specs.Growing.{IsGrowing, kept_of, pending_of};
+ghost use Rattle.lfs_ctz.specs.Calls.{TellsMemory};
+ghost use Rattle.lfs_ctz.specs.Growing.{IsGrowing, kept_of, pending_of, content_of, end_of};
 ghost use Rattle.lfs_writer.specs.Apart.{IsMarked};
 ghost use Rattle.lfs_writer.specs.Based.{IsBeside};
 ghost use Rattle.lfs_writer.specs.Calls.{LeavesApart};
-ghost use Rattle.lfs_writer.specs.Extended.{IsExtended, IsOwn, bytes_in_hand, end_of};
+ghost use Rattle.lfs_writer.specs.Extended.{IsExtended, IsOwn};
 ghost use Rattle.lfs_writer.specs.Taken.{Keeps};
 
 use crate::extending::extend;
@@ -31,19 +30,18 @@ pub(crate) fn copy_rest<D: BlockDevice>(
     head: u32,
     size: u32,
 ) -> Result<(), Error>
-    requires growing { IsGrowing (D.blocks dev.old) (growing_of list.old) }
-    requires geometry { D.geometry dev.old ≡ geometry_of list.old }
-    requires marked { IsMarked map.old (D.blocks dev.old) (growing_of list.old) }
+    requires growing { IsGrowing (D.blocks dev.old) list.old }
+    requires geometry { D.geometry dev.old ≡ list.old.geometry }
+    requires marked { IsMarked map.old (D.blocks dev.old) list.old }
     requires own { IsOwn (D.blocks dev.old) list.old }
-    requires base { IsBeside map.old (pending_of (growing_of list.old)) (D.blocks dev.old) (geometry_of list.old).block_size head size }
-    requires room { used_count map.old + in_flight_count map.old + blocks_for (geometry_of list.old).block_size size ≤ length map.old + length (kept_of (D.blocks dev.old) (growing_of list.old)) }
+    requires base { IsBeside map.old (pending_of list.old) (D.blocks dev.old) list.old.geometry.block_size head size }
+    requires room { used_count map.old + in_flight_count map.old + blocks_for list.old.geometry.block_size size ≤ length map.old + length (kept_of (D.blocks dev.old) list.old) }
     ensures extended { OnOk result (IsExtended map.old (D.blocks dev.old) list.old
-        (bytes_in_hand (D.blocks dev.old) list.old ++ drop (end_of list.old) (bytes_of (D.blocks dev.old) (geometry_of list.old).block_size head size))
+        (content_of (D.blocks dev.old) list.old ++ drop (end_of list.old) (bytes_of (D.blocks dev.old) list.old.geometry.block_size head size))
         (max (end_of list.old) size) map.new (D.blocks dev.new) list.new) }
     ensures map { Keeps map.old map.new }
-    ensures device { LeavesApart D.BlockDevice map.old (pending_of (growing_of list.old)) dev.old dev.new }
-    ensures faults { TellsFaults D.BlockDevice dev.old dev.new result }
-    ensures errors { IfErr result (λ e. (e ≡ Error.Io) ⊎ (e ≡ Error.NoMemory)) }
+    ensures device { LeavesApart D.BlockDevice map.old (pending_of list.old) dev.old dev.new }
+    ensures tells { TellsMemory D.BlockDevice dev.old dev.new result }
 {
     let mut chunk = [0; 512];
     'copying: while list.size() < size {

@@ -1,7 +1,8 @@
 // Finished lists that are cut.
 
-ghost use Rattle.std.specs.Prelude.{◌≡◌, ◌≤◌, take, OnOk, IfOk, IfErr};
-ghost use Rattle.lfs_device.specs.Calls.{ReadsOnly, TellsFaults};
+ghost use Rattle.std.specs.Prelude.{◌≡◌, ◌≤◌, take, OnOk, IfOk};
+ghost use Rattle.lfs_device.specs.Calls.{ReadsOnly};
+ghost use Rattle.lfs_ctz.specs.Calls.{TellsIo};
 ghost use Rattle.lfs_writer.specs.Hand.{IsStored, KeepsUsed, stored_bytes};
 ghost use Rattle.lfs_writer.specs.Written.{HasEnded};
 ghost use Rattle.lfs_writer.specs.Owned.{IsFrontOf};
@@ -30,8 +31,7 @@ pub(crate) fn cut_list<D: BlockDevice>(
     ensures front { IfOk result (IsFrontOf (D.geometry dev.old).block_size (D.blocks dev.old) stored (D.blocks dev.new)) }
     ensures map { KeepsUsed map.old map.new }
     ensures device { ReadsOnly D.BlockDevice dev.old dev.new }
-    ensures faults { TellsFaults D.BlockDevice dev.old dev.new result }
-    ensures errors { IfErr result (λ e. e ≡ Error.Io) }
+    ensures tells { TellsIo D.BlockDevice dev.old dev.new result }
 {
     let head = cut(dev, stored.head, stored.size, keep)?;
     let count = blocks_for(dev.geometry().block_size, keep);

@@ -1,14 +1,13 @@
 // Lists in hand that grow by blocks of the map.
 
-ghost use Rattle.std.specs.Prelude.{◌≡◌, ◌≤◌, ◌<◌, ◌+◌, ◌++◌, ◌^◌, ◌⊎◌, ℕ, length, OnOk, IfErr};
-ghost use Rattle.lfs_device.specs.Calls.{TellsFaults};
+ghost use Rattle.std.specs.Prelude.{◌≡◌, ◌≤◌, ◌<◌, ◌+◌, ◌++◌, ◌^◌, ℕ, length, OnOk};
 ghost use Rattle.lfs_model.specs.BlockSets.{in_flight_count, used_count};
 ghost use Rattle.lfs_model.specs.SkipLists.{blocks_for};
-ghost use Rattle.lfs_ctz.specs.Extended.{geometry_of, growing_of};
-ghost use Rattle.lfs_ctz.specs.Growing.{IsGrowing, kept_of, pending_of};
+ghost use Rattle.lfs_ctz.specs.Calls.{TellsMemory};
+ghost use Rattle.lfs_ctz.specs.Growing.{IsGrowing, kept_of, pending_of, content_of, end_of};
 ghost use Rattle.lfs_writer.specs.Apart.{IsMarked};
 ghost use Rattle.lfs_writer.specs.Calls.{LeavesApart};
-ghost use Rattle.lfs_writer.specs.Extended.{IsExtended, bytes_in_hand, end_of};
+ghost use Rattle.lfs_writer.specs.Extended.{IsExtended};
 ghost use Rattle.lfs_writer.specs.Taken.{Keeps};
 
 use crate::taking::take_blocks;
@@ -29,20 +28,19 @@ pub(crate) fn extend<D: BlockDevice>(
     list: &mut Extender,
     bytes: &[u8],
 ) -> Result<(), Error>
-    requires growing { IsGrowing (D.blocks dev.old) (growing_of list.old) }
-    requires geometry { D.geometry dev.old ≡ geometry_of list.old }
+    requires growing { IsGrowing (D.blocks dev.old) list.old }
+    requires geometry { D.geometry dev.old ≡ list.old.geometry }
     requires some { 1 ≤ length bytes.now }
     requires small { end_of list.old + length bytes.now < 2 ^ 31 }
-    requires marked { IsMarked map.old (D.blocks dev.old) (growing_of list.old) }
-    requires room { used_count map.old + in_flight_count map.old + blocks_for (geometry_of list.old).block_size (end_of list.old + length bytes.now)
-        ≤ length map.old + length (kept_of (D.blocks dev.old) (growing_of list.old)) }
+    requires marked { IsMarked map.old (D.blocks dev.old) list.old }
+    requires room { used_count map.old + in_flight_count map.old + blocks_for list.old.geometry.block_size (end_of list.old + length bytes.now)
+        ≤ length map.old + length (kept_of (D.blocks dev.old) list.old) }
     ensures extended { OnOk result (IsExtended map.old (D.blocks dev.old) list.old
-        (bytes_in_hand (D.blocks dev.old) list.old ++ bytes.now) (end_of list.old + length bytes.now) map.new (D.blocks dev.new) list.new) }
+        (content_of (D.blocks dev.old) list.old ++ bytes.now) (end_of list.old + length bytes.now) map.new (D.blocks dev.new) list.new) }
     // No block that was used or in flight changes, but the list's one that waited for more bytes.
     ensures map { Keeps map.old map.new }
-    ensures device { LeavesApart D.BlockDevice map.old (pending_of (growing_of list.old)) dev.old dev.new }
-    ensures faults { TellsFaults D.BlockDevice dev.old dev.new result }
-    ensures errors { IfErr result (λ e. (e ≡ Error.Io) ⊎ (e ≡ Error.NoMemory)) }
+    ensures device { LeavesApart D.BlockDevice map.old (pending_of list.old) dev.old dev.new }
+    ensures tells { TellsMemory D.BlockDevice dev.old dev.new result }
 {
     let count = list.needed(bytes.len() as u32);
     let blocks = take_blocks(alloc, map, count)?;

@@ -1,10 +1,10 @@
 // Contents that are finished for a commit, or given up.
 
-ghost use Rattle.std.specs.Prelude.{◌≡◌, ◌≤◌, ◌+◌, ◌⊎◌, ℕ, length, OnOk, IfOk, IfErr};
-ghost use Rattle.lfs_device.specs.Calls.{TellsFaults};
-ghost use Rattle.lfs_model.specs.BlockSets.{IsInFlight, used_count};
+ghost use Rattle.std.specs.Prelude.{ℕ, OnOk, IfOk};
+ghost use Rattle.lfs_model.specs.BlockSets.{IsInFlight};
+ghost use Rattle.lfs_ctz.specs.Calls.{TellsMemory};
 ghost use Rattle.lfs_writer.specs.Calls.{LeavesUsed};
-ghost use Rattle.lfs_writer.specs.Contents.{HasContents, Stands, bytes_in, end_room, finished, form_of};
+ghost use Rattle.lfs_writer.specs.Contents.{CanFinishContents, HasContents, bytes_in, finished, form_of};
 ghost use Rattle.lfs_writer.specs.Hand.{KeepsUsed};
 ghost use Rattle.lfs_writer.specs.Owned.{AreOwned, blocks_held};
 
@@ -25,15 +25,13 @@ pub fn finish<D: BlockDevice>(
     map: &mut BlockMap,
     contents: Contents,
 ) -> Result<Contents, Error>
-    requires stands { Stands map.old (D.blocks dev.old) (D.geometry dev.old) contents }
-    requires room { used_count map.old + end_room (D.geometry dev.old).block_size (form_of contents) ≤ length map.old }
+    requires { CanFinishContents map.old (D.blocks dev.old) (D.geometry dev.old) contents }
     ensures finished { IfOk result (λ c. HasContents map.new (D.blocks dev.new) (D.geometry dev.old) c
         (bytes_in (D.blocks dev.old) (D.geometry dev.old).block_size contents) (finished (form_of contents))) }
     ensures owned { IfOk result (λ c. AreOwned map.new (blocks_held (D.blocks dev.old) (D.geometry dev.old).block_size contents) (blocks_held (D.blocks dev.new) (D.geometry dev.old).block_size c)) }
     ensures map { KeepsUsed map.old map.new }
     ensures device { LeavesUsed D.BlockDevice map.old dev.old dev.new }
-    ensures faults { TellsFaults D.BlockDevice dev.old dev.new result }
-    ensures errors { IfErr result (λ e. (e ≡ Error.Io) ⊎ (e ≡ Error.NoMemory)) }
+    ensures tells { TellsMemory D.BlockDevice dev.old dev.new result }
 {
     match contents {
         Contents::InMemory(list) => Ok(Contents::InMemory(list)),

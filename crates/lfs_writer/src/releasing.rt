@@ -1,8 +1,9 @@
 // Blocks in flight that are given back.
 
-ghost use Rattle.std.specs.Prelude.{◌≡◌, ◌≤◌, ◌<◌, ◌∷◌, [], length, drop, OnOk, IfErr};
-ghost use Rattle.lfs_device.specs.Calls.{ReadsOnly, TellsFaults};
+ghost use Rattle.std.specs.Prelude.{◌≡◌, ◌≤◌, ◌<◌, ◌∷◌, [], length, drop, OnOk};
+ghost use Rattle.lfs_device.specs.Calls.{ReadsOnly};
 ghost use Rattle.lfs_model.specs.SkipLists.{AreListBlocks, blocks_back};
+ghost use Rattle.lfs_ctz.specs.Calls.{TellsIo};
 ghost use Rattle.lfs_writer.specs.Hand.{KeepsUsed};
 ghost use Rattle.lfs_writer.specs.Released.{Releases};
 
@@ -37,8 +38,7 @@ pub(crate) fn release_from<D: BlockDevice>(
     ensures released { OnOk result (Releases map.old map.new (drop from (blocks_back (D.blocks dev.old) count head))) }
     ensures map { KeepsUsed map.old map.new }
     ensures device { ReadsOnly D.BlockDevice dev.old dev.new }
-    ensures faults { TellsFaults D.BlockDevice dev.old dev.new result }
-    ensures errors { IfErr result (λ e. e ≡ Error.Io) }
+    ensures tells { TellsIo D.BlockDevice dev.old dev.new result }
 {
     let mut block = head;
     let mut index = count;

@@ -1,11 +1,12 @@
 // Lists that a commit names.
 
-ghost use Rattle.std.specs.Prelude.{◌≡◌, ◌<◌, ◌∷◌, ◌++◌, [], length, OnOk, IfErr};
-ghost use Rattle.lfs_device.specs.Calls.{ReadsOnly, TellsFaults};
-ghost use Rattle.lfs_model.specs.BlockSets.{Free, Used};
+ghost use Rattle.std.specs.Prelude.{◌≡◌, ◌<◌, ◌∷◌, ◌++◌, [], length, OnOk};
+ghost use Rattle.lfs_device.specs.Calls.{ReadsOnly};
+ghost use Rattle.lfs_model.specs.BlockSets.{Used};
 ghost use Rattle.lfs_model.specs.SkipLists.{AreListBlocks, blocks_back};
+ghost use Rattle.lfs_ctz.specs.Calls.{TellsIo};
 ghost use Rattle.lfs_writer.specs.Based.{IsBase, list_blocks};
-ghost use Rattle.lfs_writer.specs.Settled.{IsSettled, KeepsOthers, Puts};
+ghost use Rattle.lfs_writer.specs.Settled.{IsSettled, KeepsOthers, Puts, settled_as};
 
 use crate::stored::Stored;
 use lfs_alloc::BlockMap;
@@ -24,50 +25,37 @@ fn use_one(map: &mut BlockMap, block: u32)
     map.mark(block);
 }
 
-// Makes each block of a list free, the last one first.
-fn free_blocks<D: BlockDevice>(
-    dev: &mut D,
-    map: &mut BlockMap,
-    head: u32,
-    count: u32,
-) -> Result<(), Error>
-    requires chain { AreListBlocks (D.blocks dev.old) count head }
-    requires map { length map.old ≡ length (D.blocks dev.old) }
-    ensures freed { OnOk result (Puts Free map.old map.new (blocks_back (D.blocks dev.old) count head)) }
-    ensures others { KeepsOthers map.old map.new (blocks_back (D.blocks dev.old) count head) }
-    ensures device { ReadsOnly D.BlockDevice dev.old dev.new }
-    ensures faults { TellsFaults D.BlockDevice dev.old dev.new result }
-    ensures errors { IfErr result (λ e. e ≡ Error.Io) }
+// Makes a block used, or free.
+fn put_one(map: &mut BlockMap, block: u32, used: bool)
+    requires { block < length map.old }
+    ensures { Puts (settled_as used) map.old map.new (block ∷ []) }
 {
-    let mut block = head;
-    let mut index = count;
-    'freeing: while index > 0 {
-        map.release(block);
-        index -= 1;
-        block = head_before(dev, block, index)?;
+    if used {
+        use_one(map, block);
+        return;
     }
-    Ok(())
+    map.release(block);
 }
 
-// Makes each block of a list used, the last one first.
-fn use_blocks<D: BlockDevice>(
+// Makes each block of a list used, or free, the last one first.
+fn put_blocks<D: BlockDevice>(
     dev: &mut D,
     map: &mut BlockMap,
     head: u32,
     count: u32,
+    used: bool,
 ) -> Result<(), Error>
     requires chain { AreListBlocks (D.blocks dev.old) count head }
     requires map { length map.old ≡ length (D.blocks dev.old) }
-    ensures used { OnOk result (Puts Used map.old map.new (blocks_back (D.blocks dev.old) count head)) }
+    ensures put { OnOk result (Puts (settled_as used) map.old map.new (blocks_back (D.blocks dev.old) count head)) }
     ensures others { KeepsOthers map.old map.new (blocks_back (D.blocks dev.old) count head) }
     ensures device { ReadsOnly D.BlockDevice dev.old dev.new }
-    ensures faults { TellsFaults D.BlockDevice dev.old dev.new result }
-    ensures errors { IfErr result (λ e. e ≡ Error.Io) }
+    ensures tells { TellsIo D.BlockDevice dev.old dev.new result }
 {
     let mut block = head;
     let mut index = count;
-    'using: while index > 0 {
-        use_one(map, block);
+    'putting: while index > 0 {
+        put_one(map, block, used);
         index -= 1;
         block = head_before(dev, block, index)?;
     }
@@ -93,13 +81,12 @@ pub fn settle_list<D: BlockDevice>(
     ensures others { KeepsOthers map.old map.new (list_blocks (D.blocks dev.old) (D.geometry dev.old).block_size before.head before.size
         ++ list_blocks (D.blocks dev.old) (D.geometry dev.old).block_size stored.head stored.size) }
     ensures device { ReadsOnly D.BlockDevice dev.old dev.new }
-    ensures faults { TellsFaults D.BlockDevice dev.old dev.new result }
-    ensures errors { IfErr result (λ e. e ≡ Error.Io) }
+    ensures tells { TellsIo D.BlockDevice dev.old dev.new result }
 {
     let block_size = dev.geometry().block_size;
     let gone = blocks_for(block_size, before.size);
-    free_blocks(dev, map, before.head, gone)?;
+    put_blocks(dev, map, before.head, gone, false)?;
     let kept = blocks_for(block_size, stored.size);
-    use_blocks(dev, map, stored.head, kept)?;
+    put_blocks(dev, map, stored.head, kept, true)?;
     Ok(())
 }

@@ -1,13 +1,14 @@
 // Contents that get another size.
 
-ghost use Rattle.std.specs.Prelude.{◌≡◌, ◌≢◌, ◌≤◌, ◌<◌, ◌+◌, ◌*◌, ◌^◌, ◌⊎◌, length, take, true, false, OnOk, IfOk, IfErr};
-ghost use Rattle.lfs_device.specs.Calls.{ReadsOnly, TellsFaults};
+ghost use Rattle.std.specs.Prelude.{◌≡◌, ◌≢◌, ◌≤◌, ◌<◌, ◌+◌, ◌*◌, ◌^◌, length, take, true, false, OnOk, IfOk};
+ghost use Rattle.lfs_device.specs.Calls.{ReadsOnly};
 ghost use Rattle.lfs_model.specs.BlockSets.{used_count};
 ghost use Rattle.lfs_model.specs.SkipLists.{blocks_for};
 ghost use Rattle.lfs_model.specs.Writers.{zeros_to};
+ghost use Rattle.lfs_ctz.specs.Calls.{TellsMemory};
+ghost use Rattle.lfs_ctz.specs.Growing.{end_of};
 ghost use Rattle.lfs_writer.specs.Calls.{LeavesUsed};
-ghost use Rattle.lfs_writer.specs.Contents.{HasContents, IsLarge, IsQuiet, NeedsRoom, Stands, bytes_in, form_of, held_bytes, truncate_room};
-ghost use Rattle.lfs_writer.specs.Extended.{end_of};
+ghost use Rattle.lfs_writer.specs.Contents.{CanTruncateContents, HasContents, IsQuiet, bytes_in, form_of, held_bytes, truncate_room};
 ghost use Rattle.lfs_writer.specs.Form as form;
 ghost use Rattle.lfs_writer.specs.Form.{form_size, truncated};
 ghost use Rattle.lfs_writer.specs.Hand.{IsStored, KeepsUsed, stored_bytes};
@@ -46,8 +47,7 @@ fn fill_out<D: BlockDevice>(
     ensures base { IfOk result (λ h. (h.base.size ≡ 0) × (h.base.in_flight ≡ false)) }
     ensures map { KeepsUsed map.old map.new }
     ensures device { LeavesUsed D.BlockDevice map.old dev.old dev.new }
-    ensures faults { TellsFaults D.BlockDevice dev.old dev.new result }
-    ensures errors { IfErr result (λ e. (e ≡ Error.Io) ⊎ (e ≡ Error.NoMemory)) }
+    ensures tells { TellsMemory D.BlockDevice dev.old dev.new result }
 {
     let gap = size - list.size();
     let mut hand = over_none(list);
@@ -74,8 +74,7 @@ fn truncate_held<D: BlockDevice>(
     ensures owned { IfOk result (λ c. AreOwned map.new (blocks_held (D.blocks dev.old) (D.geometry dev.old).block_size (Contents.InMemory list)) (blocks_held (D.blocks dev.new) (D.geometry dev.old).block_size c)) }
     ensures map { KeepsUsed map.old map.new }
     ensures device { LeavesUsed D.BlockDevice map.old dev.old dev.new }
-    ensures faults { TellsFaults D.BlockDevice dev.old dev.new result }
-    ensures errors { IfErr result (λ e. (e ≡ Error.Io) ⊎ (e ≡ Error.NoMemory)) }
+    ensures tells { TellsMemory D.BlockDevice dev.old dev.new result }
 {
     if size > limit {
         let hand = fill_out(alloc, dev, map, list, size)?;
@@ -101,8 +100,7 @@ fn take_back<D: BlockDevice>(
     ensures bytes { IfOk result (λ list. held_bytes list ≡ take size (zeros_to size (stored_bytes (D.blocks dev.old) (D.geometry dev.old).block_size stored))) }
     ensures map { KeepsUsed map.old map.new }
     ensures device { ReadsOnly D.BlockDevice dev.old dev.new }
-    ensures faults { TellsFaults D.BlockDevice dev.old dev.new result }
-    ensures errors { IfErr result (λ e. (e ≡ Error.Io) ⊎ (e ≡ Error.NoMemory)) }
+    ensures tells { TellsMemory D.BlockDevice dev.old dev.new result }
 {
     let mut list = load(alloc, dev, stored, stored.size.min(size))?;
     list.put(size, &[]);
@@ -127,8 +125,7 @@ fn fill_over<D: BlockDevice>(
     ensures base { IfOk result (λ h. KeepsList (D.geometry dev.old).block_size (D.blocks dev.old) stored (D.blocks dev.new) h.base) }
     ensures map { KeepsUsed map.old map.new }
     ensures device { LeavesUsed D.BlockDevice map.old dev.old dev.new }
-    ensures faults { TellsFaults D.BlockDevice dev.old dev.new result }
-    ensures errors { IfErr result (λ e. (e ≡ Error.Io) ⊎ (e ≡ Error.NoMemory)) }
+    ensures tells { TellsMemory D.BlockDevice dev.old dev.new result }
 {
     let begun = begin_over(alloc, dev, stored, stored.size)?;
     let mut hand = begun;
@@ -154,8 +151,7 @@ fn truncate_stored<D: BlockDevice>(
     ensures owned { IfOk result (λ c. AreOwned map.new (blocks_held (D.blocks dev.old) (D.geometry dev.old).block_size (Contents.Finished stored)) (blocks_held (D.blocks dev.new) (D.geometry dev.old).block_size c)) }
     ensures map { KeepsUsed map.old map.new }
     ensures device { LeavesUsed D.BlockDevice map.old dev.old dev.new }
-    ensures faults { TellsFaults D.BlockDevice dev.old dev.new result }
-    ensures errors { IfErr result (λ e. (e ≡ Error.Io) ⊎ (e ≡ Error.NoMemory)) }
+    ensures tells { TellsMemory D.BlockDevice dev.old dev.new result }
 {
     if size == stored.size {
         return Ok(Contents::Finished(stored));
@@ -192,8 +188,7 @@ fn lengthen_hand<D: BlockDevice>(
     ensures over { IfOk result (TurnsOver map.new (D.geometry dev.old).block_size (D.blocks dev.old) hand (length_in hand) (D.blocks dev.new)) }
     ensures map { KeepsUsed map.old map.new }
     ensures device { LeavesUsed D.BlockDevice map.old dev.old dev.new }
-    ensures faults { TellsFaults D.BlockDevice dev.old dev.new result }
-    ensures errors { IfErr result (λ e. (e ≡ Error.Io) ⊎ (e ≡ Error.NoMemory)) }
+    ensures tells { TellsMemory D.BlockDevice dev.old dev.new result }
 {
     let length = hand.list.size().max(hand.base.size);
     let turned = turn_to(alloc, dev, map, hand, length)?;
@@ -221,8 +216,7 @@ fn shorten_hand<D: BlockDevice>(
     ensures owned { IfOk result (λ c. AreOwned map.new (blocks_held (D.blocks dev.old) (D.geometry dev.old).block_size (Contents.InHand hand)) (blocks_held (D.blocks dev.new) (D.geometry dev.old).block_size c)) }
     ensures map { KeepsUsed map.old map.new }
     ensures device { LeavesUsed D.BlockDevice map.old dev.old dev.new }
-    ensures faults { TellsFaults D.BlockDevice dev.old dev.new result }
-    ensures errors { IfErr result (λ e. (e ≡ Error.Io) ⊎ (e ≡ Error.NoMemory)) }
+    ensures tells { TellsMemory D.BlockDevice dev.old dev.new result }
 {
     let stored = end_hand(alloc, dev, map, hand)?;
     let cut = truncate_stored(alloc, dev, map, stored, limit, size)?;
@@ -248,8 +242,7 @@ fn truncate_hand<D: BlockDevice>(
     ensures owned { IfOk result (λ c. AreOwned map.new (blocks_held (D.blocks dev.old) (D.geometry dev.old).block_size (Contents.InHand hand)) (blocks_held (D.blocks dev.new) (D.geometry dev.old).block_size c)) }
     ensures map { KeepsUsed map.old map.new }
     ensures device { LeavesUsed D.BlockDevice map.old dev.old dev.new }
-    ensures faults { TellsFaults D.BlockDevice dev.old dev.new result }
-    ensures errors { IfErr result (λ e. (e ≡ Error.Io) ⊎ (e ≡ Error.NoMemory)) }
+    ensures tells { TellsMemory D.BlockDevice dev.old dev.new result }
 {
     let length = hand.list.size().max(hand.base.size);
     if size == length {
@@ -276,18 +269,13 @@ pub fn truncate_contents<D: BlockDevice>(
     limit: u32,
     size: u32,
 ) -> Result<Contents, Error>
-    requires stands { Stands map.old (D.blocks dev.old) (D.geometry dev.old) contents }
-    requires large { IsLarge limit (form_of contents) }
-    requires short { limit < (D.geometry dev.old).block_size }
-    requires small { size < 2 ^ 31 }
-    requires room { NeedsRoom limit size (form_of contents) → used_count map.old + truncate_room (D.geometry dev.old).block_size size (form_of contents) ≤ length map.old }
+    requires { CanTruncateContents map.old (D.blocks dev.old) (D.geometry dev.old) contents limit size }
     ensures truncated { IfOk result (λ c. HasContents map.new (D.blocks dev.new) (D.geometry dev.old) c
         (take size (zeros_to size (bytes_in (D.blocks dev.old) (D.geometry dev.old).block_size contents))) (truncated limit size (form_of contents))) }
     ensures owned { IfOk result (λ c. AreOwned map.new (blocks_held (D.blocks dev.old) (D.geometry dev.old).block_size contents) (blocks_held (D.blocks dev.new) (D.geometry dev.old).block_size c)) }
     ensures map { KeepsUsed map.old map.new }
     ensures device { LeavesUsed D.BlockDevice map.old dev.old dev.new }
-    ensures faults { TellsFaults D.BlockDevice dev.old dev.new result }
-    ensures errors { IfErr result (λ e. (e ≡ Error.Io) ⊎ (e ≡ Error.NoMemory)) }
+    ensures tells { TellsMemory D.BlockDevice dev.old dev.new result }
 {
     match contents {
         Contents::InMemory(list) => truncate_held(alloc, dev, map, list, limit, size),

@@ -1,12 +1,12 @@
 // Lists in hand that turn to another place.
 
-ghost use Rattle.std.specs.Prelude.{◌≡◌, ◌≢◌, ◌≤◌, ◌<◌, ◌+◌, ◌*◌, ◌^◌, ◌⊎◌, length, max, min, OnOk, IfOk, IfErr};
-ghost use Rattle.lfs_device.specs.Calls.{TellsFaults};
+ghost use Rattle.std.specs.Prelude.{◌≡◌, ◌≢◌, ◌≤◌, ◌<◌, ◌+◌, ◌*◌, ◌^◌, length, max, min, OnOk, IfOk};
 ghost use Rattle.lfs_model.specs.BlockSets.{used_count};
 ghost use Rattle.lfs_model.specs.SkipLists.{blocks_for};
 ghost use Rattle.lfs_model.specs.Writers.{written_into};
+ghost use Rattle.lfs_ctz.specs.Calls.{TellsMemory};
+ghost use Rattle.lfs_ctz.specs.Growing.{end_of};
 ghost use Rattle.lfs_writer.specs.Calls.{LeavesUsed};
-ghost use Rattle.lfs_writer.specs.Extended.{end_of};
 ghost use Rattle.lfs_writer.specs.Hand.{KeepsUsed};
 ghost use Rattle.lfs_writer.specs.Roomy.{base_blocks};
 ghost use Rattle.lfs_writer.specs.Written.{HasWritten, IsAt, IsGoing, TurnsOver, bytes_over, length_in};
@@ -38,8 +38,7 @@ pub(crate) fn turn_to<D: BlockDevice>(
     ensures over { IfOk result (TurnsOver map.new (D.geometry dev.old).block_size (D.blocks dev.old) hand place (D.blocks dev.new)) }
     ensures map { KeepsUsed map.old map.new }
     ensures device { LeavesUsed D.BlockDevice map.old dev.old dev.new }
-    ensures faults { TellsFaults D.BlockDevice dev.old dev.new result }
-    ensures errors { IfErr result (λ e. (e ≡ Error.Io) ⊎ (e ≡ Error.NoMemory)) }
+    ensures tells { TellsMemory D.BlockDevice dev.old dev.new result }
 {
     if hand.list.size() == place {
         return Ok(hand);
@@ -74,8 +73,7 @@ pub(crate) fn write_turned<D: BlockDevice>(
     ensures over { IfOk result (TurnsOver map.new (D.geometry dev.old).block_size (D.blocks dev.old) hand (min place (length_in hand)) (D.blocks dev.new)) }
     ensures map { KeepsUsed map.old map.new }
     ensures device { LeavesUsed D.BlockDevice map.old dev.old dev.new }
-    ensures faults { TellsFaults D.BlockDevice dev.old dev.new result }
-    ensures errors { IfErr result (λ e. (e ≡ Error.Io) ⊎ (e ≡ Error.NoMemory)) }
+    ensures tells { TellsMemory D.BlockDevice dev.old dev.new result }
 {
     let length = hand.list.size().max(hand.base.size);
     let turned = turn_to(alloc, dev, map, hand, place.min(length))?;

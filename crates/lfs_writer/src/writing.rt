@@ -1,12 +1,12 @@
 // Bytes that are written at a place.
 
-ghost use Rattle.std.specs.Prelude.{◌≡◌, ◌≤◌, ◌<◌, ◌+◌, ◌^◌, ◌⊎◌, length, min, OnOk, IfErr};
-ghost use Rattle.lfs_device.specs.Calls.{TellsFaults};
+ghost use Rattle.std.specs.Prelude.{◌≡◌, ◌≤◌, ◌<◌, ◌+◌, ◌^◌, length, min, OnOk};
 ghost use Rattle.lfs_model.specs.BlockSets.{used_count};
 ghost use Rattle.lfs_model.specs.SkipLists.{blocks_for};
 ghost use Rattle.lfs_model.specs.Writers.{written_into};
+ghost use Rattle.lfs_ctz.specs.Calls.{TellsMemory};
+ghost use Rattle.lfs_ctz.specs.Growing.{end_of};
 ghost use Rattle.lfs_writer.specs.Calls.{LeavesUsed};
-ghost use Rattle.lfs_writer.specs.Extended.{end_of};
 ghost use Rattle.lfs_writer.specs.Hand.{KeepsUsed};
 ghost use Rattle.lfs_writer.specs.Roomy.{base_blocks};
 ghost use Rattle.lfs_writer.specs.Written.{HasBegun, HasWritten, bytes_over, length_in};
@@ -51,8 +51,7 @@ pub(crate) fn write_on<D: BlockDevice>(
     ensures base { KeepsList (D.geometry dev.old).block_size (D.blocks dev.old) hand.old.base (D.blocks dev.new) hand.new.base }
     ensures map { KeepsUsed map.old map.new }
     ensures device { LeavesUsed D.BlockDevice map.old dev.old dev.new }
-    ensures faults { TellsFaults D.BlockDevice dev.old dev.new result }
-    ensures errors { IfErr result (λ e. (e ≡ Error.Io) ⊎ (e ≡ Error.NoMemory)) }
+    ensures tells { TellsMemory D.BlockDevice dev.old dev.new result }
 {
     extend(alloc, dev, map, &mut hand.list, bytes)?;
     Ok(())
@@ -81,8 +80,7 @@ pub(crate) fn write_from<D: BlockDevice>(
     ensures base { KeepsList (D.geometry dev.old).block_size (D.blocks dev.old) hand.old.base (D.blocks dev.new) hand.new.base }
     ensures map { KeepsUsed map.old map.new }
     ensures device { LeavesUsed D.BlockDevice map.old dev.old dev.new }
-    ensures faults { TellsFaults D.BlockDevice dev.old dev.new result }
-    ensures errors { IfErr result (λ e. (e ≡ Error.Io) ⊎ (e ≡ Error.NoMemory)) }
+    ensures tells { TellsMemory D.BlockDevice dev.old dev.new result }
 {
     let gap = place - hand.list.size();
     write_zeros(alloc, dev, map, hand, gap)?;

@@ -38,7 +38,7 @@ block_is : (g : _) (c : goal.In_ok-prog g) → block_in (g.D.BlockDevice.blocks 
 block_is g c =
     let shape = g.met.D.BlockDevice.shape c.args.dev.now in
     let others = erased _ _ _ _ c.put_pointers.ensures.device.same c.erase.ensures.others in
-    block_in-written _ _ c.args.block c.args.end _ c.put_pointers.new.buf (omega (arith, shape.count, others.count, c.requires.in_device)) (omega (arith, c.put_pointers.auto.buf, c.requires.size, c.requires.room)) refl c.in_ok-prog.ensures.ok
+    block_in-written _ _ c.args.block c.args.end _ c.put_pointers.new.buf (omega (arith, shape.count, others.count, c.requires.follows.in_device)) (omega (arith, c.put_pointers.auto.buf, c.requires.size, c.requires.room)) refl c.in_ok-prog.ensures.ok
 
 points : (g : _) (c : goal.In_ok-prog g) → (k : ℕ) → k < pointers_of c.args.index → word_at (block_in (g.D.BlockDevice.blocks c.prog.new.self) c.args.block) (4 * k)
     ≡ slice_index (blocks_back (g.D.BlockDevice.blocks c.args.dev.now) c.args.index c.args.head) (c.args.index - 2 ^ k)
@@ -53,10 +53,10 @@ whole g c = SameBut-trans (erased _ _ _ _ c.put_pointers.ensures.device.same c.e
 pub returns-clause-appended : goal.returns-clause-appended
 returns-clause-appended g c =
     let shape = g.met.D.BlockDevice.shape c.args.dev.now in
-    let there : c.args.block < length (g.D.BlockDevice.blocks c.args.dev.now) = omega (arith, shape.count, c.requires.in_device) in
+    let there : c.args.block < length (g.D.BlockDevice.blocks c.args.dev.now) = omega (arith, shape.count, c.requires.follows.in_device) in
     record {
-      chain = chain_grown _ _ c.args.index c.args.head c.args.block c.requires.chain (omega arith) (whole g c) there c.requires.apart (points g c);
-      back = grown_back _ _ c.args.index c.args.head c.args.block c.requires.chain (omega arith) (whole g c) there c.requires.apart (points g c);
+      chain = chain_grown _ _ c.args.index c.args.head c.args.block c.requires.follows.chain (omega arith) (whole g c) there c.requires.follows.apart (points g c);
+      back = grown_back _ _ c.args.index c.args.head c.args.block c.requires.follows.chain (omega arith) (whole g c) there c.requires.follows.apart (points g c);
     }
 
 pub returns-clause-bytes : goal.returns-clause-bytes

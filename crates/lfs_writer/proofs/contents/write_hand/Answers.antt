@@ -1,5 +1,5 @@
 use Rattle.std.proofs.Common.{length, ap}
-use Rattle.lfs_writer.specs.Extended.{end_of}
+use Rattle.lfs_ctz.specs.Growing.{end_of}
 use Rattle.lfs_writer.proofs.Owning.{hand_owned, owned_right}
 use Rattle.lfs_writer.proofs.Forms.{written_hand}
 use Rattle.lfs_writer.proofs.contents.write_hand.Goals as goal

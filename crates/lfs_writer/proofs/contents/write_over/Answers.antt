@@ -15,10 +15,10 @@ returns-in_err-begun-clause-device g c = used_reads g.D.BlockDevice c.args.map.n
 pub returns-in_err-write_from-clause-device : goal.returns-in_err-write_from-clause-device
 returns-in_err-write_from-clause-device g c = used_on g.D.BlockDevice (KeepsUsed-refl c.args.map.now) (used_reads g.D.BlockDevice c.args.map.now c.begin_over.ensures.device) c.write_from.ensures.device
 
-pub returns-in_err-write_from-clause-faults : goal.returns-in_err-write_from-clause-faults
-returns-in_err-write_from-clause-faults g c =
+pub returns-in_err-write_from-clause-tells : goal.returns-in_err-write_from-clause-tells
+returns-in_err-write_from-clause-tells g c =
     let p = err_from_is_err_and c.from_residual-in_err-write_from.result c.from_residual-in_err-write_from.ensures.1 in
-    rw (p.1, p.2) (told_on g.D.BlockDevice (quiet g.D.BlockDevice c.in_ok-begun.ensures.faults) (told_as g.D.BlockDevice c.in_err-write_from.ensures.faults))
+    rw (p.1, p.2) (record { faults = told_on g.D.BlockDevice (quiet g.D.BlockDevice c.in_ok-begun.ensures.tells.faults) (told_as g.D.BlockDevice c.in_err-write_from.ensures.tells.faults); errors = c.in_err-write_from.ensures.tells.errors })
 
 pub returns-clause-device : goal.returns-clause-device
 returns-clause-device g c = used_on g.D.BlockDevice (KeepsUsed-refl c.args.map.now) (used_reads g.D.BlockDevice c.args.map.now c.begin_over.ensures.device) c.write_from.ensures.device

@@ -5,7 +5,6 @@ use Rattle.lfs_device.specs.declared.geometry.Geometry.{Geometry}
 use Rattle.lfs_model.specs.Blocks.{Blocks}
 use Rattle.lfs_model.specs.SkipLists.{blocks_for, bytes_of}
 use Rattle.lfs_model.proofs.ListSizes.{blocks_for-more}
-use Rattle.lfs_ctz.specs.Extended.{geometry_of, growing_of}
 use Rattle.lfs_ctz.specs.Growing.{content_of, kept_of, size_of}
 use Rattle.lfs_writer.proofs.Called.{apart_on, apart_read, apart_reads, not_read, quiet, told_as, told_on}
 use Rattle.lfs_writer.proofs.Copies.{grown_on, copied, listed, none_behind, read_bytes, sized, not_corrupt}
@@ -30,40 +29,38 @@ copying-init g c = record {
 pub returns-in_err-count-clause-device : goal.returns-in_err-count-clause-device
 returns-in_err-count-clause-device g c = apart_read g.D.BlockDevice c.copying.invariant.device c.read_at.ensures.reading.device
 
-pub returns-in_err-count-clause-errors : goal.returns-in_err-count-clause-errors
-returns-in_err-count-clause-errors g c =
+pub returns-in_err-count-clause-tells : goal.returns-in_err-count-clause-tells
+returns-in_err-count-clause-tells g c =
     let inv = c.copying.invariant in
     let test = c.copying-test.true in
     let p = err_from_is_err_and c.from_residual.result c.from_residual.ensures.1 in
-    rw (p.1, p.2) (not_corrupt {T = ℕ} _ c.in_err-count.ensures.reading.errors (λ is. c.in_err-count.ensures.corrupt is
-    (listed _ _ _ _ (geometry_of c.args.list.now) _ c.args.head c.args.size (inv.device.geometry ∙ c.requires.geometry) inv.device.spared c.requires.base.apart (omega arith) c.requires.base.base)))
-
-pub returns-in_err-count-clause-faults : goal.returns-in_err-count-clause-faults
-returns-in_err-count-clause-faults g c =
-    let p = err_from_is_err_and c.from_residual.result c.from_residual.ensures.1 in
-    rw (p.1, p.2) (told_on g.D.BlockDevice c.copying.invariant.quiet (told_as g.D.BlockDevice c.in_err-count.ensures.reading.faults))
+    rw (p.1, p.2) (record {
+      faults = told_on g.D.BlockDevice c.copying.invariant.quiet (told_as g.D.BlockDevice c.in_err-count.ensures.reading.faults);
+      errors = not_corrupt {T = ℕ} _ c.in_err-count.ensures.reading.errors (λ is. c.in_err-count.ensures.corrupt is
+          (listed _ _ _ _ c.args.list.now.geometry _ c.args.head c.args.size (inv.device.geometry ∙ c.requires.geometry) inv.device.spared c.requires.base.apart (omega arith) c.requires.base.base));
+    })
 
 pub returns-in_err-extend-clause-device : goal.returns-in_err-extend-clause-device
 returns-in_err-extend-clause-device g c =
     let inv = c.copying.invariant in
     apart_on g.D.BlockDevice inv.grown.apart (apart_read g.D.BlockDevice inv.device c.read_at.ensures.reading.device) c.extend.ensures.device
 
-pub returns-in_err-extend-clause-faults : goal.returns-in_err-extend-clause-faults
-returns-in_err-extend-clause-faults g c =
+pub returns-in_err-extend-clause-tells : goal.returns-in_err-extend-clause-tells
+returns-in_err-extend-clause-tells g c =
     let p = err_from_is_err_and c.from_residual-in_err-extend.result c.from_residual-in_err-extend.ensures.1 in
-    rw (p.1, p.2) (told_on g.D.BlockDevice (quiet g.D.BlockDevice c.in_ok-count.ensures.reading.faults ∙ c.copying.invariant.quiet) (told_as g.D.BlockDevice c.in_err-extend.ensures.faults))
+    rw (p.1, p.2) (record { faults = told_on g.D.BlockDevice (quiet g.D.BlockDevice c.in_ok-count.ensures.reading.faults ∙ c.copying.invariant.quiet) (told_as g.D.BlockDevice c.in_err-extend.ensures.tells.faults); errors = c.in_err-extend.ensures.tells.errors })
 
 pub extend-requires-clause-room : goal.extend-requires-clause-room
 extend-requires-clause-room g c =
     let inv = c.copying.invariant in
-    let geometry : Geometry = geometry_of c.args.list.now in
+    let geometry : Geometry = c.args.list.now.geometry in
     let block_size : ℕ = geometry.block_size in
-    let now = growing_of c.copying.list in
+    let now = c.copying.list in
     let n : ℕ = c.in_ok-count.count in
     let at = c.size-pos.ensures in
     let test = c.copying-test.true in
     let len = c.size.ensures in
-    let here = sized geometry (geometry_of c.copying.list) now inv.same in
+    let here = sized geometry c.copying.list.geometry now inv.same in
     let few = c.in_ok-count.ensures.count in
     let long : length (take n c.read_at.new.buf) ≡ n = length-take-le n c.read_at.new.buf (omega (arith, c.read_at.auto.buf, few)) in
     let more = blocks_for-more block_size (size_of block_size now + length (take n c.read_at.new.buf)) c.args.size (omega arith) in
@@ -78,17 +75,17 @@ extend-requires-clause-room g c =
 pub copying-preserved : goal.copying-preserved
 copying-preserved g c =
     let inv = c.copying.invariant in
-    let geometry : Geometry = geometry_of c.args.list.now in
+    let geometry : Geometry = c.args.list.now.geometry in
     let block_size : ℕ = geometry.block_size in
     let d : Blocks = g.D.BlockDevice.blocks c.args.dev.now in
     let base : List ℕ = bytes_of d block_size c.args.head c.args.size in
-    let now = growing_of c.copying.list in
-    let new = growing_of c.extend.new.list in
+    let now = c.copying.list in
+    let new = c.extend.new.list in
     let n : ℕ = c.in_ok-count.count in
     let pos : ℕ = c.size-pos.result in
     let more = c.in_ok-extend.ensures.extended in
-    let here = sized geometry (geometry_of c.copying.list) now inv.same in
-    let there = sized geometry (geometry_of c.extend.new.list) new (more.geometry ∙ inv.same) in
+    let here = sized geometry c.copying.list.geometry now inv.same in
+    let there = sized geometry c.extend.new.list.geometry new (more.geometry ∙ inv.same) in
     let at = c.size-pos.ensures in
     let sum = more.sum in
     let few = c.in_ok-count.ensures.count in
@@ -111,17 +108,17 @@ copying-preserved g c =
           ∙ copied (content_of (g.D.BlockDevice.blocks c.copying.dev) now) (take n c.read_at.new.buf) base pos n chunk
           ∙ ap (λ k. content_of (g.D.BlockDevice.blocks c.copying.dev) now ++ drop k base) (let k : pos ≡ size_of block_size now = omega arith in k)
           ∙ inv.bytes;
-      quiet = quiet g.D.BlockDevice c.in_ok-extend.ensures.faults ∙ quiet g.D.BlockDevice c.in_ok-count.ensures.reading.faults ∙ inv.quiet;
+      quiet = quiet g.D.BlockDevice c.in_ok-extend.ensures.tells.faults ∙ quiet g.D.BlockDevice c.in_ok-count.ensures.reading.faults ∙ inv.quiet;
     }
 
 pub returns-clause-extended : goal.returns-clause-extended
 returns-clause-extended g c =
     let inv = c.copying.invariant in
-    let geometry : Geometry = geometry_of c.args.list.now in
+    let geometry : Geometry = c.args.list.now.geometry in
     let block_size : ℕ = geometry.block_size in
     let d : Blocks = g.D.BlockDevice.blocks c.args.dev.now in
-    let now = growing_of c.copying.list in
-    let here = sized geometry (geometry_of c.copying.list) now inv.same in
+    let now = c.copying.list in
+    let here = sized geometry c.copying.list.geometry now inv.same in
     let test = c.copying-test.false in
     let len = c.size.ensures in
     let some = inv.some in

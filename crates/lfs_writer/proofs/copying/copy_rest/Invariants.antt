@@ -1,7 +1,6 @@
 use Rattle.std.proofs.Common.{◌≡◌, ◌≤◌, ◌++◌, ◌-◌, drop, max}
 use Rattle.lfs_model.specs.History.{faults}
 use Rattle.lfs_model.specs.SkipLists.{bytes_of}
-use Rattle.lfs_ctz.specs.Extended.{geometry_of, growing_of}
 use Rattle.lfs_ctz.specs.Growing.{IsGrowing, content_of, pending_of, size_of}
 use Rattle.lfs_writer.specs.Apart.{Grows, IsMarked}
 use Rattle.lfs_writer.specs.Calls.{LeavesApart}
@@ -11,15 +10,15 @@ use Rattle.lfs_writer.proofs.copying.copy_rest.Given as goal
 
 abbrev pub invariant-copying : goal.invariant-copying
 invariant-copying g l =
-    let was = growing_of l.fn.list in
-    let now = growing_of l.list in
-    let block_size = (geometry_of l.fn.list).block_size in
+    let was = l.fn.list in
+    let now = l.list in
+    let block_size = l.fn.list.geometry.block_size in
     let old = g.D.BlockDevice.blocks l.fn.dev in
     let new = g.D.BlockDevice.blocks l.dev in
     let base = bytes_of old block_size l.fn.head l.fn.size in
     record {
       growing : IsGrowing new now;
-      same : geometry_of l.list ≡ geometry_of l.fn.list;
+      same : l.list.geometry ≡ l.fn.list.geometry;
       grown : Grows l.fn.map old was l.map new now;
       marked : IsMarked l.map new now;
       map : Keeps l.fn.map l.map;
@@ -32,4 +31,4 @@ invariant-copying g l =
     }
 
 abbrev pub decreases-copying : goal.decreases-copying
-decreases-copying g l = l.fn.size - size_of (geometry_of l.list).block_size (growing_of l.list)
+decreases-copying g l = l.fn.size - size_of l.list.geometry.block_size l.list

@@ -2,7 +2,6 @@ use Rattle.std.proofs.Common.{◌≡◌, true, refl, sym, ap, ◌∙◌, subst, 
 use Rattle.lfs_device.specs.declared.geometry.Geometry.{Geometry}
 use Rattle.lfs_model.specs.Blocks.{Blocks}
 use Rattle.lfs_model.specs.SkipLists.{blocks_for, bytes_of}
-use Rattle.lfs_ctz.specs.Extended.{geometry_of, growing_of}
 use Rattle.lfs_ctz.specs.Growing.{pending_of}
 use Rattle.lfs_writer.specs.Hand.{IsStored}
 use Rattle.lfs_writer.specs.Roomy.{base_blocks}
@@ -20,28 +19,28 @@ pub copy_rest-requires-clause-room : goal.copy_rest-requires-clause-room
 copy_rest-requires-clause-room g c =
     let hand = c.args.hand in
     let going = c.requires.going in
-    let flying = begun_flying c.args.map.now (g.D.BlockDevice.blocks c.args.dev.now) (geometry_of hand.list).block_size (growing_of hand.list) hand.base hand.shared going.list.begun in
+    let flying = begun_flying c.args.map.now (g.D.BlockDevice.blocks c.args.dev.now) hand.list.geometry.block_size hand.list hand.base hand.shared going.list.begun in
     let room = c.requires.room in
     let some = ap (λ (k : Geometry). base_blocks k.block_size hand.base) going.geometry in
     let rest = ap (λ (k : Geometry). blocks_for k.block_size hand.base.size) going.geometry in
     omega arith
 
 pub returns-in_err-copy_rest-clause-device : goal.returns-in_err-copy_rest-clause-device
-returns-in_err-copy_rest-clause-device g c = used_of g.D.BlockDevice (growing_of c.args.hand.list) c.requires.going.list.begun.marked c.copy_rest.ensures.device
+returns-in_err-copy_rest-clause-device g c = used_of g.D.BlockDevice c.args.hand.list c.requires.going.list.begun.marked c.copy_rest.ensures.device
 
 pub returns-in_err-head-clause-device : goal.returns-in_err-head-clause-device
 returns-in_err-head-clause-device g c =
-    used_of g.D.BlockDevice (growing_of c.args.hand.list) c.requires.going.list.begun.marked
+    used_of g.D.BlockDevice c.args.hand.list c.requires.going.list.begun.marked
     (apart_on g.D.BlockDevice c.in_ok-copy_rest.ensures.extended.grown.apart c.copy_rest.ensures.device (apart_end g.D.BlockDevice _ c.finish.ensures.device))
 
 pub returns-in_err-release_base-clause-device : goal.returns-in_err-release_base-clause-device
 returns-in_err-release_base-clause-device g c =
-    used_read g.D.BlockDevice (used_of g.D.BlockDevice (growing_of c.args.hand.list) c.requires.going.list.begun.marked
+    used_read g.D.BlockDevice (used_of g.D.BlockDevice c.args.hand.list c.requires.going.list.begun.marked
     (apart_on g.D.BlockDevice c.in_ok-copy_rest.ensures.extended.grown.apart c.copy_rest.ensures.device (apart_end g.D.BlockDevice _ c.finish.ensures.device))) c.release_base.ensures.device
 
 pub returns-clause-device : goal.returns-clause-device
 returns-clause-device g c =
-    used_read g.D.BlockDevice (used_of g.D.BlockDevice (growing_of c.args.hand.list) c.requires.going.list.begun.marked
+    used_read g.D.BlockDevice (used_of g.D.BlockDevice c.args.hand.list c.requires.going.list.begun.marked
     (apart_on g.D.BlockDevice c.in_ok-copy_rest.ensures.extended.grown.apart c.copy_rest.ensures.device (apart_end g.D.BlockDevice _ c.finish.ensures.device))) c.release_base.ensures.device
 
 pub returns-clause-map : goal.returns-clause-map
@@ -53,12 +52,12 @@ release_base-requires-clause-base g c =
     let whole = extended_hand c.args.map.now c.copy_rest.new.map (g.D.BlockDevice.blocks c.args.dev.now) (g.D.BlockDevice.blocks c.copy_rest.new.dev) hand.list c.copy_rest.new.list hand.base hand.shared _ _
     c.requires.going.list.begun c.copy_rest.ensures.device.spared c.copy_rest.ensures.map c.in_ok-copy_rest.ensures.extended in
     let device = c.finish.ensures.device.geometry ∙ c.copy_rest.ensures.device.geometry ∙ c.requires.going.geometry in
-    base_end c.copy_rest.new.map (g.D.BlockDevice.blocks c.copy_rest.new.dev) _ (geometry_of hand.list) _ (growing_of c.copy_rest.new.list) hand.base hand.shared device whole c.finish.ensures.device.others
+    base_end c.copy_rest.new.map (g.D.BlockDevice.blocks c.copy_rest.new.dev) _ hand.list.geometry _ c.copy_rest.new.list hand.base hand.shared device whole c.finish.ensures.device.others
 
 pub returns-clause-ended : goal.returns-clause-ended
 returns-clause-ended g c =
     let hand = c.args.hand in
-    let geometry : Geometry = geometry_of hand.list in
+    let geometry : Geometry = hand.list.geometry in
     let now : Geometry = g.D.BlockDevice.geometry c.args.dev.now in
     let longer = c.copy_rest.new.list in
     let more = c.in_ok-copy_rest.ensures.extended in
@@ -67,7 +66,7 @@ returns-clause-ended g c =
     let whole = extended_hand c.args.map.now c.copy_rest.new.map (g.D.BlockDevice.blocks c.args.dev.now) (g.D.BlockDevice.blocks c.copy_rest.new.dev) hand.list longer hand.base hand.shared _ _
     c.requires.going.list.begun c.copy_rest.ensures.device.spared c.copy_rest.ensures.map more in
     let device = c.finish.ensures.device.geometry ∙ c.copy_rest.ensures.device.geometry ∙ is in
-    let stored = ends_by c.copy_rest.new.map c.release_base.new.map (g.D.BlockDevice.blocks c.copy_rest.new.dev) (g.D.BlockDevice.blocks c.finish.new.dev) geometry (geometry_of longer) _ (growing_of longer) hand.base hand.shared
+    let stored = ends_by c.copy_rest.new.map c.release_base.new.map (g.D.BlockDevice.blocks c.copy_rest.new.dev) (g.D.BlockDevice.blocks c.finish.new.dev) geometry longer.geometry _ longer hand.base hand.shared
     c.in_ok-head.head c.in_ok-head.size more.geometry device whole c.finish.ensures.device.others finished.list finished.blocks c.in_ok-release_base.ensures.released in
     let at : Blocks → Geometry → Type 0 = λ x k. IsStored c.release_base.new.map x k.block_size (record { head = c.in_ok-head.head; size = c.in_ok-head.size; in_flight = true }) in
     record {
@@ -81,7 +80,7 @@ returns-clause-ended g c =
 pub returns-clause-own : goal.returns-clause-own
 returns-clause-own g c =
     let hand = c.args.hand in
-    let geometry : Geometry = geometry_of hand.list in
+    let geometry : Geometry = hand.list.geometry in
     let now : Geometry = g.D.BlockDevice.geometry c.args.dev.now in
     let longer = c.copy_rest.new.list in
     let more = c.in_ok-copy_rest.ensures.extended in
@@ -90,8 +89,8 @@ returns-clause-own g c =
     let d = g.D.BlockDevice.blocks c.args.dev.now in
     let e = g.D.BlockDevice.blocks c.copy_rest.new.dev in
     let whole = extended_hand c.args.map.now c.copy_rest.new.map d e hand.list longer hand.base hand.shared _ _ going.list.begun c.copy_rest.ensures.device.spared c.copy_rest.ensures.map more in
-    ends_over c.copy_rest.new.map c.release_base.new.map d e (g.D.BlockDevice.blocks c.release_base.new.dev) geometry now (growing_of longer) hand.base hand.shared
+    ends_over c.copy_rest.new.map c.release_base.new.map d e (g.D.BlockDevice.blocks c.release_base.new.dev) geometry now longer hand.base hand.shared
     (record { head = c.in_ok-head.head; size = c.in_ok-head.size; in_flight = true }) going.geometry whole (after_release c.in_ok-release_base.ensures.released)
-    (blocks_stay c.args.map.now (pending_of (growing_of hand.list)) d e geometry.block_size hand.base.head hand.base.size c.copy_rest.ensures.device.spared going.list.begun.apart)
+    (blocks_stay c.args.map.now (pending_of hand.list) d e geometry.block_size hand.base.head hand.base.size c.copy_rest.ensures.device.spared going.list.begun.apart)
     (ap (λ x. list_blocks x geometry.block_size c.in_ok-head.head c.in_ok-head.size) c.release_base.ensures.device.same
     ∙ ap (λ (k : Geometry). list_blocks (g.D.BlockDevice.blocks c.finish.new.dev) k.block_size c.in_ok-head.head c.in_ok-head.size) (sym more.geometry) ∙ finished.blocks ∙ whole.own) refl

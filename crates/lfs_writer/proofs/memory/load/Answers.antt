@@ -3,8 +3,8 @@ use Rattle.std.proofs.lemmas.List.{length-take-le}
 use Rattle.std.proofs.lemmas.Result.{err_from_is_err_and}
 use Rattle.lfs_device.specs.declared.geometry.Geometry.{Geometry}
 use Rattle.lfs_model.specs.Blocks.{Blocks}
+use Rattle.lfs_ctz.specs.Growing.{end_of}
 use Rattle.lfs_writer.specs.Contents.{held_bytes}
-use Rattle.lfs_writer.specs.Extended.{end_of}
 use Rattle.lfs_writer.specs.Hand.{stored_bytes}
 use Rattle.lfs_writer.proofs.Called.{not_read, quiet, read_on, told_as, told_on}
 use Rattle.lfs_writer.proofs.Copies.{not_corrupt}
@@ -20,7 +20,7 @@ loading-init g c =
     let none = ap length c.hold.ensures.rest in
     let zero : end_of c.hold.new.self ≡ 0 = omega arith in
     record {
-      resting = record { geometry = sym ((c.hold.ensures.holds d).geometry ∙ (c.in_ok-list.ensures.started d).geometry ∙ c.geometry.ensures); held = c.hold.ensures.held };
+      resting = record { geometry = sym ((c.hold.ensures.holds d).geometry ∙ (c.in_ok-list.ensures.started.grown d).geometry ∙ c.geometry.ensures); held = c.hold.ensures.held };
       bytes = c.hold.ensures.rest ∙ sym (ap (λ n. take n (stored_bytes d now.block_size c.args.stored)) zero);
       few = omega arith;
       device = not_read g.D.BlockDevice c.args.dev.now;
@@ -62,17 +62,15 @@ loading-preserved g c =
 pub returns-in_err-count-clause-device : goal.returns-in_err-count-clause-device
 returns-in_err-count-clause-device g c = read_on g.D.BlockDevice c.loading.invariant.device c.read_at.ensures.reading.device
 
-pub returns-in_err-count-clause-faults : goal.returns-in_err-count-clause-faults
-returns-in_err-count-clause-faults g c =
-    let p = err_from_is_err_and c.from_residual-in_err-count.result c.from_residual-in_err-count.ensures.1 in
-    rw (p.1, p.2) (told_on g.D.BlockDevice c.loading.invariant.quiet (told_as g.D.BlockDevice c.in_err-count.ensures.reading.faults))
-
-pub returns-in_err-count-clause-errors : goal.returns-in_err-count-clause-errors
-returns-in_err-count-clause-errors g c =
+pub returns-in_err-count-clause-tells : goal.returns-in_err-count-clause-tells
+returns-in_err-count-clause-tells g c =
     let inv = c.loading.invariant in
     let d : Blocks = g.D.BlockDevice.blocks c.args.dev.now in
     let now : Geometry = g.D.BlockDevice.geometry c.args.dev.now in
     let test = c.loading-test.true in
     let p = err_from_is_err_and c.from_residual-in_err-count.result c.from_residual-in_err-count.ensures.1 in
-    rw (p.1, p.2) (not_corrupt {T = ℕ} _ c.in_err-count.ensures.reading.errors (λ is. c.in_err-count.ensures.corrupt is
-    (listed_on d (g.D.BlockDevice.blocks c.loading.dev) now (g.D.BlockDevice.geometry c.loading.dev) c.args.stored.head c.args.stored.size inv.device.same inv.device.geometry (let within = c.requires.within in omega arith) c.requires.base)))
+    rw (p.1, p.2) (record {
+      faults = told_on g.D.BlockDevice c.loading.invariant.quiet (told_as g.D.BlockDevice c.in_err-count.ensures.reading.faults);
+      errors = not_corrupt {T = ℕ} _ c.in_err-count.ensures.reading.errors (λ is. c.in_err-count.ensures.corrupt is
+          (listed_on d (g.D.BlockDevice.blocks c.loading.dev) now (g.D.BlockDevice.geometry c.loading.dev) c.args.stored.head c.args.stored.size inv.device.same inv.device.geometry (let within = c.requires.within in omega arith) c.requires.base));
+    })

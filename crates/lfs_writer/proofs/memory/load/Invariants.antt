@@ -1,8 +1,8 @@
 use Rattle.std.proofs.Common.{◌≡◌, ◌≤◌, ◌-◌, take}
 use Rattle.lfs_device.specs.Calls.{ReadsOnly}
 use Rattle.lfs_model.specs.History.{faults}
+use Rattle.lfs_ctz.specs.Growing.{end_of}
 use Rattle.lfs_writer.specs.Contents.{IsResting, held_bytes}
-use Rattle.lfs_writer.specs.Extended.{end_of}
 use Rattle.lfs_writer.specs.Hand.{stored_bytes}
 use Rattle.lfs_writer.proofs.memory.load.Given as goal
 

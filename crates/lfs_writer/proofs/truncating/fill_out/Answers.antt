@@ -2,8 +2,8 @@ use Rattle.std.proofs.Common.{◌≡◌, ◌+◌, ◌-◌, length, replicate, re
 use Rattle.lfs_device.specs.declared.geometry.Geometry.{Geometry}
 use Rattle.lfs_model.specs.Blocks.{Blocks}
 use Rattle.lfs_model.specs.Writers.{written_into}
+use Rattle.lfs_ctz.specs.Growing.{end_of}
 use Rattle.lfs_writer.specs.Contents.{held_bytes}
-use Rattle.lfs_writer.specs.Extended.{end_of}
 use Rattle.lfs_writer.specs.Written.{bytes_over}
 use Rattle.lfs_writer.proofs.Memories.{held_size, lengthened, no_base_fits}
 use Rattle.lfs_writer.proofs.truncating.fill_out.Goals as goal

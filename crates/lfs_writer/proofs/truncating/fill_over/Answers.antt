@@ -2,7 +2,7 @@ use Rattle.std.proofs.Common.{ℕ, ◌+◌, ◌-◌, List, refl, ap, ◌∙◌, 
 use Rattle.std.proofs.lemmas.Result.{err_from_is_err_and}
 use Rattle.lfs_device.specs.declared.geometry.Geometry.{Geometry}
 use Rattle.lfs_model.specs.Blocks.{Blocks}
-use Rattle.lfs_writer.specs.Extended.{end_of}
+use Rattle.lfs_ctz.specs.Growing.{end_of}
 use Rattle.lfs_writer.specs.Hand.{stored_bytes}
 use Rattle.lfs_writer.specs.Written.{IsGoing, bytes_over}
 use Rattle.lfs_writer.proofs.Owning.{list_from}
@@ -26,10 +26,10 @@ returns-in_err-begun-clause-device g c = used_reads g.D.BlockDevice c.args.map.n
 pub returns-in_err-write_zeros-clause-device : goal.returns-in_err-write_zeros-clause-device
 returns-in_err-write_zeros-clause-device g c = used_on g.D.BlockDevice (KeepsUsed-refl c.args.map.now) (used_reads g.D.BlockDevice c.args.map.now c.begin_over.ensures.device) c.write_zeros.ensures.device
 
-pub returns-in_err-write_zeros-clause-faults : goal.returns-in_err-write_zeros-clause-faults
-returns-in_err-write_zeros-clause-faults g c =
+pub returns-in_err-write_zeros-clause-tells : goal.returns-in_err-write_zeros-clause-tells
+returns-in_err-write_zeros-clause-tells g c =
     let p = err_from_is_err_and c.from_residual-in_err-write_zeros.result c.from_residual-in_err-write_zeros.ensures.1 in
-    rw (p.1, p.2) (told_on g.D.BlockDevice (quiet g.D.BlockDevice c.in_ok-begun.ensures.faults) (told_as g.D.BlockDevice c.in_err-write_zeros.ensures.faults))
+    rw (p.1, p.2) (record { faults = told_on g.D.BlockDevice (quiet g.D.BlockDevice c.in_ok-begun.ensures.tells.faults) (told_as g.D.BlockDevice c.in_err-write_zeros.ensures.tells.faults); errors = c.in_err-write_zeros.ensures.tells.errors })
 
 pub returns-clause-device : goal.returns-clause-device
 returns-clause-device g c = used_on g.D.BlockDevice (KeepsUsed-refl c.args.map.now) (used_reads g.D.BlockDevice c.args.map.now c.begin_over.ensures.device) c.write_zeros.ensures.device

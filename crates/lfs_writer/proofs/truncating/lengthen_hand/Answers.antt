@@ -3,8 +3,7 @@ use Rattle.lfs_device.specs.declared.geometry.Geometry.{Geometry}
 use Rattle.lfs_model.specs.Blocks.{Blocks}
 use Rattle.lfs_model.specs.SkipLists.{blocks_for}
 use Rattle.lfs_model.proofs.ListSizes.{blocks_for-more}
-use Rattle.lfs_ctz.specs.Extended.{geometry_of, growing_of}
-use Rattle.lfs_writer.specs.Extended.{end_of}
+use Rattle.lfs_ctz.specs.Growing.{end_of}
 use Rattle.lfs_writer.specs.Written.{IsGoing, bytes_over, length_in}
 use Rattle.std.proofs.lemmas.Result.{err_from_is_err_and}
 use Rattle.lfs_writer.proofs.Owning.{owned_kept}
@@ -50,7 +49,7 @@ write_zeros-requires-clause-room g c =
 pub returns-clause-lengthened : goal.returns-clause-lengthened
 returns-clause-lengthened g c =
     let hand = c.args.hand in
-    let geometry : Geometry = geometry_of hand.list in
+    let geometry : Geometry = hand.list.geometry in
     let d : Blocks = g.D.BlockDevice.blocks c.args.dev.now in
     let going = c.requires.going in
     let len : c.max-length.result ≡ length_in hand = (let s = c.size.ensures in let l = c.max-length.ensures in omega arith) in
@@ -59,17 +58,17 @@ returns-clause-lengthened g c =
     let sum = at.size in
     let zeroed = c.in_ok-write_zeros.ensures.zeroed in
     let end = zeroed.at.size in
-    let all = length-hand d geometry.block_size (g.D.BlockDevice.geometry c.args.dev.now).block_count (growing_of hand.list) hand.base geometry.valid.no_smaller (shaped d _ _ going.geometry (g.met.D.BlockDevice.shape c.args.dev.now)) going.list.begun.growing going.list.begun.list in
+    let all = length-hand d geometry.block_size (g.D.BlockDevice.geometry c.args.dev.now).block_count hand.list hand.base geometry.valid.no_smaller (shaped d _ _ going.geometry (g.met.D.BlockDevice.shape c.args.dev.now)) going.list.begun.growing going.list.begun.list in
     record {
       going = subst (λ (k : Geometry). IsGoing c.write_zeros.new.map (g.D.BlockDevice.blocks c.write_zeros.new.dev) k c.write_zeros.new.hand) c.turn_to.ensures.device.geometry (zeroed.going (omega arith));
       size = omega arith;
       bytes = lengthened (bytes_over d hand) _ _ c.max-length.result _ c.args.size (all ∙ sym len) (omega arith) at.bytes sum zeroed.at.bytes;
     }
 
-pub returns-in_err-write_zeros-clause-faults : goal.returns-in_err-write_zeros-clause-faults
-returns-in_err-write_zeros-clause-faults g c =
+pub returns-in_err-write_zeros-clause-tells : goal.returns-in_err-write_zeros-clause-tells
+returns-in_err-write_zeros-clause-tells g c =
     let p = err_from_is_err_and c.from_residual-in_err-write_zeros.result c.from_residual-in_err-write_zeros.ensures.1 in
-    rw (p.1, p.2) (told_on g.D.BlockDevice (quiet g.D.BlockDevice c.in_ok-turned.ensures.faults) (told_as g.D.BlockDevice c.in_err-write_zeros.ensures.faults))
+    rw (p.1, p.2) (record { faults = told_on g.D.BlockDevice (quiet g.D.BlockDevice c.in_ok-turned.ensures.tells.faults) (told_as g.D.BlockDevice c.in_err-write_zeros.ensures.tells.faults); errors = c.in_err-write_zeros.ensures.tells.errors })
 
 pub returns-clause-over : goal.returns-clause-over
 returns-clause-over g c =

@@ -1,8 +1,7 @@
 use Rattle.std.proofs.Common.{◌≡◌, sym, ap, ◌∙◌, arith}
 use Rattle.lfs_device.specs.declared.geometry.Geometry.{Geometry}
 use Rattle.lfs_model.specs.Blocks.{Blocks}
-use Rattle.lfs_ctz.specs.Extended.{geometry_of, growing_of}
-use Rattle.lfs_writer.specs.Extended.{end_of}
+use Rattle.lfs_ctz.specs.Growing.{end_of}
 use Rattle.lfs_writer.specs.Form.{InHand}
 use Rattle.lfs_writer.specs.Written.{bytes_over, length_in}
 use Rattle.lfs_writer.proofs.Owning.{hand_owned, owned_right}
@@ -13,12 +12,12 @@ use Rattle.lfs_writer.proofs.truncating.truncate_hand.Goals as goal
 pub returns-then-size-length-clause-truncated : goal.returns-then-size-length-clause-truncated
 returns-then-size-length-clause-truncated g c =
     let hand = c.args.hand in
-    let geometry : Geometry = geometry_of hand.list in
+    let geometry : Geometry = hand.list.geometry in
     let d : Blocks = g.D.BlockDevice.blocks c.args.dev.now in
     let going = c.requires.going in
     let len : c.max-length.result ≡ length_in hand = (let s = c.size.ensures in let l = c.max-length.ensures in omega arith) in
     let same : c.args.size ≡ length_in hand = c.if-size-length.true ∙ len in
-    let all = length-hand d geometry.block_size (g.D.BlockDevice.geometry c.args.dev.now).block_count (growing_of hand.list) hand.base geometry.valid.no_smaller (shaped d _ _ going.geometry (g.met.D.BlockDevice.shape c.args.dev.now)) going.list.begun.growing going.list.begun.list in
+    let all = length-hand d geometry.block_size (g.D.BlockDevice.geometry c.args.dev.now).block_count hand.list hand.base geometry.valid.no_smaller (shaped d _ _ going.geometry (g.met.D.BlockDevice.shape c.args.dev.now)) going.list.begun.growing going.list.begun.list in
     record {
       stands = going;
       has = resized_none (bytes_over d hand) c.args.size (same ∙ sym all);

@@ -1,12 +1,13 @@
 use Rattle.std.proofs.Common.{ℕ, ◌≡◌, ◌+◌, length, max, min, sym, ap, ◌∙◌, arith}
 use Rattle.lfs_device.specs.declared.geometry.Geometry.{Geometry}
 use Rattle.lfs_model.proofs.ListSizes.{blocks_for-more}
-use Rattle.lfs_writer.specs.Extended.{end_of}
+use Rattle.lfs_ctz.specs.Growing.{end_of}
 use Rattle.lfs_writer.specs.Written.{length_in}
 use Rattle.lfs_writer.proofs.Owning.{owned_kept}
 use Rattle.std.proofs.lemmas.Result.{err_from_is_err_and}
 use Rattle.lfs_writer.proofs.Called.{quiet, told_as, told_on, used_on}
 use Rattle.lfs_writer.proofs.Flights.{base_blocks-le, either_fits}
+use Rattle.lfs_writer.proofs.Spared.{KeepsUsed-trans}
 use Rattle.lfs_writer.proofs.turning.write_turned.Goals as goal
 
 pub turn_to-requires-clause-room : goal.turn_to-requires-clause-room
@@ -51,7 +52,10 @@ returns-clause-over g c =
       owned = owned_kept _ _ (g.D.BlockDevice.geometry c.args.dev.now) (g.D.BlockDevice.geometry c.turn_to.new.dev) _ _ _ _ _ c.turn_to.ensures.device.geometry c.write_from.ensures.map c.in_ok-turned.ensures.over.owned c.write_from.ensures.base;
     }
 
-pub returns-in_err-write_from-clause-faults : goal.returns-in_err-write_from-clause-faults
-returns-in_err-write_from-clause-faults g c =
+pub returns-in_err-write_from-clause-tells : goal.returns-in_err-write_from-clause-tells
+returns-in_err-write_from-clause-tells g c =
     let p = err_from_is_err_and c.from_residual-in_err-write_from.result c.from_residual-in_err-write_from.ensures.1 in
-    rw (p.1, p.2) (told_on g.D.BlockDevice (quiet g.D.BlockDevice c.in_ok-turned.ensures.faults) (told_as g.D.BlockDevice c.in_err-write_from.ensures.faults))
+    rw (p.1, p.2) (record { faults = told_on g.D.BlockDevice (quiet g.D.BlockDevice c.in_ok-turned.ensures.tells.faults) (told_as g.D.BlockDevice c.in_err-write_from.ensures.tells.faults); errors = c.in_err-write_from.ensures.tells.errors })
+
+pub returns-in_err-write_from-clause-map : goal.returns-in_err-write_from-clause-map
+returns-in_err-write_from-clause-map g c = KeepsUsed-trans c.turn_to.ensures.map c.write_from.ensures.map

@@ -1,8 +1,7 @@
 use Rattle.std.proofs.Common.{◌≡◌, ◌+◌, ◌-◌, length, refl, ap, ◌∙◌, subst, arith, replicate}
 use Rattle.lfs_device.specs.declared.geometry.Geometry.{Geometry}
 use Rattle.lfs_model.specs.Writers.{written_into}
-use Rattle.lfs_ctz.specs.Extended.{geometry_of, growing_of}
-use Rattle.lfs_writer.specs.Extended.{end_of}
+use Rattle.lfs_ctz.specs.Growing.{end_of}
 use Rattle.lfs_writer.specs.Written.{IsGoing, bytes_over, length_in}
 use Rattle.lfs_writer.proofs.Owning.{list_then}
 use Rattle.lfs_writer.proofs.Called.{used_on}
@@ -27,13 +26,13 @@ returns-clause-written g c =
     let hand = c.args.hand.now in
     let d = g.D.BlockDevice.blocks c.args.dev.now in
     let begun = c.requires.begun in
-    let geometry : Geometry = geometry_of hand.list in
+    let geometry : Geometry = hand.list.geometry in
     let at = c.requires.at in
     let size = c.size.ensures in
     let zeroed = c.in_ok-write_zeros.ensures.zeroed in
     let wrote = c.in_ok-write_on.ensures.written in
     let end : end_of c.write_zeros.new.hand.list ≡ c.args.place = (let sum = zeroed.at.size in omega arith) in
-    let long = length-hand d geometry.block_size (g.D.BlockDevice.geometry c.args.dev.now).block_count (growing_of hand.list) hand.base geometry.valid.no_smaller (shaped d _ _ begun.geometry (g.met.D.BlockDevice.shape c.args.dev.now)) begun.begun.growing begun.begun.list in
+    let long = length-hand d geometry.block_size (g.D.BlockDevice.geometry c.args.dev.now).block_count hand.list hand.base geometry.valid.no_smaller (shaped d _ _ begun.geometry (g.met.D.BlockDevice.shape c.args.dev.now)) begun.begun.growing begun.begun.list in
     let gap : c.args.place - c.size.result ≡ c.args.place - end_of hand.list = ap (λ n. c.args.place - n) size in
     record {
       going = subst (λ (k : Geometry). IsGoing c.write_on.new.map (g.D.BlockDevice.blocks c.write_on.new.dev) k c.write_on.new.hand) c.write_zeros.ensures.device.geometry wrote.going;

@@ -1,10 +1,9 @@
-use Rattle.std.proofs.Common.{ℕ, ◌≡◌, ◌+◌, ◌≤◌, length, take, replicate, refl, sym, ap, ◌∙◌, subst, arith}
+use Rattle.std.proofs.Common.{ℕ, ◌≡◌, ◌+◌, ◌≤◌, List, length, take, replicate, refl, sym, ap, ◌∙◌, subst, arith}
 use Rattle.std.proofs.lemmas.List.{take-replicate, length-replicate}
 use Rattle.std.proofs.lemmas.Result.{err_from_is_err_and}
 use Rattle.lfs_device.specs.declared.geometry.Geometry.{Geometry}
 use Rattle.lfs_model.specs.Writers.{written_into}
-use Rattle.lfs_ctz.specs.Extended.{geometry_of, growing_of}
-use Rattle.lfs_writer.specs.Extended.{end_of}
+use Rattle.lfs_ctz.specs.Growing.{end_of}
 use Rattle.lfs_writer.specs.Written.{HasBegun, IsGoing, IsZeroed, bytes_over}
 use Rattle.lfs_writer.proofs.Owning.{list_same, list_then}
 use Rattle.lfs_writer.proofs.Called.{not_read, quiet, told_as, told_on, used_on, used_reads}
@@ -17,8 +16,8 @@ zeroing-init g c =
     let d = g.D.BlockDevice.blocks c.args.dev.now in
     let hand = c.args.hand.now in
     let begun = c.requires.begun in
-    let geometry : Geometry = geometry_of hand.list in
-    let long = in_hand d geometry.block_size (g.D.BlockDevice.geometry c.args.dev.now).block_count (growing_of hand.list) hand.base geometry.valid.no_smaller (shaped d _ _ begun.geometry (g.met.D.BlockDevice.shape c.args.dev.now)) begun.begun.growing in
+    let geometry : Geometry = hand.list.geometry in
+    let long = in_hand d geometry.block_size (g.D.BlockDevice.geometry c.args.dev.now).block_count hand.list hand.base geometry.valid.no_smaller (shaped d _ _ begun.geometry (g.met.D.BlockDevice.shape c.args.dev.now)) begun.begun.growing in
     record {
       few = omega arith;
       zeroed = record {
@@ -40,14 +39,14 @@ pub write_on-requires-clause-room : goal.write_on-requires-clause-room
 write_on-requires-clause-room g c =
     let inv = c.zeroing.invariant in
     let n : ℕ = c.min-part.result in
-    let zeros = c.in_ok-zeros.ensures.items_if_clones_equal (λ y same. same) in
     let few : n ≤ 512 = (let m = c.min-part.ensures in omega arith) in
-    let part = ap length (ap (take n) (c.as_slice.ensures.value ∙ zeros) ∙ take-replicate n 512 0 few) ∙ length-replicate n 0 in
+    let zeros : List ℕ = take n (replicate 512 0) in
+    let part : length zeros ≡ n = ap length (take-replicate n 512 0 few) ∙ length-replicate {A = ℕ} n 0 in
     let m = c.min-part.ensures in
     let test = c.zeroing-test.true in
     let size = inv.zeroed.at.size in
     part_fits (g.D.BlockDevice.geometry c.args.dev.now) (g.D.BlockDevice.geometry c.zeroing.dev) c.zeroing.hand.base c.args.hand.now.base _ _ _ _
-    (end_of c.zeroing.hand.list + length (take n c.as_slice.result.now)) (end_of c.args.hand.now.list + c.args.count) inv.device.geometry inv.base.same (omega arith) inv.map.used inv.map.count c.requires.room
+    (end_of c.zeroing.hand.list + length zeros) (end_of c.args.hand.now.list + c.args.count) inv.device.geometry inv.base.same (omega arith) inv.map.used inv.map.count c.requires.room
 
 pub returns-in_err-write_on-clause-device : goal.returns-in_err-write_on-clause-device
 returns-in_err-write_on-clause-device g c = used_on g.D.BlockDevice c.zeroing.invariant.map c.zeroing.invariant.device c.write_on.ensures.device
@@ -58,18 +57,18 @@ zeroing-preserved g c =
     let d = g.D.BlockDevice.blocks c.args.dev.now in
     let hand = c.args.hand.now in
     let begun = c.requires.begun in
-    let geometry : Geometry = geometry_of hand.list in
+    let geometry : Geometry = hand.list.geometry in
     let n : ℕ = c.min-part.result in
-    let zeros = c.in_ok-zeros.ensures.items_if_clones_equal (λ y same. same) in
     let few : n ≤ 512 = (let m = c.min-part.ensures in omega arith) in
-    let part = ap (take n) (c.as_slice.ensures.value ∙ zeros) ∙ take-replicate n 512 0 few in
-    let long = in_hand d geometry.block_size (g.D.BlockDevice.geometry c.args.dev.now).block_count (growing_of hand.list) hand.base geometry.valid.no_smaller (shaped d _ _ begun.geometry (g.met.D.BlockDevice.shape c.args.dev.now)) begun.begun.growing in
+    let zeros : List ℕ = take n (replicate 512 0) in
+    let part : zeros ≡ replicate n 0 = take-replicate n 512 0 few in
+    let long = in_hand d geometry.block_size (g.D.BlockDevice.geometry c.args.dev.now).block_count hand.list hand.base geometry.valid.no_smaller (shaped d _ _ begun.geometry (g.met.D.BlockDevice.shape c.args.dev.now)) begun.begun.growing in
     let m = c.min-part.ensures in
     let test = c.zeroing-test.true in
     let wrote = c.in_ok-write_on.ensures.written in
     let size = inv.zeroed.at.size in
     let sum = wrote.size in
-    let len = ap length part ∙ length-replicate n 0 in
+    let len : length zeros ≡ n = ap length part ∙ length-replicate {A = ℕ} n 0 in
     let going = subst (λ (k : Geometry). IsGoing c.write_on.new.map (g.D.BlockDevice.blocks c.write_on.new.dev) k c.write_on.new.hand) inv.device.geometry wrote.going in
     record {
       few = omega arith;
@@ -77,20 +76,20 @@ zeroing-preserved g c =
         at = record {
           begun = record { geometry = going.geometry; begun = going.list.begun };
           size = omega arith;
-          bytes = more_zeros (bytes_over d hand) _ _ (take n c.as_slice.result.now) (end_of hand.list) _ c.zeroing.done n long inv.zeroed.at.bytes inv.zeroed.at.size part wrote.bytes;
+          bytes = more_zeros (bytes_over d hand) _ _ zeros (end_of hand.list) _ c.zeroing.done n long inv.zeroed.at.bytes inv.zeroed.at.size part wrote.bytes;
         };
         going = λ some. going;
       };
       base = list_then _ _ _ _ _ _ _ _ inv.device.geometry inv.base c.write_on.ensures.base;
       map = KeepsUsed-trans inv.map c.write_on.ensures.map;
       device = used_on g.D.BlockDevice inv.map inv.device c.write_on.ensures.device;
-      quiet = quiet g.D.BlockDevice c.in_ok-write_on.ensures.faults ∙ inv.quiet;
+      quiet = quiet g.D.BlockDevice c.in_ok-write_on.ensures.tells.faults ∙ inv.quiet;
     }
 
-pub returns-in_err-write_on-clause-faults : goal.returns-in_err-write_on-clause-faults
-returns-in_err-write_on-clause-faults g c =
-    let p = err_from_is_err_and c.from_residual-in_err-write_on.result c.from_residual-in_err-write_on.ensures.1 in
-    rw (p.1, p.2) (told_on g.D.BlockDevice c.zeroing.invariant.quiet (told_as g.D.BlockDevice c.in_err-write_on.ensures.faults))
+pub returns-in_err-write_on-clause-tells : goal.returns-in_err-write_on-clause-tells
+returns-in_err-write_on-clause-tells g c =
+    let p = err_from_is_err_and c.from_residual.result c.from_residual.ensures.1 in
+    rw (p.1, p.2) (record { faults = told_on g.D.BlockDevice c.zeroing.invariant.quiet (told_as g.D.BlockDevice c.in_err-write_on.ensures.tells.faults); errors = c.in_err-write_on.ensures.tells.errors })
 
 pub returns-clause-zeroed : goal.returns-clause-zeroed
 returns-clause-zeroed g c =

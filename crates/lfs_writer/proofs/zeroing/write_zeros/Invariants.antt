@@ -1,8 +1,8 @@
 use Rattle.std.proofs.Common.{◌≡◌, ◌≤◌, ◌+◌, ◌-◌, replicate}
 use Rattle.lfs_model.specs.History.{faults}
 use Rattle.lfs_model.specs.Writers.{written_into}
+use Rattle.lfs_ctz.specs.Growing.{end_of}
 use Rattle.lfs_writer.specs.Calls.{LeavesUsed}
-use Rattle.lfs_writer.specs.Extended.{end_of}
 use Rattle.lfs_writer.specs.Hand.{KeepsUsed}
 use Rattle.lfs_writer.specs.Written.{IsZeroed, bytes_over}
 use Rattle.lfs_writer.specs.Owned.{KeepsList}

@@ -1,21 +1,30 @@
-use Rattle.std.proofs.Common.{refl, ℕ, ◌≡◌, ◌≤◌, length, take, sym, ◌∙◌, ap, arith}
+use Rattle.std.proofs.Common.{refl, ℕ, ◌≡◌, ◌≤◌, length, take, sym, ◌∙◌, ap, subst, arith}
 use Rattle.std.proofs.lemmas.List.{length-take-le}
-use Rattle.lfs_ctz.specs.declared.extender.Extender.{Extender}
-use Rattle.lfs_ctz.specs.Extended.{growing_of}
+use Rattle.lfs_model.specs.SkipLists.{pointers_of}
+use Rattle.lfs_ctz.specs.declared.extender.Extender.TheInside.{Inside}
+use Rattle.lfs_ctz.specs.Extending.{IsHolding}
+use Rattle.lfs_ctz.specs.Fields.{HasBlock, growing}
+use Rattle.lfs_ctz.specs.Growing.{Growing, IsHeld}
 use Rattle.lfs_ctz.proofs.Memories.{cut_bytes, rest_at}
-use Rattle.lfs_ctz.proofs.Stands.{grown_held, stands_held}
+use Rattle.lfs_ctz.proofs.Rests.{rest_long}
+use Rattle.lfs_ctz.proofs.Stands.{is_holding}
 use Rattle.lfs_ctz.proofs.extender.Extender.cut.Goals as goal
 
-fits : (e : Extender) (len : ℕ) → e.full ≡ 0 → len ≤ length (growing_of e).rest → len ≤ e.filled
-fits e len none le = omega (arith, ap length (rest_at e.buffer.items e.full e.filled none), length-take-le e.filled e.buffer.items (omega (arith, e.one_block, e.in_step.high)))
+-- the first bytes
+module _ (e : Inside) (has : HasBlock e) (len : ℕ) (held : IsHeld (growing e)) (within : len ≤ length (growing e).rest) where
+  fits : len ≤ e.filled
+  fits = omega (arith, rest_long e has)
 
-pub returns-clause-rest : goal.returns-clause-rest
-returns-clause-rest c =
-    let e = c.args.self.now in
-    rest_at e.buffer.items e.full c.args.len c.requires.held.none
-    ∙ cut_bytes e.buffer.items e.filled c.args.len (fits e c.args.len c.requires.held.none c.requires.within)
-    ∙ ap (take c.args.len) (sym (rest_at e.buffer.items e.full e.filled c.requires.held.none))
+  front : take len e.buffer.items ≡ take len (growing e).rest
+  front = cut_bytes e.buffer.items e.filled len fits ∙ ap (take len) (sym (rest_at e.buffer.items e.full e.filled held.none))
 
-pub returns-clause-holds : goal.returns-clause-holds
-returns-clause-holds c =
-    grown_held _ _ _ _ refl c.requires.held.none (returns-clause-rest c) (length-take-le c.args.len (growing_of c.args.self.now).rest c.requires.within) (stands_held c.args.self.now.stand c.requires.held.held)
+  pub is_cut : IsHolding e.geometry (growing (record e { filled = len; size = len })) (take len (growing e).rest)
+  is_cut =
+      let rest = rest_at e.buffer.items e.full len held.none ∙ front in
+      is_holding e.geometry (growing (record e { filled = len; size = len })) _ refl
+      (omega (arith, ap length rest, length-take-le len (growing e).rest within, fits, has.in_step.high, ap pointers_of held.none)) rest (record { held = held.held; none = held.none })
+
+pub returns : goal.returns
+returns c =
+    subst (λ (v : Growing). IsHolding v.geometry (growing (record c.self.inside { filled = c.args.len; size = c.args.len })) (take c.args.len v.rest)) c.self.view_is
+    (is_cut c.self.inside c.self.invariant c.args.len (subst IsHeld (sym c.self.view_is) c.requires.held) (subst (λ (v : Growing). c.args.len ≤ length v.rest) (sym c.self.view_is) c.requires.within))

@@ -1,48 +1,61 @@
-use Rattle.std.proofs.Common.{refl, ℕ, ◌≡◌, ◌≤◌, ◌+◌, ◌-◌, ◌*◌, ◌++◌, List, [], length, length-append, take, drop, sym, ap, ◌∙◌, arith, add-one, append_assoc, length-drop}
+use Rattle.std.proofs.Common.{refl, ℕ, ◌≡◌, ◌≤◌, ◌+◌, ◌-◌, ◌*◌, ◌++◌, ◌∷◌, ◌<◌, ◌^◌, List, [], length, length-append, subst, take, drop, sym, ap, ◌∙◌, arith, add-one, append_assoc}
 use Rattle.std.specs.Vec.{with_items}
-use Rattle.std.proofs.lemmas.List.{length-take-le, append-nil}
+use Rattle.std.proofs.lemmas.List.{length-take-le, append-nil, with_items_is}
 use Rattle.lfs_device.specs.declared.geometry.Geometry.{Geometry}
+use Rattle.lfs_model.proofs.Overwrites.{length-overwritten}
 use Rattle.lfs_model.specs.Blocks.{Blocks, block_in, overwritten}
 use Rattle.lfs_model.specs.SkipLists.{pointers_of, bytes_before, blocks_back}
-use Rattle.lfs_ctz.specs.declared.extender.Extender.{Extender}
-use Rattle.lfs_ctz.specs.Extended.{geometry_of, growing_of}
-use Rattle.lfs_ctz.specs.Growing.{joined}
+use Rattle.lfs_ctz.specs.declared.extender.Extender.TheInside.{Inside}
+use Rattle.lfs_ctz.specs.Extended.{IsGrown}
+use Rattle.lfs_ctz.specs.Extending.{CanFollow}
+use Rattle.lfs_ctz.specs.Fields.{HasBlock, growing}
+use Rattle.lfs_ctz.specs.Growing.{Growing, content_of, end_of, joined}
 use Rattle.lfs_ctz.proofs.Called.{not_read, only_read}
 use Rattle.lfs_ctz.proofs.Geometries.{shaped}
+use Rattle.lfs_ctz.specs.declared.rest.Rest.TheVariants.{Closed, Handed}
+use Rattle.lfs_ctz.proofs.Rests.{rest_long}
 use Rattle.lfs_ctz.proofs.Stands.{is_grown}
 use Rattle.lfs_ctz.proofs.Sizes.{bytes_before-least, pointers_of-le}
 use Rattle.lfs_ctz.proofs.Filling.{rest_more, joined_full}
 use Rattle.lfs_ctz.proofs.extender.Extender.fill.Goals as goal
 
 -- the rest, with more bytes behind it
-longer : (e : Extender) (bytes new : List ℕ) (n : ℕ) → n ≤ length bytes → e.filled + n ≤ e.geometry.block_size → new ≡ overwritten e.buffer.items e.filled (take n bytes)
-    → take (e.filled + n - 4 * pointers_of e.full) (drop (4 * pointers_of e.full) new) ≡ (growing_of e).rest ++ take n bytes
-longer e bytes new n le fits is =
+longer : (e : Inside) (bytes new : List ℕ) (n : ℕ) → HasBlock e → n ≤ length bytes → e.filled + n ≤ e.geometry.block_size → new ≡ overwritten e.buffer.items e.filled (take n bytes)
+    → take (e.filled + n - 4 * pointers_of e.full) (drop (4 * pointers_of e.full) new) ≡ (growing e).rest ++ take n bytes
+longer e bytes new n has le fits is =
     ap (λ (l : List ℕ). take (e.filled + n - 4 * pointers_of e.full) (drop (4 * pointers_of e.full) l)) is
-    ∙ rest_more e.buffer.items (take n bytes) (4 * pointers_of e.full) e.filled n e.in_step.low (length-take-le n bytes le) (omega (arith, e.one_block, fits))
+    ∙ rest_more e.buffer.items (take n bytes) (4 * pointers_of e.full) e.filled n has.in_step.low (length-take-le n bytes le) (omega (arith, has.one_block, fits))
 
 pub returns-then-start-n-clause-filled : goal.returns-then-start-n-clause-filled
 returns-then-start-n-clause-filled g c =
-    let e = c.args.self.now in
+    let e = c.self.inside in
+    let has = c.self.invariant in
+    let shown = sym c.self.view_is in
     let n : ℕ = c.min-n.result in
+    let bytes : List ℕ = c.args.bytes.now in
     let old : Blocks = g.D.BlockDevice.blocks c.args.dev.now in
     let shape = g.met.D.BlockDevice.shape c.args.dev.now in
-    let few : n ≤ length c.args.bytes.now = omega (arith, c.min-n.ensures) in
-    let rest = longer e c.args.bytes.now c.overwrite.new.all.items n few (omega (arith, c.min-n.ensures, e.in_step.high)) c.overwrite.ensures in
-    let long = length-take-le n c.args.bytes.now few in
-    let all = length-append (growing_of e).rest (take n c.args.bytes.now) in
-    is_grown (geometry_of e) old _ _ _ _ _ _ (shaped old _ e.geometry (sym c.requires.geometry) shape) refl
+    let follows = subst (λ (v : Growing). CanFollow g.D.BlockDevice c.args.dev.now v.full v.head c.args.block) shown c.requires.follows in
+    let same = subst (λ (v : Growing). g.D.BlockDevice.geometry c.args.dev.now ≡ v.geometry) shown c.requires.geometry in
+    let few : n ≤ length bytes = omega (arith, c.min-n.ensures) in
+    let rest = longer e bytes c.overwrite.new.all.items n has few (omega (arith, c.min-n.ensures, has.in_step.high)) c.overwrite.ensures in
+    let long = length-take-le n bytes few in
+    let all = length-append (growing e).rest (take n bytes) in
+    let new : Growing = growing (record e { buffer = c.overwrite.new.all; filled = e.filled + n; size = e.size + n; stand = Handed c.args.block }) in
+    subst (λ (v : Growing). IsGrown v.geometry old new (content_of old v ++ take n bytes) (end_of v + n) (blocks_back old v.full v.head ++ c.args.block ∷ []) (blocks_back old v.full v.head ++ c.args.block ∷ [])) c.self.view_is
+    (is_grown e.geometry old new _ _ _ _ _ (shaped old _ e.geometry (sym same) shape) refl
+    (omega (arith, ap length rest, all, long, rest_long e has, c.if-start-n.true))
     (record {
-      chain = c.requires.chain;
+      chain = follows.chain;
       stand = record {
-        some = omega (arith, ap length rest, all, long, c.min-n.ensures, c.requires.some, e.in_step.high);
-        in_range = omega (arith, shape.count, c.requires.in_device);
-        apart = c.requires.apart;
+        some = omega (arith, ap length rest, all, long, c.min-n.ensures, c.requires.some, has.in_step.high);
+        in_range = omega (arith, shape.count, follows.in_device);
+        apart = follows.apart;
       };
     })
-    (ap (λ (l : List ℕ). joined old (blocks_back old e.full e.head) ++ l) rest ∙ sym (append_assoc (joined old (blocks_back old e.full e.head)) (growing_of e).rest (take n c.args.bytes.now)))
+    (ap (λ (l : List ℕ). joined old (blocks_back old e.full e.head) ++ l) rest ∙ sym (append_assoc (joined old (blocks_back old e.full e.head)) (growing e).rest (take n bytes)))
     (omega (arith, ap length rest, all, long))
-    refl refl
+    refl refl)
 
 pub returns-then-start-n-clause-device : goal.returns-then-start-n-clause-device
 returns-then-start-n-clause-device g c = only_read g.D.BlockDevice c.args.block (not_read g.D.BlockDevice c.args.dev.now)
@@ -56,65 +69,80 @@ returns-clause-waits g c = record { listed = refl; pending = λ other apart k x 
 pub returns-clause-writes : goal.returns-clause-writes
 returns-clause-writes g c =
     let one = c.in_ok-write_block.ensures.writes in
-    record { erased = omega (arith, one.erased); programmed = omega (arith, one.programmed) }
+    let full = ap (λ (v : Growing). v.full) c.self.view_is in
+    record { erased = omega (arith, one.erased, full); programmed = omega (arith, one.programmed, full) }
 
 pub overflow_add-self-2 : goal.overflow_add-self-2
 overflow_add-self-2 g c =
-    let e = c.args.self.now in
+    let e = c.self.inside in
+    let has = c.self.invariant in
+    let room = subst (λ (v : Growing). end_of v + length c.args.bytes.now < 2 ^ 31) (sym c.self.view_is) c.requires.room in
     let few = bytes_before-least e.geometry.block_size e.full e.geometry.valid.no_smaller in
-    let sum = e.in_step.sum in
-    let fits = e.in_step.fits in
+    let sum = has.in_step.sum in
+    let fits = has.in_step.fits in
     omega arith
 
 pub overflow_mul-self : goal.overflow_mul-self
-overflow_mul-self g c = let few = pointers_of-le (c.args.self.now.full + 1) in omega (arith, c.pointers.ensures)
+overflow_mul-self g c = let few = pointers_of-le (c.self.inside.full + 1) in omega (arith, c.pointers.ensures)
 
-pub invariant_of-self-2-clause-in_step : goal.invariant_of-self-2-clause-in_step
-invariant_of-self-2-clause-in_step g c =
-    let e = c.args.self.now in
+pub invariant_of-self-2 : goal.invariant_of-self-2
+invariant_of-self-2 g c =
+    let e = c.self.inside in
     let size : ℕ = e.geometry.block_size in
     let large = e.geometry.valid.no_smaller in
     let few = pointers_of-le (e.full + 1) in
-    let low = e.in_step.low in
-    let high = e.in_step.high in
-    let sum = e.in_step.sum in
+    let low = c.self.invariant.in_step.low in
+    let high = c.self.invariant.in_step.high in
+    let sum = c.self.invariant.in_step.sum in
     let next = ap (bytes_before size) (add-one e.full) in
     let here = pointers_of-le e.full in
-    let rest = length-take-le (e.filled - 4 * pointers_of e.full) (drop (4 * pointers_of e.full) e.buffer.items) (omega (arith, e.one_block, length-drop (4 * pointers_of e.full) e.buffer.items)) in
-    let room = c.requires.room in
+    let rest = rest_long e c.self.invariant in
+    let room = subst (λ (v : Growing). end_of v + length c.args.bytes.now < 2 ^ 31) (sym c.self.view_is) c.requires.room in
     let taken = c.min-n.ensures in
     let many = c.pointers.ensures in
-    record { low = omega arith; high = omega arith; sum = omega arith; fits = omega arith }
+    let long = length-take-le c.min-n.result c.args.bytes.now (omega (arith, taken)) in
+    record {
+      one_block = ap length (with_items_is c.overwrite.new.all c.write_block.new.buf (omega (arith, c.write_block.auto.buf, c.as_mut_slice-buffer.ensures.len, c.overwrite.new.all.ok.0)))
+          ∙ omega (arith, c.write_block.auto.buf, ap length c.as_mut_slice-buffer.ensures.value, ap length c.overwrite.ensures, length-overwritten e.buffer.items e.filled (take c.min-n.result c.args.bytes.now) (omega (arith, long, c.self.invariant.one_block)), c.self.invariant.one_block);
+      in_step = record { low = omega arith; high = omega arith; sum = omega arith; fits = omega arith };
+    }
 
 pub returns-clause-filled : goal.returns-clause-filled
 returns-clause-filled g c =
-    let e = c.args.self.now in
+    let e = c.self.inside in
+    let has = c.self.invariant in
+    let shown = sym c.self.view_is in
     let p : ℕ = 4 * pointers_of e.full in
     let n : ℕ = c.min-n.result in
     let size : ℕ = e.geometry.block_size in
     let old : Blocks = g.D.BlockDevice.blocks c.args.dev.now in
     let new : Blocks = g.D.BlockDevice.blocks c.write_block.new.dev in
     let shape = g.met.D.BlockDevice.shape c.args.dev.now in
-    let geometry = ap (λ (k : Geometry). k.block_size) c.requires.geometry in
-    let sized : length (block_in new c.args.block) ≡ size = omega (arith, c.write_block.ensures.device.others.size, shape.sizes c.args.block c.requires.in_device, geometry) in
-    let whole : e.filled + n ≡ size = (let taken = c.min-n.ensures in let high = e.in_step.high in omega arith) in
+    let follows = subst (λ (v : Growing). CanFollow g.D.BlockDevice c.args.dev.now v.full v.head c.args.block) shown c.requires.follows in
+    let same = subst (λ (v : Growing). g.D.BlockDevice.geometry c.args.dev.now ≡ v.geometry) shown c.requires.geometry in
+    let geometry = ap (λ (k : Geometry). k.block_size) same in
+    let sized : length (block_in new c.args.block) ≡ size = omega (arith, c.write_block.ensures.device.others.size, shape.sizes c.args.block follows.in_device, geometry) in
+    let whole : e.filled + n ≡ size = (let taken = c.min-n.ensures in let high = has.in_step.high in omega arith) in
     let bytes : take (size - p) (drop p (block_in new c.args.block)) ≡ take (e.filled - p) (drop p e.buffer.items) ++ take n c.args.bytes.now =
     c.in_ok-write_block.ensures.bytes
     ∙ ap (λ (l : List ℕ). take (size - p) (drop p l)) (c.as_mut_slice-buffer.ensures.value ∙ c.overwrite.ensures)
     ∙ ap (λ k. take (k - p) (drop p (overwritten e.buffer.items e.filled (take n c.args.bytes.now)))) (sym whole)
-    ∙ rest_more e.buffer.items (take n c.args.bytes.now) p e.filled n e.in_step.low (length-take-le n c.args.bytes.now (omega (arith, c.min-n.ensures))) (omega (arith, e.one_block)) in
-    let rest : take (4 * c.pointers.result - 4 * pointers_of (e.full + 1)) (drop (4 * pointers_of (e.full + 1)) (with_items c.overwrite.new.all c.write_block.new.buf).items) ≡ [] =
+    ∙ rest_more e.buffer.items (take n c.args.bytes.now) p e.filled n has.in_step.low (length-take-le n c.args.bytes.now (omega (arith, c.min-n.ensures))) (omega (arith, has.one_block)) in
+    let later : Inside = record e { buffer = with_items c.overwrite.new.all c.write_block.new.buf; full = e.full + 1; head = c.args.block; filled = 4 * c.pointers.result; size = e.size + n; stand = Closed } in
+    let rest : (growing later).rest ≡ [] =
     ap (λ k. take k (drop (4 * pointers_of (e.full + 1)) (with_items c.overwrite.new.all c.write_block.new.buf).items)) (let none : 4 * c.pointers.result - 4 * pointers_of (e.full + 1) ≡ 0 = omega (arith, c.pointers.ensures) in none) in
     let appended = c.in_ok-write_block.ensures.appended in
     let device = c.write_block.ensures.device in
     let long = length-take-le n c.args.bytes.now (omega (arith, c.min-n.ensures)) in
-    let old_rest = length-take-le (e.filled - p) (drop p e.buffer.items) (omega (arith, e.one_block, e.in_step.high, length-drop p e.buffer.items)) in
-    is_grown (geometry_of e) new _ _ _ _ _ _ (shaped new _ e.geometry (sym (device.geometry ∙ c.requires.geometry)) (g.met.D.BlockDevice.shape c.write_block.new.dev)) refl
+    let old_rest = rest_long e has in
+    subst (λ (v : Growing). IsGrown v.geometry new (growing later) (content_of old v ++ take n c.args.bytes.now) (end_of v + n) (blocks_back old v.full v.head ++ c.args.block ∷ []) (blocks_back old v.full v.head ++ c.args.block ∷ [])) c.self.view_is
+    (is_grown e.geometry new (growing later) _ _ _ _ _ (shaped new _ e.geometry (sym (device.geometry ∙ same)) (g.met.D.BlockDevice.shape c.write_block.new.dev)) refl
+    (omega (arith, ap length rest, pointers_of-le (e.full + 1), e.geometry.valid.no_smaller))
     (record { chain = appended.chain; stand = rest })
     (ap (λ (l : List ℕ). joined new (blocks_back new (e.full + 1) c.args.block) ++ l) rest
     ∙ append-nil (joined new (blocks_back new (e.full + 1) c.args.block))
-    ∙ joined_full old new e.full e.head c.args.block size _ appended.back device.others c.requires.apart sized bytes
+    ∙ joined_full old new e.full e.head c.args.block size _ appended.back device.others follows.apart sized bytes
     ∙ sym (append_assoc (joined old (blocks_back old e.full e.head)) (take (e.filled - p) (drop p e.buffer.items)) (take n c.args.bytes.now)))
-    (omega (arith, ap length rest, ap (bytes_before size) (add-one e.full), whole, old_rest, e.in_step.low, pointers_of-le e.full, e.geometry.valid.no_smaller))
+    (omega (arith, ap length rest, ap (bytes_before size) (add-one e.full), whole, old_rest, has.in_step.low, pointers_of-le e.full, e.geometry.valid.no_smaller))
     (append-nil (blocks_back new (e.full + 1) c.args.block) ∙ appended.back)
-    (append-nil (blocks_back new (e.full + 1) c.args.block) ∙ appended.back)
+    (append-nil (blocks_back new (e.full + 1) c.args.block) ∙ appended.back))

@@ -6,16 +6,13 @@ use Rattle.std.proofs.lemmas.List.Elements.{All-cons, All-nil}
 use Rattle.std.proofs.lemmas.Result.{err_from_is_err_and}
 use Rattle.lfs_ctz.proofs.Called.{changes_none, changes_one, quiet, told_as, told_on}
 use Rattle.lfs_ctz.proofs.Geometries.{shaped}
-use Rattle.lfs_ctz.proofs.Rests.{rest_of}
 use Rattle.lfs_ctz.proofs.Stands.{is_grown}
 use Rattle.lfs_device.specs.declared.geometry.Geometry.{Geometry}
 use Rattle.lfs_model.specs.Blocks.{Blocks}
 use Rattle.lfs_model.specs.SkipLists.{capacity_of, blocks_back}
-use Rattle.lfs_ctz.specs.Extended.{geometry_of, growing_of}
-use Rattle.lfs_ctz.specs.Growing.{Growing, content_of, kept_of, pending_of, pending_in, next_of, size_of, needed_of}
-use Rattle.lfs_ctz.specs.declared.extender.Extender.{Extender}
+use Rattle.lfs_ctz.specs.Growing.{Growing, IsShort, content_of, kept_of, pending_of, pending_in, end_of, next_of, size_of, needed_of}
 use Rattle.lfs_ctz.specs.declared.rest.Rest.{Rest}
-use Rattle.lfs_ctz.proofs.Pushing.{next_among, next_apart, next_some, next_kept, still_some, all_used}
+use Rattle.lfs_ctz.proofs.Pushing.{next_among, next_inside, next_apart, next_some, next_kept, still_some, all_used}
 use Rattle.lfs_ctz.proofs.extender.Extender.push.Goals as goal
 
 -- part of the blocks handed in
@@ -26,7 +23,7 @@ pub loop-done-init : goal.loop-done-init
 loop-done-init g c = record {
   low = omega arith;
   some = omega arith;
-  growing = c.requires.growing;
+  growing = c.requires.stands.growing;
   bytes = sym (append-nil _);
   sum = omega arith;
   kept = sym (append-nil _);
@@ -42,23 +39,29 @@ loop-done-init g c = record {
 sum_by : (geometry now : Geometry) (g : Growing) (n : ℕ) → now ≡ geometry → size_of now.block_size g ≡ n → size_of geometry.block_size g ≡ n
 sum_by geometry now g n e is = subst (λ (k : Geometry). size_of k.block_size g ≡ n) e is
 
-still : (d e : Blocks) (was now : Extender) (blocks : List ℕ) (used done total : ℕ) → geometry_of now ≡ geometry_of was → used ≤ length blocks → kept_of e (growing_of now) ≡ kept_of d (growing_of was) ++ take used blocks
-    → length blocks ≡ needed_of (geometry_of was).block_size (growing_of was) total → size_of (geometry_of now).block_size (growing_of now) ≡ size_of (geometry_of was).block_size (growing_of was) + done → done < total
-    → pending_of (growing_of now) ≡ [] → used < length blocks
+still : (d e : Blocks) (was now : Growing) (blocks : List ℕ) (used done total : ℕ) → now.geometry ≡ was.geometry → used ≤ length blocks → kept_of e now ≡ kept_of d was ++ take used blocks
+    → length blocks ≡ needed_of was total → end_of now ≡ end_of was + done → done < total
+    → pending_of now ≡ [] → used < length blocks
 still d e was now blocks used done total same le is count sum lt none =
-    still_some d e was.geometry.block_size (growing_of was) (growing_of now) blocks used done total was.geometry.valid.no_smaller le is count (sum_by was.geometry now.geometry (growing_of now) _ same sum) lt none
+    still_some d e was.geometry.block_size was now blocks used done total was.geometry.valid.no_smaller le is count (sum_by was.geometry now.geometry now _ same sum) lt none
 
 pub next_block-block-requires : goal.next_block-block-requires
 next_block-block-requires g c =
     let inv = c.loop-done.invariant in
     still _ _ c.args.self.now c.loop-done.self c.args.blocks.now c.loop-done.used c.loop-done.done _ inv.same inv.some inv.kept c.requires.count inv.sum c.loop-done-test.true
 
-pub fill-requires-clause-apart : goal.fill-requires-clause-apart
-fill-requires-clause-apart g c =
+pub fill-requires-clause-follows : goal.fill-requires-clause-follows
+fill-requires-clause-follows g c =
     let inv = c.loop-done.invariant in
     let some = still _ _ c.args.self.now c.loop-done.self c.args.blocks.now c.loop-done.used c.loop-done.done _ inv.same inv.some inv.kept c.requires.count inv.sum c.loop-done-test.true in
-    subst (λ b. All (λ x. x ≢ b) (blocks_back (g.D.BlockDevice.blocks c.loop-done.dev) c.loop-done.self.full c.loop-done.self.head)) (sym (ap (λ r. r.0) c.next_block-block.ensures))
-    (next_apart (g.D.BlockDevice.blocks c.loop-done.dev) c.loop-done.self.full c.loop-done.self.head _ c.loop-done.self.stand _ c.args.blocks.now c.loop-done.used inv.growing.stand some inv.kept c.requires.distinct c.requires.apart)
+    record {
+      chain = inv.growing.chain;
+      in_device = subst (λ b. b < (g.D.BlockDevice.geometry c.loop-done.dev).block_count) (sym (ap (λ r. r.0) c.next_block-block.ensures))
+          (next_inside (g.D.BlockDevice.blocks c.loop-done.dev) c.loop-done.self.full c.loop-done.self.head c.loop-done.self.rest c.loop-done.self.stand c.args.blocks.now c.loop-done.used _ (g.met.D.BlockDevice.shape c.loop-done.dev).count inv.growing.stand some
+          (subst (λ (k : Geometry). All (λ b. b < k.block_count) c.args.blocks.now) (sym inv.device.geometry) c.requires.in_device));
+      apart = subst (λ b. All (λ x. x ≢ b) (blocks_back (g.D.BlockDevice.blocks c.loop-done.dev) c.loop-done.self.full c.loop-done.self.head)) (sym (ap (λ r. r.0) c.next_block-block.ensures))
+          (next_apart (g.D.BlockDevice.blocks c.loop-done.dev) c.loop-done.self.full c.loop-done.self.head _ c.loop-done.self.stand _ c.args.blocks.now c.loop-done.used inv.growing.stand some inv.kept c.requires.distinct c.requires.apart);
+    }
 
 -- the block is one of those handed in
 among : (was : Growing) (t : Rest) (blocks : List ℕ) (used block : ℕ) (next : ℕ × ℕ) → next ≡ next_of t blocks used → block ≡ next.0 → (pending_in t ≡ [] → used < length blocks)
@@ -70,7 +73,7 @@ pub returns-in_err-done-clause-device : goal.returns-in_err-done-clause-device
 returns-in_err-done-clause-device g c =
     let inv = c.loop-done.invariant in
     let some = still _ _ c.args.self.now c.loop-done.self c.args.blocks.now c.loop-done.used c.loop-done.done _ inv.same inv.some inv.kept c.requires.count inv.sum c.loop-done-test.true in
-    changes_one g.D.BlockDevice (among (growing_of c.args.self.now) c.loop-done.self.stand c.args.blocks.now c.loop-done.used _ _ c.next_block-block.ensures refl some inv.pending) inv.device c.fill.ensures.device
+    changes_one g.D.BlockDevice (among c.args.self.now c.loop-done.self.stand c.args.blocks.now c.loop-done.used _ _ c.next_block-block.ensures refl some inv.pending) inv.device c.fill.ensures.device
 
 pub returns-in_err-done-clause-io : goal.returns-in_err-done-clause-io
 returns-in_err-done-clause-io g c =
@@ -78,9 +81,9 @@ returns-in_err-done-clause-io g c =
     let p = err_from_is_err_and c.from_residual.result c.from_residual.ensures.1 in
     rw (p.1, p.2) (record { faults = told_on g.D.BlockDevice c.loop-done.invariant.quiet (told_as g.D.BlockDevice told.faults); errors = told.errors })
 
-sum_more : (before : Geometry) (size done n all : ℕ) (e : Extender) → geometry_of e ≡ before → all ≡ size + done → size_of before.block_size (growing_of e) ≡ all + n
-    → size_of (geometry_of e).block_size (growing_of e) ≡ size + (done + n)
-sum_more before size done n all e same was is = subst (λ (k : Geometry). size_of k.block_size (growing_of e) ≡ size + (done + n)) (sym same) (omega (arith, was, is))
+sum_more : (before : Geometry) (size done n all : ℕ) (e : Growing) → e.geometry ≡ before → all ≡ size + done → size_of before.block_size e ≡ all + n
+    → size_of e.geometry.block_size e ≡ size + (done + n)
+sum_more before size done n all e same was is = subst (λ (k : Geometry). size_of k.block_size e ≡ size + (done + n)) (sym same) (omega (arith, was, is))
 
 -- more of the bytes
 bytes_more : (front content bytes : List ℕ) (done n : ℕ) → done ≤ length bytes → n ≤ length (take (length bytes - done) (drop done bytes)) → content ≡ front ++ take done bytes
@@ -99,7 +102,7 @@ loop-done-preserved g c =
     let inv = c.loop-done.invariant in
     let some = still _ _ c.args.self.now c.loop-done.self c.args.blocks.now c.loop-done.used c.loop-done.done _ inv.same inv.some inv.kept c.requires.count inv.sum c.loop-done-test.true in
     let next = c.next_block-block.ensures in
-    let here = among (growing_of c.args.self.now) c.loop-done.self.stand c.args.blocks.now c.loop-done.used _ _ next refl some inv.pending in
+    let here = among c.args.self.now c.loop-done.self.stand c.args.blocks.now c.loop-done.used _ _ next refl some inv.pending in
     let now = c.in_ok-done.ensures.filled in
     let written = c.in_ok-done.ensures.writes in
     let more = bytes_more _ _ c.args.bytes.now c.loop-done.done c.in_ok-done.field-0 inv.low c.in_ok-done.ensures.count.1 inv.bytes in
@@ -112,8 +115,8 @@ loop-done-preserved g c =
       kept = now.kept
           ∙ ap (λ r. blocks_back (g.D.BlockDevice.blocks c.loop-done.dev) c.loop-done.self.full c.loop-done.self.head ++ r.0 ∷ []) next
           ∙ next_kept c.loop-done.self.stand _ _ c.args.blocks.now c.loop-done.used some inv.kept
-          ∙ ap (λ r. kept_of (g.D.BlockDevice.blocks c.args.dev.now) (growing_of c.args.self.now) ++ take r.1 c.args.blocks.now) (sym next);
-      own = λ _. (now.blocks ∙ sym now.kept, c.in_ok-done.ensures.waits.listed);
+          ∙ ap (λ r. kept_of (g.D.BlockDevice.blocks c.args.dev.now) c.args.self.now ++ take r.1 c.args.blocks.now) (sym next);
+      own = λ _. (now.blocks ∙ sym now.kept, (c.in_ok-done.ensures.waits.listed, subst (λ (k : Geometry). IsShort k.block_size c.fill.new.self) (sym now.geometry) now.short));
       pending = λ other apart. c.in_ok-done.ensures.waits.pending other (All-cons (λ b. b ≢ other) _ [] (here other apart) (All-nil (λ b. b ≢ other)));
       same = now.geometry ∙ inv.same;
       device = changes_one g.D.BlockDevice here inv.device c.fill.ensures.device;
@@ -128,15 +131,14 @@ returns-clause-pushed g c =
     let now = c.loop-done.self in
     let own = inv.own (let s = c.requires.some in let l = inv.low in omega arith) in
     let all : c.loop-done.done ≡ length c.args.bytes.now = (let l = inv.low in omega arith) in
-    let sum = sum_by was.geometry now.geometry (growing_of now) _ inv.same (inv.sum ∙ ap (λ n. size_of was.geometry.block_size (growing_of was) + n) all) in
-    let short = subst (λ (k : Geometry). length (growing_of now).rest < capacity_of k.block_size now.full) inv.same (rest_of now).0 in
-    let used = all_used _ _ was.geometry.block_size (growing_of was) (growing_of now) c.args.blocks.now c.loop-done.used _ was.geometry.valid.no_smaller inv.some inv.kept c.requires.count sum inv.growing short own.0 own.1 in
-    let kept = inv.kept ∙ ap (λ (l : List ℕ). kept_of (g.D.BlockDevice.blocks c.args.dev.now) (growing_of was) ++ l) (take_all c.loop-done.used c.args.blocks.now used) in
-    is_grown (geometry_of was) _ now _ _ _ _ _ (shaped _ _ was.geometry (sym (inv.device.geometry ∙ c.requires.geometry)) (g.met.D.BlockDevice.shape c.loop-done.dev)) inv.same inv.growing
-    (inv.bytes ∙ ap (λ (l : List ℕ). content_of (g.D.BlockDevice.blocks c.args.dev.now) (growing_of was) ++ l) (take_all c.loop-done.done c.args.bytes.now (omega arith)))
-    sum kept (own.0 ∙ kept)
-
-pub returns-clause-waits : goal.returns-clause-waits
-returns-clause-waits g c =
-    let inv = c.loop-done.invariant in
-    record { listed = (inv.own (let s = c.requires.some in let l = inv.low in omega arith)).1; pending = inv.pending }
+    let sum = sum_by was.geometry now.geometry now _ inv.same (inv.sum ∙ ap (λ n. end_of was + n) all) in
+    let short = subst (λ (k : Geometry). length now.rest < capacity_of k.block_size now.full) inv.same own.1.1 in
+    let used = all_used _ _ was.geometry.block_size was now c.args.blocks.now c.loop-done.used _ was.geometry.valid.no_smaller inv.some inv.kept c.requires.count sum inv.growing short own.0 own.1.0 in
+    let kept = inv.kept ∙ ap (λ (l : List ℕ). kept_of (g.D.BlockDevice.blocks c.args.dev.now) was ++ l) (take_all c.loop-done.used c.args.blocks.now used) in
+    record {
+      grown =
+          is_grown was.geometry _ now _ _ _ _ _ (shaped _ _ was.geometry (sym (inv.device.geometry ∙ c.requires.stands.geometry)) (g.met.D.BlockDevice.shape c.loop-done.dev)) inv.same own.1.1 inv.growing
+          (inv.bytes ∙ ap (λ (l : List ℕ). content_of (g.D.BlockDevice.blocks c.args.dev.now) was ++ l) (take_all c.loop-done.done c.args.bytes.now (omega arith)))
+          sum kept (own.0 ∙ kept);
+      waits = record { listed = own.1.0; pending = inv.pending };
+    }

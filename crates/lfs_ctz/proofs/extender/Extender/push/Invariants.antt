@@ -3,8 +3,7 @@ use Rattle.std.specs.Prelude.{All}
 use Rattle.lfs_ctz.specs.Counts.{Writes}
 use Rattle.lfs_device.specs.Calls.{ChangesOnly}
 use Rattle.lfs_model.specs.History.{faults}
-use Rattle.lfs_ctz.specs.Extended.{geometry_of, growing_of}
-use Rattle.lfs_ctz.specs.Growing.{IsGrowing, blocks_of, content_of, is_held, kept_of, pending_of, size_of}
+use Rattle.lfs_ctz.specs.Growing.{IsGrowing, IsShort, blocks_of, content_of, end_of, is_held, kept_of, pending_of}
 use Rattle.lfs_ctz.proofs.extender.Extender.push.Given as goal
 
 abbrev pub invariant-loop-done : goal.invariant-loop-done
@@ -12,19 +11,19 @@ invariant-loop-done g l =
     let blocks = g.D.BlockDevice.blocks in
     let history = g.D.BlockDevice.history in
     let old = l.fn.dev in
-    let was = growing_of l.fn.self in
-    let now = growing_of l.self in
+    let was = l.fn.self in
+    let now = l.self in
     let handed = pending_of was ++ l.fn.blocks in
     record {
       low : l.done ≤ length l.fn.bytes;
       some : l.used ≤ length l.fn.blocks;
       growing : IsGrowing (blocks l.dev) now;
       bytes : content_of (blocks l.dev) now ≡ content_of (blocks old) was ++ take l.done l.fn.bytes;
-      sum : size_of (geometry_of l.self).block_size now ≡ size_of (geometry_of l.fn.self).block_size was + l.done;
+      sum : end_of now ≡ end_of was + l.done;
       kept : kept_of (blocks l.dev) now ≡ kept_of (blocks old) was ++ take l.used l.fn.blocks;
-      own : 1 ≤ l.done → (blocks_of (blocks l.dev) now ≡ kept_of (blocks l.dev) now) × (is_held now ≡ false);
+      own : 1 ≤ l.done → (blocks_of (blocks l.dev) now ≡ kept_of (blocks l.dev) now) × ((is_held now ≡ false) × IsShort now.geometry.block_size now);
       pending : (other : ℕ) → All (λ b. b ≢ other) handed → All (λ b. b ≢ other) (pending_of now);
-      same : geometry_of l.self ≡ geometry_of l.fn.self;
+      same : now.geometry ≡ was.geometry;
       device : ChangesOnly g.D.BlockDevice handed old l.dev;
       writes : Writes was.full now.full (history old) (history l.dev);
       quiet : faults (history l.dev) ≡ faults (history old);

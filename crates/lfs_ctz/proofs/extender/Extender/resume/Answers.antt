@@ -1,6 +1,6 @@
 use Rattle.std.proofs.Common.{refl, suc, ℕ, ◌≡◌, ◌≤◌, ◌<◌, ◌+◌, ◌-◌, ◌*◌, ◌++◌, ◌⊎◌, inl, inr, List, [], ◌∷◌, length, take, drop, slice_index, Result, Err, sym, ap, ◌∙◌, arith}
 use Rattle.std.specs.Vec.{with_items}
-use Rattle.std.proofs.lemmas.List.{append-nil, with_items_is}
+use Rattle.std.proofs.lemmas.List.{append-nil, length-take, with_items_is}
 use Rattle.std.proofs.lemmas.Result.{err_from_is_err_and}
 use Rattle.lfs_device.specs.declared.error.Error.{Error}
 use Rattle.lfs_device.specs.declared.geometry.Geometry.{Geometry}
@@ -10,7 +10,7 @@ use Rattle.lfs_ctz.specs.Growing.{joined, IsShared}
 use Rattle.lfs_ctz.proofs.Sizes.{blocks_for-last, place-lt, pointers_of-le, place-le}
 use Rattle.lfs_ctz.proofs.Chains.{in_range_at, back-pointer0}
 use Rattle.lfs_ctz.proofs.Geometries.{last_is, chain, sized, shaped}
-use Rattle.lfs_ctz.proofs.Called.{read_on}
+use Rattle.lfs_ctz.proofs.Called.{quiet, read_on, told_as, told_on}
 use Rattle.lfs_ctz.proofs.Stands.{is_grown}
 use Rattle.lfs_ctz.proofs.Resumed.{front_back, front_chain, keep_full, full_content, full_blocks, before_chain, before_front, open_blocks, open_shared, open_content, rest_long}
 use Rattle.lfs_ctz.proofs.Words.{data-written}
@@ -31,11 +31,15 @@ never_corrupt : {T : Type 0} (x : Error) → (x ≡ Error.Io) ⊎ (x ≡ Error.C
 never_corrupt x (inl is) other = inl is
 never_corrupt x (inr is) other = absurd (other (ap Err is))
 
-pub returns-in_err-block-clause-errors : goal.returns-in_err-block-clause-errors
-returns-in_err-block-clause-errors g c =
+pub returns-in_err-block-clause-tells : goal.returns-in_err-block-clause-tells
+returns-in_err-block-clause-tells g c =
     let p = err_from_is_err_and c.from_residual-in_err-block.result c.from_residual-in_err-block.ensures.1 in
-    rw (p.1, p.2) (never_corrupt {T = ℕ} _ c.in_err-block.ensures.reading.errors (λ is. c.in_err-block.ensures.corrupt is
-    (chain _ _ _ _ _ c.geometry-geometry.result.valid.no_smaller c.blocks_for.ensures (sized _ _ _ _ _ c.geometry-geometry.ensures c.requires.list))))
+    let told = c.in_err-block.ensures.reading in
+    rw (p.1, p.2) (record {
+      faults = told_as g.D.BlockDevice told.faults;
+      errors = never_corrupt {T = ℕ} _ told.errors (λ is. c.in_err-block.ensures.corrupt is
+          (chain _ _ _ _ _ c.geometry-geometry.result.valid.no_smaller c.blocks_for.ensures (sized _ _ _ _ _ c.geometry-geometry.ensures c.requires.list)));
+    })
 
 pub overflow_add-result : goal.overflow_add-result
 overflow_add-result g c =
@@ -140,8 +144,8 @@ read_rest d same old new items block off p block_size e is read long within low 
     ap (λ (l : List ℕ). take (off + 1 - p) (drop p l)) (is ∙ read ∙ ap (λ b. take (off + 1) (block_in b block) ++ drop (0 + (off + 1)) old) e)
     ∙ data-written (block_in d block) (drop (0 + (off + 1)) old) (off + 1) p (omega arith) low
 
-pub invariant_of-result-clause-in_step : goal.invariant_of-result-clause-in_step
-invariant_of-result-clause-in_step g c =
+pub invariant_of-result : goal.invariant_of-result
+invariant_of-result g c =
     let full = is_full _ _ _ _ _ _ _ _ _ _ c.geometry-geometry.ensures c.blocks_for.ensures (g.met.D.BlockDevice.shape c.args.dev.now) c.requires.list c.requires.some c.requires.within c.place-index.ensures c.in_ok-block.ensures.found c.if-off-block_size.true in
     let few = pointers_of-le (c.place-index.result.0 + 1) in
     let large = c.geometry-geometry.result.valid.no_smaller in
@@ -149,7 +153,7 @@ invariant_of-result-clause-in_step g c =
     let high = c.requires.list.size_high in
     let within = c.requires.within in
     let sum = full.sum in
-    record { low = omega arith; high = omega arith; sum = omega arith; fits = omega arith }
+    record { one_block = omega (arith, c.in_ok-buffer.ensures.len, c.in_ok-buffer.buffer.ok.0); in_step = record { low = omega arith; high = omega arith; sum = omega arith; fits = omega arith } }
 
 pub returns-then-off-block_size-clause-resumed : goal.returns-then-off-block_size-clause-resumed
 returns-then-off-block_size-clause-resumed g c =
@@ -159,30 +163,33 @@ returns-then-off-block_size-clause-resumed g c =
     let i : ℕ = c.place-index.result.0 in
     let rest : take (4 * c.pointers.result - 4 * pointers_of (i + 1)) (drop (4 * pointers_of (i + 1)) c.in_ok-buffer.buffer.items) ≡ [] =
     ap (λ k. take k (drop (4 * pointers_of (i + 1)) c.in_ok-buffer.buffer.items)) (let none : 4 * c.pointers.result - 4 * pointers_of (i + 1) ≡ 0 = omega (arith, c.pointers.ensures) in none) in
-    is_grown _ old _ _ _ _ _ _ (g.met.D.BlockDevice.shape c.args.dev.now) made
-    (record { chain = full.chain_is; stand = rest })
-    (ap (λ (l : List ℕ). joined old (blocks_back old (i + 1) c.in_ok-block.block) ++ l) rest ∙ full.content)
-    (omega (arith, ap length rest, full.sum, ap (λ (k : Geometry). bytes_before k.block_size (i + 1)) made))
-    full.kept full.blocks_are
-
-pub returns-then-off-block_size-clause-waits : goal.returns-then-off-block_size-clause-waits
-returns-then-off-block_size-clause-waits g c = record { listed = refl; pending = λ other apart. apart }
-
-pub returns-clause-waits : goal.returns-clause-waits
-returns-clause-waits g c = record { listed = refl; pending = λ other apart. apart }
+    record {
+      grown =
+          is_grown _ old _ _ _ _ _ _ (g.met.D.BlockDevice.shape c.args.dev.now) made
+          (omega (arith, ap length rest, pointers_of-le (i + 1), c.geometry-geometry.result.valid.no_smaller))
+          (record { chain = full.chain_is; stand = rest })
+          (ap (λ (l : List ℕ). joined old (blocks_back old (i + 1) c.in_ok-block.block) ++ l) rest ∙ full.content)
+          (omega (arith, ap length rest, full.sum, ap (λ (k : Geometry). bytes_before k.block_size (i + 1)) made))
+          full.kept full.blocks_are;
+      waits = record { listed = refl; pending = λ other apart. apart };
+    }
 
 pub returns-in_err-head-clause-device : goal.returns-in_err-head-clause-device
 returns-in_err-head-clause-device g c = read_on g.D.BlockDevice c.find.ensures.reading.device c.head_before.ensures.reading.device
 
-pub returns-in_err-head-clause-errors : goal.returns-in_err-head-clause-errors
-returns-in_err-head-clause-errors g c =
+pub returns-in_err-head-clause-tells : goal.returns-in_err-head-clause-tells
+returns-in_err-head-clause-tells g c =
     let p = err_from_is_err_and c.from_residual-in_err-head.result c.from_residual-in_err-head.ensures.1 in
-    rw (p.1, p.2) (never_corrupt {T = ℕ} _ c.in_err-head.ensures.reading.errors (λ is.
-    let some = (c.in_err-head.ensures.corrupt is).0 in
-    let refused = rw (c.find.ensures.reading.device.same, c.find.ensures.reading.device.geometry) at c.in_err-head.ensures.corrupt in
-    let out = (refused is).1 in
-    let inside = before_there _ _ _ _ _ c.args.keep _ _ _ _ c.geometry-geometry.ensures c.blocks_for.ensures (g.met.D.BlockDevice.shape c.args.dev.now) c.requires.list c.requires.some c.requires.within c.place-index.ensures c.in_ok-block.ensures.found some in
-    omega (arith, out, inside)))
+    let told = c.in_err-head.ensures.reading in
+    rw (p.1, p.2) (record {
+      faults = told_on g.D.BlockDevice (quiet g.D.BlockDevice c.in_ok-block.ensures.reading.faults) (told_as g.D.BlockDevice told.faults);
+      errors = never_corrupt {T = ℕ} _ told.errors (λ is.
+          let some = (c.in_err-head.ensures.corrupt is).0 in
+          let refused = rw (c.find.ensures.reading.device.same, c.find.ensures.reading.device.geometry) at c.in_err-head.ensures.corrupt in
+          let out = (refused is).1 in
+          let inside = before_there _ _ _ _ _ c.args.keep _ _ _ _ c.geometry-geometry.ensures c.blocks_for.ensures (g.met.D.BlockDevice.shape c.args.dev.now) c.requires.list c.requires.some c.requires.within c.place-index.ensures c.in_ok-block.ensures.found some in
+          omega (arith, out, inside));
+    })
 
 pub returns-in_err-read_part-clause-device : goal.returns-in_err-read_part-clause-device
 returns-in_err-read_part-clause-device g c = read_on g.D.BlockDevice (read_on g.D.BlockDevice c.find.ensures.reading.device c.head_before.ensures.reading.device) c.read_part.ensures.device
@@ -191,7 +198,7 @@ pub returns-clause-device : goal.returns-clause-device
 returns-clause-device g c = read_on g.D.BlockDevice (read_on g.D.BlockDevice c.find.ensures.reading.device c.head_before.ensures.reading.device) c.read_part.ensures.device
 
 -- the bytes of the block that are kept
-rest_is : (g : _) (c : goal.After-result-2-1 g) → take (c.place-index.result.1 + 1 - 4 * pointers_of c.place-index.result.0) (drop (4 * pointers_of c.place-index.result.0) (with_items c.in_ok-buffer.buffer c.read_part.new.buf).items)
+rest_is : (g : _) (c : goal.In_ok-read_part g) → take (c.place-index.result.1 + 1 - 4 * pointers_of c.place-index.result.0) (drop (4 * pointers_of c.place-index.result.0) (with_items c.in_ok-buffer.buffer c.read_part.new.buf).items)
     ≡ take (c.place-index.result.1 + 1 - 4 * pointers_of c.place-index.result.0) (drop (4 * pointers_of c.place-index.result.0) (block_in (g.D.BlockDevice.blocks c.args.dev.now) c.in_ok-block.block))
 rest_is g c =
     let made = c.geometry-geometry.ensures in
@@ -205,7 +212,7 @@ rest_is g c =
     (omega (arith, shape.sizes c.in_ok-block.block in_range, ap (λ (k : Geometry). k.block_size) made))
     (omega arith) (let at = place.at in omega arith)
 
-opened : (g : _) (c : goal.After-result-2-1 g) → IsOpen (g.D.BlockDevice.blocks c.args.dev.now) (g.D.BlockDevice.geometry c.args.dev.now) c.geometry-geometry.result c.args.head c.args.size c.args.keep c.place-index.result.0 c.place-index.result.1
+opened : (g : _) (c : goal.In_ok-read_part g) → IsOpen (g.D.BlockDevice.blocks c.args.dev.now) (g.D.BlockDevice.geometry c.args.dev.now) c.geometry-geometry.result c.args.head c.args.size c.args.keep c.place-index.result.0 c.place-index.result.1
     c.in_ok-block.block c.in_ok-head.head (take (c.place-index.result.1 + 1 - 4 * pointers_of c.place-index.result.0) (drop (4 * pointers_of c.place-index.result.0) (with_items c.in_ok-buffer.buffer c.read_part.new.buf).items))
 opened g c =
     is_open _ _ _ _ _ _ _ _ _ _ _ _ c.geometry-geometry.ensures c.blocks_for.ensures (g.met.D.BlockDevice.shape c.args.dev.now) c.requires.list c.requires.some c.requires.within c.place-index.ensures c.in_ok-block.ensures.found
@@ -217,5 +224,16 @@ pub returns-clause-resumed : goal.returns-clause-resumed
 returns-clause-resumed g c =
     let o = opened g c in
     let made = c.geometry-geometry.ensures in
-    is_grown _ (g.D.BlockDevice.blocks c.args.dev.now) _ _ _ _ _ _ (g.met.D.BlockDevice.shape c.args.dev.now) made
-    (record { chain = o.chain_is; stand = o.shared }) o.content (omega (arith, o.sum, ap (λ (k : Geometry). bytes_before k.block_size c.place-index.result.0) made)) o.kept o.blocks_are
+    record {
+      grown =
+          is_grown _ (g.D.BlockDevice.blocks c.args.dev.now) _ _ _ _ _ _ (g.met.D.BlockDevice.shape c.args.dev.now) made
+          (omega (
+            arith,
+            length-take (c.place-index.result.1 + 1 - 4 * pointers_of c.place-index.result.0) (drop (4 * pointers_of c.place-index.result.0) (with_items c.in_ok-buffer.buffer c.read_part.new.buf).items),
+            short_of c.geometry-geometry.result.block_size c.args.keep c.place-index.result.0 c.place-index.result.1 c.geometry-geometry.result.valid.no_smaller c.place-index.ensures c.if-off-block_size.false,
+            pointers_of-le c.place-index.result.0,
+            c.geometry-geometry.result.valid.no_smaller,
+          ))
+          (record { chain = o.chain_is; stand = o.shared }) o.content (omega (arith, o.sum, ap (λ (k : Geometry). bytes_before k.block_size c.place-index.result.0) made)) o.kept o.blocks_are;
+      waits = record { listed = refl; pending = λ other apart. apart };
+    }

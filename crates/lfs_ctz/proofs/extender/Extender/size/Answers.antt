@@ -1,5 +1,5 @@
-use Rattle.lfs_ctz.proofs.Rests.{rest_of}
+use Rattle.lfs_ctz.proofs.Rests.{counted}
 use Rattle.lfs_ctz.proofs.extender.Extender.size.Goals as goal
 
 pub returns : goal.returns
-returns c = (rest_of c.args.self.now).1
+returns c = (counted c.self.inside c.args.self.now c.self.invariant c.self.view_is).sum

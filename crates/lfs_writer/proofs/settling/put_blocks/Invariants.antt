@@ -1,22 +1,21 @@
 use Rattle.std.proofs.Common.{◌≡◌, ◌≤◌, ◌<◌, ◌-◌, drop, slice_index}
 use Rattle.lfs_device.specs.Calls.{ReadsOnly}
-use Rattle.lfs_model.specs.BlockSets.BlockState.{Used}
 use Rattle.lfs_model.specs.History.{faults}
 use Rattle.lfs_model.specs.SkipLists.{blocks_back}
-use Rattle.lfs_writer.specs.Settled.{Puts}
-use Rattle.lfs_writer.proofs.settling.use_blocks.Given as goal
+use Rattle.lfs_writer.specs.Settled.{Puts, settled_as}
+use Rattle.lfs_writer.proofs.settling.put_blocks.Given as goal
 
-abbrev pub invariant-using : goal.invariant-using
-invariant-using g l =
+abbrev pub invariant-putting : goal.invariant-putting
+invariant-putting g l =
     let old = l.fn.dev in
     let blocks = blocks_back (g.D.BlockDevice.blocks old) l.fn.count l.fn.head in
     record {
       high : l.index ≤ l.fn.count;
       here : 0 < l.index → l.block ≡ slice_index blocks (l.index - 1);
-      done : Puts Used l.fn.map l.map (drop l.index blocks);
+      done : Puts (settled_as l.fn.used) l.fn.map l.map (drop l.index blocks);
       device : ReadsOnly g.D.BlockDevice old l.dev;
       quiet : faults (g.D.BlockDevice.history l.dev) ≡ faults (g.D.BlockDevice.history old);
     }
 
-abbrev pub decreases-using : goal.decreases-using
-decreases-using g l = l.index
+abbrev pub decreases-putting : goal.decreases-putting
+decreases-putting g l = l.index

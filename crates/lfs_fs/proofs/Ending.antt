@@ -1,5 +1,5 @@
 -- How each of a session's calls ends.
-use Rattle.std.proofs.Common.{◌≡◌, Bool, true, false, cond, List, [], Option, Some, None, Result, Ok, Err, refl, sym, ap, subst, ◌∙◌, inl, inr}
+use Rattle.std.proofs.Common.{◌≡◌, Bool, true, false, cond, Some, None, Result, Ok, Err, refl, sym, ap, subst, ◌∙◌}
 use Rattle.std.specs.Prelude.{◌⊎◌, OnOk, IfErr, is_err}
 use Rattle.std.proofs.lemmas.Option.{same_Some}
 use Rattle.lfs_device.specs.declared.error.Error.{Error}
@@ -9,12 +9,11 @@ use Rattle.lfs_model.specs.Operations as ops
 use Rattle.lfs_model.specs.Operations.{Failed, Operation, Refusal, Reply}
 use Rattle.lfs_model.specs.Refusals.{refusal_of}
 use Rattle.lfs_model.specs.Session.{Files}
-use Rattle.lfs_model.specs.State.{is_remount}
 use Rattle.lfs_lookup.specs.Refusals.{is_refusal, refusal_in}
 use Rattle.lfs_tree.specs.Seen.{IsAsked, IsError, IsMountError, IsMountedTree, Seen, around_of}
 use Rattle.lfs_model.specs.Discipline.{comes_at_once, takes_nothing}
 use Rattle.lfs_fs.specs.Ending.{EndsWell}
-use Rattle.lfs_checks.specs.FileSeen.{OpenFiles, files_seen}
+use Rattle.lfs_checks.specs.FileSeen.{OpenFiles}
 use Rattle.lfs_checks.specs.Held.{Checks, ComesLate, EndsChecks, Held, held_of, held_with, refused_by, session_of}
 use Rattle.lfs_checks.specs.Replies.{reply_in}
 use Rattle.lfs_checks.proofs.Answered.{no_refusal_io, not_failed}

@@ -22,3 +22,5 @@ pub mod StoppedCalls
 pub mod Ending
 pub mod Sparing
 pub mod WrittenAlone
+pub mod Told
+pub mod Called

@@ -1,5 +1,5 @@
 -- What a recovery answers, and what it leaves of the open files.
-use Rattle.std.proofs.Common.{inl, ◌≡◌, false, not, [], None, Result, refl, sym, subst}
+use Rattle.std.proofs.Common.{inl, ◌≡◌, false, not, [], None, Result, Ok, Err, refl, sym, subst}
 use Rattle.std.specs.Prelude.{OnErr, OnOk, IfErr}
 use Rattle.lfs_device.specs.declared.error.Error.{Error}
 use Rattle.lfs_model.specs.Operations as ops
@@ -12,6 +12,11 @@ use Rattle.lfs_checks.specs.Staying.{AreLeft, FilesStay}
 use Rattle.lfs_checks.proofs.Answered.{KeepsFiles, done_answers, done_left, keeps_writers, none_concerned, not_refused, nothing_asked, sound_by, with_files}
 use Rattle.lfs_checks.proofs.Checked.{negated, unrefused}
 use Rattle.lfs_fs.proofs.Staying.{SameFile}
+
+-- what follows from what holds at Ok
+pub ok_then : {X Y : Type 0} (r : Result X Y) (P Q : Type 0) → (P → Q) → OnOk r P → OnOk r Q
+ok_then (Ok x) P Q f h = f h
+ok_then (Err e) P Q f h = tt
 
 -- the tree stays, and every file with it
 recover_keeps : (t s : Seen) → IsCarried t ops.Recover s → KeepsFiles t s

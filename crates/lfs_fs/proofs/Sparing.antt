@@ -39,12 +39,11 @@ use Rattle.lfs_fs.specs.Sparing.{IsCall, LeavesAtHand, LeavesOthers}
 use Rattle.lfs_checks.proofs.KeptLookUps.{reads_none}
 use Rattle.lfs_lookup.specs.AtHand.{AreSmall}
 use Rattle.lfs_tree.specs.Reads.{HasOnHand}
-use Rattle.lfs_fs.specs.Told.{IsTold}
 use Rattle.lfs_checks.proofs.FewReads.{reads_few}
 use Rattle.lfs_checks.proofs.OpenFiles.{file_is}
 use Rattle.lfs_fs.proofs.Stopping.{kept_call, session_at, works_at}
 use Rattle.lfs_fs.proofs.WrittenAlone.{written_alone}
-use Rattle.lfs_fs.proofs.Withstanding.{call_withstands, ready_agrees, stood_before}
+use Rattle.lfs_fs.proofs.Withstanding.{ready_agrees, stood_before}
 
 -- ---- where the disk is as it was
 
@@ -136,7 +135,7 @@ asking_stands old op (Err e) new agrees asks fails survives = record {
   stands = λ s ps around work clean stopped. subst (λ d. IsLeft d s.tree (applied around s op).1.tree) (sym (fails.fails.asks s work.healthy (asks s)).0) (stood_before (moment_of old) op agrees s ps around work);
 }
 
-ok_others : {A : Type 0} (old : Held) (op : Operation) (reply : A → Reply) (r : Result A Error) (new : Held) → Answers old op (reply_in reply r) new → OnOk r (LeavesOthers (moment_of old) op (moment_of new)) → is_err (reply_in reply r) ≡ false → LeavesOthers (moment_of old) op (moment_of new)
+pub ok_others : {A : Type 0} (old : Held) (op : Operation) (reply : A → Reply) (r : Result A Error) (new : Held) → Answers old op (reply_in reply r) new → OnOk r (LeavesOthers (moment_of old) op (moment_of new)) → is_err (reply_in reply r) ≡ false → LeavesOthers (moment_of old) op (moment_of new)
 ok_others old op reply (Ok x) new answers k e = k
 ok_others old op reply (Err x) new answers k e = go (is_refusal x) answers e
   where
@@ -205,24 +204,6 @@ asking_call t fs now op r new same ready asks kept by ends answers survives = re
 pub kept_asking : (t : Seen) (fs : OpenFiles) (now : Held) (op : Operation) (r : Result Reply Error) → held_of t fs ≡ now → (t.failed ≡ false → IsReady t fs) → ((s : Session) → only_asks s op ≡ true) → looks_up op ≡ false → EndsWell now op r now → Answers now op r now → IsCall now op r now
 kept_asking t fs now op r same ready asks silent ends answers =
     asking_call t fs now op r now same ready asks (λ k. refl) (asks_not t op r now silent) ends answers (kept_call (held_of t fs) now op same (λ w. (ready w).sound))
-
--- a call that may change the disk
-pub changing_call : {A : Type 0} (old : Held) (op : Operation) (reply : A → Reply) (r : Result A Error) (new : Held) → IsTold old → IsTold new → is_kept op ≡ false → looks_up op ≡ false → OnOk r (LeavesOthers (moment_of old) op (moment_of new)) →
-    EndsWell old op (reply_in reply r) new → Answers old op (reply_in reply r) new → SurvivesStops (moment_of old) op (moment_of new) → IsCall old op (reply_in reply r) new
-changing_call old op reply r new before after other silent alone ends answers survives =
-    let by = asks_not old.tree op (reply_in reply r) new silent in
-    record {
-      answers = answers;
-      ends = ends;
-      withstands = call_withstands old op (reply_in reply r) new before after answers survives;
-      alone = λ e. ok_others old op reply r new answers alone e;
-      asks = record {
-        asked = λ k. absurd (let l = sym other ∙ k in cc);
-        few = λ s at ps a calls is looks. absurd (let l = sym silent ∙ looks in cc);
-        none = λ looks. absurd (let l = sym silent ∙ looks in cc);
-        hand = by.hand;
-      };
-    }
 
 -- the same of an operation by another name
 pub performed_call : (old new : Held) (op : Operation) (o : Operation) (r q : Result Reply Error) → o ≡ op → q ≡ r → IsCall old op r new → IsCall old o q new

@@ -1,14 +1,17 @@
 -- What a session has of its device.
-use Rattle.std.specs.Prelude.{◌≡◌, ◌≢◌, false, []}
+use Rattle.std.specs.Prelude.{◌≡◌, false}
 use Rattle.lfs_model.specs.History.{IsNewest}
 use Rattle.lfs_model.specs.Obeyed.{AreObeyed}
-use Rattle.lfs_model.specs.Run.{Agrees}
-use Rattle.lfs_checks.specs.Held.{Held, moment_of}
+use Rattle.lfs_tree.specs.Seen.{Seen}
+use Rattle.lfs_checks.specs.FileSeen.{OpenFiles}
+use Rattle.lfs_checks.specs.Held.{IsReady}
 
--- A session that works has the tree of its disk, and its device has had a call. The newest call left the disk as it is, and each
--- that didn't fail was carried out.
-pub record IsTold (h : Held) : Type 0 where
-  pub agrees : Agrees h.tree.disk (moment_of h).state
-  pub called : h.tree.failed ≡ false → h.tree.history ≢ []
-  pub newest : IsNewest h.tree.history h.tree.disk.blocks
-  pub obeyed : AreObeyed h.tree.history
+-- The newest call left the disk as it is, and each that didn't fail was carried out.
+pub record IsTold (t : Seen) : Type 0 where
+  pub newest : IsNewest t.history t.disk.blocks
+  pub obeyed : AreObeyed t.history
+
+-- What a session that works keeps between its calls: it is ready for the next one, over a device that told of all its calls.
+pub record IsBetweenCalls (t : Seen) (files : OpenFiles) : Type 0 where
+  pub ready : t.failed ≡ false → IsReady t files
+  pub told : t.failed ≡ false → IsTold t

@@ -7,6 +7,7 @@ mod left_open;
 mod reading;
 mod run;
 mod session;
+mod telling;
 
 pub use gstate::Gstate;
 pub use lfs_checks::OpenFlags;

@@ -10,7 +10,7 @@ ghost use Rattle.lfs_model.specs.History.{faults};
 ghost use Rattle.lfs_model.specs.State.{Healthy, mounted};
 ghost use Rattle.lfs_model.specs.Run.{AreTurns};
 ghost use Rattle.lfs_model.specs.Outages.{AreWithstood};
-ghost use Rattle.lfs_model.specs.PowerLoss.{SurvivesStops};
+ghost use Rattle.lfs_model.specs.PowerLoss.{Withstands};
 ghost use Rattle.lfs_model.specs.declared.order.NameOrder.{NameOrder};
 ghost use Rattle.lfs_model.specs.declared.order.NameOrder.TheVariants.{LongerFirst, ShorterFirst};
 ghost use Rattle.lfs_device.specs.Shown.{ordered};
@@ -22,20 +22,19 @@ ghost use Rattle.lfs_model.specs.View.{IsAccepted};
 ghost use Rattle.lfs_lookup.specs.Finds.{list_item_seen};
 ghost use Rattle.lfs_tree.specs.Formatting.{DeviceComesBack, WritesFirstTwo};
 ghost use Rattle.lfs_tree.specs.Seen.{kept_of};
-ghost use Rattle.lfs_fs.specs.Ending.{EndsWell};
 ghost use Rattle.lfs_fs.specs.GstateSeen.{gstate_reply};
-ghost use Rattle.lfs_checks.specs.Held.{Answers, IsBegun, IsEndedBy, moment_of};
+ghost use Rattle.lfs_checks.specs.Held.{IsBegun, IsEndedBy, moment_of};
 ghost use Rattle.lfs_checks.specs.FlagsSeen.{flags_seen};
 ghost use Rattle.lfs_fs.specs.OpSeen.{IsNamed, op_seen, performed, reply_seen};
-ghost use Rattle.lfs_fs.specs.Sparing.{IsCall, LeavesOthers};
+ghost use Rattle.lfs_fs.specs.Sparing.{IsCall};
 ghost use Rattle.lfs_model.specs.Thrift.{AreThrifty};
-ghost use Rattle.lfs_fs.specs.Told.{IsTold};
 
 use crate::changing::{begin_new, begin_there, save, truncate_by, write_by};
 use crate::gstate::{Gstate, gstate_of};
 use crate::left_open::open_files_stay;
 use crate::reading::read_from;
 use crate::run::{Op, Reply, bytes, count, done, fd, gstate, items, stat, yes};
+use crate::telling::device_tells;
 use bitflags::Flags;
 use lfs_checks::{
     Files, OpenFile, OpenFlags, OwnedPath, check_get_attr, check_list, check_mkdir, check_open,
@@ -65,14 +64,14 @@ pub struct Session<D: BlockDevice> {
 }
 
 impl<D: BlockDevice> Model for Session<D> {
-    ghost use Rattle.std.specs.Prelude.{◌≡◌, false};
-    ghost use Rattle.lfs_checks.specs.Held.{Held, IsReady, held_of};
+    ghost use Rattle.lfs_checks.specs.Held.{Held, held_of};
+    ghost use Rattle.lfs_fs.specs.Told.{IsBetweenCalls};
 
     ghost Value = { Held };
 
     ghost view = { λ s. held_of s.tree s.files };
 
-    ghost invariant = { λ s. s.tree.failed ≡ false → IsReady s.tree s.files };
+    ghost invariant = { λ s. IsBetweenCalls s.tree s.files };
 }
 
 impl<D: BlockDevice> Session<D> {
@@ -166,21 +165,11 @@ impl<D: BlockDevice> Session<D> {
     pub fn mkdir(&mut self, alloc: Global, path: &[u8]) -> Result<(), Error>
         ensures { IsCall self.old (ops.Mkdir path.now) (reply_in (λ _. ops.Done) result) self.new }
     {
-        self.tells();
-        let answer = self.do_mkdir(alloc, path);
-        self.tells();
-        answer
-    }
-
-    fn do_mkdir(&mut self, alloc: Global, path: &[u8]) -> Result<(), Error>
-        ensures answers { Answers self.old (ops.Mkdir path.now) (reply_in (λ _. ops.Done) result) self.new }
-        ensures ends { EndsWell self.old (ops.Mkdir path.now) (reply_in (λ _. ops.Done) result) self.new }
-        ensures alone { OnOk result (LeavesOthers (moment_of self.old) (ops.Mkdir path.now) (moment_of self.new)) }
-        ensures survives { SurvivesStops (moment_of self.old) (ops.Mkdir path.now) (moment_of self.new) }
-    {
         open_files_stay();
         let path = check_mkdir(alloc, &mut self.tree, &self.files, path)?;
-        self.tree.mkdir(alloc, &path)
+        let answer = self.tree.mkdir(alloc, &path);
+        device_tells(&self.tree);
+        answer
     }
 
     /// Takes a file, or a directory without entries. What a loss of power left is ended first.
@@ -194,21 +183,11 @@ impl<D: BlockDevice> Session<D> {
     pub fn remove(&mut self, alloc: Global, path: &[u8]) -> Result<(), Error>
         ensures { IsCall self.old (ops.Remove path.now) (reply_in (λ _. ops.Done) result) self.new }
     {
-        self.tells();
-        let answer = self.do_remove(alloc, path);
-        self.tells();
-        answer
-    }
-
-    fn do_remove(&mut self, alloc: Global, path: &[u8]) -> Result<(), Error>
-        ensures answers { Answers self.old (ops.Remove path.now) (reply_in (λ _. ops.Done) result) self.new }
-        ensures ends { EndsWell self.old (ops.Remove path.now) (reply_in (λ _. ops.Done) result) self.new }
-        ensures alone { OnOk result (LeavesOthers (moment_of self.old) (ops.Remove path.now) (moment_of self.new)) }
-        ensures survives { SurvivesStops (moment_of self.old) (ops.Remove path.now) (moment_of self.new) }
-    {
         open_files_stay();
         let path = check_remove(alloc, &mut self.tree, &self.files, path)?;
-        self.tree.remove(alloc, &path)
+        let answer = self.tree.remove(alloc, &path);
+        device_tells(&self.tree);
+        answer
     }
 
     /// Gives an entry another path, in place of a file, or of a directory without entries, at it,
@@ -228,24 +207,14 @@ impl<D: BlockDevice> Session<D> {
     pub fn rename(&mut self, alloc: Global, from: &[u8], to: &[u8]) -> Result<(), Error>
         ensures { IsCall self.old (ops.Rename from.now to.now) (reply_in (λ _. ops.Done) result) self.new }
     {
-        self.tells();
-        let answer = self.do_rename(alloc, from, to);
-        self.tells();
-        answer
-    }
-
-    fn do_rename(&mut self, alloc: Global, from: &[u8], to: &[u8]) -> Result<(), Error>
-        ensures answers { Answers self.old (ops.Rename from.now to.now) (reply_in (λ _. ops.Done) result) self.new }
-        ensures ends { EndsWell self.old (ops.Rename from.now to.now) (reply_in (λ _. ops.Done) result) self.new }
-        ensures alone { OnOk result (LeavesOthers (moment_of self.old) (ops.Rename from.now to.now) (moment_of self.new)) }
-        ensures survives { SurvivesStops (moment_of self.old) (ops.Rename from.now to.now) (moment_of self.new) }
-    {
         open_files_stay();
         let renaming = check_rename(alloc, &mut self.tree, &self.files, from, to)?;
         if renaming.is_same {
             return Ok(());
         }
-        self.tree.rename(alloc, &renaming.from, &renaming.to)
+        let answer = self.tree.rename(alloc, &renaming.from, &renaming.to);
+        device_tells(&self.tree);
+        answer
     }
 
     /// Gives an entry an attribute, in place of the one of that type that it has, if it has one.
@@ -267,27 +236,11 @@ impl<D: BlockDevice> Session<D> {
     ) -> Result<(), Error>
         ensures { IsCall self.old (ops.SetAttr path.now kind value.now) (reply_in (λ _. ops.Done) result) self.new }
     {
-        self.tells();
-        let answer = self.do_set_attr(alloc, path, kind, value);
-        self.tells();
-        answer
-    }
-
-    fn do_set_attr(
-        &mut self,
-        alloc: Global,
-        path: &[u8],
-        kind: u8,
-        value: &[u8],
-    ) -> Result<(), Error>
-        ensures answers { Answers self.old (ops.SetAttr path.now kind value.now) (reply_in (λ _. ops.Done) result) self.new }
-        ensures ends { EndsWell self.old (ops.SetAttr path.now kind value.now) (reply_in (λ _. ops.Done) result) self.new }
-        ensures alone { OnOk result (LeavesOthers (moment_of self.old) (ops.SetAttr path.now kind value.now) (moment_of self.new)) }
-        ensures survives { SurvivesStops (moment_of self.old) (ops.SetAttr path.now kind value.now) (moment_of self.new) }
-    {
         open_files_stay();
         let path = check_set_attr(alloc, &mut self.tree, &self.files, path, kind, value)?;
-        self.tree.set_attr(alloc, &path, kind, value)
+        let answer = self.tree.set_attr(alloc, &path, kind, value);
+        device_tells(&self.tree);
+        answer
     }
 
     /// Takes an attribute from an entry. What a loss of power left is ended first.
@@ -300,21 +253,11 @@ impl<D: BlockDevice> Session<D> {
     pub fn remove_attr(&mut self, alloc: Global, path: &[u8], kind: u8) -> Result<(), Error>
         ensures { IsCall self.old (ops.RemoveAttr path.now kind) (reply_in (λ _. ops.Done) result) self.new }
     {
-        self.tells();
-        let answer = self.do_remove_attr(alloc, path, kind);
-        self.tells();
-        answer
-    }
-
-    fn do_remove_attr(&mut self, alloc: Global, path: &[u8], kind: u8) -> Result<(), Error>
-        ensures answers { Answers self.old (ops.RemoveAttr path.now kind) (reply_in (λ _. ops.Done) result) self.new }
-        ensures ends { EndsWell self.old (ops.RemoveAttr path.now kind) (reply_in (λ _. ops.Done) result) self.new }
-        ensures alone { OnOk result (LeavesOthers (moment_of self.old) (ops.RemoveAttr path.now kind) (moment_of self.new)) }
-        ensures survives { SurvivesStops (moment_of self.old) (ops.RemoveAttr path.now kind) (moment_of self.new) }
-    {
         open_files_stay();
         let path = check_remove_attr(alloc, &mut self.tree, &self.files, path, kind)?;
-        self.tree.remove_attr(alloc, &path, kind)
+        let answer = self.tree.remove_attr(alloc, &path, kind);
+        device_tells(&self.tree);
+        answer
     }
 
     /// Ends what a loss of power left in the image: a set move, and directories that no path leads
@@ -326,17 +269,6 @@ impl<D: BlockDevice> Session<D> {
     pub fn recover(&mut self, alloc: Global) -> Result<(), Error>
         ensures { IsCall self.old ops.Recover (reply_in (λ _. ops.Done) result) self.new }
     {
-        self.tells();
-        let answer = self.do_recover(alloc);
-        self.tells();
-        answer
-    }
-
-    fn do_recover(&mut self, alloc: Global) -> Result<(), Error>
-        ensures answers { Answers self.old ops.Recover (reply_in (λ _. ops.Done) result) self.new }
-        ensures ends { EndsWell self.old ops.Recover (reply_in (λ _. ops.Done) result) self.new }
-        ensures survives { SurvivesStops (moment_of self.old) ops.Recover (moment_of self.new) }
-    {
         open_files_stay();
         if self.tree.has_failed() {
             return Err(Error::Failed);
@@ -344,16 +276,15 @@ impl<D: BlockDevice> Session<D> {
         if !self.tree.is_writable() {
             return Err(Error::ReadOnly);
         }
-        self.tree.recover(alloc)
+        let answer = self.tree.recover(alloc);
+        device_tells(&self.tree);
+        answer
     }
 
     // Opens a file for reading.
     fn open_reader(&mut self, alloc: Global, path: &[u8], flags: OpenFlags) -> Result<u32, Error>
         requires { (flags_seen flags).write ≡ false }
-        ensures answers { Answers self.old (ops.Open path.now (flags_seen flags)) (reply_in ops.Opened result) self.new }
-        ensures ends { EndsWell self.old (ops.Open path.now (flags_seen flags)) (reply_in ops.Opened result) self.new }
-        ensures alone { OnOk result (LeavesOthers (moment_of self.old) (ops.Open path.now (flags_seen flags)) (moment_of self.new)) }
-        ensures survives { SurvivesStops (moment_of self.old) (ops.Open path.now (flags_seen flags)) (moment_of self.new) }
+        ensures { IsCall self.old (ops.Open path.now (flags_seen flags)) (reply_in ops.Opened result) self.new }
     {
         check_open_reader(alloc, &mut self.tree, &self.files, path, flags)?;
         let answer = self.files.add_reader(alloc, path);
@@ -366,10 +297,7 @@ impl<D: BlockDevice> Session<D> {
     // Opens a file for writing.
     fn open_writer(&mut self, alloc: Global, path: &[u8], flags: OpenFlags) -> Result<u32, Error>
         requires { (flags_seen flags).write ≡ true }
-        ensures answers { Answers self.old (ops.Open path.now (flags_seen flags)) (reply_in ops.Opened result) self.new }
-        ensures ends { EndsWell self.old (ops.Open path.now (flags_seen flags)) (reply_in ops.Opened result) self.new }
-        ensures alone { OnOk result (LeavesOthers (moment_of self.old) (ops.Open path.now (flags_seen flags)) (moment_of self.new)) }
-        ensures survives { SurvivesStops (moment_of self.old) (ops.Open path.now (flags_seen flags)) (moment_of self.new) }
+        ensures { IsCall self.old (ops.Open path.now (flags_seen flags)) (reply_in ops.Opened result) self.new }
     {
         let found = check_open_writer(alloc, &mut self.tree, &self.files, path, flags)?;
         let Ok(owned) = OwnedPath::of(alloc, path) else {
@@ -381,8 +309,16 @@ impl<D: BlockDevice> Session<D> {
             return Err(Error::NoMemory);
         };
         let writer = match found.size {
-            Some(size) => begin_there(alloc, &mut self.tree, owned, size, flags)?,
-            None => begin_new(alloc, &mut self.tree, owned, flags)?,
+            Some(size) => {
+                let answer = begin_there(alloc, &mut self.tree, owned, size, flags);
+                device_tells(&self.tree);
+                answer?
+            }
+            None => {
+                let answer = begin_new(alloc, &mut self.tree, owned, flags);
+                device_tells(&self.tree);
+                answer?
+            }
         };
         self.files.put_back(number, writer);
         Ok(number)
@@ -408,18 +344,6 @@ impl<D: BlockDevice> Session<D> {
     pub fn open(&mut self, alloc: Global, path: &[u8], flags: OpenFlags) -> Result<u32, Error>
         ensures { IsCall self.old (ops.Open path.now (flags_seen flags)) (reply_in ops.Opened result) self.new }
     {
-        self.tells();
-        let answer = self.do_open(alloc, path, flags);
-        self.tells();
-        answer
-    }
-
-    fn do_open(&mut self, alloc: Global, path: &[u8], flags: OpenFlags) -> Result<u32, Error>
-        ensures answers { Answers self.old (ops.Open path.now (flags_seen flags)) (reply_in ops.Opened result) self.new }
-        ensures ends { EndsWell self.old (ops.Open path.now (flags_seen flags)) (reply_in ops.Opened result) self.new }
-        ensures alone { OnOk result (LeavesOthers (moment_of self.old) (ops.Open path.now (flags_seen flags)) (moment_of self.new)) }
-        ensures survives { SurvivesStops (moment_of self.old) (ops.Open path.now (flags_seen flags)) (moment_of self.new) }
-    {
         if flags.contains(OpenFlags::WRITE) {
             self.open_writer(alloc, path, flags)
         } else {
@@ -439,18 +363,6 @@ impl<D: BlockDevice> Session<D> {
     pub fn write(&mut self, alloc: Global, fd: u32, bytes: &[u8]) -> Result<u32, Error>
         ensures { IsCall self.old (ops.Write fd bytes.now) (reply_in ops.Count result) self.new }
     {
-        self.tells();
-        let answer = self.do_write(alloc, fd, bytes);
-        self.tells();
-        answer
-    }
-
-    fn do_write(&mut self, alloc: Global, fd: u32, bytes: &[u8]) -> Result<u32, Error>
-        ensures answers { Answers self.old (ops.Write fd bytes.now) (reply_in ops.Count result) self.new }
-        ensures ends { EndsWell self.old (ops.Write fd bytes.now) (reply_in ops.Count result) self.new }
-        ensures alone { OnOk result (LeavesOthers (moment_of self.old) (ops.Write fd bytes.now) (moment_of self.new)) }
-        ensures survives { SurvivesStops (moment_of self.old) (ops.Write fd bytes.now) (moment_of self.new) }
-    {
         check_write(&self.tree, &self.files, fd, bytes)?;
         if bytes.is_empty() {
             return Ok(0);
@@ -458,7 +370,9 @@ impl<D: BlockDevice> Session<D> {
         let Some(OpenFile::Writing(writer)) = self.files.take(fd) else {
             unreachable!()
         };
-        let writer = write_by(alloc, &mut self.tree, writer, bytes)?;
+        let answer = write_by(alloc, &mut self.tree, writer, bytes);
+        device_tells(&self.tree);
+        let writer = answer?;
         self.files.put_back(fd, writer);
         Ok(bytes.len() as u32)
     }
@@ -473,18 +387,6 @@ impl<D: BlockDevice> Session<D> {
     pub fn truncate(&mut self, alloc: Global, fd: u32, size: u32) -> Result<(), Error>
         ensures { IsCall self.old (ops.Truncate fd size) (reply_in (λ _. ops.Done) result) self.new }
     {
-        self.tells();
-        let answer = self.do_truncate(alloc, fd, size);
-        self.tells();
-        answer
-    }
-
-    fn do_truncate(&mut self, alloc: Global, fd: u32, size: u32) -> Result<(), Error>
-        ensures answers { Answers self.old (ops.Truncate fd size) (reply_in (λ _. ops.Done) result) self.new }
-        ensures ends { EndsWell self.old (ops.Truncate fd size) (reply_in (λ _. ops.Done) result) self.new }
-        ensures alone { OnOk result (LeavesOthers (moment_of self.old) (ops.Truncate fd size) (moment_of self.new)) }
-        ensures survives { SurvivesStops (moment_of self.old) (ops.Truncate fd size) (moment_of self.new) }
-    {
         check_truncate(&self.tree, &self.files, fd, size)?;
         if self.files.has_size(fd, size) {
             return Ok(());
@@ -492,7 +394,9 @@ impl<D: BlockDevice> Session<D> {
         let Some(OpenFile::Writing(writer)) = self.files.take(fd) else {
             unreachable!()
         };
-        let writer = truncate_by(alloc, &mut self.tree, writer, size)?;
+        let answer = truncate_by(alloc, &mut self.tree, writer, size);
+        device_tells(&self.tree);
+        let writer = answer?;
         self.files.put_back(fd, writer);
         Ok(())
     }
@@ -506,18 +410,6 @@ impl<D: BlockDevice> Session<D> {
     pub fn sync(&mut self, alloc: Global, fd: u32) -> Result<(), Error>
         ensures { IsCall self.old (ops.Sync fd) (reply_in (λ _. ops.Done) result) self.new }
     {
-        self.tells();
-        let answer = self.do_sync(alloc, fd);
-        self.tells();
-        answer
-    }
-
-    fn do_sync(&mut self, alloc: Global, fd: u32) -> Result<(), Error>
-        ensures answers { Answers self.old (ops.Sync fd) (reply_in (λ _. ops.Done) result) self.new }
-        ensures ends { EndsWell self.old (ops.Sync fd) (reply_in (λ _. ops.Done) result) self.new }
-        ensures alone { OnOk result (LeavesOthers (moment_of self.old) (ops.Sync fd) (moment_of self.new)) }
-        ensures survives { SurvivesStops (moment_of self.old) (ops.Sync fd) (moment_of self.new) }
-    {
         check_sync(&self.tree, &self.files, fd)?;
         if !self.files.is_unsaved_at(fd) {
             return Ok(());
@@ -525,7 +417,9 @@ impl<D: BlockDevice> Session<D> {
         let Some(OpenFile::Writing(writer)) = self.files.take(fd) else {
             unreachable!()
         };
-        let writer = save(alloc, &mut self.tree, writer)?;
+        let answer = save(alloc, &mut self.tree, writer);
+        device_tells(&self.tree);
+        let writer = answer?;
         self.files.put_back(fd, writer);
         Ok(())
     }
@@ -580,18 +474,6 @@ impl<D: BlockDevice> Session<D> {
     pub fn close(&mut self, alloc: Global, fd: u32) -> Result<(), Error>
         ensures { IsCall self.old (ops.Close fd) (reply_in (λ _. ops.Done) result) self.new }
     {
-        self.tells();
-        let answer = self.do_close(alloc, fd);
-        self.tells();
-        answer
-    }
-
-    fn do_close(&mut self, alloc: Global, fd: u32) -> Result<(), Error>
-        ensures answers { Answers self.old (ops.Close fd) (reply_in (λ _. ops.Done) result) self.new }
-        ensures ends { EndsWell self.old (ops.Close fd) (reply_in (λ _. ops.Done) result) self.new }
-        ensures alone { OnOk result (LeavesOthers (moment_of self.old) (ops.Close fd) (moment_of self.new)) }
-        ensures survives { SurvivesStops (moment_of self.old) (ops.Close fd) (moment_of self.new) }
-    {
         check_open(&self.tree, &self.files, fd)?;
         if !self.files.is_unsaved_at(fd) {
             self.files.close(fd);
@@ -600,7 +482,9 @@ impl<D: BlockDevice> Session<D> {
         let Some(OpenFile::Writing(writer)) = self.files.take(fd) else {
             unreachable!()
         };
-        save(alloc, &mut self.tree, writer)?;
+        let answer = save(alloc, &mut self.tree, writer);
+        device_tells(&self.tree);
+        answer?;
         Ok(())
     }
 
@@ -614,7 +498,9 @@ impl<D: BlockDevice> Session<D> {
         ensures { IsCall self.old ops.Remount (reply_in (λ _. ops.Done) result) self.new }
     {
         self.files.clear();
-        self.tree.remount(alloc)
+        let answer = self.tree.remount(alloc);
+        device_tells(&self.tree);
+        answer
     }
 
     /// The device, as the last call left it.
@@ -671,16 +557,10 @@ impl<D: BlockDevice> Session<D> {
     }
 
     fn fail(&mut self)
-        ensures { self.new ≡ record self.old { tree = record self.old.tree { failed = true } } }
+        ensures failed { self.new ≡ record self.old { tree = record self.old.tree { failed = true } } }
+        ensures withstands { (op : Operation) → Withstands (moment_of self.old) op (moment_of self.new) }
     {
         self.tree.fail();
-    }
-
-    // Nothing is done: what it has of its disk, and what its device tells of its calls.
-    fn tells(&self)
-        ensures { IsTold self.now }
-    {
-        let _device = self.tree.device();
     }
 
     /// Carries out operations in turn, a reply for each; a refusal is a reply, too.
@@ -698,7 +578,6 @@ impl<D: BlockDevice> Session<D> {
         ensures headline { OnOk result ((done : List Operation) (answers : List Answer) → ComesFromFresh done answers (moment_of self.old) → IsTrue (moment_of self.new)) }
         ensures ended { IfErr result (λ e. IsEndedBy e (moment_of self.old) (map op_seen ops.now) (moment_of self.new)) }
     {
-        self.tells();
         let mut replies = Vec::new(alloc);
         for op in ops {
             if replies.reserve(1).is_err() {
@@ -729,10 +608,13 @@ pub fn mount<D: BlockDevice>(alloc: Global, device: D) -> Result<Session<D>, (D,
     ensures back { IfErr result (λ e. GivesDeviceBack D.BlockDevice device e.0 e.1) }
 {
     match mount_either(alloc, device) {
-        Ok(tree) => Ok(Session {
-            tree,
-            files: Files::none(alloc),
-        }),
+        Ok(tree) => {
+            device_tells(&tree);
+            Ok(Session {
+                tree,
+                files: Files::none(alloc),
+            })
+        }
         Err(back) => Err(back),
     }
 }
@@ -773,10 +655,13 @@ pub fn format_ordered<D: BlockDevice>(
     ensures back { IfErr result (λ e. DeviceComesBack D.BlockDevice (two_of anchor) device e.0 e.1) }
 {
     match Tree::format(alloc, Ordered::new(device, order)) {
-        Ok(tree) => Ok(Session {
-            tree,
-            files: Files::none(alloc),
-        }),
+        Ok(tree) => {
+            device_tells(&tree);
+            Ok(Session {
+                tree,
+                files: Files::none(alloc),
+            })
+        }
         Err((device, error)) => Err((device.into_inner(), error)),
     }
 }

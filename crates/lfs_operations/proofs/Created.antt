@@ -19,7 +19,7 @@ use Rattle.lfs_model.specs.PowerLoss.{Survives}
 use Rattle.lfs_model.specs.Slots.{Slot, Content, same_pair}
 use Rattle.lfs_model.specs.SlotEdits.{new_file}
 use Rattle.lfs_model.specs.Refusals.{as_path}
-use Rattle.lfs_model.specs.Thread.{Pair, blocks_of, next_of, superblocks_before}
+use Rattle.lfs_model.specs.Thread.{Pair, blocks_of, next_of}
 use Rattle.lfs_model.specs.Session.{Session}
 use Rattle.lfs_model.specs.Tree.{Tree, FileNode}
 use Rattle.lfs_model.specs.View.{IsAccepted}
@@ -33,7 +33,6 @@ use Rattle.lfs_model.proofs.Indexes.{nothing_there}
 use Rattle.lfs_model.proofs.Moves.{place_at, file_comes, insert_here}
 use Rattle.lfs_model.proofs.Names.{IsPlace}
 use Rattle.lfs_model.proofs.OneCommit.{create_completed, some_filled}
-use Rattle.lfs_model.proofs.RmdirSteps.{step_chain}
 use Rattle.lfs_model.proofs.Searches.{site, thread_is, is_site, same, number_is, place_of_belongs}
 use Rattle.lfs_model.proofs.Sites.{Site, thread_at, begin_of}
 use Rattle.lfs_model.proofs.StoredChanges.{logged_changed}
@@ -180,12 +179,6 @@ module _ (t : Kept) (index id : ℕ) (name : Name) (can : CanCreate t index id n
   follows disk q more commit = file_comes t.disk disk w p [] q more (blocks_of more) [] b.left b.right u (commit_step t.disk disk w p q more [] b.left [] (u ∷ []) b.right commit.commit) can.path can.at
       leads_there same_there place_there [] refl (λ e. (recovered_from t.disk (thread_at w (p ∷ [])) commit.commit.accepted commit.commit.settled).reached)
 
-  root_stays : (new : Kept) → HasStep t w p b.left [] (u ∷ []) b.right [] [] new → superblocks_before new.pairs ≡ superblocks_before t.pairs
-  root_stays new s =
-      ap superblocks_before s.pairs
-      ∙ step_chain t.disk new.disk w p [] s.q s.more (blocks_of s.more) [] b.left [] (u ∷ []) b.right (commit_step t.disk new.disk w p s.q s.more [] b.left [] (u ∷ []) b.right s.commit.commit)
-      ∙ sym (ap superblocks_before there ∙ splicing.site.chain)
-
   pub created : (new : Kept) → IsPut t index (file_changes id name) new → IsCreated t new can.path name
   created new is = go (put_step t index (file_changes id name) w p b.left [] (u ∷ []) b.right [] [] splicing new is)
     where
@@ -197,7 +190,6 @@ module _ (t : Kept) (index id : ℕ) (name : Name) (can : CanCreate t index id n
           record {
             now = ready_again t new (with_file t can.path name) (becomes t index (file_changes id name) w p b.left [] (u ∷ []) b.right [] [] splicing (added (can.path ++ name ∷ []) (FileNode [] []))
                 (λ disk q more commit. ((λ d. d), follows disk q more commit)) (λ e. some_filled b.left b.right u) new s);
-            root = root_stays new s;
             completed = λ z given flags tree is_path. subst (λ x. IsCompleted t.disk x z (ops.Open given flags) new.disk new.pairs) (sym there)
                 (subst (λ x. IsCompleted t.disk (thread_at w (p ∷ [])) z (ops.Open given flags) new.disk x) (sym s.pairs) (done z given flags tree is_path));
           }

@@ -3,6 +3,7 @@ pub mod Putting
 pub mod Placing
 pub mod Splicing
 pub mod Owning
+pub mod RootStays
 pub mod Stepped
 pub mod Held
 pub mod Created

@@ -17,7 +17,7 @@ use Rattle.lfs_model.specs.Operations as ops
 use Rattle.lfs_model.specs.PowerLoss.{IsLeft as IsLeftOf, with_blocks}
 use Rattle.lfs_model.specs.Slots.{Content, FitsPair, Gstate, Slot, charge_of, no_gstate, gstate_xor, same_pair}
 use Rattle.lfs_model.specs.SlotEdits.{new_directory, with_slots}
-use Rattle.lfs_model.specs.Thread.{Pair, blocks_of, gstate_of, is_hard, next_of}
+use Rattle.lfs_model.specs.Thread.{Pair, blocks_of, gstate_of, is_hard, next_of, superblocks_before}
 use Rattle.lfs_model.specs.Tree.{DirectoryNode}
 use Rattle.lfs_model.specs.Profile.{FitsEntry, IsWritable}
 use Rattle.lfs_model.specs.View.{IsAccepted}
@@ -53,6 +53,7 @@ use Rattle.lfs_operations.proofs.MakingThreaded.{HasThreaded, entries_still, fir
 use Rattle.lfs_operations.proofs.Owning.{none_comes_now, stay_taken}
 use Rattle.lfs_operations.proofs.Placing.{nothing_came}
 use Rattle.lfs_operations.proofs.Putting.{held, with_map}
+use Rattle.lfs_operations.proofs.RootStays.{root_stays}
 use Rattle.lfs_operations.proofs.Taking.{within}
 
 name_length : (name : Name) → is_name name ≡ true → length name ≤ 255
@@ -316,6 +317,9 @@ module _ (t : Kept) (index id : ℕ) (name : Name) (can : CanMake t index id nam
             shows = ap (tree_in new.disk) e.pairs ∙ shows_now new.disk e.q e.more e.enters;
             stays = λ c taken_before. e.stays c (λ free. taken_before (was_free c free)) ∙ kept c taken_before;
             none_comes = λ c flies. none_comes_now t.map fresh two c (subst (λ s. IsInFlight s c) h.map (e.none_comes c flies));
+            root = ap superblocks_before e.pairs
+                ∙ root_stays t.disk new.disk w.chain (dirs_at here (x ∷ [])) (dirs_at v (e.q ∷ e.more)) way.end.site.chain h.step.accepted (both new.disk e.q e.more e.enters).end.accepted (both new.disk e.q e.more e.enters).end.root
+                ∙ sym (ap superblocks_before way.end.there);
           };
           completed = λ s given tree is_path.
               subst (λ z. IsCompleted t.disk z s (ops.Mkdir given) new.disk new.pairs) (sym way.end.there)

@@ -113,7 +113,7 @@ module _ (t mid : Kept) (only : IsOnlyRead t mid) (old_pair old_id first new_pai
   -- ---- what comes of it
 
   became_earlier : (new : Kept) → IsRenamedAcross later_t new rename.old.path rename.old.name rename.path name → IsRenamedAcross t new rename.old.path rename.old.name rename.path name
-  became_earlier new x = record { now = record { ready = x.now.ready; shows = x.now.shows; flying = x.now.flying }; completed = x.completed }
+  became_earlier new x = record { now = record { ready = x.now.ready; shows = x.now.shows; flying = x.now.flying; root = x.now.root }; completed = x.completed }
 
   pub renamed_later : (new : Kept) → IsPutAndEnded mid old_pair old_id (goes_whole t old_pair first) new_pair (moving_changes mid old_pair old_id new_pair new_id name) new → IsRenamedAcross t new rename.old.path rename.old.name rename.path name
   renamed_later new is = became_earlier new (renamed_across later_t old_pair old_id first new_pair new_id name there there_address new
@@ -159,7 +159,7 @@ module _ (sync : Bool) (t mid : Kept) (only : IsOnlyRead t mid) (old_pair old_id
   -- ---- what comes of it
 
   replaced_earlier : (new : Kept) → IsReplacedAcross later_u new rename.old.path rename.old.name rename.path name rename.target.stands.slot.struct → IsReplacedAcross t new rename.old.path rename.old.name rename.path name rename.target.stands.slot.struct
-  replaced_earlier new x = record { now = record { ready = x.now.ready; shows = x.now.shows; flying = x.now.flying }; once = x.once; completed = x.completed }
+  replaced_earlier new x = record { now = record { ready = x.now.ready; shows = x.now.shows; flying = x.now.flying; root = x.now.root }; once = x.once; completed = x.completed }
 
   pub replaced_later : sync ≡ false → (new : Kept) → IsPutAndEnded mid old_pair old_id (goes_whole t old_pair first) new_pair (onto_changes sync mid old_pair old_id new_pair new_id name) new → IsReplacedAcross t new rename.old.path rename.old.name rename.path name rename.target.stands.slot.struct
   replaced_later plain new is = replaced_earlier new (replaced_across sync later_u old_pair old_id first new_pair new_id name onto_there here_address plain new

@@ -47,7 +47,7 @@ use Rattle.lfs_operations.specs.Changing.{IsLeftByPut, IsPut}
 use Rattle.lfs_operations.specs.Dropping.{HasShrunk, SameInFlight}
 use Rattle.lfs_operations.specs.MoveEnds.{CanEnd, HasEnded, blocks_ended, content_without, is_led, map_ended, move_of, pairs_ended, sync_in}
 use Rattle.lfs_operations.specs.MovingSteps.{place_after}
-use Rattle.lfs_operations.specs.Ready.{IsLoggedAt, IsReady}
+use Rattle.lfs_operations.specs.Ready.{IsLoggedAt, IsReady, KeepsRoot}
 use Rattle.lfs_operations.proofs.Dropped.{flying_same, length_fewer, used_fewer}
 use Rattle.lfs_operations.proofs.MovAcross.{Arranged, arrangement, completed}
 use Rattle.lfs_operations.proofs.MovEnding.{writable_same}
@@ -56,6 +56,7 @@ use Rattle.lfs_operations.proofs.MovSet.{HasTurned, IsSetting, set_count, set_st
 use Rattle.lfs_operations.proofs.Owning.{used_same}
 use Rattle.lfs_operations.proofs.MovTurned.{IsTurn, Stays, TurnedOn, TurnedTo, left_put, mapped, put_turned}
 use Rattle.lfs_operations.proofs.Placing.{blocks_append, nothing_came}
+use Rattle.lfs_operations.proofs.RootStays.{move_end_stays}
 
 -- ---- lists
 
@@ -477,6 +478,10 @@ module _ (t : Kept) (sync : Bool) (old_pair : ℕ) (goes : Bool) (new_pair : ℕ
         (λ h. (map_is.flying b).1 (x.stays b (λ free. absurd (let z : Some InFlight ≡ Some Free = sym h ∙ free in cc)) ∙ h)),
       )
 
+      -- the root directory begins where it did
+      pub last_root : KeepsRoot t last
+      last_root = move_end_stays mid last index (length lo) goes mid_ends e ∙ ap superblocks_before mid_is ∙ mid_chain ∙ sym (ap superblocks_before k.turn.there ∙ k.setting.site.chain)
+
       pub rename_becomes : sync ≡ false → HasShrunk t last (renamed old_path new_path (tree_in t.disk t.pairs)) (files_of t.disk (target_slots target))
       rename_becomes plain = record {
         ready = record {
@@ -493,4 +498,5 @@ module _ (t : Kept) (sync : Bool) (old_pair : ℕ) (goes : Bool) (new_pair : ℕ
         };
         shows = e.taken.follows.shows ∙ mid_shows;
         flying = last_flying;
+        root = last_root;
       }

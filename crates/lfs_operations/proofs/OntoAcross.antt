@@ -56,7 +56,7 @@ use Rattle.lfs_operations.specs.MovingOnto.{CanReplaceDirectory, IsMovedOnto, on
 use Rattle.lfs_operations.specs.Removing.{goes_whole}
 use Rattle.lfs_operations.proofs.Held.{below, fits_there}
 use Rattle.lfs_operations.proofs.MovReplace.{is_first, onto_directory}
-use Rattle.lfs_operations.proofs.MovStep.{IsFirst, IsLeftOver, arr, first_turned, last_firsts, last_flying, last_kept, last_shape, last_size, last_state, last_taken, last_used, left_over}
+use Rattle.lfs_operations.proofs.MovStep.{IsFirst, IsLeftOver, arr, first_turned, last_firsts, last_flying, last_kept, last_root, last_shape, last_size, last_state, last_taken, last_used, left_over}
 use Rattle.lfs_operations.proofs.MovTurned.{TurnedTo}
 use Rattle.lfs_operations.proofs.MovAcross.{Arranged}
 use Rattle.lfs_operations.proofs.OntoGone.{IsReplacing, alike_end, can_drop_replaced, left_last, replaced_by, replaced_shrunk, taken_end}
@@ -273,6 +273,7 @@ module _ (t : Kept) (old_pair old_id first new_pair new_id : ℕ) (name : Name) 
           (λ b. let a = count_append b (used_blocks m.disk m.pairs) (files_of t.disk (g ∷ [])) in let c = no_list b in omega arith) (last_used t true old_pair goes new_pair changes wo q0 lo s ro w p l (Some g) v r from to name first_step is.mid x m e);
       size = last_size t true old_pair goes new_pair changes wo q0 lo s ro w p l (Some g) v r from to name first_step is.mid x m e;
       flying = last_flying t true old_pair goes new_pair changes wo q0 lo s ro w p l (Some g) v r from to name first_step is.mid x m e;
+      root = last_root t true old_pair goes new_pair changes wo q0 lo s ro w p l (Some g) v r from to name first_step is.mid x m e;
       shape = last_shape t true old_pair goes new_pair changes wo q0 lo s ro w p l (Some g) v r from to name first_step is.mid x m e;
     }
 
@@ -507,7 +508,7 @@ module _ (t : Kept) (old_pair old_id first new_pair new_id : ℕ) (name : Name) 
     renamed_directory new d = go (renamed_onto later old_pair old_id first new_pair new_id name gone there_later address_later m done_later n at new d)
       where
         go : IsRenamedAcross later new rename.old.path rename.old.name rename.path name → IsRenamedAcross t new rename.old.path rename.old.name rename.path name
-        go k = record { now = record { ready = k.now.ready; shows = k.now.shows; flying = k.now.flying }; completed = k.completed }
+        go k = record { now = record { ready = k.now.ready; shows = k.now.shows; flying = k.now.flying; root = k.now.root }; completed = k.completed }
 
     pub left_directory : (left : Blocks) → IsLeftByDrop m (n - 1) no_gstate left → IsLeftOf (with_blocks left t.disk) (tree_in t.disk t.pairs) (with_moved t rename.old.path rename.old.name rename.path name)
     left_directory left d = left_across later old_pair old_id first new_pair new_id name gone there_later address_later m done_later n at left d

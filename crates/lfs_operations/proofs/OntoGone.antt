@@ -36,11 +36,12 @@ use Rattle.lfs_thread.specs.Device.{two_of}
 use Rattle.lfs_thread.specs.Kept.{Kept}
 use Rattle.lfs_thread.specs.Steps.{HasShape, IsWrittenAs, pair_in, without_pair}
 use Rattle.lfs_operations.specs.Dropping.{CanDropAt, HasDroppedBehind, HasShrunk, IsLeftByDrop, SameInFlight, taken_over, with_tail_taken}
-use Rattle.lfs_operations.specs.Ready.{IsReady}
+use Rattle.lfs_operations.specs.Ready.{IsReady, KeepsRoot}
 use Rattle.lfs_operations.proofs.Dropped.{device_dropped, device_kept, dropped_count, flying_same, length_fewer, profile_same, used_fewer}
 use Rattle.lfs_operations.proofs.DroppedTails.{front_is, gone_is, gstate_is, no_move_state, without_is}
 use Rattle.lfs_operations.proofs.Placing.{nothing_came}
 use Rattle.lfs_operations.proofs.Rmdir.{over_soft}
+use Rattle.lfs_operations.proofs.RootStays.{root_stays}
 
 -- ---- the directory that is replaced
 
@@ -84,6 +85,7 @@ pub record IsReplacing (t m : Kept) (from to : Path) (d : ℕ × ℕ) (o : Pair)
   pub used : AreUsed m.map (used_blocks m.disk m.pairs)
   pub size : length m.map ≡ block_count m.disk
   pub flying : SameInFlight t.map m.map
+  pub root : KeepsRoot t m
   pub shape : HasShape t.disk m.disk
 
 module _ (t m : Kept) (from to : Path) (d : ℕ × ℕ) (o : Pair) (n : ℕ) (k : IsReplacing t m from to d o n) where
@@ -223,6 +225,10 @@ module _ (t m : Kept) (from to : Path) (d : ℕ × ℕ) (o : Pair) (n : ℕ) (k 
         (λ h. (k.flying b).0 ((last_flying b).0 h)),
         (λ h. (last_flying b).1 ((k.flying b).1 h)),
       );
+      root = ap superblocks_before pairs_end
+          ∙ root_stays m.disk new.disk k.chain (k.front ++ k.x ∷ o ∷ k.back) (k.front ++ y ∷ k.back) k.is_chain (subst (IsAccepted m.disk) k.there k.taken.follows.accepted)
+          (subst (IsAccepted new.disk) pairs_end taken_end.follows.accepted) (ap root_of (sym pairs_end) ∙ taken_end.follows.root ∙ sym k.taken.follows.root ∙ ap root_of k.there)
+          ∙ sym (ap superblocks_before k.there) ∙ k.root;
     }
       where
         last_flying : SameInFlight m.map new.map

@@ -318,6 +318,7 @@ module _ (t : Kept) (index id place : ℕ) (name : Name) (gone : ℕ) (rename : 
     used = subst (λ s. AreUsed s (used_blocks m.disk m.pairs)) (sym r.map) (used_same t.map (used_blocks t.disk t.pairs) (used_blocks m.disk m.pairs) used_now can.ready.used);
     size = ap length r.map ∙ can.ready.size ∙ sym r.written.shape.count;
     flying = subst (SameInFlight t.map) (sym r.map) (λ b. ((λ k. k), (λ k. k)));
+    root = ap superblocks_before pairs_now ∙ step_chain t.disk m.disk w p [] q [] [] [] h.l h.olds h.news h.r stepped ∙ sym (ap superblocks_before there ∙ site_is.chain);
     shape = r.written.shape;
   }
 

@@ -1,5 +1,5 @@
 -- The end of a recovery: every pair was seen, and the sync bit is cleared.
-use Rattle.std.proofs.Common.{ℕ, suc, ◌≡◌, ◌+◌, ◌<◌, ◌≤◌, ◌⊎◌, ◌==◌, ◌&&◌, inl, inr, Bool, true, false, cond, List, [], ◌∷◌, ◌++◌, length, take, Option, Some, None, Result, Err, refl, sym, ap, ap₂, subst, subst₂, ◌∙◌, arith, append-nil}
+use Rattle.std.proofs.Common.{ℕ, suc, ◌≡◌, ◌+◌, ◌<◌, ◌≤◌, ◌⊎◌, ◌&&◌, inl, inr, Bool, true, false, cond, List, [], ◌∷◌, ◌++◌, length, take, Option, Some, None, Result, Err, refl, sym, ap, subst, subst₂, ◌∙◌, arith, append-nil}
 use Rattle.std.specs.Prelude.{All}
 use Rattle.std.proofs.lemmas.Option.{same_Some}
 use Rattle.std.proofs.lemmas.List.Elements.{All-from_recursion, recursion_from_All}
@@ -21,6 +21,7 @@ use Rattle.lfs_model.proofs.Alike.{AreAlike, alike_itself}
 use Rattle.lfs_model.proofs.Changes.{SameFiles, follows_itself}
 use Rattle.lfs_model.proofs.Counts.{Each, count, each_always, each_weaker}
 use Rattle.lfs_model.proofs.Files.{HasSameFile}
+use Rattle.lfs_model.proofs.Found.{chain_of_thread}
 use Rattle.lfs_model.proofs.Global.{HasNoMove}
 use Rattle.lfs_model.proofs.Histories.{LeavesOnly-weaker}
 use Rattle.lfs_model.proofs.Layouts.{NoneGoes, none_where, rest_all}
@@ -43,6 +44,7 @@ use Rattle.lfs_operations.proofs.RecoverMap.{HasMap, alike_blocks, files_stay, m
 use Rattle.lfs_operations.proofs.RecoverShares.{none_fits, set_content, set_made}
 use Rattle.lfs_operations.proofs.RecoverSteps.{CanClear, clear_alike, clear_left, clear_pairs, clear_state, clear_taken, device_on, h, y}
 use Rattle.lfs_operations.proofs.RecoverUnderWay.{IsUnderWay, StaysOn}
+use Rattle.lfs_operations.proofs.RootStays.{alike_stays}
 
 -- ---- the sync bit
 
@@ -164,6 +166,8 @@ module _ (old now : Kept) (dropped : ℕ) (u : IsUnderWay old now dropped []) wh
     once = λ b. let s = m.same b in let o = m.once b in let g = ap (count b) all_gone in omega arith;
     fewer = λ b. let l = u.fewer b in let k = ap (λ z. count b z) (alike_blocks now.pairs new.pairs c.alike) in omega arith;
     flying = subst (SameInFlight old.map) (sym c.map) u.flying;
+    root = alike_stays now.disk new.disk now.pairs new.pairs can_end.accepted c.taken.follows.accepted c.taken.follows.root c.alike
+        ∙ ap superblocks_before e.way.there ∙ e.way.is.ready.is_chain ∙ sym (ap superblocks_before (chain_of_thread old.pairs).0 ∙ (chain_of_thread old.pairs).1);
     shows = c.taken.follows.shows ∙ shows_now;
     completed = λ s tree. recovery_ends old.disk old.pairs now.disk C e.seen e.parts e.kept new.disk new.pairs (λ d. d) s e.way.is fits
         (subst (λ z. IsTaken now.disk z new.disk new.pairs (λ t. t) (λ d. d)) e.way.there c.taken)

@@ -1,5 +1,5 @@
 -- A set move that was ended: the map, and what is known of the thread.
-use Rattle.std.proofs.Common.{ℕ, ◌≡◌, ◌+◌, ◌-◌, true, false, List, [], ◌∷◌, length, sym, ap, subst, subst₂, ◌∙◌, arith, length-append, remove}
+use Rattle.std.proofs.Common.{ℕ, ◌≡◌, ◌+◌, ◌-◌, true, false, List, [], ◌∷◌, length, sym, ap, subst, subst₂, ◌∙◌, arith, length-append, remove, refl}
 use Rattle.std.proofs.lemmas.Option.{same_Some}
 use Rattle.lfs_model.specs.BlockSets.{AreUsed}
 use Rattle.lfs_model.specs.History.{Event}
@@ -43,6 +43,7 @@ module _ (t : Kept) (can : CanEndMove t) (index : ℕ) (m : IsMovedAt t index) w
       let written = subst (λ c. IsWrittenAs t index c new.disk) same is.written in
       let pairs = is.pairs ∙ ap (with_pair t index) same ∙ stays_pairs t can index m in
       let taken = subst₂ (λ a b. IsTaken t.disk a new.disk b (λ t. t) (λ d. d)) (sym (h t can index m).is) (sym pairs) (stays_taken t can index m can_take alone new.disk written) in
+      let root = ap superblocks_before pairs ∙ stays_chain t can index m new.disk written in
       let none = subst HasNoMove (sym (ap gstate_of pairs ∙ stays_state t can index m)) (unset_is (gstate_of t.pairs)) in
       record {
         taken = taken;
@@ -52,8 +53,8 @@ module _ (t : Kept) (can : CanEndMove t) (index : ℕ) (m : IsMovedAt t index) w
         size = ap length is.map ∙ can.size ∙ sym is.written.shape.count;
         fewer = λ b. let e = ap (λ z. count b (used_blocks new.disk z)) pairs in let u = stays_used t can index m new.disk written b in omega arith;
         flying = subst (SameInFlight t.map) (sym is.map) (λ b. ((λ flies. flies), (λ flies. flies)));
-        leads_on = laid_out_kin t new (go_alike t new taken.follows is.written.shape) none
-            (ap superblocks_before pairs ∙ stays_chain t can index m new.disk written)
+        root = root;
+        leads_on = laid_out_kin t new (go_alike t new taken.follows is.written.shape) none root
             (subst (AreKin (without_moved t.pairs)) (sym pairs) (stays_kin t can index m));
       }
 
@@ -83,6 +84,7 @@ module _ (t : Kept) (can : CanEndMove t) (index : ℕ) (m : IsMovedAt t index) w
         let owned = map_frees t new (gone t can index m alone) []
         (λ b. let e = ap (λ z. count b (used_blocks new.disk z)) pairs in let u = goes_used t can index m alone new.disk written b in omega arith) [] map_is is.written.shape.count start in
         let taken = subst₂ (λ a b. IsTaken t.disk a new.disk b (λ t. t) (λ d. d)) (sym (goes_is t can index m alone)) (sym pairs) (goes_taken t can index m alone new.disk written) in
+        let root = ap superblocks_before pairs ∙ goes_chain t can index m alone new.disk written in
         let none = subst HasNoMove (sym (ap gstate_of pairs ∙ goes_state t can index m alone)) (unset_is (gstate_of t.pairs)) in
         let used : (b : ℕ) → count b (used_blocks new.disk new.pairs) + (count b (blocks_of ((gone t can index m alone) ∷ [])) + count b []) ≡ count b (used_blocks t.disk t.pairs)
         = λ b. ap (λ z. count b (used_blocks new.disk z) + (count b (blocks_of ((gone t can index m alone) ∷ [])) + count b [])) pairs ∙ goes_used t can index m alone new.disk written b in
@@ -94,7 +96,8 @@ module _ (t : Kept) (can : CanEndMove t) (index : ℕ) (m : IsMovedAt t index) w
           size = owned.size;
           fewer = λ b. let u = used b in omega arith;
           flying = subst (SameInFlight t.map) (sym map_is) (frees_flies t new (gone t can index m alone) [] used [] start);
-          leads_on = laid_out_gap t new alike none (ap superblocks_before pairs ∙ goes_chain t can index m alone new.disk written)
+          root = root;
+          leads_on = laid_out_gap t new alike none root
               _ _ _ _ _ _ _ (goes_hidden t can index m alone) (pairs ∙ goes_split t can index m alone) (goes_low t can index m alone) (goes_ahead t can index m alone) (goes_gap t can index m alone) (goes_behind t can index m alone);
         }
 
@@ -111,5 +114,6 @@ ended_already t can none = record {
   size = can.size;
   fewer = λ b. omega arith;
   flying = λ b. ((λ flies. flies), (λ flies. flies));
+  root = refl;
   leads_on = λ s disk qs laid_out. laid_out;
 }

@@ -76,6 +76,7 @@ shrunk_from t new tree gone h = record {
   ready = h.ready;
   shows = h.shows;
   flying = λ b. (h.none_comes b, λ flies. h.stays b (λ free. absurd (let z : Some InFlight ≡ Some Free = sym flies ∙ free in cc)) ∙ flies);
+  root = h.root;
 }
 
 -- a pair that doesn't go with its slot is the first of its directory, or has another one

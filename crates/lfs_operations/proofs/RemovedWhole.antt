@@ -12,7 +12,7 @@ use Rattle.lfs_model.specs.InDirectory.{BeginsAt}
 use Rattle.lfs_model.specs.Operations as ops
 use Rattle.lfs_model.specs.PowerLoss.{IsLeft as IsLeftOf, Survives, with_blocks}
 use Rattle.lfs_model.specs.Slots.{Content, FitsPair, Slot, Tail, no_gstate, same_pair}
-use Rattle.lfs_model.specs.Thread.{Pair, blocks_of, first_at, gstate_of, is_hard}
+use Rattle.lfs_model.specs.Thread.{Pair, blocks_of, first_at, gstate_of, is_hard, superblocks_before}
 use Rattle.lfs_model.specs.Tree.{Tree, branch_of}
 use Rattle.lfs_model.specs.View.{IsAccepted}
 use Rattle.lfs_model.specs.Profile.{IsWritable}
@@ -41,6 +41,7 @@ use Rattle.lfs_operations.proofs.Dropped.{device_dropped, device_kept, dropped_c
 use Rattle.lfs_operations.proofs.DroppedTails.{front_is, gone_is, gstate_is, no_move_state, without_is}
 use Rattle.lfs_operations.proofs.Held.{below, here}
 use Rattle.lfs_operations.proofs.Placing.{nothing_came}
+use Rattle.lfs_operations.proofs.RootStays.{root_stays}
 
 -- ---- the pair in front
 
@@ -317,6 +318,7 @@ module _ (t : Kept) (index id first : ℕ) (can : CanEdit t index id) (begins : 
             };
             shows = ap (tree_in new.disk) p ∙ f.shows ∙ ap (λ z. turn (tree_in t.disk z)) (sym there);
             flying = subst (SameInFlight t.map) (sym map_is) (flying_same t.map o.at (used_blocks t.disk t.pairs) (used_blocks new.disk new.pairs ++ file_blocks t.disk u.struct) can.ready.used once now_used);
+            root = ap superblocks_before p ∙ root_stays t.disk new.disk w.chain (dirs_at w (x ∷ o ∷ [])) (dirs_at w (q ∷ [])) site_now.chain accepted f.accepted f.root ∙ sym (ap superblocks_before there);
           }
 
       pub gone_whole : IsRemoved t new can.path can.name (slot_at can).struct

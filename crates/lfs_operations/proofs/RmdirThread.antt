@@ -11,7 +11,7 @@ use Rattle.lfs_model.specs.Operations as ops
 use Rattle.lfs_model.specs.PowerLoss.{IsLeft as IsLeftOf, with_blocks}
 use Rattle.lfs_model.specs.SlotEdits.{with_slots}
 use Rattle.lfs_model.specs.Slots.{Content, Gstate, Slot, gstate_xor, no_gstate, same_pair}
-use Rattle.lfs_model.specs.Thread.{Pair, blocks_of, gstate_of, is_hard, starts_with_superblock}
+use Rattle.lfs_model.specs.Thread.{Pair, blocks_of, gstate_of, is_hard, starts_with_superblock, superblocks_before}
 use Rattle.lfs_model.specs.View.{BeginsWith, IsAccepted, superblock_entry}
 use Rattle.lfs_model.specs.Profile.{IsWritable}
 use Rattle.lfs_model.specs.Shown.{Leads, entries_in, tree_in, used_blocks}
@@ -43,6 +43,7 @@ use Rattle.lfs_operations.proofs.Removed.{alone, flag_ends, stays_there}
 use Rattle.lfs_operations.proofs.RmdirEnd as end
 use Rattle.lfs_operations.proofs.Rmdir.{HasPlace, Unlinks, place_of, unlinked_count}
 use Rattle.lfs_operations.proofs.RmdirPlaces.{HasFront, directory_led, flag_from, get_some, has_front, number_of_first, shows_nothing}
+use Rattle.lfs_operations.proofs.RootStays.{root_stays}
 use Rattle.lfs_operations.proofs.Unlinked.{fits_gone, held_there, pair_there, slots_gone}
 
 get_at : (xs : List Pair) (p : Pair) (zs : List Pair) (n : ℕ) (q : Pair) → length xs ≡ n → set (xs ++ p ∷ zs) n q ≡ xs ++ q ∷ zs
@@ -377,6 +378,7 @@ module _ (t : Kept) (index id first gone : ℕ) (take : CanRemoveDirectory t ind
               };
               shows = ap (tree_in new.disk) pairs_end ∙ f.follows.shows ∙ turned;
               flying = subst (SameInFlight t.map) (sym map_end) (flying_same t.map o.at (used_blocks t.disk t.pairs) (used_blocks new.disk new.pairs) can.ready.used once end_used);
+              root = ap superblocks_before pairs_end ∙ root_stays t.disk new.disk w.chain (dirs_at w (p ∷ [])) (k.front ++ y ∷ k.back) site_is.chain accepted f.follows.accepted f.follows.root ∙ sym (ap superblocks_before there);
             };
             completed = λ z given tree is_path. subst (λ s. IsCompleted t.disk s z (ops.Remove given) new.disk new.pairs) (sym there)
                 (subst (λ s. IsCompleted t.disk (thread_at w (p ∷ [])) z (ops.Remove given) new.disk s) (sym pairs_end)

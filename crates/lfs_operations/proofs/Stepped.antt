@@ -11,7 +11,7 @@ use Rattle.lfs_model.specs.Content.{content_at}
 use Rattle.lfs_model.specs.Disk.{Disk, block_count}
 use Rattle.lfs_model.specs.PowerLoss.{IsLeft as IsLeftOf, Survives, with_blocks}
 use Rattle.lfs_model.specs.Slots.{Slot, Content, FitsPair}
-use Rattle.lfs_model.specs.Thread.{Pair, blocks_of, gstate_of}
+use Rattle.lfs_model.specs.Thread.{Pair, blocks_of, gstate_of, superblocks_before}
 use Rattle.lfs_model.specs.Tree.{Tree}
 use Rattle.lfs_model.specs.View.{IsAccepted}
 use Rattle.lfs_model.specs.Profile.{IsWritable, FitsSlot}
@@ -24,7 +24,7 @@ use Rattle.lfs_model.proofs.Committed.{IsCommit, commit_writable}
 use Rattle.lfs_model.proofs.Counts.{count, each_counted, each_right, once_from_distinct}
 use Rattle.lfs_model.proofs.Histories.{LeavesOnly-weaker}
 use Rattle.lfs_model.proofs.Laws.{Walk}
-use Rattle.lfs_model.proofs.Sites.{Site, thread_at}
+use Rattle.lfs_model.proofs.Sites.{Site, dirs_at, thread_at}
 use Rattle.lfs_model.proofs.Splices.{IsDevice}
 use Rattle.lfs_model.specs.History.{Event}
 use Rattle.lfs_thread.specs.Device.{StopsLeave}
@@ -34,6 +34,7 @@ use Rattle.lfs_operations.specs.Changing.{IsCutIn, IsLeftByPut, IsPut, IsTooLarg
 use Rattle.lfs_operations.specs.Ready.{AreUsedBut, HasBecome, HasBecomeBut, NoneComes, StayTaken}
 use Rattle.lfs_operations.proofs.Owning.{count_pairs, length_now, none_comes_now, stay_taken, used_count_now, used_more, used_same}
 use Rattle.lfs_operations.proofs.Placing.{device, nothing_came}
+use Rattle.lfs_operations.proofs.RootStays.{root_stays}
 use Rattle.lfs_operations.proofs.Splicing.{AreOn, Commits, IsSplicing, cut_front, accepted, at_is, commit_one, commit_two, fresh_distinct, one_now, pair_is, placed_one, placed_still, two_now}
 
 -- the pair became that on the disk, or that and a new one behind it
@@ -254,6 +255,9 @@ module _ (t : Kept) (index : ℕ) (changes : List Change) (w : Site) (p : Pair) 
         shows = ap (tree_in new.disk) x.pairs ∙ f.shows ∙ ap (λ z. change (tree_in t.disk z)) (sym k.there);
         stays = x.stays;
         none_comes = x.none_comes;
+        root = ap superblocks_before x.pairs
+            ∙ root_stays t.disk new.disk w.chain (dirs_at w (p ∷ [])) (dirs_at w (x.q ∷ x.more)) k.site.chain (accepted t index changes w p l olds news r gone come k) f.accepted f.root
+            ∙ sym (ap superblocks_before k.there);
       }
 
 -- where no block came or went
@@ -270,4 +274,5 @@ ready_again t new tree h = record {
   shows = h.shows;
   stays = h.stays;
   none_comes = h.none_comes;
+  root = h.root;
 }

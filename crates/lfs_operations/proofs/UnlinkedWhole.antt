@@ -11,7 +11,7 @@ use Rattle.lfs_model.specs.Disk.{Disk}
 use Rattle.lfs_model.specs.Operations as ops
 use Rattle.lfs_model.specs.PowerLoss.{IsLeft as IsLeftOf, with_blocks}
 use Rattle.lfs_model.specs.Slots.{Content, FitsPair, Gstate, Slot, no_gstate}
-use Rattle.lfs_model.specs.Thread.{Pair, gstate_of, is_hard, starts_with_superblock}
+use Rattle.lfs_model.specs.Thread.{Pair, gstate_of, is_hard, starts_with_superblock, superblocks_before}
 use Rattle.lfs_model.specs.Tree.{branch_of}
 use Rattle.lfs_model.specs.View.{IsAccepted}
 use Rattle.lfs_model.specs.Profile.{IsWritable}
@@ -39,6 +39,7 @@ use Rattle.lfs_operations.proofs.RemovedWhole.{StandsWhole, over_hard}
 use Rattle.lfs_operations.proofs.RmdirEnd as end
 use Rattle.lfs_operations.proofs.RmdirPlaces.{HasFront, get_some, has_front, number_of_first, shows_nothing}
 use Rattle.lfs_operations.proofs.RmdirWhole.{HasPlaceWhole, UnlinksWhole, place_whole}
+use Rattle.lfs_operations.proofs.RootStays.{root_stays}
 
 module _ (t : Kept) (index id first gone : ℕ) (take : CanRemoveDirectory t index id first gone) (s : StandsWhole t index id take.can) where
   abbrev can : CanEdit t index id
@@ -393,6 +394,9 @@ module _ (t : Kept) (index id first gone : ℕ) (take : CanRemoveDirectory t ind
               };
               shows = ap (tree_in new.disk) pairs_end ∙ f.follows.shows ∙ turned;
               flying = λ b. ((λ f. (flying_middle b).0 ((flying_end b).0 f)), (λ f. (flying_end b).1 ((flying_middle b).1 f)));
+              root = ap superblocks_before pairs_end
+                  ∙ root_stays t.disk new.disk w.chain (dirs_at w (x0 ∷ e ∷ [])) (k.front ++ y ∷ k.back) s.site.chain (subst (IsAccepted t.disk) s.there can.ready.accepted) f.follows.accepted f.follows.root
+                  ∙ sym (ap superblocks_before s.there);
             };
             completed = λ z given tree is_path. subst (λ s. IsCompleted t.disk s z (ops.Remove given) new.disk new.pairs) (sym s.there)
                 (subst (λ s. IsCompleted t.disk (old) z (ops.Remove given) new.disk s) (sym pairs_end)

@@ -10,7 +10,6 @@ use Rattle.lfs_model.specs.Operations.{Flags}
 use Rattle.lfs_model.specs.Session.{Session}
 use Rattle.lfs_model.specs.SlotEdits.{new_file}
 use Rattle.lfs_model.specs.Refusals.{as_path}
-use Rattle.lfs_model.specs.Thread.{superblocks_before}
 use Rattle.lfs_model.specs.Tree.{Path, Tree, FileNode}
 use Rattle.lfs_model.specs.Profile.{FitsEntry}
 use Rattle.lfs_model.specs.Shown.{Leads, tree_in}
@@ -39,10 +38,8 @@ pub record CanCreate (t : Kept) (pair id : ℕ) (name : Name) : Type 0 where
 abbrev pub with_file : Kept → Path → Name → Tree
 with_file t path name = added (path ++ name ∷ []) (FileNode [] []) (tree_in t.disk t.pairs)
 
--- The tree has the file, and its slot stands where it should: so an open that creates it is completed. As many pairs as before
--- stand in front of the root directory.
+-- The tree has the file, and its slot stands where it should: so an open that creates it is completed.
 pub record IsCreated (old new : Kept) (path : Path) (name : Name) : Type 0 where
   pub now : HasBecome old new (with_file old path name)
-  pub root : superblocks_before new.pairs ≡ superblocks_before old.pairs
   pub completed : (s : Session) (given : List ℕ) (flags : Flags) → s.tree ≡ tree_in old.disk old.pairs → as_path given ≡ path ++ name ∷ []
       → IsCompleted old.disk old.pairs s (ops.Open given flags) new.disk new.pairs

@@ -13,7 +13,7 @@ use Rattle.lfs_model.specs.Tree.{Tree}
 use Rattle.lfs_model.specs.Shown.{tree_in}
 use Rattle.lfs_thread.specs.Kept.{Kept}
 use Rattle.lfs_thread.specs.Steps.{IsWrittenAs, pair_in, put_tail, with_pair, without_pair}
-use Rattle.lfs_operations.specs.Ready.{IsReadyBut}
+use Rattle.lfs_operations.specs.Ready.{IsReadyBut, KeepsRoot}
 
 -- The tail of a pair that goes, in the one in front of it: a hard one only where both have a hard one. Else the pair behind
 -- would go on with another directory.
@@ -65,9 +65,10 @@ pub record IsLeftByDrop (old : Kept) (front : ℕ) (state : Gstate) (left : Bloc
 abbrev pub SameInFlight : BlockSets → BlockSets → Type 0
 SameInFlight old new = (b : ℕ) → IsInFlight new b ↔ IsInFlight old b
 
--- The image shows that tree and may be changed again once the blocks that are gone are freed. Those of the pairs that went are
--- free already.
+-- The image shows that tree and may be changed again once the blocks that are gone are freed, and the root directory begins where it
+-- did. The blocks of the pairs that went are free already.
 pub record HasShrunk (old new : Kept) (tree : Tree) (gone : List ℕ) : Type 0 where
   pub ready : IsReadyBut new gone []
   pub shows : tree_in new.disk new.pairs ≡ tree
   pub flying : SameInFlight old.map new.map
+  pub root : KeepsRoot old new

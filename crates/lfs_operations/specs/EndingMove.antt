@@ -16,6 +16,7 @@ use Rattle.lfs_model.specs.Steps.{count, HasNoMove, IsTaken}
 use Rattle.lfs_thread.specs.Kept.{Kept}
 use Rattle.lfs_thread.specs.Steps.{pair_in}
 use Rattle.lfs_operations.specs.Dropping.{SameInFlight}
+use Rattle.lfs_operations.specs.Ready.{KeepsRoot}
 use Rattle.lfs_operations.specs.Sharing.{share_of, goes_on_at, CanSetState}
 
 -- the slot at the id goes, and the share changes
@@ -58,8 +59,8 @@ pub record CanEndMove (t : Kept) : Type 0 where
 abbrev pub RecoversTo : Kept → Kept → Type 0
 RecoversTo old new = (s : Session) (disk : Disk) (qs : List Pair) → IsLaidOut new.disk new.pairs s ops.Recover disk qs → IsLaidOut old.disk old.pairs s ops.Recover disk qs
 
--- No move is set, and the image shows the same tree; so pairs may be dropped then. The map knows each of its blocks, of which
--- none came.
+-- No move is set, and the image shows the same tree; so pairs may be dropped then. The root directory begins where it did. The map
+-- knows each of its blocks, of which none came.
 pub record HasEndedMove (old new : Kept) : Type 0 where
   pub taken : IsTaken old.disk old.pairs new.disk new.pairs (λ t. t) (λ d. d)
   pub none : HasNoMove (gstate_of new.pairs)
@@ -67,4 +68,5 @@ pub record HasEndedMove (old new : Kept) : Type 0 where
   pub size : length new.map ≡ block_count new.disk
   pub fewer : (b : ℕ) → count b (used_blocks new.disk new.pairs) ≤ count b (used_blocks old.disk old.pairs)
   pub flying : SameInFlight old.map new.map
+  pub root : KeepsRoot old new
   pub leads_on : RecoversTo old new

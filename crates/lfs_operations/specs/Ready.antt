@@ -5,7 +5,7 @@ use Rattle.lfs_model.specs.Content.{RawContent, raw_at}
 use Rattle.lfs_model.specs.Disk.{Disk, block_count}
 use Rattle.lfs_model.specs.LoggedContent.{IsLogged}
 use Rattle.lfs_model.specs.Slots.{no_gstate}
-use Rattle.lfs_model.specs.Thread.{gstate_of}
+use Rattle.lfs_model.specs.Thread.{gstate_of, superblocks_before}
 use Rattle.lfs_model.specs.View.{IsAccepted}
 use Rattle.lfs_model.specs.Profile.{IsWritable}
 use Rattle.lfs_model.specs.Shown.{tree_in, used_blocks}
@@ -31,16 +31,22 @@ StayTaken old new = (b : ℕ) → (IsFree old b → ⊥) → slice_get new b ≡
 abbrev pub NoneComes : BlockSets → BlockSets → Type 0
 NoneComes old new = (b : ℕ) → IsInFlight new b → IsInFlight old b
 
+-- as many pairs as before stand in front of the root directory
+abbrev pub KeepsRoot : Kept → Kept → Type 0
+KeepsRoot old new = superblocks_before new.pairs ≡ superblocks_before old.pairs
+
 -- what the log of a pair comes to is what a log can come to, as where its bytes are numbers below 256
 abbrev pub IsLoggedAt : Disk → ℕ × ℕ → Type 0
 IsLoggedAt disk at = (raw : RawContent) → raw_at disk at ≡ Some raw → IsLogged raw
 
--- The image shows that tree and may be changed again; the map has lost nothing, and no block more is in flight.
+-- The image shows that tree and may be changed again, and the root directory begins where it did; the map has lost nothing, and no
+-- block more is in flight.
 pub record HasBecome (old new : Kept) (tree : Tree) : Type 0 where
   pub ready : IsReady new
   pub shows : tree_in new.disk new.pairs ≡ tree
   pub stays : StayTaken old.map new.map
   pub none_comes : NoneComes old.map new.map
+  pub root : KeepsRoot old new
 
 -- The used blocks are these without those that come, and those that are gone.
 pub record AreUsedBut (sets : BlockSets) (used gone come : List ℕ) : Type 0 where
@@ -62,3 +68,4 @@ pub record HasBecomeBut (old new : Kept) (tree : Tree) (gone come : List ℕ) : 
   pub shows : tree_in new.disk new.pairs ≡ tree
   pub stays : StayTaken old.map new.map
   pub none_comes : NoneComes old.map new.map
+  pub root : KeepsRoot old new

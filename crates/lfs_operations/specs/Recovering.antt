@@ -20,7 +20,7 @@ use Rattle.lfs_model.specs.InDirectory.{slots_in}
 use Rattle.lfs_thread.specs.Kept.{Kept, State}
 use Rattle.lfs_thread.specs.Steps.{no_pair}
 use Rattle.lfs_operations.specs.Dropping.{SameInFlight}
-use Rattle.lfs_operations.specs.Ready.{IsReadyBut}
+use Rattle.lfs_operations.specs.Ready.{IsReadyBut, KeepsRoot}
 
 -- These are the numbers of the pairs xs to whose directory no path leads, in turn. The first of xs has the number n; from is where
 -- the directory of the pair in front of it begins, if that goes on.
@@ -74,8 +74,8 @@ slots_at ps numbers = flat_map (λ n. (slice_index_or ps n no_pair).content.slot
 abbrev pub list_blocks_at : Kept → List ℕ → List ℕ
 list_blocks_at t numbers = files_of t.disk (slots_at t.pairs numbers)
 
--- Nothing is left to recover, the tree is as it was, and the slots stand where they should: so a recovery is completed. The pairs
--- of these numbers went, their blocks are free, and no pair came. The lists of their slots stand as they did, and have blocks that
+-- Nothing is left to recover, the tree is as it was, and the slots stand where they should: so a recovery is completed. The root
+-- directory begins where it did. The pairs of these numbers went, their blocks are free, and no pair came. The lists of their slots stand as they did, and have blocks that
 -- no other list has; these are still used.
 pub record HasRecovered (old : Kept) (numbers : List ℕ) (new : Kept) : Type 0 where
   pub ready : IsReadyBut new (list_blocks_at old numbers) []
@@ -84,6 +84,7 @@ pub record HasRecovered (old : Kept) (numbers : List ℕ) (new : Kept) : Type 0 
   pub once : (b : ℕ) → count b (used_blocks new.disk new.pairs) + count b (list_blocks_at old numbers) ≤ 1
   pub fewer : (b : ℕ) → count b (blocks_of new.pairs) ≤ count b (blocks_of old.pairs)
   pub flying : SameInFlight old.map new.map
+  pub root : KeepsRoot old new
   pub shows : tree_in new.disk new.pairs ≡ tree_in old.disk old.pairs
   pub completed : (s : Session) → s.tree ≡ tree_in old.disk old.pairs → IsCompleted old.disk old.pairs s ops.Recover new.disk new.pairs
 

@@ -89,13 +89,13 @@ fn copy_slot(alloc: Global, slot: &Slot<'_>) -> Result<SlotCopy, AllocError>
     })
 }
 
-// The slot at an id of the log in a block.
-fn copy_in(alloc: Global, block: &[u8], id: u16) -> Result<SlotCopy, Error>
-    requires { (content : ModelContent) × (IsBlockOf block.now content × (id < length content.slots)) }
-    ensures copied { (raw : RawContent) → content_after_all no_content (log_entries block.now) ≡ Some raw → IfOk result (λ copy. copied copy ≡ parts_of (slot_of_id raw.slots id)) }
+// The slot at an id of a log.
+fn copy_in(alloc: Global, log: &Log<'_>, id: u16) -> Result<SlotCopy, Error>
+    requires { (content : ModelContent) × (IsBlockOf log.now content × (id < length content.slots)) }
+    ensures copied { (raw : RawContent) → content_after_all no_content (log_entries log.now) ≡ Some raw → IfOk result (λ copy. copied copy ≡ parts_of (slot_of_id raw.slots id)) }
     ensures errors { IfErr result (λ e. e ≡ Error.NoMemory) }
 {
-    let content = Content::read(alloc, &Log::read(block))?;
+    let content = Content::read(alloc, log)?;
     let copy = copy_slot(alloc, &content.slots[usize::from(id)])?;
     Ok(copy)
 }
@@ -115,7 +115,7 @@ pub(crate) fn copy_at<D: BlockDevice>(
     ensures errors { HasTold thread.old.kept thread.new.kept result }
 {
     thread.bring(pair)?;
-    let copy = copy_in(alloc, thread.lend(pair).unwrap(), id)?;
+    let copy = copy_in(alloc, &thread.lend(pair).unwrap(), id)?;
     Ok(copy)
 }
 

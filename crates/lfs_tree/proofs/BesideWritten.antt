@@ -1,7 +1,7 @@
 -- Contents of a writer that are written beside an image.
 use Rattle.std.proofs.Common.{ℕ, ◌≡◌, ◌<◌, ◌≤◌, ◌+◌, ◌/◌, ◌∙◌, Bool, true, false, List, length, max, Option, Some, None, Result, Ok, Err, inl, refl, sym, ap, subst, arith}
 use Rattle.std.proofs.Math.Nat.{min-le_right}
-use Rattle.std.specs.Prelude.{Contains, IfErr, IfOk, OnErr, OnOk, is_err}
+use Rattle.std.specs.Prelude.{Contains, IfErr, IfOk, OnErr, OnOk}
 use Rattle.lfs_device.specs.declared.error.Error.{Error}
 use Rattle.lfs_device.specs.declared.error.Error.TheVariants.{Io}
 use Rattle.lfs_model.specs.TreeEdits.{is_file}
@@ -24,11 +24,12 @@ use Rattle.lfs_writer.specs.Hand.{SparesUsed}
 use Rattle.lfs_model.proofs.Files.{HasSameFile, file_blocks_same}
 use Rattle.lfs_writer.specs.Standing.{CanTruncate, CanWrite, Holds, LeavesPairsAndUsed, TellsWork, held_in}
 use Rattle.lfs_thread.specs.Kept.{Kept, State}
-use Rattle.lfs_tree.specs.Held.{IsRooted, seen_kept, seen_thread}
-use Rattle.lfs_tree.specs.OpenContents.{CanTruncateBeside, CanWriteBeside, IsOverFile, IsWrittenBeside, blocks_named, bytes_held, list_at}
-use Rattle.lfs_tree.specs.Seen.{IsBroken, IsError, IsSound}
+use Rattle.lfs_tree.specs.Held.{IsHeld, IsRooted, seen_kept, seen_thread}
+use Rattle.lfs_tree.specs.OpenContents.{CanTruncateBeside, CanWriteBeside, IsOverFile, IsWriting, IsWrittenBeside, blocks_named, bytes_held, list_at}
+use Rattle.lfs_tree.specs.Seen.{IsBroken, IsError, IsSound, Seen}
 use Rattle.lfs_tree.proofs.BesideImage.{files_still, geometry_back, still_follows, used_still, writable_on}
 use Rattle.lfs_lookup.proofs.Reading.{same_error}
+use Rattle.lfs_tree.proofs.Asking.{behind}
 use Rattle.lfs_tree.proofs.SlotsHave.{slot_has}
 use Rattle.lfs_tree.proofs.UsedBlocks.{count_is}
 use Rattle.lfs_writer.specs.Contents.{IsLarge, NeedsRoom, bytes_in, form_of, truncate_room, write_room}
@@ -105,19 +106,19 @@ left_beside t blocks accepted fits used spared =
     record { pairs = t.pairs; accepted = f.accepted; writable = writable_on t.disk (with_blocks blocks t.disk) t.pairs same fits; tree = inl f.shows }
 
 -- the calls of a tree
-module _ (a b : State) (root : ℕ) (writable failed : Bool) (works : failed ≡ false) (h : failed ≡ false → IsRooted a root writable) (still : b.failed ≡ false) (leaves : LeavesPairsAndUsed a.kept b.kept) where
+module _ (a b : State) (root : ℕ) (writable : Bool) (h : IsRooted a root writable) (still : b.failed ≡ false) (leaves : LeavesPairsAndUsed a.kept b.kept) where
   abbrev sound : IsSound (seen_kept a.kept writable false)
-  sound = (h works).sound
+  sound = h.sound
 
   pub rooted_beside : IsRooted b root writable
-  rooted_beside = record { works = still; sound = sound_beside a.kept b.kept writable leaves sound; root_is = (h works).root_is ∙ ap superblocks_before (sym leaves.pairs) }
+  rooted_beside = record { works = still; sound = sound_beside a.kept b.kept writable leaves sound; root_is = h.root_is ∙ ap superblocks_before (sym leaves.pairs) }
 
-  pub written_beside : (r : Result Contents Error) → TellsWork a.kept b.kept r → OnOk r (IsWrittenBeside (seen_thread a writable failed) (seen_thread b writable (is_err r)))
+  written_beside : (r : Result Contents Error) → TellsWork a.kept b.kept r → OnOk r (IsWrittenBeside (seen_thread a writable) (seen_thread (behind b r) writable))
   written_beside (Err e) t = tt
   written_beside (Ok c) t =
       let s = sound_beside a.kept b.kept writable leaves sound in
       record {
-        works = refl;
+        works = still;
         sound = record { accepted = s.accepted; fits = s.fits; is_kept = s.is_kept; used = s.used; size = s.size };
         writable = refl;
         pairs = leaves.pairs;
@@ -130,11 +131,11 @@ module _ (a b : State) (root : ℕ) (writable failed : Bool) (works : failed ≡
         no_fault = t.no_fault (λ e. absurd (cc));
       }
 
-  pub broken_beside : (r : Result Contents Error) → OnErr r (IsBroken (seen_thread a writable failed) (seen_thread b writable (is_err r)))
+  broken_beside : (r : Result Contents Error) → OnErr r (IsBroken (seen_thread a writable) (seen_thread (behind b r) writable))
   broken_beside (Ok c) = tt
   broken_beside (Err e) = record { failed = refl; geometry = geometry_beside a.kept b.kept leaves; calls = leaves.at_worst.events; called = leaves.at_worst.extends }
 
-  pub told_beside : (r : Result Contents Error) → TellsWork a.kept b.kept r → IfErr r (IsError (seen_thread a writable failed) (seen_thread b writable (is_err r)))
+  told_beside : (r : Result Contents Error) → TellsWork a.kept b.kept r → IfErr r (IsError (seen_thread a writable) (seen_thread (behind b r) writable))
   told_beside (Ok c) t = tt
   told_beside (Err e) t = record {
     errors = t.errors;
@@ -143,8 +144,22 @@ module _ (a b : State) (root : ℕ) (writable failed : Bool) (works : failed ≡
   }
 
   -- a loss of power on the way leaves the image as it was
-  pub survives_beside : writable ≡ true → Survives a.kept.disk a.kept.history b.kept.history (tree_in a.kept.disk a.kept.pairs) (tree_in a.kept.disk a.kept.pairs)
+  survives_beside : writable ≡ true → Survives a.kept.disk a.kept.history b.kept.history (tree_in a.kept.disk a.kept.pairs) (tree_in a.kept.disk a.kept.pairs)
   survives_beside may clean = LeavesOnly-weaker (λ blocks spared. left_beside a.kept blocks sound.accepted (sound.fits may) sound.used spared) (LeavesOnly-worst leaves.at_worst)
+
+  pub writing : (now : Seen) (r : Result Contents Error) (c : State) → seen_thread a writable ≡ now → c ≡ behind b r → TellsWork a.kept b.kept r → IsWriting now r (seen_thread c writable)
+  writing now r c view is t =
+      subst (λ (s : Seen). IsWriting s r (seen_thread c writable)) view
+      (subst (λ (t : State). IsWriting (seen_thread a writable) r (seen_thread t writable)) (sym is)
+      (record { beside = written_beside r t; broken = broken_beside r; errors = told_beside r t; survives = survives_beside }))
+
+  -- and the thread is still that of the image
+  pub held_beside : (r : Result Contents Error) (c : State) → c ≡ behind b r → IsHeld c root writable
+  held_beside r c is = subst (λ (t : State). IsHeld t root writable) (sym is) (go r)
+    where
+      go : (r : Result Contents Error) → IsHeld (behind b r) root writable
+      go (Err e) f = absurd (cc)
+      go (Ok x) f = rooted_beside
 
   pub all_over : (path : Path) (contents : Contents) (bytes : List ℕ) (shape : Form) (r : Result Contents Error) → IsOverFile a.kept path contents → IfOk r (λ c. Holds b.kept c bytes shape)
       → IfOk r (λ c. AreOwned b.kept.map (held_in a.kept contents) (held_in b.kept c)) → IfOk r (IsOverFile b.kept path)
@@ -171,18 +186,22 @@ module _ (t : Kept) (writable : Bool) (limit : ℕ) (sound : IsSound (seen_kept 
   pub can_write : {cache : CachedBlocks} (failed : Bool) (contents : Contents) (place count : ℕ) → CanWriteBeside (record (seen_kept t writable failed) { cache = cache }) contents place count → CanWrite t contents limit place count
   can_write failed contents place count can = record {
     stands = can.stands;
-    large = subst (λ (n : ℕ). IsLarge n (form_of contents)) (sym is) can.large;
-    short = limit_short t.disk.block_size limit large is;
-    some = can.some;
-    small = can.small;
-    room = λ past. room_is (write_room t.disk.block_size place count (form_of contents)) (can.room (subst (λ n. n < max (form_size (form_of contents)) (place + count)) is past));
+    fits = record {
+      large = subst (λ (n : ℕ). IsLarge n (form_of contents)) (sym is) can.large;
+      short = limit_short t.disk.block_size limit large is;
+      some = can.some;
+      small = can.small;
+      room = λ past. room_is (write_room t.disk.block_size place count (form_of contents)) (can.room (subst (λ n. n < max (form_size (form_of contents)) (place + count)) is past));
+    };
   }
 
   pub can_truncate : {cache : CachedBlocks} (failed : Bool) (contents : Contents) (size : ℕ) → CanTruncateBeside (record (seen_kept t writable failed) { cache = cache }) contents size → CanTruncate t contents limit size
   can_truncate failed contents size can = record {
     stands = can.stands;
-    large = subst (λ (n : ℕ). IsLarge n (form_of contents)) (sym is) can.large;
-    short = limit_short t.disk.block_size limit large is;
-    small = can.small;
-    room = λ needs. room_is (truncate_room t.disk.block_size size (form_of contents)) (can.room (subst (λ (n : ℕ). NeedsRoom n size (form_of contents)) is needs));
+    fits = record {
+      large = subst (λ (n : ℕ). IsLarge n (form_of contents)) (sym is) can.large;
+      short = limit_short t.disk.block_size limit large is;
+      small = can.small;
+      room = λ needs. room_is (truncate_room t.disk.block_size size (form_of contents)) (can.room (subst (λ (n : ℕ). NeedsRoom n size (form_of contents)) is needs));
+    };
   }

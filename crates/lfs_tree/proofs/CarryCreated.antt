@@ -1,12 +1,13 @@
 -- A file or a directory that comes to a path.
-use Rattle.std.proofs.Common.{ℕ, ◌≡◌, ◌≢◌, ◌≤◌, ◌∙◌, ◌++◌, inr, true, false, List, [], ◌∷◌, refl, sym, ap, subst, arith}
+use Rattle.std.proofs.Common.{ℕ, ◌≡◌, ◌≢◌, ◌≤◌, ◌∙◌, ◌++◌, inr, true, false, List, [], ◌∷◌, Result, Ok, Err, refl, sym, ap, subst, arith}
 use Rattle.std.specs.List.{list_all}
+use Rattle.lfs_device.specs.declared.error.Error.{Error}
 use Rattle.std.proofs.lemmas.Bool.{ltb-false}
 use Rattle.std.proofs.lemmas.Option.{same_Some}
 use Rattle.lfs_device.specs.Bytes.{HasBytes}
 use Rattle.lfs_model.specs.Discipline.{LeavesAlone, paths_of}
 use Rattle.lfs_model.specs.Session.{Files, Session}
-use Rattle.lfs_model.specs.Thread.{Pair}
+use Rattle.lfs_model.specs.Thread.{Pair, superblocks_before}
 use Rattle.lfs_model.specs.TreeEdits.{added, last_name}
 use Rattle.lfs_model.specs.BlockSets.{BlockSets, IsFree, IsInFlight}
 use Rattle.lfs_model.specs.BlockSets.BlockState.{Free, InFlight}
@@ -30,14 +31,18 @@ use Rattle.lfs_thread.specs.Kept.{Kept, State}
 use Rattle.lfs_thread.specs.Steps.{Writes, pair_in}
 use Rattle.lfs_tree.proofs.LeftAlone.{IsConcernedOrFree, concerned_alone, concerned_pair, rest_left_alone}
 use Rattle.lfs_tree.specs.Allowed.{CanAdd}
-use Rattle.lfs_tree.specs.Carrying.{Carries, IsAtRest, IsPlaceFor, IsVacant, SurvivesTo}
+use Rattle.lfs_tree.specs.Calls as call
+use Rattle.lfs_tree.specs.Calls.{left_by}
+use Rattle.lfs_tree.specs.Carrying.{Carries, HasDone, IsAtRest, IsOperationOn, IsPlaceFor, IsVacant, StandsAs, SurvivesTo}
 use Rattle.lfs_tree.specs.Held.{seen_kept}
 use Rattle.lfs_lookup.specs.declared.search.Spot.{Spot}
 use Rattle.lfs_tree.proofs.Carried.{among_one, among_two, behind_below, carried, with_history}
 use Rattle.lfs_tree.proofs.CarryLogged.{logged_there}
 use Rattle.lfs_tree.proofs.CarrySurvives.{survives_behind}
 use Rattle.lfs_tree.proofs.CarryRooms.{last_is_name, room_for}
-use Rattle.std.specs.Prelude.{Contains}
+use Rattle.lfs_tree.proofs.CarryTold.{IsTold}
+use Rattle.lfs_tree.proofs.Operated.{changed, create_stands, does_create, does_mkdir, mkdir_stands, quiet_told}
+use Rattle.std.specs.Prelude.{Contains, OnOk}
 
 pub ready_to : (t : State) (root : ℕ) (h : List Event) → IsAtRest t root → 1024 ≤ t.kept.disk.block_size → IsReady (with_history t.kept h)
 ready_to t root h rests large = record {
@@ -54,6 +59,9 @@ vacant_to t path need can = record { parents = can.parents; nothing = can.nothin
 
 pub stay_in_flight : (old new : BlockSets) → StayTaken old new → (b : ℕ) → IsInFlight old b → IsInFlight new b
 stay_in_flight old new stays b flies = stays b (λ free. let k : InFlight ≡ Free = same_Some InFlight Free (sym flies ∙ free) in absurd (cc)) ∙ flies
+
+any_flags : Flags
+any_flags = record { read = false; write = true; create = true; exclusive = false; truncate = false; append = false; unknown = false }
 
 module _ (t : State) (root : ℕ) (rests : IsAtRest t root) (path : Path) (components : list_all is_component path ≡ true) (large : 1024 ≤ t.kept.disk.block_size) (bytes : HasBytes t.kept.disk.blocks)
     (need : ℕ) (can : CanAdd (seen_kept t.kept true false) path need) (name : Name) (spot : Spot) (place : IsPlaceFor t.kept.disk.order t.kept.pairs path name spot) (h : List Event) where
@@ -101,7 +109,7 @@ module _ (t : State) (root : ℕ) (rests : IsAtRest t root) (path : Path) (compo
     room = let r = room_for t.kept need rests.held.sound can.room in omega (arith, r, enough);
   }
 
-  pub created_at : (c : Kept) (given : List ℕ) (flags : Flags) → faults c.history ≡ faults t.kept.history → OnlyReads t.kept.disk.blocks t.kept.history h → WritesIn (with_history t.kept h) spot.pair c
+  created_at : (c : Kept) (given : List ℕ) (flags : Flags) → faults c.history ≡ faults t.kept.history → OnlyReads t.kept.disk.blocks t.kept.history h → WritesIn (with_history t.kept h) spot.pair c
       → ((can : CanCreate (with_history t.kept h) spot.pair spot.id name) → IsCreated (with_history t.kept h) c can.path name) → as_path given ≡ path → Carries t.kept (ops.Open given flags) c
   unfolding can_create
   created_at c given flags quiet reads writes gives e =
@@ -125,7 +133,7 @@ module _ (t : State) (root : ℕ) (rests : IsAtRest t root) (path : Path) (compo
         no_fault = quiet;
       }) refl refl
 
-  pub created_alone : (c : Kept) (op : Operation) (files : Files) → WritesIn (with_history t.kept h) spot.pair c → Alters (with_history t.kept h) spot.pair c
+  created_alone : (c : Kept) (op : Operation) (files : Files) → WritesIn (with_history t.kept h) spot.pair c → Alters (with_history t.kept h) spot.pair c
       → LeavesAlone t.kept.disk t.kept.pairs (record { tree = tree_in t.kept.disk t.kept.pairs; files = files }) op c.disk c.pairs
   created_alone c op files w alters =
       let b = place.belongs in
@@ -135,7 +143,7 @@ module _ (t : State) (root : ℕ) (rests : IsAtRest t root) (path : Path) (compo
       (subst (λ (z : Pair). Writes (z.at.0 ∷ z.at.1 ∷ w.fresh) (with_history t.kept h) c) is w.writes)
       (λ has n. alters (subst (Contains c.pairs) (sym is) has))
 
-  pub made_at : (c : Kept) (given : List ℕ) → faults c.history ≡ faults t.kept.history → OnlyReads t.kept.disk.blocks t.kept.history h → WritesUpTo (with_history t.kept h) spot.pair c
+  made_at : (c : Kept) (given : List ℕ) → faults c.history ≡ faults t.kept.history → OnlyReads t.kept.disk.blocks t.kept.history h → WritesUpTo (with_history t.kept h) spot.pair c
       → ((can : CanMake (with_history t.kept h) spot.pair spot.id name) → IsMade (with_history t.kept h) c can.path name) → 4 ≤ need → as_path given ≡ path → Carries t.kept (ops.Mkdir given) c
   unfolding can_make
   made_at c given quiet reads writes gives enough e =
@@ -159,7 +167,7 @@ module _ (t : State) (root : ℕ) (rests : IsAtRest t root) (path : Path) (compo
         no_fault = quiet;
       }) refl refl
 
-  pub made_alone : (c : Kept) (op : Operation) (files : Files) → WritesUpTo (with_history t.kept h) spot.pair c → AltersUpTo (with_history t.kept h) spot.pair c
+  made_alone : (c : Kept) (op : Operation) (files : Files) → WritesUpTo (with_history t.kept h) spot.pair c → AltersUpTo (with_history t.kept h) spot.pair c
       → LeavesAlone t.kept.disk t.kept.pairs (record { tree = tree_in t.kept.disk t.kept.pairs; files = files }) op c.disk c.pairs
   made_alone c op files w alters =
       let s : Session = record { tree = tree_in t.kept.disk t.kept.pairs; files = files } in
@@ -172,14 +180,50 @@ module _ (t : State) (root : ℕ) (rests : IsAtRest t root) (path : Path) (compo
   abbrev before : Tree
   before = tree_in t.kept.disk t.kept.pairs
 
-  pub created_survives : (c : Kept) → OnlyReads t.kept.disk.blocks t.kept.history h → WritesIn (with_history t.kept h) spot.pair c
+  created_survives : (c : Kept) → OnlyReads t.kept.disk.blocks t.kept.history h → WritesIn (with_history t.kept h) spot.pair c
       → ((can : CanCreate (with_history t.kept h) spot.pair spot.id name) → SurvivesTo (with_history t.kept h) c (with_file (with_history t.kept h) can.path name)) → SurvivesTo t.kept c (added path (FileNode [] []) before)
   unfolding can_create
   created_survives c reads writes gives =
       subst (λ p. SurvivesTo t.kept c (added p (FileNode [] []) before)) (sym place.is) (survives_behind t root rests h c _ (added (place.above ++ name ∷ []) (FileNode [] []) before) reads writes.writes (gives can_create))
 
-  pub made_survives : (c : Kept) → OnlyReads t.kept.disk.blocks t.kept.history h → WritesUpTo (with_history t.kept h) spot.pair c
+  made_survives : (c : Kept) → OnlyReads t.kept.disk.blocks t.kept.history h → WritesUpTo (with_history t.kept h) spot.pair c
       → ((can : CanMake (with_history t.kept h) spot.pair spot.id name) → SurvivesTo (with_history t.kept h) c (with_directory (with_history t.kept h) can.path name)) → 4 ≤ need → SurvivesTo t.kept c (added path (DirectoryNode [] []) before)
   unfolding can_make
   made_survives c reads writes gives enough =
       subst (λ p. SurvivesTo t.kept c (added p (DirectoryNode [] []) before)) (sym place.is) (survives_behind t root rests h c _ (added (place.above ++ name ∷ []) (DirectoryNode [] []) before) reads writes.writes (gives (can_make enough)))
+
+  -- ---- all that is said of it
+
+  pub create_does : (new : State) (r : Result (Unit {0}) Error) (given : List ℕ) → as_path given ≡ path → faults h ≡ faults t.kept.history → OnlyReads t.kept.disk.blocks t.kept.history h → WritesIn (with_history t.kept h) spot.pair new.kept
+      → OnOk r ((can : CanCreate (with_history t.kept h) spot.pair spot.id name) → IsCreated (with_history t.kept h) new.kept can.path name) → OnOk r (Alters (with_history t.kept h) spot.pair new.kept) → IsTold h new.kept.history r → OnOk r (new.failed ≡ false)
+      → ((can : CanCreate (with_history t.kept h) spot.pair spot.id name) → SurvivesTo (with_history t.kept h) new.kept (with_file (with_history t.kept h) can.path name)) → IsOperationOn t (call.Create path) r new
+  create_does new r given named quiet reads w gives alters told works survives =
+      changed t new (HasDone t.kept (call.Create path)) (left_by (call.Create path) before) h _ r quiet reads w.writes told works (go r gives alters (quiet_told t.kept new.kept h r quiet told)) (created_survives new.kept reads w survives)
+    where
+      go : (r : Result (Unit {0}) Error) → OnOk r ((can : CanCreate (with_history t.kept h) spot.pair spot.id name) → IsCreated (with_history t.kept h) new.kept can.path name) → OnOk r (Alters (with_history t.kept h) spot.pair new.kept)
+          → OnOk r (faults new.kept.history ≡ faults t.kept.history) → OnOk r (HasDone t.kept (call.Create path) new.kept × StandsAs t.kept (left_by (call.Create path) before) new.kept)
+      go (Err e) gives alters same = tt
+      go (Ok x) gives alters same = (
+        record {
+          carries = does_create (λ op. Carries t.kept op new.kept) path (λ given flags e. created_at new.kept given flags same reads w gives e);
+          spares = λ op does none files. created_alone new.kept op files w alters;
+        },
+        create_stands t.kept new.kept path given any_flags can.nothing named (created_at new.kept given any_flags same reads w gives named) (gives can_create).now.root,
+      )
+
+  pub make_does : (new : State) (r : Result (Unit {0}) Error) (given : List ℕ) → as_path given ≡ path → 4 ≤ need → faults h ≡ faults t.kept.history → OnlyReads t.kept.disk.blocks t.kept.history h → WritesUpTo (with_history t.kept h) spot.pair new.kept
+      → OnOk r ((can : CanMake (with_history t.kept h) spot.pair spot.id name) → IsMade (with_history t.kept h) new.kept can.path name) → OnOk r (AltersUpTo (with_history t.kept h) spot.pair new.kept) → IsTold h new.kept.history r → OnOk r (new.failed ≡ false)
+      → ((can : CanMake (with_history t.kept h) spot.pair spot.id name) → SurvivesTo (with_history t.kept h) new.kept (with_directory (with_history t.kept h) can.path name)) → IsOperationOn t (call.Mkdir path) r new
+  make_does new r given named enough quiet reads w gives alters told works survives =
+      changed t new (HasDone t.kept (call.Mkdir path)) (left_by (call.Mkdir path) before) h _ r quiet reads w.writes told works (go r gives alters (quiet_told t.kept new.kept h r quiet told)) (made_survives new.kept reads w survives enough)
+    where
+      go : (r : Result (Unit {0}) Error) → OnOk r ((can : CanMake (with_history t.kept h) spot.pair spot.id name) → IsMade (with_history t.kept h) new.kept can.path name) → OnOk r (AltersUpTo (with_history t.kept h) spot.pair new.kept)
+          → OnOk r (faults new.kept.history ≡ faults t.kept.history) → OnOk r (HasDone t.kept (call.Mkdir path) new.kept × StandsAs t.kept (left_by (call.Mkdir path) before) new.kept)
+      go (Err e) gives alters same = tt
+      go (Ok x) gives alters same = (
+        record {
+          carries = does_mkdir (λ op. Carries t.kept op new.kept) path (λ given e. made_at new.kept given same reads w gives enough e);
+          spares = λ op does none files. made_alone new.kept op files w alters;
+        },
+        mkdir_stands t.kept new.kept path given named (made_at new.kept given same reads w gives enough named) (gives (can_make enough)).now.root,
+      )

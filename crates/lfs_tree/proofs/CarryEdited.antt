@@ -1,6 +1,7 @@
 -- An entry whose attributes change, at a path.
-use Rattle.std.proofs.Common.{ℕ, ◌≡◌, ◌<◌, ◌≤◌, ◌∙◌, ◌++◌, true, false, List, [], ◌∷◌, length, Some, None, refl, sym, ap, subst}
-use Rattle.std.specs.Prelude.{All, is_none, Any}
+use Rattle.std.proofs.Common.{ℕ, ◌≡◌, ◌<◌, ◌≤◌, ◌∙◌, ◌++◌, true, false, List, [], ◌∷◌, length, Some, None, Result, Ok, Err, refl, sym, ap, subst}
+use Rattle.std.specs.Prelude.{All, is_none, Any, OnOk}
+use Rattle.lfs_device.specs.declared.error.Error.{Error}
 use Rattle.std.specs.List.{AllByRecursion}
 use Rattle.std.specs.Option.{option_map}
 use Rattle.std.proofs.lemmas.Bool.{ltb-false}
@@ -21,28 +22,34 @@ use Rattle.lfs_model.specs.SlotEdits.{slot_of_path}
 use Rattle.lfs_model.specs.Slots.{Attributes, Slot, Struct, Inline, Ctz, Branch, charge_of}
 use Rattle.lfs_model.specs.Refusals.{as_path, is_root}
 use Rattle.lfs_model.specs.Thread.{Pair}
-use Rattle.lfs_model.specs.Tree.{Path, node_of}
+use Rattle.lfs_model.specs.Tree.{Path, Tree, node_of}
 use Rattle.lfs_model.specs.Profile.{FitsSlot, HasInline}
 use Rattle.lfs_model.specs.Shown.{contents_in, entries_in, tree_in}
 use Rattle.lfs_model.proofs.Counts.{Each, each_right}
 use Rattle.lfs_model.proofs.Paths.{last_is}
 use Rattle.lfs_operations.proofs.Held.{here}
+use Rattle.lfs_operations.specs.Changing.{WritesIn}
 use Rattle.lfs_operations.specs.Editing.{CanEdit, CanSetAttribute, HasRemovedAttribute, HasSetAttribute, IsEdited, with_attributes_at}
+use Rattle.lfs_thread.specs.Device.{two_of}
 use Rattle.lfs_thread.specs.Kept.{Kept, State}
 use Rattle.lfs_thread.specs.Steps.{Writes, pair_in}
 use Rattle.lfs_tree.proofs.LeftAlone.{about_one, holds_slot, rest_left_alone}
 use Rattle.lfs_tree.specs.Allowed.{CanRemoveAttr, CanSetAttr}
-use Rattle.lfs_tree.specs.Carrying.{Carries, IsAtRest, SurvivesTo}
+use Rattle.lfs_tree.specs.Calls as call
+use Rattle.lfs_tree.specs.Calls.{left_by}
+use Rattle.lfs_tree.specs.Carrying.{Carries, HasDone, IsAtRest, IsOperationOn, Spares, StandsAs, SurvivesTo}
 use Rattle.lfs_tree.specs.CarryingSlots.{HasEntry, IsSlotFor, IsSlotIn, has_slot, with_attributes_changed}
 use Rattle.lfs_tree.specs.Held.{seen_kept}
 use Rattle.lfs_lookup.specs.Paths.{LeadsTo, StandsOnPath}
 use Rattle.lfs_lookup.specs.declared.paths.Found.{Found}
 use Rattle.lfs_lookup.specs.declared.paths.Found.TheVariants as found
 use Rattle.lfs_lookup.specs.declared.search.Spot.{Spot}
-use Rattle.lfs_tree.proofs.Carried.{IsPairsOrFree, behind_below, carried, with_history}
+use Rattle.lfs_tree.proofs.Carried.{IsPairsOrFree, among_one, behind_below, carried, with_history}
 use Rattle.lfs_tree.proofs.CarryCreated.{ready_to, stay_in_flight}
 use Rattle.lfs_tree.proofs.CarryLogged.{logged_there}
 use Rattle.lfs_tree.proofs.CarrySurvives.{survives_behind}
+use Rattle.lfs_tree.proofs.CarryTold.{IsTold}
+use Rattle.lfs_tree.proofs.Operated.{changed, clear_stands, does_clear, does_set, quiet_told, set_stands}
 
 -- ---- what is found
 
@@ -79,6 +86,9 @@ entry_to_clear t path kind can = record { entry = can.entry; parents = can.paren
 
 module _ (t : State) (root : ℕ) (rests : IsAtRest t root) (path : Path) (large : 1024 ≤ t.kept.disk.block_size) (bytes : HasBytes t.kept.disk.blocks) (spot : Spot) (slot : IsSlotFor t.kept.pairs path spot)
     (h : List Event) where
+  abbrev before : Tree
+  before = tree_in t.kept.disk t.kept.pairs
+
   abbrev found_slot : Slot
   found_slot = slot.stands.stands.stands.slot
 
@@ -154,7 +164,7 @@ module _ (t : State) (root : ℕ) (rests : IsAtRest t root) (path : Path) (large
         no_fault = quiet;
       }) other asks
 
-  pub set_at : (c : Kept) (kind : ℕ) (bytes_given given : List ℕ) (bs : List ℕ) → CanSetAttr (seen_kept t.kept true false) path kind bytes_given → faults c.history ≡ faults t.kept.history → OnlyReads t.kept.disk.blocks t.kept.history h → Writes bs (with_history t.kept h) c
+  set_at : (c : Kept) (kind : ℕ) (bytes_given given : List ℕ) (bs : List ℕ) → CanSetAttr (seen_kept t.kept true false) path kind bytes_given → faults c.history ≡ faults t.kept.history → OnlyReads t.kept.disk.blocks t.kept.history h → Writes bs (with_history t.kept h) c
       → AllByRecursion (IsPairsOrFree t.kept) bs → ((set : CanSetAttribute (with_history t.kept h) spot.pair spot.id kind bytes_given) → HasSetAttribute (with_history t.kept h) c set.can.path set.can.name kind bytes_given)
       → as_path given ≡ path → Carries t.kept (ops.SetAttr given kind bytes_given) c
   unfolding can_set can_edit
@@ -162,7 +172,7 @@ module _ (t : State) (root : ℕ) (rests : IsAtRest t root) (path : Path) (large
       let is : HasSetAttribute (with_history t.kept h) c slot.above slot.name kind bytes_given = gives (can_set kind bytes_given can) in
       edited_at c (put_attribute kind bytes_given) (λ z. ops.SetAttr z kind bytes_given) given bs quiet reads writes among is e refl refl
 
-  pub cleared_at : (c : Kept) (kind : ℕ) (given : List ℕ) (bs : List ℕ) → faults c.history ≡ faults t.kept.history → OnlyReads t.kept.disk.blocks t.kept.history h → Writes bs (with_history t.kept h) c → AllByRecursion (IsPairsOrFree t.kept) bs
+  cleared_at : (c : Kept) (kind : ℕ) (given : List ℕ) (bs : List ℕ) → faults c.history ≡ faults t.kept.history → OnlyReads t.kept.disk.blocks t.kept.history h → Writes bs (with_history t.kept h) c → AllByRecursion (IsPairsOrFree t.kept) bs
       → ((can : CanEdit (with_history t.kept h) spot.pair spot.id) → HasRemovedAttribute (with_history t.kept h) c can.path can.name kind) → as_path given ≡ path → Carries t.kept (ops.RemoveAttr given kind) c
   unfolding can_edit
   cleared_at c kind given bs quiet reads writes among gives e =
@@ -170,7 +180,7 @@ module _ (t : State) (root : ℕ) (rests : IsAtRest t root) (path : Path) (large
       edited_at c (without_attribute kind) (λ z. ops.RemoveAttr z kind) given bs quiet reads writes among is e refl refl
 
   -- the pair holds the slot of the path
-  pub edited_alone : (c : Kept) (op : Operation) (files : Files) (given : List ℕ) (fresh : List ℕ) → paths_of (record { tree = tree_in t.kept.disk t.kept.pairs; files = files }) op ≡ as_path given ∷ [] → as_path given ≡ path
+  edited_alone : (c : Kept) (op : Operation) (files : Files) (given : List ℕ) (fresh : List ℕ) → paths_of (record { tree = tree_in t.kept.disk t.kept.pairs; files = files }) op ≡ as_path given ∷ [] → as_path given ≡ path
       → AllByRecursion (IsFree t.kept.map) fresh → Writes ((pair_in t.kept spot.pair).at.0 ∷ (pair_in t.kept spot.pair).at.1 ∷ fresh) (with_history t.kept h) c
       → LeavesAlone t.kept.disk t.kept.pairs (record { tree = tree_in t.kept.disk t.kept.pairs; files = files }) op c.disk c.pairs
   edited_alone c op files given fresh about e free w =
@@ -188,14 +198,58 @@ module _ (t : State) (root : ℕ) (rests : IsAtRest t root) (path : Path) (large
   edit_survives c f bs reads writes k =
       subst (λ p. SurvivesTo t.kept c (with_attributes_changed p f (tree_in t.kept.disk t.kept.pairs))) (sym slot.is) (survives_behind t root rests h c bs (with_attributes_at t.kept slot.above slot.name f) reads writes k)
 
-  pub set_survives : (c : Kept) (kind : ℕ) (bytes_given : List ℕ) (bs : List ℕ) → CanSetAttr (seen_kept t.kept true false) path kind bytes_given → OnlyReads t.kept.disk.blocks t.kept.history h → Writes bs (with_history t.kept h) c
+  set_survives : (c : Kept) (kind : ℕ) (bytes_given : List ℕ) (bs : List ℕ) → CanSetAttr (seen_kept t.kept true false) path kind bytes_given → OnlyReads t.kept.disk.blocks t.kept.history h → Writes bs (with_history t.kept h) c
       → ((set : CanSetAttribute (with_history t.kept h) spot.pair spot.id kind bytes_given) → SurvivesTo (with_history t.kept h) c (with_attributes_at (with_history t.kept h) set.can.path set.can.name (put_attribute kind bytes_given)))
       → SurvivesTo t.kept c (with_attributes_changed path (put_attribute kind bytes_given) (tree_in t.kept.disk t.kept.pairs))
   unfolding can_set can_edit
   set_survives c kind bytes_given bs can reads writes gives = edit_survives c (put_attribute kind bytes_given) bs reads writes (gives (can_set kind bytes_given can))
 
-  pub cleared_survives : (c : Kept) (kind : ℕ) (bs : List ℕ) → OnlyReads t.kept.disk.blocks t.kept.history h → Writes bs (with_history t.kept h) c
+  cleared_survives : (c : Kept) (kind : ℕ) (bs : List ℕ) → OnlyReads t.kept.disk.blocks t.kept.history h → Writes bs (with_history t.kept h) c
       → ((can : CanEdit (with_history t.kept h) spot.pair spot.id) → SurvivesTo (with_history t.kept h) c (with_attributes_at (with_history t.kept h) can.path can.name (without_attribute kind)))
       → SurvivesTo t.kept c (with_attributes_changed path (without_attribute kind) (tree_in t.kept.disk t.kept.pairs))
   unfolding can_edit
   cleared_survives c kind bs reads writes gives = edit_survives c (without_attribute kind) bs reads writes (gives can_edit)
+
+  -- ---- all that is said of it
+
+  pub set_does : (new : State) (r : Result (Unit {0}) Error) (kind : ℕ) (value given : List ℕ) → as_path given ≡ path → CanSetAttr (seen_kept t.kept true false) path kind value → faults h ≡ faults t.kept.history → OnlyReads t.kept.disk.blocks t.kept.history h
+      → WritesIn (with_history t.kept h) spot.pair new.kept → OnOk r ((set : CanSetAttribute (with_history t.kept h) spot.pair spot.id kind value) → HasSetAttribute (with_history t.kept h) new.kept set.can.path set.can.name kind value)
+      → IsTold h new.kept.history r → OnOk r (new.failed ≡ false)
+      → ((set : CanSetAttribute (with_history t.kept h) spot.pair spot.id kind value) → SurvivesTo (with_history t.kept h) new.kept (with_attributes_at (with_history t.kept h) set.can.path set.can.name (put_attribute kind value)))
+      → IsOperationOn t (call.SetAttr path kind value) r new
+  set_does new r kind value given named can quiet reads w gives told works survives =
+      changed t new (HasDone t.kept (call.SetAttr path kind value)) (left_by (call.SetAttr path kind value) before) h _ r quiet reads w.writes told works (go r gives (quiet_told t.kept new.kept h r quiet told)) (set_survives new.kept kind value _ can reads w.writes survives)
+    where
+      go : (r : Result (Unit {0}) Error) → OnOk r ((set : CanSetAttribute (with_history t.kept h) spot.pair spot.id kind value) → HasSetAttribute (with_history t.kept h) new.kept set.can.path set.can.name kind value)
+          → OnOk r (faults new.kept.history ≡ faults t.kept.history) → OnOk r (HasDone t.kept (call.SetAttr path kind value) new.kept × StandsAs t.kept (left_by (call.SetAttr path kind value) before) new.kept)
+      go (Err e) gives same = tt
+      go (Ok x) gives same =
+          let at : (given : List ℕ) → as_path given ≡ path → Carries t.kept (ops.SetAttr given kind value) new.kept
+          = λ given e. set_at new.kept kind value given _ can same reads w.writes (among_one t.kept spot.pair w.fresh slot_below w.free) gives e in (
+            record {
+              carries = does_set (λ op. Carries t.kept op new.kept) path kind value at;
+              spares = does_set (λ op. Spares t.kept op new.kept) path kind value (λ given e none files. edited_alone new.kept (ops.SetAttr given kind value) files given w.fresh refl e w.free w.writes);
+            },
+            set_stands t.kept new.kept path kind value given named (at given named) (gives (can_set kind value can)).now.root,
+          )
+
+  pub clear_does : (new : State) (r : Result (Unit {0}) Error) (kind : ℕ) (given : List ℕ) → as_path given ≡ path → faults h ≡ faults t.kept.history → OnlyReads t.kept.disk.blocks t.kept.history h
+      → Writes (two_of (pair_in t.kept spot.pair).at) (with_history t.kept h) new.kept → OnOk r ((can : CanEdit (with_history t.kept h) spot.pair spot.id) → HasRemovedAttribute (with_history t.kept h) new.kept can.path can.name kind)
+      → IsTold h new.kept.history r → OnOk r (new.failed ≡ false)
+      → ((can : CanEdit (with_history t.kept h) spot.pair spot.id) → SurvivesTo (with_history t.kept h) new.kept (with_attributes_at (with_history t.kept h) can.path can.name (without_attribute kind)))
+      → IsOperationOn t (call.RemoveAttr path kind) r new
+  clear_does new r kind given named quiet reads w gives told works survives =
+      changed t new (HasDone t.kept (call.RemoveAttr path kind)) (left_by (call.RemoveAttr path kind) before) h _ r quiet reads w told works (go r gives (quiet_told t.kept new.kept h r quiet told)) (cleared_survives new.kept kind _ reads w survives)
+    where
+      go : (r : Result (Unit {0}) Error) → OnOk r ((can : CanEdit (with_history t.kept h) spot.pair spot.id) → HasRemovedAttribute (with_history t.kept h) new.kept can.path can.name kind)
+          → OnOk r (faults new.kept.history ≡ faults t.kept.history) → OnOk r (HasDone t.kept (call.RemoveAttr path kind) new.kept × StandsAs t.kept (left_by (call.RemoveAttr path kind) before) new.kept)
+      go (Err e) gives same = tt
+      go (Ok x) gives same =
+          let at : (given : List ℕ) → as_path given ≡ path → Carries t.kept (ops.RemoveAttr given kind) new.kept
+          = λ given e. cleared_at new.kept kind given _ same reads w (among_one t.kept spot.pair [] slot_below tt) gives e in (
+            record {
+              carries = does_clear (λ op. Carries t.kept op new.kept) path kind at;
+              spares = does_clear (λ op. Spares t.kept op new.kept) path kind (λ given e none files. edited_alone new.kept (ops.RemoveAttr given kind) files given [] refl e tt w);
+            },
+            clear_stands t.kept new.kept path kind given named (at given named) (gives can_edit).now.root,
+          )

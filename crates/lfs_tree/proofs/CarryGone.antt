@@ -1,6 +1,6 @@
 -- An entry that goes, at a path.
 use Rattle.std.proofs.Common.{ℕ, ◌≡◌, ◌≤◌, ◌-◌, ◌∙◌, ◌++◌, true, false, List, [], ◌∷◌, length, Some, None, ◌⊎◌, inl, Result, Ok, Err, refl, sym, ap, subst, arith}
-use Rattle.std.specs.Prelude.{nat_lt, IfErr, is_err}
+use Rattle.std.specs.Prelude.{nat_lt, IfErr, OnOk, is_err}
 use Rattle.std.specs.Option.{option_and_then}
 use Rattle.std.proofs.lemmas.Bool.{ltb-false}
 use Rattle.std.proofs.lemmas.List.{length-map}
@@ -18,8 +18,8 @@ use Rattle.lfs_model.specs.History.{Event, OnlyReads, faults}
 use Rattle.lfs_model.specs.Operations as ops
 use Rattle.lfs_model.specs.Slots.{Slot, Struct, Inline, Ctz, Branch}
 use Rattle.lfs_model.specs.Refusals.{as_path}
-use Rattle.lfs_model.specs.Thread.{Pair}
-use Rattle.lfs_model.specs.Tree.{names_at, Path, branch_of}
+use Rattle.lfs_model.specs.Thread.{Pair, superblocks_before}
+use Rattle.lfs_model.specs.Tree.{names_at, Path, Tree, branch_of}
 use Rattle.lfs_model.specs.Shown.{Leads, entries_in, tree_in, used_blocks}
 use Rattle.lfs_model.proofs.BlockSets.{Contains-count, count-Contains}
 use Rattle.lfs_model.proofs.Committed.{IsCompleted, no_move_from}
@@ -32,10 +32,12 @@ use Rattle.lfs_thread.specs.Kept.{Kept, State}
 use Rattle.lfs_thread.specs.Steps.{Writes, pair_in}
 use Rattle.lfs_operations.specs.MovingSteps.{WritesAmong}
 use Rattle.lfs_tree.specs.Allowed.{CanRemove}
-use Rattle.lfs_tree.specs.Carrying.{Carries, IsAtRest, SurvivesTo}
+use Rattle.lfs_tree.specs.Calls as call
+use Rattle.lfs_tree.specs.Calls.{left_by}
+use Rattle.lfs_tree.specs.Carrying.{Carries, HasDone, IsAtRest, IsOperationOn, Spares, StandsAs, SurvivesTo}
 use Rattle.lfs_tree.specs.CarryingSlots.{HasEntry, IsSlotFor, has_slot}
 use Rattle.lfs_lookup.specs.Entry.{ShowsContents}
-use Rattle.lfs_tree.specs.Going.{CanGo, HasGone, IsEntryOn}
+use Rattle.lfs_tree.specs.Going.{CanGo, HasGone, HasSpared, IsEntryOn}
 use Rattle.lfs_tree.specs.Held.{seen_kept}
 use Rattle.lfs_lookup.specs.Paths.{LeadsTo, StandsOnPath}
 use Rattle.lfs_lookup.specs.declared.entry.Contents.{Contents}
@@ -47,8 +49,9 @@ use Rattle.lfs_lookup.proofs.AtPaths.{directory_at_path}
 use Rattle.lfs_tree.proofs.Carried.{among_one, behind_below, carried, with_history}
 use Rattle.lfs_tree.proofs.CarryEdited.{can_edit, slot_found}
 use Rattle.lfs_tree.proofs.CarryFreed.{shape_geometry, written_pairs}
-use Rattle.lfs_tree.proofs.CarrySurvives.{survives_left}
+use Rattle.lfs_tree.proofs.CarrySurvives.{survives_behind, survives_left}
 use Rattle.lfs_tree.proofs.CarryTold.{IsTold}
+use Rattle.lfs_tree.proofs.Operated.{changed, does_remove, quiet_told, remove_stands}
 use Rattle.lfs_lookup.proofs.Directories.{within}
 use Rattle.lfs_tree.proofs.EmptyDirectories.{at_there, bare_there}
 
@@ -154,6 +157,7 @@ pub directory_gone : (old new : Kept) (path above : Path) (name : List ℕ) → 
 directory_gone old new path above name e is = record {
   ready = ready_from new is.now.ready;
   flying = is.now.flying;
+  root = is.now.root;
   completed = λ s given tree given_is. is.completed s given tree (given_is ∙ e);
 }
 
@@ -162,6 +166,7 @@ pub file_gone : (old mid new : Kept) (path above : Path) (name : List ℕ) (stru
 file_gone old mid new path above name struct e is only ready flying = record {
   ready = ready;
   flying = λ b. ((λ flies. (is.now.flying b).0 ((flying b).0 flies)), (λ flies. (flying b).1 ((is.now.flying b).1 flies)));
+  root = ap superblocks_before only.pairs ∙ is.now.root;
   completed = λ s given tree given_is. subst (λ (d : Disk). IsCompleted old.disk old.pairs s (ops.Remove given) d new.pairs) (sym only.disk)
       (subst (λ (ps : List Pair). IsCompleted old.disk old.pairs s (ops.Remove given) mid.disk ps) (sym only.pairs) (is.completed s given tree (given_is ∙ e)));
 }
@@ -178,7 +183,7 @@ directory_writes old new pair id first gone take w = record {
 }
 
 module _ (t : State) (root : ℕ) (rests : IsAtRest t root) (path : Path) (h : List Event) (c : Kept) (reads : OnlyReads t.kept.disk.blocks t.kept.history h) (w : WritesAmong (with_history t.kept h) c) where
-  pub removed_at : (given : List ℕ) → HasGone (with_history t.kept h) path c → faults c.history ≡ faults t.kept.history → as_path given ≡ path → Carries t.kept (ops.Remove given) c
+  removed_at : (given : List ℕ) → HasGone (with_history t.kept h) path c → faults c.history ≡ faults t.kept.history → as_path given ≡ path → Carries t.kept (ops.Remove given) c
   removed_at given g quiet e = carried t.kept h (ops.Remove given) c
       (record {
         accepted = rests.held.sound.accepted;
@@ -219,7 +224,7 @@ steps_both old mid new x result given is t failed w =
       no_fault = λ other. w.no_fault other ∙ same;
     }
 
-pub told_of_steps : {X : Type 0} (old new : State) (result : Result X Error) → TellsOfSteps old new result → IsTold old.kept.history new.kept.history result
+told_of_steps : {X : Type 0} (old new : State) (result : Result X Error) → TellsOfSteps old new result → IsTold old.kept.history new.kept.history result
 told_of_steps old new result t = record { errors = t.errors; fault = t.fault; no_fault = t.no_fault }
 
 -- ---- a loss of power on the way
@@ -234,3 +239,26 @@ pub freeing_survives : (old mid new : Kept) (path above : Path) (name : List ℕ
 freeing_survives old mid new path above name struct bs e w is only k =
     survives_left old mid new.history (removed path (tree_in old.disk old.pairs)) (shape_geometry old mid w.shape) w.at_worst is.now.ready.accepted is.now.ready.writable
     (is.now.shows ∙ ap (λ p. removed p (tree_in old.disk old.pairs)) (sym e)) only.reads (removal_survives old mid path above name e k)
+
+-- ---- all that is said of it
+
+module _ (t : State) (root : ℕ) (rests : IsAtRest t root) (path : Path) (h : List Event) (new : State) (reads : OnlyReads t.kept.disk.blocks t.kept.history h) (w : WritesAmong (with_history t.kept h) new.kept) where
+  abbrev before : Tree
+  before = tree_in t.kept.disk t.kept.pairs
+
+  pub remove_does : (r : Result (Unit {0}) Error) (given : List ℕ) → as_path given ≡ path → faults h ≡ faults t.kept.history → OnOk r (HasGone (with_history t.kept h) path new.kept) → OnOk r (HasSpared (with_history t.kept h) path new.kept)
+      → IsTold h new.kept.history r → OnOk r (new.failed ≡ false) → SurvivesTo (with_history t.kept h) new.kept (removed path before) → IsOperationOn t (call.Remove path) r new
+  remove_does r given named quiet gone spared told works survives =
+      changed t new (HasDone t.kept (call.Remove path)) (left_by (call.Remove path) before) h w.blocks r quiet reads w.writes told works (go r gone spared (quiet_told t.kept new.kept h r quiet told))
+      (survives_behind t root rests h new.kept w.blocks (removed path before) reads w.writes survives)
+    where
+      go : (r : Result (Unit {0}) Error) → OnOk r (HasGone (with_history t.kept h) path new.kept) → OnOk r (HasSpared (with_history t.kept h) path new.kept) → OnOk r (faults new.kept.history ≡ faults t.kept.history)
+          → OnOk r (HasDone t.kept (call.Remove path) new.kept × StandsAs t.kept (left_by (call.Remove path) before) new.kept)
+      go (Err e) gone spared same = tt
+      go (Ok x) gone spared same = (
+        record {
+          carries = does_remove (λ op. Carries t.kept op new.kept) path (λ given e. removed_at t root rests path h new.kept reads w given gone same e);
+          spares = does_remove (λ op. Spares t.kept op new.kept) path (λ given e none files. spared (record { tree = tree_in t.kept.disk t.kept.pairs; files = files }) given e);
+        },
+        remove_stands t.kept new.kept path given named (removed_at t root rests path h new.kept reads w given gone same named) gone.root,
+      )

@@ -1,5 +1,5 @@
 -- A loss of power in an operation on a path, behind calls that only read.
-use Rattle.std.proofs.Common.{ℕ, ◌≡◌, inl, inr, false, if◌then◌else◌, Option, Some, None, List, [], ◌∷◌, ◌++◌, refl, sym, ap₂, subst}
+use Rattle.std.proofs.Common.{ℕ, ◌≡◌, inl, inr, false, if◌then◌else◌, Option, Some, None, List, [], ◌∷◌, ◌++◌, refl, sym, subst}
 use Rattle.std.specs.Prelude.{is_none, is_some}
 use Rattle.lfs_model.specs.TreeEdits.{added}
 use Rattle.lfs_model.specs.Disk.{Disk, SameGeometry}
@@ -36,18 +36,6 @@ survives_left t c h after geometry since accepted fits shows reads k =
   where
     same_disk : (disk new : Disk) → SameGeometry disk new → with_blocks new.blocks disk ≡ new
     same_disk disk new g = λ j. record { block_size = sym g.block_size j; page = sym g.page j; order = sym g.order j; blocks = new.blocks }
-
--- a stop in a call that only reads behind an operation that is carried out leaves its tree
-pub survives_ahead : (t c : Kept) (h : List Event) (op : Operation) (after : Tree) → Carries t op c → tree_in c.disk c.pairs ≡ after → OnlyReads c.disk.blocks c.history h →
-    SurvivesTo t c after → Survives t.disk t.history h (tree_in t.disk t.pairs) after
-survives_ahead t c h op after done shows reads k = survives_left t c h after done.geometry (some_since done.calls t.history c.history done.called) done.sound.accepted done.fits shows reads k
-  where
-    all_some : (events : List Event) → EachEvent (λ e. Unit {0}) events
-    all_some [] = tt
-    all_some (e ∷ older) = (tt, all_some older)
-
-    some_since : (events old new : List Event) → new ≡ events ++ old → EachSince (λ e. Unit {0}) old new
-    some_since events old new e = record { events = events; extends = e; each = all_some events }
 
 -- the tree with an empty file, where nothing was
 pub created_shows : (t : Tree) (p q : Path) → q ≡ p → is_some (t p) ≡ false → (if is_none (t q) then added q (FileNode [] []) t else t) ≡ added p (FileNode [] []) t

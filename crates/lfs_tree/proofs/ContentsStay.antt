@@ -1,17 +1,18 @@
 -- The contents of an open writer where only other blocks change.
-use Rattle.std.proofs.Common.{ℕ, ◌≡◌, ◌≢◌, ⊎_elim, inl, inr, List, ◌++◌, drop, length, take, slice_get, sym, ap, ◌∙◌, subst}
+use Rattle.std.proofs.Common.{ℕ, ◌≡◌, ◌≢◌, ◌<◌, ⊎_elim, inl, inr, List, [], ◌∷◌, ◌++◌, drop, length, take, slice_get, sym, ap, ◌∙◌, subst, arith, length-append}
 use Rattle.std.specs.Prelude.{All, Contains}
 use Rattle.std.proofs.lemmas.List.Elements.{All-from_recursion, Contains-append_left, Contains-append_right}
 use Rattle.lfs_model.specs.Blocks.{Blocks, block_in}
 use Rattle.lfs_model.specs.BlockSets.{BlockSets, IsFree, IsInFlight}
-use Rattle.lfs_model.specs.SkipLists.{blocks_for}
+use Rattle.lfs_model.specs.SkipLists.{blocks_back, blocks_for}
 use Rattle.lfs_model.proofs.BlockSets.{Contains-count, count-Contains}
 use Rattle.lfs_model.proofs.Counts.{each_counted, each_from_counted}
-use Rattle.lfs_model.proofs.Files.{Same, back_same, bytes_same, list_same}
+use Rattle.lfs_model.proofs.Files.{Same, back_same, bytes_same, chain_same, data_same, list_same}
 use Rattle.lfs_model.proofs.Counts.{Each}
 use Rattle.std.proofs.lemmas.List.Elements.{recursion_from_All}
-use Rattle.lfs_ctz.specs.Growing.{Growing, IsStill, content_of, kept_of, pending_of, size_of}
-use Rattle.lfs_ctz.proofs.Stands.{still}
+use Rattle.lfs_ctz.specs.Growing.{Growing, IsRest, IsStill, content_of, joined, kept_of, last_in, pending_in, pending_of, size_of}
+use Rattle.lfs_ctz.specs.declared.rest.Rest.{Rest}
+use Rattle.lfs_ctz.specs.declared.rest.Rest.TheVariants.{Closed, Shared, Handed, Held}
 use Rattle.lfs_writer.specs.Apart.{IsApart}
 use Rattle.lfs_writer.specs.Based.{IsBase, list_blocks}
 use Rattle.lfs_writer.specs.Hand.{IsHand, IsStored, hand_bytes, stored_bytes}
@@ -99,8 +100,30 @@ module _ (map later : BlockSets) (d e : Blocks) (block_size : ℕ) (g : Growing)
   stay_base : StayAs map d (list_blocks d block_size base.head base.size) later e
   stay_base = stay_right map later d e (kept_of d g) (list_blocks d block_size base.head base.size) stay
 
+  full_same : Same d e (blocks_back d g.full g.head)
+  full_same = each_of (λ b. block_in e b ≡ block_in d b) (blocks_back d g.full g.head) (λ b has. stay_own.same b (Contains-append_left (blocks_back d g.full g.head) (pending_of g) b has))
+
+  full_back : blocks_back e g.full g.head ≡ blocks_back d g.full g.head
+  full_back = back_same d e g.full g.head full_same
+
+  -- no block is shared with the list that the rest comes from
+  rest_still : (t : Rest) → blocks_back d g.full g.head ++ last_in t ≡ blocks_back d g.full g.head ++ pending_in t → IsRest d g.full g.head g.rest t → IsRest e g.full g.head g.rest t
+  rest_still Closed same is = is
+  rest_still (Shared b) same is = absurd (omega (arith, ap length same, length-append (blocks_back d g.full g.head) (b ∷ []), length-append (blocks_back d g.full g.head) []))
+  rest_still (Handed b) same is = record {
+    some = is.some;
+    in_range = subst (λ n. b < n) (sym stay.count) is.in_range;
+    apart = subst (λ (l : List ℕ). All (λ c. c ≢ b) l) (sym full_back) is.apart;
+  }
+  rest_still Held same is = is
+
   pub hand_still : IsStill d e g
-  hand_still = still d e stay.count g (subst (All (λ b. block_in e b ≡ block_in d b)) (sym hand.own) (all_of (λ b. block_in e b ≡ block_in d b) own stay_own.same)) hand.begun.growing
+  hand_still = record {
+    growing = record { chain = chain_same d e g.full g.head stay.count full_same hand.begun.growing.chain; stand = rest_still g.stand hand.own hand.begun.growing.stand };
+    content = ap (λ (l : List ℕ). l ++ g.rest) (ap (joined e) full_back ∙ data_same d e 0 (blocks_back d g.full g.head) full_same);
+    kept = ap (λ (l : List ℕ). l ++ pending_of g) full_back;
+    blocks = ap (λ (l : List ℕ). l ++ last_in g.stand) full_back;
+  }
 
   pub base_list : list_blocks e block_size base.head base.size ≡ list_blocks d block_size base.head base.size
   base_list = list_stays map later d e block_size base stay_base

@@ -24,7 +24,6 @@ pub mod CarrySurvives
 pub mod LostLists
 pub mod Asking
 pub mod UsedBlocks
-pub mod CarryRooted
 pub mod EmptyDirectories
 pub mod CarryFreed
 pub mod CarryGone
@@ -34,6 +33,9 @@ pub mod KeptFiles
 pub mod BesideImage
 pub mod BesideWritten
 pub mod OpenedFiles
+pub mod Operated
+pub mod NotedErrors
+pub mod TreeCalls
 pub mod PutContents
 pub mod CommitContents
 pub mod SettledContents

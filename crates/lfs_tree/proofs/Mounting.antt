@@ -57,14 +57,14 @@ module _ (disk : Disk) (history : List Event) (a b : State) (root : ℕ) (writab
   pub mounted_rooted : IsRooted b root writable
   mounted_rooted = record { works = r.works; sound = sound_now; root_is = is ∙ ap superblocks_before (sym r.only.pairs) }
 
-  pub mounted_tree : reads history < reads a.kept.history → IsMountedTree disk history (seen_thread b writable false)
+  pub mounted_tree : reads history < reads a.kept.history → IsMountedTree disk history (seen_thread b writable)
   mounted_tree called = record {
-    works = refl;
+    works = r.works;
     disk_is = r.only.disk ∙ m.disk_is;
     reads = OnlyReads-trans m.reads r.only.reads (ap (λ (d : Disk). d.blocks) m.disk_is);
     called = (let k = reads-since r.only.reads in omega (arith, called, k));
     no_fault = r.same ∙ m.no_fault;
-    sound = sound_now;
+    sound = record { accepted = sound_now.accepted; fits = sound_now.fits; is_kept = sound_now.is_kept; used = sound_now.used; size = sound_now.size };
     none_in_flight = in_flight_count-AreInFlight b.kept.map [] none_twice (subst (λ (sets : BlockSets). AreInFlight sets []) (sym r.only.map) m.none_in_flight);
   }
 
@@ -103,5 +103,5 @@ module _ (t : State) (works : t.failed ≡ false) (f : IsFormatted t.kept) (s : 
   pub fresh_rooted : IsRooted t 0 true
   fresh_rooted = record { works = works; sound = fresh_sound; root_is = sym (ap superblocks_before f.pairs) }
 
-  pub fresh_tree : IsSound (seen_kept t.kept true false) × ((in_flight_count t.kept.map ≡ 0) × IsFresh t.kept.disk)
-  fresh_tree = (fresh_sound, (in_flight_count-AreInFlight t.kept.map [] none_twice f.in_flight, f.fresh))
+  pub fresh_tree : IsSound (seen_thread t true) × ((in_flight_count t.kept.map ≡ 0) × IsFresh t.kept.disk)
+  fresh_tree = (record { accepted = fresh_sound.accepted; fits = fresh_sound.fits; is_kept = fresh_sound.is_kept; used = fresh_sound.used; size = fresh_sound.size }, (in_flight_count-AreInFlight t.kept.map [] none_twice f.in_flight, f.fresh))

@@ -2,9 +2,7 @@
 use Rattle.std.proofs.Common.{ℕ, ◌≡◌, ◌≤◌, ◌+◌, ◌/◌, ◌∙◌, ne_eqb, true, List, [], ◌∷◌, ◌++◌, length, None, Result, Ok, Err, refl, sym, ap, subst, arith}
 use Rattle.std.proofs.Math.Nat.{min-le_right}
 use Rattle.std.specs.Prelude.{OnOk}
-use Rattle.lfs_ctz.specs.Extended.{growing_of}
-use Rattle.lfs_ctz.specs.Growing.{IsHeld}
-use Rattle.lfs_ctz.specs.declared.extender.Extender.{Extender}
+use Rattle.lfs_ctz.specs.Growing.{Growing, IsHeld}
 use Rattle.lfs_device.specs.declared.error.Error.{Error}
 use Rattle.lfs_model.specs.TreeEdits.{is_file}
 use Rattle.lfs_model.specs.Changes.{PutStruct}
@@ -118,8 +116,8 @@ inline_part bytes short = record {
 pub list_part : (head size : ℕ) (bytes : List ℕ) → bytes ≡ pair_bytes (head, size) → IsPart 2 (ctz_struct_type, bytes)
 list_part head size bytes e = subst (λ b. IsPart 2 (ctz_struct_type, b)) (sym e) (record { of_class = refl; short = omega arith; in_table = refl })
 
-module _ (t : Kept) (spot : Spot) (contents : Contents) (list : Extender) (can : CanPutContents t spot contents) (is : contents ≡ InMemory list) where
-  pub held_there : IsHeld (growing_of list)
+module _ (t : Kept) (spot : Spot) (contents : Contents) (list : Growing) (can : CanPutContents t spot contents) (is : contents ≡ InMemory list) where
+  pub held_there : IsHeld list
   held_there = (subst (StandsIn t) is can.stands).stands.resting.held
 
   pub held_part : (bytes : List ℕ) → bytes ≡ held_bytes list → IsPart 2 (inline_struct_type, bytes)
@@ -129,7 +127,7 @@ module _ (t : Kept) (spot : Spot) (contents : Contents) (list : Extender) (can :
       let l = ap length e in
       inline_part bytes (omega arith)
 
-pub held_struct : (contents : Contents) (list : Extender) (bytes : List ℕ) → contents ≡ InMemory list → bytes ≡ held_bytes list → struct_typed inline_struct_type bytes ≡ struct_in contents
+pub held_struct : (contents : Contents) (list : Growing) (bytes : List ℕ) → contents ≡ InMemory list → bytes ≡ held_bytes list → struct_typed inline_struct_type bytes ≡ struct_in contents
 held_struct contents list bytes is e = ap (λ b. Inline b) e ∙ sym (ap struct_in is)
 
 -- ---- what it tells

@@ -19,9 +19,6 @@ use Rattle.lfs_model.specs.Session.{Files, Session}
 use Rattle.lfs_model.specs.Slots.{Gstate, no_gstate}
 use Rattle.lfs_model.specs.WrittenContent.{is_no_gstate}
 use Rattle.std.proofs.lemmas.Bool.{and_parts}
-use Rattle.lfs_device.specs.declared.device.BlockDevice.{Ghosts}
-use Rattle.lfs_tree.specs.declared.image.Image.{Image}
-use Rattle.lfs_tree.specs.declared.image.Image.TheVariants as image
 use Rattle.lfs_model.specs.Thread.{Pair, blocks_of, directory_pairs, gstate_of, superblocks_before}
 use Rattle.lfs_model.specs.Tree.{Tree}
 use Rattle.lfs_model.specs.View.{IsAccepted}
@@ -46,7 +43,7 @@ use Rattle.lfs_operations.proofs.RecoverWrites.{none_there}
 use Rattle.lfs_thread.specs.Kept.{Kept, State}
 use Rattle.lfs_thread.specs.Steps.{HasTold, IsOnlyRead, Writes}
 use Rattle.lfs_tree.specs.Carrying.{Carries, HasCalled, SurvivesTo, TellsError}
-use Rattle.lfs_tree.specs.Held.{IsHeld, IsRooted, seen_image, seen_kept}
+use Rattle.lfs_tree.specs.Held.{IsHeld, IsRooted, seen_kept, seen_thread}
 use Rattle.lfs_tree.specs.Recovering.{CanDropLost, HasDroppedLost}
 use Rattle.lfs_tree.specs.Seen.{IsCarried, IsSound, LeavesFlight, Seen, kept_of, tree_seen}
 use Rattle.lfs_tree.proofs.Carried.{all_pairs, keeps_writing, lists_from, read_is, with_history}
@@ -128,6 +125,7 @@ pub freed : (old mid new : Kept) (numbers : List ℕ) → IsAccepted old.disk ol
     → HasDroppedLost old new
 freed old mid new numbers accepted used none r w only ready flying = record {
   ready = ready;
+  root = ap superblocks_before only.pairs ∙ r.root;
   shows = ap₂ (λ (disk : Disk) (ps : List Pair). tree_in disk ps) only.disk only.pairs ∙ r.shows;
   completed = λ s tree. subst₂ (λ (disk : Disk) (ps : List Pair). IsCompleted old.disk old.pairs s ops.Recover disk ps) (sym only.disk) (sym only.pairs) (r.completed s tree);
   fewer = λ b.
@@ -144,6 +142,7 @@ freed old mid new numbers accepted used none r w only ready flying = record {
 dropped_behind : (t : Kept) (h : List Event) (d : Kept) → OnlyReads t.disk.blocks t.history h → HasDroppedLost (with_history t h) d → HasDroppedLost t d
 dropped_behind t h d reads k = record {
   ready = k.ready;
+  root = k.root;
   shows = k.shows;
   completed = k.completed;
   fewer = k.fewer;
@@ -278,36 +277,6 @@ tells_then a b c e quiet t = record { errors = t.errors; fault = λ io. let k = 
 pub tells_given : {Y : Type 0} (a c : Kept) (given : Result Y Error) (e f : Error) → given ≡ Err f → f ≡ e → TellsError a c e → IfErr given (TellsError a c)
 tells_given {Y = Y} a c given e f is same t = subst (λ (r : Result Y Error). IfErr r (TellsError a c)) (sym is) (subst (TellsError a c) (sym same) t)
 
--- ---- behind it
-
-recovered_on : (a b : Kept) (h : List Event) → (gstate_of a.pairs ≡ no_gstate → ⊥) → OnlyReads b.disk.blocks b.history h → faults h ≡ faults b.history → Carries a ops.Recover b → Carries a ops.Recover (with_history b h)
-recovered_on a b h left reads quiet k = record {
-  works = k.works;
-  sound = record { accepted = k.sound.accepted; fits = k.sound.fits; is_kept = k.sound.is_kept; used = k.sound.used; size = k.sound.size };
-  writable = k.writable;
-  geometry = k.geometry;
-  calls = reads.events ++ k.calls;
-  called = reads.extends ∙ ap (λ z. reads.events ++ z) k.called ∙ sym (append_assoc reads.events k.calls a.history);
-  no_fault = quiet ∙ k.no_fault;
-  fits = k.fits;
-  recovered = k.recovered;
-  shows = k.shows;
-  arranged = k.arranged;
-  itself = λ e. absurd (cc);
-  nothing_left = λ e done. absurd (left done.gstate);
-  flight = record {
-    stay = k.flight.stay;
-    none_comes = k.flight.none_comes;
-    bytes = k.flight.bytes;
-    unprogrammed_still = λ i j f u. unprogrammed-reads i j reads ∙ k.flight.unprogrammed_still i j f u;
-  };
-  keeps = λ path file away. let keeps = k.keeps path file away in record { file = keeps.file; list = keeps.list; bytes = keeps.bytes };
-  lists = λ none. absurd (left none);
-}
-
-pub recovered_read : (a b c : Kept) → (gstate_of a.pairs ≡ no_gstate → ⊥) → IsOnlyRead b c → faults c.history ≡ faults b.history → Carries a ops.Recover b → Carries a ops.Recover c
-recovered_read a b c left r quiet k = subst (λ z. Carries a ops.Recover z) (sym (read_is b c r)) (recovered_on a b c.history left r.reads quiet k)
-
 -- ---- where nothing is left to recover
 
 pub recovered_already : (t : Seen) → t.failed ≡ false → t.writable ≡ true → IsSound t → gstate_of t.pairs ≡ no_gstate → IsCarried t ops.Recover t
@@ -356,8 +325,7 @@ pub something_set : (g : Gstate) → is_no_gstate g ≡ false → g ≡ no_gstat
 something_set g e is = let k = sym e ∙ ap is_no_gstate is in absurd (cc)
 
 -- what works is sound
-pub held_sound : {D : Type 0} (g : Ghosts D) (held : Image D) (root : ℕ) (writable failed : Bool) (now : Seen) → IsHeld held root writable failed → seen_image g held writable failed ≡ now → now.failed ≡ false → IsSound now
-held_sound g (image.Mounted thread) root writable failed now kept view works =
+pub held_sound : (thread : State) (root : ℕ) (writable : Bool) (now : Seen) → IsHeld thread root writable → seen_thread thread writable ≡ now → now.failed ≡ false → IsSound now
+held_sound thread root writable now kept view works =
     let s = (kept (ap (λ (s : Seen). s.failed) view ∙ works)).sound in
     subst IsSound view (record { accepted = s.accepted; fits = s.fits; is_kept = s.is_kept; used = s.used; size = s.size })
-held_sound g (image.Unmounted device) root writable failed now kept view works = absurd (let z = sym kept ∙ ap (λ (s : Seen). s.failed) view ∙ works in cc)

@@ -1,8 +1,8 @@
 -- An operation behind a recovery is one on the image from before it.
-use Rattle.std.proofs.Common.{ℕ, suc, ◌≡◌, ◌+◌, ◌≤◌, ◌⊎◌, ◌∙◌, ◌&&◌, inl, inr, true, false, not, cond, List, [], ◌∷◌, length, Option, Some, None, Result, Ok, Err, refl, sym, ap, ap₂, subst, arith}
+use Rattle.std.proofs.Common.{ℕ, suc, ◌≡◌, ◌+◌, ◌≤◌, ◌⊎◌, ◌∙◌, ◌&&◌, inl, inr, true, false, not, cond, List, [], ◌∷◌, length, Option, Some, None, refl, sym, ap, ap₂, subst, arith}
 use Rattle.std.proofs.lemmas.List.Sums.{sum_by-cons}
 use Rattle.std.proofs.lemmas.Option.{same_Some}
-use Rattle.std.specs.Prelude.{IfErr, is_none, is_some, nat_lt}
+use Rattle.std.specs.Prelude.{is_none, is_some, nat_lt}
 use Rattle.lfs_device.specs.declared.error.Error.{Error}
 use Rattle.lfs_model.specs.TreeEdits.{attributes_of, is_directory, is_file, last_name, names_of, same_path}
 use Rattle.lfs_model.specs.Blocks.{Blocks}
@@ -31,16 +31,17 @@ use Rattle.lfs_model.proofs.Counts.{count}
 use Rattle.lfs_model.proofs.Histories.{LeavesOnly-weaker}
 use Rattle.lfs_operations.specs.EndingMove.{HasEndedMove, RecoversTo}
 use Rattle.lfs_operations.proofs.RecoverBefore.{AreKin, stand_kin}
+use Rattle.lfs_operations.specs.Ready.{KeepsRoot}
 use Rattle.lfs_thread.specs.Kept.{Kept, State}
 use Rattle.lfs_thread.specs.Steps.{IsOnlyRead}
 use Rattle.lfs_tree.specs.Allowed.{CanAdd, CanRemove, CanRemoveAttr, CanRename, CanSetAttr, HasRoom}
-use Rattle.lfs_tree.specs.Carrying.{Carries, HasCalled, SurvivesTo, TellsError, Spares}
+use Rattle.lfs_tree.specs.Carrying.{Carries, HasCalled, Spares, StandsAs, SurvivesTo, TellsError}
 use Rattle.lfs_tree.specs.Held.{IsRooted, seen_kept}
 use Rattle.lfs_tree.specs.KeepsFiles.{ListsStay}
 use Rattle.lfs_tree.specs.Recovering.{HasDroppedLost, HasSettled}
 use Rattle.lfs_tree.specs.Seen.{IsSound, around_of, kept_of}
 use Rattle.lfs_tree.proofs.KeptFiles.{keeps_then}
-use Rattle.lfs_tree.proofs.Recovered.{called_then, leaves_then, recovered_already, recovered_read, some_since}
+use Rattle.lfs_tree.proofs.Recovered.{called_then, leaves_then, recovered_already, some_since}
 
 -- ---- the recovery
 
@@ -62,14 +63,8 @@ settled_whole a b c left e d carries =
       same = λ none. absurd (left none);
     }
 
-pub settled_read : (a b c : Kept) → (gstate_of a.pairs ≡ no_gstate → ⊥) → IsOnlyRead b c → faults c.history ≡ faults b.history → HasSettled a b → HasSettled a c
-settled_read a b c left r quiet f = record {
-  carries = recovered_read a b c left r quiet f.carries;
-  leads_on = subst (λ (ps : List Pair). (s : Session) (disk : Disk) (qs : List Pair) → IsLaidOut c.disk ps s ops.Recover disk qs → IsLaidOut a.disk a.pairs s ops.Recover disk qs) (sym r.pairs)
-      (subst (λ (d : Disk). (s : Session) (disk : Disk) (qs : List Pair) → IsLaidOut d b.pairs s ops.Recover disk qs → IsLaidOut a.disk a.pairs s ops.Recover disk qs) (sym r.disk) f.leads_on);
-  room = subst (λ (ps : List Pair). length (used_blocks c.disk ps) ≤ length (used_blocks a.disk a.pairs)) (sym r.pairs) (subst (λ (d : Disk). length (used_blocks d b.pairs) ≤ length (used_blocks a.disk a.pairs)) (sym r.disk) f.room);
-  same = λ none. absurd (left none);
-}
+pub settled_stands : (a c : Kept) → HasSettled a c → KeepsRoot a c → StandsAs a (tree_in a.disk a.pairs) c
+settled_stands a c f root = record { sound = f.carries.sound; fits = f.carries.fits; root = root; shows = f.carries.shows (around_of (seen_kept a true false)) []; no_fault = f.carries.no_fault }
 
 -- nothing was left
 pub settled_already : (t : State) (root : ℕ) → IsRooted t root true → gstate_of t.kept.pairs ≡ no_gstate → HasSettled t.kept t.kept
@@ -268,13 +263,9 @@ module _ (a b : Kept) (f : HasSettled a b) where
 
   -- ---- what it tells
 
-  told_after : (c : Kept) (e : Error) → TellsError b c e → TellsError a c e
+  pub told_after : (c : Kept) (e : Error) → TellsError b c e → TellsError a c e
   told_after c e told = record {
     errors = told.errors;
     fault = λ io. let k = told.fault io in let same = f.carries.no_fault in omega (arith, k, same);
     no_fault = λ other. told.no_fault other ∙ f.carries.no_fault;
   }
-
-  pub errors_after : (c : Kept) (r : Result ℕ Error) → IfErr r (TellsError b c) → IfErr r (TellsError a c)
-  errors_after c (Ok x) told = tt
-  errors_after c (Err e) told = told_after c e told

@@ -20,7 +20,7 @@ use Rattle.lfs_model.specs.SlotEdits.{slot_of_path}
 use Rattle.lfs_model.specs.Slots.{Slot}
 use Rattle.lfs_model.specs.Effects.{with_bytes}
 use Rattle.lfs_model.specs.Stops.{Stops}
-use Rattle.lfs_model.specs.Thread.{Pair, blocks_of, gstate_of}
+use Rattle.lfs_model.specs.Thread.{Pair, blocks_of, gstate_of, superblocks_before}
 use Rattle.lfs_model.specs.Tree.{Path}
 use Rattle.lfs_model.specs.View.{IsAccepted}
 use Rattle.lfs_model.specs.Profile.{IsWritable}
@@ -165,6 +165,7 @@ module _ (t : Kept) (path : Path) (u : Slot) (ok : IsAccepted t.disk t.pairs) (u
       };
       fits = on (λ d ps. IsWritable d ps) is.now.ready.writable;
       settled = ap gstate_of only.pairs ∙ is.now.ready.settled;
+      root = ap superblocks_before only.pairs ∙ is.now.root;
       shows = on (λ d ps. tree_in d ps ≡ change_at path (with_bytes (bytes_held t c)) (tree_in t.disk t.pairs)) (is.now.shows ∙ ap (λ p. change_at p (with_bytes (bytes_held t c)) (tree_in t.disk t.pairs)) (sym e));
       synced = λ files fd writer wr. on (λ d ps. IsLaidOut t.disk t.pairs (record { tree = tree_in t.disk t.pairs; files = files }) (ops.Sync fd) d ps)
           (is.synced (record { tree = tree_in t.disk t.pairs; files = files }) fd writer refl (wr.0, (wr.1.0, (wr.1.1.0 ∙ e, wr.1.1.1)))).laid_out;
@@ -176,7 +177,7 @@ module _ (t : Kept) (path : Path) (u : Slot) (ok : IsAccepted t.disk t.pairs) (u
 
 pub committed_read : (t : Kept) (h : List Event) (path : Path) (bytes : List ℕ) (later : Kept) → HasCommitted (with_history t h) path bytes later → HasCommitted t path bytes later
 committed_read t h path bytes later k =
-    record { sound = k.sound; fits = k.fits; settled = k.settled; shows = k.shows; synced = k.synced; closed = k.closed; alone = k.alone; none_in_flight = k.none_in_flight }
+    record { sound = k.sound; fits = k.fits; settled = k.settled; root = k.root; shows = k.shows; synced = k.synced; closed = k.closed; alone = k.alone; none_in_flight = k.none_in_flight }
 
 -- ---- behind calls that only read
 

@@ -1,12 +1,12 @@
 -- An entry that gets another path: what is found for it, and what may be done.
-use Rattle.std.proofs.Common.{ℕ, ◌≡◌, ◌≤◌, ◌∙◌, ◌&&◌, ◌++◌, not, Bool, true, false, List, [], ◌∷◌, Option, Some, None, Result, refl, sym, ap, ap₂, subst}
-use Rattle.std.specs.Prelude.{is_some}
+use Rattle.std.proofs.Common.{ℕ, ◌≡◌, ◌≤◌, ◌∙◌, ◌&&◌, ◌++◌, not, Bool, true, false, List, [], ◌∷◌, Option, Some, None, Result, Ok, Err, refl, sym, ap, ap₂, subst}
+use Rattle.std.specs.Prelude.{OnOk, is_some}
 use Rattle.std.specs.List.{list_all}
 use Rattle.std.specs.Option.{option_and_then}
 use Rattle.std.proofs.lemmas.Bool.{ltb-false}
 use Rattle.lfs_device.specs.Bytes.{HasBytes}
 use Rattle.lfs_device.specs.declared.error.Error.{Error}
-use Rattle.lfs_model.specs.TreeEdits.{is_beneath, last_name, rest_after, same_path}
+use Rattle.lfs_model.specs.TreeEdits.{is_beneath, last_name, renamed, rest_after, same_path}
 use Rattle.lfs_model.specs.Disk.{entry_limit}
 use Rattle.lfs_model.specs.History.{Event, OnlyReads, faults}
 use Rattle.lfs_model.specs.InDirectory.{Belongs}
@@ -15,7 +15,7 @@ use Rattle.lfs_model.specs.Operations as ops
 use Rattle.lfs_model.specs.Slots.{Slot, charge_of}
 use Rattle.lfs_model.specs.Refusals.{as_path, is_root}
 use Rattle.lfs_model.specs.Thread.{Pair, gstate_of, superblocks_before}
-use Rattle.lfs_model.specs.Tree.{Path, branch_of}
+use Rattle.lfs_model.specs.Tree.{Path, Tree, branch_of}
 use Rattle.lfs_model.specs.Profile.{FitsEntry}
 use Rattle.lfs_model.specs.Shown.{Leads, tree_in}
 use Rattle.lfs_model.proofs.Committed.{no_move_from}
@@ -24,11 +24,13 @@ use Rattle.lfs_thread.specs.Kept.{Kept, State}
 use Rattle.lfs_thread.specs.Steps.{IsOnlyRead}
 use Rattle.lfs_operations.specs.MovingSteps.{WritesAmong}
 use Rattle.lfs_tree.specs.Allowed.{CanRename}
-use Rattle.lfs_tree.specs.Carrying.{Carries, IsAtRest}
+use Rattle.lfs_tree.specs.Calls as call
+use Rattle.lfs_tree.specs.Calls.{left_by}
+use Rattle.lfs_tree.specs.Carrying.{Carries, HasDone, IsAtRest, IsOperationOn, IsTarget, Spares, StandsAs, SurvivesTo}
 use Rattle.lfs_tree.specs.CarryingSlots.{HasEntry}
 use Rattle.lfs_tree.specs.Held.{seen_kept}
 use Rattle.lfs_lookup.specs.Paths.{BeginsOnPath, LeadsTo, StandsOnPath}
-use Rattle.lfs_tree.specs.Shifting.{CanShift, CanShiftFound, CanShiftOnto, CanShiftOver, CanShiftTo, HasShifted, IsSource, IsSourceIn, IsTarget, TellsOfWork}
+use Rattle.lfs_tree.specs.Shifting.{CanShift, CanShiftFound, CanShiftOnto, CanShiftOver, CanShiftTo, HasShifted, IsSource, IsSourceIn, TellsOfWork}
 use Rattle.lfs_tree.specs.declared.carrying_rename.Source.{Source}
 use Rattle.lfs_lookup.specs.declared.entry.Contents.{Contents}
 use Rattle.lfs_lookup.specs.declared.paths.Found.{Found}
@@ -39,7 +41,9 @@ use Rattle.lfs_tree.proofs.CarryEdited.{attributes_are, can_edit, inline_fits}
 use Rattle.lfs_tree.proofs.CarryGone.{branch_is, none_entered}
 use Rattle.lfs_tree.proofs.CarryLogged.{logged_there}
 use Rattle.lfs_tree.proofs.CarryRooms.{last_is_name, room_for}
+use Rattle.lfs_tree.proofs.CarrySurvives.{survives_behind}
 use Rattle.lfs_tree.proofs.CarryTold.{IsTold}
+use Rattle.lfs_tree.proofs.Operated.{changed, does_rename, quiet_told, rename_stands}
 use Rattle.lfs_lookup.proofs.Directories.{within}
 use Rattle.lfs_tree.proofs.EmptyDirectories.{at_there, bare_there}
 use Rattle.lfs_tree.proofs.Mounting.{sound_read}
@@ -158,7 +162,7 @@ module _ (t : State) (root : ℕ) (rests : IsAtRest t root) (from to : Path) (co
 -- ---- what comes of it
 
 module _ (t : State) (root : ℕ) (rests : IsAtRest t root) (from to : Path) (other : same_path from to ≡ false) (h : List Event) (c : Kept) (reads : OnlyReads t.kept.disk.blocks t.kept.history h) (w : WritesAmong (with_history t.kept h) c) where
-  pub shifted_at : (given to_given : List ℕ) → HasShifted (with_history t.kept h) from to c → faults c.history ≡ faults t.kept.history → as_path given ≡ from → as_path to_given ≡ to → Carries t.kept (ops.Rename given to_given) c
+  shifted_at : (given to_given : List ℕ) → HasShifted (with_history t.kept h) from to c → faults c.history ≡ faults t.kept.history → as_path given ≡ from → as_path to_given ≡ to → Carries t.kept (ops.Rename given to_given) c
   shifted_at given to_given is quiet e f = carried t.kept h (ops.Rename given to_given) c
       (record {
         accepted = rests.held.sound.accepted;
@@ -173,6 +177,28 @@ module _ (t : State) (root : ℕ) (rests : IsAtRest t root) (from to : Path) (ot
         writes = w;
         no_fault = quiet;
       }) (ap₂ same_path e f ∙ other) refl
+
+module _ (t : State) (root : ℕ) (rests : IsAtRest t root) (from to : Path) (other : same_path from to ≡ false) (h : List Event) (new : State) (reads : OnlyReads t.kept.disk.blocks t.kept.history h) (w : WritesAmong (with_history t.kept h) new.kept) where
+  abbrev before : Tree
+  before = tree_in t.kept.disk t.kept.pairs
+
+  -- all that is said of it
+  pub rename_does : (r : Result (Unit {0}) Error) (given to_given : List ℕ) → as_path given ≡ from → as_path to_given ≡ to → faults h ≡ faults t.kept.history → OnOk r (HasShifted (with_history t.kept h) from to new.kept)
+      → IsTold h new.kept.history r → OnOk r (new.failed ≡ false) → SurvivesTo (with_history t.kept h) new.kept (renamed from to before) → IsOperationOn t (call.Rename from to) r new
+  rename_does r given to_given named to_named quiet shifted told works survives =
+      changed t new (HasDone t.kept (call.Rename from to)) (left_by (call.Rename from to) before) h w.blocks r quiet reads w.writes told works (go r shifted (quiet_told t.kept new.kept h r quiet told))
+      (survives_behind t root rests h new.kept w.blocks (renamed from to before) reads w.writes survives)
+    where
+      go : (r : Result (Unit {0}) Error) → OnOk r (HasShifted (with_history t.kept h) from to new.kept) → OnOk r (faults new.kept.history ≡ faults t.kept.history)
+          → OnOk r (HasDone t.kept (call.Rename from to) new.kept × StandsAs t.kept (left_by (call.Rename from to) before) new.kept)
+      go (Err e) shifted same = tt
+      go (Ok x) shifted same = (
+        record {
+          carries = does_rename (λ op. Carries t.kept op new.kept) from to (λ given to_given e f. shifted_at t root rests from to other h new.kept reads w given to_given shifted same e f);
+          spares = does_rename (λ op. Spares t.kept op new.kept) from to (λ given to_given e f none files. shifted.alone (record { tree = tree_in t.kept.disk t.kept.pairs; files = files }) given to_given e f);
+        },
+        rename_stands t.kept new.kept from to given to_given named to_named (shifted_at t root rests from to other h new.kept reads w given to_given shifted same named to_named) shifted.root,
+      )
 
 pub rests_still : (t mid : State) (root : ℕ) → IsAtRest t root → IsOnlyRead t.kept mid.kept → mid.failed ≡ false → IsAtRest mid root
 rests_still t mid root rests only works = record {

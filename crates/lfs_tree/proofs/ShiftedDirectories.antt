@@ -74,6 +74,7 @@ module _ (t : Kept) (from to : Path) (source : Source) (slot : Spot) (gone : ℕ
       record {
         ready = none_gone new is.now.ready;
         flying = is.now.flying;
+        root = is.now.root;
         completed = λ s given to_given tree f k. is.completed s given to_given tree (f ∙ shift.old_is) (k ∙ path_here e);
         alone = spares_one t new from to source name shift alters;
       }
@@ -122,6 +123,7 @@ module _ (t : Kept) (from to : Path) (source : Source) (slot : Spot) (gone : ℕ
       record {
         ready = none_gone new is.now.ready;
         flying = is.now.flying;
+        root = is.now.root;
         completed = λ s given to_given tree f k. is.completed s given to_given tree (f ∙ shift.old_is) (k ∙ shift.is);
         alone = spares_two t new from to source name shift slot can.target alters;
       }

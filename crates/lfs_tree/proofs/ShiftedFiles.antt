@@ -6,6 +6,7 @@ use Rattle.lfs_device.specs.declared.error.Error.TheVariants.{Io, NoMemory}
 use Rattle.lfs_writer.specs.Settling.{IsReadBesideMap}
 use Rattle.lfs_writer.specs.Standing.{TellsWork}
 use Rattle.lfs_model.specs.Discipline.{LeavesAlone}
+use Rattle.lfs_model.specs.Thread.{superblocks_before}
 use Rattle.lfs_model.specs.TreeEdits.{renamed, rest_after}
 use Rattle.lfs_model.specs.InDirectory.{Stands}
 use Rattle.lfs_model.specs.Names.{Name}
@@ -116,6 +117,7 @@ module _ (t : Kept) (from to : Path) (source : Source) (slot : Spot) (contents :
             (file_beside t new source.slot.pair slot.id edit _ w.writes (within_written t from to source name new shift w)) is.now.ready is.once;
         shows = shows_at t new from to _ _ shift.old_is (path_here e) is.now.shows;
         flying = λ b. (is.now.none_comes b, stay_in_flight t.map new.map is.now.stays b);
+        root = is.now.root;
         completed = λ s given to_given tree f k. is.completed s given to_given tree (f ∙ shift.old_is) (k ∙ path_here e);
         alone = spares_within t new from to source name shift w;
       }
@@ -157,6 +159,7 @@ module _ (t : Kept) (from to : Path) (source : Source) (slot : Spot) (contents :
             (file_beside t new slot.pair slot.id target_edit _ w.writes (across_written t from to source name slot.pair new shift below_target w)) is.now.ready is.once;
         shows = shows_at t new from to _ _ shift.old_is shift.is is.now.shows;
         flying = is.now.flying;
+        root = is.now.root;
         completed = λ s given to_given tree f k. is.completed s given to_given tree (f ∙ shift.old_is) (k ∙ shift.is);
         alone = spares_two t new from to source name shift slot can.target alters;
       }
@@ -170,6 +173,7 @@ pub onto_done : (t mid new : Kept) (from to : Path) (contents : Contents) → Ha
 onto_done t mid new from to contents is only ready flying = record {
   ready = ready;
   flying = λ b. ((λ h. (is.flying b).0 ((flying b).0 h)), (λ h. (flying b).1 ((is.flying b).1 h)));
+  root = ap superblocks_before only.pairs ∙ is.root;
   completed = λ s given to_given tree f k.
       subst (λ ps. IsCompleted t.disk t.pairs s (ops.Rename given to_given) new.disk ps) (sym only.pairs)
       (subst (λ disk. IsCompleted t.disk t.pairs s (ops.Rename given to_given) disk mid.pairs) (sym only.disk) (is.completed s given to_given tree f k));

@@ -206,6 +206,7 @@ module _ (t : Kept) (from to : Path) (source : Source) (place : Spot) (name : Na
       record {
         ready = is.now.ready;
         flying = λ b. (is.now.none_comes b, stay_in_flight t.map new.map is.now.stays b);
+        root = is.now.root;
         completed = λ s given to_given tree f k. is.completed s given to_given tree (f ∙ shift.old_is) (k ∙ path_is e);
         alone = spares_within t new from to source name shift w;
       }
@@ -242,6 +243,7 @@ module _ (t : Kept) (from to : Path) (source : Source) (place : Spot) (name : Na
       record {
         ready = none_gone new is.now.ready;
         flying = is.now.flying;
+        root = is.now.root;
         completed = λ s given to_given tree f k. is.completed s given to_given tree (f ∙ shift.old_is) (k ∙ shift.is);
         alone = spares_one t new from to source name shift alters;
       }

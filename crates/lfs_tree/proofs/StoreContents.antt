@@ -27,11 +27,8 @@ use Rattle.lfs_thread.specs.Kept.{Kept, State}
 use Rattle.lfs_thread.specs.Steps.{IsOnlyRead}
 use Rattle.lfs_tree.proofs.LeftAlone.{pair_of_alone}
 use Rattle.lfs_tree.specs.Carrying.{HasCalled, IsAtRest, SurvivesTo, TellsError}
-use Rattle.lfs_device.specs.declared.device.BlockDevice.{Ghosts}
-use Rattle.lfs_tree.specs.Held.{IsHeld, seen_image, seen_kept}
-use Rattle.lfs_tree.specs.declared.image.Image.{Image}
-use Rattle.lfs_tree.specs.declared.image.Image.TheVariants as image
-use Rattle.lfs_tree.proofs.Asking.{seen_mounted, seen_working}
+use Rattle.lfs_tree.specs.Held.{IsHeld, seen_kept, seen_thread}
+use Rattle.lfs_tree.proofs.Asking.{seen_working}
 use Rattle.lfs_tree.specs.OpenContents.{CanStoreAt, IsArrangedBy, IsSettleable, IsStoredAt, bytes_held, kept_of}
 use Rattle.lfs_tree.specs.Seen.{IsSound, Seen, tree_seen}
 use Rattle.lfs_tree.specs.Storing.{CanCommit, HasCommitted, HasStored, IsFinished, IsLaidBy, ChangesPairOf}
@@ -88,7 +85,7 @@ module _ (t : State) (root : ℕ) (rests : IsAtRest t root) (path : Path) (conte
   -- the list in hand was ended
   module _ (b : State) (still : b.failed ≡ false) (leaves : LeavesPairsAndUsed t.kept b.kept) where
     pub rests_beside : IsAtRest b root
-    rests_beside = record { held = rooted_beside t b root true false refl (λ e. rests.held) still leaves; settled = ap gstate_of leaves.pairs ∙ rests.settled }
+    rests_beside = record { held = rooted_beside t b root true rests.held still leaves; settled = ap gstate_of leaves.pairs ∙ rests.settled }
 
     pub survives_beside : (after : Tree) → SurvivesTo t.kept b.kept after
     survives_beside after clean = LeavesOnly-weaker (λ blocks spared. left_beside t.kept blocks sound.accepted (sound.fits refl) sound.used spared) (LeavesOnly-worst leaves.at_worst)
@@ -178,41 +175,20 @@ module _ (t : State) (root : ℕ) (rests : IsAtRest t root) (path : Path) (conte
           (subst (λ (x : Tree). IsLeft (with_blocks blocks b.kept.disk) x (change_at path (with_bytes (bytes_held t.kept contents)) (tree_in t.kept.disk t.kept.pairs))) tree_same
           (subst (λ (x : Tree). IsLeft (with_blocks blocks b.kept.disk) (tree_in b.kept.disk b.kept.pairs) x) turn_same left))) (k clean))
 
--- ---- and calls behind it that only read
-
-stored_on : (a b : Kept) (path : Path) (bytes : List ℕ) (h : List Event) → OnlyReads b.disk.blocks b.history h → faults h ≡ faults b.history → HasStored a path bytes b → HasStored a path bytes (with_history b h)
-stored_on a b path bytes h reads quiet k = record {
-  works = k.works;
-  sound = record { accepted = k.sound.accepted; fits = k.sound.fits; is_kept = k.sound.is_kept; used = k.sound.used; size = k.sound.size };
-  writable = k.writable;
-  geometry = k.geometry;
-  calls = reads.events ++ k.calls;
-  called = reads.extends ∙ ap (λ z. reads.events ++ z) k.called ∙ sym (append_assoc reads.events k.calls a.history);
-  no_fault = quiet ∙ k.no_fault;
-  fits = k.fits;
-  recovered = k.recovered;
-  shows = k.shows;
-  synced = k.synced;
-  closed = k.closed;
-  alone = k.alone;
-  none_in_flight = k.none_in_flight;
-}
-
-pub stored_read : (a b c : Kept) (path : Path) (bytes : List ℕ) → IsOnlyRead b c → faults c.history ≡ faults b.history → HasStored a path bytes b → HasStored a path bytes c
-stored_read a b c path bytes r quiet k = subst (λ z. HasStored a path bytes z) (sym (read_is b c r)) (stored_on a b path bytes c.history r.reads quiet k)
-
 -- ---- seen from a tree
 
-module _ {D : Type 0} (g : Ghosts D) (held : Image D) (thread : State) (root : ℕ) (writable failed : Bool) (now : Seen)
-    (is : held ≡ image.Mounted thread) (kept : IsHeld held root writable failed) (view : seen_image g held writable failed ≡ now) (works : now.failed ≡ false) (may : now.writable ≡ true) (path : Path) (contents : Contents) where
-  pub stored_working : (new : Kept) → HasStored thread.kept path (bytes_held thread.kept contents) new → IsStoredAt now path (bytes_held (kept_of now) contents) (seen_kept new writable failed)
-  stored_working new k =
-      let seen = seen_mounted g held thread root writable failed now is kept view in
-      subst (λ a. IsStoredAt now path (bytes_held (kept_of now) contents) (seen_kept new a failed)) (sym (ap (λ (s : Seen). s.writable) seen ∙ may))
-      (subst (λ b. IsStoredAt now path (bytes_held (kept_of now) contents) (seen_kept new true b)) (sym (ap (λ (s : Seen). s.failed) seen ∙ works))
-      (subst (λ (s : Seen). IsStoredAt s path (bytes_held (kept_of s) contents) (seen_kept new true false)) (sym (seen_working g held thread root writable failed now is kept view works may)) k))
+module _ (thread : State) (root : ℕ) (writable : Bool) (now : Seen) (kept : IsHeld thread root writable) (view : seen_thread thread writable ≡ now) (works : now.failed ≡ false) (may : now.writable ≡ true) (path : Path) (contents : Contents) where
+  stored_working : (new : State) → new.failed ≡ false → HasStored thread.kept path (bytes_held thread.kept contents) new.kept → IsStoredAt now path (bytes_held (kept_of now) contents) (seen_thread new writable)
+  stored_working new still k =
+      subst (λ a. IsStoredAt now path (bytes_held (kept_of now) contents) (seen_kept new.kept a new.failed)) (sym (ap (λ (s : Seen). s.writable) view ∙ may))
+      (subst (λ b. IsStoredAt now path (bytes_held (kept_of now) contents) (seen_kept new.kept true b)) (sym still)
+      (subst (λ (s : Seen). IsStoredAt s path (bytes_held (kept_of s) contents) (seen_kept new.kept true false)) (sym (seen_working thread root writable now kept view works may)) k))
+
+  pub all_stored_working : (r : Result (Unit {0}) Error) (new : State) → OnOk r (HasStored thread.kept path (bytes_held thread.kept contents) new.kept) → OnOk r (new.failed ≡ false) → OnOk r (IsStoredAt now path (bytes_held (kept_of now) contents) (seen_thread new writable))
+  all_stored_working (Ok x) new k still = stored_working new still k
+  all_stored_working (Err e) new k still = tt
 
   pub survives_stored : (new : List Event) → Survives thread.kept.disk thread.kept.history new (tree_in thread.kept.disk thread.kept.pairs) (change_at path (with_bytes (bytes_held thread.kept contents)) (tree_in thread.kept.disk thread.kept.pairs))
       → Survives now.disk now.history new (tree_seen now) (change_at path (with_bytes (bytes_held (kept_of now) contents)) (tree_seen now))
   survives_stored new k =
-      subst (λ (s : Seen). Survives s.disk s.history new (tree_seen s) (change_at path (with_bytes (bytes_held (kept_of s) contents)) (tree_seen s))) (sym (seen_working g held thread root writable failed now is kept view works may)) k
+      subst (λ (s : Seen). Survives s.disk s.history new (tree_seen s) (change_at path (with_bytes (bytes_held (kept_of s) contents)) (tree_seen s))) (sym (seen_working thread root writable now kept view works may)) k

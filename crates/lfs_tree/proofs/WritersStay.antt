@@ -4,8 +4,7 @@ use Rattle.std.specs.Prelude.{Contains}
 use Rattle.std.proofs.lemmas.List.Elements.{Contains-append_cases}
 use Rattle.std.proofs.lemmas.Option.{slice_get-get_or}
 use Rattle.lfs_device.specs.declared.geometry.Geometry.{Geometry}
-use Rattle.lfs_ctz.specs.Extended.{geometry_of, growing_of}
-use Rattle.lfs_ctz.specs.Growing.{Growing, kept_of as blocks_kept, pending_of, size_of}
+use Rattle.lfs_ctz.specs.Growing.{Growing, kept_of as blocks_kept, pending_of, size_of, end_of}
 use Rattle.lfs_writer.specs.Standing.{held_in}
 use Rattle.lfs_model.specs.Blocks.{Blocks, block_in}
 use Rattle.lfs_model.specs.BlockSets.{BlockSets, BlockState, IsFree, IsInFlight, IsUsed, in_flight_count}
@@ -24,7 +23,6 @@ use Rattle.lfs_tree.proofs.KeptFiles.{list_used}
 use Rattle.lfs_writer.specs.Apart.{IsApart}
 use Rattle.lfs_writer.specs.Based.{IsBase, list_blocks}
 use Rattle.lfs_writer.specs.Contents.{Stands, bytes_in, form_of}
-use Rattle.lfs_writer.specs.Extended.{end_of}
 use Rattle.lfs_writer.specs.Form.{form_blocks}
 use Rattle.lfs_writer.specs.Hand.{IsHand, hand_bytes}
 use Rattle.lfs_writer.specs.Owned.{blocks_held}
@@ -39,16 +37,16 @@ use Rattle.lfs_writer.proofs.Flights.{begun_flying, stored_flying}
 abbrev pub StandStill : BlockSets → Blocks → Geometry → Contents → BlockSets → Blocks → Type 0
 StandStill map d now c later e = Stands later e now c × ((blocks_held e now.block_size c ≡ blocks_held d now.block_size c) × (bytes_in e now.block_size c ≡ bytes_in d now.block_size c))
 
-hand_still_on : (map later : BlockSets) (d e : Blocks) (now : Geometry) (hand : Hand) → now ≡ geometry_of hand.list → IsHand map d now.block_size (growing_of hand.list) hand.base hand.shared
+hand_still_on : (map later : BlockSets) (d e : Blocks) (now : Geometry) (hand : Hand) → now ≡ hand.list.geometry → IsHand map d now.block_size hand.list hand.base hand.shared
     → StayAs map d (blocks_held d now.block_size (InHand hand)) later e
-    → IsHand later e now.block_size (growing_of hand.list) hand.base hand.shared
-    × ((blocks_held e now.block_size (InHand hand) ≡ blocks_held d now.block_size (InHand hand)) × (hand_bytes e now.block_size (growing_of hand.list) hand.base ≡ hand_bytes d now.block_size (growing_of hand.list) hand.base))
+    → IsHand later e now.block_size hand.list hand.base hand.shared
+    × ((blocks_held e now.block_size (InHand hand) ≡ blocks_held d now.block_size (InHand hand)) × (hand_bytes e now.block_size hand.list hand.base ≡ hand_bytes d now.block_size hand.list hand.base))
 hand_still_on map later d e now hand is list stay = (
-  hand_stays map later d e now.block_size (growing_of hand.list) hand.base hand.shared list stay,
+  hand_stays map later d e now.block_size hand.list hand.base hand.shared list stay,
   (
-    ap (λ (l : List ℕ). l ++ list_blocks e now.block_size hand.base.head hand.base.size) (hand_still map later d e now.block_size (growing_of hand.list) hand.base hand.shared list stay).kept
-        ∙ ap (λ (l : List ℕ). blocks_kept d (growing_of hand.list) ++ l) (base_list map later d e now.block_size (growing_of hand.list) hand.base hand.shared list stay),
-    hand_bytes_stay map later d e now.block_size (growing_of hand.list) hand.base hand.shared list stay,
+    ap (λ (l : List ℕ). l ++ list_blocks e now.block_size hand.base.head hand.base.size) (hand_still map later d e now.block_size hand.list hand.base hand.shared list stay).kept
+        ∙ ap (λ (l : List ℕ). blocks_kept d hand.list ++ l) (base_list map later d e now.block_size hand.list hand.base hand.shared list stay),
+    hand_bytes_stay map later d e now.block_size hand.list hand.base hand.shared list stay,
   ),
 )
 
@@ -63,13 +61,13 @@ stands_still map later d e now (InMemory list) stay is = (
 stands_still map later d e now (Finished stored) stay is =
     (stored_stays map later d e now.block_size stored stay is, (list_stays map later d e now.block_size stored stay, bytes_stay map later d e now.block_size stored stay))
 stands_still map later d e now (InHand hand) stay is =
-    let on = hand_still_on map later d e now hand is.geometry (subst (λ (k : Geometry). IsHand map d k.block_size (growing_of hand.list) hand.base hand.shared) (sym is.geometry) is.list) stay in (
+    let on = hand_still_on map later d e now hand is.geometry (subst (λ (k : Geometry). IsHand map d k.block_size hand.list hand.base hand.shared) (sym is.geometry) is.list) stay in (
       record {
         geometry = is.geometry;
-        list = subst (λ (k : Geometry). IsHand later e k.block_size (growing_of hand.list) hand.base hand.shared) is.geometry on.0;
+        list = subst (λ (k : Geometry). IsHand later e k.block_size hand.list hand.base hand.shared) is.geometry on.0;
         some = is.some;
       },
-      (on.1.0, subst (λ (k : Geometry). hand_bytes e k.block_size (growing_of hand.list) hand.base ≡ hand_bytes d k.block_size (growing_of hand.list) hand.base) is.geometry on.1.1),
+      (on.1.0, subst (λ (k : Geometry). hand_bytes e k.block_size hand.list hand.base ≡ hand_bytes d k.block_size hand.list hand.base) is.geometry on.1.1),
     )
 
 -- at most so many blocks are in flight
@@ -77,10 +75,10 @@ pub stands_flying : (map : BlockSets) (d : Blocks) (now : Geometry) (c : Content
 stands_flying map d now (InMemory list) is = few_flying [] map (λ b flies. absurd (is.idle.none b flies))
 stands_flying map d now (Finished stored) is = stored_flying map d now.block_size stored is
 stands_flying map d now (InHand hand) is =
-    let list : IsHand map d now.block_size (growing_of hand.list) hand.base hand.shared = subst (λ (k : Geometry). IsHand map d k.block_size (growing_of hand.list) hand.base hand.shared) (sym is.geometry) is.list in
-    let few = begun_flying map d now.block_size (growing_of hand.list) hand.base hand.shared list.begun in
+    let list : IsHand map d now.block_size hand.list hand.base hand.shared = subst (λ (k : Geometry). IsHand map d k.block_size hand.list hand.base hand.shared) (sym is.geometry) is.list in
+    let few = begun_flying map d now.block_size hand.list hand.base hand.shared list.begun in
     let many = list.many in
-    let e : size_of now.block_size (growing_of hand.list) ≡ end_of hand.list = ap (λ (k : Geometry). size_of k.block_size (growing_of hand.list)) is.geometry in
+    let e : size_of now.block_size hand.list ≡ end_of hand.list = ap (λ (k : Geometry). size_of k.block_size hand.list) is.geometry in
     let f = ap (blocks_for now.block_size) e in
     omega arith
 
@@ -110,11 +108,11 @@ held_states map d now (InMemory list) is b has = absurd (omega (arith, has.1))
 held_states map d now (Finished stored) is b has =
     state_of map b (let l = base_below d now.block_size stored is.base b has in omega (arith, l, is.count)) (of_all (λ x. ¬ (IsFree map x)) (list_blocks d now.block_size stored.head stored.size) is.marked b has)
 held_states map d now (InHand hand) is b has =
-    let list : IsHand map d now.block_size (growing_of hand.list) hand.base hand.shared = subst (λ (k : Geometry). IsHand map d k.block_size (growing_of hand.list) hand.base hand.shared) (sym is.geometry) is.list in
-    ⊎_elim (own_state map d now.block_size (growing_of hand.list) hand.base hand.shared list b)
+    let list : IsHand map d now.block_size hand.list hand.base hand.shared = subst (λ (k : Geometry). IsHand map d k.block_size hand.list hand.base hand.shared) (sym is.geometry) is.list in
+    ⊎_elim (own_state map d now.block_size hand.list hand.base hand.shared list b)
     (λ base. state_of map b (let l = base_below d now.block_size hand.base list.begun.list b base in omega (arith, l, list.begun.marked.count))
-    (of_all (λ x. IsApart map (pending_of (growing_of hand.list)) x) (list_blocks d now.block_size hand.base.head hand.base.size) list.begun.apart b base).0)
-    (Contains-append_cases (blocks_kept d (growing_of hand.list)) (list_blocks d now.block_size hand.base.head hand.base.size) b has)
+    (of_all (λ x. IsApart map (pending_of hand.list) x) (list_blocks d now.block_size hand.base.head hand.base.size) list.begun.apart b base).0)
+    (Contains-append_cases (blocks_kept d hand.list) (list_blocks d now.block_size hand.base.head hand.base.size) b has)
 
 -- ---- the contents of a writer
 

@@ -1,23 +1,27 @@
 -- What an operation on a path finds, and what comes of it over a thread.
-use Rattle.std.specs.Prelude.{ℕ, ◌≡◌, Bool, true, false, List, [], ◌∷◌, ◌++◌, None, is_some}
+use Rattle.std.specs.Prelude.{ℕ, ◌≡◌, ◌||◌, Bool, true, false, List, [], ◌∷◌, ◌++◌, None, is_some, Result, Err, IfErr, OnOk, is_err}
 use Rattle.lfs_device.specs.declared.error.Error.{Error}
 use Rattle.lfs_model.specs.declared.order.NameOrder.{NameOrder}
 use Rattle.lfs_model.specs.Disk.{SameGeometry}
-use Rattle.lfs_model.specs.History.{Event}
+use Rattle.lfs_model.specs.History.{Event, faults}
 use Rattle.lfs_model.specs.InDirectory.{Belongs}
 use Rattle.lfs_model.specs.Names.{Name}
 use Rattle.lfs_model.specs.Operations.{Operation}
 use Rattle.lfs_model.specs.PowerLoss.{Survives}
 use Rattle.lfs_model.specs.Session.{parent_fault}
 use Rattle.lfs_model.specs.Slots.{no_gstate}
-use Rattle.lfs_model.specs.Thread.{Pair, gstate_of}
+use Rattle.lfs_model.specs.Thread.{Pair, gstate_of, superblocks_before}
 use Rattle.lfs_model.specs.Tree.{Path, Tree}
+use Rattle.lfs_model.specs.TreeEdits.{last_name}
+use Rattle.lfs_model.specs.Profile.{IsWritable}
 use Rattle.lfs_model.specs.Shown.{tree_in}
+use Rattle.lfs_operations.specs.Ready.{KeepsRoot}
 use Rattle.lfs_thread.specs.Kept.{Kept, State}
-use Rattle.lfs_tree.specs.Reads.{ReadsToCreate}
+use Rattle.lfs_tree.specs.Calls.{Call, Does, left_by}
 use Rattle.lfs_tree.specs.Held.{IsRooted, seen_kept}
-use Rattle.lfs_lookup.specs.Paths.{BeginsOnPath}
-use Rattle.lfs_tree.specs.Seen.{IsCarried, IsError, LeavesRest}
+use Rattle.lfs_lookup.specs.Paths.{BeginsOnPath, LeadsTo}
+use Rattle.lfs_lookup.specs.Reading.{IsReading}
+use Rattle.lfs_tree.specs.Seen.{IsCarried, IsError, IsSound, LeavesRest}
 use Rattle.lfs_lookup.specs.declared.paths.Found.{Found}
 use Rattle.lfs_lookup.specs.declared.paths.Found.TheVariants as found
 use Rattle.lfs_lookup.specs.declared.search.Spot.{Spot}
@@ -26,6 +30,11 @@ use Rattle.lfs_lookup.specs.declared.search.Spot.{Spot}
 pub record IsAtRest (t : State) (root : ℕ) : Type 0 where
   pub held : IsRooted t root true
   pub settled : gstate_of t.kept.pairs ≡ no_gstate
+
+-- what a look-up finds at the path, and its last name
+pub record IsTarget (t : Kept) (path : Path) (target : Found) (name : Name) : Type 0 where
+  pub leads : LeadsTo t path target
+  pub named : name ≡ last_name path
 
 -- nothing is at the path, and directories are above it
 pub record IsVacant (t : Tree) (path : Path) : Type 0 where
@@ -63,11 +72,6 @@ pub record HasCalled (old new : Kept) : Type 0 where
   pub calls : List Event
   pub called : new.history ≡ calls ++ old.history
 
--- so, and few of them are reads
-pub record CallsToCreate (path : Path) (old new : Kept) : Type 0 where
-  pub called : HasCalled old new
-  pub few : ReadsToCreate path (seen_kept old true false) new.history
-
 -- `Io` comes with a fault of the device, and `NoMemory` without one
 abbrev pub TellsError : Kept → Kept → Error → Type 0
 TellsError old new e = IsError (seen_kept old true false) (seen_kept new true true) e
@@ -75,3 +79,32 @@ TellsError old new e = IsError (seen_kept old true false) (seen_kept new true tr
 -- a loss of power on the way leaves the tree from before, or that one
 abbrev pub SurvivesTo : Kept → Kept → Tree → Type 0
 SurvivesTo old new after = Survives old.disk old.history new.history (tree_in old.disk old.pairs) after
+
+-- ---- what is said of it
+
+-- the image is a sound one of the writing profile that shows the tree, the root directory begins where it did, and no call failed
+pub record StandsAs (old : Kept) (tree : Tree) (new : Kept) : Type 0 where
+  pub sound : IsSound (seen_kept new true false)
+  pub fits : IsWritable new.disk new.pairs
+  pub root : KeepsRoot old new
+  pub shows : tree_in new.disk new.pairs ≡ tree
+  pub no_fault : faults new.history ≡ faults old.history
+
+-- What a change of the image says: what is done, that the thread works on and shows the tree from after it, and what an error
+-- and a loss of power come to.
+pub record IsChange {X : Type 0} (old : State) (Done : Kept → Type 0) (after : Tree) (result : Result X Error) (new : State) : Type 0 where
+  pub done : OnOk result (Done new.kept)
+  pub works : OnOk result (new.failed ≡ false)
+  pub stands : OnOk result (StandsAs old.kept after new.kept)
+  pub called : HasCalled old.kept new.kept
+  pub errors : IfErr result (TellsError old.kept new.kept)
+  pub survives : SurvivesTo old.kept new.kept after
+
+-- the operation that the call does is carried out, and leaves the rest alone
+pub record HasDone (old : Kept) (call : Call) (new : Kept) : Type 0 where
+  pub carries : (op : Operation) → Does call op → Carries old op new
+  pub spares : (op : Operation) → Does call op → Spares old op new
+
+-- what a call says over a thread of which nothing is to be recovered
+abbrev pub IsOperationOn : {X : Type 0} → State → Call → Result X Error → State → Type 0
+IsOperationOn old call result new = IsChange old (HasDone old.kept call) (left_by call (tree_in old.kept.disk old.kept.pairs)) result new

@@ -12,7 +12,7 @@ use Rattle.lfs_model.specs.Shown.{tree_in, used_blocks}
 use Rattle.lfs_model.specs.Steps.{IsCompleted, count}
 use Rattle.lfs_operations.specs.Dropping.{SameInFlight}
 use Rattle.lfs_operations.specs.Editing.{slot_at}
-use Rattle.lfs_operations.specs.Ready.{IsReady, IsReadyBut}
+use Rattle.lfs_operations.specs.Ready.{IsReady, IsReadyBut, KeepsRoot}
 use Rattle.lfs_operations.specs.Removing.{CanRemove}
 use Rattle.lfs_operations.specs.Unlinking.{CanRemoveDirectory}
 use Rattle.lfs_thread.specs.Kept.{Kept}
@@ -70,10 +70,12 @@ CanGo t path _ = ⊥
 
 -- ---- what comes of it
 
--- The tree hasn't it, the other slots stand where they should, and its blocks are free: so a remove of its path is completed.
+-- The tree hasn't it, the other slots stand where they should, and its blocks are free: so a remove of its path is completed. The
+-- root directory begins where it did.
 pub record HasGone (old : Kept) (path : Path) (new : Kept) : Type 0 where
   pub ready : IsReady new
   pub flying : SameInFlight old.map new.map
+  pub root : KeepsRoot old new
   pub completed : (s : Session) (given : List ℕ) → s.tree ≡ tree_in old.disk old.pairs → as_path given ≡ path
       → IsCompleted old.disk old.pairs s (ops.Remove given) new.disk new.pairs
 

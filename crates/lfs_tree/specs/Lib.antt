@@ -3,8 +3,9 @@ pub mod KeepsFiles
 pub mod Seen
 pub mod Allowed
 pub mod Held
-pub mod Carrying
 pub mod CarryingSlots
+pub mod Calls
+pub mod Carrying
 pub mod Shifting
 pub mod LostLists
 pub mod Going

@@ -1,5 +1,6 @@
 -- The contents of a file that is open for writing, beside the image.
-use Rattle.std.specs.Prelude.{ℕ, ◌≡◌, ◌+◌, ◌^◌, ◌<◌, ◌≤◌, ◌⊎◌, true, false, max, List, [], ◌∷◌, ◌++◌, length, Contains}
+use Rattle.std.specs.Prelude.{ℕ, ◌≡◌, ◌+◌, ◌^◌, ◌<◌, ◌≤◌, ◌⊎◌, true, false, max, List, [], ◌∷◌, ◌++◌, length, Contains, Result, IfErr, OnErr, OnOk}
+use Rattle.lfs_device.specs.declared.error.Error.{Error}
 use Rattle.lfs_model.specs.TreeEdits.{change_at, is_file}
 use Rattle.lfs_model.specs.BlockSets.{in_flight_count}
 use Rattle.lfs_model.specs.Discipline.{LeavesAlone, paths_of}
@@ -21,7 +22,7 @@ use Rattle.lfs_operations.specs.Storing.{IsWriterOf}
 use Rattle.lfs_thread.specs.Kept.{Kept}
 pub use Rattle.lfs_tree.specs.KeepsFiles.{blocks_named, list_at}
 pub use Rattle.lfs_tree.specs.Seen.{kept_of}
-use Rattle.lfs_tree.specs.Seen.{Seen, IsSound, around_of, bare, tree_seen}
+use Rattle.lfs_tree.specs.Seen.{IsBroken, IsError, Seen, IsSound, SurvivesAs, around_of, bare, tree_seen}
 use Rattle.lfs_writer.specs.Contents.{IsLarge, NeedsRoom, bytes_in, end_room, form_of, truncate_room, write_room}
 use Rattle.lfs_writer.specs.Form as form
 use Rattle.lfs_writer.specs.Form.{Form, form_size}
@@ -113,6 +114,13 @@ pub record IsWrittenBeside (old new : Seen) : Type 0 where
   pub calls : List Event
   pub called : new.history ≡ calls ++ old.history
   pub no_fault : faults new.history ≡ faults old.history
+
+-- What a call on a writer's contents says, that leaves the image as it is. So does a loss of power on its way.
+pub record IsWriting {X : Type 0} (old : Seen) (result : Result X Error) (new : Seen) : Type 0 where
+  pub beside : OnOk result (IsWrittenBeside old new)
+  pub broken : OnErr result (IsBroken old new)
+  pub errors : IfErr result (IsError old new)
+  pub survives : old.writable ≡ true → SurvivesAs old new (tree_seen old)
 
 -- where slots stand is what the operation on such a writer wants
 abbrev pub IsArrangedBy : Seen → Path → List ℕ → (ℕ → Operation) → Seen → Type 0

@@ -12,7 +12,7 @@ use Rattle.lfs_model.specs.View.{IsAccepted}
 use Rattle.lfs_model.specs.Profile.{IsWritable}
 use Rattle.lfs_model.specs.Shown.{tree_in, used_blocks}
 use Rattle.lfs_model.specs.Steps.{IsCompleted, count, HasNoMove}
-use Rattle.lfs_operations.specs.Ready.{IsReady}
+use Rattle.lfs_operations.specs.Ready.{IsReady, KeepsRoot}
 use Rattle.lfs_operations.specs.EndingMove.{RecoversTo}
 use Rattle.lfs_thread.specs.Kept.{Kept}
 use Rattle.lfs_tree.specs.Carrying.{Carries}
@@ -28,9 +28,11 @@ pub record CanDropLost (t : Kept) : Type 0 where
   pub size : length t.map ≡ block_count t.disk
   pub none : HasNoMove (gstate_of t.pairs)
 
--- Nothing is left to recover, the tree and the files' lists are as they were, and no block has come into use.
+-- Nothing is left to recover, the tree and the files' lists are as they were, the root directory begins where it did, and no block
+-- has come into use.
 pub record HasDroppedLost (old new : Kept) : Type 0 where
   pub ready : IsReady new
+  pub root : KeepsRoot old new
   pub shows : tree_in new.disk new.pairs ≡ tree_in old.disk old.pairs
   pub completed : (s : Session) → s.tree ≡ tree_in old.disk old.pairs → IsCompleted old.disk old.pairs s ops.Recover new.disk new.pairs
   pub fewer : (b : ℕ) → count b (used_blocks new.disk new.pairs) ≤ count b (used_blocks old.disk old.pairs)

@@ -1,5 +1,5 @@
 -- What contracts see of a tree of files on a device.
-use Rattle.std.specs.Prelude.{ℕ, ◌≡◌, ◌≢◌, ◌⊎◌, ◌<◌, Bool, true, false, List, [], ◌++◌, length}
+use Rattle.std.specs.Prelude.{ℕ, ◌≡◌, ◌≢◌, ◌⊎◌, ◌<◌, Bool, true, false, List, [], ◌++◌, length, Result, IfErr, OnErr, OnOk}
 use Rattle.lfs_device.specs.declared.error.Error.{Error}
 use Rattle.lfs_device.specs.declared.error.Error.TheVariants.{Io, NoMemory, Corrupt}
 use Rattle.lfs_model.specs.TreeEdits.{is_file}
@@ -87,6 +87,12 @@ pub record IsError (old new : Seen) (e : Error) : Type 0 where
   pub errors : (e ≡ Io) ⊎ (e ≡ NoMemory)
   pub fault : e ≡ Io → faults old.history < faults new.history
   pub no_fault : e ≢ Io → faults new.history ≡ faults old.history
+
+-- what such a call says
+pub record IsAsking {X : Type 0} (old : Seen) (result : Result X Error) (new : Seen) : Type 0 where
+  pub asked : OnOk result (IsAsked old new)
+  pub broken : OnErr result (IsBrokenAsking old new)
+  pub errors : IfErr result (IsError old new)
 
 -- The same of a mount. `Corrupt` says that the disk isn't accepted.
 pub record IsMountError (old new : Seen) (e : Error) : Type 0 where

@@ -3,7 +3,7 @@ use Rattle.std.specs.Prelude.{ℕ, ◌≡◌, ◌⊎◌, ◌<◌, true, false, L
 use Rattle.lfs_device.specs.declared.error.Error.{Error}
 use Rattle.lfs_device.specs.declared.error.Error.TheVariants.{Io, NoMemory}
 use Rattle.lfs_model.specs.Discipline.{LeavesAlone}
-use Rattle.lfs_model.specs.TreeEdits.{last_name, renamed, rest_after}
+use Rattle.lfs_model.specs.TreeEdits.{renamed, rest_after}
 use Rattle.lfs_model.specs.History.{faults}
 use Rattle.lfs_model.specs.InDirectory.{Belongs, Stands}
 use Rattle.lfs_model.specs.Names.{Name, is_name}
@@ -19,13 +19,13 @@ use Rattle.lfs_model.specs.Steps.{IsCompleted}
 use Rattle.lfs_operations.specs.Dropping.{SameInFlight}
 use Rattle.lfs_operations.specs.Editing.{CanEdit, slot_at}
 use Rattle.lfs_operations.specs.Making.{HasRoomFor}
-use Rattle.lfs_operations.specs.Ready.{IsLoggedAt, IsReady}
+use Rattle.lfs_operations.specs.Ready.{IsLoggedAt, IsReady, KeepsRoot}
 use Rattle.lfs_thread.specs.Kept.{Kept, State}
 use Rattle.lfs_thread.specs.Steps.{pair_in}
 use Rattle.lfs_tree.specs.CarryingSlots.{IsSlotFor}
 use Rattle.lfs_lookup.specs.Entry.{ShowsContents}
 use Rattle.lfs_tree.specs.Going.{CanFree}
-use Rattle.lfs_lookup.specs.Paths.{BeginsOnPath, LeadsTo}
+use Rattle.lfs_lookup.specs.Paths.{BeginsOnPath}
 use Rattle.lfs_tree.specs.declared.carrying_rename.Source.{Source}
 use Rattle.lfs_lookup.specs.declared.entry.Contents.{Contents}
 use Rattle.lfs_lookup.specs.declared.paths.Found.{Found}
@@ -43,11 +43,6 @@ IsSourceIn _ source = ⊥
 pub record IsSource (ps : List Pair) (path : Path) (source : Source) : Type 0 where
   pub slot : IsSlotFor ps path source.slot
   pub first_is : slot.first ≡ source.first
-
--- what a look-up finds at the path, and its last name
-pub record IsTarget (t : Kept) (path : Path) (target : Found) (name : Name) : Type 0 where
-  pub leads : LeadsTo t path target
-  pub named : name ≡ last_name path
 
 -- The image may be changed, and two blocks are free. The entry at the one path stands in the slot; it may be written under the name,
 -- as which it is to be at the other path, which isn't beneath it.
@@ -101,10 +96,11 @@ abbrev pub HasSparedOthers : Kept → Path → Path → Kept → Type 0
 HasSparedOthers old from to new = (s : Session) (given to_given : List ℕ) → as_path given ≡ from → as_path to_given ≡ to → LeavesAlone old.disk old.pairs s (ops.Rename given to_given) new.disk new.pairs
 
 -- The tree has the entry at the other path, the other slots stand where they should, and the blocks are the image's again: so a
--- rename of the one path to the other is completed.
+-- rename of the one path to the other is completed. The root directory begins where it did.
 pub record HasShifted (old : Kept) (from to : Path) (new : Kept) : Type 0 where
   pub ready : IsReady new
   pub flying : SameInFlight old.map new.map
+  pub root : KeepsRoot old new
   pub completed : (s : Session) (given to_given : List ℕ) → s.tree ≡ tree_in old.disk old.pairs → as_path given ≡ from → as_path to_given ≡ to
       → IsCompleted old.disk old.pairs s (ops.Rename given to_given) new.disk new.pairs
   pub alone : HasSparedOthers old from to new
@@ -114,6 +110,7 @@ pub record HasShiftedOnto (old : Kept) (from to : Path) (contents : Contents) (n
   pub free : CanFree new contents
   pub shows : tree_in new.disk new.pairs ≡ renamed from to (tree_in old.disk old.pairs)
   pub flying : SameInFlight old.map new.map
+  pub root : KeepsRoot old new
   pub completed : (s : Session) (given to_given : List ℕ) → s.tree ≡ tree_in old.disk old.pairs → as_path given ≡ from → as_path to_given ≡ to
       → IsCompleted old.disk old.pairs s (ops.Rename given to_given) new.disk new.pairs
   pub alone : HasSparedOthers old from to new

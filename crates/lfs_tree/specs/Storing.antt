@@ -14,6 +14,7 @@ use Rattle.lfs_model.specs.Thread.{Pair, gstate_of}
 use Rattle.lfs_model.specs.Tree.{Path, branch_of}
 use Rattle.lfs_model.specs.Profile.{IsWritable}
 use Rattle.lfs_model.specs.Shown.{tree_in, used_blocks}
+use Rattle.lfs_operations.specs.Ready.{KeepsRoot}
 use Rattle.lfs_writer.specs.Coming.{CanCome}
 use Rattle.lfs_writer.specs.Standing.{StandsIn}
 use Rattle.lfs_operations.specs.Editing.{CanEdit, slot_at}
@@ -111,11 +112,12 @@ pub record ChangesPairOf (disk : Disk) (ps : List Pair) (path : Path) (new : Dis
   pub holds : HoldsSlot ps pair path
   pub others : (b : ℕ) → Contains (used_blocks disk ps) b → b ≢ pair.at.0 → b ≢ pair.at.1 → block_at new b ≡ block_at disk b
 
--- the file at the path has these bytes, and nothing is in flight
+-- the file at the path has these bytes, nothing is in flight, and the root directory begins where it did
 pub record HasCommitted (old : Kept) (path : Path) (bytes : List ℕ) (new : Kept) : Type 0 where
   pub sound : IsSound (seen_kept new true false)
   pub fits : IsWritable new.disk new.pairs
   pub settled : gstate_of new.pairs ≡ no_gstate
+  pub root : KeepsRoot old new
   pub shows : tree_in new.disk new.pairs ≡ change_at path (with_bytes bytes) (tree_in old.disk old.pairs)
   pub synced : IsLaidBy old path bytes ops.Sync new
   pub closed : IsLaidBy old path bytes ops.Close new

@@ -1,19 +1,14 @@
 // Operations on paths of a thread of which nothing is to be recovered.
 
-ghost use Rattle.std.specs.Prelude.{ℕ, ◌≡◌, ◌≤◌, ◌+◌, List, [], map, sum_by, true, false, OnOk, IfOk, IfErr};
-ghost use Rattle.std.specs.List.{list_all};
+ghost use Rattle.std.specs.Prelude.{◌≡◌, ◌≤◌, ◌+◌, map, sum_by, true, false, IfOk};
 ghost use Rattle.lfs_device.specs.Bytes.{HasBytes};
 ghost use Rattle.lfs_model.specs.Discipline.{pairs_of_path, parents};
 ghost use Rattle.lfs_model.specs.History.{reads};
-ghost use Rattle.lfs_model.specs.TreeEdits.{added, last_name};
-ghost use Rattle.lfs_model.specs.Operations as ops;
-ghost use Rattle.lfs_model.specs.Operations.{Flags};
-ghost use Rattle.lfs_model.specs.Refusals.{as_path};
-ghost use Rattle.lfs_model.specs.Tree.{DirectoryNode, FileNode};
-ghost use Rattle.lfs_model.specs.Shown.{tree_in};
+ghost use Rattle.lfs_model.specs.TreeEdits.{last_name};
 ghost use Rattle.lfs_tree.specs.Allowed.{CanCreate, CanMake};
-ghost use Rattle.lfs_tree.specs.Carrying.{CallsToCreate, Carries, HasCalled, IsAtRest, IsPlaceFor, IsPlaceIn, IsVacant, Spares, SurvivesTo, TellsError, is_place};
-ghost use Rattle.lfs_tree.specs.Held.{IsRooted, seen_kept};
+ghost use Rattle.lfs_tree.specs.Calls as call;
+ghost use Rattle.lfs_tree.specs.Carrying.{IsAtRest, IsOperationOn, IsPlaceIn, IsTarget, is_place};
+ghost use Rattle.lfs_tree.specs.Held.{seen_kept};
 ghost use Rattle.lfs_lookup.specs.Reading.{IsReading};
 
 use lfs_device::{BlockDevice, Error};
@@ -51,36 +46,34 @@ fn place_in(found: Found) -> Spot
     }
 }
 
-// A name, and the slot in front of which it belongs.
-#[derive(Clone, Copy, Drop)]
-struct Place<'a> {
-    spot: Spot,
-    name: &'a [u8],
+// What is found at a path, and the path's last name.
+#[derive(Drop)]
+pub(crate) struct Target<'a> {
+    pub(crate) found: Found,
+    pub(crate) name: &'a [u8],
 }
 
-// The place where an entry may come.
-fn find_place<'a, D: BlockDevice>(
+// What a path leads to.
+pub(crate) fn find_target<'a, D: BlockDevice>(
     alloc: Global,
     thread: &mut Thread<D>,
     root: usize,
     path: &Path<'a>,
-) -> Result<Place<'a>, Error>
-    requires rests { IsAtRest thread.old root }
-    requires vacant { IsVacant (tree_in thread.old.kept.disk thread.old.kept.pairs) path.now }
-    ensures place { IfOk result (λ place. IsPlaceFor thread.old.kept.disk.order thread.old.kept.pairs path.now place.name.now place.spot) }
+) -> Result<Target<'a>, Error>
+    requires { IsAtRest thread.old root }
+    ensures target { IfOk result (λ target. IsTarget thread.old.kept path.now target.found target.name.now) }
     ensures few { reads thread.new.kept.history ≤ reads thread.old.kept.history + sum_by (pairs_of_path thread.old.kept.pairs) (parents path.now) }
     ensures reading { IsReading thread.old thread.new result }
 {
     let names = path.names(alloc)?;
-    let found = look_up(thread, root, &names)?;
-    Ok(Place {
-        spot: place_in(found),
+    let found = look_up(alloc, thread, root, &names)?;
+    Ok(Target {
+        found,
         name: last_of(&names),
     })
 }
 
-// Makes an empty file where nothing is. Nothing is to be recovered. Answers the number of the root
-// directory's first pair, which is what it was.
+// Makes an empty file where nothing is.
 //
 // `Io` where a call of the device failed, and `NoMemory` where memory isn't granted.
 pub(crate) fn create_at<D: BlockDevice>(
@@ -88,25 +81,21 @@ pub(crate) fn create_at<D: BlockDevice>(
     thread: &mut Thread<D>,
     root: usize,
     path: &Path<'_>,
-) -> Result<usize, Error>
+) -> Result<(), Error>
     requires rests { IsAtRest thread.old root }
     requires can { CanCreate (seen_kept thread.old.kept true false) path.now }
-    ensures done { OnOk result ((bytes : List ℕ) (flags : Flags) → as_path bytes ≡ path.now → Carries thread.old.kept (ops.Open bytes flags) thread.new.kept) }
-    ensures alone { OnOk result ((bytes : List ℕ) (flags : Flags) → as_path bytes ≡ path.now → Spares thread.old.kept (ops.Open bytes flags) thread.new.kept) }
-    ensures rooted { IfOk result (λ root. IsRooted thread.new root true) }
-    ensures called { CallsToCreate path.now thread.old.kept thread.new.kept }
-    ensures errors { IfErr result (TellsError thread.old.kept thread.new.kept) }
-    ensures survives { SurvivesTo thread.old.kept thread.new.kept (added path.now (FileNode [] []) (tree_in thread.old.kept.disk thread.old.kept.pairs)) }
+    ensures does { IsOperationOn thread.old (call.Create path.now) result thread.new }
+    ensures few { reads thread.new.kept.history ≤ reads thread.old.kept.history + sum_by (pairs_of_path thread.old.kept.pairs) (parents path.now) + 6 }
 {
     path.know_bytes();
     path.know_names();
     know_device(thread);
-    let place = find_place(alloc, thread, root, path)?;
-    create(alloc, thread, place.spot.pair, place.spot.id, place.name)?;
-    Ok(root)
+    let target = find_target(alloc, thread, root, path)?;
+    let place = place_in(target.found);
+    create(alloc, thread, place.pair, place.id, target.name)
 }
 
-// Makes an empty directory where nothing is. Nothing is to be recovered.
+// Makes an empty directory where nothing is.
 //
 // `Io` where a call of the device failed, and `NoMemory` where memory isn't granted.
 pub(crate) fn make_at<D: BlockDevice>(
@@ -117,16 +106,12 @@ pub(crate) fn make_at<D: BlockDevice>(
 ) -> Result<(), Error>
     requires rests { IsAtRest thread.old root }
     requires can { CanMake (seen_kept thread.old.kept true false) path.now }
-    ensures done { OnOk result ((bytes : List ℕ) → as_path bytes ≡ path.now → Carries thread.old.kept (ops.Mkdir bytes) thread.new.kept) }
-    ensures alone { OnOk result ((bytes : List ℕ) → as_path bytes ≡ path.now → Spares thread.old.kept (ops.Mkdir bytes) thread.new.kept) }
-    ensures works { OnOk result (thread.new.failed ≡ false) }
-    ensures called { HasCalled thread.old.kept thread.new.kept }
-    ensures errors { IfErr result (TellsError thread.old.kept thread.new.kept) }
-    ensures survives { SurvivesTo thread.old.kept thread.new.kept (added path.now (DirectoryNode [] []) (tree_in thread.old.kept.disk thread.old.kept.pairs)) }
+    ensures { IsOperationOn thread.old (call.Mkdir path.now) result thread.new }
 {
+    path.know_bytes();
     path.know_names();
     know_device(thread);
-    let place = find_place(alloc, thread, root, path)?;
-    make_directory(alloc, thread, place.spot.pair, place.spot.id, place.name)?;
-    Ok(())
+    let target = find_target(alloc, thread, root, path)?;
+    let place = place_in(target.found);
+    make_directory(alloc, thread, place.pair, place.id, target.name)
 }

@@ -1,11 +1,9 @@
 // Entries at paths that go, in a thread of which nothing is to be recovered.
 
-ghost use Rattle.std.specs.Prelude.{ℕ, ◌≡◌, List, true, false, is_err, OnOk, IfOk, IfErr};
+ghost use Rattle.std.specs.Prelude.{◌≡◌, true, false, is_err, OnOk};
 ghost use Rattle.lfs_writer.specs.Settling.{IsReadBesideMap};
 ghost use Rattle.lfs_writer.specs.Standing.{TellsWork};
 ghost use Rattle.lfs_model.specs.TreeEdits.{removed};
-ghost use Rattle.lfs_model.specs.Operations as ops;
-ghost use Rattle.lfs_model.specs.Refusals.{as_path};
 ghost use Rattle.lfs_model.specs.Tree.{Path as TreePath};
 ghost use Rattle.lfs_model.specs.Shown.{tree_in};
 ghost use Rattle.lfs_operations.specs.Dropping.{SameInFlight};
@@ -13,36 +11,18 @@ ghost use Rattle.lfs_operations.specs.Ready.{IsReady};
 ghost use Rattle.lfs_operations.specs.Unlinking.{TellsOfSteps};
 ghost use Rattle.lfs_operations.specs.MovingSteps.{WritesAmong};
 ghost use Rattle.lfs_tree.specs.Allowed.{CanRemove};
-ghost use Rattle.lfs_tree.specs.Carrying.{Carries, HasCalled, IsAtRest, Spares, SurvivesTo, TellsError};
-ghost use Rattle.lfs_tree.specs.CarryingSlots.{HasEntry};
-ghost use Rattle.lfs_tree.specs.Going.{CanFree, CanGo, CanTake, HasGone, HasSpared, IsEntryOn};
+ghost use Rattle.lfs_tree.specs.Calls as call;
+ghost use Rattle.lfs_tree.specs.Carrying.{IsAtRest, IsOperationOn, SurvivesTo};
+ghost use Rattle.lfs_tree.specs.Going.{CanFree, CanGo, CanTake, HasGone, HasSpared};
 ghost use Rattle.lfs_tree.specs.Held.{seen_kept};
-ghost use Rattle.lfs_lookup.specs.Reading.{IsReading};
 
-use crate::carrying::know_device;
+use crate::carrying::{find_target, know_device};
 use lfs_device::{BlockDevice, Error};
-use lfs_lookup::{Contents, Found, Path, Spot, look_up};
+use lfs_lookup::{Contents, Found, Path, Spot};
 use lfs_operations::{remove_directory, remove_file};
 use lfs_thread::Thread;
 use lfs_writer::{Stored, settle_file, settled_map_is_exact};
 use std::alloc::Global;
-
-// The entry at a path.
-fn find_entry<D: BlockDevice>(
-    alloc: Global,
-    thread: &mut Thread<D>,
-    root: usize,
-    path: &Path<'_>,
-) -> Result<Found, Error>
-    requires rests { IsAtRest thread.old root }
-    requires there { HasEntry (tree_in thread.old.kept.disk thread.old.kept.pairs) path.now }
-    ensures entry { IfOk result (IsEntryOn thread.old.kept.disk.order thread.old.kept.pairs path.now) }
-    ensures reading { IsReading thread.old thread.new result }
-{
-    let names = path.names(alloc)?;
-    let found = look_up(thread, root, &names)?;
-    Ok(found)
-}
 
 // Frees the blocks of a file's list in the map, once no pair names it. Nothing is written.
 //
@@ -128,7 +108,7 @@ fn take_found<D: BlockDevice>(
     }
 }
 
-// Takes a file, or a directory without entries. Nothing is to be recovered.
+// Takes a file, or a directory without entries.
 //
 // `Io` where a call of the device failed, and `NoMemory` where memory isn't granted.
 pub(crate) fn remove_at<D: BlockDevice>(
@@ -139,15 +119,10 @@ pub(crate) fn remove_at<D: BlockDevice>(
 ) -> Result<(), Error>
     requires rests { IsAtRest thread.old root }
     requires can { CanRemove (seen_kept thread.old.kept true false) path.now }
-    ensures done { OnOk result ((bytes : List ℕ) → as_path bytes ≡ path.now → Carries thread.old.kept (ops.Remove bytes) thread.new.kept) }
-    ensures alone { OnOk result ((bytes : List ℕ) → as_path bytes ≡ path.now → Spares thread.old.kept (ops.Remove bytes) thread.new.kept) }
-    ensures works { OnOk result (thread.new.failed ≡ false) }
-    ensures called { HasCalled thread.old.kept thread.new.kept }
-    ensures errors { IfErr result (TellsError thread.old.kept thread.new.kept) }
-    ensures survives { SurvivesTo thread.old.kept thread.new.kept (removed path.now (tree_in thread.old.kept.disk thread.old.kept.pairs)) }
+    ensures { IsOperationOn thread.old (call.Remove path.now) result thread.new }
 {
+    path.know_bytes();
     know_device(thread);
-    let found = find_entry(alloc, thread, root, path)?;
-    take_found(alloc, thread, found)?;
-    Ok(())
+    let target = find_target(alloc, thread, root, path)?;
+    take_found(alloc, thread, target.found)
 }

@@ -1,23 +1,21 @@
 // Entries at paths that get another one, in a thread of which nothing is to be recovered.
 
-ghost use Rattle.std.specs.Prelude.{ℕ, ◌≡◌, ◌≢◌, List, false, true, OnOk, IfOk, IfErr};
+ghost use Rattle.std.specs.Prelude.{◌≡◌, ◌≢◌, false, true, OnOk};
 ghost use Rattle.lfs_model.specs.TreeEdits.{renamed, same_path};
-ghost use Rattle.lfs_model.specs.Operations as ops;
-ghost use Rattle.lfs_model.specs.Refusals.{as_path};
 ghost use Rattle.lfs_model.specs.Tree.{Path};
 ghost use Rattle.lfs_model.specs.Shown.{tree_in};
 ghost use Rattle.lfs_operations.specs.MovingSteps.{WritesAmong};
 ghost use Rattle.lfs_tree.specs.Allowed.{CanRename};
-ghost use Rattle.lfs_tree.specs.Carrying.{Carries, HasCalled, IsAtRest, Spares, SurvivesTo, TellsError};
-ghost use Rattle.lfs_tree.specs.CarryingSlots.{HasEntry, has_slot};
+ghost use Rattle.lfs_tree.specs.Calls as call;
+ghost use Rattle.lfs_tree.specs.Carrying.{IsAtRest, IsOperationOn, SurvivesTo};
+ghost use Rattle.lfs_tree.specs.CarryingSlots.{has_slot};
 ghost use Rattle.lfs_tree.specs.Held.{seen_kept};
-ghost use Rattle.lfs_lookup.specs.Reading.{IsReading};
-ghost use Rattle.lfs_tree.specs.Shifting.{CanShiftFound, CanShiftOnto, CanShiftOver, CanShiftTo, HasShifted, HasShiftedOnto, IsSource, IsSourceIn, IsTarget, TellsOfWork};
+ghost use Rattle.lfs_tree.specs.Shifting.{CanShiftFound, CanShiftOnto, CanShiftOver, CanShiftTo, HasShifted, HasShiftedOnto, IsSourceIn, TellsOfWork};
 
-use crate::carrying::{know_device, last_of};
+use crate::carrying::{find_target, know_device};
 use crate::carrying_removal::free_list;
 use lfs_device::{BlockDevice, Error};
-use lfs_lookup::{Contents, Found, Path, Spot, look_up};
+use lfs_lookup::{Contents, Found, Path, Spot};
 use lfs_operations::{
     rename, rename_across, rename_onto_directory, rename_onto_directory_across, rename_onto_file,
     rename_onto_file_across,
@@ -44,49 +42,6 @@ fn source_in(found: Found) -> Source
         },
         _ => unreachable!(),
     }
-}
-
-// The slot of the entry at a path.
-fn find_source<D: BlockDevice>(
-    alloc: Global,
-    thread: &mut Thread<D>,
-    root: usize,
-    path: &Path<'_>,
-) -> Result<Source, Error>
-    requires rests { IsAtRest thread.old root }
-    requires there { HasEntry (tree_in thread.old.kept.disk thread.old.kept.pairs) path.now }
-    ensures source { IfOk result (IsSource thread.old.kept.pairs path.now) }
-    ensures reading { IsReading thread.old thread.new result }
-{
-    let names = path.names(alloc)?;
-    let found = look_up(thread, root, &names)?;
-    Ok(source_in(found))
-}
-
-// What is found at a path, and the path's last name.
-#[derive(Drop)]
-struct Target<'a> {
-    found: Found,
-    name: &'a [u8],
-}
-
-// What is at the path that an entry is to get.
-fn find_target<'a, D: BlockDevice>(
-    alloc: Global,
-    thread: &mut Thread<D>,
-    root: usize,
-    path: &Path<'a>,
-) -> Result<Target<'a>, Error>
-    requires { IsAtRest thread.old root }
-    ensures target { IfOk result (λ target. IsTarget thread.old.kept path.now target.found target.name.now) }
-    ensures reading { IsReading thread.old thread.new result }
-{
-    let names = path.names(alloc)?;
-    let found = look_up(thread, root, &names)?;
-    Ok(Target {
-        found,
-        name: last_of(&names),
-    })
 }
 
 // Gives an entry a name that isn't there, and belongs at the place.
@@ -228,8 +183,7 @@ fn move_found<D: BlockDevice>(
     }
 }
 
-// Gives an entry another path, at which nothing is, a file, or a directory without entries. Nothing
-// is to be recovered.
+// Gives an entry another path, at which nothing is, a file, or a directory without entries.
 //
 // `Io` where a call of the device failed, and `NoMemory` where memory isn't granted.
 pub(crate) fn rename_at<D: BlockDevice>(
@@ -242,17 +196,14 @@ pub(crate) fn rename_at<D: BlockDevice>(
     requires rests { IsAtRest thread.old root }
     requires can { CanRename (seen_kept thread.old.kept true false) from.now to.now }
     requires apart { same_path from.now to.now ≡ false }
-    ensures done { OnOk result ((given to_given : List ℕ) → as_path given ≡ from.now → as_path to_given ≡ to.now → Carries thread.old.kept (ops.Rename given to_given) thread.new.kept) }
-    ensures alone { OnOk result ((given to_given : List ℕ) → as_path given ≡ from.now → as_path to_given ≡ to.now → Spares thread.old.kept (ops.Rename given to_given) thread.new.kept) }
-    ensures works { OnOk result (thread.new.failed ≡ false) }
-    ensures called { HasCalled thread.old.kept thread.new.kept }
-    ensures errors { IfErr result (TellsError thread.old.kept thread.new.kept) }
-    ensures survives { SurvivesTo thread.old.kept thread.new.kept (renamed from.now to.now (tree_in thread.old.kept.disk thread.old.kept.pairs)) }
+    ensures { IsOperationOn thread.old (call.Rename from.now to.now) result thread.new }
 {
+    from.know_bytes();
+    to.know_bytes();
     to.know_names();
     know_device(thread);
-    let source = find_source(alloc, thread, root, from)?;
+    let entry = find_target(alloc, thread, root, from)?;
+    let source = source_in(entry.found);
     let target = find_target(alloc, thread, root, to)?;
-    move_found(alloc, thread, source, target.found, target.name)?;
-    Ok(())
+    move_found(alloc, thread, source, target.found, target.name)
 }

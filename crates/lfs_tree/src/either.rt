@@ -11,7 +11,6 @@ ghost use Rattle.lfs_mount.specs.Either.{GivesDeviceBack};
 ghost use Rattle.lfs_thread.specs.Kept.{disk_on};
 ghost use Rattle.lfs_tree.specs.Seen.{IsMountedTree};
 
-use crate::image::Image;
 use crate::mounted::read_root;
 use crate::tree::Tree;
 use lfs_device::{BlockDevice, Error, Ordered};
@@ -35,10 +34,9 @@ pub fn mount_either<D: BlockDevice>(
     let mut thread = lfs_mount::mount_either(alloc, device)?;
     match read_root(alloc, &mut thread) {
         Ok((root, is_writable)) => Ok(Tree {
-            image: Image::Mounted(thread),
+            thread,
             root,
             is_writable,
-            has_failed: false,
         }),
         Err(error) => Err((thread.into_device().into_inner(), error)),
     }

@@ -2,20 +2,19 @@
 //! contents of open writers beside it. Paths, and what the calls answer, are of `lfs_lookup`.
 #![tactic(auto)]
 
+mod answers;
 mod carrying;
 mod carrying_attributes;
 mod carrying_removal;
 mod carrying_rename;
-mod changing;
 mod either;
 mod formatting;
-mod image;
 mod laws;
 mod lost_lists;
 mod mounted;
 mod opening;
 mod recovering_lost;
-mod rooted;
+mod remounting;
 mod storing;
 mod tree;
 mod unreached;

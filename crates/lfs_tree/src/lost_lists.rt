@@ -54,13 +54,13 @@ fn push_lists(lists: &mut Vec<Stored>, slots: &[Slot<'_>]) -> Result<(), AllocEr
     Ok(())
 }
 
-// Adds those that the slots of a block's log name.
-fn push_lists_in(alloc: Global, lists: &mut Vec<Stored>, block: &[u8]) -> Result<(), Error>
-    requires { HoldsContent block.now }
-    ensures lists { (content : ModelContent) → IsBlockOf block.now content → OnOk result (lists.new.items ≡ lists.old.items ++ lists_named content.slots) }
+// Adds those that the slots of a log name.
+fn push_lists_in(alloc: Global, lists: &mut Vec<Stored>, log: &Log<'_>) -> Result<(), Error>
+    requires { HoldsContent log.now }
+    ensures lists { (content : ModelContent) → IsBlockOf log.now content → OnOk result (lists.new.items ≡ lists.old.items ++ lists_named content.slots) }
     ensures errors { IfErr result (λ e. e ≡ Error.NoMemory) }
 {
-    let content = Content::read(alloc, &Log::read(block))?;
+    let content = Content::read(alloc, log)?;
     push_lists(lists, &content.slots)?;
     Ok(())
 }
@@ -78,7 +78,7 @@ fn push_lists_at<D: BlockDevice>(
     ensures reading { IsReading thread.old thread.new result }
 {
     thread.bring(index)?;
-    push_lists_in(alloc, lists, thread.lend(index).unwrap())
+    push_lists_in(alloc, lists, &thread.lend(index).unwrap())
 }
 
 // The lists that the slots of these pairs name, which no path leads to.

@@ -1,22 +1,21 @@
 // Files that get the contents of a writer, in a thread of which nothing is to be recovered.
 
-ghost use Rattle.std.specs.Prelude.{◌≡◌, ◌∷◌, [], false, true, IfErr, IfOk, OnOk};
+ghost use Rattle.std.specs.Prelude.{◌≡◌, ◌∷◌, [], false, true, IfErr, OnOk};
 ghost use Rattle.lfs_writer.specs.Standing.{TellsWork};
-ghost use Rattle.lfs_model.specs.TreeEdits.{change_at, is_file};
+ghost use Rattle.lfs_model.specs.TreeEdits.{change_at};
 ghost use Rattle.lfs_model.specs.History.{faults};
 ghost use Rattle.lfs_model.specs.Effects.{with_bytes};
 ghost use Rattle.lfs_model.specs.Shown.{tree_in};
 ghost use Rattle.lfs_operations.specs.Changing.{WritesIn};
 ghost use Rattle.lfs_operations.specs.Storing.{IsStored, with_contents_at};
-ghost use Rattle.lfs_tree.specs.Carrying.{HasCalled, IsAtRest, SurvivesTo, TellsError};
-ghost use Rattle.lfs_tree.specs.Held.{IsRooted, seen_kept};
+ghost use Rattle.lfs_tree.specs.Carrying.{HasCalled, IsAtRest, IsChange, SurvivesTo, TellsError};
+ghost use Rattle.lfs_tree.specs.Held.{seen_kept};
 ghost use Rattle.lfs_tree.specs.OpenContents.{CanStoreAt, bytes_held};
-ghost use Rattle.lfs_lookup.specs.Reading.{IsReading};
-ghost use Rattle.lfs_tree.specs.Storing.{CanCommit, CanPutContents, HasCommitted, HasStored, IsFileFor, IsFileIn, is_file_found, list_in, list_named, no_list};
+ghost use Rattle.lfs_tree.specs.Storing.{CanCommit, CanPutContents, HasCommitted, HasStored, IsFileIn, is_file_found, list_in, list_named, no_list};
 
-use crate::carrying::know_device;
+use crate::carrying::{find_target, know_device};
 use lfs_device::{BlockDevice, Error};
-use lfs_lookup::{Found, Path, Spot, find_root, look_up};
+use lfs_lookup::{Found, Path, Spot};
 use lfs_operations::set_struct;
 use lfs_tag::ctz_bytes;
 use lfs_tag::kinds::{CTZ_STRUCT, INLINE_STRUCT};
@@ -80,23 +79,6 @@ fn file_in(found: Found) -> FileSlot
     }
 }
 
-// The slot of the file at a path.
-fn find_file<D: BlockDevice>(
-    alloc: Global,
-    thread: &mut Thread<D>,
-    root: usize,
-    path: &Path<'_>,
-) -> Result<FileSlot, Error>
-    requires rests { IsAtRest thread.old root }
-    requires there { is_file (tree_in thread.old.kept.disk thread.old.kept.pairs path.now) ≡ true }
-    ensures slot { IfOk result (IsFileFor thread.old.kept.pairs path.now) }
-    ensures reading { IsReading thread.old thread.new result }
-{
-    let names = path.names(alloc)?;
-    let found = look_up(thread, root, &names)?;
-    Ok(file_in(found))
-}
-
 // Puts finished contents into a file's slot. The map isn't told of the lists.
 fn put_contents<D: BlockDevice>(
     alloc: Global,
@@ -154,16 +136,17 @@ fn commit_at<D: BlockDevice>(
     know_device(thread);
     // By its sizes a list has as many bytes as it says.
     let _device = thread.device();
-    let file = find_file(alloc, thread, root, path)?;
+    let target = find_target(alloc, thread, root, path)?;
+    let file = file_in(target.found);
     put_contents(alloc, thread, file.spot, &contents)?;
     settle_file(alloc, thread, file.list, list_in(&contents))?;
     Ok(())
 }
 
-// Commits the contents of a writer of the file at a path. Nothing is to be recovered.
+// Commits the contents of a writer of the file at a path.
 //
 // `Io` where a call of the device failed, and `NoMemory` where memory isn't granted.
-fn store_at<D: BlockDevice>(
+pub(crate) fn store_at<D: BlockDevice>(
     alloc: Global,
     thread: &mut Thread<D>,
     root: usize,
@@ -172,33 +155,9 @@ fn store_at<D: BlockDevice>(
 ) -> Result<(), Error>
     requires rests { IsAtRest thread.old root }
     requires can { CanStoreAt (seen_kept thread.old.kept true false) path.now contents }
-    ensures done { OnOk result (HasStored thread.old.kept path.now (bytes_held thread.old.kept contents) thread.new.kept) }
-    ensures works { OnOk result (thread.new.failed ≡ false) }
-    ensures called { HasCalled thread.old.kept thread.new.kept }
-    ensures errors { IfErr result (TellsError thread.old.kept thread.new.kept) }
-    ensures survives { SurvivesTo thread.old.kept thread.new.kept (change_at path.now (with_bytes (bytes_held thread.old.kept contents)) (tree_in thread.old.kept.disk thread.old.kept.pairs)) }
+    ensures { IsChange thread.old (HasStored thread.old.kept path.now (bytes_held thread.old.kept contents))
+        (change_at path.now (with_bytes (bytes_held thread.old.kept contents)) (tree_in thread.old.kept.disk thread.old.kept.pairs)) result thread.new }
 {
     let finished = finish_file(alloc, thread, contents)?;
     commit_at(alloc, thread, root, path, finished)
-}
-
-// The same. Answers the number of the root directory's first pair.
-pub(crate) fn store_file_at<D: BlockDevice>(
-    alloc: Global,
-    thread: &mut Thread<D>,
-    root: usize,
-    path: &Path<'_>,
-    contents: Contents,
-) -> Result<usize, Error>
-    requires rests { IsAtRest thread.old root }
-    requires can { CanStoreAt (seen_kept thread.old.kept true false) path.now contents }
-    ensures done { OnOk result (HasStored thread.old.kept path.now (bytes_held thread.old.kept contents) thread.new.kept) }
-    ensures rooted { IfOk result (λ root. IsRooted thread.new root true) }
-    ensures called { HasCalled thread.old.kept thread.new.kept }
-    ensures errors { IfErr result (TellsError thread.old.kept thread.new.kept) }
-    ensures survives { SurvivesTo thread.old.kept thread.new.kept (change_at path.now (with_bytes (bytes_held thread.old.kept contents)) (tree_in thread.old.kept.disk thread.old.kept.pairs)) }
-{
-    store_at(alloc, thread, root, path, contents)?;
-    let root = find_root(alloc, thread)?;
-    Ok(root)
 }

@@ -1,43 +1,43 @@
 // A mounted image, whose calls take paths.
 
-ghost use Rattle.std.specs.Prelude.{ℕ, ◌≡◌, ◌<◌, ◌==◌, ◌≤◌, ◌+◌, ◌^◌, ◌++◌, ◌∷◌, List, [], length, map, take, drop, true, false, None, IfOk, IfErr, IfSome, OnErr, OnOk, sum_by};
+ghost use Rattle.std.specs.Prelude.{◌≡◌, ◌<◌, ◌==◌, ◌≤◌, ◌+◌, ◌^◌, ◌++◌, ◌∷◌, List, [], length, map, take, drop, true, false, None, IfOk, IfErr, IfSome, OnErr, OnOk, sum_by};
 ghost use Rattle.std.specs.List.{list_any};
 ghost use Rattle.std.specs.Option.{option_map};
-ghost use Rattle.lfs_model.specs.History.{OnlyReads, faults, reads};
+ghost use Rattle.lfs_model.specs.History.{reads};
 ghost use Rattle.lfs_model.specs.Discipline.{pairs_of_path, parents};
-ghost use Rattle.lfs_model.specs.Operations as ops;
-ghost use Rattle.lfs_model.specs.TreeEdits.{added, attributes_of, bytes_at, removed, renamed, same_path};
+ghost use Rattle.lfs_model.specs.TreeEdits.{attributes_of, bytes_at, same_path};
 ghost use Rattle.lfs_model.specs.BlockSets.{in_flight_count};
-ghost use Rattle.lfs_model.specs.Content.{attribute_of, put_attribute, without_attribute};
-ghost use Rattle.lfs_model.specs.Operations.{Flags};
-ghost use Rattle.lfs_model.specs.Thread.{Pair};
+ghost use Rattle.lfs_model.specs.Content.{attribute_of};
+ghost use Rattle.lfs_model.specs.Slots.{no_gstate};
+ghost use Rattle.lfs_model.specs.Thread.{Pair, anchor, gstate_of};
 ghost use Rattle.lfs_model.specs.View.{IsAccepted};
 ghost use Rattle.lfs_model.specs.Disk.{SameGeometry, block_count};
 ghost use Rattle.lfs_model.specs.Fresh.{IsFresh};
-ghost use Rattle.lfs_model.specs.Refusals.{as_path};
 ghost use Rattle.lfs_model.specs.Effects.{items_in};
-ghost use Rattle.lfs_model.specs.Thread.{anchor};
-ghost use Rattle.lfs_model.specs.Tree.{DirectoryNode, FileNode};
 ghost use Rattle.lfs_mount.specs.Device.{IsMountError};
 ghost use Rattle.lfs_tag.specs.FieldsSeen.{move_seen};
 ghost use Rattle.lfs_thread.specs.Device.{GivesBack, two_of};
 ghost use Rattle.lfs_thread.specs.Kept.{disk_on, seen_on};
 ghost use Rattle.lfs_tree.specs.Allowed.{CanCreate, CanMake, CanRemove, CanRemoveAttr, CanRename, CanSetAttr};
-ghost use Rattle.lfs_tree.specs.CarryingSlots.{with_attributes_changed};
 ghost use Rattle.lfs_lookup.specs.AtHand.{AreSmall};
+ghost use Rattle.lfs_tree.specs.Calls as call;
+ghost use Rattle.lfs_tree.specs.Calls.{IsOperation};
 ghost use Rattle.lfs_tree.specs.Reads.{HasOnHand, ReadsOnce, ReadsToCreate};
+ghost use Rattle.lfs_tree.specs.Recovering.{HasSettled};
 ghost use Rattle.lfs_lookup.specs.AttributeAt.{IsAttributesSize};
 ghost use Rattle.lfs_lookup.specs.Finds.{Finds, has_names, list_item_seen};
 ghost use Rattle.lfs_tree.specs.Formatting.{ComesBack, WritesFirstTwo};
-ghost use Rattle.lfs_tree.specs.Seen.{IsAsked, IsBroken, IsBrokenAsking, IsCarried, IsError, IsMountError as IsMountErrorOf, IsMountedTree, IsSound, LeavesRest, SurvivesAs, around_of, kept_of, tree_seen};
+ghost use Rattle.lfs_tree.specs.Seen.{IsAsking, IsBrokenAsking, IsMountError as IsMountErrorOf, IsMountedTree, IsSound, around_of, kept_of, tree_seen};
 
-use crate::changing::{
-    create_file, give_attribute, make_directory, remove_entry, rename_entry, take_attribute,
-};
+use crate::answers::note_error;
+use crate::carrying::{create_at, make_at};
+use crate::carrying_attributes::{remove_attr_at, set_attr_at};
+use crate::carrying_removal::remove_at;
+use crate::carrying_rename::rename_at;
 use crate::formatting::format;
-use crate::image::Image;
 use crate::mounted::read_root;
-use crate::recovering_lost::recover_image;
+use crate::recovering_lost::recover_at;
+use crate::remounting::{Spare, mounted_again};
 use core::mem::replace_with;
 use lfs_device::{BlockDevice, Error, Geometry};
 use lfs_lookup::{
@@ -45,6 +45,7 @@ use lfs_lookup::{
     find_at, list_at, look_inside_at,
 };
 use lfs_tag::MoveState;
+use lfs_thread::Thread;
 use std::alloc::Global;
 use std::marker::Model;
 
@@ -53,22 +54,22 @@ use std::marker::Model;
 /// After an error it has failed: it is only to be read anew then, by [`remount`](Tree::remount).
 #[derive(Drop)]
 pub struct Tree<D: BlockDevice> {
-    pub(crate) image: Image<D>,
+    // It has failed where a call of the tree has.
+    pub(crate) thread: Thread<D>,
     // The number of the root directory's first pair.
     pub(crate) root: usize,
     pub(crate) is_writable: bool,
-    pub(crate) has_failed: bool,
 }
 
 impl<D: BlockDevice> Model for Tree<D> {
-    ghost use Rattle.lfs_tree.specs.Held.{IsHeld, seen_image};
+    ghost use Rattle.lfs_tree.specs.Held.{IsHeld, seen_thread};
     ghost use Rattle.lfs_tree.specs.Seen.{Seen};
 
     ghost Value = { Seen };
 
-    ghost view = { λ t. seen_image D.BlockDevice t.image t.is_writable t.has_failed };
+    ghost view = { λ t. seen_thread t.thread t.is_writable };
 
-    ghost invariant = { λ t. IsHeld t.image t.root t.is_writable t.has_failed };
+    ghost invariant = { λ t. IsHeld t.thread t.root t.is_writable };
 }
 
 impl<D: BlockDevice> Tree<D> {
@@ -85,10 +86,9 @@ impl<D: BlockDevice> Tree<D> {
         let mut thread = lfs_mount::mount(alloc, device)?;
         match read_root(alloc, &mut thread) {
             Ok((root, is_writable)) => Ok(Tree {
-                image: Image::Mounted(thread),
+                thread,
                 root,
                 is_writable,
-                has_failed: false,
             }),
             Err(error) => Err((thread.into_device(), error)),
         }
@@ -106,10 +106,9 @@ impl<D: BlockDevice> Tree<D> {
     {
         match format(alloc, device) {
             Ok(thread) => Ok(Tree {
-                image: Image::Mounted(thread),
+                thread,
                 root: 0,
                 is_writable: true,
-                has_failed: false,
             }),
             Err(back) => Err(back),
         }
@@ -123,7 +122,13 @@ impl<D: BlockDevice> Tree<D> {
         ensures broken { OnErr result (IsBrokenAsking self.old self.new) }
         ensures errors { IfErr result (IsMountErrorOf self.old self.new) }
     {
-        replace_with(self, alloc, mounted_again)
+        match Spare::new(alloc) {
+            Ok(spare) => replace_with(self, spare, mounted_again),
+            Err(error) => {
+                self.thread.fail();
+                Err(error)
+            }
+        }
     }
 
     /// The device, as the last call left it, after an error too.
@@ -131,10 +136,7 @@ impl<D: BlockDevice> Tree<D> {
         ensures disk { disk_on D.BlockDevice result.now ≡ self.now.disk }
         ensures history { D.history result.now ≡ self.now.history }
     {
-        match &self.image {
-            Image::Mounted(thread) => thread.device(),
-            Image::Unmounted(device) => device,
-        }
+        self.thread.device()
     }
 
     /// The device, as the last call left it. It may be had from a tree that has failed, too.
@@ -142,17 +144,14 @@ impl<D: BlockDevice> Tree<D> {
         ensures disk { disk_on D.BlockDevice result ≡ self.disk }
         ensures history { D.history result ≡ self.history }
     {
-        match self.image {
-            Image::Mounted(thread) => thread.into_device(),
-            Image::Unmounted(device) => device,
-        }
+        self.thread.into_device()
     }
 
     /// Whether a call failed.
     pub fn has_failed(&self) -> bool
         ensures { result ≡ self.now.failed }
     {
-        self.has_failed
+        self.thread.has_failed()
     }
 
     /// Whether the image is one of those that this library writes.
@@ -175,7 +174,7 @@ impl<D: BlockDevice> Tree<D> {
     pub fn fail(&mut self)
         ensures { self.new ≡ record self.old { failed = true } }
     {
-        self.has_failed = true;
+        self.thread.fail();
     }
 
     /// How many blocks the image uses.
@@ -183,10 +182,7 @@ impl<D: BlockDevice> Tree<D> {
         requires { self.now.failed ≡ false }
         ensures { result ≡ length (around_of self.now).used }
     {
-        let Image::Mounted(thread) = &self.image else {
-            unreachable!()
-        };
-        thread.used_count()
+        self.thread.used_count()
     }
 
     /// Whether the image uses a block.
@@ -195,10 +191,7 @@ impl<D: BlockDevice> Tree<D> {
         requires below { block < block_count self.now.disk }
         ensures { result ≡ list_any (λ b. b == block) (around_of self.now).used }
     {
-        let Image::Mounted(thread) = &self.image else {
-            unreachable!()
-        };
-        thread.is_used(block)
+        self.thread.is_used(block)
     }
 
     /// The global state (DESIGN.md of littlefs, "The move problem").
@@ -206,10 +199,7 @@ impl<D: BlockDevice> Tree<D> {
         requires { self.now.failed ≡ false }
         ensures { move_seen result ≡ (around_of self.now).gstate }
     {
-        let Image::Mounted(thread) = &self.image else {
-            unreachable!()
-        };
-        thread.state()
+        self.thread.state()
     }
 
     /// What a path leads to. Each pair of the directories above it is read at most once, and none where
@@ -218,18 +208,13 @@ impl<D: BlockDevice> Tree<D> {
     /// `Io` where a read failed, and `NoMemory` where memory isn't granted. It has failed then.
     pub fn look_up(&mut self, alloc: Global, path: &Path<'_>) -> Result<Finding, Error>
         requires { self.old.failed ≡ false }
-        ensures asked { OnOk result (IsAsked self.old self.new) }
+        ensures asks { IsAsking self.old result self.new }
         ensures found { IfOk result (Finds (tree_seen self.old) path.now) }
         ensures few { ReadsOnce (parents path.now) self.old self.new.history }
         ensures hand { AreSmall self.old.pairs (parents path.now) → IfOk result (λ found. found.fault ≡ None → HasOnHand self.new (parents path.now)) }
-        ensures broken { OnErr result (IsBrokenAsking self.old self.new) }
-        ensures errors { IfErr result (IsError self.old self.new) }
     {
-        let Image::Mounted(thread) = &mut self.image else {
-            unreachable!()
-        };
-        let found = find_at(alloc, thread, self.root, path);
-        self.has_failed = found.is_err();
+        let found = find_at(alloc, &mut self.thread, self.root, path);
+        note_error(&mut self.thread, &found);
         found
     }
 
@@ -239,18 +224,13 @@ impl<D: BlockDevice> Tree<D> {
     /// `Io` where a read failed, and `NoMemory` where memory isn't granted. It has failed then.
     pub fn look_inside(&mut self, alloc: Global, path: &Path<'_>) -> Result<Inside, Error>
         requires { self.old.failed ≡ false }
-        ensures asked { OnOk result (IsAsked self.old self.new) }
+        ensures asks { IsAsking self.old result self.new }
         ensures found { IfOk result (λ inside. Finds (tree_seen self.old) path.now inside.finding) }
         ensures has { IfOk result (λ inside. inside.has_entries ≡ has_names (tree_seen self.old) path.now) }
         ensures few { reads self.new.history ≤ reads self.old.history + sum_by (pairs_of_path self.old.pairs) (parents path.now ++ path.now ∷ []) }
-        ensures broken { OnErr result (IsBrokenAsking self.old self.new) }
-        ensures errors { IfErr result (IsError self.old self.new) }
     {
-        let Image::Mounted(thread) = &mut self.image else {
-            unreachable!()
-        };
-        let inside = look_inside_at(alloc, thread, self.root, path);
-        self.has_failed = inside.is_err();
+        let inside = look_inside_at(alloc, &mut self.thread, self.root, path);
+        note_error(&mut self.thread, &inside);
         inside
     }
 
@@ -265,17 +245,12 @@ impl<D: BlockDevice> Tree<D> {
         count: usize,
     ) -> Result<Vec<u8>, Error>
         requires { self.old.failed ≡ false }
-        ensures asked { OnOk result (IsAsked self.old self.new) }
+        ensures asks { IsAsking self.old result self.new }
         ensures bytes { IfOk result (λ v. v.items ≡ take count (drop position (bytes_at (tree_seen self.old path.now)))) }
         ensures end { IfOk result (λ v. position + length v.items < 2 ^ 32) }
-        ensures broken { OnErr result (IsBrokenAsking self.old self.new) }
-        ensures errors { IfErr result (IsError self.old self.new) }
     {
-        let Image::Mounted(thread) = &mut self.image else {
-            unreachable!()
-        };
-        let bytes = bytes_at(alloc, thread, self.root, path, position, count);
-        self.has_failed = bytes.is_err();
+        let bytes = bytes_at(alloc, &mut self.thread, self.root, path, position, count);
+        note_error(&mut self.thread, &bytes);
         bytes
     }
 
@@ -290,18 +265,13 @@ impl<D: BlockDevice> Tree<D> {
         kind: u8,
     ) -> Result<FoundAttribute, Error>
         requires { self.old.failed ≡ false }
-        ensures asked { OnOk result (IsAsked self.old self.new) }
+        ensures asks { IsAsking self.old result self.new }
         ensures found { IfOk result (λ found. Finds (tree_seen self.old) path.now found.finding) }
         ensures bytes { IfOk result (λ found. (option_map (λ v. v.items) found.bytes ≡ attribute_of kind (attributes_of (tree_seen self.old path.now))) × IfSome found.bytes (λ v. length v.items ≤ 1022)) }
         ensures few { ReadsOnce (parents path.now) self.old self.new.history }
-        ensures broken { OnErr result (IsBrokenAsking self.old self.new) }
-        ensures errors { IfErr result (IsError self.old self.new) }
     {
-        let Image::Mounted(thread) = &mut self.image else {
-            unreachable!()
-        };
-        let found = attribute_at(alloc, thread, self.root, path, kind);
-        self.has_failed = found.is_err();
+        let found = attribute_at(alloc, &mut self.thread, self.root, path, kind);
+        note_error(&mut self.thread, &found);
         found
     }
 
@@ -312,17 +282,12 @@ impl<D: BlockDevice> Tree<D> {
     /// `Io` where a read failed, and `NoMemory` where memory isn't granted. It has failed then.
     pub fn attributes_size(&mut self, alloc: Global, path: &Path<'_>) -> Result<usize, Error>
         requires { self.old.failed ≡ false }
-        ensures asked { OnOk result (IsAsked self.old self.new) }
+        ensures asks { IsAsking self.old result self.new }
         ensures size { IfOk result (IsAttributesSize (attributes_of (tree_seen self.old path.now))) }
         ensures few { ReadsOnce (parents path.now) self.old self.new.history }
-        ensures broken { OnErr result (IsBrokenAsking self.old self.new) }
-        ensures errors { IfErr result (IsError self.old self.new) }
     {
-        let Image::Mounted(thread) = &mut self.image else {
-            unreachable!()
-        };
-        let size = attributes_size_at(alloc, thread, self.root, path);
-        self.has_failed = size.is_err();
+        let size = attributes_size_at(alloc, &mut self.thread, self.root, path);
+        note_error(&mut self.thread, &size);
         size
     }
 
@@ -332,18 +297,13 @@ impl<D: BlockDevice> Tree<D> {
     /// `Io` where a read failed, and `NoMemory` where memory isn't granted. It has failed then.
     pub fn list(&mut self, alloc: Global, path: &Path<'_>) -> Result<Listing, Error>
         requires { self.old.failed ≡ false }
-        ensures asked { OnOk result (IsAsked self.old self.new) }
+        ensures asks { IsAsking self.old result self.new }
         ensures found { IfOk result (λ listing. Finds (tree_seen self.old) path.now listing.finding) }
         ensures items { IfOk result (λ listing. map list_item_seen listing.items.items ≡ items_in (tree_seen self.old) path.now) }
         ensures few { ReadsOnce (parents path.now ++ path.now ∷ []) self.old self.new.history }
-        ensures broken { OnErr result (IsBrokenAsking self.old self.new) }
-        ensures errors { IfErr result (IsError self.old self.new) }
     {
-        let Image::Mounted(thread) = &mut self.image else {
-            unreachable!()
-        };
-        let listing = list_at(alloc, thread, self.root, path);
-        self.has_failed = listing.is_err();
+        let listing = list_at(alloc, &mut self.thread, self.root, path);
+        note_error(&mut self.thread, &listing);
         listing
     }
 
@@ -353,25 +313,12 @@ impl<D: BlockDevice> Tree<D> {
     /// where memory isn't granted. It has failed then.
     pub fn mkdir(&mut self, alloc: Global, path: &Path<'_>) -> Result<(), Error>
         requires { CanMake self.old path.now }
-        ensures done { OnOk result ((bytes : List ℕ) → as_path bytes ≡ path.now → IsCarried self.old (ops.Mkdir bytes) self.new) }
-        ensures alone { OnOk result ((bytes : List ℕ) → as_path bytes ≡ path.now → LeavesRest self.old (ops.Mkdir bytes) self.new) }
-        ensures broken { OnErr result (IsBroken self.old self.new) }
-        ensures errors { IfErr result (IsError self.old self.new) }
-        ensures survives { SurvivesAs self.old self.new (added path.now (DirectoryNode [] []) (tree_seen self.old)) }
+        ensures { IsOperation self.old (call.Mkdir path.now) result self.new }
     {
-        let Image::Mounted(thread) = &mut self.image else {
-            unreachable!()
-        };
-        match make_directory(alloc, thread, self.root, path) {
-            Ok(root) => {
-                self.root = root;
-                Ok(())
-            }
-            Err(error) => {
-                self.has_failed = true;
-                Err(error)
-            }
-        }
+        self.recover(alloc)?;
+        let made = make_at(alloc, &mut self.thread, self.root, path);
+        note_error(&mut self.thread, &made);
+        made
     }
 
     /// Makes an empty file where nothing is.
@@ -381,26 +328,13 @@ impl<D: BlockDevice> Tree<D> {
     /// `NoMemory` where memory isn't granted. It has failed then.
     pub fn create(&mut self, alloc: Global, path: &Path<'_>) -> Result<(), Error>
         requires { CanCreate self.old path.now }
-        ensures done { OnOk result ((bytes : List ℕ) (flags : Flags) → as_path bytes ≡ path.now → flags.write ≡ true → IsCarried self.old (ops.Open bytes flags) self.new) }
-        ensures alone { OnOk result ((bytes : List ℕ) (flags : Flags) → as_path bytes ≡ path.now → flags.write ≡ true → LeavesRest self.old (ops.Open bytes flags) self.new) }
+        ensures does { IsOperation self.old (call.Create path.now) result self.new }
         ensures few { ReadsToCreate path.now self.old self.new.history }
-        ensures broken { OnErr result (IsBroken self.old self.new) }
-        ensures errors { IfErr result (IsError self.old self.new) }
-        ensures survives { SurvivesAs self.old self.new (added path.now (FileNode [] []) (tree_seen self.old)) }
     {
-        let Image::Mounted(thread) = &mut self.image else {
-            unreachable!()
-        };
-        match create_file(alloc, thread, self.root, path) {
-            Ok(root) => {
-                self.root = root;
-                Ok(())
-            }
-            Err(error) => {
-                self.has_failed = true;
-                Err(error)
-            }
-        }
+        self.recover(alloc)?;
+        let created = create_at(alloc, &mut self.thread, self.root, path);
+        note_error(&mut self.thread, &created);
+        created
     }
 
     /// Takes a file, or a directory without entries.
@@ -409,25 +343,12 @@ impl<D: BlockDevice> Tree<D> {
     /// where memory isn't granted. It has failed then.
     pub fn remove(&mut self, alloc: Global, path: &Path<'_>) -> Result<(), Error>
         requires { CanRemove self.old path.now }
-        ensures done { OnOk result ((bytes : List ℕ) → as_path bytes ≡ path.now → IsCarried self.old (ops.Remove bytes) self.new) }
-        ensures alone { OnOk result ((bytes : List ℕ) → as_path bytes ≡ path.now → LeavesRest self.old (ops.Remove bytes) self.new) }
-        ensures broken { OnErr result (IsBroken self.old self.new) }
-        ensures errors { IfErr result (IsError self.old self.new) }
-        ensures survives { SurvivesAs self.old self.new (removed path.now (tree_seen self.old)) }
+        ensures { IsOperation self.old (call.Remove path.now) result self.new }
     {
-        let Image::Mounted(thread) = &mut self.image else {
-            unreachable!()
-        };
-        match remove_entry(alloc, thread, self.root, path) {
-            Ok(root) => {
-                self.root = root;
-                Ok(())
-            }
-            Err(error) => {
-                self.has_failed = true;
-                Err(error)
-            }
-        }
+        self.recover(alloc)?;
+        let removed = remove_at(alloc, &mut self.thread, self.root, path);
+        note_error(&mut self.thread, &removed);
+        removed
     }
 
     /// Gives an entry another path, at which nothing is, a file, or an empty directory, which goes. What is
@@ -438,25 +359,12 @@ impl<D: BlockDevice> Tree<D> {
     pub fn rename(&mut self, alloc: Global, from: &Path<'_>, to: &Path<'_>) -> Result<(), Error>
         requires can { CanRename self.old from.now to.now }
         requires apart { same_path from.now to.now ≡ false }
-        ensures done { OnOk result ((given to_given : List ℕ) → as_path given ≡ from.now → as_path to_given ≡ to.now → IsCarried self.old (ops.Rename given to_given) self.new) }
-        ensures alone { OnOk result ((given to_given : List ℕ) → as_path given ≡ from.now → as_path to_given ≡ to.now → LeavesRest self.old (ops.Rename given to_given) self.new) }
-        ensures broken { OnErr result (IsBroken self.old self.new) }
-        ensures errors { IfErr result (IsError self.old self.new) }
-        ensures survives { SurvivesAs self.old self.new (renamed from.now to.now (tree_seen self.old)) }
+        ensures { IsOperation self.old (call.Rename from.now to.now) result self.new }
     {
-        let Image::Mounted(thread) = &mut self.image else {
-            unreachable!()
-        };
-        match rename_entry(alloc, thread, self.root, from, to) {
-            Ok(root) => {
-                self.root = root;
-                Ok(())
-            }
-            Err(error) => {
-                self.has_failed = true;
-                Err(error)
-            }
-        }
+        self.recover(alloc)?;
+        let renamed = rename_at(alloc, &mut self.thread, self.root, from, to);
+        note_error(&mut self.thread, &renamed);
+        renamed
     }
 
     /// Gives an entry an attribute, in place of the one of that type that it has, if it has one.
@@ -471,25 +379,12 @@ impl<D: BlockDevice> Tree<D> {
         bytes: &[u8],
     ) -> Result<(), Error>
         requires { CanSetAttr self.old path.now kind bytes.now }
-        ensures done { OnOk result ((given : List ℕ) → as_path given ≡ path.now → IsCarried self.old (ops.SetAttr given kind bytes.now) self.new) }
-        ensures alone { OnOk result ((given : List ℕ) → as_path given ≡ path.now → LeavesRest self.old (ops.SetAttr given kind bytes.now) self.new) }
-        ensures broken { OnErr result (IsBroken self.old self.new) }
-        ensures errors { IfErr result (IsError self.old self.new) }
-        ensures survives { SurvivesAs self.old self.new (with_attributes_changed path.now (put_attribute kind bytes.now) (tree_seen self.old)) }
+        ensures { IsOperation self.old (call.SetAttr path.now kind bytes.now) result self.new }
     {
-        let Image::Mounted(thread) = &mut self.image else {
-            unreachable!()
-        };
-        match give_attribute(alloc, thread, self.root, path, kind, bytes) {
-            Ok(root) => {
-                self.root = root;
-                Ok(())
-            }
-            Err(error) => {
-                self.has_failed = true;
-                Err(error)
-            }
-        }
+        self.recover(alloc)?;
+        let set = set_attr_at(alloc, &mut self.thread, self.root, path, kind, bytes);
+        note_error(&mut self.thread, &set);
+        set
     }
 
     /// Ends what a loss of power left in the image: a set move, and directories that no path leads to
@@ -501,27 +396,16 @@ impl<D: BlockDevice> Tree<D> {
     pub fn recover(&mut self, alloc: Global) -> Result<(), Error>
         requires works { self.old.failed ≡ false }
         requires writable { self.old.writable ≡ true }
-        ensures done { OnOk result (IsCarried self.old ops.Recover self.new) }
-        ensures broken { OnErr result (IsBroken self.old self.new) }
-        ensures errors { IfErr result (IsError self.old self.new) }
-        ensures survives { SurvivesAs self.old self.new (tree_seen self.old) }
+        ensures does { IsOperation self.old call.Recover result self.new }
+        ensures settled { OnOk result (HasSettled (kept_of self.old) (kept_of self.new)) }
+        ensures idle { gstate_of self.old.pairs ≡ no_gstate → self.new ≡ self.old }
     {
         if self.gstate().is_none() {
             return Ok(());
         }
-        let Image::Mounted(thread) = &mut self.image else {
-            unreachable!()
-        };
-        match recover_image(alloc, thread, self.root) {
-            Ok(root) => {
-                self.root = root;
-                Ok(())
-            }
-            Err(error) => {
-                self.has_failed = true;
-                Err(error)
-            }
-        }
+        let recovered = recover_at(alloc, &mut self.thread, self.root);
+        note_error(&mut self.thread, &recovered);
+        recovered
     }
 
     /// Takes an attribute from an entry.
@@ -530,45 +414,11 @@ impl<D: BlockDevice> Tree<D> {
     /// where memory isn't granted. It has failed then.
     pub fn remove_attr(&mut self, alloc: Global, path: &Path<'_>, kind: u8) -> Result<(), Error>
         requires { CanRemoveAttr self.old path.now kind }
-        ensures done { OnOk result ((bytes : List ℕ) → as_path bytes ≡ path.now → IsCarried self.old (ops.RemoveAttr bytes kind) self.new) }
-        ensures alone { OnOk result ((bytes : List ℕ) → as_path bytes ≡ path.now → LeavesRest self.old (ops.RemoveAttr bytes kind) self.new) }
-        ensures broken { OnErr result (IsBroken self.old self.new) }
-        ensures errors { IfErr result (IsError self.old self.new) }
-        ensures survives { SurvivesAs self.old self.new (with_attributes_changed path.now (without_attribute kind) (tree_seen self.old)) }
+        ensures { IsOperation self.old (call.RemoveAttr path.now kind) result self.new }
     {
-        let Image::Mounted(thread) = &mut self.image else {
-            unreachable!()
-        };
-        match take_attribute(alloc, thread, self.root, path, kind) {
-            Ok(root) => {
-                self.root = root;
-                Ok(())
-            }
-            Err(error) => {
-                self.has_failed = true;
-                Err(error)
-            }
-        }
-    }
-}
-
-// The same device, mounted again.
-fn mounted_again<D: BlockDevice>(tree: Tree<D>, alloc: Global) -> (Tree<D>, Result<(), Error>)
-    ensures mounted { OnOk result.1 (IsMountedTree tree.disk tree.history result.0) }
-    ensures broken { OnErr result.1 (IsBrokenAsking tree result.0) }
-    ensures errors { IfErr result.1 (IsMountErrorOf tree result.0) }
-{
-    let is_writable = tree.is_writable;
-    match Tree::mount(alloc, tree.into_device()) {
-        Ok(tree) => (tree, Ok(())),
-        Err((device, error)) => (
-            Tree {
-                image: Image::Unmounted(device),
-                root: 0,
-                is_writable,
-                has_failed: true,
-            },
-            Err(error),
-        ),
+        self.recover(alloc)?;
+        let removed = remove_attr_at(alloc, &mut self.thread, self.root, path, kind);
+        note_error(&mut self.thread, &removed);
+        removed
     }
 }

@@ -7,15 +7,15 @@ ghost use Rattle.lfs_model.specs.Disk.{inline_limit};
 ghost use Rattle.lfs_model.specs.Writers.{written_into, zeros_to};
 ghost use Rattle.lfs_model.specs.Effects.{with_bytes};
 ghost use Rattle.lfs_model.specs.Tree.{Path as ModelPath};
-ghost use Rattle.lfs_tree.specs.OpenContents.{CanOpen, CanStoreAt, CanTruncateBeside, CanWriteBeside, HasBytesAs, IsOpenedForm, IsOver, IsStoredAt, IsWrittenBeside, bytes_held, kept_of};
-ghost use Rattle.lfs_tree.specs.Seen.{IsAsked, IsBroken, IsBrokenAsking, IsError, SurvivesAs, tree_seen};
+ghost use Rattle.lfs_tree.specs.OpenContents.{CanOpen, CanStoreAt, CanTruncateBeside, CanWriteBeside, HasBytesAs, IsOpenedForm, IsOver, IsStoredAt, IsWriting, bytes_held, kept_of};
+ghost use Rattle.lfs_tree.specs.Seen.{IsAsking, IsBroken, IsBrokenAsking, IsError, SurvivesAs, tree_seen};
 ghost use Rattle.lfs_writer.specs.Contents.{form_of};
 ghost use Rattle.lfs_writer.specs.Form as form;
 ghost use Rattle.lfs_writer.specs.Form.{truncated, written};
 
-use crate::image::Image;
+use crate::answers::note_error;
 use crate::opening::{no_contents, open_at};
-use crate::storing::store_file_at;
+use crate::storing::store_at;
 use crate::tree::Tree;
 use lfs_device::{BlockDevice, Error};
 use lfs_lookup::Path;
@@ -28,18 +28,13 @@ impl<D: BlockDevice> Tree<D> {
     /// `Io` where a read failed, and `NoMemory` where memory isn't granted. It has failed then.
     pub fn contents(&mut self, alloc: Global, path: &Path<'_>) -> Result<Contents, Error>
         requires { CanOpen self.old path.now }
-        ensures asked { OnOk result (IsAsked self.old self.new) }
+        ensures asks { IsAsking self.old result self.new }
         ensures over { IfOk result (IsOver self.new path.now) }
         ensures bytes { IfOk result (λ c. bytes_held (kept_of self.new) c ≡ bytes_at (tree_seen self.old path.now)) }
         ensures form { IfOk result (λ c. IsOpenedForm self.old.disk.block_size (length (bytes_at (tree_seen self.old path.now))) (form_of c)) }
-        ensures broken { OnErr result (IsBrokenAsking self.old self.new) }
-        ensures errors { IfErr result (IsError self.old self.new) }
     {
-        let Image::Mounted(thread) = &mut self.image else {
-            unreachable!()
-        };
-        let contents = open_at(alloc, thread, self.root, path);
-        self.has_failed = contents.is_err();
+        let contents = open_at(alloc, &mut self.thread, self.root, path);
+        note_error(&mut self.thread, &contents);
         contents
     }
 
@@ -56,11 +51,8 @@ impl<D: BlockDevice> Tree<D> {
         ensures broken { OnErr result (IsBrokenAsking self.old self.new) }
         ensures errors { IfErr result (IsError self.old self.new) }
     {
-        let Image::Mounted(thread) = &mut self.image else {
-            unreachable!()
-        };
-        let contents = no_contents(alloc, thread);
-        self.has_failed = contents.is_err();
+        let contents = no_contents(alloc, &self.thread);
+        note_error(&mut self.thread, &contents);
         contents
     }
 
@@ -79,17 +71,11 @@ impl<D: BlockDevice> Tree<D> {
         ensures over { (path : ModelPath) → IsOver self.old path contents → IfOk result (IsOver self.new path) }
         ensures written { IfOk result (HasBytesAs self.new (written_into (bytes_held (kept_of self.old) contents) place bytes.now)
             (written (inline_limit self.old.disk.block_size) place (length bytes.now) (form_of contents))) }
-        ensures beside { OnOk result (IsWrittenBeside self.old self.new) }
-        ensures broken { OnErr result (IsBroken self.old self.new) }
-        ensures errors { IfErr result (IsError self.old self.new) }
-        ensures survives { self.old.writable ≡ true → SurvivesAs self.old self.new (tree_seen self.old) }
+        ensures writes { IsWriting self.old result self.new }
     {
         let limit = self.geometry().inline_limit();
-        let Image::Mounted(thread) = &mut self.image else {
-            unreachable!()
-        };
-        let written = write_file(alloc, thread, contents, limit, place, bytes);
-        self.has_failed = written.is_err();
+        let written = write_file(alloc, &mut self.thread, contents, limit, place, bytes);
+        note_error(&mut self.thread, &written);
         written
     }
 
@@ -106,17 +92,11 @@ impl<D: BlockDevice> Tree<D> {
         ensures over { (path : ModelPath) → IsOver self.old path contents → IfOk result (IsOver self.new path) }
         ensures truncated { IfOk result (HasBytesAs self.new (take size (zeros_to size (bytes_held (kept_of self.old) contents)))
             (truncated (inline_limit self.old.disk.block_size) size (form_of contents))) }
-        ensures beside { OnOk result (IsWrittenBeside self.old self.new) }
-        ensures broken { OnErr result (IsBroken self.old self.new) }
-        ensures errors { IfErr result (IsError self.old self.new) }
-        ensures survives { self.old.writable ≡ true → SurvivesAs self.old self.new (tree_seen self.old) }
+        ensures writes { IsWriting self.old result self.new }
     {
         let limit = self.geometry().inline_limit();
-        let Image::Mounted(thread) = &mut self.image else {
-            unreachable!()
-        };
-        let truncated = truncate_file(alloc, thread, contents, limit, size);
-        self.has_failed = truncated.is_err();
+        let truncated = truncate_file(alloc, &mut self.thread, contents, limit, size);
+        note_error(&mut self.thread, &truncated);
         truncated
     }
 
@@ -130,18 +110,8 @@ impl<D: BlockDevice> Tree<D> {
         ensures errors { IfErr result (IsError self.old self.new) }
         ensures survives { SurvivesAs self.old self.new (change_at path.now (with_bytes (bytes_held (kept_of self.old) contents)) (tree_seen self.old)) }
     {
-        let Image::Mounted(thread) = &mut self.image else {
-            unreachable!()
-        };
-        match store_file_at(alloc, thread, self.root, path, contents) {
-            Ok(root) => {
-                self.root = root;
-                Ok(())
-            }
-            Err(error) => {
-                self.has_failed = true;
-                Err(error)
-            }
-        }
+        let stored = store_at(alloc, &mut self.thread, self.root, path, contents);
+        note_error(&mut self.thread, &stored);
+        stored
     }
 }

@@ -11,10 +11,10 @@ pub returns : goal.returns
 returns g c =
     open_checked (held_of c.args.tree.now c.args.files.now) c.args.bytes.now c.in-Some.path (flags_seen c.args.flags) c.in_ok-found.found _ c.is_nothing.result c.is_directory.result c.is_busy_for_reading.result
     c.refuse_if.result c.refuse_if-2.result c.refuse_if-3.result c.passed.result
-    c.if-has_failed.ensures c.in-Some.ensures c.requires c.if-not-is_allowed.ensures c.in_ok-found.ensures.asked c.in_ok-found.ensures.found
+    c.if-has_failed.ensures c.in-Some.ensures c.requires c.if-not-is_allowed.ensures c.in_ok-found.ensures.asks.asked c.in_ok-found.ensures.found
     c.is_nothing.ensures c.refuse_if.ensures c.is_directory.ensures c.refuse_if-2.ensures (busy_at c.args.tree.now c.args.files.now c.args.bytes.now _ _ c.in-Some.ensures c.is_busy_for_reading.ensures) c.refuse_if-3.ensures c.passed.ensures
 
 pub returns-in_err-found : goal.returns-in_err-found
 returns-in_err-found g c =
-    lookup_failed (held_of c.args.tree.now c.args.files.now) (ops.Open c.args.bytes.now (flags_seen c.args.flags)) _ c.in_err-found.field-0.0 _ c.from_residual.result c.if-has_failed.ensures c.in_err-found.ensures.broken c.in_err-found.ensures.errors (reader_late (held_of c.args.tree.now c.args.files.now) c.args.bytes.now c.in-Some.path (flags_seen c.args.flags) c.if-has_failed.ensures c.in-Some.ensures c.requires c.if-not-is_allowed.ensures)
+    lookup_failed (held_of c.args.tree.now c.args.files.now) (ops.Open c.args.bytes.now (flags_seen c.args.flags)) _ c.in_err-found.field-0.0 _ c.from_residual.result c.if-has_failed.ensures c.in_err-found.ensures.asks.broken c.in_err-found.ensures.asks.errors (reader_late (held_of c.args.tree.now c.args.files.now) c.args.bytes.now c.in-Some.path (flags_seen c.args.flags) c.if-has_failed.ensures c.in-Some.ensures c.requires c.if-not-is_allowed.ensures)
     (given_on _ c.from_residual.result c.from_residual.ensures.1)

@@ -13,11 +13,11 @@ use Rattle.lfs_checks.proofs.checks.check_stat.Goals as goal
 pub returns-clause-checks : goal.returns-clause-checks
 returns-clause-checks g c =
     stat_checked (held_of c.args.tree.now c.args.files.now) c.args.bytes.now c.in-Some.path c.in_ok-found.found _ c.is_nothing.result c.refuse_if.result c.size.result c.passed.result
-    c.if-has_failed.ensures c.in-Some.ensures c.in_ok-found.ensures.asked c.in_ok-found.ensures.found c.is_nothing.ensures c.refuse_if.ensures c.size.ensures c.passed.ensures
+    c.if-has_failed.ensures c.in-Some.ensures c.in_ok-found.ensures.asks.asked c.in_ok-found.ensures.found c.is_nothing.ensures c.refuse_if.ensures c.size.ensures c.passed.ensures
 
 pub returns-in_err-found-clause-checks : goal.returns-in_err-found-clause-checks
 returns-in_err-found-clause-checks g c =
-    lookup_failed (held_of c.args.tree.now c.args.files.now) (ops.Stat c.args.bytes.now) _ c.in_err-found.field-0.0 _ c.from_residual.result c.if-has_failed.ensures c.in_err-found.ensures.broken c.in_err-found.ensures.errors (stat_late (held_of c.args.tree.now c.args.files.now) c.args.bytes.now c.in-Some.path c.if-has_failed.ensures c.in-Some.ensures)
+    lookup_failed (held_of c.args.tree.now c.args.files.now) (ops.Stat c.args.bytes.now) _ c.in_err-found.field-0.0 _ c.from_residual.result c.if-has_failed.ensures c.in_err-found.ensures.asks.broken c.in_err-found.ensures.asks.errors (stat_late (held_of c.args.tree.now c.args.files.now) c.args.bytes.now c.in-Some.path c.if-has_failed.ensures c.in-Some.ensures)
     (given_on _ c.from_residual.result c.from_residual.ensures.1)
 
 pub returns-clause-few : goal.returns-clause-few

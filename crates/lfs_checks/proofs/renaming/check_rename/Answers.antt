@@ -15,9 +15,9 @@ use Rattle.lfs_checks.proofs.renaming.check_rename.Goals as goal
 
 pub returns : goal.returns
 returns g c =
-    let one = c.in_ok-entry.ensures.asked in
-    let two = c.in_ok-inside.ensures.asked in
-    let asked = asked_twice _ _ _ (asked_twice _ _ _ one two) c.in_ok-taken.ensures.asked in
+    let one = c.in_ok-entry.ensures.asks.asked in
+    let two = c.in_ok-inside.ensures.asks.asked in
+    let asked = asked_twice _ _ _ (asked_twice _ _ _ one two) c.in_ok-taken.ensures.asks.asked in
     rename_checked (held_of c.args.tree.now c.args.files.now) c.args.old.now c.args.new.now c.in-Some.from c.in-Some-parse_entry.to c.in_ok-entry.entry c.in_ok-inside.inside.finding c.look_up.new.self c.look_inside.new.self c.attributes_size.new.self
     c.in_ok-taken.taken c.name_len-name_len.result c.name_len-name_len.result c.is_same_path-is_same.result c.is_nothing.result _ _ c.in_ok-inside.inside.has_entries _ c.is_overcharged_with-overfills.result _ c.lacks.result c.is_in_the_way.result
     c.refuse_if.result c.refuse_if-2.result c.refuse_replacing.result c.refuse_replacing-2.result c.refuse_replacing-3.result c.refuse_if-3.result c.refuse_replacing-4.result c.refuse_if-4.result c.passed.result _
@@ -33,18 +33,18 @@ returns g c =
 
 pub returns-in_err-entry : goal.returns-in_err-entry
 returns-in_err-entry g c =
-    lookup_failed (held_of c.args.tree.now c.args.files.now) (ops.Rename c.args.old.now c.args.new.now) _ c.in_err-entry.field-0.0 _ c.from_residual.result c.if-has_failed.ensures c.in_err-entry.ensures.broken c.in_err-entry.ensures.errors (rename_late (held_of c.args.tree.now c.args.files.now) c.args.old.now c.args.new.now c.in-Some.from c.in-Some-parse_entry.to c.if-has_failed.ensures c.if-not-is_writable.ensures c.in-Some.ensures c.in-Some-parse_entry.ensures (sym c.if-is_beneath.ensures))
+    lookup_failed (held_of c.args.tree.now c.args.files.now) (ops.Rename c.args.old.now c.args.new.now) _ c.in_err-entry.field-0.0 _ c.from_residual.result c.if-has_failed.ensures c.in_err-entry.ensures.asks.broken c.in_err-entry.ensures.asks.errors (rename_late (held_of c.args.tree.now c.args.files.now) c.args.old.now c.args.new.now c.in-Some.from c.in-Some-parse_entry.to c.if-has_failed.ensures c.if-not-is_writable.ensures c.in-Some.ensures c.in-Some-parse_entry.ensures (sym c.if-is_beneath.ensures))
     (given_on _ c.from_residual.result c.from_residual.ensures.1)
 
 pub returns-in_err-inside : goal.returns-in_err-inside
 returns-in_err-inside g c =
     lookup_failed (held_of c.args.tree.now c.args.files.now) (ops.Rename c.args.old.now c.args.new.now) _ c.in_err-inside.field-0.0 _ c.from_residual-in_err-inside.result c.if-has_failed.ensures
-    (broken_twice _ _ _ c.in_ok-entry.ensures.asked c.in_err-inside.ensures.broken) (error_twice _ _ _ _ c.in_ok-entry.ensures.asked c.in_err-inside.ensures.errors) (rename_late (held_of c.args.tree.now c.args.files.now) c.args.old.now c.args.new.now c.in-Some.from c.in-Some-parse_entry.to c.if-has_failed.ensures c.if-not-is_writable.ensures c.in-Some.ensures c.in-Some-parse_entry.ensures (sym c.if-is_beneath.ensures))
+    (broken_twice _ _ _ c.in_ok-entry.ensures.asks.asked c.in_err-inside.ensures.asks.broken) (error_twice _ _ _ _ c.in_ok-entry.ensures.asks.asked c.in_err-inside.ensures.asks.errors) (rename_late (held_of c.args.tree.now c.args.files.now) c.args.old.now c.args.new.now c.in-Some.from c.in-Some-parse_entry.to c.if-has_failed.ensures c.if-not-is_writable.ensures c.in-Some.ensures c.in-Some-parse_entry.ensures (sym c.if-is_beneath.ensures))
     (given_on _ c.from_residual-in_err-inside.result c.from_residual-in_err-inside.ensures.1)
 
 pub returns-in_err-taken : goal.returns-in_err-taken
 returns-in_err-taken g c =
-    let asked = asked_twice _ _ _ c.in_ok-entry.ensures.asked c.in_ok-inside.ensures.asked in
+    let asked = asked_twice _ _ _ c.in_ok-entry.ensures.asks.asked c.in_ok-inside.ensures.asks.asked in
     lookup_failed (held_of c.args.tree.now c.args.files.now) (ops.Rename c.args.old.now c.args.new.now) _ c.in_err-taken.field-0.0 _ c.from_residual-in_err-taken.result c.if-has_failed.ensures
-    (broken_twice _ _ _ asked c.in_err-taken.ensures.broken) (error_twice _ _ _ _ asked c.in_err-taken.ensures.errors) (rename_late (held_of c.args.tree.now c.args.files.now) c.args.old.now c.args.new.now c.in-Some.from c.in-Some-parse_entry.to c.if-has_failed.ensures c.if-not-is_writable.ensures c.in-Some.ensures c.in-Some-parse_entry.ensures (sym c.if-is_beneath.ensures))
+    (broken_twice _ _ _ asked c.in_err-taken.ensures.asks.broken) (error_twice _ _ _ _ asked c.in_err-taken.ensures.asks.errors) (rename_late (held_of c.args.tree.now c.args.files.now) c.args.old.now c.args.new.now c.in-Some.from c.in-Some-parse_entry.to c.if-has_failed.ensures c.if-not-is_writable.ensures c.in-Some.ensures c.in-Some-parse_entry.ensures (sym c.if-is_beneath.ensures))
     (given_on _ c.from_residual-in_err-taken.result c.from_residual-in_err-taken.ensures.1)

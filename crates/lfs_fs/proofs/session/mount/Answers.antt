@@ -1,7 +1,25 @@
-use Rattle.std.proofs.Common.{subst, sym}
+use Rattle.std.proofs.Common.{ap, subst, sym}
+use Rattle.lfs_model.specs.Disk.{Disk}
+use Rattle.lfs_model.specs.View.{IsAccepted}
+use Rattle.lfs_checks.specs.FileSeen.{files_seen}
 use Rattle.lfs_checks.specs.Held.{IsReady}
 use Rattle.lfs_fs.proofs.Remounting.{mounted_ready}
 use Rattle.lfs_fs.proofs.session.mount.Goals as goal
 
 pub invariant_of-result : goal.invariant_of-result
-invariant_of-result g c = λ works. subst (IsReady c.in-Ok.tree) (sym c.none.ensures) (mounted_ready _ _ c.in-Ok.tree c.in-Ok.ensures.mounted)
+invariant_of-result g c = record {
+  ready = λ works. subst (IsReady c.in-Ok.tree) (sym c.none.ensures) (mounted_ready _ _ c.in-Ok.tree c.in-Ok.ensures.mounted);
+  told = λ works. c.device_tells.ensures;
+}
+
+pub returns-in-Ok-clause-begun : goal.returns-in-Ok-clause-begun
+returns-in-Ok-clause-begun g c =
+    let m = c.in-Ok.ensures.mounted in
+    record {
+      works = m.works;
+      disk_is = m.disk_is;
+      accepted = subst (λ (d : Disk). IsAccepted d c.in-Ok.tree.pairs) m.disk_is m.sound.accepted;
+      reads = m.reads;
+      no_fault = m.no_fault;
+      no_files = ap (files_seen c.in-Ok.tree) c.none.ensures;
+    }

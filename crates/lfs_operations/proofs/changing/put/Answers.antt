@@ -1,4 +1,4 @@
-use Rattle.std.proofs.Common.{◌≤◌, ◌+◌, arith, ap, sym, subst, ◌∙◌, inl, inr, Ok, Err}
+use Rattle.std.proofs.Common.{arith, ap, sym, subst, ◌∙◌, inl, inr, Ok, Err}
 use Rattle.std.proofs.lemmas.Result.{err_from_is_err_and}
 use Rattle.lfs_device.specs.declared.error.Error.TheVariants as Error
 use Rattle.lfs_pair.specs.declared.committing.Outcome.TheVariants as Outcome

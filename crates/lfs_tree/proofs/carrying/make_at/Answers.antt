@@ -1,85 +1,49 @@
-use Rattle.std.proofs.Common.{◌∙◌, sym, subst, arith}
+use Rattle.std.proofs.Common.{arith, subst, sym}
+use Rattle.std.specs.Prelude.{OnOk}
+use Rattle.std.proofs.lemmas.Result.{err_from_is_err_and}
 use Rattle.lfs_operations.specs.Making.{AltersUpTo, CanMake, IsMade, WritesUpTo, with_directory}
-use Rattle.lfs_model.specs.Operations as ops
 use Rattle.lfs_tree.specs.Carrying.{SurvivesTo}
 use Rattle.lfs_tree.proofs.Carried.{read_is}
-use Rattle.lfs_tree.proofs.CarryCreated.{can_make, made_alone, made_at, made_survives}
-use Rattle.lfs_tree.proofs.CarrySurvives.{survives_reading}
-use Rattle.lfs_tree.proofs.CarryTold.{called_by_writing}
-use Rattle.lfs_lookup.proofs.Reading.{answered}
+use Rattle.lfs_tree.proofs.CarryCreated.{can_make, make_does, vacant_to}
+use Rattle.lfs_tree.proofs.CarryPlaces.{place_for, place_found}
+use Rattle.lfs_tree.proofs.Operated.{only_read_change, works_told}
+use Rattle.lfs_lookup.proofs.Reading.{answered, passed}
 use Rattle.lfs_tree.proofs.carrying.make_at.Goals as goal
+
+pub place_in-place-requires : goal.place_in-place-requires
+place_in-place-requires g c = place_found c.args.thread.now.kept c.args.path.now c.in_ok-target.target.found (vacant_to c.args.thread.now.kept c.args.path.now 4 c.requires.can) c.in_ok-target.ensures.target.leads
 
 pub make_directory-requires-clause-can : goal.make_directory-requires-clause-can
 make_directory-requires-clause-can g c =
     let t = c.args.thread.now in
-    let mid = c.find_place.new.thread.kept in
-    let p = c.in_ok-place.place in
-    subst (λ k. CanMake k p.spot.pair p.spot.id p.name.now) (sym (read_is t.kept mid c.find_place.ensures.reading.only))
-    (can_make t c.args.root c.requires.rests c.args.path.now c.know_names.ensures c.know_device.ensures.large c.know_device.ensures.bytes 4 c.requires.can p.name.now p.spot c.in_ok-place.ensures.place mid.history (omega arith))
+    let mid = c.find_target.new.thread.kept in
+    let spot = c.place_in-place.result in
+    let name = c.in_ok-target.target.name.now in
+    let target = c.in_ok-target.ensures.target in
+    let place = place_for t.kept c.args.path.now c.in_ok-target.target.found name spot (vacant_to t.kept c.args.path.now 4 c.requires.can) target.leads c.place_in-place.ensures target.named in
+    subst (λ k. CanMake k spot.pair spot.id name) (sym (read_is t.kept mid c.find_target.ensures.reading.only))
+    (can_make t c.args.root c.requires.rests c.args.path.now c.know_names.ensures c.know_device.ensures.large c.know_device.ensures.bytes 4 c.requires.can name spot place mid.history (omega arith))
 
-pub returns-in_err-make_directory-clause-called : goal.returns-in_err-make_directory-clause-called
-returns-in_err-make_directory-clause-called g c =
+pub returns-in_err-target : goal.returns-in_err-target
+returns-in_err-target g c =
+    let p = err_from_is_err_and c.from_residual.result c.from_residual.ensures.1 in
+    only_read_change c.args.thread.now c.args.root c.requires.rests c.find_target.new.thread _ _ c.from_residual.result p.0 p.1
+    (passed _ _ c.find_target.result c.from_residual.result _ p.0 c.in_err-target.was p.1 p.2 c.find_target.ensures.reading)
+
+pub returns : goal.returns
+returns g c =
     let t = c.args.thread.now in
-    let mid = c.find_place.new.thread.kept in
-    let p = c.in_ok-place.place in
-    let only = c.find_place.ensures.reading.only in
-    let w = subst (λ k. WritesUpTo k p.spot.pair c.make_directory.new.thread.kept) (read_is t.kept mid only) c.make_directory.ensures.device in
-    called_by_writing t.kept mid.history c.make_directory.new.thread.kept _ only.reads w.writes
-
-pub returns-clause-done : goal.returns-clause-done
-returns-clause-done g c bytes e =
-    let t = c.args.thread.now in
-    let mid = c.find_place.new.thread.kept in
-    let new = c.make_directory.new.thread.kept in
-    let p = c.in_ok-place.place in
-    let place = c.in_ok-place.ensures.place in
-    let only = c.find_place.ensures.reading.only in
-    let w = subst (λ k. WritesUpTo k p.spot.pair new) (read_is t.kept mid only) c.make_directory.ensures.device in
-    let is = subst (λ k. (can : CanMake k p.spot.pair p.spot.id p.name.now) → IsMade k new can.path p.name.now) (read_is t.kept mid only) c.in_ok-make_directory.ensures.made in
-    let quiet = c.make_directory.ensures.errors.no_fault (λ io. let z = sym c.in_ok-make_directory.was ∙ io in absurd (cc)) ∙ (answered _ _ c.find_place.result c.in_ok-place.place c.in_ok-place.was c.find_place.ensures.reading).same in
-    made_at t c.args.root c.requires.rests c.args.path.now c.know_names.ensures c.know_device.ensures.large c.know_device.ensures.bytes 4 c.requires.can p.name.now p.spot place mid.history new bytes quiet only.reads w is (omega arith) e
-
-pub returns-clause-alone : goal.returns-clause-alone
-returns-clause-alone g c bytes e none files =
-    let t = c.args.thread.now in
-    let mid = c.find_place.new.thread.kept in
-    let new = c.make_directory.new.thread.kept in
-    let p = c.in_ok-place.place in
-    let only = c.find_place.ensures.reading.only in
-    let w = subst (λ k. WritesUpTo k p.spot.pair new) (read_is t.kept mid only) c.make_directory.ensures.device in
-    let alters = subst (λ k. AltersUpTo k p.spot.pair new) (read_is t.kept mid only) c.in_ok-make_directory.ensures.alters in
-    made_alone t c.args.root c.requires.rests c.args.path.now c.know_names.ensures c.know_device.ensures.large c.know_device.ensures.bytes 4 c.requires.can p.name.now p.spot c.in_ok-place.ensures.place mid.history new (ops.Mkdir bytes) files w alters
-
-pub returns-clause-called : goal.returns-clause-called
-returns-clause-called g c =
-    let t = c.args.thread.now in
-    let mid = c.find_place.new.thread.kept in
-    let p = c.in_ok-place.place in
-    let only = c.find_place.ensures.reading.only in
-    let w = subst (λ k. WritesUpTo k p.spot.pair c.make_directory.new.thread.kept) (read_is t.kept mid only) c.make_directory.ensures.device in
-    called_by_writing t.kept mid.history c.make_directory.new.thread.kept _ only.reads w.writes
-
-pub returns-in_err-place-clause-survives : goal.returns-in_err-place-clause-survives
-returns-in_err-place-clause-survives g c = survives_reading c.args.thread.now c.args.root c.requires.rests c.find_place.new.thread.kept.history c.find_place.ensures.reading.only.reads _
-
-pub returns-in_err-make_directory-clause-survives : goal.returns-in_err-make_directory-clause-survives
-returns-in_err-make_directory-clause-survives g c =
-    let t = c.args.thread.now in
-    let mid = c.find_place.new.thread.kept in
-    let new = c.make_directory.new.thread.kept in
-    let p = c.in_ok-place.place in
-    let only = c.find_place.ensures.reading.only in
-    let w = subst (λ k. WritesUpTo k p.spot.pair new) (read_is t.kept mid only) c.make_directory.ensures.device in
-    let k = subst (λ k. (can : CanMake k p.spot.pair p.spot.id p.name.now) → SurvivesTo k new (with_directory k can.path p.name.now)) (read_is t.kept mid only) c.make_directory.ensures.survives in
-    made_survives t c.args.root c.requires.rests c.args.path.now c.know_names.ensures c.know_device.ensures.large c.know_device.ensures.bytes 4 c.requires.can p.name.now p.spot c.in_ok-place.ensures.place mid.history new only.reads w k (omega arith)
-
-pub returns-clause-survives : goal.returns-clause-survives
-returns-clause-survives g c =
-    let t = c.args.thread.now in
-    let mid = c.find_place.new.thread.kept in
-    let new = c.make_directory.new.thread.kept in
-    let p = c.in_ok-place.place in
-    let only = c.find_place.ensures.reading.only in
-    let w = subst (λ k. WritesUpTo k p.spot.pair new) (read_is t.kept mid only) c.make_directory.ensures.device in
-    let k = subst (λ k. (can : CanMake k p.spot.pair p.spot.id p.name.now) → SurvivesTo k new (with_directory k can.path p.name.now)) (read_is t.kept mid only) c.make_directory.ensures.survives in
-    made_survives t c.args.root c.requires.rests c.args.path.now c.know_names.ensures c.know_device.ensures.large c.know_device.ensures.bytes 4 c.requires.can p.name.now p.spot c.in_ok-place.ensures.place mid.history new only.reads w k (omega arith)
+    let mid = c.find_target.new.thread in
+    let new = c.make_directory.new.thread in
+    let spot = c.place_in-place.result in
+    let name = c.in_ok-target.target.name.now in
+    let target = c.in_ok-target.ensures.target in
+    let place = place_for t.kept c.args.path.now c.in_ok-target.target.found name spot (vacant_to t.kept c.args.path.now 4 c.requires.can) target.leads c.place_in-place.ensures target.named in
+    let read = answered t mid c.find_target.result c.in_ok-target.target c.in_ok-target.was c.find_target.ensures.reading in
+    let is = read_is t.kept mid.kept read.only in
+    let e = c.make_directory.ensures in
+    make_does t c.args.root c.requires.rests c.args.path.now c.know_names.ensures c.know_device.ensures.large c.know_device.ensures.bytes 4 c.requires.can name spot place mid.kept.history new c.make_directory.result c.know_bytes.ensures.0 c.know_bytes.ensures.1
+    (omega arith) read.same read.only.reads (subst (λ k. WritesUpTo k spot.pair new.kept) is e.device)
+    (subst (λ k. OnOk c.make_directory.result ((can : CanMake k spot.pair spot.id name) → IsMade k new.kept can.path name)) is e.made) (subst (λ k. OnOk c.make_directory.result (AltersUpTo k spot.pair new.kept)) is e.alters)
+    (record { errors = e.errors.errors; fault = e.errors.fault; no_fault = e.errors.no_fault }) (works_told new c.make_directory.result e.errors.failed)
+    (subst (λ k. (can : CanMake k spot.pair spot.id name) → SurvivesTo k new.kept (with_directory k can.path name)) is e.survives)

@@ -1,4 +1,4 @@
-use Rattle.std.proofs.Common.{false, sym, ap, subst, ◌∙◌}
+use Rattle.std.proofs.Common.{sym, ap, subst, ◌∙◌}
 use Rattle.lfs_device.specs.Shown.{ordered}
 use Rattle.lfs_model.specs.Disk.{Disk}
 use Rattle.lfs_model.specs.declared.order.NameOrder.{NameOrder}
@@ -20,7 +20,7 @@ returns-in-Ok-clause-mounted g c =
     let disk : Disk = disk_on g.D.BlockDevice c.args.device in
     let read = answered _ _ c.read_root.result _ c.in-Ok.is c.read_root.ensures.reading in
     let was = c.in_ok-thread.thread in
-    subst (λ (o : NameOrder). IsMountedTree (ordered o disk) (g.D.BlockDevice.history c.args.device) (seen_thread c.read_root.new.thread c.in-Ok.is_writable false))
+    subst (λ (o : NameOrder). IsMountedTree (ordered o disk) (g.D.BlockDevice.history c.args.device) (seen_thread c.read_root.new.thread c.in-Ok.is_writable))
     (sym (ap (λ (d : Disk). d.order) read.only.disk))
     (mounted_tree (ordered was.kept.disk.order disk) (g.D.BlockDevice.history c.args.device) was c.read_root.new.thread c.in-Ok.root c.in-Ok.is_writable
     c.in_ok-thread.ensures.mounted read c.in-Ok.ensures.root c.in-Ok.ensures.writable c.in_ok-thread.ensures.few.called)

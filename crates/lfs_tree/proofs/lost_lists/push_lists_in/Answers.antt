@@ -12,13 +12,14 @@ use Rattle.lfs_tree.proofs.lost_lists.push_lists_in.Goals as goal
 
 pub push_lists-requires : goal.push_lists-requires
 push_lists-requires c =
-    let read = sym (ap (λ b. content_after_all no_content (log_entries b)) c.read.ensures) ∙ c.in_ok-content.ensures.content in
-    let sound = logged c.args.block.now (content_seen c.in_ok-content.content) (λ i. omega (arith, c.type_inv.block i)) read in
+    let (content, is) = c.requires in
+    let read = c.in_ok-content.ensures.content in
+    let sound = logged c.args.log.now (content_seen c.in_ok-content.content) is.bytes read in
     subst HaveParts (sym (ap (map slot_seen) c.deref.ensures.value)) sound.slots
 
 pub returns-clause-lists : goal.returns-clause-lists
 returns-clause-lists c content is =
-    let read = sym (ap (λ b. content_after_all no_content (log_entries b)) c.read.ensures) ∙ c.in_ok-content.ensures.content in
+    let read = c.in_ok-content.ensures.content in
     let same = ap (λ (r : RawContent). r.slots) (same_Some (content_seen c.in_ok-content.content) is.raw (sym read ∙ is.log)) in
     c.in_ok-push_lists.ensures
     ∙ ap (λ z. c.args.lists.now.items ++ z) (ap (λ z. lists_typed (map slot_seen z)) c.deref.ensures.value ∙ ap lists_typed same ∙ typed_complete is.raw.slots content.slots (completed_parts is.raw content is.complete).slots)

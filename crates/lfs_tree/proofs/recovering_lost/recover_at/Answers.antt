@@ -1,36 +1,34 @@
-use Rattle.std.proofs.Common.{◌∙◌, subst, sym, IfErr}
+use Rattle.std.proofs.Common.{◌∙◌, Err, ap, sym}
 use Rattle.std.proofs.lemmas.Result.{err_from_is_err_and}
-use Rattle.lfs_tree.specs.Carrying.{TellsError}
-use Rattle.lfs_tree.proofs.Recovered.{called_then, called_writing, end_survives, recovered_whole, tells_then}
-use Rattle.lfs_tree.proofs.RecoveredFirst.{settled_whole}
+use Rattle.lfs_tree.proofs.CarryFreed.{ok_both}
+use Rattle.lfs_tree.proofs.Operated.{failed_change}
+use Rattle.lfs_tree.proofs.Recovered.{called_then, called_writing, end_survives, recovered_whole, tells_steps}
+use Rattle.lfs_tree.proofs.RecoveredFirst.{settled_stands, settled_whole}
+use Rattle.lfs_tree.proofs.StoreContents.{errors_then}
 use Rattle.lfs_tree.proofs.recovering_lost.recover_at.Goals as goal
 
-pub returns-in_err-drop_lost-clause-called : goal.returns-in_err-drop_lost-clause-called
-returns-in_err-drop_lost-clause-called g c = called_then _ _ _ (called_writing _ _ _ c.end_move.ensures.device) c.drop_lost.ensures.called
+pub returns-in_err-end_move : goal.returns-in_err-end_move
+returns-in_err-end_move g c =
+    let p = err_from_is_err_and c.from_residual.result c.from_residual.ensures.1 in
+    failed_change c.args.thread.now c.end_move.new.thread _ _ c.from_residual.result p.0 p.1 (called_writing _ _ _ c.end_move.ensures.device)
+    (tells_steps c.args.thread.now c.end_move.new.thread c.end_move.result p.0 (c.in_err-end_move.was ∙ ap Err (sym p.2)) c.end_move.ensures.errors) c.end_move.ensures.survives
 
-pub returns-in_err-drop_lost-clause-errors : goal.returns-in_err-drop_lost-clause-errors
-returns-in_err-drop_lost-clause-errors g c =
-    let p = err_from_is_err_and c.from_residual-in_err-drop_lost.result c.from_residual-in_err-drop_lost.ensures.1 in
+pub drop_lost-requires-clause-root : goal.drop_lost-requires-clause-root
+drop_lost-requires-clause-root g c = c.requires.rooted.root_is ∙ sym c.in_ok-end_move.ensures.ended.root
+
+pub returns : goal.returns
+returns g c =
+    let t = c.args.thread.now in
+    let mid = c.end_move.new.thread.kept in
+    let new = c.drop_lost.new.thread.kept in
     let quiet = c.end_move.ensures.errors.no_fault (λ io. let z = sym c.in_ok-end_move.was ∙ io in absurd (cc)) in
-    let told = subst (λ r. IfErr r (TellsError c.end_move.new.thread.kept c.drop_lost.new.thread.kept)) c.in_err-drop_lost.was c.drop_lost.ensures.errors in
-    subst (λ r. IfErr r (TellsError c.args.thread.now.kept c.drop_lost.new.thread.kept)) (sym p.1)
-    (subst (λ x. TellsError c.args.thread.now.kept c.drop_lost.new.thread.kept x) (sym p.2)
-    (tells_then c.args.thread.now.kept c.end_move.new.thread.kept c.drop_lost.new.thread.kept _ quiet told))
-
-pub returns-in_err-drop_lost-clause-survives : goal.returns-in_err-drop_lost-clause-survives
-returns-in_err-drop_lost-clause-survives g c = end_survives c.args.thread.now.kept c.end_move.new.thread.kept c.drop_lost.new.thread.kept.history c.end_move.ensures.device c.in_ok-end_move.ensures.ended.taken.follows.shows
-    c.drop_lost.ensures.called.calls c.drop_lost.ensures.called.called c.end_move.ensures.survives c.drop_lost.ensures.survives
-
-pub returns-clause-done : goal.returns-clause-done
-returns-clause-done g c =
-    let quiet = c.end_move.ensures.errors.no_fault (λ io. let z = sym c.in_ok-end_move.was ∙ io in absurd (cc)) in
-    settled_whole c.args.thread.now.kept c.end_move.new.thread.kept c.drop_lost.new.thread.kept c.requires.left c.in_ok-end_move.ensures.ended c.in_ok-drop_lost.ensures.dropped
-    (recovered_whole c.args.thread.now c.args.root c.end_move.new.thread.kept c.drop_lost.new.thread.kept c.requires.rooted c.requires.left c.in_ok-end_move.ensures.ended c.end_move.ensures.device c.in_ok-drop_lost.ensures.dropped c.drop_lost.ensures.called
-    (c.in_ok-drop_lost.ensures.no_fault ∙ quiet))
-
-pub returns-clause-called : goal.returns-clause-called
-returns-clause-called g c = called_then _ _ _ (called_writing _ _ _ c.end_move.ensures.device) c.drop_lost.ensures.called
-
-pub returns-clause-survives : goal.returns-clause-survives
-returns-clause-survives g c = end_survives c.args.thread.now.kept c.end_move.new.thread.kept c.drop_lost.new.thread.kept.history c.end_move.ensures.device c.in_ok-end_move.ensures.ended.taken.follows.shows
-    c.drop_lost.ensures.called.calls c.drop_lost.ensures.called.called c.end_move.ensures.survives c.drop_lost.ensures.survives
+    let done = ok_both c.drop_lost.result _ _ _ (λ dropped same. settled_whole t.kept mid new c.requires.left c.in_ok-end_move.ensures.ended dropped
+    (recovered_whole t c.args.root mid new c.requires.rooted c.requires.left c.in_ok-end_move.ensures.ended c.end_move.ensures.device dropped c.drop_lost.ensures.called (same ∙ quiet))) c.drop_lost.ensures.dropped c.drop_lost.ensures.no_fault in
+    record {
+      done = done;
+      works = c.drop_lost.ensures.works;
+      stands = ok_both c.drop_lost.result _ _ _ (λ k dropped. settled_stands t.kept new k (dropped.root ∙ c.in_ok-end_move.ensures.ended.root)) done c.drop_lost.ensures.dropped;
+      called = called_then _ _ _ (called_writing _ _ _ c.end_move.ensures.device) c.drop_lost.ensures.called;
+      errors = errors_then t.kept mid new c.drop_lost.result quiet c.drop_lost.ensures.errors;
+      survives = end_survives t.kept mid new.history c.end_move.ensures.device c.in_ok-end_move.ensures.ended.taken.follows.shows c.drop_lost.ensures.called.calls c.drop_lost.ensures.called.called c.end_move.ensures.survives c.drop_lost.ensures.survives;
+    }

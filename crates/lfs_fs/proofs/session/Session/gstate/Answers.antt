@@ -11,13 +11,13 @@ use Rattle.lfs_fs.proofs.session.Session.gstate.Goals as goal
 
 pub returns-then-has_failed : goal.returns-then-has_failed
 returns-then-has_failed g c =
-    kept_asking c.self.inside.tree c.self.inside.files _ ops.AskGstate _ c.self.view_is c.self.invariant (λ s. refl) refl
+    kept_asking c.self.inside.tree c.self.inside.files _ ops.AskGstate _ c.self.view_is c.self.invariant.ready (λ s. refl) refl
     (refused_ends (held_of c.self.inside.tree c.self.inside.files) _ ops.AskGstate ops.Failed c.self.view_is (failed_by (held_of c.self.inside.tree c.self.inside.files) ops.AskGstate c.if-has_failed.ensures))
-    (refused_kept (held_of c.self.inside.tree c.self.inside.files) _ (ops.AskGstate) error.Failed c.self.view_is (sound_by c.self.inside.tree c.self.inside.files c.self.invariant) refl (failed_by (held_of c.self.inside.tree c.self.inside.files) (ops.AskGstate) c.if-has_failed.ensures))
+    (refused_kept (held_of c.self.inside.tree c.self.inside.files) _ (ops.AskGstate) error.Failed c.self.view_is (sound_by c.self.inside.tree c.self.inside.files c.self.invariant.ready) refl (failed_by (held_of c.self.inside.tree c.self.inside.files) (ops.AskGstate) c.if-has_failed.ensures))
 
 pub returns : goal.returns
 returns g c =
-    kept_asking c.self.inside.tree c.self.inside.files _ ops.AskGstate _ c.self.view_is c.self.invariant (λ s. refl) refl
+    kept_asking c.self.inside.tree c.self.inside.files _ ops.AskGstate _ c.self.view_is c.self.invariant.ready (λ s. refl) refl
     (kept_ends (held_of c.self.inside.tree c.self.inside.files) _ ops.AskGstate _ c.self.view_is (works_by (held_of c.self.inside.tree c.self.inside.files) ops.AskGstate None c.if-has_failed.ensures refl))
-    (question_kept (held_of c.self.inside.tree c.self.inside.files) _ ops.AskGstate _ c.self.view_is (sound_by c.self.inside.tree c.self.inside.files c.self.invariant) refl (works_by (held_of c.self.inside.tree c.self.inside.files) ops.AskGstate None c.if-has_failed.ensures refl)
+    (question_kept (held_of c.self.inside.tree c.self.inside.files) _ ops.AskGstate _ c.self.view_is (sound_by c.self.inside.tree c.self.inside.files c.self.invariant.ready) refl (works_by (held_of c.self.inside.tree c.self.inside.files) ops.AskGstate None c.if-has_failed.ensures refl)
     (c.gstate_of.ensures ∙ ap reply_of_gstate c.gstate.ensures))

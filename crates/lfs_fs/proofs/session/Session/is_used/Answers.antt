@@ -10,20 +10,20 @@ use Rattle.lfs_fs.proofs.session.Session.is_used.Goals as goal
 
 pub returns-then-has_failed : goal.returns-then-has_failed
 returns-then-has_failed g c =
-    kept_asking c.self.inside.tree c.self.inside.files _ (ops.IsUsed c.args.block) _ c.self.view_is c.self.invariant (λ s. refl) refl
+    kept_asking c.self.inside.tree c.self.inside.files _ (ops.IsUsed c.args.block) _ c.self.view_is c.self.invariant.ready (λ s. refl) refl
     (refused_ends (held_of c.self.inside.tree c.self.inside.files) _ (ops.IsUsed c.args.block) ops.Failed c.self.view_is (failed_by (held_of c.self.inside.tree c.self.inside.files) (ops.IsUsed c.args.block) c.if-has_failed.ensures))
-    (refused_kept (held_of c.self.inside.tree c.self.inside.files) _ (ops.IsUsed c.args.block) error.Failed c.self.view_is (sound_by c.self.inside.tree c.self.inside.files c.self.invariant) refl (failed_by (held_of c.self.inside.tree c.self.inside.files) (ops.IsUsed c.args.block) c.if-has_failed.ensures))
+    (refused_kept (held_of c.self.inside.tree c.self.inside.files) _ (ops.IsUsed c.args.block) error.Failed c.self.view_is (sound_by c.self.inside.tree c.self.inside.files c.self.invariant.ready) refl (failed_by (held_of c.self.inside.tree c.self.inside.files) (ops.IsUsed c.args.block) c.if-has_failed.ensures))
 
 pub returns-then-block-geometry : goal.returns-then-block-geometry
 returns-then-block-geometry g c =
-    kept_asking c.self.inside.tree c.self.inside.files _ (ops.IsUsed c.args.block) _ c.self.view_is c.self.invariant (λ s. refl) refl
+    kept_asking c.self.inside.tree c.self.inside.files _ (ops.IsUsed c.args.block) _ c.self.view_is c.self.invariant.ready (λ s. refl) refl
     (refused_ends (held_of c.self.inside.tree c.self.inside.files) _ (ops.IsUsed c.args.block) ops.Invalid c.self.view_is (works_by (held_of c.self.inside.tree c.self.inside.files) (ops.IsUsed c.args.block) _ c.if-has_failed.ensures (block_outside _ c.args.block _ c.geometry.ensures.block_count c.if-block-geometry.true)))
-    (refused_kept (held_of c.self.inside.tree c.self.inside.files) _ (ops.IsUsed c.args.block) error.Invalid c.self.view_is (sound_by c.self.inside.tree c.self.inside.files c.self.invariant) refl
+    (refused_kept (held_of c.self.inside.tree c.self.inside.files) _ (ops.IsUsed c.args.block) error.Invalid c.self.view_is (sound_by c.self.inside.tree c.self.inside.files c.self.invariant.ready) refl
     (works_by (held_of c.self.inside.tree c.self.inside.files) (ops.IsUsed c.args.block) _ c.if-has_failed.ensures (block_outside _ c.args.block _ c.geometry.ensures.block_count c.if-block-geometry.true)))
 
 pub returns : goal.returns
 returns g c =
-    kept_asking c.self.inside.tree c.self.inside.files _ (ops.IsUsed c.args.block) _ c.self.view_is c.self.invariant (λ s. refl) refl
+    kept_asking c.self.inside.tree c.self.inside.files _ (ops.IsUsed c.args.block) _ c.self.view_is c.self.invariant.ready (λ s. refl) refl
     (kept_ends (held_of c.self.inside.tree c.self.inside.files) _ (ops.IsUsed c.args.block) _ c.self.view_is (works_by (held_of c.self.inside.tree c.self.inside.files) (ops.IsUsed c.args.block) None c.if-has_failed.ensures (block_inside _ c.args.block _ c.geometry.ensures.block_count c.if-block-geometry.false)))
-    (question_kept (held_of c.self.inside.tree c.self.inside.files) _ (ops.IsUsed c.args.block) _ c.self.view_is (sound_by c.self.inside.tree c.self.inside.files c.self.invariant) refl (works_by (held_of c.self.inside.tree c.self.inside.files) (ops.IsUsed c.args.block) None c.if-has_failed.ensures (block_inside _ c.args.block _ c.geometry.ensures.block_count c.if-block-geometry.false))
+    (question_kept (held_of c.self.inside.tree c.self.inside.files) _ (ops.IsUsed c.args.block) _ c.self.view_is (sound_by c.self.inside.tree c.self.inside.files c.self.invariant.ready) refl (works_by (held_of c.self.inside.tree c.self.inside.files) (ops.IsUsed c.args.block) None c.if-has_failed.ensures (block_inside _ c.args.block _ c.geometry.ensures.block_count c.if-block-geometry.false))
     (ap ops.Yes c.is_used.ensures))

@@ -11,10 +11,13 @@ use Rattle.lfs_fs.proofs.session.Session.remount.Goals as goal
 
 pub returns : goal.returns
 returns g c =
-    asking_call c.self.inside.tree c.self.inside.files _ ops.Remount _ _ c.self.view_is c.self.invariant (λ s. refl) (λ k. absurd (cc)) (asks_not _ _ _ _ refl)
-    (remount_ends (held_of c.self.inside.tree c.self.inside.files) _ c.remount.new.self _ c.remount.result c.self.view_is c.remount.ensures.mounted (remount_refuses_not c.self.inside.tree c.remount.new.self c.remount.result c.remount.ensures.errors))
-    (remount_answers (held_of c.self.inside.tree c.self.inside.files) _ c.remount.new.self c.clear.new.self c.remount.result c.self.view_is c.clear.ensures c.remount.ensures.mounted c.remount.ensures.broken c.remount.ensures.errors)
-    (only_read (held_of c.self.inside.tree c.self.inside.files) _ ops.Remount c.remount.new.self c.self.view_is (sound_by c.self.inside.tree c.self.inside.files c.self.invariant) (reads_of_mount c.self.inside.tree c.remount.new.self c.remount.result c.remount.ensures.mounted c.remount.ensures.broken))
+    asking_call c.self.inside.tree c.self.inside.files _ ops.Remount _ _ c.self.view_is c.self.invariant.ready (λ s. refl) (λ k. absurd (cc)) (asks_not _ _ _ _ refl)
+    (remount_ends (held_of c.self.inside.tree c.self.inside.files) _ c.remount-answer.new.self _ c.remount-answer.result c.self.view_is c.remount-answer.ensures.mounted (remount_refuses_not c.self.inside.tree c.remount-answer.new.self c.remount-answer.result c.remount-answer.ensures.errors))
+    (remount_answers (held_of c.self.inside.tree c.self.inside.files) _ c.remount-answer.new.self c.clear.new.self c.remount-answer.result c.self.view_is c.clear.ensures c.remount-answer.ensures.mounted c.remount-answer.ensures.broken c.remount-answer.ensures.errors)
+    (only_read (held_of c.self.inside.tree c.self.inside.files) _ ops.Remount c.remount-answer.new.self c.self.view_is (sound_by c.self.inside.tree c.self.inside.files c.self.invariant.ready) (reads_of_mount c.self.inside.tree c.remount-answer.new.self c.remount-answer.result c.remount-answer.ensures.mounted c.remount-answer.ensures.broken))
 
 pub invariant_of-self : goal.invariant_of-self
-invariant_of-self g c = remount_ready c.self.inside.tree c.remount.new.self c.clear.new.self c.remount.result c.clear.ensures c.remount.ensures.mounted c.remount.ensures.broken
+invariant_of-self g c = record {
+  ready = remount_ready c.self.inside.tree c.remount-answer.new.self c.clear.new.self c.remount-answer.result c.clear.ensures c.remount-answer.ensures.mounted c.remount-answer.ensures.broken;
+  told = λ works. c.device_tells.ensures;
+}

@@ -1,7 +1,41 @@
-use Rattle.std.proofs.Common.{refl}
+use Rattle.std.proofs.Common.{refl, sym, ap, ap₂}
 use Rattle.lfs_model.specs.Operations as ops
-use Rattle.lfs_fs.proofs.Sparing.{changing_call}
+use Rattle.lfs_checks.specs.Held.{held_of}
+use Rattle.lfs_checks.proofs.Errors.{given_on}
+use Rattle.lfs_fs.proofs.RemoveAnswered.{removed_left}
+use Rattle.lfs_checks.proofs.RemoveChecks.{remove_can}
+use Rattle.lfs_model.specs.TreeEdits.{removed}
+use Rattle.lfs_tree.specs.Seen.{tree_seen}
+use Rattle.lfs_checks.proofs.Checked.{passed_writable}
+use Rattle.lfs_fs.proofs.Called.{done_call, ended_as_call}
+use Rattle.lfs_fs.proofs.Told.{between_checked}
 use Rattle.lfs_fs.proofs.session.Session.remove.Goals as goal
 
+pub remove-answer-requires : goal.remove-answer-requires
+remove-answer-requires g c = remove_can (held_of c.self.inside.tree c.self.inside.files) c.args.path.now _ _ c.in_ok-path.ensures
+
+pub invariant_of-self : goal.invariant_of-self
+invariant_of-self g c = between_checked c.self.inside.tree c.self.inside.files (ops.Remove c.args.path.now) _ c.check_remove.result c.check_remove.new.tree c.self.invariant c.check_remove.ensures
+
+pub invariant_of-self-2 : goal.invariant_of-self-2
+invariant_of-self-2 g c =
+    let h = c.in_ok-path.ensures in
+    record {
+      ready = λ works. (removed_left _ c.self.inside.tree c.check_remove.new.tree c.remove-answer.new.self c.self.inside.files c.args.path.now c.remove-answer.result c.open_files_stay.ensures.stay c.self.invariant.ready h.0 h.1 c.remove-answer.ensures.done (λ f. f (ops.Remove c.args.path.now) (c.args.path.now, (refl, sym h.2))) c.remove-answer.ensures.broken works).ready;
+      told = λ works. c.device_tells.ensures;
+    }
+
+-- a check ends it
+pub returns-in_err-path : goal.returns-in_err-path
+returns-in_err-path g c =
+    ended_as_call c.self.inside.tree c.self.inside.files _ (ops.Remove c.args.path.now) (λ u. ops.Done) _ c.check_remove.new.tree c.from_residual.result c.self.view_is c.self.invariant.ready refl refl refl refl c.in_err-path.ensures (given_on _ c.from_residual.result c.from_residual.ensures.1)
+
+-- the tree's call ends it
 pub returns : goal.returns
-returns g c = changing_call _ (ops.Remove c.args.path.now) (λ u. ops.Done) c.do_remove-answer.result _ c.tells.ensures c.tells-2.ensures refl refl c.do_remove-answer.ensures.alone c.do_remove-answer.ensures.ends c.do_remove-answer.ensures.answers c.do_remove-answer.ensures.survives
+returns g c =
+    let h = c.in_ok-path.ensures in
+    done_call _ _ c.self.inside.tree c.check_remove.new.tree c.remove-answer.new.self c.self.inside.files _ (ops.Remove c.args.path.now) c.remove-answer.result _ c.self.view_is c.self.invariant h.0 h.1 refl refl refl refl refl refl refl refl refl refl refl
+    (passed_writable (held_of c.self.inside.tree c.self.inside.files) (ops.Remove c.args.path.now) _ refl h.1)
+    (removed_left _ c.self.inside.tree c.check_remove.new.tree c.remove-answer.new.self c.self.inside.files c.args.path.now c.remove-answer.result c.open_files_stay.ensures.stay c.self.invariant.ready h.0 h.1 c.remove-answer.ensures.done (λ f. f (ops.Remove c.args.path.now) (c.args.path.now, (refl, sym h.2))) c.remove-answer.ensures.broken) c.device_tells.ensures
+    c.remove-answer.ensures.done (λ f. f (ops.Remove c.args.path.now) (c.args.path.now, (refl, sym h.2))) c.remove-answer.ensures.alone (λ f. f (ops.Remove c.args.path.now) (c.args.path.now, (refl, sym h.2))) c.remove-answer.ensures.broken c.remove-answer.ensures.errors c.remove-answer.ensures.survives
+    (ap₂ (λ p t. removed p t) h.2 (ap tree_seen h.0.same))

@@ -1,7 +1,42 @@
-use Rattle.std.proofs.Common.{refl}
+use Rattle.std.proofs.Common.{refl, sym, ap, ap₂}
 use Rattle.lfs_model.specs.Operations as ops
-use Rattle.lfs_fs.proofs.Sparing.{changing_call}
+use Rattle.lfs_checks.specs.Held.{held_of}
+use Rattle.lfs_checks.proofs.EntryChecks.{remove_attr_can}
+use Rattle.lfs_checks.proofs.Errors.{given_on}
+use Rattle.lfs_fs.proofs.Staying.{remove_attr_left}
+use Rattle.lfs_model.specs.Content.{without_attribute}
+use Rattle.lfs_tree.specs.Seen.{tree_seen}
+use Rattle.lfs_tree.specs.CarryingSlots.{with_attributes_changed}
+use Rattle.lfs_checks.proofs.Checked.{passed_writable}
+use Rattle.lfs_fs.proofs.Called.{done_call, ended_as_call}
+use Rattle.lfs_fs.proofs.Told.{between_checked}
 use Rattle.lfs_fs.proofs.session.Session.remove_attr.Goals as goal
 
+pub remove_attr-answer-requires : goal.remove_attr-answer-requires
+remove_attr-answer-requires g c = remove_attr_can (held_of c.self.inside.tree c.self.inside.files) c.args.path.now c.args.kind _ _ c.in_ok-path.ensures
+
+pub invariant_of-self : goal.invariant_of-self
+invariant_of-self g c = between_checked c.self.inside.tree c.self.inside.files (ops.RemoveAttr c.args.path.now c.args.kind) _ c.check_remove_attr.result c.check_remove_attr.new.tree c.self.invariant c.check_remove_attr.ensures
+
+pub invariant_of-self-2 : goal.invariant_of-self-2
+invariant_of-self-2 g c =
+    let h = c.in_ok-path.ensures in
+    record {
+      ready = λ works. (remove_attr_left _ c.self.inside.tree c.check_remove_attr.new.tree c.remove_attr-answer.new.self c.self.inside.files c.args.path.now c.args.kind c.remove_attr-answer.result c.open_files_stay.ensures.stay c.self.invariant.ready h.0 h.1 c.remove_attr-answer.ensures.done (λ f. f (ops.RemoveAttr c.args.path.now c.args.kind) (c.args.path.now, (refl, sym h.2))) c.remove_attr-answer.ensures.broken works).ready;
+      told = λ works. c.device_tells.ensures;
+    }
+
+-- a check ends it
+pub returns-in_err-path : goal.returns-in_err-path
+returns-in_err-path g c =
+    ended_as_call c.self.inside.tree c.self.inside.files _ (ops.RemoveAttr c.args.path.now c.args.kind) (λ u. ops.Done) _ c.check_remove_attr.new.tree c.from_residual.result c.self.view_is c.self.invariant.ready refl refl refl refl c.in_err-path.ensures (given_on _ c.from_residual.result c.from_residual.ensures.1)
+
+-- the tree's call ends it
 pub returns : goal.returns
-returns g c = changing_call _ (ops.RemoveAttr c.args.path.now c.args.kind) (λ u. ops.Done) c.do_remove_attr-answer.result _ c.tells.ensures c.tells-2.ensures refl refl c.do_remove_attr-answer.ensures.alone c.do_remove_attr-answer.ensures.ends c.do_remove_attr-answer.ensures.answers c.do_remove_attr-answer.ensures.survives
+returns g c =
+    let h = c.in_ok-path.ensures in
+    done_call _ _ c.self.inside.tree c.check_remove_attr.new.tree c.remove_attr-answer.new.self c.self.inside.files _ (ops.RemoveAttr c.args.path.now c.args.kind) c.remove_attr-answer.result _ c.self.view_is c.self.invariant h.0 h.1 refl refl refl refl refl refl refl refl refl refl refl
+    (passed_writable (held_of c.self.inside.tree c.self.inside.files) (ops.RemoveAttr c.args.path.now c.args.kind) _ refl h.1)
+    (remove_attr_left _ c.self.inside.tree c.check_remove_attr.new.tree c.remove_attr-answer.new.self c.self.inside.files c.args.path.now c.args.kind c.remove_attr-answer.result c.open_files_stay.ensures.stay c.self.invariant.ready h.0 h.1 c.remove_attr-answer.ensures.done (λ f. f (ops.RemoveAttr c.args.path.now c.args.kind) (c.args.path.now, (refl, sym h.2))) c.remove_attr-answer.ensures.broken) c.device_tells.ensures
+    c.remove_attr-answer.ensures.done (λ f. f (ops.RemoveAttr c.args.path.now c.args.kind) (c.args.path.now, (refl, sym h.2))) c.remove_attr-answer.ensures.alone (λ f. f (ops.RemoveAttr c.args.path.now c.args.kind) (c.args.path.now, (refl, sym h.2))) c.remove_attr-answer.ensures.broken c.remove_attr-answer.ensures.errors c.remove_attr-answer.ensures.survives
+    (ap₂ (λ p t. with_attributes_changed p (without_attribute c.args.kind) t) h.2 (ap tree_seen h.0.same))

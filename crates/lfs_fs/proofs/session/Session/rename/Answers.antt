@@ -1,7 +1,64 @@
-use Rattle.std.proofs.Common.{refl}
+use Rattle.std.proofs.Common.{◌∙◌, ap₂, refl, sym, ap}
+use Rattle.lfs_model.specs.TreeEdits.{same_path, renamed}
 use Rattle.lfs_model.specs.Operations as ops
-use Rattle.lfs_fs.proofs.Sparing.{changing_call}
+use Rattle.lfs_checks.specs.Held.{held_of}
+use Rattle.lfs_checks.proofs.Errors.{given_on}
+use Rattle.lfs_fs.proofs.RenameAnswered.{renamed_left, same_answers}
+use Rattle.lfs_checks.proofs.RenameChecks.{rename_can}
+use Rattle.lfs_model.specs.Refusals.{as_path}
+use Rattle.lfs_tree.specs.Seen.{Seen, tree_seen}
+use Rattle.lfs_checks.proofs.Checked.{passed_writable}
+use Rattle.lfs_checks.proofs.Answered.{sound_by}
+use Rattle.lfs_fs.proofs.Called.{done_call, ended_as_call, still_call}
+use Rattle.lfs_fs.proofs.Ending.{answer_ends}
+use Rattle.lfs_fs.proofs.Stopping.{only_read}
+use Rattle.lfs_fs.proofs.Told.{between_checked}
 use Rattle.lfs_fs.proofs.session.Session.rename.Goals as goal
 
+pub rename-answer-requires-clause-can : goal.rename-answer-requires-clause-can
+rename-answer-requires-clause-can g c =
+    let h = c.in_ok-renaming.ensures in
+    rename_can (held_of c.self.inside.tree c.self.inside.files) c.args.from.now c.args.to.now _ _ c.check_rename.new.tree (λ works. c.open_files_stay.ensures.few c.self.inside.tree c.self.inside.files (c.self.invariant.ready works)) h.0 h.1 h.2.from h.2.to
+
+pub rename-answer-requires-clause-apart : goal.rename-answer-requires-clause-apart
+rename-answer-requires-clause-apart g c =
+    let h = c.in_ok-renaming.ensures in
+    ap₂ same_path h.2.from h.2.to ∙ sym h.2.same ∙ c.if-renaming.false
+
+pub invariant_of-self : goal.invariant_of-self
+invariant_of-self g c = between_checked c.self.inside.tree c.self.inside.files (ops.Rename c.args.from.now c.args.to.now) _ c.check_rename.result c.check_rename.new.tree c.self.invariant c.check_rename.ensures
+
+pub invariant_of-self-2 : goal.invariant_of-self-2
+invariant_of-self-2 g c =
+    let h = c.in_ok-renaming.ensures in
+    record {
+      ready = λ works. (renamed_left _ c.self.inside.tree c.check_rename.new.tree c.rename-answer.new.self c.self.inside.files c.args.from.now c.args.to.now c.rename-answer.result c.open_files_stay.ensures.stay c.self.invariant.ready h.0 h.1 (sym h.2.same ∙ c.if-renaming.false) c.rename-answer.ensures.done (λ f. f (ops.Rename c.args.from.now c.args.to.now) (c.args.from.now, (c.args.to.now, (refl, (sym h.2.from, sym h.2.to))))) c.rename-answer.ensures.broken works).ready;
+      told = λ works. c.device_tells.ensures;
+    }
+
+-- a check ends it
+pub returns-in_err-renaming : goal.returns-in_err-renaming
+returns-in_err-renaming g c =
+    ended_as_call c.self.inside.tree c.self.inside.files _ (ops.Rename c.args.from.now c.args.to.now) (λ u. ops.Done) _ c.check_rename.new.tree c.from_residual.result c.self.view_is c.self.invariant.ready refl refl refl refl c.in_err-renaming.ensures (given_on _ c.from_residual.result c.from_residual.ensures.1)
+
+pub invariant_of-self-then-renaming : goal.invariant_of-self-then-renaming
+invariant_of-self-then-renaming g c = between_checked c.self.inside.tree c.self.inside.files (ops.Rename c.args.from.now c.args.to.now) _ c.check_rename.result c.check_rename.new.tree c.self.invariant c.check_rename.ensures
+
+-- it is a path to itself
+pub returns-then-renaming : goal.returns-then-renaming
+returns-then-renaming g c =
+    let h = c.in_ok-renaming.ensures in
+    still_call c.self.inside.tree c.self.inside.files _ (ops.Rename c.args.from.now c.args.to.now) _ _ c.self.view_is c.self.invariant.ready refl refl (ap (λ (t : Seen). t.disk) h.0.same)
+    (answer_ends (held_of c.self.inside.tree c.self.inside.files) _ (ops.Rename c.args.from.now c.args.to.now) ops.Done _ c.self.view_is h.1 h.0.no_fault)
+    (same_answers c.self.inside.tree c.check_rename.new.tree c.self.inside.files _ c.args.from.now c.args.to.now c.self.view_is c.self.invariant.ready h.0 h.1 (sym h.2.same ∙ c.if-renaming.true))
+    (only_read (held_of c.self.inside.tree c.self.inside.files) _ (ops.Rename c.args.from.now c.args.to.now) c.check_rename.new.tree c.self.view_is (sound_by c.self.inside.tree c.self.inside.files c.self.invariant.ready) h.0.reads)
+
+-- the tree's call ends it
 pub returns : goal.returns
-returns g c = changing_call _ (ops.Rename c.args.from.now c.args.to.now) (λ u. ops.Done) c.do_rename-answer.result _ c.tells.ensures c.tells-2.ensures refl refl c.do_rename-answer.ensures.alone c.do_rename-answer.ensures.ends c.do_rename-answer.ensures.answers c.do_rename-answer.ensures.survives
+returns g c =
+    let h = c.in_ok-renaming.ensures in
+    done_call _ _ c.self.inside.tree c.check_rename.new.tree c.rename-answer.new.self c.self.inside.files _ (ops.Rename c.args.from.now c.args.to.now) c.rename-answer.result _ c.self.view_is c.self.invariant h.0 h.1 refl refl refl refl refl refl refl refl refl refl (sym h.2.same ∙ c.if-renaming.false)
+    (passed_writable (held_of c.self.inside.tree c.self.inside.files) (ops.Rename c.args.from.now c.args.to.now) _ refl h.1)
+    (renamed_left _ c.self.inside.tree c.check_rename.new.tree c.rename-answer.new.self c.self.inside.files c.args.from.now c.args.to.now c.rename-answer.result c.open_files_stay.ensures.stay c.self.invariant.ready h.0 h.1 (sym h.2.same ∙ c.if-renaming.false) c.rename-answer.ensures.done (λ f. f (ops.Rename c.args.from.now c.args.to.now) (c.args.from.now, (c.args.to.now, (refl, (sym h.2.from, sym h.2.to))))) c.rename-answer.ensures.broken) c.device_tells.ensures
+    c.rename-answer.ensures.done (λ f. f (ops.Rename c.args.from.now c.args.to.now) (c.args.from.now, (c.args.to.now, (refl, (sym h.2.from, sym h.2.to))))) c.rename-answer.ensures.alone (λ f. f (ops.Rename c.args.from.now c.args.to.now) (c.args.from.now, (c.args.to.now, (refl, (sym h.2.from, sym h.2.to))))) c.rename-answer.ensures.broken c.rename-answer.ensures.errors c.rename-answer.ensures.survives
+    (ap₂ (λ p q. renamed p q (tree_seen c.check_rename.new.tree)) h.2.from h.2.to ∙ ap (λ t. renamed (as_path c.args.from.now) (as_path c.args.to.now) (tree_seen t)) h.0.same)

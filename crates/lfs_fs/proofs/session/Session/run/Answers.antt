@@ -1,15 +1,12 @@
-use Rattle.std.proofs.Common.{rules, arith, ap, get_or, map, subst, sym, take}
+use Rattle.std.proofs.Common.{rules, arith, ap, subst, sym}
 use Rattle.std.proofs.lemmas.List.Elements.{All-from_recursion}
 use Rattle.std.specs.List.{AllByRecursion}
 use Rattle.lfs_model.proofs.AfterStops.{withstood_turns}
 use Rattle.lfs_model.proofs.Turns.{fresh_turns, turns_joined}
-use Rattle.lfs_model.proofs.Withstanding.{agrees_later}
 use Rattle.lfs_checks.specs.Held.{Held, moment_of}
-use Rattle.lfs_fs.specs.OpSeen.{IsNamed, op_seen, reply_seen}
+use Rattle.lfs_fs.specs.OpSeen.{IsNamed}
 use Rattle.lfs_checks.proofs.Failing.{memory_fails_now}
 use Rattle.lfs_fs.proofs.Running.{first_op, named_further, none_run, run_further, run_ended, run_cut, silent_few}
-use Rattle.lfs_fs.proofs.Stopping.{failing_survives}
-use Rattle.lfs_fs.proofs.Withstanding.{untouched_withstands}
 use Rattle.lfs_fs.proofs.session.Session.run.Goals as goal
 
 pub loop-op-init : goal.loop-op-init
@@ -27,9 +24,7 @@ returns-in-Err-clause-ended g c = run_cut _ c.args.ops.now c.loop-op.op-index _ 
 pub returns-then-is_err-clause-ended : goal.returns-then-is_err-clause-ended
 returns-then-is_err-clause-ended g c =
     run_cut _ c.args.ops.now c.loop-op.op-index (first_op c.args.ops.now c.loop-op.op-index c.loop-op-test.true) c.loop-op.replies.items _ _ _ c.loop-op-test.true c.loop-op.invariant.0
-    (silent_few (moment_of c.loop-op.self) _ (moment_of c.fail.new.self) (ap (λ (h : Held). h.tree.history) c.fail.ensures)) (memory_fails_now c.loop-op.self c.fail.new.self _ c.fail.ensures)
-    (untouched_withstands (moment_of c.loop-op.self) _ (moment_of c.fail.new.self) (agrees_later (map op_seen (take c.loop-op.op-index c.args.ops.now)) (map reply_seen c.loop-op.replies.items) (moment_of c.args.self.now) (moment_of c.loop-op.self) c.tells.ensures.agrees c.loop-op.invariant.0.withstood) (ap (λ (h : Held). h.tree.disk) c.fail.ensures)
-    (failing_survives c.loop-op.self c.fail.new.self (op_seen (get_or c.args.ops.now c.loop-op.op-index (first_op c.args.ops.now c.loop-op.op-index c.loop-op-test.true))) c.fail.ensures))
+    (silent_few (moment_of c.loop-op.self) _ (moment_of c.fail.new.self) (ap (λ (h : Held). h.tree.history) c.fail.ensures.failed)) (memory_fails_now c.loop-op.self c.fail.new.self _ c.fail.ensures.failed) (c.fail.ensures.withstands _)
 
 pub returns-clause-withstood : goal.returns-clause-withstood
 returns-clause-withstood g c = (run_ended c.args.ops.now c.loop-op.op-index c.loop-op.replies.items _ _ (omega arith) c.loop-op.invariant.0).withstood

@@ -1,10 +1,10 @@
-use Rattle.std.proofs.Common.{◌∙◌, sym}
-use Rattle.lfs_tree.proofs.Asking.{rooted, rooted_mounted, works_mounted}
+use Rattle.lfs_tree.proofs.Asking.{asking, held, rooted_held}
 use Rattle.lfs_tree.proofs.tree.Tree.contents.Goals as goal
 
 pub invariant_of-self : goal.invariant_of-self
-invariant_of-self g c = λ e.
-    let works = works_mounted (g.D.BlockDevice) c.self.inside.image c.in-Mounted.thread c.self.inside.root c.self.inside.is_writable c.self.inside.has_failed c.args.self.now c.in-Mounted.is c.self.invariant c.self.view_is c.requires.works in
-    let held = rooted_mounted (g.D.BlockDevice) c.self.inside.image c.in-Mounted.thread c.self.inside.root c.self.inside.is_writable c.self.inside.has_failed c.args.self.now c.in-Mounted.is c.self.invariant c.self.view_is in
-    rooted c.in-Mounted.thread c.open_at-contents.new.thread c.self.inside.root c.self.inside.is_writable c.self.inside.has_failed works held c.open_at-contents.result c.open_at-contents.ensures.reading
-    (sym c.is_err-self-inside.ensures.value ∙ e)
+invariant_of-self g c =
+    held c.self.inside.thread c.open_at-contents.new.thread c.self.inside.root c.self.inside.is_writable (rooted_held c.self.inside.thread c.self.inside.root c.self.inside.is_writable c.args.self.now c.self.invariant c.self.view_is c.requires.works) c.open_at-contents.result c.note_error.new.thread c.note_error.ensures c.open_at-contents.ensures.reading
+
+pub returns-clause-asks : goal.returns-clause-asks
+returns-clause-asks g c =
+    asking c.self.inside.thread c.open_at-contents.new.thread c.self.inside.root c.self.inside.is_writable (rooted_held c.self.inside.thread c.self.inside.root c.self.inside.is_writable c.args.self.now c.self.invariant c.self.view_is c.requires.works) c.args.self.now c.open_at-contents.result c.note_error.new.thread c.self.view_is c.note_error.ensures c.open_at-contents.ensures.reading

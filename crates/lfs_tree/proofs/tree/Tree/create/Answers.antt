@@ -1,31 +1,45 @@
-use Rattle.std.proofs.Common.{[], subst}
-use Rattle.lfs_model.specs.TreeEdits.{added}
+use Rattle.std.proofs.Common.{◌∙◌, ap, arith, refl, subst}
+use Rattle.std.proofs.lemmas.Result.{err_from_is_err_and}
+use Rattle.lfs_model.specs.History.{reads}
 use Rattle.lfs_model.specs.Operations as ops
-use Rattle.lfs_model.specs.Tree.{FileNode}
-use Rattle.lfs_tree.specs.Allowed.{CanCreate}
+use Rattle.lfs_thread.specs.Kept.{State}
+use Rattle.lfs_tree.specs.Allowed.{CanAddImage}
+use Rattle.lfs_tree.specs.Calls as call
 use Rattle.lfs_tree.specs.Reads.{ReadsToCreate}
-use Rattle.lfs_tree.specs.Seen.{Seen}
-use Rattle.lfs_tree.proofs.Asking.{carried_working, seen_mounted, seen_working, survives_working, spares_working}
+use Rattle.lfs_tree.specs.Seen.{Seen, kept_of}
+use Rattle.lfs_tree.proofs.Operated.{plain_create}
+use Rattle.lfs_tree.proofs.RecoveredFirst.{add_after}
+use Rattle.lfs_tree.proofs.TreeCalls.{allowed, held_noted, operates_noted, recovery_failed, rests_behind, settled_here}
 use Rattle.lfs_tree.proofs.tree.Tree.create.Goals as goal
 
-pub create_file-requires-clause-can : goal.create_file-requires-clause-can
-create_file-requires-clause-can g c =
-    subst (λ s. CanCreate s c.args.path.now) (seen_working (g.D.BlockDevice) c.self.inside.image c.in-Mounted.thread c.self.inside.root c.self.inside.is_writable c.self.inside.has_failed c.args.self.now c.in-Mounted.is c.self.invariant c.self.view_is c.requires.works c.requires.writable) c.requires
+pub returns-in_err-recover-clause-does : goal.returns-in_err-recover-clause-does
+returns-in_err-recover-clause-does g c =
+    let p = err_from_is_err_and c.from_residual.result c.from_residual.ensures.1 in
+    recovery_failed c.args.self.now c.recover.new.self (call.Create c.args.path.now) c.recover.result c.from_residual.result _ p.0 c.in_err-recover.was p.1 p.2 c.recover.ensures.does
 
-pub returns-in-Ok-clause-done : goal.returns-in-Ok-clause-done
-returns-in-Ok-clause-done g c = λ bytes flags e w. carried_working (g.D.BlockDevice) c.self.inside.image c.in-Mounted.thread c.self.inside.root c.self.inside.is_writable c.self.inside.has_failed c.args.self.now c.in-Mounted.is c.self.invariant c.self.view_is c.requires.works c.requires.writable c.create_file.new.thread.kept (ops.Open bytes flags) (c.in-Ok.ensures.done bytes flags e)
+pub returns-in_err-recover-clause-few : goal.returns-in_err-recover-clause-few
+returns-in_err-recover-clause-few g c none = let same = ap (λ (s : Seen). reads s.history) (c.recover.ensures.idle none) in omega (arith, same)
 
-pub returns-in-Ok-clause-alone : goal.returns-in-Ok-clause-alone
-returns-in-Ok-clause-alone g c = λ bytes flags e w. spares_working (g.D.BlockDevice) c.self.inside.image c.in-Mounted.thread c.self.inside.root c.self.inside.is_writable c.self.inside.has_failed c.args.self.now c.in-Mounted.is c.self.invariant c.self.view_is c.requires.works c.requires.writable c.create_file.new.thread.kept (ops.Open bytes flags) (c.in-Ok.ensures.alone bytes flags e)
+pub create_at-created-requires-clause-rests : goal.create_at-created-requires-clause-rests
+create_at-created-requires-clause-rests g c = rests_behind c.args.self.now c.recover.new.self c.requires.works c.requires.writable (c.in_ok-recover.ensures.does.done ops.Recover refl) c.in_ok-recover.ensures.settled c.self.inside.thread c.self.inside.root c.self.inside.is_writable c.self.invariant c.self.view_is
 
-pub returns-in-Ok-clause-survives : goal.returns-in-Ok-clause-survives
-returns-in-Ok-clause-survives g c = survives_working (g.D.BlockDevice) c.self.inside.image c.in-Mounted.thread c.self.inside.root c.self.inside.is_writable c.self.inside.has_failed c.args.self.now c.in-Mounted.is c.self.invariant c.self.view_is c.requires.works c.requires.writable c.create_file.new.thread.kept.history (λ t. added c.args.path.now (FileNode [] []) t) c.create_file.ensures.survives
+pub create_at-created-requires-clause-can : goal.create_at-created-requires-clause-can
+create_at-created-requires-clause-can g c =
+    add_after (kept_of c.args.self.now) c.self.inside.thread.kept (settled_here c.args.self.now c.recover.new.self c.requires.works c.requires.writable (c.in_ok-recover.ensures.does.done ops.Recover refl) c.in_ok-recover.ensures.settled c.self.inside.thread c.self.inside.root c.self.inside.is_writable c.self.invariant c.self.view_is) c.args.path.now 2
+    (allowed c.args.self.now c.recover.new.self c.requires.works c.requires.writable (c.in_ok-recover.ensures.does.done ops.Recover refl) c.in_ok-recover.ensures.settled c.self.inside.thread c.self.inside.root c.self.inside.is_writable c.self.invariant c.self.view_is (λ s. CanAddImage s c.args.path.now 2) c.requires)
 
-pub returns-in-Err-clause-survives : goal.returns-in-Err-clause-survives
-returns-in-Err-clause-survives g c = survives_working (g.D.BlockDevice) c.self.inside.image c.in-Mounted.thread c.self.inside.root c.self.inside.is_writable c.self.inside.has_failed c.args.self.now c.in-Mounted.is c.self.invariant c.self.view_is c.requires.works c.requires.writable c.create_file.new.thread.kept.history (λ t. added c.args.path.now (FileNode [] []) t) c.create_file.ensures.survives
+pub invariant_of-self : goal.invariant_of-self
+invariant_of-self g c =
+    held_noted c.args.self.now c.recover.new.self c.requires.works c.requires.writable (c.in_ok-recover.ensures.does.done ops.Recover refl) c.in_ok-recover.ensures.settled c.self.inside.thread c.self.inside.root c.self.inside.is_writable c.self.invariant c.self.view_is (call.Create c.args.path.now) (plain_create c.args.path.now) c.recover.ensures.does.survives
+    c.create_at-created.new.thread c.note_error.new.thread c.create_at-created.result c.create_at-created.ensures.does c.note_error.ensures
 
-pub returns-in-Ok-clause-few : goal.returns-in-Ok-clause-few
-returns-in-Ok-clause-few g c = subst (λ (s : Seen). ReadsToCreate c.args.path.now s c.create_file.new.thread.kept.history) (seen_mounted (g.D.BlockDevice) c.self.inside.image c.in-Mounted.thread c.self.inside.root c.self.inside.is_writable c.self.inside.has_failed c.args.self.now c.in-Mounted.is c.self.invariant c.self.view_is) c.create_file.ensures.called.few
+pub returns-clause-does : goal.returns-clause-does
+returns-clause-does g c =
+    operates_noted c.args.self.now c.recover.new.self c.requires.works c.requires.writable (c.in_ok-recover.ensures.does.done ops.Recover refl) c.in_ok-recover.ensures.settled c.self.inside.thread c.self.inside.root c.self.inside.is_writable c.self.invariant c.self.view_is (call.Create c.args.path.now) (plain_create c.args.path.now) c.recover.ensures.does.survives
+    c.create_at-created.new.thread c.note_error.new.thread c.create_at-created.result c.create_at-created.ensures.does c.note_error.ensures
 
-pub returns-in-Err-clause-few : goal.returns-in-Err-clause-few
-returns-in-Err-clause-few g c = subst (λ (s : Seen). ReadsToCreate c.args.path.now s c.create_file.new.thread.kept.history) (seen_mounted (g.D.BlockDevice) c.self.inside.image c.in-Mounted.thread c.self.inside.root c.self.inside.is_writable c.self.inside.has_failed c.args.self.now c.in-Mounted.is c.self.invariant c.self.view_is) c.create_file.ensures.called.few
+pub returns-clause-few : goal.returns-clause-few
+returns-clause-few g c none =
+    let few = subst (λ (s : Seen). ReadsToCreate c.args.path.now s c.create_at-created.new.thread.kept.history) (c.self.view_is ∙ c.recover.ensures.idle none) (λ settled. c.create_at-created.ensures.few) none in
+    let same = ap (λ (t : State). reads t.kept.history) c.note_error.ensures in
+    omega (arith, few, same)

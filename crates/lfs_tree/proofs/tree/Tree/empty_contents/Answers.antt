@@ -1,19 +1,20 @@
 use Rattle.std.proofs.Common.{◌≡◌, ◌∙◌, ap, sym, subst, true}
+use Rattle.std.specs.Prelude.{IfOk}
 use Rattle.lfs_model.specs.TreeEdits.{is_file}
 use Rattle.lfs_model.specs.BlockSets.{in_flight_count}
+use Rattle.lfs_tree.specs.OpenContents.{IsOverFile}
 use Rattle.lfs_tree.specs.Seen.{Seen, tree_seen}
-use Rattle.lfs_tree.proofs.Asking.{rooted_mounted, seen_mounted, works_mounted}
+use Rattle.lfs_thread.specs.Kept.{State}
+use Rattle.lfs_tree.proofs.Asking.{rooted_held}
 use Rattle.lfs_tree.proofs.OpenedFiles.{idle_is, over_empty}
 use Rattle.lfs_tree.proofs.tree.Tree.empty_contents.Goals as goal
 
 pub no_contents-contents-requires : goal.no_contents-contents-requires
 no_contents-contents-requires g c =
-    let seen = seen_mounted (g.D.BlockDevice) c.self.inside.image c.in-Mounted.thread c.self.inside.root c.self.inside.is_writable c.self.inside.has_failed c.args.self.now c.in-Mounted.is c.self.invariant c.self.view_is in
-    let works = works_mounted (g.D.BlockDevice) c.self.inside.image c.in-Mounted.thread c.self.inside.root c.self.inside.is_writable c.self.inside.has_failed c.args.self.now c.in-Mounted.is c.self.invariant c.self.view_is c.requires.works in
-    let held = rooted_mounted (g.D.BlockDevice) c.self.inside.image c.in-Mounted.thread c.self.inside.root c.self.inside.is_writable c.self.inside.has_failed c.args.self.now c.in-Mounted.is c.self.invariant c.self.view_is in
-    idle_is c.in-Mounted.thread.kept (ap (λ (s : Seen). in_flight_count s.map) seen ∙ c.requires.idle) (held works).sound.size
+    let held = rooted_held c.self.inside.thread c.self.inside.root c.self.inside.is_writable c.args.self.now c.self.invariant c.self.view_is c.requires.works in
+    idle_is c.self.inside.thread.kept (ap (λ (s : Seen). in_flight_count s.map) c.self.view_is ∙ c.requires.idle) held.sound.size
 
 pub returns-clause-over : goal.returns-clause-over
 returns-clause-over g c path file =
-    let seen = seen_mounted (g.D.BlockDevice) c.self.inside.image c.in-Mounted.thread c.self.inside.root c.self.inside.is_writable c.self.inside.has_failed c.args.self.now c.in-Mounted.is c.self.invariant c.self.view_is in
-    over_empty c.in-Mounted.thread.kept path c.no_contents-contents.result (subst (λ (s : Seen). is_file (tree_seen s path) ≡ true) (sym seen) file) c.no_contents-contents.ensures.opened
+    subst (λ (t : State). IfOk c.no_contents-contents.result (IsOverFile t.kept path)) (sym c.note_error.ensures)
+    (over_empty c.self.inside.thread.kept path c.no_contents-contents.result (subst (λ (s : Seen). is_file (tree_seen s path) ≡ true) (sym c.self.view_is) file) c.no_contents-contents.ensures.opened)

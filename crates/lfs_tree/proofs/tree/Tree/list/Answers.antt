@@ -1,18 +1,20 @@
-use Rattle.std.proofs.Common.{◌++◌, ◌∷◌, [], ◌∙◌, subst, sym}
+use Rattle.std.proofs.Common.{◌++◌, ◌∷◌, [], subst, sym}
 use Rattle.lfs_model.specs.Discipline.{parents}
 use Rattle.lfs_tree.specs.Reads.{ReadsOnce}
 use Rattle.lfs_tree.specs.Seen.{Seen}
-use Rattle.lfs_tree.proofs.Asking.{rooted, rooted_mounted, seen_mounted, works_mounted}
+use Rattle.lfs_thread.specs.Kept.{State}
+use Rattle.lfs_tree.proofs.Asking.{asking, held, rooted_held}
 use Rattle.lfs_tree.proofs.tree.Tree.list.Goals as goal
 
 pub invariant_of-self : goal.invariant_of-self
-invariant_of-self g c = λ e.
-    let works = works_mounted (g.D.BlockDevice) c.self.inside.image c.in-Mounted.thread c.self.inside.root c.self.inside.is_writable c.self.inside.has_failed c.args.self.now c.in-Mounted.is c.self.invariant c.self.view_is c.requires in
-    let held = rooted_mounted (g.D.BlockDevice) c.self.inside.image c.in-Mounted.thread c.self.inside.root c.self.inside.is_writable c.self.inside.has_failed c.args.self.now c.in-Mounted.is c.self.invariant c.self.view_is in
-    rooted c.in-Mounted.thread c.list_at-listing.new.thread c.self.inside.root c.self.inside.is_writable c.self.inside.has_failed works held c.list_at-listing.result c.list_at-listing.ensures.reading
-    (sym c.is_err-self-inside.ensures.value ∙ e)
+invariant_of-self g c =
+    held c.self.inside.thread c.list_at-listing.new.thread c.self.inside.root c.self.inside.is_writable (rooted_held c.self.inside.thread c.self.inside.root c.self.inside.is_writable c.args.self.now c.self.invariant c.self.view_is c.requires) c.list_at-listing.result c.note_error.new.thread c.note_error.ensures c.list_at-listing.ensures.reading
+
+pub returns-clause-asks : goal.returns-clause-asks
+returns-clause-asks g c =
+    asking c.self.inside.thread c.list_at-listing.new.thread c.self.inside.root c.self.inside.is_writable (rooted_held c.self.inside.thread c.self.inside.root c.self.inside.is_writable c.args.self.now c.self.invariant c.self.view_is c.requires) c.args.self.now c.list_at-listing.result c.note_error.new.thread c.self.view_is c.note_error.ensures c.list_at-listing.ensures.reading
 
 pub returns-clause-few : goal.returns-clause-few
 returns-clause-few g c =
-    let seen = seen_mounted (g.D.BlockDevice) c.self.inside.image c.in-Mounted.thread c.self.inside.root c.self.inside.is_writable c.self.inside.has_failed c.args.self.now c.in-Mounted.is c.self.invariant c.self.view_is in
-    subst (λ (s : Seen). ReadsOnce (parents c.args.path.now ++ c.args.path.now ∷ []) s c.list_at-listing.new.thread.kept.history) seen (record { few = c.list_at-listing.ensures.few; none = c.list_at-listing.ensures.kept })
+    subst (λ (t : State). ReadsOnce (parents c.args.path.now ++ c.args.path.now ∷ []) c.args.self.now t.kept.history) (sym c.note_error.ensures)
+    (subst (λ (s : Seen). ReadsOnce (parents c.args.path.now ++ c.args.path.now ∷ []) s c.list_at-listing.new.thread.kept.history) c.self.view_is (record { few = c.list_at-listing.ensures.few; none = c.list_at-listing.ensures.kept }))

@@ -1,26 +1,30 @@
-use Rattle.std.proofs.Common.{◌≡◌, ◌∙◌, None, subst, sym}
+use Rattle.std.proofs.Common.{◌≡◌, None, subst, sym}
+use Rattle.std.specs.Prelude.{IfOk}
+use Rattle.lfs_model.specs.Cache.{cache_limit}
 use Rattle.lfs_model.specs.Discipline.{parents}
-use Rattle.lfs_lookup.specs.AtHand.{AreSmall}
+use Rattle.lfs_lookup.specs.AtHand.{AreRecentOn, AreSmall}
 use Rattle.lfs_tree.specs.Reads.{ReadsOnce}
 use Rattle.lfs_tree.specs.Seen.{Seen}
 use Rattle.lfs_lookup.proofs.BroughtDown.{hand_after}
-use Rattle.lfs_tree.proofs.Asking.{rooted, rooted_mounted, seen_mounted, works_mounted}
+use Rattle.lfs_thread.specs.Kept.{State}
+use Rattle.lfs_tree.proofs.Asking.{asking, held, rooted_held}
 use Rattle.lfs_tree.proofs.tree.Tree.look_up.Goals as goal
 
 pub invariant_of-self : goal.invariant_of-self
-invariant_of-self g c = λ e.
-    let works = works_mounted (g.D.BlockDevice) c.self.inside.image c.in-Mounted.thread c.self.inside.root c.self.inside.is_writable c.self.inside.has_failed c.args.self.now c.in-Mounted.is c.self.invariant c.self.view_is c.requires in
-    let held = rooted_mounted (g.D.BlockDevice) c.self.inside.image c.in-Mounted.thread c.self.inside.root c.self.inside.is_writable c.self.inside.has_failed c.args.self.now c.in-Mounted.is c.self.invariant c.self.view_is in
-    rooted c.in-Mounted.thread c.find_at-found.new.thread c.self.inside.root c.self.inside.is_writable c.self.inside.has_failed works held c.find_at-found.result c.find_at-found.ensures.reading
-    (sym c.is_err-self-inside.ensures.value ∙ e)
+invariant_of-self g c =
+    held c.self.inside.thread c.find_at-found.new.thread c.self.inside.root c.self.inside.is_writable (rooted_held c.self.inside.thread c.self.inside.root c.self.inside.is_writable c.args.self.now c.self.invariant c.self.view_is c.requires) c.find_at-found.result c.note_error.new.thread c.note_error.ensures c.find_at-found.ensures.reading
+
+pub returns-clause-asks : goal.returns-clause-asks
+returns-clause-asks g c =
+    asking c.self.inside.thread c.find_at-found.new.thread c.self.inside.root c.self.inside.is_writable (rooted_held c.self.inside.thread c.self.inside.root c.self.inside.is_writable c.args.self.now c.self.invariant c.self.view_is c.requires) c.args.self.now c.find_at-found.result c.note_error.new.thread c.self.view_is c.note_error.ensures c.find_at-found.ensures.reading
 
 pub returns-clause-few : goal.returns-clause-few
 returns-clause-few g c =
-    let seen = seen_mounted (g.D.BlockDevice) c.self.inside.image c.in-Mounted.thread c.self.inside.root c.self.inside.is_writable c.self.inside.has_failed c.args.self.now c.in-Mounted.is c.self.invariant c.self.view_is in
-    subst (λ (s : Seen). ReadsOnce (parents c.args.path.now) s c.find_at-found.new.thread.kept.history) seen (record { few = c.find_at-found.ensures.few; none = c.find_at-found.ensures.brings.none })
+    subst (λ (t : State). ReadsOnce (parents c.args.path.now) c.args.self.now t.kept.history) (sym c.note_error.ensures)
+    (subst (λ (s : Seen). ReadsOnce (parents c.args.path.now) s c.find_at-found.new.thread.kept.history) c.self.view_is (record { few = c.find_at-found.ensures.few; none = c.find_at-found.ensures.brings.none }))
 
 pub returns-clause-hand : goal.returns-clause-hand
 returns-clause-hand g c = λ small.
-    let seen = seen_mounted (g.D.BlockDevice) c.self.inside.image c.in-Mounted.thread c.self.inside.root c.self.inside.is_writable c.self.inside.has_failed c.args.self.now c.in-Mounted.is c.self.invariant c.self.view_is in
-    hand_after c.in-Mounted.thread c.find_at-found.new.thread (λ found. found.fault ≡ None) (parents c.args.path.now) c.find_at-found.result c.find_at-found.ensures.brings c.find_at-found.ensures.reading.only
-    (subst (λ (s : Seen). AreSmall s.pairs (parents c.args.path.now)) (sym seen) small)
+    subst (λ (t : State). IfOk c.find_at-found.result (λ found. found.fault ≡ None → AreRecentOn cache_limit t.kept.disk t.cache t.kept.pairs (parents c.args.path.now))) (sym c.note_error.ensures)
+    (hand_after c.self.inside.thread c.find_at-found.new.thread (λ found. found.fault ≡ None) (parents c.args.path.now) c.find_at-found.result c.find_at-found.ensures.brings c.find_at-found.ensures.reading.only
+    (subst (λ (s : Seen). AreSmall s.pairs (parents c.args.path.now)) (sym c.self.view_is) small))

@@ -1,28 +1,63 @@
-use Rattle.std.proofs.Common.{◌∙◌, true, subst, sym}
-use Rattle.lfs_model.specs.Operations as ops
-use Rattle.lfs_tree.specs.Held.{seen_kept}
-use Rattle.lfs_tree.specs.Seen.{IsError}
-use Rattle.lfs_tree.proofs.Asking.{carried_working, seen_working, survives_working}
-use Rattle.lfs_tree.proofs.Recovered.{held_sound, nothing_set, recovered_already}
+use Rattle.std.proofs.Common.{◌≡◌, ◌∙◌, ap, refl, subst, sym}
+use Rattle.lfs_model.specs.WrittenContent.{is_no_gstate}
+use Rattle.lfs_model.specs.Slots.{no_gstate}
+use Rattle.lfs_model.specs.Thread.{gstate_of}
+use Rattle.lfs_model.specs.Shown.{tree_in}
+use Rattle.lfs_tree.specs.Held.{IsHeld, IsRooted}
+use Rattle.lfs_tree.specs.Recovering.{HasSettled}
+use Rattle.lfs_tree.specs.Seen.{Seen, kept_of}
+use Rattle.lfs_tree.proofs.Asking.{rooted_held, works_held}
+use Rattle.lfs_tree.proofs.NotedErrors.{noted, noted_failed, noted_held}
+use Rattle.lfs_tree.proofs.Recovered.{held_sound, nothing_set, something_set}
+use Rattle.lfs_tree.proofs.RecoveredFirst.{settled_already}
+use Rattle.lfs_tree.proofs.TreeCalls.{recovers, recovers_nothing, settles_seen}
 use Rattle.lfs_tree.proofs.tree.Tree.recover.Goals as goal
 
-pub returns-then-is_none-clause-done : goal.returns-then-is_none-clause-done
-returns-then-is_none-clause-done g c = recovered_already c.args.self.now c.requires.works c.requires.writable
-    (held_sound (g.D.BlockDevice) c.self.inside.image c.self.inside.root c.self.inside.is_writable c.self.inside.has_failed c.args.self.now c.self.invariant c.self.view_is c.requires.works)
-    (sym c.gstate.ensures ∙ nothing_set _ (sym c.is_none.ensures ∙ c.if-is_none.true))
+pub returns-then-is_none-clause-does : goal.returns-then-is_none-clause-does
+returns-then-is_none-clause-does g c = recovers_nothing c.args.self.now c.requires.works c.requires.writable
+    (held_sound c.self.inside.thread c.self.inside.root c.self.inside.is_writable c.args.self.now c.self.invariant c.self.view_is c.requires.works)
+    (sym c.gstate.ensures ∙ nothing_set _ (sym c.is_none.ensures ∙ c.if-is_none.true)) _ refl
 
-pub returns-in-Ok-clause-done : goal.returns-in-Ok-clause-done
-returns-in-Ok-clause-done g c = carried_working (g.D.BlockDevice) c.self.inside.image c.in-Mounted.thread c.self.inside.root c.self.inside.is_writable c.self.inside.has_failed c.args.self.now c.in-Mounted.is c.self.invariant c.self.view_is c.requires.works c.requires.writable c.recover_image.new.thread.kept ops.Recover c.in-Ok.ensures.done.carries
+pub returns-then-is_none-clause-settled : goal.returns-then-is_none-clause-settled
+returns-then-is_none-clause-settled g c =
+    let none = sym c.gstate.ensures ∙ nothing_set _ (sym c.is_none.ensures ∙ c.if-is_none.true) in
+    let rooted = rooted_held c.self.inside.thread c.self.inside.root c.self.inside.is_writable c.args.self.now c.self.invariant c.self.view_is c.requires.works in
+    subst (λ (s : Seen). HasSettled (kept_of s) (kept_of s)) c.self.view_is
+    (settled_already c.self.inside.thread c.self.inside.root (subst (λ a. IsRooted c.self.inside.thread c.self.inside.root a) (ap (λ (s : Seen). s.writable) c.self.view_is ∙ c.requires.writable) rooted)
+    (ap (λ (s : Seen). gstate_of s.pairs) c.self.view_is ∙ none))
 
-pub returns-in-Ok-clause-survives : goal.returns-in-Ok-clause-survives
-returns-in-Ok-clause-survives g c = survives_working (g.D.BlockDevice) c.self.inside.image c.in-Mounted.thread c.self.inside.root c.self.inside.is_writable c.self.inside.has_failed c.args.self.now c.in-Mounted.is c.self.invariant c.self.view_is c.requires.works c.requires.writable c.recover_image.new.thread.kept.history (λ t. t) c.recover_image.ensures.survives
+pub recover_at-recovered-requires-clause-rooted : goal.recover_at-recovered-requires-clause-rooted
+recover_at-recovered-requires-clause-rooted g c =
+    subst (λ a. IsRooted c.self.inside.thread c.self.inside.root a) (ap (λ (s : Seen). s.writable) c.self.view_is ∙ c.requires.writable)
+    (rooted_held c.self.inside.thread c.self.inside.root c.self.inside.is_writable c.args.self.now c.self.invariant c.self.view_is c.requires.works)
 
-pub returns-in-Err-clause-errors : goal.returns-in-Err-clause-errors
-returns-in-Err-clause-errors g c =
-    let seen = seen_working (g.D.BlockDevice) c.self.inside.image c.in-Mounted.thread c.self.inside.root c.self.inside.is_writable c.self.inside.has_failed c.args.self.now c.in-Mounted.is c.self.invariant c.self.view_is c.requires.works c.requires.writable in
-    let e = c.in-Err.ensures.errors in
-    let k = subst (λ s. IsError s (seen_kept c.recover_image.new.thread.kept c.self.inside.is_writable true) c.in-Err.error) (sym seen) (record { errors = e.errors; fault = e.fault; no_fault = e.no_fault }) in
-    record { errors = k.errors; fault = k.fault; no_fault = k.no_fault }
+pub recover_at-recovered-requires-clause-left : goal.recover_at-recovered-requires-clause-left
+recover_at-recovered-requires-clause-left g c none = something_set _ (sym c.is_none.ensures ∙ c.if-is_none.false) (c.gstate.ensures ∙ sym (ap (λ (s : Seen). gstate_of s.pairs) c.self.view_is) ∙ none)
 
-pub returns-in-Err-clause-survives : goal.returns-in-Err-clause-survives
-returns-in-Err-clause-survives g c = survives_working (g.D.BlockDevice) c.self.inside.image c.in-Mounted.thread c.self.inside.root c.self.inside.is_writable c.self.inside.has_failed c.args.self.now c.in-Mounted.is c.self.invariant c.self.view_is c.requires.works c.requires.writable c.recover_image.new.thread.kept.history (λ t. t) c.recover_image.ensures.survives
+pub invariant_of-self : goal.invariant_of-self
+invariant_of-self g c =
+    let t = c.self.inside.thread in
+    let writes = ap (λ (s : Seen). s.writable) c.self.view_is ∙ c.requires.writable in
+    subst (λ a. IsHeld c.note_error.new.thread c.self.inside.root a) (sym writes)
+    (noted_held t c.recover_at-recovered.new.thread c.note_error.new.thread (HasSettled t.kept) (tree_in t.kept.disk t.kept.pairs) c.recover_at-recovered.result c.recover_at-recovered.ensures c.note_error.ensures c.self.inside.root
+    (subst (λ a. IsRooted c.self.inside.thread c.self.inside.root a) writes (rooted_held c.self.inside.thread c.self.inside.root c.self.inside.is_writable c.args.self.now c.self.invariant c.self.view_is c.requires.works)))
+
+pub returns-clause-does : goal.returns-clause-does
+returns-clause-does g c =
+    let t = c.self.inside.thread in
+    let left : gstate_of c.self.inside.thread.kept.pairs ≡ no_gstate → ⊥ = λ none. something_set _ (sym c.is_none.ensures ∙ c.if-is_none.false) (c.gstate.ensures ∙ sym (ap (λ (s : Seen). gstate_of s.pairs) c.self.view_is) ∙ none) in
+    recovers t c.self.inside.is_writable c.args.self.now c.self.view_is (works_held t c.self.inside.root c.self.inside.is_writable c.args.self.now c.self.invariant c.self.view_is c.requires.works)
+    (ap (λ (s : Seen). s.writable) c.self.view_is ∙ c.requires.writable) left c.recover_at-recovered.result c.note_error.new.thread
+    (noted t c.recover_at-recovered.new.thread c.note_error.new.thread (HasSettled t.kept) (tree_in t.kept.disk t.kept.pairs) c.recover_at-recovered.result c.recover_at-recovered.ensures c.note_error.ensures)
+    (noted_failed t c.recover_at-recovered.new.thread c.note_error.new.thread (HasSettled t.kept) (tree_in t.kept.disk t.kept.pairs) c.recover_at-recovered.result c.recover_at-recovered.ensures c.note_error.ensures)
+
+pub returns-clause-settled : goal.returns-clause-settled
+returns-clause-settled g c =
+    let t = c.self.inside.thread in
+    let left : gstate_of c.self.inside.thread.kept.pairs ≡ no_gstate → ⊥ = λ none. something_set _ (sym c.is_none.ensures ∙ c.if-is_none.false) (c.gstate.ensures ∙ sym (ap (λ (s : Seen). gstate_of s.pairs) c.self.view_is) ∙ none) in
+    settles_seen t c.self.inside.is_writable c.args.self.now c.self.view_is (works_held t c.self.inside.root c.self.inside.is_writable c.args.self.now c.self.invariant c.self.view_is c.requires.works)
+    (ap (λ (s : Seen). s.writable) c.self.view_is ∙ c.requires.writable) left c.recover_at-recovered.result c.note_error.new.thread
+    (noted t c.recover_at-recovered.new.thread c.note_error.new.thread (HasSettled t.kept) (tree_in t.kept.disk t.kept.pairs) c.recover_at-recovered.result c.recover_at-recovered.ensures c.note_error.ensures)
+
+pub returns-clause-idle : goal.returns-clause-idle
+returns-clause-idle g c settled = absurd (let z = sym c.if-is_none.false ∙ c.is_none.ensures ∙ ap is_no_gstate (c.gstate.ensures ∙ settled) in cc)

@@ -1,23 +1,33 @@
-use Rattle.std.proofs.Common.{subst}
-use Rattle.lfs_model.specs.Content.{without_attribute}
+use Rattle.std.proofs.Common.{refl}
+use Rattle.std.proofs.lemmas.Result.{err_from_is_err_and}
 use Rattle.lfs_model.specs.Operations as ops
-use Rattle.lfs_tree.specs.Allowed.{CanRemoveAttr}
-use Rattle.lfs_tree.specs.CarryingSlots.{with_attributes_changed}
-use Rattle.lfs_tree.proofs.Asking.{carried_working, seen_working, survives_working, spares_working}
+use Rattle.lfs_tree.specs.Allowed.{CanRemoveAttrImage}
+use Rattle.lfs_tree.specs.Calls as call
+use Rattle.lfs_tree.specs.Seen.{kept_of}
+use Rattle.lfs_tree.proofs.Operated.{plain_clear}
+use Rattle.lfs_tree.proofs.RecoveredFirst.{remove_attr_after}
+use Rattle.lfs_tree.proofs.TreeCalls.{allowed, held_noted, operates_noted, recovery_failed, rests_behind, settled_here}
 use Rattle.lfs_tree.proofs.tree.Tree.remove_attr.Goals as goal
 
-pub take_attribute-requires-clause-can : goal.take_attribute-requires-clause-can
-take_attribute-requires-clause-can g c =
-    subst (λ s. CanRemoveAttr s c.args.path.now c.args.kind) (seen_working (g.D.BlockDevice) c.self.inside.image c.in-Mounted.thread c.self.inside.root c.self.inside.is_writable c.self.inside.has_failed c.args.self.now c.in-Mounted.is c.self.invariant c.self.view_is c.requires.works c.requires.writable) c.requires
+pub returns-in_err-recover : goal.returns-in_err-recover
+returns-in_err-recover g c =
+    let p = err_from_is_err_and c.from_residual.result c.from_residual.ensures.1 in
+    recovery_failed c.args.self.now c.recover.new.self (call.RemoveAttr c.args.path.now c.args.kind) c.recover.result c.from_residual.result _ p.0 c.in_err-recover.was p.1 p.2 c.recover.ensures.does
 
-pub returns-in-Ok-clause-done : goal.returns-in-Ok-clause-done
-returns-in-Ok-clause-done g c = λ bytes e. carried_working (g.D.BlockDevice) c.self.inside.image c.in-Mounted.thread c.self.inside.root c.self.inside.is_writable c.self.inside.has_failed c.args.self.now c.in-Mounted.is c.self.invariant c.self.view_is c.requires.works c.requires.writable c.take_attribute.new.thread.kept (ops.RemoveAttr bytes c.args.kind) (c.in-Ok.ensures.done bytes e)
+pub remove_attr_at-removed-requires-clause-rests : goal.remove_attr_at-removed-requires-clause-rests
+remove_attr_at-removed-requires-clause-rests g c = rests_behind c.args.self.now c.recover.new.self c.requires.works c.requires.writable (c.in_ok-recover.ensures.does.done ops.Recover refl) c.in_ok-recover.ensures.settled c.self.inside.thread c.self.inside.root c.self.inside.is_writable c.self.invariant c.self.view_is
 
-pub returns-in-Ok-clause-alone : goal.returns-in-Ok-clause-alone
-returns-in-Ok-clause-alone g c = λ bytes e. spares_working (g.D.BlockDevice) c.self.inside.image c.in-Mounted.thread c.self.inside.root c.self.inside.is_writable c.self.inside.has_failed c.args.self.now c.in-Mounted.is c.self.invariant c.self.view_is c.requires.works c.requires.writable c.take_attribute.new.thread.kept (ops.RemoveAttr bytes c.args.kind) (c.in-Ok.ensures.alone bytes e)
+pub remove_attr_at-removed-requires-clause-can : goal.remove_attr_at-removed-requires-clause-can
+remove_attr_at-removed-requires-clause-can g c =
+    remove_attr_after (kept_of c.args.self.now) c.self.inside.thread.kept (settled_here c.args.self.now c.recover.new.self c.requires.works c.requires.writable (c.in_ok-recover.ensures.does.done ops.Recover refl) c.in_ok-recover.ensures.settled c.self.inside.thread c.self.inside.root c.self.inside.is_writable c.self.invariant c.self.view_is) c.args.path.now c.args.kind
+    (allowed c.args.self.now c.recover.new.self c.requires.works c.requires.writable (c.in_ok-recover.ensures.does.done ops.Recover refl) c.in_ok-recover.ensures.settled c.self.inside.thread c.self.inside.root c.self.inside.is_writable c.self.invariant c.self.view_is (λ s. CanRemoveAttrImage s c.args.path.now c.args.kind) c.requires)
 
-pub returns-in-Ok-clause-survives : goal.returns-in-Ok-clause-survives
-returns-in-Ok-clause-survives g c = survives_working (g.D.BlockDevice) c.self.inside.image c.in-Mounted.thread c.self.inside.root c.self.inside.is_writable c.self.inside.has_failed c.args.self.now c.in-Mounted.is c.self.invariant c.self.view_is c.requires.works c.requires.writable c.take_attribute.new.thread.kept.history (λ t. with_attributes_changed c.args.path.now (without_attribute c.args.kind) t) c.take_attribute.ensures.survives
+pub invariant_of-self : goal.invariant_of-self
+invariant_of-self g c =
+    held_noted c.args.self.now c.recover.new.self c.requires.works c.requires.writable (c.in_ok-recover.ensures.does.done ops.Recover refl) c.in_ok-recover.ensures.settled c.self.inside.thread c.self.inside.root c.self.inside.is_writable c.self.invariant c.self.view_is (call.RemoveAttr c.args.path.now c.args.kind) (plain_clear c.args.path.now c.args.kind) c.recover.ensures.does.survives
+    c.remove_attr_at-removed.new.thread c.note_error.new.thread c.remove_attr_at-removed.result c.remove_attr_at-removed.ensures c.note_error.ensures
 
-pub returns-in-Err-clause-survives : goal.returns-in-Err-clause-survives
-returns-in-Err-clause-survives g c = survives_working (g.D.BlockDevice) c.self.inside.image c.in-Mounted.thread c.self.inside.root c.self.inside.is_writable c.self.inside.has_failed c.args.self.now c.in-Mounted.is c.self.invariant c.self.view_is c.requires.works c.requires.writable c.take_attribute.new.thread.kept.history (λ t. with_attributes_changed c.args.path.now (without_attribute c.args.kind) t) c.take_attribute.ensures.survives
+pub returns : goal.returns
+returns g c =
+    operates_noted c.args.self.now c.recover.new.self c.requires.works c.requires.writable (c.in_ok-recover.ensures.does.done ops.Recover refl) c.in_ok-recover.ensures.settled c.self.inside.thread c.self.inside.root c.self.inside.is_writable c.self.invariant c.self.view_is (call.RemoveAttr c.args.path.now c.args.kind) (plain_clear c.args.path.now c.args.kind) c.recover.ensures.does.survives
+    c.remove_attr_at-removed.new.thread c.note_error.new.thread c.remove_attr_at-removed.result c.remove_attr_at-removed.ensures c.note_error.ensures

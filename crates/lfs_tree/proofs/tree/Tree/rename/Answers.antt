@@ -1,22 +1,33 @@
-use Rattle.std.proofs.Common.{subst}
-use Rattle.lfs_model.specs.TreeEdits.{renamed}
+use Rattle.std.proofs.Common.{refl}
+use Rattle.std.proofs.lemmas.Result.{err_from_is_err_and}
 use Rattle.lfs_model.specs.Operations as ops
-use Rattle.lfs_tree.specs.Allowed.{CanRename}
-use Rattle.lfs_tree.proofs.Asking.{carried_working, seen_working, spares_working, survives_working}
+use Rattle.lfs_tree.specs.Allowed.{CanRenameImage}
+use Rattle.lfs_tree.specs.Calls as call
+use Rattle.lfs_tree.specs.Seen.{kept_of}
+use Rattle.lfs_tree.proofs.Operated.{plain_rename}
+use Rattle.lfs_tree.proofs.RecoveredFirst.{rename_after}
+use Rattle.lfs_tree.proofs.TreeCalls.{allowed, held_noted, operates_noted, recovery_failed, rests_behind, settled_here}
 use Rattle.lfs_tree.proofs.tree.Tree.rename.Goals as goal
 
-pub rename_entry-requires-clause-can : goal.rename_entry-requires-clause-can
-rename_entry-requires-clause-can g c =
-    subst (λ s. CanRename s c.args.from.now c.args.to.now) (seen_working (g.D.BlockDevice) c.self.inside.image c.in-Mounted.thread c.self.inside.root c.self.inside.is_writable c.self.inside.has_failed c.args.self.now c.in-Mounted.is c.self.invariant c.self.view_is c.requires.can.works c.requires.can.writable) c.requires.can
+pub returns-in_err-recover : goal.returns-in_err-recover
+returns-in_err-recover g c =
+    let p = err_from_is_err_and c.from_residual.result c.from_residual.ensures.1 in
+    recovery_failed c.args.self.now c.recover.new.self (call.Rename c.args.from.now c.args.to.now) c.recover.result c.from_residual.result _ p.0 c.in_err-recover.was p.1 p.2 c.recover.ensures.does
 
-pub returns-in-Ok-clause-done : goal.returns-in-Ok-clause-done
-returns-in-Ok-clause-done g c = λ given to_given e f. carried_working (g.D.BlockDevice) c.self.inside.image c.in-Mounted.thread c.self.inside.root c.self.inside.is_writable c.self.inside.has_failed c.args.self.now c.in-Mounted.is c.self.invariant c.self.view_is c.requires.can.works c.requires.can.writable c.rename_entry.new.thread.kept (ops.Rename given to_given) (c.in-Ok.ensures.done given to_given e f)
+pub rename_at-renamed-requires-clause-rests : goal.rename_at-renamed-requires-clause-rests
+rename_at-renamed-requires-clause-rests g c = rests_behind c.args.self.now c.recover.new.self c.requires.can.works c.requires.can.writable (c.in_ok-recover.ensures.does.done ops.Recover refl) c.in_ok-recover.ensures.settled c.self.inside.thread c.self.inside.root c.self.inside.is_writable c.self.invariant c.self.view_is
 
-pub returns-in-Ok-clause-alone : goal.returns-in-Ok-clause-alone
-returns-in-Ok-clause-alone g c = λ given to_given e f. spares_working (g.D.BlockDevice) c.self.inside.image c.in-Mounted.thread c.self.inside.root c.self.inside.is_writable c.self.inside.has_failed c.args.self.now c.in-Mounted.is c.self.invariant c.self.view_is c.requires.can.works c.requires.can.writable c.rename_entry.new.thread.kept (ops.Rename given to_given) (c.in-Ok.ensures.alone given to_given e f)
+pub rename_at-renamed-requires-clause-can : goal.rename_at-renamed-requires-clause-can
+rename_at-renamed-requires-clause-can g c =
+    rename_after (kept_of c.args.self.now) c.self.inside.thread.kept (settled_here c.args.self.now c.recover.new.self c.requires.can.works c.requires.can.writable (c.in_ok-recover.ensures.does.done ops.Recover refl) c.in_ok-recover.ensures.settled c.self.inside.thread c.self.inside.root c.self.inside.is_writable c.self.invariant c.self.view_is) c.args.from.now c.args.to.now
+    (allowed c.args.self.now c.recover.new.self c.requires.can.works c.requires.can.writable (c.in_ok-recover.ensures.does.done ops.Recover refl) c.in_ok-recover.ensures.settled c.self.inside.thread c.self.inside.root c.self.inside.is_writable c.self.invariant c.self.view_is (λ s. CanRenameImage s c.args.from.now c.args.to.now) c.requires.can)
 
-pub returns-in-Ok-clause-survives : goal.returns-in-Ok-clause-survives
-returns-in-Ok-clause-survives g c = survives_working (g.D.BlockDevice) c.self.inside.image c.in-Mounted.thread c.self.inside.root c.self.inside.is_writable c.self.inside.has_failed c.args.self.now c.in-Mounted.is c.self.invariant c.self.view_is c.requires.can.works c.requires.can.writable c.rename_entry.new.thread.kept.history (λ t. renamed c.args.from.now c.args.to.now t) c.rename_entry.ensures.survives
+pub invariant_of-self : goal.invariant_of-self
+invariant_of-self g c =
+    held_noted c.args.self.now c.recover.new.self c.requires.can.works c.requires.can.writable (c.in_ok-recover.ensures.does.done ops.Recover refl) c.in_ok-recover.ensures.settled c.self.inside.thread c.self.inside.root c.self.inside.is_writable c.self.invariant c.self.view_is (call.Rename c.args.from.now c.args.to.now) (plain_rename c.args.from.now c.args.to.now c.requires.apart) c.recover.ensures.does.survives
+    c.rename_at-renamed.new.thread c.note_error.new.thread c.rename_at-renamed.result c.rename_at-renamed.ensures c.note_error.ensures
 
-pub returns-in-Err-clause-survives : goal.returns-in-Err-clause-survives
-returns-in-Err-clause-survives g c = survives_working (g.D.BlockDevice) c.self.inside.image c.in-Mounted.thread c.self.inside.root c.self.inside.is_writable c.self.inside.has_failed c.args.self.now c.in-Mounted.is c.self.invariant c.self.view_is c.requires.can.works c.requires.can.writable c.rename_entry.new.thread.kept.history (λ t. renamed c.args.from.now c.args.to.now t) c.rename_entry.ensures.survives
+pub returns : goal.returns
+returns g c =
+    operates_noted c.args.self.now c.recover.new.self c.requires.can.works c.requires.can.writable (c.in_ok-recover.ensures.does.done ops.Recover refl) c.in_ok-recover.ensures.settled c.self.inside.thread c.self.inside.root c.self.inside.is_writable c.self.invariant c.self.view_is (call.Rename c.args.from.now c.args.to.now) (plain_rename c.args.from.now c.args.to.now c.requires.apart) c.recover.ensures.does.survives
+    c.rename_at-renamed.new.thread c.note_error.new.thread c.rename_at-renamed.result c.rename_at-renamed.ensures c.note_error.ensures

@@ -1,18 +1,56 @@
-use Rattle.std.proofs.Common.{subst}
-use Rattle.lfs_tree.specs.OpenContents.{CanStoreAt}
-use Rattle.lfs_tree.proofs.Asking.{seen_working}
-use Rattle.lfs_tree.proofs.StoreContents.{stored_working, survives_stored}
+use Rattle.std.proofs.Common.{◌∙◌, ap, subst, sym}
+use Rattle.lfs_model.specs.Effects.{with_bytes}
+use Rattle.lfs_model.specs.Shown.{tree_in}
+use Rattle.lfs_model.specs.Thread.{gstate_of}
+use Rattle.lfs_model.specs.TreeEdits.{change_at}
+use Rattle.lfs_tree.specs.Held.{IsHeld, IsRooted}
+use Rattle.lfs_tree.specs.OpenContents.{CanStoreAt, bytes_held}
+use Rattle.lfs_tree.specs.Seen.{Seen}
+use Rattle.lfs_tree.specs.Storing.{HasStored}
+use Rattle.lfs_tree.proofs.Asking.{rooted_held, seen_working}
+use Rattle.lfs_tree.proofs.NotedErrors.{noted, noted_failed, noted_held}
+use Rattle.lfs_tree.proofs.StoreContents.{all_stored_working, survives_stored}
+use Rattle.lfs_tree.proofs.TreeCalls.{breaks, tells}
 use Rattle.lfs_tree.proofs.tree.Tree.store.Goals as goal
 
-pub store_file_at-requires-clause-can : goal.store_file_at-requires-clause-can
-store_file_at-requires-clause-can g c =
-    subst (λ s. CanStoreAt s c.args.path.now c.args.contents) (seen_working (g.D.BlockDevice) c.self.inside.image c.in-Mounted.thread c.self.inside.root c.self.inside.is_writable c.self.inside.has_failed c.args.self.now c.in-Mounted.is c.self.invariant c.self.view_is c.requires.works c.requires.writable) c.requires
+pub store_at-stored-requires-clause-rests : goal.store_at-stored-requires-clause-rests
+store_at-stored-requires-clause-rests g c = record {
+  held = subst (λ a. IsRooted c.self.inside.thread c.self.inside.root a) (ap (λ (s : Seen). s.writable) c.self.view_is ∙ c.requires.writable) (rooted_held c.self.inside.thread c.self.inside.root c.self.inside.is_writable c.args.self.now c.self.invariant c.self.view_is c.requires.works);
+  settled = ap (λ (s : Seen). gstate_of s.pairs) c.self.view_is ∙ c.requires.settled;
+}
 
-pub returns-in-Ok-clause-stored : goal.returns-in-Ok-clause-stored
-returns-in-Ok-clause-stored g c = stored_working (g.D.BlockDevice) c.self.inside.image c.in-Mounted.thread c.self.inside.root c.self.inside.is_writable c.self.inside.has_failed c.args.self.now c.in-Mounted.is c.self.invariant c.self.view_is c.requires.works c.requires.writable c.args.path.now c.args.contents c.store_file_at.new.thread.kept c.in-Ok.ensures.done
+pub store_at-stored-requires-clause-can : goal.store_at-stored-requires-clause-can
+store_at-stored-requires-clause-can g c =
+    subst (λ s. CanStoreAt s c.args.path.now c.args.contents) (seen_working c.self.inside.thread c.self.inside.root c.self.inside.is_writable c.args.self.now c.self.invariant c.self.view_is c.requires.works c.requires.writable) c.requires
 
-pub returns-in-Ok-clause-survives : goal.returns-in-Ok-clause-survives
-returns-in-Ok-clause-survives g c = survives_stored (g.D.BlockDevice) c.self.inside.image c.in-Mounted.thread c.self.inside.root c.self.inside.is_writable c.self.inside.has_failed c.args.self.now c.in-Mounted.is c.self.invariant c.self.view_is c.requires.works c.requires.writable c.args.path.now c.args.contents c.store_file_at.new.thread.kept.history c.store_file_at.ensures.survives
+pub invariant_of-self : goal.invariant_of-self
+invariant_of-self g c =
+    let t = c.self.inside.thread in
+    let writes = ap (λ (s : Seen). s.writable) c.self.view_is ∙ c.requires.writable in
+    subst (λ a. IsHeld c.note_error.new.thread c.self.inside.root a) (sym writes)
+    (noted_held t c.store_at-stored.new.thread c.note_error.new.thread (HasStored t.kept c.args.path.now (bytes_held t.kept c.args.contents)) (change_at c.args.path.now (with_bytes (bytes_held t.kept c.args.contents)) (tree_in t.kept.disk t.kept.pairs)) c.store_at-stored.result c.store_at-stored.ensures c.note_error.ensures c.self.inside.root
+    (subst (λ a. IsRooted c.self.inside.thread c.self.inside.root a) writes (rooted_held c.self.inside.thread c.self.inside.root c.self.inside.is_writable c.args.self.now c.self.invariant c.self.view_is c.requires.works)))
 
-pub returns-in-Err-clause-survives : goal.returns-in-Err-clause-survives
-returns-in-Err-clause-survives g c = survives_stored (g.D.BlockDevice) c.self.inside.image c.in-Mounted.thread c.self.inside.root c.self.inside.is_writable c.self.inside.has_failed c.args.self.now c.in-Mounted.is c.self.invariant c.self.view_is c.requires.works c.requires.writable c.args.path.now c.args.contents c.store_file_at.new.thread.kept.history c.store_file_at.ensures.survives
+pub returns-clause-stored : goal.returns-clause-stored
+returns-clause-stored g c =
+    let t = c.self.inside.thread in
+    let w = noted t c.store_at-stored.new.thread c.note_error.new.thread (HasStored t.kept c.args.path.now (bytes_held t.kept c.args.contents)) (change_at c.args.path.now (with_bytes (bytes_held t.kept c.args.contents)) (tree_in t.kept.disk t.kept.pairs)) c.store_at-stored.result c.store_at-stored.ensures c.note_error.ensures in
+    all_stored_working c.self.inside.thread c.self.inside.root c.self.inside.is_writable c.args.self.now c.self.invariant c.self.view_is c.requires.works c.requires.writable c.args.path.now c.args.contents c.store_at-stored.result c.note_error.new.thread w.done w.works
+
+pub returns-clause-broken : goal.returns-clause-broken
+returns-clause-broken g c =
+    let t = c.self.inside.thread in
+    let w = noted t c.store_at-stored.new.thread c.note_error.new.thread (HasStored t.kept c.args.path.now (bytes_held t.kept c.args.contents)) (change_at c.args.path.now (with_bytes (bytes_held t.kept c.args.contents)) (tree_in t.kept.disk t.kept.pairs)) c.store_at-stored.result c.store_at-stored.ensures c.note_error.ensures in
+    breaks t c.self.inside.is_writable c.args.self.now c.self.view_is (HasStored t.kept c.args.path.now (bytes_held t.kept c.args.contents)) (change_at c.args.path.now (with_bytes (bytes_held t.kept c.args.contents)) (tree_in t.kept.disk t.kept.pairs)) c.store_at-stored.result c.note_error.new.thread w (noted_failed t c.store_at-stored.new.thread c.note_error.new.thread (HasStored t.kept c.args.path.now (bytes_held t.kept c.args.contents)) (change_at c.args.path.now (with_bytes (bytes_held t.kept c.args.contents)) (tree_in t.kept.disk t.kept.pairs)) c.store_at-stored.result c.store_at-stored.ensures c.note_error.ensures)
+
+pub returns-clause-errors : goal.returns-clause-errors
+returns-clause-errors g c =
+    let t = c.self.inside.thread in
+    let w = noted t c.store_at-stored.new.thread c.note_error.new.thread (HasStored t.kept c.args.path.now (bytes_held t.kept c.args.contents)) (change_at c.args.path.now (with_bytes (bytes_held t.kept c.args.contents)) (tree_in t.kept.disk t.kept.pairs)) c.store_at-stored.result c.store_at-stored.ensures c.note_error.ensures in
+    tells t c.self.inside.is_writable c.args.self.now c.self.view_is (HasStored t.kept c.args.path.now (bytes_held t.kept c.args.contents)) (change_at c.args.path.now (with_bytes (bytes_held t.kept c.args.contents)) (tree_in t.kept.disk t.kept.pairs)) c.store_at-stored.result c.note_error.new.thread w
+
+pub returns-clause-survives : goal.returns-clause-survives
+returns-clause-survives g c =
+    let t = c.self.inside.thread in
+    let w = noted t c.store_at-stored.new.thread c.note_error.new.thread (HasStored t.kept c.args.path.now (bytes_held t.kept c.args.contents)) (change_at c.args.path.now (with_bytes (bytes_held t.kept c.args.contents)) (tree_in t.kept.disk t.kept.pairs)) c.store_at-stored.result c.store_at-stored.ensures c.note_error.ensures in
+    survives_stored c.self.inside.thread c.self.inside.root c.self.inside.is_writable c.args.self.now c.self.invariant c.self.view_is c.requires.works c.requires.writable c.args.path.now c.args.contents c.note_error.new.thread.kept.history w.survives

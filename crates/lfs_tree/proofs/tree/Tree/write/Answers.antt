@@ -1,68 +1,33 @@
 use Rattle.std.proofs.Common.{◌∙◌, ◌≤◌, sym, ap, subst}
-use Rattle.std.specs.Prelude.{IfErr, OnErr, OnOk, length}
+use Rattle.std.specs.Prelude.{IfOk, length}
 use Rattle.lfs_model.specs.Disk.{inline_limit}
-use Rattle.lfs_tree.specs.Held.{seen_thread}
-use Rattle.lfs_tree.specs.OpenContents.{CanWriteBeside, IsOver, IsWrittenBeside}
-use Rattle.lfs_tree.specs.Seen.{IsBroken, IsError, Seen, tree_seen}
-use Rattle.lfs_model.specs.PowerLoss.{Survives}
-use Rattle.lfs_tree.proofs.Asking.{rooted_mounted, seen_mounted, works_mounted}
-use Rattle.lfs_tree.proofs.BesideWritten.{all_over, broken_beside, can_write, rooted_beside, survives_beside, told_beside, written_beside}
+use Rattle.lfs_tree.specs.OpenContents.{CanWriteBeside, IsOver, IsOverFile}
+use Rattle.lfs_tree.specs.Seen.{Seen}
+use Rattle.lfs_thread.specs.Kept.{State}
+use Rattle.lfs_tree.proofs.Asking.{rooted_held}
+use Rattle.lfs_tree.proofs.BesideWritten.{all_over, can_write, held_beside, writing}
 use Rattle.lfs_tree.proofs.tree.Tree.write.Goals as goal
 
 pub write_file-written-requires-clause-can : goal.write_file-written-requires-clause-can
 write_file-written-requires-clause-can g c =
-    let seen = seen_mounted (g.D.BlockDevice) c.self.inside.image c.in-Mounted.thread c.self.inside.root c.self.inside.is_writable c.self.inside.has_failed c.args.self.now c.in-Mounted.is c.self.invariant c.self.view_is in
-    let works = works_mounted (g.D.BlockDevice) c.self.inside.image c.in-Mounted.thread c.self.inside.root c.self.inside.is_writable c.self.inside.has_failed c.args.self.now c.in-Mounted.is c.self.invariant c.self.view_is c.requires.works in
-    let held = rooted_mounted (g.D.BlockDevice) c.self.inside.image c.in-Mounted.thread c.self.inside.root c.self.inside.is_writable c.self.inside.has_failed c.args.self.now c.in-Mounted.is c.self.invariant c.self.view_is in
-    let size = c.geometry.ensures.block_size ∙ sym (ap (λ (s : Seen). s.disk.block_size) seen) in
-    can_write c.in-Mounted.thread.kept c.self.inside.is_writable c.inline_limit-limit.result (held works).sound (subst (λ n. 1024 ≤ n) size c.geometry.result.valid.no_smaller) (c.inline_limit-limit.ensures ∙ ap inline_limit size)
-    c.self.inside.has_failed c.args.contents c.args.place (length c.args.bytes.now) (subst (λ (s : Seen). CanWriteBeside s c.args.contents c.args.place (length c.args.bytes.now)) (sym seen) c.requires)
+    let held = rooted_held c.self.inside.thread c.self.inside.root c.self.inside.is_writable c.args.self.now c.self.invariant c.self.view_is c.requires.works in
+    let size = c.geometry.ensures.block_size ∙ sym (ap (λ (s : Seen). s.disk.block_size) c.self.view_is) in
+    can_write c.self.inside.thread.kept c.self.inside.is_writable c.inline_limit-limit.result held.sound (subst (λ n. 1024 ≤ n) size c.geometry.result.valid.no_smaller) (c.inline_limit-limit.ensures ∙ ap inline_limit size)
+    c.self.inside.thread.failed c.args.contents c.args.place (length c.args.bytes.now) (subst (λ (s : Seen). CanWriteBeside s c.args.contents c.args.place (length c.args.bytes.now)) (sym c.self.view_is) c.requires)
 
 pub invariant_of-self : goal.invariant_of-self
-invariant_of-self g c = λ e.
-    let works = works_mounted (g.D.BlockDevice) c.self.inside.image c.in-Mounted.thread c.self.inside.root c.self.inside.is_writable c.self.inside.has_failed c.args.self.now c.in-Mounted.is c.self.invariant c.self.view_is c.requires.works in
-    let held = rooted_mounted (g.D.BlockDevice) c.self.inside.image c.in-Mounted.thread c.self.inside.root c.self.inside.is_writable c.self.inside.has_failed c.args.self.now c.in-Mounted.is c.self.invariant c.self.view_is in
-    rooted_beside c.in-Mounted.thread c.write_file-written.new.thread c.self.inside.root c.self.inside.is_writable c.self.inside.has_failed works held c.write_file-written.ensures.works c.write_file-written.ensures.leaves
+invariant_of-self g c =
+    let held = rooted_held c.self.inside.thread c.self.inside.root c.self.inside.is_writable c.args.self.now c.self.invariant c.self.view_is c.requires.works in
+    held_beside c.self.inside.thread c.write_file-written.new.thread c.self.inside.root c.self.inside.is_writable held c.write_file-written.ensures.works c.write_file-written.ensures.leaves c.write_file-written.result c.note_error.new.thread c.note_error.ensures
 
 pub returns-clause-over : goal.returns-clause-over
 returns-clause-over g c path over =
-    let seen = seen_mounted (g.D.BlockDevice) c.self.inside.image c.in-Mounted.thread c.self.inside.root c.self.inside.is_writable c.self.inside.has_failed c.args.self.now c.in-Mounted.is c.self.invariant c.self.view_is in
-    let works = works_mounted (g.D.BlockDevice) c.self.inside.image c.in-Mounted.thread c.self.inside.root c.self.inside.is_writable c.self.inside.has_failed c.args.self.now c.in-Mounted.is c.self.invariant c.self.view_is c.requires.works in
-    let held = rooted_mounted (g.D.BlockDevice) c.self.inside.image c.in-Mounted.thread c.self.inside.root c.self.inside.is_writable c.self.inside.has_failed c.args.self.now c.in-Mounted.is c.self.invariant c.self.view_is in
-    all_over c.in-Mounted.thread c.write_file-written.new.thread c.self.inside.root c.self.inside.is_writable c.self.inside.has_failed works held c.write_file-written.ensures.works c.write_file-written.ensures.leaves
-    path c.args.contents _ _ c.write_file-written.result (subst (λ (s : Seen). IsOver s path c.args.contents) (sym seen) over) c.write_file-written.ensures.written c.write_file-written.ensures.owned
+    let held = rooted_held c.self.inside.thread c.self.inside.root c.self.inside.is_writable c.args.self.now c.self.invariant c.self.view_is c.requires.works in
+    subst (λ (t : State). IfOk c.write_file-written.result (IsOverFile t.kept path)) (sym c.note_error.ensures)
+    (all_over c.self.inside.thread c.write_file-written.new.thread c.self.inside.root c.self.inside.is_writable held c.write_file-written.ensures.works c.write_file-written.ensures.leaves
+    path c.args.contents _ _ c.write_file-written.result (subst (λ (s : Seen). IsOver s path c.args.contents) (sym c.self.view_is) over) c.write_file-written.ensures.written c.write_file-written.ensures.owned)
 
-pub returns-clause-beside : goal.returns-clause-beside
-returns-clause-beside g c =
-    let seen = seen_mounted (g.D.BlockDevice) c.self.inside.image c.in-Mounted.thread c.self.inside.root c.self.inside.is_writable c.self.inside.has_failed c.args.self.now c.in-Mounted.is c.self.invariant c.self.view_is in
-    let works = works_mounted (g.D.BlockDevice) c.self.inside.image c.in-Mounted.thread c.self.inside.root c.self.inside.is_writable c.self.inside.has_failed c.args.self.now c.in-Mounted.is c.self.invariant c.self.view_is c.requires.works in
-    let held = rooted_mounted (g.D.BlockDevice) c.self.inside.image c.in-Mounted.thread c.self.inside.root c.self.inside.is_writable c.self.inside.has_failed c.args.self.now c.in-Mounted.is c.self.invariant c.self.view_is in
-    subst (λ (s : Seen). OnOk c.write_file-written.result (IsWrittenBeside s (seen_thread c.write_file-written.new.thread c.self.inside.is_writable c.is_err-self-inside.result))) seen
-    (subst (λ b. OnOk c.write_file-written.result (IsWrittenBeside (seen_thread c.in-Mounted.thread c.self.inside.is_writable c.self.inside.has_failed) (seen_thread c.write_file-written.new.thread c.self.inside.is_writable b))) (sym c.is_err-self-inside.ensures.value)
-    (written_beside c.in-Mounted.thread c.write_file-written.new.thread c.self.inside.root c.self.inside.is_writable c.self.inside.has_failed works held c.write_file-written.ensures.works c.write_file-written.ensures.leaves c.write_file-written.result c.write_file-written.ensures.tells))
-
-pub returns-clause-broken : goal.returns-clause-broken
-returns-clause-broken g c =
-    let seen = seen_mounted (g.D.BlockDevice) c.self.inside.image c.in-Mounted.thread c.self.inside.root c.self.inside.is_writable c.self.inside.has_failed c.args.self.now c.in-Mounted.is c.self.invariant c.self.view_is in
-    let works = works_mounted (g.D.BlockDevice) c.self.inside.image c.in-Mounted.thread c.self.inside.root c.self.inside.is_writable c.self.inside.has_failed c.args.self.now c.in-Mounted.is c.self.invariant c.self.view_is c.requires.works in
-    let held = rooted_mounted (g.D.BlockDevice) c.self.inside.image c.in-Mounted.thread c.self.inside.root c.self.inside.is_writable c.self.inside.has_failed c.args.self.now c.in-Mounted.is c.self.invariant c.self.view_is in
-    subst (λ (s : Seen). OnErr c.write_file-written.result (IsBroken s (seen_thread c.write_file-written.new.thread c.self.inside.is_writable c.is_err-self-inside.result))) seen
-    (subst (λ b. OnErr c.write_file-written.result (IsBroken (seen_thread c.in-Mounted.thread c.self.inside.is_writable c.self.inside.has_failed) (seen_thread c.write_file-written.new.thread c.self.inside.is_writable b))) (sym c.is_err-self-inside.ensures.value)
-    (broken_beside c.in-Mounted.thread c.write_file-written.new.thread c.self.inside.root c.self.inside.is_writable c.self.inside.has_failed works held c.write_file-written.ensures.works c.write_file-written.ensures.leaves c.write_file-written.result))
-
-pub returns-clause-errors : goal.returns-clause-errors
-returns-clause-errors g c =
-    let seen = seen_mounted (g.D.BlockDevice) c.self.inside.image c.in-Mounted.thread c.self.inside.root c.self.inside.is_writable c.self.inside.has_failed c.args.self.now c.in-Mounted.is c.self.invariant c.self.view_is in
-    let works = works_mounted (g.D.BlockDevice) c.self.inside.image c.in-Mounted.thread c.self.inside.root c.self.inside.is_writable c.self.inside.has_failed c.args.self.now c.in-Mounted.is c.self.invariant c.self.view_is c.requires.works in
-    let held = rooted_mounted (g.D.BlockDevice) c.self.inside.image c.in-Mounted.thread c.self.inside.root c.self.inside.is_writable c.self.inside.has_failed c.args.self.now c.in-Mounted.is c.self.invariant c.self.view_is in
-    subst (λ (s : Seen). IfErr c.write_file-written.result (IsError s (seen_thread c.write_file-written.new.thread c.self.inside.is_writable c.is_err-self-inside.result))) seen
-    (subst (λ b. IfErr c.write_file-written.result (IsError (seen_thread c.in-Mounted.thread c.self.inside.is_writable c.self.inside.has_failed) (seen_thread c.write_file-written.new.thread c.self.inside.is_writable b))) (sym c.is_err-self-inside.ensures.value)
-    (told_beside c.in-Mounted.thread c.write_file-written.new.thread c.self.inside.root c.self.inside.is_writable c.self.inside.has_failed works held c.write_file-written.ensures.works c.write_file-written.ensures.leaves c.write_file-written.result c.write_file-written.ensures.tells))
-
-pub returns-clause-survives : goal.returns-clause-survives
-returns-clause-survives g c may =
-    let seen = seen_mounted (g.D.BlockDevice) c.self.inside.image c.in-Mounted.thread c.self.inside.root c.self.inside.is_writable c.self.inside.has_failed c.args.self.now c.in-Mounted.is c.self.invariant c.self.view_is in
-    let works = works_mounted (g.D.BlockDevice) c.self.inside.image c.in-Mounted.thread c.self.inside.root c.self.inside.is_writable c.self.inside.has_failed c.args.self.now c.in-Mounted.is c.self.invariant c.self.view_is c.requires.works in
-    let held = rooted_mounted (g.D.BlockDevice) c.self.inside.image c.in-Mounted.thread c.self.inside.root c.self.inside.is_writable c.self.inside.has_failed c.args.self.now c.in-Mounted.is c.self.invariant c.self.view_is in
-    subst (λ (s : Seen). Survives s.disk s.history c.write_file-written.new.thread.kept.history (tree_seen s) (tree_seen s)) seen
-    (survives_beside c.in-Mounted.thread c.write_file-written.new.thread c.self.inside.root c.self.inside.is_writable c.self.inside.has_failed works held c.write_file-written.ensures.works c.write_file-written.ensures.leaves (ap (λ (s : Seen). s.writable) seen ∙ may))
+pub returns-clause-writes : goal.returns-clause-writes
+returns-clause-writes g c =
+    let held = rooted_held c.self.inside.thread c.self.inside.root c.self.inside.is_writable c.args.self.now c.self.invariant c.self.view_is c.requires.works in
+    writing c.self.inside.thread c.write_file-written.new.thread c.self.inside.root c.self.inside.is_writable held c.write_file-written.ensures.works c.write_file-written.ensures.leaves c.args.self.now c.write_file-written.result c.note_error.new.thread c.self.view_is c.note_error.ensures c.write_file-written.ensures.tells

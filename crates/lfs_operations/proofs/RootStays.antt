@@ -1,0 +1,112 @@
+-- The root directory stays where it is: as many pairs stand in front of it as before.
+use Rattle.std.proofs.Common.{ℕ, zero, suc, ◌≡◌, ◌<◌, ◌≤◌, ◌-◌, Bool, true, false, take, List, [], ◌∷◌, ◌++◌, length, drop, Option, Some, refl, sym, ap, subst, ◌∙◌, arith, set, get_or, remove, slice_get}
+use Rattle.std.proofs.lemmas.Option.{same_Some}
+use Rattle.lfs_model.specs.Disk.{Disk}
+use Rattle.lfs_model.specs.Slots.{Content, same_pair}
+use Rattle.lfs_model.specs.Steps.{AreAlike, flag}
+use Rattle.lfs_model.specs.Thread.{Links, Pair, anchor, directory_pairs, first_at, next_of, root_of, starts_with_superblock, superblocks_before}
+use Rattle.lfs_model.specs.View.{IsAccepted, first_slots}
+use Rattle.lfs_model.proofs.Pairs.{pair_itself}
+use Rattle.lfs_model.proofs.Searches.{same_number}
+use Rattle.lfs_model.proofs.Superblocks.{IsChain, pairs_behind}
+use Rattle.lfs_thread.specs.Kept.{Kept}
+use Rattle.lfs_thread.specs.Steps.{no_pair}
+use Rattle.lfs_operations.specs.MoveEnds.{CanEnd, HasEnded, content_without, is_led, pairs_ended}
+use Rattle.lfs_operations.specs.Ready.{KeepsRoot}
+
+-- the pair of that number has that address
+abbrev HasAddress : List Pair → ℕ → ℕ × ℕ → Type 0
+HasAddress ps n at = (p : Pair) × ((slice_get ps n ≡ Some p) × (p.at ≡ at))
+
+-- ---- the number of the root's first pair
+
+get_dropped : (ps : List Pair) (n : ℕ) (d : Pair) (ds : List Pair) → drop n ps ≡ d ∷ ds → slice_get ps n ≡ Some d
+get_dropped [] zero d ds e = absurd (cc)
+get_dropped [] (suc n) d ds e = absurd (cc)
+get_dropped (p ∷ ps) zero d ds e = cc
+get_dropped (p ∷ ps) (suc n) d ds e = get_dropped ps n d ds e
+
+root_there : (disk : Disk) (ps : List Pair) → IsAccepted disk ps → HasAddress ps (superblocks_before ps) (root_of ps)
+root_there disk ps ok = go (directory_pairs ps) refl
+  where
+    go : (ds : List Pair) → directory_pairs ps ≡ ds → HasAddress ps (superblocks_before ps) (root_of ps)
+    go [] e = absurd (let k = ap (λ z. starts_with_superblock (first_slots z)) (sym e) ∙ ok.root in cc)
+    go (d ∷ ds) e = (d, (get_dropped ps (superblocks_before ps) d ds e, ap first_at (sym e)))
+
+number_of_root : (disk : Disk) (ps : List Pair) (n : ℕ) → IsAccepted disk ps → HasAddress ps n (root_of ps) → superblocks_before ps ≡ n
+number_of_root disk ps n ok (p, (there, at)) =
+    let r = root_there disk ps ok in
+    same_number ps (superblocks_before ps) n r.0 p ok.thread.distinct r.1.0 there (subst (λ a. same_pair r.0.at a ≡ true) (r.1.1 ∙ sym at) (pair_itself r.0.at))
+
+-- ---- the pairs in front stay
+
+two_links : (at : Option (ℕ × ℕ)) (chain dirs news : List Pair) → Links at (chain ++ dirs) → Links at (chain ++ news) → (to : Option (ℕ × ℕ)) × (Links to dirs × Links to news)
+two_links at [] dirs news l m = (at, (l, m))
+two_links at (c ∷ chain) dirs news l m = two_links (next_of c.content.tail) chain dirs news l.1 m.1
+
+get_behind : (chain : List Pair) (p : Pair) (ps : List Pair) → slice_get (chain ++ p ∷ ps) (length chain) ≡ Some p
+get_behind [] p ps = refl
+get_behind (c ∷ chain) p ps = get_behind chain p ps
+
+first_there : (chain : List Pair) (to : Option (ℕ × ℕ)) (dirs news : List Pair) → Links to dirs → Links to news → starts_with_superblock (first_slots dirs) ≡ true → HasAddress (chain ++ news) (length chain) (first_at dirs)
+first_there chain to [] news l m e = absurd (cc)
+first_there chain to (d ∷ dirs) [] l m e = absurd (let k = sym m ∙ l.0 in cc)
+first_there chain to (d ∷ dirs) (n ∷ news) l m e = (n, (get_behind chain n news, same_Some n.at d.at (sym m.0 ∙ l.0)))
+
+pub root_stays : (disk new : Disk) (chain dirs news : List Pair) → IsChain chain dirs → IsAccepted disk (chain ++ dirs) → IsAccepted new (chain ++ news) → root_of (chain ++ news) ≡ root_of (chain ++ dirs)
+    → superblocks_before (chain ++ news) ≡ superblocks_before (chain ++ dirs)
+root_stays disk new chain dirs news is_chain ok now same =
+    let l = two_links (Some anchor) chain dirs news ok.thread.links now.thread.links in
+    let dirs_are = pairs_behind chain dirs is_chain in
+    let first = first_there chain l.0 dirs news l.1.0 l.1.1 (ap (λ z. starts_with_superblock (first_slots z)) (sym dirs_are) ∙ ok.root) in
+    number_of_root new (chain ++ news) (length chain) now (first.0, (first.1.0, first.1.1 ∙ ap first_at (sym dirs_are) ∙ sym same)) ∙ sym is_chain
+
+-- ---- pairs of the same addresses
+
+alike_there : (ps qs : List Pair) (n : ℕ) (at : ℕ × ℕ) → AreAlike ps qs → HasAddress ps n at → HasAddress qs n at
+alike_there [] qs n at alike (p, (e, a)) = absurd (cc)
+alike_there (x ∷ ps) [] n at alike h = absurd alike
+alike_there (x ∷ ps) (y ∷ qs) zero at alike (p, (e, a)) = (y, (refl, alike.0 ∙ ap (λ (z : Pair). z.at) (same_Some x p e) ∙ a))
+alike_there (x ∷ ps) (y ∷ qs) (suc n) at alike h = alike_there ps qs n at alike.2 h
+
+stays_there : (new : Disk) (ps qs : List Pair) → IsAccepted new qs → root_of qs ≡ root_of ps → HasAddress qs (superblocks_before ps) (root_of ps) → superblocks_before qs ≡ superblocks_before ps
+stays_there new ps qs now same h = number_of_root new qs (superblocks_before ps) now (h.0, (h.1.0, h.1.1 ∙ sym same))
+
+pub alike_stays : (disk new : Disk) (ps qs : List Pair) → IsAccepted disk ps → IsAccepted new qs → root_of qs ≡ root_of ps → AreAlike ps qs → superblocks_before qs ≡ superblocks_before ps
+alike_stays disk new ps qs ok now same alike = stays_there new ps qs now same (alike_there ps qs (superblocks_before ps) (root_of ps) alike (root_there disk ps ok))
+
+-- ---- a move ends
+
+set_there : (ps : List Pair) (i n : ℕ) (c : Content) (at : ℕ × ℕ) → HasAddress ps n at → HasAddress (set ps i (record { at = (get_or ps i no_pair).at; content = c })) n at
+set_there [] i n c at (p, (e, a)) = absurd (cc)
+set_there (x ∷ ps) zero zero c at (p, (e, a)) = (record { at = x.at; content = c }, (refl, ap (λ (z : Pair). z.at) (same_Some x p e) ∙ a))
+set_there (x ∷ ps) zero (suc n) c at h = h
+set_there (x ∷ ps) (suc i) zero c at h = h
+set_there (x ∷ ps) (suc i) (suc n) c at h = set_there ps i n c at h
+
+remove_there : (ps : List Pair) (i n : ℕ) (at : ℕ × ℕ) → n < i → HasAddress ps n at → HasAddress (remove ps i) n at
+remove_there [] i n at low (p, (e, a)) = absurd (cc)
+remove_there (x ∷ ps) zero n at low h = absurd (omega arith)
+remove_there (x ∷ ps) (suc i) zero at low h = h
+remove_there (x ∷ ps) (suc i) (suc n) at low h = remove_there ps i n at (omega arith) h
+
+-- a pair to which a hard tail leads stands behind the root's first one
+led_behind : (ps : List Pair) (pair : ℕ) → superblocks_before ps ≤ pair → is_led ps pair ≡ true → superblocks_before ps < pair
+led_behind ps pair low led = go (pair - superblocks_before ps) refl
+  where
+    go : (n : ℕ) → pair - superblocks_before ps ≡ n → superblocks_before ps < pair
+    go zero e = absurd (let k = sym (ap (λ i. flag false (take i (directory_pairs ps))) e) ∙ led in cc)
+    go (suc n) e = omega arith
+
+pub move_end_stays : (old new : Kept) (pair id : ℕ) (goes : Bool) → CanEnd old pair id goes → HasEnded old pair id goes new → KeepsRoot old new
+move_end_stays old new pair id goes can ended = stays_there new.disk old.pairs new.pairs ended.taken.follows.accepted ended.taken.follows.root
+    (alike_there (pairs_ended old pair id goes) new.pairs (superblocks_before old.pairs) (root_of old.pairs) ended.alike (go goes refl))
+  where
+    was : HasAddress old.pairs (superblocks_before old.pairs) (root_of old.pairs)
+    was = root_there old.disk old.pairs can.accepted
+
+    go : (b : Bool) → goes ≡ b → HasAddress (pairs_ended old pair id goes) (superblocks_before old.pairs) (root_of old.pairs)
+    go true e = subst (λ b. HasAddress (pairs_ended old pair id b) (superblocks_before old.pairs) (root_of old.pairs)) (sym e)
+        (remove_there old.pairs pair (superblocks_before old.pairs) (root_of old.pairs) (led_behind old.pairs pair can.begins (can.alone e).0) was)
+    go false e = subst (λ b. HasAddress (pairs_ended old pair id b) (superblocks_before old.pairs) (root_of old.pairs)) (sym e)
+        (set_there old.pairs pair (superblocks_before old.pairs) (content_without old pair id) (root_of old.pairs) was)

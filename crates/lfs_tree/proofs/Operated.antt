@@ -1,0 +1,152 @@
+-- What a call does over a thread, from what it did and told.
+use Rattle.std.proofs.Common.{ℕ, ◌≡◌, ◌∙◌, false, true, List, [], Result, Ok, Err, refl, sym, ap, ap₂, subst}
+use Rattle.std.specs.Prelude.{IfErr, OnOk, is_err, is_some}
+use Rattle.lfs_device.specs.declared.error.Error.{Error}
+use Rattle.lfs_device.specs.declared.error.Error.TheVariants.{Io}
+use Rattle.lfs_model.specs.Content.{put_attribute, without_attribute}
+use Rattle.lfs_model.specs.History.{Event, OnlyReads, faults}
+use Rattle.lfs_model.specs.Operations as ops
+use Rattle.lfs_model.specs.Operations.{Flags, Operation}
+use Rattle.lfs_model.specs.Refusals.{as_path}
+use Rattle.lfs_model.specs.Run.{is_recover, renames_to_itself}
+use Rattle.lfs_model.specs.Shown.{tree_in}
+use Rattle.lfs_model.specs.Tree.{DirectoryNode, Path, Tree}
+use Rattle.lfs_model.specs.TreeEdits.{added, removed, renamed, same_path}
+use Rattle.lfs_operations.specs.Changing.{has_failed}
+use Rattle.lfs_operations.specs.Ready.{KeepsRoot}
+use Rattle.lfs_thread.specs.Kept.{Kept, State}
+use Rattle.lfs_thread.specs.Steps.{Writes}
+use Rattle.lfs_tree.specs.Calls as call
+use Rattle.lfs_tree.specs.Calls.{Does, left_by}
+use Rattle.lfs_tree.specs.Carrying.{Carries, HasCalled, IsAtRest, IsChange, StandsAs, SurvivesTo, TellsError}
+use Rattle.lfs_tree.specs.CarryingSlots.{with_attributes_changed}
+use Rattle.lfs_tree.specs.Held.{seen_kept}
+use Rattle.lfs_tree.specs.Seen.{around_of}
+use Rattle.lfs_lookup.specs.Reading.{IsReading}
+use Rattle.lfs_lookup.proofs.Reading.{same_error}
+use Rattle.lfs_tree.proofs.Carried.{with_history}
+use Rattle.lfs_tree.proofs.CarrySurvives.{created_shows, survives_reading}
+use Rattle.lfs_tree.proofs.CarryTold.{IsTold, called_by_reading, called_by_writing, tells_error}
+
+-- ---- the operations that a call does
+
+pub does_mkdir : (P : Operation → Type 0) (path : Path) → ((given : List ℕ) → as_path given ≡ path → P (ops.Mkdir given)) → (op : Operation) → Does (call.Mkdir path) op → P op
+does_mkdir P path h op d = subst P (sym d.1.0) (h d.0 d.1.1)
+
+pub does_create : (P : Operation → Type 0) (path : Path) → ((given : List ℕ) (flags : Flags) → as_path given ≡ path → P (ops.Open given flags)) → (op : Operation) → Does (call.Create path) op → P op
+does_create P path h op d = subst P (sym d.1.1.0) (h d.0 d.1.0 d.1.1.1)
+
+pub does_remove : (P : Operation → Type 0) (path : Path) → ((given : List ℕ) → as_path given ≡ path → P (ops.Remove given)) → (op : Operation) → Does (call.Remove path) op → P op
+does_remove P path h op d = subst P (sym d.1.0) (h d.0 d.1.1)
+
+pub does_rename : (P : Operation → Type 0) (from to : Path) → ((given to_given : List ℕ) → as_path given ≡ from → as_path to_given ≡ to → P (ops.Rename given to_given)) → (op : Operation) → Does (call.Rename from to) op → P op
+does_rename P from to h op d = subst P (sym d.1.1.0) (h d.0 d.1.0 d.1.1.1.0 d.1.1.1.1)
+
+pub does_set : (P : Operation → Type 0) (path : Path) (kind : ℕ) (bytes : List ℕ) → ((given : List ℕ) → as_path given ≡ path → P (ops.SetAttr given kind bytes)) → (op : Operation) → Does (call.SetAttr path kind bytes) op → P op
+does_set P path kind bytes h op d = subst P (sym d.1.0) (h d.0 d.1.1)
+
+pub does_clear : (P : Operation → Type 0) (path : Path) (kind : ℕ) → ((given : List ℕ) → as_path given ≡ path → P (ops.RemoveAttr given kind)) → (op : Operation) → Does (call.RemoveAttr path kind) op → P op
+does_clear P path kind h op d = subst P (sym d.1.0) (h d.0 d.1.1)
+
+-- what is carried out behind a recovery: a change of its own
+abbrev pub IsPlain : Operation → Type 0
+IsPlain op = (renames_to_itself op ≡ false) × (is_recover op ≡ false)
+
+pub plain_mkdir : (path : Path) (op : Operation) → Does (call.Mkdir path) op → IsPlain op
+plain_mkdir path = does_mkdir IsPlain path (λ given e. (refl, refl))
+
+pub plain_create : (path : Path) (op : Operation) → Does (call.Create path) op → IsPlain op
+plain_create path = does_create IsPlain path (λ given flags e. (refl, refl))
+
+pub plain_remove : (path : Path) (op : Operation) → Does (call.Remove path) op → IsPlain op
+plain_remove path = does_remove IsPlain path (λ given e. (refl, refl))
+
+pub plain_rename : (from to : Path) → same_path from to ≡ false → (op : Operation) → Does (call.Rename from to) op → IsPlain op
+plain_rename from to apart = does_rename IsPlain from to (λ given to_given e f. (ap₂ same_path e f ∙ apart, refl))
+
+pub plain_set : (path : Path) (kind : ℕ) (bytes : List ℕ) (op : Operation) → Does (call.SetAttr path kind bytes) op → IsPlain op
+plain_set path kind bytes = does_set IsPlain path kind bytes (λ given e. (refl, refl))
+
+pub plain_clear : (path : Path) (kind : ℕ) (op : Operation) → Does (call.RemoveAttr path kind) op → IsPlain op
+plain_clear path kind = does_clear IsPlain path kind (λ given e. (refl, refl))
+
+-- ---- what one of them leaves
+
+module _ (a c : Kept) where
+  stands : (tree : Tree) (op : Operation) → Carries a op c → KeepsRoot a c → tree_in c.disk c.pairs ≡ tree → StandsAs a tree c
+  stands tree op k root shows = record { sound = k.sound; fits = k.fits; root = root; shows = shows; no_fault = k.no_fault }
+
+  pub mkdir_stands : (path : Path) (given : List ℕ) → as_path given ≡ path → Carries a (ops.Mkdir given) c → KeepsRoot a c → StandsAs a (left_by (call.Mkdir path) (tree_in a.disk a.pairs)) c
+  mkdir_stands path given e k root = stands _ (ops.Mkdir given) k root (k.shows (around_of (seen_kept a true false)) [] ∙ ap (λ p. added p (DirectoryNode [] []) (tree_in a.disk a.pairs)) e)
+
+  pub create_stands : (path : Path) (given : List ℕ) (flags : Flags) → is_some (tree_in a.disk a.pairs path) ≡ false → as_path given ≡ path → Carries a (ops.Open given flags) c → KeepsRoot a c → StandsAs a (left_by (call.Create path) (tree_in a.disk a.pairs)) c
+  create_stands path given flags nothing e k root = stands _ (ops.Open given flags) k root (k.shows (around_of (seen_kept a true false)) [] ∙ created_shows (tree_in a.disk a.pairs) path (as_path given) e nothing)
+
+  pub remove_stands : (path : Path) (given : List ℕ) → as_path given ≡ path → Carries a (ops.Remove given) c → KeepsRoot a c → StandsAs a (left_by (call.Remove path) (tree_in a.disk a.pairs)) c
+  remove_stands path given e k root = stands _ (ops.Remove given) k root (k.shows (around_of (seen_kept a true false)) [] ∙ ap (λ p. removed p (tree_in a.disk a.pairs)) e)
+
+  pub rename_stands : (from to : Path) (given to_given : List ℕ) → as_path given ≡ from → as_path to_given ≡ to → Carries a (ops.Rename given to_given) c → KeepsRoot a c → StandsAs a (left_by (call.Rename from to) (tree_in a.disk a.pairs)) c
+  rename_stands from to given to_given e f k root = stands _ (ops.Rename given to_given) k root (k.shows (around_of (seen_kept a true false)) [] ∙ ap₂ (λ p q. renamed p q (tree_in a.disk a.pairs)) e f)
+
+  pub set_stands : (path : Path) (kind : ℕ) (bytes given : List ℕ) → as_path given ≡ path → Carries a (ops.SetAttr given kind bytes) c → KeepsRoot a c → StandsAs a (left_by (call.SetAttr path kind bytes) (tree_in a.disk a.pairs)) c
+  set_stands path kind bytes given e k root = stands _ (ops.SetAttr given kind bytes) k root (k.shows (around_of (seen_kept a true false)) [] ∙ ap (λ p. with_attributes_changed p (put_attribute kind bytes) (tree_in a.disk a.pairs)) e)
+
+  pub clear_stands : (path : Path) (kind : ℕ) (given : List ℕ) → as_path given ≡ path → Carries a (ops.RemoveAttr given kind) c → KeepsRoot a c → StandsAs a (left_by (call.RemoveAttr path kind) (tree_in a.disk a.pairs)) c
+  clear_stands path kind given e k root = stands _ (ops.RemoveAttr given kind) k root (k.shows (around_of (seen_kept a true false)) [] ∙ ap (λ p. with_attributes_changed p (without_attribute kind) (tree_in a.disk a.pairs)) e)
+
+-- ---- what the steps told
+
+pub works_told : {X : Type 0} (new : State) (r : Result X Error) → new.failed ≡ is_err r → OnOk r (new.failed ≡ false)
+works_told new (Ok x) e = e
+works_told new (Err e) f = tt
+
+pub works_put : {X : Type 0} (new : State) (r : Result X Error) → new.failed ≡ has_failed r → OnOk r (new.failed ≡ false)
+works_put new (Ok x) e = e
+works_put new (Err e) f = tt
+
+pub quiet_told : {X : Type 0} (a c : Kept) (h : List Event) (r : Result X Error) → faults h ≡ faults a.history → IsTold h c.history r → OnOk r (faults c.history ≡ faults a.history)
+quiet_told a c h (Ok x) same t = t.no_fault (λ io. absurd (cc)) ∙ same
+quiet_told a c h (Err e) same t = tt
+
+errors_told : {X : Type 0} (a c : Kept) (h : List Event) (r : Result X Error) → faults h ≡ faults a.history → IsTold h c.history r → IfErr r (TellsError a c)
+errors_told a c h (Ok x) same t = tt
+errors_told {X} a c h (Err e) same t = (let r : Result X Error = Err e in tells_error a c h r e same t refl)
+
+-- a change, behind calls that only read
+pub changed : {X : Type 0} (t new : State) (Done : Kept → Type 0) (after : Tree) (h : List Event) (bs : List ℕ) (r : Result X Error) → faults h ≡ faults t.kept.history → OnlyReads t.kept.disk.blocks t.kept.history h → Writes bs (with_history t.kept h) new.kept
+    → IsTold h new.kept.history r → OnOk r (new.failed ≡ false) → OnOk r (Done new.kept × StandsAs t.kept after new.kept) → SurvivesTo t.kept new.kept after → IsChange t Done after r new
+changed t new Done after h bs r same reads w told works both survives = record {
+  done = first r both;
+  works = works;
+  stands = second r both;
+  called = called_by_writing t.kept h new.kept bs reads w;
+  errors = errors_told t.kept new.kept h r same told;
+  survives = survives;
+}
+  where
+    first : {X : Type 0} (r : Result X Error) → OnOk r (Done new.kept × StandsAs t.kept after new.kept) → OnOk r (Done new.kept)
+    first (Ok x) k = k.0
+    first (Err e) k = tt
+
+    second : {X : Type 0} (r : Result X Error) → OnOk r (Done new.kept × StandsAs t.kept after new.kept) → OnOk r (StandsAs t.kept after new.kept)
+    second (Ok x) k = k.1
+    second (Err e) k = tt
+
+-- a call that only read, and failed
+pub only_read_change : {X : Type 0} (t : State) (root : ℕ) → IsAtRest t root → (mid : State) (Done : Kept → Type 0) (after : Tree) (r : Result X Error) (e : Error) → r ≡ Err e → IsReading t mid r → IsChange t Done after r mid
+only_read_change {X} t root rests mid Done after r e is k =
+    subst (λ (z : Result X Error). IsChange t Done after z mid) (sym is) (go (subst (λ (z : Result X Error). IsReading t mid z) is k))
+  where
+    go : (let r : Result X Error = Err e in IsReading t mid r) → (let r : Result X Error = Err e in IsChange t Done after r mid)
+    go k = record {
+      done = tt;
+      works = tt;
+      stands = tt;
+      called = called_by_reading t.kept mid.kept k.only;
+      errors = record { errors = k.told.errors; fault = λ io. k.told.fault (ap Err io); no_fault = λ other. k.told.no_fault (λ z. other (same_error X e Io z)) };
+      survives = survives_reading t root rests mid.kept.history k.only.reads after;
+    }
+
+-- one that failed
+pub failed_change : {X : Type 0} (t new : State) (Done : Kept → Type 0) (after : Tree) (r : Result X Error) (e : Error) → r ≡ Err e → HasCalled t.kept new.kept → TellsError t.kept new.kept e → SurvivesTo t.kept new.kept after → IsChange t Done after r new
+failed_change {X} t new Done after r e is called told survives = subst (λ (z : Result X Error). IsChange t Done after z new) (sym is) (record { done = tt; works = tt; stands = tt; called = called; errors = told; survives = survives })

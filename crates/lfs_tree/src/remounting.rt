@@ -1,0 +1,60 @@
+// A device that is read anew.
+
+ghost use Rattle.std.specs.Prelude.{◌≡◌, IfErr, OnErr, OnOk};
+ghost use Rattle.lfs_tree.specs.Seen.{IsBrokenAsking, IsMountError, IsMountedTree};
+
+use crate::tree::Tree;
+use lfs_alloc::BlockMap;
+use lfs_cache::Cache;
+use lfs_device::{BlockDevice, Error};
+use lfs_thread::{Parts, Thread};
+use std::alloc::Global;
+
+// What a thread has beside its device, of a device of which nothing is known.
+#[derive(Drop)]
+pub(crate) struct Spare {
+    alloc: Global,
+    cache: Cache,
+    map: BlockMap,
+}
+
+impl Spare {
+    // Room for it.
+    pub(crate) fn new(alloc: Global) -> Result<Spare, Error>
+        ensures { IfErr result (λ e. e ≡ Error.NoMemory) }
+    {
+        let cache = Cache::new(alloc)?;
+        let map = BlockMap::new(alloc, 0)?;
+        Ok(Spare { alloc, cache, map })
+    }
+}
+
+// The same device, mounted again.
+pub(crate) fn mounted_again<D: BlockDevice>(
+    tree: Tree<D>,
+    spare: Spare,
+) -> (Tree<D>, Result<(), Error>)
+    ensures mounted { OnOk result.1 (IsMountedTree tree.disk tree.history result.0) }
+    ensures broken { OnErr result.1 (IsBrokenAsking tree result.0) }
+    ensures errors { IfErr result.1 (IsMountError tree result.0) }
+{
+    let is_writable = tree.is_writable;
+    let Spare { alloc, cache, map } = spare;
+    match Tree::mount(alloc, tree.into_device()) {
+        Ok(tree) => (tree, Ok(())),
+        Err((device, error)) => {
+            let thread = Thread::unread(Parts {
+                device,
+                cache,
+                pairs: Vec::new(alloc),
+                map,
+            });
+            let tree = Tree {
+                thread,
+                root: 0,
+                is_writable,
+            };
+            (tree, Err(error))
+        }
+    }
+}

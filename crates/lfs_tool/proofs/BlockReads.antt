@@ -1,5 +1,5 @@
 -- Images read block by block.
-use Rattle.std.proofs.Common.{◌≡◌, ◌∙◌, ◌++◌, ◌+◌, ◌-◌, ◌*◌, ◌/◌, ◌<◌, ◌≤◌, ap, ap₂, inl, inr, ℕ, zero, suc, List, [], ◌∷◌, Option, Some, None, append_assoc, arith, drop, length, length-append, length-drop, refl, subst, sym, take}
+use Rattle.std.proofs.Common.{◌≡◌, ◌∙◌, ◌++◌, ◌+◌, ◌-◌, ◌*◌, ◌/◌, ◌<◌, ◌≤◌, ap, ap₂, inl, inr, ℕ, zero, suc, List, [], ◌∷◌, Option, Some, None, arith, drop, length, length-append, length-drop, refl, subst, sym, take}
 use Rattle.std.specs.Prelude.{IfSome}
 use Rattle.std.specs.Io.KnownBytes.{Consumes, IsAtEnd}
 use Rattle.std.proofs.Math.Nat.{mul-le-mul_left}
@@ -13,16 +13,11 @@ use Rattle.lfs_tool.specs.Excerpt.{AreExcerpts, IsBlockExcerpt}
 use Rattle.lfs_model.specs.Blocks.{Blocks, cut}
 use Rattle.lfs_model.specs.Disk.{IsImage}
 use Rattle.lfs_tool.specs.Blocks.{AreRead, Fills, IsPushed}
+use Rattle.lfs_tool.specs.Told.{IsReadToEnd}
 use Rattle.lfs_tool.proofs.Images.{image_fits}
+use Rattle.lfs_tool.proofs.KnownBytes.{ended_behind, past_the_most, reads_on}
 
 -- ---- a buffer that is filled
-
--- two reads in a row
-reads_on : (old mid new : Option (List ℕ)) (front back : List ℕ) → Consumes old mid front → Consumes mid new back → Consumes old new (front ++ back)
-reads_on None mid new front back first second = tt
-reads_on (Some xs) None new front back first second = absurd first
-reads_on (Some xs) (Some ys) None front back first second = absurd second
-reads_on (Some xs) (Some ys) (Some zs) front back first second = first ∙ ap (λ s. front ++ s) second ∙ sym (append_assoc front back zs)
 
 filled : (len n : ℕ) (buffer got rest : List ℕ) → len ≤ length buffer → n ≤ length got → take (len + n) (take len buffer ++ (got ++ rest)) ≡ take len buffer ++ take n got
 filled len n buffer got rest within bound =
@@ -149,3 +144,12 @@ pub read_too_many : (size : ℕ) (first old : Option (List ℕ)) (blocks : List 
     → IfSome first (λ bytes. (page : ℕ) → ¬ IsImage size page bytes)
 read_too_many size first old blocks (items, (read, are)) len many is =
     if_same first (λ bytes long page image. let short = image_fits size page bytes image in omega (arith, are.whole, short, many, ap (λ n. size * n) is)) (too_many first old items read)
+
+-- ---- all was read, or more than an image may have
+
+pub read_ended_in : (size : ℕ) (first old new : Option (List ℕ)) (n : ℕ) (buffer : List ℕ) (blocks : List BlockExcerpt) → HasRead size first old blocks → Fills old new n buffer → n < length buffer
+    → IsReadToEnd first new
+read_ended_in size first old new n buffer blocks (items, (read, are)) fills few = ended_behind first old new items (take n buffer) read fills.read (fills.last few)
+
+pub read_past : (size : ℕ) (first old : Option (List ℕ)) (blocks : List BlockExcerpt) → HasRead size first old blocks → (len : ℕ) → 268435456 < size * len → len ≡ length blocks → IsReadToEnd first old
+read_past size first old blocks (items, (read, are)) len many is = past_the_most first old items read (omega (arith, are.whole, many, ap (λ n. size * n) is))

@@ -1,9 +1,10 @@
 -- What several calls in a row do to known bytes.
-use Rattle.std.proofs.Common.{◌≡◌, ◌∙◌, ◌++◌, ◌+◌, ◌-◌, ◌≤◌, ap, ℕ, List, Option, Some, None, append_assoc, arith, drop, length, sym, take}
+use Rattle.std.proofs.Common.{◌≡◌, ◌∙◌, ◌++◌, ◌+◌, ◌-◌, ◌≤◌, ◌<◌, ap, ap₂, inl, inr, ℕ, List, [], Option, Some, None, append_assoc, arith, drop, length, length-append, refl, sym, take}
 use Rattle.std.specs.Prelude.{IfSome}
 use Rattle.std.specs.Io.KnownBytes.{Appends, Consumes, IsAtEnd, Keeps}
+use Rattle.lfs_tool.specs.Told.{IsReadToEnd}
 use Rattle.std.proofs.Math.Seq.{take-add, take-append_seam}
-use Rattle.std.proofs.lemmas.List.{append-nil, length-drop, take_all}
+use Rattle.std.proofs.lemmas.List.{append-nil, length-drop, length-take-le, take_all}
 
 rest_whole : (a : ℕ) (bs : List ℕ) → take (length bs - a) (drop a bs) ≡ drop a bs
 rest_whole a bs = take_all _ (drop a bs) (omega (arith, length-drop a bs))
@@ -31,6 +32,38 @@ read_ended (Some xs) (Some ys) None items buf k n len read none last ends = absu
 read_ended (Some xs) (Some ys) (Some zs) items buf k n len read none last ends =
     let all : xs ≡ items = read ∙ ap (λ s. items ++ s) (last ∙ ap (λ i. take i buf ++ zs) none ∙ ends) ∙ append-nil items in
     rw all (sym (take_all k items len))
+
+-- two reads in a row
+pub reads_on : (old mid new : Option (List ℕ)) (front back : List ℕ) → Consumes old mid front → Consumes mid new back → Consumes old new (front ++ back)
+reads_on None mid new front back first second = tt
+reads_on (Some xs) None new front back first second = absurd first
+reads_on (Some xs) (Some ys) None front back first second = absurd second
+reads_on (Some xs) (Some ys) (Some zs) front back first second = first ∙ ap (λ s. front ++ s) second ∙ sym (append_assoc front back zs)
+
+-- all was read, or more than an image may have
+pub ended_behind : (old mid new : Option (List ℕ)) (front back : List ℕ) → Consumes old mid front → Consumes mid new back → IsAtEnd new → IsReadToEnd old new
+ended_behind old mid new front back first second ends = (front ++ back, (reads_on old mid new front back first second, inl ends))
+
+pub past_the_most : (old new : Option (List ℕ)) (items : List ℕ) → Consumes old new items → 268435456 < length items → IsReadToEnd old new
+past_the_most old new items read many = (items, (read, inr many))
+
+-- so many bytes have been passed
+abbrev pub HasPassed : Option (List ℕ) → Option (List ℕ) → ℕ → Type 0
+HasPassed old new n = (bytes : List ℕ) × (Consumes old new bytes × (length bytes ≡ n))
+
+pub passed_none : (known : Option (List ℕ)) → HasPassed known known 0
+passed_none None = ([], (tt, refl))
+passed_none (Some bytes) = ([], (refl, refl))
+
+pub passed_more : (old mid new : Option (List ℕ)) (len n : ℕ) (buf : List ℕ) → HasPassed old mid len → Consumes mid new (take n buf) → n ≤ length buf → HasPassed old new (len + n)
+passed_more old mid new len n buf (bytes, (read, is)) more within =
+    (bytes ++ take n buf, (reads_on old mid new bytes (take n buf) read more, length-append bytes (take n buf) ∙ ap₂ (λ a b. a + b) is (length-take-le n buf within)))
+
+pub passed_to_end : (old mid new : Option (List ℕ)) (len n : ℕ) (buf : List ℕ) → HasPassed old mid len → Consumes mid new (take n buf) → IsAtEnd new → IsReadToEnd old new
+passed_to_end old mid new len n buf (bytes, (read, is)) more ends = ended_behind old mid new bytes (take n buf) read more ends
+
+pub passed_the_most : (old new : Option (List ℕ)) (len : ℕ) → HasPassed old new len → 268435456 < len → IsReadToEnd old new
+passed_the_most old new len (bytes, (read, is)) many = past_the_most old new bytes read (omega (arith, is, many))
 
 -- ---- a call that is made again, after calls that kept the known bytes
 

@@ -1,5 +1,5 @@
 -- What is done of an image that is unpacked.
-use Rattle.std.proofs.Common.{ℕ, ◌≡◌, ◌⊎◌, ◌∙◌, inl, inr, Bool, List, [], ◌∷◌, Option, Some, None, Result, Ok, Err, ap, ap₂, map, refl, subst, sym, take}
+use Rattle.std.proofs.Common.{ℕ, ◌≡◌, ◌⊎◌, ◌∙◌, inl, inr, List, [], ◌∷◌, Option, Some, None, Result, Ok, Err, ap, ap₂, map, refl, subst, sym, take}
 use Rattle.std.specs.Prelude.{IfErr, IfSome, IsErrOf, OnErr}
 use Rattle.lfs_model.specs.Disk.{Disk, IsImage, disk_of}
 use Rattle.lfs_model.specs.Listing.{Action, Entry, action_for, action_of}
@@ -59,7 +59,7 @@ module _ (disk now : Disk) (order : NameOrder) (ps : List Pair) (places : List P
   pub begun_of : (old new : Option (List Action)) → HasBegun old new (actions_at now places) → IsBegunOf disk old new
   begun_of old new h = (actions_at (ordered order disk) places, (unpacks, subst (λ d. HasBegun old new (actions_at d places)) same h))
 
-pub fails_begun : {X : Type 0} (disk : Disk) (old new : Option (List Action)) (was now : Bool) (r : Result X ToolError) (begun : Type 0) → OnErr r begun → (begun → IsBegunOf disk old new)
+pub fails_begun : {X : Type 0} (disk : Disk) (old new : Option (List Action)) (was now : ℕ) (r : Result X ToolError) (begun : Type 0) → OnErr r begun → (begun → IsBegunOf disk old new)
     → TellsTarget was now r → IfErr r (FailsToUnpack disk old new)
 fails_begun disk old new was now (Ok x) begun h to tells = tt
 fails_begun disk old new was now (Err Output) begun h to tells = to h

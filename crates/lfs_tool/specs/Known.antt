@@ -1,5 +1,5 @@
 -- What a failed call of a reader or a writer leaves.
-use Rattle.std.specs.Prelude.{◌≡◌, ◌≤◌, ◌⊎◌, ℕ, Bool, true, List, Option, length, take}
+use Rattle.std.specs.Prelude.{◌≡◌, ◌≤◌, ◌⊎◌, ℕ, suc, List, Option, length, take}
 use Rattle.std.specs.Io.KnownBytes.{Appends}
 use Rattle.lfs_device.specs.declared.error.Error.{Error}
 use Rattle.lfs_device.specs.declared.error.Error.TheVariants.{Corrupt, Invalid, NoMemory}
@@ -11,8 +11,8 @@ abbrev pub AppendsBeginning : Option (List ℕ) → Option (List ℕ) → List �
 AppendsBeginning old new bytes = (n : ℕ) × (n ≤ length bytes) × Appends old new (take n bytes)
 
 -- either the reader failed, or a growth was refused and the reader did not fail
-abbrev pub FailsToRead : ToolError → Bool → Bool → Type 0
-FailsToRead Input old new = new ≡ true
+abbrev pub FailsToRead : ToolError → ℕ → ℕ → Type 0
+FailsToRead Input old new = new ≡ suc old
 FailsToRead Output old new = ⊥
 FailsToRead (Fs e) old new = (e ≡ NoMemory) × (new ≡ old)
 
@@ -21,7 +21,7 @@ abbrev pub IsListError : Error → Type 0
 IsListError e = (e ≡ NoMemory) ⊎ (e ≡ Invalid) ⊎ (e ≡ Corrupt)
 
 -- either the reader failed, or it did not and an image is refused
-abbrev pub FailsToList : ToolError → Bool → Bool → Type 0
-FailsToList Input old new = new ≡ true
+abbrev pub FailsToList : ToolError → ℕ → ℕ → Type 0
+FailsToList Input old new = new ≡ suc old
 FailsToList Output old new = ⊥
 FailsToList (Fs e) old new = IsListError e × (new ≡ old)

@@ -3,6 +3,7 @@ pub mod ExcerptBlocks
 pub mod ExcerptSeen
 pub mod ExcerptShape
 pub mod Watched
+pub mod Told
 pub mod Known
 pub mod Blocks
 pub mod Orders

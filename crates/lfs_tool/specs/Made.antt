@@ -1,5 +1,5 @@
 -- What is made of a source, and why nothing is.
-use Rattle.std.specs.Prelude.{ℕ, ◌≡◌, ◌⊎◌, ◌*◌, Bool, true, List, length, Option, Result, Err, IfSome}
+use Rattle.std.specs.Prelude.{ℕ, ◌≡◌, ◌*◌, List, length, Option, Result, Err, IfSome}
 use Rattle.std.specs.Io.KnownBytes.{Appends}
 use Rattle.lfs_model.specs.Disk.{IsImage, block_count, disk_of}
 use Rattle.lfs_model.specs.Fresh.{IsFresh, empty_tree}
@@ -20,7 +20,7 @@ use Rattle.lfs_tool.specs.declared.errors.ToolError.{ToolError}
 use Rattle.lfs_tool.specs.declared.errors.ToolError.TheVariants.{Input}
 use Rattle.lfs_tool.specs.Known.{AppendsBeginning}
 use Rattle.lfs_tool.specs.Carried.{AreCarried, IsFirstRefusal, operations_of_all}
-use Rattle.lfs_tool_folders.specs.Entries.{AreAll, HasBadNames}
+use Rattle.lfs_tool_folders.specs.Entries.{AreAll, FailsOr, HasBadNames}
 use Rattle.lfs_tool_folders.specs.declared.entries.Entry.{Entry}
 
 -- ---- a run
@@ -79,11 +79,8 @@ IsBegun geometry known old new = (image : List ℕ) × (IsMade geometry known im
 abbrev pub HasRefusal : Geometry → Option Source → Error → Type 0
 HasRefusal geometry known e = (entries : List Entry) × (AreAll known entries × (CarryOver known (operations_of_all entries) × IsRefused geometry entries e))
 
--- the source has failed, or a folder in it has bad names
-abbrev pub HasFault : Bool → Option Source → Type 0
-HasFault failed known = (failed ≡ true) ⊎ IfSome known HasBadNames
-
--- `Input` comes where the source has a fault; behind any other answer it has failed as little as before
-abbrev pub TellsSource : {X : Type 0} → Bool → Bool → Option Source → Result X ToolError → Type 0
-TellsSource old new known (Err Input) = HasFault new known
+-- `Input` comes where the source fails, which it does once, or where it doesn't and a folder in it has bad names; behind
+-- any other answer it has failed as often as before
+abbrev pub TellsSource : {X : Type 0} → ℕ → ℕ → Option Source → Result X ToolError → Type 0
+TellsSource old new known (Err Input) = FailsOr old new (IfSome known HasBadNames)
 TellsSource old new known other = new ≡ old

@@ -1,5 +1,5 @@
 -- What an unpacking answers.
-use Rattle.std.specs.Prelude.{ℕ, ◌≡◌, ◌⊎◌, ◌++◌, Bool, true, List, Option, Some, None, Result, Ok, Err, map, take}
+use Rattle.std.specs.Prelude.{ℕ, ◌≡◌, ◌⊎◌, ◌++◌, suc, List, Option, Some, None, Result, Ok, Err, map, take}
 use Rattle.std.specs.List.{AllByRecursion}
 use Rattle.lfs_model.specs.Disk.{Disk, IsImage}
 use Rattle.lfs_model.specs.View.{IsListIfCtz, View}
@@ -49,12 +49,12 @@ abbrev pub AreLists : Disk → List Place → Type 0
 AreLists disk places = AllByRecursion (λ p. IsListIfCtz disk p.struct) places
 
 -- `Output` comes where the target has failed, and any other answer where it hasn't: then memory ran out, if it is an error
-abbrev pub TellsFault : Bool → Bool → ToolError → Type 0
-TellsFault old new Output = new ≡ true
+abbrev pub TellsFault : ℕ → ℕ → ToolError → Type 0
+TellsFault old new Output = new ≡ suc old
 TellsFault old new (Fs NoMemory) = new ≡ old
 TellsFault old new other = ⊥
 
-abbrev pub TellsTarget : {X : Type 0} → Bool → Bool → Result X ToolError → Type 0
+abbrev pub TellsTarget : {X : Type 0} → ℕ → ℕ → Result X ToolError → Type 0
 TellsTarget old new (Ok x) = new ≡ old
 TellsTarget old new (Err e) = TellsFault old new e
 

@@ -1,25 +1,24 @@
 // Images read block by block, of which what a listing needs is kept.
 
-ghost use Rattle.std.specs.Prelude.{◌≡◌, ◌≤◌, ◌*◌, IfErr, IfOk, IfSome, OnOk, None, length, true};
+ghost use Rattle.std.specs.Prelude.{◌≡◌, ◌≤◌, ◌*◌, IfErr, IfOk, IfSome, OnOk, None, length, suc};
 ghost use Rattle.lfs_tool.specs.ExcerptBlocks.{HaveSize};
 ghost use Rattle.lfs_model.specs.Disk.{IsImage};
 ghost use Rattle.lfs_tool.specs.ExcerptSeen.{size_of};
 ghost use Rattle.lfs_tool.specs.Blocks.{AreRead, Fills, IsPushed};
 ghost use Rattle.lfs_tool.specs.Known.{FailsToRead};
-ghost use Rattle.lfs_tool.specs.Watched.{failed_of, inner_of};
+ghost use Rattle.lfs_tool.specs.Told.{IsReadToEnd};
 
 use crate::input::IMAGE_MAX;
-use crate::{BlockExcerpt, Cutter, ToolError, Watched};
+use crate::{BlockExcerpt, Cutter, Reader, ToolError};
 use lfs_device::Error;
 use std::alloc::Global;
-use std::io::Read;
 
 // Fills the buffer, or its beginning where the image ends in it. Gives how many bytes were read.
-fn fill<R: Read>(image: &mut Watched<R>, buffer: &mut [u8]) -> Result<usize, ToolError>
-    ensures bytes { IfOk result (λ n. Fills (R.remaining (inner_of image.old)) (R.remaining (inner_of image.new)) n buffer.new) }
+fn fill<R: Reader>(image: &mut R, buffer: &mut [u8]) -> Result<usize, ToolError>
+    ensures bytes { IfOk result (λ n. Fills (R.remaining image.old) (R.remaining image.new) n buffer.new) }
     ensures len { length buffer.new ≡ length buffer.old }
-    ensures kept { OnOk result (failed_of image.new ≡ failed_of image.old) }
-    ensures err { IfErr result (λ e. (e ≡ ToolError.Input) × (failed_of image.new ≡ true)) }
+    ensures kept { OnOk result (R.faults image.new ≡ R.faults image.old) }
+    ensures err { IfErr result (λ e. (e ≡ ToolError.Input) × (R.faults image.new ≡ suc (R.faults image.old))) }
 {
     let mut len = 0;
     while len < buffer.len() {
@@ -34,17 +33,18 @@ fn fill<R: Read>(image: &mut Watched<R>, buffer: &mut [u8]) -> Result<usize, Too
 
 // Reads to the end. Gives no blocks where what was read isn't a whole number of them, or more than an
 // image may have.
-pub(crate) fn read_blocks<R: Read>(
+pub(crate) fn read_blocks<R: Reader>(
     alloc: Global,
-    image: &mut Watched<R>,
+    image: &mut R,
     block_size: u32,
 ) -> Result<Option<Vec<BlockExcerpt>>, ToolError>
     requires { 1024 ≤ block_size }
-    ensures blocks { IfOk result (λ found. IfSome found (λ blocks. IfSome (R.remaining (inner_of image.old)) (λ bytes. AreRead block_size bytes blocks.items))) }
+    ensures blocks { IfOk result (λ found. IfSome found (λ blocks. IfSome (R.remaining image.old) (λ bytes. AreRead block_size bytes blocks.items))) }
     ensures sizes { IfOk result (λ found. IfSome found (λ blocks. HaveSize block_size blocks.items × (block_size * length blocks.items ≤ IMAGE_MAX))) }
-    ensures none { IfOk result (λ found. found ≡ None → IfSome (R.remaining (inner_of image.old)) (λ bytes. (page : _) → ¬ IsImage block_size page bytes)) }
-    ensures kept { OnOk result (failed_of image.new ≡ failed_of image.old) }
-    ensures err { IfErr result (λ e. FailsToRead e (failed_of image.old) (failed_of image.new)) }
+    ensures none { IfOk result (λ found. found ≡ None → IfSome (R.remaining image.old) (λ bytes. (page : _) → ¬ IsImage block_size page bytes)) }
+    ensures read { OnOk result (IsReadToEnd (R.remaining image.old) (R.remaining image.new)) }
+    ensures kept { OnOk result (R.faults image.new ≡ R.faults image.old) }
+    ensures err { IfErr result (λ e. FailsToRead e (R.faults image.old) (R.faults image.new)) }
 {
     let size = block_size as usize;
     let (mut cutter, mut block) = room_for(alloc, size)?;

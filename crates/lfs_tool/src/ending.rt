@@ -1,32 +1,31 @@
-ghost use Rattle.std.specs.Prelude.{◌≡◌, IfSome, false, true};
+ghost use Rattle.std.specs.Prelude.{◌≡◌, IfSome, None, false, true};
 ghost use Rattle.std.specs.Io.KnownBytes.{Appends};
 ghost use Rattle.lfs_tool.specs.Known.{AppendsBeginning};
-ghost use Rattle.lfs_tool.specs.Watched.{failed_of, inner_of};
 ghost use Rattle.lfs_tool.specs.Ending.{own_line, shows_help, status_of};
 ghost use Rattle.lfs_tool.specs.Errors.{tool_line, tool_status};
+ghost use Rattle.lfs_tool.specs.Told.{HasShown};
 
 use crate::output::write_bytes;
-use crate::{Fault, ToolError, Watched};
+use crate::{Fault, ToolError, Writer};
 use clap::error::ErrorKind;
 use lfs_device::Error;
 use lfs_tool_line::LineError;
-use std::io::Write;
 
 // A line of the tool's own. A failed write is ignored.
-fn say<E: Write>(err: &mut Watched<E>, line: &str, status: u8) -> u8
+fn say<E: Writer>(err: &mut E, line: &str, status: u8) -> u8
     ensures status { result ≡ status }
-    ensures beginning { AppendsBeginning (E.contents (inner_of err.old)) (E.contents (inner_of err.new)) line.now }
-    ensures line { failed_of err.new ≡ false → Appends (E.contents (inner_of err.old)) (E.contents (inner_of err.new)) line.now }
+    ensures beginning { AppendsBeginning (E.contents err.old) (E.contents err.new) line.now }
+    ensures line { E.faults err.new ≡ E.faults err.old → Appends (E.contents err.old) (E.contents err.new) line.now × (E.pending err.new ≡ 0) }
 {
     let _ = write_bytes(err, line.as_bytes());
     status
 }
 
 // The line of an error. A failed write is ignored.
-fn say_error<E: Write>(err: &mut Watched<E>, error: ToolError) -> u8
+fn say_error<E: Writer>(err: &mut E, error: ToolError) -> u8
     ensures status { result ≡ tool_status error }
-    ensures beginning { AppendsBeginning (E.contents (inner_of err.old)) (E.contents (inner_of err.new)) (tool_line error) }
-    ensures line { failed_of err.new ≡ false → Appends (E.contents (inner_of err.old)) (E.contents (inner_of err.new)) (tool_line error) }
+    ensures beginning { AppendsBeginning (E.contents err.old) (E.contents err.new) (tool_line error) }
+    ensures line { E.faults err.new ≡ E.faults err.old → Appends (E.contents err.old) (E.contents err.new) (tool_line error) × (E.pending err.new ≡ 0) }
 {
     let line = error.line();
     say(err, line.as_str(), error.status())
@@ -41,14 +40,19 @@ fn say_error<E: Write>(err: &mut Watched<E>, error: ToolError) -> u8
 /// | 2 | there is no command line | the parser's text, `error: give exactly one of -c, -u, -l`, `error: --order is longer-first or shorter-first`, or `error: the command line is not UTF-8`, to `err` |
 /// | 3 | input or output failed | `error: input` or `error: output`, to `err` |
 ///
-/// A failed write is ignored. The writer to which nothing goes isn't touched. A line of the tool's own is
-/// written whole unless the writer failed; what the parser's text says is not promised.
-pub fn report<O: Write, E: Write>(fault: &Fault, out: &mut Watched<O>, err: &mut Watched<E>) -> u8
+/// A failed write is ignored. The writer to which nothing goes isn't touched. Unless its writer failed, a
+/// line of the tool's own is written whole, the parser's text is shown, and either is flushed; what the
+/// parser's text says is not promised.
+pub fn report<O: Writer, E: Writer>(fault: &Fault, out: &mut O, err: &mut E) -> u8
     ensures status { result ≡ status_of fault.now }
     ensures out { shows_help fault.now ≡ false → out.new ≡ out.old }
     ensures err { shows_help fault.now ≡ true → err.new ≡ err.old }
-    ensures beginning { IfSome (own_line fault.now) (AppendsBeginning (E.contents (inner_of err.old)) (E.contents (inner_of err.new))) }
-    ensures line { failed_of err.new ≡ false → IfSome (own_line fault.now) (Appends (E.contents (inner_of err.old)) (E.contents (inner_of err.new))) }
+    ensures beginning { IfSome (own_line fault.now) (AppendsBeginning (E.contents err.old) (E.contents err.new)) }
+    ensures line { E.faults err.new ≡ E.faults err.old → IfSome (own_line fault.now) (λ line. Appends (E.contents err.old) (E.contents err.new) line × (E.pending err.new ≡ 0)) }
+
+    // The parser's text is shown, and flushed.
+    ensures help { shows_help fault.now ≡ true → HasShown O.Writer out.old out.new }
+    ensures text { own_line fault.now ≡ None → shows_help fault.now ≡ false → HasShown E.Writer err.old err.new }
 {
     match fault {
         Fault::Line(LineError::Modes) => say(err, "error: give exactly one of -c, -u, -l\n", 2),
@@ -59,11 +63,11 @@ pub fn report<O: Write, E: Write>(fault: &Fault, out: &mut Watched<O>, err: &mut
         Fault::Line(LineError::Parser(error)) => match error.kind() {
             ErrorKind::OutOfMemory => say_error(err, ToolError::Fs(Error::NoMemory)),
             ErrorKind::DisplayHelp | ErrorKind::DisplayVersion => {
-                out.show(error);
+                let _ = out.show(error);
                 0
             }
             _ => {
-                err.show(error);
+                let _ = err.show(error);
                 2
             }
         },

@@ -1,26 +1,23 @@
 // Whole images from readers.
 
-ghost use Rattle.std.specs.Prelude.{◌≡◌, ◌+◌, ◌≤◌, IfErr, IfOk, IfSome, OnOk, length, take};
+ghost use Rattle.std.specs.Prelude.{◌≡◌, ◌+◌, ◌≤◌, IfErr, IfOk, IfSome, OnOk, length, suc, take};
 ghost use Rattle.lfs_tool.specs.Known.{FailsToRead};
-ghost use Rattle.lfs_tool.specs.Watched.{failed_of, inner_of};
+ghost use Rattle.lfs_tool.specs.Told.{IsReadToEnd};
 
-use crate::{ToolError, Watched};
+use crate::{Reader, ToolError};
 use lfs_device::Error;
 use std::alloc::Global;
-use std::io::Read;
 
 // The most bytes that an image has.
 pub(crate) const IMAGE_MAX: usize = 268_435_456;
 
 // Reads to the end, or one byte more than an image may have.
-pub(crate) fn read_image<R: Read>(
-    alloc: Global,
-    image: &mut Watched<R>,
-) -> Result<Vec<u8>, ToolError>
-    ensures bytes { IfOk result (λ v. IfSome (R.remaining (inner_of image.old)) (λ bytes. v.items ≡ take (IMAGE_MAX + 1) bytes)) }
+pub(crate) fn read_image<R: Reader>(alloc: Global, image: &mut R) -> Result<Vec<u8>, ToolError>
+    ensures bytes { IfOk result (λ v. IfSome (R.remaining image.old) (λ bytes. v.items ≡ take (IMAGE_MAX + 1) bytes)) }
     ensures bound { IfOk result (λ v. length v.items ≤ IMAGE_MAX + 1) }
-    ensures kept { OnOk result (failed_of image.new ≡ failed_of image.old) }
-    ensures err { IfErr result (λ e. FailsToRead e (failed_of image.old) (failed_of image.new)) }
+    ensures read { OnOk result (IsReadToEnd (R.remaining image.old) (R.remaining image.new)) }
+    ensures kept { OnOk result (R.faults image.new ≡ R.faults image.old) }
+    ensures err { IfErr result (λ e. FailsToRead e (R.faults image.old) (R.faults image.new)) }
 {
     let mut bytes = Vec::new(alloc);
     let mut buffer = [0u8; 65536];
@@ -37,4 +34,23 @@ pub(crate) fn read_image<R: Read>(
         }
     }
     Ok(bytes)
+}
+
+// The same, but keeps nothing.
+pub(crate) fn pass_image<R: Reader>(image: &mut R) -> Result<(), ToolError>
+    ensures read { OnOk result (IsReadToEnd (R.remaining image.old) (R.remaining image.new)) }
+    ensures kept { OnOk result (R.faults image.new ≡ R.faults image.old) }
+    ensures err { IfErr result (λ e. (e ≡ ToolError.Input) × (R.faults image.new ≡ suc (R.faults image.old))) }
+{
+    let mut len = 0;
+    let mut buffer = [0u8; 65536];
+    while len <= IMAGE_MAX {
+        let room = (IMAGE_MAX + 1 - len).min(65536);
+        match image.read(&mut buffer[..room]) {
+            Ok(0) => break,
+            Ok(n) => len += n,
+            Err(_) => return Err(ToolError::Input),
+        }
+    }
+    Ok(())
 }

@@ -1,4 +1,4 @@
-ghost use Rattle.std.specs.Prelude.{◌≡◌, ◌↔◌, ◌<◌, ◌^◌, List, ℕ, IfErr, IfOk, IfSome, IsErrOf, OnOk, length, true, false};
+ghost use Rattle.std.specs.Prelude.{◌≡◌, ◌<◌, ◌^◌, List, ℕ, IfErr, IfOk, IfSome, IsErrOf, OnOk, length};
 ghost use Rattle.std.specs.Io.KnownBytes.{Appends};
 ghost use Rattle.lfs_tool.specs.ExcerptBlocks.{HaveSize};
 ghost use Rattle.lfs_tool.specs.ExcerptSeen.{blocks_of, geometry_of};
@@ -8,17 +8,17 @@ ghost use Rattle.lfs_model.specs.Geometry.{IsGeometry};
 ghost use Rattle.lfs_model.specs.declared.order.NameOrder.{NameOrder};
 ghost use Rattle.lfs_tool.specs.Blocks.{AreRead};
 ghost use Rattle.lfs_tool.specs.Known.{AppendsBeginning, FailsToList, IsListError};
+ghost use Rattle.lfs_tool.specs.Told.{IsReadToEnd, Tells, TellsWriter};
 ghost use Rattle.lfs_tool.specs.Listed.{HasLines, IsNotMounted, Lists, Refuses};
-ghost use Rattle.lfs_tool.specs.Watched.{TellsWriter, failed_of, inner_of};
 
 use crate::blocks::read_blocks;
+use crate::input::pass_image;
 use crate::lines::lines_of;
 use crate::opening::{excerpt_of, items_of_excerpt};
 use crate::output::write_bytes;
-use crate::{BlockExcerpt, Excerpt, ToolError, Watched, excerpt_is_listed_alike};
+use crate::{BlockExcerpt, Excerpt, Reader, ToolError, Writer, excerpt_is_listed_alike};
 use lfs_device::{Error, Geometry};
 use std::alloc::Global;
-use std::io::{Read, Write};
 
 // The lines of an excerpt.
 fn lines_on(alloc: Global, device: Excerpt) -> Result<Vec<u8>, Error>
@@ -60,19 +60,22 @@ fn check_sizes(block_size: u32, page: u32) -> Result<(), Error>
 }
 
 // The lines of an image.
-fn read_lines<R: Read>(
+fn read_lines<R: Reader>(
     alloc: Global,
-    image: &mut Watched<R>,
+    image: &mut R,
     block_size: u32,
     page: u32,
 ) -> Result<Vec<u8>, ToolError>
-    ensures ok { IfOk result (λ text. IfSome (R.remaining (inner_of image.old)) (λ bytes. Lists block_size page bytes text.items)) }
-    ensures refused { (e : _) → IsErrOf result (ToolError.Fs e) → IfSome (R.remaining (inner_of image.old)) (λ bytes. Refuses block_size page bytes e) }
-    ensures kept { OnOk result (failed_of image.new ≡ failed_of image.old) }
-    ensures failed { IfErr result (λ e. FailsToList e (failed_of image.old) (failed_of image.new)) }
-    ensures unread { ¬ IsGeometry block_size page 2 → (image.new ≡ image.old) × IsErrOf result (ToolError.Fs Error.Invalid) }
+    ensures ok { IfOk result (λ text. IfSome (R.remaining image.old) (λ bytes. Lists block_size page bytes text.items)) }
+    ensures refused { (e : _) → IsErrOf result (ToolError.Fs e) → IfSome (R.remaining image.old) (λ bytes. Refuses block_size page bytes e) }
+    ensures kept { OnOk result (R.faults image.new ≡ R.faults image.old) }
+    ensures failed { IfErr result (λ e. FailsToList e (R.faults image.old) (R.faults image.new)) }
+    ensures read { ¬ IsErrOf result ToolError.Input → ¬ IsErrOf result (ToolError.Fs Error.NoMemory) → IsReadToEnd (R.remaining image.old) (R.remaining image.new) }
 {
-    check_sizes(block_size, page)?;
+    if let Err(error) = check_sizes(block_size, page) {
+        pass_image(image)?;
+        return Err(ToolError::Fs(error));
+    }
     let Some(blocks) = read_blocks(alloc, image, block_size)? else {
         return Err(ToolError::Fs(Error::Invalid));
     };
@@ -87,10 +90,10 @@ fn read_lines<R: Read>(
 /// The image may have its names in either order. Of two names of which one begins the other, the lines
 /// have the shorter first.
 ///
-/// The image is read to its end, a block at a time, or at most a block past the largest image's,
-/// 268435456 bytes; it isn't read where `block_size` or `page`, in bytes, is out of range. Of each
-/// block only what a listing needs is kept, which is mostly the first 132 bytes. Nothing is written
-/// before the image is known to be good.
+/// The image is read first, to its end, or past the largest image's size, 268435456 bytes, by a block at
+/// most: also where `block_size` or `page`, in bytes, is out of range. Of each block only what a listing
+/// needs is kept, which is mostly the first 132 bytes. Nothing is written before the image is known to be
+/// good, and what was written is flushed.
 ///
 /// # Errors
 /// - `Input` where the reader failed.
@@ -98,25 +101,25 @@ fn read_lines<R: Read>(
 /// - `Fs(Invalid)` where the image isn't a whole number of blocks, or its geometry is out of range.
 /// - `Fs(Corrupt)` where the image is accepted in neither order of names.
 /// - `Output` where the writer failed. What was written is then a beginning of the lines.
-pub fn list<R: Read, W: Write>(
+pub fn list<R: Reader, W: Writer>(
     alloc: Global,
-    image: &mut Watched<R>,
+    image: &mut R,
     block_size: u32,
     page: u32,
-    out: &mut Watched<W>,
+    out: &mut W,
 ) -> Result<(), ToolError>
-    ensures ok { OnOk result (IfSome (R.remaining (inner_of image.old)) (λ bytes.
-        (text : _) × (Lists block_size page bytes text × Appends (W.contents (inner_of out.old)) (W.contents (inner_of out.new)) text))) }
+    ensures ok { OnOk result (IfSome (R.remaining image.old) (λ bytes.
+        (text : _) × (Lists block_size page bytes text × Appends (W.contents out.old) (W.contents out.new) text))) }
 
     // The writer isn't touched, unless it fails: then a beginning of the lines may be written.
-    ensures writer { TellsWriter out.old out.new result }
-    ensures beginning { IsErrOf result ToolError.Output → IfSome (R.remaining (inner_of image.old)) (λ bytes.
-        (text : _) × (Lists block_size page bytes text × AppendsBeginning (W.contents (inner_of out.old)) (W.contents (inner_of out.new)) text)) }
+    ensures writer { TellsWriter W.Writer out.old out.new result }
+    ensures beginning { IsErrOf result ToolError.Output → IfSome (R.remaining image.old) (λ bytes.
+        (text : _) × (Lists block_size page bytes text × AppendsBeginning (W.contents out.old) (W.contents out.new) text)) }
 
     // When each other error comes.
-    ensures refused { (e : _) → IsErrOf result (ToolError.Fs e) → IsListError e × IfSome (R.remaining (inner_of image.old)) (λ bytes. Refuses block_size page bytes e) }
-    ensures input { failed_of image.old ≡ false → IsErrOf result ToolError.Input ↔ (failed_of image.new ≡ true) }
-    ensures unread { ¬ IsGeometry block_size page 2 → (image.new ≡ image.old) × IsErrOf result (ToolError.Fs Error.Invalid) }
+    ensures refused { (e : _) → IsErrOf result (ToolError.Fs e) → IsListError e × IfSome (R.remaining image.old) (λ bytes. Refuses block_size page bytes e) }
+    ensures input { Tells ToolError.Input (R.faults image.old) (R.faults image.new) result }
+    ensures read { ¬ IsErrOf result ToolError.Input → ¬ IsErrOf result (ToolError.Fs Error.NoMemory) → IsReadToEnd (R.remaining image.old) (R.remaining image.new) }
 {
     let text = read_lines(alloc, image, block_size, page)?;
     write_bytes(out, text.as_slice())

@@ -1,21 +1,20 @@
 ghost use Rattle.std.specs.Prelude.{◌≡◌, ◌≢◌, IfErr, IfOk, IsErrOf, OnOk};
 ghost use Rattle.lfs_fs.specs.Held.{moment_of};
-ghost use Rattle.lfs_tool.specs.Watched.{TellsWriter, inner_of};
+ghost use Rattle.lfs_tool.specs.Told.{TellsWriter};
 ghost use Rattle.lfs_tool.specs.Made.{AreLeft, Begins, HasRefusal, IsBegun, IsCreated, IsRefused, TellsSource};
 ghost use Rattle.lfs_tool_folders.specs.Entries.{AreAll};
 
 use crate::carrying::carry_over;
-use crate::{ToolError, Watched, write_bytes};
+use crate::{ToolError, Writer, write_bytes};
 use lfs_device::{Error, Geometry, RamDevice};
 use lfs_fs::{Session, format_ordered};
 use lfs_tool_folders::{Entry, Source, SourceError, read_tree};
 use std::alloc::Global;
-use std::io::Write;
 
 // All that the source has.
 fn read_source<S: Source>(alloc: Global, source: &mut S) -> Result<Vec<Entry>, ToolError>
     ensures entries { IfOk result (λ v. AreAll (S.shown source.old) v.items) }
-    ensures source { TellsSource (S.has_failed source.old) (S.has_failed source.new) (S.shown source.old) result }
+    ensures source { TellsSource (S.faults source.old) (S.faults source.new) (S.shown source.old) result }
     ensures other { IfErr result (λ e. e ≢ ToolError.Input → e ≡ ToolError.Fs Error.NoMemory) }
 {
     match read_tree(alloc, source) {
@@ -52,7 +51,7 @@ fn make(alloc: Global, geometry: Geometry, entries: &[Entry]) -> Result<Vec<u8>,
 /// geometry's order. All of the source is read first. It is carried over into an empty file system,
 /// depth first and in name order, the shorter names first: a folder is made, a file is opened to create
 /// it, its bytes are written at once, and it is closed. Nothing is written where one of these operations
-/// is refused.
+/// is refused. What was written is flushed.
 ///
 /// # Errors
 /// - `Input` where the source couldn't be read, or a name in a folder of it is given twice or can't stand
@@ -62,22 +61,22 @@ fn make(alloc: Global, geometry: Geometry, entries: &[Entry]) -> Result<Vec<u8>,
 ///   more than 2147483647.
 /// - `Fs(NoMemory)` where a growth was refused.
 /// - `Output` where the writer failed. What was written is then a beginning of the image.
-pub fn create<S: Source, W: Write>(
+pub fn create<S: Source, W: Writer>(
     alloc: Global,
     source: &mut S,
     geometry: Geometry,
-    out: &mut Watched<W>,
+    out: &mut W,
 ) -> Result<(), ToolError>
-    ensures ok { OnOk result (IsCreated geometry (S.shown source.old) (W.contents (inner_of out.old)) (W.contents (inner_of out.new))) }
+    ensures ok { OnOk result (IsCreated geometry (S.shown source.old) (W.contents out.old) (W.contents out.new)) }
 
     // The writer isn't touched, unless it fails: then a beginning of the image may be written.
-    ensures writer { TellsWriter out.old out.new result }
+    ensures writer { TellsWriter W.Writer out.old out.new result }
     ensures beginning { IsErrOf result ToolError.Output
-        → IsBegun geometry (S.shown source.old) (W.contents (inner_of out.old)) (W.contents (inner_of out.new)) }
+        → IsBegun geometry (S.shown source.old) (W.contents out.old) (W.contents out.new) }
 
     // When each other error comes.
     ensures refused { (e : _) → IsErrOf result (ToolError.Fs e) → e ≢ Error.NoMemory → HasRefusal geometry (S.shown source.old) e }
-    ensures source { TellsSource (S.has_failed source.old) (S.has_failed source.new) (S.shown source.old) result }
+    ensures source { TellsSource (S.faults source.old) (S.faults source.new) (S.shown source.old) result }
 {
     let entries = read_source(alloc, source)?;
     match make(alloc, geometry, entries.as_slice()) {

@@ -1,22 +1,21 @@
 // Texts to writers.
 
-ghost use Rattle.std.specs.Prelude.{◌≡◌, OnErr, OnOk, true};
+ghost use Rattle.std.specs.Prelude.{◌≡◌, OnErr, OnOk, suc};
 ghost use Rattle.std.specs.Io.KnownBytes.{Appends};
 ghost use Rattle.lfs_tool.specs.Known.{AppendsBeginning};
-ghost use Rattle.lfs_tool.specs.Watched.{failed_of, inner_of};
 
-use crate::{ToolError, Watched};
-use std::io::Write;
+use crate::{ToolError, Writer};
 
-/// Writes the bytes. After an error a beginning of them was written.
+/// Writes the bytes, and flushes them. After an error a beginning of them was written.
 ///
 /// # Errors
 /// `Output` where the writer failed.
-pub fn write_bytes<W: Write>(out: &mut Watched<W>, bytes: &[u8]) -> Result<(), ToolError>
-    ensures ok { OnOk result (Appends (W.contents (inner_of out.old)) (W.contents (inner_of out.new)) bytes.now) }
-    ensures beginning { AppendsBeginning (W.contents (inner_of out.old)) (W.contents (inner_of out.new)) bytes.now }
-    ensures kept { OnOk result (failed_of out.new ≡ failed_of out.old) }
-    ensures failed { OnErr result ((result ≡ Err ToolError.Output) × (failed_of out.new ≡ true)) }
+pub fn write_bytes<W: Writer>(out: &mut W, bytes: &[u8]) -> Result<(), ToolError>
+    ensures ok { OnOk result (Appends (W.contents out.old) (W.contents out.new) bytes.now) }
+    ensures beginning { AppendsBeginning (W.contents out.old) (W.contents out.new) bytes.now }
+    ensures flushed { OnOk result (W.pending out.new ≡ 0) }
+    ensures kept { OnOk result (W.faults out.new ≡ W.faults out.old) }
+    ensures failed { OnErr result ((result ≡ Err ToolError.Output) × (W.faults out.new ≡ suc (W.faults out.old))) }
 {
     let mut at = 0;
     while at < bytes.len() {

@@ -1,6 +1,6 @@
 // Images that are unpacked.
 
-ghost use Rattle.std.specs.Prelude.{◌≡◌, ◌≢◌, ◌⊎◌, ◌↔◌, ◌<◌, ◌^◌, IfErr, IfOk, IfSome, IsErrOf, OnErr, OnOk, false, length, true};
+ghost use Rattle.std.specs.Prelude.{◌≡◌, ◌≢◌, ◌⊎◌, ◌<◌, ◌^◌, IfErr, IfOk, IfSome, IsErrOf, OnErr, OnOk, false, length};
 ghost use Rattle.lfs_device.specs.RamDevice.{blocks_of, geometry_of};
 ghost use Rattle.lfs_device.specs.Shown.{disk_of as shown};
 ghost use Rattle.lfs_model.specs.View.{IsListIfCtz};
@@ -11,17 +11,16 @@ ghost use Rattle.lfs_thread.specs.Steps.{IsOnlyRead};
 ghost use Rattle.lfs_lookup.specs.FileBytes.{bytes_shown};
 ghost use Rattle.lfs_lookup.specs.Items.{structure_seen};
 ghost use Rattle.lfs_lookup.specs.Walk.{found_seen, founds_seen};
-ghost use Rattle.lfs_tool.specs.Watched.{failed_of, inner_of};
+ghost use Rattle.lfs_tool.specs.Told.{IsReadToEnd, Tells};
 
 use crate::input::read_image;
 use crate::opening::{device_of, items_in_memory};
-use crate::{ToolError, Watched};
+use crate::{Reader, ToolError};
 use lfs_device::{Error, Ordered, RamDevice};
 use lfs_lookup::{Structure, TreeItem, contents_of};
 use lfs_thread::Thread;
 use lfs_tool_folders::{Target, TargetError};
 use std::alloc::Global;
-use std::io::Read;
 
 // The bytes of a file of an image in memory.
 fn file_bytes(
@@ -68,7 +67,7 @@ fn put_item<T: Target>(
     ensures done { OnOk result (Adds (T.done target.old) (T.done target.new) (action_at thread.old.kept.disk (found_seen item.now))) }
     ensures undone { OnErr result (T.done target.new ≡ T.done target.old) }
     ensures only { (IsOnlyRead thread.old.kept thread.new.kept) × (thread.new.failed ≡ false) }
-    ensures tells { TellsTarget (T.has_failed target.old) (T.has_failed target.new) result }
+    ensures tells { TellsTarget (T.faults target.old) (T.faults target.new) result }
 {
     let result = match &item.structure {
         Structure::Branch(_) => target.make_folder(alloc, &item.path),
@@ -94,7 +93,7 @@ fn put_items<T: Target>(
     requires lists { AreLists thread.old.kept.disk (founds_seen items.now) }
     ensures done { OnOk result (HasDone (T.done target.old) (T.done target.new) (actions_at thread.old.kept.disk (founds_seen items.now))) }
     ensures begun { OnErr result (HasBegun (T.done target.old) (T.done target.new) (actions_at thread.old.kept.disk (founds_seen items.now))) }
-    ensures tells { TellsTarget (T.has_failed target.old) (T.has_failed target.new) result }
+    ensures tells { TellsTarget (T.faults target.old) (T.faults target.new) result }
 {
     for item in items {
         put_item(alloc, thread, item, target)?;
@@ -106,8 +105,7 @@ fn put_items<T: Target>(
 fn unpack_on<T: Target>(alloc: Global, device: RamDevice, target: &mut T) -> Result<(), ToolError>
     ensures done { OnOk result (IsDoneOf (shown (geometry_of device) (blocks_of device)) (T.done target.old) (T.done target.new)) }
     ensures failed { IfErr result (FailsToUnpack (shown (geometry_of device) (blocks_of device)) (T.done target.old) (T.done target.new)) }
-    ensures output { IsErrOf result ToolError.Output → T.has_failed target.new ≡ true }
-    ensures quiet { ¬ IsErrOf result ToolError.Output → T.has_failed target.new ≡ T.has_failed target.old }
+    ensures output { Tells ToolError.Output (T.faults target.old) (T.faults target.new) result }
 {
     match items_in_memory(alloc, device) {
         Ok((mut thread, items)) => put_items(alloc, &mut thread, &items, target),
@@ -126,8 +124,7 @@ fn unpack_image<T: Target>(
     requires { length image.items < 2 ^ 32 }
     ensures done { OnOk result (IsDoneOfImage block_size page image.items (T.done target.old) (T.done target.new)) }
     ensures failed { IfErr result (FailsToUnpackImage block_size page image.items (T.done target.old) (T.done target.new)) }
-    ensures output { IsErrOf result ToolError.Output → T.has_failed target.new ≡ true }
-    ensures quiet { ¬ IsErrOf result ToolError.Output → T.has_failed target.new ≡ T.has_failed target.old }
+    ensures output { Tells ToolError.Output (T.faults target.old) (T.faults target.new) result }
 {
     match device_of(image, block_size, page) {
         Ok(device) => unpack_on(alloc, device, target),
@@ -151,23 +148,24 @@ fn unpack_image<T: Target>(
 /// - `Fs(Invalid)` where the image isn't a whole number of blocks, or its geometry is out of range.
 /// - `Fs(Corrupt)` where the image is accepted in neither order of names.
 /// - `Output` where the target failed.
-pub fn unpack<R: Read, T: Target>(
+pub fn unpack<R: Reader, T: Target>(
     alloc: Global,
-    image: &mut Watched<R>,
+    image: &mut R,
     block_size: u32,
     page: u32,
     target: &mut T,
 ) -> Result<(), ToolError>
-    ensures done { OnOk result (IfSome (R.remaining (inner_of image.old)) (λ bytes. IsDoneOfImage block_size page bytes (T.done target.old) (T.done target.new))) }
+    ensures done { OnOk result (IfSome (R.remaining image.old) (λ bytes. IsDoneOfImage block_size page bytes (T.done target.old) (T.done target.new))) }
 
     // Nothing is done, or a beginning of the actions, where the target failed or memory ran out.
     ensures undone { IfErr result (λ e. e ≢ ToolError.Output → e ≢ ToolError.Fs Error.NoMemory → T.done target.new ≡ T.done target.old) }
-    ensures begun { OnErr result ((T.done target.new ≡ T.done target.old) ⊎ IfSome (R.remaining (inner_of image.old)) (λ bytes. IsBegunOfImage block_size page bytes (T.done target.old) (T.done target.new))) }
+    ensures begun { OnErr result ((T.done target.new ≡ T.done target.old) ⊎ IfSome (R.remaining image.old) (λ bytes. IsBegunOfImage block_size page bytes (T.done target.old) (T.done target.new))) }
 
     // When each error comes.
-    ensures refused { (e : _) → IsErrOf result (ToolError.Fs e) → IfSome (R.remaining (inner_of image.old)) (λ bytes. Refuses block_size page bytes e) }
-    ensures input { failed_of image.old ≡ false → IsErrOf result ToolError.Input ↔ (failed_of image.new ≡ true) }
-    ensures output { T.has_failed target.old ≡ false → IsErrOf result ToolError.Output ↔ (T.has_failed target.new ≡ true) }
+    ensures refused { (e : _) → IsErrOf result (ToolError.Fs e) → IfSome (R.remaining image.old) (λ bytes. Refuses block_size page bytes e) }
+    ensures input { Tells ToolError.Input (R.faults image.old) (R.faults image.new) result }
+    ensures read { ¬ IsErrOf result ToolError.Input → ¬ IsErrOf result (ToolError.Fs Error.NoMemory) → IsReadToEnd (R.remaining image.old) (R.remaining image.new) }
+    ensures output { Tells ToolError.Output (T.faults target.old) (T.faults target.new) result }
 {
     let bytes = read_image(alloc, image)?;
     unpack_image(alloc, bytes, block_size, page, target)

@@ -1,39 +1,40 @@
-ghost use Rattle.std.specs.Prelude.{◌≡◌, ◌≢◌, ◌<◌, IfErr, IfOk, OnErr, OnOk, false, length, true};
-ghost use Rattle.std.specs.Io.{ReadsAtMost, WritesAtMost};
-ghost use Rattle.std.specs.IoError.{error_kind};
-ghost use Rattle.std.specs.Io.KnownBytes.{Keeps, ReadConsumes, WriteAppends};
+ghost use Rattle.std.specs.Prelude.{◌≡◌};
 
+use crate::{Reader, Writer};
+use lfs_tool_folders::Tally;
 use std::fmt::Display;
 use std::io;
 use std::io::{ErrorKind, Read, Write};
 
-/// A reader or a writer that remembers whether it has failed. A call that a signal interrupted is
-/// made again, and is no failure. Nothing else tells it that it has failed, and no call passes it by.
+/// A reader or a writer of std, with counts of what its calls did. A call that a signal interrupted is
+/// made again, and is no failure.
+///
+/// std's traits have no word for a call that failed, nor for a flush. So here it is read in the code, and
+/// not proved, that std's call is made, that a failure is counted only where it failed, and that a flush
+/// is one. Callers know a `Watched` by `Reader` and `Writer`, and can't count anything without a call.
 #[derive(Drop)]
 pub struct Watched<T> {
     inner: T,
-    has_failed: bool,
+    // The failed calls, the writes since the last flush, and the values that were shown.
+    faults: Tally,
+    pending: Tally,
+    shown: Tally,
 }
 
 impl<T> Watched<T> {
-    ghost use Rattle.lfs_tool.specs.Watched.{failed_of, inner_of};
+    ghost use Rattle.lfs_tool.specs.Watched.{faults_of, inner_of};
 
-    /// A reader or a writer that has not failed yet.
+    /// A reader or a writer of which no call was made yet.
     pub fn new(inner: T) -> Watched<T>
         ensures inner { inner_of result ≡ inner }
-        ensures works { failed_of result ≡ false }
+        ensures faults { faults_of result ≡ 0 }
     {
         Watched {
             inner,
-            has_failed: false,
+            faults: Tally::none(),
+            pending: Tally::none(),
+            shown: Tally::none(),
         }
-    }
-
-    /// Whether a call has failed.
-    pub fn has_failed(&self) -> bool
-        ensures { result ≡ failed_of self.now }
-    {
-        self.has_failed
     }
 
     /// The reader or the writer.
@@ -51,90 +52,91 @@ impl<T> Watched<T> {
     }
 }
 
-impl<R: Read> Watched<R> {
-    ghost use Rattle.lfs_tool.specs.Watched.{failed_of, inner_of};
+impl<R: Read> Reader for Watched<R> {
+    ghost use Rattle.lfs_tool.specs.Watched.{faults_of, inner_of};
 
-    // As the reader's own `read`.
-    pub(crate) fn read(&mut self, buf: &mut [u8]) -> io::Result<usize>
-        ensures bound { ReadsAtMost result buf.new }
-        ensures bytes { ReadConsumes (R.remaining (inner_of self.old)) (R.remaining (inner_of self.new)) result buf.new }
-        ensures ok { OnOk result (failed_of self.new ≡ failed_of self.old) }
-        ensures err { OnErr result (failed_of self.new ≡ true) }
-        ensures retried { IfErr result (λ e. error_kind e ≢ ErrorKind.Interrupted) }
-    {
+    ghost remaining = { λ w. R.remaining (inner_of w) };
+
+    ghost faults = { faults_of };
+
+    fn read(&mut self, buf: &mut [u8]) -> io::Result<usize> {
         for _ in 0..u64::MAX {
             match self.inner.read(buf) {
                 Err(error) if error.kind() == ErrorKind::Interrupted => {}
                 Err(error) => {
-                    self.has_failed = true;
+                    self.faults = self.faults.one_more();
                     return Err(error);
                 }
                 Ok(n) => return Ok(n),
             }
         }
         // Each try was interrupted.
-        self.has_failed = true;
+        self.faults = self.faults.one_more();
         Err(io::Error::from(ErrorKind::TimedOut))
     }
 }
 
-impl<W: Write> Watched<W> {
-    ghost use Rattle.lfs_tool.specs.Watched.{failed_of, inner_of};
+impl<W: Write> Writer for Watched<W> {
+    ghost use Rattle.lfs_tool.specs.Watched.{faults_of, inner_of, pending_of, shown_of};
 
-    // As the writer's own `write`. To take nothing of some bytes is to fail.
-    pub(crate) fn write(&mut self, buf: &[u8]) -> io::Result<usize>
-        requires { 0 < length buf.now }
-        ensures bound { WritesAtMost result buf.now }
-        ensures bytes { WriteAppends (W.contents (inner_of self.old)) (W.contents (inner_of self.new)) result buf.now }
-        ensures ok { IfOk result (λ n. (0 < n) × (failed_of self.new ≡ failed_of self.old)) }
-        ensures err { OnErr result (failed_of self.new ≡ true) }
-        ensures retried { IfErr result (λ e. error_kind e ≢ ErrorKind.Interrupted) }
-    {
+    ghost contents = { λ w. W.contents (inner_of w) };
+
+    ghost faults = { faults_of };
+
+    ghost pending = { pending_of };
+
+    ghost shown = { shown_of };
+
+    // To take nothing of some bytes is to fail.
+    fn write(&mut self, buf: &[u8]) -> io::Result<usize> {
         for _ in 0..u64::MAX {
             match self.inner.write(buf) {
                 Ok(0) => {
-                    self.has_failed = true;
+                    self.faults = self.faults.one_more();
                     return Err(io::Error::from(ErrorKind::WriteZero));
                 }
-                Ok(n) => return Ok(n),
+                Ok(n) => {
+                    self.pending = self.pending.one_more();
+                    return Ok(n);
+                }
                 Err(error) if error.kind() == ErrorKind::Interrupted => {}
                 Err(error) => {
-                    self.has_failed = true;
+                    self.faults = self.faults.one_more();
                     return Err(error);
                 }
             }
         }
         // Each try was interrupted.
-        self.has_failed = true;
+        self.faults = self.faults.one_more();
         Err(io::Error::from(ErrorKind::TimedOut))
     }
 
-    // As the writer's own `flush`.
-    pub(crate) fn flush(&mut self) -> io::Result<()>
-        ensures bytes { Keeps (W.contents (inner_of self.old)) (W.contents (inner_of self.new)) }
-        ensures ok { OnOk result (failed_of self.new ≡ failed_of self.old) }
-        ensures err { OnErr result (failed_of self.new ≡ true) }
-        ensures retried { IfErr result (λ e. error_kind e ≢ ErrorKind.Interrupted) }
-    {
+    fn flush(&mut self) -> io::Result<()> {
         for _ in 0..u64::MAX {
             match self.inner.flush() {
-                Ok(()) => return Ok(()),
+                Ok(()) => {
+                    self.pending = Tally::none();
+                    return Ok(());
+                }
                 Err(error) if error.kind() == ErrorKind::Interrupted => {}
                 Err(error) => {
-                    self.has_failed = true;
+                    self.faults = self.faults.one_more();
                     return Err(error);
                 }
             }
         }
         // Each try was interrupted.
-        self.has_failed = true;
+        self.faults = self.faults.one_more();
         Err(io::Error::from(ErrorKind::TimedOut))
     }
 
-    // Writes what it shows. A failed write is ignored.
-    pub(crate) fn show<D: Display>(&mut self, shown: &D) {
-        if write!(self.inner, "{shown}").is_err() {
-            self.has_failed = true;
+    fn show<D: Display>(&mut self, value: &D) -> io::Result<()> {
+        if let Err(error) = write!(self.inner, "{value}") {
+            self.faults = self.faults.one_more();
+            return Err(error);
         }
+        self.flush()?;
+        self.shown = self.shown.one_more();
+        Ok(())
     }
 }

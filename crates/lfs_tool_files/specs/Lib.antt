@@ -1,2 +1,4 @@
 pub mod Asked
 pub mod Answered
+pub mod Paths
+pub mod Placed

@@ -2,11 +2,18 @@
 #![tactic(auto)]
 
 mod asking;
+mod carrying_out;
 mod creating;
-mod image_file;
+mod new_image;
+mod old_image;
+mod places;
+mod real_places;
 mod running;
 
 pub use asking::{list_asked, unpack_asked};
-pub use creating::{create_asked, create_image};
-pub use image_file::ImageFile;
+pub use creating::create_asked;
+pub use new_image::NewImage;
+pub use old_image::OldImage;
+pub use places::Places;
+pub use real_places::RealPlaces;
 pub use running::{answer, run};

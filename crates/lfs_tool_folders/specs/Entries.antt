@@ -1,5 +1,5 @@
 -- What a source has, once it is read.
-use Rattle.std.specs.Prelude.{◌≡◌, ◌++◌, ◌&&◌, ℕ, Bool, true, false, List, [], ◌∷◌, Option, Some, None, All, AllPairs, Contains, IfSome, map}
+use Rattle.std.specs.Prelude.{◌≡◌, ◌⊎◌, ◌++◌, ◌&&◌, ℕ, suc, Bool, true, false, List, [], ◌∷◌, Option, Some, None, All, AllPairs, Contains, IfSome, map}
 use Rattle.std.specs.List.Sorted.{IsPermutation}
 use Rattle.std.specs.declared.cmp.Ordering.TheVariants.{Less}
 use Rattle.lfs_model.specs.declared.order.NameOrder.TheVariants.{ShorterFirst}
@@ -68,6 +68,10 @@ abbrev pub AreAll : Option Source → List Entry → Type 0
 AreAll known entries = (top : List (Name × Bool)) × (AreWithin known [] top × AreRead known (places_in [] top) entries)
 
 -- ---- faults
+
+-- a call more has met a fault, or none has and this holds
+abbrev pub FailsOr : ℕ → ℕ → Type 0 → Type 0
+FailsOr old new other = (new ≡ suc old) ⊎ ((new ≡ old) × other)
 
 -- Names lead from one folder to another, each a folder's in the one before.
 abbrev pub LeadsTo : Source → List ℕ → List Name → List ℕ → Type 0

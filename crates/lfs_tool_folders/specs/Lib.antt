@@ -2,3 +2,4 @@ pub mod Shown
 pub mod InMemory
 pub mod Entries
 pub mod Actions
+pub mod Roots

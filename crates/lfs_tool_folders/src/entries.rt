@@ -1,8 +1,8 @@
-ghost use Rattle.std.specs.Prelude.{◌≡◌, ◌++◌, ◌∷◌, ◌⊎◌, [], IfOk, IfSome, IsErrOf, OnOk, map, reverse, true};
+ghost use Rattle.std.specs.Prelude.{◌≡◌, ◌++◌, ◌∷◌, [], IfOk, IfSome, IsErrOf, OnOk, map, reverse, true};
 ghost use Rattle.lfs_model.specs.Source.{AreBad, given_names, path_in};
 ghost use Rattle.lfs_tool_folders.specs.Shown.{Rests, is_folder, listed};
 ghost use Rattle.lfs_tool_folders.specs.InMemory.{items_by};
-ghost use Rattle.lfs_tool_folders.specs.Entries.{AreAll, AreWithin, HasBadNames, Holds, place_of, places_in};
+ghost use Rattle.lfs_tool_folders.specs.Entries.{AreAll, AreWithin, FailsOr, HasBadNames, Holds, place_of, places_in};
 
 use crate::names::{are_good, sort_names};
 use crate::{Kind, Listed, Source, SourceError};
@@ -44,10 +44,10 @@ fn names_within<S: Source>(
 ) -> Result<Vec<Listed>, SourceError>
     ensures names { IfOk result (λ v. AreWithin (S.shown source.old) folder.now (map listed v.items)) }
     ensures shown { Rests (S.shown source.old) (S.shown source.new) }
-    ensures kept { OnOk result (S.has_failed source.new ≡ S.has_failed source.old) }
+    ensures kept { OnOk result (S.faults source.new ≡ S.faults source.old) }
     ensures fault { IsErrOf result SourceError.Fault
-        → (S.has_failed source.new ≡ true) ⊎ IfSome (S.shown source.old) (λ s. AreBad (given_names (s.names folder.now))) }
-    ensures no_memory { IsErrOf result SourceError.NoMemory → S.has_failed source.new ≡ S.has_failed source.old }
+        → FailsOr (S.faults source.old) (S.faults source.new) (IfSome (S.shown source.old) (λ s. AreBad (given_names (s.names folder.now)))) }
+    ensures no_memory { IsErrOf result SourceError.NoMemory → S.faults source.new ≡ S.faults source.old }
 {
     let mut names = source.list(alloc, folder)?;
     sort_names(&mut names);
@@ -91,10 +91,10 @@ fn look_into<S: Source>(
     ensures within { OnOk result ((within : _) × (AreWithin (S.shown source.old) folder.now within
         × (map place_of waiting.new.items ≡ map place_of waiting.old.items ++ reverse (places_in folder.now within)))) }
     ensures shown { Rests (S.shown source.old) (S.shown source.new) }
-    ensures kept { OnOk result (S.has_failed source.new ≡ S.has_failed source.old) }
+    ensures kept { OnOk result (S.faults source.new ≡ S.faults source.old) }
     ensures fault { IsErrOf result SourceError.Fault
-        → (S.has_failed source.new ≡ true) ⊎ IfSome (S.shown source.old) (λ s. AreBad (given_names (s.names folder.now))) }
-    ensures no_memory { IsErrOf result SourceError.NoMemory → S.has_failed source.new ≡ S.has_failed source.old }
+        → FailsOr (S.faults source.old) (S.faults source.new) (IfSome (S.shown source.old) (λ s. AreBad (given_names (s.names folder.now)))) }
+    ensures no_memory { IsErrOf result SourceError.NoMemory → S.faults source.new ≡ S.faults source.old }
 {
     let mut names = names_within(alloc, source, folder)?;
     names.reverse();
@@ -112,10 +112,11 @@ fn read_one<S: Source>(
     ensures holds { IfOk result (λ bytes. (within : _) × (Holds (S.shown source.old) one.now.path.items (is_folder one.now.kind) (items_by bytes) within
         × (map place_of waiting.new.items ≡ map place_of waiting.old.items ++ reverse (places_in one.now.path.items within)))) }
     ensures shown { Rests (S.shown source.old) (S.shown source.new) }
-    ensures kept { OnOk result (S.has_failed source.new ≡ S.has_failed source.old) }
+    ensures kept { OnOk result (S.faults source.new ≡ S.faults source.old) }
     ensures fault { IsErrOf result SourceError.Fault
-        → (S.has_failed source.new ≡ true) ⊎ ((is_folder one.now.kind ≡ true) × IfSome (S.shown source.old) (λ s. AreBad (given_names (s.names one.now.path.items)))) }
-    ensures no_memory { IsErrOf result SourceError.NoMemory → S.has_failed source.new ≡ S.has_failed source.old }
+        → FailsOr (S.faults source.old) (S.faults source.new)
+        ((is_folder one.now.kind ≡ true) × IfSome (S.shown source.old) (λ s. AreBad (given_names (s.names one.now.path.items)))) }
+    ensures no_memory { IsErrOf result SourceError.NoMemory → S.faults source.new ≡ S.faults source.old }
 {
     match one.kind {
         Kind::Folder => {
@@ -145,9 +146,9 @@ fn hold(entries: &mut Vec<Entry>, entry: Entry) -> Result<(), SourceError>
 pub fn read_tree<S: Source>(alloc: Global, source: &mut S) -> Result<Vec<Entry>, SourceError>
     ensures entries { IfOk result (λ v. AreAll (S.shown source.old) v.items) }
     ensures shown { Rests (S.shown source.old) (S.shown source.new) }
-    ensures kept { OnOk result (S.has_failed source.new ≡ S.has_failed source.old) }
-    ensures fault { IsErrOf result SourceError.Fault → (S.has_failed source.new ≡ true) ⊎ IfSome (S.shown source.old) HasBadNames }
-    ensures no_memory { IsErrOf result SourceError.NoMemory → S.has_failed source.new ≡ S.has_failed source.old }
+    ensures kept { OnOk result (S.faults source.new ≡ S.faults source.old) }
+    ensures fault { IsErrOf result SourceError.Fault → FailsOr (S.faults source.old) (S.faults source.new) (IfSome (S.shown source.old) HasBadNames) }
+    ensures no_memory { IsErrOf result SourceError.NoMemory → S.faults source.new ≡ S.faults source.old }
 {
     let mut entries = Vec::new(alloc);
     let mut waiting = Vec::new(alloc);

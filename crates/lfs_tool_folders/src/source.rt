@@ -1,4 +1,4 @@
-ghost use Rattle.std.specs.Prelude.{◌≡◌, Bool, IfOk, IfSome, IsErrOf, None, OnOk, Option, Some, map, true};
+ghost use Rattle.std.specs.Prelude.{◌≡◌, ℕ, IfOk, IfSome, IsErrOf, None, OnOk, Option, Some, map, suc};
 ghost use Rattle.lfs_model.specs.Source as model;
 ghost use Rattle.lfs_tool_folders.specs.Shown.{Rests, listed};
 
@@ -36,8 +36,8 @@ pub trait Source {
     // What it shows, where that is known.
     ghost shown: { Self → Option model.Source } = { λ _. None };
 
-    // Whether a call has met a fault.
-    ghost has_failed: { Self → Bool };
+    // How many calls have met a fault.
+    ghost faults: { Self → ℕ };
 
     /// The names in a folder, in any order.
     ///
@@ -47,9 +47,9 @@ pub trait Source {
     fn list(&mut self, alloc: Global, folder: &[u8]) -> Result<Vec<Listed>, SourceError>
         ensures names { IfOk result (λ v. IfSome (shown self.old) (λ s. map listed v.items ≡ s.names folder.now)) }
         ensures shown { Rests (shown self.old) (shown self.new) }
-        ensures kept { OnOk result (has_failed self.new ≡ has_failed self.old) }
-        ensures fault { IsErrOf result SourceError.Fault → has_failed self.new ≡ true }
-        ensures no_memory { IsErrOf result SourceError.NoMemory → has_failed self.new ≡ has_failed self.old };
+        ensures kept { OnOk result (faults self.new ≡ faults self.old) }
+        ensures fault { IsErrOf result SourceError.Fault → faults self.new ≡ suc (faults self.old) }
+        ensures no_memory { IsErrOf result SourceError.NoMemory → faults self.new ≡ faults self.old };
 
     /// The bytes of a file.
     ///
@@ -59,7 +59,7 @@ pub trait Source {
     fn read(&mut self, alloc: Global, file: &[u8]) -> Result<Vec<u8>, SourceError>
         ensures bytes { IfOk result (λ v. IfSome (shown self.old) (λ s. v.items ≡ s.bytes file.now)) }
         ensures shown { Rests (shown self.old) (shown self.new) }
-        ensures kept { OnOk result (has_failed self.new ≡ has_failed self.old) }
-        ensures fault { IsErrOf result SourceError.Fault → has_failed self.new ≡ true }
-        ensures no_memory { IsErrOf result SourceError.NoMemory → has_failed self.new ≡ has_failed self.old };
+        ensures kept { OnOk result (faults self.new ≡ faults self.old) }
+        ensures fault { IsErrOf result SourceError.Fault → faults self.new ≡ suc (faults self.old) }
+        ensures no_memory { IsErrOf result SourceError.NoMemory → faults self.new ≡ faults self.old };
 }

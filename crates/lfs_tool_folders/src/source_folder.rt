@@ -1,9 +1,10 @@
-ghost use Rattle.std.specs.Prelude.{◌≡◌, ◌↔◌, false, true};
+ghost use Rattle.std.specs.Prelude.{◌≡◌, ◌↔◌, IfOk, suc};
 ghost use Rattle.std.specs.IoError.{error_kind};
+ghost use Rattle.lfs_tool_folders.specs.Roots.{folder_root};
 
 use crate::full_path::full_path;
-use crate::{Kind, Listed, Source, SourceError};
-use std::alloc::Global;
+use crate::{Kind, Listed, Source, SourceError, Tally};
+use std::alloc::{AllocError, Global};
 use std::fs::FileType;
 use std::io::ErrorKind;
 use std::rt::Files;
@@ -14,8 +15,8 @@ use std::{fs, io};
 #[derive(Drop)]
 pub struct Folder<'a, R> {
     rt: &'a R,
-    root: &'a str,
-    has_failed: bool,
+    root: String,
+    faults: Tally,
 }
 
 fn kind_of(kind: FileType) -> io::Result<Kind> {
@@ -39,19 +40,18 @@ fn name_of(alloc: Global, name: &[u8]) -> io::Result<Vec<u8>> {
 
 impl<'a, R: Files + AllocGlobal + Clone + Drop> Folder<'a, R> {
     /// The folder at a path of the file system. Nothing is read yet.
-    pub fn new(rt: &'a R, root: &'a str) -> Folder<'a, R>
-        ensures root { result.root.now ≡ root.now }
-        ensures has_failed { result.has_failed ≡ false }
+    pub fn new(rt: &'a R, root: &str) -> Result<Folder<'a, R>, AllocError>
+        ensures root { IfOk result (λ f. folder_root f ≡ root.now) }
     {
-        Folder {
+        Ok(Folder {
             rt,
-            root,
-            has_failed: false,
-        }
+            root: String::from_str(rt.alloc(), root)?,
+            faults: Tally::none(),
+        })
     }
 
     fn names(&self, alloc: Global, path: &[u8]) -> io::Result<Vec<Listed>> {
-        let full = full_path(self.rt.alloc(), self.root, path)?;
+        let full = full_path(self.rt.alloc(), self.root.as_str(), path)?;
         let mut names = Vec::new(alloc);
         for entry in fs::read_dir(self.rt, full.as_str())? {
             let entry = entry?;
@@ -63,26 +63,26 @@ impl<'a, R: Files + AllocGlobal + Clone + Drop> Folder<'a, R> {
     }
 
     fn bytes(&self, path: &[u8]) -> io::Result<Vec<u8>> {
-        let full = full_path(self.rt.alloc(), self.root, path)?;
+        let full = full_path(self.rt.alloc(), self.root.as_str(), path)?;
         fs::read(self.rt, full.as_str())
     }
 
     // What the error says to the reader of the source.
     fn failed(&mut self, error: io::Error) -> SourceError
         ensures kind { (error_kind error ≡ ErrorKind.OutOfMemory) ↔ (result ≡ SourceError.NoMemory) }
-        ensures fault { result ≡ SourceError.Fault → self.new.has_failed ≡ true }
-        ensures no_memory { result ≡ SourceError.NoMemory → self.new.has_failed ≡ self.old.has_failed }
+        ensures fault { result ≡ SourceError.Fault → self.new.faults.count ≡ suc self.old.faults.count }
+        ensures no_memory { result ≡ SourceError.NoMemory → self.new.faults.count ≡ self.old.faults.count }
     {
         if error.kind() == ErrorKind::OutOfMemory {
             return SourceError::NoMemory;
         }
-        self.has_failed = true;
+        self.faults = self.faults.one_more();
         SourceError::Fault
     }
 }
 
 impl<'a, R: Files + AllocGlobal + Clone + Drop> Source for Folder<'a, R> {
-    ghost has_failed = { λ s. s.has_failed };
+    ghost faults = { λ s. s.faults.count };
 
     fn list(&mut self, alloc: Global, folder: &[u8]) -> Result<Vec<Listed>, SourceError> {
         match self.names(alloc, folder) {

@@ -1,10 +1,10 @@
-ghost use Rattle.std.specs.Prelude.{◌≡◌, ◌+◌, ◌++◌, ◌∷◌, [], IfOk, IfSome, IsErrOf, MatchOption, None, OnOk, Some, drop, false, length, map, true, ◌==◌};
+ghost use Rattle.std.specs.Prelude.{◌≡◌, ◌+◌, ◌++◌, ◌∷◌, [], IfOk, IfSome, IsErrOf, MatchOption, None, OnOk, Some, drop, false, length, map, suc, true, ◌==◌};
 ghost use Rattle.std.specs.List.{list_any};
 ghost use Rattle.lfs_model.specs.Names.{slash};
 ghost use Rattle.lfs_tool_folders.specs.Shown.{is_folder, listed};
 ghost use Rattle.lfs_tool_folders.specs.InMemory.{bytes_at, has_no_bytes, is_within, item_of, items_by, name_of, names_in, source_of};
 
-use crate::{Kind, Listed, Source, SourceError};
+use crate::{Kind, Listed, Source, SourceError, Tally};
 use std::alloc::Global;
 
 /// What a source in memory has at a path.
@@ -23,8 +23,21 @@ pub struct Held {
 pub struct MemorySource {
     /// What stands at each path, in any order.
     pub held: Vec<Held>,
-    /// Whether a file was read that isn't there.
-    pub has_failed: bool,
+    // How often a file was read that isn't there.
+    faults: Tally,
+}
+
+impl MemorySource {
+    /// A source of these, in any order. Where two things have one path, the first is read.
+    pub fn new(held: Vec<Held>) -> MemorySource
+        ensures held { result.held ≡ held }
+        ensures faults { result.faults.count ≡ 0 }
+    {
+        MemorySource {
+            held,
+            faults: Tally::none(),
+        }
+    }
 }
 
 fn has_slash(name: &[u8]) -> bool
@@ -97,12 +110,12 @@ fn names_in(alloc: Global, held: &[Held], folder: &[u8]) -> Result<Vec<Listed>, 
 impl Source for MemorySource {
     ghost shown = { λ s. Some (source_of (map item_of s.held.items)) };
 
-    ghost has_failed = { λ s. s.has_failed };
+    ghost faults = { λ s. s.faults.count };
 
     fn list(&mut self, alloc: Global, folder: &[u8]) -> Result<Vec<Listed>, SourceError>
         ensures names { IfOk result (λ v. map listed v.items ≡ names_in (map item_of self.old.held.items) folder.now) }
         ensures held { self.new.held ≡ self.old.held }
-        ensures kept { self.new.has_failed ≡ self.old.has_failed }
+        ensures kept { self.new.faults.count ≡ self.old.faults.count }
         ensures never { ¬ IsErrOf result SourceError.Fault }
     {
         let names = names_in(alloc, self.held.as_slice(), folder)?;
@@ -112,10 +125,10 @@ impl Source for MemorySource {
     fn read(&mut self, alloc: Global, file: &[u8]) -> Result<Vec<u8>, SourceError>
         ensures bytes { IfOk result (λ v. bytes_at (map item_of self.old.held.items) file.now ≡ Some v.items) }
         ensures held { self.new.held ≡ self.old.held }
-        ensures kept { OnOk result (self.new.has_failed ≡ self.old.has_failed) }
+        ensures kept { OnOk result (self.new.faults.count ≡ self.old.faults.count) }
         ensures missing { IsErrOf result SourceError.Fault → bytes_at (map item_of self.old.held.items) file.now ≡ None }
-        ensures fault { IsErrOf result SourceError.Fault → self.new.has_failed ≡ true }
-        ensures no_memory { IsErrOf result SourceError.NoMemory → self.new.has_failed ≡ self.old.has_failed }
+        ensures fault { IsErrOf result SourceError.Fault → self.new.faults.count ≡ suc self.old.faults.count }
+        ensures no_memory { IsErrOf result SourceError.NoMemory → self.new.faults.count ≡ self.old.faults.count }
     {
         for held in &self.held {
             if held.path.as_slice() == file {
@@ -125,7 +138,7 @@ impl Source for MemorySource {
                 break;
             }
         }
-        self.has_failed = true;
+        self.faults = self.faults.one_more();
         Err(SourceError::Fault)
     }
 }

@@ -1,4 +1,4 @@
-ghost use Rattle.std.specs.Prelude.{◌≡◌, Bool, IsErrOf, List, None, OnErr, OnOk, Option, true};
+ghost use Rattle.std.specs.Prelude.{◌≡◌, ℕ, IsErrOf, List, None, OnErr, OnOk, Option, suc};
 ghost use Rattle.lfs_model.specs.Listing.{Action, MakeDirectory, PutFile};
 ghost use Rattle.lfs_tool_folders.specs.Actions.{Adds};
 
@@ -18,8 +18,8 @@ pub trait Target {
     // What was done to it, where that is known.
     ghost done: { Self → Option (List Action) } = { λ _. None };
 
-    // Whether a call has met a fault.
-    ghost has_failed: { Self → Bool };
+    // How many calls have met a fault.
+    ghost faults: { Self → ℕ };
 
     /// Makes a folder. One that is there already stays as it is.
     ///
@@ -29,9 +29,9 @@ pub trait Target {
     fn make_folder(&mut self, alloc: Global, path: &[u8]) -> Result<(), TargetError>
         ensures done { OnOk result (Adds (done self.old) (done self.new) (MakeDirectory path.now)) }
         ensures undone { OnErr result (done self.new ≡ done self.old) }
-        ensures kept { OnOk result (has_failed self.new ≡ has_failed self.old) }
-        ensures fault { IsErrOf result TargetError.Fault → has_failed self.new ≡ true }
-        ensures no_memory { IsErrOf result TargetError.NoMemory → has_failed self.new ≡ has_failed self.old };
+        ensures kept { OnOk result (faults self.new ≡ faults self.old) }
+        ensures fault { IsErrOf result TargetError.Fault → faults self.new ≡ suc (faults self.old) }
+        ensures no_memory { IsErrOf result TargetError.NoMemory → faults self.new ≡ faults self.old };
 
     /// Puts a file of these bytes there, in place of one that is there already.
     ///
@@ -41,7 +41,7 @@ pub trait Target {
     fn put_file(&mut self, alloc: Global, path: &[u8], bytes: &[u8]) -> Result<(), TargetError>
         ensures done { OnOk result (Adds (done self.old) (done self.new) (PutFile path.now bytes.now)) }
         ensures undone { OnErr result (done self.new ≡ done self.old) }
-        ensures kept { OnOk result (has_failed self.new ≡ has_failed self.old) }
-        ensures fault { IsErrOf result TargetError.Fault → has_failed self.new ≡ true }
-        ensures no_memory { IsErrOf result TargetError.NoMemory → has_failed self.new ≡ has_failed self.old };
+        ensures kept { OnOk result (faults self.new ≡ faults self.old) }
+        ensures fault { IsErrOf result TargetError.Fault → faults self.new ≡ suc (faults self.old) }
+        ensures no_memory { IsErrOf result TargetError.NoMemory → faults self.new ≡ faults self.old };
 }

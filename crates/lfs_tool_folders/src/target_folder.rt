@@ -1,9 +1,10 @@
-ghost use Rattle.std.specs.Prelude.{◌≡◌, ◌↔◌, false, true};
+ghost use Rattle.std.specs.Prelude.{◌≡◌, ◌↔◌, IfOk, suc};
 ghost use Rattle.std.specs.IoError.{error_kind};
+ghost use Rattle.lfs_tool_folders.specs.Roots.{target_root};
 
 use crate::full_path::full_path;
-use crate::{Target, TargetError};
-use std::alloc::Global;
+use crate::{Tally, Target, TargetError};
+use std::alloc::{AllocError, Global};
 use std::fs::File;
 use std::io::{ErrorKind, Write};
 use std::rt::Files;
@@ -15,8 +16,8 @@ use std::{fs, io};
 #[derive(Drop)]
 pub struct TargetFolder<'a, R> {
     rt: &'a R,
-    root: &'a str,
-    has_failed: bool,
+    root: String,
+    faults: Tally,
 }
 
 // Makes a folder, unless there is one.
@@ -40,21 +41,20 @@ fn check_place<R: Files>(rt: &R, path: &str) -> io::Result<()> {
 
 impl<'a, R: Files + AllocGlobal + Clone + Drop> TargetFolder<'a, R> {
     /// The folder at a path of the file system. Nothing is made yet.
-    pub fn new(rt: &'a R, root: &'a str) -> TargetFolder<'a, R>
-        ensures root { result.root.now ≡ root.now }
-        ensures has_failed { result.has_failed ≡ false }
+    pub fn new(rt: &'a R, root: &str) -> Result<TargetFolder<'a, R>, AllocError>
+        ensures root { IfOk result (λ f. target_root f ≡ root.now) }
     {
-        TargetFolder {
+        Ok(TargetFolder {
             rt,
-            root,
-            has_failed: false,
-        }
+            root: String::from_str(rt.alloc(), root)?,
+            faults: Tally::none(),
+        })
     }
 
     // The path in the file system, where it is text. The folder itself is there then.
     fn full(&self, path: &[u8]) -> io::Result<String> {
-        let full = full_path(self.rt.alloc(), self.root, path)?;
-        make(self.rt, self.root)?;
+        let full = full_path(self.rt.alloc(), self.root.as_str(), path)?;
+        make(self.rt, self.root.as_str())?;
         Ok(full)
     }
 
@@ -73,19 +73,19 @@ impl<'a, R: Files + AllocGlobal + Clone + Drop> TargetFolder<'a, R> {
     // What the error says to the writer of the target.
     fn failed(&mut self, error: io::Error) -> TargetError
         ensures kind { (error_kind error ≡ ErrorKind.OutOfMemory) ↔ (result ≡ TargetError.NoMemory) }
-        ensures fault { result ≡ TargetError.Fault → self.new.has_failed ≡ true }
-        ensures no_memory { result ≡ TargetError.NoMemory → self.new.has_failed ≡ self.old.has_failed }
+        ensures fault { result ≡ TargetError.Fault → self.new.faults.count ≡ suc self.old.faults.count }
+        ensures no_memory { result ≡ TargetError.NoMemory → self.new.faults.count ≡ self.old.faults.count }
     {
         if error.kind() == ErrorKind::OutOfMemory {
             return TargetError::NoMemory;
         }
-        self.has_failed = true;
+        self.faults = self.faults.one_more();
         TargetError::Fault
     }
 }
 
 impl<'a, R: Files + AllocGlobal + Clone + Drop> Target for TargetFolder<'a, R> {
-    ghost has_failed = { λ t. t.has_failed };
+    ghost faults = { λ t. t.faults.count };
 
     fn make_folder(&mut self, _alloc: Global, path: &[u8]) -> Result<(), TargetError> {
         match self.folder(path) {

@@ -1,4 +1,4 @@
-ghost use Rattle.std.specs.Prelude.{◌≡◌, IfOk, Some, false, map};
+ghost use Rattle.std.specs.Prelude.{◌≡◌, IfOk, Some, map};
 ghost use Rattle.lfs_tool_folders.specs.Actions.{action_seen};
 
 use crate::{Target, TargetError};
@@ -29,7 +29,7 @@ fn copied(alloc: Global, bytes: &[u8]) -> Result<Vec<u8>, TargetError>
 impl Target for MemoryTarget {
     ghost done = { λ t. Some (map action_seen t.done.items) };
 
-    ghost has_failed = { λ t. false };
+    ghost faults = { λ _. 0 };
 
     fn make_folder(&mut self, alloc: Global, path: &[u8]) -> Result<(), TargetError> {
         let path = copied(alloc, path)?;

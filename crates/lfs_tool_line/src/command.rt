@@ -2,12 +2,16 @@
 
 ghost use Rattle.std.specs.Prelude.{◌≡◌, IfOk, codes, map, false};
 ghost use Rattle.clap.specs.Words.{FailsBy, app_of, found_of, new_app, rows_of, rule_of, with_rule};
-ghost use Rattle.lfs_tool_line.specs.Command.{folder, image_rule, list_rule, mklittlefs, number, order_rule, with_modes, with_sizes};
+ghost use Rattle.lfs_tool_line.specs.Command.{folder, image_rule, list_rule, mklittlefs, number, order_rule, with_modes, with_sizes, with_version};
 ghost use Rattle.lfs_tool_line.specs.Matches.{IsComplete, faults, rows};
 
 use clap::{Arg, ArgAction, ArgMatches, Command, Error, value_parser};
 use std::alloc::{AllocError, Global};
 use std::convert::AsStr;
+
+// What `--version` says behind the program's name: its version, that of the images, and the kit that
+// it was proved with.
+const VERSION: &str = "1.0.0 (littlefs on-disk version 2.0, rattle-kit-13f logic dac8208d650f15bf)";
 
 // What stands below the options in the help.
 const EXAMPLES: &str = "\
@@ -37,6 +41,7 @@ fn folder_arg<'a>(alloc: Global, id: &'a str, short: char, help: &'a str) -> Arg
 {
     Arg::new(alloc, id)
         .short(short)
+        .long(id)
         .action(ArgAction::Set)
         .value_name("DIR")
         .help(help)
@@ -59,14 +64,16 @@ fn number_arg<'a>(
     alloc: Global,
     id: &'a str,
     short: char,
+    long: &'a str,
     default: &'a str,
     help: &'a str,
 ) -> Arg<'a>
-    ensures rule { rule_of result ≡ number id.entry.now short default.entry.now }
+    ensures rule { rule_of result ≡ number id.entry.now short long.entry.now default.entry.now }
     ensures local { result.global ≡ false }
 {
     Arg::new(alloc, id)
         .short(short)
+        .long(long)
         .action(ArgAction::Set)
         .value_name("N")
         .value_parser(value_parser!(u32))
@@ -80,12 +87,13 @@ fn with_number<'a>(
     command: Command<'a>,
     id: &'a str,
     short: char,
+    long: &'a str,
     default: &'a str,
     help: &'a str,
 ) -> Result<Command<'a>, AllocError>
-    ensures { IfOk result (λ c. app_of c ≡ with_rule (app_of command.entry) (number id.entry.now short default.entry.now)) }
+    ensures { IfOk result (λ c. app_of c ≡ with_rule (app_of command.entry) (number id.entry.now short long.entry.now default.entry.now)) }
 {
-    command.arg(number_arg(alloc, id, short, default, help))
+    command.arg(number_arg(alloc, id, short, long, default, help))
 }
 
 fn list_arg<'a>(alloc: Global) -> Arg<'a>
@@ -94,6 +102,7 @@ fn list_arg<'a>(alloc: Global) -> Arg<'a>
 {
     Arg::new(alloc, "list")
         .short('l')
+        .long("list")
         .action(ArgAction::SetTrue)
         .help("List the files and folders of IMAGE")
 }
@@ -141,9 +150,10 @@ fn with_image<'a>(alloc: Global, command: Command<'a>) -> Result<Command<'a>, Al
 
 // The command without its arguments, with what its help says.
 fn bare_command<'a>(alloc: Global) -> Command<'a>
-    ensures { app_of result ≡ new_app (codes "mklittlefs") }
+    ensures { app_of result ≡ with_version (new_app (codes "mklittlefs")) }
 {
     Command::new(alloc, "mklittlefs")
+        .version(VERSION)
         .about("Creates, unpacks or lists an image of a littlefs file system.")
         .override_usage(
             "mklittlefs (-c DIR | -u DIR | -l) [-b N] [-p N] [-s N] [--order ORDER] IMAGE",
@@ -170,9 +180,17 @@ fn with_sizes<'a>(alloc: Global, command: Command<'a>) -> Result<Command<'a>, Al
     let block_size = "Size of a block in bytes";
     let page = "Size of a page in bytes";
     let size = "Size of the image in bytes, with -c";
-    let command = with_number(alloc, command, "block_size", 'b', "4096", block_size)?;
-    let command = with_number(alloc, command, "page", 'p', "256", page)?;
-    let command = with_number(alloc, command, "size", 's', "65536", size)?;
+    let command = with_number(
+        alloc,
+        command,
+        "block_size",
+        'b',
+        "block",
+        "4096",
+        block_size,
+    )?;
+    let command = with_number(alloc, command, "page", 'p', "page", "256", page)?;
+    let command = with_number(alloc, command, "size", 's', "size", "65536", size)?;
     Ok(command)
 }
 

@@ -133,15 +133,16 @@ fn line_of<'a>(matches: &ArgMatches<'a>, mode: Mode<'a>, order: NameOrder) -> Li
 }
 
 /// Reads the words of a command line, the program's name first:
-/// `mklittlefs (-c DIR | -u DIR | -l) [-b N] [-p N] [-s N] [--order ORDER] IMAGE`.
+/// `mklittlefs (-c DIR | -u DIR | -l) [-b N] [-p N] [-s N] [--order ORDER] IMAGE`. The long names are
+/// `--create`, `--unpack`, `--list`, `--block`, `--page` and `--size`.
 ///
 /// A number is decimal, from 0 to 4294967295. Where an option isn't given, a block has 4096 bytes, a
 /// page 256 and the image 65536, and the longer names come first. ORDER is `longer-first` or `shorter-first`; it is read
 /// with each mode and matters with `-c` alone.
 ///
 /// # Errors
-/// `LineError::Parser` where the parser refuses the words, where they ask for help, or where a growth
-/// was refused. `LineError::Modes` where it takes them and not exactly one of `-c`, `-u` and `-l` is
+/// `LineError::Parser` where the parser refuses the words, where they ask for help or for the version,
+/// or where a growth was refused. `LineError::Modes` where it takes them and not exactly one of `-c`, `-u` and `-l` is
 /// given, and `LineError::Order` where ORDER is neither.
 pub fn read_line<'a, S: AsStr>(alloc: Global, words: &'a [S]) -> Result<Line<'a>, LineError>
     ensures ok { IfOk result (λ line. Parses (map S.text words.entry.now)

@@ -239,10 +239,7 @@ const DEEP: [(u32, u32, u32, Option<&str>); 5] = [
 ];
 
 fn is_made(alloc: Global, large: Large, blocks: u32, error: Option<&str>) -> Result<bool, Error> {
-    let source = MemorySource {
-        held: large.held,
-        has_failed: false,
-    };
+    let source = MemorySource::new(large.held);
     let lines = error.unwrap_or(large.lines.as_str()).as_bytes();
     let actions = Some(large.actions.as_bytes());
     comes_back(

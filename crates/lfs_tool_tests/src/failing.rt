@@ -17,6 +17,8 @@ const INPUT: &[u8] = b"error: input\n";
 
 const OUTPUT: &[u8] = b"error: output\n";
 
+const INVALID: &[u8] = b"error: Invalid (22)\n";
+
 // Gives or takes at most so many bytes a call, and fails at the call `fails_at`, a flush too.
 #[derive(Drop)]
 struct Faulty<'a> {
@@ -82,27 +84,29 @@ fn failing_at<'a>(
 // How a call fails, and whether that is a failure: one that a signal interrupted is made again.
 const KINDS: [(ErrorKind, bool); 2] = [(ErrorKind::Other, true), (ErrorKind::Interrupted, false)];
 
-// Whether an image is unpacked or listed, how many bytes a call gives, how many calls that takes, and
-// what is shown where none fails. Each of 16 blocks is listed by two calls, and the image unpacked by
-// three; a further call finds its end.
-const READERS: [(bool, usize, u32, &[u8]); 2] = [
-    (false, 3000, 33, LINES),
-    (true, 30000, 4, b"f /b \n"),
+// Whether an image is unpacked or listed, with which block size, how many bytes a call gives, how many
+// calls that takes, and what is shown where none fails. Each of 16 blocks is listed by two calls, and the
+// image unpacked by three, which also pass it where no image has such blocks; a further call finds its end.
+const READERS: [(bool, u32, usize, u32, &[u8]); 4] = [
+    (false, 4096, 3000, 33, LINES),
+    (true, 4096, 30000, 4, b"f /b \n"),
+    (false, 3, 30000, 4, INVALID),
+    (true, 3, 30000, 4, INVALID),
 ];
 
-// What is shown of an image whose reader fails at a call, and whether the reader failed.
+// What is shown of an image whose reader fails at a call.
 fn read_badly(
     alloc: Global,
     reader: Watched<Faulty<'_>>,
     is_unpacked: bool,
-) -> Result<(Vec<u8>, bool), AllocError> {
+    block_size: u32,
+) -> Result<Vec<u8>, AllocError> {
     let mut reader = reader;
-    let text = if is_unpacked {
-        unpacked(alloc, &mut reader, 4096, 256)?
+    if is_unpacked {
+        unpacked(alloc, &mut reader, block_size, 256)
     } else {
-        listed(alloc, &mut reader, 4096, 256)?
-    };
-    Ok((text, reader.has_failed()))
+        listed(alloc, &mut reader, block_size, 256)
+    }
 }
 
 #[test]
@@ -110,14 +114,17 @@ fn failing_readers_are_told(rt: HostRuntime) -> Result<(), Fail> {
     let block = shifting_block(rt.alloc())?;
     let image = image_of(rt.alloc(), block.as_slice(), &[])?;
     for (kind, is_failure) in KINDS {
-        for (is_unpacked, most, calls, text) in READERS {
+        for (is_unpacked, block_size, most, calls, text) in READERS {
             for fails_at in 0..calls + 3 {
                 let reader = failing_at(rt.alloc(), image.as_slice(), most, fails_at, kind);
-                let (told, has_failed) = read_badly(rt.alloc(), reader, is_unpacked)?;
+                let told = read_badly(rt.alloc(), reader, is_unpacked, block_size)?;
                 let fails = is_failure && (1..=calls).contains(&fails_at);
                 let wanted = if fails { INPUT } else { text };
-                let is_told = told.as_slice() == wanted && has_failed == fails;
-                assert!(rt; is_told, "{kind:?}, {is_unpacked}, {fails_at}");
+                let is_told = told.as_slice() == wanted;
+                assert!(rt;
+                    is_told,
+                    "{kind:?}, {is_unpacked}, {block_size}, {fails_at}"
+                );
             }
         }
     }
@@ -147,14 +154,13 @@ const WRITERS: [(bool, usize, u32, usize); 18] = [
     (true, 65535, 2, 65535),
 ];
 
-// What is written, with the line of an error behind it, and whether the writer failed: an image of
-// nothing, or the lines of this one.
+// What is written, with the line of an error behind it: an image of nothing, or the lines of this one.
 fn write_badly(
     alloc: Global,
     image: &[u8],
     is_made: bool,
     writer: Watched<Faulty<'_>>,
-) -> Result<(Vec<u8>, bool), Error> {
+) -> Result<Vec<u8>, Error> {
     let mut writer = writer;
     let result = if is_made {
         let mut source = source_of(alloc, &[])?;
@@ -167,9 +173,8 @@ fn write_badly(
     } else {
         list(alloc, &mut Watched::new(image), 4096, 256, &mut writer)
     };
-    let has_failed = writer.has_failed();
     let text = ended(alloc, writer.into_inner().taken, result)?;
-    Ok((text, has_failed))
+    Ok(text)
 }
 
 // Whether the text is this beginning of the whole one, with the line of an error behind it.
@@ -186,15 +191,15 @@ fn failing_writers_are_told(rt: HostRuntime) -> Result<(), Fail> {
     let image = image_of(rt.alloc(), block.as_slice(), &[])?;
     for (is_made, most, fails_at, taken) in WRITERS {
         let plain = failing_at(rt.alloc(), &[], most, 0, ErrorKind::Other);
-        let (whole, _) = write_badly(rt.alloc(), image.as_slice(), is_made, plain)?;
+        let whole = write_badly(rt.alloc(), image.as_slice(), is_made, plain)?;
         assert!(rt; is_made || whole.as_slice() == LINES);
         for (kind, is_failure) in KINDS {
             let writer = failing_at(rt.alloc(), &[], most, fails_at, kind);
-            let (text, has_failed) = write_badly(rt.alloc(), image.as_slice(), is_made, writer)?;
+            let text = write_badly(rt.alloc(), image.as_slice(), is_made, writer)?;
             let is_told = if is_failure {
-                has_failed && is_broken_off(text.as_slice(), whole.as_slice(), taken)
+                is_broken_off(text.as_slice(), whole.as_slice(), taken)
             } else {
-                !has_failed && text.as_slice() == whole.as_slice()
+                text.as_slice() == whole.as_slice()
             };
             assert!(rt; is_told, "{kind:?}, {is_made}, {most}, {fails_at}");
         }

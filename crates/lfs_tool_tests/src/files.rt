@@ -4,7 +4,7 @@ use crate::images::{BELOW, ENTRIES};
 use crate::sources::{Items, is_read};
 use lfs_fixtures::{Entries, Held, image_with};
 use lfs_tool::Watched;
-use lfs_tool_files::answer;
+use lfs_tool_files::{RealPlaces, answer};
 use lfs_tool_folders::Folder;
 use std::alloc::{AllocError, Global};
 use std::io::ErrorKind;
@@ -55,7 +55,7 @@ const OLD: &str = "an older image";
 const OLD_IMAGE: &[(&str, Behind)] = &[("runs/image", Behind::File(OLD))];
 
 // Runs in which an image is made, or nothing is done.
-const MADE: [Run; 21] = [
+const MADE: [Run; 22] = [
     Run {
         before: &[],
         words: &[&["-c", "runs/files", "runs/image"]],
@@ -249,13 +249,21 @@ const MADE: [Run; 21] = [
         err: "error: input\n",
         behind: OLD_IMAGE,
     },
-    // a folder can't be read, and isn't where no image has such blocks
+    // a folder can't be read, also where no image has such blocks
     Run {
         before: &[],
         words: &[&["-l", "-b", "3", "runs/files"]],
-        status: 1,
+        status: 3,
         out: "",
-        err: "error: Invalid (22)\n",
+        err: "error: input\n",
+        behind: OLD_IMAGE,
+    },
+    Run {
+        before: &[],
+        words: &[&["-u", "runs/other", "-b", "3", "runs/files"]],
+        status: 3,
+        out: "",
+        err: "error: input\n",
         behind: OLD_IMAGE,
     },
 ];
@@ -508,7 +516,7 @@ fn is_behind<R: Files + AllocGlobal + Clone + Drop>(
         Behind::File(text) => Ok(fs::read(rt, path)?.as_slice() == text.as_bytes()),
         Behind::Len(len) => Ok(fs::read(rt, path)?.len() == len),
         Behind::Folder(items) => {
-            let mut folder = Folder::new(rt, path);
+            let mut folder = Folder::new(rt, path)?;
             Ok(is_read(rt.alloc(), &mut folder, items) == Ok(true))
         }
         Behind::Nothing => Ok(!fs::exists(rt, path)?),
@@ -533,7 +541,8 @@ fn answers<R: Files + AllocGlobal + Clone + Drop>(
 ) -> bool {
     let mut written = Watched::new(Vec::new(rt.alloc()));
     let mut told = Watched::new(Vec::new(rt.alloc()));
-    let given = answer(rt, words, &mut written, &mut told);
+    let places = RealPlaces::new(rt);
+    let given = answer(rt.alloc(), &places, words, &mut written, &mut told);
     given == status
         && written.inner().as_slice() == out.as_bytes()
         && told.inner().as_slice() == err.as_bytes()

@@ -7,7 +7,7 @@ use std::alloc::{AllocError, Global};
 use std::test::Fail;
 
 // The words of command lines, and what they say.
-const LINES: [(&[&str], Line<'static>); 3] = [
+const LINES: [(&[&str], Line<'static>); 4] = [
     (
         &["mklittlefs", "-l", "disk.img"],
         Line {
@@ -60,6 +60,27 @@ const LINES: [(&[&str], Line<'static>); 3] = [
             image: "i",
         },
     ),
+    (
+        &[
+            "mklittlefs",
+            "--create",
+            "dir",
+            "--block",
+            "1024",
+            "--page=128",
+            "--size",
+            "262144",
+            "i",
+        ],
+        Line {
+            mode: Mode::Create("dir"),
+            block_size: 1024,
+            page: 128,
+            size: 262_144,
+            order: NameOrder::LongerFirst,
+            image: "i",
+        },
+    ),
 ];
 
 #[test]
@@ -75,6 +96,9 @@ const MODES: &str = "error: give exactly one of -c, -u, -l\n";
 
 const ORDER: &str = "error: --order is longer-first or shorter-first\n";
 
+const VERSION: &str =
+    "mklittlefs 1.0.0 (littlefs on-disk version 2.0, rattle-kit-13f logic dac8208d650f15bf)\n";
+
 const HELP: &str = "\
 Creates, unpacks or lists an image of a littlefs file system.
 
@@ -84,14 +108,15 @@ Arguments:
   <IMAGE>  The file with the image
 
 Options:
-  -c <DIR>             Create IMAGE from the folder DIR
-  -u <DIR>             Unpack IMAGE into the folder DIR
-  -l                   List the files and folders of IMAGE
-  -b <N>               Size of a block in bytes [default: 4096]
-  -p <N>               Size of a page in bytes [default: 256]
-  -s <N>               Size of the image in bytes, with -c [default: 65536]
+  -c, --create <DIR>   Create IMAGE from the folder DIR
+  -u, --unpack <DIR>   Unpack IMAGE into the folder DIR
+  -l, --list           List the files and folders of IMAGE
+  -b, --block <N>      Size of a block in bytes [default: 4096]
+  -p, --page <N>       Size of a page in bytes [default: 256]
+  -s, --size <N>       Size of the image in bytes, with -c [default: 65536]
       --order <ORDER>  Order of names in the image that -c makes [default: longer-first]
   -h, --help           Print help
+  -V, --version        Print version
 
 Examples:
   mklittlefs -c settings disk.img        makes an image of the folder settings
@@ -116,7 +141,7 @@ Order:
 
 // Words that are no line: the status, what goes to `out`, and what to `err`, if that isn't the parser's
 // own text.
-const REFUSED: [(&[&str], u8, &str, Option<&str>); 14] = [
+const REFUSED: [(&[&str], u8, &str, Option<&str>); 15] = [
     // not exactly one mode
     (&["mklittlefs", "i"], 2, "", Some(MODES)),
     (&["mklittlefs", "-p", "256", "i", "-b0"], 2, "", Some(MODES)),
@@ -145,6 +170,8 @@ const REFUSED: [(&[&str], u8, &str, Option<&str>); 14] = [
     // a request for help
     (&["mklittlefs", "--help"], 0, HELP, Some("")),
     (&["mklittlefs", "-l", "-h"], 0, HELP, Some("")),
+    // and for the version
+    (&["mklittlefs", "--version"], 0, VERSION, Some("")),
 ];
 
 // Whether a fault is shown so, which is its own text too.

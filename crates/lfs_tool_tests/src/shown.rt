@@ -1,9 +1,8 @@
 // What the tool shows, as text.
 
-use lfs_tool::{Fault, ToolError, Watched, list, report, unpack};
+use lfs_tool::{Fault, Reader, ToolError, Watched, list, report, unpack};
 use lfs_tool_folders::{Done, MemoryTarget};
 use std::alloc::{AllocError, Global};
-use std::io::Read;
 
 // What is shown of a fault: the status, and what goes to `out` and to `err`.
 #[derive(Drop)]
@@ -39,9 +38,9 @@ pub(crate) fn ended(
 }
 
 // What listing an image prints.
-pub(crate) fn listed<R: Read>(
+pub(crate) fn listed<R: Reader>(
     alloc: Global,
-    image: &mut Watched<R>,
+    image: &mut R,
     block_size: u32,
     page: u32,
 ) -> Result<Vec<u8>, AllocError> {
@@ -68,9 +67,9 @@ fn push_done(text: &mut Vec<u8>, done: &Done) -> Result<(), AllocError> {
 }
 
 // What is done where an image is unpacked, a line for each action.
-pub(crate) fn unpacked<R: Read>(
+pub(crate) fn unpacked<R: Reader>(
     alloc: Global,
-    image: &mut Watched<R>,
+    image: &mut R,
     block_size: u32,
     page: u32,
 ) -> Result<Vec<u8>, AllocError> {

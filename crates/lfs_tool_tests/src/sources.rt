@@ -19,8 +19,7 @@ pub(crate) fn source_of(alloc: Global, items: Items<'_>) -> Result<MemorySource,
         };
         held.push(Held { path, bytes })?;
     }
-    let has_failed = false;
-    Ok(MemorySource { held, has_failed })
+    Ok(MemorySource::new(held))
 }
 
 // Whether these are the entries of a source, in this order.
@@ -96,7 +95,7 @@ fn sources_are_read(rt: HostRuntime) -> Result<(), Fail> {
     for items in BAD {
         let mut source = source_of(rt.alloc(), items)?;
         let is_fault = is_read(rt.alloc(), &mut source, &[]) == Err(SourceError::Fault);
-        assert!(rt; is_fault && !source.has_failed, "{items:?}");
+        assert!(rt; is_fault, "{items:?}");
     }
     Ok(())
 }
@@ -105,7 +104,7 @@ fn sources_are_read(rt: HostRuntime) -> Result<(), Fail> {
 #[test]
 fn real_folders_fault(rt: HostRuntime) -> Result<(), Fail> {
     fs::create_dir_all(&rt, "source_folder/d")?;
-    let mut folder = Folder::new(&rt, "source_folder");
+    let mut folder = Folder::new(&rt, "source_folder")?;
     for path in [b"/e\xff".as_slice(), b"/none"] {
         let is_fault = matches!(folder.list(rt.alloc(), path), Err(SourceError::Fault));
         assert!(rt; is_fault, "{path:?}");

@@ -2,7 +2,7 @@
 #![tactic(auto)]
 
 use lfs_tool::Watched;
-use lfs_tool_files::answer;
+use lfs_tool_files::{RealPlaces, answer};
 use std::process::ExitCode;
 use std::{env, io};
 
@@ -15,5 +15,6 @@ fn words(rt: &HostRuntime) -> io::Result<Vec<String>> {
 fn main(rt: HostRuntime) -> ExitCode {
     let mut out = Watched::new(rt.stdout());
     let mut err = Watched::new(rt.stderr());
-    ExitCode::from(answer(&rt, words(&rt), &mut out, &mut err))
+    let places = RealPlaces::new(&rt);
+    ExitCode::from(answer(rt.alloc(), &places, words(&rt), &mut out, &mut err))
 }

@@ -2,13 +2,13 @@ use Rattle.std.proofs.Common.{◌≡◌, ◌∙◌, ◌*◌, ap, arith, length, 
 use Rattle.std.proofs.lemmas.List.Elements.{All-nil}
 use Rattle.lfs_tool.specs.ExcerptBlocks.{HaveSize}
 use Rattle.lfs_tool.specs.Blocks.{Fills, IsPushed}
-use Rattle.lfs_tool.proofs.BlockReads.{HasRead, comes_closer, grown, has_read_more, has_read_none, lent, pushed_count, read_in_part, read_to_end, read_too_many, sizes_more}
+use Rattle.lfs_tool.proofs.BlockReads.{HasRead, comes_closer, grown, has_read_more, has_read_none, lent, pushed_count, read_ended_in, read_in_part, read_past, read_to_end, read_too_many, sizes_more}
 use Rattle.lfs_tool.proofs.blocks.read_blocks.Goals as goal
 
 pub loop-alloc-init : goal.loop-alloc-init
 loop-alloc-init g c =
     let size = c.args.block_size in
-    let known = g.R.Read.remaining c.args.image.now.inner in
+    let known = g.R.Reader.remaining c.args.image.now in
     let none = c.new-blocks.ensures.items in
     record {
       cuts = c.in_ok-cutter.ensures.sizes.0;
@@ -35,7 +35,7 @@ loop-alloc-preserved g c =
       sizes = sizes_more size c.fill.new.buffer c.loop-alloc.blocks.items c.push_block.new.blocks.items now.sizes (same ∙ now.room) pushed;
       within = grown size c.len.result (length c.loop-alloc.blocks.items) (length c.push_block.new.blocks.items) (omega (arith, c.loop-alloc-test.true)) (omega (arith, c.len.ensures, c.loop-alloc.blocks.ok.0)) count;
       same = c.in_ok-n.ensures.kept ∙ now.same;
-      read = has_read_more size (g.R.Read.remaining c.args.image.now.inner) (g.R.Read.remaining c.loop-alloc.image.inner) (g.R.Read.remaining c.fill.new.image.inner) c.in_ok-n.n c.fill.new.buffer
+      read = has_read_more size (g.R.Reader.remaining c.args.image.now) (g.R.Reader.remaining c.loop-alloc.image) (g.R.Reader.remaining c.fill.new.image) c.in_ok-n.n c.fill.new.buffer
           c.loop-alloc.blocks.items c.push_block.new.blocks.items now.read c.in_ok-n.ensures.bytes (same ∙ now.room) (omega (arith, full)) pushed;
     }
 
@@ -48,19 +48,36 @@ loop-alloc-smaller g c =
 pub returns-then-n-eq0-clause-blocks : goal.returns-then-n-eq0-clause-blocks
 returns-then-n-eq0-clause-blocks g c =
     let size = c.args.block_size in
-    let old = g.R.Read.remaining c.loop-alloc.image.inner in
-    let new = g.R.Read.remaining c.fill.new.image.inner in
+    let old = g.R.Reader.remaining c.loop-alloc.image in
+    let new = g.R.Reader.remaining c.fill.new.image in
     let room = c.fill.ensures.len ∙ ap length c.deref_mut.ensures.value ∙ c.loop-alloc.invariant.room in
-    read_to_end size (g.R.Read.remaining c.args.image.now.inner) old new c.fill.new.buffer c.loop-alloc.blocks.items c.loop-alloc.invariant.read
+    read_to_end size (g.R.Reader.remaining c.args.image.now) old new c.fill.new.buffer c.loop-alloc.blocks.items c.loop-alloc.invariant.read
     (subst (λ n. Fills old new n c.fill.new.buffer) c.if-n-eq0.true c.in_ok-n.ensures.bytes) (omega (arith, room, c.requires))
 
 pub returns-then-n-size-clause-none : goal.returns-then-n-size-clause-none
 returns-then-n-size-clause-none g c = λ none.
     let size = c.args.block_size in
     let room = c.fill.ensures.len ∙ ap length c.deref_mut.ensures.value ∙ c.loop-alloc.invariant.room in
-    read_in_part size (g.R.Read.remaining c.args.image.now.inner) (g.R.Read.remaining c.loop-alloc.image.inner) (g.R.Read.remaining c.fill.new.image.inner) c.in_ok-n.n c.fill.new.buffer
+    read_in_part size (g.R.Reader.remaining c.args.image.now) (g.R.Reader.remaining c.loop-alloc.image) (g.R.Reader.remaining c.fill.new.image) c.in_ok-n.n c.fill.new.buffer
     c.loop-alloc.blocks.items c.loop-alloc.invariant.read c.in_ok-n.ensures.bytes room (omega (arith, c.if-n-eq0.false)) (omega (arith, c.if-n-size.true))
 
 pub returns-clause-none : goal.returns-clause-none
 returns-clause-none g c = λ none.
-    read_too_many c.args.block_size (g.R.Read.remaining c.args.image.now.inner) (g.R.Read.remaining c.loop-alloc.image.inner) c.loop-alloc.blocks.items c.loop-alloc.invariant.read c.len.result (omega (arith, c.loop-alloc-test.false)) (omega (arith, c.len.ensures, c.loop-alloc.blocks.ok.0))
+    read_too_many c.args.block_size (g.R.Reader.remaining c.args.image.now) (g.R.Reader.remaining c.loop-alloc.image) c.loop-alloc.blocks.items c.loop-alloc.invariant.read c.len.result (omega (arith, c.loop-alloc-test.false)) (omega (arith, c.len.ensures, c.loop-alloc.blocks.ok.0))
+
+pub returns-then-n-eq0-clause-read : goal.returns-then-n-eq0-clause-read
+returns-then-n-eq0-clause-read g c =
+    let room = c.fill.ensures.len ∙ ap length c.deref_mut.ensures.value ∙ c.loop-alloc.invariant.room in
+    read_ended_in c.args.block_size (g.R.Reader.remaining c.args.image.now) (g.R.Reader.remaining c.loop-alloc.image) (g.R.Reader.remaining c.fill.new.image) c.in_ok-n.n c.fill.new.buffer
+    c.loop-alloc.blocks.items c.loop-alloc.invariant.read c.in_ok-n.ensures.bytes (omega (arith, room, c.requires, c.if-n-eq0.true))
+
+pub returns-then-n-size-clause-read : goal.returns-then-n-size-clause-read
+returns-then-n-size-clause-read g c =
+    let room = c.fill.ensures.len ∙ ap length c.deref_mut.ensures.value ∙ c.loop-alloc.invariant.room in
+    read_ended_in c.args.block_size (g.R.Reader.remaining c.args.image.now) (g.R.Reader.remaining c.loop-alloc.image) (g.R.Reader.remaining c.fill.new.image) c.in_ok-n.n c.fill.new.buffer
+    c.loop-alloc.blocks.items c.loop-alloc.invariant.read c.in_ok-n.ensures.bytes (omega (arith, room, c.if-n-size.true))
+
+pub returns-clause-read : goal.returns-clause-read
+returns-clause-read g c =
+    read_past c.args.block_size (g.R.Reader.remaining c.args.image.now) (g.R.Reader.remaining c.loop-alloc.image) c.loop-alloc.blocks.items c.loop-alloc.invariant.read c.len.result
+    (omega (arith, c.loop-alloc-test.false)) (omega (arith, c.len.ensures, c.loop-alloc.blocks.ok.0))

@@ -10,8 +10,8 @@ invariant-loop-alloc g l = record {
   room : length l.block.items ≡ l.block_size;
   sizes : HaveSize l.block_size l.blocks.items;
   within : l.block_size * length l.blocks.items ≤ 268435456 + l.block_size;
-  same : l.image.has_failed ≡ l.initial.image.has_failed;
-  read : HasRead l.block_size (g.R.Read.remaining l.initial.image.inner) (g.R.Read.remaining l.image.inner) l.blocks.items;
+  same : g.R.Reader.faults l.image ≡ g.R.Reader.faults l.initial.image;
+  read : HasRead l.block_size (g.R.Reader.remaining l.initial.image) (g.R.Reader.remaining l.image) l.blocks.items;
 }
 
 abbrev pub decreases-loop-alloc : goal.decreases-loop-alloc

@@ -1,5 +1,6 @@
-use Rattle.std.proofs.Common.{◌∙◌, ap, arith, refl, rules}
-use Rattle.lfs_tool.proofs.KnownBytes.{read_ended, read_full}
+use Rattle.std.proofs.Common.{◌∙◌, ap, arith, refl, rules, subst, sym}
+use Rattle.lfs_tool.specs.Told.{IsReadToEnd}
+use Rattle.lfs_tool.proofs.KnownBytes.{ended_behind, past_the_most, read_ended, read_full}
 use Rattle.lfs_tool.proofs.input.read_image.Goals as goal
 use Rattle.lfs_tool.proofs.input.read_image.Goals.{else-loop-buffer-test, then-loop-buffer-test+in-Ok-eq0}
 
@@ -15,6 +16,15 @@ returns-then-is_err-clause-err g c = (refl, c.in-Ok.ensures.ok ∙ c.loop-buffer
 
 pub returns-clause-kept : goal.returns-clause-kept
 returns-clause-kept g c = elim c.loop-buffer-test.branch [
-  | else-loop-buffer-test w ↦ ap (λ i. i.has_failed) w.image-is ∙ c.loop-buffer.invariant.same
-  | then-loop-buffer-test+in-Ok-eq0 w ↦ ap (λ i. i.has_failed) w.image-is ∙ (w.in-Ok-eq0.ensures.ok ∙ c.loop-buffer.invariant.same)
+  | else-loop-buffer-test w ↦ ap g.R.Reader.faults w.image-is ∙ c.loop-buffer.invariant.same
+  | then-loop-buffer-test+in-Ok-eq0 w ↦ ap g.R.Reader.faults w.image-is ∙ (w.in-Ok-eq0.ensures.ok ∙ c.loop-buffer.invariant.same)
 ]
+
+pub returns-clause-read : goal.returns-clause-read
+returns-clause-read g c =
+    let first = g.R.Reader.remaining c.args.image.now in
+    elim c.loop-buffer-test.branch [
+      | else-loop-buffer-test w ↦ subst (λ i. IsReadToEnd first (g.R.Reader.remaining i)) (sym w.image-is) (past_the_most first _ c.loop-buffer.bytes.items c.loop-buffer.invariant.read (omega arith))
+      | then-loop-buffer-test+in-Ok-eq0 w ↦ subst (λ i. IsReadToEnd first (g.R.Reader.remaining i)) (sym w.image-is)
+          (ended_behind first _ _ c.loop-buffer.bytes.items _ c.loop-buffer.invariant.read w.in-Ok-eq0.ensures.bytes.0 (w.in-Ok-eq0.ensures.bytes.1 w.in-Ok-eq0.field-0-test (search rules)))
+    ]

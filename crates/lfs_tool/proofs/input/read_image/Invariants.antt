@@ -5,8 +5,8 @@ use Rattle.lfs_tool.proofs.input.read_image.Given as goal
 abbrev pub invariant-loop-buffer : goal.invariant-loop-buffer
 invariant-loop-buffer g l = record {
   within : vec_len l.bytes ≤ 268435457;
-  same : l.image.has_failed ≡ l.initial.image.has_failed;
-  read : Consumes (g.R.Read.remaining l.initial.image.inner) (g.R.Read.remaining l.image.inner) l.bytes.items;
+  same : g.R.Reader.faults l.image ≡ g.R.Reader.faults l.initial.image;
+  read : Consumes (g.R.Reader.remaining l.initial.image) (g.R.Reader.remaining l.image) l.bytes.items;
 }
 
 abbrev pub decreases-loop-buffer : goal.decreases-loop-buffer

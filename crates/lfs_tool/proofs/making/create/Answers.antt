@@ -17,7 +17,7 @@ returns-in-Ok-clause-ok g c =
     c.write_bytes.ensures.ok
 
 pub returns-in-Ok-clause-writer : goal.returns-in-Ok-clause-writer
-returns-in-Ok-clause-writer g c = tells_written _ _ c.write_bytes.result c.write_bytes.ensures.kept c.write_bytes.ensures.failed
+returns-in-Ok-clause-writer g c = tells_written g.W.Writer _ _ c.write_bytes.result c.write_bytes.ensures.kept c.write_bytes.ensures.flushed c.write_bytes.ensures.failed
 
 pub returns-in-Ok-clause-beginning : goal.returns-in-Ok-clause-beginning
 returns-in-Ok-clause-beginning g c = λ _.

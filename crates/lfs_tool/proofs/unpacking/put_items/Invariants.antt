@@ -8,4 +8,4 @@ abbrev pub invariant-loop-item : goal.invariant-loop-item
 invariant-loop-item g l =
     (l.thread.failed ≡ false) × (IsOnlyRead l.initial.thread.kept l.thread.kept)
     × (HasDone (g.T.Target.done l.initial.target) (g.T.Target.done l.target) (actions_at l.initial.thread.kept.disk (founds_seen (take l.item-index l.items))))
-    × (g.T.Target.has_failed l.target ≡ g.T.Target.has_failed l.initial.target)
+    × (g.T.Target.faults l.target ≡ g.T.Target.faults l.initial.target)

@@ -5,8 +5,11 @@ use Rattle.lfs_tool_folders.proofs.Reading.{within_sorted}
 use Rattle.lfs_tool_folders.proofs.entries.names_within.Goals as goal
 
 pub returns-then-not-are_good-clause-fault : goal.returns-then-not-are_good-clause-fault
-returns-then-not-are_good-clause-fault g c = λ e. inr (bad_given (g.S.Source.shown c.args.source.now) c.args.folder.now c.in_ok-names.names.items c.sort_names.new.names.items c.as_slice.result.now
-    c.in_ok-names.ensures.names c.sort_names.ensures.permutation c.as_slice.ensures.value (c.are_good.ensures.bad c.if-not-are_good.true))
+returns-then-not-are_good-clause-fault g c = λ e. inr (
+  c.in_ok-names.ensures.kept,
+  bad_given (g.S.Source.shown c.args.source.now) c.args.folder.now c.in_ok-names.names.items c.sort_names.new.names.items c.as_slice.result.now
+      c.in_ok-names.ensures.names c.sort_names.ensures.permutation c.as_slice.ensures.value (c.are_good.ensures.bad c.if-not-are_good.true),
+)
 
 pub returns-clause-names : goal.returns-clause-names
 returns-clause-names g c =

@@ -1,4 +1,4 @@
-use Rattle.std.proofs.Common.{◌≡◌, ◌∙◌, ◌++◌, ◌∷◌, [], Err, List, ap, arith, map, refl, reverse, subst, sym}
+use Rattle.std.proofs.Common.{◌≡◌, ◌∙◌, ◌++◌, ◌∷◌, [], Err, List, ap, arith, map, refl, reverse, subst, suc, sym}
 use Rattle.std.proofs.lemmas.List.{map-append}
 use Rattle.lfs_tool_folders.specs.Shown.{is_folder}
 use Rattle.lfs_tool_folders.specs.InMemory.{items_by}
@@ -29,7 +29,8 @@ returns-in_err-bytes-clause-fault g c = λ e.
     let front = map place_of c.pop.new.self.items in
     let p = place_of c.in-Some.one in
     let popped : map place_of c.loop.waiting.items ≡ front ++ p ∷ [] = ap (map place_of) c.in-Some.ensures.items ∙ map-append place_of c.pop.new.self.items (c.in-Some.one ∷ []) in
-    either _ _ _ _ (λ h. h) (λ bad. bad_below known (g.S.Source.shown c.loop.source) front p (subst (AreFolders known) popped c.loop.invariant.folders) c.loop.invariant.shown bad.0 bad.1)
+    either _ _ _ _ (λ h. h ∙ ap suc c.loop.invariant.kept)
+    (λ bad. (bad.0 ∙ c.loop.invariant.kept, bad_below known (g.S.Source.shown c.loop.source) front p (subst (AreFolders known) popped c.loop.invariant.folders) c.loop.invariant.shown bad.1.0 bad.1.1))
     (c.in_err-bytes.ensures.fault (ap Err (same_error c.from_residual-in_err-bytes.result _ _ c.from_residual-in_err-bytes.ensures.1 e)))
 
 pub loop-preserved : goal.loop-preserved

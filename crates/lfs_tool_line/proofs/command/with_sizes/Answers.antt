@@ -6,5 +6,5 @@ use Rattle.lfs_tool_line.proofs.command.with_sizes.Goals as goal
 pub returns : goal.returns
 unfolding with_sizes
 returns c =
-    let two = c.in_ok-command-2.ensures ∙ ap (λ a. with_rule a (number (codes "page") 112 (codes "256"))) c.in_ok-command.ensures in
-    c.in_ok-command-3.ensures ∙ ap (λ a. with_rule a (number (codes "size") 115 (codes "65536"))) two
+    let two = c.in_ok-command-2.ensures ∙ ap (λ a. with_rule a (number (codes "page") 112 (codes "page") (codes "256"))) c.in_ok-command.ensures in
+    c.in_ok-command-3.ensures ∙ ap (λ a. with_rule a (number (codes "size") 115 (codes "size") (codes "65536"))) two

@@ -1,0 +1,41 @@
+ghost use Rattle.std.specs.Prelude.{◌≡◌, IfOk};
+ghost use Rattle.std.specs.String.{string_bytes};
+
+use std::alloc::{AllocError, Global};
+use std::fs::File;
+use std::io;
+use std::io::{ErrorKind, Read};
+use std::rt::Files;
+
+/// The file of an image that is read. It is opened at the first read, which fails where it can't be.
+#[derive(Drop)]
+pub struct OldImage<'a, R: Files> {
+    files: &'a R,
+    path: String,
+    file: Option<R::File>,
+}
+
+impl<'a, R: Files> OldImage<'a, R> {
+    /// The file at a path. Nothing is opened yet.
+    pub fn new(alloc: Global, files: &'a R, path: &str) -> Result<OldImage<'a, R>, AllocError>
+        ensures path { IfOk result (λ i. string_bytes i.path ≡ path.now) }
+    {
+        Ok(OldImage {
+            files,
+            path: String::from_str(alloc, path)?,
+            file: None,
+        })
+    }
+}
+
+impl<'a, R: Files> Read for OldImage<'a, R> {
+    fn read(&mut self, buf: &mut [u8]) -> io::Result<usize> {
+        if self.file.is_none() {
+            self.file = Some(File::open(self.files, self.path.as_str())?);
+        }
+        match &mut self.file {
+            Some(file) => file.read(buf),
+            None => Err(io::Error::from(ErrorKind::NotFound)),
+        }
+    }
+}

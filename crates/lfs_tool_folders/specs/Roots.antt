@@ -1,0 +1,13 @@
+-- The paths of real folders.
+use Rattle.std.specs.Prelude.{ℕ, List}
+use Rattle.std.specs.String.{string_bytes}
+use Rattle.lfs_tool_folders.specs.declared.source_folder.Folder.{Folder}
+use Rattle.lfs_tool_folders.specs.declared.target_folder.TargetFolder.{TargetFolder}
+
+-- the path at which a folder is read
+abbrev pub folder_root : {R : Type 0} → Folder R → List ℕ
+folder_root f = string_bytes f.root
+
+-- the path at which one is written
+abbrev pub target_root : {R : Type 0} → TargetFolder R → List ℕ
+target_root t = string_bytes t.root

@@ -1,0 +1,83 @@
+// What is wrong with an image.
+
+/// A slot of a pair of the thread.
+#[derive(Drop)]
+pub struct Place {
+    /// The pair's address, as the thread names it.
+    pub pair: [u32; 2],
+    /// The number of the slot in its pair.
+    pub slot: usize,
+    /// The bytes of its name.
+    pub name: Vec<u8>,
+}
+
+/// What a superblock says of its image that isn't so, by its struct (SPEC.md of littlefs, "0x0ff
+/// LFS_TYPE_SUPERBLOCK").
+#[derive(Clone, Copy, Debug, PartialEq, Eq, Drop)]
+pub enum Stated {
+    /// Another size of a block, in bytes.
+    BlockSize(u32),
+    /// Another number of blocks.
+    BlockCount(u32),
+    /// Another version: the major number in the upper 16 bits, the minor one in the lower.
+    Version(u32),
+}
+
+/// The first rule that an image breaks, and where. A pair is known by its address, as the thread
+/// names it, and a slot by its number in its pair.
+#[derive(Drop)]
+pub enum Finding {
+    // ---- the thread
+    /// The thread names a pair with a block that the image doesn't have.
+    OutOfRange {
+        pair: [u32; 2],
+        block: u32,
+    },
+    /// The thread names a pair of one block.
+    OneBlock {
+        pair: [u32; 2],
+    },
+    /// A block stands in the thread twice: in the other pair, and then in the pair.
+    InTwoPairs {
+        block: u32,
+        pair: [u32; 2],
+        other: [u32; 2],
+    },
+    /// Neither block of a pair has a commit with a right checksum.
+    NoCommit {
+        pair: [u32; 2],
+    },
+    /// The log of the block that holds has an entry that may not stand there.
+    Malformed {
+        pair: [u32; 2],
+    },
+    /// A slot has no name.
+    NoName {
+        pair: [u32; 2],
+        slot: usize,
+    },
+    /// A slot has a name and no struct.
+    NoStruct(Place),
+
+    // ---- the superblock's chain
+    /// The root directory doesn't begin with a superblock.
+    NoSuperblock,
+    /// Slot 0 of a pair of the chain has no struct of a superblock.
+    NoFields {
+        pair: [u32; 2],
+    },
+    /// A superblock of the chain says something of the image that isn't so.
+    OtherFields {
+        pair: [u32; 2],
+        stated: Stated,
+    },
+
+    // ---- entries
+    /// A superblock stands elsewhere than in slot 0 of the chain.
+    SecondSuperblock(Place),
+    /// The kind of an entry and its struct don't go together.
+    OtherStruct(Place),
+    /// An entry has a name that none may have: an empty one, or one of more than 255 bytes, with a byte
+    /// 0 or a slash, or `.` or `..`.
+    BadName(Place),
+}

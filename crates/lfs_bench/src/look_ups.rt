@@ -53,15 +53,12 @@ fn know_often(block: &[u8], rounds: u32) -> u64 {
     sum
 }
 
-fn find_often(log: &Log<'_>, rounds: u32) -> u64 {
+fn find_often(alloc: Global, log: &Log<'_>, rounds: u32) -> u64 {
     let mut sum = 0u64;
     for round in 0..rounds {
-        sum = sum.wrapping_add(u64::from(shown(find(
-            log,
-            NameOrder::ShorterFirst,
-            &name_of(round),
-            None,
-        ))));
+        if let Ok(found) = find(alloc, log, NameOrder::ShorterFirst, &name_of(round), None) {
+            sum = sum.wrapping_add(u64::from(shown(found)));
+        }
     }
     sum
 }
@@ -83,11 +80,9 @@ pub fn show(rt: &HostRuntime, rounds: u32) -> io::Result<()> {
     let mut block = [0xffu8; BLOCK];
     fill(&mut block);
     let log = Log::read(&block);
-    println!(rt;
-        "{} {}",
-        shown(find(&log, NameOrder::ShorterFirst, &name_of(0), None)),
-        shown(find(&log, NameOrder::ShorterFirst, b"\0", None))
-    )?;
+    let last = find(rt.alloc(), &log, NameOrder::ShorterFirst, &name_of(0), None)?;
+    let none = find(rt.alloc(), &log, NameOrder::ShorterFirst, b"\0", None)?;
+    println!(rt; "{} {}", shown(last), shown(none))?;
     let start = Instant::now(rt)?;
     let read = read_often(&block, rounds);
     let reading = start.elapsed(rt)?;
@@ -95,7 +90,7 @@ pub fn show(rt: &HostRuntime, rounds: u32) -> io::Result<()> {
     let known = know_often(&block, rounds);
     let knowing = start.elapsed(rt)?;
     let start = Instant::now(rt)?;
-    let found = find_often(&log, rounds);
+    let found = find_often(rt.alloc(), &log, rounds);
     let finding = start.elapsed(rt)?;
     let start = Instant::now(rt)?;
     let contents = content_often(rt.alloc(), &log, rounds);

@@ -39,7 +39,7 @@ fn length<D: BlockDevice>(dev: &D, map: &BlockMap, contents: &Contents) -> u32
     ensures { result ≡ form_size (form_of contents.now) }
 {
     match contents {
-        Contents::InMemory(list) => list.held().len() as u32,
+        Contents::InMemory(list) => list.size(),
         Contents::Finished(stored) => stored.size,
         Contents::InHand(hand) => hand.list.size().max(hand.base.size),
     }

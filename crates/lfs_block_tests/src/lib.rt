@@ -1,7 +1,9 @@
 //! Tests of devices, of the map of blocks, of the cache, of the clients that are proved over any device,
-//! and of contents that are written in blocks.
+//! of skip lists, and of contents that are written in blocks.
 #![tactic(auto)]
 
+#[cfg(test)]
+mod by_hand;
 #[cfg(test)]
 mod cache;
 #[cfg(test)]
@@ -11,11 +13,22 @@ mod clients;
 #[cfg(test)]
 mod devices;
 #[cfg(test)]
+mod extending;
+#[cfg(test)]
 mod failing_writes;
 #[cfg(test)]
 mod fault;
 #[cfg(test)]
+mod faults;
+#[cfg(test)]
 mod geometry;
+#[cfg(test)]
+mod in_memory;
+mod list_clients;
+#[cfg(test)]
+mod list_memory;
+#[cfg(test)]
+mod lists;
 #[cfg(test)]
 mod map;
 #[cfg(test)]
@@ -25,4 +38,10 @@ mod plain;
 #[cfg(test)]
 mod ram;
 #[cfg(test)]
+mod reading;
+#[cfg(test)]
+mod sizes;
+#[cfg(test)]
 mod writing;
+
+pub use list_clients::{Memory, is_list, patch, read_front};

@@ -4,9 +4,9 @@ use Rattle.lfs_writer.specs.Contents.{form_of}
 use Rattle.lfs_block_tests.proofs.Rooms.{room_for_end}
 use Rattle.lfs_block_tests.proofs.calls.end.Goals as goal
 
-pub finish-requires-clause-room : goal.finish-requires-clause-room
-finish-requires-clause-room g c =
+pub finish-requires : goal.finish-requires
+finish-requires g c =
     let room = c.has_room.ensures c.if-not-has_room.false in
     let same = ap (blocks_for (g.D.BlockDevice.geometry c.args.dev.now).block_size) c.length-most.ensures in
     let few = room_for_end (g.D.BlockDevice.geometry c.args.dev.now).block_size (form_of c.args.contents) in
-    omega arith
+    record { stands = c.requires.stands; room = omega (arith, room, same, few) }

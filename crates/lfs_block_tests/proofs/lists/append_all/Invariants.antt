@@ -1,0 +1,17 @@
+use Rattle.std.proofs.Common.{◌≡◌, ◌≤◌, ◌+◌, ◌-◌, length}
+use Rattle.lfs_ctz.specs.Growing.{end_of}
+use Rattle.lfs_block_tests.specs.Below.{IsBelow, IsOwn}
+use Rattle.lfs_block_tests.proofs.lists.append_all.Given as goal
+
+abbrev pub invariant-loop-done : goal.invariant-loop-done
+invariant-loop-done g l =
+    let blocks = g.D.BlockDevice.blocks in
+    record {
+      low : l.done ≤ length l.fn.bytes;
+      below : IsBelow (blocks l.dev) (g.D.BlockDevice.geometry l.dev) l.extender l.next;
+      own : 1 ≤ l.done → IsOwn (blocks l.dev) l.extender;
+      sum : end_of l.extender ≡ end_of l.fn.extender + l.done;
+    }
+
+abbrev pub decreases-loop-done : goal.decreases-loop-done
+decreases-loop-done g l = length l.fn.bytes - l.done

@@ -1,0 +1,5 @@
+pub mod Kept
+pub mod Looked
+pub mod Named
+pub mod Ready
+pub mod Tailed

@@ -1,0 +1,100 @@
+// What a log comes to, and what look-ups find in it.
+
+use crate::blocks::{BAD_DELETE, SHIFTING, block_of};
+use lfs_device::NameOrder::{LongerFirst, ShorterFirst};
+use lfs_tag::{
+    Content, ContentError, Log, Lookup, MoveState, Part, Steps, Summary, find, get, name_of,
+    struct_of,
+};
+use std::test::Fail;
+
+fn typed<'a>(part: Option<Part<'a>>) -> Option<(u16, &'a [u8])> {
+    match part {
+        Some(part) => Some((part.kind, part.bytes)),
+        None => None,
+    }
+}
+
+#[test]
+fn contents_and_summaries(rt: HostRuntime) -> Result<(), Fail> {
+    let alloc = rt.alloc();
+    let block = block_of(alloc, 4096, 256, &SHIFTING)?;
+    let log = Log::read(&block);
+    let content = Content::read(alloc, &log)?;
+    assert_eq!(rt; (content.slots.len(), content.tail), (2, None));
+    for slot in content.slots.get(1..).unwrap_or_default() {
+        assert_eq!(rt;
+            (
+                typed(slot.name),
+                typed(slot.structure),
+                slot.attributes.len()
+            ),
+            (Some((1, b"b".as_slice())), Some((0x201, b"".as_slice())), 1)
+        );
+        for attribute in &slot.attributes {
+            assert_eq!(rt; (attribute.kind, attribute.bytes), (0x41, b"x".as_slice()));
+        }
+    }
+    let summary = Summary {
+        slot_count: 2,
+        tail: None,
+        move_state: MoveState::none(),
+        is_complete: true,
+    };
+    assert_eq!(rt; Summary::read(alloc, &log), Ok(summary));
+    Ok(())
+}
+
+#[test]
+fn a_slot_that_is_not_there(rt: HostRuntime) -> Result<(), Fail> {
+    let block = block_of(rt.alloc(), 32, 9, &BAD_DELETE)?;
+    let log = Log::read(&block);
+    let content = Content::read(rt.alloc(), &log).err();
+    let summary = Summary::read(rt.alloc(), &log).err();
+    let error = Some(ContentError::Malformed);
+    assert_eq!(rt; (log.has_commit(), content, summary), (true, error, error));
+    Ok(())
+}
+
+// What is held of a type for an id, and at how many entries a search looks, from the last one back.
+#[test]
+fn look_ups(rt: HostRuntime) -> Result<(), Fail> {
+    let block = block_of(rt.alloc(), 4096, 256, &SHIFTING)?;
+    let log = Log::read(&block);
+    for (kind, id, held, looks) in [
+        (0x341, 1, Some(b"x".as_slice()), 2),
+        (1, 1, Some(b"b"), 11),
+        (0x201, 1, Some(b""), 10),
+        (0xff, 0, Some(b"littlefs"), 15),
+        (2, 1, None, 11),
+        (1, 2, None, 15),
+        (0x4ff, 1, None, 12),
+    ] {
+        let mut steps = Steps::new();
+        let found = get(&log, kind, id, &mut steps);
+        assert_eq!(rt; (found, steps.count()), (held, looks));
+    }
+    let mut steps = Steps::new();
+    for (id, name, structure) in [
+        (1, Some((1, b"b".as_slice())), Some((0x201, b"".as_slice()))),
+        (2, None, None),
+    ] {
+        assert_eq!(rt; typed(name_of(&log, id, &mut steps)), name);
+        assert_eq!(rt; typed(struct_of(&log, id, &mut steps)), structure);
+    }
+    for (order, name, skip, place) in [
+        (ShorterFirst, b"b".as_slice(), None, Lookup::Found(1)),
+        (ShorterFirst, b"a", None, Lookup::Place(1)),
+        (ShorterFirst, b"littlefs", None, Lookup::Place(2)),
+        (ShorterFirst, b"b", Some(1), Lookup::Place(2)),
+        (ShorterFirst, b"a", Some(1), Lookup::Place(2)),
+        (ShorterFirst, b"bb", None, Lookup::Place(2)),
+        (LongerFirst, b"b", None, Lookup::Found(1)),
+        (LongerFirst, b"a", None, Lookup::Place(1)),
+        (LongerFirst, b"littlefs", None, Lookup::Place(2)),
+        (LongerFirst, b"bb", None, Lookup::Place(1)),
+    ] {
+        assert_eq!(rt; find(rt.alloc(), &log, order, name, skip)?, place);
+    }
+    Ok(())
+}

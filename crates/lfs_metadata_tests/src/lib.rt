@@ -1,0 +1,62 @@
+//! Tests of metadata, on devices whose erases leave this or that, whose calls fail and which stop: tags
+//! and logs with vectors of the format, pairs, threads that are read, mounted and changed step by step,
+//! paths on a mounted image, and devices made empty.
+#![tactic(auto)]
+
+#[cfg(test)]
+mod blocks;
+#[cfg(test)]
+mod checksums;
+mod clients;
+#[cfg(test)]
+mod commits;
+#[cfg(test)]
+mod committing;
+#[cfg(test)]
+mod contents;
+#[cfg(test)]
+mod fetching;
+#[cfg(test)]
+mod fields;
+#[cfg(test)]
+mod formatting;
+#[cfg(test)]
+mod fresh;
+#[cfg(test)]
+mod images;
+#[cfg(test)]
+mod logs;
+#[cfg(test)]
+mod looking;
+#[cfg(test)]
+mod memory;
+#[cfg(test)]
+mod mounts;
+#[cfg(test)]
+mod names;
+#[cfg(test)]
+mod pair_images;
+#[cfg(test)]
+mod paths;
+#[cfg(test)]
+mod reading;
+#[cfg(test)]
+mod rows;
+#[cfg(test)]
+mod scripts;
+#[cfg(test)]
+mod splitting;
+#[cfg(test)]
+mod stepping;
+#[cfg(test)]
+mod stopping;
+#[cfg(test)]
+mod storable;
+#[cfg(test)]
+mod tags;
+#[cfg(test)]
+mod trial;
+#[cfg(test)]
+mod using;
+
+pub use clients::{commit_or_stop, split_before};

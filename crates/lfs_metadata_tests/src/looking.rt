@@ -1,0 +1,136 @@
+// What is found out of a pair of a thread before changes are made to it: tests don't know what it
+// holds.
+
+ghost use Rattle.std.specs.Prelude.{◌≡◌, true, false, IfOk, IsTrue, is_some, map};
+ghost use Rattle.std.specs.Option.{option_map};
+ghost use Rattle.lfs_model.specs.Content.{complete_all};
+ghost use Rattle.lfs_model.specs.Cut.{CanBeCut};
+ghost use Rattle.lfs_model.specs.Slots.{address_of};
+ghost use Rattle.lfs_model.specs.Thread.{next_of};
+ghost use Rattle.lfs_tag.specs.ContentSeen.{content_seen, slot_seen, tail_seen};
+ghost use Rattle.lfs_pair.specs.ChangeSeen.{changes_seen};
+ghost use Rattle.lfs_thread.specs.Steps.{IsOnlyRead};
+ghost use Rattle.lfs_metadata_tests.specs.Look.{IsMadeIn, IsLookIn, IsLookAt};
+
+use crate::storable::are_storable;
+use lfs_device::{BlockDevice, Error, Geometry};
+use lfs_pair::{Change, apply_all, fits};
+use lfs_tag::{Content, Log, MoveState, Slot, Tail};
+use lfs_thread::Thread;
+use std::alloc::Global;
+
+/// What changes make of a pair.
+#[derive(Clone, Copy, Drop)]
+pub struct Look {
+    /// The address that its tail names.
+    pub now: Option<[u32; 2]>,
+    /// The address that its tail names then.
+    pub next: Option<[u32; 2]>,
+    /// Its slots can be cut in two then.
+    pub can_be_cut: bool,
+}
+
+// Whether each of these slots has a name and a struct.
+fn are_complete(slots: &[Slot<'_>]) -> bool
+    ensures { result ≡ is_some (complete_all (map slot_seen slots.now)) }
+{
+    for slot in slots {
+        if slot.name.is_none() || slot.structure.is_none() {
+            return false;
+        }
+    }
+    true
+}
+
+// What the changes make of what a log holds. `Invalid` where a change doesn't
+// fit into a tag, or a slot lacks a name or a struct then.
+fn made<'a, 'b: 'a>(
+    alloc: Global,
+    log: &Log<'a>,
+    changes: &[Change<'b>],
+) -> Result<Content<'a>, Error>
+    ensures { IfOk result (λ content. IsMadeIn log.now (changes_seen changes.now) (content_seen content)) }
+{
+    if !are_storable(changes) {
+        return Err(Error::Invalid);
+    }
+    let mut content = Content::read(alloc, log)?;
+    apply_all(alloc, &mut content, changes)?;
+    if !are_complete(&content.slots) {
+        return Err(Error::Invalid);
+    }
+    Ok(content)
+}
+
+// The address that a tail names.
+fn named(tail: &Option<Tail>) -> Option<[u32; 2]>
+    ensures { option_map address_of result ≡ next_of (option_map tail_seen tail.now) }
+{
+    match tail {
+        None => None,
+        Some(tail) => Some(tail.pair),
+    }
+}
+
+// Whether both halves of the slots fit a pair.
+fn can_be_halved(mut content: Content<'_>, geometry: Geometry) -> Result<bool, Error>
+    ensures { result ≡ Ok true → CanBeCut geometry.block_size geometry.page (content_seen content.entry).slots }
+{
+    let half = content.slots.len() / 2;
+    let back = Content {
+        slots: content.slots.split_off(half)?,
+        tail: None,
+        move_state: MoveState::none(),
+    };
+    if !fits(&content, geometry) {
+        return Ok(false);
+    }
+    if !fits(&back, geometry) {
+        return Ok(false);
+    }
+    Ok(true)
+}
+
+fn look_in<'a, 'b: 'a>(
+    alloc: Global,
+    log: &Log<'a>,
+    changes: &[Change<'b>],
+    geometry: Geometry,
+) -> Result<Look, Error>
+    ensures { IfOk result (λ look. IsLookIn log.now (changes_seen changes.now) geometry.block_size geometry.page look.now look.next look.can_be_cut) }
+{
+    let was = made(alloc, log, &[])?;
+    let content = made(alloc, log, changes)?;
+    let now = named(&was.tail);
+    let next = named(&content.tail);
+    let can_be_cut = can_be_halved(content, geometry)?;
+    Ok(Look {
+        now,
+        next,
+        can_be_cut,
+    })
+}
+
+/// Finds out what changes make of a pair. `Invalid` where there is no such pair, or they may not be
+/// made to it.
+pub fn look_at<D: BlockDevice>(
+    alloc: Global,
+    thread: &mut Thread<D>,
+    index: usize,
+    changes: &[Change<'_>],
+) -> Result<Look, Error>
+    requires { thread.old.failed ≡ false }
+    ensures look { IfOk result (λ look. IsLookAt thread.new.kept index (changes_seen changes.now) look.now look.next look.can_be_cut) }
+    ensures only { IsOnlyRead thread.old.kept thread.new.kept }
+    ensures works { thread.new.failed ≡ false }
+{
+    if index >= thread.len() {
+        return Err(Error::Invalid);
+    }
+    thread.bring(index)?;
+    let geometry = thread.device().geometry();
+    match thread.lend(index) {
+        None => Err(Error::Invalid),
+        Some(log) => look_in(alloc, &log, changes, geometry),
+    }
+}

@@ -1,0 +1,96 @@
+// The clients at work, on a pair of three files of 300 bytes each.
+
+ghost use Rattle.std.specs.Prelude.{◌≡◌};
+
+use crate::clients::{commit_or_stop, split_before};
+use crate::pair_images::sevens;
+use lfs_device::{BlockDevice, Erased, Error, FaultDevice, Which};
+use lfs_pair::{Change, Pair};
+use lfs_tag::Tail;
+use lfs_tag::kinds::{FILE_NAME, INLINE_STRUCT};
+use std::alloc::Global;
+use std::test::Fail;
+
+const ALIKE: [Change<'static>; 6] = [
+    Change::Create {
+        id: 0,
+        kind: FILE_NAME,
+        name: b"f",
+    },
+    Change::Struct {
+        id: 0,
+        kind: INLINE_STRUCT,
+        bytes: &[0; 300],
+    },
+    Change::Create {
+        id: 1,
+        kind: FILE_NAME,
+        name: b"f",
+    },
+    Change::Struct {
+        id: 1,
+        kind: INLINE_STRUCT,
+        bytes: &[0; 300],
+    },
+    Change::Create {
+        id: 2,
+        kind: FILE_NAME,
+        name: b"f",
+    },
+    Change::Struct {
+        id: 2,
+        kind: INLINE_STRUCT,
+        bytes: &[0; 300],
+    },
+];
+
+// The tails of both parts, where the fresh one's is set by the split.
+fn tails<D: BlockDevice>(alloc: Global, dev: &mut D) -> Result<[Option<Tail>; 2], Error>
+    requires size { (D.geometry dev.old).block_size ≡ 1024 }
+    requires page { (D.geometry dev.old).page ≡ 8 }
+    requires count { (D.geometry dev.old).block_count ≡ 6 }
+{
+    let mut pair = Pair::fresh(alloc, dev, [0, 1], &ALIKE)?;
+    let fresh_pair = split_before(alloc, dev, &mut pair, [2, 3], [4, 5])?;
+    Ok([pair.tail, fresh_pair.tail])
+}
+
+const NO_FIRST: [Change<'static>; 1] = [Change::Delete { id: 0 }];
+
+// How many slots are left where one goes.
+fn left<D: BlockDevice>(alloc: Global, dev: &mut D) -> Result<usize, Error>
+    requires size { (D.geometry dev.old).block_size ≡ 1024 }
+    requires page { (D.geometry dev.old).page ≡ 8 }
+    requires count { (D.geometry dev.old).block_count ≡ 6 }
+{
+    let mut pair = Pair::fresh(alloc, dev, [0, 1], &ALIKE)?;
+    commit_or_stop(alloc, dev, &mut pair, &NO_FIRST)?;
+    Ok(pair.slot_count)
+}
+
+// The pair is made by five calls, a commit to it has three, and a ninth is none of theirs.
+#[test]
+fn clients_commit_and_split(rt: HostRuntime) -> Result<(), Fail> {
+    let alloc = rt.alloc();
+    let mut device = sevens(alloc, 1024, 8, 6, Erased::Fill(0xff))?;
+    let front = Some(Tail {
+        hard: true,
+        pair: [2, 3],
+    });
+    let back = Some(Tail {
+        hard: false,
+        pair: [4, 5],
+    });
+    assert_eq!(rt; tails(alloc, &mut device), Ok([front, back]));
+    for (nth, answer) in [
+        (6, Err(Error::Io)),
+        (7, Err(Error::Io)),
+        (8, Err(Error::Io)),
+        (9, Ok(2)),
+    ] {
+        let inner = sevens(alloc, 1024, 8, 6, Erased::Fill(0xff))?;
+        let mut device = FaultDevice::new(inner, Which::Any, nth, true);
+        assert_eq!(rt; left(alloc, &mut device), answer);
+    }
+    Ok(())
+}

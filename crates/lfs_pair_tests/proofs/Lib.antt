@@ -1,4 +1,0 @@
-pub mod Kept
-pub mod Named
-pub mod Ready
-pub mod Tailed

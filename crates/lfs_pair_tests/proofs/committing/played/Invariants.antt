@@ -1,6 +1,0 @@
-use Rattle.lfs_device.specs.Shown.{disk_of}
-use Rattle.lfs_pair_tests.specs.Kept.{IsKept}
-use Rattle.lfs_pair_tests.proofs.committing.played.Given as goal
-
-abbrev pub invariant-loop-changes : goal.invariant-loop-changes
-invariant-loop-changes g l = IsKept (disk_of (g.D.BlockDevice.geometry l.dev) (g.D.BlockDevice.blocks l.dev)) (g.D.BlockDevice.history l.dev) l.pair

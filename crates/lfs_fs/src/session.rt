@@ -1,15 +1,15 @@
 ghost use Rattle.lfs_model.specs.Operations as ops;
 ghost use Rattle.lfs_model.specs.Operations.{Operation, Reply as Answer};
 ghost use Rattle.lfs_checks.specs.Replies.{reply_in};
-ghost use Rattle.std.specs.Prelude.{◌≡◌, ◌⊎◌, None, false, true, List, [], map, All, IfOk, IfErr, OnOk};
+ghost use Rattle.std.specs.Prelude.{◌≡◌, ◌⊎◌, ◌++◌, None, false, true, List, [], map, All, IfOk, IfErr, OnOk};
 ghost use Rattle.lfs_model.specs.Disk.{SameGeometry};
 ghost use Rattle.lfs_model.specs.Thread.{Pair};
 ghost use Rattle.lfs_model.specs.Fresh.{IsFresh, empty_tree};
-ghost use Rattle.lfs_model.specs.Headline.{ComesFromFresh, IsTrue};
+ghost use Rattle.lfs_model.specs.Headline.{AgreesWithDisk, IsWhatItsDiskShows};
 ghost use Rattle.lfs_model.specs.History.{faults};
 ghost use Rattle.lfs_model.specs.State.{Healthy, mounted};
-ghost use Rattle.lfs_model.specs.Run.{AreTurns};
-ghost use Rattle.lfs_model.specs.Outages.{AreWithstood};
+ghost use Rattle.lfs_model.specs.Run.{AreTurns, Moment};
+ghost use Rattle.lfs_model.specs.Outages.{AreWithstood, IsMounted};
 ghost use Rattle.lfs_model.specs.PowerLoss.{Withstands};
 ghost use Rattle.lfs_model.specs.declared.order.NameOrder.{NameOrder};
 ghost use Rattle.lfs_model.specs.declared.order.NameOrder.TheVariants.{LongerFirst, ShorterFirst};
@@ -575,7 +575,8 @@ impl<D: BlockDevice> Session<D> {
         ensures named { IfOk result (λ replies. All IsNamed replies.items) }
         ensures thrifty { IfOk result (λ replies. AreThrifty None (moment_of self.old) (map op_seen ops.now) (map reply_seen replies.items) (moment_of self.new)) }
         ensures no_fault { OnOk result (faults self.new.tree.history ≡ faults self.old.tree.history) }
-        ensures headline { OnOk result ((done : List Operation) (answers : List Answer) → ComesFromFresh done answers (moment_of self.old) → IsTrue (moment_of self.new)) }
+        ensures headline { IfOk result (λ replies. (from : Moment) (done : List Operation) (answers : List Answer) → AgreesWithDisk from → AreTurns from done answers (moment_of self.old)
+            → IsWhatItsDiskShows from (done ++ map op_seen ops.now) (answers ++ map reply_seen replies.items) (moment_of self.new)) }
         ensures ended { IfErr result (λ e. IsEndedBy e (moment_of self.old) (map op_seen ops.now) (moment_of self.new)) }
     {
         let mut replies = Vec::new(alloc);
@@ -602,6 +603,7 @@ impl<D: BlockDevice> Session<D> {
 /// `NoMemory` where memory isn't granted. The device comes back with an error.
 pub fn mount<D: BlockDevice>(alloc: Global, device: D) -> Result<Session<D>, (D, Error)>
     ensures begun { IfOk result (λ s. IsBegun (ordered s.tree.disk.order (disk_on D.BlockDevice device)) (D.history device) s) }
+    ensures state { IfOk result (λ s. IsMounted (ordered s.tree.disk.order (disk_on D.BlockDevice device)) (moment_of s)) }
     ensures longer { IfOk result (λ s. s.tree.disk.order ≡ ShorterFirst → (ps : List Pair) → ¬ IsAccepted (ordered LongerFirst (disk_on D.BlockDevice device)) ps) }
     ensures corrupt { IfErr result (λ e. e.1 ≡ Error.Corrupt → (order : NameOrder) (ps : List Pair) → ¬ IsAccepted (ordered order (disk_on D.BlockDevice device)) ps) }
     ensures errors { IfErr result (λ e. (e.1 ≡ Error.Io) ⊎ (e.1 ≡ Error.Corrupt) ⊎ (e.1 ≡ Error.NoMemory)) }

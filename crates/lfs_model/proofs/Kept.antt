@@ -15,13 +15,14 @@ use Rattle.lfs_model.specs.Session.{Session, Surroundings}
 use Rattle.lfs_model.specs.Effects.{applied, effect_of, reply_or}
 use Rattle.lfs_model.specs.Refusals.{refusal_of}
 use Rattle.lfs_model.specs.State.{State, HasFailed, Healthy, is_remount, remounted, answered_in, mounted}
-use Rattle.lfs_model.specs.Fresh.{fresh_pair, empty_tree}
+use Rattle.lfs_model.specs.Fresh.{IsFresh, fresh_pair, empty_tree}
 use Rattle.lfs_model.specs.Recovery.{IsRecovered}
 use Rattle.lfs_model.specs.Run.{Moment, Shows, Agrees, is_refusal, IsCarriedOut, IsTurn, AreTurns}
-use Rattle.lfs_model.specs.Headline.{ComesFromFresh, session_after, session_after_all, IsTrue, IsSettled}
+use Rattle.lfs_model.specs.Headline.{ComesFromFresh, session_after, session_after_all, AgreesWithDisk, IsSettled, IsWhatItsDiskShows}
+use Rattle.lfs_model.specs.Outages.{IsMounted}
 use Rattle.lfs_model.proofs.Uniqueness.{one_thread}
 use Rattle.lfs_model.proofs.Fresh.{accepted, writable}
-use Rattle.lfs_model.proofs.Turns.{IsHealthy, turn_is_healthy, true_from, fresh_agrees, fresh_turns}
+use Rattle.lfs_model.proofs.Turns.{IsHealthy, turn_is_healthy, turns_are_healthy, turns_agree, true_from, fresh_agrees, question_answered, reader_answered}
 use Rattle.lfs_model.proofs.TurnsMade.{no_refusal}
 
 -- ---- what the accepted operations define
@@ -95,7 +96,7 @@ pub turn_keeps : (Q : Disk → List Pair → Type 0) → StaysCarried Q → (fro
     ArePairs Q to.disk
 turn_keeps Q carries from to op reply turn h (ps, (ok, q)) = go (is_refusal reply) refl from.state refl h
   where
-    known : IsTrue to
+    known : AgreesWithDisk to
     known = true_from to (turn_is_healthy from to op reply turn h) turn.agrees
 
     go : (b : Bool) → is_refusal reply ≡ b → (state : State) → from.state ≡ state → IsHealthy state → ArePairs Q to.disk
@@ -119,19 +120,66 @@ profile_stays disk new ps qs s op calls c h = c.profile h
 abbrev WritableRecovered : Disk → List Pair → Type 0
 WritableRecovered disk ps = IsWritable disk ps × IsRecovered ps
 
+-- ---- the headline
+
+pub session_shows : (from at : Moment) (operations : List Operation) (replies : List Reply) → AgreesWithDisk from → AreTurns from operations replies at → IsWhatItsDiskShows from operations replies at
+session_shows from at operations replies known turns = record {
+  answers = turns;
+  shows = here;
+  defined = λ around s healthy. defined around operations replies from at s healthy agrees turns;
+  questions = λ to op reply asks turn. question_answered at to op reply here asks turn;
+  readers = λ to fd count reply turn. reader_answered at to fd count reply here turn;
+  profile = turns_keep IsWritable profile_stays operations replies from at turns healthy;
+  settled = settled;
+}
+  where
+    agrees : Agrees from.disk from.state
+    agrees = subst (Agrees from.disk) (sym known.healthy) known.shows
+
+    healthy : IsHealthy from.state
+    healthy = subst IsHealthy (sym known.healthy) tt
+
+    here : AgreesWithDisk at
+    here = true_from at (turns_are_healthy operations replies from at turns healthy) (turns_agree operations replies from at turns agrees)
+
+    settled : IsSettled from.disk → IsSettled at.disk
+    settled was =
+        let end = turns_keep WritableRecovered (λ disk new ps qs s op calls k q. (k.profile q.0, k.stays q.1)) operations replies from at turns healthy (was.pairs, (was.accepted, (was.writable, was.recovered))) in
+        record { pairs = end.0; accepted = end.1.0; writable = end.1.1.0; recovered = end.1.1.1 }
+
+-- ---- where it begins
+
+-- on a fresh disk
+pub fresh_begins : (from : Moment) → IsFresh from.disk → from.state ≡ Healthy (mounted empty_tree) → AgreesWithDisk from × IsSettled from.disk
+fresh_begins from fresh mounts =
+    let ok = accepted from.disk fresh in (
+      record { session = mounted empty_tree; healthy = mounts; shows = fresh_agrees from.disk fresh },
+      record { pairs = fresh_pair from.disk ∷ []; accepted = ok; writable = writable from.disk fresh; recovered = record { gstate = refl; reached = ok.reached refl } },
+    )
+
+-- with a mount
+pub mount_begins : (disk : Disk) (at : Moment) → IsMounted disk at → AgreesWithDisk at
+mount_begins disk at m = record { session = mounted m.tree; healthy = m.healthy; shows = subst (λ d. Shows d (Some m.tree)) (sym m.on) m.shows }
+
+-- with a remount, also of a session that had failed
+pub remount_begins : (from to : Moment) → IsTurn from ops.Remount ops.Done to → AgreesWithDisk to
+remount_begins from to turn = true_from to (go turn.answered.shown turn.answered.answers) turn.agrees
+  where
+    go : (shown : Option Tree) → remounted shown ≡ (Some ops.Done, to.state) → IsHealthy to.state
+    go None e = absurd (let k = ap (λ (z : Option Reply × State). z.0) e in cc)
+    go (Some tree) e = subst IsHealthy (ap (λ (z : Option Reply × State). z.1) e) tt
+
 -- ---- from a fresh disk
 
-pub fresh_true : (operations : List Operation) (replies : List Reply) (at : Moment) → ComesFromFresh operations replies at → IsTrue at
-fresh_true operations replies at c = fresh_turns operations replies c.from at c.fresh c.mounts c.turns
+fresh_shows : (operations : List Operation) (replies : List Reply) (at : Moment) (c : ComesFromFresh operations replies at) → IsWhatItsDiskShows c.from operations replies at
+fresh_shows operations replies at c = session_shows c.from at operations replies (fresh_begins c.from c.fresh c.mounts).0 c.turns
+
+pub fresh_true : (operations : List Operation) (replies : List Reply) (at : Moment) → ComesFromFresh operations replies at → AgreesWithDisk at
+fresh_true operations replies at c = (fresh_shows operations replies at c).shows
 
 pub fresh_defined : (operations : List Operation) (replies : List Reply) (at : Moment) (around : Surroundings) → ComesFromFresh operations replies at →
     at.state ≡ Healthy (session_after_all around (mounted empty_tree) operations replies)
-fresh_defined operations replies at around c =
-    defined around operations replies c.from at (mounted empty_tree) c.mounts (subst (Agrees c.from.disk) (sym c.mounts) (fresh_agrees c.from.disk c.fresh)) c.turns
+fresh_defined operations replies at around c = (fresh_shows operations replies at c).defined around (mounted empty_tree) c.mounts
 
 pub fresh_settled : (operations : List Operation) (replies : List Reply) (at : Moment) → ComesFromFresh operations replies at → IsSettled at.disk
-fresh_settled operations replies at c =
-    let ok = accepted c.from.disk c.fresh in
-    let start : ArePairs WritableRecovered c.from.disk = (fresh_pair c.from.disk ∷ [], (ok, (writable c.from.disk c.fresh, record { gstate = refl; reached = ok.reached refl }))) in
-    let end = turns_keep WritableRecovered (λ disk new ps qs s op calls k q. (k.profile q.0, k.stays q.1)) operations replies c.from at c.turns (subst IsHealthy (sym c.mounts) tt) start in
-    record { pairs = end.0; accepted = end.1.0; writable = end.1.1.0; recovered = end.1.1.1 }
+fresh_settled operations replies at c = (fresh_shows operations replies at c).settled (fresh_begins c.from c.fresh c.mounts).1

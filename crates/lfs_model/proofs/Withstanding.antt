@@ -13,9 +13,8 @@ use Rattle.lfs_model.specs.Effects.{applied}
 use Rattle.lfs_model.specs.Thread.{Pair}
 use Rattle.lfs_model.specs.View.{IsAccepted}
 use Rattle.lfs_model.specs.Shown.{tree_in}
-use Rattle.lfs_model.proofs.AfterStops.{left_after, left_before, withstood_turns}
+use Rattle.lfs_model.proofs.AfterStops.{left_after, left_before}
 use Rattle.lfs_model.proofs.Kept.{one_tree}
-use Rattle.lfs_model.proofs.Turns.{turns_agree}
 use Rattle.lfs_model.proofs.Uniqueness.{one_thread}
 
 -- ---- what an operation takes from a disk is one
@@ -79,7 +78,3 @@ withstood_further [] op (r ∷ replies) reply a b c h turn one = absurd h
 withstood_further (o ∷ operations) op [] reply a b c h turn one = absurd h
 withstood_further (o ∷ operations) op (r ∷ replies) reply a b c (next, (first, stays, rest)) turn one =
     (next, (first, stays, withstood_further operations op replies reply next b c rest turn one))
-
--- what holds where the next operation begins
-pub agrees_later : (operations : List Operation) (replies : List Reply) (a b : Moment) → Agrees a.disk a.state → AreWithstood a operations replies b → Agrees b.disk b.state
-agrees_later operations replies a b agrees h = turns_agree operations replies a b (withstood_turns operations replies a b h) agrees

@@ -13,7 +13,7 @@ use Rattle.lfs_model.specs.Content.{content_at}
 use Rattle.lfs_model.specs.Disk.{Disk, SameGeometry, block_count, disk_of}
 use Rattle.lfs_model.specs.Fresh.{IsFresh, empty_tree}
 use Rattle.lfs_model.specs.Geometry.{IsGeometry}
-use Rattle.lfs_model.specs.Headline.{IsSettled, IsTrue, session_after_all}
+use Rattle.lfs_model.specs.Headline.{IsSettled, AgreesWithDisk, session_after_all}
 use Rattle.lfs_model.specs.Operations.{Operation, Reply}
 use Rattle.lfs_model.specs.Run.{AreTurns, Moment}
 use Rattle.lfs_model.specs.Session.{Session}
@@ -119,7 +119,7 @@ made g known es bytes all l = record {
     s : IsSettled l.to.disk
     s = fresh_settled (operations_of_all es) l.carried.replies l.to (comes l.from l.to (operations_of_all es) (record { fresh = l.begins.fresh; mounts = l.begins.mounts }) l.carried)
 
-    t : IsTrue l.to
+    t : AgreesWithDisk l.to
     t = fresh_true (operations_of_all es) l.carried.replies l.to (comes l.from l.to (operations_of_all es) (record { fresh = l.begins.fresh; mounts = l.begins.mounts }) l.carried)
 
     after : t.session ≡ session_after_all anywhere (mounted empty_tree) (flat_map operations_of es) l.carried.replies

@@ -1,5 +1,6 @@
 use Rattle.std.proofs.Common.{ap, subst, sym}
 use Rattle.lfs_model.specs.Disk.{Disk}
+use Rattle.lfs_fs.proofs.FreshBegun.{mount_state}
 use Rattle.lfs_model.specs.View.{IsAccepted}
 use Rattle.lfs_checks.specs.FileSeen.{files_seen}
 use Rattle.lfs_checks.specs.Held.{IsReady}
@@ -23,3 +24,6 @@ returns-in-Ok-clause-begun g c =
       no_fault = m.no_fault;
       no_files = ap (files_seen c.in-Ok.tree) c.none.ensures;
     }
+
+pub returns-in-Ok-clause-state : goal.returns-in-Ok-clause-state
+returns-in-Ok-clause-state g c = mount_state _ _ c.in-Ok.tree c.none.result c.in-Ok.ensures.mounted c.none.ensures

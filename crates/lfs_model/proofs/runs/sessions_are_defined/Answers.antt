@@ -7,6 +7,7 @@ use Rattle.lfs_model.proofs.Fresh.{shows, writable}
 use Rattle.lfs_model.proofs.Example.{fresh}
 use Rattle.lfs_model.proofs.FreshSession.{pairs, are_accepted, none_accepted}
 use Rattle.lfs_model.proofs.AskedTurn.{turn}
+use Rattle.lfs_model.proofs.Kept.{session_shows}
 use Rattle.lfs_model.proofs.runs.sessions_are_defined.Goals as goal
 
 pub returns-clause-fresh : goal.returns-clause-fresh
@@ -17,6 +18,12 @@ returns-clause-shown c = record { session = mounted empty_tree; healthy = refl; 
 
 pub returns-clause-failed : goal.returns-clause-failed
 returns-clause-failed c = λ h. absurd (let e = h.healthy in cc)
+
+pub returns-clause-kept : goal.returns-clause-kept
+returns-clause-kept c = session_shows fresh_moment fresh_moment _ _ (returns-clause-shown c) (fresh_moment, (turn, refl))
+
+pub returns-clause-lost : goal.returns-clause-lost
+returns-clause-lost c = λ h. returns-clause-failed c h.shows
 
 pub returns-clause-settled : goal.returns-clause-settled
 returns-clause-settled c = record { pairs = pairs; accepted = are_accepted; writable = writable small_image fresh; recovered = record { gstate = refl; reached = are_accepted.reached refl } }

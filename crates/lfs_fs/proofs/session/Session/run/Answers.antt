@@ -2,7 +2,8 @@ use Rattle.std.proofs.Common.{rules, arith, ap, subst, sym}
 use Rattle.std.proofs.lemmas.List.Elements.{All-from_recursion}
 use Rattle.std.specs.List.{AllByRecursion}
 use Rattle.lfs_model.proofs.AfterStops.{withstood_turns}
-use Rattle.lfs_model.proofs.Turns.{fresh_turns, turns_joined}
+use Rattle.lfs_model.proofs.Kept.{session_shows}
+use Rattle.lfs_model.proofs.Turns.{turns_joined}
 use Rattle.lfs_checks.specs.Held.{Held, moment_of}
 use Rattle.lfs_fs.specs.OpSeen.{IsNamed}
 use Rattle.lfs_checks.proofs.Failing.{memory_fails_now}
@@ -36,9 +37,9 @@ pub returns-clause-turns : goal.returns-clause-turns
 returns-clause-turns g c = withstood_turns _ _ _ _ (run_ended c.args.ops.now c.loop-op.op-index c.loop-op.replies.items (moment_of c.args.self.now) c.loop-op.self (omega arith) c.loop-op.invariant.0).withstood
 
 pub returns-clause-headline : goal.returns-clause-headline
-returns-clause-headline g c done answers fresh =
+returns-clause-headline g c from done answers known turns =
     let run = withstood_turns _ _ _ _ (run_ended c.args.ops.now c.loop-op.op-index c.loop-op.replies.items (moment_of c.args.self.now) c.loop-op.self (omega arith) c.loop-op.invariant.0).withstood in
-    fresh_turns _ _ fresh.from (moment_of c.loop-op.self) fresh.fresh fresh.mounts (turns_joined _ _ _ _ fresh.from (moment_of c.args.self.now) (moment_of c.loop-op.self) fresh.turns run)
+    session_shows from (moment_of c.loop-op.self) _ _ known (turns_joined _ _ _ _ from (moment_of c.args.self.now) (moment_of c.loop-op.self) turns run)
 
 pub returns-clause-named : goal.returns-clause-named
 returns-clause-named g c = All-from_recursion IsNamed c.loop-op.replies.items c.loop-op.invariant.1

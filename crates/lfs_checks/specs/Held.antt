@@ -26,8 +26,7 @@ use Rattle.lfs_checks.specs.declared.files.Unsaved.{Unsaved}
 use Rattle.lfs_model.specs.TreeEdits.{is_file}
 use Rattle.lfs_model.specs.Run.{Moment, Shows, IsTurn}
 use Rattle.lfs_model.specs.Failure.{Fails}
-use Rattle.lfs_model.specs.Outages.{IsCutShortWithstood}
-use Rattle.lfs_model.specs.Thrift.{AreThrifty, AsksFew}
+use Rattle.lfs_model.specs.Performed.{IsCutShort}
 use Rattle.lfs_lookup.specs.Refusals.{is_refusal, refusal_in}
 use Rattle.lfs_tree.specs.Seen.{Seen, tree_seen, around_of, IsSound, IsAsked, IsBrokenAsking, IsError}
 
@@ -93,14 +92,11 @@ abbrev pub Answers : Held → Operation → Result Reply Error → Held → Type
 Answers old op (Ok reply) new = IsTurn (moment_of old) op reply (moment_of new)
 Answers old op (Err e) new = FailsBy e (moment_of old) op (moment_of new)
 
--- Some operations were carried out or refused, without a fault of the device, and withstood stops; in the next one the session
--- failed by that error, and it withstands them, too. None of them read more than it must.
+-- Some operations were performed, without a fault of the device; in the next one the session failed by that error.
 pub record IsEndedBy (e : Error) (from : Moment) (operations : List Operation) (to : Moment) : Type 0 where
-  pub ended : IsCutShortWithstood from operations to
-  pub thrifty : AreThrifty None from ended.cut.done ended.cut.replies ended.cut.at
-  pub few : AsksFew ended.cut.at ended.cut.next to
-  pub no_fault : faults ended.cut.at.calls ≡ faults from.calls
-  pub by : FailsBy e ended.cut.at ended.cut.next to
+  pub ended : IsCutShort from operations to
+  pub no_fault : faults ended.at.calls ≡ faults from.calls
+  pub by : FailsBy e ended.at ended.next to
 
 -- the check that refuses an operation, that of a failed session first
 abbrev pub refused_by : Held → Operation → Option Refusal

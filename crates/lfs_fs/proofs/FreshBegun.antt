@@ -1,5 +1,5 @@
 -- A session as a format or a mount begins it.
-use Rattle.std.proofs.Common.{◌≡◌, ◌∙◌, false, cond, List, [], Some, refl, ap, ap₂, subst}
+use Rattle.std.proofs.Common.{◌≡◌, ◌∙◌, false, cond, List, [], refl, ap, ap₂, subst}
 use Rattle.lfs_model.specs.Content.{content_at}
 use Rattle.lfs_model.specs.Disk.{Disk, block_count}
 use Rattle.lfs_model.specs.Fresh.{IsFresh, empty_tree}

@@ -1,5 +1,5 @@
 -- Files closed, and a device read anew.
-use Rattle.std.proofs.Common.{arith, ◌≡◌, inl, inr, true, false, cond, set, is_none, List, [], ◌++◌, Option, Some, None, is_some, Result, Ok, Err, ℕ, refl, sym, ap, ap₂, subst, ◌∙◌}
+use Rattle.std.proofs.Common.{arith, ◌≡◌, inl, inr, true, false, cond, set, is_none, List, [], ◌++◌, Option, Some, None, is_some, Result, Ok, Err, ℕ, nat_eq, refl, sym, ap, ap₂, subst, ◌∙◌}
 use Rattle.std.specs.Prelude.{◌⊎◌, OnOk, OnErr, IfErr}
 use Rattle.lfs_device.specs.declared.error.Error.{Error}
 use Rattle.lfs_device.specs.declared.error.Error.TheVariants.{Io, NoMemory, Corrupt}
@@ -10,6 +10,7 @@ use Rattle.lfs_model.specs.Session.{Files}
 use Rattle.lfs_model.specs.State.{Healthy, Surrounds, mounted}
 use Rattle.lfs_model.specs.Effects.{committed, with_bytes}
 use Rattle.lfs_model.specs.TreeEdits.{change_at}
+use Rattle.std.specs.List.{IsDistinct}
 use Rattle.std.specs.Option.{option_map}
 use Rattle.lfs_model.specs.Thread.{Pair}
 use Rattle.lfs_model.specs.Tree.{Tree}
@@ -18,7 +19,7 @@ use Rattle.lfs_model.specs.Shown.{tree_in}
 use Rattle.lfs_model.specs.Run.{Moment, IsTurn, NoWrites, is_dirty}
 use Rattle.lfs_model.proofs.TurnsMade.{remounted_turn}
 use Rattle.lfs_lookup.specs.Refusals.{is_refusal, refusal_in}
-use Rattle.lfs_tree.specs.Seen.{Seen, tree_seen, around_of, IsBrokenAsking, IsMountError, IsMountedTree, IsSound}
+use Rattle.lfs_tree.specs.Seen.{Seen, tree_seen, around_of, kept_of, IsBrokenAsking, IsMountError, IsMountedTree, IsSound}
 use Rattle.lfs_checks.specs.Replies.{reply_in}
 use Rattle.lfs_checks.specs.FileSeen.{OpenFiles, bytes_of, entry_of, is_unsaved_entry, file_seen, files_seen}
 use Rattle.lfs_checks.specs.declared.files.OpenFile as kept
@@ -29,8 +30,8 @@ use Rattle.lfs_checks.proofs.OpenFiles.{file_is, is_saved, ready_closed, saved_i
 use Rattle.lfs_checks.proofs.Failing.{reads_write_nothing, failed_moment, healthy_moment}
 use Rattle.lfs_checks.proofs.Answered.{is_over, kept_answer, sound_by}
 use Rattle.lfs_checks.proofs.Calls.{has_called, has_erased}
-use Rattle.lfs_model.specs.BlockSets.{in_flight_count}
-use Rattle.lfs_tree.specs.Formatting.{ErasesTwo}
+use Rattle.lfs_model.proofs.BlockSets.{in_flight_count-AreInFlight}
+use Rattle.lfs_tree.specs.Formatting.{ErasesTwo, IsFormatted}
 
 -- ---- a file is closed of which nothing is to be saved
 
@@ -123,13 +124,17 @@ pub mounted_ready : (disk : Disk) (history : List Event) (new : Seen) → IsMoun
 mounted_ready disk history new m = record { sound = m.sound; called = has_called history new.history m.called; one = omega arith; idle = λ e. m.none_in_flight; written = tt }
 
 -- a session over a fresh disk, whose two blocks were erased
-pub fresh_ready : (before : List Event) (new : Seen) (files : OpenFiles) → files ≡ [] → IsSound new → in_flight_count new.map ≡ 0 → ErasesTwo before new.history → IsReady new files
-fresh_ready before new files none sound idle calls =
+none_twice : IsDistinct nat_eq []
+unfolding IsDistinct
+none_twice = tt
+
+pub fresh_ready : (before : List Event) (new : Seen) (files : OpenFiles) → files ≡ [] → IsSound new → IsFormatted (kept_of new) → ErasesTwo before new.history → IsReady new files
+fresh_ready before new files none sound formatted calls =
     subst (IsReady new) (sym none) (record {
       sound = sound;
       called = has_erased before new.history (let k = calls.erases in omega (arith, k));
       one = omega arith;
-      idle = λ e. idle;
+      idle = λ e. in_flight_count-AreInFlight new.map [] none_twice formatted.in_flight;
       written = tt;
     })
 

@@ -7,16 +7,15 @@ use Rattle.lfs_device.specs.declared.error.Error.{Error}
 use Rattle.lfs_model.specs.History.{faults, reads}
 use Rattle.lfs_model.specs.Operations as ops
 use Rattle.lfs_model.specs.Operations.{Operation}
-use Rattle.lfs_model.specs.Outages.{AreWithstood}
+use Rattle.lfs_model.specs.Performed.{ArePerformed}
 use Rattle.lfs_model.specs.PowerLoss.{Withstands}
 use Rattle.lfs_model.specs.Run.{IsTurn, Moment}
 use Rattle.lfs_model.specs.Session.{Session}
 use Rattle.lfs_model.specs.State.{Healthy}
 use Rattle.lfs_model.specs.Thread.{Pair}
-use Rattle.lfs_model.specs.Thrift.{AreThrifty, AsksFew, IsThrifty, ReadsKept, if_accepted}
+use Rattle.lfs_model.specs.Thrift.{AsksFew, IsThrifty, ReadsKept, if_accepted}
 use Rattle.lfs_model.specs.View.{IsAccepted}
-use Rattle.lfs_model.proofs.AfterStops.{withstood_turns}
-use Rattle.lfs_model.proofs.Withstanding.{withstood_further}
+use Rattle.lfs_model.proofs.Performing.{last_accepted, last_further, performed_further}
 use Rattle.lfs_checks.specs.Held.{FailsBy, Held, IsEndedBy, moment_of}
 use Rattle.lfs_fs.specs.OpSeen.{IsNamed, op_seen, reply_seen}
 use Rattle.lfs_fs.specs.Sparing.{IsCall}
@@ -60,45 +59,26 @@ warm_behind old op reply new call = go (model.is_refusal reply) refl
     go true e = tt
     go false e = λ path is s at ps a small. call.asks.hand path reply is refl e s at ps a small
 
--- the newest operation, if it was accepted
-abbrev pub last_accepted : Option Operation → List Operation → List ops.Reply → Option Operation
-last_accepted before (op ∷ operations) (reply ∷ replies) = last_accepted (if_accepted op reply) operations replies
-last_accepted before _ _ = before
-
-pub thrifty_further : (before : Option Operation) (operations : List Operation) (op : Operation) (replies : List ops.Reply) (reply : ops.Reply) (a b c : Moment) → AreThrifty before a operations replies b → (turn : IsTurn b op reply c) →
-    IsThrifty (last_accepted before operations replies) b op turn.calls c → AreThrifty before a (operations ++ op ∷ []) (replies ++ reply ∷ []) c
-thrifty_further before [] op [] reply a b c h turn one = subst (λ m. AreThrifty before m (op ∷ []) (reply ∷ []) c) (sym h) (c, turn, (one, refl))
-thrifty_further before [] op (r ∷ replies) reply a b c h turn one = absurd h
-thrifty_further before (o ∷ operations) op [] reply a b c h turn one = absurd h
-thrifty_further before (o ∷ operations) op (r ∷ replies) reply a b c (next, first, (bounds, rest)) turn one =
-    (next, first, (bounds, thrifty_further (if_accepted o r) operations op replies reply next b c rest turn one))
-
--- the newest one comes last
-last_further : (before : Option Operation) (operations : List Operation) (op : Operation) (replies : List ops.Reply) (reply : ops.Reply) (a b : Moment) → AreThrifty before a operations replies b →
-    last_accepted before (operations ++ op ∷ []) (replies ++ reply ∷ []) ≡ if_accepted op reply
-last_further before [] op [] reply a b h = refl
-last_further before [] op (r ∷ replies) reply a b h = absurd h
-last_further before (o ∷ operations) op [] reply a b h = absurd h
-last_further before (o ∷ operations) op (r ∷ replies) reply a b (next, first, (bounds, rest)) = last_further (if_accepted o r) operations op replies reply next b rest
-
 -- ---- the operations so far
 
--- they withstand stops, are thrifty, and met no fault
+-- they are performed, and met no fault
 pub record HaveRun (from : Moment) (operations : List Operation) (replies : List ops.Reply) (to : Held) : Type 0 where
-  pub withstood : AreWithstood from operations replies (moment_of to)
-  pub thrifty : AreThrifty None from operations replies (moment_of to)
+  pub performed : ArePerformed None from operations replies (moment_of to)
   pub no_fault : faults to.tree.history ≡ faults from.calls
   pub warm : IsWarm (last_accepted None operations replies) to
 
 pub none_run : (a : Held) (replies : List Reply) → replies ≡ [] → HaveRun (moment_of a) [] (map reply_seen replies) a
-none_run a replies none = subst (λ rs. HaveRun (moment_of a) [] (map reply_seen rs) a) (sym none) (record { withstood = refl; thrifty = refl; no_fault = refl; warm = tt })
+none_run a replies none = subst (λ rs. HaveRun (moment_of a) [] (map reply_seen rs) a) (sym none) (record { performed = refl; no_fault = refl; warm = tt })
 
 one_more : (operations : List Operation) (op : Operation) (replies : List ops.Reply) (reply : ops.Reply) (a : Moment) (b c : Held) → HaveRun a operations replies b → IsCall b op (Ok reply) c → HaveRun a (operations ++ op ∷ []) (replies ++ reply ∷ []) c
 one_more operations op replies reply a b c done call = record {
-  withstood = withstood_further operations op replies reply a (moment_of b) (moment_of c) done.withstood call.answers call.withstands;
-  thrifty = thrifty_further None operations op replies reply a (moment_of b) (moment_of c) done.thrifty call.answers (call_thrifty (last_accepted None operations replies) b op reply c done.warm call call.answers);
+  performed = performed_further None operations op replies reply a (moment_of b) (moment_of c) done.performed (record {
+    turn = call.answers;
+    withstands = call.withstands;
+    thrifty = call_thrifty (last_accepted None operations replies) b op reply c done.warm call call.answers;
+  });
   no_fault = call.ends.no_fault refl ∙ done.no_fault;
-  warm = subst (λ o. IsWarm o c) (sym (last_further None operations op replies reply a (moment_of b) done.thrifty)) (warm_behind b op reply c call);
+  warm = subst (λ o. IsWarm o c) (sym (last_further None operations op replies reply a (moment_of b) done.performed)) (warm_behind b op reply c call);
 }
 
 -- one more operation
@@ -135,21 +115,17 @@ pub run_cut : (e : Error) (ops : List Op) (i : ℕ) (d : Op) (replies : List Rep
     FailsBy e (moment_of b) (op_seen (get_or ops i d)) c → Withstands (moment_of b) (op_seen (get_or ops i d)) c → IsEndedBy e a (map op_seen ops) c
 run_cut e ops i d replies a b c lt run few fails withstands = record {
   ended = record {
-    cut = record {
-      done = map op_seen (take i ops);
-      next = op_seen (get_or ops i d);
-      others = map op_seen (drop (i + 1) ops);
-      are = ap (map op_seen) (sym (take-append-drop i ops)) ∙ map-append op_seen (take i ops) (drop i ops) ∙ ap (λ xs. map op_seen (take i ops) ++ map op_seen xs) (drop-cons ops i d lt ∙ ap (λ n. get_or ops i d ∷ drop n ops) (sym (add-one i)));
-      replies = map reply_seen replies;
-      at = moment_of b;
-      turns = withstood_turns (map op_seen (take i ops)) (map reply_seen replies) a (moment_of b) run.withstood;
-      fails = fails.fails;
-    };
-    done = run.withstood;
-    next = withstands;
+    done = map op_seen (take i ops);
+    next = op_seen (get_or ops i d);
+    others = map op_seen (drop (i + 1) ops);
+    are = ap (map op_seen) (sym (take-append-drop i ops)) ∙ map-append op_seen (take i ops) (drop i ops) ∙ ap (λ xs. map op_seen (take i ops) ++ map op_seen xs) (drop-cons ops i d lt ∙ ap (λ n. get_or ops i d ∷ drop n ops) (sym (add-one i)));
+    replies = map reply_seen replies;
+    at = moment_of b;
+    performed = run.performed;
+    fails = fails.fails;
+    withstands = withstands;
+    few = few;
   };
-  thrifty = run.thrifty;
-  few = few;
   no_fault = run.no_fault;
   by = fails;
 }

@@ -4,12 +4,13 @@ ghost use Rattle.lfs_checks.specs.Replies.{reply_in};
 ghost use Rattle.std.specs.Prelude.{◌≡◌, ◌⊎◌, ◌++◌, None, false, true, List, [], map, All, IfOk, IfErr, OnOk};
 ghost use Rattle.lfs_model.specs.Disk.{SameGeometry};
 ghost use Rattle.lfs_model.specs.Thread.{Pair};
-ghost use Rattle.lfs_model.specs.Fresh.{IsFresh, empty_tree};
+ghost use Rattle.lfs_model.specs.Fresh.{empty_tree};
 ghost use Rattle.lfs_model.specs.Headline.{AgreesWithDisk, IsWhatItsDiskShows};
 ghost use Rattle.lfs_model.specs.History.{faults};
 ghost use Rattle.lfs_model.specs.State.{Healthy, mounted};
 ghost use Rattle.lfs_model.specs.Run.{AreTurns, Moment};
-ghost use Rattle.lfs_model.specs.Outages.{AreWithstood, IsMounted};
+ghost use Rattle.lfs_model.specs.Performed.{ArePerformed};
+ghost use Rattle.lfs_model.specs.Outages.{IsMounted, MayLosePower, SurvivesPowerLoss};
 ghost use Rattle.lfs_model.specs.PowerLoss.{Withstands};
 ghost use Rattle.lfs_model.specs.declared.order.NameOrder.{NameOrder};
 ghost use Rattle.lfs_model.specs.declared.order.NameOrder.TheVariants.{LongerFirst, ShorterFirst};
@@ -20,14 +21,13 @@ ghost use Rattle.lfs_thread.specs.Kept.{disk_on, seen};
 ghost use Rattle.lfs_model.specs.Thread.{anchor};
 ghost use Rattle.lfs_model.specs.View.{IsAccepted};
 ghost use Rattle.lfs_lookup.specs.Finds.{list_item_seen};
-ghost use Rattle.lfs_tree.specs.Formatting.{DeviceComesBack, WritesFirstTwo};
+ghost use Rattle.lfs_tree.specs.Formatting.{DeviceComesBack, IsFormatted, WritesFirstTwo};
 ghost use Rattle.lfs_tree.specs.Seen.{kept_of};
 ghost use Rattle.lfs_fs.specs.GstateSeen.{gstate_reply};
 ghost use Rattle.lfs_checks.specs.Held.{IsBegun, IsEndedBy, moment_of};
 ghost use Rattle.lfs_checks.specs.FlagsSeen.{flags_seen};
 ghost use Rattle.lfs_fs.specs.OpSeen.{IsNamed, op_seen, performed, reply_seen};
 ghost use Rattle.lfs_fs.specs.Sparing.{IsCall};
-ghost use Rattle.lfs_model.specs.Thrift.{AreThrifty};
 
 use crate::changing::{begin_new, begin_there, save, truncate_by, write_by};
 use crate::gstate::{Gstate, gstate_of};
@@ -570,13 +570,12 @@ impl<D: BlockDevice> Session<D> {
     /// `Io`, `NoMemory` and, from a remount, `Corrupt`: the operations before it were carried out,
     /// and the session has failed.
     pub fn run(&mut self, alloc: Global, ops: &[Op<'_>]) -> Result<Vec<Reply>, Error>
-        ensures turns { IfOk result (λ replies. AreTurns (moment_of self.old) (map op_seen ops.now) (map reply_seen replies.items) (moment_of self.new)) }
-        ensures withstood { IfOk result (λ replies. AreWithstood (moment_of self.old) (map op_seen ops.now) (map reply_seen replies.items) (moment_of self.new)) }
+        ensures performed { IfOk result (λ replies. ArePerformed None (moment_of self.old) (map op_seen ops.now) (map reply_seen replies.items) (moment_of self.new)) }
         ensures named { IfOk result (λ replies. All IsNamed replies.items) }
-        ensures thrifty { IfOk result (λ replies. AreThrifty None (moment_of self.old) (map op_seen ops.now) (map reply_seen replies.items) (moment_of self.new)) }
         ensures no_fault { OnOk result (faults self.new.tree.history ≡ faults self.old.tree.history) }
         ensures headline { IfOk result (λ replies. (from : Moment) (done : List Operation) (answers : List Answer) → AgreesWithDisk from → AreTurns from done answers (moment_of self.old)
             → IsWhatItsDiskShows from (done ++ map op_seen ops.now) (answers ++ map reply_seen replies.items) (moment_of self.new)) }
+        ensures survives { MayLosePower (moment_of self.old) (moment_of self.new) → SurvivesPowerLoss (moment_of self.old) (map op_seen ops.now) (moment_of self.new) }
         ensures ended { IfErr result (λ e. IsEndedBy e (moment_of self.old) (map op_seen ops.now) (moment_of self.new)) }
     {
         let mut replies = Vec::new(alloc);
@@ -628,7 +627,7 @@ pub fn mount<D: BlockDevice>(alloc: Global, device: D) -> Result<Session<D>, (D,
 ///
 /// Those of [`format_ordered`].
 pub fn format<D: BlockDevice>(alloc: Global, device: D) -> Result<Session<D>, (D, Error)>
-    ensures fresh { IfOk result (λ s. IsFresh s.tree.disk) }
+    ensures formatted { IfOk result (λ s. IsFormatted (kept_of s.tree)) }
     ensures state { IfOk result (λ s. (moment_of s).state ≡ Healthy (mounted empty_tree)) }
     ensures geometry { IfOk result (λ s. SameGeometry (ordered LongerFirst (disk_on D.BlockDevice device)) s.tree.disk) }
     ensures calls { IfOk result (λ s. WritesFirstTwo (seen (ordered LongerFirst (disk_on D.BlockDevice device)) (D.history device) [] []) (kept_of s.tree)) }
@@ -650,7 +649,7 @@ pub fn format_ordered<D: BlockDevice>(
     device: D,
     order: NameOrder,
 ) -> Result<Session<D>, (D, Error)>
-    ensures fresh { IfOk result (λ s. IsFresh s.tree.disk) }
+    ensures formatted { IfOk result (λ s. IsFormatted (kept_of s.tree)) }
     ensures state { IfOk result (λ s. (moment_of s).state ≡ Healthy (mounted empty_tree)) }
     ensures geometry { IfOk result (λ s. SameGeometry (ordered order (disk_on D.BlockDevice device)) s.tree.disk) }
     ensures calls { IfOk result (λ s. WritesFirstTwo (seen (ordered order (disk_on D.BlockDevice device)) (D.history device) [] []) (kept_of s.tree)) }

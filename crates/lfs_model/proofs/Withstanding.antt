@@ -1,9 +1,8 @@
--- Turns that survive stops withstand them, and runs of such turns.
-use Rattle.std.proofs.Common.{ℕ, ◌≡◌, Bool, true, false, cond, List, [], ◌∷◌, ◌++◌, Option, refl, sym, ap, ap₂, subst, ◌∙◌}
+-- Turns that survive stops withstand them.
+use Rattle.std.proofs.Common.{ℕ, ◌≡◌, Bool, true, false, cond, List, Option, refl, sym, ap, ap₂, subst, ◌∙◌}
 use Rattle.lfs_model.specs.Content.{content_at}
 use Rattle.lfs_model.specs.Disk.{Disk, block_count}
 use Rattle.lfs_model.specs.Operations.{Operation, Reply}
-use Rattle.lfs_model.specs.Outages.{AreWithstood}
 use Rattle.lfs_model.specs.PowerLoss.{IsAtWork, IsLeft, SurvivesStops, Withstands}
 use Rattle.lfs_model.specs.Run.{Agrees, IsTurn, Moment, is_refusal}
 use Rattle.lfs_model.specs.Session.{Session, Surroundings}
@@ -68,13 +67,3 @@ turn_withstands from op reply to agrees turn survives = record { stops = survive
         by_op : (b : Bool) → is_remount op ≡ b → IsLeft to.disk s.tree (applied around s op).1.tree
         by_op true e = untouched (turn.remounted e).0
         by_op false e = by_reply (is_refusal reply) refl e
-
--- ---- in turn
-
-pub withstood_further : (operations : List Operation) (op : Operation) (replies : List Reply) (reply : Reply) (a b c : Moment) → AreWithstood a operations replies b → IsTurn b op reply c → Withstands b op c →
-    AreWithstood a (operations ++ op ∷ []) (replies ++ reply ∷ []) c
-withstood_further [] op [] reply a b c h turn one = (c, (subst (λ m. IsTurn m op reply c) (sym h) turn, subst (λ m. Withstands m op c) (sym h) one, refl))
-withstood_further [] op (r ∷ replies) reply a b c h turn one = absurd h
-withstood_further (o ∷ operations) op [] reply a b c h turn one = absurd h
-withstood_further (o ∷ operations) op (r ∷ replies) reply a b c (next, (first, stays, rest)) turn one =
-    (next, (first, stays, withstood_further operations op replies reply next b c rest turn one))

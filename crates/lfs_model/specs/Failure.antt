@@ -1,14 +1,14 @@
--- Where an error ends a run, in place of a reply: the device failed, memory was wanting, or a remount found no accepted disk.
-use Rattle.std.specs.Prelude.{◌≡◌, true, false, List, [], ◌∷◌, ◌++◌}
+-- Where an error ends an operation, in place of a reply: the device failed, memory was wanting, or a remount found no accepted disk.
+use Rattle.std.specs.Prelude.{◌≡◌, true, false, List, [], ◌++◌}
 use Rattle.lfs_model.specs.Disk.{SameGeometry}
 use Rattle.lfs_model.specs.Thread.{Pair}
 use Rattle.lfs_model.specs.View.{IsAccepted}
 use Rattle.lfs_model.specs.Profile.{IsWritable}
 use Rattle.lfs_model.specs.History.{Event}
-use Rattle.lfs_model.specs.Operations.{Operation, Reply}
+use Rattle.lfs_model.specs.Operations.{Operation}
 use Rattle.lfs_model.specs.Session.{Session}
 use Rattle.lfs_model.specs.State.{HasFailed, Healthy, is_remount}
-use Rattle.lfs_model.specs.Run.{Moment, only_asks, renames_to_itself, IsUntouched, AreTurns}
+use Rattle.lfs_model.specs.Run.{Moment, only_asks, renames_to_itself, IsUntouched}
 
 -- The session fails in an operation. What asks only, a rename to itself and a remount write nothing, nor does anything on an image
 -- outside the writing profile; a session that had failed makes no call but for a remount.
@@ -22,14 +22,3 @@ pub record Fails (from : Moment) (op : Operation) (to : Moment) : Type 0 where
   pub unwritten : ((ps : List Pair) → IsAccepted from.disk ps → IsWritable from.disk ps → ⊥) → IsUntouched from.disk calls to.disk
   pub remounted : is_remount op ≡ true → IsUntouched from.disk calls to.disk
   pub silent : from.state ≡ HasFailed → is_remount op ≡ false → (to.disk ≡ from.disk) × (calls ≡ [])
-
--- Some of the operations are carried out or refused, and the session fails in the next one.
-pub record IsCutShort (from : Moment) (operations : List Operation) (to : Moment) : Type 0 where
-  pub done : List Operation
-  pub next : Operation
-  pub others : List Operation
-  pub are : operations ≡ done ++ next ∷ others
-  pub replies : List Reply
-  pub at : Moment
-  pub turns : AreTurns from done replies at
-  pub fails : Fails at next to

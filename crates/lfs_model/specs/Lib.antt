@@ -48,6 +48,7 @@ pub mod Stops
 pub mod PowerLoss
 pub mod FailedCalls
 pub mod Standing
+pub mod Performed
 pub mod Outages
 pub mod Listing
 pub mod Source

@@ -10,19 +10,19 @@ ghost use Rattle.lfs_model.specs.Obeyed.{AreObeyed};
 ghost use Rattle.lfs_model.specs.Operations as ops;
 ghost use Rattle.lfs_model.specs.Operations.{Operation, Reply};
 ghost use Rattle.lfs_model.specs.Run.{Agrees, IsTurn, Moment};
-ghost use Rattle.lfs_model.specs.Failure.{Fails, IsCutShort};
-ghost use Rattle.lfs_model.specs.PowerLoss.{IsLeft, Survives, SurvivesStops, Withstands, IsRestored, IsSafe, with_blocks};
+ghost use Rattle.lfs_model.specs.Failure.{Fails};
+ghost use Rattle.lfs_model.specs.Performed.{IsCutShort, IsRun};
+ghost use Rattle.lfs_model.specs.PowerLoss.{IsLeft, Survives, SurvivesStops, Withstands, with_blocks};
 ghost use Rattle.lfs_model.specs.Standing.{IsOneDevice};
 ghost use Rattle.lfs_model.specs.Stops.{ErasesCleanly};
 ghost use Rattle.lfs_model.specs.Tree.{Tree};
-ghost use Rattle.lfs_model.specs.Outages.{IsCutShortWithstood, IsStoppedSince, LosesPower, LosesPowerInTurn};
+ghost use Rattle.lfs_model.specs.Outages.{IsRestored, IsSafe, IsStoppedSince, IsSurvived, LosesPower, LosesPowerInTurn, MayLosePower, SurvivesPowerLoss};
 ghost use Rattle.lfs_model.specs.examples.Images.{small_image, appended_image};
 ghost use Rattle.lfs_model.specs.examples.Runs.{fresh_moment, failed_moment, opened_moment, no_disk, some_reads};
 
 /// A run ends where its session fails; what came before it was carried out.
 pub fn error_ends_a_run()
     ensures second { IsCutShort fresh_moment (ops.Stat (codes "/") ∷ ops.Mkdir (codes "/d") ∷ ops.UsedCount ∷ []) failed_moment }
-    ensures withstood { IsCutShortWithstood fresh_moment (ops.Stat (codes "/") ∷ ops.Mkdir (codes "/d") ∷ ops.UsedCount ∷ []) failed_moment }
     ensures goes_on { IsCutShort fresh_moment (ops.Stat (codes "/") ∷ []) fresh_moment → ⊥ }
 {}
 
@@ -39,10 +39,22 @@ pub fn failure_writes_only_what_may_be_written()
 pub fn stops_are_withstood()
     ensures no_call { Withstands fresh_moment (ops.Stat (codes "/")) fresh_moment }
     ensures lost { Withstands fresh_moment (ops.Stat (codes "/")) (record fresh_moment { disk = no_disk }) → ⊥ }
-    ensures restored { IsRestored empty_tree (ops.Done ∷ ops.Done ∷ []) small_image }
-    ensures other_tree { IsRestored (λ path. None) (ops.Done ∷ ops.Done ∷ []) small_image → ⊥ }
-    ensures safe { IsSafe small_image }
-    ensures not_safe { IsSafe no_disk → ⊥ }
+    ensures restored { IsRestored empty_tree ops.Done small_image }
+    ensures other_tree { IsRestored (λ path. None) ops.Done small_image → ⊥ }
+    ensures safe { IsSafe empty_tree small_image }
+    ensures not_safe { (tree : Tree) → IsSafe tree no_disk → ⊥ }
+{}
+
+/// Wherever power is lost in a run, it is survived, and so is each loss behind it.
+pub fn power_loss_is_survived()
+    ensures run { (from : Moment) (operations : List Operation) (to : Moment) → IsRun from operations to → MayLosePower from to → SurvivesPowerLoss from operations to }
+
+    // It is so of a session on a fresh disk. No disk without blocks is left, and no other tree. Where no operation was begun, the tree is
+    // the one that was there.
+    ensures may { MayLosePower fresh_moment fresh_moment }
+    ensures none_begun { (left : Disk) (s : IsSurvived fresh_moment [] left) → s.tree ≡ empty_tree }
+    ensures not_lost { IsSurvived fresh_moment (ops.Stat (codes "/") ∷ []) no_disk → ⊥ }
+    ensures not_changed { (s : IsSurvived fresh_moment (ops.Stat (codes "/") ∷ []) small_image) → s.tree ≡ (λ path. None) → ⊥ }
 {}
 
 /// Power may be lost again and again, but what is lost then isn't the tree.

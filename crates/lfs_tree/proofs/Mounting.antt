@@ -6,7 +6,7 @@ use Rattle.lfs_device.specs.declared.device.BlockDevice.{Ghosts}
 use Rattle.lfs_device.specs.declared.error.Error.{Error}
 use Rattle.lfs_device.specs.Shown.{ordered}
 use Rattle.lfs_device.specs.declared.error.Error.TheVariants.{Io}
-use Rattle.lfs_model.specs.BlockSets.{AreInFlight, AreUsed, BlockSets, in_flight_count}
+use Rattle.lfs_model.specs.BlockSets.{AreInFlight, AreUsed, BlockSets}
 use Rattle.lfs_model.specs.Disk.{Disk, block_count}
 use Rattle.lfs_model.specs.History.{Event, OnlyReads, faults, reads}
 use Rattle.lfs_model.specs.Thread.{Pair, superblocks_before}
@@ -15,7 +15,6 @@ use Rattle.lfs_model.specs.Profile.{IsWritable}
 use Rattle.lfs_model.specs.Shown.{used_blocks}
 use Rattle.lfs_model.proofs.BlockSets.{in_flight_count-AreInFlight}
 use Rattle.lfs_model.proofs.Histories.{OnlyReads-trans, reads-since}
-use Rattle.lfs_model.specs.Fresh.{IsFresh}
 use Rattle.lfs_mount.specs.Accepted.{IsMounted}
 use Rattle.lfs_mount.specs.Either.{GivesDeviceBack}
 use Rattle.lfs_model.specs.declared.order.NameOrder.{NameOrder}
@@ -91,7 +90,7 @@ given_back_either {X = X} g old back order a b r e m is read same later = record
 
 -- a fresh image as a tree
 module _ (t : State) (works : t.failed ≡ false) (f : IsFormatted t.kept) (s : ShowsEmptyRoot t.kept) where
-  fresh_sound : IsSound (seen_kept t.kept true false)
+  pub fresh_sound : IsSound (seen_kept t.kept true false)
   fresh_sound = record {
     accepted = s.accepted;
     fits = λ e. s.writable;
@@ -102,6 +101,3 @@ module _ (t : State) (works : t.failed ≡ false) (f : IsFormatted t.kept) (s : 
 
   pub fresh_rooted : IsRooted t 0 true
   fresh_rooted = record { works = works; sound = fresh_sound; root_is = sym (ap superblocks_before f.pairs) }
-
-  pub fresh_tree : IsSound (seen_thread t true) × ((in_flight_count t.kept.map ≡ 0) × IsFresh t.kept.disk)
-  fresh_tree = (record { accepted = fresh_sound.accepted; fits = fresh_sound.fits; is_kept = fresh_sound.is_kept; used = fresh_sound.used; size = fresh_sound.size }, (in_flight_count-AreInFlight t.kept.map [] none_twice f.in_flight, f.fresh))

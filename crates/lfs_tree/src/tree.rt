@@ -6,13 +6,11 @@ ghost use Rattle.std.specs.Option.{option_map};
 ghost use Rattle.lfs_model.specs.History.{reads};
 ghost use Rattle.lfs_model.specs.Discipline.{pairs_of_path, parents};
 ghost use Rattle.lfs_model.specs.TreeEdits.{attributes_of, bytes_at, same_path};
-ghost use Rattle.lfs_model.specs.BlockSets.{in_flight_count};
 ghost use Rattle.lfs_model.specs.Content.{attribute_of};
 ghost use Rattle.lfs_model.specs.Slots.{no_gstate};
 ghost use Rattle.lfs_model.specs.Thread.{Pair, anchor, gstate_of};
 ghost use Rattle.lfs_model.specs.View.{IsAccepted};
 ghost use Rattle.lfs_model.specs.Disk.{SameGeometry, block_count};
-ghost use Rattle.lfs_model.specs.Fresh.{IsFresh};
 ghost use Rattle.lfs_model.specs.Effects.{items_in};
 ghost use Rattle.lfs_mount.specs.Device.{IsMountError};
 ghost use Rattle.lfs_tag.specs.FieldsSeen.{move_seen};
@@ -26,7 +24,7 @@ ghost use Rattle.lfs_tree.specs.Reads.{HasOnHand, ReadsOnce, ReadsToCreate};
 ghost use Rattle.lfs_tree.specs.Recovering.{HasSettled};
 ghost use Rattle.lfs_lookup.specs.AttributeAt.{IsAttributesSize};
 ghost use Rattle.lfs_lookup.specs.Finds.{Finds, has_names, list_item_seen};
-ghost use Rattle.lfs_tree.specs.Formatting.{ComesBack, WritesFirstTwo};
+ghost use Rattle.lfs_tree.specs.Formatting.{ComesBack, IsFormatted, WritesFirstTwo};
 ghost use Rattle.lfs_tree.specs.Seen.{IsAsking, IsBrokenAsking, IsMountError as IsMountErrorOf, IsMountedTree, IsSound, around_of, kept_of, tree_seen};
 
 use crate::answers::note_error;
@@ -99,7 +97,7 @@ impl<D: BlockDevice> Tree<D> {
     pub fn format(alloc: Global, device: D) -> Result<Tree<D>, (D, Error)>
         ensures works { IfOk result (λ t. (t.failed ≡ false) × (t.writable ≡ true)) }
         ensures sound { IfOk result IsSound }
-        ensures fresh { IfOk result (λ t. (in_flight_count t.map ≡ 0) × IsFresh t.disk) }
+        ensures formatted { IfOk result (λ t. IsFormatted (kept_of t)) }
         ensures geometry { IfOk result (λ t. SameGeometry (disk_on D.BlockDevice device) t.disk) }
         ensures calls { IfOk result (λ t. WritesFirstTwo (seen_on D.BlockDevice device [] []) (kept_of t)) }
         ensures back { IfErr result (λ e. ComesBack D.BlockDevice (two_of anchor) device e.0 e.1) }

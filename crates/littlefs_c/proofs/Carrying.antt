@@ -180,7 +180,7 @@ no_remount these h = recursion_from_All (λ op. is_remount op ≡ false) (map op
 pub run_ended : {X : Type 0} (block_size page : ℕ) (image : List ℕ) (r : Result X Error) (e : Error) (from to : Moment) (operations : List Operation) → IsErrAnd r (λ f. f ≡ e) → IsEndedBy e from operations to → faults to.calls ≡ 0
     → NoRemount operations → IfErr r (Refuses block_size page image operations)
 run_ended block_size page image r e from to operations is h none others =
-    let c = h.ended.cut in
+    let c = h.ended in
     not_run block_size page image operations r e is (by_memory block_size page image e (only_memory e c.at to c.next h.by (next_other operations c.done c.next c.others c.are others) none))
 
 -- ---- a read

@@ -12,12 +12,12 @@ use Rattle.lfs_fs.proofs.session.format_ordered.Goals as goal
 
 pub invariant_of-result : goal.invariant_of-result
 invariant_of-result g c = record {
-  ready = λ works. fresh_ready _ c.in-Ok.tree c.none.result c.none.ensures c.in-Ok.ensures.sound c.in-Ok.ensures.fresh.0 c.in-Ok.ensures.calls.calls;
+  ready = λ works. fresh_ready _ c.in-Ok.tree c.none.result c.none.ensures c.in-Ok.ensures.sound c.in-Ok.ensures.formatted c.in-Ok.ensures.calls.calls;
   told = λ works. c.device_tells.ensures;
 }
 
 pub returns-in-Ok-clause-state : goal.returns-in-Ok-clause-state
-returns-in-Ok-clause-state g c = fresh_state (held_of c.in-Ok.tree c.none.result) c.in-Ok.ensures.works.0 (ap (files_seen c.in-Ok.tree) c.none.ensures) c.in-Ok.ensures.sound.accepted c.in-Ok.ensures.fresh.1
+returns-in-Ok-clause-state g c = fresh_state (held_of c.in-Ok.tree c.none.result) c.in-Ok.ensures.works.0 (ap (files_seen c.in-Ok.tree) c.none.ensures) c.in-Ok.ensures.sound.accepted c.in-Ok.ensures.formatted.fresh
 
 pub returns-in-Err-clause-back : goal.returns-in-Err-clause-back
 returns-in-Err-clause-back g c =

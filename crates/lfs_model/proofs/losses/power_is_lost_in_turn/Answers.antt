@@ -1,35 +1,30 @@
-use Rattle.std.proofs.Common.{inl, false, [], ◌∷◌, refl, sym, ◌∙◌, subst, append-nil}
+use Rattle.std.proofs.Common.{inl, false, [], ◌∷◌, None, refl, sym, ◌∙◌, subst, append-nil}
 use Rattle.std.specs.Prelude.{Any, codes}
 use Rattle.lfs_model.specs.History.{Read, event}
 use Rattle.lfs_model.specs.Stops.{Stops}
 use Rattle.lfs_model.proofs.Sites.{any_from, among_from}
 use Rattle.lfs_model.specs.Fresh.{empty_tree}
 use Rattle.lfs_model.specs.Operations as ops
-use Rattle.lfs_model.specs.State.{Healthy, mounted}
 use Rattle.lfs_model.specs.Outages.{LosesPower}
 use Rattle.lfs_model.specs.examples.Images.{small_image}
 use Rattle.lfs_model.specs.examples.Runs.{fresh_moment, no_disk}
 use Rattle.lfs_model.proofs.Fresh.{shows}
-use Rattle.lfs_model.proofs.AfterStops.{outage_leaves}
-use Rattle.lfs_model.proofs.FreshSession.{pairs, are_accepted, in_profile, around, surrounds, none_accepted, withstood}
+use Rattle.lfs_model.proofs.AskedTurn.{asked}
+use Rattle.lfs_model.proofs.Survived.{again_survived}
+use Rattle.lfs_model.proofs.FreshSession.{pairs, are_accepted, none_accepted}
+use Rattle.lfs_model.proofs.SafeImage.{is_safe}
 use Rattle.lfs_model.proofs.losses.power_is_lost_in_turn.Goals as goal
 
 -- power is lost before the first call of a stat
 once : LosesPower small_image small_image
 once = record {
+  other = small_image;
+  same = refl;
   begin = fresh_moment;
   mounts = record { on = refl; tree = empty_tree; shows = (pairs, (are_accepted, sym (shows small_image))); healthy = refl };
-  operations = [];
-  replies = [];
-  from = fresh_moment;
-  turns = refl;
-  session = mounted empty_tree;
-  healthy = refl;
-  around = around;
-  surrounds = (pairs, (are_accepted, surrounds));
-  next = ops.Stat (codes "/");
+  operations = ops.Stat (codes "/") ∷ [];
   to = fresh_moment;
-  withstands = withstood (ops.Stat (codes "/")) (Healthy (mounted empty_tree));
+  run = inl (ops.StatIs None ∷ [], (fresh_moment, (asked, refl)));
   cleanly = record { events = []; extends = refl; each = tt };
   stop = inl refl;
 }
@@ -41,7 +36,9 @@ pub returns-clause-again : goal.returns-clause-again
 returns-clause-again c = (once, (once, tt))
 
 pub returns-clause-not_all : goal.returns-clause-not_all
-returns-clause-not_all c = λ o. let left = outage_leaves small_image no_disk o in_profile in none_accepted left.pairs left.accepted
+returns-clause-not_all c = λ o.
+    let s = again_survived small_image empty_tree (no_disk ∷ []) is_safe (o, tt) in
+    none_accepted s.0.safe.pairs s.0.safe.accepted
 
 pub returns-clause-in_a_read : goal.returns-clause-in_a_read
 returns-clause-in_a_read c = λ blocks. record {

@@ -7,8 +7,8 @@ use Rattle.lfs_model.specs.State.{Healthy, mounted}
 use Rattle.lfs_model.specs.examples.Images.{small_image}
 use Rattle.lfs_model.proofs.Fresh.{shows, writable}
 use Rattle.lfs_model.proofs.Example.{fresh}
-use Rattle.lfs_model.proofs.AfterStops.{left_is_safe}
-use Rattle.lfs_model.proofs.FreshSession.{pairs, are_accepted, tree_is_empty, around, is_at_work, still_there, none_accepted, withstood}
+use Rattle.lfs_model.proofs.SafeImage.{is_safe}
+use Rattle.lfs_model.proofs.FreshSession.{pairs, are_accepted, tree_is_empty, around, is_at_work, none_accepted, withstood}
 use Rattle.lfs_model.proofs.losses.stops_are_withstood.Goals as goal
 
 pub returns-clause-no_call : goal.returns-clause-no_call
@@ -33,7 +33,7 @@ pub returns-clause-other_tree : goal.returns-clause-other_tree
 returns-clause-other_tree c = λ h. absurd (let e = ap (λ (t : Tree). t []) (sym (tree_is_empty h.pairs h.accepted) ∙ h.kept) in cc)
 
 pub returns-clause-safe : goal.returns-clause-safe
-returns-clause-safe c = left_is_safe small_image empty_tree empty_tree (still_there empty_tree empty_tree refl)
+returns-clause-safe c = is_safe
 
 pub returns-clause-not_safe : goal.returns-clause-not_safe
-returns-clause-not_safe c = λ h. none_accepted h.pairs h.accepted
+returns-clause-not_safe c = λ tree h. none_accepted h.pairs h.accepted

@@ -1,6 +1,7 @@
 use Rattle.std.proofs.Common.{List, [], ◌∷◌, map, subst}
 use Rattle.std.specs.Prelude.{All}
 use Rattle.lfs_model.specs.Run.{AreTurns}
+use Rattle.lfs_model.proofs.Performing.{performed_turns}
 use Rattle.lfs_fs.specs.Held.{moment_of}
 use Rattle.lfs_fs.specs.OpSeen.{IsNamed, op_seen, reply_seen}
 use Rattle.lfs_fs.specs.declared.run.Reply.{Reply}
@@ -11,7 +12,7 @@ pub returns-in-Some : goal.returns-in-Some
 returns-in-Some g c =
     let front = c.pop.new.self.items in
     let turns = subst (λ (replies : List Reply). AreTurns (moment_of c.args.session.now) (op_seen c.args.op ∷ []) (map reply_seen replies) (moment_of c.run.new.self)) c.in-Some.ensures.items
-    c.in-Ok.ensures.turns in
+    (performed_turns _ _ _ _ _ c.in-Ok.ensures.performed) in
     let named = subst (λ (replies : List Reply). All IsNamed replies) c.in-Some.ensures.items c.in-Ok.ensures.named in (
       last_is_only (moment_of c.args.session.now) (op_seen c.args.op) front c.in-Some.reply (moment_of c.run.new.self) turns,
       last_is_named front c.in-Some.reply named,

@@ -12,7 +12,7 @@ returns-in-Ok c = (
   c.in_ok-order.order,
   (
     c.in_ok-order.ensures,
-    formatted c.args.block_size c.args.page c.in_ok-order.order c.args.image.now c.in_ok-device.device c.device-in-Ok.result.now c.in-Ok.session.tree.disk c.copy_from_slice.new.self c.in_ok-device.ensures.ok c.in-Ok.ensures.fresh
+    formatted c.args.block_size c.args.page c.in_ok-order.order c.args.image.now c.in_ok-device.device c.device-in-Ok.result.now c.in-Ok.session.tree.disk c.copy_from_slice.new.self c.in_ok-device.ensures.ok c.in-Ok.ensures.formatted.fresh
         c.in-Ok.ensures.geometry c.in-Ok.ensures.calls.writes.others c.device-in-Ok.ensures.disk (c.copy_from_slice.ensures.after ∙ c.bytes.ensures.bytes),
   ),
 )

@@ -1,6 +1,7 @@
 use Rattle.std.proofs.Common.{All, ap, map, subst, sym, ◌≡◌, ◌∙◌, false}
 use Rattle.lfs_model.specs.History.{faults}
 use Rattle.lfs_model.specs.Run.{is_refusal}
+use Rattle.lfs_model.proofs.Performing.{performed_turns}
 use Rattle.lfs_checks.specs.Held.{moment_of}
 use Rattle.lfs_fs.specs.OpSeen.{IsNamed, op_seen, reply_seen}
 use Rattle.littlefs_c.specs.FirstRefused.{IsFirstRefused}
@@ -18,9 +19,9 @@ first_refusal-requires c = subst (All IsNamed) (sym c.deref.ensures.value) c.in_
 pub returns-in-Some-clause-err : goal.returns-in-Some-clause-err
 returns-in-Some-clause-err c =
     first_refused c.args.block_size c.args.page c.args.image.now c.in-Some.error (moment_of c.in_ok-session.session) (moment_of c.run-answer.new.self) (map op_seen c.args.ops.now) (map reply_seen c.in_ok-answer.field-0.items)
-    c.in_ok-session.ensures.ok c.in_ok-answer.ensures.turns (subst (λ rs. IsFirstRefused (map reply_seen rs) c.in-Some.error) c.deref.ensures.value c.in-Some.ensures.some)
+    c.in_ok-session.ensures.ok (performed_turns _ _ _ _ _ c.in_ok-answer.ensures.performed) (subst (λ rs. IsFirstRefused (map reply_seen rs) c.in-Some.error) c.deref.ensures.value c.in-Some.ensures.some)
 
 pub returns-in-None-clause-ok : goal.returns-in-None-clause-ok
 returns-in-None-clause-ok c =
     runs_these c.args.block_size c.args.page c.args.image.now (moment_of c.in_ok-session.session) (moment_of c.run-answer.new.self) (map op_seen c.args.ops.now) c.in_ok-answer.field-0.items
-    c.in_ok-session.ensures.ok c.in_ok-answer.ensures.turns (subst (All (λ r. is_refusal (reply_seen r) ≡ false)) c.deref.ensures.value c.in-None.ensures.none)
+    c.in_ok-session.ensures.ok (performed_turns _ _ _ _ _ c.in_ok-answer.ensures.performed) (subst (All (λ r. is_refusal (reply_seen r) ≡ false)) c.deref.ensures.value c.in-None.ensures.none)

@@ -1,7 +1,8 @@
-use Rattle.std.proofs.Common.{rules, arith, ap, subst, sym}
+use Rattle.std.proofs.Common.{rules, arith, ap, inl, inr, subst, sym}
 use Rattle.std.proofs.lemmas.List.Elements.{All-from_recursion}
 use Rattle.std.specs.List.{AllByRecursion}
-use Rattle.lfs_model.proofs.AfterStops.{withstood_turns}
+use Rattle.lfs_model.proofs.Performing.{performed_turns}
+use Rattle.lfs_model.proofs.Survived.{run_survives}
 use Rattle.lfs_model.proofs.Kept.{session_shows}
 use Rattle.lfs_model.proofs.Turns.{turns_joined}
 use Rattle.lfs_checks.specs.Held.{Held, moment_of}
@@ -22,23 +23,27 @@ loop-op-preserved g c = (
 pub returns-in-Err-clause-ended : goal.returns-in-Err-clause-ended
 returns-in-Err-clause-ended g c = run_cut _ c.args.ops.now c.loop-op.op-index _ c.loop-op.replies.items _ _ _ c.loop-op-test.true c.loop-op.invariant.0 c.in-Err.ensures.call.asks.few c.in-Err.ensures.call.answers c.in-Err.ensures.call.withstands
 
+pub returns-in-Err-clause-survives : goal.returns-in-Err-clause-survives
+returns-in-Err-clause-survives g c may = run_survives _ _ _ (inr (returns-in-Err-clause-ended g c).ended) may
+
 pub returns-then-is_err-clause-ended : goal.returns-then-is_err-clause-ended
 returns-then-is_err-clause-ended g c =
     run_cut _ c.args.ops.now c.loop-op.op-index (first_op c.args.ops.now c.loop-op.op-index c.loop-op-test.true) c.loop-op.replies.items _ _ _ c.loop-op-test.true c.loop-op.invariant.0
     (silent_few (moment_of c.loop-op.self) _ (moment_of c.fail.new.self) (ap (λ (h : Held). h.tree.history) c.fail.ensures.failed)) (memory_fails_now c.loop-op.self c.fail.new.self _ c.fail.ensures.failed) (c.fail.ensures.withstands _)
 
-pub returns-clause-withstood : goal.returns-clause-withstood
-returns-clause-withstood g c = (run_ended c.args.ops.now c.loop-op.op-index c.loop-op.replies.items _ _ (omega arith) c.loop-op.invariant.0).withstood
+pub returns-then-is_err-clause-survives : goal.returns-then-is_err-clause-survives
+returns-then-is_err-clause-survives g c may = run_survives _ _ _ (inr (returns-then-is_err-clause-ended g c).ended) may
 
-pub returns-clause-thrifty : goal.returns-clause-thrifty
-returns-clause-thrifty g c = (run_ended c.args.ops.now c.loop-op.op-index c.loop-op.replies.items _ _ (omega arith) c.loop-op.invariant.0).thrifty
+pub returns-clause-survives : goal.returns-clause-survives
+returns-clause-survives g c may =
+    run_survives _ _ _ (inl (_, (run_ended c.args.ops.now c.loop-op.op-index c.loop-op.replies.items (moment_of c.args.self.now) c.loop-op.self (omega arith) c.loop-op.invariant.0).performed)) may
 
-pub returns-clause-turns : goal.returns-clause-turns
-returns-clause-turns g c = withstood_turns _ _ _ _ (run_ended c.args.ops.now c.loop-op.op-index c.loop-op.replies.items (moment_of c.args.self.now) c.loop-op.self (omega arith) c.loop-op.invariant.0).withstood
+pub returns-clause-performed : goal.returns-clause-performed
+returns-clause-performed g c = (run_ended c.args.ops.now c.loop-op.op-index c.loop-op.replies.items _ _ (omega arith) c.loop-op.invariant.0).performed
 
 pub returns-clause-headline : goal.returns-clause-headline
 returns-clause-headline g c from done answers known turns =
-    let run = withstood_turns _ _ _ _ (run_ended c.args.ops.now c.loop-op.op-index c.loop-op.replies.items (moment_of c.args.self.now) c.loop-op.self (omega arith) c.loop-op.invariant.0).withstood in
+    let run = performed_turns _ _ _ _ _ (run_ended c.args.ops.now c.loop-op.op-index c.loop-op.replies.items (moment_of c.args.self.now) c.loop-op.self (omega arith) c.loop-op.invariant.0).performed in
     session_shows from (moment_of c.loop-op.self) _ _ known (turns_joined _ _ _ _ from (moment_of c.args.self.now) (moment_of c.loop-op.self) turns run)
 
 pub returns-clause-named : goal.returns-clause-named

@@ -1,5 +1,5 @@
 -- One more call of a device with a fault.
-use Rattle.std.proofs.Common.{◌≡◌, ◌+◌, ℕ, Bool, true, false, not, ◌&&◌, ◌||◌, ◌==◌, nat_le, nat_lt, length, cond, Option, Some, None, List, ◌∷◌, refl, sym, ◌∙◌, ap}
+use Rattle.std.proofs.Common.{◌≡◌, ◌+◌, ◌≤◌, ℕ, arith, Bool, true, false, not, ◌&&◌, ◌||◌, ◌==◌, nat_le, nat_lt, length, cond, Option, Some, None, List, ◌∷◌, refl, sym, ◌∙◌, ap}
 use Rattle.std.specs.Prelude.{is_some, is_err, OnOk, Result, Ok, Err}
 use Rattle.lfs_device.specs.declared.device.BlockDevice.{Ghosts}
 use Rattle.lfs_device.specs.declared.error.Error.{Error}
@@ -7,8 +7,8 @@ use Rattle.lfs_device.specs.declared.fault.Extent.{Extent}
 use Rattle.lfs_device.specs.declared.fault.Extent.TheVariants.{Nothing, FirstBytes, Whole}
 use Rattle.lfs_device.specs.declared.fault.Fault.{Fault}
 use Rattle.lfs_model.specs.Blocks.{Blocks}
-use Rattle.lfs_model.specs.History.{Call, Read, Program, Erase, Event, event, unprogrammed, unprogrammed_after}
-use Rattle.lfs_device.specs.Fault.{counts, is_turn, has_stopped, is_due, due, due_failed}
+use Rattle.lfs_model.specs.History.{Call, Read, Program, Erase, Event, event, faults, unprogrammed, unprogrammed_after}
+use Rattle.lfs_device.specs.Fault.{counts, is_turn, has_stopped, is_due, due, due_failed, undue_faults}
 use Rattle.lfs_device.specs.Carried.{CarriedOut}
 
 -- the two ways to say that a call is to fail
@@ -38,6 +38,24 @@ due_failed-call {call = call} {failed = failed} {older = older} g fault old new 
     here true true of = refl
     here true false of = of refl
     here false failed of = refl
+
+-- how many faults a call adds that wasn't to fail
+adds_undue : {D : Type 0} (g : Ghosts D) (o : Option Extent) (call : Call) (failed : Bool) (old new : D) → CarriedOut g o call failed old new
+    → faults (g.history old) ≤ faults (g.history new) → faults (g.history old) + cond (failed && not (is_some o)) 1 0 ≤ faults (g.history new)
+adds_undue g None call true old new carried grow = let more : faults (g.history new) ≡ faults (g.history old) + 1 = ap faults carried in omega (arith, more)
+adds_undue g None call false old new carried grow = omega (arith, grow)
+adds_undue g (Some extent) call true old new carried grow = omega (arith, grow)
+adds_undue g (Some extent) call false old new carried grow = omega (arith, grow)
+
+pub undue_faults-call : {D : Type 0} {call : Call} {failed : Bool} {before after : Blocks} {older later : List Event} (g : Ghosts D) (fault : Fault) (old new : D)
+    → CarriedOut g (due fault call older) call failed old new → later ≡ event call before after failed ∷ older → faults (g.history old) ≤ faults (g.history new)
+    → undue_faults fault.which fault.nth fault.stops older ≤ faults (g.history old) → undue_faults fault.which fault.nth fault.stops later ≤ faults (g.history new)
+undue_faults-call {call = call} {failed = failed} {older = older} {later = later} g fault old new carried is grow so_far =
+    let u = undue_faults fault.which fault.nth fault.stops in
+    let adds : u later ≡ u older + cond (failed && not (is_some (due fault call older))) 1 0 =
+    ap u is ∙ ap (λ d. u older + cond (failed && not d) 1 0) (is_due-is_some fault call older) in
+    let more = adds_undue g (due fault call older) call failed old new carried grow in
+    omega (arith, adds, more, so_far)
 
 -- what is unprogrammed above is so below
 pub below-call : {call : Call} {failed : Bool} {before after : Blocks} {older later : List Event} (old new : List Event) → later ≡ event call before after failed ∷ older

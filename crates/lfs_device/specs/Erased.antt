@@ -1,8 +1,13 @@
 -- What an erase of a device in memory leaves.
-use Rattle.std.specs.Prelude.{ℕ, List, length, replicate}
+use Rattle.std.specs.Prelude.{ℕ, ◌<◌, List, length, replicate}
 use Rattle.lfs_device.specs.declared.ram.Erased.{Erased}
 use Rattle.lfs_device.specs.declared.ram.Erased.TheVariants.{Fill, Keep}
 use Rattle.lfs_model.specs.Blocks.{Blocks, overwritten, programmed}
+
+-- the byte that fills a block is one
+abbrev pub FillsByByte : Erased → Type 0
+FillsByByte (Fill byte) = byte < 256
+FillsByByte Keep = Unit {0}
 
 -- of a block
 abbrev pub erased_block : Erased → List ℕ → List ℕ

@@ -3,7 +3,7 @@ use Rattle.std.specs.Prelude.{ℕ, ◌+◌, Bool, true, false, not, ◌&&◌, �
 use Rattle.lfs_device.specs.declared.fault.Which.{Which}
 use Rattle.lfs_device.specs.declared.fault.Which.TheVariants.{Any, Read, Program, Erase}
 use Rattle.lfs_device.specs.declared.fault.Extent.{Extent}
-use Rattle.lfs_device.specs.declared.fault.Extent.TheVariants.{Nothing}
+use Rattle.lfs_device.specs.declared.fault.Extent.TheVariants.{Nothing, FirstBytes, Whole}
 use Rattle.lfs_device.specs.declared.fault.Fault.{Fault}
 use Rattle.lfs_model.specs.History.Call.{Read as Read', Program as Program', Erase as Erase'}
 use Rattle.lfs_model.specs.History.{Call, Event, reads, programs, erases}
@@ -41,6 +41,12 @@ due_if fault counted older =
 
 abbrev pub due : Fault → Call → List Event → Option Extent
 due fault call older = due_if fault (counts fault.which call) older
+
+-- of a program the first bytes alone are stored
+abbrev pub is_torn : Extent → Bool
+is_torn Nothing = false
+is_torn (FirstBytes k) = true
+is_torn Whole = false
 
 -- each call failed that was to fail
 abbrev pub due_failed : Which → ℕ → Bool → List Event → Bool

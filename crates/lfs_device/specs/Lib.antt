@@ -7,5 +7,6 @@ pub mod Error
 pub mod Fault
 pub mod FaultDevice
 pub mod Partial
+pub mod Premises
 pub mod RamDevice
 pub mod Shown

@@ -1,9 +1,11 @@
-ghost use Rattle.std.specs.Prelude.{◌≡◌, ◌≤◌, ◌<◌, ◌+◌, ◌-◌, ◌%◌, ◌^◌, ℕ, true, false, min, [], length, slice_range, is_err, IfSome, OnOk, OnErr, Some};
+ghost use Rattle.std.specs.Prelude.{◌≡◌, ◌≤◌, ◌<◌, ◌+◌, ◌-◌, ◌%◌, ◌^◌, ◌||◌, ℕ, true, false, min, [], length, slice_range, is_err, IfSome, OnOk, OnErr, Some};
 ghost use Rattle.lfs_model.specs.Blocks.{SameBut, SameOutside, block_in, programmed};
 ghost use Rattle.lfs_model.specs.History.{reads, programs, erases, faults, unprogrammed, AllUnprogrammed, IsNewest};
 ghost use Rattle.lfs_model.specs.History.Call.{Read, Program, Erase};
 ghost use Rattle.lfs_model.specs.Obeyed.{AreObeyed};
-ghost use Rattle.lfs_device.specs.Fault.{calls_of, due, due_if, due_failed, undue_faults};
+ghost use Rattle.lfs_model.specs.Premises.{MeetsPremises};
+ghost use Rattle.lfs_device.specs.Fault.{calls_of, due, due_if, due_failed, is_torn, undue_faults};
+ghost use Rattle.lfs_device.specs.Premises.{AreReliable};
 ghost use Rattle.lfs_device.specs.Carried.{NoFault, CarriedOut, stored};
 
 use crate::partial::{carry_out_erase, carry_out_program, carry_out_read};
@@ -50,6 +52,7 @@ pub struct Fault {
 pub struct FaultDevice<D: BlockDevice> {
     inner: D,
     fault: Fault,
+    tears: bool,
     read_calls: u64,
     program_calls: u64,
     erase_calls: u64,
@@ -62,16 +65,19 @@ pub struct FaultDevice<D: BlockDevice> {
     ghost newest: { IsNewest trace.events (D.blocks inner) },
     ghost obeyed: { AreObeyed trace.events },
     ghost below: { (block byte : ℕ) → unprogrammed trace.events block byte ≡ true → unprogrammed (D.history inner) block byte ≡ true },
+    ghost untorn: { tears ≡ false → is_torn fault.extent ≡ false },
+    pub ghost premises: { tears ≡ false → AreReliable ⟦<D as BlockDevice>⟧ → ∥ MeetsPremises trace.events ∥₁ },
 }
 
 impl<D: BlockDevice> FaultDevice<D> {
-    ghost use Rattle.lfs_device.specs.FaultDevice.{inner_of, fault_of, history_of};
+    ghost use Rattle.lfs_device.specs.FaultDevice.{inner_of, fault_of, tears_of, history_of};
 
     /// A device whose `n`-th call of those that `which` names fails, from 1 on, with nothing of it carried out.
     /// With `stop` each call behind that one fails too. Every byte counts as programmed.
     pub fn new(inner: D, which: Which, n: u64, stop: bool) -> FaultDevice<D>
         ensures inner { inner_of result ≡ inner }
         ensures fault { fault_of result ≡ record { which = which; nth = n; stops = stop; extent = Extent.Nothing } }
+        ensures tears { tears_of result ≡ false }
         ensures no_call { history_of result ≡ [] }
     {
         let trace = Trace::told_by(&inner, &());
@@ -84,6 +90,7 @@ impl<D: BlockDevice> FaultDevice<D> {
         FaultDevice {
             inner,
             fault,
+            tears: false,
             read_calls: 0,
             program_calls: 0,
             erase_calls: 0,
@@ -95,6 +102,7 @@ impl<D: BlockDevice> FaultDevice<D> {
     pub fn torn(self, k: u32) -> FaultDevice<D>
         ensures inner { inner_of result ≡ inner_of self }
         ensures fault { fault_of result ≡ record (fault_of self) { extent = Extent.FirstBytes k } }
+        ensures tears { tears_of result ≡ true }
         ensures history { history_of result ≡ history_of self }
     {
         self.carrying_out(Extent::FirstBytes(k))
@@ -104,6 +112,7 @@ impl<D: BlockDevice> FaultDevice<D> {
     pub fn whole(self) -> FaultDevice<D>
         ensures inner { inner_of result ≡ inner_of self }
         ensures fault { fault_of result ≡ record (fault_of self) { extent = Extent.Whole } }
+        ensures tears { tears_of result ≡ tears_of self }
         ensures history { history_of result ≡ history_of self }
     {
         self.carrying_out(Extent::Whole)
@@ -112,8 +121,10 @@ impl<D: BlockDevice> FaultDevice<D> {
     fn carrying_out(mut self, extent: Extent) -> FaultDevice<D>
         ensures inner { inner_of result ≡ inner_of self }
         ensures fault { fault_of result ≡ record (fault_of self) { extent = extent } }
+        ensures tears { tears_of result ≡ (tears_of self || is_torn extent) }
         ensures history { history_of result ≡ history_of self }
     {
+        self.tears = self.tears || matches!(extent, Extent::FirstBytes(_));
         self.fault.extent = extent;
         self
     }
@@ -125,6 +136,7 @@ impl<D: BlockDevice> FaultDevice<D> {
         let FaultDevice {
             inner,
             fault: _,
+            tears: _,
             read_calls: _,
             program_calls: _,
             erase_calls: _,
@@ -154,6 +166,19 @@ impl<D: BlockDevice> FaultDevice<D> {
             Which::Erase => self.erase_calls,
         }
     }
+
+    /// Whether it was ever told to store the first bytes of a program alone.
+    pub fn tears(&self) -> bool
+        ensures { result ≡ tears_of self.now }
+    {
+        self.tears
+    }
+
+    /// Where no program is torn, and the devices below are reliable, it meets what is supposed of a device where a
+    /// contract speaks of a loss of power. It does nothing when it runs.
+    pub fn meets_premises(&self)
+        ensures { tears_of self.now ≡ false → AreReliable ⟦<D as BlockDevice>⟧ → MeetsPremises (history_of self.now) }
+    {}
 
     // How much of the next call is carried out before it fails, if it is to fail. `counts` says whether it counts.
     fn due(&self, counts: bool) -> Option<Extent>

@@ -3,8 +3,10 @@ ghost use Rattle.lfs_model.specs.Blocks.{SameBut, block_in, cut, overwritten, pr
 ghost use Rattle.lfs_model.specs.History.{event, faults, AllUnprogrammed, IsNewest};
 ghost use Rattle.lfs_model.specs.History.Call.{Read, Program, Erase};
 ghost use Rattle.lfs_model.specs.Obeyed.{AreObeyed};
+ghost use Rattle.lfs_model.specs.Premises.{MeetsPremises};
 ghost use Rattle.lfs_device.specs.Bytes.{AreBytes};
-ghost use Rattle.lfs_device.specs.Erased.{erased_block, erased_bytes};
+ghost use Rattle.lfs_device.specs.Premises.{AreReliable};
+ghost use Rattle.lfs_device.specs.Erased.{FillsByByte, erased_block, erased_bytes};
 
 use crate::{BlockDevice, Error, Geometry, Trace};
 use std::alloc::Global;
@@ -30,6 +32,7 @@ pub struct RamDevice {
     pub ghost no_fault: { faults trace.events ≡ 0 },
     ghost newest: { IsNewest trace.events (cut geometry.block_size geometry.block_count bytes.items) },
     ghost obeyed: { AreObeyed trace.events },
+    pub ghost premises: { ∥ MeetsPremises trace.events ∥₁ },
 }
 
 impl RamDevice {
@@ -122,6 +125,12 @@ impl RamDevice {
     }
 }
 
+/// Devices in memory meet what is supposed of a device where a contract speaks of a loss of power: an erase leaves no
+/// log or the one that was there, and no call fails. It does nothing when it runs.
+pub fn ram_devices_are_reliable()
+    ensures { AreReliable ⟦<RamDevice as BlockDevice>⟧ }
+{}
+
 // Writes bytes over those from an offset on.
 fn overwrite(all: &mut Vec<u8>, at: usize, bytes: &[u8])
     requires { at + length bytes.now ≤ length all.old.items }
@@ -135,6 +144,7 @@ fn erase_at(all: &mut Vec<u8>, at: usize, len: usize, erased: Erased)
     requires { at + len ≤ length all.old.items }
     ensures erased { all.new.items ≡ erased_bytes erased all.old.items at len }
     ensures are_bytes { AreBytes all.old.items → AreBytes all.new.items }
+    ensures by_byte { FillsByByte erased }
 {
     match erased {
         Erased::Fill(byte) => all[at..at + len].fill(byte),

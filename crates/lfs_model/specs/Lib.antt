@@ -46,6 +46,7 @@ pub mod Thrift
 pub mod Headline
 pub mod Stops
 pub mod PowerLoss
+pub mod Premises
 pub mod FailedCalls
 pub mod Standing
 pub mod Performed

@@ -1,11 +1,12 @@
 // What the stop of a device leaves.
 
-ghost use Rattle.std.specs.Prelude.{◌≡◌, ℕ, ◌+◌, ◌≤◌, ◌<◌, List, [], ◌∷◌, ◌++◌, length, take, true, false, Contains};
+ghost use Rattle.std.specs.Prelude.{◌≡◌, ℕ, ◌+◌, ◌≤◌, ◌<◌, List, [], ◌∷◌, ◌++◌, length, replicate, take, true, false, Contains};
 ghost use Rattle.lfs_model.specs.Blocks.{Blocks, block_in, programmed};
-ghost use Rattle.lfs_model.specs.History.{Call, Program, Erase, Event, event};
+ghost use Rattle.lfs_model.specs.History.{Call, Program, Erase, EachSince, Event, event};
 ghost use Rattle.lfs_model.specs.Obeyed.{AreObeyed};
-ghost use Rattle.lfs_model.specs.Stops.{stops_in, Stops, ErasesCleanly};
+ghost use Rattle.lfs_model.specs.Stops.{stops_in, Stops, ErasesCleanly, HasNoLog};
 ghost use Rattle.lfs_model.specs.PowerLoss.{FailsAsStopped};
+ghost use Rattle.lfs_model.specs.Premises.{MeetsPremises};
 ghost use Rattle.lfs_model.specs.BlockBytes.{unwritten, filled};
 ghost use Rattle.lfs_model.specs.examples.Images.{small_commit, appended_commit, small_block};
 
@@ -37,4 +38,17 @@ pub fn stopped_erase_leaves_no_other_log()
 /// A call that was obeyed left what a stop in it may leave.
 pub fn obeyed_call_leaves_what_a_stop_may()
     ensures { (history : List Event) (e : Event) → AreObeyed history → Contains history e → e.failed ≡ false → ErasesCleanly e → Stops e e.after }
+{}
+
+/// A block of one repeated byte has no log, so an erase that fills a block with a byte leaves none.
+pub fn repeated_byte_has_no_log()
+    ensures { (size byte : ℕ) → byte < 256 → HasNoLog (replicate size byte) }
+{}
+
+/// What is supposed of all calls of a device is so of those since any moment. Where no call was made it holds, and a truncated
+/// fact that it holds is as good as the fact.
+pub fn premises_hold_since_any_moment()
+    ensures none { MeetsPremises [] }
+    ensures held { (history : List Event) → ∥ MeetsPremises history ∥₁ → MeetsPremises history }
+    ensures since { (older events : List Event) → MeetsPremises (events ++ older) → EachSince ErasesCleanly older (events ++ older) × EachSince FailsAsStopped older (events ++ older) }
 {}

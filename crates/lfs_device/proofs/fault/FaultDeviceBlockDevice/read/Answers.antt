@@ -5,7 +5,8 @@ use Rattle.lfs_model.proofs.Histories.{unprogrammed-reads}
 use Rattle.lfs_model.proofs.Obeyed.{obeyed_read, obeyed_next}
 use Rattle.lfs_device.specs.Fault.{due}
 use Rattle.lfs_device.specs.Carried.{CarriedOut}
-use Rattle.lfs_device.proofs.Faults.{due_failed-call, below-call}
+use Rattle.lfs_device.proofs.Faults.{due_failed-call, undue_faults-call, below-call}
+use Rattle.lfs_device.proofs.Premises.{premises_call}
 use Rattle.lfs_device.proofs.fault.FaultDeviceBlockDevice.read.Goals as goal
 
 carried : (g : _) (c : goal.After-told_by-self g) → CarriedOut g.D.BlockDevice (due c.args.self.now.fault (Read c.args.block c.args.off (length c.args.buf.now)) c.args.self.now.trace.events)
@@ -24,3 +25,14 @@ invariant_of-self-clause-below g c = below-call (g.D.BlockDevice.history c.args.
 
 pub invariant_of-self-clause-obeyed : goal.invariant_of-self-clause-obeyed
 invariant_of-self-clause-obeyed g c = obeyed_next (newest g c) (obeyed_read _ _ _ _ _ _ c.carry_out_read-outcome.ensures.device.same) c.args.self.now.obeyed
+
+pub invariant_of-self-clause-premises : goal.invariant_of-self-clause-premises
+invariant_of-self-clause-premises g c = λ tears reliable.
+    let new = c.carry_out_read-outcome.new.device in
+    premises_call g.D.BlockDevice c.args.self.now.fault c.args.self.now.inner new (c.args.self.now.untorn tears) (carried g c) (newest g c)
+    (g.met.D.BlockDevice.obeyed new) reliable (c.args.self.now.premises tears reliable)
+
+pub invariant_of-self-clause-undue_faults : goal.invariant_of-self-clause-undue_faults
+invariant_of-self-clause-undue_faults g c =
+    undue_faults-call g.D.BlockDevice c.args.self.now.fault c.args.self.now.inner c.carry_out_read-outcome.new.device (carried g c) (newest g c)
+    c.carry_out_read-outcome.ensures.faults c.args.self.now.undue_faults

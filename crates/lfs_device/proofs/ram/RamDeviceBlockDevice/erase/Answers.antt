@@ -6,6 +6,7 @@ use Rattle.lfs_device.specs.Erased.{erased_bytes, erased_disk}
 use Rattle.lfs_device.specs.RamDevice.{blocks_of}
 use Rattle.lfs_device.proofs.Erasures.{cut-erased, SameBut-erased, block_in-erased}
 use Rattle.lfs_device.proofs.Newest.{newest_call}
+use Rattle.lfs_device.proofs.Premises.{meets_erase, premises_after}
 use Rattle.lfs_device.proofs.ram.RamDeviceBlockDevice.erase.Goals as goal
 
 -- the blocks after the erase
@@ -41,3 +42,10 @@ invariant_of-self-clause-obeyed c =
     let d = c.args.self.now in
     let shape = IsDivided-cut d.geometry.block_size d.geometry.block_count d.bytes.items d.size in
     obeyed_next c.told_by-trace.ensures (obeyed_erase _ _ _ _ (SameBut-erased d.erased d.geometry.block_size d.geometry.block_count (blocks_of d) c.args.block shape c.requires)) d.obeyed
+
+pub invariant_of-self-clause-premises : goal.invariant_of-self-clause-premises
+invariant_of-self-clause-premises c =
+    let d = c.args.self.now in
+    let shape = IsDivided-cut d.geometry.block_size d.geometry.block_count d.bytes.items d.size in
+    premises_after c.told_by-trace.ensures
+    (meets_erase d.erased c.args.block _ _ c.erase_at.ensures.by_byte (block_in-erased d.erased d.geometry.block_size d.geometry.block_count (blocks_of d) c.args.block shape c.requires)) d.premises

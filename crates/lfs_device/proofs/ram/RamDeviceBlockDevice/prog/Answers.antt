@@ -4,6 +4,7 @@ use Rattle.lfs_model.proofs.Cuts.{IsDivided-cut, cut-overwritten, size_fits}
 use Rattle.lfs_model.proofs.Obeyed.{obeyed_program, obeyed_next}
 use Rattle.lfs_model.proofs.Overwrites.{length-overwritten, SameBut-programmed}
 use Rattle.lfs_device.proofs.Newest.{newest_call}
+use Rattle.lfs_device.proofs.Premises.{meets_program, premises_after}
 use Rattle.lfs_device.proofs.ram.RamDeviceBlockDevice.prog.Goals as goal
 
 pub invariant_of-self-clause-size : goal.invariant_of-self-clause-size
@@ -42,3 +43,6 @@ invariant_of-self-clause-obeyed c =
     let shape = IsDivided-cut d.geometry.block_size d.geometry.block_count d.bytes.items d.size in
     let same = SameBut-programmed disk c.args.block c.args.off c.args.bytes.now (omega (arith, shape.count)) (omega (arith, shape.sizes c.args.block c.requires.in_device)) in
     obeyed_next c.told_by-trace.ensures (obeyed_program _ _ _ _ _ _ (λ ok. refl) same) d.obeyed
+
+pub invariant_of-self-clause-premises : goal.invariant_of-self-clause-premises
+invariant_of-self-clause-premises c = premises_after c.told_by-trace.ensures (meets_program _ _ _ _ _) c.args.self.now.premises

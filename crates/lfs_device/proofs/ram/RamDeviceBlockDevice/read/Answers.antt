@@ -2,6 +2,7 @@ use Rattle.std.proofs.Common.{◌+◌, List, ℕ, length, ◌∙◌, refl, ap}
 use Rattle.std.specs.Prelude.{slice_range}
 use Rattle.lfs_model.proofs.Cuts.{slice_range-block_in}
 use Rattle.lfs_model.proofs.Obeyed.{obeyed_read, obeyed_next}
+use Rattle.lfs_device.proofs.Premises.{meets_read, premises_after}
 use Rattle.lfs_device.proofs.ram.RamDeviceBlockDevice.read.Goals as goal
 
 pub returns-clause-bytes : goal.returns-clause-bytes
@@ -15,3 +16,6 @@ returns-clause-bytes c =
 
 pub invariant_of-self-clause-obeyed : goal.invariant_of-self-clause-obeyed
 invariant_of-self-clause-obeyed c = obeyed_next c.told_by-self.ensures (obeyed_read _ _ _ _ _ _ refl) c.args.self.now.obeyed
+
+pub invariant_of-self-clause-premises : goal.invariant_of-self-clause-premises
+invariant_of-self-clause-premises c = premises_after c.told_by-self.ensures (meets_read _ _ _ _ _) c.args.self.now.premises

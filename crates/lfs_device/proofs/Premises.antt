@@ -1,0 +1,75 @@
+-- One more call meets what is supposed of a device's calls.
+use Rattle.std.proofs.Common.{◌≡◌, ℕ, Bool, true, false, cond, length, Option, Some, None, List, [], ◌∷◌, inl, inr, refl, sym, subst, ◌∙◌}
+use Rattle.std.proofs.Math.Logic.{∥∥₁_map}
+use Rattle.lfs_model.specs.Blocks.{Blocks, block_in}
+use Rattle.lfs_model.specs.History.{Call, Read, Program, Erase, Event, event}
+use Rattle.lfs_model.specs.Obeyed.{AreObeyed}
+use Rattle.lfs_model.specs.Premises.{MeetsPremises}
+use Rattle.lfs_model.specs.Stops.{LeftByErase}
+use Rattle.lfs_model.proofs.Premises.{Meets, meets_nothing, meets_whole, premises_begin, premises_newest, premises_next}
+use Rattle.lfs_model.proofs.RepeatedBytes.{no_log-repeated}
+use Rattle.lfs_device.specs.declared.device.BlockDevice.{Ghosts}
+use Rattle.lfs_device.specs.declared.fault.Extent.{Extent}
+use Rattle.lfs_device.specs.declared.fault.Extent.TheVariants.{Nothing, FirstBytes, Whole}
+use Rattle.lfs_device.specs.declared.fault.Fault.{Fault}
+use Rattle.lfs_device.specs.declared.ram.Erased.{Erased}
+use Rattle.lfs_device.specs.declared.ram.Erased.TheVariants.{Fill, Keep}
+use Rattle.lfs_device.specs.Carried.{CarriedOut}
+use Rattle.lfs_device.specs.Erased.{FillsByByte, erased_block}
+use Rattle.lfs_device.specs.Fault.{counts, due, is_torn, is_turn, has_stopped}
+use Rattle.lfs_device.specs.Premises.{AreReliable}
+
+-- ---- a history
+
+pub premises_none : (events : List Event) → events ≡ [] → ∥ MeetsPremises events ∥₁
+premises_none events is = subst (λ h. ∥ MeetsPremises h ∥₁) (sym is) ∣ premises_begin ∣₁
+
+pub premises_after : {call : Call} {failed : Bool} {before after : Blocks} {older later : List Event} → later ≡ event call before after failed ∷ older
+    → Meets call failed before after → ∥ MeetsPremises older ∥₁ → ∥ MeetsPremises later ∥₁
+premises_after is here so_far = ∥∥₁_map so_far (premises_next is here)
+
+-- ---- a device in memory
+
+pub meets_read : (block off len : ℕ) (before after : Blocks) → Meets (Read block off len) false before after
+meets_read block off len before after = record { erases = tt; failed = λ is. absurd (cc) }
+
+pub meets_program : (block off : ℕ) (bytes : List ℕ) (before after : Blocks) → Meets (Program block off bytes) false before after
+meets_program block off bytes before after = record { erases = tt; failed = λ is. absurd (cc) }
+
+left_by_erased : (erased : Erased) (block : List ℕ) → FillsByByte erased → LeftByErase block (erased_block erased block)
+left_by_erased (Fill byte) block small = inr (no_log-repeated (length block) byte small)
+left_by_erased Keep block any = inl refl
+
+pub meets_erase : (erased : Erased) (block : ℕ) (before after : Blocks) → FillsByByte erased → block_in after block ≡ erased_block erased (block_in before block) → Meets (Erase block) false before after
+meets_erase erased block before after small is = record {
+  erases = subst (LeftByErase (block_in before block)) (sym is) (left_by_erased erased (block_in before block) small);
+  failed = λ failed. absurd (cc);
+}
+
+-- ---- a device with a fault
+
+abbrev tears : Option Extent → Bool
+tears None = false
+tears (Some extent) = is_torn extent
+
+tears_none : (fault : Fault) (call : Call) (older : List Event) → is_torn fault.extent ≡ false → tears (due fault call older) ≡ false
+tears_none fault call older untorn = either (is_turn (counts fault.which call) fault.which fault.nth older) (has_stopped fault.which fault.nth fault.stops older)
+  where
+    either : (a b : Bool) → tears (cond a (Some fault.extent) (cond b (Some Nothing) None)) ≡ false
+    either true b = untorn
+    either false true = refl
+    either false false = refl
+
+meets_carried : {D : Type 0} (g : Ghosts D) (o : Option Extent) (call : Call) (failed : Bool) (old new : D) → tears o ≡ false → CarriedOut g o call failed old new
+    → AreObeyed (g.history new) → AreReliable g → Meets call failed (g.blocks old) (g.blocks new)
+meets_carried g None call failed old new untorn carried obeyed reliable = premises_newest carried (reliable new).premises
+meets_carried g (Some Nothing) call failed old new untorn carried obeyed reliable = rw (carried.0, carried.1) (meets_nothing call (g.blocks old))
+meets_carried g (Some (FirstBytes k)) call failed old new untorn carried obeyed reliable = absurd (cc)
+meets_carried g (Some Whole) call failed old new untorn carried obeyed reliable =
+    rw carried.0 (meets_whole (carried.1 ((reliable new).no_fault ∙ sym (reliable old).no_fault)) obeyed (reliable new).premises)
+
+pub premises_call : {D : Type 0} {call : Call} {failed : Bool} {older later : List Event} (g : Ghosts D) (fault : Fault) (old new : D)
+    → is_torn fault.extent ≡ false → CarriedOut g (due fault call older) call failed old new → later ≡ event call (g.blocks old) (g.blocks new) failed ∷ older
+    → AreObeyed (g.history new) → AreReliable g → ∥ MeetsPremises older ∥₁ → ∥ MeetsPremises later ∥₁
+premises_call {call = call} {failed = failed} {older = older} g fault old new untorn carried is obeyed reliable so_far =
+    premises_after is (meets_carried g (due fault call older) call failed old new (tears_none fault call older untorn) carried obeyed reliable) so_far

@@ -1,4 +1,4 @@
-// The checksum of a block of 64 KiB.
+// A benchmark of the checksum of a block of 64 KiB.
 
 use lfs_tag::crc;
 use std::io;
@@ -6,7 +6,7 @@ use std::time::Instant;
 
 const BLOCK: usize = 65536;
 
-// Bytes without a pattern that a table would favour.
+// Fills the block with bytes that have no pattern which a table would favour.
 fn fill(block: &mut [u8]) {
     let mut state = 1u32;
     for byte in block.iter_mut() {
@@ -23,8 +23,8 @@ fn rounds_over(block: &[u8], rounds: u32) -> u32 {
     sum
 }
 
-/// Computes the checksum so many rounds, each over the last one's. Prints it, and on standard error
-/// the nanoseconds that the rounds took (bench/crc.py compares them).
+/// Computes the checksum `rounds` times, each time from the last result on. Prints the result, and
+/// on standard error the nanoseconds that it took (bench/crc.py compares them).
 pub fn show(rt: &HostRuntime, rounds: u32) -> io::Result<()> {
     let mut block = [0u8; BLOCK];
     fill(&mut block);

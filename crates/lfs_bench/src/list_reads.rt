@@ -1,5 +1,5 @@
-// How many device reads it takes to read a byte of a list of 1,000 blocks, beside those of a walk
-// back by each block's first pointer.
+// How many device reads it takes to read a byte of a list of 1,000 blocks. Beside these, the reads
+// of a walk back by each block's first pointer.
 
 use lfs_ctz::read_at;
 use lfs_device::{BlockDevice, Error, FaultDevice, Geometry, RamDevice, Which};
@@ -12,8 +12,8 @@ const BLOCKS: u32 = 1000;
 
 const SHOWN: [u32; 6] = [0, 1, 500, 512, 998, 999];
 
-// How many reads it took to read the first byte of a block of the list, and without the further
-// pointers.
+// How many reads it took to read the first byte of a block of the list: by all pointers, and by
+// first pointers alone.
 #[derive(Clone, Copy)]
 struct Reads {
     block: u32,
@@ -21,7 +21,7 @@ struct Reads {
     plain: u64,
 }
 
-// A device whose block i is block i of the list, with the list's size.
+// Makes a device whose block i is block i of the list. Returns it with the list's size.
 fn device(alloc: Global) -> Result<(RamDevice, u32), Error> {
     let mut bytes = Vec::new(alloc);
     let mut size = 0u32;
@@ -41,7 +41,7 @@ fn device(alloc: Global) -> Result<(RamDevice, u32), Error> {
     Ok((RamDevice::from_bytes(geometry, bytes)?, size))
 }
 
-// Reads a byte of the block that lies so many first pointers behind another.
+// Reads a byte of the block that is `steps` first pointers back from the head.
 fn read_plainly<D: BlockDevice>(dev: &mut D, head: u32, steps: u32) -> Result<(), Error> {
     let mut block = head;
     for _step in 0..steps {
@@ -59,7 +59,7 @@ fn read_plainly<D: BlockDevice>(dev: &mut D, head: u32, steps: u32) -> Result<()
     Ok(())
 }
 
-// Reads the first byte of each block.
+// Reads the first byte of each block both ways, and counts the reads.
 fn measure(alloc: Global) -> Result<Vec<Reads>, Error> {
     let (device, size) = device(alloc)?;
     let mut device = FaultDevice::new(device, Which::Read, 0, false);
@@ -90,8 +90,8 @@ fn measure(alloc: Global) -> Result<Vec<Reads>, Error> {
     Ok(all)
 }
 
-/// Prints both for some of the blocks, and the most and the sum over all of them (bench/ctz_reads.py
-/// judges them).
+/// Prints both counts for some of the blocks, and the most and the sum over all of them
+/// (bench/ctz_reads.py judges them).
 pub fn show(rt: &HostRuntime) -> io::Result<()> {
     let all = match measure(rt.alloc()) {
         Ok(all) => all,

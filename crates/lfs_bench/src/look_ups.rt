@@ -1,4 +1,5 @@
-// Look-ups in a block of 64 KiB that holds a thousand files, each created in front of the others.
+// A benchmark of look-ups in a block of 64 KiB. It holds a thousand files, each created in front of
+// the others.
 
 use lfs_device::NameOrder;
 use lfs_tag::kinds::{CREATE, FILE_NAME};
@@ -11,7 +12,7 @@ const BLOCK: usize = 65536;
 
 const FILES: u32 = 1000;
 
-// Names that fall as the numbers rise.
+// Returns the name of a file. Names fall as the numbers rise.
 fn name_of(number: u32) -> [u8; 4] {
     u32::MAX.wrapping_sub(number).to_be_bytes()
 }
@@ -33,7 +34,7 @@ fn shown(lookup: Lookup) -> u32 {
     }
 }
 
-// The sum of the ends that so many readings of the log find.
+// Reads the log `rounds` times, and returns the sum of the ends that were found.
 fn read_often(block: &[u8], rounds: u32) -> u64 {
     let mut sum = 0u64;
     for _ in 0..rounds {
@@ -42,7 +43,7 @@ fn read_often(block: &[u8], rounds: u32) -> u64 {
     sum
 }
 
-// The same of a log that is known by its end.
+// Takes the log by its known end `rounds` times, and returns the sum of the ends.
 fn know_often(block: &[u8], rounds: u32) -> u64 {
     let log = Log::read(block);
     let (end, last) = (log.end(), log.last());
@@ -73,8 +74,8 @@ fn content_often(alloc: Global, log: &Log<'_>, rounds: u32) -> u64 {
     sum
 }
 
-/// Prints where two names stand, and on standard error the nanoseconds that so many readings of the
-/// log, logs that are known by their end, look-ups of a name, and readings of the content take
+/// Prints the ids of two names. On standard error it prints the nanoseconds of `rounds` readings of
+/// the log, logs known by their end, look-ups of a name, and readings of the content
 /// (bench/lookups.py judges them).
 pub fn show(rt: &HostRuntime, rounds: u32) -> io::Result<()> {
     let mut block = [0xffu8; BLOCK];

@@ -1,6 +1,6 @@
-//! Figures that benchmarks judge: the checksum of a block, look-ups in a block, the device reads of a
-//! list, and the writes of a file over a session. The first word names one of them, none all; the
-//! second says how many rounds are timed, or how many pieces are written.
+//! Figures that benchmarks judge: the checksum of a block, look-ups in a block, the device reads of
+//! a list, and the writes of a file over a session. The first word names one of them; without one
+//! all are shown. The second says how many rounds are timed, or how many pieces are written.
 #![tactic(auto)]
 
 mod checksum;
@@ -11,7 +11,7 @@ mod writes;
 
 use std::{env, io};
 
-// The pieces that are written where no number is given.
+// How many pieces are written where no number is given.
 const PIECES: u32 = 12;
 
 fn show_all(rt: &HostRuntime) -> io::Result<()> {
@@ -21,7 +21,7 @@ fn show_all(rt: &HostRuntime) -> io::Result<()> {
     writes::show(rt, PIECES)
 }
 
-// The second word as a number, or what stands for it.
+// Returns the second word as a number, or `otherwise` where it is none.
 fn number_or(words: &[String], otherwise: u32) -> u32 {
     match words.get(2) {
         Some(word) => word.as_str().parse::<u32>().unwrap_or(otherwise),

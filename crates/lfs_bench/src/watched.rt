@@ -1,4 +1,4 @@
-// A device that sees in which order blocks are written.
+// A device that counts its calls, and notes the order in which blocks are written.
 
 use lfs_device::{BlockDevice, Error, Geometry};
 
@@ -7,8 +7,8 @@ use lfs_device::{BlockDevice, Error, Geometry};
 pub struct Counts {
     pub erases: u64,
     pub programs: u64,
-    /// The programs of a block from its first byte on right behind its erase, each of a later block
-    /// than the one before.
+    /// How many programs were in turn. Such a program begins at a block's first byte, comes right
+    /// after the block's erase, and is of a later block than the one in turn before it.
     pub in_turn: u64,
 }
 
@@ -42,7 +42,7 @@ impl Turns {
     }
 }
 
-/// A device, with the counts of its calls.
+/// A device with the counts of its calls.
 #[derive(Drop)]
 pub struct Watched<D: BlockDevice> {
     inner: D,

@@ -1,4 +1,4 @@
-// A file that is written in pieces of 4 KiB over a session on a device in memory.
+// A benchmark of a file that is written in pieces of 4 KiB, over a session on a device in memory.
 
 use crate::watched::{Counts, Watched};
 use lfs_ctz::blocks_for;
@@ -14,7 +14,7 @@ const PIECE: u32 = 4096;
 
 type Writing = Session<Watched<RamDevice>>;
 
-// The bytes that are written again and again.
+// Returns the piece that is written again and again.
 fn piece() -> [u8; PIECE as usize] {
     let mut state = 1u32;
     let mut piece = [0; PIECE as usize];
@@ -25,7 +25,7 @@ fn piece() -> [u8; PIECE as usize] {
     piece
 }
 
-// A session over an empty file system with room for so many pieces, and a new file.
+// Makes a session over an empty file system with room for `pieces` pieces, and opens a new file.
 fn begun(alloc: Global, pieces: u32) -> Result<(Writing, u32), Error> {
     let blocks = pieces.saturating_add(pieces / 64).saturating_add(16);
     let device = RamDevice::blank(alloc, Geometry::new(BLOCK, 256, blocks)?)?;
@@ -43,7 +43,7 @@ fn write_pieces(alloc: Global, session: &mut Writing, fd: u32, pieces: u32) -> R
     session.close(alloc, fd)
 }
 
-// Whether the file is so many pieces.
+// Returns whether the file has `pieces` pieces.
 fn has_pieces(alloc: Global, session: &mut Writing, pieces: u32) -> Result<bool, Error> {
     let piece = piece();
     let fd = session.open(alloc, b"/file", OpenFlags::READ)?;
@@ -66,9 +66,9 @@ fn show_counts(rt: &HostRuntime, pieces: u32, before: Counts, after: Counts) -> 
     )
 }
 
-/// Writes so many pieces. Prints how many blocks the file has, how many erases and programs its writing
-/// and closing took, and whether it is read as it was written; on standard error the nanoseconds
-/// (bench/writes.py judges them).
+/// Writes `pieces` pieces. Prints how many blocks the file has, how many erases and programs its
+/// writing and closing took, and whether it is read as it was written. On standard error it prints
+/// the nanoseconds (bench/writes.py judges them).
 pub fn show(rt: &HostRuntime, pieces: u32) -> io::Result<()> {
     let (mut session, fd) = match begun(rt.alloc(), pieces) {
         Ok(begun) => begun,

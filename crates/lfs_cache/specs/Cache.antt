@@ -1,4 +1,4 @@
--- What callers see of the entries that are kept.
+-- What contracts see of a cache.
 use Rattle.std.specs.Prelude.{◌≡◌, ◌≤◌, ℕ, nat_eq, List, map, length, Vec}
 use Rattle.std.specs.List.{IsDistinct}
 use Rattle.std.specs.Map.{keys_of}
@@ -6,10 +6,11 @@ use Rattle.std.specs.declared.alloc.Global.{Global}
 use Rattle.lru.specs.LruCache.{LruCache}
 use Rattle.lfs_model.specs.Cache.{CachedBlocks, cache_limit}
 
+-- the blocks of a cache with their bytes, the most recent first
 abbrev pub shown : List (ℕ × Vec ℕ Global) → CachedBlocks
 shown entries = map (λ e. (e.0, e.1.items)) entries
 
--- no block stands twice, and none is one too many
+-- A cache has no block twice, and at most eight blocks.
 pub record IsCache (recent : LruCache ℕ (Vec ℕ Global)) : Type 0 where
   pub capacity : recent.cap ≡ cache_limit
   pub few : length recent.entries ≤ cache_limit

@@ -1,4 +1,4 @@
--- The calls of a device by which a block comes into the cache.
+-- The device calls by which a block comes into a cache.
 use Rattle.std.specs.Prelude.{◌≡◌, ◌⊎◌, ℕ, Bool, true, false, List, ◌∷◌, Option, None, Result, OnOk, IsErrOf, IsOk, IsSome}
 use Rattle.lfs_device.specs.declared.device.BlockDevice.{Ghosts}
 use Rattle.lfs_device.specs.declared.error.Error.{Error}
@@ -7,11 +7,12 @@ use Rattle.lfs_model.specs.Blocks.{Blocks}
 use Rattle.lfs_model.specs.History.{Event, event}
 use Rattle.lfs_model.specs.History.Call.{Read}
 
--- a block is read whole
+-- the event of a read of a whole block
 abbrev pub read_whole : ℕ → Blocks → ℕ → Bool → Event
 read_whole block_size blocks block failed = event (Read block 0 block_size) blocks blocks failed
 
--- A block at hand takes no call of the device and no memory. Another takes one read, unless there is no memory for its bytes.
+-- A fill of a block at hand makes no call of the device, and takes no memory. A fill of another block takes one read, unless
+-- there is no memory for its bytes.
 pub record ReadsWhereMissing {D : Type 0} (g : Ghosts D) (was : Option (List ℕ)) (b : ℕ) (old new : D) (result : Result (Unit {0}) Error) : Type 0 where
   pub at_hand : IsSome was → IsOk result
   pub no_call : IsSome was → new ≡ old

@@ -11,10 +11,11 @@ use std::alloc::Global;
 use std::marker::Model;
 use std::num::NonZeroUsize;
 
-/// At most eight blocks of a device with their bytes, as they were when each was read.
+/// A cache of at most eight blocks of a device, each with its bytes as they were when it was read.
 ///
-/// A contract sees them as a list, the most recent first. A change of a block on the device isn't noticed:
-/// the block is to be forgotten before.
+/// A contract sees the cache as a list of block numbers with their bytes. The block that was filled
+/// last comes first. The cache doesn't notice that the device changes a block. So the caller calls
+/// [`Cache::forget`] for a block before it programs or erases that block.
 #[derive(Drop)]
 pub struct Cache {
     alloc: Global,
@@ -33,9 +34,9 @@ impl Model for Cache {
 }
 
 impl Cache {
-    /// An empty cache.
+    /// Makes an empty cache.
     ///
-    /// `NoMemory` where the room for eight entries isn't granted.
+    /// Errors: `NoMemory` where the room for eight entries isn't granted.
     pub fn new(alloc: Global) -> Result<Cache, Error>
         ensures empty { IfOk result (λ cache. cache ≡ []) }
         ensures error { IfErr result (λ e. e ≡ Error.NoMemory) }
@@ -45,11 +46,13 @@ impl Cache {
         Ok(Cache { alloc, recent })
     }
 
-    /// Makes a block of the device the most recent. Where it isn't at hand it is read whole, by one read,
-    /// and the least recent one goes where there were eight.
+    /// Makes `block` the most recent block of the cache. A block that isn't at hand is read whole,
+    /// by one read of the device. The least recent block is dropped then, where there were eight. A
+    /// block at hand takes no call of the device and no memory. `block` is below the number of
+    /// blocks.
     ///
-    /// `Io` where that read fails, and `NoMemory` where the room for the block isn't granted.
-    /// After either the cache is as it was.
+    /// Errors: `Io` where the read fails, and `NoMemory` where memory for the block isn't granted.
+    /// The cache is as it was after either.
     pub fn fill<D: BlockDevice>(&mut self, device: &mut D, block: u32) -> Result<(), Error>
         requires { block < (D.geometry device.old).block_count }
         ensures filled { OnOk result (self.new
@@ -69,7 +72,8 @@ impl Cache {
         Ok(())
     }
 
-    /// The bytes of a block, without a copy. None where it isn't at hand. That makes it no more recent.
+    /// Returns the bytes of a block, without a copy. Returns None where the block isn't at hand.
+    /// The order of the blocks stays as it is.
     pub fn lend(&self, block: u32) -> Option<&[u8]>
         ensures { option_copied result ≡ cached self.now block }
     {
@@ -79,9 +83,10 @@ impl Cache {
         }
     }
 
-    /// The bytes of a block, which then isn't at hand any more. None where it wasn't.
+    /// Takes a block out of the cache and returns its bytes. Returns None where the block isn't at
+    /// hand.
     ///
-    /// It takes no memory and makes no call of the device.
+    /// The call takes no memory and makes no call of the device.
     pub fn take(&mut self, block: u32) -> Option<Vec<u8>>
         ensures bytes { option_map (λ bytes. bytes.items) result ≡ cached self.old block }
         ensures others { self.new ≡ without self.old block }
@@ -89,14 +94,15 @@ impl Cache {
         self.recent.pop(&block)
     }
 
-    /// Drops a block, where it is at hand. It takes no memory and makes no call of the device.
+    /// Takes a block out of the cache and drops its bytes. Nothing changes where the block isn't at
+    /// hand. The call takes no memory and makes no call of the device.
     pub fn forget(&mut self, block: u32)
         ensures { self.new ≡ without self.old block }
     {
         self.take(block);
     }
 
-    // Puts a block first that is at hand, and says whether it is.
+    // Makes a block that is at hand the most recent one. Returns whether the block is at hand.
     fn promote(&mut self, block: u32) -> bool
         ensures at_hand { result ≡ is_some (cached self.old block) }
         ensures first { OnTrue result ((other : List ℕ) → self.new ≡ put_first self.old block (unwrap_or (cached self.old block) other)) }
@@ -106,7 +112,8 @@ impl Cache {
         self.recent.promote(&block)
     }
 
-    // Puts a block first that isn't at hand.
+    // Adds a block that isn't at hand as the most recent one. The least recent block is dropped
+    // where there were eight.
     fn put(&mut self, block: u32, bytes: Vec<u8>) -> Result<(), Error>
         requires { cached self.old block ≡ None }
         ensures first { OnOk result (self.new ≡ put_first self.old block bytes.items) }

@@ -1,4 +1,4 @@
-//! The blocks of a device that were read last, kept so that they can be lent without a copy.
+//! A cache of the blocks of a device that were read last. It lends their bytes without a copy.
 #![tactic(auto)]
 
 mod cache;

@@ -10,27 +10,29 @@ use Rattle.lfs_thread.specs.Kept.{Header, State, pairs_on}
 use Rattle.lfs_mount.specs.Checked.{HasHead}
 use Rattle.lfs_mount.specs.Moves.{IsMovedFrom}
 
--- of as many blocks as before these are used, and all others are free
+-- a map of as many blocks as before, of which these are used, and all others are free
 pub record HasOnly (old new : BlockSets) (bs : List ℕ) : Type 0 where
   pub len : length new ≡ length old
   pub used : AreUsed new bs
   pub none_in_flight : AreInFlight new []
 
--- The slot that is moved away is an entry. Where the superblock's pairs are right the map has the image's blocks, and where the move
--- is right too the image is accepted, if the directories fit the disk's order of names; if they don't it isn't.
+-- The slot that a set move names is an entry. Where the superblock's pairs are right, the map has the image's blocks. Where the
+-- move is right too, the image is accepted if the directories fit the disk's order of names. If they don't fit it, the image
+-- isn't accepted.
 pub record IsJudged (disk : Disk) (fits : Bool) (old new : BlockSets) (chain : List Pair) (p : Pair) (rest : List Pair) : Type 0 where
   pub moved : IsMovedFrom (gstate_of (chain ++ p ∷ rest)) (p ∷ rest)
   pub marked : (bytes : List ℕ) → HasHead disk chain p rest bytes → HasOnly old new (used_blocks disk (chain ++ p ∷ rest))
   pub accepted : fits ≡ true → (bytes : List ℕ) → HasHead disk chain p rest bytes → IsMove (chain ++ p ∷ rest) (gstate_of (chain ++ p ∷ rest)) → IsAccepted disk (chain ++ p ∷ rest)
   pub refused : fits ≡ false → IsAccepted disk (chain ++ p ∷ rest) → ⊥
 
--- The map has the image's blocks. The image is accepted, if its directories fit the disk's order of names; if they don't none is.
+-- The map has the image's blocks. The image is accepted if its directories fit the disk's order of names. If they don't fit it,
+-- no image is accepted.
 pub record HasImage (disk : Disk) (headers : List Header) (fits : Bool) (old new : BlockSets) : Type 0 where
   pub marked : HasOnly old new (used_blocks disk (pairs_on disk headers))
   pub accepted : fits ≡ true → IsAccepted disk (pairs_on disk headers)
   pub refused : fits ≡ false → (ps : List Pair) → IsAccepted disk ps → ⊥
 
--- The thread of an accepted image, whose device was only read, without a fault: the map has all blocks, none but the image's are
+-- The thread of an accepted image, whose device was only read, without a fault. The map has all blocks. None but the image's are
 -- used, and none is in flight.
 pub record IsMounted (disk : Disk) (history : List Event) (t : State) : Type 0 where
   pub works : t.failed ≡ false

@@ -1,4 +1,4 @@
--- What is known of a thread before its slots are looked at, and of the superblock's pairs.
+-- What is known of a thread before its slots are read, and what the superblock's pairs are.
 use Rattle.std.specs.Prelude.{ℕ, ◌≡◌, ◌⊎◌, Bool, true, List, [], ◌∷◌, ◌++◌, length, Some, codes}
 use Rattle.std.specs.List.{AllByRecursion}
 use Rattle.lfs_model.specs.BlockSets.{BlockSets}
@@ -17,18 +17,18 @@ abbrev pub HasStart : List ℕ → List Slot → Type 0
 HasStart bytes [] = ⊥
 HasStart bytes (s ∷ slots) = (is_superblock s ≡ true) × HasStruct bytes s
 
--- the superblock's slot and no other
+-- the pair has the superblock's slot and no other
 pub record IsAlone (bytes : List ℕ) (p : Pair) : Type 0 where
   pub slot : Slot
   pub slots : p.content.slots ≡ slot ∷ []
   pub superblock : is_superblock slot ≡ true
   pub struct : HasStruct bytes slot
 
--- a pair of the superblock's chain in front of the root's first one: no slot, or that one
+-- a pair of the superblock's chain before the root's first one: no slot, or the superblock's slot alone
 abbrev pub IsBare : List ℕ → Pair → Type 0
 IsBare bytes p = (p.content.slots ≡ []) ⊎ IsAlone bytes p
 
--- the superblock's chain, up to the root's first pair
+-- the superblock's chain up to the root's first pair
 pub record HasHead (disk : Disk) (chain : List Pair) (p : Pair) (rest : List Pair) (bytes : List ℕ) : Type 0 where
   pub first : BeginsWith (holder_at disk (first_at (from_slots (chain ++ p ∷ rest)))) superblock_entry
   pub named : first_name (from_slots (chain ++ p ∷ rest)) ≡ Some (codes "littlefs")
@@ -36,7 +36,8 @@ pub record HasHead (disk : Disk) (chain : List Pair) (p : Pair) (rest : List Pai
   pub bare : AllByRecursion (IsBare bytes) chain
   pub start : HasStart bytes p.content.slots
 
--- a thread: so many pairs stand in front of the root's first one; its pairs' blocks are marked, its directories have their places
+-- A thread in three parts: the chain before the root's first pair, that pair, and the others. The blocks of its pairs are marked,
+-- and its directories have their places.
 pub record IsKnownThread (disk : Disk) (sets : BlockSets) (firsts : List (ℕ × ℕ)) (members : List Member) (sync : Bool) (chain : List Pair) (p : Pair) (rest : List Pair) : Type 0 where
   pub thread : IsThread (content_at disk) (block_count disk) (chain ++ p ∷ rest)
   pub chain_is : superblocks_before (chain ++ p ∷ rest) ≡ length chain

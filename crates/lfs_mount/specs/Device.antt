@@ -1,4 +1,4 @@
--- What the calls that look at an image say of the device.
+-- What the calls that read an image report of the device.
 use Rattle.std.specs.Prelude.{◌≡◌, ◌⊎◌, Result, IfErr}
 use Rattle.lfs_device.specs.declared.device.BlockDevice.{Ghosts}
 use Rattle.lfs_device.specs.declared.error.Error.{Error}
@@ -8,7 +8,7 @@ use Rattle.lfs_device.specs.Calls.{TellsFaults}
 abbrev pub IsMountError : Error → Type 0
 IsMountError e = (e ≡ Io) ⊎ (e ≡ Corrupt) ⊎ (e ≡ NoMemory)
 
--- `Io` comes with a fault of the device, and any other answer with none
+-- `Io` comes with a fault of the device, and any other result with none.
 pub record TellsErrors {D X : Type 0} (g : Ghosts D) (old new : D) (result : Result X Error) : Type 0 where
   pub errors : IfErr result IsMountError
   pub faults : TellsFaults g old new result

@@ -1,4 +1,4 @@
--- What a mount says of a device whose image may have its names in either order.
+-- What a mount in either order of names reports of the device.
 use Rattle.std.specs.Prelude.{◌≡◌, ◌≢◌, ◌<◌}
 use Rattle.lfs_device.specs.declared.device.BlockDevice.{Ghosts}
 use Rattle.lfs_device.specs.declared.error.Error.{Error}
@@ -8,8 +8,8 @@ use Rattle.lfs_model.specs.History.{OnlyReads, faults}
 use Rattle.lfs_model.specs.declared.order.NameOrder.{NameOrder}
 use Rattle.lfs_thread.specs.Kept.{disk_on}
 
--- The device comes back with an error: it was only read, and in each order of names it is the same disk. `Io` comes with
--- a fault of it, and any other error with none.
+-- The device comes back with an error. It was only read, and in each order of names it is the same disk. `Io` comes with a fault
+-- of the device, and any other error with none.
 pub record GivesDeviceBack {D : Type 0} (g : Ghosts D) (old back : D) (error : Error) : Type 0 where
   pub disk : (order : NameOrder) → ordered order (disk_on g back) ≡ ordered order (disk_on g old)
   pub reads : OnlyReads (g.blocks old) (g.history old) (g.history back)

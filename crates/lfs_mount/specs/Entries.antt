@@ -1,4 +1,4 @@
--- What stands in the slots of a pair, and what it adds to what is known of a directory.
+-- The entries in the slots of a pair, and what they add to what is known of a directory.
 use Rattle.std.specs.Prelude.{ℕ, ◌==◌, ◌&&◌, Bool, true, false, if◌then◌else◌, List, [], ◌∷◌, ◌++◌, length, map, Option, Some, None}
 use Rattle.std.specs.Option.{option_and_then, option_map}
 use Rattle.lfs_model.specs.declared.order.NameOrder.{NameOrder}
@@ -10,7 +10,7 @@ use Rattle.lfs_model.specs.Thread.{ThreadDirectory}
 use Rattle.lfs_thread.specs.Places.{place_of}
 use Rattle.lfs_mount.specs.Reaching.{Vertex}
 
--- what an entry of a directory stands for, without a file's bytes
+-- what an entry of a directory names, without a file's bytes
 pub data Stand : Type 0 where
   InSlot : Stand
   InList : (head size : ℕ) → Stand
@@ -21,14 +21,14 @@ stand_of (Inline bytes) = InSlot
 stand_of (Ctz head size) = InList head size
 stand_of (Branch to) = Below to
 
--- an entry by its name and what it stands for
+-- an entry: its name and what it names
 abbrev pub Entry : Type 0
 Entry = Name × Stand
 
 abbrev pub entry_of : Slot → Entry
 entry_of s = (s.name, stand_of s.struct)
 
--- a name's type and a struct that suit
+-- what an entry with this type of name and this struct names; none where the two don't suit
 abbrev pub stand_in : ℕ → ℕ × List ℕ → Option Stand
 stand_in kind part =
     if kind == file_name_type && part.0 == inline_struct_type then Some InSlot
@@ -36,7 +36,7 @@ stand_in kind part =
     else (if kind == directory_name_type && part.0 == directory_struct_type then (if length part.1 == 8 then Some (Below (pair_at part.1)) else None)
     else None))
 
--- what a slot of a log holds, where that may stand in a directory
+-- the entry that a slot of a log holds, where the slot may be in a directory
 abbrev pub entry_in : RawSlot → Option Entry
 entry_in s = option_and_then (λ name. option_and_then (λ struct.
     if is_name name.1 then option_map (λ stand. (name.1, stand)) (stand_in name.0 struct) else None) s.struct) s.name
@@ -57,12 +57,12 @@ with_stand firsts v InSlot = v
 with_stand firsts v (InList head size) = v
 with_stand firsts v (Below to) = with_branch v (place_of firsts to)
 
--- a name comes behind the last one, which is empty where there is none
+-- whether a name comes after the last one, which is empty where there is none
 abbrev pub comes_behind : NameOrder → Name → Name → Bool
 comes_behind order [] name = true
 comes_behind order (b ∷ last) name = is_less (name_cmp order (b ∷ last) name)
 
--- behind the last name so far
+-- what is known with one entry more
 abbrev pub with_entry : NameOrder → List (ℕ × ℕ) → Name × Vertex → Entry → Name × Vertex
 with_entry order firsts (last, v) (name, stand) = (name, with_stand firsts (record v { is_sound = v.is_sound && comes_behind order last name }) stand)
 
@@ -70,5 +70,6 @@ abbrev pub with_entries : NameOrder → List (ℕ × ℕ) → Name × Vertex →
 with_entries order firsts known [] = known
 with_entries order firsts known (e ∷ es) = with_entries order firsts (with_entry order firsts known e) es
 
+-- what is known before the first entry
 abbrev pub nothing_known : Name × Vertex
 nothing_known = ([], record { is_sound = true; branches = [] })

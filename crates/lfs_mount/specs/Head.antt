@@ -15,22 +15,22 @@ use Rattle.lfs_mount.specs.Checked.{HasHead}
 
 -- ---- slots
 
--- a name that is neither a file's nor a directory's is a superblock's
+-- whether a name is a superblock's: it is neither a file's nor a directory's
 abbrev pub names_superblock : Option (ℕ × List ℕ) → Bool
 names_superblock None = false
 names_superblock (Some name) = not (name.0 == file_name_type || name.0 == directory_name_type)
 
--- the bytes of a struct that stand in its entry
+-- the bytes of an inline struct
 abbrev pub inline_in : Option (ℕ × List ℕ) → Option (List ℕ)
 inline_in None = None
 inline_in (Some struct) = if struct.0 == inline_struct_type then Some struct.1 else None
 
--- the name is these bytes
+-- whether the name is these bytes
 abbrev pub is_called : List ℕ → Option (ℕ × List ℕ) → Bool
 is_called bytes None = false
 is_called bytes (Some name) = bytes_eq name.1 bytes
 
--- a superblock's struct of version 2.0, for so many blocks of this size
+-- whether these bytes are a superblock's struct of version 2.0, for `count` blocks of this size
 abbrev pub describes : ℕ → ℕ → List ℕ → Bool
 describes block_size count bytes =
     length bytes == 24 && ((superblock_at bytes).version == 0x00020000 && ((superblock_at bytes).block_size == block_size && (superblock_at bytes).block_count == count))
@@ -39,7 +39,7 @@ abbrev pub if_describes : ℕ → ℕ → Option (List ℕ) → Option (List ℕ
 if_describes block_size count None = None
 if_describes block_size count (Some bytes) = if describes block_size count bytes then Some bytes else None
 
--- the struct in the first slot, where that is the superblock of a device of so many blocks of this size
+-- the struct in the first slot, where that is the superblock of a device of `count` blocks of this size
 abbrev pub superblock_in : ℕ → ℕ → List RawSlot → Option (List ℕ)
 superblock_in block_size count [] = None
 superblock_in block_size count (s ∷ slots) =
@@ -56,37 +56,37 @@ repeats_in bytes (s ∷ slots) = if names_superblock s.name then if_same bytes (
 
 -- ---- blocks
 
--- the same of the slots to which a block's log comes
+-- the superblock's struct in the slots that a block's log comes to, and whether they repeat one
 abbrev pub superblock_of : ℕ → ℕ → List ℕ → Option (List ℕ)
 superblock_of block_size count block = option_and_then (λ c. superblock_in block_size count c.slots) (content_after_all no_content (log_entries block))
 
 abbrev pub repeats_of : List ℕ → List ℕ → Option Bool
 repeats_of bytes block = option_and_then (λ c. repeats_in bytes c.slots) (content_after_all no_content (log_entries block))
 
--- the block begins with the superblock, and that is its struct
+-- the block's log begins with the superblock's entry, and this is its struct
 pub record IsSuperblockOf (disk : Disk) (block : ℕ) (bytes : List ℕ) : Type 0 where
   pub begins : BeginsWith (Some (block_at disk block)) superblock_entry
   pub struct : superblock_of disk.block_size (block_count disk) (block_at disk block) ≡ Some bytes
 
 -- ---- pairs
 
--- at most one slot and a hard tail, by which the superblock's chain may go on behind the pair
+-- whether the superblock's chain may continue after the pair: it has at most one slot and a hard tail
 abbrev pub leads_on : Header → Bool
 leads_on h = (h.slot_count == 0 || h.slot_count == 1) && is_hard (option_map tail_seen h.tail)
 
--- the first pair that has a slot, where those in front of it have hard tails
+-- the number of the first pair that has a slot, where the pairs before it have hard tails
 abbrev pub first_filled : List Header → Option ℕ
 first_filled [] = None
 first_filled (h ∷ hs) = if h.slot_count == 0 then (if is_hard (option_map tail_seen h.tail) then option_map (λ k. suc k) (first_filled hs) else None) else Some 0
 
 -- ---- the thread
 
--- these headers are those of the disk's thread
+-- these are the headers of the disk's thread
 pub record HasHeaders (disk : Disk) (history : List Event) (headers : List Header) : Type 0 where
   pub each : AreHeaders disk history headers
   pub thread : IsThread (content_at disk) (block_count disk) (pairs_on disk headers)
 
--- so many of the superblock's pairs stand in front of the root's first one
+-- `count` pairs come before the root's first pair
 pub record IsHead (disk : Disk) (ps : List Pair) (count : ℕ) : Type 0 where
   pub chain : List Pair
   pub p : Pair

@@ -1,4 +1,4 @@
--- What headers say of the pairs of directories.
+-- What headers say of the directories' pairs.
 use Rattle.std.specs.Prelude.{ℕ, Bool, false, not, ◌==◌, ◌&&◌, if◌then◌else◌, List, [], ◌∷◌, Option, Some, None, ◌≡◌, nat_eq, true}
 use Rattle.std.specs.List.{IsDistinct}
 use Rattle.std.specs.Option.{option_map}
@@ -18,7 +18,7 @@ use Rattle.lfs_mount.specs.declared.pass.Member.{Member}
 abbrev pub continues : Header → Bool
 continues h = is_hard (option_map tail_seen h.tail)
 
--- the slot at that address that the global state says is moved away
+-- the id of the slot that a set move names in the pair at an address
 abbrev pub moved_at : Gstate → ℕ × ℕ → Option ℕ
 moved_at g at = if g.kind == 0x4ff && same_pair g.pair at then Some g.id else None
 
@@ -30,22 +30,22 @@ member_in g is_first h = record {
   moved = moved_at g (address_in h);
 }
 
--- the first one has the superblock
+-- what is known of these pairs, of which the first has the superblock
 abbrev pub members_in : Gstate → Bool → List Header → List Member
 members_in g is_first [] = []
 members_in g is_first (h ∷ hs) = member_in g is_first h ∷ members_in g false hs
 
--- where directories begin: at a pair that no hard tail leads to
+-- the addresses at which directories begin: those of pairs that no hard tail names
 abbrev pub begins_in : Bool → List Header → List (ℕ × ℕ)
 begins_in begins [] = []
 begins_in begins (h ∷ hs) = if begins then address_in h ∷ begins_in (not (continues h)) hs else begins_in (not (continues h)) hs
 
--- These headers are those of the directories' pairs in a thread that is known, and no two directories begin in one block.
+-- These are the headers of the directories' pairs in a thread that is known. No two directories begin in the same block.
 pub record AreDirectories (disk : Disk) (sets : BlockSets) (g : Gstate) (headers : List Header) : Type 0 where
   pub apart : IsDistinct nat_eq (blocks_at (begins_in true headers))
   pub known : HasKnownThread disk sets (begins_in true headers) (members_in g true headers) g.sync
 
--- that thread
+-- the thread with these headers
 abbrev pub IsThreadOf : Disk → BlockSets → Gstate → List Header → List Pair → Pair → List Pair → Type 0
 IsThreadOf disk sets g headers chain p rest = IsKnownThread disk sets (begins_in true headers) (members_in g true headers) g.sync chain p rest
 

@@ -1,4 +1,4 @@
--- In which orders of names something holds.
+-- The orders of names in which something holds.
 use Rattle.std.specs.Prelude.{Bool}
 use Rattle.lfs_model.specs.declared.order.NameOrder.{NameOrder}
 use Rattle.lfs_model.specs.declared.order.NameOrder.TheVariants.{LongerFirst, ShorterFirst}

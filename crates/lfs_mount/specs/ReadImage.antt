@@ -1,4 +1,4 @@
--- A thread that was read, with the orders of names in which its image is accepted.
+-- A thread that was read, and the orders of names in which its image is accepted.
 use Rattle.std.specs.Prelude.{◌≡◌, ◌≤◌, ◌<◌, ◌+◌, true, false, List}
 use Rattle.lfs_device.specs.Shown.{ordered}
 use Rattle.lfs_model.specs.Disk.{Disk}
@@ -12,17 +12,17 @@ use Rattle.lfs_mount.specs.Orders.{has_order}
 use Rattle.lfs_mount.specs.Reads.{mount_reads}
 use Rattle.lfs_mount.specs.declared.orders.Orders.{Orders}
 
--- the same thread, with its names in that order
+-- the same thread, with that order of names
 abbrev pub in_order : NameOrder → State → State
 in_order order t = record t { kept = record t.kept { disk = ordered order t.kept.disk } }
 
--- some reads were made since, and no more than the mount of the image takes
+-- at least one read was made since, and no more than a mount of the image takes
 pub record HasFewReads (disk : Disk) (history : List Event) (t : State) : Type 0 where
   pub called : reads history < reads t.kept.history
   pub few : reads t.kept.history ≤ reads history + mount_reads disk t.kept.pairs
 
--- The thread of a device that was only read, without a fault. Its image is accepted in these orders of names, by few reads, and in
--- another one none is.
+-- The thread of a device that was only read, without a fault. Its image is accepted in these orders of names, by few reads. In
+-- another order no image is accepted.
 pub record IsReadImage (disk : Disk) (history : List Event) (t : State) (orders : Orders) : Type 0 where
   pub works : t.failed ≡ false
   pub disk_is : t.kept.disk ≡ disk

@@ -12,32 +12,32 @@ use Rattle.lfs_mount.specs.Marking.{lists_in}
 use Rattle.lfs_mount.specs.Taken.{kept_of}
 use Rattle.lfs_mount.specs.declared.pass.Member.{Member}
 
--- one for each block of a list
+-- the reads of a list: one for each block
 abbrev pub list_reads : ℕ → ℕ × ℕ → ℕ
 list_reads block_size l = blocks_for block_size l.1
 
--- head and size of each list in a pair
+-- the head and the size of each list in a pair
 abbrev pub lists_at : Disk → Member → List (ℕ × ℕ)
 lists_at disk member = option_map_or lists_in (option_and_then (λ c. kept_of member c.slots) (content_after_all no_content (log_entries (block_at disk member.active)))) []
 
--- one for the pair, and those of its lists
+-- the reads of a pair: one, and those of its lists
 abbrev pub pair_reads : Disk → Member → ℕ
 pair_reads disk member = 1 + sum_by (list_reads disk.block_size) (lists_at disk member)
 
--- those of a file's list, where there is one
+-- the reads of a file's list, if it has one
 abbrev pub struct_reads : ℕ → Struct → ℕ
 struct_reads block_size (Ctz head size) = list_reads block_size (head, size)
 struct_reads block_size (Inline bytes) = 0
 struct_reads block_size (Branch to) = 0
 
--- those of all files' lists
+-- the reads of all files' lists
 abbrev pub file_reads : Disk → List Pair → ℕ
 file_reads disk ps = sum_by (λ s. struct_reads disk.block_size s.struct) (all_slots ps)
 
--- one for each pair, two more for the superblock, and those of all files' lists
+-- the reads of a check: one for each pair, two more for the superblock, and those of all files' lists
 abbrev pub check_reads : Disk → List Pair → ℕ
 check_reads disk ps = length ps + 2 + file_reads disk ps
 
--- two more for each pair, whose blocks are both read first
+-- the reads of a mount: both blocks of each pair, and those of the check
 abbrev pub mount_reads : Disk → List Pair → ℕ
 mount_reads disk ps = 2 * length ps + check_reads disk ps

@@ -1,4 +1,4 @@
-// The slots of a thread, and its directories.
+// The check of a thread's slots and directories.
 
 ghost use Rattle.std.specs.Prelude.{List, ◌≡◌, ◌≤◌, ◌+◌, ◌++◌, ◌∷◌, IfOk, OnOk, IsErrOf, sum_by};
 ghost use Rattle.lfs_device.specs.Calls.{ReadsOnly};
@@ -22,20 +22,21 @@ use lfs_device::{BlockDevice, Error};
 use lfs_thread::Places;
 use std::alloc::Global;
 
-// Checks what stands in the pairs of a thread whose headers are known, and marks the blocks of its
-// files in `map`, where those of the pairs are used and all others free.
+// Checks the slots of a thread whose headers are known, and marks the blocks of its files in `map`.
+// There the blocks of the pairs are used, and all others free.
 //
-// `members` are the pairs from the root's first one on, in the thread's order; `places` are the
-// directories; `sync` is the sync bit of the global state.
+// `members` are the pairs from the root's first one on, in the thread's order. `places` are the
+// addresses of the directories. `sync` is the sync bit of the global state.
 //
-// Where the superblock's pairs and the move that the global state names are right, Ok says in which
-// orders of names the image is accepted, and that the map has its blocks; in an order in which the
-// directories are no tree, or their names don't rise, it isn't. `Corrupt` says that it is accepted
-// in none: a slot holds no entry, a file's list isn't well formed, or a block is owned twice
-// (SPEC.md of littlefs, "Metadata types"; DESIGN.md, "CTZ skip-lists", "Directories" and "The move
-// problem").
-// `NoMemory` comes where memory isn't granted, `Io` where the device failed. After an error
-// nothing is known of the map.
+// The result holds where the superblock's pairs are right, and the move that the global state
+// names. Ok then says in which orders of names the image is accepted, and the map has its blocks.
+// In an order in which the directories are no tree, or their names don't rise, the image isn't
+// accepted.
+//
+// Errors: `Corrupt` where the image is accepted in no order. Then a slot holds no entry, a file's
+// list isn't well formed, or a block is owned twice (SPEC.md of littlefs, "Metadata types";
+// DESIGN.md, "CTZ skip-lists", "Directories" and "The move problem"). `NoMemory` where memory isn't
+// granted, and `Io` where the device failed. After an error nothing is known of the map.
 pub(crate) fn check_thread<D: BlockDevice>(
     alloc: Global,
     device: &mut D,

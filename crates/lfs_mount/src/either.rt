@@ -1,4 +1,4 @@
-// A device's image, in whichever order its directories have their names.
+// The mount of an image in whichever order its directories have their names.
 
 ghost use Rattle.std.specs.Prelude.{◌≡◌, false, IfErr, IfOk, List};
 ghost use Rattle.lfs_model.specs.Thread.{Pair as ThreadPair};
@@ -17,7 +17,7 @@ use lfs_device::{BlockDevice, Error, NameOrder, Ordered};
 use lfs_thread::{Parts, Thread};
 use std::alloc::Global;
 
-// The same thread, whose directories have their names in that order.
+// Makes the same thread over a device with that order of names.
 fn in_order<D: BlockDevice>(thread: Thread<D>, order: NameOrder) -> Thread<Ordered<D>>
     requires works { thread.failed ≡ false }
     ensures { result ≡ in_order order thread }
@@ -31,13 +31,13 @@ fn in_order<D: BlockDevice>(thread: Thread<D>, order: NameOrder) -> Thread<Order
     })
 }
 
-/// Reads the image of a device, as [`mount`](crate::mount) does and by no more reads, and finds the
-/// order in which its directories have their names. In littlefs's own code the longer name comes
-/// first where one is the beginning of the other (`lfs_dir_find_match`). Where both orders fit, it
-/// takes that one.
+/// Mounts the image of a device as [`mount`](crate::mount) does, and finds the order in which its
+/// directories have their names. In littlefs's own code the longer name comes first where one is
+/// the beginning of the other (`lfs_dir_find_match`). Where both orders fit, the call takes that
+/// one. It takes no more reads than [`mount`](crate::mount).
 ///
-/// `Corrupt` exactly where no image is accepted there in either order. `Io` where a read failed, and
-/// `NoMemory` where memory isn't granted. The device comes back with an error.
+/// Errors: `Corrupt` exactly where the image is accepted in neither order. `Io` where a read
+/// failed, and `NoMemory` where memory isn't granted. The device comes back with an error.
 pub fn mount_either<D: BlockDevice>(
     alloc: Global,
     device: D,

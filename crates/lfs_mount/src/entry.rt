@@ -1,4 +1,4 @@
-// What stands in a slot of an image.
+// The entry in a slot of a directory.
 
 ghost use Rattle.std.specs.Prelude.{◌≡◌, ◌+◌, ◌==◌, length, Some, None, if◌then◌else◌, drop};
 ghost use Rattle.std.specs.Option.{option_map};
@@ -10,18 +10,18 @@ ghost use Rattle.lfs_mount.specs.EntrySeen.{entry_seen, target_seen};
 use lfs_tag::kinds::{CTZ_STRUCT, DIRECTORY_NAME, DIRECTORY_STRUCT, FILE_NAME, INLINE_STRUCT};
 use lfs_tag::{Part, Slot, ctz_of, is_name, pair_of};
 
-// What an entry of a directory stands for.
+// What an entry of a directory names.
 #[derive(Clone, Copy, Drop)]
 pub(crate) enum Target {
-    // A file whose bytes stand in its slot.
+    // A file whose bytes are in its slot.
     Inline,
-    // A file of `size` bytes, which stand in a skip list whose last block is `head`.
+    // A file of `size` bytes in a skip list, whose last block is `head`.
     List { head: u32, size: u32 },
     // A directory, by the address of its first pair.
     Directory([u32; 2]),
 }
 
-// An entry of a directory.
+// An entry of a directory: its name and what it names.
 #[derive(Clone, Copy, Drop)]
 pub(crate) struct Entry<'a> {
     pub name: &'a [u8],
@@ -60,8 +60,9 @@ fn target_of(kind: u16, structure: &Part<'_>) -> Option<Target>
     }
 }
 
-// The entry in a slot of a directory, by the tables of types in SPEC.md of littlefs. None exactly
-// where the slot has no name that a directory may have, or no struct that suits the name's type.
+// Reads the entry in a slot of a directory (SPEC.md of littlefs, "Metadata types"). Returns None
+// exactly where the slot has no name that a directory may have, or no struct that suits the type of
+// its name.
 pub(crate) fn entry_of<'a>(slot: &Slot<'a>) -> Option<Entry<'a>>
     ensures { option_map entry_seen result ≡ entry_in (slot_seen slot.now) }
 {

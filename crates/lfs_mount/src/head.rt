@@ -1,4 +1,4 @@
-// The superblock's pairs, in front of the root's first one.
+// The superblock's pairs, which come before the root's first pair.
 
 ghost use Rattle.std.specs.Prelude.{ℕ, List, ◌≡◌, ◌↔◌, ◌⊎◌, ◌<◌, ◌≤◌, ◌+◌, length, IsTrue, IfOk, IfErr, IsErrOf, OnOk, None, Some, codes, map};
 ghost use Rattle.std.specs.Option.{option_map};
@@ -20,7 +20,7 @@ use std::alloc::Global;
 
 const MAGIC: &[u8] = b"littlefs";
 
-// Whether the first entry names the superblock.
+// Returns whether the log's first entry names the superblock.
 fn begins_with_superblock(log: &Log<'_>) -> bool
     ensures { IsTrue result ↔ BeginsWith (Some log.now) superblock_entry }
 {
@@ -30,7 +30,7 @@ fn begins_with_superblock(log: &Log<'_>) -> bool
     }
 }
 
-// Whether a superblock's struct is of this version and geometry.
+// Returns whether a superblock's struct has this version and the device's geometry.
 fn describes(geometry: &Geometry, bytes: &[u8]) -> bool
     ensures { result ≡ describes geometry.now.block_size geometry.now.block_count bytes.now }
 {
@@ -45,7 +45,8 @@ fn describes(geometry: &Geometry, bytes: &[u8]) -> bool
     }
 }
 
-// Whether a slot is a superblock's: a name that is neither a file's nor a directory's.
+// Returns whether a slot is a superblock's: it has a name that is neither a file's nor a
+// directory's.
 fn names_superblock(slot: &Slot<'_>) -> bool
     ensures { result ≡ names_superblock (slot_seen slot.now).name }
 {
@@ -64,7 +65,7 @@ fn is_called(slot: &Slot<'_>, bytes: &[u8]) -> bool
     }
 }
 
-// The bytes of a struct that stand in its entry.
+// Returns the bytes of an inline struct.
 fn inline_in<'a>(slot: &Slot<'a>) -> Option<&'a [u8]>
     ensures { option_map (λ b. b.now) result ≡ inline_in (slot_seen slot.now).struct }
 {
@@ -74,7 +75,8 @@ fn inline_in<'a>(slot: &Slot<'a>) -> Option<&'a [u8]>
     }
 }
 
-// The superblock's struct in the first slot.
+// Returns the superblock's struct in the first slot. Returns None where that slot is no superblock
+// of this geometry.
 fn superblock_in<'a>(geometry: &Geometry, slots: &[Slot<'a>]) -> Option<&'a [u8]>
     ensures { option_map (λ b. b.now) result ≡ superblock_in geometry.now.block_size geometry.now.block_count (map slot_seen slots.now) }
 {
@@ -90,7 +92,8 @@ fn superblock_in<'a>(geometry: &Geometry, slots: &[Slot<'a>]) -> Option<&'a [u8]
     }
 }
 
-// Whether the first slot is a superblock's. Corrupt exactly where it is one with another struct.
+// Returns whether the first slot is a superblock's. Corrupt exactly where it is one with another
+// struct than `bytes`.
 fn repeats_in(slots: &[Slot<'_>], bytes: &[u8]) -> Result<bool, Error>
     ensures ok { IfOk result (λ repeats. repeats_in bytes.now (map slot_seen slots.now) ≡ Some repeats) }
     ensures corrupt { IfErr result (λ e. (e ≡ Error.Corrupt) × (repeats_in bytes.now (map slot_seen slots.now) ≡ None)) }
@@ -107,8 +110,8 @@ fn repeats_in(slots: &[Slot<'_>], bytes: &[u8]) -> Result<bool, Error>
     }
 }
 
-// The superblock's struct in a block whose log begins with the superblock. Corrupt exactly where
-// there is none.
+// Returns the superblock's struct in a block whose log begins with the superblock. Corrupt exactly
+// where the block has none.
 fn read_superblock(alloc: Global, geometry: &Geometry, block: &[u8]) -> Result<Vec<u8>, Error>
     ensures begins { OnOk result (BeginsWith (Some block.now) superblock_entry) }
     ensures holds { IfOk result (λ bytes. superblock_of geometry.now.block_size geometry.now.block_count block.now ≡ Some bytes.items) }
@@ -126,8 +129,8 @@ fn read_superblock(alloc: Global, geometry: &Geometry, block: &[u8]) -> Result<V
     }
 }
 
-// Whether the first slot to which a block's log comes is a superblock's. Corrupt exactly where it
-// is one with another struct, or the log is malformed.
+// Returns whether the first slot that a block's log comes to is a superblock's. Corrupt exactly
+// where it is one with another struct than `bytes`, or where the log is malformed.
 fn repeats(alloc: Global, block: &[u8], bytes: &[u8]) -> Result<bool, Error>
     ensures ok { IfOk result (λ repeats. repeats_of bytes.now block.now ≡ Some repeats) }
     ensures corrupt { IsErrOf result Error.Corrupt → repeats_of bytes.now block.now ≡ None }
@@ -138,7 +141,8 @@ fn repeats(alloc: Global, block: &[u8], bytes: &[u8]) -> Result<bool, Error>
     repeats_in(&content.slots, bytes)
 }
 
-// The struct of the superblock that a block of the device has. Corrupt exactly where it has none.
+// Reads a block of the device, and returns the superblock's struct in it. Corrupt exactly where the
+// block has none.
 fn superblock_at<D: BlockDevice>(alloc: Global, dev: &mut D, block: u32) -> Result<Vec<u8>, Error>
     requires { block < (D.geometry dev.old).block_count }
     ensures found { IfOk result (λ bytes. IsSuperblockOf (disk_on D.BlockDevice dev.old) block bytes.items) }
@@ -153,8 +157,8 @@ fn superblock_at<D: BlockDevice>(alloc: Global, dev: &mut D, block: u32) -> Resu
     read_superblock(alloc, &geometry, &bytes)
 }
 
-// Whether a block's first slot is a superblock's. Corrupt exactly where it is one with another
-// struct, or the log has no content.
+// Reads a block of the device, and returns whether its first slot is a superblock's. Corrupt
+// exactly where it is one with another struct than `bytes`, or where the log has no content.
 fn repeats_at<D: BlockDevice>(
     alloc: Global,
     dev: &mut D,
@@ -173,15 +177,15 @@ fn repeats_at<D: BlockDevice>(
     repeats(alloc, &block, bytes)
 }
 
-// Whether a pair has at most one slot, and a hard tail.
+// Returns whether a pair has at most one slot, and a hard tail.
 fn leads_on(pair: &Pair) -> bool
     ensures { result ≡ leads_on pair.now }
 {
     (pair.slot_count == 0 || pair.slot_count == 1) && is_hard(pair.tail)
 }
 
-// The first pair that has a slot. Corrupt exactly where there is none, or one in front of it has no
-// hard tail.
+// Returns the number of the first pair that has a slot. Corrupt exactly where there is none, or
+// where a pair before it has no hard tail.
 fn first_filled(pairs: &[Pair]) -> Result<usize, Error>
     ensures ok { IfOk result (λ index. first_filled pairs.now ≡ Some index) }
     ensures below { IfOk result (λ index. index < length pairs.now) }
@@ -198,18 +202,22 @@ fn first_filled(pairs: &[Pair]) -> Result<usize, Error>
     Err(Error::Corrupt)
 }
 
-// How many pairs stand in front of the root's first pair, in the thread with these headers: the
-// superblock's chain, without its last pair. In the first pair that has a slot the log begins with
-// the superblock, and slot 0 keeps its name, with a struct of version 2.0 and of the device's
-// geometry (SPEC.md of littlefs, "0x0ff LFS_TYPE_SUPERBLOCK"). The chain goes on behind a pair with
-// a hard tail and no slot, or with the superblock alone, where the next pair that has a slot begins
-// with a superblock. All superblocks have the same struct, and the root begins at the last one.
+// Returns how many pairs come before the root's first pair in the thread with these headers. These
+// are the superblock's chain without its last pair (SPEC.md of littlefs, "0x0ff
+// LFS_TYPE_SUPERBLOCK").
 //
-// `Corrupt` where the superblock isn't so; no such image is accepted, in either order of names.
-// `Io` where a read failed, and `NoMemory` where there is no room for a block and its slots. Nothing
-// is written. Each pair of the chain is read at most once, and the one behind it at most once.
+// In the first pair that has a slot, the log begins with the superblock's entry. Slot 0 there has
+// the superblock's name, with a struct of version 2.0 and of the device's geometry. The chain
+// continues after a pair with a hard tail that has no slot, or the superblock alone. It does so
+// only where the next pair that has a slot begins with a superblock. All superblocks have the same
+// struct, and the root begins at the last one.
 //
-// That the headers are those of the device's thread, all and in order, is the caller's condition.
+// Errors: `Corrupt` where the superblock isn't so; no such image is accepted, in either order of
+// names. `Io` where a read failed, and `NoMemory` where memory for a block and its slots isn't
+// granted. Nothing is written. Each pair of the chain is read at most once, and so is the pair
+// after it.
+//
+// The caller's condition: the headers are all those of the device's thread, in its order.
 pub(crate) fn count_superblocks<D: BlockDevice>(
     alloc: Global,
     dev: &mut D,

@@ -1,4 +1,4 @@
-// What is known of a directory while its pairs are read.
+// What a mount learns of a directory while it reads its pairs.
 
 ghost use Rattle.std.specs.Prelude.{◌≡◌, ◌⊎◌, map, OnOk, IfErr, IsErrOf, Some, None};
 ghost use Rattle.lfs_model.specs.declared.order.NameOrder.{NameOrder};
@@ -16,14 +16,15 @@ use lfs_tag::{Slot, name_cmp};
 use lfs_thread::Places;
 use std::alloc::Global;
 
-// Whether a name comes behind the last one, which is empty where there is none.
+// Returns whether a name comes after the last one in an order of names. `last` is empty where there
+// is none.
 fn comes_behind(order: NameOrder, last: &[u8], name: &[u8]) -> bool
     ensures { result ≡ comes_behind order last.now name.now }
 {
     last.is_empty() || name_cmp(order, last, name).is_lt()
 }
 
-// The orders in which a name comes behind the last one.
+// Returns the orders in which a name comes after the last one.
 fn orders_behind(last: &[u8], name: &[u8]) -> Orders
     ensures { (order : NameOrder) → has_order order result ≡ comes_behind order last.now name.now }
 {
@@ -33,10 +34,10 @@ fn orders_behind(last: &[u8], name: &[u8]) -> Orders
     }
 }
 
-// What is known of a directory by the entries so far.
+// What is known of a directory by the entries that were read so far.
 #[derive(Drop)]
 pub(crate) struct Known {
-    // The name of the last entry. It is empty where there was none.
+    // The name of the last entry, or no bytes where there was none.
     last: Vec<u8>,
     directory: Directory,
 }
@@ -45,7 +46,7 @@ impl Known {
     ghost use Rattle.lfs_mount.specs.KnownSeen.{known_seen};
     ghost use Rattle.lfs_mount.specs.DirectorySeen.{vertex_of};
 
-    // Before the first entry of a directory.
+    // Makes what is known before the first entry of a directory, which is nothing.
     pub fn nothing(alloc: Global) -> Known
         ensures { (order : NameOrder) → known_seen order result ≡ nothing_known }
     {
@@ -68,7 +69,7 @@ impl Known {
         Ok(())
     }
 
-    // Takes one entry more.
+    // Adds one entry.
     fn add(&mut self, places: &Places, entry: &Entry<'_>) -> Result<(), Error>
         ensures ok { OnOk result ((order : NameOrder) → known_seen order self.new ≡ with_entry order places.now (known_seen order self.old) (entry_seen entry.now)) }
         ensures error { IfErr result (λ e. e ≡ Error.NoMemory) }
@@ -85,7 +86,8 @@ impl Known {
         Ok(())
     }
 
-    // The directory, at its end. Nothing is known then of the next one.
+    // Returns the directory, whose last entry was read. Nothing is known of the next directory
+    // then.
     pub fn end(&mut self, alloc: Global) -> Directory
         ensures directory { (order : NameOrder) → vertex_of order result ≡ (known_seen order self.old).1 }
         ensures nothing { (order : NameOrder) → known_seen order self.new ≡ nothing_known }
@@ -93,7 +95,7 @@ impl Known {
         std::mem::replace(self, Known::nothing(alloc)).directory
     }
 
-    // Takes the entries in these slots of a pair. Corrupt exactly where one of them holds none.
+    // Adds the entries in these slots of a pair. Corrupt exactly where one of the slots holds none.
     pub fn scan(&mut self, places: &Places, slots: &[Slot<'_>]) -> Result<(), Error>
         ensures ok { OnOk result ((order : NameOrder) → scanned order places.now (known_seen order self.old) (map slot_seen slots.now) ≡ Some (known_seen order self.new)) }
         ensures corrupt { IsErrOf result Error.Corrupt → (order : NameOrder) → scanned order places.now (known_seen order self.old) (map slot_seen slots.now) ≡ None }

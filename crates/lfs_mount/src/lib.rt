@@ -1,5 +1,5 @@
-//! Which images are accepted: one pass over the metadata pairs, whose headers are in memory, and for
-//! each order of names a search among the directories, which reads nothing.
+//! Decides which images are accepted. One pass goes over the metadata pairs, whose headers are in
+//! memory. Then a search among the directories, for each order of names, reads nothing.
 #![tactic(auto)]
 
 mod check;

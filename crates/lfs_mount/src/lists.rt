@@ -1,4 +1,4 @@
-// The lists of files, their blocks marked.
+// The lists of files, whose blocks are marked as used.
 
 ghost use Rattle.std.specs.Prelude.{◌≡◌, ◌⊎◌, ◌≤◌, ◌+◌, slice_set, sum_by, OnOk, IfErr, IsErrOf, IsTrue, ◌↔◌};
 ghost use Rattle.std.specs.Bool.{OnFalse, OnTrue};
@@ -20,7 +20,8 @@ use lfs_ctz::walk;
 use lfs_device::{BlockDevice, Error};
 use lfs_tag::Slot;
 
-// Makes a free block used, and says whether it was free. One that isn't there isn't.
+// Marks a free block as used, and returns whether it was free. A block that the map doesn't have
+// isn't free.
 fn mark(map: &mut BlockMap, block: u32) -> bool
     ensures free { IsTrue result ↔ IsFree map.old block }
     ensures marked { OnTrue result (map.new ≡ slice_set map.old block Used) }
@@ -29,9 +30,9 @@ fn mark(map: &mut BlockMap, block: u32) -> bool
     block < map.block_count() && map.mark(block)
 }
 
-// Marks the blocks of a file's list, which has its last block at `head` and holds `size` bytes.
-// Corrupt exactly where the list isn't well formed, or one of its blocks was marked before; some
-// may be marked then.
+// Marks the blocks of a file's list as used. The list has its last block at `head`, and `size`
+// bytes. Corrupt exactly where the list isn't well formed, or where one of its blocks was marked
+// before. Some of its blocks may be marked then.
 fn mark_list<D: BlockDevice>(
     device: &mut D,
     map: &mut BlockMap,
@@ -60,7 +61,7 @@ fn mark_list<D: BlockDevice>(
     if is_free { Ok(()) } else { Err(Error::Corrupt) }
 }
 
-// The head and the size of the list that an entry in this slot has.
+// Returns the head and the size of the list that a slot's entry has, if it has one.
 fn list_of(slot: &Slot<'_>) -> Option<(u32, u32)>
     ensures { result ≡ option_and_then list_of (entry_in (slot_seen slot.now)) }
 {
@@ -73,8 +74,8 @@ fn list_of(slot: &Slot<'_>) -> Option<(u32, u32)>
     }
 }
 
-// Marks the blocks of all lists of these slots. Corrupt exactly where one of the lists isn't well
-// formed, or a block was marked before; some may be marked then.
+// Marks the blocks of all lists of these slots as used. Corrupt exactly where one of the lists
+// isn't well formed, or where a block was marked before. Some blocks may be marked then.
 pub(crate) fn mark_lists<D: BlockDevice>(
     device: &mut D,
     map: &mut BlockMap,

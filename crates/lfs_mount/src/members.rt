@@ -1,4 +1,4 @@
-// What a mount knows of the pairs of directories from their headers.
+// What the headers say of the directories' pairs.
 
 ghost use Rattle.std.specs.Prelude.{◌≡◌, IfErr, IfOk, nat_eq, true};
 ghost use Rattle.std.specs.List.{IsDistinct};
@@ -15,7 +15,8 @@ use lfs_tag::{MoveState, is_hard};
 use lfs_thread::Places;
 use std::alloc::Global;
 
-// The slot at an address that the global state says is moved away.
+// Returns the id of the slot that a set move names in the pair at an address, if it names one
+// there.
 fn moved_at(state: &MoveState, at: [u32; 2]) -> Option<u32>
     ensures { result ≡ moved_at (move_seen state.now) (address_of at) }
 {
@@ -37,7 +38,7 @@ fn member_of(state: &MoveState, is_first: bool, pair: &Pair) -> Member
     }
 }
 
-// What is known of these pairs, from the root's first one on.
+// Returns what is known of these pairs, from the root's first one on.
 pub(crate) fn members_of(
     alloc: Global,
     state: &MoveState,
@@ -54,7 +55,7 @@ pub(crate) fn members_of(
     Ok(members)
 }
 
-// Where the directories of these pairs begin, from the root's first pair on.
+// Returns the addresses of the directories of these pairs, from the root's first pair on.
 pub(crate) fn places_of(alloc: Global, pairs: &[Pair]) -> Result<Places, Error>
     requires { IsDistinct nat_eq (blocks_at (begins_in true pairs.now)) }
     ensures places { IfOk result (λ places. places ≡ begins_in true pairs.now) }

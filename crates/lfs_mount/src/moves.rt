@@ -1,4 +1,4 @@
-// Whether the move of a thread's global state is right.
+// The check of the move that a thread's global state sets.
 
 ghost use Rattle.std.specs.Prelude.{◌≡◌, ◌++◌, ◌∷◌, IfErr, List, OnErr, OnOk, false, map, true};
 ghost use Rattle.lfs_model.specs.Disk.{Disk};
@@ -16,7 +16,7 @@ use lfs_pair::{Pair, is_same_pair};
 use lfs_tag::MoveState;
 use lfs_tag::kinds::DELETE;
 
-// Whether one of the pairs is at an address.
+// Returns whether one of the pairs is at an address.
 fn names_one(address: [u32; 2], pairs: &[Pair]) -> bool
     ensures { result ≡ names_one (address_of address) (map address_in pairs.now) }
 {
@@ -28,12 +28,12 @@ fn names_one(address: [u32; 2], pairs: &[Pair]) -> bool
     false
 }
 
-// Checks the move of a global state, as far as the headers of the directories' pairs tell: none is
-// set, with nothing in the other fields, or it is a delete of a slot in one of these pairs (SPEC.md
-// of littlefs, "0x7ff LFS_TYPE_MOVESTATE"). That the slot is an entry there is left to who reads the
-// slots; where one is, the move is right.
+// Checks the move of a global state, as far as the headers of the directories' pairs show it
+// (SPEC.md of littlefs, "0x7ff LFS_TYPE_MOVESTATE"). Either no move is set, and its fields are
+// zero. Or the move is a delete of a slot in one of these pairs. Whoever reads the slots checks
+// that the slot is an entry there. Where it is one, the move is right.
 //
-// `Corrupt` exactly where it is neither, and no accepted image has such a move.
+// Errors: `Corrupt` exactly where the move is neither. No accepted image has such a move.
 pub(crate) fn check_move(state: &MoveState, pairs: &[Pair]) -> Result<(), Error>
     ensures ok { OnOk result (names_known (move_seen state.now) (map address_in pairs.now) ≡ true) }
     ensures corrupt { IfErr result (λ e. (e ≡ Error.Corrupt) × (names_known (move_seen state.now) (map address_in pairs.now) ≡ false)) }
@@ -49,7 +49,7 @@ pub(crate) fn check_move(state: &MoveState, pairs: &[Pair]) -> Result<(), Error>
     }
 }
 
-// Whether no move is set, or one of a slot in one of these pairs.
+// Returns whether no move is set, or one of a slot in one of these pairs.
 fn is_known(state: &MoveState, pairs: &[Pair]) -> bool
     ensures { result ≡ names_known (move_seen state.now) (map address_in pairs.now) }
 {

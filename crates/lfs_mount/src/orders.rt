@@ -1,4 +1,4 @@
-// The orders of names.
+// Sets of orders of names.
 
 ghost use Rattle.std.specs.Prelude.{◌≡◌, ◌&&◌, false, IfSome, None, Some, true};
 ghost use Rattle.lfs_model.specs.declared.order.NameOrder.{NameOrder};
@@ -7,7 +7,7 @@ ghost use Rattle.lfs_mount.specs.Orders.{has_order};
 
 use lfs_device::NameOrder;
 
-// In which orders of names something holds.
+// The orders of names in which something holds.
 #[derive(Clone, Copy, Drop)]
 pub(crate) struct Orders {
     pub longer_first: bool,
@@ -15,7 +15,7 @@ pub(crate) struct Orders {
 }
 
 impl Orders {
-    // Both orders, or none.
+    // Returns both orders, or none.
     pub fn both_or_none(both: bool) -> Orders
         ensures { (order : NameOrder) → has_order order result ≡ both }
     {
@@ -34,7 +34,7 @@ impl Orders {
         }
     }
 
-    // The orders that are in both.
+    // Returns the orders that are in both sets.
     pub fn and(self, other: Orders) -> Orders
         ensures { (order : NameOrder) → has_order order result ≡ (has_order order self && has_order order other) }
     {
@@ -44,7 +44,8 @@ impl Orders {
         }
     }
 
-    // The order to take: the longer names first where both hold, as in littlefs's own code.
+    // Returns the order to take: the longer names first where both orders hold, as in littlefs's
+    // own code.
     pub fn first(self) -> Option<NameOrder>
         ensures holds { IfSome result (λ order. has_order order self ≡ true) }
         ensures longer { result ≡ Some ShorterFirst → has_order LongerFirst self ≡ false }

@@ -1,4 +1,4 @@
-// The pairs of directories, read and taken.
+// The pass over the pairs of the directories, each of which is read once.
 
 ghost use Rattle.std.specs.Prelude.{◌≡◌, ◌≤◌, ◌<◌, ◌+◌, All, IfOk, OnOk, IfErr, IsErrOf, None, Some, is_some, map, sum_by};
 ghost use Rattle.lfs_device.specs.Calls.{ReadsOnly};
@@ -28,20 +28,20 @@ use lfs_tag::{Content, Log, Slot};
 use lfs_thread::Places;
 use std::alloc::Global;
 
-// What is known of a directory's pair before its slots are looked at.
+// What is known of a directory's pair before its slots are read.
 #[derive(Clone, Copy, Drop)]
 pub(crate) struct Member {
-    // The block of the two that holds.
+    // The pair's active block.
     pub active: u32,
-    // The tail is hard: the next pair continues the directory.
+    // Whether the tail is hard: then the next pair continues the directory.
     pub is_hard: bool,
-    // Slot 0 is the superblock, as in the root's first pair.
+    // Whether slot 0 is the superblock, as in the root's first pair.
     pub has_superblock: bool,
-    // The id of the slot that the global state says is moved away.
+    // The id of the slot that a set move names, if it names one of this pair.
     pub moved: Option<u32>,
 }
 
-// Takes away the slot that is moved away. Corrupt exactly where it is no entry.
+// Removes the slot that a set move names. Corrupt exactly where it is no entry.
 fn take_moved(slots: &mut Vec<Slot<'_>>, moved: Option<u32>) -> Result<(), Error>
     ensures ok { OnOk result (unmoved_of moved (map slot_seen slots.old.items) ≡ Some (map slot_seen slots.new.items)) }
     ensures corrupt { IfErr result (λ e. (e ≡ Error.Corrupt) × (unmoved_of moved (map slot_seen slots.old.items) ≡ None)) }
@@ -63,7 +63,7 @@ fn is_entry(slot: &Slot<'_>) -> bool
     entry_of(slot).is_some()
 }
 
-// Takes away the superblock. Corrupt exactly where there is no slot.
+// Removes the superblock's slot. Corrupt exactly where there is no slot.
 fn take_superblock(slots: &mut Vec<Slot<'_>>, has_superblock: bool) -> Result<(), Error>
     ensures ok { OnOk result (behind_superblock has_superblock (map slot_seen slots.old.items) ≡ Some (map slot_seen slots.new.items)) }
     ensures corrupt { IfErr result (λ e. (e ≡ Error.Corrupt) × (behind_superblock has_superblock (map slot_seen slots.old.items) ≡ None)) }
@@ -78,9 +78,10 @@ fn take_superblock(slots: &mut Vec<Slot<'_>>, has_superblock: bool) -> Result<()
     Ok(())
 }
 
-// Takes the entries of a pair of a directory by its active block, in each order of names, and marks
-// the blocks of its files. Corrupt exactly where its log is malformed, a slot holds no entry, a list isn't well formed
-// or a block was marked before.
+// Reads a pair of a directory by its active block. Its entries are added to what is known of the
+// directory, in each order of names, and the blocks of its files are marked. Corrupt exactly where
+// the pair's log is malformed, a slot holds no entry, a list isn't well formed, or a block was
+// marked before.
 fn take_pair<D: BlockDevice>(
     alloc: Global,
     device: &mut D,
@@ -106,8 +107,8 @@ fn take_pair<D: BlockDevice>(
     Ok(())
 }
 
-// Takes the pairs of all directories, in the thread's order, in each order of names. Corrupt exactly where one of them can't
-// be taken.
+// Reads the pairs of all directories, in the thread's order, and returns what is known of each
+// directory in each order of names. Corrupt exactly where one of the pairs can't be taken.
 pub(crate) fn take_pairs<D: BlockDevice>(
     alloc: Global,
     device: &mut D,

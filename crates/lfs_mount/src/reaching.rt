@@ -1,4 +1,4 @@
-// Which directories are reached from the root.
+// The search for the directories that a path from the root leads to.
 
 ghost use Rattle.std.specs.Prelude.{List, ◌≡◌, ◌↔◌, ◌≤◌, ◌<◌, ◌^◌, ◌++◌, ◌⊎◌, ℕ, true, All, OnOk, IfOk, IfErr, IsErrOf, length, nat_eq};
 ghost use Rattle.std.specs.List.{IsDistinct};
@@ -16,13 +16,14 @@ use std::alloc::Global;
 // What is known of a directory by itself.
 #[derive(Drop)]
 pub(crate) struct Directory {
-    // The orders in which it is sound: its names rise, and each directory in it is one of the thread.
+    // The orders of names in which the directory is sound: its names rise, and each directory in it
+    // is one of the thread's.
     pub sound_in: Orders,
-    // The places of those, in the order of their names.
+    // The places of the directories in it, in the order of their names.
     pub branches: Vec<u32>,
 }
 
-// Finds each of these. Corrupt where one was found before.
+// Marks each of these directories as found. Corrupt where one was found before.
 fn find(is_found: &mut Vec<bool>, found: &mut Vec<u32>, branches: &[u32]) -> Result<(), Error>
     requires marked { IsMarked is_found.old.items found.old.items }
     requires within { All (λ b. b < length is_found.old.items) branches.now }
@@ -41,9 +42,9 @@ fn find(is_found: &mut Vec<bool>, found: &mut Vec<u32>, branches: &[u32]) -> Res
     Ok(())
 }
 
-// Which directories are reached from the root, which is the first. Corrupt where one that is
-// reached isn't sound in that order of names or is reached twice. It looks at each directory and at
-// each branch once.
+// Returns which directories are reached from the root, which is the first. Corrupt where a
+// directory that is reached isn't sound in that order of names, or is reached twice. The search
+// looks at each directory and at each branch once.
 fn reached(alloc: Global, directories: &[Directory], order: NameOrder) -> Result<Vec<bool>, Error>
     requires some { 0 < length directories.now }
     requires within { All (λ d. All (λ b. b < length directories.now) d.branches.items) directories.now }
@@ -67,9 +68,9 @@ fn reached(alloc: Global, directories: &[Directory], order: NameOrder) -> Result
     Ok(is_found)
 }
 
-// Checks a thread's directories in an order of names by what is known of each: those reached from
-// the root, the first, are sound, and none is reached twice; all are reached, unless the sync bit is
-// set. Corrupt exactly where that isn't so.
+// Checks the directories of a thread in an order of names. Those that are reached from the root,
+// which is the first, are sound, and none is reached twice. Unless the sync bit is set, all are
+// reached. Corrupt exactly where that isn't so.
 fn check_reached(
     alloc: Global,
     directories: &[Directory],
@@ -89,7 +90,7 @@ fn check_reached(
     Ok(())
 }
 
-// Whether a thread's directories are right in an order of names.
+// Returns whether the directories of a thread are right in an order of names.
 fn are_right(
     alloc: Global,
     directories: &[Directory],
@@ -108,7 +109,7 @@ fn are_right(
     }
 }
 
-// The orders of names in which a thread's directories are right, by what is known of each.
+// Returns the orders of names in which the directories of a thread are right.
 pub(crate) fn orders_of(
     alloc: Global,
     directories: &[Directory],

@@ -1,4 +1,4 @@
--- What an operation of several steps leaves with what it held.
+-- Which blocks an operation of several steps changes.
 use Rattle.std.specs.Prelude.{Contains, ℕ, ◌⊎◌, ◌<◌, List, length}
 use Rattle.std.specs.List.{AllByRecursion}
 use Rattle.lfs_model.specs.BlockSets.{IsFree}
@@ -14,7 +14,7 @@ pub record IsAltered (old new : Kept) (b : ℕ) : Type 0 where
   pub own : Contains (two_of (pair_in old index).at) b
   pub alters : Alters old index new
 
--- Only these blocks changed, blocks of pairs that don't stay with what they held, and blocks that were free.
+-- No block changed but these, blocks of pairs that don't stay with what they held, and blocks that were free.
 pub record AltersBut (old : Kept) (bs : List ℕ) (new : Kept) : Type 0 where
   pub blocks : List ℕ
   pub each : AllByRecursion (λ b. Contains bs b ⊎ (IsAltered old new b ⊎ IsFree old.map b)) blocks

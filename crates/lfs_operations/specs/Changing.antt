@@ -1,4 +1,4 @@
--- What comes of a pair that is changed, or split where what the changes make doesn't fit.
+-- A pair that is changed, or split where what the changes make doesn't fit.
 use Rattle.std.specs.Prelude.{Contains, ℕ, ◌≡◌, ◌≢◌, ◌⊎◌, ◌<◌, Bool, true, false, List, ◌∷◌, ◌++◌, Some, slice_set, Result, Ok, Err, IfErr, IsErrOf, ◌≤◌, length}
 use Rattle.std.specs.List.{AllByRecursion}
 use Rattle.lfs_device.specs.declared.error.Error.{Error}
@@ -29,19 +29,19 @@ pub record AreTwoFree (sets : BlockSets) (fresh : ℕ × ℕ) : Type 0 where
 abbrev pub HasTwoFree : BlockSets → Type 0
 HasTwoFree sets = (fresh : ℕ × ℕ) × AreTwoFree sets fresh
 
--- they are in flight now
+-- the map with these two blocks in flight
 abbrev pub flying : BlockSets → ℕ × ℕ → BlockSets
 flying sets fresh = slice_set (slice_set sets fresh.0 InFlight) fresh.1 InFlight
 
--- ---- what an operation tells
+-- ---- what an operation reports
 
--- the thread has failed then: it is to be read anew
+-- whether the thread has failed after this result, so that it is to be read anew
 abbrev pub has_failed : {X : Type 0} → Result X Error → Bool
 has_failed (Ok x) = false
 has_failed (Err NoSpace) = false
 has_failed (Err _) = true
 
--- `Io` comes with a fault of the device, and any other answer with none. At `NoMemory` nothing was written. At `NoSpace`, which
+-- `Io` comes with a fault of the device, and any other result with none. At `NoMemory` nothing was written. At `NoSpace`, which
 -- comes where fewer than two blocks are free, everything is as it was.
 pub record TellsSpace {X : Type 0} (old new : Kept) (result : Result X Error) : Type 0 where
   pub errors : IfErr result (λ e. (e ≡ Io) ⊎ ((e ≡ NoMemory) ⊎ (e ≡ NoSpace)))
@@ -51,35 +51,36 @@ pub record TellsSpace {X : Type 0} (old new : Kept) (result : Result X Error) : 
   pub unchanged : result ≡ Err NoSpace → IsOnlyRead old new
   pub no_space : result ≡ Err NoSpace → HasTwoFree old.map → ⊥
 
--- Only blocks of the pair changed, and at most two blocks that were free.
+-- No block changed but the pair's, and at most two that were free.
 pub record WritesIn (old : Kept) (index : ℕ) (new : Kept) : Type 0 where
   pub fresh : List ℕ
   pub few : length fresh ≤ 2
   pub free : AllByRecursion (IsFree old.map) fresh
   pub writes : Writes ((pair_in old index).at.0 ∷ (pair_in old index).at.1 ∷ fresh) old new
 
--- Only blocks of pairs changed, and at most two blocks that were free.
+-- No block changed but those of pairs, and at most two that were free.
 pub record WritesInPairs (old new : Kept) : Type 0 where
   pub fresh : List ℕ
   pub few : length fresh ≤ 2
   pub free : AllByRecursion (IsFree old.map) fresh
   pub writes : Writes (blocks_of old.pairs ++ fresh) old new
 
--- The same, and no other block comes to the pairs.
+-- No block changed but those of pairs, and at most two that were free. Those two are the only blocks that pairs may have beside
+-- their old ones.
 pub record WritesWithin (old new : Kept) : Type 0 where
   pub written : WritesInPairs old new
   pub within : (b : ℕ) → Contains (blocks_of new.pairs) b → Contains (blocks_of old.pairs ++ written.fresh) b
 
 -- ---- a pair is changed or split
 
--- there is such a pair, and the changes make something of it that can be cut in two and whose tail names the same pair
+-- There is a pair at the index. What the changes make of it can be cut in two, and has a tail that names the same pair as before.
 pub record CanPut (t : Kept) (index : ℕ) (changes : List Change) : Type 0 where
   pub can : CanChange t index changes
   pub raw : RawContent
   pub made : made_at t.disk (pair_in t index).at changes ≡ Some raw
   pub cut : CanBeCut t.disk.block_size t.disk.page raw.slots
 
--- the pair and a fresh one, in two blocks that were free, have the two parts, and everything else is as it was
+-- The pair and a fresh one, in two blocks that were free, have the two parts. Everything else is as it was.
 pub record IsCutIn (old : Kept) (index : ℕ) (fresh : ℕ × ℕ) (changes : List Change) (new : Kept) : Type 0 where
   pub free : AreTwoFree old.map fresh
   pub content : Content
@@ -103,19 +104,20 @@ IsTooLarge t index changes = (content : Content) × ((made_in_thread t index cha
 abbrev pub IsPut : Kept → ℕ → List Change → Kept → Type 0
 IsPut old index changes new = IsChanged old index changes new ⊎ (IsTooLarge old index changes × IsCut old index changes new)
 
--- what a stop leaves
+-- what a stop leaves of a split, and of either
 abbrev pub IsLeftByCut : Kept → ℕ → List Change → Blocks → Type 0
 IsLeftByCut old index changes left = (fresh : ℕ × ℕ) × (AreTwoFree old.map fresh × IsLeftBySplit old index fresh changes left)
 
 abbrev pub IsLeftByPut : Kept → ℕ → List Change → Blocks → Type 0
 IsLeftByPut old index changes left = IsLeft old index changes left ⊎ (IsTooLarge old index changes × IsLeftByCut old index changes left)
 
--- what a step of an operation tells, and whether the thread has failed by it
+-- What a step of an operation reports, and whether the thread has failed after it.
 pub record Tells {X : Type 0} (old new : State) (result : Result X Error) : Type 0 where
   pub failed : new.failed ≡ has_failed result
   pub tells : TellsSpace old.kept new.kept result
 
--- The same, where the pair is split only if it has to be: `NoSpace` comes only where what the changes make doesn't fit it.
+-- The same of a step that splits the pair only if it has to: `NoSpace` comes only where what the changes make doesn't fit the
+-- pair.
 pub record TellsPut {X : Type 0} (old new : State) (index : ℕ) (changes : List Change) (result : Result X Error) : Type 0 where
   pub tells : Tells old new result
   pub too_large : result ≡ Err NoSpace → IsTooLarge old.kept index changes

@@ -1,4 +1,4 @@
--- An empty file that comes into a directory.
+-- An empty file that is created in a directory.
 use Rattle.std.specs.Prelude.{ℕ, ◌≡◌, true, List, [], ◌∷◌, ◌++◌}
 use Rattle.lfs_model.specs.TreeEdits.{added}
 use Rattle.lfs_model.specs.Changes.{Change, Create, PutStruct}
@@ -21,7 +21,7 @@ use Rattle.lfs_operations.specs.Ready.{HasBecome, IsLoggedAt, IsReady}
 abbrev pub file_changes : ℕ → Name → List Change
 file_changes id name = Create id file_name_type name ∷ PutStruct id inline_struct_type [] ∷ []
 
--- The image may be changed, and the name belongs at the id of the pair, in the directory at a path; it is one that may be written.
+-- The image may be changed. The name belongs at the id of the pair, in the directory at a path, and it may be written.
 pub record CanCreate (t : Kept) (pair id : ℕ) (name : Name) : Type 0 where
   pub ready : IsReady t
   pub path : Path
@@ -38,7 +38,7 @@ pub record CanCreate (t : Kept) (pair id : ℕ) (name : Name) : Type 0 where
 abbrev pub with_file : Kept → Path → Name → Tree
 with_file t path name = added (path ++ name ∷ []) (FileNode [] []) (tree_in t.disk t.pairs)
 
--- The tree has the file, and its slot stands where it should: so an open that creates it is completed.
+-- The tree has the file, and its slot is where the layout wants it. So an open that creates the file is completed.
 pub record IsCreated (old new : Kept) (path : Path) (name : Name) : Type 0 where
   pub now : HasBecome old new (with_file old path name)
   pub completed : (s : Session) (given : List ℕ) (flags : Flags) → s.tree ≡ tree_in old.disk old.pairs → as_path given ≡ path ++ name ∷ []

@@ -1,4 +1,4 @@
--- An entry whose attributes change.
+-- Attributes of an entry, set and removed.
 use Rattle.std.specs.Prelude.{ℕ, ◌≡◌, ◌≤◌, length, List, [], ◌∷◌, ◌++◌, Some}
 use Rattle.lfs_model.specs.TreeEdits.{attributes_of, change_at, with_attributes}
 use Rattle.lfs_model.specs.Content.{put_attribute, without_attribute}
@@ -17,7 +17,7 @@ use Rattle.lfs_thread.specs.Kept.{Kept}
 use Rattle.lfs_thread.specs.Steps.{pair_in}
 use Rattle.lfs_operations.specs.Ready.{HasBecome, IsLoggedAt, IsReady}
 
--- The image may be changed, and an entry stands at the id of the pair: the one of that name in the directory at a path.
+-- The image may be changed, and an entry is at the id of the pair: the one of that name in the directory at a path.
 pub record CanEdit (t : Kept) (pair id : ℕ) : Type 0 where
   pub ready : IsReady t
   pub path : Path
@@ -32,7 +32,7 @@ pub record CanEdit (t : Kept) (pair id : ℕ) : Type 0 where
 abbrev pub slot_at : {t : Kept} {pair id : ℕ} → CanEdit t pair id → Slot
 slot_at can = can.stands.stands.slot
 
--- the attribute has at most 1,022 bytes, and the entry's still fit it when it has that one too
+-- the attribute has at most 1,022 bytes, and the entry may have it beside its other ones
 pub record CanSetAttribute (t : Kept) (pair id kind : ℕ) (bytes : List ℕ) : Type 0 where
   pub can : CanEdit t pair id
   pub short : length bytes ≤ 1022
@@ -42,7 +42,8 @@ pub record CanSetAttribute (t : Kept) (pair id kind : ℕ) (bytes : List ℕ) : 
 abbrev pub with_attributes_at : Kept → Path → Name → (Attributes → Attributes) → Tree
 with_attributes_at t path name f = change_at (path ++ name ∷ []) (λ n. with_attributes (f (attributes_of (Some n))) n) (tree_in t.disk t.pairs)
 
--- The tree has the entry with those attributes, and its slot stands where it should: so that operation on its path is completed.
+-- The tree has the entry with those attributes, and its slot is where the layout wants it. So that operation on its path is
+-- completed.
 pub record IsEdited (old new : Kept) (path : Path) (name : Name) (f : Attributes → Attributes) (op : List ℕ → Operation) : Type 0 where
   pub now : HasBecome old new (with_attributes_at old path name f)
   pub completed : (s : Session) (given : List ℕ) → s.tree ≡ tree_in old.disk old.pairs → as_path given ≡ path ++ name ∷ []

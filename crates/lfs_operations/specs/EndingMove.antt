@@ -19,11 +19,11 @@ use Rattle.lfs_operations.specs.Dropping.{SameInFlight}
 use Rattle.lfs_operations.specs.Ready.{KeepsRoot}
 use Rattle.lfs_operations.specs.Sharing.{share_of, goes_on_at, CanSetState}
 
--- the slot at the id goes, and the share changes
+-- the slot at the id is removed, and the share changes
 abbrev pub taking : Kept → ℕ → ℕ → Gstate → List Change
 taking t index id g = Delete id ∷ PutMove (share_of t index g) ∷ []
 
--- there is such a slot
+-- there is a pair of that number with a slot of that id
 pub record CanTakeSlot (t : Kept) (index id : ℕ) (g : Gstate) : Type 0 where
   pub can : CanSetState t index g
   pub below : id < length (pair_in t index).content.slots
@@ -32,7 +32,7 @@ pub record CanTakeSlot (t : Kept) (index id : ℕ) (g : Gstate) : Type 0 where
 abbrev pub unset : Gstate → Gstate
 unset g = record no_gstate { sync = g.sync }
 
--- a move is set, and names that slot of the pair at the index
+-- a move is set, and names a slot of the pair at the index
 pub record IsMovedAt (t : Kept) (index : ℕ) : Type 0 where
   pub below : index < length t.pairs
   pub kind : (gstate_of t.pairs).kind ≡ set_move
@@ -44,7 +44,7 @@ pub record IsMovedAt (t : Kept) (index : ℕ) : Type 0 where
   pub number : length left ≡ (gstate_of t.pairs).id
   pub other : is_superblock slot ≡ false
 
--- it has no other slot, and isn't the first of its directory
+-- the pair has no other slot, and isn't the first of its directory
 abbrev pub is_alone_at : Kept → ℕ → Bool
 is_alone_at t index = nat_lt 0 index && (length (pair_in t index).content.slots == 1 && goes_on_at t (index - 1))
 
@@ -55,12 +55,12 @@ pub record CanEndMove (t : Kept) : Type 0 where
   pub used : AreUsed t.map (used_blocks t.disk t.pairs)
   pub size : length t.map ≡ block_count t.disk
 
--- Where the slots of the new image stand after a recovery, those of the old one stand after one.
+-- What a recovery may make of the new image's slots, a recovery of the old image may make, too.
 abbrev pub RecoversTo : Kept → Kept → Type 0
 RecoversTo old new = (s : Session) (disk : Disk) (qs : List Pair) → IsLaidOut new.disk new.pairs s ops.Recover disk qs → IsLaidOut old.disk old.pairs s ops.Recover disk qs
 
--- No move is set, and the image shows the same tree; so pairs may be dropped then. The root directory begins where it did. The map
--- knows each of its blocks, of which none came.
+-- No move is set, and the image shows the same tree, so pairs may be dropped now. The root directory begins where it did. The map
+-- knows each of the image's blocks, and the image has no new ones.
 pub record HasEndedMove (old new : Kept) : Type 0 where
   pub taken : IsTaken old.disk old.pairs new.disk new.pairs (λ t. t) (λ d. d)
   pub none : HasNoMove (gstate_of new.pairs)

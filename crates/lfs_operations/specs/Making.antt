@@ -1,4 +1,4 @@
--- A directory that comes into another one.
+-- An empty directory that is made in another one.
 use Rattle.std.specs.Prelude.{ℕ, ◌≡◌, ◌<◌, ◌≤◌, ◌+◌, ◌⊎◌, ◌++◌, true, false, List, [], ◌∷◌, length, drop, Some, Result, is_err, IfErr, IsErrOf}
 use Rattle.std.specs.List.{AllByRecursion}
 use Rattle.lfs_device.specs.declared.error.Error.{Error}
@@ -27,7 +27,7 @@ use Rattle.lfs_operations.specs.Ready.{HasBecome, IsReady}
 
 -- ---- the last pair
 
--- hard tails lead from the pair of the first number to that of the second one, and none leads on
+-- hard tails lead from the pair of the first number to that of the second, whose own tail isn't hard
 pub record IsLastFrom (ps : List Pair) (index last : ℕ) : Type 0 where
   pub below : last < length ps
   pub is : last + 1 ≡ index + run_length (drop index ps)
@@ -38,8 +38,8 @@ pub record IsLastFrom (ps : List Pair) (index last : ℕ) : Type 0 where
 abbrev pub HasRoomFor : ℕ → BlockSets → Type 0
 HasRoomFor n sets = used_count sets + in_flight_count sets + n ≤ length sets
 
--- The image may be changed, and the name belongs at the id of the pair, in the directory at a path; it is one that may be
--- written. Four blocks are free: two for the directory, and two for a pair that is split.
+-- The image may be changed. The name belongs at the id of the pair, in the directory at a path, and it may be written. Four
+-- blocks are free: two for the directory, and two for a pair that is split.
 pub record CanMake (t : Kept) (pair id : ℕ) (name : Name) : Type 0 where
   pub ready : IsReady t
   pub path : Path
@@ -54,11 +54,11 @@ pub record CanMake (t : Kept) (pair id : ℕ) (name : Name) : Type 0 where
 
 -- ---- the two steps
 
--- the last pair's tail names the fresh one, and the sync bit is turned
+-- the last pair's tail names the fresh pair, and the sync bit is turned
 abbrev pub threading : Kept → ℕ → ℕ × ℕ → List Change
 threading t last fresh = PutTail false (Some fresh) ∷ PutMove (turned (pair_in t last).content.move) ∷ []
 
--- the entry comes with a struct of these bytes, and the sync bit is turned
+-- the entry is put in with a struct of these bytes, and the sync bit is turned
 abbrev pub entering : Kept → ℕ → ℕ → Name → List ℕ → List Change
 entering t pair id name branch =
     Create id directory_name_type name ∷ PutStruct id directory_struct_type branch ∷ PutMove (turned (pair_in t pair).content.move) ∷ []
@@ -66,35 +66,35 @@ entering t pair id name branch =
 abbrev pub naming : Kept → ℕ → ℕ → Name → ℕ × ℕ → List Change
 naming t pair id name to = entering t pair id name (pair_bytes to)
 
--- what the first one makes fits the pair
+-- what the first commit makes fits the pair
 abbrev pub FitsJoined : Kept → ℕ → ℕ × ℕ → Type 0
 FitsJoined t last fresh = (content : Content) → made_in_thread t last (threading t last fresh) ≡ Some content → FitsPair t.disk.block_size t.disk.page content
 
--- ---- what comes of it
+-- ---- what the operation leaves
 
 -- the tree with the directory
 abbrev pub with_directory : Kept → Path → Name → Tree
 with_directory t path name = added (path ++ name ∷ []) (DirectoryNode [] []) (tree_in t.disk t.pairs)
 
--- The tree has the directory, and its slot and its pair stand where they should: so a mkdir of its path is completed.
+-- The tree has the directory, and its slot and its pair are where the layout wants them. So a mkdir of its path is completed.
 pub record IsMade (old new : Kept) (path : Path) (name : Name) : Type 0 where
   pub now : HasBecome old new (with_directory old path name)
   pub completed : (s : Session) (given : List ℕ) → s.tree ≡ tree_in old.disk old.pairs → as_path given ≡ path ++ name ∷ []
       → IsCompleted old.disk old.pairs s (ops.Mkdir given) new.disk new.pairs
 
--- Neither the pair nor the directory's last one stays with what it held.
+-- Neither the pair nor the directory's last pair stays with what it held.
 pub record AltersUpTo (old : Kept) (pair : ℕ) (new : Kept) : Type 0 where
   pub entry : Alters old pair new
   pub end : (last : ℕ) → IsLastFrom old.pairs pair last → Alters old last new
 
--- `Io` comes with a fault of the device, and any other answer with none. The thread has failed at an error.
+-- `Io` comes with a fault of the device, and any other result with none. After an error the thread has failed.
 pub record TellsOfSteps {X : Type 0} (old new : State) (result : Result X Error) : Type 0 where
   pub failed : new.failed ≡ is_err result
   pub errors : IfErr result (λ e. (e ≡ Io) ⊎ (e ≡ NoMemory))
   pub fault : IsErrOf result Io → faults old.kept.history < faults new.kept.history
   pub no_fault : ¬ IsErrOf result Io → faults new.kept.history ≡ faults old.kept.history
 
--- Only blocks of the pair and of the directory's last one changed, and at most four blocks that were free.
+-- No block changed but those of the pair and of the directory's last pair, and at most four that were free.
 pub record WritesUpTo (old : Kept) (pair : ℕ) (new : Kept) : Type 0 where
   pub last : ℕ
   pub is_last : IsLastFrom old.pairs pair last

@@ -1,4 +1,4 @@
--- A set move ends: the slot that it hides goes from its pair, or with it.
+-- A set move ends: the slot that it names is removed from its pair, or dropped with the pair.
 use Rattle.std.specs.Prelude.{ℕ, ◌≡◌, ◌≤◌, ◌<◌, ◌-◌, ◌+◌, if◌then◌else◌, Bool, true, false, List, [], ◌∷◌, length, take}
 use Rattle.std.specs.List.{remove}
 use Rattle.lfs_model.specs.BlockSets.{BlockSets}
@@ -17,30 +17,30 @@ use Rattle.lfs_thread.specs.Device.{two_of}
 use Rattle.lfs_thread.specs.Steps.{HasShape, pair_in, with_pair, without_pair}
 use Rattle.lfs_operations.specs.Ready.{IsLoggedAt}
 
--- the slot at an id of a pair is hidden, and the sync bit is set or not
+-- a move that names the slot at an id of a pair, with the sync bit set or not
 abbrev pub move_of : Bool → ℕ × ℕ → ℕ → Gstate
 move_of sync at id = record { sync = sync; kind = set_move; id = id; pair = at }
 
--- all but the sync bit, and the sync bit alone
+-- a global state without its sync bit, and its sync bit alone
 abbrev pub move_in : Gstate → Gstate
 move_in g = record g { sync = false }
 
 abbrev pub sync_in : Gstate → Gstate
 sync_in g = record no_gstate { sync = g.sync }
 
--- a hard tail leads to the pair from one of its directory
+-- whether a hard tail names the pair, so that it continues a directory
 abbrev pub is_led : List Pair → ℕ → Bool
 is_led ps pair = flag false (take (pair - superblocks_before ps) (directory_pairs ps))
 
--- the pair's share, without the move that is set
+-- the pair's share without the move that is set
 abbrev pub share_without_move : Kept → ℕ → Gstate
 share_without_move t pair = gstate_xor (move_in (gstate_of t.pairs)) (pair_in t pair).content.move
 
 abbrev pub end_changes : Kept → ℕ → ℕ → List Change
 end_changes t pair id = Delete id ∷ PutMove (share_without_move t pair) ∷ []
 
--- The image is accepted and in the writing profile, and a set move hides the slot at the id of the pair. The pair goes with it, or
--- not, as it has no other slot where a hard tail leads to it. The sync bit may be set.
+-- The image is accepted and in the writing profile, and a set move names the slot at the id of the pair. `goes` says whether the
+-- pair is dropped with it: it has no other slot, and a hard tail names it. The sync bit may be set.
 pub record CanEnd (t : Kept) (pair id : ℕ) (goes : Bool) : Type 0 where
   pub accepted : IsAccepted t.disk t.pairs
   pub writable : IsWritable t.disk t.pairs
@@ -55,7 +55,7 @@ pub record CanEnd (t : Kept) (pair id : ℕ) (goes : Bool) : Type 0 where
   pub stays : goes ≡ false → is_led t.pairs pair ≡ true → 1 < length (pair_in t pair).content.slots
   pub alone : goes ≡ true → (is_led t.pairs pair ≡ true) × (length (pair_in t pair).content.slots ≡ 1)
 
--- what the pair holds then, if it stays
+-- what the pair then holds, if it stays
 abbrev pub content_without : Kept → ℕ → ℕ → Content
 content_without t pair id = record {
   slots = remove (pair_in t pair).content.slots id;
@@ -63,7 +63,7 @@ content_without t pair id = record {
   move = share_without_move t pair;
 }
 
--- the pair that is written: that one, or the one in front of it where it goes
+-- the pair that is written: the slot's, or the one before it where that is dropped
 abbrev pub end_at : ℕ → Bool → ℕ
 end_at pair goes = if goes then pair - 1 else pair
 
@@ -76,8 +76,8 @@ blocks_ended t pair goes = if goes then two_of (pair_in t pair).at else []
 abbrev pub map_ended : Kept → ℕ → Bool → BlockSets
 map_ended t pair goes = if goes then without_pair t.map (pair_in t pair).at else t.map
 
--- The slot is gone, or the pair with it, and no move is set; the tree, the sync bit, the used blocks but the pair's and the slots of
--- every other pair are as they were. The image is accepted and in the writing profile.
+-- The slot is removed, or the pair is dropped with it, and no move is set. The tree, the sync bit, the used blocks but the
+-- pair's, and the slots of every other pair are as they were. The image is accepted and in the writing profile.
 pub record HasEnded (old : Kept) (pair id : ℕ) (goes : Bool) (new : Kept) : Type 0 where
   pub taken : IsTaken old.disk old.pairs new.disk new.pairs (λ t. t) (λ d. d)
   pub state : gstate_of new.pairs ≡ sync_in (gstate_of old.pairs)
@@ -85,6 +85,6 @@ pub record HasEnded (old : Kept) (pair id : ℕ) (goes : Bool) (new : Kept) : Ty
   pub map : new.map ≡ map_ended old pair goes
   pub blocks : (b : ℕ) → count b (used_blocks new.disk new.pairs) + count b (blocks_ended old pair goes) ≡ count b (used_blocks old.disk old.pairs)
   pub shape : HasShape old.disk new.disk
-  -- the directories begin where they did, and a pair stays as it is that has no slots and ends its directory
+  -- The directories begin where they did. A pair without slots that ends its directory stays as it is.
   pub begins : firsts (directories_in new.pairs) ≡ firsts (directories_in old.pairs)
   pub kept : (z : Pair) → z.content.slots ≡ [] → is_hard z.content.tail ≡ false → Among (λ x. x ≡ z) old.pairs → Among (λ x. x ≡ z) new.pairs

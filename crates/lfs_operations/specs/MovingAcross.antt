@@ -20,14 +20,14 @@ use Rattle.lfs_operations.specs.Ready.{IsLoggedAt}
 use Rattle.lfs_operations.specs.RenamingSlots.{parts_at, slot_changes}
 use Rattle.lfs_operations.specs.MoveEnds.{move_of}
 
--- a set move hides the slot of the old pair, and a copy of it comes at an id of the new one
+-- the changes to the new pair: a move that names the old slot, and a copy of that slot at an id
 abbrev pub moving_changes : Kept → (old_pair old_id new_pair new_id : ℕ) → Name → List Change
 moving_changes t old_pair old_id new_pair new_id name =
     PutMove (gstate_xor (move_of false (pair_in t old_pair).at old_id) (pair_in t new_pair).content.move) ∷ slot_changes new_id name (parts_at t old_pair old_id)
 
--- The image may be changed. An entry stands at old_id of the one pair, in the directory that begins with the pair of number `first`;
--- the name belongs at new_id of the other pair, in the directory at a path that isn't beneath the entry. The entry may be written
--- under it.
+-- The image may be changed. An entry is at old_id of the old pair, in the directory that begins with the pair of number `first`.
+-- The name belongs at new_id of the new pair, in the directory at a path that isn't beneath the entry. The entry may be written
+-- under the name.
 pub record CanRenameAcross (t : Kept) (old_pair old_id first new_pair new_id : ℕ) (name : Name) : Type 0 where
   pub old : CanEdit t old_pair old_id
   pub begins_old : old.first ≡ first
@@ -47,7 +47,7 @@ pub record CanRenameAcross (t : Kept) (old_pair old_id first new_pair new_id : �
 abbrev pub with_moved : Kept → Path → Name → Path → Name → Tree
 with_moved t from from_name to to_name = renamed (from ++ from_name ∷ []) (to ++ to_name ∷ []) (tree_in t.disk t.pairs)
 
--- The tree has the entry at the other path, and its slot stands where it should: so a rename of its path is completed.
+-- The tree has the entry at the other path, and its slot is where the layout wants it. So a rename of its path is completed.
 pub record IsRenamedAcross (old new : Kept) (from : Path) (from_name : Name) (to : Path) (to_name : Name) : Type 0 where
   pub now : HasShrunk old new (with_moved old from from_name to to_name) []
   pub completed : (s : Session) (given to_given : List ℕ) → s.tree ≡ tree_in old.disk old.pairs → as_path given ≡ from ++ from_name ∷ [] → as_path to_given ≡ to ++ to_name ∷ []

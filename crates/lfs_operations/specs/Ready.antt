@@ -13,8 +13,8 @@ use Rattle.lfs_model.specs.Tree.{Tree}
 use Rattle.lfs_model.specs.Steps.{count}
 use Rattle.lfs_thread.specs.Kept.{Kept}
 
--- It is accepted and in the writing profile, no move is set and the sync bit isn't; the map knows each of its blocks.
--- A block has at least 1,024 bytes, as in each geometry.
+-- The image is accepted and in the writing profile. No move is set, nor the sync bit. The map knows each of the image's blocks. A
+-- block has at least 1,024 bytes, as in each geometry.
 pub record IsReady (t : Kept) : Type 0 where
   pub accepted : IsAccepted t.disk t.pairs
   pub writable : IsWritable t.disk t.pairs
@@ -27,20 +27,20 @@ pub record IsReady (t : Kept) : Type 0 where
 abbrev pub StayTaken : BlockSets → BlockSets → Type 0
 StayTaken old new = (b : ℕ) → (IsFree old b → ⊥) → slice_get new b ≡ slice_get old b
 
--- a block in flight was so before
+-- a block that is in flight was so before
 abbrev pub NoneComes : BlockSets → BlockSets → Type 0
 NoneComes old new = (b : ℕ) → IsInFlight new b → IsInFlight old b
 
--- as many pairs as before stand in front of the root directory
+-- as many pairs as before come before the root directory's first one
 abbrev pub KeepsRoot : Kept → Kept → Type 0
 KeepsRoot old new = superblocks_before new.pairs ≡ superblocks_before old.pairs
 
--- what the log of a pair comes to is what a log can come to, as where its bytes are numbers below 256
+-- what the log of a pair comes to is something that a log can come to, as where its bytes are below 256
 abbrev pub IsLoggedAt : Disk → ℕ × ℕ → Type 0
 IsLoggedAt disk at = (raw : RawContent) → raw_at disk at ≡ Some raw → IsLogged raw
 
--- The image shows that tree and may be changed again, and the root directory begins where it did; the map has lost nothing, and no
--- block more is in flight.
+-- The image shows that tree and may be changed again. The root directory begins where it did. The map has lost nothing, and no
+-- further block is in flight.
 pub record HasBecome (old new : Kept) (tree : Tree) : Type 0 where
   pub ready : IsReady new
   pub shows : tree_in new.disk new.pairs ≡ tree
@@ -48,13 +48,13 @@ pub record HasBecome (old new : Kept) (tree : Tree) : Type 0 where
   pub none_comes : NoneComes old.map new.map
   pub root : KeepsRoot old new
 
--- The used blocks are these without those that come, and those that are gone.
+-- The map's used blocks are `used` without `come` and with `gone`.
 pub record AreUsedBut (sets : BlockSets) (used gone come : List ℕ) : Type 0 where
   pub owned : List ℕ
   pub are : AreUsed sets owned
   pub same : (b : ℕ) → count b owned + count b come ≡ count b used + count b gone
 
--- An image that may be changed again once those that come are settled in the map, and those that are gone are freed.
+-- An image that may be changed again once `come` are settled in the map, and `gone` are freed.
 pub record IsReadyBut (t : Kept) (gone come : List ℕ) : Type 0 where
   pub accepted : IsAccepted t.disk t.pairs
   pub writable : IsWritable t.disk t.pairs

@@ -22,8 +22,8 @@ use Rattle.lfs_thread.specs.Steps.{no_pair}
 use Rattle.lfs_operations.specs.Dropping.{SameInFlight}
 use Rattle.lfs_operations.specs.Ready.{IsReadyBut, KeepsRoot}
 
--- These are the numbers of the pairs xs to whose directory no path leads, in turn. The first of xs has the number n; from is where
--- the directory of the pair in front of it begins, if that goes on.
+-- These are the numbers, in rising order, of those pairs of xs to whose directory no path leads. The first of xs has the number
+-- n. `from` is where the directory of the pair before it begins, if a hard tail continues it.
 abbrev pub AreUnreachedFrom : (ℕ × ℕ → Type 0) → ℕ → Option (ℕ × ℕ) → List Pair → List ℕ → Type 0
 AreUnreachedFrom R n from [] numbers = numbers ≡ []
 AreUnreachedFrom R n from (x ∷ xs) numbers = (R (begin_from from x) × AreUnreachedFrom R (suc n) (onward from x) xs numbers)
@@ -33,8 +33,8 @@ AreUnreachedFrom R n from (x ∷ xs) numbers = (R (begin_from from x) × AreUnre
 abbrev pub AreUnreached : List Pair → List ℕ → Type 0
 AreUnreached ps numbers = AreUnreachedFrom (IsReached ps) (superblocks_before ps) None (directory_pairs ps) numbers
 
--- The image is accepted and may be written, and no move is set; the map knows each of its blocks. The numbers tell which pairs
--- no path leads to. A block has at least 1,024 bytes, as in each geometry.
+-- The image is accepted and may be written, and no move is set. The map knows each of its blocks. The numbers are those of the
+-- pairs that no path leads to. A block has at least 1,024 bytes, as in each geometry.
 pub record CanDropUnreached (t : Kept) (numbers : List ℕ) : Type 0 where
   pub accepted : IsAccepted t.disk t.pairs
   pub writable : IsWritable t.disk t.pairs
@@ -51,14 +51,14 @@ pub record CanClearSync (t : Kept) : Type 0 where
   pub none : HasNoMove (gstate_of t.pairs)
   pub reached : AreReached t.pairs
 
--- what the steps tell, and whether the thread has failed by them: `Io` comes with a fault of the device, and any other answer with none
+-- `Io` comes with a fault of the device, and any other result with none. After an error the thread has failed.
 pub record TellsOfSteps {X : Type 0} (old new : State) (result : Result X Error) : Type 0 where
   pub failed : new.failed ≡ is_err result
   pub errors : IfErr result (λ e. (e ≡ Io) ⊎ (e ≡ NoMemory))
   pub fault : IsErrOf result Io → faults old.kept.history < faults new.kept.history
   pub no_fault : (IsErrOf result Io → ⊥) → faults new.kept.history ≡ faults old.kept.history
 
--- the slots and the tree are as they were, and the global state is none
+-- the slots and the tree are as they were, and the global state is zero
 pub record IsCleared (old new : Kept) : Type 0 where
   pub taken : IsTaken old.disk old.pairs new.disk new.pairs (λ t. t) (λ d. d)
   pub alike : AreAlike old.pairs new.pairs
@@ -74,9 +74,9 @@ slots_at ps numbers = flat_map (λ n. (slice_index_or ps n no_pair).content.slot
 abbrev pub list_blocks_at : Kept → List ℕ → List ℕ
 list_blocks_at t numbers = files_of t.disk (slots_at t.pairs numbers)
 
--- Nothing is left to recover, the tree is as it was, and the slots stand where they should: so a recovery is completed. The root
--- directory begins where it did. The pairs of these numbers went, their blocks are free, and no pair came. The lists of their slots stand as they did, and have blocks that
--- no other list has; these are still used.
+-- Nothing is left to recover, the tree is as it was, and the slots are where the layout wants them. So a recovery is completed.
+-- The root directory begins where it did. The pairs of these numbers are dropped, their blocks are free, and no pair is new. The
+-- lists of their slots are unchanged, and have blocks that no other list has. These are still used.
 pub record HasRecovered (old : Kept) (numbers : List ℕ) (new : Kept) : Type 0 where
   pub ready : IsReadyBut new (list_blocks_at old numbers) []
   pub stand : All (λ s. HasSameFile old.disk new.disk s.struct) (slots_at old.pairs numbers)
@@ -88,6 +88,6 @@ pub record HasRecovered (old : Kept) (numbers : List ℕ) (new : Kept) : Type 0 
   pub shows : tree_in new.disk new.pairs ≡ tree_in old.disk old.pairs
   pub completed : (s : Session) → s.tree ≡ tree_in old.disk old.pairs → IsCompleted old.disk old.pairs s ops.Recover new.disk new.pairs
 
--- the state that is wanted when a pair is dropped: none with the last one
+-- the global state that is wanted after a pair is dropped: zero after the last one
 abbrev pub state_with : Kept → Bool → Gstate
 state_with t is_last = if is_last then no_gstate else gstate_of t.pairs

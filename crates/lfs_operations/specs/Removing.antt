@@ -1,4 +1,4 @@
--- A file that goes from a directory.
+-- A file that is removed from its directory.
 use Rattle.std.specs.Prelude.{ℕ, ◌≡◌, ◌≤◌, ◌+◌, ◌-◌, ◌==◌, ◌&&◌, if◌then◌else◌, Bool, not, List, [], ◌∷◌, ◌++◌, length, None, Result, is_err}
 use Rattle.lfs_device.specs.declared.error.Error.{Error}
 use Rattle.lfs_model.specs.TreeEdits.{removed}
@@ -15,32 +15,32 @@ use Rattle.lfs_thread.specs.Steps.{HasTold, pair_in}
 use Rattle.lfs_operations.specs.Editing.{CanEdit, slot_at}
 use Rattle.lfs_operations.specs.Dropping.{HasShrunk}
 
--- A file stands there, in the directory that begins with the pair of number `first`.
+-- A file is at the id of the pair, in the directory that begins with the pair of number `first`.
 pub record CanRemove (t : Kept) (pair id first : ℕ) : Type 0 where
   pub can : CanEdit t pair id
   pub file : branch_of (slot_at can).struct ≡ None
   pub begins : can.first ≡ first
 
--- its slot is the only one of a pair that isn't the first of the directory: so the pair goes with it
+-- its slot is the only one of a pair that isn't the first of the directory, so the pair is dropped with it
 abbrev pub goes_whole : Kept → ℕ → ℕ → Bool
 goes_whole t pair first = not (pair == first) && length (pair_in t pair).content.slots == 1
 
--- the pair that is written: that one, or the one in front of it
+-- the pair that is written: the slot's, or the one before it
 abbrev pub written_at : Kept → ℕ → ℕ → ℕ × ℕ
 written_at t pair first = if goes_whole t pair first then (pair_in t (pair - 1)).at else (pair_in t pair).at
 
 abbrev pub without_file : Kept → Path → Name → Tree
 without_file t path name = removed (path ++ name ∷ []) (tree_in t.disk t.pairs)
 
--- The tree hasn't it, and the other slots stand where they should: so a remove of its path is completed. The blocks of its list
--- are gone, each once, and none of them is the image's.
+-- The tree has no such file, and the other slots are where the layout wants them. So a remove of its path is completed. The
+-- blocks of the file's list are `gone`, each once, and none of them is the image's.
 pub record IsRemoved (old new : Kept) (path : Path) (name : Name) (struct : Struct) : Type 0 where
   pub now : HasShrunk old new (without_file old path name) (file_blocks old.disk struct)
   pub completed : (s : Session) (given : List ℕ) → s.tree ≡ tree_in old.disk old.pairs → as_path given ≡ path ++ name ∷ []
       → IsCompleted old.disk old.pairs s (ops.Remove given) new.disk new.pairs
   pub once : (b : ℕ) → count b (used_blocks new.disk new.pairs) + count b (file_blocks old.disk struct) ≤ 1
 
--- what a step tells that takes no block, and whether the thread has failed by it
+-- what a step reports that takes no block, and whether the thread has failed after it
 pub record TellsOfCalls {X : Type 0} (old new : State) (result : Result X Error) : Type 0 where
   pub failed : new.failed ≡ is_err result
   pub told : HasTold old.kept new.kept result

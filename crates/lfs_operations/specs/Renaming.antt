@@ -1,4 +1,4 @@
--- An entry that gets another name in its directory, and stays in its pair.
+-- An entry that gets another name in its directory and stays in its pair.
 use Rattle.std.specs.Prelude.{ℕ, ◌≡◌, ◌≢◌, ◌⊎◌, ◌≤◌, ◌+◌, ◌-◌, true, false, nat_lt, if◌then◌else◌, List, [], ◌∷◌, ◌++◌, None, Result, Err}
 use Rattle.lfs_device.specs.declared.error.Error.{Error}
 use Rattle.lfs_device.specs.declared.error.Error.TheVariants.{NoSpace}
@@ -21,27 +21,27 @@ use Rattle.lfs_operations.specs.Editing.{CanEdit, slot_at}
 use Rattle.lfs_operations.specs.Ready.{HasBecome, HasBecomeBut}
 use Rattle.lfs_operations.specs.RenamingSlots.{parts_at, slot_changes}
 
--- a place among slots of which the one at an id is gone
+-- a place among slots after the slot at an id was removed
 abbrev pub place_without : ℕ → ℕ → ℕ
 place_without id place = if nat_lt id place then place - 1 else place
 
--- the slot goes, and comes at the place with the name
+-- the slot is removed, and put in at the place under the name
 abbrev pub rename_changes : Kept → ℕ → ℕ → ℕ → Name → List Change
 rename_changes t pair id place name = Delete id ∷ slot_changes (place_without id place) name (parts_at t pair id)
 
--- The image may be changed. An entry stands at the id of the pair, and the name belongs at a place of the same pair and
--- directory. The entry may be written under it.
+-- The image may be changed. An entry is at the id of the pair, and the name belongs at a place of the same pair and directory.
+-- The entry may be written under it.
 pub record CanRename (t : Kept) (pair id place : ℕ) (name : Name) : Type 0 where
   pub can : CanEdit t pair id
   pub belongs : Belongs t.disk.order t.pairs can.first name pair place
   pub is_name : is_name name ≡ true
   pub fits : FitsEntry t.disk.block_size t.disk.page (record (slot_at can) { name = name })
 
--- both slots go, and the one comes at the other's place
+-- both slots are removed, and the entry's is put in at the other's place
 abbrev pub rename_onto_changes : Kept → ℕ → ℕ → ℕ → Name → List Change
 rename_onto_changes t pair id place name = Delete id ∷ Delete (place_without id place) ∷ slot_changes (place_without id place) name (parts_at t pair id)
 
--- The image may be changed. An entry stands at the id of the pair, and a file of another name at a place of the same pair and
+-- The image may be changed. An entry is at the id of the pair, and a file of another name at a place of the same pair and
 -- directory. The entry may be written under that name.
 pub record CanRenameOnto (t : Kept) (pair id place : ℕ) (name : Name) : Type 0 where
   pub can : CanEdit t pair id
@@ -58,20 +58,20 @@ abbrev pub IsRenameOf : Kept → Kept → Path → Name → Name → Type 0
 IsRenameOf old new path from to = (s : Session) (given to_given : List ℕ) → s.tree ≡ tree_in old.disk old.pairs → as_path given ≡ path ++ from ∷ [] → as_path to_given ≡ path ++ to ∷ []
     → IsCompleted old.disk old.pairs s (ops.Rename given to_given) new.disk new.pairs
 
--- The tree has the entry under the other name, and its slot stands where it should: so a rename of its path is completed.
+-- The tree has the entry under the other name, and its slot is where the layout wants it. So a rename of its path is completed.
 pub record IsRenamed (old new : Kept) (path : Path) (from to : Name) : Type 0 where
   pub now : HasBecome old new (with_renamed old path from to)
   pub completed : IsRenameOf old new path from to
 
--- The tree has the entry in the place of the file: so a rename of its path onto that one's is completed. The blocks of the
--- file's list are gone, each once, and none of them is the image's.
+-- The tree has the entry in the file's place. So a rename of its path onto the file's is completed. The blocks of the file's list
+-- are `gone`, each once, and none of them is the image's.
 pub record IsRenamedOnto (old new : Kept) (path : Path) (from to : Name) (struct : Struct) : Type 0 where
   pub now : HasBecomeBut old new (with_renamed old path from to) (file_blocks old.disk struct) []
   pub once : (b : ℕ) → count b (used_blocks new.disk new.pairs) + count b (file_blocks old.disk struct) ≤ 1
   pub completed : IsRenameOf old new path from to
 
--- What an operation tells that reads a slot before it changes or splits the pair: as `TellsPut`, but that the thread works on
--- and is as it was where the slot couldn't be read.
+-- What an operation reports that reads a slot before it changes or splits the pair: as `TellsPut`, except that the thread works
+-- on and is as it was where the slot couldn't be read.
 pub record TellsMove {X : Type 0} (old new : State) (index : ℕ) (changes : List Change) (result : Result X Error) : Type 0 where
   pub failed : (new.failed ≡ has_failed result) ⊎ ((new.failed ≡ false) × IsOnlyRead old.kept new.kept)
   pub tells : TellsSpace old.kept new.kept result

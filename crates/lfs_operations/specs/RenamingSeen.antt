@@ -1,4 +1,4 @@
--- A copied slot, in the words of the definitions.
+-- A copied slot of the code as the definitions have it.
 use Rattle.std.specs.Prelude.{ℕ, List, map}
 use Rattle.lfs_operations.specs.RenamingSlots.{Parts}
 use Rattle.lfs_operations.specs.declared.renaming_copy.PartCopy.{PartCopy}

@@ -1,4 +1,4 @@
--- How the global state changes by the share of one pair, and how a pair takes over that of the next.
+-- How the global state changes by the share of one pair, and how a pair takes over the next one's share.
 use Rattle.std.specs.Prelude.{ℕ, ◌≡◌, ◌<◌, ◌+◌, ◌^◌, ◌&&◌, Bool, List, [], ◌∷◌, length, Option, Some, None}
 use Rattle.lfs_model.specs.Changes.{Change, PutMove, PutTail}
 use Rattle.lfs_model.specs.LoggedContent.{IsAddress}
@@ -9,7 +9,7 @@ use Rattle.lfs_model.specs.Profile.{IsWritable}
 use Rattle.lfs_thread.specs.Kept.{Kept}
 use Rattle.lfs_thread.specs.Steps.{pair_in}
 
--- The share of a pair by which the global state becomes g: it changes as the state does.
+-- The share that a pair gets, so that the global state becomes g.
 abbrev pub share_of : Kept → ℕ → Gstate → Gstate
 share_of t index g = gstate_xor (gstate_xor g (gstate_of t.pairs)) (pair_in t index).content.move
 
@@ -26,11 +26,11 @@ abbrev pub IsAddressIfSome : Option (ℕ × ℕ) → Type 0
 IsAddressIfSome None = Unit {0}
 IsAddressIfSome (Some at) = IsAddress at
 
--- with the share of another pair, the one behind it
+-- the share that a pair gets with the share of the pair after it, so that the global state becomes g
 abbrev pub takes_share : Kept → ℕ → ℕ → Gstate → Gstate
 takes_share t index behind g = gstate_xor (share_of t index g) (pair_in t behind).content.move
 
--- a pair takes over the tail and the share of the one behind it
+-- a pair takes over the tail and the share of the pair after it
 abbrev pub taking_over : Kept → ℕ → ℕ → Gstate → List Change
 taking_over t index behind g = PutTail (goes_on_at t index && goes_on_at t behind) (target_of (pair_in t behind).content.tail) ∷ PutMove (takes_share t index behind g) ∷ []
 
@@ -39,14 +39,14 @@ pub record FitsFields (g : Gstate) : Type 0 where
   pub kind : g.kind < 2 ^ 11
   pub id : g.id < 2 ^ 10
 
--- there is such a pair in an image that may be written, and the state can be stored
+-- the premises of a commit that sets the state: a pair in an image that may be written, and a state that can be stored
 pub record CanSetState (t : Kept) (index : ℕ) (g : Gstate) : Type 0 where
   pub accepted : IsAccepted t.disk t.pairs
   pub writable : IsWritable t.disk t.pairs
   pub below : index < length t.pairs
   pub fields : FitsFields g
 
--- and one behind it
+-- the same with a pair after it
 pub record CanTakeOver (t : Kept) (index behind : ℕ) (g : Gstate) : Type 0 where
   pub accepted : IsAccepted t.disk t.pairs
   pub writable : IsWritable t.disk t.pairs

@@ -1,4 +1,4 @@
--- A file that gets other contents.
+-- A file whose struct is set.
 use Rattle.std.specs.Prelude.{ℕ, ◌≡◌, ◌⊎◌, ◌≤◌, ◌+◌, true, nat_eq, List, [], ◌∷◌, ◌++◌, Some, None, Contains}
 use Rattle.std.specs.List.{AllByRecursion, IsDistinct}
 use Rattle.lfs_model.specs.TreeEdits.{change_at}
@@ -19,8 +19,8 @@ use Rattle.lfs_thread.specs.Kept.{Kept}
 use Rattle.lfs_operations.specs.Editing.{CanEdit, slot_at}
 use Rattle.lfs_operations.specs.Ready.{HasBecomeBut}
 
--- A file stands there, and the struct says these bytes: inline, or as a list that stands on the disk. `come` are its blocks that
--- the file's list hasn't; they are in flight. `gone` are those that only the file's list has.
+-- A file is at the id of the pair, and the struct says these bytes: inline, or as a list that is on the disk. `come` are the
+-- list's blocks that the old list hasn't; they are in flight. `gone` are those that only the old list has.
 pub record CanStore (t : Kept) (pair id kind : ℕ) (bytes : List ℕ) : Type 0 where
   pub can : CanEdit t pair id
   pub file : branch_of (slot_at can).struct ≡ None
@@ -41,9 +41,9 @@ with_contents_at t path name contents = change_at (path ++ name ∷ []) (with_by
 abbrev pub IsWriterOf : Session → ℕ → Path → List ℕ → Writer → Type 0
 IsWriterOf s fd path contents writer = (file_of s.files fd ≡ Some (Writing writer)) × ((writer.dirty ≡ true) × ((writer.path ≡ path) × (writer.contents ≡ contents)))
 
--- The tree has the file with those contents, and its slot stands where it should: so a sync or a close of a file that was
--- written is completed. The blocks that are gone are so once, and none of them is the image's. A block of the pairs
--- was one before, or free.
+-- The tree has the file with those contents, and its slot is where the layout wants it. So a sync or a close of a file that was
+-- written is completed. The blocks `gone` are distinct, and none of them is the image's. A block of the pairs was one before, or
+-- was free.
 pub record IsStored (old new : Kept) (path : Path) (name : Name) (contents gone come : List ℕ) : Type 0 where
   pub now : HasBecomeBut old new (with_contents_at old path name contents) gone come
   pub synced : (s : Session) (fd : ℕ) (writer : Writer) → s.tree ≡ tree_in old.disk old.pairs → IsWriterOf s fd (path ++ name ∷ []) contents writer

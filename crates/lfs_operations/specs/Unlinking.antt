@@ -1,4 +1,4 @@
--- An empty directory that goes: its entry with the sync bit set, and then its pair, with the sync bit cleared.
+-- An empty directory that is removed: its entry with the sync bit set, and then its pair, with the sync bit cleared.
 use Rattle.std.specs.Prelude.{ℕ, ◌≡◌, ◌⊎◌, ◌<◌, true, false, List, [], ◌∷◌, ◌++◌, length, nat_lt, ◌-◌, if◌then◌else◌, Result, is_err, IfErr, IsErrOf}
 use Rattle.std.specs.List.{remove}
 use Rattle.lfs_device.specs.declared.error.Error.{Error}
@@ -24,9 +24,9 @@ use Rattle.lfs_operations.specs.Dropping.{HasShrunk}
 use Rattle.lfs_operations.specs.Editing.{CanEdit, slot_at}
 use Rattle.lfs_operations.specs.Removing.{goes_whole, without_file}
 
--- ---- the entry goes
+-- ---- the entry is removed
 
--- what its pair holds without it; the pair's share turns the sync bit
+-- what the entry's pair holds without it; the pair's share turns the sync bit
 abbrev pub without_entry : Kept → ℕ → ℕ → Content
 without_entry t pair id = record {
   slots = remove (pair_in t pair).content.slots id;
@@ -44,7 +44,7 @@ pub record IsUnlinked (old : Kept) (pair id : ℕ) (new : Kept) : Type 0 where
   pub thread : IsThread (content_at new.disk) (block_count new.disk) new.pairs
   pub map : new.map ≡ old.map
 
--- a stop leaves the pair with what it held, or with what it holds then
+-- what a stop leaves: the pair with its old content, or with its new one
 pub record IsLeftByUnlink (old : Kept) (pair id : ℕ) (left : Blocks) : Type 0 where
   pub content : Content
   pub is : (content ≡ (pair_in old pair).content) ⊎ (content ≡ without_entry old pair id)
@@ -52,8 +52,8 @@ pub record IsLeftByUnlink (old : Kept) (pair id : ℕ) (left : Blocks) : Type 0 
 
 -- ---- the operation
 
--- A directory's entry stands there, in the directory that begins with the pair of number `first`. The pair of number `gone` is the
--- only one of the directory that goes, and has no slots.
+-- A directory's entry is at the id of the pair, in the directory that begins with the pair of number `first`. The pair of number
+-- `gone` is the only one of the directory that is removed, and has no slots.
 pub record CanRemoveDirectory (t : Kept) (pair id first gone : ℕ) : Type 0 where
   pub can : CanEdit t pair id
   pub begins : can.first ≡ first
@@ -64,24 +64,25 @@ pub record CanRemoveDirectory (t : Kept) (pair id first gone : ℕ) : Type 0 whe
   pub empty : (pair_in t gone).content.slots ≡ []
   pub alone : is_hard (pair_in t gone).content.tail ≡ false
 
--- the number of a pair once the other one is gone
+-- the number of a pair after another one was dropped
 abbrev pub number_without : ℕ → ℕ → ℕ
 number_without other pair = if nat_lt other pair then pair - 1 else pair
 
--- The tree hasn't it, the other slots stand where they should, and its pair is gone: so a remove of its path is completed.
+-- The tree has no such directory, the other slots are where the layout wants them, and its pair is dropped. So a remove of its
+-- path is completed.
 pub record IsDirectoryRemoved (old new : Kept) (path : Path) (name : Name) : Type 0 where
   pub now : HasShrunk old new (without_file old path name) []
   pub completed : (s : Session) (given : List ℕ) → s.tree ≡ tree_in old.disk old.pairs → as_path given ≡ path ++ name ∷ []
       → IsCompleted old.disk old.pairs s (ops.Remove given) new.disk new.pairs
 
--- The pair in front of the one that goes doesn't stay with what it held. Nor does the one in front of the entry's pair, where
--- that goes too.
+-- The pair before the directory's own one doesn't stay with what it held. Nor does the one before the entry's pair, where that is
+-- dropped too.
 pub record AltersInFront (old : Kept) (pair first gone : ℕ) (new : Kept) : Type 0 where
   pub front : Alters old (gone - 1) new
   pub entry : goes_whole old pair first ≡ true → Alters old (pair - 1) new
 
--- What several steps tell that take no block: `Io` comes with a fault of the device, and any other answer with none. The thread has
--- failed by an error.
+-- What several steps report that take no block: `Io` comes with a fault of the device, and any other result with none. After an
+-- error the thread has failed.
 pub record TellsOfSteps {X : Type 0} (old new : State) (result : Result X Error) : Type 0 where
   pub failed : new.failed ≡ is_err result
   pub errors : IfErr result (λ e. (e ≡ Io) ⊎ (e ≡ NoMemory))

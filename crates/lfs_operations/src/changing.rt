@@ -12,8 +12,8 @@ use lfs_pair::{Change, Outcome};
 use lfs_thread::Thread;
 use std::alloc::Global;
 
-// Takes two free blocks, which are in flight then. None where fewer than two are free; nothing is
-// taken then.
+// Takes two free blocks, which are in flight then. Returns None where fewer than two are free;
+// nothing is taken then.
 pub(crate) fn take_two<D: BlockDevice>(thread: &mut Thread<D>) -> Option<[u32; 2]>
     ensures were_free { IfSome result (λ fresh. AreTwoFree thread.old.kept.map (address_of fresh)) }
     ensures taken { IfSome result (λ fresh. thread.new ≡ record thread.old { kept = record thread.old.kept { map = flying thread.old.kept.map (address_of fresh) } }) }
@@ -30,7 +30,8 @@ pub(crate) fn take_two<D: BlockDevice>(thread: &mut Thread<D>) -> Option<[u32; 2
     Some([first, second])
 }
 
-// Splits a pair into two free blocks. `NoSpace` where fewer than two are free.
+// Splits a pair into itself and a fresh pair in two free blocks. `NoSpace` where fewer than two are
+// free.
 fn split_in_two<D: BlockDevice>(
     alloc: Global,
     thread: &mut Thread<D>,
@@ -52,7 +53,7 @@ fn split_in_two<D: BlockDevice>(
     Ok(())
 }
 
-// Commits changes to a pair, or splits it where what they make doesn't fit.
+// Commits changes to a pair, or splits the pair where what they make doesn't fit.
 pub(crate) fn put<D: BlockDevice>(
     alloc: Global,
     thread: &mut Thread<D>,

@@ -1,4 +1,4 @@
-// Files that come into directories.
+// Empty files that are created.
 
 ghost use Rattle.std.specs.Prelude.{◌≡◌, ◌≤◌, ◌+◌, false, OnOk};
 ghost use Rattle.lfs_model.specs.History.{reads};
@@ -14,13 +14,14 @@ use lfs_tag::kinds::{FILE_NAME, INLINE_STRUCT};
 use lfs_thread::Thread;
 use std::alloc::Global;
 
-/// Makes an empty file, an entry with an inline struct of no bytes, at the id of the pair where its
-/// name belongs. Where the pair has no room for it, it is split into two free blocks (DESIGN.md of
-/// littlefs, "Metadata pairs"). It takes at most six reads.
+/// Creates an empty file: a slot with an inline struct of no bytes, at the id of the pair where its
+/// name belongs. A pair without room for the slot is split into itself and two free blocks
+/// (DESIGN.md of littlefs, "Metadata pairs"). The call takes at most six reads.
 ///
-/// `NoSpace` where it has none and fewer than two blocks are free: everything is as it was then.
-/// `Io` where a call of the device failed, and `NoMemory` where there is no room for the pair's
-/// slots and its block; the thread has failed then. At `NoMemory` nothing was written.
+/// Errors: `NoSpace` where the pair has no room and fewer than two blocks are free; everything is
+/// as it was then. `Io` where a call of the device failed. `NoMemory` where memory for the pair's
+/// slots and its block isn't granted; nothing was written then. After `Io` and `NoMemory` the
+/// thread has failed.
 pub fn create<D: BlockDevice>(
     alloc: Global,
     thread: &mut Thread<D>,

@@ -1,4 +1,4 @@
-// Pairs that go from the thread.
+// Pairs that are dropped from the thread.
 
 ghost use Rattle.std.specs.Prelude.{◌≡◌, ◌<◌, ◌-◌, Some, length, false, OnOk};
 ghost use Rattle.std.specs.Option.{option_map};
@@ -17,7 +17,7 @@ use lfs_tag::{MoveState, Tail, is_hard};
 use lfs_thread::{Thread, with_share};
 use std::alloc::Global;
 
-// The change by which a pair with the tail `front` takes over the tail `gone`.
+// Returns the change that gives a pair with the tail `front` the tail of a dropped pair, `gone`.
 fn tail_over(front: Option<Tail>, gone: Option<Tail>) -> Change<'static>
     ensures { change_seen result ≡ put_tail (taken_over (option_map tail_seen front) (option_map tail_seen gone)) }
 {
@@ -33,7 +33,8 @@ fn tail_over(front: Option<Tail>, gone: Option<Tail>) -> Change<'static>
     }
 }
 
-// The share of the pair in front by which the global state is that one, once the pair is gone.
+// Returns the share that the pair before the dropped one gets, so that the global state then is
+// `state`.
 fn share_over<D: BlockDevice>(thread: &Thread<D>, index: usize, state: &MoveState) -> MoveState
     requires works { thread.now.failed ≡ false }
     requires above { 0 < index }
@@ -45,7 +46,7 @@ fn share_over<D: BlockDevice>(thread: &Thread<D>, index: usize, state: &MoveStat
     with_share(&both, &turned)
 }
 
-// The changes to the pair in front by which it takes over the tail and the share of a pair.
+// Returns the changes by which the pair before the dropped one takes over its tail and its share.
 fn taking<D: BlockDevice>(
     thread: &Thread<D>,
     index: usize,
@@ -56,7 +57,7 @@ fn taking<D: BlockDevice>(
     ensures are { changes_seen result ≡ taking_changes thread.now.kept (index - 1) (move_seen state.now) }
     ensures made { made_in_thread thread.now.kept (index - 1) (changes_seen result) ≡ Some (with_tail_taken thread.now.kept (index - 1) (move_seen state.now)) }
 {
-    // What a device holds are bytes, so what the logs say can be written again.
+    // A device holds bytes, so what its logs say can be written again.
     let _device = thread.device();
     [
         tail_over(thread.tail(index - 1), thread.tail(index)),
@@ -66,12 +67,12 @@ fn taking<D: BlockDevice>(
     ]
 }
 
-// Drops a pair from the thread in one commit, to the pair in front of it: that one takes over its
-// tail and its share of the global state, which is `state` then (DESIGN.md of littlefs, "The move
-// problem"). Its blocks are free afterwards.
+// Drops a pair from the thread in one commit, to the pair before it. That pair takes over the
+// dropped pair's tail and its share of the global state, which is `state` then (DESIGN.md of
+// littlefs, "The move problem"). The dropped pair's blocks are free afterwards.
 //
-// `Io` where a call of the device failed, and `NoMemory` where there is no room for the pair's
-// slots and its block; the thread has failed then. At `NoMemory` nothing was written.
+// Errors: `Io` where a call of the device failed. `NoMemory` where memory for the pair's slots and
+// its block isn't granted; nothing was written then. After either the thread has failed.
 pub(crate) fn drop_at<D: BlockDevice>(
     alloc: Global,
     thread: &mut Thread<D>,
@@ -86,7 +87,8 @@ pub(crate) fn drop_at<D: BlockDevice>(
     ensures stops { StopsLeave thread.old.kept.history thread.new.kept.history (IsLeftByDrop thread.old.kept (index - 1) (move_seen state.now)) }
 {
     let changes = taking(thread, index, state);
-    // The slots stay, and the tail and the share have room of their own, so it is done.
+    // The slots stay, and a pair has room of its own for tail and share. So the commit is never
+    // refused.
     thread.drop_next(alloc, index - 1, &changes)?;
     Ok(())
 }

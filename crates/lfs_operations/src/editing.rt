@@ -1,4 +1,4 @@
-// Entries whose attributes change.
+// Attributes of entries, set and removed.
 
 ghost use Rattle.std.specs.Prelude.{◌≡◌, ◌∷◌, [], false, OnOk};
 ghost use Rattle.lfs_model.specs.Changes.{PutAttribute};
@@ -17,12 +17,12 @@ use lfs_pair::Change;
 use lfs_thread::Thread;
 use std::alloc::Global;
 
-/// Gives the entry at the id of a pair an attribute of that type (SPEC.md of littlefs, "0x3xx
-/// LFS_TYPE_USERATTR"), in place of the one that it has, if it has it. Where the pair has no room
-/// for it, it is split into two free blocks. It has at most 1,022 bytes, and the entry with it takes
-/// at most half of what a pair holds.
+/// Sets an attribute of the entry at the id of a pair, in place of the attribute of the same type,
+/// if it has one (SPEC.md of littlefs, "0x3xx LFS_TYPE_USERATTR"). A pair without room for it is
+/// split into itself and two free blocks. The caller's condition: the attribute has at most 1,022
+/// bytes, and the entry with it takes at most half of what a pair holds.
 ///
-/// Errors as those of [`create`](crate::create).
+/// Errors are those of [`create`](crate::create).
 pub fn set_attribute<D: BlockDevice>(
     alloc: Global,
     thread: &mut Thread<D>,
@@ -48,9 +48,9 @@ pub fn set_attribute<D: BlockDevice>(
     Ok(())
 }
 
-/// Takes the attribute of that type from the entry at the id of a pair, if it has it.
+/// Removes the attribute of that type from the entry at the id of a pair, if it has it.
 ///
-/// Errors as those of [`remove_file`](crate::remove_file).
+/// Errors are those of [`remove_file`](crate::remove_file).
 pub fn remove_attribute<D: BlockDevice>(
     alloc: Global,
     thread: &mut Thread<D>,
@@ -66,7 +66,7 @@ pub fn remove_attribute<D: BlockDevice>(
     ensures survives { (can : CanEdit thread.old.kept pair id) → Survives thread.old.kept.disk thread.old.kept.history thread.new.kept.history
         (tree_in thread.old.kept.disk thread.old.kept.pairs) (with_attributes_at thread.old.kept can.path can.name (without_attribute kind)) }
 {
-    // What is left fits, so it is done.
+    // What is left fits, so the commit is never refused.
     thread.change(alloc, pair, &[Change::NoAttr { id, attr: kind }])?;
     Ok(())
 }

@@ -1,4 +1,5 @@
-//! What changes the tree of an accepted image, in steps that a loss of power can't tear.
+//! Changes of the tree of an accepted image, in steps each of which is atomic under a loss of
+//! power.
 #![tactic(auto)]
 
 mod changing;

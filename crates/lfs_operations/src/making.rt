@@ -1,4 +1,4 @@
-// Directories that come into others.
+// Empty directories that are made.
 
 ghost use Rattle.std.specs.Prelude.{◌≡◌, ◌<◌, ◌^◌, ℕ, false, is_err, length, Err, OnOk};
 ghost use Rattle.lfs_device.specs.Bytes.{HasBytes};
@@ -21,7 +21,8 @@ use lfs_tag::{MoveState, pair_bytes};
 use lfs_thread::Thread;
 use std::alloc::Global;
 
-// What is known of any device, for the proof: its blocks hold bytes, and a block's number has 32 bits.
+// What is known of any device, for the proof: its blocks hold bytes, and a block's number has 32
+// bits.
 fn know_device<D: BlockDevice>(thread: &Thread<D>)
     ensures count { block_count thread.now.kept.disk < 2 ^ 32 }
     ensures bytes { HasBytes thread.now.kept.disk.blocks }
@@ -29,7 +30,8 @@ fn know_device<D: BlockDevice>(thread: &Thread<D>)
     let _count = thread.device().geometry().block_count;
 }
 
-// The last of the pairs to which hard tails lead from one.
+// Returns the number of a directory's last pair: the last one that hard tails lead to from the pair
+// at the index.
 fn last_from<D: BlockDevice>(thread: &Thread<D>, index: usize) -> usize
     requires works { thread.now.failed ≡ false }
     requires below { index < length thread.now.kept.pairs }
@@ -42,7 +44,8 @@ fn last_from<D: BlockDevice>(thread: &Thread<D>, index: usize) -> usize
     last
 }
 
-// A share of the global state with the sync bit turned: so is the global state's.
+// Returns a share with its sync bit turned. Set in its pair, it turns the sync bit of the global
+// state.
 fn turned(share: &MoveState) -> MoveState
     ensures { move_seen result ≡ turned (move_seen share.now) }
 {
@@ -54,8 +57,8 @@ fn turned(share: &MoveState) -> MoveState
     }
 }
 
-// Threads a fresh pair without slots behind the last one of a directory. No entry names it yet, so
-// the sync bit is set.
+// Puts a fresh pair without slots into the thread, after the last pair of a directory. No entry
+// names it yet, so the sync bit is set.
 fn thread_behind<D: BlockDevice>(
     alloc: Global,
     thread: &mut Thread<D>,
@@ -80,12 +83,12 @@ fn thread_behind<D: BlockDevice>(
             state: turned(&thread.share(last)),
         },
     ];
-    // The pair has room of its own for both, so it is done.
+    // The pair has room of its own for tail and share, so the commit is never refused.
     thread.thread_in(alloc, last, fresh, &changes)?;
     Ok(())
 }
 
-// Puts an entry into a pair, with the struct of a directory, and turns the sync bit.
+// Puts an entry with a directory's struct into a pair, and turns the sync bit.
 fn put_entry<'a, D: BlockDevice>(
     alloc: Global,
     thread: &mut Thread<D>,
@@ -141,15 +144,15 @@ fn name_directory<D: BlockDevice>(
     Ok(())
 }
 
-/// Makes an empty directory, whose entry comes to the id of the pair where its name belongs. Its own
-/// pair is threaded first, behind the last one of the parent, with the sync bit set; then its entry
-/// comes, which clears the bit (DESIGN.md of littlefs, "The metadata tree"). Where the entry has no
-/// room in its pair, that one is split. Four blocks have to be free: two for the directory, and two
-/// for a split.
+/// Makes an empty directory, whose entry is put in at the id of the pair where its name belongs
+/// (DESIGN.md of littlefs, "The metadata tree"). That takes two commits. The first puts the
+/// directory's own pair into the thread, after the parent's last pair, and sets the sync bit. The
+/// second puts in the entry, and clears the bit. A pair without room for the entry is split. The
+/// caller's condition: four blocks are free, two for the directory and two for a split.
 ///
-/// `Io` where a call of the device failed, and `NoMemory` where there is no room for a pair's slots
-/// and its block; the thread has failed then. The new pair may be threaded then and no entry name it,
-/// so that a recovery drops it.
+/// Errors: `Io` where a call of the device failed, and `NoMemory` where memory for a pair's slots
+/// and its block isn't granted. The thread has failed then. The new pair may be in the thread
+/// without an entry that names it. Then a recovery drops it.
 pub fn make_directory<D: BlockDevice>(
     alloc: Global,
     thread: &mut Thread<D>,

@@ -33,7 +33,7 @@ use lfs_tag::kinds::DELETE;
 use lfs_thread::{Thread, number_of, with_share};
 use std::alloc::{AllocError, Global};
 
-// A pair's share of the global state, without the move that is set.
+// Returns a pair's share of the global state, changed so that no move is set.
 fn share_without_move<D: BlockDevice>(thread: &Thread<D>, pair: usize) -> MoveState
     requires works { thread.now.failed ≡ false }
     requires below { pair < length thread.now.kept.pairs }
@@ -46,7 +46,7 @@ fn share_without_move<D: BlockDevice>(thread: &Thread<D>, pair: usize) -> MoveSt
     with_share(&state, &share)
 }
 
-// Takes the slot that a set move hides from its pair, which stays, and ends the move.
+// Removes the slot that a set move names from its pair, which stays, and ends the move.
 fn end_in_place<D: BlockDevice>(
     alloc: Global,
     thread: &mut Thread<D>,
@@ -62,7 +62,7 @@ fn end_in_place<D: BlockDevice>(
         (tree_in thread.old.kept.disk thread.old.kept.pairs) (tree_in thread.old.kept.disk thread.old.kept.pairs) }
 {
     let state = share_without_move(thread, pair);
-    // What is left fits, so it is done.
+    // What is left fits, so the commit is never refused.
     thread.change(
         alloc,
         pair,
@@ -71,7 +71,7 @@ fn end_in_place<D: BlockDevice>(
     Ok(())
 }
 
-// The global state without the move that is set.
+// Returns the global state without the move that is set.
 fn state_without_move<D: BlockDevice>(thread: &Thread<D>) -> MoveState
     requires { thread.now.failed ≡ false }
     ensures { move_seen result ≡ sync_in (gstate_of thread.now.kept.pairs) }
@@ -81,7 +81,7 @@ fn state_without_move<D: BlockDevice>(thread: &Thread<D>) -> MoveState
     state
 }
 
-// Drops a pair whose only slot a set move hides, and ends the move.
+// Drops a pair whose only slot a set move names, and ends the move.
 fn end_with_pair<D: BlockDevice>(
     alloc: Global,
     thread: &mut Thread<D>,
@@ -101,8 +101,8 @@ fn end_with_pair<D: BlockDevice>(
     Ok(())
 }
 
-// Takes the slot that a set move hides from its pair, or with it where the pair goes, and ends the
-// move: the second step of a rename across pairs.
+// Removes the slot that a set move names, and ends the move. Where the pair has no other slot and
+// may be dropped, it is dropped with the slot. This is the second step of a rename across pairs.
 pub(crate) fn end_move<D: BlockDevice>(
     alloc: Global,
     thread: &mut Thread<D>,
@@ -125,7 +125,7 @@ pub(crate) fn end_move<D: BlockDevice>(
     }
 }
 
-// The number of a pair once so many came behind another.
+// Returns the number of a pair after `fresh` pairs were put in after the pair `other`.
 fn place_after(pair: usize, other: usize, fresh: usize) -> usize
     requires { place_after pair other fresh < 2 ^ 64 }
     ensures { result ≡ place_after pair other fresh }
@@ -133,8 +133,8 @@ fn place_after(pair: usize, other: usize, fresh: usize) -> usize
     if pair < other { pair } else { pair + fresh }
 }
 
-// Puts changes that set a move into a pair, and ends the move then in another pair, where the slot
-// that it hides stands.
+// Puts changes that set a move into a pair. Then it ends the move in another pair, which has the
+// slot that the move names.
 fn put_and_end<D: BlockDevice>(
     alloc: Global,
     thread: &mut Thread<D>,
@@ -160,8 +160,8 @@ fn put_and_end<D: BlockDevice>(
     Ok(())
 }
 
-// A pair's share of the global state that sets a move, which hides a slot of another pair, and the
-// sync bit or not. None is set before.
+// Returns the share of a pair that sets a move, which names a slot of another pair. With `sync` it
+// sets the sync bit, too. No move is set before.
 fn share_with_move<D: BlockDevice>(
     thread: &Thread<D>,
     old_pair: usize,
@@ -186,7 +186,7 @@ fn share_with_move<D: BlockDevice>(
     with_share(&state, &share)
 }
 
-// A share of the global state, and a copied slot that comes at an id.
+// Returns the changes that set a share of the global state, and put in a copied slot at an id.
 fn changes_of<'a>(
     alloc: Global,
     state: MoveState,
@@ -202,19 +202,21 @@ fn changes_of<'a>(
     Ok(changes)
 }
 
-/// Gives the entry at an id of a pair another name, which belongs at an id of another pair, in the
-/// same directory or another one: the entry stands there then, with its struct and its attributes.
-/// That takes two commits. The first puts a copy of the entry under its new name, and sets a move that
-/// names the old slot, which counts as gone from then on; the second takes the old slot away and ends
-/// the move (DESIGN.md of littlefs, "The move problem"). `first` is the number of the first pair of
-/// the entry's directory. Where the old pair has no other slot and isn't that one, it goes with the
-/// slot. Where the new pair has no room, it is split into two free blocks.
+/// Renames an entry of one pair to a name that belongs at an id of another pair, in the same
+/// directory or another one. The entry keeps its struct and its attributes (DESIGN.md of littlefs,
+/// "The move problem"). That takes two commits. The first puts a copy of the entry under its new
+/// name, and sets a move that names the old slot. From then on the old slot counts as gone. The
+/// second removes the old slot and ends the move.
 ///
-/// `NoSpace` where it has none and fewer than two blocks are free: everything is as it was then.
-/// `Io` where a call of the device failed, and `NoMemory` where there is no room for the pairs'
-/// slots, a copy of the entry and the pairs' blocks. The thread works on where the entry couldn't be
-/// read, and has failed else; the device may then stand between the two commits, where it shows the
-/// new tree.
+/// `first` is the number of the first pair of the entry's directory. An old pair that has no other
+/// slot, and isn't that first pair, is dropped with the slot. A new pair without room is split into
+/// itself and two free blocks.
+///
+/// Errors: `NoSpace` where the new pair has no room and fewer than two blocks are free; everything
+/// is as it was then. `Io` where a call of the device failed. `NoMemory` where memory for the
+/// pairs' slots, a copy of the entry and the pairs' blocks isn't granted. After `Io` and `NoMemory`
+/// the thread works on where the entry couldn't be read. Else it has failed, and the device may be
+/// between the two commits, where it shows the new tree.
 pub fn rename_across<D: BlockDevice>(
     alloc: Global,
     thread: &mut Thread<D>,
@@ -243,7 +245,8 @@ pub fn rename_across<D: BlockDevice>(
     Ok(())
 }
 
-// A share of the global state, and a copied slot that comes in place of the one at an id.
+// Returns the changes that set a share of the global state, and put a copied slot in place of the
+// slot at an id.
 fn changes_onto<'a>(
     alloc: Global,
     state: MoveState,
@@ -260,8 +263,8 @@ fn changes_onto<'a>(
     Ok(changes)
 }
 
-// Puts the entry at an id of a pair in the place of the one at an id of another pair, with the sync
-// bit set or not, as `rename_across` does.
+// Puts the entry at an id of a pair in place of the one at an id of another pair, as
+// `rename_across` does. The sync bit is set with it, or not.
 fn put_onto<D: BlockDevice>(
     alloc: Global,
     thread: &mut Thread<D>,
@@ -289,12 +292,12 @@ fn put_onto<D: BlockDevice>(
     Ok(())
 }
 
-/// Puts the entry at an id of a pair in the place of the file at an id of another pair, in the same
-/// directory or another one: the entry stands there then under the file's name, with its own struct
-/// and attributes. In other respects as [`rename_across`]. The map isn't told of the file's list,
-/// whose blocks stay used.
+/// Renames an entry of one pair onto a file at an id of another pair, in the same directory or
+/// another one. The entry gets the file's name, and keeps its own struct and attributes. All else
+/// is as in [`rename_across`]. The blocks of the file's list stay used in the map; the caller frees
+/// them.
 ///
-/// Errors as those of [`rename_across`].
+/// Errors are those of [`rename_across`].
 pub fn rename_onto_file_across<D: BlockDevice>(
     alloc: Global,
     thread: &mut Thread<D>,
@@ -320,12 +323,13 @@ pub fn rename_onto_file_across<D: BlockDevice>(
     )
 }
 
-/// Puts the entry at an id of a pair in the place of the empty directory at an id of another pair, in
-/// the same directory or another one, whose own pair has number `gone` in the thread. As
-/// [`rename_onto_file_across`], but the sync bit is set with the move, and a third commit drops that
-/// pair, to which no path leads any more, and clears the bit.
+/// Renames an entry of one pair onto an empty directory at an id of another pair, in the same
+/// directory or another one. The directory's own pair has number `gone` in the thread. The call
+/// works as [`rename_onto_file_across`], with two differences. The sync bit is set with the move.
+/// And a third commit drops the directory's own pair, to which no path leads any more, and clears
+/// the bit.
 ///
-/// Errors as those of [`rename_across`].
+/// Errors are those of [`rename_across`].
 pub fn rename_onto_directory_across<D: BlockDevice>(
     alloc: Global,
     thread: &mut Thread<D>,
@@ -351,7 +355,7 @@ pub fn rename_onto_directory_across<D: BlockDevice>(
     put_onto(
         alloc, thread, old_pair, old_id, first, new_pair, new_id, name, true,
     )?;
-    // Others may have come or gone in front of it.
+    // Other pairs may have been put in or dropped before it in the thread.
     if let Some(index) = number_of(thread, at) {
         drop_at(alloc, thread, index, &MoveState::none())?;
     }

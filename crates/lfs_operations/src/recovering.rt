@@ -1,4 +1,4 @@
-// What a loss of power left in an image, and how it is ended.
+// The recovery: what a loss of power left half done is ended.
 
 ghost use Rattle.std.specs.Prelude.{ℕ, ◌≡◌, ◌<◌, ◌+◌, ◌-◌, ◌&&◌, false, OnOk, length, if◌then◌else◌, IfNone, IfSome, Option};
 ghost use Rattle.std.specs.Option.{option_map};
@@ -26,7 +26,7 @@ use lfs_tag::{MoveState, Tail};
 use lfs_thread::{Thread, number_of, with_share};
 use std::alloc::Global;
 
-// An address of two blocks, which are words of 32 bits.
+// Returns the address as it is. For the proof, its blocks are words of 32 bits.
 fn is_address(pair: [u32; 2]) -> [u32; 2]
     ensures same { address_of result ≡ address_of pair }
     ensures words { IsAddress (address_of pair) }
@@ -34,7 +34,7 @@ fn is_address(pair: [u32; 2]) -> [u32; 2]
     [pair[0], pair[1]]
 }
 
-// The share of a pair by which the global state becomes that: it changes as the state does.
+// Returns the share that a pair gets, so that the global state becomes `wanted`.
 fn share_for<D: BlockDevice>(thread: &Thread<D>, index: usize, wanted: &MoveState) -> MoveState
     requires works { thread.now.failed ≡ false }
     requires below { index < length thread.now.kept.pairs }
@@ -44,7 +44,7 @@ fn share_for<D: BlockDevice>(thread: &Thread<D>, index: usize, wanted: &MoveStat
     with_share(&change, &thread.share(index))
 }
 
-// A global state as it can be stored.
+// Returns a global state as it can be stored.
 fn storable(state: MoveState) -> MoveState
     ensures same { move_seen result ≡ move_seen state }
     ensures words { IsAddress (move_seen result).pair }
@@ -58,7 +58,7 @@ fn storable(state: MoveState) -> MoveState
     }
 }
 
-// Whether a pair's tail is a hard one.
+// Returns whether a pair's tail is a hard one.
 fn goes_on<D: BlockDevice>(thread: &Thread<D>, index: usize) -> bool
     requires works { thread.now.failed ≡ false }
     requires below { index < length thread.now.kept.pairs }
@@ -67,7 +67,7 @@ fn goes_on<D: BlockDevice>(thread: &Thread<D>, index: usize) -> bool
     thread.next(index).is_some()
 }
 
-// Which pair a tail names.
+// Returns the address of the pair that a tail names.
 fn target(tail: Option<Tail>) -> Option<[u32; 2]>
     ensures same { option_map address_of result ≡ target_of (option_map tail_seen tail) }
     ensures words { IsAddressIfSome (option_map address_of result) }
@@ -78,7 +78,7 @@ fn target(tail: Option<Tail>) -> Option<[u32; 2]>
     }
 }
 
-// Whether two pairs' tails are hard ones.
+// Returns whether the tails of both pairs are hard ones.
 fn both_go_on<D: BlockDevice>(thread: &Thread<D>, index: usize, behind: usize) -> bool
     requires works { thread.now.failed ≡ false }
     requires first { index < length thread.now.kept.pairs }
@@ -88,7 +88,7 @@ fn both_go_on<D: BlockDevice>(thread: &Thread<D>, index: usize, behind: usize) -
     goes_on(thread, index) && goes_on(thread, behind)
 }
 
-// Changes the share of a pair, so that the global state becomes that.
+// Changes a pair's share, so that the global state becomes `wanted`.
 fn set_state<D: BlockDevice>(
     alloc: Global,
     thread: &mut Thread<D>,
@@ -104,13 +104,13 @@ fn set_state<D: BlockDevice>(
     ensures stops { StopsLeave thread.old.kept.history thread.new.kept.history (IsLeft thread.old.kept index (setting thread.old.kept index (move_seen wanted.now))) }
 {
     let state = storable(share_for(thread, index, wanted));
-    // It has the slots that it had, so it fits, and it is done.
+    // The pair has the slots that it had, so the commit is never refused.
     thread.change(alloc, index, &[Change::Move { state }])?;
     Ok(())
 }
 
-// Drops the pair behind one, so that the global state becomes that: the one in front takes over its
-// tail, as a hard one where both are, and its share.
+// Drops the pair after the one at the index, so that the global state becomes `wanted`. The pair at
+// the index takes over its share and its tail, which is hard only where both tails are.
 fn drop_behind<D: BlockDevice>(
     alloc: Global,
     thread: &mut Thread<D>,
@@ -130,7 +130,7 @@ fn drop_behind<D: BlockDevice>(
     let state = storable(with_share(&share, &thread.share(behind)));
     let hard = both_go_on(thread, index, behind);
     let pair = target(thread.tail(behind));
-    // It has the slots that it had, so it fits, and it is done.
+    // The pair has the slots that it had, so the commit is never refused.
     thread.drop_next(
         alloc,
         index,
@@ -139,7 +139,7 @@ fn drop_behind<D: BlockDevice>(
     Ok(())
 }
 
-// The global state that is wanted when a pair is dropped: none with the last one.
+// Returns the global state that is wanted after a pair is dropped: zero after the last one.
 fn state_after<D: BlockDevice>(thread: &Thread<D>, is_last: bool) -> MoveState
     requires { thread.now.failed ≡ false }
     ensures { move_seen result ≡ state_with thread.now.kept is_last }
@@ -151,7 +151,7 @@ fn state_after<D: BlockDevice>(thread: &Thread<D>, is_last: bool) -> MoveState
     }
 }
 
-// Clears the sync bit, if it is set: a path leads to each directory.
+// Clears the sync bit, if it is set. A path leads to each directory then.
 fn clear_sync<D: BlockDevice>(alloc: Global, thread: &mut Thread<D>) -> Result<(), Error>
     requires works { thread.old.failed ≡ false }
     requires can { CanClearSync thread.old.kept }
@@ -169,14 +169,17 @@ fn clear_sync<D: BlockDevice>(alloc: Global, thread: &mut Thread<D>) -> Result<(
     Ok(())
 }
 
-/// Drops the pairs of directories that no path leads to, one commit each, to the pair in front of
-/// it. The last one also clears the sync bit; where there is none, a commit of its own does, if it
-/// is set (DESIGN.md of littlefs, "The move problem"). No move is set, and `unreached` has their
-/// numbers in the thread, in turn. Nothing is written where there is nothing to recover. The blocks
-/// of the lists that the slots of those pairs name stay used: they are the caller's to free.
+/// Drops the pairs of directories that no path leads to, in one commit each, to the pair before it
+/// (DESIGN.md of littlefs, "The move problem"). The last of these commits also clears the sync bit.
+/// Where there is no such pair, a commit of its own clears the bit, if it is set. Nothing is
+/// written where there is nothing to recover.
 ///
-/// `Io` where a call of the device failed, and `NoMemory` where there is no room for a pair's slots
-/// and its block; the thread has failed then.
+/// The caller's conditions: no move is set, and `unreached` has the numbers of these pairs in the
+/// thread, in rising order. The blocks of the lists that the pairs' slots name stay used; the
+/// caller frees them.
+///
+/// Errors: `Io` where a call of the device failed, and `NoMemory` where memory for a pair's slots
+/// and its block isn't granted. The thread has failed then.
 pub fn drop_unreached<D: BlockDevice>(
     alloc: Global,
     thread: &mut Thread<D>,
@@ -200,7 +203,7 @@ pub fn drop_unreached<D: BlockDevice>(
     Ok(())
 }
 
-// The number of the pair whose slot a set move names. None where no move is set.
+// Returns the number of the pair whose slot a set move names. Returns None where no move is set.
 fn moved_pair<D: BlockDevice>(thread: &Thread<D>, state: &MoveState) -> Option<usize>
     requires accepted { IsAccepted thread.now.kept.disk thread.now.kept.pairs }
     requires state { move_seen state.now ≡ gstate_of thread.now.kept.pairs }
@@ -213,7 +216,7 @@ fn moved_pair<D: BlockDevice>(thread: &Thread<D>, state: &MoveState) -> Option<u
     number_of(thread, state.pair)
 }
 
-// The global state without a move.
+// Returns the global state without a move.
 fn without_move(state: &MoveState) -> MoveState
     ensures { move_seen result ≡ unset (move_seen state.now) }
 {
@@ -225,7 +228,7 @@ fn without_move(state: &MoveState) -> MoveState
     }
 }
 
-// Whether a pair has one slot, and a hard tail leads to it.
+// Returns whether a pair has one slot, and a hard tail names the pair.
 fn is_alone<D: BlockDevice>(thread: &Thread<D>, index: usize) -> bool
     requires works { thread.now.failed ≡ false }
     requires below { index < length thread.now.kept.pairs }
@@ -234,7 +237,7 @@ fn is_alone<D: BlockDevice>(thread: &Thread<D>, index: usize) -> bool
     index > 0 && thread.slot_count(index) == 1 && goes_on(thread, index - 1)
 }
 
-// Takes the slot at the id from a pair, so that the global state becomes that.
+// Removes the slot at the id from a pair, so that the global state becomes `wanted`.
 fn take_slot<D: BlockDevice>(
     alloc: Global,
     thread: &mut Thread<D>,
@@ -251,7 +254,7 @@ fn take_slot<D: BlockDevice>(
     ensures stops { StopsLeave thread.old.kept.history thread.new.kept.history (IsLeft thread.old.kept index (taking thread.old.kept index id (move_seen wanted.now))) }
 {
     let state = storable(share_for(thread, index, wanted));
-    // It has a slot less than it had, so it fits, and it is done.
+    // The pair has a slot less than before, so the commit is never refused.
     thread.change(
         alloc,
         index,
@@ -260,12 +263,12 @@ fn take_slot<D: BlockDevice>(
     Ok(())
 }
 
-/// Ends a set move, in one commit: the slot that it names goes. Where that slot is the only one of a
-/// pair that isn't the first of its directory, the pair is dropped (DESIGN.md of littlefs, "The move
-/// problem"). Nothing is written where no move is set.
+/// Ends a set move in one commit: the slot that the move names is removed (DESIGN.md of littlefs,
+/// "The move problem"). Where it is the only slot of a pair that isn't the first of its directory,
+/// the pair is dropped. Nothing is written where no move is set.
 ///
-/// `Io` where a call of the device failed, and `NoMemory` where there is no room for a pair's slots
-/// and its block; the thread has failed then.
+/// Errors: `Io` where a call of the device failed, and `NoMemory` where memory for a pair's slots
+/// and its block isn't granted. The thread has failed then.
 pub fn end_move<D: BlockDevice>(alloc: Global, thread: &mut Thread<D>) -> Result<(), Error>
     requires works { thread.old.failed ≡ false }
     requires can { CanEndMove thread.old.kept }

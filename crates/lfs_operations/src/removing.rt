@@ -1,4 +1,4 @@
-// Files that go from directories.
+// Files that are removed.
 
 ghost use Rattle.std.specs.Prelude.{◌≡◌, ◌<◌, ◌-◌, length, false, true, OnOk};
 ghost use Rattle.lfs_model.specs.PowerLoss.{Survives};
@@ -16,7 +16,8 @@ use lfs_tag::MoveState;
 use lfs_thread::Thread;
 use std::alloc::Global;
 
-// Whether a pair goes with its slot: it has no other, and isn't the first of its directory.
+// Returns whether a pair is dropped with its slot: it has no other slot, and isn't the first of its
+// directory.
 pub(crate) fn goes_with_slot<D: BlockDevice>(thread: &Thread<D>, pair: usize, first: usize) -> bool
     requires works { thread.now.failed ≡ false }
     requires below { pair < length thread.now.kept.pairs }
@@ -25,12 +26,13 @@ pub(crate) fn goes_with_slot<D: BlockDevice>(thread: &Thread<D>, pair: usize, fi
     pair != first && thread.slot_count(pair) == 1
 }
 
-/// Takes the file at the id of a pair from its directory, which begins with the pair of number
-/// `first`. Where the pair has no other slot and isn't the first, it goes with it: the pair in front
-/// of it takes over its tail. The map isn't told of the file's list, whose blocks stay used.
+/// Removes the file at the id of a pair from its directory, which begins with the pair of number
+/// `first`. A pair that has no other slot, and isn't that first pair, is dropped: the pair before
+/// it takes over its tail. The blocks of the file's list stay used in the map; the caller frees
+/// them.
 ///
-/// `Io` where a call of the device failed, and `NoMemory` where there is no room for the pair's
-/// slots and its block; the thread has failed then. At `NoMemory` nothing was written.
+/// Errors: `Io` where a call of the device failed. `NoMemory` where memory for the pair's slots and
+/// its block isn't granted; nothing was written then. After either the thread has failed.
 pub fn remove_file<D: BlockDevice>(
     alloc: Global,
     thread: &mut Thread<D>,
@@ -51,7 +53,7 @@ pub fn remove_file<D: BlockDevice>(
         drop_at(alloc, thread, pair, &MoveState::none())?;
         return Ok(());
     }
-    // What is left fits, so it is done.
+    // What is left fits, so the commit is never refused.
     thread.change(alloc, pair, &[Change::Delete { id }])?;
     Ok(())
 }

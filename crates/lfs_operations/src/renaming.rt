@@ -1,4 +1,4 @@
-// Entries that get another name in their directory, and stay in their pair.
+// Entries that get another name and stay in their pair.
 
 ghost use Rattle.std.specs.Prelude.{◌≡◌, ◌∷◌, IfOk, OnOk, false};
 ghost use Rattle.lfs_model.specs.Changes.{Delete};
@@ -17,14 +17,14 @@ use lfs_pair::Change;
 use lfs_thread::Thread;
 use std::alloc::{AllocError, Global};
 
-// A place among slots of which the one at an id is gone.
+// Returns a place among slots after the slot at an id was removed.
 pub(crate) fn place_without(id: u16, place: u16) -> u16
     ensures { result ≡ place_without id place }
 {
     if id < place { place - 1 } else { place }
 }
 
-// The slot at an id goes, and its copy comes at a place.
+// Returns the changes that remove the slot at an id, and put in its copy at a place.
 fn changes_of<'a>(
     alloc: Global,
     id: u16,
@@ -40,16 +40,16 @@ fn changes_of<'a>(
     Ok(changes)
 }
 
-/// Gives the entry at the id of a pair another name, which belongs in the same pair: the entry stands
-/// then where the name belongs, with its struct and its attributes. One commit takes it away and
-/// puts it back (DESIGN.md of littlefs, "The move problem"). `place` is the id at which the name
-/// belongs while the entry still stands. Where the pair has no room for it, it is split into two free
-/// blocks.
+/// Renames the entry at the id of a pair to a name that belongs in the same pair. The entry keeps
+/// its struct and its attributes. One commit removes the slot and puts in its copy under the new
+/// name (DESIGN.md of littlefs, "The move problem"). `place` is the id at which the name belongs
+/// while the old slot is still there. A pair without room is split into itself and two free blocks.
 ///
-/// `NoSpace` where it has none and fewer than two blocks are free: everything is as it was then.
-/// `Io` where a call of the device failed, and `NoMemory` where there is no room for the pair's
-/// slots, a copy of the entry and the pair's block; nothing was written at `NoMemory`. By these two
-/// the thread has failed, unless the entry couldn't be read and copied: it is as it was then.
+/// Errors: `NoSpace` where the pair has no room and fewer than two blocks are free; everything is
+/// as it was then. `Io` where a call of the device failed. `NoMemory` where memory for the pair's
+/// slots, a copy of the entry and the pair's block isn't granted; nothing was written then. After
+/// `Io` and `NoMemory` the thread has failed, unless the entry couldn't be read and copied. Then
+/// the thread is as it was.
 pub fn rename<D: BlockDevice>(
     alloc: Global,
     thread: &mut Thread<D>,
@@ -72,7 +72,8 @@ pub fn rename<D: BlockDevice>(
     Ok(())
 }
 
-// The slots at an id and a place go, and the copy of the first comes at the place.
+// Returns the changes that remove the slots at an id and a place, and put in a copy of the first at
+// the place.
 fn changes_onto<'a>(
     alloc: Global,
     id: u16,
@@ -90,12 +91,12 @@ fn changes_onto<'a>(
     Ok(changes)
 }
 
-/// Gives the entry at the id of a pair the name of a file of the same pair and directory, which goes:
-/// one commit takes both away and puts the entry in that file's place, with its struct and its
-/// attributes. `place` is the file's id. The map isn't told of the file's list, whose blocks stay
-/// used.
+/// Renames the entry at the id of a pair onto a file of the same pair and directory. One commit
+/// removes both slots, and puts in the entry under the file's name, with its own struct and
+/// attributes. `place` is the file's id. The blocks of the file's list stay used in the map; the
+/// caller frees them.
 ///
-/// Errors as those of [`rename`].
+/// Errors are those of [`rename`].
 pub fn rename_onto_file<D: BlockDevice>(
     alloc: Global,
     thread: &mut Thread<D>,

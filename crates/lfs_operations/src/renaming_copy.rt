@@ -1,4 +1,4 @@
-// Slots that are read to be written elsewhere.
+// Copies of slots, which are written elsewhere.
 
 ghost use Rattle.std.specs.Prelude.{◌≡◌, ◌<◌, ◌++◌, Some, IfErr, IfOk, IsSome, OnOk, false, length, map};
 ghost use Rattle.lfs_model.specs.Changes.{Change as ModelChange};
@@ -18,21 +18,21 @@ use lfs_tag::{Attribute, Content, Log, Part, Slot};
 use lfs_thread::Thread;
 use std::alloc::{AllocError, Global};
 
-// A struct's type and bytes.
+// The type and the bytes of a struct.
 #[derive(Drop)]
 pub(crate) struct PartCopy {
     kind: u16,
     bytes: Vec<u8>,
 }
 
-// An attribute's type and bytes.
+// The type and the bytes of an attribute.
 #[derive(Drop)]
 pub(crate) struct AttributeCopy {
     kind: u8,
     bytes: Vec<u8>,
 }
 
-// What a slot holds but for its name, apart from the block in which it stands.
+// A copy of a slot without its name.
 #[derive(Drop)]
 pub(crate) struct SlotCopy {
     name_kind: u16,
@@ -89,7 +89,7 @@ fn copy_slot(alloc: Global, slot: &Slot<'_>) -> Result<SlotCopy, AllocError>
     })
 }
 
-// The slot at an id of a log.
+// Copies the slot at an id of a log.
 fn copy_in(alloc: Global, log: &Log<'_>, id: u16) -> Result<SlotCopy, Error>
     requires { (content : ModelContent) × (IsBlockOf log.now content × (id < length content.slots)) }
     ensures copied { (raw : RawContent) → content_after_all no_content (log_entries log.now) ≡ Some raw → IfOk result (λ copy. copied copy ≡ parts_of (slot_of_id raw.slots id)) }
@@ -100,7 +100,7 @@ fn copy_in(alloc: Global, log: &Log<'_>, id: u16) -> Result<SlotCopy, Error>
     Ok(copy)
 }
 
-// The slot at an id of a pair. The thread works on after an error, too.
+// Copies the slot at an id of a pair. After an error the thread works on, too.
 pub(crate) fn copy_at<D: BlockDevice>(
     alloc: Global,
     thread: &mut Thread<D>,
@@ -119,7 +119,7 @@ pub(crate) fn copy_at<D: BlockDevice>(
     Ok(copy)
 }
 
-// Adds the changes that put a copied slot at an id, under that name.
+// Adds the changes that put in a copied slot at an id, under that name.
 pub(crate) fn push_slot<'a>(
     changes: &mut Vec<Change<'a>>,
     id: u16,

@@ -1,4 +1,4 @@
-// Entries that take the place of a directory in their pair.
+// Entries that replace a directory of their pair.
 
 ghost use Rattle.std.specs.Prelude.{◌≡◌, ◌-◌, ◌∷◌, IfOk, OnOk, false};
 ghost use Rattle.lfs_model.specs.Changes.{Delete, PutMove};
@@ -24,8 +24,8 @@ use lfs_tag::MoveState;
 use lfs_thread::{Thread, with_share};
 use std::alloc::{AllocError, Global};
 
-// The share becomes that, the slots at an id and a place go, and the copy of the first comes at the
-// place.
+// Returns the changes that set a share, remove the slots at an id and a place, and put in a copy of
+// the first at the place.
 fn changes_over<'a>(
     alloc: Global,
     state: MoveState,
@@ -45,13 +45,13 @@ fn changes_over<'a>(
     Ok(changes)
 }
 
-// Gives the entry at the id of a pair the name of a directory of the same pair and directory, whose
-// own pair stays in the thread: no path leads to it then, so the sync bit is set with it (DESIGN.md
-// of littlefs, "The move problem"). `place` is the directory's id.
+// Renames the entry at the id of a pair onto a directory of the same pair and directory. The
+// directory's own pair stays in the thread. No path leads to it then, so the sync bit is set with
+// the commit (DESIGN.md of littlefs, "The move problem"). `place` is the directory's id.
 //
-// `Io` where a call of the device failed, and `NoMemory` where there is no room for the pair's slots,
-// a copy of the entry and the pair's block; nothing was written at `NoMemory`. The thread has failed
-// then, unless the entry couldn't be read and copied: it is as it was then.
+// Errors: `Io` where a call of the device failed. `NoMemory` where memory for the pair's slots, a
+// copy of the entry and the pair's block isn't granted; nothing was written then. The thread has
+// failed after either, unless the entry couldn't be read and copied. Then the thread is as it was.
 pub(crate) fn rename_over<D: BlockDevice>(
     alloc: Global,
     thread: &mut Thread<D>,
@@ -71,21 +71,22 @@ pub(crate) fn rename_over<D: BlockDevice>(
     let copy = copy_at(alloc, thread, pair, id)?;
     let state = with_share(&thread.share(pair), &sync_bit());
     let changes = changes_over(alloc, state, id, place, name, &copy)?;
-    // Two slots make way for one with the name of the one and the rest of the other, so it fits.
+    // Two slots are replaced by one, with the name of the one and the rest of the other. So the
+    // commit is never refused.
     thread.change(alloc, pair, &changes)?;
     Ok(())
 }
 
-/// Puts the entry at the id of a pair in the place of an empty directory of the same pair and
-/// directory: the entry stands there then under the directory's name, with its own struct and
-/// attributes. `place` is the directory's id, and its own pair has number `gone` in the thread. The
-/// first commit sets the sync bit; the second drops that pair, to which no path leads any more, and
-/// clears the bit (DESIGN.md of littlefs, "The move problem").
+/// Renames the entry at the id of a pair onto an empty directory of the same pair and directory.
+/// The entry gets the directory's name, and keeps its own struct and attributes. `place` is the
+/// directory's id, and its own pair has number `gone` in the thread. The first commit sets the sync
+/// bit. The second drops the directory's own pair, to which no path leads any more, and clears the
+/// bit (DESIGN.md of littlefs, "The move problem").
 ///
-/// `Io` where a call of the device failed, and `NoMemory` where there is no room for a pair's slots,
-/// a copy of the entry and a pair's block. The thread has failed then, unless the entry couldn't be
-/// read and copied: it is as it was then. The device may stand between the two commits, where it
-/// shows the new tree.
+/// Errors: `Io` where a call of the device failed, and `NoMemory` where memory for a pair's slots,
+/// a copy of the entry and a pair's block isn't granted. The thread has failed then, unless the
+/// entry couldn't be read and copied. Then the thread is as it was. After an error the device may
+/// be between the two commits, where it shows the new tree.
 pub fn rename_onto_directory<D: BlockDevice>(
     alloc: Global,
     thread: &mut Thread<D>,

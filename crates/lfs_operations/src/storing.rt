@@ -1,4 +1,4 @@
-// Files that get other contents.
+// Structs of files, which are set.
 
 ghost use Rattle.std.specs.Prelude.{◌≡◌, ◌∷◌, [], false, OnOk};
 ghost use Rattle.lfs_model.specs.Changes.{PutStruct};
@@ -13,14 +13,14 @@ use lfs_pair::Change;
 use lfs_thread::Thread;
 use std::alloc::Global;
 
-/// Gives the file at the id of a pair another struct, of that type: its bytes themselves, or the
-/// head and the size of a list that stands on the device (SPEC.md of littlefs, "0x2xx
-/// LFS_TYPE_STRUCT"). Where the pair has no room for it, it is split into two free blocks.
+/// Sets the struct of the file at the id of a pair: its bytes themselves, or the head and the size
+/// of a list that is on the device (SPEC.md of littlefs, "0x2xx LFS_TYPE_STRUCT"). A pair without
+/// room for it is split into itself and two free blocks.
 ///
-/// The map isn't told of the lists: the blocks that come stay in flight, and those that only the old
-/// list has stay used.
+/// The map isn't changed for the lists: the new list's blocks that were in flight stay so, and
+/// blocks that only the old list has stay used. The caller settles them.
 ///
-/// Errors as those of [`create`](crate::create).
+/// Errors are those of [`create`](crate::create).
 pub fn set_struct<D: BlockDevice>(
     alloc: Global,
     thread: &mut Thread<D>,

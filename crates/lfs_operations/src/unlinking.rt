@@ -1,4 +1,4 @@
-// Directories that go from directories.
+// Empty directories that are removed.
 
 ghost use Rattle.std.specs.Prelude.{◌≡◌, ◌-◌, true, false, OnOk};
 ghost use Rattle.lfs_model.specs.PowerLoss.{Survives};
@@ -19,7 +19,7 @@ use lfs_tag::MoveState;
 use lfs_thread::{Thread, with_share};
 use std::alloc::Global;
 
-// The share that turns the sync bit.
+// Returns the share that turns the sync bit.
 pub(crate) fn sync_bit() -> MoveState
     ensures { move_seen result ≡ sync_share }
 {
@@ -31,8 +31,8 @@ pub(crate) fn sync_bit() -> MoveState
     }
 }
 
-// Takes the entry at the id of a pair, and turns the sync bit with it: a pair of the thread may be
-// reached from no directory then (DESIGN.md of littlefs, "The move problem").
+// Removes the entry at the id of a pair, and turns the sync bit with it. Afterwards no directory
+// may lead to a pair of the thread (DESIGN.md of littlefs, "The move problem").
 fn unlink<D: BlockDevice>(
     alloc: Global,
     thread: &mut Thread<D>,
@@ -48,19 +48,19 @@ fn unlink<D: BlockDevice>(
 {
     let state = with_share(&thread.share(pair), &sync_bit());
     let changes = [Change::Delete { id }, Change::Move { state }];
-    // What is left fits, so it is done.
+    // What is left fits, so the commit is never refused.
     thread.change(alloc, pair, &changes)?;
     Ok(())
 }
 
-// The number of a pair once the other one is gone.
+// Returns the number of a pair after another one was dropped.
 fn renumbered(other: usize, pair: usize) -> usize
     ensures { result ≡ number_without other pair }
 {
     if other < pair { pair - 1 } else { pair }
 }
 
-// Takes an empty directory whose entry's pair stays.
+// Removes an empty directory whose entry's pair stays.
 fn remove_beside<D: BlockDevice>(
     alloc: Global,
     thread: &mut Thread<D>,
@@ -84,7 +84,7 @@ fn remove_beside<D: BlockDevice>(
     Ok(())
 }
 
-// Takes an empty directory with its entry's pair, which holds nothing else.
+// Removes an empty directory with its entry's pair, which has no other slot.
 fn remove_with_pair<D: BlockDevice>(
     alloc: Global,
     thread: &mut Thread<D>,
@@ -108,15 +108,15 @@ fn remove_with_pair<D: BlockDevice>(
     Ok(())
 }
 
-/// Takes the empty directory at the id of a pair from its directory, which begins with the pair of
-/// number `first`. Its own pair has number `gone` in the thread. The entry goes first, with the sync
-/// bit set: then no path leads to the pair, which goes next, with the sync bit cleared (DESIGN.md of
-/// littlefs, "The move problem"). Where the entry's pair has no other slot and isn't the first, it
-/// goes with the entry.
+/// Removes the empty directory at the id of a pair from its directory, which begins with the pair
+/// of number `first`. Its own pair has number `gone` in the thread. The first commit removes the
+/// entry and sets the sync bit, since no path leads to the own pair then. The second drops that
+/// pair and clears the bit (DESIGN.md of littlefs, "The move problem"). An entry's pair that has no
+/// other slot, and isn't the first of its directory, is dropped with the entry.
 ///
-/// `Io` where a call of the device failed, and `NoMemory` where there is no room for a pair's slots
-/// and its block; the thread has failed then. The entry may be gone by then, and with it the
-/// directory.
+/// Errors: `Io` where a call of the device failed, and `NoMemory` where memory for a pair's slots
+/// and its block isn't granted. The thread has failed then. The entry may be removed by then, and
+/// the directory with it.
 pub fn remove_directory<D: BlockDevice>(
     alloc: Global,
     thread: &mut Thread<D>,

@@ -5,7 +5,8 @@ use Rattle.lfs_model.specs.WrittenContent.{raw_slot_size}
 use Rattle.lfs_model.specs.Cut.{IsCut}
 pub use Rattle.lfs_model.specs.Cut.{FitSlots, IsCut, CanBeCut}
 
--- of the cuts with at most half of the bytes in front the last, and where there is none, the first of all
+-- The cut is the last possible one with at most half of the bytes before it. Where no possible cut is such, it is the first
+-- possible one.
 pub record IsMiddle (block_size page : ℕ) (slots : List RawSlot) (cut : ℕ) : Type 0 where
   pub is_cut : IsCut block_size page slots cut
   pub later : (k : ℕ) → cut < k → IsCut block_size page slots k → sum_by raw_slot_size slots < 2 * sum_by raw_slot_size (take k slots)

@@ -1,4 +1,4 @@
--- What becomes of two blocks of which a pair is made.
+-- What a fresh pair makes of its two blocks.
 use Rattle.std.specs.Prelude.{ℕ, ◌≡◌, ◌⊎◌, ◌+◌, ◌≤◌, Bool, true, false, List, Some}
 use Rattle.lfs_device.specs.declared.error.Error.{Error}
 use Rattle.lfs_device.specs.declared.error.Error.TheVariants.{Io, NoMemory}
@@ -13,7 +13,7 @@ use Rattle.lfs_pair.specs.declared.pair.Pair.{Pair}
 use Rattle.lfs_pair.specs.Writing.{Holds}
 use Rattle.lfs_pair.specs.Commit.{IsAddressOn, NowHolds}
 
--- two blocks of the disk, and changes that make of nothing what fits a pair
+-- the premises: two blocks of the disk, and changes whose content fits a pair
 pub record CanBeFresh (disk : Disk) (at : ℕ × ℕ) (changes : List Change) : Type 0 where
   pub address : IsAddressOn disk at
   pub new : RawContent
@@ -31,21 +31,21 @@ erases_logs (Erase block) false after = has_commit (block_in after block) ≡ fa
 abbrev pub ErasesLogs : Event → Type 0
 ErasesLogs e = erases_logs e.call e.failed e.after
 
--- so many blocks are erased and programmed, and another one is erased; it is programmed too only where a log still stands
--- in it after its erase
+-- `count` blocks were erased and programmed, and one more was erased. That one was programmed, too, only where it still had a log
+-- after its erase.
 pub record ClearsLogs (count : ℕ) (before history : List Event) : Type 0 where
   pub erases : erases history ≡ erases before + (count + 1)
   pub at_most : programs history ≤ programs before + (count + 1)
   pub programs : EachSince ErasesLogs before history → programs history ≡ programs before + count
 
--- the first of two blocks holds that, with revision 1, no log is left in the second, and the pair says so
+-- The first block has that content with revision 1, the second has no log, and the header says so.
 pub record HoldsFresh (c : RawContent) (disk : Disk) (at : ℕ × ℕ) (pair : Pair) : Type 0 where
   pub active : pair.active ≡ at.0
   pub revision_is : pair.revision ≡ 1
   pub anew : Holds 1 c (block_at disk at.0)
   pub cleared : has_commit (block_at disk at.1) ≡ false
 
--- the pair holds what the changes make of nothing, in its first block
+-- the pair's first block has what the changes make of an empty log
 pub record IsFresh (before : List Event) (changes : List Change) (disk : Disk) (history : List Event) (at : ℕ × ℕ) (pair : Pair) : Type 0 where
   pub new : RawContent
   pub made : changed_by no_content changes ≡ Some new
@@ -53,7 +53,7 @@ pub record IsFresh (before : List Event) (changes : List Change) (disk : Disk) (
   pub fresh : HoldsFresh new disk at pair
   pub clears : ClearsLogs 1 before history
 
--- an error: where memory was lacking the device is untouched
+-- an error; at `NoMemory` the device is untouched
 pub record FailsUntouched {D : Type 0} (old new : D) (e : Error) : Type 0 where
   pub errors : (e ≡ Io) ⊎ (e ≡ NoMemory)
   pub no_memory : e ≡ NoMemory → new ≡ old

@@ -1,4 +1,4 @@
--- What becomes of a pair that is split.
+-- What a split does to a pair.
 use Rattle.std.specs.Prelude.{ℕ, ◌≡◌, ◌≢◌, ◌⊎◌, ◌+◌, ◌<◌, ◌%◌, ◌^◌, true, List, [], ◌∷◌, length, take, drop, Some}
 use Rattle.lfs_model.specs.Blocks.{Blocks, SameButThese}
 use Rattle.lfs_model.specs.Disk.{Disk, block_at}
@@ -15,40 +15,41 @@ use Rattle.lfs_pair.specs.Commit.{IsAddressOn, CanCommit, IsNow, IsStill, KeepsF
 use Rattle.lfs_pair.specs.Writing.{Holds}
 use Rattle.lfs_pair.specs.Cut.{CanBeCut, IsCut}
 
--- no block is in both pairs
+-- two pairs have no block in common
 pub record AreApart (at fresh : ℕ × ℕ) : Type 0 where
   pub first_first : at.0 ≢ fresh.0
   pub first_second : at.0 ≢ fresh.1
   pub second_first : at.1 ≢ fresh.0
   pub second_second : at.1 ≢ fresh.1
 
--- what the changes make can be cut into two parts that each fit a pair
+-- The premises of a split: those of a commit, two blocks of the disk that aren't the pair's, and a content that can be cut into
+-- two parts that fit a pair each.
 pub record CanSplit (disk : Disk) (history : List Event) (pair : Pair) (fresh : ℕ × ℕ) (changes : List Change) : Type 0 where
   pub commit : CanCommit disk history pair changes
   pub fresh_is : IsAddressOn disk fresh
   pub apart : AreApart (address_in pair) fresh
   pub cut : CanBeCut disk.block_size disk.page commit.new.slots
 
--- the first slots stay, with a hard tail to the fresh pair and the share of the global state
+-- the old pair's new content: the first slots, a hard tail to the fresh pair, and the share of the global state
 abbrev pub front_of : RawContent → ℕ → ℕ × ℕ → RawContent
 front_of c cut fresh = record { slots = take cut c.slots; tail = Some (record { hard = true; to = fresh }); move = c.move }
 
--- the others go to the fresh pair, with the tail
+-- the fresh pair's content: the other slots, and the old tail
 abbrev pub back_of : RawContent → ℕ → RawContent
 back_of c cut = record { slots = drop cut c.slots; tail = c.tail; move = no_gstate }
 
--- where the whole doesn't fit one pair, both parts have slots, and the first slot stays in front
+-- where the whole doesn't fit one pair, both parts have slots, and so the first slot stays in the old pair
 abbrev pub IsInside : ℕ → ℕ → RawContent → ℕ → Type 0
 IsInside block_size page whole cut = (FitsRaw block_size page whole → ⊥) → (0 < cut) × (cut < length whole.slots)
 
--- a content cut in two
+-- a content is cut into these two parts
 pub record AreParts (block_size page : ℕ) (whole : RawContent) (fresh : ℕ × ℕ) (front back : RawContent) : Type 0 where
   pub cut : ℕ
   pub is_cut : IsCut block_size page whole.slots cut
   pub front_is : front ≡ front_of whole cut fresh
   pub back_is : back ≡ back_of whole cut
 
--- what the changes make stands in both pairs, each of which fits
+-- A split that is done: each pair has its part of what the changes make, and each part fits.
 pub record Splits (old : Disk) (before : List Event) (changes : List Change) (was : Pair) (fresh : ℕ × ℕ) (disk : Disk) (history : List Event) (pair fresh_pair : Pair) : Type 0 where
   pub new : RawContent
   pub made : made_at old (address_in was) changes ≡ Some new
@@ -59,14 +60,15 @@ pub record Splits (old : Disk) (before : List Event) (changes : List Change) (wa
   pub front : NowHolds disk history (address_in was) pair (front_of new cut fresh)
   pub back : NowHolds disk history fresh fresh_pair (back_of new cut)
   pub first : KeepsFirst old (address_in was) (Some (front_of new cut fresh)) disk
-  -- the front is written anew into the block that didn't hold, with the next revision, and the other stays as it is
+  -- The old pair's part is written into the block that wasn't active, with the next revision. The block that was active stays as
+  -- it was.
   pub moved : pair.active ≢ was.active
   pub kept : block_at disk was.active ≡ block_at old was.active
   pub front_anew : Holds ((was.revision + 1) % 2 ^ 32) (front_of new cut fresh) (block_at disk pair.active)
   pub back_fresh : HoldsFresh (back_of new cut) disk fresh fresh_pair
   pub clears : ClearsLogs 2 before history
 
--- both pairs hold their parts
+-- each pair on the disk has its part
 pub record AreParted (old : Disk) (at fresh : ℕ × ℕ) (changes : List Change) (disk : Disk) : Type 0 where
   pub new : RawContent
   pub made : made_at old at changes ≡ Some new
@@ -81,15 +83,15 @@ pub record AreParted (old : Disk) (at fresh : ℕ × ℕ) (changes : List Change
 abbrev pub blocks_of_both : ℕ × ℕ → ℕ × ℕ → List ℕ
 blocks_of_both at fresh = at.0 ∷ at.1 ∷ fresh.0 ∷ fresh.1 ∷ []
 
--- no block but those of the two pairs changes
+-- no block changes but those of the two pairs
 abbrev pub OutsideBothKeeps : ℕ × ℕ → ℕ × ℕ → Blocks → Blocks → Type 0
 OutsideBothKeeps at fresh old new = SameButThese (blocks_of_both at fresh) old new
 
--- what was unprogrammed elsewhere still is
+-- bytes of other blocks that were unprogrammed still are
 abbrev pub OutsideBothStays : ℕ × ℕ → ℕ × ℕ → List Event → List Event → Type 0
 OutsideBothStays at fresh old new = StayUnprogrammed (blocks_of_both at fresh) old new
 
--- a stop leaves the pair with what it held, or both pairs with their parts
+-- What a stop leaves of a split: the old pair with its old content, or both pairs with their parts.
 pub record LeftBySplit (old : Disk) (at fresh : ℕ × ℕ) (changes : List Change) (left : Blocks) : Type 0 where
   pub others : OutsideBothKeeps at fresh old.blocks left
   pub content : IsStill old at (record old { blocks = left }) ⊎ AreParted old at fresh changes (record old { blocks = left })

@@ -1,4 +1,4 @@
--- What a commit makes of a block, and what a stop on the way there leaves.
+-- What a commit makes of a block, and what a stop during it leaves.
 use Rattle.std.specs.Prelude.{ℕ, ◌≡◌, ◌≤◌, ◌⊎◌, ◌+◌, ◌%◌, ◌++◌, true, List, [], ◌∷◌, take, IfErr, Result, Some, unwrap_or}
 use Rattle.lfs_device.specs.declared.device.BlockDevice.{Ghosts}
 use Rattle.lfs_device.specs.declared.error.Error.{Error}
@@ -14,35 +14,36 @@ use Rattle.lfs_model.specs.WrittenContent.{written_entries}
 use Rattle.lfs_model.specs.Stops.{SameLog, HasNoLog}
 use Rattle.lfs_tag.specs.Builder.{Building, earlier, padded_end}
 
--- the commit with more entries
+-- a commit that is built, with more entries
 abbrev pub with_entries : List LogEntry → Building → Building
 with_entries es b = record b { entries = b.entries ++ es }
 
--- a block's log ends there, with that tag, on a page boundary, and nothing is programmed behind it
+-- A block's log ends at this place, which is a page boundary, with this last tag. Nothing is programmed after it.
 pub record IsWritten (disk : Disk) (history : List Event) (block end last : ℕ) : Type 0 where
   pub end_is : end ≡ (chain_of (block_at disk block)).end
   pub last_is : last ≡ (chain_of (block_at disk block)).last
   pub whole_pages : end % disk.page ≡ 0
   pub unprogrammed : AllUnprogrammed history block end disk.block_size
 
--- the log of a block has the commits before it and this one
+-- a block's new log has the commits from before, and then this one
 pub record Gets (b : Building) (old new : List ℕ) : Type 0 where
   pub checksum : LogEntry
   pub class : class_of checksum.tag ≡ 5
   pub commits : (chain_of new).commits ≡ earlier b.revision old ++ (b.entries ++ checksum ∷ []) ∷ []
   pub revision : revision_of new ≡ unwrap_or b.revision (revision_of old)
 
--- a block gets a commit from an offset on, up to that end, and keeps its bytes before the offset
+-- A block gets a commit at an offset, which ends at `end`. It keeps its bytes before the offset.
 pub record Adds (b : Building) (at end : ℕ) (old new : List ℕ) : Type 0 where
   pub commit : Gets b old new
   pub end_is : end ≡ at + padded_end b
   pub kept : take at new ≡ take at old
 
--- a stop while it is programmed at an offset leaves the log before it or behind it; at the block's beginning also none
+-- What a stop leaves of a commit that is programmed at an offset: the log from before, or the one with the commit. At the block's
+-- beginning it may also leave none.
 abbrev pub LeftByCommit : Building → ℕ → List ℕ → List ℕ → Type 0
 LeftByCommit b off old left = SameLog left old ⊎ (((off ≡ 0) × HasNoLog left) ⊎ Gets b old left)
 
--- a block's log is one commit, of the entries that write that content anew, and comes to it
+-- A block's log is one commit, of the entries that write the content anew, and comes to that content.
 pub record Holds (revision : ℕ) (c : RawContent) (block : List ℕ) : Type 0 where
   pub has_commit : has_commit block ≡ true
   pub revision_is : revision_of block ≡ revision
@@ -51,34 +52,35 @@ pub record Holds (revision : ℕ) (c : RawContent) (block : List ℕ) : Type 0 w
   pub class : class_of checksum.tag ≡ 5
   pub commits : (chain_of block).commits ≡ (written_entries c ++ checksum ∷ []) ∷ []
 
--- a block was erased once and programmed once, and holds that
+-- a block was erased once and programmed once, and has that content
 pub record HoldsAnew (revision : ℕ) (c : RawContent) (block : List ℕ) (before after : List Event) : Type 0 where
   pub holds : Holds revision c block
   pub erases : erases after ≡ erases before + 1
   pub programs : programs after ≡ programs before + 1
 
--- a stop while a block is erased and a content is written into it leaves its old log, or none, or the content
+-- What a stop leaves where a block is erased and a content is written into it: the old log, none, or the content.
 abbrev pub LeftByWriting : ℕ → RawContent → List ℕ → List ℕ → Type 0
 LeftByWriting revision c old left = SameLog left old ⊎ (HasNoLog left ⊎ Holds revision c left)
 
--- the same, where only that block is written
+-- in these blocks only one has changed, and its bytes are as P allows
 abbrev pub LeftInBlock : ℕ → (List ℕ → List ℕ → Type 0) → Blocks → Blocks → Type 0
 LeftInBlock b P old left = SameBut b old left × P (block_in old b) (block_in left b)
 
--- No block but these changes, and the device is read at most so often.
+-- No block changes but these, and the device is read at most so often.
 pub record ChangesReading {D : Type 0} (g : Ghosts D) (most : ℕ) (bs : List ℕ) (old new : D) : Type 0 where
   pub only : ChangesOnly g bs old new
   pub few : reads (g.history new) ≤ reads (g.history old) + most
 
--- No block but this one is written, and the device is read at most so often. The only error is `Io`, which comes with a fault
--- of the device.
+-- No block is written but this one, and the device is read at most so often. The only error is `Io`, which comes with a fault of
+-- the device.
 pub record WritesBlock {D X : Type 0} (g : Ghosts D) (most b : ℕ) (old new : D) (result : Result X Error) : Type 0 where
   pub device : ChangesBlock g b old new
   pub few : reads (g.history new) ≤ reads (g.history old) + most
   pub errors : IfErr result (λ e. e ≡ Io)
   pub faults : TellsFaults g old new result
 
--- the same of several blocks
+-- No block is written but these, and the device is read at most so often. The only error is `Io`, which comes with a fault of the
+-- device.
 pub record WritesOnly {D X : Type 0} (g : Ghosts D) (most : ℕ) (bs : List ℕ) (old new : D) (result : Result X Error) : Type 0 where
   pub device : ChangesOnly g bs old new
   pub few : reads (g.history new) ≤ reads (g.history old) + most

@@ -16,18 +16,19 @@ use lfs_tag::kinds::{ATTRIBUTE, CREATE, DELETE};
 use lfs_tag::{Content, ContentError, Entry, MoveState, NULL_ADDRESS, Tag, Tail};
 use std::alloc::Global;
 
-/// A change to what a pair holds. Changes are applied in order; an id is one at that moment.
+/// A change to what a pair holds. Changes are applied in order: an id counts the slots that are
+/// there after the changes before it.
 #[derive(Clone, Copy, Drop)]
 pub enum Change<'a> {
-    /// A slot comes at the id, from 0 to the count, with a name of that type.
+    /// A new slot is put in at the id, from 0 to the number of slots. Its name has that type.
     Create { id: u16, kind: u16, name: &'a [u8] },
-    /// The slot at the id goes.
+    /// The slot at the id is removed, and later ids are one less.
     Delete { id: u16 },
-    /// The slot at the id gets a struct of that type.
+    /// The slot at the id gets another struct, of that type.
     Struct { id: u16, kind: u16, bytes: &'a [u8] },
-    /// The slot at the id gets an attribute, of at most 1,022 bytes.
+    /// The slot at the id gets an attribute of 0 to 1,022 bytes, in place of one of the same type.
     Attr { id: u16, attr: u8, bytes: &'a [u8] },
-    /// The slot at the id loses an attribute, if it has it.
+    /// The slot at the id loses the attribute of that type, if it has one.
     NoAttr { id: u16, attr: u8 },
     /// The pair gets another tail, or none.
     Tail { hard: bool, pair: Option<[u32; 2]> },
@@ -35,7 +36,7 @@ pub enum Change<'a> {
     Move { state: MoveState },
 }
 
-// Takes an entry with these fields.
+// Adds an entry with these fields to the content.
 fn put<'a>(
     alloc: Global,
     content: &mut Content<'a>,
@@ -53,7 +54,7 @@ fn put<'a>(
     Ok(())
 }
 
-// Takes an entry that removes an attribute.
+// Adds an entry that removes an attribute to the content.
 fn put_removal(
     alloc: Global,
     content: &mut Content<'_>,
@@ -68,7 +69,7 @@ fn put_removal(
     Ok(())
 }
 
-// The tail that a change sets.
+// Returns the tail that a change sets. Two null addresses are no tail.
 fn tail_with(hard: bool, pair: Option<[u32; 2]>) -> Option<Tail>
     ensures { option_map tail_seen result ≡ tail_with_pair hard (named_pair (option_map address_of pair)) }
 {
@@ -84,7 +85,7 @@ fn tail_with(hard: bool, pair: Option<[u32; 2]>) -> Option<Tail>
     }
 }
 
-// Takes what a change makes of the content.
+// Applies a change to the content.
 pub(crate) fn apply<'a>(
     alloc: Global,
     content: &mut Content<'a>,
@@ -126,13 +127,14 @@ pub(crate) fn apply<'a>(
     }
 }
 
-/// Makes the changes to a content, in order. That each can be stored in a tag is the caller's
-/// condition: an id below 0x3ff, a name's or a struct's type, at most 1,022 bytes.
+/// Applies the changes to a content, in order. The caller's condition is that a tag can store each
+/// change: an id below 0x3ff, a name's or a struct's type, at most 1,022 bytes.
 ///
-/// Answers `Malformed` exactly where a change may not stand there: a create with an id past the
-/// count, a delete, struct or attribute for an id that isn't there, a struct or attribute for a slot
-/// without a name, a type or a length that the format doesn't have. After an error nothing is known
-/// of the content.
+/// Errors: `NoMemory` where memory isn't granted. `Malformed` exactly where the format doesn't
+/// allow a change there (SPEC.md of littlefs, "Metadata types"). These are a create with an id
+/// above the number of slots, and a delete, struct or attribute for an id that isn't there. They
+/// are also a struct or attribute for a slot without a name, and a type or a length that the format
+/// doesn't have. After an error nothing is known of the content.
 pub fn apply_all<'a>(
     alloc: Global,
     content: &mut Content<'a>,

@@ -1,4 +1,4 @@
-// Changes committed to a pair.
+// Commits of changes to a pair.
 
 ghost use Rattle.std.specs.Prelude.{◌≡◌, true, false, IfErr, OnErr, OnOk, Some, length};
 ghost use Rattle.lfs_device.specs.Shown.{disk_of};
@@ -24,32 +24,36 @@ use lfs_device::{BlockDevice, Error, read_block};
 use lfs_tag::{CommitBuilder, Content};
 use std::alloc::Global;
 
-/// What became of a commit.
+/// What a commit did.
 #[derive(Clone, Copy, Debug, PartialEq, Eq, Drop)]
 pub enum Outcome {
-    /// The pair holds what the changes make.
+    /// The pair now holds what the changes make of it.
     Done,
-    /// That doesn't fit the pair; nothing was written.
+    /// What the changes make doesn't fit the pair. Nothing was written.
     Full,
 }
 
-/// Commits changes to a pair, all of them or, where power is lost on the way, none. They are
-/// appended to the log of the block that holds where the padded commit ends within the block.
-/// Else, and first of all after a [`fetch`](crate::fetch), since nothing is known of what lies
-/// behind the log then, the pair's other block is erased, and what the pair is to hold is written
-/// into it (DESIGN.md of littlefs, "Metadata pairs"). It takes at most two reads.
+/// Commits changes to a pair (DESIGN.md of littlefs, "Metadata pairs"). The commit is atomic: a
+/// loss of power during the call leaves the pair with all of the changes or with none.
 ///
-/// `Full` exactly where what the changes make exceeds what [`fits`] a pair; nothing is written
-/// then, and the pair stays as it was. `NoMemory` where there is no room for two blocks and the
-/// slots; nothing is written then either. `Io` where a call of the device failed. After an error
-/// `pair` is as it was, but the device may hold something else, so its blocks are to be fetched
-/// again.
+/// The changes are appended to the active block's log where the padded commit ends within the
+/// block. Else the other block is erased, and all that the pair is to hold is written into it. The
+/// first commit after a [`fetch`](crate::fetch) takes this way, too, since the bytes after the log
+/// aren't known then. The call takes at most two reads.
 ///
-/// What is said of lost power holds where an erase leaves a block without a log or with the one
-/// that it had, and a program that is cut short leaves the log from before it or from behind it.
+/// Returns [`Outcome::Full`] exactly where what the changes make doesn't fit a pair ([`fits`]).
+/// Then nothing is written, and the pair stays as it was.
 ///
-/// That the device has the pair as its last call left it, that the changes may stand in its log,
-/// and that each slot has a name afterwards, are the caller's conditions.
+/// Errors: `NoMemory` where memory for two blocks and the slots isn't granted; nothing is written
+/// then. `Io` where a call of the device failed. After an error `pair` is as it was, but the device
+/// may hold something else. So the caller fetches its blocks again.
+///
+/// The promise about a loss of power has two premises. An erase leaves a block without a log, or
+/// with the log that it had. A program that is cut short leaves the log from before it, or the one
+/// from after it.
+///
+/// The caller's conditions: the device has the pair as its last call left it. The changes are
+/// allowed in the pair's log. Each slot has a name afterwards.
 pub fn commit<D: BlockDevice>(
     alloc: Global,
     dev: &mut D,
@@ -72,11 +76,11 @@ pub fn commit<D: BlockDevice>(
     Ok(outcome)
 }
 
-/// [`commit`] to a pair whose active block has these bytes, which a cache may have. It reads the
-/// four bytes behind what it programs, and nothing else.
+/// Commits as [`commit`] does, to a pair whose active block's bytes the caller has, as from a
+/// cache. Of the device it reads the four bytes after what it programs, and nothing else.
 ///
-/// That the block has these bytes is the caller's condition, beside those of [`commit`]. `NoMemory`
-/// where there is no room for a block and the slots; nothing is written then.
+/// The caller's conditions are those of [`commit`], and that the active block has the bytes of
+/// `block`. Errors are those of [`commit`], but memory is wanted for one block and the slots.
 pub fn commit_in<'a, 'b: 'a, D: BlockDevice>(
     alloc: Global,
     dev: &mut D,
@@ -109,8 +113,8 @@ pub fn commit_in<'a, 'b: 'a, D: BlockDevice>(
     Ok(Outcome::Done)
 }
 
-// Appends the changes, which make the content, to the block that holds, where they fit behind its
-// log. Says whether they do.
+// Appends the changes, which make the content, to the log of the active block, if they fit there.
+// Returns whether they do.
 fn append<D: BlockDevice>(
     dev: &mut D,
     pair: &mut Pair,
@@ -143,7 +147,7 @@ fn append<D: BlockDevice>(
     Ok(true)
 }
 
-// Writes the content into the pair's other block.
+// Writes the content into the pair's other block, which becomes active.
 pub(crate) fn compact<D: BlockDevice>(
     dev: &mut D,
     pair: &mut Pair,

@@ -1,4 +1,4 @@
-// Where the slots of a pair that is full are cut into two parts.
+// Where a full pair's slots are cut into two parts.
 
 ghost use Rattle.std.specs.Prelude.{map};
 ghost use Rattle.lfs_tag.specs.ContentSeen.{slot_seen};
@@ -8,8 +8,9 @@ use crate::size::{is_within, slot_size, slots_size};
 use lfs_device::Geometry;
 use lfs_tag::Slot;
 
-// How many slots stand in front of the cut. It is the last one with at most half of the bytes in
-// front, so that what is written later finds room in both parts, or the first where there is no such.
+// Returns how many slots come before the cut. The cut is the last one that has at most half of the
+// bytes before it. So what is written later finds room in both parts. Where no cut is such, it is
+// the first that is possible.
 pub(crate) fn cut_of(slots: &[Slot<'_>], geometry: Geometry) -> usize
     requires { CanBeCut geometry.block_size geometry.page (map slot_seen slots.now) }
     ensures { IsMiddle geometry.block_size geometry.page (map slot_seen slots.now) result }

@@ -1,4 +1,4 @@
-// A pair read from the device.
+// The header of a pair, read from the device.
 
 ghost use Rattle.std.specs.Prelude.{◌≡◌, ◌≢◌, ◌+◌, ◌≤◌, ◌<◌, ◌⊎◌, true, IfOk, IfErr, IsOk, None, OnOk, Some};
 ghost use Rattle.lfs_device.specs.Shown.{disk_of};
@@ -15,7 +15,7 @@ use lfs_device::{BlockDevice, Error, read_block};
 use lfs_tag::{Log, Summary, is_later};
 use std::alloc::Global;
 
-// The pair whose active block has these bytes and that head.
+// Makes the header of a pair whose active block has these bytes and that head.
 fn described(
     alloc: Global,
     blocks: [u32; 2],
@@ -49,14 +49,15 @@ fn described(
     })
 }
 
-/// Reads a pair: which of its blocks holds, where that block's log ends, and what it comes to but
-/// for the slots (SPEC.md of littlefs, "Metadata pairs"). That the two blocks differ and are in
-/// the device is the caller's condition. Each block is read once, and no checksum is computed
-/// twice. It takes memory for both blocks and two bytes a slot.
+/// Reads the header of the metadata pair at two blocks (SPEC.md of littlefs, "Metadata pairs"). The
+/// header says which block is active, where its log ends, and what the log comes to without the
+/// slots. The caller's condition is that the two blocks differ and are below the number of blocks.
+/// Each block is read once where the call succeeds, and no checksum is computed twice. The call
+/// takes memory for both blocks and two bytes a slot. Nothing is written.
 ///
-/// Answers `Corrupt` exactly where neither block has a commit, or the log of the block that holds
-/// is malformed; `Io` where a read failed, and `NoMemory` where there is no room for the blocks and
-/// the slots. Nothing is written.
+/// Errors: `Corrupt` exactly where neither block has a commit, or the log of the active block is
+/// malformed. `Io` where a read failed. `NoMemory` where memory for the blocks and the slots isn't
+/// granted.
 pub fn fetch<D: BlockDevice>(alloc: Global, dev: &mut D, blocks: [u32; 2]) -> Result<Pair, Error>
     requires apart { (address_of blocks).0 ≢ (address_of blocks).1 }
     requires first { (address_of blocks).0 < (D.geometry dev.old).block_count }

@@ -1,4 +1,4 @@
-// New pairs.
+// Pairs that are made of two blocks.
 
 ghost use Rattle.std.specs.Prelude.{◌≡◌, ◌<◌, false, length, IfErr, IfOk, OnOk};
 ghost use Rattle.lfs_device.specs.Shown.{disk_of};
@@ -25,11 +25,11 @@ use std::alloc::Global;
 // The revision of a pair's first log.
 const FIRST_REVISION: u32 = 1;
 
-// The longest page.
+// As many zeros as the longest page has bytes.
 const ZEROS: [u8; 512] = [0; 512];
 
-// Erases a block, and leaves no log in it: where an old one is still there, since an erase may
-// leave any bytes, its first page is programmed with zeros. The buffer is as long as a block.
+// Erases a block, and leaves no log in it. An erase may leave any bytes, so an old log may still be
+// there after it. The first page is then programmed with zeros. The buffer is as long as a block.
 fn clear<D: BlockDevice>(dev: &mut D, block: u32, buf: &mut [u8]) -> Result<(), Error>
     requires in_device { block < (D.geometry dev.old).block_count }
     requires buf { length buf.old ≡ (D.geometry dev.old).block_size }
@@ -47,7 +47,7 @@ fn clear<D: BlockDevice>(dev: &mut D, block: u32, buf: &mut [u8]) -> Result<(), 
     Ok(())
 }
 
-// Makes a pair of two blocks that holds the content in the first of them.
+// Makes a pair of two blocks. The first block is active and holds the content.
 pub(crate) fn write_fresh<D: BlockDevice>(
     dev: &mut D,
     blocks: [u32; 2],
@@ -73,18 +73,20 @@ pub(crate) fn write_fresh<D: BlockDevice>(
 }
 
 impl Pair {
-    /// Makes a pair of two blocks, whatever they hold, and commits the changes to it. Both are
-    /// erased; the first then holds, with revision 1. Where the second still has a log after its
-    /// erase, which may leave any bytes, its first page is programmed with zeros before the first
-    /// is written, so that no old log is taken for the pair's. It takes at most two reads.
+    /// Makes a new pair of two blocks, whatever bytes they have, and commits the changes to it.
+    /// Both blocks are erased. The first one becomes active, with revision 1. An erase may leave
+    /// any bytes. So where the second block still has a log after its erase, its first page is
+    /// programmed with zeros before the first block is written. Then no old log is taken for the
+    /// pair's. The call takes at most two reads.
     ///
-    /// `NoMemory` where there is no room for a block and the slots; the device is untouched then.
-    /// `Io` where a call of the device failed. After it, and after a loss of power on the way, the
-    /// two blocks may hold any bytes, and each other block what it held.
+    /// Errors: `NoMemory` where memory for a block and the slots isn't granted; the device is
+    /// untouched then. `Io` where a call of the device failed. After `Io`, and after a loss of
+    /// power during the call, the two blocks may have any bytes. Each other block has the bytes
+    /// that it had.
     ///
-    /// That the two blocks differ and are in the device, that the changes may stand in an empty
-    /// log, that each slot has a name afterwards, and that they [`fit`](crate::fits), are the
-    /// caller's conditions.
+    /// The caller's conditions: the two blocks differ and are below the number of blocks. The
+    /// changes are allowed in an empty log. Afterwards each slot has a name, and the slots
+    /// [`fit`](crate::fits) a pair.
     pub fn fresh<D: BlockDevice>(
         alloc: Global,
         dev: &mut D,

@@ -1,4 +1,4 @@
-//! Metadata pairs: two blocks, of which the one with the later log holds.
+//! Metadata pairs: fetched from two blocks, made of two blocks, changed by commits, and split.
 #![tactic(auto)]
 
 mod change;

@@ -1,4 +1,4 @@
-// What changes make of what a block holds.
+// What changes make of a pair's content.
 
 ghost use Rattle.std.specs.Prelude.{◌≡◌, true, is_some, IfOk, IfErr, Some, length, None};
 ghost use Rattle.lfs_model.specs.Content.{no_content};
@@ -15,7 +15,7 @@ use lfs_device::Error;
 use lfs_tag::{Content, ContentError, Log, MoveState};
 use std::alloc::Global;
 
-// Nothing.
+// Makes the content of an empty log.
 fn empty<'a>(alloc: Global) -> Content<'a>
     ensures { content_seen result ≡ no_content }
 {
@@ -26,7 +26,7 @@ fn empty<'a>(alloc: Global) -> Content<'a>
     }
 }
 
-// What the changes make of nothing.
+// Makes the content that the changes make of an empty log.
 pub(crate) fn made_of_nothing<'a>(
     alloc: Global,
     changes: &[Change<'a>],
@@ -44,8 +44,8 @@ pub(crate) fn made_of_nothing<'a>(
     }
 }
 
-// What the changes make of what the pair's block with these bytes holds. Its checksums aren't
-// computed again.
+// Makes the content that the changes make of what the pair's active block holds. The block has
+// these bytes; its checksums aren't computed again.
 pub(crate) fn made_in<'a, 'b: 'a>(
     alloc: Global,
     pair: &Pair,

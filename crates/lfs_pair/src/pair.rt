@@ -1,4 +1,4 @@
-// What is kept of a pair.
+// The header that is kept of a metadata pair.
 
 ghost use Rattle.std.specs.Prelude.{◌≡◌, false, is_some, map};
 ghost use Rattle.lfs_model.specs.Content.{complete_all};
@@ -9,7 +9,7 @@ ghost use Rattle.lfs_pair.specs.Pair.{EndsWith, SumsUp, other_in};
 use crate::writing::Written;
 use lfs_tag::{Content, MoveState, Slot, Tag, Tail};
 
-// Whether each of these slots has a name and a struct.
+// Returns whether each slot has a name and a struct.
 pub(crate) fn are_complete(slots: &[Slot<'_>]) -> bool
     ensures { result ≡ is_some (complete_all (map slot_seen slots.now)) }
 {
@@ -21,39 +21,44 @@ pub(crate) fn are_complete(slots: &[Slot<'_>]) -> bool
     true
 }
 
-/// Whether two addresses are those of one pair: its two blocks may come in either order.
+/// Returns whether two addresses name the same pair. The two blocks of an address may come in
+/// either order.
 pub fn is_same_pair(a: [u32; 2], b: [u32; 2]) -> bool
     ensures { result ≡ same_pair (address_of a) (address_of b) }
 {
     a[0] == b[0] && a[1] == b[1] || a[0] == b[1] && a[1] == b[0]
 }
 
-/// What is known of a pair without its slots: enough to append to the block that holds.
+/// The header of a metadata pair: what is kept of it without its slots. It is enough to append a
+/// commit to the active block (SPEC.md of littlefs, "Metadata pairs").
 #[derive(Clone, Copy, Debug, PartialEq, Eq, Drop)]
 pub struct Pair {
-    /// In the order in which the thread names them.
+    /// The pair's two blocks, in the order in which the thread names them.
     pub blocks: [u32; 2],
-    /// The block of the two that holds.
+    /// The active block: the one of the two whose log counts.
     pub active: u32,
-    /// Where its last commit ends, in bytes from the block's beginning.
+    /// Where the active block's last commit ends, in bytes from the block's beginning.
     pub end: usize,
-    /// Its last tag, as the next one is stored with it.
+    /// The last tag of the active block's log. The next tag is stored as its exclusive or with this
+    /// one.
     pub last: Tag,
-    /// The revision of its log.
+    /// The revision of the active block.
     pub revision: u32,
+    /// How many slots the pair has.
     pub slot_count: usize,
-    /// The next pair of the thread.
+    /// What the pair's tail names: the next pair of the thread. None in the thread's last pair.
     pub tail: Option<Tail>,
     /// The pair's share of the global state.
     pub move_state: MoveState,
-    /// Each of its slots has a name and a struct.
+    /// Whether each slot of the pair has a name and a struct.
     pub is_complete: bool,
-    /// Nothing was written since it was fetched, so what lies past its end isn't known.
+    /// Whether nothing was written since the pair was fetched. Then it isn't known which bytes
+    /// after the log's end are unprogrammed.
     pub is_fetched: bool,
 }
 
 impl Pair {
-    // The block that doesn't hold.
+    // Returns the block that isn't active.
     pub(crate) fn other(&self) -> u32
         ensures { result ≡ other_in self.now }
     {
@@ -64,7 +69,7 @@ impl Pair {
         }
     }
 
-    // The pair whose active block was just written.
+    // Makes the header of a pair whose active block was just written.
     pub(crate) fn written(
         blocks: [u32; 2],
         active: u32,

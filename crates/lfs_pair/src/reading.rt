@@ -1,4 +1,4 @@
-// Which block of a pair holds.
+// What decides which block of a pair is active.
 
 ghost use Rattle.std.specs.Prelude.{◌≡◌};
 ghost use Rattle.lfs_model.specs.Log.{chain_of, revision_of};
@@ -6,18 +6,18 @@ ghost use Rattle.lfs_model.specs.Content.{has_commit};
 
 use lfs_tag::{Log, Tag};
 
-// What decides which block of a pair holds.
+// What is read of a block to decide whether it is its pair's active one.
 #[derive(Clone, Copy, Drop)]
 pub(crate) struct Head {
     pub has_commit: bool,
     pub revision: u32,
-    // Where the log ends, and its last tag.
+    // Where the log ends in bytes, and its last tag.
     pub end: usize,
     pub last: Tag,
 }
 
 impl Head {
-    // The head of a block with these bytes.
+    // Reads the head of a block with these bytes.
     pub(crate) fn of(bytes: &[u8]) -> Head
         ensures has_commit { result.has_commit ≡ has_commit bytes.now }
         ensures revision { result.revision ≡ revision_of bytes.now }

@@ -1,4 +1,4 @@
-// How many bytes a pair's slots take.
+// How many bytes the slots of a pair take.
 
 ghost use Rattle.std.specs.Prelude.{◌≡◌, ℕ, ◌+◌, ◌-◌, ◌^◌, ◌<◌, ◌≤◌, ◌↔◌, IsTrue, length, min, map, sum_by};
 ghost use Rattle.std.specs.Option.{option_map};
@@ -10,7 +10,8 @@ ghost use Rattle.lfs_tag.specs.ContentSeen.{part_seen, attribute_seen, slot_seen
 use lfs_device::Geometry;
 use lfs_tag::{Attribute, Content, Part, Slot};
 
-// The bytes of a name or a struct with its tag, or the greatest number where there are more.
+// Returns how many bytes a name or a struct takes with its tag, or the greatest number where there
+// are more. None takes no bytes.
 fn part_size(part: &Option<Part<'_>>) -> u64
     ensures { result ≡ min (part_size (option_map part_seen part.now)) (2 ^ 64 - 1) }
 {
@@ -20,7 +21,7 @@ fn part_size(part: &Option<Part<'_>>) -> u64
     }
 }
 
-/// The bytes of attributes with their tags, or the greatest number where there are more.
+/// Returns how many bytes the attributes take with their tags, or 2^64 - 1 where there are more.
 pub fn attributes_size(attributes: &[Attribute<'_>]) -> u64
     ensures { result ≡ min (attributes_size (map attribute_seen attributes.now)) (2 ^ 64 - 1) }
 {
@@ -33,7 +34,7 @@ pub fn attributes_size(attributes: &[Attribute<'_>]) -> u64
     total
 }
 
-// The same of a slot.
+// Returns how many bytes a slot takes with its tags, or the greatest number where there are more.
 pub(crate) fn slot_size(slot: &Slot<'_>) -> u64
     ensures { result ≡ min (raw_slot_size (slot_seen slot.now)) (2 ^ 64 - 1) }
 {
@@ -42,7 +43,8 @@ pub(crate) fn slot_size(slot: &Slot<'_>) -> u64
         .saturating_add(attributes_size(&slot.attributes))
 }
 
-// The same of all slots.
+// Returns how many bytes all slots take with their tags, or the greatest number where there are
+// more.
 pub(crate) fn slots_size(slots: &[Slot<'_>]) -> u64
     ensures { result ≡ min (sum_by raw_slot_size (map slot_seen slots.now)) (2 ^ 64 - 1) }
 {
@@ -53,15 +55,15 @@ pub(crate) fn slots_size(slots: &[Slot<'_>]) -> u64
     total
 }
 
-// Whether a pair that is written may hold so many slots of so many bytes.
+// Returns whether a pair may hold `count` slots of `size` bytes.
 pub(crate) fn is_within(count: usize, size: u64, geometry: Geometry) -> bool
     ensures { IsTrue result ↔ ((count ≤ slot_limit) × (size ≤ pair_capacity geometry.block_size geometry.page)) }
 {
     count <= geometry.slot_limit() && size <= u64::from(geometry.pair_capacity())
 }
 
-/// Whether a pair that is written may hold this: no more slots than [`Geometry::slot_limit`], and
-/// their bytes within [`Geometry::pair_capacity`].
+/// Returns whether a pair may hold the content: at most [`Geometry::slot_limit`] slots, whose bytes
+/// are at most [`Geometry::pair_capacity`].
 pub fn fits(content: &Content<'_>, geometry: Geometry) -> bool
     ensures { IsTrue result ↔ FitsRaw geometry.block_size geometry.page (content_seen content.now) }
 {

@@ -1,4 +1,4 @@
-// Pairs that are split.
+// Splits of a pair into itself and a fresh pair.
 
 ghost use Rattle.std.specs.Prelude.{◌≡◌, IfErr, IfOk};
 ghost use Rattle.lfs_device.specs.Shown.{disk_of};
@@ -25,21 +25,23 @@ use lfs_device::{BlockDevice, Error, Geometry, read_block};
 use lfs_tag::{Content, MoveState, Tail};
 use std::alloc::Global;
 
-/// Commits changes that don't fit a pair to it and to a pair that is made of two blocks. The old
-/// pair keeps the first slots and its share of the global state, and gets a hard tail to the fresh
-/// one, which gets the other slots and the tail (DESIGN.md of littlefs, "The directory tree"). The
-/// fresh pair is written first, so that power lost on the way leaves the pair with what it held, or
-/// both pairs with what they are to hold. Answers the fresh pair. It takes
-/// at most four reads.
+/// Commits changes to a pair and splits it: a fresh pair is made of two blocks and takes the later
+/// slots. The old pair keeps the first slots and its share of the global state, and gets a hard
+/// tail to the fresh pair. The fresh pair gets the other slots and the old tail (DESIGN.md of
+/// littlefs, "The directory tree"). Returns the header of the fresh pair. The call takes at most
+/// four reads.
 ///
-/// `NoMemory` where there is no room for two blocks and the slots; nothing is written then. `Io`
-/// where a call of the device failed. After an error `pair` is as it was, but the device may hold
-/// something else, so its blocks are to be fetched again. What is said of lost power holds under
-/// the conditions of [`commit`](crate::commit).
+/// The fresh pair is written first. So a loss of power during the call leaves the old pair with
+/// what it held, or both pairs with what they are to hold. That has the premises of
+/// [`commit`](crate::commit).
 ///
-/// What [`commit`](crate::commit) wants of the pair and of the changes are the caller's conditions
-/// here too, and so is that the slots can be cut into two parts that each [`fit`](crate::fits), and
-/// that the two blocks differ, are in the device and none of the pair's.
+/// Errors: `NoMemory` where memory for two blocks and the slots isn't granted; nothing is written
+/// then. `Io` where a call of the device failed. After an error `pair` is as it was, but the device
+/// may hold something else. So the caller fetches its blocks again.
+///
+/// The caller's conditions are those of [`commit`](crate::commit), and three more. The slots can be
+/// cut into two parts that each [`fit`](crate::fits) a pair. The two blocks of `fresh` differ and
+/// are below the number of blocks. Neither is a block of the old pair.
 pub fn split<D: BlockDevice>(
     alloc: Global,
     dev: &mut D,
@@ -62,11 +64,11 @@ pub fn split<D: BlockDevice>(
     Ok(fresh_pair)
 }
 
-/// [`split`] of a pair whose active block has these bytes, which a cache may have. It takes at most
-/// three reads.
+/// Splits as [`split`] does a pair whose active block's bytes the caller has, as from a cache. The
+/// call takes at most three reads.
 ///
-/// That the block has these bytes is the caller's condition, beside those of [`split`]. `NoMemory`
-/// where there is no room for a block and the slots; nothing is written then.
+/// The caller's conditions are those of [`split`], and that the active block has the bytes of
+/// `block`. Errors are those of [`split`], but memory is wanted for one block and the slots.
 pub fn split_in<'a, 'b: 'a, D: BlockDevice>(
     alloc: Global,
     dev: &mut D,
@@ -95,8 +97,8 @@ pub fn split_in<'a, 'b: 'a, D: BlockDevice>(
     Ok(fresh_pair)
 }
 
-// Takes the slots from the cut on out of the content, with its tail, which becomes a hard one to
-// the fresh pair.
+// Takes the slots from the cut on out of the content, and returns them with its tail. The content's
+// tail then is a hard one to the fresh pair.
 fn cut_off<'a>(
     content: &mut Content<'a>,
     fresh: [u32; 2],

@@ -1,4 +1,4 @@
-// Commits, written to a block of the device.
+// Commits that are written to a block of the device.
 
 ghost use Rattle.std.specs.Prelude.{◌≡◌, ◌<◌, ◌≤◌, ◌+◌, ◌%◌, length, IfOk, IfErr, OnOk};
 ghost use Rattle.lfs_device.specs.Shown.{disk_of};
@@ -17,16 +17,16 @@ use crate::entries::push_content;
 use lfs_device::{BlockDevice, Error};
 use lfs_tag::{CommitBuilder, Content, Tag};
 
-// A commit that was written.
+// What a caller keeps of a commit that was written.
 #[derive(Clone, Copy, Drop)]
 pub(crate) struct Written {
-    // Where it ends in its block.
+    // Where the commit ends, in bytes from the block's beginning.
     pub end: usize,
-    // Its last tag, as the next one is stored with it.
+    // The commit's last tag. The next tag is stored as its exclusive or with this one.
     pub last: Tag,
 }
 
-// The four bytes of a block from an offset on, or none where the block has fewer.
+// Reads the four bytes of a block at an offset. Returns None where the block has fewer.
 fn next_bytes<D: BlockDevice>(dev: &mut D, block: u32, at: u32) -> Result<Option<[u8; 4]>, Error>
     requires in_device { block < (D.geometry dev.old).block_count }
     requires in_block { at ≤ (D.geometry dev.old).block_size }
@@ -44,7 +44,7 @@ fn next_bytes<D: BlockDevice>(dev: &mut D, block: u32, at: u32) -> Result<Option
     Ok(Some(next))
 }
 
-// Programs a commit into a block from an offset on, where the block is unprogrammed.
+// Programs a commit into a block at an offset. The block is unprogrammed from there on.
 pub(crate) fn program<D: BlockDevice>(
     dev: &mut D,
     block: u32,
@@ -77,7 +77,7 @@ pub(crate) fn program<D: BlockDevice>(
     })
 }
 
-// Erases a block and writes a content into it, as its first commit. The buffer is as long as a
+// Erases a block, and writes a content into it as its first commit. The buffer is as long as a
 // block.
 pub(crate) fn write_anew<D: BlockDevice>(
     dev: &mut D,

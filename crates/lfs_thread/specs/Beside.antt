@@ -1,4 +1,4 @@
--- Work on the device and the map of a thread that leaves its pairs alone.
+-- Work on a thread's device and map that leaves its pairs alone.
 use Rattle.std.specs.Prelude.{ℕ, ◌≡◌, length, true, Contains}
 use Rattle.std.specs.Fn.{Once}
 use Rattle.std.specs.Borrow.{MutBor}
@@ -11,14 +11,14 @@ use Rattle.lfs_model.specs.History.{unprogrammed}
 use Rattle.lfs_model.specs.Thread.{blocks_of}
 use Rattle.lfs_thread.specs.Kept.{Kept, disk_on}
 
--- a disk has so many blocks and pages of those sizes
+-- the disk has this geometry
 pub record IsDividedAs (geometry : Geometry) (disk : Disk) : Type 0 where
   pub block_size : geometry.block_size ≡ disk.block_size
   pub page : geometry.page ≡ disk.page
   pub order : geometry.order ≡ disk.order
   pub count : geometry.block_count ≡ block_count disk
 
--- what is called with a device and a map, and what it answers and leaves there
+-- work that is called with a device and a map, and returns an X
 abbrev pub Work : Type 0 → Type 0 → Type 0 → Type 1
 Work F D X = Once F (MutBor D × (MutBor BlockSets × Unit {0})) (X × (MutBor D × (MutBor BlockSets × Unit {0})))
 
@@ -28,11 +28,11 @@ pub record Shows {D : Type 0} (g : Ghosts D) (t : Kept) (device : D) (sets : Blo
   pub history : g.history device ≡ t.history
   pub map : sets ≡ t.map
 
--- the work may be called with these
+-- the work may be called with this device and this map
 pub record CanRun {F D X : Type 0} (call : Work F D X) (work : F) (device : D) (map : BlockSets) : Type 0 where
   pub can : (p : MutBor D) (q : MutBor BlockSets) → p.now ≡ device → q.now ≡ map → call.pre work (p, (q, tt))
 
--- a call of the work with a device and a map may answer x, and leave those others there
+-- a call of the work with this device and this map may return x, and leave `later` and `later_map`
 pub record Runs {F D X : Type 0} (call : Work F D X) (work : F) (device : D) (map : BlockSets) (x : X) (later : D) (later_map : BlockSets) : Type 0 where
   pub shown : MutBor D
   pub shows : shown.now ≡ device
@@ -44,7 +44,7 @@ pub record Runs {F D X : Type 0} (call : Work F D X) (work : F) (device : D) (ma
   pub leaves : left.now ≡ later
   pub leaves_map : left_map.now ≡ later_map
 
--- No used block of the thread's pairs changes, what was unprogrammed in it still is, and it stays used.
+-- No used block of the thread's pairs changes, its unprogrammed bytes stay so, and it stays used.
 pub record LeavesPairs {D : Type 0} (g : Ghosts D) (t : Kept) (device : D) (map : BlockSets) (later : D) (later_map : BlockSets) : Type 0 where
   pub geometry : g.geometry later ≡ g.geometry device
   pub count : length (g.blocks later) ≡ length (g.blocks device)
@@ -53,7 +53,7 @@ pub record LeavesPairs {D : Type 0} (g : Ghosts D) (t : Kept) (device : D) (map 
   pub size : length later_map ≡ length map
   pub used : (b : ℕ) → Contains (blocks_of t.pairs) b → IsUsed map b → IsUsed later_map b
 
--- the work was called with the thread's device and map, answered x, and the thread has what it left there
+-- The work was called with the thread's device and map, and returned x. The thread has the device and the map that it left.
 pub record HasRun {F D X : Type 0} (g : Ghosts D) (call : Work F D X) (work : F) (old : Kept) (x : X) (new : Kept) : Type 0 where
   pub device : D
   pub map : BlockSets

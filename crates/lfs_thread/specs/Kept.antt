@@ -1,4 +1,4 @@
--- What is kept of a thread.
+-- What is kept of a thread, and what contracts see of it.
 use Rattle.std.specs.Prelude.{ℕ, ◌≡◌, Bool, nat_eq, unwrap_or, map, length, List, [], ◌∷◌, Option, Some}
 use Rattle.std.specs.List.{IsDistinct}
 use Rattle.lfs_device.specs.declared.device.BlockDevice.{Ghosts}
@@ -15,11 +15,11 @@ use Rattle.lfs_pair.specs.declared.pair.Pair as header
 use Rattle.lfs_pair.specs.Pair.{IsPair, address_in}
 use Rattle.lfs_pair.specs.Commit.{IsAddressOn}
 
--- What is kept of a pair.
+-- The header that is kept of a pair.
 abbrev pub Header : Type 0
 Header = header.Pair
 
--- A thread: the disk and its calls so far, the pairs in turn, and what is known of each block.
+-- What is kept of a thread: the disk and its calls so far, the pairs in the thread's order, and the map of the blocks.
 pub record Kept : Type 0 where
   pub disk : Disk
   pub history : List Event
@@ -32,7 +32,7 @@ pub record State : Type 0 where
   pub cache : CachedBlocks
   pub failed : Bool
 
--- what the disk holds at an address
+-- the pair that the disk has at an address
 abbrev pub pair_on : Disk → ℕ × ℕ → Pair
 pair_on disk at = record { at = at; content = unwrap_or (content_at disk at) (record { slots = []; tail = Option.None; move = no_gstate }) }
 
@@ -42,7 +42,7 @@ pairs_on disk headers = map (λ h. pair_on disk (address_in h)) headers
 abbrev pub seen : Disk → List Event → List Header → BlockSets → Kept
 seen disk history headers sets = record { disk = disk; history = history; pairs = pairs_on disk headers; map = sets }
 
--- the disk has the pair as its header says, and each of its slots has a name and a struct
+-- The disk has the pair as its header says, and each of its slots has a name and a struct.
 pub record IsHeader (disk : Disk) (history : List Event) (h : Header) : Type 0 where
   pub address : IsAddressOn disk (address_in h)
   pub held : RawContent
@@ -59,7 +59,7 @@ abbrev pub AllUsed : BlockSets → List ℕ → Type 0
 AllUsed sets [] = Unit {0}
 AllUsed sets (b ∷ bs) = IsUsed sets b × AllUsed sets bs
 
--- what is kept is what the disk says: the headers are those of its thread, and the map has their blocks
+-- What is kept is what the disk has: the headers are those of its thread, and the map has their blocks as used.
 pub record IsKept (disk : Disk) (history : List Event) (headers : List Header) (sets : BlockSets) : Type 0 where
   pub each : AreHeaders disk history headers
   pub links : Links (Some anchor) (pairs_on disk headers)
@@ -67,7 +67,7 @@ pub record IsKept (disk : Disk) (history : List Event) (headers : List Header) (
   pub size : length sets ≡ block_count disk
   pub used : AllUsed sets (blocks_of (pairs_on disk headers))
 
--- it was kept once, but for the map, and the disk was only read since
+-- Headers that were kept at some time of a disk that was only read since then. The map has their blocks as used.
 pub record WasKept (disk : Disk) (history : List Event) (headers : List Header) (sets : BlockSets) : Type 0 where
   pub before : List Event
   pub since : OnlyReads disk.blocks before history
@@ -77,11 +77,11 @@ pub record WasKept (disk : Disk) (history : List Event) (headers : List Header) 
   pub size : length sets ≡ block_count disk
   pub used : AllUsed sets (blocks_of (pairs_on disk headers))
 
--- each block that is at hand is as the device has it
+-- each block at hand has the bytes that the device has
 abbrev pub IsCurrent : Blocks → CachedBlocks → Type 0
 IsCurrent blocks cache = (b : ℕ) (bytes : List ℕ) → cached cache b ≡ Some bytes → bytes ≡ block_in blocks b
 
--- ---- of a device
+-- ---- the same of a device
 
 abbrev pub disk_on : {D : Type 0} → Ghosts D → D → Disk
 disk_on g device = disk_of (g.geometry device) (g.blocks device)

@@ -1,4 +1,4 @@
--- What a thread lends.
+-- The block of a pair that a thread lends.
 use Rattle.std.specs.Prelude.{ℕ, ◌≡◌, ◌≤◌, ◌^◌, List, length, Option, None, Some}
 use Rattle.lfs_device.specs.Bytes.{AreBytes}
 use Rattle.lfs_model.specs.Cache.{CachedBlocks, cached, put_first}
@@ -10,24 +10,24 @@ use Rattle.lfs_pair.specs.Pair.{active_at}
 use Rattle.lfs_thread.specs.Kept.{Kept, State}
 use Rattle.lfs_thread.specs.Steps.{pair_in}
 
--- the bytes of the block in which a pair's log stands, if they are among these
+-- the bytes of a pair's active block, if it is among these cached blocks
 abbrev pub at_hand_of : Kept → CachedBlocks → ℕ → Option (List ℕ)
 at_hand_of kept cache index = cached cache (active_at kept.disk (pair_in kept index).at)
 
--- the same of the blocks at hand
+-- the bytes of a pair's active block, if it is at hand
 abbrev pub at_hand : State → ℕ → Option (List ℕ)
 at_hand t index = at_hand_of t.kept t.cache index
 
--- one read, or none of what is at hand
+-- one read for a block that isn't at hand, and none for one that is
 abbrev pub read_if_missing : Option (List ℕ) → ℕ
 read_if_missing None = 1
 read_if_missing (Some bytes) = 0
 
--- the blocks at hand once a pair's is the most recent; the least recent one goes where there were eight
+-- The blocks at hand once a pair's active block is the most recent one. The least recent one is dropped where there were eight.
 abbrev pub brought : State → ℕ → CachedBlocks
 brought t index = put_first t.cache (active_at t.kept.disk (pair_in t.kept index).at) (block_at t.kept.disk (active_at t.kept.disk (pair_in t.kept index).at))
 
--- a block's log comes to that content; a block has at most 64 KiB, of bytes
+-- A block's log comes to that content. The block has at most 64 KiB.
 pub record IsBlockOf (block : List ℕ) (content : Content) : Type 0 where
   pub raw : RawContent
   pub log : content_after_all no_content (log_entries block) ≡ Some raw

@@ -1,4 +1,4 @@
--- Addresses of pairs, and where one stands among them.
+-- A list of addresses of pairs, and the place of one in it.
 use Rattle.std.specs.Prelude.{ℕ, suc, ◌≡◌, ◌<◌, ◌^◌, true, if◌then◌else◌, min, max, All, List, [], ◌∷◌, Option, Some, None, slice_get}
 use Rattle.std.specs.List.{flat_map}
 use Rattle.std.specs.Option.{option_map}
@@ -8,7 +8,7 @@ use Rattle.lfs_model.specs.Slots.{same_pair}
 abbrev pub blocks_at : List (ℕ × ℕ) → List ℕ
 blocks_at addresses = flat_map (λ at. at.0 ∷ at.1 ∷ []) addresses
 
--- the place of the first one with the same two blocks
+-- the place of the first address with the same two blocks
 abbrev pub place_of : List (ℕ × ℕ) → ℕ × ℕ → Option ℕ
 place_of [] at = None
 place_of (a ∷ addresses) at = if same_pair a at then Some 0 else option_map (λ i. suc i) (place_of addresses at)
@@ -27,7 +27,7 @@ lesser_of at = min at.0 at.1
 abbrev pub greater_of : ℕ × ℕ → ℕ
 greater_of at = max at.0 at.1
 
--- each address is found by its lesser block, a number of 32 bits, and nothing else is
+-- Each address is found by its lesser block, a number of 32 bits. No other block finds one.
 pub record IsByBlock (addresses : List (ℕ × ℕ)) (place : ℕ → Option ℕ) : Type 0 where
   pub each : (i : ℕ) (at : ℕ × ℕ) → slice_get addresses i ≡ Some at → place (lesser_of at) ≡ Some i
   pub only : (b i : ℕ) → place b ≡ Some i → option_map lesser_of (slice_get addresses i) ≡ Some b

@@ -1,4 +1,4 @@
--- What is said where a thread is read from a device.
+-- What a reading of a thread from a device leaves and reports.
 use Rattle.std.specs.Prelude.{ℕ, ◌≡◌, ◌+◌, ◌*◌, ◌⊎◌, false, List, [], length, slice_set, Result, IfErr}
 use Rattle.lfs_device.specs.declared.device.BlockDevice.{Ghosts}
 use Rattle.lfs_device.specs.declared.error.Error.{Error}
@@ -13,21 +13,21 @@ use Rattle.lfs_pair.specs.Pair.{address_in}
 use Rattle.lfs_thread.specs.Begun.{CanStand}
 use Rattle.lfs_thread.specs.Kept.{Header, IsHeader, State, disk_on}
 
--- The device was only read; `Io` comes with a fault of it, and any other answer without one.
+-- The device was only read. `Io` comes with a fault of the device, and any other result without one.
 pub record TellsReading {D X : Type 0} (g : Ghosts D) (old new : D) (result : Result X Error) : Type 0 where
   pub device : ReadsOnly g old new
   pub errors : IfErr result (λ e. (e ≡ Corrupt) ⊎ ((e ≡ Io) ⊎ (e ≡ NoMemory)))
   pub faults : TellsFaults g old new result
 
--- The header is that of the pair at an address, which can stand there, and whose blocks are marked now.
+-- The header is that of the pair at an address. The pair can stand there, and its blocks are marked now.
 pub record IsReadAt (disk : Disk) (history : List Event) (at : ℕ × ℕ) (old new : BlockSets) (h : Header) : Type 0 where
   pub header : IsHeader disk history h
   pub address : address_in h ≡ at
   pub stands : CanStand disk old at
   pub marked : new ≡ slice_set (slice_set old at.0 Used) at.1 Used
 
--- The thread of a device that was only read, each block of a pair once and none with a fault: it works, and the blocks of its
--- pairs are used and no others, and none is in flight.
+-- The thread was read from a device that was only read, each block of a pair once and none with a fault. It works. The blocks of
+-- its pairs are used and no others, and none is in flight.
 pub record IsThreadOf {D : Type 0} (g : Ghosts D) (device : D) (t : State) : Type 0 where
   pub works : t.failed ≡ false
   pub thread : IsThread (content_at (disk_on g device)) (g.geometry device).block_count t.kept.pairs

@@ -24,27 +24,28 @@ no_pair = record { at = anchor; content = record { slots = []; tail = Option.Non
 abbrev pub pair_in : Kept → ℕ → Pair
 pair_in t index = slice_index_or t.pairs index no_pair
 
--- what changes make of the pair at an index, where each slot then has a name and a struct
+-- what changes make of the pair at an index, if each slot then has a name and a struct
 abbrev pub made_in_thread : Kept → ℕ → List Change → Option Content
 made_in_thread t index changes = option_and_then completed (made_at t.disk (pair_in t index).at changes)
 
--- ---- what every step says
+-- ---- what every step reports
 
--- as many blocks and pages of the same sizes, and the same order of names
+-- the new disk has as many blocks and pages of the same sizes, and the same order of names
 pub record HasShape (old new : Disk) : Type 0 where
   pub block_size : new.block_size ≡ old.block_size
   pub page : new.page ≡ old.page
   pub order : new.order ≡ old.order
   pub count : block_count new ≡ block_count old
 
--- no block but these changes, what was unprogrammed in another still is, and a loss of power on the way leaves the others
+-- No block but these changes. Unprogrammed bytes of other blocks stay so, and a loss of power during the step leaves the other
+-- blocks as they were.
 pub record Writes (bs : List ℕ) (old new : Kept) : Type 0 where
   pub others : SameButThese bs old.disk.blocks new.disk.blocks
   pub elsewhere : StayUnprogrammed bs old.history new.history
   pub shape : HasShape old.disk new.disk
   pub at_worst : LeavesOnly AtWorst old.history new.history (SameButThese bs old.disk.blocks)
 
--- the same, and the device is read at most so often
+-- No block but these changes, and the device is read at most so often.
 pub record WritesReading (most : ℕ) (bs : List ℕ) (old new : Kept) : Type 0 where
   pub only : Writes bs old new
   pub few : reads new.history ≤ reads old.history + most
@@ -54,21 +55,21 @@ pub record IsUnwritten (old new : Kept) : Type 0 where
   pub disk : new.disk ≡ old.disk
   pub reads : OnlyReads old.disk.blocks old.history new.history
 
--- `Io` comes with a fault of the device, and any other answer with none; at `NoMemory` nothing was written
+-- `Io` comes with a fault of the device, and any other result with none. At `NoMemory` nothing was written.
 pub record HasTold {X : Type 0} (old new : Kept) (result : Result X Error) : Type 0 where
   pub errors : IfErr result (λ e. (e ≡ Io) ⊎ (e ≡ NoMemory))
   pub fault : IsErrOf result Io → faults old.history < faults new.history
   pub no_fault : ¬ IsErrOf result Io → faults new.history ≡ faults old.history
   pub unwritten : result ≡ Err NoMemory → IsUnwritten old new
 
--- the same of a step that may have written these blocks by then
+-- `Io` comes with a fault of the device, and any other result with none. At `NoMemory` no block was written but these.
 pub record HasToldBeside {X : Type 0} (bs : List ℕ) (old new : Kept) (result : Result X Error) : Type 0 where
   pub errors : IfErr result (λ e. (e ≡ Io) ⊎ (e ≡ NoMemory))
   pub fault : IsErrOf result Io → faults old.history < faults new.history
   pub no_fault : ¬ IsErrOf result Io → faults new.history ≡ faults old.history
   pub beside : result ≡ Err NoMemory → SameButThese bs old.disk.blocks new.disk.blocks
 
--- only read, and the thread is as it was
+-- the device was only read, and the thread is as it was
 pub record IsOnlyRead (old new : Kept) : Type 0 where
   pub disk : new.disk ≡ old.disk
   pub reads : OnlyReads old.disk.blocks old.history new.history
@@ -77,7 +78,7 @@ pub record IsOnlyRead (old new : Kept) : Type 0 where
 
 -- ---- a pair is changed
 
--- there is such a pair, and the changes make something of it whose tail names the same pair
+-- There is a pair at the index. What the changes make of it has a tail that names the same pair as before.
 pub record CanChange (t : Kept) (index : ℕ) (changes : List Change) : Type 0 where
   pub below : index < length t.pairs
   pub content : Content
@@ -94,18 +95,19 @@ SlotsHaveFirst slots = (starts_with_superblock slots ≡ true) × (option_map (�
 abbrev pub HasSuperblockFirst : Content → Type 0
 HasSuperblockFirst c = SlotsHaveFirst c.slots
 
--- where a pair's log begins with the superblock's entry, so does what has that content now, if it has the superblock in slot 0
+-- If a pair's log began with the superblock's entry, and its content now has the superblock in slot 0, its log begins with that
+-- entry now.
 abbrev pub StaysFirst : Disk → ℕ × ℕ → Content → Disk → Type 0
 StaysFirst old at c disk = BeginsWith (holder_at old at) superblock_entry → HasSuperblockFirst c → BeginsWith (holder_at disk at) superblock_entry
 
--- The pair at an index holds that content on the disk, and no block but its two differs. The superblock stays first.
+-- The pair at an index has that content on the disk, and no block but its two differs. The superblock stays first.
 pub record IsWrittenAs (old : Kept) (index : ℕ) (content : Content) (disk : Disk) : Type 0 where
   pub holds : content_at disk (pair_in old index).at ≡ Some content
   pub others : OutsideKeeps (pair_in old index).at old.disk.blocks disk.blocks
   pub shape : HasShape old.disk disk
   pub first : StaysFirst old.disk (pair_in old index).at content disk
 
--- the pair holds what the changes make, and everything else is as it was
+-- A commit that is done: the pair has what the changes make, and everything else is as it was.
 pub record IsChanged (old : Kept) (index : ℕ) (changes : List Change) (new : Kept) : Type 0 where
   pub content : Content
   pub made : made_in_thread old index changes ≡ Some content
@@ -115,43 +117,43 @@ pub record IsChanged (old : Kept) (index : ℕ) (changes : List Change) (new : K
   pub thread : IsThread (content_at new.disk) (block_count new.disk) new.pairs
   pub map : new.map ≡ old.map
 
--- what the changes make doesn't fit, and nothing was written
+-- A commit that is refused: what the changes make doesn't fit, and nothing was written.
 pub record IsRefused (old : Kept) (index : ℕ) (changes : List Change) (new : Kept) : Type 0 where
   pub content : Content
   pub made : made_in_thread old index changes ≡ Some content
   pub too_large : ¬ FitsPair old.disk.block_size old.disk.page content
   pub only : IsOnlyRead old new
 
--- a stop leaves the pair with what it held or with what the changes make
+-- What a stop leaves of a commit: the pair with its old content or with what the changes make.
 pub record IsLeft (old : Kept) (index : ℕ) (changes : List Change) (left : Blocks) : Type 0 where
   pub content : Content
   pub is : (content ≡ (pair_in old index).content) ⊎ ((made_in_thread old index changes ≡ Some content) × FitsPair old.disk.block_size old.disk.page content)
   pub written : IsWrittenAs old index content (record old.disk { blocks = left })
 
--- ---- blocks of a pair that comes
+-- ---- blocks of a fresh pair
 
--- two blocks are in flight
+-- two different blocks are in flight
 pub record AreHeld (sets : BlockSets) (fresh : ℕ × ℕ) : Type 0 where
   pub apart : fresh.0 ≢ fresh.1
   pub first : IsInFlight sets fresh.0
   pub second : IsInFlight sets fresh.1
 
--- they are used now
+-- the map with these two blocks used
 abbrev pub settled : BlockSets → ℕ × ℕ → BlockSets
 settled sets fresh = slice_set (slice_set sets fresh.0 Used) fresh.1 Used
 
--- the pairs with two in place of one
+-- the pairs with two pairs in place of the one at an index
 abbrev pub with_two : List Pair → ℕ → Pair → Pair → List Pair
 with_two ps index p q = insert (slice_set ps index p) (index + 1) q
 
--- the pair holds what it held, and its log begins as it did
+-- the pair has the content that it had, and its log still begins with the superblock's entry if it did
 pub record IsAsBefore (old : Kept) (index : ℕ) (disk : Disk) : Type 0 where
   pub holds : content_at disk (pair_in old index).at ≡ Some (pair_in old index).content
   pub first : BeginsWith (holder_at old.disk (pair_in old index).at) superblock_entry → BeginsWith (holder_at disk (pair_in old index).at) superblock_entry
 
 -- ---- a pair is split
 
--- there is such a pair, and the changes make something of it that can be cut in two and whose tail names the same pair
+-- There is a pair at the index. What the changes make of it can be cut in two, and has a tail that names the same pair as before.
 pub record CanBeSplit (t : Kept) (index : ℕ) (fresh : ℕ × ℕ) (changes : List Change) : Type 0 where
   pub can : CanChange t index changes
   pub held : AreHeld t.map fresh
@@ -159,21 +161,22 @@ pub record CanBeSplit (t : Kept) (index : ℕ) (fresh : ℕ × ℕ) (changes : L
   pub made : made_at t.disk (pair_in t index).at changes ≡ Some raw
   pub cut : CanBeCut t.disk.block_size t.disk.page raw.slots
 
--- the slots in front of the cut, with a hard tail to the fresh pair, and those behind it, with the tail
+-- The two parts of a content: the slots before the cut with a hard tail to the fresh pair, and the slots after it with the old
+-- tail.
 abbrev pub front_pair : Kept → ℕ → Content → ℕ → ℕ × ℕ → Pair
 front_pair t index c cut fresh = record { at = (pair_in t index).at; content = record { slots = take cut c.slots; tail = Some (record { hard = true; to = fresh }); move = c.move } }
 
 abbrev pub back_pair : Content → ℕ → ℕ × ℕ → Pair
 back_pair c cut fresh = record { at = fresh; content = record { slots = drop cut c.slots; tail = c.tail; move = no_gstate } }
 
--- both parts fit, and have slots where the whole doesn't fit; the superblock stays first
+-- Both parts fit, and both have slots where the whole doesn't fit. The superblock stays first.
 pub record ArePartsOf (old : Kept) (index : ℕ) (content : Content) (cut : ℕ) (fresh : ℕ × ℕ) (disk : Disk) : Type 0 where
   pub front_fits : FitsPair old.disk.block_size old.disk.page (front_pair old index content cut fresh).content
   pub back_fits : FitsPair old.disk.block_size old.disk.page (back_pair content cut fresh).content
   pub inside : ¬ FitsPair old.disk.block_size old.disk.page content → (0 < cut) × (cut < length content.slots)
   pub first : StaysFirst old.disk (pair_in old index).at (front_pair old index content cut fresh).content disk
 
--- both pairs have their parts, and everything else is as it was
+-- A split that is done: both pairs have their parts, and everything else is as it was.
 pub record IsSplit (old : Kept) (index : ℕ) (fresh : ℕ × ℕ) (changes : List Change) (new : Kept) : Type 0 where
   pub content : Content
   pub made : made_in_thread old index changes ≡ Some content
@@ -183,7 +186,7 @@ pub record IsSplit (old : Kept) (index : ℕ) (fresh : ℕ × ℕ) (changes : Li
   pub thread : IsThread (content_at new.disk) (block_count new.disk) new.pairs
   pub map : new.map ≡ settled old.map fresh
 
--- both pairs have their parts
+-- each pair on the disk has its part
 pub record AreHalves (old : Kept) (index : ℕ) (changes : List Change) (fresh : ℕ × ℕ) (disk : Disk) : Type 0 where
   pub content : Content
   pub made : made_in_thread old index changes ≡ Some content
@@ -192,15 +195,15 @@ pub record AreHalves (old : Kept) (index : ℕ) (changes : List Change) (fresh :
   pub back : content_at disk fresh ≡ Some (back_pair content cut fresh).content
   pub parts : ArePartsOf old index content cut fresh disk
 
--- a stop leaves the pair with what it held, or both pairs with their parts
+-- What a stop leaves of a split: the old pair with its old content, or both pairs with their parts.
 pub record IsLeftBySplit (old : Kept) (index : ℕ) (fresh : ℕ × ℕ) (changes : List Change) (left : Blocks) : Type 0 where
   pub others : OutsideBothKeeps (pair_in old index).at fresh old.disk.blocks left
   pub content : IsAsBefore old index (record old.disk { blocks = left })
       ⊎ AreHalves old index changes fresh (record old.disk { blocks = left })
 
--- ---- a pair comes
+-- ---- a fresh pair is put into the thread
 
--- there is such a pair, and the changes make something of it whose tail names the two blocks
+-- There is a pair at the index. What the changes make of it has a tail that names the two blocks, which are in flight.
 pub record CanJoin (t : Kept) (index : ℕ) (fresh : ℕ × ℕ) (changes : List Change) : Type 0 where
   pub below : index < length t.pairs
   pub content : Content
@@ -208,16 +211,16 @@ pub record CanJoin (t : Kept) (index : ℕ) (fresh : ℕ × ℕ) (changes : List
   pub next : next_of content.tail ≡ Some fresh
   pub held : AreHeld t.map fresh
 
--- the change that gives a pair that tail
+-- the change that sets this tail
 abbrev pub put_tail : Option Tail → Change
 put_tail None = PutTail false None
 put_tail (Some t) = PutTail t.hard (Some t.to)
 
--- a pair without slots that has the tail of the one at an index
+-- a pair without slots that has the tail of the pair at an index
 abbrev pub joined_pair : Kept → ℕ → ℕ × ℕ → Pair
 joined_pair t index fresh = record { at = fresh; content = record { slots = []; tail = (pair_in t index).content.tail; move = no_gstate } }
 
--- the pair holds what the changes make, and the fresh one stands behind it
+-- A fresh pair that is threaded in: the pair has what the changes make, and the fresh pair comes after it.
 pub record IsJoined (old : Kept) (index : ℕ) (fresh : ℕ × ℕ) (changes : List Change) (new : Kept) : Type 0 where
   pub content : Content
   pub made : made_in_thread old index changes ≡ Some content
@@ -227,7 +230,7 @@ pub record IsJoined (old : Kept) (index : ℕ) (fresh : ℕ × ℕ) (changes : L
   pub thread : IsThread (content_at new.disk) (block_count new.disk) new.pairs
   pub map : new.map ≡ settled old.map fresh
 
--- what the changes make doesn't fit; the thread is as it was, and no block but the two was written
+-- What the changes make doesn't fit. The thread is as it was, and no block was written but the two of the fresh pair.
 pub record IsBeside (old : Kept) (index : ℕ) (fresh : ℕ × ℕ) (changes : List Change) (new : Kept) : Type 0 where
   pub content : Content
   pub made : made_in_thread old index changes ≡ Some content
@@ -236,7 +239,7 @@ pub record IsBeside (old : Kept) (index : ℕ) (fresh : ℕ × ℕ) (changes : L
   pub map : new.map ≡ old.map
   pub others : OutsideKeeps fresh old.disk.blocks new.disk.blocks
 
--- the pair holds what the changes make, and the fresh one stands behind it
+-- the pair on the disk has what the changes make, and the fresh pair comes after it
 pub record IsJoinedOn (old : Kept) (index : ℕ) (fresh : ℕ × ℕ) (changes : List Change) (disk : Disk) : Type 0 where
   pub content : Content
   pub made : made_in_thread old index changes ≡ Some content
@@ -245,26 +248,28 @@ pub record IsJoinedOn (old : Kept) (index : ℕ) (fresh : ℕ × ℕ) (changes :
   pub behind : content_at disk fresh ≡ Some (joined_pair old index fresh).content
   pub first : StaysFirst old.disk (pair_in old index).at content disk
 
--- a stop leaves the pair with what it held, or with what the changes make and the fresh one behind it
+-- What a stop leaves of a pair that is threaded in: the old pair with its old content, or with what the changes make and the
+-- fresh pair after it.
 pub record IsLeftByJoin (old : Kept) (index : ℕ) (fresh : ℕ × ℕ) (changes : List Change) (left : Blocks) : Type 0 where
   pub others : OutsideBothKeeps (pair_in old index).at fresh old.disk.blocks left
   pub content : IsAsBefore old index (record old.disk { blocks = left })
       ⊎ IsJoinedOn old index fresh changes (record old.disk { blocks = left })
 
--- ---- the pair behind another goes
+-- ---- the pair after another is dropped
 
--- there is a pair at the index and one behind it, and the changes make something of the first whose tail names what the second one's names
+-- There is a pair at the index and one after it. What the changes make of the first has a tail that names what the second one's
+-- tail names.
 pub record CanDrop (t : Kept) (index : ℕ) (changes : List Change) : Type 0 where
   pub below : index + 1 < length t.pairs
   pub content : Content
   pub made : made_in_thread t index changes ≡ Some content
   pub next : next_of content.tail ≡ next_of (pair_in t (index + 1)).content.tail
 
--- the blocks of the pair that goes are free
+-- the map with the dropped pair's blocks free
 abbrev pub without_pair : BlockSets → ℕ × ℕ → BlockSets
 without_pair sets at = slice_set (slice_set sets at.0 Free) at.1 Free
 
--- the pair holds what the changes make, the one behind it is gone, and everything else is as it was
+-- A drop that is done: the pair has what the changes make, the pair after it is gone, and everything else is as it was.
 pub record IsDropped (old : Kept) (index : ℕ) (changes : List Change) (new : Kept) : Type 0 where
   pub content : Content
   pub made : made_in_thread old index changes ≡ Some content

@@ -1,4 +1,4 @@
-// Commits to pairs and splits of them, beside the blocks that are at hand.
+// Commits to pairs and splits of pairs, with a cache of blocks.
 
 ghost use Rattle.std.specs.Prelude.{◌≡◌, ◌+◌, IfOk, OnOk, option_map};
 ghost use Rattle.lfs_model.specs.Cache.{cached, without};
@@ -17,8 +17,8 @@ use lfs_device::{BlockDevice, Error};
 use lfs_pair::{Change, Outcome, Pair, commit, commit_in, split, split_in};
 use std::alloc::Global;
 
-// Commits changes to a pair, whose active block isn't read where it is at hand. Its blocks are at
-// hand no more.
+// Commits changes to a pair. The active block isn't read where it is at hand. Afterwards neither
+// block of the pair is at hand.
 pub(crate) fn commit_to<D: BlockDevice>(
     alloc: Global,
     device: &mut D,
@@ -43,8 +43,8 @@ pub(crate) fn commit_to<D: BlockDevice>(
     }
 }
 
-// Splits a pair, whose active block isn't read where it is at hand. The blocks of both are at hand
-// no more.
+// Splits a pair. The active block isn't read where it is at hand. Afterwards no block of the pair
+// or of the fresh pair is at hand.
 pub(crate) fn split_to<D: BlockDevice>(
     alloc: Global,
     device: &mut D,
@@ -71,7 +71,8 @@ pub(crate) fn split_to<D: BlockDevice>(
     }
 }
 
-// The bytes of a pair's active block, if they are at hand. Neither of its blocks is then.
+// Takes both blocks of a pair out of the cache. Returns the active block's bytes, if they are at
+// hand.
 fn take_pair(cache: &mut Cache, blocks: [u32; 2], active: u32) -> Option<Vec<u8>>
     ensures bytes { option_map (λ bytes. bytes.items) result ≡ cached cache.old active }
     ensures gone { cache.new ≡ without (without (without cache.old active) (address_of blocks).0) (address_of blocks).1 }
@@ -81,7 +82,7 @@ fn take_pair(cache: &mut Cache, blocks: [u32; 2], active: u32) -> Option<Vec<u8>
     held
 }
 
-// The blocks of a pair are at hand no more.
+// Takes both blocks of a pair out of the cache.
 pub(crate) fn forget_pair(cache: &mut Cache, blocks: [u32; 2])
     ensures { cache.new ≡ without (without cache.old (address_of blocks).0) (address_of blocks).1 }
 {

@@ -1,4 +1,4 @@
-// Pairs of the thread that go.
+// Pairs that are dropped from the thread.
 
 ghost use Rattle.std.specs.Prelude.{◌≡◌, ◌+◌, OnOk};
 ghost use Rattle.lfs_pair.specs.Writing.{ChangesReading};
@@ -15,9 +15,9 @@ use lfs_device::{BlockDevice, Error};
 use lfs_pair::{Change, Outcome, Pair};
 use std::alloc::Global;
 
-// Commits changes to one of these pairs, by which its tail names what the tail of the one behind it
-// names; that one goes, and its blocks are free. After an error nothing is known of the headers and
-// the map.
+// Drops the pair after the one at the index. For that it commits changes to the pair at the index,
+// by which its tail names what the dropped pair's tail names. The dropped pair's blocks are free
+// afterwards. After an error nothing is known of the headers and the map.
 pub(crate) fn drop_pair<D: BlockDevice>(
     alloc: Global,
     device: &mut D,

@@ -1,4 +1,4 @@
-// Pairs by their addresses.
+// Pairs of a thread, found by their addresses.
 
 ghost use Rattle.std.specs.Prelude.{◌≡◌, IfNone, IfSome, false};
 ghost use Rattle.std.specs.List.{AllByRecursion};
@@ -9,8 +9,9 @@ use crate::thread::Thread;
 use lfs_device::BlockDevice;
 use lfs_pair::is_same_pair;
 
-/// The number of the pair at an address, of which the two blocks may come in either order. None
-/// where no pair of the thread is at it.
+/// Returns the number of the pair at an address, from 0 on in the thread's order. The address may
+/// have its two blocks in either order. Returns None where no pair of the thread has these two
+/// blocks.
 pub fn number_of<D: BlockDevice>(thread: &Thread<D>, at: [u32; 2]) -> Option<usize>
     ensures there { IfSome result (BeginsAt thread.now.kept.pairs (address_of at)) }
     ensures nowhere { IfNone result (AllByRecursion (λ p. same_pair p.at (address_of at) ≡ false) thread.now.kept.pairs) }

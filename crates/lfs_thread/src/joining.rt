@@ -1,4 +1,4 @@
-// Pairs that come into the thread.
+// Fresh pairs that are put into the thread.
 
 ghost use Rattle.std.specs.Prelude.{◌≡◌, ◌+◌, OnOk};
 ghost use Rattle.std.specs.Option.{option_map};
@@ -19,10 +19,10 @@ use lfs_pair::{Change, Outcome, Pair};
 use lfs_tag::Tail;
 use std::alloc::Global;
 
-// Makes a pair of two blocks in flight, without slots and with the tail of the pair at the index,
-// and commits the changes to that one, whose tail then names the fresh pair. Where they don't fit
-// nothing names it, and the blocks stay in flight. After an error nothing is known of the headers
-// and the map.
+// Makes a fresh pair of two blocks in flight. It has no slots, and the tail of the pair at the
+// index. Then the changes are committed to the pair at the index, whose tail then names the fresh
+// pair. Where the changes don't fit, no tail names the fresh pair, and its blocks stay in flight.
+// After an error nothing is known of the headers and the map.
 pub(crate) fn join_pair<D: BlockDevice>(
     alloc: Global,
     device: &mut D,
@@ -48,7 +48,7 @@ pub(crate) fn join_pair<D: BlockDevice>(
         (IsLeftByJoin (seen_on D.BlockDevice device.old pairs.old.items map.old) index (address_of fresh) (changes_seen changes.now)) }
 {
     let mut pair = pairs[index];
-    // Room for the fresh pair's header, before anything is written.
+    // This takes the memory for the fresh pair's header, before anything is written.
     pairs.insert(index + 1, pair)?;
     forget_pair(cache, fresh);
     let tail = tail_change(&pair.tail);
@@ -65,7 +65,7 @@ pub(crate) fn join_pair<D: BlockDevice>(
     Ok(Outcome::Done)
 }
 
-// The change that gives a pair that tail.
+// Returns the change that sets this tail.
 fn tail_change<'a>(tail: &Option<Tail>) -> Change<'a>
     ensures { change_seen result ≡ put_tail (option_map tail_seen tail.now) }
 {

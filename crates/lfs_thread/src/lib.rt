@@ -1,4 +1,5 @@
-//! The metadata pairs of a device in the thread's order, kept in memory from commit to commit.
+//! The metadata pairs of a device, in the thread's order, kept in memory from one commit to the
+//! next.
 #![tactic(auto)]
 
 mod committing;

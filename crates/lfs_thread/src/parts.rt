@@ -1,18 +1,18 @@
-// What a thread is made of.
+// The parts of a thread.
 
 use lfs_alloc::BlockMap;
 use lfs_cache::Cache;
 use lfs_device::BlockDevice;
 use lfs_pair::Pair;
 
-/// What a [`Thread`](crate::Thread) is made of.
+/// The parts of a [`Thread`](crate::Thread).
 #[derive(Drop)]
 pub struct Parts<D: BlockDevice> {
     pub device: D,
-    /// The blocks that were read last.
+    /// The cache of the blocks that were read last.
     pub cache: Cache,
     /// The headers of the pairs, in the thread's order.
     pub pairs: Vec<Pair>,
-    /// What is known of each block.
+    /// The block map: which blocks are used, in flight or free.
     pub map: BlockMap,
 }

@@ -1,4 +1,4 @@
-// Pairs by their addresses, found without going through them.
+// Addresses of pairs, found without a search through all of them.
 
 ghost use Rattle.std.specs.Prelude.{IfSome, IfNone, ◌≡◌, ◌++◌, ◌∷◌, [], ◌<◌, false, nat_eq, OnOk, OnErr, IfErr, length};
 ghost use Rattle.std.specs.List.{AllByRecursion, IsDistinct};
@@ -22,10 +22,9 @@ fn greater(pair: [u32; 2]) -> u32
     pair[0].max(pair[1])
 }
 
-/// Addresses of pairs in the order in which they came. The place of one is its number among them,
-/// from 0 on.
+/// A list of addresses of pairs. The place of an address is its number in the list, from 0 on.
 ///
-/// A contract sees the list of those addresses.
+/// A contract sees the list of the addresses.
 #[derive(Drop)]
 pub struct Places {
     addresses: Vec<[u32; 2]>,
@@ -47,7 +46,7 @@ impl Model for Places {
 }
 
 impl Places {
-    /// No addresses.
+    /// Makes an empty list.
     pub fn new(alloc: Global) -> Places
         ensures { result ≡ [] }
     {
@@ -57,9 +56,9 @@ impl Places {
         }
     }
 
-    /// Puts the address of a pair behind the others. No two of the pairs have a block in common.
+    /// Appends the address of a pair to the list. No two of the pairs have a block in common.
     ///
-    /// `NoMemory` where memory isn't granted; nothing is changed then.
+    /// Errors: `NoMemory` where memory isn't granted; nothing has changed then.
     pub fn add(&mut self, pair: [u32; 2]) -> Result<(), Error>
         requires { IsDistinct nat_eq (blocks_at (self.old ++ address_of pair ∷ [])) }
         ensures added { OnOk result (self.new ≡ self.old ++ address_of pair ∷ []) }
@@ -76,8 +75,8 @@ impl Places {
         Ok(())
     }
 
-    /// The place of the pair that has these two blocks, in either order. None where none of the
-    /// pairs has them.
+    /// Returns the place of the pair that has these two blocks, in either order. Returns None where
+    /// no pair of the list has them.
     pub fn find(&self, pair: [u32; 2]) -> Option<u32>
         ensures value { result ≡ place_of self.now (address_of pair) }
         ensures within { IfSome result (λ place. place < length self.now) }

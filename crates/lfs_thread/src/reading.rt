@@ -1,4 +1,4 @@
-// A thread read from a device.
+// The headers of a thread, read from a device.
 
 ghost use Rattle.std.specs.Prelude.{◌≡◌, ◌+◌, ◌*◌, ℕ, [], length, replicate, IfOk, List, OnOk};
 ghost use Rattle.std.specs.Option.{option_map};
@@ -18,8 +18,8 @@ use lfs_device::{BlockDevice, Error};
 use lfs_pair::{Pair, fetch};
 use std::alloc::Global;
 
-// Reads the pairs of the thread, and marks their blocks. After an error nothing is known of the
-// headers and the map.
+// Reads the headers of the thread's pairs, and marks their blocks as used. After an error nothing
+// is known of the headers and the map.
 pub(crate) fn read_pairs<D: BlockDevice>(
     alloc: Global,
     device: &mut D,
@@ -37,7 +37,7 @@ pub(crate) fn read_pairs<D: BlockDevice>(
 {
     let block_count = device.geometry().block_count;
     let mut next = Some([0, 1]);
-    // A thread has fewer pairs than the device has blocks, since each marks two.
+    // A thread has fewer pairs than the device has blocks, since each pair marks two.
     for _ in 0..block_count {
         match next {
             None => return Ok(()),
@@ -51,7 +51,7 @@ pub(crate) fn read_pairs<D: BlockDevice>(
     Err(Error::Corrupt)
 }
 
-// The address that a pair's tail names.
+// Returns the address that a pair's tail names.
 fn tail_of(pair: &Pair) -> Option<[u32; 2]>
     ensures { option_map address_of result ≡ next_of (option_map tail_seen pair.now.tail) }
 {
@@ -61,8 +61,8 @@ fn tail_of(pair: &Pair) -> Option<[u32; 2]>
     }
 }
 
-// Reads the pair at an address, and marks its blocks. `Corrupt` where a block is out of range or
-// marked, or the pair holds no content.
+// Reads the header of the pair at an address, and marks its blocks as used. `Corrupt` where a block
+// is out of range or marked already, or where the pair holds no content.
 fn read_pair<D: BlockDevice>(
     alloc: Global,
     device: &mut D,

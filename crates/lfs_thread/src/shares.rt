@@ -1,4 +1,4 @@
-// The global state of pairs, from their headers.
+// The global state, computed from the headers of the pairs.
 
 ghost use Rattle.std.specs.Prelude.{◌≡◌, bit_xor, map};
 ghost use Rattle.std.specs.List.{fold};
@@ -8,8 +8,8 @@ ghost use Rattle.lfs_tag.specs.FieldsSeen.{move_seen};
 use lfs_pair::Pair;
 use lfs_tag::MoveState;
 
-// What the shares of these pairs come to: their exclusive or (DESIGN.md of littlefs, "The move
-// problem").
+// Returns the exclusive or of the pairs' shares, which is the global state (DESIGN.md of littlefs,
+// "The move problem").
 pub(crate) fn joined_state(pairs: &[Pair]) -> MoveState
     ensures { move_seen result ≡ fold gstate_xor no_gstate (map (λ p. move_seen p.move_state) pairs.now) }
 {
@@ -20,8 +20,8 @@ pub(crate) fn joined_state(pairs: &[Pair]) -> MoveState
     state
 }
 
-/// A share, or the global state itself, with one share more: their exclusive or. What changes a
-/// share so changes the global state.
+/// Returns the exclusive or of a state and a share. `state` is a share, too, or the global state.
+/// What changes a pair's share by this operation changes the global state in the same way.
 pub fn with_share(state: &MoveState, share: &MoveState) -> MoveState
     ensures { move_seen result ≡ gstate_xor (move_seen state.now) (move_seen share.now) }
 {

@@ -1,4 +1,4 @@
-// Pairs of the thread that are split.
+// Splits of pairs of the thread.
 
 ghost use Rattle.std.specs.Prelude.{◌≡◌, ◌+◌, OnOk};
 ghost use Rattle.lfs_model.specs.Slots.{address_of};
@@ -16,8 +16,8 @@ use lfs_device::{BlockDevice, Error};
 use lfs_pair::{Change, Pair};
 use std::alloc::Global;
 
-// Splits a pair of these; the fresh one stands behind it, in two blocks in flight, which are used
-// then. After an error nothing is known of the headers and the map.
+// Splits the pair at the index. The fresh pair comes after it in the thread, in two blocks in
+// flight, which are used afterwards. After an error nothing is known of the headers and the map.
 pub(crate) fn split_pair<D: BlockDevice>(
     alloc: Global,
     device: &mut D,
@@ -41,7 +41,7 @@ pub(crate) fn split_pair<D: BlockDevice>(
         (IsLeftBySplit (seen_on D.BlockDevice device.old pairs.old.items map.old) index (address_of fresh) (changes_seen changes.now)) }
 {
     let mut pair = pairs[index];
-    // Room for the fresh pair's header, before anything is written.
+    // This takes the memory for the fresh pair's header, before anything is written.
     pairs.insert(index + 1, pair)?;
     let fresh_pair = split_to(alloc, device, cache, &mut pair, fresh, changes)?;
     pairs[index] = pair;

@@ -33,12 +33,12 @@ use lfs_tag::{Log, MoveState, Tail, is_hard};
 use std::alloc::Global;
 use std::marker::Model;
 
-/// The metadata pairs of a device in the thread's order, kept in memory from one commit to the
-/// next, with what is known of each block and the blocks that were read last.
+/// The metadata pairs of a device, in the thread's order, kept in memory from one commit to the
+/// next. With them are kept a map of the blocks and a cache of the blocks that were read last.
 ///
-/// After an error of a step it has failed: the device may hold something else than what is kept,
-/// so it is to be read anew. What a contract sees of it is what the device holds as long as it
-/// hasn't failed.
+/// After an error of a step the thread has failed: the device may hold something else than what is
+/// kept. So the caller reads the thread anew. What a contract sees of a thread is what the device
+/// holds, as long as the thread hasn't failed.
 #[derive(Drop)]
 pub struct Thread<D: BlockDevice> {
     device: D,
@@ -65,14 +65,15 @@ impl<D: BlockDevice> Model for Thread<D> {
 }
 
 impl<D: BlockDevice> Thread<D> {
-    /// Reads the thread of a device: from the pair of blocks 0 and 1 on, by the tails (SPEC.md of
-    /// littlefs, "The metadata tree"). Nothing is written. The blocks of the pairs are used then,
-    /// and no other is. Each block of a pair is read once.
+    /// Reads the thread of a device: the pair of blocks 0 and 1, and then each pair that the tail
+    /// before it names (SPEC.md of littlefs, "The metadata tree"). Each block of a pair is read
+    /// once, and nothing is written. In the map the blocks of the pairs are used then, and all
+    /// others are free.
     ///
-    /// `Corrupt` exactly where there is no thread: an address is out of range, a block comes twice,
-    /// or a pair holds no content whose slots each have a name and a struct. `Io` where a read
-    /// failed, and `NoMemory` where there is no room for the headers, the map or a block and its
-    /// slots. The device comes back with an error.
+    /// Errors: `Corrupt` exactly where the device has no thread. Then an address is out of range, a
+    /// block comes twice, or a pair holds no content whose slots each have a name and a struct.
+    /// `Io` where a read failed. `NoMemory` where memory for the headers, the map or a block and
+    /// its slots isn't granted. The device comes back with an error.
     pub fn read(alloc: Global, mut device: D) -> Result<Thread<D>, (D, Error)>
         ensures read { IfOk result (IsThreadOf D.BlockDevice device) }
         ensures corrupt { IfErr result (λ e. e.1 ≡ Error.Corrupt → (ps : List ThreadPair) → ¬ IsThread (content_at (disk_on D.BlockDevice device)) (D.geometry device).block_count ps) }
@@ -97,8 +98,8 @@ impl<D: BlockDevice> Thread<D> {
         }
     }
 
-    /// What the thread is made of, for work on all of it at once. [`Thread::from_parts`] makes it a
-    /// thread again.
+    /// Takes the thread apart, for work on all of its parts at once. [`Thread::from_parts`] makes
+    /// them a thread again.
     pub fn into_parts(self) -> Parts<D>
         requires works { self.failed ≡ false }
         ensures kept { IsKeptOn D.BlockDevice result.device result.pairs.items result.map }
@@ -114,9 +115,9 @@ impl<D: BlockDevice> Thread<D> {
         }
     }
 
-    /// A thread of these parts: the headers are those of the thread that the device has, which was
-    /// only read since they were, the map has at least their blocks, and each block at hand is as the
-    /// device has it.
+    /// Makes a thread of its parts. The headers are those of the device's thread, as they were read
+    /// at some time, and the device was only read since then. The map has the blocks of the pairs
+    /// as used. Each block of the cache has the bytes that the device has.
     pub fn from_parts(parts: Parts<D>) -> Thread<D>
         requires kept { WasKeptOn D.BlockDevice parts.device parts.pairs.items parts.map }
         requires current { IsCurrent (D.blocks parts.device) parts.cache }
@@ -133,7 +134,7 @@ impl<D: BlockDevice> Thread<D> {
         }
     }
 
-    /// The device, as the last call left it, after an error too.
+    /// Returns the device, as the last call left it. A failed thread returns it, too.
     pub fn device(&self) -> &D
         ensures disk { disk_on D.BlockDevice result.now ≡ self.now.kept.disk }
         ensures history { D.history result.now ≡ self.now.kept.history }
@@ -141,7 +142,8 @@ impl<D: BlockDevice> Thread<D> {
         &self.device
     }
 
-    /// The device, as the last call left it. It may be had from a thread that has failed, too.
+    /// Ends the thread, and returns the device as the last call left it. A failed thread returns
+    /// it, too.
     pub fn into_device(self) -> D
         ensures disk { disk_on D.BlockDevice result ≡ self.kept.disk }
         ensures history { D.history result ≡ self.kept.history }
@@ -149,8 +151,8 @@ impl<D: BlockDevice> Thread<D> {
         self.device
     }
 
-    /// The global state: the exclusive or of all pairs' shares (DESIGN.md of littlefs, "The move
-    /// problem").
+    /// Returns the global state: the exclusive or of all pairs' shares (DESIGN.md of littlefs, "The
+    /// move problem").
     pub fn state(&self) -> MoveState
         requires works { self.now.failed ≡ false }
         ensures { move_seen result ≡ gstate_of self.now.kept.pairs }
@@ -158,14 +160,15 @@ impl<D: BlockDevice> Thread<D> {
         joined_state(&self.pairs)
     }
 
-    /// How many pairs there are.
+    /// Returns how many pairs there are.
     pub fn len(&self) -> usize
         ensures { result ≡ length self.now.kept.pairs }
     {
         self.pairs.len()
     }
 
-    /// Where a pair stands.
+    /// Returns the two blocks of a pair, in the order in which the thread names them. `index` is
+    /// the pair's number in the thread, from 0 on.
     pub fn address(&self, index: usize) -> [u32; 2]
         requires { index < length self.now.kept.pairs }
         ensures { address_of result ≡ (pair_in self.now.kept index).at }
@@ -173,7 +176,7 @@ impl<D: BlockDevice> Thread<D> {
         self.pairs[index].blocks
     }
 
-    /// How many slots a pair has.
+    /// Returns how many slots a pair has.
     pub fn slot_count(&self, index: usize) -> usize
         requires works { self.now.failed ≡ false }
         requires below { index < length self.now.kept.pairs }
@@ -182,9 +185,9 @@ impl<D: BlockDevice> Thread<D> {
         self.pairs[index].slot_count
     }
 
-    /// The number of the pair to which a pair's hard tail leads, as in a directory of several pairs
-    /// (SPEC.md of littlefs, "0x601 LFS_TYPE_HARDTAIL"). None where the tail is a soft one, or there
-    /// is none.
+    /// Returns the number of the next pair of the same directory, which a hard tail names (SPEC.md
+    /// of littlefs, "0x601 LFS_TYPE_HARDTAIL"). Returns None where the pair's tail is soft, and
+    /// where it has none.
     pub fn next(&self, index: usize) -> Option<usize>
         requires works { self.now.failed ≡ false }
         requires below { index < length self.now.kept.pairs }
@@ -198,8 +201,8 @@ impl<D: BlockDevice> Thread<D> {
         }
     }
 
-    /// What a pair's tail names: the next pair of the thread, and whether it goes on with the same
-    /// directory. None at the thread's end.
+    /// Returns the tail of a pair: which pair is the next one of the thread, and whether it
+    /// continues the same directory. Returns None at the thread's end.
     pub fn tail(&self, index: usize) -> Option<Tail>
         requires works { self.now.failed ≡ false }
         requires below { index < length self.now.kept.pairs }
@@ -208,7 +211,7 @@ impl<D: BlockDevice> Thread<D> {
         self.pairs[index].tail
     }
 
-    /// A pair's share of the global state.
+    /// Returns a pair's share of the global state.
     pub fn share(&self, index: usize) -> MoveState
         requires works { self.now.failed ≡ false }
         requires below { index < length self.now.kept.pairs }
@@ -217,11 +220,11 @@ impl<D: BlockDevice> Thread<D> {
         self.pairs[index].move_state
     }
 
-    /// Brings the block in which a pair's log stands to hand, by at most one read and by none where
-    /// it is. The least recent one goes where there were eight.
+    /// Reads the active block of a pair into the cache, by at most one read. A block at hand isn't
+    /// read. The least recent block of the cache is dropped where there were eight.
     ///
-    /// `Io` where that read failed, and `NoMemory` where the room for the block isn't granted. The
-    /// thread is as it was then.
+    /// Errors: `Io` where the read failed, and `NoMemory` where memory for the block isn't granted.
+    /// The thread is as it was after either, and works on.
     pub fn bring(&mut self, index: usize) -> Result<(), Error>
         requires works { self.old.failed ≡ false }
         requires below { index < length self.old.kept.pairs }
@@ -231,15 +234,15 @@ impl<D: BlockDevice> Thread<D> {
         ensures few { reads self.new.kept.history ≤ reads self.old.kept.history + 1 }
         ensures works { self.new.failed ≡ false }
         ensures errors { HasTold self.old.kept self.new.kept result }
-        // The eight that were brought last stay at hand.
+        // The eight blocks that were brought last stay at hand.
         ensures recent { OnOk result (self.new.cache ≡ brought self.old index) }
     {
         let block = self.pairs[index].active;
         self.cache.fill(&mut self.device, block)
     }
 
-    /// The log of a pair, without a copy; its checksums aren't computed again. None where its block
-    /// isn't at hand.
+    /// Returns the log of a pair, without a copy. Its checksums aren't computed again. Returns None
+    /// where the pair's active block isn't at hand.
     pub fn lend(&self, index: usize) -> Option<Log<'_>>
         requires works { self.now.failed ≡ false }
         requires below { index < length self.now.kept.pairs }
@@ -254,11 +257,12 @@ impl<D: BlockDevice> Thread<D> {
         }
     }
 
-    /// Reads bytes of a skip list from position `pos` on into the buffer, as many as the buffer and
-    /// the `size` allow, and answers their number. The list has its last block at `head`, and is well
-    /// formed, as each file's is in an accepted image. No block comes to hand by it.
+    /// Reads bytes of a skip list into the buffer, from position `pos` on. Returns how many bytes
+    /// were read: as many as the buffer and `size` allow. The list has its last block at `head`,
+    /// and `size` bytes. The caller's condition is that the list is well formed, as each file's
+    /// list is in an accepted image. The cache stays as it is.
     ///
-    /// `Io` where a read failed; what the buffer holds is open then.
+    /// Errors: `Io` where a read failed. Then it isn't said what the buffer holds.
     pub fn read_list(
         &mut self,
         head: u32,
@@ -277,7 +281,8 @@ impl<D: BlockDevice> Thread<D> {
         read_at(&mut self.device, head, size, pos, buf)
     }
 
-    /// Hands out a free block, which is then in flight. None exactly where no block is free.
+    /// Takes a free block, which is in flight then, and returns its number. Returns None exactly
+    /// where no block is free.
     pub fn take(&mut self) -> Option<u32>
         ensures was_free { IfSome result (IsFree self.old.kept.map) }
         ensures taken { IfSome result (λ block. self.new ≡ record self.old { kept = record self.old.kept { map = slice_set self.old.kept.map block InFlight } }) }
@@ -290,7 +295,7 @@ impl<D: BlockDevice> Thread<D> {
         }
     }
 
-    /// Makes a block in flight free again, since nothing came to name it.
+    /// Makes a block in flight free again, which no commit names.
     pub fn release(&mut self, block: u32)
         requires { IsInFlight self.old.kept.map block }
         ensures { self.new ≡ record self.old { kept = record self.old.kept { map = slice_set self.old.kept.map block Free } } }
@@ -298,13 +303,15 @@ impl<D: BlockDevice> Thread<D> {
         self.map.release(block);
     }
 
-    /// Commits changes to a pair, whose tail then names what it named. They may change its share of
-    /// the global state, and whether its tail is a hard one. The pair's block isn't read where it is
-    /// at hand, and isn't at hand afterwards.
+    /// Commits changes to a pair. Its tail still names the same pair afterwards. The changes may
+    /// change the pair's share of the global state, and whether its tail is hard. The active block
+    /// isn't read where it is at hand. It isn't at hand afterwards.
     ///
-    /// `Full` where what the changes make doesn't fit; nothing is written then. `Io` where a call of
-    /// the device failed. `NoMemory` where there is no room for the slots and for two blocks, of
-    /// which one may be at hand; nothing is written then either.
+    /// Returns `Full` where what the changes make doesn't fit the pair; nothing is written then.
+    ///
+    /// Errors: `Io` where a call of the device failed. `NoMemory` where memory for the slots and
+    /// for two blocks isn't granted, of which one may be at hand; nothing is written then. After
+    /// either the thread has failed.
     pub fn change(
         &mut self,
         alloc: Global,
@@ -331,12 +338,12 @@ impl<D: BlockDevice> Thread<D> {
         outcome
     }
 
-    /// Splits a pair, whose fresh part in those two blocks stands behind it: what the changes make is
-    /// cut in two, the pair keeps the first slots and its share of the global state, and the fresh one
-    /// gets the others and the tail, which names what it named. The two blocks are in flight before,
-    /// and used after it.
+    /// Splits a pair: what the changes make of it is cut in two. The pair keeps the first slots and
+    /// its share of the global state. The fresh pair, in the two blocks `fresh`, comes after it in
+    /// the thread. It gets the other slots and the tail, which still names the same pair. The two
+    /// blocks are in flight before, and used afterwards.
     ///
-    /// Errors as those of [`change`](Thread::change).
+    /// Errors are those of [`change`](Thread::change).
     pub fn split(
         &mut self,
         alloc: Global,
@@ -366,13 +373,15 @@ impl<D: BlockDevice> Thread<D> {
         result
     }
 
-    /// Threads a fresh pair, in those two blocks, behind a pair: it has no slots and that one's tail,
-    /// and the changes are committed to that one, whose tail then names it. The two blocks are in
-    /// flight before, and used after it.
+    /// Puts a fresh pair, in the two blocks `fresh`, into the thread after a pair. The fresh pair
+    /// has no slots, and the tail of that pair. Then the changes are committed to that pair, whose
+    /// tail then names the fresh one. The two blocks are in flight before, and used afterwards.
     ///
-    /// `Full` where what the changes make doesn't fit: nothing names the fresh pair then, and its
-    /// blocks stay in flight. Errors as those of [`change`](Thread::change), but that at `NoMemory`
-    /// the two blocks may have been written.
+    /// Returns `Full` where what the changes make doesn't fit that pair. Then no tail names the
+    /// fresh pair, and its blocks stay in flight.
+    ///
+    /// Errors are those of [`change`](Thread::change), except that at `NoMemory` the two blocks may
+    /// have been written.
     pub fn thread_in(
         &mut self,
         alloc: Global,
@@ -403,10 +412,11 @@ impl<D: BlockDevice> Thread<D> {
         outcome
     }
 
-    /// Commits changes to a pair, by which its tail names what the tail of the pair behind it names.
-    /// That one goes, and its blocks are free.
+    /// Drops the pair after a pair from the thread. The changes are committed to the pair at
+    /// `index`, and give it a tail that names what the dropped pair's tail names. The dropped
+    /// pair's blocks are free afterwards.
     ///
-    /// `Full` and errors as those of [`change`](Thread::change).
+    /// Returns `Full`, and ends in errors, as [`change`](Thread::change) does.
     pub fn drop_next(
         &mut self,
         alloc: Global,
@@ -434,11 +444,11 @@ impl<D: BlockDevice> Thread<D> {
         self.has_failed = outcome.is_err();
         outcome
     }
-    /// Lends the device and the map to work that leaves the blocks of the pairs as they are, and used:
-    /// such as writing a file's list into blocks that are free or in flight, or settling it in the map.
-    /// No block is at hand afterwards.
+    /// Lends the device and the map to `work`, which leaves the blocks of the pairs as they are,
+    /// and used. Such work writes a file's list into free blocks or blocks in flight, or settles it
+    /// in the map. The cache is empty afterwards.
     ///
-    /// `NoMemory` where there is no room for an empty cache; the work isn't begun then.
+    /// Errors: `NoMemory` where memory for an empty cache isn't granted. Then `work` isn't called.
     pub fn beside<X, F: FnOnce(&mut D, &mut BlockMap) -> X>(
         &mut self,
         alloc: Global,
@@ -461,21 +471,21 @@ impl<D: BlockDevice> Thread<D> {
         Ok(x)
     }
 
-    /// Makes it a thread that has failed, where what it lent may be of no use any more.
+    /// Marks the thread as failed, where what it lent may be of no use any more.
     pub fn fail(&mut self)
         ensures { self.new ≡ record self.old { failed = true } }
     {
         self.has_failed = true;
     }
 
-    /// Whether it has failed.
+    /// Returns whether the thread has failed.
     pub fn has_failed(&self) -> bool
         ensures { result ≡ self.now.failed }
     {
         self.has_failed
     }
 
-    /// A thread that has failed, of these parts: nothing is known of what its device holds.
+    /// Makes a failed thread of its parts. Nothing is known of what its device holds.
     pub fn unread(parts: Parts<D>) -> Thread<D>
         ensures failed { result.failed ≡ true }
         ensures kept { result.kept ≡ seen_on D.BlockDevice parts.device parts.pairs.items parts.map }
@@ -489,21 +499,21 @@ impl<D: BlockDevice> Thread<D> {
         }
     }
 
-    /// How the device is divided.
+    /// Returns the geometry of the device.
     pub fn geometry(&self) -> Geometry
         ensures { IsDividedAs result self.now.kept.disk }
     {
         self.device.geometry()
     }
 
-    /// How many blocks are used.
+    /// Returns how many blocks are used.
     pub fn used_count(&self) -> u32
         ensures { result ≡ used_count self.now.kept.map }
     {
         self.map.used_count()
     }
 
-    /// Whether a block is used. One in flight isn't.
+    /// Returns whether a block is used. A block in flight isn't.
     pub fn is_used(&self, block: u32) -> bool
         requires { block < length self.now.kept.map }
         ensures { IsTrue result ↔ IsUsed self.now.kept.map block }
@@ -512,7 +522,7 @@ impl<D: BlockDevice> Thread<D> {
     }
 }
 
-// An empty cache, and a map of so many free blocks.
+// Makes an empty cache, and a map of so many free blocks.
 fn in_memory(alloc: Global, block_count: u32) -> Result<(Cache, BlockMap), Error>
     ensures empty { IfOk result (λ parts. parts.0 ≡ []) }
     ensures free { IfOk result (λ parts. parts.1 ≡ replicate block_count Free) }

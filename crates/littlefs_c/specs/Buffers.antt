@@ -1,4 +1,4 @@
--- What a buffer tells of a reply.
+-- How a buffer gets a reply.
 use Rattle.std.specs.Prelude.{ℕ, ◌≡◌, ◌++◌, nat_le, if◌then◌else◌, List, [], ◌∷◌, length, Option, Some, None, Result, Ok, Err, codes}
 use Rattle.std.specs.List.{flat_map}
 use Rattle.std.specs.Fmt.{decimal}
@@ -10,7 +10,7 @@ use Rattle.lfs_model.specs.Run.{Moment}
 use Rattle.lfs_device.specs.declared.error.Error.{Error}
 use Rattle.littlefs_c.specs.Calls.{Refuses, Runs}
 
--- what a line says of a file of that size, or of a directory, before its name
+-- what a line says before its name: of a file of that size, or of a directory
 abbrev pub head_of : Option ℕ → List ℕ
 head_of (Some size) = codes "f " ++ decimal size ++ codes " "
 head_of None = codes "d 0 "
@@ -21,17 +21,17 @@ line_of item = head_of item.size ++ escaped_text item.name ++ newline
 abbrev pub lines_of : List Item → List ℕ
 lines_of items = flat_map line_of items
 
--- what a buffer tells of a reply: the lines of a directory, or the bytes
+-- the bytes that a buffer gets of a reply: the lines of a directory, or the bytes
 abbrev pub told : Reply → List ℕ
 told (ops.Items items) = lines_of items
 told (ops.Bytes bytes) = bytes
 told _ = []
 
--- bytes at the beginning of a buffer, which stays as it is where they don't fit
+-- the buffer with the bytes at its beginning; it is as it was where they don't fit
 abbrev pub put_in : List ℕ → List ℕ → List ℕ
 put_in bytes buffer = if nat_le (length bytes) (length buffer) then overwritten buffer 0 bytes else buffer
 
--- The last reply is told in the buffer, if there is room. The answer is the room that it wants.
+-- The buffer has the last reply, if it fits. The answer is the room that the reply takes.
 pub record IsTold (block_size page : ℕ) (image : List ℕ) (operations : List Operation) (answer : ℕ) (old new : List ℕ) : Type 0 where
   pub replies : List Reply
   pub last : Reply
@@ -40,7 +40,7 @@ pub record IsTold (block_size page : ℕ) (image : List ℕ) (operations : List 
   pub room : answer ≡ length (told last)
   pub buffer : new ≡ put_in (told last) old
 
--- what is told, or why the buffer stays
+-- the buffer has the reply, or the operations were refused and it is as it was
 abbrev pub Tells : ℕ → ℕ → List ℕ → List Operation → Result ℕ Error → List ℕ → List ℕ → Type 0
 Tells block_size page image operations (Ok room) old new = IsTold block_size page image operations room old new
 Tells block_size page image operations (Err e) old new = (new ≡ old) × Refuses block_size page image operations e

@@ -1,4 +1,4 @@
--- What a call over an image answers, and what it leaves in the image.
+-- What a call over an image returns, and what it leaves in the image.
 use Rattle.std.specs.Prelude.{ℕ, ◌≡◌, ◌⊎◌, ◌*◌, true, false, List, [], ◌∷◌, ◌++◌, length, Result, Ok, Err, All}
 use Rattle.lfs_model.specs.Disk.{Disk, IsImage, disk_of}
 use Rattle.lfs_model.specs.Operations as ops
@@ -19,7 +19,7 @@ use Rattle.lfs_lookup.specs.Refusals.{is_refusal, refusal_in}
 
 -- ---- a session over an image
 
--- A device that holds an image, and has had no call.
+-- A device that has the image, and has had no call.
 pub record IsOf (block_size page : ℕ) (image : List ℕ) (d : RamDevice) : Type 0 where
   pub whole : IsImage block_size page image
   pub size : (geometry_of d).block_size ≡ block_size
@@ -27,7 +27,8 @@ pub record IsOf (block_size page : ℕ) (image : List ℕ) (d : RamDevice) : Typ
   pub bytes : bytes_of d ≡ image
   pub no_call : history_of d ≡ []
 
--- A session as a mount of the image begins it. The image is accepted, with the longer names first where both orders fit.
+-- A session as a mount of the image begins it. The image is accepted, in the order with the longer names first where both orders
+-- fit.
 pub record IsMounted (block_size page : ℕ) (image : List ℕ) (from : Moment) : Type 0 where
   pub whole : IsImage block_size page image
   pub disk : from.disk ≡ disk_of block_size page from.disk.order image
@@ -40,21 +41,22 @@ pub record IsMounted (block_size page : ℕ) (image : List ℕ) (from : Moment) 
 abbrev pub IsBegun : ℕ → ℕ → List ℕ → Type 0
 IsBegun block_size page image = (from : Moment) × IsMounted block_size page image from
 
--- What keeps a call from any operation: the bytes are no image of that geometry, none is accepted in them, or memory is wanting.
+-- What keeps a call from running an operation: the bytes are no image of that geometry, the image isn't accepted, or memory
+-- wasn't granted.
 abbrev pub Prevents : ℕ → ℕ → List ℕ → Error → Type 0
 Prevents block_size page image Invalid = ¬ IsImage block_size page image
 Prevents block_size page image Corrupt = (order : NameOrder) (ps : List Pair) → ¬ IsAccepted (disk_of block_size page order image) ps
 Prevents block_size page image NoMemory = Unit {0}
 Prevents block_size page image other = ⊥
 
--- an accepted image, or why it isn't one
+-- the image is accepted, or the error says why it isn't
 abbrev pub Checks : {X : Type 0} → ℕ → ℕ → List ℕ → Result X Error → Type 0
 Checks block_size page image (Ok x) = IsBegun block_size page image
 Checks block_size page image (Err e) = Prevents block_size page image e
 
 -- ---- operations
 
--- Operations of a session that begins with a mount of the image, with their replies, none of which refuses.
+-- Operations of a session that begins with a mount of the image, and their replies. None of them refuses.
 pub record Runs (block_size page : ℕ) (image : List ℕ) (operations : List Operation) (replies : List Reply) (to : Moment) : Type 0 where
   pub from : Moment
   pub mounts : IsMounted block_size page image from
@@ -64,7 +66,7 @@ pub record Runs (block_size page : ℕ) (image : List ℕ) (operations : List Op
 abbrev pub RunsThese : ℕ → ℕ → List ℕ → List Operation → Moment → Type 0
 RunsThese block_size page image operations to = (replies : List Reply) × Runs block_size page image operations replies to
 
--- One of the operations is refused by that error, behind those that are accepted.
+-- One of the operations is refused by that error, after others that were accepted.
 pub record HasRefusal (block_size page : ℕ) (image : List ℕ) (operations : List Operation) (e : Error) : Type 0 where
   pub done : List Operation
   pub next : Operation
@@ -82,7 +84,7 @@ Refuses block_size page image operations e = Prevents block_size page image e �
 
 -- ---- results
 
--- the reply to the last of the operations, or why there is none
+-- the reply to the last operation, or the error that says why there is none
 abbrev pub Asks : {X : Type 0} → ℕ → ℕ → List ℕ → List Operation → (X → Reply) → Result X Error → Type 0
 Asks block_size page image operations reply (Ok x) =
     (replies : List Reply) × ((to : Moment) × Runs block_size page image operations (replies ++ reply x ∷ []) to)
@@ -95,7 +97,7 @@ pub record Leaves (block_size page : ℕ) (old : List ℕ) (operations : List Op
   pub len : length new ≡ length old
   pub disk : to.disk ≡ disk_of block_size page to.disk.order new
 
--- the image is what the operations leave, or it stays, and that is why
+-- the image is what the operations leave, or it is as it was, and the error says why
 abbrev pub Changes : {X : Type 0} → ℕ → ℕ → List ℕ → List Operation → Result X Error → List ℕ → Type 0
 Changes block_size page old operations (Ok x) new = Leaves block_size page old operations new
 Changes block_size page old operations (Err e) new = (new ≡ old) × Refuses block_size page old operations e

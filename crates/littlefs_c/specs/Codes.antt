@@ -1,4 +1,4 @@
--- Answers as one number: 0 and more, or minus an error's number.
+-- Results as one number: 0 or more, or minus an error's number.
 use Rattle.std.specs.Prelude.{ℕ, ℤ, ◌≡◌, pos, ◌-ℤ◌, ◌==◌, if◌then◌else◌, Option, Some, None, Result, Ok, Err}
 use Rattle.lfs_device.specs.Error.{number_of}
 use Rattle.lfs_device.specs.declared.error.Error.{Error}
@@ -14,12 +14,12 @@ code_of number (Err e) = pos 0 -ℤ pos (number_of e)
 abbrev pub order_of : ℕ → Result NameOrder Error
 order_of n = if n == 0 then Ok LongerFirst else (if n == 1 then Ok ShorterFirst else Err Invalid)
 
--- a file's size, and 2 to the 32nd for a directory
+-- a file's size, or 2 to the 32nd for a directory
 abbrev pub size_number : Option ℕ → ℕ
 size_number (Some size) = size
 size_number None = 4294967296
 
--- the number answers a result that is as said
+-- the number is the code of a result of which P holds
 abbrev pub SaysDone : ℤ → (Result Unit Error → Type 0) → Type 0
 SaysDone code P = (r : Result Unit Error) × ((code ≡ code_of (λ _. 0) r) × P r)
 

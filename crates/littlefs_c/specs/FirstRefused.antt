@@ -6,7 +6,7 @@ use Rattle.lfs_model.specs.Operations.{Reply}
 use Rattle.lfs_model.specs.Run as run
 use Rattle.lfs_lookup.specs.Refusals.{is_refusal, refusal_in}
 
--- The error is that of a reply that refuses, behind replies that don't.
+-- The error is that of a reply that refuses, after replies that don't.
 pub record IsFirstRefused (replies : List Reply) (e : Error) : Type 0 where
   pub before : List Reply
   pub after : List Reply

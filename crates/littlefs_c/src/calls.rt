@@ -1,4 +1,4 @@
-// The calls over an image.
+// The calls over an image, with results as Rust has them.
 
 ghost use Rattle.std.specs.Prelude.{◌≡◌, ◌∷◌, ◌<◌, ◌^◌, ◌-◌, [], min, length, IfOk};
 ghost use Rattle.lfs_model.specs.Operations as ops;
@@ -18,7 +18,8 @@ use lfs_device::{Error, NameOrder};
 use lfs_fs::{Op, OpenFlags, format_ordered};
 use std::alloc::Global;
 
-// The order of names that a number stands for.
+// Returns the order of names that a number stands for: 0 for the longer names first, 1 for the
+// shorter ones. `Invalid` for another number.
 fn order_named(number: u32) -> Result<NameOrder, Error>
     ensures { order_of number ≡ result }
 {
@@ -29,7 +30,7 @@ fn order_named(number: u32) -> Result<NameOrder, Error>
     }
 }
 
-// Makes an image an empty file system.
+// Makes the image an empty file system.
 pub(crate) fn format(
     alloc: Global,
     image: &mut [u8],
@@ -46,12 +47,12 @@ pub(crate) fn format(
             image.copy_from_slice(session.device().bytes());
             Ok(())
         }
-        // The device has met no fault, so memory was wanting.
+        // The device has met no fault, so memory wasn't granted.
         Err((_device, error)) => Err(error),
     }
 }
 
-// Whether an image is accepted.
+// Checks that an image is accepted.
 pub(crate) fn check(alloc: Global, image: &[u8], block_size: u32, page: u32) -> Result<(), Error>
     ensures { Checks block_size page image.now result }
 {
@@ -59,7 +60,7 @@ pub(crate) fn check(alloc: Global, image: &[u8], block_size: u32, page: u32) -> 
     Ok(())
 }
 
-// Puts bytes at the beginning of a buffer where they fit, and says how many they are.
+// Puts bytes at the beginning of a buffer, if all of them fit. Returns how many they are.
 fn hand_over(bytes: &[u8], buffer: &mut [u8]) -> usize
     ensures room { result ≡ length bytes.now }
     ensures small { result < 2 ^ 63 }
@@ -71,7 +72,7 @@ fn hand_over(bytes: &[u8], buffer: &mut [u8]) -> usize
     bytes.len()
 }
 
-// The lines of a directory.
+// Puts the lines of a directory's entries into a buffer.
 pub(crate) fn list(
     alloc: Global,
     image: &[u8],
@@ -88,7 +89,7 @@ pub(crate) fn list(
     Ok(hand_over(&text, buffer))
 }
 
-// The bytes of a file from a position on, as many as there is room for.
+// Puts the bytes of a file from a position on into a buffer, as many as there is room for.
 pub(crate) fn read(
     alloc: Global,
     image: &[u8],
@@ -106,7 +107,7 @@ pub(crate) fn read(
     Ok(hand_over(&bytes, buffer))
 }
 
-// The bytes of an entry's attribute.
+// Puts the bytes of an entry's attribute into a buffer.
 pub(crate) fn get_attr(
     alloc: Global,
     image: &[u8],
@@ -123,7 +124,7 @@ pub(crate) fn get_attr(
     Ok(hand_over(&bytes, buffer))
 }
 
-// How a file is opened that is made, or made empty.
+// Returns the flags of an open that makes a file, or makes it empty.
 fn replacing() -> OpenFlags
     ensures { flags_seen result ≡ replacing_flags }
 {
@@ -133,7 +134,7 @@ fn replacing() -> OpenFlags
     flags
 }
 
-// Puts a file with these bytes, in place of the one at the path if there is one.
+// Writes a file with these bytes, in place of the file at the path, if there is one.
 pub(crate) fn write<'a>(
     alloc: Global,
     image: &mut [u8],
@@ -165,7 +166,7 @@ pub(crate) fn mkdir(
     change(alloc, image, block_size, page, &[Op::Mkdir(path)])
 }
 
-// Takes a file, or a directory without entries.
+// Removes a file, or a directory without entries.
 pub(crate) fn remove(
     alloc: Global,
     image: &mut [u8],
@@ -178,7 +179,7 @@ pub(crate) fn remove(
     change(alloc, image, block_size, page, &[Op::Remove(path)])
 }
 
-// Gives an entry another path.
+// Renames an entry.
 pub(crate) fn rename<'a>(
     alloc: Global,
     image: &mut [u8],
@@ -192,7 +193,7 @@ pub(crate) fn rename<'a>(
     change(alloc, image, block_size, page, &[Op::Rename(from, to)])
 }
 
-// Gives an entry an attribute.
+// Sets an attribute of an entry.
 pub(crate) fn set_attr<'a>(
     alloc: Global,
     image: &mut [u8],
@@ -213,7 +214,7 @@ pub(crate) fn set_attr<'a>(
     )
 }
 
-// Takes an attribute from an entry.
+// Removes an attribute of an entry.
 pub(crate) fn remove_attr(
     alloc: Global,
     image: &mut [u8],

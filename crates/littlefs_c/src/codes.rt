@@ -1,4 +1,4 @@
-// Results as one number.
+// Results as one number: 0 or more, or minus an error's number.
 
 ghost use Rattle.std.specs.Prelude.{◌≡◌, ◌<◌, ◌^◌, pos, ◌-ℤ◌, IfOk};
 ghost use Rattle.lfs_device.specs.Error.{number_of};
@@ -12,7 +12,7 @@ fn error_code(error: Error) -> i64
     -i64::from(error.number())
 }
 
-// 0 where it was done.
+// Returns 0 where the call was done.
 pub(crate) fn done_code(answer: Result<(), Error>) -> i64
     ensures { result ≡ code_of (λ _. 0) answer }
 {
@@ -31,7 +31,7 @@ pub(crate) fn count_code(answer: Result<u32, Error>) -> i64
     }
 }
 
-// A file's size, or 2 to the 32nd for a directory.
+// Returns a file's size, or 2 to the 32nd for a directory.
 pub(crate) fn size_code(answer: Result<Option<u32>, Error>) -> i64
     ensures { result ≡ code_of size_number answer }
 {
@@ -42,7 +42,7 @@ pub(crate) fn size_code(answer: Result<Option<u32>, Error>) -> i64
     }
 }
 
-// The room that is wanted.
+// Returns the room that a reply takes in a buffer.
 pub(crate) fn room_code(answer: Result<usize, Error>) -> i64
     requires { IfOk answer (λ n. n < 2 ^ 63) }
     ensures { result ≡ code_of (λ n. n) answer }

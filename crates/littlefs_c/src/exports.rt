@@ -1,4 +1,5 @@
-// The functions that C calls. bindings/c/littlefs_c.h declares them, and says what the caller has to see to.
+// The functions that C calls. bindings/c/littlefs_c.h declares them, and says what the caller has
+// to ensure.
 
 ghost use Rattle.std.specs.Prelude.{◌∷◌, ◌-◌, ◌^◌, [], min, length};
 ghost use Rattle.lfs_model.specs.Operations as ops;
@@ -13,13 +14,14 @@ use crate::codes::{count_code, done_code, room_code, size_code};
 use crate::reading::{size_at, used_count};
 use std::alloc::Global;
 
-/// Makes an image an empty file system, whose directories will have the longer names first at order 0, and the
-/// shorter ones at order 1. Only the blocks 0 and 1 are written. Answers 0.
+/// Formats the image: makes it an empty file system, with blocks of `block_size` bytes and pages of
+/// `page` bytes. `order` is the order of names in its directories: 0 for the longer names first, 1
+/// for the shorter ones. Only the blocks 0 and 1 are written. Returns 0.
 ///
 /// # Errors
 ///
-/// `Invalid` for another order, or where the bytes are no image of that geometry; `NoMemory` where memory isn't
-/// granted. The image stays.
+/// `Invalid` for another order, or where the bytes are no image of that geometry. `NoMemory` where
+/// memory isn't granted. The image is as it was after an error.
 #[unsafe(no_mangle)]
 pub extern "C" fn lfs_c_format(
     alloc: Global,
@@ -33,12 +35,13 @@ pub extern "C" fn lfs_c_format(
     done_code(calls::format(alloc, image, block_size, page, order))
 }
 
-/// Whether an image is accepted: then it answers 0.
+/// Checks that an image with blocks of `block_size` bytes and pages of `page` bytes is accepted, in
+/// one of the two orders of names. Returns 0 if it is.
 ///
 /// # Errors
 ///
-/// `Invalid` where the bytes are no image of that geometry; `Corrupt` where none is accepted in them; `NoMemory`
-/// where memory isn't granted.
+/// `Invalid` where the bytes are no image of that geometry. `Corrupt` where the image is accepted
+/// in neither order. `NoMemory` where memory isn't granted.
 #[unsafe(no_mangle)]
 pub extern "C" fn lfs_c_check(alloc: Global, image: &[u8], block_size: u32, page: u32) -> i64
     ensures { SaysDone result (λ r. Checks block_size page image.now r) }
@@ -46,13 +49,15 @@ pub extern "C" fn lfs_c_check(alloc: Global, image: &[u8], block_size: u32, page
     done_code(calls::check(alloc, image, block_size, page))
 }
 
-/// Puts a line for each entry of a directory into a buffer, if they fit, and answers how many bytes they are. A line is
-/// `f SIZE NAME` or `d 0 NAME`; bytes of a name that are no plain text, and the backslash, are shown as `\xNN`.
+/// Lists a directory: puts a line for each entry into the buffer, if all lines fit, and returns how
+/// many bytes they are. A line is `f SIZE NAME` or `d 0 NAME`. Bytes of a name that are no plain
+/// text, and the backslash, are shown as `\xNN`. Where the lines don't fit, the buffer is as it
+/// was.
 ///
 /// # Errors
 ///
-/// Those of [`lfs_c_check`], and what `list` of a session refuses (docs/OPERATIONS.md).
-/// The buffer stays then.
+/// Those of [`lfs_c_check`], and the refusals of a session's `list` (docs/OPERATIONS.md). The
+/// buffer is as it was after an error.
 #[unsafe(no_mangle)]
 pub extern "C" fn lfs_c_list(
     alloc: Global,
@@ -67,11 +72,11 @@ pub extern "C" fn lfs_c_list(
     room_code(calls::list(alloc, image, block_size, page, path, buffer))
 }
 
-/// Answers a file's size in bytes, or 4,294,967,296 for a directory.
+/// Returns a file's size in bytes, or 4,294,967,296 for a directory.
 ///
 /// # Errors
 ///
-/// Those of [`lfs_c_check`], and what `stat` of a session refuses (docs/OPERATIONS.md).
+/// Those of [`lfs_c_check`], and the refusals of a session's `stat` (docs/OPERATIONS.md).
 #[unsafe(no_mangle)]
 pub extern "C" fn lfs_c_stat(
     alloc: Global,
@@ -85,13 +90,13 @@ pub extern "C" fn lfs_c_stat(
     size_code(size_at(alloc, image, block_size, page, path))
 }
 
-/// Reads a file from a position on into a buffer, and answers how many bytes it read: fewer than there is room for where the
-/// file ends.
+/// Reads a file from `position` on into the buffer, and returns how many bytes it read. These are
+/// as many as the buffer has room for, or fewer where the file ends.
 ///
 /// # Errors
 ///
-/// Those of [`lfs_c_check`], and what `open`, `seek` or `read` of a session refuses (docs/OPERATIONS.md).
-/// The buffer stays then.
+/// Those of [`lfs_c_check`], and the refusals of a session's `open`, `seek` and `read`
+/// (docs/OPERATIONS.md). The buffer is as it was after an error.
 #[unsafe(no_mangle)]
 pub extern "C" fn lfs_c_read(
     alloc: Global,
@@ -107,12 +112,12 @@ pub extern "C" fn lfs_c_read(
     room_code(calls::read(alloc, image, block_size, page, path, position, buffer))
 }
 
-/// Puts a file with these bytes, in place of the one at the path if there is one, and answers 0.
+/// Writes a file with these bytes, in place of the file at the path, if there is one. Returns 0.
 ///
 /// # Errors
 ///
-/// Those of [`lfs_c_check`], and what `open`, `write` or `close` of a session refuses (docs/OPERATIONS.md).
-/// The image stays then.
+/// Those of [`lfs_c_check`], and the refusals of a session's `open`, `write` and `close`
+/// (docs/OPERATIONS.md). The image is as it was after an error.
 #[unsafe(no_mangle)]
 pub extern "C" fn lfs_c_write(
     alloc: Global,
@@ -127,12 +132,12 @@ pub extern "C" fn lfs_c_write(
     done_code(calls::write(alloc, image, block_size, page, path, bytes))
 }
 
-/// Makes an empty directory, and answers 0.
+/// Makes an empty directory. Returns 0.
 ///
 /// # Errors
 ///
-/// Those of [`lfs_c_check`], and what `mkdir` of a session refuses (docs/OPERATIONS.md).
-/// The image stays then.
+/// Those of [`lfs_c_check`], and the refusals of a session's `mkdir` (docs/OPERATIONS.md). The
+/// image is as it was after an error.
 #[unsafe(no_mangle)]
 pub extern "C" fn lfs_c_mkdir(
     alloc: Global,
@@ -146,12 +151,12 @@ pub extern "C" fn lfs_c_mkdir(
     done_code(calls::mkdir(alloc, image, block_size, page, path))
 }
 
-/// Takes a file, or a directory without entries, and answers 0.
+/// Removes a file, or a directory without entries. Returns 0.
 ///
 /// # Errors
 ///
-/// Those of [`lfs_c_check`], and what `remove` of a session refuses (docs/OPERATIONS.md).
-/// The image stays then.
+/// Those of [`lfs_c_check`], and the refusals of a session's `remove` (docs/OPERATIONS.md). The
+/// image is as it was after an error.
 #[unsafe(no_mangle)]
 pub extern "C" fn lfs_c_remove(
     alloc: Global,
@@ -165,12 +170,13 @@ pub extern "C" fn lfs_c_remove(
     done_code(calls::remove(alloc, image, block_size, page, path))
 }
 
-/// Gives an entry another path, in place of a file, or of a directory without entries, at it, and answers 0.
+/// Renames an entry. A file at the new path is replaced by a file, and a directory without entries
+/// by a directory. Returns 0.
 ///
 /// # Errors
 ///
-/// Those of [`lfs_c_check`], and what `rename` of a session refuses (docs/OPERATIONS.md).
-/// The image stays then.
+/// Those of [`lfs_c_check`], and the refusals of a session's `rename` (docs/OPERATIONS.md). The
+/// image is as it was after an error.
 #[unsafe(no_mangle)]
 pub extern "C" fn lfs_c_rename(
     alloc: Global,
@@ -185,12 +191,13 @@ pub extern "C" fn lfs_c_rename(
     done_code(calls::rename(alloc, image, block_size, page, from, to))
 }
 
-/// Puts the bytes of an entry's attribute into a buffer, if they fit, and answers how many they are.
+/// Puts the bytes of an entry's attribute of type `kind` into the buffer, if all of them fit, and
+/// returns how many they are. Where they don't fit, the buffer is as it was.
 ///
 /// # Errors
 ///
-/// Those of [`lfs_c_check`], and what `get_attr` of a session refuses (docs/OPERATIONS.md).
-/// The buffer stays then.
+/// Those of [`lfs_c_check`], and the refusals of a session's `get_attr` (docs/OPERATIONS.md).
+/// The buffer is as it was after an error.
 #[unsafe(no_mangle)]
 pub extern "C" fn lfs_c_get_attr(
     alloc: Global,
@@ -206,12 +213,13 @@ pub extern "C" fn lfs_c_get_attr(
     room_code(calls::get_attr(alloc, image, block_size, page, path, kind, buffer))
 }
 
-/// Gives an entry an attribute, in place of the one of that type if it has one, and answers 0.
+/// Sets an entry's attribute of type `kind`, in place of the one of that type, if it has one.
+/// Returns 0.
 ///
 /// # Errors
 ///
-/// Those of [`lfs_c_check`], and what `set_attr` of a session refuses (docs/OPERATIONS.md).
-/// The image stays then.
+/// Those of [`lfs_c_check`], and the refusals of a session's `set_attr` (docs/OPERATIONS.md).
+/// The image is as it was after an error.
 #[unsafe(no_mangle)]
 pub extern "C" fn lfs_c_set_attr(
     alloc: Global,
@@ -227,12 +235,12 @@ pub extern "C" fn lfs_c_set_attr(
     done_code(calls::set_attr(alloc, image, block_size, page, path, kind, bytes))
 }
 
-/// Takes an attribute from an entry, and answers 0.
+/// Removes an entry's attribute of type `kind`. Returns 0.
 ///
 /// # Errors
 ///
-/// Those of [`lfs_c_check`], and what `remove_attr` of a session refuses (docs/OPERATIONS.md).
-/// The image stays then.
+/// Those of [`lfs_c_check`], and the refusals of a session's `remove_attr`
+/// (docs/OPERATIONS.md). The image is as it was after an error.
 #[unsafe(no_mangle)]
 pub extern "C" fn lfs_c_remove_attr(
     alloc: Global,
@@ -247,7 +255,7 @@ pub extern "C" fn lfs_c_remove_attr(
     done_code(calls::remove_attr(alloc, image, block_size, page, path, kind))
 }
 
-/// Answers how many blocks an image uses.
+/// Returns how many blocks an image uses.
 ///
 /// # Errors
 ///

@@ -1,4 +1,4 @@
-// Sessions over bytes.
+// Sessions over an image's bytes.
 
 ghost use Rattle.std.specs.Prelude.{◌≡◌, ◌*◌, length, IfErr, IfOk};
 ghost use Rattle.lfs_model.specs.Disk.{IsImage};
@@ -9,7 +9,8 @@ use lfs_device::{Error, Geometry, RamDevice};
 use lfs_fs::{Session, mount};
 use std::alloc::Global;
 
-// How an image's bytes are divided.
+// Returns the geometry of an image with these blocks and pages. `Invalid` where the bytes are no
+// such image.
 fn geometry(image: &[u8], block_size: u32, page: u32) -> Result<Geometry, Error>
     ensures ok { IfOk result (λ g. (g.block_size ≡ block_size) × (g.page ≡ page) × (g.block_size * g.block_count ≡ length image.now)) }
     ensures err { IfErr result (λ e. (e ≡ Error.Invalid) × (¬ IsImage block_size page image.now)) }
@@ -20,7 +21,7 @@ fn geometry(image: &[u8], block_size: u32, page: u32) -> Result<Geometry, Error>
     Geometry::new(block_size, page, (image.len() / block_size as usize) as u32)
 }
 
-// A device in memory that holds a copy of an image.
+// Makes a device in memory that has a copy of an image.
 pub(crate) fn device(
     alloc: Global,
     image: &[u8],
@@ -34,7 +35,7 @@ pub(crate) fn device(
     RamDevice::from_bytes(geometry, Vec::from_slice(alloc, image)?)
 }
 
-// A session over an image, of whose device no call has failed.
+// Mounts a session over a copy of an image. No call of its device has failed.
 pub(crate) fn begin(
     alloc: Global,
     image: &[u8],

@@ -1,4 +1,5 @@
-//! littlefs over images in memory, to be called from C: each call carries out one operation of a session.
+//! littlefs over images in memory, to be called from C. Each call carries out one operation of a
+//! session.
 #![tactic(auto)]
 
 mod calls;

@@ -1,4 +1,4 @@
-// The lines that tell what stands in a directory.
+// The lines that list a directory.
 
 ghost use Rattle.std.specs.Prelude.{◌≡◌, ◌++◌, ◌<◌, map, IfOk, OnOk};
 ghost use Rattle.lfs_model.specs.Listing.{escaped, escaped_text, hex_digit};
@@ -32,7 +32,7 @@ fn push_escaped(text: &mut Vec<u8>, byte: u8) -> Result<(), AllocError>
     Ok(())
 }
 
-// Adds a name as it is listed.
+// Adds a name as a listing shows it.
 fn push_name(text: &mut Vec<u8>, name: &[u8]) -> Result<(), AllocError>
     ensures { OnOk result (text.new.items ≡ text.old.items ++ escaped_text name.now) }
 {
@@ -42,7 +42,7 @@ fn push_name(text: &mut Vec<u8>, name: &[u8]) -> Result<(), AllocError>
     Ok(())
 }
 
-// Adds what a line says before the name.
+// Adds what a line says before the name: a file's size, or that it is a directory.
 fn push_head(text: &mut Vec<u8>, size: Option<u32>) -> Result<(), AllocError>
     ensures { OnOk result (text.new.items ≡ text.old.items ++ head_of size) }
 {
@@ -57,7 +57,7 @@ fn push_head(text: &mut Vec<u8>, size: Option<u32>) -> Result<(), AllocError>
     Ok(())
 }
 
-// Adds the line of what stands in a directory.
+// Adds the line of an entry.
 fn push_line(text: &mut Vec<u8>, item: &ListItem) -> Result<(), AllocError>
     ensures { OnOk result (text.new.items ≡ text.old.items ++ line_of (list_item_seen item.now)) }
 {
@@ -67,7 +67,7 @@ fn push_line(text: &mut Vec<u8>, item: &ListItem) -> Result<(), AllocError>
     Ok(())
 }
 
-// The lines of what stands in a directory, in turn.
+// Returns the lines of a directory's entries, in their order.
 pub(crate) fn lines_of(alloc: Global, items: &[ListItem]) -> Result<Vec<u8>, AllocError>
     ensures { IfOk result (λ text. text.items ≡ lines_of (map list_item_seen items.now)) }
 {

@@ -1,4 +1,4 @@
-// What is asked of an image.
+// Questions to an image.
 
 ghost use Rattle.std.specs.Prelude.{◌∷◌, [], map};
 ghost use Rattle.lfs_model.specs.Operations as ops;
@@ -13,7 +13,7 @@ use lfs_fs::{OpenFlags, Session};
 use lfs_lookup::ListItem;
 use std::alloc::Global;
 
-// A file's size in bytes, or None for a directory.
+// Returns a file's size in bytes, or None for a directory.
 pub(crate) fn size_at(
     alloc: Global,
     image: &[u8],
@@ -25,12 +25,12 @@ pub(crate) fn size_at(
 {
     let mut session = begin(alloc, image, block_size, page)?;
     let answer = session.stat(alloc, path);
-    // It has met no fault.
+    // The device has met no fault.
     let _device = session.device();
     answer
 }
 
-// How many blocks an image uses.
+// Returns how many blocks an image uses.
 pub(crate) fn used_count(
     alloc: Global,
     image: &[u8],
@@ -45,7 +45,7 @@ pub(crate) fn used_count(
     answer
 }
 
-// What stands in a directory, in name order.
+// Returns the entries of a directory, in the order of their names.
 pub(crate) fn items_at(
     alloc: Global,
     image: &[u8],
@@ -61,7 +61,7 @@ pub(crate) fn items_at(
     answer
 }
 
-// The bytes of an entry's attribute.
+// Returns the bytes of an entry's attribute.
 pub(crate) fn attribute_at(
     alloc: Global,
     image: &[u8],
@@ -78,7 +78,7 @@ pub(crate) fn attribute_at(
     answer
 }
 
-// Reads so many bytes of a file at most, from a position on, in a session without open files.
+// Reads at most `count` bytes of a file from a position on, in a session without open files.
 fn read_at(
     alloc: Global,
     session: &mut Session<RamDevice>,
@@ -93,7 +93,7 @@ fn read_at(
     session.read(alloc, 0, count)
 }
 
-// So many bytes of a file at most, from a position on.
+// Returns at most `count` bytes of a file from a position on.
 pub(crate) fn bytes_at(
     alloc: Global,
     image: &[u8],

@@ -13,7 +13,7 @@ use lfs_device::{Error, RamDevice};
 use lfs_fs::{Op, Reply, Session};
 use std::alloc::Global;
 
-// The first error by which an operation was refused.
+// Returns the error of the first reply that refuses.
 fn first_refusal(replies: &[Reply]) -> Option<Error>
     requires { All IsNamed replies.now }
     ensures none { IfNone result (All (λ r. is_refusal (reply_seen r) ≡ false) replies.now) }
@@ -27,7 +27,8 @@ fn first_refusal(replies: &[Reply]) -> Option<Error>
     None
 }
 
-// A session over an image that has carried out these operations, none of them refused.
+// Runs the operations in a session over a copy of an image. Returns the session where none of them
+// is refused, and else the first refusal.
 fn carry_out(
     alloc: Global,
     image: &[u8],
@@ -41,7 +42,7 @@ fn carry_out(
 {
     let mut session = begin(alloc, image, block_size, page)?;
     let answer = session.run(alloc, ops);
-    // It has met no fault, so memory was wanting where the run ended in an error.
+    // The device has met no fault. So where the run ended in an error, memory wasn't granted.
     let _device = session.device();
     match first_refusal(&answer?) {
         Some(error) => Err(error),
@@ -49,7 +50,8 @@ fn carry_out(
     }
 }
 
-// Carries out operations in a session over an image, and takes its bytes where none is refused.
+// Runs operations in a session over a copy of an image. The image gets the copy's bytes where none
+// is refused.
 pub(crate) fn change(
     alloc: Global,
     image: &mut [u8],

@@ -1,15 +1,42 @@
-// A device that counts its calls, and notes the order in which blocks are written.
+// A device that counts its calls and their bytes, and sees in which order blocks are written.
 
 use lfs_device::{BlockDevice, Error, Geometry};
+use std::alloc::Global;
 
-/// How often a device was erased and programmed.
+/// How often a device was read, programmed and erased, and how many bytes were read and programmed.
 #[derive(Clone, Copy)]
 pub struct Counts {
-    pub erases: u64,
+    pub reads: u64,
+    pub read_bytes: u64,
     pub programs: u64,
-    /// How many programs were in turn. Such a program begins at a block's first byte, comes right
-    /// after the block's erase, and is of a later block than the one in turn before it.
+    pub program_bytes: u64,
+    pub erases: u64,
+    /// The programs of a block from its first byte on right behind its erase, each of a later block
+    /// than the one before.
     pub in_turn: u64,
+}
+
+impl Counts {
+    const NONE: Counts = Counts {
+        reads: 0,
+        read_bytes: 0,
+        programs: 0,
+        program_bytes: 0,
+        erases: 0,
+        in_turn: 0,
+    };
+
+    /// The calls since a moment whose counts are given.
+    pub fn since(&self, before: &Counts) -> Counts {
+        Counts {
+            reads: self.reads.saturating_sub(before.reads),
+            read_bytes: self.read_bytes.saturating_sub(before.read_bytes),
+            programs: self.programs.saturating_sub(before.programs),
+            program_bytes: self.program_bytes.saturating_sub(before.program_bytes),
+            erases: self.erases.saturating_sub(before.erases),
+            in_turn: self.in_turn.saturating_sub(before.in_turn),
+        }
+    }
 }
 
 // What was called, and in which order.
@@ -23,13 +50,19 @@ struct Turns {
 }
 
 impl Turns {
+    fn take_read(&mut self, bytes: usize) {
+        self.counts.reads = self.counts.reads.saturating_add(1);
+        self.counts.read_bytes = self.counts.read_bytes.saturating_add(bytes as u64);
+    }
+
     fn take_erase(&mut self, block: u32) {
         self.counts.erases = self.counts.erases.saturating_add(1);
         self.erased = Some(block);
     }
 
-    fn take_program(&mut self, block: u32, off: u32) {
+    fn take_program(&mut self, block: u32, off: u32, bytes: usize) {
         self.counts.programs = self.counts.programs.saturating_add(1);
+        self.counts.program_bytes = self.counts.program_bytes.saturating_add(bytes as u64);
         let is_later = match self.last {
             Some(last) => last < block,
             None => true,
@@ -47,27 +80,35 @@ impl Turns {
 pub struct Watched<D: BlockDevice> {
     inner: D,
     turns: Turns,
+    // How often each block was erased. Of a block past its end that isn't counted.
+    erased: Vec<u32>,
 }
 
 impl<D: BlockDevice> Watched<D> {
-    pub fn new(inner: D) -> Watched<D> {
-        let counts = Counts {
-            erases: 0,
-            programs: 0,
-            in_turn: 0,
-        };
+    pub fn new(alloc: Global, inner: D) -> Watched<D> {
+        Watched::with_blocks(inner, Vec::new(alloc))
+    }
+
+    /// A device with the numbers that the counts of each block's erases begin with.
+    pub fn with_blocks(inner: D, erased: Vec<u32>) -> Watched<D> {
         Watched {
             inner,
             turns: Turns {
-                counts,
+                counts: Counts::NONE,
                 erased: None,
                 last: None,
             },
+            erased,
         }
     }
 
     pub fn counts(&self) -> Counts {
         self.turns.counts
+    }
+
+    /// How often each block was erased.
+    pub fn erased(&self) -> &[u32] {
+        &self.erased
     }
 }
 
@@ -91,16 +132,20 @@ impl<D: BlockDevice> BlockDevice for Watched<D> {
     }
 
     fn read(&mut self, block: u32, off: u32, buf: &mut [u8]) -> Result<(), Error> {
+        self.turns.take_read(buf.len());
         self.inner.read(block, off, buf)
     }
 
     fn prog(&mut self, block: u32, off: u32, bytes: &[u8]) -> Result<(), Error> {
-        self.turns.take_program(block, off);
+        self.turns.take_program(block, off, bytes.len());
         self.inner.prog(block, off, bytes)
     }
 
     fn erase(&mut self, block: u32) -> Result<(), Error> {
         self.turns.take_erase(block);
+        if let Some(count) = self.erased.get_mut(block as usize) {
+            *count = count.saturating_add(1);
+        }
         self.inner.erase(block)
     }
 }

@@ -29,7 +29,7 @@ fn piece() -> [u8; PIECE as usize] {
 fn begun(alloc: Global, pieces: u32) -> Result<(Writing, u32), Error> {
     let blocks = pieces.saturating_add(pieces / 64).saturating_add(16);
     let device = RamDevice::blank(alloc, Geometry::new(BLOCK, 256, blocks)?)?;
-    let mut session = format(alloc, Watched::new(device)).map_err(|(_, error)| error)?;
+    let mut session = format(alloc, Watched::new(alloc, device)).map_err(|(_, error)| error)?;
     let fd = session.open(alloc, b"/file", OpenFlags::WRITE | OpenFlags::CREATE)?;
     Ok((session, fd))
 }
@@ -56,13 +56,13 @@ fn has_pieces(alloc: Global, session: &mut Writing, pieces: u32) -> Result<bool,
     Ok(is_end)
 }
 
-fn show_counts(rt: &HostRuntime, pieces: u32, before: Counts, after: Counts) -> io::Result<()> {
+fn show_counts(rt: &HostRuntime, pieces: u32, counts: Counts) -> io::Result<()> {
     println!(rt;
         "{} blocks, {} erases, {} programs, {} of them in turn",
         blocks_for(BLOCK, pieces.saturating_mul(PIECE)),
-        after.erases.saturating_sub(before.erases),
-        after.programs.saturating_sub(before.programs),
-        after.in_turn.saturating_sub(before.in_turn)
+        counts.erases,
+        counts.programs,
+        counts.in_turn
     )
 }
 
@@ -78,7 +78,7 @@ pub fn show(rt: &HostRuntime, pieces: u32) -> io::Result<()> {
     let start = Instant::now(rt)?;
     let written = write_pieces(rt.alloc(), &mut session, fd, pieces);
     let time = start.elapsed(rt)?;
-    show_counts(rt, pieces, before, session.device().counts())?;
+    show_counts(rt, pieces, session.device().counts().since(&before))?;
     let is_read = written.is_ok() && has_pieces(rt.alloc(), &mut session, pieces) == Ok(true);
     println!(rt; "read as written: {is_read}")?;
     eprintln!(rt; "{}", time.as_nanos())

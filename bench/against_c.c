@@ -1,0 +1,360 @@
+// The rows of crates/lfs_bench by littlefs's own code, over a device in memory that counts its calls, for against_c.py, which builds it.
+//
+//   bench ROW BLOCKS COUNT CACHE CYCLES   prints the row, reads, bytes read, programs, bytes programmed, erases, nanoseconds, and
+//                                         the peak of the heap with littlefs's own structs; of a wear row the erases of each block
+//
+// littlefs's files are compiled with malloc as counted_malloc and free as counted_free. HEADER is "lfs.h" or "lfs2.h".
+#include HEADER
+#include <stdio.h>
+#include <stdlib.h>
+#include <string.h>
+#include <time.h>
+
+enum { BLOCK = 4096, PAGE = 256, READ = 16, LOOKAHEAD = 16 };
+
+static lfs_t fs;
+static struct lfs_config config;
+static lfs_file_t file;
+
+// ---- what is counted
+
+typedef struct {
+    unsigned long long reads, read_bytes, programs, program_bytes, erases;
+} Counts;
+
+static Counts counts;
+static uint32_t *erased; // of each block
+static size_t heap, peak;
+
+void *counted_malloc(size_t size) {
+    size_t *start = malloc(size + 16);
+    *start = size;
+    heap += size;
+    if (heap > peak) peak = heap;
+    return (char *)start + 16;
+}
+
+void counted_free(void *bytes) {
+    if (!bytes) return;
+    size_t *start = (size_t *)((char *)bytes - 16);
+    heap -= *start;
+    free(start);
+}
+
+// ---- the device
+
+static uint8_t *device;
+
+static uint8_t *at(lfs_block_t block, lfs_off_t off) { return device + (size_t)block * BLOCK + off; }
+
+static int device_read(const struct lfs_config *c, lfs_block_t block, lfs_off_t off, void *buffer, lfs_size_t size) {
+    (void)c;
+    counts.reads++;
+    counts.read_bytes += size;
+    memcpy(buffer, at(block, off), size);
+    return 0;
+}
+
+static int device_prog(const struct lfs_config *c, lfs_block_t block, lfs_off_t off, const void *buffer, lfs_size_t size) {
+    (void)c;
+    counts.programs++;
+    counts.program_bytes += size;
+    memcpy(at(block, off), buffer, size);
+    return 0;
+}
+
+static int device_erase(const struct lfs_config *c, lfs_block_t block) {
+    (void)c;
+    counts.erases++;
+    erased[block]++;
+    memset(at(block, 0), 0xff, BLOCK);
+    return 0;
+}
+
+static int device_sync(const struct lfs_config *c) {
+    (void)c;
+    return 0;
+}
+
+// ---- operations
+
+static int sure_at(int code, const char *what, int line) {
+    if (code < 0) {
+        printf("error %d of %s in line %d\n", code, what, line);
+        exit(1);
+    }
+    return code;
+}
+#define SURE(call) sure_at((int)(call), #call, __LINE__)
+
+enum { NEW = LFS_O_WRONLY | LFS_O_CREAT, REWRITE = NEW | LFS_O_TRUNC, APPEND = NEW | LFS_O_APPEND };
+
+static uint8_t bytes[BLOCK];
+
+static void fill(char byte) { memset(bytes, byte, sizeof bytes); }
+static void open_file(const char *path, int flags) { SURE(lfs_file_open(&fs, &file, path, flags)); }
+static void write_bytes(uint32_t size) { SURE(lfs_file_write(&fs, &file, bytes, size)); }
+static void close_file(void) { SURE(lfs_file_close(&fs, &file)); }
+
+static void put(const char *path, int flags, uint32_t size) {
+    open_file(path, flags);
+    write_bytes(size);
+    close_file();
+}
+
+static void mount_anew(void) {
+    SURE(lfs_unmount(&fs));
+    SURE(lfs_mount(&fs, &config));
+}
+
+static const char *path_of(uint32_t number, uint32_t folders) {
+    static char path[40];
+    if (folders) sprintf(path, "/d%03u/f%05u", (unsigned)(number % folders), (unsigned)number);
+    else sprintf(path, "/f%05u", (unsigned)number);
+    return path;
+}
+
+static void make_folders(uint32_t folders) {
+    char path[40];
+    for (uint32_t k = 0; k < folders; k++) {
+        sprintf(path, "/d%03u", (unsigned)k);
+        SURE(lfs_mkdir(&fs, path));
+    }
+}
+
+static void make_files(uint32_t count, uint32_t folders) {
+    fill('x');
+    for (uint32_t k = 0; k < count; k++) put(path_of(k, folders), NEW, 100);
+}
+
+static void stat_files(uint32_t count, uint32_t folders) {
+    struct lfs_info info;
+    for (uint32_t k = 0; k < count; k++) SURE(lfs_stat(&fs, path_of(k * 7 % count, folders), &info));
+}
+
+static void remove_files(uint32_t count, uint32_t folders) {
+    for (uint32_t k = 0; k < count; k++) SURE(lfs_remove(&fs, path_of(k, folders)));
+}
+
+static void write_blocks(const char *path, uint32_t count) {
+    fill('z');
+    open_file(path, NEW);
+    for (uint32_t k = 0; k < count; k++) write_bytes(BLOCK);
+    close_file();
+}
+
+static void list_root(void) {
+    lfs_dir_t dir;
+    struct lfs_info info;
+    SURE(lfs_dir_open(&fs, &dir, "/"));
+    while (SURE(lfs_dir_read(&fs, &dir, &info))) {}
+    SURE(lfs_dir_close(&fs, &dir));
+}
+
+static void read_file(const char *path, uint32_t count, uint32_t size) {
+    open_file(path, LFS_O_RDONLY);
+    for (uint32_t k = 0; k < count; k++) SURE(lfs_file_read(&fs, &file, bytes, size));
+    close_file();
+}
+
+static void read_anywhere(uint32_t count) {
+    uint32_t state = 1;
+    open_file("/big", LFS_O_RDONLY);
+    for (uint32_t k = 0; k < count; k++) {
+        state = state * 1103515245u + 12345;
+        SURE(lfs_file_seek(&fs, &file, (lfs_soff_t)((state >> 8) % 1048000), LFS_SEEK_SET));
+        SURE(lfs_file_read(&fs, &file, bytes, 100));
+    }
+    close_file();
+}
+
+static void overwrite(uint32_t count) {
+    fill('w');
+    for (uint32_t k = 0; k < count; k++) {
+        open_file("/big", LFS_O_WRONLY);
+        SURE(lfs_file_seek(&fs, &file, 10, LFS_SEEK_SET));
+        write_bytes(10);
+        close_file();
+    }
+}
+
+static void rename_often(uint32_t count, const char *other) {
+    for (uint32_t k = 0; k < count; k++) SURE(k % 2 ? lfs_rename(&fs, other, "/d000/here") : lfs_rename(&fs, "/d000/here", other));
+}
+
+static void set_often(uint32_t count) {
+    fill('a');
+    for (uint32_t k = 0; k < count; k++) {
+        bytes[0] = (uint8_t)k;
+        SURE(lfs_setattr(&fs, "/file", 0x41, bytes, 16));
+    }
+}
+
+static void rewrite_small(uint32_t count) {
+    fill('a');
+    for (uint32_t k = 0; k < count; k++) {
+        bytes[0] = (uint8_t)k;
+        put("/f90000", REWRITE, 4);
+    }
+}
+
+static void append_synced(uint32_t count) {
+    fill('y');
+    open_file("/log", APPEND);
+    for (uint32_t k = 0; k < count; k++) {
+        write_bytes(100);
+        SURE(lfs_file_sync(&fs, &file));
+    }
+    close_file();
+}
+
+static void append_opened(uint32_t count) {
+    fill('y');
+    for (uint32_t k = 0; k < count; k++) put("/log", APPEND, 100);
+}
+
+static void make_deep(void) {
+    char path[60] = "";
+    for (int k = 0; k < 12; k++) {
+        strcat(path, "/dd");
+        SURE(lfs_mkdir(&fs, path));
+    }
+    put(strcat(path, "/f"), NEW, 5);
+}
+
+static void stat_deep(uint32_t count) {
+    struct lfs_info info;
+    for (uint32_t k = 0; k < count; k++) SURE(lfs_stat(&fs, "/dd/dd/dd/dd/dd/dd/dd/dd/dd/dd/dd/dd/f", &info));
+}
+
+static void write_tiny(uint32_t count) {
+    open_file("/tiny", NEW);
+    for (uint32_t k = 0; k < count; k++) SURE(lfs_file_write(&fs, &file, "0123456789", 10));
+    close_file();
+}
+
+// ---- wear
+
+static void append_log(uint32_t size) {
+    struct lfs_info info;
+    put("/log", APPEND, size);
+    SURE(lfs_stat(&fs, "/log", &info));
+    if (info.size > 40000) SURE(lfs_remove(&fs, "/log"));
+}
+
+static void wear(uint32_t count) {
+    uint32_t state = 1;
+    make_folders(3);
+    fill('x');
+    for (uint32_t k = 0; k < count; k++) {
+        state = state * 1103515245u + 12345;
+        uint32_t kind = (state >> 16) % 10, number = (state >> 8) % 12;
+        if (kind < 5) put(path_of(number, 3), REWRITE, (state >> 20) % 700);
+        else if (kind < 9) append_log(64);
+        else lfs_remove(&fs, path_of(number, 3));
+        if (k % 20 == 19) mount_anew();
+    }
+}
+
+static void boots(uint32_t count, int is_log) {
+    fill('x');
+    if (!is_log) memcpy(bytes, "1234", 4);
+    for (uint32_t k = 0; k < count; k++) {
+        mount_anew();
+        if (is_log) append_log(100);
+        else put("/count", REWRITE, 4);
+    }
+}
+
+// ---- rows
+
+static int is(const char *row, const char *name) { return !strcmp(row, name); }
+
+static void prepare(const char *row, uint32_t count) {
+    fill('x');
+    if (is(row, "create50")) make_folders(50);
+    else if (is(row, "stat1") || is(row, "delete1") || is(row, "list1") || is(row, "mount")) make_files(count, 0);
+    else if (is(row, "stat50") || is(row, "delete50")) make_folders(50), make_files(count, 50);
+    else if (is(row, "readall") || is(row, "readrandom") || is(row, "overwrite")) write_blocks("/big", 256);
+    else if (is(row, "appendlong")) write_blocks("/log", 2048);
+    else if (is(row, "rename_same") || is(row, "rename_across")) make_folders(2), put("/d000/here", NEW, 5);
+    else if (is(row, "setattr")) put("/file", NEW, 5);
+    else if (is(row, "readsmall")) make_files(1000, 0), write_blocks("/zbig", 25);
+    else if (is(row, "notfull")) put("/f90000", NEW, 4);
+    else if (is(row, "statdeep")) make_deep();
+    else if (is(row, "nearfull")) {
+        put("/f90000", NEW, 4);
+        for (uint32_t k = 0; k < 7; k++) put(path_of(k, 0), NEW, 512);
+    }
+}
+
+static void carry_out(const char *row, uint32_t count) {
+    if (is(row, "create1")) make_files(count, 0);
+    else if (is(row, "create50")) make_files(count, 50);
+    else if (is(row, "stat1")) stat_files(count, 0);
+    else if (is(row, "stat50")) stat_files(count, 50);
+    else if (is(row, "list1")) list_root();
+    else if (is(row, "delete1")) remove_files(count, 0);
+    else if (is(row, "delete50")) remove_files(count, 50);
+    else if (is(row, "appendsync") || is(row, "appendlong")) append_synced(count);
+    else if (is(row, "appendopen")) append_opened(count);
+    else if (is(row, "write")) write_blocks("/big", count);
+    else if (is(row, "readall")) read_file("/big", count, BLOCK);
+    else if (is(row, "readrandom")) read_anywhere(count);
+    else if (is(row, "overwrite")) overwrite(count);
+    else if (is(row, "rename_same")) rename_often(count, "/d000/other");
+    else if (is(row, "rename_across")) rename_often(count, "/d001/other");
+    else if (is(row, "setattr")) set_often(count);
+    else if (is(row, "readsmall")) read_file("/zbig", count, 100);
+    else if (is(row, "nearfull") || is(row, "notfull")) rewrite_small(count);
+    else if (is(row, "statdeep")) stat_deep(count);
+    else if (is(row, "tinywrite")) write_tiny(count);
+    else if (is(row, "mount")) mount_anew();
+    else if (is(row, "wear")) wear(count);
+    else if (is(row, "bootlog")) boots(count, 1);
+    else if (is(row, "bootcount")) boots(count, 0);
+    else SURE(-1);
+}
+
+static void configure(uint32_t blocks, uint32_t cache, int32_t cycles) {
+    config.read = device_read;
+    config.prog = device_prog;
+    config.erase = device_erase;
+    config.sync = device_sync;
+    config.read_size = READ;
+    config.prog_size = PAGE;
+    config.block_size = BLOCK;
+    config.block_count = blocks;
+    config.cache_size = cache;
+    config.lookahead_size = LOOKAHEAD;
+    config.block_cycles = cycles;
+    config.disk_version = 0x00020000;
+}
+
+int main(int count, char **words) {
+    if (count != 6) return 2;
+    const char *row = words[1];
+    uint32_t blocks = (uint32_t)atoi(words[2]), times = (uint32_t)atoi(words[3]);
+    configure(blocks, (uint32_t)atoi(words[4]), atoi(words[5]));
+    device = malloc((size_t)blocks * BLOCK);
+    memset(device, 0xff, (size_t)blocks * BLOCK);
+    erased = calloc(blocks, sizeof *erased);
+    SURE(lfs_format(&fs, &config));
+    SURE(lfs_mount(&fs, &config));
+    if (is(row, "wear") || is(row, "bootlog") || is(row, "bootcount")) {
+        carry_out(row, times);
+        for (uint32_t k = 0; k < blocks; k++) printf("%u\n", (unsigned)erased[k]);
+        return 0;
+    }
+    prepare(row, times);
+    Counts before = counts;
+    peak = heap;
+    struct timespec start, end;
+    clock_gettime(CLOCK_MONOTONIC, &start);
+    carry_out(row, times);
+    clock_gettime(CLOCK_MONOTONIC, &end);
+    printf("%s %llu %llu %llu %llu %llu %lld %zu\n", row, counts.reads - before.reads, counts.read_bytes - before.read_bytes,
+           counts.programs - before.programs, counts.program_bytes - before.program_bytes, counts.erases - before.erases,
+           (end.tv_sec - start.tv_sec) * 1000000000ll + end.tv_nsec - start.tv_nsec, peak + sizeof fs);
+    return 0;
+}

@@ -1,0 +1,138 @@
+// Contents of files that the rows beside littlefs's own code write and read.
+
+use crate::files::{Measured, file_path, put};
+use lfs_device::Error;
+use lfs_fs::OpenFlags;
+use std::alloc::Global;
+
+fn to_append() -> OpenFlags {
+    OpenFlags::WRITE | OpenFlags::CREATE | OpenFlags::APPEND
+}
+
+fn to_replace() -> OpenFlags {
+    OpenFlags::WRITE | OpenFlags::CREATE | OpenFlags::TRUNCATE
+}
+
+/// Appends bytes to a file, which is made where it isn't there.
+pub fn append(
+    alloc: Global,
+    session: &mut Measured,
+    path: &[u8],
+    bytes: &[u8],
+) -> Result<(), Error> {
+    let fd = session.open(alloc, path, to_append())?;
+    session.write(alloc, fd, bytes)?;
+    session.close(alloc, fd)
+}
+
+/// Gives a file new contents, or makes it.
+pub fn replace(
+    alloc: Global,
+    session: &mut Measured,
+    path: &[u8],
+    bytes: &[u8],
+) -> Result<(), Error> {
+    let fd = session.open(alloc, path, to_replace())?;
+    session.write(alloc, fd, bytes)?;
+    session.close(alloc, fd)
+}
+
+/// Appends 100 bytes to an open file and syncs it, so often.
+pub fn append_synced(alloc: Global, session: &mut Measured, count: u32) -> Result<(), Error> {
+    let fd = session.open(alloc, b"/log", to_append())?;
+    for _ in 0..count {
+        session.write(alloc, fd, &[b'y'; 100])?;
+        session.sync(alloc, fd)?;
+    }
+    session.close(alloc, fd)
+}
+
+/// Opens a file, appends 100 bytes and closes it, so often.
+pub fn append_opened(alloc: Global, session: &mut Measured, count: u32) -> Result<(), Error> {
+    for _ in 0..count {
+        append(alloc, session, b"/log", &[b'y'; 100])?;
+    }
+    Ok(())
+}
+
+/// Writes a file of so many pieces of 4,096 bytes.
+pub fn write_pieces(
+    alloc: Global,
+    session: &mut Measured,
+    path: &[u8],
+    count: u32,
+) -> Result<(), Error> {
+    let bytes = [b'z'; 4096];
+    let fd = session.open(alloc, path, OpenFlags::WRITE | OpenFlags::CREATE)?;
+    for _ in 0..count {
+        session.write(alloc, fd, &bytes)?;
+    }
+    session.close(alloc, fd)
+}
+
+/// Reads so many pieces of a file.
+pub fn read_pieces(
+    alloc: Global,
+    session: &mut Measured,
+    path: &[u8],
+    count: u32,
+    size: u32,
+) -> Result<(), Error> {
+    let fd = session.open(alloc, path, OpenFlags::READ)?;
+    for _ in 0..count {
+        session.read(alloc, fd, size)?;
+    }
+    session.close(alloc, fd)
+}
+
+/// Reads 100 bytes at places of a file of 1 MiB that a generator picks, so often.
+pub fn read_anywhere(alloc: Global, session: &mut Measured, count: u32) -> Result<(), Error> {
+    let fd = session.open(alloc, b"/big", OpenFlags::READ)?;
+    let mut state = 1u32;
+    for _ in 0..count {
+        state = state.wrapping_mul(1_103_515_245).wrapping_add(12345);
+        session.seek(fd, (state >> 8) % 1_048_000)?;
+        session.read(alloc, fd, 100)?;
+    }
+    session.close(alloc, fd)
+}
+
+/// Changes ten bytes near the beginning of a file of 1 MiB, so often.
+pub fn overwrite(alloc: Global, session: &mut Measured, count: u32) -> Result<(), Error> {
+    for _ in 0..count {
+        let fd = session.open(alloc, b"/big", OpenFlags::WRITE)?;
+        session.seek(fd, 10)?;
+        session.write(alloc, fd, &[b'w'; 10])?;
+        session.close(alloc, fd)?;
+    }
+    Ok(())
+}
+
+/// Gives a file four other bytes, so often.
+pub fn replace_small(alloc: Global, session: &mut Measured, count: u32) -> Result<(), Error> {
+    let mut bytes = [b'a'; 4];
+    for number in 0..count {
+        bytes[0] = (number & 255) as u8;
+        replace(alloc, session, b"/f90000", &bytes)?;
+    }
+    Ok(())
+}
+
+/// Fills the root's pair nearly with seven files of 512 bytes.
+pub fn make_near_full(alloc: Global, session: &mut Measured) -> Result<(), Error> {
+    put(alloc, session, b"/f90000", b"hell")?;
+    for number in 0..7 {
+        let path = file_path(alloc, number, 0)?;
+        put(alloc, session, path.as_slice(), &[b'x'; 512])?;
+    }
+    Ok(())
+}
+
+/// Writes ten bytes to an open file, so often.
+pub fn write_tiny(alloc: Global, session: &mut Measured, count: u32) -> Result<(), Error> {
+    let fd = session.open(alloc, b"/tiny", OpenFlags::WRITE | OpenFlags::CREATE)?;
+    for _ in 0..count {
+        session.write(alloc, fd, b"0123456789")?;
+    }
+    session.close(alloc, fd)
+}

@@ -1,0 +1,162 @@
+// Files and directories that the rows beside littlefs's own code are about.
+
+use crate::watched::Watched;
+use lfs_device::{Error, RamDevice};
+use lfs_fs::{OpenFlags, Session};
+use std::alloc::Global;
+
+/// The file system that the rows work on.
+pub type Measured = Session<Watched<RamDevice>>;
+
+/// The error in place of one that says no more than that memory isn't there.
+pub fn lacks<T: Drop>(_: T) -> Error {
+    Error::NoMemory
+}
+
+fn digit(number: u32) -> u8 {
+    b'0' + (number % 10) as u8
+}
+
+/// The path of a directory of the root, by its number below 1,000.
+pub fn directory_path(alloc: Global, number: u32) -> Result<Vec<u8>, Error> {
+    let name = [
+        b'/',
+        b'd',
+        digit(number / 100),
+        digit(number / 10),
+        digit(number),
+    ];
+    Vec::from_slice(alloc, &name).map_err(lacks)
+}
+
+/// The path of a file by its number below 100,000: in the root where there are no directories, else in
+/// the directory with the number modulo their count.
+pub fn file_path(alloc: Global, number: u32, directories: u32) -> Result<Vec<u8>, Error> {
+    let mut path = match number.checked_rem(directories) {
+        Some(directory) => directory_path(alloc, directory)?,
+        None => Vec::new(alloc),
+    };
+    let name = [
+        b'/',
+        b'f',
+        digit(number / 10000),
+        digit(number / 1000),
+        digit(number / 100),
+        digit(number / 10),
+        digit(number),
+    ];
+    path.extend_from_slice(&name).map_err(lacks)?;
+    Ok(path)
+}
+
+/// Writes a new file.
+pub fn put(alloc: Global, session: &mut Measured, path: &[u8], bytes: &[u8]) -> Result<(), Error> {
+    let fd = session.open(alloc, path, OpenFlags::WRITE | OpenFlags::CREATE)?;
+    session.write(alloc, fd, bytes)?;
+    session.close(alloc, fd)
+}
+
+/// Makes directories 0 to `count - 1` in the root.
+pub fn make_directories(alloc: Global, session: &mut Measured, count: u32) -> Result<(), Error> {
+    for number in 0..count {
+        let path = directory_path(alloc, number)?;
+        session.mkdir(alloc, path.as_slice())?;
+    }
+    Ok(())
+}
+
+/// Makes files 0 to `count - 1` of 100 bytes.
+pub fn make_files(
+    alloc: Global,
+    session: &mut Measured,
+    count: u32,
+    directories: u32,
+) -> Result<(), Error> {
+    let bytes = [b'x'; 100];
+    for number in 0..count {
+        let path = file_path(alloc, number, directories)?;
+        put(alloc, session, path.as_slice(), &bytes)?;
+    }
+    Ok(())
+}
+
+/// Asks for the size of each file, every seventh first.
+pub fn stat_files(
+    alloc: Global,
+    session: &mut Measured,
+    count: u32,
+    directories: u32,
+) -> Result<(), Error> {
+    for number in 0..count {
+        let next = number.wrapping_mul(7).checked_rem(count).unwrap_or(0);
+        let path = file_path(alloc, next, directories)?;
+        session.stat(alloc, path.as_slice())?;
+    }
+    Ok(())
+}
+
+/// Removes files 0 to `count - 1`.
+pub fn remove_files(
+    alloc: Global,
+    session: &mut Measured,
+    count: u32,
+    directories: u32,
+) -> Result<(), Error> {
+    for number in 0..count {
+        let path = file_path(alloc, number, directories)?;
+        session.remove(alloc, path.as_slice())?;
+    }
+    Ok(())
+}
+
+/// Lists the root.
+pub fn list_root(alloc: Global, session: &mut Measured) -> Result<(), Error> {
+    session.list(alloc, b"/")?;
+    Ok(())
+}
+
+/// Renames one file there and back, so often in all.
+pub fn rename_often(
+    alloc: Global,
+    session: &mut Measured,
+    count: u32,
+    other: &[u8],
+) -> Result<(), Error> {
+    for number in 0..count {
+        if number % 2 == 0 {
+            session.rename(alloc, b"/d000/here", other)?;
+        } else {
+            session.rename(alloc, other, b"/d000/here")?;
+        }
+    }
+    Ok(())
+}
+
+/// Sets an attribute of 16 bytes, so often.
+pub fn set_often(alloc: Global, session: &mut Measured, count: u32) -> Result<(), Error> {
+    let mut bytes = [b'a'; 16];
+    for number in 0..count {
+        bytes[0] = (number & 255) as u8;
+        session.set_attr(alloc, b"/file", 0x41, &bytes)?;
+    }
+    Ok(())
+}
+
+/// Makes a file beneath 12 directories.
+pub fn make_deep(alloc: Global, session: &mut Measured) -> Result<(), Error> {
+    let mut path = Vec::new(alloc);
+    for _ in 0..12 {
+        path.extend_from_slice(b"/dd").map_err(lacks)?;
+        session.mkdir(alloc, path.as_slice())?;
+    }
+    path.extend_from_slice(b"/f").map_err(lacks)?;
+    put(alloc, session, path.as_slice(), b"hello")
+}
+
+/// Asks for the size of that file, so often.
+pub fn stat_deep(alloc: Global, session: &mut Measured, count: u32) -> Result<(), Error> {
+    for _ in 0..count {
+        session.stat(alloc, b"/dd/dd/dd/dd/dd/dd/dd/dd/dd/dd/dd/dd/f")?;
+    }
+    Ok(())
+}

@@ -1,0 +1,67 @@
+// How a device wears that is mounted again and again.
+
+use crate::contents::{append, replace};
+use crate::files::{Measured, file_path, make_directories};
+use lfs_device::Error;
+use std::alloc::Global;
+
+const FILE: [u8; 700] = [b'x'; 700];
+
+// Appends to a log, which is removed once it has more than 40,000 bytes.
+fn append_log(alloc: Global, session: &mut Measured, bytes: &[u8]) -> Result<(), Error> {
+    append(alloc, session, b"/log", bytes)?;
+    if session.stat(alloc, b"/log")?.unwrap_or(0) > 40000 {
+        session.remove(alloc, b"/log")?;
+    }
+    Ok(())
+}
+
+// One operation that the generator's state picks: a file is written anew, a log is appended to, or a file
+// is removed, where it is there.
+fn operate(alloc: Global, session: &mut Measured, state: u32) -> Result<(), Error> {
+    let path = file_path(alloc, (state >> 8) % 12, 3)?;
+    let kind = (state >> 16) % 10;
+    if kind < 5 {
+        let size = (state >> 20) as usize % 700;
+        return replace(alloc, session, path.as_slice(), &FILE[..size]);
+    }
+    if kind < 9 {
+        return append_log(alloc, session, &FILE[..64]);
+    }
+    match session.remove(alloc, path.as_slice()) {
+        Err(Error::NoEnt) => Ok(()),
+        removed => removed,
+    }
+}
+
+/// So many operations, with a mount after each 20.
+pub fn operate_often(alloc: Global, session: &mut Measured, count: u32) -> Result<(), Error> {
+    make_directories(alloc, session, 3)?;
+    let mut state = 1u32;
+    for number in 0..count {
+        state = state.wrapping_mul(1_103_515_245).wrapping_add(12345);
+        operate(alloc, session, state)?;
+        if number % 20 == 19 {
+            session.remount(alloc)?;
+        }
+    }
+    Ok(())
+}
+
+/// So many mounts, each with 100 bytes appended to a log.
+pub fn log_at_mounts(alloc: Global, session: &mut Measured, count: u32) -> Result<(), Error> {
+    for _ in 0..count {
+        session.remount(alloc)?;
+        append_log(alloc, session, &FILE[..100])?;
+    }
+    Ok(())
+}
+
+/// So many mounts, each with a counter that is written anew.
+pub fn count_mounts(alloc: Global, session: &mut Measured, count: u32) -> Result<(), Error> {
+    for _ in 0..count {
+        session.remount(alloc)?;
+        replace(alloc, session, b"/count", b"1234")?;
+    }
+    Ok(())
+}

@@ -91,19 +91,18 @@ module _ (marks : List Marks) (n b : ℕ) (m : Marks) (st : BlockState) (change 
       ∙ count_by-set is_used (sets_of marks n) b st Free in_sets
 
   -- what is kept beside the marks, with the count as the code changes it
-  module _ (used next was is : ℕ) (map : IsMap marks n used next) (before : was ≡ cond (is_used (state_at marks b)) 1 0) (after : is ≡ cond (is_used st) 1 0) where
+  module _ (used was is : ℕ) (map : IsMap marks n used) (before : was ≡ cond (is_used (state_at marks b)) 1 0) (after : is ≡ cond (is_used st) 1 0) where
     counted_after : used - was + is ≡ used_count (sets_of (set marks (b / 64) m) n)
     counted_after = omega (arith, counted, was_counted marks n b used was change.within map.counted before, map.counted, before, after)
 
     pub count_fits : used - was + is ≤ n
     count_fits = omega (arith, counted_after, count_by-le-length is_used (sets_of (set marks (b / 64) m) n), length-sets_of (set marks (b / 64) m) n)
 
-    pub IsMap-set : IsMap (set marks (b / 64) m) n (used - was + is) next
+    pub IsMap-set : IsMap (set marks (b / 64) m) n (used - was + is)
     IsMap-set = record {
       covered = omega (arith, map.covered, length-set marks (b / 64) m);
       no_more = omega (arith, map.no_more, length-set marks (b / 64) m);
       counted = counted_after;
-      goes_on = map.goes_on;
     }
 
 -- ---- a map without a used block
@@ -120,12 +119,11 @@ module _ (n size : ℕ) (none : Marks) (clear : (place : ℕ) → state_in none 
   none_used zero = refl
   none_used (suc n) = none_used n
 
-  pub IsMap-replicate : size ≤ n → IsMap (replicate size none) n 0 0
+  pub IsMap-replicate : size ≤ n → IsMap (replicate size none) n 0
   IsMap-replicate no_more = record {
     covered = omega (arith, covered, length-replicate size none);
     no_more = omega (arith, no_more, length-replicate size none);
     counted = sym (ap used_count sets_of-replicate ∙ none_used n);
-    goes_on = omega arith;
   }
 
 -- ---- a search for a free block
@@ -139,13 +137,13 @@ free_at marks n q k lt within free =
 pub none_free_before : (marks : List Marks) (n start q place found : ℕ) → found < 64
     → ((b : ℕ) → start ≤ b → b < q * 64 + place → state_at marks b ≢ Free)
     → ((k : ℕ) → place ≤ k → k < found → state_in (get_or marks q no_marks) k ≢ Free)
-    → n ≤ q * 64 + found → (b : ℕ) → start ≤ b → ¬ (IsFree (sets_of marks n) b)
-none_free_before marks n start q place found lt passed first past b from free =
+    → (b : ℕ) → start ≤ b → b < q * 64 + found → ¬ (IsFree (sets_of marks n) b)
+none_free_before marks n start q place found lt passed first b from below free =
     let here = IsFree-sets_of marks n b free in
     ⊎_elim (λ before. passed b from before here.1)
     (λ behind.
     let place_of : ℕ = b - q * 64 in
     let is : q * 64 + place_of ≡ b = omega (arith, here.0) in
-    first place_of (omega (arith, is)) (omega (arith, is, here.0))
-    (sym (state_at-place marks q place_of (omega (arith, is, here.0))) ∙ ap (state_at marks) is ∙ here.1))
+    first place_of (omega (arith, is)) (omega (arith, is, below))
+    (sym (state_at-place marks q place_of (omega (arith, is, below))) ∙ ap (state_at marks) is ∙ here.1))
     (cases_lt b (q * 64 + place))

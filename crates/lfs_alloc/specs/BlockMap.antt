@@ -16,9 +16,8 @@ state_at marks b = state_in (slice_index_or marks (b / 64) no_marks) (b % 64)
 abbrev pub sets_of : List Marks → ℕ → BlockSets
 sets_of marks block_count = map (state_at marks) (range_with_len 0 block_count)
 
--- there are marks for each block, the used ones are counted, and the search goes on at a block or at the end
-pub record IsMap (marks : List Marks) (block_count used_count next : ℕ) : Type 0 where
+-- there are marks for each block, and the used ones are counted
+pub record IsMap (marks : List Marks) (block_count used_count : ℕ) : Type 0 where
   pub covered : block_count ≤ 64 * length marks
   pub no_more : length marks ≤ block_count
   pub counted : used_count ≡ used_count_of (sets_of marks block_count)
-  pub goes_on : next ≤ block_count

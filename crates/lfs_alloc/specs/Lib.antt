@@ -1,2 +1,3 @@
 pub mod Marks
 pub mod BlockMap
+pub mod Next

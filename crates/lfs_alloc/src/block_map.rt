@@ -1,8 +1,9 @@
-ghost use Rattle.std.specs.Prelude.{◌≡◌, ◌≤◌, ◌<◌, ◌↔◌, ℕ, Some, length, replicate, slice_get, slice_set, IsTrue, IfErr, IfNone, IfOk, IfSome};
+ghost use Rattle.std.specs.Prelude.{◌≡◌, ◌≤◌, ◌<◌, ◌↔◌, ◌%◌, ℕ, Some, length, replicate, slice_get, slice_set, IsTrue, IfErr, IfNone, IfOk, IfSome};
 ghost use Rattle.std.specs.Bool.{OnFalse, OnTrue};
 ghost use Rattle.lfs_model.specs.BlockSets.{IsFree, IsInFlight, IsUsed, used_count};
 ghost use Rattle.lfs_model.specs.BlockSets.BlockState.{Free, InFlight, Used};
 ghost use Rattle.lfs_alloc.specs.Marks.{shown};
+ghost use Rattle.lfs_alloc.specs.Next.{IsNextFree};
 
 use crate::marks::{Marks, State};
 use lfs_device::Error;
@@ -30,7 +31,7 @@ impl Model for BlockMap {
 
     ghost view = { λ map. sets_of map.marks.items map.block_count };
 
-    ghost invariant = { λ map. IsMap map.marks.items map.block_count map.used_count map.next };
+    ghost invariant = { λ map. IsMap map.marks.items map.block_count map.used_count };
 }
 
 impl BlockMap {
@@ -96,26 +97,42 @@ impl BlockMap {
 
     /// Hands out a free block, which is then in flight until it is settled or released. None exactly where no block is free.
     ///
-    /// The blocks come in turn, from the one after the last that was taken, or from where
-    /// [`go_on_at`](BlockMap::go_on_at) said.
+    /// It is the first one from the block after the last that was taken, or from where
+    /// [`go_on_at`](BlockMap::go_on_at) said, and so the blocks come in turn.
     pub fn take(&mut self) -> Option<u32>
         ensures was_free { IfSome result (IsFree self.old) }
         ensures taken { IfSome result (λ block. self.new ≡ slice_set self.old block InFlight) }
         ensures none { IfNone result ((block : ℕ) → ¬ (IsFree self.old block)) }
         ensures same { IfNone result (self.new ≡ self.old) }
     {
-        let block = self.next_free()?;
+        let number = self.next;
+        self.take_from(number)
+    }
+
+    /// Hands out the first free block from a block on: the one with that number, modulo the number of
+    /// blocks. Behind the last block the first one comes. None exactly where no block is free.
+    pub fn take_from(&mut self, number: u32) -> Option<u32>
+        ensures next { IfSome result (IsNextFree self.old (number % length self.old)) }
+        ensures taken { IfSome result (λ block. self.new ≡ slice_set self.old block InFlight) }
+        ensures none { IfNone result ((block : ℕ) → ¬ (IsFree self.old block)) }
+        ensures same { IfNone result (self.new ≡ self.old) }
+    {
+        let block = self.next_free(number)?;
         self.set(block, State::InFlight);
         self.next = block + 1;
         Some(block)
     }
 
-    /// Lets [`take`](BlockMap::take) go on at a block: the one with that number, modulo the number of
-    /// blocks. Which blocks are used, and which are in flight, stays.
-    pub fn go_on_at(&mut self, number: u32)
-        ensures { self.new ≡ self.old }
+    /// Lets [`take`](BlockMap::take) go on at the first free block from a block on, and answers it, as
+    /// [`take_from`](BlockMap::take_from) finds it. Which blocks are used, and which are in flight, stays.
+    pub fn go_on_at(&mut self, number: u32) -> Option<u32>
+        ensures next { IfSome result (IsNextFree self.old (number % length self.old)) }
+        ensures none { IfNone result ((block : ℕ) → ¬ (IsFree self.old block)) }
+        ensures same { self.new ≡ self.old }
     {
-        self.next = number.checked_rem(self.block_count).unwrap_or(0);
+        let block = self.next_free(number)?;
+        self.next = block;
+        Some(block)
     }
 
     /// Makes a block free, whether it was used or in flight.
@@ -152,19 +169,27 @@ impl BlockMap {
         self.used_count += u32::from(state.is_used());
     }
 
-    // The first free block after the last that was taken, the blocks before that coming last.
-    fn next_free(&self) -> Option<u32>
-        ensures found { IfSome result (IsFree self.now) }
+    // The first free block from a number on, in a circle.
+    fn next_free(&self, number: u32) -> Option<u32>
+        ensures next { IfSome result (IsNextFree self.now (number % length self.now)) }
         ensures not_last { IfSome result (λ block. block < u32.MAX) }
         ensures none { IfNone result ((block : ℕ) → ¬ (IsFree self.now block)) }
     {
-        self.free_from(self.next).or_else(|| self.free_from(0))
+        if self.block_count == 0 {
+            return None;
+        }
+        match self.free_from(number % self.block_count) {
+            Some(block) => Some(block),
+            None => self.free_from(0),
+        }
     }
 
     // The first free block from a block on.
     fn free_from(&self, start: u32) -> Option<u32>
         requires { start ≤ length self.now }
         ensures found { IfSome result (IsFree self.now) }
+        ensures behind { IfSome result (λ found. start ≤ found) }
+        ensures first { IfSome result (λ found. (block : ℕ) → start ≤ block → block < found → ¬ (IsFree self.now block)) }
         ensures not_last { IfSome result (λ block. block < u32.MAX) }
         ensures none { IfNone result ((block : ℕ) → start ≤ block → ¬ (IsFree self.now block)) }
     {

@@ -80,6 +80,7 @@ pub fn head_before<D: BlockDevice>(dev: &mut D, block: u32, count: u32) -> Resul
     ensures in_range { IfOk result (λ b. b < (D.geometry dev.old).block_count) }
     ensures corrupt { IsErrOf result Error.Corrupt → (0 < count) × ((D.geometry dev.old).block_count ≤ word_at (block_in (D.blocks dev.old) block) 0) }
     ensures reading { ReadsList D.BlockDevice dev.old dev.new result }
+    ensures few { reads (D.history dev.new) ≤ reads (D.history dev.old) + 1 }
 {
     if count == 0 {
         return Ok(0);

@@ -21,3 +21,4 @@ pub mod Head
 pub mod Moves
 pub mod Accepted
 pub mod ReadImage
+pub mod Start

@@ -1,8 +1,10 @@
 // A device's image, where it is accepted.
 
-ghost use Rattle.std.specs.Prelude.{List, ◌≡◌, ◌≤◌, ◌<◌, ◌+◌, ◌++◌, ◌∷◌, drop, length, sum_by, true, IfErr, IfOk, IsErrOf, OnOk};
+ghost use Rattle.std.specs.Prelude.{ℕ, List, ◌≡◌, ◌≤◌, ◌<◌, ◌+◌, ◌%◌, ◌++◌, ◌∷◌, drop, length, sum_by, true, IfErr, IfNone, IfOk, IfSome, IsErrOf, OnOk};
+ghost use Rattle.lfs_alloc.specs.Next.{IsNextFree};
 ghost use Rattle.lfs_device.specs.Calls.{ReadsOnly};
 ghost use Rattle.lfs_device.specs.Shown.{ordered};
+ghost use Rattle.lfs_model.specs.BlockSets.{IsFree};
 ghost use Rattle.lfs_model.specs.History.{reads};
 ghost use Rattle.lfs_model.specs.Thread.{Pair as ThreadPair};
 ghost use Rattle.lfs_model.specs.View.{IsAccepted};
@@ -16,6 +18,7 @@ ghost use Rattle.lfs_mount.specs.Members.{AreDirectories, IsRead, IsThreadOf, me
 ghost use Rattle.lfs_mount.specs.Orders.{has_order};
 ghost use Rattle.lfs_mount.specs.ReadImage.{IsReadImage};
 ghost use Rattle.lfs_mount.specs.Reads.{check_reads, mount_reads, pair_reads};
+ghost use Rattle.lfs_mount.specs.Start.{image_number};
 
 use crate::check::check_thread;
 use crate::head::count_superblocks;
@@ -103,16 +106,27 @@ fn check_image<D: BlockDevice>(
     Ok(orders)
 }
 
-// Lets the map hand out blocks from another one after each mount, so that wear spreads: the number is
-// the sum of the pairs' revisions, which rise with each mount that writes, and of the used blocks.
-fn go_on_elsewhere(map: &mut BlockMap, pairs: &[Pair])
-    ensures { map.new ≡ map.old }
+// A number made of the image: how many blocks are used, and the pairs' revisions, which rise with
+// each mount that writes.
+fn image_number(map: &BlockMap, pairs: &[Pair]) -> u32
+    ensures { result ≡ image_number map.now pairs.now }
 {
     let mut number = map.used_count();
     for pair in pairs {
         number = number.wrapping_add(pair.revision);
     }
-    map.go_on_at(number);
+    number
+}
+
+// Lets the map hand out blocks from another one on after each mount, so that wear spreads, and
+// answers that block.
+fn go_on_elsewhere(map: &mut BlockMap, pairs: &[Pair]) -> Option<u32>
+    ensures next { IfSome result (IsNextFree map.old (image_number map.old pairs.now % length map.old)) }
+    ensures none { IfNone result ((block : ℕ) → ¬ (IsFree map.old block)) }
+    ensures same { map.new ≡ map.old }
+{
+    let number = image_number(map, pairs);
+    map.go_on_at(number)
 }
 
 // The pairs from an index on.

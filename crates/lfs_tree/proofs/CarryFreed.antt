@@ -164,6 +164,7 @@ module _ (t : Kept) (contents : Contents) (can : CanFree t contents) where
         let e = count_append b (blocks_of t.pairs) (files_of t.disk (all_slots t.pairs)) in
         let o = can.once b in
         absurd (omega arith);
+    shared = record { used = λ b has none. let k = count-Contains [] b none in absurd (omega arith) };
   }
 
   -- where there is no list, nothing is to be done

@@ -176,6 +176,7 @@ module _ (t : Kept) (list : Stored) (rest : List Stored) (can : CanFreeLists t (
         let k = both b in
         let o = can.once b in
         absurd (omega arith);
+    shared = record { used = λ b has none. let k = count-Contains [] b none in absurd (omega arith) };
   }
 
   module _ (history : List Event) (map : BlockSets) (settled : IsSettledIn t list no_list (with_map t history map)) (law : IsExact) where

@@ -110,6 +110,13 @@ module _ (t : Kept) (path : Path) (u : Slot) (ok : IsAccepted t.disk t.pairs) (u
     list = base_now new.disk c (is_list_same t.disk new.disk (struct_in c) geometry now_same come.list);
     size = is.now.ready.size;
     apart = lists_apart;
+    shared = record {
+      used = λ b has _.
+          let some = count-Contains (blocks_in_list new (list_in_struct u.struct)) b has in
+          let f = ap (count b) before_is in
+          let was : 1 ≤ count b (file_blocks t.disk u.struct) = omega arith in
+          is.now.stays b (was_taken b was) ∙ list_used t path u ok used at sized b was;
+    };
   }
 
   -- ---- the lists are settled

@@ -25,3 +25,4 @@ pub mod Settled
 pub mod Outside
 pub mod Coming
 pub mod Settlement
+pub mod SharedFronts

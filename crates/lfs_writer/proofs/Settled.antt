@@ -10,7 +10,7 @@ use Rattle.lfs_model.proofs.Histories.{unprogrammed-reads}
 use Rattle.lfs_thread.specs.Beside.{LeavesPairs, Shows}
 use Rattle.lfs_thread.specs.Kept.{Kept}
 use Rattle.lfs_writer.specs.Based.{IsBase, list_blocks}
-use Rattle.lfs_writer.specs.Settled.{IsSettled, KeepsOthers}
+use Rattle.lfs_writer.specs.Settled.{IsSettled, KeepsOthers, SharesUsed}
 use Rattle.lfs_writer.specs.declared.stored.Stored.{Stored}
 use Rattle.lfs_writer.specs.Settling.{CanSettle, IsSettledIn, blocks_in_list}
 use Rattle.lfs_writer.proofs.Standing.{blocks_here, size_here}
@@ -26,8 +26,15 @@ module _ {D : Type 0} (g : Ghosts D) (t : Kept) (device : D) (map : BlockSets) (
       subst (λ (d : Blocks). IsBase d (g.geometry device).block_size s.head s.size) (sym (blocks_here g t device map shows shape))
       (subst (λ (n : ℕ). IsBase t.disk.blocks n s.head s.size) (sym (size_here g t device map shows shape)) is)
 
-  pub settle_here : IsBase (g.blocks device) (g.geometry device).block_size before.head before.size × (IsBase (g.blocks device) (g.geometry device).block_size stored.head stored.size × (length map ≡ length (g.blocks device)))
-  settle_here = (base_here before can.was, (base_here stored can.list, ap length shows.map ∙ can.size ∙ sym (ap length (blocks_here g t device map shows shape))))
+  shared_here : SharesUsed map (list_blocks (g.blocks device) (g.geometry device).block_size before.head before.size) (list_blocks (g.blocks device) (g.geometry device).block_size stored.head stored.size)
+  shared_here =
+      subst (λ (m : BlockSets). SharesUsed m (list_blocks (g.blocks device) (g.geometry device).block_size before.head before.size) (list_blocks (g.blocks device) (g.geometry device).block_size stored.head stored.size)) (sym shows.map)
+      (subst (λ (l : List ℕ). SharesUsed t.map l (list_blocks (g.blocks device) (g.geometry device).block_size stored.head stored.size)) (sym (list_here before))
+      (subst (λ (l : List ℕ). SharesUsed t.map (blocks_in_list t before) l) (sym (list_here stored)) can.shared))
+
+  pub settle_here : IsBase (g.blocks device) (g.geometry device).block_size before.head before.size × (IsBase (g.blocks device) (g.geometry device).block_size stored.head stored.size × ((length map ≡ length (g.blocks device))
+      × SharesUsed map (list_blocks (g.blocks device) (g.geometry device).block_size before.head before.size) (list_blocks (g.blocks device) (g.geometry device).block_size stored.head stored.size)))
+  settle_here = (base_here before can.was, (base_here stored can.list, (ap length shows.map ∙ can.size ∙ sym (ap length (blocks_here g t device map shows shape)), shared_here)))
 
   -- the pairs stay, since their blocks are in neither list
   pub settle_leaves : (later : D) (later_map : BlockSets) → ReadsOnly g device later

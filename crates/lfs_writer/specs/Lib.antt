@@ -14,3 +14,4 @@ pub mod Owned
 pub mod Standing
 pub mod Settling
 pub mod Coming
+pub mod Shared

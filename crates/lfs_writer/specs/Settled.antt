@@ -21,6 +21,10 @@ pub record IsSettled (old new : BlockSets) (gone kept : List ℕ) : Type 0 where
   pub freed : (b : ℕ) → Contains gone b → All (λ x. x ≢ b) kept → IsFree new b
   pub others : (b : ℕ) → All (λ x. x ≢ b) gone → All (λ x. x ≢ b) kept → slice_get new b ≡ slice_get old b
 
+-- blocks that are in both lists are used
+pub record SharesUsed (sets : BlockSets) (gone kept : List ℕ) : Type 0 where
+  pub used : (b : ℕ) → Contains gone b → Contains kept b → IsUsed sets b
+
 -- the blocks that aren't among these are as they were
 pub record KeepsOthers (old new : BlockSets) (bs : List ℕ) : Type 0 where
   pub count : length new ≡ length old

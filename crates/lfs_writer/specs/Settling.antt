@@ -5,18 +5,19 @@ use Rattle.lfs_model.specs.History.{OnlyReads}
 use Rattle.lfs_model.specs.Thread.{blocks_of}
 use Rattle.lfs_thread.specs.Kept.{Kept}
 use Rattle.lfs_writer.specs.Based.{IsBase, list_blocks}
-use Rattle.lfs_writer.specs.Settled.{IsSettled}
+use Rattle.lfs_writer.specs.Settled.{IsSettled, SharesUsed}
 use Rattle.lfs_writer.specs.declared.stored.Stored.{Stored}
 
 abbrev pub blocks_in_list : Kept → Stored → List ℕ
 blocks_in_list t s = list_blocks t.disk.blocks t.disk.block_size s.head s.size
 
--- both lists stand on the disk, or have no block, and no block of theirs is a pair's
+-- both lists stand on the disk, or have no block; no block of theirs is a pair's, and those that both have are used
 pub record CanSettle (t : Kept) (before stored : Stored) : Type 0 where
   pub was : IsBase t.disk.blocks t.disk.block_size before.head before.size
   pub list : IsBase t.disk.blocks t.disk.block_size stored.head stored.size
   pub size : length t.map ≡ block_count t.disk
   pub apart : (b : ℕ) → Contains (blocks_of t.pairs) b → ¬ (Contains (blocks_in_list t before ++ blocks_in_list t stored) b)
+  pub shared : SharesUsed t.map (blocks_in_list t before) (blocks_in_list t stored)
 
 -- nothing was written, and the pairs are the same
 pub record IsReadBesideMap (old new : Kept) : Type 0 where

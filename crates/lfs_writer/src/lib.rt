@@ -17,6 +17,7 @@ mod laws;
 mod memory;
 mod releasing;
 mod settling;
+mod sharing;
 mod stored;
 mod taking;
 mod truncating;

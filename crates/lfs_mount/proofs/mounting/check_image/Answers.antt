@@ -74,7 +74,7 @@ returns-clause-image g c = λ order.
     let history = g.D.BlockDevice.history c.args.device.now in
     let read = c.in_ok-count.ensures.device in
     let state : Gstate = move_seen c.args.state.now in
-    subst (HasImage (ordered order disk) c.args.pairs.now (has_order order c.in_ok-orders.orders) c.args.map.now) (sym c.go_on_elsewhere.ensures)
+    subst (HasImage (ordered order disk) c.args.pairs.now (has_order order c.in_ok-orders.orders) c.args.map.now) (sym c.go_on_elsewhere.ensures.same)
     (has_image (ordered order disk) history c.args.pairs.now c.args.map.now state c.in_ok-count.count (read_in order disk history c.args.pairs.now c.args.map.now state c.requires)
     (head_in order disk c.args.pairs.now c.in_ok-count.count c.in_ok-count.ensures.head)
     (ordered order now) (ap (ordered order) (ap₂ disk_of read.geometry read.same)) c.check_directories.new.map c.pairs_from-directories.result.now c.pairs_from-directories.ensures

@@ -17,10 +17,12 @@ putting-init g c =
     let d : Blocks = g.D.BlockDevice.blocks c.args.dev.now in
     record {
       high = omega arith;
-      here = head_is d c.args.count c.args.head;
+      low = c.requires.within;
+      here = λ some. head_is d c.args.count c.args.head (omega arith);
       done = subst (λ (l : List ℕ). Puts (settled_as c.args.used) c.args.map.now c.args.map.now l) (sym (drop_all c.args.count (blocks_back d c.args.count c.args.head) (let l = length_back d c.args.count c.args.head in omega arith))) (puts_none (settled_as c.args.used) c.args.map.now);
       device = not_read g.D.BlockDevice c.args.dev.now;
       quiet = refl;
+      few = omega arith;
     }
 
 pub put_one-requires : goal.put_one-requires
@@ -49,7 +51,7 @@ returns-in_err-block-clause-tells g c =
       faults = told_on g.D.BlockDevice inv.quiet (told_as g.D.BlockDevice told.faults);
       errors = never_corrupt {T = ℕ} _ told.errors (λ is.
           next_there (g.D.BlockDevice.blocks c.args.dev.now) _ c.args.count c.args.head (c.putting.index - 1) c.putting.block _ inv.device.same c.requires.chain (omega arith) (inv.here (omega arith)) (omega arith)
-          (c.in_err-block.ensures.corrupt is).0 (c.in_err-block.ensures.corrupt is).1);
+          (let some = (c.in_err-block.ensures.corrupt is).0 in omega arith) (c.in_err-block.ensures.corrupt is).1);
     })
 
 pub putting-preserved : goal.putting-preserved
@@ -64,14 +66,34 @@ putting-preserved g c =
     let here : c.putting.block ≡ slice_index (blocks_back d count head) (index - 1) = inv.here (omega arith) in
     let next : index - 1 + 1 ≡ index = omega arith in
     let one = c.put_one.ensures in
+    let few = inv.few in
+    let more = c.in_ok-block.ensures.few in
     record {
       high = omega arith;
-      here = λ some. next_is d _ count head (index - 1) c.putting.block _ inv.device.same c.requires.chain some (omega arith) here (c.in_ok-block.ensures.word some);
+      low = omega arith;
+      here = λ some. next_is d _ count head (index - 1) c.putting.block _ inv.device.same c.requires.chain (omega arith) (omega arith) here (c.in_ok-block.ensures.word (omega arith));
       done = puts_here (settled_as c.args.used) c.args.map.now c.putting.map c.put_one.new.map d count head (index - 1) c.putting.block (omega arith) here
           (subst (λ n. Puts (settled_as c.args.used) c.args.map.now c.putting.map (drop n (blocks_back d count head))) (sym next) inv.done) one;
       device = read_on g.D.BlockDevice inv.device c.head_before.ensures.reading.device;
       quiet = quiet g.D.BlockDevice c.in_ok-block.ensures.reading.faults ∙ inv.quiet;
+      few = omega arith;
     }
+
+pub returns-clause-put : goal.returns-clause-put
+returns-clause-put g c =
+    let inv = c.putting.invariant in
+    let low = inv.low in
+    let test = c.putting-test.false in
+    let same : c.putting.index ≡ c.args.from = omega arith in
+    subst (λ n. Puts (settled_as c.args.used) c.args.map.now c.putting.map (drop n (blocks_back (g.D.BlockDevice.blocks c.args.dev.now) c.args.count c.args.head))) same inv.done
+
+pub returns-clause-few : goal.returns-clause-few
+returns-clause-few g c =
+    let few = c.putting.invariant.few in
+    let low = c.putting.invariant.low in
+    let high = c.putting.invariant.high in
+    let test = c.putting-test.false in
+    omega arith
 
 pub returns-clause-others : goal.returns-clause-others
 returns-clause-others g c = others_drop _ _ c.putting.index (blocks_back (g.D.BlockDevice.blocks c.args.dev.now) c.args.count c.args.head) (puts_others c.putting.invariant.done)

@@ -24,12 +24,24 @@ returns-then-block-block_count-clause-found c =
     rw (← c.self.view_is) (free_at c.self.inside.marks.items c.self.inside.block_count c.loop-index.index c.in-Some.free c.in-Some.ensures.within.1 c.if-block-block_count.true
     (ap (λ m. state_in m c.in-Some.free) (sym (read early)) ∙ c.in-Some.ensures.found))
 
+pub returns-then-block-block_count-clause-behind : goal.returns-then-block-block_count-clause-behind
+returns-then-block-block_count-clause-behind c = omega (arith, c.loop-index.invariant.begins, c.in-Some.ensures.within.0)
+
+pub returns-then-block-block_count-clause-first : goal.returns-then-block-block_count-clause-first
+returns-then-block-block_count-clause-first c =
+    let early = (goal.at.returns-then-block-block_count-clause-first c).In-Some in
+    rw (← c.self.view_is) (none_free_before c.self.inside.marks.items c.self.inside.block_count c.args.start c.loop-index.index c.loop-index.place c.in-Some.free
+    c.in-Some.ensures.within.1 c.loop-index.invariant.passed
+    (λ k from before free. c.in-Some.ensures.first k from before (ap (λ m. state_in m k) (read early) ∙ free)))
+
 pub returns-else-block-block_count-clause-none : goal.returns-else-block-block_count-clause-none
 returns-else-block-block_count-clause-none c =
     let early = (goal.at.returns-else-block-block_count-clause-none c).In-Some in
-    rw (← c.self.view_is) (none_free_before c.self.inside.marks.items c.self.inside.block_count c.args.start c.loop-index.index c.loop-index.place c.in-Some.free
+    rw (← c.self.view_is) (λ b from free.
+    none_free_before c.self.inside.marks.items c.self.inside.block_count c.args.start c.loop-index.index c.loop-index.place c.in-Some.free
     c.in-Some.ensures.within.1 c.loop-index.invariant.passed
-    (λ k from before free. c.in-Some.ensures.first k from before (ap (λ m. state_in m k) (read early) ∙ free)) c.if-block-block_count.false)
+    (λ k from before free. c.in-Some.ensures.first k from before (ap (λ m. state_in m k) (read early) ∙ free))
+    b from (omega (arith, (IsFree-sets_of c.self.inside.marks.items c.self.inside.block_count b free).0, c.if-block-block_count.false)) free)
 
 pub returns-clause-none : goal.returns-clause-none
 returns-clause-none c =

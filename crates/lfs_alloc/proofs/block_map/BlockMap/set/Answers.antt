@@ -47,7 +47,7 @@ pub overflow_add-self : goal.overflow_add-self
 overflow_add-self c =
     let early = (goal.at.overflow_add-self c).After-from in
     let few = count_fits c.self.inside.marks.items c.self.inside.block_count c.args.block c.with.result (shown c.args.state)
-    (change early) c.self.inside.used_count c.self.inside.next c.from.result c.from-2.result c.self.invariant (before early) (after c) in
+    (change early) c.self.inside.used_count c.from.result c.from-2.result c.self.invariant (before early) (after c) in
     let count : c.self.inside.block_count < 2 ^ 32 = search rules in
     search (rules, few, count)
 
@@ -55,7 +55,7 @@ pub invariant_of-self : goal.invariant_of-self
 invariant_of-self c =
     let early = (goal.at.invariant_of-self c).After-from in
     IsMap-set c.self.inside.marks.items c.self.inside.block_count c.args.block c.with.result (shown c.args.state)
-    (change early) c.self.inside.used_count c.self.inside.next c.from.result c.from-2.result c.self.invariant (before early) (after (goal.at.invariant_of-self c).After-from-2)
+    (change early) c.self.inside.used_count c.from.result c.from-2.result c.self.invariant (before early) (after (goal.at.invariant_of-self c).After-from-2)
 
 pub returns : goal.returns
 returns c =

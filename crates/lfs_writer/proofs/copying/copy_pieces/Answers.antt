@@ -9,7 +9,7 @@ use Rattle.lfs_ctz.specs.Growing.{content_of, kept_of, size_of}
 use Rattle.lfs_writer.proofs.Called.{apart_on, apart_read, apart_reads, not_read, quiet, told_as, told_on}
 use Rattle.lfs_writer.proofs.Copies.{grown_on, copied, listed, none_behind, read_bytes, sized, not_corrupt}
 use Rattle.lfs_writer.proofs.Growth.{Grows-refl, Keeps-refl, Keeps-trans}
-use Rattle.lfs_writer.proofs.copying.copy_rest.Goals as goal
+use Rattle.lfs_writer.proofs.copying.copy_pieces.Goals as goal
 
 pub copying-init : goal.copying-init
 copying-init g c = record {
@@ -27,7 +27,7 @@ copying-init g c = record {
 }
 
 pub returns-in_err-count-clause-device : goal.returns-in_err-count-clause-device
-returns-in_err-count-clause-device g c = apart_read g.D.BlockDevice c.copying.invariant.device c.read_at.ensures.reading.device
+returns-in_err-count-clause-device g c = apart_read g.D.BlockDevice c.copying.invariant.device c.read_piece.ensures.reading.device
 
 pub returns-in_err-count-clause-tells : goal.returns-in_err-count-clause-tells
 returns-in_err-count-clause-tells g c =
@@ -43,7 +43,7 @@ returns-in_err-count-clause-tells g c =
 pub returns-in_err-extend-clause-device : goal.returns-in_err-extend-clause-device
 returns-in_err-extend-clause-device g c =
     let inv = c.copying.invariant in
-    apart_on g.D.BlockDevice inv.grown.apart (apart_read g.D.BlockDevice inv.device c.read_at.ensures.reading.device) c.extend.ensures.device
+    apart_on g.D.BlockDevice inv.grown.apart (apart_read g.D.BlockDevice inv.device c.read_piece.ensures.reading.device) c.extend.ensures.device
 
 pub returns-in_err-extend-clause-tells : goal.returns-in_err-extend-clause-tells
 returns-in_err-extend-clause-tells g c =
@@ -62,10 +62,10 @@ extend-requires-clause-room g c =
     let len = c.size.ensures in
     let here = sized geometry c.copying.list.geometry now inv.same in
     let few = c.in_ok-count.ensures.count in
-    let long : length (take n c.read_at.new.buf) ≡ n = length-take-le n c.read_at.new.buf (omega (arith, c.read_at.auto.buf, few)) in
-    let more = blocks_for-more block_size (size_of block_size now + length (take n c.read_at.new.buf)) c.args.size (omega arith) in
-    let same = ap (λ (k : Geometry). blocks_for k.block_size (size_of k.block_size now + length (take n c.read_at.new.buf))) inv.same in
-    let kept = ap (λ (x : Blocks). length (kept_of x now)) c.read_at.ensures.reading.device.same in
+    let long : length (take n c.read_piece.new.buf) ≡ n = length-take-le n c.read_piece.new.buf (omega (arith, c.read_piece.auto.buf, few)) in
+    let more = blocks_for-more block_size (size_of block_size now + length (take n c.read_piece.new.buf)) c.args.size (omega arith) in
+    let same = ap (λ (k : Geometry). blocks_for k.block_size (size_of k.block_size now + length (take n c.read_piece.new.buf))) inv.same in
+    let kept = ap (λ (x : Blocks). length (kept_of x now)) c.read_piece.ensures.reading.device.same in
     let count = inv.grown.count in
     let states = inv.map.count in
     let used = inv.map.used in
@@ -89,23 +89,23 @@ copying-preserved g c =
     let at = c.size-pos.ensures in
     let sum = more.sum in
     let few = c.in_ok-count.ensures.count in
-    let long : length (take n c.read_at.new.buf) ≡ n = length-take-le n c.read_at.new.buf (omega (arith, c.read_at.auto.buf, few)) in
+    let long : length (take n c.read_piece.new.buf) ≡ n = length-take-le n c.read_piece.new.buf (omega (arith, c.read_piece.auto.buf, few)) in
     let some = inv.some in
-    let chunk = read_bytes _ _ d _ geometry _ c.args.head c.args.size pos (pos + n) (take n c.read_at.new.buf) (inv.device.geometry ∙ c.requires.geometry) inv.device.spared c.requires.base.apart
+    let chunk = read_bytes _ _ d _ geometry _ c.args.head c.args.size pos (pos + n) (take n c.read_piece.new.buf) (inv.device.geometry ∙ c.requires.geometry) inv.device.spared c.requires.base.apart
     (c.in_ok-count.ensures.bytes (listed _ _ d _ geometry _ c.args.head c.args.size (inv.device.geometry ∙ c.requires.geometry) inv.device.spared c.requires.base.apart (let test = c.copying-test.true in omega arith) c.requires.base.base)) in
     record {
       growing = more.growing;
       same = more.geometry ∙ inv.same;
-      grown = grown_on _ _ _ _ _ _ _ _ _ _ c.read_at.ensures.reading.device.same inv.map inv.grown more.grown;
+      grown = grown_on _ _ _ _ _ _ _ _ _ _ c.read_piece.ensures.reading.device.same inv.map inv.grown more.grown;
       marked = more.marked;
       map = Keeps-trans inv.map c.extend.ensures.map;
-      device = apart_on g.D.BlockDevice inv.grown.apart (apart_read g.D.BlockDevice inv.device c.read_at.ensures.reading.device) c.extend.ensures.device;
+      device = apart_on g.D.BlockDevice inv.grown.apart (apart_read g.D.BlockDevice inv.device c.read_piece.ensures.reading.device) c.extend.ensures.device;
       own = more.own;
       some = omega arith;
       top = omega arith;
-      bytes = ap (λ (l : List ℕ). l ++ drop (size_of block_size new) base) (more.content ∙ ap (λ (x : Blocks). content_of x now ++ take n c.read_at.new.buf) c.read_at.ensures.reading.device.same)
-          ∙ ap (λ k. content_of (g.D.BlockDevice.blocks c.copying.dev) now ++ take n c.read_at.new.buf ++ drop k base) (let k : size_of block_size new ≡ pos + n = omega arith in k)
-          ∙ copied (content_of (g.D.BlockDevice.blocks c.copying.dev) now) (take n c.read_at.new.buf) base pos n chunk
+      bytes = ap (λ (l : List ℕ). l ++ drop (size_of block_size new) base) (more.content ∙ ap (λ (x : Blocks). content_of x now ++ take n c.read_piece.new.buf) c.read_piece.ensures.reading.device.same)
+          ∙ ap (λ k. content_of (g.D.BlockDevice.blocks c.copying.dev) now ++ take n c.read_piece.new.buf ++ drop k base) (let k : size_of block_size new ≡ pos + n = omega arith in k)
+          ∙ copied (content_of (g.D.BlockDevice.blocks c.copying.dev) now) (take n c.read_piece.new.buf) base pos n chunk
           ∙ ap (λ k. content_of (g.D.BlockDevice.blocks c.copying.dev) now ++ drop k base) (let k : pos ≡ size_of block_size now = omega arith in k)
           ∙ inv.bytes;
       quiet = quiet g.D.BlockDevice c.in_ok-extend.ensures.tells.faults ∙ quiet g.D.BlockDevice c.in_ok-count.ensures.reading.faults ∙ inv.quiet;

@@ -6,7 +6,7 @@ use Rattle.lfs_writer.specs.Apart.{Grows, IsMarked}
 use Rattle.lfs_writer.specs.Calls.{LeavesApart}
 use Rattle.lfs_writer.specs.Extended.{IsOwn}
 use Rattle.lfs_writer.specs.Taken.{Keeps}
-use Rattle.lfs_writer.proofs.copying.copy_rest.Given as goal
+use Rattle.lfs_writer.proofs.copying.copy_pieces.Given as goal
 
 abbrev pub invariant-copying : goal.invariant-copying
 invariant-copying g l =

@@ -1,0 +1,61 @@
+// The blocks that two lists share.
+
+ghost use Rattle.std.specs.Prelude.{◌≡◌, ◌≤◌, ◌<◌, ◌+◌, ◌-◌, slice_index, IfOk, OnOk};
+ghost use Rattle.lfs_device.specs.Calls.{ReadsOnly};
+ghost use Rattle.lfs_model.specs.History.{reads};
+ghost use Rattle.lfs_model.specs.SkipLists.{AreListBlocks, blocks_back};
+ghost use Rattle.lfs_ctz.specs.Calls.{TellsIo};
+ghost use Rattle.lfs_writer.specs.Shared.{IsSharedCount, apart_count};
+
+use lfs_ctz::head_before;
+use lfs_device::{BlockDevice, Error};
+
+// The last one of the first `index` blocks of a list.
+fn back_to<D: BlockDevice>(dev: &mut D, head: u32, count: u32, index: u32) -> Result<u32, Error>
+    requires chain { AreListBlocks (D.blocks dev.old) count head }
+    requires within { index ≤ count }
+    ensures block { IfOk result (λ b. 0 < index → b ≡ slice_index (blocks_back (D.blocks dev.old) count head) (index - 1)) }
+    ensures device { ReadsOnly D.BlockDevice dev.old dev.new }
+    ensures tells { TellsIo D.BlockDevice dev.old dev.new result }
+    ensures few { OnOk result (reads (D.history dev.new) ≤ reads (D.history dev.old) + (count - index)) }
+{
+    let mut block = head;
+    let mut at = count;
+    'going: while at > index {
+        at -= 1;
+        block = head_before(dev, block, at)?;
+    }
+    Ok(block)
+}
+
+/// How many blocks two lists share at their beginnings. Each list has so many blocks, up to its head.
+///
+/// One read for each block that they don't share. `Error::Io` comes where the device failed.
+pub(crate) fn shared_count<D: BlockDevice>(
+    dev: &mut D,
+    head: u32,
+    count: u32,
+    other: u32,
+    other_count: u32,
+) -> Result<u32, Error>
+    requires chain { AreListBlocks (D.blocks dev.old) count head }
+    requires other { AreListBlocks (D.blocks dev.old) other_count other }
+    ensures shared { IfOk result (IsSharedCount (blocks_back (D.blocks dev.old) count head) (blocks_back (D.blocks dev.old) other_count other)) }
+    ensures device { ReadsOnly D.BlockDevice dev.old dev.new }
+    ensures tells { TellsIo D.BlockDevice dev.old dev.new result }
+    ensures few { IfOk result (λ n. reads (D.history dev.new) ≤ reads (D.history dev.old)
+        + apart_count (blocks_back (D.blocks dev.old) count head) (blocks_back (D.blocks dev.old) other_count other) n) }
+{
+    let mut index = count.min(other_count);
+    let mut block = back_to(dev, head, count, index)?;
+    let mut twin = back_to(dev, other, other_count, index)?;
+    'sharing: while index > 0 {
+        if block == twin {
+            return Ok(index);
+        }
+        index -= 1;
+        block = head_before(dev, block, index)?;
+        twin = head_before(dev, twin, index)?;
+    }
+    Ok(0)
+}

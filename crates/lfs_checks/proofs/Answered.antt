@@ -26,10 +26,10 @@ use Rattle.lfs_checks.specs.Replies.{reply_in}
 use Rattle.lfs_tree.specs.Seen.{Seen, tree_seen, around_of, IsSound, IsAsked, IsBroken, IsError, IsCarried}
 use Rattle.lfs_model.specs.BlockSets.{IsInFlight}
 use Rattle.lfs_model.proofs.BlockCounts.{few_flying, in_flight-freed}
-use Rattle.lfs_checks.specs.FileSeen.{OpenFiles, bytes_of, files_seen, has_unsaved, reader_seen, writer_seen, writers_in}
+use Rattle.lfs_checks.specs.FileSeen.{OpenFiles, bytes_of, files_seen, has_unsaved, reader_seen, readers_in, writer_seen, writers_in, written_paths}
 use Rattle.lfs_checks.specs.declared.files.OpenFile.TheVariants as file
 use Rattle.lfs_model.specs.Keeping.{takes_or_moves}
-use Rattle.lfs_checks.specs.Staying.{AreLeft, FilesStay, KeepsWriters, SparesWriters}
+use Rattle.lfs_checks.specs.Staying.{AreLeft, FilesStay, KeepsWriters, SparesFiles}
 use Rattle.lfs_model.specs.Slots.{no_gstate}
 use Rattle.lfs_model.specs.Thread.{gstate_of}
 use Rattle.lfs_model.specs.Tree.{Path}
@@ -39,6 +39,7 @@ use Rattle.std.specs.List.{AllByRecursion, list_any}
 use Rattle.lfs_checks.specs.Held.{Held, IsReady, IsUnsavedIn, IsWritten, held_of, held_with, session_of, moment_of, refused_by, EndsChecks, Checks, FailsBy, Answers}
 use Rattle.lfs_checks.proofs.Failing.{reads_write_nothing, nothing_written, failed_moment, healthy_moment, asking_fails, broken_fails, memory_fails}
 use Rattle.lfs_checks.proofs.Calls.{still_called}
+use Rattle.lfs_checks.proofs.OpenReaders.{none_read, read_carried}
 
 -- the tree, further on by some calls
 later : Seen → List Event → CachedBlocks → Seen
@@ -255,6 +256,7 @@ ready_later old new files h asked =
       called = still_called old.history new.history asked.reads.events asked.reads.extends h.called;
       idle = h.idle;
       written = written_later old new.history new.cache (writers_in files) h.written;
+      read = h.read;
     }
 
 pub asked_ready : (old new : Seen) (files : OpenFiles) → (old.failed ≡ false → IsReady old files) → IsAsked old new → new.failed ≡ false → IsReady new files
@@ -435,29 +437,30 @@ written_still t s (w ∷ ws) e writable settled k h =
     same n = ap (λ z. length (bytes_of s w.path z)) n ∙ ap (λ bs. length bs) k.0.1 ∙ sym (ap (λ z. length (bytes_of t w.path z)) n) ∙ h.0.size
 
 -- an operation leaves a session ready without a changed writer
-pub carried_ready : (old new : Seen) (files : OpenFiles) (op : Operation) → IsReady old files → has_unsaved files ≡ false → KeepsWriters old new (writers_in files) → IsCarried old op new → IsReady new files
-carried_ready old new files op ready e keeps carried = record {
+pub carried_ready : (old new : Seen) (files : OpenFiles) (op : Operation) → ((p : Path) → takes_or_moves op p ≡ false) → IsReady old files → has_unsaved files ≡ false → KeepsWriters old new (writers_in files) → IsCarried old op new → IsReady new files
+carried_ready old new files op off ready e keeps carried = record {
   sound = carried.sound;
   called = still_called old.history new.history carried.calls carried.called ready.called;
   one = ready.one;
   idle = λ h. let k = few_flying [] new.map (λ b h. absurd (never b (carried.flight.none_comes b h))) in omega (arith, k);
   written = written_still old new (writers_in files) e carried.writable carried.recovered.gstate keeps ready.written;
+  read = read_carried old new op (written_paths files) (readers_in files) carried (none_read op off (readers_in files)) ready.read;
 }
   where
     never : (b : ℕ) → IsInFlight old.map b → ⊥
     never b h = let k = in_flight-freed old.map b h in let none = ready.idle e in absurd (omega (arith, k, none))
 
 -- what an operation spares, it does later
-spares_later : (old new : Seen) (op : Operation) (files : OpenFiles) → IsAsked old new → SparesWriters old op files → SparesWriters new op files
+spares_later : (old new : Seen) (op : Operation) (files : OpenFiles) → IsAsked old new → SparesFiles old op files → SparesFiles new op files
 spares_later old new op files asked h =
-    subst (λ t. SparesWriters t op files) (sym asked.same) (again h)
+    subst (λ t. SparesFiles t op files) (sym asked.same) (again h)
   where
-    again : SparesWriters old op files → SparesWriters (record old { history = new.history; cache = new.cache }) op files
-    again h = record { apart = h.apart; room = h.room }
+    again : SparesFiles old op files → SparesFiles (record old { history = new.history; cache = new.cache }) op files
+    again h = record { apart = h.apart; unread = h.unread; room = h.room }
 
 -- what an operation leaves once no check refuses it
 pub done_left : (K : Type 0) (old mid new : Seen) (files : OpenFiles) (op : Operation) (r : Result (Unit {0}) Error) → FilesStay → (old.failed ≡ false → IsReady old files) → IsAsked old mid → refused_by (held_of old files) op ≡ None →
-    (IsReady old files → SparesWriters old op files) → (IsReady mid files → IsCarried mid op new → KeepsWriters mid new (writers_in files)) → OnOk r K → (K → IsCarried mid op new) → OnErr r (IsBroken mid new) → new.failed ≡ false → AreLeft old new files
+    (IsReady old files → SparesFiles old op files) → (IsReady mid files → IsCarried mid op new → KeepsWriters mid new (writers_in files)) → OnOk r K → (K → IsCarried mid op new) → OnErr r (IsBroken mid new) → new.failed ≡ false → AreLeft old new files
 done_left K old mid new files op (Ok u) stay ready asked e spares keeps k carried broken works =
     let was = ready (not_failed (held_of old files) op e) in
     let now = ready_later old mid files was asked in

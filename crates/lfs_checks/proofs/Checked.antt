@@ -6,7 +6,7 @@ use Rattle.std.specs.Option.{option_or}
 use Rattle.std.proofs.lemmas.Bool.Decides.{nat_tests}
 use Rattle.lfs_model.specs.Disk.{block_count}
 use Rattle.lfs_model.specs.Tree.{Path}
-use Rattle.lfs_model.specs.TreeEdits.{last_name, same_path}
+use Rattle.lfs_model.specs.TreeEdits.{is_file, last_name, same_path}
 use Rattle.lfs_model.specs.Operations as ops
 use Rattle.lfs_model.specs.Operations.{Operation, Refusal, Flags, path_of}
 use Rattle.lfs_model.specs.Session.{is_allowed, is_long, parent_fault, readers, writers, first_of, refuse_if, is_overcharged, lacks, held}
@@ -18,9 +18,13 @@ use Rattle.lfs_checks.specs.Replies.{passed_with}
 use Rattle.lfs_tree.specs.Seen.{Seen, tree_seen, around_of, IsAsked, IsBrokenAsking, IsError}
 use Rattle.lfs_tree.specs.Allowed.{CanMake}
 use Rattle.lfs_model.specs.BlockSets.{in_flight_count}
-use Rattle.lfs_lookup.specs.Finds.{Finds, is_absent, is_directory_node, size_in}
-use Rattle.lfs_checks.specs.Held.{Held, session_of, IsReadable, refused_by, ComesLate, EndsChecks, Checks}
+use Rattle.lfs_lookup.specs.FileContents.{AreContentsAt}
+use Rattle.lfs_lookup.specs.Finds.{Finds, is_absent, is_directory_node, is_file_node, size_in}
+use Rattle.lfs_checks.specs.Held.{Held, session_of, IsReadableAs, refused_by, ComesLate, EndsChecks, Checks}
+use Rattle.lfs_lookup.specs.declared.file_contents.FileContents.{FileContents}
 use Rattle.lfs_lookup.specs.declared.finding.Finding.{Finding}
+use Rattle.lfs_lookup.specs.declared.finding.Node.{Node}
+use Rattle.lfs_lookup.specs.declared.finding.Node.TheVariants as node
 use Rattle.lfs_checks.proofs.Answered.{not_failed, not_refused, no_refusal_io}
 use Rattle.lfs_checks.proofs.Errors.{error_refuses, refusal_again}
 use Rattle.lfs_checks.proofs.Late.{mkdir_late, reader_late, stat_late}
@@ -182,13 +186,13 @@ open_refused h bytes p flags found works is write allowed f = go (is_none (tree_
     go true e = rw (works, allowed, write, is, f.parents, e, sym f.nothing ∙ e, plain.0) refl
     go false e = rw (works, allowed, write, is, f.parents, e, sym f.nothing ∙ e, there (tree_seen h.tree p) ∙ ap not e, plain.1, plain.2, f.directories) refl
 
-pub open_checked : (h : Held) (bytes : List ℕ) (p : Path) (flags : Flags) (found : Finding) (tree : Seen) (absent directory busy : Bool) (a b d : Option Refusal) (r : Result (Unit {0}) Error) →
-    false ≡ h.tree.failed → Some p ≡ path_of bytes → flags.write ≡ false → true ≡ is_allowed flags → IsAsked h.tree tree → Finds (tree_seen h.tree) p found →
+pub open_checked : (h : Held) (bytes : List ℕ) (p : Path) (flags : Flags) (found : Finding) (tree : Seen) (absent directory busy : Bool) (a b d : Option Refusal) (x : FileContents) (r : Result FileContents Error) →
+    (is_file (tree_seen h.tree p) ≡ true → AreContentsAt h.tree.pairs p x) → false ≡ h.tree.failed → Some p ≡ path_of bytes → flags.write ≡ false → true ≡ is_allowed flags → IsAsked h.tree tree → Finds (tree_seen h.tree) p found →
     absent ≡ is_absent found.node → a ≡ refuse_if absent ops.NoEnt → directory ≡ is_directory_node found.node → b ≡ refuse_if directory ops.IsDir → busy ≡ is_busy h p → d ≡ refuse_if busy ops.Busy →
-    r ≡ passed_with (first_of (found.fault ∷ a ∷ b ∷ d ∷ [])) tt →
-    Checks h (ops.Open bytes flags) (λ u. IsReadable (tree_seen h.tree) h.files bytes) r tree
-open_checked h bytes p flags found tree absent directory busy a b d r works is write allowed asked f absent_is a_is directory_is b_is busy_is d_is r_is =
-    decided h (ops.Open bytes flags) (λ u. IsReadable (tree_seen h.tree) h.files bytes) tt _ tree r asked (reader_late h bytes p flags works is write allowed)
+    r ≡ passed_with (first_of (found.fault ∷ a ∷ b ∷ d ∷ [])) x →
+    Checks h (ops.Open bytes flags) (IsReadableAs h.tree h.files bytes) r tree
+open_checked h bytes p flags found tree absent directory busy a b d x r has works is write allowed asked f absent_is a_is directory_is b_is busy_is d_is r_is =
+    decided h (ops.Open bytes flags) (IsReadableAs h.tree h.files bytes) x _ tree r asked (reader_late h bytes p flags works is write allowed)
     (open_refused h bytes p flags found (sym works) (sym is) write (sym allowed) f ∙ ap first_of (sym lists))
     readable r_is
   where
@@ -199,14 +203,31 @@ open_checked h bytes p flags found tree absent directory busy a b d r works is w
     second true y e = absurd (cc)
     second false y e = e
 
-    readable : first_of (found.fault ∷ a ∷ b ∷ d ∷ []) ≡ None → IsReadable (tree_seen h.tree) h.files bytes
+    first : (x y : Bool) → (x || y) ≡ false → x ≡ false
+    first true y e = absurd (cc)
+    first false y e = refl
+
+    is_a_file : (n : Node) → is_absent n ≡ false → is_directory_node n ≡ false → is_file_node n ≡ true
+    is_a_file node.Nothing e k = absurd (cc)
+    is_a_file (node.File size) e k = refl
+    is_a_file node.Directory e k = absurd (cc)
+
+    readable : first_of (found.fault ∷ a ∷ b ∷ d ∷ []) ≡ None → IsReadableAs h.tree h.files bytes x
     readable none =
         let k = neither found.fault (first_of (a ∷ b ∷ d ∷ [])) none in
         let l = neither a (first_of (b ∷ d ∷ [])) k.1 in
         let m = neither b (first_of (d ∷ [])) l.1 in
         let n = neither d None m.1 in
+        let there = unrefused (is_absent found.node) ops.NoEnt (sym (when ops.NoEnt a_is absent_is) ∙ l.0) in
+        let leaf = unrefused (is_directory_node found.node) ops.IsDir (sym (when ops.IsDir b_is directory_is) ∙ m.0) in
+        let free = unrefused (is_busy h p) ops.Busy (sym (when ops.Busy d_is busy_is) ∙ n.0) in
+        let path : p ≡ as_path bytes = ap (λ z. unwrap_or z []) is in
         record {
-          given = ap is_some (sym is);
-          there = ap (λ z. is_none (tree_seen h.tree (unwrap_or z []))) (sym is) ∙ f.nothing ∙ unrefused (is_absent found.node) ops.NoEnt (sym (when ops.NoEnt a_is absent_is) ∙ l.0);
-          few = second (list_any (λ w. same_path p w.path) (writers h.files)) (nat_le 16 (length (readers h.files))) (unrefused (is_busy h p) ops.Busy (sym (when ops.Busy d_is busy_is) ∙ n.0));
+          readable = record {
+            given = ap is_some (sym is);
+            there = ap (λ q. is_none (tree_seen h.tree q)) (sym path) ∙ f.nothing ∙ there;
+            few = second (list_any (λ w. same_path p w.path) (writers h.files)) (nat_le 16 (length (readers h.files))) free;
+            apart = ap (λ q. list_any (λ w. same_path q w.path) (writers h.files)) (sym path) ∙ first (list_any (λ w. same_path p w.path) (writers h.files)) (nat_le 16 (length (readers h.files))) free;
+          };
+          contents = subst (λ q. AreContentsAt h.tree.pairs q x) path (has (f.files ∙ is_a_file found.node there leaf));
         }

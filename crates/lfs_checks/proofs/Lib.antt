@@ -4,6 +4,7 @@ pub mod Answered
 pub mod EntryPaths
 pub mod Late
 pub mod Checked
+pub mod OpenReaders
 pub mod OpenFiles
 pub mod SamePaths
 pub mod EntryChecks

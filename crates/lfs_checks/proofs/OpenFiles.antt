@@ -22,13 +22,14 @@ use Rattle.lfs_model.specs.Operations.{path_of}
 use Rattle.lfs_model.specs.Disk.{block_count}
 use Rattle.lfs_model.specs.Session.{lacks}
 use Rattle.lfs_tree.specs.Seen.{Seen, IsAsked, around_of}
-use Rattle.lfs_checks.specs.FileSeen.{OpenFiles, before, picked, bytes_of, entry_of, file_seen, files_seen, free_entry, has_unsaved, is_entry_at, is_unsaved_entry, held_by_all, held_by_size, held_for, moved_entry, put_entry, reader_in, reader_seen, readers_in, turned_in, writer_in, writer_seen, writers_in}
-use Rattle.lfs_checks.specs.Held.{IsReady, IsUnsavedIn, IsWritten}
+use Rattle.lfs_checks.specs.FileSeen.{OpenFiles, before, picked, bytes_of, entry_of, file_seen, files_seen, free_entry, has_unsaved, is_entry_at, is_unsaved_entry, held_by_all, held_by_size, held_for, moved_entry, put_entry, reader_in, reader_seen, readers_in, turned_in, writer_in, writer_seen, writers_in, written_paths}
+use Rattle.lfs_checks.specs.Held.{IsRead, IsReady, IsUnsavedIn, IsWritten}
 use Rattle.lfs_checks.specs.declared.files.OpenFile.{OpenFile}
 use Rattle.lfs_checks.specs.declared.files.OpenFile.TheVariants as file
 use Rattle.lfs_checks.specs.declared.files.Reader.{Reader}
 use Rattle.lfs_checks.specs.declared.files.Writer.{Writer}
 use Rattle.lfs_checks.specs.declared.files.Unsaved.{Unsaved}
+use Rattle.lfs_checks.proofs.OpenReaders.{any_path, read_closed, read_moved, read_put}
 
 -- ---- one file
 
@@ -395,6 +396,7 @@ ready_moved t fs fd position h = record {
   one = one_moved fs fd position h.one;
   idle = λ e. h.idle (sym (unsaved_moved fs fd position) ∙ e);
   written = written_moved t fs fd position h.written;
+  read = read_moved t.pairs fs fd position h.read;
 }
 
 pub ready_closed : (t : Seen) (fs : OpenFiles) (fd : ℕ) → is_saved (entry_of fs fd) ≡ true → IsReady t fs → IsReady t (set fs fd None)
@@ -404,15 +406,17 @@ ready_closed t fs fd e h = record {
   one = one_closed fs fd h.one;
   idle = λ k. h.idle (sym (unsaved_closed fs fd e) ∙ k);
   written = written_closed t fs fd h.written;
+  read = read_closed t.pairs fs fd h.read;
 }
 
-pub ready_put : (t : Seen) (fs : OpenFiles) (r : Reader) → IsReady t fs → IsReady t (put_entry fs (free_entry fs) (Some (file.Reading r)))
-ready_put t fs r h = record {
+pub ready_put : (t : Seen) (fs : OpenFiles) (r : Reader) → IsRead t.pairs (written_paths fs) r → IsReady t fs → IsReady t (put_entry fs (free_entry fs) (Some (file.Reading r)))
+ready_put t fs r k h = record {
   sound = h.sound;
   called = h.called;
   one = subst (λ ws. length ws ≤ 1) (sym (writers_put fs r)) h.one;
   idle = λ e. h.idle (sym (ap (list_any (λ w. is_some w.unsaved)) (writers_put fs r)) ∙ e);
   written = subst (AllByRecursion (IsWritten t)) (sym (writers_put fs r)) h.written;
+  read = read_put t.pairs fs (free_entry fs) r (ap (map (λ w. w.path)) (writers_put fs r)) k h.read;
 }
 
 pub few_left : (t : Seen) (fs : OpenFiles) → nat_le 16 (length (readers (files_seen t fs))) ≡ false → length (readers_in fs) < 16
@@ -420,6 +424,10 @@ few_left t fs e = few_readers (length (readers_in fs)) (ap (nat_le 16) (sym (rea
   where
     few_readers : (n : ℕ) → nat_le 16 n ≡ false → n < 16
     few_readers n e = grind (arith, nat_tests)
+
+-- no writer is at a path that may be opened for reading
+pub apart_is : (t : Seen) (fs : OpenFiles) (p : Path) → list_any (λ w. same_path p w.path) (writers (files_seen t fs)) ≡ false → list_any (same_path p) (written_paths fs) ≡ false
+apart_is t fs p e = sym (any_path p (writers_in fs)) ∙ sym (ap (list_any (λ w. same_path p w.path)) (writers_are t fs) ∙ mapped_any t p (writers_in fs)) ∙ e
 
 pub busy_at : (t : Seen) (fs : OpenFiles) (bytes : List ℕ) (p : Path) (b : Bool) → Some p ≡ path_of bytes →
     b ≡ (list_any (λ w. same_path (as_path bytes) w.path) (writers_in fs) || nat_le 16 (length (readers_in fs))) →

@@ -93,6 +93,10 @@ readers_in files = picked reader_in files
 abbrev pub writers_in : OpenFiles → List Writer
 writers_in files = picked writer_in files
 
+-- the paths of the writers
+abbrev pub written_paths : OpenFiles → List Path
+written_paths files = map (λ w. w.path) (writers_in files)
+
 -- the least number that isn't open
 abbrev pub free_entry : OpenFiles → ℕ
 free_entry files = position_or_len is_none files

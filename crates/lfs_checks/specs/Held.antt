@@ -9,12 +9,13 @@ use Rattle.lfs_model.specs.Disk.{Disk, block_count, inline_limit}
 use Rattle.lfs_model.specs.View.{IsAccepted}
 use Rattle.lfs_model.specs.Operations.{Operation, Refusal, Reply, Failed, path_of}
 use Rattle.lfs_model.specs.Slots.{no_gstate}
-use Rattle.lfs_model.specs.Thread.{gstate_of}
-use Rattle.lfs_model.specs.Tree.{Tree}
-use Rattle.lfs_model.specs.Session.{Files, Session, readers}
-use Rattle.lfs_checks.specs.FileSeen.{OpenFiles, bytes_of, files_seen, has_unsaved, held_for, writer_seen, writers_in}
+use Rattle.lfs_model.specs.Thread.{Pair, gstate_of}
+use Rattle.lfs_model.specs.Tree.{Path, Tree}
+use Rattle.lfs_model.specs.Session.{Files, Session, readers, writers}
+use Rattle.lfs_checks.specs.FileSeen.{OpenFiles, bytes_of, files_seen, has_unsaved, held_for, readers_in, writer_seen, writers_in, written_paths}
+use Rattle.lfs_checks.specs.declared.files.Reader.{Reader}
 use Rattle.lfs_checks.specs.declared.files.Writer.{Writer}
-use Rattle.std.specs.List.{AllByRecursion}
+use Rattle.std.specs.List.{AllByRecursion, list_any}
 use Rattle.lfs_model.specs.State.{HasFailed, Healthy, is_remount}
 use Rattle.lfs_model.specs.Refusals.{as_path, refusal_of}
 use Rattle.lfs_model.specs.Effects.{size_of}
@@ -23,11 +24,13 @@ use Rattle.lfs_writer.specs.Contents.{form_of}
 use Rattle.lfs_writer.specs.Form.{IsKept}
 use Rattle.lfs_checks.specs.declared.checks.Opening.{Opening}
 use Rattle.lfs_checks.specs.declared.files.Unsaved.{Unsaved}
-use Rattle.lfs_model.specs.TreeEdits.{is_file}
+use Rattle.lfs_model.specs.TreeEdits.{is_file, same_path}
 use Rattle.lfs_model.specs.Run.{Moment, Shows, IsTurn}
 use Rattle.lfs_model.specs.Failure.{Fails}
 use Rattle.lfs_model.specs.Performed.{IsCutShort}
+use Rattle.lfs_lookup.specs.FileContents.{AreContentsAt}
 use Rattle.lfs_lookup.specs.Refusals.{is_refusal, refusal_in}
+use Rattle.lfs_lookup.specs.declared.file_contents.FileContents.{FileContents}
 use Rattle.lfs_tree.specs.Seen.{Seen, tree_seen, around_of, IsSound, IsAsked, IsBrokenAsking, IsError}
 
 -- The tree and the open files.
@@ -61,6 +64,15 @@ pub record IsWritten (t : Seen) (w : Writer) : Type 0 where
   pub size : length (bytes_of t w.path w.unsaved) ≡ w.size
   pub changed : IsUnsavedIn t w w.unsaved
 
+-- What a reader keeps are the contents of the entry at its path, and no writer is at that path.
+pub record IsRead (ps : List Pair) (written : List Path) (r : Reader) : Type 0 where
+  pub contents : AreContentsAt ps r.path r.contents
+  pub apart : list_any (same_path r.path) written ≡ false
+
+-- the readers among open files, over these pairs
+abbrev pub AreRead : List Pair → OpenFiles → Type 0
+AreRead ps files = AllByRecursion (IsRead ps (written_paths files)) (readers_in files)
+
 -- What a session keeps of a tree that works: it is the disk's, whose device has had a call, and blocks are in flight only where
 -- a writer changed something.
 pub record IsReady (t : Seen) (files : OpenFiles) : Type 0 where
@@ -69,6 +81,7 @@ pub record IsReady (t : Seen) (files : OpenFiles) : Type 0 where
   pub one : length (writers_in files) ≤ 1
   pub idle : has_unsaved files ≡ false → in_flight_count t.map ≡ 0
   pub written : AllByRecursion (IsWritten t) (writers_in files)
+  pub read : AreRead t.pairs files
 
 abbrev pub session_of : Held → Session
 session_of h = record { tree = tree_seen h.tree; files = h.files }
@@ -126,6 +139,12 @@ pub record IsReadable (t : Tree) (files : Files) (bytes : List ℕ) : Type 0 whe
   pub given : is_some (path_of bytes) ≡ true
   pub there : is_none (t (as_path bytes)) ≡ false
   pub few : nat_le 16 (length (readers files)) ≡ false
+  pub apart : list_any (λ w. same_path (as_path bytes) w.path) (writers files) ≡ false
+
+-- the same, with the contents of its file
+pub record IsReadableAs (t : Seen) (files : Files) (bytes : List ℕ) (kept : FileContents) : Type 0 where
+  pub readable : IsReadable (tree_seen t) files bytes
+  pub contents : AreContentsAt t.pairs (as_path bytes) kept
 
 -- what is found where a file may be opened for writing
 pub record IsOpening (t : Tree) (bytes : List ℕ) (found : Opening) : Type 0 where

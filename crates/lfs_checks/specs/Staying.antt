@@ -6,15 +6,16 @@ use Rattle.lfs_model.specs.Disk.{block_count}
 use Rattle.lfs_model.specs.Operations.{Operation}
 use Rattle.lfs_model.specs.Session.{held}
 use Rattle.lfs_tree.specs.Seen.{IsCarried, Seen, around_of, tree_seen}
-use Rattle.lfs_checks.specs.FileSeen.{OpenFiles, files_seen, writers_in}
+use Rattle.lfs_checks.specs.FileSeen.{OpenFiles, files_seen, readers_in, writers_in}
 use Rattle.lfs_checks.specs.Held.{IsReady}
 use Rattle.lfs_model.specs.Keeping.{takes_or_moves}
 use Rattle.lfs_tree.specs.KeepsFiles.{taken_by}
 use Rattle.lfs_checks.specs.declared.files.Writer.{Writer}
 
--- the operation is about no file that is open for writing, and there is room for the blocks that it takes
-pub record SparesWriters (t : Seen) (op : Operation) (files : OpenFiles) : Type 0 where
+-- the operation is about no open file, and there is room for the blocks that it takes
+pub record SparesFiles (t : Seen) (op : Operation) (files : OpenFiles) : Type 0 where
   pub apart : AllByRecursion (λ w. takes_or_moves op w.path ≡ false) (writers_in files)
+  pub unread : AllByRecursion (λ r. takes_or_moves op r.path ≡ false) (readers_in files)
   pub room : (taken_by op ≡ 0) ⊎ (length (around_of t).used + held t.disk.block_size (files_seen t files) + taken_by op ≤ block_count t.disk)
 
 -- the files of the writers are there as before
@@ -28,4 +29,4 @@ pub record AreLeft (old new : Seen) (files : OpenFiles) : Type 0 where
 
 -- what the tree carries out leaves them
 abbrev pub FilesStay : Type 0
-FilesStay = (old new : Seen) (op : Operation) (files : OpenFiles) → IsReady old files → SparesWriters old op files → KeepsWriters old new (writers_in files) → IsCarried old op new → AreLeft old new files
+FilesStay = (old new : Seen) (op : Operation) (files : OpenFiles) → IsReady old files → SparesFiles old op files → KeepsWriters old new (writers_in files) → IsCarried old op new → AreLeft old new files

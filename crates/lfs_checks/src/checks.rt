@@ -11,7 +11,7 @@ ghost use Rattle.lfs_checks.specs.FlagsSeen.{flags_seen};
 ghost use Rattle.lfs_model.specs.TreeEdits.{attributes_of};
 ghost use Rattle.lfs_model.specs.Content.{attribute_of};
 ghost use Rattle.lfs_checks.specs.EntryPaths.{entry_path};
-ghost use Rattle.lfs_checks.specs.Held.{Checks, ChecksKept, IsOpening, IsReadable, IsReady, held_of};
+ghost use Rattle.lfs_checks.specs.Held.{Checks, ChecksKept, IsOpening, IsReadableAs, IsReady, held_of};
 ghost use Rattle.lfs_checks.specs.LookUps.{AddsFew, AddsNone, LeavesOnHand};
 ghost use Rattle.lfs_lookup.specs.Finds.{list_item_seen};
 ghost use Rattle.lfs_tree.specs.Seen.{around_of, tree_seen};
@@ -23,7 +23,7 @@ use crate::flags::OpenFlags;
 use crate::passing::{both, passed};
 use bitflags::Flags;
 use lfs_device::{BlockDevice, Error};
-use lfs_lookup::{ListItem, Path, refuse_if};
+use lfs_lookup::{FileContents, FoundFile, ListItem, Path, refuse_if};
 use lfs_tag::Superblock;
 use lfs_tree::Tree;
 use std::alloc::Global;
@@ -141,16 +141,16 @@ pub fn check_seek<D: BlockDevice>(
     Ok(())
 }
 
-/// Whether a file may be opened for reading.
+/// The contents of a file that may be opened for reading.
 pub fn check_open_reader<D: BlockDevice>(
     alloc: Global,
     tree: &mut Tree<D>,
     files: &Files,
     bytes: &[u8],
     flags: OpenFlags,
-) -> Result<(), Error>
+) -> Result<FileContents, Error>
     requires { (flags_seen flags).write ≡ false }
-    ensures { Checks (held_of tree.old files.now) (ops.Open bytes.now (flags_seen flags)) (λ _. IsReadable (tree_seen tree.old) (files_seen tree.old files.now) bytes.now) result tree.new }
+    ensures { Checks (held_of tree.old files.now) (ops.Open bytes.now (flags_seen flags)) (IsReadableAs tree.old (files_seen tree.old files.now) bytes.now) result tree.new }
 {
     if tree.has_failed() {
         return Err(Error::Failed);
@@ -161,14 +161,16 @@ pub fn check_open_reader<D: BlockDevice>(
     if !flags.is_allowed() {
         return Err(Error::Invalid);
     }
-    let found = tree.look_up(alloc, &path)?;
+    let found = tree.find_file(alloc, &path)?;
+    let FoundFile { finding, contents } = found;
     let checks = [
-        found.fault,
-        refuse_if(found.node.is_nothing(), Error::NoEnt),
-        refuse_if(found.node.is_directory(), Error::IsDir),
+        finding.fault,
+        refuse_if(finding.node.is_nothing(), Error::NoEnt),
+        refuse_if(finding.node.is_directory(), Error::IsDir),
         refuse_if(files.is_busy_for_reading(bytes), Error::Busy),
     ];
-    passed(&checks, ())
+    let none = FileContents::Inline(Vec::new(alloc));
+    passed(&checks, contents.unwrap_or(none))
 }
 
 /// What is found where a file may be opened for writing.

@@ -15,6 +15,7 @@ ghost use Rattle.lfs_checks.specs.FileSeen.{end_in, entry_of, files_seen, is_ent
 use crate::owned_path::OwnedPath;
 use lfs_ctz::blocks_for;
 use lfs_device::{Error, Geometry};
+use lfs_lookup::FileContents;
 use lfs_writer::Contents;
 use std::alloc::Global;
 use std::marker::Model;
@@ -24,6 +25,8 @@ use std::marker::Model;
 pub struct Reader {
     pub path: OwnedPath,
     pub position: u32,
+    /// Those that the file's entry has for as long as it is open.
+    pub contents: FileContents,
 }
 
 /// A file that is open for writing.
@@ -172,18 +175,25 @@ impl Files {
         is_written_among(&self.entries, path) || reader_count(&self.entries) >= 16
     }
 
-    /// Opens a reader at the path's beginning, under the least number that is free.
-    pub fn add_reader(&mut self, alloc: Global, path: &[u8]) -> Result<u32, Error>
+    /// Opens a reader at the path, at the beginning of its contents, under the least number that is
+    /// free.
+    pub fn add_reader(
+        &mut self,
+        alloc: Global,
+        path: &[u8],
+        contents: FileContents,
+    ) -> Result<u32, Error>
         requires path { is_some (path_of path.now) ≡ true }
         requires few { length (readers_in self.old) < 16 }
         ensures number { IfOk result (λ fd. fd ≡ free_entry self.old) }
-        ensures added { OnOk result (self.new ≡ put_entry self.old (free_entry self.old) (Some (OpenFile.Reading (record { path = as_path path.now; position = 0 })))) }
+        ensures added { OnOk result (self.new ≡ put_entry self.old (free_entry self.old) (Some (OpenFile.Reading (record { path = as_path path.now; position = 0; contents = contents })))) }
         ensures same { OnErr result (self.new ≡ self.old) }
         ensures error { IfErr result (λ e. e ≡ Error.NoMemory) }
     {
         let reader = Reader {
             path: OwnedPath::of(alloc, path)?,
             position: 0,
+            contents,
         };
         let number = free_number(&self.entries);
         put(&mut self.entries, number, Some(OpenFile::Reading(reader)))?;

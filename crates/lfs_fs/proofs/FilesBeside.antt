@@ -10,7 +10,11 @@ use Rattle.lfs_model.specs.Thread.{root_of}
 use Rattle.lfs_model.specs.Shown.{contents_in, entries_in}
 use Rattle.lfs_model.proofs.Paths.{path_itself, rest_from}
 use Rattle.lfs_model.proofs.Walks.{IsLeaf, leaf_walk, walk_append}
+use Rattle.std.specs.List.{AllByRecursion}
+use Rattle.lfs_model.specs.Session.{is_open_at}
 use Rattle.lfs_tree.specs.Seen.{Seen, tree_seen}
+use Rattle.lfs_checks.specs.FileSeen.{OpenFiles, files_seen, readers_in}
+use Rattle.lfs_checks.specs.declared.files.OpenFile.TheVariants as file
 
 -- ---- nothing is beneath what has no names
 
@@ -38,6 +42,13 @@ or_false false b e = (refl, e)
 pub not_some : {A : Type 0} (b : Bool) (x : A) → is_some (cond b (Some x) None) ≡ false → b ≡ false
 not_some true x e = absurd (cc)
 not_some false x e = refl
+
+-- where no file is open at such a path, no reader is
+pub no_reader_at : (t : Seen) (files : OpenFiles) (p : Path → Bool) → is_open_at p (files_seen t files) ≡ false → AllByRecursion (λ r. p r.path ≡ false) (readers_in files)
+no_reader_at t [] p e = tt
+no_reader_at t (None ∷ fs) p e = no_reader_at t fs p e
+no_reader_at t (Some (file.Reading r) ∷ fs) p e = let k = or_false _ _ e in (not_some _ _ k.0, no_reader_at t fs p k.1)
+no_reader_at t (Some (file.Writing w) ∷ fs) p e = no_reader_at t fs p (or_false _ _ e).1
 
 pub none_there : {A : Type 0} (o : Option A) → is_some o ≡ false → o ≡ None
 none_there None e = refl

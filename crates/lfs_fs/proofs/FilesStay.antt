@@ -15,16 +15,17 @@ use Rattle.lfs_tree.specs.Seen.{IsCarried, IsSound, Seen, around_of, tree_seen}
 use Rattle.lfs_writer.specs.Contents.{form_of}
 use Rattle.lfs_writer.specs.Form.{Form, IsKept, form_blocks}
 use Rattle.lfs_writer.specs.declared.contents.Contents.{Contents}
-use Rattle.lfs_checks.specs.FileSeen.{OpenFiles, bytes_of, end_in, files_seen, has_unsaved, held_by_all, held_by_size, held_for, reader_seen, turned_in, writer_seen, writers_in}
+use Rattle.lfs_checks.specs.FileSeen.{OpenFiles, bytes_of, end_in, files_seen, has_unsaved, held_by_all, held_by_size, held_for, reader_seen, readers_in, turned_in, writer_seen, writers_in, written_paths}
 use Rattle.lfs_checks.specs.Held.{IsChanged, IsReady, IsUnsavedIn, IsWritten}
 use Rattle.lfs_model.specs.Keeping.{takes_or_moves}
 use Rattle.lfs_tree.specs.KeepsFiles.{taken_by}
-use Rattle.lfs_checks.specs.Staying.{AreLeft, KeepsWriters, SparesWriters}
+use Rattle.lfs_checks.specs.Staying.{AreLeft, KeepsWriters, SparesFiles}
 use Rattle.lfs_checks.specs.declared.files.OpenFile.TheVariants as file
 use Rattle.lfs_checks.specs.declared.files.Unsaved.{Unsaved}
 use Rattle.lfs_checks.specs.declared.files.Writer.{Writer}
 use Rattle.lfs_checks.proofs.OpenFiles.{held_is, held_one}
 use Rattle.lfs_checks.proofs.Calls.{still_called}
+use Rattle.lfs_checks.proofs.OpenReaders.{read_carried}
 
 -- ---- room
 
@@ -103,7 +104,7 @@ module _ (over : (old new : Seen) (op : Operation) (path : Path) (c : Contents) 
   same_files (Some (file.Reading r) ∷ fs) h off keeps = ap (λ z. Some (Reading (reader_seen r)) ∷ z) (same_files fs h off keeps)
   same_files (Some (file.Writing w) ∷ fs) h off keeps = ap₂ (λ x z. Some (Writing x) ∷ z) (sym (same_writer w h.0 off.0 keeps.0.1)) (same_files fs h.1 off.1 keeps.1)
 
-  pub are_left : (files : OpenFiles) → IsReady old files → SparesWriters old op files → KeepsWriters old new (writers_in files) → AreLeft old new files
+  pub are_left : (files : OpenFiles) → IsReady old files → SparesFiles old op files → KeepsWriters old new (writers_in files) → AreLeft old new files
   are_left files ready spares keeps = record {
     ready = record {
       sound = carried.sound;
@@ -111,6 +112,7 @@ module _ (over : (old new : Seen) (op : Operation) (path : Path) (c : Contents) 
       one = ready.one;
       idle = λ h. let k = few_flying [] new.map (λ b f. absurd (never h b (carried.flight.none_comes b f))) in omega (arith, k);
       written = still_all (writers_in files) ready.one ready.written spares.apart keeps (by_size spares.room);
+      read = read_carried old new op (written_paths files) (readers_in files) carried spares.unread ready.read;
     };
     same = same_files files ready.written spares.apart keeps;
   }

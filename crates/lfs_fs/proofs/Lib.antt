@@ -22,5 +22,6 @@ pub mod StoppedCalls
 pub mod Ending
 pub mod Sparing
 pub mod WrittenAlone
+pub mod WriterPaths
 pub mod Told
 pub mod Called

@@ -1,5 +1,5 @@
 -- A file that is opened for writing.
-use Rattle.std.proofs.Common.{append_assoc, ℕ, zero, suc, ◌≡◌, ◌∙◌, ◌+◌, ◌<◌, ◌≤◌, ◌||◌, ◌&&◌, Bool, true, false, not, nat_le, nat_lt, List, [], ◌∷◌, ◌++◌, length, set, Option, Some, None, Result, Ok, Err, refl, sym, ap, ap₂, subst, arith}
+use Rattle.std.proofs.Common.{append_assoc, ℕ, zero, suc, ◌≡◌, ◌∙◌, ◌+◌, ◌<◌, ◌≤◌, ◌||◌, ◌&&◌, Bool, true, false, not, nat_le, nat_lt, List, [], ◌∷◌, ◌++◌, length, map, set, Option, Some, None, Result, Ok, Err, refl, sym, ap, ap₂, subst, arith}
 use Rattle.std.specs.Prelude.{if◌then◌else◌, is_none, is_some}
 use Rattle.std.specs.List.{AllByRecursion, list_any}
 use Rattle.std.proofs.lemmas.Bool.{lt-ltb, ltb-true}
@@ -14,6 +14,7 @@ use Rattle.lfs_model.specs.History.{Event}
 use Rattle.lfs_model.specs.Operations as ops
 use Rattle.lfs_model.specs.Operations.{Flags, path_of}
 use Rattle.lfs_model.specs.Run.{IsTurn}
+use Rattle.lfs_model.specs.Session as session
 use Rattle.lfs_model.specs.Session.{Files, Session, Reading, Writing, free_number, held, is_long, is_open_at, is_overcharged, lacks, overfills, parent_fault, put_file, readers, writers}
 use Rattle.lfs_model.specs.Writers.{opened_writer}
 use Rattle.lfs_model.specs.State.{Healthy}
@@ -26,8 +27,8 @@ use Rattle.lfs_tree.specs.Allowed.{CanCreate}
 use Rattle.lfs_lookup.specs.Refusals.{refusal_in}
 use Rattle.lfs_tree.specs.Seen.{IsAsked, IsBroken, IsCarried, IsError, IsSound, Seen, around_of, tree_seen}
 use Rattle.lfs_checks.specs.Changing.{CanBegin, IsBegunAs}
-use Rattle.lfs_checks.specs.FileSeen.{OpenFiles, entry_of, files_seen, free_entry, has_unsaved, put_entry, writer_in, writer_seen, writers_in}
-use Rattle.lfs_checks.specs.Held.{Answers, Held, IsReady, IsWritten, held_of, held_with, moment_of, refused_by, session_of}
+use Rattle.lfs_checks.specs.FileSeen.{OpenFiles, entry_of, files_seen, free_entry, has_unsaved, put_entry, readers_in, writer_in, writer_seen, writers_in}
+use Rattle.lfs_checks.specs.Held.{Answers, AreRead, Held, IsReady, IsWritten, held_of, held_with, moment_of, refused_by, session_of}
 use Rattle.lfs_checks.specs.Replies.{reply_in}
 use Rattle.lfs_checks.specs.Staying.{KeepsWriters}
 use Rattle.lfs_checks.specs.declared.files.OpenFile.{OpenFile}
@@ -39,6 +40,8 @@ use Rattle.lfs_checks.proofs.Failing.{broken_fails, healthy_moment, memory_fails
 use Rattle.lfs_checks.proofs.OpenFiles.{count_put, free_at_most, free_is, only, put_is, writer_count}
 use Rattle.lfs_checks.proofs.WriterOpens.{writes_anew}
 use Rattle.lfs_fs.proofs.WriterTurns.{there_arranged}
+use Rattle.lfs_fs.proofs.FilesBeside.{no_reader_at}
+use Rattle.lfs_checks.proofs.OpenReaders.{read_opened}
 
 -- ---- what no check refuses
 
@@ -51,6 +54,7 @@ pub record IsPassed (h : Held) (bytes : List ℕ) (p : Path) (flags : Flags) : T
   pub creates : (is_none (tree_seen h.tree p) && not flags.create) ≡ false
   pub directory : is_directory (tree_seen h.tree p) ≡ false
   pub few : nat_lt 0 (length (writers h.files)) ≡ false
+  pub closed : is_open_at (same_path p) h.files ≡ false
   pub fits : (is_none (tree_seen h.tree p) && is_overcharged (around_of h.tree) (last_name p) []) ≡ false
   pub room : (is_none (tree_seen h.tree p) && lacks (around_of h.tree) h.files 2) ≡ false
   pub anew : (flags.truncate && overfills (around_of h.tree) (opened_writer p flags (bytes_at (tree_seen h.tree p)))) ≡ false
@@ -82,6 +86,8 @@ open_passed h bytes flags write e =
       directory = unrefused _ _ k.0;
       few = (both_false (nat_lt 0 (length (writers h.files))) _ (sym (ap (λ w. if w then nat_lt 0 (length (writers h.files)) || is_open_at (same_path (as_path bytes)) h.files
           else list_any (λ x. same_path (as_path bytes) x.path) (writers h.files) || nat_le 16 (length (readers h.files))) write) ∙ unrefused _ _ l.0)).0;
+      closed = (both_false (nat_lt 0 (length (writers h.files))) _ (sym (ap (λ w. if w then nat_lt 0 (length (writers h.files)) || is_open_at (same_path (as_path bytes)) h.files
+          else list_any (λ x. same_path (as_path bytes) x.path) (writers h.files) || nat_le 16 (length (readers h.files))) write) ∙ unrefused _ _ l.0)).1;
       fits = unrefused _ _ m.0;
       room = unrefused _ _ n.0;
       anew = unrefused _ _ o.0;
@@ -235,13 +241,14 @@ room_made fs gs n none number is =
 
 -- ---- the session once the writer is open
 
-ready_with : (t : Seen) (fs gs : OpenFiles) (w : Writer) → writers_in fs ≡ [] → writers_in gs ≡ w ∷ [] → IsReady t fs → IsWritten t w → IsReady t gs
-ready_with t fs gs w none alone h written = record {
+ready_with : (t : Seen) (fs gs : OpenFiles) (w : Writer) → writers_in fs ≡ [] → writers_in gs ≡ w ∷ [] → IsReady t fs → IsWritten t w → AreRead t.pairs gs → IsReady t gs
+ready_with t fs gs w none alone h written read = record {
   sound = h.sound;
   called = h.called;
   one = subst (λ ws. length ws ≤ 1) (sym alone) (omega arith);
   idle = λ e. h.idle (ap (list_any (λ w. is_some w.unsaved)) none);
   written = subst (AllByRecursion (IsWritten t)) (sym alone) (written, tt);
+  read = read;
 }
 
 keeps_none : (t s : Seen) (fs : OpenFiles) → writers_in fs ≡ [] → KeepsWriters t s (writers_in fs)
@@ -250,6 +257,7 @@ keeps_none t s fs none = subst (λ ws. KeepsWriters t s ws) (sym none) tt
 -- what either way of opening comes to: the session is ready but for the writer, which is as the definitions have it
 pub record IsOpenedBy (t : Seen) (fs : OpenFiles) (bytes : List ℕ) (flags : Flags) (new : Seen) (w : Writer) : Type 0 where
   pub ready : IsReady new fs
+  pub unread : AllByRecursion (λ r. same_path (as_path bytes) r.path ≡ false) (readers_in fs)
   pub begun : IsBegunAs new (opened_writer (as_path bytes) flags (bytes_at (tree_seen t (as_path bytes)))) w
   pub turn : (files : Files) → (effect_of (around_of t) (session_of (held_of t fs)) (ops.Open bytes flags)).1.files ≡ files →
       IsTurn (moment_of (held_of t fs)) (ops.Open bytes flags) (effect_of (around_of t) (session_of (held_of t fs)) (ops.Open bytes flags)).0 (moment_of (held_with new files))
@@ -311,7 +319,8 @@ opened_there t mid new fs bytes flags w p size ready asked e write is sizes carr
     let node = file_node (tree_seen t (as_path bytes)) size (sym (ap (λ q. size_of (tree_seen t q)) is) ∙ sizes) in
     let none = no_writer t fs bytes flags write e in
     record {
-      ready = carried_ready mid new fs ops.Recover (ready_later t mid fs (ready passed.works) asked) (none_saved fs none) (keeps_none mid new fs none) carried;
+      unread = no_reader_at t fs (same_path (as_path bytes)) passed.closed;
+      ready = carried_ready mid new fs ops.Recover (λ p. refl) (ready_later t mid fs (ready passed.works) asked) (none_saved fs none) (keeps_none mid new fs none) carried;
       begun = subst (λ (z : Seen). IsBegunAs new (opened_writer (as_path bytes) flags (bytes_at (tree_seen z (as_path bytes)))) w) asked.same
           (subst (λ q. IsBegunAs new (opened_writer q flags (bytes_at (tree_seen mid q))) w) is begun);
       turn = λ files opened. there_turn (held_of t fs) bytes flags mid new files node.0 (sound_by t fs ready) asked e write node.1 carried opened;
@@ -325,7 +334,8 @@ opened_new t mid new fs bytes flags w p ready asked e write is sizes carried beg
     let node : tree_seen t (as_path bytes) ≡ None = no_node (tree_seen t (as_path bytes)) (sym (ap (λ q. size_of (tree_seen t q)) is) ∙ sizes) passed.directory in
     let none = no_writer t fs bytes flags write e in
     record {
-      ready = carried_ready mid new fs (ops.Open bytes flags) (ready_later t mid fs (ready passed.works) asked) (none_saved fs none) (keeps_none mid new fs none) carried;
+      unread = no_reader_at t fs (same_path (as_path bytes)) passed.closed;
+      ready = carried_ready mid new fs (ops.Open bytes flags) (λ p. refl) (ready_later t mid fs (ready passed.works) asked) (none_saved fs none) (keeps_none mid new fs none) carried;
       begun = subst (λ n. IsBegunAs new (opened_writer (as_path bytes) flags (bytes_at n)) w) (sym node) (subst (λ q. IsBegunAs new (opened_writer q flags []) w) is begun);
       turn = λ files opened. carried_answer (held_of t fs) (ops.Open bytes flags) mid new files (sound_by t fs ready) asked e carried refl (ap not write) refl (ap is_some node) refl opened;
     }
@@ -334,7 +344,10 @@ opened_new t mid new fs bytes flags w p ready asked e write is sizes carried beg
 
 pub writer_ready : (t new : Seen) (fs gs : OpenFiles) (bytes : List ℕ) (flags : Flags) (w : Writer) → IsOpenedBy t fs bytes flags new w → writers_in fs ≡ [] → writers_in (put_entry fs (free_entry fs) (Some (file.Writing w))) ≡ w ∷ [] →
     gs ≡ put_entry fs (free_entry fs) (Some (file.Writing w)) → IsReady new gs
-writer_ready t new fs gs bytes flags w opened none alone is = ready_with new fs gs w none (ap (λ xs. writers_in xs) is ∙ alone) opened.ready opened.begun.written
+writer_ready t new fs gs bytes flags w opened none alone is =
+    let path : as_path bytes ≡ w.path = sym (ap (λ (x : session.Writer). x.path) opened.begun.seen) in
+    ready_with new fs gs w none (ap (λ xs. writers_in xs) is ∙ alone) opened.ready opened.begun.written
+    (subst (AreRead new.pairs) (sym is) (read_opened new.pairs fs (free_entry fs) w (ap (map (λ x. x.path)) alone) (subst (λ p. AllByRecursion (λ r. same_path p r.path ≡ false) (readers_in fs)) path opened.unread) opened.ready.read))
 
 pub writer_opened : (t new : Seen) (fs gs : OpenFiles) (now : Held) (bytes : List ℕ) (flags : Flags) (w : Writer) (n : ℕ) → held_of t fs ≡ now → IsOpenedBy t fs bytes flags new w → flags.write ≡ true → writers_in fs ≡ [] →
     n ≡ free_entry fs → gs ≡ put_entry fs (free_entry fs) (Some (file.Writing w)) → Answers now (ops.Open bytes flags) (Ok (ops.Opened n)) (held_of new gs)

@@ -5,11 +5,12 @@ use Rattle.lfs_device.specs.declared.error.Error.{Error}
 use Rattle.lfs_model.specs.Operations as ops
 use Rattle.lfs_model.specs.Tree.{Tree}
 use Rattle.lfs_tree.specs.Seen.{Seen, IsBroken, IsCarried, IsError, around_of, tree_seen}
-use Rattle.lfs_checks.specs.FileSeen.{OpenFiles, files_seen, writers_in}
+use Rattle.lfs_checks.specs.FileSeen.{OpenFiles, files_seen, readers_in, writers_in}
 use Rattle.lfs_checks.specs.Held.{Answers, Held, IsReady, held_of, refused_by}
 use Rattle.lfs_checks.specs.Replies.{reply_in}
 use Rattle.lfs_checks.specs.Staying.{AreLeft, FilesStay}
 use Rattle.lfs_checks.proofs.Answered.{KeepsFiles, done_answers, done_left, keeps_writers, none_concerned, not_refused, nothing_asked, sound_by, with_files}
+use Rattle.lfs_checks.proofs.OpenReaders.{none_read}
 use Rattle.lfs_checks.proofs.Checked.{negated, unrefused}
 use Rattle.lfs_fs.proofs.Staying.{SameFile}
 
@@ -25,7 +26,7 @@ recover_keeps t s carried q e = subst (λ (z : Tree). SameFile (tree_seen t q) (
 pub recovered_left : (t new : Seen) (files : OpenFiles) (r : Result (Unit {0}) Error) → FilesStay → (t.failed ≡ false → IsReady t files) → refused_by (held_of t files) ops.Recover ≡ None →
     OnOk r (IsCarried t ops.Recover new) → OnErr r (IsBroken t new) → new.failed ≡ false → AreLeft t new files
 recovered_left t new files r stay ready e done broken =
-    done_left (IsCarried t ops.Recover new) t t new files ops.Recover r stay ready (nothing_asked t) e (λ was. record { apart = none_concerned ops.Recover (λ p. refl) (writers_in files); room = inl refl })
+    done_left (IsCarried t ops.Recover new) t t new files ops.Recover r stay ready (nothing_asked t) e (λ was. record { apart = none_concerned ops.Recover (λ p. refl) (writers_in files); unread = none_read ops.Recover (λ p. refl) (readers_in files); room = inl refl })
     (λ now k. keeps_writers t new (writers_in files) (recover_keeps t new k) now.written) done (λ k. k) broken
 
 -- ---- once no check refuses it

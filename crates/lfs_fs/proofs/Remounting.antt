@@ -121,7 +121,7 @@ remount_answers old now new files (Err e) same none ok broken errors =
     (subst (λ b. Answers old ops.Remount (cond b (Ok (ops.Refused (refusal_in e))) (Err e)) (held_of new files)) (sym (no_refusal e errors.errors)) (remount_fails e old new (files_seen new files) broken errors))
 
 pub mounted_ready : (disk : Disk) (history : List Event) (new : Seen) → IsMountedTree disk history new → IsReady new []
-mounted_ready disk history new m = record { sound = m.sound; called = has_called history new.history m.called; one = omega arith; idle = λ e. m.none_in_flight; written = tt }
+mounted_ready disk history new m = record { sound = m.sound; called = has_called history new.history m.called; one = omega arith; idle = λ e. m.none_in_flight; written = tt; read = tt }
 
 -- a session over a fresh disk, whose two blocks were erased
 none_twice : IsDistinct nat_eq []
@@ -136,6 +136,7 @@ fresh_ready before new files none sound formatted calls =
       one = omega arith;
       idle = λ e. in_flight_count-AreInFlight new.map [] none_twice formatted.in_flight;
       written = tt;
+      read = tt;
     })
 
 pub remount_ready : (old new : Seen) (files : OpenFiles) (r : Result (Unit {0}) Error) → files ≡ [] → OnOk r (IsMountedTree old.disk old.history new) → OnErr r (IsBrokenAsking old new) → new.failed ≡ false → IsReady new files

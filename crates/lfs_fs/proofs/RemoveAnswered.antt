@@ -10,14 +10,16 @@ use Rattle.lfs_model.specs.Session.{is_open_at}
 use Rattle.lfs_model.specs.Refusals.{as_path}
 use Rattle.lfs_model.specs.Tree.{Path, Tree}
 use Rattle.lfs_tree.specs.Seen.{Seen, IsAsked, IsBroken, IsCarried, around_of, tree_seen}
-use Rattle.lfs_checks.specs.FileSeen.{OpenFiles, files_seen, writers_in}
-use Rattle.lfs_checks.specs.Held.{IsReady, IsWritten, held_of, refused_by}
+use Rattle.lfs_checks.specs.FileSeen.{OpenFiles, files_seen, readers_in, writers_in, written_paths}
+use Rattle.lfs_checks.specs.Held.{IsRead, IsReady, IsWritten, held_of, refused_by}
 use Rattle.lfs_model.specs.Keeping.{takes_or_moves}
-use Rattle.lfs_checks.specs.Staying.{AreLeft, FilesStay, KeepsWriters, SparesWriters}
+use Rattle.lfs_checks.specs.Staying.{AreLeft, FilesStay, KeepsWriters, SparesFiles}
 use Rattle.lfs_checks.specs.declared.files.OpenFile.TheVariants as file
+use Rattle.lfs_checks.specs.declared.files.Reader.{Reader}
 use Rattle.lfs_checks.specs.declared.files.Writer.{Writer}
+use Rattle.lfs_checks.proofs.OpenReaders.{contents_are_file}
 use Rattle.lfs_checks.proofs.Answered.{done_left}
-use Rattle.lfs_fs.proofs.FilesBeside.{beside, not_some, or_false}
+use Rattle.lfs_fs.proofs.FilesBeside.{beside, no_reader_at, not_some, or_false}
 use Rattle.lfs_checks.proofs.RemoveChecks.{remove_bare, remove_not_open}
 use Rattle.lfs_fs.proofs.Staying.{SameFile, changed_same, named}
 
@@ -49,12 +51,20 @@ off : (t : Seen) (bytes : List ℕ) → length (names_of (tree_seen t (as_path b
 off t bytes bare [] written apart = tt
 off t bytes bare (w ∷ ws) written apart = (ap is_some (beside t (as_path bytes) w.path bare written.0.there apart.0), off t bytes bare ws written.1 apart.1)
 
+-- nor about a file that is read
+off_read : (t : Seen) (bytes : List ℕ) (written : List Path) → length (names_of (tree_seen t (as_path bytes))) ≡ 0 → (rs : List Reader) → AllByRecursion (IsRead t.pairs written) rs → AllByRecursion (λ r. same_path (as_path bytes) r.path ≡ false) rs →
+    AllByRecursion (λ r. takes_or_moves (ops.Remove bytes) r.path ≡ false) rs
+off_read t bytes written bare [] read apart = tt
+off_read t bytes written bare (r ∷ rs) read apart =
+    (ap is_some (beside t (as_path bytes) r.path bare (contents_are_file t.disk t.pairs r.path r.contents read.0.contents) apart.0), off_read t bytes written bare rs read.1 apart.1)
+
 none_in : (n : ℕ) → nat_lt 0 n ≡ false → n ≡ 0
 none_in n e = let k = ltb-false 0 n e in omega (arith, k)
 
-remove_spares : (t : Seen) (files : OpenFiles) (bytes : List ℕ) → refused_by (held_of t files) (ops.Remove bytes) ≡ None → IsReady t files → SparesWriters t (ops.Remove bytes) files
+remove_spares : (t : Seen) (files : OpenFiles) (bytes : List ℕ) → refused_by (held_of t files) (ops.Remove bytes) ≡ None → IsReady t files → SparesFiles t (ops.Remove bytes) files
 remove_spares t files bytes e ready = record {
   apart = off t bytes (none_in _ (remove_bare (held_of t files) bytes e)) (writers_in files) ready.written (not_at t files (as_path bytes) (remove_not_open (held_of t files) bytes e));
+  unread = off_read t bytes (written_paths files) (none_in _ (remove_bare (held_of t files) bytes e)) (readers_in files) ready.read (no_reader_at t files (same_path (as_path bytes)) (remove_not_open (held_of t files) bytes e));
   room = inl refl;
 }
 

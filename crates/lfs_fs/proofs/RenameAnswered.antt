@@ -11,15 +11,17 @@ use Rattle.lfs_model.specs.Refusals.{as_path}
 use Rattle.lfs_model.specs.Tree.{Path, Tree}
 use Rattle.lfs_model.specs.Run.{IsTurn}
 use Rattle.lfs_tree.specs.Seen.{Seen, IsAsked, IsBroken, IsCarried, around_of, tree_seen}
-use Rattle.lfs_checks.specs.FileSeen.{OpenFiles, files_seen, writers_in}
-use Rattle.lfs_checks.specs.Held.{Answers, Held, IsReady, IsWritten, held_of, held_with, moment_of, refused_by}
+use Rattle.lfs_checks.specs.FileSeen.{OpenFiles, files_seen, readers_in, writers_in, written_paths}
+use Rattle.lfs_checks.specs.Held.{Answers, Held, IsRead, IsReady, IsWritten, held_of, held_with, moment_of, refused_by}
 use Rattle.lfs_checks.specs.RenamePaths.{is_in_the_way}
 use Rattle.lfs_model.specs.Keeping.{takes_or_moves}
-use Rattle.lfs_checks.specs.Staying.{AreLeft, FilesStay, KeepsWriters, SparesWriters}
+use Rattle.lfs_checks.specs.Staying.{AreLeft, FilesStay, KeepsWriters, SparesFiles}
 use Rattle.lfs_checks.specs.declared.files.OpenFile.TheVariants as file
+use Rattle.lfs_checks.specs.declared.files.Reader.{Reader}
 use Rattle.lfs_checks.specs.declared.files.Writer.{Writer}
+use Rattle.lfs_checks.proofs.OpenReaders.{contents_are_file}
 use Rattle.lfs_checks.proofs.Answered.{done_left, idle_answer, sound_by}
-use Rattle.lfs_fs.proofs.FilesBeside.{beside, none_there, not_some, or_false}
+use Rattle.lfs_fs.proofs.FilesBeside.{beside, no_reader_at, none_there, not_some, or_false}
 use Rattle.lfs_checks.proofs.RenameChecks.{rename_bare, rename_closed, rename_space}
 use Rattle.lfs_fs.proofs.Staying.{SameFile, changed_same, named}
 
@@ -73,10 +75,20 @@ off_both t a b bare (w ∷ ws) written apart =
     let k = or_false _ _ apart.0 in
     (ap₂ (λ x y. x || y) k.0 (ap is_some (beside t (as_path b) w.path bare written.0.there k.1)), off_both t a b bare ws written.1 apart.1)
 
-rename_spares : (t : Seen) (files : OpenFiles) (a b : List ℕ) → refused_by (held_of t files) (ops.Rename a b) ≡ None → same_path (as_path a) (as_path b) ≡ false → IsReady t files → SparesWriters t (ops.Rename a b) files
+-- nor about a file that is read
+off_read : (t : Seen) (a b : List ℕ) (written : List Path) → length (names_of (tree_seen t (as_path b))) ≡ 0 → (rs : List Reader) → AllByRecursion (IsRead t.pairs written) rs → AllByRecursion (λ r. is_in_the_way (as_path a) (as_path b) r.path ≡ false) rs →
+    AllByRecursion (λ r. takes_or_moves (ops.Rename a b) r.path ≡ false) rs
+off_read t a b written bare [] read apart = tt
+off_read t a b written bare (r ∷ rs) read apart =
+    let k = or_false _ _ apart.0 in
+    (ap₂ (λ x y. x || y) k.0 (ap is_some (beside t (as_path b) r.path bare (contents_are_file t.disk t.pairs r.path r.contents read.0.contents) k.1)), off_read t a b written bare rs read.1 apart.1)
+
+rename_spares : (t : Seen) (files : OpenFiles) (a b : List ℕ) → refused_by (held_of t files) (ops.Rename a b) ≡ None → same_path (as_path a) (as_path b) ≡ false → IsReady t files → SparesFiles t (ops.Rename a b) files
 rename_spares t files a b e other ready = record {
   apart = off_both t a b (no_names (same_path (as_path a) (as_path b)) true _ other (rename_bare (held_of t files) a b e)) (writers_in files) ready.written
       (no_writer t files (is_in_the_way (as_path a) (as_path b)) (rename_closed (held_of t files) a b e));
+  unread = off_read t a b (written_paths files) (no_names (same_path (as_path a) (as_path b)) true _ other (rename_bare (held_of t files) a b e)) (readers_in files) ready.read
+      (no_reader_at t files (is_in_the_way (as_path a) (as_path b)) (rename_closed (held_of t files) a b e));
   room = inr (ltb-false _ _ (rename_space (held_of t files) a b e));
 }
 

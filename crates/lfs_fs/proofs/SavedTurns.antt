@@ -1,10 +1,10 @@
 -- The turns of a sync and of a close.
-use Rattle.std.proofs.Common.{arith, ◌≡◌, ◌<◌, ◌≤◌, true, false, cond, not, set, List, [], ◌∷◌, ◌++◌, length, Option, Some, None, is_some, nat_lt, Result, Ok, Err, ℕ, suc, zero, refl, sym, ap, ap₂, subst, ◌∙◌}
+use Rattle.std.proofs.Common.{arith, ◌≡◌, ◌<◌, ◌≤◌, ◌||◌, map, true, false, cond, not, set, List, [], ◌∷◌, ◌++◌, length, Option, Some, None, is_some, nat_lt, Result, Ok, Err, ℕ, suc, zero, refl, sym, ap, ap₂, subst, ◌∙◌}
 use Rattle.std.specs.List.{AllByRecursion, list_any}
 use Rattle.std.specs.Option.{option_flatten, option_map}
 use Rattle.std.proofs.lemmas.List.{length-map, length-set, map-set, set-set}
 use Rattle.lfs_device.specs.declared.error.Error.{Error}
-use Rattle.lfs_model.specs.TreeEdits.{change_at}
+use Rattle.lfs_model.specs.TreeEdits.{change_at, same_path}
 use Rattle.lfs_model.specs.History.{Event}
 use Rattle.lfs_model.specs.Layout.{IsArranged}
 use Rattle.lfs_model.specs.Operations as ops
@@ -23,7 +23,7 @@ use Rattle.lfs_lookup.specs.Refusals.{refusal_in}
 use Rattle.lfs_tree.specs.Seen.{Seen, IsBroken, IsError, IsSound, around_of, tree_seen}
 use Rattle.lfs_checks.specs.Changing.{CanSave, IsSavedAs}
 use Rattle.lfs_checks.specs.FileSeen.{OpenFiles, bytes_of, entry_of, file_seen, files_seen, is_unsaved_entry, writer_seen, writers_in}
-use Rattle.lfs_checks.specs.Held.{Answers, Held, IsReady, IsWritten, held_of, held_with, moment_of, refused_by, session_of}
+use Rattle.lfs_checks.specs.Held.{Answers, AreRead, Held, IsReady, IsWritten, held_of, held_with, moment_of, refused_by, session_of}
 use Rattle.lfs_checks.specs.Replies.{reply_in}
 use Rattle.lfs_checks.specs.Staying.{KeepsWriters}
 use Rattle.lfs_checks.specs.declared.files.OpenFile.{OpenFile}
@@ -34,6 +34,8 @@ use Rattle.lfs_checks.proofs.Failing.{broken_fails, healthy_moment}
 use Rattle.lfs_checks.proofs.OpenFiles.{IsOnly, file_is, inside, inside_is, is_saved, only, saved_is, set_is}
 use Rattle.lfs_fs.proofs.Remounting.{no_tree_change, not_dirty}
 use Rattle.lfs_checks.proofs.Calls.{still_called}
+use Rattle.lfs_checks.proofs.OpenReaders.{read_saved}
+use Rattle.lfs_fs.proofs.WriterPaths.{sync_path}
 
 -- ---- the writer that has changes
 
@@ -158,16 +160,23 @@ sync_writers : (t : Seen) (fs mid gs : OpenFiles) (fd : ℕ) (w v : Writer) → 
 sync_writers t fs mid gs fd w v ready is left back =
     ap (λ xs. writers_in xs) (back ∙ ap (λ z. set z fd (Some (file.Writing v))) left ∙ set-set fs fd None (Some (file.Writing v))) ∙ (only fs fd w (sym is) ready.one).with_other v
 
-pub sync_ready : (t new : Seen) (fs mid gs : OpenFiles) (fd : ℕ) (w v : Writer) (path : Path) (bytes : List ℕ) (x : session.Writer) → (t.failed ≡ false → IsReady t fs) → refused_by (held_of t fs) (ops.Sync fd) ≡ None →
-    Some (file.Writing w) ≡ entry_of fs fd → IsStoredAt t path bytes new → IsSavedAs new x v → mid ≡ set fs fd None → gs ≡ set mid fd (Some (file.Writing v)) → IsReady new gs
-sync_ready t new fs mid gs fd w v path bytes x ready e is stored saved left back =
-    let are = sync_writers t fs mid gs fd w v (ready (not_failed (held_of t fs) (ops.Sync fd) e)) is left back in
+pub sync_ready : (t new : Seen) (fs mid gs : OpenFiles) (fd : ℕ) (w v : Writer) (bytes : List ℕ) → (t.failed ≡ false → IsReady t fs) → refused_by (held_of t fs) (ops.Sync fd) ≡ None →
+    Some (file.Writing w) ≡ entry_of fs fd → IsStoredAt t w.path bytes new → IsSavedAs new (after_sync (writer_seen t w)) v → mid ≡ set fs fd None → gs ≡ set mid fd (Some (file.Writing v)) → IsReady new gs
+sync_ready t new fs mid gs fd w v bytes ready e is stored saved left back =
+    let was = ready (not_failed (held_of t fs) (ops.Sync fd) e) in
+    let are = sync_writers t fs mid gs fd w v was is left back in
+    let o = only fs fd w (sym is) was.one in
+    let path : v.path ≡ w.path = ap (λ (z : session.Writer). z.path) saved.seen ∙ sync_path (writer_seen t w) in
+    let put : gs ≡ set fs fd (Some (file.Writing v)) = back ∙ ap (λ z. set z fd (Some (file.Writing v))) left ∙ set-set fs fd None (Some (file.Writing v)) in
     record {
       sound = stored.sound;
       called = still_called t.history new.history stored.calls stored.called (ready (not_failed (held_of t fs) (ops.Sync fd) e)).called;
       one = subst (λ ws. length ws ≤ 1) (sym are) (omega arith);
       idle = λ h. stored.none_in_flight;
       written = subst (AllByRecursion (IsWritten new)) (sym are) (saved.written, tt);
+      read = subst (AreRead new.pairs) (sym put)
+          (read_saved t.disk t.pairs new.pairs fs fd (Some (file.Writing v)) w.path (v.path ∷ []) refl (ap (map (λ x. x.path)) o.writers) (ap (map (λ x. x.path)) (o.with_other v)) stored.others
+          (λ p off. ap (λ b. b || false) (ap (same_path p) path ∙ off)) was.read);
     }
 
 -- put where it is
@@ -217,16 +226,20 @@ close_answers t new fs gs now fd w same ready e unsaved is stored left =
     (subst (λ z. IsTurn (moment_of (held_of t fs)) (ops.Close fd) ops.Done (moment_of (held_of new z))) (sym left)
     (close_turn t new fs fd w (ready (not_failed (held_of t fs) (ops.Close fd) e)) e is (unsaved_writer (entry_of fs fd) w unsaved is) stored))
 
-pub close_ready : (t new : Seen) (fs gs : OpenFiles) (fd : ℕ) (w : Writer) (path : Path) (bytes : List ℕ) → (t.failed ≡ false → IsReady t fs) → refused_by (held_of t fs) (ops.Close fd) ≡ None →
-    Some (file.Writing w) ≡ entry_of fs fd → IsStoredAt t path bytes new → gs ≡ set fs fd None → IsReady new gs
-close_ready t new fs gs fd w path bytes ready e is stored left =
-    let are : writers_in gs ≡ [] = ap (λ xs. writers_in xs) left ∙ (only fs fd w (sym is) (ready (not_failed (held_of t fs) (ops.Close fd) e)).one).without in
+pub close_ready : (t new : Seen) (fs gs : OpenFiles) (fd : ℕ) (w : Writer) (bytes : List ℕ) → (t.failed ≡ false → IsReady t fs) → refused_by (held_of t fs) (ops.Close fd) ≡ None →
+    Some (file.Writing w) ≡ entry_of fs fd → IsStoredAt t w.path bytes new → gs ≡ set fs fd None → IsReady new gs
+close_ready t new fs gs fd w bytes ready e is stored left =
+    let was = ready (not_failed (held_of t fs) (ops.Close fd) e) in
+    let o = only fs fd w (sym is) was.one in
+    let are : writers_in gs ≡ [] = ap (λ xs. writers_in xs) left ∙ o.without in
     record {
       sound = stored.sound;
       called = still_called t.history new.history stored.calls stored.called (ready (not_failed (held_of t fs) (ops.Close fd) e)).called;
       one = subst (λ ws. length ws ≤ 1) (sym are) (omega arith);
       idle = λ h. stored.none_in_flight;
       written = subst (AllByRecursion (IsWritten new)) (sym are) tt;
+      read = subst (AreRead new.pairs) (sym left)
+          (read_saved t.disk t.pairs new.pairs fs fd None w.path [] refl (ap (map (λ x. x.path)) o.writers) (ap (map (λ x. x.path)) o.without) stored.others (λ p off. refl) was.read);
     }
 
 -- ---- a call fails

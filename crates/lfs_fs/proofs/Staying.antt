@@ -11,11 +11,12 @@ use Rattle.std.specs.Prelude.{OnErr, OnOk}
 use Rattle.std.proofs.lemmas.Bool.{ltb-false}
 use Rattle.lfs_device.specs.declared.error.Error.{Error}
 use Rattle.lfs_tree.specs.Seen.{IsAsked, IsBroken, IsCarried, Seen, around_of, tree_seen}
-use Rattle.lfs_checks.specs.FileSeen.{OpenFiles, writers_in}
+use Rattle.lfs_checks.specs.FileSeen.{OpenFiles, readers_in, writers_in}
 use Rattle.lfs_checks.specs.Held.{IsReady, held_of, refused_by}
 use Rattle.lfs_tree.specs.Allowed.{CanMake}
 use Rattle.lfs_checks.specs.Staying.{AreLeft, FilesStay}
 use Rattle.lfs_checks.proofs.Answered.{KeepsFiles, done_left, keeps_writers, none_concerned}
+use Rattle.lfs_checks.proofs.OpenReaders.{none_read}
 use Rattle.lfs_checks.proofs.Checked.{mkdir_space}
 use Rattle.lfs_checks.proofs.SetAttrChecks.{set_attr_space}
 
@@ -75,19 +76,19 @@ pub mkdir_left : (K : Type 0) (old mid new : Seen) (files : OpenFiles) (bytes : 
     path ≡ as_path bytes → CanMake mid path → OnOk r K → (K → IsCarried mid (ops.Mkdir bytes) new) → OnErr r (IsBroken mid new) → new.failed ≡ false → AreLeft old new files
 mkdir_left K old mid new files bytes path r stay ready asked e is can =
     done_left K old mid new files (ops.Mkdir bytes) r stay ready asked e
-    (λ was. record { apart = none_concerned (ops.Mkdir bytes) (λ p. refl) (writers_in files); room = inr (ltb-false _ _ (mkdir_space (held_of old files) bytes e)) })
+    (λ was. record { apart = none_concerned (ops.Mkdir bytes) (λ p. refl) (writers_in files); unread = none_read (ops.Mkdir bytes) (λ p. refl) (readers_in files); room = inr (ltb-false _ _ (mkdir_space (held_of old files) bytes e)) })
     (λ now k. keeps_writers mid new (writers_in files) (mkdir_keeps mid new bytes path is can.nothing k) now.written)
 
 pub set_attr_left : (K : Type 0) (old mid new : Seen) (files : OpenFiles) (bytes : List ℕ) (kind : ℕ) (value : List ℕ) (r : Result (Unit {0}) Error) → FilesStay → (old.failed ≡ false → IsReady old files) → IsAsked old mid →
     refused_by (held_of old files) (ops.SetAttr bytes kind value) ≡ None → OnOk r K → (K → IsCarried mid (ops.SetAttr bytes kind value) new) → OnErr r (IsBroken mid new) → new.failed ≡ false → AreLeft old new files
 set_attr_left K old mid new files bytes kind value r stay ready asked e =
     done_left K old mid new files (ops.SetAttr bytes kind value) r stay ready asked e
-    (λ was. record { apart = none_concerned (ops.SetAttr bytes kind value) (λ p. refl) (writers_in files); room = inr (ltb-false _ _ (set_attr_space (held_of old files) bytes kind value e)) })
+    (λ was. record { apart = none_concerned (ops.SetAttr bytes kind value) (λ p. refl) (writers_in files); unread = none_read (ops.SetAttr bytes kind value) (λ p. refl) (readers_in files); room = inr (ltb-false _ _ (set_attr_space (held_of old files) bytes kind value e)) })
     (λ now k. keeps_writers mid new (writers_in files) (set_attr_keeps mid new bytes kind value k) now.written)
 
 pub remove_attr_left : (K : Type 0) (old mid new : Seen) (files : OpenFiles) (bytes : List ℕ) (kind : ℕ) (r : Result (Unit {0}) Error) → FilesStay → (old.failed ≡ false → IsReady old files) → IsAsked old mid →
     refused_by (held_of old files) (ops.RemoveAttr bytes kind) ≡ None → OnOk r K → (K → IsCarried mid (ops.RemoveAttr bytes kind) new) → OnErr r (IsBroken mid new) → new.failed ≡ false → AreLeft old new files
 remove_attr_left K old mid new files bytes kind r stay ready asked e =
     done_left K old mid new files (ops.RemoveAttr bytes kind) r stay ready asked e
-    (λ was. record { apart = none_concerned (ops.RemoveAttr bytes kind) (λ p. refl) (writers_in files); room = inl refl })
+    (λ was. record { apart = none_concerned (ops.RemoveAttr bytes kind) (λ p. refl) (writers_in files); unread = none_read (ops.RemoveAttr bytes kind) (λ p. refl) (readers_in files); room = inl refl })
     (λ now k. keeps_writers mid new (writers_in files) (remove_attr_keeps mid new bytes kind k) now.written)

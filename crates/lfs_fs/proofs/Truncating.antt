@@ -1,6 +1,6 @@
 -- A truncation of an open writer, and its turn.
 use Rattle.std.proofs.Common.{ℕ, zero, suc, ◌≡◌, ◌==◌, ◌<◌, ◌&&◌, ◌||◌, ◌++◌, Bool, true, false, not, cond, List, [], ◌∷◌, length, length-set, set, nat_lt, Option, Some, None, Ok, is_some, refl, sym, ap, ap₂, subst, ◌∙◌, arith}
-use Rattle.std.specs.Prelude.{◌==◌, ◌≢◌}
+use Rattle.std.specs.Prelude.{◌==◌}
 use Rattle.std.specs.List.{AllByRecursion, list_any}
 use Rattle.std.specs.Option.{option_map}
 use Rattle.std.proofs.lemmas.Bool.{eq-eqb, lt-ltb, ltb-false}
@@ -33,6 +33,7 @@ use Rattle.lfs_checks.proofs.Failing.{healthy_moment}
 use Rattle.lfs_checks.proofs.OpenFiles.{IsOnly, inside_is, only, set_is}
 use Rattle.lfs_checks.proofs.WriterChecks.{the_writer, written_at}
 use Rattle.lfs_checks.proofs.Calls.{still_called}
+use Rattle.lfs_checks.proofs.OpenReaders.{read_rewritten}
 
 -- ---- what no check refuses
 
@@ -172,13 +173,14 @@ other_size t new fs fd size now w v same ready accepted e other made b =
     to = healthy_moment (held_of new later) b.works ∙ ap₂ (λ calls (s : Session). record { disk = new.disk; calls = calls; state = Healthy s }) b.called (ap₂ (λ z f. record { tree = z; files = f }) b.shows files)
 
 -- what the session keeps
-pub ready_with : (t new : Seen) (fs : OpenFiles) (fd : ℕ) (w v : Writer) (is : session.Writer) → IsOnly fs fd w → IsWriterAs new is v → IsWrittenBeside t new → t.history ≢ [] → IsReady new (set fs fd (Some (file.Writing v)))
-ready_with t new fs fd w v is alone made b some = record {
+pub ready_with : (t new : Seen) (fs : OpenFiles) (fd : ℕ) (w v : Writer) (is : session.Writer) → IsOnly fs fd w → IsWriterAs new is v → IsWrittenBeside t new → is.path ≡ w.path → IsReady t fs → IsReady new (set fs fd (Some (file.Writing v)))
+ready_with t new fs fd w v is alone made b named was = record {
   sound = b.sound;
-  called = still_called t.history new.history b.calls b.called some;
+  called = still_called t.history new.history b.calls b.called was.called;
   one = (let k = ap (λ ws. length ws) (alone.with_other v) in omega (arith, k));
   idle = λ saved. absurd (let k = sym saved ∙ ap (list_any (λ u. is_some u.unsaved)) (alone.with_other v) ∙ ap (λ c. c || false) made.changed in cc);
   written = subst (AllByRecursion (IsWritten new)) (sym (alone.with_other v)) (made.written, tt);
+  read = read_rewritten t.pairs new.pairs fs fd w v alone.writers (alone.with_other v) (ap (λ (x : session.Writer). x.path) made.seen ∙ named) b.pairs was.read;
 }
 
 -- nothing is open under a number that was let go

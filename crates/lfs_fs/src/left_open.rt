@@ -7,7 +7,7 @@ ghost use Rattle.lfs_model.specs.Session.{held};
 ghost use Rattle.lfs_tree.specs.Seen.{IsCarried, Seen};
 ghost use Rattle.lfs_checks.specs.FileSeen.{OpenFiles, files_seen, writers_in};
 ghost use Rattle.lfs_checks.specs.Held.{IsReady};
-ghost use Rattle.lfs_checks.specs.Staying.{AreLeft, KeepsWriters, SparesWriters};
+ghost use Rattle.lfs_checks.specs.Staying.{AreLeft, KeepsWriters, SparesFiles};
 
 use lfs_tree::{carried_takes_few, contents_stay};
 use lfs_writer::held_blocks_are_room;
@@ -16,7 +16,7 @@ use lfs_writer::held_blocks_are_room;
 // writer leaves its contents.
 pub(crate) fn open_files_stay()
     ensures few { (t : Seen) (files : OpenFiles) → IsReady t files → in_flight_count t.map ≤ held t.disk.block_size (files_seen t files) }
-    ensures stay { (old new : Seen) (op : Operation) (files : OpenFiles) → IsReady old files → SparesWriters old op files → KeepsWriters old new (writers_in files) → IsCarried old op new → AreLeft old new files }
+    ensures stay { (old new : Seen) (op : Operation) (files : OpenFiles) → IsReady old files → SparesFiles old op files → KeepsWriters old new (writers_in files) → IsCarried old op new → AreLeft old new files }
 {
     contents_stay();
     carried_takes_few();

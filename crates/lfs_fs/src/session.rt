@@ -286,8 +286,8 @@ impl<D: BlockDevice> Session<D> {
         requires { (flags_seen flags).write ≡ false }
         ensures { IsCall self.old (ops.Open path.now (flags_seen flags)) (reply_in ops.Opened result) self.new }
     {
-        check_open_reader(alloc, &mut self.tree, &self.files, path, flags)?;
-        let answer = self.files.add_reader(alloc, path);
+        let contents = check_open_reader(alloc, &mut self.tree, &self.files, path, flags)?;
+        let answer = self.files.add_reader(alloc, path, contents);
         if answer.is_err() {
             self.tree.fail();
         }
@@ -439,13 +439,7 @@ impl<D: BlockDevice> Session<D> {
         let Some(reader) = self.files.reader(fd) else {
             return Err(Error::BadFile);
         };
-        let bytes = read_from(
-            alloc,
-            &mut self.tree,
-            &reader.path.lend(),
-            reader.position,
-            count,
-        )?;
+        let bytes = read_from(alloc, &mut self.tree, reader, count)?;
         let position = reader.position + bytes.len() as u32;
         self.files.seek(fd, position);
         Ok(bytes)

@@ -128,12 +128,6 @@ few_shown disk (contents.List head size) s k list =
     let n = length-take size (flat_map (data_of disk.blocks) (enumerate_from 0 (blocks_back disk.blocks (blocks_for disk.block_size size) head))) in
     omega (arith, e, h, n)
 
-pub ends_early : (bytes taken : List ℕ) (position count : ℕ) → taken ≡ take count (drop position bytes) → position < 2 ^ 32 → length bytes < 2 ^ 31 → position + length taken < 2 ^ 32
-ends_early bytes taken position count e p l =
-    let a = ap length e ∙ length-take count (drop position bytes) in
-    let b = length-drop position bytes in
-    omega (arith, a, b, p, l)
-
 -- ---- what is shown
 
 pub is_file_of : (x : Shown) (slot : Spot) (contents : Contents) → file_shown x ≡ Some (slot, contents) → x ≡ shown.File slot contents
@@ -145,21 +139,6 @@ is_file_of (shown.File s c) slot contents e =
 is_file_of shown.Nothing slot contents e = absurd (cc)
 is_file_of shown.ParentIsFile slot contents e = absurd (cc)
 is_file_of shown.ParentIsMissing slot contents e = absurd (cc)
-
-module _ (t : Kept) (path : Path) (ok : IsAccepted t.disk t.pairs) where
-  directory_bytes : (at : ℕ × ℕ) → Leads t.pairs path at → bytes_at (tree_in t.disk t.pairs path) ≡ []
-  directory_bytes at leads = ap bytes_at (directory_at_path t.disk t.pairs path at leads).is
-
-  refused_bytes : (r : ops.Refusal) → parent_fault (tree_in t.disk t.pairs) [] path ≡ Some r → bytes_at (tree_in t.disk t.pairs path) ≡ []
-  refused_bytes r h = ap bytes_at (nothing_at t.disk t.pairs path (refused_none t.disk t.pairs path [] r h))
-
-  pub no_file : (x : Shown) → ShowsAt t path x → file_shown x ≡ None → bytes_at (tree_in t.disk t.pairs path) ≡ []
-  no_file shown.Root s e = ap (λ p. bytes_at (tree_in t.disk t.pairs p)) s.shows
-  no_file (shown.Directory slot first) s e = directory_bytes s.shows.1.1.at s.shows.1.1.leads
-  no_file (shown.File slot contents) s e = absurd (cc)
-  no_file shown.Nothing s e = ap bytes_at (nothing_at t.disk t.pairs path s.shows.1)
-  no_file shown.ParentIsFile s e = refused_bytes ops.NotDir s.shows
-  no_file shown.ParentIsMissing s e = refused_bytes ops.NoEnt s.shows
 
 -- no file is there where none is found
 module _ (t : Kept) (path : Path) where
@@ -212,16 +191,3 @@ file_since a b slot contents held pairs disk h = record {
   shows = h.shows;
   list = subst (λ (d : Disk). IsListIfCtz d held.struct) (sym disk) h.list;
 }
-
-pub ends_within : (bytes : List ℕ) (r : Result (Vec ℕ Global) Error) (position count : ℕ) → IfOk r (λ v. v.items ≡ take count (drop position bytes)) → position < 2 ^ 32 → length bytes < 2 ^ 31 → IfOk r (λ v. position + length v.items < 2 ^ 32)
-ends_within bytes (Ok v) position count e p l = ends_early bytes v.items position count e p l
-ends_within bytes (Err x) position count e p l = tt
-
-pub of_path : (bytes other : List ℕ) (r : Result (Vec ℕ Global) Error) (position count : ℕ) → bytes ≡ other → IfOk r (λ v. v.items ≡ take count (drop position bytes)) → IfOk r (λ v. v.items ≡ take count (drop position other))
-of_path bytes other r position count e h = subst (λ b. IfOk r (λ v. v.items ≡ take count (drop position b))) e h
-
-pub none_of : (count position : ℕ) → take count (drop position (let xs : List ℕ = [] in xs)) ≡ []
-none_of zero zero = refl
-none_of zero (suc n) = refl
-none_of (suc k) zero = refl
-none_of (suc k) (suc n) = refl

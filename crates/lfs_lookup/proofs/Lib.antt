@@ -26,3 +26,4 @@ pub mod BytesAtSlots
 pub mod AttributeAtSlots
 mod AttributesPut
 mod PairAddresses
+mod FileContentsAt

@@ -15,5 +15,6 @@ pub mod Root
 pub mod AtPath
 pub mod ListAt
 pub mod BytesAt
+pub mod FileContents
 pub mod AttributeAt
 pub mod AtHand

@@ -1,6 +1,6 @@
-// The bytes of the file at a path.
+// The bytes of a file: those in a slot, and those of a skip list.
 
-ghost use Rattle.std.specs.Prelude.{◌≡◌, ◌≤◌, ◌<◌, ◌+◌, ◌^◌, List, ℕ, IfOk, IfErr, Some, drop, false, length, slice_get, take};
+ghost use Rattle.std.specs.Prelude.{◌≡◌, ◌≤◌, ◌<◌, ◌+◌, ◌^◌, List, ℕ, IfOk, IfErr, IsSome, Some, drop, false, length, slice_get, take};
 ghost use Rattle.std.specs.Option.{option_copied};
 ghost use Rattle.lfs_model.specs.TreeEdits.{bytes_at};
 ghost use Rattle.lfs_model.specs.History.{reads};
@@ -9,7 +9,7 @@ ghost use Rattle.lfs_model.specs.Slots.{Content as ModelContent, Inline, Slot};
 ghost use Rattle.lfs_model.specs.Thread.{superblocks_before};
 ghost use Rattle.lfs_model.specs.View.{IsAccepted};
 ghost use Rattle.lfs_model.specs.Shown.{contents_in, tree_in};
-ghost use Rattle.lfs_thread.specs.Lent.{IsBlockOf};
+ghost use Rattle.lfs_thread.specs.Lent.{IsBlockOf, at_hand};
 ghost use Rattle.lfs_lookup.specs.BytesAt.{IsFileAt, IsSlotAt, file_shown};
 ghost use Rattle.lfs_lookup.specs.FileBytes.{bytes_shown};
 ghost use Rattle.lfs_lookup.specs.Reading.{IsReading};
@@ -28,7 +28,7 @@ use lfs_thread::Thread;
 use std::alloc::{AllocError, Global};
 
 // Some of the bytes, from a position on, so many at most.
-fn copied_from(
+pub(crate) fn copied_from(
     alloc: Global,
     bytes: &[u8],
     position: u32,
@@ -66,7 +66,7 @@ fn copied_in_log(
 }
 
 /// Some of the bytes that stand in a slot whose struct is an inline one: so many from a position on,
-/// or up to their end. One read at most.
+/// or up to their end. One read at most, and none where the slot's block is at hand.
 ///
 /// `Io` where a read failed, and `NoMemory` where room isn't granted.
 pub fn inline_at<D: BlockDevice>(
@@ -79,6 +79,7 @@ pub fn inline_at<D: BlockDevice>(
     requires works { thread.old.failed ≡ false }
     requires below { slot.pair < length thread.old.kept.pairs }
     ensures bytes { (held : Slot) (bytes : List ℕ) → IsSlotAt thread.old.kept slot held → held.struct ≡ Inline bytes → IfOk result (λ v. v.items ≡ take count (drop position bytes)) }
+    ensures no_call { IsSome (at_hand thread.old slot.pair) → thread.new.kept ≡ thread.old.kept }
     ensures few { reads thread.new.kept.history ≤ reads thread.old.kept.history + 1 }
     ensures reading { IsReading thread.old thread.new result }
 {
@@ -93,7 +94,7 @@ pub fn inline_at<D: BlockDevice>(
 }
 
 // Some of the bytes of a skip list.
-fn list_from<D: BlockDevice>(
+pub(crate) fn list_from<D: BlockDevice>(
     alloc: Global,
     thread: &mut Thread<D>,
     head: u32,
@@ -112,26 +113,6 @@ fn list_from<D: BlockDevice>(
     Ok(bytes)
 }
 
-// Some of the bytes of a file, whose slot stands there.
-fn contents_from<D: BlockDevice>(
-    alloc: Global,
-    thread: &mut Thread<D>,
-    slot: Spot,
-    contents: Contents,
-    position: u32,
-    count: usize,
-) -> Result<Vec<u8>, Error>
-    requires works { thread.old.failed ≡ false }
-    requires file { (held : Slot) × IsFileAt thread.old.kept slot contents held }
-    ensures bytes { (held : Slot) → IsFileAt thread.old.kept slot contents held → IfOk result (λ v. v.items ≡ take count (drop position (bytes_shown thread.old.kept.disk held.struct))) }
-    ensures reading { IsReading thread.old thread.new result }
-{
-    match contents {
-        Contents::Inline { .. } => inline_at(alloc, thread, slot, position, count),
-        Contents::List { head, size } => list_from(alloc, thread, head, size, position, count),
-    }
-}
-
 /// The slot of a file, and where its bytes stand. None of anything else.
 pub fn file_of(shown: Shown) -> Option<(Spot, Contents)>
     ensures { result ≡ file_shown shown }
@@ -140,32 +121,4 @@ pub fn file_of(shown: Shown) -> Option<(Spot, Contents)>
         Shown::File { slot, contents } => Some((slot, contents)),
         _ => None,
     }
-}
-
-/// The bytes of the file at a path from a position on: so many, or up to their end. No bytes where no
-/// file stands there. The position and how many they are come to less than 2^32. How many reads it
-/// takes isn't said.
-///
-/// `root` is the number of the root directory's first pair. `Io` where a read failed, and `NoMemory`
-/// where room isn't granted.
-pub fn bytes_at<D: BlockDevice>(
-    alloc: Global,
-    thread: &mut Thread<D>,
-    root: usize,
-    path: &Path<'_>,
-    position: u32,
-    count: usize,
-) -> Result<Vec<u8>, Error>
-    requires works { thread.old.failed ≡ false }
-    requires accepted { IsAccepted thread.old.kept.disk thread.old.kept.pairs }
-    requires root { root ≡ superblocks_before thread.old.kept.pairs }
-    ensures bytes { IfOk result (λ v. v.items ≡ take count (drop position (bytes_at (tree_in thread.old.kept.disk thread.old.kept.pairs path.now)))) }
-    ensures end { IfOk result (λ v. position + length v.items < 2 ^ 32) }
-    ensures reading { IsReading thread.old thread.new result }
-{
-    let shown = shown_at(alloc, thread, root, path)?;
-    let Some((slot, contents)) = file_of(shown) else {
-        return Ok(Vec::new(alloc));
-    };
-    contents_from(alloc, thread, slot, contents, position, count)
 }

@@ -188,7 +188,7 @@ carried a h op c w other asks = record {
   };
   keeps = λ path file away.
       let k = keeps_writing (with_history a h) c w.writes.blocks w.accepted w.used w.writes.each wrote path file ((w.completed []).structs path file away (none_stored (tree_in a.disk a.pairs) op path)) in
-      record { file = k.file; list = k.list; bytes = k.bytes };
+      record { file = k.file; struct = k.struct; list = k.list; bytes = k.bytes };
   lists = λ none. lists_stay (with_history a h) c w.writes.blocks w.accepted w.used w.writes.each wrote;
 }
   where

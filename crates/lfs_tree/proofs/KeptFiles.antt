@@ -89,14 +89,15 @@ module _ (old new : Kept) (path : Path) (file : is_file (tree_in old.disk old.pa
   pub keeps_by : KeepsFile old new path
   keeps_by =
       let k = slots_kept (slot_of_path old.pairs path) (slot_of_path new.pairs path) same file bytes in
-      record { file = k.0; list = k.1; bytes = bytes }
+      record { file = k.0; struct = same; list = k.1; bytes = bytes }
 
 pub keeps_same : (t : Kept) (path : Path) → is_file (tree_in t.disk t.pairs path) ≡ true → KeepsFile t t path
-keeps_same t path file = record { file = file; list = refl; bytes = λ b has. refl }
+keeps_same t path file = record { file = file; struct = refl; list = refl; bytes = λ b has. refl }
 
 pub keeps_then : (a b c : Kept) (path : Path) → KeepsFile a b path → KeepsFile b c path → KeepsFile a c path
 keeps_then a b c path first second = record {
   file = second.file;
+  struct = second.struct ∙ first.struct;
   list = second.list ∙ first.list;
   bytes = λ x has. second.bytes x (subst (λ (l : List ℕ). Contains l x) (sym first.list) has) ∙ first.bytes x has;
 }

@@ -29,6 +29,7 @@ pub mod CarryFreed
 pub mod CarryGone
 pub mod CarrySpared
 pub mod SlotsHave
+mod ReadContents
 pub mod KeptFiles
 pub mod BesideImage
 pub mod BesideWritten

@@ -146,7 +146,7 @@ dropped_behind t h d reads k = record {
   shows = k.shows;
   completed = k.completed;
   fewer = k.fewer;
-  keeps = λ path file. let keeps = k.keeps path file in record { file = keeps.file; list = keeps.list; bytes = keeps.bytes };
+  keeps = λ path file. let keeps = k.keeps path file in record { file = keeps.file; struct = keeps.struct; list = keeps.list; bytes = keeps.bytes };
   flight = leaves_then (seen_kept t true false) (seen_kept (with_history t h) true false) (seen_kept d true false) (leaves_reading t h reads) k.flight;
 }
 
@@ -240,7 +240,7 @@ recovered_whole t root b c rooted left e w d called quiet =
       keeps = λ path file away.
           let first = keeps_writing a b (blocks_of a.pairs) rooted.sound.accepted rooted.sound.used (all_pairs a) w path file (struct_stays a.disk a.pairs b.pairs path file (e.taken.follows.stays path (same_leaves path))) in
           let k = keeps_then a b c path first (d.keeps path first.file) in
-          record { file = k.file; list = k.list; bytes = k.bytes };
+          record { file = k.file; struct = k.struct; list = k.list; bytes = k.bytes };
       lists = λ none. absurd (left none);
     }
 

@@ -1,12 +1,12 @@
 -- What stands behind a commit of contents, before and after their lists are settled.
-use Rattle.std.proofs.Common.{ℕ, ◌≡◌, ◌≢◌, ◌<◌, ◌≤◌, ◌+◌, ◌∙◌, inl, inr, ⊎_elim, List, [], ◌∷◌, ◌++◌, length, Some, refl, sym, ap, subst, arith, append_assoc}
+use Rattle.std.proofs.Common.{ℕ, ◌≡◌, ◌≢◌, ◌<◌, ◌≤◌, ◌+◌, ◌∙◌, inl, inr, ⊎_elim, List, [], ◌∷◌, ◌++◌, length, None, Some, true, false, refl, sym, ap, subst, arith, append_assoc}
 use Rattle.std.specs.Prelude.{Contains}
 use Rattle.std.proofs.lemmas.List.Elements.{All-contains, All-from_recursion}
 use Rattle.std.proofs.lemmas.Option.{same_Some}
 use Rattle.lfs_device.specs.Bytes.{HasBytes}
 use Rattle.lfs_model.proofs.Sites.{Among, among_right}
 use Rattle.lfs_model.specs.Discipline.{HoldsSlot}
-use Rattle.lfs_model.specs.TreeEdits.{change_at}
+use Rattle.lfs_model.specs.TreeEdits.{change_at, same_path}
 use Rattle.lfs_model.specs.BlockSets.{AreUsed, IsFree, IsInFlight, IsUsed}
 use Rattle.lfs_model.specs.BlockSets.BlockState.{Free, InFlight, Used}
 use Rattle.lfs_model.specs.Disk.{Disk, SameGeometry, block_at, block_count}
@@ -15,6 +15,8 @@ use Rattle.lfs_model.specs.Layout.{IsLaidOut}
 use Rattle.lfs_model.specs.Names.{Name}
 use Rattle.lfs_model.specs.Operations as ops
 use Rattle.lfs_model.specs.Operations.{Operation}
+use Rattle.lfs_model.specs.Keeping.{struct_at}
+use Rattle.lfs_model.specs.Session.{Session, Writer, Writing}
 use Rattle.lfs_model.specs.PowerLoss.{IsLeft, with_blocks}
 use Rattle.lfs_model.specs.SlotEdits.{slot_of_path}
 use Rattle.lfs_model.specs.Slots.{Slot}
@@ -178,13 +180,17 @@ module _ (t : Kept) (path : Path) (u : Slot) (ok : IsAccepted t.disk t.pairs) (u
           (is.synced (record { tree = tree_in t.disk t.pairs; files = files }) fd writer refl (wr.0, (wr.1.0, (wr.1.1.0 ∙ e, wr.1.1.1)))).laid_out;
       closed = λ files fd writer wr. on (λ d ps. IsLaidOut t.disk t.pairs (record { tree = tree_in t.disk t.pairs; files = files }) (ops.Close fd) d ps)
           (is.closed (record { tree = tree_in t.disk t.pairs; files = files }) fd writer refl (wr.0, (wr.1.0, (wr.1.1.0 ∙ e, wr.1.1.1)))).laid_out;
+      others = λ q file apart.
+          let writer : Writer = record { path = above ++ name ∷ []; contents = bytes_held t c; position = 0; append = false; dirty = true; turned = false; last_end = None } in
+          let s : Session = record { tree = tree_in t.disk t.pairs; files = Some (Writing writer) ∷ [] } in
+          ap (λ (ps : List Pair). struct_at ps q) only.pairs ∙ (is.synced s 0 writer refl (refl, (refl, (refl, refl)))).structs q file refl (subst (λ p. same_path p q ≡ false) e apart);
       alone = subst (λ (d : Disk). ChangesPairOf t.disk t.pairs path d) (sym only.disk) alone;
       none_in_flight = no_flight later.map none_later;
     }
 
 pub committed_read : (t : Kept) (h : List Event) (path : Path) (bytes : List ℕ) (later : Kept) → HasCommitted (with_history t h) path bytes later → HasCommitted t path bytes later
 committed_read t h path bytes later k =
-    record { sound = k.sound; fits = k.fits; settled = k.settled; root = k.root; shows = k.shows; synced = k.synced; closed = k.closed; alone = k.alone; none_in_flight = k.none_in_flight }
+    record { sound = k.sound; fits = k.fits; settled = k.settled; root = k.root; shows = k.shows; others = k.others; synced = k.synced; closed = k.closed; alone = k.alone; none_in_flight = k.none_in_flight }
 
 -- ---- behind calls that only read
 

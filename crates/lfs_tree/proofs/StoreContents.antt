@@ -29,6 +29,7 @@ use Rattle.lfs_tree.proofs.LeftAlone.{pair_of_alone}
 use Rattle.lfs_tree.specs.Carrying.{HasCalled, IsAtRest, SurvivesTo, TellsError}
 use Rattle.lfs_tree.specs.Held.{IsHeld, seen_kept, seen_thread}
 use Rattle.lfs_tree.proofs.Asking.{seen_working}
+use Rattle.lfs_tree.specs.KeepsFiles.{KeepsOthers}
 use Rattle.lfs_tree.specs.OpenContents.{CanStoreAt, IsArrangedBy, IsSettleable, IsStoredAt, bytes_held, kept_of}
 use Rattle.lfs_tree.specs.Seen.{IsSound, Seen, tree_seen}
 use Rattle.lfs_tree.specs.Storing.{CanCommit, HasCommitted, HasStored, IsFinished, IsLaidBy, ChangesPairOf}
@@ -153,6 +154,8 @@ module _ (t : State) (root : ℕ) (rests : IsAtRest t root) (path : Path) (conte
         fits = k.fits;
         recovered = recovered_from new.disk new.pairs k.sound.accepted k.settled;
         shows = k.shows ∙ turn_same;
+        others = subst (λ (ps : List Pair). KeepsOthers (tree_in t.kept.disk t.kept.pairs) ps path new.pairs) leaves.pairs
+            (subst (λ (x : Tree). KeepsOthers x b.kept.pairs path new.pairs) tree_same k.others);
         synced = arranged_before new ops.Sync k.synced;
         closed = arranged_before new ops.Close k.closed;
         alone = λ files op. pair_of_alone t.kept.disk new.disk t.kept.pairs new.pairs path sound.accepted (changes_before new.disk k.alone) (record { tree = tree_in t.kept.disk t.kept.pairs; files = files }) op;

@@ -20,7 +20,7 @@ use Rattle.lfs_model.specs.Shown.{tree_in, used_blocks}
 use Rattle.lfs_writer.specs.Standing.{StandsIn, held_in}
 use Rattle.lfs_operations.specs.Storing.{IsWriterOf}
 use Rattle.lfs_thread.specs.Kept.{Kept}
-pub use Rattle.lfs_tree.specs.KeepsFiles.{blocks_named, list_at}
+pub use Rattle.lfs_tree.specs.KeepsFiles.{KeepsOthers, blocks_named, list_at}
 pub use Rattle.lfs_tree.specs.Seen.{kept_of}
 use Rattle.lfs_tree.specs.Seen.{IsBroken, IsError, Seen, IsSound, SurvivesAs, around_of, bare, tree_seen}
 use Rattle.lfs_writer.specs.Contents.{IsLarge, NeedsRoom, bytes_in, end_room, form_of, truncate_room, write_room}
@@ -143,6 +143,7 @@ pub record IsStoredAtImage (old : Seen) (path : Path) (bytes : List ℕ) (new : 
   pub fits : IsWritable new.disk new.pairs
   pub recovered : IsRecovered new.pairs
   pub shows : tree_seen new ≡ change_at path (with_bytes bytes) (tree_seen old)
+  pub others : KeepsOthers (tree_seen old) old.pairs path new.pairs
   pub synced : IsArrangedBy old path bytes ops.Sync new
   pub closed : IsArrangedBy old path bytes ops.Close new
   pub alone : (files : Files) (op : Operation) → IsAboutPath (record { tree = tree_seen old; files = files }) op path → LeavesAlone old.disk old.pairs (record { tree = tree_seen old; files = files }) op new.disk new.pairs

@@ -23,6 +23,7 @@ use Rattle.lfs_operations.specs.Storing.{IsWriterOf}
 use Rattle.lfs_thread.specs.Kept.{Kept}
 use Rattle.lfs_tree.specs.CarryingSlots.{IsSlotFor}
 use Rattle.lfs_tree.specs.Held.{seen_kept}
+use Rattle.lfs_tree.specs.KeepsFiles.{KeepsOthers}
 use Rattle.lfs_tree.specs.OpenContents.{IsOverFile, IsStoredAt, bytes_held}
 use Rattle.lfs_tree.specs.Seen.{IsSound}
 use Rattle.lfs_lookup.specs.declared.entry.Contents.{Contents as EntryContents}
@@ -119,6 +120,7 @@ pub record HasCommitted (old : Kept) (path : Path) (bytes : List ℕ) (new : Kep
   pub settled : gstate_of new.pairs ≡ no_gstate
   pub root : KeepsRoot old new
   pub shows : tree_in new.disk new.pairs ≡ change_at path (with_bytes bytes) (tree_in old.disk old.pairs)
+  pub others : KeepsOthers (tree_in old.disk old.pairs) old.pairs path new.pairs
   pub synced : IsLaidBy old path bytes ops.Sync new
   pub closed : IsLaidBy old path bytes ops.Close new
   pub alone : ChangesPairOf old.disk old.pairs path new.disk

@@ -13,6 +13,7 @@ mod laws;
 mod lost_lists;
 mod mounted;
 mod opening;
+mod readers;
 mod recovering_lost;
 mod remounting;
 mod storing;

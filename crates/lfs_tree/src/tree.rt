@@ -39,8 +39,8 @@ use crate::remounting::{Spare, mounted_again};
 use core::mem::replace_with;
 use lfs_device::{BlockDevice, Error, Geometry};
 use lfs_lookup::{
-    Finding, FoundAttribute, Inside, Listing, Path, attribute_at, attributes_size_at, bytes_at,
-    find_at, list_at, look_inside_at,
+    Finding, FoundAttribute, Inside, Listing, Path, attribute_at, attributes_size_at, find_at, list_at,
+    look_inside_at,
 };
 use lfs_tag::MoveState;
 use lfs_thread::Thread;
@@ -230,26 +230,6 @@ impl<D: BlockDevice> Tree<D> {
         let inside = look_inside_at(alloc, &mut self.thread, self.root, path);
         note_error(&mut self.thread, &inside);
         inside
-    }
-
-    /// The contents of a file, from a position on, so many bytes at most. No bytes where no file stands.
-    ///
-    /// `Io` where a read failed, and `NoMemory` where memory isn't granted. It has failed then.
-    pub fn read_file(
-        &mut self,
-        alloc: Global,
-        path: &Path<'_>,
-        position: u32,
-        count: usize,
-    ) -> Result<Vec<u8>, Error>
-        requires { self.old.failed ≡ false }
-        ensures asks { IsAsking self.old result self.new }
-        ensures bytes { IfOk result (λ v. v.items ≡ take count (drop position (bytes_at (tree_seen self.old path.now)))) }
-        ensures end { IfOk result (λ v. position + length v.items < 2 ^ 32) }
-    {
-        let bytes = bytes_at(alloc, &mut self.thread, self.root, path, position, count);
-        note_error(&mut self.thread, &bytes);
-        bytes
     }
 
     /// What a path leads to, and an attribute of it, which has at most 1,022 bytes. Each pair of the

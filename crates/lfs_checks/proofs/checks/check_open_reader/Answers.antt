@@ -1,4 +1,5 @@
 use Rattle.lfs_checks.proofs.OpenFiles.{busy_at}
+use Rattle.lfs_checks.proofs.OpenReaders.{found_contents}
 use Rattle.lfs_checks.specs.FlagsSeen.{flags_seen}
 use Rattle.lfs_checks.specs.Held.{held_of}
 use Rattle.lfs_model.specs.Operations as ops
@@ -9,8 +10,9 @@ use Rattle.lfs_checks.proofs.checks.check_open_reader.Goals as goal
 
 pub returns : goal.returns
 returns g c =
-    open_checked (held_of c.args.tree.now c.args.files.now) c.args.bytes.now c.in-Some.path (flags_seen c.args.flags) c.in_ok-found.found _ c.is_nothing.result c.is_directory.result c.is_busy_for_reading.result
-    c.refuse_if.result c.refuse_if-2.result c.refuse_if-3.result c.passed.result
+    open_checked (held_of c.args.tree.now c.args.files.now) c.args.bytes.now c.in-Some.path (flags_seen c.args.flags) c.in_ok-found.found.finding _ c.is_nothing.result c.is_directory.result c.is_busy_for_reading.result
+    c.refuse_if.result c.refuse_if-2.result c.refuse_if-3.result c.unwrap_or.result c.passed.result
+    (found_contents c.args.tree.now c.in-Some.path c.in_ok-found.found.contents c.unwrap_or.result _ c.in_ok-found.ensures.contents c.unwrap_or.ensures)
     c.if-has_failed.ensures c.in-Some.ensures c.requires c.if-not-is_allowed.ensures c.in_ok-found.ensures.asks.asked c.in_ok-found.ensures.found
     c.is_nothing.ensures c.refuse_if.ensures c.is_directory.ensures c.refuse_if-2.ensures (busy_at c.args.tree.now c.args.files.now c.args.bytes.now _ _ c.in-Some.ensures c.is_busy_for_reading.ensures) c.refuse_if-3.ensures c.passed.ensures
 

@@ -10,3 +10,6 @@ returns-clause-bytes g c held bytes there e =
     c.copied_in_log.ensures.bytes (pair_in c.bring.new.self.kept c.args.slot.pair).content held bytes
     (subst (λ o. IfSome o (λ log. IsBlockOf log (pair_in c.bring.new.self.kept c.args.slot.pair).content)) c.unwrap.ensures c.lend.ensures.holds)
     (subst (λ (ps : List Pair). slice_get (slice_index_or ps c.args.slot.pair no_pair).content.slots c.args.slot.id ≡ Some held) (sym c.bring.ensures.only.pairs) there) e
+
+pub returns-clause-no_call : goal.returns-clause-no_call
+returns-clause-no_call g c = c.bring.ensures.no_call

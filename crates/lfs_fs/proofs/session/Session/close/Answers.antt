@@ -40,7 +40,7 @@ invariant_of-self g c = record {
 -- the tree's call ends it
 pub invariant_of-self-2 : goal.invariant_of-self-2
 invariant_of-self-2 g c = record {
-  ready = λ works. close_ready c.self.inside.tree c.save-answer.new.tree c.self.inside.files c.take.new.self c.args.fd c.in-Some-Writing.writer _ _ c.self.invariant.ready c.in_ok-check_open.ensures.0
+  ready = λ works. close_ready c.self.inside.tree c.save-answer.new.tree c.self.inside.files c.take.new.self c.args.fd c.in-Some-Writing.writer _ c.self.invariant.ready c.in_ok-check_open.ensures.0
       (taken _ _ _ _ c.in-Some-Writing.is c.in-Some-Writing.field-0-is c.take.ensures.file) c.in_ok-answer.ensures.stored c.take.ensures.left;
   told = λ works. c.device_tells.ensures;
 }

@@ -1,14 +1,13 @@
-use Rattle.std.proofs.Common.{◌∙◌, ◌+◌, take, drop, refl, sym, ap, arith}
+use Rattle.std.proofs.Common.{◌∙◌, ◌+◌, refl, sym, ap, arith}
 use Rattle.std.specs.Option.{option_map}
 use Rattle.lfs_device.specs.declared.error.Error.TheVariants as error
 use Rattle.lfs_model.specs.Operations as ops
 use Rattle.lfs_model.specs.Session.{file_of, put_file}
 use Rattle.lfs_model.specs.Effects.{moved_to}
-use Rattle.lfs_checks.specs.FileSeen.{entry_of, files_seen, reader_seen}
-use Rattle.lfs_checks.specs.Held.{held_of}
+use Rattle.lfs_checks.specs.FileSeen.{entry_of, files_seen, reader_seen, written_paths}
+use Rattle.lfs_checks.specs.Held.{IsRead, held_of}
 use Rattle.lfs_checks.specs.Replies.{reply_in}
-use Rattle.lfs_model.specs.TreeEdits.{bytes_at}
-use Rattle.lfs_tree.specs.Seen.{tree_seen}
+use Rattle.lfs_checks.proofs.OpenReaders.{one_of_all}
 use Rattle.lfs_checks.proofs.Answered.{asked_ready, files_asked, sound_by}
 use Rattle.lfs_checks.proofs.Errors.{given_on}
 use Rattle.lfs_fs.proofs.Moving.{moved_ready}
@@ -20,6 +19,11 @@ use Rattle.lfs_fs.proofs.Sparing.{asking_call, asks_not, kept_asking}
 use Rattle.lfs_fs.proofs.Ending.{answer_ends, broken_ends, refused_ends}
 use Rattle.lfs_fs.proofs.Told.{told_asked}
 use Rattle.lfs_fs.proofs.session.Session.read.Goals as goal
+
+pub read_from-requires-clause-kept : goal.read_from-requires-clause-kept
+read_from-requires-clause-kept g c =
+    let fs = c.self.inside.files in
+    (written_paths fs, one_of_all (IsRead c.self.inside.tree.pairs (written_paths fs)) fs c.args.fd c.in-Some.reader.now c.in-Some.ensures (c.self.invariant.ready (sym c.if-has_failed.ensures)).read)
 
 pub returns-then-has_failed : goal.returns-then-has_failed
 returns-then-has_failed g c =
@@ -59,7 +63,7 @@ returns g c =
     (a_reader (held_of c.self.inside.tree c.self.inside.files) c.args.fd c.args.count (reader_seen c.in-Some.reader.now) c.if-has_failed.ensures (some_reader c.self.inside.tree c.self.inside.files c.args.fd c.in-Some.reader.now c.in-Some.ensures)) c.in_ok-bytes.ensures.asked.no_fault)
     (read_answers (held_of c.self.inside.tree c.self.inside.files) _ c.args.fd c.args.count (reader_seen c.in-Some.reader.now) c.read_from.new.tree (files_seen c.read_from.new.tree c.seek.new.self) c.in_ok-bytes.bytes.items (c.in-Some.reader.now.position + c.len.result)
     c.self.view_is (sound_by c.self.inside.tree c.self.inside.files c.self.invariant.ready) c.if-has_failed.ensures c.in_ok-bytes.ensures.asked (some_reader c.self.inside.tree c.self.inside.files c.args.fd c.in-Some.reader.now c.in-Some.ensures)
-    (c.in_ok-bytes.ensures.bytes ∙ ap (λ p. take c.args.count (drop c.in-Some.reader.now.position (bytes_at (tree_seen c.self.inside.tree p)))) c.lend.ensures)
+    c.in_ok-bytes.ensures.bytes
     (omega (arith, c.len.ensures, c.in_ok-bytes.bytes.ok.0))
     (ap (files_seen c.read_from.new.tree) c.seek.ensures ∙ moved_is c.read_from.new.tree c.self.inside.files c.args.fd (c.in-Some.reader.now.position + c.len.result) (reader_there (entry_of c.self.inside.files c.args.fd) c.in-Some.reader.now c.in-Some.ensures)
     ∙ ap (λ z. put_file (files_seen z c.self.inside.files) c.args.fd (option_map (moved_to (c.in-Some.reader.now.position + c.len.result)) (file_of (files_seen z c.self.inside.files) c.args.fd))) c.in_ok-bytes.ensures.asked.same))

@@ -45,7 +45,7 @@ returns-then-not-is_unsaved_at g c =
 -- the tree's call ends it
 pub invariant_of-self-2 : goal.invariant_of-self-2
 invariant_of-self-2 g c = record {
-  ready = λ works. sync_ready c.self.inside.tree c.save-answer.new.tree c.self.inside.files c.take.new.self c.put_back.new.self c.args.fd c.in-Some-Writing.writer c.in_ok-writer.writer _ _ _ c.self.invariant.ready c.in_ok-check_sync.ensures.0
+  ready = λ works. sync_ready c.self.inside.tree c.save-answer.new.tree c.self.inside.files c.take.new.self c.put_back.new.self c.args.fd c.in-Some-Writing.writer c.in_ok-writer.writer _ c.self.invariant.ready c.in_ok-check_sync.ensures.0
       (taken _ _ _ _ c.in-Some-Writing.is c.in-Some-Writing.field-0-is c.take.ensures.file) c.in_ok-writer.ensures.stored c.in_ok-writer.ensures.saved c.take.ensures.left c.put_back.ensures;
   told = λ works. c.device_tells.ensures;
 }

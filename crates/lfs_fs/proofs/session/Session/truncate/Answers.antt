@@ -1,10 +1,11 @@
 use Rattle.std.proofs.Common.{◌<◌, ◌∙◌, Some, length, ap, is_some, refl, sym, subst, Ok}
 use Rattle.lfs_model.specs.Operations as ops
 use Rattle.lfs_model.specs.Run.{IsTurn}
-use Rattle.lfs_checks.specs.FileSeen.{entry_of, files_seen, writer_in, writers_in}
+use Rattle.lfs_checks.specs.FileSeen.{entry_of, files_seen, writer_in, writer_seen, writers_in}
 use Rattle.lfs_checks.specs.Held.{Held, IsReady, held_of, moment_of}
 use Rattle.lfs_checks.proofs.Answered.{sound_by, not_failed}
 use Rattle.lfs_checks.proofs.Errors.{given_on}
+use Rattle.lfs_fs.proofs.WriterPaths.{truncate_path}
 use Rattle.lfs_fs.proofs.Truncating.{alone, can_now, length_left, let_go, other_needed, other_size, put_again, ready_with, same_size, some_writer, works_now}
 use Rattle.lfs_fs.proofs.Stopping.{kept_call, tree_changed}
 use Rattle.lfs_fs.proofs.Sparing.{beside_others}
@@ -61,8 +62,8 @@ invariant_of-self-2 g c =
     let all = alone t fs c.args.fd c.args.size c.in-Some-Writing.writer e h.0 (c.self.invariant.ready (works_now t fs c.args.fd c.args.size c.in-Some-Writing.writer e h.0)) in
     record {
       ready = λ f. subst (IsReady c.truncate_by-answer.new.tree) (sym (put_again fs c.take.new.self c.put_back.new.self c.args.fd c.in_ok-writer.writer c.take.ensures.left c.put_back.ensures))
-          (ready_with t c.truncate_by-answer.new.tree fs c.args.fd c.in-Some-Writing.writer c.in_ok-writer.writer _ all c.in_ok-writer.ensures.written c.in_ok-writer.ensures.beside
-          (c.self.invariant.ready (works_now t fs c.args.fd c.args.size c.in-Some-Writing.writer e h.0)).called);
+          (ready_with t c.truncate_by-answer.new.tree fs c.args.fd c.in-Some-Writing.writer c.in_ok-writer.writer _ all c.in_ok-writer.ensures.written c.in_ok-writer.ensures.beside (truncate_path (writer_seen t c.in-Some-Writing.writer) c.args.size)
+          (c.self.invariant.ready (works_now t fs c.args.fd c.args.size c.in-Some-Writing.writer e h.0)));
       told = λ f. c.device_tells.ensures;
     }
 

@@ -1,10 +1,11 @@
 use Rattle.std.proofs.Common.{rules, ◌<◌, ◌∙◌, Some, length, ap, is_some, refl, sym, subst, Ok}
 use Rattle.lfs_model.specs.Operations as ops
 use Rattle.lfs_model.specs.Run.{IsTurn}
-use Rattle.lfs_checks.specs.FileSeen.{entry_of, files_seen, writers_in}
+use Rattle.lfs_checks.specs.FileSeen.{entry_of, files_seen, writer_seen, writers_in}
 use Rattle.lfs_checks.specs.Held.{Held, IsReady, held_of, moment_of}
 use Rattle.lfs_checks.proofs.Answered.{sound_by, not_failed}
 use Rattle.lfs_checks.proofs.Errors.{given_on}
+use Rattle.lfs_fs.proofs.WriterPaths.{write_path}
 use Rattle.lfs_fs.proofs.Truncating.{length_left, let_go, put_again, ready_with, some_writer}
 use Rattle.lfs_fs.proofs.WrittenTurns.{alone, can_now, few_bytes, nothing_put, some_put, some_taken}
 use Rattle.lfs_fs.proofs.Stopping.{kept_call, tree_changed}
@@ -59,8 +60,8 @@ invariant_of-self-2 g c =
     let all = alone c.self.inside.tree c.self.inside.files c.args.fd c.args.bytes.now c.in-Some-Writing.writer e c.in_ok-check_write.ensures.0 c.self.invariant.ready in
     record {
       ready = λ f. subst (IsReady c.write_by-answer.new.tree) (sym (put_again c.self.inside.files c.take.new.self c.put_back.new.self c.args.fd c.in_ok-writer.writer c.take.ensures.left c.put_back.ensures))
-          (ready_with c.self.inside.tree c.write_by-answer.new.tree c.self.inside.files c.args.fd c.in-Some-Writing.writer c.in_ok-writer.writer _ all c.in_ok-writer.ensures.written c.in_ok-writer.ensures.beside
-          (c.self.invariant.ready (not_failed (held_of c.self.inside.tree c.self.inside.files) (ops.Write c.args.fd c.args.bytes.now) c.in_ok-check_write.ensures.0)).called);
+          (ready_with c.self.inside.tree c.write_by-answer.new.tree c.self.inside.files c.args.fd c.in-Some-Writing.writer c.in_ok-writer.writer _ all c.in_ok-writer.ensures.written c.in_ok-writer.ensures.beside (write_path (writer_seen c.self.inside.tree c.in-Some-Writing.writer) c.args.bytes.now)
+          (c.self.invariant.ready (not_failed (held_of c.self.inside.tree c.self.inside.files) (ops.Write c.args.fd c.args.bytes.now) c.in_ok-check_write.ensures.0)));
       told = λ f. c.device_tells.ensures;
     }
 

@@ -1,0 +1,30 @@
+-- The contents of the file at a path.
+use Rattle.std.proofs.Common.{ℕ, ◌≡◌, ◌∙◌, ◌<◌, ◌^◌, List, length, take, drop, Option, Some, None, refl, sym, ap, subst, arith}
+use Rattle.std.specs.Option.{option_map}
+use Rattle.lfs_model.specs.SlotEdits.{slot_of_path}
+use Rattle.lfs_model.specs.Slots.{Slot}
+use Rattle.std.proofs.lemmas.List.{take_all}
+use Rattle.lfs_model.specs.Thread.{Pair}
+use Rattle.lfs_model.specs.Tree.{Path}
+use Rattle.std.specs.Prelude.{IsSome}
+use Rattle.lfs_thread.specs.Kept.{State}
+use Rattle.lfs_thread.specs.Lent.{at_hand}
+use Rattle.lfs_lookup.specs.AttributeAt.{IsAtHand}
+use Rattle.lfs_lookup.specs.BytesAt.{file_shown}
+use Rattle.lfs_lookup.specs.FileContents.{AreContentsAt, AreContentsOf}
+use Rattle.lfs_lookup.specs.declared.entry.Contents.{Contents}
+use Rattle.lfs_lookup.specs.declared.paths.Shown.{Shown}
+use Rattle.lfs_lookup.specs.declared.search.Spot.{Spot}
+use Rattle.lfs_lookup.proofs.BytesAtSlots.{is_file_of}
+use Rattle.lfs_lookup.specs.declared.file_contents.FileContents.{FileContents}
+
+-- as many as there are, from the beginning on, are all
+pub whole : (bytes : List ℕ) (len : ℕ) → length bytes ≡ len → take len (drop 0 bytes) ≡ bytes
+whole bytes len e = take_all len bytes (omega (arith, e))
+
+pub contents_at : (ps : List Pair) (path : Path) (held : Slot) (contents : FileContents) → slot_of_path ps path ≡ Some held → AreContentsOf held.struct contents → AreContentsAt ps path contents
+contents_at ps path held contents at is = record { struct = ap (option_map (λ (u : Slot). u.struct)) at ∙ ap Some (sym is.struct); fits = is.fits }
+
+-- the block of a file that is shown is at hand
+pub file_at_hand : (t : State) (x : Shown) (slot : Spot) (contents : Contents) → IsAtHand t x → file_shown x ≡ Some (slot, contents) → IsSome (at_hand t slot.pair)
+file_at_hand t x slot contents h e = subst (λ z. IsAtHand t z) (is_file_of x slot contents e) h

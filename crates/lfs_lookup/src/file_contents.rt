@@ -1,0 +1,132 @@
+// The contents of a file, as they are kept beside its entry.
+
+ghost use Rattle.std.specs.Prelude.{◌≡◌, ◌≤◌, ◌<◌, ◌+◌, ◌^◌, IfOk, IsSome, List, ℕ, drop, false, length, sum_by, take};
+ghost use Rattle.lfs_model.specs.Discipline.{pairs_of_path, parents};
+ghost use Rattle.lfs_model.specs.History.{reads};
+ghost use Rattle.lfs_model.specs.Shown.{tree_in};
+ghost use Rattle.lfs_model.specs.Slots.{Inline, Slot};
+ghost use Rattle.lfs_model.specs.Thread.{superblocks_before};
+ghost use Rattle.lfs_model.specs.Tree.{Path as ModelPath};
+ghost use Rattle.lfs_model.specs.TreeEdits.{bytes_at};
+ghost use Rattle.lfs_model.specs.View.{IsAccepted, IsListIfCtz};
+ghost use Rattle.lfs_thread.specs.Lent.{at_hand};
+ghost use Rattle.lfs_lookup.specs.AtHand.{AreOnHand};
+ghost use Rattle.lfs_lookup.specs.BytesAt.{IsFileAt};
+ghost use Rattle.lfs_lookup.specs.FileContents.{AreContentsAt, AreContentsOf, AreFoundAt, FitsEntry, struct_of};
+ghost use Rattle.lfs_lookup.specs.Finds.{Finds};
+ghost use Rattle.lfs_lookup.specs.Reading.{IsReading};
+
+use crate::by_path::{finding_of, shown_at};
+use crate::bytes::{copied_from, file_of, inline_at, list_from};
+use crate::entry::Contents;
+use crate::finding::Finding;
+use crate::path::Path;
+use crate::search::Spot;
+use lfs_device::{BlockDevice, Error};
+use lfs_thread::Thread;
+use std::alloc::Global;
+
+/// The contents of a file, as its entry says them.
+#[derive(Drop)]
+pub enum FileContents {
+    /// Bytes that stand in the entry itself.
+    Inline(Vec<u8>),
+    /// A skip list: the address of its last block, and its size in bytes.
+    List { head: u32, size: u32 },
+}
+
+/// What a path leads to, and the contents of a file.
+#[derive(Drop)]
+pub struct FoundFile {
+    pub finding: Finding,
+    /// None where no file stands there.
+    pub contents: Option<FileContents>,
+}
+
+// The contents of a file whose slot stands there, in a block at hand.
+fn contents_of_slot<D: BlockDevice>(
+    alloc: Global,
+    thread: &mut Thread<D>,
+    slot: Spot,
+    contents: Contents,
+) -> Result<FileContents, Error>
+    requires works { thread.old.failed ≡ false }
+    requires at_hand { IsSome (at_hand thread.old slot.pair) }
+    requires file { (held : Slot) × IsFileAt thread.old.kept slot contents held }
+    ensures is { (held : Slot) → IsFileAt thread.old.kept slot contents held → IfOk result (AreContentsOf held.struct) }
+    ensures no_call { thread.new.kept ≡ thread.old.kept }
+    ensures reading { IsReading thread.old thread.new result }
+{
+    match contents {
+        Contents::Inline { len } => {
+            let bytes = inline_at(alloc, thread, slot, 0, len)?;
+            Ok(FileContents::Inline(bytes))
+        }
+        Contents::List { head, size } => Ok(FileContents::List { head, size }),
+    }
+}
+
+/// What a path leads to, and the contents of a file there. No more reads than the directories above
+/// the path have pairs, and none where all these pairs are at hand.
+///
+/// `root` is the number of the root directory's first pair. `Io` where a read failed, and `NoMemory`
+/// where room isn't granted.
+pub fn file_at<D: BlockDevice>(
+    alloc: Global,
+    thread: &mut Thread<D>,
+    root: usize,
+    path: &Path<'_>,
+) -> Result<FoundFile, Error>
+    requires works { thread.old.failed ≡ false }
+    requires accepted { IsAccepted thread.old.kept.disk thread.old.kept.pairs }
+    requires root { root ≡ superblocks_before thread.old.kept.pairs }
+    ensures found { IfOk result (λ found. Finds (tree_in thread.old.kept.disk thread.old.kept.pairs) path.now found.finding) }
+    ensures contents { IfOk result (λ found. AreFoundAt thread.old.kept path.now found.contents) }
+    ensures few { reads thread.new.kept.history ≤ reads thread.old.kept.history + sum_by (pairs_of_path thread.old.kept.pairs) (parents path.now) }
+    ensures kept { AreOnHand thread.old (parents path.now) → reads thread.new.kept.history ≡ reads thread.old.kept.history }
+    ensures reading { IsReading thread.old thread.new result }
+{
+    let shown = shown_at(alloc, thread, root, path)?;
+    // By its sizes a list has as many bytes as its entry says.
+    let _device = thread.device();
+    let finding = finding_of(shown);
+    let Some((slot, contents)) = file_of(shown) else {
+        return Ok(FoundFile {
+            finding,
+            contents: None,
+        });
+    };
+    let contents = contents_of_slot(alloc, thread, slot, contents)?;
+    Ok(FoundFile {
+        finding,
+        contents: Some(contents),
+    })
+}
+
+/// Some of the bytes of a file with these contents: so many from a position on, or up to their end.
+/// The position and how many they are come to less than 2^32. No reads where they stand in the
+/// entry.
+///
+/// `Io` where a read failed, and `NoMemory` where room isn't granted.
+pub fn bytes_of<D: BlockDevice>(
+    alloc: Global,
+    thread: &mut Thread<D>,
+    contents: &FileContents,
+    position: u32,
+    count: usize,
+) -> Result<Vec<u8>, Error>
+    requires works { thread.old.failed ≡ false }
+    requires fits { FitsEntry contents.now }
+    requires list { IsListIfCtz thread.old.kept.disk (struct_of contents.now) }
+    ensures bytes { (path : ModelPath) → AreContentsAt thread.old.kept.pairs path contents.now → IfOk result (λ v. v.items ≡ take count (drop position (bytes_at (tree_in thread.old.kept.disk thread.old.kept.pairs path)))) }
+    ensures end { IfOk result (λ v. position + length v.items < 2 ^ 32) }
+    ensures none { (own : List ℕ) → struct_of contents.now ≡ Inline own → thread.new ≡ thread.old }
+    ensures reading { IsReading thread.old thread.new result }
+{
+    match contents {
+        FileContents::Inline(bytes) => Ok(copied_from(alloc, bytes, position, count)?),
+        FileContents::List { head, size } => {
+            list_from(alloc, thread, *head, *size, position, count)
+        }
+    }
+}

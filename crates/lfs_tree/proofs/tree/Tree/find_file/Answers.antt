@@ -1,0 +1,26 @@
+use Rattle.std.proofs.Common.{subst, sym}
+use Rattle.std.specs.Prelude.{IfOk}
+use Rattle.lfs_model.specs.Discipline.{parents}
+use Rattle.lfs_thread.specs.Kept.{State}
+use Rattle.lfs_lookup.specs.FileContents.{AreFoundAt}
+use Rattle.lfs_tree.specs.Reads.{ReadsOnce}
+use Rattle.lfs_tree.specs.Seen.{Seen, kept_of}
+use Rattle.lfs_tree.proofs.Asking.{asking, held, rooted_held}
+use Rattle.lfs_tree.proofs.tree.Tree.find_file.Goals as goal
+
+pub invariant_of-self : goal.invariant_of-self
+invariant_of-self g c =
+    held c.self.inside.thread c.file_at-found.new.thread c.self.inside.root c.self.inside.is_writable (rooted_held c.self.inside.thread c.self.inside.root c.self.inside.is_writable c.args.self.now c.self.invariant c.self.view_is c.requires) c.file_at-found.result c.note_error.new.thread c.note_error.ensures c.file_at-found.ensures.reading
+
+pub returns-clause-asks : goal.returns-clause-asks
+returns-clause-asks g c =
+    asking c.self.inside.thread c.file_at-found.new.thread c.self.inside.root c.self.inside.is_writable (rooted_held c.self.inside.thread c.self.inside.root c.self.inside.is_writable c.args.self.now c.self.invariant c.self.view_is c.requires) c.args.self.now c.file_at-found.result c.note_error.new.thread c.self.view_is c.note_error.ensures c.file_at-found.ensures.reading
+
+pub returns-clause-contents : goal.returns-clause-contents
+returns-clause-contents g c =
+    subst (λ (s : Seen). IfOk c.file_at-found.result (λ found. AreFoundAt (kept_of s) c.args.path.now found.contents)) c.self.view_is c.file_at-found.ensures.contents
+
+pub returns-clause-few : goal.returns-clause-few
+returns-clause-few g c =
+    subst (λ (t : State). ReadsOnce (parents c.args.path.now) c.args.self.now t.kept.history) (sym c.note_error.ensures)
+    (subst (λ (s : Seen). ReadsOnce (parents c.args.path.now) s c.file_at-found.new.thread.kept.history) c.self.view_is (record { few = c.file_at-found.ensures.few; none = c.file_at-found.ensures.kept }))

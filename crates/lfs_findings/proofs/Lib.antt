@@ -4,3 +4,6 @@ pub mod Along
 pub mod Looking
 pub mod RootPlaces
 pub mod HeldPlaces
+pub mod Counts
+pub mod Reordered
+pub mod Judged

@@ -1,5 +1,5 @@
 -- Which rules are broken by the pairs of a thread, without the attributes of their slots.
-use Rattle.std.specs.Prelude.{ℕ, ◌≡◌, ◌≢◌, ◌⊎◌, ◌<◌, ◌≤◌, true, false, List, length, slice_get, Some}
+use Rattle.std.specs.Prelude.{ℕ, ◌≡◌, ◌⊎◌, ◌<◌, ◌≤◌, true, false, List, length, slice_get, Some}
 use Rattle.lfs_model.specs.Disk.{Disk, block_count}
 use Rattle.lfs_model.specs.EntryTypes.{SuperblockFields, superblock_at}
 use Rattle.lfs_model.specs.Names.{is_name}
@@ -9,16 +9,14 @@ use Rattle.lfs_model.specs.View.{Suits, first_slots}
 use Rattle.lfs_findings.specs.declared.finding.Finding.{Finding}
 use Rattle.lfs_findings.specs.declared.finding.Finding.TheVariants as finding
 use Rattle.lfs_findings.specs.declared.finding.Place.{Place}
+use Rattle.lfs_findings.specs.Stated.{IsUnlike}
 use Rattle.lfs_findings.specs.declared.finding.Stated.{Stated}
-use Rattle.lfs_findings.specs.declared.finding.Stated.TheVariants as stated
 
 -- ---- superblocks
 
 -- what a superblock's struct says isn't so
 abbrev pub IsMisstated : Disk → SuperblockFields → Stated → Type 0
-IsMisstated disk fields (stated.BlockSize n) = (fields.block_size ≡ n) × (n ≢ disk.block_size)
-IsMisstated disk fields (stated.BlockCount n) = (fields.block_count ≡ n) × (n ≢ block_count disk)
-IsMisstated disk fields (stated.Version n) = (fields.version ≡ n) × (n ≢ 0x00020000)
+IsMisstated disk fields stated = IsUnlike disk.block_size (block_count disk) fields stated
 
 -- a superblock's struct: 24 bytes in the slot
 abbrev pub HasFields : Struct → SuperblockFields → Type 0

@@ -1,8 +1,11 @@
 pub mod Held
 pub mod HeldSeen
 pub mod Leading
+pub mod Stated
 pub mod Broken
 pub mod Entries
 pub mod Found
 pub mod Device
 pub mod Reading
+pub mod Summary
+pub mod Verdict

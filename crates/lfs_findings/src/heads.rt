@@ -13,6 +13,7 @@ ghost use Rattle.lfs_findings.specs.HeldSeen.{held_seen, pair_seen, pairs_seen, 
 use crate::finding::{Finding, Stated};
 use crate::held::{HeldPair, HeldSlot, Struct};
 use crate::roots::starts_with_superblock;
+use crate::stating::unlike;
 use lfs_device::Geometry;
 use lfs_tag::{Superblock, superblock_of};
 
@@ -42,16 +43,7 @@ fn fields_in(bytes: &[u8]) -> Option<Superblock>
 pub(crate) fn misstated(geometry: &Geometry, fields: &Superblock) -> Option<Stated>
     ensures { IfSome result (λ stated. (disk : Disk) → HasSizes disk geometry.now → IsMisstated disk (superblock_seen fields.now) stated) }
 {
-    if fields.block_size != geometry.block_size {
-        return Some(Stated::BlockSize(fields.block_size));
-    }
-    if fields.block_count != geometry.block_count {
-        return Some(Stated::BlockCount(fields.block_count));
-    }
-    if fields.version != Superblock::VERSION {
-        return Some(Stated::Version(fields.version));
-    }
-    None
+    unlike(geometry.block_size, geometry.block_count as usize, fields)
 }
 
 // What is wrong with the fields of the superblock in a pair of the chain.

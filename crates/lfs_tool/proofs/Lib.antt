@@ -8,6 +8,7 @@ mod KnownBytes
 pub mod Writers
 mod BlockReads
 mod Images
+mod Checks
 mod Mounts
 mod Walked
 mod Excerpts

@@ -13,3 +13,5 @@ pub mod Listed
 pub mod Unpacked
 pub mod Carried
 pub mod Made
+pub mod Checked
+pub mod CheckedLines

@@ -1,7 +1,7 @@
 -- How a run of the program ends, and what it shows then.
-use Rattle.std.specs.Prelude.{ℕ, ◌≡◌, ◌⊎◌, true, false, List, None, IfSome}
+use Rattle.std.specs.Prelude.{ℕ, ◌≡◌, ◌⊎◌, Bool, true, false, List, None, IfSome}
 use Rattle.std.specs.Io.KnownBytes.{Appends}
-use Rattle.lfs_tool_line.specs.Matches.{HasOneMode, HasOrder, IsFaultOf, Parses, rows}
+use Rattle.lfs_tool_line.specs.Matches.{HasOneMode, HasOrder, IsFaultOf, Parses, is_checked, rows}
 use Rattle.lfs_tool.specs.Ending.{own_line, shows_help, status_of}
 use Rattle.lfs_tool.specs.declared.errors.Fault.{Fault}
 use Rattle.lfs_tool.specs.declared.errors.Fault.TheVariants.{Line, Tool}
@@ -25,7 +25,13 @@ pub record IsShown {W : Type 0} (g : Ghosts W) (f : Fault) (code : ℕ) (old new
   pub text : own_line f ≡ None → shows_help f ≡ false → HasShown g old new
   pub help : shows_help f ≡ true → new ≡ old
 
+-- the status of a run that met no fault: 1 where an image was checked that isn't accepted
+abbrev pub status_for : Bool → ℕ
+status_for true = 0
+status_for false = 1
+
 -- what was asked is done, and no mistake is written; or a fault is shown
 abbrev pub IsAnswered : {W : Type 0} → Ghosts W → List (List ℕ) → ℕ → W → W → Type 0
 IsAnswered g words code old new =
-    (HasLine words × (code ≡ 0) × (new ≡ old)) ⊎ ((f : Fault) × (IsFaultIn words f × IsShown g f code old new))
+    (HasLine words × ((accepted : Bool) × ((code ≡ status_for accepted) × (is_checked (rows words) ≡ false → accepted ≡ true))) × (new ≡ old))
+    ⊎ ((f : Fault) × (IsFaultIn words f × IsShown g f code old new))

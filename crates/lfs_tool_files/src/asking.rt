@@ -1,14 +1,16 @@
-// Images that are listed and unpacked with the sizes of a command line.
+// Images that are listed, checked and unpacked with the sizes of a command line.
 
-ghost use Rattle.std.specs.Prelude.{◌≡◌, ◌≢◌, ◌⊎◌, IfErr, IfSome, IsErrOf, OnErr, OnOk};
+ghost use Rattle.std.specs.Prelude.{◌≡◌, ◌≢◌, ◌⊎◌, IfErr, IfOk, IfSome, IsErrOf, OnErr, OnOk};
 ghost use Rattle.std.specs.Io.KnownBytes.{Appends};
 ghost use Rattle.lfs_tool.specs.Known.{AppendsBeginning, IsListError};
 ghost use Rattle.lfs_tool.specs.Listed.{Lists, Refuses};
 ghost use Rattle.lfs_tool.specs.Unpacked.{IsBegunOfImage, IsDoneOfImage};
+ghost use Rattle.lfs_tool.specs.Checked.{IsCheckedAs, is_accepted};
+ghost use Rattle.lfs_tool.specs.CheckedLines.{checked_text};
 ghost use Rattle.lfs_tool.specs.Told.{IsReadToEnd, Tells, TellsWriter};
 
 use lfs_device::Error;
-use lfs_tool::{Line, Reader, ToolError, Writer, list, unpack};
+use lfs_tool::{Line, Reader, ToolError, Writer, check, list, unpack};
 use lfs_tool_folders::Target;
 use std::alloc::Global;
 
@@ -37,6 +39,33 @@ pub fn list_asked<R: Reader, W: Writer>(
     ensures read { ¬ IsErrOf result ToolError.Input → ¬ IsErrOf result (ToolError.Fs Error.NoMemory) → IsReadToEnd (R.remaining image.old) (R.remaining image.new) }
 {
     list(alloc, image, line.block_size, line.page, out)
+}
+
+/// Checks an image with the sizes that a command line gives, in bytes, and answers whether it is
+/// accepted.
+///
+/// # Errors
+/// Those of `lfs_tool::check`, at the same times.
+pub fn check_asked<R: Reader, W: Writer>(
+    alloc: Global,
+    line: &Line<'_>,
+    image: &mut R,
+    out: &mut W,
+) -> Result<bool, ToolError>
+    ensures ok { IfOk result (λ accepted. IfSome (R.remaining image.old) (λ bytes.
+        (checked : _) × (IsCheckedAs line.now.block_size line.now.page bytes checked × (accepted ≡ is_accepted checked) × Appends (W.contents out.old) (W.contents out.new) (checked_text checked)))) }
+
+    // The writer isn't touched, unless it fails: then a beginning of the lines may be written.
+    ensures writer { TellsWriter W.Writer out.old out.new result }
+    ensures beginning { IsErrOf result ToolError.Output → IfSome (R.remaining image.old) (λ bytes.
+        (checked : _) × (IsCheckedAs line.now.block_size line.now.page bytes checked × AppendsBeginning (W.contents out.old) (W.contents out.new) (checked_text checked))) }
+
+    // When each other error comes.
+    ensures refused { (e : _) → IsErrOf result (ToolError.Fs e) → e ≡ Error.NoMemory }
+    ensures input { Tells ToolError.Input (R.faults image.old) (R.faults image.new) result }
+    ensures read { ¬ IsErrOf result ToolError.Input → ¬ IsErrOf result (ToolError.Fs Error.NoMemory) → IsReadToEnd (R.remaining image.old) (R.remaining image.new) }
+{
+    check(alloc, image, line.block_size, line.page, out)
 }
 
 /// Unpacks an image with the sizes that a command line gives, in bytes.

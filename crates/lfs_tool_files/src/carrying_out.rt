@@ -1,10 +1,10 @@
 // What a command line asks for, at its places.
 
-ghost use Rattle.std.specs.Prelude.{◌≡◌, ◌≢◌, IsErrOf, OnOk, suc};
+ghost use Rattle.std.specs.Prelude.{◌≡◌, ◌≢◌, IfOk, IsErrOf, OnOk, false, suc, true};
 ghost use Rattle.lfs_tool.specs.Told.{TellsWriter};
-ghost use Rattle.lfs_tool_files.specs.Placed.{By, FailsAt, FailsToRead, ListsAt, MakesAt, RefusesAt, RefusesToMake, UnpacksAt};
+ghost use Rattle.lfs_tool_files.specs.Placed.{By, ChecksAt, EndsWell, FailsAt, FailsToRead, ListsAt, MakesAt, RefusesAt, RefusesToMake, UnpacksAt, writes_lines};
 
-use crate::{Places, create_asked, list_asked, unpack_asked};
+use crate::{Places, check_asked, create_asked, list_asked, unpack_asked};
 use lfs_device::Error;
 use lfs_tool::{Line, Mode, ToolError, Writer};
 use std::alloc::Global;
@@ -23,6 +23,24 @@ fn list_at<P: Places, W: Writer>(
 {
     match places.image(line.image) {
         Ok(mut image) => list_asked(alloc, line, &mut image, out),
+        Err(error) => Err(ToolError::Fs(error)),
+    }
+}
+
+// Checks the image.
+fn check_at<P: Places, W: Writer>(
+    alloc: Global,
+    places: &P,
+    line: &Line<'_>,
+    out: &mut W,
+) -> Result<bool, ToolError>
+    ensures checked { IfOk result (λ accepted. ChecksAt P.image_path P.Image.remaining line.now accepted (W.contents out.old) (W.contents out.new)) }
+    ensures writer { TellsWriter W.Writer out.old out.new result }
+    ensures refused { (e : _) → IsErrOf result (ToolError.Fs e) → e ≡ Error.NoMemory }
+    ensures input { IsErrOf result ToolError.Input → FailsAt P.image_path P.Image.faults line.now.image.now }
+{
+    match places.image(line.image) {
+        Ok(mut image) => check_asked(alloc, line, &mut image, out),
         Err(error) => Err(ToolError::Fs(error)),
     }
 }
@@ -61,35 +79,41 @@ fn unpack_at<P: Places>(
     unpack_asked(alloc, line, &mut image, &mut target)
 }
 
-// Does what a command line asks for.
+// Does what a command line asks for. False where it is a check, of an image that isn't accepted.
 pub(crate) fn carry_out<P: Places, W: Writer>(
     alloc: Global,
     places: &P,
     line: &Line<'_>,
     out: &mut W,
-) -> Result<(), ToolError>
-    ensures writer { line.now.mode ≡ Mode.List → TellsWriter W.Writer out.old out.new result }
-    ensures unlisted { line.now.mode ≢ Mode.List → out.new ≡ out.old }
-    ensures done { OnOk result (By line.now.mode
+) -> Result<bool, ToolError>
+    ensures writer { writes_lines line.now.mode ≡ true → TellsWriter W.Writer out.old out.new result }
+    ensures unlisted { writes_lines line.now.mode ≡ false → out.new ≡ out.old }
+    ensures done { IfOk result (λ accepted. EndsWell line.now.mode accepted × By line.now.mode
         (ListsAt P.image_path P.Image.remaining line.now (W.contents out.old) (W.contents out.new) × (W.pending out.new ≡ 0))
+        (ChecksAt P.image_path P.Image.remaining line.now accepted (W.contents out.old) (W.contents out.new) × (W.pending out.new ≡ 0))
         (MakesAt P.folder_path P.Folder.shown P.new_image_path P.NewImage.contents P.NewImage.pending line.now)
         (UnpacksAt P.image_path P.Image.remaining P.new_folder_path P.NewFolder.done line.now)) }
     ensures refused { (e : _) → IsErrOf result (ToolError.Fs e) → e ≢ Error.NoMemory → By line.now.mode
         (RefusesAt P.image_path P.Image.remaining line.now e)
+        ⊥
         (RefusesToMake P.folder_path P.Folder.shown line.now e)
         (λ _. RefusesAt P.image_path P.Image.remaining line.now e) }
     ensures input { IsErrOf result ToolError.Input → By line.now.mode
+        (FailsAt P.image_path P.Image.faults line.now.image.now)
         (FailsAt P.image_path P.Image.faults line.now.image.now)
         (FailsToRead P.folder_path P.Folder.faults P.Folder.shown)
         (λ _. FailsAt P.image_path P.Image.faults line.now.image.now) }
     ensures output { IsErrOf result ToolError.Output → By line.now.mode
         (W.faults out.new ≡ suc (W.faults out.old))
+        (W.faults out.new ≡ suc (W.faults out.old))
         (λ _. FailsAt P.new_image_path P.NewImage.faults line.now.image.now)
         (FailsAt P.new_folder_path P.NewFolder.faults) }
 {
     match line.mode {
-        Mode::List => list_at(alloc, places, line, out),
-        Mode::Create(folder) => create_at(alloc, places, line, folder),
-        Mode::Unpack(folder) => unpack_at(alloc, places, line, folder),
+        Mode::Check => return check_at(alloc, places, line, out),
+        Mode::List => list_at(alloc, places, line, out)?,
+        Mode::Create(folder) => create_at(alloc, places, line, folder)?,
+        Mode::Unpack(folder) => unpack_at(alloc, places, line, folder)?,
     }
+    Ok(true)
 }

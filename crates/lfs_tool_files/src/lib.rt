@@ -10,7 +10,7 @@ mod places;
 mod real_places;
 mod running;
 
-pub use asking::{list_asked, unpack_asked};
+pub use asking::{check_asked, list_asked, unpack_asked};
 pub use creating::create_asked;
 pub use new_image::NewImage;
 pub use old_image::OldImage;

@@ -44,11 +44,14 @@ flag_at id rows = is_flag (one_of id rows)
 abbrev pub is_listed : List Row → Bool
 is_listed rows = flag_at (codes "list") rows
 
+abbrev pub is_checked : List Row → Bool
+is_checked rows = flag_at (codes "check") rows
+
 abbrev pub modes_given : List Row → List Bool
 modes_given rows = is_some (first_of (codes "create") rows)
-    ∷ is_some (first_of (codes "unpack") rows) ∷ is_listed rows ∷ []
+    ∷ is_some (first_of (codes "unpack") rows) ∷ is_listed rows ∷ is_checked rows ∷ []
 
--- how many of -c, -u and -l are given
+-- how many of -c, -u, -l and --check are given
 abbrev pub mode_count : List Row → ℕ
 mode_count rows = count_by (λ b. b) (modes_given rows)
 
@@ -60,6 +63,7 @@ abbrev pub IsModeOf : List Row → Mode → Type 0
 IsModeOf rows (mode.Create dir) = first_of (codes "create") rows ≡ Some dir.now
 IsModeOf rows (mode.Unpack dir) = first_of (codes "unpack") rows ≡ Some dir.now
 IsModeOf rows mode.List = is_listed rows ≡ true
+IsModeOf rows mode.Check = is_checked rows ≡ true
 
 -- the order of names that a text names
 abbrev pub order_named : Text → Option NameOrder

@@ -2,7 +2,7 @@
 
 ghost use Rattle.std.specs.Prelude.{◌≡◌, IfOk, codes, map, false};
 ghost use Rattle.clap.specs.Words.{FailsBy, app_of, found_of, new_app, rows_of, rule_of, with_rule};
-ghost use Rattle.lfs_tool_line.specs.Command.{folder, image_rule, list_rule, mklittlefs, number, order_rule, with_modes, with_sizes, with_version};
+ghost use Rattle.lfs_tool_line.specs.Command.{check_rule, folder, image_rule, list_rule, mklittlefs, number, order_rule, with_modes, with_sizes, with_version};
 ghost use Rattle.lfs_tool_line.specs.Matches.{IsComplete, faults, rows};
 
 use clap::{Arg, ArgAction, ArgMatches, Command, Error, value_parser};
@@ -19,6 +19,7 @@ Examples:
   mklittlefs -c settings disk.img        makes an image of the folder settings
   mklittlefs -l disk.img                 lists what is in it, a line for each
   mklittlefs -u copy disk.img            puts what is in it into the folder copy
+  mklittlefs --check disk.img            says what is wrong with it, or what is in it
   mklittlefs -c settings -b 1024 -p 128 -s 262144 disk.img
   mklittlefs -l -b 1024 -p 128 disk.img  one of 256 KiB with other blocks
   mklittlefs -c settings --order shorter-first disk.img
@@ -27,13 +28,13 @@ Sizes:
   -b  from 1024 to 65536, a multiple of -p
   -p  8, 16, 32, 64, 128, 256 or 512, and at most an eighth of -b
   -s  a multiple of -b: from 2 to 65536 blocks, and at most 268435456
-  With -l and -u the size is that of IMAGE, and -b is the one that it was made
-  with.
+  With -l, -u and --check the size is that of IMAGE, and -b is the one that it
+  was made with.
 
 Order:
   Names stand by their bytes. Where one begins another, as a and ab, either the
   longer or the shorter comes first: ORDER is longer-first, as in images of
-  littlefs itself, or shorter-first. -l and -u read both, and list alike.";
+  littlefs itself, or shorter-first. -l, -u and --check read both.";
 
 fn folder_arg<'a>(alloc: Global, id: &'a str, short: char, help: &'a str) -> Arg<'a>
     ensures rule { rule_of result ≡ folder id.entry.now short }
@@ -113,6 +114,22 @@ fn with_list<'a>(alloc: Global, command: Command<'a>) -> Result<Command<'a>, All
     command.arg(list_arg(alloc))
 }
 
+fn check_arg<'a>(alloc: Global) -> Arg<'a>
+    ensures rule { rule_of result ≡ check_rule }
+    ensures local { result.global ≡ false }
+{
+    Arg::new(alloc, "check")
+        .long("check")
+        .action(ArgAction::SetTrue)
+        .help("Say what is wrong with IMAGE, or what is in it")
+}
+
+fn with_check<'a>(alloc: Global, command: Command<'a>) -> Result<Command<'a>, AllocError>
+    ensures { IfOk result (λ c. app_of c ≡ with_rule (app_of command.entry) check_rule) }
+{
+    command.arg(check_arg(alloc))
+}
+
 fn order_arg<'a>(alloc: Global) -> Arg<'a>
     ensures rule { rule_of result ≡ order_rule }
     ensures local { result.global ≡ false }
@@ -154,9 +171,9 @@ fn bare_command<'a>(alloc: Global) -> Command<'a>
 {
     Command::new(alloc, "mklittlefs")
         .version(VERSION)
-        .about("Creates, unpacks or lists an image of a littlefs file system.")
+        .about("Creates, unpacks, lists or checks an image of a littlefs file system.")
         .override_usage(
-            "mklittlefs (-c DIR | -u DIR | -l) [-b N] [-p N] [-s N] [--order ORDER] IMAGE",
+            "mklittlefs (-c DIR | -u DIR | -l | --check) [-b N] [-p N] [-s N] [--order ORDER] IMAGE",
         )
         .after_help(EXAMPLES)
 }
@@ -170,6 +187,7 @@ fn with_modes<'a>(alloc: Global, command: Command<'a>) -> Result<Command<'a>, Al
     let command = with_folder(alloc, command, "create", 'c', create)?;
     let command = with_folder(alloc, command, "unpack", 'u', unpack)?;
     let command = with_list(alloc, command)?;
+    let command = with_check(alloc, command)?;
     Ok(command)
 }
 

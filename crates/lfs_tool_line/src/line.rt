@@ -18,6 +18,8 @@ pub enum Mode<'a> {
     Unpack(&'a str),
     /// List the image.
     List,
+    /// Check the image.
+    Check,
 }
 
 /// What a command line asks for. Its numbers are as they were given: no size is checked here.
@@ -42,7 +44,7 @@ pub enum LineError {
     /// The parser's own error, which also brings a request for help, and want of memory.
     #[error(transparent)]
     Parser(clap::Error),
-    /// None of `-c`, `-u` and `-l` is given, or more than one is.
+    /// None of `-c`, `-u`, `-l` and `--check` is given, or more than one is.
     #[error("error: give exactly one of -c, -u, -l")]
     Modes,
     /// The order of names is neither `longer-first` nor `shorter-first`.
@@ -83,10 +85,12 @@ fn mode_of<'a>(matches: &ArgMatches<'a>) -> Option<Mode<'a>>
     let create = text_in(matches, "create");
     let unpack = text_in(matches, "unpack");
     let list = flag_in(matches, "list");
-    match (create, unpack, list) {
-        (Some(dir), None, false) => Some(Mode::Create(dir)),
-        (None, Some(dir), false) => Some(Mode::Unpack(dir)),
-        (None, None, true) => Some(Mode::List),
+    let check = flag_in(matches, "check");
+    match (create, unpack, list, check) {
+        (Some(dir), None, false, false) => Some(Mode::Create(dir)),
+        (None, Some(dir), false, false) => Some(Mode::Unpack(dir)),
+        (None, None, true, false) => Some(Mode::List),
+        (None, None, false, true) => Some(Mode::Check),
         _ => None,
     }
 }
@@ -133,8 +137,8 @@ fn line_of<'a>(matches: &ArgMatches<'a>, mode: Mode<'a>, order: NameOrder) -> Li
 }
 
 /// Reads the words of a command line, the program's name first:
-/// `mklittlefs (-c DIR | -u DIR | -l) [-b N] [-p N] [-s N] [--order ORDER] IMAGE`. The long names are
-/// `--create`, `--unpack`, `--list`, `--block`, `--page` and `--size`.
+/// `mklittlefs (-c DIR | -u DIR | -l | --check) [-b N] [-p N] [-s N] [--order ORDER] IMAGE`. The long
+/// names are `--create`, `--unpack`, `--list`, `--block`, `--page` and `--size`.
 ///
 /// A number is decimal, from 0 to 4294967295. Where an option isn't given, a block has 4096 bytes, a
 /// page 256 and the image 65536, and the longer names come first. ORDER is `longer-first` or `shorter-first`; it is read
@@ -142,8 +146,8 @@ fn line_of<'a>(matches: &ArgMatches<'a>, mode: Mode<'a>, order: NameOrder) -> Li
 ///
 /// # Errors
 /// `LineError::Parser` where the parser refuses the words, where they ask for help or for the version,
-/// or where a growth was refused. `LineError::Modes` where it takes them and not exactly one of `-c`, `-u` and `-l` is
-/// given, and `LineError::Order` where ORDER is neither.
+/// or where a growth was refused. `LineError::Modes` where it takes them and not exactly one of `-c`, `-u`, `-l` and
+/// `--check` is given, and `LineError::Order` where ORDER is neither.
 pub fn read_line<'a, S: AsStr>(alloc: Global, words: &'a [S]) -> Result<Line<'a>, LineError>
     ensures ok { IfOk result (λ line. Parses (map S.text words.entry.now)
         × IsLineOf (rows (map S.text words.entry.now)) line) }

@@ -482,6 +482,58 @@ const LINKED: [Run; 3] = [
     },
 ];
 
+// Runs in which an image is checked.
+const CHECKED: [Run; 5] = [
+    Run {
+        before: &[],
+        words: &[
+            &["-c", "runs/files", "runs/image"],
+            &["--check", "runs/image"],
+        ],
+        status: 0,
+        out: "ok\nfiles 2\ndirectories 0\nused 2 of 16 blocks\nfree 14\norder either\nrecover no\nwritable yes\n",
+        err: "",
+        behind: &[("runs/image", Behind::Len(65536))],
+    },
+    // the sizes that are given aren't those that it was made with
+    Run {
+        before: &[],
+        words: &[
+            &["-c", "runs/files", "runs/image"],
+            &["--check", "runs/image", "-b", "8192"],
+        ],
+        status: 1,
+        out: "corrupt\nsuperblock: block size 4096, given 8192\n",
+        err: "",
+        behind: &[("runs/image", Behind::Len(65536))],
+    },
+    // a file that is no image, one that isn't there, and a folder
+    Run {
+        before: &[],
+        words: &[&["--check", "runs/image"]],
+        status: 1,
+        out: "corrupt\nno image of blocks of 4096 bytes and pages of 256\n",
+        err: "",
+        behind: OLD_IMAGE,
+    },
+    Run {
+        before: &[],
+        words: &[&["--check", "runs/none"]],
+        status: 3,
+        out: "",
+        err: "error: input\n",
+        behind: OLD_IMAGE,
+    },
+    Run {
+        before: &[],
+        words: &[&["--check", "runs/files"]],
+        status: 3,
+        out: "",
+        err: "error: input\n",
+        behind: OLD_IMAGE,
+    },
+];
+
 fn make<R: Files + AllocGlobal>(rt: &R, path: &str, before: Before) -> io::Result<()> {
     match before {
         Before::File(text) => fs::write(rt, path, text.as_bytes()),
@@ -584,6 +636,7 @@ fn runs(rt: HostRuntime) -> Result<(), Fail> {
     assert!(rt; all_hold(&rt, &READ)?);
     assert!(rt; all_hold(&rt, &UNPACKED)?);
     assert!(rt; all_hold(&rt, &LINKED)?);
+    assert!(rt; all_hold(&rt, &CHECKED)?);
     fs::remove_dir_all(&rt, "runs")?;
     Ok(())
 }

@@ -7,7 +7,18 @@ use std::alloc::{AllocError, Global};
 use std::test::Fail;
 
 // The words of command lines, and what they say.
-const LINES: [(&[&str], Line<'static>); 4] = [
+const LINES: [(&[&str], Line<'static>); 5] = [
+    (
+        &["mklittlefs", "--check", "-b1024", "disk.img"],
+        Line {
+            mode: Mode::Check,
+            block_size: 1024,
+            page: 256,
+            size: 65536,
+            order: NameOrder::LongerFirst,
+            image: "disk.img",
+        },
+    ),
     (
         &["mklittlefs", "-l", "disk.img"],
         Line {
@@ -100,9 +111,9 @@ const VERSION: &str =
     "mklittlefs 1.0.0 (littlefs on-disk version 2.0, rattle-kit-13f logic dac8208d650f15bf)\n";
 
 const HELP: &str = "\
-Creates, unpacks or lists an image of a littlefs file system.
+Creates, unpacks, lists or checks an image of a littlefs file system.
 
-Usage: mklittlefs (-c DIR | -u DIR | -l) [-b N] [-p N] [-s N] [--order ORDER] IMAGE
+Usage: mklittlefs (-c DIR | -u DIR | -l | --check) [-b N] [-p N] [-s N] [--order ORDER] IMAGE
 
 Arguments:
   <IMAGE>  The file with the image
@@ -111,6 +122,7 @@ Options:
   -c, --create <DIR>   Create IMAGE from the folder DIR
   -u, --unpack <DIR>   Unpack IMAGE into the folder DIR
   -l, --list           List the files and folders of IMAGE
+      --check          Say what is wrong with IMAGE, or what is in it
   -b, --block <N>      Size of a block in bytes [default: 4096]
   -p, --page <N>       Size of a page in bytes [default: 256]
   -s, --size <N>       Size of the image in bytes, with -c [default: 65536]
@@ -122,6 +134,7 @@ Examples:
   mklittlefs -c settings disk.img        makes an image of the folder settings
   mklittlefs -l disk.img                 lists what is in it, a line for each
   mklittlefs -u copy disk.img            puts what is in it into the folder copy
+  mklittlefs --check disk.img            says what is wrong with it, or what is in it
   mklittlefs -c settings -b 1024 -p 128 -s 262144 disk.img
   mklittlefs -l -b 1024 -p 128 disk.img  one of 256 KiB with other blocks
   mklittlefs -c settings --order shorter-first disk.img
@@ -130,23 +143,25 @@ Sizes:
   -b  from 1024 to 65536, a multiple of -p
   -p  8, 16, 32, 64, 128, 256 or 512, and at most an eighth of -b
   -s  a multiple of -b: from 2 to 65536 blocks, and at most 268435456
-  With -l and -u the size is that of IMAGE, and -b is the one that it was made
-  with.
+  With -l, -u and --check the size is that of IMAGE, and -b is the one that it
+  was made with.
 
 Order:
   Names stand by their bytes. Where one begins another, as a and ab, either the
   longer or the shorter comes first: ORDER is longer-first, as in images of
-  littlefs itself, or shorter-first. -l and -u read both, and list alike.
+  littlefs itself, or shorter-first. -l, -u and --check read both.
 ";
 
 // Words that are no line: the status, what goes to `out`, and what to `err`, if that isn't the parser's
 // own text.
-const REFUSED: [(&[&str], u8, &str, Option<&str>); 15] = [
+const REFUSED: [(&[&str], u8, &str, Option<&str>); 17] = [
     // not exactly one mode
     (&["mklittlefs", "i"], 2, "", Some(MODES)),
     (&["mklittlefs", "-p", "256", "i", "-b0"], 2, "", Some(MODES)),
     (&["mklittlefs", "-l", "-c", "d", "i"], 2, "", Some(MODES)),
     (&["mklittlefs", "-l", "-u", "d", "i"], 2, "", Some(MODES)),
+    (&["mklittlefs", "-l", "--check", "i"], 2, "", Some(MODES)),
+    (&["mklittlefs", "--check", "-cd", "i"], 2, "", Some(MODES)),
     // an order that is none
     (
         &["mklittlefs", "-l", "--order", "first", "i"],

@@ -1,6 +1,6 @@
 // What the tool shows, as text.
 
-use lfs_tool::{Fault, Reader, ToolError, Watched, list, report, unpack};
+use lfs_tool::{Fault, Reader, ToolError, Watched, check, list, report, unpack};
 use lfs_tool_folders::{Done, MemoryTarget};
 use std::alloc::{AllocError, Global};
 
@@ -47,6 +47,21 @@ pub(crate) fn listed<R: Reader>(
     let mut out = Watched::new(Vec::new(alloc));
     let result = list(alloc, image, block_size, page, &mut out);
     ended(alloc, out.into_inner(), result)
+}
+
+// What checking an image prints.
+pub(crate) fn checked<R: Reader>(
+    alloc: Global,
+    image: &mut R,
+    block_size: u32,
+    page: u32,
+) -> Result<Vec<u8>, AllocError> {
+    let mut out = Watched::new(Vec::new(alloc));
+    let answer = match check(alloc, image, block_size, page, &mut out) {
+        Ok(_) => Ok(()),
+        Err(error) => Err(error),
+    };
+    ended(alloc, out.into_inner(), answer)
 }
 
 fn push_done(text: &mut Vec<u8>, done: &Done) -> Result<(), AllocError> {

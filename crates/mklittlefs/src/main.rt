@@ -1,4 +1,4 @@
-//! mklittlefs: makes an image of a littlefs file system from a folder, unpacks one into a folder, or lists one.
+//! mklittlefs: makes an image of a littlefs file system from a folder, unpacks one into a folder, lists one, or checks one.
 #![tactic(auto)]
 
 use lfs_tool::Watched;

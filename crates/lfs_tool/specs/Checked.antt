@@ -1,0 +1,48 @@
+-- What a check says of an image.
+use Rattle.std.specs.Prelude.{ℕ, ◌≡◌, ◌<◌, ◌≤◌, ◌/◌, Bool, true, false, List, length, Option, Some, None}
+use Rattle.lfs_findings.specs.Found.{IsFound}
+use Rattle.lfs_findings.specs.Stated.{IsStatedIn}
+use Rattle.lfs_findings.specs.Verdict.{IsAcceptedWith, IsRefused, IsVerdict}
+use Rattle.lfs_findings.specs.declared.verdict.Verdict.{Verdict}
+use Rattle.lfs_model.specs.Disk.{Disk, IsImage, disk_of}
+use Rattle.lfs_model.specs.declared.order.NameOrder.{NameOrder}
+use Rattle.lfs_tool.specs.declared.checked.Checked.{Checked}
+use Rattle.lfs_tool.specs.declared.checked.Checked.TheVariants as checked
+use Rattle.lfs_tool.specs.declared.checked.Given.{Given}
+use Rattle.lfs_tool.specs.declared.checked.Reason.{Reason}
+use Rattle.lfs_tool.specs.declared.checked.Reason.TheVariants as reason
+
+-- the bytes are an image, and this holds of its disk, whatever its order of names
+abbrev pub OfDisk : ℕ → ℕ → List ℕ → (Disk → Type 0) → Type 0
+OfDisk block_size page image P = IsImage block_size page image × ((order : NameOrder) → P (disk_of block_size page order image))
+
+-- why the bytes are refused
+abbrev pub IsReason : ℕ → ℕ → List ℕ → Reason → Type 0
+IsReason block_size page image (reason.Stated stated) = IsStatedIn image block_size stated
+IsReason block_size page image reason.NoImage = ¬ IsImage block_size page image
+IsReason block_size page image (reason.Broken finding) = OfDisk block_size page image (λ disk. IsFound disk finding)
+IsReason block_size page image reason.Other = IsImage block_size page image
+
+-- the sizes are those that were given; there are so many whole blocks, unless the bytes are more than an image may have
+pub record IsGiven (block_size page : ℕ) (image : List ℕ) (given : Given) : Type 0 where
+  pub size_is : given.block_size ≡ block_size
+  pub page_is : given.page ≡ page
+  pub count_is : 0 < block_size → length image ≤ 268435456 → given.blocks ≡ length image / block_size
+
+-- the bytes aren't an image that is accepted, in either order of names
+abbrev pub AreRefused : ℕ → ℕ → List ℕ → Type 0
+AreRefused block_size page image = IsImage block_size page image → (order : NameOrder) → IsRefused (disk_of block_size page order image)
+
+-- The bytes are an accepted image, in these orders of names, and have that; or they are refused, and why.
+abbrev pub IsCheckedAs : ℕ → ℕ → List ℕ → Checked → Type 0
+IsCheckedAs block_size page image (checked.Accepted summary orders) = OfDisk block_size page image (λ disk. IsAcceptedWith disk summary orders)
+IsCheckedAs block_size page image (checked.Refused reason given) = AreRefused block_size page image × IsReason block_size page image reason × IsGiven block_size page image given
+
+abbrev pub is_accepted : Checked → Bool
+is_accepted (checked.Accepted summary orders) = true
+is_accepted (checked.Refused reason given) = false
+
+-- the verdict on an image, where the bytes are one
+abbrev pub IsJudged : ℕ → ℕ → List ℕ → Option Verdict → Type 0
+IsJudged block_size page image None = ¬ IsImage block_size page image
+IsJudged block_size page image (Some verdict) = OfDisk block_size page image (λ disk. IsVerdict disk verdict)

@@ -1,0 +1,32 @@
+// What is said of an image.
+
+use lfs_findings::{Finding, Orders, Stated, Summary};
+
+/// The sizes with which an image was looked at: of a block and a page in bytes, and how many whole
+/// blocks there are.
+#[derive(Clone, Copy, Debug, PartialEq, Eq, Drop)]
+pub struct Given {
+    pub block_size: u32,
+    pub page: u32,
+    pub blocks: usize,
+}
+
+/// Why an image isn't accepted.
+#[derive(Drop)]
+pub enum Reason {
+    /// The superblock in block 0 or 1 says something else than was given.
+    Stated(Stated),
+    /// No image of blocks and pages of these sizes has so many bytes.
+    NoImage,
+    /// It breaks this rule.
+    Broken(Finding),
+    /// It breaks a rule that no finding has.
+    Other,
+}
+
+/// Whether an image is accepted, and with what, or why not.
+#[derive(Drop)]
+pub enum Checked {
+    Accepted { summary: Summary, orders: Orders },
+    Refused { reason: Reason, given: Given },
+}

@@ -1,0 +1,326 @@
+// The lines of a checked.
+
+ghost use Rattle.std.specs.Prelude.{◌≡◌, ◌++◌, IfOk, OnOk, codes};
+ghost use Rattle.lfs_model.specs.Listing.{newline};
+ghost use Rattle.lfs_model.specs.Slots.{address_of};
+ghost use Rattle.std.specs.Fmt.{decimal};
+ghost use Rattle.lfs_tool.specs.CheckedLines.{address_text, blocks_text, count_line, finding_text, no_image_text, order_line, pair_text, place_text, range_text, reason_text, recover_line, slot_text, stated_text, summary_text, twice_text, used_line, checked_text, writable_line};
+
+use crate::checked::{Checked, Given, Reason};
+use crate::escape::escape_path;
+use lfs_findings::{Finding, Orders, Place, Stated, Summary};
+use std::alloc::{AllocError, Global};
+use std::io::Write;
+
+// ---- parts of lines
+
+// Adds a text.
+fn push_text(text: &mut Vec<u8>, add: &str) -> Result<(), AllocError>
+    ensures { OnOk result (text.new.items ≡ text.old.items ++ add.now) }
+{
+    text.extend_from_slice(add.as_bytes())?;
+    Ok(())
+}
+
+// Adds a line.
+fn push_line(text: &mut Vec<u8>, line: &str) -> Result<(), AllocError>
+    ensures { OnOk result (text.new.items ≡ text.old.items ++ (line.now ++ newline)) }
+{
+    text.extend_from_slice(line.as_bytes())?;
+    text.push(b'\n')?;
+    Ok(())
+}
+
+// Adds a text and a number behind it.
+fn push_number(text: &mut Vec<u8>, before: &str, number: usize) -> Result<(), AllocError>
+    ensures { OnOk result (text.new.items ≡ text.old.items ++ (before.now ++ decimal number)) }
+{
+    text.extend_from_slice(before.as_bytes())?;
+    if write!(text, "{}", number).is_err() {
+        return Err(AllocError);
+    }
+    Ok(())
+}
+
+// Adds a line with a number behind a text.
+fn push_count(text: &mut Vec<u8>, label: &str, count: usize) -> Result<(), AllocError>
+    ensures { OnOk result (text.new.items ≡ text.old.items ++ count_line label.now count) }
+{
+    push_number(text, label, count)?;
+    text.push(b'\n')?;
+    Ok(())
+}
+
+// ---- an accepted image
+
+fn push_used(text: &mut Vec<u8>, used: u32, blocks: u32) -> Result<(), AllocError>
+    ensures { OnOk result (text.new.items ≡ text.old.items ++ used_line used blocks) }
+{
+    push_two(text, "used ", used as usize, " of ", blocks as usize)?;
+    push_line(text, " blocks")?;
+    Ok(())
+}
+
+fn push_blocks(text: &mut Vec<u8>, summary: &Summary) -> Result<(), AllocError>
+    ensures { OnOk result (text.new.items ≡ text.old.items ++ blocks_text summary.now) }
+{
+    let free = summary.blocks.saturating_sub(summary.used);
+    push_used(text, summary.used, summary.blocks)?;
+    push_count(text, "free ", free as usize)?;
+    Ok(())
+}
+
+fn push_order(text: &mut Vec<u8>, orders: Orders) -> Result<(), AllocError>
+    ensures { OnOk result (text.new.items ≡ text.old.items ++ order_line orders) }
+{
+    match orders {
+        Orders::LongerFirst => push_line(text, "order longer-first"),
+        Orders::ShorterFirst => push_line(text, "order shorter-first"),
+        Orders::Either => push_line(text, "order either"),
+    }
+}
+
+fn push_recover(text: &mut Vec<u8>, recover: bool) -> Result<(), AllocError>
+    ensures { OnOk result (text.new.items ≡ text.old.items ++ recover_line recover) }
+{
+    if recover {
+        push_line(text, "recover yes")
+    } else {
+        push_line(text, "recover no")
+    }
+}
+
+fn push_writable(text: &mut Vec<u8>, writable: bool) -> Result<(), AllocError>
+    ensures { OnOk result (text.new.items ≡ text.old.items ++ writable_line writable) }
+{
+    if writable {
+        push_line(text, "writable yes")
+    } else {
+        push_line(text, "writable no: beyond what this library writes")
+    }
+}
+
+// The lines of an accepted image.
+fn push_summary(text: &mut Vec<u8>, summary: &Summary, orders: Orders) -> Result<(), AllocError>
+    ensures { OnOk result (text.new.items ≡ text.old.items ++ summary_text summary.now orders) }
+{
+    push_line(text, "ok")?;
+    push_count(text, "files ", summary.files)?;
+    push_count(text, "directories ", summary.directories)?;
+    push_blocks(text, summary)?;
+    push_order(text, orders)?;
+    push_recover(text, summary.recover)?;
+    push_writable(text, summary.writable)?;
+    Ok(())
+}
+
+// ---- why one isn't accepted
+
+// Adds two numbers, each with a text in front of it.
+fn push_two(
+    text: &mut Vec<u8>,
+    before: &str,
+    first: usize,
+    between: &str,
+    second: usize,
+) -> Result<(), AllocError>
+    ensures { OnOk result (text.new.items ≡ text.old.items ++ (before.now ++ decimal first ++ between.now ++ decimal second)) }
+{
+    push_number(text, before, first)?;
+    push_number(text, between, second)?;
+    Ok(())
+}
+
+fn push_stated(text: &mut Vec<u8>, given: &Given, stated: Stated) -> Result<(), AllocError>
+    ensures { OnOk result (text.new.items ≡ text.old.items ++ stated_text given.now stated) }
+{
+    match stated {
+        Stated::BlockSize(size) => {
+            let (size, given) = (size as usize, given.block_size as usize);
+            push_two(text, "superblock: block size ", size, ", given ", given)
+        }
+        Stated::BlockCount(count) => {
+            let (count, given) = (count as usize, given.blocks);
+            push_two(text, "superblock: block count ", count, ", given ", given)
+        }
+        Stated::Version(version) => {
+            let (major, minor) = (version as usize / 65536, version as usize % 65536);
+            push_two(text, "superblock: version ", major, ".", minor)
+        }
+    }
+}
+
+fn push_pair(text: &mut Vec<u8>, pair: [u32; 2]) -> Result<(), AllocError>
+    ensures { OnOk result (text.new.items ≡ text.old.items ++ pair_text (address_of pair)) }
+{
+    push_two(text, "pair ", pair[0] as usize, " ", pair[1] as usize)
+}
+
+fn push_slot(text: &mut Vec<u8>, pair: [u32; 2], slot: usize) -> Result<(), AllocError>
+    ensures { OnOk result (text.new.items ≡ text.old.items ++ slot_text (address_of pair) slot) }
+{
+    push_pair(text, pair)?;
+    push_number(text, ", slot ", slot)?;
+    Ok(())
+}
+
+fn push_place(text: &mut Vec<u8>, place: &Place) -> Result<(), AllocError>
+    ensures { OnOk result (text.new.items ≡ text.old.items ++ place_text place.now) }
+{
+    push_slot(text, place.pair, place.slot)?;
+    push_text(text, ": \"")?;
+    escape_path(text, &place.name)?;
+    text.push(b'"')?;
+    Ok(())
+}
+
+// What is said of a pair.
+fn push_at_pair(text: &mut Vec<u8>, pair: [u32; 2], says: &str) -> Result<(), AllocError>
+    ensures { OnOk result (text.new.items ≡ text.old.items ++ (pair_text (address_of pair) ++ says.now)) }
+{
+    push_pair(text, pair)?;
+    push_text(text, says)?;
+    Ok(())
+}
+
+// What is said of a slot.
+fn push_at_slot(
+    text: &mut Vec<u8>,
+    pair: [u32; 2],
+    slot: usize,
+    says: &str,
+) -> Result<(), AllocError>
+    ensures { OnOk result (text.new.items ≡ text.old.items ++ (slot_text (address_of pair) slot ++ says.now)) }
+{
+    push_slot(text, pair, slot)?;
+    push_text(text, says)?;
+    Ok(())
+}
+
+// What is said of a slot with a name.
+fn push_at_place(text: &mut Vec<u8>, place: &Place, says: &str) -> Result<(), AllocError>
+    ensures { OnOk result (text.new.items ≡ text.old.items ++ (place_text place.now ++ says.now)) }
+{
+    push_place(text, place)?;
+    push_text(text, says)?;
+    Ok(())
+}
+
+fn push_out_of_range(text: &mut Vec<u8>, pair: [u32; 2], block: u32) -> Result<(), AllocError>
+    ensures { OnOk result (text.new.items ≡ text.old.items ++ range_text (address_of pair) block) }
+{
+    push_pair(text, pair)?;
+    push_number(text, ": block ", block as usize)?;
+    push_text(text, " isn't in the image")?;
+    Ok(())
+}
+
+fn push_twice(
+    text: &mut Vec<u8>,
+    block: u32,
+    other: [u32; 2],
+    pair: [u32; 2],
+) -> Result<(), AllocError>
+    ensures { OnOk result (text.new.items ≡ text.old.items ++ twice_text block (address_of other) (address_of pair)) }
+{
+    push_number(text, "block ", block as usize)?;
+    push_text(text, ": in two pairs, ")?;
+    push_address(text, other)?;
+    push_text(text, " and ")?;
+    push_address(text, pair)?;
+    Ok(())
+}
+
+fn push_address(text: &mut Vec<u8>, pair: [u32; 2]) -> Result<(), AllocError>
+    ensures { OnOk result (text.new.items ≡ text.old.items ++ address_text (address_of pair)) }
+{
+    push_two(text, "", pair[0] as usize, " ", pair[1] as usize)
+}
+
+fn push_other_fields(
+    text: &mut Vec<u8>,
+    given: &Given,
+    pair: [u32; 2],
+    stated: Stated,
+) -> Result<(), AllocError>
+    ensures { OnOk result (text.new.items ≡ text.old.items ++ (pair_text (address_of pair) ++ codes ", " ++ stated_text given.now stated)) }
+{
+    push_at_pair(text, pair, ", ")?;
+    push_stated(text, given, stated)?;
+    Ok(())
+}
+
+fn push_finding(text: &mut Vec<u8>, given: &Given, finding: &Finding) -> Result<(), AllocError>
+    ensures { OnOk result (text.new.items ≡ text.old.items ++ finding_text given.now finding.now) }
+{
+    match finding {
+        Finding::OutOfRange { pair, block } => push_out_of_range(text, *pair, *block),
+        Finding::OneBlock { pair } => push_at_pair(text, *pair, ": one block twice"),
+        Finding::InTwoPairs { block, pair, other } => push_twice(text, *block, *other, *pair),
+        Finding::NoCommit { pair } => {
+            push_at_pair(text, *pair, ": no commit with a right checksum")
+        }
+        Finding::Malformed { pair } => push_at_pair(
+            text,
+            *pair,
+            ": its log has an entry that may not stand there",
+        ),
+        Finding::NoName { pair, slot } => push_at_slot(text, *pair, *slot, ": no name"),
+        Finding::NoStruct(place) => push_at_place(text, place, " has no struct"),
+        Finding::NoSuperblock => push_text(
+            text,
+            "superblock: the root directory doesn't begin with one",
+        ),
+        Finding::NoFields { pair } => push_at_slot(text, *pair, 0, ": no superblock's struct"),
+        Finding::OtherFields { pair, stated } => push_other_fields(text, given, *pair, *stated),
+        Finding::SecondSuperblock(place) => push_at_place(text, place, " is a second superblock"),
+        Finding::OtherStruct(place) => push_at_place(text, place, " has another kind's struct"),
+        Finding::BadName(place) => push_at_place(text, place, " is no name"),
+    }
+}
+
+fn push_no_image(text: &mut Vec<u8>, given: &Given) -> Result<(), AllocError>
+    ensures { OnOk result (text.new.items ≡ text.old.items ++ no_image_text given.now) }
+{
+    let (block_size, page) = (given.block_size as usize, given.page as usize);
+    push_two(
+        text,
+        "no image of blocks of ",
+        block_size,
+        " bytes and pages of ",
+        page,
+    )
+}
+
+fn push_reason(text: &mut Vec<u8>, given: &Given, reason: &Reason) -> Result<(), AllocError>
+    ensures { OnOk result (text.new.items ≡ text.old.items ++ reason_text given.now reason.now) }
+{
+    match reason {
+        Reason::Stated(stated) => push_stated(text, given, *stated),
+        Reason::NoImage => push_no_image(text, given),
+        Reason::Broken(finding) => push_finding(text, given, finding),
+        Reason::Other => push_text(text, "no single rule was found"),
+    }
+}
+
+// The lines of an image that isn't accepted.
+fn push_refusal(text: &mut Vec<u8>, given: &Given, reason: &Reason) -> Result<(), AllocError>
+    ensures { OnOk result (text.new.items ≡ text.old.items ++ ((codes "corrupt" ++ newline) ++ reason_text given.now reason.now ++ newline)) }
+{
+    push_line(text, "corrupt")?;
+    push_reason(text, given, reason)?;
+    text.push(b'\n')?;
+    Ok(())
+}
+
+// The lines of a checked.
+pub(crate) fn checked_lines(alloc: Global, checked: &Checked) -> Result<Vec<u8>, AllocError>
+    ensures { IfOk result (λ text. text.items ≡ checked_text checked.now) }
+{
+    let mut text = Vec::new(alloc);
+    match checked {
+        Checked::Accepted { summary, orders } => push_summary(&mut text, summary, *orders)?,
+        Checked::Refused { reason, given } => push_refusal(&mut text, given, reason)?,
+    }
+    Ok(text)
+}

@@ -1,9 +1,8 @@
 // The rows that bench/against_c.py measures beside littlefs's own code.
 
-use crate::contents;
 use crate::files::{self, Measured, lacks, put};
 use crate::watched::{Counts, Watched};
-use crate::wear;
+use crate::{contents, wear};
 use lfs_device::{Error, Geometry, RamDevice};
 use lfs_fs::format;
 use std::alloc::Global;

@@ -40,7 +40,12 @@ fn show_row(rt: &HostRuntime, words: &[String]) -> io::Result<()> {
     let Some(row) = words.get(2) else {
         return eprintln!(rt; "row NAME BLOCKS COUNT");
     };
-    against_c::show(rt, row.as_str(), number_or(words, 3, 0), number_or(words, 4, 0))
+    against_c::show(
+        rt,
+        row.as_str(),
+        number_or(words, 3, 0),
+        number_or(words, 4, 0),
+    )
 }
 
 fn main(rt: HostRuntime) -> io::Result<()> {

@@ -17,9 +17,9 @@ use Rattle.lfs_writer.specs.Contents.{form_of}
 use Rattle.lfs_writer.specs.Form as shape_of
 use Rattle.lfs_writer.specs.Form.{IsKept}
 use Rattle.lfs_writer.specs.declared.contents.Contents.{Contents}
-use Rattle.lfs_checks.specs.Changing.{CanBegin, IsBegunAs}
-use Rattle.lfs_checks.specs.FileSeen.{held_for}
-use Rattle.lfs_checks.specs.declared.files.Writer.{Writer}
+use Rattle.lfs_fs.specs.Changing.{CanBegin, IsBegunAs}
+use Rattle.lfs_fs.specs.FileSeen.{held_for}
+use Rattle.lfs_fs.specs.declared.files.Writer.{Writer}
 use Rattle.lfs_model.proofs.Paths.{path_itself}
 use Rattle.lfs_model.specs.TreeEdits.{added, change_at, last_name, parent_of, with_name, with_names}
 use Rattle.lfs_model.specs.Operations as ops

@@ -13,11 +13,11 @@ use Rattle.lfs_model.specs.State.{is_remount}
 use Rattle.lfs_model.specs.Tree.{Tree}
 use Rattle.lfs_lookup.specs.Refusals.{is_refusal, refusal_in}
 use Rattle.lfs_tree.specs.Seen.{IsAsked, IsBroken, IsCarried, IsError, LeavesRest, Seen, SurvivesAs, around_of}
-use Rattle.lfs_checks.specs.FileSeen.{OpenFiles, files_seen}
-use Rattle.lfs_checks.specs.Held.{Answers, EndsChecks, Held, IsReady, held_of, held_with, moment_of, refused_by, session_of}
-use Rattle.lfs_checks.specs.Replies.{reply_in}
-use Rattle.lfs_checks.specs.Staying.{AreLeft}
-use Rattle.lfs_checks.proofs.Answered.{asked_by_checks, done_answers, ended_call, ended_kept, files_asked, not_failed, sound_by, with_files}
+use Rattle.lfs_fs.specs.FileSeen.{OpenFiles, files_seen}
+use Rattle.lfs_fs.specs.Held.{Answers, EndsChecks, Held, IsReady, held_of, held_with, moment_of, refused_by, session_of}
+use Rattle.lfs_fs.specs.Replies.{reply_in}
+use Rattle.lfs_fs.specs.Staying.{AreLeft}
+use Rattle.lfs_fs.proofs.Answered.{asked_by_checks, done_answers, ended_call, ended_kept, files_asked, not_failed, sound_by, with_files}
 use Rattle.lfs_fs.specs.Ending.{EndsWell}
 use Rattle.lfs_fs.specs.Sparing.{IsCall, LeavesOthers}
 use Rattle.lfs_fs.specs.Told.{IsBetweenCalls, IsTold}

@@ -13,10 +13,10 @@ use Rattle.lfs_lookup.specs.Refusals.{is_refusal, refusal_in}
 use Rattle.lfs_tree.specs.Seen.{IsAsked, IsError, IsMountError, IsMountedTree, Seen, around_of}
 use Rattle.lfs_model.specs.Discipline.{comes_at_once, takes_nothing}
 use Rattle.lfs_fs.specs.Ending.{EndsWell}
-use Rattle.lfs_checks.specs.FileSeen.{OpenFiles}
-use Rattle.lfs_checks.specs.Held.{Checks, ComesLate, EndsChecks, Held, held_of, held_with, refused_by, session_of}
-use Rattle.lfs_checks.specs.Replies.{reply_in}
-use Rattle.lfs_checks.proofs.Answered.{no_refusal_io, not_failed}
+use Rattle.lfs_fs.specs.FileSeen.{OpenFiles}
+use Rattle.lfs_fs.specs.Held.{Checks, ComesLate, EndsChecks, Held, held_of, held_with, refused_by, session_of}
+use Rattle.lfs_fs.specs.Replies.{reply_in}
+use Rattle.lfs_fs.proofs.Answered.{no_refusal_io, not_failed}
 use Rattle.lfs_fs.proofs.Remounting.{no_refusal}
 use Rattle.lfs_fs.proofs.Stopping.{session_at}
 

@@ -13,8 +13,8 @@ use Rattle.lfs_model.proofs.Walks.{IsLeaf, leaf_walk, walk_append}
 use Rattle.std.specs.List.{AllByRecursion}
 use Rattle.lfs_model.specs.Session.{is_open_at}
 use Rattle.lfs_tree.specs.Seen.{Seen, tree_seen}
-use Rattle.lfs_checks.specs.FileSeen.{OpenFiles, files_seen, readers_in}
-use Rattle.lfs_checks.specs.declared.files.OpenFile.TheVariants as file
+use Rattle.lfs_fs.specs.FileSeen.{OpenFiles, files_seen, readers_in}
+use Rattle.lfs_fs.specs.declared.files.OpenFile.TheVariants as file
 
 -- ---- nothing is beneath what has no names
 

@@ -15,17 +15,17 @@ use Rattle.lfs_tree.specs.Seen.{IsCarried, IsSound, Seen, around_of, tree_seen}
 use Rattle.lfs_writer.specs.Contents.{form_of}
 use Rattle.lfs_writer.specs.Form.{Form, IsKept, form_blocks}
 use Rattle.lfs_writer.specs.declared.contents.Contents.{Contents}
-use Rattle.lfs_checks.specs.FileSeen.{OpenFiles, bytes_of, end_in, files_seen, has_unsaved, held_by_all, held_by_size, held_for, reader_seen, readers_in, turned_in, writer_seen, writers_in, written_paths}
-use Rattle.lfs_checks.specs.Held.{IsChanged, IsReady, IsUnsavedIn, IsWritten}
+use Rattle.lfs_fs.specs.FileSeen.{OpenFiles, bytes_of, end_in, files_seen, has_unsaved, held_by_all, held_by_size, held_for, reader_seen, readers_in, turned_in, writer_seen, writers_in, written_paths}
+use Rattle.lfs_fs.specs.Held.{IsChanged, IsReady, IsUnsavedIn, IsWritten}
 use Rattle.lfs_model.specs.Keeping.{takes_or_moves}
 use Rattle.lfs_tree.specs.KeepsFiles.{taken_by}
-use Rattle.lfs_checks.specs.Staying.{AreLeft, KeepsWriters, SparesFiles}
-use Rattle.lfs_checks.specs.declared.files.OpenFile.TheVariants as file
-use Rattle.lfs_checks.specs.declared.files.Unsaved.{Unsaved}
-use Rattle.lfs_checks.specs.declared.files.Writer.{Writer}
-use Rattle.lfs_checks.proofs.OpenFiles.{held_is, held_one}
-use Rattle.lfs_checks.proofs.Calls.{still_called}
-use Rattle.lfs_checks.proofs.OpenReaders.{read_carried}
+use Rattle.lfs_fs.specs.Staying.{AreLeft, KeepsWriters, SparesFiles}
+use Rattle.lfs_fs.specs.declared.files.OpenFile.TheVariants as file
+use Rattle.lfs_fs.specs.declared.files.Unsaved.{Unsaved}
+use Rattle.lfs_fs.specs.declared.files.Writer.{Writer}
+use Rattle.lfs_fs.proofs.OpenFiles.{held_is, held_one}
+use Rattle.lfs_fs.proofs.Calls.{still_called}
+use Rattle.lfs_fs.proofs.OpenReaders.{read_carried}
 
 -- ---- room
 

@@ -14,8 +14,8 @@ use Rattle.lfs_model.specs.Shown.{tree_in}
 use Rattle.lfs_model.proofs.Fresh.{accepted, shows}
 use Rattle.lfs_model.proofs.Uniqueness.{one_thread}
 use Rattle.lfs_tree.specs.Seen.{IsMountedTree, Seen}
-use Rattle.lfs_checks.specs.FileSeen.{OpenFiles, files_seen}
-use Rattle.lfs_checks.specs.Held.{Held, held_of, moment_of, session_of}
+use Rattle.lfs_fs.specs.FileSeen.{OpenFiles, files_seen}
+use Rattle.lfs_fs.specs.Held.{Held, held_of, moment_of, session_of}
 
 tree_is_empty : (disk : Disk) (ps : List Pair) → IsFresh disk → IsAccepted disk ps → tree_in disk ps ≡ empty_tree
 tree_is_empty disk ps fresh ok = ap (tree_in disk) (one_thread (content_at disk) (block_count disk) ps _ ok.thread (accepted disk fresh).thread) ∙ shows disk

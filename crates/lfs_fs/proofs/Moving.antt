@@ -4,10 +4,10 @@ use Rattle.std.specs.Option.{option_map}
 use Rattle.lfs_model.specs.Operations as ops
 use Rattle.lfs_model.specs.Session.{Files}
 use Rattle.lfs_tree.specs.Seen.{Seen, tree_seen}
-use Rattle.lfs_checks.specs.FileSeen.{OpenFiles, entry_of, files_seen, moved_entry}
-use Rattle.lfs_checks.specs.Held.{Answers, Held, IsReady, held_of, refused_by}
-use Rattle.lfs_checks.proofs.Answered.{kept_answer, sound_by}
-use Rattle.lfs_checks.proofs.OpenFiles.{moved_is, ready_moved}
+use Rattle.lfs_fs.specs.FileSeen.{OpenFiles, entry_of, files_seen, moved_entry}
+use Rattle.lfs_fs.specs.Held.{Answers, Held, IsReady, held_of, refused_by}
+use Rattle.lfs_fs.proofs.Answered.{kept_answer, sound_by}
+use Rattle.lfs_fs.proofs.OpenFiles.{moved_is, ready_moved}
 
 pub moved_answers : (t : Seen) (fs gs : OpenFiles) (now : Held) (fd position : ℕ) → held_of t fs ≡ now → (t.failed ≡ false → IsReady t fs) → refused_by (held_of t fs) (ops.Seek fd position) ≡ None →
     is_some (entry_of fs fd) ≡ true → gs ≡ set fs fd (option_map (moved_entry position) (entry_of fs fd)) → Answers now (ops.Seek fd position) (Ok ops.Done) (held_of t gs)

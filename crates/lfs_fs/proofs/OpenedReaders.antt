@@ -7,14 +7,14 @@ use Rattle.lfs_model.specs.Operations.{Flags}
 use Rattle.lfs_model.specs.Session.{Reading, put_file}
 use Rattle.lfs_model.specs.Refusals.{as_path}
 use Rattle.lfs_tree.specs.Seen.{Seen, IsAsked, tree_seen}
-use Rattle.lfs_checks.specs.FileSeen.{OpenFiles, files_seen, free_entry, put_entry}
+use Rattle.lfs_fs.specs.FileSeen.{OpenFiles, files_seen, free_entry, put_entry}
 use Rattle.lfs_lookup.specs.FileContents.{AreContentsAt}
 use Rattle.lfs_lookup.specs.declared.file_contents.FileContents.{FileContents}
-use Rattle.lfs_checks.specs.Held.{Answers, Held, IsReadableAs, IsReady, held_of, refused_by}
-use Rattle.lfs_checks.specs.Replies.{reply_in}
-use Rattle.lfs_checks.specs.declared.files.OpenFile.TheVariants as file
-use Rattle.lfs_checks.proofs.Answered.{asked_ready, reader_answers, sound_by}
-use Rattle.lfs_checks.proofs.OpenFiles.{apart_is, free_is, put_is, ready_put}
+use Rattle.lfs_fs.specs.Held.{Answers, Held, IsReadableAs, IsReady, held_of, refused_by}
+use Rattle.lfs_fs.specs.Replies.{reply_in}
+use Rattle.lfs_fs.specs.declared.files.OpenFile.TheVariants as file
+use Rattle.lfs_fs.proofs.Answered.{asked_ready, reader_answers, sound_by}
+use Rattle.lfs_fs.proofs.OpenFiles.{apart_is, free_is, put_is, ready_put}
 
 pub reader_opened : (t mid : Seen) (fs gs : OpenFiles) (now : Held) (bytes : List ℕ) (flags : Flags) (contents : FileContents) (r : Result ℕ Error) → held_of t fs ≡ now → (t.failed ≡ false → IsReady t fs) → flags.write ≡ false →
     IsAsked t mid → refused_by (held_of t fs) (ops.Open bytes flags) ≡ None → is_none (tree_seen t (as_path bytes)) ≡ false →

@@ -26,22 +26,22 @@ use Rattle.lfs_model.proofs.TurnsMade.{completed_turn}
 use Rattle.lfs_tree.specs.Allowed.{CanCreate}
 use Rattle.lfs_lookup.specs.Refusals.{refusal_in}
 use Rattle.lfs_tree.specs.Seen.{IsAsked, IsBroken, IsCarried, IsError, IsSound, Seen, around_of, tree_seen}
-use Rattle.lfs_checks.specs.Changing.{CanBegin, IsBegunAs}
-use Rattle.lfs_checks.specs.FileSeen.{OpenFiles, entry_of, files_seen, free_entry, has_unsaved, put_entry, readers_in, writer_in, writer_seen, writers_in}
-use Rattle.lfs_checks.specs.Held.{Answers, AreRead, Held, IsReady, IsWritten, held_of, held_with, moment_of, refused_by, session_of}
-use Rattle.lfs_checks.specs.Replies.{reply_in}
-use Rattle.lfs_checks.specs.Staying.{KeepsWriters}
-use Rattle.lfs_checks.specs.declared.files.OpenFile.{OpenFile}
-use Rattle.lfs_checks.specs.declared.files.OpenFile.TheVariants as file
-use Rattle.lfs_checks.specs.declared.files.Writer.{Writer}
-use Rattle.lfs_checks.proofs.Answered.{carried_answer, carried_ready, error_answers, is_over, kept_files, not_failed, not_refused, ready_later, sound_by}
-use Rattle.lfs_checks.proofs.Checked.{negated, neither, there, unrefused}
-use Rattle.lfs_checks.proofs.Failing.{broken_fails, healthy_moment, memory_fails}
-use Rattle.lfs_checks.proofs.OpenFiles.{count_put, free_at_most, free_is, only, put_is, writer_count}
-use Rattle.lfs_checks.proofs.WriterOpens.{writes_anew}
+use Rattle.lfs_fs.specs.Changing.{CanBegin, IsBegunAs}
+use Rattle.lfs_fs.specs.FileSeen.{OpenFiles, entry_of, files_seen, free_entry, has_unsaved, put_entry, readers_in, writer_in, writer_seen, writers_in}
+use Rattle.lfs_fs.specs.Held.{Answers, AreRead, Held, IsReady, IsWritten, held_of, held_with, moment_of, refused_by, session_of}
+use Rattle.lfs_fs.specs.Replies.{reply_in}
+use Rattle.lfs_fs.specs.Staying.{KeepsWriters}
+use Rattle.lfs_fs.specs.declared.files.OpenFile.{OpenFile}
+use Rattle.lfs_fs.specs.declared.files.OpenFile.TheVariants as file
+use Rattle.lfs_fs.specs.declared.files.Writer.{Writer}
+use Rattle.lfs_fs.proofs.Answered.{carried_answer, carried_ready, error_answers, is_over, kept_files, not_failed, not_refused, ready_later, sound_by}
+use Rattle.lfs_fs.proofs.Checked.{negated, neither, there, unrefused}
+use Rattle.lfs_fs.proofs.Failing.{broken_fails, healthy_moment, memory_fails}
+use Rattle.lfs_fs.proofs.OpenFiles.{count_put, free_at_most, free_is, only, put_is, writer_count}
+use Rattle.lfs_fs.proofs.WriterOpens.{writes_anew}
 use Rattle.lfs_fs.proofs.WriterTurns.{there_arranged}
 use Rattle.lfs_fs.proofs.FilesBeside.{no_reader_at}
-use Rattle.lfs_checks.proofs.OpenReaders.{read_opened}
+use Rattle.lfs_fs.proofs.OpenReaders.{read_opened}
 
 -- ---- what no check refuses
 

@@ -9,14 +9,14 @@ use Rattle.lfs_model.specs.Session.{Files, OpenFile, Reader, Reading, Writing, f
 use Rattle.lfs_model.specs.Effects.{moved_to, read_effect, size_of}
 use Rattle.lfs_model.specs.Tree.{Node, FileNode, DirectoryNode}
 use Rattle.lfs_tree.specs.Seen.{Seen, IsSound, tree_seen, IsAsked}
-use Rattle.lfs_checks.specs.Held.{Held, held_with, session_of, refused_by, Answers}
+use Rattle.lfs_fs.specs.Held.{Held, held_with, session_of, refused_by, Answers}
 use Rattle.lfs_device.specs.declared.error.Error.{Error}
 use Rattle.lfs_lookup.specs.Refusals.{refusal_in}
 use Rattle.lfs_tree.specs.Seen.{IsBrokenAsking, IsError}
-use Rattle.lfs_checks.specs.Replies.{reply_in}
-use Rattle.lfs_checks.proofs.Failing.{asking_fails}
-use Rattle.lfs_checks.proofs.Answered.{error_answers, files_answers}
-use Rattle.lfs_checks.proofs.Questions.{works_by}
+use Rattle.lfs_fs.specs.Replies.{reply_in}
+use Rattle.lfs_fs.proofs.Failing.{asking_fails}
+use Rattle.lfs_fs.proofs.Answered.{error_answers, files_answers}
+use Rattle.lfs_fs.proofs.Questions.{works_by}
 
 reading_is : (f : Option OpenFile) (r : Reader) → Some r ≡ reader_of f → f ≡ Some (Reading r)
 reading_is None r e = absurd (cc)

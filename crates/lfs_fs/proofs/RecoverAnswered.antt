@@ -5,13 +5,13 @@ use Rattle.lfs_device.specs.declared.error.Error.{Error}
 use Rattle.lfs_model.specs.Operations as ops
 use Rattle.lfs_model.specs.Tree.{Tree}
 use Rattle.lfs_tree.specs.Seen.{Seen, IsBroken, IsCarried, IsError, around_of, tree_seen}
-use Rattle.lfs_checks.specs.FileSeen.{OpenFiles, files_seen, readers_in, writers_in}
-use Rattle.lfs_checks.specs.Held.{Answers, Held, IsReady, held_of, refused_by}
-use Rattle.lfs_checks.specs.Replies.{reply_in}
-use Rattle.lfs_checks.specs.Staying.{AreLeft, FilesStay}
-use Rattle.lfs_checks.proofs.Answered.{KeepsFiles, done_answers, done_left, keeps_writers, none_concerned, not_refused, nothing_asked, sound_by, with_files}
-use Rattle.lfs_checks.proofs.OpenReaders.{none_read}
-use Rattle.lfs_checks.proofs.Checked.{negated, unrefused}
+use Rattle.lfs_fs.specs.FileSeen.{OpenFiles, files_seen, readers_in, writers_in}
+use Rattle.lfs_fs.specs.Held.{Answers, Held, IsReady, held_of, refused_by}
+use Rattle.lfs_fs.specs.Replies.{reply_in}
+use Rattle.lfs_fs.specs.Staying.{AreLeft, FilesStay}
+use Rattle.lfs_fs.proofs.Answered.{KeepsFiles, done_answers, done_left, keeps_writers, none_concerned, not_refused, nothing_asked, sound_by, with_files}
+use Rattle.lfs_fs.proofs.OpenReaders.{none_read}
+use Rattle.lfs_fs.proofs.Checked.{negated, unrefused}
 use Rattle.lfs_fs.proofs.Staying.{SameFile}
 
 -- what follows from what holds at Ok

@@ -20,16 +20,16 @@ use Rattle.lfs_model.specs.Run.{Moment, IsTurn, NoWrites, is_dirty}
 use Rattle.lfs_model.proofs.TurnsMade.{remounted_turn}
 use Rattle.lfs_lookup.specs.Refusals.{is_refusal, refusal_in}
 use Rattle.lfs_tree.specs.Seen.{Seen, tree_seen, around_of, kept_of, IsBrokenAsking, IsMountError, IsMountedTree, IsSound}
-use Rattle.lfs_checks.specs.Replies.{reply_in}
-use Rattle.lfs_checks.specs.FileSeen.{OpenFiles, bytes_of, entry_of, is_unsaved_entry, file_seen, files_seen}
-use Rattle.lfs_checks.specs.declared.files.OpenFile as kept
-use Rattle.lfs_checks.specs.declared.files.OpenFile.TheVariants as file
-use Rattle.lfs_checks.specs.declared.files.Unsaved.{Unsaved}
-use Rattle.lfs_checks.specs.Held.{Held, IsReady, held_of, held_with, moment_of, refused_by, FailsBy, Answers}
-use Rattle.lfs_checks.proofs.OpenFiles.{file_is, is_saved, ready_closed, saved_is, set_is}
-use Rattle.lfs_checks.proofs.Failing.{reads_write_nothing, failed_moment, healthy_moment}
-use Rattle.lfs_checks.proofs.Answered.{is_over, kept_answer, sound_by}
-use Rattle.lfs_checks.proofs.Calls.{has_called, has_erased}
+use Rattle.lfs_fs.specs.Replies.{reply_in}
+use Rattle.lfs_fs.specs.FileSeen.{OpenFiles, bytes_of, entry_of, is_unsaved_entry, file_seen, files_seen}
+use Rattle.lfs_fs.specs.declared.files.OpenFile as kept
+use Rattle.lfs_fs.specs.declared.files.OpenFile.TheVariants as file
+use Rattle.lfs_fs.specs.declared.files.Unsaved.{Unsaved}
+use Rattle.lfs_fs.specs.Held.{Held, IsReady, held_of, held_with, moment_of, refused_by, FailsBy, Answers}
+use Rattle.lfs_fs.proofs.OpenFiles.{file_is, is_saved, ready_closed, saved_is, set_is}
+use Rattle.lfs_fs.proofs.Failing.{reads_write_nothing, failed_moment, healthy_moment}
+use Rattle.lfs_fs.proofs.Answered.{is_over, kept_answer, sound_by}
+use Rattle.lfs_fs.proofs.Calls.{has_called, has_erased}
 use Rattle.lfs_model.proofs.BlockSets.{in_flight_count-AreInFlight}
 use Rattle.lfs_tree.specs.Formatting.{ErasesTwo, IsFormatted}
 

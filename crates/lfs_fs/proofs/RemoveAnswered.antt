@@ -10,17 +10,17 @@ use Rattle.lfs_model.specs.Session.{is_open_at}
 use Rattle.lfs_model.specs.Refusals.{as_path}
 use Rattle.lfs_model.specs.Tree.{Path, Tree}
 use Rattle.lfs_tree.specs.Seen.{Seen, IsAsked, IsBroken, IsCarried, around_of, tree_seen}
-use Rattle.lfs_checks.specs.FileSeen.{OpenFiles, files_seen, readers_in, writers_in, written_paths}
-use Rattle.lfs_checks.specs.Held.{IsRead, IsReady, IsWritten, held_of, refused_by}
+use Rattle.lfs_fs.specs.FileSeen.{OpenFiles, files_seen, readers_in, writers_in, written_paths}
+use Rattle.lfs_fs.specs.Held.{IsRead, IsReady, IsWritten, held_of, refused_by}
 use Rattle.lfs_model.specs.Keeping.{takes_or_moves}
-use Rattle.lfs_checks.specs.Staying.{AreLeft, FilesStay, KeepsWriters, SparesFiles}
-use Rattle.lfs_checks.specs.declared.files.OpenFile.TheVariants as file
-use Rattle.lfs_checks.specs.declared.files.Reader.{Reader}
-use Rattle.lfs_checks.specs.declared.files.Writer.{Writer}
-use Rattle.lfs_checks.proofs.OpenReaders.{contents_are_file}
-use Rattle.lfs_checks.proofs.Answered.{done_left}
+use Rattle.lfs_fs.specs.Staying.{AreLeft, FilesStay, KeepsWriters, SparesFiles}
+use Rattle.lfs_fs.specs.declared.files.OpenFile.TheVariants as file
+use Rattle.lfs_fs.specs.declared.files.Reader.{Reader}
+use Rattle.lfs_fs.specs.declared.files.Writer.{Writer}
+use Rattle.lfs_fs.proofs.OpenReaders.{contents_are_file}
+use Rattle.lfs_fs.proofs.Answered.{done_left}
 use Rattle.lfs_fs.proofs.FilesBeside.{beside, no_reader_at, not_some, or_false}
-use Rattle.lfs_checks.proofs.RemoveChecks.{remove_bare, remove_not_open}
+use Rattle.lfs_fs.proofs.RemoveChecks.{remove_bare, remove_not_open}
 use Rattle.lfs_fs.proofs.Staying.{SameFile, changed_same, named}
 
 -- ---- the writers' files

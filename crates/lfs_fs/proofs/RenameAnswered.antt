@@ -11,18 +11,18 @@ use Rattle.lfs_model.specs.Refusals.{as_path}
 use Rattle.lfs_model.specs.Tree.{Path, Tree}
 use Rattle.lfs_model.specs.Run.{IsTurn}
 use Rattle.lfs_tree.specs.Seen.{Seen, IsAsked, IsBroken, IsCarried, around_of, tree_seen}
-use Rattle.lfs_checks.specs.FileSeen.{OpenFiles, files_seen, readers_in, writers_in, written_paths}
-use Rattle.lfs_checks.specs.Held.{Answers, Held, IsRead, IsReady, IsWritten, held_of, held_with, moment_of, refused_by}
-use Rattle.lfs_checks.specs.RenamePaths.{is_in_the_way}
+use Rattle.lfs_fs.specs.FileSeen.{OpenFiles, files_seen, readers_in, writers_in, written_paths}
+use Rattle.lfs_fs.specs.Held.{Answers, Held, IsRead, IsReady, IsWritten, held_of, held_with, moment_of, refused_by}
+use Rattle.lfs_fs.specs.RenamePaths.{is_in_the_way}
 use Rattle.lfs_model.specs.Keeping.{takes_or_moves}
-use Rattle.lfs_checks.specs.Staying.{AreLeft, FilesStay, KeepsWriters, SparesFiles}
-use Rattle.lfs_checks.specs.declared.files.OpenFile.TheVariants as file
-use Rattle.lfs_checks.specs.declared.files.Reader.{Reader}
-use Rattle.lfs_checks.specs.declared.files.Writer.{Writer}
-use Rattle.lfs_checks.proofs.OpenReaders.{contents_are_file}
-use Rattle.lfs_checks.proofs.Answered.{done_left, idle_answer, sound_by}
+use Rattle.lfs_fs.specs.Staying.{AreLeft, FilesStay, KeepsWriters, SparesFiles}
+use Rattle.lfs_fs.specs.declared.files.OpenFile.TheVariants as file
+use Rattle.lfs_fs.specs.declared.files.Reader.{Reader}
+use Rattle.lfs_fs.specs.declared.files.Writer.{Writer}
+use Rattle.lfs_fs.proofs.OpenReaders.{contents_are_file}
+use Rattle.lfs_fs.proofs.Answered.{done_left, idle_answer, sound_by}
 use Rattle.lfs_fs.proofs.FilesBeside.{beside, no_reader_at, none_there, not_some, or_false}
-use Rattle.lfs_checks.proofs.RenameChecks.{rename_bare, rename_closed, rename_space}
+use Rattle.lfs_fs.proofs.RenameChecks.{rename_bare, rename_closed, rename_space}
 use Rattle.lfs_fs.proofs.Staying.{SameFile, changed_same, named}
 
 -- ---- every other file stays

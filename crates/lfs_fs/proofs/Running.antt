@@ -16,10 +16,10 @@ use Rattle.lfs_model.specs.Thread.{Pair}
 use Rattle.lfs_model.specs.Thrift.{AsksFew, IsThrifty, ReadsKept, if_accepted}
 use Rattle.lfs_model.specs.View.{IsAccepted}
 use Rattle.lfs_model.proofs.Performing.{last_accepted, last_further, performed_further}
-use Rattle.lfs_checks.specs.Held.{FailsBy, Held, IsEndedBy, moment_of}
+use Rattle.lfs_fs.specs.Held.{FailsBy, Held, IsEndedBy, moment_of}
 use Rattle.lfs_fs.specs.OpSeen.{IsNamed, op_seen, reply_seen}
 use Rattle.lfs_fs.specs.Sparing.{IsCall}
-use Rattle.lfs_checks.proofs.KeptLookUps.{kept_hand, kept_small}
+use Rattle.lfs_fs.proofs.KeptLookUps.{kept_hand, kept_small}
 use Rattle.lfs_lookup.specs.AtHand.{AreSmall}
 use Rattle.lfs_tree.specs.Reads.{HasOnHand}
 use Rattle.lfs_model.specs.Run as model

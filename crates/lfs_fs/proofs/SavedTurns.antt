@@ -21,20 +21,20 @@ use Rattle.lfs_model.proofs.TurnsMade.{completed_turn}
 use Rattle.lfs_tree.specs.OpenContents.{IsStoredAt}
 use Rattle.lfs_lookup.specs.Refusals.{refusal_in}
 use Rattle.lfs_tree.specs.Seen.{Seen, IsBroken, IsError, IsSound, around_of, tree_seen}
-use Rattle.lfs_checks.specs.Changing.{CanSave, IsSavedAs}
-use Rattle.lfs_checks.specs.FileSeen.{OpenFiles, bytes_of, entry_of, file_seen, files_seen, is_unsaved_entry, writer_seen, writers_in}
-use Rattle.lfs_checks.specs.Held.{Answers, AreRead, Held, IsReady, IsWritten, held_of, held_with, moment_of, refused_by, session_of}
-use Rattle.lfs_checks.specs.Replies.{reply_in}
-use Rattle.lfs_checks.specs.Staying.{KeepsWriters}
-use Rattle.lfs_checks.specs.declared.files.OpenFile.{OpenFile}
-use Rattle.lfs_checks.specs.declared.files.OpenFile.TheVariants as file
-use Rattle.lfs_checks.specs.declared.files.Writer.{Writer}
-use Rattle.lfs_checks.proofs.Answered.{error_answers, is_over, kept_answer, kept_files, not_failed, not_refused, nothing_asked, sound_by}
-use Rattle.lfs_checks.proofs.Failing.{broken_fails, healthy_moment}
-use Rattle.lfs_checks.proofs.OpenFiles.{IsOnly, file_is, inside, inside_is, is_saved, only, saved_is, set_is}
+use Rattle.lfs_fs.specs.Changing.{CanSave, IsSavedAs}
+use Rattle.lfs_fs.specs.FileSeen.{OpenFiles, bytes_of, entry_of, file_seen, files_seen, is_unsaved_entry, writer_seen, writers_in}
+use Rattle.lfs_fs.specs.Held.{Answers, AreRead, Held, IsReady, IsWritten, held_of, held_with, moment_of, refused_by, session_of}
+use Rattle.lfs_fs.specs.Replies.{reply_in}
+use Rattle.lfs_fs.specs.Staying.{KeepsWriters}
+use Rattle.lfs_fs.specs.declared.files.OpenFile.{OpenFile}
+use Rattle.lfs_fs.specs.declared.files.OpenFile.TheVariants as file
+use Rattle.lfs_fs.specs.declared.files.Writer.{Writer}
+use Rattle.lfs_fs.proofs.Answered.{error_answers, is_over, kept_answer, kept_files, not_failed, not_refused, nothing_asked, sound_by}
+use Rattle.lfs_fs.proofs.Failing.{broken_fails, healthy_moment}
+use Rattle.lfs_fs.proofs.OpenFiles.{IsOnly, file_is, inside, inside_is, is_saved, only, saved_is, set_is}
 use Rattle.lfs_fs.proofs.Remounting.{no_tree_change, not_dirty}
-use Rattle.lfs_checks.proofs.Calls.{still_called}
-use Rattle.lfs_checks.proofs.OpenReaders.{read_saved}
+use Rattle.lfs_fs.proofs.Calls.{still_called}
+use Rattle.lfs_fs.proofs.OpenReaders.{read_saved}
 use Rattle.lfs_fs.proofs.WriterPaths.{sync_path}
 
 -- ---- the writer that has changes

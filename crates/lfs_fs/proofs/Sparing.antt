@@ -27,20 +27,20 @@ use Rattle.lfs_tree.specs.OpenContents.{IsStoredAt, IsWrittenBeside}
 use Rattle.lfs_lookup.specs.Refusals.{is_refusal, refusal_in}
 use Rattle.lfs_tree.specs.Seen.{IsAsked, IsCarried, IsSound, LeavesRest, Seen}
 use Rattle.std.specs.Option.{option_map}
-use Rattle.lfs_checks.specs.FileSeen.{OpenFiles, entry_of, file_seen, files_seen}
-use Rattle.lfs_checks.specs.declared.files.OpenFile.TheVariants as file
-use Rattle.lfs_checks.specs.declared.files.Writer.{Writer}
+use Rattle.lfs_fs.specs.FileSeen.{OpenFiles, entry_of, file_seen, files_seen}
+use Rattle.lfs_fs.specs.declared.files.OpenFile.TheVariants as file
+use Rattle.lfs_fs.specs.declared.files.Writer.{Writer}
 use Rattle.lfs_fs.specs.Ending.{EndsWell}
-use Rattle.lfs_checks.specs.Held.{Answers, Held, IsReady, held_of, held_with, moment_of, session_of}
-use Rattle.lfs_checks.specs.LookUps.{AddsFew, AddsNone, LeavesOnHand, ReadsNoneIn}
-use Rattle.lfs_checks.specs.Replies.{reply_in}
+use Rattle.lfs_fs.specs.Held.{Answers, Held, IsReady, held_of, held_with, moment_of, session_of}
+use Rattle.lfs_fs.specs.LookUps.{AddsFew, AddsNone, LeavesOnHand, ReadsNoneIn}
+use Rattle.lfs_fs.specs.Replies.{reply_in}
 use Rattle.lfs_model.specs.Thrift.{AsksFew}
 use Rattle.lfs_fs.specs.Sparing.{IsCall, LeavesAtHand, LeavesOthers}
-use Rattle.lfs_checks.proofs.KeptLookUps.{reads_none}
+use Rattle.lfs_fs.proofs.KeptLookUps.{reads_none}
 use Rattle.lfs_lookup.specs.AtHand.{AreSmall}
 use Rattle.lfs_tree.specs.Reads.{HasOnHand}
-use Rattle.lfs_checks.proofs.FewReads.{reads_few}
-use Rattle.lfs_checks.proofs.OpenFiles.{file_is}
+use Rattle.lfs_fs.proofs.FewReads.{reads_few}
+use Rattle.lfs_fs.proofs.OpenFiles.{file_is}
 use Rattle.lfs_fs.proofs.Stopping.{kept_call, session_at, works_at}
 use Rattle.lfs_fs.proofs.WrittenAlone.{written_alone}
 use Rattle.lfs_fs.proofs.Withstanding.{ready_agrees, stood_before}

@@ -11,14 +11,14 @@ use Rattle.std.specs.Prelude.{OnErr, OnOk}
 use Rattle.std.proofs.lemmas.Bool.{ltb-false}
 use Rattle.lfs_device.specs.declared.error.Error.{Error}
 use Rattle.lfs_tree.specs.Seen.{IsAsked, IsBroken, IsCarried, Seen, around_of, tree_seen}
-use Rattle.lfs_checks.specs.FileSeen.{OpenFiles, readers_in, writers_in}
-use Rattle.lfs_checks.specs.Held.{IsReady, held_of, refused_by}
+use Rattle.lfs_fs.specs.FileSeen.{OpenFiles, readers_in, writers_in}
+use Rattle.lfs_fs.specs.Held.{IsReady, held_of, refused_by}
 use Rattle.lfs_tree.specs.Allowed.{CanMake}
-use Rattle.lfs_checks.specs.Staying.{AreLeft, FilesStay}
-use Rattle.lfs_checks.proofs.Answered.{KeepsFiles, done_left, keeps_writers, none_concerned}
-use Rattle.lfs_checks.proofs.OpenReaders.{none_read}
-use Rattle.lfs_checks.proofs.Checked.{mkdir_space}
-use Rattle.lfs_checks.proofs.SetAttrChecks.{set_attr_space}
+use Rattle.lfs_fs.specs.Staying.{AreLeft, FilesStay}
+use Rattle.lfs_fs.proofs.Answered.{KeepsFiles, done_left, keeps_writers, none_concerned}
+use Rattle.lfs_fs.proofs.OpenReaders.{none_read}
+use Rattle.lfs_fs.proofs.Checked.{mkdir_space}
+use Rattle.lfs_fs.proofs.SetAttrChecks.{set_attr_space}
 
 -- a file's node is one with the same bytes
 abbrev pub SameFile : Option Node → Option Node → Type 0

@@ -14,14 +14,14 @@ use Rattle.lfs_model.specs.Tree.{DirectoryNode, FileNode, Node, Path}
 use Rattle.lfs_model.proofs.Histories.{OnlyReads-trans}
 use Rattle.lfs_tree.specs.OpenContents.{bytes_held, kept_of}
 use Rattle.lfs_tree.specs.Seen.{IsAsked, IsBrokenAsking, IsMountedTree, IsSound, Seen, SurvivesAs, tree_seen}
-use Rattle.lfs_checks.specs.FileSeen.{OpenFiles, bytes_of, entry_of, file_seen, files_seen, is_unsaved_entry}
-use Rattle.lfs_checks.specs.Held.{Held, IsReady, held_of, held_with, moment_of, refused_by}
+use Rattle.lfs_fs.specs.FileSeen.{OpenFiles, bytes_of, entry_of, file_seen, files_seen, is_unsaved_entry}
+use Rattle.lfs_fs.specs.Held.{Held, IsReady, held_of, held_with, moment_of, refused_by}
 use Rattle.lfs_model.specs.PowerLoss.{SurvivesStops}
-use Rattle.lfs_checks.specs.declared.files.OpenFile.TheVariants as file
-use Rattle.lfs_checks.specs.declared.files.Unsaved.{Unsaved}
-use Rattle.lfs_checks.specs.declared.files.Writer.{Writer}
-use Rattle.lfs_checks.proofs.Answered.{sound_by}
-use Rattle.lfs_checks.proofs.OpenFiles.{file_is}
+use Rattle.lfs_fs.specs.declared.files.OpenFile.TheVariants as file
+use Rattle.lfs_fs.specs.declared.files.Unsaved.{Unsaved}
+use Rattle.lfs_fs.specs.declared.files.Writer.{Writer}
+use Rattle.lfs_fs.proofs.Answered.{sound_by}
+use Rattle.lfs_fs.proofs.OpenFiles.{file_is}
 use Rattle.lfs_fs.proofs.OpenedWriters.{open_passed}
 use Rattle.lfs_fs.proofs.SavedTurns.{unsaved_writer}
 use Rattle.lfs_fs.proofs.Stopping.{KeepsTree, kept_by_reads, one_changed, then_changes}

@@ -21,9 +21,9 @@ use Rattle.lfs_model.proofs.Uniqueness.{one_thread}
 use Rattle.lfs_model.proofs.Withstanding.{same_surroundings}
 use Rattle.lfs_lookup.specs.Refusals.{is_refusal}
 use Rattle.lfs_tree.specs.Seen.{IsAsked, IsBroken, IsCarried, IsSound, Seen, SurvivesAs, around_of, tree_seen}
-use Rattle.lfs_checks.specs.Held.{Checks, EndsChecks, Held, held_with, moment_of, refused_by, session_of}
-use Rattle.lfs_checks.proofs.Answered.{is_over, not_refused, sound_later}
-use Rattle.lfs_checks.proofs.Failing.{failed_moment, healthy_moment}
+use Rattle.lfs_fs.specs.Held.{Checks, EndsChecks, Held, held_with, moment_of, refused_by, session_of}
+use Rattle.lfs_fs.proofs.Answered.{is_over, not_refused, sound_later}
+use Rattle.lfs_fs.proofs.Failing.{failed_moment, healthy_moment}
 
 -- ---- a session at work
 

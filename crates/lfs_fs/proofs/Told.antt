@@ -9,9 +9,9 @@ use Rattle.lfs_model.specs.Obeyed.{AreObeyed, IsObeyed}
 use Rattle.lfs_model.specs.Operations.{Operation}
 use Rattle.lfs_model.proofs.Obeyed.{obeyed_next}
 use Rattle.lfs_tree.specs.Seen.{IsAsked, Seen}
-use Rattle.lfs_checks.specs.FileSeen.{OpenFiles}
-use Rattle.lfs_checks.specs.Held.{Checks, held_of}
-use Rattle.lfs_checks.proofs.Answered.{asked_by_checks, checked_ready}
+use Rattle.lfs_fs.specs.FileSeen.{OpenFiles}
+use Rattle.lfs_fs.specs.Held.{Checks, held_of}
+use Rattle.lfs_fs.proofs.Answered.{asked_by_checks, checked_ready}
 use Rattle.lfs_fs.specs.Told.{IsBetweenCalls, IsTold}
 
 -- of the device that is lent

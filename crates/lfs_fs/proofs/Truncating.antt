@@ -21,19 +21,19 @@ use Rattle.lfs_model.proofs.Committed.{recovered_from}
 use Rattle.lfs_model.proofs.TurnsMade.{filled_turn}
 use Rattle.lfs_tree.specs.OpenContents.{IsWrittenBeside}
 use Rattle.lfs_tree.specs.Seen.{Seen, around_of, tree_seen}
-use Rattle.lfs_checks.specs.Changing.{CanTruncate, IsWriterAs}
-use Rattle.lfs_checks.specs.FileSeen.{OpenFiles, bytes_of, entry_of, file_seen, files_seen, reader_seen, writer_in, writer_seen, writers_in}
-use Rattle.lfs_checks.specs.Held.{Answers, Held, IsReady, IsWritten, held_of, moment_of, refused_by, session_of}
-use Rattle.lfs_checks.specs.declared.files.OpenFile.{OpenFile}
-use Rattle.lfs_checks.specs.declared.files.OpenFile.TheVariants as file
-use Rattle.lfs_checks.specs.declared.files.Writer.{Writer}
-use Rattle.lfs_checks.proofs.Answered.{is_over, kept_answer, not_failed, not_refused, sound_by}
-use Rattle.lfs_checks.proofs.Checked.{neither, unrefused}
-use Rattle.lfs_checks.proofs.Failing.{healthy_moment}
-use Rattle.lfs_checks.proofs.OpenFiles.{IsOnly, inside_is, only, set_is}
-use Rattle.lfs_checks.proofs.WriterChecks.{the_writer, written_at}
-use Rattle.lfs_checks.proofs.Calls.{still_called}
-use Rattle.lfs_checks.proofs.OpenReaders.{read_rewritten}
+use Rattle.lfs_fs.specs.Changing.{CanTruncate, IsWriterAs}
+use Rattle.lfs_fs.specs.FileSeen.{OpenFiles, bytes_of, entry_of, file_seen, files_seen, reader_seen, writer_in, writer_seen, writers_in}
+use Rattle.lfs_fs.specs.Held.{Answers, Held, IsReady, IsWritten, held_of, moment_of, refused_by, session_of}
+use Rattle.lfs_fs.specs.declared.files.OpenFile.{OpenFile}
+use Rattle.lfs_fs.specs.declared.files.OpenFile.TheVariants as file
+use Rattle.lfs_fs.specs.declared.files.Writer.{Writer}
+use Rattle.lfs_fs.proofs.Answered.{is_over, kept_answer, not_failed, not_refused, sound_by}
+use Rattle.lfs_fs.proofs.Checked.{neither, unrefused}
+use Rattle.lfs_fs.proofs.Failing.{healthy_moment}
+use Rattle.lfs_fs.proofs.OpenFiles.{IsOnly, inside_is, only, set_is}
+use Rattle.lfs_fs.proofs.WriterChecks.{the_writer, written_at}
+use Rattle.lfs_fs.proofs.Calls.{still_called}
+use Rattle.lfs_fs.proofs.OpenReaders.{read_rewritten}
 
 -- ---- what no check refuses
 

@@ -14,11 +14,11 @@ use Rattle.lfs_model.specs.Run.{Agrees, Moment}
 use Rattle.lfs_model.proofs.AfterStops.{left_before}
 use Rattle.lfs_model.proofs.Kept.{one_tree}
 use Rattle.lfs_model.proofs.Standing.{device_withstands, one_device}
-use Rattle.lfs_checks.specs.Held.{Answers, Held, IsReady, held_of, moment_of}
+use Rattle.lfs_fs.specs.Held.{Answers, Held, IsReady, held_of, moment_of}
 use Rattle.lfs_fs.specs.Told.{IsBetweenCalls, IsTold}
-use Rattle.lfs_checks.specs.FileSeen.{OpenFiles}
+use Rattle.lfs_fs.specs.FileSeen.{OpenFiles}
 use Rattle.lfs_tree.specs.Seen.{Seen}
-use Rattle.lfs_checks.proofs.Failing.{failed_moment, healthy_moment}
+use Rattle.lfs_fs.proofs.Failing.{failed_moment, healthy_moment}
 use Rattle.lfs_fs.proofs.Stopping.{same_blocks, works_at}
 
 -- the session has the tree of its disk

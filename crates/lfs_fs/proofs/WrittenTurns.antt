@@ -19,17 +19,17 @@ use Rattle.lfs_model.proofs.Committed.{recovered_from}
 use Rattle.lfs_model.proofs.TurnsMade.{filled_turn}
 use Rattle.lfs_tree.specs.OpenContents.{IsWrittenBeside}
 use Rattle.lfs_tree.specs.Seen.{Seen, around_of, tree_seen}
-use Rattle.lfs_checks.specs.Changing.{CanWrite, IsWriterAs}
-use Rattle.lfs_checks.specs.FileSeen.{OpenFiles, entry_of, files_seen, writer_in, writer_seen}
-use Rattle.lfs_checks.specs.Held.{Answers, Held, IsReady, held_of, moment_of, refused_by, session_of}
-use Rattle.lfs_checks.specs.declared.files.OpenFile.TheVariants as file
-use Rattle.lfs_checks.specs.declared.files.Writer.{Writer}
-use Rattle.lfs_checks.proofs.Answered.{is_over, kept_answer, not_failed, not_refused, sound_by}
-use Rattle.lfs_checks.proofs.Checked.{neither, unrefused}
-use Rattle.lfs_checks.proofs.Failing.{healthy_moment}
-use Rattle.lfs_checks.proofs.OpenFiles.{IsOnly, only, set_is}
+use Rattle.lfs_fs.specs.Changing.{CanWrite, IsWriterAs}
+use Rattle.lfs_fs.specs.FileSeen.{OpenFiles, entry_of, files_seen, writer_in, writer_seen}
+use Rattle.lfs_fs.specs.Held.{Answers, Held, IsReady, held_of, moment_of, refused_by, session_of}
+use Rattle.lfs_fs.specs.declared.files.OpenFile.TheVariants as file
+use Rattle.lfs_fs.specs.declared.files.Writer.{Writer}
+use Rattle.lfs_fs.proofs.Answered.{is_over, kept_answer, not_failed, not_refused, sound_by}
+use Rattle.lfs_fs.proofs.Checked.{neither, unrefused}
+use Rattle.lfs_fs.proofs.Failing.{healthy_moment}
+use Rattle.lfs_fs.proofs.OpenFiles.{IsOnly, only, set_is}
 use Rattle.lfs_fs.proofs.Truncating.{inside_put, other_tree, set_same}
-use Rattle.lfs_checks.proofs.WriterChecks.{some_bytes, the_writer, written_at}
+use Rattle.lfs_fs.proofs.WriterChecks.{some_bytes, the_writer, written_at}
 
 -- ---- what no check refuses
 

@@ -7,7 +7,7 @@ use Rattle.lfs_model.specs.Operations as ops
 use Rattle.lfs_model.specs.Operations.{Failed, Operation, Refusal, Reply}
 use Rattle.lfs_model.specs.Session.{Session}
 use Rattle.lfs_model.specs.State.{Healthy, is_remount}
-use Rattle.lfs_checks.specs.Held.{Held, moment_of, refused_by}
+use Rattle.lfs_fs.specs.Held.{Held, moment_of, refused_by}
 
 -- A session that has failed answers `Failed` to all but a remount. No fault of the device is behind an answer, a refusal among them.
 -- What takes nothing is answered, and a refusal that comes at once leaves all as it is.

@@ -6,7 +6,7 @@ use Rattle.lfs_model.specs.Operations.{Operation}
 use Rattle.lfs_lookup.specs.Refusals.{is_refusal, refusal_in}
 use Rattle.lfs_lookup.specs.Finds.{list_item_seen}
 use Rattle.lfs_fs.specs.GstateSeen.{gstate_reply}
-use Rattle.lfs_checks.specs.FlagsSeen.{flags_seen}
+use Rattle.lfs_fs.specs.FlagsSeen.{flags_seen}
 use Rattle.lfs_fs.specs.declared.run.Op.{Op}
 use Rattle.lfs_fs.specs.declared.run.Op.TheVariants as op
 use Rattle.lfs_fs.specs.declared.run.Reply.{Reply}

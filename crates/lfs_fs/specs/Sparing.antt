@@ -15,8 +15,8 @@ use Rattle.lfs_model.specs.View.{IsAccepted}
 use Rattle.lfs_lookup.specs.AtHand.{AreSmall}
 use Rattle.lfs_tree.specs.Reads.{HasOnHand}
 use Rattle.lfs_fs.specs.Ending.{EndsWell}
-use Rattle.lfs_checks.specs.Held.{Answers, Held, moment_of}
-use Rattle.lfs_checks.specs.LookUps.{ReadsNoneIn}
+use Rattle.lfs_fs.specs.Held.{Answers, Held, moment_of}
+use Rattle.lfs_fs.specs.LookUps.{ReadsNoneIn}
 
 -- where nothing was to be recovered, it left alone what it isn't about
 abbrev pub LeavesOthers : Moment → Operation → Moment → Type 0

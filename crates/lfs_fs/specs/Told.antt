@@ -3,8 +3,8 @@ use Rattle.std.specs.Prelude.{◌≡◌, false}
 use Rattle.lfs_model.specs.History.{IsNewest}
 use Rattle.lfs_model.specs.Obeyed.{AreObeyed}
 use Rattle.lfs_tree.specs.Seen.{Seen}
-use Rattle.lfs_checks.specs.FileSeen.{OpenFiles}
-use Rattle.lfs_checks.specs.Held.{IsReady}
+use Rattle.lfs_fs.specs.FileSeen.{OpenFiles}
+use Rattle.lfs_fs.specs.Held.{IsReady}
 
 -- The newest call left the disk as it is, and each that didn't fail was carried out.
 pub record IsTold (t : Seen) : Type 0 where

@@ -5,9 +5,9 @@ ghost use Rattle.lfs_model.specs.Writers.{opened_writer, after_sync, after_trunc
 ghost use Rattle.lfs_tree.specs.OpenContents.{IsOver, IsStoredAt, IsWrittenBeside, bytes_held, kept_of};
 ghost use Rattle.lfs_tree.specs.Seen.{tree_seen, IsAsked, IsBroken, IsCarried, IsBrokenAsking, IsError, IsSound, LeavesRest, SurvivesAs};
 ghost use Rattle.lfs_writer.specs.Contents.{form_of};
-ghost use Rattle.lfs_checks.specs.Changing.{CanBegin, IsBegunAs, CanSave, CanTruncate, CanWrite, HasContents, IsFormOf, IsSavedAs, IsWriterAs};
-ghost use Rattle.lfs_checks.specs.FileSeen.{bytes_of, writer_seen};
-ghost use Rattle.lfs_checks.specs.FlagsSeen.{flags_seen};
+ghost use Rattle.lfs_fs.specs.Changing.{CanBegin, IsBegunAs, CanSave, CanTruncate, CanWrite, HasContents, IsFormOf, IsSavedAs, IsWriterAs};
+ghost use Rattle.lfs_fs.specs.FileSeen.{bytes_of, writer_seen};
+ghost use Rattle.lfs_fs.specs.FlagsSeen.{flags_seen};
 ghost use Rattle.lfs_model.specs.TreeEdits.{added, bytes_at, change_at};
 ghost use Rattle.lfs_model.specs.Operations as ops;
 ghost use Rattle.lfs_model.specs.Operations.{Flags};
@@ -16,8 +16,10 @@ ghost use Rattle.lfs_model.specs.Effects.{with_bytes};
 ghost use Rattle.lfs_model.specs.Tree.{FileNode};
 ghost use Rattle.lfs_tree.specs.Allowed.{CanCreate};
 
+use crate::files::{Unsaved, Writer};
+use crate::flags::OpenFlags;
+use crate::owned_path::OwnedPath;
 use bitflags::Flags;
-use lfs_checks::{OpenFlags, OwnedPath, Unsaved, Writer};
 use lfs_device::{BlockDevice, Error};
 use lfs_lookup::Path;
 use lfs_tree::{Tree, carried_takes_few, contents_stay};

@@ -5,9 +5,9 @@ ghost use Rattle.lfs_model.specs.BlockSets.{in_flight_count};
 ghost use Rattle.lfs_model.specs.Operations.{Operation};
 ghost use Rattle.lfs_model.specs.Session.{held};
 ghost use Rattle.lfs_tree.specs.Seen.{IsCarried, Seen};
-ghost use Rattle.lfs_checks.specs.FileSeen.{OpenFiles, files_seen, writers_in};
-ghost use Rattle.lfs_checks.specs.Held.{IsReady};
-ghost use Rattle.lfs_checks.specs.Staying.{AreLeft, KeepsWriters, SparesFiles};
+ghost use Rattle.lfs_fs.specs.FileSeen.{OpenFiles, files_seen, writers_in};
+ghost use Rattle.lfs_fs.specs.Held.{IsReady};
+ghost use Rattle.lfs_fs.specs.Staying.{AreLeft, KeepsWriters, SparesFiles};
 
 use lfs_tree::{carried_takes_few, contents_stay};
 use lfs_writer::held_blocks_are_room;

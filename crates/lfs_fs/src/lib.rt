@@ -2,15 +2,21 @@
 #![tactic(auto)]
 
 mod changing;
+mod checks;
+mod files;
+mod flags;
 mod gstate;
 mod left_open;
+mod owned_path;
+mod passing;
 mod reading;
+mod renaming;
 mod run;
 mod session;
 mod telling;
 
+pub use flags::OpenFlags;
 pub use gstate::Gstate;
-pub use lfs_checks::OpenFlags;
 pub use lfs_device::NameOrder;
 pub use run::{Op, Reply};
 pub use session::{Session, format, format_ordered, mount};

@@ -3,10 +3,10 @@
 ghost use Rattle.std.specs.Prelude.{◌≡◌, ◌+◌, ◌<◌, ◌^◌, List, drop, false, take, IfErr, IfOk, OnErr, OnOk, vec_len};
 ghost use Rattle.lfs_model.specs.Tree.{Path};
 ghost use Rattle.lfs_model.specs.TreeEdits.{bytes_at};
-ghost use Rattle.lfs_checks.specs.Held.{IsRead};
+ghost use Rattle.lfs_fs.specs.Held.{IsRead};
 ghost use Rattle.lfs_tree.specs.Seen.{IsAsked, IsBrokenAsking, IsError, tree_seen};
 
-use lfs_checks::Reader;
+use crate::files::Reader;
 use lfs_device::{BlockDevice, Error};
 use lfs_tree::Tree;
 use std::alloc::Global;

@@ -5,11 +5,11 @@ ghost use Rattle.lfs_model.specs.Operations as operations;
 ghost use Rattle.lfs_lookup.specs.Finds.{list_item_seen};
 ghost use Rattle.lfs_lookup.specs.Refusals.{is_refusal};
 ghost use Rattle.lfs_fs.specs.GstateSeen.{gstate_reply};
-ghost use Rattle.lfs_checks.specs.Replies.{reply_in};
+ghost use Rattle.lfs_fs.specs.Replies.{reply_in};
 ghost use Rattle.lfs_fs.specs.OpSeen.{IsNamed, performed};
 
+use crate::flags::OpenFlags;
 use crate::gstate::Gstate;
-use lfs_checks::OpenFlags;
 use lfs_device::Error;
 use lfs_lookup::ListItem;
 

@@ -1,6 +1,6 @@
 ghost use Rattle.lfs_model.specs.Operations as ops;
 ghost use Rattle.lfs_model.specs.Operations.{Operation, Reply as Answer};
-ghost use Rattle.lfs_checks.specs.Replies.{reply_in};
+ghost use Rattle.lfs_fs.specs.Replies.{reply_in};
 ghost use Rattle.std.specs.Prelude.{◌≡◌, ◌⊎◌, ◌++◌, None, false, true, List, [], map, All, IfOk, IfErr, OnOk};
 ghost use Rattle.lfs_model.specs.Disk.{SameGeometry};
 ghost use Rattle.lfs_model.specs.Thread.{Pair};
@@ -24,23 +24,27 @@ ghost use Rattle.lfs_lookup.specs.Finds.{list_item_seen};
 ghost use Rattle.lfs_tree.specs.Formatting.{DeviceComesBack, IsFormatted, WritesFirstTwo};
 ghost use Rattle.lfs_tree.specs.Seen.{kept_of};
 ghost use Rattle.lfs_fs.specs.GstateSeen.{gstate_reply};
-ghost use Rattle.lfs_checks.specs.Held.{IsBegun, IsEndedBy, moment_of};
-ghost use Rattle.lfs_checks.specs.FlagsSeen.{flags_seen};
+ghost use Rattle.lfs_fs.specs.Held.{IsBegun, IsEndedBy, moment_of};
+ghost use Rattle.lfs_fs.specs.FlagsSeen.{flags_seen};
 ghost use Rattle.lfs_fs.specs.OpSeen.{IsNamed, op_seen, performed, reply_seen};
 ghost use Rattle.lfs_fs.specs.Sparing.{IsCall};
 
 use crate::changing::{begin_new, begin_there, save, truncate_by, write_by};
+use crate::checks::{
+    check_get_attr, check_list, check_mkdir, check_open, check_open_reader, check_open_writer,
+    check_remove, check_remove_attr, check_seek, check_set_attr, check_stat, check_sync,
+    check_truncate, check_write,
+};
+use crate::files::{Files, OpenFile};
+use crate::flags::OpenFlags;
 use crate::gstate::{Gstate, gstate_of};
 use crate::left_open::open_files_stay;
+use crate::owned_path::OwnedPath;
 use crate::reading::read_from;
+use crate::renaming::check_rename;
 use crate::run::{Op, Reply, bytes, count, done, fd, gstate, items, stat, yes};
 use crate::telling::device_tells;
 use bitflags::Flags;
-use lfs_checks::{
-    Files, OpenFile, OpenFlags, OwnedPath, check_get_attr, check_list, check_mkdir, check_open,
-    check_open_reader, check_open_writer, check_remove, check_remove_attr, check_rename,
-    check_seek, check_set_attr, check_stat, check_sync, check_truncate, check_write,
-};
 use lfs_device::{BlockDevice, Error, NameOrder, Ordered};
 use lfs_lookup::ListItem;
 use lfs_tree::{Tree, mount_either};
@@ -64,7 +68,7 @@ pub struct Session<D: BlockDevice> {
 }
 
 impl<D: BlockDevice> Model for Session<D> {
-    ghost use Rattle.lfs_checks.specs.Held.{Held, held_of};
+    ghost use Rattle.lfs_fs.specs.Held.{Held, held_of};
     ghost use Rattle.lfs_fs.specs.Told.{IsBetweenCalls};
 
     ghost Value = { Held };

@@ -18,7 +18,7 @@ use Rattle.lfs_tool_folders.specs.Entries.{AreAll, AreRead, AreWithin, Holds, Pl
 use Rattle.lfs_tool_folders.specs.declared.entries.Entry.{Entry}
 use Rattle.lfs_tool.specs.Carried.{node_by}
 use Rattle.lfs_tool.proofs.NamesGiven.{Rising, before_it, each_given, each_names, kind_moved, less_unlike, name_at_end, none_given, rising_from, rising_right}
-use Rattle.lfs_tool.proofs.Places.{AreComponents, added_above, added_aside, added_there, path_more, read_back}
+use Rattle.lfs_tool.proofs.PathPlaces.{AreComponents, added_above, added_aside, added_there, path_more, read_back}
 
 -- ---- entries that come
 

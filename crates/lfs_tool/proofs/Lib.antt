@@ -1,3 +1,13 @@
+pub mod HeldPairs
+pub mod HeldSlots
+pub mod Along
+pub mod Looking
+pub mod RootPlaces
+pub mod HeldPlaces
+pub mod Counts
+pub mod Reordered
+pub mod Judged
+mod Placing
 pub mod ExcerptsAlike
 pub mod AcceptedAlike
 pub mod ListedAlike
@@ -15,7 +25,7 @@ mod Excerpts
 mod ActionsDone
 mod Unpacks
 mod NamesGiven
-mod Places
+mod PathPlaces
 mod Growing
 mod Stepping
 mod Runs

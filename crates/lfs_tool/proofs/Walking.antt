@@ -24,7 +24,7 @@ use Rattle.lfs_tool.specs.Carried.{node_by, operations_of, operations_of_all}
 use Rattle.lfs_tool.specs.Made.{CarryOver}
 use Rattle.lfs_tool.proofs.Growing.{beneath, carried_tree, tree_after}
 use Rattle.lfs_tool.proofs.NamesGiven.{Rising, each_found, kind_moved, less_unlike, rising_from}
-use Rattle.lfs_tool.proofs.Places.{path_more}
+use Rattle.lfs_tool.proofs.PathPlaces.{path_more}
 
 -- ---- names in order are known by which they are
 

@@ -1,9 +1,9 @@
 -- What a check says of an image.
 use Rattle.std.specs.Prelude.{ℕ, ◌≡◌, ◌<◌, ◌≤◌, ◌/◌, Bool, true, false, List, length, Option, Some, None}
-use Rattle.lfs_findings.specs.Found.{IsFound}
-use Rattle.lfs_findings.specs.Stated.{IsStatedIn}
-use Rattle.lfs_findings.specs.Verdict.{IsAcceptedWith, IsRefused, IsVerdict}
-use Rattle.lfs_findings.specs.declared.verdict.Verdict.{Verdict}
+use Rattle.lfs_tool.specs.Found.{IsFound}
+use Rattle.lfs_tool.specs.Stated.{IsStatedIn}
+use Rattle.lfs_tool.specs.Verdict.{IsAcceptedWith, IsRefused, IsVerdict}
+use Rattle.lfs_tool.specs.declared.verdict.Verdict.{Verdict}
 use Rattle.lfs_model.specs.Disk.{Disk, IsImage, disk_of}
 use Rattle.lfs_model.specs.declared.order.NameOrder.{NameOrder}
 use Rattle.lfs_tool.specs.declared.checked.Checked.{Checked}

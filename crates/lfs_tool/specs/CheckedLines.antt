@@ -1,19 +1,19 @@
 -- The lines of a check.
 use Rattle.std.specs.Prelude.{ℕ, ◌-◌, ◌/◌, ◌%◌, ◌++◌, Bool, true, false, List, codes}
 use Rattle.std.specs.Fmt.{decimal}
-use Rattle.lfs_findings.specs.declared.finding.Finding.{Finding}
-use Rattle.lfs_findings.specs.declared.finding.Finding.TheVariants as finding
-use Rattle.lfs_findings.specs.declared.finding.Place.{Place}
-use Rattle.lfs_findings.specs.declared.finding.Stated.{Stated}
-use Rattle.lfs_findings.specs.declared.finding.Stated.TheVariants as stated
+use Rattle.lfs_tool.specs.declared.finding.Finding.{Finding}
+use Rattle.lfs_tool.specs.declared.finding.Finding.TheVariants as finding
+use Rattle.lfs_tool.specs.declared.finding.Place.{Place}
+use Rattle.lfs_tool.specs.declared.finding.Stated.{Stated}
+use Rattle.lfs_tool.specs.declared.finding.Stated.TheVariants as stated
 use Rattle.lfs_model.specs.Listing.{escaped_text, newline}
 use Rattle.lfs_model.specs.Slots.{address_of}
 use Rattle.lfs_tool.specs.declared.checked.Given.{Given}
-use Rattle.lfs_findings.specs.declared.verdict.Orders.{Orders}
-use Rattle.lfs_findings.specs.declared.verdict.Orders.TheVariants as orders
+use Rattle.lfs_tool.specs.declared.verdict.Orders.{Orders}
+use Rattle.lfs_tool.specs.declared.verdict.Orders.TheVariants as orders
 use Rattle.lfs_tool.specs.declared.checked.Reason.{Reason}
 use Rattle.lfs_tool.specs.declared.checked.Reason.TheVariants as reason
-use Rattle.lfs_findings.specs.declared.verdict.Summary.{Summary}
+use Rattle.lfs_tool.specs.declared.verdict.Summary.{Summary}
 use Rattle.lfs_tool.specs.declared.checked.Checked.{Checked}
 use Rattle.lfs_tool.specs.declared.checked.Checked.TheVariants as checked
 

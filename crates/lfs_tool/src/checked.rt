@@ -1,6 +1,7 @@
 // What is said of an image.
 
-use lfs_findings::{Finding, Orders, Stated, Summary};
+use crate::finding::{Finding, Stated};
+use crate::verdict::{Orders, Summary};
 
 /// The sizes with which an image was looked at: of a block and a page in bytes, and how many whole
 /// blocks there are.

@@ -1,17 +1,20 @@
 // Whether the bytes of an image are accepted, and with what, or why not.
 
 ghost use Rattle.std.specs.Prelude.{◌≡◌, ◌<◌, ◌≤◌, ◌^◌, List, ℕ, IfErr, IfOk, IfSome, IsErrOf, OnOk, length};
-ghost use Rattle.lfs_findings.specs.Stated.{IsStatedIn};
+ghost use Rattle.lfs_tool.specs.Stated.{IsStatedIn};
 ghost use Rattle.lfs_tool.specs.Checked.{AreRefused, IsCheckedAs, IsGiven, IsJudged, IsReason};
 ghost use Rattle.lfs_tool.specs.Known.{FailsToRead};
 ghost use Rattle.lfs_tool.specs.Told.{IsReadToEnd};
 
 use crate::checked::{Checked, Given, Reason};
+use crate::finding::Stated;
 use crate::input::{IMAGE_MAX, read_image};
+use crate::judging::judge;
 use crate::opening::device_of;
+use crate::stating::misstated_in;
+use crate::verdict::Verdict;
 use crate::{Reader, ToolError};
 use lfs_device::Error;
-use lfs_findings::{Stated, Verdict, judge, misstated_in};
 use std::alloc::Global;
 
 // The verdict on an image. None where the bytes are none.
@@ -97,7 +100,7 @@ fn examine_bytes(
 /// Whether an image is accepted, and with what, or why not: `Accepted` exactly where a mount takes it,
 /// in whichever order its names are, and each reason is true of its bytes. Of an image that isn't
 /// accepted, what the superblock in block 0 or 1 says of it comes first; then the first rule that it
-/// breaks, of those that `lfs_findings` knows.
+/// breaks, of those that `lfs_tool` knows.
 ///
 /// The image is read first, to its end, or past the largest image's size, 268435456 bytes.
 ///

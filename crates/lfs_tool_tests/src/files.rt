@@ -3,8 +3,7 @@
 use crate::images::{BELOW, ENTRIES};
 use crate::sources::{Items, is_read};
 use lfs_fixtures::{Entries, Held, image_with};
-use lfs_tool::Watched;
-use lfs_tool_files::{RealPlaces, answer};
+use lfs_tool::{RealPlaces, Watched, answer};
 use lfs_tool_folders::Folder;
 use std::alloc::{AllocError, Global};
 use std::io::ErrorKind;

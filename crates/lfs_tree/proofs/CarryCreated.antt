@@ -7,7 +7,7 @@ use Rattle.std.proofs.lemmas.Option.{same_Some}
 use Rattle.lfs_device.specs.Bytes.{HasBytes}
 use Rattle.lfs_model.specs.Discipline.{LeavesAlone, paths_of}
 use Rattle.lfs_model.specs.Session.{Files, Session}
-use Rattle.lfs_model.specs.Thread.{Pair, superblocks_before}
+use Rattle.lfs_model.specs.Thread.{Pair}
 use Rattle.lfs_model.specs.TreeEdits.{added, last_name}
 use Rattle.lfs_model.specs.BlockSets.{BlockSets, IsFree, IsInFlight}
 use Rattle.lfs_model.specs.BlockSets.BlockState.{Free, InFlight}

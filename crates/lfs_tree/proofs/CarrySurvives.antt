@@ -1,10 +1,9 @@
 -- A loss of power in an operation on a path, behind calls that only read.
-use Rattle.std.proofs.Common.{ℕ, ◌≡◌, inl, inr, false, if◌then◌else◌, Option, Some, None, List, [], ◌∷◌, ◌++◌, refl, sym, subst}
+use Rattle.std.proofs.Common.{ℕ, ◌≡◌, inl, inr, false, if◌then◌else◌, Option, Some, None, List, [], refl, sym, subst}
 use Rattle.std.specs.Prelude.{is_none, is_some}
 use Rattle.lfs_model.specs.TreeEdits.{added}
 use Rattle.lfs_model.specs.Disk.{Disk, SameGeometry}
-use Rattle.lfs_model.specs.History.{Event, EachEvent, EachSince, OnlyReads}
-use Rattle.lfs_model.specs.Operations.{Operation}
+use Rattle.lfs_model.specs.History.{Event, EachSince, OnlyReads}
 use Rattle.lfs_model.specs.PowerLoss.{IsLeft, Survives, with_blocks}
 use Rattle.lfs_model.specs.Tree.{FileNode, Node, Path, Tree}
 use Rattle.lfs_model.specs.View.{IsAccepted}
@@ -14,7 +13,7 @@ use Rattle.lfs_model.proofs.AfterStops.{survives_then}
 use Rattle.lfs_model.proofs.Histories.{LeavesOnly-reads, Stops-read}
 use Rattle.lfs_thread.specs.Kept.{Kept, State}
 use Rattle.lfs_thread.specs.Steps.{Writes}
-use Rattle.lfs_tree.specs.Carrying.{Carries, IsAtRest, SurvivesTo}
+use Rattle.lfs_tree.specs.Carrying.{IsAtRest, SurvivesTo}
 use Rattle.lfs_tree.proofs.Carried.{with_history}
 
 pub survives_reading : (t : State) (root : ℕ) → IsAtRest t root → (h : List Event) → OnlyReads t.kept.disk.blocks t.kept.history h → (after : Tree) →

@@ -12,9 +12,8 @@ use Rattle.lfs_model.specs.Effects.{effect_of}
 use Rattle.lfs_tree.proofs.RecoveredTwice.{recovers_through}
 use Rattle.lfs_model.specs.BlockSets.{BlockSets, BlockState, IsInFlight, in_flight_count, is_in_flight}
 use Rattle.lfs_model.specs.BlockSets.BlockState.{Free, InFlight, Used}
-use Rattle.lfs_model.specs.Disk.{Disk, SameGeometry, entry_limit}
-use Rattle.lfs_model.specs.History.{faults}
-use Rattle.lfs_model.specs.Layout.{Goes, IsArranged, IsLaidOut}
+use Rattle.lfs_model.specs.Disk.{SameGeometry, entry_limit}
+use Rattle.lfs_model.specs.Layout.{Goes, IsArranged}
 use Rattle.lfs_model.specs.Operations as ops
 use Rattle.lfs_model.specs.Operations.{Operation}
 use Rattle.lfs_model.specs.PowerLoss.{IsLeft, with_blocks}
@@ -33,7 +32,6 @@ use Rattle.lfs_operations.specs.EndingMove.{HasEndedMove, RecoversTo}
 use Rattle.lfs_operations.proofs.RecoverBefore.{AreKin, stand_kin}
 use Rattle.lfs_operations.specs.Ready.{KeepsRoot}
 use Rattle.lfs_thread.specs.Kept.{Kept, State}
-use Rattle.lfs_thread.specs.Steps.{IsOnlyRead}
 use Rattle.lfs_tree.specs.Allowed.{CanAdd, CanRemove, CanRemoveAttr, CanRename, CanSetAttr, HasRoom}
 use Rattle.lfs_tree.specs.Carrying.{Carries, HasCalled, Spares, StandsAs, SurvivesTo, TellsError}
 use Rattle.lfs_tree.specs.Held.{IsRooted, seen_kept}

@@ -7,7 +7,7 @@ use Rattle.lfs_model.specs.TreeEdits.{change_at}
 use Rattle.lfs_model.specs.Blocks.{Blocks}
 use Rattle.lfs_model.specs.BlockSets.{used_count}
 use Rattle.lfs_model.specs.Disk.{Disk, block_count, inline_limit}
-use Rattle.lfs_model.specs.History.{EachEvent, EachSince, Event, OnlyReads, faults}
+use Rattle.lfs_model.specs.History.{EachEvent, EachSince, Event, faults}
 use Rattle.lfs_model.specs.Layout.{IsLaidOut}
 use Rattle.lfs_model.specs.Operations as ops
 use Rattle.lfs_model.specs.Operations.{Operation}
@@ -24,7 +24,6 @@ use Rattle.lfs_model.proofs.Committed.{recovered_from}
 use Rattle.lfs_model.proofs.Histories.{LeavesOnly-weaker, LeavesOnly-worst}
 use Rattle.lfs_writer.specs.Standing.{CanFinish, Holds, LeavesPairsAndUsed, held_in}
 use Rattle.lfs_thread.specs.Kept.{Kept, State}
-use Rattle.lfs_thread.specs.Steps.{IsOnlyRead}
 use Rattle.lfs_tree.proofs.LeftAlone.{pair_of_alone}
 use Rattle.lfs_tree.specs.Carrying.{HasCalled, IsAtRest, SurvivesTo, TellsError}
 use Rattle.lfs_tree.specs.Held.{IsHeld, seen_kept, seen_thread}
@@ -34,7 +33,6 @@ use Rattle.lfs_tree.specs.OpenContents.{CanStoreAt, IsArrangedBy, IsSettleable, 
 use Rattle.lfs_tree.specs.Seen.{IsSound, Seen, tree_seen}
 use Rattle.lfs_tree.specs.Storing.{CanCommit, HasCommitted, HasStored, IsFinished, IsLaidBy, ChangesPairOf}
 use Rattle.lfs_tree.proofs.BesideWritten.{accepted_beside, bytes_of_held, geometry_beside, left_beside, over_beside, rooted_beside, tree_beside}
-use Rattle.lfs_tree.proofs.Carried.{read_is, with_history}
 use Rattle.lfs_tree.proofs.UsedBlocks.{count_is}
 use Rattle.lfs_writer.specs.Contents.{bytes_in, end_room, finished, form_of}
 use Rattle.lfs_writer.specs.Form as form

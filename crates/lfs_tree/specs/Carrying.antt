@@ -1,5 +1,5 @@
 -- What an operation on a path finds, and what comes of it over a thread.
-use Rattle.std.specs.Prelude.{ℕ, ◌≡◌, ◌||◌, Bool, true, false, List, [], ◌∷◌, ◌++◌, None, is_some, Result, Err, IfErr, OnOk, is_err}
+use Rattle.std.specs.Prelude.{ℕ, ◌≡◌, Bool, true, false, List, [], ◌∷◌, ◌++◌, None, is_some, Result, IfErr, OnOk}
 use Rattle.lfs_device.specs.declared.error.Error.{Error}
 use Rattle.lfs_model.specs.declared.order.NameOrder.{NameOrder}
 use Rattle.lfs_model.specs.Disk.{SameGeometry}
@@ -10,7 +10,7 @@ use Rattle.lfs_model.specs.Operations.{Operation}
 use Rattle.lfs_model.specs.PowerLoss.{Survives}
 use Rattle.lfs_model.specs.Session.{parent_fault}
 use Rattle.lfs_model.specs.Slots.{no_gstate}
-use Rattle.lfs_model.specs.Thread.{Pair, gstate_of, superblocks_before}
+use Rattle.lfs_model.specs.Thread.{Pair, gstate_of}
 use Rattle.lfs_model.specs.Tree.{Path, Tree}
 use Rattle.lfs_model.specs.TreeEdits.{last_name}
 use Rattle.lfs_model.specs.Profile.{IsWritable}
@@ -20,7 +20,6 @@ use Rattle.lfs_thread.specs.Kept.{Kept, State}
 use Rattle.lfs_tree.specs.Calls.{Call, Does, left_by}
 use Rattle.lfs_tree.specs.Held.{IsRooted, seen_kept}
 use Rattle.lfs_lookup.specs.Paths.{BeginsOnPath, LeadsTo}
-use Rattle.lfs_lookup.specs.Reading.{IsReading}
 use Rattle.lfs_tree.specs.Seen.{IsCarried, IsError, IsSound, LeavesRest}
 use Rattle.lfs_lookup.specs.declared.paths.Found.{Found}
 use Rattle.lfs_lookup.specs.declared.paths.Found.TheVariants as found

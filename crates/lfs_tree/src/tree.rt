@@ -39,8 +39,8 @@ use crate::remounting::{Spare, mounted_again};
 use core::mem::replace_with;
 use lfs_device::{BlockDevice, Error, Geometry};
 use lfs_lookup::{
-    Finding, FoundAttribute, Inside, Listing, Path, attribute_at, attributes_size_at, find_at, list_at,
-    look_inside_at,
+    Finding, FoundAttribute, Inside, Listing, Path, attribute_at, attributes_size_at, find_at,
+    list_at, look_inside_at,
 };
 use lfs_tag::MoveState;
 use lfs_thread::Thread;

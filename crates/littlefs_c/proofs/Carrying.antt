@@ -11,8 +11,8 @@ use Rattle.lfs_model.specs.Run.{AreTurns, IsTurn, Moment, Shows, is_refusal}
 use Rattle.lfs_model.specs.State.{is_remount}
 use Rattle.lfs_model.proofs.Counts.{Each, each_append, each_right}
 use Rattle.lfs_model.proofs.Turns.{turns_joined}
-use Rattle.lfs_checks.specs.Held.{Answers, FailsBy, Held, IsEndedBy, moment_of}
-use Rattle.lfs_checks.specs.Replies.{reply_in}
+use Rattle.lfs_fs.specs.Held.{Answers, FailsBy, Held, IsEndedBy, moment_of}
+use Rattle.lfs_fs.specs.Replies.{reply_in}
 use Rattle.lfs_fs.specs.OpSeen.{op_seen, reply_seen}
 use Rattle.lfs_fs.specs.declared.run.Op.{Op}
 use Rattle.lfs_fs.specs.declared.run.Reply as given

@@ -23,7 +23,7 @@ use Rattle.lfs_model.specs.View.{IsAccepted}
 use Rattle.lfs_model.specs.declared.order.NameOrder.{NameOrder}
 use Rattle.lfs_model.specs.declared.order.NameOrder.TheVariants.{LongerFirst, ShorterFirst}
 use Rattle.lfs_model.proofs.Cuts.{length-cut}
-use Rattle.lfs_checks.specs.Held.{Held, IsBegun, moment_of, session_of}
+use Rattle.lfs_fs.specs.Held.{Held, IsBegun, moment_of, session_of}
 use Rattle.littlefs_c.specs.Calls.{IsMounted, IsOf, Leaves, Prevents, RunsThese}
 use Rattle.littlefs_c.specs.Starts.{IsFormatted}
 

@@ -2,7 +2,7 @@
 
 ghost use Rattle.std.specs.Prelude.{◌≡◌, ◌∷◌, ◌<◌, ◌^◌, ◌-◌, [], min, length, IfOk};
 ghost use Rattle.lfs_model.specs.Operations as ops;
-ghost use Rattle.lfs_checks.specs.FlagsSeen.{flags_seen};
+ghost use Rattle.lfs_fs.specs.FlagsSeen.{flags_seen};
 ghost use Rattle.littlefs_c.specs.Buffers.{Tells, put_in};
 ghost use Rattle.littlefs_c.specs.Codes.{order_of};
 ghost use Rattle.littlefs_c.specs.Calls.{Changes, Checks};

@@ -2,7 +2,7 @@
 
 ghost use Rattle.std.specs.Prelude.{◌≡◌, ◌*◌, length, IfErr, IfOk};
 ghost use Rattle.lfs_model.specs.Disk.{IsImage};
-ghost use Rattle.lfs_checks.specs.Held.{moment_of};
+ghost use Rattle.lfs_fs.specs.Held.{moment_of};
 ghost use Rattle.littlefs_c.specs.Calls.{IsMounted, IsOf, Prevents};
 
 use lfs_device::{Error, Geometry, RamDevice};

@@ -2,7 +2,7 @@
 
 ghost use Rattle.std.specs.Prelude.{◌∷◌, [], map};
 ghost use Rattle.lfs_model.specs.Operations as ops;
-ghost use Rattle.lfs_checks.specs.Held.{moment_of};
+ghost use Rattle.lfs_fs.specs.Held.{moment_of};
 ghost use Rattle.lfs_lookup.specs.Finds.{list_item_seen};
 ghost use Rattle.littlefs_c.specs.Calls.{Asks};
 ghost use Rattle.littlefs_c.specs.Files.{Carries, reading};

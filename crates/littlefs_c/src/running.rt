@@ -3,7 +3,7 @@
 ghost use Rattle.std.specs.Prelude.{◌≡◌, false, map, All, IfNone, IfOk, IfErr, IfSome};
 ghost use Rattle.lfs_model.specs.Run.{is_refusal};
 ghost use Rattle.lfs_model.specs.State.{is_remount};
-ghost use Rattle.lfs_checks.specs.Held.{moment_of};
+ghost use Rattle.lfs_fs.specs.Held.{moment_of};
 ghost use Rattle.lfs_fs.specs.OpSeen.{IsNamed, op_seen, reply_seen};
 ghost use Rattle.littlefs_c.specs.Calls.{Changes, Refuses, RunsThese};
 ghost use Rattle.littlefs_c.specs.FirstRefused.{IsFirstRefused};

@@ -1,8 +1,7 @@
 //! mklittlefs: makes an image of a littlefs file system from a folder, unpacks one into a folder, lists one, or checks one.
 #![tactic(auto)]
 
-use lfs_tool::Watched;
-use lfs_tool_files::{RealPlaces, answer};
+use lfs_tool::{RealPlaces, Watched, answer};
 use std::process::ExitCode;
 use std::{env, io};
 

@@ -3,7 +3,7 @@ use Rattle.lfs_model.specs.Operations as ops
 use Rattle.lfs_model.specs.TreeEdits.{added}
 use Rattle.lfs_model.specs.Tree.{FileNode}
 use Rattle.lfs_tree.specs.Seen.{SurvivesAs, tree_seen}
-use Rattle.lfs_checks.specs.FlagsSeen.{flags_seen}
+use Rattle.lfs_fs.specs.FlagsSeen.{flags_seen}
 use Rattle.lfs_fs.proofs.Beginning.{begun_made}
 use Rattle.lfs_fs.proofs.changing.begin_new.Goals as goal
 

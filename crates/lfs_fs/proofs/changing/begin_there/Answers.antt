@@ -3,7 +3,7 @@ use Rattle.std.proofs.lemmas.Bool.{le-ltb}
 use Rattle.lfs_model.specs.Operations as ops
 use Rattle.lfs_tree.specs.OpenContents.{IsOver, bytes_held, kept_of}
 use Rattle.lfs_tree.specs.Seen.{IsCarried, SurvivesAs, tree_seen}
-use Rattle.lfs_checks.specs.FlagsSeen.{flags_seen}
+use Rattle.lfs_fs.specs.FlagsSeen.{flags_seen}
 use Rattle.lfs_fs.proofs.Beginning.{begun_as_is, begun_empty, is_file_there}
 use Rattle.lfs_fs.proofs.Stopping.{nothing_yet, then_reads}
 use Rattle.lfs_fs.proofs.changing.begin_there.Goals as goal

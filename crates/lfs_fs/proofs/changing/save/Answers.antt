@@ -1,4 +1,4 @@
-use Rattle.lfs_checks.proofs.Writing.{can_store, has_saved}
+use Rattle.lfs_fs.proofs.Writing.{can_store, has_saved}
 use Rattle.lfs_fs.proofs.StoppedCalls.{store_left}
 use Rattle.lfs_fs.proofs.changing.save.Goals as goal
 

@@ -2,8 +2,8 @@ use Rattle.std.proofs.Common.{◌∙◌, Err, ap, subst, sym}
 use Rattle.std.specs.Prelude.{IfErr}
 use Rattle.std.proofs.lemmas.Result.{err_from_is_err_and}
 use Rattle.lfs_tree.specs.Seen.{IsError}
-use Rattle.lfs_checks.proofs.Questions.{error_either}
-use Rattle.lfs_checks.proofs.Writing.{beside_later, broken_after, can_write, has_written}
+use Rattle.lfs_fs.proofs.Questions.{error_either}
+use Rattle.lfs_fs.proofs.Writing.{beside_later, broken_after, can_write, has_written}
 use Rattle.lfs_fs.proofs.Stopping.{nothing_yet, then_reads}
 use Rattle.lfs_fs.proofs.StoppedCalls.{beside_left}
 use Rattle.lfs_fs.proofs.changing.write_by.Goals as goal

@@ -1,11 +1,11 @@
-use Rattle.lfs_checks.specs.Held.{held_of}
+use Rattle.lfs_fs.specs.Held.{held_of}
 use Rattle.std.proofs.Common.{refl, sym, ap, subst}
 use Rattle.lfs_device.specs.declared.geometry.Geometry.{Geometry}
 use Rattle.lfs_device.specs.declared.ordered.Ordered.{Ordered}
 use Rattle.lfs_model.specs.Thread.{anchor}
 use Rattle.lfs_thread.specs.Device.{two_of}
 use Rattle.lfs_tree.specs.Formatting.{DeviceComesBack}
-use Rattle.lfs_checks.specs.FileSeen.{files_seen}
+use Rattle.lfs_fs.specs.FileSeen.{files_seen}
 use Rattle.lfs_fs.proofs.FreshBegun.{fresh_state}
 use Rattle.lfs_fs.proofs.Remounting.{fresh_ready}
 use Rattle.lfs_fs.proofs.session.format_ordered.Goals as goal

@@ -2,8 +2,8 @@ use Rattle.std.proofs.Common.{ap, subst, sym}
 use Rattle.lfs_model.specs.Disk.{Disk}
 use Rattle.lfs_fs.proofs.FreshBegun.{mount_state}
 use Rattle.lfs_model.specs.View.{IsAccepted}
-use Rattle.lfs_checks.specs.FileSeen.{files_seen}
-use Rattle.lfs_checks.specs.Held.{IsReady}
+use Rattle.lfs_fs.specs.FileSeen.{files_seen}
+use Rattle.lfs_fs.specs.Held.{IsReady}
 use Rattle.lfs_fs.proofs.Remounting.{mounted_ready}
 use Rattle.lfs_fs.proofs.session.mount.Goals as goal
 

@@ -1,6 +1,6 @@
 use Rattle.std.proofs.Common.{ℕ, ap}
 use Rattle.lfs_fs.specs.FlagsSeen.{flags_seen}
-use Rattle.lfs_checks.specs.declared.flags.OpenFlags.{OpenFlags}
+use Rattle.lfs_fs.specs.declared.flags.OpenFlags.{OpenFlags}
 use Rattle.lfs_tool.proofs.carrying.for_new.Goals as goal
 
 pub returns : goal.returns

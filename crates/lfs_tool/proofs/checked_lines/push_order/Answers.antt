@@ -1,6 +1,6 @@
 use Rattle.std.proofs.Common.{◌≡◌, ◌++◌, subst, sym}
 use Rattle.std.specs.Prelude.{OnOk}
-use Rattle.lfs_findings.specs.declared.verdict.Orders.{Orders}
+use Rattle.lfs_tool.specs.declared.verdict.Orders.{Orders}
 use Rattle.lfs_tool.specs.CheckedLines.{order_line}
 use Rattle.lfs_tool.proofs.checked_lines.push_order.Goals as goal
 

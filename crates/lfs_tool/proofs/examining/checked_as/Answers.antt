@@ -1,5 +1,5 @@
 use Rattle.std.proofs.Common.{◌≡◌, Some, None, subst}
-use Rattle.lfs_findings.specs.declared.verdict.Verdict.TheVariants as verdict
+use Rattle.lfs_tool.specs.declared.verdict.Verdict.TheVariants as verdict
 use Rattle.lfs_tool.specs.Checked.{IsJudged}
 use Rattle.lfs_tool.proofs.examining.checked_as.Goals as goal
 

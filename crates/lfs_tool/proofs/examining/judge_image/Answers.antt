@@ -1,5 +1,5 @@
 use Rattle.std.proofs.Common.{subst}
-use Rattle.lfs_findings.specs.Verdict.{IsVerdict}
+use Rattle.lfs_tool.specs.Verdict.{IsVerdict}
 use Rattle.lfs_model.specs.Disk.{Disk}
 use Rattle.lfs_tool.proofs.examining.judge_image.Goals as goal
 

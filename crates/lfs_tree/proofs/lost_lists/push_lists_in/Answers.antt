@@ -1,7 +1,6 @@
-use Rattle.std.proofs.Common.{◌∙◌, ◌++◌, map, sym, ap, subst, arith}
+use Rattle.std.proofs.Common.{◌∙◌, ◌++◌, map, sym, ap, subst}
 use Rattle.std.proofs.lemmas.Option.{same_Some}
-use Rattle.lfs_model.specs.Log.{log_entries}
-use Rattle.lfs_model.specs.Content.{RawContent, content_after_all, no_content}
+use Rattle.lfs_model.specs.Content.{RawContent}
 use Rattle.lfs_model.specs.LoggedContent.{HaveParts}
 use Rattle.lfs_model.proofs.Logged.{logged}
 use Rattle.lfs_model.proofs.Completed.{completed_parts}

@@ -1,7 +1,7 @@
 use Rattle.std.proofs.Common.{ap, refl, sym, ◌∙◌}
 use Rattle.lfs_model.specs.History.{faults}
 use Rattle.lfs_model.specs.Operations as ops
-use Rattle.lfs_checks.specs.Held.{moment_of}
+use Rattle.lfs_fs.specs.Held.{moment_of}
 use Rattle.littlefs_c.specs.Files.{reading}
 use Rattle.littlefs_c.proofs.Carrying.{asks}
 use Rattle.littlefs_c.proofs.reading.bytes_at.Goals as goal

@@ -1,6 +1,6 @@
 use Rattle.std.proofs.Common.{refl}
 use Rattle.lfs_model.specs.Operations as ops
-use Rattle.lfs_checks.specs.Held.{moment_of}
+use Rattle.lfs_fs.specs.Held.{moment_of}
 use Rattle.littlefs_c.specs.Files.{reading}
 use Rattle.littlefs_c.proofs.Carrying.{ends_at_open, ends_at_seek, passed_on, reads}
 use Rattle.littlefs_c.proofs.reading.read_at.Goals as goal

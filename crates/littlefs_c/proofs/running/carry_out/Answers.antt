@@ -2,7 +2,7 @@ use Rattle.std.proofs.Common.{All, ap, map, subst, sym, ◌≡◌, ◌∙◌, fa
 use Rattle.lfs_model.specs.History.{faults}
 use Rattle.lfs_model.specs.Run.{is_refusal}
 use Rattle.lfs_model.proofs.Performing.{performed_turns}
-use Rattle.lfs_checks.specs.Held.{moment_of}
+use Rattle.lfs_fs.specs.Held.{moment_of}
 use Rattle.lfs_fs.specs.OpSeen.{IsNamed, op_seen, reply_seen}
 use Rattle.littlefs_c.specs.FirstRefused.{IsFirstRefused}
 use Rattle.littlefs_c.proofs.Carrying.{first_refused, no_remount, run_ended, runs_these}

@@ -1,5 +1,5 @@
 use Rattle.std.proofs.Common.{ap, length, map, sym, ◌∙◌}
-use Rattle.lfs_checks.specs.Held.{moment_of}
+use Rattle.lfs_fs.specs.Held.{moment_of}
 use Rattle.lfs_fs.specs.OpSeen.{op_seen}
 use Rattle.littlefs_c.proofs.Images.{leaves, run_kept}
 use Rattle.littlefs_c.proofs.running.change.Goals as goal

@@ -1,9 +1,9 @@
 use Rattle.std.proofs.Common.{refl, sym, Ok}
 use Rattle.lfs_model.specs.Operations as ops
-use Rattle.lfs_checks.specs.FileSeen.{files_seen, entry_of}
-use Rattle.lfs_checks.specs.Held.{held_of}
-use Rattle.lfs_checks.proofs.Answered.{not_failed, sound_by}
-use Rattle.lfs_checks.proofs.Errors.{given_on}
+use Rattle.lfs_fs.specs.FileSeen.{files_seen, entry_of}
+use Rattle.lfs_fs.specs.Held.{held_of}
+use Rattle.lfs_fs.proofs.Answered.{not_failed, sound_by}
+use Rattle.lfs_fs.proofs.Errors.{given_on}
 use Rattle.lfs_fs.proofs.Remounting.{closed_answers, closed_ready}
 use Rattle.lfs_fs.proofs.SavedTurns.{can_save, close_answers, close_asks, close_ready, taken, dirty_at, unsaved_writer}
 use Rattle.lfs_fs.proofs.Stopping.{no_call, tree_changed}

@@ -1,6 +1,6 @@
 use Rattle.std.proofs.Common.{◌≡◌, ◌∙◌, ap, subst, true}
 use Rattle.lfs_model.specs.Run.{Agrees}
-use Rattle.lfs_checks.specs.Held.{Held, held_of, moment_of}
+use Rattle.lfs_fs.specs.Held.{Held, held_of, moment_of}
 use Rattle.lfs_fs.proofs.Stopping.{failing_survives}
 use Rattle.lfs_fs.proofs.Withstanding.{ready_agrees, untouched_withstands}
 use Rattle.lfs_fs.proofs.session.Session.fail.Goals as goal

@@ -1,9 +1,9 @@
 use Rattle.std.proofs.Common.{ap, refl, None}
 use Rattle.lfs_device.specs.declared.error.Error.TheVariants as error
 use Rattle.lfs_model.specs.Operations as ops
-use Rattle.lfs_checks.specs.Held.{held_of}
-use Rattle.lfs_checks.proofs.Questions.{failed_by, works_by, refused_kept, question_kept, block_outside, block_inside}
-use Rattle.lfs_checks.proofs.Answered.{sound_by}
+use Rattle.lfs_fs.specs.Held.{held_of}
+use Rattle.lfs_fs.proofs.Questions.{failed_by, works_by, refused_kept, question_kept, block_outside, block_inside}
+use Rattle.lfs_fs.proofs.Answered.{sound_by}
 use Rattle.lfs_fs.proofs.Sparing.{kept_asking}
 use Rattle.lfs_fs.proofs.Ending.{kept_ends, refused_ends}
 use Rattle.lfs_fs.proofs.session.Session.is_used.Goals as goal

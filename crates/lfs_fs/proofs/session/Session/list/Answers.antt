@@ -1,9 +1,9 @@
 use Rattle.std.proofs.Common.{ap, map, refl, sym}
 use Rattle.lfs_model.specs.Operations as ops
 use Rattle.lfs_lookup.specs.Finds.{list_item_seen}
-use Rattle.lfs_checks.specs.Replies.{reply_in}
-use Rattle.lfs_checks.specs.Held.{held_of}
-use Rattle.lfs_checks.proofs.Answered.{question_call, files_asked, asked_by_checks, sound_by}
+use Rattle.lfs_fs.specs.Replies.{reply_in}
+use Rattle.lfs_fs.specs.Held.{held_of}
+use Rattle.lfs_fs.proofs.Answered.{question_call, files_asked, asked_by_checks, sound_by}
 use Rattle.lfs_fs.proofs.Stopping.{only_read, reads_of_checks}
 use Rattle.lfs_fs.proofs.Sparing.{asking_call}
 use Rattle.lfs_fs.proofs.Ending.{checked_ends}

@@ -1,14 +1,14 @@
 use Rattle.std.proofs.Common.{ap, refl, ◌∙◌}
 use Rattle.lfs_model.specs.Operations as ops
-use Rattle.lfs_checks.specs.FileSeen.{files_seen}
-use Rattle.lfs_checks.specs.FlagsSeen.{flags_seen}
-use Rattle.lfs_checks.specs.Held.{held_of}
-use Rattle.lfs_checks.proofs.Errors.{given_on}
-use Rattle.lfs_checks.proofs.OpenFiles.{few_left}
+use Rattle.lfs_fs.specs.FileSeen.{files_seen}
+use Rattle.lfs_fs.specs.FlagsSeen.{flags_seen}
+use Rattle.lfs_fs.specs.Held.{held_of}
+use Rattle.lfs_fs.proofs.Errors.{given_on}
+use Rattle.lfs_fs.proofs.OpenFiles.{few_left}
 use Rattle.lfs_fs.proofs.OpenedReaders.{reader_opened, reader_ready}
 use Rattle.lfs_model.specs.History.{faults}
 use Rattle.lfs_tree.specs.Seen.{Seen}
-use Rattle.lfs_checks.proofs.Answered.{reader_fails, sound_by}
+use Rattle.lfs_fs.proofs.Answered.{reader_fails, sound_by}
 use Rattle.lfs_fs.proofs.Called.{ended_as_call, still_call}
 use Rattle.lfs_fs.proofs.Ending.{granted_ends}
 use Rattle.lfs_fs.proofs.Stopping.{only_read, reads_failing}

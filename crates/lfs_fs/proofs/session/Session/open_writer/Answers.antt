@@ -2,11 +2,11 @@ use Rattle.std.proofs.Common.{◌≡◌, ◌<◌, ◌∙◌, [], sym, refl, ap, 
 use Rattle.lfs_model.specs.Operations as ops
 use Rattle.lfs_model.specs.Effects.{size_of}
 use Rattle.lfs_tree.specs.Seen.{Seen, tree_seen}
-use Rattle.lfs_checks.specs.FlagsSeen.{flags_seen}
-use Rattle.lfs_checks.specs.FileSeen.{entry_of, writers_in}
-use Rattle.lfs_checks.specs.declared.files.OpenFile.TheVariants as file
-use Rattle.lfs_checks.specs.Held.{held_of, held_with, moment_of}
-use Rattle.lfs_checks.proofs.Errors.{given_on}
+use Rattle.lfs_fs.specs.FlagsSeen.{flags_seen}
+use Rattle.lfs_fs.specs.FileSeen.{entry_of, writers_in}
+use Rattle.lfs_fs.specs.declared.files.OpenFile.TheVariants as file
+use Rattle.lfs_fs.specs.Held.{held_of, held_with, moment_of}
+use Rattle.lfs_fs.proofs.Errors.{given_on}
 use Rattle.lfs_fs.proofs.OpenedWriters.{IsOpenedBy, can_begin, can_create, no_writer, opened_new, opened_there, room_made, writer_breaks, writer_opened, writer_ready, writer_lacks_memory}
 use Rattle.lfs_model.specs.PowerLoss.{SurvivesStops}
 use Rattle.lfs_fs.proofs.StoppedCalls.{created_left, opened_left, opening_keeps}
@@ -15,7 +15,7 @@ use Rattle.lfs_fs.specs.Sparing.{LeavesOthers}
 use Rattle.lfs_device.specs.declared.error.Error.TheVariants as error
 use Rattle.lfs_model.specs.History.{faults}
 use Rattle.lfs_fs.proofs.session.Session.open_writer.Goals as goal
-use Rattle.lfs_checks.proofs.Answered.{not_failed, sound_by}
+use Rattle.lfs_fs.proofs.Answered.{not_failed, sound_by}
 use Rattle.lfs_fs.specs.Told.{IsTold}
 use Rattle.lfs_fs.proofs.Called.{changed_call, ended_as_call, failed_others, still_call}
 use Rattle.lfs_fs.proofs.Ending.{answer_ends, broken_ends, error_ends}

@@ -4,15 +4,15 @@ use Rattle.lfs_device.specs.declared.error.Error.TheVariants as error
 use Rattle.lfs_model.specs.Operations as ops
 use Rattle.lfs_model.specs.Session.{file_of, put_file}
 use Rattle.lfs_model.specs.Effects.{moved_to}
-use Rattle.lfs_checks.specs.FileSeen.{entry_of, files_seen, reader_seen, written_paths}
-use Rattle.lfs_checks.specs.Held.{IsRead, held_of}
-use Rattle.lfs_checks.specs.Replies.{reply_in}
-use Rattle.lfs_checks.proofs.OpenReaders.{one_of_all}
-use Rattle.lfs_checks.proofs.Answered.{asked_ready, files_asked, sound_by}
-use Rattle.lfs_checks.proofs.Errors.{given_on}
+use Rattle.lfs_fs.specs.FileSeen.{entry_of, files_seen, reader_seen, written_paths}
+use Rattle.lfs_fs.specs.Held.{IsRead, held_of}
+use Rattle.lfs_fs.specs.Replies.{reply_in}
+use Rattle.lfs_fs.proofs.OpenReaders.{one_of_all}
+use Rattle.lfs_fs.proofs.Answered.{asked_ready, files_asked, sound_by}
+use Rattle.lfs_fs.proofs.Errors.{given_on}
 use Rattle.lfs_fs.proofs.Moving.{moved_ready}
-use Rattle.lfs_checks.proofs.OpenFiles.{moved_is, none_reader, reader_there, some_reader}
-use Rattle.lfs_checks.proofs.Questions.{failed_by, refused_kept}
+use Rattle.lfs_fs.proofs.OpenFiles.{moved_is, none_reader, reader_there, some_reader}
+use Rattle.lfs_fs.proofs.Questions.{failed_by, refused_kept}
 use Rattle.lfs_fs.proofs.ReaderReads.{a_reader, no_reader, read_answers, read_fails}
 use Rattle.lfs_fs.proofs.Stopping.{only_read}
 use Rattle.lfs_fs.proofs.Sparing.{asking_call, asks_not, kept_asking}

@@ -1,9 +1,9 @@
 use Rattle.std.proofs.Common.{None, Some, ap, refl, sym}
 use Rattle.lfs_device.specs.declared.error.Error.TheVariants as error
 use Rattle.lfs_model.specs.Operations as ops
-use Rattle.lfs_checks.specs.Held.{Held, held_of}
-use Rattle.lfs_checks.proofs.Answered.{sound_by, nothing_asked}
-use Rattle.lfs_checks.proofs.Questions.{failed_by, is_read_only, is_writable, refused_kept, works_by}
+use Rattle.lfs_fs.specs.Held.{Held, held_of}
+use Rattle.lfs_fs.proofs.Answered.{sound_by, nothing_asked}
+use Rattle.lfs_fs.proofs.Questions.{failed_by, is_read_only, is_writable, refused_kept, works_by}
 use Rattle.lfs_fs.proofs.RecoverAnswered.{ok_then, recover_answers, recovered_left}
 use Rattle.lfs_fs.proofs.Stopping.{kept_call, tree_changed}
 use Rattle.lfs_fs.proofs.Ending.{carried_ends, refused_ends}

@@ -1,10 +1,10 @@
 use Rattle.std.proofs.Common.{refl}
-use Rattle.lfs_checks.specs.Held.{held_of}
+use Rattle.lfs_fs.specs.Held.{held_of}
 use Rattle.lfs_model.specs.Operations as ops
 use Rattle.lfs_fs.proofs.Remounting.{remount_answers, remount_ready}
 use Rattle.lfs_fs.proofs.Stopping.{only_read}
 use Rattle.lfs_fs.proofs.StoppedCalls.{reads_of_mount}
-use Rattle.lfs_checks.proofs.Answered.{sound_by}
+use Rattle.lfs_fs.proofs.Answered.{sound_by}
 use Rattle.lfs_fs.proofs.Sparing.{asking_call, asks_not}
 use Rattle.lfs_fs.proofs.Ending.{remount_ends, remount_refuses_not}
 use Rattle.lfs_fs.proofs.session.Session.remount.Goals as goal

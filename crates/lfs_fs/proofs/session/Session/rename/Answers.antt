@@ -1,14 +1,14 @@
 use Rattle.std.proofs.Common.{◌∙◌, ap₂, refl, sym, ap}
 use Rattle.lfs_model.specs.TreeEdits.{same_path, renamed}
 use Rattle.lfs_model.specs.Operations as ops
-use Rattle.lfs_checks.specs.Held.{held_of}
-use Rattle.lfs_checks.proofs.Errors.{given_on}
+use Rattle.lfs_fs.specs.Held.{held_of}
+use Rattle.lfs_fs.proofs.Errors.{given_on}
 use Rattle.lfs_fs.proofs.RenameAnswered.{renamed_left, same_answers}
-use Rattle.lfs_checks.proofs.RenameChecks.{rename_can}
+use Rattle.lfs_fs.proofs.RenameChecks.{rename_can}
 use Rattle.lfs_model.specs.Refusals.{as_path}
 use Rattle.lfs_tree.specs.Seen.{Seen, tree_seen}
-use Rattle.lfs_checks.proofs.Checked.{passed_writable}
-use Rattle.lfs_checks.proofs.Answered.{sound_by}
+use Rattle.lfs_fs.proofs.Checked.{passed_writable}
+use Rattle.lfs_fs.proofs.Answered.{sound_by}
 use Rattle.lfs_fs.proofs.Called.{done_call, ended_as_call, still_call}
 use Rattle.lfs_fs.proofs.Ending.{answer_ends}
 use Rattle.lfs_fs.proofs.Stopping.{only_read}

@@ -5,9 +5,9 @@ use Rattle.lfs_model.proofs.Performing.{performed_turns}
 use Rattle.lfs_model.proofs.Survived.{run_survives}
 use Rattle.lfs_model.proofs.Kept.{session_shows}
 use Rattle.lfs_model.proofs.Turns.{turns_joined}
-use Rattle.lfs_checks.specs.Held.{Held, moment_of}
+use Rattle.lfs_fs.specs.Held.{Held, moment_of}
 use Rattle.lfs_fs.specs.OpSeen.{IsNamed}
-use Rattle.lfs_checks.proofs.Failing.{memory_fails_now}
+use Rattle.lfs_fs.proofs.Failing.{memory_fails_now}
 use Rattle.lfs_fs.proofs.Running.{first_op, named_further, none_run, run_further, run_ended, run_cut, silent_few}
 use Rattle.lfs_fs.proofs.session.Session.run.Goals as goal
 

@@ -1,8 +1,8 @@
 use Rattle.std.proofs.Common.{refl}
 use Rattle.lfs_model.specs.Operations as ops
-use Rattle.lfs_checks.specs.Held.{held_of}
-use Rattle.lfs_checks.proofs.Answered.{ended_kept, sound_by}
-use Rattle.lfs_checks.proofs.Errors.{given_on}
+use Rattle.lfs_fs.specs.Held.{held_of}
+use Rattle.lfs_fs.proofs.Answered.{ended_kept, sound_by}
+use Rattle.lfs_fs.proofs.Errors.{given_on}
 use Rattle.lfs_fs.proofs.Moving.{moved_answers, moved_ready}
 use Rattle.lfs_fs.proofs.Stopping.{no_call}
 use Rattle.lfs_fs.proofs.Sparing.{asking_call, asks_not, kept_asking}

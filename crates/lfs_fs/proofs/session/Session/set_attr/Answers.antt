@@ -1,13 +1,13 @@
 use Rattle.std.proofs.Common.{refl, sym, ap, ap₂}
 use Rattle.lfs_model.specs.Operations as ops
-use Rattle.lfs_checks.specs.Held.{held_of}
-use Rattle.lfs_checks.proofs.Errors.{given_on}
-use Rattle.lfs_checks.proofs.SetAttrChecks.{set_attr_can}
+use Rattle.lfs_fs.specs.Held.{held_of}
+use Rattle.lfs_fs.proofs.Errors.{given_on}
+use Rattle.lfs_fs.proofs.SetAttrChecks.{set_attr_can}
 use Rattle.lfs_fs.proofs.Staying.{set_attr_left}
 use Rattle.lfs_model.specs.Content.{put_attribute}
 use Rattle.lfs_tree.specs.Seen.{tree_seen}
 use Rattle.lfs_tree.specs.CarryingSlots.{with_attributes_changed}
-use Rattle.lfs_checks.proofs.Checked.{passed_writable}
+use Rattle.lfs_fs.proofs.Checked.{passed_writable}
 use Rattle.lfs_fs.proofs.Called.{done_call, ended_as_call}
 use Rattle.lfs_fs.proofs.Told.{between_checked}
 use Rattle.lfs_fs.proofs.session.Session.set_attr.Goals as goal

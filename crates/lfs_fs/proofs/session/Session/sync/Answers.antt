@@ -1,9 +1,9 @@
 use Rattle.std.proofs.Common.{refl, sym, Ok, ap}
 use Rattle.lfs_model.specs.Operations as ops
-use Rattle.lfs_checks.specs.FileSeen.{files_seen, entry_of}
-use Rattle.lfs_checks.specs.Held.{Held, held_of}
-use Rattle.lfs_checks.proofs.Answered.{not_failed, sound_by}
-use Rattle.lfs_checks.proofs.Errors.{given_on}
+use Rattle.lfs_fs.specs.FileSeen.{files_seen, entry_of}
+use Rattle.lfs_fs.specs.Held.{Held, held_of}
+use Rattle.lfs_fs.proofs.Answered.{not_failed, sound_by}
+use Rattle.lfs_fs.proofs.Errors.{given_on}
 use Rattle.lfs_fs.proofs.SavedTurns.{can_save, left_free, left_inside, left_none, sync_answers, sync_idle, sync_ready, taken, dirty_at, unsaved_writer}
 use Rattle.lfs_fs.proofs.Stopping.{kept_call, tree_changed}
 use Rattle.lfs_fs.proofs.StoppedCalls.{saved_tree}

@@ -1,10 +1,10 @@
 use Rattle.std.proofs.Common.{◌<◌, ◌∙◌, Some, length, ap, is_some, refl, sym, subst, Ok}
 use Rattle.lfs_model.specs.Operations as ops
 use Rattle.lfs_model.specs.Run.{IsTurn}
-use Rattle.lfs_checks.specs.FileSeen.{entry_of, files_seen, writer_in, writer_seen, writers_in}
-use Rattle.lfs_checks.specs.Held.{Held, IsReady, held_of, moment_of}
-use Rattle.lfs_checks.proofs.Answered.{sound_by, not_failed}
-use Rattle.lfs_checks.proofs.Errors.{given_on}
+use Rattle.lfs_fs.specs.FileSeen.{entry_of, files_seen, writer_in, writer_seen, writers_in}
+use Rattle.lfs_fs.specs.Held.{Held, IsReady, held_of, moment_of}
+use Rattle.lfs_fs.proofs.Answered.{sound_by, not_failed}
+use Rattle.lfs_fs.proofs.Errors.{given_on}
 use Rattle.lfs_fs.proofs.WriterPaths.{truncate_path}
 use Rattle.lfs_fs.proofs.Truncating.{alone, can_now, length_left, let_go, other_needed, other_size, put_again, ready_with, same_size, some_writer, works_now}
 use Rattle.lfs_fs.proofs.Stopping.{kept_call, tree_changed}

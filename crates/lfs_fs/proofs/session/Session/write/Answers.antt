@@ -1,10 +1,10 @@
 use Rattle.std.proofs.Common.{rules, ◌<◌, ◌∙◌, Some, length, ap, is_some, refl, sym, subst, Ok}
 use Rattle.lfs_model.specs.Operations as ops
 use Rattle.lfs_model.specs.Run.{IsTurn}
-use Rattle.lfs_checks.specs.FileSeen.{entry_of, files_seen, writer_seen, writers_in}
-use Rattle.lfs_checks.specs.Held.{Held, IsReady, held_of, moment_of}
-use Rattle.lfs_checks.proofs.Answered.{sound_by, not_failed}
-use Rattle.lfs_checks.proofs.Errors.{given_on}
+use Rattle.lfs_fs.specs.FileSeen.{entry_of, files_seen, writer_seen, writers_in}
+use Rattle.lfs_fs.specs.Held.{Held, IsReady, held_of, moment_of}
+use Rattle.lfs_fs.proofs.Answered.{sound_by, not_failed}
+use Rattle.lfs_fs.proofs.Errors.{given_on}
 use Rattle.lfs_fs.proofs.WriterPaths.{write_path}
 use Rattle.lfs_fs.proofs.Truncating.{length_left, let_go, put_again, ready_with, some_writer}
 use Rattle.lfs_fs.proofs.WrittenTurns.{alone, can_now, few_bytes, nothing_put, some_put, some_taken}

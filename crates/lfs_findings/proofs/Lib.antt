@@ -1,9 +1,0 @@
-pub mod HeldPairs
-pub mod HeldSlots
-pub mod Along
-pub mod Looking
-pub mod RootPlaces
-pub mod HeldPlaces
-pub mod Counts
-pub mod Reordered
-pub mod Judged

@@ -1,0 +1,233 @@
+-- From what a look-up found to an operation's checks.
+use Rattle.std.proofs.Common.{ℕ, ◌≡◌, ◌+◌, ◌≤◌, Bool, true, false, not, List, [], ◌∷◌, Option, Some, None, Result, Ok, Err, length, nat_lt, nat_le, ◌&&◌, ◌||◌, unwrap_or, is_some, is_none, refl, sym, ap, ap₂, subst, ◌∙◌, arith}
+use Rattle.std.specs.Prelude.{if◌then◌else◌}
+use Rattle.std.specs.List.{list_any}
+use Rattle.std.specs.Option.{option_or}
+use Rattle.std.proofs.lemmas.Bool.Decides.{nat_tests}
+use Rattle.lfs_model.specs.Disk.{block_count}
+use Rattle.lfs_model.specs.Tree.{Path}
+use Rattle.lfs_model.specs.TreeEdits.{is_file, last_name, same_path}
+use Rattle.lfs_model.specs.Operations as ops
+use Rattle.lfs_model.specs.Operations.{Operation, Refusal, Flags, path_of}
+use Rattle.lfs_model.specs.Session.{is_allowed, is_long, parent_fault, readers, writers, first_of, refuse_if, is_overcharged, lacks, held}
+use Rattle.lfs_model.specs.Refusals.{as_path, refusal_of}
+use Rattle.lfs_model.specs.Effects.{size_of}
+use Rattle.lfs_device.specs.declared.error.Error.{Error}
+use Rattle.lfs_lookup.specs.Refusals.{error_for, refusal_in}
+use Rattle.lfs_fs.specs.Replies.{passed_with}
+use Rattle.lfs_tree.specs.Seen.{Seen, tree_seen, around_of, IsAsked, IsBrokenAsking, IsError}
+use Rattle.lfs_tree.specs.Allowed.{CanMake}
+use Rattle.lfs_model.specs.BlockSets.{in_flight_count}
+use Rattle.lfs_lookup.specs.FileContents.{AreContentsAt}
+use Rattle.lfs_lookup.specs.Finds.{Finds, is_absent, is_directory_node, is_file_node, size_in}
+use Rattle.lfs_fs.specs.Held.{Held, session_of, IsReadableAs, refused_by, ComesLate, EndsChecks, Checks}
+use Rattle.lfs_lookup.specs.declared.file_contents.FileContents.{FileContents}
+use Rattle.lfs_lookup.specs.declared.finding.Finding.{Finding}
+use Rattle.lfs_lookup.specs.declared.finding.Node.{Node}
+use Rattle.lfs_lookup.specs.declared.finding.Node.TheVariants as node
+use Rattle.lfs_fs.proofs.Answered.{not_failed, not_refused, no_refusal_io}
+use Rattle.lfs_fs.proofs.Errors.{error_refuses, refusal_again}
+use Rattle.lfs_fs.proofs.Late.{mkdir_late, reader_late, stat_late}
+
+-- a call failed on the way
+pub lookup_failed : {A : Type 0} (h : Held) (op : Operation) (P : A → Type 0) (e : Error) (tree : Seen) (r : Result A Error) → false ≡ h.tree.failed → IsBrokenAsking h.tree tree → IsError h.tree tree e →
+    ComesLate h op → r ≡ Err e → Checks h op P r tree
+lookup_failed h op P e tree r works broken error late is =
+    subst (λ z. Checks h op P z tree) (sym is)
+    (subst (λ b. EndsChecks b h op e tree) (sym (no_refusal_io e error.errors)) (broken, sym works, error, late))
+
+-- the last checks decide
+pub decided : {A : Type 0} (h : Held) (op : Operation) (P : A → Type 0) (x : A) (first : Option Refusal) (tree : Seen) (r : Result A Error) → IsAsked h.tree tree → ComesLate h op → refused_by h op ≡ first → (first ≡ None → P x) →
+    r ≡ passed_with first x → Checks h op P r tree
+decided h op P x None tree r asked late e p is = subst (λ z. Checks h op P z tree) (sym is) (asked, e, p refl)
+decided h op P x (Some refusal) tree r asked late e p is =
+    subst (λ z. Checks h op P z tree) (sym is)
+    (subst (λ b. EndsChecks b h op (error_for refusal) tree) (sym (error_refuses refusal)) (asked, told, λ once. absurd (let k = sym (late _ told) ∙ once in cc)))
+  where
+    told : refused_by h op ≡ Some (refusal_in (error_for refusal))
+    told = e ∙ ap (λ z. Some z) (sym (refusal_again refusal))
+
+pub both : {A : Type 0} {x y : A} {xs ys : List A} → x ≡ y → xs ≡ ys → x ∷ xs ≡ y ∷ ys
+both e es = ap₂ (λ x xs. x ∷ xs) e es
+
+pub when : {a : Option Refusal} {b c : Bool} (error : Refusal) → a ≡ refuse_if b error → b ≡ c → a ≡ refuse_if c error
+when error e f = e ∙ ap (λ b. refuse_if b error) f
+
+pub there : {A : Type 0} → (o : Option A) → is_some o ≡ not (is_none o)
+there None = refl
+there (Some x) = refl
+
+stat_refused : (h : Held) (bytes : List ℕ) (p : Path) (found : Finding) → h.tree.failed ≡ false → path_of bytes ≡ Some p → Finds (tree_seen h.tree) p found →
+    refused_by h (ops.Stat bytes) ≡ first_of (found.fault ∷ refuse_if (is_absent found.node) ops.NoEnt ∷ [])
+stat_refused h bytes p found works is f = rw (works, is, f.parents, f.nothing) refl
+
+size_found : (h : Held) (bytes : List ℕ) (p : Path) (found : Finding) → path_of bytes ≡ Some p → Finds (tree_seen h.tree) p found → size_of (tree_seen h.tree (as_path bytes)) ≡ size_in found.node
+size_found h bytes p found is f = ap (λ z. size_of (tree_seen h.tree (unwrap_or z []))) is ∙ f.sizes
+
+pub stat_checked : (h : Held) (bytes : List ℕ) (p : Path) (found : Finding) (tree : Seen) (absent : Bool) (a : Option Refusal) (size : Option ℕ) (r : Result (Option ℕ) Error) →
+    false ≡ h.tree.failed → Some p ≡ path_of bytes → IsAsked h.tree tree → Finds (tree_seen h.tree) p found →
+    absent ≡ is_absent found.node → a ≡ refuse_if absent ops.NoEnt → size ≡ size_in found.node → r ≡ passed_with (first_of (found.fault ∷ a ∷ [])) size →
+    Checks h (ops.Stat bytes) (λ z. size_of (tree_seen h.tree (as_path bytes)) ≡ z) r tree
+stat_checked h bytes p found tree absent a size r works is asked f absent_is a_is size_is r_is =
+    decided h (ops.Stat bytes) (λ z. size_of (tree_seen h.tree (as_path bytes)) ≡ z) size _ tree r asked (stat_late h bytes p works is)
+    (stat_refused h bytes p found (sym works) (sym is) f ∙ ap (λ z. first_of (found.fault ∷ z ∷ [])) (sym (a_is ∙ ap (λ b. refuse_if b ops.NoEnt) absent_is)))
+    (λ none. size_found h bytes p found (sym is) f ∙ sym size_is) r_is
+
+mkdir_refused : (h : Held) (bytes : List ℕ) (p : Path) (found : Finding) → h.tree.failed ≡ false → h.tree.writable ≡ true → path_of bytes ≡ Some p → Finds (tree_seen h.tree) p found →
+    refused_by h (ops.Mkdir bytes) ≡ first_of (found.fault ∷ refuse_if (nat_lt 255 (length (last_name p))) ops.NameTooLong ∷ refuse_if (not (is_absent found.node)) ops.Exist
+    ∷ refuse_if (is_overcharged (around_of h.tree) (last_name p) []) ops.EntryFull ∷ refuse_if (lacks (around_of h.tree) h.files 4) ops.NoSpace ∷ [])
+mkdir_refused h bytes p found works writable is f = rw (works, writable, is, f.parents, there (tree_seen h.tree p), f.nothing) refl
+
+pub mkdir_checked : (h : Held) (bytes : List ℕ) (p : Path) (found : Finding) (tree : Seen) (len other : ℕ) (absent over lack : Bool) (a b d e : Option Refusal) (r : Result Path Error) →
+    false ≡ h.tree.failed → true ≡ h.tree.writable → Some p ≡ path_of bytes → IsAsked h.tree tree → Finds (tree_seen h.tree) p found →
+    len ≡ length (last_name p) → a ≡ refuse_if (nat_lt 255 len) ops.NameTooLong →
+    absent ≡ is_absent found.node → b ≡ refuse_if (not absent) ops.Exist →
+    other ≡ length (last_name p) → ((name : List ℕ) → length name ≡ other → over ≡ is_overcharged (around_of tree) name []) → d ≡ refuse_if over ops.EntryFull →
+    lack ≡ lacks (around_of tree) h.files 4 → e ≡ refuse_if lack ops.NoSpace →
+    r ≡ passed_with (first_of (found.fault ∷ a ∷ b ∷ d ∷ e ∷ [])) p → Checks h (ops.Mkdir bytes) (λ path. path ≡ as_path bytes) r tree
+mkdir_checked h bytes p found tree len other absent over lack a b d e r works writable is asked f len_is a_is absent_is b_is other_is over_is d_is lack_is e_is r_is =
+    decided h (ops.Mkdir bytes) (λ path. path ≡ as_path bytes) p _ tree r asked (mkdir_late h bytes p works writable is)
+    (mkdir_refused h bytes p found (sym works) (sym writable) (sym is) f ∙ ap first_of (sym lists))
+    (λ none. ap (λ z. unwrap_or z []) is) r_is
+  where
+    same : around_of tree ≡ around_of h.tree
+    same = ap around_of asked.same
+
+    lists : (found.fault ∷ a ∷ b ∷ d ∷ e ∷ []) ≡ (found.fault ∷ refuse_if (nat_lt 255 (length (last_name p))) ops.NameTooLong ∷ refuse_if (not (is_absent found.node)) ops.Exist
+        ∷ refuse_if (is_overcharged (around_of h.tree) (last_name p) []) ops.EntryFull ∷ refuse_if (lacks (around_of h.tree) h.files 4) ops.NoSpace ∷ [])
+    lists = both refl (both (when ops.NameTooLong a_is (ap (nat_lt 255) len_is)) (both (when ops.Exist b_is (ap not absent_is))
+        (both (when ops.EntryFull d_is (over_is (last_name p) (sym other_is) ∙ ap (λ around. is_overcharged around (last_name p) []) same))
+        (both (when ops.NoSpace e_is (lack_is ∙ ap (λ around. lacks around h.files 4) same)) refl))))
+
+-- ---- what no check refuses
+
+pub neither : (r s : Option Refusal) → option_or r s ≡ None → (r ≡ None) × (s ≡ None)
+neither None s e = (refl, e)
+neither (Some x) s e = absurd (let k : Some x ≡ None = e in cc)
+
+pub unrefused : (b : Bool) (error : Refusal) → refuse_if b error ≡ None → b ≡ false
+unrefused false error e = refl
+unrefused true error e = absurd (let k : Some error ≡ None = e in cc)
+
+pub negated : (b : Bool) → not b ≡ false → b ≡ true
+negated true e = refl
+negated false e = absurd (cc)
+
+-- an operation that checks first whether the image may be written
+pub passed_writable : (h : Held) (op : Operation) (rest : Option Refusal) → refusal_of (around_of h.tree) (session_of h) op ≡ option_or (refuse_if (not h.tree.writable) ops.ReadOnly) rest → refused_by h op ≡ None → h.tree.writable ≡ true
+passed_writable h op rest is e = negated h.tree.writable (unrefused (not h.tree.writable) ops.ReadOnly (neither _ rest (sym is ∙ not_refused h op e)).0)
+
+pub room_left : (n m k f l : ℕ) → f ≤ k → nat_lt n (m + k + l) ≡ false → m + f + l ≤ n
+room_left n m k f l few e = grind (arith, nat_tests)
+
+-- there is room beside what is held back
+pub mkdir_space : (h : Held) (bytes : List ℕ) → refused_by h (ops.Mkdir bytes) ≡ None → lacks (around_of h.tree) h.files 4 ≡ false
+mkdir_space h bytes e =
+    let a = neither (refuse_if (not h.tree.writable) ops.ReadOnly) _ (not_refused h (ops.Mkdir bytes) e) in
+    let b = neither (refuse_if (is_none (path_of bytes)) ops.Invalid) _ a.1 in
+    let c = neither (parent_fault (tree_seen h.tree) [] (as_path bytes)) _ b.1 in
+    let d = neither (refuse_if (is_long (as_path bytes)) ops.NameTooLong) _ c.1 in
+    let i = neither (refuse_if (is_some (tree_seen h.tree (as_path bytes))) ops.Exist) _ d.1 in
+    let j = neither (refuse_if (is_overcharged (around_of h.tree) (last_name (as_path bytes)) []) ops.EntryFull) _ i.1 in
+    let k = neither (refuse_if (lacks (around_of h.tree) h.files 4) ops.NoSpace) None j.1 in
+    unrefused (lacks (around_of h.tree) h.files 4) ops.NoSpace k.0
+
+mkdir_passed : (h : Held) (bytes : List ℕ) → in_flight_count h.tree.map ≤ held h.tree.disk.block_size h.files → refused_by h (ops.Mkdir bytes) ≡ None → CanMake h.tree (as_path bytes)
+mkdir_passed h bytes flight e =
+    let a = neither _ _ (not_refused h (ops.Mkdir bytes) e) in
+    let b = neither _ _ a.1 in
+    let c = neither _ _ b.1 in
+    let d = neither _ _ c.1 in
+    let i = neither _ _ d.1 in
+    let j = neither _ _ i.1 in
+    record {
+      works = not_failed h (ops.Mkdir bytes) e;
+      writable = negated h.tree.writable (unrefused _ _ a.0);
+      parents = c.0;
+      name = unrefused _ _ d.0;
+      nothing = unrefused _ _ i.0;
+      fits = unrefused _ _ j.0;
+      room = room_left (block_count h.tree.disk) (length (around_of h.tree).used) (held h.tree.disk.block_size h.files) (in_flight_count h.tree.map) 4 flight (mkdir_space h bytes e);
+    }
+
+-- the directory can be made at the path that the checks let pass
+pub mkdir_can : (h : Held) (bytes : List ℕ) (path : Path) (tree : Seen) → (h.tree.failed ≡ false → in_flight_count h.tree.map ≤ held h.tree.disk.block_size h.files) → Checks h (ops.Mkdir bytes) (λ p. p ≡ as_path bytes) (Ok path) tree → CanMake tree path
+mkdir_can h bytes path tree ready c =
+    let can = mkdir_passed h bytes (ready (not_failed h (ops.Mkdir bytes) c.1)) c.1 in
+    subst (λ t. CanMake t path) (sym c.0.same) (subst (λ z. CanMake (record h.tree { history = tree.history; cache = tree.cache }) z) (sym c.2)
+    (record { works = can.works; writable = can.writable; parents = can.parents; name = can.name; nothing = can.nothing; fits = can.fits; room = can.room }))
+
+-- ---- an open for reading
+
+no_writing : (f : Flags) → f.write ≡ false → is_allowed f ≡ true → (f.create ≡ false) × (f.exclusive ≡ false) × (f.truncate ≡ false)
+no_writing f = go f.unknown f.write f.read f.create f.exclusive f.truncate f.append
+  where
+    go : (u w r c e t a : Bool) → w ≡ false → (not u && (if w then not r && (c || not e) else r && not (c || e || t || a))) ≡ true → (c ≡ false) × (e ≡ false) × (t ≡ false)
+    go true w r c e t a h k = absurd (cc)
+    go false true r c e t a h k = absurd (cc)
+    go false false false c e t a h k = absurd (cc)
+    go false false true true e t a h k = absurd (cc)
+    go false false true false true t a h k = absurd (cc)
+    go false false true false false true a h k = absurd (cc)
+    go false false true false false false a h k = (refl, refl, refl)
+
+abbrev is_busy : Held → Path → Bool
+is_busy h p = list_any (λ w. same_path p w.path) (writers h.files) || nat_le 16 (length (readers h.files))
+
+open_refused : (h : Held) (bytes : List ℕ) (p : Path) (flags : Flags) (found : Finding) → h.tree.failed ≡ false → path_of bytes ≡ Some p → flags.write ≡ false → is_allowed flags ≡ true → Finds (tree_seen h.tree) p found →
+    refused_by h (ops.Open bytes flags) ≡ first_of (found.fault ∷ refuse_if (is_absent found.node) ops.NoEnt ∷ refuse_if (is_directory_node found.node) ops.IsDir ∷ refuse_if (is_busy h p) ops.Busy ∷ [])
+open_refused h bytes p flags found works is write allowed f = go (is_none (tree_seen h.tree p)) refl
+  where
+    plain : (flags.create ≡ false) × (flags.exclusive ≡ false) × (flags.truncate ≡ false)
+    plain = no_writing flags write allowed
+
+    go : (b : Bool) → is_none (tree_seen h.tree p) ≡ b →
+        refused_by h (ops.Open bytes flags) ≡ first_of (found.fault ∷ refuse_if (is_absent found.node) ops.NoEnt ∷ refuse_if (is_directory_node found.node) ops.IsDir ∷ refuse_if (is_busy h p) ops.Busy ∷ [])
+    go true e = rw (works, allowed, write, is, f.parents, e, sym f.nothing ∙ e, plain.0) refl
+    go false e = rw (works, allowed, write, is, f.parents, e, sym f.nothing ∙ e, there (tree_seen h.tree p) ∙ ap not e, plain.1, plain.2, f.directories) refl
+
+pub open_checked : (h : Held) (bytes : List ℕ) (p : Path) (flags : Flags) (found : Finding) (tree : Seen) (absent directory busy : Bool) (a b d : Option Refusal) (x : FileContents) (r : Result FileContents Error) →
+    (is_file (tree_seen h.tree p) ≡ true → AreContentsAt h.tree.pairs p x) → false ≡ h.tree.failed → Some p ≡ path_of bytes → flags.write ≡ false → true ≡ is_allowed flags → IsAsked h.tree tree → Finds (tree_seen h.tree) p found →
+    absent ≡ is_absent found.node → a ≡ refuse_if absent ops.NoEnt → directory ≡ is_directory_node found.node → b ≡ refuse_if directory ops.IsDir → busy ≡ is_busy h p → d ≡ refuse_if busy ops.Busy →
+    r ≡ passed_with (first_of (found.fault ∷ a ∷ b ∷ d ∷ [])) x →
+    Checks h (ops.Open bytes flags) (IsReadableAs h.tree h.files bytes) r tree
+open_checked h bytes p flags found tree absent directory busy a b d x r has works is write allowed asked f absent_is a_is directory_is b_is busy_is d_is r_is =
+    decided h (ops.Open bytes flags) (IsReadableAs h.tree h.files bytes) x _ tree r asked (reader_late h bytes p flags works is write allowed)
+    (open_refused h bytes p flags found (sym works) (sym is) write (sym allowed) f ∙ ap first_of (sym lists))
+    readable r_is
+  where
+    lists : (found.fault ∷ a ∷ b ∷ d ∷ []) ≡ (found.fault ∷ refuse_if (is_absent found.node) ops.NoEnt ∷ refuse_if (is_directory_node found.node) ops.IsDir ∷ refuse_if (is_busy h p) ops.Busy ∷ [])
+    lists = both refl (both (when ops.NoEnt a_is absent_is) (both (when ops.IsDir b_is directory_is) (both (when ops.Busy d_is busy_is) refl)))
+
+    second : (x y : Bool) → (x || y) ≡ false → y ≡ false
+    second true y e = absurd (cc)
+    second false y e = e
+
+    first : (x y : Bool) → (x || y) ≡ false → x ≡ false
+    first true y e = absurd (cc)
+    first false y e = refl
+
+    is_a_file : (n : Node) → is_absent n ≡ false → is_directory_node n ≡ false → is_file_node n ≡ true
+    is_a_file node.Nothing e k = absurd (cc)
+    is_a_file (node.File size) e k = refl
+    is_a_file node.Directory e k = absurd (cc)
+
+    readable : first_of (found.fault ∷ a ∷ b ∷ d ∷ []) ≡ None → IsReadableAs h.tree h.files bytes x
+    readable none =
+        let k = neither found.fault (first_of (a ∷ b ∷ d ∷ [])) none in
+        let l = neither a (first_of (b ∷ d ∷ [])) k.1 in
+        let m = neither b (first_of (d ∷ [])) l.1 in
+        let n = neither d None m.1 in
+        let there = unrefused (is_absent found.node) ops.NoEnt (sym (when ops.NoEnt a_is absent_is) ∙ l.0) in
+        let leaf = unrefused (is_directory_node found.node) ops.IsDir (sym (when ops.IsDir b_is directory_is) ∙ m.0) in
+        let free = unrefused (is_busy h p) ops.Busy (sym (when ops.Busy d_is busy_is) ∙ n.0) in
+        let path : p ≡ as_path bytes = ap (λ z. unwrap_or z []) is in
+        record {
+          readable = record {
+            given = ap is_some (sym is);
+            there = ap (λ q. is_none (tree_seen h.tree q)) (sym path) ∙ f.nothing ∙ there;
+            few = second (list_any (λ w. same_path p w.path) (writers h.files)) (nat_le 16 (length (readers h.files))) free;
+            apart = ap (λ q. list_any (λ w. same_path q w.path) (writers h.files)) (sym path) ∙ first (list_any (λ w. same_path p w.path) (writers h.files)) (nat_le 16 (length (readers h.files))) free;
+          };
+          contents = subst (λ q. AreContentsAt h.tree.pairs q x) path (has (f.files ∙ is_a_file found.node there leaf));
+        }

@@ -1,0 +1,156 @@
+-- Where an error takes the place of a reply.
+use Rattle.std.proofs.Common.{inl, inr, ℕ, ◌≡◌, ◌+◌, ◌<◌, Bool, true, false, cond, List, [], ◌∷◌, ◌++◌, refl, sym, ap, ap₂, subst, ◌∙◌, append_assoc, arith}
+use Rattle.std.specs.Prelude.{◌⊎◌}
+use Rattle.lfs_device.specs.declared.error.Error.{Error}
+use Rattle.lfs_device.specs.declared.error.Error.TheVariants.{Io, NoMemory}
+use Rattle.lfs_model.specs.Blocks.{Blocks}
+use Rattle.lfs_model.specs.Disk.{SameGeometry}
+use Rattle.lfs_model.specs.History.{Event, Call, Read, Program, Erase, EachEvent, IsReadOf, reads_in, programs_in, erases_in, faults}
+use Rattle.lfs_model.specs.Operations.{Operation}
+use Rattle.lfs_model.specs.Session.{Files, Session}
+use Rattle.lfs_model.specs.State.{State, HasFailed, Healthy, is_remount}
+use Rattle.lfs_model.specs.Run.{Moment, NoWrites, only_asks, renames_to_itself}
+use Rattle.lfs_tree.specs.Seen.{Seen, IsSound, IsAsked, IsBroken, IsBrokenAsking, IsError}
+use Rattle.lfs_fs.specs.Held.{Held, held_with, session_of, moment_of, FailsBy}
+
+-- ---- calls
+
+none_written : (call : Call) → reads_in call ≡ 1 → (programs_in call ≡ 0) × (erases_in call ≡ 0)
+none_written (Read block off len) e = (refl, refl)
+none_written (Program block off bytes) e = absurd (cc)
+none_written (Erase block) e = absurd (cc)
+
+pub reads_write_nothing : (blocks : Blocks) (events : List Event) → EachEvent (IsReadOf blocks) events → NoWrites events
+reads_write_nothing blocks [] h = (refl, refl)
+reads_write_nothing blocks (e ∷ older) h =
+    let k = reads_write_nothing blocks older h.1 in
+    let l = none_written e.call h.0.reads in
+    (ap₂ (λ x y. x + y) k.0 l.0, ap₂ (λ x y. x + y) k.1 l.1)
+
+zero_left : (m n : ℕ) → m + n ≡ 0 → m ≡ 0
+zero_left m n e = omega arith
+
+zero_right : (m n : ℕ) → m + n ≡ 0 → n ≡ 0
+zero_right m n e = omega arith
+
+pub nothing_written : (new old : List Event) → NoWrites new → NoWrites old → NoWrites (new ++ old)
+nothing_written [] old h k = k
+nothing_written (e ∷ new) old h k =
+    let l = nothing_written new old (zero_left _ _ h.0, zero_left _ _ h.1) k in
+    (ap₂ (λ x y. x + y) l.0 (zero_right _ _ h.0), ap₂ (λ x y. x + y) l.1 (zero_right _ _ h.1))
+
+-- ---- moments
+
+state_of : Held → Bool → State
+state_of h b = cond b HasFailed (Healthy (session_of h))
+
+pub failed_moment : (h : Held) → h.tree.failed ≡ true → moment_of h ≡ record { disk = h.tree.disk; calls = h.tree.history; state = HasFailed }
+failed_moment h e = ap (λ b. record { disk = h.tree.disk; calls = h.tree.history; state = cond b HasFailed (Healthy (session_of h)) }) e
+
+pub healthy_moment : (h : Held) → h.tree.failed ≡ false → moment_of h ≡ record { disk = h.tree.disk; calls = h.tree.history; state = Healthy (session_of h) }
+healthy_moment h e = ap (λ b. record { disk = h.tree.disk; calls = h.tree.history; state = cond b HasFailed (Healthy (session_of h)) }) e
+
+works_not_failed : (h : Held) → h.tree.failed ≡ false → (moment_of h).state ≡ HasFailed → ⊥
+works_not_failed h works f = let k : Healthy (session_of h) ≡ HasFailed = sym (ap (λ (m : Moment). m.state) (healthy_moment h works)) ∙ f in absurd (cc)
+
+same_session : (s t : Session) → Healthy s ≡ Healthy t → s ≡ t
+same_session s t e = ap or_else e
+  where
+    or_else : State → Session
+    or_else HasFailed = s
+    or_else (Healthy z) = z
+
+-- ---- errors
+
+pub widened : {P : Type 0} (e : Error) → (e ≡ Io) ⊎ (e ≡ NoMemory) → (e ≡ Io) ⊎ ((e ≡ NoMemory) ⊎ P)
+widened e (inl h) = inl h
+widened e (inr h) = inr (inl h)
+
+-- a call failed that only reads, and with it any operation
+pub asking_fails : (e : Error) (old : Held) (op : Operation) (tree : Seen) (files : Files) → old.tree.failed ≡ false → IsBrokenAsking old.tree tree → IsError old.tree tree e →
+    FailsBy e (moment_of old) op (moment_of (held_with tree files))
+asking_fails e old op tree files works broken error = record {
+  fails = record {
+    failed = ap (λ (m : Moment). m.state) (failed_moment (held_with tree files) broken.failed);
+    geometry = subst (λ d. SameGeometry old.tree.disk d) (sym broken.disk) (record { block_size = refl; page = refl; order = refl; count = refl });
+    calls = broken.reads.events;
+    called = broken.reads.extends;
+    asks = λ s f a. (broken.disk, writes);
+    itself = λ h. (broken.disk, writes);
+    unwritten = λ none. (broken.disk, writes);
+    remounted = λ h. (broken.disk, writes);
+    silent = λ f other. absurd (works_not_failed old works f);
+  };
+  errors = widened e error.errors;
+  fault = error.fault;
+  no_fault = error.no_fault;
+}
+  where
+    writes : NoWrites broken.reads.events
+    writes = reads_write_nothing old.tree.disk.blocks broken.reads.events broken.reads.each
+
+-- a call failed that changes the disk, which may be written
+pub broken_fails : (e : Error) (old : Held) (op : Operation) (mid new : Seen) (files : Files) → old.tree.failed ≡ false → is_remount op ≡ false → only_asks (session_of old) op ≡ false →
+    renames_to_itself op ≡ false → IsSound old.tree → old.tree.writable ≡ true → IsAsked old.tree mid → IsBroken mid new → IsError mid new e → FailsBy e (moment_of old) op (moment_of (held_with new files))
+broken_fails e old op mid new files works other asks itself sound writable asked broken error = record {
+  fails = record {
+    failed = ap (λ (m : Moment). m.state) (failed_moment (held_with new files) broken.failed);
+    geometry = subst (λ (t : Seen). SameGeometry t.disk new.disk) asked.same broken.geometry;
+    calls = broken.calls ++ asked.reads.events;
+    called = broken.called ∙ ap (λ z. broken.calls ++ z) asked.reads.extends ∙ sym (append_assoc broken.calls asked.reads.events old.tree.history);
+    asks = λ s f a. absurd (let k = sym asks ∙ ap (λ z. only_asks z op) (same_session (session_of old) s (sym (ap (λ (m : Moment). m.state) (healthy_moment old works)) ∙ f)) ∙ a in cc);
+    itself = λ h. absurd (let k = sym itself ∙ h in cc);
+    unwritten = λ none. absurd (none old.tree.pairs sound.accepted (sound.fits writable));
+    remounted = λ h. absurd (let k = sym other ∙ h in cc);
+    silent = λ f h. absurd (works_not_failed old works f);
+  };
+  errors = widened e error.errors;
+  fault = λ h. subst (λ n. n < faults new.history) asked.no_fault (error.fault h);
+  no_fault = λ h. error.no_fault h ∙ asked.no_fault;
+}
+
+-- calls that only read leave the disk's shape
+pub broken_by_reads : (t s : Seen) → IsBrokenAsking t s → IsBroken t s
+broken_by_reads t s b = record {
+  failed = b.failed;
+  geometry = subst (λ d. SameGeometry t.disk d) (sym b.disk) (record { block_size = refl; page = refl; order = refl; count = refl });
+  calls = b.reads.events;
+  called = b.reads.extends;
+}
+
+-- no memory is found for what the session keeps
+pub memory_error : (old mid : Seen) → IsAsked old mid → IsError old (record mid { failed = true }) NoMemory
+memory_error old mid asked = record { errors = inr refl; fault = λ h. absurd (cc); no_fault = λ h. asked.no_fault }
+
+pub memory_broken : (old mid : Seen) → IsAsked old mid → IsBrokenAsking old (record mid { failed = true })
+memory_broken old mid asked = record {
+  failed = refl;
+  disk = ap (λ (t : Seen). t.disk) asked.same;
+  reads = asked.reads;
+}
+
+pub memory_fails : (old : Held) (op : Operation) (mid : Seen) (files : Files) → old.tree.failed ≡ false → IsAsked old.tree mid →
+    FailsBy NoMemory (moment_of old) op (moment_of (held_with (record mid { failed = true }) files))
+memory_fails old op mid files works asked = asking_fails NoMemory old op (record mid { failed = true }) files works (memory_broken old.tree mid asked) (memory_error old.tree mid asked)
+
+-- the same before any call, whether or not the session had failed
+pub memory_fails_at_once : (old : Held) (op : Operation) → FailsBy NoMemory (moment_of old) op (moment_of (held_with (record old.tree { failed = true }) old.files))
+memory_fails_at_once old op = record {
+  fails = record {
+    failed = refl;
+    geometry = record { block_size = refl; page = refl; order = refl; count = refl };
+    calls = [];
+    called = refl;
+    asks = λ s f a. (refl, (refl, refl));
+    itself = λ h. (refl, (refl, refl));
+    unwritten = λ none. (refl, (refl, refl));
+    remounted = λ h. (refl, (refl, refl));
+    silent = λ f other. (refl, refl);
+  };
+  errors = inr (inl refl);
+  fault = λ h. absurd (cc);
+  no_fault = λ h. refl;
+}
+
+pub memory_fails_now : (old new : Held) (op : Operation) → new ≡ record old { tree = record old.tree { failed = true } } → FailsBy NoMemory (moment_of old) op (moment_of new)
+memory_fails_now old new op is = subst (λ z. FailsBy NoMemory (moment_of old) op (moment_of z)) (sym is) (memory_fails_at_once old op)

@@ -1,0 +1,210 @@
+-- Checks of a rename.
+use Rattle.std.proofs.Common.{◌≤◌, ℕ, ◌≡◌, ◌&&◌, ◌||◌, Bool, true, false, not, List, [], ◌∷◌, length, nat_lt, Option, Some, None, Result, unwrap_or, refl, sym, ap, ap₂, subst, ◌∙◌}
+use Rattle.lfs_device.specs.declared.error.Error.{Error}
+use Rattle.lfs_model.specs.TreeEdits.{attributes_of, is_beneath, last_name, names_of, same_path}
+use Rattle.lfs_model.specs.BlockSets.{in_flight_count}
+use Rattle.lfs_model.specs.Disk.{block_count}
+use Rattle.lfs_model.specs.Operations as ops
+use Rattle.lfs_model.specs.Operations.{Refusal, path_of}
+use Rattle.lfs_model.specs.Session.{first_of, held, is_open_at, is_overcharged, lacks, refuse_if}
+use Rattle.lfs_model.specs.Slots.{Attributes, attributes_size}
+use Rattle.lfs_model.specs.Refusals.{as_path, is_root}
+use Rattle.lfs_model.specs.Tree.{Path}
+use Rattle.lfs_tree.specs.Allowed.{CanRename}
+use Rattle.lfs_lookup.specs.AttributeAt.{IsAttributesSize}
+use Rattle.lfs_lookup.specs.Finds.{Finds, has_names, is_absent, is_directory_node, is_file_node}
+use Rattle.lfs_tree.specs.Seen.{Seen, around_of, tree_seen, IsAsked}
+use Rattle.lfs_lookup.specs.declared.finding.Finding.{Finding}
+use Rattle.lfs_fs.specs.EntryPaths.{entry_path}
+use Rattle.lfs_fs.specs.Held.{Held, refused_by, Checks}
+use Rattle.lfs_fs.specs.RenamePaths.{IsRenaming, is_in_the_way}
+use Rattle.lfs_fs.specs.Replies.{passed_with}
+use Rattle.lfs_fs.specs.declared.renaming.Renaming.{Renaming}
+use Rattle.lfs_fs.proofs.Answered.{not_failed, not_refused}
+use Rattle.lfs_fs.proofs.Late.{rename_late}
+use Rattle.lfs_fs.proofs.Checked.{both, decided, negated, neither, room_left, unrefused, when}
+use Rattle.lfs_fs.proofs.EntryChecks.{good_root}
+use Rattle.lfs_fs.proofs.EntryPaths.{is_entry, no_entry, root_false}
+
+-- ---- paths that none are an entry's, or one beneath the other
+
+pub from_no_entry : (h : Held) (old new : List ℕ) → h.tree.failed ≡ false → h.tree.writable ≡ true → None ≡ entry_path old → refused_by h (ops.Rename old new) ≡ Some ops.Invalid
+from_no_entry h old new works writable e = rw (works, writable, no_entry old e) refl
+
+pub to_no_entry : (h : Held) (old new : List ℕ) (p : Path) → h.tree.failed ≡ false → h.tree.writable ≡ true → Some p ≡ entry_path old → None ≡ entry_path new → refused_by h (ops.Rename old new) ≡ Some ops.Invalid
+to_no_entry h old new p works writable is e = rw (works, writable, (is_entry old p is).1, no_entry new e) refl
+
+pub beneath_itself : (h : Held) (old new : List ℕ) (p q : Path) → h.tree.failed ≡ false → h.tree.writable ≡ true → Some p ≡ entry_path old → Some q ≡ entry_path new → is_beneath (as_path old) (as_path new) ≡ true → refused_by h (ops.Rename old new) ≡ Some ops.Invalid
+beneath_itself h old new p q works writable is are e = rw (works, writable, (is_entry old p is).1, (is_entry new q are).1, e) refl
+
+-- ---- the others
+
+abbrev checks_of : Held → Path → Path → Finding → Finding → List (Option Refusal)
+checks_of h p q entry target =
+    entry.fault ∷ target.fault ∷ refuse_if (nat_lt 255 (length (last_name q))) ops.NameTooLong ∷ refuse_if (is_absent entry.node) ops.NoEnt
+    ∷ refuse_if (not (same_path p q) && is_directory_node entry.node && is_file_node target.node) ops.NotDir ∷ refuse_if (not (same_path p q) && is_file_node entry.node && is_directory_node target.node) ops.IsDir
+    ∷ refuse_if (not (same_path p q) && has_names (tree_seen h.tree) q) ops.NotEmpty ∷ refuse_if (is_open_at (is_in_the_way p q) h.files) ops.Busy
+    ∷ refuse_if (not (same_path p q) && is_overcharged (around_of h.tree) (last_name q) (attributes_of (tree_seen h.tree p))) ops.EntryFull ∷ refuse_if (lacks (around_of h.tree) h.files 2) ops.NoSpace ∷ []
+
+rename_refused : (h : Held) (old new : List ℕ) (p q : Path) (entry target : Finding) → h.tree.failed ≡ false → h.tree.writable ≡ true → path_of old ≡ Some p → path_of new ≡ Some q → is_root p ≡ false → is_root q ≡ false → is_beneath p q ≡ false →
+    Finds (tree_seen h.tree) p entry → Finds (tree_seen h.tree) q target → refused_by h (ops.Rename old new) ≡ first_of (checks_of h p q entry target)
+rename_refused h old new p q entry target works writable is are one two apart f g =
+    rw (works, writable, is, are, one, two, apart, f.parents, g.parents, f.nothing, f.directories, g.files, f.files, g.directories) refl
+
+pub rename_checked : (h : Held) (old new : List ℕ) (p q : Path) (entry target : Finding) (mid later tree : Seen) (size len other : ℕ) (same absent one two filled three over four lack busy : Bool)
+    (a b c d e f i j : Option Refusal) (r : Result Renaming Error) → (x : Renaming) →
+    false ≡ h.tree.failed → true ≡ h.tree.writable → Some p ≡ entry_path old → Some q ≡ entry_path new → is_beneath (as_path old) (as_path new) ≡ false → IsAsked h.tree mid → IsAsked mid later → IsAsked h.tree tree →
+    Finds (tree_seen h.tree) p entry → Finds (tree_seen mid) q target → IsAttributesSize (attributes_of (tree_seen later p)) size → same ≡ same_path (as_path old) (as_path new) →
+    len ≡ length (last_name q) → a ≡ refuse_if (nat_lt 255 len) ops.NameTooLong →
+    absent ≡ is_absent entry.node → b ≡ refuse_if absent ops.NoEnt →
+    one ≡ (not same && is_directory_node entry.node && is_file_node target.node) → c ≡ refuse_if one ops.NotDir →
+    two ≡ (not same && is_file_node entry.node && is_directory_node target.node) → d ≡ refuse_if two ops.IsDir →
+    filled ≡ has_names (tree_seen mid) q → three ≡ (not same && filled) → e ≡ refuse_if three ops.NotEmpty →
+    busy ≡ is_open_at (is_in_the_way (as_path old) (as_path new)) h.files → f ≡ refuse_if busy ops.Busy →
+    other ≡ length (last_name q) → ((name : List ℕ) (attributes : Attributes) → length name ≡ other → attributes_size attributes ≡ size → over ≡ is_overcharged (around_of tree) name attributes) → four ≡ (not same && over) → i ≡ refuse_if four ops.EntryFull →
+    lack ≡ lacks (around_of tree) h.files 2 → j ≡ refuse_if lack ops.NoSpace →
+    IsRenaming old new x →
+    r ≡ passed_with (first_of (entry.fault ∷ target.fault ∷ a ∷ b ∷ c ∷ d ∷ e ∷ f ∷ i ∷ j ∷ [])) x → Checks h (ops.Rename old new) (IsRenaming old new) r tree
+rename_checked h old new p q entry target mid later tree size len other same absent one two filled three over four lack busy a b c d e f i j r x
+    works writable is are apart first second asked found sought sized same_is len_is a_is absent_is b_is one_is c_is two_is d_is filled_is three_is e_is busy_is f_is other_is over_is four_is i_is lack_is j_is x_is r_is =
+    decided h (ops.Rename old new) (IsRenaming old new) x _ tree r asked (rename_late h old new p q works writable is are apart)
+    (rename_refused h old new p q entry target (sym works) (sym writable) from to (root_false old p is) (root_false new q are) (ap₂ is_beneath (sym from_path) (sym to_path) ∙ apart) found
+    (subst (λ (t : Seen). Finds (tree_seen t) q target) first.same sought) ∙ ap first_of (sym lists))
+    (λ none. x_is) r_is
+  where
+    from : path_of old ≡ Some p
+    from = (is_entry old p is).0
+
+    to : path_of new ≡ Some q
+    to = (is_entry new q are).0
+
+    from_path : as_path old ≡ p
+    from_path = ap (λ o. unwrap_or o []) from
+
+    to_path : as_path new ≡ q
+    to_path = ap (λ o. unwrap_or o []) to
+
+    around : around_of tree ≡ around_of h.tree
+    around = ap around_of asked.same
+
+    were : attributes_of (tree_seen later p) ≡ attributes_of (tree_seen h.tree p)
+    were = ap (λ (t : Seen). attributes_of (tree_seen t p)) second.same ∙ ap (λ (t : Seen). attributes_of (tree_seen t p)) first.same
+
+    other_is_not : not same ≡ not (same_path p q)
+    other_is_not = ap not (same_is ∙ ap₂ same_path from_path to_path)
+
+    charge : over ≡ is_overcharged (around_of h.tree) (last_name q) (attributes_of (tree_seen h.tree p))
+    charge = over_is (last_name q) (attributes_of (tree_seen h.tree p)) (sym other_is) (sym (subst (λ z. IsAttributesSize z size) were sized).is)
+        ∙ ap (λ z. is_overcharged z (last_name q) (attributes_of (tree_seen h.tree p))) around
+
+    lists : (entry.fault ∷ target.fault ∷ a ∷ b ∷ c ∷ d ∷ e ∷ f ∷ i ∷ j ∷ []) ≡ checks_of h p q entry target
+    lists = both refl (both refl (both (when ops.NameTooLong a_is (ap (nat_lt 255) len_is)) (both (when ops.NoEnt b_is absent_is)
+        (both (when ops.NotDir c_is (one_is ∙ ap (λ z. z && is_directory_node entry.node && is_file_node target.node) other_is_not))
+        (both (when ops.IsDir d_is (two_is ∙ ap (λ z. z && is_file_node entry.node && is_directory_node target.node) other_is_not))
+        (both (when ops.NotEmpty e_is (three_is ∙ ap₂ (λ y z. y && z) other_is_not (filled_is ∙ ap (λ (t : Seen). has_names (tree_seen t) q) first.same)))
+        (both (when ops.Busy f_is (busy_is ∙ ap₂ (λ y z. is_open_at (is_in_the_way y z) h.files) from_path to_path))
+        (both (when ops.EntryFull i_is (four_is ∙ ap₂ (λ y z. y && z) other_is_not charge))
+        (both (when ops.NoSpace j_is (lack_is ∙ ap (λ z. lacks z h.files 2) around)) refl)))))))))
+
+-- ---- what no check refuses
+
+record HasPassed (h : Held) (old new : List ℕ) : Type 0 where
+  can : in_flight_count h.tree.map ≤ held h.tree.disk.block_size h.files → CanRename h.tree (as_path old) (as_path new)
+  closed : is_open_at (is_in_the_way (as_path old) (as_path new)) h.files ≡ false
+  space : lacks (around_of h.tree) h.files 2 ≡ false
+  bare : (not (same_path (as_path old) (as_path new)) && nat_lt 0 (length (names_of (tree_seen h.tree (as_path new))))) ≡ false
+
+pub none_of_three : (a b c : Bool) → (a || b || c) ≡ false → (a ≡ false) × (b ≡ false) × (c ≡ false)
+none_of_three true b c e = absurd (cc)
+none_of_three false true c e = absurd (cc)
+none_of_three false false c e = (refl, refl, e)
+
+passed : (h : Held) (old new : List ℕ) → refused_by h (ops.Rename old new) ≡ None → HasPassed h old new
+passed h old new e =
+    let a = neither _ _ (not_refused h (ops.Rename old new) e) in
+    let b = neither _ _ a.1 in
+    let c = neither _ _ b.1 in
+    let d = neither _ _ c.1 in
+    let f = neither _ _ d.1 in
+    let g = neither _ _ f.1 in
+    let i = neither _ _ g.1 in
+    let j = neither _ _ i.1 in
+    let k = neither _ _ j.1 in
+    let l = neither _ _ k.1 in
+    let m = neither _ _ l.1 in
+    let n = neither _ _ m.1 in
+    let writable = negated h.tree.writable (unrefused _ ops.ReadOnly a.0) in
+    let three = none_of_three _ _ _ (unrefused _ ops.Invalid b.0) in
+    let name = unrefused _ ops.NameTooLong f.0 in
+    let something = unrefused _ ops.NoEnt g.0 in
+    let directory = unrefused _ ops.NotDir i.0 in
+    let file = unrefused _ ops.IsDir j.0 in
+    let bare = unrefused _ ops.NotEmpty k.0 in
+    let closed = unrefused _ ops.Busy l.0 in
+    let fits = unrefused _ ops.EntryFull m.0 in
+    let some = unrefused _ ops.NoSpace n.0 in
+    record {
+      can = λ idle. record {
+        works = not_failed h (ops.Rename old new) e;
+        writable = writable;
+        entry = good_root (path_of old) three.0;
+        target = good_root (path_of new) three.1;
+        apart = three.2;
+        parents = c.0;
+        target_parents = d.0;
+        name = name;
+        something = something;
+        directory = directory;
+        file = file;
+        empty = bare;
+        fits = fits;
+        room = room_left (block_count h.tree.disk) (length (around_of h.tree).used) (held h.tree.disk.block_size h.files) (in_flight_count h.tree.map) 2 idle some;
+      };
+      closed = closed;
+      space = some;
+      bare = bare;
+    }
+
+pub rename_space : (h : Held) (old new : List ℕ) → refused_by h (ops.Rename old new) ≡ None → lacks (around_of h.tree) h.files 2 ≡ false
+rename_space h old new e = (passed h old new e).space
+
+pub rename_closed : (h : Held) (old new : List ℕ) → refused_by h (ops.Rename old new) ≡ None → is_open_at (is_in_the_way (as_path old) (as_path new)) h.files ≡ false
+rename_closed h old new e = (passed h old new e).closed
+
+pub rename_bare : (h : Held) (old new : List ℕ) → refused_by h (ops.Rename old new) ≡ None → (not (same_path (as_path old) (as_path new)) && nat_lt 0 (length (names_of (tree_seen h.tree (as_path new))))) ≡ false
+rename_bare h old new e = (passed h old new e).bare
+
+pub rename_can : (h : Held) (old new : List ℕ) (from to : Path) (tree : Seen) → (h.tree.failed ≡ false → in_flight_count h.tree.map ≤ held h.tree.disk.block_size h.files) → IsAsked h.tree tree → refused_by h (ops.Rename old new) ≡ None → from ≡ as_path old → to ≡ as_path new → CanRename tree from to
+rename_can h old new from to tree idle asked e is are =
+    let can = (passed h old new e).can (idle (not_failed h (ops.Rename old new) e)) in
+    subst (λ z. CanRename tree z to) (sym is) (subst (λ z. CanRename tree (as_path old) z) (sym are)
+    (subst (λ t. CanRename t (as_path old) (as_path new)) (sym asked.same) (record {
+      works = can.works;
+      writable = can.writable;
+      entry = can.entry;
+      target = can.target;
+      apart = can.apart;
+      parents = can.parents;
+      target_parents = can.target_parents;
+      name = can.name;
+      something = can.something;
+      directory = can.directory;
+      file = can.file;
+      empty = can.empty;
+      fits = can.fits;
+      room = can.room;
+    })))
+
+pub renaming_is : (old new : List ℕ) (p q : Path) (x : Renaming) → Some p ≡ entry_path old → Some q ≡ entry_path new → x.from ≡ p → x.to ≡ q → x.is_same ≡ same_path (as_path old) (as_path new) → IsRenaming old new x
+renaming_is old new p q x is are from to same = record {
+  from = from ∙ sym (ap (λ o. unwrap_or o []) (is_entry old p is).0);
+  to = to ∙ sym (ap (λ o. unwrap_or o []) (is_entry new q are).0);
+  same = same;
+}
+
+pub three_of : (r inner a b c d e : Bool) → r ≡ (a && inner) → inner ≡ (b && c) → b ≡ d → c ≡ e → r ≡ (a && d && e)
+three_of r inner a b c d e h k l m = h ∙ ap (λ z. a && z) (k ∙ ap₂ (λ y z. y && z) l m) ∙ grouped a d e
+  where
+    grouped : (x y z : Bool) → (x && (y && z)) ≡ (x && y && z)
+    grouped true y z = refl
+    grouped false y z = refl

@@ -1,0 +1,121 @@
+-- Checks of an attribute that is set.
+use Rattle.std.proofs.Common.{is_none, not, ◌≤◌, ℕ, ◌≡◌, ◌+◌, ◌<◌, ◌^◌, Bool, true, false, List, [], ◌∷◌, length, nat_lt, Option, Some, None, Result, Ok, Vec, Global, unwrap_or, refl, sym, ap, subst, ◌∙◌, arith}
+use Rattle.std.specs.Option.{option_map, option_map_or}
+use Rattle.std.proofs.lemmas.Bool.{ltb-false}
+use Rattle.lfs_device.specs.declared.error.Error.{Error}
+use Rattle.lfs_model.specs.TreeEdits.{attributes_of, last_name}
+use Rattle.lfs_model.specs.BlockSets.{in_flight_count}
+use Rattle.lfs_model.specs.Content.{attribute_of, put_attribute}
+use Rattle.lfs_model.specs.Disk.{block_count}
+use Rattle.lfs_model.specs.Operations as ops
+use Rattle.lfs_model.specs.Operations.{Refusal, path_of}
+use Rattle.lfs_model.specs.Session.{first_of, held, is_overcharged, lacks, parent_fault, refuse_if}
+use Rattle.lfs_model.specs.Slots.{Attributes, attributes_size}
+use Rattle.lfs_model.specs.Refusals.{as_path, bad_entry, is_root}
+use Rattle.lfs_model.specs.Tree.{Path}
+use Rattle.lfs_tree.specs.Allowed.{CanSetAttr}
+use Rattle.lfs_lookup.specs.AttributeAt.{IsAttributesSize}
+use Rattle.lfs_lookup.specs.Finds.{Finds, is_absent}
+use Rattle.lfs_tree.specs.Seen.{Seen, around_of, tree_seen, IsAsked}
+use Rattle.lfs_lookup.specs.declared.finding.Finding.{Finding}
+use Rattle.lfs_fs.specs.EntryPaths.{entry_path}
+use Rattle.lfs_fs.specs.Held.{Held, refused_by, Checks}
+use Rattle.lfs_fs.specs.Replacing.{CanReplace, replaced_size}
+use Rattle.lfs_fs.specs.Replies.{passed_with}
+use Rattle.lfs_fs.proofs.Answered.{not_failed, not_refused}
+use Rattle.lfs_fs.proofs.Late.{set_late}
+use Rattle.lfs_fs.proofs.Checked.{both, decided, negated, neither, room_left, unrefused, when}
+use Rattle.lfs_fs.proofs.EntryChecks.{good_root}
+use Rattle.lfs_fs.proofs.EntryPaths.{is_entry, root_false}
+
+-- ---- sizes
+
+replaced_is : (o : Option (Vec ℕ Global)) (bytes : Option (List ℕ)) → option_map (λ (v : Vec ℕ Global). v.items) o ≡ bytes → replaced_size o ≡ option_map_or (λ b. 4 + length b) bytes 0
+replaced_is None bytes e = ap (λ z. option_map_or (λ (b : List ℕ). 4 + length b) z 0) e
+replaced_is (Some v) bytes e = ap (λ z. option_map_or (λ (b : List ℕ). 4 + length b) z 0) e
+
+pub can_replace : (attributes : Attributes) (size kind : ℕ) (replaced : Option (Vec ℕ Global)) (value : List ℕ) → length value < 2 ^ 63 → IsAttributesSize attributes size → option_map (λ (v : Vec ℕ Global). v.items) replaced ≡ attribute_of kind attributes → CanReplace size replaced (length value)
+can_replace attributes size kind replaced value short is e = record {
+  small = is.small;
+  short = short;
+  among = (let r = replaced_is replaced (attribute_of kind attributes) e in let p = is.put kind value in let i = is.is in omega arith);
+}
+
+pub put_size : (attributes : Attributes) (size kind n : ℕ) (replaced : Option (Vec ℕ Global)) (value : List ℕ) → IsAttributesSize attributes size → option_map (λ (v : Vec ℕ Global). v.items) replaced ≡ attribute_of kind attributes
+    → n + replaced_size replaced ≡ size + (4 + length value) → attributes_size (put_attribute kind value attributes) ≡ n
+put_size attributes size kind n replaced value is e sum =
+    let r = replaced_is replaced (attribute_of kind attributes) e in
+    let p = is.put kind value in
+    let i = is.is in
+    omega arith
+
+-- ---- checks
+
+set_refused : (h : Held) (bytes : List ℕ) (kind : ℕ) (value : List ℕ) (p : Path) (found : Finding) → h.tree.failed ≡ false → h.tree.writable ≡ true → path_of bytes ≡ Some p → is_root p ≡ false → Finds (tree_seen h.tree) p found →
+    refused_by h (ops.SetAttr bytes kind value) ≡ first_of (found.fault ∷ refuse_if (is_absent found.node) ops.NoEnt ∷ refuse_if (nat_lt 1022 (length value)) ops.TooBig
+    ∷ refuse_if (is_overcharged (around_of h.tree) (last_name p) (put_attribute kind value (attributes_of (tree_seen h.tree p)))) ops.EntryFull ∷ refuse_if (lacks (around_of h.tree) h.files 2) ops.NoSpace ∷ [])
+set_refused h bytes kind value p found works writable is entry f = rw (works, writable, is, entry, f.parents, f.nothing) refl
+
+pub set_attr_checked : (h : Held) (bytes : List ℕ) (kind : ℕ) (value : List ℕ) (p : Path) (found : Finding) (mid tree : Seen) (replaced : Option (Vec ℕ Global)) (size n len : ℕ) (absent over lack : Bool) (a b d e : Option Refusal) (r : Result Path Error) →
+    false ≡ h.tree.failed → true ≡ h.tree.writable → Some p ≡ entry_path bytes → IsAsked h.tree mid → IsAsked h.tree tree → Finds (tree_seen h.tree) p found →
+    option_map (λ (v : Vec ℕ Global). v.items) replaced ≡ attribute_of kind (attributes_of (tree_seen h.tree p)) → IsAttributesSize (attributes_of (tree_seen mid p)) size → n + replaced_size replaced ≡ size + (4 + length value) →
+    absent ≡ is_absent found.node → a ≡ refuse_if absent ops.NoEnt → b ≡ refuse_if (nat_lt 1022 (length value)) ops.TooBig →
+    len ≡ length (last_name p) → ((name : List ℕ) (attributes : Attributes) → length name ≡ len → attributes_size attributes ≡ n → over ≡ is_overcharged (around_of tree) name attributes) → d ≡ refuse_if over ops.EntryFull →
+    lack ≡ lacks (around_of tree) h.files 2 → e ≡ refuse_if lack ops.NoSpace →
+    r ≡ passed_with (first_of (found.fault ∷ a ∷ b ∷ d ∷ e ∷ [])) p → Checks h (ops.SetAttr bytes kind value) (λ path. path ≡ as_path bytes) r tree
+set_attr_checked h bytes kind value p found mid tree replaced size n len absent over lack a b d e r works writable is first asked f replaced_was sized sum absent_is a_is b_is len_is over_is d_is lack_is e_is r_is =
+    decided h (ops.SetAttr bytes kind value) (λ path. path ≡ as_path bytes) p _ tree r asked (set_late h bytes kind value p works writable is)
+    (set_refused h bytes kind value p found (sym works) (sym writable) given (root_false bytes p is) f ∙ ap first_of (sym lists))
+    (λ none. ap (λ z. unwrap_or z []) (sym given)) r_is
+  where
+    given : path_of bytes ≡ Some p
+    given = (is_entry bytes p is).0
+
+    same : around_of tree ≡ around_of h.tree
+    same = ap around_of asked.same
+
+    was : attributes_of (tree_seen mid p) ≡ attributes_of (tree_seen h.tree p)
+    was = ap (λ (t : Seen). attributes_of (tree_seen t p)) first.same
+
+    put : attributes_size (put_attribute kind value (attributes_of (tree_seen h.tree p))) ≡ n
+    put = put_size (attributes_of (tree_seen h.tree p)) size kind n replaced value (subst (λ z. IsAttributesSize z size) was sized) replaced_was sum
+
+    lists : (found.fault ∷ a ∷ b ∷ d ∷ e ∷ []) ≡ (found.fault ∷ refuse_if (is_absent found.node) ops.NoEnt ∷ refuse_if (nat_lt 1022 (length value)) ops.TooBig
+        ∷ refuse_if (is_overcharged (around_of h.tree) (last_name p) (put_attribute kind value (attributes_of (tree_seen h.tree p)))) ops.EntryFull ∷ refuse_if (lacks (around_of h.tree) h.files 2) ops.NoSpace ∷ [])
+    lists = both refl (both (when ops.NoEnt a_is absent_is) (both b_is
+        (both (when ops.EntryFull d_is (over_is (last_name p) (put_attribute kind value (attributes_of (tree_seen h.tree p))) (sym len_is) put ∙ ap (λ around. is_overcharged around (last_name p) (put_attribute kind value (attributes_of (tree_seen h.tree p)))) same))
+        (both (when ops.NoSpace e_is (lack_is ∙ ap (λ around. lacks around h.files 2) same)) refl))))
+
+-- there is room beside what is held back
+pub set_attr_space : (h : Held) (bytes : List ℕ) (kind : ℕ) (value : List ℕ) → refused_by h (ops.SetAttr bytes kind value) ≡ None → lacks (around_of h.tree) h.files 2 ≡ false
+set_attr_space h bytes kind value e =
+    let a = neither (refuse_if (not h.tree.writable) ops.ReadOnly) _ (not_refused h (ops.SetAttr bytes kind value) e) in
+    let b = neither (refuse_if (bad_entry (path_of bytes)) ops.Invalid) _ a.1 in
+    let d = neither (parent_fault (tree_seen h.tree) [] (as_path bytes)) _ b.1 in
+    let i = neither (refuse_if (is_none (tree_seen h.tree (as_path bytes))) ops.NoEnt) _ d.1 in
+    let j = neither (refuse_if (nat_lt 1022 (length value)) ops.TooBig) _ i.1 in
+    let k = neither (refuse_if (is_overcharged (around_of h.tree) (last_name (as_path bytes)) (put_attribute kind value (attributes_of (tree_seen h.tree (as_path bytes))))) ops.EntryFull) _ j.1 in
+    let l = neither (refuse_if (lacks (around_of h.tree) h.files 2) ops.NoSpace) None k.1 in
+    unrefused (lacks (around_of h.tree) h.files 2) ops.NoSpace l.0
+
+pub set_attr_can : (h : Held) (bytes : List ℕ) (kind : ℕ) (value : List ℕ) (path : Path) (tree : Seen) → (h.tree.failed ≡ false → in_flight_count h.tree.map ≤ held h.tree.disk.block_size h.files)
+    → Checks h (ops.SetAttr bytes kind value) (λ p. p ≡ as_path bytes) (Ok path) tree → CanSetAttr tree path kind value
+set_attr_can h bytes kind value path tree idle c =
+    let e = c.1 in
+    let a = neither _ _ (not_refused h (ops.SetAttr bytes kind value) e) in
+    let b = neither _ _ a.1 in
+    let d = neither _ _ b.1 in
+    let i = neither _ _ d.1 in
+    let j = neither _ _ i.1 in
+    let k = neither _ _ j.1 in
+    let works = not_failed h (ops.SetAttr bytes kind value) e in
+    subst (λ t. CanSetAttr t path kind value) (sym c.0.same) (subst (λ z. CanSetAttr (record h.tree { history = tree.history; cache = tree.cache }) z kind value) (sym c.2) (record {
+      works = works;
+      writable = negated h.tree.writable (unrefused _ _ a.0);
+      entry = good_root (path_of bytes) (unrefused _ _ b.0);
+      parents = d.0;
+      something = unrefused _ _ i.0;
+      len = ltb-false _ _ (unrefused _ _ j.0);
+      fits = unrefused _ _ k.0;
+      room = room_left (block_count h.tree.disk) (length (around_of h.tree).used) (held h.tree.disk.block_size h.files) (in_flight_count h.tree.map) 2 (idle works) (set_attr_space h bytes kind value e);
+    }))

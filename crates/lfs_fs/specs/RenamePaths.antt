@@ -1,0 +1,24 @@
+-- The two paths of a rename.
+use Rattle.std.specs.Prelude.{ℕ, ◌≡◌, ◌==◌, ◌&&◌, ◌||◌, Bool, true, false, List, [], ◌∷◌, is_some}
+use Rattle.lfs_model.specs.TreeEdits.{rest_after, same_path}
+use Rattle.lfs_model.specs.Names.{slash}
+use Rattle.lfs_model.specs.Refusals.{as_path}
+use Rattle.lfs_model.specs.Tree.{Path}
+use Rattle.lfs_fs.specs.declared.renaming.Renaming.{Renaming}
+
+-- the second bytes begin with the first, and end there or go on with a slash
+abbrev pub goes_on : List ℕ → List ℕ → Bool
+goes_on [] [] = true
+goes_on [] (b ∷ ys) = b == slash
+goes_on (a ∷ xs) [] = false
+goes_on (a ∷ xs) (b ∷ ys) = (a == b) && goes_on xs ys
+
+-- a file that is open there is in the way of a rename from the one path to the other
+abbrev pub is_in_the_way : Path → Path → Path → Bool
+is_in_the_way from to p = is_some (rest_after from p) || same_path to p
+
+-- the paths of these bytes, and whether they are the same
+pub record IsRenaming (old new : List ℕ) (r : Renaming) : Type 0 where
+  pub from : r.from ≡ as_path old
+  pub to : r.to ≡ as_path new
+  pub same : r.is_same ≡ same_path (as_path old) (as_path new)

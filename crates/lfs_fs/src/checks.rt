@@ -1,0 +1,504 @@
+// The checks of each operation, in order.
+
+ghost use Rattle.std.specs.Prelude.{if◌then◌else◌, nat_lt, ◌+◌, ◌≡◌, ◌<◌, ◌^◌, ℕ, List, [], length, map, true, false, is_some, unwrap_or};
+ghost use Rattle.lfs_model.specs.Operations as ops;
+ghost use Rattle.lfs_model.specs.Session.{is_overcharged};
+ghost use Rattle.lfs_model.specs.Disk.{block_count};
+ghost use Rattle.lfs_fs.specs.FileSeen.{entry_of, files_seen, held_by_all, held_for, writer_in};
+ghost use Rattle.lfs_model.specs.Refusals.{as_path};
+ghost use Rattle.lfs_model.specs.Effects.{items_in, size_of};
+ghost use Rattle.lfs_fs.specs.FlagsSeen.{flags_seen};
+ghost use Rattle.lfs_model.specs.TreeEdits.{attributes_of};
+ghost use Rattle.lfs_model.specs.Content.{attribute_of};
+ghost use Rattle.lfs_fs.specs.EntryPaths.{entry_path};
+ghost use Rattle.lfs_fs.specs.Held.{Checks, ChecksKept, IsOpening, IsReadableAs, IsReady, held_of};
+ghost use Rattle.lfs_fs.specs.LookUps.{AddsFew, AddsNone, LeavesOnHand};
+ghost use Rattle.lfs_lookup.specs.Finds.{list_item_seen};
+ghost use Rattle.lfs_tree.specs.Seen.{around_of, tree_seen};
+ghost use Rattle.lfs_model.specs.Slots.{Attributes, attributes_size};
+ghost use Rattle.lfs_fs.specs.Replacing.{CanReplace, replaced_size};
+
+use crate::files::{Files, held_for};
+use crate::flags::OpenFlags;
+use crate::passing::{both, passed};
+use bitflags::Flags;
+use lfs_device::{BlockDevice, Error};
+use lfs_lookup::{FileContents, FoundFile, ListItem, Path, refuse_if};
+use lfs_tag::Superblock;
+use lfs_tree::Tree;
+use std::alloc::Global;
+
+// Whether a new entry with a name of that length takes too much of its pair.
+fn is_overcharged<D: BlockDevice>(tree: &Tree<D>, name_len: usize) -> bool
+    requires { name_len < 2 ^ 63 }
+    ensures { (name : List ℕ) → length name ≡ name_len → result ≡ is_overcharged (around_of tree.now) name [] }
+{
+    is_overcharged_with(tree, name_len, 0)
+}
+
+// Whether an entry with a name of that length, whose attributes take so many bytes, takes too much
+// of its pair.
+pub(crate) fn is_overcharged_with<D: BlockDevice>(
+    tree: &Tree<D>,
+    name_len: usize,
+    attributes_len: usize,
+) -> bool
+    requires { name_len < 2 ^ 63 }
+    ensures { (name : List ℕ) (attributes : Attributes) → length name ≡ name_len → attributes_size attributes ≡ attributes_len → result ≡ is_overcharged (around_of tree.now) name attributes }
+{
+    let geometry = tree.geometry();
+    let entry = 4 + name_len as u64 + (4 + u64::from(geometry.inline_limit()));
+    u64::from(geometry.entry_limit()) < entry.saturating_add(attributes_len as u64)
+}
+
+// Whether fewer blocks than that are free.
+pub(crate) fn lacks<D: BlockDevice>(tree: &Tree<D>, files: &Files, need: u32) -> bool
+    requires works { tree.now.failed ≡ false }
+    requires small { need < 16 }
+    ensures { result ≡ nat_lt (block_count tree.now.disk) (length (around_of tree.now).used + held_by_all tree.now.disk.block_size files.now + need) }
+{
+    let held = files.held(tree.geometry());
+    (tree.geometry().block_count as u64) < tree.used_count() as u64 + held + need as u64
+}
+
+/// A file's size, or None for a directory.
+pub fn check_stat<D: BlockDevice>(
+    alloc: Global,
+    tree: &mut Tree<D>,
+    files: &Files,
+    bytes: &[u8],
+) -> Result<Option<u32>, Error>
+    ensures checks { Checks (held_of tree.old files.now) (ops.Stat bytes.now) (λ size. size_of (tree_seen tree.old (as_path bytes.now)) ≡ size) result tree.new }
+    ensures few { AddsFew tree.old (ops.Stat bytes.now) tree.new }
+    ensures kept { AddsNone tree.old (ops.Stat bytes.now) tree.new }
+    ensures hand { LeavesOnHand tree.old (ops.Stat bytes.now) result tree.new }
+{
+    if tree.has_failed() {
+        return Err(Error::Failed);
+    }
+    let Some(path) = Path::parse(bytes) else {
+        return Err(Error::Invalid);
+    };
+    let found = tree.look_up(alloc, &path)?;
+    let checks = [
+        found.fault,
+        refuse_if(found.node.is_nothing(), Error::NoEnt),
+    ];
+    passed(&checks, found.node.size())
+}
+
+/// The path at which a directory may be made.
+pub fn check_mkdir<'a, D: BlockDevice>(
+    alloc: Global,
+    tree: &mut Tree<D>,
+    files: &Files,
+    bytes: &'a [u8],
+) -> Result<Path<'a>, Error>
+    requires { tree.old.failed ≡ false → IsReady tree.old files.now }
+    ensures { Checks (held_of tree.old files.now) (ops.Mkdir bytes.now) (λ path. path ≡ as_path bytes.now) result tree.new }
+{
+    if tree.has_failed() {
+        return Err(Error::Failed);
+    }
+    if !tree.is_writable() {
+        return Err(Error::ReadOnly);
+    }
+    let Some(path) = Path::parse(bytes) else {
+        return Err(Error::Invalid);
+    };
+    let found = tree.look_up(alloc, &path)?;
+    let checks = [
+        found.fault,
+        refuse_if(
+            path.name_len() > Superblock::NAME_MAX as usize,
+            Error::NameTooLong,
+        ),
+        refuse_if(!found.node.is_nothing(), Error::Exist),
+        refuse_if(is_overcharged(tree, path.name_len()), Error::EntryFull),
+        refuse_if(lacks(tree, files, 4), Error::NoSpace),
+    ];
+    passed(&checks, path)
+}
+
+/// Whether the open file of that number may stand at the position.
+pub fn check_seek<D: BlockDevice>(
+    tree: &Tree<D>,
+    files: &Files,
+    fd: u32,
+    position: u32,
+) -> Result<(), Error>
+    ensures { ChecksKept (held_of tree.now files.now) (ops.Seek fd position) (λ _. is_some (entry_of files.now fd) ≡ true) result }
+{
+    if tree.has_failed() {
+        return Err(Error::Failed);
+    }
+    if !files.is_open(fd) {
+        return Err(Error::BadFile);
+    }
+    if position > Superblock::FILE_MAX {
+        return Err(Error::Invalid);
+    }
+    Ok(())
+}
+
+/// The contents of a file that may be opened for reading.
+pub fn check_open_reader<D: BlockDevice>(
+    alloc: Global,
+    tree: &mut Tree<D>,
+    files: &Files,
+    bytes: &[u8],
+    flags: OpenFlags,
+) -> Result<FileContents, Error>
+    requires { (flags_seen flags).write ≡ false }
+    ensures { Checks (held_of tree.old files.now) (ops.Open bytes.now (flags_seen flags)) (IsReadableAs tree.old (files_seen tree.old files.now) bytes.now) result tree.new }
+{
+    if tree.has_failed() {
+        return Err(Error::Failed);
+    }
+    let Some(path) = Path::parse(bytes) else {
+        return Err(Error::Invalid);
+    };
+    if !flags.is_allowed() {
+        return Err(Error::Invalid);
+    }
+    let found = tree.find_file(alloc, &path)?;
+    let FoundFile { finding, contents } = found;
+    let checks = [
+        finding.fault,
+        refuse_if(finding.node.is_nothing(), Error::NoEnt),
+        refuse_if(finding.node.is_directory(), Error::IsDir),
+        refuse_if(files.is_busy_for_reading(bytes), Error::Busy),
+    ];
+    let none = FileContents::Inline(Vec::new(alloc));
+    passed(&checks, contents.unwrap_or(none))
+}
+
+/// What is found where a file may be opened for writing.
+#[derive(Drop)]
+pub struct Opening<'a> {
+    pub path: Path<'a>,
+    /// How many bytes the file has, or None where it is to be made.
+    pub size: Option<u32>,
+}
+
+// Whether there is no room to write a file of that size anew.
+fn overfills_anew<D: BlockDevice>(tree: &Tree<D>, size: Option<u32>) -> bool
+    requires { tree.now.failed ≡ false }
+    ensures { result ≡ nat_lt (block_count tree.now.disk) (length (around_of tree.now).used + (if nat_lt 0 (unwrap_or size 0) then 2 else 0)) }
+{
+    let need = if size.unwrap_or(0) > 0 { 2 } else { 0 };
+    (tree.geometry().block_count as u64) < tree.used_count() as u64 + need
+}
+
+/// Whether a file may be opened for writing.
+pub fn check_open_writer<'a, D: BlockDevice>(
+    alloc: Global,
+    tree: &mut Tree<D>,
+    files: &Files,
+    bytes: &'a [u8],
+    flags: OpenFlags,
+) -> Result<Opening<'a>, Error>
+    requires write { (flags_seen flags).write ≡ true }
+    requires ready { tree.old.failed ≡ false → IsReady tree.old files.now }
+    ensures { Checks (held_of tree.old files.now) (ops.Open bytes.now (flags_seen flags)) (λ found. IsOpening (tree_seen tree.old) bytes.now found) result tree.new }
+{
+    if tree.has_failed() {
+        return Err(Error::Failed);
+    }
+    if !tree.is_writable() {
+        return Err(Error::ReadOnly);
+    }
+    let Some(path) = Path::parse(bytes) else {
+        return Err(Error::Invalid);
+    };
+    if !flags.is_allowed() {
+        return Err(Error::Invalid);
+    }
+    let found = tree.look_up(alloc, &path)?;
+    let is_absent = found.node.is_nothing();
+    let size = found.node.size();
+    let creates = flags.contains(OpenFlags::CREATE);
+    let is_exclusive = flags.contains(OpenFlags::EXCLUSIVE);
+    let truncates = flags.contains(OpenFlags::TRUNCATE);
+    let checks = [
+        found.fault,
+        refuse_if(
+            both(
+                both(is_absent, creates),
+                path.name_len() > Superblock::NAME_MAX as usize,
+            ),
+            Error::NameTooLong,
+        ),
+        refuse_if(both(is_absent, !creates), Error::NoEnt),
+        refuse_if(both(!is_absent, is_exclusive), Error::Exist),
+        refuse_if(found.node.is_directory(), Error::IsDir),
+        refuse_if(files.is_busy_for_writing(bytes), Error::Busy),
+        refuse_if(
+            both(is_absent, is_overcharged(tree, path.name_len())),
+            Error::EntryFull,
+        ),
+        refuse_if(both(is_absent, lacks(tree, files, 2)), Error::NoSpace),
+        refuse_if(both(truncates, overfills_anew(tree, size)), Error::NoSpace),
+    ];
+    passed(&checks, Opening { path, size })
+}
+
+// The path of these bytes, if it is well formed and isn't the root's.
+pub(crate) fn parse_entry<'a>(bytes: &'a [u8]) -> Option<Path<'a>>
+    ensures { result ≡ entry_path bytes.now }
+{
+    if bytes.len() == 1 {
+        None
+    } else {
+        Path::parse(bytes)
+    }
+}
+
+/// What stands in a directory, in name order.
+pub fn check_list<D: BlockDevice>(
+    alloc: Global,
+    tree: &mut Tree<D>,
+    files: &Files,
+    bytes: &[u8],
+) -> Result<Vec<ListItem>, Error>
+    ensures checks { Checks (held_of tree.old files.now) (ops.ListAll bytes.now) (λ items. items_in (tree_seen tree.old) (as_path bytes.now) ≡ map list_item_seen items.items) result tree.new }
+    ensures few { AddsFew tree.old (ops.ListAll bytes.now) tree.new }
+    ensures kept { AddsNone tree.old (ops.ListAll bytes.now) tree.new }
+{
+    if tree.has_failed() {
+        return Err(Error::Failed);
+    }
+    let Some(path) = Path::parse(bytes) else {
+        return Err(Error::Invalid);
+    };
+    let listing = tree.list(alloc, &path)?;
+    let node = listing.finding.node;
+    let checks = [
+        listing.finding.fault,
+        refuse_if(node.is_nothing(), Error::NoEnt),
+        refuse_if(node.is_file(), Error::NotDir),
+    ];
+    passed(&checks, listing.items)
+}
+
+/// An attribute's bytes.
+pub fn check_get_attr<D: BlockDevice>(
+    alloc: Global,
+    tree: &mut Tree<D>,
+    files: &Files,
+    bytes: &[u8],
+    kind: u8,
+) -> Result<Vec<u8>, Error>
+    ensures checks { Checks (held_of tree.old files.now) (ops.GetAttr bytes.now kind) (λ v. unwrap_or (attribute_of kind (attributes_of (tree_seen tree.old (as_path bytes.now)))) [] ≡ v.items) result tree.new }
+    ensures few { AddsFew tree.old (ops.GetAttr bytes.now kind) tree.new }
+    ensures kept { AddsNone tree.old (ops.GetAttr bytes.now kind) tree.new }
+{
+    if tree.has_failed() {
+        return Err(Error::Failed);
+    }
+    let Some(path) = parse_entry(bytes) else {
+        return Err(Error::Invalid);
+    };
+    let found = tree.get_attr(alloc, &path, kind)?;
+    let checks = [
+        found.finding.fault,
+        refuse_if(found.finding.node.is_nothing(), Error::NoEnt),
+        refuse_if(found.bytes.is_none(), Error::NoAttr),
+    ];
+    passed(&checks, found.bytes.unwrap_or(Vec::new(alloc)))
+}
+
+/// The path of an entry that has the attribute.
+pub fn check_remove_attr<'a, D: BlockDevice>(
+    alloc: Global,
+    tree: &mut Tree<D>,
+    files: &Files,
+    bytes: &'a [u8],
+    kind: u8,
+) -> Result<Path<'a>, Error>
+    ensures { Checks (held_of tree.old files.now) (ops.RemoveAttr bytes.now kind) (λ path. path ≡ as_path bytes.now) result tree.new }
+{
+    if tree.has_failed() {
+        return Err(Error::Failed);
+    }
+    if !tree.is_writable() {
+        return Err(Error::ReadOnly);
+    }
+    let Some(path) = parse_entry(bytes) else {
+        return Err(Error::Invalid);
+    };
+    let found = tree.get_attr(alloc, &path, kind)?;
+    let checks = [
+        found.finding.fault,
+        refuse_if(found.finding.node.is_nothing(), Error::NoEnt),
+        refuse_if(found.bytes.is_none(), Error::NoAttr),
+    ];
+    passed(&checks, path)
+}
+
+/// The path of a file, or of a directory without entries, that isn't open.
+pub fn check_remove<'a, D: BlockDevice>(
+    alloc: Global,
+    tree: &mut Tree<D>,
+    files: &Files,
+    bytes: &'a [u8],
+) -> Result<Path<'a>, Error>
+    ensures { Checks (held_of tree.old files.now) (ops.Remove bytes.now) (λ path. path ≡ as_path bytes.now) result tree.new }
+{
+    if tree.has_failed() {
+        return Err(Error::Failed);
+    }
+    if !tree.is_writable() {
+        return Err(Error::ReadOnly);
+    }
+    let Some(path) = parse_entry(bytes) else {
+        return Err(Error::Invalid);
+    };
+    let inside = tree.look_inside(alloc, &path)?;
+    let checks = [
+        inside.finding.fault,
+        refuse_if(inside.finding.node.is_nothing(), Error::NoEnt),
+        refuse_if(inside.has_entries, Error::NotEmpty),
+        refuse_if(files.is_open_at(bytes), Error::Busy),
+    ];
+    passed(&checks, path)
+}
+
+// How many bytes attributes take that took so many, with one of that length in place of another.
+fn size_with(taken: usize, replaced: &Option<Vec<u8>>, len: usize) -> usize
+    requires { CanReplace taken replaced.now len }
+    ensures { result + replaced_size replaced.now ≡ taken + (4 + len) }
+{
+    let gone = match replaced {
+        Some(bytes) => 4 + bytes.len(),
+        None => 0,
+    };
+    taken + (4 + len) - gone
+}
+
+/// The path of an entry that takes the attribute.
+pub fn check_set_attr<'a, D: BlockDevice>(
+    alloc: Global,
+    tree: &mut Tree<D>,
+    files: &Files,
+    bytes: &'a [u8],
+    kind: u8,
+    value: &[u8],
+) -> Result<Path<'a>, Error>
+    requires { tree.old.failed ≡ false → IsReady tree.old files.now }
+    ensures { Checks (held_of tree.old files.now) (ops.SetAttr bytes.now kind value.now) (λ path. path ≡ as_path bytes.now) result tree.new }
+{
+    if tree.has_failed() {
+        return Err(Error::Failed);
+    }
+    if !tree.is_writable() {
+        return Err(Error::ReadOnly);
+    }
+    let Some(path) = parse_entry(bytes) else {
+        return Err(Error::Invalid);
+    };
+    let found = tree.get_attr(alloc, &path, kind)?;
+    let taken = tree.attributes_size(alloc, &path)?;
+    let size = size_with(taken, &found.bytes, value.len());
+    let checks = [
+        found.finding.fault,
+        refuse_if(found.finding.node.is_nothing(), Error::NoEnt),
+        refuse_if(value.len() > Superblock::ATTR_MAX as usize, Error::TooBig),
+        refuse_if(
+            is_overcharged_with(tree, path.name_len(), size),
+            Error::EntryFull,
+        ),
+        refuse_if(lacks(tree, files, 2), Error::NoSpace),
+    ];
+    passed(&checks, path)
+}
+
+// Whether there is no room for what a writer would hold.
+fn overfills<D: BlockDevice>(tree: &Tree<D>, has_turned: bool, size: u32) -> bool
+    requires { tree.now.failed ≡ false }
+    ensures { result ≡ nat_lt (block_count tree.now.disk) (length (around_of tree.now).used + held_for tree.now.disk.block_size has_turned size) }
+{
+    let held = held_for(tree.geometry(), has_turned, size);
+    (tree.geometry().block_count as u64) < tree.used_count() as u64 + held
+}
+
+/// Whether the bytes may be written by the writer of that number.
+pub fn check_write<D: BlockDevice>(
+    tree: &Tree<D>,
+    files: &Files,
+    fd: u32,
+    bytes: &[u8],
+) -> Result<(), Error>
+    requires { tree.now.failed ≡ false → IsReady tree.now files.now }
+    ensures { ChecksKept (held_of tree.now files.now) (ops.Write fd bytes.now) (λ _. is_some (writer_in (entry_of files.now fd)) ≡ true) result }
+{
+    if tree.has_failed() {
+        return Err(Error::Failed);
+    }
+    let Some(writer) = files.writer(fd) else {
+        return Err(Error::BadFile);
+    };
+    if bytes.is_empty() {
+        return Ok(());
+    }
+    let place = writer.place();
+    if place as u64 + bytes.len() as u64 > Superblock::FILE_MAX as u64 {
+        return Err(Error::TooBig);
+    }
+    let size = writer.size.max(place + bytes.len() as u32);
+    if overfills(tree, writer.has_turned_at(place.min(writer.size)), size) {
+        return Err(Error::NoSpace);
+    }
+    Ok(())
+}
+
+/// Whether the writer of that number may have so many bytes.
+pub fn check_truncate<D: BlockDevice>(
+    tree: &Tree<D>,
+    files: &Files,
+    fd: u32,
+    size: u32,
+) -> Result<(), Error>
+    requires { tree.now.failed ≡ false → IsReady tree.now files.now }
+    ensures { ChecksKept (held_of tree.now files.now) (ops.Truncate fd size) (λ _. is_some (writer_in (entry_of files.now fd)) ≡ true) result }
+{
+    if tree.has_failed() {
+        return Err(Error::Failed);
+    }
+    let Some(writer) = files.writer(fd) else {
+        return Err(Error::BadFile);
+    };
+    if size > Superblock::FILE_MAX {
+        return Err(Error::TooBig);
+    }
+    if size != writer.size && overfills(tree, writer.has_turned_by_size(), size) {
+        return Err(Error::NoSpace);
+    }
+    Ok(())
+}
+
+/// Whether a file is open under the number.
+pub fn check_open<D: BlockDevice>(tree: &Tree<D>, files: &Files, fd: u32) -> Result<(), Error>
+    ensures { ChecksKept (held_of tree.now files.now) (ops.Close fd) (λ _. is_some (entry_of files.now fd) ≡ true) result }
+{
+    if tree.has_failed() {
+        return Err(Error::Failed);
+    }
+    if !files.is_open(fd) {
+        return Err(Error::BadFile);
+    }
+    Ok(())
+}
+
+/// Whether a file is open under the number, for a sync.
+pub fn check_sync<D: BlockDevice>(tree: &Tree<D>, files: &Files, fd: u32) -> Result<(), Error>
+    ensures { ChecksKept (held_of tree.now files.now) (ops.Sync fd) (λ _. is_some (entry_of files.now fd) ≡ true) result }
+{
+    if tree.has_failed() {
+        return Err(Error::Failed);
+    }
+    if !files.is_open(fd) {
+        return Err(Error::BadFile);
+    }
+    Ok(())
+}

@@ -1,0 +1,37 @@
+// Checks in order: the first that refuses decides.
+
+ghost use Rattle.std.specs.Prelude.{◌≡◌, ◌&&◌};
+ghost use Rattle.lfs_model.specs.Session.{first_of};
+ghost use Rattle.lfs_fs.specs.Replies.{passed_with};
+
+use lfs_device::Error;
+use lfs_lookup::Refusal;
+
+// The first check that refuses.
+fn first_of(checks: &[Option<Refusal>]) -> Option<Refusal>
+    ensures { result ≡ first_of checks.now }
+{
+    for check in checks {
+        if check.is_some() {
+            return *check;
+        }
+    }
+    None
+}
+
+// The value, unless a check refuses.
+pub(crate) fn passed<T: Drop>(checks: &[Option<Refusal>], value: T) -> Result<T, Error>
+    ensures { result ≡ passed_with (first_of checks.now) value }
+{
+    match first_of(checks) {
+        Some(refusal) => Err(refusal.error()),
+        None => Ok(value),
+    }
+}
+
+// Whether both hold.
+pub(crate) fn both(first: bool, second: bool) -> bool
+    ensures { result ≡ (first && second) }
+{
+    first && second
+}

@@ -1,0 +1,49 @@
+-- Along the thread, one pair more.
+use Rattle.std.proofs.Common.{ℕ, ◌≡◌, ◌∙◌, inr, List, [], ◌∷◌, ◌++◌, Option, Some, None, refl, sym, ap, ap₂, subst}
+use Rattle.std.specs.List.{AllByRecursion}
+use Rattle.std.proofs.lemmas.List.{map-append}
+use Rattle.lfs_model.specs.Content.{content_at}
+use Rattle.lfs_model.specs.Disk.{Disk}
+use Rattle.lfs_model.specs.Thread.{Pair, anchor, next_of}
+use Rattle.lfs_tool.specs.Broken.{IsBroken}
+use Rattle.lfs_tool.specs.Found.{IsFound}
+use Rattle.lfs_tool.specs.declared.finding.Finding.{Finding}
+use Rattle.lfs_tool.specs.Held.{plain_pair}
+use Rattle.lfs_tool.specs.HeldSeen.{pair_seen, pairs_seen}
+use Rattle.lfs_tool.specs.Leading.{IsNamed, LinksTo}
+use Rattle.lfs_tool.specs.Reading.{AreHeld, IsHeld}
+use Rattle.lfs_tool.specs.declared.held.HeldPair.{HeldPair}
+
+links_more : (from next : Option (ℕ × ℕ)) (ps : List Pair) (p : Pair) → LinksTo from ps next → next ≡ Some p.at → LinksTo from (ps ++ p ∷ []) (next_of p.content.tail)
+links_more from next [] p l e = (l ∙ e, refl)
+links_more from next (q ∷ ps) p l e = (l.0, links_more (next_of q.content.tail) next ps p l.1 e)
+
+contents_more : (disk : Disk) (ps : List Pair) (p : Pair) → AllByRecursion (λ q. content_at disk q.at ≡ Some q.content) ps → content_at disk p.at ≡ Some p.content
+    → AllByRecursion (λ q. content_at disk q.at ≡ Some q.content) (ps ++ p ∷ [])
+contents_more disk [] p all e = (e, tt)
+contents_more disk (q ∷ ps) p all e = (all.0, contents_more disk ps p all.1 e)
+
+-- nothing is read yet
+pub held_none : (disk : Disk) → AreHeld disk (Some anchor) []
+held_none disk = record { pairs = []; begins = record { links = refl; contents = tt }; are = refl }
+
+-- the thread names what stands behind these pairs
+pub named_next : (disk : Disk) (at : ℕ × ℕ) (held : List HeldPair) → AreHeld disk (Some at) held → IsNamed disk at
+named_next disk at held h = (h.pairs, h.begins)
+
+-- one pair more
+pub held_more : (disk : Disk) (at : ℕ × ℕ) (held all : List HeldPair) (h : HeldPair) → AreHeld disk (Some at) held → IsHeld disk at h → all ≡ held ++ h ∷ [] → AreHeld disk (next_of (pair_seen h).content.tail) all
+held_more disk at held all h before is same =
+    let p : Pair = record { at = at; content = is.content } in
+    record {
+      pairs = before.pairs ++ p ∷ [];
+      begins = record {
+        links = subst (λ t. LinksTo (Some anchor) (before.pairs ++ p ∷ []) (next_of t)) (sym (ap (λ (q : Pair). q.content.tail) is.is)) (links_more (Some anchor) (Some at) before.pairs p before.begins.links refl);
+        contents = contents_more disk before.pairs p before.begins.contents is.holds;
+      };
+      are = ap pairs_seen same ∙ map-append pair_seen held (h ∷ []) ∙ ap₂ (λ xs y. xs ++ y ∷ []) before.are is.is ∙ sym (map-append plain_pair before.pairs (p ∷ []));
+    }
+
+-- a rule that all pairs of the thread break
+pub whole_found : (disk : Disk) (held : List HeldPair) (f : Finding) → AreHeld disk None held → IsBroken disk (pairs_seen held) f → IsFound disk f
+whole_found disk held f h broken = inr (h.pairs, (h.begins, subst (λ ps. IsBroken disk ps f) h.are broken))

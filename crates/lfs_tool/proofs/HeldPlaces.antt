@@ -1,0 +1,40 @@
+-- What is held, by its number.
+use Rattle.std.proofs.Common.{ℕ, zero, suc, ◌≡◌, ◌==◌, ◌<◌, ◌≤◌, ◌⊎◌, false, inl, inr, List, [], ◌∷◌, length, map, get_or, Option, Some, None, sym, ap, subst, arith}
+use Rattle.std.specs.Prelude.{IfSome, slice_get}
+use Rattle.lfs_model.specs.Slots.{Slot}
+use Rattle.lfs_model.specs.Thread.{Pair}
+use Rattle.lfs_tool.specs.Broken.{HasAt, IsEntrySlot}
+use Rattle.lfs_tool.specs.HeldSeen.{held_seen, pair_seen, pairs_seen}
+use Rattle.lfs_tool.specs.declared.finding.Place.{Place}
+use Rattle.lfs_tool.specs.declared.held.HeldPair.{HeldPair}
+use Rattle.lfs_tool.specs.declared.held.HeldSlot.{HeldSlot}
+use Rattle.lfs_model.specs.Slots.{address_of}
+
+there : {X Y : Type 0} (f : X → Y) (xs : List X) (i : ℕ) (x : X) → i < length xs → x ≡ get_or xs i x → slice_get (map f xs) i ≡ Some (f x)
+there f [] i x l at = absurd (omega arith)
+there f (y ∷ xs) zero x l at = ap (λ z. Some (f z)) (sym at)
+there f (y ∷ xs) (suc i) x l at = there f xs i x (omega arith) at
+
+pub slot_there : (slots : List HeldSlot) (i : ℕ) (s : HeldSlot) → i < length slots → s ≡ get_or slots i s → slice_get (map held_seen slots) i ≡ Some (held_seen s)
+slot_there = there held_seen
+
+pub pair_there : (pairs : List HeldPair) (i : ℕ) (p : HeldPair) → i < length pairs → p ≡ get_or pairs i p → slice_get (pairs_seen pairs) i ≡ Some (pair_seen p)
+pair_there = there pair_seen
+
+pub further_on : {A : Type 0} (from id : ℕ) → from ≤ id → A ⊎ (0 < from) → A ⊎ (0 < id)
+further_on from id l (inl a) = inl a
+further_on from id l (inr k) = inr (omega arith)
+
+pub some_weaker : {X : Type 0} (o : Option X) (P Q : X → Type 0) → ((x : X) → P x → Q x) → IfSome o P → IfSome o Q
+some_weaker None P Q f h = tt
+some_weaker (Some x) P Q f h = f x h
+
+-- a place of a slot that has to be an entry
+pub at_place : (P : Slot → Type 0) (ps : List Pair) (place : Place) (pair : List ℕ) (id : ℕ) (s : Slot) → place.pair ≡ pair → place.slot ≡ id → place.name.items ≡ s.name
+    → IsEntrySlot ps (address_of pair) id s → P s → HasAt P ps place
+at_place P ps place pair id s same_pair same_slot named is holds =
+    (s, (subst (λ p. IsEntrySlot ps (address_of p) place.slot s) (sym same_pair) (subst (λ i. IsEntrySlot ps (address_of pair) i s) (sym same_slot) is), (named, holds)))
+
+pub not_none : (n : ℕ) → (n == 0) ≡ false → 0 < n
+not_none zero e = absurd (cc)
+not_none (suc n) e = omega arith

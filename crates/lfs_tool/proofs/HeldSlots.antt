@@ -1,0 +1,50 @@
+-- What is held of slots.
+use Rattle.std.proofs.Common.{ℕ, zero, suc, ◌≡◌, ◌<◌, ◌∙◌, true, List, [], ◌∷◌, ◌++◌, length, map, get_or, Option, Some, None, refl, sym, ap, ap₂, subst, arith}
+use Rattle.std.specs.Prelude.{is_some}
+use Rattle.std.specs.Option.{option_and_then, option_map}
+use Rattle.std.proofs.lemmas.Option.{same_Some}
+use Rattle.lfs_model.specs.Content.{RawContent, RawSlot, complete_all, completed, raw_at}
+use Rattle.lfs_model.specs.Disk.{Disk}
+use Rattle.lfs_model.specs.LoggedContent.{HasParts, HaveParts}
+use Rattle.lfs_model.specs.Slots.{Content, Gstate, Slot, Tail, address_of}
+use Rattle.lfs_model.specs.Thread.{Pair}
+use Rattle.lfs_model.proofs.Completed.{complete_parts}
+use Rattle.lfs_tag.specs.ContentSeen.{tail_seen}
+use Rattle.lfs_tag.specs.FieldsSeen.{move_seen}
+use Rattle.lfs_tool.specs.Held.{listed, plain, plain_among}
+use Rattle.lfs_tool.specs.HeldSeen.{held_seen}
+use Rattle.lfs_tool.specs.Reading.{IsHeld}
+use Rattle.lfs_tool.specs.declared.held.HeldPair.{HeldPair}
+
+parts_of : {X : Type 0} (f : X → RawSlot) (xs : List X) (i : ℕ) (d : X) → HaveParts (map f xs) → i < length xs → HasParts (f (get_or xs i d))
+parts_of f [] i d h l = absurd (omega arith)
+parts_of f (x ∷ xs) zero d h l = h.0
+parts_of f (x ∷ xs) (suc i) d h l = parts_of f xs i d h.1 (omega arith)
+
+pub parts_at : {X : Type 0} (f : X → RawSlot) (xs : List X) (i : ℕ) (x : X) → HaveParts (map f xs) → i < length xs → x ≡ get_or xs i x → HasParts (f x)
+parts_at f xs i x h l at = subst (λ z. HasParts (f z)) (sym at) (parts_of f xs i x h l)
+
+plain_complete : (raw : List RawSlot) (all : List Slot) → complete_all raw ≡ Some all → plain_among raw ≡ map plain all
+plain_complete [] all h = ap (map plain) (same_Some [] all h)
+plain_complete (x ∷ xs) all h =
+    let p = complete_parts x xs all h in
+    ap₂ (λ o rest. listed (option_map plain o) ++ rest) p.is_first (plain_complete xs p.others p.are_others) ∙ ap (map plain) (sym p.all_are)
+
+-- a content whose slots are complete is held
+pub is_held : (disk : Disk) (at : ℕ × ℕ) (raw : RawContent) (held : HeldPair) → raw_at disk at ≡ Some raw → is_some (complete_all raw.slots) ≡ true → address_of held.at ≡ at
+    → map held_seen held.slots.items ≡ plain_among raw.slots → option_map tail_seen held.tail ≡ raw.tail → move_seen held.share ≡ raw.move → IsHeld disk at held
+is_held disk at raw held is full same slots tail move = go (complete_all raw.slots) refl full
+  where
+    go : (o : Option (List Slot)) → complete_all raw.slots ≡ o → is_some {T = List Slot} o ≡ true → IsHeld disk at held
+    go None e k = absurd (cc)
+    go (Some all) e k =
+        let with_slots : List Slot → Content = λ s. record { slots = s; tail = raw.tail; move = raw.move } in
+        let pair : ℕ × ℕ → List Slot → Option Tail → Gstate → Pair = λ a s t m. record { at = a; content = record { slots = s; tail = t; move = m } } in
+        record {
+          content = with_slots all;
+          holds = ap (λ r. option_and_then completed r) is ∙ ap (option_map with_slots) e;
+          is = ap (λ a. pair a (map held_seen held.slots.items) (option_map tail_seen held.tail) (move_seen held.share)) same
+              ∙ ap (λ s. pair at s (option_map tail_seen held.tail) (move_seen held.share)) (slots ∙ plain_complete raw.slots all e)
+              ∙ ap (λ t. pair at (map plain all) t (move_seen held.share)) tail
+              ∙ ap (λ m. pair at (map plain all) raw.tail m) move;
+        }

@@ -1,0 +1,60 @@
+-- A finding says the same of a disk with its names in another order.
+use Rattle.std.proofs.Common.{ℕ, ◌⊎◌, inl, inr, List, Option, Some, None, ap, subst, ◌≡◌}
+use Rattle.std.specs.Prelude.{IfSome}
+use Rattle.lfs_device.specs.Shown.{ordered}
+use Rattle.lfs_model.specs.Disk.{Disk}
+use Rattle.lfs_model.specs.Thread.{Pair}
+use Rattle.lfs_model.specs.declared.order.NameOrder.{NameOrder}
+use Rattle.lfs_tool.specs.Broken.{IsBroken}
+use Rattle.lfs_tool.specs.Held.{plain_pairs}
+use Rattle.lfs_tool.specs.Found.{IsFound, IsInTwo, IsUnread, LacksName, LacksStruct}
+use Rattle.lfs_tool.specs.Leading.{BeginsWith, IsNamed}
+use Rattle.lfs_tool.specs.declared.finding.Finding.{Finding}
+use Rattle.lfs_tool.specs.declared.finding.Finding.TheVariants as finding
+
+begins : (d : Disk) (o : NameOrder) (ps : List Pair) (next : Option (ℕ × ℕ)) → BeginsWith d ps next → BeginsWith (ordered o d) ps next
+begins d o ps next h = record { links = h.links; contents = h.contents }
+
+named : (d : Disk) (o : NameOrder) (at : ℕ × ℕ) → IsNamed d at → IsNamed (ordered o d) at
+named d o at (ps, h) = (ps, begins d o ps (Some at) h)
+
+lacks_name : (d : Disk) (o : NameOrder) (at : ℕ × ℕ) (id : ℕ) → LacksName d at id → LacksName (ordered o d) at id
+lacks_name d o at id h = record { content = h.content; holds = h.holds; below = h.below; name = h.name }
+
+lacks_struct : (d : Disk) (o : NameOrder) (at : ℕ × ℕ) (id : ℕ) (name : List ℕ) → LacksStruct d at id name → LacksStruct (ordered o d) at id name
+lacks_struct d o at id name h = record { content = h.content; holds = h.holds; below = h.below; named = h.named; struct = h.struct }
+
+in_two : (d : Disk) (o : NameOrder) (block : ℕ) (at other : ℕ × ℕ) → IsInTwo d block at other → IsInTwo (ordered o d) block at other
+in_two d o block at other h = record {
+  pairs = h.pairs;
+  begins = begins d o h.pairs (Some at) h.begins;
+  index = h.index;
+  pair = h.pair;
+  there = h.there;
+  other_is = h.other_is;
+  in_other = h.in_other;
+  in_pair = h.in_pair;
+}
+
+unread : (d : Disk) (o : NameOrder) (f : Finding) → IsUnread d f → IsUnread (ordered o d) f
+unread d o (finding.OutOfRange pair block) h = (named d o _ h.0, h.1, h.2)
+unread d o (finding.OneBlock pair) h = (named d o _ h.0, h.1)
+unread d o (finding.InTwoPairs block pair other) h = in_two d o _ _ _ h
+unread d o (finding.NoCommit pair) h = (named d o _ h.0, h.1)
+unread d o (finding.Malformed pair) h = (named d o _ h.0, h.1)
+unread d o (finding.NoName pair slot) h = (named d o _ h.0, lacks_name d o _ _ h.1)
+unread d o (finding.NoStruct place) h = (named d o _ h.0, lacks_struct d o _ _ _ h.1)
+unread d o _ h = absurd h
+
+-- with its names in any order
+found : (d : Disk) (o : NameOrder) (f : Finding) → IsFound d f → IsFound (ordered o d) f
+found d o f (inl h) = inl (unread d o f h)
+found d o f (inr (ps, (h, broken))) =
+    let same : IsBroken (ordered o d) (plain_pairs ps) f = broken in
+    inr (ps, (begins d o ps None h, same))
+
+pub found_alike : (d e : Disk) (o : NameOrder) (some : Option Finding) → ordered o d ≡ ordered o e → IfSome some (IsFound d) → IfSome some (IsFound e)
+found_alike d e o None is h = tt
+found_alike d e o (Some f) is h =
+    let there = subst (λ x. IsFound x f) is (found d o f h) in
+    found (ordered o e) e.order f there

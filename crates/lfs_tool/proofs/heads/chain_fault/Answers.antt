@@ -1,0 +1,12 @@
+use Rattle.std.proofs.Common.{arith}
+use Rattle.lfs_tool.specs.HeldSeen.{pairs_seen}
+use Rattle.lfs_tool.proofs.HeldPlaces.{pair_there}
+use Rattle.lfs_tool.proofs.heads.chain_fault.Goals as goal
+
+pub returns-in-Some : goal.returns-in-Some
+returns-in-Some c disk sizes =
+    let pairs = c.args.pairs.now in
+    let below = c.requires.below in
+    let root = c.requires.root in
+    let test = c.loop-index-test.true in
+    c.in-Some.ensures disk (pairs_seen pairs) c.loop-index.index sizes (pair_there pairs c.loop-index.index c.index-pairs-index.result (omega (arith, below, test)) c.index-pairs-index.is) (omega (arith, root, test))

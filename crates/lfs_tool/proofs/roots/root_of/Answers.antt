@@ -1,0 +1,25 @@
+use Rattle.std.proofs.Common.{◌+◌, ◌-◌, ◌<◌, ◌&&◌, ◌∙◌, ap, ap₂, arith, cond, length, subst, sym}
+use Rattle.lfs_model.specs.Thread.{is_hard, leads_on, meets_superblock, superblock_or, superblocks_before}
+use Rattle.lfs_tool.specs.HeldSeen.{pair_seen}
+use Rattle.lfs_tool.proofs.RootPlaces.{one_more, seen_from, stays_inside}
+use Rattle.lfs_tool.proofs.roots.root_of.Goals as goal
+
+pub loop-index-preserved : goal.loop-index-preserved
+loop-index-preserved c =
+    let pairs = c.args.pairs.now in
+    let index = c.loop-index.index in
+    let inv = c.loop-index.invariant in
+    let within = inv.within in
+    let some = c.loop-index-test.true in
+    let h = pair_seen c.index-pairs-index.result in
+    let step = seen_from pairs (index - 1) index c.index-pairs-index.result (omega arith) (omega arith) c.index-pairs-index.is in
+    let is = c.with_pair-root.ensures in
+    let few = one_more (c.loop-index.meets && leads_on h) c.loop-index.root in
+    let below = inv.below in
+    record {
+      within = omega arith;
+      root = is ∙ ap₂ (λ m r. cond (m && leads_on h) (1 + r) 0) inv.meets inv.root ∙ sym (ap superblocks_before step);
+      meets = c.meets_with-meets.ensures ∙ ap (λ m. superblock_or h.content.slots (is_hard h.content.tail && m)) inv.meets ∙ sym (ap meets_superblock step);
+      below = omega (arith, is, few, below);
+      inside = λ l. subst (λ r. (index - 1) + r < length pairs) (sym is) (stays_inside pairs index c.loop-index.root c.loop-index.meets (leads_on h) inv.meets within inv.inside some);
+    }

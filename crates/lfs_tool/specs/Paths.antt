@@ -1,0 +1,18 @@
+-- The paths of an image's file.
+use Rattle.std.specs.Prelude.{ℕ, List}
+use Rattle.std.specs.Global.{Global}
+use Rattle.std.specs.String.{string_bytes}
+use Rattle.std.specs.Io.Buffered.{reader_inner}
+use Rattle.std.specs.declared.io.buffered.BufReader.{BufReader}
+use Rattle.lfs_tool.specs.Watched.{inner_of}
+use Rattle.lfs_tool.specs.declared.watched.Watched.{Watched}
+use Rattle.lfs_tool.specs.declared.new_image.NewImage.{NewImage}
+use Rattle.lfs_tool.specs.declared.old_image.OldImage.{OldImage}
+
+-- one that is read
+abbrev pub old_image_at : {R F D : Type 0} → Watched (BufReader (OldImage R F D) Global) → List ℕ
+old_image_at w = string_bytes (reader_inner (inner_of w)).path
+
+-- one that is made
+abbrev pub new_image_at : {R F D : Type 0} → Watched (NewImage R F D) → List ℕ
+new_image_at w = string_bytes (inner_of w).path

@@ -1,0 +1,78 @@
+// The addresses that the thread names.
+
+ghost use Rattle.std.specs.Prelude.{◌≡◌, ◌↔◌, ◌<◌, IfNone, IfSome, IsTrue, Some};
+ghost use Rattle.lfs_model.specs.Disk.{Disk, block_count};
+ghost use Rattle.lfs_model.specs.Slots.{address_of};
+ghost use Rattle.lfs_tool.specs.Found.{Has, IsUnread};
+ghost use Rattle.lfs_tool.specs.Leading.{IsNamed};
+ghost use Rattle.lfs_tool.specs.Reading.{AreHeld};
+
+use crate::finding::Finding;
+use crate::held::HeldPair;
+
+// What is wrong with the two addresses of a pair by themselves.
+pub(crate) fn range_fault(count: u32, pair: [u32; 2]) -> Option<Finding>
+    ensures fault { IfSome result (λ f. (disk : Disk) → block_count disk ≡ count → IsNamed disk (address_of pair) → IsUnread disk f) }
+    ensures first { IfNone result ((address_of pair).0 < count) }
+    ensures second { IfNone result ((address_of pair).1 < count) }
+{
+    let [first, second] = pair;
+    if first >= count {
+        return Some(Finding::OutOfRange { pair, block: first });
+    }
+    if second >= count {
+        return Some(Finding::OutOfRange {
+            pair,
+            block: second,
+        });
+    }
+    if first == second {
+        return Some(Finding::OneBlock { pair });
+    }
+    None
+}
+
+// Whether one of the two addresses is that block's.
+fn has(pair: [u32; 2], block: u32) -> bool
+    ensures { IsTrue result ↔ Has (address_of pair) block }
+{
+    pair[0] == block || pair[1] == block
+}
+
+// The block, where it stands in one of these pairs, which are in front of the pair.
+fn block_fault(pairs: &[HeldPair], pair: [u32; 2], block: u32) -> Option<Finding>
+    requires { Has (address_of pair) block }
+    ensures { IfSome result (λ f. (disk : Disk) → AreHeld disk (Some (address_of pair)) pairs.now → IsUnread disk f) }
+{
+    for held in pairs {
+        if has(held.at, block) {
+            return Some(Finding::InTwoPairs {
+                block,
+                pair,
+                other: held.at,
+            });
+        }
+    }
+    None
+}
+
+// What is wrong with a pair behind these by its blocks. Which blocks stand in these pairs, `marks`
+// says, so that the others aren't sought; the pair's blocks are marked then.
+pub(crate) fn twice_fault(
+    marks: &mut Vec<bool>,
+    pairs: &[HeldPair],
+    pair: [u32; 2],
+) -> Option<Finding>
+    ensures { IfSome result (λ f. (disk : Disk) → AreHeld disk (Some (address_of pair)) pairs.now → IsUnread disk f) }
+{
+    for block in pair {
+        let place = block as usize;
+        if place < marks.len() {
+            if marks[place] {
+                return block_fault(pairs, pair, block);
+            }
+            marks[place] = true;
+        }
+    }
+    None
+}

@@ -1,0 +1,96 @@
+// Images that are listed, checked and unpacked with the sizes of a command line.
+
+ghost use Rattle.std.specs.Prelude.{◌≡◌, ◌≢◌, ◌⊎◌, IfErr, IfOk, IfSome, IsErrOf, OnErr, OnOk};
+ghost use Rattle.std.specs.Io.KnownBytes.{Appends};
+ghost use Rattle.lfs_tool.specs.Known.{AppendsBeginning, IsListError};
+ghost use Rattle.lfs_tool.specs.Listed.{Lists, Refuses};
+ghost use Rattle.lfs_tool.specs.Unpacked.{IsBegunOfImage, IsDoneOfImage};
+ghost use Rattle.lfs_tool.specs.Checked.{IsCheckedAs, is_accepted};
+ghost use Rattle.lfs_tool.specs.CheckedLines.{checked_text};
+ghost use Rattle.lfs_tool.specs.Told.{IsReadToEnd, Tells, TellsWriter};
+
+use lfs_device::Error;
+use crate::{Line, Reader, ToolError, Writer, check, list, unpack};
+use lfs_tool_folders::Target;
+use std::alloc::Global;
+
+/// Lists an image with the sizes that a command line gives, in bytes.
+///
+/// # Errors
+/// Those of `lfs_tool::list`, at the same times.
+pub fn list_asked<R: Reader, W: Writer>(
+    alloc: Global,
+    line: &Line<'_>,
+    image: &mut R,
+    out: &mut W,
+) -> Result<(), ToolError>
+    ensures ok { OnOk result (IfSome (R.remaining image.old) (λ bytes.
+        (text : _) × (Lists line.now.block_size line.now.page bytes text × Appends (W.contents out.old) (W.contents out.new) text))) }
+
+    // The writer isn't touched, unless it fails: then a beginning of the lines may be written.
+    ensures writer { TellsWriter W.Writer out.old out.new result }
+    ensures beginning { IsErrOf result ToolError.Output → IfSome (R.remaining image.old) (λ bytes.
+        (text : _) × (Lists line.now.block_size line.now.page bytes text × AppendsBeginning (W.contents out.old) (W.contents out.new) text)) }
+
+    // When each other error comes.
+    ensures refused { (e : _) → IsErrOf result (ToolError.Fs e)
+        → IsListError e × IfSome (R.remaining image.old) (λ bytes. Refuses line.now.block_size line.now.page bytes e) }
+    ensures input { Tells ToolError.Input (R.faults image.old) (R.faults image.new) result }
+    ensures read { ¬ IsErrOf result ToolError.Input → ¬ IsErrOf result (ToolError.Fs Error.NoMemory) → IsReadToEnd (R.remaining image.old) (R.remaining image.new) }
+{
+    list(alloc, image, line.block_size, line.page, out)
+}
+
+/// Checks an image with the sizes that a command line gives, in bytes, and answers whether it is
+/// accepted.
+///
+/// # Errors
+/// Those of `lfs_tool::check`, at the same times.
+pub fn check_asked<R: Reader, W: Writer>(
+    alloc: Global,
+    line: &Line<'_>,
+    image: &mut R,
+    out: &mut W,
+) -> Result<bool, ToolError>
+    ensures ok { IfOk result (λ accepted. IfSome (R.remaining image.old) (λ bytes.
+        (checked : _) × (IsCheckedAs line.now.block_size line.now.page bytes checked × (accepted ≡ is_accepted checked) × Appends (W.contents out.old) (W.contents out.new) (checked_text checked)))) }
+
+    // The writer isn't touched, unless it fails: then a beginning of the lines may be written.
+    ensures writer { TellsWriter W.Writer out.old out.new result }
+    ensures beginning { IsErrOf result ToolError.Output → IfSome (R.remaining image.old) (λ bytes.
+        (checked : _) × (IsCheckedAs line.now.block_size line.now.page bytes checked × AppendsBeginning (W.contents out.old) (W.contents out.new) (checked_text checked))) }
+
+    // When each other error comes.
+    ensures refused { (e : _) → IsErrOf result (ToolError.Fs e) → e ≡ Error.NoMemory }
+    ensures input { Tells ToolError.Input (R.faults image.old) (R.faults image.new) result }
+    ensures read { ¬ IsErrOf result ToolError.Input → ¬ IsErrOf result (ToolError.Fs Error.NoMemory) → IsReadToEnd (R.remaining image.old) (R.remaining image.new) }
+{
+    check(alloc, image, line.block_size, line.page, out)
+}
+
+/// Unpacks an image with the sizes that a command line gives, in bytes.
+///
+/// # Errors
+/// Those of `lfs_tool::unpack`, at the same times.
+pub fn unpack_asked<R: Reader, T: Target>(
+    alloc: Global,
+    line: &Line<'_>,
+    image: &mut R,
+    target: &mut T,
+) -> Result<(), ToolError>
+    ensures done { OnOk result (IfSome (R.remaining image.old) (λ bytes.
+        IsDoneOfImage line.now.block_size line.now.page bytes (T.done target.old) (T.done target.new))) }
+
+    // Nothing is done, or a beginning of the actions, where the target failed or memory ran out.
+    ensures undone { IfErr result (λ e. e ≢ ToolError.Output → e ≢ ToolError.Fs Error.NoMemory → T.done target.new ≡ T.done target.old) }
+    ensures begun { OnErr result ((T.done target.new ≡ T.done target.old) ⊎ IfSome (R.remaining image.old) (λ bytes.
+        IsBegunOfImage line.now.block_size line.now.page bytes (T.done target.old) (T.done target.new))) }
+
+    // When each error comes.
+    ensures refused { (e : _) → IsErrOf result (ToolError.Fs e) → IfSome (R.remaining image.old) (λ bytes. Refuses line.now.block_size line.now.page bytes e) }
+    ensures input { Tells ToolError.Input (R.faults image.old) (R.faults image.new) result }
+    ensures read { ¬ IsErrOf result ToolError.Input → ¬ IsErrOf result (ToolError.Fs Error.NoMemory) → IsReadToEnd (R.remaining image.old) (R.remaining image.new) }
+    ensures output { Tells ToolError.Output (T.faults target.old) (T.faults target.new) result }
+{
+    unpack(alloc, image, line.block_size, line.page, target)
+}

@@ -1,0 +1,137 @@
+// What an accepted image in memory has.
+
+ghost use Rattle.std.specs.Prelude.{◌≡◌, ◌↔◌, ◌≤◌, IfErr, IfOk, IsTrue, count_by, false, length};
+ghost use Rattle.lfs_model.specs.BlockSets.{AreUsed};
+ghost use Rattle.lfs_model.specs.Profile.{IsWritable};
+ghost use Rattle.lfs_model.specs.Shown.{used_blocks};
+ghost use Rattle.lfs_model.specs.Thread.{superblocks_before};
+ghost use Rattle.lfs_model.specs.View.{IsAccepted};
+ghost use Rattle.lfs_tag.specs.FieldsSeen.{move_seen};
+ghost use Rattle.lfs_thread.specs.Steps.{IsOnlyRead};
+ghost use Rattle.lfs_lookup.specs.Items.{structure_seen};
+ghost use Rattle.lfs_lookup.specs.Walk.{IsWalked, founds_seen};
+ghost use Rattle.lfs_tool.specs.Summary.{HasSummary, is_file_item, is_file_struct, is_half_done};
+
+use crate::verdict::Summary;
+use lfs_device::{Error, Ordered, RamDevice};
+use lfs_lookup::{Structure, TreeItem, find_root, is_writable, walk};
+use lfs_tag::MoveState;
+use lfs_thread::Thread;
+use std::alloc::Global;
+
+fn is_file(structure: &Structure) -> bool
+    ensures { result ≡ is_file_struct (structure_seen structure.now) }
+{
+    match structure {
+        Structure::Inline(_) => true,
+        Structure::Ctz { .. } => true,
+        Structure::Branch(_) => false,
+    }
+}
+
+// How many of the items are files.
+fn count_files(items: &[TreeItem]) -> usize
+    ensures count { result ≡ count_by is_file_item items.now }
+    ensures below { result ≤ length items.now }
+{
+    let mut count = 0;
+    for item in items {
+        if is_file(&item.structure) {
+            count += 1;
+        }
+    }
+    count
+}
+
+// Whether a global state says that an operation isn't ended.
+fn is_half_done(state: &MoveState) -> bool
+    ensures { result ≡ is_half_done (move_seen state.now) }
+{
+    state.sync || state.kind != 0
+}
+
+// All that stands in the image.
+fn items_in(alloc: Global, thread: &mut Thread<Ordered<RamDevice>>) -> Result<Vec<TreeItem>, Error>
+    requires works { thread.old.failed ≡ false }
+    requires accepted { IsAccepted thread.old.kept.disk thread.old.kept.pairs }
+    ensures walked { IfOk result (λ items. IsWalked thread.old.kept.disk thread.old.kept.pairs (founds_seen items.items)) }
+    ensures only { (IsOnlyRead thread.old.kept thread.new.kept) × (thread.new.failed ≡ false) }
+    ensures err { IfErr result (λ e. e ≡ Error.NoMemory) }
+{
+    match walk(alloc, thread) {
+        Ok(items) => Ok(items),
+        Err(error) => {
+            // It has met no fault, so memory ran out.
+            let _device = thread.device();
+            Err(error)
+        }
+    }
+}
+
+// The number of the root directory's first pair.
+fn root_in(alloc: Global, thread: &mut Thread<Ordered<RamDevice>>) -> Result<usize, Error>
+    requires works { thread.old.failed ≡ false }
+    requires accepted { IsAccepted thread.old.kept.disk thread.old.kept.pairs }
+    ensures root { IfOk result (λ root. root ≡ superblocks_before thread.old.kept.pairs) }
+    ensures only { (IsOnlyRead thread.old.kept thread.new.kept) × (thread.new.failed ≡ false) }
+    ensures err { IfErr result (λ e. e ≡ Error.NoMemory) }
+{
+    match find_root(alloc, thread) {
+        Ok(root) => Ok(root),
+        Err(error) => {
+            // It has met no fault, so memory ran out.
+            let _device = thread.device();
+            Err(error)
+        }
+    }
+}
+
+// Whether the image may be changed.
+fn writable_in(
+    alloc: Global,
+    thread: &mut Thread<Ordered<RamDevice>>,
+    root: usize,
+) -> Result<bool, Error>
+    requires works { thread.old.failed ≡ false }
+    requires accepted { IsAccepted thread.old.kept.disk thread.old.kept.pairs }
+    requires root { root ≡ superblocks_before thread.old.kept.pairs }
+    ensures is { IfOk result (λ b. IsTrue b ↔ IsWritable thread.old.kept.disk thread.old.kept.pairs) }
+    ensures only { (IsOnlyRead thread.old.kept thread.new.kept) × (thread.new.failed ≡ false) }
+    ensures err { IfErr result (λ e. e ≡ Error.NoMemory) }
+{
+    match is_writable(alloc, thread, root) {
+        Ok(writable) => Ok(writable),
+        Err(error) => {
+            // It has met no fault, so memory ran out.
+            let _device = thread.device();
+            Err(error)
+        }
+    }
+}
+
+// What the image has.
+pub(crate) fn summary_of(
+    alloc: Global,
+    thread: &mut Thread<Ordered<RamDevice>>,
+) -> Result<Summary, Error>
+    requires works { thread.old.failed ≡ false }
+    requires accepted { IsAccepted thread.old.kept.disk thread.old.kept.pairs }
+    requires used { AreUsed thread.old.kept.map (used_blocks thread.old.kept.disk thread.old.kept.pairs) }
+    ensures summary { IfOk result (HasSummary thread.old.kept.disk thread.old.kept.pairs) }
+    ensures only { (IsOnlyRead thread.old.kept thread.new.kept) × (thread.new.failed ≡ false) }
+    ensures err { IfErr result (λ e. e ≡ Error.NoMemory) }
+{
+    let items = items_in(alloc, thread)?;
+    let root = root_in(alloc, thread)?;
+    let writable = writable_in(alloc, thread, root)?;
+    let files = count_files(&items);
+    let state = thread.state();
+    Ok(Summary {
+        files,
+        directories: items.len() - files,
+        used: thread.used_count(),
+        blocks: thread.geometry().block_count,
+        recover: is_half_done(&state),
+        writable,
+    })
+}

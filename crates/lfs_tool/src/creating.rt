@@ -1,0 +1,40 @@
+ghost use Rattle.std.specs.Prelude.{◌≡◌, ◌≢◌, ◌⊎◌, IsErrOf, OnOk};
+ghost use Rattle.lfs_tool.specs.Told.{TellsWriter};
+ghost use Rattle.lfs_tool.specs.Made.{HasRefusal, IsBegun, IsCreated, TellsSource};
+ghost use Rattle.lfs_tool.specs.Asked.{HasNoGeometry, HasSizes};
+
+use lfs_device::Error;
+use crate::{Line, ToolError, Writer, create, geometry_for};
+use lfs_tool_folders::Source;
+use std::alloc::Global;
+
+/// Writes the image of a source with the sizes that a command line gives, in bytes, and with its order
+/// of names. The source isn't read where no image has these sizes.
+///
+/// # Errors
+/// - `Fs(Invalid)` where the image isn't a whole number of blocks, or its geometry is out of range.
+/// - Those of `lfs_tool::create`, at the same times.
+pub fn create_asked<S: Source, W: Writer>(
+    alloc: Global,
+    line: &Line<'_>,
+    source: &mut S,
+    out: &mut W,
+) -> Result<(), ToolError>
+    ensures ok { OnOk result ((g : _) × (HasSizes line.now g × IsCreated g (S.shown source.old) (W.contents out.old) (W.contents out.new))) }
+
+    // The writer isn't touched, unless it fails: then a beginning of the image may be written.
+    ensures writer { TellsWriter W.Writer out.old out.new result }
+    ensures beginning { IsErrOf result ToolError.Output
+        → (g : _) × (HasSizes line.now g × IsBegun g (S.shown source.old) (W.contents out.old) (W.contents out.new)) }
+
+    // When each other error comes. The source has a fault at `Input` alone.
+    ensures refused { (e : _) → IsErrOf result (ToolError.Fs e) → e ≢ Error.NoMemory
+        → HasNoGeometry line.now e ⊎ ((g : _) × (HasSizes line.now g × HasRefusal g (S.shown source.old) e)) }
+    ensures source { TellsSource (S.faults source.old) (S.faults source.new) (S.shown source.old) result }
+    ensures unread { HasNoGeometry line.now Error.Invalid → (source.new ≡ source.old) × IsErrOf result (ToolError.Fs Error.Invalid) }
+{
+    match geometry_for(line.size, line.block_size, line.page) {
+        Ok(geometry) => create(alloc, source, geometry.ordered(line.order), out),
+        Err(error) => Err(ToolError::Fs(error)),
+    }
+}

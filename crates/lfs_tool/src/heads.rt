@@ -1,0 +1,106 @@
+// The superblock's chain.
+
+ghost use Rattle.std.specs.Prelude.{◌≡◌, ◌<◌, ◌≤◌, ℕ, IfSome, List, None, Some, length, slice_get};
+ghost use Rattle.lfs_model.specs.Disk.{Disk};
+ghost use Rattle.lfs_model.specs.EntryTypes.{SuperblockFields};
+ghost use Rattle.lfs_model.specs.Slots.{Inline, Struct as ModelStruct, address_of};
+ghost use Rattle.lfs_model.specs.Thread.{Pair, superblocks_before};
+ghost use Rattle.lfs_tag.specs.FieldsSeen.{superblock_seen};
+ghost use Rattle.lfs_tool.specs.Broken.{HasFields, IsBroken, IsChained, IsMisstated};
+ghost use Rattle.lfs_tool.specs.Device.{HasSizes};
+ghost use Rattle.lfs_tool.specs.HeldSeen.{held_seen, pair_seen, pairs_seen, struct_seen};
+
+use crate::finding::{Finding, Stated};
+use crate::held::{HeldPair, HeldSlot, Struct};
+use crate::roots::starts_with_superblock;
+use crate::stating::unlike;
+use lfs_device::Geometry;
+use lfs_tag::{Superblock, superblock_of};
+
+// The fields of a superblock's struct.
+pub(crate) fn fields_of(structure: &Struct) -> Option<Superblock>
+    ensures some { IfSome result (λ fields. HasFields (struct_seen structure.now) (superblock_seen fields)) }
+    ensures none { result ≡ None → (fields : SuperblockFields) → ¬ HasFields (struct_seen structure.now) fields }
+{
+    match structure {
+        Struct::Inline(bytes) => fields_in(bytes),
+        Struct::Ctz { .. } => None,
+        Struct::Branch(_) => None,
+    }
+}
+
+fn fields_in(bytes: &[u8]) -> Option<Superblock>
+    ensures some { IfSome result (λ fields. HasFields (Inline bytes.now) (superblock_seen fields)) }
+    ensures none { result ≡ None → (fields : SuperblockFields) → ¬ HasFields (Inline bytes.now) fields }
+{
+    match <&[u8; 24]>::try_from(bytes) {
+        Ok(bytes) => Some(superblock_of(bytes)),
+        Err(_) => None,
+    }
+}
+
+// What these fields say of an image that isn't so.
+pub(crate) fn misstated(geometry: &Geometry, fields: &Superblock) -> Option<Stated>
+    ensures { IfSome result (λ stated. (disk : Disk) → HasSizes disk geometry.now → IsMisstated disk (superblock_seen fields.now) stated) }
+{
+    unlike(geometry.block_size, geometry.block_count as usize, fields)
+}
+
+// What is wrong with the fields of the superblock in a pair of the chain.
+fn fields_fault(geometry: &Geometry, pair: [u32; 2], fields: &Superblock) -> Option<Finding>
+    ensures { IfSome result (λ f. (disk : Disk) (ps : List Pair) (s : ModelStruct) → HasSizes disk geometry.now → IsChained ps (address_of pair) s → HasFields s (superblock_seen fields.now) → IsBroken disk ps f) }
+{
+    match misstated(geometry, fields) {
+        Some(stated) => Some(Finding::OtherFields { pair, stated }),
+        None => None,
+    }
+}
+
+// What is wrong with the superblock in a pair of the chain.
+fn superblock_fault(geometry: &Geometry, pair: [u32; 2], first: &HeldSlot) -> Option<Finding>
+    ensures { IfSome result (λ f. (disk : Disk) (ps : List Pair) → HasSizes disk geometry.now → IsChained ps (address_of pair) (held_seen first.now).struct → IsBroken disk ps f) }
+{
+    match fields_of(&first.structure) {
+        Some(fields) => fields_fault(geometry, pair, &fields),
+        None => Some(Finding::NoFields { pair }),
+    }
+}
+
+// What is wrong with the superblock in a pair of the chain, if it has one.
+fn pair_fault(geometry: &Geometry, pair: &HeldPair) -> Option<Finding>
+    ensures { IfSome result (λ f. (disk : Disk) (ps : List Pair) (index : ℕ) → HasSizes disk geometry.now → slice_get ps index ≡ Some (pair_seen pair.now) → index ≤ superblocks_before ps → IsBroken disk ps f) }
+{
+    if pair.slots.is_empty() {
+        None
+    } else {
+        superblock_fault(geometry, pair.at, &pair.slots[0])
+    }
+}
+
+// What is wrong with the superblocks of the chain, of whose pairs so many stand in front of the root
+// directory.
+fn chain_fault(geometry: &Geometry, pairs: &[HeldPair], root: usize) -> Option<Finding>
+    requires below { root < length pairs.now }
+    requires root { root ≡ superblocks_before (pairs_seen pairs.now) }
+    ensures { IfSome result (λ f. (disk : Disk) → HasSizes disk geometry.now → IsBroken disk (pairs_seen pairs.now) f) }
+{
+    for index in 0..root + 1 {
+        if let Some(finding) = pair_fault(geometry, &pairs[index]) {
+            return Some(finding);
+        }
+    }
+    None
+}
+
+// What is wrong with the superblock's chain, of whose pairs so many stand in front of the root
+// directory (SPEC.md of littlefs, "0x0ff LFS_TYPE_SUPERBLOCK").
+pub(crate) fn head_fault(geometry: &Geometry, pairs: &[HeldPair], root: usize) -> Option<Finding>
+    requires below { root < length pairs.now }
+    requires root { root ≡ superblocks_before (pairs_seen pairs.now) }
+    ensures { IfSome result (λ f. (disk : Disk) → HasSizes disk geometry.now → IsBroken disk (pairs_seen pairs.now) f) }
+{
+    if !starts_with_superblock(&pairs[root].slots) {
+        return Some(Finding::NoSuperblock);
+    }
+    chain_fault(geometry, pairs, root)
+}

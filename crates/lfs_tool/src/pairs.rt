@@ -1,0 +1,120 @@
+// A pair of the thread, read.
+
+ghost use Rattle.std.specs.Prelude.{◌≡◌, ◌<◌, IfErr, IfOk, None, Some, length, map};
+ghost use Rattle.std.specs.Option.{option_map};
+ghost use Rattle.lfs_device.specs.Shown.{disk_of};
+ghost use Rattle.lfs_model.specs.Content.{RawContent, complete, holder, holder_at, raw_at, slot_of_id};
+ghost use Rattle.lfs_model.specs.Disk.{Disk};
+ghost use Rattle.lfs_model.specs.LoggedContent.{HaveParts};
+ghost use Rattle.lfs_model.specs.Slots.{address_of};
+ghost use Rattle.lfs_tag.specs.ContentSeen.{content_seen, slot_seen};
+ghost use Rattle.lfs_tool.specs.Device.{Looks};
+ghost use Rattle.lfs_tool.specs.Found.{IsUnread};
+ghost use Rattle.lfs_tool.specs.Leading.{IsNamed};
+ghost use Rattle.lfs_tool.specs.Reading.{IsRead};
+
+use crate::finding::{Finding, Place};
+use crate::held::HeldPair;
+use crate::holding::{first_incomplete, hold_all};
+use lfs_device::{BlockDevice, Error, read_block};
+use lfs_tag::{Content, ContentError, Log, Slot, is_later};
+use std::alloc::{AllocError, Global};
+
+// A pair, or what is wrong with it.
+#[derive(Drop)]
+pub(crate) enum Read {
+    Pair(HeldPair),
+    Broken(Finding),
+}
+
+// Of the blocks of a pair the one that holds.
+fn holding<'a>(first: &'a [u8], second: &'a [u8]) -> Option<&'a [u8]>
+    ensures { option_map (λ b. b.now) result ≡ holder first.now second.now }
+{
+    let log = Log::read(first);
+    let other = Log::read(second);
+    if !log.has_commit() {
+        if other.has_commit() {
+            Some(second)
+        } else {
+            None
+        }
+    } else if other.has_commit() && is_later(log.revision(), other.revision()) {
+        Some(second)
+    } else {
+        Some(first)
+    }
+}
+
+// What the slot of that number lacks, which has no name or no struct.
+fn lacking(
+    alloc: Global,
+    pair: [u32; 2],
+    slots: &[Slot<'_>],
+    slot: usize,
+) -> Result<Finding, AllocError>
+    requires below { slot < length slots.now }
+    requires incomplete { complete (slot_of_id (map slot_seen slots.now) slot) ≡ None }
+    ensures { IfOk result (λ f. (disk : Disk) (c : RawContent) → raw_at disk (address_of pair) ≡ Some c → c.slots ≡ map slot_seen slots.now
+        → IsNamed disk (address_of pair) → IsUnread disk f) }
+{
+    match slots[slot].name {
+        None => Ok(Finding::NoName { pair, slot }),
+        Some(name) => {
+            let name = Vec::from_slice(alloc, name.bytes)?;
+            Ok(Finding::NoStruct(Place { pair, slot, name }))
+        }
+    }
+}
+
+// The pair at an address that has that content.
+fn hold_content(alloc: Global, at: [u32; 2], content: &Content<'_>) -> Result<Read, AllocError>
+    requires { HaveParts (content_seen content.now).slots }
+    ensures { IfOk result (λ read. (disk : Disk) → raw_at disk (address_of at) ≡ Some (content_seen content.now) → IsRead disk (address_of at) read) }
+{
+    if let Some(slot) = first_incomplete(&content.slots) {
+        let finding = lacking(alloc, at, &content.slots, slot)?;
+        return Ok(Read::Broken(finding));
+    }
+    let slots = hold_all(alloc, &content.slots)?;
+    Ok(Read::Pair(HeldPair {
+        at,
+        slots,
+        tail: content.tail,
+        share: content.move_state,
+    }))
+}
+
+// The pair at an address of which that block holds.
+fn hold_block(alloc: Global, at: [u32; 2], block: &[u8]) -> Result<Read, Error>
+    ensures read { IfOk result (λ read. (disk : Disk) → holder_at disk (address_of at) ≡ Some block.now → IsRead disk (address_of at) read) }
+    ensures errors { IfErr result (λ e. e ≡ Error.NoMemory) }
+{
+    match Content::read(alloc, &Log::read(block)) {
+        Ok(content) => {
+            let read = hold_content(alloc, at, &content)?;
+            Ok(read)
+        }
+        Err(ContentError::Malformed) => Ok(Read::Broken(Finding::Malformed { pair: at })),
+        Err(ContentError::NoMemory) => Err(Error::NoMemory),
+    }
+}
+
+// The pair at an address, or what is wrong with it.
+pub(crate) fn read_pair<D: BlockDevice>(
+    alloc: Global,
+    device: &mut D,
+    at: [u32; 2],
+) -> Result<Read, Error>
+    requires first { (address_of at).0 < (D.geometry device.old).block_count }
+    requires second { (address_of at).1 < (D.geometry device.old).block_count }
+    ensures read { IfOk result (IsRead (disk_of (D.geometry device.old) (D.blocks device.old)) (address_of at)) }
+    ensures looks { Looks D.BlockDevice device.old device.new result }
+{
+    let first = read_block(alloc, device, at[0])?;
+    let second = read_block(alloc, device, at[1])?;
+    match holding(&first, &second) {
+        Some(block) => hold_block(alloc, at, block),
+        None => Ok(Read::Broken(Finding::NoCommit { pair: at })),
+    }
+}

@@ -1,0 +1,97 @@
+// Where the root directory begins.
+
+ghost use Rattle.std.specs.Prelude.{◌≡◌, ◌<◌, ◌+◌, ◌^◌, ◌&&◌, if◌then◌else◌, length, map};
+ghost use Rattle.lfs_model.specs.Slots.{is_superblock};
+ghost use Rattle.lfs_model.specs.Thread.{is_bare, is_hard, leads_on, starts_with_superblock, superblock_or, superblocks_before};
+ghost use Rattle.lfs_tool.specs.HeldSeen.{held_seen, pair_seen, pairs_seen};
+
+use crate::held::{HeldPair, HeldSlot, Kind};
+use lfs_tag::is_hard;
+
+// Whether a slot is a superblock's.
+pub(crate) fn is_superblock(slot: &HeldSlot) -> bool
+    ensures { result ≡ is_superblock (held_seen slot.now) }
+{
+    match slot.kind {
+        Kind::Superblock => true,
+        Kind::File => false,
+        Kind::Directory => false,
+    }
+}
+
+// Whether slot 0 is one.
+pub(crate) fn starts_with_superblock(slots: &[HeldSlot]) -> bool
+    ensures { result ≡ starts_with_superblock (map held_seen slots.now) }
+{
+    match slots {
+        [] => false,
+        [first, ..] => is_superblock(first),
+    }
+}
+
+// Whether slot 0 is one, or there is no slot and that holds.
+fn superblock_or(slots: &[HeldSlot], later: bool) -> bool
+    ensures { result ≡ superblock_or (map held_seen slots.now) later }
+{
+    match slots {
+        [] => later,
+        [first, ..] => is_superblock(first),
+    }
+}
+
+// Whether there is no slot, or a superblock alone.
+fn is_bare(slots: &[HeldSlot]) -> bool
+    ensures { result ≡ is_bare (map held_seen slots.now) }
+{
+    match slots {
+        [] => true,
+        [only] => is_superblock(only),
+        [_, _, ..] => false,
+    }
+}
+
+// Whether the superblock's chain may go on behind the pair.
+fn leads_on(pair: &HeldPair) -> bool
+    ensures { result ≡ leads_on (pair_seen pair.now) }
+{
+    is_bare(&pair.slots) && is_hard(pair.tail)
+}
+
+// How many pairs stand in front of the root, with one pair more in front of those of which `behind`
+// do. Whether these meet a superblock, is `meets`.
+fn with_pair(pair: &HeldPair, meets: bool, behind: usize) -> usize
+    requires { behind < 2 ^ 63 }
+    ensures { result ≡ (if meets && leads_on (pair_seen pair.now) then 1 + behind else 0) }
+{
+    if meets && leads_on(pair) {
+        1 + behind
+    } else {
+        0
+    }
+}
+
+// Whether a pair and those behind it meet a superblock, where these alone do or don't.
+fn meets_with(pair: &HeldPair, meets: bool) -> bool
+    ensures { result ≡ superblock_or (pair_seen pair.now).content.slots (is_hard (pair_seen pair.now).content.tail && meets) }
+{
+    superblock_or(&pair.slots, is_hard(pair.tail) && meets)
+}
+
+// How many pairs stand in front of the root directory's first one: the superblock's chain, without
+// its last pair (SPEC.md of littlefs, "0x0ff LFS_TYPE_SUPERBLOCK").
+pub(crate) fn root_of(pairs: &[HeldPair]) -> usize
+    requires { 0 < length pairs.now }
+    ensures count { result ≡ superblocks_before (pairs_seen pairs.now) }
+    ensures below { result < length pairs.now }
+{
+    let mut root = 0;
+    let mut meets = false;
+    let mut index = pairs.len();
+    while index > 0 {
+        index -= 1;
+        let pair = &pairs[index];
+        root = with_pair(pair, meets, root);
+        meets = meets_with(pair, meets);
+    }
+    root
+}

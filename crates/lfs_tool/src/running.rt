@@ -1,0 +1,117 @@
+ghost use Rattle.std.specs.Prelude.{◌≡◌, ◌≢◌, IfErr, IfOk, IsErrOf, MatchResult, OnErr, OnOk, map, false, suc, true};
+ghost use Rattle.std.specs.IoError.{error_kind};
+ghost use Rattle.std.specs.String.{string_bytes};
+ghost use Rattle.lfs_tool_line.specs.Matches.{IsLineOf, is_checked, is_listed, rows};
+ghost use Rattle.lfs_tool.specs.Answered.{HasLine, IsAnswered, IsFaultIn, IsShown};
+ghost use Rattle.lfs_tool.specs.Placed.{By, ChecksAt, EndsWell, FailsAt, FailsToRead, ListsAt, MakesAt, RefusesAt, RefusesToMake, UnpacksAt};
+
+use crate::Places;
+use crate::carrying_out::carry_out;
+use lfs_device::Error;
+use crate::{Fault, LineError, ToolError, Writer, read_line, report};
+use std::alloc::Global;
+use std::io;
+use std::io::ErrorKind;
+
+/// Carries out the words of a command line, the program's name first, at the places of its paths. The
+/// lines of a listing and of a check go to `out`. Answers false where an image was checked that isn't
+/// accepted, and else true.
+///
+/// # Errors
+/// - `Line` where there is no command line, or memory ran out while it was read.
+/// - `Tool` where the image isn't listed, checked, unpacked or made: the errors of `lfs_tool::list`,
+///   `lfs_tool::check`, `lfs_tool::unpack` and `create_asked`.
+pub fn run<P: Places, W: Writer>(
+    alloc: Global,
+    places: &P,
+    words: &[String],
+    out: &mut W,
+) -> Result<bool, Fault>
+    ensures line { MatchResult result (λ _. HasLine (map string_bytes words.now)) (IsFaultIn (map string_bytes words.now)) }
+
+    // `out` isn't touched, but by a listing or a check, unless it fails.
+    ensures unlisted { is_listed (rows (map string_bytes words.now)) ≡ false → is_checked (rows (map string_bytes words.now)) ≡ false → out.new ≡ out.old }
+    ensures kept { IfErr result (λ e. e ≢ Fault.Tool ToolError.Output → out.new ≡ out.old) }
+
+    // What is done at the paths of the line, and why each error of the tool comes.
+    ensures done { IfOk result (λ accepted. (line : _) × (IsLineOf (rows (map string_bytes words.now)) line × EndsWell line.mode accepted × By line.mode
+        (ListsAt P.image_path P.Image.remaining line (W.contents out.old) (W.contents out.new) × (W.pending out.new ≡ 0))
+        (ChecksAt P.image_path P.Image.remaining line accepted (W.contents out.old) (W.contents out.new) × (W.pending out.new ≡ 0))
+        (MakesAt P.folder_path P.Folder.shown P.new_image_path P.NewImage.contents P.NewImage.pending line)
+        (UnpacksAt P.image_path P.Image.remaining P.new_folder_path P.NewFolder.done line))) }
+    ensures refused { (e : _) → IsErrOf result (Fault.Tool (ToolError.Fs e)) → e ≢ Error.NoMemory
+        → (line : _) × (IsLineOf (rows (map string_bytes words.now)) line × By line.mode
+        (RefusesAt P.image_path P.Image.remaining line e)
+        ⊥
+        (RefusesToMake P.folder_path P.Folder.shown line e)
+        (λ _. RefusesAt P.image_path P.Image.remaining line e)) }
+    ensures input { IsErrOf result (Fault.Tool ToolError.Input) → (line : _) × (IsLineOf (rows (map string_bytes words.now)) line × By line.mode
+        (FailsAt P.image_path P.Image.faults line.image.now)
+        (FailsAt P.image_path P.Image.faults line.image.now)
+        (FailsToRead P.folder_path P.Folder.faults P.Folder.shown)
+        (λ _. FailsAt P.image_path P.Image.faults line.image.now)) }
+    ensures output { IsErrOf result (Fault.Tool ToolError.Output) → (line : _) × (IsLineOf (rows (map string_bytes words.now)) line × By line.mode
+        (W.faults out.new ≡ suc (W.faults out.old))
+        (W.faults out.new ≡ suc (W.faults out.old))
+        (λ _. FailsAt P.new_image_path P.NewImage.faults line.image.now)
+        (FailsAt P.new_folder_path P.NewFolder.faults)) }
+    ensures no_output { ¬ IsErrOf result (Fault.Tool ToolError.Output) → W.faults out.new ≡ W.faults out.old }
+{
+    let line = match read_line(alloc, words) {
+        Ok(line) => line,
+        Err(error) => return Err(Fault::Line(error)),
+    };
+    match carry_out(alloc, places, &line, out) {
+        Ok(accepted) => Ok(accepted),
+        Err(error) => Err(Fault::Tool(error)),
+    }
+}
+
+// Why there are no words: memory ran out, or one of them is no text.
+fn fault_of(error: &io::Error) -> Fault
+    ensures memory { error_kind error.now ≡ ErrorKind.OutOfMemory → result ≡ Fault.Tool (ToolError.Fs Error.NoMemory) }
+    ensures text { error_kind error.now ≢ ErrorKind.OutOfMemory → result ≡ Fault.Line LineError.NotUtf8 }
+{
+    if error.kind() == ErrorKind::OutOfMemory {
+        Fault::Tool(ToolError::Fs(Error::NoMemory))
+    } else {
+        Fault::Line(LineError::NotUtf8)
+    }
+}
+
+/// Runs the program on the words of its command line, or on what there is in their place, and gives the
+/// status with which it ends: 0, or 1 where an image was checked that isn't accepted, or that of
+/// `lfs_tool::report`, which shows why. Without words memory ran
+/// out, or one of them is no text; nothing goes to `out` then.
+pub fn answer<P: Places, O: Writer, E: Writer>(
+    alloc: Global,
+    places: &P,
+    words: io::Result<Vec<String>>,
+    out: &mut O,
+    err: &mut E,
+) -> u8
+    ensures answered { IfOk words (λ all. IsAnswered E.Writer (map string_bytes all.items) result err.old err.new) }
+    ensures unlisted { IfOk words (λ all. HasLine (map string_bytes all.items) → is_listed (rows (map string_bytes all.items)) ≡ false → is_checked (rows (map string_bytes all.items)) ≡ false → out.new ≡ out.old) }
+
+    // With words that are a command line, the status 0 says that what it asks for is done.
+    ensures done { IfOk words (λ all. HasLine (map string_bytes all.items) → result ≡ 0 → (line : _) × (IsLineOf (rows (map string_bytes all.items)) line × By line.mode
+        (ListsAt P.image_path P.Image.remaining line (O.contents out.old) (O.contents out.new) × (O.pending out.new ≡ 0))
+        (ChecksAt P.image_path P.Image.remaining line true (O.contents out.old) (O.contents out.new) × (O.pending out.new ≡ 0))
+        (MakesAt P.folder_path P.Folder.shown P.new_image_path P.NewImage.contents P.NewImage.pending line)
+        (UnpacksAt P.image_path P.Image.remaining P.new_folder_path P.NewFolder.done line))) }
+
+    // Without words.
+    ensures no_memory { IfErr words (λ e. error_kind e ≡ ErrorKind.OutOfMemory → IsShown E.Writer (Fault.Tool (ToolError.Fs Error.NoMemory)) result err.old err.new) }
+    ensures not_utf8 { IfErr words (λ e. error_kind e ≢ ErrorKind.OutOfMemory → IsShown E.Writer (Fault.Line LineError.NotUtf8) result err.old err.new) }
+    ensures kept { OnErr words (out.new ≡ out.old) }
+{
+    let words = match words {
+        Ok(words) => words,
+        Err(error) => return report(&fault_of(&error), out, err),
+    };
+    match run(alloc, places, words.as_slice(), out) {
+        Ok(true) => 0,
+        Ok(false) => 1,
+        Err(fault) => report(&fault, out, err),
+    }
+}

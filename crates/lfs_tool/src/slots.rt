@@ -1,0 +1,131 @@
+// Slots that hold no entry.
+
+ghost use Rattle.std.specs.Prelude.{◌≡◌, ◌↔◌, ◌<◌, ◌⊎◌, ℕ, IfOk, IfSome, IsTrue, List, Some, slice_get};
+ghost use Rattle.lfs_model.specs.Disk.{Disk};
+ghost use Rattle.lfs_model.specs.Slots.{address_of};
+ghost use Rattle.lfs_model.specs.Thread.{Pair, superblocks_before};
+ghost use Rattle.lfs_model.specs.View.{Suits};
+ghost use Rattle.lfs_tool.specs.Broken.{HasAt, IsBroken, IsEntrySlot};
+ghost use Rattle.lfs_tool.specs.Entries.{HasFault};
+ghost use Rattle.lfs_tool.specs.HeldSeen.{held_seen, pair_seen, pairs_seen};
+
+use crate::finding::{Finding, Place};
+use crate::held::{HeldPair, HeldSlot, Kind, Struct};
+use crate::roots::is_superblock;
+use lfs_tag::is_name;
+use std::alloc::{AllocError, Global};
+
+// Why a slot is no entry.
+#[derive(Clone, Copy, Drop)]
+pub(crate) enum EntryFault {
+    IsSuperblock,
+    OtherStruct,
+    BadName,
+}
+
+// Whether a slot's kind and its struct go together.
+fn suits(slot: &HeldSlot) -> bool
+    ensures { IsTrue result ↔ Suits (held_seen slot.now).kind (held_seen slot.now).struct }
+{
+    match (slot.kind, &slot.structure) {
+        (Kind::File, Struct::Inline(_)) => true,
+        (Kind::File, Struct::Ctz { .. }) => true,
+        (Kind::Directory, Struct::Branch(_)) => true,
+        _ => false,
+    }
+}
+
+// What is wrong with a slot that has to be an entry.
+fn fault_of(slot: &HeldSlot) -> Option<EntryFault>
+    ensures { IfSome result (HasFault (held_seen slot.now)) }
+{
+    if is_superblock(slot) {
+        return Some(EntryFault::IsSuperblock);
+    }
+    if !suits(slot) {
+        return Some(EntryFault::OtherStruct);
+    }
+    if !is_name(&slot.name) {
+        return Some(EntryFault::BadName);
+    }
+    None
+}
+
+// A slot by its pair, its number and its name.
+fn place_of(
+    alloc: Global,
+    pair: [u32; 2],
+    slot: usize,
+    held: &HeldSlot,
+) -> Result<Place, AllocError>
+    ensures { IfOk result (λ place. (place.pair ≡ pair) × (place.slot ≡ slot) × (place.name.items ≡ (held_seen held.now).name)) }
+{
+    let name = Vec::from_slice(alloc, &held.name)?;
+    Ok(Place { pair, slot, name })
+}
+
+// The finding of what is wrong with the slot at a place.
+fn finding_of(fault: EntryFault, place: Place) -> Finding
+    ensures { (disk : Disk) (ps : List Pair) → HasAt (λ s. HasFault s fault) ps place → IsBroken disk ps result }
+{
+    match fault {
+        EntryFault::IsSuperblock => Finding::SecondSuperblock(place),
+        EntryFault::OtherStruct => Finding::OtherStruct(place),
+        EntryFault::BadName => Finding::BadName(place),
+    }
+}
+
+// The finding of what is wrong with a slot that has to be an entry.
+fn slot_fault(
+    alloc: Global,
+    pair: [u32; 2],
+    id: usize,
+    slot: &HeldSlot,
+) -> Result<Option<Finding>, AllocError>
+    ensures { IfOk result (λ found. IfSome found (λ f. (disk : Disk) (ps : List Pair) → IsEntrySlot ps (address_of pair) id (held_seen slot.now) → IsBroken disk ps f)) }
+{
+    let Some(fault) = fault_of(slot) else {
+        return Ok(None);
+    };
+    let place = place_of(alloc, pair, id, slot)?;
+    Ok(Some(finding_of(fault, place)))
+}
+
+// What is wrong with the slots of a pair from a number on, which have to be entries.
+fn pair_fault(alloc: Global, pair: &HeldPair, from: usize) -> Result<Option<Finding>, AllocError>
+    ensures { IfOk result (λ found. IfSome found (λ f. (disk : Disk) (ps : List Pair) (index : ℕ) → slice_get ps index ≡ Some (pair_seen pair.now) → (superblocks_before ps < index) ⊎ (0 < from) → IsBroken disk ps f)) }
+{
+    for id in from..pair.slots.len() {
+        if let Some(finding) = slot_fault(alloc, pair.at, id, &pair.slots[id])? {
+            return Ok(Some(finding));
+        }
+    }
+    Ok(None)
+}
+
+// The number of the first slot of a pair that has to be an entry. So many pairs stand in front of the
+// root directory.
+fn first_entry(root: usize, index: usize) -> usize
+    ensures { (root < index) ⊎ (0 < result) }
+{
+    if root < index { 0 } else { 1 }
+}
+
+// What is wrong with the slots of all pairs, but for slot 0 of the pairs of the superblock's chain.
+// So many of these stand in front of the root directory.
+pub(crate) fn slots_fault(
+    alloc: Global,
+    pairs: &[HeldPair],
+    root: usize,
+) -> Result<Option<Finding>, AllocError>
+    requires { root ≡ superblocks_before (pairs_seen pairs.now) }
+    ensures { IfOk result (λ found. IfSome found (λ f. (disk : Disk) → IsBroken disk (pairs_seen pairs.now) f)) }
+{
+    for index in 0..pairs.len() {
+        let from = first_entry(root, index);
+        if let Some(finding) = pair_fault(alloc, &pairs[index], from)? {
+            return Ok(Some(finding));
+        }
+    }
+    Ok(None)
+}

@@ -1,7 +1,7 @@
 -- How a run of the program ends, and what it shows then.
 use Rattle.std.specs.Prelude.{ℕ, ◌≡◌, ◌⊎◌, Bool, true, false, List, None, IfSome}
 use Rattle.std.specs.Io.KnownBytes.{Appends}
-use Rattle.lfs_tool_line.specs.Matches.{HasOneMode, HasOrder, IsFaultOf, Parses, is_checked, rows}
+use Rattle.lfs_tool_line.specs.Matches.{HasOneMode, HasOrder, IsFaultOf, Parses, rows}
 use Rattle.lfs_tool.specs.Ending.{own_line, shows_help, status_of}
 use Rattle.lfs_tool.specs.declared.errors.Fault.{Fault}
 use Rattle.lfs_tool.specs.declared.errors.Fault.TheVariants.{Line, Tool}
@@ -30,8 +30,8 @@ abbrev pub status_for : Bool → ℕ
 status_for true = 0
 status_for false = 1
 
--- what was asked is done, and no mistake is written; or a fault is shown
-abbrev pub IsAnswered : {W : Type 0} → Ghosts W → List (List ℕ) → ℕ → W → W → Type 0
-IsAnswered g words code old new =
-    (HasLine words × ((accepted : Bool) × ((code ≡ status_for accepted) × (is_checked (rows words) ≡ false → accepted ≡ true))) × (new ≡ old))
+-- what was asked is done, as it is to end then, and no mistake is written; or a fault is shown
+abbrev pub IsAnswered : {W : Type 0} → Ghosts W → List (List ℕ) → (Bool → Type 0) → ℕ → W → W → Type 0
+IsAnswered g words ends code old new =
+    (HasLine words × ((accepted : Bool) × ((code ≡ status_for accepted) × ends accepted)) × (new ≡ old))
     ⊎ ((f : Fault) × (IsFaultIn words f × IsShown g f code old new))

@@ -9,8 +9,8 @@ ghost use Rattle.lfs_tool.specs.Checked.{IsCheckedAs, is_accepted};
 ghost use Rattle.lfs_tool.specs.CheckedLines.{checked_text};
 ghost use Rattle.lfs_tool.specs.Told.{IsReadToEnd, Tells, TellsWriter};
 
-use lfs_device::Error;
 use crate::{Line, Reader, ToolError, Writer, check, list, unpack};
+use lfs_device::Error;
 use lfs_tool_folders::Target;
 use std::alloc::Global;
 

@@ -4,9 +4,10 @@ ghost use Rattle.std.specs.Prelude.{◌≡◌, ◌≢◌, IfOk, IsErrOf, OnOk, f
 ghost use Rattle.lfs_tool.specs.Told.{TellsWriter};
 ghost use Rattle.lfs_tool.specs.Placed.{By, ChecksAt, EndsWell, FailsAt, FailsToRead, ListsAt, MakesAt, RefusesAt, RefusesToMake, UnpacksAt, writes_lines};
 
-use crate::{Places, check_asked, create_asked, list_asked, unpack_asked};
+use crate::{
+    Line, Mode, Places, ToolError, Writer, check_asked, create_asked, list_asked, unpack_asked,
+};
 use lfs_device::Error;
-use crate::{Line, Mode, ToolError, Writer};
 use std::alloc::Global;
 
 // Lists the image.

@@ -3,8 +3,8 @@ ghost use Rattle.lfs_tool.specs.Told.{TellsWriter};
 ghost use Rattle.lfs_tool.specs.Made.{HasRefusal, IsBegun, IsCreated, TellsSource};
 ghost use Rattle.lfs_tool.specs.Asked.{HasNoGeometry, HasSizes};
 
-use lfs_device::Error;
 use crate::{Line, ToolError, Writer, create, geometry_for};
+use lfs_device::Error;
 use lfs_tool_folders::Source;
 use std::alloc::Global;
 

@@ -1,7 +1,7 @@
 ghost use Rattle.std.specs.Prelude.{◌≡◌, ℕ, IfErr, IfOk, List};
 
-use lfs_device::Error;
 use crate::{Reader, Writer};
+use lfs_device::Error;
 use lfs_tool_folders::{Source, Target};
 
 /// Where the paths of a command line lead. What stands there is touched by its own calls alone.

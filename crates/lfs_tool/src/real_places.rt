@@ -1,6 +1,5 @@
-use crate::{NewImage, OldImage, Places};
+use crate::{NewImage, OldImage, Places, Watched};
 use lfs_device::Error;
-use crate::Watched;
 use lfs_tool_folders::{Folder, TargetFolder};
 use std::io::BufReader;
 use std::rt::Files;

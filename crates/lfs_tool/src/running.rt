@@ -5,10 +5,9 @@ ghost use Rattle.lfs_tool_line.specs.Matches.{IsLineOf, is_checked, is_listed, r
 ghost use Rattle.lfs_tool.specs.Answered.{HasLine, IsAnswered, IsFaultIn, IsShown};
 ghost use Rattle.lfs_tool.specs.Placed.{By, ChecksAt, EndsWell, FailsAt, FailsToRead, ListsAt, MakesAt, RefusesAt, RefusesToMake, UnpacksAt};
 
-use crate::Places;
 use crate::carrying_out::carry_out;
+use crate::{Fault, LineError, Places, ToolError, Writer, read_line, report};
 use lfs_device::Error;
-use crate::{Fault, LineError, ToolError, Writer, read_line, report};
 use std::alloc::Global;
 use std::io;
 use std::io::ErrorKind;
@@ -90,7 +89,11 @@ pub fn answer<P: Places, O: Writer, E: Writer>(
     out: &mut O,
     err: &mut E,
 ) -> u8
-    ensures answered { IfOk words (λ all. IsAnswered E.Writer (map string_bytes all.items) result err.old err.new) }
+    ensures answered { IfOk words (λ all. IsAnswered E.Writer (map string_bytes all.items) (λ accepted. (line : _) × (IsLineOf (rows (map string_bytes all.items)) line × EndsWell line.mode accepted × By line.mode
+        (ListsAt P.image_path P.Image.remaining line (O.contents out.old) (O.contents out.new) × (O.pending out.new ≡ 0))
+        (ChecksAt P.image_path P.Image.remaining line accepted (O.contents out.old) (O.contents out.new) × (O.pending out.new ≡ 0))
+        (MakesAt P.folder_path P.Folder.shown P.new_image_path P.NewImage.contents P.NewImage.pending line)
+        (UnpacksAt P.image_path P.Image.remaining P.new_folder_path P.NewFolder.done line))) result err.old err.new) }
     ensures unlisted { IfOk words (λ all. HasLine (map string_bytes all.items) → is_listed (rows (map string_bytes all.items)) ≡ false → is_checked (rows (map string_bytes all.items)) ≡ false → out.new ≡ out.old) }
 
     // With words that are a command line, the status 0 says that what it asks for is done.
